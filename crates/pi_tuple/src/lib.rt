@@ -1,0 +1,12 @@
+//! The protection information tuple and the check that finds a difference in it
+//! (SBC-3, 4.22 "Protection information model").
+#![tactic(auto)]
+
+mod checks;
+mod tuple;
+
+pub use checks::{Check, Checks, PiType, finds, is_escape};
+pub use tuple::{Tuple, make};
+
+#[cfg(test)]
+mod tests;
