@@ -1,0 +1,60 @@
+use Rattle.std.specs.Prelude.{ℕ, ◌≡◌, ◌<◌, length, ◌+◌, ◌-◌, ◌^◌, min, List, Contains}
+
+-- one more, unless at the last value
+abbrev pub one_more : ℕ → ℕ
+one_more n = min (n + 1) (2 ^ 64 - 1)
+
+-- the calls of a form in memory: the numbers of those that fail, counted from 1, how many there were, and how many failed
+pub record Turns : Type 0 where
+  pub listed : List ℕ
+  pub calls : ℕ
+  pub faults : ℕ
+
+-- The next call's number is listed.
+abbrev pub IsNextListed : Turns → Type 0
+IsNextListed t = Contains t.listed (one_more t.calls)
+
+-- before the first call
+abbrev pub no_turns : List ℕ → Turns
+no_turns numbers = record { listed = numbers; calls = 0; faults = 0 }
+
+-- after a call that went well
+abbrev pub after_call : Turns → Turns
+after_call t = record { listed = t.listed; calls = one_more t.calls; faults = t.faults }
+
+-- after a call that failed
+abbrev pub after_fault : Turns → Turns
+after_fault t = record { listed = t.listed; calls = one_more t.calls; faults = one_more t.faults }
+
+-- a source in memory: the bytes that are left
+pub record Supply : Type 0 where
+  pub left : List ℕ
+  pub turns : Turns
+
+-- a sink in memory: the bytes that it took, and the number of those that it still has room for
+pub record Intake : Type 0 where
+  pub taken : List ℕ
+  pub room : ℕ
+  pub turns : Turns
+
+-- a store in memory
+pub record Stock : Type 0 where
+  pub bytes : List ℕ
+  pub openings : ℕ
+  pub handed : List ℕ
+  pub turns : Turns
+
+-- a store that is a file: the length in bytes of the one that is open, and 0 where none is
+pub record OpenFile : Type 0 where
+  pub len : ℕ
+  pub faults : ℕ
+  pub openings : ℕ
+  pub handed : List ℕ
+
+-- after a read or a write of the file that failed
+abbrev pub after_file_fault : OpenFile → OpenFile
+after_file_fault f = record { len = f.len; faults = one_more f.faults; openings = f.openings; handed = f.handed }
+
+-- There are bytes, and no room for any.
+abbrev pub IsFull : ℕ → List ℕ → Type 0
+IsFull room bytes = (room ≡ 0) × (0 < length bytes)

@@ -1,0 +1,30 @@
+//! The outside as the layers above see it: a source of bytes, a sink and a store, each with a
+//! count of faults, so that a failure always has a cause; and their forms in memory and real.
+#![tactic(auto)]
+
+mod byte_list;
+mod failed;
+mod fault_plan;
+mod file_store;
+mod mem_sink;
+mod mem_source;
+mod mem_store;
+mod sink;
+mod source;
+mod stdin_source;
+mod stdout_sink;
+mod store;
+#[cfg(test)]
+mod tests;
+
+pub use byte_list::ByteList;
+pub use failed::Failed;
+pub use file_store::FileStore;
+pub use mem_sink::MemSink;
+pub use mem_source::MemSource;
+pub use mem_store::MemStore;
+pub use sink::Sink;
+pub use source::Source;
+pub use stdin_source::StdinSource;
+pub use stdout_sink::StdoutSink;
+pub use store::Store;

@@ -1,0 +1,71 @@
+//! A source in memory.
+
+ghost use Rattle.std.specs.Prelude.{◌≡◌, ◌≤◌, ◌<◌, ◌↔◌, length, min, take, Some, IfOk, IsErr, OnErr, OnOk};
+ghost use Rattle.dix_base.specs.Forms.{IsNextListed, after_call, after_fault, no_turns};
+ghost use Rattle.dix_base.specs.Told.{IsAtEnd, Rose, Took};
+
+use crate::fault_plan::FaultPlan;
+use crate::{Failed, Source};
+use std::marker::Model;
+
+/// A source that gives the bytes that it was made with, and fails at the calls of a list.
+#[derive(Drop)]
+pub struct MemSource {
+    held: Vec<u8>,
+    at: usize,
+    plan: FaultPlan,
+}
+
+impl Model for MemSource {
+    ghost use Rattle.std.specs.Prelude.{◌≤◌, drop, length};
+    ghost use Rattle.dix_base.specs.Forms.{Supply};
+
+    ghost Value = { Supply };
+
+    ghost view = { λ s. record { left = drop s.at s.held.items; turns = s.plan } };
+
+    ghost invariant = { λ s. s.at ≤ length s.held.items };
+}
+
+impl MemSource {
+    /// A source of these bytes, whose calls of `take` with these numbers, counted from 1, fail.
+    pub fn new(bytes: Vec<u8>, fail: Vec<u64>) -> MemSource
+        ensures left { result.left ≡ bytes.items }
+        ensures turns { result.turns ≡ no_turns fail.items }
+    {
+        MemSource {
+            held: bytes,
+            at: 0,
+            plan: FaultPlan::new(fail),
+        }
+    }
+}
+
+impl Source for MemSource {
+    ghost left = { λ s. Some s.left };
+
+    ghost faults = { λ s. s.turns.faults };
+
+    /// Fills the buffer, or as much of it as there are bytes left. A call that is listed fails,
+    /// and all that was left is left.
+    fn take(&mut self, buf: &mut [u8]) -> Result<usize, Failed>
+        ensures bound { IfOk result (λ n. n ≤ length buf.old) }
+        ensures taken { IfOk result (λ n. Took (take n buf.new) (Some self.old.left) (Some self.new.left)) }
+        ensures end { IfOk result (λ n. n ≡ 0 → 0 < length buf.old → IsAtEnd (Some self.old.left)) }
+        ensures cause { OnErr result (Rose self.old.turns.faults self.new.turns.faults) }
+        ensures count { self.old.turns.faults ≤ self.new.turns.faults }
+
+        ensures listed { IsErr result ↔ IsNextListed self.old.turns }
+        ensures most { IfOk result (λ n. n ≡ min (length buf.old) (length self.old.left)) }
+        ensures passed { OnOk result (self.new.turns ≡ after_call self.old.turns) }
+        ensures failed { OnErr result (self.new.turns ≡ after_fault self.old.turns) }
+        ensures same { OnErr result (self.new.left ≡ self.old.left) }
+    {
+        self.plan.turn(false)?;
+        let left = &self.held[self.at..];
+        let n = buf.len().min(left.len());
+        buf[..n].copy_from_slice(&left[..n]);
+        self.at += n;
+        Ok(n)
+    }
+}

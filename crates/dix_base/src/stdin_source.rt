@@ -1,0 +1,59 @@
+//! Standard input as a source.
+
+ghost use Rattle.std.specs.Prelude.{◌≡◌, ◌≤◌, None, IfOk, OnErr, OnOk, length};
+ghost use Rattle.dix_base.specs.Forms.{one_more};
+ghost use Rattle.dix_base.specs.Told.{Rose};
+
+use crate::fault_plan::raise;
+use crate::{Failed, Source};
+use std::io::{Read, Stdin};
+use std::marker::Model;
+
+/// Standard input. It doesn't tell what is left.
+#[derive(Drop)]
+pub struct StdinSource {
+    input: Stdin,
+    faults: u64,
+}
+
+impl Model for StdinSource {
+    ghost use Rattle.std.specs.Prelude.{ℕ};
+
+    ghost Value = { ℕ };
+
+    ghost view = { λ s. s.faults };
+}
+
+impl StdinSource {
+    /// The standard input of this process. A contract sees its count of faults.
+    pub fn new(rt: HostRuntime) -> StdinSource
+        ensures { result ≡ 0 }
+    {
+        StdinSource {
+            input: rt.stdin(),
+            faults: 0,
+        }
+    }
+}
+
+impl Source for StdinSource {
+    ghost left = { λ s. None };
+
+    ghost faults = { λ s. s };
+
+    /// Makes one read.
+    fn take(&mut self, buf: &mut [u8]) -> Result<usize, Failed>
+        ensures bound { IfOk result (λ n. n ≤ length buf.old) }
+        ensures cause { OnErr result (Rose self.old self.new) }
+        ensures count { self.old ≤ self.new }
+
+        ensures passed { OnOk result (self.new ≡ self.old) }
+        ensures failed { OnErr result (self.new ≡ one_more self.old) }
+    {
+        if let Ok(n) = self.input.read(buf) {
+            return Ok(n);
+        }
+        raise(&mut self.faults);
+        Err(Failed)
+    }
+}
