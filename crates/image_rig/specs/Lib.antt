@@ -1,0 +1,4 @@
+pub mod Entries
+pub mod Served
+pub mod Told
+pub mod Zeros

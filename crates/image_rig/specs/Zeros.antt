@@ -1,0 +1,4 @@
+use Rattle.std.specs.Prelude.{ℕ, Bool, eqb}
+
+abbrev pub is_zero : ℕ → Bool
+is_zero b = eqb b 0
