@@ -1,0 +1,5 @@
+pub mod Walks
+pub mod Listing
+pub mod Plainly
+mod Rows
+pub mod Slowly

@@ -1,0 +1,9 @@
+pub mod Ops
+pub mod Senses
+pub mod Walk
+pub mod Telling
+pub mod Plain
+pub mod Report
+pub mod Language
+pub mod Laws
+pub mod Slow

@@ -1,0 +1,18 @@
+//! What a run of a script must come to: its ops and replies, the walk that does the ops one after
+//! another, the plain map of virtual blocks, the image under that map, and the report's text.
+#![tactic(auto)]
+
+mod laws;
+mod op;
+mod plain_map;
+mod reply;
+mod shown;
+
+pub use laws::{formatted_is_clean, walk_is_plain, walk_lists_exactly};
+pub use op::{Op, Part};
+pub use plain_map::plain_report;
+pub use reply::{Reply, Why};
+pub use shown::ShownBytes;
+
+#[cfg(test)]
+mod tests;
