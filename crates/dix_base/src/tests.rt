@@ -142,8 +142,8 @@ fn standard_output_takes_a_byte(rt: HostRuntime) {
 }
 
 #[test]
-fn standard_input_gives_at_most_the_buffer(rt: HostRuntime) {
+fn standard_input_is_at_its_end_in_a_test(rt: HostRuntime) {
     let mut source = StdinSource::new(rt);
     let mut buf = [0u8; 4];
-    assert!(rt; take_from(&mut source, &mut buf).unwrap_or(0) <= 4);
+    assert_eq!(rt; take_from(&mut source, &mut buf), Ok(0));
 }
