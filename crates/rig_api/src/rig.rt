@@ -98,6 +98,7 @@ pub trait Rig {
         ensures opened { OpenedBy result name.now (standing self.old) (standing self.new) }
         ensures image { image self.new ≡ image self.old }
         ensures log { log self.new ≡ log self.old }
+        ensures room { room self.new ≡ room self.old }
         ensures count { faults self.old ≤ faults self.new };
 
     /// The number of devices: 0 before an image is opened.

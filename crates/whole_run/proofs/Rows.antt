@@ -17,21 +17,21 @@ use Rattle.whole_run.specs.Report.{report}
 abbrev script : List ℕ → List ℕ
 script lines = header ++ lines
 
-row_a_is : script_in (codes "dix 1\nmode crc on on 1\nlimits 64 16 16\npages 1\nlinear 0 4 dev 0 at 0\nbegin\nfill 0:0:512 07\nwrite 3 1 0:0:512\nread 3 1 0:512:512\nshow 0:1022:2\n") ≡ Some (Fill 0 7 ∷ Write 3 0 ∷ Read 3 512 ∷ Show 1022 2 ∷ [])
+shown_script_is : script_in (codes "dix 1\nmode crc on on 1\nlimits 64 16 16\npages 1\nlinear 0 4 dev 0 at 0\nbegin\nfill 0:0:512 07\nwrite 3 1 0:0:512\nread 3 1 0:512:512\nshow 0:1022:2\n") ≡ Some (Fill 0 7 ∷ Write 3 0 ∷ Read 3 512 ∷ Show 1022 2 ∷ [])
 unfolding decode_pairs most_ops
-row_a_is = refl
+shown_script_is = refl
 
-row_a_report : report (plain_run (all_fresh 4 0) (Fill 0 7 ∷ Write 3 0 ∷ Read 3 512 ∷ Show 1022 2 ∷ [])).replies ≡ codes "dix report 1\nop 2 whole\nop 3 whole\nop 4 0707\n"
+shown_script_report : report (plain_run (all_fresh 4 0) (Fill 0 7 ∷ Write 3 0 ∷ Read 3 512 ∷ Show 1022 2 ∷ [])).replies ≡ codes "dix report 1\nop 2 whole\nop 3 whole\nop 4 0707\n"
 unfolding digits encode_with
-row_a_report = refl
+shown_script_report = refl
 
-row_b_is : script_in (codes "dix 1\nmode crc on on 1\nlimits 64 16 16\npages 1\nlinear 0 4 dev 0 at 0\nbegin\nwrite 3 1 0:0:512\nread 3 1 0:512:512\n") ≡ Some (Write 3 0 ∷ Read 3 512 ∷ [])
+unfilled_script_is : script_in (codes "dix 1\nmode crc on on 1\nlimits 64 16 16\npages 1\nlinear 0 4 dev 0 at 0\nbegin\nwrite 3 1 0:0:512\nread 3 1 0:512:512\n") ≡ Some (Write 3 0 ∷ Read 3 512 ∷ [])
 unfolding decode_pairs most_ops
-row_b_is = refl
+unfilled_script_is = refl
 
-row_b_report : report (plain_run (all_fresh 4 0) (Write 3 0 ∷ Read 3 512 ∷ [])).replies ≡ codes "dix report 1\nop 1 whole\nop 2 whole\n"
+unfilled_script_report : report (plain_run (all_fresh 4 0) (Write 3 0 ∷ Read 3 512 ∷ [])).replies ≡ codes "dix report 1\nop 1 whole\nop 2 whole\n"
 unfolding digits encode_with
-row_b_report = refl
+unfilled_script_report = refl
 
 no_ops : script_in (script []) ≡ Some []
 unfolding decode_pairs most_ops
@@ -137,13 +137,13 @@ zeros : crc (replicate 512 0) ≡ 0
 unfolding crc
 zeros = refl
 
-row_a_walked : report (told_walk (record { state = begun []; blocks = all_fresh 4 0 }) (Fill 0 7 ∷ Write 3 0 ∷ Read 3 512 ∷ Show 1022 2 ∷ [])).state.replies ≡ codes "dix report 1\nop 2 whole\nop 3 whole\nop 4 0707\n"
+shown_script_walked : report (told_walk (record { state = begun []; blocks = all_fresh 4 0 }) (Fill 0 7 ∷ Write 3 0 ∷ Read 3 512 ∷ Show 1022 2 ∷ [])).state.replies ≡ codes "dix report 1\nop 2 whole\nop 3 whole\nop 4 0707\n"
 unfolding digits encode_with crc
-row_a_walked = refl
+shown_script_walked = refl
 
-row_a_stored : (told_walk (record { state = begun []; blocks = all_fresh 4 0 }) (Fill 0 7 ∷ Write 3 0 ∷ Read 3 512 ∷ Show 1022 2 ∷ [])).blocks ≡ under 0 (plain_run (all_fresh 4 0) (Fill 0 7 ∷ Write 3 0 ∷ Read 3 512 ∷ Show 1022 2 ∷ [])).blocks
+shown_script_stored : (told_walk (record { state = begun []; blocks = all_fresh 4 0 }) (Fill 0 7 ∷ Write 3 0 ∷ Read 3 512 ∷ Show 1022 2 ∷ [])).blocks ≡ under 0 (plain_run (all_fresh 4 0) (Fill 0 7 ∷ Write 3 0 ∷ Read 3 512 ∷ Show 1022 2 ∷ [])).blocks
 unfolding crc
-row_a_stored = refl
+shown_script_stored = refl
 
 -- a walk in which a rig answers so
 
