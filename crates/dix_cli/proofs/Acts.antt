@@ -1,0 +1,66 @@
+use Rattle.std.proofs.Common.{ℕ, zero, suc, ◌≡◌, ◌+◌, ◌^◌, ◌<◌, ◌≤◌, Bool, true, false, ltb, ◌&&◌, if◌then◌else◌, List, [], ◌∷◌, ◌++◌, length, Option, Some, None, refl, sym, ap, ◌∙◌, arith, append-nil}
+use Rattle.std.specs.Prelude.{replicate, nat_le, nat_lt}
+use Rattle.std.proofs.lemmas.Bool.{ltb-true}
+use Rattle.std.proofs.lemmas.List.{length-replicate}
+use Rattle.dix_base.specs.Told.{Calm, Rose}
+use Rattle.target_answer.specs.Frames.{joined}
+use Rattle.target_answer.specs.Target.{Answer, Stop, target_answer}
+use Rattle.rig_api.specs.Log.{Entry, IsMedium, entry_of}
+use Rattle.rig_api.specs.Telling.{HasCause, IsAnswer, Stored, answer_of, at_front, unit_at, with_blocks}
+use Rattle.rig_api.specs.declared.rig.Outcome.{Outcome}
+use Rattle.whole_run.specs.declared.op.Op.{Op}
+use Rattle.whole_run.specs.declared.op.Op.TheVariants as op
+use Rattle.whole_run.specs.declared.reply.Reply.{Reply}
+use Rattle.whole_run.specs.declared.reply.Reply.TheVariants as reply
+use Rattle.whole_run.specs.Ops.{fits, label_of, made, part, read_ten, write_ten}
+use Rattle.whole_run.specs.Walk.{Answered, fate_of_read, fate_of_write, is_medium_line, is_unanswered, page_after, records_of, reply_of, reply_to}
+use Rattle.whole_run.specs.Telling.{answer_to, answered_by}
+use Rattle.whole_run.proofs.Walks.{part_length, read_blocks_length, read_medium, read_never_unanswered, within, write_blocks_length, write_medium, write_never_unanswered}
+use Rattle.dix_cli.specs.Runs.{Did, Seen, TellsFour}
+
+-- the unit with other blocks has them
+pub blocks_put : (us : List Stored) (blocks : List (List ℕ)) → length (unit_at us 0).blocks ≡ 4 → (unit_at (with_blocks us 0 blocks) 0).blocks ≡ blocks
+blocks_put [] blocks h = absurd (omega arith)
+blocks_put (u ∷ us) blocks h = refl
+
+-- the unit with its own blocks
+blocks_same : (us : List Stored) → with_blocks us 0 (unit_at us 0).blocks ≡ us
+blocks_same [] = refl
+blocks_same (u ∷ us) = refl
+
+-- an op that is no request leaves the rig
+stays_calm : (o : Op) (page : List ℕ) (seen : Seen) (a : (us : List Stored) → answer_to o page (unit_at us 0).blocks ≡ record { done = 0; sense = None; blocks = (unit_at us 0).blocks; sent = [] }) →
+    (us : List Stored) → seen.units ≡ Some us → Calm seen.faults seen.faults →
+    (◌≡◌ {A = Answered} (record { outcome = record { done = 0; sense = None }; frame = replicate 520 0 }) (answered_by (answer_to o page (unit_at us 0).blocks)))
+    × (seen.units ≡ Some (with_blocks us 0 (answer_to o page (unit_at us 0).blocks).blocks))
+stays_calm o page seen a us e c =
+    (ap answered_by (sym (a us)), e ∙ ap Some (sym (blocks_same us)) ∙ ap (λ (v : Answer). Some (with_blocks us 0 v.blocks)) (sym (a us)))
+
+abbrev unasked : Answered
+unasked = record { outcome = record { done = 0; sense = None }; frame = replicate 520 0 }
+
+pub did_fill : (number at byte : ℕ) (page page' : List ℕ) (seen : Seen) → page' ≡ page_after (op.Fill at byte) unasked page → Did number (op.Fill at byte) page page' reply.Silent seen seen
+did_fill number at byte page page' seen e = record {
+  answered = unasked;
+  whole = length-replicate {A = ℕ} 520 0;
+  page_is = e;
+  reply_is = refl;
+  log_is = sym (append-nil seen.log);
+  calm = stays_calm (op.Fill at byte) page seen (λ us. refl);
+  told = λ t. (t, refl);
+  medium = λ h. absurd (cc);
+  count = omega arith;
+}
+
+pub did_show : (number at len : ℕ) (page : List ℕ) (seen : Seen) (r : Reply) → r ≡ reply.Shown (part at len page) → Did number (op.Show at len) page page r seen seen
+did_show number at len page seen r e = record {
+  answered = unasked;
+  whole = length-replicate {A = ℕ} 520 0;
+  page_is = refl;
+  reply_is = e;
+  log_is = sym (append-nil seen.log);
+  calm = stays_calm (op.Show at len) page seen (λ us. refl);
+  told = λ t. (t, rw e refl);
+  medium = λ h. let m : is_medium_line (reply.Shown (part at len page)) ≡ true = rw e at h in absurd (cc);
+  count = omega arith;
+}

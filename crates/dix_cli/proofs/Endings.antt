@@ -1,0 +1,39 @@
+use Rattle.std.proofs.Common.{ℕ, ◌≡◌, ◌+◌, ◌≤◌, Bool, true, false, if◌then◌else◌, List, [], ◌∷◌, ◌++◌, length, Option, Some, None, refl, sym, ap, ◌∙◌, arith}
+use Rattle.rig_api.specs.Telling.{IsLaid, KeepsHead}
+use Rattle.whole_run.specs.declared.op.Op.{Op}
+use Rattle.dix_cli.specs.Words.{image_in, is_run}
+use Rattle.dix_cli.specs.Ready.{IsReady}
+use Rattle.dix_cli.specs.Runs.{Ran}
+use Rattle.dix_cli.specs.Verdict.{Cause, CauseRefused, Ended, Facts, Finished, HasRun, Refused, View, Written, refusal_text, status_of, verdict_status}
+use Rattle.dix_cli.specs.declared.program.Ready.{Ready}
+use Rattle.dix_cli.specs.declared.refusal.Refusal.{Refusal}
+use Rattle.dix_cli.specs.declared.status.Status.{Status}
+use Rattle.dix_cli.specs.declared.status.Status.TheVariants as status
+
+-- a call that came to a run
+pub ended_run : (f : Facts) (between after : View) (ready : Ready) (bad : Bool) (page text : List ℕ) (old new : Option (List ℕ)) (o n : ℕ) (result : Status) →
+    IsReady ready (record f { rig_after = between }) → between.standing.devices ≡ 1 → IsLaid between.standing between.image between.seen.units → f.rig_after ≡ after →
+    Ran ready.ops.items page text bad between.seen after.seen → after.standing ≡ between.standing → KeepsHead between.image after.image →
+    Written (if bad then status.SomeBad else status.Whole) text old new o n result → Ended f old new o n result
+ended_run f between after ready bad page text old new o n result r devices laid e ran standing image written = record {
+  verdict = Finished bad text;
+  cause = record {
+    named = r.named;
+    ops = ready.ops.items;
+    read = r.read;
+    between = between;
+    opened = r.opened;
+    kept = r.kept;
+    laid = laid;
+    devices = devices;
+    standing = rw e standing;
+    head = rw e image;
+    page = page;
+    ran = rw e ran;
+  };
+  written = written;
+}
+
+-- a call that came to none
+pub ended_refused : (f : Facts) (r : Refusal) (old new : Option (List ℕ)) (o n : ℕ) (result : Status) → CauseRefused r f → Written (status_of r) (refusal_text r) old new o n result → Ended f old new o n result
+ended_refused f r old new o n result cause written = record { verdict = Refused r; cause = cause; written = written }

@@ -1,0 +1,11 @@
+mod Acts
+mod Exchanges
+mod Endings
+mod Fitting
+mod Flow
+mod FrameLemmas
+mod Headlines
+mod Lines
+mod Numbers
+mod Running
+mod WordLemmas

@@ -1,0 +1,13 @@
+use Rattle.std.proofs.Common.{◌≡◌, ◌+◌, ◌≤◌, length, take, ap, sym, ◌∙◌, arith, refl}
+use Rattle.std.proofs.lemmas.List.{length-append, length-take}
+use Rattle.dix_base.specs.Told.{Took}
+use Rattle.dix_cli.proofs.Flow.{most_is, took_none, took_more, whole}
+use Rattle.dix_cli.proofs.reading.read_all.Goals as goal
+
+pub loop-room-init : goal.loop-room-init
+loop-room-init g c = record {
+  taken = rw c.new-all.ensures.items (took_none (g.S.Source.left c.args.source.now));
+  buffer = refl;
+  sizes = rw c.new-all.ensures.items (rw most_is refl);
+  count = omega arith;
+}

@@ -1,0 +1,51 @@
+use Rattle.std.specs.Prelude.{ℕ, ◌≡◌, ◌⊎◌, true, List, ◌++◌, take, Option, Some, None}
+use Rattle.dix_base.specs.Told.{Calm}
+use Rattle.target_answer.specs.Frames.{joined}
+use Rattle.target_answer.specs.Image.{blocks_in, stored}
+use Rattle.rig_api.specs.Head.{head_fault, head_of}
+use Rattle.whole_run.specs.declared.op.Op.{Op}
+use Rattle.whole_run.specs.Plain.{AreClean, Plain, plain_run, under}
+use Rattle.whole_run.specs.Report.{report}
+use Rattle.dix_cli.specs.Words.{image_in, is_run}
+use Rattle.dix_cli.specs.Reading.{script_of}
+use Rattle.dix_cli.specs.Verdict.{Ended, Facts, OpenedOnce}
+use Rattle.dix_cli.specs.declared.status.Status.{Status}
+use Rattle.dix_cli.specs.declared.status.Status.TheVariants.{Whole, SomeBad, Memory}
+
+-- the stored blocks of an image, as its header tells their number
+abbrev pub blocks_of_image : List ℕ → List (List ℕ)
+blocks_of_image image = stored (blocks_in (take 512 image)) image
+
+-- A script was run.
+abbrev pub IsRun : Status → Type 0
+IsRun s = (s ≡ Whole) ⊎ (s ≡ SomeBad)
+
+-- The text that was written is the report of the plain map's replies, no block failed, and the image has its old header and the blocks under the map.
+pub record LeavesPlain (p : Plain) (image written : List ℕ) (result : Status) (taken image' : Option (List ℕ)) : Type 0 where
+  pub good : result ≡ Whole
+  pub report_is : taken ≡ Some (written ++ report p.replies)
+  pub image_is : image' ≡ Some (take 512 image ++ joined (under 0 p.blocks))
+
+-- A run of this script over this clean image, without a fault of the rig, equals its ops on the plain map.
+abbrev pub RunEqualsPlain : Facts → Option (List ℕ) → Option (List ℕ) → Status → Type 0
+RunEqualsPlain f taken taken' result =
+    (text image written : List ℕ) (ops : List Op) → f.left ≡ Some text → script_of text ≡ Some ops → f.rig.image ≡ Some image → taken ≡ Some written →
+    AreClean 0 (blocks_of_image image) → Calm f.rig.seen.faults f.rig_after.seen.faults → IsRun result →
+    LeavesPlain (plain_run (blocks_of_image image) ops) image written result taken' f.rig_after.image
+
+-- Words in the grammar, a script in the language, an image whose head is right, and no fault give a run, or want of memory.
+abbrev pub IsComplete : Facts → ℕ → ℕ → Status → Type 0
+IsComplete f o n result =
+    (text image : List ℕ) (ops : List Op) → is_run f.words ≡ true → f.left ≡ Some text → script_of text ≡ Some ops → f.rig.image ≡ Some image → head_fault (head_of image) ≡ None →
+    Calm f.reads f.reads_after → Calm f.rig.seen.faults f.rig_after.seen.faults → Calm o n → IsRun result ⊎ (result ≡ Memory)
+
+-- The rig was opened at most once more, by the name in the words.
+abbrev pub OpensOnce : Facts → Type 0
+OpensOnce f = OpenedOnce (image_in f.words) f.rig.standing f.rig_after.standing
+
+-- What a call carries, whatever its source, rig and sink are: its verdict with the cause, and what follows from it for those that tell what they hold.
+pub record Carries (f : Facts) (taken taken' : Option (List ℕ)) (o n : ℕ) (result : Status) : Type 0 where
+  pub ended : Ended f taken taken' o n result
+  pub headline : RunEqualsPlain f taken taken' result
+  pub complete : IsComplete f o n result
+  pub opens : OpensOnce f

@@ -1,0 +1,7 @@
+pub mod Words
+pub mod Reading
+pub mod Runs
+pub mod Verdict
+pub mod Statuses
+pub mod Ready
+pub mod Headline

@@ -1,0 +1,142 @@
+use Rattle.std.specs.Prelude.{ℕ, ◌≡◌, ◌≤◌, ◌⊎◌, Bool, true, false, if◌then◌else◌, List, [], ◌++◌, codes, Option, Some, None}
+use Rattle.std.specs.List.{list_all}
+use Rattle.dix_base.specs.Told.{Appended, AppendedSome, Rose}
+use Rattle.rig_api.specs.Head.{IsHeadOf, fault_name, head_fault}
+use Rattle.rig_api.specs.Telling.{IsLaid, KeepsHead, Opened, Standing, Stayed}
+use Rattle.rig_api.specs.declared.rig.RigFault.{RigFault}
+use Rattle.whole_run.specs.declared.op.Op.{Op}
+use Rattle.dix_cli.specs.Words.{image_in, is_run}
+use Rattle.dix_cli.specs.Reading.{IsOver, IsWhole, script_of}
+use Rattle.dix_cli.specs.Runs.{Ran, Seen}
+use Rattle.dix_cli.specs.declared.status.Status.{Status}
+use Rattle.dix_cli.specs.declared.status.Status.TheVariants as status
+use Rattle.dix_cli.specs.declared.refusal.Refusal.{Refusal}
+use Rattle.dix_cli.specs.declared.refusal.Refusal.TheVariants as refusal
+
+-- all that a rig means at a moment, but for its spare room
+pub record View : Type 0 where
+  pub image : Option (List ℕ)
+  pub standing : Standing
+  pub seen : Seen
+
+abbrev pub view : Option (List ℕ) → Standing → Seen → View
+view image standing seen = record { image = image; standing = standing; seen = seen }
+
+-- what a call of the program speaks of: its words, the source and the rig, before and after
+pub record Facts : Type 0 where
+  pub words : List (List ℕ)
+  pub left : Option (List ℕ)
+  pub left_after : Option (List ℕ)
+  pub reads : ℕ
+  pub reads_after : ℕ
+  pub rig : View
+  pub rig_after : View
+
+-- The source was read to its end; it held a text with these ops, or one that is no script.
+abbrev pub ReadsAs : Option (List Op) → Option (List ℕ) → Option (List ℕ) → Type 0
+ReadsAs ops old new = (text : List ℕ) × IsWhole text old new × (script_of text ≡ ops)
+
+-- The image of this name was opened once more, and its head has this fault or none.
+pub record WasOpened (name : List ℕ) (fault : Option RigFault) (old new : View) : Type 0 where
+  pub opened : Opened name old.standing new.standing
+  pub judged : head_fault new.standing.head ≡ fault
+  pub head : IsHeadOf new.standing.head new.image
+
+-- The image of this name was opened once more, or none was opened.
+abbrev pub OpenedOnce : List ℕ → Standing → Standing → Type 0
+OpenedOnce name old new = Stayed old new ⊎ Opened name old new
+
+-- The image's bytes and the records are as before, and the count of faults didn't fall.
+pub record HasKept (old new : View) : Type 0 where
+  pub image : new.image ≡ old.image
+  pub log : new.seen.log ≡ old.seen.log
+  pub count : old.seen.faults ≤ new.seen.faults
+
+abbrev pub status_of : Refusal → Status
+status_of refusal.Words = status.Words
+status_of refusal.Script = status.Script
+status_of (refusal.Image fault) = status.Image
+status_of refusal.RigFault = status.RigFault
+status_of refusal.Memory = status.Memory
+status_of refusal.ReadFault = status.ReadFault
+
+-- the text of a refusal
+abbrev pub refusal_text : Refusal → List ℕ
+refusal_text refusal.Words = codes "usage: dix run IMAGE, trace IMAGE, format IMAGE T:BLOCKS.., big N SEED\n"
+refusal_text refusal.Script = codes "script 0 0 NotBuilt\n"
+refusal_text (refusal.Image fault) = codes "image " ++ (fault_name fault ++ codes "\n")
+refusal_text refusal.RigFault = codes "rig fault\n"
+refusal_text refusal.Memory = codes "no memory\n"
+refusal_text refusal.ReadFault = codes "read fault\n"
+
+-- Why the script isn't read: it is no script or too long, there is no memory, or the source failed.
+abbrev pub CauseUnread : Refusal → Option (List ℕ) → Option (List ℕ) → ℕ → ℕ → Type 0
+CauseUnread refusal.Words old new o n = ⊥
+CauseUnread refusal.Script old new o n = ReadsAs None old new ⊎ IsOver old new
+CauseUnread (refusal.Image fault) old new o n = ⊥
+CauseUnread refusal.RigFault old new o n = ⊥
+CauseUnread refusal.Memory old new o n = Unit {0}
+CauseUnread refusal.ReadFault old new o n = Rose o n
+
+-- Why the image isn't opened: its head is at fault, the rig failed, or there is no memory.
+abbrev pub CauseUnopened : Refusal → List ℕ → View → View → Type 0
+CauseUnopened refusal.Words name old new = ⊥
+CauseUnopened refusal.Script name old new = ⊥
+CauseUnopened (refusal.Image fault) name old new = WasOpened name (Some fault) old new
+CauseUnopened refusal.RigFault name old new = Rose old.seen.faults new.seen.faults × Opened name old.standing new.standing
+CauseUnopened refusal.Memory name old new = Unit {0}
+CauseUnopened refusal.ReadFault name old new = ⊥
+
+-- Why a call comes to no run. The image's bytes and the records are as before in each case; where the image isn't opened all is.
+abbrev pub CauseRefused : Refusal → Facts → Type 0
+CauseRefused refusal.Words f = (is_run f.words ≡ false) × (f.rig_after ≡ f.rig) × (f.left_after ≡ f.left) × (f.reads_after ≡ f.reads)
+CauseRefused refusal.Script f = (is_run f.words ≡ true) × (f.rig_after ≡ f.rig) × (ReadsAs None f.left f.left_after ⊎ IsOver f.left f.left_after)
+CauseRefused (refusal.Image fault) f = (is_run f.words ≡ true) × ((ops : List Op) × ReadsAs (Some ops) f.left f.left_after) × HasKept f.rig f.rig_after × WasOpened (image_in f.words) (Some fault) f.rig f.rig_after
+CauseRefused refusal.RigFault f =
+    (is_run f.words ≡ true) × ((ops : List Op) × ReadsAs (Some ops) f.left f.left_after) × HasKept f.rig f.rig_after
+    × Rose f.rig.seen.faults f.rig_after.seen.faults × Opened (image_in f.words) f.rig.standing f.rig_after.standing
+CauseRefused refusal.Memory f = (is_run f.words ≡ true) × HasKept f.rig f.rig_after × OpenedOnce (image_in f.words) f.rig.standing f.rig_after.standing
+CauseRefused refusal.ReadFault f = (is_run f.words ≡ true) × (f.rig_after ≡ f.rig) × Rose f.reads f.reads_after
+
+-- The image was opened, the script's ops were done, and the text is the report.
+pub record HasRun (f : Facts) (bad : Bool) (text : List ℕ) : Type 0 where
+  pub named : is_run f.words ≡ true
+  pub ops : List Op
+  pub read : ReadsAs (Some ops) f.left f.left_after
+  pub between : View
+  pub opened : WasOpened (image_in f.words) None f.rig between
+  pub kept : HasKept f.rig between
+  pub laid : IsLaid between.standing between.image between.seen.units
+  pub devices : between.standing.devices ≡ 1
+  pub standing : f.rig_after.standing ≡ between.standing
+  pub head : KeepsHead between.image f.rig_after.image
+  pub page : List ℕ
+  pub ran : Ran ops page text bad between.seen f.rig_after.seen
+
+-- what a call comes to, before it writes the text
+pub data Verdict : Type 0 where
+  Refused : Refusal → Verdict
+  Finished : Bool → List ℕ → Verdict
+
+abbrev pub verdict_status : Verdict → Status
+verdict_status (Refused r) = status_of r
+verdict_status (Finished bad text) = if bad then status.SomeBad else status.Whole
+
+abbrev pub verdict_text : Verdict → List ℕ
+verdict_text (Refused r) = refusal_text r
+verdict_text (Finished bad text) = text
+
+abbrev pub Cause : Verdict → Facts → Type 0
+Cause (Refused r) f = CauseRefused r f
+Cause (Finished bad text) f = HasRun f bad text
+
+-- The text was written whole, and the status is the verdict's; or the sink failed, and a prefix of the text was written.
+abbrev pub Written : Status → List ℕ → Option (List ℕ) → Option (List ℕ) → ℕ → ℕ → Status → Type 0
+Written verdict text old new o n result =
+    ((result ≡ verdict) × Appended text old new) ⊎ ((result ≡ status.WriteFault) × Rose o n × AppendedSome text old new)
+
+-- A call came to a verdict, whose cause holds, and then wrote its text. Where the sink failed all that holds of the verdict holds still.
+pub record Ended (f : Facts) (old new : Option (List ℕ)) (o n : ℕ) (result : Status) : Type 0 where
+  pub verdict : Verdict
+  pub cause : Cause verdict f
+  pub written : Written (verdict_status verdict) (verdict_text verdict) old new o n result

@@ -1,0 +1,99 @@
+//! What becomes of a block, by what the rig answered.
+
+ghost use Rattle.std.specs.Prelude.{◌≡◌, ℕ, List, length};
+ghost use Rattle.whole_run.specs.Senses.{check_of, is_medium, named_by, why_ended};
+ghost use Rattle.whole_run.specs.Walk.{fate_of_read, fate_of_write, reply_of};
+
+use pi_tuple::Check;
+use rig_api::Outcome;
+use sense_codes::Sense;
+use target_answer::judge;
+use whole_run::{Reply, Why};
+
+/// The check that the qualifier of ASC 10h names (SPC-4).
+fn check_named(ascq: u8) -> Option<Check>
+    ensures { result ≡ check_of ascq }
+{
+    match ascq {
+        1 => Some(Check::Guard),
+        2 => Some(Check::AppTag),
+        3 => Some(Check::RefTag),
+        _ => None,
+    }
+}
+
+/// The layer and the check that the sense names.
+fn finding_named(sense: Sense) -> Option<Why>
+    ensures { result ≡ named_by sense }
+{
+    if sense.asc != 0x10 {
+        return None;
+    }
+    let check = check_named(sense.ascq)?;
+    match sense.key {
+        0x5 => Some(Why::Adapter(check)),
+        0xB => Some(Why::Target(check)),
+        _ => None,
+    }
+}
+
+/// Whether the sense is MEDIUM ERROR with UNRECOVERED READ ERROR or WRITE ERROR.
+fn is_medium_error(sense: Sense) -> bool
+    ensures { result ≡ is_medium sense }
+{
+    sense.key == 3 && (sense.ascq == 0 && (sense.asc == 0x11 || sense.asc == 0x0C))
+}
+
+/// Why a block failed at which its command ended with this sense.
+fn why_by(sense: Option<Sense>) -> Why
+    ensures { result ≡ why_ended sense }
+{
+    let Some(sense) = sense else {
+        return Why::Short;
+    };
+    if let Some(why) = finding_named(sense) {
+        return why;
+    }
+    if is_medium_error(sense) {
+        return Why::Medium;
+    }
+    Why::Refused {
+        key: sense.key,
+        asc: sense.asc,
+        ascq: sense.ascq,
+    }
+}
+
+/// Why the one block of a write failed, where it did.
+pub(crate) fn write_fate(outcome: Outcome) -> Option<Why>
+    ensures { (frame : List ℕ) → result ≡ fate_of_write (record { outcome = outcome; frame = frame }) }
+{
+    if outcome.done > 0 {
+        return None;
+    }
+    Some(why_by(outcome.sense))
+}
+
+/// Why the one block of a read failed, where it did: the adapter checks the frame that came.
+pub(crate) fn read_fate(block: u32, outcome: Outcome, frame: &[u8]) -> Option<Why>
+    requires { length frame.now ≡ 520 }
+    ensures { result ≡ fate_of_read block (record { outcome = outcome; frame = frame.now }) }
+{
+    if outcome.done == 0 {
+        return Some(why_by(outcome.sense));
+    }
+    match judge(frame, block as u64) {
+        Some(check) => Some(Why::Adapter(check)),
+        None => None,
+    }
+}
+
+/// The reply of a request whose block has this fate.
+pub(crate) fn reply_for(fate: Option<Why>) -> Reply
+    ensures { result ≡ reply_of fate }
+{
+    match fate {
+        None => Reply::Whole,
+        Some(why) => Reply::Bad(why),
+    }
+}

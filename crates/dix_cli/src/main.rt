@@ -1,0 +1,67 @@
+//! The program `dix`: runs a script on a disk image and prints a report.
+#![tactic(auto)]
+
+mod fate;
+mod frames;
+#[cfg(test)]
+mod lying_rig;
+mod opening;
+mod program;
+mod reading;
+mod refusal;
+mod report;
+mod requests;
+mod runner;
+mod script;
+mod status;
+#[cfg(test)]
+mod tests;
+mod words;
+mod writing;
+
+use dix_base::{FileStore, StdinSource, StdoutSink};
+use image_rig::ImageRig;
+pub use program::run;
+pub use refusal::Refusal;
+pub use status::Status;
+use std::process::ExitCode;
+use std::{env, fs, io};
+
+/// The words that the program was called with, without its own name.
+fn words_of(rt: &HostRuntime) -> io::Result<Vec<String>> {
+    let mut words = Vec::new(rt.alloc());
+    for word in env::args(rt)?.skip(1) {
+        words.push(word)?;
+    }
+    Ok(words)
+}
+
+/// Takes the places of standard streams that are closed, so that no image is opened in one and
+/// overwritten by the report. A directory can be neither read nor written as a stream.
+fn hold_closed_streams(rt: &HostRuntime) -> [Option<fs::File>; 3] {
+    [
+        fs::open(rt, "/").ok(),
+        fs::open(rt, "/").ok(),
+        fs::open(rt, "/").ok(),
+    ]
+}
+
+fn main(rt: HostRuntime) -> io::Result<ExitCode> {
+    let _held = hold_closed_streams(&rt);
+    let mut script = StdinSource::new(rt.clone()?);
+    let mut rig = ImageRig::new(rt.alloc(), FileStore::new(rt.clone()?));
+    let mut out = StdoutSink::new(rt.clone()?);
+    let status = match words_of(&rt) {
+        Ok(words) => run(rt.alloc(), &words, &mut script, &mut rig, &mut out),
+        Err(error) => program::refuse(&mut out, refusal_of(&error)),
+    };
+    Ok(ExitCode::from(status.number()))
+}
+
+/// Words that are no text are not in the grammar; all else is want of memory.
+fn refusal_of(error: &io::Error) -> Refusal {
+    match error.kind() {
+        io::ErrorKind::InvalidData => Refusal::Words,
+        _ => Refusal::Memory,
+    }
+}

@@ -1,0 +1,111 @@
+//! The top call.
+
+ghost use Rattle.std.specs.Prelude.{◌≡◌, ◌≤◌, ◌⊎◌, true, false, if◌then◌else◌, length, IfOk, MatchResult, OnOk};
+ghost use Rattle.std.specs.List.{list_all};
+ghost use Rattle.dix_cli.specs.Words.{image_in, is_run, word_bytes};
+ghost use Rattle.rig_api.specs.Log.{HasRoom};
+ghost use Rattle.dix_cli.specs.Runs.{seen};
+ghost use Rattle.dix_cli.specs.Headline.{Carries};
+ghost use Rattle.dix_cli.specs.Verdict.{CauseRefused, Facts, Written, refusal_text, status_of, view};
+ghost use Rattle.dix_cli.specs.Ready.{IsReady};
+ghost use Rattle.dix_cli.specs.declared.status.Status.{Status};
+
+use crate::opening::{open, read_ops, take_room};
+use crate::refusal::Refusal;
+use crate::runner::{Report, run_ops};
+use crate::status::Status;
+use crate::words::image_of;
+use crate::writing::write_all;
+use dix_base::{Failed, Sink, Source};
+use rig_api::Rig;
+use std::alloc::Global;
+use whole_run::Op;
+
+/// A script that was read over an image that was opened, with all the memory of its run.
+#[derive(Drop)]
+struct Ready {
+    ops: Vec<Op>,
+    report: Report,
+}
+
+/// Does all that comes before the first op.
+fn prepare<S: Source, R: Rig>(
+    alloc: Global,
+    words: &[String],
+    script: &mut S,
+    rig: &mut R,
+) -> Result<Ready, Refusal>
+    ensures prepared { let f : Facts = record {
+      words = word_bytes words.now;
+      left = S.left script.old;
+      left_after = S.left script.new;
+      reads = S.faults script.old;
+      reads_after = S.faults script.new;
+      rig = view (R.image rig.old) (R.standing rig.old) (seen (R.units rig.old) (R.log rig.old) (R.faults rig.old));
+      rig_after = view (R.image rig.new) (R.standing rig.new) (seen (R.units rig.new) (R.log rig.new) (R.faults rig.new));
+    } in
+        MatchResult result (λ r. IsReady r f) (λ r. CauseRefused r f) }
+    ensures device { OnOk result ((R.standing rig.new).devices ≡ 1) }
+    ensures room { IfOk result (λ r. HasRoom (length r.ops.items) (length r.ops.items) (R.room rig.new)) }
+{
+    let Some(image) = image_of(words) else {
+        return Err(Refusal::Words);
+    };
+    let ops = read_ops(alloc, script)?;
+    open(alloc, image, rig)?;
+    let report = take_room(alloc, ops.len(), rig)?;
+    Ok(Ready { ops, report })
+}
+
+/// Writes the text, and says what the call comes to.
+fn finish<O: Sink>(out: &mut O, text: &[u8], status: Status) -> Status
+    ensures { Written status text.now (O.taken out.old) (O.taken out.new) (O.faults out.old) (O.faults out.new) result }
+{
+    match write_all(out, text) {
+        Ok(()) => status,
+        Err(Failed) => Status::WriteFault,
+    }
+}
+
+/// Writes the line of a refusal.
+pub(crate) fn refuse<O: Sink>(out: &mut O, refusal: Refusal) -> Status
+    ensures { Written (status_of refusal) (refusal_text refusal) (O.taken out.old) (O.taken out.new) (O.faults out.old) (O.faults out.new) result }
+{
+    finish(out, refusal.line().as_slice(), refusal.status())
+}
+
+fn run_status(bad: bool) -> Status
+    ensures { result ≡ (if bad then Status.SomeBad else Status.Whole) }
+{
+    if bad { Status::SomeBad } else { Status::Whole }
+}
+
+/// Runs the program on its words, without its own name: reads the script to its end, opens the
+/// image, does the ops and writes the report.
+pub fn run<S: Source, R: Rig, O: Sink>(
+    alloc: Global,
+    words: &[String],
+    script: &mut S,
+    rig: &mut R,
+    out: &mut O,
+) -> Status
+    ensures { let f : Facts = record {
+      words = word_bytes words.now;
+      left = S.left script.old;
+      left_after = S.left script.new;
+      reads = S.faults script.old;
+      reads_after = S.faults script.new;
+      rig = view (R.image rig.old) (R.standing rig.old) (seen (R.units rig.old) (R.log rig.old) (R.faults rig.old));
+      rig_after = view (R.image rig.new) (R.standing rig.new) (seen (R.units rig.new) (R.log rig.new) (R.faults rig.new));
+    } in
+        Carries f (O.taken out.old) (O.taken out.new) (O.faults out.old) (O.faults out.new) result }
+{
+    match prepare(alloc, words, script, rig) {
+        Ok(ready) => {
+            let Ready { ops, mut report } = ready;
+            run_ops(&ops, rig, &mut report);
+            finish(out, &report.text, run_status(report.bad))
+        }
+        Err(refusal) => refuse(out, refusal),
+    }
+}

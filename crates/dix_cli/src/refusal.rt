@@ -1,0 +1,63 @@
+//! Why a call comes to no run.
+
+ghost use Rattle.std.specs.Prelude.{◌≡◌};
+ghost use Rattle.dix_cli.specs.Verdict.{refusal_text, status_of};
+
+use crate::report::{Line, add};
+use crate::status::Status;
+use rig_api::RigFault;
+
+/// Why a call comes to no run.
+#[derive(Clone, Copy, Debug, PartialEq, Eq)]
+pub enum Refusal {
+    /// The words are not in the grammar.
+    Words,
+    /// The script is not in the language.
+    Script,
+    /// The image's head has this fault.
+    Image(RigFault),
+    /// The rig failed as the image was opened.
+    RigFault,
+    /// Want of memory.
+    Memory,
+    /// The source of the script failed.
+    ReadFault,
+}
+
+impl Refusal {
+    /// The status of the refusal.
+    pub(crate) fn status(self) -> Status
+        ensures { result ≡ status_of self }
+    {
+        match self {
+            Refusal::Words => Status::Words,
+            Refusal::Script => Status::Script,
+            Refusal::Image(_) => Status::Image,
+            Refusal::RigFault => Status::RigFault,
+            Refusal::Memory => Status::Memory,
+            Refusal::ReadFault => Status::ReadFault,
+        }
+    }
+
+    /// The line that is written for the refusal.
+    pub(crate) fn line(self) -> Line
+        ensures { result.items ≡ refusal_text self }
+    {
+        let mut line = Line::new();
+        match self {
+            Refusal::Words => add(&mut line, USAGE),
+            Refusal::Script => add(&mut line, b"script 0 0 NotBuilt\n"),
+            Refusal::Image(fault) => {
+                add(&mut line, b"image ");
+                add(&mut line, fault.name().as_bytes());
+                add(&mut line, b"\n");
+            }
+            Refusal::RigFault => add(&mut line, b"rig fault\n"),
+            Refusal::Memory => add(&mut line, b"no memory\n"),
+            Refusal::ReadFault => add(&mut line, b"read fault\n"),
+        }
+        line
+    }
+}
+
+const USAGE: &[u8] = b"usage: dix run IMAGE, trace IMAGE, format IMAGE T:BLOCKS.., big N SEED\n";

@@ -1,0 +1,664 @@
+//! Runs over forms in memory: the report and the image, each text, each fault.
+
+ghost use Rattle.std.specs.Prelude.{◌≡◌, true};
+ghost use Rattle.rig_api.specs.Log.{has_key};
+
+use crate::lying_rig::LyingRig;
+use crate::run;
+use dix_base::{MemSink, MemSource, MemStore};
+use image_rig::ImageRig;
+use rig_api::Outcome;
+use sense_codes::Sense;
+use std::alloc::Global;
+use std::test::Fail;
+
+/// The header of one unit of type 1 with four blocks, up to its zeros.
+const HEAD: [u8; 32] = [
+    68, 73, 88, 73, 77, 71, 48, 49, 0, 1, 0, 0, 0, 0, 0, 0, 1, 0, 0, 0, 0, 0, 0, 0, 0, 0, 0, 0, 0,
+    0, 0, 4,
+];
+
+/// The lines before the first op.
+const BEGIN: &str =
+    "dix 1\nmode crc on on 1\nlimits 64 16 16\npages 1\nlinear 0 4 dev 0 at 0\nbegin\n";
+
+/// Fills a block's place with 07h, writes it to block 3, reads that back behind it, and shows the
+/// last two bytes that were read.
+const ROUND_TRIP: &str = "fill 0:0:512 07\nwrite 3 1 0:0:512\nread 3 1 0:512:512\nshow 0:1022:2\n";
+
+const NOT_BUILT: &str = "script 0 0 NotBuilt\n";
+
+/// What may not stand behind the lines before the ops, one after another, with a bar between them.
+const NO_OPS: &str = "fill  0:0:512 07\n\
+    |fill 0:0:512  07\n\
+    | fill 0:0:512 07\n\
+    |fill 0:0:512 07 \n\
+    |fill\t0:0:512 07\n\
+    |fill 0:0:512 07\r\n\
+    |fill 0:0:512 07\
+    |fill 0:0:512 07\n\n\
+    |\nfill 0:0:512 07\n\
+    |# fill\n\
+    |fill 0:0:512 07 # fill\n\
+    |fill 0:00:512 07\n\
+    |fill 0:01:512 07\n\
+    |fill 0:0:0512 07\n\
+    |fill 00:0:512 07\n\
+    |fill 0:+0:512 07\n\
+    |fill 0:-1:512 07\n\
+    |fill 0::512 07\n\
+    |fill 0:0: 07\n\
+    |fill 0:512 07\n\
+    |fill 0:0:512:0 07\n\
+    |fill 1:0:512 07\n\
+    |fill 0:3585:512 07\n\
+    |fill 0:4294967296:512 07\n\
+    |fill 0:0:511 07\n\
+    |fill 0:0:513 07\n\
+    |fill 0:0:1024 07\n\
+    |fill 0:0:512\n\
+    |fill 0:0:512 \n\
+    |fill 0:0:512 7\n\
+    |fill 0:0:512 007\n\
+    |fill 0:0:512 0g\n\
+    |fill 0:0:512 0x\n\
+    |fill 0:0:512 0\07\n\
+    |fill 0:0:512 07\n\0\
+    |write 4 1 0:0:512\n\
+    |write 03 1 0:0:512\n\
+    |write 1 0:0:512\n\
+    |write 3 2 0:0:512\n\
+    |write 3 0 0:0:512\n\
+    |write 3 01 0:0:512\n\
+    |write 3 1 1:0:512\n\
+    |write 3 1 0:3585:512\n\
+    |write 3 1 0:0:511\n\
+    |write 3 1 0:0:512 0:0:512\n\
+    |write 3 1\n\
+    |read 4 1 0:0:512\n\
+    |read 4294967296 1 0:0:512\n\
+    |read 1 0:0:512\n\
+    |read 3 2 0:0:512\n\
+    |read 3 1 1:0:512\n\
+    |read 3 1 0:3585:512\n\
+    |read 3 1 0:0:511\n\
+    |show 0:0:0\n\
+    |show 0:0:65\n\
+    |show 0:4033:64\n\
+    |show 0:4096:1\n\
+    |show 1:0:1\n\
+    |show 0:0:1 07\n\
+    |show 0:0:1\nend\n\
+    |show\n\
+    |verify 3 1 0:0:512\n\
+    |FILL 0:0:512 07\n\
+    |Show 0:0:1\n\
+    |begin\n";
+
+/// The calls of the forms in memory that fail, 0 for none, and the room of the sink.
+#[derive(Clone, Copy)]
+struct Faults {
+    source: u64,
+    store: u64,
+    sink: u64,
+    room: u32,
+}
+
+const NO_FAULTS: Faults = Faults {
+    source: 0,
+    store: 0,
+    sink: 0,
+    room: 4096,
+};
+
+/// What a run left.
+#[derive(Drop)]
+struct Left {
+    status: u8,
+    text: String,
+    image: Vec<u8>,
+}
+
+/// An image of four blocks of zeros, each with its address as reference tag.
+fn formatted(alloc: Global) -> Result<Vec<u8>, Fail> {
+    let mut image = Vec::new(alloc);
+    image.extend_from_slice(&HEAD)?;
+    image.extend_from_slice(&[0; 480])?;
+    for address in 0..4u8 {
+        image.extend_from_slice(&[0; 519])?;
+        image.push(address)?;
+    }
+    Ok(image)
+}
+
+/// A script of these ops.
+fn script(alloc: Global, ops: &str) -> Result<Vec<u8>, Fail> {
+    let mut text = Vec::new(alloc);
+    text.extend_from_slice(BEGIN.as_bytes())?;
+    text.extend_from_slice(ops.as_bytes())?;
+    Ok(text)
+}
+
+/// The words `run a`.
+fn run_a(alloc: Global) -> Result<Vec<String>, Fail> {
+    Ok(vec![in alloc;
+        String::from_str(alloc, "run")?,
+        String::from_str(alloc, "a")?,
+    ]?)
+}
+
+/// Runs the script over the image, with these faults.
+fn left_by(
+    alloc: Global,
+    words: &[String],
+    text: Vec<u8>,
+    image: Vec<u8>,
+    faults: Faults,
+) -> Result<Left, Fail> {
+    let mut source = MemSource::new(text, vec![in alloc; faults.source]?);
+    let mut rig = ImageRig::new(alloc, MemStore::new(image, vec![in alloc; faults.store]?));
+    let mut sink = MemSink::new(alloc, faults.room, vec![in alloc; faults.sink]?)?;
+    let status = run(alloc, words, &mut source, &mut rig, &mut sink);
+    let mut held = Vec::new(alloc);
+    held.extend_from_slice(sink.bytes())?;
+    let mut kept = Vec::new(alloc);
+    kept.extend_from_slice(rig.store().bytes())?;
+    Ok(Left {
+        status: status.number(),
+        text: String::from_utf8(held)?,
+        image: kept,
+    })
+}
+
+/// Runs these ops over a formatted image, with these faults.
+fn left_by_ops(alloc: Global, ops: &str, faults: Faults) -> Result<Left, Fail> {
+    let words = run_a(alloc)?;
+    left_by(
+        alloc,
+        &words,
+        script(alloc, ops)?,
+        formatted(alloc)?,
+        faults,
+    )
+}
+
+#[test]
+fn a_run_prints_its_report_and_leaves_its_block(rt: HostRuntime) -> Result<(), Fail> {
+    let done = left_by_ops(rt.alloc(), ROUND_TRIP, NO_FAULTS)?;
+    assert_eq!(rt; done.status, 0);
+    assert_eq!(rt;
+        done.text.as_str(),
+        "dix report 1\nop 2 whole\nop 3 whole\nop 4 0707\n"
+    );
+    // The guard is that of another program, which gives D0DBh for `123456789`.
+    let mut image = formatted(rt.alloc())?;
+    image.truncate(2072);
+    image.extend_from_slice(&[7; 512])?;
+    image.extend_from_slice(&[0x11, 0xB8, 0, 0, 0, 0, 0, 3])?;
+    assert_eq!(rt; done.image.as_slice(), image.as_slice());
+    let zeros = left_by_ops(
+        rt.alloc(),
+        "write 3 1 0:0:512\nread 3 1 0:512:512\n",
+        NO_FAULTS,
+    )?;
+    assert_eq!(rt; zeros.status, 0);
+    assert_eq!(rt;
+        zeros.text.as_str(),
+        "dix report 1\nop 1 whole\nop 2 whole\n"
+    );
+    assert_eq!(rt; zeros.image.as_slice(), formatted(rt.alloc())?.as_slice());
+    Ok(())
+}
+
+#[test]
+fn each_form_of_an_op_is_read(rt: HostRuntime) -> Result<(), Fail> {
+    for (ops, text) in [
+        ("", "dix report 1\n"),
+        ("fill 0:0:512 00\n", "dix report 1\n"),
+        (
+            "fill 0:0:512 AF\nshow 0:510:3\n",
+            "dix report 1\nop 2 afaf00\n",
+        ),
+        ("fill 0:0:512 aF\nshow 0:0:1\n", "dix report 1\nop 2 af\n"),
+        (
+            "fill 0:3584:512 0a\nshow 0:4095:1\n",
+            "dix report 1\nop 2 0a\n",
+        ),
+        ("fill 0:1:512 0a\nshow 0:0:2\n", "dix report 1\nop 2 000a\n"),
+        ("write 0 1 0:3584:512\n", "dix report 1\nop 1 whole\n"),
+        ("read 3 1 0:3584:512\n", "dix report 1\nop 1 whole\n"),
+    ] {
+        let done = left_by_ops(rt.alloc(), ops, NO_FAULTS)?;
+        assert_eq!(rt; done.status, 0, "at {ops}");
+        assert_eq!(rt; done.text.as_str(), text, "at {ops}");
+    }
+    Ok(())
+}
+
+#[test]
+fn each_rule_of_the_ops_is_kept(rt: HostRuntime) -> Result<(), Fail> {
+    assert_eq!(rt; NO_OPS.split('|').count(), 65);
+    for ops in NO_OPS.split('|') {
+        let done = left_by_ops(rt.alloc(), ops, NO_FAULTS)?;
+        assert_eq!(rt; done.status, 3, "at {ops}");
+        assert_eq!(rt; done.text.as_str(), NOT_BUILT, "at {ops}");
+    }
+    Ok(())
+}
+
+#[test]
+fn each_line_before_the_ops_is_fixed(rt: HostRuntime) -> Result<(), Fail> {
+    let words = run_a(rt.alloc())?;
+    for text in [
+        "",
+        "\n",
+        "dix 2\nmode crc on on 1\nlimits 64 16 16\npages 1\nlinear 0 4 dev 0 at 0\nbegin\n",
+        "mode crc on on 1\nlimits 64 16 16\npages 1\nlinear 0 4 dev 0 at 0\nbegin\n",
+        "dix 1\nmode crc on on 0\nlimits 64 16 16\npages 1\nlinear 0 4 dev 0 at 0\nbegin\n",
+        "dix 1\nmode crc on off 1\nlimits 64 16 16\npages 1\nlinear 0 4 dev 0 at 0\nbegin\n",
+        "dix 1\nlimits 64 16 16\npages 1\nlinear 0 4 dev 0 at 0\nbegin\n",
+        "dix 1\nmode crc on on 1\nlimits 64 16 17\npages 1\nlinear 0 4 dev 0 at 0\nbegin\n",
+        "dix 1\nmode crc on on 1\npages 1\nlinear 0 4 dev 0 at 0\nbegin\n",
+        "dix 1\nmode crc on on 1\nlimits 64 16 16\npages 2\nlinear 0 4 dev 0 at 0\nbegin\n",
+        "dix 1\nmode crc on on 1\nlimits 64 16 16\nlinear 0 4 dev 0 at 0\nbegin\n",
+        "dix 1\nmode crc on on 1\nlimits 64 16 16\npages 1\nlinear 0 4 dev 0 at 1\nbegin\n",
+        "dix 1\nmode crc on on 1\nlimits 64 16 16\npages 1\nbegin\n",
+        "dix 1\nmode crc on on 1\nlimits 64 16 16\npages 1\nlinear 0 4 dev 0 at 0\n",
+        "dix 1\nmode crc on on 1\nlimits 64 16 16\npages 1\nlinear 0 4 dev 0 at 0\nbegin",
+        "dix 1\nmode crc on on 1\nlimits 64 16 16\npages 1\nlinear 0 4 dev 0 at 0\nBEGIN\n",
+        "dix 1\nmode crc on on 1\nlimits 64 16 16\npages 1\nlinear 0 4 dev 0 at 0\nbegin \n",
+        "dix 1\nmode crc on on 1\nlimits 64 16 16\nlinear 0 4 dev 0 at 0\npages 1\nbegin\n",
+        "dix 1\n\nmode crc on on 1\nlimits 64 16 16\npages 1\nlinear 0 4 dev 0 at 0\nbegin\n",
+        "dix 1\r\nmode crc on on 1\nlimits 64 16 16\npages 1\nlinear 0 4 dev 0 at 0\nbegin\n",
+        " dix 1\nmode crc on on 1\nlimits 64 16 16\npages 1\nlinear 0 4 dev 0 at 0\nbegin\n",
+        "dix  1\nmode crc on on 1\nlimits 64 16 16\npages 1\nlinear 0 4 dev 0 at 0\nbegin\n",
+    ] {
+        let mut bytes = Vec::new(rt.alloc());
+        bytes.extend_from_slice(text.as_bytes())?;
+        let done = left_by(rt.alloc(), &words, bytes, formatted(rt.alloc())?, NO_FAULTS)?;
+        assert_eq!(rt; done.status, 3, "at {text}");
+        assert_eq!(rt; done.text.as_str(), NOT_BUILT, "at {text}");
+    }
+    Ok(())
+}
+
+#[test]
+fn a_script_is_bounded(rt: HostRuntime) -> Result<(), Fail> {
+    let words = run_a(rt.alloc())?;
+    for (line, count, status, text) in [
+        ("fill 0:0:512 07\n", 64u32, 0u8, "dix report 1\n"),
+        ("fill 0:0:512 07\n", 65, 3, NOT_BUILT),
+        // One byte more than a script may have, with the 75 bytes before the ops.
+        ("\n", 4_194_230, 3, NOT_BUILT),
+    ] {
+        let mut bytes = script(rt.alloc(), "")?;
+        for _ in 0..count {
+            bytes.extend_from_slice(line.as_bytes())?;
+        }
+        let done = left_by(rt.alloc(), &words, bytes, formatted(rt.alloc())?, NO_FAULTS)?;
+        assert_eq!(rt; done.status, status, "{count} lines");
+        assert_eq!(rt; done.text.as_str(), text, "{count} lines");
+    }
+    Ok(())
+}
+
+#[test]
+fn the_words_are_run_and_a_name(rt: HostRuntime) -> Result<(), Fail> {
+    let usage = "usage: dix run IMAGE, trace IMAGE, format IMAGE T:BLOCKS.., big N SEED\n";
+    let report = "dix report 1\n";
+    for (count, all, status, text) in [
+        (0usize, ["", "", ""], 2u8, usage),
+        (1, ["run", "", ""], 2, usage),
+        (3, ["run", "a", "b"], 2, usage),
+        (3, ["run", "a", ""], 2, usage),
+        (2, ["trace", "a.img", ""], 2, usage),
+        (2, ["run", "-a", ""], 2, usage),
+        (2, ["run", "", ""], 2, usage),
+        (2, ["RUN", "a", ""], 2, usage),
+        (2, ["run ", "a", ""], 2, usage),
+        (2, ["a", "run", ""], 2, usage),
+        (2, ["run", "a", ""], 0, report),
+        (2, ["run", "a-b c", ""], 0, report),
+    ] {
+        let mut words = Vec::new(rt.alloc());
+        for word in all {
+            words.push(String::from_str(rt.alloc(), word)?)?;
+        }
+        words.truncate(count);
+        let done = left_by(
+            rt.alloc(),
+            &words,
+            script(rt.alloc(), "")?,
+            formatted(rt.alloc())?,
+            NO_FAULTS,
+        )?;
+        assert_eq!(rt; done.status, status, "{count} words: {} {}", all[0], all[1]);
+        assert_eq!(rt;
+            done.text.as_str(),
+            text,
+            "{count} words: {} {}",
+            all[0],
+            all[1]
+        );
+    }
+    Ok(())
+}
+
+#[test]
+fn each_call_outside_fails_in_turn(rt: HostRuntime) -> Result<(), Fail> {
+    let whole = "dix report 1\nop 2 whole\nop 3 whole\nop 4 0707\n";
+    let unwritten =
+        "dix report 1\nop 2 bad 1\nbad 2 0 medium\nop 3 bad 1\nbad 3 0 target guard\nop 4 0000\n";
+    let unread = "dix report 1\nop 2 whole\nop 3 bad 1\nbad 3 0 medium\nop 4 0000\n";
+    // The calls of the source, the store and the sink that fail, the sink's room, the status, the
+    // text, and how many bytes 07h block 3 has then.
+    for (source, store, sink, room, status, text, stored) in [
+        (0u64, 0u64, 0u64, 4096u32, 0u8, whole, 512usize),
+        (1, 0, 0, 4096, 7, "read fault\n", 0),
+        (2, 0, 0, 4096, 7, "read fault\n", 0),
+        (3, 0, 0, 4096, 0, whole, 512),
+        (0, 1, 0, 4096, 5, "rig fault\n", 0),
+        (0, 2, 0, 4096, 1, unwritten, 260),
+        (0, 3, 0, 4096, 1, unread, 512),
+        (0, 4, 0, 4096, 0, whole, 512),
+        (0, 0, 1, 4096, 8, "", 512),
+        (0, 0, 2, 4096, 0, whole, 512),
+        (0, 0, 0, 0, 8, "", 512),
+        (0, 0, 0, 5, 8, "dix r", 512),
+        (0, 0, 2, 5, 8, "dix r", 512),
+        (
+            0,
+            3,
+            0,
+            45,
+            8,
+            "dix report 1\nop 2 whole\nop 3 bad 1\nbad 3 0 me",
+            512,
+        ),
+        (1, 0, 0, 5, 8, "read ", 0),
+        (0, 1, 1, 5, 8, "", 0),
+    ] {
+        let faults = Faults {
+            source,
+            store,
+            sink,
+            room,
+        };
+        let done = left_by_ops(rt.alloc(), ROUND_TRIP, faults)?;
+        assert_eq!(rt; done.status, status, "{source} {store} {sink} {room}");
+        assert_eq!(rt; done.text.as_str(), text, "{source} {store} {sink} {room}");
+        let sevens = done.image.iter().filter(|b| **b == 7).count();
+        assert_eq!(rt; sevens, stored, "{source} {store} {sink} {room}");
+    }
+    Ok(())
+}
+
+#[test]
+fn each_tuple_of_a_stored_block_is_judged(rt: HostRuntime) -> Result<(), Fail> {
+    let words = run_a(rt.alloc())?;
+    // A byte of the data, whose other bytes are zeros, the tuple, the status, and what is said of
+    // the read. 12FBh is the guard of the data with 55h.
+    for (byte, tuple, status, said) in [
+        (
+            0u8,
+            [0u8, 0, 0, 0, 0, 0, 0, 2],
+            0u8,
+            "op 2 whole\nop 3 0000\n",
+        ),
+        (
+            0x55,
+            [0x12, 0xFB, 0, 0, 0, 0, 0, 2],
+            0,
+            "op 2 whole\nop 3 5500\n",
+        ),
+        (
+            0x55,
+            [0, 0, 0, 0, 0, 0, 0, 2],
+            1,
+            "op 2 bad 1\nbad 2 0 target guard\nop 3 0000\n",
+        ),
+        (
+            0,
+            [0, 1, 0, 0, 0, 0, 0, 2],
+            1,
+            "op 2 bad 1\nbad 2 0 target guard\nop 3 0000\n",
+        ),
+        (
+            0,
+            [1, 0, 0, 0, 0, 0, 0, 2],
+            1,
+            "op 2 bad 1\nbad 2 0 target guard\nop 3 0000\n",
+        ),
+        (
+            0,
+            [0, 0, 0, 0, 0, 0, 0, 3],
+            1,
+            "op 2 bad 1\nbad 2 0 target ref\nop 3 0000\n",
+        ),
+        (
+            0,
+            [0, 0, 0, 0, 1, 0, 0, 2],
+            1,
+            "op 2 bad 1\nbad 2 0 target ref\nop 3 0000\n",
+        ),
+        (
+            0x55,
+            [0, 0, 0, 0, 0, 0, 0, 3],
+            1,
+            "op 2 bad 1\nbad 2 0 target guard\nop 3 0000\n",
+        ),
+        (
+            0,
+            [0, 0, 0x12, 0x34, 0, 0, 0, 2],
+            0,
+            "op 2 whole\nop 3 0000\n",
+        ),
+        (
+            0x55,
+            [0x56, 0x78, 0xFF, 0xFF, 0, 0, 0, 2],
+            0,
+            "op 2 whole\nop 3 5500\n",
+        ),
+        (
+            0x55,
+            [0x56, 0x78, 0xFF, 0xFF, 9, 9, 9, 9],
+            0,
+            "op 2 whole\nop 3 5500\n",
+        ),
+        (
+            0,
+            [0x56, 0x78, 0xFF, 0xFE, 0, 0, 0, 2],
+            1,
+            "op 2 bad 1\nbad 2 0 target guard\nop 3 0000\n",
+        ),
+    ] {
+        let mut image = formatted(rt.alloc())?;
+        image.truncate(1552);
+        image.extend_from_slice(&[0; 100])?;
+        image.push(byte)?;
+        image.extend_from_slice(&[0; 411])?;
+        image.extend_from_slice(&tuple)?;
+        image.extend_from_slice(&[0; 519])?;
+        image.push(3)?;
+        // What the read finds in the page is no zeros.
+        let ops = script(
+            rt.alloc(),
+            "fill 0:0:512 ff\nread 2 1 0:0:512\nshow 0:100:2\n",
+        )?;
+        let done = left_by(rt.alloc(), &words, ops, image, NO_FAULTS)?;
+        let text = format!(in rt.alloc(); "dix report 1\n{said}")?;
+        assert_eq!(rt; done.text.as_str(), text.as_str(), "{byte}: {tuple:?}");
+        assert_eq!(rt; done.status, status, "{byte}: {tuple:?}");
+    }
+    Ok(())
+}
+
+#[test]
+fn each_fault_of_the_header_is_named(rt: HostRuntime) -> Result<(), Fail> {
+    let words = run_a(rt.alloc())?;
+    // The image with one byte changed and cut to this length, after one more byte.
+    for (at, byte, len, status, text) in [
+        (0usize, 68u8, 2592usize, 0u8, "dix report 1\n"),
+        (0, 100, 2592, 4, "image BadMagic\n"),
+        (7, 50, 2592, 4, "image BadMagic\n"),
+        (7, 50, 100, 4, "image BadMagic\n"),
+        (9, 2, 2592, 4, "image BadHeader\n"),
+        (16, 2, 2592, 4, "image BadHeader\n"),
+        (31, 5, 2592, 4, "image BadHeader\n"),
+        (511, 1, 2592, 4, "image BadHeader\n"),
+        (511, 1, 2591, 4, "image BadHeader\n"),
+        (0, 68, 0, 4, "image BadMagic\n"),
+        (0, 68, 7, 4, "image BadMagic\n"),
+        (0, 68, 8, 4, "image BadLength\n"),
+        (0, 68, 511, 4, "image BadLength\n"),
+        (0, 68, 512, 4, "image BadLength\n"),
+        (0, 68, 2591, 4, "image BadLength\n"),
+        (0, 68, 2593, 4, "image BadLength\n"),
+    ] {
+        let mut image = formatted(rt.alloc())?;
+        image.push(0)?;
+        if at < image.len() {
+            image[at] = byte;
+        }
+        image.truncate(len);
+        let done = left_by(
+            rt.alloc(),
+            &words,
+            script(rt.alloc(), "")?,
+            image,
+            NO_FAULTS,
+        )?;
+        assert_eq!(rt; done.status, status, "byte {at}, length {len}");
+        assert_eq!(rt; done.text.as_str(), text, "byte {at}, length {len}");
+    }
+    Ok(())
+}
+
+/// The sense of this key, this code and this qualifier, with no block named.
+fn sense_of(key: u8, asc: u8, ascq: u8) -> Option<Sense>
+    ensures { has_key result ≡ true }
+{
+    Some(Sense {
+        key: key % 16,
+        asc,
+        ascq,
+        info: None,
+    })
+}
+
+/// The status and the text where a rig over a formatted image answers the script's one op so: with
+/// this outcome, and a read with zeros under this guard and this reference tag too.
+fn told(
+    alloc: Global,
+    ops: &str,
+    outcome: Outcome,
+    guard: u8,
+    reference: u8,
+) -> Result<(u8, String), Fail>
+    requires { has_key outcome.sense ≡ true }
+{
+    let mut frame = [0u8; 520];
+    frame[513] = guard;
+    frame[519] = reference;
+    let store = MemStore::new(formatted(alloc)?, Vec::new(alloc));
+    let mut rig = LyingRig::new(ImageRig::new(alloc, store), outcome, frame);
+    let words = run_a(alloc)?;
+    let mut source = MemSource::new(script(alloc, ops)?, Vec::new(alloc));
+    let mut sink = MemSink::new(alloc, 4096, Vec::new(alloc))?;
+    let status = run(alloc, &words, &mut source, &mut rig, &mut sink);
+    let mut held = Vec::new(alloc);
+    held.extend_from_slice(sink.bytes())?;
+    Ok((status.number(), String::from_utf8(held)?))
+}
+
+#[test]
+fn each_sense_of_a_rig_has_its_line(rt: HostRuntime) -> Result<(), Fail> {
+    for (key, asc, ascq, said) in [
+        (0u8, 0u8, 0u8, "refused 00 00 00"),
+        (5, 0x20, 0, "refused 05 20 00"),
+        (0xF, 0xFE, 0xAB, "refused 0f fe ab"),
+        (5, 0x10, 1, "adapter guard"),
+        (5, 0x10, 2, "adapter apptag"),
+        (5, 0x10, 3, "adapter ref"),
+        (0xB, 0x10, 1, "target guard"),
+        (0xB, 0x10, 2, "target apptag"),
+        (0xB, 0x10, 3, "target ref"),
+        (0xB, 0x10, 0, "refused 0b 10 00"),
+        (0xB, 0x10, 4, "refused 0b 10 04"),
+        (3, 0x10, 1, "refused 03 10 01"),
+        (3, 0x11, 0, "medium"),
+        (3, 0x0C, 0, "medium"),
+        (3, 0x11, 1, "refused 03 11 01"),
+        (4, 0x11, 0, "refused 04 11 00"),
+    ] {
+        let sense = sense_of(key, asc, ascq);
+        let wanted = format!(in rt.alloc(); "dix report 1\nop 1 bad 1\nbad 1 0 {said}\n")?;
+        for ops in ["write 2 1 0:0:512\n", "read 2 1 0:0:512\n"] {
+            let (status, text) = told(rt.alloc(), ops, Outcome { done: 0, sense }, 0, 2)?;
+            assert_eq!(rt; text.as_str(), wanted.as_str(), "{ops}");
+            assert_eq!(rt; status, 1, "{ops} {said}");
+        }
+    }
+    Ok(())
+}
+
+#[test]
+fn each_frame_is_judged_by_the_adapter_too(rt: HostRuntime) -> Result<(), Fail> {
+    let write = "write 2 1 0:0:512\n";
+    let read = "read 2 1 0:0:512\n";
+    let shows = "show 0:0:1\nshow 0:0:1\n";
+    for (ops, done, guard, reference, status, said) in [
+        (write, 1u32, 1u8, 3u8, 0u8, "dix report 1\nop 1 whole\n"),
+        (write, 2, 0, 2, 0, "dix report 1\nop 1 whole\n"),
+        (
+            write,
+            0,
+            0,
+            2,
+            1,
+            "dix report 1\nop 1 bad 1\nbad 1 0 short\n",
+        ),
+        (read, 1, 0, 2, 0, "dix report 1\nop 1 whole\n"),
+        (read, 2, 0, 2, 0, "dix report 1\nop 1 whole\n"),
+        (
+            read,
+            0,
+            0,
+            2,
+            1,
+            "dix report 1\nop 1 bad 1\nbad 1 0 short\n",
+        ),
+        (
+            read,
+            1,
+            0,
+            0,
+            1,
+            "dix report 1\nop 1 bad 1\nbad 1 0 adapter ref\n",
+        ),
+        (
+            read,
+            1,
+            1,
+            2,
+            1,
+            "dix report 1\nop 1 bad 1\nbad 1 0 adapter guard\n",
+        ),
+        (
+            read,
+            1,
+            1,
+            3,
+            1,
+            "dix report 1\nop 1 bad 1\nbad 1 0 adapter guard\n",
+        ),
+        // It has no room for two ops.
+        (shows, 1, 0, 2, 6, "no memory\n"),
+    ] {
+        let outcome = Outcome { done, sense: None };
+        let (answer, text) = told(rt.alloc(), ops, outcome, guard, reference)?;
+        assert_eq!(rt; text.as_str(), said, "{ops}: {done} {guard} {reference}");
+        assert_eq!(rt; answer, status, "{ops}: {done} {guard} {reference}");
+    }
+    Ok(())
+}
