@@ -1,22 +1,17 @@
-use Rattle.std.proofs.Common.{ℕ, zero, suc, ◌≡◌, ◌+◌, ◌^◌, ◌<◌, ◌≤◌, Bool, true, false, ltb, ◌&&◌, if◌then◌else◌, List, [], ◌∷◌, ◌++◌, length, Option, Some, None, refl, sym, ap, ◌∙◌, arith, append-nil}
-use Rattle.std.specs.Prelude.{replicate, nat_le, nat_lt}
-use Rattle.std.proofs.lemmas.Bool.{ltb-true}
+use Rattle.std.proofs.Common.{ℕ, ◌≡◌, true, List, [], ◌∷◌, length, Some, None, refl, sym, ap, ◌∙◌, arith, append-nil}
+use Rattle.std.specs.Prelude.{replicate}
 use Rattle.std.proofs.lemmas.List.{length-replicate}
-use Rattle.dix_base.specs.Told.{Calm, Rose}
-use Rattle.target_answer.specs.Frames.{joined}
-use Rattle.target_answer.specs.Target.{Answer, Stop, target_answer}
-use Rattle.rig_api.specs.Log.{Entry, IsMedium, entry_of}
-use Rattle.rig_api.specs.Telling.{HasCause, IsAnswer, Stored, answer_of, at_front, unit_at, with_blocks}
-use Rattle.rig_api.specs.declared.rig.Outcome.{Outcome}
+use Rattle.dix_base.specs.Told.{Calm}
+use Rattle.target_answer.specs.Target.{Answer}
+use Rattle.rig_api.specs.Telling.{Stored, unit_at, with_blocks}
 use Rattle.whole_run.specs.declared.op.Op.{Op}
 use Rattle.whole_run.specs.declared.op.Op.TheVariants as op
 use Rattle.whole_run.specs.declared.reply.Reply.{Reply}
 use Rattle.whole_run.specs.declared.reply.Reply.TheVariants as reply
-use Rattle.whole_run.specs.Ops.{fits, label_of, made, part, read_ten, write_ten}
-use Rattle.whole_run.specs.Walk.{Answered, fate_of_read, fate_of_write, is_medium_line, is_unanswered, page_after, records_of, reply_of, reply_to}
+use Rattle.whole_run.specs.Ops.{part}
+use Rattle.whole_run.specs.Walk.{Answered, is_medium_line, page_after}
 use Rattle.whole_run.specs.Telling.{answer_to, answered_by}
-use Rattle.whole_run.proofs.Walks.{part_length, read_blocks_length, read_medium, read_never_unanswered, within, write_blocks_length, write_medium, write_never_unanswered}
-use Rattle.dix_cli.specs.Runs.{Did, Seen, TellsFour}
+use Rattle.dix_cli.specs.Runs.{Did, Seen}
 
 -- the unit with other blocks has them
 pub blocks_put : (us : List Stored) (blocks : List (List ℕ)) → length (unit_at us 0).blocks ≡ 4 → (unit_at (with_blocks us 0 blocks) 0).blocks ≡ blocks

@@ -1,10 +1,8 @@
-use Rattle.std.proofs.Common.{ℕ, ◌≡◌, ◌+◌, ◌≤◌, Bool, true, false, if◌then◌else◌, List, [], ◌∷◌, ◌++◌, length, Option, Some, None, refl, sym, ap, ◌∙◌, arith}
+use Rattle.std.proofs.Common.{ℕ, ◌≡◌, Bool, if◌then◌else◌, List, Option}
 use Rattle.rig_api.specs.Telling.{IsLaid, KeepsHead}
-use Rattle.whole_run.specs.declared.op.Op.{Op}
-use Rattle.dix_cli.specs.Words.{image_in, is_run}
 use Rattle.dix_cli.specs.Ready.{IsReady}
 use Rattle.dix_cli.specs.Runs.{Ran}
-use Rattle.dix_cli.specs.Verdict.{Cause, CauseRefused, Ended, Facts, Finished, HasRun, Refused, View, Written, refusal_text, status_of, verdict_status}
+use Rattle.dix_cli.specs.Verdict.{CauseRefused, Ended, Facts, Finished, Refused, View, Written, refusal_text, status_of}
 use Rattle.dix_cli.specs.declared.program.Ready.{Ready}
 use Rattle.dix_cli.specs.declared.refusal.Refusal.{Refusal}
 use Rattle.dix_cli.specs.declared.status.Status.{Status}

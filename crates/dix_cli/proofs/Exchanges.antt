@@ -1,24 +1,23 @@
-use Rattle.std.proofs.Common.{ℕ, zero, suc, ◌≡◌, ◌+◌, ◌*◌, ◌^◌, ◌<◌, ◌≤◌, Bool, true, false, ltb, eqb, ◌&&◌, if◌then◌else◌, List, [], ◌∷◌, ◌++◌, length, take, drop, Option, Some, None, refl, sym, ap, ◌∙◌, arith, append-nil}
-use Rattle.std.specs.Prelude.{replicate, nat_le, nat_lt}
+use Rattle.std.proofs.Common.{ℕ, ◌≡◌, ◌+◌, ◌*◌, ◌<◌, ◌≤◌, Bool, true, false, ltb, eqb, if◌then◌else◌, List, [], ◌∷◌, ◌++◌, length, Option, Some, None, refl, sym, ap, ◌∙◌, arith}
+use Rattle.std.specs.Prelude.{replicate}
 use Rattle.std.specs.Int.{w32, from_be_bytes, to_be_bytes}
 use Rattle.std.proofs.lemmas.Bool.{ltb-true}
 use Rattle.std.proofs.lemmas.List.{length-replicate}
 use Rattle.dix_base.specs.Told.{Calm, Rose}
 use Rattle.target_answer.specs.Frames.{frames_of, joined}
 use Rattle.target_answer.specs.Target.{answer_to as answer_to_command, Answer, Stop, refused, target_answer, transfer, write_whole}
-use Rattle.target_answer.specs.declared.command.Direction.TheVariants.{Read, Write}
-use Rattle.rig_api.specs.Log.{Entry, IsMedium, entry_of}
+use Rattle.target_answer.specs.declared.command.Direction.TheVariants.{Write}
+use Rattle.rig_api.specs.Log.{IsMedium, entry_of}
 use Rattle.rig_api.specs.Telling.{HasCause, IsAnswer, Stored, answer_of, at_front, unit_at, with_blocks}
 use Rattle.rig_api.specs.declared.rig.Outcome.{Outcome}
-use Rattle.whole_run.specs.declared.op.Op.{Op}
 use Rattle.whole_run.specs.declared.op.Op.TheVariants as op
 use Rattle.whole_run.specs.declared.reply.Reply.{Reply}
 use Rattle.whole_run.specs.Ops.{fits, label_of, made, part, read_ten, write_ten}
-use Rattle.whole_run.specs.Walk.{Answered, fate_of_read, fate_of_write, is_medium_line, is_unanswered, page_after, records_of, reply_of, reply_to}
-use Rattle.whole_run.specs.Telling.{answer_to, answered_by}
+use Rattle.whole_run.specs.Walk.{Answered, fate_of_read, fate_of_write, page_after, reply_of}
+use Rattle.whole_run.specs.Telling.{answer_to}
 use Rattle.whole_run.proofs.Walks.{and_left, and_right, part_length, read_blocks_length, read_medium, read_never_unanswered, within, write_blocks_length, write_medium, write_never_unanswered}
 use Rattle.dix_cli.proofs.Acts.{blocks_put}
-use Rattle.dix_cli.specs.Runs.{Did, Seen, TellsFour}
+use Rattle.dix_cli.specs.Runs.{Did, Seen}
 
 abbrev either : Bool → Answer → Answer → Answer
 either t x y = if t then x else y

@@ -1,8 +1,8 @@
-use Rattle.std.proofs.Common.{ℕ, ◌≡◌, ◌+◌, ◌≤◌, List, [], ◌∷◌, ◌++◌, length, take, drop, Option, Some, None, refl, sym, ap, ◌∙◌, arith, rules, append_assoc, append-nil}
+use Rattle.std.proofs.Common.{ℕ, ◌≡◌, ◌+◌, ◌≤◌, List, [], ◌++◌, length, take, drop, Option, Some, None, refl, sym, ap, ◌∙◌, arith, rules, append_assoc, append-nil}
 use Rattle.std.proofs.Math.Seq.{take-add}
 use Rattle.std.proofs.lemmas.List.{places, same_lists}
 use Rattle.dix_base.specs.Told.{Appended, IsAtEnd, Took}
-use Rattle.dix_cli.specs.Reading.{IsOver, IsWhole, most_bytes}
+use Rattle.dix_cli.specs.Reading.{IsWhole, most_bytes}
 
 pub most_is : most_bytes ≡ 4194304
 unfolding most_bytes

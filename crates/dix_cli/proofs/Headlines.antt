@@ -1,36 +1,32 @@
-use Rattle.std.proofs.Common.{ℕ, zero, suc, ◌≡◌, ◌+◌, ◌*◌, ◌^◌, ◌<◌, ◌≤◌, ◌⊎◌, inl, inr, Bool, true, false, if◌then◌else◌, List, [], ◌∷◌, ◌++◌, length, take, drop, Option, Some, None, refl, sym, ap, subst, ◌∙◌, arith, append-nil, length-append, length-drop}
+use Rattle.std.proofs.Common.{ℕ, zero, suc, ◌≡◌, ◌+◌, ◌*◌, ◌≤◌, ◌⊎◌, inl, inr, Bool, true, false, if◌then◌else◌, List, [], ◌∷◌, ◌++◌, length, take, drop, Option, Some, None, refl, sym, ap, subst, ◌∙◌, arith, append-nil, length-append, length-drop}
 use Rattle.std.specs.Prelude.{nat_le}
 use Rattle.std.specs.List.{list_all, list_any}
 use Rattle.std.proofs.lemmas.Bool.{leb-true}
 use Rattle.whole_run.specs.Language.{script_in}
 use Rattle.whole_run.specs.Ops.{fits}
 use Rattle.std.proofs.lemmas.List.{take-append-drop}
-use Rattle.dix_base.specs.Told.{Appended, AppendedSome, Calm, IsAtEnd, Rose, Took}
+use Rattle.dix_base.specs.Told.{Appended, Calm, Rose, Took}
 use Rattle.target_answer.specs.Frames.{frames_of, joined}
 use Rattle.target_answer.specs.Image.{blocks_in, size_of, stored}
 use Rattle.rig_api.specs.Head.{Head, IsHeadOf, head_fault, head_of}
-use Rattle.rig_api.specs.Telling.{IsLaid, KeepsHead, Opened, Standing, Stayed, Stored, unit_at, units_in, with_blocks}
+use Rattle.rig_api.specs.Telling.{IsLaid, KeepsHead, Standing, Stayed, Stored, unit_at, units_in}
 use Rattle.rig_api.specs.declared.rig.RigFault.{RigFault}
-use Rattle.image_rig.proofs.Heads.{RightHead, right_head}
+use Rattle.image_rig.proofs.Heads.{right_head}
 use Rattle.pi_tuple.specs.declared.checks.PiType.TheVariants.{One}
 use Rattle.whole_run.specs.declared.op.Op.{Op}
 use Rattle.whole_run.specs.Walk.{State, begun, is_bad, walk}
-use Rattle.whole_run.specs.Telling.{Told, told_walk}
 use Rattle.whole_run.specs.Plain.{AreClean, Plain, plain_run, under}
 use Rattle.whole_run.specs.Report.{report}
-use Rattle.whole_run.specs.Laws.{EqualsPlain}
 use Rattle.whole_run.proofs.Plainly.{walk_plain}
 use Rattle.dix_cli.specs.Words.{image_in, is_run}
 use Rattle.dix_cli.specs.Reading.{IsOver, IsWhole, most_bytes, script_of}
-use Rattle.dix_cli.specs.Runs.{Ran, Seen}
-use Rattle.dix_cli.specs.Headline.{Carries, IsComplete, IsRun, LeavesPlain, OpensOnce, RunEqualsPlain, blocks_of_image}
-use Rattle.dix_cli.specs.Verdict.{Cause, CauseRefused, Ended, Facts, Finished, HasKept, HasRun, OpenedOnce, ReadsAs, Refused, Verdict, View, WasOpened, Written, refusal_text, status_of, verdict_status, verdict_text}
+use Rattle.dix_cli.specs.Headline.{Carries, IsComplete, IsRun, OpensOnce, RunEqualsPlain, blocks_of_image}
+use Rattle.dix_cli.specs.Verdict.{Cause, CauseRefused, Ended, Facts, Finished, HasRun, ReadsAs, Refused, Verdict, View, WasOpened, Written, status_of, verdict_status, verdict_text}
 use Rattle.dix_cli.specs.declared.refusal.Refusal.{Refusal}
 use Rattle.dix_cli.specs.declared.refusal.Refusal.TheVariants as refusal
 use Rattle.dix_cli.specs.declared.status.Status.{Status}
 use Rattle.dix_cli.specs.declared.status.Status.TheVariants as status
 use Rattle.dix_cli.proofs.Fitting.{script_fits}
-use Rattle.dix_cli.proofs.Flow.{most_is}
 
 -- what a told source held is what was read
 pub read_is : (text held : List ℕ) (new : Option (List ℕ)) → IsWhole text (Some held) new → text ≡ held

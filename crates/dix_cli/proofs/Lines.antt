@@ -1,9 +1,9 @@
-use Rattle.std.proofs.Common.{ℕ, zero, suc, ◌≡◌, ◌+◌, ◌-◌, ◌<◌, ◌≤◌, Bool, true, false, ltb, cond, List, [], ◌∷◌, ◌++◌, length, drop, Option, Some, None, refl, sym, ap, ◌∙◌, arith, append-nil, append_assoc}
+use Rattle.std.proofs.Common.{ℕ, zero, suc, ◌≡◌, ◌+◌, ◌<◌, Bool, true, false, ltb, cond, List, [], ◌∷◌, ◌++◌, length, drop, Option, Some, None, refl, sym, ap, ◌∙◌, arith, append-nil, append_assoc}
 use Rattle.std.proofs.lemmas.List.{length-drop}
 use Rattle.std.proofs.lemmas.Bool.{ltb-true}
 use Rattle.std.specs.List.{position, position_or_len}
 use Rattle.whole_run.specs.declared.op.Op.{Op}
-use Rattle.whole_run.specs.Language.{Cut, at_end, behind, cut, cut_by, is_byte, most_ops, op_in, ops_in, with_line, with_op}
+use Rattle.whole_run.specs.Language.{Cut, at_end, behind, cut, cut_by, is_byte, most_ops, op_in, ops_in, with_op}
 
 -- the ops so far, with those that follow
 abbrev pub joined : List Op → Option (List Op) → Option (List Op)

@@ -1,12 +1,12 @@
-use Rattle.std.proofs.Common.{ℕ, zero, suc, ◌≡◌, ◌+◌, ◌*◌, ◌^◌, ◌<◌, ◌≤◌, ◌⊎◌, inl, inr, Bool, true, false, cond, ◌||◌, List, [], ◌∷◌, ◌++◌, length, take, get_or, min, Option, Some, None, refl, sym, ap, ◌∙◌, arith, append-nil, append_assoc, length-append}
+use Rattle.std.proofs.Common.{ℕ, suc, ◌≡◌, ◌+◌, ◌≤◌, inl, Bool, true, false, cond, ◌||◌, List, [], ◌∷◌, ◌++◌, length, Option, Some, None, refl, sym, ap, ◌∙◌, arith, append-nil, append_assoc}
 use Rattle.std.specs.Prelude.{codes, count_by, replicate}
-use Rattle.std.specs.List.{list_all, list_any}
+use Rattle.std.specs.List.{list_any}
 use Rattle.std.proofs.lemmas.List.{length-map}
 use Rattle.std.proofs.lemmas.List.Folds.{list_any-append}
 use Rattle.std.proofs.lemmas.List.Sums.{sum_by-append}
-use Rattle.dix_base.specs.Told.{Becomes, Calm, Rose}
+use Rattle.dix_base.specs.Told.{Calm, Rose}
 use Rattle.target_answer.specs.Target.{Answer}
-use Rattle.rig_api.specs.Log.{Entry, HasRoom, Room}
+use Rattle.rig_api.specs.Log.{HasRoom, Room}
 use Rattle.rig_api.specs.Telling.{KeepsHead, Stored, unit_at, with_blocks}
 use Rattle.whole_run.specs.declared.op.Op.{Op}
 use Rattle.whole_run.specs.declared.reply.Reply.{Reply}
@@ -16,7 +16,7 @@ use Rattle.whole_run.specs.Telling.{Told, answer_to, answered_by, served, told_w
 use Rattle.whole_run.proofs.Walks.{ops_of_more, replies_length, told_walk_more, walk_more}
 use Rattle.whole_run.proofs.Listing.{walk_listed}
 use Rattle.dix_cli.proofs.Acts.{blocks_put}
-use Rattle.dix_cli.specs.Runs.{Did, Ran, RoseBy, Seen, Spent, TellsFour}
+use Rattle.dix_cli.specs.Runs.{Did, Ran, RoseBy, Seen, Spent}
 
 lines_more : (n : ℕ) (rs : List Reply) (r : Reply) → lines_from n (rs ++ (r ∷ [])) ≡ lines_from n rs ++ lines_of (n + length rs) r
 lines_more n [] r = let e : n + 0 ≡ n = omega arith in rw e (append-nil (lines_of n r))

@@ -1,4 +1,4 @@
-use Rattle.std.proofs.Common.{ℕ, ◌≡◌, ◌+◌, false, List, [], ◌∷◌, length, refl}
+use Rattle.std.proofs.Common.{◌≡◌, false, List, [], ◌∷◌, length, refl}
 use Rattle.std.specs.Prelude.{String}
 use Rattle.dix_cli.specs.Words.{is_run, word_bytes}
 

@@ -1,6 +1,5 @@
-use Rattle.std.specs.Prelude.{ℕ, ◌≡◌, ◌*◌, ◌≤◌, true, false, length, codes, Some, None}
+use Rattle.std.specs.Prelude.{◌≡◌, ◌*◌, ◌≤◌, true, false, length, codes, Some, None}
 use Rattle.std.specs.List.{list_all}
-use Rattle.rig_api.specs.Telling.{IsLaid}
 use Rattle.whole_run.specs.Ops.{fits}
 use Rattle.dix_cli.specs.Words.{image_in, is_run}
 use Rattle.dix_cli.specs.Runs.{room_for}

@@ -1,4 +1,4 @@
-use Rattle.std.specs.Prelude.{ℕ, ◌≡◌, ◌+◌, ◌-◌, ◌^◌, ◌≤◌, ◌<◌, ◌⊎◌, Bool, true, false, List, [], ◌∷◌, ◌++◌, length, count_by, Option, Some, None, vec_capacity, vec_len}
+use Rattle.std.specs.Prelude.{ℕ, ◌≡◌, ◌+◌, ◌-◌, ◌^◌, ◌≤◌, ◌⊎◌, Bool, true, false, List, ◌++◌, length, count_by, Option, Some, vec_capacity, vec_len}
 use Rattle.std.specs.Global.{Vec}
 use Rattle.std.specs.List.{list_any}
 use Rattle.dix_base.specs.Told.{Calm, Rose}
@@ -6,8 +6,8 @@ use Rattle.rig_api.specs.Log.{Entry, Room}
 use Rattle.rig_api.specs.Telling.{Stored, unit_at, with_blocks}
 use Rattle.whole_run.specs.declared.op.Op.{Op}
 use Rattle.whole_run.specs.declared.reply.Reply.{Reply}
-use Rattle.whole_run.specs.Walk.{Answered, State, Turn, begun, is_bad, is_medium_line, is_unanswered, ops_of, page_after, records_of, reply_to, walk}
-use Rattle.whole_run.specs.Telling.{Told, answer_to, answered_by, told_walk}
+use Rattle.whole_run.specs.Walk.{Answered, Turn, begun, is_bad, is_medium_line, is_unanswered, ops_of, page_after, records_of, reply_to, walk}
+use Rattle.whole_run.specs.Telling.{answer_to, answered_by, told_walk}
 use Rattle.whole_run.specs.Laws.{AreListedExactly}
 use Rattle.whole_run.specs.Report.{report}
 

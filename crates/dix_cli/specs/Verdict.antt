@@ -1,5 +1,4 @@
-use Rattle.std.specs.Prelude.{ℕ, ◌≡◌, ◌≤◌, ◌⊎◌, Bool, true, false, if◌then◌else◌, List, [], ◌++◌, codes, Option, Some, None}
-use Rattle.std.specs.List.{list_all}
+use Rattle.std.specs.Prelude.{ℕ, ◌≡◌, ◌≤◌, ◌⊎◌, Bool, true, false, if◌then◌else◌, List, ◌++◌, codes, Option, Some, None}
 use Rattle.dix_base.specs.Told.{Appended, AppendedSome, Rose}
 use Rattle.rig_api.specs.Head.{IsHeadOf, fault_name, head_fault}
 use Rattle.rig_api.specs.Telling.{IsLaid, KeepsHead, Opened, Standing, Stayed}

@@ -477,7 +477,9 @@ fn each_tuple_of_a_stored_block_is_judged(rt: HostRuntime) -> Result<(), Fail> {
         image.extend_from_slice(&[0; 100])?;
         image.push(byte)?;
         image.extend_from_slice(&[0; 411])?;
-        image.extend_from_slice(&tuple)?;
+        for part in tuple {
+            image.push(part)?;
+        }
         image.extend_from_slice(&[0; 519])?;
         image.push(3)?;
         // What the read finds in the page is no zeros.

@@ -1,7 +1,6 @@
-use Rattle.std.proofs.Common.{ℕ, ◌≡◌, ◌++◌, ◌%◌, ◌^◌, length, refl, sym, ap, ◌∙◌, arith}
+use Rattle.std.proofs.Common.{ℕ, ◌≡◌, ◌++◌, ◌%◌, ◌^◌, length, sym, ap, ◌∙◌, arith}
 use Rattle.std.proofs.Math.Nat.{mod-eq_of_lt}
 use Rattle.pi_tuple.specs.Tuples.{tuple_bytes}
-use Rattle.pi_tuple.specs.declared.tuple.Tuple.{Tuple}
 use Rattle.pi_guard.specs.Guards.{crc}
 use Rattle.dix_cli.proofs.FrameLemmas.{put_both}
 use Rattle.dix_cli.proofs.frames.frame_for.Goals as goal

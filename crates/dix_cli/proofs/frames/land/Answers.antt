@@ -1,4 +1,3 @@
-use Rattle.std.proofs.Common.{◌≡◌}
 use Rattle.dix_cli.proofs.frames.land.Goals as goal
 
 pub returns-in-Some : goal.returns-in-Some

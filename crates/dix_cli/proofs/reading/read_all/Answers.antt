@@ -1,7 +1,5 @@
-use Rattle.std.proofs.Common.{◌≡◌, ◌+◌, ◌≤◌, length, take, ap, sym, ◌∙◌, arith, refl}
-use Rattle.std.proofs.lemmas.List.{length-append, length-take}
-use Rattle.dix_base.specs.Told.{Took}
-use Rattle.dix_cli.proofs.Flow.{most_is, took_none, took_more, whole}
+use Rattle.std.proofs.Common.{arith, refl}
+use Rattle.dix_cli.proofs.Flow.{most_is, took_none}
 use Rattle.dix_cli.proofs.reading.read_all.Goals as goal
 
 pub loop-room-init : goal.loop-room-init

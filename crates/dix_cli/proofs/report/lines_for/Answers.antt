@@ -1,4 +1,4 @@
-use Rattle.std.proofs.Common.{◌≡◌, ◌++◌, append_assoc, refl}
+use Rattle.std.proofs.Common.{append_assoc}
 use Rattle.dix_cli.proofs.report.lines_for.Goals as goal
 
 pub returns-in-Bad : goal.returns-in-Bad

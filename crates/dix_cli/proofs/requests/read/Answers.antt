@@ -1,4 +1,4 @@
-use Rattle.std.proofs.Common.{◌≡◌, ◌+◌, length, sym, ap, ◌∙◌, arith, refl}
+use Rattle.std.proofs.Common.{ap, ◌∙◌, arith, refl}
 use Rattle.whole_run.specs.Walk.{reply_of}
 use Rattle.dix_cli.proofs.Exchanges.{did_read}
 use Rattle.dix_cli.proofs.requests.read.Goals as goal

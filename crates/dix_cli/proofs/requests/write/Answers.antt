@@ -1,4 +1,4 @@
-use Rattle.std.proofs.Common.{◌≡◌, ◌+◌, length, sym, ap, ◌∙◌, arith}
+use Rattle.std.proofs.Common.{ap, ◌∙◌, arith}
 use Rattle.whole_run.proofs.Walks.{and_right, part_length, within}
 use Rattle.whole_run.specs.Walk.{reply_of}
 use Rattle.dix_cli.proofs.Exchanges.{did_write}

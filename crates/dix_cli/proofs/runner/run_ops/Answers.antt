@@ -1,4 +1,4 @@
-use Rattle.std.proofs.Common.{◌≡◌, ◌+◌, ◌-◌, ◌*◌, ◌≤◌, suc, length, take, refl, sym, ap, ◌∙◌, arith, length-take-le}
+use Rattle.std.proofs.Common.{◌≡◌, ◌+◌, ◌-◌, ◌≤◌, suc, length, take, refl, ◌∙◌, arith, length-take-le}
 use Rattle.std.proofs.lemmas.List.{take_more}
 use Rattle.dix_cli.proofs.Running.{keeps_all, keeps_both, ran_none, ran_more, room_left}
 use Rattle.dix_cli.proofs.runner.run_ops.Goals as goal

@@ -1,7 +1,7 @@
-use Rattle.std.proofs.Common.{◌≡◌, ◌+◌, ◌-◌, ◌<◌, ◌≤◌, suc, length, [], ◌∷◌, ◌++◌, Option, Some, None, true, false, eqb, sym, ap, ◌∙◌, refl, arith}
+use Rattle.std.proofs.Common.{◌≡◌, ◌+◌, ◌-◌, suc, length, [], ◌∷◌, ◌++◌, sym, ap, ◌∙◌, arith}
 use Rattle.std.proofs.lemmas.List.{length-append}
-use Rattle.whole_run.specs.Language.{most_ops, op_in, ops_in, cut}
-use Rattle.dix_cli.proofs.Lines.{joined, full, bad_line, next_line, at_last, left_over, most_is, shorter}
+use Rattle.whole_run.specs.Language.{most_ops}
+use Rattle.dix_cli.proofs.Lines.{full, bad_line, next_line, at_last, left_over, most_is}
 use Rattle.dix_cli.proofs.script.ops_of.Goals as goal
 
 pub returns-then-len-eq-MOST_OPS : goal.returns-then-len-eq-MOST_OPS
