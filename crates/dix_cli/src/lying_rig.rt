@@ -1,16 +1,15 @@
 //! A rig that answers as it was made to, whatever is stored.
 
 ghost use Rattle.std.specs.Prelude.{◌≡◌, ◌+◌, ◌*◌, ◌-◌, ◌^◌, ◌<◌, ◌≤◌, [], ◌∷◌, true, None, if◌then◌else◌, length, take};
-ghost use Rattle.rig_api.specs.Log.{Entry, has_key, have_keys, labels_of, moved_by, moved_of};
-ghost use Rattle.target_answer.specs.Target.{blocks_of, count_of};
+ghost use Rattle.rig_api.specs.Log.{Entry, has_key, have_keys, labels_of};
+ghost use Rattle.target_answer.specs.Target.{blocks_of};
 
 use arrayvec::ArrayVec;
 use dix_base::MemStore;
 use fault_schedule::{Label, ShortBytes};
 use image_rig::ImageRig;
-use rig_api::{Outcome, Record, Rig, RigFault};
+use rig_api::{Outcome, Record, Rig, RigFault, front, kept_labels, moved_frames};
 use std::alloc::{AllocError, Global};
-use target_answer::{Command, Direction, command_of};
 
 /// A rig with room for one exchange of one block, which answers with this outcome, and a read with
 /// this frame too. It opens the image of another rig, and tells nothing.
@@ -51,54 +50,6 @@ impl LyingRig {
     }
 }
 
-fn short_bytes(bytes: &[u8]) -> ShortBytes
-    requires { length bytes.now ≤ 32 }
-    ensures { result ≡ bytes.now }
-{
-    let mut held = ArrayVec::new();
-    match held.try_extend_from_slice(bytes) {
-        Ok(()) => ShortBytes::from_array(held),
-        Err(_) => unreachable!(),
-    }
-}
-
-/// The first `count`, or all where there are fewer.
-fn front<T>(all: &[T], count: usize) -> &[T]
-    ensures { result.now ≡ take count all.now }
-{
-    if count < all.len() {
-        let (part, _) = all.split_at(count);
-        return part;
-    }
-    all
-}
-
-fn count(command: Option<Command>) -> u32
-    ensures { result ≡ count_of command }
-{
-    match command {
-        None => 0,
-        Some(command) => command.n as u32,
-    }
-}
-
-/// The frames of the blocks that are done.
-fn moved_part<'a>(command: Option<Command>, done: u32, out: &'a [u8], into: &'a [u8]) -> &'a [u8]
-    ensures value { result.now ≡ moved_by command done out.now into.now }
-    ensures bound { length result.now ≤ 520 * count_of command }
-{
-    match command {
-        None => &[],
-        Some(command) => {
-            let bytes = 520 * done.min(command.n as u32) as usize;
-            match command.direction {
-                Direction::Write => front(out, bytes),
-                Direction::Read => front(into, bytes),
-            }
-        }
-    }
-}
-
 fn held_bytes(bytes: &[u8]) -> ArrayVec<u8, 552>
     requires { length bytes.now ≤ 552 }
     ensures { result.items ≡ bytes.now }
@@ -110,24 +61,16 @@ fn held_bytes(bytes: &[u8]) -> ArrayVec<u8, 552>
     }
 }
 
-/// The label of the block where it ended, and how many labels are kept.
+/// The one label that is kept, where one is, and how many are.
 fn labels_part(cdb: &[u8], outcome: Outcome, labels: &[Label]) -> ([Label; 1], usize)
     requires { blocks_of cdb.now ≤ 1 }
     ensures { take result.1 result.0 ≡ labels_of cdb.now outcome labels.now }
 {
-    let named = (outcome.done as u64 + 1).min(count(command_of(cdb)) as u64) as usize;
-    match front(labels, named) {
+    match kept_labels(cdb, outcome, labels) {
         [] => ([Label { op: 0, k: 0 }], 0),
         [one] => ([*one], 1),
         _ => unreachable!(),
     }
-}
-
-fn moved_frames(cdb: &[u8], outcome: Outcome, out: &[u8], into: &[u8]) -> ArrayVec<u8, 552>
-    requires { blocks_of cdb.now ≤ 1 }
-    ensures { result.items ≡ moved_of cdb.now outcome out.now into.now }
-{
-    held_bytes(moved_part(command_of(cdb), outcome.done, out, into))
 }
 
 impl Rig for LyingRig {
@@ -215,12 +158,8 @@ impl Rig for LyingRig {
         let (kept, named) = labels_part(cdb, outcome, labels);
         self.labels = kept;
         self.named = named;
-        self.moved = moved_frames(cdb, outcome, out, into);
-        self.what = Record {
-            dev,
-            cdb: short_bytes(cdb),
-            outcome,
-        };
+        self.moved = held_bytes(moved_frames(cdb, outcome, out, into));
+        self.what = Record::of(dev, cdb, outcome);
         self.used = true;
         outcome
     }

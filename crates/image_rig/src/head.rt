@@ -7,8 +7,7 @@ ghost use Rattle.image_rig.specs.Zeros.{is_zero};
 ghost use Rattle.rig_api.specs.Head.{fault_of_table, head_fault};
 ghost use Rattle.target_answer.specs.Image.{blocks_in, magic, table};
 
-use crate::log::front;
-use rig_api::RigFault;
+use rig_api::{RigFault, front};
 
 const MAGIC: [u8; 8] = *b"DIXIMG01";
 

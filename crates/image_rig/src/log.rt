@@ -140,17 +140,6 @@ fn put_last(held: &mut Vec<Kept>, one: Kept)
     }
 }
 
-/// The first `count`, or all where there are fewer.
-pub(crate) fn front<T>(all: &[T], count: usize) -> &[T]
-    ensures { result.now ≡ take count all.now }
-{
-    if count < all.len() {
-        let (part, _) = all.split_at(count);
-        return part;
-    }
-    all
-}
-
 fn cut<T>(all: &[T], at: usize, len: usize) -> &[T]
     requires { at + len ≤ length all.now }
     ensures { result.now ≡ take len (drop at all.now) }

@@ -1,7 +1,6 @@
 //! The rig over a store in memory: a round trip, each sense, each refusal of an image.
 
 use crate::ImageRig;
-use crate::note::count;
 use dix_base::MemStore;
 use fault_schedule::Label;
 use rig_api::{Outcome, Rig, RigFault};
@@ -53,7 +52,11 @@ fn exchange<R: Rig>(
     if rig.devices() == 0 || cdb.len() > 32 {
         return None;
     }
-    let Ok(()) = rig.reserve(alloc, 1, count(command_of(cdb))) else {
+    let blocks = match command_of(cdb) {
+        Some(command) => command.n as u32,
+        None => 0,
+    };
+    let Ok(()) = rig.reserve(alloc, 1, blocks) else {
         return None;
     };
     Some(rig.exchange(0, cdb, &LABELS, out, into))

@@ -2,6 +2,8 @@
 //! exchange.
 #![tactic(auto)]
 
+mod record;
 mod rig;
 
+pub use record::{front, kept_labels, moved_frames};
 pub use rig::{Outcome, Record, Rig, RigFault};
