@@ -1,6 +1,13 @@
 //! Sense data: what a target says of a command that it didn't carry out whole (SPC-4, 4.5).
 #![tactic(auto)]
 
+mod decode;
+mod encode;
+mod layer;
+
+pub use decode::SenseFault;
+pub use layer::{Layer, layer_and_check};
+
 /// Sense data: the sense key, the additional sense code with its qualifier, and the INFORMATION
 /// field (SPC-4, 4.5).
 #[derive(Clone, Copy, Debug, PartialEq, Eq)]
@@ -14,3 +21,6 @@ pub struct Sense {
     /// The INFORMATION field, where it is valid: the LBA of the block that the sense speaks of.
     pub info: Option<u64>,
 }
+
+#[cfg(test)]
+mod tests;
