@@ -1,1 +1,12 @@
 pub mod RegisterLemmas
+mod Rows
+mod Linear
+mod Folds
+mod Nibbles
+mod Lookup
+mod Windows
+mod Sparse
+mod Trailing
+mod Closing
+mod Sums
+mod Runs

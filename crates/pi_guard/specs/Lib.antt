@@ -1,2 +1,7 @@
+pub mod AfterZeros
 pub mod Guards
 pub mod Register
+pub mod Stands
+pub mod Trails
+pub mod Windows
+pub mod Words

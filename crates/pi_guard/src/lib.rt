@@ -1,92 +1,96 @@
-//! The logical block guard of protection information: the CRC over a block's data that a tuple
-//! carries (SBC-3, 4.22.4).
+//! The logical block guard of protection information: the checksum over a block's data that a tuple
+//! carries. It is a CRC (SBC-3, 4.22.4), or between host and adapter the Internet checksum (RFC 1071).
 #![tactic(auto)]
 
-ghost use Rattle.std.specs.Prelude.{◌≡◌};
-ghost use Rattle.pi_guard.specs.Guards.{crc};
-ghost use Rattle.pi_guard.specs.Register.{byte_step, register, step, steps};
+mod byte_tables;
+pub mod plain;
+mod slicing;
+mod vectors;
+mod word_sums;
 
-/// One step of the division on a register of 16 bits.
-fn one(r: u16) -> u16
-    ensures { result ≡ step r }
-{
-    if r >> 15 == 1 {
-        (r << 1) ^ 0x8BB7
-    } else {
-        r << 1
+ghost use Rattle.std.specs.Prelude.{◌≡◌, ℕ, List, [], ◌++◌};
+ghost use Rattle.pi_guard.specs.Guards.{crc, guard_of, ip};
+
+/// Which checksum a guard is.
+#[derive(Clone, Copy, PartialEq, Eq, Debug)]
+pub enum GuardKind {
+    /// The CRC-16 of T10 DIF.
+    Crc,
+    /// The Internet checksum.
+    Ip,
+}
+
+/// A guard of bytes that come in parts.
+///
+/// A run stands for a list of bytes: none when it is made, and after each part those and the part's.
+#[derive(Clone, Copy, Debug)]
+pub struct GuardRun {
+    kind: GuardKind,
+    // The remainder so far, of a CRC.
+    register: u16,
+    // The sum of words so far with its carries added back, and whether the last of them wants its lower
+    // byte, of an Internet checksum.
+    sum: u16,
+    half_open: bool,
+}
+
+impl GuardRun {
+    ghost use Rattle.pi_guard.specs.Stands.{Stands, kind_of};
+
+    /// A run that stands for no bytes.
+    pub fn new(kind: GuardKind) -> GuardRun
+        ensures kind { kind_of result ≡ kind }
+        ensures none { Stands result [] }
+    {
+        GuardRun {
+            kind,
+            register: 0,
+            sum: 0,
+            half_open: false,
+        }
     }
-}
 
-/// Eight steps of the division.
-fn eight(start: u16) -> u16
-    ensures { result ≡ steps 8 start }
-{
-    let mut r = start;
-    for _i in 0..8u32 {
-        r = one(r);
+    /// Takes the next part, of any length, and keeps none of it.
+    pub fn update(&mut self, part: &[u8])
+        ensures kind { kind_of self.new ≡ kind_of self.old }
+        ensures more { (b : List ℕ) → Stands self.old b → Stands self.new (b ++ part.now) }
+    {
+        match self.kind {
+            GuardKind::Crc => self.register = vectors::register_after(self.register, part),
+            GuardKind::Ip => {
+                self.sum = word_sums::sum_after(self.sum, self.half_open, part);
+                self.half_open = word_sums::is_half_open_after(self.half_open, part);
+            }
+        }
     }
-    r
-}
 
-/// The register after one more byte.
-fn next(state: u16, byte: u8) -> u16
-    ensures { result ≡ byte_step state byte }
-{
-    eight(state ^ (u16::from(byte) << 8))
-}
-
-/// The register after these bytes.
-fn plainly(start: u16, part: &[u8]) -> u16
-    ensures { result ≡ register start part.now }
-{
-    let mut state = start;
-    for byte in part {
-        state = next(state, *byte);
-    }
-    state
-}
-
-/// The logical block guard of the bytes, of any number: polynomial 8BB7h, start 0, the most
-/// significant bit first, no final xor (SBC-3, 4.22.4). It is the remainder of the bits, as a
-/// polynomial times x^16, on division by 18BB7h over the field of two elements.
-pub fn crc16(bytes: &[u8]) -> u16
-    ensures { result ≡ crc bytes.now }
-{
-    plainly(0, bytes)
-}
-
-#[cfg(test)]
-mod tests {
-    use super::*;
-
-    // The check value of CRC-16/T10-DIF, the test cases of SBC-3 (32 bytes each), and the
-    // polynomial itself as the guard of a last 1.
-    #[test]
-    fn gives_known_guards(rt: HostRuntime) {
-        let mut last_one = [0; 512];
-        last_one[511] = 1;
-        let rising = [
-            0, 1, 2, 3, 4, 5, 6, 7, 8, 9, 10, 11, 12, 13, 14, 15, 16, 17, 18, 19, 20, 21, 22, 23,
-            24, 25, 26, 27, 28, 29, 30, 31,
-        ];
-        let mut two_ones = [0; 32];
-        two_ones[0] = 0xFF;
-        two_ones[1] = 0xFF;
-        let rows: [(&[u8], u16); 11] = [
-            (b"123456789", 0xD0DB),
-            (&[], 0),
-            (&[0; 32], 0),
-            (&[0; 512], 0),
-            (&[1], 0x8BB7),
-            (&[0, 1], 0x8BB7),
-            (&last_one, 0x8BB7),
-            (&[0xFF; 32], 0xA293),
-            (&rising, 0x0224),
-            (&two_ones, 0x21B8),
-            (&[0xFF; 512], 0xE6A1),
-        ];
-        for (bytes, guard) in rows {
-            assert_eq!(rt; crc16(bytes), guard, "of {bytes:?}");
+    /// The guard of the bytes that the run stands for.
+    pub fn finish(&self) -> u16
+        ensures { (b : List ℕ) → Stands self.now b → result ≡ guard_of (kind_of self.now) b }
+    {
+        match self.kind {
+            GuardKind::Crc => self.register,
+            GuardKind::Ip => 65535 - self.sum,
         }
     }
 }
+
+/// The CRC guard of the bytes, of any number: polynomial 8BB7h, start 0, the most significant bit first,
+/// no final xor (SBC-3, 4.22.4). It is the remainder of the bits, as a polynomial times x^16, on division
+/// by 18BB7h over the field of two elements.
+pub fn crc16(bytes: &[u8]) -> u16
+    ensures { result ≡ crc bytes.now }
+{
+    vectors::register_after(0, bytes)
+}
+
+/// The Internet checksum of the bytes, of any number (RFC 1071): the ones' complement of the ones'
+/// complement sum of the words of two bytes, the higher byte first.
+pub fn ip_sum(bytes: &[u8]) -> u16
+    ensures { result ≡ ip bytes.now }
+{
+    65535 - word_sums::sum_after(0, false, bytes)
+}
+
+#[cfg(test)]
+mod tests;

@@ -3,4 +3,4 @@ use Rattle.pi_guard.proofs.RegisterLemmas.{crc-register}
 use Rattle.pi_guard.proofs.crc16.Goals as goal
 
 pub returns : goal.returns
-returns c = c.plainly.ensures ∙ sym (crc-register c.args.bytes.now)
+returns c = c.register_after.ensures ∙ sym (crc-register c.args.bytes.now)

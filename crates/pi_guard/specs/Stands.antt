@@ -1,0 +1,19 @@
+use Rattle.std.specs.Prelude.{◌≡◌, ℕ, List}
+use Rattle.pi_guard.specs.declared.GuardKind.{GuardKind}
+use Rattle.pi_guard.specs.declared.GuardKind.TheVariants.{Crc, Ip}
+use Rattle.pi_guard.specs.declared.GuardRun.{GuardRun}
+use Rattle.pi_guard.specs.Guards.{crc, word_sum}
+use Rattle.pi_guard.specs.Words.{folded, is_half_open}
+
+-- the kind of a run
+unfoldable pub kind_of : GuardRun → GuardKind
+kind_of run = run.kind
+
+-- what a run of this kind keeps of the bytes
+unfoldable pub StandsAs : GuardKind → GuardRun → List ℕ → Type 0
+StandsAs Crc run b = run.register ≡ crc b
+StandsAs Ip run b = (run.sum ≡ folded (word_sum b)) × (run.half_open ≡ is_half_open b)
+
+-- the run has read these bytes
+unfoldable pub Stands : GuardRun → List ℕ → Type 0
+Stands run b = StandsAs run.kind run b
