@@ -229,7 +229,7 @@ const ASKED: [(PiType, u8, bool, u16, u16); 16] = [
 ];
 
 // A range, whether it has a form of 10 bytes, and the low 32 bits of its address.
-const RANGES: [(u64, u32, bool, u32); 9] = [
+const RANGES: [(u64, u32, bool, u32); 12] = [
     (0, 1, true, 0),
     (0xFFFF_FFFF, 1, true, 0xFFFF_FFFF),
     (0x1_0000_0000, 1, false, 0),
@@ -238,6 +238,9 @@ const RANGES: [(u64, u32, bool, u32); 9] = [
     (100, 65_535, true, 100),
     (100, 65_536, false, 100),
     (0xFFFF_0001, 65_535, true, 0xFFFF_0001),
+    (0xFFFF_0002, 65_535, false, 0xFFFF_0002),
+    (0xFFFF_0000, 65_536, false, 0xFFFF_0000),
+    (0xFFFF_0001, 65_536, false, 0xFFFF_0001),
     (0x0123_4567_89AB_CDEF, 3, false, 0x89AB_CDEF),
 ];
 
