@@ -79,15 +79,17 @@ static uint16_t short_ones(const struct way *way, size_t most) {
     return all;
 }
 
-/* GB/s. A pass that is not counted comes first, so that no way pays for what the one before left behind. */
-static double measured(const struct way *way, size_t block, uint16_t (*pass)(const struct way *, size_t)) {
+/* GB/s over so many passes. A pass that is not counted comes first, so that no way pays for what the one
+   before left behind. */
+static double measured(const struct way *way, size_t block, uint16_t (*pass)(const struct way *, size_t),
+                       size_t passes) {
     uint16_t all = pass(way, block);
     double start = now();
-    for (size_t i = 0; i < way->mebibytes; i++)
+    for (size_t i = 0; i < passes; i++)
         all ^= pass(way, block);
     double seconds = now() - start;
     sink = all;
-    return (double)(way->mebibytes * MIB) / seconds / 1e9;
+    return (double)(passes * MIB) / seconds / 1e9;
 }
 
 static int by_size(const void *a, const void *b) {
@@ -146,7 +148,8 @@ int main(int count, char **words) {
     for (int round = 0; round < rounds; round++)
         for (int c = 0; c < CASES; c++)
             for (int w = 0; w < WAYS; w++)
-                rates[(w * CASES + c) * rounds + round] = measured(&ways[w], cases[c].block, cases[c].pass);
+                rates[(w * CASES + c) * rounds + round] = measured(
+                    &ways[w], cases[c].block, cases[c].pass, ways[w].mebibytes);
     static double rate[WAYS][CASES];
     for (int w = 0; w < WAYS; w++)
         for (int c = 0; c < CASES; c++)
@@ -174,22 +177,22 @@ int main(int count, char **words) {
     }
     printf("\n");
 
-    /* Each short length by itself. */
+    /* Each short length by itself, by the same figure. */
     int slower = 0;
     double least = 1e9;
     for (size_t n = 1; n < 64; n++) {
-        double ours = 0, theirs = 0;
-        for (int round = 0; round < rounds / 10 + 3; round++) {
-            double a = measured(&ways[0], n, stayed), b = measured(&ways[4], n, stayed);
-            ours = a > ours ? a : ours;
-            theirs = b > theirs ? b : theirs;
+        double *ours = rates, *theirs = rates + rounds;
+        for (int round = 0; round < rounds; round++) {
+            ours[round] = measured(&ways[0], n, stayed, 1);
+            theirs[round] = measured(&ways[4], n, stayed, 1);
         }
-        if (ours / theirs < 1) {
+        double ratio = figure(ours, rounds) / figure(theirs, rounds);
+        if (ratio < 1) {
             slower++;
-            printf("%zu bytes: %.2f of slicing-by-16 after a test for null\n", n, ours / theirs);
+            printf("%zu bytes: %.2f of slicing-by-16 after a test for null\n", n, ratio);
         }
-        if (ours / theirs < least)
-            least = ours / theirs;
+        if (ratio < least)
+            least = ratio;
     }
     printf("of the lengths 1 to 63, %d are slower; the least ratio is %.2f\n", slower, least);
     return 0;

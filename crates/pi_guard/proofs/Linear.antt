@@ -162,21 +162,6 @@ fourteen xs e =
     let y = xor_zero_r (entry 0 (get_or xs 15 0)) in
     cc
 
--- the six bytes of eight from the third on
-pub six : (xs : List ℕ) → length xs ≡ 8 →
-    by_tables (drop 2 xs) ≡
-    bit_xor (entry 5 (get_or xs 2 0)) (bit_xor (entry 4 (get_or xs 3 0)) (bit_xor (entry 3 (get_or xs 4 0)) (bit_xor (entry 2 (get_or xs 5 0)) (bit_xor (entry 1 (get_or xs 6 0)) (entry 0 (get_or xs 7 0))))))
-six xs e =
-    let p2 = peel xs 2 8 5 e (omega arith) in
-    let p3 = peel xs 3 8 4 e (omega arith) in
-    let p4 = peel xs 4 8 3 e (omega arith) in
-    let p5 = peel xs 5 8 2 e (omega arith) in
-    let p6 = peel xs 6 8 1 e (omega arith) in
-    let p7 = peel xs 7 8 0 e (omega arith) in
-    let z : by_tables (drop 8 xs) ≡ 0 = ap by_tables (drop-past xs 8 (omega arith)) in
-    let y = xor_zero_r (entry 0 (get_or xs 7 0)) in
-    cc
-
 -- the two bytes of four from the third on
 pub two : (xs : List ℕ) → length xs ≡ 4 → by_tables (drop 2 xs) ≡ bit_xor (entry 1 (get_or xs 2 0)) (entry 0 (get_or xs 3 0))
 two xs e =

@@ -1,6 +1,6 @@
 //! The register after bytes that are looked up one by one or sixteen at a time.
 
-ghost use Rattle.std.specs.Prelude.{◌≡◌};
+ghost use Rattle.std.specs.Prelude.{◌≡◌, ◌<◌, length, drop};
 ghost use Rattle.pi_guard.specs.Register.{byte_step, register};
 
 use crate::byte_tables::table_entry;
@@ -13,34 +13,31 @@ pub fn after_byte(state: u16, byte: u8) -> u16
     ((state & 0xff) << 8) ^ table_entry(0, (state >> 8) as u8 ^ byte)
 }
 
+/// The last eight bytes, by one load: it is the loads that bound the look-ups.
+#[inline(always)]
+fn last_eight(b: &[u8; 16]) -> [u8; 8]
+    ensures { result ≡ drop 8 b.now }
+{
+    let (_, last) = b.split_last_chunk::<8>().unwrap();
+    u64::from_le_bytes(*last).to_le_bytes()
+}
+
 /// The register after sixteen bytes more.
 #[inline(always)]
 pub fn after_sixteen(state: u16, b: &[u8; 16]) -> u16
     ensures { result ≡ register state b.now }
 {
     // The register comes in last, so that no look-up waits for it but two.
-    let low = table_entry(3, b[12])
-        ^ (table_entry(2, b[13]) ^ (table_entry(1, b[14]) ^ table_entry(0, b[15])));
-    let middle = table_entry(7, b[8])
-        ^ (table_entry(6, b[9]) ^ (table_entry(5, b[10]) ^ (table_entry(4, b[11]) ^ low)));
+    let last = last_eight(b);
+    let low = table_entry(3, last[4])
+        ^ (table_entry(2, last[5]) ^ (table_entry(1, last[6]) ^ table_entry(0, last[7])));
+    let middle = table_entry(7, last[0])
+        ^ (table_entry(6, last[1]) ^ (table_entry(5, last[2]) ^ (table_entry(4, last[3]) ^ low)));
     let high = table_entry(11, b[4])
         ^ (table_entry(10, b[5]) ^ (table_entry(9, b[6]) ^ (table_entry(8, b[7]) ^ middle)));
     let others = table_entry(13, b[2]) ^ (table_entry(12, b[3]) ^ high);
     let second = table_entry(14, (state & 0xff) as u8 ^ b[1]);
     let first = table_entry(15, (state >> 8) as u8 ^ b[0]);
-    first ^ (second ^ others)
-}
-
-/// The register after eight bytes more.
-#[inline(always)]
-fn after_eight(state: u16, b: &[u8; 8]) -> u16
-    ensures { result ≡ register state b.now }
-{
-    let low = table_entry(3, b[4])
-        ^ (table_entry(2, b[5]) ^ (table_entry(1, b[6]) ^ table_entry(0, b[7])));
-    let others = table_entry(5, b[2]) ^ (table_entry(4, b[3]) ^ low);
-    let second = table_entry(6, (state & 0xff) as u8 ^ b[1]);
-    let first = table_entry(7, (state >> 8) as u8 ^ b[0]);
     first ^ (second ^ others)
 }
 
@@ -55,42 +52,36 @@ fn after_four(state: u16, b: &[u8; 4]) -> u16
     first ^ (second ^ others)
 }
 
-/// The register after these bytes, one by one.
+/// The register after at most three bytes more.
 #[inline(always)]
-fn after_each(start: u16, part: &[u8]) -> u16
+fn after_few(state: u16, part: &[u8]) -> u16
+    requires { length part.now < 4 }
+    ensures { result ≡ register state part.now }
+{
+    match part {
+        [a, b, c] => after_byte(after_byte(after_byte(state, *a), *b), *c),
+        [a, b] => after_byte(after_byte(state, *a), *b),
+        [a] => after_byte(state, *a),
+        _ => state,
+    }
+}
+
+/// The register after these bytes, four at once as often as they have them.
+#[inline(always)]
+pub fn after_fours(start: u16, part: &[u8]) -> u16
     ensures { result ≡ register start part.now }
 {
     let mut state = start;
-    for byte in part {
-        state = after_byte(state, *byte);
+    let mut rest = part;
+    while let Some((b, more)) = rest.split_first_chunk::<4>() {
+        state = after_four(state, b);
+        rest = more;
     }
-    state
-}
-
-/// The register after these bytes, the first four at once.
-#[inline(always)]
-fn after_fours(state: u16, part: &[u8]) -> u16
-    ensures { result ≡ register state part.now }
-{
-    match part.split_first_chunk::<4>() {
-        Some((b, more)) => after_each(after_four(state, b), more),
-        None => after_each(state, part),
-    }
-}
-
-/// The register after these bytes, the first eight at once.
-#[inline(always)]
-fn after_eights(state: u16, part: &[u8]) -> u16
-    ensures { result ≡ register state part.now }
-{
-    match part.split_first_chunk::<8>() {
-        Some((b, more)) => after_fours(after_eight(state, b), more),
-        None => after_fours(state, part),
-    }
+    after_few(state, rest)
 }
 
 /// The register after these bytes, sixteen at once as often as they have them.
-pub fn after_bytes(start: u16, part: &[u8]) -> u16
+pub fn after_sixteens(start: u16, part: &[u8]) -> u16
     ensures { result ≡ register start part.now }
 {
     let mut state = start;
@@ -99,5 +90,21 @@ pub fn after_bytes(start: u16, part: &[u8]) -> u16
         state = after_sixteen(state, b);
         rest = more;
     }
-    after_eights(state, rest)
+    after_fours(state, rest)
+}
+
+/// The register after these bytes, of which there are fewer than 64. With fewer than 32 there is no call and
+/// no loop by sixteen.
+#[inline(always)]
+pub fn after_bytes(start: u16, part: &[u8]) -> u16
+    ensures { result ≡ register start part.now }
+{
+    let Some((b, more)) = part.split_first_chunk::<16>() else {
+        return after_fours(start, part);
+    };
+    let state = after_sixteen(start, b);
+    if more.len() < 16 {
+        return after_fours(state, more);
+    }
+    after_sixteens(state, more)
 }

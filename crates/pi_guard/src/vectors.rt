@@ -271,17 +271,29 @@ fn whole_window(start: u16, part: &[u8]) -> (Window, usize)
     (last_window(trail, part, at), at + 64)
 }
 
-/// The register after these bytes.
-pub fn register_after(start: u16, part: &[u8]) -> u16
+/// The register after these bytes, of which there are at least 64.
+#[inline(always)]
+fn after_windows(start: u16, part: &[u8]) -> u16
+    requires { 64 ≤ length part.now }
     ensures { result ≡ register start part.now }
 {
-    if part.len() < 64 {
-        return slicing::after_bytes(start, part);
-    }
     let (window, at) = whole_window(start, part);
     let register = register_of_window(window.a, window.b, window.c, window.d);
     if at == part.len() {
         return register;
     }
-    slicing::after_bytes(register, &part[at..])
+    slicing::after_sixteens(register, &part[at..])
+}
+
+/// The register after these bytes.
+pub fn register_after(start: u16, part: &[u8]) -> u16
+    ensures { result ≡ register start part.now }
+{
+    if part.len() < 16 {
+        slicing::after_fours(start, part)
+    } else if part.len() < 64 {
+        slicing::after_bytes(start, part)
+    } else {
+        after_windows(start, part)
+    }
 }

@@ -4,14 +4,14 @@ use Rattle.std.proofs.Math.Seq.{take-length}
 use Rattle.pi_guard.specs.Register.{register}
 use Rattle.pi_guard.specs.Windows.{window_register}
 use Rattle.pi_guard.proofs.RegisterLemmas.{register-append}
-use Rattle.pi_guard.proofs.vectors.register_after.Goals as goal
+use Rattle.pi_guard.proofs.vectors.after_windows.Goals as goal
 
 pub returns : goal.returns
 unfolding window_register
 returns c =
     let xs = c.args.part.now in
     let n = c.whole_window-at.result.1 in
-    c.after_bytes-2.ensures
+    c.after_sixteens.ensures
     ∙ ap (register c.register_of_window-register.result) (take_rest xs n)
     ∙ ap (λ v. register v (drop n xs)) (c.register_of_window-register.ensures ∙ c.whole_window-at.ensures.1)
     ∙ sym (register-append c.args.start (take n xs) (drop n xs))
