@@ -1,39 +1,22 @@
 //! What becomes of a block, by what the rig answered.
 
 ghost use Rattle.std.specs.Prelude.{◌≡◌, ℕ, List, length};
-ghost use Rattle.whole_run.specs.Senses.{check_of, is_medium, named_by, why_ended};
+ghost use Rattle.whole_run.specs.Senses.{is_medium, named_by, why_ended};
 ghost use Rattle.whole_run.specs.Walk.{fate_of_read, fate_of_write, reply_of};
 
-use pi_tuple::Check;
 use rig_api::Outcome;
-use sense_codes::Sense;
+use sense_codes::{Layer, Sense, layer_and_check};
 use target_answer::judge;
 use whole_run::{Reply, Why};
-
-/// The check that the qualifier of ASC 10h names (SPC-4).
-fn check_named(ascq: u8) -> Option<Check>
-    ensures { result ≡ check_of ascq }
-{
-    match ascq {
-        1 => Some(Check::Guard),
-        2 => Some(Check::AppTag),
-        3 => Some(Check::RefTag),
-        _ => None,
-    }
-}
 
 /// The layer and the check that the sense names.
 fn finding_named(sense: Sense) -> Option<Why>
     ensures { result ≡ named_by sense }
 {
-    if sense.asc != 0x10 {
-        return None;
-    }
-    let check = check_named(sense.ascq)?;
-    match sense.key {
-        0x5 => Some(Why::Adapter(check)),
-        0xB => Some(Why::Target(check)),
-        _ => None,
+    match layer_and_check(&sense) {
+        Some((Layer::Adapter, check)) => Some(Why::Adapter(check)),
+        Some((Layer::Target, check)) => Some(Why::Target(check)),
+        None => None,
     }
 }
 
