@@ -7,7 +7,8 @@ ghost use Rattle.image_rig.specs.Served.{ReadBlock, WroteBlock};
 ghost use Rattle.rig_api.specs.Log.{IsMediumSense, has_key};
 ghost use Rattle.rig_api.specs.Telling.{KeepsHead};
 ghost use Rattle.target_answer.specs.Image.{size_of};
-ghost use Rattle.target_answer.specs.Target.{check_code, check_sense, medium_sense};
+ghost use Rattle.sense_codes.specs.Checks.{ascq_of};
+ghost use Rattle.target_answer.specs.Target.{check_sense, medium_sense};
 
 use dix_base::{Failed, Store};
 use pi_tuple::Check;
@@ -27,7 +28,7 @@ fn medium(asc: u8, address: u64) -> Sense
 }
 
 fn qualifier(check: Check) -> u8
-    ensures { result ≡ check_code check }
+    ensures { result ≡ ascq_of check }
 {
     match check {
         Check::Guard => 1,

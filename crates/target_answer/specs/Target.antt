@@ -2,7 +2,7 @@ use Rattle.std.specs.Prelude.{ℕ, ◌+◌, ◌*◌, Bool, ◌&&◌, eqb, ltb, i
 use Rattle.std.specs.Int.{w16, w32, from_be_bytes}
 use Rattle.target_answer.specs.Frames.{frames_of, judged, written}
 use Rattle.pi_tuple.specs.declared.checks.Check.{Check}
-use Rattle.pi_tuple.specs.declared.checks.Check.TheVariants.{Guard, AppTag, RefTag}
+use Rattle.sense_codes.specs.Checks.{ascq_of}
 use Rattle.sense_codes.specs.declared.Sense.{Sense}
 use Rattle.target_answer.specs.declared.command.Direction.{Direction}
 use Rattle.target_answer.specs.declared.command.Direction.TheVariants.{Read, Write}
@@ -39,14 +39,9 @@ blocks_of cdb = count_of (command_in cdb)
 abbrev pub refusal : ℕ → Sense
 refusal asc = record { key = 5; asc = asc; ascq = 0; info = None }
 
-abbrev pub check_code : Check → ℕ
-check_code Guard = 1
-check_code AppTag = 2
-check_code RefTag = 3
-
 -- ABORTED COMMAND with 10h, and the address of the block as information
 abbrev pub check_sense : Check → ℕ → Sense
-check_sense check a = record { key = 11; asc = 16; ascq = check_code check; info = Some a }
+check_sense check a = record { key = 11; asc = 16; ascq = ascq_of check; info = Some a }
 
 -- MEDIUM ERROR with 11h UNRECOVERED READ ERROR or 0Ch WRITE ERROR
 abbrev pub medium_sense : ℕ → ℕ → Sense

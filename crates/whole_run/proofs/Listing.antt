@@ -4,9 +4,9 @@ use Rattle.std.proofs.lemmas.Bool.{ltb-true, lt-ltb, eqb-true}
 use Rattle.std.proofs.lemmas.List.{append_assoc, append-nil}
 use Rattle.pi_tuple.specs.declared.checks.Check.{Check}
 use Rattle.pi_tuple.specs.declared.checks.Check.TheVariants.{Guard, AppTag, RefTag}
+use Rattle.sense_codes.specs.Checks.{ascq_of}
 use Rattle.sense_codes.specs.declared.Sense.{Sense}
 use Rattle.target_answer.specs.Frames.{judged}
-use Rattle.target_answer.specs.Target.{check_code}
 use Rattle.rig_api.specs.declared.rig.Outcome.{Outcome}
 use Rattle.whole_run.specs.declared.op.Op.{Op}
 use Rattle.whole_run.specs.declared.op.Op.TheVariants.{Fill, Write, Read, Show}
@@ -20,35 +20,35 @@ use Rattle.whole_run.specs.Laws.{AreListedExactly, Listed, ListedRead, ListedWri
 use Rattle.whole_run.proofs.Walks.{and_left, and_right}
 
 code_is : (t u v : Bool) (ascq : ℕ) (c : Check) → eqb ascq 1 ≡ t → eqb ascq 2 ≡ u → eqb ascq 3 ≡ v →
-    (if t then Some Guard else (if u then Some AppTag else (if v then Some RefTag else None))) ≡ Some c → ascq ≡ check_code c
-code_is true u v ascq c p q r h = let same : Guard ≡ c = cc in eqb-true ascq 1 p ∙ ap check_code same
-code_is false true v ascq c p q r h = let same : AppTag ≡ c = cc in eqb-true ascq 2 q ∙ ap check_code same
-code_is false false true ascq c p q r h = let same : RefTag ≡ c = cc in eqb-true ascq 3 r ∙ ap check_code same
+    (if t then Some Guard else (if u then Some AppTag else (if v then Some RefTag else None))) ≡ Some c → ascq ≡ ascq_of c
+code_is true u v ascq c p q r h = let same : Guard ≡ c = cc in eqb-true ascq 1 p ∙ ap ascq_of same
+code_is false true v ascq c p q r h = let same : AppTag ≡ c = cc in eqb-true ascq 2 q ∙ ap ascq_of same
+code_is false false true ascq c p q r h = let same : RefTag ≡ c = cc in eqb-true ascq 3 r ∙ ap ascq_of same
 code_is false false false ascq c p q r h = absurd (cc)
 
 -- what a sense that names a check says
 abbrev Says : Why → Sense → Type 0
-Says (Adapter c) s = (s.key ≡ 5) × (s.asc ≡ 0x10) × (s.ascq ≡ check_code c)
-Says (Target c) s = (s.key ≡ 11) × (s.asc ≡ 0x10) × (s.ascq ≡ check_code c)
+Says (Adapter c) s = (s.key ≡ 5) × (s.asc ≡ 0x10) × (s.ascq ≡ ascq_of c)
+Says (Target c) s = (s.key ≡ 11) × (s.asc ≡ 0x10) × (s.ascq ≡ ascq_of c)
 Says Medium s = ⊥
 Says (Refused key asc ascq) s = ⊥
 Says Short s = ⊥
 
-says_adapter : (c : Check) (w : Why) (s : Sense) → s.key ≡ 5 → s.asc ≡ 0x10 → s.ascq ≡ check_code c → Adapter c ≡ w → Says w s
-says_adapter c (Adapter d) s k a q e = let same : c ≡ d = cc in (k, a, q ∙ ap check_code same)
+says_adapter : (c : Check) (w : Why) (s : Sense) → s.key ≡ 5 → s.asc ≡ 0x10 → s.ascq ≡ ascq_of c → Adapter c ≡ w → Says w s
+says_adapter c (Adapter d) s k a q e = let same : c ≡ d = cc in (k, a, q ∙ ap ascq_of same)
 says_adapter c (Target d) s k a q e = absurd (cc)
 says_adapter c Medium s k a q e = absurd (cc)
 says_adapter c (Refused x y z) s k a q e = absurd (cc)
 says_adapter c Short s k a q e = absurd (cc)
 
-says_target : (c : Check) (w : Why) (s : Sense) → s.key ≡ 11 → s.asc ≡ 0x10 → s.ascq ≡ check_code c → Target c ≡ w → Says w s
-says_target c (Target d) s k a q e = let same : c ≡ d = cc in (k, a, q ∙ ap check_code same)
+says_target : (c : Check) (w : Why) (s : Sense) → s.key ≡ 11 → s.asc ≡ 0x10 → s.ascq ≡ ascq_of c → Target c ≡ w → Says w s
+says_target c (Target d) s k a q e = let same : c ≡ d = cc in (k, a, q ∙ ap ascq_of same)
 says_target c (Adapter d) s k a q e = absurd (cc)
 says_target c Medium s k a q e = absurd (cc)
 says_target c (Refused x y z) s k a q e = absurd (cc)
 says_target c Short s k a q e = absurd (cc)
 
-says_layer : (t u : Bool) (c : Check) (w : Why) (s : Sense) → eqb s.key 5 ≡ t → eqb s.key 11 ≡ u → s.asc ≡ 0x10 → s.ascq ≡ check_code c →
+says_layer : (t u : Bool) (c : Check) (w : Why) (s : Sense) → eqb s.key 5 ≡ t → eqb s.key 11 ≡ u → s.asc ≡ 0x10 → s.ascq ≡ ascq_of c →
     (if t then Some (Adapter c) else (if u then Some (Target c) else None)) ≡ Some w → Says w s
 says_layer true u c w s k l a q h = let e : Adapter c ≡ w = cc in says_adapter c w s (eqb-true s.key 5 k) a q e
 says_layer false true c w s k l a q h = let e : Target c ≡ w = cc in says_target c w s (eqb-true s.key 11 l) a q e
@@ -65,8 +65,8 @@ says_named false w s p h = absurd (cc)
 
 -- what a sense says for each reason
 abbrev Tells : Why → Sense → Type 0
-Tells (Adapter c) s = (s.key ≡ 5) × (s.asc ≡ 0x10) × (s.ascq ≡ check_code c)
-Tells (Target c) s = (s.key ≡ 11) × (s.asc ≡ 0x10) × (s.ascq ≡ check_code c)
+Tells (Adapter c) s = (s.key ≡ 5) × (s.asc ≡ 0x10) × (s.ascq ≡ ascq_of c)
+Tells (Target c) s = (s.key ≡ 11) × (s.asc ≡ 0x10) × (s.ascq ≡ ascq_of c)
 Tells Medium s = (s.key ≡ 3) × (s.ascq ≡ 0) × ((s.asc ≡ 0x11) ⊎ (s.asc ≡ 0x0C))
 Tells (Refused key asc ascq) s = (s.key ≡ key) × (s.asc ≡ asc) × (s.ascq ≡ ascq) × (named_by s ≡ None) × (is_medium s ≡ false)
 Tells Short s = ⊥

@@ -1,9 +1,9 @@
 use Rattle.std.specs.Prelude.{ℕ, ◌≡◌, ◌<◌, ◌↔◌, ◌⊎◌, true, false, List, [], ◌∷◌, length, Some, None}
 use Rattle.std.specs.List.{list_all, list_any}
 use Rattle.pi_tuple.specs.declared.checks.Check.{Check}
+use Rattle.sense_codes.specs.Checks.{ascq_of}
 use Rattle.sense_codes.specs.declared.Sense.{Sense}
 use Rattle.target_answer.specs.Frames.{judged}
-use Rattle.target_answer.specs.Target.{check_code}
 use Rattle.rig_api.specs.declared.rig.Outcome.{Outcome}
 use Rattle.rig_api.specs.Log.{Entry}
 use Rattle.whole_run.specs.declared.op.Op.{Op}
@@ -33,7 +33,7 @@ WalkIsPlain =
 
 -- The command ended at the block, with a sense of this key that names this check.
 abbrev pub EndedBy : ℕ → Check → Outcome → Type 0
-EndedBy key check o = (o.done ≡ 0) × (s : Sense) × (o.sense ≡ Some s) × (s.key ≡ key) × (s.asc ≡ 0x10) × (s.ascq ≡ check_code check)
+EndedBy key check o = (o.done ≡ 0) × (s : Sense) × (o.sense ≡ Some s) × (s.key ≡ key) × (s.asc ≡ 0x10) × (s.ascq ≡ ascq_of check)
 
 -- The command ended at the block, with a sense of key 3h and 11h/00h or 0Ch/00h.
 abbrev pub EndedByMedium : Outcome → Type 0
