@@ -1,0 +1,20 @@
+//! The table of a volume's extents: where each virtual block lies, and what can be wrong with the
+//! entries that a table is made of.
+#![tactic(auto)]
+
+mod device;
+mod entry;
+mod entry_list;
+mod extent;
+mod fault;
+mod judge;
+mod table;
+#[cfg(test)]
+mod tests;
+
+pub use device::DeviceInfo;
+pub use entry::Entry;
+pub use entry_list::EntryList;
+pub use extent::Extent;
+pub use fault::{VolumeFault, VolumeKind};
+pub use table::VolumeTable;
