@@ -1,9 +1,16 @@
-//! The labels of blocks, by which scheduled faults find theirs, and byte strings of at most 32.
+//! The schedule of faults: which bytes of a block are altered, and by how many blocks an address
+//! is off, each time that a block crosses from one part of the path to the next.
 #![tactic(auto)]
 
+mod fault;
 mod short_bytes;
+mod tamper;
+#[cfg(test)]
+mod tests;
 
+pub use fault::{Crossing, FaultKind, FaultLine, FaultList};
 pub use short_bytes::ShortBytes;
+pub use tamper::{Tamper, lines_act_in_any_order};
 
 /// Whose block crosses: block `k` of the request in op `op`.
 #[derive(Clone, Copy, Debug, PartialEq, Eq)]

@@ -27,6 +27,17 @@ impl ShortBytes {
         ShortBytes { held: b }
     }
 
+    /// The same bytes once more. It takes no memory.
+    pub fn copy(&self) -> ShortBytes
+        ensures { result ≡ self.now }
+    {
+        let mut held = ArrayVec::new();
+        if held.try_extend_from_slice(&self.held).is_err() {
+            unreachable!();
+        }
+        ShortBytes { held }
+    }
+
     /// The bytes, in their order.
     pub fn as_slice(&self) -> &[u8]
         ensures { result.now ≡ self.now }

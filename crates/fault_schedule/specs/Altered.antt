@@ -1,0 +1,72 @@
+use Rattle.std.specs.Prelude.{ℕ, ◌≡◌, ◌+◌, ◌-◌, ◌<◌, Bool, true, false, ◌&&◌, eqb, leb, if◌then◌else◌, List, [], ◌∷◌, ◌++◌, length, slice_index, ℤ, pos, Option, Some, None, unwrap_or, bit_xor}
+use Rattle.fault_schedule.specs.declared.Label.{Label}
+use Rattle.fault_schedule.specs.declared.fault.Crossing.{Crossing}
+use Rattle.fault_schedule.specs.declared.fault.Crossing.TheVariants.{HostToAdapter, AdapterToTarget, TargetToMedium, MediumToTarget, TargetToAdapter, AdapterToHost}
+use Rattle.fault_schedule.specs.declared.fault.FaultKind.{FaultKind}
+use Rattle.fault_schedule.specs.declared.fault.FaultKind.TheVariants.{Flip, Shift}
+use Rattle.fault_schedule.specs.declared.fault.FaultLine.{FaultLine}
+
+-- The two crossings are one.
+abbrev pub is_same : Crossing → Crossing → Bool
+is_same HostToAdapter HostToAdapter = true
+is_same AdapterToTarget AdapterToTarget = true
+is_same TargetToMedium TargetToMedium = true
+is_same MediumToTarget MediumToTarget = true
+is_same TargetToAdapter TargetToAdapter = true
+is_same AdapterToHost AdapterToHost = true
+is_same _ _ = false
+
+-- The line is of the block of this label, at this crossing.
+abbrev pub is_line_of : FaultLine → Crossing → Label → Bool
+is_line_of line at label = is_same line.at at && (eqb line.op label.op && eqb line.k label.k)
+
+-- of bytes that stand from place off on, the one at place i, and 0 before and after them
+abbrev pub byte_at : ℕ → List ℕ → ℕ → ℕ
+byte_at off bytes i = if leb off i then slice_index bytes (i - off) else 0
+
+-- the byte that a fault names for place i: 0 where it names none
+abbrev pub flip_at : FaultKind → ℕ → ℕ
+flip_at (Flip off bytes) i = byte_at off bytes i
+flip_at (Shift by) i = 0
+
+-- the byte that a line names for place i of the block of this label at this crossing
+abbrev pub named_by : FaultLine → Crossing → Label → ℕ → ℕ
+named_by line at label i = if is_line_of line at label then flip_at line.kind i else 0
+
+-- all bytes that the lines name for that place, xored
+abbrev pub named : List FaultLine → Crossing → Label → ℕ → ℕ
+named [] at label i = 0
+named (line ∷ lines) at label i = bit_xor (named_by line at label i) (named lines at label i)
+
+-- Each byte of the block is xored with all bytes that the lines name for its place.
+abbrev pub Altered : List FaultLine → Crossing → Label → List ℕ → List ℕ → Type 0
+Altered lines at label old new = (length new ≡ length old)
+    × ((i : ℕ) → i < length old → slice_index new i ≡ bit_xor (slice_index old i) (named lines at label i))
+
+-- the bytes from place i on, each xored with what is named for its place
+abbrev pub xored_from : (ℕ → ℕ) → ℕ → List ℕ → List ℕ
+xored_from name i [] = []
+xored_from name i (byte ∷ bytes) = bit_xor byte (name i) ∷ xored_from name (i + 1) bytes
+
+-- the altered block
+abbrev pub altered : List FaultLine → Crossing → Label → List ℕ → List ℕ
+altered lines at label block = xored_from (named lines at label) 0 block
+
+-- A line alters the same bytes wherever it stands among the lines.
+abbrev pub ActsAnywhere : Type 0
+ActsAnywhere = (line : FaultLine) (before after : List FaultLine) (at : Crossing) (label : Label) (block : List ℕ)
+    → altered (before ++ line ∷ after) at label block ≡ altered (line ∷ (before ++ after)) at label block
+
+-- what a shift moves an address by
+abbrev pub moved_by : FaultKind → Option ℤ
+moved_by (Flip off bytes) = None
+moved_by (Shift by) = Some by
+
+-- what a line moves the address of this op by, at this crossing
+abbrev pub shift_by : FaultLine → Crossing → ℕ → Option ℤ
+shift_by line at op = if is_same line.at at && eqb line.op op then moved_by line.kind else None
+
+-- what the first shift of this op and crossing moves the address by, and 0 where there is none
+abbrev pub shift_of : List FaultLine → Crossing → ℕ → ℤ
+shift_of [] at op = pos 0
+shift_of (line ∷ lines) at op = unwrap_or (shift_by line at op) (shift_of lines at op)
