@@ -1,4 +1,4 @@
-use Rattle.std.specs.Prelude.{ℕ, ◌≡◌, ◌<◌, length, ◌+◌, ◌-◌, ◌^◌, min, List, Contains}
+use Rattle.std.specs.Prelude.{ℕ, ◌≡◌, ◌<◌, length, ◌+◌, ◌-◌, ◌^◌, ◌/◌, min, List, Contains, Bool}
 
 -- one more, unless at the last value
 abbrev pub one_more : ℕ → ℕ
@@ -37,23 +37,38 @@ pub record Intake : Type 0 where
   pub room : ℕ
   pub turns : Turns
 
--- a store in memory
+-- a store in memory that never fails
+pub record Kept : Type 0 where
+  pub bytes : List ℕ
+  pub openings : ℕ
+  pub handed : List ℕ
+
+-- a store in memory that fails at the calls of a list
 pub record Stock : Type 0 where
   pub bytes : List ℕ
   pub openings : ℕ
   pub handed : List ℕ
   pub turns : Turns
 
--- a store that is a file: the length in bytes of the one that is open, and 0 where none is
+-- a store that is a file: whether one is open, and its length in bytes, 0 where none is
 pub record OpenFile : Type 0 where
+  pub is_open : Bool
   pub len : ℕ
   pub faults : ℕ
   pub openings : ℕ
   pub handed : List ℕ
 
+-- after so many bytes more
+abbrev pub longer : ℕ → OpenFile → OpenFile
+longer n f = record { is_open = f.is_open; len = f.len + n; faults = f.faults; openings = f.openings; handed = f.handed }
+
 -- after a read or a write of the file that failed
 abbrev pub after_file_fault : OpenFile → OpenFile
-after_file_fault f = record { len = f.len; faults = one_more f.faults; openings = f.openings; handed = f.handed }
+after_file_fault f = record { is_open = f.is_open; len = f.len; faults = one_more f.faults; openings = f.openings; handed = f.handed }
+
+-- what of a piece is written: the first half by a call that is listed, else all
+abbrev pub IsPart : Turns → ℕ → ℕ → Type 0
+IsPart t all part = (IsNextListed t → part ≡ all / 2) × (¬ IsNextListed t → part ≡ all)
 
 -- There are bytes, and no room for any.
 abbrev pub IsFull : ℕ → List ℕ → Type 0

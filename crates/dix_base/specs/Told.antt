@@ -23,6 +23,10 @@ over at xs old = take at old ++ (xs ++ drop (at + length xs) old)
 abbrev pub Apart : ℕ → ℕ → List ℕ → List ℕ → Type 0
 Apart at n old new = (length new ≡ length old) × (take at new ≡ take at old) × (drop (at + n) new ≡ drop (at + n) old)
 
+-- All bytes are as before, and others may follow.
+abbrev pub Begins : List ℕ → List ℕ → Type 0
+Begins old new = take (length old) new ≡ old
+
 -- The length of what is told is this.
 abbrev pub HasLength : ℕ → Option (List ℕ) → Type 0
 HasLength n None = Unit {0}

@@ -1,7 +1,7 @@
 //! Which calls of a form in memory fail.
 
 ghost use Rattle.std.specs.Prelude.{◌≡◌, ◌≤◌, ◌↔◌, ◌⊎◌, IsTrue, IsErr, OnErr, OnOk};
-ghost use Rattle.dix_base.specs.Forms.{IsNextListed, after_call, after_fault, no_turns, one_more};
+ghost use Rattle.dix_base.specs.Forms.{IsNextListed, IsPart, after_call, after_fault, no_turns, one_more};
 ghost use Rattle.dix_base.specs.Told.{Rose};
 
 use crate::Failed;
@@ -41,6 +41,20 @@ impl FaultPlan {
             calls: 0,
             faults: 0,
         }
+    }
+
+    fn fails_next(&self) -> bool
+        ensures { IsTrue result ↔ IsNextListed self.now }
+    {
+        self.listed.contains(&self.calls.saturating_add(1))
+    }
+
+    /// How many bytes of a piece of so many the next call writes.
+    pub(crate) fn part_of(&self, all: usize) -> usize
+        ensures part { IsPart self.now all result }
+        ensures bound { result ≤ all }
+    {
+        if self.fails_next() { all / 2 } else { all }
     }
 
     /// Counts a call, which fails where it is listed or has another cause to fail.

@@ -1,16 +1,17 @@
 //! A file as a store.
 
-ghost use Rattle.std.specs.Prelude.{◌≡◌, ◌+◌, ◌-◌, ◌^◌, min, ◌≤◌, [], None, IfOk, OnErr, OnOk, length, string_bytes};
-ghost use Rattle.dix_base.specs.Forms.{after_file_fault, one_more};
+ghost use Rattle.std.specs.Prelude.{◌≡◌, ◌+◌, ◌-◌, ◌^◌, min, ◌≤◌, ◌↔◌, [], false, None, IsTrue, IfOk, IsOk, IsErrOf, OnErr, OnOk, length, string_bytes};
+ghost use Rattle.dix_base.specs.Forms.{after_file_fault, longer, one_more};
 ghost use Rattle.dix_base.specs.Told.{Rose};
 
 use crate::fault_plan::raise;
-use crate::{Failed, Store};
+use crate::{Failed, Store, StoreFault};
+use std::alloc::Global;
 use std::fs::{File, OpenOptions};
 use std::io::{self, Read, Seek, SeekFrom, Write};
 use std::marker::Model;
 
-/// A file, which is there already. It doesn't tell its bytes.
+/// A file. It doesn't tell its bytes.
 #[derive(Drop)]
 pub struct FileStore {
     rt: HostRuntime,
@@ -22,12 +23,12 @@ pub struct FileStore {
 }
 
 impl Model for FileStore {
-    ghost use Rattle.std.specs.Prelude.{string_bytes};
+    ghost use Rattle.std.specs.Prelude.{is_some, string_bytes};
     ghost use Rattle.dix_base.specs.Forms.{OpenFile};
 
     ghost Value = { OpenFile };
 
-    ghost view = { λ s. record { len = s.size; faults = s.faults; openings = s.opened; handed = string_bytes s.name } };
+    ghost view = { λ s. record { is_open = is_some s.file; len = s.size; faults = s.faults; openings = s.opened; handed = string_bytes s.name } };
 }
 
 /// Opens a file that is there, and gives its length in bytes.
@@ -35,6 +36,16 @@ fn opened(rt: &HostRuntime, name: &str) -> io::Result<(File, u64)> {
     let file = OpenOptions::new().read(true).write(true).open(rt, name)?;
     let size = file.metadata()?.len();
     Ok((file, size))
+}
+
+/// Makes a file empty, or makes an empty one where there is none.
+fn emptied(rt: &HostRuntime, name: &str) -> io::Result<File> {
+    OpenOptions::new()
+        .read(true)
+        .write(true)
+        .create(true)
+        .truncate(true)
+        .open(rt, name)
 }
 
 fn read_from(file: &mut File, at: u64, into: &mut [u8]) -> io::Result<()> {
@@ -50,6 +61,7 @@ fn write_to(file: &mut File, at: u64, piece: &[u8]) -> io::Result<()> {
 impl FileStore {
     /// A store with no file yet.
     pub fn new(rt: HostRuntime) -> FileStore
+        ensures closed { result.is_open ≡ false }
         ensures len { result.len ≡ 0 }
         ensures faults { result.faults ≡ 0 }
         ensures openings { result.openings ≡ 0 }
@@ -90,6 +102,7 @@ impl Store for FileStore {
 
         ensures passed { OnOk result (self.new.faults ≡ self.old.faults) }
         ensures failed { OnErr result (self.new.faults ≡ one_more self.old.faults) }
+        ensures is_open { IsTrue self.new.is_open ↔ IsOk result }
         ensures closed { OnErr result (self.new.len ≡ 0) }
     {
         raise(&mut self.opened);
@@ -106,12 +119,41 @@ impl Store for FileStore {
         Err(Failed)
     }
 
-    /// Reads until all bytes came. An end that comes before is a failure.
+    /// Closes the file that was open, and opens the one of this name, which it empties, or makes
+    /// where it isn't there. After a failure no file is open, and the length is 0.
+    fn reset(&mut self, name: String) -> Result<(), Failed>
+        ensures length { OnOk result (self.new.len ≡ 0) }
+        ensures cause { OnErr result (Rose self.old.faults self.new.faults) }
+        ensures count { self.old.faults ≤ self.new.faults }
+        ensures opened { self.new.openings ≡ min (self.old.openings + 1) (2 ^ 64 - 1) }
+        ensures named { self.new.handed ≡ string_bytes name }
+
+        ensures passed { OnOk result (self.new.faults ≡ self.old.faults) }
+        ensures failed { OnErr result (self.new.faults ≡ one_more self.old.faults) }
+        ensures is_open { IsTrue self.new.is_open ↔ IsOk result }
+        ensures closed { OnErr result (self.new.len ≡ 0) }
+    {
+        raise(&mut self.opened);
+        self.file = None;
+        self.size = 0;
+        let made = emptied(&self.rt, name.as_str());
+        self.name = name;
+        if let Ok(file) = made {
+            self.file = Some(file);
+            return Ok(());
+        }
+        raise(&mut self.faults);
+        Err(Failed)
+    }
+
+    /// Reads until all bytes came. An end that comes before is a failure, and so is a read while no
+    /// file is open.
     fn read_at(&mut self, at: u64, into: &mut [u8]) -> Result<(), Failed>
         requires { at + length into.old ≤ self.old.len }
         ensures cause { OnErr result (Rose self.old.faults self.new.faults) }
         ensures count { self.old.faults ≤ self.new.faults }
 
+        ensures is_open { OnOk result (IsTrue self.old.is_open) }
         ensures passed { OnOk result (self.new ≡ self.old) }
         ensures failed { OnErr result (self.new ≡ after_file_fault self.old) }
     {
@@ -124,12 +166,13 @@ impl Store for FileStore {
         Err(Failed)
     }
 
-    /// Writes until all bytes went.
+    /// Writes until all bytes went. A write while no file is open is a failure.
     fn write_at(&mut self, at: u64, piece: &[u8]) -> Result<(), Failed>
         requires { at + length piece.now ≤ self.old.len }
         ensures cause { OnErr result (Rose self.old.faults self.new.faults) }
         ensures count { self.old.faults ≤ self.new.faults }
 
+        ensures is_open { OnOk result (IsTrue self.old.is_open) }
         ensures passed { OnOk result (self.new ≡ self.old) }
         ensures failed { OnErr result (self.new ≡ after_file_fault self.old) }
     {
@@ -140,5 +183,32 @@ impl Store for FileStore {
         }
         raise(&mut self.faults);
         Err(Failed)
+    }
+
+    /// Writes behind the last byte until all bytes went. After a failure the length is as before,
+    /// and what came behind it is written over by the next call.
+    fn append(&mut self, _alloc: Global, piece: &[u8]) -> Result<(), StoreFault>
+        ensures length { OnOk result (self.new.len ≡ self.old.len + length piece.now) }
+        ensures more { self.old.len ≤ self.new.len }
+        ensures memory { IsErrOf result StoreFault.Memory → ⊥ }
+        ensures cause { IsErrOf result StoreFault.Failed → Rose self.old.faults self.new.faults }
+        ensures count { self.old.faults ≤ self.new.faults }
+        ensures named { self.new.handed ≡ self.old.handed }
+        ensures opened { self.new.openings ≡ self.old.openings }
+
+        ensures is_open { OnOk result (IsTrue self.old.is_open) }
+        ensures passed { OnOk result (self.new ≡ longer (length piece.now) self.old) }
+        ensures failed { OnErr result (self.new ≡ after_file_fault self.old) }
+    {
+        if let Some(end) = self.size.checked_add(piece.len() as u64) {
+            if let Some(file) = &mut self.file {
+                if write_to(file, self.size, piece).is_ok() {
+                    self.size = end;
+                    return Ok(());
+                }
+            }
+        }
+        raise(&mut self.faults);
+        Err(StoreFault::Failed)
     }
 }

@@ -1,8 +1,12 @@
 //! The outside as the layers above see it: a source of bytes, a sink and a store, each with a
-//! count of faults, so that a failure always has a cause; and their forms in memory and real.
+//! count of faults, so that a failure always has a cause; and their forms: in memory, some that fail
+//! at the calls of a list and some that never fail, and real.
 #![tactic(auto)]
 
 mod byte_list;
+mod calm_sink;
+mod calm_source;
+mod calm_store;
 mod failed;
 mod fault_plan;
 mod file_store;
@@ -18,7 +22,10 @@ mod store;
 mod tests;
 
 pub use byte_list::ByteList;
-pub use failed::Failed;
+pub use calm_sink::CalmSink;
+pub use calm_source::CalmSource;
+pub use calm_store::CalmStore;
+pub use failed::{Failed, StoreFault};
 pub use file_store::FileStore;
 pub use mem_sink::MemSink;
 pub use mem_source::MemSource;

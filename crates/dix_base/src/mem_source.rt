@@ -1,30 +1,26 @@
-//! A source in memory.
+//! A source in memory that fails at the calls of a list.
 
 ghost use Rattle.std.specs.Prelude.{◌≡◌, ◌≤◌, ◌<◌, ◌↔◌, length, min, take, Some, IfOk, IsErr, OnErr, OnOk};
 ghost use Rattle.dix_base.specs.Forms.{IsNextListed, after_call, after_fault, no_turns};
 ghost use Rattle.dix_base.specs.Told.{IsAtEnd, Rose, Took};
 
 use crate::fault_plan::FaultPlan;
-use crate::{Failed, Source};
+use crate::{CalmSource, Failed, Source};
 use std::marker::Model;
 
 /// A source that gives the bytes that it was made with, and fails at the calls of a list.
 #[derive(Drop)]
 pub struct MemSource {
-    held: Vec<u8>,
-    at: usize,
+    calm: CalmSource,
     plan: FaultPlan,
 }
 
 impl Model for MemSource {
-    ghost use Rattle.std.specs.Prelude.{◌≤◌, drop, length};
     ghost use Rattle.dix_base.specs.Forms.{Supply};
 
     ghost Value = { Supply };
 
-    ghost view = { λ s. record { left = drop s.at s.held.items; turns = s.plan } };
-
-    ghost invariant = { λ s. s.at ≤ length s.held.items };
+    ghost view = { λ s. record { left = s.calm; turns = s.plan } };
 }
 
 impl MemSource {
@@ -34,8 +30,7 @@ impl MemSource {
         ensures turns { result.turns ≡ no_turns fail.items }
     {
         MemSource {
-            held: bytes,
-            at: 0,
+            calm: CalmSource::new(bytes),
             plan: FaultPlan::new(fail),
         }
     }
@@ -62,10 +57,6 @@ impl Source for MemSource {
         ensures same { OnErr result (self.new.left ≡ self.old.left) }
     {
         self.plan.turn(false)?;
-        let left = &self.held[self.at..];
-        let n = buf.len().min(left.len());
-        buf[..n].copy_from_slice(&left[..n]);
-        self.at += n;
-        Ok(n)
+        self.calm.take(buf)
     }
 }

@@ -1,43 +1,33 @@
-//! A store in memory.
+//! A store in memory that fails at the calls of a list.
 
-ghost use Rattle.std.specs.Prelude.{◌≡◌, ◌+◌, ◌-◌, ◌/◌, ◌^◌, min, ◌≤◌, ◌↔◌, [], length, take, Some, refl, IfOk, IsErr, IsOk, OnOk, OnErr, string_bytes};
+ghost use Rattle.std.specs.Prelude.{◌≡◌, ◌+◌, ◌-◌, ◌/◌, ◌^◌, min, ◌≤◌, ◌++◌, ◌↔◌, [], length, take, Some, refl, is_some, IfOk, IsErr, IsErrOf, IsOk, OnOk, OnErr, string_bytes};
 ghost use Rattle.dix_base.specs.Forms.{IsNextListed, after_call, after_fault, no_turns};
-ghost use Rattle.dix_base.specs.Told.{Apart, Becomes, IsRead, Rose, over};
+ghost use Rattle.dix_base.specs.Told.{Apart, Becomes, Begins, IsRead, Rose, over};
 
-use crate::fault_plan::{FaultPlan, raise};
-use crate::{Failed, Store};
+use crate::fault_plan::FaultPlan;
+use crate::{CalmStore, Failed, Store, StoreFault};
+use std::alloc::Global;
 use std::marker::Model;
 
-/// A store that holds the bytes that it was made with under every name, and fails at the calls of
-/// a list. An opening never fails and isn't counted as a call.
+/// A store that holds one content under every name, and fails at the calls of a list: `reset`,
+/// `read_at`, `write_at` and `append` are counted, together and from 1. An opening never fails
+/// and isn't counted, and neither is a call that ends for want of memory.
 #[derive(Drop)]
 pub struct MemStore {
-    held: Vec<u8>,
-    name: String,
-    opened: u64,
+    calm: CalmStore,
     plan: FaultPlan,
 }
 
 impl Model for MemStore {
-    ghost use Rattle.std.specs.Prelude.{string_bytes};
     ghost use Rattle.dix_base.specs.Forms.{Stock};
 
     ghost Value = { Stock };
 
-    ghost view = { λ s. record { bytes = s.held.items; openings = s.opened; handed = string_bytes s.name; turns = s.plan } };
-}
-
-/// Writes the piece over what is there.
-fn overwrite(held: &mut Vec<u8>, at: usize, piece: &[u8])
-    requires { at + length piece.now ≤ length held.old.items }
-    ensures { held.new.items ≡ over at piece.now held.old.items }
-{
-    held[at..at + piece.len()].copy_from_slice(piece);
+    ghost view = { λ s. record { bytes = s.calm.bytes; openings = s.calm.openings; handed = s.calm.handed; turns = s.plan } };
 }
 
 impl MemStore {
-    /// A store of these bytes, whose calls of `read_at` and `write_at` with these numbers, counted
-    /// together from 1, fail.
+    /// A store of these bytes, whose counted calls with these numbers fail.
     pub fn new(bytes: Vec<u8>, fail: Vec<u64>) -> MemStore
         ensures bytes { result.bytes ≡ bytes.items }
         ensures openings { result.openings ≡ 0 }
@@ -45,9 +35,7 @@ impl MemStore {
         ensures turns { result.turns ≡ no_turns fail.items }
     {
         MemStore {
-            name: String::new(*bytes.allocator()),
-            held: bytes,
-            opened: 0,
+            calm: CalmStore::new(bytes),
             plan: FaultPlan::new(fail),
         }
     }
@@ -56,7 +44,7 @@ impl MemStore {
     pub fn bytes(&self) -> &[u8]
         ensures { result.now ≡ self.now.bytes }
     {
-        self.held.as_slice()
+        self.calm.bytes()
     }
 }
 
@@ -85,9 +73,29 @@ impl Store for MemStore {
         ensures opens { IsOk result }
         ensures uncounted { self.new.turns ≡ self.old.turns }
     {
-        self.name = name;
-        raise(&mut self.opened);
-        Ok(self.held.len() as u64)
+        self.calm.open(name)
+    }
+
+    /// Keeps the name, and drops all bytes. A call that is listed fails, and keeps them.
+    fn reset(&mut self, name: String) -> Result<(), Failed>
+        ensures empty { OnOk result (Becomes (λ old new. new ≡ []) (Some self.old.bytes) (Some self.new.bytes)) }
+        ensures length { OnOk result (length self.new.bytes ≡ 0) }
+        ensures tells { is_some (Some self.new.bytes) ≡ is_some (Some self.old.bytes) }
+        ensures cause { OnErr result (Rose self.old.turns.faults self.new.turns.faults) }
+        ensures count { self.old.turns.faults ≤ self.new.turns.faults }
+        ensures opened { self.new.openings ≡ min (self.old.openings + 1) (2 ^ 64 - 1) }
+        ensures named { self.new.handed ≡ string_bytes name }
+
+        ensures listed { IsErr result ↔ IsNextListed self.old.turns }
+        ensures passed { OnOk result (self.new.turns ≡ after_call self.old.turns) }
+        ensures failed { OnErr result (self.new.turns ≡ after_fault self.old.turns) }
+        ensures same { OnErr result (self.new.bytes ≡ self.old.bytes) }
+    {
+        if self.plan.turn(false).is_err() {
+            self.calm.open(name)?;
+            return Err(Failed);
+        }
+        self.calm.reset(name)
     }
 
     /// Reads the bytes. A call that is listed fails.
@@ -106,9 +114,7 @@ impl Store for MemStore {
         ensures failed { OnErr result (self.new.turns ≡ after_fault self.old.turns) }
     {
         self.plan.turn(false)?;
-        let at = at as usize;
-        into.copy_from_slice(&self.held[at..at + into.len()]);
-        Ok(())
+        self.calm.read_at(at, into)
     }
 
     /// Writes the bytes. A call that is listed fails, and has written the first half of them.
@@ -127,12 +133,35 @@ impl Store for MemStore {
         ensures failed { OnErr result (self.new.turns ≡ after_fault self.old.turns) }
         ensures half { OnErr result (self.new.bytes ≡ over at (take (length piece.now / 2) piece.now) self.old.bytes) }
     {
-        let at = at as usize;
-        if self.plan.turn(false).is_err() {
-            overwrite(&mut self.held, at, &piece[..piece.len() / 2]);
-            return Err(Failed);
+        let n = self.plan.part_of(piece.len());
+        self.calm.write_at(at, &piece[..n])?;
+        self.plan.turn(false)
+    }
+
+    /// Adds the bytes. A call that is listed fails, and has added the first half of them. Where
+    /// there is no memory for what it adds, the call isn't counted.
+    fn append(&mut self, alloc: Global, piece: &[u8]) -> Result<(), StoreFault>
+        ensures written { OnOk result (Becomes (λ old new. new ≡ old ++ piece.now) (Some self.old.bytes) (Some self.new.bytes)) }
+        ensures length { OnOk result (length self.new.bytes ≡ length self.old.bytes + length piece.now) }
+        ensures begins { Becomes Begins (Some self.old.bytes) (Some self.new.bytes) }
+        ensures more { length self.old.bytes ≤ length self.new.bytes }
+        ensures memory { IsErrOf result StoreFault.Memory → self.new ≡ self.old }
+        ensures cause { IsErrOf result StoreFault.Failed → Rose self.old.turns.faults self.new.turns.faults }
+        ensures count { self.old.turns.faults ≤ self.new.turns.faults }
+        ensures named { self.new.handed ≡ self.old.handed }
+        ensures opened { self.new.openings ≡ self.old.openings }
+
+        ensures listed { IsErrOf result StoreFault.Failed → IsNextListed self.old.turns }
+        ensures unlisted { OnOk result (¬ IsNextListed self.old.turns) }
+        ensures passed { OnOk result (self.new.turns ≡ after_call self.old.turns) }
+        ensures failed { IsErrOf result StoreFault.Failed → self.new.turns ≡ after_fault self.old.turns }
+        ensures half { IsErrOf result StoreFault.Failed → self.new.bytes ≡ self.old.bytes ++ take (length piece.now / 2) piece.now }
+    {
+        let n = self.plan.part_of(piece.len());
+        self.calm.append(alloc, &piece[..n])?;
+        match self.plan.turn(false) {
+            Ok(()) => Ok(()),
+            Err(Failed) => Err(StoreFault::Failed),
         }
-        overwrite(&mut self.held, at, piece);
-        Ok(())
     }
 }

@@ -1,9 +1,10 @@
 //! Where bytes stay.
 
-ghost use Rattle.std.specs.Prelude.{◌≡◌, ◌+◌, ◌-◌, ◌^◌, min, ◌≤◌, ℕ, List, length, Option, IfOk, OnOk, OnErr, string_bytes};
-ghost use Rattle.dix_base.specs.Told.{Apart, Becomes, HasLength, IsRead, Rose, over};
+ghost use Rattle.std.specs.Prelude.{◌≡◌, ◌+◌, ◌-◌, ◌^◌, min, ◌≤◌, ◌++◌, ℕ, List, [], length, Option, is_some, IfOk, IsErrOf, OnOk, OnErr, string_bytes};
+ghost use Rattle.dix_base.specs.Told.{Apart, Becomes, Begins, HasLength, IsRead, Rose, over};
 
-use crate::Failed;
+use crate::{Failed, StoreFault};
+use std::alloc::Global;
 
 /// A store of bytes under a name, such as a file.
 pub trait Store {
@@ -16,7 +17,7 @@ pub trait Store {
     /// The count of faults. It never falls, and a count at its last value counts as risen.
     ghost faults: { Self → ℕ };
 
-    /// The number of openings. It stays at its last value.
+    /// The number of calls of `open` and `reset`. It stays at its last value.
     ghost openings: { Self → ℕ };
 
     /// The bytes of the name that it was handed last.
@@ -26,6 +27,16 @@ pub trait Store {
     fn open(&mut self, name: String) -> Result<u64, Failed>
         ensures length { IfOk result (λ n. n ≡ len self.new) }
         ensures same { bytes self.new ≡ bytes self.old }
+        ensures cause { OnErr result (Rose (faults self.old) (faults self.new)) }
+        ensures count { faults self.old ≤ faults self.new }
+        ensures opened { openings self.new ≡ min (openings self.old + 1) (2 ^ 64 - 1) }
+        ensures named { handed self.new ≡ string_bytes name };
+
+    /// Makes the content of this name empty, and opens it. A call that fails may leave any content.
+    fn reset(&mut self, name: String) -> Result<(), Failed>
+        ensures empty { OnOk result (Becomes (λ old new. new ≡ []) (bytes self.old) (bytes self.new)) }
+        ensures length { OnOk result (len self.new ≡ 0) }
+        ensures tells { is_some (bytes self.new) ≡ is_some (bytes self.old) }
         ensures cause { OnErr result (Rose (faults self.old) (faults self.new)) }
         ensures count { faults self.old ≤ faults self.new }
         ensures opened { openings self.new ≡ min (openings self.old + 1) (2 ^ 64 - 1) }
@@ -50,6 +61,19 @@ pub trait Store {
         ensures apart { Becomes (Apart at (length piece.now)) (bytes self.old) (bytes self.new) }
         ensures length { len self.new ≡ len self.old }
         ensures cause { OnErr result (Rose (faults self.old) (faults self.new)) }
+        ensures count { faults self.old ≤ faults self.new }
+        ensures named { handed self.new ≡ handed self.old }
+        ensures opened { openings self.new ≡ openings self.old };
+
+    /// Writes the bytes behind the last one. A call that fails may leave any bytes there, and leaves
+    /// all that was there before; after want of memory the store is as before.
+    fn append(&mut self, alloc: Global, piece: &[u8]) -> Result<(), StoreFault>
+        ensures written { OnOk result (Becomes (λ old new. new ≡ old ++ piece.now) (bytes self.old) (bytes self.new)) }
+        ensures length { OnOk result (len self.new ≡ len self.old + length piece.now) }
+        ensures begins { Becomes Begins (bytes self.old) (bytes self.new) }
+        ensures more { len self.old ≤ len self.new }
+        ensures memory { IsErrOf result StoreFault.Memory → (bytes self.new ≡ bytes self.old) × (len self.new ≡ len self.old) × (faults self.new ≡ faults self.old) }
+        ensures cause { IsErrOf result StoreFault.Failed → Rose (faults self.old) (faults self.new) }
         ensures count { faults self.old ≤ faults self.new }
         ensures named { handed self.new ≡ handed self.old }
         ensures opened { openings self.new ≡ openings self.old };

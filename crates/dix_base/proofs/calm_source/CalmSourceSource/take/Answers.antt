@@ -1,7 +1,7 @@
 use Rattle.std.proofs.Common.{arith}
 use Rattle.std.proofs.lemmas.List.{length-drop}
 use Rattle.dix_base.proofs.Cut.{cut-joined, take-rest}
-use Rattle.dix_base.proofs.mem_source.MemSourceSource.take.Goals as goal
+use Rattle.dix_base.proofs.calm_source.CalmSourceSource.take.Goals as goal
 
 pub returns-clause-taken : goal.returns-clause-taken
 returns-clause-taken c =

@@ -1,0 +1,58 @@
+//! A source in memory that never fails.
+
+ghost use Rattle.std.specs.Prelude.{◌≡◌, ◌≤◌, ◌<◌, length, min, take, Some, IfOk, IsOk, OnErr};
+ghost use Rattle.dix_base.specs.Told.{IsAtEnd, Rose, Took};
+
+use crate::{Failed, Source};
+use std::marker::Model;
+
+/// A source that gives the bytes that it was made with and never fails. A contract sees it as the
+/// bytes that are left.
+#[derive(Drop)]
+pub struct CalmSource {
+    held: Vec<u8>,
+    at: usize,
+}
+
+impl Model for CalmSource {
+    ghost use Rattle.std.specs.Prelude.{ℕ, List, ◌≤◌, drop, length};
+
+    ghost Value = { List ℕ };
+
+    ghost view = { λ s. drop s.at s.held.items };
+
+    ghost invariant = { λ s. s.at ≤ length s.held.items };
+}
+
+impl CalmSource {
+    /// A source of these bytes.
+    pub fn new(bytes: Vec<u8>) -> CalmSource
+        ensures { result ≡ bytes.items }
+    {
+        CalmSource { held: bytes, at: 0 }
+    }
+}
+
+impl Source for CalmSource {
+    ghost left = { λ s. Some s };
+
+    ghost faults = { λ s. 0 };
+
+    /// Fills the buffer, or as much of it as there are bytes left. It never fails.
+    fn take(&mut self, buf: &mut [u8]) -> Result<usize, Failed>
+        ensures bound { IfOk result (λ n. n ≤ length buf.old) }
+        ensures taken { IfOk result (λ n. Took (take n buf.new) (Some self.old) (Some self.new)) }
+        ensures end { IfOk result (λ n. n ≡ 0 → 0 < length buf.old → IsAtEnd (Some self.old)) }
+        ensures cause { OnErr result (Rose 0 0) }
+        ensures count { 0 ≤ 0 }
+
+        ensures calm { IsOk result }
+        ensures most { IfOk result (λ n. n ≡ min (length buf.old) (length self.old)) }
+    {
+        let left = &self.held[self.at..];
+        let n = buf.len().min(left.len());
+        buf[..n].copy_from_slice(&left[..n]);
+        self.at += n;
+        Ok(n)
+    }
+}

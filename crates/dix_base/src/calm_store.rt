@@ -1,0 +1,157 @@
+//! A store in memory that never fails.
+
+ghost use Rattle.std.specs.Prelude.{◌≡◌, ◌+◌, ◌-◌, ◌^◌, min, ◌≤◌, ◌++◌, [], length, Some, refl, is_some, IfOk, IsErrOf, IsOk, OnOk, OnErr, string_bytes};
+ghost use Rattle.dix_base.specs.Told.{Apart, Becomes, Begins, IsRead, Rose, over};
+
+use crate::fault_plan::raise;
+use crate::{Failed, Store, StoreFault};
+use std::alloc::Global;
+use std::marker::Model;
+
+/// A store that holds one content under every name, and never fails.
+#[derive(Drop)]
+pub struct CalmStore {
+    held: Vec<u8>,
+    name: String,
+    opened: u64,
+}
+
+impl Model for CalmStore {
+    ghost use Rattle.std.specs.Prelude.{string_bytes};
+    ghost use Rattle.dix_base.specs.Forms.{Kept};
+
+    ghost Value = { Kept };
+
+    ghost view = { λ s. record { bytes = s.held.items; openings = s.opened; handed = string_bytes s.name } };
+}
+
+/// Writes the piece over what is there.
+fn overwrite(held: &mut Vec<u8>, at: usize, piece: &[u8])
+    requires { at + length piece.now ≤ length held.old.items }
+    ensures { held.new.items ≡ over at piece.now held.old.items }
+{
+    held[at..at + piece.len()].copy_from_slice(piece);
+}
+
+impl CalmStore {
+    /// A store of these bytes, with no name and not opened yet.
+    pub fn new(bytes: Vec<u8>) -> CalmStore
+        ensures bytes { result.bytes ≡ bytes.items }
+        ensures openings { result.openings ≡ 0 }
+        ensures handed { result.handed ≡ [] }
+    {
+        CalmStore {
+            name: String::new(*bytes.allocator()),
+            held: bytes,
+            opened: 0,
+        }
+    }
+
+    /// All bytes that it holds.
+    pub fn bytes(&self) -> &[u8]
+        ensures { result.now ≡ self.now.bytes }
+    {
+        self.held.as_slice()
+    }
+}
+
+impl Store for CalmStore {
+    ghost bytes = { λ s. Some s.bytes };
+
+    ghost len = { λ s. length s.bytes };
+
+    ghost faults = { λ s. 0 };
+
+    ghost openings = { λ s. s.openings };
+
+    ghost handed = { λ s. s.handed };
+
+    ghost told = { λ s. refl };
+
+    /// Keeps the name, and answers the length in bytes.
+    fn open(&mut self, name: String) -> Result<u64, Failed>
+        ensures length { IfOk result (λ n. n ≡ length self.new.bytes) }
+        ensures same { Some self.new.bytes ≡ Some self.old.bytes }
+        ensures cause { OnErr result (Rose 0 0) }
+        ensures count { 0 ≤ 0 }
+        ensures opened { self.new.openings ≡ min (self.old.openings + 1) (2 ^ 64 - 1) }
+        ensures named { self.new.handed ≡ string_bytes name }
+
+        ensures calm { IsOk result }
+    {
+        self.name = name;
+        raise(&mut self.opened);
+        Ok(self.held.len() as u64)
+    }
+
+    /// Keeps the name, and drops all bytes.
+    fn reset(&mut self, name: String) -> Result<(), Failed>
+        ensures empty { OnOk result (Becomes (λ old new. new ≡ []) (Some self.old.bytes) (Some self.new.bytes)) }
+        ensures length { OnOk result (length self.new.bytes ≡ 0) }
+        ensures tells { is_some (Some self.new.bytes) ≡ is_some (Some self.old.bytes) }
+        ensures cause { OnErr result (Rose 0 0) }
+        ensures count { 0 ≤ 0 }
+        ensures opened { self.new.openings ≡ min (self.old.openings + 1) (2 ^ 64 - 1) }
+        ensures named { self.new.handed ≡ string_bytes name }
+
+        ensures calm { IsOk result }
+    {
+        self.name = name;
+        raise(&mut self.opened);
+        self.held.clear();
+        Ok(())
+    }
+
+    /// Reads the bytes.
+    fn read_at(&mut self, at: u64, into: &mut [u8]) -> Result<(), Failed>
+        requires { at + length into.old ≤ length self.old.bytes }
+        ensures read { OnOk result (IsRead at (length into.old) into.new (Some self.old.bytes)) }
+        ensures same { Some self.new.bytes ≡ Some self.old.bytes }
+        ensures length { length self.new.bytes ≡ length self.old.bytes }
+        ensures cause { OnErr result (Rose 0 0) }
+        ensures count { 0 ≤ 0 }
+        ensures named { self.new.handed ≡ self.old.handed }
+        ensures opened { self.new.openings ≡ self.old.openings }
+
+        ensures calm { IsOk result }
+    {
+        let at = at as usize;
+        into.copy_from_slice(&self.held[at..at + into.len()]);
+        Ok(())
+    }
+
+    /// Writes the bytes.
+    fn write_at(&mut self, at: u64, piece: &[u8]) -> Result<(), Failed>
+        requires { at + length piece.now ≤ length self.old.bytes }
+        ensures written { OnOk result (Becomes (λ old new. new ≡ over at piece.now old) (Some self.old.bytes) (Some self.new.bytes)) }
+        ensures apart { Becomes (Apart at (length piece.now)) (Some self.old.bytes) (Some self.new.bytes) }
+        ensures length { length self.new.bytes ≡ length self.old.bytes }
+        ensures cause { OnErr result (Rose 0 0) }
+        ensures count { 0 ≤ 0 }
+        ensures named { self.new.handed ≡ self.old.handed }
+        ensures opened { self.new.openings ≡ self.old.openings }
+
+        ensures calm { IsOk result }
+    {
+        overwrite(&mut self.held, at as usize, piece);
+        Ok(())
+    }
+
+    /// Adds the bytes. Its one failure is want of memory.
+    fn append(&mut self, _alloc: Global, piece: &[u8]) -> Result<(), StoreFault>
+        ensures written { OnOk result (Becomes (λ old new. new ≡ old ++ piece.now) (Some self.old.bytes) (Some self.new.bytes)) }
+        ensures length { OnOk result (length self.new.bytes ≡ length self.old.bytes + length piece.now) }
+        ensures begins { Becomes Begins (Some self.old.bytes) (Some self.new.bytes) }
+        ensures more { length self.old.bytes ≤ length self.new.bytes }
+        ensures memory { IsErrOf result StoreFault.Memory → self.new ≡ self.old }
+        ensures cause { IsErrOf result StoreFault.Failed → ⊥ }
+        ensures count { 0 ≤ 0 }
+        ensures named { self.new.handed ≡ self.old.handed }
+        ensures opened { self.new.openings ≡ self.old.openings }
+    {
+        match self.held.extend_from_slice(piece) {
+            Ok(()) => Ok(()),
+            Err(_) => Err(StoreFault::Memory),
+        }
+    }
+}
