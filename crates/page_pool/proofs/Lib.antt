@@ -1,0 +1,5 @@
+pub mod Paging
+pub mod Placing
+pub mod Separate
+pub mod Spreads
+pub mod Walks

@@ -1,0 +1,6 @@
+pub mod Ahead
+pub mod Joining
+pub mod Lending
+pub mod Pages
+pub mod Places
+pub mod Walking
