@@ -1,0 +1,47 @@
+use Rattle.std.proofs.Common.{◌≡◌, ◌+◌, ◌*◌, ◌∙◌, ap, sym, length, take, drop, arith, rules}
+use Rattle.page_pool.specs.Places.{places_in}
+use Rattle.page_pool.specs.Pages.{Wrote}
+use Rattle.page_pool.proofs.Placing.{in_pages, segments_stand}
+use Rattle.page_pool.proofs.Spreads.{room-ahead}
+use Rattle.pi_tuple.specs.Tuples.{tuple_in, tuple_bytes}
+use Rattle.integrity_payload.proofs.Fills.{ahead-stands, ahead-once}
+use Rattle.ref_remap.specs.Remapped.{remapped}
+use Rattle.ref_remap.proofs.Rewrites.{rewrites_more}
+use Rattle.ref_remap.proofs.rewrite.Goals as goal
+
+pub walk-reader-requires : goal.walk-reader-requires
+walk-reader-requires c = in_pages (length c.args.pool.now) (places_in c.args.pi.now.tuples) (segments_stand c.args.pool.now c.args.pi.now.tuples c.requires.lie)
+
+pub walk-writer-requires : goal.walk-writer-requires
+walk-writer-requires c = in_pages (length c.args.pool.now) (places_in c.args.pi.now.tuples) (segments_stand c.args.pool.now c.args.pi.now.tuples c.requires.lie)
+
+pub read_ahead-requires-clause-stand : goal.read_ahead-requires-clause-stand
+read_ahead-requires-clause-stand c =
+    ahead-stands c.args.pool.now c.loop-i.pool c.args.pi.now.tuples c.loop-i.reader (8 * (c.args.k + c.loop-i.i)) 8 c.requires.lie c.loop-i.invariant.others.pages c.loop-i.invariant.reader_is
+
+pub read_ahead-requires-clause-room : goal.read_ahead-requires-clause-room
+read_ahead-requires-clause-room c =
+    let long = c.requires.payload.long in
+    room-ahead c.args.pi.now.tuples c.loop-i.reader (8 * (c.args.k + c.loop-i.i)) 8 c.loop-i.invariant.reader_is (omega arith)
+
+pub write_ahead-requires-clause-stand : goal.write_ahead-requires-clause-stand
+write_ahead-requires-clause-stand c =
+    ahead-stands c.args.pool.now c.loop-i.pool c.args.pi.now.tuples c.loop-i.writer (8 * (c.args.k + c.loop-i.i)) (length c.to_bytes.result) c.requires.lie c.loop-i.invariant.others.pages c.loop-i.invariant.writer_is
+
+pub write_ahead-requires-clause-once : goal.write_ahead-requires-clause-once
+write_ahead-requires-clause-once c = ahead-once c.args.pi.now.tuples c.loop-i.writer (8 * (c.args.k + c.loop-i.i)) (length c.to_bytes.result) c.requires.once c.loop-i.invariant.writer_is
+
+pub write_ahead-requires-clause-room : goal.write_ahead-requires-clause-room
+write_ahead-requires-clause-room c =
+    let eight : length c.to_bytes.result ≡ 8 = search rules in
+    let long = c.requires.payload.long in
+    room-ahead c.args.pi.now.tuples c.loop-i.writer (8 * (c.args.k + c.loop-i.i)) (length c.to_bytes.result) c.loop-i.invariant.writer_is (omega arith)
+
+pub loop-i-preserved : goal.loop-i-preserved
+loop-i-preserved c =
+    let eight : length c.to_bytes.result ≡ 8 = search rules in
+    let bytes = c.to_bytes.ensures.bytes in
+    let wrote : Wrote c.loop-i.pool c.write_ahead.new.self (take 8 c.loop-i.writer) (tuple_bytes c.remap-tuple.result) = rw (← eight, ← bytes) c.write_ahead.ensures.wrote in
+    rewrites_more c.args.pool.now c.loop-i.pool c.write_ahead.new.self c.args.pi.now.tuples c.args.ty c.args.k c.args.from c.args.to c.loop-i.i c.loop-i.reader c.read_ahead.new.walk c.loop-i.writer c.write_ahead.new.walk
+    c.read_ahead.new.into c.remap-tuple.result c.requires.once c.loop-i.invariant c.read_ahead.ensures.bytes (c.remap-tuple.ensures ∙ ap (remapped c.args.ty (c.args.from + c.loop-i.i) (c.args.to + c.loop-i.i)) c.from_bytes.ensures.value)
+    (ap tuple_in (sym bytes) ∙ c.to_bytes.ensures.back) wrote c.read_ahead.ensures.ahead (c.write_ahead.ensures.ahead ∙ ap (λ n. drop n c.loop-i.writer) eight)
