@@ -43,6 +43,9 @@ impl<'a> Walk<'a> {
     pub fn next_part(&mut self, most: u32) -> Option<Seg>
         ensures { Steps most self.old result self.new }
     {
+        if most == 0 {
+            return None;
+        }
         let (segs, at) = first_ahead(self.segs, self.at);
         self.segs = segs;
         self.at = at;
