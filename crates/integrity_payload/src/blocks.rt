@@ -96,7 +96,9 @@ fn tag_of(ty: PiType, address: u64) -> u32
     }
 }
 
-fn low_32(address: u64) -> u32
+/// The reference tag that is a block's own in types 1 and 2: the low 32 bits of its address (LBA), virtual or
+/// physical (SBC-3, 4.22.3).
+pub fn low_32(address: u64) -> u32
     ensures { result ≡ address % 2 ^ 32 }
 {
     (address % 0x1_0000_0000) as u32

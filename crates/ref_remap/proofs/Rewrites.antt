@@ -1,4 +1,5 @@
 use Rattle.std.proofs.Common.{◌≡◌, ℕ, ◌+◌, ◌*◌, ◌<◌, Bool, true, false, eqb, List, ◌++◌, take, drop, refl, sym, ap, ◌∙◌, subst, inl, inr, cond, ◌&&◌, ◌||◌, arith}
+use Rattle.std.specs.Int.{w32, to_be_bytes}
 use Rattle.std.proofs.lemmas.List.{drop-drop, take-append-drop}
 use Rattle.std.proofs.lemmas.Bool.{cases_lt}
 use Rattle.std.proofs.lemmas.Bool.Decides.{eqb_tells}
@@ -13,13 +14,14 @@ use Rattle.pi_tuple.specs.Finds.{has_reference}
 use Rattle.pi_tuple.specs.Tuples.{tuple_bytes, tuple_in}
 use Rattle.integrity_payload.specs.Payloads.{tuple_places, tuple_of, HoldsTuple}
 use Rattle.integrity_payload.proofs.Fills.{among-take, among-early, take-sum, still_holds}
-use Rattle.ref_remap.specs.Remapped.{low_32, remapped, MappedOut, made_virtual}
+use Rattle.ref_remap.specs.Remapped.{low_32, remapped, remapped_bytes, MappedOut, made_virtual}
 
 -- the first i tuples from k on are rewritten
 pub record Rewrites (old now : List (List ℕ)) (segs : List Seg) (ty : PiType) (k from to i : ℕ) (reader writer : List Place) : Type 0 where
   pub reader_is : reader ≡ drop (8 * (k + i)) (places_in segs)
   pub writer_is : writer ≡ drop (8 * (k + i)) (places_in segs)
   pub held : (j : ℕ) → j < i → HoldsTuple now segs (k + j) (remapped ty (from + j) (to + j) (tuple_of old segs (k + j)))
+  pub are_bytes : (j : ℕ) → j < i → tuple_bytes (tuple_of old segs (k + j)) ≡ bytes_at old (tuple_places segs (k + j))
   pub others : OthersStay old now (range_of segs (8 * k) (8 * i))
 
 -- the tuples behind stay as they were
@@ -39,11 +41,18 @@ each_held old now new segs ty k from to i j once others held last h = elim (case
   | inr l ↦ let e : i ≡ j = omega arith in subst (λ m. HoldsTuple new segs (k + m) (remapped ty (from + m) (to + m) (tuple_of old segs (k + m)))) e last
 ]
 
+each_spelt : (old : List (List ℕ)) (segs : List Seg) (k i j : ℕ) → ((j : ℕ) → j < i → tuple_bytes (tuple_of old segs (k + j)) ≡ bytes_at old (tuple_places segs (k + j))) →
+    tuple_bytes (tuple_of old segs (k + i)) ≡ bytes_at old (tuple_places segs (k + i)) → j < i + 1 → tuple_bytes (tuple_of old segs (k + j)) ≡ bytes_at old (tuple_places segs (k + j))
+each_spelt old segs k i j before last h = elim (cases_lt j i) [
+  | inl l ↦ before j l
+  | inr l ↦ let e : i ≡ j = omega arith in subst (λ m. tuple_bytes (tuple_of old segs (k + m)) ≡ bytes_at old (tuple_places segs (k + m))) e last
+]
+
 pub rewrites_more : (old now new : List (List ℕ)) (segs : List Seg) (ty : PiType) (k from to i : ℕ) (reader reader' writer writer' : List Place) (bytes : List ℕ) (t : Tuple) →
-    NoneTwice (places_in segs) → Rewrites old now segs ty k from to i reader writer → bytes ≡ bytes_at now (take 8 reader) → t ≡ remapped ty (from + i) (to + i) (tuple_in bytes) →
+    NoneTwice (places_in segs) → Rewrites old now segs ty k from to i reader writer → bytes ≡ bytes_at now (take 8 reader) → tuple_bytes (tuple_in bytes) ≡ bytes → t ≡ remapped ty (from + i) (to + i) (tuple_in bytes) →
     tuple_in (tuple_bytes t) ≡ t → Wrote now new (take 8 writer) (tuple_bytes t) → reader' ≡ drop 8 reader → writer' ≡ drop 8 writer →
     Rewrites old new segs ty k from to (i + 1) reader' writer'
-rewrites_more old now new segs ty k from to i reader reader' writer writer' bytes t once h read made back w b c =
+rewrites_more old now new segs ty k from to i reader reader' writer writer' bytes t once h read spelt made back w b c =
     let all = places_in segs in
     let n = 8 * (k + i) in
     let wrote = subst (λ l. Wrote now new (take 8 l) (tuple_bytes t)) h.writer_is w in
@@ -60,9 +69,21 @@ rewrites_more old now new segs ty k from to i reader reader' writer writer' byte
     record {
       reader_is = b ∙ (ap (drop 8) h.reader_is ∙ (drop-drop 8 n all ∙ ap (λ q. drop q all) m));
       writer_is = c ∙ (ap (drop 8) h.writer_is ∙ (drop-drop 8 n all ∙ ap (λ q. drop q all) m));
+      are_bytes = λ j l. each_spelt old segs k i j h.are_bytes (subst (λ v. tuple_bytes (tuple_in v) ≡ v) old_is spelt) l;
       held = λ j l. each_held old now new segs ty k from to i j once wrote.others h.held last l;
       others = subst (λ l. OthersStay old new l) more (others_stay old now new (range_of segs (8 * k) (8 * i)) (take 8 (drop n all)) h.others wrote.others);
     }
+
+written_at : (t : Bool) (to : ℕ) (b : List ℕ) → tuple_bytes (tuple_in b) ≡ b →
+    tuple_bytes (cond t (record { guard = (tuple_in b).guard; app = (tuple_in b).app; rtag = to }) (tuple_in b)) ≡ cond t (take 4 b ++ to_be_bytes w32 to) b
+written_at true to b e = ap (λ l. take 4 l ++ to_be_bytes w32 to) e
+written_at false to b e = e
+
+-- a mapped tuple's bytes are the mapped bytes of the tuple
+pub bytes_are : (old now : List (List ℕ)) (segs : List Seg) (ty : PiType) (k from to : ℕ) → HoldsTuple now segs k (remapped ty from to (tuple_of old segs k)) →
+    tuple_bytes (tuple_of old segs k) ≡ bytes_at old (tuple_places segs k) → bytes_at now (tuple_places segs k) ≡ remapped_bytes ty from to (bytes_at old (tuple_places segs k))
+bytes_are old now segs ty k from to h e =
+    h.bytes ∙ written_at (has_reference ty && eqb (tuple_of old segs k).rtag (low_32 from)) (low_32 to) (bytes_at old (tuple_places segs k)) e
 
 -- out, once or twice, and back
 

@@ -7,14 +7,14 @@
 #![tactic(auto)]
 
 ghost use Rattle.std.specs.Prelude.{◌≡◌, ℕ, ◌+◌, ◌*◌, ◌%◌, ◌<◌, ◌≤◌, ◌^◌};
-ghost use Rattle.page_pool.specs.Pages.{AllLieIn, OthersStay};
+ghost use Rattle.page_pool.specs.Pages.{AllLieIn, OthersStay, bytes_at};
 ghost use Rattle.page_pool.specs.Places.{NoneTwice, places_in, range_of};
 ghost use Rattle.pi_tuple.specs.Finds.{has_reference};
 ghost use Rattle.pi_tuple.specs.declared.tuple.Tuple.{Tuple as AnyTuple};
-ghost use Rattle.integrity_payload.specs.Payloads.{HoldsTuple, IsPayload, tuple_of};
-ghost use Rattle.ref_remap.specs.Remapped.{MappedOut, made_virtual, remapped};
+ghost use Rattle.integrity_payload.specs.Payloads.{HoldsTuple, IsPayload, tuple_of, tuple_places};
+ghost use Rattle.ref_remap.specs.Remapped.{MappedOut, made_virtual, remapped, remapped_bytes};
 
-use integrity_payload::Payload;
+use integrity_payload::{Payload, low_32};
 use page_pool::PagePool;
 use pi_tuple::{PiType, Tuple};
 
@@ -30,6 +30,7 @@ pub fn map_out(pool: &mut PagePool, pi: &Payload, ty: PiType, k: u32, n: u32, ph
     requires lie { AllLieIn pool.old pi.now.tuples }
     requires once { NoneTwice (places_in pi.now.tuples) }
     ensures tuples { (i : ℕ) → i < n → HoldsTuple pool.new pi.now.tuples (k + i) (remapped ty (pi.now.seed + k + i) (physical + i) (tuple_of pool.old pi.now.tuples (k + i))) }
+    ensures bytes { (i : ℕ) → i < n → bytes_at pool.new (tuple_places pi.now.tuples (k + i)) ≡ remapped_bytes ty (pi.now.seed + k + i) (physical + i) (bytes_at pool.old (tuple_places pi.now.tuples (k + i))) }
     ensures others { OthersStay pool.old pool.new (range_of pi.now.tuples (8 * k) (8 * n)) }
 {
     rewrite(pool, pi, ty, k, n, pi.seed + k as u64, physical);
@@ -45,6 +46,7 @@ pub fn map_back(pool: &mut PagePool, pi: &Payload, ty: PiType, k: u32, n: u32, p
     requires lie { AllLieIn pool.old pi.now.tuples }
     requires once { NoneTwice (places_in pi.now.tuples) }
     ensures tuples { (i : ℕ) → i < n → HoldsTuple pool.new pi.now.tuples (k + i) (remapped ty (physical + i) (pi.now.seed + k + i) (tuple_of pool.old pi.now.tuples (k + i))) }
+    ensures bytes { (i : ℕ) → i < n → bytes_at pool.new (tuple_places pi.now.tuples (k + i)) ≡ remapped_bytes ty (physical + i) (pi.now.seed + k + i) (bytes_at pool.old (tuple_places pi.now.tuples (k + i))) }
     ensures others { OthersStay pool.old pool.new (range_of pi.now.tuples (8 * k) (8 * n)) }
     ensures round_trip { (i : ℕ) → i < n → (t : AnyTuple) → MappedOut ty (pi.now.seed + k + i) (physical + i) t (tuple_of pool.old pi.now.tuples (k + i)) → tuple_of pool.new pi.now.tuples (k + i) ≡ made_virtual ty (pi.now.seed + k + i) (physical + i) t }
 {
@@ -60,6 +62,7 @@ fn rewrite(pool: &mut PagePool, pi: &Payload, ty: PiType, k: u32, n: u32, from: 
     requires lie { AllLieIn pool.old pi.now.tuples }
     requires once { NoneTwice (places_in pi.now.tuples) }
     ensures tuples { (i : ℕ) → i < n → HoldsTuple pool.new pi.now.tuples (k + i) (remapped ty (from + i) (to + i) (tuple_of pool.old pi.now.tuples (k + i))) }
+    ensures bytes { (i : ℕ) → i < n → bytes_at pool.new (tuple_places pi.now.tuples (k + i)) ≡ remapped_bytes ty (from + i) (to + i) (bytes_at pool.old (tuple_places pi.now.tuples (k + i))) }
     ensures others { OthersStay pool.old pool.new (range_of pi.now.tuples (8 * k) (8 * n)) }
 {
     // The list's bytes are known to be few once it was looked at.
@@ -99,12 +102,6 @@ fn has_tag(ty: PiType) -> bool
         PiType::One | PiType::Two => true,
         PiType::Zero | PiType::Three => false,
     }
-}
-
-fn low_32(address: u64) -> u32
-    ensures { result ≡ address % 2 ^ 32 }
-{
-    (address % 0x1_0000_0000) as u32
 }
 
 #[cfg(test)]

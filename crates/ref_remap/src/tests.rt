@@ -55,7 +55,7 @@ fn out_twice_and_back(rt: HostRuntime) -> Result<(), Fail> {
     Ok(())
 }
 
-// Block 2^32 has the tag 0, and address 2^33 + 7 the tag 7. In type 3 nothing is mapped.
+// Block 2^32 has the tag 0, so has address 2^33, and address 2^33 + 7 has the tag 7. In type 3 nothing is mapped.
 #[test]
 fn low_bits_of_both(rt: HostRuntime) -> Result<(), Fail> {
     let mut pool = PagePool::new(rt.alloc(), 1)?;
@@ -68,6 +68,8 @@ fn low_bits_of_both(rt: HostRuntime) -> Result<(), Fail> {
         app: 0,
     };
     map_out(&mut pool, &pi, PiType::Three, 0, 1, 0x2_0000_0007);
+    assert_eq!(rt; pi.tuple_at(&pool, 0).rtag, 0);
+    map_out(&mut pool, &pi, PiType::One, 0, 1, 0x2_0000_0000);
     assert_eq!(rt; pi.tuple_at(&pool, 0).rtag, 0);
     map_out(&mut pool, &pi, PiType::Two, 0, 1, 0x2_0000_0007);
     assert_eq!(rt; pi.tuple_at(&pool, 0).rtag, 7);

@@ -1,4 +1,4 @@
-use Rattle.std.proofs.Common.{◌≡◌, ◌+◌, ◌*◌, ◌∙◌, ap, sym, length, take, drop, arith, rules}
+use Rattle.std.proofs.Common.{◌≡◌, ◌+◌, ◌*◌, ◌<◌, ◌∙◌, ap, sym, length, take, drop, arith, rules}
 use Rattle.page_pool.specs.Places.{places_in}
 use Rattle.page_pool.specs.Pages.{Wrote}
 use Rattle.page_pool.proofs.Placing.{in_pages, segments_stand}
@@ -6,7 +6,7 @@ use Rattle.page_pool.proofs.Spreads.{room-ahead}
 use Rattle.pi_tuple.specs.Tuples.{tuple_in, tuple_bytes}
 use Rattle.integrity_payload.proofs.Fills.{ahead-stands, ahead-once}
 use Rattle.ref_remap.specs.Remapped.{remapped}
-use Rattle.ref_remap.proofs.Rewrites.{rewrites_more}
+use Rattle.ref_remap.proofs.Rewrites.{bytes_are, rewrites_more}
 use Rattle.ref_remap.proofs.rewrite.Goals as goal
 
 pub walk-reader-requires : goal.walk-reader-requires
@@ -42,6 +42,14 @@ loop-i-preserved c =
     let eight : length c.to_bytes.result ≡ 8 = search rules in
     let bytes = c.to_bytes.ensures.bytes in
     let wrote : Wrote c.loop-i.pool c.write_ahead.new.self (take 8 c.loop-i.writer) (tuple_bytes c.remap-tuple.result) = rw (← eight, ← bytes) c.write_ahead.ensures.wrote in
+    let spelt : tuple_bytes (tuple_in c.read_ahead.new.into) ≡ c.read_ahead.new.into = ap tuple_bytes (sym c.from_bytes.ensures.value) ∙ c.from_bytes.ensures.back in
     rewrites_more c.args.pool.now c.loop-i.pool c.write_ahead.new.self c.args.pi.now.tuples c.args.ty c.args.k c.args.from c.args.to c.loop-i.i c.loop-i.reader c.read_ahead.new.walk c.loop-i.writer c.write_ahead.new.walk
-    c.read_ahead.new.into c.remap-tuple.result c.requires.once c.loop-i.invariant c.read_ahead.ensures.bytes (c.remap-tuple.ensures ∙ ap (remapped c.args.ty (c.args.from + c.loop-i.i) (c.args.to + c.loop-i.i)) c.from_bytes.ensures.value)
+    c.read_ahead.new.into c.remap-tuple.result c.requires.once c.loop-i.invariant c.read_ahead.ensures.bytes spelt (c.remap-tuple.ensures ∙ ap (remapped c.args.ty (c.args.from + c.loop-i.i) (c.args.to + c.loop-i.i)) c.from_bytes.ensures.value)
     (ap tuple_in (sym bytes) ∙ c.to_bytes.ensures.back) wrote c.read_ahead.ensures.ahead (c.write_ahead.ensures.ahead ∙ ap (λ n. drop n c.loop-i.writer) eight)
+
+pub returns-clause-bytes : goal.returns-clause-bytes
+returns-clause-bytes c =
+    λ i h. (
+    let done = c.loop-i-test.false in
+    let here : i < c.loop-i.i = omega arith in
+    bytes_are c.args.pool.now c.loop-i.pool c.args.pi.now.tuples c.args.ty (c.args.k + i) (c.args.from + i) (c.args.to + i) (c.loop-i.invariant.held i here) (c.loop-i.invariant.are_bytes i here))
