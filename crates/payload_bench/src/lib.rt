@@ -1,0 +1,96 @@
+//! The tuples of a request, made again and again for callers in C that take the time.
+#![tactic(auto)]
+
+ghost use Rattle.std.specs.Prelude.{◌≡◌, ◌+◌, ◌≤◌, ◌⊎◌, IfOk};
+ghost use Rattle.payload_bench.specs.Requests.{IsOfZeros, guard_of_zeros, kind_if, whole_pages};
+
+use integrity_payload::{Owner, Payload};
+use page_pool::{PAGE, PagePool, Seg, SgList};
+use pi_guard::GuardKind;
+use pi_tuple::PiType;
+use smallvec::SmallVec;
+use std::alloc::{AllocError, Global};
+
+// The data of 2,048 blocks of 512 bytes, and behind them their tuples.
+const BLOCKS: u32 = 2048;
+
+const DATA_PAGES: u32 = 256;
+
+const TUPLE_PAGES: u32 = 4;
+
+/// The list of so many whole pages, from this page on.
+fn whole_pages(alloc: Global, first: u32, count: u32) -> Result<SgList, AllocError>
+    requires { first + count ≤ 1024 }
+    ensures { IfOk result (λ sg. sg ≡ whole_pages first count) }
+{
+    let mut segs = SmallVec::new(alloc);
+    for i in 0..count {
+        segs.push(Seg {
+            page: first + i,
+            off: 0,
+            len: PAGE,
+        })?;
+    }
+    Ok(SgList::from_segs(segs))
+}
+
+/// A request of blocks of zeros.
+#[derive(Drop)]
+struct Request {
+    pool: PagePool,
+    body: SgList,
+    payload: Payload,
+}
+
+impl Request {
+    fn new(alloc: Global) -> Result<Request, AllocError>
+        ensures { IfOk result IsOfZeros }
+    {
+        Ok(Request {
+            pool: PagePool::new(alloc, DATA_PAGES + TUPLE_PAGES)?,
+            body: whole_pages(alloc, 0, DATA_PAGES)?,
+            payload: Payload {
+                seed: 0,
+                count: BLOCKS,
+                tuples: whole_pages(alloc, DATA_PAGES, TUPLE_PAGES)?,
+                owner: Owner::Block,
+                app: 0,
+            },
+        })
+    }
+
+    /// Makes the tuples, and answers the last one's guard.
+    fn last_guard(&mut self, kind: GuardKind) -> u16
+        requires { IsOfZeros self.old }
+        ensures zeros { IsOfZeros self.new }
+        ensures guard { result ≡ guard_of_zeros kind }
+    {
+        self.payload
+            .generate(&mut self.pool, &self.body, kind, PiType::One);
+        self.payload.tuple_at(&self.pool, BLOCKS - 1).guard
+    }
+}
+
+fn last_guard(alloc: Global, kind: GuardKind, times: u32) -> Result<u16, AllocError>
+    ensures { IfOk result (λ guard. guard ≡ guard_of_zeros kind) }
+{
+    let mut request = Request::new(alloc)?;
+    let mut guard = request.last_guard(kind);
+    for _i in 1..times {
+        guard = request.last_guard(kind);
+    }
+    Ok(guard)
+}
+
+/// Makes the tuples of a request so many times, at least once: 2,048 blocks of 512 zeros in whole pages, with
+/// the CRC as guard, or the Internet checksum. Answers the last block's guard, or 65,536 for want of memory.
+#[unsafe(no_mangle)]
+pub extern "C" fn payload_bench_generate(alloc: Global, is_ip: bool, times: u32) -> u32
+    ensures { (result ≡ guard_of_zeros (kind_if is_ip)) ⊎ (result ≡ 65536) }
+{
+    let kind = if is_ip { GuardKind::Ip } else { GuardKind::Crc };
+    match last_guard(alloc, kind, times) {
+        Ok(guard) => u32::from(guard),
+        Err(_) => 0x1_0000,
+    }
+}
