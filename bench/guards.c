@@ -1,6 +1,7 @@
 /* Measures both guards beside other ways to compute or move the same bytes, in one run.
    Each figure is that of many short measurements, taken in turn, which a tenth of them surpass: so other
-   work on the machine counts little, and a single lucky round not at all. */
+   work on the machine counts little, and a single lucky round not at all. The loops that call a way are one
+   copy for all ways, since where a copy falls among the addresses moves the figures of single bytes. */
 #include <stdio.h>
 #include <stdlib.h>
 #include <string.h>
@@ -19,7 +20,7 @@ static uint8_t *source, *target;
 static uint16_t isal(const uint8_t *p, size_t n) { return crc16_t10dif(0, p, n); }
 
 /* The library's exports test for a null pointer before they begin, which shows at short parts. */
-static __attribute__((noinline)) uint16_t slicing_tested(const uint8_t *p, size_t n) {
+static __attribute__((noinline, noclone)) uint16_t slicing_tested(const uint8_t *p, size_t n) {
     return crc_slicing(p ? p : (const uint8_t *)4096, n);
 }
 
@@ -53,7 +54,7 @@ static double now(void) {
 static volatile uint16_t sink;
 
 /* One pass over all blocks of 1 MiB, one after another. */
-static uint16_t walked(const struct way *way, size_t block) {
+static __attribute__((noinline, noclone)) uint16_t walked(const struct way *way, size_t block) {
     uint16_t all = 0;
     for (size_t at = 0; at + block <= MIB; at += block)
         all ^= way->of(source + at, block);
@@ -61,7 +62,7 @@ static uint16_t walked(const struct way *way, size_t block) {
 }
 
 /* As many bytes, of one block again and again. */
-static uint16_t stayed(const struct way *way, size_t block) {
+static __attribute__((noinline, noclone)) uint16_t stayed(const struct way *way, size_t block) {
     uint16_t all = 0;
     for (size_t at = 0; at + block <= MIB; at += block)
         all ^= way->of(source, block);
@@ -69,7 +70,7 @@ static uint16_t stayed(const struct way *way, size_t block) {
 }
 
 /* As many bytes, in blocks of 1 to 63 bytes in turn. */
-static uint16_t short_ones(const struct way *way, size_t most) {
+static __attribute__((noinline, noclone)) uint16_t short_ones(const struct way *way, size_t most) {
     uint16_t all = 0;
     size_t block = 1;
     for (size_t at = 0; at + most <= MIB; at += block) {
@@ -81,8 +82,8 @@ static uint16_t short_ones(const struct way *way, size_t most) {
 
 /* GB/s over so many passes. A pass that is not counted comes first, so that no way pays for what the one
    before left behind. */
-static double measured(const struct way *way, size_t block, uint16_t (*pass)(const struct way *, size_t),
-                       size_t passes) {
+static __attribute__((noinline, noclone)) double measured(const struct way *way, size_t block,
+                                                          uint16_t (*pass)(const struct way *, size_t), size_t passes) {
     uint16_t all = pass(way, block);
     double start = now();
     for (size_t i = 0; i < passes; i++)
@@ -98,9 +99,29 @@ static int by_size(const void *a, const void *b) {
 }
 
 /* What a tenth of the rounds surpass. */
-static double figure(double *rates, int rounds) {
-    qsort(rates, (size_t)rounds, sizeof *rates, by_size);
-    return rates[rounds - 1 - rounds / 10];
+static double figure(const double *rates, int rounds) {
+    double *sorted = malloc(sizeof *sorted * (size_t)rounds);
+    if (!sorted)
+        exit(1);
+    memcpy(sorted, rates, sizeof *sorted * (size_t)rounds);
+    qsort(sorted, (size_t)rounds, sizeof *sorted, by_size);
+    double rate = sorted[rounds - 1 - rounds / 10];
+    free(sorted);
+    return rate;
+}
+
+/* The median over the rounds of the ratio in the round, whose two measurements stand close together: what slows
+   or speeds the machine for a while falls on both. */
+static double paired(const double *of, const double *by, int rounds) {
+    double *ratios = malloc(sizeof *ratios * (size_t)rounds);
+    if (!ratios)
+        exit(1);
+    for (int round = 0; round < rounds; round++)
+        ratios[round] = of[round] / by[round];
+    qsort(ratios, (size_t)rounds, sizeof *ratios, by_size);
+    double middle = ratios[rounds / 2];
+    free(ratios);
+    return middle;
 }
 
 static void compared(size_t n) {
@@ -175,18 +196,28 @@ int main(int count, char **words) {
         for (int c = 0; c < CASES; c++)
             printf(" %.2f |", rate[ratios[r].of][c] / rate[ratios[r].by][c]);
     }
+    for (size_t r = 0; r < sizeof ratios / sizeof *ratios; r++) {
+        printf("\n| %s, median of the rounds |", ratios[r].name);
+        for (int c = 0; c < CASES; c++)
+            printf(" %.2f |", paired(rates + (ratios[r].of * CASES + c) * rounds, rates + (ratios[r].by * CASES + c) * rounds, rounds));
+    }
     printf("\n");
 
-    /* Each short length by itself, by the same figure. */
+    /* Each short length by itself, by the median of the rounds. All lengths are taken in each round, so that a while in
+       which the machine is slow falls on all of them alike. */
+    static double *ours[64], *theirs[64];
+    for (size_t n = 1; n < 64; n++)
+        if (!(ours[n] = malloc(sizeof(double) * (size_t)rounds)) || !(theirs[n] = malloc(sizeof(double) * (size_t)rounds)))
+            return 1;
+    for (int round = 0; round < rounds; round++)
+        for (size_t n = 1; n < 64; n++) {
+            ours[n][round] = measured(&ways[0], n, stayed, 1);
+            theirs[n][round] = measured(&ways[4], n, stayed, 1);
+        }
     int slower = 0;
     double least = 1e9;
     for (size_t n = 1; n < 64; n++) {
-        double *ours = rates, *theirs = rates + rounds;
-        for (int round = 0; round < rounds; round++) {
-            ours[round] = measured(&ways[0], n, stayed, 1);
-            theirs[round] = measured(&ways[4], n, stayed, 1);
-        }
-        double ratio = figure(ours, rounds) / figure(theirs, rounds);
+        double ratio = paired(ours[n], theirs[n], rounds);
         if (ratio < 1) {
             slower++;
             printf("%zu bytes: %.2f of slicing-by-16 after a test for null\n", n, ratio);

@@ -3,7 +3,7 @@
 ghost use Rattle.std.specs.Prelude.{◌≡◌, ◌<◌, ◌≤◌, ◌+◌, length, nat_lt, sum_by, All};
 ghost use Rattle.std.specs.List.{list_any};
 ghost use Rattle.volume_table.specs.Entries.{IsInRange, entry_len, extents};
-ghost use Rattle.volume_table.specs.Faults.{do_any_meet, fault_of, is_before_start, is_of_other_size, is_of_other_type, is_overlapping, is_past_end, is_type, is_unknown, table_fault, volume_type};
+ghost use Rattle.volume_table.specs.Faults.{do_any_meet, fault_of, is_before_start, is_of_other_size, is_of_other_type, is_past_end, is_type, is_unknown, table_fault, volume_type};
 
 use crate::device::{DeviceInfo, device};
 use crate::entry::Entry;

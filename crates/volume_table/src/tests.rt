@@ -292,6 +292,28 @@ fn lies(rt: &impl Abort, table: &VolumeTable, v: u64, dev: u32, lba: u64, run: u
     table.place(v) == (dev, lba) && table.run_from(v) == run
 }
 
+// Addresses 0 to 7 and 4 to 11 of a device of 256 blocks.
+#[test]
+fn refuses_a_block_of_two_entries(rt: HostRuntime) -> Result<(), AllocError> {
+    let a = rt.alloc();
+    let device = [DeviceInfo {
+        ty: PiType::One,
+        blocks: 256,
+        size: 512,
+        first: 0,
+    }];
+    let entries = vec![in a; linear(0, 8, 0, 0), linear(8, 8, 0, 4)]?;
+    let named = matches!(
+        table(&rt, a, entries, &device),
+        Err(VolumeFault::At {
+            entry: 2,
+            kind: VolumeKind::Overlap,
+        })
+    );
+    assert!(rt; named);
+    Ok(())
+}
+
 // Blocks 0 to 3 lie at 104 to 107, and 4 to 7 at 100 to 103.
 #[test]
 fn lays_linear_entries(rt: HostRuntime) -> Result<(), AllocError> {
