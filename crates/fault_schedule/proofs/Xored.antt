@@ -1,14 +1,13 @@
-use Rattle.std.proofs.Common.{ℕ, zero, suc, ◌≡◌, inl, inr, ◌+◌, ◌-◌, ◌<◌, ◌≤◌, List, [], ◌∷◌, ◌++◌, length, get_or, set, take, refl, sym, arith, bit_xor, min, ap, ◌∙◌, true, false, ℤ, drop, drop-cons, add-one, zero-add}
+use Rattle.std.proofs.Common.{ℕ, zero, suc, ◌≡◌, inl, inr, ◌+◌, ◌-◌, ◌<◌, ◌≤◌, List, [], ◌∷◌, length, get_or, set, take, refl, sym, arith, bit_xor, min, ap, ◌∙◌, true, false, ℤ, drop, drop-cons, add-one}
 use Rattle.std.proofs.lemmas.List.{same_lists, get_or_default, take_all, drop_all, get_or-set_other, get_or-set_same}
 use Rattle.std.proofs.lemmas.Bool.{cases_eq}
 use Rattle.std.proofs.lemmas.Grind.{common_steps}
-use Rattle.std.proofs.lemmas.Nat.{xor_comm}
 use Rattle.std.specs.Int.Bits.{xor_assoc, xor_zero_r}
 use Rattle.fault_schedule.specs.declared.fault.Crossing.{Crossing}
 use Rattle.fault_schedule.specs.declared.fault.FaultKind.TheVariants.{Shift}
 use Rattle.fault_schedule.specs.declared.fault.FaultLine.{FaultLine}
 use Rattle.fault_schedule.specs.declared.Label.{Label}
-use Rattle.fault_schedule.specs.Altered.{ActsAnywhere, Altered, altered, byte_at, is_line_of, named, named_by, xored_from}
+use Rattle.fault_schedule.specs.Altered.{altered, byte_at, is_line_of, named, named_by, xored_from}
 
 pub length-xored : (name : ℕ → ℕ) (i : ℕ) (xs : List ℕ) → length (xored_from name i xs) ≡ length xs
 length-xored name i [] = refl
@@ -76,21 +75,3 @@ altered-next i line lines at label block next h is e = rw (drop-cons lines i lin
 
 pub none-altered : (i : ℕ) (lines : List FaultLine) (at : Crossing) (label : Label) (block : List ℕ) → length lines ≤ i → altered (drop i lines) at label block ≡ block
 none-altered i lines at label block h = rw (drop_all i lines h) (sym (none-xored _ 0 block (λ k. refl)))
-
-pub altered-is : (lines : List FaultLine) (at : Crossing) (label : Label) (block new : List ℕ) → new ≡ altered lines at label block → Altered lines at label block new
-altered-is lines at label block new e = rw e (length-xored _ _ _, λ i h. get-xored (named lines at label) 0 block i h ∙ ap (λ n. bit_xor (get_or block i 0) (named lines at label n)) (zero-add i))
-
-front-swap : (a b c : ℕ) → bit_xor a (bit_xor b c) ≡ bit_xor b (bit_xor a c)
-front-swap a b c = sym (xor_assoc a b c) ∙ (ap (λ t. bit_xor t c) (xor_comm a b) ∙ xor_assoc b a c)
-
-named-anywhere : (line : FaultLine) (before after : List FaultLine) (at : Crossing) (label : Label) (i : ℕ)
-    → named (before ++ line ∷ after) at label i ≡ bit_xor (named_by line at label i) (named (before ++ after) at label i)
-named-anywhere line [] after at label i = refl
-named-anywhere line (b ∷ before) after at label i = rw (named-anywhere line before after at label i) (front-swap (named_by b at label i) (named_by line at label i) _)
-
-xored-same : (f g : ℕ → ℕ) (i : ℕ) (xs : List ℕ) → ((k : ℕ) → f k ≡ g k) → xored_from f i xs ≡ xored_from g i xs
-xored-same f g i [] same = refl
-xored-same f g i (x ∷ xs) same = rw (same i) (ap (λ t. bit_xor x (g i) ∷ t) (xored-same f g (i + 1) xs same))
-
-pub acts-anywhere : ActsAnywhere
-acts-anywhere line before after at label block = xored-same _ _ 0 block (named-anywhere line before after at label)

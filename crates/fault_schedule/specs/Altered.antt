@@ -1,4 +1,4 @@
-use Rattle.std.specs.Prelude.{ℕ, ◌≡◌, ◌+◌, ◌-◌, ◌<◌, Bool, true, false, ◌&&◌, eqb, leb, if◌then◌else◌, List, [], ◌∷◌, ◌++◌, length, slice_index, ℤ, pos, Option, Some, None, unwrap_or, bit_xor}
+use Rattle.std.specs.Prelude.{ℕ, ◌+◌, ◌-◌, Bool, true, false, ◌&&◌, eqb, leb, if◌then◌else◌, List, [], ◌∷◌, slice_index, ℤ, pos, Option, Some, None, unwrap_or, bit_xor}
 use Rattle.fault_schedule.specs.declared.Label.{Label}
 use Rattle.fault_schedule.specs.declared.fault.Crossing.{Crossing}
 use Rattle.fault_schedule.specs.declared.fault.Crossing.TheVariants.{HostToAdapter, AdapterToTarget, TargetToMedium, MediumToTarget, TargetToAdapter, AdapterToHost}
@@ -38,24 +38,14 @@ abbrev pub named : List FaultLine → Crossing → Label → ℕ → ℕ
 named [] at label i = 0
 named (line ∷ lines) at label i = bit_xor (named_by line at label i) (named lines at label i)
 
--- Each byte of the block is xored with all bytes that the lines name for its place.
-abbrev pub Altered : List FaultLine → Crossing → Label → List ℕ → List ℕ → Type 0
-Altered lines at label old new = (length new ≡ length old)
-    × ((i : ℕ) → i < length old → slice_index new i ≡ bit_xor (slice_index old i) (named lines at label i))
-
 -- the bytes from place i on, each xored with what is named for its place
 abbrev pub xored_from : (ℕ → ℕ) → ℕ → List ℕ → List ℕ
 xored_from name i [] = []
 xored_from name i (byte ∷ bytes) = bit_xor byte (name i) ∷ xored_from name (i + 1) bytes
 
--- the altered block
+-- the block that crossed: each byte is xored with all bytes that the lines name for its place
 abbrev pub altered : List FaultLine → Crossing → Label → List ℕ → List ℕ
 altered lines at label block = xored_from (named lines at label) 0 block
-
--- A line alters the same bytes wherever it stands among the lines.
-abbrev pub ActsAnywhere : Type 0
-ActsAnywhere = (line : FaultLine) (before after : List FaultLine) (at : Crossing) (label : Label) (block : List ℕ)
-    → altered (before ++ line ∷ after) at label block ≡ altered (line ∷ (before ++ after)) at label block
 
 -- what a shift moves an address by
 abbrev pub moved_by : FaultKind → Option ℤ

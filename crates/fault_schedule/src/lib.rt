@@ -10,7 +10,7 @@ mod tests;
 
 pub use fault::{Crossing, FaultKind, FaultLine, FaultList};
 pub use short_bytes::ShortBytes;
-pub use tamper::{Tamper, lines_act_in_any_order};
+pub use tamper::Tamper;
 
 /// Whose block crosses: block `k` of the request in op `op`.
 #[derive(Clone, Copy, Debug, PartialEq, Eq)]

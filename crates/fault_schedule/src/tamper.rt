@@ -1,7 +1,7 @@
 //! The faults of a schedule, as they act on what crosses.
 
 ghost use Rattle.std.specs.Prelude.{◌≡◌};
-ghost use Rattle.fault_schedule.specs.Altered.{ActsAnywhere, Altered, altered, byte_at, is_line_of, named_by, shift_by, shift_of, xored_from};
+ghost use Rattle.fault_schedule.specs.Altered.{altered, byte_at, is_line_of, named_by, shift_by, shift_of, xored_from};
 
 use crate::{Crossing, FaultKind, FaultLine, FaultList, Label};
 use std::marker::Model;
@@ -73,8 +73,7 @@ impl Tamper {
     /// and crossing name for its place. What a flip names past the end of the block alters
     /// nothing. The time is linear in the lines and their bytes.
     pub fn apply(&self, at: Crossing, label: Label, block: &mut [u8])
-        ensures by_byte { Altered self.now at label block.old block.new }
-        ensures whole { block.new ≡ altered self.now at label block.old }
+        ensures { block.new ≡ altered self.now at label block.old }
     {
         for line in self.faults.as_slice() {
             line.apply(at, label, block);
@@ -94,9 +93,3 @@ impl Tamper {
         0
     }
 }
-
-/// A line alters the same bytes wherever it stands among the lines, so their order makes no
-/// difference to a block.
-pub fn lines_act_in_any_order()
-    ensures { ActsAnywhere }
-{}

@@ -1,18 +1,11 @@
 use Rattle.std.proofs.Common.{◌≡◌, ◌∙◌, sym, arith}
-use Rattle.fault_schedule.specs.Altered.{altered}
-use Rattle.fault_schedule.proofs.Xored.{altered-next, none-altered, altered-is}
+use Rattle.fault_schedule.proofs.Xored.{altered-next, none-altered}
 use Rattle.fault_schedule.proofs.tamper.Tamper.apply.Goals as goal
 
 pub loop-line-preserved : goal.loop-line-preserved
 loop-line-preserved c = c.loop-line.invariant ∙ altered-next c.loop-line.line-index c.line-item.result _ _ _ _ _ (omega arith) c.line-item.is c.apply.ensures
 
-whole : (c : goal.After-loop-line) → c.loop-line.block ≡ altered c.args.self.now c.args.at c.args.label c.args.block.now
-whole c =
+pub returns : goal.returns
+returns c =
     let items : c.as_slice-line-items.result.now ≡ c.args.self.now = c.as_slice-line-items.ensures ∙ c.self.view_is in
     sym (rw (← items) (c.loop-line.invariant ∙ none-altered c.loop-line.line-index _ _ _ _ (omega arith)))
-
-pub returns-clause-by_byte : goal.returns-clause-by_byte
-returns-clause-by_byte c = altered-is c.args.self.now c.args.at c.args.label _ _ (whole c)
-
-pub returns-clause-whole : goal.returns-clause-whole
-returns-clause-whole c = whole c
