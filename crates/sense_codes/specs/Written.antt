@@ -36,3 +36,7 @@ is_short (code ∷ rest) =
 -- the fault of bytes that no sense is written as
 abbrev pub fault_of : List ℕ → SenseFault
 fault_of b = if is_short b then Short else Form
+
+abbrev pub fault_number : SenseFault → ℕ
+fault_number Short = 1
+fault_number Form = 2

@@ -1,7 +1,7 @@
 //! The sense of a list of bytes.
 
 ghost use Rattle.std.specs.Prelude.{◌≡◌, ◌<◌, ◌^◌, ℕ, Bool, IfErr, IfOk, None, Ok, Some, false, if◌then◌else◌};
-ghost use Rattle.sense_codes.specs.Written.{Fits, descriptor, fault_of, fixed, is_short, written};
+ghost use Rattle.sense_codes.specs.Written.{Fits, descriptor, fault_number, fault_of, fixed, is_short, written};
 ghost use Rattle.sense_codes.specs.declared.Sense.{Sense};
 
 use crate::Sense;
@@ -13,6 +13,18 @@ pub enum SenseFault {
     Short,
     /// No sense is written like this.
     Form,
+}
+
+impl SenseFault {
+    /// 1 for too few bytes, 2 for what no sense is written like.
+    pub fn number(self) -> u8
+        ensures { result ≡ fault_number self }
+    {
+        match self {
+            SenseFault::Short => 1,
+            SenseFault::Form => 2,
+        }
+    }
 }
 
 fn is_cut(bytes: &[u8]) -> bool

@@ -1,29 +1,19 @@
 //! The bytes of sense data.
 
-ghost use Rattle.std.specs.Prelude.{◌≡◌, ◌+◌, ◌≤◌, ◌<◌, ◌++◌, length};
-ghost use Rattle.arrayvec.specs.ArrayVec.{array_vec_len};
+ghost use Rattle.std.specs.Prelude.{◌≡◌, ◌<◌};
 ghost use Rattle.sense_codes.specs.Written.{descriptor, fixed, written};
 
 use crate::Sense;
 use arrayvec::ArrayVec;
 
-fn append(out: &mut ArrayVec<u8, 20>, part: &[u8])
-    requires { array_vec_len out.old + length part.now ≤ 20 }
-    ensures { out.new.items ≡ out.old.items ++ part.now }
-{
-    match out.try_extend_from_slice(part) {
-        Ok(()) => {}
-        Err(_) => unreachable!(),
-    }
-}
-
 fn in_fixed(response: u8, info: u32, s: &Sense) -> ArrayVec<u8, 20>
     ensures { result.items ≡ fixed response info s.now }
 {
     let mut out = ArrayVec::new();
-    append(&mut out, &[response, 0, s.key]);
-    append(&mut out, &info.to_be_bytes());
-    append(&mut out, &[0x0A, 0, 0, 0, 0, s.asc, s.ascq, 0, 0, 0, 0]);
+    out.try_extend_from_slice(&[response, 0, s.key]).unwrap();
+    out.try_extend_from_slice(&info.to_be_bytes()).unwrap();
+    out.try_extend_from_slice(&[0x0A, 0, 0, 0, 0, s.asc, s.ascq, 0, 0, 0, 0])
+        .unwrap();
     out
 }
 
@@ -31,9 +21,10 @@ fn in_descriptor(info: u64, s: &Sense) -> ArrayVec<u8, 20>
     ensures { result.items ≡ descriptor info s.now }
 {
     let mut out = ArrayVec::new();
-    append(&mut out, &[0x72, s.key, s.asc, s.ascq, 0, 0, 0, 0x0C]);
-    append(&mut out, &[0, 0x0A, 0x80, 0]);
-    append(&mut out, &info.to_be_bytes());
+    out.try_extend_from_slice(&[0x72, s.key, s.asc, s.ascq, 0, 0, 0, 0x0C])
+        .unwrap();
+    out.try_extend_from_slice(&[0, 0x0A, 0x80, 0]).unwrap();
+    out.try_extend_from_slice(&info.to_be_bytes()).unwrap();
     out
 }
 

@@ -175,6 +175,12 @@ fn refuses_other_bytes(rt: HostRuntime) {
 }
 
 #[test]
+fn numbers_its_faults(rt: HostRuntime) {
+    assert_eq!(rt; SenseFault::Short.number(), 1);
+    assert_eq!(rt; SenseFault::Form.number(), 2);
+}
+
+#[test]
 fn tells_the_layer_and_the_check(rt: HostRuntime) {
     let rows = [
         (0x05, 0x10, 0x01, Some((Layer::Adapter, Check::Guard))),
