@@ -1,4 +1,4 @@
+pub mod Decoded
 pub mod Faults
 pub mod Forms
-pub mod Places
 pub mod Rule

@@ -1,32 +1,23 @@
 //! The bytes of a command.
 
-ghost use Rattle.std.specs.Prelude.{◌≡◌, ◌+◌, ◌≤◌, ◌++◌, length};
-ghost use Rattle.arrayvec.specs.ArrayVec.{array_vec_len};
+ghost use Rattle.std.specs.Prelude.{◌≡◌};
 ghost use Rattle.cdb_codec.specs.Forms.{Fits, FitsTen, FitsSixteen, FitsThirtyTwo, capacity, form, sixteen, ten, thirty_two};
 
 use crate::{Cdb, Rw};
 use arrayvec::ArrayVec;
-
-fn append(out: &mut ArrayVec<u8, 32>, part: &[u8])
-    requires { array_vec_len out.old + length part.now ≤ 32 }
-    ensures { out.new.items ≡ out.old.items ++ part.now }
-{
-    match out.try_extend_from_slice(part) {
-        Ok(()) => {}
-        Err(_) => unreachable!(),
-    }
-}
 
 fn in_ten(op: u8, c: &Rw) -> ArrayVec<u8, 32>
     requires { FitsTen c.now }
     ensures { result.items ≡ ten op c.now }
 {
     let mut out = ArrayVec::new();
-    append(&mut out, &[op, c.protect << 5]);
-    append(&mut out, &(c.lba as u32).to_be_bytes());
-    append(&mut out, &[0]);
-    append(&mut out, &(c.n as u16).to_be_bytes());
-    append(&mut out, &[0]);
+    out.try_extend_from_slice(&[op, c.protect << 5]).unwrap();
+    out.try_extend_from_slice(&(c.lba as u32).to_be_bytes())
+        .unwrap();
+    out.try_extend_from_slice(&[0]).unwrap();
+    out.try_extend_from_slice(&(c.n as u16).to_be_bytes())
+        .unwrap();
+    out.try_extend_from_slice(&[0]).unwrap();
     out
 }
 
@@ -35,10 +26,10 @@ fn in_sixteen(op: u8, c: &Rw) -> ArrayVec<u8, 32>
     ensures { result.items ≡ sixteen op c.now }
 {
     let mut out = ArrayVec::new();
-    append(&mut out, &[op, c.protect << 5]);
-    append(&mut out, &c.lba.to_be_bytes());
-    append(&mut out, &c.n.to_be_bytes());
-    append(&mut out, &[0, 0]);
+    out.try_extend_from_slice(&[op, c.protect << 5]).unwrap();
+    out.try_extend_from_slice(&c.lba.to_be_bytes()).unwrap();
+    out.try_extend_from_slice(&c.n.to_be_bytes()).unwrap();
+    out.try_extend_from_slice(&[0, 0]).unwrap();
     out
 }
 
@@ -47,13 +38,14 @@ fn in_thirty_two(action: u8, c: &Rw) -> ArrayVec<u8, 32>
     ensures { result.items ≡ thirty_two action c.now }
 {
     let mut out = ArrayVec::new();
-    append(&mut out, &[0x7F, 0, 0, 0, 0, 0, 0, 0x18, 0, action]);
-    append(&mut out, &[c.protect << 5, 0]);
-    append(&mut out, &c.lba.to_be_bytes());
-    append(&mut out, &c.rtag.to_be_bytes());
-    append(&mut out, &c.app.to_be_bytes());
-    append(&mut out, &c.mask.to_be_bytes());
-    append(&mut out, &c.n.to_be_bytes());
+    out.try_extend_from_slice(&[0x7F, 0, 0, 0, 0, 0, 0, 0x18, 0, action])
+        .unwrap();
+    out.try_extend_from_slice(&[c.protect << 5, 0]).unwrap();
+    out.try_extend_from_slice(&c.lba.to_be_bytes()).unwrap();
+    out.try_extend_from_slice(&c.rtag.to_be_bytes()).unwrap();
+    out.try_extend_from_slice(&c.app.to_be_bytes()).unwrap();
+    out.try_extend_from_slice(&c.mask.to_be_bytes()).unwrap();
+    out.try_extend_from_slice(&c.n.to_be_bytes()).unwrap();
     out
 }
 
@@ -61,9 +53,10 @@ fn in_capacity(alloc_len: u32) -> ArrayVec<u8, 32>
     ensures { result.items ≡ capacity alloc_len }
 {
     let mut out = ArrayVec::new();
-    append(&mut out, &[0x9E, 0x10, 0, 0, 0, 0, 0, 0, 0, 0]);
-    append(&mut out, &alloc_len.to_be_bytes());
-    append(&mut out, &[0, 0]);
+    out.try_extend_from_slice(&[0x9E, 0x10, 0, 0, 0, 0, 0, 0, 0, 0])
+        .unwrap();
+    out.try_extend_from_slice(&alloc_len.to_be_bytes()).unwrap();
+    out.try_extend_from_slice(&[0, 0]).unwrap();
     out
 }
 

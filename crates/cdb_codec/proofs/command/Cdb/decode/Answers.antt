@@ -1,5 +1,26 @@
-use Rattle.cdb_codec.proofs.Only.{only_one}
+use Rattle.std.proofs.Common.{◌≡◌, ◌∙◌, Err, Result, ap, rules, sym}
+use Rattle.cdb_codec.specs.declared.command.Cdb.{Cdb}
+use Rattle.cdb_codec.specs.declared.command.CdbFault.{CdbFault}
+use Rattle.cdb_codec.specs.declared.command.CdbFault.TheVariants.{Field}
+use Rattle.cdb_codec.specs.Decoded.{decoded}
+use Rattle.cdb_codec.specs.Forms.{Fits, form}
+use Rattle.cdb_codec.proofs.Inverse.{decoded_form, is_form as form_of}
 use Rattle.cdb_codec.proofs.command.Cdb.decode.Goals as goal
 
-pub returns-clause-only : goal.returns-clause-only
-returns-clause-only c = only_one c.args.bytes.now c.command_of.result c.command_of.ensures.found c.command_of.ensures.fault
+fits : (c : goal.Else-ne) → Fits c.in_ok-cdb.cdb
+fits c = c.in_ok-cdb.ensures.fits (search rules)
+
+is_form : (c : goal.Else-ne) → c.args.bytes.now ≡ form c.in_ok-cdb.cdb
+is_form c = form_of c.as_slice.result.now c.args.bytes.now c.in_ok-cdb.cdb (c.as_slice.ensures.value ∙ c.encode.ensures) c.if-ne.ensures
+
+pub returns-clause-found : goal.returns-clause-found
+returns-clause-found c = (fits c, is_form c)
+
+pub returns-clause-value : goal.returns-clause-value
+returns-clause-value c = sym (ap decoded (is_form c) ∙ decoded_form c.in_ok-cdb.cdb (fits c))
+
+is_field : (c : goal.Joined-then-not-has_served_protect) → ◌≡◌ {A = Result Cdb CdbFault} (Err Field) (decoded c.args.bytes.now)
+is_field c = search rules
+
+pub returns-then-not-has_served_protect-clause-only : goal.returns-then-not-has_served_protect-clause-only
+returns-then-not-has_served_protect-clause-only c d f e = is_field c ∙ ap decoded e ∙ decoded_form d f
