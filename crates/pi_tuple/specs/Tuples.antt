@@ -1,4 +1,4 @@
-use Rattle.std.specs.Prelude.{ℕ, List, [], ◌∷◌, ◌++◌, slice_index}
+use Rattle.std.specs.Prelude.{ℕ, ◌%◌, ◌^◌, List, [], ◌∷◌, ◌++◌, slice_index}
 use Rattle.std.specs.Int.{w16, w32, to_be_bytes, from_be_bytes}
 use Rattle.pi_tuple.specs.declared.tuple.Tuple.{Tuple}
 
@@ -13,3 +13,7 @@ tuple_in b = record {
   app = from_be_bytes w16 (slice_index b 2 ∷ slice_index b 3 ∷ []);
   rtag = from_be_bytes w32 (slice_index b 4 ∷ slice_index b 5 ∷ slice_index b 6 ∷ slice_index b 7 ∷ []);
 }
+
+-- the reference tag that names an LBA: its low 32 bits
+abbrev pub ref_tag : ℕ → ℕ
+ref_tag lba = lba % 2 ^ 32

@@ -1,9 +1,9 @@
 //! Which tuples are checked, and what a check finds.
 
 ghost use Rattle.std.specs.Prelude.{◌≡◌};
-ghost use Rattle.pi_tuple.specs.Finds.{finding, is_escaped, has_reference};
+ghost use Rattle.pi_tuple.specs.Finds.{finding, has_ref_tag, is_escaped, own_tag};
 
-use crate::Tuple;
+use crate::{Tuple, ref_tag};
 
 /// A unit's protection type (SBC-3, 4.22.2). `Zero` is a unit without protection.
 #[derive(Clone, Copy, Debug, PartialEq, Eq)]
@@ -56,13 +56,22 @@ pub fn is_escape(t: Tuple, ty: PiType) -> bool
     }
 }
 
-fn has_ref(ty: PiType) -> bool
-    ensures { result ≡ has_reference ty }
+/// Whether the reference tag binds a block to an LBA: in the types 1 and 2 (SBC-3, 4.22.2).
+pub fn has_ref_tag(ty: PiType) -> bool
+    ensures { result ≡ has_ref_tag ty }
 {
     match ty {
         PiType::Zero | PiType::Three => false,
         PiType::One | PiType::Two => true,
     }
+}
+
+/// The reference tag that a tuple gets when it is made for the block at this LBA: that of the
+/// LBA in the types 1 and 2, else 0.
+pub fn own_tag(ty: PiType, lba: u64) -> u32
+    ensures { result ≡ own_tag ty lba }
+{
+    if has_ref_tag(ty) { ref_tag(lba) } else { 0 }
 }
 
 /// The first check that finds a difference, in the order guard, application tag, reference tag,
@@ -81,7 +90,7 @@ pub fn finds(ty: PiType, what: Checks, want_ref: u32, data_guard: u16, t: Tuple)
     if t.app & what.mask != what.app & what.mask {
         return Some(Check::AppTag);
     }
-    if what.rtag && has_ref(ty) && t.rtag != want_ref {
+    if what.rtag && has_ref_tag(ty) && t.rtag != want_ref {
         return Some(Check::RefTag);
     }
     None

@@ -5,8 +5,8 @@
 mod checks;
 mod tuple;
 
-pub use checks::{Check, Checks, PiType, finds, is_escape};
-pub use tuple::{Tuple, make};
+pub use checks::{Check, Checks, PiType, finds, has_ref_tag, is_escape, own_tag};
+pub use tuple::{Tuple, make, ref_tag};
 
 #[cfg(test)]
 mod tests;

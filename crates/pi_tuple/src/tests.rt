@@ -1,6 +1,6 @@
 //! Tuples and findings with values worked by hand.
 
-use crate::{Check, Checks, PiType, Tuple, finds, is_escape, make};
+use crate::{Check, Checks, PiType, Tuple, finds, has_ref_tag, is_escape, make, own_tag, ref_tag};
 
 const ALL: Checks = Checks {
     guard: true,
@@ -86,6 +86,22 @@ fn makes_its_fields(rt: HostRuntime) {
     assert_eq!(rt; tuple.guard, 1);
     assert_eq!(rt; tuple.app, 2);
     assert_eq!(rt; tuple.rtag, 3);
+}
+
+// The block at 2^32 + 64h.
+#[test]
+fn tags_a_block_by_its_address(rt: HostRuntime) {
+    assert_eq!(rt; ref_tag(0x1_0000_0064), 0x64);
+    let rows = [
+        (PiType::Zero, false, 0),
+        (PiType::One, true, 0x64),
+        (PiType::Two, true, 0x64),
+        (PiType::Three, false, 0),
+    ];
+    for (kind, has, tag) in rows {
+        assert_eq!(rt; has_ref_tag(kind), has, "{kind:?}");
+        assert_eq!(rt; own_tag(kind, 0x1_0000_0064), tag, "{kind:?}");
+    }
 }
 
 #[test]

@@ -1,7 +1,7 @@
 //! The eight bytes of protection information that travel with a logical block.
 
 ghost use Rattle.std.specs.Prelude.{◌≡◌};
-ghost use Rattle.pi_tuple.specs.Tuples.{tuple_bytes, tuple_in};
+ghost use Rattle.pi_tuple.specs.Tuples.{ref_tag, tuple_bytes, tuple_in};
 
 /// A protection information tuple (SBC-3, 4.22.3): the logical block guard, the logical block
 /// application tag, which belongs to whoever made the tuple, and the logical block reference
@@ -52,4 +52,11 @@ pub fn make(data_guard: u16, app: u16, rtag: u32) -> Tuple
         app,
         rtag,
     }
+}
+
+/// The reference tag that names an LBA, virtual or physical: its low 32 bits (SBC-3, 4.22.2).
+pub fn ref_tag(lba: u64) -> u32
+    ensures { result ≡ ref_tag lba }
+{
+    (lba % 0x1_0000_0000) as u32
 }

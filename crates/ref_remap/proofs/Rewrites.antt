@@ -10,7 +10,7 @@ use Rattle.page_pool.proofs.Placing.{once-apart}
 use Rattle.page_pool.proofs.Spreads.{bytes_stay, others_stay}
 use Rattle.pi_tuple.specs.declared.tuple.Tuple.{Tuple}
 use Rattle.pi_tuple.specs.declared.checks.PiType.{PiType}
-use Rattle.pi_tuple.specs.Finds.{has_reference}
+use Rattle.pi_tuple.specs.Finds.{has_ref_tag}
 use Rattle.pi_tuple.specs.Tuples.{tuple_bytes, tuple_in}
 use Rattle.integrity_payload.specs.Payloads.{tuple_places, tuple_of, HoldsTuple}
 use Rattle.integrity_payload.proofs.Fills.{among-take, among-early, take-sum, still_holds}
@@ -83,7 +83,7 @@ written_at false to b e = e
 pub bytes_are : (old now : List (List ℕ)) (segs : List Seg) (ty : PiType) (k from to : ℕ) → HoldsTuple now segs k (remapped ty from to (tuple_of old segs k)) →
     tuple_bytes (tuple_of old segs k) ≡ bytes_at old (tuple_places segs k) → bytes_at now (tuple_places segs k) ≡ remapped_bytes ty from to (bytes_at old (tuple_places segs k))
 bytes_are old now segs ty k from to h e =
-    h.bytes ∙ written_at (has_reference ty && eqb (tuple_of old segs k).rtag (low_32 from)) (low_32 to) (bytes_at old (tuple_places segs k)) e
+    h.bytes ∙ written_at (has_ref_tag ty && eqb (tuple_of old segs k).rtag (low_32 from)) (low_32 to) (bytes_at old (tuple_places segs k)) e
 
 -- out, once or twice, and back
 
@@ -114,6 +114,6 @@ out-back true v p t = elim (eqb_tells t.rtag v) [
 ]
 
 pub there_and_back : (ty : PiType) (virtual physical : ℕ) (t u : Tuple) → MappedOut ty virtual physical t u → remapped ty physical virtual u ≡ made_virtual ty virtual physical t
-there_and_back ty virtual physical t u (inl e) = ap (remapped ty physical virtual) e ∙ out-back (has_reference ty) (low_32 virtual) (low_32 physical) t
+there_and_back ty virtual physical t u (inl e) = ap (remapped ty physical virtual) e ∙ out-back (has_ref_tag ty) (low_32 virtual) (low_32 physical) t
 there_and_back ty virtual physical t u (inr e) =
-    ap (remapped ty physical virtual) (e ∙ out-twice (has_reference ty) (low_32 virtual) (low_32 physical) t) ∙ out-back (has_reference ty) (low_32 virtual) (low_32 physical) t
+    ap (remapped ty physical virtual) (e ∙ out-twice (has_ref_tag ty) (low_32 virtual) (low_32 physical) t) ∙ out-back (has_ref_tag ty) (low_32 virtual) (low_32 physical) t

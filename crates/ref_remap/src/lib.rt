@@ -9,7 +9,7 @@
 ghost use Rattle.std.specs.Prelude.{◌≡◌, ℕ, ◌+◌, ◌*◌, ◌%◌, ◌<◌, ◌≤◌, ◌^◌};
 ghost use Rattle.page_pool.specs.Pages.{AllLieIn, OthersStay, bytes_at};
 ghost use Rattle.page_pool.specs.Places.{NoneTwice, places_in, range_of};
-ghost use Rattle.pi_tuple.specs.Finds.{has_reference};
+ghost use Rattle.pi_tuple.specs.Finds.{has_ref_tag};
 ghost use Rattle.pi_tuple.specs.declared.tuple.Tuple.{Tuple as AnyTuple};
 ghost use Rattle.integrity_payload.specs.Payloads.{HoldsTuple, IsPayload, tuple_of, tuple_places};
 ghost use Rattle.ref_remap.specs.Remapped.{MappedOut, made_virtual, remapped, remapped_bytes};
@@ -96,7 +96,7 @@ fn remap(t: Tuple, ty: PiType, from: u64, to: u64) -> Tuple
 }
 
 fn has_tag(ty: PiType) -> bool
-    ensures { result ≡ has_reference ty }
+    ensures { result ≡ has_ref_tag ty }
 {
     match ty {
         PiType::One | PiType::Two => true,
