@@ -7,6 +7,7 @@ mod Lookup
 mod Windows
 mod Sparse
 mod Trailing
+mod Debts
 mod Closing
 mod Sums
 mod Runs

@@ -2,7 +2,7 @@
 use Rattle.std.proofs.Common.{◌≡◌, true, refl}
 use Rattle.pi_guard.specs.AfterZeros.{pass}
 use Rattle.pi_guard.specs.Windows.{by_halves}
-use Rattle.pi_guard.specs.declared.vectors.TheConstants.{FROM_48_FIRST_HIGH, FROM_48_FIRST_LOW, FROM_48_SECOND_HIGH, FROM_48_SECOND_LOW, FROM_32_FIRST_HIGH, FROM_32_FIRST_LOW, FROM_32_SECOND_HIGH, FROM_32_SECOND_LOW, FROM_16_FIRST_HIGH, FROM_16_FIRST_LOW, FROM_16_SECOND_HIGH, FROM_16_SECOND_LOW}
+use Rattle.pi_guard.specs.declared.halves.TheConstants.{FROM_48_FIRST_HIGH, FROM_48_FIRST_LOW, FROM_48_SECOND_HIGH, FROM_48_SECOND_LOW, FROM_32_FIRST_HIGH, FROM_32_FIRST_LOW, FROM_32_SECOND_HIGH, FROM_32_SECOND_LOW, FROM_16_FIRST_HIGH, FROM_16_FIRST_LOW, FROM_16_SECOND_HIGH, FROM_16_SECOND_LOW}
 use Rattle.pi_guard.proofs.Folds.{again, half_holds, Splits, splits_by}
 
 by_48-high : half_holds pass 48 1 16 0 FROM_48_FIRST_HIGH FROM_48_SECOND_HIGH ≡ true

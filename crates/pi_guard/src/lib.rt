@@ -3,9 +3,12 @@
 #![tactic(auto)]
 
 mod byte_tables;
+mod halves;
+mod narrow;
 pub mod plain;
 mod slicing;
 mod vectors;
+mod wide;
 mod word_sums;
 
 ghost use Rattle.std.specs.Prelude.{◌≡◌, ℕ, List, [], ◌++◌};

@@ -10,10 +10,15 @@ fn gives_known_guards(rt: HostRuntime) {
         0, 1, 2, 3, 4, 5, 6, 7, 8, 9, 10, 11, 12, 13, 14, 15, 16, 17, 18, 19, 20, 21, 22, 23, 24,
         25, 26, 27, 28, 29, 30, 31,
     ];
+    let falling = [
+        0xFF, 0xFE, 0xFD, 0xFC, 0xFB, 0xFA, 0xF9, 0xF8, 0xF7, 0xF6, 0xF5, 0xF4, 0xF3, 0xF2, 0xF1,
+        0xF0, 0xEF, 0xEE, 0xED, 0xEC, 0xEB, 0xEA, 0xE9, 0xE8, 0xE7, 0xE6, 0xE5, 0xE4, 0xE3, 0xE2,
+        0xE1, 0xE0,
+    ];
     let mut two_ones = [0; 32];
     two_ones[0] = 0xFF;
     two_ones[1] = 0xFF;
-    let rows: [(&[u8], u16); 11] = [
+    let rows: [(&[u8], u16); 12] = [
         (b"123456789", 0xD0DB),
         (&[], 0),
         (&[0; 32], 0),
@@ -24,6 +29,7 @@ fn gives_known_guards(rt: HostRuntime) {
         (&[0xFF; 32], 0xA293),
         (&rising, 0x0224),
         (&two_ones, 0x21B8),
+        (&falling, 0xA0B7),
         (&[0xFF; 512], 0xE6A1),
     ];
     for (bytes, guard) in rows {

@@ -1,0 +1,11 @@
+use Rattle.std.proofs.Common.{take, ap, ◌∙◌}
+use Rattle.pi_guard.specs.Register.{register}
+use Rattle.pi_guard.specs.Trails.{after_128, wide_owed}
+use Rattle.pi_guard.proofs.Windows.{more}
+use Rattle.pi_guard.proofs.wide.trail_after.Goals as goal
+
+pub returns : goal.returns
+unfolding wide_owed
+returns c r h =
+    let xs = c.args.part.now in
+    c.next_trail.ensures (register r (take c.args.at xs)) h ∙ ap after_128 (more r c.args.at xs)
