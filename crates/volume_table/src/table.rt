@@ -4,7 +4,7 @@ ghost use Rattle.std.specs.Prelude.{◌≡◌, ℕ, ◌+◌, ◌<◌, ◌≤◌,
 ghost use Rattle.volume_table.specs.declared.device.DeviceInfo.{DeviceInfo};
 ghost use Rattle.volume_table.specs.declared.fault.VolumeFault.{VolumeFault};
 ghost use Rattle.volume_table.specs.Entries.{IsInRange};
-ghost use Rattle.volume_table.specs.Faults.{table_fault};
+ghost use Rattle.volume_table.specs.Faults.{table_fault, volume_type};
 ghost use Rattle.volume_table.specs.Places.{holder, place_in, run_in, volume_len};
 ghost use Rattle.volume_table.specs.Tables.{EndFits, GoesOn, IsOn, IsTable, MadeFor};
 
@@ -57,6 +57,7 @@ impl VolumeTable {
         ensures fault { (f : VolumeFault) → table_fault entries.now devices.now size ≡ Some f → result ≡ Err f }
         ensures good { table_fault entries.now devices.now size ≡ None → IsOkUnless result VolumeFault.Memory }
         ensures entries { IfOk result (λ t. t.entries ≡ entries.now) }
+        ensures ty { IfOk result (λ t. t.ty ≡ volume_type entries.now devices.now) }
         ensures made { IfOk result (λ t. MadeFor t devices.now size) }
     {
         let list = entries.as_slice();
@@ -102,7 +103,7 @@ impl VolumeTable {
         len
     }
 
-    /// The one type of all devices that an entry names.
+    /// The one type of all devices that an entry names, and `Zero` for a table without entries.
     pub fn ty(&self) -> PiType
         ensures { result ≡ self.now.ty }
     {
