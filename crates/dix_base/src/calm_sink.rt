@@ -1,7 +1,6 @@
 //! A sink that takes everything and never fails.
 
-ghost use Rattle.std.specs.Prelude.{◌≡◌, ◌≤◌, ◌<◌, length, take, None, IfOk, IsOk, OnErr};
-ghost use Rattle.dix_base.specs.Told.{Appended, Rose};
+ghost use Rattle.std.specs.Prelude.{◌≡◌, ◌≤◌, ◌<◌, length, None, IfOk, IsOk};
 
 use crate::{Failed, Sink};
 
@@ -25,8 +24,6 @@ impl Sink for CalmSink {
     fn put(&mut self, bytes: &[u8]) -> Result<usize, Failed>
         ensures bound { IfOk result (λ n. n ≤ length bytes.now) }
         ensures some { IfOk result (λ n. 0 < length bytes.now → 0 < n) }
-        ensures cause { OnErr result (Rose 0 0) }
-        ensures count { 0 ≤ 0 }
 
         ensures calm { IsOk result }
         ensures whole { IfOk result (λ n. n ≡ length bytes.now) }

@@ -1,7 +1,6 @@
 //! A source in memory that never fails.
 
-ghost use Rattle.std.specs.Prelude.{◌≡◌, ◌≤◌, ◌<◌, length, min, take, Some, IfOk, IsOk, OnErr};
-ghost use Rattle.dix_base.specs.Told.{IsAtEnd, Rose, Took};
+ghost use Rattle.std.specs.Prelude.{◌≡◌, ◌≤◌, ◌<◌, ◌++◌, [], drop, length, min, take, Some, IfOk, IsOk};
 
 use crate::{Failed, Source};
 use std::marker::Model;
@@ -41,10 +40,9 @@ impl Source for CalmSource {
     /// Fills the buffer, or as much of it as there are bytes left. It never fails.
     fn take(&mut self, buf: &mut [u8]) -> Result<usize, Failed>
         ensures bound { IfOk result (λ n. n ≤ length buf.old) }
-        ensures taken { IfOk result (λ n. Took (take n buf.new) (Some self.old) (Some self.new)) }
-        ensures end { IfOk result (λ n. n ≡ 0 → 0 < length buf.old → IsAtEnd (Some self.old)) }
-        ensures cause { OnErr result (Rose 0 0) }
-        ensures count { 0 ≤ 0 }
+        ensures taken { IfOk result (λ n. self.old ≡ take n buf.new ++ self.new) }
+        ensures end { IfOk result (λ n. n ≡ 0 → 0 < length buf.old → self.old ≡ []) }
+        ensures rest { IfOk result (λ n. drop n buf.new ≡ drop n buf.old) }
 
         ensures calm { IsOk result }
         ensures most { IfOk result (λ n. n ≡ min (length buf.old) (length self.old)) }

@@ -1,7 +1,7 @@
 //! A store in memory that never fails.
 
-ghost use Rattle.std.specs.Prelude.{◌≡◌, ◌+◌, ◌-◌, ◌^◌, min, ◌≤◌, ◌++◌, [], length, Some, refl, is_some, IfOk, IsErrOf, IsOk, OnOk, OnErr, string_bytes};
-ghost use Rattle.dix_base.specs.Told.{Apart, Becomes, Begins, IsRead, Rose, over};
+ghost use Rattle.std.specs.Prelude.{◌≡◌, ◌+◌, ◌-◌, ◌^◌, min, ◌≤◌, ◌++◌, [], drop, length, take, Some, refl, IfOk, IsErrOf, IsOk, OnOk, string_bytes};
+ghost use Rattle.dix_base.specs.Told.{Apart, Begins, over};
 
 use crate::fault_plan::raise;
 use crate::{Failed, Store, StoreFault};
@@ -71,9 +71,7 @@ impl Store for CalmStore {
     /// Keeps the name, and answers the length in bytes.
     fn open(&mut self, name: String) -> Result<u64, Failed>
         ensures length { IfOk result (λ n. n ≡ length self.new.bytes) }
-        ensures same { Some self.new.bytes ≡ Some self.old.bytes }
-        ensures cause { OnErr result (Rose 0 0) }
-        ensures count { 0 ≤ 0 }
+        ensures same { self.new.bytes ≡ self.old.bytes }
         ensures opened { self.new.openings ≡ min (self.old.openings + 1) (2 ^ 64 - 1) }
         ensures named { self.new.handed ≡ string_bytes name }
 
@@ -86,11 +84,8 @@ impl Store for CalmStore {
 
     /// Keeps the name, and drops all bytes.
     fn reset(&mut self, name: String) -> Result<(), Failed>
-        ensures empty { OnOk result (Becomes (λ old new. new ≡ []) (Some self.old.bytes) (Some self.new.bytes)) }
+        ensures empty { OnOk result (self.new.bytes ≡ []) }
         ensures length { OnOk result (length self.new.bytes ≡ 0) }
-        ensures tells { is_some (Some self.new.bytes) ≡ is_some (Some self.old.bytes) }
-        ensures cause { OnErr result (Rose 0 0) }
-        ensures count { 0 ≤ 0 }
         ensures opened { self.new.openings ≡ min (self.old.openings + 1) (2 ^ 64 - 1) }
         ensures named { self.new.handed ≡ string_bytes name }
 
@@ -105,11 +100,9 @@ impl Store for CalmStore {
     /// Reads the bytes.
     fn read_at(&mut self, at: u64, into: &mut [u8]) -> Result<(), Failed>
         requires { at + length into.old ≤ length self.old.bytes }
-        ensures read { OnOk result (IsRead at (length into.old) into.new (Some self.old.bytes)) }
-        ensures same { Some self.new.bytes ≡ Some self.old.bytes }
+        ensures read { OnOk result (into.new ≡ take (length into.old) (drop at self.old.bytes)) }
+        ensures same { self.new.bytes ≡ self.old.bytes }
         ensures length { length self.new.bytes ≡ length self.old.bytes }
-        ensures cause { OnErr result (Rose 0 0) }
-        ensures count { 0 ≤ 0 }
         ensures named { self.new.handed ≡ self.old.handed }
         ensures opened { self.new.openings ≡ self.old.openings }
 
@@ -123,11 +116,9 @@ impl Store for CalmStore {
     /// Writes the bytes.
     fn write_at(&mut self, at: u64, piece: &[u8]) -> Result<(), Failed>
         requires { at + length piece.now ≤ length self.old.bytes }
-        ensures written { OnOk result (Becomes (λ old new. new ≡ over at piece.now old) (Some self.old.bytes) (Some self.new.bytes)) }
-        ensures apart { Becomes (Apart at (length piece.now)) (Some self.old.bytes) (Some self.new.bytes) }
+        ensures written { OnOk result (self.new.bytes ≡ over at piece.now self.old.bytes) }
+        ensures apart { Apart at (length piece.now) self.old.bytes self.new.bytes }
         ensures length { length self.new.bytes ≡ length self.old.bytes }
-        ensures cause { OnErr result (Rose 0 0) }
-        ensures count { 0 ≤ 0 }
         ensures named { self.new.handed ≡ self.old.handed }
         ensures opened { self.new.openings ≡ self.old.openings }
 
@@ -139,13 +130,12 @@ impl Store for CalmStore {
 
     /// Adds the bytes. Its one failure is want of memory.
     fn append(&mut self, _alloc: Global, piece: &[u8]) -> Result<(), StoreFault>
-        ensures written { OnOk result (Becomes (λ old new. new ≡ old ++ piece.now) (Some self.old.bytes) (Some self.new.bytes)) }
+        ensures written { OnOk result (self.new.bytes ≡ self.old.bytes ++ piece.now) }
         ensures length { OnOk result (length self.new.bytes ≡ length self.old.bytes + length piece.now) }
-        ensures begins { Becomes Begins (Some self.old.bytes) (Some self.new.bytes) }
+        ensures begins { Begins self.old.bytes self.new.bytes }
         ensures more { length self.old.bytes ≤ length self.new.bytes }
         ensures memory { IsErrOf result StoreFault.Memory → self.new ≡ self.old }
         ensures cause { IsErrOf result StoreFault.Failed → ⊥ }
-        ensures count { 0 ≤ 0 }
         ensures named { self.new.handed ≡ self.old.handed }
         ensures opened { self.new.openings ≡ self.old.openings }
     {

@@ -1,8 +1,8 @@
 //! A sink in memory.
 
-ghost use Rattle.std.specs.Prelude.{◌≡◌, ◌≤◌, ◌<◌, ◌+◌, ◌↔◌, ◌⊎◌, [], length, min, take, Some, IfOk, IsErr, OnErr, OnOk};
+ghost use Rattle.std.specs.Prelude.{◌≡◌, ◌≤◌, ◌<◌, ◌+◌, ◌↔◌, ◌⊎◌, ◌++◌, [], length, min, take, Some, IfOk, IsErr, OnErr, OnOk};
 ghost use Rattle.dix_base.specs.Forms.{IsFull, IsNextListed, after_call, after_fault, no_turns};
-ghost use Rattle.dix_base.specs.Told.{Appended, Rose};
+ghost use Rattle.dix_base.specs.Told.{Rose};
 
 use crate::fault_plan::FaultPlan;
 use crate::{Failed, Sink};
@@ -31,7 +31,7 @@ impl Model for MemSink {
 
 impl MemSink {
     /// A sink with room for so many bytes, whose calls of `put` with these numbers, counted from
-    /// 1, fail. All its memory is taken here.
+    /// 1, fail. All its memory is taken here, and the one error is want of it.
     pub fn new(alloc: Global, room: u32, fail: Vec<u64>) -> Result<MemSink, AllocError>
         ensures taken { IfOk result (λ s. s.taken ≡ []) }
         ensures room { IfOk result (λ s. s.room ≡ room) }
@@ -63,8 +63,8 @@ impl Sink for MemSink {
     fn put(&mut self, bytes: &[u8]) -> Result<usize, Failed>
         ensures bound { IfOk result (λ n. n ≤ length bytes.now) }
         ensures some { IfOk result (λ n. 0 < length bytes.now → 0 < n) }
-        ensures taken { IfOk result (λ n. Appended (take n bytes.now) (Some self.old.taken) (Some self.new.taken)) }
-        ensures same { OnErr result (Some self.new.taken ≡ Some self.old.taken) }
+        ensures taken { IfOk result (λ n. self.new.taken ≡ self.old.taken ++ take n bytes.now) }
+        ensures same { OnErr result (self.new.taken ≡ self.old.taken) }
         ensures cause { OnErr result (Rose self.old.turns.faults self.new.turns.faults) }
         ensures count { self.old.turns.faults ≤ self.new.turns.faults }
 

@@ -1,8 +1,8 @@
 //! A source in memory that fails at the calls of a list.
 
-ghost use Rattle.std.specs.Prelude.{◌≡◌, ◌≤◌, ◌<◌, ◌↔◌, length, min, take, Some, IfOk, IsErr, OnErr, OnOk};
+ghost use Rattle.std.specs.Prelude.{◌≡◌, ◌≤◌, ◌<◌, ◌↔◌, ◌++◌, [], drop, length, min, take, Some, IfOk, IsErr, OnErr, OnOk};
 ghost use Rattle.dix_base.specs.Forms.{IsNextListed, after_call, after_fault, no_turns};
-ghost use Rattle.dix_base.specs.Told.{IsAtEnd, Rose, Took};
+ghost use Rattle.dix_base.specs.Told.{Rose};
 
 use crate::fault_plan::FaultPlan;
 use crate::{CalmSource, Failed, Source};
@@ -45,8 +45,10 @@ impl Source for MemSource {
     /// and all that was left is left.
     fn take(&mut self, buf: &mut [u8]) -> Result<usize, Failed>
         ensures bound { IfOk result (λ n. n ≤ length buf.old) }
-        ensures taken { IfOk result (λ n. Took (take n buf.new) (Some self.old.left) (Some self.new.left)) }
-        ensures end { IfOk result (λ n. n ≡ 0 → 0 < length buf.old → IsAtEnd (Some self.old.left)) }
+        ensures taken { IfOk result (λ n. self.old.left ≡ take n buf.new ++ self.new.left) }
+        ensures rest { IfOk result (λ n. drop n buf.new ≡ drop n buf.old) }
+        ensures end { IfOk result (λ n. n ≡ 0 → 0 < length buf.old → self.old.left ≡ []) }
+        ensures kept { OnErr result (self.new.left ≡ self.old.left) }
         ensures cause { OnErr result (Rose self.old.turns.faults self.new.turns.faults) }
         ensures count { self.old.turns.faults ≤ self.new.turns.faults }
 
@@ -54,7 +56,7 @@ impl Source for MemSource {
         ensures most { IfOk result (λ n. n ≡ min (length buf.old) (length self.old.left)) }
         ensures passed { OnOk result (self.new.turns ≡ after_call self.old.turns) }
         ensures failed { OnErr result (self.new.turns ≡ after_fault self.old.turns) }
-        ensures same { OnErr result (self.new.left ≡ self.old.left) }
+        ensures buffer { OnErr result (buf.new ≡ buf.old) }
     {
         self.plan.turn(false)?;
         self.calm.take(buf)

@@ -1,8 +1,8 @@
 //! A store in memory that fails at the calls of a list.
 
-ghost use Rattle.std.specs.Prelude.{◌≡◌, ◌+◌, ◌-◌, ◌/◌, ◌^◌, min, ◌≤◌, ◌++◌, ◌↔◌, [], length, take, Some, refl, is_some, IfOk, IsErr, IsErrOf, IsOk, OnOk, OnErr, string_bytes};
+ghost use Rattle.std.specs.Prelude.{◌≡◌, ◌+◌, ◌-◌, ◌/◌, ◌^◌, min, ◌≤◌, ◌++◌, ◌↔◌, [], drop, length, take, Some, refl, IfOk, IsErr, IsErrOf, IsOk, OnOk, OnErr, string_bytes};
 ghost use Rattle.dix_base.specs.Forms.{IsNextListed, after_call, after_fault, no_turns};
-ghost use Rattle.dix_base.specs.Told.{Apart, Becomes, Begins, IsRead, Rose, over};
+ghost use Rattle.dix_base.specs.Told.{Apart, Begins, Rose, over};
 
 use crate::fault_plan::FaultPlan;
 use crate::{CalmStore, Failed, Store, StoreFault};
@@ -64,9 +64,7 @@ impl Store for MemStore {
     /// Keeps the name, and answers the length in bytes. It never fails.
     fn open(&mut self, name: String) -> Result<u64, Failed>
         ensures length { IfOk result (λ n. n ≡ length self.new.bytes) }
-        ensures same { Some self.new.bytes ≡ Some self.old.bytes }
-        ensures cause { OnErr result (Rose self.old.turns.faults self.new.turns.faults) }
-        ensures count { self.old.turns.faults ≤ self.new.turns.faults }
+        ensures same { self.new.bytes ≡ self.old.bytes }
         ensures opened { self.new.openings ≡ min (self.old.openings + 1) (2 ^ 64 - 1) }
         ensures named { self.new.handed ≡ string_bytes name }
 
@@ -78,9 +76,8 @@ impl Store for MemStore {
 
     /// Keeps the name, and drops all bytes. A call that is listed fails, and keeps them.
     fn reset(&mut self, name: String) -> Result<(), Failed>
-        ensures empty { OnOk result (Becomes (λ old new. new ≡ []) (Some self.old.bytes) (Some self.new.bytes)) }
+        ensures empty { OnOk result (self.new.bytes ≡ []) }
         ensures length { OnOk result (length self.new.bytes ≡ 0) }
-        ensures tells { is_some (Some self.new.bytes) ≡ is_some (Some self.old.bytes) }
         ensures cause { OnErr result (Rose self.old.turns.faults self.new.turns.faults) }
         ensures count { self.old.turns.faults ≤ self.new.turns.faults }
         ensures opened { self.new.openings ≡ min (self.old.openings + 1) (2 ^ 64 - 1) }
@@ -98,11 +95,11 @@ impl Store for MemStore {
         self.calm.reset(name)
     }
 
-    /// Reads the bytes. A call that is listed fails.
+    /// Reads the bytes. A call that is listed fails, and leaves the buffer as it was.
     fn read_at(&mut self, at: u64, into: &mut [u8]) -> Result<(), Failed>
         requires { at + length into.old ≤ length self.old.bytes }
-        ensures read { OnOk result (IsRead at (length into.old) into.new (Some self.old.bytes)) }
-        ensures same { Some self.new.bytes ≡ Some self.old.bytes }
+        ensures read { OnOk result (into.new ≡ take (length into.old) (drop at self.old.bytes)) }
+        ensures same { self.new.bytes ≡ self.old.bytes }
         ensures length { length self.new.bytes ≡ length self.old.bytes }
         ensures cause { OnErr result (Rose self.old.turns.faults self.new.turns.faults) }
         ensures count { self.old.turns.faults ≤ self.new.turns.faults }
@@ -112,6 +109,7 @@ impl Store for MemStore {
         ensures listed { IsErr result ↔ IsNextListed self.old.turns }
         ensures passed { OnOk result (self.new.turns ≡ after_call self.old.turns) }
         ensures failed { OnErr result (self.new.turns ≡ after_fault self.old.turns) }
+        ensures buffer { OnErr result (into.new ≡ into.old) }
     {
         self.plan.turn(false)?;
         self.calm.read_at(at, into)
@@ -120,8 +118,8 @@ impl Store for MemStore {
     /// Writes the bytes. A call that is listed fails, and has written the first half of them.
     fn write_at(&mut self, at: u64, piece: &[u8]) -> Result<(), Failed>
         requires { at + length piece.now ≤ length self.old.bytes }
-        ensures written { OnOk result (Becomes (λ old new. new ≡ over at piece.now old) (Some self.old.bytes) (Some self.new.bytes)) }
-        ensures apart { Becomes (Apart at (length piece.now)) (Some self.old.bytes) (Some self.new.bytes) }
+        ensures written { OnOk result (self.new.bytes ≡ over at piece.now self.old.bytes) }
+        ensures apart { Apart at (length piece.now) self.old.bytes self.new.bytes }
         ensures length { length self.new.bytes ≡ length self.old.bytes }
         ensures cause { OnErr result (Rose self.old.turns.faults self.new.turns.faults) }
         ensures count { self.old.turns.faults ≤ self.new.turns.faults }
@@ -141,9 +139,9 @@ impl Store for MemStore {
     /// Adds the bytes. A call that is listed fails, and has added the first half of them. Where
     /// there is no memory for what it adds, the call isn't counted.
     fn append(&mut self, alloc: Global, piece: &[u8]) -> Result<(), StoreFault>
-        ensures written { OnOk result (Becomes (λ old new. new ≡ old ++ piece.now) (Some self.old.bytes) (Some self.new.bytes)) }
+        ensures written { OnOk result (self.new.bytes ≡ self.old.bytes ++ piece.now) }
         ensures length { OnOk result (length self.new.bytes ≡ length self.old.bytes + length piece.now) }
-        ensures begins { Becomes Begins (Some self.old.bytes) (Some self.new.bytes) }
+        ensures begins { Begins self.old.bytes self.new.bytes }
         ensures more { length self.old.bytes ≤ length self.new.bytes }
         ensures memory { IsErrOf result StoreFault.Memory → self.new ≡ self.old }
         ensures cause { IsErrOf result StoreFault.Failed → Rose self.old.turns.faults self.new.turns.faults }

@@ -1,6 +1,6 @@
 //! Where bytes go.
 
-ghost use Rattle.std.specs.Prelude.{◌≡◌, ◌≤◌, ◌<◌, ℕ, List, length, take, Option, IfOk, OnErr};
+ghost use Rattle.std.specs.Prelude.{◌≡◌, ◌≤◌, ◌<◌, ℕ, List, length, take, Option, IfOk, OnErr, OnOk};
 ghost use Rattle.dix_base.specs.Told.{Appended, Rose};
 
 use crate::Failed;
@@ -20,6 +20,7 @@ pub trait Sink {
         ensures some { IfOk result (λ n. 0 < length bytes.now → 0 < n) }
         ensures taken { IfOk result (λ n. Appended (take n bytes.now) (taken self.old) (taken self.new)) }
         ensures same { OnErr result (taken self.new ≡ taken self.old) }
+        ensures calm { OnOk result (faults self.new ≡ faults self.old) }
         ensures cause { OnErr result (Rose (faults self.old) (faults self.new)) }
         ensures count { faults self.old ≤ faults self.new };
 }

@@ -1,6 +1,6 @@
 //! Standard input as a source.
 
-ghost use Rattle.std.specs.Prelude.{◌≡◌, ◌≤◌, None, IfOk, OnErr, OnOk, length};
+ghost use Rattle.std.specs.Prelude.{◌≡◌, ◌≤◌, None, IfOk, OnErr, OnOk, drop, length};
 ghost use Rattle.dix_base.specs.Forms.{one_more};
 ghost use Rattle.dix_base.specs.Told.{Rose};
 
@@ -41,16 +41,21 @@ impl Source for StdinSource {
 
     ghost faults = { λ s. s };
 
-    /// Makes one read.
+    /// Makes one read, of at most 4,096 bytes. It reads into a buffer of its own, since a read says
+    /// nothing of what it leaves past the bytes that came.
     fn take(&mut self, buf: &mut [u8]) -> Result<usize, Failed>
         ensures bound { IfOk result (λ n. n ≤ length buf.old) }
+        ensures rest { IfOk result (λ n. drop n buf.new ≡ drop n buf.old) }
         ensures cause { OnErr result (Rose self.old self.new) }
         ensures count { self.old ≤ self.new }
 
         ensures passed { OnOk result (self.new ≡ self.old) }
         ensures failed { OnErr result (self.new ≡ one_more self.old) }
     {
-        if let Ok(n) = self.input.read(buf) {
+        let mut came = [0u8; 4096];
+        let most = buf.len().min(came.len());
+        if let Ok(n) = self.input.read(&mut came[..most]) {
+            buf[..n].copy_from_slice(&came[..n]);
             return Ok(n);
         }
         raise(&mut self.faults);

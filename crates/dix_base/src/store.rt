@@ -27,6 +27,7 @@ pub trait Store {
     fn open(&mut self, name: String) -> Result<u64, Failed>
         ensures length { IfOk result (λ n. n ≡ len self.new) }
         ensures same { bytes self.new ≡ bytes self.old }
+        ensures calm { OnOk result (faults self.new ≡ faults self.old) }
         ensures cause { OnErr result (Rose (faults self.old) (faults self.new)) }
         ensures count { faults self.old ≤ faults self.new }
         ensures opened { openings self.new ≡ min (openings self.old + 1) (2 ^ 64 - 1) }
@@ -37,29 +38,33 @@ pub trait Store {
         ensures empty { OnOk result (Becomes (λ old new. new ≡ []) (bytes self.old) (bytes self.new)) }
         ensures length { OnOk result (len self.new ≡ 0) }
         ensures tells { is_some (bytes self.new) ≡ is_some (bytes self.old) }
+        ensures calm { OnOk result (faults self.new ≡ faults self.old) }
         ensures cause { OnErr result (Rose (faults self.old) (faults self.new)) }
         ensures count { faults self.old ≤ faults self.new }
         ensures opened { openings self.new ≡ min (openings self.old + 1) (2 ^ 64 - 1) }
         ensures named { handed self.new ≡ string_bytes name };
 
-    /// Fills `into` with the bytes from byte `at` on.
+    /// Fills `into` with the bytes from byte `at` on. They lie inside the length. A call that fails
+    /// may leave anything in `into`.
     fn read_at(&mut self, at: u64, into: &mut [u8]) -> Result<(), Failed>
         requires { at + length into.old ≤ len self.old }
         ensures read { OnOk result (IsRead at (length into.old) into.new (bytes self.old)) }
         ensures same { bytes self.new ≡ bytes self.old }
         ensures length { len self.new ≡ len self.old }
+        ensures calm { OnOk result (faults self.new ≡ faults self.old) }
         ensures cause { OnErr result (Rose (faults self.old) (faults self.new)) }
         ensures count { faults self.old ≤ faults self.new }
         ensures named { handed self.new ≡ handed self.old }
         ensures opened { openings self.new ≡ openings self.old };
 
-    /// Writes the bytes over those from byte `at` on. A call that fails may leave anything in
-    /// their place, and leaves all else.
+    /// Writes the bytes over those from byte `at` on, which lie inside the length. A call that fails
+    /// may leave anything in their place, and leaves all else.
     fn write_at(&mut self, at: u64, piece: &[u8]) -> Result<(), Failed>
         requires { at + length piece.now ≤ len self.old }
         ensures written { OnOk result (Becomes (λ old new. new ≡ over at piece.now old) (bytes self.old) (bytes self.new)) }
         ensures apart { Becomes (Apart at (length piece.now)) (bytes self.old) (bytes self.new) }
         ensures length { len self.new ≡ len self.old }
+        ensures calm { OnOk result (faults self.new ≡ faults self.old) }
         ensures cause { OnErr result (Rose (faults self.old) (faults self.new)) }
         ensures count { faults self.old ≤ faults self.new }
         ensures named { handed self.new ≡ handed self.old }
@@ -73,6 +78,7 @@ pub trait Store {
         ensures begins { Becomes Begins (bytes self.old) (bytes self.new) }
         ensures more { len self.old ≤ len self.new }
         ensures memory { IsErrOf result StoreFault.Memory → (bytes self.new ≡ bytes self.old) × (len self.new ≡ len self.old) × (faults self.new ≡ faults self.old) }
+        ensures calm { OnOk result (faults self.new ≡ faults self.old) }
         ensures cause { IsErrOf result StoreFault.Failed → Rose (faults self.old) (faults self.new) }
         ensures count { faults self.old ≤ faults self.new }
         ensures named { handed self.new ≡ handed self.old }

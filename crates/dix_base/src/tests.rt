@@ -1,29 +1,46 @@
 //! Each form used through its trait, and each failure with what it leaves. The functions that use
 //! the traits know nothing else of an object, and are proved from the traits alone.
 
-ghost use Rattle.std.specs.Prelude.{◌≡◌, ◌+◌, ◌-◌, ◌^◌, min, ◌≤◌, length, take, IfOk, IsErrOf, OnErr, OnOk};
+ghost use Rattle.std.specs.Prelude.{◌≡◌, ◌+◌, ◌-◌, ◌^◌, min, ◌≤◌, drop, length, take, IfOk, IsErrOf, OnErr, OnOk};
 ghost use Rattle.dix_base.specs.Told.{Apart, Appended, Becomes, Begins, Rose, Took};
 
 use crate::{
     ByteList, CalmSink, CalmSource, CalmStore, Failed, FileStore, MemSink, MemSource, MemStore,
     Sink, Source, StdinSource, StdoutSink, Store, StoreFault,
 };
+use os::FromRawFd;
 use std::alloc::Global;
 use std::fs::{OpenOptions, Permissions};
+use std::os::fd::{AsFd, AsRawFd, IntoRawFd, OwnedFd};
 use std::os::unix::fs::PermissionsExt;
 use std::test::Fail;
 use std::{env, fs, process};
 
 fn take_from<S: Source>(source: &mut S, buf: &mut [u8]) -> Result<usize, Failed>
     ensures taken { IfOk result (λ n. Took (take n buf.new) (S.left source.old) (S.left source.new)) }
+    ensures rest { IfOk result (λ n. drop n buf.new ≡ drop n buf.old) }
+    ensures kept { OnErr result (S.left source.new ≡ S.left source.old) }
+    ensures calm { OnOk result (S.faults source.new ≡ S.faults source.old) }
     ensures cause { OnErr result (Rose (S.faults source.old) (S.faults source.new)) }
 {
     source.take(buf)
 }
 
+/// Asks once more after a failure. What the second answer is of is then the same that was left.
+fn take_again<S: Source>(source: &mut S, buf: &mut [u8]) -> Result<usize, Failed>
+    ensures taken { IfOk result (λ n. Took (take n buf.new) (S.left source.old) (S.left source.new)) }
+    ensures kept { OnErr result (S.left source.new ≡ S.left source.old) }
+{
+    match source.take(buf) {
+        Ok(n) => Ok(n),
+        Err(Failed) => source.take(buf),
+    }
+}
+
 fn put_into<K: Sink>(sink: &mut K, bytes: &[u8]) -> Result<usize, Failed>
     ensures taken { IfOk result (λ n. Appended (take n bytes.now) (K.taken sink.old) (K.taken sink.new)) }
     ensures same { OnErr result (K.taken sink.new ≡ K.taken sink.old) }
+    ensures calm { OnOk result (K.faults sink.new ≡ K.faults sink.old) }
     ensures cause { OnErr result (Rose (K.faults sink.old) (K.faults sink.new)) }
 {
     sink.put(bytes)
@@ -36,6 +53,7 @@ fn stamp<S: Store>(store: &mut S, at: u64, piece: &[u8], into: &mut [u8]) -> Res
     ensures apart { Becomes (Apart at (length piece.now)) (S.bytes store.old) (S.bytes store.new) }
     ensures length { S.len store.new ≡ S.len store.old }
     ensures opened { S.openings store.new ≡ S.openings store.old }
+    ensures calm { OnOk result (S.faults store.new ≡ S.faults store.old) }
     ensures cause { OnErr result (Rose (S.faults store.old) (S.faults store.new)) }
 {
     store.write_at(at, piece)?;
@@ -110,9 +128,15 @@ fn a_source_fails_where_listed_and_loses_no_byte(rt: HostRuntime) -> Result<(), 
     assert_eq!(rt; take_from(&mut source, &mut buf), Ok(3));
     assert_eq!(rt; buf.as_slice(), [1, 2, 3].as_slice());
     assert_eq!(rt; take_from(&mut source, &mut buf), Err(Failed));
+    assert_eq!(rt; buf.as_slice(), [1, 2, 3].as_slice());
     assert_eq!(rt; take_from(&mut source, &mut buf), Ok(2));
     assert_eq!(rt; buf.as_slice(), [4, 5, 3].as_slice());
     assert_eq!(rt; take_from(&mut source, &mut buf), Ok(0));
+
+    let bytes = vec![in rt.alloc(); 1, 2, 3]?;
+    let mut source = MemSource::new(bytes, vec![in rt.alloc(); 1u64]?);
+    assert_eq!(rt; take_again(&mut source, &mut buf), Ok(3));
+    assert_eq!(rt; buf.as_slice(), [1, 2, 3].as_slice());
     Ok(())
 }
 
@@ -317,15 +341,58 @@ fn a_write_that_the_system_refuses_is_a_failure(rt: HostRuntime) -> Result<(), F
     Ok(())
 }
 
-#[test]
-fn standard_output_takes_a_byte(rt: HostRuntime) {
-    let mut sink = StdoutSink::new(rt);
-    assert_eq!(rt; put_into(&mut sink, b"\n"), Ok(1));
+/// Closes a standard stream. The next file that is opened takes the lowest number that is free, and
+/// so stands in the place of this stream.
+fn close_stream(number: u8) {
+    drop(unsafe { OwnedFd::from_raw_fd(i32::from(number)) });
 }
 
+/// Standard output to a file, to the full device, and closed. Then it is what it was, so that the
+/// test can tell how it went.
 #[test]
-fn standard_input_is_at_its_end_in_a_test(rt: HostRuntime) {
+fn standard_output_is_written(rt: HostRuntime) -> Result<(), Fail> {
+    let path = path_of(rt, "output")?;
+    let own = rt.stdout().as_fd().try_clone_to_owned()?;
+    let own_path = format!(in rt.alloc(); "/proc/self/fd/{}", own.as_raw_fd())?;
+    let mut sink = StdoutSink::new(rt);
+    close_stream(1);
+    let file = fs::create(&rt, path.as_str())?;
+    let to_file = put_into(&mut sink, b"abc");
+    drop(file);
+    let full = OpenOptions::new().write(true).open(&rt, "/dev/full")?;
+    let to_full = put_into(&mut sink, b"d");
+    drop(full);
+    let to_none = put_into(&mut sink, b"e");
+    let again = OpenOptions::new()
+        .append(true)
+        .open(&rt, own_path.as_str())?;
+    let _ = again.into_raw_fd();
+    assert_eq!(rt;
+        (to_file, to_full, to_none),
+        (Ok(3), Err(Failed), Err(Failed))
+    );
+    assert_eq!(rt; fs::read(&rt, path.as_str())?.as_slice(), b"abc".as_slice());
+    let _ = fs::remove_file(&rt, path.as_str());
+    Ok(())
+}
+
+/// Standard input from a file, and closed.
+#[test]
+fn standard_input_is_read(rt: HostRuntime) -> Result<(), Fail> {
+    let path = path_of(rt, "input")?;
+    fs::write(&rt, path.as_str(), b"abcde")?;
     let mut source = StdinSource::new(rt);
-    let mut buf = [0u8; 4];
+    let mut buf = [0u8; 3];
+    close_stream(0);
+    let file = fs::open(&rt, path.as_str())?;
+    assert_eq!(rt; take_from(&mut source, &mut buf), Ok(3));
+    assert_eq!(rt; buf.as_slice(), b"abc".as_slice());
+    assert_eq!(rt; take_from(&mut source, &mut buf), Ok(2));
+    assert_eq!(rt; buf.as_slice(), b"dec".as_slice());
     assert_eq!(rt; take_from(&mut source, &mut buf), Ok(0));
+    drop(file);
+    assert_eq!(rt; take_from(&mut source, &mut buf), Err(Failed));
+    let _ = fs::open(&rt, "/dev/null")?.into_raw_fd();
+    let _ = fs::remove_file(&rt, path.as_str());
+    Ok(())
 }
