@@ -60,6 +60,9 @@ not_other : (b : Bool) → false ≡ not b → b ≡ true
 not_other true e = refl
 not_other false e = e
 
--- what `!=` finds no difference in
-pub is_form : (encoded b : List ℕ) (c : Cdb) → encoded ≡ form c → false ≡ not (bytes_eq encoded b) → b ≡ form c
-is_form encoded b c e same = sym ((bytes_eq-Decides encoded b).0 (not_other _ same)) ∙ e
+-- what `!=` finds no difference in, whichever side the bytes stand on
+pub is_form : (now items b : List ℕ) (c : Cdb) (differs : Bool) → now ≡ items → items ≡ form c → differs ≡ not (bytes_eq now b) → differs ≡ false → b ≡ form c
+is_form now items b c differs is e d none = sym ((bytes_eq-Decides now b).0 (not_other _ (sym none ∙ d))) ∙ is ∙ e
+
+pub is_form_turned : (now items b : List ℕ) (c : Cdb) (differs : Bool) → now ≡ items → items ≡ form c → differs ≡ not (bytes_eq b now) → differs ≡ false → b ≡ form c
+is_form_turned now items b c differs is e d none = (bytes_eq-Decides b now).0 (not_other _ (sym none ∙ d)) ∙ is ∙ e

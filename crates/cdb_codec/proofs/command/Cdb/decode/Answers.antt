@@ -4,14 +4,14 @@ use Rattle.cdb_codec.specs.declared.command.CdbFault.{CdbFault}
 use Rattle.cdb_codec.specs.declared.command.CdbFault.TheVariants.{Field}
 use Rattle.cdb_codec.specs.Decoded.{decoded}
 use Rattle.cdb_codec.specs.Forms.{Fits, form}
-use Rattle.cdb_codec.proofs.Inverse.{decoded_form, is_form as form_of}
+use Rattle.cdb_codec.proofs.Inverse.{decoded_form, is_form as form_of, is_form_turned as form_turned}
 use Rattle.cdb_codec.proofs.command.Cdb.decode.Goals as goal
 
 fits : (c : goal.Else-ne) → Fits c.in_ok-cdb.cdb
 fits c = c.in_ok-cdb.ensures.fits (search rules)
 
 is_form : (c : goal.Else-ne) → c.args.bytes.now ≡ form c.in_ok-cdb.cdb
-is_form c = form_of c.as_slice.result.now c.args.bytes.now c.in_ok-cdb.cdb (c.as_slice.ensures.value ∙ c.encode.ensures) c.if-ne.ensures
+is_form c = search (form_of, form_turned)
 
 pub returns-clause-found : goal.returns-clause-found
 returns-clause-found c = (fits c, is_form c)
