@@ -1,7 +1,7 @@
 //! Where the blocks of a striped extent lie.
 
 ghost use Rattle.std.specs.Prelude.{◌≡◌, ℕ, ◌+◌, ◌^◌, ◌<◌, ◌≤◌, ◌↔◌, IfSome, IsNone, IsTrue, Some};
-ghost use Rattle.stripe_volume.specs.Stripes.{AreApart, HasLegs, IsWhole, LegHas, LiesAt, StripeHolds, StripeRuns, is_apart, leg, leg_len, stripe_place, stripe_run};
+ghost use Rattle.stripe_volume.specs.Stripes.{AreApart, HasLegs, IsWhole, LegHas, LiesAt, StripeHolds, StripeRuns, is_apart, leg, leg_len, place_on, stripe_place, stripe_run};
 
 use crate::legs::{LegList, any_shared};
 
@@ -31,13 +31,21 @@ impl Stripe {
         ensures value { result ≡ stripe_place self.now v }
         ensures alone { IsWhole self.now → AreApart self.now → (w : ℕ) → LiesAt self.now w result.0 result.1 → w ≡ v }
     {
-        let legs = self.legs.as_slice();
-        let count = legs.len() as u64;
         let chunk = u64::from(self.chunk);
         let u = v - self.start;
-        let q = u / chunk;
+        self.place_on(u / chunk, u % chunk)
+    }
+
+    /// The device and the address of block `r` of chunk `q`.
+    fn place_on(&self, q: u64, r: u64) -> (u32, u64)
+        requires legs { HasLegs self.now }
+        requires fits { (place_on self.now q r).1 < 2 ^ 64 }
+        ensures { result ≡ place_on self.now q r }
+    {
+        let legs = self.legs.as_slice();
+        let count = legs.len() as u64;
         let leg = legs[(q % count) as usize];
-        (leg.dev, leg.at + q / count * chunk + u % chunk)
+        (leg.dev, leg.at + q / count * u64::from(self.chunk) + r)
     }
 
     /// How many blocks there are from `v` to the end of its chunk, with `v`, which lies in the
