@@ -10,7 +10,7 @@ mod tests;
 
 pub use fault::{Crossing, FaultKind, FaultLine, FaultList};
 pub use short_bytes::ShortBytes;
-pub use tamper::Tamper;
+pub use tamper::{Tamper, xor_into};
 
 /// Whose block crosses: block `k` of the request in op `op`.
 #[derive(Clone, Copy, Debug, PartialEq, Eq)]

@@ -22,7 +22,7 @@ impl Model for Tamper {
 }
 
 /// Xors the bytes into the block from byte `off` on, as far as the block reaches.
-fn xor_into(block: &mut [u8], off: usize, bytes: &[u8])
+pub fn xor_into(block: &mut [u8], off: usize, bytes: &[u8])
     ensures { block.new ≡ xored_from (byte_at off bytes.now) 0 block.old }
 {
     let reach = block.len().saturating_sub(off).min(bytes.len());
