@@ -3,7 +3,7 @@ use Rattle.std.proofs.Math.Nat.{suc-mul, mul-div-le, mul-le-mul_right}
 use Rattle.std.proofs.lemmas.List.{drop-take, take-take, take-append-drop, drop-drop, map-append, take_at}
 use Rattle.std.proofs.lemmas.Bool.{cases_lt}
 use Rattle.page_pool.specs.declared.segs.Seg.{Seg}
-use Rattle.page_pool.specs.Places.{Place, run, places_of, places_in, range_of, total, IsAmong, NoneTwice, Apart}
+use Rattle.page_pool.specs.Places.{PageByte, run, places_of, places_in, range_of, total, IsAmong, NoneTwice, Apart}
 use Rattle.page_pool.specs.Pages.{byte_at, bytes_at, AllLieIn, OthersStay, Wrote}
 use Rattle.page_pool.specs.Walking.{AllStandIn, Took}
 use Rattle.page_pool.proofs.Placing.{among-front, among-back, once-apart, segments_stand, stand-take, stand-drop, length-run, takes, step_over}
@@ -19,19 +19,19 @@ use Rattle.pi_tuple.specs.declared.checks.PiType.{PiType}
 use Rattle.pi_tuple.specs.Tuples.{tuple_bytes, tuple_in}
 use Rattle.integrity_payload.specs.Payloads.{AreWholeTuples, tuple_places, HoldsTuple, block_of, own_tag, made_tuple}
 
-pub among-take : (n : ℕ) (a : List Place) (p : Place) → IsAmong (take n a) p → IsAmong a p
+pub among-take : (n : ℕ) (a : List PageByte) (p : PageByte) → IsAmong (take n a) p → IsAmong a p
 among-take n a p h = subst (λ l. IsAmong l p) (take-append-drop n a) (among-front (take n a) (drop n a) p h)
 
-pub among-drop : (n : ℕ) (a : List Place) (p : Place) → IsAmong (drop n a) p → IsAmong a p
+pub among-drop : (n : ℕ) (a : List PageByte) (p : PageByte) → IsAmong (drop n a) p → IsAmong a p
 among-drop n a p h = subst (λ l. IsAmong l p) (take-append-drop n a) (among-back (take n a) (drop n a) p h)
 
 -- a range before place n is among the first n
-pub among-early : (at len n : ℕ) (a : List Place) (p : Place) → at + len ≤ n → IsAmong (take len (drop at a)) p → IsAmong (take n a) p
+pub among-early : (at len n : ℕ) (a : List PageByte) (p : PageByte) → at + len ≤ n → IsAmong (take len (drop at a)) p → IsAmong (take n a) p
 among-early at len n a p h k =
     let m = among-drop at (take (at + len) a) p (subst (λ l. IsAmong l p) (sym (drop-take at len a)) k) in
     among-take (at + len) (take n a) p (subst (λ l. IsAmong l p) (sym (take-take (at + len) n a h)) m)
 
-pub take-sum : (a b : ℕ) (xs : List Place) → take (a + b) xs ≡ take a xs ++ take b (drop a xs)
+pub take-sum : (a b : ℕ) (xs : List PageByte) → take (a + b) xs ≡ take a xs ++ take b (drop a xs)
 take-sum a b xs =
     sym (take-append-drop a (take (a + b) xs)) ∙ (ap (λ l. l ++ drop a (take (a + b) xs)) (take-take a (a + b) xs (omega arith)) ∙ ap (λ l. take a xs ++ l) (drop-take a b xs))
 
@@ -45,7 +45,7 @@ still_holds now new segs k j t h once others holds =
     record { bytes = stay ∙ holds.bytes; reads = ap tuple_in stay ∙ holds.reads }
 
 -- the first k tuples are made
-pub record Fills (old now : List (List ℕ)) (body segs : List Seg) (size : ℕ) (kind : GuardKind) (ty : PiType) (seed app k : ℕ) (blocks tuples : List Place) : Type 0 where
+pub record Fills (old now : List (List ℕ)) (body segs : List Seg) (size : ℕ) (kind : GuardKind) (ty : PiType) (seed app k : ℕ) (blocks tuples : List PageByte) : Type 0 where
   pub blocks_are : blocks ≡ drop (k * size) (places_in body)
   pub tuples_are : tuples ≡ drop (8 * k) (places_in segs)
   pub held : (j : ℕ) → j < k → HoldsTuple now segs j (made_tuple old body size kind ty seed app j)
@@ -68,7 +68,7 @@ each_held old now new body segs size kind ty seed app k j once others held last 
 abbrev made_by : GuardKind → PiType → ℕ → ℕ → ℕ → List ℕ → Tuple
 made_by kind ty seed app k bytes = record { guard = guard_of kind bytes; app = app; rtag = own_tag ty (seed + k) }
 
-pub fills_more : (old now new : List (List ℕ)) (body segs : List Seg) (size : ℕ) (kind : GuardKind) (ty : PiType) (seed app k : ℕ) (blocks blocks' tuples tuples' : List Place) (t : Tuple) →
+pub fills_more : (old now new : List (List ℕ)) (body segs : List Seg) (size : ℕ) (kind : GuardKind) (ty : PiType) (seed app k : ℕ) (blocks blocks' tuples tuples' : List PageByte) (t : Tuple) →
     NoneTwice (places_in segs) → Apart (places_in body) (places_in segs) → Fills old now body segs size kind ty seed app k blocks tuples →
     t ≡ record { guard = guard_of kind (bytes_at now (take size blocks)); app = app; rtag = own_tag ty (seed + k) } →
     tuple_in (tuple_bytes t) ≡ t → Wrote now new (take 8 tuples) (tuple_bytes t) → blocks' ≡ drop size blocks → tuples' ≡ drop 8 tuples →
@@ -114,16 +114,16 @@ tuple-once (s ∷ ss) k h l = elim (cases_lt (8 * k) s.len) [
 ]
 
 -- the guard of the places behind
-pub record Hashes (pool : List (List ℕ)) (kind : GuardKind) (start ahead : List Place) (many left : ℕ) (hash : GuardRun) : Type 0 where
-  pub behind : List Place
+pub record Hashes (pool : List (List ℕ)) (kind : GuardKind) (start ahead : List PageByte) (many left : ℕ) (hash : GuardRun) : Type 0 where
+  pub behind : List PageByte
   pub walked : Walked start behind ahead many left (length pool)
   pub stands : Stands hash (bytes_at pool behind)
   pub same : kind_of hash ≡ kind
 
-pub hashes_none : (pool : List (List ℕ)) (kind : GuardKind) (start : List Place) (many : ℕ) (hash : GuardRun) → AllStandIn (length pool) (take many start) → Stands hash [] → kind_of hash ≡ kind → Hashes pool kind start start many many hash
+pub hashes_none : (pool : List (List ℕ)) (kind : GuardKind) (start : List PageByte) (many : ℕ) (hash : GuardRun) → AllStandIn (length pool) (take many start) → Stands hash [] → kind_of hash ≡ kind → Hashes pool kind start start many many hash
 hashes_none pool kind start many hash h n e = record { behind = []; walked = walked_none start many (length pool) h; stands = n; same = e }
 
-pub hashes_more : (pool : List (List ℕ)) (kind : GuardKind) (start ahead next : List Place) (many left : ℕ) (hash hash' : GuardRun) (part : List ℕ) (s : Seg) → Hashes pool kind start ahead many left hash → Took left ahead next s →
+pub hashes_more : (pool : List (List ℕ)) (kind : GuardKind) (start ahead next : List PageByte) (many left : ℕ) (hash hash' : GuardRun) (part : List ℕ) (s : Seg) → Hashes pool kind start ahead many left hash → Took left ahead next s →
     part ≡ bytes_at pool (places_of s) → ((b : List ℕ) → Stands hash b → Stands hash' (b ++ part)) → kind_of hash' ≡ kind_of hash → Hashes pool kind start next many (left - s.len) hash'
 hashes_more pool kind start ahead next many left hash hash' part s h k e more same = record {
   behind = h.behind ++ places_of s;
@@ -133,9 +133,9 @@ hashes_more pool kind start ahead next many left hash hash' part s h k e more sa
 }
 
 -- what a walk along a list has ahead stands in the pool
-pub ahead-stands : (old now : List (List ℕ)) (ss : List Seg) (ahead : List Place) (at n : ℕ) → AllLieIn old ss → length now ≡ length old → ahead ≡ drop at (places_in ss) → AllStandIn (length now) (take n ahead)
+pub ahead-stands : (old now : List (List ℕ)) (ss : List Seg) (ahead : List PageByte) (at n : ℕ) → AllLieIn old ss → length now ≡ length old → ahead ≡ drop at (places_in ss) → AllStandIn (length now) (take n ahead)
 ahead-stands old now ss ahead at n h e f =
     rw (e, f) (stand-take (length old) n (drop at (places_in ss)) (stand-drop (length old) at (places_in ss) (segments_stand old ss h)))
 
-pub ahead-once : (ss : List Seg) (ahead : List Place) (at n : ℕ) → NoneTwice (places_in ss) → ahead ≡ drop at (places_in ss) → NoneTwice (take n ahead)
+pub ahead-once : (ss : List Seg) (ahead : List PageByte) (at n : ℕ) → NoneTwice (places_in ss) → ahead ≡ drop at (places_in ss) → NoneTwice (take n ahead)
 ahead-once ss ahead at n h e = rw e (once-take n (drop at (places_in ss)) (once-drop at (places_in ss) h))

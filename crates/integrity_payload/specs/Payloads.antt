@@ -1,6 +1,6 @@
 use Rattle.std.specs.Prelude.{◌≡◌, ℕ, ◌+◌, ◌*◌, ◌%◌, ◌^◌, List, [], ◌∷◌, true}
 use Rattle.page_pool.specs.declared.segs.Seg.{Seg}
-use Rattle.page_pool.specs.Places.{Place, range_of, total}
+use Rattle.page_pool.specs.Places.{PageByte, range_of, total}
 use Rattle.page_pool.specs.Pages.{bytes_at, bytes_in}
 use Rattle.pi_guard.specs.declared.GuardKind.{GuardKind}
 use Rattle.pi_guard.specs.Guards.{guard_of}
@@ -22,7 +22,7 @@ pub record IsPayload (pi : Payload) : Type 0 where
   pub long : total pi.tuples ≡ 8 * pi.count
 
 -- the places of a tuple's eight bytes in its list
-abbrev pub tuple_places : List Seg → ℕ → List Place
+abbrev pub tuple_places : List Seg → ℕ → List PageByte
 tuple_places segs k = range_of segs (8 * k) 8
 
 -- the tuple that these eight bytes spell

@@ -1,5 +1,6 @@
 pub mod Paging
 pub mod Placing
 pub mod Separate
+pub mod Sharing
 pub mod Spreads
 pub mod Walks

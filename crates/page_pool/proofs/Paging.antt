@@ -1,4 +1,4 @@
-use Rattle.std.proofs.Common.{◌≡◌, ℕ, ◌+◌, ◌-◌, ◌≤◌, ◌<◌, List, [], ◌∷◌, ◌++◌, length, take, drop, get_or, set, refl, sym, ap, ◌∙◌, subst, ◌⊎◌, ◌≢◌, inl, inr, arith}
+use Rattle.std.proofs.Common.{◌≡◌, ℕ, ◌+◌, ◌-◌, ◌≤◌, ◌<◌, List, [], ◌∷◌, ◌++◌, length, take, drop, get_or, set, refl, sym, ap, ◌∙◌, ◌⊎◌, ◌≢◌, inl, inr, arith}
 use Rattle.std.proofs.lemmas.List.{places, same_lists, length-take, length-drop, length-append, length-map, length-set, get_or-map, get_or-set_same, get_or-set_other, get_or_past, get_or_append_left, get_or_push, length_push, set_past, map-set, map_push, take-append-le}
 use Rattle.std.proofs.lemmas.Bool.{cases_lt}
 use Rattle.std.proofs.lemmas.Bool.Decides.{eqb_tells}
@@ -6,9 +6,9 @@ use Rattle.std.specs.Vec.{with_items_from}
 use Rattle.std.specs.declared.alloc.Global.{Global}
 use Rattle.std.specs.declared.vec.Vec.{Vec}
 use Rattle.page_pool.specs.declared.segs.Seg.{Seg}
-use Rattle.page_pool.specs.Places.{Place, run, places_of, IsAmong}
+use Rattle.page_pool.specs.Places.{PageByte, run, places_of, IsAmong}
 use Rattle.page_pool.specs.Pages.{contents, page_of, byte_at, bytes_at, AreWhole, LiesIn, part, with_bytes, with_part, OthersStay, Wrote, IsBlank}
-use Rattle.page_pool.proofs.Placing.{length-run, get_or-run, among-run}
+use Rattle.page_pool.proofs.Placing.{length-run, get_or-run, at_place}
 
 -- the bytes at a run of places are a part of the page
 
@@ -17,7 +17,7 @@ bytes-run pool page off n h =
     let long : length (bytes_at pool (run page off n)) ≡ n = length-map (run page off n) (byte_at pool) ∙ length-run page off n in
     same_lists _ _ (long ∙ simp (length-take, length-drop) (omega arith))
     (λ k d l. let m : k < length (run page off n) = omega (arith, length-map (run page off n) (byte_at pool)) in
-    let q : Place = record { page = page; off = off } in
+    let q : PageByte = record { page = page; off = off } in
     let s : k < n = omega (arith, length-run page off n) in
     let e = get_or-map (byte_at pool) (run page off n) k q d m in
     let f : byte_at pool (get_or (run page off n) k q) ≡ byte_at pool (record { page = page; off = off + k }) = ap (byte_at pool) (get_or-run page off n k q s) in
@@ -64,21 +64,9 @@ whole-with_part pool s w h = record {
   size = λ n l. let k : n < length pool = omega (arith, length-set pool s.page (with_bytes (page_of pool s.page) s.off w)) in sizes-with_part pool s w n ∙ h.size n k;
 }
 
-abbrev place : ℕ → ℕ → Place
-place page off = record { page = page; off = off }
-
 -- what was written is a part, and all other bytes are as before
 
-same_place : (a b c d : ℕ) → a ≡ c → b ≡ d → place a b ≡ place c d
-same_place a b c d e f = ap (λ n. place n b) e ∙ ap (place c) f
-
-at_place : (s : Seg) (p : Place) → p.page ≡ s.page → s.off ≤ p.off → p.off < s.off + s.len → IsAmong (places_of s) p
-at_place s p e h k =
-    let off : s.off + (p.off - s.off) ≡ p.off = omega arith in
-    let here = same_place s.page (s.off + (p.off - s.off)) p.page p.off (sym e) off in
-    subst (λ v. IsAmong (places_of s) v) here (among-run s.page s.off s.len (p.off - s.off) (omega arith))
-
-other_in_page : (pool : List (List ℕ)) (s : Seg) (w : List ℕ) (p : Place) → LiesIn pool s → AreWhole pool → length w ≡ s.len → p.page ≡ s.page → ¬ IsAmong (places_of s) p →
+other_in_page : (pool : List (List ℕ)) (s : Seg) (w : List ℕ) (p : PageByte) → LiesIn pool s → AreWhole pool → length w ≡ s.len → p.page ≡ s.page → ¬ IsAmong (places_of s) p →
     get_or (with_bytes (page_of pool s.page) s.off w) p.off 0 ≡ get_or (page_of pool s.page) p.off 0
 other_in_page pool s w p h whole l e free =
     let size = whole.size s.page h.in_pool in
@@ -170,7 +158,7 @@ lent-is pool vs s v w e h p l =
 
 -- blank pages
 
-blank_at : (pool : List (List ℕ)) (v : List ℕ) (p : Place) → ((q : Place) → byte_at pool q ≡ 0) → ((i : ℕ) → get_or v i 0 ≡ 0) → byte_at (pool ++ v ∷ []) p ≡ 0
+blank_at : (pool : List (List ℕ)) (v : List ℕ) (p : PageByte) → ((q : PageByte) → byte_at pool q ≡ 0) → ((i : ℕ) → get_or v i 0 ≡ 0) → byte_at (pool ++ v ∷ []) p ≡ 0
 blank_at pool v p h z = elim (cases_lt p.page (length pool)) [
   | inl l ↦ ap (λ q. get_or q p.off 0) (get_or_append_left pool (v ∷ []) [] p.page l) ∙ h p
   | inr l ↦ elim (same_or p.page (length pool)) [

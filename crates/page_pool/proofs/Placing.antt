@@ -1,7 +1,7 @@
 use Rattle.std.proofs.Common.{◌≡◌, ℕ, zero, suc, ◌+◌, ◌-◌, ◌≤◌, ◌<◌, List, [], ◌∷◌, ◌++◌, length, take, drop, get_or, refl, sym, ap, ◌∙◌, subst, ◌⊎◌, inl, inr, arith, append_assoc}
 use Rattle.std.proofs.lemmas.List.{length-append, drop-drop, drop_at}
 use Rattle.page_pool.specs.declared.segs.Seg.{Seg}
-use Rattle.page_pool.specs.Places.{Place, run, places_of, places_in, total, IsAmong, NoneTwice, Apart}
+use Rattle.page_pool.specs.Places.{PageByte, run, places_of, places_in, total, IsAmong, NoneTwice, Apart}
 use Rattle.page_pool.specs.Walking.{AllStandIn, InPages}
 use Rattle.page_pool.specs.Pages.{LiesIn, AllLieIn}
 
@@ -21,7 +21,7 @@ run-append page off (suc a) b =
     ap (λ n. run page off n) (let e : suc a + b ≡ suc (a + b) = omega arith in e)
     ∙ ap (λ t. record { page = page; off = off } ∷ t) (run-append page (off + 1) a b ∙ ap (λ n. run page (off + 1) a ++ run page n b) (let e : off + 1 + a ≡ off + suc a = omega arith in e))
 
-pub get_or-run : (page off n i : ℕ) (d : Place) → i < n → get_or (run page off n) i d ≡ record { page = page; off = off + i }
+pub get_or-run : (page off n i : ℕ) (d : PageByte) → i < n → get_or (run page off n) i d ≡ record { page = page; off = off + i }
 unfolding run
 get_or-run page off zero i d h = absurd (omega arith)
 get_or-run page off (suc n) zero d h = ap (λ k. record { page = page; off = k }) (let e : off ≡ off + 0 = omega arith in e)
@@ -29,16 +29,16 @@ get_or-run page off (suc n) (suc i) d h = get_or-run page (off + 1) n i d (omega
 
 -- membership
 
-pub among-front : (a b : List Place) (p : Place) → IsAmong a p → IsAmong (a ++ b) p
+pub among-front : (a b : List PageByte) (p : PageByte) → IsAmong a p → IsAmong (a ++ b) p
 among-front [] b p h = absurd h
 among-front (q ∷ a) b p (inl e) = inl e
 among-front (q ∷ a) b p (inr h) = inr (among-front a b p h)
 
-pub among-back : (a b : List Place) (p : Place) → IsAmong b p → IsAmong (a ++ b) p
+pub among-back : (a b : List PageByte) (p : PageByte) → IsAmong b p → IsAmong (a ++ b) p
 among-back [] b p h = h
 among-back (q ∷ a) b p h = inr (among-back a b p h)
 
-pub among-append : (a b : List Place) (p : Place) → IsAmong (a ++ b) p → IsAmong a p ⊎ IsAmong b p
+pub among-append : (a b : List PageByte) (p : PageByte) → IsAmong (a ++ b) p → IsAmong a p ⊎ IsAmong b p
 among-append [] b p h = inr h
 among-append (q ∷ a) b p (inl e) = inl (inl e)
 among-append (q ∷ a) b p (inr h) = elim (among-append a b p h) [ inl k ↦ inl (inr k) | inr k ↦ inr k ]
@@ -50,54 +50,67 @@ among-run page off (suc n) zero h = inl (ap (λ k. record { page = page; off = k
 among-run page off (suc n) (suc i) h =
     inr (subst (λ k. IsAmong (run page (off + 1) n) (record { page = page; off = k })) (let e : off + 1 + i ≡ off + suc i = omega arith in e) (among-run page (off + 1) n i (omega arith)))
 
-pub once-back : (a b : List Place) → NoneTwice (a ++ b) → NoneTwice b
+abbrev byte_of : ℕ → ℕ → PageByte
+byte_of page off = record { page = page; off = off }
+
+same_place : (a b c d : ℕ) → a ≡ c → b ≡ d → byte_of a b ≡ byte_of c d
+same_place a b c d e f = ap (λ n. byte_of n b) e ∙ ap (byte_of c) f
+
+-- what is in a segment's page and between its ends is in the segment
+pub at_place : (s : Seg) (p : PageByte) → p.page ≡ s.page → s.off ≤ p.off → p.off < s.off + s.len → IsAmong (places_of s) p
+at_place s p e h k =
+    let off : s.off + (p.off - s.off) ≡ p.off = omega arith in
+    let here = same_place s.page (s.off + (p.off - s.off)) p.page p.off (sym e) off in
+    subst (λ v. IsAmong (places_of s) v) here (among-run s.page s.off s.len (p.off - s.off) (omega arith))
+
+pub once-back : (a b : List PageByte) → NoneTwice (a ++ b) → NoneTwice b
 once-back [] b h = h
 once-back (p ∷ a) b h = once-back a b h.1
 
-pub once-front : (a b : List Place) → NoneTwice (a ++ b) → NoneTwice a
+pub once-front : (a b : List PageByte) → NoneTwice (a ++ b) → NoneTwice a
 once-front [] b h = tt
 once-front (p ∷ a) b h = (λ k. h.0 (among-front a b p k), once-front a b h.1)
 
-pub once-apart : (a b : List Place) → NoneTwice (a ++ b) → Apart a b
+pub once-apart : (a b : List PageByte) → NoneTwice (a ++ b) → Apart a b
 once-apart [] b h p k l = k
 once-apart (q ∷ a) b h p (inl e) l = h.0 (among-back a b q (subst (λ v. IsAmong b v) e l))
 once-apart (q ∷ a) b h p (inr k) l = once-apart a b h.1 p k l
 
 -- places in the pool
 
-pub stand-front : (pages : ℕ) (a b : List Place) → AllStandIn pages (a ++ b) → AllStandIn pages a
+pub stand-front : (pages : ℕ) (a b : List PageByte) → AllStandIn pages (a ++ b) → AllStandIn pages a
 stand-front pages [] b h = tt
 stand-front pages (p ∷ a) b h = (h.0, stand-front pages a b h.1)
 
-pub stand-back : (pages : ℕ) (a b : List Place) → AllStandIn pages (a ++ b) → AllStandIn pages b
+pub stand-back : (pages : ℕ) (a b : List PageByte) → AllStandIn pages (a ++ b) → AllStandIn pages b
 stand-back pages [] b h = h
 stand-back pages (p ∷ a) b h = stand-back pages a b h.1
 
-pub stand-append : (pages : ℕ) (a b : List Place) → AllStandIn pages a → AllStandIn pages b → AllStandIn pages (a ++ b)
+pub stand-append : (pages : ℕ) (a b : List PageByte) → AllStandIn pages a → AllStandIn pages b → AllStandIn pages (a ++ b)
 stand-append pages [] b h k = k
 stand-append pages (p ∷ a) b h k = (h.0, stand-append pages a b h.1 k)
 
-pub stand-drop : (pages n : ℕ) (a : List Place) → AllStandIn pages a → AllStandIn pages (drop n a)
+pub stand-drop : (pages n : ℕ) (a : List PageByte) → AllStandIn pages a → AllStandIn pages (drop n a)
 stand-drop pages zero [] h = tt
 stand-drop pages (suc n) [] h = tt
 stand-drop pages zero (p ∷ a) h = h
 stand-drop pages (suc n) (p ∷ a) h = stand-drop pages n a h.1
 
-pub stand-take : (pages n : ℕ) (a : List Place) → AllStandIn pages a → AllStandIn pages (take n a)
+pub stand-take : (pages n : ℕ) (a : List PageByte) → AllStandIn pages a → AllStandIn pages (take n a)
 stand-take pages zero [] h = tt
 stand-take pages (suc n) [] h = tt
 stand-take pages zero (p ∷ a) h = tt
 stand-take pages (suc n) (p ∷ a) h = (h.0, stand-take pages n a h.1)
 
-pub in_pages : (pages : ℕ) (a : List Place) → AllStandIn pages a → InPages a
+pub in_pages : (pages : ℕ) (a : List PageByte) → AllStandIn pages a → InPages a
 in_pages pages [] h = tt
 in_pages pages (p ∷ a) h = (h.0.in_page, in_pages pages a h.1)
 
-pub in_pages-back : (a b : List Place) → InPages (a ++ b) → InPages b
+pub in_pages-back : (a b : List PageByte) → InPages (a ++ b) → InPages b
 in_pages-back [] b h = h
 in_pages-back (p ∷ a) b h = in_pages-back a b h.1
 
-pub in_pages-drop : (n : ℕ) (a : List Place) → InPages a → InPages (drop n a)
+pub in_pages-drop : (n : ℕ) (a : List PageByte) → InPages a → InPages (drop n a)
 in_pages-drop zero [] h = tt
 in_pages-drop (suc n) [] h = tt
 in_pages-drop zero (p ∷ a) h = h
@@ -143,7 +156,7 @@ step_over s ss at h =
     let long = length-run s.page s.off s.len in
     sym (drop-past (places_of s) (places_in ss) at (omega arith) ∙ ap (λ n. drop (at - n) (places_in ss)) long)
 
-pub takes : (page off n at len : ℕ) (b : List Place) → at + len ≤ n → drop at (run page off n ++ b) ≡ run page (off + at) len ++ drop (at + len) (run page off n ++ b)
+pub takes : (page off n at len : ℕ) (b : List PageByte) → at + len ≤ n → drop at (run page off n ++ b) ≡ run page (off + at) len ++ drop (at + len) (run page off n ++ b)
 takes page off n at len b h =
     let e : n ≡ at + (len + (n - (at + len))) = omega arith in
     let front = run page off at in
@@ -157,11 +170,11 @@ takes page off n at len b h =
     let behind : drop (at + len) (run page off n ++ b) ≡ rest ++ b = ap (λ l. drop (at + len) l) again ∙ drop_at (front ++ mid) (rest ++ b) (at + len) long in
     ap (λ l. drop at l) whole ∙ (drop_at front (mid ++ (rest ++ b)) at (length-run page off at) ∙ ap (λ l. mid ++ l) (sym behind))
 
-one_in_page : (page off : ℕ) (b : List Place) → InPages (run page off 1 ++ b) → off < 4096
+one_in_page : (page off : ℕ) (b : List PageByte) → InPages (run page off 1 ++ b) → off < 4096
 unfolding run
 one_in_page page off b k = k.0
 
 -- the first byte ahead is in its page
-pub first_in_page : (page off n at : ℕ) (b : List Place) → at < n → InPages (drop at (run page off n ++ b)) → off + at < 4096
+pub first_in_page : (page off n at : ℕ) (b : List PageByte) → at < n → InPages (drop at (run page off n ++ b)) → off + at < 4096
 first_in_page page off n at b h k =
     one_in_page page (off + at) (drop (at + 1) (run page off n ++ b)) (subst (λ l. InPages l) (takes page off n at 1 b (omega arith)) k)

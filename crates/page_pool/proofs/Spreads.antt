@@ -1,7 +1,7 @@
 use Rattle.std.proofs.Common.{◌≡◌, ℕ, ◌+◌, ◌-◌, ◌≤◌, List, [], ◌∷◌, ◌++◌, length, take, drop, replicate, refl, sym, ap, ◌∙◌, subst, inl, inr, arith, append_assoc}
 use Rattle.std.proofs.lemmas.List.{length-append, length-take, length-drop, map-append, append-nil, nil_from_length, take-append-drop, replicate-append-replicate}
 use Rattle.page_pool.specs.declared.segs.Seg.{Seg}
-use Rattle.page_pool.specs.Places.{Place, places_of, places_in, range_of, total, IsAmong, NoneTwice, Apart}
+use Rattle.page_pool.specs.Places.{PageByte, places_of, places_in, range_of, total, IsAmong, NoneTwice, Apart}
 use Rattle.page_pool.specs.Pages.{byte_at, bytes_at, LiesIn, AllLieIn, OthersStay, Wrote}
 use Rattle.page_pool.specs.Walking.{AllStandIn, Took}
 use Rattle.page_pool.proofs.Placing.{length-run, length-places_in, among-front, among-back, once-front, once-back, once-apart, segments_stand, stand-take, stand-drop}
@@ -9,23 +9,23 @@ use Rattle.page_pool.proofs.Walks.{Walked, walked_none, walked_more, walked_all,
 
 -- bytes that stay
 
-pub same_bytes : (old new : List (List ℕ)) (ps : List Place) → ((p : Place) → IsAmong ps p → byte_at new p ≡ byte_at old p) → bytes_at new ps ≡ bytes_at old ps
+pub same_bytes : (old new : List (List ℕ)) (ps : List PageByte) → ((p : PageByte) → IsAmong ps p → byte_at new p ≡ byte_at old p) → bytes_at new ps ≡ bytes_at old ps
 same_bytes old new [] h = refl
 same_bytes old new (p ∷ ps) h =
     ap (λ b. b ∷ bytes_at new ps) (h p (inl refl)) ∙ ap (λ l. byte_at old p ∷ l) (same_bytes old new ps (λ q k. h q (inr k)))
 
 -- bytes at places apart from those that were written
-pub bytes_stay : (old new : List (List ℕ)) (ps qs : List Place) → OthersStay old new ps → Apart qs ps → bytes_at new qs ≡ bytes_at old qs
+pub bytes_stay : (old new : List (List ℕ)) (ps qs : List PageByte) → OthersStay old new ps → Apart qs ps → bytes_at new qs ≡ bytes_at old qs
 bytes_stay old new ps qs h a = same_bytes old new qs (λ p k. h.others p (a p k))
 
-pub others_stay : (old mid new : List (List ℕ)) (ps qs : List Place) → OthersStay old mid ps → OthersStay mid new qs → OthersStay old new (ps ++ qs)
+pub others_stay : (old mid new : List (List ℕ)) (ps qs : List PageByte) → OthersStay old mid ps → OthersStay mid new qs → OthersStay old new (ps ++ qs)
 others_stay old mid new ps qs h k = record {
   pages = k.pages ∙ h.pages;
   sizes = λ n. k.sizes n ∙ h.sizes n;
   others = λ p out. k.others p (λ m. out (among-back ps qs p m)) ∙ h.others p (λ m. out (among-front ps qs p m));
 }
 
-pub wrote_more : (old mid new : List (List ℕ)) (ps qs : List Place) (b w : List ℕ) → Wrote old mid ps b → Wrote mid new qs w → Apart ps qs → Wrote old new (ps ++ qs) (b ++ w)
+pub wrote_more : (old mid new : List (List ℕ)) (ps qs : List PageByte) (b w : List ℕ) → Wrote old mid ps b → Wrote mid new qs w → Apart ps qs → Wrote old new (ps ++ qs) (b ++ w)
 wrote_more old mid new ps qs b w h k a = record {
   written = map-append (byte_at new) ps qs
       ∙ (ap (λ l. l ++ bytes_at new qs) (bytes_stay mid new qs ps k.others a ∙ h.written) ∙ ap (λ l. b ++ l) k.written);
@@ -36,22 +36,22 @@ pub wrote_none : (pool : List (List ℕ)) → Wrote pool pool [] []
 wrote_none pool = record { written = refl; others = record { pages = refl; sizes = λ n. refl; others = λ p out. refl } }
 
 -- the places that a walk began with are written from the front: these bytes are still to come
-pub record Spreads (old now : List (List ℕ)) (start ahead : List Place) (many left : ℕ) (rest from : List ℕ) : Type 0 where
-  pub behind : List Place
+pub record Spreads (old now : List (List ℕ)) (start ahead : List PageByte) (many left : ℕ) (rest from : List ℕ) : Type 0 where
+  pub behind : List PageByte
   pub walked : Walked start behind ahead many left (length now)
   pub bytes : List ℕ
   pub split : from ≡ bytes ++ rest
   pub long : length rest ≡ left
   pub wrote : Wrote old now behind bytes
 
-pub spreads : (pool : List (List ℕ)) (start : List Place) (many : ℕ) (from : List ℕ) → length from ≡ many → AllStandIn (length pool) (take many start) → Spreads pool pool start start many many from from
+pub spreads : (pool : List (List ℕ)) (start : List PageByte) (many : ℕ) (from : List ℕ) → length from ≡ many → AllStandIn (length pool) (take many start) → Spreads pool pool start start many many from from
 spreads pool start many from l h = record { behind = []; walked = walked_none start many (length pool) h; bytes = []; split = refl; long = l; wrote = wrote_none pool }
 
-pub spreads-lies : (old now : List (List ℕ)) (start ahead next : List Place) (many left : ℕ) (rest from : List ℕ) (s : Seg) → Spreads old now start ahead many left rest from → Took left ahead next s → LiesIn now s
+pub spreads-lies : (old now : List (List ℕ)) (start ahead next : List PageByte) (many left : ℕ) (rest from : List ℕ) (s : Seg) → Spreads old now start ahead many left rest from → Took left ahead next s → LiesIn now s
 spreads-lies old now start ahead next many left rest from s h k = took-lies now left ahead next s k h.walked.stand
 
 -- the next part is apart from those before it
-apart-next : (start ahead next : List Place) (many left : ℕ) (s : Seg) (behind : List Place) → start ≡ behind ++ ahead → length behind + left ≡ many → Took left ahead next s → NoneTwice (take many start) → Apart behind (places_of s)
+apart-next : (start ahead next : List PageByte) (many left : ℕ) (s : Seg) (behind : List PageByte) → start ≡ behind ++ ahead → length behind + left ≡ many → Took left ahead next s → NoneTwice (take many start) → Apart behind (places_of s)
 apart-next start ahead next many left s behind e f k once =
     let long = length-run s.page s.off s.len in
     let sum = length-append behind (places_of s) in
@@ -60,7 +60,7 @@ apart-next start ahead next many left s behind e f k once =
     let front : take many start ≡ (behind ++ places_of s) ++ take (many - length (behind ++ places_of s)) next = ap (take many) whole ∙ take-front (behind ++ places_of s) next many (omega arith) in
     once-apart behind (places_of s) (once-front (behind ++ places_of s) (take (many - length (behind ++ places_of s)) next) (subst (λ l. NoneTwice l) front once))
 
-pub spreads_more : (old now new : List (List ℕ)) (start ahead next : List Place) (many left : ℕ) (rest from front back : List ℕ) (s : Seg) → NoneTwice (take many start) → Spreads old now start ahead many left rest from → Took left ahead next s →
+pub spreads_more : (old now new : List (List ℕ)) (start ahead next : List PageByte) (many left : ℕ) (rest from front back : List ℕ) (s : Seg) → NoneTwice (take many start) → Spreads old now start ahead many left rest from → Took left ahead next s →
     rest ≡ front ++ back → length front ≡ s.len → Wrote now new (places_of s) front → Spreads old new start next many (left - s.len) back from
 spreads_more old now new start ahead next many left rest from front back s once h k e l w =
     let n = length-append front back in
@@ -75,7 +75,7 @@ spreads_more old now new start ahead next many left rest from front back s once 
       wrote = wrote_more old now new h.behind (places_of s) h.bytes front h.wrote w (apart-next start ahead next many left s h.behind h.walked.whole h.walked.count k once);
     }
 
-pub spreads_all : (old now : List (List ℕ)) (start ahead : List Place) (many left : ℕ) (rest from : List ℕ) → Spreads old now start ahead many left rest from → take left ahead ≡ [] → many ≤ length start →
+pub spreads_all : (old now : List (List ℕ)) (start ahead : List PageByte) (many left : ℕ) (rest from : List ℕ) → Spreads old now start ahead many left rest from → take left ahead ≡ [] → many ≤ length start →
     Wrote old now (take many start) from × (ahead ≡ drop many start)
 spreads_all old now start ahead many left rest from h e l =
     let all = walked_all start h.behind ahead many left (length now) h.walked e l in
@@ -88,13 +88,13 @@ spreads_all old now start ahead many left rest from h e l =
 pub length-range : (ss : List Seg) (at len : ℕ) → at + len ≤ total ss → length (range_of ss at len) ≡ len
 length-range ss at len h = let e = length-places_in ss in simp (length-take, length-drop) (omega arith)
 
-pub room-ahead : (ss : List Seg) (ahead : List Place) (at len : ℕ) → ahead ≡ drop at (places_in ss) → at + len ≤ total ss → len ≤ length ahead
+pub room-ahead : (ss : List Seg) (ahead : List PageByte) (at len : ℕ) → ahead ≡ drop at (places_in ss) → at + len ≤ total ss → len ≤ length ahead
 room-ahead ss ahead at len e h = let n = length-places_in ss in rw e (simp length-drop (omega arith))
 
-pub once-take : (n : ℕ) (ps : List Place) → NoneTwice ps → NoneTwice (take n ps)
+pub once-take : (n : ℕ) (ps : List PageByte) → NoneTwice ps → NoneTwice (take n ps)
 once-take n ps h = once-front (take n ps) (drop n ps) (subst (λ l. NoneTwice l) (sym (take-append-drop n ps)) h)
 
-pub once-drop : (n : ℕ) (ps : List Place) → NoneTwice ps → NoneTwice (drop n ps)
+pub once-drop : (n : ℕ) (ps : List PageByte) → NoneTwice ps → NoneTwice (drop n ps)
 once-drop n ps h = once-back (take n ps) (drop n ps) (subst (λ l. NoneTwice l) (sym (take-append-drop n ps)) h)
 
 pub once-range : (ss : List Seg) (at len : ℕ) → NoneTwice (places_in ss) → NoneTwice (range_of ss at len)

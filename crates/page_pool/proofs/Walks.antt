@@ -3,7 +3,7 @@ use borrow.Rule.Slice.PartMut.{put_mid}
 use Rattle.std.proofs.lemmas.Slice.{take-put_mid}
 use Rattle.std.proofs.lemmas.List.{length-append, length-map, length-take, length-drop, map-append, drop-drop, drop_at}
 use Rattle.page_pool.specs.declared.segs.Seg.{Seg}
-use Rattle.page_pool.specs.Places.{Place, run, places_of, places_in}
+use Rattle.page_pool.specs.Places.{PageByte, run, places_of, places_in}
 use Rattle.page_pool.specs.Pages.{byte_at, bytes_at, LiesIn}
 use Rattle.page_pool.specs.Ahead.{BeginsAt}
 use Rattle.page_pool.specs.Walking.{AllStandIn, InPages, Took}
@@ -27,7 +27,7 @@ begins segs more first at h e =
     let k = subst (λ l. BeginsAt l at) e h in
     subst (λ l. Begins l first at) (sym e) (begins-first first more at k)
 
-pub took : (old : List Place) (segs : List Seg) (first : Seg) (at len many : ℕ) → old ≡ drop at (places_in segs) → Begins segs first at → len ≡ min (first.len - at) many → len ≢ 0 →
+pub took : (old : List PageByte) (segs : List Seg) (first : Seg) (at len many : ℕ) → old ≡ drop at (places_in segs) → Begins segs first at → len ≡ min (first.len - at) many → len ≢ 0 →
     Took many old (drop (at + len) (places_in segs)) (record { page = first.page; off = first.off + at; len = len })
 took old segs first at len many e h f z =
     let i = h.inside in
@@ -43,23 +43,23 @@ take-front [] b n h = ap (λ k. take k b) (let e : n ≡ n - 0 = omega arith in 
 take-front (x ∷ a) b zero h = absurd (omega arith)
 take-front (x ∷ a) b (suc n) h = ap (λ l. x ∷ l) (take-front a b n (omega arith)) ∙ ap (λ k. x ∷ (a ++ take k b)) (let e : n - length a ≡ suc n - suc (length a) = omega arith in e)
 
-pub took-front : (many : ℕ) (old new : List Place) (s : Seg) → Took many old new s → take many old ≡ places_of s ++ take (many - s.len) new
+pub took-front : (many : ℕ) (old new : List PageByte) (s : Seg) → Took many old new s → take many old ≡ places_of s ++ take (many - s.len) new
 took-front many old new s h =
     let long = length-run s.page s.off s.len in
     let m = h.most in
     ap (take many) h.ahead ∙ (take-front (places_of s) new many (omega arith) ∙ ap (λ n. places_of s ++ take (many - n) new) long)
 
-pub took-stands : (pages many : ℕ) (old new : List Place) (s : Seg) → Took many old new s → AllStandIn pages (take many old) → AllStandIn pages (take (many - s.len) new)
+pub took-stands : (pages many : ℕ) (old new : List PageByte) (s : Seg) → Took many old new s → AllStandIn pages (take many old) → AllStandIn pages (take (many - s.len) new)
 took-stands pages many old new s h k = stand-back pages (places_of s) (take (many - s.len) new) (subst (λ l. AllStandIn pages l) (took-front many old new s h) k)
 
-pub took-lies : (pool : List (List ℕ)) (many : ℕ) (old new : List Place) (s : Seg) → Took many old new s → AllStandIn (length pool) (take many old) → LiesIn pool s
+pub took-lies : (pool : List (List ℕ)) (many : ℕ) (old new : List PageByte) (s : Seg) → Took many old new s → AllStandIn (length pool) (take many old) → LiesIn pool s
 took-lies pool many old new s h k =
     lies pool s h.some (stand-front (length pool) (places_of s) (take (many - s.len) new) (subst (λ l. AllStandIn (length pool) l) (took-front many old new s h) k))
 
-pub took-bytes : (pool : List (List ℕ)) (many : ℕ) (old new : List Place) (s : Seg) → Took many old new s → bytes_at pool (take many old) ≡ bytes_at pool (places_of s) ++ bytes_at pool (take (many - s.len) new)
+pub took-bytes : (pool : List (List ℕ)) (many : ℕ) (old new : List PageByte) (s : Seg) → Took many old new s → bytes_at pool (take many old) ≡ bytes_at pool (places_of s) ++ bytes_at pool (take (many - s.len) new)
 took-bytes pool many old new s h = ap (bytes_at pool) (took-front many old new s h) ∙ map-append (byte_at pool) (places_of s) (take (many - s.len) new)
 
-pub took-less : (pool : List (List ℕ)) (many : ℕ) (old new : List Place) (s : Seg) → Took many old new s → length (bytes_at pool (take (many - s.len) new)) < length (bytes_at pool (take many old))
+pub took-less : (pool : List (List ℕ)) (many : ℕ) (old new : List PageByte) (s : Seg) → Took many old new s → length (bytes_at pool (take (many - s.len) new)) < length (bytes_at pool (take many old))
 took-less pool many old new s h =
     let e = ap length (took-bytes pool many old new s h) in
     let f = length-append (bytes_at pool (places_of s)) (bytes_at pool (take (many - s.len) new)) in
@@ -68,15 +68,15 @@ took-less pool many old new s h =
     omega arith
 
 -- a walk has left these places behind, and so many of `many` are to come
-pub record Walked (start behind ahead : List Place) (many left pages : ℕ) : Type 0 where
+pub record Walked (start behind ahead : List PageByte) (many left pages : ℕ) : Type 0 where
   pub whole : start ≡ behind ++ ahead
   pub count : length behind + left ≡ many
   pub stand : AllStandIn pages (take left ahead)
 
-pub walked_none : (start : List Place) (many pages : ℕ) → AllStandIn pages (take many start) → Walked start [] start many many pages
+pub walked_none : (start : List PageByte) (many pages : ℕ) → AllStandIn pages (take many start) → Walked start [] start many many pages
 walked_none start many pages h = record { whole = refl; count = omega arith; stand = h }
 
-pub walked_more : (start behind ahead next : List Place) (many left pages : ℕ) (s : Seg) → Walked start behind ahead many left pages → Took left ahead next s → Walked start (behind ++ places_of s) next many (left - s.len) pages
+pub walked_more : (start behind ahead next : List PageByte) (many left pages : ℕ) (s : Seg) → Walked start behind ahead many left pages → Took left ahead next s → Walked start (behind ++ places_of s) next many (left - s.len) pages
 walked_more start behind ahead next many left pages s h k =
     let long = length-run s.page s.off s.len in
     let sum = length-append behind (places_of s) in
@@ -88,12 +88,12 @@ walked_more start behind ahead next many left pages s h k =
       stand = took-stands pages left ahead next s k h.stand;
     }
 
-pub record Walks (start ahead behind : List Place) (many left : ℕ) : Type 0 where
+pub record Walks (start ahead behind : List PageByte) (many left : ℕ) : Type 0 where
   pub done : left ≡ 0
   pub behind_is : take many start ≡ behind
   pub ahead_is : ahead ≡ drop many start
 
-pub walked_all : (start behind ahead : List Place) (many left pages : ℕ) → Walked start behind ahead many left pages → take left ahead ≡ [] → many ≤ length start → Walks start ahead behind many left
+pub walked_all : (start behind ahead : List PageByte) (many left pages : ℕ) → Walked start behind ahead many left pages → take left ahead ≡ [] → many ≤ length start → Walks start ahead behind many left
 walked_all start behind ahead many left pages h e l =
     let sum = ap length h.whole in
     let parts = length-append behind ahead in
@@ -118,18 +118,18 @@ pub length-copied : (done size : ℕ) (into part : List ℕ) → length part ≡
 length-copied done size into part l h = simp (length-append, length-take, length-drop) (omega arith)
 
 -- the bytes at the places behind were copied out
-pub record Copies (pool : List (List ℕ)) (start ahead : List Place) (many done : ℕ) (copy : List ℕ) : Type 0 where
-  pub behind : List Place
+pub record Copies (pool : List (List ℕ)) (start ahead : List PageByte) (many done : ℕ) (copy : List ℕ) : Type 0 where
+  pub behind : List PageByte
   pub walked : Walked start behind ahead many (many - done) (length pool)
   pub most : done ≤ many
   pub same : copy ≡ bytes_at pool behind
 
-pub copies_none : (pool : List (List ℕ)) (start : List Place) (many : ℕ) → AllStandIn (length pool) (take many start) → Copies pool start start many 0 []
+pub copies_none : (pool : List (List ℕ)) (start : List PageByte) (many : ℕ) → AllStandIn (length pool) (take many start) → Copies pool start start many 0 []
 copies_none pool start many h =
     let n : many ≡ many - 0 = omega arith in
     record { behind = []; walked = subst (λ k. Walked start [] start many k (length pool)) n (walked_none start many (length pool) h); most = omega arith; same = refl }
 
-pub copies_more : (pool : List (List ℕ)) (start ahead next : List Place) (many done : ℕ) (copy part more : List ℕ) (s : Seg) → Copies pool start ahead many done copy → Took (many - done) ahead next s →
+pub copies_more : (pool : List (List ℕ)) (start ahead next : List PageByte) (many done : ℕ) (copy part more : List ℕ) (s : Seg) → Copies pool start ahead many done copy → Took (many - done) ahead next s →
     part ≡ bytes_at pool (places_of s) → more ≡ copy ++ part → Copies pool start next many (done + s.len) more
 copies_more pool start ahead next many done copy part more s h k e f =
     let most = k.most in
@@ -142,7 +142,7 @@ copies_more pool start ahead next many done copy part more s h k e f =
       same = f ∙ (ap (λ l. l ++ part) h.same ∙ (ap (λ l. bytes_at pool h.behind ++ l) e ∙ sym (map-append (byte_at pool) h.behind (places_of s))));
     }
 
-pub copies_all : (pool : List (List ℕ)) (start ahead : List Place) (many done : ℕ) (copy : List ℕ) → Copies pool start ahead many done copy → take (many - done) ahead ≡ [] → many ≤ length start →
+pub copies_all : (pool : List (List ℕ)) (start ahead : List PageByte) (many done : ℕ) (copy : List ℕ) → Copies pool start ahead many done copy → take (many - done) ahead ≡ [] → many ≤ length start →
     (copy ≡ bytes_at pool (take many start)) × (ahead ≡ drop many start) × (done ≡ many)
 copies_all pool start ahead many done copy h e l =
     let all = walked_all start h.behind ahead many (many - done) (length pool) h.walked e l in

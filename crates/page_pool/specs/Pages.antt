@@ -2,7 +2,7 @@ use Rattle.std.specs.Prelude.{◌≡◌, ℕ, ◌+◌, ◌<◌, ◌≤◌, List,
 use Rattle.std.specs.declared.alloc.Global.{Global}
 use Rattle.std.specs.declared.vec.Vec.{Vec}
 use Rattle.page_pool.specs.declared.segs.Seg.{Seg}
-use Rattle.page_pool.specs.Places.{Place, IsAmong, range_of}
+use Rattle.page_pool.specs.Places.{PageByte, IsAmong, range_of}
 
 -- the pages of a pool, each as its bytes
 abbrev pub contents : List (Vec ℕ Global) → List (List ℕ)
@@ -13,11 +13,11 @@ abbrev pub page_of : List (List ℕ) → ℕ → List ℕ
 page_of pool page = slice_index_or pool page []
 
 -- the byte at a place
-abbrev pub byte_at : List (List ℕ) → Place → ℕ
+abbrev pub byte_at : List (List ℕ) → PageByte → ℕ
 byte_at pool p = slice_index_or (page_of pool p.page) p.off 0
 
 -- the bytes at these places, in their order
-abbrev pub bytes_at : List (List ℕ) → List Place → List ℕ
+abbrev pub bytes_at : List (List ℕ) → List PageByte → List ℕ
 bytes_at pool ps = map (byte_at pool) ps
 
 -- the bytes of a range of a list: `len` bytes from the list's byte `at` on
@@ -51,13 +51,13 @@ abbrev pub with_part : List (List ℕ) → Seg → List ℕ → List (List ℕ)
 with_part pool s bytes = slice_set pool s.page (with_bytes (page_of pool s.page) s.off bytes)
 
 -- all bytes of the pool are as before but for those at these places
-pub record OthersStay (old new : List (List ℕ)) (ps : List Place) : Type 0 where
+pub record OthersStay (old new : List (List ℕ)) (ps : List PageByte) : Type 0 where
   pub pages : length new ≡ length old
   pub sizes : (page : ℕ) → length (page_of new page) ≡ length (page_of old page)
-  pub others : (p : Place) → ¬ IsAmong ps p → byte_at new p ≡ byte_at old p
+  pub others : (p : PageByte) → ¬ IsAmong ps p → byte_at new p ≡ byte_at old p
 
 -- these bytes stand at these places, and all other bytes are as before
-pub record Wrote (old new : List (List ℕ)) (ps : List Place) (bytes : List ℕ) : Type 0 where
+pub record Wrote (old new : List (List ℕ)) (ps : List PageByte) (bytes : List ℕ) : Type 0 where
   pub written : bytes_at new ps ≡ bytes
   pub others : OthersStay old new ps
 
@@ -65,4 +65,4 @@ pub record Wrote (old new : List (List ℕ)) (ps : List Place) (bytes : List ℕ
 pub record IsBlank (many : ℕ) (pool : List (List ℕ)) : Type 0 where
   pub pages : length pool ≡ many
   pub whole : AreWhole pool
-  pub zeros : (p : Place) → byte_at pool p ≡ 0
+  pub zeros : (p : PageByte) → byte_at pool p ≡ 0

@@ -1,7 +1,7 @@
 //! Segments, and lists of them.
 
-ghost use Rattle.std.specs.Prelude.{◌≡◌, ◌+◌, ◌≤◌, ◌<◌, ◌^◌, List, ℕ, drop};
-ghost use Rattle.page_pool.specs.Places.{places_in, total, touched};
+ghost use Rattle.std.specs.Prelude.{◌≡◌, ◌+◌, ◌≤◌, ◌<◌, ◌^◌, ◌↔◌, List, ℕ, drop, IsTrue};
+ghost use Rattle.page_pool.specs.Places.{Overlap, places_in, shares, total, touched};
 ghost use Rattle.page_pool.specs.Walking.{InPages};
 
 use crate::Walk;
@@ -17,6 +17,17 @@ pub struct Seg {
     pub off: u32,
     /// The number of bytes.
     pub len: u32,
+}
+
+impl Seg {
+    /// Whether some byte is in both segments: in one page, the later of their first bytes is then in both.
+    pub fn shares(self, other: Seg) -> bool
+        ensures value { result ≡ shares self other }
+        ensures exact { IsTrue result ↔ Overlap self other }
+    {
+        let first = self.off.max(other.off);
+        self.page == other.page && first - self.off < self.len && first - other.off < other.len
+    }
 }
 
 /// A scatter-gather list: segments whose bytes, one segment after another, are those of a buffer.

@@ -20,10 +20,10 @@ pub struct Walk<'a> {
 
 impl<'a> Model for Walk<'a> {
     ghost use Rattle.std.specs.Prelude.{List, drop};
-    ghost use Rattle.page_pool.specs.Places.{Place, places_in};
+    ghost use Rattle.page_pool.specs.Places.{PageByte, places_in};
     ghost use Rattle.page_pool.specs.Walking.{InPages};
 
-    ghost Value = { List Place };
+    ghost Value = { List PageByte };
 
     ghost view = { λ w. drop w.at (places_in w.segs.now) };
 

@@ -1,7 +1,7 @@
 -- Lists of whole pages.
 use Rattle.std.proofs.Common.{◌≡◌, ℕ, zero, suc, ◌+◌, ◌*◌, ◌/◌, ◌≤◌, ◌<◌, List, [], ◌∷◌, ◌++◌, length, take, drop, replicate, refl, sym, ap, ◌∙◌, subst, inl, inr, add-one, arith}
 use Rattle.page_pool.specs.declared.segs.Seg.{Seg}
-use Rattle.page_pool.specs.Places.{Place, places_of, places_in, range_of, total, IsAmong, NoneTwice, Apart}
+use Rattle.page_pool.specs.Places.{PageByte, places_of, places_in, range_of, total, IsAmong, NoneTwice, Apart}
 use Rattle.page_pool.specs.Pages.{AllLieIn, OthersStay, byte_at, bytes_at}
 use Rattle.page_pool.proofs.Placing.{among-append}
 use Rattle.page_pool.proofs.Separate.{once-append, run-once, within}
@@ -47,7 +47,7 @@ unfolding whole_pages
 are_tuples first zero = tt
 are_tuples first (suc n) = (refl, are_tuples (suc first) n)
 
-pub among : (first n : ℕ) (p : Place) → IsAmong (places_in (whole_pages first n)) p → (first ≤ p.page) × (p.page < first + n)
+pub among : (first n : ℕ) (p : PageByte) → IsAmong (places_in (whole_pages first n)) p → (first ≤ p.page) × (p.page < first + n)
 unfolding whole_pages
 among first zero p h = absurd h
 among first (suc n) p h = elim (among-append (places_of (record { page = first; off = 0; len = 4096 })) (places_in (whole_pages (suc first) n)) p h) [
@@ -64,7 +64,7 @@ once first (suc n) = once-append (places_of (record { page = first; off = 0; len
 pub apart : (first n next m : ℕ) → first + n ≤ next → Apart (places_in (whole_pages first n)) (places_in (whole_pages next m))
 apart first n next m h p k l = let a = (among first n p k).1 in let b = (among next m p l).0 in omega arith
 
-pub all_zeros : (pool : List (List ℕ)) (ps : List Place) → ((p : Place) → IsAmong ps p → byte_at pool p ≡ 0) → bytes_at pool ps ≡ replicate (length ps) 0
+pub all_zeros : (pool : List (List ℕ)) (ps : List PageByte) → ((p : PageByte) → IsAmong ps p → byte_at pool p ≡ 0) → bytes_at pool ps ≡ replicate (length ps) 0
 all_zeros pool [] h = refl
 all_zeros pool (p ∷ ps) h = let e = h p (inl refl) in let t = all_zeros pool ps (λ q m. h q (inr m)) in cc
 
@@ -91,7 +91,7 @@ body_lies r h = let e = h.pages in subst (λ l. AllLieIn r.pool l) (sym h.body) 
 pub tuples_once : (r : Request) → IsOfZeros r → NoneTwice (places_in r.payload.tuples)
 tuples_once r h = subst (λ l. NoneTwice (places_in l)) (sym h.tuples) (once 256 4)
 
-no_tuple : (r : Request) → IsOfZeros r → (p : Place) → IsAmong (places_in (whole_pages 0 256)) p → IsAmong (places_in r.payload.tuples) p → ⊥
+no_tuple : (r : Request) → IsOfZeros r → (p : PageByte) → IsAmong (places_in (whole_pages 0 256)) p → IsAmong (places_in r.payload.tuples) p → ⊥
 no_tuple r h p a b = apart 0 256 256 4 (omega arith) p a (subst (λ l. IsAmong (places_in l) p) h.tuples b)
 
 pub are_apart : (r : Request) → IsOfZeros r → Apart (places_in r.body) (places_in r.payload.tuples)

@@ -1,6 +1,6 @@
 use Rattle.std.specs.Prelude.{◌≡◌, ℕ, zero, suc, Bool, true, false, List, [], ◌∷◌, length, replicate}
 use Rattle.page_pool.specs.declared.segs.Seg.{Seg}
-use Rattle.page_pool.specs.Places.{Place, IsAmong, places_in}
+use Rattle.page_pool.specs.Places.{PageByte, IsAmong, places_in}
 use Rattle.page_pool.specs.Pages.{byte_at}
 use Rattle.pi_guard.specs.declared.GuardKind.{GuardKind}
 use Rattle.pi_guard.specs.declared.GuardKind.TheVariants.{Crc, Ip}
@@ -19,7 +19,7 @@ pub record IsOfZeros (r : Request) : Type 0 where
   pub tuples : r.payload.tuples ≡ whole_pages 256 4
   pub body : r.body ≡ whole_pages 0 256
   pub pages : length r.pool ≡ 260
-  pub zeros : (p : Place) → IsAmong (places_in (whole_pages 0 256)) p → byte_at r.pool p ≡ 0
+  pub zeros : (p : PageByte) → IsAmong (places_in (whole_pages 0 256)) p → byte_at r.pool p ≡ 0
 
 abbrev pub kind_if : Bool → GuardKind
 kind_if true = Ip

@@ -4,7 +4,7 @@ use Rattle.std.proofs.lemmas.List.{drop-drop, take-append-drop}
 use Rattle.std.proofs.lemmas.Bool.{cases_lt}
 use Rattle.std.proofs.lemmas.Bool.Decides.{eqb_tells}
 use Rattle.page_pool.specs.declared.segs.Seg.{Seg}
-use Rattle.page_pool.specs.Places.{Place, places_in, range_of, NoneTwice}
+use Rattle.page_pool.specs.Places.{PageByte, places_in, range_of, NoneTwice}
 use Rattle.page_pool.specs.Pages.{bytes_at, OthersStay, Wrote}
 use Rattle.page_pool.proofs.Placing.{once-apart}
 use Rattle.page_pool.proofs.Spreads.{bytes_stay, others_stay}
@@ -17,7 +17,7 @@ use Rattle.integrity_payload.proofs.Fills.{among-take, among-early, take-sum, st
 use Rattle.ref_remap.specs.Remapped.{low_32, remapped, remapped_bytes, MappedOut, made_virtual}
 
 -- the first i tuples from k on are rewritten
-pub record Rewrites (old now : List (List ℕ)) (segs : List Seg) (ty : PiType) (k from to i : ℕ) (reader writer : List Place) : Type 0 where
+pub record Rewrites (old now : List (List ℕ)) (segs : List Seg) (ty : PiType) (k from to i : ℕ) (reader writer : List PageByte) : Type 0 where
   pub reader_is : reader ≡ drop (8 * (k + i)) (places_in segs)
   pub writer_is : writer ≡ drop (8 * (k + i)) (places_in segs)
   pub held : (j : ℕ) → j < i → HoldsTuple now segs (k + j) (remapped ty (from + j) (to + j) (tuple_of old segs (k + j)))
@@ -48,7 +48,7 @@ each_spelt old segs k i j before last h = elim (cases_lt j i) [
   | inr l ↦ let e : i ≡ j = omega arith in subst (λ m. tuple_bytes (tuple_of old segs (k + m)) ≡ bytes_at old (tuple_places segs (k + m))) e last
 ]
 
-pub rewrites_more : (old now new : List (List ℕ)) (segs : List Seg) (ty : PiType) (k from to i : ℕ) (reader reader' writer writer' : List Place) (bytes : List ℕ) (t : Tuple) →
+pub rewrites_more : (old now new : List (List ℕ)) (segs : List Seg) (ty : PiType) (k from to i : ℕ) (reader reader' writer writer' : List PageByte) (bytes : List ℕ) (t : Tuple) →
     NoneTwice (places_in segs) → Rewrites old now segs ty k from to i reader writer → bytes ≡ bytes_at now (take 8 reader) → tuple_bytes (tuple_in bytes) ≡ bytes → t ≡ remapped ty (from + i) (to + i) (tuple_in bytes) →
     tuple_in (tuple_bytes t) ≡ t → Wrote now new (take 8 writer) (tuple_bytes t) → reader' ≡ drop 8 reader → writer' ≡ drop 8 writer →
     Rewrites old new segs ty k from to (i + 1) reader' writer'
