@@ -1,5 +1,9 @@
+pub mod Celled
+pub mod Cutting
+pub mod Joins
 pub mod Paging
 pub mod Placing
+pub mod Ranges
 pub mod Separate
 pub mod Sharing
 pub mod Spreads

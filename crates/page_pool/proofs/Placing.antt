@@ -178,3 +178,8 @@ one_in_page page off b k = k.0
 pub first_in_page : (page off n at : ℕ) (b : List PageByte) → at < n → InPages (drop at (run page off n ++ b)) → off + at < 4096
 first_in_page page off n at b h k =
     one_in_page page (off + at) (drop (at + 1) (run page off n ++ b)) (subst (λ l. InPages l) (takes page off n at 1 b (omega arith)) k)
+
+-- a list lies in every pool of as many pages
+pub all_lie-same : (old new : List (List ℕ)) (ss : List Seg) → length new ≡ length old → AllLieIn old ss → AllLieIn new ss
+all_lie-same old new [] e h = tt
+all_lie-same old new (s ∷ ss) e h = let k = h.0.in_pool in (record { in_pool = omega arith; in_page = h.0.in_page }, all_lie-same old new ss e h.1)

@@ -1,25 +1,25 @@
-use Rattle.std.proofs.Common.{◌≡◌, ℕ, ◌+◌, ◌-◌, ◌≤◌, ◌<◌, min, List, [], ◌∷◌, ◌++◌, length, take, drop, refl, sym, ap, ◌∙◌, subst, ◌≢◌, zero, suc, append_assoc, take_at, arith}
+use Rattle.std.proofs.Common.{◌≡◌, ℕ, ◌+◌, ◌-◌, ◌≤◌, ◌<◌, min, List, [], ◌∷◌, ◌++◌, length, take, drop, refl, sym, ap, ◌∙◌, subst, ◌≢◌, append_assoc, take_at, arith}
 use borrow.Rule.Slice.PartMut.{put_mid}
 use Rattle.std.proofs.lemmas.Slice.{take-put_mid}
-use Rattle.std.proofs.lemmas.List.{length-append, length-map, length-take, length-drop, map-append, drop-drop, drop_at}
+use Rattle.std.proofs.lemmas.List.{length-append, length-take, length-drop, map-append, take-append-drop, take-take, drop_at}
 use Rattle.page_pool.specs.declared.segs.Seg.{Seg}
-use Rattle.page_pool.specs.Places.{PageByte, run, places_of, places_in}
+use Rattle.page_pool.specs.Places.{PageByte, places_of, places_in}
 use Rattle.page_pool.specs.Pages.{byte_at, bytes_at, LiesIn}
 use Rattle.page_pool.specs.Ahead.{BeginsAt}
+use Rattle.page_pool.specs.Cuts.{past, upto}
 use Rattle.page_pool.specs.Walking.{AllStandIn, InPages, Took}
-use Rattle.page_pool.proofs.Placing.{length-run, takes, first_in_page, in_pages-drop, stand-front, stand-back, lies}
+use Rattle.page_pool.proofs.Cutting.{take-front, places-past, places-upto, past-past, first_part}
+use Rattle.page_pool.proofs.Placing.{length-run, first_in_page, in_pages-drop, stand-front, stand-back, lies}
 
 -- the first segment ahead is this one
 pub record Begins (segs : List Seg) (first : Seg) (at : ℕ) : Type 0 where
   pub inside : at < first.len
-  pub same : (len : ℕ) → at + len ≤ first.len → drop at (places_in segs) ≡ run first.page (first.off + at) len ++ drop (at + len) (places_in segs)
-  pub page : InPages (drop at (places_in segs)) → first.off + at < 4096
+  pub page : InPages (places_in (past at segs)) → first.off + at < 4096
 
 begins-first : (first : Seg) (more : List Seg) (at : ℕ) → at < first.len → Begins (first ∷ more) first at
 begins-first first more at h = record {
   inside = h;
-  same = λ len k. takes first.page first.off first.len at len (places_in more) k;
-  page = λ k. first_in_page first.page first.off first.len at (places_in more) h k;
+  page = λ k. first_in_page first.page first.off first.len at (places_in more) h (subst (λ l. InPages l) (places-past at (first ∷ more)) k);
 }
 
 pub begins : (segs more : List Seg) (first : Seg) (at : ℕ) → BeginsAt segs at → segs ≡ first ∷ more → Begins segs first at
@@ -27,45 +27,68 @@ begins segs more first at h e =
     let k = subst (λ l. BeginsAt l at) e h in
     subst (λ l. Begins l first at) (sym e) (begins-first first more at k)
 
-pub took : (old : List PageByte) (segs : List Seg) (first : Seg) (at len many : ℕ) → old ≡ drop at (places_in segs) → Begins segs first at → len ≡ min (first.len - at) many → len ≢ 0 →
-    Took many old (drop (at + len) (places_in segs)) (record { page = first.page; off = first.off + at; len = len })
-took old segs first at len many e h f z =
-    let i = h.inside in
-    record { some = omega arith; most = omega arith; ahead = e ∙ h.same len (omega arith) }
+pub took : (old segs more : List Seg) (first : Seg) (at len most : ℕ) → old ≡ past at segs → segs ≡ first ∷ more → at < first.len → len ≡ min (first.len - at) most → len ≢ 0 →
+    Took most old (past (at + len) segs) (record { page = first.page; off = first.off + at; len = len })
+took old segs more first at len most e f h m z =
+    rw (e, f) (first_part first more at len most h m z)
 
-pub still_in_pages : (segs : List Seg) (at len : ℕ) → InPages (drop at (places_in segs)) → InPages (drop (at + len) (places_in segs))
-still_in_pages segs at len h = subst (λ l. InPages l) (drop-drop len at (places_in segs)) (in_pages-drop len (drop at (places_in segs)) h)
+pub still_in_pages : (segs : List Seg) (at len : ℕ) → InPages (places_in (past at segs)) → InPages (places_in (past (at + len) segs))
+still_in_pages segs at len h =
+    subst (λ l. InPages l) (sym (places-past len (past at segs)) ∙ ap places_in (past-past len at segs)) (in_pages-drop len (places_in (past at segs)) h)
+
+-- a part that was taken, by its places: they were the first ahead
+pub record Passed (many : ℕ) (old new : List PageByte) (s : Seg) : Type 0 where
+  pub some : 0 < s.len
+  pub most : s.len ≤ many
+  pub ahead : old ≡ places_of s ++ new
+
+pub passed : (many : ℕ) (old new : List Seg) (s : Seg) → Took many old new s → Passed many (places_in old) (places_in new) s
+passed many old new s h =
+    let whole : take many (places_in old) ≡ places_of s ++ take (many - s.len) (places_in new) = sym (places-upto many old) ∙ (ap places_in h.first ∙ ap (λ l. places_of s ++ l) (places-upto (many - s.len) new)) in
+    let front : take s.len (places_in old) ≡ places_of s =
+    sym (take-take s.len many (places_in old) h.within) ∙ (ap (take s.len) whole ∙ take_at (places_of s) (take (many - s.len) (places_in new)) s.len (length-run s.page s.off s.len)) in
+    let back : places_in new ≡ drop s.len (places_in old) = ap places_in h.ahead ∙ places-past s.len old in
+    record {
+      some = h.some;
+      most = h.within;
+      ahead = sym (take-append-drop s.len (places_in old)) ∙ (ap (λ l. l ++ drop s.len (places_in old)) front ∙ ap (λ l. places_of s ++ l) (sym back));
+    }
+
+-- nothing is left of what was asked for
+pub no_places : (many : ℕ) (ahead : List Seg) → upto many ahead ≡ [] → take many (places_in ahead) ≡ []
+no_places many ahead h = sym (places-upto many ahead) ∙ ap places_in h
+
+-- so many bytes of a list are behind
+pub record Gone (start now : List Seg) (done : ℕ) : Type 0 where
+  pub same : past 0 now ≡ past done start
+
+pub gone_none : (start : List Seg) → Gone start start 0
+gone_none start = record { same = refl }
+
+pub gone_more : (start now next : List Seg) (done : ℕ) (s : Seg) (many : ℕ) → Gone start now done → Took many now next s → Gone start next (done + s.len)
+gone_more start now next done s many h k =
+    let here : past (s.len + 0) now ≡ past (0 + s.len) now = ap (λ n. past n now) (let e : s.len + 0 ≡ 0 + s.len = omega arith in e) in
+    record {
+      same = ap (past 0) k.ahead ∙ (past-past 0 s.len now ∙ (here ∙ (sym (past-past s.len 0 now) ∙ (ap (past s.len) h.same ∙ past-past s.len done start))));
+    }
+
+pub stays : (old segs : List Seg) (at : ℕ) → old ≡ past at segs → old ≡ past 0 old
+stays old segs at e = e ∙ (ap (λ n. past n segs) (let f : at ≡ at + 0 = omega arith in f) ∙ (sym (past-past 0 at segs) ∙ ap (past 0) (sym e)))
 
 -- a part of a range
 
-pub take-front : {X : Type 0} (a b : List X) (n : ℕ) → length a ≤ n → take n (a ++ b) ≡ a ++ take (n - length a) b
-take-front [] b n h = ap (λ k. take k b) (let e : n ≡ n - 0 = omega arith in e)
-take-front (x ∷ a) b zero h = absurd (omega arith)
-take-front (x ∷ a) b (suc n) h = ap (λ l. x ∷ l) (take-front a b n (omega arith)) ∙ ap (λ k. x ∷ (a ++ take k b)) (let e : n - length a ≡ suc n - suc (length a) = omega arith in e)
-
-pub took-front : (many : ℕ) (old new : List PageByte) (s : Seg) → Took many old new s → take many old ≡ places_of s ++ take (many - s.len) new
+pub took-front : (many : ℕ) (old new : List PageByte) (s : Seg) → Passed many old new s → take many old ≡ places_of s ++ take (many - s.len) new
 took-front many old new s h =
     let long = length-run s.page s.off s.len in
     let m = h.most in
     ap (take many) h.ahead ∙ (take-front (places_of s) new many (omega arith) ∙ ap (λ n. places_of s ++ take (many - n) new) long)
 
-pub took-stands : (pages many : ℕ) (old new : List PageByte) (s : Seg) → Took many old new s → AllStandIn pages (take many old) → AllStandIn pages (take (many - s.len) new)
+pub took-stands : (pages many : ℕ) (old new : List PageByte) (s : Seg) → Passed many old new s → AllStandIn pages (take many old) → AllStandIn pages (take (many - s.len) new)
 took-stands pages many old new s h k = stand-back pages (places_of s) (take (many - s.len) new) (subst (λ l. AllStandIn pages l) (took-front many old new s h) k)
 
-pub took-lies : (pool : List (List ℕ)) (many : ℕ) (old new : List PageByte) (s : Seg) → Took many old new s → AllStandIn (length pool) (take many old) → LiesIn pool s
+pub took-lies : (pool : List (List ℕ)) (many : ℕ) (old new : List PageByte) (s : Seg) → Passed many old new s → AllStandIn (length pool) (take many old) → LiesIn pool s
 took-lies pool many old new s h k =
     lies pool s h.some (stand-front (length pool) (places_of s) (take (many - s.len) new) (subst (λ l. AllStandIn (length pool) l) (took-front many old new s h) k))
-
-pub took-bytes : (pool : List (List ℕ)) (many : ℕ) (old new : List PageByte) (s : Seg) → Took many old new s → bytes_at pool (take many old) ≡ bytes_at pool (places_of s) ++ bytes_at pool (take (many - s.len) new)
-took-bytes pool many old new s h = ap (bytes_at pool) (took-front many old new s h) ∙ map-append (byte_at pool) (places_of s) (take (many - s.len) new)
-
-pub took-less : (pool : List (List ℕ)) (many : ℕ) (old new : List PageByte) (s : Seg) → Took many old new s → length (bytes_at pool (take (many - s.len) new)) < length (bytes_at pool (take many old))
-took-less pool many old new s h =
-    let e = ap length (took-bytes pool many old new s h) in
-    let f = length-append (bytes_at pool (places_of s)) (bytes_at pool (take (many - s.len) new)) in
-    let g : length (bytes_at pool (places_of s)) ≡ s.len = length-map (places_of s) (byte_at pool) ∙ length-run s.page s.off s.len in
-    let k = h.some in
-    omega arith
 
 -- a walk has left these places behind, and so many of `many` are to come
 pub record Walked (start behind ahead : List PageByte) (many left pages : ℕ) : Type 0 where
@@ -76,7 +99,7 @@ pub record Walked (start behind ahead : List PageByte) (many left pages : ℕ) :
 pub walked_none : (start : List PageByte) (many pages : ℕ) → AllStandIn pages (take many start) → Walked start [] start many many pages
 walked_none start many pages h = record { whole = refl; count = omega arith; stand = h }
 
-pub walked_more : (start behind ahead next : List PageByte) (many left pages : ℕ) (s : Seg) → Walked start behind ahead many left pages → Took left ahead next s → Walked start (behind ++ places_of s) next many (left - s.len) pages
+pub walked_more : (start behind ahead next : List PageByte) (many left pages : ℕ) (s : Seg) → Walked start behind ahead many left pages → Passed left ahead next s → Walked start (behind ++ places_of s) next many (left - s.len) pages
 walked_more start behind ahead next many left pages s h k =
     let long = length-run s.page s.off s.len in
     let sum = length-append behind (places_of s) in
@@ -129,7 +152,7 @@ copies_none pool start many h =
     let n : many ≡ many - 0 = omega arith in
     record { behind = []; walked = subst (λ k. Walked start [] start many k (length pool)) n (walked_none start many (length pool) h); most = omega arith; same = refl }
 
-pub copies_more : (pool : List (List ℕ)) (start ahead next : List PageByte) (many done : ℕ) (copy part more : List ℕ) (s : Seg) → Copies pool start ahead many done copy → Took (many - done) ahead next s →
+pub copies_more : (pool : List (List ℕ)) (start ahead next : List PageByte) (many done : ℕ) (copy part more : List ℕ) (s : Seg) → Copies pool start ahead many done copy → Passed (many - done) ahead next s →
     part ≡ bytes_at pool (places_of s) → more ≡ copy ++ part → Copies pool start next many (done + s.len) more
 copies_more pool start ahead next many done copy part more s h k e f =
     let most = k.most in

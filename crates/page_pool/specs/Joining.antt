@@ -1,12 +1,17 @@
-use Rattle.std.specs.Prelude.{◌≡◌, ℕ, List, [], ◌++◌, take, Option, MatchOption}
-use Rattle.std.specs.Borrow.{Bor}
+use Rattle.std.specs.Prelude.{ℕ, List, map}
 use Rattle.page_pool.specs.declared.parts.Parts.{Parts}
-use Rattle.page_pool.specs.Pages.{bytes_at}
+use Rattle.page_pool.specs.declared.segs.Seg.{Seg}
+use Rattle.page_pool.specs.Cuts.{cut, upto}
+use Rattle.page_pool.specs.Pages.{AllLieIn, part}
 
--- the bytes whose parts are still to come
-abbrev pub bytes_left : Parts → List ℕ
-bytes_left s = bytes_at s.pool.now (take s.left s.walk)
+-- the parts of a range: the page's bytes at each of its cut segments
+abbrev pub parts_in : List (List ℕ) → List Seg → ℕ → ℕ → List (List ℕ)
+parts_in pool segs at len = map (part pool) (cut segs at len)
 
--- the next part is the first of the bytes that were to come, and the rest is to come
-abbrev pub YieldsPart : Parts → Option (Bor (List ℕ)) → Parts → Type 0
-YieldsPart s r t = MatchOption r ((bytes_left s ≡ []) × (bytes_left t ≡ [])) (λ x. bytes_left s ≡ x.now ++ bytes_left t)
+-- the parts that are still to come
+abbrev pub parts_left : Parts → List (List ℕ)
+parts_left s = map (part s.pool.now) (upto s.left s.walk)
+
+-- they lie in the pool
+abbrev pub AreReady : Parts → Type 0
+AreReady s = AllLieIn s.pool.now (upto s.left s.walk)

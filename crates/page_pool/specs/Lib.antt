@@ -1,4 +1,6 @@
 pub mod Ahead
+pub mod Cells
+pub mod Cuts
 pub mod Joining
 pub mod Lending
 pub mod Pages

@@ -1,4 +1,4 @@
-use Rattle.std.specs.Prelude.{◌≡◌, ℕ, Bool, zero, suc, ◌+◌, ◌-◌, min, max, nat_lt, eqb, ◌&&◌, if◌then◌else◌, ◌⊎◌, List, [], ◌∷◌, ◌++◌, take, drop}
+use Rattle.std.specs.Prelude.{◌≡◌, ℕ, Bool, zero, suc, ◌+◌, ◌-◌, max, nat_lt, eqb, ◌&&◌, ◌⊎◌, List, [], ◌∷◌, ◌++◌, take, drop}
 use Rattle.page_pool.specs.declared.segs.Seg.{Seg}
 
 -- where a byte of a pool stands: the page and the offset there
@@ -28,11 +28,6 @@ range_of segs at len = take len (drop at (places_in segs))
 abbrev pub total : List Seg → ℕ
 total [] = 0
 total (s ∷ ss) = s.len + total ss
-
--- the number of segments with a byte of the list's bytes `from` to before `end`
-abbrev pub touched : List Seg → ℕ → ℕ → ℕ
-touched [] from end = 0
-touched (s ∷ ss) from end = (if nat_lt from (min s.len end) then 1 else 0) + touched ss (from - s.len) (end - s.len)
 
 -- the place is one of these
 abbrev pub IsAmong : List PageByte → PageByte → Type 0

@@ -1,6 +1,7 @@
-use Rattle.std.specs.Prelude.{◌≡◌, ℕ, ◌<◌, ◌≤◌, List, [], ◌∷◌, ◌++◌, take, Option, MatchOption}
+use Rattle.std.specs.Prelude.{◌≡◌, ℕ, ◌-◌, ◌<◌, ◌≤◌, List, [], ◌∷◌, Option, MatchOption}
 use Rattle.page_pool.specs.declared.segs.Seg.{Seg}
-use Rattle.page_pool.specs.Places.{PageByte, places_of}
+use Rattle.page_pool.specs.Places.{PageByte}
+use Rattle.page_pool.specs.Cuts.{past, upto}
 
 -- each place is in a page of the pool
 pub record StandsIn (pages : ℕ) (p : PageByte) : Type 0 where
@@ -16,12 +17,13 @@ abbrev pub InPages : List PageByte → Type 0
 InPages [] = Unit {0}
 InPages (p ∷ ps) = (p.off < 4096) × InPages ps
 
--- a part of at most so many bytes was taken, the first of what was ahead, and the rest is ahead
-pub record Took (many : ℕ) (old new : List PageByte) (s : Seg) : Type 0 where
+-- a part of at most so many bytes was taken, the first of what was ahead, and what is behind it is ahead
+pub record Took (most : ℕ) (old new : List Seg) (s : Seg) : Type 0 where
   pub some : 0 < s.len
-  pub most : s.len ≤ many
-  pub ahead : old ≡ places_of s ++ new
+  pub within : s.len ≤ most
+  pub first : upto most old ≡ s ∷ upto (most - s.len) new
+  pub ahead : new ≡ past s.len old
 
 -- a step of a walk: it took a part, or nothing was asked for or ahead
-abbrev pub Steps : ℕ → List PageByte → Option Seg → List PageByte → Type 0
-Steps many old r new = MatchOption r ((new ≡ old) × (take many old ≡ [])) (Took many old new)
+abbrev pub Steps : ℕ → List Seg → Option Seg → List Seg → Type 0
+Steps most old r new = MatchOption r ((upto most old ≡ []) × (new ≡ past 0 old)) (Took most old new)

@@ -2,12 +2,16 @@
 //! speaks of it holds names.
 #![tactic(auto)]
 
+mod laws;
 mod parts;
 mod pool;
 mod segs;
 mod transfer;
 mod walk;
 
+pub use laws::{
+    a_part_is_written, a_pool_is_cells, a_range_is_of_its_list, a_walk_goes_on, cells_in_turn,
+};
 pub use parts::Parts;
 pub use pool::PagePool;
 pub use segs::{Seg, SgList};

@@ -1,15 +1,16 @@
 //! The borrowed parts of a range.
 
-ghost use Rattle.std.specs.Prelude.{◌≡◌, ◌+◌, ◌≤◌, ℕ, length, take};
-ghost use Rattle.std.specs.Iterator.{at_most};
+ghost use Rattle.std.specs.Prelude.{◌≡◌, ◌+◌, ◌≤◌};
+ghost use Rattle.std.specs.Iterator.{YieldsFirstRef, item_count};
+ghost use Rattle.page_pool.specs.Cells.{flat};
+ghost use Rattle.page_pool.specs.Joining.{AreReady, parts_in, parts_left};
 ghost use Rattle.page_pool.specs.Pages.{AllLieIn, bytes_in};
 ghost use Rattle.page_pool.specs.Places.{total};
-ghost use Rattle.page_pool.specs.Joining.{YieldsPart, bytes_left};
-ghost use Rattle.page_pool.specs.Walking.{AllStandIn};
 
 use crate::{PagePool, SgList, Walk};
 
-/// The borrowed parts of a range of a list, in the list's order. Joined they are the range's bytes.
+/// The borrowed parts of a range of a list: one for each segment with a byte of the range, cut to the range, in the
+/// list's order. Joined they are the range's bytes.
 #[derive(Drop)]
 pub struct Parts<'a> {
     pool: &'a PagePool,
@@ -20,11 +21,11 @@ pub struct Parts<'a> {
 impl<'a> Iterator for Parts<'a> {
     type Item = &'a [u8];
 
-    ghost can_next = { λ s. AllStandIn (length s.pool.now) (take s.left s.walk) };
+    ghost can_next = { AreReady };
 
-    ghost next_gives = { YieldsPart };
+    ghost next_gives = { YieldsFirstRef parts_left };
 
-    ghost remaining = { λ s. at_most (length (bytes_left s)) };
+    ghost remaining = { item_count parts_left };
 
     fn next(&mut self) -> Option<&'a [u8]> {
         let s = self.walk.next_part(self.left)?;
@@ -39,9 +40,12 @@ impl PagePool {
     pub fn parts<'a>(&'a self, sg: &'a SgList, at: u32, len: u32) -> Parts<'a>
         requires lie { AllLieIn self.now sg.now }
         requires range { at + len ≤ total sg.now }
-        ensures ready { AllStandIn (length result.pool.now) (take result.left result.walk) }
-        ensures joined { bytes_left result ≡ bytes_in self.now sg.now at len }
+        ensures ready { AreReady result }
+        ensures parts { parts_left result ≡ parts_in self.now sg.now at len }
+        ensures joined { flat (parts_left result) ≡ bytes_in self.now sg.now at len }
     {
+        // Its pages are known to be whole once they were counted.
+        let _pages = self.pages();
         Parts {
             pool: self,
             walk: sg.walk(at),

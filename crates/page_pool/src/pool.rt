@@ -39,6 +39,14 @@ impl PagePool {
         Ok(PagePool { pages: list })
     }
 
+    /// The number of pages. It asks for nothing, and tells that each page has 4,096 bytes.
+    pub fn pages(&self) -> usize
+        ensures count { result ≡ length self.now }
+        ensures whole { AreWhole self.now }
+    {
+        self.pages.len()
+    }
+
     /// The page's bytes at the segment, which lies in the pool.
     pub fn part(&self, s: Seg) -> &[u8]
         requires { LiesIn self.now s }

@@ -1,7 +1,8 @@
 //! Segments, and lists of them.
 
-ghost use Rattle.std.specs.Prelude.{◌≡◌, ◌+◌, ◌≤◌, ◌<◌, ◌^◌, ◌↔◌, List, ℕ, drop, IsTrue};
-ghost use Rattle.page_pool.specs.Places.{Overlap, places_in, shares, total, touched};
+ghost use Rattle.std.specs.Prelude.{◌≡◌, ◌+◌, ◌≤◌, ◌<◌, ◌^◌, ◌↔◌, List, ℕ, length, IsTrue};
+ghost use Rattle.page_pool.specs.Places.{Overlap, places_in, shares, total};
+ghost use Rattle.page_pool.specs.Cuts.{cut, past};
 ghost use Rattle.page_pool.specs.Walking.{InPages};
 
 use crate::Walk;
@@ -76,16 +77,15 @@ impl SgList {
     /// The number of segments that hold a byte of the range of `len` bytes from byte `at` of the list on.
     pub fn segs_in(&self, at: u32, len: u32) -> u32
         requires { at + len ≤ total self.now }
-        ensures { result ≡ touched self.now at (at + len) }
+        ensures { result ≡ length (cut self.now at len) }
     {
-        let segs = self.as_slice();
-        count_touched(segs, at, at + len)
+        count_cut(self.as_slice(), at, len)
     }
 
     /// A walk along the list's bytes from byte `at` on. No byte may lie behind its page's end.
     pub fn walk(&self, at: u32) -> Walk<'_>
         requires { InPages (places_in self.now) }
-        ensures ahead { result ≡ drop at (places_in self.now) }
+        ensures ahead { result ≡ past at self.now }
         ensures bound { total self.now < 2 ^ 32 }
     {
         Walk::new(self.as_slice(), at)
@@ -103,19 +103,19 @@ fn sum_of(segs: &[Seg]) -> u32
     sum
 }
 
-fn count_touched(segs: &[Seg], from: u32, end: u32) -> u32
-    requires { end ≤ total segs.now }
-    ensures { result ≡ touched segs.now from end }
+fn count_cut(segs: &[Seg], at: u32, len: u32) -> u32
+    ensures { result ≡ length (cut segs.now at len) }
 {
-    let mut from = from;
-    let mut end = end;
+    let mut at = at;
+    let mut left = len;
     let mut count = 0u32;
     for s in segs {
-        if from < s.len.min(end) {
+        let here = s.len.saturating_sub(at).min(left);
+        if here > 0 {
             count += 1;
         }
-        from = from.saturating_sub(s.len);
-        end = end.saturating_sub(s.len);
+        left -= here;
+        at = at.saturating_sub(s.len);
     }
     count
 }

@@ -118,3 +118,26 @@ fn a_list_of_512_segments_has_512_parts(rt: HostRuntime) -> Result<(), Fail> {
     assert_eq!(rt; sg.segs_in(1, 510), 510);
     Ok(())
 }
+
+// Bytes 10 to 19 of page 1 beside their neighbours, an empty segment inside them, and the last number of all.
+#[test]
+fn segments_share_bytes(rt: HostRuntime) {
+    let bytes = seg(1, 10, 10);
+    let last = seg(1, 0xFFFF_FFFF, 0xFFFF_FFFF);
+    let rows = [
+        (seg(1, 10, 10), true),
+        (seg(1, 19, 1), true),
+        (seg(1, 20, 5), false),
+        (seg(1, 0, 11), true),
+        (seg(1, 0, 10), false),
+        (seg(1, 12, 3), true),
+        (seg(1, 12, 0), false),
+        (seg(2, 10, 10), false),
+        (last, false),
+    ];
+    for (other, shared) in rows {
+        assert_eq!(rt; bytes.shares(other), shared, "{other:?}");
+        assert_eq!(rt; other.shares(bytes), shared, "{other:?}");
+    }
+    assert!(rt; last.shares(last));
+}

@@ -1,7 +1,8 @@
 //! Bytes copied out of and into the next bytes of a walk and a range of a list, and set to zero.
 
-ghost use Rattle.std.specs.Prelude.{◌≡◌, ◌+◌, ◌≤◌, ◌<◌, ◌^◌, length, take, drop, replicate};
-ghost use Rattle.page_pool.specs.Pages.{AllLieIn, Wrote, bytes_at, bytes_in};
+ghost use Rattle.std.specs.Prelude.{◌≡◌, ◌+◌, ◌≤◌, ◌<◌, ◌^◌, length, replicate};
+ghost use Rattle.page_pool.specs.Pages.{AllLieIn, Wrote, bytes_in};
+ghost use Rattle.page_pool.specs.Cuts.{past};
 ghost use Rattle.page_pool.specs.Places.{NoneTwice, range_of, total};
 ghost use Rattle.page_pool.specs.Walking.{AllStandIn};
 
@@ -10,11 +11,11 @@ use crate::{PagePool, SgList, Walk};
 impl PagePool {
     /// Copies out the next bytes of the walk, as many as `into` has, and walks on. They are ahead and in the pool.
     pub fn read_ahead(&self, walk: &mut Walk<'_>, into: &mut [u8])
-        requires stand { AllStandIn (length self.now) (take (length into.old) walk.old) }
-        requires room { length into.old ≤ length walk.old }
+        requires stand { AllStandIn (length self.now) (range_of walk.old 0 (length into.old)) }
+        requires room { length into.old ≤ total walk.old }
         requires small { length into.old < 2 ^ 32 }
-        ensures bytes { into.new ≡ bytes_at self.now (take (length into.old) walk.old) }
-        ensures ahead { walk.new ≡ drop (length into.old) walk.old }
+        ensures bytes { into.new ≡ bytes_in self.now walk.old 0 (length into.old) }
+        ensures ahead { walk.new ≡ past (length into.old) walk.old }
     {
         let mut done = 0usize;
         while let Some(s) = walk.next_part((into.len() - done) as u32) {
@@ -27,12 +28,12 @@ impl PagePool {
     /// Writes these bytes as the next ones of the walk, and walks on. Their places are ahead and in the pool, and
     /// none of them is there twice.
     pub fn write_ahead(&mut self, walk: &mut Walk<'_>, bytes: &[u8])
-        requires stand { AllStandIn (length self.old) (take (length bytes.now) walk.old) }
-        requires once { NoneTwice (take (length bytes.now) walk.old) }
-        requires room { length bytes.now ≤ length walk.old }
+        requires stand { AllStandIn (length self.old) (range_of walk.old 0 (length bytes.now)) }
+        requires once { NoneTwice (range_of walk.old 0 (length bytes.now)) }
+        requires room { length bytes.now ≤ total walk.old }
         requires small { length bytes.now < 2 ^ 32 }
-        ensures wrote { Wrote self.old self.new (take (length bytes.now) walk.old) bytes.now }
-        ensures ahead { walk.new ≡ drop (length bytes.now) walk.old }
+        ensures wrote { Wrote self.old self.new (range_of walk.old 0 (length bytes.now)) bytes.now }
+        ensures ahead { walk.new ≡ past (length bytes.now) walk.old }
     {
         let mut rest = bytes;
         while let Some(s) = walk.next_part(rest.len() as u32) {
@@ -49,8 +50,7 @@ impl PagePool {
         requires range { at + length into.old ≤ total sg.now }
         ensures { into.new ≡ bytes_in self.now sg.now at (length into.old) }
     {
-        let mut walk = sg.walk(at);
-        self.read_ahead(&mut walk, into);
+        self.read_ahead(&mut sg.walk(at), into);
     }
 
     /// Copies these bytes into the range from byte `at` of the list on; all other bytes are as before. The range
@@ -61,8 +61,7 @@ impl PagePool {
         requires range { at + length from.now ≤ total sg.now }
         ensures { Wrote self.old self.new (range_of sg.now at (length from.now)) from.now }
     {
-        let mut walk = sg.walk(at);
-        self.write_ahead(&mut walk, from);
+        self.write_ahead(&mut sg.walk(at), from);
     }
 
     /// Sets the range of `len` bytes from byte `at` of the list on to zero; all other bytes are as before. The

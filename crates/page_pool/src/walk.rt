@@ -1,6 +1,7 @@
 //! A walk along the bytes of a list, part by part.
 
-ghost use Rattle.std.specs.Prelude.{◌≡◌, ◌+◌, ◌≤◌, ◌<◌, List, ℕ, drop, [], length};
+ghost use Rattle.std.specs.Prelude.{◌≡◌, ◌+◌, ◌≤◌, ◌<◌, List, ℕ, [], length};
+ghost use Rattle.page_pool.specs.Cuts.{past};
 ghost use Rattle.page_pool.specs.Places.{places_in};
 ghost use Rattle.page_pool.specs.Walking.{InPages, Steps};
 ghost use Rattle.page_pool.specs.Ahead.{IsAhead};
@@ -8,7 +9,8 @@ ghost use Rattle.page_pool.specs.Ahead.{IsAhead};
 use crate::Seg;
 use std::marker::Model;
 
-/// A walk along the bytes of a list of segments. Contracts see the places of the bytes that are still ahead.
+/// A walk along the bytes of a list of segments. Contracts see the list of what is still ahead, its first segment
+/// cut at the front.
 ///
 /// It holds no pool, so that between two parts the pool may be written.
 #[derive(Drop)]
@@ -19,34 +21,37 @@ pub struct Walk<'a> {
 }
 
 impl<'a> Model for Walk<'a> {
-    ghost use Rattle.std.specs.Prelude.{List, drop};
-    ghost use Rattle.page_pool.specs.Places.{PageByte, places_in};
+    ghost use Rattle.std.specs.Prelude.{List};
+    ghost use Rattle.page_pool.specs.declared.segs.Seg.{Seg};
+    ghost use Rattle.page_pool.specs.Cuts.{past};
+    ghost use Rattle.page_pool.specs.Places.{places_in};
     ghost use Rattle.page_pool.specs.Walking.{InPages};
 
-    ghost Value = { List PageByte };
+    ghost Value = { List Seg };
 
-    ghost view = { λ w. drop w.at (places_in w.segs.now) };
+    ghost view = { λ w. past w.at w.segs.now };
 
-    ghost invariant = { λ w. InPages (drop w.at (places_in w.segs.now)) };
+    ghost invariant = { λ w. InPages (places_in (past w.at w.segs.now)) };
 }
 
 impl<'a> Walk<'a> {
     pub(crate) fn new(segs: &'a [Seg], at: u32) -> Walk<'a>
         requires { InPages (places_in segs.now) }
-        ensures { result ≡ drop at (places_in segs.now) }
+        ensures { result ≡ past at segs.now }
     {
         Walk { segs, at }
     }
 
-    /// The next part, in one segment and of at most `most` bytes. `None` where `most` is 0 or the walk is at
-    /// its end.
+    /// The next part: the first segment that is ahead, cut to at most `most` bytes. `None` where `most` is 0 or the
+    /// walk is at its end.
     pub fn next_part(&mut self, most: u32) -> Option<Seg>
         ensures { Steps most self.old result self.new }
     {
+        let (segs, at) = (self.segs, self.at);
         if most == 0 {
             return None;
         }
-        let (segs, at) = first_ahead(self.segs, self.at);
+        let (segs, at) = first_ahead(segs, at);
         self.segs = segs;
         self.at = at;
         let Some((first, _more)) = segs.split_first() else {

@@ -1,8 +1,9 @@
-use Rattle.std.proofs.Common.{◌≡◌, ◌∙◌, ap, length, drop, inl, arith, rules}
-use Rattle.std.proofs.lemmas.List.{length-map, length-take}
-use Rattle.page_pool.specs.Pages.{LiesIn, byte_at}
-use Rattle.page_pool.specs.Places.{places_in, range_of}
-use Rattle.page_pool.specs.Joining.{bytes_left}
+use Rattle.std.proofs.Common.{◌≡◌, ◌∙◌, ap, length, inl, arith, rules}
+use Rattle.std.proofs.lemmas.List.{length-map}
+use Rattle.page_pool.specs.Cuts.{cut}
+use Rattle.page_pool.specs.Joining.{parts_left}
+use Rattle.page_pool.specs.Pages.{LiesIn, part}
+use Rattle.page_pool.proofs.Cutting.{cut-few}
 use Rattle.page_pool.proofs.Separate.{all_lie-replicate}
 use Rattle.page_pool.proofs.tests.a_list_of_512_segments_has_512_parts.Goals as goal
 
@@ -13,6 +14,6 @@ parts-parts-requires-clause-lie g c =
 
 pub count-requires-clause-fits : goal.count-requires-clause-fits
 count-requires-clause-fits g c =
-    let long : length (bytes_left c.parts-parts.result) ≡ length (range_of c.in_ok-sg.sg 0 512) = ap length c.parts-parts.ensures.joined ∙ length-map (range_of c.in_ok-sg.sg 0 512) (byte_at c.in_ok-pool.pool) in
-    let most = length-take 512 (drop 0 (places_in c.in_ok-sg.sg)) in
+    let long : length (parts_left c.parts-parts.result) ≡ length (cut c.in_ok-sg.sg 0 512) = ap length c.parts-parts.ensures.parts ∙ length-map (cut c.in_ok-sg.sg 0 512) (part c.in_ok-pool.pool) in
+    let few = cut-few c.in_ok-sg.sg 0 512 in
     inl (omega arith)
