@@ -1,63 +1,66 @@
 use Rattle.std.proofs.Common.{◌≡◌, ℕ, suc, ◌+◌, ◌-◌, ◌*◌, ◌/◌, ◌≤◌, ◌<◌, List, [], ◌∷◌, ◌++◌, length, take, drop, sym, ap, ◌∙◌, subst, inl, inr, add-one, arith}
 use Rattle.std.proofs.Math.Nat.{suc-mul, mul-div-le, mul-le-mul_right}
-use Rattle.std.proofs.lemmas.List.{drop-take, take-take, take-append-drop, drop-drop, map-append, take_at}
+use Rattle.std.proofs.lemmas.List.{map-append, take_at}
 use Rattle.std.proofs.lemmas.Bool.{cases_lt}
 use Rattle.page_pool.specs.declared.segs.Seg.{Seg}
-use Rattle.page_pool.specs.Places.{PageByte, run, places_of, places_in, range_of, total, IsAmong, NoneTwice, Apart}
-use Rattle.page_pool.specs.Pages.{byte_at, bytes_at, AllLieIn, OthersStay, Wrote}
-use Rattle.page_pool.specs.Walking.{AllStandIn, Took}
-use Rattle.page_pool.proofs.Placing.{among-front, among-back, once-apart, segments_stand, stand-take, stand-drop, length-run, takes, step_over}
+use Rattle.page_pool.specs.Cells.{joined}
+use Rattle.page_pool.specs.Cuts.{past}
+use Rattle.page_pool.specs.Places.{PageByte, run, places_of, places_in, range_of, total, NoneTwice, Apart}
+use Rattle.page_pool.specs.Pages.{byte_at, bytes_at, bytes_in, OthersStay, Wrote}
+use Rattle.page_pool.specs.Walking.{AllStandIn}
+use Rattle.page_pool.proofs.Cutting.{past-past}
+use Rattle.page_pool.proofs.Placing.{length-run, takes, step_over}
+use Rattle.page_pool.proofs.Ranges.{apart-ranges, apart-lists, range-sum}
 use Rattle.page_pool.proofs.Separate.{run-once}
-use Rattle.page_pool.proofs.Walks.{Walked, walked_none, walked_more}
+use Rattle.page_pool.proofs.Spreads.{bytes_stay, range-ahead, wrote_more, wrote_none}
+use Rattle.page_pool.proofs.Walks.{Passed, Walked, walked_none, walked_more}
 use Rattle.pi_guard.specs.declared.GuardRun.{GuardRun}
 use Rattle.pi_guard.specs.Stands.{Stands, kind_of}
-use Rattle.page_pool.proofs.Spreads.{bytes_stay, others_stay, once-take, once-drop}
 use Rattle.pi_guard.specs.declared.GuardKind.{GuardKind}
 use Rattle.pi_guard.specs.Guards.{guard_of}
 use Rattle.pi_tuple.specs.declared.tuple.Tuple.{Tuple}
 use Rattle.pi_tuple.specs.declared.checks.PiType.{PiType}
+use Rattle.pi_tuple.specs.Finds.{own_tag}
 use Rattle.pi_tuple.specs.Tuples.{tuple_bytes, tuple_in}
-use Rattle.integrity_payload.specs.Payloads.{AreWholeTuples, tuple_places, HoldsTuple, block_of, own_tag, made_tuple}
-
-pub among-take : (n : ℕ) (a : List PageByte) (p : PageByte) → IsAmong (take n a) p → IsAmong a p
-among-take n a p h = subst (λ l. IsAmong l p) (take-append-drop n a) (among-front (take n a) (drop n a) p h)
-
-pub among-drop : (n : ℕ) (a : List PageByte) (p : PageByte) → IsAmong (drop n a) p → IsAmong a p
-among-drop n a p h = subst (λ l. IsAmong l p) (take-append-drop n a) (among-back (take n a) (drop n a) p h)
-
--- a range before place n is among the first n
-pub among-early : (at len n : ℕ) (a : List PageByte) (p : PageByte) → at + len ≤ n → IsAmong (take len (drop at a)) p → IsAmong (take n a) p
-among-early at len n a p h k =
-    let m = among-drop at (take (at + len) a) p (subst (λ l. IsAmong l p) (sym (drop-take at len a)) k) in
-    among-take (at + len) (take n a) p (subst (λ l. IsAmong l p) (sym (take-take (at + len) n a h)) m)
-
-pub take-sum : (a b : ℕ) (xs : List PageByte) → take (a + b) xs ≡ take a xs ++ take b (drop a xs)
-take-sum a b xs =
-    sym (take-append-drop a (take (a + b) xs)) ∙ (ap (λ l. l ++ drop a (take (a + b) xs)) (take-take a (a + b) xs (omega arith)) ∙ ap (λ l. take a xs ++ l) (drop-take a b xs))
+use Rattle.integrity_payload.specs.Payloads.{AreWholeTuples, tuple_places, HoldsTuple, block_of, made_tuple, made_bytes}
 
 -- what is written from place n on leaves the tuples before it
-pub still_holds : (now new : List (List ℕ)) (segs : List Seg) (k j : ℕ) (t : Tuple) → j < k → NoneTwice (places_in segs) → OthersStay now new (take 8 (drop (8 * k) (places_in segs))) → HoldsTuple now segs j t → HoldsTuple new segs j t
+pub still_holds : (now new : List (List ℕ)) (segs : List Seg) (k j : ℕ) (t : Tuple) → j < k → NoneTwice (places_in segs) → OthersStay now new (range_of segs (8 * k) 8) → HoldsTuple now segs j t → HoldsTuple new segs j t
 still_holds now new segs k j t h once others holds =
-    let all = places_in segs in
-    let apart = once-apart (take (8 * k) all) (drop (8 * k) all) (subst (λ l. NoneTwice l) (sym (take-append-drop (8 * k) all)) once) in
-    let stay = bytes_stay now new (take 8 (drop (8 * k) all)) (tuple_places segs j) others
-    (λ p a b. apart p (among-early (8 * j) 8 (8 * k) all p (omega arith) a) (among-take 8 (drop (8 * k) all) p b)) in
+    let stay = bytes_stay now new (range_of segs (8 * k) 8) (tuple_places segs j) others (apart-ranges segs (8 * j) 8 (8 * k) 8 once (omega arith)) in
     record { bytes = stay ∙ holds.bytes; reads = ap tuple_in stay ∙ holds.reads }
 
+-- one more tuple is written behind the first n of a range
+pub wrote_next : (old now new : List (List ℕ)) (segs : List Seg) (k n : ℕ) (b w : List ℕ) → NoneTwice (places_in segs) → Wrote old now (range_of segs (8 * k) (8 * n)) b → Wrote now new (range_of segs (8 * (k + n)) 8) w →
+    Wrote old new (range_of segs (8 * k) (8 * (n + 1))) (b ++ w)
+wrote_next old now new segs k n b w once h g =
+    let next : 8 * k + 8 * n ≡ 8 * (k + n) = omega arith in
+    let more : 8 * n + 8 ≡ 8 * (n + 1) = omega arith in
+    let whole : range_of segs (8 * k) (8 * n) ++ range_of segs (8 * (k + n)) 8 ≡ range_of segs (8 * k) (8 * (n + 1)) =
+    ap (λ m. range_of segs (8 * k) (8 * n) ++ range_of segs m 8) (sym next) ∙ (sym (range-sum segs (8 * k) (8 * n) 8) ∙ ap (range_of segs (8 * k)) more) in
+    subst (λ l. Wrote old new l (b ++ w)) whole
+    (wrote_more old now new (range_of segs (8 * k) (8 * n)) (range_of segs (8 * (k + n)) 8) b w h g (apart-ranges segs (8 * k) (8 * n) (8 * (k + n)) 8 once (omega arith)))
+
+pub joined_next : (f : ℕ → List ℕ) (n : ℕ) → joined f n ++ f n ≡ joined f (n + 1)
+joined_next f n = ap (joined f) (sym (add-one n))
+
+-- a walk that has passed so many tuples passes one more
+pub next_ahead : (segs ahead next : List Seg) (k : ℕ) → ahead ≡ past (8 * k) segs → next ≡ past 8 ahead → next ≡ past (8 * (k + 1)) segs
+next_ahead segs ahead next k e f = f ∙ (ap (past 8) e ∙ (past-past 8 (8 * k) segs ∙ ap (λ n. past n segs) (let m : 8 * k + 8 ≡ 8 * (k + 1) = omega arith in m)))
+
 -- the first k tuples are made
-pub record Fills (old now : List (List ℕ)) (body segs : List Seg) (size : ℕ) (kind : GuardKind) (ty : PiType) (seed app k : ℕ) (blocks tuples : List PageByte) : Type 0 where
-  pub blocks_are : blocks ≡ drop (k * size) (places_in body)
-  pub tuples_are : tuples ≡ drop (8 * k) (places_in segs)
+pub record Fills (old now : List (List ℕ)) (body segs : List Seg) (size : ℕ) (kind : GuardKind) (ty : PiType) (seed app k : ℕ) (blocks tuples : List Seg) : Type 0 where
+  pub blocks_are : blocks ≡ past (k * size) body
+  pub tuples_are : tuples ≡ past (8 * k) segs
   pub held : (j : ℕ) → j < k → HoldsTuple now segs j (made_tuple old body size kind ty seed app j)
-  pub others : OthersStay old now (take (8 * k) (places_in segs))
+  pub wrote : Wrote old now (range_of segs 0 (8 * k)) (made_bytes old body size kind ty seed app k)
 
 -- the data stays as it was
-pub same_block : (old now : List (List ℕ)) (body segs : List Seg) (size k : ℕ) → Apart (places_in body) (places_in segs) → OthersStay old now (take (8 * k) (places_in segs)) → block_of now body size k ≡ block_of old body size k
+same_block : (old now : List (List ℕ)) (body segs : List Seg) (size k : ℕ) → Apart (places_in body) (places_in segs) → OthersStay old now (range_of segs 0 (8 * k)) → block_of now body size k ≡ block_of old body size k
 same_block old now body segs size k apart others =
-    bytes_stay old now (take (8 * k) (places_in segs)) (range_of body (k * size) size) others
-    (λ p a b. apart p (among-drop (k * size) (places_in body) p (among-take size (drop (k * size) (places_in body)) p a)) (among-take (8 * k) (places_in segs) p b))
+    bytes_stay old now (range_of segs 0 (8 * k)) (range_of body (k * size) size) others (apart-lists body segs (k * size) size 0 (8 * k) apart)
 
-each_held : (old now new : List (List ℕ)) (body segs : List Seg) (size : ℕ) (kind : GuardKind) (ty : PiType) (seed app k j : ℕ) → NoneTwice (places_in segs) → OthersStay now new (take 8 (drop (8 * k) (places_in segs))) →
+each_held : (old now new : List (List ℕ)) (body segs : List Seg) (size : ℕ) (kind : GuardKind) (ty : PiType) (seed app k j : ℕ) → NoneTwice (places_in segs) → OthersStay now new (range_of segs (8 * k) 8) →
     ((j : ℕ) → j < k → HoldsTuple now segs j (made_tuple old body size kind ty seed app j)) → HoldsTuple new segs k (made_tuple old body size kind ty seed app k) → j < k + 1 →
     HoldsTuple new segs j (made_tuple old body size kind ty seed app j)
 each_held old now new body segs size kind ty seed app k j once others held last h = elim (cases_lt j k) [
@@ -68,25 +71,32 @@ each_held old now new body segs size kind ty seed app k j once others held last 
 abbrev made_by : GuardKind → PiType → ℕ → ℕ → ℕ → List ℕ → Tuple
 made_by kind ty seed app k bytes = record { guard = guard_of kind bytes; app = app; rtag = own_tag ty (seed + k) }
 
-pub fills_more : (old now new : List (List ℕ)) (body segs : List Seg) (size : ℕ) (kind : GuardKind) (ty : PiType) (seed app k : ℕ) (blocks blocks' tuples tuples' : List PageByte) (t : Tuple) →
+pub fills_none : (pool : List (List ℕ)) (body segs : List Seg) (size : ℕ) (kind : GuardKind) (ty : PiType) (seed app : ℕ) (blocks tuples : List Seg) → blocks ≡ past 0 body → tuples ≡ past 0 segs →
+    Fills pool pool body segs size kind ty seed app 0 blocks tuples
+fills_none pool body segs size kind ty seed app blocks tuples e f = record { blocks_are = e ∙ ap (λ n. past n body) (let m : 0 ≡ 0 * size = omega arith in m); tuples_are = f; held = λ j h. absurd (omega arith); wrote = wrote_none pool }
+
+pub fills_more : (old now new : List (List ℕ)) (body segs : List Seg) (size : ℕ) (kind : GuardKind) (ty : PiType) (seed app k : ℕ) (blocks blocks' tuples tuples' : List Seg) (t : Tuple) →
     NoneTwice (places_in segs) → Apart (places_in body) (places_in segs) → Fills old now body segs size kind ty seed app k blocks tuples →
-    t ≡ record { guard = guard_of kind (bytes_at now (take size blocks)); app = app; rtag = own_tag ty (seed + k) } →
-    tuple_in (tuple_bytes t) ≡ t → Wrote now new (take 8 tuples) (tuple_bytes t) → blocks' ≡ drop size blocks → tuples' ≡ drop 8 tuples →
+    t ≡ made_by kind ty seed app k (bytes_in now blocks 0 size) →
+    tuple_in (tuple_bytes t) ≡ t → Wrote now new (range_of tuples 0 8) (tuple_bytes t) → blocks' ≡ past size blocks → tuples' ≡ past 8 tuples →
     Fills old new body segs size kind ty seed app (k + 1) blocks' tuples'
 fills_more old now new body segs size kind ty seed app k blocks blocks' tuples tuples' t once apart h made back w b c =
-    let all = places_in segs in
-    let wrote = subst (λ l. Wrote now new (take 8 l) (tuple_bytes t)) h.tuples_are w in
-    let guard : bytes_at now (take size blocks) ≡ block_of old body size k = ap (λ l. bytes_at now (take size l)) h.blocks_are ∙ same_block old now body segs size k apart h.others in
+    let here : range_of tuples 0 8 ≡ range_of segs (8 * k) 8 = range-ahead segs tuples (8 * k) 8 h.tuples_are in
+    let wrote = subst (λ l. Wrote now new l (tuple_bytes t)) here w in
+    let guard : bytes_in now blocks 0 size ≡ block_of old body size k = ap (bytes_at now) (range-ahead body blocks (k * size) size h.blocks_are) ∙ same_block old now body segs size k apart h.wrote.others in
     let t_is : t ≡ made_tuple old body size kind ty seed app k = made ∙ ap (λ (l : List ℕ). made_by kind ty seed app k l) guard in
     let last : HoldsTuple new segs k (made_tuple old body size kind ty seed app k) =
     subst (λ u. HoldsTuple new segs k u) t_is (record { bytes = wrote.written; reads = ap tuple_in wrote.written ∙ back }) in
     let m : k * size + size ≡ (k + 1) * size = sym (ap (λ i. i * size) (add-one k) ∙ suc-mul k size) in
-    let n : 8 * k + 8 ≡ 8 * (k + 1) = omega arith in
+    let first : 0 + k ≡ k = omega arith in
+    let more = wrote_next old now new segs 0 k (made_bytes old body size kind ty seed app k) (tuple_bytes t) once h.wrote (subst (λ i. Wrote now new (range_of segs (8 * i) 8) (tuple_bytes t)) (sym first) wrote) in
+    let bytes : made_bytes old body size kind ty seed app k ++ tuple_bytes t ≡ made_bytes old body size kind ty seed app (k + 1) =
+    ap (λ u. made_bytes old body size kind ty seed app k ++ tuple_bytes u) t_is ∙ joined_next (λ i. tuple_bytes (made_tuple old body size kind ty seed app i)) k in
     record {
-      blocks_are = b ∙ (ap (drop size) h.blocks_are ∙ (drop-drop size (k * size) (places_in body) ∙ ap (λ i. drop i (places_in body)) m));
-      tuples_are = c ∙ (ap (drop 8) h.tuples_are ∙ (drop-drop 8 (8 * k) all ∙ ap (λ i. drop i all) n));
+      blocks_are = b ∙ (ap (past size) h.blocks_are ∙ (past-past size (k * size) body ∙ ap (λ i. past i body) m));
+      tuples_are = next_ahead segs tuples tuples' k h.tuples_are c;
       held = λ j l. each_held old now new body segs size kind ty seed app k j once wrote.others h.held last l;
-      others = subst (λ l. OthersStay old new l) (sym (take-sum (8 * k) 8 all) ∙ ap (λ i. take i all) n) (others_stay old now new (take (8 * k) all) (take 8 (drop (8 * k) all)) h.others wrote.others);
+      wrote = subst (λ l. Wrote old new (range_of segs 0 (8 * (k + 1))) l) bytes more;
     }
 
 pub block_fits : (t n k : ℕ) → k < n → k * (t / n) + t / n ≤ t
@@ -123,7 +133,7 @@ pub record Hashes (pool : List (List ℕ)) (kind : GuardKind) (start ahead : Lis
 pub hashes_none : (pool : List (List ℕ)) (kind : GuardKind) (start : List PageByte) (many : ℕ) (hash : GuardRun) → AllStandIn (length pool) (take many start) → Stands hash [] → kind_of hash ≡ kind → Hashes pool kind start start many many hash
 hashes_none pool kind start many hash h n e = record { behind = []; walked = walked_none start many (length pool) h; stands = n; same = e }
 
-pub hashes_more : (pool : List (List ℕ)) (kind : GuardKind) (start ahead next : List PageByte) (many left : ℕ) (hash hash' : GuardRun) (part : List ℕ) (s : Seg) → Hashes pool kind start ahead many left hash → Took left ahead next s →
+pub hashes_more : (pool : List (List ℕ)) (kind : GuardKind) (start ahead next : List PageByte) (many left : ℕ) (hash hash' : GuardRun) (part : List ℕ) (s : Seg) → Hashes pool kind start ahead many left hash → Passed left ahead next s →
     part ≡ bytes_at pool (places_of s) → ((b : List ℕ) → Stands hash b → Stands hash' (b ++ part)) → kind_of hash' ≡ kind_of hash → Hashes pool kind start next many (left - s.len) hash'
 hashes_more pool kind start ahead next many left hash hash' part s h k e more same = record {
   behind = h.behind ++ places_of s;
@@ -131,11 +141,3 @@ hashes_more pool kind start ahead next many left hash hash' part s h k e more sa
   stands = subst (λ b. Stands hash' b) (ap (λ l. bytes_at pool h.behind ++ l) e ∙ sym (map-append (byte_at pool) h.behind (places_of s))) (more (bytes_at pool h.behind) h.stands);
   same = same ∙ h.same;
 }
-
--- what a walk along a list has ahead stands in the pool
-pub ahead-stands : (old now : List (List ℕ)) (ss : List Seg) (ahead : List PageByte) (at n : ℕ) → AllLieIn old ss → length now ≡ length old → ahead ≡ drop at (places_in ss) → AllStandIn (length now) (take n ahead)
-ahead-stands old now ss ahead at n h e f =
-    rw (e, f) (stand-take (length old) n (drop at (places_in ss)) (stand-drop (length old) at (places_in ss) (segments_stand old ss h)))
-
-pub ahead-once : (ss : List Seg) (ahead : List PageByte) (at n : ℕ) → NoneTwice (places_in ss) → ahead ≡ drop at (places_in ss) → NoneTwice (take n ahead)
-ahead-once ss ahead at n h e = rw e (once-take n (drop at (places_in ss)) (once-drop at (places_in ss) h))

@@ -1,7 +1,6 @@
-use Rattle.std.proofs.Common.{◌≡◌, ℕ, length, arith, Bool, true, false, ◌&&◌, refl, List, [], ◌∷◌, inl, inr}
+use Rattle.std.proofs.Common.{◌≡◌, Bool, true, false, ◌&&◌, refl, List, [], ◌∷◌, inl, inr}
 use Rattle.page_pool.specs.declared.segs.Seg.{Seg}
 use Rattle.page_pool.specs.Places.{places_of, places_in, Apart}
-use Rattle.page_pool.specs.Pages.{AllLieIn}
 use Rattle.page_pool.proofs.Placing.{among-append}
 use Rattle.page_pool.proofs.Separate.{separate_from, separate_from-apart}
 
@@ -19,8 +18,3 @@ lists-apart [] ts h p k l = k
 lists-apart (s ∷ ss) ts h p k l =
     let c = both (separate_from s ts) (lists_separate ss ts) h in
     elim (among-append (places_of s) (places_in ss) p k) [ inl m ↦ separate_from-apart s ts c.0 p m l | inr m ↦ lists-apart ss ts c.1 p m l ]
-
--- a list lies in every pool of as many pages
-pub all_lie-same : (old new : List (List ℕ)) (ss : List Seg) → length new ≡ length old → AllLieIn old ss → AllLieIn new ss
-all_lie-same old new [] e h = tt
-all_lie-same old new (s ∷ ss) e h = let k = h.0.in_pool in (record { in_pool = omega arith; in_page = h.0.in_page }, all_lie-same old new ss e h.1)

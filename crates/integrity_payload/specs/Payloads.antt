@@ -1,13 +1,14 @@
-use Rattle.std.specs.Prelude.{◌≡◌, ℕ, ◌+◌, ◌*◌, ◌%◌, ◌^◌, List, [], ◌∷◌, true}
+use Rattle.std.specs.Prelude.{◌≡◌, ℕ, ◌+◌, ◌*◌, ◌%◌, List, [], ◌∷◌, true}
 use Rattle.page_pool.specs.declared.segs.Seg.{Seg}
 use Rattle.page_pool.specs.Places.{PageByte, range_of, total}
+use Rattle.page_pool.specs.Cells.{joined}
 use Rattle.page_pool.specs.Pages.{bytes_at, bytes_in}
 use Rattle.pi_guard.specs.declared.GuardKind.{GuardKind}
 use Rattle.pi_guard.specs.Guards.{guard_of}
 use Rattle.pi_tuple.specs.declared.tuple.Tuple.{Tuple}
 use Rattle.pi_tuple.specs.declared.checks.PiType.{PiType}
-use Rattle.pi_tuple.specs.declared.checks.PiType.TheVariants.{Zero, One, Two, Three}
 use Rattle.pi_tuple.specs.declared.checks.Checks.{Checks}
+use Rattle.pi_tuple.specs.Finds.{own_tag}
 use Rattle.pi_tuple.specs.Tuples.{tuple_bytes, tuple_in}
 use Rattle.integrity_payload.specs.declared.payload.Payload.{Payload}
 
@@ -38,16 +39,13 @@ pub record HoldsTuple (pool : List (List ℕ)) (segs : List Seg) (k : ℕ) (t : 
 abbrev pub block_of : List (List ℕ) → List Seg → ℕ → ℕ → List ℕ
 block_of pool body size k = bytes_in pool body (k * size) size
 
--- the reference tag that a block at this address has of its own: its low 32 bits in types 1 and 2, else 0
-abbrev pub own_tag : PiType → ℕ → ℕ
-own_tag Zero address = 0
-own_tag One address = address % 2 ^ 32
-own_tag Two address = address % 2 ^ 32
-own_tag Three address = 0
-
 -- the tuple that is made for a block
 abbrev pub made_tuple : List (List ℕ) → List Seg → ℕ → GuardKind → PiType → ℕ → ℕ → ℕ → Tuple
 made_tuple pool body size kind ty seed app k = record { guard = guard_of kind (block_of pool body size k); app = app; rtag = own_tag ty (seed + k) }
+
+-- the bytes of the tuples that are made for the first n blocks, one after another
+abbrev pub made_bytes : List (List ℕ) → List Seg → ℕ → GuardKind → PiType → ℕ → ℕ → ℕ → List ℕ
+made_bytes pool body size kind ty seed app n = joined (λ i. tuple_bytes (made_tuple pool body size kind ty seed app i)) n
 
 -- guard, application tag under the mask and reference tag are asked
 abbrev pub all_asked : ℕ → ℕ → Checks

@@ -1,17 +1,19 @@
 //! Tuples made and checked block by block.
 
-ghost use Rattle.std.specs.Prelude.{◌≡◌, ℕ, ◌+◌, ◌*◌, ◌/◌, ◌%◌, ◌<◌, ◌≤◌, ◌^◌, length, take, drop};
-ghost use Rattle.page_pool.specs.Pages.{AllLieIn, OthersStay, bytes_at};
-ghost use Rattle.page_pool.specs.Places.{Apart, NoneTwice, places_in, total};
+ghost use Rattle.std.specs.Prelude.{◌≡◌, ℕ, ◌+◌, ◌*◌, ◌/◌, ◌<◌, ◌≤◌, ◌^◌, length};
+ghost use Rattle.page_pool.specs.Pages.{AllLieIn, Wrote, bytes_in};
+ghost use Rattle.page_pool.specs.Cuts.{past};
+ghost use Rattle.page_pool.specs.Places.{Apart, NoneTwice, places_in, range_of, total};
 ghost use Rattle.page_pool.specs.Walking.{AllStandIn};
 ghost use Rattle.pi_guard.specs.Guards.{guard_of};
 ghost use Rattle.pi_tuple.specs.Finds.{finding};
-ghost use Rattle.integrity_payload.specs.Payloads.{HoldsTuple, IsPayload, all_asked, block_of, made_tuple, own_tag, tuple_of};
+ghost use Rattle.pi_tuple.specs.Tuples.{ref_tag};
+ghost use Rattle.integrity_payload.specs.Payloads.{HoldsTuple, IsPayload, all_asked, block_of, made_bytes, made_tuple, tuple_of};
 
 use crate::Payload;
 use page_pool::{PagePool, SgList, Walk};
 use pi_guard::{GuardKind, GuardRun};
-use pi_tuple::{Check, Checks, PiType, finds, make};
+use pi_tuple::{Check, Checks, PiType, finds, make, own_tag, ref_tag};
 
 impl Payload {
     /// Sets every tuple: the guard of the block's data, the payload's application tag, and the low 32 bits of the
@@ -26,14 +28,14 @@ impl Payload {
         requires once { NoneTwice (places_in self.now.tuples) }
         requires apart { Apart (places_in body.now) (places_in self.now.tuples) }
         ensures tuples { (k : ℕ) → k < self.now.count → HoldsTuple pool.new self.now.tuples k (made_tuple pool.old body.now (total body.now / self.now.count) kind ty self.now.seed self.now.app k) }
-        ensures others { OthersStay pool.old pool.new (places_in self.now.tuples) }
+        ensures wrote { Wrote pool.old pool.new (range_of self.now.tuples 0 (8 * self.now.count)) (made_bytes pool.old body.now (total body.now / self.now.count) kind ty self.now.seed self.now.app self.now.count) }
     {
         let size = body.total() / self.count;
         let mut blocks = body.walk(0);
-        let mut tuples = self.tuples.walk(0);
+        let mut tuples = self.walk_tuples(0);
         for k in 0..self.count {
             let guard = next_guard(pool, &mut blocks, size, kind);
-            let tuple = make(guard, self.app, tag_of(ty, self.seed + k as u64));
+            let tuple = make(guard, self.app, own_tag(ty, self.seed + k as u64));
             pool.write_ahead(&mut tuples, &tuple.to_bytes());
         }
     }
@@ -55,7 +57,7 @@ impl Payload {
         requires fits { self.now.seed + self.now.count ≤ 2 ^ 64 }
         requires body { AllLieIn pool.now body.now }
         requires lie { AllLieIn pool.now self.now.tuples }
-        ensures { result ≡ finding ty (all_asked app mask) ((self.now.seed + k) % 2 ^ 32) (guard_of kind (block_of pool.now body.now (total body.now / self.now.count) k)) (tuple_of pool.now self.now.tuples k) }
+        ensures { result ≡ finding ty (all_asked app mask) (ref_tag (self.now.seed + k)) (guard_of kind (block_of pool.now body.now (total body.now / self.now.count) k)) (tuple_of pool.now self.now.tuples k) }
     {
         let size = body.total() / self.count;
         let mut blocks = body.walk(k * size);
@@ -66,17 +68,17 @@ impl Payload {
             app,
             mask,
         };
-        let want = low_32(self.seed + k as u64);
+        let want = ref_tag(self.seed + k as u64);
         finds(ty, what, want, guard, self.tuple_at(pool, k))
     }
 }
 
 // The guard of the next bytes of the walk.
 fn next_guard(pool: &PagePool, walk: &mut Walk<'_>, size: u32, kind: GuardKind) -> u16
-    requires stand { AllStandIn (length pool.now) (take size walk.old) }
-    requires room { size ≤ length walk.old }
-    ensures guard { result ≡ guard_of kind (bytes_at pool.now (take size walk.old)) }
-    ensures ahead { walk.new ≡ drop size walk.old }
+    requires stand { AllStandIn (length pool.now) (range_of walk.old 0 size) }
+    requires room { size ≤ total walk.old }
+    ensures guard { result ≡ guard_of kind (bytes_in pool.now walk.old 0 size) }
+    ensures ahead { walk.new ≡ past size walk.old }
 {
     let mut run = GuardRun::new(kind);
     let mut left = size;
@@ -85,21 +87,4 @@ fn next_guard(pool: &PagePool, walk: &mut Walk<'_>, size: u32, kind: GuardKind) 
         left -= part.len;
     }
     run.finish()
-}
-
-fn tag_of(ty: PiType, address: u64) -> u32
-    ensures { result ≡ own_tag ty address }
-{
-    match ty {
-        PiType::One | PiType::Two => low_32(address),
-        PiType::Zero | PiType::Three => 0,
-    }
-}
-
-/// The reference tag that is a block's own in types 1 and 2: the low 32 bits of its address (LBA), virtual or
-/// physical (SBC-3, 4.22.3).
-pub fn low_32(address: u64) -> u32
-    ensures { result ≡ address % 2 ^ 32 }
-{
-    (address % 0x1_0000_0000) as u32
 }

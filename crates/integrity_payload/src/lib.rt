@@ -5,7 +5,6 @@
 mod blocks;
 mod payload;
 
-pub use blocks::low_32;
 pub use payload::{Owner, Payload};
 
 #[cfg(test)]

@@ -1,11 +1,14 @@
 //! The payload and its single tuples.
 
-ghost use Rattle.std.specs.Prelude.{◌≡◌, ◌*◌, ◌<◌};
+ghost use Rattle.std.specs.Prelude.{◌≡◌, ◌*◌, ◌^◌, ◌<◌, ◌≤◌};
 ghost use Rattle.page_pool.specs.Pages.{AllLieIn, Wrote};
+ghost use Rattle.page_pool.specs.Cuts.{past};
+ghost use Rattle.page_pool.specs.Places.{places_in};
+ghost use Rattle.page_pool.specs.Walking.{InPages};
 ghost use Rattle.pi_tuple.specs.Tuples.{tuple_bytes};
-ghost use Rattle.integrity_payload.specs.Payloads.{HoldsTuple, IsPayload, tuple_of, tuple_places};
+ghost use Rattle.integrity_payload.specs.Payloads.{HoldsTuple, IsPayload, tuple_places};
 
-use page_pool::{PagePool, SgList};
+use page_pool::{PagePool, SgList, Walk};
 use pi_tuple::Tuple;
 
 /// Who made the tuples of a payload, and checks them on a read.
@@ -39,7 +42,7 @@ impl Payload {
         requires payload { IsPayload self.now }
         requires index { k < self.now.count }
         requires lie { AllLieIn pool.now self.now.tuples }
-        ensures { result ≡ tuple_of pool.now self.now.tuples k }
+        ensures { HoldsTuple pool.now self.now.tuples k result }
     {
         let mut bytes = [0; 8];
         pool.gather(&self.tuples, self.start_of(k), &mut bytes);
@@ -57,13 +60,26 @@ impl Payload {
         pool.scatter(&self.tuples, self.start_of(k), &t.to_bytes());
     }
 
-    // The tuple's first byte in the list.
+    /// A walk along the tuples' bytes from tuple `k` on, or at the end of them all. The tuples' list lies in a pool,
+    /// or at least no byte of it behind its page's end.
+    pub fn walk_tuples(&self, k: u32) -> Walk<'_>
+        requires payload { IsPayload self.now }
+        requires index { k ≤ self.now.count }
+        requires lie { InPages (places_in self.now.tuples) }
+        ensures ahead { result ≡ past (8 * k) self.now.tuples }
+        ensures few { 8 * self.now.count < 2 ^ 32 }
+    {
+        self.tuples.walk(self.start_of(k))
+    }
+
+    // The first byte of tuple `k` in the list.
     fn start_of(&self, k: u32) -> u32
         requires payload { IsPayload self.now }
-        requires index { k < self.now.count }
-        ensures { result ≡ 8 * k }
+        requires index { k ≤ self.now.count }
+        ensures start { result ≡ 8 * k }
+        ensures few { 8 * self.now.count < 2 ^ 32 }
     {
-        // The list's bytes are known to be few once it was looked at.
+        // That the bytes are few enough is known once the list was looked at; the look costs nothing.
         let _segs = self.tuples.as_slice();
         8 * k
     }

@@ -1,4 +1,4 @@
-use Rattle.integrity_payload.proofs.Lists.{all_lie-same}
+use Rattle.page_pool.proofs.Placing.{all_lie-same}
 use Rattle.integrity_payload.proofs.tests.found.Goals as goal
 
 pub verify-requires-clause-body : goal.verify-requires-clause-body
