@@ -1,39 +1,34 @@
-use Rattle.std.proofs.Common.{◌≡◌, ℕ, ◌+◌, ◌*◌, ◌<◌, Bool, true, false, eqb, List, ◌++◌, take, drop, refl, sym, ap, ◌∙◌, subst, inl, inr, cond, ◌&&◌, ◌||◌, arith}
-use Rattle.std.specs.Int.{w32, to_be_bytes}
-use Rattle.std.proofs.lemmas.List.{drop-drop, take-append-drop}
+use Rattle.std.proofs.Common.{◌≡◌, ℕ, ◌+◌, ◌*◌, ◌<◌, Bool, true, false, eqb, List, ◌++◌, length, refl, sym, ap, ◌∙◌, subst, inl, inr, cond, ◌&&◌, ◌||◌, arith}
 use Rattle.std.proofs.lemmas.Bool.{cases_lt}
 use Rattle.std.proofs.lemmas.Bool.Decides.{eqb_tells}
 use Rattle.page_pool.specs.declared.segs.Seg.{Seg}
-use Rattle.page_pool.specs.Places.{PageByte, places_in, range_of, NoneTwice}
-use Rattle.page_pool.specs.Pages.{bytes_at, OthersStay, Wrote}
-use Rattle.page_pool.proofs.Placing.{once-apart}
-use Rattle.page_pool.proofs.Spreads.{bytes_stay, others_stay}
+use Rattle.page_pool.specs.Cuts.{past}
+use Rattle.page_pool.specs.Places.{places_in, range_of, NoneTwice}
+use Rattle.page_pool.specs.Pages.{bytes_at, bytes_in, OthersStay, Wrote}
+use Rattle.page_pool.proofs.Ranges.{apart-ranges}
+use Rattle.page_pool.proofs.Spreads.{bytes_stay, range-ahead, wrote_none}
 use Rattle.pi_tuple.specs.declared.tuple.Tuple.{Tuple}
 use Rattle.pi_tuple.specs.declared.checks.PiType.{PiType}
 use Rattle.pi_tuple.specs.Finds.{has_ref_tag}
-use Rattle.pi_tuple.specs.Tuples.{tuple_bytes, tuple_in}
+use Rattle.pi_tuple.specs.Tuples.{ref_tag, tuple_bytes, tuple_in}
 use Rattle.integrity_payload.specs.Payloads.{tuple_places, tuple_of, HoldsTuple}
-use Rattle.integrity_payload.proofs.Fills.{among-take, among-early, take-sum, still_holds}
-use Rattle.ref_remap.specs.Remapped.{low_32, remapped, remapped_bytes, MappedOut, made_virtual}
+use Rattle.integrity_payload.proofs.Fills.{joined_next, next_ahead, still_holds, wrote_next}
+use Rattle.ref_remap.specs.Remapped.{remapped, remapped_bytes, all_remapped, AreRemapped, MappedOut, made_virtual}
+use Rattle.ref_remap.proofs.Tags.{mapped-bytes}
 
 -- the first i tuples from k on are rewritten
-pub record Rewrites (old now : List (List ℕ)) (segs : List Seg) (ty : PiType) (k from to i : ℕ) (reader writer : List PageByte) : Type 0 where
-  pub reader_is : reader ≡ drop (8 * (k + i)) (places_in segs)
-  pub writer_is : writer ≡ drop (8 * (k + i)) (places_in segs)
-  pub held : (j : ℕ) → j < i → HoldsTuple now segs (k + j) (remapped ty (from + j) (to + j) (tuple_of old segs (k + j)))
-  pub are_bytes : (j : ℕ) → j < i → tuple_bytes (tuple_of old segs (k + j)) ≡ bytes_at old (tuple_places segs (k + j))
-  pub others : OthersStay old now (range_of segs (8 * k) (8 * i))
+pub record Rewrites (old now : List (List ℕ)) (segs : List Seg) (ty : PiType) (k from to i : ℕ) (reader writer : List Seg) : Type 0 where
+  pub reader_is : reader ≡ past (8 * (k + i)) segs
+  pub writer_is : writer ≡ past (8 * (k + i)) segs
+  pub done : AreRemapped old now segs ty k i from to
 
 -- the tuples behind stay as they were
-pub same_tuple : (old now : List (List ℕ)) (segs : List Seg) (k i : ℕ) → NoneTwice (places_in segs) → OthersStay old now (range_of segs (8 * k) (8 * i)) → bytes_at now (tuple_places segs (k + i)) ≡ bytes_at old (tuple_places segs (k + i))
+same_tuple : (old now : List (List ℕ)) (segs : List Seg) (k i : ℕ) → NoneTwice (places_in segs) → OthersStay old now (range_of segs (8 * k) (8 * i)) → bytes_at now (tuple_places segs (k + i)) ≡ bytes_at old (tuple_places segs (k + i))
 same_tuple old now segs k i once others =
-    let all = places_in segs in
-    let n = 8 * (k + i) in
-    let apart = once-apart (take n all) (drop n all) (subst (λ l. NoneTwice l) (sym (take-append-drop n all)) once) in
     bytes_stay old now (range_of segs (8 * k) (8 * i)) (tuple_places segs (k + i)) others
-    (λ p a b. apart p (among-early (8 * k) (8 * i) n all p (omega arith) b) (among-take 8 (drop n all) p a))
+    (λ p a b. apart-ranges segs (8 * k) (8 * i) (8 * (k + i)) 8 once (omega arith) p b a)
 
-each_held : (old now new : List (List ℕ)) (segs : List Seg) (ty : PiType) (k from to i j : ℕ) → NoneTwice (places_in segs) → OthersStay now new (take 8 (drop (8 * (k + i)) (places_in segs))) →
+each_held : (old now new : List (List ℕ)) (segs : List Seg) (ty : PiType) (k from to i j : ℕ) → NoneTwice (places_in segs) → OthersStay now new (range_of segs (8 * (k + i)) 8) →
     ((j : ℕ) → j < i → HoldsTuple now segs (k + j) (remapped ty (from + j) (to + j) (tuple_of old segs (k + j)))) → HoldsTuple new segs (k + i) (remapped ty (from + i) (to + i) (tuple_of old segs (k + i))) → j < i + 1 →
     HoldsTuple new segs (k + j) (remapped ty (from + j) (to + j) (tuple_of old segs (k + j)))
 each_held old now new segs ty k from to i j once others held last h = elim (cases_lt j i) [
@@ -41,49 +36,38 @@ each_held old now new segs ty k from to i j once others held last h = elim (case
   | inr l ↦ let e : i ≡ j = omega arith in subst (λ m. HoldsTuple new segs (k + m) (remapped ty (from + m) (to + m) (tuple_of old segs (k + m)))) e last
 ]
 
-each_spelt : (old : List (List ℕ)) (segs : List Seg) (k i j : ℕ) → ((j : ℕ) → j < i → tuple_bytes (tuple_of old segs (k + j)) ≡ bytes_at old (tuple_places segs (k + j))) →
-    tuple_bytes (tuple_of old segs (k + i)) ≡ bytes_at old (tuple_places segs (k + i)) → j < i + 1 → tuple_bytes (tuple_of old segs (k + j)) ≡ bytes_at old (tuple_places segs (k + j))
-each_spelt old segs k i j before last h = elim (cases_lt j i) [
-  | inl l ↦ before j l
-  | inr l ↦ let e : i ≡ j = omega arith in subst (λ m. tuple_bytes (tuple_of old segs (k + m)) ≡ bytes_at old (tuple_places segs (k + m))) e last
-]
+pub rewrites_none : (pool : List (List ℕ)) (segs : List Seg) (ty : PiType) (k from to : ℕ) (reader writer : List Seg) → reader ≡ past (8 * k) segs → writer ≡ past (8 * k) segs → Rewrites pool pool segs ty k from to 0 reader writer
+rewrites_none pool segs ty k from to reader writer e f =
+    let n : k ≡ k + 0 = omega arith in
+    record {
+      reader_is = e ∙ ap (λ m. past (8 * m) segs) n;
+      writer_is = f ∙ ap (λ m. past (8 * m) segs) n;
+      done = record { tuples = λ j h. absurd (omega arith); wrote = wrote_none pool };
+    }
 
-pub rewrites_more : (old now new : List (List ℕ)) (segs : List Seg) (ty : PiType) (k from to i : ℕ) (reader reader' writer writer' : List PageByte) (bytes : List ℕ) (t : Tuple) →
-    NoneTwice (places_in segs) → Rewrites old now segs ty k from to i reader writer → bytes ≡ bytes_at now (take 8 reader) → tuple_bytes (tuple_in bytes) ≡ bytes → t ≡ remapped ty (from + i) (to + i) (tuple_in bytes) →
-    tuple_in (tuple_bytes t) ≡ t → Wrote now new (take 8 writer) (tuple_bytes t) → reader' ≡ drop 8 reader → writer' ≡ drop 8 writer →
+pub rewrites_more : (old now new : List (List ℕ)) (segs : List Seg) (ty : PiType) (k from to i : ℕ) (reader reader' writer writer' : List Seg) (bytes : List ℕ) (t : Tuple) →
+    NoneTwice (places_in segs) → Rewrites old now segs ty k from to i reader writer → bytes ≡ bytes_in now reader 0 8 → length bytes ≡ 8 → tuple_bytes (tuple_in bytes) ≡ bytes → t ≡ remapped ty (from + i) (to + i) (tuple_in bytes) →
+    tuple_in (tuple_bytes t) ≡ t → Wrote now new (range_of writer 0 8) (tuple_bytes t) → reader' ≡ past 8 reader → writer' ≡ past 8 writer →
     Rewrites old new segs ty k from to (i + 1) reader' writer'
-rewrites_more old now new segs ty k from to i reader reader' writer writer' bytes t once h read spelt made back w b c =
-    let all = places_in segs in
-    let n = 8 * (k + i) in
-    let wrote = subst (λ l. Wrote now new (take 8 l) (tuple_bytes t)) h.writer_is w in
-    let old_is : bytes ≡ bytes_at old (tuple_places segs (k + i)) = read ∙ (ap (λ l. bytes_at now (take 8 l)) h.reader_is ∙ same_tuple old now segs k i once h.others) in
+rewrites_more old now new segs ty k from to i reader reader' writer writer' bytes t once h read long spelt made back w b c =
+    let wrote = subst (λ l. Wrote now new l (tuple_bytes t)) (range-ahead segs writer (8 * (k + i)) 8 h.writer_is) w in
+    let old_is : bytes ≡ bytes_at old (tuple_places segs (k + i)) = read ∙ (ap (bytes_at now) (range-ahead segs reader (8 * (k + i)) 8 h.reader_is) ∙ same_tuple old now segs k i once h.done.wrote.others) in
     let t_is : t ≡ remapped ty (from + i) (to + i) (tuple_of old segs (k + i)) = made ∙ ap (λ (l : List ℕ). remapped ty (from + i) (to + i) (tuple_in l)) old_is in
     let last : HoldsTuple new segs (k + i) (remapped ty (from + i) (to + i) (tuple_of old segs (k + i))) =
     subst (λ u. HoldsTuple new segs (k + i) u) t_is (record { bytes = wrote.written; reads = ap tuple_in wrote.written ∙ back }) in
-    let m : n + 8 ≡ 8 * (k + (i + 1)) = omega arith in
-    let s : 8 * k + 8 * i ≡ n = omega arith in
-    let r : 8 * i + 8 ≡ 8 * (i + 1) = omega arith in
-    let more : range_of segs (8 * k) (8 * i) ++ take 8 (drop n all) ≡ range_of segs (8 * k) (8 * (i + 1)) =
-    ap (λ l. range_of segs (8 * k) (8 * i) ++ take 8 l) (ap (λ q. drop q all) (sym s) ∙ sym (drop-drop (8 * i) (8 * k) all))
-    ∙ (sym (take-sum (8 * i) 8 (drop (8 * k) all)) ∙ ap (λ q. take q (drop (8 * k) all)) r) in
+    let mapped : tuple_bytes t ≡ remapped_bytes ty (from + i) (to + i) (bytes_at old (tuple_places segs (k + i))) =
+    ap tuple_bytes made ∙ (mapped-bytes ty (from + i) (to + i) bytes long spelt ∙ ap (remapped_bytes ty (from + i) (to + i)) old_is) in
+    let all : all_remapped old segs ty k from to i ++ tuple_bytes t ≡ all_remapped old segs ty k from to (i + 1) =
+    ap (λ l. all_remapped old segs ty k from to i ++ l) mapped ∙ joined_next (λ j. remapped_bytes ty (from + j) (to + j) (bytes_at old (tuple_places segs (k + j)))) i in
+    let n : k + i + 1 ≡ k + (i + 1) = omega arith in
     record {
-      reader_is = b ∙ (ap (drop 8) h.reader_is ∙ (drop-drop 8 n all ∙ ap (λ q. drop q all) m));
-      writer_is = c ∙ (ap (drop 8) h.writer_is ∙ (drop-drop 8 n all ∙ ap (λ q. drop q all) m));
-      are_bytes = λ j l. each_spelt old segs k i j h.are_bytes (subst (λ v. tuple_bytes (tuple_in v) ≡ v) old_is spelt) l;
-      held = λ j l. each_held old now new segs ty k from to i j once wrote.others h.held last l;
-      others = subst (λ l. OthersStay old new l) more (others_stay old now new (range_of segs (8 * k) (8 * i)) (take 8 (drop n all)) h.others wrote.others);
+      reader_is = next_ahead segs reader reader' (k + i) h.reader_is b ∙ ap (λ m. past (8 * m) segs) n;
+      writer_is = next_ahead segs writer writer' (k + i) h.writer_is c ∙ ap (λ m. past (8 * m) segs) n;
+      done = record {
+        tuples = λ j l. each_held old now new segs ty k from to i j once wrote.others h.done.tuples last l;
+        wrote = subst (λ l. Wrote old new (range_of segs (8 * k) (8 * (i + 1))) l) all (wrote_next old now new segs k i (all_remapped old segs ty k from to i) (tuple_bytes t) once h.done.wrote wrote);
+      };
     }
-
-written_at : (t : Bool) (to : ℕ) (b : List ℕ) → tuple_bytes (tuple_in b) ≡ b →
-    tuple_bytes (cond t (record { guard = (tuple_in b).guard; app = (tuple_in b).app; rtag = to }) (tuple_in b)) ≡ cond t (take 4 b ++ to_be_bytes w32 to) b
-written_at true to b e = ap (λ l. take 4 l ++ to_be_bytes w32 to) e
-written_at false to b e = e
-
--- a mapped tuple's bytes are the mapped bytes of the tuple
-pub bytes_are : (old now : List (List ℕ)) (segs : List Seg) (ty : PiType) (k from to : ℕ) → HoldsTuple now segs k (remapped ty from to (tuple_of old segs k)) →
-    tuple_bytes (tuple_of old segs k) ≡ bytes_at old (tuple_places segs k) → bytes_at now (tuple_places segs k) ≡ remapped_bytes ty from to (bytes_at old (tuple_places segs k))
-bytes_are old now segs ty k from to h e =
-    h.bytes ∙ written_at (has_ref_tag ty && eqb (tuple_of old segs k).rtag (low_32 from)) (low_32 to) (bytes_at old (tuple_places segs k)) e
 
 -- out, once or twice, and back
 
@@ -114,6 +98,6 @@ out-back true v p t = elim (eqb_tells t.rtag v) [
 ]
 
 pub there_and_back : (ty : PiType) (virtual physical : ℕ) (t u : Tuple) → MappedOut ty virtual physical t u → remapped ty physical virtual u ≡ made_virtual ty virtual physical t
-there_and_back ty virtual physical t u (inl e) = ap (remapped ty physical virtual) e ∙ out-back (has_ref_tag ty) (low_32 virtual) (low_32 physical) t
+there_and_back ty virtual physical t u (inl e) = ap (remapped ty physical virtual) e ∙ out-back (has_ref_tag ty) (ref_tag virtual) (ref_tag physical) t
 there_and_back ty virtual physical t u (inr e) =
-    ap (remapped ty physical virtual) (e ∙ out-twice (has_ref_tag ty) (low_32 virtual) (low_32 physical) t) ∙ out-back (has_ref_tag ty) (low_32 virtual) (low_32 physical) t
+    ap (remapped ty physical virtual) (e ∙ out-twice (has_ref_tag ty) (ref_tag virtual) (ref_tag physical) t) ∙ out-back (has_ref_tag ty) (ref_tag virtual) (ref_tag physical) t

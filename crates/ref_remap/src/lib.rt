@@ -6,17 +6,18 @@
 //! neither is left for the check to find.
 #![tactic(auto)]
 
-ghost use Rattle.std.specs.Prelude.{◌≡◌, ℕ, ◌+◌, ◌*◌, ◌%◌, ◌<◌, ◌≤◌, ◌^◌};
-ghost use Rattle.page_pool.specs.Pages.{AllLieIn, OthersStay, bytes_at};
-ghost use Rattle.page_pool.specs.Places.{NoneTwice, places_in, range_of};
-ghost use Rattle.pi_tuple.specs.Finds.{has_ref_tag};
+ghost use Rattle.std.specs.Prelude.{◌≡◌, ℕ, ◌+◌, ◌<◌, ◌≤◌, ◌^◌, List, drop, length, take};
+ghost use Rattle.page_pool.specs.Pages.{AllLieIn};
+ghost use Rattle.page_pool.specs.Places.{NoneTwice, places_in};
+ghost use Rattle.pi_tuple.specs.Tuples.{tuple_bytes, tuple_in};
+ghost use Rattle.pi_tuple.specs.declared.checks.PiType.{PiType as AnyType};
 ghost use Rattle.pi_tuple.specs.declared.tuple.Tuple.{Tuple as AnyTuple};
-ghost use Rattle.integrity_payload.specs.Payloads.{HoldsTuple, IsPayload, tuple_of, tuple_places};
-ghost use Rattle.ref_remap.specs.Remapped.{MappedOut, made_virtual, remapped, remapped_bytes};
+ghost use Rattle.integrity_payload.specs.Payloads.{IsPayload, tuple_of};
+ghost use Rattle.ref_remap.specs.Remapped.{AreRemapped, MappedOut, made_virtual, remapped, remapped_bytes, remapped_tag};
 
-use integrity_payload::{Payload, low_32};
+use integrity_payload::Payload;
 use page_pool::PagePool;
-use pi_tuple::{PiType, Tuple};
+use pi_tuple::{PiType, Tuple, has_ref_tag, ref_tag};
 
 /// Maps the tags of the tuples `k` to `k + n - 1` out: for each `i` below `n`, where tuple `k + i` has the low 32
 /// bits of its virtual block as its reference tag, it gets those of the address `physical + i`. That is in types
@@ -29,9 +30,7 @@ pub fn map_out(pool: &mut PagePool, pi: &Payload, ty: PiType, k: u32, n: u32, ph
     requires physical { physical + n < 2 ^ 64 }
     requires lie { AllLieIn pool.old pi.now.tuples }
     requires once { NoneTwice (places_in pi.now.tuples) }
-    ensures tuples { (i : ℕ) → i < n → HoldsTuple pool.new pi.now.tuples (k + i) (remapped ty (pi.now.seed + k + i) (physical + i) (tuple_of pool.old pi.now.tuples (k + i))) }
-    ensures bytes { (i : ℕ) → i < n → bytes_at pool.new (tuple_places pi.now.tuples (k + i)) ≡ remapped_bytes ty (pi.now.seed + k + i) (physical + i) (bytes_at pool.old (tuple_places pi.now.tuples (k + i))) }
-    ensures others { OthersStay pool.old pool.new (range_of pi.now.tuples (8 * k) (8 * n)) }
+    ensures { AreRemapped pool.old pool.new pi.now.tuples ty k n (pi.now.seed + k) physical }
 {
     rewrite(pool, pi, ty, k, n, pi.seed + k as u64, physical);
 }
@@ -45,9 +44,7 @@ pub fn map_back(pool: &mut PagePool, pi: &Payload, ty: PiType, k: u32, n: u32, p
     requires physical { physical + n < 2 ^ 64 }
     requires lie { AllLieIn pool.old pi.now.tuples }
     requires once { NoneTwice (places_in pi.now.tuples) }
-    ensures tuples { (i : ℕ) → i < n → HoldsTuple pool.new pi.now.tuples (k + i) (remapped ty (physical + i) (pi.now.seed + k + i) (tuple_of pool.old pi.now.tuples (k + i))) }
-    ensures bytes { (i : ℕ) → i < n → bytes_at pool.new (tuple_places pi.now.tuples (k + i)) ≡ remapped_bytes ty (physical + i) (pi.now.seed + k + i) (bytes_at pool.old (tuple_places pi.now.tuples (k + i))) }
-    ensures others { OthersStay pool.old pool.new (range_of pi.now.tuples (8 * k) (8 * n)) }
+    ensures mapped { AreRemapped pool.old pool.new pi.now.tuples ty k n physical (pi.now.seed + k) }
     ensures round_trip { (i : ℕ) → i < n → (t : AnyTuple) → MappedOut ty (pi.now.seed + k + i) (physical + i) t (tuple_of pool.old pi.now.tuples (k + i)) → tuple_of pool.new pi.now.tuples (k + i) ≡ made_virtual ty (pi.now.seed + k + i) (physical + i) t }
 {
     rewrite(pool, pi, ty, k, n, physical, pi.seed + k as u64);
@@ -61,14 +58,10 @@ fn rewrite(pool: &mut PagePool, pi: &Payload, ty: PiType, k: u32, n: u32, from: 
     requires to { to + n ≤ 2 ^ 64 }
     requires lie { AllLieIn pool.old pi.now.tuples }
     requires once { NoneTwice (places_in pi.now.tuples) }
-    ensures tuples { (i : ℕ) → i < n → HoldsTuple pool.new pi.now.tuples (k + i) (remapped ty (from + i) (to + i) (tuple_of pool.old pi.now.tuples (k + i))) }
-    ensures bytes { (i : ℕ) → i < n → bytes_at pool.new (tuple_places pi.now.tuples (k + i)) ≡ remapped_bytes ty (from + i) (to + i) (bytes_at pool.old (tuple_places pi.now.tuples (k + i))) }
-    ensures others { OthersStay pool.old pool.new (range_of pi.now.tuples (8 * k) (8 * n)) }
+    ensures { AreRemapped pool.old pool.new pi.now.tuples ty k n from to }
 {
-    // The list's bytes are known to be few once it was looked at.
-    let _segs = pi.tuples.as_slice();
-    let mut reader = pi.tuples.walk(8 * k);
-    let mut writer = pi.tuples.walk(8 * k);
+    let mut reader = pi.walk_tuples(k);
+    let mut writer = pi.walk_tuples(k);
     for i in 0..n {
         let mut bytes = [0; 8];
         pool.read_ahead(&mut reader, &mut bytes);
@@ -85,24 +78,23 @@ fn rewrite(pool: &mut PagePool, pi: &Payload, ty: PiType, k: u32, n: u32, from: 
 fn remap(t: Tuple, ty: PiType, from: u64, to: u64) -> Tuple
     ensures { result ≡ remapped ty from to t }
 {
-    if has_tag(ty) && t.rtag == low_32(from) {
+    if has_ref_tag(ty) && t.rtag == ref_tag(from) {
         return Tuple {
             guard: t.guard,
             app: t.app,
-            rtag: low_32(to),
+            rtag: ref_tag(to),
         };
     }
     t
 }
 
-fn has_tag(ty: PiType) -> bool
-    ensures { result ≡ has_ref_tag ty }
-{
-    match ty {
-        PiType::One | PiType::Two => true,
-        PiType::Zero | PiType::Three => false,
-    }
-}
+/// What mapping does to a tuple's eight bytes: the four of its guard and application tag stay, and those of its tag
+/// are mapped by themselves. Read as tuples, these are the mapped tuple's bytes.
+pub fn the_tag_alone_is_mapped()
+    ensures bytes { (ty : AnyType) (from to : ℕ) (b : List ℕ) → length b ≡ 8 → tuple_bytes (tuple_in b) ≡ b → tuple_bytes (remapped ty from to (tuple_in b)) ≡ remapped_bytes ty from to b }
+    ensures tag { (ty : AnyType) (from to : ℕ) (b : List ℕ) → length b ≡ 8 → drop 4 (remapped_bytes ty from to b) ≡ remapped_tag ty from to (drop 4 b) }
+    ensures others { (ty : AnyType) (from to : ℕ) (b : List ℕ) → length b ≡ 8 → take 4 (remapped_bytes ty from to b) ≡ take 4 b }
+{}
 
 #[cfg(test)]
 mod tests;
