@@ -1,6 +1,4 @@
-use Rattle.std.proofs.Common.{arith}
-use Rattle.pi_tuple.specs.declared.checks.PiType.TheVariants.{One}
-use Rattle.payload_bench.proofs.WholePages.{are_apart, body_lies, guard_is, is_payload, still_zeros, tuples_lie, tuples_once, with_pool}
+use Rattle.payload_bench.proofs.WholePages.{are_apart, body_lies, is_payload, still_request, tuples_lie, tuples_once, with_pool}
 use Rattle.payload_bench.proofs.Request.last_guard.Goals as goal
 
 pub generate-requires-clause-payload : goal.generate-requires-clause-payload
@@ -22,12 +20,7 @@ pub tuple_at-requires-clause-payload : goal.tuple_at-requires-clause-payload
 tuple_at-requires-clause-payload c = is_payload c.args.self.now c.requires
 
 pub tuple_at-requires-clause-lie : goal.tuple_at-requires-clause-lie
-tuple_at-requires-clause-lie c = tuples_lie (with_pool c.args.self.now c.generate.new.pool) (still_zeros c.args.self.now c.generate.new.pool c.requires c.generate.ensures.others)
+tuple_at-requires-clause-lie c = tuples_lie (with_pool c.args.self.now c.generate.new.pool) (still_request c.args.self.now c.generate.new.pool c.requires c.generate.ensures.wrote.others.pages)
 
-pub returns-clause-zeros : goal.returns-clause-zeros
-returns-clause-zeros c = still_zeros c.args.self.now c.generate.new.pool c.requires c.generate.ensures.others
-
-pub returns-clause-guard : goal.returns-clause-guard
-returns-clause-guard c =
-    let many = c.requires.count in
-    guard_is c.args.self.now c.generate.new.pool c.args.kind One c.tuple_at.result c.requires (c.generate.ensures.tuples 2047 (omega arith)) c.tuple_at.ensures
+pub returns : goal.returns
+returns c = still_request c.args.self.now c.generate.new.pool c.requires c.generate.ensures.wrote.others.pages
