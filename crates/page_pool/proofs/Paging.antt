@@ -1,5 +1,5 @@
-use Rattle.std.proofs.Common.{◌≡◌, ℕ, ◌+◌, ◌-◌, ◌≤◌, ◌<◌, List, [], ◌∷◌, ◌++◌, length, take, drop, get_or, set, refl, sym, ap, ◌∙◌, ◌⊎◌, ◌≢◌, inl, inr, arith}
-use Rattle.std.proofs.lemmas.List.{places, same_lists, length-take, length-drop, length-append, length-map, length-set, get_or-map, get_or-set_same, get_or-set_other, get_or_past, get_or_append_left, get_or_push, length_push, set_past, map-set, map_push, take-append-le}
+use Rattle.std.proofs.Common.{◌≡◌, ℕ, ◌+◌, ◌-◌, ◌≤◌, ◌<◌, List, [], ◌++◌, length, take, drop, get_or, set, sym, ap, ◌∙◌, ◌⊎◌, ◌≢◌, inl, inr, arith}
+use Rattle.std.proofs.lemmas.List.{places, same_lists, length-take, length-drop, length-append, length-map, length-set, get_or-map, get_or-set_same, get_or-set_other, get_or_past, set_past, map-set, take-append-le}
 use Rattle.std.proofs.lemmas.Bool.{cases_lt}
 use Rattle.std.proofs.lemmas.Bool.Decides.{eqb_tells}
 use Rattle.std.specs.Vec.{with_items_from}
@@ -7,7 +7,7 @@ use Rattle.std.specs.declared.alloc.Global.{Global}
 use Rattle.std.specs.declared.vec.Vec.{Vec}
 use Rattle.page_pool.specs.declared.segs.Seg.{Seg}
 use Rattle.page_pool.specs.Places.{PageByte, run, places_of, IsAmong}
-use Rattle.page_pool.specs.Pages.{contents, page_of, byte_at, bytes_at, AreWhole, LiesIn, part, with_bytes, with_part, OthersStay, Wrote, IsBlank}
+use Rattle.page_pool.specs.Pages.{contents, page_of, byte_at, bytes_at, AreWhole, LiesIn, part, with_bytes, with_part, OthersStay, Wrote}
 use Rattle.page_pool.proofs.Placing.{length-run, get_or-run, at_place}
 
 -- the bytes at a run of places are a part of the page
@@ -155,33 +155,3 @@ lent-is pool vs s v w e h p l =
     let cut : (with_items_from v s.off w).items ≡ with_bytes v.items s.off w = cut_off v.len s.off v.items w _ l (omega arith) in
     map-set (λ (u : Vec ℕ Global). u.items) vs s.page (with_items_from v s.off w)
     ∙ (ap (λ q. set (contents vs) s.page q) (cut ∙ ap (λ q. with_bytes q s.off w) (sym p.same)) ∙ ap (λ q. set q s.page (with_bytes (page_of pool s.page) s.off w)) (sym e))
-
--- blank pages
-
-blank_at : (pool : List (List ℕ)) (v : List ℕ) (p : PageByte) → ((q : PageByte) → byte_at pool q ≡ 0) → ((i : ℕ) → get_or v i 0 ≡ 0) → byte_at (pool ++ v ∷ []) p ≡ 0
-blank_at pool v p h z = elim (cases_lt p.page (length pool)) [
-  | inl l ↦ ap (λ q. get_or q p.off 0) (get_or_append_left pool (v ∷ []) [] p.page l) ∙ h p
-  | inr l ↦ elim (same_or p.page (length pool)) [
-    | inl e ↦ ap (λ q. get_or q p.off 0) (get_or_push pool v [] p.page (sym e)) ∙ z p.off
-    | inr e ↦ ap (λ q. get_or q p.off 0) (get_or_past (pool ++ v ∷ []) p.page [] (omega (arith, length_push pool v)))
-  ]
-]
-
-size_at : (pool : List (List ℕ)) (v : List ℕ) (n : ℕ) → AreWhole pool → length v ≡ 4096 → n < length (pool ++ v ∷ []) → length (page_of (pool ++ v ∷ []) n) ≡ 4096
-size_at pool v n h l k = elim (cases_lt n (length pool)) [
-  | inl m ↦ ap length (get_or_append_left pool (v ∷ []) [] n m) ∙ h.size n m
-  | inr m ↦ ap length (get_or_push pool v [] n (omega (arith, length_push pool v))) ∙ l
-]
-
-pub one_more_page : (n : ℕ) (pool : List (List ℕ)) (v : List ℕ) → IsBlank n pool → length v ≡ 4096 → ((i : ℕ) → get_or v i 0 ≡ 0) → IsBlank (n + 1) (pool ++ v ∷ [])
-one_more_page n pool v h l z = record {
-  pages = length_push pool v ∙ ap (λ k. k + 1) h.pages;
-  whole = record { size = λ k m. size_at pool v k h.whole l m };
-  zeros = λ p. blank_at pool v p h.zeros z;
-}
-
-pub no_page : IsBlank 0 []
-no_page = record { pages = refl; whole = record { size = λ k m. absurd (omega arith) }; zeros = λ p. refl }
-
-pub blank-push : (n : ℕ) (vs : List (Vec ℕ Global)) (v : Vec ℕ Global) → IsBlank n (contents vs) → length v.items ≡ 4096 → ((i : ℕ) → get_or v.items i 0 ≡ 0) → IsBlank (n + 1) (contents (vs ++ v ∷ []))
-blank-push n vs v h l z = rw (map_push (λ (u : Vec ℕ Global). u.items) vs v) (one_more_page n (contents vs) v.items h l z)

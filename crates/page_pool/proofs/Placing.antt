@@ -106,10 +106,6 @@ pub in_pages : (pages : ℕ) (a : List PageByte) → AllStandIn pages a → InPa
 in_pages pages [] h = tt
 in_pages pages (p ∷ a) h = (h.0.in_page, in_pages pages a h.1)
 
-pub in_pages-back : (a b : List PageByte) → InPages (a ++ b) → InPages b
-in_pages-back [] b h = h
-in_pages-back (p ∷ a) b h = in_pages-back a b h.1
-
 pub in_pages-drop : (n : ℕ) (a : List PageByte) → InPages a → InPages (drop n a)
 in_pages-drop zero [] h = tt
 in_pages-drop (suc n) [] h = tt
@@ -138,11 +134,6 @@ lies pool s h k =
     let more : s.len ≡ suc (s.len - 1) = omega arith in
     let e = end_of (length pool) s.page s.off (s.len - 1) (subst (λ n. AllStandIn (length pool) (run s.page s.off n)) more k) in
     record { in_pool = e.0; in_page = let m = e.1 in omega arith }
-
-end_in : (page off n : ℕ) → InPages (run page off (suc n)) → off + suc n ≤ 4096
-unfolding run
-end_in page off zero h = let k = h.0 in omega arith
-end_in page off (suc n) h = let k = end_in page (off + 1) n h.1 in omega arith
 
 -- walks
 
