@@ -1,4 +1,4 @@
-use Rattle.std.proofs.Common.{◌≡◌, ℕ, ◌+◌, ◌*◌, ◌<◌, Bool, true, false, eqb, List, ◌++◌, length, refl, sym, ap, ◌∙◌, subst, inl, inr, cond, ◌&&◌, ◌||◌, arith}
+use Rattle.std.proofs.Common.{◌≡◌, ℕ, ◌+◌, ◌*◌, ◌<◌, Bool, true, false, eqb, List, ◌++◌, length, refl, ap, ◌∙◌, subst, inl, inr, cond, ◌&&◌, ◌||◌, arith}
 use Rattle.std.proofs.lemmas.Bool.{cases_lt}
 use Rattle.std.proofs.lemmas.Bool.Decides.{eqb_tells}
 use Rattle.page_pool.specs.declared.segs.Seg.{Seg}

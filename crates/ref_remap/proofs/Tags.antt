@@ -1,8 +1,7 @@
-use Rattle.std.proofs.Common.{◌≡◌, ℕ, ◌+◌, Bool, true, false, cond, eqb, ◌&&◌, List, [], ◌∷◌, ◌++◌, length, take, drop, refl, sym, ap, ◌∙◌, arith}
+use Rattle.std.proofs.Common.{◌≡◌, ℕ, Bool, true, false, cond, eqb, ◌&&◌, List, [], ◌∷◌, ◌++◌, length, take, drop, refl, sym, ap, ◌∙◌, arith}
 use Rattle.std.specs.Int.{w32, to_be_bytes, from_be_bytes}
 use Rattle.std.proofs.lemmas.List.{take-append-drop, take_at, drop_at, length-take}
 use Rattle.pi_tuple.specs.declared.checks.PiType.{PiType}
-use Rattle.pi_tuple.specs.declared.tuple.Tuple.{Tuple}
 use Rattle.pi_tuple.specs.Finds.{has_ref_tag}
 use Rattle.pi_tuple.specs.Tuples.{ref_tag, tuple_bytes, tuple_in}
 use Rattle.ref_remap.specs.Remapped.{remapped, remapped_bytes, remapped_tag}

@@ -1,7 +1,9 @@
 //! Tags mapped out and back, with values worked by hand.
 
-ghost use Rattle.std.specs.Prelude.{◌≡◌, ◌<◌, ◌^◌, IfOk};
+ghost use Rattle.std.specs.Prelude.{◌≡◌, ◌<◌, ◌≤◌, ◌^◌, IfOk};
+ghost use Rattle.page_pool.specs.Pages.{AllLieIn};
 ghost use Rattle.page_pool.specs.Places.{total};
+ghost use Rattle.integrity_payload.specs.Payloads.{IsPayload};
 
 use crate::{map_back, map_out};
 use integrity_payload::{Owner, Payload};
@@ -24,6 +26,19 @@ fn list_of(alloc: Global, segs: &[Seg]) -> Result<SgList, AllocError>
     Ok(SgList::from_segs(SmallVec::from_slice(alloc, segs)?))
 }
 
+// The tags of the first three tuples.
+fn tags_of(pool: &PagePool, pi: &Payload) -> [u32; 3]
+    requires payload { IsPayload pi.now }
+    requires three { 3 ≤ pi.now.count }
+    requires lie { AllLieIn pool.now pi.now.tuples }
+{
+    [
+        pi.tuple_at(pool, 0).rtag,
+        pi.tuple_at(pool, 1).rtag,
+        pi.tuple_at(pool, 2).rtag,
+    ]
+}
+
 // Three tuples with the tags 0, 9 and 2 of the blocks 0, 1 and 2, the last two at the end of a page. The first
 // and the third have their block's own tag. At the addresses 1, 2 and 3 the tags are 1, 9 and 3; the first tag is
 // then that of block 1, and yet stays when it is mapped out again.
@@ -41,17 +56,11 @@ fn out_twice_and_back(rt: HostRuntime) -> Result<(), Fail> {
     pool.part_mut(seg(0, 4087, 1)).fill(9);
     pool.part_mut(seg(0, 4095, 1)).fill(2);
     map_out(&mut pool, &pi, PiType::One, 0, 3, 1);
-    assert_eq!(rt; pi.tuple_at(&pool, 0).rtag, 1);
-    assert_eq!(rt; pi.tuple_at(&pool, 1).rtag, 9);
-    assert_eq!(rt; pi.tuple_at(&pool, 2).rtag, 3);
+    assert_eq!(rt; tags_of(&pool, &pi), [1, 9, 3]);
     map_out(&mut pool, &pi, PiType::One, 0, 3, 1);
-    assert_eq!(rt; pi.tuple_at(&pool, 0).rtag, 1);
-    assert_eq!(rt; pi.tuple_at(&pool, 1).rtag, 9);
-    assert_eq!(rt; pi.tuple_at(&pool, 2).rtag, 3);
+    assert_eq!(rt; tags_of(&pool, &pi), [1, 9, 3]);
     map_back(&mut pool, &pi, PiType::One, 0, 3, 1);
-    assert_eq!(rt; pi.tuple_at(&pool, 0).rtag, 0);
-    assert_eq!(rt; pi.tuple_at(&pool, 1).rtag, 9);
-    assert_eq!(rt; pi.tuple_at(&pool, 2).rtag, 2);
+    assert_eq!(rt; tags_of(&pool, &pi), [0, 9, 2]);
     Ok(())
 }
 

@@ -1,11 +1,11 @@
-use Rattle.std.proofs.Common.{◌≡◌, ◌+◌, ◌*◌, ◌∙◌, ap, sym, subst, length, arith, rules}
+use Rattle.std.proofs.Common.{◌≡◌, ◌+◌, ◌*◌, ◌∙◌, ap, sym, length, arith, rules}
 use Rattle.page_pool.specs.Cuts.{past}
 use Rattle.page_pool.specs.Places.{places_in, range_of}
 use Rattle.page_pool.specs.Pages.{Wrote}
 use Rattle.page_pool.proofs.Placing.{in_pages, segments_stand}
 use Rattle.page_pool.proofs.Spreads.{ahead-stands, ahead-once, room-ahead}
 use Rattle.pi_tuple.specs.Tuples.{tuple_in, tuple_bytes}
-use Rattle.ref_remap.specs.Remapped.{remapped, AreRemapped}
+use Rattle.ref_remap.specs.Remapped.{remapped}
 use Rattle.ref_remap.proofs.Rewrites.{rewrites_none, rewrites_more}
 use Rattle.ref_remap.proofs.rewrite.Goals as goal
 
