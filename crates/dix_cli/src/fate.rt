@@ -7,7 +7,8 @@ ghost use Rattle.whole_run.specs.Walk.{fate_of_read, fate_of_write, reply_of};
 use rig_api::Outcome;
 use sense_codes::{Layer, Sense, layer_and_check};
 use target_answer::judge;
-use whole_run::{Reply, Why};
+use bio_core::Why;
+use whole_run::Reply;
 
 /// The layer and the check that the sense names.
 fn finding_named(sense: Sense) -> Option<Why>

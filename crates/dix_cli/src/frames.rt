@@ -8,7 +8,7 @@ ghost use Rattle.whole_run.specs.Walk.{landed};
 
 use pi_guard::crc16;
 use pi_tuple::make;
-use whole_run::Why;
+use bio_core::Why;
 
 /// A command block of ten bytes for one block, with protect field 001b (SBC-3, 5.11 and 5.32).
 fn ten_for(op: u8, block: u32) -> [u8; 10]

@@ -3,11 +3,12 @@
 ghost use Rattle.std.specs.Prelude.{◌≡◌, ◌+◌, ◌*◌, ◌≤◌, ◌++◌, [], ◌∷◌, length, decimal};
 ghost use Rattle.hex.specs.Hex.{encode_lower};
 ghost use Rattle.whole_run.specs.Report.{check_text, lines_of, why_text};
-ghost use Rattle.whole_run.specs.declared.reply.Why.{Why};
+ghost use Rattle.bio_core.specs.declared.fate.Why.{Why};
 
 use arrayvec::ArrayVec;
 use pi_tuple::Check;
-use whole_run::{Reply, Why};
+use bio_core::Why;
+use whole_run::Reply;
 
 /// No line of a report is longer, in bytes.
 pub(crate) const LONGEST: usize = 256;
@@ -83,6 +84,14 @@ fn add_why(line: &mut Line, why: Why)
         }
         Why::Target(check) => {
             add(line, b"target ");
+            add(line, check_name(check));
+        }
+        Why::Block(check) => {
+            add(line, b"block ");
+            add(line, check_name(check));
+        }
+        Why::App(check) => {
+            add(line, b"app ");
             add(line, check_name(check));
         }
         Why::Medium => add(line, b"medium"),

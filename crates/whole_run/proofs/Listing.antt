@@ -10,8 +10,8 @@ use Rattle.target_answer.specs.Frames.{judged}
 use Rattle.rig_api.specs.declared.rig.Outcome.{Outcome}
 use Rattle.whole_run.specs.declared.op.Op.{Op}
 use Rattle.whole_run.specs.declared.op.Op.TheVariants.{Fill, Write, Read, Show}
-use Rattle.whole_run.specs.declared.reply.Why.{Why}
-use Rattle.whole_run.specs.declared.reply.Why.TheVariants.{Adapter, Target, Medium, Refused, Short}
+use Rattle.bio_core.specs.declared.fate.Why.{Why}
+use Rattle.bio_core.specs.declared.fate.Why.TheVariants.{Adapter, Target, Block, App, Medium, Refused, Short}
 use Rattle.whole_run.specs.declared.reply.Reply.{Reply}
 use Rattle.whole_run.specs.declared.reply.Reply.TheVariants.{Bad}
 use Rattle.whole_run.specs.Senses.{check_of, finding_of, is_medium, named_by, why_ended, why_of}
@@ -30,6 +30,8 @@ code_is false false false ascq c p q r h = absurd (cc)
 abbrev Says : Why → Sense → Type 0
 Says (Adapter c) s = (s.key ≡ 5) × (s.asc ≡ 0x10) × (s.ascq ≡ ascq_of c)
 Says (Target c) s = (s.key ≡ 11) × (s.asc ≡ 0x10) × (s.ascq ≡ ascq_of c)
+Says (Block c) s = ⊥
+Says (App c) s = ⊥
 Says Medium s = ⊥
 Says (Refused key asc ascq) s = ⊥
 Says Short s = ⊥
@@ -37,6 +39,8 @@ Says Short s = ⊥
 says_adapter : (c : Check) (w : Why) (s : Sense) → s.key ≡ 5 → s.asc ≡ 0x10 → s.ascq ≡ ascq_of c → Adapter c ≡ w → Says w s
 says_adapter c (Adapter d) s k a q e = let same : c ≡ d = cc in (k, a, q ∙ ap ascq_of same)
 says_adapter c (Target d) s k a q e = absurd (cc)
+says_adapter c (Block d) s k a q e = absurd (cc)
+says_adapter c (App d) s k a q e = absurd (cc)
 says_adapter c Medium s k a q e = absurd (cc)
 says_adapter c (Refused x y z) s k a q e = absurd (cc)
 says_adapter c Short s k a q e = absurd (cc)
@@ -44,6 +48,8 @@ says_adapter c Short s k a q e = absurd (cc)
 says_target : (c : Check) (w : Why) (s : Sense) → s.key ≡ 11 → s.asc ≡ 0x10 → s.ascq ≡ ascq_of c → Target c ≡ w → Says w s
 says_target c (Target d) s k a q e = let same : c ≡ d = cc in (k, a, q ∙ ap ascq_of same)
 says_target c (Adapter d) s k a q e = absurd (cc)
+says_target c (Block d) s k a q e = absurd (cc)
+says_target c (App d) s k a q e = absurd (cc)
 says_target c Medium s k a q e = absurd (cc)
 says_target c (Refused x y z) s k a q e = absurd (cc)
 says_target c Short s k a q e = absurd (cc)
@@ -67,6 +73,8 @@ says_named false w s p h = absurd (cc)
 abbrev Tells : Why → Sense → Type 0
 Tells (Adapter c) s = (s.key ≡ 5) × (s.asc ≡ 0x10) × (s.ascq ≡ ascq_of c)
 Tells (Target c) s = (s.key ≡ 11) × (s.asc ≡ 0x10) × (s.ascq ≡ ascq_of c)
+Tells (Block c) s = ⊥
+Tells (App c) s = ⊥
 Tells Medium s = (s.key ≡ 3) × (s.ascq ≡ 0) × ((s.asc ≡ 0x11) ⊎ (s.asc ≡ 0x0C))
 Tells (Refused key asc ascq) s = (s.key ≡ key) × (s.asc ≡ asc) × (s.ascq ≡ ascq) × (named_by s ≡ None) × (is_medium s ≡ false)
 Tells Short s = ⊥
@@ -74,6 +82,8 @@ Tells Short s = ⊥
 says_tells : (v w : Why) (s : Sense) → Says v s → v ≡ w → Tells w s
 says_tells v (Adapter c) s h e = rw e at h
 says_tells v (Target c) s h e = rw e at h
+says_tells v (Block c) s h e = absurd (rw e at h)
+says_tells v (App c) s h e = absurd (rw e at h)
 says_tells v Medium s h e = absurd (rw e at h)
 says_tells v (Refused x y z) s h e = absurd (rw e at h)
 says_tells v Short s h e = absurd (rw e at h)
@@ -91,11 +101,15 @@ medium_tells s h =
     (key, ascq, one_of (eqb s.asc 0x11) (eqb s.asc 0x0C) s.asc refl refl (and_right (eqb s.ascq 0) _ rest))
 
 other_tells : (t : Bool) (w : Why) (s : Sense) → named_by s ≡ None → is_medium s ≡ t → (if t then Medium else Refused s.key s.asc s.ascq) ≡ w → Tells w s
+other_tells true (Block c) s n m e = absurd (cc)
+other_tells true (App c) s n m e = absurd (cc)
 other_tells true Medium s n m e = medium_tells s m
 other_tells true (Adapter c) s n m e = absurd (cc)
 other_tells true (Target c) s n m e = absurd (cc)
 other_tells true (Refused x y z) s n m e = absurd (cc)
 other_tells true Short s n m e = absurd (cc)
+other_tells false (Block c) s n m e = absurd (cc)
+other_tells false (App c) s n m e = absurd (cc)
 other_tells false Medium s n m e = absurd (cc)
 other_tells false (Adapter c) s n m e = absurd (cc)
 other_tells false (Target c) s n m e = absurd (cc)
@@ -140,6 +154,8 @@ told (Adapter RefTag) s h = named 5 0x10 3 s _ h.0 h.1 h.2 refl
 told (Target Guard) s h = named 11 0x10 1 s _ h.0 h.1 h.2 refl
 told (Target AppTag) s h = named 11 0x10 2 s _ h.0 h.1 h.2 refl
 told (Target RefTag) s h = named 11 0x10 3 s _ h.0 h.1 h.2 refl
+told (Block c) s h = absurd h
+told (App c) s h = absurd h
 told Medium s h = told_medium s h.0 h.1 h.2
 told (Refused x y z) s h = ap (λ f. why_of f s) h.3 ∙ ap (λ b. if b then Medium else Refused s.key s.asc s.ascq) h.4 ∙ refused_by s x y z h.0 h.1 h.2
 told Short s h = absurd h
@@ -149,11 +165,15 @@ told Short s h = absurd h
 ended_sense : (w : Why) (o : Outcome) (x : Option Sense) → o.done ≡ 0 → o.sense ≡ x → why_ended x ≡ w → ListedWrite w o
 ended_sense (Adapter c) o None d p e = absurd (cc)
 ended_sense (Target c) o None d p e = absurd (cc)
+ended_sense (Block c) o None d p e = absurd (cc)
+ended_sense (App c) o None d p e = absurd (cc)
 ended_sense Medium o None d p e = absurd (cc)
 ended_sense (Refused x y z) o None d p e = absurd (cc)
 ended_sense Short o None d p e = (d, p)
 ended_sense (Adapter c) o (Some s) d p e = let t = tells (Adapter c) s e in (d, s, p, t.0, t.1, t.2)
 ended_sense (Target c) o (Some s) d p e = let t = tells (Target c) s e in (d, s, p, t.0, t.1, t.2)
+ended_sense (Block c) o (Some s) d p e = absurd (tells (Block c) s e)
+ended_sense (App c) o (Some s) d p e = absurd (tells (App c) s e)
 ended_sense Medium o (Some s) d p e = let t = tells Medium s e in (d, s, p, t.0, t.1, t.2)
 ended_sense (Refused x y z) o (Some s) d p e = let t = tells (Refused x y z) s e in (d, s, p, t.0, t.1, t.2, t.3, t.4)
 ended_sense Short o (Some s) d p e = absurd (tells Short s e)
@@ -164,6 +184,8 @@ sense_by w o s p t = ap why_ended p ∙ told w s t
 listed_done : (w : Why) (o : Outcome) → ListedWrite w o → o.done ≡ 0
 listed_done (Adapter c) o h = h.0
 listed_done (Target c) o h = h.0
+listed_done (Block c) o h = absurd h
+listed_done (App c) o h = absurd h
 listed_done Medium o h = h.0
 listed_done (Refused x y z) o h = h.0
 listed_done Short o h = h.0
@@ -171,6 +193,8 @@ listed_done Short o h = h.0
 listed_sense : (w : Why) (o : Outcome) → ListedWrite w o → why_ended o.sense ≡ w
 listed_sense (Adapter c) o h = sense_by (Adapter c) o h.1 h.2 (h.3, h.4, h.5)
 listed_sense (Target c) o h = sense_by (Target c) o h.1 h.2 (h.3, h.4, h.5)
+listed_sense (Block c) o h = absurd h
+listed_sense (App c) o h = absurd h
 listed_sense Medium o h = sense_by Medium o h.1 h.2 (h.3, h.4, h.5)
 listed_sense (Refused x y z) o h = sense_by (Refused x y z) o h.1 h.2 (h.3, h.4, h.5, h.6, h.7)
 listed_sense Short o h = ap why_ended h.1
@@ -193,6 +217,8 @@ found_says : (found : Option Check) (w : Why) (block : ℕ) (a : Answered) → 0
 found_says None w block a d j h = absurd (cc)
 found_says (Some c) (Adapter e) block a d j h = let same : Some c ≡ Some e = cc in inr (d, j ∙ same)
 found_says (Some c) (Target e) block a d j h = absurd (cc)
+found_says (Some c) (Block e) block a d j h = absurd (cc)
+found_says (Some c) (App e) block a d j h = absurd (cc)
 found_says (Some c) Medium block a d j h = absurd (cc)
 found_says (Some c) (Refused x y z) block a d j h = absurd (cc)
 found_says (Some c) Short block a d j h = absurd (cc)
@@ -200,6 +226,8 @@ found_says (Some c) Short block a d j h = absurd (cc)
 as_read : (w : Why) (block : ℕ) (a : Answered) → ListedWrite w a.outcome → ListedRead w block a
 as_read (Adapter c) block a h = inl h
 as_read (Target c) block a h = h
+as_read (Block c) block a h = absurd h
+as_read (App c) block a h = absurd h
 as_read Medium block a h = h
 as_read (Refused x y z) block a h = h
 as_read Short block a h = h
@@ -219,6 +247,8 @@ read_told : (t : Bool) (w : Why) (block : ℕ) (a : Answered) → ltb 0 a.outcom
     reply_of (if t then option_map Adapter (judged block a.frame) else Some (why_ended a.outcome.sense)) ≡ Bad w
 read_told t (Adapter c) block a p h = adapter_told t c block a p h
 read_told t (Target c) block a p h = write_told t (Target c) a.outcome _ p h
+read_told t (Block c) block a p h = absurd h
+read_told t (App c) block a p h = absurd h
 read_told t Medium block a p h = write_told t Medium a.outcome _ p h
 read_told t (Refused x y z) block a p h = write_told t (Refused x y z) a.outcome _ p h
 read_told t Short block a p h = write_told t Short a.outcome _ p h

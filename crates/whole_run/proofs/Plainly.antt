@@ -27,7 +27,7 @@ use Rattle.whole_run.specs.declared.op.Op.TheVariants.{Fill, Write, Read, Show}
 use Rattle.whole_run.specs.declared.reply.Reply.{Reply}
 use Rattle.whole_run.specs.declared.reply.Reply.TheVariants.{Silent, Whole, Shown}
 use Rattle.whole_run.specs.Ops.{fits, part, read_ten, write_ten}
-use Rattle.whole_run.specs.declared.reply.Why.TheVariants.{Adapter}
+use Rattle.bio_core.specs.declared.fate.Why.TheVariants.{Adapter}
 use Rattle.whole_run.specs.Walk.{State, begun, is_bad, landed, records_of, reply_of, step}
 use Rattle.whole_run.specs.Telling.{Told, answered_by, served, told_walk}
 use Rattle.whole_run.specs.Plain.{AreClean, IsCleanBlock, Kept, Plain, frame_under, kept_in, nothing, plain_run, plain_step, plain_walk, under}

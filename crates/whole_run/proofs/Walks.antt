@@ -17,8 +17,8 @@ use Rattle.target_answer.specs.declared.command.Command.{Command}
 use Rattle.rig_api.specs.Log.{IsMedium, IsMediumSense}
 use Rattle.whole_run.specs.declared.op.Op.{Op}
 use Rattle.whole_run.specs.declared.op.Op.TheVariants as op
-use Rattle.whole_run.specs.declared.reply.Why.{Why}
-use Rattle.whole_run.specs.declared.reply.Why.TheVariants.{Adapter, Target, Medium, Refused}
+use Rattle.bio_core.specs.declared.fate.Why.{Why}
+use Rattle.bio_core.specs.declared.fate.Why.TheVariants.{Adapter, Target, Medium, Refused}
 use Rattle.whole_run.specs.Ops.{fits, made, part, read_ten, write_ten}
 use Rattle.whole_run.specs.Senses.{check_of, finding_of, is_medium, why_ended, why_of}
 use Rattle.whole_run.specs.Walk.{Answered, State, Turn, fate_of_read, fate_of_write, is_medium_line, is_medium_why, is_unanswered_why, is_unanswered, landed, op_of, ops_of, page_after, reply_of, reply_to, step, walk}

@@ -8,8 +8,8 @@ use Rattle.rig_api.specs.declared.rig.Outcome.{Outcome}
 use Rattle.rig_api.specs.Log.{Entry}
 use Rattle.whole_run.specs.declared.op.Op.{Op}
 use Rattle.whole_run.specs.declared.op.Op.TheVariants.{Fill, Write, Read, Show}
-use Rattle.whole_run.specs.declared.reply.Why.{Why}
-use Rattle.whole_run.specs.declared.reply.Why.TheVariants.{Adapter, Target, Medium, Refused, Short}
+use Rattle.bio_core.specs.declared.fate.Why.{Why}
+use Rattle.bio_core.specs.declared.fate.Why.TheVariants.{Adapter, Target, Block, App, Medium, Refused, Short}
 use Rattle.whole_run.specs.declared.reply.Reply.{Reply}
 use Rattle.whole_run.specs.declared.reply.Reply.TheVariants.{Bad}
 use Rattle.whole_run.specs.Ops.{fits}
@@ -52,6 +52,8 @@ EndedShort o = (o.done ≡ 0) × (o.sense ≡ None)
 abbrev pub ListedWrite : Why → Outcome → Type 0
 ListedWrite (Adapter check) o = EndedBy 5 check o
 ListedWrite (Target check) o = EndedBy 11 check o
+ListedWrite (Block check) o = ⊥
+ListedWrite (App check) o = ⊥
 ListedWrite Medium o = EndedByMedium o
 ListedWrite (Refused key asc ascq) o = EndedRefused key asc ascq o
 ListedWrite Short o = EndedShort o
@@ -60,6 +62,8 @@ ListedWrite Short o = EndedShort o
 abbrev pub ListedRead : Why → ℕ → Answered → Type 0
 ListedRead (Adapter check) block a = EndedBy 5 check a.outcome ⊎ ((0 < a.outcome.done) × (judged block a.frame ≡ Some check))
 ListedRead (Target check) block a = EndedBy 11 check a.outcome
+ListedRead (Block check) block a = ⊥
+ListedRead (App check) block a = ⊥
 ListedRead Medium block a = EndedByMedium a.outcome
 ListedRead (Refused key asc ascq) block a = EndedRefused key asc ascq a.outcome
 ListedRead Short block a = EndedShort a.outcome

@@ -2,8 +2,8 @@ use Rattle.std.specs.Prelude.{ℕ, ◌+◌, List, [], ◌∷◌, ◌++◌, codes
 use Rattle.hex.specs.Hex.{encode_lower}
 use Rattle.pi_tuple.specs.declared.checks.Check.{Check}
 use Rattle.pi_tuple.specs.declared.checks.Check.TheVariants.{Guard, AppTag, RefTag}
-use Rattle.whole_run.specs.declared.reply.Why.{Why}
-use Rattle.whole_run.specs.declared.reply.Why.TheVariants.{Adapter, Target, Medium, Refused, Short}
+use Rattle.bio_core.specs.declared.fate.Why.{Why}
+use Rattle.bio_core.specs.declared.fate.Why.TheVariants.{Adapter, Target, Block, App, Medium, Refused, Short}
 use Rattle.whole_run.specs.declared.reply.Reply.{Reply}
 use Rattle.whole_run.specs.declared.reply.Reply.TheVariants.{Silent, Whole, Bad, Shown}
 
@@ -15,6 +15,8 @@ check_text RefTag = codes "ref"
 abbrev pub why_text : Why → List ℕ
 why_text (Adapter check) = codes "adapter " ++ check_text check
 why_text (Target check) = codes "target " ++ check_text check
+why_text (Block check) = codes "block " ++ check_text check
+why_text (App check) = codes "app " ++ check_text check
 why_text Medium = codes "medium"
 why_text (Refused key asc ascq) = codes "refused " ++ (encode_lower (key ∷ []) ++ (codes " " ++ (encode_lower (asc ∷ []) ++ (codes " " ++ encode_lower (ascq ∷ [])))))
 why_text Short = codes "short"

@@ -2,8 +2,8 @@ use Rattle.std.specs.Prelude.{ℕ, Bool, ◌&&◌, ◌||◌, eqb, if◌then◌el
 use Rattle.pi_tuple.specs.declared.checks.Check.{Check}
 use Rattle.pi_tuple.specs.declared.checks.Check.TheVariants.{Guard, AppTag, RefTag}
 use Rattle.sense_codes.specs.declared.Sense.{Sense}
-use Rattle.whole_run.specs.declared.reply.Why.{Why}
-use Rattle.whole_run.specs.declared.reply.Why.TheVariants.{Adapter, Target, Medium, Refused, Short}
+use Rattle.bio_core.specs.declared.fate.Why.{Why}
+use Rattle.bio_core.specs.declared.fate.Why.TheVariants.{Adapter, Target, Medium, Refused, Short}
 
 -- the check that the qualifier of ASC 10h names (SPC-4)
 abbrev pub check_of : ℕ → Option Check

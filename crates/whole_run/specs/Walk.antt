@@ -5,8 +5,8 @@ use Rattle.rig_api.specs.declared.rig.Outcome.{Outcome}
 use Rattle.rig_api.specs.Log.{Entry, entry_of}
 use Rattle.whole_run.specs.declared.op.Op.{Op}
 use Rattle.whole_run.specs.declared.op.Op.TheVariants.{Fill, Write, Read, Show}
-use Rattle.whole_run.specs.declared.reply.Why.{Why}
-use Rattle.whole_run.specs.declared.reply.Why.TheVariants.{Adapter, Target, Medium, Refused, Short}
+use Rattle.bio_core.specs.declared.fate.Why.{Why}
+use Rattle.bio_core.specs.declared.fate.Why.TheVariants.{Adapter, Target, Block, App, Medium, Refused, Short}
 use Rattle.whole_run.specs.declared.reply.Reply.{Reply}
 use Rattle.whole_run.specs.declared.reply.Reply.TheVariants.{Silent, Whole, Bad, Shown}
 use Rattle.whole_run.specs.Ops.{label_of, made, part, read_ten, write_ten}
@@ -96,6 +96,8 @@ is_bad (Shown bytes) = false
 abbrev pub is_unanswered_why : Why → Bool
 is_unanswered_why (Adapter check) = false
 is_unanswered_why (Target check) = false
+is_unanswered_why (Block check) = false
+is_unanswered_why (App check) = false
 is_unanswered_why Medium = false
 is_unanswered_why (Refused key asc ascq) = true
 is_unanswered_why Short = true
@@ -109,6 +111,8 @@ is_unanswered (Shown bytes) = false
 abbrev pub is_medium_why : Why → Bool
 is_medium_why (Adapter check) = false
 is_medium_why (Target check) = false
+is_medium_why (Block check) = false
+is_medium_why (App check) = false
 is_medium_why Medium = true
 is_medium_why (Refused key asc ascq) = false
 is_medium_why Short = false

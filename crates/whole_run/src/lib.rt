@@ -11,7 +11,7 @@ mod shown;
 pub use laws::{formatted_is_clean, walk_is_plain, walk_lists_exactly};
 pub use op::{Op, Part};
 pub use plain_map::plain_report;
-pub use reply::{Reply, Why};
+pub use reply::Reply;
 pub use shown::ShownBytes;
 
 #[cfg(test)]

@@ -1,22 +1,7 @@
 //! What an op replies.
 
 use crate::ShownBytes;
-use pi_tuple::Check;
-
-/// Why a block failed.
-#[derive(Clone, Copy, Debug, PartialEq, Eq)]
-pub enum Why {
-    /// The adapter's check found it, or a sense of key 5h with ASC 10h says so.
-    Adapter(Check),
-    /// The target's check found it: a sense of key Bh with ASC 10h.
-    Target(Check),
-    /// The medium failed: a sense of key 3h with 11h/00h or 0Ch/00h.
-    Medium,
-    /// The target refused the command with any other sense.
-    Refused { key: u8, asc: u8, ascq: u8 },
-    /// The target did not come to the block and gave no sense.
-    Short,
-}
+use bio_core::Why;
 
 /// What an op replies.
 #[derive(Drop)]

@@ -1,0 +1,14 @@
+//! Requests to read and write blocks of a volume, the parts that they are cut into, and what becomes of their
+//! blocks (Linux, block layer: `struct bio` and its integrity payload).
+#![tactic(auto)]
+
+mod bio;
+mod fate;
+mod request;
+
+pub use bio::Bio;
+pub use fate::{Fate, Why};
+pub use request::{Dir, Io};
+
+#[cfg(test)]
+mod tests;
