@@ -1,0 +1,12 @@
+//! The queue of one device: groups of bios that go out as one command, and which of them may be joined.
+#![tactic(auto)]
+
+mod entries;
+mod limits;
+mod queue;
+
+pub use limits::Limits;
+pub use queue::DeviceQueue;
+
+#[cfg(test)]
+mod tests;
