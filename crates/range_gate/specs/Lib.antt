@@ -1,0 +1,6 @@
+pub mod Cells
+pub mod Conflicts
+pub mod Gates
+pub mod Layout
+pub mod Prints
+pub mod Windows
