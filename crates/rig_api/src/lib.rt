@@ -2,8 +2,10 @@
 //! exchange.
 #![tactic(auto)]
 
+mod change;
 mod record;
 mod rig;
 
+pub use change::Change;
 pub use record::{front, kept_labels, moved_frames};
 pub use rig::{Outcome, Record, Rig, RigFault};
