@@ -1,0 +1,100 @@
+/* Measures what the gate and the queue cost as ops and groups become more. Each figure is the median of the rounds;
+   the sizes are taken in turn. */
+#include <stdint.h>
+#include <stdio.h>
+#include <stdlib.h>
+#include <string.h>
+#include <time.h>
+
+/* The static library: an allocator is nothing, a bool is a byte. */
+uint32_t request_bench_gate(uint32_t ops, uint32_t segs, _Bool runs);
+uint32_t request_bench_queue(uint32_t groups);
+
+enum { ROUNDS = 20, WAYS = 5, ENTRY = 48 };
+
+static double now(void) {
+    struct timespec t;
+    clock_gettime(CLOCK_MONOTONIC, &t);
+    return t.tv_sec + t.tv_nsec * 1e-9;
+}
+
+static void expect(uint32_t got, uint32_t want) {
+    if (got != want) {
+        fprintf(stderr, "%u in place of %u, or no memory\n", got, want);
+        exit(1);
+    }
+}
+
+/* Making the gate, or admitting and ending all ops; the making is then taken off. */
+static double gate(uint32_t ops, uint32_t segs, _Bool runs) {
+    double start = now();
+    expect(request_bench_gate(ops, segs, 0), 0);
+    double made = now();
+    if (!runs)
+        return made - start;
+    expect(request_bench_gate(ops, segs, 1), ops);
+    return (now() - made) - (made - start);
+}
+
+static double queue(uint32_t groups) {
+    double start = now();
+    expect(request_bench_queue(groups), groups);
+    return now() - start;
+}
+
+/* The moves of an index of entries of 48 bytes alone, as the queue's puts and joins make them at most. */
+static double moves(uint32_t groups) {
+    char *index = calloc(groups, ENTRY);
+    if (!index)
+        exit(1);
+    double start = now();
+    uint32_t at = 0;
+    for (uint32_t n = 0; n < groups; n++) {
+        uint32_t place = (uint64_t)at * n / groups;
+        memmove(index + (place + 1) * (size_t)ENTRY, index + place * (size_t)ENTRY, (n - place) * (size_t)ENTRY * (n + 1 < groups));
+        __asm__ volatile("" ::: "memory");
+        at = (at + 7919) % groups;
+    }
+    for (uint32_t n = groups; n > 1; n--) {
+        uint32_t place = n % 2 == 0 ? 1 : n - 1;
+        memmove(index + place * (size_t)ENTRY, index + (place + 1) * (size_t)ENTRY, (n - 1 - place) * (size_t)ENTRY);
+        __asm__ volatile("" ::: "memory");
+    }
+    double end = now();
+    free(index);
+    return end - start;
+}
+
+static int by_size(const void *a, const void *b) {
+    double x = *(const double *)a, y = *(const double *)b;
+    return (x > y) - (x < y);
+}
+
+int main(int count, char **words) {
+    int rounds = count > 1 ? atoi(words[1]) : ROUNDS;
+    double *times = malloc(sizeof *times * 2 * WAYS * (size_t)(rounds < 1 ? 1 : rounds));
+    if (!times || rounds < 1)
+        return 1;
+    for (int round = 0; round < rounds; round++)
+        for (int way = 0; way < WAYS; way++)
+            for (int big = 0; big < 2; big++) {
+                uint32_t ops = big ? 1024 : 512, groups = big ? 16384 : 8192;
+                times[(2 * way + big) * rounds + round] = way == 0   ? gate(ops, 512, 0)
+                                                          : way == 1 ? gate(ops, 512, 1)
+                                                          : way == 2 ? gate(ops, 0, 1)
+                                                          : way == 3 ? queue(groups)
+                                                                     : moves(groups);
+            }
+    const char *names[WAYS] = {"a gate made, 512 segments an op", "all ops admitted and ended, 512 segments an op", "all ops admitted and ended, no segment", "groups put, joined from both ends, taken", "the moves of an index alone"};
+    printf("| | smaller, ms | twice as many, ms | ratio |\n|---|---|---|---|\n");
+    for (int way = 0; way < WAYS; way++) {
+        double figure[2];
+        for (int big = 0; big < 2; big++) {
+            double *these = times + (2 * way + big) * rounds;
+            qsort(these, (size_t)rounds, sizeof *these, by_size);
+            figure[big] = these[rounds / 2];
+        }
+        printf("| %s | %.4f | %.4f | %.2f |\n", names[way], figure[0] * 1e3, figure[1] * 1e3, figure[1] / figure[0]);
+    }
+    return 0;
+}
