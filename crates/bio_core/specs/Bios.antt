@@ -1,5 +1,6 @@
-use Rattle.std.specs.Prelude.{◌≡◌, ℕ, zero, suc, ◌+◌, ◌*◌, ◌/◌, List, [], ◌∷◌, Option, Some, None}
-use Rattle.page_pool.specs.Places.{total, touched}
+use Rattle.std.specs.Prelude.{◌≡◌, ℕ, zero, suc, ◌+◌, ◌*◌, ◌/◌, List, [], ◌∷◌, length, Option, Some, None}
+use Rattle.page_pool.specs.Places.{total}
+use Rattle.page_pool.specs.Cuts.{cut}
 use Rattle.integrity_payload.specs.declared.payload.Payload.{Payload}
 use Rattle.integrity_payload.specs.Payloads.{IsPayload}
 use Rattle.bio_core.specs.declared.request.Dir.{Dir}
@@ -17,12 +18,12 @@ HasTuplesFor (Some pi) count = IsPayload pi × (pi.count ≡ count)
 
 -- the segments that hold a byte of the data of n blocks, from block k on
 abbrev pub data_segs : Io → ℕ → ℕ → ℕ
-data_segs io k n = touched io.body (k * block_size io) (k * block_size io + n * block_size io)
+data_segs io k n = length (cut io.body (k * block_size io) (n * block_size io))
 
 -- the segments that hold a byte of the tuples of n blocks, from block k on
 abbrev pub tuple_segs : Option Payload → ℕ → ℕ → ℕ
 tuple_segs None k n = 0
-tuple_segs (Some pi) k n = touched pi.tuples (8 * k) (8 * k + 8 * n)
+tuple_segs (Some pi) k n = length (cut pi.tuples (8 * k) (8 * n))
 
 -- n blocks of a request, from block k on, at this address and the next ones
 abbrev pub bio_of : Io → (op k n dev lba : ℕ) → Bio

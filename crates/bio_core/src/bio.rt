@@ -1,7 +1,8 @@
 //! A part of a request.
 
-ghost use Rattle.std.specs.Prelude.{◌≡◌, ◌+◌, ◌*◌, ◌-◌, ◌<◌, ◌≤◌, ◌^◌, ◌++◌, ◌↔◌, IsNone, IfSome, take, drop};
-ghost use Rattle.page_pool.specs.Places.{total, touched};
+ghost use Rattle.std.specs.Prelude.{◌≡◌, ◌+◌, ◌*◌, ◌-◌, ◌<◌, ◌≤◌, ◌^◌, ◌++◌, ◌↔◌, IsNone, IfSome, length, take, drop};
+ghost use Rattle.page_pool.specs.Cuts.{cut};
+ghost use Rattle.page_pool.specs.Places.{total};
 ghost use Rattle.bio_core.specs.Bios.{HasTuplesFor, bio_of, block_size, blocks_of, data_segs, part_of, tuple_segs};
 
 use crate::{Dir, Io};
@@ -128,7 +129,7 @@ fn count_tuple_segs(pi: &Option<Payload>, count: u32, k: u32, n: u32) -> u32
 
 fn segs_of_tuples(tuples: &SgList, k: u32, n: u32) -> u32
     requires { 8 * (k + n) ≤ total tuples.now }
-    ensures { result ≡ touched tuples.now (8 * k) (8 * k + 8 * n) }
+    ensures { result ≡ length (cut tuples.now (8 * k) (8 * n)) }
 {
     // The list's bytes are known to be few once it was looked at.
     let _segs = tuples.as_slice();

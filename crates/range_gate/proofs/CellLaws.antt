@@ -9,7 +9,8 @@ use Rattle.range_gate.specs.declared.footprint.Touch.{Touch}
 use Rattle.range_gate.specs.declared.footprint.Footprint.{Footprint}
 use Rattle.range_gate.specs.Prints.{is_same}
 use Rattle.range_gate.specs.Conflicts.{Conflict, ShareBlock, ShareByte}
-use Rattle.range_gate.specs.Cells.{AllInPages, block_cells, byte_cells, cell, cells_clash, cells_of, in_turn, is_in, on_side, segs_that, share}
+use Rattle.page_pool.specs.Cells.{cell, is_in, share_a_cell}
+use Rattle.range_gate.specs.Cells.{AllInPages, Cells, block_cells, byte_cells, cells_clash, cells_of, in_turn, on_side, segs_that}
 use Rattle.range_gate.proofs.Layouts.{behind, first, or_cases, same_of}
 
 abbrev In : ℕ → List ℕ → Type 0
@@ -23,13 +24,13 @@ in_by i (j ∷ js) e = ⊎_elim (λ (a : eqb i j ≡ true). inl (eqb-true i j a)
 abbrev Both : List ℕ → List ℕ → Type 0
 Both is js = (i : ℕ) × In i is × In i js
 
-both_by : (is js : List ℕ) → share is js ≡ true → Both is js
+both_by : (is js : List ℕ) → share_a_cell is js ≡ true → Both is js
 both_by [] js e = absurd (cc)
 both_by (i ∷ is) js e =
     ⊎_elim
     (λ (a : is_in i js ≡ true). (i, inl refl, in_by i js a))
-    (λ (a : share is js ≡ true). let r = both_by is js a in (r.0, inr r.1, r.2))
-    (or_cases (is_in i js) (share is js) e)
+    (λ (a : share_a_cell is js ≡ true). let r = both_by is js a in (r.0, inr r.1, r.2))
+    (or_cases (is_in i js) (share_a_cell is js) e)
 
 -- ---- blocks
 
@@ -68,13 +69,13 @@ share_block w v f g i e a b = (
 blocks_shared : (f g : Footprint) → cells_clash (block_cells f.blocks) (block_cells g.blocks) ≡ true → ShareBlock f g
 blocks_shared f g e =
     ⊎_elim
-    (λ (a : share (block_cells f.blocks).reads (block_cells g.blocks).writes ≡ true).
+    (λ (a : share_a_cell (block_cells f.blocks).reads (block_cells g.blocks).writes ≡ true).
     let r = both_by _ _ a in share_block false true f g r.0 refl (block_read f.blocks r.0 r.1) (block_written g.blocks r.0 r.2))
-    (λ (a : (share (block_cells g.blocks).reads (block_cells f.blocks).writes || share (block_cells f.blocks).writes (block_cells g.blocks).writes) ≡ true).
+    (λ (a : (share_a_cell (block_cells g.blocks).reads (block_cells f.blocks).writes || share_a_cell (block_cells f.blocks).writes (block_cells g.blocks).writes) ≡ true).
     ⊎_elim
-    (λ (b : share (block_cells g.blocks).reads (block_cells f.blocks).writes ≡ true).
+    (λ (b : share_a_cell (block_cells g.blocks).reads (block_cells f.blocks).writes ≡ true).
     let r = both_by _ _ b in share_block true false f g r.0 refl (block_written f.blocks r.0 r.2) (block_read g.blocks r.0 r.1))
-    (λ (b : share (block_cells f.blocks).writes (block_cells g.blocks).writes ≡ true).
+    (λ (b : share_a_cell (block_cells f.blocks).writes (block_cells g.blocks).writes ≡ true).
     let r = both_by _ _ b in share_block true true f g r.0 refl (block_written f.blocks r.0 r.1) (block_written g.blocks r.0 r.2))
     (or_cases _ _ a))
     (or_cases _ _ e)
@@ -140,13 +141,13 @@ share_byte w v f g i e a b =
 bytes_shared : (f g : Footprint) → AllInPages f.bytes → AllInPages g.bytes → cells_clash (byte_cells f.bytes) (byte_cells g.bytes) ≡ true → ShareByte f g
 bytes_shared f g p q e =
     ⊎_elim
-    (λ (a : share (cells_of (segs_that false f.bytes)) (cells_of (segs_that true g.bytes)) ≡ true).
+    (λ (a : share_a_cell (cells_of (segs_that false f.bytes)) (cells_of (segs_that true g.bytes)) ≡ true).
     let r = both_by _ _ a in share_byte false true f g r.0 refl (held false f.bytes r.0 p r.1) (held true g.bytes r.0 q r.2))
-    (λ (a : (share (cells_of (segs_that false g.bytes)) (cells_of (segs_that true f.bytes)) || share (cells_of (segs_that true f.bytes)) (cells_of (segs_that true g.bytes))) ≡ true).
+    (λ (a : (share_a_cell (cells_of (segs_that false g.bytes)) (cells_of (segs_that true f.bytes)) || share_a_cell (cells_of (segs_that true f.bytes)) (cells_of (segs_that true g.bytes))) ≡ true).
     ⊎_elim
-    (λ (b : share (cells_of (segs_that false g.bytes)) (cells_of (segs_that true f.bytes)) ≡ true).
+    (λ (b : share_a_cell (cells_of (segs_that false g.bytes)) (cells_of (segs_that true f.bytes)) ≡ true).
     let r = both_by _ _ b in share_byte true false f g r.0 refl (held true f.bytes r.0 p r.2) (held false g.bytes r.0 q r.1))
-    (λ (b : share (cells_of (segs_that true f.bytes)) (cells_of (segs_that true g.bytes)) ≡ true).
+    (λ (b : share_a_cell (cells_of (segs_that true f.bytes)) (cells_of (segs_that true g.bytes)) ≡ true).
     let r = both_by _ _ b in share_byte true true f g r.0 refl (held true f.bytes r.0 p r.1) (held true g.bytes r.0 q r.2))
     (or_cases _ _ a))
     (or_cases _ _ e)

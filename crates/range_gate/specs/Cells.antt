@@ -1,7 +1,8 @@
 -- A footprint as the cells that an act reads and writes: virtual blocks, and bytes of all pages one after another.
 use Rattle.std.specs.Prelude.{ℕ, zero, suc, ◌+◌, ◌*◌, Bool, true, false, ◌||◌, eqb, if◌then◌else◌, List, [], ◌∷◌, map, Option, Some, None}
 use Rattle.page_pool.specs.declared.segs.Seg.{Seg}
-use Rattle.page_pool.specs.Places.{PageByte, places_in}
+use Rattle.page_pool.specs.Places.{places_in}
+use Rattle.page_pool.specs.Cells.{cell, share_a_cell}
 use Rattle.page_pool.specs.Walking.{InPages}
 use Rattle.range_gate.specs.declared.footprint.Reach.{Reach}
 use Rattle.range_gate.specs.declared.footprint.Touch.{Touch}
@@ -12,18 +13,9 @@ pub record Cells : Type 0 where
   pub reads : List ℕ
   pub writes : List ℕ
 
-abbrev pub is_in : ℕ → List ℕ → Bool
-is_in i [] = false
-is_in i (j ∷ js) = eqb i j || is_in i js
-
--- some cell is in both
-abbrev pub share : List ℕ → List ℕ → Bool
-share [] js = false
-share (i ∷ is) js = is_in i js || share is js
-
 -- they share a cell that one of them writes
 abbrev pub cells_clash : Cells → Cells → Bool
-cells_clash f g = share f.reads g.writes || (share g.reads f.writes || share f.writes g.writes)
+cells_clash f g = share_a_cell f.reads g.writes || (share_a_cell g.reads f.writes || share_a_cell f.writes g.writes)
 
 -- n cells one after another, from this one on
 abbrev pub in_turn : ℕ → ℕ → List ℕ
@@ -38,10 +30,6 @@ on_side false cells = record { reads = cells; writes = [] }
 abbrev pub block_cells : Option Reach → Cells
 block_cells None = record { reads = []; writes = [] }
 block_cells (Some r) = on_side r.writes (in_turn r.first r.count)
-
--- the cell of a byte
-abbrev pub cell : PageByte → ℕ
-cell b = 4096 * b.page + b.off
 
 -- the cells of the bytes of a list of segments, in the list's order
 abbrev pub cells_of : List Seg → List ℕ

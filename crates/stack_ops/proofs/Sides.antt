@@ -6,7 +6,8 @@ use Rattle.page_pool.specs.declared.segs.Seg.{Seg}
 use Rattle.page_pool.specs.Places.{places_in, places_of}
 use Rattle.range_gate.specs.declared.footprint.Touch.{Touch}
 use Rattle.range_gate.specs.Prints.{is_same}
-use Rattle.range_gate.specs.Cells.{byte_cells, cell, cells_of, segs_that}
+use Rattle.page_pool.specs.Cells.{cell}
+use Rattle.range_gate.specs.Cells.{byte_cells, cells_of, segs_that}
 use Rattle.stack_ops.specs.declared.op.Op.{Op}
 use Rattle.stack_ops.specs.declared.op.Op.TheVariants.{Fill, Put, Show, Seal, Write, Fetch, WritePi, FetchPi, Overwrite, Wait}
 use Rattle.stack_ops.specs.Footprints.{bytes_of, cells_touched, touches}
