@@ -1,8 +1,12 @@
-use Rattle.std.specs.Prelude.{ℕ, ◌≡◌, ◌+◌, ◌*◌, ◌≤◌, min, List, [], ◌∷◌, length, take, slice_index_or, Bool, true, ltb, ◌&&◌, Option, Some, None}
-use Rattle.target_answer.specs.Target.{blocks_of, command_in}
-use Rattle.target_answer.specs.declared.command.Direction.{Direction}
-use Rattle.target_answer.specs.declared.command.Direction.TheVariants.{Read, Write}
-use Rattle.target_answer.specs.declared.command.Command.{Command}
+use Rattle.std.specs.Prelude.{ℕ, ◌≡◌, ◌+◌, ◌*◌, ◌≤◌, min, List, [], ◌∷◌, length, take, slice_index_or, Bool, true, ltb, ◌&&◌, Option, Some, None, Result, Ok, Err}
+use Rattle.cdb_codec.specs.Decoded.{decoded}
+use Rattle.cdb_codec.specs.declared.command.Rw.{Rw}
+use Rattle.cdb_codec.specs.declared.command.Cdb.{Cdb}
+use Rattle.cdb_codec.specs.declared.command.CdbFault.{CdbFault}
+use Rattle.target_answer.specs.Frames.{sent_size}
+use Rattle.target_answer.specs.Requests.{blocks_of, request_of}
+use Rattle.target_answer.specs.declared.request.Request.{Request}
+use Rattle.target_answer.specs.declared.request.Request.TheVariants.{Read, Write, Verify, ReadCapacity}
 use Rattle.sense_codes.specs.declared.Sense.{Sense}
 use Rattle.fault_schedule.specs.declared.Label.{Label}
 use Rattle.rig_api.specs.declared.rig.Record.{Record}
@@ -20,38 +24,59 @@ pub record Room : Type 0 where
   pub labels : ℕ
   pub moved : ℕ
 
--- There is room for so many exchanges of together so many blocks: 520 bytes for each block and 32 for each exchange, one label for each of both.
-pub record HasRoom (exchanges : ℕ) (blocks : ℕ) (r : Room) : Type 0 where
+-- There is room for so many exchanges of together so many blocks of at most this size: a frame for each block and 32 bytes for each exchange, one label for each of both.
+pub record HasRoom (size exchanges blocks : ℕ) (r : Room) : Type 0 where
   pub records : exchanges ≤ r.records
   pub labels : exchanges + blocks ≤ r.labels
-  pub moved : 520 * blocks + 32 * exchanges ≤ r.moved
+  pub moved : (size + 8) * blocks + 32 * exchanges ≤ r.moved
 
-abbrev pub side : Direction → List ℕ → List ℕ → List ℕ
-side Write out into = out
-side Read out into = into
+-- the first frames of a buffer: those of the blocks that are done
+abbrev pub frames_done : (size : ℕ) → Rw → (done : ℕ) → List ℕ → List ℕ
+frames_done size c done buffer = take (min done c.n * sent_size c.protect size) buffer
 
-abbrev pub moved_by : Option Command → ℕ → List ℕ → List ℕ → List ℕ
-moved_by None done out into = []
-moved_by (Some c) done out into = take (520 * min done c.n) (side c.direction out into)
+-- what a request moves between host and unit: frames to the unit or from it, or the data of READ CAPACITY
+abbrev pub moved_by : (size : ℕ) → Request → (done : ℕ) → (out into : List ℕ) → List ℕ
+moved_by size (Read c) done out into = frames_done size c done into
+moved_by size (Write c) done out into = frames_done size c done out
+moved_by size (Verify c) done out into = []
+moved_by size (ReadCapacity len) done out into = into
 
--- the frames of the blocks that are done
-abbrev pub moved_of : List ℕ → Outcome → List ℕ → List ℕ → List ℕ
-moved_of cdb o out into = moved_by (command_in cdb) o.done out into
+abbrev pub moved_under : (size : ℕ) → Result Cdb CdbFault → (done : ℕ) → (out into : List ℕ) → List ℕ
+moved_under size (Ok cdb) done out into = moved_by size (request_of cdb) done out into
+moved_under size (Err fault) done out into = []
+
+-- the moved bytes of an exchange with a unit of this block size
+abbrev pub moved_of : (size : ℕ) → List ℕ → Outcome → (out into : List ℕ) → List ℕ
+moved_of size cdb o out into = moved_under size (decoded cdb) o.done out into
 
 -- the labels of the blocks that are done and of the one where it ended
 abbrev pub labels_of : List ℕ → Outcome → List Label → List Label
 labels_of cdb o labels = take (min (o.done + 1) (blocks_of cdb)) labels
 
 -- the entry of an exchange
-abbrev pub entry_of : ℕ → List ℕ → List Label → Outcome → List ℕ → List ℕ → Entry
-entry_of dev cdb labels o out into = record {
+abbrev pub entry_of : (size dev : ℕ) → List ℕ → List Label → Outcome → (out into : List ℕ) → Entry
+entry_of size dev cdb labels o out into = record {
   what = record { dev = dev; cdb = cdb; outcome = o };
   labels = labels_of cdb o labels;
-  moved = moved_of cdb o out into;
+  moved = moved_of size cdb o out into;
 }
 
-abbrev pub moved_len : List ℕ → Outcome → List ℕ → List ℕ → ℕ
-moved_len cdb o out into = length (moved_of cdb o out into)
+abbrev pub data_by : Request → ℕ → ℕ
+data_by (Read c) room = 0
+data_by (Write c) room = 0
+data_by (Verify c) room = 0
+data_by (ReadCapacity len) room = room
+
+abbrev pub data_under : Result Cdb CdbFault → ℕ → ℕ
+data_under (Ok cdb) room = data_by (request_of cdb) room
+data_under (Err fault) room = 0
+
+-- the bytes that READ CAPACITY moves: all that there is room for
+abbrev pub data_of : List ℕ → (room : ℕ) → ℕ
+data_of cdb room = data_under (decoded cdb) room
+
+abbrev pub moved_len : (size : ℕ) → List ℕ → Outcome → (out into : List ℕ) → ℕ
+moved_len size cdb o out into = length (moved_of size cdb o out into)
 
 abbrev pub labels_len : List ℕ → Outcome → List Label → ℕ
 labels_len cdb o labels = length (labels_of cdb o labels)

@@ -1,13 +1,15 @@
 //! What the record of an exchange keeps, for whoever implements a rig.
 
-ghost use Rattle.std.specs.Prelude.{◌≡◌, ◌*◌, ◌≤◌, length, take};
-ghost use Rattle.rig_api.specs.Log.{labels_of, moved_by, moved_of};
-ghost use Rattle.target_answer.specs.Target.{blocks_of, count_of};
+ghost use Rattle.std.specs.Prelude.{◌≡◌, ◌+◌, ◌*◌, ◌≤◌, ◌<◌, ◌^◌, Some, length, take};
+ghost use Rattle.rig_api.specs.Log.{data_by, data_of, frames_done, labels_of, moved_by, moved_of};
+ghost use Rattle.target_answer.specs.Frames.{sent_size};
+ghost use Rattle.target_answer.specs.Requests.{blocks_of, transferred};
 
 use crate::{Outcome, Record};
 use arrayvec::ArrayVec;
+use cdb_codec::{Cdb, Rw};
 use fault_schedule::{Label, ShortBytes};
-use target_answer::{Command, Direction, command_of};
+use target_answer::{Request, request_of};
 
 impl Record {
     /// The record of an exchange: the device, the command block of at most 32 bytes and the
@@ -39,37 +41,73 @@ pub fn front<T>(all: &[T], count: usize) -> &[T]
     all
 }
 
-fn count(command: Option<Command>) -> u32
-    ensures { result ≡ count_of command }
+fn sent_size(protect: u8, size: u32) -> usize
+    ensures value { result ≡ sent_size protect size }
+    ensures bound { result ≤ size + 8 }
 {
-    match command {
-        None => 0,
-        Some(command) => command.n as u32,
+    let size = size as usize;
+    if protect == 0 { size } else { size + 8 }
+}
+
+fn frames_done<'a>(size: u32, c: Rw, done: u32, buffer: &'a [u8]) -> &'a [u8]
+    requires { size ≤ 4096 }
+    ensures value { result.now ≡ frames_done size c done buffer.now }
+    ensures bound { length result.now ≤ (size + 8) * c.n }
+{
+    front(buffer, done.min(c.n) as usize * sent_size(c.protect, size))
+}
+
+fn moved_by<'a>(size: u32, request: Request, done: u32, out: &'a [u8], into: &'a [u8]) -> &'a [u8]
+    requires { size ≤ 4096 }
+    ensures value { result.now ≡ moved_by size request done out.now into.now }
+    ensures bound { length result.now ≤ (size + 8) * transferred request + data_by request (length into.now) }
+{
+    match request {
+        Request::Read(c) => frames_done(size, c, done, into),
+        Request::Write(c) => frames_done(size, c, done, out),
+        Request::Verify(_) => &[],
+        Request::ReadCapacity(_) => into,
     }
 }
 
-fn moved_part<'a>(command: Option<Command>, done: u32, out: &'a [u8], into: &'a [u8]) -> &'a [u8]
-    ensures value { result.now ≡ moved_by command done out.now into.now }
-    ensures bound { length result.now ≤ 520 * count_of command }
+/// What a record keeps of the bytes that an exchange moved, with a unit of this block size, at
+/// most 4,096: the frames of the blocks that are done, and of READ CAPACITY(16) all of `into`.
+pub fn moved_frames<'a>(
+    size: u32,
+    cdb: &[u8],
+    outcome: Outcome,
+    out: &'a [u8],
+    into: &'a [u8],
+) -> &'a [u8]
+    requires { size ≤ 4096 }
+    ensures value { result.now ≡ moved_of size cdb.now outcome out.now into.now }
+    ensures bound { length result.now ≤ (size + 8) * blocks_of cdb.now + data_of cdb.now (length into.now) }
 {
-    match command {
-        None => &[],
-        Some(command) => {
-            let bytes = 520 * done.min(command.n as u32) as usize;
-            match command.direction {
-                Direction::Write => front(out, bytes),
-                Direction::Read => front(into, bytes),
-            }
-        }
+    match Cdb::decode(cdb) {
+        Ok(command) => moved_by(size, request_of(command), outcome.done, out, into),
+        Err(_) => &[],
     }
 }
 
-/// The frames that a record keeps: those of the blocks that are done.
-pub fn moved_frames<'a>(cdb: &[u8], outcome: Outcome, out: &'a [u8], into: &'a [u8]) -> &'a [u8]
-    ensures value { result.now ≡ moved_of cdb.now outcome out.now into.now }
-    ensures bound { length result.now ≤ 520 * blocks_of cdb.now }
+fn transferred(request: Request) -> u32
+    ensures { result ≡ transferred request }
 {
-    moved_part(command_of(cdb), outcome.done, out, into)
+    match request {
+        Request::Read(c) => c.n,
+        Request::Write(c) => c.n,
+        Request::Verify(_) => 0,
+        Request::ReadCapacity(_) => 0,
+    }
+}
+
+/// The number of blocks that a command block transfers: those of a read or a write.
+pub fn blocks_of(cdb: &[u8]) -> u32
+    ensures { result ≡ blocks_of cdb.now }
+{
+    match Cdb::decode(cdb) {
+        Ok(command) => transferred(request_of(command)),
+        Err(_) => 0,
+    }
 }
 
 /// The labels that a record keeps: those of the blocks that are done and of the one where it
@@ -78,6 +116,6 @@ pub fn kept_labels<'a>(cdb: &[u8], outcome: Outcome, labels: &'a [Label]) -> &'a
     ensures value { result.now ≡ labels_of cdb.now outcome labels.now }
     ensures bound { length result.now ≤ blocks_of cdb.now }
 {
-    let kept = (outcome.done as u64 + 1).min(count(command_of(cdb)) as u64);
+    let kept = (outcome.done as u64 + 1).min(blocks_of(cdb) as u64);
     front(labels, kept as usize)
 }

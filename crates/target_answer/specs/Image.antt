@@ -1,35 +1,51 @@
-use Rattle.std.specs.Prelude.{ℕ, zero, suc, ◌+◌, ◌*◌, List, [], ◌∷◌, ◌++◌, drop, slice_index, codes, replicate}
-use Rattle.std.specs.Int.{w64, from_be_bytes}
-use Rattle.target_answer.specs.Frames.{frame_of, frames_of, joined, phys}
+use Rattle.std.specs.Prelude.{ℕ, zero, suc, ◌+◌, List, [], ◌∷◌, ◌++◌, drop, replicate}
+use Rattle.pi_tuple.specs.Finds.{own_tag}
+use Rattle.pi_tuple.specs.declared.checks.PiType.{PiType}
+use Rattle.pi_tuple.specs.declared.checks.PiType.TheVariants.{Zero, One, Two, Three}
+use Rattle.target_answer.specs.Frames.{stored_size, frame_of, frames_of, joined}
+use Rattle.target_answer.specs.Headers.{bytes_of, header, version_for}
+use Rattle.target_answer.specs.Target.{Stored}
+use Rattle.target_answer.specs.declared.units.Version.TheVariants.{Second}
+use Rattle.target_answer.specs.declared.units.UnitSpec.{UnitSpec}
 
--- An image of version 1 is a header of 512 bytes and the stored blocks of its units. The header begins with this text.
-abbrev pub magic : List ℕ
-magic = codes "DIXIMG01"
+-- An image is a header of 512 bytes and the stored blocks of its units, one unit after another.
 
--- The header behind the text: the number of units in two bytes and six zeros; the unit's type, seven zeros and its number of blocks in eight bytes; zeros up to byte 511. This is the header of one unit of type 1 with four blocks, the only one that is read.
-abbrev pub table : List ℕ
-table = 0 ∷ 1 ∷ 0 ∷ 0 ∷ 0 ∷ 0 ∷ 0 ∷ 0 ∷ 1 ∷ 0 ∷ 0 ∷ 0 ∷ 0 ∷ 0 ∷ 0 ∷ 0 ∷ 0 ∷ 0 ∷ 0 ∷ 0 ∷ 0 ∷ 0 ∷ 0 ∷ 4 ∷ replicate 480 0
+abbrev pub unit_from : UnitSpec → List ℕ → Stored
+unit_from u bytes = record { ty = u.ty; size = u.size; first = u.first; blocks = frames_of (stored_size u.ty u.size) u.blocks bytes }
 
--- the unit's number of blocks
-abbrev pub blocks_in : List ℕ → ℕ
-blocks_in first = from_be_bytes w64 (slice_index first 24 ∷ slice_index first 25 ∷ slice_index first 26 ∷ slice_index first 27 ∷ slice_index first 28 ∷ slice_index first 29 ∷ slice_index first 30 ∷ slice_index first 31 ∷ [])
+-- the units whose blocks are these bytes
+abbrev pub units_from : List UnitSpec → List ℕ → List Stored
+units_from [] bytes = []
+units_from (u ∷ us) bytes = unit_from u bytes ∷ units_from us (drop (bytes_of u) bytes)
 
--- the length of an image of so many blocks
-abbrev pub size_of : ℕ → ℕ
-size_of blocks = 512 + 520 * blocks
+-- the units that are found in an image
+abbrev pub units_in : List UnitSpec → List ℕ → List Stored
+units_in us image = units_from us (drop 512 image)
 
--- the stored blocks behind the header
-abbrev pub stored : ℕ → List ℕ → List (List ℕ)
-stored blocks image = frames_of blocks (drop 512 image)
+-- a formatted block: zeros, and where the unit has tuples the guard of zeros, which is 0, and the block's own reference tag
+abbrev pub fresh : PiType → (size lba : ℕ) → List ℕ
+fresh Zero size lba = replicate size 0
+fresh One size lba = frame_of (replicate size 0) (record { guard = 0; app = 0; rtag = own_tag One lba })
+fresh Two size lba = frame_of (replicate size 0) (record { guard = 0; app = 0; rtag = own_tag Two lba })
+fresh Three size lba = frame_of (replicate size 0) (record { guard = 0; app = 0; rtag = own_tag Three lba })
 
--- a formatted block: zeros, with the guard of zeros, which is 0, and the reference tag of its address
-abbrev pub fresh : ℕ → List ℕ
-fresh a = frame_of (replicate 512 0) (record { guard = 0; app = 0; rtag = phys a })
+-- so many of them from this address on
+abbrev pub fresh_from : PiType → (size lba : ℕ) → ℕ → List (List ℕ)
+fresh_from ty size lba zero = []
+fresh_from ty size lba (suc n) = fresh ty size lba ∷ fresh_from ty size (lba + 1) n
 
-abbrev pub all_fresh : ℕ → ℕ → List (List ℕ)
-all_fresh zero a = []
-all_fresh (suc n) a = fresh a ∷ all_fresh n (a + 1)
+-- the blocks of a formatted unit
+abbrev pub all_fresh : UnitSpec → List (List ℕ)
+all_fresh u = fresh_from u.ty u.size u.first u.blocks
 
--- the formatted image of one unit of type 1 with four blocks
-abbrev pub formatted : List ℕ
-formatted = magic ++ (table ++ joined (all_fresh 4 0))
+abbrev pub fresh_bytes : List UnitSpec → List ℕ
+fresh_bytes [] = []
+fresh_bytes (u ∷ us) = joined (all_fresh u) ++ fresh_bytes us
+
+-- the formatted image of these units, in version 1 where that can tell them
+unfoldable pub formatted : List UnitSpec → List ℕ
+formatted us = header (version_for us) us ++ fresh_bytes us
+
+-- an image with the header of version 2 that tells these units in place of its own
+abbrev pub migrated : List UnitSpec → List ℕ → List ℕ
+migrated us image = header Second us ++ drop 512 image

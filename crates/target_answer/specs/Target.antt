@@ -1,116 +1,236 @@
-use Rattle.std.specs.Prelude.{ℕ, ◌+◌, ◌*◌, Bool, ◌&&◌, eqb, ltb, if◌then◌else◌, List, [], ◌∷◌, length, take, drop, slice_index, slice_set, Option, Some, None}
-use Rattle.std.specs.Int.{w16, w32, from_be_bytes}
-use Rattle.target_answer.specs.Frames.{frames_of, judged, written}
+use Rattle.std.specs.Prelude.{ℕ, ◌+◌, ◌-◌, ◌*◌, ◌%◌, ◌^◌, min, Bool, true, false, not, ◌&&◌, eqb, leb, ltb, if◌then◌else◌, List, [], ◌∷◌, ◌++◌, length, take, drop, replicate, slice_get, ℤ, pos, negsuc, ◌+ℤ◌, nat_abs, Option, Some, None, Result, Ok, Err}
+use Rattle.std.specs.Int.{w32, w64, to_be_bytes}
+use Rattle.pi_tuple.specs.declared.checks.PiType.{PiType}
+use Rattle.pi_tuple.specs.declared.checks.PiType.TheVariants.{Zero, One, Two, Three}
 use Rattle.pi_tuple.specs.declared.checks.Check.{Check}
-use Rattle.sense_codes.specs.Checks.{ascq_of}
+use Rattle.cdb_codec.specs.Decoded.{decoded}
+use Rattle.cdb_codec.specs.declared.command.Rw.{Rw}
+use Rattle.cdb_codec.specs.declared.command.Cdb.{Cdb}
+use Rattle.cdb_codec.specs.declared.command.CdbFault.{CdbFault}
+use Rattle.cdb_codec.specs.declared.command.CdbFault.TheVariants.{Opcode, Field, Length}
+use Rattle.fault_schedule.specs.Altered.{shift_of}
+use Rattle.fault_schedule.specs.declared.Label.{Label}
+use Rattle.fault_schedule.specs.declared.fault.Crossing.{Crossing}
+use Rattle.fault_schedule.specs.declared.fault.Crossing.TheVariants.{AdapterToTarget, MediumToTarget}
+use Rattle.fault_schedule.specs.declared.fault.FaultLine.{FaultLine}
+use Rattle.sense_codes.specs.Checks.{ascq_of, key_of}
 use Rattle.sense_codes.specs.declared.Sense.{Sense}
-use Rattle.target_answer.specs.declared.command.Direction.{Direction}
-use Rattle.target_answer.specs.declared.command.Direction.TheVariants.{Read, Write}
-use Rattle.target_answer.specs.declared.command.Command.{Command}
+use Rattle.sense_codes.specs.declared.layer.Layer.TheVariants.{Target}
+use Rattle.target_answer.specs.declared.passage.Passage.{Passage}
+use Rattle.target_answer.specs.declared.request.Request.{Request}
+use Rattle.target_answer.specs.declared.request.Request.TheVariants.{Read, Write, Verify, ReadCapacity}
+use Rattle.target_answer.specs.Frames.{sent_size, frames_of, placed}
+use Rattle.target_answer.specs.Passing.{to_medium, from_medium}
+use Rattle.target_answer.specs.Requests.{request_of, is_foreign}
 
--- READ(10) is 28h and WRITE(10) 2Ah; byte 1 has the protect field 001b in bits 7 to 5; bytes 2 to 5 are the address, bytes 7 and 8 the length in blocks (SBC-3, 5.11 and 5.32)
-abbrev pub direction_in : ℕ → Option Direction
-direction_in op = if eqb op 0x28 then Some Read else (if eqb op 0x2A then Some Write else None)
+-- What a unit answers to a command block.
 
-abbrev pub is_plain : List ℕ → Bool
-is_plain cdb = eqb (length cdb) 10 && (eqb (slice_index cdb 1) 0x20 && (eqb (slice_index cdb 6) 0 && eqb (slice_index cdb 9) 0))
+-- a unit: its type, the bytes of data in a block, the address of its first block, and its blocks as they are stored
+pub record Stored : Type 0 where
+  pub ty : PiType
+  pub size : ℕ
+  pub first : ℕ
+  pub blocks : List (List ℕ)
 
-abbrev pub command_with : List ℕ → Option Direction → Option Command
-command_with cdb None = None
-command_with cdb (Some d) = Some (record {
-  direction = d;
-  lba = from_be_bytes w32 (slice_index cdb 2 ∷ slice_index cdb 3 ∷ slice_index cdb 4 ∷ slice_index cdb 5 ∷ []);
-  n = from_be_bytes w16 (slice_index cdb 7 ∷ slice_index cdb 8 ∷ []);
-})
+-- ILLEGAL REQUEST with 20h INVALID COMMAND OPERATION CODE, 21h LOGICAL BLOCK ADDRESS OUT OF RANGE or 24h INVALID FIELD IN CDB (SPC-4, 4.5.6)
+abbrev pub illegal : ℕ → Sense
+illegal asc = record { key = 5; asc = asc; ascq = 0; info = None }
 
--- the command of this command block, where it is one of the two
-abbrev pub command_in : List ℕ → Option Command
-command_in cdb = if is_plain cdb then command_with cdb (direction_in (slice_index cdb 0)) else None
-
-abbrev pub count_of : Option Command → ℕ
-count_of None = 0
-count_of (Some c) = c.n
-
--- the number of blocks of a read or write command, else 0
-abbrev pub blocks_of : List ℕ → ℕ
-blocks_of cdb = count_of (command_in cdb)
-
--- ILLEGAL REQUEST with 20h INVALID COMMAND OPERATION CODE, 21h LOGICAL BLOCK ADDRESS OUT OF RANGE or 24h INVALID FIELD IN CDB (SPC-4)
-abbrev pub refusal : ℕ → Sense
-refusal asc = record { key = 5; asc = asc; ascq = 0; info = None }
-
--- ABORTED COMMAND with 10h, and the address of the block as information
+-- ABORTED COMMAND with 10h and the check's qualifier, and the address of the block as information
 abbrev pub check_sense : Check → ℕ → Sense
-check_sense check a = record { key = 11; asc = 16; ascq = ascq_of check; info = Some a }
+check_sense check lba = record { key = key_of Target; asc = 0x10; ascq = ascq_of check; info = Some lba }
 
 -- MEDIUM ERROR with 11h UNRECOVERED READ ERROR or 0Ch WRITE ERROR
 abbrev pub medium_sense : ℕ → ℕ → Sense
-medium_sense asc a = record { key = 3; asc = asc; ascq = 0; info = Some a }
+medium_sense asc lba = record { key = 3; asc = asc; ascq = 0; info = Some lba }
+
+-- The shifts of a command are those of its first label's op; without a label there is none.
+abbrev pub shift_by_first : List FaultLine → Crossing → List Label → ℤ
+shift_by_first faults at [] = pos 0
+shift_by_first faults at (label ∷ labels) = shift_of faults at label.op
+
+-- the address of the first block after the shift on the wire
+abbrev pub wire_address : List FaultLine → List Label → Rw → ℤ
+wire_address faults labels c = pos c.lba +ℤ shift_by_first faults AdapterToTarget labels
+
+-- and where it is fetched, after the shift on the medium
+abbrev pub medium_address : List FaultLine → List Label → Rw → ℤ
+medium_address faults labels c = wire_address faults labels c +ℤ shift_by_first faults MediumToTarget labels
+
+-- The unit has this many blocks from this address on.
+abbrev pub has_blocks : Stored → ℤ → ℕ → Bool
+has_blocks unit (pos a) n = leb unit.first a && leb (a + n) (unit.first + length unit.blocks)
+has_blocks unit (negsuc a) n = false
+
+-- a refusal in its place: whether it comes, and its additional sense code
+pub record Refusal : Type 0 where
+  pub comes : Bool
+  pub asc : ℕ
+
+abbrev pub first_of : List Refusal → Option Sense
+first_of [] = None
+first_of (r ∷ rest) = if r.comes then Some (illegal r.asc) else first_of rest
+
+abbrev pub foreign_form : Stored → Cdb → Refusal
+foreign_form unit cdb = record { comes = is_foreign unit.ty cdb; asc = 0x20 }
+
+abbrev pub is_zero : PiType → Bool
+is_zero Zero = true
+is_zero One = false
+is_zero Two = false
+is_zero Three = false
+
+-- tuples are asked of a unit that has none
+abbrev pub no_tuples : Stored → Rw → Refusal
+no_tuples unit c = record { comes = is_zero unit.ty && not (eqb c.protect 0); asc = 0x24 }
+
+abbrev pub outside : Stored → ℤ → ℕ → Refusal
+outside unit a n = record { comes = not (has_blocks unit a n); asc = 0x21 }
+
+-- a block is fetched from outside the unit; a command of no blocks fetches none
+abbrev pub fetched_outside : Stored → ℤ → ℕ → Refusal
+fetched_outside unit a n = record { comes = not (eqb n 0) && not (has_blocks unit a n); asc = 0x21 }
+
+-- the host's buffer hasn't the length of what is transferred
+abbrev pub wrong_room : (has wants : ℕ) → Refusal
+wrong_room has wants = record { comes = not (eqb has wants); asc = 0x24 }
+
+-- the bytes that a command transfers
+abbrev pub bytes_of : (size : ℕ) → Rw → ℕ
+bytes_of size c = c.n * sent_size c.protect size
+
+-- the refusals of a request, in their order; out and room are the lengths of what the host sends and has room for
+abbrev pub refusals_of : Stored → Cdb → Request → List FaultLine → List Label → (out room : ℕ) → List Refusal
+refusals_of unit cdb (ReadCapacity len) faults labels out room = wrong_room room (min len 32) ∷ []
+refusals_of unit cdb (Write c) faults labels out room =
+    foreign_form unit cdb ∷ no_tuples unit c ∷ outside unit (wire_address faults labels c) c.n
+    ∷ wrong_room out (bytes_of unit.size c) ∷ []
+refusals_of unit cdb (Read c) faults labels out room =
+    foreign_form unit cdb ∷ no_tuples unit c ∷ outside unit (wire_address faults labels c) c.n
+    ∷ fetched_outside unit (medium_address faults labels c) c.n ∷ wrong_room room (bytes_of unit.size c) ∷ []
+refusals_of unit cdb (Verify c) faults labels out room =
+    foreign_form unit cdb ∷ no_tuples unit c ∷ outside unit (pos c.lba) c.n ∷ []
+
+abbrev pub asc_of : CdbFault → ℕ
+asc_of Opcode = 0x20
+asc_of Field = 0x24
+asc_of Length = 0x24
+
+-- the first refusal of a command block, if there is one
+unfoldable pub refusal : Stored → Result Cdb CdbFault → List FaultLine → List Label → (out room : ℕ) → Option Sense
+refusal unit (Err fault) faults labels out room = Some (illegal (asc_of fault))
+refusal unit (Ok cdb) faults labels out room = first_of (refusals_of unit cdb (request_of cdb) faults labels out room)
 
 -- a store call that failed: at this block of the command, and what it left there, where it was a write
 pub record Stop : Type 0 where
   pub at : ℕ
   pub left : List ℕ
 
--- what a unit answers: how many blocks are done, the sense, its blocks afterwards, and the frames that it sends
+-- what a unit answers: how many blocks are done, the sense, its blocks afterwards, and what it sends
 pub record Answer : Type 0 where
   pub done : ℕ
   pub sense : Option Sense
   pub blocks : List (List ℕ)
   pub sent : List (List ℕ)
 
-abbrev pub one_more : Option Check → ℕ → ℕ
-one_more None n = n + 1
-one_more (Some c) n = 0
+-- the frames of the longest prefix without a finding
+abbrev pub passed : List (Result (List ℕ) Check) → List (List ℕ)
+passed [] = []
+passed (Ok frame ∷ rest) = frame ∷ passed rest
+passed (Err check ∷ rest) = []
 
--- the length of the longest prefix of these frames, from this address on, without a finding
-abbrev pub good : ℕ → List (List ℕ) → ℕ
-good a [] = 0
-good a (f ∷ fs) = one_more (judged a f) (good (a + 1) fs)
+-- the sense of the block after it, where there is one; the address is that of the first
+abbrev pub first_sense : ℕ → List (Result (List ℕ) Check) → Option Sense
+first_sense lba [] = None
+first_sense lba (Ok frame ∷ rest) = first_sense (lba + 1) rest
+first_sense lba (Err check ∷ rest) = Some (check_sense check lba)
 
-abbrev pub sense_or : ℕ → Option Check → Option Sense → Option Sense
-sense_or a None s = s
-sense_or a (Some c) s = Some (check_sense c a)
+-- A write: exactly the prefix without a finding is stored, from this index on. A store call that fails comes after the check of its block, and ends the prefix there.
+abbrev pub write_whole : (at lba : ℕ) → List (Result (List ℕ) Check) → List (List ℕ) → Answer
+write_whole at lba judged blocks = record { done = length (passed judged); sense = first_sense lba judged; blocks = placed at (passed judged) blocks; sent = [] }
 
--- the sense of the first of these frames with a finding
-abbrev pub first_sense : ℕ → List (List ℕ) → Option Sense
-first_sense a [] = None
-first_sense a (f ∷ fs) = sense_or a (judged a f) (first_sense (a + 1) fs)
+abbrev pub write_answer : (at lba : ℕ) → List (Result (List ℕ) Check) → List (List ℕ) → Option Stop → Answer
+write_answer at lba judged blocks None = write_whole at lba judged blocks
+write_answer at lba judged blocks (Some s) =
+    if ltb s.at (length (passed judged))
+    then record { done = s.at; sense = Some (medium_sense 0x0C (lba + s.at)); blocks = placed at (take s.at (passed judged) ++ (s.left ∷ [])) blocks; sent = [] }
+    else write_whole at lba judged blocks
 
--- a write: each frame is judged, and exactly the prefix without a finding is stored
-abbrev pub write_whole : ℕ → List (List ℕ) → List (List ℕ) → Answer
-write_whole a fs blocks = record { done = good a fs; sense = first_sense a fs; blocks = written a (take (good a fs) fs) blocks; sent = [] }
+-- A read: exactly that prefix is sent. A store call that fails comes before the check of its block.
+abbrev pub read_whole : (lba : ℕ) → List (Result (List ℕ) Check) → List (List ℕ) → Answer
+read_whole lba judged blocks = record { done = length (passed judged); sense = first_sense lba judged; blocks = blocks; sent = passed judged }
 
--- or what comes before the store call that fails
-abbrev pub write_answer : ℕ → List (List ℕ) → List (List ℕ) → Option Stop → Answer
-write_answer a fs blocks None = write_whole a fs blocks
-write_answer a fs blocks (Some s) =
-    if ltb s.at (good a fs)
-    then record { done = s.at; sense = Some (medium_sense 12 (a + s.at)); blocks = slice_set (written a (take s.at fs) blocks) (a + s.at) s.left; sent = [] }
-    else write_whole a fs blocks
+abbrev pub read_answer : (lba : ℕ) → List (Result (List ℕ) Check) → List (List ℕ) → Option Stop → Answer
+read_answer lba judged blocks None = read_whole lba judged blocks
+read_answer lba judged blocks (Some s) =
+    if ltb s.at (length (passed judged) + 1) && ltb s.at (length judged)
+    then record { done = s.at; sense = Some (medium_sense 0x11 (lba + s.at)); blocks = blocks; sent = take s.at (passed judged) }
+    else read_whole lba judged blocks
 
--- a read: the same of the stored blocks, which are read before they are judged
-abbrev pub read_whole : ℕ → List (List ℕ) → List (List ℕ) → Answer
-read_whole a fs blocks = record { done = good a fs; sense = first_sense a fs; blocks = blocks; sent = take (good a fs) fs }
+-- nothing is sent
+abbrev pub silent : Answer → Answer
+silent a = record { done = a.done; sense = a.sense; blocks = a.blocks; sent = [] }
 
-abbrev pub read_answer : ℕ → List (List ℕ) → List (List ℕ) → Option Stop → Answer
-read_answer a fs blocks None = read_whole a fs blocks
-read_answer a fs blocks (Some s) =
-    if ltb s.at (good a fs + 1) && ltb s.at (length fs)
-    then record { done = s.at; sense = Some (medium_sense 17 (a + s.at)); blocks = blocks; sent = take s.at fs }
-    else read_whole a fs blocks
+-- each block judged by itself, from this one of the command on
+abbrev pub each : (ℕ → List ℕ → Result (List ℕ) Check) → ℕ → List (List ℕ) → List (Result (List ℕ) Check)
+each judge k [] = []
+each judge k (frame ∷ frames) = judge k frame ∷ each judge (k + 1) frames
 
-abbrev pub refused : ℕ → List (List ℕ) → Answer
-refused asc blocks = record { done = 0; sense = Some (refusal asc); blocks = blocks; sent = [] }
+-- block k of a command whose first block goes to this address; without a label for it, it crosses unaltered
+abbrev pub passage : Stored → Rw → (lba : ℕ) → List Label → ℕ → Passage
+passage unit c lba labels k = record {
+  ty = unit.ty;
+  size = unit.size;
+  protect = c.protect;
+  lba = lba + k;
+  rtag = (c.rtag + k) % 2 ^ 32;
+  app = c.app;
+  mask = c.mask;
+  label = slice_get labels k;
+}
 
-abbrev pub transfer : Direction → ℕ → ℕ → List (List ℕ) → List ℕ → ℕ → Option Stop → Answer
-transfer Write a n blocks out room stop = if eqb (length out) (520 * n) then write_answer a (frames_of n out) blocks stop else refused 0x24 blocks
-transfer Read a n blocks out room stop = if eqb room (520 * n) then read_answer a (take n (drop a blocks)) blocks stop else refused 0x24 blocks
+-- the blocks of the unit from this address on
+abbrev pub stored_from : Stored → ℕ → ℕ → List (List ℕ)
+stored_from unit lba n = take n (drop (lba - unit.first) unit.blocks)
 
-abbrev pub answer_to : Option Command → List (List ℕ) → List ℕ → ℕ → Option Stop → Answer
-answer_to None blocks out room stop = refused 0x20 blocks
-answer_to (Some c) blocks out room stop = if ltb (length blocks) (c.lba + c.n) then refused 0x21 blocks else transfer c.direction c.lba c.n blocks out room stop
+-- byte 12 of READ CAPACITY(16) data: PROT_EN in bit 0, P_TYPE in bits 3 to 1, which is 000b for type 1 (SBC-3, 5.16.2)
+abbrev pub protection_byte : PiType → ℕ
+protection_byte Zero = 0
+protection_byte One = 1
+protection_byte Two = 3
+protection_byte Three = 5
 
--- what a unit of type 1 with these blocks answers to this command block, with these bytes to write or room for so many to read
-abbrev pub target_answer : List (List ℕ) → List ℕ → List ℕ → ℕ → Option Stop → Answer
-target_answer blocks cdb out room stop = answer_to (command_in cdb) blocks out room stop
+-- READ CAPACITY(16) data: the last address in bytes 0 to 7, the block length in 8 to 11, the protection in 12
+abbrev pub capacity_data : Stored → List ℕ
+capacity_data unit =
+    to_be_bytes w64 (unit.first + length unit.blocks - 1) ++ (to_be_bytes w32 unit.size ++ (protection_byte unit.ty ∷ replicate 19 0))
+
+-- what comes of a request that isn't refused
+abbrev pub carried_out : Stored → Request → List FaultLine → List Label → List ℕ → Option Stop → Answer
+carried_out unit (ReadCapacity len) faults labels out stop =
+    record { done = 0; sense = None; blocks = unit.blocks; sent = take (min len 32) (capacity_data unit) ∷ [] }
+carried_out unit (Write c) faults labels out stop =
+    let lba = nat_abs (wire_address faults labels c) in
+    write_answer (lba - unit.first) lba
+    (each (λ k frame. to_medium faults (passage unit c lba labels k) frame) 0 (frames_of (sent_size c.protect unit.size) c.n out))
+    unit.blocks stop
+carried_out unit (Read c) faults labels out stop =
+    let lba = nat_abs (wire_address faults labels c) in
+    read_answer lba
+    (each (λ k frame. from_medium faults (passage unit c lba labels k) frame) 0 (stored_from unit (nat_abs (medium_address faults labels c)) c.n))
+    unit.blocks stop
+carried_out unit (Verify c) faults labels out stop =
+    silent (read_answer c.lba (each (λ k frame. from_medium [] (passage unit c c.lba [] k) frame) 0 (stored_from unit c.lba c.n)) unit.blocks stop)
+
+abbrev pub refused : Stored → Sense → Answer
+refused unit sense = record { done = 0; sense = Some sense; blocks = unit.blocks; sent = [] }
+
+abbrev pub answer_unless : Option Sense → Stored → Result Cdb CdbFault → List FaultLine → List Label → List ℕ → Option Stop → Answer
+answer_unless (Some sense) unit cdb faults labels out stop = refused unit sense
+answer_unless None unit (Ok cdb) faults labels out stop = carried_out unit (request_of cdb) faults labels out stop
+answer_unless None unit (Err fault) faults labels out stop = refused unit (illegal (asc_of fault))
+
+-- what the unit answers to this command block: with these faults armed, these labels for its blocks, these bytes to write or room for so many to read, and a store call that fails or none
+unfoldable pub target_answer : Stored → List FaultLine → List ℕ → List Label → List ℕ → (room : ℕ) → Option Stop → Answer
+target_answer unit faults cdb labels out room stop =
+    answer_unless (refusal unit (decoded cdb) faults labels (length out) room) unit (decoded cdb) faults labels out stop

@@ -1,107 +1,145 @@
-//! Command blocks and frames with values worked by hand.
+//! Blocks on their way through a target, and headers, with values worked by hand.
 
-use crate::{Command, Direction, command_of, data_and_tuple, judge};
-use pi_tuple::Check;
+use crate::{Passage, UnitSpec, Version, header, is_header, specs_in, version_of};
+use fault_schedule::{Crossing, FaultKind, FaultLine, FaultList, Label, ShortBytes, Tamper};
+use pi_tuple::{Check, PiType};
+use std::alloc::Global;
+use std::test::Fail;
 
-#[test]
-fn reads_command_blocks(rt: HostRuntime) {
-    let read = Command {
-        direction: Direction::Read,
-        lba: 100,
-        n: 1,
-    };
-    let write = Command {
-        direction: Direction::Write,
-        lba: 100,
-        n: 1,
-    };
-    let last = Command {
-        direction: Direction::Write,
-        lba: 0xFFFF_FFFF,
-        n: 0xFFFF,
-    };
-    let mixed = Command {
-        direction: Direction::Read,
-        lba: 0x0102_0304,
-        n: 0x0506,
-    };
-    let rows: [(&[u8], Option<Command>); 14] = [
-        (&[0x28, 0x20, 0, 0, 0, 0x64, 0, 0, 1, 0], Some(read)),
-        (&[0x2A, 0x20, 0, 0, 0, 0x64, 0, 0, 1, 0], Some(write)),
-        (&[0x28, 0x20, 1, 2, 3, 4, 0, 5, 6, 0], Some(mixed)),
-        (
-            &[0x2A, 0x20, 0xFF, 0xFF, 0xFF, 0xFF, 0, 0xFF, 0xFF, 0],
-            Some(last),
-        ),
-        // protect field 0 and 3, and a bit beside it
-        (&[0x28, 0, 0, 0, 0, 0x64, 0, 0, 1, 0], None),
-        (&[0x28, 0x60, 0, 0, 0, 0x64, 0, 0, 1, 0], None),
-        (&[0x28, 0x28, 0, 0, 0, 0x64, 0, 0, 1, 0], None),
-        // READ(6), and neither
-        (&[0x08, 0x20, 0, 0, 0, 0x64, 0, 0, 1, 0], None),
-        (&[0x29, 0x20, 0, 0, 0, 0x64, 0, 0, 1, 0], None),
-        // another group number and another control byte
-        (&[0x28, 0x20, 0, 0, 0, 0x64, 1, 0, 1, 0], None),
-        (&[0x28, 0x20, 0, 0, 0, 0x64, 0, 0, 1, 4], None),
-        // nine bytes, eleven and none
-        (&[0x28, 0x20, 0, 0, 0, 0x64, 0, 0, 1], None),
-        (&[0x28, 0x20, 0, 0, 0, 0x64, 0, 0, 1, 0, 0], None),
-        (&[], None),
-    ];
-    for (cdb, command) in rows {
-        assert_eq!(rt; command_of(cdb), command, "of {cdb:?}");
-    }
+const LABEL: Label = Label { op: 7, k: 0 };
+
+/// Block 2 of a unit of type 1, under protect field 001b.
+const BLOCK: Passage = Passage {
+    ty: PiType::One,
+    size: 512,
+    protect: 1,
+    lba: 0x1_0000_0002,
+    rtag: 9,
+    app: 0x1234,
+    mask: 0xFFFF,
+    label: Some(LABEL),
+};
+
+/// 511 zeros and a one, whose guard is the polynomial, with this reference tag.
+fn frame(tag: u8) -> [u8; 520] {
+    let mut frame = [0; 520];
+    frame[511] = 1;
+    frame[512] = 0x8B;
+    frame[513] = 0xB7;
+    frame[519] = tag;
+    frame
 }
 
-// Zeros have guard 0.
-#[test]
-fn judges_frames(rt: HostRuntime) {
-    let zeros = [0; 520];
-    let mut at_three = zeros;
-    at_three[519] = 3;
-    let mut data_flipped = at_three;
-    data_flipped[0] = 0x80;
-    let mut guard_flipped = at_three;
-    guard_flipped[513] = 1;
-    let mut both = data_flipped;
-    both[519] = 4;
-    let mut escape = both;
-    escape[514] = 0xFF;
-    escape[515] = 0xFF;
-    let mut tagged = at_three;
-    tagged[514] = 0x12;
-    let rows = [
-        (&zeros, 0, None),
-        (&zeros, 1, Some(Check::RefTag)),
-        (&at_three, 3, None),
-        (&at_three, 2, Some(Check::RefTag)),
-        (&data_flipped, 3, Some(Check::Guard)),
-        (&guard_flipped, 3, Some(Check::Guard)),
-        (&both, 3, Some(Check::Guard)),
-        (&escape, 3, None),
-        (&tagged, 3, None),
-        // the low 32 bits of the address count
-        (&zeros, 0x1_0000_0000, None),
-        (&at_three, 0x1_0000_0003, None),
-        (&at_three, 0xFFFF_FFFF_0000_0003, None),
-        (&at_three, 0x1_0000_0004, Some(Check::RefTag)),
-    ];
-    for (frame, address, finding) in rows {
-        assert_eq!(rt; judge(frame, address), finding, "at {address}");
-    }
+/// One line that flips the last bit of this byte at this crossing.
+fn flip(alloc: Global, at: Crossing, off: u32) -> Result<Tamper, Fail> {
+    let mut bytes = arrayvec::ArrayVec::new();
+    bytes.push(1);
+    let line = FaultLine {
+        op: 7,
+        k: 0,
+        at,
+        kind: FaultKind::Flip {
+            off,
+            bytes: ShortBytes::from_array(bytes),
+        },
+    };
+    let mut lines = Vec::new(alloc);
+    lines.push(line)?;
+    Ok(Tamper::new(FaultList::from_vec(lines)))
 }
 
 #[test]
-fn takes_frames_apart(rt: HostRuntime) {
-    let mut frame = [7; 520];
-    for (i, byte) in [0, 1, 2, 3, 4, 5, 6, 8].into_iter().enumerate() {
-        if i < 8 {
-            frame[512 + i] = byte;
-        }
+fn a_block_is_checked_by_its_type(rt: HostRuntime) {
+    for (ty, protect, rtag, tag, finding) in [
+        (PiType::One, 1, 9, 2, None),
+        (PiType::One, 1, 9, 9, Some(Check::RefTag)),
+        (PiType::One, 0, 9, 9, Some(Check::RefTag)),
+        (PiType::One, 4, 9, 9, None),
+        (PiType::Two, 4, 9, 2, None),
+        (PiType::Two, 1, 2, 2, Some(Check::AppTag)),
+        (PiType::Two, 0, 9, 2, None),
+        (PiType::Three, 1, 9, 7, None),
+    ] {
+        let block = Passage {
+            ty,
+            protect,
+            rtag,
+            ..BLOCK
+        };
+        assert_eq!(rt;
+            block.finding(&frame(tag)),
+            finding,
+            "{ty:?} {protect} {tag}"
+        );
     }
-    let (bytes, tuple) = data_and_tuple(&frame);
-    assert_eq!(rt; bytes, [7; 512].as_slice());
-    assert_eq!(rt; tuple.guard, 0x0001);
-    assert_eq!(rt; tuple.app, 0x0203);
-    assert_eq!(rt; tuple.rtag, 0x0405_0608);
+}
+
+// A flip before the check is found; one behind it, or in a tuple that is made, is stored or sent.
+#[test]
+fn a_block_is_altered_at_its_crossings(rt: HostRuntime) -> Result<(), Fail> {
+    for (at, off, protect, out, tag) in [
+        (Crossing::AdapterToTarget, 519, 1, Some(Check::RefTag), 3),
+        (Crossing::AdapterToTarget, 519, 0, None, 2),
+        (Crossing::TargetToMedium, 519, 1, None, 3),
+        (Crossing::TargetToMedium, 519, 0, None, 3),
+        (Crossing::MediumToTarget, 519, 1, None, 2),
+    ] {
+        let tamper = flip(rt.alloc(), at, off)?;
+        let block = Passage { protect, ..BLOCK };
+        let mut stored = frame(if protect == 0 { 0xEE } else { 2 });
+        assert_eq!(rt;
+            block.to_medium(&tamper, &mut stored),
+            out,
+            "{at:?} {protect}"
+        );
+        assert_eq!(rt;
+            stored.as_slice(),
+            frame(tag).as_slice(),
+            "{at:?} {protect}"
+        );
+    }
+    for (at, off, protect, into, tag) in [
+        (Crossing::MediumToTarget, 519, 1, Some(Check::RefTag), 3),
+        (Crossing::MediumToTarget, 519, 0, Some(Check::RefTag), 3),
+        (Crossing::TargetToAdapter, 519, 1, None, 3),
+        (Crossing::TargetToAdapter, 519, 0, None, 2),
+        (Crossing::AdapterToTarget, 519, 1, None, 2),
+    ] {
+        let tamper = flip(rt.alloc(), at, off)?;
+        let block = Passage { protect, ..BLOCK };
+        let mut sent = frame(2);
+        assert_eq!(rt;
+            block.from_medium(&tamper, &mut sent),
+            into,
+            "{at:?} {protect}"
+        );
+        assert_eq!(rt; sent.as_slice(), frame(tag).as_slice(), "{at:?} {protect}");
+    }
+    Ok(())
+}
+
+#[test]
+fn a_header_is_read_back(rt: HostRuntime) {
+    let high = UnitSpec {
+        ty: PiType::Three,
+        blocks: 16,
+        size: 4096,
+        first: 0xFFFF_FFF8,
+    };
+    let written = header(Version::Second, &[high, high]);
+    assert_eq!(rt; version_of(&written[..8]), Some(Version::Second));
+    assert!(rt; is_header(Version::Second, &written));
+    assert!(rt; !is_header(Version::First, &written));
+    assert_eq!(rt;
+        specs_in(Version::Second, &written).as_slice(),
+        [high, high].as_slice()
+    );
+    assert_eq!(rt;
+        &written[8..48],
+        [
+            0, 2, 0, 0, 0, 0, 0, 0, 3, 12, 0, 0, 0, 0, 0, 0, 0, 0, 0, 0, 0, 0, 0, 16, 0, 0, 0, 0,
+            0xFF, 0xFF, 0xFF, 0xF8, 0, 0, 0, 0, 0, 0, 0, 0
+        ]
+        .as_slice()
+    );
 }
