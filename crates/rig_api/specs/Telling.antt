@@ -1,11 +1,10 @@
-use Rattle.std.specs.Prelude.{ℕ, ◌≡◌, ◌+◌, ◌-◌, ◌*◌, ◌^◌, min, max, Bool, true, false, eqb, leb, ltb, ◌&&◌, if◌then◌else◌, ◌⊎◌, Result, Ok, Err, List, [], ◌∷◌, ◌++◌, length, take, drop, slice_index_or, slice_set, Option, Some, None}
+use Rattle.std.specs.Prelude.{ℕ, ◌≡◌, ◌+◌, ◌-◌, ◌^◌, min, max, Bool, eqb, leb, ltb, ◌&&◌, ◌⊎◌, Result, Ok, Err, List, [], ◌∷◌, ◌++◌, length, take, drop, slice_index_or, slice_set, Option, Some, None}
 use Rattle.dix_base.specs.Told.{Rose, Becomes}
 use Rattle.pi_tuple.specs.declared.checks.PiType.TheVariants.{Zero}
 use Rattle.fault_schedule.specs.Altered.{byte_at, xored_from}
 use Rattle.fault_schedule.specs.declared.Label.{Label}
 use Rattle.fault_schedule.specs.declared.fault.FaultLine.{FaultLine}
 use Rattle.target_answer.specs.Frames.{joined, stored_size}
-use Rattle.target_answer.specs.Headers.{version_of}
 use Rattle.target_answer.specs.Image.{units_in, migrated}
 use Rattle.target_answer.specs.Target.{Stored, Stop, Answer, target_answer}
 use Rattle.target_answer.specs.declared.units.UnitSpec.{UnitSpec}

@@ -4,7 +4,7 @@ use Rattle.std.specs.List.{list_all}
 use Rattle.std.specs.Str.{bytes_eq}
 use Rattle.pi_tuple.specs.declared.checks.PiType.{PiType}
 use Rattle.pi_tuple.specs.declared.checks.PiType.TheVariants.{Zero, One, Two, Three}
-use Rattle.cdb_codec.specs.Places.{two_at, eight_at}
+use Rattle.cdb_codec.specs.Decoded.{two_at, eight_at}
 use Rattle.target_answer.specs.Frames.{stored_size, joined}
 use Rattle.target_answer.specs.declared.units.Version.{Version}
 use Rattle.target_answer.specs.declared.units.Version.TheVariants.{First, Second}

@@ -18,6 +18,7 @@ use Rattle.sense_codes.specs.declared.Sense.{Sense}
 use Rattle.sense_codes.specs.declared.layer.Layer.TheVariants.{Target}
 use Rattle.target_answer.specs.declared.passage.Passage.{Passage}
 use Rattle.target_answer.specs.declared.request.Request.{Request}
+use Rattle.target_answer.specs.declared.units.UnitSpec.{UnitSpec}
 use Rattle.target_answer.specs.declared.request.Request.TheVariants.{Read, Write, Verify, ReadCapacity}
 use Rattle.target_answer.specs.Frames.{sent_size, frames_of, placed}
 use Rattle.target_answer.specs.Passing.{to_medium, from_medium}
@@ -31,6 +32,10 @@ pub record Stored : Type 0 where
   pub size : ℕ
   pub first : ℕ
   pub blocks : List (List ℕ)
+
+-- what a unit is without its blocks
+abbrev pub shape_of : Stored → UnitSpec
+shape_of unit = record { ty = unit.ty; blocks = length unit.blocks; size = unit.size; first = unit.first }
 
 -- ILLEGAL REQUEST with 20h INVALID COMMAND OPERATION CODE, 21h LOGICAL BLOCK ADDRESS OUT OF RANGE or 24h INVALID FIELD IN CDB (SPC-4, 4.5.6)
 abbrev pub illegal : ℕ → Sense
@@ -58,8 +63,8 @@ abbrev pub medium_address : List FaultLine → List Label → Rw → ℤ
 medium_address faults labels c = wire_address faults labels c +ℤ shift_by_first faults MediumToTarget labels
 
 -- The unit has this many blocks from this address on.
-abbrev pub has_blocks : Stored → ℤ → ℕ → Bool
-has_blocks unit (pos a) n = leb unit.first a && leb (a + n) (unit.first + length unit.blocks)
+abbrev pub has_blocks : UnitSpec → ℤ → ℕ → Bool
+has_blocks unit (pos a) n = leb unit.first a && leb (a + n) (unit.first + unit.blocks)
 has_blocks unit (negsuc a) n = false
 
 -- a refusal in its place: whether it comes, and its additional sense code
@@ -71,7 +76,7 @@ abbrev pub first_of : List Refusal → Option Sense
 first_of [] = None
 first_of (r ∷ rest) = if r.comes then Some (illegal r.asc) else first_of rest
 
-abbrev pub foreign_form : Stored → Cdb → Refusal
+abbrev pub foreign_form : UnitSpec → Cdb → Refusal
 foreign_form unit cdb = record { comes = is_foreign unit.ty cdb; asc = 0x20 }
 
 abbrev pub is_zero : PiType → Bool
@@ -81,14 +86,14 @@ is_zero Two = false
 is_zero Three = false
 
 -- tuples are asked of a unit that has none
-abbrev pub no_tuples : Stored → Rw → Refusal
+abbrev pub no_tuples : UnitSpec → Rw → Refusal
 no_tuples unit c = record { comes = is_zero unit.ty && not (eqb c.protect 0); asc = 0x24 }
 
-abbrev pub outside : Stored → ℤ → ℕ → Refusal
+abbrev pub outside : UnitSpec → ℤ → ℕ → Refusal
 outside unit a n = record { comes = not (has_blocks unit a n); asc = 0x21 }
 
 -- a block is fetched from outside the unit; a command of no blocks fetches none
-abbrev pub fetched_outside : Stored → ℤ → ℕ → Refusal
+abbrev pub fetched_outside : UnitSpec → ℤ → ℕ → Refusal
 fetched_outside unit a n = record { comes = not (eqb n 0) && not (has_blocks unit a n); asc = 0x21 }
 
 -- the host's buffer hasn't the length of what is transferred
@@ -100,7 +105,7 @@ abbrev pub bytes_of : (size : ℕ) → Rw → ℕ
 bytes_of size c = c.n * sent_size c.protect size
 
 -- the refusals of a request, in their order; out and room are the lengths of what the host sends and has room for
-abbrev pub refusals_of : Stored → Cdb → Request → List FaultLine → List Label → (out room : ℕ) → List Refusal
+abbrev pub refusals_of : UnitSpec → Cdb → Request → List FaultLine → List Label → (out room : ℕ) → List Refusal
 refusals_of unit cdb (ReadCapacity len) faults labels out room = wrong_room room (min len 32) ∷ []
 refusals_of unit cdb (Write c) faults labels out room =
     foreign_form unit cdb ∷ no_tuples unit c ∷ outside unit (wire_address faults labels c) c.n
@@ -117,7 +122,7 @@ asc_of Field = 0x24
 asc_of Length = 0x24
 
 -- the first refusal of a command block, if there is one
-unfoldable pub refusal : Stored → Result Cdb CdbFault → List FaultLine → List Label → (out room : ℕ) → Option Sense
+unfoldable pub refusal : UnitSpec → Result Cdb CdbFault → List FaultLine → List Label → (out room : ℕ) → Option Sense
 refusal unit (Err fault) faults labels out room = Some (illegal (asc_of fault))
 refusal unit (Ok cdb) faults labels out room = first_of (refusals_of unit cdb (request_of cdb) faults labels out room)
 
@@ -145,31 +150,41 @@ first_sense lba [] = None
 first_sense lba (Ok frame ∷ rest) = first_sense (lba + 1) rest
 first_sense lba (Err check ∷ rest) = Some (check_sense check lba)
 
--- A write: exactly the prefix without a finding is stored, from this index on. A store call that fails comes after the check of its block, and ends the prefix there.
-abbrev pub write_whole : (at lba : ℕ) → List (Result (List ℕ) Check) → List (List ℕ) → Answer
-write_whole at lba judged blocks = record { done = length (passed judged); sense = first_sense lba judged; blocks = placed at (passed judged) blocks; sent = [] }
+-- how the blocks of a command end: how many are done, the sense, and the frames that are stored or sent
+pub record Ended : Type 0 where
+  pub done : ℕ
+  pub sense : Option Sense
+  pub frames : List (List ℕ)
 
-abbrev pub write_answer : (at lba : ℕ) → List (Result (List ℕ) Check) → List (List ℕ) → Option Stop → Answer
-write_answer at lba judged blocks None = write_whole at lba judged blocks
-write_answer at lba judged blocks (Some s) =
+-- exactly the prefix without a finding is done
+abbrev pub whole : (lba : ℕ) → List (Result (List ℕ) Check) → Ended
+whole lba judged = record { done = length (passed judged); sense = first_sense lba judged; frames = passed judged }
+
+-- of a write: a store call that fails comes after the check of its block, ends the prefix there, and leaves other bytes in its place
+abbrev pub write_end : (lba : ℕ) → List (Result (List ℕ) Check) → Option Stop → Ended
+write_end lba judged None = whole lba judged
+write_end lba judged (Some s) =
     if ltb s.at (length (passed judged))
-    then record { done = s.at; sense = Some (medium_sense 0x0C (lba + s.at)); blocks = placed at (take s.at (passed judged) ++ (s.left ∷ [])) blocks; sent = [] }
-    else write_whole at lba judged blocks
+    then record { done = s.at; sense = Some (medium_sense 0x0C (lba + s.at)); frames = take s.at (passed judged) ++ (s.left ∷ []) }
+    else whole lba judged
 
--- A read: exactly that prefix is sent. A store call that fails comes before the check of its block.
-abbrev pub read_whole : (lba : ℕ) → List (Result (List ℕ) Check) → List (List ℕ) → Answer
-read_whole lba judged blocks = record { done = length (passed judged); sense = first_sense lba judged; blocks = blocks; sent = passed judged }
-
-abbrev pub read_answer : (lba : ℕ) → List (Result (List ℕ) Check) → List (List ℕ) → Option Stop → Answer
-read_answer lba judged blocks None = read_whole lba judged blocks
-read_answer lba judged blocks (Some s) =
+-- of a read: a store call that fails comes before the check of its block, and ends the prefix there
+abbrev pub read_end : (lba : ℕ) → List (Result (List ℕ) Check) → Option Stop → Ended
+read_end lba judged None = whole lba judged
+read_end lba judged (Some s) =
     if ltb s.at (length (passed judged) + 1) && ltb s.at (length judged)
-    then record { done = s.at; sense = Some (medium_sense 0x11 (lba + s.at)); blocks = blocks; sent = take s.at (passed judged) }
-    else read_whole lba judged blocks
+    then record { done = s.at; sense = Some (medium_sense 0x11 (lba + s.at)); frames = take s.at (passed judged) }
+    else whole lba judged
 
--- nothing is sent
-abbrev pub silent : Answer → Answer
-silent a = record { done = a.done; sense = a.sense; blocks = a.blocks; sent = [] }
+-- the frames are stored from this index on, or sent, or neither
+abbrev pub storing : (at : ℕ) → List (List ℕ) → Ended → Answer
+storing at blocks e = record { done = e.done; sense = e.sense; blocks = placed at e.frames blocks; sent = [] }
+
+abbrev pub sending : List (List ℕ) → Ended → Answer
+sending blocks e = record { done = e.done; sense = e.sense; blocks = blocks; sent = e.frames }
+
+abbrev pub keeping : List (List ℕ) → Ended → Answer
+keeping blocks e = record { done = e.done; sense = e.sense; blocks = blocks; sent = [] }
 
 -- each block judged by itself, from this one of the command on
 abbrev pub each : (ℕ → List ℕ → Result (List ℕ) Check) → ℕ → List (List ℕ) → List (Result (List ℕ) Check)
@@ -177,7 +192,7 @@ each judge k [] = []
 each judge k (frame ∷ frames) = judge k frame ∷ each judge (k + 1) frames
 
 -- block k of a command whose first block goes to this address; without a label for it, it crosses unaltered
-abbrev pub passage : Stored → Rw → (lba : ℕ) → List Label → ℕ → Passage
+abbrev pub passage : UnitSpec → Rw → (lba : ℕ) → List Label → ℕ → Passage
 passage unit c lba labels k = record {
   ty = unit.ty;
   size = unit.size;
@@ -188,6 +203,14 @@ passage unit c lba labels k = record {
   mask = c.mask;
   label = slice_get labels k;
 }
+
+-- what comes of each block of a write of these bytes, and of a read of these blocks
+abbrev pub written_by : UnitSpec → Rw → (lba : ℕ) → List FaultLine → List Label → List ℕ → List (Result (List ℕ) Check)
+written_by unit c lba faults labels out =
+    each (λ k frame. to_medium faults (passage unit c lba labels k) frame) 0 (frames_of (sent_size c.protect unit.size) c.n out)
+
+abbrev pub read_by : UnitSpec → Rw → (lba : ℕ) → List FaultLine → List Label → List (List ℕ) → List (Result (List ℕ) Check)
+read_by unit c lba faults labels blocks = each (λ k frame. from_medium faults (passage unit c lba labels k) frame) 0 blocks
 
 -- the blocks of the unit from this address on
 abbrev pub stored_from : Stored → ℕ → ℕ → List (List ℕ)
@@ -201,26 +224,23 @@ protection_byte Two = 3
 protection_byte Three = 5
 
 -- READ CAPACITY(16) data: the last address in bytes 0 to 7, the block length in 8 to 11, the protection in 12
-abbrev pub capacity_data : Stored → List ℕ
+abbrev pub capacity_data : UnitSpec → List ℕ
 capacity_data unit =
-    to_be_bytes w64 (unit.first + length unit.blocks - 1) ++ (to_be_bytes w32 unit.size ++ (protection_byte unit.ty ∷ replicate 19 0))
+    to_be_bytes w64 (unit.first + unit.blocks - 1) ++ (to_be_bytes w32 unit.size ++ (protection_byte unit.ty ∷ replicate 19 0))
 
--- what comes of a request that isn't refused
+-- what comes of a request that isn't refused; VERIFY looks at the blocks as they are stored, whatever labels it has
 abbrev pub carried_out : Stored → Request → List FaultLine → List Label → List ℕ → Option Stop → Answer
 carried_out unit (ReadCapacity len) faults labels out stop =
-    record { done = 0; sense = None; blocks = unit.blocks; sent = take (min len 32) (capacity_data unit) ∷ [] }
+    record { done = 0; sense = None; blocks = unit.blocks; sent = take (min len 32) (capacity_data (shape_of unit)) ∷ [] }
 carried_out unit (Write c) faults labels out stop =
     let lba = nat_abs (wire_address faults labels c) in
-    write_answer (lba - unit.first) lba
-    (each (λ k frame. to_medium faults (passage unit c lba labels k) frame) 0 (frames_of (sent_size c.protect unit.size) c.n out))
-    unit.blocks stop
+    storing (lba - unit.first) unit.blocks (write_end lba (written_by (shape_of unit) c lba faults labels out) stop)
 carried_out unit (Read c) faults labels out stop =
     let lba = nat_abs (wire_address faults labels c) in
-    read_answer lba
-    (each (λ k frame. from_medium faults (passage unit c lba labels k) frame) 0 (stored_from unit (nat_abs (medium_address faults labels c)) c.n))
-    unit.blocks stop
+    let fetched = stored_from unit (nat_abs (medium_address faults labels c)) c.n in
+    sending unit.blocks (read_end lba (read_by (shape_of unit) c lba faults labels fetched) stop)
 carried_out unit (Verify c) faults labels out stop =
-    silent (read_answer c.lba (each (λ k frame. from_medium [] (passage unit c c.lba [] k) frame) 0 (stored_from unit c.lba c.n)) unit.blocks stop)
+    keeping unit.blocks (read_end c.lba (read_by (shape_of unit) c c.lba faults [] (stored_from unit c.lba c.n)) stop)
 
 abbrev pub refused : Stored → Sense → Answer
 refused unit sense = record { done = 0; sense = Some sense; blocks = unit.blocks; sent = [] }
@@ -233,4 +253,4 @@ answer_unless None unit (Err fault) faults labels out stop = refused unit (illeg
 -- what the unit answers to this command block: with these faults armed, these labels for its blocks, these bytes to write or room for so many to read, and a store call that fails or none
 unfoldable pub target_answer : Stored → List FaultLine → List ℕ → List Label → List ℕ → (room : ℕ) → Option Stop → Answer
 target_answer unit faults cdb labels out room stop =
-    answer_unless (refusal unit (decoded cdb) faults labels (length out) room) unit (decoded cdb) faults labels out stop
+    answer_unless (refusal (shape_of unit) (decoded cdb) faults labels (length out) room) unit (decoded cdb) faults labels out stop

@@ -5,7 +5,7 @@ ghost use Rattle.std.specs.Int.{to_be_bytes, w16};
 ghost use Rattle.std.specs.List.{list_all};
 ghost use Rattle.std.specs.Str.{bytes_eq};
 ghost use Rattle.arrayvec.specs.ArrayVec.{array_vec_len};
-ghost use Rattle.cdb_codec.specs.Places.{eight_at};
+ghost use Rattle.cdb_codec.specs.Decoded.{eight_at};
 ghost use Rattle.target_answer.specs.Headers.{entry_1, entry_2, entry_of, exponent_of, entry_size, header, is_header, is_layout, is_spec, magic_of, most_blocks, number_of, spec_of, specs_in, type_of, version_of};
 
 use arrayvec::ArrayVec;
