@@ -61,19 +61,19 @@ entry_of size dev cdb labels o out into = record {
   moved = moved_of size cdb o out into;
 }
 
-abbrev pub data_by : Request → ℕ → ℕ
-data_by (Read c) room = 0
-data_by (Write c) room = 0
-data_by (Verify c) room = 0
-data_by (ReadCapacity len) room = room
+abbrev pub capacity_by : Request → ℕ → ℕ
+capacity_by (Read c) room = 0
+capacity_by (Write c) room = 0
+capacity_by (Verify c) room = 0
+capacity_by (ReadCapacity len) room = room
 
-abbrev pub data_under : Result Cdb CdbFault → ℕ → ℕ
-data_under (Ok cdb) room = data_by (request_of cdb) room
-data_under (Err fault) room = 0
+abbrev pub capacity_under : Result Cdb CdbFault → ℕ → ℕ
+capacity_under (Ok cdb) room = capacity_by (request_of cdb) room
+capacity_under (Err fault) room = 0
 
 -- the bytes that READ CAPACITY moves: all that there is room for
-abbrev pub data_of : List ℕ → (room : ℕ) → ℕ
-data_of cdb room = data_under (decoded cdb) room
+abbrev pub capacity_len : List ℕ → (room : ℕ) → ℕ
+capacity_len cdb room = capacity_under (decoded cdb) room
 
 abbrev pub moved_len : (size : ℕ) → List ℕ → Outcome → (out into : List ℕ) → ℕ
 moved_len size cdb o out into = length (moved_of size cdb o out into)

@@ -1,7 +1,7 @@
 //! What the record of an exchange keeps, for whoever implements a rig.
 
 ghost use Rattle.std.specs.Prelude.{◌≡◌, ◌+◌, ◌*◌, ◌≤◌, ◌<◌, ◌^◌, Some, length, take};
-ghost use Rattle.rig_api.specs.Log.{data_by, data_of, frames_done, labels_of, moved_by, moved_of};
+ghost use Rattle.rig_api.specs.Log.{capacity_by, capacity_len, frames_done, labels_of, moved_by, moved_of};
 ghost use Rattle.target_answer.specs.Frames.{sent_size};
 ghost use Rattle.target_answer.specs.Requests.{blocks_of, transferred};
 
@@ -60,7 +60,7 @@ fn frames_done<'a>(size: u32, c: Rw, done: u32, buffer: &'a [u8]) -> &'a [u8]
 fn moved_by<'a>(size: u32, request: Request, done: u32, out: &'a [u8], into: &'a [u8]) -> &'a [u8]
     requires { size ≤ 4096 }
     ensures value { result.now ≡ moved_by size request done out.now into.now }
-    ensures bound { length result.now ≤ (size + 8) * transferred request + data_by request (length into.now) }
+    ensures bound { length result.now ≤ (size + 8) * transferred request + capacity_by request (length into.now) }
 {
     match request {
         Request::Read(c) => frames_done(size, c, done, into),
@@ -81,7 +81,7 @@ pub fn moved_frames<'a>(
 ) -> &'a [u8]
     requires { size ≤ 4096 }
     ensures value { result.now ≡ moved_of size cdb.now outcome out.now into.now }
-    ensures bound { length result.now ≤ (size + 8) * blocks_of cdb.now + data_of cdb.now (length into.now) }
+    ensures bound { length result.now ≤ (size + 8) * blocks_of cdb.now + capacity_len cdb.now (length into.now) }
 {
     match Cdb::decode(cdb) {
         Ok(command) => moved_by(size, request_of(command), outcome.done, out, into),

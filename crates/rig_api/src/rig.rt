@@ -4,7 +4,7 @@ ghost use Rattle.std.specs.Prelude.{◌≡◌, ◌⊎◌, ◌+◌, ◌^◌, ◌<
 ghost use Rattle.dix_base.specs.Told.{Becomes, Calm, Rose};
 ghost use Rattle.fault_schedule.specs.declared.fault.FaultLine.{FaultLine};
 ghost use Rattle.rig_api.specs.Head.{HasJudged, IsFaultOf, fault_name, units_of, version_in};
-ghost use Rattle.rig_api.specs.Log.{Entry, HasRoom, IsMedium, Room, data_of, entry_at, entry_of, has_key, have_keys, labels_len, moved_len};
+ghost use Rattle.rig_api.specs.Log.{Entry, HasRoom, IsMedium, Room, capacity_len, entry_at, entry_of, has_key, have_keys, labels_len, moved_len};
 ghost use Rattle.rig_api.specs.Telling.{HasCause, IsAnswer, IsMigrated, IsStanding, JudgesNone, KeepsBlocks, KeepsUnits, LeavesImage, Opened, OpenedBy, Standing, Stayed, answer_of, block_at, can_change, changed, frame_size, greatest_size, migrated_count, source_of, spec_at, unit_at, units_told, with_block};
 ghost use Rattle.target_answer.specs.Headers.{is_layout};
 ghost use Rattle.target_answer.specs.Image.{formatted};
@@ -244,7 +244,7 @@ pub trait Rig {
         requires device { dev < (standing self.old).devices }
         requires short { length cdb.now ≤ 32 }
         requires room { HasRoom (greatest_size (standing self.old)) 1 (blocks_of cdb.now) (room self.old) }
-        requires data { data_of cdb.now (length into.old) ≤ (room self.old).moved }
+        requires capacity { capacity_len cdb.now (length into.old) ≤ (room self.old).moved }
         ensures recorded { log self.new
             ≡ log self.old ++ (entry_of (spec_at (standing self.old) dev).size dev cdb.now labels.now result out.now into.new ∷ []) }
         ensures calm { (us : List Stored) → units self.old ≡ Some us → Calm (faults self.old) (faults self.new)

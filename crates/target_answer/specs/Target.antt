@@ -1,5 +1,6 @@
-use Rattle.std.specs.Prelude.{ℕ, ◌+◌, ◌-◌, ◌*◌, ◌%◌, ◌^◌, min, Bool, true, false, not, ◌&&◌, eqb, leb, ltb, if◌then◌else◌, List, [], ◌∷◌, ◌++◌, length, take, drop, replicate, slice_get, ℤ, pos, negsuc, ◌+ℤ◌, nat_abs, Option, Some, None, Result, Ok, Err}
+use Rattle.std.specs.Prelude.{ℕ, ◌+◌, ◌-◌, ◌*◌, ◌%◌, ◌^◌, min, Bool, false, not, ◌&&◌, eqb, leb, ltb, if◌then◌else◌, List, [], ◌∷◌, ◌++◌, length, take, drop, replicate, slice_get, ℤ, pos, negsuc, ◌+ℤ◌, nat_abs, Option, Some, None, Result, Ok, Err}
 use Rattle.std.specs.Int.{w32, w64, to_be_bytes}
+use Rattle.pi_tuple.specs.Finds.{is_zero}
 use Rattle.pi_tuple.specs.declared.checks.PiType.{PiType}
 use Rattle.pi_tuple.specs.declared.checks.PiType.TheVariants.{Zero, One, Two, Three}
 use Rattle.pi_tuple.specs.declared.checks.Check.{Check}
@@ -78,12 +79,6 @@ first_of (r ∷ rest) = if r.comes then Some (illegal r.asc) else first_of rest
 
 abbrev pub foreign_form : UnitSpec → Cdb → Refusal
 foreign_form unit cdb = record { comes = is_foreign unit.ty cdb; asc = 0x20 }
-
-abbrev pub is_zero : PiType → Bool
-is_zero Zero = true
-is_zero One = false
-is_zero Two = false
-is_zero Three = false
 
 -- tuples are asked of a unit that has none
 abbrev pub no_tuples : UnitSpec → Rw → Refusal
