@@ -1,0 +1,5 @@
+mod Bytes
+mod Composing
+mod Ends
+mod Reading
+mod Writing

@@ -1,0 +1,100 @@
+use Rattle.std.specs.Prelude.{ℕ, ◌≡◌, ◌+◌, ◌*◌, ◌^◌, ◌<◌, ◌≤◌, ◌⊎◌, List, length, take, drop, Option, Some, None, Result, Ok, Err}
+use Rattle.dix_base.specs.Told.{Rose, over}
+use Rattle.pi_tuple.specs.declared.checks.Check.{Check}
+use Rattle.sense_codes.specs.declared.Sense.{Sense}
+use Rattle.cdb_codec.specs.declared.command.Cdb.{Cdb}
+use Rattle.cdb_codec.specs.declared.command.Rw.{Rw}
+use Rattle.fault_schedule.specs.declared.Label.{Label}
+use Rattle.fault_schedule.specs.declared.fault.FaultLine.{FaultLine}
+use Rattle.target_answer.specs.Frames.{sent_size, stored_size, frames_of, joined}
+use Rattle.target_answer.specs.Target.{Stored, Stop, Answer, Ended, carried_out, check_sense, first_of, medium_sense, refusals_of, refused, shape_of}
+use Rattle.target_answer.specs.declared.request.Request.{Request}
+use Rattle.target_answer.specs.declared.units.UnitSpec.{UnitSpec}
+use Rattle.rig_api.specs.Telling.{HasCause, at_front}
+use Rattle.rig_api.specs.declared.rig.Outcome.{Outcome}
+use Rattle.target_model.specs.declared.unit.LogicalUnit.{LogicalUnit}
+
+-- the unit without its blocks
+abbrev pub shape_in : LogicalUnit → UnitSpec
+shape_in u = record { ty = u.ty; blocks = u.blocks; size = u.size; first = u.first }
+
+-- the bytes of a block in the store
+abbrev pub block_bytes : UnitSpec → ℕ
+block_bytes u = stored_size u.ty u.size
+
+-- the unit with its blocks as they stand in the store
+abbrev pub unit_in : LogicalUnit → List ℕ → Stored
+unit_in u bytes = record { ty = u.ty; size = u.size; first = u.first; blocks = frames_of (stored_size u.ty u.size) u.blocks (drop u.at bytes) }
+
+-- the store with these blocks in the unit's place
+abbrev pub with_unit : LogicalUnit → List (List ℕ) → List ℕ → List ℕ
+with_unit u blocks bytes = over u.at (joined blocks) bytes
+
+-- a block size that is served
+abbrev pub IsSize : ℕ → Type 0
+IsSize size = (size ≡ 512) ⊎ (size ≡ 4096)
+
+-- What the store tells afterwards, the outcome and what was sent are those of the answer, for some place where the store stopped it, if it did.
+pub record Served (u : LogicalUnit) (answer : Option Stop → Answer) (old new : ℕ) (was : List ℕ) (now : Option (List ℕ)) (result : Outcome) (before after : List ℕ) : Type 0 where
+  pub stop : Option Stop
+  pub cause : HasCause stop (stored_size u.ty u.size) old new
+  pub outcome : result ≡ record { done = (answer stop).done; sense = (answer stop).sense }
+  pub bytes : now ≡ Some (with_unit u (answer stop).blocks was)
+  pub into : after ≡ at_front (joined (answer stop).sent) before
+
+-- One accepted frame was stored at this place, or the store call failed and left other bytes there.
+abbrev pub StoredOrFailed : List ℕ → (place lba old new : ℕ) → List ℕ → Option Sense → Option (List ℕ) → Type 0
+StoredOrFailed frame place lba old new was None now = now ≡ Some (over place frame was)
+StoredOrFailed frame place lba old new was (Some sense) now =
+    Rose old new × (sense ≡ medium_sense 0x0C lba) × ((left : List ℕ) × (length left ≡ length frame) × (now ≡ Some (over place left was)))
+
+-- how one block of a write ends, of which this came at the target
+abbrev pub BlockWritten : Result (List ℕ) Check → (size place lba old new : ℕ) → List ℕ → Option Sense → Option (List ℕ) → Type 0
+BlockWritten (Err check) size place lba old new was result now = (result ≡ Some (check_sense check lba)) × (now ≡ Some was)
+BlockWritten (Ok frame) size place lba old new was result now = (length frame ≡ size) × StoredOrFailed frame place lba old new was result now
+
+-- how one block of a read ends, of which this came at the target: it stands at the front of the buffer, or the check or the store call failed
+abbrev pub BlockRead : Result (List ℕ) Check → (size lba old new : ℕ) → Option Sense → List ℕ → Type 0
+BlockRead judged size lba old new None frame = judged ≡ Ok (take size frame)
+BlockRead judged size lba old new (Some sense) frame =
+    (Rose old new × (sense ≡ medium_sense 0x11 lba)) ⊎ ((check : Check) × (judged ≡ Err check) × (sense ≡ check_sense check lba))
+
+-- how the blocks of a write end: the frames that were stored stand one after another from this place on
+pub record AllWritten (end : Option Stop → Ended) (frame place old new : ℕ) (was : List ℕ) (now : Option (List ℕ)) (result : Outcome) : Type 0 where
+  pub stop : Option Stop
+  pub cause : HasCause stop frame old new
+  pub outcome : result ≡ record { done = (end stop).done; sense = (end stop).sense }
+  pub whole : length (joined (end stop).frames) ≡ frame * length (end stop).frames
+  pub bytes : now ≡ Some (over place (joined (end stop).frames) was)
+
+-- how the blocks of a read end: the frames that were sent stand at the front of the buffer
+pub record AllRead (end : Option Stop → Ended) (frame old new : ℕ) (result : Outcome) (before after : List ℕ) : Type 0 where
+  pub stop : Option Stop
+  pub cause : HasCause stop frame old new
+  pub outcome : result ≡ record { done = (end stop).done; sense = (end stop).sense }
+  pub into : after ≡ at_front (joined (end stop).frames) before
+
+abbrev pub answer_after : Option Sense → Stored → Request → List FaultLine → List Label → List ℕ → Option Stop → Answer
+answer_after (Some sense) unit request faults labels out stop = refused unit sense
+answer_after None unit request faults labels out stop = carried_out unit request faults labels out stop
+
+-- what the unit answers to a command that asks for this
+abbrev pub answer_to : Stored → Cdb → Request → List FaultLine → List Label → List ℕ → (room : ℕ) → Option Stop → Answer
+answer_to unit cdb request faults labels out room stop =
+    answer_after (first_of (refusals_of (shape_of unit) cdb request faults labels (length out) room)) unit request faults labels out stop
+
+-- The unit has so many blocks from this LBA on.
+pub record HasBlocks (unit : UnitSpec) (lba count : ℕ) : Type 0 where
+  pub first : unit.first ≤ lba
+  pub last : lba + count ≤ unit.first + unit.blocks
+
+-- The command moves no tuples that the unit hasn't.
+abbrev pub FitsFrame : UnitSpec → Rw → Type 0
+FitsFrame unit c = sent_size c.protect unit.size ≤ stored_size unit.ty unit.size
+
+-- The store has the unit, whose places and addresses have 64 bits.
+pub record IsUnit (u : LogicalUnit) (len : ℕ) : Type 0 where
+  pub size : IsSize u.size
+  pub held : u.at + stored_size u.ty u.size * u.blocks ≤ len
+  pub places : u.at + stored_size u.ty u.size * u.blocks < 2 ^ 64
+  pub addresses : u.first + u.blocks < 2 ^ 64

@@ -1,0 +1,83 @@
+//! One block of a command, over any store.
+
+ghost use Rattle.std.specs.Prelude.{◌≡◌, ◌+◌, ◌≤◌, ◌^◌, ◌<◌, ℕ, List, length, is_some, take, drop, Some, true};
+ghost use Rattle.dix_base.specs.Told.{Rose};
+ghost use Rattle.rig_api.specs.Log.{IsMediumSense, has_key};
+ghost use Rattle.target_answer.specs.Frames.{sent_size, stored_size};
+ghost use Rattle.target_answer.specs.Passing.{from_medium, to_medium};
+ghost use Rattle.target_model.specs.Served.{BlockRead, BlockWritten};
+
+use crate::sense::{aborted, medium};
+use dix_base::{Failed, Store};
+use fault_schedule::Tamper;
+use sense_codes::Sense;
+use target_answer::Passage;
+
+/// Takes a block from the host to its place in the store. `frame` is scratch of the length of a
+/// stored block. Where the block isn't stored, the answer is the sense.
+pub(crate) fn write_block<S: Store>(
+    store: &mut S,
+    place: u64,
+    block: Passage,
+    tamper: &Tamper,
+    sent: &[u8],
+    frame: &mut [u8],
+) -> Option<Sense>
+    requires frame { length frame.old ≡ stored_size block.ty block.size }
+    requires sent { length sent.now ≡ sent_size block.protect block.size }
+    requires fits { length sent.now ≤ length frame.old }
+    requires held { place + length frame.old ≤ S.len store.old }
+    ensures told { (bytes : List ℕ) → S.bytes store.old ≡ Some bytes
+        → BlockWritten (to_medium tamper.now block sent.now) (stored_size block.ty block.size) place block.lba (S.faults store.old) (S.faults store.new) bytes result (S.bytes store.new) }
+    ensures medium { IsMediumSense result → Rose (S.faults store.old) (S.faults store.new) }
+    ensures key { has_key result ≡ true }
+    ensures frame { length frame.new ≡ length frame.old }
+    ensures tells { is_some (S.bytes store.new) ≡ is_some (S.bytes store.old) }
+    ensures len { S.len store.new ≡ S.len store.old }
+    ensures name { S.handed store.new ≡ S.handed store.old }
+    ensures openings { S.openings store.new ≡ S.openings store.old }
+    ensures count { S.faults store.old ≤ S.faults store.new }
+{
+    frame[..sent.len()].copy_from_slice(sent);
+    match block.to_medium(tamper, frame) {
+        Some(check) => Some(aborted(check, block.lba)),
+        None => match store.write_at(place, frame) {
+            Ok(()) => None,
+            Err(Failed) => Some(medium(0x0C, block.lba)),
+        },
+    }
+}
+
+/// Takes a block from its place in the store towards the host: what is sent then stands at the
+/// front of `frame`, which has the length of a stored block. Where the block isn't sent, the
+/// answer is the sense.
+pub(crate) fn read_block<S: Store>(
+    store: &mut S,
+    place: u64,
+    block: Passage,
+    tamper: &Tamper,
+    frame: &mut [u8],
+) -> Option<Sense>
+    requires frame { length frame.old ≡ stored_size block.ty block.size }
+    requires fits { sent_size block.protect block.size ≤ length frame.old }
+    requires held { place + length frame.old ≤ S.len store.old }
+    ensures told { (bytes : List ℕ) → S.bytes store.old ≡ Some bytes
+        → BlockRead (from_medium tamper.now block (take (stored_size block.ty block.size) (drop place bytes))) (sent_size block.protect block.size) block.lba
+        (S.faults store.old) (S.faults store.new) result frame.new }
+    ensures medium { IsMediumSense result → Rose (S.faults store.old) (S.faults store.new) }
+    ensures key { has_key result ≡ true }
+    ensures frame { length frame.new ≡ length frame.old }
+    ensures same { S.bytes store.new ≡ S.bytes store.old }
+    ensures len { S.len store.new ≡ S.len store.old }
+    ensures name { S.handed store.new ≡ S.handed store.old }
+    ensures openings { S.openings store.new ≡ S.openings store.old }
+    ensures count { S.faults store.old ≤ S.faults store.new }
+{
+    match store.read_at(place, frame) {
+        Ok(()) => match block.from_medium(tamper, frame) {
+            Some(check) => Some(aborted(check, block.lba)),
+            None => None,
+        },
+        Err(Failed) => Some(medium(0x11, block.lba)),
+    }
+}

@@ -1,0 +1,204 @@
+//! Why a command isn't carried out.
+
+ghost use Rattle.std.specs.Prelude.{◌≡◌, ◌+◌, ◌^◌, ◌<◌, ◌≤◌, ◌+ℤ◌, ◌&&◌, [], ℕ, pos, not, eqb, true, false, IfSome, IfNone, OnSome, IfOk, IfErr, OnOk, None, Some};
+ghost use Rattle.fault_schedule.specs.declared.fault.Crossing.TheVariants.{MediumToTarget};
+ghost use Rattle.pi_tuple.specs.Finds.{is_zero};
+ghost use Rattle.target_model.specs.Served.{FitsFrame, HasBlocks};
+ghost use Rattle.target_answer.specs.Target.{bytes_of, first_of, has_blocks, illegal, medium_address, refusals_of, shift_by_first, wire_address};
+ghost use Rattle.target_answer.specs.declared.request.Request.TheVariants.{Read, ReadCapacity, Verify, Write};
+ghost use Rattle.target_answer.specs.declared.units.UnitSpec.{UnitSpec};
+
+use crate::unit::sent_size;
+use cdb_codec::{Cdb, Rw};
+use fault_schedule::{Crossing, Label, Tamper};
+use pi_tuple::PiType;
+use target_answer::{UnitSpec, is_foreign};
+
+fn shift_by_first(tamper: &Tamper, at: Crossing, labels: &[Label]) -> i64
+    ensures { result ≡ shift_by_first tamper.now at labels.now }
+{
+    match labels.first() {
+        Some(label) => tamper.shift(at, label.op),
+        None => 0,
+    }
+}
+
+/// The LBA after a shift, unless no unit has it.
+fn shifted(lba: u64, by: i64) -> Option<u64>
+    ensures found { IfSome result (λ a. pos lba +ℤ by ≡ pos a) }
+    ensures none { IfNone result ((unit : UnitSpec) → (n : ℕ) → unit.first + unit.blocks < 2 ^ 64 → has_blocks unit (pos lba +ℤ by) n ≡ false) }
+{
+    lba.checked_add_signed(by)
+}
+
+/// The LBA of a command's first block after the shift on the wire, unless no unit has it.
+pub(crate) fn wire_lba(tamper: &Tamper, labels: &[Label], c: Rw) -> Option<u64>
+    ensures found { IfSome result (λ a. wire_address tamper.now labels.now c ≡ pos a) }
+    ensures none { IfNone result ((unit : UnitSpec) → (n : ℕ) → unit.first + unit.blocks < 2 ^ 64 → has_blocks unit (wire_address tamper.now labels.now c) n ≡ false) }
+{
+    shifted(
+        c.lba,
+        shift_by_first(tamper, Crossing::AdapterToTarget, labels),
+    )
+}
+
+/// Where the block at this LBA is fetched, after the shift on the medium, unless no unit has it.
+pub(crate) fn medium_lba(tamper: &Tamper, labels: &[Label], lba: u64) -> Option<u64>
+    ensures found { IfSome result (λ a. pos lba +ℤ shift_by_first tamper.now MediumToTarget labels.now ≡ pos a) }
+    ensures none { IfNone result ((unit : UnitSpec) → (n : ℕ) → unit.first + unit.blocks < 2 ^ 64
+        → has_blocks unit (pos lba +ℤ shift_by_first tamper.now MediumToTarget labels.now) n ≡ false) }
+{
+    shifted(
+        lba,
+        shift_by_first(tamper, Crossing::MediumToTarget, labels),
+    )
+}
+
+/// Whether the unit has so many blocks from this LBA on.
+fn has_blocks(unit: UnitSpec, lba: u64, count: u32) -> bool
+    ensures value { result ≡ has_blocks unit (pos lba) count }
+    ensures inside { result ≡ true → HasBlocks unit lba count }
+{
+    unit.first <= lba && lba as u128 + count as u128 <= unit.first as u128 + unit.blocks as u128
+}
+
+fn lacks_tuples(unit: UnitSpec, c: Rw) -> bool
+    ensures value { result ≡ is_zero unit.ty && not (eqb c.protect 0) }
+    ensures fits { result ≡ false → FitsFrame unit c }
+{
+    unit.ty == PiType::Zero && c.protect != 0
+}
+
+/// The bytes that a command transfers.
+fn bytes_of(size: u32, c: Rw) -> u64
+    requires { size ≤ 4096 }
+    ensures { result ≡ bytes_of size c }
+{
+    c.n as u64 * sent_size(c.protect, size) as u64
+}
+
+/// The LBA of the first block of a write of `out` bytes, as the target is told it, or the
+/// additional sense code of the first refusal.
+pub(crate) fn taken_write(
+    unit: UnitSpec,
+    cdb: Cdb,
+    c: Rw,
+    tamper: &Tamper,
+    labels: &[Label],
+    out: usize,
+) -> Result<u64, u8>
+    requires size { unit.size ≤ 4096 }
+    requires fits { unit.first + unit.blocks < 2 ^ 64 }
+    ensures refused { IfErr result (λ asc. first_of (refusals_of unit cdb (Write c) tamper.now labels.now out 0) ≡ Some (illegal asc)) }
+    ensures taken { OnOk result (first_of (refusals_of unit cdb (Write c) tamper.now labels.now out 0) ≡ None) }
+    ensures address { IfOk result (λ a. wire_address tamper.now labels.now c ≡ pos a) }
+    ensures inside { IfOk result (λ a. HasBlocks unit a c.n) }
+    ensures frame { OnOk result (FitsFrame unit c) }
+    ensures room { OnOk result (out ≡ bytes_of unit.size c) }
+{
+    if is_foreign(unit.ty, cdb) {
+        return Err(0x20);
+    }
+    if lacks_tuples(unit, c) {
+        return Err(0x24);
+    }
+    let Some(lba) = wire_lba(tamper, labels, c) else {
+        return Err(0x21);
+    };
+    if !has_blocks(unit, lba, c.n) {
+        return Err(0x21);
+    }
+    if out as u64 != bytes_of(unit.size, c) {
+        return Err(0x24);
+    }
+    Ok(lba)
+}
+
+/// Whether a block is fetched from outside the unit, of a command of so many blocks from this LBA
+/// on; one of none fetches none.
+fn fetched_from(
+    unit: UnitSpec,
+    tamper: &Tamper,
+    labels: &[Label],
+    lba: u64,
+    count: u32,
+) -> Option<u64>
+    requires fits { unit.first + unit.blocks < 2 ^ 64 }
+    requires there { HasBlocks unit lba count }
+    ensures none { IfNone result ((not (eqb count 0) && not (has_blocks unit (pos lba +ℤ shift_by_first tamper.now MediumToTarget labels.now) count)) ≡ true) }
+    ensures some { OnSome result ((not (eqb count 0) && not (has_blocks unit (pos lba +ℤ shift_by_first tamper.now MediumToTarget labels.now) count)) ≡ false) }
+    ensures address { IfSome result (λ a. 0 < count → pos lba +ℤ shift_by_first tamper.now MediumToTarget labels.now ≡ pos a) }
+    ensures inside { IfSome result (λ a. HasBlocks unit a count) }
+{
+    if count == 0 {
+        return Some(lba);
+    }
+    let Some(from) = medium_lba(tamper, labels, lba) else {
+        return None;
+    };
+    if !has_blocks(unit, from, count) {
+        return None;
+    }
+    Some(from)
+}
+
+/// The LBA of the first block of a read into `room` bytes, as the target is told it, and the one
+/// where it is fetched, or the additional sense code of the first refusal.
+pub(crate) fn taken_read(
+    unit: UnitSpec,
+    cdb: Cdb,
+    c: Rw,
+    tamper: &Tamper,
+    labels: &[Label],
+    room: usize,
+) -> Result<(u64, u64), u8>
+    requires size { unit.size ≤ 4096 }
+    requires fits { unit.first + unit.blocks < 2 ^ 64 }
+    ensures refused { IfErr result (λ asc. first_of (refusals_of unit cdb (Read c) tamper.now labels.now 0 room) ≡ Some (illegal asc)) }
+    ensures taken { OnOk result (first_of (refusals_of unit cdb (Read c) tamper.now labels.now 0 room) ≡ None) }
+    ensures address { IfOk result (λ a. wire_address tamper.now labels.now c ≡ pos a.0) }
+    ensures fetched { IfOk result (λ a. 0 < c.n → medium_address tamper.now labels.now c ≡ pos a.1) }
+    ensures inside { IfOk result (λ a. HasBlocks unit a.0 c.n) }
+    ensures source { IfOk result (λ a. HasBlocks unit a.1 c.n) }
+    ensures frame { OnOk result (FitsFrame unit c) }
+    ensures room { OnOk result (room ≡ bytes_of unit.size c) }
+{
+    if is_foreign(unit.ty, cdb) {
+        return Err(0x20);
+    }
+    if lacks_tuples(unit, c) {
+        return Err(0x24);
+    }
+    let Some(lba) = wire_lba(tamper, labels, c) else {
+        return Err(0x21);
+    };
+    if !has_blocks(unit, lba, c.n) {
+        return Err(0x21);
+    }
+    let Some(from) = fetched_from(unit, tamper, labels, lba, c.n) else {
+        return Err(0x21);
+    };
+    if room as u64 != bytes_of(unit.size, c) {
+        return Err(0x24);
+    }
+    Ok((lba, from))
+}
+
+/// The additional sense code of the first refusal of VERIFY, if there is one.
+pub(crate) fn taken_verify(unit: UnitSpec, cdb: Cdb, c: Rw) -> Result<(), u8>
+    ensures refused { IfErr result (λ asc. first_of (refusals_of unit cdb (Verify c) [] [] 0 0) ≡ Some (illegal asc)) }
+    ensures taken { OnOk result (first_of (refusals_of unit cdb (Verify c) [] [] 0 0) ≡ None) }
+    ensures inside { OnOk result (HasBlocks unit c.lba c.n) }
+    ensures frame { OnOk result (FitsFrame unit c) }
+{
+    if is_foreign(unit.ty, cdb) {
+        return Err(0x20);
+    }
+    if lacks_tuples(unit, c) {
+        return Err(0x24);
+    }
+    if !has_blocks(unit, c.lba, c.n) {
+        return Err(0x21);
+    }
+    Ok(())
+}

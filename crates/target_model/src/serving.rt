@@ -1,0 +1,238 @@
+//! What a unit answers to a command block, over any store.
+
+ghost use Rattle.std.specs.Prelude.{◌≡◌, ◌+◌, ◌-◌, ◌*◌, ◌^◌, ◌<◌, ◌≤◌, ◌≢◌, [], ℕ, List, length, is_some, min, take, Some, None, true};
+ghost use Rattle.dix_base.specs.Told.{Rose};
+ghost use Rattle.rig_api.specs.Log.{IsMedium, has_key};
+ghost use Rattle.target_answer.specs.Target.{asc_of, capacity_data, illegal, protection_byte, target_answer};
+ghost use Rattle.target_answer.specs.declared.request.Request.TheVariants.{Read, ReadCapacity, Verify, Write};
+ghost use Rattle.target_model.specs.Served.{IsUnit, Served, answer_to, block_bytes, shape_in, unit_in};
+
+use crate::LogicalUnit;
+use crate::refusal::{taken_read, taken_verify, taken_write};
+use crate::sense::illegal;
+use crate::transfer::{Blocks, read_blocks, verify_blocks, write_blocks};
+use crate::unit::block_bytes;
+use cdb_codec::{Cdb, CdbFault, Rw};
+use dix_base::Store;
+use fault_schedule::{Label, Tamper};
+use pi_tuple::PiType;
+use rig_api::Outcome;
+use target_answer::{Request, UnitSpec, request_of};
+
+/// ILLEGAL REQUEST, and no block is done.
+fn refused(asc: u8) -> Outcome
+    ensures { result ≡ record { done = 0; sense = Some (illegal asc) } }
+{
+    Outcome {
+        done: 0,
+        sense: Some(illegal(asc)),
+    }
+}
+
+/// The byte of the store at which the block of this LBA begins.
+fn place_of(unit: &LogicalUnit, lba: u64) -> u64
+    requires first { unit.now.first ≤ lba }
+    requires last { lba ≤ unit.now.first + unit.now.blocks }
+    requires places { unit.now.at + block_bytes (shape_in unit.now) * unit.now.blocks < 2 ^ 64 }
+    ensures { result ≡ unit.now.at + block_bytes (shape_in unit.now) * (lba - unit.now.first) }
+{
+    unit.at + block_bytes(unit.shape()) as u64 * (lba - unit.first)
+}
+
+fn write<S: Store>(
+    store: &mut S,
+    unit: &LogicalUnit,
+    cdb: Cdb,
+    c: Rw,
+    labels: &[Label],
+    out: &[u8],
+    into: &[u8],
+    tamper: &Tamper,
+) -> Outcome
+    requires unit { IsUnit unit.now (S.len store.old) }
+    ensures told { (bytes : List ℕ) → S.bytes store.old ≡ Some bytes
+        → Served unit.now (answer_to (unit_in unit.now bytes) cdb (Write c) tamper.now labels.now out.now (length into.now)) (S.faults store.old) (S.faults store.new) bytes (S.bytes store.new) result into.now into.now }
+    ensures medium { IsMedium result → Rose (S.faults store.old) (S.faults store.new) }
+    ensures key { has_key result.sense ≡ true }
+    ensures tells { is_some (S.bytes store.new) ≡ is_some (S.bytes store.old) }
+    ensures len { S.len store.new ≡ S.len store.old }
+    ensures name { S.handed store.new ≡ S.handed store.old }
+    ensures openings { S.openings store.new ≡ S.openings store.old }
+    ensures count { S.faults store.old ≤ S.faults store.new }
+{
+    let shape = unit.shape();
+    match taken_write(shape, cdb, c, tamper, labels, out.len()) {
+        Err(asc) => refused(asc),
+        Ok(lba) => {
+            let blocks = Blocks {
+                unit: shape,
+                fields: c,
+                lba,
+            };
+            write_blocks(store, place_of(unit, lba), blocks, tamper, labels, out)
+        }
+    }
+}
+
+fn read<S: Store>(
+    store: &mut S,
+    unit: &LogicalUnit,
+    cdb: Cdb,
+    c: Rw,
+    labels: &[Label],
+    out: &[u8],
+    into: &mut [u8],
+    tamper: &Tamper,
+) -> Outcome
+    requires unit { IsUnit unit.now (S.len store.old) }
+    ensures told { (bytes : List ℕ) → S.bytes store.old ≡ Some bytes
+        → Served unit.now (answer_to (unit_in unit.now bytes) cdb (Read c) tamper.now labels.now out.now (length into.old)) (S.faults store.old) (S.faults store.new) bytes (S.bytes store.new) result into.old into.new }
+    ensures medium { IsMedium result → Rose (S.faults store.old) (S.faults store.new) }
+    ensures key { has_key result.sense ≡ true }
+    ensures same { S.bytes store.new ≡ S.bytes store.old }
+    ensures len { S.len store.new ≡ S.len store.old }
+    ensures name { S.handed store.new ≡ S.handed store.old }
+    ensures openings { S.openings store.new ≡ S.openings store.old }
+    ensures count { S.faults store.old ≤ S.faults store.new }
+{
+    let shape = unit.shape();
+    match taken_read(shape, cdb, c, tamper, labels, into.len()) {
+        Err(asc) => refused(asc),
+        Ok((lba, from)) => {
+            let blocks = Blocks {
+                unit: shape,
+                fields: c,
+                lba,
+            };
+            read_blocks(store, place_of(unit, from), blocks, tamper, labels, into)
+        }
+    }
+}
+
+fn verify<S: Store>(
+    store: &mut S,
+    unit: &LogicalUnit,
+    cdb: Cdb,
+    c: Rw,
+    labels: &[Label],
+    out: &[u8],
+    into: &[u8],
+    tamper: &Tamper,
+) -> Outcome
+    requires unit { IsUnit unit.now (S.len store.old) }
+    ensures told { (bytes : List ℕ) → S.bytes store.old ≡ Some bytes
+        → Served unit.now (answer_to (unit_in unit.now bytes) cdb (Verify c) tamper.now labels.now out.now (length into.now)) (S.faults store.old) (S.faults store.new) bytes (S.bytes store.new) result into.now into.now }
+    ensures medium { IsMedium result → Rose (S.faults store.old) (S.faults store.new) }
+    ensures key { has_key result.sense ≡ true }
+    ensures same { S.bytes store.new ≡ S.bytes store.old }
+    ensures len { S.len store.new ≡ S.len store.old }
+    ensures name { S.handed store.new ≡ S.handed store.old }
+    ensures openings { S.openings store.new ≡ S.openings store.old }
+    ensures count { S.faults store.old ≤ S.faults store.new }
+{
+    let shape = unit.shape();
+    match taken_verify(shape, cdb, c) {
+        Err(asc) => refused(asc),
+        Ok(()) => {
+            let blocks = Blocks {
+                unit: shape,
+                fields: c,
+                lba: c.lba,
+            };
+            verify_blocks(store, place_of(unit, c.lba), blocks, tamper)
+        }
+    }
+}
+
+fn protection_byte(ty: PiType) -> u8
+    ensures { result ≡ protection_byte ty }
+{
+    match ty {
+        PiType::Zero => 0,
+        PiType::One => 1,
+        PiType::Two => 3,
+        PiType::Three => 5,
+    }
+}
+
+/// READ CAPACITY(16) data (SBC-3, 5.16.2).
+fn capacity_data(unit: UnitSpec) -> [u8; 32]
+    requires some { 1 ≤ unit.blocks }
+    requires fits { unit.first + unit.blocks < 2 ^ 64 }
+    ensures { result ≡ capacity_data unit }
+{
+    let [a0, a1, a2, a3, a4, a5, a6, a7] = (unit.first + unit.blocks - 1).to_be_bytes();
+    let [b0, b1, b2, b3] = unit.size.to_be_bytes();
+    let p = protection_byte(unit.ty);
+    [
+        a0, a1, a2, a3, a4, a5, a6, a7, b0, b1, b2, b3, p, 0, 0, 0, 0, 0, 0, 0, 0, 0, 0, 0, 0, 0,
+        0, 0, 0, 0, 0, 0,
+    ]
+}
+
+fn read_capacity(unit: &LogicalUnit, alloc_len: u32, into: &mut [u8]) -> Outcome
+    requires some { 1 ≤ unit.now.blocks }
+    requires fits { unit.now.first + unit.now.blocks < 2 ^ 64 }
+    ensures refused { length into.old ≢ min alloc_len 32 → (result ≡ record { done = 0; sense = Some (illegal 0x24) }) × (into.new ≡ into.old) }
+    ensures told { length into.old ≡ min alloc_len 32
+        → (result ≡ record { done = 0; sense = None }) × (into.new ≡ take (min alloc_len 32) (capacity_data (shape_in unit.now))) }
+{
+    let count = alloc_len.min(32) as usize;
+    if into.len() != count {
+        return refused(0x24);
+    }
+    let data = capacity_data(unit.shape());
+    into.copy_from_slice(&data[..count]);
+    Outcome {
+        done: 0,
+        sense: None,
+    }
+}
+
+fn asc_of(fault: CdbFault) -> u8
+    ensures { result ≡ asc_of fault }
+{
+    match fault {
+        CdbFault::Opcode => 0x20,
+        CdbFault::Field => 0x24,
+        CdbFault::Length => 0x24,
+    }
+}
+
+/// Answers a command block: the outcome, with what is stored or sent.
+///
+/// The first refusal comes before any block. Else the blocks are taken in order, each by one call
+/// of the store, up to the first that is found bad or whose call fails: those before it are stored
+/// or sent. Block `k` of a command has label `k`, whose faults alter it at its four crossings; the
+/// shifts are those of the first label's op. Places of `into` past what is sent stay.
+pub fn serve<S: Store>(
+    store: &mut S,
+    unit: &LogicalUnit,
+    cdb: &[u8],
+    labels: &[Label],
+    out: &[u8],
+    into: &mut [u8],
+    tamper: &Tamper,
+) -> Outcome
+    requires some { 1 ≤ unit.now.blocks }
+    requires unit { IsUnit unit.now (S.len store.old) }
+    ensures told { (bytes : List ℕ) → S.bytes store.old ≡ Some bytes
+        → Served unit.now (target_answer (unit_in unit.now bytes) tamper.now cdb.now labels.now out.now (length into.old)) (S.faults store.old) (S.faults store.new) bytes (S.bytes store.new) result into.old into.new }
+    ensures medium { IsMedium result → Rose (S.faults store.old) (S.faults store.new) }
+    ensures key { has_key result.sense ≡ true }
+    ensures tells { is_some (S.bytes store.new) ≡ is_some (S.bytes store.old) }
+    ensures len { S.len store.new ≡ S.len store.old }
+    ensures name { S.handed store.new ≡ S.handed store.old }
+    ensures openings { S.openings store.new ≡ S.openings store.old }
+    ensures count { S.faults store.old ≤ S.faults store.new }
+{
+    match Cdb::decode(cdb) {
+        Err(fault) => refused(asc_of(fault)),
+        Ok(command) => match request_of(command) {
+            Request::Read(c) => read(store, unit, command, c, labels, out, into, tamper),
+            Request::Write(c) => write(store, unit, command, c, labels, out, into, tamper),
+            Request::Verify(c) => verify(store, unit, command, c, labels, out, into, tamper),
+            Request::ReadCapacity(alloc_len) => read_capacity(unit, alloc_len, into),
+        },
+    }
+}

@@ -1,0 +1,202 @@
+//! The blocks of a command, one after another.
+
+ghost use Rattle.std.specs.Prelude.{◌≡◌, ◌+◌, ◌*◌, ◌^◌, ◌<◌, ◌≤◌, ℕ, List, [], length, is_some, drop, Some, true};
+ghost use Rattle.dix_base.specs.Told.{Rose, over};
+ghost use Rattle.rig_api.specs.Log.{IsMedium, has_key};
+ghost use Rattle.target_answer.specs.Frames.{frames_of, sent_size};
+ghost use Rattle.target_answer.specs.Target.{passage, read_by, read_end, write_end, written_by};
+ghost use Rattle.target_model.specs.Served.{AllRead, AllWritten, IsSize, block_bytes};
+
+use crate::block::{read_block, write_block};
+use crate::unit::{block_bytes, sent_size};
+use cdb_codec::Rw;
+use dix_base::Store;
+use fault_schedule::{Label, Tamper};
+use rig_api::Outcome;
+use target_answer::{Passage, UnitSpec};
+
+/// The blocks of a command: the unit, the command's fields, and the LBA of the first block, as
+/// the target was told it.
+#[derive(Clone, Copy)]
+pub(crate) struct Blocks {
+    pub(crate) unit: UnitSpec,
+    pub(crate) fields: Rw,
+    pub(crate) lba: u64,
+}
+
+/// Block `k` of the command.
+fn passage(blocks: Blocks, labels: &[Label], k: u32) -> Passage
+    requires { blocks.lba + k < 2 ^ 64 }
+    ensures { result ≡ passage blocks.unit blocks.fields blocks.lba labels.now k }
+{
+    let c = blocks.fields;
+    Passage {
+        ty: blocks.unit.ty,
+        size: blocks.unit.size,
+        protect: c.protect,
+        lba: blocks.lba + k as u64,
+        rtag: ((c.rtag as u64 + k as u64) % 0x1_0000_0000) as u32,
+        app: c.app,
+        mask: c.mask,
+        label: labels.get(k as usize).copied(),
+    }
+}
+
+/// Stores the blocks one after another from this place on, up to the first that isn't stored.
+/// Each goes through a buffer, where it is altered and gets its tuple.
+pub(crate) fn write_blocks<S: Store>(
+    store: &mut S,
+    place: u64,
+    blocks: Blocks,
+    tamper: &Tamper,
+    labels: &[Label],
+    out: &[u8],
+) -> Outcome
+    requires size { IsSize blocks.unit.size }
+    requires sent { sent_size blocks.fields.protect blocks.unit.size ≤ block_bytes blocks.unit }
+    requires out { length out.now ≡ blocks.fields.n * sent_size blocks.fields.protect blocks.unit.size }
+    requires held { place + block_bytes blocks.unit * blocks.fields.n ≤ S.len store.old }
+    requires fits { place + block_bytes blocks.unit * blocks.fields.n < 2 ^ 64 }
+    requires last { blocks.lba + blocks.fields.n < 2 ^ 64 }
+    ensures told { (bytes : List ℕ) → S.bytes store.old ≡ Some bytes
+        → AllWritten (write_end blocks.lba (written_by blocks.unit blocks.fields blocks.lba tamper.now labels.now out.now)) (block_bytes blocks.unit) place
+        (S.faults store.old) (S.faults store.new) bytes (S.bytes store.new) result }
+    ensures medium { IsMedium result → Rose (S.faults store.old) (S.faults store.new) }
+    ensures key { has_key result.sense ≡ true }
+    ensures tells { is_some (S.bytes store.new) ≡ is_some (S.bytes store.old) }
+    ensures len { S.len store.new ≡ S.len store.old }
+    ensures name { S.handed store.new ≡ S.handed store.old }
+    ensures openings { S.openings store.new ≡ S.openings store.old }
+    ensures count { S.faults store.old ≤ S.faults store.new }
+{
+    let mut buffer = [0u8; 4104];
+    let stored = block_bytes(blocks.unit);
+    let sent = sent_size(blocks.fields.protect, blocks.unit.size);
+    let mut rest = out;
+    let mut at = place;
+    for k in 0..blocks.fields.n {
+        let (piece, more) = rest.split_at(sent);
+        let block = passage(blocks, labels, k);
+        match write_block(store, at, block, tamper, piece, &mut buffer[..stored]) {
+            Some(sense) => {
+                return Outcome {
+                    done: k,
+                    sense: Some(sense),
+                };
+            }
+            None => {}
+        }
+        rest = more;
+        at += stored as u64;
+    }
+    Outcome {
+        done: blocks.fields.n,
+        sense: None,
+    }
+}
+
+fn put_at(into: &mut [u8], at: usize, piece: &[u8])
+    requires { at + length piece.now ≤ length into.old }
+    ensures { into.new ≡ over at piece.now into.old }
+{
+    into[at..at + piece.len()].copy_from_slice(piece);
+}
+
+/// Reads the blocks one after another from this place on, and sends them up to the first that
+/// isn't good. Each goes through a buffer, since one that isn't sent must not alter `into`.
+pub(crate) fn read_blocks<S: Store>(
+    store: &mut S,
+    place: u64,
+    blocks: Blocks,
+    tamper: &Tamper,
+    labels: &[Label],
+    into: &mut [u8],
+) -> Outcome
+    requires size { IsSize blocks.unit.size }
+    requires sent { sent_size blocks.fields.protect blocks.unit.size ≤ block_bytes blocks.unit }
+    requires into { length into.old ≡ blocks.fields.n * sent_size blocks.fields.protect blocks.unit.size }
+    requires held { place + block_bytes blocks.unit * blocks.fields.n ≤ S.len store.old }
+    requires fits { place + block_bytes blocks.unit * blocks.fields.n < 2 ^ 64 }
+    requires last { blocks.lba + blocks.fields.n < 2 ^ 64 }
+    ensures told { (bytes : List ℕ) → S.bytes store.old ≡ Some bytes
+        → AllRead (read_end blocks.lba (read_by blocks.unit blocks.fields blocks.lba tamper.now labels.now (frames_of (block_bytes blocks.unit) blocks.fields.n (drop place bytes))))
+        (block_bytes blocks.unit) (S.faults store.old) (S.faults store.new) result into.old into.new }
+    ensures medium { IsMedium result → Rose (S.faults store.old) (S.faults store.new) }
+    ensures key { has_key result.sense ≡ true }
+    ensures same { S.bytes store.new ≡ S.bytes store.old }
+    ensures len { S.len store.new ≡ S.len store.old }
+    ensures name { S.handed store.new ≡ S.handed store.old }
+    ensures openings { S.openings store.new ≡ S.openings store.old }
+    ensures count { S.faults store.old ≤ S.faults store.new }
+{
+    let mut buffer = [0u8; 4104];
+    let stored = block_bytes(blocks.unit);
+    let sent = sent_size(blocks.fields.protect, blocks.unit.size);
+    let mut at = place;
+    let mut end = 0usize;
+    for k in 0..blocks.fields.n {
+        let block = passage(blocks, labels, k);
+        match read_block(store, at, block, tamper, &mut buffer[..stored]) {
+            Some(sense) => {
+                return Outcome {
+                    done: k,
+                    sense: Some(sense),
+                };
+            }
+            None => {}
+        }
+        put_at(into, end, &buffer[..sent]);
+        at += stored as u64;
+        end += sent;
+    }
+    Outcome {
+        done: blocks.fields.n,
+        sense: None,
+    }
+}
+
+/// Reads the blocks one after another from this place on, up to the first that isn't good, and
+/// sends none.
+pub(crate) fn verify_blocks<S: Store>(
+    store: &mut S,
+    place: u64,
+    blocks: Blocks,
+    tamper: &Tamper,
+) -> Outcome
+    requires size { IsSize blocks.unit.size }
+    requires sent { sent_size blocks.fields.protect blocks.unit.size ≤ block_bytes blocks.unit }
+    requires held { place + block_bytes blocks.unit * blocks.fields.n ≤ S.len store.old }
+    requires fits { place + block_bytes blocks.unit * blocks.fields.n < 2 ^ 64 }
+    requires last { blocks.lba + blocks.fields.n < 2 ^ 64 }
+    ensures told { (bytes : List ℕ) → S.bytes store.old ≡ Some bytes
+        → (into : List ℕ) × AllRead (read_end blocks.lba (read_by blocks.unit blocks.fields blocks.lba tamper.now [] (frames_of (block_bytes blocks.unit) blocks.fields.n (drop place bytes))))
+        (block_bytes blocks.unit) (S.faults store.old) (S.faults store.new) result [] into }
+    ensures medium { IsMedium result → Rose (S.faults store.old) (S.faults store.new) }
+    ensures key { has_key result.sense ≡ true }
+    ensures same { S.bytes store.new ≡ S.bytes store.old }
+    ensures len { S.len store.new ≡ S.len store.old }
+    ensures name { S.handed store.new ≡ S.handed store.old }
+    ensures openings { S.openings store.new ≡ S.openings store.old }
+    ensures count { S.faults store.old ≤ S.faults store.new }
+{
+    let mut buffer = [0u8; 4104];
+    let stored = block_bytes(blocks.unit);
+    let mut at = place;
+    for k in 0..blocks.fields.n {
+        let block = passage(blocks, &[], k);
+        match read_block(store, at, block, tamper, &mut buffer[..stored]) {
+            Some(sense) => {
+                return Outcome {
+                    done: k,
+                    sense: Some(sense),
+                };
+            }
+            None => {}
+        }
+        at += stored as u64;
+    }
+    Outcome {
+        done: blocks.fields.n,
+        sense: None,
+    }
+}

@@ -1,0 +1,58 @@
+//! A unit in a store.
+
+ghost use Rattle.std.specs.Prelude.{◌≡◌, ◌+◌, ◌≤◌};
+ghost use Rattle.target_answer.specs.Frames.{sent_size, stored_size};
+ghost use Rattle.target_model.specs.Served.{block_bytes, shape_in};
+
+use pi_tuple::PiType;
+use target_answer::UnitSpec;
+
+/// A unit whose blocks lie in a store, one after another.
+#[derive(Clone, Copy, Debug, PartialEq, Eq)]
+pub struct LogicalUnit {
+    /// The protection type.
+    pub ty: PiType,
+    /// The number of blocks.
+    pub blocks: u64,
+    /// The byte of the store at which the first block begins.
+    pub at: u64,
+    /// The bytes of data in a block: 512 or 4,096.
+    pub size: u32,
+    /// The LBA of the first block.
+    pub first: u64,
+}
+
+impl LogicalUnit {
+    pub(crate) fn shape(&self) -> UnitSpec
+        ensures { result ≡ shape_in self.now }
+    {
+        UnitSpec {
+            ty: self.ty,
+            blocks: self.blocks,
+            size: self.size,
+            first: self.first,
+        }
+    }
+}
+
+/// The bytes of a block as it is stored.
+pub(crate) fn block_bytes(unit: UnitSpec) -> usize
+    ensures value { result ≡ block_bytes unit }
+    ensures bound { result ≤ unit.size + 8 }
+{
+    let size = unit.size as usize;
+    if unit.ty == PiType::Zero {
+        size
+    } else {
+        size + 8
+    }
+}
+
+/// The bytes of a block between host and target.
+pub(crate) fn sent_size(protect: u8, size: u32) -> usize
+    ensures value { result ≡ sent_size protect size }
+    ensures bound { result ≤ size + 8 }
+{
+    let size = size as usize;
+    if protect == 0 { size } else { size + 8 }
+}
