@@ -5,7 +5,7 @@ use Rattle.std.proofs.Math.Seq.{take-add}
 use Rattle.dix_base.specs.Told.{over, Apart, Becomes, HasLength, Rose}
 use Rattle.target_answer.specs.Frames.{frames_of, joined, placed}
 use Rattle.rig_api.specs.Telling.{at_front}
-use Rattle.target_model.specs.Served.{IsSize}
+use Rattle.target_model.specs.Served.{AllLong, IsSize}
 
 -- Bytes of a store, and blocks that lie in it.
 
@@ -193,3 +193,57 @@ room_for at s first blocks lba n h l =
 
 pub drop_all : (n : ℕ) (xs : List ℕ) → length xs ≤ n → drop n xs ≡ []
 drop_all n xs h = same_lists _ _ (search (rules, places)) (λ i d l. grind (arith, places))
+
+pub long_both : (n : ℕ) (xs ys : List (List ℕ)) → AllLong n xs → AllLong n ys → AllLong n (xs ++ ys)
+long_both n [] ys p q = q
+long_both n (x ∷ xs) ys p q = (p.0, long_both n xs ys p.1 q)
+
+pub long_one : (n : ℕ) (xs : List (List ℕ)) (x : List ℕ) → AllLong n xs → length x ≡ n → AllLong n (xs ++ (x ∷ []))
+long_one n xs x p q = long_both n xs (x ∷ []) p (q, tt)
+
+pub long_take : (n k : ℕ) (xs : List (List ℕ)) → AllLong n xs → AllLong n (take k xs)
+long_take n zero xs p = tt
+long_take n (suc k) [] p = tt
+long_take n (suc k) (x ∷ xs) p = (p.0, long_take n k xs p.1)
+
+pub long_drop : (n k : ℕ) (xs : List (List ℕ)) → AllLong n xs → AllLong n (drop k xs)
+long_drop n zero xs p = p
+long_drop n (suc k) [] p = tt
+long_drop n (suc k) (x ∷ xs) p = long_drop n k xs p.1
+
+-- the blocks in so many bytes
+pub long_frames : (len n : ℕ) (b : List ℕ) → len * n ≤ length b → AllLong len (frames_of len n b)
+long_frames len zero b h = tt
+long_frames len (suc n) b h = (simp length-take (omega arith), long_frames len n (drop len b) (simp length-drop (omega arith)))
+
+pub long_joined : (len : ℕ) (xs : List (List ℕ)) → AllLong len xs → length (joined xs) ≡ len * length xs
+long_joined len [] p = omega arith
+long_joined len (x ∷ xs) p = length-append x (joined xs) ∙ omega (arith, p.0, long_joined len xs p.1)
+
+behind : (n : ℕ) (x b : List ℕ) → length x ≡ n → drop n (x ++ b) ≡ b
+behind n x b h = same_lists _ _ (search (rules, places)) (λ i d l. grind (arith, places))
+
+two : (x y : List ℕ) (xs ys : List (List ℕ)) → x ≡ y → xs ≡ ys → (x ∷ xs) ≡ (y ∷ ys)
+two x y xs ys p q = cc
+
+-- blocks one after another are read back
+pub frames_back : (len : ℕ) (xs : List (List ℕ)) (rest : List ℕ) → AllLong len xs → frames_of len (length xs) (joined xs ++ rest) ≡ xs
+frames_back len [] rest p = refl
+frames_back len (x ∷ xs) rest p =
+    let e : joined (x ∷ xs) ++ rest ≡ x ++ (joined xs ++ rest) = append_assoc x (joined xs) rest in
+    rw e (two _ _ _ _ (front len x (joined xs ++ rest) p.0) (ap (frames_of len (length xs)) (behind len x (joined xs ++ rest) p.0) ∙ frames_back len xs rest p.1))
+
+pub placed_length : (i : ℕ) (fs blocks : List (List ℕ)) → i + length fs ≤ length blocks → length (placed i fs blocks) ≡ length blocks
+placed_length i fs blocks h = simp (length-append, length-take, length-drop) (omega arith)
+
+pub over_behind : (p : ℕ) (a xs : List ℕ) → p ≤ length xs → drop p (over p a xs) ≡ a ++ drop (p + length a) xs
+over_behind p a xs h = behind p (take p xs) (a ++ drop (p + length a) xs) (simp length-take (omega arith))
+
+take_front : (p : ℕ) (xs b : List ℕ) → p ≤ length xs → take p (take p xs ++ b) ≡ take p xs
+take_front p xs b h = front p (take p xs) b (simp length-take (omega arith))
+
+pub over_apart : (p n : ℕ) (a xs : List ℕ) → length a ≡ n → p + n ≤ length xs → Apart p n xs (over p a xs)
+over_apart p n a xs e h =
+    let rest : drop (p + n) (over p a xs) ≡ drop (p + n) xs =
+    sym (drop_both n p (over p a xs)) ∙ ap (drop n) (over_behind p a xs (omega arith)) ∙ behind n a (drop (p + length a) xs) e ∙ ap (λ k. drop (p + k) xs) e in
+    (over_length p a xs (omega (arith, e)), take_front p xs (a ++ drop (p + length a) xs) (omega arith), rest)

@@ -1,6 +1,6 @@
 use Rattle.std.proofs.Common.{ℕ, zero, suc, ◌≡◌, ◌+◌, ◌*◌, ◌-◌, ◌<◌, ◌≤◌, Bool, true, false, ltb, if◌then◌else◌, List, [], ◌∷◌, ◌++◌, length, take, drop, Option, Some, None, Result, Ok, Err, refl, sym, ap, subst, ◌^◌, ◌∙◌, arith, length-append, append-nil}
 use Rattle.std.specs.Prelude.{ℤ, pos, nat_abs, eqb, min, ◌≢◌}
-use Rattle.std.proofs.lemmas.List.{length-take}
+use Rattle.std.proofs.lemmas.List.{length-take, length-drop}
 use Rattle.dix_base.specs.Told.{Rose, over}
 use Rattle.rig_api.specs.Log.{IsMedium, has_key}
 use Rattle.pi_tuple.specs.declared.checks.Check.{Check}
@@ -18,11 +18,11 @@ use Rattle.target_answer.specs.Target.{Stored, Stop, Answer, Ended, answer_unles
 use Rattle.target_answer.specs.declared.request.Request.{Request}
 use Rattle.target_answer.specs.declared.request.Request.TheVariants.{Read, Write, Verify, ReadCapacity}
 use Rattle.target_answer.specs.declared.units.UnitSpec.{UnitSpec}
-use Rattle.rig_api.specs.Telling.{at_front}
+use Rattle.rig_api.specs.Telling.{at_front, holding}
 use Rattle.rig_api.specs.declared.rig.Outcome.{Outcome}
 use Rattle.target_model.specs.declared.unit.LogicalUnit.{LogicalUnit}
-use Rattle.target_model.specs.Served.{AllRead, AllWritten, HasBlocks, Served, answer_after, answer_to, block_bytes, shape_in, unit_in, with_unit}
-use Rattle.target_model.proofs.Bytes.{drop_all, drop_both, frames_part, length_frames, room_for, unit_over, unit_same}
+use Rattle.target_model.specs.Served.{AllLong, AllRead, AllWritten, HasBlocks, Served, StandsBack, answer_after, answer_to, block_bytes, shape_in, unit_in, with_unit}
+use Rattle.target_model.proofs.Bytes.{drop_all, drop_both, frames_part, frames_back, length_frames, long_both, long_drop, long_frames, long_joined, long_take, over_apart, over_behind, placed_length, room_for, unit_over, unit_same}
 use Rattle.target_model.proofs.Ends.{length_each}
 
 -- From the blocks of a command to the answer of the unit.
@@ -40,11 +40,32 @@ served_as u A B o n was now result before after same s = record {
   cause = s.cause;
   outcome = s.outcome ∙ ap (λ (a : Answer). record { done = a.done; sense = a.sense }) (sym (same s.stop));
   bytes = s.bytes ∙ ap (λ (a : Answer). Some (with_unit u a.blocks was)) (sym (same s.stop));
+  back = subst (λ (a : Answer). StandsBack u a.blocks was) (sym (same s.stop)) s.back;
   into = s.into ∙ ap (λ (a : Answer). at_front (joined a.sent) before) (sym (same s.stop));
 }
 
 unit_stays : (u : LogicalUnit) (bytes : List ℕ) → u.at + wide u * u.blocks ≤ length bytes → with_unit u (unit_in u bytes).blocks bytes ≡ bytes
 unit_stays u bytes h = unit_same u.at (wide u) u.blocks bytes h
+
+holds : (u : LogicalUnit) (bytes other : List ℕ) (blocks : List (List ℕ)) → frames_of (wide u) u.blocks (drop u.at other) ≡ blocks → unit_in u other ≡ holding (unit_in u bytes) blocks
+holds u bytes other blocks e = ap (λ (v : List (List ℕ)). record { ty = u.ty; size = u.size; first = u.first; blocks = v }) e
+
+-- blocks of the stored length stand where they are put
+stands_back : (u : LogicalUnit) (blocks : List (List ℕ)) (bytes : List ℕ) → AllLong (wide u) blocks → length blocks ≡ u.blocks → u.at + wide u * u.blocks ≤ length bytes → StandsBack u blocks bytes
+stands_back u blocks bytes l n h =
+    let long : length (joined blocks) ≡ wide u * u.blocks = long_joined (wide u) blocks l ∙ ap (λ k. wide u * k) n in
+    let end : ℕ = u.at + length (joined blocks) in
+    let behind : drop u.at (with_unit u blocks bytes) ≡ joined blocks ++ drop end bytes = over_behind u.at (joined blocks) bytes (omega (arith, h)) in
+    record {
+      unit = holds u bytes (with_unit u blocks bytes) blocks (ap (frames_of (wide u) u.blocks) behind ∙ ap (λ k. frames_of (wide u) k (joined blocks ++ drop end bytes)) (sym n) ∙ frames_back (wide u) blocks (drop end bytes) l);
+      apart = over_apart u.at (wide u * u.blocks) (joined blocks) bytes long h;
+    }
+
+own_long : (u : LogicalUnit) (bytes : List ℕ) → u.at + wide u * u.blocks ≤ length bytes → AllLong (wide u) (unit_in u bytes).blocks
+own_long u bytes h = long_frames (wide u) u.blocks (drop u.at bytes) (simp length-drop (omega (arith, h)))
+
+own_back : (u : LogicalUnit) (bytes : List ℕ) → u.at + wide u * u.blocks ≤ length bytes → StandsBack u (unit_in u bytes).blocks bytes
+own_back u bytes h = stands_back u (unit_in u bytes).blocks bytes (own_long u bytes h) (length_frames (wide u) u.blocks (drop u.at bytes)) h
 
 -- a refusal changes nothing
 pub served_refused : (u : LogicalUnit) (answer : Option Stop → Answer) (o : ℕ) (bytes : List ℕ) (now : Option (List ℕ)) (result : Outcome) (sense : Option Sense) (into : List ℕ) → u.at + wide u * u.blocks ≤ length bytes → now ≡ Some bytes →
@@ -52,7 +73,7 @@ pub served_refused : (u : LogicalUnit) (answer : Option Stop → Answer) (o : �
     Served u answer o o bytes now result into into
 served_refused u answer o bytes now result sense into h e r a =
     served_as u answer (λ stop. record { done = 0; sense = sense; blocks = (unit_in u bytes).blocks; sent = [] }) o o bytes now result into into a
-    (record { stop = None; cause = tt; outcome = r; bytes = e ∙ ap (λ v. Some v) (sym (unit_stays u bytes h)); into = refl })
+    (record { stop = None; cause = tt; outcome = r; bytes = e ∙ ap (λ v. Some v) (sym (unit_stays u bytes h)); back = own_back u bytes h; into = refl })
 
 -- a request is refused by what its refusals say of the unit's shape
 pub refused_answer : (u : LogicalUnit) (bytes : List ℕ) (cdb : Cdb) (request : Request) (faults : List FaultLine) (labels : List Label) (out : List ℕ) (room : ℕ) (sense : Sense) →
@@ -103,9 +124,16 @@ served_written u cdb c lba place o n room faults labels out bytes into now resul
     let many = many_written (shape_in u) c lba faults labels out in
     let within : lba - u.first + length frames ≤ u.blocks = omega (arith, few, many, b.first, b.last) in
     let same : with_unit u (placed (lba - u.first) frames (unit_in u bytes).blocks) bytes ≡ over place (joined frames) bytes = unit_over u.at (wide u) (lba - u.first) u.blocks frames bytes within w.whole h ∙ ap (λ k. over k (joined frames) bytes) (sym p) in
+    let blocks : List (List ℕ) = (unit_in u bytes).blocks in
+    let own = own_long u bytes h in
+    let number : length blocks ≡ u.blocks = length_frames (wide u) u.blocks (drop u.at bytes) in
+    let long : AllLong (wide u) (placed (lba - u.first) frames blocks) =
+    long_both (wide u) (take (lba - u.first) blocks) (frames ++ drop (lba - u.first + length frames) blocks) (long_take (wide u) (lba - u.first) blocks own)
+    (long_both (wide u) frames (drop (lba - u.first + length frames) blocks) w.long (long_drop (wide u) (lba - u.first + length frames) blocks own)) in
+    let many_still : length (placed (lba - u.first) frames blocks) ≡ u.blocks = placed_length (lba - u.first) frames blocks (omega (arith, within, number)) ∙ number in
     served_as u _ (λ stop. storing (lba - u.first) (unit_in u bytes).blocks (write_end lba (written_by (shape_in u) c lba faults labels out) stop)) o n bytes now result into into
     (λ stop. taken_answer u bytes cdb (Write c) faults labels out room t stop ∙ write_is u bytes c lba faults labels out e stop)
-    (record { stop = w.stop; cause = w.cause; outcome = w.outcome; bytes = w.bytes ∙ ap (λ v. Some v) (sym same); into = refl })
+    (record { stop = w.stop; cause = w.cause; outcome = w.outcome; bytes = w.bytes ∙ ap (λ v. Some v) (sym same); back = stands_back u _ bytes long many_still h; into = refl })
 
 -- the blocks that are fetched are those from their place on
 fetched_are : (u : LogicalUnit) (bytes : List ℕ) (from n place : ℕ) → HasBlocks (shape_in u) from n → place ≡ u.at + wide u * (from - u.first) →
@@ -136,7 +164,7 @@ served_read u cdb c lba from place o n room faults labels out bytes before after
     let are = fetched_at u bytes (medium_address faults labels c) from c.n place m b p in
     served_as u _ (λ stop. sending (unit_in u bytes).blocks (read_end lba (read_by (shape_in u) c lba faults labels fetched) stop)) o n bytes now result before after
     (λ stop. taken_answer u bytes cdb (Read c) faults labels out room t stop ∙ read_is u bytes c lba faults labels out fetched e are stop)
-    (record { stop = r.stop; cause = r.cause; outcome = r.outcome; bytes = k ∙ ap (λ v. Some v) (sym (unit_stays u bytes h)); into = r.into })
+    (record { stop = r.stop; cause = r.cause; outcome = r.outcome; bytes = k ∙ ap (λ v. Some v) (sym (unit_stays u bytes h)); back = own_back u bytes h; into = r.into })
 
 pub served_verified : (u : LogicalUnit) (cdb : Cdb) (c : Rw) (place o n room : ℕ) (faults : List FaultLine) (labels : List Label) (out bytes into sent : List ℕ) (now : Option (List ℕ)) (result : Outcome) →
     u.at + wide u * u.blocks ≤ length bytes → now ≡ Some bytes → first_of (refusals_of (shape_in u) cdb (Verify c) faults labels (length out) room) ≡ None →
@@ -148,7 +176,7 @@ served_verified u cdb c place o n room faults labels out bytes into sent now res
     let are = fetched_are u bytes c.lba c.n place b p in
     served_as u _ (λ stop. keeping (unit_in u bytes).blocks (read_end c.lba (read_by (shape_in u) c c.lba faults [] fetched) stop)) o n bytes now result into into
     (λ stop. taken_answer u bytes cdb (Verify c) faults labels out room t stop ∙ ap (λ fs. keeping (unit_in u bytes).blocks (read_end c.lba (read_by (shape_in u) c c.lba faults [] fs) stop)) are)
-    (record { stop = r.stop; cause = r.cause; outcome = r.outcome; bytes = k ∙ ap (λ v. Some v) (sym (unit_stays u bytes h)); into = refl })
+    (record { stop = r.stop; cause = r.cause; outcome = r.outcome; bytes = k ∙ ap (λ v. Some v) (sym (unit_stays u bytes h)); back = own_back u bytes h; into = refl })
 
 five : ◌≡◌ {A = ℕ} 5 3 → ⊥
 five h = omega arith
@@ -265,7 +293,7 @@ capacity_by u bytes cdb len o faults labels out before after now result true h k
     let long : length told ≡ min len 32 = simp length-take (omega arith) in
     served_as u _ (λ stop. record { done = 0; sense = None; blocks = (unit_in u bytes).blocks; sent = told ∷ [] }) o o bytes now result before after
     (λ stop. rw e (ap (λ (s : UnitSpec). record { done = 0; sense = None; blocks = (unit_in u bytes).blocks; sent = take (min len 32) (capacity_data s) ∷ [] }) (shape_is u bytes)))
-    (record { stop = None; cause = tt; outcome = r.0; bytes = k ∙ ap (λ v. Some v) (sym (unit_stays u bytes h)); into = r.1 ∙ front_whole told before (is ∙ sym long) })
+    (record { stop = None; cause = tt; outcome = r.0; bytes = k ∙ ap (λ v. Some v) (sym (unit_stays u bytes h)); back = own_back u bytes h; into = r.1 ∙ front_whole told before (is ∙ sym long) })
 
 pub served_capacity : (u : LogicalUnit) (bytes : List ℕ) (cdb : Cdb) (len o : ℕ) (faults : List FaultLine) (labels : List Label) (out before after : List ℕ) (now : Option (List ℕ)) (result : Outcome) → u.at + wide u * u.blocks ≤ length bytes → now ≡ Some bytes →
     (length before ≢ min len 32 → (result ≡ record { done = 0; sense = Some (illegal 0x24) }) × (after ≡ before)) →

@@ -4,7 +4,8 @@ use Rattle.pi_tuple.specs.declared.checks.Check.{Check}
 use Rattle.sense_codes.specs.declared.Sense.{Sense}
 use Rattle.target_answer.specs.Frames.{frames_of, joined}
 use Rattle.target_answer.specs.Target.{Ended, passed, first_sense, each, whole, write_end, read_end, check_sense, medium_sense}
-use Rattle.target_model.proofs.Bytes.{joined_append}
+use Rattle.target_model.specs.Served.{AllLong}
+use Rattle.target_model.proofs.Bytes.{joined_append, long_one}
 
 -- Blocks of a command that are judged one after another.
 
@@ -17,11 +18,12 @@ pub record Along (judge : Judge) (lba len n size k : ℕ) (rest all : List ℕ) 
   pub sense : first_sense lba (each judge 0 (frames_of len n all)) ≡ first_sense (lba + k) (each judge k (frames_of len (n - k) rest))
   pub many : length kept ≡ k
   pub bytes : length (joined kept) ≡ size * k
+  pub long : AllLong size kept
 
 pub begins : (judge : Judge) (lba len n size : ℕ) (all : List ℕ) → Along judge lba len n size 0 all all []
 begins judge lba len n size all =
     let e : n - 0 ≡ n = omega arith in
-    record { frames = rw e refl; sense = rw (e, add-zero) refl; many = refl; bytes = omega arith }
+    record { frames = rw e refl; sense = rw (e, add-zero) refl; many = refl; bytes = omega arith; long = tt }
 
 next_frames : (judge : Judge) (len n k : ℕ) (rest : List ℕ) → k < n →
     each judge k (frames_of len (n - k) rest) ≡ judge k (take len rest) ∷ each judge (k + 1) (frames_of len (n - (k + 1)) (drop len rest))
@@ -41,6 +43,7 @@ goes_on judge lba len n size k rest all frame kept h a j l =
       sense = a.sense ∙ ap (λ v. first_sense (lba + k) v) ok ∙ ap (λ v. first_sense v (each judge (k + 1) (frames_of len (n - (k + 1)) (drop len rest)))) at;
       many = length-append kept (frame ∷ []) ∙ ap (λ v. v + 1) a.many;
       bytes = more ∙ omega (arith, a.bytes, l);
+      long = long_one size kept frame a.long l;
     }
 
 abbrev ended : ℕ → Option Sense → List (List ℕ) → Ended

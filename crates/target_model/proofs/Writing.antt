@@ -6,8 +6,8 @@ use Rattle.target_answer.specs.Frames.{frames_of, joined}
 use Rattle.target_answer.specs.Target.{Stop, Ended, each, write_end}
 use Rattle.rig_api.specs.Telling.{HasCause}
 use Rattle.rig_api.specs.declared.rig.Outcome.{Outcome}
-use Rattle.target_model.specs.Served.{AllWritten, BlockWritten}
-use Rattle.target_model.proofs.Bytes.{joined_append, over_next, over_none, rise}
+use Rattle.target_model.specs.Served.{AllLong, AllWritten, BlockWritten}
+use Rattle.target_model.proofs.Bytes.{joined_append, long_one, over_next, over_none, rise}
 use Rattle.target_model.proofs.Ends.{Judge, Along, begins, goes_on, ends_found, ends_all, ends_unstored}
 
 -- what is known of a write that has stored its first k blocks
@@ -42,15 +42,16 @@ pub frames_are : (e : Ended) (k : ℕ) (sense : Option Sense) (frames : List (Li
 frames_are e k sense frames h = ap (λ (v : Ended). v.frames) (sym h)
 
 all_written : (end : Option Stop → Ended) (size place k o f : ℕ) (was : List ℕ) (now : Option (List ℕ)) (sense : Option Sense) (frames : List (List ℕ)) (stop : Option Stop) →
-    HasCause stop size o f → end stop ≡ record { done = k; sense = sense; frames = frames } → length (joined frames) ≡ size * length frames → now ≡ Some (over place (joined frames) was) →
+    HasCause stop size o f → end stop ≡ record { done = k; sense = sense; frames = frames } → length (joined frames) ≡ size * length frames → AllLong size frames → now ≡ Some (over place (joined frames) was) →
     AllWritten end size place o f was now (record { done = k; sense = sense })
-all_written end size place k o f was now sense frames stop cause e l b =
+all_written end size place k o f was now sense frames stop cause e l al b =
     let same = frames_are (end stop) k sense frames e in
     record {
       stop = stop;
       cause = cause;
       outcome = done_of (end stop) k sense frames e;
       whole = ap (λ v. length (joined v)) (sym same) ∙ l ∙ ap (λ v. size * length v) same;
+      long = subst (AllLong size) same al;
       bytes = b ∙ ap (λ v. Some (over place (joined v) was)) same;
     }
 
@@ -66,13 +67,14 @@ ends_by : (judge : Judge) (lba len n size k place at o o' f : ℕ) (rest all was
     BlockWritten r size at (lba + k) o' f (over place (joined kept) was) (Some sense) now →
     AllWritten (write_end lba (each judge 0 (frames_of len n all))) size place o f was now (record { done = k; sense = Some sense })
 ends_by judge lba len n size k place at o o' f rest all was now kept sense (Err check) h l e c a j b =
-    all_written _ size place k o f was now (Some sense) kept None tt (ends_found judge lba len n size k rest all kept check l a j ∙ ap (λ v. record { done = k; sense = v; frames = kept }) (sym b.0)) (a.bytes ∙ ap (λ v. size * v) (sym a.many)) b.1
+    all_written _ size place k o f was now (Some sense) kept None tt (ends_found judge lba len n size k rest all kept check l a j ∙ ap (λ v. record { done = k; sense = v; frames = kept }) (sym b.0)) (a.bytes ∙ ap (λ v. size * v) (sym a.many)) a.long b.1
 ends_by judge lba len n size k place at o o' f rest all was now kept sense (Ok frame) h l e c a j b =
     let left : List ℕ = b.1.2.0 in
     let short : length left ≡ size = b.1.2.1 ∙ b.0 in
     all_written _ size place k o f was now (Some sense) (kept ++ (left ∷ [])) (Some (record { at = k; left = left })) (rise o o' f c b.1.0, short)
     (ends_unstored judge lba len n size k rest all frame left kept l a j ∙ ap (λ v. record { done = k; sense = Some v; frames = kept ++ (left ∷ []) }) (sym b.1.1))
     (longer size k kept left a.many a.bytes short)
+    (long_one size kept left a.long short)
     (b.1.2.2 ∙ ap (λ v. Some v) (more_over place at size k kept left was h e a.bytes))
 
 -- it ends at block k
@@ -87,7 +89,7 @@ wrote_up_to judge lba len n size k place at o o' f rest all was now kept sense h
 pub wrote_all : (judge : Judge) (lba len n size k place o f : ℕ) (rest all was : List ℕ) (now : Option (List ℕ)) → k ≡ n → Wrote judge lba len n size k rest all place was now →
     AllWritten (write_end lba (each judge 0 (frames_of len n all))) size place o f was now (record { done = k; sense = None })
 wrote_all judge lba len n size k place o f rest all was now e w =
-    all_written _ size place k o f was now None w.0 None tt (ends_all judge lba len n size k rest all w.0 e w.1) (w.1.bytes ∙ ap (λ v. size * v) (sym w.1.many)) w.2
+    all_written _ size place k o f was now None w.0 None tt (ends_all judge lba len n size k rest all w.0 e w.1) (w.1.bytes ∙ ap (λ v. size * v) (sym w.1.many)) w.1.long w.2
 
 -- The same with the code's words for the block and its lengths.
 pub wrote_next : (judge : Judge) (lba len n size k place at o f : ℕ) (rest rest' all was : List ℕ) (now : Option (List ℕ)) (kept : List (List ℕ)) (r : Result (List ℕ) Check) (size' lba' : ℕ) → place ≤ length was → k < n → at ≡ place + size * k →

@@ -1,5 +1,5 @@
-use Rattle.std.specs.Prelude.{ℕ, ◌≡◌, ◌+◌, ◌*◌, ◌^◌, ◌<◌, ◌≤◌, ◌⊎◌, List, length, take, drop, Option, Some, None, Result, Ok, Err}
-use Rattle.dix_base.specs.Told.{Rose, over}
+use Rattle.std.specs.Prelude.{ℕ, ◌≡◌, ◌+◌, ◌*◌, ◌^◌, ◌<◌, ◌≤◌, ◌⊎◌, List, [], ◌∷◌, length, take, drop, Option, Some, None, Result, Ok, Err}
+use Rattle.dix_base.specs.Told.{Apart, Rose, over}
 use Rattle.pi_tuple.specs.declared.checks.Check.{Check}
 use Rattle.sense_codes.specs.declared.Sense.{Sense}
 use Rattle.cdb_codec.specs.declared.command.Cdb.{Cdb}
@@ -10,7 +10,7 @@ use Rattle.target_answer.specs.Frames.{sent_size, stored_size, frames_of, joined
 use Rattle.target_answer.specs.Target.{Stored, Stop, Answer, Ended, carried_out, check_sense, first_of, medium_sense, refusals_of, refused, shape_of}
 use Rattle.target_answer.specs.declared.request.Request.{Request}
 use Rattle.target_answer.specs.declared.units.UnitSpec.{UnitSpec}
-use Rattle.rig_api.specs.Telling.{HasCause, at_front}
+use Rattle.rig_api.specs.Telling.{HasCause, at_front, holding}
 use Rattle.rig_api.specs.declared.rig.Outcome.{Outcome}
 use Rattle.target_model.specs.declared.unit.LogicalUnit.{LogicalUnit}
 
@@ -34,12 +34,23 @@ with_unit u blocks bytes = over u.at (joined blocks) bytes
 abbrev pub IsSize : ℕ → Type 0
 IsSize size = (size ≡ 512) ⊎ (size ≡ 4096)
 
+-- Every list has this length.
+abbrev pub AllLong : ℕ → List (List ℕ) → Type 0
+AllLong n [] = Unit {0}
+AllLong n (x ∷ xs) = (length x ≡ n) × AllLong n xs
+
+-- The unit that is found where these blocks stand has them, and all else in the store is as before.
+pub record StandsBack (u : LogicalUnit) (blocks : List (List ℕ)) (bytes : List ℕ) : Type 0 where
+  pub unit : unit_in u (with_unit u blocks bytes) ≡ holding (unit_in u bytes) blocks
+  pub apart : Apart u.at (stored_size u.ty u.size * u.blocks) bytes (with_unit u blocks bytes)
+
 -- What the store tells afterwards, the outcome and what was sent are those of the answer, for some place where the store stopped it, if it did.
 pub record Served (u : LogicalUnit) (answer : Option Stop → Answer) (old new : ℕ) (was : List ℕ) (now : Option (List ℕ)) (result : Outcome) (before after : List ℕ) : Type 0 where
   pub stop : Option Stop
   pub cause : HasCause stop (stored_size u.ty u.size) old new
   pub outcome : result ≡ record { done = (answer stop).done; sense = (answer stop).sense }
   pub bytes : now ≡ Some (with_unit u (answer stop).blocks was)
+  pub back : StandsBack u (answer stop).blocks was
   pub into : after ≡ at_front (joined (answer stop).sent) before
 
 -- One accepted frame was stored at this place, or the store call failed and left other bytes there.
@@ -65,6 +76,7 @@ pub record AllWritten (end : Option Stop → Ended) (frame place old new : ℕ) 
   pub cause : HasCause stop frame old new
   pub outcome : result ≡ record { done = (end stop).done; sense = (end stop).sense }
   pub whole : length (joined (end stop).frames) ≡ frame * length (end stop).frames
+  pub long : AllLong frame (end stop).frames
   pub bytes : now ≡ Some (over place (joined (end stop).frames) was)
 
 -- how the blocks of a read end: the frames that were sent stand at the front of the buffer
