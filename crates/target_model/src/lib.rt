@@ -8,6 +8,7 @@ mod serving;
 mod transfer;
 mod unit;
 
+pub use serving::serve;
 pub use unit::LogicalUnit;
 
 #[cfg(test)]
