@@ -1,3 +1,4 @@
+pub mod OneBlock
 pub mod Walks
 pub mod Listing
 pub mod Plainly

@@ -6,7 +6,7 @@ use Rattle.pi_tuple.specs.declared.checks.Check.{Check}
 use Rattle.pi_tuple.specs.declared.checks.Check.TheVariants.{Guard, AppTag, RefTag}
 use Rattle.sense_codes.specs.Checks.{ascq_of}
 use Rattle.sense_codes.specs.declared.Sense.{Sense}
-use Rattle.target_answer.specs.Frames.{judged}
+use Rattle.whole_run.specs.Small.{judged}
 use Rattle.rig_api.specs.declared.rig.Outcome.{Outcome}
 use Rattle.whole_run.specs.declared.op.Op.{Op}
 use Rattle.whole_run.specs.declared.op.Op.TheVariants.{Fill, Write, Read, Show}

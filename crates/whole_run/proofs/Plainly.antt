@@ -17,9 +17,14 @@ use Rattle.pi_tuple.specs.Tuples.{tuple_bytes, tuple_in}
 use Rattle.pi_tuple.specs.declared.tuple.Tuple.{Tuple}
 use Rattle.pi_tuple.specs.declared.checks.Check.{Check}
 use Rattle.pi_tuple.specs.declared.checks.PiType.TheVariants.{One}
-use Rattle.target_answer.specs.Frames.{data_of, frame_of, guard_and_reference, joined, judged, phys, tuple_of, written}
-use Rattle.target_answer.specs.Image.{all_fresh, fresh}
-use Rattle.target_answer.specs.Target.{Answer, one_more, read_answer, sense_or, target_answer, write_answer}
+use Rattle.pi_tuple.specs.Tuples.{ref_tag}
+use Rattle.fault_schedule.specs.declared.Label.{Label}
+use Rattle.target_answer.specs.Frames.{frame_of, joined}
+use Rattle.whole_run.specs.Ops.{label_of}
+use Rattle.whole_run.specs.Small.{data_of, guard_and_reference, judged, tuple_of}
+use Rattle.whole_run.proofs.OneBlock.{one_more, read_answer, read_is, sense_or, small_answer, write_answer, write_is, written}
+use Rattle.whole_run.specs.Small.{all_fresh, fresh}
+use Rattle.target_answer.specs.Target.{Answer}
 use Rattle.rig_api.specs.Log.{Entry}
 use Rattle.rig_api.specs.Telling.{at_front}
 use Rattle.whole_run.specs.declared.op.Op.{Op}
@@ -32,7 +37,7 @@ use Rattle.whole_run.specs.Walk.{State, begun, is_bad, landed, records_of, reply
 use Rattle.whole_run.specs.Telling.{Told, answered_by, served, told_walk}
 use Rattle.whole_run.specs.Plain.{AreClean, IsCleanBlock, Kept, Plain, frame_under, kept_in, nothing, plain_run, plain_step, plain_walk, under}
 use Rattle.whole_run.specs.Laws.{EqualsPlain, WalkIsPlain}
-use Rattle.whole_run.proofs.Walks.{and_left, and_right, below_four, over_page, part_length, read_is, within, write_is}
+use Rattle.whole_run.proofs.Walks.{and_left, and_right, below_four, over_page, part_length, within}
 
 crc-lt : (bytes : List ℕ) → crc bytes < 2 ^ 16
 crc-lt bytes = rw (crc-register bytes) (register-lt 0 bytes (lit< tt))
@@ -60,7 +65,7 @@ record IsFormed (k : Kept) : Type 0 where
   app : k.app < 2 ^ 16
   escape : eqb k.app 0xFFFF ≡ false
 
-phys-lt : (a : ℕ) → phys a < 2 ^ 32
+phys-lt : (a : ℕ) → ref_tag a < 2 ^ 32
 phys-lt a = mod_below a (2 ^ 32) (lit< tt)
 
 checked : (app want guard : ℕ) (t : Bool) → eqb app 0xFFFF ≡ false → finding One guard_and_reference want guard (record { guard = guard; app = app; rtag = want }) ≡ None
@@ -70,8 +75,8 @@ checked app want guard t e =
     let m : bit_and app 0 ≡ 0 = and_zero_r app in
     rw (e, g, m, w) refl
 
-frame_tuple : (a : ℕ) (k : Kept) → IsFormed k → tuple_of (frame_under a k) ≡ record { guard = crc k.bytes; app = k.app; rtag = phys a }
-frame_tuple a k f = ap tuple_in (drop_at k.bytes _ 512 f.bytes) ∙ slices (crc k.bytes) k.app (phys a) (crc-lt k.bytes) f.app (phys-lt a)
+frame_tuple : (a : ℕ) (k : Kept) → IsFormed k → tuple_of (frame_under a k) ≡ record { guard = crc k.bytes; app = k.app; rtag = ref_tag a }
+frame_tuple a k f = ap tuple_in (drop_at k.bytes _ 512 f.bytes) ∙ slices (crc k.bytes) k.app (ref_tag a) (crc-lt k.bytes) f.app (phys-lt a)
 
 frame_data : (a : ℕ) (k : Kept) → IsFormed k → data_of (frame_under a k) ≡ k.bytes
 frame_data a k f = take_at k.bytes _ 512 f.bytes
@@ -79,11 +84,11 @@ frame_data a k f = take_at k.bytes _ 512 f.bytes
 frame_length : (a : ℕ) (k : Kept) → IsFormed k → length (frame_under a k) ≡ 520
 frame_length a k f = simp length-append (omega (arith, f.bytes))
 
-judged_by : (a : ℕ) (f bytes : List ℕ) (t : Tuple) → data_of f ≡ bytes → tuple_of f ≡ t → judged a f ≡ finding One guard_and_reference (phys a) (crc bytes) t
+judged_by : (a : ℕ) (f bytes : List ℕ) (t : Tuple) → data_of f ≡ bytes → tuple_of f ≡ t → judged a f ≡ finding One guard_and_reference (ref_tag a) (crc bytes) t
 judged_by a f bytes t p q = cc
 
 frame_clean : (a : ℕ) (k : Kept) → IsFormed k → judged a (frame_under a k) ≡ None
-frame_clean a k f = judged_by a (frame_under a k) k.bytes _ (frame_data a k f) (frame_tuple a k f) ∙ checked k.app (phys a) (crc k.bytes) true f.escape
+frame_clean a k f = judged_by a (frame_under a k) k.bytes _ (frame_data a k f) (frame_tuple a k f) ∙ checked k.app (ref_tag a) (crc k.bytes) true f.escape
 
 -- a clean block is the frame of what is kept of it
 
@@ -172,35 +177,35 @@ under_set a (suc b) k (x ∷ ks) =
 
 -- what the unit answers
 
-clean_write : (a : ℕ) (f : List ℕ) (blocks : List (List ℕ)) → judged a f ≡ None → write_answer a (f ∷ []) blocks None ≡ record { done = 1; sense = None; blocks = set blocks a f; sent = [] }
+clean_write : (a : ℕ) (f : List ℕ) (blocks : List (List ℕ)) → judged a f ≡ None → write_answer a f blocks None ≡ record { done = 1; sense = None; blocks = set blocks a f; sent = [] }
 clean_write a f blocks e =
     let g : Option Check → Answer = λ found. record { done = one_more found 0; sense = sense_or a found None; blocks = written a (take (one_more found 0) (f ∷ [])) blocks; sent = [] } in
     ap g e
 
-clean_read : (a : ℕ) (f : List ℕ) (blocks : List (List ℕ)) → judged a f ≡ None → read_answer a (f ∷ []) blocks None ≡ record { done = 1; sense = None; blocks = blocks; sent = f ∷ [] }
+clean_read : (a : ℕ) (f : List ℕ) (blocks : List (List ℕ)) → judged a f ≡ None → read_answer a f blocks None ≡ record { done = 1; sense = None; blocks = blocks; sent = f ∷ [] }
 clean_read a f blocks e =
     let g : Option Check → Answer = λ found. record { done = one_more found 0; sense = sense_or a found None; blocks = blocks; sent = take (one_more found 0) (f ∷ []) } in
     ap g e
 
-map_writes : (ks : List Kept) (block : ℕ) (k : Kept) → block < 4 → length ks ≡ 4 → IsFormed k →
-    target_answer (under 0 ks) (write_ten block) (frame_under block k) 0 None ≡ record { done = 1; sense = None; blocks = under 0 (set ks block k); sent = [] }
-map_writes ks block k h l f =
+map_writes : (labels : List Label) (ks : List Kept) (block : ℕ) (k : Kept) → block < 4 → length ks ≡ 4 → IsFormed k →
+    small_answer labels (under 0 ks) (write_ten block) (frame_under block k) 0 None ≡ record { done = 1; sense = None; blocks = under 0 (set ks block k); sent = [] }
+map_writes labels ks block k h l f =
     let n : length (under 0 ks) ≡ 4 = under_length 0 ks ∙ l in
     let z : 0 + block ≡ block = omega arith in
     let is = rw z at (under_set 0 block k ks) in
-    write_is (under 0 ks) (frame_under block k) block 0 None (below_four block h) (omega arith) (frame_length block k f)
+    write_is labels (under 0 ks) (frame_under block k) block 0 None (below_four block h) (omega arith) (frame_length block k f)
     ∙ clean_write block (frame_under block k) (under 0 ks) (frame_clean block k f)
     ∙ (let g : List (List ℕ) → Answer = λ bs. record { done = 1; sense = None; blocks = bs; sent = [] } in ap g is)
 
-map_reads : (ks : List Kept) (block : ℕ) → block < 4 → length ks ≡ 4 → All IsFormed ks →
-    target_answer (under 0 ks) (read_ten block) [] 520 None ≡ record { done = 1; sense = None; blocks = under 0 ks; sent = frame_under block (get_or ks block nothing) ∷ [] }
-map_reads ks block h l f =
+map_reads : (labels : List Label) (ks : List Kept) (block : ℕ) → block < 4 → length ks ≡ 4 → All IsFormed ks →
+    small_answer labels (under 0 ks) (read_ten block) [] 520 None ≡ record { done = 1; sense = None; blocks = under 0 ks; sent = frame_under block (get_or ks block nothing) ∷ [] }
+map_reads labels ks block h l f =
     let n : length (under 0 ks) ≡ 4 = under_length 0 ks ∙ l in
     let z : 0 + block ≡ block = omega arith in
     let k : IsFormed (get_or ks block nothing) = All-get_or IsFormed ks block nothing (omega arith) f in
     let at : get_or (under 0 ks) block [] ≡ frame_under block (get_or ks block nothing) = rw z at (under_at 0 block ks (omega arith)) in
-    read_is (under 0 ks) [] block None (below_four block h) (omega arith)
-    ∙ ap (λ v. read_answer block (v ∷ []) (under 0 ks) None) at
+    read_is labels (under 0 ks) [] block None (below_four block h) (omega arith)
+    ∙ ap (λ v. read_answer block v (under 0 ks) None) at
     ∙ clean_read block (frame_under block (get_or ks block nothing)) (under 0 ks) (frame_clean block (get_or ks block nothing) k)
 
 -- the step of the walk, and of the plain map
@@ -234,7 +239,7 @@ read_step s block at f bytes j d =
     ap (λ v. g v (data_of f)) j ∙ ap (g None) d
 
 read_made : (p : Plain) (log : List Entry) (block at : ℕ) (f bytes : List ℕ) →
-    target_answer (under 0 p.blocks) (read_ten block) [] 520 None ≡ record { done = 1; sense = None; blocks = under 0 p.blocks; sent = f ∷ [] } → length f ≡ 520 → judged block f ≡ None → data_of f ≡ bytes →
+    small_answer (label_of (length p.replies + 1)) (under 0 p.blocks) (read_ten block) [] 520 None ≡ record { done = 1; sense = None; blocks = under 0 p.blocks; sent = f ∷ [] } → length f ≡ 520 → judged block f ≡ None → data_of f ≡ bytes →
     (more : List Entry) × (served (told_of p log) (Read block at) ≡ told_of (record { page = over at bytes p.page; blocks = p.blocks; replies = p.replies ++ (Whole ∷ []) }) more)
 read_made p log block at f bytes e l j d =
     let s : State = record { page = p.page; replies = p.replies; log = log } in
@@ -249,12 +254,12 @@ step_made (Write block at) p log s f =
     let b : block < 4 = ltb-true block 4 (and_left _ _ f) in
     let w : at + 512 ≤ 4096 = within at 512 (and_right (nat_lt block 4) (nat_le (at + 512) 4096) f) in
     let k : IsFormed (record { bytes = part at 512 p.page; app = 0 }) = record { bytes = part_length at 512 p.page (omega (arith, s.page)); app = lit< tt; escape = refl } in
-    (_, ap (after (told_of p log) (Write block at)) (map_writes p.blocks block (record { bytes = part at 512 p.page; app = 0 }) b s.count k))
+    (_, ap (after (told_of p log) (Write block at)) (map_writes (label_of (length p.replies + 1)) p.blocks block (record { bytes = part at 512 p.page; app = 0 }) b s.count k))
 step_made (Read block at) p log s f =
     let b : block < 4 = ltb-true block 4 (and_left _ _ f) in
     let k : IsFormed (get_or p.blocks block nothing) = All-get_or IsFormed p.blocks block nothing (omega (arith, s.count)) s.formed in
     let kept : Kept = get_or p.blocks block nothing in
-    read_made p log block at (frame_under block kept) kept.bytes (map_reads p.blocks block b s.count s.formed) (frame_length block kept k) (frame_clean block kept k) (frame_data block kept k)
+    read_made p log block at (frame_under block kept) kept.bytes (map_reads (label_of (length p.replies + 1)) p.blocks block b s.count s.formed) (frame_length block kept k) (frame_clean block kept k) (frame_data block kept k)
 
 not_bad : (rs : List Reply) (r : Reply) → list_any is_bad rs ≡ false → is_bad r ≡ false → list_any is_bad (rs ++ (r ∷ [])) ≡ false
 not_bad rs r g h = list_any-append is_bad rs (r ∷ []) ∙ rw (g, h) refl
@@ -328,7 +333,7 @@ kept_clean a k f b =
     let d = frame_data a k f in
     record {
       whole = frame_length a k f;
-      bytes = All-append (λ v. v < 256) k.bytes (tuple_bytes (record { guard = crc k.bytes; app = k.app; rtag = phys a })) b (tuple_below (crc k.bytes) k.app (phys a));
+      bytes = All-append (λ v. v < 256) k.bytes (tuple_bytes (record { guard = crc k.bytes; app = k.app; rtag = ref_tag a })) b (tuple_below (crc k.bytes) k.app (ref_tag a));
       escape = ap (λ (u : Tuple). eqb u.app 0xFFFF) t ∙ f.escape;
       guard = ap (λ (u : Tuple). u.guard) t ∙ ap crc (sym d);
       rtag = ap (λ (u : Tuple). u.rtag) t;
@@ -342,7 +347,7 @@ fresh_is_clean : (a : ℕ) → IsCleanBlock a (fresh a)
 fresh_is_clean a =
     let k : Kept = record { bytes = replicate 512 0; app = 0 } in
     let f : IsFormed k = record { bytes = refl; app = lit< tt; escape = refl } in
-    let P : ℕ → Type 0 = λ g. IsCleanBlock a (frame_of (replicate 512 0) (record { guard = g; app = 0; rtag = phys a })) in
+    let P : ℕ → Type 0 = λ g. IsCleanBlock a (frame_of (replicate 512 0) (record { guard = g; app = 0; rtag = ref_tag a })) in
     subst P zeros_crc (kept_clean a k f (All-replicate (λ b. b < 256) 512 0 (lit< tt)))
 
 pub fresh_clean : (n a : ℕ) → AreClean a (all_fresh n a)

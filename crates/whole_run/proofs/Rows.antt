@@ -2,11 +2,13 @@ use Rattle.std.proofs.Common.{ℕ, ◌≡◌, List, [], ◌∷◌, ◌++◌, Som
 use Rattle.std.specs.Prelude.{codes, replicate, slice_set}
 use Rattle.pi_guard.specs.Guards.{crc}
 use Rattle.target_answer.specs.Frames.{joined}
+use Rattle.target_answer.specs.Passing.{found_in, from_medium, to_medium}
+use Rattle.target_answer.specs.Target.{refusal, target_answer}
 use Rattle.whole_run.specs.Walk.{Turn, begun, walk}
 use Rattle.whole_run.specs.Telling.{told_walk}
 use Rattle.std.specs.Fmt.{digits}
 use Rattle.hex.specs.Hex.{decode_pairs, encode_with}
-use Rattle.target_answer.specs.Image.{all_fresh, fresh}
+use Rattle.whole_run.specs.Small.{all_fresh, fresh}
 use Rattle.whole_run.specs.declared.op.Op.{Op}
 use Rattle.whole_run.specs.declared.op.Op.TheVariants.{Fill, Write, Read, Show}
 use Rattle.whole_run.specs.Language.{header, most_ops, script_in}
@@ -134,15 +136,15 @@ unfolding decode_pairs most_ops
 too_many = refl
 
 zeros : crc (replicate 512 0) ≡ 0
-unfolding crc
+unfolding crc target_answer refusal to_medium from_medium found_in
 zeros = refl
 
 shown_script_walked : report (told_walk (record { state = begun []; blocks = all_fresh 4 0 }) (Fill 0 7 ∷ Write 3 0 ∷ Read 3 512 ∷ Show 1022 2 ∷ [])).state.replies ≡ codes "dix report 1\nop 2 whole\nop 3 whole\nop 4 0707\n"
-unfolding digits encode_with crc
+unfolding digits encode_with crc target_answer refusal to_medium from_medium found_in
 shown_script_walked = refl
 
 shown_script_stored : (told_walk (record { state = begun []; blocks = all_fresh 4 0 }) (Fill 0 7 ∷ Write 3 0 ∷ Read 3 512 ∷ Show 1022 2 ∷ [])).blocks ≡ under 0 (plain_run (all_fresh 4 0) (Fill 0 7 ∷ Write 3 0 ∷ Read 3 512 ∷ Show 1022 2 ∷ [])).blocks
-unfolding crc
+unfolding crc target_answer refusal to_medium from_medium found_in
 shown_script_stored = refl
 
 -- a walk in which a rig answers so
@@ -175,7 +177,7 @@ no_sense = refl
 
 -- the target sent a frame, and the adapter finds it
 by_check : report_of (record { op = Read 1 0; answered = record { outcome = record { done = 1; sense = None }; frame = fresh 2 } } ∷ []) ≡ codes "dix report 1\nop 1 bad 1\nbad 1 0 adapter ref\n"
-unfolding digits encode_with crc
+unfolding digits encode_with crc target_answer refusal to_medium from_medium found_in
 by_check = refl
 
 -- a stored byte that changed, which the target finds, and the zeros that are left of the block
@@ -183,5 +185,5 @@ abbrev changed : List (List ℕ)
 changed = slice_set (all_fresh 4 0) 1 (slice_set (fresh 1) 100 4)
 
 by_stored : report (told_walk (record { state = begun []; blocks = changed }) (Fill 0 7 ∷ Read 1 0 ∷ Show 510 4 ∷ [])).state.replies ≡ codes "dix report 1\nop 2 bad 1\nbad 2 0 target guard\nop 3 00000000\n"
-unfolding digits encode_with crc
+unfolding digits encode_with crc target_answer refusal to_medium from_medium found_in
 by_stored = refl

@@ -11,7 +11,7 @@ use Rattle.whole_run.specs.Ops.{fits, part}
 use Rattle.whole_run.specs.Report.{lines_from, lines_of, report}
 use Rattle.whole_run.specs.Plain.{Kept, Plain, kept_in, nothing, plain_run, plain_step, plain_walk}
 use Rattle.whole_run.specs.declared.reply.Reply.{Reply}
-use Rattle.target_answer.specs.Image.{all_fresh}
+use Rattle.whole_run.specs.Small.{all_fresh}
 use Rattle.whole_run.specs.Slow.{IsDone, IsHeld, kept_of, plain_reply}
 use Rattle.whole_run.proofs.Walks.{and_left, and_right, within}
 

@@ -9,11 +9,10 @@ use Rattle.dix_base.specs.Told.{over}
 use Rattle.pi_tuple.specs.declared.checks.Check.{Check}
 use Rattle.pi_tuple.specs.declared.checks.Check.TheVariants.{Guard, AppTag, RefTag}
 use Rattle.sense_codes.specs.declared.Sense.{Sense}
-use Rattle.target_answer.specs.Frames.{data_of, judged, written}
-use Rattle.target_answer.specs.Target.{Answer, Stop, blocks_of, command_in, medium_sense, one_more, read_answer, sense_or, target_answer, write_answer}
-use Rattle.target_answer.specs.declared.command.Direction.{Direction}
-use Rattle.target_answer.specs.declared.command.Direction.TheVariants.{Read, Write}
-use Rattle.target_answer.specs.declared.command.Command.{Command}
+use Rattle.fault_schedule.specs.declared.Label.{Label}
+use Rattle.target_answer.specs.Target.{Answer, Stop, medium_sense}
+use Rattle.whole_run.specs.Small.{data_of, judged}
+use Rattle.whole_run.proofs.OneBlock.{one_more, read_answer, read_is, sense_or, small_answer, write_answer, write_is, written}
 use Rattle.rig_api.specs.Log.{IsMedium, IsMediumSense}
 use Rattle.whole_run.specs.declared.op.Op.{Op}
 use Rattle.whole_run.specs.declared.op.Op.TheVariants as op
@@ -83,21 +82,6 @@ part_length at n page h = simp (length-take, length-drop) (omega arith)
 
 -- the two commands
 
-abbrev pub one_block : Direction → ℕ → Command
-one_block d block = record { direction = d; lba = block; n = 1 }
-
-pub write_command : (block : ℕ) → block < 2 ^ 32 → command_in (write_ten block) ≡ Some (one_block Write block)
-write_command block h = let c : ℕ → Option Command = λ v. Some (one_block Write v) in ap c (from_be_bytes-to_be_bytes_4 block h)
-
-pub read_command : (block : ℕ) → block < 2 ^ 32 → command_in (read_ten block) ≡ Some (one_block Read block)
-read_command block h = let c : ℕ → Option Command = λ v. Some (one_block Read v) in ap c (from_be_bytes-to_be_bytes_4 block h)
-
-pub write_blocks : (block : ℕ) → block < 2 ^ 32 → blocks_of (write_ten block) ≡ 1
-write_blocks block h = refl
-
-pub read_blocks : (block : ℕ) → block < 2 ^ 32 → blocks_of (read_ten block) ≡ 1
-read_blocks block h = refl
-
 pub write_ten_length : (block : ℕ) → length (write_ten block) ≡ 10
 write_ten_length block = refl
 
@@ -106,33 +90,6 @@ read_ten_length block = refl
 
 pub made_length : (block : ℕ) (bytes : List ℕ) → length bytes ≡ 512 → length (made block bytes) ≡ 520
 made_length block bytes h = simp length-append (omega arith)
-
-ltb_not : (a b : ℕ) → b ≤ a → ltb a b ≡ false
-ltb_not a b h = grind arith
-
-as_write : (blocks : List (List ℕ)) (cdb frame : List ℕ) (block room : ℕ) (stop : Option Stop) → command_in cdb ≡ Some (one_block Write block) → block < length blocks → length frame ≡ 520 →
-    target_answer blocks cdb frame room stop ≡ write_answer block (frame ∷ []) blocks stop
-as_write blocks cdb frame block room stop e h l =
-    let a : ltb (length blocks) (block + 1) ≡ false = ltb_not (length blocks) (block + 1) (omega arith) in
-    let b : eqb (length frame) (520 * 1) ≡ true = eq-eqb (length frame) (520 * 1) l in
-    let t : take 520 frame ≡ frame = take_all 520 frame (omega arith) in
-    rw (e, a, b, t) refl
-
-as_read : (blocks : List (List ℕ)) (cdb out : List ℕ) (block : ℕ) (stop : Option Stop) → command_in cdb ≡ Some (one_block Read block) → block < length blocks →
-    target_answer blocks cdb out 520 stop ≡ read_answer block (get_or blocks block [] ∷ []) blocks stop
-as_read blocks cdb out block stop e h =
-    let a : ltb (length blocks) (block + 1) ≡ false = ltb_not (length blocks) (block + 1) (omega arith) in
-    let d : drop block blocks ≡ get_or blocks block [] ∷ drop (suc block) blocks = drop-cons blocks block [] h in
-    rw (e, a, d) refl
-
--- a WRITE(10) of one frame, and a READ(10) of one block
-pub write_is : (blocks : List (List ℕ)) (frame : List ℕ) (block room : ℕ) (stop : Option Stop) → block < 2 ^ 32 → block < length blocks → length frame ≡ 520 →
-    target_answer blocks (write_ten block) frame room stop ≡ write_answer block (frame ∷ []) blocks stop
-write_is blocks frame block room stop b h l = as_write blocks (write_ten block) frame block room stop (write_command block b) h l
-
-pub read_is : (blocks : List (List ℕ)) (out : List ℕ) (block : ℕ) (stop : Option Stop) → block < 2 ^ 32 → block < length blocks →
-    target_answer blocks (read_ten block) out 520 stop ≡ read_answer block (get_or blocks block [] ∷ []) blocks stop
-read_is blocks out block stop b h = as_read blocks (read_ten block) out block stop (read_command block b) h
 
 pub written_length : (a : ℕ) (fs blocks : List (List ℕ)) → length (written a fs blocks) ≡ length blocks
 written_length a [] blocks = refl
@@ -160,60 +117,60 @@ either_answered : (n : ℕ) (t : Bool) (x y : Answer) → IsAnswered n x → IsA
 either_answered n true x y p q = p
 either_answered n false x y p q = q
 
-write_unstopped : (a : ℕ) (f : List ℕ) (blocks : List (List ℕ)) → IsAnswered (length blocks) (write_answer a (f ∷ []) blocks None)
+write_unstopped : (a : ℕ) (f : List ℕ) (blocks : List (List ℕ)) → IsAnswered (length blocks) (write_answer a f blocks None)
 write_unstopped a f blocks = record { blocks = written_length a (take (one_more (judged a f) 0) (f ∷ [])) blocks; sense = found_so a (judged a f) }
 
-write_answered : (a : ℕ) (f : List ℕ) (blocks : List (List ℕ)) (stop : Option Stop) → IsAnswered (length blocks) (write_answer a (f ∷ []) blocks stop)
+write_answered : (a : ℕ) (f : List ℕ) (blocks : List (List ℕ)) (stop : Option Stop) → IsAnswered (length blocks) (write_answer a f blocks stop)
 write_answered a f blocks None = write_unstopped a f blocks
 write_answered a f blocks (Some s) =
     either_answered (length blocks) (ltb s.at (one_more (judged a f) 0))
     (record { done = s.at; sense = Some (medium_sense 12 (a + s.at)); blocks = set (written a (take s.at (f ∷ [])) blocks) (a + s.at) s.left; sent = [] })
-    (write_answer a (f ∷ []) blocks None)
+    (write_answer a f blocks None)
     (record {
       blocks = length-set (written a (take s.at (f ∷ [])) blocks) (a + s.at) s.left ∙ written_length a (take s.at (f ∷ [])) blocks;
       sense = ended (ltb 0 s.at) (Some (medium_sense 12 (a + s.at))) refl;
     })
     (write_unstopped a f blocks)
 
-read_unstopped : (a : ℕ) (f : List ℕ) (blocks : List (List ℕ)) → IsAnswered (length blocks) (read_answer a (f ∷ []) blocks None)
+read_unstopped : (a : ℕ) (f : List ℕ) (blocks : List (List ℕ)) → IsAnswered (length blocks) (read_answer a f blocks None)
 read_unstopped a f blocks = record { blocks = refl; sense = found_so a (judged a f) }
 
-read_answered : (a : ℕ) (f : List ℕ) (blocks : List (List ℕ)) (stop : Option Stop) → IsAnswered (length blocks) (read_answer a (f ∷ []) blocks stop)
+read_answered : (a : ℕ) (f : List ℕ) (blocks : List (List ℕ)) (stop : Option Stop) → IsAnswered (length blocks) (read_answer a f blocks stop)
 read_answered a f blocks None = read_unstopped a f blocks
 read_answered a f blocks (Some s) =
     either_answered (length blocks) (ltb s.at (one_more (judged a f) 0 + 1) && ltb s.at 1)
     (record { done = s.at; sense = Some (medium_sense 17 (a + s.at)); blocks = blocks; sent = take s.at (f ∷ []) })
-    (read_answer a (f ∷ []) blocks None)
+    (read_answer a f blocks None)
     (record { blocks = refl; sense = ended (ltb 0 s.at) (Some (medium_sense 17 (a + s.at))) refl })
     (read_unstopped a f blocks)
 
 pub below_four : (block : ℕ) → block < 4 → block < 2 ^ 32
 below_four block h = omega arith
 
-write_all : (blocks : List (List ℕ)) (block : ℕ) (bytes : List ℕ) (room : ℕ) (stop : Option Stop) → block < 4 → length blocks ≡ 4 → length bytes ≡ 512 →
-    IsAnswered 4 (target_answer blocks (write_ten block) (made block bytes) room stop)
-write_all blocks block bytes room stop b l h =
-    rw (write_is blocks (made block bytes) block room stop (below_four block b) (omega arith) (made_length block bytes h))
+write_all : (labels : List Label) (blocks : List (List ℕ)) (block : ℕ) (bytes : List ℕ) (room : ℕ) (stop : Option Stop) → block < 4 → length blocks ≡ 4 → length bytes ≡ 512 →
+    IsAnswered 4 (small_answer labels blocks (write_ten block) (made block bytes) room stop)
+write_all labels blocks block bytes room stop b l h =
+    rw (write_is labels blocks (made block bytes) block room stop (below_four block b) (omega arith) (made_length block bytes h))
     (let w = write_answered block (made block bytes) blocks stop in record { blocks = w.blocks ∙ l; sense = w.sense })
 
-read_all : (blocks : List (List ℕ)) (block : ℕ) (out : List ℕ) (stop : Option Stop) → block < 4 → length blocks ≡ 4 →
-    IsAnswered 4 (target_answer blocks (read_ten block) out 520 stop)
-read_all blocks block out stop b l =
-    rw (read_is blocks out block stop (below_four block b) (omega arith))
+read_all : (labels : List Label) (blocks : List (List ℕ)) (block : ℕ) (out : List ℕ) (stop : Option Stop) → block < 4 → length blocks ≡ 4 →
+    IsAnswered 4 (small_answer labels blocks (read_ten block) out 520 stop)
+read_all labels blocks block out stop b l =
+    rw (read_is labels blocks out block stop (below_four block b) (omega arith))
     (let w = read_answered block (get_or blocks block []) blocks stop in record { blocks = w.blocks ∙ l; sense = w.sense })
 
-pub write_blocks_length : (blocks : List (List ℕ)) (block : ℕ) (bytes : List ℕ) (room : ℕ) (stop : Option Stop) → block < 4 → length blocks ≡ 4 → length bytes ≡ 512 →
-    length (target_answer blocks (write_ten block) (made block bytes) room stop).blocks ≡ 4
-write_blocks_length blocks block bytes room stop b l h = (write_all blocks block bytes room stop b l h).blocks
+pub write_blocks_length : (labels : List Label) (blocks : List (List ℕ)) (block : ℕ) (bytes : List ℕ) (room : ℕ) (stop : Option Stop) → block < 4 → length blocks ≡ 4 → length bytes ≡ 512 →
+    length (small_answer labels blocks (write_ten block) (made block bytes) room stop).blocks ≡ 4
+write_blocks_length labels blocks block bytes room stop b l h = (write_all labels blocks block bytes room stop b l h).blocks
 
-pub read_blocks_length : (blocks : List (List ℕ)) (block : ℕ) (out : List ℕ) (stop : Option Stop) → block < 4 → length blocks ≡ 4 →
-    length (target_answer blocks (read_ten block) out 520 stop).blocks ≡ 4
-read_blocks_length blocks block out stop b l = (read_all blocks block out stop b l).blocks
+pub read_blocks_length : (labels : List Label) (blocks : List (List ℕ)) (block : ℕ) (out : List ℕ) (stop : Option Stop) → block < 4 → length blocks ≡ 4 →
+    length (small_answer labels blocks (read_ten block) out 520 stop).blocks ≡ 4
+read_blocks_length labels blocks block out stop b l = (read_all labels blocks block out stop b l).blocks
 
-pub write_never_unanswered : (blocks : List (List ℕ)) (block : ℕ) (bytes : List ℕ) (room : ℕ) (stop : Option Stop) (a : Answered) → block < 4 → length blocks ≡ 4 → length bytes ≡ 512 →
-    a.outcome ≡ record { done = (target_answer blocks (write_ten block) (made block bytes) room stop).done; sense = (target_answer blocks (write_ten block) (made block bytes) room stop).sense } →
+pub write_never_unanswered : (labels : List Label) (blocks : List (List ℕ)) (block : ℕ) (bytes : List ℕ) (room : ℕ) (stop : Option Stop) (a : Answered) → block < 4 → length blocks ≡ 4 → length bytes ≡ 512 →
+    a.outcome ≡ record { done = (small_answer labels blocks (write_ten block) (made block bytes) room stop).done; sense = (small_answer labels blocks (write_ten block) (made block bytes) room stop).sense } →
     is_unanswered (reply_of (fate_of_write a)) ≡ false
-write_never_unanswered blocks block bytes room stop a b l h e = rw e (write_all blocks block bytes room stop b l h).sense
+write_never_unanswered labels blocks block bytes room stop a b l h e = rw e (write_all labels blocks block bytes room stop b l h).sense
 
 checked_too : (t : Bool) (found : Option Check) (sense : Option Sense) → is_unanswered (reply_of (if t then None else Some (why_ended sense))) ≡ false →
     is_unanswered (reply_of (if t then option_map Adapter found else Some (why_ended sense))) ≡ false
@@ -221,11 +178,11 @@ checked_too true None sense h = refl
 checked_too true (Some c) sense h = refl
 checked_too false found sense h = h
 
-pub read_never_unanswered : (blocks : List (List ℕ)) (block : ℕ) (out : List ℕ) (stop : Option Stop) (a : Answered) → block < 4 → length blocks ≡ 4 →
-    a.outcome ≡ record { done = (target_answer blocks (read_ten block) out 520 stop).done; sense = (target_answer blocks (read_ten block) out 520 stop).sense } →
+pub read_never_unanswered : (labels : List Label) (blocks : List (List ℕ)) (block : ℕ) (out : List ℕ) (stop : Option Stop) (a : Answered) → block < 4 → length blocks ≡ 4 →
+    a.outcome ≡ record { done = (small_answer labels blocks (read_ten block) out 520 stop).done; sense = (small_answer labels blocks (read_ten block) out 520 stop).sense } →
     is_unanswered (reply_of (fate_of_read block a)) ≡ false
-read_never_unanswered blocks block out stop a b l e =
-    checked_too (ltb 0 a.outcome.done) (judged block a.frame) a.outcome.sense (rw e (read_all blocks block out stop b l).sense)
+read_never_unanswered labels blocks block out stop a b l e =
+    checked_too (ltb 0 a.outcome.done) (judged block a.frame) a.outcome.sense (rw e (read_all labels blocks block out stop b l).sense)
 
 -- a line of the medium has a sense of the medium
 

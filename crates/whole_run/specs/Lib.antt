@@ -1,4 +1,5 @@
 pub mod Ops
+pub mod Small
 pub mod Senses
 pub mod Walk
 pub mod Telling

@@ -1,7 +1,8 @@
 use Rattle.std.specs.Prelude.{ℕ, ◌+◌, Bool, ◌&&◌, nat_le, nat_lt, List, [], ◌∷◌, ◌++◌, take, drop}
 use Rattle.std.specs.Int.{w32, to_be_bytes}
 use Rattle.pi_guard.specs.Guards.{crc}
-use Rattle.target_answer.specs.Frames.{frame_of, phys}
+use Rattle.pi_tuple.specs.Tuples.{ref_tag}
+use Rattle.target_answer.specs.Frames.{frame_of}
 use Rattle.fault_schedule.specs.declared.Label.{Label}
 use Rattle.whole_run.specs.declared.op.Op.{Op}
 use Rattle.whole_run.specs.declared.op.Op.TheVariants.{Fill, Write, Read, Show}
@@ -21,7 +22,7 @@ part at n page = take n (drop at page)
 
 -- the frame of a write: the data with the tuple that the block layer makes, with application tag 0 and the block's number as reference tag
 abbrev pub made : ℕ → List ℕ → List ℕ
-made block bytes = frame_of bytes (record { guard = crc bytes; app = 0; rtag = phys block })
+made block bytes = frame_of bytes (record { guard = crc bytes; app = 0; rtag = ref_tag block })
 
 -- READ(10) and WRITE(10) of one block with protect field 001b (SBC-3, 5.11 and 5.32)
 abbrev pub ten : ℕ → ℕ → List ℕ

@@ -3,7 +3,9 @@ use Rattle.dix_base.specs.Told.{over}
 use Rattle.pi_guard.specs.Guards.{crc}
 use Rattle.pi_tuple.specs.Finds.{is_escaped}
 use Rattle.pi_tuple.specs.declared.checks.PiType.TheVariants.{One}
-use Rattle.target_answer.specs.Frames.{data_of, frame_of, phys, tuple_of}
+use Rattle.pi_tuple.specs.Tuples.{ref_tag}
+use Rattle.target_answer.specs.Frames.{frame_of}
+use Rattle.whole_run.specs.Small.{data_of, tuple_of}
 use Rattle.whole_run.specs.declared.op.Op.{Op}
 use Rattle.whole_run.specs.declared.op.Op.TheVariants.{Fill, Write, Read, Show}
 use Rattle.whole_run.specs.declared.reply.Reply.{Reply}
@@ -45,7 +47,7 @@ plain_run blocks ops = plain_walk (record { page = replicate 4096 0; blocks = ma
 
 -- the image under a map: each entry's data, with the tuple of their guard, the application tag and the address
 abbrev pub frame_under : ℕ → Kept → List ℕ
-frame_under a k = frame_of k.bytes (record { guard = crc k.bytes; app = k.app; rtag = phys a })
+frame_under a k = frame_of k.bytes (record { guard = crc k.bytes; app = k.app; rtag = ref_tag a })
 
 abbrev pub under : ℕ → List Kept → List (List ℕ)
 under a [] = []
@@ -57,7 +59,7 @@ pub record IsCleanBlock (a : ℕ) (f : List ℕ) : Type 0 where
   pub bytes : All (λ b. b < 256) f
   pub escape : is_escaped One (tuple_of f) ≡ false
   pub guard : (tuple_of f).guard ≡ crc (data_of f)
-  pub rtag : (tuple_of f).rtag ≡ phys a
+  pub rtag : (tuple_of f).rtag ≡ ref_tag a
 
 abbrev pub AreClean : ℕ → List (List ℕ) → Type 0
 AreClean a [] = Unit {0}

@@ -1,6 +1,6 @@
 use Rattle.std.specs.Prelude.{ℕ, ◌+◌, Bool, true, false, ltb, if◌then◌else◌, List, [], ◌∷◌, ◌++◌, length, map, replicate, Option, Some, None, option_map}
 use Rattle.dix_base.specs.Told.{over}
-use Rattle.target_answer.specs.Frames.{data_of, judged}
+use Rattle.whole_run.specs.Small.{data_of, judged}
 use Rattle.rig_api.specs.declared.rig.Outcome.{Outcome}
 use Rattle.rig_api.specs.Log.{Entry, entry_of}
 use Rattle.whole_run.specs.declared.op.Op.{Op}
@@ -60,8 +60,8 @@ reply_to (Show at len) a page = Shown (part at len page)
 -- the record of the one exchange of a request: the op's number is in its label
 abbrev pub records_of : ℕ → Op → Answered → List ℕ → List Entry
 records_of number (Fill at byte) a page = []
-records_of number (Write block at) a page = entry_of 0 (write_ten block) (label_of number) a.outcome (made block (part at 512 page)) [] ∷ []
-records_of number (Read block at) a page = entry_of 0 (read_ten block) (label_of number) a.outcome [] a.frame ∷ []
+records_of number (Write block at) a page = entry_of 512 0 (write_ten block) (label_of number) a.outcome (made block (part at 512 page)) [] ∷ []
+records_of number (Read block at) a page = entry_of 512 0 (read_ten block) (label_of number) a.outcome [] a.frame ∷ []
 records_of number (Show at len) a page = []
 
 abbrev pub step : State → Turn → State

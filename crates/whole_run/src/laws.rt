@@ -1,6 +1,6 @@
 //! What holds of every run, stated over the definitions alone.
 
-ghost use Rattle.target_answer.specs.Image.{all_fresh};
+ghost use Rattle.whole_run.specs.Small.{all_fresh};
 ghost use Rattle.whole_run.specs.Plain.{AreClean};
 ghost use Rattle.whole_run.specs.Laws.{WalkIsPlain, WalkListsExactly};
 

@@ -3,7 +3,7 @@
 ghost use Rattle.std.specs.Prelude.{◌≡◌, ◌+◌, ◌≤◌, true, length, replicate, IfOk, string_bytes};
 ghost use Rattle.std.specs.List.{list_all};
 ghost use Rattle.dix_base.specs.Told.{over};
-ghost use Rattle.target_answer.specs.Image.{all_fresh};
+ghost use Rattle.whole_run.specs.Small.{all_fresh};
 ghost use Rattle.whole_run.specs.Ops.{fits};
 ghost use Rattle.whole_run.specs.Plain.{plain_run};
 ghost use Rattle.whole_run.specs.Report.{lines_of, report};
