@@ -1,8 +1,7 @@
-mod Blocks
+pub mod Changing
+pub mod Devices
+pub mod Formats
 pub mod Heads
-mod Judging
-mod Keeping
-mod Reading
-mod Serving
-mod Telling
-mod Writing
+pub mod Keeping
+pub mod Migrates
+pub mod Units

@@ -1,4 +1,6 @@
+pub mod Changes
 pub mod Entries
-pub mod Served
+pub mod Heads
+pub mod Places
+pub mod Small
 pub mod Told
-pub mod Zeros

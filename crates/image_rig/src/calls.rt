@@ -1,35 +1,42 @@
 //! The calls of the rig.
 
-ghost use Rattle.std.specs.Prelude.{◌≡◌, ◌≤◌, [], None, OnErr, OnOk, take};
-ghost use Rattle.dix_base.specs.Told.{IsRead, Rose};
+ghost use Rattle.std.specs.Prelude.{◌≡◌, ◌≤◌, ◌+◌, ◌*◌, [], length, refl};
+ghost use Rattle.rig_api.specs.Head.{Head};
 ghost use Rattle.image_rig.specs.Entries.{entries, few_of, keyed_of, spare};
-ghost use Rattle.image_rig.specs.Told.{devices_of, laid_of, units_told};
+ghost use Rattle.image_rig.specs.Heads.{head_in};
+ghost use Rattle.image_rig.specs.Told.{laid_of, ready_of, standing_of, units_of_image};
 
 use crate::ImageRig;
-use crate::head::{blocks_at, fault_in};
+use crate::formatting::append_formatted;
+use crate::image_head::ImageHead;
 use crate::log::Log;
+use crate::looking::look;
+use crate::migrating::migrate_head;
 use crate::note::note;
-use crate::serve::serve;
-use dix_base::{Failed, Store};
-use fault_schedule::Label;
-use rig_api::{Outcome, Record, Rig, RigFault};
+use crate::overwriting::change_block;
+use crate::place::{greatest_size, logical};
+use arrayvec::ArrayVec;
+use dix_base::{Failed, Store, StoreFault};
+use fault_schedule::{FaultList, Label, Tamper};
+use rig_api::{Change, Outcome, Record, Rig, RigFault, UnitSpec};
 use std::alloc::{AllocError, Global};
+use target_model::serve;
 
 impl<S: Store> ImageRig<S> {
-    /// A rig over this store, with no image opened and nothing in its log.
+    /// A rig over this store, with no image opened, no fault armed and nothing in its log.
     pub fn new(alloc: Global, store: S) -> ImageRig<S>
         ensures image { ⟦<ImageRig<S> as Rig>⟧.image result ≡ S.bytes store }
         ensures faults { ⟦<ImageRig<S> as Rig>⟧.faults result ≡ S.faults store }
         ensures log { ⟦<ImageRig<S> as Rig>⟧.log result ≡ [] }
+        ensures armed { ⟦<ImageRig<S> as Rig>⟧.armed result ≡ [] }
         ensures standing { ⟦<ImageRig<S> as Rig>⟧.standing result
             ≡ record { devices = 0; head = record { size = 0; first = [] }; name = S.handed store; openings = S.openings store } }
     {
         ImageRig {
             store,
-            ready: false,
-            size: 0,
-            have: 0,
-            first: [0; 512],
+            head: ImageHead::none(),
+            units: ArrayVec::new(),
+            tamper: Tamper::new(FaultList::from_vec(Vec::new(alloc))),
             log: Log::new(alloc),
         }
     }
@@ -45,71 +52,74 @@ impl<S: Store> ImageRig<S> {
     }
 }
 
-/// Reads the first bytes of the image. There is no call where there are none.
-fn read_head<S: Store>(store: &mut S, first: &mut [u8; 512], have: usize) -> Result<(), Failed>
-    requires within { have ≤ S.len store.old }
-    requires bound { have ≤ 512 }
-    ensures read { OnOk result (IsRead 0 have (take have first.new) (S.bytes store.old)) }
-    ensures same { S.bytes store.new ≡ S.bytes store.old }
-    ensures length { S.len store.new ≡ S.len store.old }
-    ensures cause { OnErr result (Rose (S.faults store.old) (S.faults store.new)) }
-    ensures count { S.faults store.old ≤ S.faults store.new }
-    ensures named { S.handed store.new ≡ S.handed store.old }
-    ensures opened { S.openings store.new ≡ S.openings store.old }
-{
-    if have == 0 {
-        return Ok(());
-    }
-    let mut bytes = [0u8; 512];
-    store.read_at(0, &mut bytes[..have])?;
-    *first = bytes;
-    Ok(())
-}
-
 impl<S: Store> Rig for ImageRig<S> {
     ghost image = { λ s. S.bytes s.store };
 
-    ghost units = { λ s. units_told (devices_of s.ready) (record { size = s.size; first = take s.have s.first }) (S.bytes s.store) };
+    ghost units = { λ s. units_of_image (length s.units.items) (head_in s.head) (S.bytes s.store) };
 
-    ghost standing = { λ s. record { devices = devices_of s.ready; head = record { size = s.size; first = take s.have s.first }; name = S.handed s.store; openings = S.openings s.store } };
+    ghost standing = { λ s. standing_of (length s.units.items) (head_in s.head) (S.handed s.store) (S.openings s.store) };
 
     ghost log = { λ s. entries s.log.labels.items s.log.moved.items s.log.kept.items };
 
     ghost room = { λ s. record { records = s.log.free; labels = spare s.log.labels; moved = spare s.log.moved } };
 
+    ghost armed = { λ s. s.tamper };
+
     ghost faults = { λ s. S.faults s.store };
 
-    ghost laid = { λ s. laid_of (devices_of s.ready) (record { size = s.size; first = take s.have s.first }) (S.handed s.store) (S.openings s.store) (S.bytes s.store) };
+    ghost laid = { λ s. laid_of (length s.units.items) (head_in s.head) (S.handed s.store) (S.openings s.store) (S.bytes s.store) };
+
+    ghost ready = { λ s. ready_of (length s.units.items) (head_in s.head) (S.handed s.store) (S.openings s.store) (S.bytes s.store) s.units.items s.right s.devices s.told refl };
 
     ghost few = { λ s. few_of s.log.labels.items s.log.moved.items s.log.kept.items s.log.free s.log.bound };
 
     ghost keyed = { λ s. keyed_of s.log.labels.items s.log.moved.items s.log.kept.items s.log.keyed };
 
     fn open(&mut self, alloc: Global, name: &str) -> Result<(), RigFault> {
-        self.ready = false;
+        self.units.clear();
+        look(alloc, &mut self.store, &mut self.head, name)?;
+        self.units = self.head.units();
+        Ok(())
+    }
+
+    fn format(&mut self, alloc: Global, name: &str, spec: &[UnitSpec]) -> Result<(), RigFault> {
+        self.units.clear();
         let Ok(name) = String::from_str(alloc, name) else {
             return Err(RigFault::Memory);
         };
-        let Ok(size) = self.store.open(name) else {
+        let Ok(()) = self.store.reset(name) else {
             return Err(RigFault::Failed);
         };
-        let have = size.min(512) as usize;
-        let Ok(()) = read_head(&mut self.store, &mut self.first, have) else {
-            return Err(RigFault::Failed);
-        };
-        self.size = size;
-        self.have = have;
-        match fault_in(size, &self.first[..have]) {
-            None => {
-                self.ready = true;
-                Ok(())
+        match append_formatted(alloc, &mut self.store, spec) {
+            Ok(()) => Ok(()),
+            Err(StoreFault::Failed) => Err(RigFault::Failed),
+            Err(StoreFault::Memory) => Err(RigFault::Memory),
+        }
+    }
+
+    fn migrate(&mut self, alloc: Global, name: &str) -> Result<u32, RigFault> {
+        self.units.clear();
+        let before = self.head;
+        look(alloc, &mut self.store, &mut self.head, name)?;
+        match migrate_head(&mut self.store, &self.head) {
+            Ok(count) => Ok(count),
+            Err(Failed) => {
+                self.head = before;
+                Err(RigFault::Failed)
             }
-            Some(fault) => Err(fault),
         }
     }
 
     fn devices(&self) -> u32 {
-        if self.ready { 1 } else { 0 }
+        self.units.len() as u32
+    }
+
+    fn first(&self, dev: u32) -> u64 {
+        self.units[dev as usize].first
+    }
+
+    fn size(&self, dev: u32) -> u32 {
+        self.units[dev as usize].size
     }
 
     fn records(&self) -> u32 {
@@ -129,9 +139,18 @@ impl<S: Store> Rig for ImageRig<S> {
     }
 
     fn reserve(&mut self, _alloc: Global, exchanges: u32, blocks: u32) -> Result<(), AllocError> {
+        let frame = greatest_size(&self.units) as usize + 8;
         let labels = exchanges as usize + blocks as usize;
-        let moved = 520 * blocks as usize + 32 * exchanges as usize;
+        let moved = frame * blocks as usize + 32 * exchanges as usize;
         self.log.reserve(exchanges, labels, moved)
+    }
+
+    fn arm(&mut self, lines: FaultList) {
+        self.tamper = Tamper::new(lines);
+    }
+
+    fn overwrite(&mut self, dev: u32, lba: u64, change: &Change) -> Result<(), Failed> {
+        change_block(&mut self.store, &self.units, dev as usize, lba, change)
     }
 
     fn exchange(
@@ -142,9 +161,18 @@ impl<S: Store> Rig for ImageRig<S> {
         out: &[u8],
         into: &mut [u8],
     ) -> Outcome {
-        let blocks = blocks_at(&self.first[..self.have]);
-        let outcome = serve(&mut self.store, blocks, cdb, out, into);
-        note(&mut self.log, dev, cdb, labels, outcome, out, into);
+        let unit = logical(&self.units, dev as usize);
+        let outcome = serve(&mut self.store, &unit, cdb, labels, out, into, &self.tamper);
+        note(
+            &mut self.log,
+            unit.size,
+            dev,
+            cdb,
+            labels,
+            outcome,
+            out,
+            into,
+        );
         outcome
     }
 }

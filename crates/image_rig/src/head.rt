@@ -1,81 +1,111 @@
-//! The head of an image.
+//! The head of an image: its length and its first bytes.
 
-ghost use Rattle.std.specs.Prelude.{◌≡◌, ◌≤◌, Some, drop, length, take};
-ghost use Rattle.std.specs.List.{list_all};
-ghost use Rattle.std.specs.Str.{bytes_eq};
-ghost use Rattle.image_rig.specs.Zeros.{is_zero};
-ghost use Rattle.rig_api.specs.Head.{fault_of_table, head_fault};
-ghost use Rattle.target_answer.specs.Image.{blocks_in, magic, table};
+ghost use Rattle.std.specs.Prelude.{◌≡◌, ◌≤◌, ◌+◌, ◌*◌, None, Some, eqb, if◌then◌else◌, true};
+ghost use Rattle.target_answer.specs.Headers.{bytes_of, image_size, is_header, is_layout, is_spec, specs_in};
+ghost use Rattle.target_answer.specs.Frames.{stored_size};
+ghost use Rattle.rig_api.specs.Head.{fault_of_header, head_fault, units_of, version_in};
+ghost use Rattle.image_rig.specs.Heads.{head_in};
 
+use crate::image_head::ImageHead;
+use arrayvec::ArrayVec;
+use pi_tuple::PiType;
 use rig_api::{RigFault, front};
+use target_answer::{UnitSpec, Version, is_header, specs_in, version_of};
 
-const MAGIC: [u8; 8] = *b"DIXIMG01";
+impl ImageHead {
+    /// The head of no image.
+    pub(crate) fn none() -> ImageHead
+        ensures size { result.size ≡ 0 }
+        ensures have { result.have ≡ 0 }
+    {
+        ImageHead {
+            size: 0,
+            have: 0,
+            first: [0; 512],
+        }
+    }
 
-/// The header behind the text, up to its zeros: one unit, of type 1, with four blocks.
-const ONE_UNIT: [u8; 24] = [
-    0, 1, 0, 0, 0, 0, 0, 0, 1, 0, 0, 0, 0, 0, 0, 0, 0, 0, 0, 0, 0, 0, 0, 4,
-];
+    /// The version that the head names, if one.
+    pub(crate) fn version(&self) -> Option<Version>
+        ensures { result ≡ version_in (head_in self.now) }
+    {
+        version_of(front(&self.first[..self.have], 8))
+    }
 
-fn is_same(left: &[u8], right: &[u8]) -> bool
-    ensures { result ≡ bytes_eq left.now right.now }
-{
-    left == right
+    /// The first fault of the head.
+    pub(crate) fn fault(&self) -> Option<RigFault>
+        ensures { result ≡ head_fault (head_in self.now) }
+    {
+        let Some(version) = self.version() else {
+            return Some(RigFault::BadMagic);
+        };
+        if self.have < 512 {
+            return Some(RigFault::BadLength);
+        }
+        header_fault(version, &self.first, self.size)
+    }
+
+    /// The units that a right head tells.
+    pub(crate) fn units(&self) -> ArrayVec<UnitSpec, 8>
+        requires { head_fault (head_in self.now) ≡ None }
+        ensures { result.items ≡ units_of (head_in self.now) }
+    {
+        match self.version() {
+            Some(version) => specs_in(version, &self.first),
+            None => ArrayVec::new(),
+        }
+    }
 }
 
-fn has_magic(first: &[u8]) -> bool
-    ensures { result ≡ bytes_eq (take 8 first.now) magic }
+/// The bytes of a block as it is stored.
+pub(crate) fn stored_size(ty: PiType, size: u32) -> u64
+    ensures value { result ≡ stored_size ty size }
+    ensures bound { result ≤ size + 8 }
 {
-    is_same(front(first, 8), &MAGIC)
+    match ty {
+        PiType::Zero => size as u64,
+        _ => size as u64 + 8,
+    }
 }
 
-fn are_zeros(bytes: &[u8]) -> bool
-    ensures { result ≡ list_all is_zero bytes.now }
+/// The bytes of a unit's blocks in the image.
+pub(crate) fn unit_bytes(unit: UnitSpec) -> u64
+    requires { is_spec unit ≡ true }
+    ensures value { result ≡ bytes_of unit }
+    ensures bound { result ≤ 65536 * 520 }
 {
-    bytes.iter().all(|b| *b == 0)
+    unit.blocks * stored_size(unit.ty, unit.size)
 }
 
-fn has_table(first: &[u8]) -> bool
-    requires { length first.now ≡ 512 }
-    ensures { result ≡ bytes_eq (drop 8 first.now) table }
+/// The length of the image of these units.
+fn image_size(units: &[UnitSpec]) -> u64
+    requires { is_layout units.now ≡ true }
+    ensures { result ≡ image_size units.now }
 {
-    let (_, behind) = first.split_at(8);
-    let (unit, rest) = behind.split_at(24);
-    is_same(unit, &ONE_UNIT) && are_zeros(rest)
+    let mut size = 512u64;
+    for unit in units {
+        size += unit_bytes(*unit);
+    }
+    size
 }
 
-/// The number of blocks that the header tells.
-pub(crate) fn blocks_at(first: &[u8]) -> u64
-    requires { 512 ≤ length first.now }
-    ensures { result ≡ blocks_in first.now }
+fn length_fault(size: u64, units: &[UnitSpec]) -> Option<RigFault>
+    requires { is_layout units.now ≡ true }
+    ensures { result ≡ (if eqb size (image_size units.now) then None else Some RigFault.BadLength) }
 {
-    u64::from_be_bytes([
-        first[24], first[25], first[26], first[27], first[28], first[29], first[30], first[31],
-    ])
+    if size == image_size(units) {
+        None
+    } else {
+        Some(RigFault::BadLength)
+    }
 }
 
-fn table_fault(is_good: bool, size: u64, blocks: u64) -> Option<RigFault>
-    ensures { result ≡ fault_of_table is_good size blocks }
+/// The first fault of 512 bytes that begin with the text of this version.
+fn header_fault(version: Version, first: &[u8; 512], size: u64) -> Option<RigFault>
+    ensures { result ≡ fault_of_header (is_header version first.now) size (image_size (specs_in version first.now)) }
 {
-    if !is_good {
+    if !is_header(version, first) {
         return Some(RigFault::BadHeader);
     }
-    // The product of any number of blocks fits in 128 bits.
-    if size as u128 != 512 + 520 * blocks as u128 {
-        return Some(RigFault::BadLength);
-    }
-    None
-}
-
-/// The first fault of the head: of an image of this size that begins with these bytes.
-pub(crate) fn fault_in(size: u64, first: &[u8]) -> Option<RigFault>
-    requires { length first.now ≤ 512 }
-    ensures { result ≡ head_fault (record { size = size; first = first.now }) }
-{
-    if !has_magic(first) {
-        return Some(RigFault::BadMagic);
-    }
-    if first.len() < 512 {
-        return Some(RigFault::BadLength);
-    }
-    table_fault(has_table(first), size, blocks_at(first))
+    length_fault(size, &specs_in(version, first))
 }

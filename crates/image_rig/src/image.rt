@@ -1,26 +1,28 @@
 //! The rig over a store.
 
-ghost use Rattle.std.specs.Prelude.{◌≡◌, ◌≤◌, true, None, take};
-ghost use Rattle.rig_api.specs.Head.{head_fault};
+ghost use Rattle.std.specs.Prelude.{◌≡◌, ◌<◌, List, ℕ, length, Some, None};
+ghost use Rattle.rig_api.specs.Head.{head_fault, head_of, units_of};
+ghost use Rattle.image_rig.specs.Heads.{head_in};
 
+use crate::image_head::ImageHead;
 use crate::log::Log;
+use arrayvec::ArrayVec;
 use dix_base::Store;
+use fault_schedule::Tamper;
+use target_answer::UnitSpec;
 
-/// A rig over an image in a store. Once an image is opened it has one device, the unit of type 1
-/// whose blocks stand in the image behind the header.
+/// A rig over an image in a store. Once an image is opened, each of its units is a device.
 #[derive(Drop)]
 pub struct ImageRig<S: Store> {
     pub(crate) store: S,
-    /// Whether a good image is open.
-    pub(crate) ready: bool,
-    /// The image's length.
-    pub(crate) size: u64,
-    /// How many bytes of `first` were read.
-    pub(crate) have: usize,
-    /// The first bytes of the image.
-    pub(crate) first: [u8; 512],
+    /// The head of the image that was looked at last.
+    pub(crate) head: ImageHead,
+    /// The units of the image that is open.
+    pub(crate) units: ArrayVec<UnitSpec, 8>,
+    pub(crate) tamper: Tamper,
     pub(crate) log: Log,
-    ghost few: { have ≤ 512 },
-    ghost judged: { ready ≡ true → head_fault (record { size = size; first = take have first }) ≡ None },
-    ghost held: { ready ≡ true → S.len store ≡ size },
+    ghost right: { 0 < length units.items → head_fault (head_in head) ≡ None },
+    ghost devices: { 0 < length units.items → units.items ≡ units_of (head_in head) },
+    ghost told: { 0 < length units.items → (image : List ℕ) → S.bytes store ≡ Some image → head_in head ≡ head_of image },
+    ghost held: { 0 < length units.items → S.len store ≡ head.size },
 }

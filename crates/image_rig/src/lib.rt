@@ -1,17 +1,18 @@
-//! A rig over an image in a store: one unit of type 1 that stores, reads and checks the blocks
-//! behind the image's header, and the log of its exchanges.
+//! A rig over an image in a store: the units behind the image's header, each a device, and the log
+//! of its exchanges.
 #![tactic(auto)]
 
-mod block;
 mod calls;
+mod formatting;
 mod head;
 mod image;
+mod image_head;
 mod kept;
 mod log;
+mod looking;
+mod migrating;
 mod note;
-mod serve;
-#[cfg(test)]
-mod tests;
-mod transfer;
+mod overwriting;
+mod place;
 
 pub use image::ImageRig;

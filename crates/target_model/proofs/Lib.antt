@@ -1,4 +1,4 @@
-mod Bytes
+pub mod Bytes
 mod Composing
 mod Ends
 mod Reading

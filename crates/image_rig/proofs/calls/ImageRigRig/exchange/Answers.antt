@@ -1,30 +1,56 @@
-use Rattle.std.proofs.Common.{take, ◌∙◌}
-use Rattle.image_rig.proofs.Judging.{is_ready}
-use Rattle.image_rig.proofs.Heads.{right_head}
-use Rattle.image_rig.proofs.Telling.{told, calm_told}
+use Rattle.std.proofs.Common.{◌∙◌, ap, length}
+use Rattle.target_answer.specs.Target.{target_answer}
+use Rattle.target_model.specs.Served.{unit_in}
+use Rattle.image_rig.specs.Heads.{head_in}
+use Rattle.image_rig.specs.Places.{logical_of}
+use Rattle.image_rig.proofs.Devices.{calm, head_after, is_open, is_sized, is_unit, room_for, some_blocks, told_by}
 use Rattle.image_rig.proofs.calls.ImageRigRig.exchange.Goals as goal
 
-pub serve-outcome-requires-clause-few : goal.serve-outcome-requires-clause-few
-serve-outcome-requires-clause-few g c =
-    let ready = is_ready c.args.self.now.ready c.args.dev c.requires.device in
-    let h = right_head (record { size = c.args.self.now.size; first = take c.args.self.now.have c.args.self.now.first }) (c.args.self.now.judged ready.0) in
-    rw c.blocks_at-blocks.ensures h.few
+pub logical-unit-requires-clause-layout : goal.logical-unit-requires-clause-layout
+logical-unit-requires-clause-layout g c = let o = is_open c.args.self.now.units.items (head_in c.args.self.now.head) (g.S.Store.len c.args.self.now.store) c.args.dev c.requires.device c.args.self.now.right c.args.self.now.devices c.args.self.now.held in rw c.deref.ensures.0 o.layout
 
-pub serve-outcome-requires-clause-held : goal.serve-outcome-requires-clause-held
-serve-outcome-requires-clause-held g c =
-    let ready = is_ready c.args.self.now.ready c.args.dev c.requires.device in
-    let h = right_head (record { size = c.args.self.now.size; first = take c.args.self.now.have c.args.self.now.first }) (c.args.self.now.judged ready.0) in
-    rw c.blocks_at-blocks.ensures (c.args.self.now.held ready.0 ∙ h.size)
+pub serve-outcome-requires-clause-some : goal.serve-outcome-requires-clause-some
+serve-outcome-requires-clause-some g c = let o = is_open c.args.self.now.units.items (head_in c.args.self.now.head) (g.S.Store.len c.args.self.now.store) c.args.dev c.requires.device c.args.self.now.right c.args.self.now.devices c.args.self.now.held in rw (c.logical-unit.ensures ∙ ap (λ v. logical_of v c.args.dev) c.deref.ensures.0) (some_blocks c.args.self.now.units.items c.args.dev o.layout c.requires.device)
+
+pub serve-outcome-requires-clause-unit : goal.serve-outcome-requires-clause-unit
+serve-outcome-requires-clause-unit g c = let o = is_open c.args.self.now.units.items (head_in c.args.self.now.head) (g.S.Store.len c.args.self.now.store) c.args.dev c.requires.device c.args.self.now.right c.args.self.now.devices c.args.self.now.held in rw (c.logical-unit.ensures ∙ ap (λ v. logical_of v c.args.dev) c.deref.ensures.0) (is_unit c.args.self.now.units.items (head_in c.args.self.now.head) (g.S.Store.len c.args.self.now.store) c.args.dev o c.requires.device)
+
+pub note-requires-clause-size : goal.note-requires-clause-size
+note-requires-clause-size g c =
+    let o = is_open c.args.self.now.units.items (head_in c.args.self.now.head) (g.S.Store.len c.args.self.now.store) c.args.dev c.requires.device c.args.self.now.right c.args.self.now.devices c.args.self.now.held in
+    let z = is_sized c.args.self.now.units.items (head_in c.args.self.now.head) c.logical-unit.result (g.S.Store.len c.args.self.now.store) c.args.dev o c.requires.device (c.logical-unit.ensures ∙ ap (λ v. logical_of v c.args.dev) c.deref.ensures.0) in
+    z.small
+
+pub note-requires-clause-room : goal.note-requires-clause-room
+note-requires-clause-room g c =
+    let o = is_open c.args.self.now.units.items (head_in c.args.self.now.head) (g.S.Store.len c.args.self.now.store) c.args.dev c.requires.device c.args.self.now.right c.args.self.now.devices c.args.self.now.held in
+    let z = is_sized c.args.self.now.units.items (head_in c.args.self.now.head) c.logical-unit.result (g.S.Store.len c.args.self.now.store) c.args.dev o c.requires.device (c.logical-unit.ensures ∙ ap (λ v. logical_of v c.args.dev) c.deref.ensures.0) in
+    room_for _ _ _ _ _ z.least c.requires.room
+
+pub invariant_of-self-clause-told : goal.invariant_of-self-clause-told
+invariant_of-self-clause-told g c = λ some.
+    head_after c.args.self.now.units.items (head_in c.args.self.now.head) c.logical-unit.result (λ bytes. target_answer (unit_in c.logical-unit.result bytes) c.args.self.now.tamper c.args.cdb.now c.args.labels.now c.args.out.now (length c.args.into.now)) (g.S.Store.bytes c.args.self.now.store) (g.S.Store.bytes c.serve-outcome.new.store) c.args.dev _ _ _ _ _
+    (c.logical-unit.ensures ∙ ap (λ v. logical_of v c.args.dev) c.deref.ensures.0) c.serve-outcome.ensures.tells c.serve-outcome.ensures.told (c.args.self.now.told some)
 
 pub returns-clause-told : goal.returns-clause-told
-returns-clause-told g c =
-    λ us e.
-    let ready = is_ready c.args.self.now.ready c.args.dev c.requires.device in
-    told c.args.self.now.ready (record { size = c.args.self.now.size; first = take c.args.self.now.have c.args.self.now.first }) c.args.dev _ _ _ us _ _ c.args.cdb.now c.args.out.now c.args.into.now _ _ ready.0 ready.1 c.blocks_at-blocks.ensures e c.serve-outcome.ensures.told
+returns-clause-told g c = λ us e.
+    let o = is_open c.args.self.now.units.items (head_in c.args.self.now.head) (g.S.Store.len c.args.self.now.store) c.args.dev c.requires.device c.args.self.now.right c.args.self.now.devices c.args.self.now.held in
+    told_by c.args.self.now.units.items (head_in c.args.self.now.head) c.logical-unit.result (g.S.Store.bytes c.args.self.now.store) (g.S.Store.bytes c.serve-outcome.new.store) c.args.dev _ _ _ _ _ _ _ _ _ _ us c.requires.device o.named (c.logical-unit.ensures ∙ ap (λ v. logical_of v c.args.dev) c.deref.ensures.0) e c.serve-outcome.ensures.told
 
 pub returns-clause-calm : goal.returns-clause-calm
-returns-clause-calm g c =
-    λ us e calm.
-    let ready = is_ready c.args.self.now.ready c.args.dev c.requires.device in
-    let t = told c.args.self.now.ready (record { size = c.args.self.now.size; first = take c.args.self.now.have c.args.self.now.first }) c.args.dev _ _ _ us _ _ c.args.cdb.now c.args.out.now c.args.into.now _ _ ready.0 ready.1 c.blocks_at-blocks.ensures e c.serve-outcome.ensures.told in
-    calm_told us c.args.dev c.args.cdb.now c.args.out.now _ _ _ _ c.args.into.now _ calm t.0 t.1 t.2
+returns-clause-calm g c = λ us e quiet.
+    let o = is_open c.args.self.now.units.items (head_in c.args.self.now.head) (g.S.Store.len c.args.self.now.store) c.args.dev c.requires.device c.args.self.now.right c.args.self.now.devices c.args.self.now.held in
+    calm us c.args.dev _ _ _ _ _ _ _ _ _ _ _ quiet
+    (told_by c.args.self.now.units.items (head_in c.args.self.now.head) c.logical-unit.result (g.S.Store.bytes c.args.self.now.store) (g.S.Store.bytes c.serve-outcome.new.store) c.args.dev _ _ _ _ _ _ _ _ _ _ us c.requires.device o.named (c.logical-unit.ensures ∙ ap (λ v. logical_of v c.args.dev) c.deref.ensures.0) e c.serve-outcome.ensures.told)
+
+pub returns-clause-recorded : goal.returns-clause-recorded
+returns-clause-recorded g c =
+    let o = is_open c.args.self.now.units.items (head_in c.args.self.now.head) (g.S.Store.len c.args.self.now.store) c.args.dev c.requires.device c.args.self.now.right c.args.self.now.devices c.args.self.now.held in
+    let z = is_sized c.args.self.now.units.items (head_in c.args.self.now.head) c.logical-unit.result (g.S.Store.len c.args.self.now.store) c.args.dev o c.requires.device (c.logical-unit.ensures ∙ ap (λ v. logical_of v c.args.dev) c.deref.ensures.0) in
+    rw z.own c.note.ensures.recorded
+
+pub returns-clause-moved : goal.returns-clause-moved
+returns-clause-moved g c =
+    let o = is_open c.args.self.now.units.items (head_in c.args.self.now.head) (g.S.Store.len c.args.self.now.store) c.args.dev c.requires.device c.args.self.now.right c.args.self.now.devices c.args.self.now.held in
+    let z = is_sized c.args.self.now.units.items (head_in c.args.self.now.head) c.logical-unit.result (g.S.Store.len c.args.self.now.store) c.args.dev o c.requires.device (c.logical-unit.ensures ∙ ap (λ v. logical_of v c.args.dev) c.deref.ensures.0) in
+    rw z.own c.note.ensures.moved

@@ -1,0 +1,31 @@
+use Rattle.std.proofs.Common.{◌++◌, sym, ap, subst, ◌∙◌, arith, refl}
+use Rattle.dix_base.specs.Told.{Appended}
+use Rattle.target_answer.specs.Frames.{joined}
+use Rattle.target_answer.specs.Image.{fresh_from}
+use Rattle.image_rig.proofs.Formats.{appended_more, becomes_tells, fresh_more, nothing_appended}
+use Rattle.image_rig.proofs.formatting.append_blocks.Goals as goal
+
+pub loop-k-init : goal.loop-k-init
+loop-k-init g c = record {
+  long = c.requires.long;
+  zeros = c.requires.zeros;
+  appended = nothing_appended (g.S.Store.bytes c.args.store.now);
+  tells = refl;
+  count = omega arith;
+  named = refl;
+  opened = refl;
+}
+
+pub loop-k-preserved : goal.loop-k-preserved
+loop-k-preserved g c =
+    let u = c.args.unit.now in
+    let more = appended_more (joined (fresh_from u.ty u.size u.first c.loop-k.k)) c.put_tuple.new.frame (g.S.Store.bytes c.args.store.now) (g.S.Store.bytes c.loop-k.store) (g.S.Store.bytes c.append.new.self) c.loop-k.invariant.appended c.in_ok-append.ensures.written in
+    record {
+      long = c.put_tuple.ensures.long;
+      zeros = c.put_tuple.ensures.zeros;
+      appended = subst (λ xs. Appended xs (g.S.Store.bytes c.args.store.now) (g.S.Store.bytes c.append.new.self)) (ap (λ f. joined (fresh_from u.ty u.size u.first c.loop-k.k) ++ f) c.put_tuple.ensures.frame ∙ sym (fresh_more u.ty u.size u.first c.loop-k.k)) more;
+      tells = becomes_tells _ (g.S.Store.bytes c.loop-k.store) (g.S.Store.bytes c.append.new.self) c.in_ok-append.ensures.written ∙ c.loop-k.invariant.tells;
+      count = omega (arith, c.loop-k.invariant.count, c.append.ensures.count);
+      named = c.append.ensures.named ∙ c.loop-k.invariant.named;
+      opened = c.append.ensures.opened ∙ c.loop-k.invariant.opened;
+    }
