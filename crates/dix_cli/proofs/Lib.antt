@@ -6,6 +6,8 @@ mod Flow
 mod FrameLemmas
 mod Headlines
 mod Lines
+mod Looking
 mod Numbers
+mod RightHeads
 mod Running
 mod WordLemmas

@@ -1,13 +1,13 @@
-use Rattle.std.proofs.Common.{ℕ, suc, ◌≡◌, ◌+◌, ◌≤◌, inl, Bool, true, false, cond, ◌||◌, List, [], ◌∷◌, ◌++◌, length, Option, Some, None, refl, sym, ap, ◌∙◌, arith, append-nil, append_assoc}
+use Rattle.std.proofs.Common.{ℕ, suc, ◌≡◌, ◌+◌, ◌≤◌, inl, Bool, true, false, cond, ◌||◌, List, [], ◌∷◌, ◌++◌, length, Option, Some, None, refl, sym, ap, subst, ◌∙◌, arith, append-nil, append_assoc}
 use Rattle.std.specs.Prelude.{codes, count_by, replicate}
 use Rattle.std.specs.List.{list_any}
 use Rattle.std.proofs.lemmas.List.{length-map}
 use Rattle.std.proofs.lemmas.List.Folds.{list_any-append}
 use Rattle.std.proofs.lemmas.List.Sums.{sum_by-append}
 use Rattle.dix_base.specs.Told.{Calm, Rose}
-use Rattle.target_answer.specs.Target.{Answer}
+use Rattle.target_answer.specs.Target.{Answer, Stored}
 use Rattle.rig_api.specs.Log.{HasRoom, Room}
-use Rattle.rig_api.specs.Telling.{KeepsHead, Stored, unit_at, with_blocks}
+use Rattle.rig_api.specs.Telling.{unit_at, with_blocks}
 use Rattle.whole_run.specs.declared.op.Op.{Op}
 use Rattle.whole_run.specs.declared.reply.Reply.{Reply}
 use Rattle.whole_run.specs.Report.{lines_from, lines_of, report}
@@ -16,7 +16,7 @@ use Rattle.whole_run.specs.Telling.{Told, answer_to, answered_by, served, told_w
 use Rattle.whole_run.proofs.Walks.{ops_of_more, replies_length, told_walk_more, walk_more}
 use Rattle.whole_run.proofs.Listing.{walk_listed}
 use Rattle.dix_cli.proofs.Acts.{blocks_put}
-use Rattle.dix_cli.specs.Runs.{Did, Ran, RoseBy, Seen, Spent}
+use Rattle.dix_cli.specs.Runs.{Did, IsSmall, Ran, RoseBy, Seen, Spent}
 
 lines_more : (n : ℕ) (rs : List Reply) (r : Reply) → lines_from n (rs ++ (r ∷ [])) ≡ lines_from n rs ++ lines_of (n + length rs) r
 lines_more n [] r = let e : n + 0 ≡ n = omega arith in rw e (append-nil (lines_of n r))
@@ -56,7 +56,7 @@ ran_none s = record {
   text_is = sym (append-nil (codes "dix report 1\n"));
   bad_is = refl;
   listed = tt;
-  calm = λ us e l c. (refl, e ∙ ap Some (sym (no_blocks us l)));
+  calm = λ us e k c. (refl, e ∙ ap Some (sym (no_blocks us k.1)));
   told = λ t. (t, refl);
   medium = inl (omega arith);
   count = omega arith;
@@ -72,24 +72,31 @@ calm_then : (a b c : ℕ) → a ≤ b → Calm a c → Calm b c
 calm_then a b c h p = (omega (arith, p.0), p.1)
 
 -- a calm op of a walk at the unit
-calm_more : (us : List Stored) (page : List ℕ) (blocks : List (List ℕ)) (ops : List Op) (op : Op) (start was : State) (answered : Answered) (units : Option (List Stored)) →
-    length (unit_at us 0).blocks ≡ 4 →
+calm_more : (us : List Stored) (page : List ℕ) (blocks : List (List ℕ)) (ops : List Op) (op : Op) (number : ℕ) (start was : State) (answered : Answered) (units : Option (List Stored)) →
+    length (unit_at us 0).blocks ≡ 4 → number ≡ length was.replies + 1 →
     was ≡ (told_walk (record { state = start; blocks = (unit_at us 0).blocks }) ops).state → blocks ≡ (told_walk (record { state = start; blocks = (unit_at us 0).blocks }) ops).blocks → page ≡ was.page →
-    answered ≡ answered_by (answer_to op page (unit_at (with_blocks us 0 blocks) 0).blocks) → units ≡ Some (with_blocks (with_blocks us 0 blocks) 0 (answer_to op page (unit_at (with_blocks us 0 blocks) 0).blocks).blocks) →
+    answered ≡ answered_by (answer_to number op page (unit_at (with_blocks us 0 blocks) 0).blocks) → units ≡ Some (with_blocks (with_blocks us 0 blocks) 0 (answer_to number op page (unit_at (with_blocks us 0 blocks) 0).blocks).blocks) →
     (step was (record { op = op; answered = answered }) ≡ (told_walk (record { state = start; blocks = (unit_at us 0).blocks }) (ops ++ (op ∷ []))).state)
     × (units ≡ Some (with_blocks us 0 (told_walk (record { state = start; blocks = (unit_at us 0).blocks }) (ops ++ (op ∷ []))).blocks))
-calm_more us page blocks ops op start was answered units l w b p a u =
+calm_more us page blocks ops op number start was answered units l n w b p a u =
     let begin : Told = record { state = start; blocks = (unit_at us 0).blocks } in
     let now : Told = told_walk begin ops in
     let more : told_walk begin (ops ++ (op ∷ [])) ≡ served now op = told_walk_more begin ops op in
     let own : (unit_at (with_blocks us 0 blocks) 0).blocks ≡ blocks = blocks_put us blocks l in
     let page_now : page ≡ now.state.page = p ∙ ap (λ (s : State). s.page) w in
-    let same : answer_to op page (unit_at (with_blocks us 0 blocks) 0).blocks ≡ answer_to op now.state.page now.blocks =
-    ap (λ v. answer_to op v (unit_at (with_blocks us 0 blocks) 0).blocks) page_now ∙ ap (answer_to op now.state.page) (own ∙ b) in
-    let answer : answered ≡ answered_by (answer_to op now.state.page now.blocks) = a ∙ ap answered_by same in (
+    let number_now : number ≡ length now.state.replies + 1 = n ∙ ap (λ (s : State). length s.replies + 1) w in
+    let same : answer_to number op page (unit_at (with_blocks us 0 blocks) 0).blocks ≡ answer_to (length now.state.replies + 1) op now.state.page now.blocks =
+    ap (λ v. answer_to number op v (unit_at (with_blocks us 0 blocks) 0).blocks) page_now ∙ ap (answer_to number op now.state.page) (own ∙ b) ∙ ap (λ v. answer_to v op now.state.page now.blocks) number_now in
+    let answer : answered ≡ answered_by (answer_to (length now.state.replies + 1) op now.state.page now.blocks) = a ∙ ap answered_by same in (
       ap (λ v. step v (record { op = op; answered = answered })) w ∙ ap (λ (v : Answered). step now.state (record { op = op; answered = v })) answer ∙ ap (λ (t : Told). t.state) (sym more),
       u ∙ ap Some (put_twice us blocks _) ∙ ap (λ (v : Answer). Some (with_blocks us 0 v.blocks)) same ∙ ap (λ (t : Told). Some (with_blocks us 0 t.blocks)) (sym more),
     )
+
+also_small : (us us' : List Stored) (units : Option (List Stored)) → units ≡ Some us → units ≡ Some us' → IsSmall (unit_at us 0) → IsSmall (unit_at us' 0)
+also_small us us' units p q k = let e : us ≡ us' = some_is us us' (sym p ∙ q) in subst (λ (v : List Stored). IsSmall (unit_at v 0)) e k
+  where
+    some_is : (a b : List Stored) → ◌≡◌ {A = Option (List Stored)} (Some a) (Some b) → a ≡ b
+    some_is a b e = cc
 
 either_none : (a b : Bool) → a ≡ false → b ≡ false → (a || b) ≡ false
 either_none a b p q = grind arith
@@ -123,10 +130,11 @@ ran_more ops op number page page' text text' bad bad' r old mid new n ran did te
       text_is = texts ∙ ap (λ v. v ++ lines_of number r) ran.text_is ∙ ap (λ v. report was.replies ++ lines_of v r) lens ∙ sym (report_more was.replies r) ∙ ap report (sym replies);
       bad_is = bads ∙ ap (λ v. v || is_bad r) ran.bad_is ∙ sym (any_more is_bad was.replies r) ∙ ap (list_any is_bad) (sym replies);
       listed = walk_listed turns old.log;
-      calm = λ us e l c.
-          let first = ran.calm us e l (calm_first old.faults mid.faults new.faults did.count c) in
-          let next = did.calm _ first.1 (calm_then old.faults mid.faults new.faults ran.count c) in
-          let m = calm_more us page _ ops op start was did.answered new.units l first.0 refl page_was next.0 next.1 in
+      calm = λ us e k c.
+          let first = ran.calm us e k (calm_first old.faults mid.faults new.faults did.count c) in
+          let mid_told = (ran.told (us, e, k)).0 in
+          let next = did.calm _ first.1 (also_small mid_told.0 _ mid.units mid_told.1 first.1 mid_told.2) (calm_then old.faults mid.faults new.faults ran.count c) in
+          let m = calm_more us page _ ops op number start was did.answered new.units k.1 lens first.0 refl page_was next.0 next.1 in
           (is ∙ m.0, m.1);
       told = λ t.
           let first = ran.told t in
@@ -137,21 +145,9 @@ ran_more ops op number page page' text text' bad bad' r old mid new n ran did te
     }
 
 -- the room that is left after one exchange
-pub room_left : (n : ℕ) (old new : Room) → HasRoom (suc n) (suc n) old → Spent old new → HasRoom n n new
+pub room_left : (n : ℕ) (old new : Room) → HasRoom 512 (suc n) (suc n) old → Spent old new → HasRoom 512 n n new
 room_left n old new h s = record {
   records = omega (arith, h.records, s.records);
   labels = omega (arith, h.labels, s.labels);
   moved = omega (arith, h.moved, s.moved);
 }
-
-pub keeps_both : (a b c : Option (List ℕ)) → KeepsHead a b → KeepsHead b c → KeepsHead a c
-keeps_both None None None p q = tt
-keeps_both (Some a) (Some b) (Some c) p q = (q.0 ∙ p.0, q.1 ∙ p.1)
-keeps_both None None (Some c) p q = q
-keeps_both None (Some b) c p q = absurd p
-keeps_both (Some a) None c p q = absurd p
-keeps_both (Some a) (Some b) None p q = q
-
-pub keeps_all : (a : Option (List ℕ)) → KeepsHead a a
-keeps_all None = tt
-keeps_all (Some a) = (refl, refl)

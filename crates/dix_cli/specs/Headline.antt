@@ -1,20 +1,20 @@
-use Rattle.std.specs.Prelude.{ℕ, ◌≡◌, ◌⊎◌, true, List, ◌++◌, take, Option, Some, None}
+use Rattle.std.specs.Prelude.{ℕ, ◌≡◌, ◌⊎◌, true, List, [], ◌∷◌, ◌++◌, take, drop, Option, Some, None}
 use Rattle.dix_base.specs.Told.{Calm}
-use Rattle.target_answer.specs.Frames.{joined}
-use Rattle.target_answer.specs.Image.{blocks_in, stored}
-use Rattle.rig_api.specs.Head.{head_fault, head_of}
+use Rattle.target_answer.specs.Frames.{frames_of, joined}
+use Rattle.rig_api.specs.Head.{head_fault, head_of, units_of}
 use Rattle.whole_run.specs.declared.op.Op.{Op}
 use Rattle.whole_run.specs.Plain.{AreClean, Plain, plain_run, under}
 use Rattle.whole_run.specs.Report.{report}
+use Rattle.whole_run.specs.Small.{small_spec}
 use Rattle.dix_cli.specs.Words.{image_in, is_run}
 use Rattle.dix_cli.specs.Reading.{script_of}
 use Rattle.dix_cli.specs.Verdict.{Ended, Facts, OpenedOnce}
 use Rattle.dix_cli.specs.declared.status.Status.{Status}
 use Rattle.dix_cli.specs.declared.status.Status.TheVariants.{Whole, SomeBad, Memory}
 
--- the stored blocks of an image, as its header tells their number
+-- the stored blocks of an image of the small unit
 abbrev pub blocks_of_image : List ℕ → List (List ℕ)
-blocks_of_image image = stored (blocks_in (take 512 image)) image
+blocks_of_image image = frames_of 520 4 (drop 512 image)
 
 -- A script was run.
 abbrev pub IsRun : Status → Type 0
@@ -33,10 +33,10 @@ RunEqualsPlain f taken taken' result =
     AreClean 0 (blocks_of_image image) → Calm f.rig.seen.faults f.rig_after.seen.faults → IsRun result →
     LeavesPlain (plain_run (blocks_of_image image) ops) image written result taken' f.rig_after.image
 
--- Words in the grammar, a script in the language, an image whose head is right, and no fault give a run, or want of memory.
+-- Words in the grammar, a script in the language, an image whose head is right and tells the small unit, and no fault give a run, or want of memory.
 abbrev pub IsComplete : Facts → ℕ → ℕ → Status → Type 0
 IsComplete f o n result =
-    (text image : List ℕ) (ops : List Op) → is_run f.words ≡ true → f.left ≡ Some text → script_of text ≡ Some ops → f.rig.image ≡ Some image → head_fault (head_of image) ≡ None →
+    (text image : List ℕ) (ops : List Op) → is_run f.words ≡ true → f.left ≡ Some text → script_of text ≡ Some ops → f.rig.image ≡ Some image → head_fault (head_of image) ≡ None → units_of (head_of image) ≡ small_spec ∷ [] →
     Calm f.reads f.reads_after → Calm f.rig.seen.faults f.rig_after.seen.faults → Calm o n → IsRun result ⊎ (result ≡ Memory)
 
 -- The rig was opened at most once more, by the name in the words.

@@ -3,7 +3,9 @@ use Rattle.std.specs.Global.{Vec}
 use Rattle.std.specs.List.{list_any}
 use Rattle.dix_base.specs.Told.{Calm, Rose}
 use Rattle.rig_api.specs.Log.{Entry, Room}
-use Rattle.rig_api.specs.Telling.{Stored, unit_at, with_blocks}
+use Rattle.target_answer.specs.Target.{Stored}
+use Rattle.rig_api.specs.Telling.{Standing, spec_at, unit_at, with_blocks}
+use Rattle.whole_run.specs.Small.{small_unit}
 use Rattle.whole_run.specs.declared.op.Op.{Op}
 use Rattle.whole_run.specs.declared.reply.Reply.{Reply}
 use Rattle.whole_run.specs.Walk.{Answered, Turn, begun, is_bad, is_medium_line, is_unanswered, ops_of, page_after, records_of, reply_to, walk}
@@ -20,9 +22,17 @@ pub record Seen : Type 0 where
 abbrev pub seen : Option (List Stored) → List Entry → ℕ → Seen
 seen units log faults = record { units = units; log = log; faults = faults }
 
--- A unit with four blocks is told.
-abbrev pub TellsFour : Option (List Stored) → Type 0
-TellsFour units = (us : List Stored) × (units ≡ Some us) × (length (unit_at us 0).blocks ≡ 4)
+-- There is one device, with blocks of 512 bytes.
+abbrev pub StandsSmall : Standing → Type 0
+StandsSmall s = (s.devices ≡ 1) × ((spec_at s 0).size ≡ 512)
+
+-- It is the small unit, with four blocks.
+abbrev pub IsSmall : Stored → Type 0
+IsSmall u = (u ≡ small_unit u.blocks) × (length u.blocks ≡ 4)
+
+-- Such a unit is told.
+abbrev pub TellsSmall : Option (List Stored) → Type 0
+TellsSmall units = (us : List Stored) × (units ≡ Some us) × IsSmall (unit_at us 0)
 
 -- One op was done: for some answer of the rig, page, reply and records are those of the walk's step. A rig that tells its blocks and had no fault gave the unit's answer.
 pub record Did (number : ℕ) (op : Op) (page page' : List ℕ) (reply : Reply) (old new : Seen) : Type 0 where
@@ -31,9 +41,9 @@ pub record Did (number : ℕ) (op : Op) (page page' : List ℕ) (reply : Reply) 
   pub page_is : page' ≡ page_after op answered page
   pub reply_is : reply ≡ reply_to op answered page
   pub log_is : new.log ≡ old.log ++ records_of number op answered page
-  pub calm : (us : List Stored) → old.units ≡ Some us → Calm old.faults new.faults →
-      (answered ≡ answered_by (answer_to op page (unit_at us 0).blocks)) × (new.units ≡ Some (with_blocks us 0 (answer_to op page (unit_at us 0).blocks).blocks))
-  pub told : TellsFour old.units → TellsFour new.units × (is_unanswered reply ≡ false)
+  pub calm : (us : List Stored) → old.units ≡ Some us → IsSmall (unit_at us 0) → Calm old.faults new.faults →
+      (answered ≡ answered_by (answer_to number op page (unit_at us 0).blocks)) × (new.units ≡ Some (with_blocks us 0 (answer_to number op page (unit_at us 0).blocks).blocks))
+  pub told : TellsSmall old.units → TellsSmall new.units × (is_unanswered reply ≡ false)
   pub medium : is_medium_line reply ≡ true → Rose old.faults new.faults
   pub count : old.faults ≤ new.faults
 
@@ -56,10 +66,10 @@ pub record Ran (ops : List Op) (page : List ℕ) (text : List ℕ) (bad : Bool) 
   pub text_is : text ≡ report (walk (begun old.log) turns).replies
   pub bad_is : bad ≡ list_any is_bad (walk (begun old.log) turns).replies
   pub listed : AreListedExactly turns (walk (begun old.log) turns).replies
-  pub calm : (us : List Stored) → old.units ≡ Some us → length (unit_at us 0).blocks ≡ 4 → Calm old.faults new.faults →
+  pub calm : (us : List Stored) → old.units ≡ Some us → IsSmall (unit_at us 0) → Calm old.faults new.faults →
       (walk (begun old.log) turns ≡ (told_walk (record { state = begun old.log; blocks = (unit_at us 0).blocks }) ops).state)
       × (new.units ≡ Some (with_blocks us 0 (told_walk (record { state = begun old.log; blocks = (unit_at us 0).blocks }) ops).blocks))
-  pub told : TellsFour old.units → TellsFour new.units × (list_any is_unanswered (walk (begun old.log) turns).replies ≡ false)
+  pub told : TellsSmall old.units → TellsSmall new.units × (list_any is_unanswered (walk (begun old.log) turns).replies ≡ false)
   pub medium : RoseBy (count_by is_medium_line (walk (begun old.log) turns).replies) old.faults new.faults
   pub count : old.faults ≤ new.faults
 

@@ -1,12 +1,16 @@
-use Rattle.std.specs.Prelude.{ℕ, ◌≡◌, ◌≤◌, ◌⊎◌, Bool, true, false, if◌then◌else◌, List, ◌++◌, codes, Option, Some, None}
+use Rattle.std.specs.Prelude.{ℕ, ◌≡◌, ◌+◌, ◌≤◌, ◌⊎◌, Bool, true, false, if◌then◌else◌, List, [], ◌∷◌, ◌++◌, codes, Option, Some, None}
 use Rattle.dix_base.specs.Told.{Appended, AppendedSome, Rose}
-use Rattle.rig_api.specs.Head.{IsHeadOf, fault_name, head_fault}
-use Rattle.rig_api.specs.Telling.{IsLaid, KeepsHead, Opened, Standing, Stayed}
+use Rattle.target_answer.specs.Target.{capacity_data}
+use Rattle.rig_api.specs.Head.{IsHeadOf, fault_name, head_fault, units_of}
+use Rattle.rig_api.specs.Log.{Entry, Room, entry_of}
+use Rattle.rig_api.specs.Telling.{Opened, Standing, Stayed, spec_at, units_told}
+use Rattle.rig_api.specs.declared.rig.Outcome.{Outcome}
 use Rattle.rig_api.specs.declared.rig.RigFault.{RigFault}
+use Rattle.whole_run.specs.Small.{small_spec}
 use Rattle.whole_run.specs.declared.op.Op.{Op}
 use Rattle.dix_cli.specs.Words.{image_in, is_run}
 use Rattle.dix_cli.specs.Reading.{IsOver, IsWhole, script_of}
-use Rattle.dix_cli.specs.Runs.{Ran, Seen}
+use Rattle.dix_cli.specs.Runs.{Ran, Seen, StandsSmall}
 use Rattle.dix_cli.specs.declared.status.Status.{Status}
 use Rattle.dix_cli.specs.declared.status.Status.TheVariants as status
 use Rattle.dix_cli.specs.declared.refusal.Refusal.{Refusal}
@@ -51,10 +55,40 @@ pub record HasKept (old new : View) : Type 0 where
   pub log : new.seen.log ≡ old.seen.log
   pub count : old.seen.faults ≤ new.seen.faults
 
+-- READ CAPACITY(16) with room for 32 bytes (SBC-3, 5.16)
+abbrev pub look : List ℕ
+look = 0x9E ∷ 0x10 ∷ 0 ∷ 0 ∷ 0 ∷ 0 ∷ 0 ∷ 0 ∷ 0 ∷ 0 ∷ 0 ∷ 0 ∷ 0 ∷ 32 ∷ 0 ∷ 0 ∷ []
+
+-- what the small unit answers
+abbrev pub small_data : List ℕ
+small_data = capacity_data small_spec
+
+-- The device was asked for its capacity at most once, and this is the record of it.
+abbrev pub IsLook : (size : ℕ) → List Entry → Type 0
+IsLook size records = (records ≡ []) ⊎ ((o : Outcome) × (into : List ℕ) × (records ≡ entry_of size 0 look [] o [] into ∷ []))
+
+-- One look took of the spare room at most this.
+pub record IsSpent (old new : Room) : Type 0 where
+  pub records : old.records ≤ new.records + 1
+  pub labels : old.labels ≤ new.labels
+  pub moved : old.moved ≤ new.moved + 32
+
+-- It was looked whether the image's units are the small unit: where the image is told the answer says so. All but the records is as before.
+pub record Looked (small : Bool) (old new : View) : Type 0 where
+  pub records : List Entry
+  pub look : IsLook (spec_at old.standing 0).size records
+  pub log : new.seen.log ≡ old.seen.log ++ records
+  pub standing : new.standing ≡ old.standing
+  pub units : new.seen.units ≡ old.seen.units
+  pub yes : (image : List ℕ) → old.image ≡ Some image → small ≡ true → units_of old.standing.head ≡ small_spec ∷ []
+  pub no : (image : List ℕ) → old.image ≡ Some image → small ≡ false → units_of old.standing.head ≡ small_spec ∷ [] → ⊥
+  pub count : old.seen.faults ≤ new.seen.faults
+
 abbrev pub status_of : Refusal → Status
 status_of refusal.Words = status.Words
 status_of refusal.Script = status.Script
 status_of (refusal.Image fault) = status.Image
+status_of refusal.NotBuilt = status.Image
 status_of refusal.RigFault = status.RigFault
 status_of refusal.Memory = status.Memory
 status_of refusal.ReadFault = status.ReadFault
@@ -64,6 +98,7 @@ abbrev pub refusal_text : Refusal → List ℕ
 refusal_text refusal.Words = codes "usage: dix run IMAGE, trace IMAGE, format IMAGE T:BLOCKS.., big N SEED\n"
 refusal_text refusal.Script = codes "script 0 0 NotBuilt\n"
 refusal_text (refusal.Image fault) = codes "image " ++ (fault_name fault ++ codes "\n")
+refusal_text refusal.NotBuilt = codes "image NotBuilt\n"
 refusal_text refusal.RigFault = codes "rig fault\n"
 refusal_text refusal.Memory = codes "no memory\n"
 refusal_text refusal.ReadFault = codes "read fault\n"
@@ -73,6 +108,7 @@ abbrev pub CauseUnread : Refusal → Option (List ℕ) → Option (List ℕ) →
 CauseUnread refusal.Words old new o n = ⊥
 CauseUnread refusal.Script old new o n = ReadsAs None old new ⊎ IsOver old new
 CauseUnread (refusal.Image fault) old new o n = ⊥
+CauseUnread refusal.NotBuilt old new o n = ⊥
 CauseUnread refusal.RigFault old new o n = ⊥
 CauseUnread refusal.Memory old new o n = Unit {0}
 CauseUnread refusal.ReadFault old new o n = Rose o n
@@ -82,15 +118,24 @@ abbrev pub CauseUnopened : Refusal → List ℕ → View → View → Type 0
 CauseUnopened refusal.Words name old new = ⊥
 CauseUnopened refusal.Script name old new = ⊥
 CauseUnopened (refusal.Image fault) name old new = WasOpened name (Some fault) old new
+CauseUnopened refusal.NotBuilt name old new = ⊥
 CauseUnopened refusal.RigFault name old new = Rose old.seen.faults new.seen.faults × Opened name old.standing new.standing
 CauseUnopened refusal.Memory name old new = Unit {0}
 CauseUnopened refusal.ReadFault name old new = ⊥
 
--- Why a call comes to no run. The image's bytes and the records are as before in each case; where the image isn't opened all is.
+-- The image of this name was opened, and its units aren't the small unit.
+pub record IsNotBuilt (name : List ℕ) (old new : View) : Type 0 where
+  pub between : View
+  pub opened : WasOpened name None old between
+  pub kept : HasKept old between
+  pub looked : Looked false between new
+
+-- Why a call comes to no run. The image's bytes and the records are as before, but for the one of READ CAPACITY; where the image isn't opened all is.
 abbrev pub CauseRefused : Refusal → Facts → Type 0
 CauseRefused refusal.Words f = (is_run f.words ≡ false) × (f.rig_after ≡ f.rig) × (f.left_after ≡ f.left) × (f.reads_after ≡ f.reads)
 CauseRefused refusal.Script f = (is_run f.words ≡ true) × (f.rig_after ≡ f.rig) × (ReadsAs None f.left f.left_after ⊎ IsOver f.left f.left_after)
 CauseRefused (refusal.Image fault) f = (is_run f.words ≡ true) × ((ops : List Op) × ReadsAs (Some ops) f.left f.left_after) × HasKept f.rig f.rig_after × WasOpened (image_in f.words) (Some fault) f.rig f.rig_after
+CauseRefused refusal.NotBuilt f = (is_run f.words ≡ true) × ((ops : List Op) × ReadsAs (Some ops) f.left f.left_after) × IsNotBuilt (image_in f.words) f.rig f.rig_after
 CauseRefused refusal.RigFault f =
     (is_run f.words ≡ true) × ((ops : List Op) × ReadsAs (Some ops) f.left f.left_after) × HasKept f.rig f.rig_after
     × Rose f.rig.seen.faults f.rig_after.seen.faults × Opened (image_in f.words) f.rig.standing f.rig_after.standing
@@ -105,12 +150,13 @@ pub record HasRun (f : Facts) (bad : Bool) (text : List ℕ) : Type 0 where
   pub between : View
   pub opened : WasOpened (image_in f.words) None f.rig between
   pub kept : HasKept f.rig between
-  pub laid : IsLaid between.standing between.image between.seen.units
-  pub devices : between.standing.devices ≡ 1
-  pub standing : f.rig_after.standing ≡ between.standing
-  pub head : KeepsHead between.image f.rig_after.image
+  pub laid : between.seen.units ≡ units_told between.standing between.image
+  pub looked : View
+  pub small : Looked true between looked
+  pub device : StandsSmall looked.standing
+  pub standing : f.rig_after.standing ≡ looked.standing
   pub page : List ℕ
-  pub ran : Ran ops page text bad between.seen f.rig_after.seen
+  pub ran : Ran ops page text bad looked.seen f.rig_after.seen
 
 -- what a call comes to, before it writes the text
 pub data Verdict : Type 0 where

@@ -1,13 +1,15 @@
 //! What becomes of a block, by what the rig answered.
 
 ghost use Rattle.std.specs.Prelude.{◌≡◌, ℕ, List, length};
+ghost use Rattle.whole_run.specs.Small.{judged};
 ghost use Rattle.whole_run.specs.Senses.{is_medium, named_by, why_ended};
 ghost use Rattle.whole_run.specs.Walk.{fate_of_read, fate_of_write, reply_of};
 
+use bio_core::Why;
+use pi_tuple::{Check, PiType};
 use rig_api::Outcome;
 use sense_codes::{Layer, Sense, layer_and_check};
-use target_answer::judge;
-use bio_core::Why;
+use target_answer::Passage;
 use whole_run::Reply;
 
 /// The layer and the check that the sense names.
@@ -58,6 +60,24 @@ pub(crate) fn write_fate(outcome: Outcome) -> Option<Why>
     Some(why_by(outcome.sense))
 }
 
+/// What the adapter finds in a frame.
+fn judge(block: u32, frame: &[u8]) -> Option<Check>
+    requires { length frame.now ≡ 520 }
+    ensures { result ≡ judged block frame.now }
+{
+    let passage = Passage {
+        ty: PiType::One,
+        size: 512,
+        protect: 1,
+        lba: block as u64,
+        rtag: 0,
+        app: 0,
+        mask: 0,
+        label: None,
+    };
+    passage.finding(frame)
+}
+
 /// Why the one block of a read failed, where it did: the adapter checks the frame that came.
 pub(crate) fn read_fate(block: u32, outcome: Outcome, frame: &[u8]) -> Option<Why>
     requires { length frame.now ≡ 520 }
@@ -66,7 +86,7 @@ pub(crate) fn read_fate(block: u32, outcome: Outcome, frame: &[u8]) -> Option<Wh
     if outcome.done == 0 {
         return Some(why_by(outcome.sense));
     }
-    match judge(frame, block as u64) {
+    match judge(block, frame) {
         Some(check) => Some(Why::Adapter(check)),
         None => None,
     }

@@ -2,7 +2,7 @@
 
 ghost use Rattle.std.specs.Prelude.{◌≡◌, ◌+◌, ◌≤◌, length, replicate};
 ghost use Rattle.dix_base.specs.Told.{over};
-ghost use Rattle.target_answer.specs.Frames.{data_of};
+ghost use Rattle.whole_run.specs.Small.{data_of};
 ghost use Rattle.whole_run.specs.Ops.{made, part, read_ten, ten, write_ten};
 ghost use Rattle.whole_run.specs.Walk.{landed};
 

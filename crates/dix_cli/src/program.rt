@@ -1,16 +1,16 @@
 //! The top call.
 
-ghost use Rattle.std.specs.Prelude.{◌≡◌, ◌≤◌, ◌⊎◌, true, false, if◌then◌else◌, length, IfOk, MatchResult, OnOk};
+ghost use Rattle.std.specs.Prelude.{◌≡◌, ◌≤◌, ◌⊎◌, [], true, false, if◌then◌else◌, length, IfOk, MatchResult, OnOk};
 ghost use Rattle.std.specs.List.{list_all};
 ghost use Rattle.dix_cli.specs.Words.{image_in, is_run, word_bytes};
 ghost use Rattle.rig_api.specs.Log.{HasRoom};
-ghost use Rattle.dix_cli.specs.Runs.{seen};
+ghost use Rattle.dix_cli.specs.Runs.{StandsSmall, seen};
 ghost use Rattle.dix_cli.specs.Headline.{Carries};
 ghost use Rattle.dix_cli.specs.Verdict.{CauseRefused, Facts, Written, refusal_text, status_of, view};
 ghost use Rattle.dix_cli.specs.Ready.{IsReady};
 ghost use Rattle.dix_cli.specs.declared.status.Status.{Status};
 
-use crate::opening::{open, read_ops, take_room};
+use crate::opening::{is_small, open, read_ops, take_room};
 use crate::refusal::Refusal;
 use crate::runner::{Report, run_ops};
 use crate::status::Status;
@@ -45,8 +45,9 @@ fn prepare<S: Source, R: Rig>(
       rig_after = view (R.image rig.new) (R.standing rig.new) (seen (R.units rig.new) (R.log rig.new) (R.faults rig.new));
     } in
         MatchResult result (λ r. IsReady r f) (λ r. CauseRefused r f) }
-    ensures device { OnOk result ((R.standing rig.new).devices ≡ 1) }
-    ensures room { IfOk result (λ r. HasRoom (length r.ops.items) (length r.ops.items) (R.room rig.new)) }
+    ensures device { OnOk result (StandsSmall (R.standing rig.new)) }
+    ensures calm { OnOk result (R.armed rig.new ≡ []) }
+    ensures room { IfOk result (λ r. HasRoom 512 (length r.ops.items) (length r.ops.items) (R.room rig.new)) }
 {
     let Some(image) = image_of(words) else {
         return Err(Refusal::Words);
@@ -54,6 +55,9 @@ fn prepare<S: Source, R: Rig>(
     let ops = read_ops(alloc, script)?;
     open(alloc, image, rig)?;
     let report = take_room(alloc, ops.len(), rig)?;
+    if !is_small(rig) {
+        return Err(Refusal::NotBuilt);
+    }
     Ok(Ready { ops, report })
 }
 

@@ -16,6 +16,8 @@ pub enum Refusal {
     Script,
     /// The image's head has this fault.
     Image(RigFault),
+    /// The image has other units than the one that is served.
+    NotBuilt,
     /// The rig failed as the image was opened.
     RigFault,
     /// Want of memory.
@@ -33,6 +35,7 @@ impl Refusal {
             Refusal::Words => Status::Words,
             Refusal::Script => Status::Script,
             Refusal::Image(_) => Status::Image,
+            Refusal::NotBuilt => Status::Image,
             Refusal::RigFault => Status::RigFault,
             Refusal::Memory => Status::Memory,
             Refusal::ReadFault => Status::ReadFault,
@@ -52,6 +55,7 @@ impl Refusal {
                 add(&mut line, fault.name().as_bytes());
                 add(&mut line, b"\n");
             }
+            Refusal::NotBuilt => add(&mut line, b"image NotBuilt\n"),
             Refusal::RigFault => add(&mut line, b"rig fault\n"),
             Refusal::Memory => add(&mut line, b"no memory\n"),
             Refusal::ReadFault => add(&mut line, b"read fault\n"),

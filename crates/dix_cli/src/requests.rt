@@ -1,9 +1,8 @@
 //! What each op does: requests go to the rig, the others stay in the page.
 
-ghost use Rattle.std.specs.Prelude.{◌≡◌, ◌<◌, ◌≤◌, true, length};
-ghost use Rattle.dix_cli.specs.Runs.{Did, Spent, seen};
+ghost use Rattle.std.specs.Prelude.{◌≡◌, [], true, length};
+ghost use Rattle.dix_cli.specs.Runs.{Did, Spent, StandsSmall, seen};
 ghost use Rattle.rig_api.specs.Log.{HasRoom};
-ghost use Rattle.rig_api.specs.Telling.{KeepsHead};
 ghost use Rattle.whole_run.specs.Ops.{fits, part};
 ghost use Rattle.whole_run.specs.declared.reply.Reply.{Reply};
 ghost use Rattle.whole_run.specs.declared.op.Op.{Op};
@@ -16,15 +15,16 @@ use whole_run::{Op, Reply, ShownBytes};
 
 /// Writes a block of the page: one command, one exchange.
 fn write<R: Rig>(rig: &mut R, number: u32, block: u32, at: u32, page: &[u8]) -> Reply
-    requires device { 0 < (R.standing rig.old).devices }
-    requires room { HasRoom 1 1 (R.room rig.old) }
+    requires device { StandsSmall (R.standing rig.old) }
+    requires calm { R.armed rig.old ≡ [] }
+    requires room { HasRoom 512 1 1 (R.room rig.old) }
     requires page { length page.now ≡ 4096 }
     requires fits { fits (Op.Write block at) ≡ true }
     ensures did { Did number (Op.Write block at) page.now page.now result
         (seen (R.units rig.old) (R.log rig.old) (R.faults rig.old))
         (seen (R.units rig.new) (R.log rig.new) (R.faults rig.new)) }
     ensures standing { R.standing rig.new ≡ R.standing rig.old }
-    ensures image { KeepsHead (R.image rig.old) (R.image rig.new) }
+    ensures calm { R.armed rig.new ≡ [] }
     ensures room { Spent (R.room rig.old) (R.room rig.new) }
 {
     let frame = frame_for(block, block_at(page, at));
@@ -36,15 +36,16 @@ fn write<R: Rig>(rig: &mut R, number: u32, block: u32, at: u32, page: &[u8]) -> 
 
 /// Reads a block into the page: one command, one exchange, and the adapter's check.
 fn read<R: Rig>(rig: &mut R, number: u32, block: u32, at: u32, page: &mut [u8]) -> Reply
-    requires device { 0 < (R.standing rig.old).devices }
-    requires room { HasRoom 1 1 (R.room rig.old) }
+    requires device { StandsSmall (R.standing rig.old) }
+    requires calm { R.armed rig.old ≡ [] }
+    requires room { HasRoom 512 1 1 (R.room rig.old) }
     requires page { length page.old ≡ 4096 }
     requires fits { fits (Op.Read block at) ≡ true }
     ensures did { Did number (Op.Read block at) page.old page.new result
         (seen (R.units rig.old) (R.log rig.old) (R.faults rig.old))
         (seen (R.units rig.new) (R.log rig.new) (R.faults rig.new)) }
     ensures standing { R.standing rig.new ≡ R.standing rig.old }
-    ensures image { KeepsHead (R.image rig.old) (R.image rig.new) }
+    ensures calm { R.armed rig.new ≡ [] }
     ensures room { Spent (R.room rig.old) (R.room rig.new) }
 {
     let label = [Label { op: number, k: 0 }];
@@ -68,15 +69,16 @@ fn shown(page: &[u8], at: u32, len: u32) -> Reply
 
 /// Does one op.
 pub(crate) fn act<R: Rig>(rig: &mut R, number: u32, op: Op, page: &mut [u8]) -> Reply
-    requires device { 0 < (R.standing rig.old).devices }
-    requires room { HasRoom 1 1 (R.room rig.old) }
+    requires device { StandsSmall (R.standing rig.old) }
+    requires calm { R.armed rig.old ≡ [] }
+    requires room { HasRoom 512 1 1 (R.room rig.old) }
     requires page { length page.old ≡ 4096 }
     requires fits { fits op ≡ true }
     ensures did { Did number op page.old page.new result
         (seen (R.units rig.old) (R.log rig.old) (R.faults rig.old))
         (seen (R.units rig.new) (R.log rig.new) (R.faults rig.new)) }
     ensures standing { R.standing rig.new ≡ R.standing rig.old }
-    ensures image { KeepsHead (R.image rig.old) (R.image rig.new) }
+    ensures calm { R.armed rig.new ≡ [] }
     ensures room { Spent (R.room rig.old) (R.room rig.new) }
 {
     match op {

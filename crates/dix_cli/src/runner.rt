@@ -1,12 +1,11 @@
 //! Runs the ops of a script, one after another.
 
-ghost use Rattle.std.specs.Prelude.{◌≡◌, ◌+◌, ◌*◌, ◌<◌, ◌≤◌, ◌++◌, ◌||◌, true, false, IfOk, List, codes, length, ℕ};
+ghost use Rattle.std.specs.Prelude.{◌≡◌, ◌+◌, ◌*◌, ◌≤◌, ◌++◌, ◌||◌, [], true, false, IfOk, List, codes, length, ℕ};
 ghost use Rattle.whole_run.specs.Report.{lines_of};
 ghost use Rattle.whole_run.specs.Walk.{is_bad};
 ghost use Rattle.std.specs.List.{list_all};
-ghost use Rattle.dix_cli.specs.Runs.{Ran, room_for, seen};
+ghost use Rattle.dix_cli.specs.Runs.{Ran, StandsSmall, room_for, seen};
 ghost use Rattle.rig_api.specs.Log.{HasRoom};
-ghost use Rattle.rig_api.specs.Telling.{KeepsHead};
 ghost use Rattle.whole_run.specs.Ops.{fits};
 
 use crate::report::{LONGEST, lines_for};
@@ -61,8 +60,9 @@ impl Report {
 
 /// Does the ops one after another, each with one exchange at most, and reports them.
 pub(crate) fn run_ops<R: Rig>(ops: &[Op], rig: &mut R, report: &mut Report)
-    requires device { 0 < (R.standing rig.old).devices }
-    requires room { HasRoom (length ops.now) (length ops.now) (R.room rig.old) }
+    requires device { StandsSmall (R.standing rig.old) }
+    requires calm { R.armed rig.old ≡ [] }
+    requires room { HasRoom 512 (length ops.now) (length ops.now) (R.room rig.old) }
     requires fits { list_all fits ops.now ≡ true }
     requires few { length ops.now ≤ 64 }
     requires text { report.old.text.items ≡ codes "dix report 1\n" }
@@ -72,7 +72,6 @@ pub(crate) fn run_ops<R: Rig>(ops: &[Op], rig: &mut R, report: &mut Report)
         (seen (R.units rig.old) (R.log rig.old) (R.faults rig.old))
         (seen (R.units rig.new) (R.log rig.new) (R.faults rig.new)) }
     ensures standing { R.standing rig.new ≡ R.standing rig.old }
-    ensures image { KeepsHead (R.image rig.old) (R.image rig.new) }
 {
     let mut page = [0u8; 4096];
     let mut number = 1u32;

@@ -14,7 +14,7 @@ pub enum Status {
     Words,
     /// The script is not in the language.
     Script,
-    /// The image's head is at fault.
+    /// The image's head is at fault, or the image has other units than the one that is served.
     Image,
     /// The rig failed as the image was opened.
     RigFault,

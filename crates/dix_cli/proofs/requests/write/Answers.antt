@@ -12,8 +12,8 @@ frame_for-frame-requires g c =
 pub returns-clause-did : goal.returns-clause-did
 returns-clause-did g c =
     did_write c.args.number c.args.block c.args.at c.args.page.now _ c.exchange-outcome.result c.reply_for.result _ _ c.requires.page c.requires.fits
-    (rw (c.write_for.ensures, c.frame_for-frame.ensures, c.block_at.ensures) at c.exchange-outcome.ensures.recorded)
-    (rw (c.write_for.ensures, c.frame_for-frame.ensures, c.block_at.ensures) at c.exchange-outcome.ensures.calm)
-    (rw (c.write_for.ensures, c.frame_for-frame.ensures, c.block_at.ensures) at c.exchange-outcome.ensures.told)
+    (rw (c.write_for.ensures, c.frame_for-frame.ensures, c.block_at.ensures, c.requires.device.1) at c.exchange-outcome.ensures.recorded)
+    (rw (c.write_for.ensures, c.frame_for-frame.ensures, c.block_at.ensures, c.requires.calm) at c.exchange-outcome.ensures.calm)
+    (rw (c.write_for.ensures, c.frame_for-frame.ensures, c.block_at.ensures, c.requires.calm) at c.exchange-outcome.ensures.told)
     c.exchange-outcome.ensures.medium c.exchange-outcome.ensures.count
     (λ frame. c.reply_for.ensures ∙ ap reply_of (c.write_fate.ensures frame))

@@ -1,6 +1,6 @@
 use Rattle.std.proofs.Common.{◌≡◌, ◌+◌, ◌-◌, ◌≤◌, suc, length, take, refl, ◌∙◌, arith, length-take-le}
 use Rattle.std.proofs.lemmas.List.{take_more}
-use Rattle.dix_cli.proofs.Running.{keeps_all, keeps_both, ran_none, ran_more, room_left}
+use Rattle.dix_cli.proofs.Running.{ran_none, ran_more, room_left}
 use Rattle.dix_cli.proofs.runner.run_ops.Goals as goal
 
 pub loop-op-init : goal.loop-op-init
@@ -9,7 +9,7 @@ loop-op-init g c = let whole : length c.args.ops.now - 0 ≡ length c.args.ops.n
   page = refl;
   ran = rw (c.requires.text, c.requires.good) (ran_none _);
   standing = refl;
-  image = keeps_all _;
+  calm = c.requires.calm;
   room = rw whole c.requires.room;
   space = rw whole c.requires.space;
 }
@@ -27,7 +27,7 @@ loop-op-preserved g c =
       page = search arith;
       ran = rw more (ran_more (take i c.args.ops.now) _ c.loop-op.number _ _ _ _ _ _ _ _ _ _ number c.loop-op.invariant.ran c.act-reply.ensures.did c.add.ensures.text c.add.ensures.bad);
       standing = c.act-reply.ensures.standing ∙ c.loop-op.invariant.standing;
-      image = keeps_both _ _ _ c.loop-op.invariant.image c.act-reply.ensures.image;
+      calm = c.act-reply.ensures.calm;
       room = room_left _ _ _ (rw left at c.loop-op.invariant.room) c.act-reply.ensures.room;
       space = omega (arith, left, c.loop-op.invariant.space, c.add.ensures.room);
     }

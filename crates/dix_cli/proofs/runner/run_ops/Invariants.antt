@@ -1,6 +1,5 @@
-use Rattle.std.proofs.Common.{◌≡◌, ◌+◌, ◌-◌, ◌*◌, ◌≤◌, length, take}
+use Rattle.std.proofs.Common.{◌≡◌, ◌+◌, ◌-◌, ◌*◌, ◌≤◌, [], length, take}
 use Rattle.rig_api.specs.Log.{HasRoom}
-use Rattle.rig_api.specs.Telling.{KeepsHead}
 use Rattle.dix_cli.specs.Runs.{Ran, room_for, seen}
 use Rattle.dix_cli.proofs.runner.run_ops.Given as goal
 
@@ -12,7 +11,7 @@ invariant-loop-op g l = record {
       (seen (g.R.Rig.units l.initial.rig) (g.R.Rig.log l.initial.rig) (g.R.Rig.faults l.initial.rig))
       (seen (g.R.Rig.units l.rig) (g.R.Rig.log l.rig) (g.R.Rig.faults l.rig));
   standing : g.R.Rig.standing l.rig ≡ g.R.Rig.standing l.initial.rig;
-  image : KeepsHead (g.R.Rig.image l.initial.rig) (g.R.Rig.image l.rig);
-  room : HasRoom (length l.ops - l.op-index) (length l.ops - l.op-index) (g.R.Rig.room l.rig);
+  calm : g.R.Rig.armed l.rig ≡ [];
+  room : HasRoom 512 (length l.ops - l.op-index) (length l.ops - l.op-index) (g.R.Rig.room l.rig);
   space : (length l.ops - l.op-index) * 256 ≤ room_for l.report.text;
 }
