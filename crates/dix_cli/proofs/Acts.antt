@@ -4,7 +4,6 @@ use Rattle.std.proofs.lemmas.List.{length-replicate}
 use Rattle.dix_base.specs.Told.{Calm}
 use Rattle.target_answer.specs.Target.{Answer, Stored}
 use Rattle.rig_api.specs.Telling.{holding, unit_at, with_blocks}
-use Rattle.whole_run.specs.Small.{small_unit}
 use Rattle.whole_run.specs.declared.op.Op.{Op}
 use Rattle.whole_run.specs.declared.op.Op.TheVariants as op
 use Rattle.whole_run.specs.declared.reply.Reply.{Reply}

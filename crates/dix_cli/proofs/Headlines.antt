@@ -14,7 +14,7 @@ use Rattle.target_answer.specs.declared.units.UnitSpec.{UnitSpec}
 use Rattle.rig_api.specs.Head.{Head, IsHeadOf, head_fault, head_of, units_of}
 use Rattle.rig_api.specs.Telling.{IsStanding, Standing, Stayed, unit_at, units_told}
 use Rattle.rig_api.specs.declared.rig.RigFault.{RigFault}
-use Rattle.dix_cli.proofs.RightHeads.{right_size}
+use Rattle.image_rig.proofs.Heads.{right_head, right_units}
 use Rattle.whole_run.specs.Small.{small_spec, small_unit}
 use Rattle.whole_run.specs.declared.op.Op.{Op}
 use Rattle.whole_run.specs.Walk.{State, begun, is_bad, walk}
@@ -58,6 +58,10 @@ image_parts : (image : List ℕ) → length image ≡ 2592 → image ≡ take 51
 image_parts image h =
     let l = length-drop 512 image in
     sym (take-append-drop 512 image) ∙ ap (λ v. take 512 image ++ v) (sym (joined_frames 520 4 (drop 512 image) (omega (arith, l, h))))
+
+-- the length of an image whose head is right is that of its units
+right_size : (h : Head) → head_fault h ≡ None → h.size ≡ image_size (units_of h)
+right_size h e = let r = right_head h e in r.size ∙ ap image_size (sym (right_units h r))
 
 headed : (h : Head) (image : List ℕ) (told : Option (List ℕ)) → told ≡ Some image → IsHeadOf h told → h ≡ head_of image
 headed h image told e i = rw e at i

@@ -8,6 +8,5 @@ mod Headlines
 mod Lines
 mod Looking
 mod Numbers
-mod RightHeads
 mod Running
 mod WordLemmas

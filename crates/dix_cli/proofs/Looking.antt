@@ -1,24 +1,22 @@
-use Rattle.std.proofs.Common.{ℕ, zero, suc, ◌≡◌, ◌+◌, ◌-◌, ◌*◌, ◌^◌, ◌<◌, ◌≤◌, ◌⊎◌, inl, inr, Bool, true, false, eqb, ltb, ◌&&◌, if◌then◌else◌, List, [], ◌∷◌, ◌++◌, length, take, drop, Option, Some, None, Ok, refl, sym, ap, subst, ◌∙◌, arith, append-nil}
+use Rattle.std.proofs.Common.{ℕ, zero, suc, ◌≡◌, ◌+◌, ◌-◌, ◌^◌, ◌≤◌, inl, inr, Bool, true, false, ◌&&◌, List, [], ◌∷◌, ◌++◌, length, take, drop, Option, Some, None, refl, sym, ap, ◌∙◌, arith, append-nil}
 use Rattle.std.specs.Prelude.{replicate, slice_index_or, is_some}
 use Rattle.std.specs.Int.{w64, from_be_bytes, to_be_bytes}
 use Rattle.std.proofs.lemmas.Nat.{from_be_bytes-to_be_bytes_8}
-use Rattle.dix_base.specs.Told.{Calm, Rose}
 use Rattle.pi_tuple.specs.declared.checks.PiType.{PiType}
 use Rattle.pi_tuple.specs.declared.checks.PiType.TheVariants.{Zero, One, Two, Three}
 use Rattle.target_answer.specs.Frames.{frames_of, joined, stored_size}
 use Rattle.target_answer.specs.Image.{unit_from, units_in}
 use Rattle.target_answer.specs.Headers.{is_layout, is_spec}
-use Rattle.target_answer.specs.Requests.{blocks_of}
 use Rattle.target_answer.specs.Target.{Answer, Stop, Stored, capacity_data, protection_byte, refusal, shape_of, target_answer}
 use Rattle.target_answer.specs.declared.units.UnitSpec.{UnitSpec}
-use Rattle.rig_api.specs.Head.{Head, head_fault, units_of}
-use Rattle.rig_api.specs.Log.{Entry, HasRoom, Room, entry_of}
+use Rattle.rig_api.specs.Head.{head_fault, units_of}
+use Rattle.rig_api.specs.Log.{HasRoom, Room, entry_of}
 use Rattle.rig_api.specs.Telling.{HasCause, IsAnswer, Standing, answer_of, at_front, frame_size, greatest, greatest_size, no_spec, spec_at, specs_of, unit_at, units_told, with_blocks}
 use Rattle.rig_api.specs.declared.rig.Outcome.{Outcome}
 use Rattle.whole_run.specs.Small.{small_spec}
 use Rattle.dix_cli.specs.Runs.{StandsSmall}
-use Rattle.dix_cli.specs.Verdict.{IsLook, IsSpent, Looked, View, look, small_data}
-use Rattle.dix_cli.proofs.RightHeads.{right_layout}
+use Rattle.dix_cli.specs.Verdict.{IsSpent, Looked, View, look, small_data}
+use Rattle.image_rig.proofs.Heads.{right_layout}
 
 -- What READ CAPACITY tells of the units of an image.
 
@@ -129,9 +127,9 @@ looked old new o into first size result right devices one laid laid' tells log s
     let spec : is_spec u ≡ true = layout_one u (ap is_layout (sym units) ∙ right_layout old.standing.head right) in
     let holds : (image : List ℕ) → old.image ≡ Some image → into ≡ capacity_data u =
     λ image e.
-        let us_is : old.seen.units ≡ Some (unit_from u (drop 512 image) ∷ []) = laid ∙ ap (units_told old.standing) e ∙ ap (λ (us : List UnitSpec). Some (units_in us image)) specs in
-        let a = told (unit_from u (drop 512 image) ∷ []) us_is in
-        data_is u (drop 512 image) into o new.seen.units a.0 a.2 in
+    let us_is : old.seen.units ≡ Some (unit_from u (drop 512 image) ∷ []) = laid ∙ ap (units_told old.standing) e ∙ ap (λ (us : List UnitSpec). Some (units_in us image)) specs in
+    let a = told (unit_from u (drop 512 image) ∷ []) us_is in
+    data_is u (drop 512 image) into o new.seen.units a.0 a.2 in
     record {
       records = entry_of (spec_at old.standing 0).size 0 look [] o [] into ∷ [];
       look = inr (o, into, refl);

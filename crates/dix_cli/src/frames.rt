@@ -6,9 +6,9 @@ ghost use Rattle.whole_run.specs.Small.{data_of};
 ghost use Rattle.whole_run.specs.Ops.{made, part, read_ten, ten, write_ten};
 ghost use Rattle.whole_run.specs.Walk.{landed};
 
+use bio_core::Why;
 use pi_guard::crc16;
 use pi_tuple::make;
-use bio_core::Why;
 
 /// A command block of ten bytes for one block, with protect field 001b (SBC-3, 5.11 and 5.32).
 fn ten_for(op: u8, block: u32) -> [u8; 10]

@@ -3,8 +3,6 @@
 
 mod fate;
 mod frames;
-#[cfg(test)]
-mod lying_rig;
 mod opening;
 mod program;
 mod reading;

@@ -6,8 +6,8 @@ ghost use Rattle.whole_run.specs.Report.{check_text, lines_of, why_text};
 ghost use Rattle.bio_core.specs.declared.fate.Why.{Why};
 
 use arrayvec::ArrayVec;
-use pi_tuple::Check;
 use bio_core::Why;
+use pi_tuple::Check;
 use whole_run::Reply;
 
 /// No line of a report is longer, in bytes.

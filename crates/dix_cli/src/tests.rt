@@ -1,9 +1,7 @@
 //! Runs over forms in memory: the report and the image, each text, each fault.
 
-ghost use Rattle.std.specs.Prelude.{◌≡◌, true};
-ghost use Rattle.rig_api.specs.Log.{has_key};
-
-use crate::lying_rig::LyingRig;
+use crate::fate::{read_fate, reply_for, write_fate};
+use crate::report::lines_for;
 use crate::run;
 use dix_base::{MemSink, MemSource, MemStore};
 use image_rig::ImageRig;
@@ -495,18 +493,26 @@ fn each_tuple_of_a_stored_block_is_judged(rt: HostRuntime) -> Result<(), Fail> {
     Ok(())
 }
 
+/// Changes a byte of the image, where it has so many.
+fn change(image: &mut Vec<u8>, at: usize, byte: u8) {
+    if at < image.len() {
+        image[at] = byte;
+    }
+}
+
 #[test]
 fn each_fault_of_the_header_is_named(rt: HostRuntime) -> Result<(), Fail> {
     let words = run_a(rt.alloc())?;
-    // The image with one byte changed and cut to this length, after one more byte.
+    let not_built = "image NotBuilt\n";
+    // The image with one byte changed and cut to this length, after a block of zeros more.
     for (at, byte, len, status, text) in [
         (0usize, 68u8, 2592usize, 0u8, "dix report 1\n"),
         (0, 100, 2592, 4, "image BadMagic\n"),
-        (7, 50, 2592, 4, "image BadMagic\n"),
-        (7, 50, 100, 4, "image BadMagic\n"),
+        (7, 51, 2592, 4, "image BadMagic\n"),
+        (7, 51, 100, 4, "image BadMagic\n"),
+        (7, 50, 2592, 4, "image BadHeader\n"),
         (9, 2, 2592, 4, "image BadHeader\n"),
-        (16, 2, 2592, 4, "image BadHeader\n"),
-        (31, 5, 2592, 4, "image BadHeader\n"),
+        (16, 4, 2592, 4, "image BadHeader\n"),
         (511, 1, 2592, 4, "image BadHeader\n"),
         (511, 1, 2591, 4, "image BadHeader\n"),
         (0, 68, 0, 4, "image BadMagic\n"),
@@ -516,12 +522,16 @@ fn each_fault_of_the_header_is_named(rt: HostRuntime) -> Result<(), Fail> {
         (0, 68, 512, 4, "image BadLength\n"),
         (0, 68, 2591, 4, "image BadLength\n"),
         (0, 68, 2593, 4, "image BadLength\n"),
+        (31, 5, 2592, 4, "image BadLength\n"),
+        (31, 5, 3112, 4, not_built),
+        (31, 3, 2072, 4, not_built),
+        (16, 0, 2560, 4, not_built),
+        (16, 2, 2592, 4, not_built),
+        (16, 3, 2592, 4, not_built),
     ] {
         let mut image = formatted(rt.alloc())?;
-        image.push(0)?;
-        if at < image.len() {
-            image[at] = byte;
-        }
+        image.extend_from_slice(&[0; 520])?;
+        change(&mut image, at, byte);
         image.truncate(len);
         let done = left_by(
             rt.alloc(),
@@ -536,41 +546,56 @@ fn each_fault_of_the_header_is_named(rt: HostRuntime) -> Result<(), Fail> {
     Ok(())
 }
 
-/// The sense of this key, this code and this qualifier, with no block named.
-fn sense_of(key: u8, asc: u8, ascq: u8) -> Option<Sense>
-    ensures { has_key result ≡ true }
-{
-    Some(Sense {
-        key: key % 16,
-        asc,
-        ascq,
-        info: None,
-    })
+// The magic, the header of one unit in version 2 and its blocks; the unit's size exponent and its
+// first address.
+#[test]
+fn a_header_of_version_2_tells_size_and_first_address(rt: HostRuntime) -> Result<(), Fail> {
+    let words = run_a(rt.alloc())?;
+    for (exponent, first, len, status, text) in [
+        (9u8, 0u8, 2592usize, 0u8, "dix report 1\n"),
+        (9, 1, 2592, 4, "image NotBuilt\n"),
+        (12, 0, 16928, 4, "image NotBuilt\n"),
+        (12, 0, 2592, 4, "image BadLength\n"),
+        (10, 0, 2592, 4, "image BadHeader\n"),
+    ] {
+        let mut image = formatted(rt.alloc())?;
+        change(&mut image, 7, 50);
+        change(&mut image, 17, exponent);
+        change(&mut image, 39, first);
+        image.resize(len, 0)?;
+        let done = left_by(
+            rt.alloc(),
+            &words,
+            script(rt.alloc(), "")?,
+            image,
+            NO_FAULTS,
+        )?;
+        assert_eq!(rt; done.status, status, "{exponent} {first} {len}");
+        assert_eq!(rt; done.text.as_str(), text, "{exponent} {first} {len}");
+    }
+    Ok(())
 }
 
-/// The status and the text where a rig over a formatted image answers the script's one op so: with
-/// this outcome, and a read with zeros under this guard and this reference tag too.
-fn told(
+/// The lines of an op of block 2 to which a rig answers so: with this outcome, and a read with zeros
+/// under this guard and this reference tag too.
+fn lines_of(
     alloc: Global,
-    ops: &str,
+    is_write: bool,
     outcome: Outcome,
     guard: u8,
     reference: u8,
-) -> Result<(u8, String), Fail>
-    requires { has_key outcome.sense ≡ true }
-{
+) -> Result<String, Fail> {
     let mut frame = [0u8; 520];
     frame[513] = guard;
     frame[519] = reference;
-    let store = MemStore::new(formatted(alloc)?, Vec::new(alloc));
-    let mut rig = LyingRig::new(ImageRig::new(alloc, store), outcome, frame);
-    let words = run_a(alloc)?;
-    let mut source = MemSource::new(script(alloc, ops)?, Vec::new(alloc));
-    let mut sink = MemSink::new(alloc, 4096, Vec::new(alloc))?;
-    let status = run(alloc, &words, &mut source, &mut rig, &mut sink);
+    let fate = if is_write {
+        write_fate(outcome)
+    } else {
+        read_fate(2, outcome, &frame)
+    };
     let mut held = Vec::new(alloc);
-    held.extend_from_slice(sink.bytes())?;
-    Ok((status.number(), String::from_utf8(held)?))
+    held.extend_from_slice(lines_for(1, &reply_for(fate)).as_slice())?;
+    Ok(String::from_utf8(held)?)
 }
 
 #[test]
@@ -593,12 +618,16 @@ fn each_sense_of_a_rig_has_its_line(rt: HostRuntime) -> Result<(), Fail> {
         (3, 0x11, 1, "refused 03 11 01"),
         (4, 0x11, 0, "refused 04 11 00"),
     ] {
-        let sense = sense_of(key, asc, ascq);
-        let wanted = format!(in rt.alloc(); "dix report 1\nop 1 bad 1\nbad 1 0 {said}\n")?;
-        for ops in ["write 2 1 0:0:512\n", "read 2 1 0:0:512\n"] {
-            let (status, text) = told(rt.alloc(), ops, Outcome { done: 0, sense }, 0, 2)?;
-            assert_eq!(rt; text.as_str(), wanted.as_str(), "{ops}");
-            assert_eq!(rt; status, 1, "{ops} {said}");
+        let sense = Some(Sense {
+            key,
+            asc,
+            ascq,
+            info: None,
+        });
+        let wanted = format!(in rt.alloc(); "op 1 bad 1\nbad 1 0 {said}\n")?;
+        for is_write in [false, true] {
+            let text = lines_of(rt.alloc(), is_write, Outcome { done: 0, sense }, 0, 2)?;
+            assert_eq!(rt; text.as_str(), wanted.as_str(), "{is_write}");
         }
     }
     Ok(())
@@ -606,61 +635,24 @@ fn each_sense_of_a_rig_has_its_line(rt: HostRuntime) -> Result<(), Fail> {
 
 #[test]
 fn each_frame_is_judged_by_the_adapter_too(rt: HostRuntime) -> Result<(), Fail> {
-    let write = "write 2 1 0:0:512\n";
-    let read = "read 2 1 0:0:512\n";
-    let shows = "show 0:0:1\nshow 0:0:1\n";
-    for (ops, done, guard, reference, status, said) in [
-        (write, 1u32, 1u8, 3u8, 0u8, "dix report 1\nop 1 whole\n"),
-        (write, 2, 0, 2, 0, "dix report 1\nop 1 whole\n"),
-        (
-            write,
-            0,
-            0,
-            2,
-            1,
-            "dix report 1\nop 1 bad 1\nbad 1 0 short\n",
-        ),
-        (read, 1, 0, 2, 0, "dix report 1\nop 1 whole\n"),
-        (read, 2, 0, 2, 0, "dix report 1\nop 1 whole\n"),
-        (
-            read,
-            0,
-            0,
-            2,
-            1,
-            "dix report 1\nop 1 bad 1\nbad 1 0 short\n",
-        ),
-        (
-            read,
-            1,
-            0,
-            0,
-            1,
-            "dix report 1\nop 1 bad 1\nbad 1 0 adapter ref\n",
-        ),
-        (
-            read,
-            1,
-            1,
-            2,
-            1,
-            "dix report 1\nop 1 bad 1\nbad 1 0 adapter guard\n",
-        ),
-        (
-            read,
-            1,
-            1,
-            3,
-            1,
-            "dix report 1\nop 1 bad 1\nbad 1 0 adapter guard\n",
-        ),
-        // It has no room for two ops.
-        (shows, 1, 0, 2, 6, "no memory\n"),
+    for (is_write, done, guard, reference, said) in [
+        (true, 1u32, 1u8, 3u8, "op 1 whole\n"),
+        (true, 2, 0, 2, "op 1 whole\n"),
+        (true, 0, 0, 2, "op 1 bad 1\nbad 1 0 short\n"),
+        (false, 1, 0, 2, "op 1 whole\n"),
+        (false, 2, 0, 2, "op 1 whole\n"),
+        (false, 0, 0, 2, "op 1 bad 1\nbad 1 0 short\n"),
+        (false, 1, 0, 0, "op 1 bad 1\nbad 1 0 adapter ref\n"),
+        (false, 1, 1, 2, "op 1 bad 1\nbad 1 0 adapter guard\n"),
+        (false, 1, 1, 3, "op 1 bad 1\nbad 1 0 adapter guard\n"),
     ] {
         let outcome = Outcome { done, sense: None };
-        let (answer, text) = told(rt.alloc(), ops, outcome, guard, reference)?;
-        assert_eq!(rt; text.as_str(), said, "{ops}: {done} {guard} {reference}");
-        assert_eq!(rt; answer, status, "{ops}: {done} {guard} {reference}");
+        let text = lines_of(rt.alloc(), is_write, outcome, guard, reference)?;
+        assert_eq!(rt;
+            text.as_str(),
+            said,
+            "{is_write}: {done} {guard} {reference}"
+        );
     }
     Ok(())
 }
