@@ -16,3 +16,6 @@ mod overwriting;
 mod place;
 
 pub use image::ImageRig;
+
+#[cfg(test)]
+mod tests;

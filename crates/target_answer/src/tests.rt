@@ -126,7 +126,9 @@ fn a_header_is_read_back(rt: HostRuntime) {
         size: 4096,
         first: 0xFFFF_FFF8,
     };
-    let written = header(Version::Second, &[high, high]);
+    let Ok(written) = header(Version::Second, &[high, high]).into_inner() else {
+        panic!(rt; "it is short");
+    };
     assert_eq!(rt; version_of(&written[..8]), Some(Version::Second));
     assert!(rt; is_header(Version::Second, &written));
     assert!(rt; !is_header(Version::First, &written));

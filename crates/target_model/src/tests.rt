@@ -3,7 +3,7 @@
 
 use crate::{LogicalUnit, serve};
 use arrayvec::ArrayVec;
-use dix_base::MemStore;
+use dix_base::{MemStore, Store};
 use fault_schedule::{Crossing, FaultKind, FaultLine, FaultList, Label, ShortBytes, Tamper};
 use pi_tuple::PiType;
 use rig_api::Outcome;
@@ -89,6 +89,27 @@ fn command(op: u8, lba: u8, n: u8) -> [u8; 10] {
     [op, 0x20, 0, 0, 0, lba, 0, 0, n, 0]
 }
 
+/// Hands a command to the unit, where the store is long enough for it.
+fn ask<S: Store>(
+    alloc: Global,
+    held: &mut S,
+    cdb: &[u8],
+    out: &[u8],
+    into: &mut [u8],
+    tamper: &Tamper,
+) -> Option<Outcome> {
+    let Ok(name) = String::from_str(alloc, "unit") else {
+        return None;
+    };
+    let Ok(len) = held.open(name) else {
+        return None;
+    };
+    if len < 2088 {
+        return None;
+    }
+    Some(serve(held, &UNIT, cdb, &LABELS, out, into, tamper))
+}
+
 // The store's third call fails, or none.
 #[test]
 fn each_request_is_answered(rt: HostRuntime) -> Result<(), Fail> {
@@ -109,22 +130,14 @@ fn each_request_is_answered(rt: HostRuntime) -> Result<(), Fail> {
         let mut held = store(rt.alloc(), fail)?;
         let cdb = command(op, lba, n);
         let mut into = [0xAA; 1560];
-        let outcome = serve(
-            &mut held,
-            &UNIT,
-            &cdb,
-            &LABELS,
-            &frames(2),
-            &mut into,
-            &none,
-        );
+        let outcome = ask(rt.alloc(), &mut held, &cdb, &frames(2), &mut into, &none);
         assert_eq!(rt;
             outcome,
-            Outcome { done, sense: want },
+            Some(Outcome { done, sense: want }),
             "{op} {lba} {n} {fail}"
         );
         if op == 0x2A && done > 0 {
-            assert_eq!(rt; &held.bytes()[8..528], frame(2).as_slice());
+            assert_eq!(rt; held.bytes().get(8..528), Some(frame(2).as_slice()));
         }
         if op == 0x28 && fail == 3 {
             assert_eq!(rt; &into[1039..1041], [3, 0xAA].as_slice());
@@ -156,16 +169,8 @@ fn labels_bring_faults(rt: HostRuntime) -> Result<(), Fail> {
         let mut held = store(rt.alloc(), 0)?;
         let cdb = command(op, 2, 3);
         let mut into = [0; 1560];
-        let outcome = serve(
-            &mut held,
-            &UNIT,
-            &cdb,
-            &LABELS,
-            &frames(2),
-            &mut into,
-            &tamper,
-        );
-        assert_eq!(rt; outcome, Outcome { done, sense: want }, "{op} {at:?}");
+        let outcome = ask(rt.alloc(), &mut held, &cdb, &frames(2), &mut into, &tamper);
+        assert_eq!(rt; outcome, Some(Outcome { done, sense: want }), "{op} {at:?}");
     }
     Ok(())
 }
@@ -176,14 +181,12 @@ fn capacity_is_told(rt: HostRuntime) -> Result<(), Fail> {
     let mut held = store(rt.alloc(), 1)?;
     let cdb = [0x9E, 0x10, 0, 0, 0, 0, 0, 0, 0, 0, 0, 0, 0, 13, 0, 0];
     let mut into = [0xAA; 13];
-    let outcome = serve(&mut held, &UNIT, &cdb, &[], &[], &mut into, &none);
-    assert_eq!(rt;
-        outcome,
-        Outcome {
-            done: 0,
-            sense: None
-        }
-    );
+    let outcome = ask(rt.alloc(), &mut held, &cdb, &[], &mut into, &none);
+    let whole = Outcome {
+        done: 0,
+        sense: None,
+    };
+    assert_eq!(rt; outcome, Some(whole));
     assert_eq!(rt; into, [0, 0, 0, 0, 0, 0, 0, 5, 0, 0, 2, 0, 1]);
     Ok(())
 }
