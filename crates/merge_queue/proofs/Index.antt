@@ -1,243 +1,140 @@
--- An index over bios shows a list of groups.
-use Rattle.std.proofs.Common.{◌≡◌, ℕ, zero, suc, ◌+◌, ◌-◌, ◌^◌, ◌<◌, ◌≤◌, true, false, List, [], ◌∷◌, ◌++◌, length, get_or, set, take, drop, refl, sym, ap, ◌∙◌, subst, ⊎_elim, arith, length-append, append_assoc, append-nil}
-use Rattle.std.proofs.lemmas.List.{get_or-set_same, get_or-set_other, set_past, take_more, take-take, drop-take, drop-drop, take_all, drop_all, length-take, length-drop, take_at, drop_at, take-append-drop}
-use Rattle.std.specs.Prelude.{nat_lt}
-use Rattle.std.specs.List.{insert}
-use Rattle.std.specs.List.Sorted.{IsNonDecreasingBy}
-use Rattle.std.proofs.lemmas.List.Sorted.{IsNonDecreasingBy-insert}
-use Rattle.std.proofs.lemmas.Bool.{lt-ltb, le-ltb, cases_eq, cases_lt}
+-- What an index over chains of bios says of its groups and places.
+use Rattle.std.proofs.Common.{◌≡◌, ℕ, zero, suc, ◌+◌, ◌-◌, ◌^◌, ◌<◌, ◌≤◌, true, false, List, [], ◌∷◌, length, get_or, refl, sym, ap, ◌∙◌, subst, ⊎_elim, arith}
+use Rattle.std.specs.Prelude.{nat_lt, if◌then◌else◌}
+use Rattle.std.proofs.lemmas.Bool.{lt-ltb, le-ltb, cases_lt}
+use Rattle.std.proofs.lemmas.List.{get_or_default, get_or-map, length-map}
 use Rattle.bio_core.specs.declared.bio.Bio.{Bio}
-use Rattle.bio_core.specs.declared.request.Dir.TheVariants.{Read}
 use Rattle.merge_queue.specs.declared.entries.Entry.{Entry}
-use Rattle.merge_queue.specs.Groups.{Group, lba_of, put, size}
-use Rattle.merge_queue.specs.Index.{Queued, bios_in, counted, split, Describes, DescribeAll, IsIndex}
+use Rattle.merge_queue.specs.Chains.{after, path, times}
+use Rattle.merge_queue.specs.Groups.{Group}
+use Rattle.merge_queue.specs.Index.{Queued, bios_in, group_at, groups_of, total, use_of, Stands, IsIndex, Fit}
+use Rattle.merge_queue.proofs.Lists.{total-one, total-two}
+use Rattle.merge_queue.proofs.Linking.{length-path, times-after, last-once, length-bios_at}
 
-abbrev pub no_entry : Entry
-no_entry = record { lba = 0; dir = Read; bios = 0; blocks = 0; segs = 0; pi_segs = 0 }
+-- a place is used at most once, and then it is below the room
+pub allowed : (x room : ℕ) → ((if nat_lt x room then 1 else 0) ≤ 1) × (1 ≤ (if nat_lt x room then 1 else 0) → x < room)
+allowed x room =
+    ⊎_elim
+    (λ (h : x < room). let e : nat_lt x room ≡ true = lt-ltb x room h in (rw e (omega arith), λ k. h))
+    (λ (h : room ≤ x). let e : nat_lt x room ≡ false = le-ltb x room h in (rw e (omega arith), rw e (λ k. absurd (omega arith))))
+    (cases_lt x room)
 
-pub counted-append : (xs ys : List Entry) → counted (xs ++ ys) ≡ counted xs + counted ys
-counted-append [] ys = omega arith
-counted-append (x ∷ xs) ys = let e = counted-append xs ys in omega arith
+pub once : (room : ℕ) (es : List Entry) (bios : List Bio) (next : List ℕ) (free left : ℕ) → IsIndex room es bios next free left → (x : ℕ) → total (use_of next x) es + times x (path next free left) ≤ 1
+once room es bios next free left s x = let a = s.once x in let b = (allowed x room).0 in omega arith
 
-pub counted-more : (es : List Entry) (i : ℕ) (d : Entry) → i < length es → counted (take (i + 1) es) ≡ counted (take i es) + (get_or es i d).bios
-counted-more es i d h = let e = ap counted (take_more es i d h) in let a = counted-append (take i es) (get_or es i d ∷ []) in omega arith
+pub free-inside : (room : ℕ) (es : List Entry) (bios : List Bio) (next : List ℕ) (free left : ℕ) → IsIndex room es bios next free left → (k : ℕ) → k < left → after next free k < room
+free-inside room es bios next free left s k l =
+    let x = after next free k in
+    let a = times-after next free k left l in
+    let b = s.once x in
+    (allowed x room).1 (omega arith)
 
-pub counted-front : (es : List Entry) (i : ℕ) → counted (take i es) ≤ counted es
-counted-front [] zero = omega arith
-counted-front [] (suc i) = omega arith
-counted-front (e ∷ es) zero = omega arith
-counted-front (e ∷ es) (suc i) = let k = counted-front es i in omega arith
+-- what is known of the group at place i of the index
+pub record Known (room : ℕ) (es : List Entry) (bios : List Bio) (next : List ℕ) (left i : ℕ) (e : Entry) : Type 0 where
+  pub stands : Stands bios next e
+  pub group : get_or (groups_of es bios next) i [] ≡ group_at bios next e
+  pub first : e.first < room
+  pub last : e.last < room
+  pub few : e.bios + left ≤ room
+  pub places : (k : ℕ) → k < e.bios → after next e.first k < room
 
--- what is written back after a turn of a part
-pub written_back : {A : Type 0} (xs new : List A) (len at n end : ℕ) → len ≡ length xs → at + n ≤ end → end ≤ length xs →
-    new ≡ drop n (take (end - at) (drop at xs)) ++ take n (take (end - at) (drop at xs)) →
-    take len (take at xs ++ (new ++ drop (length new) (drop at xs)) ++ drop (length (take at xs ++ (new ++ drop (length new) (drop at xs)))) xs)
-    ≡ take at xs ++ (take (end - (at + n)) (drop (at + n) xs) ++ (take n (drop at xs) ++ drop end xs))
-written_back xs new len at n end l h k e =
-    let m : end - at ≡ n + (end - (at + n)) = omega arith in
-    let a : drop n (take (end - at) (drop at xs)) ≡ take (end - (at + n)) (drop (at + n) xs) =
-    ap (λ z. drop n (take z (drop at xs))) m ∙ drop-take n (end - (at + n)) (drop at xs) ∙ ap (take (end - (at + n))) (drop-drop n at xs) in
-    let b : take n (take (end - at) (drop at xs)) ≡ take n (drop at xs) = take-take n (end - at) (drop at xs) (omega arith) in
-    let new₁ : new ≡ take (end - (at + n)) (drop (at + n) xs) ++ take n (drop at xs) = e ∙ ap (λ z. z ++ take n (take (end - at) (drop at xs))) a ∙ ap (λ z. take (end - (at + n)) (drop (at + n) xs) ++ z) b in
-    let c : length new ≡ end - at =
-    ap length new₁ ∙ length-append (take (end - (at + n)) (drop (at + n) xs)) (take n (drop at xs))
-    ∙ (let p = length-take (end - (at + n)) (drop (at + n) xs) in let q = length-drop (at + n) xs in let r = length-take n (drop at xs) in let s = length-drop at xs in omega arith) in
-    let d : drop (length new) (drop at xs) ≡ drop end xs = ap (λ z. drop z (drop at xs)) c ∙ drop-drop (end - at) at xs ∙ ap (λ z. drop z xs) (plus at end (omega arith)) in
-    let f : length (take at xs ++ (new ++ drop end xs)) ≡ length xs =
-    length-append (take at xs) (new ++ drop end xs) ∙ (let p = length-append new (drop end xs) in let q = length-take at xs in let r = length-drop end xs in omega arith) in
-    let g : drop (length (take at xs ++ (new ++ drop end xs))) xs ≡ [] = drop_all (length (take at xs ++ (new ++ drop end xs))) xs (omega arith) in
-    ap (λ z. take len (take at xs ++ (new ++ z) ++ drop (length (take at xs ++ (new ++ z))) xs)) d
-    ∙ ap (λ z. take len (take at xs ++ (new ++ drop end xs) ++ z)) g
-    ∙ ap (take len) (append-nil (take at xs ++ (new ++ drop end xs)))
-    ∙ take_all len (take at xs ++ (new ++ drop end xs)) (omega arith)
-    ∙ ap (λ z. take at xs ++ (z ++ drop end xs)) new₁
-    ∙ ap (λ z. take at xs ++ z) (append_assoc (take (end - (at + n)) (drop (at + n) xs)) (take n (drop at xs)) (drop end xs))
-  where
-    plus : (a b : ℕ) → a ≤ b → a + (b - a) ≡ b
-    plus a b h = omega arith
+pub known : (room : ℕ) (es : List Entry) (bios : List Bio) (next : List ℕ) (free left i : ℕ) (e : Entry) → IsIndex room es bios next free left → i < length es → e ≡ get_or es i e →
+    Known room es bios next left i e
+known room es bios next free left i e s h q =
+    let stands : Stands bios next e = subst (Stands bios next) (sym q) (s.stands i e h) in
+    let some = stands.describes.some in
+    let w = s.whole in
+    let one = total-one (λ d. d.bios) es i e h in
+    let m = ap (λ (d : Entry). d.bios) q in
+    let inside : (k : ℕ) → k < e.bios → after next e.first k < room = (λ k l.
+    (let x = after next e.first k in
+    let a = times-after next e.first k e.bios l in
+    let b = total-one (use_of next x) es i e h in
+    let c = ap (use_of next x) q in
+    let d = s.once x in
+    (allowed x room).1 (omega arith))) in
+    record {
+      stands = stands;
+      group = get_or-map (group_at bios next) es i e [] h ∙ ap (group_at bios next) (sym q);
+      first = inside 0 (omega arith);
+      last = subst (λ l. l < room) (sym stands.last) (inside (e.bios - 1) (omega arith));
+      few = omega arith;
+      places = inside;
+    }
 
--- ---- entries and groups side by side
+-- the last place of a group stands nowhere else
+pub record Alone (es : List Entry) (next : List ℕ) (free left i : ℕ) (e : Entry) : Type 0 where
+  pub others : (k : ℕ) (d : Entry) → k < length es → (k ≡ i → ⊥) → use_of next e.last (get_or es k d) ≡ 0
+  pub apart : times e.last (path next free left) ≡ 0
+  pub before : times e.last (path next e.first (e.bios - 1)) ≡ 0
 
-abbrev pub concat : List Group → List Bio
-concat [] = []
-concat (g ∷ gs) = g ++ concat gs
-
-pub concat-append : (xs ys : List Group) → concat (xs ++ ys) ≡ concat xs ++ concat ys
-concat-append [] ys = refl
-concat-append (x ∷ xs) ys = ap (λ z. x ++ z) (concat-append xs ys) ∙ sym (append_assoc x (concat xs) (concat ys))
-
-pub concat-split : (es : List Entry) (bs : List Bio) → counted es ≡ length bs → concat (split es bs) ≡ bs
-concat-split [] [] h = refl
-concat-split [] (b ∷ bs) h = absurd (omega arith)
-concat-split (e ∷ es) bs h =
-    ap (λ z. take e.bios bs ++ z) (concat-split es (drop e.bios bs) (let l = length-drop e.bios bs in omega arith)) ∙ take-append-drop e.bios bs
-
-pub split-concat : (es : List Entry) (gs : List Group) → DescribeAll es gs → split es (concat gs) ≡ gs
-split-concat [] [] h = refl
-split-concat [] (g ∷ gs) h = absurd h
-split-concat (e ∷ es) [] h = absurd h
-split-concat (e ∷ es) (g ∷ gs) h =
-    let a = take_at g (concat gs) e.bios h.0.bios in
-    let b = drop_at g (concat gs) e.bios h.0.bios in
-    ap (λ z. z ∷ split es (drop e.bios (g ++ concat gs))) a ∙ ap (λ z. g ∷ split es z) b ∙ ap (λ z. g ∷ z) (split-concat es gs h.1)
-
-pub counted-length : (es : List Entry) (gs : List Group) → DescribeAll es gs → counted es ≡ length (concat gs)
-counted-length [] [] h = refl
-counted-length [] (g ∷ gs) h = absurd h
-counted-length (e ∷ es) [] h = absurd h
-counted-length (e ∷ es) (g ∷ gs) h = let a = counted-length es gs h.1 in let b = h.0.bios in let c = length-append g (concat gs) in omega arith
-
-pub describe-length : (es : List Entry) (gs : List Group) → DescribeAll es gs → (length es ≡ length gs) × (length es ≤ counted es)
-describe-length [] [] h = (refl, omega arith)
-describe-length [] (g ∷ gs) h = absurd h
-describe-length (e ∷ es) [] h = absurd h
-describe-length (e ∷ es) (g ∷ gs) h = let a = describe-length es gs h.1 in let b = a.0 in let c = a.1 in let s = h.0.some in (omega arith, omega arith)
-
-pub describe-at : (es : List Entry) (gs : List Group) (i : ℕ) (d : Entry) → DescribeAll es gs → i < length es → Describes (get_or es i d) (get_or gs i [])
-describe-at [] gs i d h l = absurd (omega arith)
-describe-at (e ∷ es) [] i d h l = absurd h
-describe-at (e ∷ es) (g ∷ gs) zero d h l = h.0
-describe-at (e ∷ es) (g ∷ gs) (suc i) d h l = describe-at es gs i d h.1 (omega arith)
-
-pub describe-append : (xs ys : List Entry) (us vs : List Group) → DescribeAll xs us → DescribeAll ys vs → DescribeAll (xs ++ ys) (us ++ vs)
-describe-append [] ys [] vs h k = k
-describe-append [] ys (u ∷ us) vs h k = absurd h
-describe-append (x ∷ xs) ys [] vs h k = absurd h
-describe-append (x ∷ xs) ys (u ∷ us) vs h k = (h.0, describe-append xs ys us vs h.1 k)
-
-pub describe-take : (es : List Entry) (gs : List Group) (i : ℕ) → DescribeAll es gs → DescribeAll (take i es) (take i gs)
-describe-take [] [] zero h = tt
-describe-take [] [] (suc i) h = tt
-describe-take [] (g ∷ gs) i h = absurd h
-describe-take (e ∷ es) [] i h = absurd h
-describe-take (e ∷ es) (g ∷ gs) zero h = tt
-describe-take (e ∷ es) (g ∷ gs) (suc i) h = (h.0, describe-take es gs i h.1)
-
-pub describe-drop : (es : List Entry) (gs : List Group) (i : ℕ) → DescribeAll es gs → DescribeAll (drop i es) (drop i gs)
-describe-drop [] [] zero h = tt
-describe-drop [] [] (suc i) h = tt
-describe-drop [] (g ∷ gs) i h = absurd h
-describe-drop (e ∷ es) [] i h = absurd h
-describe-drop (e ∷ es) (g ∷ gs) zero h = h
-describe-drop (e ∷ es) (g ∷ gs) (suc i) h = describe-drop es gs i h.1
-
-pub describe-set : (es : List Entry) (gs : List Group) (i : ℕ) (e : Entry) (g : Group) → DescribeAll es gs → Describes e g → DescribeAll (set es i e) (set gs i g)
-describe-set [] [] i e g h k = tt
-describe-set [] (u ∷ us) i e g h k = absurd h
-describe-set (x ∷ xs) [] i e g h k = absurd h
-describe-set (x ∷ xs) (u ∷ us) zero e g h k = (k, h.1)
-describe-set (x ∷ xs) (u ∷ us) (suc i) e g h k = (h.0, describe-set xs us i e g h.1 k)
-
--- what an index over bios shows
-pub index-from : (room : ℕ) (es : List Entry) (bs : List Bio) (gs : List Group) → DescribeAll es gs → bs ≡ concat gs → IsNonDecreasingBy (λ (e : Entry). e.lba) es → length bs ≤ room → room < 2 ^ 32 →
-    IsIndex room es bs × (split es bs ≡ gs)
-index-from room es bs gs h e r l k =
-    let s : split es bs ≡ gs = ap (split es) e ∙ split-concat es gs h in
-    (record { describes = subst (λ (z : List Group). DescribeAll es z) (sym s) h; whole = counted-length es gs h ∙ sym (ap length e); rising = r; within = l; small = k }, s)
-
--- ---- where a group's bios are
-
-pub cut-at : {A : Type 0} (xs : List A) (i : ℕ) (d : A) → i < length xs → xs ≡ take i xs ++ get_or xs i d ∷ drop (suc i) xs
-cut-at [] i d h = absurd (omega arith)
-cut-at (x ∷ xs) zero d h = refl
-cut-at (x ∷ xs) (suc i) d h = ap (λ z. x ∷ z) (cut-at xs i d (omega arith))
-
-pub before-length : (es : List Entry) (gs : List Group) (i : ℕ) → DescribeAll es gs → counted (take i es) ≡ length (concat (take i gs))
-before-length es gs i h = counted-length (take i es) (take i gs) (describe-take es gs i h)
-
--- ---- put
-
-put-at : (g : Group) (gs : List Group) (at : ℕ) → at ≤ length gs → ((k : ℕ) → k < at → lba_of (get_or gs k []) ≤ lba_of g) → (at < length gs → lba_of g < lba_of (get_or gs at [])) →
-    put g gs ≡ take at gs ++ g ∷ drop at gs
-put-at g [] zero l b a = refl
-put-at g [] (suc at) l b a = absurd (omega arith)
-put-at g (h ∷ hs) zero l b a = let e : nat_lt (lba_of g) (lba_of h) ≡ true = lt-ltb (lba_of g) (lba_of h) (a (omega arith)) in rw e refl
-put-at g (h ∷ hs) (suc at) l b a =
-    let e : nat_lt (lba_of g) (lba_of h) ≡ false = le-ltb (lba_of g) (lba_of h) (b 0 (omega arith)) in
-    rw e (ap (λ z. h ∷ z) (put-at g hs at (omega arith) (λ k m. b (suc k) (omega arith)) (λ m. a (omega arith))))
-
-pub put-shows : (room : ℕ) (es : List Entry) (bs : List Bio) (at from : ℕ) (e : Entry) (run : List Bio) → IsIndex room es bs → at ≤ length es →
-    ((k : ℕ) (d : Entry) → k < at → (get_or es k d).lba ≤ e.lba) → ((k : ℕ) (d : Entry) → at ≤ k → k < length es → e.lba < (get_or es k d).lba) →
-    Describes e run → length bs + length run ≤ room → from ≡ counted (take at es) →
-    IsIndex room (insert es at e) (take from bs ++ (run ++ drop from bs)) × (split (insert es at e) (take from bs ++ (run ++ drop from bs)) ≡ put run (split es bs))
-put-shows room es bs at from e run x l b a d r f =
-    let gs = split es bs in
-    let h = x.describes in
-    let n = (describe-length es (split es bs) h).0 in
-    let c = concat-split es bs x.whole in
-    let k = before-length es (split es bs) at h in
-    let p : bs ≡ concat (take at (split es bs)) ++ concat (drop at (split es bs)) = sym c ∙ ap concat (sym (take-append-drop at (split es bs))) ∙ concat-append (take at (split es bs)) (drop at (split es bs)) in
-    let t : take from bs ≡ concat (take at (split es bs)) = ap (take from) p ∙ take_at (concat (take at (split es bs))) (concat (drop at (split es bs))) from (omega arith) in
-    let u : drop from bs ≡ concat (drop at (split es bs)) = ap (drop from) p ∙ drop_at (concat (take at (split es bs))) (concat (drop at (split es bs))) from (omega arith) in
-    let w : take from bs ++ (run ++ drop from bs) ≡ concat (take at (split es bs) ++ run ∷ drop at (split es bs)) =
-    ap (λ z. z ++ (run ++ drop from bs)) t ∙ ap (λ z. concat (take at (split es bs)) ++ (run ++ z)) u ∙ sym (concat-append (take at (split es bs)) (run ∷ drop at (split es bs))) in
-    let q = put-at run (split es bs) at (omega arith)
-    (λ k m. (let v = describe-at es (split es bs) k no_entry h (omega arith) in let y = v.lba in let z = b k no_entry m in let i = d.lba in omega arith))
-    (λ m. (let v = describe-at es (split es bs) at no_entry h (omega arith) in let y = v.lba in let z = a at no_entry (omega arith) (omega arith) in let i = d.lba in omega arith)) in
-    let s = index-from room (insert es at e) (take from bs ++ (run ++ drop from bs)) (take at (split es bs) ++ run ∷ drop at (split es bs))
-    (describe-append (take at es) (e ∷ drop at es) (take at (split es bs)) (run ∷ drop at (split es bs)) (describe-take es (split es bs) at h) (d, describe-drop es (split es bs) at h))
-    w
-    (IsNonDecreasingBy-insert (λ (e : Entry). e.lba) es at e x.rising l b (λ k d m n. (let z = a k d m n in omega arith)))
-    (let y = length-append (take from bs) (run ++ drop from bs) in let z = length-append run (drop from bs) in let i = length-take from bs in let j = length-drop from bs in omega arith) x.small in
-    (s.0, s.1 ∙ sym q)
-
-bios-in-concat : (gs : List Group) → bios_in gs ≡ length (concat gs)
-bios-in-concat [] = refl
-bios-in-concat (g ∷ gs) = let e = bios-in-concat gs in let a = length-append g (concat gs) in omega arith
+pub alone : (room : ℕ) (es : List Entry) (bios : List Bio) (next : List ℕ) (free left i : ℕ) (e : Entry) → IsIndex room es bios next free left → i < length es → e ≡ get_or es i e →
+    Alone es next free left i e
+alone room es bios next free left i e s h q =
+    let k = known room es bios next free left i e s h q in
+    let some = k.stands.describes.some in
+    let m : suc (e.bios - 1) ≡ e.bios = omega arith in
+    let o = once room es bios next free left s e.last in
+    let one = total-one (use_of next e.last) es i e h in
+    let c = ap (use_of next e.last) q in
+    let t : 1 ≤ use_of next e.last e = subst (λ l. 1 ≤ times l (path next e.first e.bios)) (sym k.stands.last) (times-after next e.first (e.bios - 1) e.bios (omega arith)) in
+    let u : times (after next e.first (e.bios - 1)) (path next e.first (suc (e.bios - 1))) ≤ 1 =
+    subst (λ n. times (after next e.first (e.bios - 1)) (path next e.first n) ≤ 1) (sym m) (subst (λ l. times l (path next e.first e.bios) ≤ 1) k.stands.last (omega arith)) in
+    record {
+      others = λ j d l ne.
+          (let two = total-two (use_of next e.last) es i j d h l (λ z. ne (sym z)) in
+          let p = ap (use_of next e.last) (get_or_default es i d e h) in
+          omega arith);
+      apart = omega arith;
+      before = subst (λ l. times l (path next e.first (e.bios - 1)) ≡ 0) (sym k.stands.last) (last-once next e.first (e.bios - 1) u);
+    }
 
 -- the sizes of what is shown
-pub record Sizes (es : List Entry) (bs : List Bio) (gs : List Group) (room : ℕ) : Type 0 where
-  pub bios : bios_in gs ≡ length bs
+pub record Sizes (es : List Entry) (gs : List Group) (room left : ℕ) : Type 0 where
+  pub bios : bios_in gs + left ≡ room
   pub groups : length gs ≡ length es
-  pub few : length es ≤ length bs
-  pub within : length bs ≤ room
+  pub few : length es + left ≤ room
   pub small : room < 2 ^ 32
-  pub counted : counted es ≡ length bs
 
-pub sizes : (room : ℕ) (es : List Entry) (bs : List Bio) (q : Queued) → IsIndex room es bs → record { groups = split es bs; room = room } ≡ q → Sizes es bs q.groups room
-sizes room es bs q x v =
-    let g : split es bs ≡ q.groups = ap (λ z. z.groups) v in
-    let a = bios-in-concat (split es bs) in
-    let b = ap length (concat-split es bs x.whole) in
-    let c = describe-length es (split es bs) x.describes in
-    let c₀ = c.0 in
-    let c₁ = c.1 in
-    let w = x.whole in
-    let n = ap length g in
-    let m = ap bios_in g in
-    record { bios = omega arith; groups = omega arith; few = omega arith; within = x.within; small = x.small; counted = w }
+-- no group has more bios than all of them
+pub one-group : (gs : List Group) (i : ℕ) → length (get_or gs i []) ≤ bios_in gs
+one-group [] i = omega arith
+one-group (g ∷ gs) zero = omega arith
+one-group (g ∷ gs) (suc i) = let e = one-group gs i in omega arith
 
--- the code of put, in one fact
-pub put-whole : (room : ℕ) (es es' : List Entry) (bs bs' : List Bio) (q : Queued) (index₁ index₂ : List Entry) (at from : ℕ) (e : Entry) (run : List Bio) →
-    IsIndex room es bs → record { groups = split es bs; room = room } ≡ q → index₁ ≡ es → index₂ ≡ es → at ≤ length index₁ →
-    ((k : ℕ) (d : Entry) → k < at → (get_or index₁ k d).lba ≤ e.lba) → ((k : ℕ) (d : Entry) → at ≤ k → k < length index₁ → e.lba < (get_or index₁ k d).lba) →
-    Describes e run → bios_in q.groups + length run ≤ q.room → from ≡ counted (take at index₂) →
-    es' ≡ insert es at e → bs' ≡ take from bs ++ (run ++ drop from bs) →
-    IsIndex room es' bs' × (split es' bs' ≡ put run q.groups)
-put-whole room es es' bs bs' q index₁ index₂ at from e run x v i j l b a d r f y z =
-    let s = sizes room es bs q x v in
-    let m = ap (λ (w : Queued). w.room) v in
-    let n = s.bios in
-    let g : split es bs ≡ q.groups = ap (λ (w : Queued). w.groups) v in
-    let p = put-shows room es bs at from e run x (rw i at l) (rw i at b) (rw i at a) d (omega arith) (rw j at f) in
-    (rw (y, z) p.0, rw (y, z) (p.1 ∙ ap (put run) g))
+bios-shown : (bios : List Bio) (next : List ℕ) (es : List Entry) → bios_in (groups_of es bios next) ≡ total (λ e. e.bios) es
+bios-shown bios next [] = refl
+bios-shown bios next (e ∷ es) =
+    let a = length-bios_at bios (path next e.first e.bios) in
+    let b = length-path next e.first e.bios in
+    let c = bios-shown bios next es in
+    omega arith
 
--- an element after one was set
-pub data AtSet {A : Type 0} (xs : List A) (a : ℕ) (x d : A) (i : ℕ) : Type 0 where
-  Same : i ≡ a → a < length xs → get_or (set xs a x) i d ≡ x → AtSet xs a x d i
-  Other : (i ≡ a → ⊥) → get_or (set xs a x) i d ≡ get_or xs i d → AtSet xs a x d i
-  Past : length xs ≤ a → get_or (set xs a x) i d ≡ get_or xs i d → AtSet xs a x d i
+enough : (es : List Entry) → ((i : ℕ) (d : Entry) → i < length es → 1 ≤ (get_or es i d).bios) → length es ≤ total (λ e. e.bios) es
+enough [] h = omega arith
+enough (e ∷ es) h = let a = h 0 e (omega arith) in let b = enough es (λ i d l. h (suc i) d (omega arith)) in omega arith
 
-pub at_set : {A : Type 0} (xs : List A) (a : ℕ) (x d : A) (i : ℕ) → AtSet xs a x d i
-at_set xs a x d i =
-    ⊎_elim
-    (λ (e : i ≡ a). ⊎_elim
-    (λ (h : a < length xs). Same e h (rw e (get_or-set_same xs a x d h)))
-    (λ (h : length xs ≤ a). Past h (ap (λ l. get_or l i d) (set_past xs a x h)))
-    (cases_lt a (length xs)))
-    (λ (ne : i ≡ a → ⊥). Other ne (get_or-set_other xs a i x d ne))
-    (cases_eq i a)
+pub sizes : (room : ℕ) (es : List Entry) (bios : List Bio) (next : List ℕ) (free left : ℕ) (q : Queued) → IsIndex room es bios next free left →
+    record { groups = groups_of es bios next; room = room } ≡ q → Sizes es q.groups room left
+sizes room es bios next free left q s v =
+    let g = ap (λ (w : Queued). w.groups) v in
+    let a = bios-shown bios next es in
+    let b = ap bios_in g in
+    let c = ap length g in
+    let d = length-map es (group_at bios next) in
+    let w = s.whole in
+    let e = enough es (λ i d l. (s.stands i d l).describes.some) in
+    record { bios = omega arith; groups = omega arith; few = omega arith; small = s.small }
 
-pub size-append : (xs ys : List Bio) → size (xs ++ ys) ≡ size xs + size ys
-size-append [] ys = omega arith
-size-append (b ∷ xs) ys = let e = size-append xs ys in omega arith
+-- two groups' sums fit
+pub fit : (room : ℕ) (es : List Entry) (bios : List Bio) (next : List ℕ) (free left i j : ℕ) (a b : Entry) → IsIndex room es bios next free left →
+    i < length es → j < length es → (i ≡ j → ⊥) → a ≡ get_or es i a → b ≡ get_or es j b → Fit a b
+fit room es bios next free left i j a b s h l ne p q =
+    let two = total-two (λ e. e.bios) es i j a h l ne in
+    let x = (known room es bios next free left i a s h p).stands.describes in
+    let y = (known room es bios next free left j b s l q).stands.describes in
+    let m = ap (λ (d : Entry). d.bios) p in
+    let n = ap (λ (d : Entry). d.bios) (get_or_default es j a b l ∙ sym q) in
+    let w = s.whole in
+    let k = s.small in
+    record { bios = omega arith; blocks = omega (arith, x.few_blocks, y.few_blocks); segs = omega (arith, x.few_segs, y.few_segs); pi_segs = omega (arith, x.few_pi_segs, y.few_pi_segs); ends = x.ends }

@@ -1,5 +1,5 @@
 -- Only the groups that begin where another ends may be joined behind it.
-use Rattle.std.proofs.Common.{◌≡◌, ℕ, zero, suc, ◌+◌, ◌-◌, ◌<◌, ◌≤◌, Bool, true, false, not, eqb, List, [], ◌∷◌, ◌++◌, length, get_or, map, refl, sym, ap, ◌∙◌, ⊎_elim, arith, append-nil, append_assoc, length-append}
+use Rattle.std.proofs.Common.{◌≡◌, ℕ, zero, suc, ◌+◌, ◌-◌, ◌<◌, ◌≤◌, Bool, true, false, not, eqb, List, [], ◌∷◌, ◌++◌, length, get_or, map, refl, sym, ap, ◌∙◌, subst, ⊎_elim, arith, append-nil, append_assoc, length-append}
 use Rattle.std.specs.Prelude.{if◌then◌else◌}
 use Rattle.std.specs.List.{filter, flat_map}
 use Rattle.std.proofs.lemmas.Bool.{cases_Bool, cases_lt, and_left, and_right, ne_eqb}
@@ -8,11 +8,9 @@ use Rattle.std.proofs.lemmas.List.{get_or_append_left, get_or-append_right, get_
 use Rattle.bio_core.specs.declared.bio.Bio.{Bio}
 use Rattle.merge_queue.specs.declared.limits.Limits.{Limits}
 use Rattle.merge_queue.specs.declared.entries.Entry.{Entry}
-use Rattle.merge_queue.specs.Groups.{size}
-use Rattle.merge_queue.specs.Groups.{Group, lba_of, dir_of, same_dir, may_follow, may_join, group_in, numbers, followers, pairs_below}
-use Rattle.merge_queue.specs.Index.{Queued, split, Describes, IsIndex}
-use Rattle.merge_queue.proofs.Index.{no_entry, describe-length, describe-at}
-use Rattle.merge_queue.proofs.Moves.{entered}
+use Rattle.merge_queue.specs.Groups.{size, Group, lba_of, dir_of, same_dir, may_follow, may_join, group_in, numbers, followers, pairs_below}
+use Rattle.merge_queue.specs.Index.{Queued, group_at, groups_of, Describes, IsIndex}
+use Rattle.merge_queue.proofs.Index.{known}
 
 pub numbers-split : (k a b n : ℕ) → n ≡ a + b → numbers k n ≡ numbers k a ++ numbers (k + a) b
 numbers-split k zero b n e = let f : n ≡ b = omega arith in let g : k + 0 ≡ k = omega arith in rw (f, g) refl
@@ -60,47 +58,53 @@ no-join lim gs i j ne =
     (and_right (same_dir (dir_of (group_in gs i)) (dir_of (group_in gs j))) _ (and_left (eqb (lba_of (group_in gs i) + size (group_in gs i)) (lba_of (group_in gs j))) _ e))
 
 -- the groups behind group i, in one fact
-pub behind-whole : (room : ℕ) (es : List Entry) (bs : List Bio) (q : Queued) (index₁ index₂ : List Entry) (i from to : ℕ) (x : Entry) →
-    IsIndex room es bs → record { groups = split es bs; room = room } ≡ q → i < length es → x ≡ get_or es i x → index₁ ≡ es → index₂ ≡ es → from ≤ length index₁ → to ≤ length index₂ →
-    ((k : ℕ) (d : Entry) → k < from → (get_or index₁ k d).lba < x.lba + x.blocks) → ((k : ℕ) (d : Entry) → to ≤ k → k < length index₂ → x.lba + x.blocks < (get_or index₂ k d).lba) →
-    (lim : Limits) → followers lim q.groups i ≡ filter (may_join lim q.groups i) (numbers from (to - from))
-behind-whole room es bs q index₁ index₂ i from to x s v h g e₁ e₂ l₁ m a b lim =
-    let gq : split es bs ≡ q.groups = ap (λ (w : Queued). w.groups) v in
-    rw (← gq) (inner gq)
+pub behind-whole : (room : ℕ) (es : List Entry) (bios : List Bio) (next : List ℕ) (free left : ℕ) (q : Queued) (begins begins₁ begins₂ : List ℕ) (i from to : ℕ) (e : Entry) →
+    IsIndex room es bios next free left → record { groups = groups_of es bios next; room = room } ≡ q → begins ≡ map (λ (d : Entry). d.lba) es → i < length es → e ≡ get_or es i e → begins₁ ≡ begins → begins₂ ≡ begins → from ≤ length begins₁ → to ≤ length begins₂ →
+    ((k d : ℕ) → k < from → get_or begins₁ k d < e.lba + e.blocks) → ((k d : ℕ) → to ≤ k → k < length begins₂ → e.lba + e.blocks < get_or begins₂ k d) →
+    (from ≤ to) × ((lim : Limits) → followers lim q.groups i ≡ filter (may_join lim q.groups i) (numbers from (to - from)))
+behind-whole room es bios next free left q begins begins₁ begins₂ i from to e s v bg h g e₁ e₂ l₁ m a b =
+    let gq : groups_of es bios next ≡ q.groups = ap (λ (w : Queued). w.groups) v in
+    (ordered, λ lim. rw (← gq) (inner lim))
   where
-    n : length es ≡ length (split es bs)
-    n = (describe-length es (split es bs) s.describes).0
-
-    l : from ≤ to
-    l =
+    ordered : from ≤ to
+    ordered =
         ⊎_elim
-        (λ (k : to < from). let y = (rw e₁ at a) to no_entry k in let z = (rw e₂ at b) to no_entry (omega arith) (let w : from ≤ length es = rw e₁ at l₁ in omega arith) in absurd (omega arith))
+        (λ (k : to < from). let y = (rw e₁ at a) to 0 k in let z = (rw e₂ at b) to 0 (omega arith) (let w : from ≤ length begins = rw e₁ at l₁ in omega arith) in absurd (omega arith))
         (λ (k : from ≤ to). k)
         (cases_lt to from)
 
-    m' : to ≤ length es
-    m' = rw e₂ at m
+    starts-long : length begins ≡ length es
+    starts-long = ap length bg ∙ length-map es (λ (d : Entry). d.lba)
 
-    here : Describes x (get_or (split es bs) i [])
-    here = (entered room es bs i x s h g).describes
+    within : to ≤ length es
+    within = let w : to ≤ length begins = rw e₂ at m in omega (arith, starts-long)
 
-    low : (j : ℕ) → j < from → lba_of (group_in (split es bs) i) + size (group_in (split es bs) i) ≡ lba_of (group_in (split es bs) j) → ⊥
-    low j k e =
-        let d = describe-at es (split es bs) j no_entry s.describes (omega (arith, m', l)) in
-        let y = (rw e₁ at a) j no_entry k in
-        let p = here.lba in let r = here.blocks in let u = d.lba in omega arith
+    long : length (groups_of es bios next) ≡ length es
+    long = length-map es (group_at bios next)
 
-    high : (j : ℕ) → to ≤ j → j < length (split es bs) → lba_of (group_in (split es bs) i) + size (group_in (split es bs) i) ≡ lba_of (group_in (split es bs) j) → ⊥
-    high j k z e =
-        let d = describe-at es (split es bs) j no_entry s.describes (omega (arith, n)) in
-        let y = (rw e₂ at b) j no_entry k (omega (arith, n)) in
-        let p = here.lba in let r = here.blocks in let u = d.lba in omega arith
+    here : Describes e (group_in (groups_of es bios next) i)
+    here = let k = known room es bios next free left i e s h g in subst (Describes e) (sym k.group) k.stands.describes
 
-    inner : split es bs ≡ q.groups → followers lim (split es bs) i ≡ filter (may_join lim (split es bs) i) (numbers from (to - from))
-    inner gq =
-        between (may_join lim (split es bs) i) (length (split es bs)) from to l (omega (arith, n, m'))
-        (λ j k. no-join lim (split es bs) i j (low j k))
-        (λ j k z. no-join lim (split es bs) i j (high j k z))
+    there : (j : ℕ) → j < length es → get_or begins j 0 ≡ lba_of (group_in (groups_of es bios next) j)
+    there j k = ap (λ z. get_or z j 0) bg ∙ get_or-map (λ (d : Entry). d.lba) es j e 0 k ∙ (s.stands j e k).describes.lba ∙ ap lba_of (sym (get_or-map (group_at bios next) es j e [] k))
+
+    low : (j : ℕ) → j < from → lba_of (group_in (groups_of es bios next) i) + size (group_in (groups_of es bios next) i) ≡ lba_of (group_in (groups_of es bios next) j) → ⊥
+    low j k c =
+        let d = there j (omega (arith, within, ordered)) in
+        let y = (rw e₁ at a) j 0 k in
+        let p = here.lba in let r = here.blocks in omega arith
+
+    high : (j : ℕ) → to ≤ j → j < length (groups_of es bios next) → lba_of (group_in (groups_of es bios next) i) + size (group_in (groups_of es bios next) i) ≡ lba_of (group_in (groups_of es bios next) j) → ⊥
+    high j k z c =
+        let d = there j (omega (arith, long)) in
+        let y = (rw e₂ at b) j 0 k (omega (arith, long, starts-long)) in
+        let p = here.lba in let r = here.blocks in omega arith
+
+    inner : (lim : Limits) → followers lim (groups_of es bios next) i ≡ filter (may_join lim (groups_of es bios next) i) (numbers from (to - from))
+    inner lim =
+        between (may_join lim (groups_of es bios next) i) (length (groups_of es bios next)) from to ordered (omega (arith, long, within))
+        (λ j k. no-join lim (groups_of es bios next) i j (low j k))
+        (λ j k z. no-join lim (groups_of es bios next) i j (high j k z))
 
 pub one-or-none : (b : Bool) → (if b then 1 else 0) ≤ 1
 one-or-none true = omega arith

@@ -1,3 +1,6 @@
+pub mod Lists
+pub mod Linking
 pub mod Index
-pub mod Joins
 pub mod Moves
+pub mod Held
+pub mod Joins

@@ -1,69 +1,25 @@
--- Groups of an index that leave it or become one.
-use Rattle.std.proofs.Common.{◌≡◌, ℕ, zero, suc, ◌+◌, ◌-◌, ◌<◌, ◌≤◌, true, false, List, [], ◌∷◌, ◌++◌, length, get_or, set, take, drop, refl, sym, ap, ◌∙◌, subst, ⊎_elim, arith, length-append, append_assoc}
-use Rattle.std.specs.Prelude.{nat_le}
-use Rattle.std.specs.List.{remove}
+-- What becomes of an index over chains as groups are put, joined and taken.
+use Rattle.std.proofs.Common.{◌≡◌, ℕ, zero, suc, ◌+◌, ◌-◌, ◌^◌, ◌<◌, ◌≤◌, true, false, List, [], ◌∷◌, ◌++◌, length, get_or, set, take, drop, refl, sym, ap, ◌∙◌, subst, ⊎_elim, arith, length-append, append-nil}
+use Rattle.std.specs.Prelude.{nat_lt}
+use Rattle.std.specs.List.{insert, remove}
 use Rattle.std.specs.List.Sorted.{IsNonDecreasingBy}
-use Rattle.std.proofs.lemmas.Bool.{cases_lt, le-leb, lt-leb}
-use Rattle.std.proofs.lemmas.List.{take_at, drop_at, drop-drop, length-take, length-drop, length-take-le, length-set, get_or-drop, get_or_default, take-take}
+use Rattle.std.proofs.lemmas.Bool.{lt-ltb, le-ltb, cases_eq, cases_lt}
+use Rattle.std.proofs.lemmas.List.{get_or-set_same, get_or-set_other, get_or_default, get_or-map, length-map, length-set, take_all, drop_all}
 use Rattle.std.proofs.lemmas.List.Edits.{get_or-remove_below, get_or-remove_above, length-remove}
+use Rattle.std.proofs.lemmas.List.Sorted.{IsNonDecreasingBy-insert}
 use Rattle.bio_core.specs.declared.bio.Bio.{Bio}
 use Rattle.merge_queue.specs.declared.entries.Entry.{Entry}
-use Rattle.merge_queue.specs.Groups.{size}
-use Rattle.merge_queue.specs.Groups.{Group, lba_of, dir_of, segs_of, pi_segs_of, without, joined, group_in}
-use Rattle.merge_queue.specs.Index.{Queued, counted, split, Describes, DescribeAll, IsIndex, turned, brought, both, Fit}
-use Rattle.merge_queue.proofs.Index.{size-append}
-use Rattle.merge_queue.proofs.Index.{AtSet, Same, Other, Past, at_set}
-use Rattle.merge_queue.proofs.Index.{counted-more, counted-front, concat, concat-append, concat-split, describe-length, describe-at, describe-append, describe-take, describe-drop, describe-set, index-from, cut-at, before-length}
+use Rattle.merge_queue.specs.Chains.{after, path, bios_at, filled, times}
+use Rattle.merge_queue.specs.Groups.{Group, lba_of, dir_of, segs_of, pi_segs_of, size, put, without, joined, group_in, numbers}
+use Rattle.merge_queue.specs.Index.{Queued, group_at, groups_of, use_of, Describes, Stands, IsIndex, both}
+use Rattle.merge_queue.proofs.Lists.{total-insert, total-without, total-one, total-set, total-gone, map-set, map-gone, map-without, map-insert, all-insert, all-set, all-gone, without-remove}
+use Rattle.merge_queue.proofs.Linking.{length-path, path-more, times-append, times-less, path-set, after-set, linked, after-linked, bios_at-append, bios_at-other, bios_at-filled, length-filled, path-of_one, times-numbers, length-numbers}
+use Rattle.merge_queue.proofs.Index.{allowed, once, known, alone}
 
--- ---- places
-
-counted-rises : (es : List Entry) (i j : ℕ) → i ≤ j → counted (take i es) ≤ counted (take j es)
-counted-rises es i j h = let e = ap counted (take-take i j es h) in let f = counted-front (take j es) i in omega arith
-
-pub record Entered (es : List Entry) (bs : List Bio) (i : ℕ) (x : Entry) : Type 0 where
-  pub describes : Describes x (get_or (split es bs) i [])
-  pub ends : counted (take i es) + x.bios ≤ length bs
-  pub next : counted (take (i + 1) es) ≡ counted (take i es) + x.bios
-
-pub entered : (room : ℕ) (es : List Entry) (bs : List Bio) (i : ℕ) (x : Entry) → IsIndex room es bs → i < length es → x ≡ get_or es i x → Entered es bs i x
-entered room es bs i x s h e =
-    let m = counted-more es i x h in
-    let f = counted-front es (i + 1) in
-    let w = s.whole in
-    let b = ap (λ (y : Entry). y.bios) e in
-    record {
-      describes = subst (λ (y : Entry). Describes y (get_or (split es bs) i [])) (sym e) (describe-at es (split es bs) i x s.describes h);
-      ends = omega arith;
-      next = omega arith;
-    }
-
--- two groups don't overlap, and their sums fit
-pub apart : (room : ℕ) (es : List Entry) (bs : List Bio) (i j : ℕ) (x y : Entry) → IsIndex room es bs → Entered es bs i x → Entered es bs j y → (i ≡ j → ⊥) →
-    counted (take j es) < counted (take i es) + x.bios → counted (take j es) + y.bios ≤ counted (take i es) + x.bios
-apart room es bs i j x y s a b ne h =
-    ⊎_elim
-    (λ (l : i < j). let r = counted-rises es (i + 1) j (omega arith) in let n = a.next in absurd (omega arith))
-    (λ (l : j ≤ i). let r = counted-rises es (j + 1) i (below l) in let n = b.next in omega arith)
-    (cases_lt i j)
-  where
-    below : j ≤ i → j + 1 ≤ i
-    below l = omega arith
-
-pub fit : (room : ℕ) (es : List Entry) (bs : List Bio) (i j : ℕ) (x y : Entry) → IsIndex room es bs → Entered es bs i x → Entered es bs j y → (i ≡ j → ⊥) → Fit x y
-fit room es bs i j x y s a b ne =
-    let few : x.bios + y.bios ≤ length bs =
-    ⊎_elim
-    (λ (l : i < j). let r = counted-rises es (i + 1) j (omega arith) in let n = a.next in let m = b.ends in omega arith)
-    (λ (l : j ≤ i). let r = counted-rises es (j + 1) i (below l) in let n = b.next in let m = a.ends in omega arith)
-    (cases_lt i j) in
-    let w = s.within in
-    let k = s.small in
-    let p = a.describes in
-    let q = b.describes in
-    record { bios = omega arith; blocks = omega arith; segs = omega arith; pi_segs = omega arith; ends = p.ends }
-  where
-    below : j ≤ i → j + 1 ≤ i
-    below l = omega arith
+-- the index that is left, and what it shows
+pub record Shows (room : ℕ) (es : List Entry) (bios : List Bio) (next : List ℕ) (free left : ℕ) (gs : List Group) : Type 0 where
+  pub index : IsIndex room es bios next free left
+  pub groups : groups_of es bios next ≡ gs
 
 -- ---- sorted still
 
@@ -84,167 +40,80 @@ rising-remove es i h r a b d l m =
     (cases_lt a i))
     (cases_lt b i)
 
-lba-set : (es : List Entry) (i : ℕ) (x : Entry) (a : ℕ) (d : Entry) → x.lba ≡ (get_or es i d).lba → (get_or (set es i x) a d).lba ≡ (get_or es a d).lba
-lba-set es i x a d h = from (at_set es i x d a)
-  where
-    from : AtSet es i x d a → (get_or (set es i x) a d).lba ≡ (get_or es a d).lba
-    from (Same e l q) = rw (q, e) h
-    from (Other ne q) = rw q refl
-    from (Past l q) = rw q refl
+lba-set : (es : List Entry) (i : ℕ) (e : Entry) (a : ℕ) (d : Entry) → i < length es → e.lba ≡ (get_or es i d).lba → (get_or (set es i e) a d).lba ≡ (get_or es a d).lba
+lba-set es i e a d h q =
+    ⊎_elim
+    (λ (p : a ≡ i). let s : get_or (set es i e) a d ≡ e = ap (λ k. get_or (set es i e) k d) p ∙ get_or-set_same es i e d h in let t = ap (λ k. (get_or es k d).lba) p in ap (λ (x : Entry). x.lba) s ∙ q ∙ sym t)
+    (λ (n : a ≡ i → ⊥). ap (λ (x : Entry). x.lba) (get_or-set_other es i a e d n))
+    (cases_eq a i)
 
-rising-set : (es : List Entry) (i : ℕ) (x : Entry) → i < length es → ((d : Entry) → x.lba ≡ (get_or es i d).lba) → IsNonDecreasingBy (λ (e : Entry). e.lba) es → IsNonDecreasingBy (λ (e : Entry). e.lba) (set es i x)
-rising-set es i x h e r a b d l m =
-    let n = length-set es i x in
-    let p = lba-set es i x a d (e d) in
-    let q = lba-set es i x b d (e d) in
+rising-set : (es : List Entry) (i : ℕ) (e : Entry) → i < length es → ((d : Entry) → e.lba ≡ (get_or es i d).lba) → IsNonDecreasingBy (λ (e : Entry). e.lba) es → IsNonDecreasingBy (λ (e : Entry). e.lba) (set es i e)
+rising-set es i e h q r a b d l m =
+    let n = length-set es i e in
+    let x = lba-set es i e a d h (q d) in
+    let y = lba-set es i e b d h (q d) in
     let g = r a b d l (omega arith) in
     omega arith
 
--- ---- a group leaves
+-- ---- a link is set behind the last place of a group
 
-pub without-remove : {A : Type 0} (xs : List A) (i : ℕ) → i < length xs → without i xs ≡ remove xs i
-without-remove [] i h = absurd (omega arith)
-without-remove (x ∷ xs) zero h = refl
-without-remove (x ∷ xs) (suc i) h = ap (λ z. x ∷ z) (without-remove xs i (omega arith))
-
-pub record Parts (bs P M Q : List Bio) (at n : ℕ) : Type 0 where
-  pub front : take at bs ≡ P
-  pub mid : take n (drop at bs) ≡ M
-  pub rest : drop (at + n) bs ≡ Q
-
-parts : (bs P M Q : List Bio) (at n : ℕ) → bs ≡ P ++ (M ++ Q) → length P ≡ at → length M ≡ n → Parts bs P M Q at n
-parts bs P M Q at n e h k =
-    let d : drop at bs ≡ M ++ Q = ap (drop at) e ∙ drop_at P (M ++ Q) at h in
+-- another group's chain stays
+keeps : (bios : List Bio) (next : List ℕ) (l v : ℕ) (e : Entry) → use_of next l e ≡ 0 → Stands bios next e → Stands bios (set next l v) e
+keeps bios next l v e h s =
+    let a = times-less next l e.first (e.bios - 1) e.bios (omega arith) in
     record {
-      front = ap (take at) e ∙ take_at P (M ++ Q) at h;
-      mid = ap (take n) d ∙ take_at M Q n k;
-      rest = sym (drop-drop n at bs) ∙ ap (drop n) d ∙ drop_at M Q n k;
+      describes = subst (λ ps. Describes e (bios_at bios ps)) (sym (path-set next l v e.first e.bios h)) s.describes;
+      last = s.last ∙ sym (after-set next l v e.first (e.bios - 1) (omega arith));
     }
 
-pub record Left (room : ℕ) (es es' : List Entry) (bs bs' : List Bio) (gs : List Group) (i n at : ℕ) : Type 0 where
-  pub index : IsIndex room es' bs'
-  pub groups : split es' bs' ≡ without i gs
-  pub moved : take n (drop at bs) ≡ group_in gs i
-  pub fewer : length bs' ≤ length bs
+-- the group's chain goes on with another
+goes-on : (next : List ℕ) (e : Entry) (b n room : ℕ) → length next ≡ room → e.last < room → 1 ≤ e.bios → e.last ≡ after next e.first (e.bios - 1) → times e.last (path next e.first (e.bios - 1)) ≡ 0 → times e.last (path next b n) ≡ 0 →
+    (path (set next e.last b) e.first (e.bios + n) ≡ path next e.first e.bios ++ path next b n) × (1 ≤ n → times e.last (path next b (n - 1)) ≡ 0 → after (set next e.last b) e.first (e.bios + n - 1) ≡ after next b (n - 1))
+goes-on next e b n room g w some last before other =
+    let m : suc (e.bios - 1) ≡ e.bios = omega arith in (
+      subst (λ k. path (set next e.last b) e.first (k + n) ≡ path next e.first k ++ path next b n) m (linked next e.last e.first (e.bios - 1) b n last (omega arith) before other),
+      λ h o. (let k : suc (e.bios - 1) + (n - 1) ≡ e.bios + n - 1 = omega arith in ap (after (set next e.last b) e.first) (sym k) ∙ after-linked next e.last e.first (e.bios - 1) b (n - 1) last (omega arith) before o),
+    )
 
--- the code of take, in one fact
-pub take-whole : (room : ℕ) (es es' : List Entry) (bs bs' : List Bio) (q : Queued) (index : List Entry) (i at : ℕ) (x : Entry) →
-    IsIndex room es bs → record { groups = split es bs; room = room } ≡ q → index ≡ es → i < length es → x ≡ get_or es i x → at ≡ counted (take i index) →
-    es' ≡ remove es i → bs' ≡ take at bs ++ drop (at + x.bios) bs → Left room es es' bs bs' q.groups i x.bios at
-take-whole room es es' bs bs' q index i at x s v e h g a y z =
-    let t = entered room es bs i x s h g in
-    let d = s.describes in
-    let l = describe-length es (split es bs) d in
-    let l₀ = l.0 in
-    let gq : split es bs ≡ q.groups = ap (λ (w : Queued). w.groups) v in
-    let c : bs ≡ concat (take i (split es bs)) ++ (get_or (split es bs) i [] ++ concat (drop (suc i) (split es bs))) =
-    sym (concat-split es bs s.whole) ∙ ap concat (cut-at (split es bs) i [] (omega arith)) ∙ concat-append (take i (split es bs)) (get_or (split es bs) i [] ∷ drop (suc i) (split es bs)) in
-    let b = before-length es (split es bs) i d in
-    let a' : at ≡ counted (take i es) = rw e at a in
-    let p = parts bs (concat (take i (split es bs))) (get_or (split es bs) i []) (concat (drop (suc i) (split es bs))) at x.bios c (omega arith) t.describes.bios in
-    let n : bs' ≡ concat (take i (split es bs) ++ drop (suc i) (split es bs)) =
-    z ∙ ap (λ w. w ++ drop (at + x.bios) bs) p.front ∙ ap (λ w. concat (take i (split es bs)) ++ w) p.rest ∙ sym (concat-append (take i (split es bs)) (drop (suc i) (split es bs))) in
-    let m : length bs' ≤ length bs = (let u = ap length z in let f = length-append (take at bs) (drop (at + x.bios) bs) in let j = length-take at bs in let k = length-drop (at + x.bios) bs in omega arith) in
-    let w = s.within in
-    let r = index-from room (remove es i) bs' (take i (split es bs) ++ drop (suc i) (split es bs))
-    (describe-append (take i es) (drop (suc i) es) (take i (split es bs)) (drop (suc i) (split es bs)) (describe-take es (split es bs) i d) (describe-drop es (split es bs) (suc i) d))
-    n (rising-remove es i h s.rising) (omega arith) s.small in
-    record {
-      index = rw y r.0;
-      groups = rw y (r.1 ∙ sym (without-remove (split es bs) i (omega arith)) ∙ ap (without i) gq);
-      moved = p.mid ∙ ap (λ w. get_or w i []) gq;
-      fewer = m;
-    }
+-- ---- a group is taken
+
+pub take-whole : (room : ℕ) (es es' : List Entry) (bios : List Bio) (next : List ℕ) (free left i : ℕ) (q : Queued) (e : Entry) →
+    IsIndex room es bios next free left → record { groups = groups_of es bios next; room = room } ≡ q → i < length es → e ≡ get_or es i e → es' ≡ remove es i →
+    Shows room es' bios (set next e.last free) e.first (left + e.bios) (without i q.groups)
+take-whole room es es' bios next free left i q e s v h p r =
+    let k = known room es bios next free left i e s h p in
+    let o = alone room es bios next free left i e s h p in
+    let w = sym (without-remove es i h) in
+    let es-is : without i es ≡ es' = without-remove es i h ∙ sym r in
+    let g = goes-on next e free left room s.next_long k.last k.stands.describes.some k.stands.last o.before o.apart in
+    let n : left + e.bios ≡ e.bios + left = omega arith in
+    let chain : path (set next e.last free) e.first (left + e.bios) ≡ path next e.first e.bios ++ path next free left = ap (path (set next e.last free) e.first) n ∙ g.0 in
+    let same : (j : ℕ) → j < length es → (j ≡ i → ⊥) → path (set next e.last free) (get_or es j e).first (get_or es j e).bios ≡ path next (get_or es j e).first (get_or es j e).bios =
+    (λ j l ne. path-set next e.last free (get_or es j e).first (get_or es j e).bios (o.others j e l ne)) in
+    let shows : groups_of (without i es) bios (set next e.last free) ≡ without i q.groups =
+    map-gone (group_at bios (set next e.last free)) (group_at bios next) es i e h (λ j l ne. ap (bios_at bios) (same j l ne)) ∙ ap (λ (z : Queued). without i z.groups) v in
+    let index : IsIndex room (without i es) bios (set next e.last free) e.first (left + e.bios) = record {
+      stands = all-gone (Stands bios (set next e.last free)) es i (λ j d l ne. keeps bios next e.last free (get_or es j d) (o.others j d l ne) (s.stands j d l));
+      once = λ x.
+          (let a = total-gone (use_of (set next e.last free) x) (use_of next x) es i e h (λ j l ne. ap (times x) (same j l ne)) in
+          let b = ap (times x) chain in
+          let c = times-append x (path next e.first e.bios) (path next free left) in
+          let d = ap (use_of next x) p in
+          let f = s.once x in
+          omega arith);
+      whole = (let a = total-without (λ d. d.bios) es i e h in let b = ap (λ (d : Entry). d.bios) p in let c = s.whole in omega arith);
+      bios_long = s.bios_long;
+      next_long = length-set next e.last free ∙ s.next_long;
+      rising = subst (IsNonDecreasingBy (λ (d : Entry). d.lba)) w (rising-remove es i h s.rising);
+      small = s.small;
+    } in
+    subst (λ z. Shows room z bios (set next e.last free) e.first (left + e.bios) (without i q.groups)) es-is (record { index = index; groups = shows })
 
 -- ---- two groups become one
 
--- a list cut at two places
-pub record Cut2 {A : Type 0} (xs X Y Z : List A) (a b : A) (i j : ℕ) : Type 0 where
-  pub is : xs ≡ X ++ a ∷ (Y ++ b ∷ Z)
-  pub first : length X ≡ i
-  pub second : suc (i + length Y) ≡ j
-
-cut2 : {A : Type 0} (xs : List A) (i j : ℕ) (d : A) → i < j → j < length xs →
-    Cut2 xs (take i xs) (take (j - suc i) (drop (suc i) xs)) (drop (suc (j - suc i)) (drop (suc i) xs)) (get_or xs i d) (get_or xs j d) i j
-cut2 xs i j d h l =
-    let e = cut-at xs i d (omega arith) in
-    let n = length-drop (suc i) xs in
-    let f = cut-at (drop (suc i) xs) (j - suc i) d (omega arith) in
-    let k : suc i + (j - suc i) ≡ j = omega arith in
-    let g : get_or (drop (suc i) xs) (j - suc i) d ≡ get_or xs j d = get_or-drop (suc i) xs (j - suc i) d ∙ ap (λ z. get_or xs z d) k in
-    let m = length-take-le i xs (omega arith) in
-    let o = length-take-le (j - suc i) (drop (suc i) xs) (omega arith) in
-    record {
-      is = e ∙ ap (λ z. take i xs ++ get_or xs i d ∷ z) (f ∙ ap (λ z. take (j - suc i) (drop (suc i) xs) ++ z ∷ drop (suc (j - suc i)) (drop (suc i) xs)) g);
-      first = m;
-      second = omega arith;
-    }
-
-set-there : {A : Type 0} (P Q : List A) (y z : A) (n : ℕ) → length P ≡ n → set (P ++ y ∷ Q) n z ≡ P ++ z ∷ Q
-set-there [] Q y z zero h = refl
-set-there [] Q y z (suc n) h = absurd (omega arith)
-set-there (p ∷ P) Q y z zero h = absurd (omega arith)
-set-there (p ∷ P) Q y z (suc n) h = ap (λ w. p ∷ w) (set-there P Q y z n (omega arith))
-
-without-there : {A : Type 0} (P Q : List A) (y : A) (n : ℕ) → length P ≡ n → without n (P ++ y ∷ Q) ≡ P ++ Q
-without-there [] Q y zero h = refl
-without-there [] Q y (suc n) h = absurd (omega arith)
-without-there (p ∷ P) Q y zero h = absurd (omega arith)
-without-there (p ∷ P) Q y (suc n) h = ap (λ w. p ∷ w) (without-there P Q y n (omega arith))
-
--- the later one comes to the earlier one
-later : {A : Type 0} (X Y Z : List A) (a b h : A) (i j : ℕ) → length X ≡ i → suc (i + length Y) ≡ j → without j (set (X ++ a ∷ (Y ++ b ∷ Z)) i h) ≡ X ++ h ∷ (Y ++ Z)
-later X Y Z a b h i j e f =
-    ap (without j) (set-there X (Y ++ b ∷ Z) a h i e)
-    ∙ ap (without j) (sym (append_assoc X (h ∷ Y) (b ∷ Z)))
-    ∙ without-there (X ++ h ∷ Y) Z b j (let l = length-append X (h ∷ Y) in omega arith)
-    ∙ append_assoc X (h ∷ Y) Z
-
--- the earlier one comes to the later one
-earlier : {A : Type 0} (X Y Z : List A) (a b h : A) (i j : ℕ) → length X ≡ j → suc (j + length Y) ≡ i → without j (set (X ++ a ∷ (Y ++ b ∷ Z)) i h) ≡ X ++ (Y ++ h ∷ Z)
-earlier X Y Z a b h i j e f =
-    ap (λ w. without j (set w i h)) (sym (append_assoc X (a ∷ Y) (b ∷ Z)))
-    ∙ ap (without j) (set-there (X ++ a ∷ Y) Z b h i (let l = length-append X (a ∷ Y) in omega arith))
-    ∙ ap (without j) (append_assoc X (a ∷ Y) (h ∷ Z))
-    ∙ without-there X (Y ++ h ∷ Z) a j e
-
-turned-parts : (bs P M N Q : List Bio) (at n end : ℕ) → bs ≡ P ++ (M ++ (N ++ Q)) → length P ≡ at → length M ≡ n → at + n + length N ≡ end → turned bs at n end ≡ P ++ (N ++ (M ++ Q))
-turned-parts bs P M N Q at n end e h k l =
-    let p = parts bs P M (N ++ Q) at n e h k in
-    let t : take (end - (at + n)) (drop (at + n) bs) ≡ N = ap (take (end - (at + n))) p.rest ∙ take_at N Q (end - (at + n)) (omega arith) in
-    let m : at + n + (end - (at + n)) ≡ end = omega arith in
-    let d : drop end bs ≡ Q = ap (λ z. drop z bs) (sym m) ∙ sym (drop-drop (end - (at + n)) (at + n) bs) ∙ ap (drop (end - (at + n))) p.rest ∙ drop_at N Q (end - (at + n)) (omega arith) in
-    ap (λ z. z ++ (take (end - (at + n)) (drop (at + n) bs) ++ (take n (drop at bs) ++ drop end bs))) p.front
-    ∙ ap (λ z. P ++ (z ++ (take n (drop at bs) ++ drop end bs))) t
-    ∙ ap (λ z. P ++ (N ++ (z ++ drop end bs))) p.mid
-    ∙ ap (λ z. P ++ (N ++ (M ++ z))) d
-
--- the bios are those of the joined groups
-brought-later : (bs : List Bio) (X Y Z : List Group) (g h : Group) (from to n : ℕ) → bs ≡ concat (X ++ g ∷ (Y ++ h ∷ Z)) → length (concat X) + length g ≡ from → from + length (concat Y) ≡ to → length h ≡ n →
-    brought bs from to n ≡ concat (X ++ (g ++ h) ∷ (Y ++ Z))
-brought-later bs X Y Z g h from to n e a b c =
-    let t : nat_le from to ≡ true = le-leb from to (omega arith) in
-    let s : bs ≡ (concat X ++ g) ++ (concat Y ++ (h ++ concat Z)) =
-    e ∙ concat-append X (g ∷ (Y ++ h ∷ Z)) ∙ ap (λ z. concat X ++ (g ++ z)) (concat-append Y (h ∷ Z)) ∙ sym (append_assoc (concat X) g (concat Y ++ (h ++ concat Z))) in
-    let l = length-append (concat X) g in
-    rw t (turned-parts bs (concat X ++ g) (concat Y) h (concat Z) from (to - from) (to + n) s (omega arith) (omega arith) (omega arith)
-    ∙ append_assoc (concat X) g (h ++ (concat Y ++ concat Z))
-    ∙ ap (λ z. concat X ++ z) (sym (append_assoc g h (concat Y ++ concat Z)))
-    ∙ ap (λ z. concat X ++ ((g ++ h) ++ z)) (sym (concat-append Y Z))
-    ∙ sym (concat-append X ((g ++ h) ∷ (Y ++ Z))))
-
-brought-earlier : (bs : List Bio) (X Y Z : List Group) (g h : Group) (from to n : ℕ) → bs ≡ concat (X ++ h ∷ (Y ++ g ∷ Z)) → length (concat X) ≡ to → length h ≡ n → 1 ≤ n → to + n + (length (concat Y) + length g) ≡ from →
-    brought bs from to n ≡ concat (X ++ (Y ++ (g ++ h) ∷ Z))
-brought-earlier bs X Y Z g h from to n e a b one c =
-    let t : nat_le from to ≡ false = lt-leb from to (omega arith) in
-    let s : bs ≡ concat X ++ (h ++ ((concat Y ++ g) ++ concat Z)) =
-    e ∙ concat-append X (h ∷ (Y ++ g ∷ Z)) ∙ ap (λ z. concat X ++ (h ++ z)) (concat-append Y (g ∷ Z) ∙ sym (append_assoc (concat Y) g (concat Z))) in
-    let l = length-append (concat Y) g in
-    rw t (turned-parts bs (concat X) h (concat Y ++ g) (concat Z) to n from s a b (omega arith)
-    ∙ ap (λ z. concat X ++ z) (append_assoc (concat Y) g (h ++ concat Z))
-    ∙ ap (λ z. concat X ++ (concat Y ++ z)) (sym (append_assoc g h (concat Z)))
-    ∙ ap (λ z. concat X ++ z) (sym (concat-append Y ((g ++ h) ∷ Z)))
-    ∙ sym (concat-append X (Y ++ (g ++ h) ∷ Z)))
+pub size-append : (xs ys : List Bio) → size (xs ++ ys) ≡ size xs + size ys
+size-append [] ys = omega arith
+size-append (b ∷ xs) ys = let e = size-append xs ys in omega arith
 
 segs-append : (xs ys : List Bio) → segs_of (xs ++ ys) ≡ segs_of xs + segs_of ys
 segs-append [] ys = omega arith
@@ -287,74 +156,162 @@ both-describes x y g h a b e =
       few_pi_segs = omega (arith, a.few_pi_segs, b.few_pi_segs);
     }
 
-joined-concat : (es : List Entry) (bs : List Bio) (i j from to : ℕ) (x y : Entry) → DescribeAll es (split es bs) → concat (split es bs) ≡ bs →
-    i < length es → j < length es → (i ≡ j → ⊥) → length (get_or (split es bs) i []) ≡ x.bios → length (get_or (split es bs) j []) ≡ y.bios → 1 ≤ y.bios →
-    from ≡ counted (take i es) + x.bios → to ≡ counted (take j es) →
-    brought bs from to y.bios ≡ concat (joined (split es bs) i j)
-joined-concat es bs i j from to x y d c h l ne a b one f t =
-    let n = (describe-length es (split es bs) d).0 in
-    let p = before-length es (split es bs) i d in
-    let r = before-length es (split es bs) j d in
-    ⊎_elim
-    (λ (k : i < j).
-    let u = cut2 (split es bs) i j [] k (omega arith) in
-    let m : take j (split es bs) ≡ take i (split es bs) ++ get_or (split es bs) i [] ∷ take (j - suc i) (drop (suc i) (split es bs)) =
-    ap (take j) (u.is ∙ sym (append_assoc (take i (split es bs)) (get_or (split es bs) i [] ∷ take (j - suc i) (drop (suc i) (split es bs))) (get_or (split es bs) j [] ∷ drop (suc (j - suc i)) (drop (suc i) (split es bs)))))
-    ∙ take_at (take i (split es bs) ++ get_or (split es bs) i [] ∷ take (j - suc i) (drop (suc i) (split es bs))) (get_or (split es bs) j [] ∷ drop (suc (j - suc i)) (drop (suc i) (split es bs))) j
-    (let v = length-append (take i (split es bs)) (get_or (split es bs) i [] ∷ take (j - suc i) (drop (suc i) (split es bs))) in let g = u.first in let z = u.second in omega arith) in
-    let w = ap (λ z. length (concat z)) m ∙ ap length (concat-append (take i (split es bs)) (get_or (split es bs) i [] ∷ take (j - suc i) (drop (suc i) (split es bs))))
-    ∙ length-append (concat (take i (split es bs))) (get_or (split es bs) i [] ++ concat (take (j - suc i) (drop (suc i) (split es bs)))) in
-    let w₁ = length-append (get_or (split es bs) i []) (concat (take (j - suc i) (drop (suc i) (split es bs)))) in
-    brought-later bs (take i (split es bs)) (take (j - suc i) (drop (suc i) (split es bs))) (drop (suc (j - suc i)) (drop (suc i) (split es bs))) (get_or (split es bs) i []) (get_or (split es bs) j []) from to y.bios
-    (sym c ∙ ap concat u.is) (omega arith) (omega arith) b
-    ∙ ap concat (sym (ap (λ z. without j (set z i (get_or (split es bs) i [] ++ get_or (split es bs) j []))) u.is
-    ∙ later (take i (split es bs)) (take (j - suc i) (drop (suc i) (split es bs))) (drop (suc (j - suc i)) (drop (suc i) (split es bs))) (get_or (split es bs) i []) (get_or (split es bs) j []) (get_or (split es bs) i [] ++ get_or (split es bs) j []) i j u.first u.second)))
-    (λ (k : j ≤ i).
-    let k₁ = below k in
-    let u = cut2 (split es bs) j i [] k₁ (omega arith) in
-    let m : take i (split es bs) ≡ take j (split es bs) ++ get_or (split es bs) j [] ∷ take (i - suc j) (drop (suc j) (split es bs)) =
-    ap (take i) (u.is ∙ sym (append_assoc (take j (split es bs)) (get_or (split es bs) j [] ∷ take (i - suc j) (drop (suc j) (split es bs))) (get_or (split es bs) i [] ∷ drop (suc (i - suc j)) (drop (suc j) (split es bs)))))
-    ∙ take_at (take j (split es bs) ++ get_or (split es bs) j [] ∷ take (i - suc j) (drop (suc j) (split es bs))) (get_or (split es bs) i [] ∷ drop (suc (i - suc j)) (drop (suc j) (split es bs))) i
-    (let v = length-append (take j (split es bs)) (get_or (split es bs) j [] ∷ take (i - suc j) (drop (suc j) (split es bs))) in let g = u.first in let z = u.second in omega arith) in
-    let w = ap (λ z. length (concat z)) m ∙ ap length (concat-append (take j (split es bs)) (get_or (split es bs) j [] ∷ take (i - suc j) (drop (suc j) (split es bs))))
-    ∙ length-append (concat (take j (split es bs))) (get_or (split es bs) j [] ++ concat (take (i - suc j) (drop (suc j) (split es bs)))) in
-    let w₁ = length-append (get_or (split es bs) j []) (concat (take (i - suc j) (drop (suc j) (split es bs)))) in
-    brought-earlier bs (take j (split es bs)) (take (i - suc j) (drop (suc j) (split es bs))) (drop (suc (i - suc j)) (drop (suc j) (split es bs))) (get_or (split es bs) i []) (get_or (split es bs) j []) from to y.bios
-    (sym c ∙ ap concat u.is) (omega arith) b one (omega arith)
-    ∙ ap concat (sym (ap (λ z. without j (set z i (get_or (split es bs) i [] ++ get_or (split es bs) j []))) u.is
-    ∙ earlier (take j (split es bs)) (take (i - suc j) (drop (suc j) (split es bs))) (drop (suc (i - suc j)) (drop (suc j) (split es bs))) (get_or (split es bs) j []) (get_or (split es bs) i []) (get_or (split es bs) i [] ++ get_or (split es bs) j []) i j u.first u.second)))
-    (cases_lt i j)
-  where
-    below : j ≤ i → j < i
-    below k = omega arith
+pub join-whole : (room : ℕ) (es es' : List Entry) (bios : List Bio) (next : List ℕ) (free left i j : ℕ) (q : Queued) (a b : Entry) →
+    IsIndex room es bios next free left → record { groups = groups_of es bios next; room = room } ≡ q → i < length es → j < length es → (i ≡ j → ⊥) → a ≡ get_or es i a → b ≡ get_or es j b →
+    lba_of (group_in q.groups i) + size (group_in q.groups i) ≡ lba_of (group_in q.groups j) → es' ≡ remove (set es i (both a b)) j →
+    Shows room es' bios (set next a.last b.first) free left (joined q.groups i j)
+join-whole room es es' bios next free left i j q a b s v h l ne p r t u =
+    let gq : groups_of es bios next ≡ q.groups = ap (λ (z : Queued). z.groups) v in
+    let ka = known room es bios next free left i a s h p in
+    let kb = known room es bios next free left j b s l r in
+    let o = alone room es bios next free left i a s h p in
+    let ji : j ≡ i → ⊥ = (λ z. ne (sym z)) in
+    let next' = set next a.last b.first in
+    let bj : get_or es j a ≡ b = get_or_default es j a b l ∙ sym r in
+    let ob : use_of next a.last b ≡ 0 = ap (use_of next a.last) (sym bj) ∙ o.others j a l ji in
+    let ob₁ = times-less next a.last b.first (b.bios - 1) b.bios (omega arith) in
+    let some = kb.stands.describes.some in
+    let on = goes-on next a b.first b.bios room s.next_long ka.last ka.stands.describes.some ka.stands.last o.before ob in
+    let same : (k : ℕ) → k < length es → (k ≡ i → ⊥) → path next' (get_or es k a).first (get_or es k a).bios ≡ path next (get_or es k a).first (get_or es k a).bios =
+    (λ k m n. path-set next a.last b.first (get_or es k a).first (get_or es k a).bios (o.others k a m n)) in
+    let one : group_at bios next' (both a b) ≡ group_at bios next a ++ group_at bios next b = ap (bios_at bios) on.0 ∙ bios_at-append bios (path next a.first a.bios) (path next b.first b.bios) in
+    let begins : lba_of (group_at bios next a) + size (group_at bios next a) ≡ lba_of (group_at bios next b) =
+    sym (ap (λ g. lba_of g + size g) (sym (ap (λ gs. group_in gs i) gq) ∙ ka.group)) ∙ t ∙ ap lba_of (sym (ap (λ gs. group_in gs j) gq) ∙ kb.group) in
+    let stands : Stands bios next' (both a b) = record {
+      describes = subst (Describes (both a b)) (sym one) (both-describes a b (group_at bios next a) (group_at bios next b) ka.stands.describes kb.stands.describes begins);
+      last = kb.stands.last ∙ sym (on.1 some (omega arith));
+    } in
+    let ys = set es i (both a b) in
+    let long : length ys ≡ length es = length-set es i (both a b) in
+    let yj : get_or ys j a ≡ b = get_or-set_other es i j (both a b) a ji ∙ bj in
+    let free-same : path next' free left ≡ path next free left = path-set next a.last b.first free left o.apart in
+    let shows : groups_of (without j ys) bios next' ≡ joined q.groups i j =
+    map-without (group_at bios next') ys j
+    ∙ ap (without j) (map-set (group_at bios next') (group_at bios next) es i (both a b) a h (λ k m n. ap (bios_at bios) (same k m n)))
+    ∙ ap (λ g. without j (set (groups_of es bios next) i g)) (one ∙ ap (λ g. g ++ group_at bios next b) (sym ka.group) ∙ ap (λ g. group_in (groups_of es bios next) i ++ g) (sym kb.group))
+    ∙ ap (λ gs. joined gs i j) gq in
+    let index : IsIndex room (without j ys) bios next' free left = record {
+      stands = all-gone (Stands bios next') ys j
+          (λ k d m n. all-set (Stands bios next') es i (both a b) stands (λ k' d' m' n'. keeps bios next a.last b.first (get_or es k' d') (o.others k' d' m' n') (s.stands k' d' m')) k d m);
+      once = λ x.
+          (let c = total-set (use_of next' x) (use_of next x) es i (both a b) a h (λ k m n. ap (times x) (same k m n)) in
+          let d = total-without (use_of next' x) ys j a (omega arith) in
+          let e = ap (use_of next' x) yj in
+          let f = ap (times x) (path-set next a.last b.first b.first b.bios ob) in
+          let g = ap (times x) on.0 in
+          let g₁ = times-append x (path next a.first a.bios) (path next b.first b.bios) in
+          let k = ap (use_of next x) p in
+          let m = ap (times x) free-same in
+          let n = s.once x in
+          omega arith);
+      whole =
+          (let c = total-set (λ d. d.bios) (λ d. d.bios) es i (both a b) a h (λ k m n. refl) in
+          let d = total-without (λ d. d.bios) ys j a (omega arith) in
+          let e = ap (λ (z : Entry). z.bios) yj in
+          let f = ap (λ (z : Entry). z.bios) p in
+          let g = s.whole in
+          omega arith);
+      bios_long = s.bios_long;
+      next_long = length-set next a.last b.first ∙ s.next_long;
+      rising = subst (IsNonDecreasingBy (λ (d : Entry). d.lba)) (sym (without-remove ys j (omega arith)))
+          (rising-remove ys j (omega arith) (rising-set es i (both a b) h (λ z. ap (λ (w : Entry). w.lba) (p ∙ get_or_default es i a z h)) s.rising));
+      small = s.small;
+    } in
+    subst (λ z. Shows room z bios next' free left (joined q.groups i j)) (without-remove ys j (omega arith) ∙ sym u) (record { index = index; groups = shows })
 
-pub record Joined (room : ℕ) (es' : List Entry) (bs' : List Bio) (gs : List Group) (i j : ℕ) : Type 0 where
-  pub index : IsIndex room es' bs'
-  pub groups : split es' bs' ≡ joined gs i j
+-- ---- a group is put
 
--- the code of join, in one fact
-pub join-whole : (room : ℕ) (es es' : List Entry) (bs bs' : List Bio) (q : Queued) (index₁ index₂ : List Entry) (i j from to : ℕ) (x y : Entry) →
-    IsIndex room es bs → record { groups = split es bs; room = room } ≡ q → index₁ ≡ es → index₂ ≡ es → i < length es → j < length es → (i ≡ j → ⊥) →
-    x ≡ get_or es i x → y ≡ get_or es j y → from ≡ counted (take i index₁) + x.bios → to ≡ counted (take j index₂) →
-    lba_of (group_in q.groups i) + size (group_in q.groups i) ≡ lba_of (group_in q.groups j) →
-    es' ≡ remove (set es i (both x y)) j → bs' ≡ brought bs from to y.bios → length bs' ≡ length bs → Joined room es' bs' q.groups i j
-join-whole room es es' bs bs' q index₁ index₂ i j from to x y s v e₁ e₂ h l ne gx gy f t k ee eb lb =
-    let a = entered room es bs i x s h gx in
-    let b = entered room es bs j y s l gy in
-    let d = s.describes in
-    let n = (describe-length es (split es bs) d).0 in
-    let gq : split es bs ≡ q.groups = ap (λ (w : Queued). w.groups) v in
-    let k₁ : lba_of (get_or (split es bs) i []) + size (get_or (split es bs) i []) ≡ lba_of (get_or (split es bs) j []) = rw (← gq) at k in
-    let m = both-describes x y (get_or (split es bs) i []) (get_or (split es bs) j []) a.describes b.describes k₁ in
-    let p = describe-set es (split es bs) i (both x y) (get_or (split es bs) i [] ++ get_or (split es bs) j []) d m in
-    let r = describe-append (take j (set es i (both x y))) (drop (suc j) (set es i (both x y))) (take j (set (split es bs) i (get_or (split es bs) i [] ++ get_or (split es bs) j []))) (drop (suc j) (set (split es bs) i (get_or (split es bs) i [] ++ get_or (split es bs) j [])))
-    (describe-take (set es i (both x y)) (set (split es bs) i (get_or (split es bs) i [] ++ get_or (split es bs) j [])) j p) (describe-drop (set es i (both x y)) (set (split es bs) i (get_or (split es bs) i [] ++ get_or (split es bs) j [])) (suc j) p) in
-    let sl = length-set es i (both x y) in
-    let gl = length-set (split es bs) i (get_or (split es bs) i [] ++ get_or (split es bs) j []) in
-    let wr = without-remove (set (split es bs) i (get_or (split es bs) i [] ++ get_or (split es bs) j [])) j (omega arith) in
-    let cc' = joined-concat es bs i j from to x y d (concat-split es bs s.whole) h l ne a.describes.bios b.describes.bios b.describes.some (rw e₁ at f) (rw e₂ at t) in
-    let rs = rising-set es i (both x y) h (λ z. ap (λ (w : Entry). w.lba) (gx ∙ get_or_default es i x z h)) s.rising in
-    let w = s.within in
-    let u = index-from room (remove (set es i (both x y)) j) bs' (remove (set (split es bs) i (get_or (split es bs) i [] ++ get_or (split es bs) j [])) j) r (eb ∙ cc' ∙ ap concat wr)
-    (rising-remove (set es i (both x y)) j (omega arith) rs) (omega arith) s.small in
-    record { index = rw ee u.0; groups = rw ee (u.1 ∙ sym wr ∙ ap (λ z. joined z i j) gq) }
+put-at : (g : Group) (gs : List Group) (at : ℕ) → at ≤ length gs → ((k : ℕ) → k < at → lba_of (get_or gs k []) ≤ lba_of g) → (at < length gs → lba_of g < lba_of (get_or gs at [])) →
+    put g gs ≡ insert gs at g
+put-at g [] zero l b a = refl
+put-at g [] (suc at) l b a = absurd (omega arith)
+put-at g (h ∷ hs) zero l b a = let e : nat_lt (lba_of g) (lba_of h) ≡ true = lt-ltb (lba_of g) (lba_of h) (a (omega arith)) in rw e refl
+put-at g (h ∷ hs) (suc at) l b a =
+    let e : nat_lt (lba_of g) (lba_of h) ≡ false = le-ltb (lba_of g) (lba_of h) (b 0 (omega arith)) in
+    rw e (ap (λ z. h ∷ z) (put-at g hs at (omega arith) (λ k m. b (suc k) (omega arith)) (λ m. a (omega arith))))
+
+put-shows : (room : ℕ) (es : List Entry) (bios : List Bio) (next : List ℕ) (free left at : ℕ) (e : Entry) (run : List Bio) →
+    IsIndex room es bios next free left → at ≤ length es →
+    ((k : ℕ) (d : Entry) → k < at → (get_or es k d).lba ≤ e.lba) → ((k : ℕ) (d : Entry) → at ≤ k → k < length es → e.lba < (get_or es k d).lba) →
+    Describes e run → e.first ≡ free → e.last ≡ after next free (length run - 1) → length run ≤ left →
+    Shows room (insert es at e) (filled (path next free (length run)) run bios) next (after next free (length run)) (left - length run) (put run (groups_of es bios next))
+put-shows room es bios next free left at e run s w b a d f l m =
+    let n = length run in
+    let ps = path next free (length run) in
+    let bios' = filled ps run bios in
+    let nb = d.bios in
+    let whole : length run + (left - length run) ≡ left = omega arith in
+    let chain : path next free left ≡ ps ++ path next (after next free (length run)) (left - length run) = ap (path next free) (sym whole) ∙ path-more next free (length run) (left - length run) in
+    let used : (x : ℕ) → times x (path next free left) ≡ times x ps + times x (path next (after next free (length run)) (left - length run)) =
+    (λ x. ap (times x) chain ∙ times-append x ps (path next (after next free (length run)) (left - length run))) in
+    let own : path next e.first e.bios ≡ ps = ap (λ k. path next k e.bios) f ∙ ap (path next free) (sym nb) in
+    let new : group_at bios' next e ≡ run =
+    ap (bios_at bios') own
+    ∙ bios_at-filled ps run bios (sym (length-path next free (length run))) (λ x. (let o = once room es bios next free left s x in let u = used x in omega arith))
+    (λ x h. (let o = s.once x in let u = used x in let c = (allowed x room).1 (omega arith) in let g = s.bios_long in omega arith)) in
+    let same : (k : ℕ) (c : Entry) → k < length es → group_at bios' next (get_or es k c) ≡ group_at bios next (get_or es k c) =
+    (λ k c h. bios_at-other ps (path next (get_or es k c).first (get_or es k c).bios) run bios
+    (λ x. (let o = once room es bios next free left s x in let u = used x in let t = total-one (use_of next x) es k c h in omega arith))) in
+    let old : (k : ℕ) (c : Entry) → k < length es → Stands bios' next (get_or es k c) =
+    (λ k c h. (let g = s.stands k c h in record { describes = subst (Describes (get_or es k c)) (sym (same k c h)) g.describes; last = g.last })) in
+    let long = length-map es (group_at bios next) in
+    let shows : groups_of (insert es at e) bios' next ≡ put run (groups_of es bios next) =
+    map-insert (group_at bios' next) (group_at bios next) es at e e (λ k h. same k e h)
+    ∙ ap (insert (groups_of es bios next) at) new
+    ∙ sym (put-at run (groups_of es bios next) at (omega arith)
+    (λ k h. (let g = (s.stands k e (omega arith)).describes.lba in let x = ap lba_of (get_or-map (group_at bios next) es k e [] (omega arith)) in let y = b k e h in let z = d.lba in omega arith))
+    (λ h. (let g = (s.stands at e (omega arith)).describes.lba in let x = ap lba_of (get_or-map (group_at bios next) es at e [] (omega arith)) in let y = a at e (omega arith) (omega arith) in let z = d.lba in omega arith))) in
+    let index : IsIndex room (insert es at e) bios' next (after next free (length run)) (left - length run) = record {
+      stands = all-insert (Stands bios' next) es at e (record { describes = subst (Describes e) (sym new) d; last = l ∙ ap (after next free) (ap (λ k. k - 1) nb) ∙ ap (λ k. after next k (e.bios - 1)) (sym f) }) old;
+      once = λ x.
+          (let t = total-insert (use_of next x) es at e in
+          let u = used x in
+          let o = ap (times x) own in
+          let g = s.once x in
+          omega arith);
+      whole = (let t = total-insert (λ c. c.bios) es at e in let g = s.whole in omega arith);
+      bios_long = length-filled ps run bios ∙ s.bios_long;
+      next_long = s.next_long;
+      rising = IsNonDecreasingBy-insert (λ (c : Entry). c.lba) es at e s.rising w b (λ k c h g. (let z = a k c h g in omega arith));
+      small = s.small;
+    } in
+    record { index = index; groups = shows }
+
+-- what is written back to the list that a slice was borrowed from
+written-back : {A : Type 0} (xs new : List A) (len : ℕ) → len ≡ length xs → length new ≡ length xs → take len (new ++ drop (length new) xs) ≡ new
+written-back xs new len h k =
+    ap (λ ys. take len (new ++ ys)) (drop_all (length new) xs (omega arith)) ∙ ap (take len) (append-nil new) ∙ take_all len new (omega arith)
+
+pub put-whole : (room : ℕ) (es es' es₁ : List Entry) (bios bios₁ new : List Bio) (next next₁ : List ℕ) (free left at behind len : ℕ) (q : Queued) (e : Entry) (run : List Bio) →
+    IsIndex room es bios next free left → record { groups = groups_of es bios next; room = room } ≡ q → es₁ ≡ es → bios₁ ≡ bios → next₁ ≡ next → len ≡ length bios → at ≤ length es₁ →
+    ((k : ℕ) (d : Entry) → k < at → (get_or es₁ k d).lba ≤ e.lba) → ((k : ℕ) (d : Entry) → at ≤ k → k < length es₁ → e.lba < (get_or es₁ k d).lba) →
+    Describes e run → e.first ≡ free → e.last ≡ after next₁ free (length run - 1) → length run ≤ left →
+    behind ≡ after next₁ free (length run) → new ≡ filled (path next₁ free (length run)) run bios₁ → es' ≡ insert es at e →
+    Shows room es' (take len (new ++ drop (length new) bios)) next behind (left - length run) (put run q.groups)
+put-whole room es es' es₁ bios bios₁ new next next₁ free left at behind len q e run s v eq bq nq lq w b a d f l m be nb ee =
+    let p = put-shows room es bios next free left at e run s (rw eq at w) (rw eq at b) (rw eq at a) d f (l ∙ ap (λ z. after z free (length run - 1)) nq) m in
+    let g = ap (λ (z : Queued). put run z.groups) v in
+    let nb₁ : new ≡ filled (path next free (length run)) run bios = nb ∙ ap (λ z. filled (path z free (length run)) run bios₁) nq ∙ ap (filled (path next free (length run)) run) bq in
+    let be₁ : behind ≡ after next free (length run) = be ∙ ap (λ z. after z free (length run)) nq in
+    let back = written-back bios new len lq (ap length nb₁ ∙ length-filled (path next free (length run)) run bios) ∙ nb₁ in
+    rw (back, ee, be₁) (record { index = p.index; groups = p.groups ∙ g })
+
+-- ---- a new queue
+
+pub new-whole : (room : ℕ) (bios : List Bio) (next : List ℕ) → length bios ≡ room → next ≡ numbers 1 room → room < 2 ^ 32 → IsIndex room [] bios next 0 room
+new-whole room bios next h e s =
+    rw e (record {
+      stands = λ i d l. absurd (omega arith);
+      once = λ x.
+          (let p = ap (times x) (path-of_one room 0 room (omega arith)) in
+          let t = times-numbers x 0 room in
+          ⊎_elim
+          (λ (l : x < room). let c : nat_lt x room ≡ true = lt-ltb x room l in let b = t.1 in rw c (omega arith))
+          (λ (l : room ≤ x). let c : nat_lt x room ≡ false = le-ltb x room l in let b = t.2 (omega arith) in rw c (omega arith))
+          (cases_lt x room));
+      whole = omega arith;
+      bios_long = h;
+      next_long = length-numbers 1 room;
+      rising = λ i j d k l. absurd (omega arith);
+      small = s;
+    })

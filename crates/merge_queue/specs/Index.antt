@@ -1,10 +1,11 @@
--- A queue as an index of its groups over their bios.
-use Rattle.std.specs.Prelude.{◌≡◌, ◌<◌, ◌≤◌, ◌^◌, ℕ, ◌+◌, ◌-◌, ◌*◌, nat_le, if◌then◌else◌, List, [], ◌∷◌, ◌++◌, length, take, drop}
+-- A queue as an index of its groups over chains of bios.
+use Rattle.std.specs.Prelude.{◌≡◌, ◌<◌, ◌≤◌, ◌^◌, ℕ, ◌+◌, ◌-◌, ◌*◌, nat_lt, if◌then◌else◌, List, [], ◌∷◌, length, get_or, map}
 use Rattle.std.specs.List.Sorted.{IsNonDecreasingBy}
 use Rattle.bio_core.specs.declared.bio.Bio.{Bio}
+use Rattle.bio_core.specs.declared.request.Dir.TheVariants.{Read}
 use Rattle.merge_queue.specs.declared.entries.Entry.{Entry}
-use Rattle.merge_queue.specs.Groups.{size}
-use Rattle.merge_queue.specs.Groups.{Group, lba_of, dir_of, segs_of, pi_segs_of}
+use Rattle.merge_queue.specs.Chains.{after, bios_at, path, times}
+use Rattle.merge_queue.specs.Groups.{Group, lba_of, dir_of, segs_of, pi_segs_of, size}
 
 -- what contracts see of a queue: its groups, and how many bios it has room for
 pub record Queued : Type 0 where
@@ -15,15 +16,24 @@ abbrev pub bios_in : List Group → ℕ
 bios_in [] = 0
 bios_in (g ∷ gs) = length g + bios_in gs
 
--- the bios of these entries
-abbrev pub counted : List Entry → ℕ
-counted [] = 0
-counted (e ∷ es) = e.bios + counted es
+-- the bios of a group
+abbrev pub group_at : List Bio → List ℕ → Entry → Group
+group_at bios next e = bios_at bios (path next e.first e.bios)
 
--- the bios of each entry in turn
-abbrev pub split : List Entry → List Bio → List Group
-split [] bs = []
-split (e ∷ es) bs = take e.bios bs ∷ split es (drop e.bios bs)
+abbrev pub groups_of : List Entry → List Bio → List ℕ → List Group
+groups_of es bios next = map (group_at bios next) es
+
+abbrev pub total : {A : Type 0} → (A → ℕ) → List A → ℕ
+total f [] = 0
+total f (x ∷ xs) = f x + total f xs
+
+-- how often a group uses a place
+abbrev pub use_of : List ℕ → ℕ → Entry → ℕ
+use_of next x e = times x (path next e.first e.bios)
+
+-- how often a place is used, by the groups and in the chain of free places
+abbrev pub uses : List Entry → List ℕ → (free left : ℕ) → ℕ → ℕ
+uses es next free left x = total (use_of next x) es + times x (path next free left)
 
 -- an entry says where its group begins, and its sums
 pub record Describes (e : Entry) (g : Group) : Type 0 where
@@ -39,31 +49,38 @@ pub record Describes (e : Entry) (g : Group) : Type 0 where
   pub few_segs : e.segs ≤ e.bios * 4294967295
   pub few_pi_segs : e.pi_segs ≤ e.bios * 4294967295
 
-abbrev pub DescribeAll : List Entry → List Group → Type 0
-DescribeAll [] [] = Unit {0}
-DescribeAll [] (g ∷ gs) = ⊥
-DescribeAll (e ∷ es) [] = ⊥
-DescribeAll (e ∷ es) (g ∷ gs) = Describes e g × DescribeAll es gs
+-- an entry's group is where the entry says
+pub record Stands (bios : List Bio) (next : List ℕ) (e : Entry) : Type 0 where
+  pub describes : Describes e (group_at bios next e)
+  pub last : e.last ≡ after next e.first (e.bios - 1)
 
--- the entries stand by first address and describe all the bios
-pub record IsIndex (room : ℕ) (es : List Entry) (bs : List Bio) : Type 0 where
-  pub describes : DescribeAll es (split es bs)
-  pub whole : counted es ≡ length bs
+-- the groups stand by first address, and each place below the room is used just once
+pub record IsIndex (room : ℕ) (es : List Entry) (bios : List Bio) (next : List ℕ) (free left : ℕ) : Type 0 where
+  pub stands : (i : ℕ) (d : Entry) → i < length es → Stands bios next (get_or es i d)
+  pub once : (x : ℕ) → uses es next free left x ≤ (if nat_lt x room then 1 else 0)
+  pub whole : total (λ e. e.bios) es + left ≡ room
+  pub bios_long : length bios ≡ room
+  pub next_long : length next ≡ room
   pub rising : IsNonDecreasingBy (λ (e : Entry). e.lba) es
-  pub within : length bs ≤ room
   pub small : room < 2 ^ 32
 
--- the n bios from a place on change places with those behind them, up to the end
-abbrev pub turned : List Bio → ℕ → ℕ → ℕ → List Bio
-turned bs at n end = take at bs ++ (take (end - (at + n)) (drop (at + n) bs) ++ (take n (drop at bs) ++ drop end bs))
+abbrev pub no_entry : Entry
+no_entry = record { lba = 0; dir = Read; bios = 0; first = 0; last = 0; blocks = 0; segs = 0; pi_segs = 0 }
 
--- the n bios from place to on come to place from
-abbrev pub brought : List Bio → ℕ → ℕ → ℕ → List Bio
-brought bs from to n = if nat_le from to then turned bs from (to - from) (to + n) else turned bs to n from
+-- the entries at these places
+abbrev pub entries_of : List ℕ → List Entry → List Entry
+entries_of places entries = map (λ p. get_or entries p no_entry) places
+
+-- the index as it is held: where each group begins, and the place of its first bio, at which its entry is
+pub record IsHeld (room : ℕ) (begins places : List ℕ) (entries : List Entry) (bios : List Bio) (next : List ℕ) (free left : ℕ) : Type 0 where
+  pub index : IsIndex room (entries_of places entries) bios next free left
+  pub begins_of : begins ≡ map (λ (e : Entry). e.lba) (entries_of places entries)
+  pub own : (i d : ℕ) → i < length places → (get_or entries (get_or places i d) no_entry).first ≡ get_or places i d
+  pub entries_long : length entries ≡ room
 
 -- the entry of two groups that become one
 abbrev pub both : Entry → Entry → Entry
-both a b = record { lba = a.lba; dir = a.dir; bios = a.bios + b.bios; blocks = a.blocks + b.blocks; segs = a.segs + b.segs; pi_segs = a.pi_segs + b.pi_segs }
+both a b = record { lba = a.lba; dir = a.dir; bios = a.bios + b.bios; first = a.first; last = b.last; blocks = a.blocks + b.blocks; segs = a.segs + b.segs; pi_segs = a.pi_segs + b.pi_segs }
 
 -- the sums of two entries fit
 pub record Fit (a b : Entry) : Type 0 where

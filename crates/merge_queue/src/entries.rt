@@ -1,32 +1,37 @@
-//! The index of a queue and the bios beside it.
+//! The index of a queue: where its groups begin, and an entry for each of them.
 
-ghost use Rattle.std.specs.Prelude.{◌≡◌, ◌<◌, ◌≤◌, ◌+◌, ◌^◌, ℕ, if◌then◌else◌, List, ◌++◌, length, set, take, drop, slice_index_or};
-ghost use Rattle.std.specs.List.{insert, remove};
-ghost use Rattle.std.specs.List.Sorted.{IsNonDecreasingBy};
+ghost use Rattle.std.specs.Prelude.{◌≡◌, ◌<◌, ◌≤◌, ◌+◌, ◌^◌, ℕ, if◌then◌else◌, length, slice_index_or};
+ghost use Rattle.std.specs.List.{insert};
+ghost use Rattle.std.specs.List.Sorted.{IsNonDecreasing};
 ghost use Rattle.std.specs.Vec.{vec_capacity};
-ghost use Rattle.merge_queue.specs.Groups.{lba_of, may_follow, same_dir, size};
-ghost use Rattle.merge_queue.specs.Index.{Describes, Fit, both, brought, counted, turned};
+ghost use Rattle.merge_queue.specs.Groups.{Group, lba_of, may_follow, same_dir, size};
+ghost use Rattle.merge_queue.specs.Index.{Describes, Fit, both};
 
 use crate::Limits;
 use bio_core::{Bio, Dir};
 
-/// One group: where it begins, how many bios it has, and their sums.
+/// One group: where it begins, its direction, its bios with the places of the first and the last of them, and
+/// their sums.
 #[derive(Clone, Copy, Debug, PartialEq, Eq)]
 pub(crate) struct Entry {
     pub(crate) lba: u64,
     pub(crate) dir: Dir,
-    pub(crate) bios: usize,
+    pub(crate) bios: u32,
+    pub(crate) first: u32,
+    pub(crate) last: u32,
     pub(crate) blocks: u64,
     pub(crate) segs: u64,
     pub(crate) pi_segs: u64,
 }
 
-/// The entry of a new group.
-pub(crate) fn entry_of(run: &[Bio]) -> Entry
+/// The entry of a new group whose first and last bio have these places.
+pub(crate) fn entry_of(run: &[Bio], first: u32, last: u32) -> Entry
     requires some { 0 < length run.now }
     requires few { length run.now < 2 ^ 32 }
     requires ends { lba_of run.now + size run.now < 2 ^ 64 }
-    ensures { Describes result run.now }
+    ensures describes { Describes result run.now }
+    ensures first { result.first ≡ first }
+    ensures last { result.last ≡ last }
 {
     let mut blocks = 0u64;
     let mut segs = 0u64;
@@ -39,31 +44,33 @@ pub(crate) fn entry_of(run: &[Bio]) -> Entry
     Entry {
         lba: run[0].lba,
         dir: run[0].dir,
-        bios: run.len(),
+        bios: run.len() as u32,
+        first,
+        last,
         blocks,
         segs,
         pi_segs,
     }
 }
 
-/// Behind all entries that begin at this address or before.
-pub(crate) fn place_for(index: &[Entry], lba: u64) -> usize
-    requires { IsNonDecreasingBy (λ (e : Entry). e.lba) index.now }
-    ensures bound { result ≤ length index.now }
-    ensures before { (k : ℕ) (d : Entry) → k < result → (slice_index_or index.now k d).lba ≤ lba }
-    ensures after { (k : ℕ) (d : Entry) → result ≤ k → k < length index.now → lba < (slice_index_or index.now k d).lba }
+/// Behind all groups that begin at this address or before.
+pub(crate) fn place_for(begins: &[u64], lba: u64) -> usize
+    requires { IsNonDecreasing begins.now }
+    ensures bound { result ≤ length begins.now }
+    ensures before { (k d : ℕ) → k < result → slice_index_or begins.now k d ≤ lba }
+    ensures after { (k d : ℕ) → result ≤ k → k < length begins.now → lba < slice_index_or begins.now k d }
 {
-    index.partition_point(|e| e.lba <= lba)
+    begins.partition_point(|b| *b <= lba)
 }
 
-/// Behind all entries that begin before this address.
-pub(crate) fn place_before(index: &[Entry], lba: u64) -> usize
-    requires { IsNonDecreasingBy (λ (e : Entry). e.lba) index.now }
-    ensures bound { result ≤ length index.now }
-    ensures before { (k : ℕ) (d : Entry) → k < result → (slice_index_or index.now k d).lba < lba }
-    ensures after { (k : ℕ) (d : Entry) → result ≤ k → k < length index.now → lba ≤ (slice_index_or index.now k d).lba }
+/// Behind all groups that begin before this address.
+pub(crate) fn place_before(begins: &[u64], lba: u64) -> usize
+    requires { IsNonDecreasing begins.now }
+    ensures bound { result ≤ length begins.now }
+    ensures before { (k d : ℕ) → k < result → slice_index_or begins.now k d < lba }
+    ensures after { (k d : ℕ) → result ≤ k → k < length begins.now → lba ≤ slice_index_or begins.now k d }
 {
-    index.partition_point(|e| e.lba < lba)
+    begins.partition_point(|b| *b < lba)
 }
 
 pub(crate) fn as_number(b: bool) -> u32
@@ -72,86 +79,16 @@ pub(crate) fn as_number(b: bool) -> u32
     if b { 1 } else { 0 }
 }
 
-/// How many bios stand before those of an entry.
-pub(crate) fn bios_before(index: &[Entry], at: usize) -> usize
-    requires within { at ≤ length index.now }
-    requires few { counted index.now < 2 ^ 32 }
-    ensures { result ≡ counted (take at index.now) }
+/// Puts an element between the others.
+pub(crate) fn put_in<T: Copy>(list: &mut Vec<T>, at: usize, x: T)
+    requires within { at ≤ length list.old.items }
+    requires room { length list.old.items < vec_capacity list.old }
+    ensures items { list.new.items ≡ insert list.old.items at x }
+    ensures capacity { vec_capacity list.new ≡ vec_capacity list.old }
 {
-    let mut sum = 0usize;
-    for i in 0..at {
-        sum += index[i].bios;
-    }
-    sum
-}
-
-/// Puts bios between the others.
-pub(crate) fn put_bios(bios: &mut Vec<Bio>, at: usize, run: &[Bio])
-    requires within { at ≤ length bios.old.items }
-    requires room { length bios.old.items + length run.now ≤ vec_capacity bios.old }
-    ensures items { bios.new.items ≡ take at bios.old.items ++ (run.now ++ drop at bios.old.items) }
-    ensures capacity { vec_capacity bios.new ≡ vec_capacity bios.old }
-{
-    for b in run {
-        bios.push_reserved(*b);
-    }
-    bios.slice_mut(at..).rotate_right(run.len());
-}
-
-/// Puts an entry between the others.
-pub(crate) fn put_entry(index: &mut Vec<Entry>, at: usize, entry: Entry)
-    requires within { at ≤ length index.old.items }
-    requires room { length index.old.items < vec_capacity index.old }
-    ensures items { index.new.items ≡ insert index.old.items at entry }
-    ensures capacity { vec_capacity index.new ≡ vec_capacity index.old }
-{
-    match index.insert(at, entry) {
+    match list.insert(at, x) {
         Ok(()) => (),
         Err(_) => unreachable!(),
-    }
-}
-
-/// Lets the n bios from a place on change places with those behind them, up to the end.
-pub(crate) fn turn(bios: &mut Vec<Bio>, at: usize, n: usize, end: usize)
-    requires within { at + n ≤ end }
-    requires ends { end ≤ length bios.old.items }
-    ensures items { bios.new.items ≡ turned bios.old.items at n end }
-    ensures length { length bios.new.items ≡ length bios.old.items }
-    ensures capacity { vec_capacity bios.new ≡ vec_capacity bios.old }
-{
-    bios.slice_mut(at..end).rotate_left(n);
-}
-
-/// Moves the n bios from a place on to another list.
-pub(crate) fn take_bios(bios: &mut Vec<Bio>, at: usize, n: usize, into: &mut Vec<Bio>)
-    requires within { at + n ≤ length bios.old.items }
-    requires room { length into.old.items + n ≤ vec_capacity into.old }
-    ensures items { bios.new.items ≡ take at bios.old.items ++ drop (at + n) bios.old.items }
-    ensures capacity { vec_capacity bios.new ≡ vec_capacity bios.old }
-    ensures into { into.new.items ≡ into.old.items ++ take n (drop at bios.old.items) }
-    ensures into_capacity { vec_capacity into.new ≡ vec_capacity into.old }
-{
-    for k in 0..n {
-        into.push_reserved(bios[at + k]);
-    }
-    let end = bios.len();
-    turn(bios, at, n, end);
-    bios.truncate(end - n);
-}
-
-/// Brings the n bios of one place to another.
-pub(crate) fn bring(bios: &mut Vec<Bio>, from: usize, to: usize, n: usize)
-    requires within { from ≤ length bios.old.items }
-    requires ends { to + n ≤ length bios.old.items }
-    requires apart { to < from → to + n ≤ from }
-    ensures items { bios.new.items ≡ brought bios.old.items from to n }
-    ensures length { length bios.new.items ≡ length bios.old.items }
-    ensures capacity { vec_capacity bios.new ≡ vec_capacity bios.old }
-{
-    if from <= to {
-        turn(bios, from, to - from, to + n);
-    } else {
-        turn(bios, to, n, from);
     }
 }
 
@@ -164,24 +101,15 @@ pub(crate) fn both_entries(a: &Entry, b: &Entry) -> Entry
         lba: a.lba,
         dir: a.dir,
         bios: a.bios + b.bios,
+        first: a.first,
+        last: b.last,
         blocks: a.blocks + b.blocks,
         segs: a.segs + b.segs,
         pi_segs: a.pi_segs + b.pi_segs,
     }
 }
 
-/// Entry i becomes this one, and entry j goes.
-pub(crate) fn join_entries(index: &mut Vec<Entry>, i: usize, j: usize, entry: Entry)
-    requires first { i < length index.old.items }
-    requires second { j < length index.old.items }
-    ensures items { index.new.items ≡ remove (set index.old.items i entry) j }
-    ensures capacity { vec_capacity index.new ≡ vec_capacity index.old }
-{
-    index[i] = entry;
-    let _gone = index.remove(j);
-}
-
-pub(crate) fn is_one_way(a: Dir, b: Dir) -> bool
+fn is_one_way(a: Dir, b: Dir) -> bool
     ensures { result ≡ same_dir a b }
 {
     match (a, b) {
@@ -194,7 +122,7 @@ pub(crate) fn is_one_way(a: Dir, b: Dir) -> bool
 /// Whether the second group may follow the first.
 pub(crate) fn may_join(a: &Entry, b: &Entry, lim: &Limits) -> bool
     requires { Fit a.now b.now }
-    ensures { (g h : List Bio) → Describes a.now g → Describes b.now h → result ≡ may_follow lim.now g h }
+    ensures { (g h : Group) → Describes a.now g → Describes b.now h → result ≡ may_follow lim.now g h }
 {
     is_one_way(a.dir, b.dir)
         && a.lba + a.blocks == b.lba
@@ -202,4 +130,3 @@ pub(crate) fn may_join(a: &Entry, b: &Entry, lim: &Limits) -> bool
         && a.segs + b.segs <= lim.max_segs as u64
         && a.pi_segs + b.pi_segs <= lim.max_pi_segs as u64
 }
-

@@ -1,6 +1,7 @@
 //! The queue of one device: groups of bios that go out as one command, and which of them may be joined.
 #![tactic(auto)]
 
+mod chains;
 mod entries;
 mod limits;
 mod queue;

@@ -8,60 +8,100 @@ ghost use Rattle.merge_queue.specs.Groups.{followers, group_in, joined, lba_of, 
 ghost use Rattle.merge_queue.specs.Index.{bios_in};
 
 use crate::Limits;
+use crate::chains::{copy_out, fill, one_chain};
 use crate::entries::{
-    Entry, as_number, bios_before, both_entries, bring, entry_of, join_entries, may_join, place_before,
-    place_for, put_bios, put_entry, take_bios,
+    Entry, as_number, both_entries, entry_of, may_join, place_before, place_for, put_in,
 };
-use bio_core::Bio;
+use bio_core::{Bio, Dir};
 use std::alloc::{AllocError, Global};
 use std::marker::Model;
 
 /// The groups of one device, by first address, then by age.
 #[derive(Drop)]
 pub struct DeviceQueue {
-    index: Vec<Entry>,
+    // Where each group begins, in order, and the place of its first bio.
+    begins: Vec<u64>,
+    places: Vec<u32>,
+    // A group's entry, at the place of its first bio.
+    entries: Vec<Entry>,
+    // The bios stay where they are; each place has the number of the place behind it, in its group or among
+    // the free places.
     bios: Vec<Bio>,
+    next: Vec<u32>,
+    // The first free place, and how many there are.
+    free: u32,
+    left: u32,
     room: u32,
 }
 
 impl Model for DeviceQueue {
     ghost use Rattle.std.specs.Prelude.{◌≤◌};
     ghost use Rattle.std.specs.Vec.{vec_capacity};
-    ghost use Rattle.merge_queue.specs.Index.{Queued, IsIndex, split};
+    ghost use Rattle.merge_queue.specs.Index.{Queued, IsHeld, entries_of, groups_of};
 
     ghost Value = { Queued };
 
-    ghost view = { λ q. record { groups = split q.index.items q.bios.items; room = q.room } };
+    ghost view = { λ q. record { groups = groups_of (entries_of q.places.items q.entries.items) q.bios.items q.next.items; room = q.room } };
 
-    ghost invariant = { λ q. IsIndex q.room q.index.items q.bios.items × ((q.room ≤ vec_capacity q.index) × (q.room ≤ vec_capacity q.bios)) };
+    ghost invariant = { λ q. IsHeld q.room q.begins.items q.places.items q.entries.items q.bios.items q.next.items q.free q.left × (q.room ≤ vec_capacity q.begins) × (q.room ≤ vec_capacity q.places) };
 }
 
+const NO_BIO: Bio = Bio {
+    op: 0,
+    k: 0,
+    count: 0,
+    dev: 0,
+    lba: 0,
+    dir: Dir::Read,
+    segs: 0,
+    pi_segs: 0,
+};
+
+const NO_ENTRY: Entry = Entry {
+    lba: 0,
+    dir: Dir::Read,
+    bios: 0,
+    first: 0,
+    last: 0,
+    blocks: 0,
+    segs: 0,
+    pi_segs: 0,
+};
+
 impl DeviceQueue {
+    /// An empty queue with room for so many bios. All its memory is taken here.
     pub fn new(alloc: Global, bios: u32) -> Result<DeviceQueue, AllocError>
         ensures { IfOk result (λ q. (q.groups ≡ []) × (q.room ≡ bios)) }
     {
-        let index = Vec::with_capacity(alloc, bios as usize)?;
-        let list = Vec::with_capacity(alloc, bios as usize)?;
+        let count = bios as usize;
         Ok(DeviceQueue {
-            index,
-            bios: list,
+            begins: Vec::with_capacity(alloc, count)?,
+            places: Vec::with_capacity(alloc, count)?,
+            entries: vec![in alloc; NO_ENTRY; count]?,
+            bios: vec![in alloc; NO_BIO; count]?,
+            next: one_chain(alloc, bios)?,
+            free: 0,
+            left: bios,
             room: bios,
         })
     }
 
+    /// The number of groups.
     pub fn groups(&self) -> u32
         ensures { result ≡ length self.now.groups }
     {
-        self.index.len() as u32
+        self.places.len() as u32
     }
 
+    /// The number of bios in all groups.
     pub fn bios(&self) -> u32
         ensures { result ≡ bios_in self.now.groups }
     {
-        self.bios.len() as u32
+        self.room - self.left
     }
 
-    /// Adds one group as the youngest.
+    /// Adds one group as the youngest: bios, each beginning on the device where the one before ends. There is
+    /// room left for them.
     pub fn put(&mut self, run: &[Bio])
         requires some { 0 < length run.now }
         requires ends { lba_of run.now + size run.now < 2 ^ 64 }
@@ -69,24 +109,34 @@ impl DeviceQueue {
         ensures groups { self.new.groups ≡ put run.now self.old.groups }
         ensures room { self.new.room ≡ self.old.room }
     {
-        let _room = self.room;
-        let entry = entry_of(run);
-        let at = place_for(&self.index, entry.lba);
-        let from = bios_before(&self.index, at);
-        put_bios(&mut self.bios, from, run);
-        put_entry(&mut self.index, at, entry);
+        let first = self.free;
+        let (last, behind) = fill(&mut self.bios, &self.next, first, run);
+        let entry = entry_of(run, first, last);
+        let at = place_for(&self.begins, entry.lba);
+        put_in(&mut self.begins, at, entry.lba);
+        put_in(&mut self.places, at, first);
+        self.entries[first as usize] = entry;
+        self.free = behind;
+        self.left -= run.len() as u32;
     }
 
-    /// Whether groups i and j may become one.
+    /// Whether groups `i` and `j`, both from 0, may become one: they differ, have one direction, group `j` begins
+    /// where group `i` ends, and both together are within the limits.
     pub fn joinable(&self, i: u32, j: u32, lim: &Limits) -> bool
         requires first { i < length self.now.groups }
         requires second { j < length self.now.groups }
         ensures { result ≡ (not (eqb i j) && may_follow lim.now (group_in self.now.groups i) (group_in self.now.groups j)) }
     {
-        i != j && may_join(&self.index[i as usize], &self.index[j as usize], lim)
+        if i == j {
+            return false;
+        }
+        let a = self.places[i as usize];
+        let b = self.places[j as usize];
+        may_join(&self.entries[a as usize], &self.entries[b as usize], lim)
     }
 
-    /// Groups i and j become one, in the place and with the age of group i.
+    /// Groups `i` and `j`, which differ and of which the second begins where the first ends, become one, in the
+    /// place and with the age of group `i`.
     pub fn join(&mut self, i: u32, j: u32)
         requires first { i < length self.old.groups }
         requires second { j < length self.old.groups }
@@ -95,20 +145,17 @@ impl DeviceQueue {
         ensures groups { self.new.groups ≡ joined self.old.groups i j }
         ensures room { self.new.room ≡ self.old.room }
     {
-        let first = self.index[i as usize];
-        let second = self.index[j as usize];
-        let from = bios_before(&self.index, i as usize) + first.bios;
-        let to = bios_before(&self.index, j as usize);
-        bring(&mut self.bios, from, to, second.bios);
-        join_entries(
-            &mut self.index,
-            i as usize,
-            j as usize,
-            both_entries(&first, &second),
-        );
+        let first = self.places[i as usize];
+        let second = self.places[j as usize];
+        let front = self.entries[first as usize];
+        let back = self.entries[second as usize];
+        self.next[front.last as usize] = second;
+        self.entries[first as usize] = both_entries(&front, &back);
+        let _begin = self.begins.remove(j as usize);
+        let _place = self.places.remove(j as usize);
     }
 
-    /// Moves group i out.
+    /// Moves group `i` out: appends its bios to `into`, which has room for them.
     pub fn take(&mut self, i: u32, into: &mut Vec<Bio>)
         requires within { i < length self.old.groups }
         requires room { length into.old.items + length (group_in self.old.groups i) ≤ vec_capacity into.old }
@@ -117,10 +164,13 @@ impl DeviceQueue {
         ensures into { into.new.items ≡ into.old.items ++ group_in self.old.groups i }
         ensures capacity { vec_capacity into.new ≡ vec_capacity into.old }
     {
-        let n = self.index[i as usize].bios;
-        let from = bios_before(&self.index, i as usize);
-        take_bios(&mut self.bios, from, n, into);
-        let _gone = self.index.remove(i as usize);
+        let _begin = self.begins.remove(i as usize);
+        let first = self.places.remove(i as usize);
+        let entry = self.entries[first as usize];
+        copy_out(&self.bios, &self.next, first, entry.bios, into);
+        self.next[entry.last as usize] = self.free;
+        self.free = first;
+        self.left += entry.bios;
     }
 
     /// Where the groups are that begin where group i ends.
@@ -130,10 +180,11 @@ impl DeviceQueue {
         ensures bound { result.1 ≤ length self.now.groups }
         ensures only { (lim : AnyLimits) → followers lim self.now.groups i ≡ filter (may_join lim self.now.groups i) (numbers result.0 (result.1 - result.0)) }
     {
-        let e = &self.index[i as usize];
-        let end = e.lba + e.blocks;
-        let from = place_before(&self.index, end);
-        let to = place_for(&self.index, end);
+        let place = self.places[i as usize];
+        let entry = self.entries[place as usize];
+        let end = entry.lba + entry.blocks;
+        let from = place_before(&self.begins, end);
+        let to = place_for(&self.begins, end);
         (from as u32, to as u32)
     }
 
@@ -163,7 +214,7 @@ impl DeviceQueue {
         count
     }
 
-    /// The group of this number among those that may be joined behind group i.
+    /// The group of this number, from 0, among those that may be joined behind group i.
     fn follower(&self, i: u32, number: u32, lim: &Limits) -> u32
         requires first { i < length self.now.groups }
         requires within { number < length (followers lim.now self.now.groups i) }

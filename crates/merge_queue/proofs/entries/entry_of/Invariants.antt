@@ -1,6 +1,5 @@
 use Rattle.std.proofs.Common.{◌≡◌, ◌+◌, ◌*◌, ◌≤◌, drop}
-use Rattle.merge_queue.specs.Groups.{size}
-use Rattle.merge_queue.specs.Groups.{segs_of, pi_segs_of}
+use Rattle.merge_queue.specs.Groups.{size, segs_of, pi_segs_of}
 use Rattle.merge_queue.proofs.entries.entry_of.Given as goal
 
 abbrev pub invariant-loop-b : goal.invariant-loop-b

@@ -1,44 +1,76 @@
-use Rattle.std.proofs.Common.{arith, ap, take}
-use Rattle.merge_queue.specs.Index.{counted}
-use Rattle.merge_queue.proofs.Index.{sizes, put-whole, counted-front}
+use Rattle.std.proofs.Common.{arith, ap, length, ◌∙◌}
+use Rattle.merge_queue.specs.Chains.{after}
+use Rattle.merge_queue.specs.Index.{entries_of}
+use Rattle.merge_queue.proofs.Index.{free-inside}
+use Rattle.merge_queue.proofs.Held.{held-sizes, rises, put-held}
 use Rattle.merge_queue.proofs.queue.DeviceQueue.put.Goals as goal
 
-pub entry_of-entry-requires-clause-few : goal.entry_of-entry-requires-clause-few
-entry_of-entry-requires-clause-few c =
-    let s = sizes c.self.inside.room c.self.inside.index.items c.self.inside.bios.items c.args.self.now c.self.invariant.0 c.self.view_is in
+pub fill-last-requires-clause-places : goal.fill-last-requires-clause-places
+fill-last-requires-clause-places c = λ k h.
+    let s = held-sizes c.self.inside.room c.self.inside.begins.items c.self.inside.places.items c.self.inside.entries.items c.self.inside.bios.items c.self.inside.next.items c.self.inside.free c.self.inside.left c.args.self.now c.self.invariant.0 c.self.view_is in
     let r = ap (λ q. q.room) c.self.view_is in
-    omega (arith, s)
+    let f = free-inside c.self.inside.room (entries_of c.self.inside.places.items c.self.inside.entries.items) c.self.inside.bios.items c.self.inside.next.items c.self.inside.free c.self.inside.left c.self.invariant.0.index k (omega (arith, s, r)) in
+    let e = ap (λ n. after n c.self.inside.free k) c.deref.ensures.value in
+    let l = ap length c.deref.ensures.value in
+    omega (arith, c.self.invariant.0.index.next_long)
 
-pub put_bios-requires-clause-within : goal.put_bios-requires-clause-within
-put_bios-requires-clause-within c =
-    let s = sizes c.self.inside.room c.self.inside.index.items c.self.inside.bios.items c.args.self.now c.self.invariant.0 c.self.view_is in
-    let f = counted-front c.self.inside.index.items c.place_for-at.result in
-    let e = ap (λ z. counted (take c.place_for-at.result z)) c.deref-2.ensures.value in
-    omega (arith, s)
+pub place_for-at-requires : goal.place_for-at-requires
+place_for-at-requires c =
+    rw c.deref-2.ensures.value (rises c.self.inside.room c.self.inside.begins.items c.self.inside.places.items c.self.inside.entries.items c.self.inside.bios.items c.self.inside.next.items c.self.inside.free c.self.inside.left c.self.invariant.0)
 
-pub put_bios-requires-clause-room : goal.put_bios-requires-clause-room
-put_bios-requires-clause-room c =
-    let s = sizes c.self.inside.room c.self.inside.index.items c.self.inside.bios.items c.args.self.now c.self.invariant.0 c.self.view_is in
+pub put_in-requires-clause-within : goal.put_in-requires-clause-within
+put_in-requires-clause-within c =
+    let e = ap length c.deref-2.ensures.value in
+    omega (arith, c.place_for-at.ensures.bound)
+
+pub put_in-requires-clause-room : goal.put_in-requires-clause-room
+put_in-requires-clause-room c =
+    let s = held-sizes c.self.inside.room c.self.inside.begins.items c.self.inside.places.items c.self.inside.entries.items c.self.inside.bios.items c.self.inside.next.items c.self.inside.free c.self.inside.left c.args.self.now c.self.invariant.0 c.self.view_is in
     let r = ap (λ q. q.room) c.self.view_is in
-    omega (arith, s)
+    omega (arith, s, c.self.invariant.1)
 
-pub put_entry-requires-clause-room : goal.put_entry-requires-clause-room
-put_entry-requires-clause-room c =
-    let s = sizes c.self.inside.room c.self.inside.index.items c.self.inside.bios.items c.args.self.now c.self.invariant.0 c.self.view_is in
+pub put_in-requires-2-clause-within : goal.put_in-requires-2-clause-within
+put_in-requires-2-clause-within c =
+    let s = held-sizes c.self.inside.room c.self.inside.begins.items c.self.inside.places.items c.self.inside.entries.items c.self.inside.bios.items c.self.inside.next.items c.self.inside.free c.self.inside.left c.args.self.now c.self.invariant.0 c.self.view_is in
+    let e = ap length c.deref-2.ensures.value in
+    omega (arith, c.place_for-at.ensures.bound, s)
+
+pub put_in-requires-2-clause-room : goal.put_in-requires-2-clause-room
+put_in-requires-2-clause-room c =
+    let s = held-sizes c.self.inside.room c.self.inside.begins.items c.self.inside.places.items c.self.inside.entries.items c.self.inside.bios.items c.self.inside.next.items c.self.inside.free c.self.inside.left c.args.self.now c.self.invariant.0 c.self.view_is in
+    let r = ap (λ q. q.room) c.self.view_is in
+    omega (arith, s, c.self.invariant.2)
+
+pub index_mut-requires : goal.index_mut-requires
+index_mut-requires c =
+    let s = held-sizes c.self.inside.room c.self.inside.begins.items c.self.inside.places.items c.self.inside.entries.items c.self.inside.bios.items c.self.inside.next.items c.self.inside.free c.self.inside.left c.args.self.now c.self.invariant.0 c.self.view_is in
+    let r = ap (λ q. q.room) c.self.view_is in
+    let f = free-inside c.self.inside.room (entries_of c.self.inside.places.items c.self.inside.entries.items) c.self.inside.bios.items c.self.inside.next.items c.self.inside.free c.self.inside.left c.self.invariant.0.index 0 (omega (arith, s, r)) in
+    omega (arith, c.self.invariant.0.entries_long)
+
+pub overflow_sub-self : goal.overflow_sub-self
+overflow_sub-self c =
+    let s = held-sizes c.self.inside.room c.self.inside.begins.items c.self.inside.places.items c.self.inside.entries.items c.self.inside.bios.items c.self.inside.next.items c.self.inside.free c.self.inside.left c.args.self.now c.self.invariant.0 c.self.view_is in
     let r = ap (λ q. q.room) c.self.view_is in
     omega (arith, s)
 
 pub invariant_of-self : goal.invariant_of-self
 invariant_of-self c =
-    let w = put-whole c.self.inside.room c.self.inside.index.items c.put_entry.new.index.items c.self.inside.bios.items c.put_bios.new.bios.items c.args.self.now c.deref.result.now c.deref-2.result.now
-    c.place_for-at.result c.bios_before-from.result c.entry_of-entry.result c.args.run.now c.self.invariant.0 c.self.view_is c.deref.ensures.value c.deref-2.ensures.value
-    c.place_for-at.ensures.bound c.place_for-at.ensures.before c.place_for-at.ensures.after c.entry_of-entry.ensures c.requires.room c.bios_before-from.ensures
-    c.put_entry.ensures.items c.put_bios.ensures.items in
-    (w.0, (omega arith, omega arith))
+    let s = held-sizes c.self.inside.room c.self.inside.begins.items c.self.inside.places.items c.self.inside.entries.items c.self.inside.bios.items c.self.inside.next.items c.self.inside.free c.self.inside.left c.args.self.now c.self.invariant.0 c.self.view_is in
+    let r = ap (λ q. q.room) c.self.view_is in
+    let w = put-held c.self.inside.room c.self.inside.begins.items c.put_in.new.list.items c.deref-2.result.now c.self.inside.places.items c.put_in-2.new.list.items c.self.inside.entries.items
+    c.self.inside.bios.items c.deref_mut.result.now c.fill-last.new.bios c.self.inside.next.items c.deref.result.now c.self.inside.free c.self.inside.left c.place_for-at.result c.fill-last.result.1 c.self.inside.bios.len
+    c.args.self.now c.entry_of-entry.result c.args.run.now c.self.invariant.0 c.self.view_is c.deref-2.ensures.value c.deref_mut.ensures.value c.deref.ensures.value (omega arith)
+    c.place_for-at.ensures.bound c.place_for-at.ensures.before c.place_for-at.ensures.after c.entry_of-entry.ensures.describes c.entry_of-entry.ensures.first (c.entry_of-entry.ensures.last ∙ c.fill-last.ensures.last)
+    (omega (arith, s, r)) c.fill-last.ensures.behind c.fill-last.ensures.bios c.put_in.ensures.items c.put_in-2.ensures.items in
+    (w.index, omega arith, omega arith)
 
 pub returns-clause-groups : goal.returns-clause-groups
 returns-clause-groups c =
-    (put-whole c.self.inside.room c.self.inside.index.items c.put_entry.new.index.items c.self.inside.bios.items c.put_bios.new.bios.items c.args.self.now c.deref.result.now c.deref-2.result.now
-    c.place_for-at.result c.bios_before-from.result c.entry_of-entry.result c.args.run.now c.self.invariant.0 c.self.view_is c.deref.ensures.value c.deref-2.ensures.value
-    c.place_for-at.ensures.bound c.place_for-at.ensures.before c.place_for-at.ensures.after c.entry_of-entry.ensures c.requires.room c.bios_before-from.ensures
-    c.put_entry.ensures.items c.put_bios.ensures.items).1
+    let s = held-sizes c.self.inside.room c.self.inside.begins.items c.self.inside.places.items c.self.inside.entries.items c.self.inside.bios.items c.self.inside.next.items c.self.inside.free c.self.inside.left c.args.self.now c.self.invariant.0 c.self.view_is in
+    let r = ap (λ q. q.room) c.self.view_is in
+    (put-held c.self.inside.room c.self.inside.begins.items c.put_in.new.list.items c.deref-2.result.now c.self.inside.places.items c.put_in-2.new.list.items c.self.inside.entries.items
+    c.self.inside.bios.items c.deref_mut.result.now c.fill-last.new.bios c.self.inside.next.items c.deref.result.now c.self.inside.free c.self.inside.left c.place_for-at.result c.fill-last.result.1 c.self.inside.bios.len
+    c.args.self.now c.entry_of-entry.result c.args.run.now c.self.invariant.0 c.self.view_is c.deref-2.ensures.value c.deref_mut.ensures.value c.deref.ensures.value (omega arith)
+    c.place_for-at.ensures.bound c.place_for-at.ensures.before c.place_for-at.ensures.after c.entry_of-entry.ensures.describes c.entry_of-entry.ensures.first (c.entry_of-entry.ensures.last ∙ c.fill-last.ensures.last)
+    (omega (arith, s, r)) c.fill-last.ensures.behind c.fill-last.ensures.bios c.put_in.ensures.items c.put_in-2.ensures.items).groups
