@@ -10,7 +10,7 @@
 uint32_t request_bench_gate(uint32_t ops, uint32_t segs, _Bool runs);
 uint32_t request_bench_queue(uint32_t groups);
 
-enum { ROUNDS = 20, WAYS = 5, ENTRY = 48 };
+enum { ROUNDS = 20, WAYS = 5 };
 
 static double now(void) {
     struct timespec t;
@@ -42,26 +42,32 @@ static double queue(uint32_t groups) {
     return now() - start;
 }
 
-/* The moves of an index of entries of 48 bytes alone, as the queue's puts and joins make them at most. */
+static void move(uint64_t *begins, uint32_t *places, uint32_t to, uint32_t from, size_t count) {
+    memmove(begins + to, begins + from, count * sizeof *begins);
+    memmove(places + to, places + from, count * sizeof *places);
+    __asm__ volatile("" ::: "memory");
+}
+
+/* The moves alone of an index of 8 bytes and 4 bytes a group, as the queue's puts and joins make them at most. */
 static double moves(uint32_t groups) {
-    char *index = calloc(groups, ENTRY);
-    if (!index)
+    uint64_t *begins = calloc(groups + 1, sizeof *begins);
+    uint32_t *places = calloc(groups + 1, sizeof *places);
+    if (!begins || !places)
         exit(1);
     double start = now();
     uint32_t at = 0;
     for (uint32_t n = 0; n < groups; n++) {
         uint32_t place = (uint64_t)at * n / groups;
-        memmove(index + (place + 1) * (size_t)ENTRY, index + place * (size_t)ENTRY, (n - place) * (size_t)ENTRY * (n + 1 < groups));
-        __asm__ volatile("" ::: "memory");
+        move(begins, places, place + 1, place, n - place);
         at = (at + 7919) % groups;
     }
     for (uint32_t n = groups; n > 1; n--) {
         uint32_t place = n % 2 == 0 ? 1 : n - 1;
-        memmove(index + place * (size_t)ENTRY, index + (place + 1) * (size_t)ENTRY, (n - 1 - place) * (size_t)ENTRY);
-        __asm__ volatile("" ::: "memory");
+        move(begins, places, place, place + 1, n - 1 - place);
     }
     double end = now();
-    free(index);
+    free(begins);
+    free(places);
     return end - start;
 }
 
