@@ -5,8 +5,8 @@
 #include <stdio.h>
 #include <stdlib.h>
 #include <string.h>
-#include <time.h>
 #include <isa-l/crc.h>
+#include "rounds.h"
 #include "tables.h"
 
 /* The static library: a slice is a pointer and a length. */
@@ -44,12 +44,6 @@ static const struct way {
     {"memcpy", copied, 8},
 };
 enum { WAYS = sizeof ways / sizeof *ways };
-
-static double now(void) {
-    struct timespec t;
-    clock_gettime(CLOCK_MONOTONIC, &t);
-    return t.tv_sec + t.tv_nsec * 1e-9;
-}
 
 static volatile uint16_t sink;
 
@@ -91,11 +85,6 @@ static __attribute__((noinline, noclone)) double measured(const struct way *way,
     double seconds = now() - start;
     sink = all;
     return (double)(passes * MIB) / seconds / 1e9;
-}
-
-static int by_size(const void *a, const void *b) {
-    double x = *(const double *)a, y = *(const double *)b;
-    return (x > y) - (x < y);
 }
 
 /* What a tenth of the rounds surpass. */

@@ -3,7 +3,8 @@
 #include <stdint.h>
 #include <stdio.h>
 #include <stdlib.h>
-#include <time.h>
+
+#include "rounds.h"
 
 /* The static libraries: a slice is a pointer and a length, an allocator is nothing, a bool is a byte. */
 uint16_t guard_bench_crc16(const uint8_t *p, size_t n);
@@ -13,12 +14,6 @@ uint32_t payload_bench_generate(_Bool is_ip, uint32_t times);
 enum { MIB = 1 << 20, BLOCK = 512, TIMES = 64, ROUNDS = 100, WAYS = 4 };
 
 static uint8_t *source;
-
-static double now(void) {
-    struct timespec t;
-    clock_gettime(CLOCK_MONOTONIC, &t);
-    return t.tv_sec + t.tv_nsec * 1e-9;
-}
 
 static volatile uint32_t sink;
 
@@ -45,11 +40,6 @@ static double tuples(_Bool is_ip, uint32_t times) {
         exit(1);
     }
     return (end - once) - (once - start);
-}
-
-static int by_size(const void *a, const void *b) {
-    double x = *(const double *)a, y = *(const double *)b;
-    return (x > y) - (x < y);
 }
 
 int main(int count, char **words) {

@@ -4,19 +4,14 @@
 #include <stdio.h>
 #include <stdlib.h>
 #include <string.h>
-#include <time.h>
+
+#include "rounds.h"
 
 /* The static library: an allocator is nothing, a bool is a byte. */
 uint32_t request_bench_gate(uint32_t ops, uint32_t segs, _Bool runs);
 uint32_t request_bench_queue(uint32_t groups);
 
 enum { ROUNDS = 20, WAYS = 5 };
-
-static double now(void) {
-    struct timespec t;
-    clock_gettime(CLOCK_MONOTONIC, &t);
-    return t.tv_sec + t.tv_nsec * 1e-9;
-}
 
 static void expect(uint32_t got, uint32_t want) {
     if (got != want) {
@@ -69,11 +64,6 @@ static double moves(uint32_t groups) {
     free(begins);
     free(places);
     return end - start;
-}
-
-static int by_size(const void *a, const void *b) {
-    double x = *(const double *)a, y = *(const double *)b;
-    return (x > y) - (x < y);
 }
 
 int main(int count, char **words) {

@@ -4,7 +4,8 @@
 #include <stdio.h>
 #include <stdlib.h>
 #include <string.h>
-#include <time.h>
+
+#include "rounds.h"
 
 /* The static libraries: a slice is a pointer and a length, an allocator is nothing, a bool is a byte. */
 uint16_t guard_bench_crc16(const uint8_t *p, size_t n);
@@ -13,12 +14,6 @@ uint32_t target_bench_serve(_Bool is_write, uint32_t times);
 enum { BLOCKS = 1024, DATA = 512, FRAME = 520, TIMES = 64, ROUNDS = 100, WAYS = 4 };
 
 static uint8_t *source, *target;
-
-static double now(void) {
-    struct timespec t;
-    clock_gettime(CLOCK_MONOTONIC, &t);
-    return t.tv_sec + t.tv_nsec * 1e-9;
-}
 
 static volatile uint32_t sink;
 
@@ -56,11 +51,6 @@ static double served(_Bool is_write, uint32_t times) {
         exit(1);
     }
     return (end - once) - (once - start);
-}
-
-static int by_size(const void *a, const void *b) {
-    double x = *(const double *)a, y = *(const double *)b;
-    return (x > y) - (x < y);
 }
 
 int main(int count, char **words) {
