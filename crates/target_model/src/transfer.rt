@@ -13,6 +13,7 @@ use cdb_codec::Rw;
 use dix_base::Store;
 use fault_schedule::{Label, Tamper};
 use rig_api::Outcome;
+use sense_codes::Sense;
 use target_answer::{Passage, UnitSpec};
 
 /// The blocks of a command: the unit, the command's fields, and the LBA of the first block, as
@@ -39,6 +40,16 @@ fn passage(blocks: Blocks, labels: &[Label], k: u32) -> Passage
         app: c.app,
         mask: c.mask,
         label: labels.get(k as usize).copied(),
+    }
+}
+
+/// The command ends at block `k`: those before it are done.
+fn ends_at(k: u32, sense: Sense) -> Outcome
+    ensures { result ≡ record { done = k; sense = Some sense } }
+{
+    Outcome {
+        done: k,
+        sense: Some(sense),
     }
 }
 
@@ -78,12 +89,7 @@ pub(crate) fn write_blocks<S: Store>(
         let (piece, more) = rest.split_at(sent);
         let block = passage(blocks, labels, k);
         match write_block(store, at, block, tamper, piece, &mut buffer[..stored]) {
-            Some(sense) => {
-                return Outcome {
-                    done: k,
-                    sense: Some(sense),
-                };
-            }
+            Some(sense) => return ends_at(k, sense),
             None => {}
         }
         rest = more;
@@ -137,12 +143,7 @@ pub(crate) fn read_blocks<S: Store>(
     for k in 0..blocks.fields.n {
         let block = passage(blocks, labels, k);
         match read_block(store, at, block, tamper, &mut buffer[..stored]) {
-            Some(sense) => {
-                return Outcome {
-                    done: k,
-                    sense: Some(sense),
-                };
-            }
+            Some(sense) => return ends_at(k, sense),
             None => {}
         }
         put_at(into, end, &buffer[..sent]);
@@ -185,12 +186,7 @@ pub(crate) fn verify_blocks<S: Store>(
     for k in 0..blocks.fields.n {
         let block = passage(blocks, &[], k);
         match read_block(store, at, block, tamper, &mut buffer[..stored]) {
-            Some(sense) => {
-                return Outcome {
-                    done: k,
-                    sense: Some(sense),
-                };
-            }
+            Some(sense) => return ends_at(k, sense),
             None => {}
         }
         at += stored as u64;

@@ -60,13 +60,13 @@ pub returns-in-Some-clause-told : goal.returns-in-Some-clause-told
 returns-in-Some-clause-told g c =
     λ bytes e.
     let inv = c.loop-k.invariant.told bytes e in
-    sent_until _ c.args.blocks.lba c.block_bytes-stored.result c.args.blocks.fields.n c.sent_size-sent.result c.loop-k.k _ _ _ _ _ _ _ c.read_block.new.frame inv.0 c.in-Some.sense _ (sent_size c.passage-block.result.protect c.passage-block.result.size) _ _
+    rw c.ends_at.ensures (sent_until _ c.args.blocks.lba c.block_bytes-stored.result c.args.blocks.fields.n c.sent_size-sent.result c.loop-k.k _ _ _ _ _ _ _ c.read_block.new.frame inv.0 c.in-Some.sense _ (sent_size c.passage-block.result.protect c.passage-block.result.size) _ _
     c.loop-k-test.true c.loop-k.invariant.count inv.1 inv.2
     (ap (λ (b : Passage). from_medium c.args.tamper.now b (take (stored_size b.ty b.size) (drop c.loop-k.at bytes))) c.passage-block.ensures
     ∙ ap (λ n. from_medium c.args.tamper.now (passage c.args.blocks.unit c.args.blocks.fields c.args.blocks.lba c.args.labels.now c.loop-k.k) (take n (drop c.loop-k.at bytes))) (sym c.block_bytes-stored.ensures.value))
     (ap (λ (b : Passage). b.lba) c.passage-block.ensures)
     (sym c.block_bytes-stored.ensures.value)
-    (c.in-Some.ensures.told bytes (c.loop-k.invariant.same ∙ e))
+    (c.in-Some.ensures.told bytes (c.loop-k.invariant.same ∙ e)))
 
 pub returns-clause-told : goal.returns-clause-told
 returns-clause-told g c =

@@ -61,13 +61,13 @@ returns-in-Some-clause-told g c =
     λ bytes e.
     let inv = c.loop-k.invariant.told bytes e in (
       inv.0,
-      sent_until _ c.args.blocks.lba c.block_bytes-stored.result c.args.blocks.fields.n (sent_size c.args.blocks.fields.protect c.args.blocks.unit.size) c.loop-k.k _ _ _ _ _ _ _ c.read_block.new.frame inv.1.0 c.in-Some.sense _ (sent_size c.passage-block.result.protect c.passage-block.result.size) _ _
+      rw c.ends_at.ensures (sent_until _ c.args.blocks.lba c.block_bytes-stored.result c.args.blocks.fields.n (sent_size c.args.blocks.fields.protect c.args.blocks.unit.size) c.loop-k.k _ _ _ _ _ _ _ c.read_block.new.frame inv.1.0 c.in-Some.sense _ (sent_size c.passage-block.result.protect c.passage-block.result.size) _ _
           c.loop-k-test.true c.loop-k.invariant.count inv.1.1 inv.1.2
           (ap (λ (b : Passage). from_medium c.args.tamper.now b (take (stored_size b.ty b.size) (drop c.loop-k.at bytes))) c.passage-block.ensures
           ∙ ap (λ n. from_medium c.args.tamper.now (passage c.args.blocks.unit c.args.blocks.fields c.args.blocks.lba [] c.loop-k.k) (take n (drop c.loop-k.at bytes))) (sym c.block_bytes-stored.ensures.value))
           (ap (λ (b : Passage). b.lba) c.passage-block.ensures)
           (sym c.block_bytes-stored.ensures.value)
-          (c.in-Some.ensures.told bytes (c.loop-k.invariant.same ∙ e)),
+          (c.in-Some.ensures.told bytes (c.loop-k.invariant.same ∙ e))),
     )
 
 pub returns-clause-told : goal.returns-clause-told

@@ -56,7 +56,7 @@ returns-in-Some-clause-told g c =
     λ bytes e.
     let len = told_length _ _ bytes e (g.met.S.Store.told c.args.store.now) in
     let inv = c.loop-k.invariant.told bytes e in
-    wrote_until _ c.args.blocks.lba c.sent_size-sent.result c.args.blocks.fields.n c.block_bytes-stored.result c.loop-k.k c.args.place c.loop-k.at _ _ _ c.loop-k.rest.now _ bytes _ inv.0 c.in-Some.sense _ _ _ _ _
+    rw c.ends_at.ensures (wrote_until _ c.args.blocks.lba c.sent_size-sent.result c.args.blocks.fields.n c.block_bytes-stored.result c.loop-k.k c.args.place c.loop-k.at _ _ _ c.loop-k.rest.now _ bytes _ inv.0 c.in-Some.sense _ _ _ _ _
     (omega (arith, len, c.requires.held)) c.loop-k-test.true c.loop-k.invariant.at c.loop-k.invariant.count inv.1
     (ap (λ (b : Passage). to_medium c.args.tamper.now b c.split_at.result.0.now) c.passage-block.ensures
     ∙ ap (to_medium c.args.tamper.now (passage c.args.blocks.unit c.args.blocks.fields c.args.blocks.lba c.args.labels.now c.loop-k.k)) c.split_at.ensures.front)
@@ -64,7 +64,7 @@ returns-in-Some-clause-told g c =
     (ap (λ (b : Passage). b.lba) c.passage-block.ensures)
     (sym c.sent_size-sent.ensures.value)
     (sym c.block_bytes-stored.ensures.value)
-    (c.in-Some.ensures.told _ inv.2)
+    (c.in-Some.ensures.told _ inv.2))
 
 pub returns-clause-told : goal.returns-clause-told
 returns-clause-told g c =
