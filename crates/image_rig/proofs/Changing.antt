@@ -10,7 +10,7 @@ use Rattle.target_answer.specs.Target.{Stored}
 use Rattle.target_answer.specs.declared.units.UnitSpec.{UnitSpec}
 use Rattle.target_model.proofs.Bytes.{becomes_some, over_back, told_length}
 use Rattle.rig_api.specs.Head.{Head, units_of}
-use Rattle.rig_api.specs.Telling.{block_at, can_change, changed, frame_size, no_spec, source_of, unit_at, with_block}
+use Rattle.rig_api.specs.Telling.{block_at, can_change, changed, frame_size, has_address, no_spec, source_of, unit_at, with_block}
 use Rattle.rig_api.specs.declared.change.Change.{Change}
 use Rattle.rig_api.specs.declared.change.Change.TheVariants.{Flip, Copy}
 use Rattle.image_rig.specs.Changes.{IsChanged, altered_by, source_place}
@@ -36,11 +36,17 @@ block_held us dev lba a =
     let b = block_within (lba - u.first) u.blocks (block_len us dev) a.last in
     omega arith
 
+-- a block that is copied has an address, and the length of the one that it replaces
+source_address : (us : List UnitSpec) (dev lba from at : ℕ) → can_change_in us dev lba (Copy from at) ≡ true → (has_address (get_or us from no_spec) at ≡ true) × (block_len us from ≡ block_len us dev)
+source_address us dev lba from at c =
+    let r = both _ _ (both _ _ c).1 in
+    (r.0, same_number (block_len us from) (block_len us dev) r.1)
+
 pub source_held : (us : List UnitSpec) (dev lba : ℕ) (change : Change) → dev < length us → source_of change dev < length us → can_change_in us dev lba change ≡ true → source_place us dev lba change + block_len us dev ≤ image_size us
 source_held us dev lba (Flip off bytes) d s c = block_held us dev lba (addressed us dev lba d c)
 source_held us dev lba (Copy from at) d s c =
-    let r = both _ _ (both _ _ c).1 in
-    let e = same_number (block_len us from) (block_len us dev) r.1 in
+    let r = source_address us dev lba from at c in
+    let e = r.1 in
     let h = block_held us from at (addressed us from at s r.0) in
     omega arith
 
@@ -60,9 +66,8 @@ made : (us : List UnitSpec) (was : List ℕ) (dev lba : ℕ) (change : Change) �
     altered_by change (take (block_len us dev) (drop (source_place us dev lba change) was)) ≡ changed (units_in us was) change (block_at (units_in us was) dev lba)
 made us was dev lba (Flip off bytes) d s c = ap (xored_from (byte_at off bytes) 0) (sym (block_found us was dev lba (addressed us dev lba d c)))
 made us was dev lba (Copy from at) d s c =
-    let r = both _ _ (both _ _ c).1 in
-    let e = same_number (block_len us from) (block_len us dev) r.1 in
-    ap (λ n. take n (drop (block_place us from at) was)) (sym e) ∙ sym (block_found us was from at (addressed us from at s r.0))
+    let r = source_address us dev lba from at c in
+    ap (λ n. take n (drop (block_place us from at) was)) (sym r.1) ∙ sym (block_found us was from at (addressed us from at s r.0))
 
 cut_long : (n at : ℕ) (xs : List ℕ) → at + n ≤ length xs → length (take n (drop at xs)) ≡ n
 cut_long n at xs h = let a = length-take n (drop at xs) in let b = length-drop at xs in omega arith

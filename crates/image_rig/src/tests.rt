@@ -17,6 +17,7 @@ use sense_codes::Sense;
 use std::alloc::Global;
 use std::test::Fail;
 use std::{env, fs, process};
+use target_answer::Version;
 
 const LABELS: [Label; 2] = [Label { op: 3, k: 0 }, Label { op: 3, k: 1 }];
 
@@ -145,6 +146,14 @@ fn each_byte_of_a_header_is_judged(rt: HostRuntime) -> Result<(), Fail> {
     Ok(())
 }
 
+/// The image of a unit of four blocks of 512 bytes, in this version.
+fn small(alloc: Global, version: Version) -> Result<Vec<u8>, Fail> {
+    match version {
+        Version::First => formatted(alloc, &[unit(PiType::One, 4, 512, 0)]),
+        Version::Second => formatted(alloc, &[unit(PiType::One, 4, 512, 8)]),
+    }
+}
+
 #[test]
 fn each_head_is_judged(rt: HostRuntime) -> Result<(), Fail> {
     for (at, bits, len, fail, want) in [
@@ -153,16 +162,20 @@ fn each_head_is_judged(rt: HostRuntime) -> Result<(), Fail> {
         (0, 0, 0, 1, Err(RigFault::BadMagic)),
         (0, 0, 7, 0, Err(RigFault::BadMagic)),
         (7, 2, 2592, 0, Err(RigFault::BadMagic)),
+        // The text of the other version.
+        (7, 3, 2592, 0, Err(RigFault::BadHeader)),
         (31, 1, 2592, 0, Err(RigFault::BadLength)),
         (511, 1, 2592, 0, Err(RigFault::BadHeader)),
         (0, 0, 511, 0, Err(RigFault::BadLength)),
         (0, 0, 2593, 0, Err(RigFault::BadLength)),
         (0, 0, 2592, 1, Err(RigFault::Failed)),
     ] {
-        let image = formatted(rt.alloc(), &[unit(PiType::One, 4, 512, 0)])?;
-        let (opened, devices) = open_altered(rt.alloc(), image, at, bits, len, fail)?;
-        assert_eq!(rt; opened, want, "byte {at}, length {len}");
-        assert_eq!(rt; devices, if opened.is_ok() { 1 } else { 0 });
+        for version in [Version::First, Version::Second] {
+            let image = small(rt.alloc(), version)?;
+            let (opened, devices) = open_altered(rt.alloc(), image, at, bits, len, fail)?;
+            assert_eq!(rt; opened, want, "byte {at}, length {len}, {version:?}");
+            assert_eq!(rt; devices, if opened.is_ok() { 1 } else { 0 });
+        }
     }
     Ok(())
 }
