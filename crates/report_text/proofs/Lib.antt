@@ -1,0 +1,2 @@
+mod Flow
+mod Lines

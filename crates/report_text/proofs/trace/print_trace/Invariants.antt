@@ -1,0 +1,10 @@
+use Rattle.std.proofs.Common.{◌≤◌, drop}
+use Rattle.report_text.specs.Trace.{trace}
+use Rattle.report_text.proofs.Flow.{Left}
+use Rattle.report_text.proofs.trace.print_trace.Given as goal
+
+abbrev pub invariant-loop-i : goal.invariant-loop-i
+invariant-loop-i g l = record {
+  left : Left (trace (drop l.fn.from (g.R.Rig.log l.rig))) (trace (drop l.i (g.R.Rig.log l.rig))) (g.O.Sink.taken l.initial.out) (g.O.Sink.taken l.out);
+  count : g.O.Sink.faults l.initial.out ≤ g.O.Sink.faults l.out;
+}

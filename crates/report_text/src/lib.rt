@@ -1,0 +1,14 @@
+//! The texts that a run writes: the report of what its ops replied, and the trace of the commands
+//! that were exchanged with the devices.
+#![tactic(auto)]
+
+mod line;
+mod report;
+#[cfg(test)]
+mod tests;
+mod trace;
+mod why;
+mod writing;
+
+pub use report::print_report;
+pub use trace::print_trace;
