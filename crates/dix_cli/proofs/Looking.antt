@@ -130,12 +130,15 @@ looked old new o into first size result right devices one laid laid' tells log s
     let us_is : old.seen.units ≡ Some (unit_from u (drop 512 image) ∷ []) = laid ∙ ap (units_told old.standing) e ∙ ap (λ (us : List UnitSpec). Some (units_in us image)) specs in
     let a = told (unit_from u (drop 512 image) ∷ []) us_is in
     data_is u (drop 512 image) into o new.seen.units a.0 a.2 in
+    let first_at : first ≡ (spec_at old.standing 0).first = f ∙ ap (λ (s : Standing). (spec_at s 0).first) standing in
+    let size_at : size ≡ (spec_at old.standing 0).size = z ∙ ap (λ (s : Standing). (spec_at s 0).size) standing in
     record {
       records = entry_of (spec_at old.standing 0).size 0 look [] o [] into ∷ [];
       look = inr (o, into, refl);
       log = log;
       standing = standing;
       units = same_units old.standing old.image new.image old.seen.units new.seen.units laid (laid' ∙ ap (λ (s : Standing). units_told s new.image) standing) tells (λ us e. (let a = told us e in stays us into o new.seen.units a.0 a.2));
+      shown = (λ r. (let y = tell r in (one, sym first_at ∙ y.0, sym size_at ∙ y.1, y.2)), λ s. deny (first_at ∙ s.1) (size_at ∙ s.2) s.3);
       yes = λ image e r. (let y = tell r in units ∙ ap (λ (v : UnitSpec). v ∷ []) (told_small u spec (sym first_is ∙ y.0) (sym size_is ∙ y.1) (sym (holds image e) ∙ y.2)));
       no = λ image e r same.
           let is : u ≡ small_spec = ap (λ (us : List UnitSpec). slice_index_or us 0 no_spec) same in
@@ -152,6 +155,7 @@ unlooked old devices other = record {
   log = sym (append-nil old.seen.log);
   standing = refl;
   units = refl;
+  shown = (λ r. absurd (cc), λ s. absurd (other s.0));
   yes = λ image e r. absurd (cc);
   no = λ image e r same. other (devices ∙ ap length same);
   count = omega arith;

@@ -1,8 +1,8 @@
-use Rattle.std.specs.Prelude.{ℕ, ◌≡◌, ◌+◌, ◌≤◌, ◌⊎◌, Bool, true, false, if◌then◌else◌, List, [], ◌∷◌, ◌++◌, codes, Option, Some, None}
+use Rattle.std.specs.Prelude.{ℕ, ◌≡◌, ◌+◌, ◌≤◌, ◌⊎◌, ◌↔◌, Bool, true, false, if◌then◌else◌, List, [], ◌∷◌, ◌++◌, codes, Option, Some, None}
 use Rattle.dix_base.specs.Told.{Appended, AppendedSome, Rose}
 use Rattle.target_answer.specs.Target.{capacity_data}
 use Rattle.rig_api.specs.Head.{IsHeadOf, fault_name, head_fault, units_of}
-use Rattle.rig_api.specs.Log.{Entry, Room, entry_of}
+use Rattle.rig_api.specs.Log.{Entry, Room, entry_at, entry_of}
 use Rattle.rig_api.specs.Telling.{Opened, Standing, Stayed, spec_at, units_told}
 use Rattle.rig_api.specs.declared.rig.Outcome.{Outcome}
 use Rattle.rig_api.specs.declared.rig.RigFault.{RigFault}
@@ -67,19 +67,24 @@ small_data = capacity_data small_spec
 abbrev pub IsLook : (size : ℕ) → List Entry → Type 0
 IsLook size records = (records ≡ []) ⊎ ((o : Outcome) × (into : List ℕ) × (records ≡ entry_of size 0 look [] o [] into ∷ []))
 
+-- There is one device, with the first address 0 and blocks of 512 bytes, and what the record of its READ CAPACITY holds is what the small unit answers.
+abbrev pub ShowsSmall : Standing → List Entry → Type 0
+ShowsSmall s records = (s.devices ≡ 1) × ((spec_at s 0).first ≡ 0) × ((spec_at s 0).size ≡ 512) × ((entry_at records 0).moved ≡ small_data)
+
 -- One look took of the spare room at most this.
 pub record IsSpent (old new : Room) : Type 0 where
   pub records : old.records ≤ new.records + 1
   pub labels : old.labels ≤ new.labels
   pub moved : old.moved ≤ new.moved + 32
 
--- It was looked whether the image's units are the small unit: where the image is told the answer says so. All but the records is as before.
+-- It was looked whether the image's units are the small unit: what stands and the record say so, and where the image is told it is so. All but the records is as before.
 pub record Looked (small : Bool) (old new : View) : Type 0 where
   pub records : List Entry
   pub look : IsLook (spec_at old.standing 0).size records
   pub log : new.seen.log ≡ old.seen.log ++ records
   pub standing : new.standing ≡ old.standing
   pub units : new.seen.units ≡ old.seen.units
+  pub shown : (small ≡ true) ↔ ShowsSmall old.standing records
   pub yes : (image : List ℕ) → old.image ≡ Some image → small ≡ true → units_of old.standing.head ≡ small_spec ∷ []
   pub no : (image : List ℕ) → old.image ≡ Some image → small ≡ false → units_of old.standing.head ≡ small_spec ∷ [] → ⊥
   pub count : old.seen.faults ≤ new.seen.faults
