@@ -1,0 +1,9 @@
+use Rattle.std.proofs.Common.{◌≡◌, ◌<◌, ◌^◌, drop}
+use Rattle.dix_words.specs.Numbers.{value_from}
+use Rattle.dix_words.proofs.numbers.number.Given as goal
+
+abbrev pub invariant-loop-digit : goal.invariant-loop-digit
+invariant-loop-digit l = record {
+  value : value_from l.value (drop l.digit-index l.word) ≡ value_from 0 l.word;
+  small : l.value < 2 ^ 64;
+}
