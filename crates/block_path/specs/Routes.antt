@@ -41,6 +41,10 @@ field r = if passes_tuples r then r.mode.protect else 0
 abbrev pub host_size : Route → ℕ
 host_size r = if r.mode.dix then r.size + 8 else r.size
 
+-- and those between adapter and target
+abbrev pub wire_size : Route → ℕ
+wire_size r = if passes_tuples r then r.size + 8 else r.size
+
 -- What is found in a frame in the host's form: its guard, its application tag under the mask, and its reference tag, which is to be that of this block or address.
 abbrev pub host_finding : Route → ℕ → List ℕ → Option Check
 host_finding r address frame = finding (host_type r.ty) (all_asked r.mode.app r.mode.mask) (ref_tag address) (guard_of r.mode.kind (data_of r.size frame)) (tuple_of r.size frame)

@@ -67,3 +67,8 @@ abbrev pub stored_of : WayOut → Result (List ℕ) Why
 stored_of (Fails why) = Err why
 stored_of (Refuses why) = Err why
 stored_of (Stores carried stored) = Ok stored
+
+-- a frame, unless there is a reason why not
+abbrev pub ended : Option Why → List ℕ → Result (List ℕ) Why
+ended None frame = Ok frame
+ended (Some why) frame = Err why

@@ -2,8 +2,14 @@
 //! as definitions that the layers above share, with plain code for one block.
 #![tactic(auto)]
 
+mod adapter;
 mod mode;
 mod route;
+mod ways;
 
+pub use adapter::host_type;
 pub use mode::Mode;
 pub use route::Route;
+
+#[cfg(test)]
+mod tests;

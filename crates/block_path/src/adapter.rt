@@ -1,0 +1,229 @@
+//! What the adapter does with one block, slowly and in place.
+//!
+//! Each call works on a buffer that has room for the block's data and its tuple. The frame stands at its front, with
+//! its tuple or without, as it travels there.
+
+ghost use Rattle.std.specs.Prelude.{◌≡◌, ◌+◌, ◌++◌, length, take};
+ghost use Rattle.pi_guard.specs.Guards.{guard_of};
+ghost use Rattle.pi_tuple.specs.Tuples.{tuple_bytes};
+ghost use Rattle.fault_schedule.specs.Altered.{altered};
+ghost use Rattle.integrity_payload.specs.Payloads.{all_asked};
+ghost use Rattle.target_answer.specs.Frames.{data_of, tuple_of};
+ghost use Rattle.target_answer.specs.Passing.{unless};
+ghost use Rattle.block_path.specs.Routes.{converted, field, host_finding, host_size, host_type, passes_tuples, wire_size, with_guard};
+ghost use Rattle.block_path.specs.WayIn.{adapter_finds_in, from_wire, received};
+ghost use Rattle.block_path.specs.WayOut.{adapter_finds_out, sent, to_wire};
+
+use crate::Route;
+use fault_schedule::{Crossing, Tamper};
+use pi_guard::{GuardKind, crc16, ip_sum};
+use pi_tuple::{Check, Checks, PiType, Tuple, finds, make, own_tag, ref_tag};
+
+/// The type of the tuples that a host has in memory for a unit of this type: the unit's, and type 1 where the unit
+/// has none.
+pub fn host_type(ty: PiType) -> PiType
+    ensures { result ≡ host_type ty }
+{
+    if ty == PiType::Zero { PiType::One } else { ty }
+}
+
+fn guard(kind: GuardKind, bytes: &[u8]) -> u16
+    ensures { result ≡ guard_of kind bytes.now }
+{
+    match kind {
+        GuardKind::Crc => crc16(bytes),
+        GuardKind::Ip => ip_sum(bytes),
+    }
+}
+
+/// The tuple behind so many bytes of data.
+fn tuple_behind(frame: &[u8], size: usize) -> Tuple
+    requires { length frame.now ≡ size + 8 }
+    ensures { result ≡ tuple_of size frame.now }
+{
+    let mut bytes = [0; 8];
+    bytes.copy_from_slice(&frame[size..]);
+    Tuple::from_bytes(&bytes)
+}
+
+fn put_tuple(frame: &mut [u8], size: usize, tuple: Tuple)
+    requires { length frame.old ≡ size + 8 }
+    ensures { frame.new ≡ data_of size frame.old ++ tuple_bytes tuple }
+{
+    frame[size..].copy_from_slice(&tuple.to_bytes());
+}
+
+fn put_guard(frame: &mut [u8], size: usize, guard: u16)
+    requires { length frame.old ≡ size + 8 }
+    ensures { frame.new ≡ with_guard size guard frame.old }
+{
+    frame[size..size + 2].copy_from_slice(&guard.to_be_bytes());
+}
+
+impl Route {
+    /// Whether the block's tuple travels between adapter and target.
+    pub fn passes_tuples(&self) -> bool
+        ensures { result ≡ passes_tuples self.now }
+    {
+        self.mode.dif && self.ty != PiType::Zero
+    }
+
+    /// The protect field of the command that carries the block: that of the mode, and 0 where no tuples travel.
+    pub fn field(&self) -> u8
+        ensures { result ≡ field self.now }
+    {
+        if self.passes_tuples() {
+            self.mode.protect
+        } else {
+            0
+        }
+    }
+
+    fn checks(&self) -> Checks
+        ensures { result ≡ all_asked self.now.mode.app self.now.mode.mask }
+    {
+        Checks {
+            guard: true,
+            rtag: true,
+            app: self.mode.app,
+            mask: self.mode.mask,
+        }
+    }
+
+    /// What is found in a frame in the host's form whose reference tag is to be that of this address or block.
+    pub(crate) fn host_finding(&self, address: u64, frame: &[u8]) -> Option<Check>
+        requires { length frame.now ≡ self.now.size + 8 }
+        ensures { result ≡ host_finding self.now address frame.now }
+    {
+        let size = self.size as usize;
+        finds(
+            host_type(self.ty),
+            self.checks(),
+            ref_tag(address),
+            guard(self.mode.kind, &frame[..size]),
+            tuple_behind(frame, size),
+        )
+    }
+
+    fn adapter_finds_out(&self, frame: &[u8]) -> Option<Check>
+        requires { length frame.now ≡ self.now.size + 8 }
+        ensures { result ≡ adapter_finds_out self.now (take (host_size self.now) frame.now) }
+    {
+        if self.mode.dix {
+            self.host_finding(self.lba, frame)
+        } else {
+            None
+        }
+    }
+
+    fn adapter_finds_in(&self, frame: &[u8]) -> Option<Check>
+        requires { length frame.now ≡ self.now.size + 8 }
+        ensures { result ≡ adapter_finds_in self.now (take (wire_size self.now) frame.now) }
+    {
+        if !self.passes_tuples() {
+            return None;
+        }
+        let size = self.size as usize;
+        finds(
+            self.ty,
+            self.checks(),
+            ref_tag(self.lba),
+            crc16(&frame[..size]),
+            tuple_behind(frame, size),
+        )
+    }
+}
+
+impl Route {
+    /// What the adapter sends of a frame that it has checked, in place.
+    fn send(&self, frame: &mut [u8])
+        requires { length frame.old ≡ self.now.size + 8 }
+        ensures sent { take (wire_size self.now) frame.new ≡ sent self.now (take (host_size self.now) frame.old) }
+        ensures length { length frame.new ≡ length frame.old }
+    {
+        if !self.passes_tuples() {
+            return;
+        }
+        let size = self.size as usize;
+        let crc = crc16(&frame[..size]);
+        if !self.mode.dix {
+            put_tuple(frame, size, make(crc, 0, own_tag(self.ty, self.lba)));
+        } else if self.mode.kind == GuardKind::Ip {
+            put_guard(frame, size, crc);
+        }
+    }
+
+    /// What the adapter hands on of a frame that it has checked, in place.
+    fn receive(&self, frame: &mut [u8])
+        requires { length frame.old ≡ self.now.size + 8 }
+        ensures received { take (host_size self.now) frame.new ≡ received self.now (take (wire_size self.now) frame.old) }
+        ensures length { length frame.new ≡ length frame.old }
+    {
+        if !self.mode.dix {
+            return;
+        }
+        let size = self.size as usize;
+        let guard = guard(self.mode.kind, &frame[..size]);
+        if !self.passes_tuples() {
+            put_tuple(
+                frame,
+                size,
+                make(guard, 0, own_tag(host_type(self.ty), self.lba)),
+            );
+        } else if self.mode.kind == GuardKind::Ip {
+            put_guard(frame, size, guard);
+        }
+    }
+
+    /// The frame crosses between host and adapter.
+    fn cross(&self, tamper: &Tamper, at: Crossing, frame: &mut [u8])
+        requires { length frame.old ≡ self.now.size + 8 }
+        ensures crossed { take (host_size self.now) frame.new ≡ altered tamper.now at self.now.label (take (host_size self.now) frame.old) }
+        ensures length { length frame.new ≡ length frame.old }
+    {
+        let size = self.size as usize;
+        if self.mode.dix {
+            tamper.apply(at, self.label, frame);
+        } else {
+            tamper.apply(at, self.label, &mut frame[..size]);
+        }
+    }
+
+    /// From the host onto the wire. In `frame`, which has eight bytes more than the block has data, stands what the
+    /// host sends; afterwards there stands what the adapter sends, where it finds nothing.
+    ///
+    /// The frame crosses to the adapter and is checked there, where the host has tuples. The tuple is passed, with
+    /// the CRC as its guard, or stripped, or inserted, or there is none.
+    #[tactic(auto, unfolding(crate::specs::WayOut::to_wire))]
+    pub fn to_wire(&self, tamper: &Tamper, frame: &mut [u8]) -> Option<Check>
+        requires { length frame.old ≡ self.now.size + 8 }
+        ensures judged { unless result (take (wire_size self.now) frame.new) ≡ to_wire tamper.now self.now (take (host_size self.now) frame.old) }
+        ensures length { length frame.new ≡ length frame.old }
+    {
+        self.cross(tamper, Crossing::HostToAdapter, frame);
+        if let Some(check) = self.adapter_finds_out(frame) {
+            return Some(check);
+        }
+        self.send(frame);
+        None
+    }
+
+    /// From the wire to the host. In `frame`, which has eight bytes more than the block has data, stands what came to
+    /// the adapter; afterwards there stands what the host gets, where the adapter finds nothing.
+    ///
+    /// The frame is checked where it has a tuple. The tuple is passed, with the guard of the host's kind, or stripped,
+    /// or inserted, or there is none. Then the frame crosses to the host.
+    #[tactic(auto, unfolding(crate::specs::WayIn::from_wire))]
+    pub fn from_wire(&self, tamper: &Tamper, frame: &mut [u8]) -> Option<Check>
+        requires { length frame.old ≡ self.now.size + 8 }
+        ensures judged { unless result (take (host_size self.now) frame.new) ≡ from_wire tamper.now self.now (take (wire_size self.now) frame.old) }
+        ensures length { length frame.new ≡ length frame.old }
+    {
+        if let Some(check) = self.adapter_finds_in(frame) {
+            return Some(check);
+        }
+        self.receive(frame);
+        self.cross(tamper, Crossing::AdapterToHost, frame);
+        None
+    }
+}
