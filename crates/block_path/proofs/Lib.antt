@@ -1,0 +1,10 @@
+pub mod Acts
+pub mod Behind
+pub mod Cells
+pub mod Change
+pub mod Given
+pub mod ReadMoves
+pub mod Serial
+pub mod Sizes
+pub mod Split
+pub mod WriteMoves
