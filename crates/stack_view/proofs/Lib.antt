@@ -1,0 +1,17 @@
+pub mod Counts
+pub mod Queues
+pub mod Rests
+pub mod Ops
+pub mod Keeps
+pub mod Starts
+pub mod Enabled
+pub mod Lists
+pub mod Open
+pub mod Measure
+pub mod Thrift
+pub mod Runs
+pub mod Greatest
+pub mod Formed
+pub mod Room
+pub mod Capacity
+pub mod Rows

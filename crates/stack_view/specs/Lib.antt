@@ -1,0 +1,12 @@
+pub mod Plan
+pub mod Blocks
+pub mod Pieces
+pub mod Rests
+pub mod View
+pub mod Steps
+pub mod Runs
+pub mod Sound
+pub mod Open
+pub mod Measure
+pub mod Formed
+pub mod Room

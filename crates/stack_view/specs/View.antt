@@ -1,0 +1,71 @@
+-- What is seen of a stack between two steps.
+use Rattle.std.specs.Prelude.{ℕ, Bool, true, false, ◌&&◌, List, [], ◌∷◌, get_or, replicate, map}
+use Rattle.bio_core.specs.declared.fate.Fate.{Fate}
+use Rattle.stack_view.specs.Plan.{Plan, Request}
+use Rattle.merge_queue.specs.Groups.{Group}
+
+pub data Phase : Type 0 where
+  Waits : Phase
+  Admitted : Phase
+  Ended : Phase
+
+-- of an op: how many of its blocks are cut, and for each block whether it is settled
+pub record OpView : Type 0 where
+  pub phase : Phase
+  pub cut : ℕ
+  pub settled : List Bool
+
+pub record Command : Type 0 where
+  pub dev : ℕ
+  pub bios : Group
+  pub fates : List Fate
+  pub completed : Bool
+
+pub record View : Type 0 where
+  pub ops : List OpView
+  pub queues : List (List Group)
+  pub commands : List Command
+  pub steps : ℕ
+
+abbrev pub waiting : Request → OpView
+waiting r = record { phase = Waits; cut = 0; settled = replicate r.count false }
+
+abbrev pub start : Plan → View
+start p = record { ops = map waiting p.requests; queues = replicate p.devices []; commands = []; steps = 0 }
+
+abbrev pub waits : Phase → Bool
+waits Waits = true
+waits Admitted = false
+waits Ended = false
+
+abbrev pub is_admitted : Phase → Bool
+is_admitted Waits = false
+is_admitted Admitted = true
+is_admitted Ended = false
+
+abbrev pub has_ended : Phase → Bool
+has_ended Waits = false
+has_ended Admitted = false
+has_ended Ended = true
+
+abbrev pub no_op : OpView
+no_op = record { phase = Ended; cut = 0; settled = [] }
+
+abbrev pub no_command : Command
+no_command = record { dev = 0; bios = []; fates = []; completed = true }
+
+abbrev pub op_at : View → ℕ → OpView
+op_at v i = get_or v.ops i no_op
+
+abbrev pub queue_at : View → ℕ → List Group
+queue_at v d = get_or v.queues d []
+
+abbrev pub group_at : View → ℕ → ℕ → Group
+group_at v d i = get_or (queue_at v d) i []
+
+abbrev pub command_at : View → ℕ → Command
+command_at v j = get_or v.commands j no_command
+
+abbrev pub all_true : List Bool → Bool
+all_true [] = true
+all_true (b ∷ bs) = b && all_true bs
