@@ -11,7 +11,10 @@ use Rattle.stack_view.specs.Blocks.{BlockId, blocks, times, settled_count, is_se
 use Rattle.merge_queue.specs.Groups.{size, numbers, Group}
 use Rattle.merge_queue.specs.Index.{total}
 use Rattle.stack_view.specs.Plan.{Plan, Request, request_at}
-use Rattle.stack_view.specs.View.{View, OpView, Command, Phase, Waits, Admitted, Ended, waits, is_admitted, has_ended, all_true, no_op, no_command, op_at, queue_at, group_at, command_at}
+use Rattle.range_gate.specs.declared.phase.Phase.{Phase}
+use Rattle.range_gate.specs.declared.phase.Phase.TheVariants.{Waiting, Admitted, Ended}
+use Rattle.range_gate.specs.Gates.{is_waiting, has_ended}
+use Rattle.stack_view.specs.View.{View, OpView, Command, is_admitted, all_true, no_op, no_command, op_at, queue_at, group_at, command_at}
 use Rattle.stack_view.specs.Steps.{Step, End, Complete, Admit, Cut, Join, Send, unended, can, joins, sends, all_steps, enabled, chosen}
 use Rattle.stack_view.specs.Sound.{in_groups, in_queues, in_commands, is_marked, due, HasBlocks, Open, AllEnded, Sound}
 use Rattle.stack_view.proofs.Counts.{length-blocks, times-head}
@@ -83,12 +86,12 @@ all-at (x ∷ xs) (suc k) h l = all-at xs k (and_parts x (all_true xs) h).1 (ome
 due-marked : (r : Request) (o : OpView) (k : ℕ) → length o.settled ≡ r.count → all_true o.settled ≡ true → due r o k ≤ is_marked o k
 due-marked r o k l a =
     ⊎_elim
-    (λ (w : waits o.phase ≡ true). rw w (omega arith))
-    (λ (w : waits o.phase ≡ false). ⊎_elim
+    (λ (w : is_waiting o.phase ≡ true). rw w (omega arith))
+    (λ (w : is_waiting o.phase ≡ false). ⊎_elim
     (λ (h : k < r.count). let e = lt-ltb k r.count h in let m = all-at o.settled k a (omega arith) in rw (w, e, m) (omega arith))
     (λ (h : r.count ≤ k). let e = le-ltb k r.count h in rw (w, e) (omega arith))
     (cases_lt k r.count))
-    (cases_Bool (waits o.phase))
+    (cases_Bool (is_waiting o.phase))
 
 -- no block of an op that ended is on its way
 pub none-on-way : (p : Plan) (v : View) (i k : ℕ) → Sound p v → has_ended (op_at v i).phase ≡ true → in_queues i k v.queues + in_commands i k v.commands ≡ 0
@@ -147,8 +150,8 @@ no-command p v j s a h =
     let m = b.1 in
     omega arith
 
-ended-not : (h : Phase) → has_ended h ≡ true → (waits h ≡ false) × (is_admitted h ≡ false)
-ended-not Waits e = cc
+ended-not : (h : Phase) → has_ended h ≡ true → (is_waiting h ≡ false) × (is_admitted h ≡ false)
+ended-not Waiting e = cc
 ended-not Admitted e = cc
 ended-not Ended e = (refl, refl)
 
@@ -234,7 +237,7 @@ is-true true h = refl
 is-true false h = absurd (omega arith)
 
 -- an admitted op of which all is cut, with nothing on its way, is settled
-settled-all : (p : Plan) (v : View) (n : ℕ) → Sound p v → enabled p v ≡ [] → waits (op_at v n).phase ≡ false → (request_at p n).count ≤ (op_at v n).cut → all_true (op_at v n).settled ≡ true
+settled-all : (p : Plan) (v : View) (n : ℕ) → Sound p v → enabled p v ≡ [] → is_waiting (op_at v n).phase ≡ false → (request_at p n).count ≤ (op_at v n).cut → all_true (op_at v n).settled ≡ true
 settled-all p v n s e w c = all-from (op_at v n).settled at
   where
     marked : (k : ℕ) → k < (request_at p n).count → is_marked (op_at v n) k ≡ 1
@@ -252,14 +255,14 @@ settled-all p v n s e w c = all-from (op_at v n).settled at
 
 next-ended : (p : Plan) (v : View) (n : ℕ) → Sound p v → enabled p v ≡ [] → n < length v.ops → ((j : ℕ) → j < n → has_ended (op_at v j).phase ≡ true) →
     (h : Phase) → (op_at v n).phase ≡ h → has_ended (op_at v n).phase ≡ true
-next-ended p v n s e l b Waits h =
+next-ended p v n s e l b Waiting h =
     let c = cannot p v (Admit n) e (in-admits v n l) in
     let u = unended-none v n b in
     let f : true ≡ false = rw (h, u) at c in
     cc
 next-ended p v n s e l b Admitted h =
     let c : nat_lt (op_at v n).cut (request_at p n).count ≡ false = rw h at (cannot p v (Cut n) e (in-cuts v n l)) in
-    let w : waits (op_at v n).phase ≡ false = ap waits h in
+    let w : is_waiting (op_at v n).phase ≡ false = ap is_waiting h in
     let a = settled-all p v n s e w (ltb-false (op_at v n).cut (request_at p n).count c) in
     let d = cannot p v (End n) e (in-ends v n l) in
     let f : true ≡ false = rw (h, a) at d in
@@ -291,7 +294,7 @@ queued-admitted p v o k s h = (there, by (op_at v o).phase refl)
     there = op-there v o (false_from_ne_true (has_ended (op_at v o).phase) not-ended)
 
     by : (f : Phase) → (op_at v o).phase ≡ f → is_admitted (op_at v o).phase ≡ true
-    by Waits e = let z = s.one_place o k in let y = rw e at z in absurd (omega arith)
+    by Waiting e = let z = s.one_place o k in let y = rw e at z in absurd (omega arith)
     by Admitted e = ap is_admitted e
     by Ended e = absurd (not-ended (ap has_ended e))
 
@@ -306,9 +309,9 @@ sent-in-order p v d i o k s h t =
 due-one : (r : Request) (o : OpView) (k : ℕ) → due r o k ≤ 1
 due-one r o k =
     ⊎_elim
-    (λ (w : waits o.phase ≡ true). rw w (omega arith))
-    (λ (w : waits o.phase ≡ false). ⊎_elim (λ (e : nat_lt k r.count ≡ true). rw (w, e) (omega arith)) (λ (e : nat_lt k r.count ≡ false). rw (w, e) (omega arith)) (cases_Bool (nat_lt k r.count)))
-    (cases_Bool (waits o.phase))
+    (λ (w : is_waiting o.phase ≡ true). rw w (omega arith))
+    (λ (w : is_waiting o.phase ≡ false). ⊎_elim (λ (e : nat_lt k r.count ≡ true). rw (w, e) (omega arith)) (λ (e : nat_lt k r.count ≡ false). rw (w, e) (omega arith)) (cases_Bool (nat_lt k r.count)))
+    (cases_Bool (is_waiting o.phase))
 
 -- no block stands twice in a group
 pub sent-once : (p : Plan) (v : View) (d i o k : ℕ) → Sound p v → can p v (Send d i) ≡ true → times o k (blocks (group_at v d i)) ≤ 1

@@ -14,8 +14,11 @@ use Rattle.stack_view.specs.Plan.{Plan, Request, request_at}
 use Rattle.stack_view.specs.Pieces.{greatest, fits, longest, greatest_piece, cut_to, bio_of}
 use Rattle.merge_queue.specs.Groups.{Group, put, put_all, without, joined, may_follow}
 use Rattle.stack_view.specs.Rests.{rests}
-use Rattle.stack_view.specs.View.{View, OpView, Command, Phase, Waits, Admitted, Ended, waits, is_admitted, has_ended, all_true, no_op, no_command, op_at, queue_at, group_at, command_at}
-use Rattle.stack_view.specs.Steps.{Step, End, Complete, Admit, Cut, Join, Send, can, unended, none_conflicts, settle, step}
+use Rattle.range_gate.specs.declared.phase.Phase.{Phase}
+use Rattle.range_gate.specs.declared.phase.Phase.TheVariants.{Waiting, Admitted, Ended}
+use Rattle.range_gate.specs.Gates.{is_waiting, has_ended, none_conflicts}
+use Rattle.stack_view.specs.View.{View, OpView, Command, is_admitted, all_true, no_op, no_command, op_at, queue_at, group_at, command_at}
+use Rattle.stack_view.specs.Steps.{Step, End, Complete, Admit, Cut, Join, Send, can, unended, settle, step}
 use Rattle.stack_view.specs.Sound.{uncut, in_groups, in_queues, in_commands, is_marked, places, due, Settles, HasBlocks, Open, IsOpen, OnDevices, Answered, Sound}
 use Rattle.stack_view.proofs.Counts.{total-set, split_run, times-other, times-whole, blocks-append}
 use Rattle.stack_view.proofs.Queues.{total-put, total-put_all, total-joined, All-put, All-put_all, All-without, All-joined}
@@ -24,17 +27,17 @@ use Rattle.stack_view.proofs.Ops.{AtSet, Same, Other, Past, at_set, Grows, grows
 
 -- ---- small facts
 
-pub admitted-waits : (h : Phase) → is_admitted h ≡ true → waits h ≡ false
-admitted-waits Waits e = cc
+pub admitted-waits : (h : Phase) → is_admitted h ≡ true → is_waiting h ≡ false
+admitted-waits Waiting e = cc
 admitted-waits Admitted e = refl
 admitted-waits Ended e = refl
 
-waits-ended : (h : Phase) → waits h ≡ true → has_ended h ≡ true → ⊥
-waits-ended Waits e f = cc
+waits-ended : (h : Phase) → is_waiting h ≡ true → has_ended h ≡ true → ⊥
+waits-ended Waiting e f = cc
 waits-ended Admitted e f = cc
 waits-ended Ended e f = cc
 
-admit-waits : (b : Bool) → waits (if b then Ended else Admitted) ≡ false
+admit-waits : (b : Bool) → is_waiting (if b then Ended else Admitted) ≡ false
 admit-waits true = refl
 admit-waits false = refl
 
@@ -73,7 +76,7 @@ op-there v i h =
     (cases_lt i (length v.ops))
 
 admitted-ended : (h : Phase) → is_admitted h ≡ true → has_ended h ≡ false
-admitted-ended Waits e = cc
+admitted-ended Waiting e = cc
 admitted-ended Admitted e = refl
 admitted-ended Ended e = cc
 
@@ -122,7 +125,7 @@ end-place p v a s h i k = from (at_set v.ops a (end-op (op_at v a)) no_op i)
 abbrev admit-op : Plan → ℕ → OpView → OpView
 admit-op p a o = record o { phase = if eqb (request_at p a).count 0 then Ended else Admitted }
 
-admit-place : (p : Plan) (v : View) (a : ℕ) → Sound p v → waits (op_at v a).phase ≡ true → (i k : ℕ) →
+admit-place : (p : Plan) (v : View) (a : ℕ) → Sound p v → is_waiting (op_at v a).phase ≡ true → (i k : ℕ) →
     places p (record v { ops = set v.ops a (admit-op p a (op_at v a)) }) i k ≡ due (request_at p i) (get_or (set v.ops a (admit-op p a (op_at v a))) i no_op) k
 admit-place p v a s h i k = from (at_set v.ops a (admit-op p a (op_at v a)) no_op i)
   where
@@ -142,7 +145,7 @@ admit-place p v a s h i k = from (at_set v.ops a (admit-op p a (op_at v a)) no_o
 abbrev cut-op : OpView → ℕ → OpView
 cut-op o n = record o { cut = o.cut + n }
 
-uncut-cut : (a k : ℕ) (r : Request) (o : OpView) (n : ℕ) → waits o.phase ≡ false → n ≤ r.count - o.cut →
+uncut-cut : (a k : ℕ) (r : Request) (o : OpView) (n : ℕ) → is_waiting o.phase ≡ false → n ≤ r.count - o.cut →
     times a k (uncut a r (cut-op o n)) + times a k (run_of a o.cut n) ≡ times a k (uncut a r o)
 uncut-cut a k r o n w h =
     let f : r.count - o.cut ≡ n + (r.count - (o.cut + n)) = omega arith in
@@ -234,13 +237,13 @@ open-times i k c h = rw h refl
 
 due-room : (r : Request) (o : OpView) (k : ℕ) → length o.settled ≡ r.count → due r o k ≤ room o k
 due-room r o k e =
-    ⊎_elim (λ (z : waits o.phase ≡ true). rw z (omega arith)) (λ (z : waits o.phase ≡ false). rw (z, e) (omega arith)) (cases_Bool (waits o.phase))
+    ⊎_elim (λ (z : is_waiting o.phase ≡ true). rw z (omega arith)) (λ (z : is_waiting o.phase ≡ false). rw (z, e) (omega arith)) (cases_Bool (is_waiting o.phase))
 
 uncut-grows : (i : ℕ) (r : Request) (o q : OpView) → Grows o q → uncut i r q ≡ uncut i r o
-uncut-grows i r o q g = ap (λ t. if waits t then [] else run_of i q.cut (r.count - q.cut)) g.phase ∙ ap (λ n. if waits o.phase then [] else run_of i n (r.count - n)) g.cut
+uncut-grows i r o q g = ap (λ t. if is_waiting t then [] else run_of i q.cut (r.count - q.cut)) g.phase ∙ ap (λ n. if is_waiting o.phase then [] else run_of i n (r.count - n)) g.cut
 
 due-grows : (r : Request) (o q : OpView) (k : ℕ) → Grows o q → due r q k ≡ due r o k
-due-grows r o q k g = ap (λ t. if waits t then 0 else if nat_lt k r.count then 1 else 0) g.phase
+due-grows r o q k g = ap (λ t. if is_waiting t then 0 else if nat_lt k r.count then 1 else 0) g.phase
 
 pub open-command : (p : Plan) (v : View) (j : ℕ) → Sound p v → (command_at v j).completed ≡ false → Open p (command_at v j)
 open-command p v j s h = All-get_or (IsOpen p) v.commands j no_command (command-there v j h) s.commands h
@@ -278,7 +281,7 @@ complete-place p v j s h i k =
 
 -- ---- order
 
-clear-earlier : (p : Plan) (v : View) (i n j : ℕ) → none_conflicts p i (unended v n) ≡ true → j < n → p.conflicts j i ≡ true → has_ended (op_at v j).phase ≡ true
+clear-earlier : (p : Plan) (v : View) (i n j : ℕ) → none_conflicts p.conflicts i (unended v n) ≡ true → j < n → p.conflicts j i ≡ true → has_ended (op_at v j).phase ≡ true
 clear-earlier p v i zero j h l c = absurd (omega arith)
 clear-earlier p v i (suc n) j h l c =
     ⊎_elim
@@ -288,8 +291,8 @@ clear-earlier p v i (suc n) j h l c =
     (λ (ne : j ≡ n → ⊥). clear-earlier p v i n j (rw e at h) (omega arith) c)
     (cases_eq j n))
     (λ (e : has_ended (op_at v n).phase ≡ false).
-    let k : (not (p.conflicts n i) && none_conflicts p i (unended v n)) ≡ true = rw e at h in
-    let b = and_parts (not (p.conflicts n i)) (none_conflicts p i (unended v n)) k in
+    let k : (not (p.conflicts n i) && none_conflicts p.conflicts i (unended v n)) ≡ true = rw e at h in
+    let b = and_parts (not (p.conflicts n i)) (none_conflicts p.conflicts i (unended v n)) k in
     ⊎_elim
     (λ (f : j ≡ n). let g : p.conflicts n i ≡ true = rw (← f) c in let x = not-true (p.conflicts n i) b.0 in let y : true ≡ false = sym g ∙ x in cc)
     (λ (ne : j ≡ n → ⊥). clear-earlier p v i n j b.1 (omega arith) c)
@@ -298,36 +301,36 @@ clear-earlier p v i (suc n) j h l c =
 
 -- where no op stops waiting and what has ended stays so
 order-kept : (p : Plan) (v : View) (ops : List OpView) → Sound p v → length ops ≡ length v.ops →
-    ((i : ℕ) → waits (get_or ops i no_op).phase ≡ waits (op_at v i).phase) → ((i : ℕ) → has_ended (op_at v i).phase ≡ true → has_ended (get_or ops i no_op).phase ≡ true) →
-    (j i : ℕ) → j < i → i < length ops → waits (get_or ops i no_op).phase ≡ false → p.conflicts j i ≡ true → has_ended (get_or ops j no_op).phase ≡ true
+    ((i : ℕ) → is_waiting (get_or ops i no_op).phase ≡ is_waiting (op_at v i).phase) → ((i : ℕ) → has_ended (op_at v i).phase ≡ true → has_ended (get_or ops i no_op).phase ≡ true) →
+    (j i : ℕ) → j < i → i < length ops → is_waiting (get_or ops i no_op).phase ≡ false → p.conflicts j i ≡ true → has_ended (get_or ops j no_op).phase ≡ true
 order-kept p v ops s l w e j i h k f c = e j (s.order j i h (omega arith) (sym (w i) ∙ f) c)
 
 end-order : (p : Plan) (v : View) (a : ℕ) → Sound p v → is_admitted (op_at v a).phase ≡ true →
-    (j i : ℕ) → j < i → i < length (set v.ops a (end-op (op_at v a))) → waits (get_or (set v.ops a (end-op (op_at v a))) i no_op).phase ≡ false → p.conflicts j i ≡ true →
+    (j i : ℕ) → j < i → i < length (set v.ops a (end-op (op_at v a))) → is_waiting (get_or (set v.ops a (end-op (op_at v a))) i no_op).phase ≡ false → p.conflicts j i ≡ true →
     has_ended (get_or (set v.ops a (end-op (op_at v a))) j no_op).phase ≡ true
 end-order p v a s h =
     order-kept p v (set v.ops a (end-op (op_at v a))) s (length-set v.ops a (end-op (op_at v a)))
-    (set_keeps (λ i o. waits o.phase ≡ waits (op_at v i).phase) v.ops a (end-op (op_at v a)) no_op (λ i. refl) (sym (admitted-waits (op_at v a).phase h)))
+    (set_keeps (λ i o. is_waiting o.phase ≡ is_waiting (op_at v i).phase) v.ops a (end-op (op_at v a)) no_op (λ i. refl) (sym (admitted-waits (op_at v a).phase h)))
     (set_keeps (λ i o. has_ended (op_at v i).phase ≡ true → has_ended o.phase ≡ true) v.ops a (end-op (op_at v a)) no_op (λ i e. e) (λ e. refl))
 
 cut-order : (p : Plan) (v : View) (a n : ℕ) → Sound p v →
-    (j i : ℕ) → j < i → i < length (set v.ops a (cut-op (op_at v a) n)) → waits (get_or (set v.ops a (cut-op (op_at v a) n)) i no_op).phase ≡ false → p.conflicts j i ≡ true →
+    (j i : ℕ) → j < i → i < length (set v.ops a (cut-op (op_at v a) n)) → is_waiting (get_or (set v.ops a (cut-op (op_at v a) n)) i no_op).phase ≡ false → p.conflicts j i ≡ true →
     has_ended (get_or (set v.ops a (cut-op (op_at v a) n)) j no_op).phase ≡ true
 cut-order p v a n s =
     order-kept p v (set v.ops a (cut-op (op_at v a) n)) s (length-set v.ops a (cut-op (op_at v a) n))
-    (set_keeps (λ i o. waits o.phase ≡ waits (op_at v i).phase) v.ops a (cut-op (op_at v a) n) no_op (λ i. refl) refl)
+    (set_keeps (λ i o. is_waiting o.phase ≡ is_waiting (op_at v i).phase) v.ops a (cut-op (op_at v a) n) no_op (λ i. refl) refl)
     (set_keeps (λ i o. has_ended (op_at v i).phase ≡ true → has_ended o.phase ≡ true) v.ops a (cut-op (op_at v a) n) no_op (λ i e. e) (λ e. e))
 
 settle-order : (p : Plan) (v : View) (bs : List BlockId) → Sound p v →
-    (j i : ℕ) → j < i → i < length (settle bs v.ops) → waits (get_or (settle bs v.ops) i no_op).phase ≡ false → p.conflicts j i ≡ true →
+    (j i : ℕ) → j < i → i < length (settle bs v.ops) → is_waiting (get_or (settle bs v.ops) i no_op).phase ≡ false → p.conflicts j i ≡ true →
     has_ended (get_or (settle bs v.ops) j no_op).phase ≡ true
 settle-order p v bs s =
     order-kept p v (settle bs v.ops) s (length-settle bs v.ops)
-    (λ i. ap waits (grows-settle bs v.ops i).phase)
+    (λ i. ap is_waiting (grows-settle bs v.ops i).phase)
     (λ i e. ap has_ended (grows-settle bs v.ops i).phase ∙ e)
 
-admit-order : (p : Plan) (v : View) (a : ℕ) → Sound p v → waits (op_at v a).phase ≡ true → none_conflicts p a (unended v a) ≡ true →
-    (j i : ℕ) → j < i → i < length (set v.ops a (admit-op p a (op_at v a))) → waits (get_or (set v.ops a (admit-op p a (op_at v a))) i no_op).phase ≡ false → p.conflicts j i ≡ true →
+admit-order : (p : Plan) (v : View) (a : ℕ) → Sound p v → is_waiting (op_at v a).phase ≡ true → none_conflicts p.conflicts a (unended v a) ≡ true →
+    (j i : ℕ) → j < i → i < length (set v.ops a (admit-op p a (op_at v a))) → is_waiting (get_or (set v.ops a (admit-op p a (op_at v a))) i no_op).phase ≡ false → p.conflicts j i ≡ true →
     has_ended (get_or (set v.ops a (admit-op p a (op_at v a))) j no_op).phase ≡ true
 admit-order p v a s h n j i l b w c = stays before
   where
@@ -359,14 +362,14 @@ end-sound p v a n s h t = record {
   one_place = end-place p v a s h;
   lengths = set_keeps (λ i o. length o.settled ≡ (request_at p i).count) v.ops a (end-op (op_at v a)) no_op s.lengths (s.lengths a);
   cuts = set_keeps (λ i o. o.cut ≤ (request_at p i).count) v.ops a (end-op (op_at v a)) no_op s.cuts (s.cuts a);
-  fresh = set_keeps (λ i o. waits o.phase ≡ true → o.cut ≡ 0) v.ops a (end-op (op_at v a)) no_op s.fresh (λ e. cc);
+  fresh = set_keeps (λ i o. is_waiting o.phase ≡ true → o.cut ≡ 0) v.ops a (end-op (op_at v a)) no_op s.fresh (λ e. cc);
   ended = set_keeps (λ i o. has_ended o.phase ≡ true → all_true o.settled ≡ true) v.ops a (end-op (op_at v a)) no_op s.ended (λ e. t);
   order = end-order p v a s h;
   groups = s.groups;
   commands = s.commands;
 }
 
-admit-sound : (p : Plan) (v : View) (a n : ℕ) → Sound p v → waits (op_at v a).phase ≡ true → none_conflicts p a (unended v a) ≡ true →
+admit-sound : (p : Plan) (v : View) (a n : ℕ) → Sound p v → is_waiting (op_at v a).phase ≡ true → none_conflicts p.conflicts a (unended v a) ≡ true →
     Sound p (record v { ops = set v.ops a (admit-op p a (op_at v a)); steps = n })
 admit-sound p v a n s h c = record {
   ops = length-set v.ops a (admit-op p a (op_at v a)) ∙ s.ops;
@@ -374,7 +377,7 @@ admit-sound p v a n s h c = record {
   one_place = admit-place p v a s h;
   lengths = set_keeps (λ i o. length o.settled ≡ (request_at p i).count) v.ops a (admit-op p a (op_at v a)) no_op s.lengths (s.lengths a);
   cuts = set_keeps (λ i o. o.cut ≤ (request_at p i).count) v.ops a (admit-op p a (op_at v a)) no_op s.cuts (s.cuts a);
-  fresh = set_keeps (λ i o. waits o.phase ≡ true → o.cut ≡ 0) v.ops a (admit-op p a (op_at v a)) no_op s.fresh (λ e. s.fresh a h);
+  fresh = set_keeps (λ i o. is_waiting o.phase ≡ true → o.cut ≡ 0) v.ops a (admit-op p a (op_at v a)) no_op s.fresh (λ e. s.fresh a h);
   ended = set_keeps (λ i o. has_ended o.phase ≡ true → all_true o.settled ≡ true) v.ops a (admit-op p a (op_at v a)) no_op s.ended
       (λ e. no-blocks-settled (op_at v a).settled (s.lengths a ∙ eqb-true (request_at p a).count 0 (admit-ended (eqb (request_at p a).count 0) e)));
   order = admit-order p v a s h c;
@@ -390,7 +393,7 @@ cut-sound p v a n m s h one l d = record {
   one_place = cut-place p v a n s h l (let e = s.devices in omega arith);
   lengths = set_keeps (λ i o. length o.settled ≡ (request_at p i).count) v.ops a (cut-op (op_at v a) n) no_op s.lengths (s.lengths a);
   cuts = set_keeps (λ i o. o.cut ≤ (request_at p i).count) v.ops a (cut-op (op_at v a) n) no_op s.cuts (let e = s.cuts a in omega arith);
-  fresh = set_keeps (λ i o. waits o.phase ≡ true → o.cut ≡ 0) v.ops a (cut-op (op_at v a) n) no_op s.fresh (λ e. let w = admitted-waits (op_at v a).phase h in cc);
+  fresh = set_keeps (λ i o. is_waiting o.phase ≡ true → o.cut ≡ 0) v.ops a (cut-op (op_at v a) n) no_op s.fresh (λ e. let w = admitted-waits (op_at v a).phase h in cc);
   ended = set_keeps (λ i o. has_ended o.phase ≡ true → all_true o.settled ≡ true) v.ops a (cut-op (op_at v a) n) no_op s.ended (s.ended a);
   order = cut-order p v a n s;
   groups = All-set (All HasBlocks) v.queues (bio_of p a (op_at v a).cut n).dev (put (bio_of p a (op_at v a).cut n ∷ []) (queue_at v (bio_of p a (op_at v a).cut n).dev))
@@ -437,7 +440,7 @@ complete-sound p v j m s h = record {
   one_place = complete-place p v j s h;
   lengths = λ i. (grows-settle (settled_blocks (command_at v j)) v.ops i).length ∙ s.lengths i;
   cuts = λ i. (let e = (grows-settle (settled_blocks (command_at v j)) v.ops i).cut in let c = s.cuts i in omega arith);
-  fresh = λ i e. (grows-settle (settled_blocks (command_at v j)) v.ops i).cut ∙ s.fresh i (sym (ap waits (grows-settle (settled_blocks (command_at v j)) v.ops i).phase) ∙ e);
+  fresh = λ i e. (grows-settle (settled_blocks (command_at v j)) v.ops i).cut ∙ s.fresh i (sym (ap is_waiting (grows-settle (settled_blocks (command_at v j)) v.ops i).phase) ∙ e);
   ended = λ i e. (grows-settle (settled_blocks (command_at v j)) v.ops i).all (s.ended i (sym (ap has_ended (grows-settle (settled_blocks (command_at v j)) v.ops i).phase) ∙ e));
   order = settle-order p v (settled_blocks (command_at v j)) s;
   groups = All-set (All HasBlocks) v.queues (command_at v j).dev (put_all (rests p (command_at v j).bios (command_at v j).fates) (queue_at v (command_at v j).dev))
@@ -453,8 +456,8 @@ keeps p v (End a) cut fates on s h f =
     end-sound p v a (suc v.steps) s b.0 b.1
 keeps p v (Complete j) cut fates on s h f = complete-sound p v j (suc v.steps) s (not-true (command_at v j).completed h)
 keeps p v (Admit a) cut fates on s h f =
-    let b = and_parts (waits (op_at v a).phase) (nat_lt (length (unended v a)) 32 && none_conflicts p a (unended v a)) h in
-    let c = and_parts (nat_lt (length (unended v a)) 32) (none_conflicts p a (unended v a)) b.1 in
+    let b = and_parts (is_waiting (op_at v a).phase) (nat_lt (length (unended v a)) 32 && none_conflicts p.conflicts a (unended v a)) h in
+    let c = and_parts (nat_lt (length (unended v a)) 32) (none_conflicts p.conflicts a (unended v a)) b.1 in
     admit-sound p v a (suc v.steps) s b.0 c.1
 keeps p v (Cut a) cut fates on s h f =
     let b = and_parts (is_admitted (op_at v a).phase) (nat_lt (op_at v a).cut (request_at p a).count) h in

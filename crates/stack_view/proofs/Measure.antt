@@ -12,8 +12,11 @@ use Rattle.merge_queue.specs.Index.{total}
 use Rattle.stack_view.specs.Plan.{Plan, Request, request_at, no_request}
 use Rattle.stack_view.specs.Pieces.{greatest_piece, cut_to, bio_of}
 use Rattle.stack_view.specs.Rests.{rests}
-use Rattle.stack_view.specs.View.{View, OpView, Command, Phase, Waits, Admitted, Ended, waits, is_admitted, has_ended, all_true, no_op, no_command, waiting, start, op_at, queue_at, group_at, command_at}
-use Rattle.stack_view.specs.Steps.{Step, End, Complete, Admit, Cut, Join, Send, unended, none_conflicts, can, step}
+use Rattle.range_gate.specs.declared.phase.Phase.{Phase}
+use Rattle.range_gate.specs.declared.phase.Phase.TheVariants.{Waiting, Admitted, Ended}
+use Rattle.range_gate.specs.Gates.{is_waiting, has_ended, none_conflicts}
+use Rattle.stack_view.specs.View.{View, OpView, Command, is_admitted, all_true, no_op, no_command, waiting, start, op_at, queue_at, group_at, command_at}
+use Rattle.stack_view.specs.Steps.{Step, End, Complete, Admit, Cut, Join, Send, unended, can, step}
 use Rattle.stack_view.specs.Runs.{blocks_of_requests}
 use Rattle.stack_view.specs.Sound.{OnDevices, Answered, Sound}
 use Rattle.stack_view.specs.Measure.{rank, op_weight, blocks_left, over_ops, group_weight, command_weight, measure, command_sends, sends_left, Counted}
@@ -48,17 +51,17 @@ pub left-grows : (r : Request) (o q : OpView) → Grows o q → blocks_left r q 
 left-grows r o q g = ap (λ n. r.count - n) g.cut
 
 admitted-rank : (h : Phase) → is_admitted h ≡ true → rank h ≡ 1
-admitted-rank Waits e = cc
+admitted-rank Waiting e = cc
 admitted-rank Admitted e = refl
 admitted-rank Ended e = cc
 
-pub waits-rank : (h : Phase) → waits h ≡ true → (rank h ≡ 2) × (has_ended h ≡ false)
-waits-rank Waits e = (refl, refl)
+pub waits-rank : (h : Phase) → is_waiting h ≡ true → (rank h ≡ 2) × (has_ended h ≡ false)
+waits-rank Waiting e = (refl, refl)
 waits-rank Admitted e = cc
 waits-rank Ended e = cc
 
 pub admitted-not : (h : Phase) → is_admitted h ≡ true → has_ended h ≡ false
-admitted-not Waits e = cc
+admitted-not Waiting e = cc
 admitted-not Admitted e = refl
 admitted-not Ended e = cc
 
@@ -96,7 +99,7 @@ falls p v (Complete j) cut fates s on h f =
     let k = (open-weight (command_at v j) c).0 in
     omega arith
 falls p v (Admit a) cut fates s on h f =
-    let b = and_parts (waits (op_at v a).phase) (nat_lt (length (unended v a)) 32 && none_conflicts p a (unended v a)) h in
+    let b = and_parts (is_waiting (op_at v a).phase) (nat_lt (length (unended v a)) 32 && none_conflicts p.conflicts a (unended v a)) h in
     let r = waits-rank (op_at v a).phase b.0 in
     let l = op-there v a r.1 in
     let k = r.0 in
@@ -153,7 +156,7 @@ fewer p v (Complete j) cut fates s on h f =
     let n = length-set v.commands j (record (command_at v j) { completed = true }) in
     omega arith
 fewer p v (Admit a) cut fates s on h f =
-    let b = and_parts (waits (op_at v a).phase) (nat_lt (length (unended v a)) 32 && none_conflicts p a (unended v a)) h in
+    let b = and_parts (is_waiting (op_at v a).phase) (nat_lt (length (unended v a)) 32 && none_conflicts p.conflicts a (unended v a)) h in
     let r = waits-rank (op_at v a).phase b.0 in
     let l = op-there v a r.1 in
     let e = over-set blocks_left p.requests v.ops a (record (op_at v a) { phase = if eqb (request_at p a).count 0 then Ended else Admitted }) s.ops l in

@@ -13,8 +13,10 @@ use Rattle.merge_queue.specs.Index.{total}
 use Rattle.stack_view.specs.Plan.{Plan, Request, request_at}
 use Rattle.stack_view.specs.Pieces.{greatest_piece, cut_to, bio_of}
 use Rattle.stack_view.specs.Rests.{rests}
-use Rattle.stack_view.specs.View.{View, OpView, Command, Admitted, Ended, waits, is_admitted, all_true, no_op, no_command, waiting, start, op_at, queue_at, group_at, command_at}
-use Rattle.stack_view.specs.Steps.{Step, End, Complete, Admit, Cut, Join, Send, unended, none_conflicts, settle, can, step}
+use Rattle.range_gate.specs.declared.phase.Phase.TheVariants.{Admitted, Ended}
+use Rattle.range_gate.specs.Gates.{is_waiting, none_conflicts}
+use Rattle.stack_view.specs.View.{View, OpView, Command, is_admitted, all_true, no_op, no_command, waiting, start, op_at, queue_at, group_at, command_at}
+use Rattle.stack_view.specs.Steps.{Step, End, Complete, Admit, Cut, Join, Send, unended, settle, can, step}
 use Rattle.stack_view.specs.Runs.{blocks_of_requests}
 use Rattle.stack_view.specs.Sound.{IsOpen, OnDevices, Answered, Sound}
 use Rattle.stack_view.specs.Measure.{over_ops, blocks_left}
@@ -75,7 +77,7 @@ kept p v (Complete j) cut fates s on h f =
     let l = length-settled (blocks (command_at v j).bios) (command_at v j).fates (omega arith) in
     record { frames = omega arith; marks = omega arith; sizes = omega arith }
 kept p v (Admit a) cut fates s on h f =
-    let b = and_parts (waits (op_at v a).phase) (nat_lt (length (unended v a)) 32 && none_conflicts p a (unended v a)) h in
+    let b = and_parts (is_waiting (op_at v a).phase) (nat_lt (length (unended v a)) 32 && none_conflicts p.conflicts a (unended v a)) h in
     let r = waits-rank (op_at v a).phase b.0 in
     let l = op-there v a r.1 in
     let e = over-set blocks_left p.requests v.ops a (record (op_at v a) { phase = if eqb (request_at p a).count 0 then Ended else Admitted }) s.ops l in

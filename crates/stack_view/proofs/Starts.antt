@@ -8,7 +8,8 @@ use Rattle.std.proofs.lemmas.List.Elements.{All-nil, All-replicate}
 use Rattle.merge_queue.specs.Index.{total}
 use Rattle.stack_view.specs.Blocks.{times}
 use Rattle.stack_view.specs.Plan.{Plan, Request, no_request}
-use Rattle.stack_view.specs.View.{OpView, waits, has_ended, all_true, no_op, waiting, start}
+use Rattle.range_gate.specs.Gates.{is_waiting, has_ended}
+use Rattle.stack_view.specs.View.{OpView, all_true, no_op, waiting, start}
 use Rattle.stack_view.specs.Sound.{uncut, in_groups, in_queues, is_marked, due, HasBlocks, IsOpen, Sound}
 
 pub start_all : (P : Request → OpView → Type 0) → ((r : Request) → P r (waiting r)) → P no_request no_op → (rs : List Request) (i : ℕ) →
@@ -35,7 +36,7 @@ waiting-placed i k q z r = let e = unmarked r.count k in rw (e, z) refl
 nothing-placed : (i k q : ℕ) → q ≡ 0 → PlacedWith i k q no_request no_op
 nothing-placed i k q z = let e : nat_lt k 0 ≡ false = le-ltb k 0 (omega arith) in rw (e, z) refl
 
-starts-waiting : (rs : List Request) (i : ℕ) → i < length (map waiting rs) → waits (get_or (map waiting rs) i no_op).phase ≡ true
+starts-waiting : (rs : List Request) (i : ℕ) → i < length (map waiting rs) → is_waiting (get_or (map waiting rs) i no_op).phase ≡ true
 starts-waiting [] i h = absurd (omega arith)
 starts-waiting (r ∷ rs) zero h = refl
 starts-waiting (r ∷ rs) (suc i) h = starts-waiting rs i (omega arith)
@@ -48,7 +49,7 @@ starts p = record {
       (nothing-placed i k _ (total-empty (in_groups i k) p.devices refl)) p.requests i;
   lengths = λ i. start_all (λ r o. length o.settled ≡ r.count) (λ r. length-replicate r.count false) refl p.requests i;
   cuts = λ i. start_all (λ r o. o.cut ≤ r.count) (λ r. omega arith) (omega arith) p.requests i;
-  fresh = λ i. start_all (λ r o. waits o.phase ≡ true → o.cut ≡ 0) (λ r e. refl) (λ e. refl) p.requests i;
+  fresh = λ i. start_all (λ r o. is_waiting o.phase ≡ true → o.cut ≡ 0) (λ r e. refl) (λ e. refl) p.requests i;
   ended = λ i. start_all (λ r o. has_ended o.phase ≡ true → all_true o.settled ≡ true) (λ r e. cc) (λ e. refl) p.requests i;
   order = λ j i h l w c. (let t = starts-waiting p.requests i l in let f : true ≡ false = sym t ∙ w in cc);
   groups = All-replicate (All HasBlocks) p.devices [] (All-nil HasBlocks);

@@ -13,8 +13,10 @@ use Rattle.stack_view.specs.Plan.{Plan, Request, request_at, no_request}
 use Rattle.stack_view.specs.Pieces.{greatest_piece, bio_of}
 use Rattle.merge_queue.specs.Groups.{Group, put, put_all, without, joined, may_follow}
 use Rattle.stack_view.specs.Rests.{Run, rests, untouched_runs, with_place}
-use Rattle.stack_view.specs.View.{View, OpView, Admitted, Ended, waits, is_admitted, all_true, no_op, no_command, waiting, start, op_at, queue_at, group_at, command_at}
-use Rattle.stack_view.specs.Steps.{Step, End, Complete, Admit, Cut, Join, Send, unended, none_conflicts, can, step}
+use Rattle.range_gate.specs.declared.phase.Phase.TheVariants.{Admitted, Ended}
+use Rattle.range_gate.specs.Gates.{is_waiting, none_conflicts}
+use Rattle.stack_view.specs.View.{View, OpView, is_admitted, all_true, no_op, no_command, waiting, start, op_at, queue_at, group_at, command_at}
+use Rattle.stack_view.specs.Steps.{Step, End, Complete, Admit, Cut, Join, Send, unended, can, step}
 use Rattle.stack_view.specs.Sound.{OnDevices, Answered, Sound}
 use Rattle.stack_view.specs.Measure.{pieces_from, greatest_pieces, pieces_left, IsWhole, AnsweredWhole, Thrifty}
 use Rattle.stack_view.proofs.Counts.{total-set}
@@ -134,7 +136,7 @@ thrifty-keeps p v (Complete j) fates s on h f w y =
     let z = y.few in
     record { few = omega arith; whole = All-set IsWhole v.commands j (record (command_at v j) { completed = true }) (λ e. let f : true ≡ false = e in cc) y.whole }
 thrifty-keeps p v (Admit a) fates s on h f w y =
-    let b = and_parts (waits (op_at v a).phase) (nat_lt (length (unended v a)) 32 && none_conflicts p a (unended v a)) h in
+    let b = and_parts (is_waiting (op_at v a).phase) (nat_lt (length (unended v a)) 32 && none_conflicts p.conflicts a (unended v a)) h in
     let r = waits-rank (op_at v a).phase b.0 in
     let l = op-there v a r.1 in
     let e = left-set p 0 p.requests v.ops a (record (op_at v a) { phase = if eqb (request_at p a).count 0 then Ended else Admitted }) s.ops l in

@@ -7,12 +7,14 @@ use Rattle.merge_queue.specs.Index.{total}
 use Rattle.stack_view.specs.Blocks.{settled_count}
 use Rattle.stack_view.specs.Plan.{Plan, Request, request_at}
 use Rattle.stack_view.specs.Pieces.{greatest_piece}
-use Rattle.stack_view.specs.View.{View, OpView, Command, Phase, Waits, Admitted, Ended}
+use Rattle.range_gate.specs.declared.phase.Phase.{Phase}
+use Rattle.range_gate.specs.declared.phase.Phase.TheVariants.{Waiting, Admitted, Ended}
+use Rattle.stack_view.specs.View.{View, OpView, Command}
 use Rattle.stack_view.specs.Steps.{Step, End, Complete, Admit, Cut, Join, Send}
 use Rattle.stack_view.specs.Runs.{blocks_of_requests}
 
 abbrev pub rank : Phase → ℕ
-rank Waits = 2
+rank Waiting = 2
 rank Admitted = 1
 rank Ended = 0
 

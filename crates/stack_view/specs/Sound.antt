@@ -6,13 +6,14 @@ use Rattle.stack_view.specs.Blocks.{BlockId, run_of, blocks, times, settled_coun
 use Rattle.merge_queue.specs.Groups.{size, Group}
 use Rattle.merge_queue.specs.Index.{total}
 use Rattle.stack_view.specs.Plan.{Plan, Request, request_at}
-use Rattle.stack_view.specs.View.{View, OpView, Command, waits, has_ended, all_true, op_at, group_at}
+use Rattle.range_gate.specs.Gates.{is_waiting, has_ended}
+use Rattle.stack_view.specs.View.{View, OpView, Command, all_true, op_at, group_at}
 use Rattle.stack_view.specs.Runs.{Rig}
 use Rattle.stack_view.specs.Steps.{Step, End, Complete, Admit, Cut, Join, Send}
 
 -- the blocks of an admitted request that aren't cut
 abbrev pub uncut : ℕ → Request → OpView → List BlockId
-uncut i r o = if waits o.phase then [] else run_of i o.cut (r.count - o.cut)
+uncut i r o = if is_waiting o.phase then [] else run_of i o.cut (r.count - o.cut)
 
 -- how often block k of op i stands in these groups, in all queues, in commands that aren't completed
 abbrev pub in_groups : ℕ → ℕ → List Group → ℕ
@@ -34,7 +35,7 @@ places p v i k = times i k (uncut i (request_at p i) (op_at v i)) + (in_queues i
 
 -- 1 for a block of a request that was admitted
 abbrev pub due : Request → OpView → ℕ → ℕ
-due r o k = if waits o.phase then 0 else if nat_lt k r.count then 1 else 0
+due r o k = if is_waiting o.phase then 0 else if nat_lt k r.count then 1 else 0
 
 -- fates for a group: one for each block, and at least one block is settled
 pub record Settles (g : Group) (fates : List Fate) : Type 0 where
@@ -62,10 +63,10 @@ pub record Sound (p : Plan) (v : View) : Type 0 where
   pub one_place : (i k : ℕ) → places p v i k ≡ due (request_at p i) (op_at v i) k
   pub lengths : (i : ℕ) → length (op_at v i).settled ≡ (request_at p i).count
   pub cuts : (i : ℕ) → (op_at v i).cut ≤ (request_at p i).count
-  pub fresh : (i : ℕ) → waits (op_at v i).phase ≡ true → (op_at v i).cut ≡ 0
+  pub fresh : (i : ℕ) → is_waiting (op_at v i).phase ≡ true → (op_at v i).cut ≡ 0
   pub ended : (i : ℕ) → has_ended (op_at v i).phase ≡ true → all_true (op_at v i).settled ≡ true
   -- all earlier ops that conflict with an admitted op have ended
-  pub order : (j i : ℕ) → j < i → i < length v.ops → waits (op_at v i).phase ≡ false → p.conflicts j i ≡ true → has_ended (op_at v j).phase ≡ true
+  pub order : (j i : ℕ) → j < i → i < length v.ops → is_waiting (op_at v i).phase ≡ false → p.conflicts j i ≡ true → has_ended (op_at v j).phase ≡ true
   pub groups : All (All HasBlocks) v.queues
   pub commands : All (IsOpen p) v.commands
 

@@ -4,12 +4,14 @@ use Rattle.std.specs.List.{filter, flat_map}
 use Rattle.bio_core.specs.declared.bio.Bio.{Bio}
 use Rattle.bio_core.specs.declared.fate.Fate.{Fate}
 use Rattle.merge_queue.specs.declared.limits.Limits.{Limits}
+use Rattle.range_gate.specs.Gates.{is_waiting, has_ended, none_conflicts}
 use Rattle.stack_view.specs.Blocks.{BlockId, blocks, settled_of}
 use Rattle.stack_view.specs.Plan.{Plan, request_at}
 use Rattle.stack_view.specs.Pieces.{greatest_piece, cut_to, bio_of}
 use Rattle.merge_queue.specs.Groups.{Group, put, put_all, may_follow, joined, without, numbers, pairs}
 use Rattle.stack_view.specs.Rests.{rests}
-use Rattle.stack_view.specs.View.{View, OpView, Command, Admitted, Ended, waits, is_admitted, has_ended, all_true, no_op, op_at, queue_at, group_at, command_at}
+use Rattle.range_gate.specs.declared.phase.Phase.TheVariants.{Admitted, Ended}
+use Rattle.stack_view.specs.View.{View, OpView, Command, is_admitted, all_true, no_op, op_at, queue_at, group_at, command_at}
 
 pub data Step : Type 0 where
   End : ℕ → Step
@@ -26,12 +28,8 @@ abbrev pub unended : View → ℕ → List ℕ
 unended v zero = []
 unended v (suc i) = if has_ended (op_at v i).phase then unended v i else i ∷ unended v i
 
-abbrev pub none_conflicts : Plan → ℕ → List ℕ → Bool
-none_conflicts p i [] = true
-none_conflicts p i (j ∷ js) = not (p.conflicts j i) && none_conflicts p i js
-
 abbrev pub may_admit : Plan → View → ℕ → Bool
-may_admit p v i = waits (op_at v i).phase && (nat_lt (length (unended v i)) 32 && none_conflicts p i (unended v i))
+may_admit p v i = is_waiting (op_at v i).phase && (nat_lt (length (unended v i)) 32 && none_conflicts p.conflicts i (unended v i))
 
 abbrev pub can : Plan → View → Step → Bool
 can p v (End i) = is_admitted (op_at v i).phase && all_true (op_at v i).settled

@@ -1,13 +1,10 @@
 -- What is seen of a stack between two steps.
 use Rattle.std.specs.Prelude.{ℕ, Bool, true, false, ◌&&◌, List, [], ◌∷◌, get_or, replicate, map}
 use Rattle.bio_core.specs.declared.fate.Fate.{Fate}
+use Rattle.range_gate.specs.declared.phase.Phase.{Phase}
+use Rattle.range_gate.specs.declared.phase.Phase.TheVariants.{Waiting, Admitted, Ended}
 use Rattle.stack_view.specs.Plan.{Plan, Request}
 use Rattle.merge_queue.specs.Groups.{Group}
-
-pub data Phase : Type 0 where
-  Waits : Phase
-  Admitted : Phase
-  Ended : Phase
 
 -- of an op: how many of its blocks are cut, and for each block whether it is settled
 pub record OpView : Type 0 where
@@ -28,25 +25,15 @@ pub record View : Type 0 where
   pub steps : ℕ
 
 abbrev pub waiting : Request → OpView
-waiting r = record { phase = Waits; cut = 0; settled = replicate r.count false }
+waiting r = record { phase = Waiting; cut = 0; settled = replicate r.count false }
 
 abbrev pub start : Plan → View
 start p = record { ops = map waiting p.requests; queues = replicate p.devices []; commands = []; steps = 0 }
 
-abbrev pub waits : Phase → Bool
-waits Waits = true
-waits Admitted = false
-waits Ended = false
-
 abbrev pub is_admitted : Phase → Bool
-is_admitted Waits = false
+is_admitted Waiting = false
 is_admitted Admitted = true
 is_admitted Ended = false
-
-abbrev pub has_ended : Phase → Bool
-has_ended Waits = false
-has_ended Admitted = false
-has_ended Ended = true
 
 abbrev pub no_op : OpView
 no_op = record { phase = Ended; cut = 0; settled = [] }
