@@ -1,0 +1,67 @@
+-- Counting and finding what may be done.
+use Rattle.std.proofs.Common.{◌≡◌, ◌<◌, ◌≤◌, ℕ, zero, suc, ◌+◌, ◌-◌, true, false, not, List, [], ◌∷◌, ◌++◌, length, map, take, drop, get_or, refl, sym, ap, ◌∙◌, arith, drop-cons, length-append}
+use Rattle.std.proofs.lemmas.Bool.{and_parts, and_from, and_right}
+use Rattle.std.proofs.lemmas.List.{length-map, get_or-map, get_or_append_left, get_or-append_right}
+use Rattle.stack_view.specs.Plan.{Plan}
+use Rattle.merge_queue.specs.Groups.{numbers}
+use Rattle.merge_queue.specs.Index.{Queued}
+use Rattle.range_gate.specs.Gates.{none_conflicts}
+use Rattle.stack_steps.specs.declared.choice.Choice.TheVariants.{Send}
+use Rattle.stack_steps.specs.Choices.{no_choice, sends_at}
+
+pub none-more : (p : Plan) (i : ℕ) (xs : List ℕ) (k d : ℕ) → k < length xs → none_conflicts p.conflicts i (take k xs) ≡ true → p.conflicts (get_or xs k d) i ≡ false →
+    none_conflicts p.conflicts i (take (k + 1) xs) ≡ true
+none-more p i [] k d h n e = absurd (omega arith)
+none-more p i (x ∷ xs) zero d h n e = rw e refl
+none-more p i (x ∷ xs) (suc k) d h n e =
+    let a : suc k + 1 ≡ suc (k + 1) = omega arith in
+    let b = and_parts (not (p.conflicts x i)) (none_conflicts p.conflicts i (take k xs)) n in
+    rw a (and_from (not (p.conflicts x i)) (none_conflicts p.conflicts i (take (k + 1) xs)) b.0 (none-more p i xs k d (omega arith) b.1 e))
+
+pub one-conflicts : (p : Plan) (i : ℕ) (xs : List ℕ) (k at d : ℕ) → k < length xs → k < at → p.conflicts (get_or xs k d) i ≡ true →
+    none_conflicts p.conflicts i (take at xs) ≡ false
+one-conflicts p i [] k at d h l e = absurd (omega arith)
+one-conflicts p i (x ∷ xs) k zero d h l e = absurd (omega arith)
+one-conflicts p i (x ∷ xs) zero (suc at) d h l e = rw e refl
+one-conflicts p i (x ∷ xs) (suc k) (suc at) d h l e = and_right (not (p.conflicts x i)) (none_conflicts p.conflicts i (take at xs)) (one-conflicts p i xs k at d (omega arith) (omega arith) e)
+
+pub length-numbers : (k n : ℕ) → length (numbers k n) ≡ n
+length-numbers k zero = refl
+length-numbers k (suc n) = ap suc (length-numbers (suc k) n)
+
+pub get-numbers : (k n i d : ℕ) → i < n → get_or (numbers k n) i d ≡ k + i
+get-numbers k zero i d h = absurd (omega arith)
+get-numbers k (suc n) zero d h = omega arith
+get-numbers k (suc n) (suc i) d h = let e = get-numbers (suc k) n i d (omega arith) in omega arith
+
+sends-first : (d : ℕ) (qs : List Queued) (x : Queued) → d < length qs → x ≡ get_or qs d x → sends_at d (drop d qs) ≡ map (Send d) (numbers 0 (length x.groups)) ++ sends_at (d + 1) (drop (d + 1) qs)
+sends-first d qs x h e =
+    let a : suc d ≡ d + 1 = omega arith in
+    ap (sends_at d) (drop-cons qs d x h)
+    ∙ ap (λ (z : Queued). map (Send d) (numbers 0 (length z.groups)) ++ sends_at (suc d) (drop (suc d) qs)) (sym e)
+    ∙ ap (λ n. map (Send d) (numbers 0 (length x.groups)) ++ sends_at n (drop n qs)) a
+
+length-sends : (d n : ℕ) → length (map (Send d) (numbers 0 n)) ≡ n
+length-sends d n = length-map (numbers 0 n) (Send d) ∙ length-numbers 0 n
+
+pub sends-more : (d : ℕ) (qs : List Queued) (x : Queued) → d < length qs → x ≡ get_or qs d x → length (sends_at d (drop d qs)) ≡ length x.groups + length (sends_at (d + 1) (drop (d + 1) qs))
+sends-more d qs x h e =
+    let a = ap length (sends-first d qs x h e) in
+    let b = length-append (map (Send d) (numbers 0 (length x.groups))) (sends_at (d + 1) (drop (d + 1) qs)) in
+    let c = length-sends d (length x.groups) in
+    omega arith
+
+pub send-found : (d left : ℕ) (qs : List Queued) (x : Queued) → d < length qs → x ≡ get_or qs d x → left < length x.groups → get_or (sends_at d (drop d qs)) left no_choice ≡ Send d left
+send-found d left qs x h e l =
+    let c = length-sends d (length x.groups) in
+    ap (λ w. get_or w left no_choice) (sends-first d qs x h e)
+    ∙ get_or_append_left (map (Send d) (numbers 0 (length x.groups))) (sends_at (d + 1) (drop (d + 1) qs)) no_choice left (omega arith)
+    ∙ get_or-map (Send d) (numbers 0 (length x.groups)) left 0 no_choice (let k = length-numbers 0 (length x.groups) in omega arith)
+    ∙ ap (Send d) (get-numbers 0 (length x.groups) left 0 l ∙ omega arith)
+
+pub send-later : (d left n : ℕ) (qs : List Queued) (x : Queued) → d < length qs → x ≡ get_or qs d x → n ≡ length x.groups → n ≤ left →
+    get_or (sends_at (d + 1) (drop (d + 1) qs)) (left - n) no_choice ≡ get_or (sends_at d (drop d qs)) left no_choice
+send-later d left n qs x h e m l =
+    let c = length-sends d (length x.groups) in
+    sym (ap (λ w. get_or w left no_choice) (sends-first d qs x h e)
+    ∙ get_or-append_right (map (Send d) (numbers 0 (length x.groups))) (sends_at (d + 1) (drop (d + 1) qs)) n left no_choice (omega arith) l)

@@ -1,0 +1,15 @@
+-- What is asked of the plan of a run.
+use Rattle.std.specs.Prelude.{◌<◌, ◌≤◌, ◌^◌, ℕ, ◌+◌, length}
+use Rattle.stack_view.specs.Plan.{Plan, request_at}
+use Rattle.stack_view.specs.Formed.{Straight}
+use Rattle.stack_view.specs.Runs.{blocks_of_requests}
+use Rattle.stack_view.specs.Sound.{OnDevices}
+
+-- The blocks of the requests lie on the devices, straight; there are few of them; no address is the last that there is.
+pub record Fine (p : Plan) : Type 0 where
+  pub on_devices : OnDevices p
+  pub straight : Straight p
+  pub few_ops : length p.requests ≤ 4096
+  pub few_blocks : blocks_of_requests p.requests ≤ 16384
+  pub few_devices : p.devices ≤ 8
+  pub ends : (i k : ℕ) → k < (request_at p i).count → (p.place ((request_at p i).first + k)).lba + 1 < 2 ^ 64

@@ -1,0 +1,44 @@
+-- The commands in flight, over their bios and fates.
+use Rattle.std.specs.Prelude.{◌≡◌, ◌<◌, ◌≤◌, ◌^◌, ℕ, ◌+◌, false, List, [], ◌∷◌, ◌++◌, length, take, drop}
+use Rattle.bio_core.specs.declared.bio.Bio.{Bio}
+use Rattle.bio_core.specs.declared.fate.Fate.{Fate}
+use Rattle.stack_view.specs.View.{Command}
+use Rattle.stack_steps.specs.declared.flight.Flight.{Flight}
+
+-- what contracts see: the commands in the order in which they were sent, and how many bios and fates there is room for
+pub record Flights : Type 0 where
+  pub commands : List Command
+  pub room : ℕ
+
+abbrev pub shown : List Flight → List Bio → List Fate → List Command
+shown [] bs fs = []
+shown (e ∷ es) bs fs = record { dev = e.dev; bios = take e.bios bs; fates = take e.blocks fs; completed = false } ∷ shown es (drop e.bios bs) (drop e.blocks fs)
+
+abbrev pub bios_of : List Flight → ℕ
+bios_of [] = 0
+bios_of (e ∷ es) = e.bios + bios_of es
+
+abbrev pub fates_of : List Flight → ℕ
+fates_of [] = 0
+fates_of (e ∷ es) = e.blocks + fates_of es
+
+pub record AreFlights (room : ℕ) (es : List Flight) (bs : List Bio) (fs : List Fate) : Type 0 where
+  pub bios : bios_of es ≡ length bs
+  pub fates : fates_of es ≡ length fs
+  pub few : length es ≤ room
+  pub few_bios : length bs ≤ room
+  pub few_fates : length fs ≤ room
+  pub small : room < 2 ^ 32
+
+-- the bios and fates of commands
+abbrev pub bios_in_flight : List Command → ℕ
+bios_in_flight [] = 0
+bios_in_flight (c ∷ cs) = length c.bios + bios_in_flight cs
+
+abbrev pub fates_in_flight : List Command → ℕ
+fates_in_flight [] = 0
+fates_in_flight (c ∷ cs) = length c.fates + fates_in_flight cs
+
+-- the fates without n of them
+abbrev pub cut_out : {A : Type 0} → ℕ → ℕ → List A → List A
+cut_out at n xs = take at xs ++ drop (at + n) xs

@@ -1,0 +1,35 @@
+-- What goes back of a command, as it is found from left to right.
+use Rattle.std.specs.Prelude.{◌<◌, ◌≤◌, ◌^◌, ℕ, suc, ◌+◌, ◌-◌, eqb, if◌then◌else◌, List, [], ◌∷◌, length, map, drop}
+use Rattle.bio_core.specs.declared.bio.Bio.{Bio}
+use Rattle.bio_core.specs.declared.fate.Fate.{Fate}
+use Rattle.bio_core.specs.declared.fate.Fate.TheVariants.{Good, Bad, Untouched}
+use Rattle.stack_view.specs.Blocks.{place_of}
+use Rattle.merge_queue.specs.Groups.{size, Group, lba_of}
+use Rattle.stack_view.specs.Pieces.{part}
+use Rattle.stack_view.specs.Rests.{front, behind, untouched_runs}
+use Rattle.stack_view.specs.Plan.{Plan, request_at}
+
+-- a bio whose parts can be made: its blocks are in its request, and its addresses have a last one
+pub record Divides (p : Plan) (b : Bio) : Type 0 where
+  pub within : b.k + b.count ≤ (request_at p (place_of b.op)).count
+  pub ends : b.lba + b.count < 2 ^ 64
+
+-- what is behind the first n blocks of a bio
+abbrev pub last_part : Plan → ℕ → Bio → Bio
+last_part p n b = if eqb n 0 then b else part p b n (b.count - n)
+
+-- how many untouched fates stand in front
+abbrev pub untouched_front : List Fate → ℕ
+untouched_front [] = 0
+untouched_front (Good ∷ fs) = 0
+untouched_front ((Bad why) ∷ fs) = 0
+untouched_front (Untouched ∷ fs) = suc (untouched_front fs)
+
+-- a group that a queue takes
+pub record Ends (g : List Bio) : Type 0 where
+  pub some : 0 < length g
+  pub ends : lba_of g + size g < 2 ^ 64
+
+-- what goes back from place at on
+abbrev pub rests_from : Plan → List Bio → ℕ → List Fate → List Group
+rests_from p bs at fs = map (λ r. front p r.count (behind p r.at bs)) (untouched_runs at (drop at fs))

@@ -1,0 +1,68 @@
+//! What the steps are told of the requests.
+
+ghost use Rattle.std.specs.Prelude.{◌≡◌, ◌<◌, ◌≤◌, ◌+◌, ◌^◌, ℕ, length};
+ghost use Rattle.stack_view.specs.Plan.{Plan, Place, request_at};
+ghost use Rattle.stack_steps.specs.Fine.{Fine};
+
+use bio_core::Dir;
+use merge_queue::Limits;
+
+/// Where a block lies.
+#[derive(Clone, Copy, Debug, PartialEq, Eq)]
+pub struct Site {
+    /// The device.
+    pub dev: u32,
+    /// The address on it.
+    pub lba: u64,
+    /// How many blocks from this one on lie at consecutive addresses.
+    pub run: u64,
+}
+
+/// The requests of a run, where their blocks lie, and how they are segmented. Ops have their place, from 0; one that
+/// is no read or write has no blocks.
+pub trait Requests {
+    ghost plan: { Self → Plan };
+
+    /// The number of ops.
+    fn ops(&self) -> u32
+        ensures { result ≡ length (plan self.now).requests };
+
+    /// The number of devices.
+    fn devices(&self) -> u32
+        ensures { result ≡ (plan self.now).devices };
+
+    /// What one command may hold.
+    fn limits(&self) -> Limits
+        ensures { result ≡ (plan self.now).limits };
+
+    /// How many blocks an op has.
+    fn count(&self, op: u32) -> u32
+        requires { op < length (plan self.now).requests }
+        ensures { result ≡ (request_at (plan self.now) op).count };
+
+    /// Which way its data goes.
+    fn dir(&self, op: u32) -> Dir
+        requires { op < length (plan self.now).requests }
+        ensures { result ≡ (request_at (plan self.now) op).dir };
+
+    /// Where block `k` of an op lies.
+    fn site(&self, op: u32, k: u32) -> Site
+        requires { k < (request_at (plan self.now) op).count }
+        ensures dev { result.dev ≡ ((plan self.now).place ((request_at (plan self.now) op).first + k)).dev }
+        ensures lba { result.lba ≡ ((plan self.now).place ((request_at (plan self.now) op).first + k)).lba }
+        ensures run { result.run ≡ (plan self.now).run_from ((request_at (plan self.now) op).first + k) };
+
+    /// How many segments hold a byte of the data of `n` blocks of an op, from block `k` on.
+    fn segs(&self, op: u32, k: u32, n: u32) -> u32
+        requires some { 1 ≤ n }
+        requires within { k + n ≤ (request_at (plan self.now) op).count }
+        ensures { result ≡ (plan self.now).segs op k n };
+
+    /// How many segments hold a byte of their tuples.
+    fn pi_segs(&self, op: u32, k: u32, n: u32) -> u32
+        requires some { 1 ≤ n }
+        requires within { k + n ≤ (request_at (plan self.now) op).count }
+        ensures { result ≡ (plan self.now).pi_segs op k n };
+
+    ghost fine: { (s : Self) → Fine (plan s) };
+}
