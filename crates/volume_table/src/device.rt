@@ -25,6 +25,13 @@ const NO_DEVICE: DeviceInfo = DeviceInfo {
     first: 0,
 };
 
+impl Default for DeviceInfo {
+    /// No device: what stands in the unused places of a list.
+    fn default() -> DeviceInfo {
+        NO_DEVICE
+    }
+}
+
 /// The device of this number, where there is one; else one without blocks.
 pub(crate) fn device(devices: &[DeviceInfo], number: u32) -> DeviceInfo
     ensures { result ≡ device devices.now number }
