@@ -1,2 +1,2 @@
-mod Telling
+pub mod Telling
 mod Steps

@@ -1,4 +1,4 @@
-use Rattle.std.proofs.Common.{ℕ, zero, suc, ◌≡◌, ◌+◌, ◌-◌, ◌<◌, ◌≤◌, List, [], ◌∷◌, ◌++◌, length, take, Option, Some, None, refl, sym, ap, ◌∙◌, arith, append-nil, append_assoc, length-append}
+use Rattle.std.proofs.Common.{ℕ, zero, suc, ◌≡◌, ◌+◌, ◌^◌, ◌-◌, ◌<◌, ◌≤◌, List, [], ◌∷◌, ◌++◌, length, take, Option, Some, None, refl, sym, ap, ◌∙◌, arith, append-nil, append_assoc, length-append}
 use Rattle.std.specs.Prelude.{map, slice_index_or}
 use Rattle.target_answer.specs.declared.units.UnitSpec.{UnitSpec}
 use Rattle.rig_api.specs.Log.{Entry, HasRoom, Room}
@@ -6,7 +6,7 @@ use Rattle.rig_api.specs.Telling.{Standing, no_spec, spec_at}
 use Rattle.rig_api.specs.declared.rig.Outcome.{Outcome}
 use Rattle.volume_table.specs.declared.device.DeviceInfo.{DeviceInfo}
 use Rattle.rig_discovery.specs.Answers.{told_by}
-use Rattle.rig_discovery.specs.Discovery.{Answer, HasFault, HasFound, Spent, all_told, entry_of_look, info_of, looks, told, with_info}
+use Rattle.rig_discovery.specs.Discovery.{Answer, Ends, HasFault, HasFound, Spent, all_told, entry_of_look, info_of, looks, told, with_info}
 
 -- One look after another.
 
@@ -87,3 +87,7 @@ told_last s s' dev result i e p q = let k : i ≡ info_of (spec_at s' dev) = cc 
 
 pub spent_more : (n : ℕ) (a b c : Room) → Spent n a b → Spent 1 b c → Spent (n + 1) a c
 spent_more n a b c p q = record { records = omega (arith, p.records, q.records); labels = omega (arith, p.labels, q.labels); moved = omega (arith, p.moved, q.moved) }
+
+pub ends_more : (found : List DeviceInfo) (i : DeviceInfo) → Ends found → i.first + i.blocks < 2 ^ 64 → Ends (found ++ (i ∷ []))
+ends_more [] i e h = (h, tt)
+ends_more (d ∷ ds) i e h = (e.0, ends_more ds i e.1 h)

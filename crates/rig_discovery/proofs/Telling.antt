@@ -41,7 +41,7 @@ layout_under h None e = absurd (cc)
 layout_under h (Some v) e = header_layout v h.first (good_header (ltb (length h.first) 512) (is_header v h.first) h.size (image_size (specs_in v h.first)) e)
 
 -- the units of a right head are those of an image
-right_layout : (h : Head) → head_fault h ≡ None → is_layout (units_of h) ≡ true
+pub right_layout : (h : Head) → head_fault h ≡ None → is_layout (units_of h) ≡ true
 unfolding head_fault
 right_layout h e = layout_under h (version_in h) e
 
@@ -76,7 +76,7 @@ frames_length : (w n : ℕ) (bytes : List ℕ) → length (frames_of w n bytes) 
 frames_length w zero bytes = refl
 frames_length w (suc n) bytes = ap suc (frames_length w n (drop w bytes))
 
-shape_is : (u : UnitSpec) (bytes : List ℕ) → shape_of (unit_from u bytes) ≡ u
+pub shape_is : (u : UnitSpec) (bytes : List ℕ) → shape_of (unit_from u bytes) ≡ u
 shape_is u bytes = ap (λ (n : ℕ). record { ty = u.ty; blocks = n; size = u.size; first = u.first }) (frames_length (stored_size u.ty u.size) u.blocks bytes)
 
 shape_at : (us : List UnitSpec) (bytes : List ℕ) (dev : ℕ) → dev < length us → shape_of (slice_index_or (units_from us bytes) dev no_unit) ≡ slice_index_or us dev no_spec

@@ -1,4 +1,4 @@
-use Rattle.std.specs.Prelude.{ℕ, ◌≡◌, ◌+◌, ◌*◌, ◌≤◌, List, [], ◌∷◌, ◌++◌, length, Option, Some, None}
+use Rattle.std.specs.Prelude.{ℕ, ◌≡◌, ◌+◌, ◌*◌, ◌^◌, ◌<◌, ◌≤◌, List, [], ◌∷◌, ◌++◌, length, Option, Some, None}
 use Rattle.target_answer.specs.declared.units.UnitSpec.{UnitSpec}
 use Rattle.rig_api.specs.Log.{Entry, Room, entry_of}
 use Rattle.rig_api.specs.Telling.{Standing, spec_at}
@@ -64,3 +64,8 @@ pub record Spent (n : ℕ) (old new : Room) : Type 0 where
   pub records : old.records ≤ new.records + n
   pub labels : old.labels ≤ new.labels
   pub moved : old.moved ≤ new.moved + 32 * n
+
+-- An address behind the last block of each fits 64 bits.
+abbrev pub Ends : List DeviceInfo → Type 0
+Ends [] = Unit {0}
+Ends (d ∷ ds) = (d.first + d.blocks < 2 ^ 64) × Ends ds

@@ -1,6 +1,6 @@
 //! What the data of READ CAPACITY(16) tells.
 
-ghost use Rattle.std.specs.Prelude.{◌≡◌, is_some, ◌||◌, not, eqb, length};
+ghost use Rattle.std.specs.Prelude.{◌≡◌, ◌+◌, ◌<◌, ◌^◌, IfSome, is_some, ◌||◌, not, eqb, length};
 ghost use Rattle.rig_discovery.specs.Answers.{info_with, is_fault, told_by, type_told};
 
 use pi_tuple::PiType;
@@ -43,7 +43,8 @@ pub(crate) fn told_by(
     outcome: Outcome,
     bytes: &[u8; 32],
 ) -> Option<DeviceInfo>
-    ensures { result ≡ told_by first size outcome bytes.now }
+    ensures value { result ≡ told_by first size outcome bytes.now }
+    ensures end { IfSome result (λ i. i.first + i.blocks < 2 ^ 64) }
 {
     let last = u64::from_be_bytes([
         bytes[0], bytes[1], bytes[2], bytes[3], bytes[4], bytes[5], bytes[6], bytes[7],

@@ -1,9 +1,9 @@
 //! Asking each device of a rig for its capacity.
 
-ghost use Rattle.std.specs.Prelude.{◌≡◌, ◌≤◌, ◌<◌, ◌++◌, ◌∷◌, [], IfErr, IfOk, IsOk, List, Some, is_some, length, map, true};
+ghost use Rattle.std.specs.Prelude.{◌≡◌, ◌+◌, ◌^◌, IfSome, ◌≤◌, ◌<◌, ◌++◌, ◌∷◌, [], IfErr, IfOk, IsOk, List, Some, is_some, length, map, true};
 ghost use Rattle.rig_api.specs.Log.{HasRoom};
 ghost use Rattle.rig_api.specs.Telling.{greatest_size, spec_at, specs_of};
-ghost use Rattle.rig_discovery.specs.Discovery.{Answer, HasFault, HasFound, Spent, entry_of_look, info_of, told};
+ghost use Rattle.rig_discovery.specs.Discovery.{Answer, Ends, HasFault, HasFound, Spent, entry_of_look, info_of, told};
 ghost use Rattle.target_answer.specs.Target.{Stored};
 
 use crate::answer::told_by;
@@ -27,6 +27,7 @@ fn ask<R: Rig>(rig: &mut R, dev: u32) -> Option<DeviceInfo>
     requires room { HasRoom (greatest_size (R.standing rig.old)) 1 0 (R.room rig.old) }
     ensures asked { (a : Answer) × (result ≡ told (R.standing rig.old) dev a) × (R.log rig.new ≡ R.log rig.old ++ (entry_of_look (R.standing rig.old) dev a ∷ [])) }
     ensures told { is_some (R.units rig.old) ≡ true → result ≡ Some (info_of (spec_at (R.standing rig.old) dev)) }
+    ensures end { IfSome result (λ i. i.first + i.blocks < 2 ^ 64) }
     ensures units { R.units rig.new ≡ R.units rig.old }
     ensures tells { is_some (R.image rig.new) ≡ is_some (R.image rig.old) }
     ensures standing { R.standing rig.new ≡ R.standing rig.old }
@@ -52,6 +53,7 @@ pub fn discover<R: Rig>(rig: &mut R) -> Result<ArrayVec<DeviceInfo, 8>, BadCapac
     ensures fault { IfErr result (λ f. HasFault (R.standing rig.old) f.dev (R.log rig.old) (R.log rig.new)) }
     ensures never { is_some (R.units rig.old) ≡ true → IsOk result }
     ensures told { is_some (R.units rig.old) ≡ true → IfOk result (λ v. v.items ≡ map info_of (specs_of (R.standing rig.old))) }
+    ensures ends { IfOk result (λ v. Ends v.items) }
     ensures units { R.units rig.new ≡ R.units rig.old }
     ensures tells { is_some (R.image rig.new) ≡ is_some (R.image rig.old) }
     ensures standing { R.standing rig.new ≡ R.standing rig.old }

@@ -6,12 +6,14 @@ mod laws;
 mod op;
 mod plain_map;
 mod reply;
+mod senses;
 mod shown;
 
 pub use laws::{formatted_is_clean, walk_is_plain, walk_lists_exactly};
 pub use op::{Op, Part};
 pub use plain_map::plain_report;
 pub use reply::Reply;
+pub use senses::why_by;
 pub use shown::ShownBytes;
 
 #[cfg(test)]

@@ -6,13 +6,13 @@ use Rattle.rig_discovery.proofs.discovery.ask.Goals as goal
 pub returns-clause-asked : goal.returns-clause-asked
 returns-clause-asked g c = (
   record { outcome = c.exchange-outcome.result; bytes = c.exchange-outcome.new.into },
-  asked_is _ _ c.args.dev c.first.result c.size.result c.exchange-outcome.result c.exchange-outcome.new.into _ c.exchange-outcome.ensures.standing c.first.ensures c.size.ensures c.told_by.ensures,
+  asked_is _ _ c.args.dev c.first.result c.size.result c.exchange-outcome.result c.exchange-outcome.new.into _ c.exchange-outcome.ensures.standing c.first.ensures c.size.ensures c.told_by.ensures.value,
   c.exchange-outcome.ensures.recorded,
 )
 
 pub returns-clause-told : goal.returns-clause-told
 returns-clause-told g c = λ t.
-    asked_is _ _ c.args.dev c.first.result c.size.result c.exchange-outcome.result c.exchange-outcome.new.into _ c.exchange-outcome.ensures.standing c.first.ensures c.size.ensures c.told_by.ensures
+    asked_is _ _ c.args.dev c.first.result c.size.result c.exchange-outcome.result c.exchange-outcome.new.into _ c.exchange-outcome.ensures.standing c.first.ensures c.size.ensures c.told_by.ensures.value
     ∙ told_is _ _ c.args.dev _ _ _ c.exchange-outcome.result c.exchange-outcome.new.into _ _ (g.met.R.Rig.ready c.args.rig.now) c.requires.device (g.met.R.Rig.laid c.args.rig.now) c.exchange-outcome.ensures.told t
 
 pub returns-clause-units : goal.returns-clause-units

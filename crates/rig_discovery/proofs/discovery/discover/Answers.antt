@@ -1,7 +1,7 @@
 use Rattle.std.proofs.Common.{◌≡◌, ◌<◌, [], ◌∷◌, ◌++◌, length, ap, ◌∙◌, arith, length-append}
 use Rattle.std.specs.Prelude.{is_some}
 use Rattle.rig_api.specs.Telling.{specs_of}
-use Rattle.rig_discovery.proofs.Steps.{infos_more, one_more, room_more, spent_more, told_last}
+use Rattle.rig_discovery.proofs.Steps.{ends_more, infos_more, one_more, room_more, spent_more, told_last}
 use Rattle.rig_discovery.proofs.Telling.{enough}
 use Rattle.rig_discovery.proofs.discovery.discover.Goals as goal
 
@@ -16,6 +16,7 @@ loop-dev-preserved g c =
       few = ap length pushed ∙ length-append c.loop-dev.found.items (c.in-Some.info ∷ []) ∙ omega (arith, c.loop-dev.invariant.few);
       told = λ t. rw pushed (infos_more (specs_of (g.R.Rig.standing c.args.rig.now)) c.loop-dev.dev c.loop-dev.found.items c.in-Some.info last (c.loop-dev.invariant.told t)
           (told_last _ _ c.loop-dev.dev c.ask.result c.in-Some.info c.loop-dev.invariant.standing c.in-Some.is (c.ask.ensures.told (ap is_some c.loop-dev.invariant.units ∙ t))));
+      ends = rw pushed (ends_more c.loop-dev.found.items c.in-Some.info c.loop-dev.invariant.ends c.in-Some.ensures.end);
       units = c.ask.ensures.units ∙ c.loop-dev.invariant.units;
       tells = c.ask.ensures.tells ∙ c.loop-dev.invariant.tells;
       standing = c.ask.ensures.standing ∙ c.loop-dev.invariant.standing;

@@ -2,7 +2,7 @@ use Rattle.std.proofs.Common.{◌≡◌, ◌-◌, ◌≤◌, true, length, take}
 use Rattle.std.specs.Prelude.{is_some, map}
 use Rattle.rig_api.specs.Log.{HasRoom}
 use Rattle.rig_api.specs.Telling.{greatest_size, specs_of}
-use Rattle.rig_discovery.specs.Discovery.{Spent, info_of}
+use Rattle.rig_discovery.specs.Discovery.{Ends, Spent, info_of}
 use Rattle.rig_discovery.proofs.Steps.{SoFar}
 use Rattle.rig_discovery.proofs.discovery.discover.Given as goal
 
@@ -11,6 +11,7 @@ invariant-loop-dev g l = record {
   so_far : SoFar (g.R.Rig.standing l.initial.rig) l.dev l.found.items (g.R.Rig.log l.initial.rig) (g.R.Rig.log l.rig);
   few : length l.found.items ≡ l.dev;
   told : is_some (g.R.Rig.units l.initial.rig) ≡ true → l.found.items ≡ map info_of (take l.dev (specs_of (g.R.Rig.standing l.initial.rig)));
+  ends : Ends l.found.items;
   units : g.R.Rig.units l.rig ≡ g.R.Rig.units l.initial.rig;
   tells : is_some (g.R.Rig.image l.rig) ≡ is_some (g.R.Rig.image l.initial.rig);
   standing : g.R.Rig.standing l.rig ≡ g.R.Rig.standing l.initial.rig;

@@ -1,0 +1,44 @@
+use Rattle.std.proofs.Common.{ap, ◌∙◌, arith}
+use Rattle.rig_api.specs.Telling.{Standing}
+use Rattle.image_commands.specs.Views.{seen, view}
+use Rattle.image_commands.proofs.Devices.{devices_are, few_units, units_through}
+use Rattle.image_commands.proofs.scrubbing.told_devices.Goals as goal
+
+pub discover-requires-clause-few : goal.discover-requires-clause-few
+discover-requires-clause-few g c =
+    let few = few_units _ c.in-Ok.ensures.opened.judged in
+    let same = ap (λ (s : Standing). s.devices) c.reserve.ensures.standing in
+    omega (arith, few, same, c.in-Ok.ensures.devices)
+
+pub returns-in-Ok-discover : goal.returns-in-Ok-discover
+returns-in-Ok-discover g c =
+    let few = few_units _ c.in-Ok.ensures.opened.judged in
+    let same = ap (λ (s : Standing). s.devices) c.reserve.ensures.standing in
+    record {
+      between = view (g.R.Rig.image c.open_image.new.rig) (g.R.Rig.standing c.open_image.new.rig) (seen (g.R.Rig.units c.open_image.new.rig) (g.R.Rig.log c.open_image.new.rig) (g.R.Rig.faults c.open_image.new.rig));
+      since = record {
+        opened = c.in-Ok.ensures.opened;
+        kept = c.in-Ok.ensures.kept;
+        laid = g.met.R.Rig.laid c.open_image.new.rig;
+        units = c.discover.ensures.units ∙ units_through _ _ _ _ _ _ (g.met.R.Rig.laid c.open_image.new.rig) (g.met.R.Rig.laid c.reserve.new.self) c.reserve.ensures.standing c.reserve.ensures.image;
+        standing = c.discover.ensures.standing ∙ c.reserve.ensures.standing;
+        count = omega (arith, c.discover.ensures.count, c.reserve.ensures.count);
+      };
+      found = rw (c.reserve.ensures.standing, c.reserve.ensures.log) at c.in-Ok-discover.ensures.found;
+      devices_are = devices_are _ _ c.in-Ok-discover.devices.items _ _ _ c.in-Ok-discover.ensures.found (omega (arith, few, same, c.in-Ok.ensures.devices)) c.in-Ok-discover.ensures.ends c.discover.ensures.standing c.discover.ensures.units
+          (g.met.R.Rig.laid c.reserve.new.self) c.in-Ok-discover.ensures.told;
+    }
+
+pub returns-in-Err-discover : goal.returns-in-Err-discover
+returns-in-Err-discover g c = record {
+  between = view (g.R.Rig.image c.open_image.new.rig) (g.R.Rig.standing c.open_image.new.rig) (seen (g.R.Rig.units c.open_image.new.rig) (g.R.Rig.log c.open_image.new.rig) (g.R.Rig.faults c.open_image.new.rig));
+  since = record {
+    opened = c.in-Ok.ensures.opened;
+    kept = c.in-Ok.ensures.kept;
+    laid = g.met.R.Rig.laid c.open_image.new.rig;
+    units = c.discover.ensures.units ∙ units_through _ _ _ _ _ _ (g.met.R.Rig.laid c.open_image.new.rig) (g.met.R.Rig.laid c.reserve.new.self) c.reserve.ensures.standing c.reserve.ensures.image;
+    standing = c.discover.ensures.standing ∙ c.reserve.ensures.standing;
+    count = omega (arith, c.discover.ensures.count, c.reserve.ensures.count);
+  };
+  fault = rw (c.reserve.ensures.standing, c.reserve.ensures.log) at c.in-Err-discover.ensures.fault;
+}

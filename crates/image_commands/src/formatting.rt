@@ -1,0 +1,34 @@
+//! Formatting an image.
+
+ghost use Rattle.std.specs.Prelude.{◌≡◌, MatchResult, true};
+ghost use Rattle.target_answer.specs.Headers.{is_layout};
+ghost use Rattle.image_commands.specs.Views.{seen, view};
+ghost use Rattle.image_commands.specs.Causes.{CauseUnformatted, WasFormatted};
+
+use crate::fault::Fault;
+use rig_api::{Rig, RigFault};
+use std::alloc::Global;
+use target_answer::UnitSpec;
+
+/// Makes the image of this name the formatted one of these units, 1 to 8 that an image may have.
+/// After a fault the image may be anything.
+pub fn format_image<R: Rig>(
+    alloc: Global,
+    name: &str,
+    units: &[UnitSpec],
+    rig: &mut R,
+) -> Result<(), Fault>
+    requires { is_layout units.now ≡ true }
+    ensures { let old = view (R.image rig.old) (R.standing rig.old) (seen (R.units rig.old) (R.log rig.old) (R.faults rig.old)) in
+        let new = view (R.image rig.new) (R.standing rig.new) (seen (R.units rig.new) (R.log rig.new) (R.faults rig.new)) in
+        MatchResult result (λ _. WasFormatted name.now units.now old new) (λ r. CauseUnformatted r name.now old new) }
+{
+    match rig.format(alloc, name, units) {
+        Ok(()) => Ok(()),
+        Err(RigFault::Failed) => Err(Fault::RigFault),
+        Err(RigFault::Memory) => Err(Fault::Memory),
+        Err(RigFault::BadMagic) => unreachable!(),
+        Err(RigFault::BadHeader) => unreachable!(),
+        Err(RigFault::BadLength) => unreachable!(),
+    }
+}

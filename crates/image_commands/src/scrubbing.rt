@@ -1,0 +1,62 @@
+//! Scrubbing an image.
+
+ghost use Rattle.std.specs.Prelude.{◌≡◌, [], MatchResult};
+ghost use Rattle.image_commands.specs.Views.{seen, view};
+ghost use Rattle.image_commands.specs.Causes.{CauseUnscrubbed, CauseUntold, WasScrubbed, WasTold};
+
+use crate::fault::Fault;
+use crate::opening::open_image;
+use arrayvec::ArrayVec;
+use pi_scrub::{Found, scrub};
+use rig_api::Rig;
+use rig_discovery::discover;
+use std::alloc::Global;
+use volume_table::DeviceInfo;
+
+/// Opens the image of this name and asks each device what it is.
+fn told_devices<R: Rig>(
+    alloc: Global,
+    name: &str,
+    rig: &mut R,
+) -> Result<ArrayVec<DeviceInfo, 8>, Fault>
+    ensures { let old = view (R.image rig.old) (R.standing rig.old) (seen (R.units rig.old) (R.log rig.old) (R.faults rig.old)) in
+        let new = view (R.image rig.new) (R.standing rig.new) (seen (R.units rig.new) (R.log rig.new) (R.faults rig.new)) in
+        MatchResult result (λ v. WasTold name.now v.items old new) (λ r. CauseUntold r name.now old new) }
+{
+    match open_image(alloc, name, rig) {
+        Ok(()) => {}
+        Err(fault) => return Err(fault),
+    }
+    let count = rig.devices();
+    match rig.reserve(alloc, count, 0) {
+        Ok(()) => {}
+        Err(_) => return Err(Fault::Memory),
+    }
+    match discover(rig) {
+        Ok(devices) => Ok(devices),
+        Err(bad) => Err(Fault::BadCapacity { dev: bad.dev }),
+    }
+}
+
+/// Looks at every stored block of the image of this name, and puts those at fault into `found`, which
+/// is empty at first; answers the devices, as the rig told them. No stored block changes.
+pub fn scrub_image<R: Rig>(
+    alloc: Global,
+    name: &str,
+    rig: &mut R,
+    found: &mut Vec<Found>,
+) -> Result<ArrayVec<DeviceInfo, 8>, Fault>
+    requires { found.old.items ≡ [] }
+    ensures { let old = view (R.image rig.old) (R.standing rig.old) (seen (R.units rig.old) (R.log rig.old) (R.faults rig.old)) in
+        let new = view (R.image rig.new) (R.standing rig.new) (seen (R.units rig.new) (R.log rig.new) (R.faults rig.new)) in
+        MatchResult result (λ v. WasScrubbed name.now v.items found.new.items old new) (λ r. CauseUnscrubbed r name.now old new) }
+{
+    let devices = match told_devices(alloc, name, rig) {
+        Ok(devices) => devices,
+        Err(fault) => return Err(fault),
+    };
+    match scrub(alloc, &devices, rig, found) {
+        Ok(()) => Ok(devices),
+        Err(_) => Err(Fault::Memory),
+    }
+}

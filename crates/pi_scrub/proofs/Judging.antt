@@ -1,0 +1,209 @@
+use Rattle.std.proofs.Common.{ℕ, zero, suc, ◌≡◌, ◌+◌, ◌-◌, ◌^◌, ◌≤◌, Bool, true, false, ltb, leb, List, [], ◌∷◌, ◌++◌, length, take, drop, Option, Some, None, refl, sym, ap, subst, ◌∙◌, arith, length-take-le, length-drop}
+use Rattle.std.specs.Prelude.{Result, Ok, Err, if◌then◌else◌, is_some}
+use Rattle.pi_tuple.specs.declared.checks.Check.{Check}
+use Rattle.pi_tuple.specs.declared.checks.Check.TheVariants.{Guard, AppTag, RefTag}
+use Rattle.pi_tuple.specs.declared.checks.PiType.{PiType}
+use Rattle.pi_tuple.specs.declared.checks.PiType.TheVariants.{Zero, One, Two, Three}
+use Rattle.cdb_codec.specs.Forms.{Fits, form}
+use Rattle.cdb_codec.specs.Rule.{untagged}
+use Rattle.cdb_codec.specs.declared.command.Cdb.{Cdb}
+use Rattle.cdb_codec.specs.declared.command.Cdb.TheVariants.{Verify10, Verify16}
+use Rattle.cdb_codec.specs.declared.command.CdbFault.{CdbFault}
+use Rattle.cdb_codec.specs.declared.command.Rw.{Rw}
+use Rattle.cdb_codec.proofs.Inverse.{decoded_form}
+use Rattle.sense_codes.specs.declared.Sense.{Sense}
+use Rattle.fault_schedule.specs.declared.fault.FaultLine.{FaultLine}
+use Rattle.fault_schedule.specs.declared.fault.Crossing.TheVariants.{TargetToAdapter}
+use Rattle.target_answer.specs.Passing.{found_in, from_medium, then_crossed, unless}
+use Rattle.target_answer.specs.Requests.{blocks_in, blocks_of, request_of}
+use Rattle.target_answer.specs.Target.{Answer, Stop, Stored, answer_unless, check_sense, each, first_sense, keeping, passage, passed, read_by, refusal, shape_of, stored_from, target_answer, whole}
+use Rattle.target_answer.specs.declared.request.Request.TheVariants.{Verify}
+use Rattle.rig_api.specs.Log.{capacity_len, capacity_under}
+use Rattle.rig_api.specs.Telling.{IsAnswer, Standing, answer_of, specs_of, unit_at, units_told, with_blocks}
+use Rattle.rig_api.specs.declared.rig.Outcome.{Outcome}
+use Rattle.target_answer.specs.Image.{units_in}
+use Rattle.whole_run.specs.Senses.{why_ended}
+use Rattle.bio_core.specs.declared.fate.Why.TheVariants.{Target}
+use Rattle.pi_scrub.specs.Faults.{faults_from, listed, stored_finding}
+use Rattle.pi_scrub.specs.Looks.{found_at, protect_for, settled, verify_of}
+use Rattle.pi_scrub.specs.Steps.{IsWithin}
+
+-- What a unit answers to a VERIFY, and what a look finds by it.
+
+abbrev pub by_form : Bool → Rw → Cdb
+by_form b c = if b then Verify10 c else Verify16 c
+
+requested : (b : Bool) (c : Rw) → request_of (by_form b c) ≡ Verify c
+requested true c = refl
+requested false c = refl
+
+pub no_blocks : (ty : PiType) (lba n : ℕ) → Fits (verify_of ty lba n) → blocks_of (form (verify_of ty lba n)) ≡ 0
+no_blocks ty lba n f = rw (decoded_form (verify_of ty lba n) f) (none (leb (lba + n) (2 ^ 32)))
+  where
+    none : (b : Bool) → blocks_in (Ok (by_form b (untagged lba n (protect_for ty)))) ≡ 0
+    none true = refl
+    none false = refl
+
+pub no_capacity : (ty : PiType) (lba n room : ℕ) → Fits (verify_of ty lba n) → capacity_len (form (verify_of ty lba n)) room ≡ 0
+no_capacity ty lba n room f = rw (decoded_form (verify_of ty lba n) f) (none (leb (lba + n) (2 ^ 32)))
+  where
+    none : (b : Bool) → capacity_under (Ok (by_form b (untagged lba n (protect_for ty)))) room ≡ 0
+    none true = refl
+    none false = refl
+
+-- what is found in a stored block
+crossing : (armed : List FaultLine) (x : Option Check) (frame : List ℕ) → then_crossed armed None TargetToAdapter (unless x frame) ≡ unless x frame
+crossing armed None frame = refl
+crossing armed (Some c) frame = refl
+
+abbrev judge : List FaultLine → PiType → (blocks size first lba n : ℕ) → ℕ → List ℕ → Result (List ℕ) Check
+judge armed ty blocks size first lba n k frame = from_medium armed (passage (record { ty = ty; blocks = blocks; size = size; first = first }) (untagged lba n (protect_for ty)) lba [] k) frame
+
+judged_is : (armed : List FaultLine) (ty : PiType) (blocks size first lba n k : ℕ) (frame : List ℕ) → (sent : List ℕ) × (judge armed ty blocks size first lba n k frame ≡ unless (stored_finding ty size (lba + k) frame) sent)
+unfolding from_medium found_in
+judged_is armed Zero blocks size first lba n k frame = (_, crossing armed (stored_finding Zero size (lba + k) frame) _)
+judged_is armed One blocks size first lba n k frame = (_, crossing armed (stored_finding One size (lba + k) frame) _)
+judged_is armed Two blocks size first lba n k frame = (_, crossing armed (stored_finding Two size (lba + k) frame) _)
+judged_is armed Three blocks size first lba n k frame = (_, crossing armed (stored_finding Three size (lba + k) frame) _)
+
+shift_test : (d m : ℕ) → ltb (suc d) (suc m) ≡ ltb d m
+shift_test d m = grind arith
+
+found_shift : (dev l m d : ℕ) (s : Option Sense) → found_at dev l (suc m) (record { done = suc d; sense = s }) ≡ found_at dev (l + 1) m (record { done = d; sense = s })
+found_shift dev l m d s = let e : l + suc d ≡ l + 1 + d = omega arith in rw (shift_test d m, e) refl
+
+settled_shift : (m d : ℕ) → settled (suc m) (suc d) ≡ suc (settled m d)
+settled_shift m d = rw (shift_test d m) (by (ltb d m))
+  where
+    by : (b : Bool) → (if b then suc d + 1 else suc m) ≡ suc (if b then d + 1 else m)
+    by true = omega arith
+    by false = refl
+
+target_named : (c : Check) (l : ℕ) → why_ended (Some (check_sense c l)) ≡ Target c
+target_named Guard l = refl
+target_named AppTag l = refl
+target_named RefTag l = refl
+
+abbrev ended : List (Result (List ℕ) Check) → ℕ → Outcome
+ended js l = record { done = length (passed js); sense = first_sense l js }
+
+bad_one : (ty : PiType) (size dev l : ℕ) (frame : List ℕ) (frames : List (List ℕ)) (c : Check) (rest : List (Result (List ℕ) Check)) → stored_finding ty size l frame ≡ Some c →
+    found_at dev l (suc (length frames)) (ended (Err c ∷ rest) l) ≡ faults_from ty size dev l (take (settled (suc (length frames)) 0) (frame ∷ frames))
+bad_one ty size dev l frame frames c rest y =
+    let t : ltb 0 (suc (length frames)) ≡ true = grind arith in
+    let z : l + 0 ≡ l = omega arith in
+    rw (t, y, z, target_named c l) refl
+
+one_judged : (ty : PiType) (size dev l : ℕ) (frame sent : List ℕ) (frames : List (List ℕ)) (y : Option Check) (j : Result (List ℕ) Check) (rest : List (Result (List ℕ) Check)) → j ≡ unless y sent → stored_finding ty size l frame ≡ y →
+    found_at dev (l + 1) (length frames) (ended rest (l + 1)) ≡ faults_from ty size dev (l + 1) (take (settled (length frames) (length (passed rest))) frames) →
+    found_at dev l (suc (length frames)) (ended (j ∷ rest) l) ≡ faults_from ty size dev l (take (settled (suc (length frames)) (length (passed (j ∷ rest)))) (frame ∷ frames))
+one_judged ty size dev l frame sent frames None j rest e y more =
+    rw e (found_shift dev l (length frames) (length (passed rest)) (first_sense (l + 1) rest) ∙ more
+    ∙ ap (λ x. listed dev l x ++ faults_from ty size dev (l + 1) (take (settled (length frames) (length (passed rest))) frames)) (sym y)
+    ∙ ap (λ n. faults_from ty size dev l (take n (frame ∷ frames))) (sym (settled_shift (length frames) (length (passed rest)))))
+one_judged ty size dev l frame sent frames (Some c) j rest e y more = rw e (bad_one ty size dev l frame frames c rest y)
+
+judged_walk : (armed : List FaultLine) (ty : PiType) (blocks size first lba n dev : ℕ) (frames : List (List ℕ)) (k l : ℕ) → l ≡ lba + k →
+    found_at dev l (length frames) (ended (each (judge armed ty blocks size first lba n) k frames) l)
+    ≡ faults_from ty size dev l (take (settled (length frames) (length (passed (each (judge armed ty blocks size first lba n) k frames)))) frames)
+judged_walk armed ty blocks size first lba n dev [] k l e = refl
+judged_walk armed ty blocks size first lba n dev (frame ∷ frames) k l e =
+    let j = judged_is armed ty blocks size first lba n k frame in
+    one_judged ty size dev l frame j.0 frames (stored_finding ty size (lba + k) frame) (judge armed ty blocks size first lba n k frame) (each (judge armed ty blocks size first lba n) (k + 1) frames) j.1
+    (ap (λ a. stored_finding ty size a frame) e) (judged_walk armed ty blocks size first lba n dev frames (k + 1) (l + 1) (omega (arith, e)))
+
+take_both : {X : Type 0} (a b : ℕ) (xs : List X) → a ≤ b → take a (take b xs) ≡ take a xs
+take_both zero b xs l = refl
+take_both (suc a) zero xs l = absurd (omega arith)
+take_both (suc a) (suc b) [] l = refl
+take_both (suc a) (suc b) (x ∷ xs) l = ap (λ v. x ∷ v) (take_both a b xs (omega arith))
+
+settled_most : (n d : ℕ) → settled n d ≤ n
+settled_most n d = grind arith
+
+-- the command isn't refused
+not_refused : (armed : List FaultLine) (ty : PiType) (blocks size first lba n : ℕ) (b : Bool) → leb first lba ≡ true → leb (lba + n) (first + blocks) ≡ true →
+    refusal (record { ty = ty; blocks = blocks; size = size; first = first }) (Ok (by_form b (untagged lba n (protect_for ty)))) armed [] 0 0 ≡ None
+unfolding refusal
+not_refused armed Zero blocks size first lba n true p q = rw (p, q) refl
+not_refused armed One blocks size first lba n true p q = rw (p, q) refl
+not_refused armed Two blocks size first lba n true p q = rw (p, q) refl
+not_refused armed Three blocks size first lba n true p q = rw (p, q) refl
+not_refused armed Zero blocks size first lba n false p q = rw (p, q) refl
+not_refused armed One blocks size first lba n false p q = rw (p, q) refl
+not_refused armed Two blocks size first lba n false p q = rw (p, q) refl
+not_refused armed Three blocks size first lba n false p q = rw (p, q) refl
+
+looked_over : (armed : List FaultLine) (u : Stored) (lba n : ℕ) (b : Bool) → answer_unless None u (Ok (by_form b (untagged lba n (protect_for u.ty)))) armed [] [] None
+    ≡ keeping u.blocks (whole lba (read_by (shape_of u) (untagged lba n (protect_for u.ty)) lba armed [] (stored_from u lba n)))
+looked_over armed u lba n true = refl
+looked_over armed u lba n false = refl
+
+leb_le : (a b : ℕ) → a ≤ b → leb a b ≡ true
+leb_le a b h = grind arith
+
+answer_is : (armed : List FaultLine) (u : Stored) (lba n : ℕ) → Fits (verify_of u.ty lba n) → IsWithin u.ty lba n u → target_answer u armed (form (verify_of u.ty lba n)) [] [] 0 None
+    ≡ keeping u.blocks (whole lba (read_by (shape_of u) (untagged lba n (protect_for u.ty)) lba armed [] (stored_from u lba n)))
+unfolding target_answer
+answer_is armed u lba n f w =
+    let r = not_refused armed u.ty (length u.blocks) u.size u.first lba n (leb (lba + n) (2 ^ 32)) (leb_le u.first lba w.above) (leb_le (lba + n) (u.first + length u.blocks) w.below) in
+    ap (λ (c : Result Cdb CdbFault). answer_unless (refusal (shape_of u) c armed [] 0 0) u c armed [] [] None) (decoded_form (verify_of u.ty lba n) f)
+    ∙ ap (λ (x : Option Sense). answer_unless x u (Ok (verify_of u.ty lba n)) armed [] [] None) r ∙ looked_over armed u lba n (leb (lba + n) (2 ^ 32))
+
+-- a calm look at a told unit
+unit_looked : (armed : List FaultLine) (u : Stored) (dev lba n : ℕ) (o : Outcome) → Fits (verify_of u.ty lba n) → IsWithin u.ty lba n u → o ≡ record { done = (target_answer u armed (form (verify_of u.ty lba n)) [] [] 0 None).done; sense = (target_answer u armed (form (verify_of u.ty lba n)) [] [] 0 None).sense } →
+    found_at dev lba n o ≡ faults_from u.ty u.size dev lba (take (settled n o.done) (drop (lba - u.first) u.blocks))
+unit_looked armed u dev lba n o f w e =
+    let js = read_by (shape_of u) (untagged lba n (protect_for u.ty)) lba armed [] (stored_from u lba n) in
+    let same : o ≡ ended js lba = e ∙ ap (λ (a : Answer). record { done = a.done; sense = a.sense }) (answer_is armed u lba n f w) in
+    let d = length-drop (lba - u.first) u.blocks in
+    let len : length (stored_from u lba n) ≡ n = length-take-le n (drop (lba - u.first) u.blocks) (omega (arith, d, w.above, w.below)) in
+    let walk = judged_walk armed u.ty (length u.blocks) u.size u.first lba n dev (stored_from u lba n) 0 lba (omega arith) in
+    ap (found_at dev lba n) same ∙ ap (λ m. found_at dev lba m (ended js lba)) (sym len) ∙ walk
+    ∙ ap (λ m. faults_from u.ty u.size dev lba (take (settled m (length (passed js))) (stored_from u lba n))) len
+    ∙ ap (faults_from u.ty u.size dev lba) (take_both (settled n (length (passed js))) n (drop (lba - u.first) u.blocks) (settled_most n (length (passed js))))
+    ∙ ap (λ (v : Outcome). faults_from u.ty u.size dev lba (take (settled n v.done) (drop (lba - u.first) u.blocks))) (sym same)
+
+pub told_looked : (armed : List FaultLine) (us : List Stored) (dev lba n : ℕ) (ty : PiType) (o : Outcome) (told : Option (List Stored)) (before after : List ℕ) → Fits (verify_of ty lba n) → IsWithin ty lba n (unit_at us dev) →
+    IsAnswer (answer_of us armed dev (form (verify_of ty lba n)) [] [] 0 None) us dev o told before after → found_at dev lba n o ≡ faults_from ty (unit_at us dev).size dev lba (take (settled n o.done) (drop (lba - (unit_at us dev).first) (unit_at us dev).blocks))
+told_looked armed us dev lba n ty o told before after f w a = with_type (unit_at us dev) ty f w a.outcome
+  where
+    with_type : (u : Stored) (t : PiType) → Fits (verify_of t lba n) → IsWithin t lba n u → o ≡ record { done = (target_answer u armed (form (verify_of t lba n)) [] [] 0 None).done; sense = (target_answer u armed (form (verify_of t lba n)) [] [] 0 None).sense } →
+        found_at dev lba n o ≡ faults_from t u.size dev lba (take (settled n o.done) (drop (lba - u.first) u.blocks))
+    with_type u t f w e =
+        let P : PiType → Type 0 = λ v. (Fits (verify_of v lba n) → o ≡ record { done = (target_answer u armed (form (verify_of v lba n)) [] [] 0 None).done; sense = (target_answer u armed (form (verify_of v lba n)) [] [] 0 None).sense } →
+        found_at dev lba n o ≡ faults_from v u.size dev lba (take (settled n o.done) (drop (lba - u.first) u.blocks))) in
+        subst P w.type_is (λ f' e'. unit_looked armed u dev lba n o f' (record { type_is = refl; above = w.above; below = w.below }) e') f e
+
+-- no look changes a block
+kept : (u : Stored) (armed : List FaultLine) (b : Bool) (c : Rw) (stop : Option Stop) (sense : Option Sense) → (answer_unless sense u (Ok (by_form b c)) armed [] [] stop).blocks ≡ u.blocks
+kept u armed true c stop None = refl
+kept u armed true c stop (Some s) = refl
+kept u armed false c stop None = refl
+kept u armed false c stop (Some s) = refl
+
+blocks_kept : (u : Stored) (armed : List FaultLine) (ty : PiType) (lba n room : ℕ) (stop : Option Stop) → Fits (verify_of ty lba n) → (target_answer u armed (form (verify_of ty lba n)) [] [] room stop).blocks ≡ u.blocks
+unfolding target_answer
+blocks_kept u armed ty lba n room stop f =
+    ap (λ (c : Result Cdb CdbFault). (answer_unless (refusal (shape_of u) c armed [] 0 room) u c armed [] [] stop).blocks) (decoded_form (verify_of ty lba n) f)
+    ∙ kept u armed (leb (lba + n) (2 ^ 32)) (untagged lba n (protect_for ty)) stop (refusal (shape_of u) (Ok (verify_of ty lba n)) armed [] 0 room)
+
+own_block : (us : List Stored) (dev : ℕ) → with_blocks us dev (unit_at us dev).blocks ≡ us
+own_block [] dev = refl
+own_block (u ∷ us) zero = refl
+own_block (u ∷ us) (suc dev) = ap (λ (v : List Stored). u ∷ v) (own_block us dev)
+
+same_units : (s : Standing) (a b : Option (List ℕ)) (old new : Option (List Stored)) → old ≡ units_told s a → new ≡ units_told s b → is_some b ≡ is_some a → ((us : List Stored) → old ≡ Some us → new ≡ Some us) → new ≡ old
+same_units s None None old new p q t h = q ∙ sym p
+same_units s (Some x) b old new p q t h = h (units_in (specs_of s) x) p ∙ sym p
+same_units s None (Some y) old new p q t h = absurd (cc)
+
+stays : (us : List Stored) (armed : List FaultLine) (dev lba n : ℕ) (ty : PiType) (o : Outcome) (told : Option (List Stored)) (stop : Option Stop) (before after : List ℕ) → Fits (verify_of ty lba n) →
+    IsAnswer (answer_of us armed dev (form (verify_of ty lba n)) [] [] 0 stop) us dev o told before after → told ≡ Some us
+stays us armed dev lba n ty o told stop before after f a =
+    a.units ∙ ap (λ (v : List (List ℕ)). Some (with_blocks us dev v)) (blocks_kept (unit_at us dev) armed ty lba n 0 stop f) ∙ ap (λ (v : List Stored). Some v) (own_block us dev)
+
+pub units_stay : (s s' : Standing) (armed : List FaultLine) (dev lba n : ℕ) (ty : PiType) (a b : Option (List ℕ)) (old new : Option (List Stored)) (o : Outcome) (before after : List ℕ) → s' ≡ s → old ≡ units_told s a → new ≡ units_told s' b → is_some b ≡ is_some a → Fits (verify_of ty lba n) →
+    ((us : List Stored) → old ≡ Some us → (stop : Option Stop) × IsAnswer (answer_of us armed dev (form (verify_of ty lba n)) [] [] 0 stop) us dev o new before after) → new ≡ old
+units_stay s s' armed dev lba n ty a b old new o before after same p q t f said =
+    same_units s a b old new p (q ∙ ap (λ (v : Standing). units_told v b) same) t (λ us e. (let k = said us e in stays us armed dev lba n ty o new k.0 before after f k.1))

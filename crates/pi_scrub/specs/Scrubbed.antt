@@ -1,0 +1,36 @@
+use Rattle.std.specs.Prelude.{ℕ, ◌≡◌, ◌+◌, ◌^◌, ◌≤◌, ◌⊎◌, Bool, List, ◌++◌, length, map, count_by, Option, Some}
+use Rattle.target_answer.specs.Target.{Stored}
+use Rattle.rig_api.specs.Log.{Entry}
+use Rattle.rig_api.specs.Telling.{Standing}
+use Rattle.rig_discovery.specs.Discovery.{Ends}
+use Rattle.volume_table.specs.declared.device.DeviceInfo.{DeviceInfo}
+use Rattle.whole_run.specs.Walk.{is_medium_why}
+use Rattle.pi_scrub.specs.Looks.{AreFit, Look, Place, all_entries, all_found, all_looked}
+use Rattle.pi_scrub.specs.declared.found.Found.{Found}
+
+abbrev pub is_medium : Found → Bool
+is_medium f = is_medium_why f.why
+
+-- A count rose by as much as this, or stands at its last value.
+abbrev pub RoseBy : ℕ → ℕ → ℕ → Type 0
+RoseBy n old new = (old + n ≤ new) ⊎ (2 ^ 64 ≤ new + 1)
+
+-- Looks were made, one record each, and what was found is what their records say: each entry has a record of its own, which ended at its block. The blocks that were to be looked at are those that these looked at, each once and in order, and then the blocks that are left. Entries of a medium are at most as many as the count of faults rose.
+pub record Looked (devices : List DeviceInfo) (due left : List Place) (found found' : List Found) (old new : List Entry) (f f' : ℕ) : Type 0 where
+  pub looks : List Look
+  pub fit : AreFit devices looks
+  pub log : new ≡ old ++ all_entries looks
+  pub found_is : found' ≡ found ++ all_found looks
+  pub once : due ≡ all_looked looks ++ left
+  pub medium : RoseBy (count_by is_medium (all_found looks)) f f'
+
+-- a device as its stored blocks tell it
+abbrev pub device_of : Stored → DeviceInfo
+device_of u = record { ty = u.ty; blocks = length u.blocks; size = u.size; first = u.first }
+
+-- The rig has just these devices, at most 8, and where it tells its blocks they are its units. An address behind a device's last block fits 64 bits.
+pub record HasDevices (devices : List DeviceInfo) (s : Standing) (units : Option (List Stored)) : Type 0 where
+  pub count : length devices ≡ s.devices
+  pub few : length devices ≤ 8
+  pub ends : Ends devices
+  pub told : (us : List Stored) → units ≡ Some us → devices ≡ map device_of us

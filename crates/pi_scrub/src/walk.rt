@@ -1,0 +1,87 @@
+//! The scrub of all devices.
+
+ghost use Rattle.std.specs.Prelude.{◌≡◌, ◌+◌, ◌<◌, ◌≤◌, ◌++◌, [], IfErr, List, OnErr, OnOk, Some, is_some, length};
+ghost use Rattle.dix_base.specs.Told.{Calm};
+ghost use Rattle.rig_api.specs.Telling.{unit_at};
+ghost use Rattle.target_answer.specs.Target.{Stored};
+ghost use Rattle.pi_scrub.specs.Faults.{all_faults, faults_of};
+ghost use Rattle.pi_scrub.specs.Looks.{Place, all_places, info_at, places};
+ghost use Rattle.pi_scrub.specs.Scrubbed.{HasDevices, Looked};
+
+use crate::found::Found;
+use crate::look::look;
+use rig_api::Rig;
+use std::alloc::{AllocError, Global};
+use volume_table::DeviceInfo;
+
+/// A command looks at this many blocks at most.
+const MOST: u64 = 1024;
+
+/// Looks at every block of a device.
+fn scrub_device<R: Rig>(
+    alloc: Global,
+    devices: &[DeviceInfo],
+    dev: u32,
+    rig: &mut R,
+    found: &mut Vec<Found>,
+) -> Result<(), AllocError>
+    requires devices { HasDevices devices.now (R.standing rig.old) (R.units rig.old) }
+    requires device { dev < length devices.now }
+    ensures whole { OnOk result (Looked devices.now (places dev (info_at devices.now dev).first (info_at devices.now dev).blocks) [] found.old.items found.new.items
+        (R.log rig.old) (R.log rig.new) (R.faults rig.old) (R.faults rig.new)) }
+    ensures part { OnErr result ((left : List Place) × Looked devices.now (places dev (info_at devices.now dev).first (info_at devices.now dev).blocks) left found.old.items found.new.items
+        (R.log rig.old) (R.log rig.new) (R.faults rig.old) (R.faults rig.new)) }
+    ensures told { OnOk result ((us : List Stored) → R.units rig.old ≡ Some us → Calm (R.faults rig.old) (R.faults rig.new)
+        → found.new.items ≡ found.old.items ++ faults_of dev (unit_at us dev)) }
+    ensures units { R.units rig.new ≡ R.units rig.old }
+    ensures tells { is_some (R.image rig.new) ≡ is_some (R.image rig.old) }
+    ensures standing { R.standing rig.new ≡ R.standing rig.old }
+    ensures armed { R.armed rig.new ≡ R.armed rig.old }
+    ensures count { R.faults rig.old ≤ R.faults rig.new }
+{
+    let info = devices[dev as usize];
+    let mut lba = info.first;
+    let mut left = info.blocks;
+    while left > 0 {
+        let n = left.min(MOST) as u32;
+        let settled = look(alloc, dev, info.ty, lba, n, rig, found)? as u64;
+        lba += settled;
+        left -= settled;
+    }
+    Ok(())
+}
+
+/// Looks at every stored block of the devices, by device and address, and puts those at fault into
+/// `found`, which is empty at first. Each command is a VERIFY of at most 1,024 blocks, with VRPROTECT
+/// 001b for types 1 and 3 and 000b for types 0 and 2; where one ends at a block, the next begins
+/// behind it. The devices are those of the rig.
+///
+/// Over a rig that tells its blocks and has no fault the entries are exactly the blocks at fault.
+/// Over any rig each entry has a record of its own that ended at its block, and each block was looked
+/// at just once. No stored block changes. After want of memory `found` has what was found so far.
+pub fn scrub<R: Rig>(
+    alloc: Global,
+    devices: &[DeviceInfo],
+    rig: &mut R,
+    found: &mut Vec<Found>,
+) -> Result<(), AllocError>
+    requires devices { HasDevices devices.now (R.standing rig.old) (R.units rig.old) }
+    requires empty { found.old.items ≡ [] }
+    ensures whole { OnOk result (Looked devices.now (all_places 0 devices.now) [] [] found.new.items (R.log rig.old) (R.log rig.new) (R.faults rig.old) (R.faults rig.new)) }
+    ensures part { OnErr result ((left : List Place) × Looked devices.now (all_places 0 devices.now) left [] found.new.items
+        (R.log rig.old) (R.log rig.new) (R.faults rig.old) (R.faults rig.new)) }
+    ensures told { OnOk result ((us : List Stored) → R.units rig.old ≡ Some us → Calm (R.faults rig.old) (R.faults rig.new) → found.new.items ≡ all_faults 0 us) }
+    ensures units { R.units rig.new ≡ R.units rig.old }
+    ensures tells { is_some (R.image rig.new) ≡ is_some (R.image rig.old) }
+    ensures standing { R.standing rig.new ≡ R.standing rig.old }
+    ensures armed { R.armed rig.new ≡ R.armed rig.old }
+    ensures count { R.faults rig.old ≤ R.faults rig.new }
+{
+    for dev in 0..devices.len() as u32 {
+        match scrub_device(alloc, devices, dev, rig, found) {
+            Ok(()) => {}
+            Err(error) => return Err(error),
+        }
+    }
+    Ok(())
+}
