@@ -2,53 +2,13 @@
 
 ghost use Rattle.std.specs.Prelude.{◌≡◌, ℕ, List, length};
 ghost use Rattle.whole_run.specs.Small.{judged};
-ghost use Rattle.whole_run.specs.Senses.{is_medium, named_by, why_ended};
 ghost use Rattle.whole_run.specs.Walk.{fate_of_read, fate_of_write, reply_of};
 
 use bio_core::Why;
 use pi_tuple::{Check, PiType};
 use rig_api::Outcome;
-use sense_codes::{Layer, Sense, layer_and_check};
 use target_answer::Passage;
-use whole_run::Reply;
-
-/// The layer and the check that the sense names.
-fn finding_named(sense: Sense) -> Option<Why>
-    ensures { result ≡ named_by sense }
-{
-    match layer_and_check(&sense) {
-        Some((Layer::Adapter, check)) => Some(Why::Adapter(check)),
-        Some((Layer::Target, check)) => Some(Why::Target(check)),
-        None => None,
-    }
-}
-
-/// Whether the sense is MEDIUM ERROR with UNRECOVERED READ ERROR or WRITE ERROR.
-fn is_medium_error(sense: Sense) -> bool
-    ensures { result ≡ is_medium sense }
-{
-    sense.key == 3 && (sense.ascq == 0 && (sense.asc == 0x11 || sense.asc == 0x0C))
-}
-
-/// Why a block failed at which its command ended with this sense.
-fn why_by(sense: Option<Sense>) -> Why
-    ensures { result ≡ why_ended sense }
-{
-    let Some(sense) = sense else {
-        return Why::Short;
-    };
-    if let Some(why) = finding_named(sense) {
-        return why;
-    }
-    if is_medium_error(sense) {
-        return Why::Medium;
-    }
-    Why::Refused {
-        key: sense.key,
-        asc: sense.asc,
-        ascq: sense.ascq,
-    }
-}
+use whole_run::{Reply, why_by};
 
 /// Why the one block of a write failed, where it did.
 pub(crate) fn write_fate(outcome: Outcome) -> Option<Why>
