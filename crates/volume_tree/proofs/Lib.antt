@@ -1,0 +1,6 @@
+mod Putting
+mod Following
+mod Gathering
+mod Spots
+mod Placing
+mod Stretches
