@@ -3,5 +3,6 @@ pub mod Blocks
 pub mod Moves
 pub mod Routes
 pub mod Serial
+pub mod Routes
 pub mod WayIn
 pub mod WayOut

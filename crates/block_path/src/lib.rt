@@ -19,3 +19,8 @@ pub use route::Route;
 
 #[cfg(test)]
 mod tests;
+mod mode;
+mod route;
+
+pub use mode::Mode;
+pub use route::Route;
