@@ -4,5 +4,6 @@ pub mod Moves
 pub mod Routes
 pub mod Serial
 pub mod Routes
+pub mod Serial
 pub mod WayIn
 pub mod WayOut
