@@ -8,3 +8,8 @@ pub mod Report
 pub mod Language
 pub mod Laws
 pub mod Slow
+pub mod Settings
+pub mod Steps
+pub mod ScriptWalk
+pub mod PlainMap
+pub mod UnderMap
