@@ -4,4 +4,9 @@ pub mod Listing
 pub mod Plainly
 mod Rows
 mod ScriptRows
+pub mod TupleFrames
+pub mod CalmWays
+pub mod MapUnder
+pub mod PlainSteps
+pub mod CalmRuns
 pub mod Slowly

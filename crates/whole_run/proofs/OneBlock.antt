@@ -1,5 +1,5 @@
-use Rattle.std.proofs.Common.{ℕ, zero, suc, ◌≡◌, ◌+◌, ◌-◌, ◌*◌, ◌^◌, ◌<◌, ◌≤◌, Bool, true, false, ltb, eqb, ◌&&◌, if◌then◌else◌, List, [], ◌∷◌, ◌++◌, length, take, drop, get_or, Option, Some, None, Result, Ok, Err, refl, sym, ap, ◌∙◌, arith, eq-eqb, add-zero}
-use Rattle.std.specs.Prelude.{ℤ, pos, nat_abs, leb, not, slice_get}
+use Rattle.std.proofs.Common.{ℕ, zero, suc, ◌≡◌, ◌+◌, ◌-◌, ◌^◌, ◌<◌, ◌≤◌, Bool, true, false, ltb, ◌&&◌, if◌then◌else◌, List, [], ◌∷◌, length, take, drop, get_or, Option, Some, None, Ok, refl, sym, ap, ◌∙◌, arith, add-zero}
+use Rattle.std.specs.Prelude.{ℤ, pos, nat_abs, leb, slice_get}
 use Rattle.std.specs.Int.Bits.{xor_zero_r}
 use Rattle.std.proofs.Math.ListN.{set}
 use Rattle.std.proofs.Math.Seq.{drop-cons}
@@ -7,12 +7,10 @@ use Rattle.std.proofs.lemmas.List.{take_all}
 use Rattle.pi_tuple.specs.declared.checks.PiType.TheVariants.{One}
 use Rattle.pi_tuple.specs.declared.checks.Check.{Check}
 use Rattle.cdb_codec.specs.Decoded.{decoded}
-use Rattle.cdb_codec.specs.Forms.{Fits, form}
 use Rattle.cdb_codec.specs.declared.command.Rw.{Rw}
-use Rattle.cdb_codec.specs.declared.command.Cdb.{Cdb}
 use Rattle.cdb_codec.specs.declared.command.Cdb.TheVariants.{Read10, Write10}
 use Rattle.cdb_codec.proofs.Inverse.{decoded_form}
-use Rattle.fault_schedule.specs.Altered.{altered, named, xored_from}
+use Rattle.fault_schedule.specs.Altered.{named, xored_from}
 use Rattle.fault_schedule.specs.declared.Label.{Label}
 use Rattle.fault_schedule.specs.declared.fault.Crossing.{Crossing}
 use Rattle.fault_schedule.specs.declared.fault.Crossing.TheVariants.{AdapterToTarget, TargetToMedium, MediumToTarget, TargetToAdapter}

@@ -39,15 +39,15 @@ use Rattle.whole_run.specs.Plain.{AreClean, IsCleanBlock, Kept, Plain, frame_und
 use Rattle.whole_run.specs.Laws.{EqualsPlain, WalkIsPlain}
 use Rattle.whole_run.proofs.Walks.{and_left, and_right, below_four, over_page, part_length, within}
 
-crc-lt : (bytes : List ℕ) → crc bytes < 2 ^ 16
+pub crc-lt : (bytes : List ℕ) → crc bytes < 2 ^ 16
 crc-lt bytes = rw (crc-register bytes) (register-lt 0 bytes (lit< tt))
 
 -- a tuple is spelled and read back
 
-three : {g h a b r s : ℕ} → g ≡ h → a ≡ b → r ≡ s → ◌≡◌ {A = Tuple} (record { guard = g; app = a; rtag = r }) (record { guard = h; app = b; rtag = s })
+pub three : {g h a b r s : ℕ} → g ≡ h → a ≡ b → r ≡ s → ◌≡◌ {A = Tuple} (record { guard = g; app = a; rtag = r }) (record { guard = h; app = b; rtag = s })
 three p q u = cc
 
-slices : (g a r : ℕ) → g < 2 ^ 16 → a < 2 ^ 16 → r < 2 ^ 32 → tuple_in (tuple_bytes (record { guard = g; app = a; rtag = r })) ≡ record { guard = g; app = a; rtag = r }
+pub slices : (g a r : ℕ) → g < 2 ^ 16 → a < 2 ^ 16 → r < 2 ^ 32 → tuple_in (tuple_bytes (record { guard = g; app = a; rtag = r })) ≡ record { guard = g; app = a; rtag = r }
 slices g a r p q s =
     let x = from_be_bytes-to_be_bytes_2 g p in
     let y = from_be_bytes-to_be_bytes_2 a q in
@@ -65,7 +65,7 @@ record IsFormed (k : Kept) : Type 0 where
   app : k.app < 2 ^ 16
   escape : eqb k.app 0xFFFF ≡ false
 
-phys-lt : (a : ℕ) → ref_tag a < 2 ^ 32
+pub phys-lt : (a : ℕ) → ref_tag a < 2 ^ 32
 phys-lt a = mod_below a (2 ^ 32) (lit< tt)
 
 checked : (app want guard : ℕ) (t : Bool) → eqb app 0xFFFF ≡ false → finding One guard_and_reference want guard (record { guard = guard; app = app; rtag = want }) ≡ None
@@ -104,7 +104,7 @@ four_below x y z w a b c d (suc (suc zero)) = c
 four_below x y z w a b c d (suc (suc (suc zero))) = d
 four_below x y z w a b c d (suc (suc (suc (suc i)))) = lit< tt
 
-spelled : (b : List ℕ) → length b ≡ 8 → ((i : ℕ) → get_or b i 0 < 256) → tuple_bytes (tuple_in b) ≡ b
+pub spelled : (b : List ℕ) → length b ≡ 8 → ((i : ℕ) → get_or b i 0 < 256) → tuple_bytes (tuple_in b) ≡ b
 spelled [] l h = absurd (omega arith)
 spelled (a ∷ []) l h = absurd (omega arith)
 spelled (a ∷ b ∷ []) l h = absurd (omega arith)

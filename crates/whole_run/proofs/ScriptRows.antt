@@ -1,23 +1,24 @@
-use Rattle.std.proofs.Common.{◌≡◌, ℕ, ◌+◌, Bool, true, false, List, [], ◌∷◌, ◌++◌, drop, get_or, refl}
-use Rattle.std.specs.Prelude.{replicate, take, ℤ, pos, negsuc, Option, Some, None}
+use Rattle.std.proofs.Common.{◌≡◌, ◌<◌, ℕ, zero, suc, Bool, true, false, List, [], ◌∷◌, ◌++◌, length, drop, get_or, refl, sym, arith}
+use Rattle.std.specs.List.{All}
+use Rattle.std.proofs.lemmas.List.Elements.{All-append, All-cons, All-nil, All-replicate}
+use Rattle.std.specs.Prelude.{replicate, ℤ, pos}
 use Rattle.pi_guard.specs.Guards.{crc, ip}
 use Rattle.pi_guard.specs.declared.GuardKind.{GuardKind}
 use Rattle.pi_guard.specs.declared.GuardKind.TheVariants.{Crc, Ip}
-use Rattle.pi_tuple.specs.declared.checks.Check.{Check}
 use Rattle.pi_tuple.specs.declared.checks.Check.TheVariants.{AppTag, Guard, RefTag}
 use Rattle.pi_tuple.specs.declared.checks.PiType.{PiType}
-use Rattle.pi_tuple.specs.declared.checks.PiType.TheVariants.{One, Three, Two, Zero}
+use Rattle.pi_tuple.specs.declared.checks.PiType.TheVariants.{One, Three, Two}
 use Rattle.page_pool.specs.declared.segs.Seg.{Seg}
 use Rattle.page_pool.specs.Places.{run}
 use Rattle.fault_schedule.specs.declared.fault.Crossing.{Crossing}
-use Rattle.fault_schedule.specs.declared.fault.Crossing.TheVariants.{AdapterToHost, AdapterToTarget, HostToAdapter, MediumToTarget, TargetToAdapter, TargetToMedium}
+use Rattle.fault_schedule.specs.declared.fault.Crossing.TheVariants.{AdapterToHost, AdapterToTarget, MediumToTarget, TargetToMedium}
 use Rattle.fault_schedule.specs.declared.fault.FaultKind.TheVariants.{Flip, Shift}
 use Rattle.fault_schedule.specs.declared.fault.FaultLine.{FaultLine}
 use Rattle.rig_api.specs.declared.change.Change.TheVariants.{Copy}
 use Rattle.bio_core.specs.declared.fate.Why.{Why}
-use Rattle.bio_core.specs.declared.fate.Why.TheVariants.{Adapter, App, Block, Target}
+use Rattle.bio_core.specs.declared.fate.Why.TheVariants.{Adapter, App, Target}
 use Rattle.stack_ops.specs.declared.op.Op.{Op}
-use Rattle.stack_ops.specs.declared.op.Op.TheVariants.{Fetch, FetchPi, Fill, Overwrite, Put, Seal, Show, Wait, Write, WritePi}
+use Rattle.stack_ops.specs.declared.op.Op.TheVariants.{Fetch, FetchPi, Overwrite, Put, Seal, Show, Write, WritePi}
 use Rattle.stack_ops.specs.declared.reply.Reply.{Reply}
 use Rattle.stack_ops.specs.declared.reply.Reply.TheVariants.{Bad, Shown, Silent, Whole}
 use Rattle.target_answer.specs.Frames.{tuple_of}
@@ -28,9 +29,11 @@ use Rattle.block_path.specs.Routes.{target}
 use Rattle.block_path.specs.WayIn.{from_wire}
 use Rattle.block_path.specs.WayOut.{to_wire}
 use Rattle.whole_run.specs.Settings.{Setting}
+use Rattle.whole_run.specs.CalmRun.{IsCalmRun}
 use Rattle.whole_run.specs.PlainMap.{plain_map, plain_replies}
 use Rattle.whole_run.specs.ScriptWalk.{script_replies, script_walk}
-use Rattle.whole_run.specs.UnderMap.{IsClean, opened, under}
+use Rattle.whole_run.specs.UnderMap.{IsClean, address_of, home, opened, under}
+use Rattle.whole_run.proofs.TupleFrames.{no}
 
 -- Scripts worked by hand, on pages of 1,100 bytes and a unit of five formatted blocks. Virtual block 0 lies at address 2.
 
@@ -230,3 +233,55 @@ formatted_is_clean = record { no_escape = refl; guard = refl; app = refl; rtag =
 
 misplaced_is_not : (tuple_of 512 (formatted 3)).rtag ≡ 3
 misplaced_is_not = refl
+
+-- A run that meets all that the law asks for.
+pub calm_run : IsCalmRun (calm Ip true true One) one_block opening
+unfolding crc
+calm_run = record {
+  calm = record { faults = refl; device = refl; fails = λ op. refl; protect = omega arith; mask = λ h. no (sym h) };
+  pages = All-replicate (λ x. x < 256) 1100 0 (omega arith);
+  lies = record { within = within; apart = apart; size = size; bytes = bytes };
+  clean = clean;
+  fit = ((record { within = omega arith; bytes_are = refl }, omega arith), (omega arith, (tt, tt)));
+  no_escape = ((λ h. refl, tt), ((tt, tt), ((tt, tt), tt)));
+}
+  where
+    within : (v : ℕ) → v < 3 → home (calm Ip true true One) v < 5
+    within zero l = omega arith
+    within (suc zero) l = omega arith
+    within (suc (suc zero)) l = omega arith
+    within (suc (suc (suc v))) l = absurd (omega (arith, l))
+
+    apart : (u v : ℕ) → u < 3 → v < 3 → home (calm Ip true true One) u ≡ home (calm Ip true true One) v → u ≡ v
+    apart zero zero k l e = refl
+    apart zero (suc zero) k l e = absurd (omega (arith, e))
+    apart zero (suc (suc zero)) k l e = absurd (omega (arith, e))
+    apart (suc zero) zero k l e = absurd (omega (arith, e))
+    apart (suc zero) (suc zero) k l e = refl
+    apart (suc zero) (suc (suc zero)) k l e = absurd (omega (arith, e))
+    apart (suc (suc zero)) zero k l e = absurd (omega (arith, e))
+    apart (suc (suc zero)) (suc zero) k l e = absurd (omega (arith, e))
+    apart (suc (suc zero)) (suc (suc zero)) k l e = refl
+    apart (suc (suc (suc u))) v k l e = absurd (omega (arith, k))
+    apart u (suc (suc (suc v))) k l e = absurd (omega (arith, l))
+
+    size : (v : ℕ) → v < 3 → length (get_or opening.blocks (home (calm Ip true true One) v) []) ≡ 520
+    size zero l = refl
+    size (suc zero) l = refl
+    size (suc (suc zero)) l = refl
+    size (suc (suc (suc v))) l = absurd (omega (arith, l))
+
+    made_of_bytes : (a : ℕ) → a < 256 → All (λ x. x < 256) (formatted a)
+    made_of_bytes a l = All-append (λ x. x < 256) (replicate 519 0) (a ∷ []) (All-replicate (λ x. x < 256) 519 0 (omega arith)) (All-cons (λ x. x < 256) a [] l (All-nil (λ x. x < 256)))
+
+    bytes : (v : ℕ) → v < 3 → All (λ x. x < 256) (get_or opening.blocks (home (calm Ip true true One) v) [])
+    bytes zero l = made_of_bytes 2 (omega arith)
+    bytes (suc zero) l = made_of_bytes 3 (omega arith)
+    bytes (suc (suc zero)) l = made_of_bytes 4 (omega arith)
+    bytes (suc (suc (suc v))) l = absurd (omega (arith, l))
+
+    clean : (v : ℕ) → v < 3 → false ≡ false → IsClean (calm Ip true true One) (address_of (calm Ip true true One) v) (get_or opening.blocks (home (calm Ip true true One) v) [])
+    clean zero l h = record { no_escape = refl; guard = refl; app = refl; rtag = λ k. refl }
+    clean (suc zero) l h = record { no_escape = refl; guard = refl; app = refl; rtag = λ k. refl }
+    clean (suc (suc zero)) l h = record { no_escape = refl; guard = refl; app = refl; rtag = λ k. refl }
+    clean (suc (suc (suc v))) l h = absurd (omega (arith, l))

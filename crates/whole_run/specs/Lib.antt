@@ -13,3 +13,4 @@ pub mod Steps
 pub mod ScriptWalk
 pub mod PlainMap
 pub mod UnderMap
+pub mod CalmRun

@@ -1,4 +1,4 @@
-use Rattle.std.specs.Prelude.{ℕ, suc, ◌+◌, Bool, false, not, ◌&&◌, ◌||◌, eqb, if◌then◌else◌, List, [], ◌∷◌, drop, get_or, set, Option, Some, None, bit_and}
+use Rattle.std.specs.Prelude.{ℕ, suc, Bool, false, not, ◌&&◌, ◌||◌, eqb, if◌then◌else◌, List, [], ◌∷◌, drop, get_or, set, Option, Some, None, bit_and}
 use Rattle.pi_guard.specs.Guards.{guard_of}
 use Rattle.pi_tuple.specs.Finds.{first_of, has_ref_tag, is_zero}
 use Rattle.pi_tuple.specs.Tuples.{ref_tag, tuple_bytes}

@@ -1,8 +1,7 @@
-use Rattle.std.specs.Prelude.{ℕ, suc, Bool, true, false, eqb, if◌then◌else◌, List, [], ◌∷◌, map, get_or, Option, Some, None}
+use Rattle.std.specs.Prelude.{ℕ, suc, Bool, if◌then◌else◌, List, [], ◌∷◌, map, get_or, Option, Some, None}
 use Rattle.pi_guard.specs.Guards.{guard_of}
 use Rattle.pi_tuple.specs.Tuples.{tuple_bytes}
 use Rattle.fault_schedule.specs.Altered.{byte_at, xored_from}
-use Rattle.range_gate.specs.Cells.{Cells}
 use Rattle.rig_api.specs.declared.change.Change.{Change}
 use Rattle.rig_api.specs.declared.change.Change.TheVariants.{Copy, Flip}
 use Rattle.bio_core.specs.declared.fate.Why.{Why}

@@ -7,6 +7,7 @@ mod op;
 mod plain_map;
 mod reply;
 mod senses;
+mod script_laws;
 mod shown;
 
 pub use laws::{formatted_is_clean, walk_is_plain, walk_lists_exactly};
@@ -14,6 +15,7 @@ pub use op::{Op, Part};
 pub use plain_map::plain_report;
 pub use reply::Reply;
 pub use senses::why_by;
+pub use script_laws::a_calm_walk_is_a_plain_map;
 pub use shown::ShownBytes;
 
 #[cfg(test)]
