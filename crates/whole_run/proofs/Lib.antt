@@ -9,4 +9,5 @@ pub mod CalmWays
 pub mod MapUnder
 pub mod PlainSteps
 pub mod CalmRuns
+pub mod AnyOrder
 pub mod Slowly

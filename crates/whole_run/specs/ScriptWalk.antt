@@ -1,4 +1,4 @@
-use Rattle.std.specs.Prelude.{ℕ, suc, Bool, if◌then◌else◌, List, [], ◌∷◌, map, get_or, Option, Some, None}
+use Rattle.std.specs.Prelude.{ℕ, suc, Bool, if◌then◌else◌, List, [], ◌∷◌, map, get_or, Option, Some, None, ◌++◌, length, take, drop}
 use Rattle.pi_guard.specs.Guards.{guard_of}
 use Rattle.pi_tuple.specs.Tuples.{tuple_bytes}
 use Rattle.fault_schedule.specs.Altered.{byte_at, xored_from}
@@ -109,3 +109,14 @@ script_walk m ops s = walk_from m 1 ops s
 
 abbrev pub script_replies : Setting → List Op → State → List Reply
 script_replies m ops s = replies_from m 1 ops s
+
+-- all acts of the ops from op i on, one op after another
+abbrev pub acts_from : Setting → (i : ℕ) → List Op → List (Act Answer)
+acts_from m i [] = []
+acts_from m i (op ∷ ops) = acts_of m i op ++ acts_from m (suc i) ops
+
+-- the replies that the answers of all acts make
+abbrev pub replies_by : Setting → (i : ℕ) → List Op → List Answer → List Reply
+replies_by m i [] answers = []
+replies_by m i (op ∷ ops) answers =
+    reply_of (m.fails i) op (take (length (acts_of m i op)) answers) ∷ replies_by m (suc i) ops (drop (length (acts_of m i op)) answers)

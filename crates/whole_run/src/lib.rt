@@ -16,6 +16,9 @@ pub use plain_map::plain_report;
 pub use reply::Reply;
 pub use senses::why_by;
 pub use script_laws::a_calm_walk_is_a_plain_map;
+pub use script_laws::{
+    a_calm_walk_is_a_plain_map, any_calm_order_is_a_plain_map, any_order_is_the_walk,
+};
 pub use shown::ShownBytes;
 
 #[cfg(test)]
