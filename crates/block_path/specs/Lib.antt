@@ -3,7 +3,5 @@ pub mod Blocks
 pub mod Moves
 pub mod Routes
 pub mod Serial
-pub mod Routes
-pub mod Serial
 pub mod WayIn
 pub mod WayOut

@@ -19,8 +19,3 @@ pub use route::Route;
 
 #[cfg(test)]
 mod tests;
-mod mode;
-mod route;
-
-pub use mode::Mode;
-pub use route::Route;
