@@ -3,7 +3,8 @@ pub mod Walks
 pub mod Listing
 pub mod Plainly
 mod Rows
-mod ScriptRows
+pub mod ScriptRows
+mod FaultRows
 pub mod TupleFrames
 pub mod CalmWays
 pub mod MapUnder

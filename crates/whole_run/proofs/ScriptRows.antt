@@ -37,7 +37,7 @@ use Rattle.whole_run.proofs.TupleFrames.{no}
 
 -- Scripts worked by hand, on pages of 1,100 bytes and a unit of five formatted blocks. Virtual block 0 lies at address 2.
 
-abbrev with_faults : GuardKind → Bool → Bool → PiType → (app mask : ℕ) → List FaultLine → Setting
+abbrev pub with_faults : GuardKind → Bool → Bool → PiType → (app mask : ℕ) → List FaultLine → Setting
 with_faults kind dix dif ty app mask faults = record {
   mode = record { kind = kind; dix = dix; dif = dif; protect = 1; app = app; mask = mask };
   ty = ty;
@@ -50,16 +50,16 @@ with_faults kind dix dif ty app mask faults = record {
 abbrev calm : GuardKind → Bool → Bool → PiType → Setting
 calm kind dix dif ty = with_faults kind dix dif ty 0 0 []
 
-abbrev seg : (off len : ℕ) → List Seg
+abbrev pub seg : (off len : ℕ) → List Seg
 seg off len = record { page = 0; off = off; len = len } ∷ []
 
 abbrev first_seg : (off len : ℕ) → Seg
 first_seg off len = record { page = 0; off = off; len = len }
 
-abbrev formatted : ℕ → List ℕ
+abbrev pub formatted : ℕ → List ℕ
 formatted a = replicate 519 0 ++ (a ∷ [])
 
-abbrev opening : State
+abbrev pub opening : State
 opening = record {
   bytes = replicate 1100 0;
   blocks = formatted 0 ∷ formatted 1 ∷ formatted 2 ∷ formatted 3 ∷ formatted 4 ∷ [];
@@ -96,7 +96,7 @@ stripped_stored : stored_at (calm Ip true false One) one_block 2 ≡ 0 ∷ 0 ∷
 unfolding crc ip found_in to_medium from_medium to_wire from_wire run
 stripped_stored = refl
 
-abbrev write_and_read : List Op
+abbrev pub write_and_read : List Op
 write_and_read = Write 0 1 (seg 0 512) 0 ∷ Fetch 0 1 (seg 0 512) ∷ []
 
 inserted_stored : stored_at (calm Ip false true Two) write_and_read 2 ≡ 0 ∷ 0 ∷ 0 ∷ 0 ∷ 0 ∷ 0 ∷ 0 ∷ 2 ∷ []
@@ -117,13 +117,13 @@ foreign_tag : script_replies (calm Crc true true One)
 unfolding crc ip found_in to_medium from_medium to_wire from_wire run
 foreign_tag = refl
 
-abbrev flip : (op k : ℕ) → Crossing → (off byte : ℕ) → List FaultLine
+abbrev pub flip : (op k : ℕ) → Crossing → (off byte : ℕ) → List FaultLine
 flip op k at off byte = record { op = op; k = k; at = at; kind = Flip off (byte ∷ []) } ∷ []
 
-abbrev shift : (op : ℕ) → Crossing → ℤ → List FaultLine
+abbrev pub shift : (op : ℕ) → Crossing → ℤ → List FaultLine
 shift op at by = record { op = op; k = 0; at = at; kind = Shift by } ∷ []
 
-abbrev faulty : List FaultLine → Setting
+abbrev pub faulty : List FaultLine → Setting
 faulty faults = with_faults Crc true true One 0 0 faults
 
 on_the_wire_out : script_replies (faulty (flip 1 0 AdapterToTarget 0 1)) write_and_read opening ≡ lists 0 (Target Guard) ∷ Whole ∷ []

@@ -14,3 +14,6 @@ pub mod ScriptWalk
 pub mod PlainMap
 pub mod UnderMap
 pub mod CalmRun
+pub mod Past
+pub mod FirstLayer
+pub mod Detectable
