@@ -1,4 +1,5 @@
 use Rattle.std.proofs.Common.{ℕ, ◌≡◌, true, List, [], ◌∷◌, length, Some, None, refl, sym, ap, ◌∙◌, arith, append-nil}
+use Rattle.image_commands.specs.Views.{Seen}
 use Rattle.std.specs.Prelude.{replicate}
 use Rattle.std.proofs.lemmas.List.{length-replicate}
 use Rattle.dix_base.specs.Told.{Calm}
@@ -11,7 +12,7 @@ use Rattle.whole_run.specs.declared.reply.Reply.TheVariants as reply
 use Rattle.whole_run.specs.Ops.{part}
 use Rattle.whole_run.specs.Walk.{Answered, is_medium_line, page_after}
 use Rattle.whole_run.specs.Telling.{answer_to, answered_by}
-use Rattle.dix_cli.specs.Runs.{Did, IsSmall, Seen}
+use Rattle.dix_cli.specs.Runs.{Did, IsSmall}
 
 -- the unit with other blocks has them
 pub blocks_put : (us : List Stored) (blocks : List (List ℕ)) → length (unit_at us 0).blocks ≡ 4 → (unit_at (with_blocks us 0 blocks) 0).blocks ≡ blocks

@@ -1,11 +1,34 @@
-use Rattle.std.proofs.Common.{ℕ, ◌≡◌, Bool, if◌then◌else◌, List, Option}
+use Rattle.std.proofs.Common.{ℕ, ◌≡◌, inr, Bool, true, false, if◌then◌else◌, List, length, Option, Some, None, refl, ◌∙◌, arith}
+use Rattle.target_answer.specs.declared.units.UnitSpec.{UnitSpec}
+use Rattle.volume_table.specs.declared.device.DeviceInfo.{DeviceInfo}
+use Rattle.pi_scrub.specs.declared.found.Found.{Found}
+use Rattle.image_commands.specs.Causes.{CauseUnformatted, CauseUnmigrated, CauseUnscrubbed, HasSpared, WasFormatted, WasMigrated, WasScrubbed}
+use Rattle.image_commands.specs.declared.fault.Fault.{Fault}
+use Rattle.dix_words.specs.Grammar.{command_in, image_in}
+use Rattle.dix_words.specs.declared.command.Command.{Command}
+use Rattle.dix_words.specs.declared.command.Command.TheVariants.{Run, Trace, Format, Migrate, Mirror, Scrub, Nvme, Modes, Big}
+use Rattle.dix_cli.specs.declared.refusal.Refusal.TheVariants as refusal
+use Rattle.image_commands.specs.Views.{View}
 use Rattle.dix_cli.specs.Ready.{IsReady}
 use Rattle.dix_cli.specs.Runs.{Ran, StandsSmall}
-use Rattle.dix_cli.specs.Verdict.{CauseRefused, Ended, Facts, Finished, Refused, View, Written, refusal_text, status_of}
+use Rattle.dix_cli.specs.Verdict.{CauseByCommand, CauseRefused, Ended, Facts, Finished, Formatted, LeavesSource, Migrated, Refused, Scrubbed, Written, fault_of, refusal_text, status_of, verdict_status, verdict_text}
 use Rattle.dix_cli.specs.declared.program.Ready.{Ready}
 use Rattle.dix_cli.specs.declared.refusal.Refusal.{Refusal}
 use Rattle.dix_cli.specs.declared.status.Status.{Status}
 use Rattle.dix_cli.specs.declared.status.Status.TheVariants as status
+
+-- no command, or one that isn't built
+abbrev pub not_built : Option Command → Bool
+not_built None = true
+not_built (Some Run) = false
+not_built (Some Trace) = true
+not_built (Some (Format us)) = false
+not_built (Some Migrate) = false
+not_built (Some Mirror) = true
+not_built (Some Scrub) = false
+not_built (Some Nvme) = true
+not_built (Some (Modes ty)) = true
+not_built (Some (Big n seed)) = true
 
 -- a call that came to a run
 pub ended_run : (f : Facts) (looked after : View) (ready : Ready) (bad : Bool) (page text : List ℕ) (old new : Option (List ℕ)) (o n : ℕ) (result : Status) →
@@ -31,6 +54,59 @@ ended_run f looked after ready bad page text old new o n result r device e ran s
   written = written;
 }
 
--- a call that came to none
-pub ended_refused : (f : Facts) (r : Refusal) (old new : Option (List ℕ)) (o n : ℕ) (result : Status) → CauseRefused r f → Written (status_of r) (refusal_text r) old new o n result → Ended f old new o n result
-ended_refused f r old new o n result cause written = record { verdict = Refused r; cause = cause; written = written }
+-- a call of run IMAGE that came to none
+pub ended_refused : (f : Facts) (r : Refusal) (old new : Option (List ℕ)) (o n : ℕ) (result : Status) → command_in f.words ≡ Some Run → CauseRefused r f → Written (status_of r) (refusal_text r) old new o n result → Ended f old new o n result
+ended_refused f r old new o n result named cause written = record { verdict = Refused r; cause = (rw named cause); written = written }
+
+-- a call of no command that is built
+pub ended_none : (f : Facts) (old new : Option (List ℕ)) (o n : ℕ) (result : Status) → f.rig_after ≡ f.rig → LeavesSource f → not_built (command_in f.words) ≡ true → Written status.Words (refusal_text refusal.Words) old new o n result → Ended f old new o n result
+ended_none f old new o n result rig source none written = record { verdict = Refused refusal.Words; cause = by (command_in f.words) none; written = written }
+  where
+    by : (c : Option Command) → not_built c ≡ true → CauseByCommand c refusal.Words f
+    by None e = (refl, rig, source)
+    by (Some Run) e = absurd (cc)
+    by (Some Trace) e = (refl, rig, source)
+    by (Some (Format us)) e = absurd (cc)
+    by (Some Migrate) e = absurd (cc)
+    by (Some Mirror) e = (refl, rig, source)
+    by (Some Scrub) e = absurd (cc)
+    by (Some Nvme) e = (refl, rig, source)
+    by (Some (Modes ty)) e = (refl, rig, source)
+    by (Some (Big n seed)) e = (refl, rig, source)
+
+pub ended_format : (f : Facts) (us : List UnitSpec) (n : ℕ) (old new : Option (List ℕ)) (o m : ℕ) (result : Status) → command_in f.words ≡ Some (Format us) → n ≡ length us → WasFormatted (image_in f.words) us f.rig f.rig_after → LeavesSource f →
+    Written status.Whole (verdict_text (Formatted n)) old new o m result → Ended f old new o m result
+ended_format f us n old new o m result named number done source written = record { verdict = Formatted n; cause = record { units = us; named = named; number = number; done = done; source = source }; written = written }
+
+pub unformatted : (f : Facts) (us : List UnitSpec) (r : Refusal) (x : Fault) (old new : Option (List ℕ)) (o m : ℕ) (result : Status) → command_in f.words ≡ Some (Format us) → fault_of r ≡ Some x → CauseUnformatted x (image_in f.words) f.rig f.rig_after → LeavesSource f →
+    Written (status_of r) (refusal_text r) old new o m result → Ended f old new o m result
+unformatted f us r x old new o m result named e cause source written = record { verdict = Refused r; cause = (rw (named, e) (cause, source)); written = written }
+
+pub ended_migrate : (f : Facts) (n : ℕ) (old new : Option (List ℕ)) (o m : ℕ) (result : Status) → command_in f.words ≡ Some Migrate → WasMigrated (image_in f.words) n f.rig f.rig_after → LeavesSource f → Written status.Whole (verdict_text (Migrated n)) old new o m result → Ended f old new o m result
+ended_migrate f n old new o m result named done source written = record { verdict = Migrated n; cause = record { named = named; done = done; source = source }; written = written }
+
+pub unmigrated : (f : Facts) (r : Refusal) (x : Fault) (old new : Option (List ℕ)) (o m : ℕ) (result : Status) → command_in f.words ≡ Some Migrate → fault_of r ≡ Some x → CauseUnmigrated x (image_in f.words) f.rig f.rig_after → LeavesSource f →
+    Written (status_of r) (refusal_text r) old new o m result → Ended f old new o m result
+unmigrated f r x old new o m result named e cause source written = record { verdict = Refused r; cause = (rw (named, e) (cause, source)); written = written }
+
+pub ended_scrub : (f : Facts) (devices : List DeviceInfo) (found : List Found) (old new : Option (List ℕ)) (o m : ℕ) (result : Status) → command_in f.words ≡ Some Scrub → WasScrubbed (image_in f.words) devices found f.rig f.rig_after → LeavesSource f →
+    Written (verdict_status (Scrubbed devices found)) (verdict_text (Scrubbed devices found)) old new o m result → Ended f old new o m result
+ended_scrub f devices found old new o m result named done source written = record { verdict = Scrubbed devices found; cause = record { named = named; done = done; source = source }; written = written }
+
+pub unscrubbed : (f : Facts) (r : Refusal) (x : Fault) (old new : Option (List ℕ)) (o m : ℕ) (result : Status) → command_in f.words ≡ Some Scrub → fault_of r ≡ Some x → CauseUnscrubbed x (image_in f.words) f.rig f.rig_after → LeavesSource f →
+    Written (status_of r) (refusal_text r) old new o m result → Ended f old new o m result
+unscrubbed f r x old new o m result named e cause source written = record { verdict = Refused r; cause = (rw (named, e) (cause, source)); written = written }
+
+-- a scrub without the memory for its text leaves every stored block
+pub scrub_spared : (name : List ℕ) (devices : List DeviceInfo) (found : List Found) (old new : View) → WasScrubbed name devices found old new → HasSpared name old new
+scrub_spared name devices found old new d = inr (
+  d.discovered.between,
+  record {
+    opened = d.discovered.since.opened;
+    kept = d.discovered.since.kept;
+    laid = d.discovered.since.laid;
+    units = d.units ∙ d.discovered.since.units;
+    standing = d.standing ∙ d.discovered.since.standing;
+    count = omega (arith, d.count, d.discovered.since.count);
+  },
+)

@@ -1,4 +1,5 @@
 use Rattle.std.proofs.Common.{ℕ, ◌≡◌, ◌+◌, ◌<◌, ◌≤◌, ◌^◌, true, List, [], ◌∷◌, ◌++◌, length, Option, Some, None, refl, sym, ap, subst, ◌∙◌, arith}
+use Rattle.image_commands.specs.Views.{Seen}
 use Rattle.std.specs.Prelude.{nat_le, nat_lt, replicate}
 use Rattle.std.proofs.lemmas.Bool.{ltb-true}
 use Rattle.std.proofs.lemmas.List.{length-replicate}
@@ -17,7 +18,7 @@ use Rattle.whole_run.specs.Telling.{answer_to}
 use Rattle.whole_run.proofs.Walks.{and_left, and_right, made_length, part_length, read_blocks_length, read_medium, read_never_unanswered, within, write_blocks_length, write_medium, write_never_unanswered}
 use Rattle.whole_run.proofs.OneBlock.{small_answer, write_decoded, write_is}
 use Rattle.dix_cli.proofs.Acts.{still_small}
-use Rattle.dix_cli.specs.Runs.{Did, IsSmall, Seen}
+use Rattle.dix_cli.specs.Runs.{Did, IsSmall}
 
 -- a write sends nothing
 write_sends : (labels : List Label) (blocks : List (List ℕ)) (block : ℕ) (frame : List ℕ) (room : ℕ) → block < 2 ^ 32 → block < length blocks → length frame ≡ 520 → (small_answer labels blocks (write_ten block) frame room None).sent ≡ []

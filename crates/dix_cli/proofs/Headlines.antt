@@ -1,4 +1,5 @@
 use Rattle.std.proofs.Common.{ℕ, zero, suc, ◌≡◌, ◌+◌, ◌*◌, ◌≤◌, ◌⊎◌, inl, inr, Bool, true, false, if◌then◌else◌, List, [], ◌∷◌, ◌++◌, length, take, drop, Option, Some, None, refl, sym, ap, subst, ◌∙◌, arith, append-nil, length-append, length-drop}
+use Rattle.image_commands.specs.Views.{OpenedOnce, View, WasOpened}
 use Rattle.std.specs.Prelude.{nat_le}
 use Rattle.std.specs.List.{list_all, list_any}
 use Rattle.std.proofs.lemmas.Bool.{leb-true}
@@ -21,10 +22,18 @@ use Rattle.whole_run.specs.Walk.{State, begun, is_bad, walk}
 use Rattle.whole_run.specs.Plain.{AreClean, Plain, plain_run, under}
 use Rattle.whole_run.specs.Report.{report}
 use Rattle.whole_run.proofs.Plainly.{walk_plain}
-use Rattle.dix_cli.specs.Words.{image_in, is_run}
+use Rattle.volume_table.specs.declared.device.DeviceInfo.{DeviceInfo}
+use Rattle.pi_scrub.specs.declared.found.Found.{Found}
+use Rattle.image_commands.specs.Causes.{CauseUnformatted, CauseUnmigrated, CauseUnscrubbed, HasOpened, HasSpared, WasScrubbed}
+use Rattle.image_commands.specs.declared.fault.Fault.{Fault}
+use Rattle.image_commands.specs.declared.fault.Fault.TheVariants as fault
+use Rattle.dix_words.specs.Grammar.{command_in, image_in}
+use Rattle.dix_words.specs.declared.command.Command.{Command}
+use Rattle.dix_words.specs.declared.command.Command.TheVariants.{Run, Trace, Format, Migrate, Mirror, Scrub, Nvme, Modes, Big}
+use Rattle.dix_cli.specs.Words.{is_run, is_run_command}
 use Rattle.dix_cli.specs.Reading.{IsOver, IsWhole, most_bytes, script_of}
 use Rattle.dix_cli.specs.Headline.{Carries, IsComplete, IsRun, OpensOnce, RunEqualsPlain, blocks_of_image}
-use Rattle.dix_cli.specs.Verdict.{Cause, CauseRefused, Ended, Facts, Finished, HasRun, IsNotBuilt, ReadsAs, Refused, Verdict, View, WasOpened, Written, status_of, verdict_status, verdict_text}
+use Rattle.dix_cli.specs.Verdict.{ByFault, Cause, CauseByCommand, CauseRefused, Ended, Facts, Finished, Formatted, HasFormatted, HasMigrated, HasNoCommand, HasRun, HasScrubbed, IsNotBuilt, Migrated, ReadsAs, Refused, Scrubbed, Verdict, Written, fault_of, status_of, verdict_status, verdict_text}
 use Rattle.dix_cli.specs.declared.refusal.Refusal.{Refusal}
 use Rattle.dix_cli.specs.declared.refusal.Refusal.TheVariants as refusal
 use Rattle.dix_cli.specs.declared.status.Status.{Status}
@@ -131,25 +140,61 @@ ran_plainly f bad text image ops r same fit e clean calm laid ready =
       image_is = told_after f.rig_after.standing image f.rig_after.image f.rig_after.seen.units _ devices' small' head' laid ready final;
     }
 
--- the verdict of a call whose status is that of a run
-verdict_is : (v : Verdict) (result : Status) → IsRun result → (result ≡ verdict_status v) ⊎ (result ≡ status.WriteFault) → (bad : Bool) × (text : List ℕ) × (v ≡ Finished bad text) × (result ≡ (if bad then status.SomeBad else status.Whole))
-verdict_is (Finished bad text) result r (inl e) = (bad, text, refl, e)
-verdict_is (Refused refusal.Words) result (inl r) (inl e) = absurd (cc)
-verdict_is (Refused refusal.Words) result (inr r) (inl e) = absurd (cc)
-verdict_is (Refused refusal.Script) result (inl r) (inl e) = absurd (cc)
-verdict_is (Refused refusal.Script) result (inr r) (inl e) = absurd (cc)
-verdict_is (Refused (refusal.Image x)) result (inl r) (inl e) = absurd (cc)
-verdict_is (Refused (refusal.Image x)) result (inr r) (inl e) = absurd (cc)
-verdict_is (Refused refusal.NotBuilt) result (inl r) (inl e) = absurd (cc)
-verdict_is (Refused refusal.NotBuilt) result (inr r) (inl e) = absurd (cc)
-verdict_is (Refused refusal.RigFault) result (inl r) (inl e) = absurd (cc)
-verdict_is (Refused refusal.RigFault) result (inr r) (inl e) = absurd (cc)
-verdict_is (Refused refusal.Memory) result (inl r) (inl e) = absurd (cc)
-verdict_is (Refused refusal.Memory) result (inr r) (inl e) = absurd (cc)
-verdict_is (Refused refusal.ReadFault) result (inl r) (inl e) = absurd (cc)
-verdict_is (Refused refusal.ReadFault) result (inr r) (inl e) = absurd (cc)
-verdict_is v result (inl r) (inr e) = absurd (cc)
-verdict_is v result (inr r) (inr e) = absurd (cc)
+-- the verdict of a run
+record Ran (v : Verdict) (result : Status) : Type 0 where
+  bad : Bool
+  text : List ℕ
+  is : v ≡ Finished bad text
+  status_is : result ≡ (if bad then status.SomeBad else status.Whole)
+
+of_run : (c : Option Command) (r : Refusal) (f : Facts) → is_run_command c ≡ true → CauseByCommand c r f → CauseRefused r f
+of_run None r f e cause = absurd (cc)
+of_run (Some Run) r f e cause = cause
+of_run (Some Trace) r f e cause = absurd (cc)
+of_run (Some (Format us)) r f e cause = absurd (cc)
+of_run (Some Migrate) r f e cause = absurd (cc)
+of_run (Some Mirror) r f e cause = absurd (cc)
+of_run (Some Scrub) r f e cause = absurd (cc)
+of_run (Some Nvme) r f e cause = absurd (cc)
+of_run (Some (Modes ty)) r f e cause = absurd (cc)
+of_run (Some (Big n seed)) r f e cause = absurd (cc)
+
+not_run : (words : List (List ℕ)) (c : Command) → command_in words ≡ Some c → is_run words ≡ true → is_run_command (Some c) ≡ false → ⊥
+not_run words c e w n = let k : is_run_command (Some c) ≡ true = ap is_run_command (sym e) ∙ w in cc
+
+no_format : (n : ℕ) (f : Facts) → is_run f.words ≡ true → HasFormatted n f → ⊥
+no_format n f w c = not_run f.words (Format c.units) c.named w refl
+
+no_migrate : (n : ℕ) (f : Facts) → is_run f.words ≡ true → HasMigrated n f → ⊥
+no_migrate n f w c = not_run f.words Migrate c.named w refl
+
+no_scrub : (ds : List DeviceInfo) (found : List Found) (f : Facts) → is_run f.words ≡ true → HasScrubbed ds found f → ⊥
+no_scrub ds found f w c = not_run f.words Scrub c.named w refl
+
+refused_none : (r : Refusal) (result : Status) → IsRun result → result ≡ status_of r → ⊥
+refused_none refusal.Words result (inl r) e = cc
+refused_none refusal.Words result (inr r) e = cc
+refused_none refusal.Script result (inl r) e = cc
+refused_none refusal.Script result (inr r) e = cc
+refused_none (refusal.Image x) result (inl r) e = cc
+refused_none (refusal.Image x) result (inr r) e = cc
+refused_none (refusal.BadCapacity dev) result (inl r) e = cc
+refused_none (refusal.BadCapacity dev) result (inr r) e = cc
+refused_none refusal.NotBuilt result (inl r) e = cc
+refused_none refusal.NotBuilt result (inr r) e = cc
+refused_none refusal.RigFault result (inl r) e = cc
+refused_none refusal.RigFault result (inr r) e = cc
+refused_none refusal.Memory result (inl r) e = cc
+refused_none refusal.Memory result (inr r) e = cc
+refused_none refusal.ReadFault result (inl r) e = cc
+refused_none refusal.ReadFault result (inr r) e = cc
+
+verdict_is : (f : Facts) (v : Verdict) (result : Status) → is_run f.words ≡ true → Cause v f → IsRun result → result ≡ verdict_status v → Ran v result
+verdict_is f (Finished bad text) result w c r e = record { bad = bad; text = text; is = refl; status_is = e }
+verdict_is f (Refused x) result w c r e = absurd (refused_none x result r e)
+verdict_is f (Formatted n) result w c r e = absurd (no_format n f w c)
+verdict_is f (Migrated n) result w c r e = absurd (no_migrate n f w c)
+verdict_is f (Scrubbed ds found) result w c r e = absurd (no_scrub ds found f w c)
 
 appended_to : (text written : List ℕ) (old new : Option (List ℕ)) → old ≡ Some written → Appended text old new → new ≡ Some (written ++ text)
 appended_to text written None new e a = absurd (cc)
@@ -176,16 +221,16 @@ whole_of bad result e r = rw e at r
 
 pub headline_holds : (f : Facts) (taken taken' : Option (List ℕ)) (o n : ℕ) (result : Status) → Ended f taken taken' o n result → f.rig_after.seen.units ≡ units_told f.rig_after.standing f.rig_after.image →
     IsStanding f.rig_after.standing f.rig_after.image → RunEqualsPlain f taken taken' result
-headline_holds f taken taken' o n result ended laid ready = λ text image written ops left script told sink clean calm run.
+headline_holds f taken taken' o n result ended laid ready = λ text image written ops words left script told sink clean calm run.
     let w = written_run (verdict_status ended.verdict) (verdict_text ended.verdict) taken taken' o n result ended.written run in
-    let v = verdict_is ended.verdict result run (inl w.0) in
-    let cause : HasRun f v.0 v.1 = subst (λ (x : Verdict). Cause x f) v.2 ended.cause in
+    let v = verdict_is f ended.verdict result words ended.cause run w.0 in
+    let cause : HasRun f v.bad v.text = subst (λ (x : Verdict). Cause x f) v.is ended.cause in
     let same : cause.ops ≡ ops = some_is cause.ops ops (same_script f text (Some ops) (Some cause.ops) left script cause.read) in
     let fit = script_fits cause.read.0 cause.ops (script_limited cause.read.0 cause.ops cause.read.2) in
-    let plain = ran_plainly f v.0 v.1 image ops cause same fit told clean calm laid ready in
+    let plain = ran_plainly f v.bad v.text image ops cause same fit told clean calm laid ready in
     record {
-      good = whole_of v.0 result plain.good v.3;
-      report_is = appended_to (verdict_text ended.verdict) written taken taken' sink w.1 ∙ ap (λ t. Some (written ++ t)) (ap verdict_text v.2 ∙ plain.text_is);
+      good = whole_of v.bad result plain.good v.status_is;
+      report_is = appended_to (verdict_text ended.verdict) written taken taken' sink w.1 ∙ ap (λ t. Some (written ++ t)) (ap verdict_text v.is ∙ plain.text_is);
       image_is = plain.image_is;
     }
 
@@ -235,20 +280,23 @@ refused_for_memory : (f : Facts) (r : Refusal) (text image : List ℕ) (ops : Li
 refused_for_memory f refusal.Words text image ops w l s i h u cr cf c = let e : is_run f.words ≡ false = c.0 in absurd (cc)
 refused_for_memory f refusal.Script text image ops w l s i h u cr cf c = absurd (no_script f text ops l s c.2)
 refused_for_memory f (refusal.Image fault) text image ops w l s i h u cr cf c = absurd (no_head_fault image fault f.rig f.rig_after (image_in f.words) i c.2.image h c.3)
+refused_for_memory f (refusal.BadCapacity dev) text image ops w l s i h u cr cf c = absurd c
 refused_for_memory f refusal.NotBuilt text image ops w l s i h u cr cf c = absurd (built image f.rig f.rig_after (image_in f.words) i u c.2)
 refused_for_memory f refusal.RigFault text image ops w l s i h u cr cf c = absurd (never_rose f.rig.seen.faults f.rig_after.seen.faults cf c.3)
 refused_for_memory f refusal.Memory text image ops w l s i h u cr cf c = refl
 refused_for_memory f refusal.ReadFault text image ops w l s i h u cr cf c = absurd (never_rose f.reads f.reads_after cr c.2)
 
-run_or_memory : (v : Verdict) (bad : Bool) (text : List ℕ) → v ≡ Finished bad text → IsRun (verdict_status v)
-run_or_memory (Refused r) bad text e = absurd (cc)
-run_or_memory (Finished true t) bad text e = inr refl
-run_or_memory (Finished false t) bad text e = inl refl
+run_or_memory : (bad : Bool) (text : List ℕ) → IsRun (verdict_status (Finished bad text))
+run_or_memory true text = inr refl
+run_or_memory false text = inl refl
 
 verdict_run : (f : Facts) (v : Verdict) (text image : List ℕ) (ops : List Op) → is_run f.words ≡ true → f.left ≡ Some text → script_of text ≡ Some ops → f.rig.image ≡ Some image → head_fault (head_of image) ≡ None → units_of (head_of image) ≡ small_spec ∷ [] →
     Calm f.reads f.reads_after → Calm f.rig.seen.faults f.rig_after.seen.faults → Cause v f → IsRun (verdict_status v) ⊎ (verdict_status v ≡ status.Memory)
-verdict_run f (Refused r) text image ops w l s i h u cr cf c = inr (refused_for_memory f r text image ops w l s i h u cr cf c)
-verdict_run f (Finished bad t) text image ops w l s i h u cr cf c = inl (run_or_memory (Finished bad t) bad t refl)
+verdict_run f (Refused r) text image ops w l s i h u cr cf c = inr (refused_for_memory f r text image ops w l s i h u cr cf (of_run (command_in f.words) r f w c))
+verdict_run f (Finished bad t) text image ops w l s i h u cr cf c = inl (run_or_memory bad t)
+verdict_run f (Formatted n) text image ops w l s i h u cr cf c = absurd (no_format n f w c)
+verdict_run f (Migrated n) text image ops w l s i h u cr cf c = absurd (no_migrate n f w c)
+verdict_run f (Scrubbed ds found) text image ops w l s i h u cr cf c = absurd (no_scrub ds found f w c)
 
 as_written : (v : Verdict) (old new : Option (List ℕ)) (o n : ℕ) (result : Status) → Calm o n → Written (verdict_status v) (verdict_text v) old new o n result → result ≡ verdict_status v
 as_written v old new o n result c (inl w) = w.0
@@ -262,15 +310,70 @@ complete_holds f taken taken' o n result ended = λ text image ops w l s i h u c
 stayed : (a b : View) → b ≡ a → Stayed a.standing b.standing
 stayed a b e = (ap (λ (v : View). v.standing.openings) e, ap (λ (v : View). v.standing.name) e)
 
+refused_opens : (f : Facts) (r : Refusal) → CauseRefused r f → OpensOnce f
+refused_opens f refusal.Words c = inl (stayed f.rig f.rig_after c.1)
+refused_opens f refusal.Script c = inl (stayed f.rig f.rig_after c.1)
+refused_opens f (refusal.Image fault) c = inr c.3.opened
+refused_opens f (refusal.BadCapacity dev) c = absurd c
+refused_opens f refusal.NotBuilt c = inr (ap (λ (s : Standing). s.openings) c.2.looked.standing ∙ c.2.opened.opened.0, ap (λ (s : Standing). s.name) c.2.looked.standing ∙ c.2.opened.opened.1)
+refused_opens f refusal.RigFault c = inr c.4
+refused_opens f refusal.Memory c = c.2
+refused_opens f refusal.ReadFault c = inl (stayed f.rig f.rig_after c.1)
+
+opened_still : (name : List ℕ) (old between new : View) → HasOpened name old between new → OpenedOnce name old.standing new.standing
+opened_still name old between new o = inr (ap (λ (s : Standing). s.openings) o.standing ∙ o.opened.opened.0, ap (λ (s : Standing). s.name) o.standing ∙ o.opened.opened.1)
+
+format_opens : (x : Option Fault) (name : List ℕ) (old new : View) → ByFault CauseUnformatted x name old new → OpenedOnce name old.standing new.standing
+format_opens None name old new c = absurd c
+format_opens (Some (fault.Image f)) name old new c = absurd c
+format_opens (Some (fault.BadCapacity dev)) name old new c = absurd c
+format_opens (Some fault.RigFault) name old new c = inr c.1
+format_opens (Some fault.Memory) name old new c = c.0
+
+migrate_opens : (x : Option Fault) (name : List ℕ) (old new : View) → ByFault CauseUnmigrated x name old new → OpenedOnce name old.standing new.standing
+migrate_opens None name old new c = absurd c
+migrate_opens (Some (fault.Image f)) name old new c = inr c.0.opened
+migrate_opens (Some (fault.BadCapacity dev)) name old new c = absurd c
+migrate_opens (Some fault.RigFault) name old new c = inr c.1
+migrate_opens (Some fault.Memory) name old new c = c.1
+
+spared_opens : (name : List ℕ) (old new : View) → HasSpared name old new → OpenedOnce name old.standing new.standing
+spared_opens name old new (inl c) = c.1
+spared_opens name old new (inr c) = opened_still name old c.0 new c.1
+
+scrub_opens : (x : Option Fault) (name : List ℕ) (old new : View) → ByFault CauseUnscrubbed x name old new → OpenedOnce name old.standing new.standing
+scrub_opens None name old new c = absurd c
+scrub_opens (Some (fault.Image f)) name old new c = inr c.0.opened
+scrub_opens (Some (fault.BadCapacity dev)) name old new c = opened_still name old c.between new c.since
+scrub_opens (Some fault.RigFault) name old new c = inr c.1
+scrub_opens (Some fault.Memory) name old new c = spared_opens name old new c
+
+none_opens : (f : Facts) (r : Refusal) → HasNoCommand r f → OpensOnce f
+none_opens f r c = inl (stayed f.rig f.rig_after c.1)
+
+command_opens : (f : Facts) (c : Option Command) (r : Refusal) → CauseByCommand c r f → OpensOnce f
+command_opens f None r cause = none_opens f r cause
+command_opens f (Some Run) r cause = refused_opens f r cause
+command_opens f (Some Trace) r cause = none_opens f r cause
+command_opens f (Some (Format us)) r cause = format_opens (fault_of r) (image_in f.words) f.rig f.rig_after cause.0
+command_opens f (Some Migrate) r cause = migrate_opens (fault_of r) (image_in f.words) f.rig f.rig_after cause.0
+command_opens f (Some Mirror) r cause = none_opens f r cause
+command_opens f (Some Scrub) r cause = scrub_opens (fault_of r) (image_in f.words) f.rig f.rig_after cause.0
+command_opens f (Some Nvme) r cause = none_opens f r cause
+command_opens f (Some (Modes ty)) r cause = none_opens f r cause
+command_opens f (Some (Big n seed)) r cause = none_opens f r cause
+
 opens : (f : Facts) (v : Verdict) → Cause v f → OpensOnce f
-opens f (Refused refusal.Words) c = inl (stayed f.rig f.rig_after c.1)
-opens f (Refused refusal.Script) c = inl (stayed f.rig f.rig_after c.1)
-opens f (Refused (refusal.Image fault)) c = inr c.3.opened
-opens f (Refused refusal.NotBuilt) c = inr (ap (λ (s : Standing). s.openings) c.2.looked.standing ∙ c.2.opened.opened.0, ap (λ (s : Standing). s.name) c.2.looked.standing ∙ c.2.opened.opened.1)
-opens f (Refused refusal.RigFault) c = inr c.4
-opens f (Refused refusal.Memory) c = c.2
-opens f (Refused refusal.ReadFault) c = inl (stayed f.rig f.rig_after c.1)
+opens f (Refused r) c = command_opens f (command_in f.words) r c
 opens f (Finished bad text) c = inr (ap (λ (s : Standing). s.openings) (c.standing ∙ c.small.standing) ∙ c.opened.opened.0, ap (λ (s : Standing). s.name) (c.standing ∙ c.small.standing) ∙ c.opened.opened.1)
+opens f (Formatted n) c = inr c.done.opened
+opens f (Migrated n) c = inr c.done.opened
+opens f (Scrubbed ds found) c = scrubbed_opens (image_in f.words) ds found f.rig f.rig_after c.done
+  where
+    scrubbed_opens : (name : List ℕ) (devices : List DeviceInfo) (faults : List Found) (old new : View) → WasScrubbed name devices faults old new → OpenedOnce name old.standing new.standing
+    scrubbed_opens name devices faults old new d =
+        let to : new.standing ≡ d.discovered.between.standing = d.standing ∙ d.discovered.since.standing in
+        inr (ap (λ (s : Standing). s.openings) to ∙ d.discovered.since.opened.opened.0, ap (λ (s : Standing). s.name) to ∙ d.discovered.since.opened.opened.1)
 
 pub opens_once : (f : Facts) (taken taken' : Option (List ℕ)) (o n : ℕ) (result : Status) → Ended f taken taken' o n result → OpensOnce f
 opens_once f taken taken' o n result ended = opens f ended.verdict ended.cause

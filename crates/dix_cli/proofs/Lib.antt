@@ -9,4 +9,5 @@ mod Lines
 mod Looking
 mod Numbers
 mod Running
-mod WordLemmas
+mod Layouts
+mod ScrubLines

@@ -1,4 +1,5 @@
 use Rattle.std.proofs.Common.{ℕ, zero, suc, ◌≡◌, ◌+◌, ◌-◌, ◌^◌, ◌≤◌, inl, inr, Bool, true, false, ◌&&◌, List, [], ◌∷◌, ◌++◌, length, take, drop, Option, Some, None, refl, sym, ap, ◌∙◌, arith, append-nil}
+use Rattle.image_commands.specs.Views.{View}
 use Rattle.std.specs.Prelude.{replicate, slice_index_or, is_some}
 use Rattle.std.specs.Int.{w64, from_be_bytes, to_be_bytes}
 use Rattle.std.proofs.lemmas.Nat.{from_be_bytes-to_be_bytes_8}
@@ -15,7 +16,7 @@ use Rattle.rig_api.specs.Telling.{HasCause, IsAnswer, Standing, answer_of, at_fr
 use Rattle.rig_api.specs.declared.rig.Outcome.{Outcome}
 use Rattle.whole_run.specs.Small.{small_spec}
 use Rattle.dix_cli.specs.Runs.{StandsSmall}
-use Rattle.dix_cli.specs.Verdict.{IsSpent, Looked, View, look, small_data}
+use Rattle.dix_cli.specs.Verdict.{IsSpent, Looked, look, small_data}
 use Rattle.image_rig.proofs.Heads.{right_layout}
 
 -- What READ CAPACITY tells of the units of an image.

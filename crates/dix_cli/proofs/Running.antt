@@ -1,4 +1,5 @@
 use Rattle.std.proofs.Common.{ℕ, suc, ◌≡◌, ◌+◌, ◌≤◌, inl, Bool, true, false, cond, ◌||◌, List, [], ◌∷◌, ◌++◌, length, Option, Some, refl, sym, ap, subst, ◌∙◌, arith, append-nil, append_assoc}
+use Rattle.image_commands.specs.Views.{Seen}
 use Rattle.std.specs.Prelude.{codes, count_by, replicate}
 use Rattle.std.specs.List.{list_any}
 use Rattle.std.proofs.lemmas.List.{length-map}
@@ -16,7 +17,7 @@ use Rattle.whole_run.specs.Telling.{Told, answer_to, answered_by, served, told_w
 use Rattle.whole_run.proofs.Walks.{ops_of_more, replies_length, told_walk_more, walk_more}
 use Rattle.whole_run.proofs.Listing.{walk_listed}
 use Rattle.dix_cli.proofs.Acts.{blocks_put}
-use Rattle.dix_cli.specs.Runs.{Did, IsSmall, Ran, RoseBy, Seen, Spent}
+use Rattle.dix_cli.specs.Runs.{Did, IsSmall, Ran, RoseBy, Spent}
 
 lines_more : (n : ℕ) (rs : List Reply) (r : Reply) → lines_from n (rs ++ (r ∷ [])) ≡ lines_from n rs ++ lines_of (n + length rs) r
 lines_more n [] r = let e : n + 0 ≡ n = omega arith in rw e (append-nil (lines_of n r))

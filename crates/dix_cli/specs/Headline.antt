@@ -1,4 +1,5 @@
 use Rattle.std.specs.Prelude.{ℕ, ◌≡◌, ◌⊎◌, true, List, [], ◌∷◌, ◌++◌, take, drop, Option, Some, None}
+use Rattle.image_commands.specs.Views.{OpenedOnce}
 use Rattle.dix_base.specs.Told.{Calm}
 use Rattle.target_answer.specs.Frames.{frames_of, joined}
 use Rattle.rig_api.specs.Head.{head_fault, head_of, units_of}
@@ -6,9 +7,10 @@ use Rattle.whole_run.specs.declared.op.Op.{Op}
 use Rattle.whole_run.specs.Plain.{AreClean, Plain, plain_run, under}
 use Rattle.whole_run.specs.Report.{report}
 use Rattle.whole_run.specs.Small.{small_spec}
-use Rattle.dix_cli.specs.Words.{image_in, is_run}
+use Rattle.dix_words.specs.Grammar.{image_in}
+use Rattle.dix_cli.specs.Words.{is_run}
 use Rattle.dix_cli.specs.Reading.{script_of}
-use Rattle.dix_cli.specs.Verdict.{Ended, Facts, OpenedOnce}
+use Rattle.dix_cli.specs.Verdict.{Ended, Facts}
 use Rattle.dix_cli.specs.declared.status.Status.{Status}
 use Rattle.dix_cli.specs.declared.status.Status.TheVariants.{Whole, SomeBad, Memory}
 
@@ -29,7 +31,7 @@ pub record LeavesPlain (p : Plain) (image written : List ℕ) (result : Status) 
 -- A run of this script over this clean image, without a fault of the rig, equals its ops on the plain map.
 abbrev pub RunEqualsPlain : Facts → Option (List ℕ) → Option (List ℕ) → Status → Type 0
 RunEqualsPlain f taken taken' result =
-    (text image written : List ℕ) (ops : List Op) → f.left ≡ Some text → script_of text ≡ Some ops → f.rig.image ≡ Some image → taken ≡ Some written →
+    (text image written : List ℕ) (ops : List Op) → is_run f.words ≡ true → f.left ≡ Some text → script_of text ≡ Some ops → f.rig.image ≡ Some image → taken ≡ Some written →
     AreClean 0 (blocks_of_image image) → Calm f.rig.seen.faults f.rig_after.seen.faults → IsRun result →
     LeavesPlain (plain_run (blocks_of_image image) ops) image written result taken' f.rig_after.image
 

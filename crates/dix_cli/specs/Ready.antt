@@ -1,10 +1,12 @@
 use Rattle.std.specs.Prelude.{◌≡◌, ◌*◌, ◌≤◌, true, false, length, codes, Some, None}
+use Rattle.image_commands.specs.Views.{HasKept, View, WasOpened}
 use Rattle.std.specs.List.{list_all}
 use Rattle.whole_run.specs.Ops.{fits}
-use Rattle.dix_cli.specs.Words.{image_in, is_run}
+use Rattle.dix_words.specs.Grammar.{image_in}
+use Rattle.dix_cli.specs.Words.{is_run}
 use Rattle.dix_cli.specs.Runs.{room_for}
 use Rattle.rig_api.specs.Telling.{units_told}
-use Rattle.dix_cli.specs.Verdict.{Facts, HasKept, Looked, ReadsAs, View, WasOpened}
+use Rattle.dix_cli.specs.Verdict.{Facts, Looked, ReadsAs}
 use Rattle.dix_cli.specs.declared.program.Ready.{Ready}
 
 -- All is ready for the first op: the words are right, the script is read, the image is opened, and the memory is taken.

@@ -1,6 +1,7 @@
 use Rattle.std.specs.Prelude.{ℕ, ◌≡◌, ◌+◌, ◌-◌, ◌^◌, ◌≤◌, ◌⊎◌, Bool, true, false, List, ◌++◌, length, count_by, Option, Some, vec_capacity, vec_len}
 use Rattle.std.specs.Global.{Vec}
 use Rattle.std.specs.List.{list_any}
+use Rattle.image_commands.specs.Views.{Seen}
 use Rattle.dix_base.specs.Told.{Calm, Rose}
 use Rattle.rig_api.specs.Log.{Entry, Room}
 use Rattle.target_answer.specs.Target.{Stored}
@@ -12,15 +13,6 @@ use Rattle.whole_run.specs.Walk.{Answered, Turn, begun, is_bad, is_medium_line, 
 use Rattle.whole_run.specs.Telling.{answer_to, answered_by, told_walk}
 use Rattle.whole_run.specs.Laws.{AreListedExactly}
 use Rattle.whole_run.specs.Report.{report}
-
--- what a rig means at a moment, as far as an op changes it
-pub record Seen : Type 0 where
-  pub units : Option (List Stored)
-  pub log : List Entry
-  pub faults : ℕ
-
-abbrev pub seen : Option (List Stored) → List Entry → ℕ → Seen
-seen units log faults = record { units = units; log = log; faults = faults }
 
 -- There is one device, with blocks of 512 bytes.
 abbrev pub StandsSmall : Standing → Type 0

@@ -1,4 +1,5 @@
-use Rattle.std.specs.Prelude.{ℕ, ◌≡◌, ◌+◌, ◌≤◌, ◌⊎◌, ◌↔◌, Bool, true, false, if◌then◌else◌, List, [], ◌∷◌, ◌++◌, codes, Option, Some, None}
+use Rattle.std.specs.Prelude.{ℕ, ◌≡◌, ◌+◌, ◌≤◌, ◌⊎◌, ◌↔◌, Bool, true, false, if◌then◌else◌, List, [], ◌∷◌, ◌++◌, length, codes, decimal, Option, Some, None}
+use Rattle.image_commands.specs.Views.{HasKept, OpenedOnce, View, WasOpened}
 use Rattle.dix_base.specs.Told.{Appended, AppendedSome, Rose}
 use Rattle.target_answer.specs.Target.{capacity_data}
 use Rattle.rig_api.specs.Head.{IsHeadOf, fault_name, head_fault, units_of}
@@ -8,22 +9,23 @@ use Rattle.rig_api.specs.declared.rig.Outcome.{Outcome}
 use Rattle.rig_api.specs.declared.rig.RigFault.{RigFault}
 use Rattle.whole_run.specs.Small.{small_spec}
 use Rattle.whole_run.specs.declared.op.Op.{Op}
-use Rattle.dix_cli.specs.Words.{image_in, is_run}
+use Rattle.target_answer.specs.declared.units.UnitSpec.{UnitSpec}
+use Rattle.volume_table.specs.declared.device.DeviceInfo.{DeviceInfo}
+use Rattle.pi_scrub.specs.declared.found.Found.{Found}
+use Rattle.image_commands.specs.Causes.{CauseUnformatted, CauseUnmigrated, CauseUnscrubbed, WasFormatted, WasMigrated, WasScrubbed}
+use Rattle.image_commands.specs.declared.fault.Fault.{Fault}
+use Rattle.image_commands.specs.declared.fault.Fault.TheVariants as fault
+use Rattle.dix_words.specs.Grammar.{command_in, image_in}
+use Rattle.dix_words.specs.declared.command.Command.{Command}
+use Rattle.dix_words.specs.declared.command.Command.TheVariants.{Run, Trace, Format, Migrate, Mirror, Scrub, Nvme, Modes, Big}
+use Rattle.dix_cli.specs.ScrubText.{has_some, scrub_text}
+use Rattle.dix_cli.specs.Words.{is_run}
 use Rattle.dix_cli.specs.Reading.{IsOver, IsWhole, script_of}
-use Rattle.dix_cli.specs.Runs.{Ran, Seen, StandsSmall}
+use Rattle.dix_cli.specs.Runs.{Ran, StandsSmall}
 use Rattle.dix_cli.specs.declared.status.Status.{Status}
 use Rattle.dix_cli.specs.declared.status.Status.TheVariants as status
 use Rattle.dix_cli.specs.declared.refusal.Refusal.{Refusal}
 use Rattle.dix_cli.specs.declared.refusal.Refusal.TheVariants as refusal
-
--- all that a rig means at a moment, but for its spare room
-pub record View : Type 0 where
-  pub image : Option (List ℕ)
-  pub standing : Standing
-  pub seen : Seen
-
-abbrev pub view : Option (List ℕ) → Standing → Seen → View
-view image standing seen = record { image = image; standing = standing; seen = seen }
 
 -- what a call of the program speaks of: its words, the source and the rig, before and after
 pub record Facts : Type 0 where
@@ -38,22 +40,6 @@ pub record Facts : Type 0 where
 -- The source was read to its end; it held a text with these ops, or one that is no script.
 abbrev pub ReadsAs : Option (List Op) → Option (List ℕ) → Option (List ℕ) → Type 0
 ReadsAs ops old new = (text : List ℕ) × IsWhole text old new × (script_of text ≡ ops)
-
--- The image of this name was opened once more, and its head has this fault or none.
-pub record WasOpened (name : List ℕ) (fault : Option RigFault) (old new : View) : Type 0 where
-  pub opened : Opened name old.standing new.standing
-  pub judged : head_fault new.standing.head ≡ fault
-  pub head : IsHeadOf new.standing.head new.image
-
--- The image of this name was opened once more, or none was opened.
-abbrev pub OpenedOnce : List ℕ → Standing → Standing → Type 0
-OpenedOnce name old new = Stayed old new ⊎ Opened name old new
-
--- The image's bytes and the records are as before, and the count of faults didn't fall.
-pub record HasKept (old new : View) : Type 0 where
-  pub image : new.image ≡ old.image
-  pub log : new.seen.log ≡ old.seen.log
-  pub count : old.seen.faults ≤ new.seen.faults
 
 -- READ CAPACITY(16) with room for 32 bytes (SBC-3, 5.16)
 abbrev pub look : List ℕ
@@ -93,6 +79,7 @@ abbrev pub status_of : Refusal → Status
 status_of refusal.Words = status.Words
 status_of refusal.Script = status.Script
 status_of (refusal.Image fault) = status.Image
+status_of (refusal.BadCapacity dev) = status.Image
 status_of refusal.NotBuilt = status.Image
 status_of refusal.RigFault = status.RigFault
 status_of refusal.Memory = status.Memory
@@ -100,9 +87,10 @@ status_of refusal.ReadFault = status.ReadFault
 
 -- the text of a refusal
 abbrev pub refusal_text : Refusal → List ℕ
-refusal_text refusal.Words = codes "usage: dix run IMAGE, trace IMAGE, format IMAGE T:BLOCKS.., big N SEED\n"
+refusal_text refusal.Words = codes "usage: dix run IMAGE, format IMAGE T:BLOCKS.., migrate IMAGE, scrub IMAGE\n"
 refusal_text refusal.Script = codes "script 0 0 NotBuilt\n"
 refusal_text (refusal.Image fault) = codes "image " ++ (fault_name fault ++ codes "\n")
+refusal_text (refusal.BadCapacity dev) = codes "device " ++ (decimal dev ++ codes " BadCapacity\n")
 refusal_text refusal.NotBuilt = codes "image NotBuilt\n"
 refusal_text refusal.RigFault = codes "rig fault\n"
 refusal_text refusal.Memory = codes "no memory\n"
@@ -113,6 +101,7 @@ abbrev pub CauseUnread : Refusal → Option (List ℕ) → Option (List ℕ) →
 CauseUnread refusal.Words old new o n = ⊥
 CauseUnread refusal.Script old new o n = ReadsAs None old new ⊎ IsOver old new
 CauseUnread (refusal.Image fault) old new o n = ⊥
+CauseUnread (refusal.BadCapacity dev) old new o n = ⊥
 CauseUnread refusal.NotBuilt old new o n = ⊥
 CauseUnread refusal.RigFault old new o n = ⊥
 CauseUnread refusal.Memory old new o n = Unit {0}
@@ -123,6 +112,7 @@ abbrev pub CauseUnopened : Refusal → List ℕ → View → View → Type 0
 CauseUnopened refusal.Words name old new = ⊥
 CauseUnopened refusal.Script name old new = ⊥
 CauseUnopened (refusal.Image fault) name old new = WasOpened name (Some fault) old new
+CauseUnopened (refusal.BadCapacity dev) name old new = ⊥
 CauseUnopened refusal.NotBuilt name old new = ⊥
 CauseUnopened refusal.RigFault name old new = Rose old.seen.faults new.seen.faults × Opened name old.standing new.standing
 CauseUnopened refusal.Memory name old new = Unit {0}
@@ -135,11 +125,12 @@ pub record IsNotBuilt (name : List ℕ) (old new : View) : Type 0 where
   pub kept : HasKept old between
   pub looked : Looked false between new
 
--- Why a call comes to no run. The image's bytes and the records are as before, but for the one of READ CAPACITY; where the image isn't opened all is.
+-- Why a call of run IMAGE comes to no run. The image's bytes and the records are as before, but for the one of READ CAPACITY; where the image isn't opened all is.
 abbrev pub CauseRefused : Refusal → Facts → Type 0
 CauseRefused refusal.Words f = (is_run f.words ≡ false) × (f.rig_after ≡ f.rig) × (f.left_after ≡ f.left) × (f.reads_after ≡ f.reads)
 CauseRefused refusal.Script f = (is_run f.words ≡ true) × (f.rig_after ≡ f.rig) × (ReadsAs None f.left f.left_after ⊎ IsOver f.left f.left_after)
 CauseRefused (refusal.Image fault) f = (is_run f.words ≡ true) × ((ops : List Op) × ReadsAs (Some ops) f.left f.left_after) × HasKept f.rig f.rig_after × WasOpened (image_in f.words) (Some fault) f.rig f.rig_after
+CauseRefused (refusal.BadCapacity dev) f = ⊥
 CauseRefused refusal.NotBuilt f = (is_run f.words ≡ true) × ((ops : List Op) × ReadsAs (Some ops) f.left f.left_after) × IsNotBuilt (image_in f.words) f.rig f.rig_after
 CauseRefused refusal.RigFault f =
     (is_run f.words ≡ true) × ((ops : List Op) × ReadsAs (Some ops) f.left f.left_after) × HasKept f.rig f.rig_after
@@ -163,22 +154,91 @@ pub record HasRun (f : Facts) (bad : Bool) (text : List ℕ) : Type 0 where
   pub page : List ℕ
   pub ran : Ran ops page text bad looked.seen f.rig_after.seen
 
+-- the fault by which a command on an image is refused
+abbrev pub fault_of : Refusal → Option Fault
+fault_of refusal.Words = None
+fault_of refusal.Script = None
+fault_of (refusal.Image x) = Some (fault.Image x)
+fault_of (refusal.BadCapacity dev) = Some (fault.BadCapacity dev)
+fault_of refusal.NotBuilt = None
+fault_of refusal.RigFault = Some fault.RigFault
+fault_of refusal.Memory = Some fault.Memory
+fault_of refusal.ReadFault = None
+
+-- The refusal is by a fault that has its cause.
+abbrev pub ByFault : (Fault → List ℕ → View → View → Type 0) → Option Fault → List ℕ → View → View → Type 0
+ByFault Cause None name old new = ⊥
+ByFault Cause (Some x) name old new = Cause x name old new
+
+-- The source is as before.
+abbrev pub LeavesSource : Facts → Type 0
+LeavesSource f = (f.left_after ≡ f.left) × (f.reads_after ≡ f.reads)
+
+-- The words are not in the grammar, or their command isn't built; the rig and the source are as before.
+abbrev pub HasNoCommand : Refusal → Facts → Type 0
+HasNoCommand r f = (r ≡ refusal.Words) × (f.rig_after ≡ f.rig) × LeavesSource f
+
+-- why a call is refused, by its command
+abbrev pub CauseByCommand : Option Command → Refusal → Facts → Type 0
+CauseByCommand None r f = HasNoCommand r f
+CauseByCommand (Some Run) r f = CauseRefused r f
+CauseByCommand (Some Trace) r f = HasNoCommand r f
+CauseByCommand (Some (Format us)) r f = ByFault CauseUnformatted (fault_of r) (image_in f.words) f.rig f.rig_after × LeavesSource f
+CauseByCommand (Some Migrate) r f = ByFault CauseUnmigrated (fault_of r) (image_in f.words) f.rig f.rig_after × LeavesSource f
+CauseByCommand (Some Mirror) r f = HasNoCommand r f
+CauseByCommand (Some Scrub) r f = ByFault CauseUnscrubbed (fault_of r) (image_in f.words) f.rig f.rig_after × LeavesSource f
+CauseByCommand (Some Nvme) r f = HasNoCommand r f
+CauseByCommand (Some (Modes ty)) r f = HasNoCommand r f
+CauseByCommand (Some (Big n seed)) r f = HasNoCommand r f
+
+-- The image of the words was formatted with the n units that they name.
+pub record HasFormatted (n : ℕ) (f : Facts) : Type 0 where
+  pub units : List UnitSpec
+  pub named : command_in f.words ≡ Some (Format units)
+  pub number : n ≡ length units
+  pub done : WasFormatted (image_in f.words) units f.rig f.rig_after
+  pub source : LeavesSource f
+
+-- The image of the words was migrated.
+pub record HasMigrated (n : ℕ) (f : Facts) : Type 0 where
+  pub named : command_in f.words ≡ Some Migrate
+  pub done : WasMigrated (image_in f.words) n f.rig f.rig_after
+  pub source : LeavesSource f
+
+-- The image of the words was scrubbed.
+pub record HasScrubbed (devices : List DeviceInfo) (found : List Found) (f : Facts) : Type 0 where
+  pub named : command_in f.words ≡ Some Scrub
+  pub done : WasScrubbed (image_in f.words) devices found f.rig f.rig_after
+  pub source : LeavesSource f
+
 -- what a call comes to, before it writes the text
 pub data Verdict : Type 0 where
   Refused : Refusal → Verdict
   Finished : Bool → List ℕ → Verdict
+  Formatted : ℕ → Verdict
+  Migrated : ℕ → Verdict
+  Scrubbed : List DeviceInfo → List Found → Verdict
 
 abbrev pub verdict_status : Verdict → Status
 verdict_status (Refused r) = status_of r
 verdict_status (Finished bad text) = if bad then status.SomeBad else status.Whole
+verdict_status (Formatted n) = status.Whole
+verdict_status (Migrated n) = status.Whole
+verdict_status (Scrubbed devices found) = if has_some found then status.SomeBad else status.Whole
 
 abbrev pub verdict_text : Verdict → List ℕ
 verdict_text (Refused r) = refusal_text r
 verdict_text (Finished bad text) = text
+verdict_text (Formatted n) = codes "formatted " ++ (decimal n ++ codes "\n")
+verdict_text (Migrated n) = codes "migrated " ++ (decimal n ++ codes "\n")
+verdict_text (Scrubbed devices found) = scrub_text devices found
 
 abbrev pub Cause : Verdict → Facts → Type 0
-Cause (Refused r) f = CauseRefused r f
+Cause (Refused r) f = CauseByCommand (command_in f.words) r f
 Cause (Finished bad text) f = HasRun f bad text
+Cause (Formatted n) f = HasFormatted n f
+Cause (Migrated n) f = HasMigrated n f
+Cause (Scrubbed devices found) f = HasScrubbed devices found f
 
 -- The text was written whole, and the status is the verdict's; or the sink failed, and a prefix of the text was written.
 abbrev pub Written : Status → List ℕ → Option (List ℕ) → Option (List ℕ) → ℕ → ℕ → Status → Type 0

@@ -1,6 +1,8 @@
-//! The program `dix`: runs a script on a disk image and prints a report.
+//! The program `dix`: makes disk images and looks after them, runs a script on one and prints a
+//! report.
 #![tactic(auto)]
 
+mod commands;
 mod fate;
 mod frames;
 mod opening;
@@ -11,10 +13,10 @@ mod report;
 mod requests;
 mod runner;
 mod script;
+mod scrub_text;
 mod status;
 #[cfg(test)]
 mod tests;
-mod words;
 mod writing;
 
 use dix_base::{FileStore, StdinSource, StdoutSink};

@@ -1,13 +1,14 @@
 //! What comes before the first op: words, script, image, room.
 
 ghost use Rattle.std.specs.Prelude.{◌≡◌, ◌⊎◌, ◌+◌, ◌*◌, ◌≤◌, [], true, false, length, IfErr, IfOk, MatchResult, OnOk, Some, None, codes};
+ghost use Rattle.image_commands.specs.Views.{HasKept, WasOpened, seen, view};
 ghost use Rattle.std.specs.List.{list_all};
 ghost use Rattle.rig_api.specs.Log.{HasRoom};
 ghost use Rattle.rig_api.specs.Head.{head_fault, units_of};
 ghost use Rattle.rig_api.specs.Telling.{Opened, Stayed, greatest_size};
 ghost use Rattle.whole_run.specs.Ops.{fits};
-ghost use Rattle.dix_cli.specs.Runs.{StandsSmall, room_for, seen};
-ghost use Rattle.dix_cli.specs.Verdict.{CauseUnopened, CauseUnread, HasKept, IsSpent, Looked, ReadsAs, WasOpened, look, small_data, view};
+ghost use Rattle.dix_cli.specs.Runs.{StandsSmall, room_for};
+ghost use Rattle.dix_cli.specs.Verdict.{CauseUnopened, CauseUnread, IsSpent, Looked, ReadsAs, look, small_data};
 
 use crate::reading::{Unread, read_all};
 use crate::refusal::Refusal;
@@ -15,7 +16,8 @@ use crate::runner::Report;
 use crate::script::read_script;
 use dix_base::Source;
 use fault_schedule::FaultList;
-use rig_api::{Rig, RigFault};
+use image_commands::open_image;
+use rig_api::Rig;
 use std::alloc::Global;
 use whole_run::Op;
 
@@ -48,13 +50,9 @@ pub(crate) fn open<R: Rig>(alloc: Global, image: &str, rig: &mut R) -> Result<()
     ensures kept { HasKept (view (R.image rig.old) (R.standing rig.old) (seen (R.units rig.old) (R.log rig.old) (R.faults rig.old))) (view (R.image rig.new) (R.standing rig.new) (seen (R.units rig.new) (R.log rig.new) (R.faults rig.new))) }
     ensures opening { Stayed (R.standing rig.old) (R.standing rig.new) ⊎ Opened image.now (R.standing rig.old) (R.standing rig.new) }
 {
-    match rig.open(alloc, image) {
+    match open_image(alloc, image, rig) {
         Ok(()) => Ok(()),
-        Err(RigFault::Failed) => Err(Refusal::RigFault),
-        Err(RigFault::Memory) => Err(Refusal::Memory),
-        Err(RigFault::BadMagic) => Err(Refusal::Image(RigFault::BadMagic)),
-        Err(RigFault::BadHeader) => Err(Refusal::Image(RigFault::BadHeader)),
-        Err(RigFault::BadLength) => Err(Refusal::Image(RigFault::BadLength)),
+        Err(fault) => Err(Refusal::of(fault)),
     }
 }
 

@@ -1,10 +1,11 @@
 //! Why a call comes to no run.
 
-ghost use Rattle.std.specs.Prelude.{◌≡◌};
-ghost use Rattle.dix_cli.specs.Verdict.{refusal_text, status_of};
+ghost use Rattle.std.specs.Prelude.{◌≡◌, Some};
+ghost use Rattle.dix_cli.specs.Verdict.{fault_of, refusal_text, status_of};
 
-use crate::report::{Line, add};
+use crate::report::{Line, add, add_number};
 use crate::status::Status;
+use image_commands::Fault;
 use rig_api::RigFault;
 
 /// Why a call comes to no run.
@@ -16,9 +17,14 @@ pub enum Refusal {
     Script,
     /// The image's head has this fault.
     Image(RigFault),
+    /// This device's answer to READ CAPACITY(16) is at fault.
+    BadCapacity {
+        /// The number of the device, from 0.
+        dev: u32,
+    },
     /// The image has other units than the one that is served.
     NotBuilt,
-    /// The rig failed as the image was opened.
+    /// The rig failed as the image was opened or written.
     RigFault,
     /// Want of memory.
     Memory,
@@ -27,6 +33,18 @@ pub enum Refusal {
 }
 
 impl Refusal {
+    /// The refusal that a fault of an image's command is.
+    pub(crate) fn of(fault: Fault) -> Refusal
+        ensures { fault_of result ≡ Some fault }
+    {
+        match fault {
+            Fault::Image(fault) => Refusal::Image(fault),
+            Fault::BadCapacity { dev } => Refusal::BadCapacity { dev },
+            Fault::RigFault => Refusal::RigFault,
+            Fault::Memory => Refusal::Memory,
+        }
+    }
+
     /// The status of the refusal.
     pub(crate) fn status(self) -> Status
         ensures { result ≡ status_of self }
@@ -35,6 +53,7 @@ impl Refusal {
             Refusal::Words => Status::Words,
             Refusal::Script => Status::Script,
             Refusal::Image(_) => Status::Image,
+            Refusal::BadCapacity { .. } => Status::Image,
             Refusal::NotBuilt => Status::Image,
             Refusal::RigFault => Status::RigFault,
             Refusal::Memory => Status::Memory,
@@ -55,6 +74,11 @@ impl Refusal {
                 add(&mut line, fault.name().as_bytes());
                 add(&mut line, b"\n");
             }
+            Refusal::BadCapacity { dev } => {
+                add(&mut line, b"device ");
+                add_number(&mut line, dev);
+                add(&mut line, b" BadCapacity\n");
+            }
             Refusal::NotBuilt => add(&mut line, b"image NotBuilt\n"),
             Refusal::RigFault => add(&mut line, b"rig fault\n"),
             Refusal::Memory => add(&mut line, b"no memory\n"),
@@ -64,4 +88,4 @@ impl Refusal {
     }
 }
 
-const USAGE: &[u8] = b"usage: dix run IMAGE, trace IMAGE, format IMAGE T:BLOCKS.., big N SEED\n";
+const USAGE: &[u8] = b"usage: dix run IMAGE, format IMAGE T:BLOCKS.., migrate IMAGE, scrub IMAGE\n";

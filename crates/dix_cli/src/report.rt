@@ -25,7 +25,7 @@ pub(crate) fn add(line: &mut Line, piece: &[u8])
     }
 }
 
-fn add_number(line: &mut Line, number: u32)
+pub(crate) fn add_number(line: &mut Line, number: u32)
     requires { length line.old.items + 40 ≤ 256 }
     ensures items { line.new.items ≡ line.old.items ++ decimal number }
     ensures bound { length line.new.items ≤ length line.old.items + 40 }
@@ -72,7 +72,7 @@ fn add_refused(line: &mut Line, key: u8, asc: u8, ascq: u8)
     add_hex(line, &[ascq]);
 }
 
-fn add_why(line: &mut Line, why: Why)
+pub(crate) fn add_why(line: &mut Line, why: Why)
     requires { length line.old.items ≤ 128 }
     ensures items { line.new.items ≡ line.old.items ++ why_text why }
     ensures bound { length line.new.items ≤ length line.old.items + 32 }

@@ -1,7 +1,8 @@
 //! What each op does: requests go to the rig, the others stay in the page.
 
 ghost use Rattle.std.specs.Prelude.{◌≡◌, [], true, length};
-ghost use Rattle.dix_cli.specs.Runs.{Did, Spent, StandsSmall, seen};
+ghost use Rattle.image_commands.specs.Views.{seen};
+ghost use Rattle.dix_cli.specs.Runs.{Did, Spent, StandsSmall};
 ghost use Rattle.rig_api.specs.Log.{HasRoom};
 ghost use Rattle.whole_run.specs.Ops.{fits, part};
 ghost use Rattle.whole_run.specs.declared.reply.Reply.{Reply};

@@ -1,10 +1,11 @@
 //! Runs the ops of a script, one after another.
 
 ghost use Rattle.std.specs.Prelude.{◌≡◌, ◌+◌, ◌*◌, ◌≤◌, ◌++◌, ◌||◌, [], true, false, IfOk, List, codes, length, ℕ};
+ghost use Rattle.image_commands.specs.Views.{seen};
 ghost use Rattle.whole_run.specs.Report.{lines_of};
 ghost use Rattle.whole_run.specs.Walk.{is_bad};
 ghost use Rattle.std.specs.List.{list_all};
-ghost use Rattle.dix_cli.specs.Runs.{Ran, StandsSmall, room_for, seen};
+ghost use Rattle.dix_cli.specs.Runs.{Ran, StandsSmall, room_for};
 ghost use Rattle.rig_api.specs.Log.{HasRoom};
 ghost use Rattle.whole_run.specs.Ops.{fits};
 

@@ -300,44 +300,94 @@ fn a_script_is_bounded(rt: HostRuntime) -> Result<(), Fail> {
     Ok(())
 }
 
+/// The usage line.
+const USAGE: &str = "usage: dix run IMAGE, format IMAGE T:BLOCKS.., migrate IMAGE, scrub IMAGE\n";
+
+/// Words that are in the grammar, with bars between them, and what their command writes over a
+/// formatted image of one unit of type 1 with four blocks.
+const COMMANDS: [(&str, &str); 7] = [
+    ("run|a", "dix report 1\n"),
+    ("run|a-b c", "dix report 1\n"),
+    ("format|a|1:4", "formatted 1\n"),
+    ("format|a|0:1|3:2:4096:7", "formatted 2\n"),
+    ("format|a|1:1|1:1|1:1|1:1|1:1|1:1|1:1|1:1", "formatted 8\n"),
+    ("migrate|a", "migrated 1\n"),
+    ("scrub|a", "dix scrub 1\nscrubbed 4 bad 0\n"),
+];
+
+/// Words that are not in the grammar, or whose command isn't built.
+const NO_COMMANDS: [&str; 42] = [
+    "",
+    "run",
+    "run|a|b",
+    "run|a|",
+    "run|-a",
+    "run|",
+    "RUN|a",
+    "run |a",
+    "a|run",
+    "trace|a",
+    "mirror|a",
+    "nvme|a",
+    "modes|1",
+    "modes|4",
+    "big|1|1",
+    "big|01|1",
+    "big|1025|1",
+    "big|0|1",
+    "big|1|4294967296",
+    "format|x",
+    "format|x|1:0",
+    "format|x|4:1",
+    "format|x|1:65537",
+    "format|x|1:1:512",
+    "format|x|1:1:513:0",
+    "format|x|1:8193:4096:0",
+    "format|x|1:1:512:9223372036854775808",
+    "format|-x|1:1",
+    "format||1:1",
+    "format|x|1:1|",
+    "format|x|1:1|1:1|1:1|1:1|1:1|1:1|1:1|1:1|1:1",
+    "format|x|01:1",
+    "format|x|1:01",
+    "migrate",
+    "migrate|-a",
+    "migrate|a|b",
+    "scrub",
+    "scrub|-a",
+    "scrub|a|b",
+    "scrub|",
+    "verify|a",
+    "usage",
+];
+
+/// The words between bars.
+fn words_of(alloc: Global, line: &str) -> Result<Vec<String>, Fail> {
+    let mut words = Vec::new(alloc);
+    for word in line.split('|') {
+        words.push(String::from_str(alloc, word)?)?;
+    }
+    Ok(words)
+}
+
+/// Runs these words over this image, with an empty script.
+fn left_by_words(alloc: Global, line: &str, image: Vec<u8>, faults: Faults) -> Result<Left, Fail> {
+    let words = words_of(alloc, line)?;
+    left_by(alloc, &words, script(alloc, "")?, image, faults)
+}
+
 #[test]
-fn the_words_are_run_and_a_name(rt: HostRuntime) -> Result<(), Fail> {
-    let usage = "usage: dix run IMAGE, trace IMAGE, format IMAGE T:BLOCKS.., big N SEED\n";
-    let report = "dix report 1\n";
-    for (count, all, status, text) in [
-        (0usize, ["", "", ""], 2u8, usage),
-        (1, ["run", "", ""], 2, usage),
-        (3, ["run", "a", "b"], 2, usage),
-        (3, ["run", "a", ""], 2, usage),
-        (2, ["trace", "a.img", ""], 2, usage),
-        (2, ["run", "-a", ""], 2, usage),
-        (2, ["run", "", ""], 2, usage),
-        (2, ["RUN", "a", ""], 2, usage),
-        (2, ["run ", "a", ""], 2, usage),
-        (2, ["a", "run", ""], 2, usage),
-        (2, ["run", "a", ""], 0, report),
-        (2, ["run", "a-b c", ""], 0, report),
-    ] {
-        let mut words = Vec::new(rt.alloc());
-        for word in all {
-            words.push(String::from_str(rt.alloc(), word)?)?;
-        }
-        words.truncate(count);
-        let done = left_by(
-            rt.alloc(),
-            &words,
-            script(rt.alloc(), "")?,
-            formatted(rt.alloc())?,
-            NO_FAULTS,
-        )?;
-        assert_eq!(rt; done.status, status, "{count} words: {} {}", all[0], all[1]);
-        assert_eq!(rt;
-            done.text.as_str(),
-            text,
-            "{count} words: {} {}",
-            all[0],
-            all[1]
-        );
+fn each_list_of_words_has_its_status(rt: HostRuntime) -> Result<(), Fail> {
+    for (line, text) in COMMANDS {
+        let done = left_by_words(rt.alloc(), line, formatted(rt.alloc())?, NO_FAULTS)?;
+        assert_eq!(rt; done.status, 0, "at {line}");
+        assert_eq!(rt; done.text.as_str(), text, "at {line}");
+    }
+    for line in NO_COMMANDS {
+        let done = left_by_words(rt.alloc(), line, formatted(rt.alloc())?, NO_FAULTS)?;
+        assert_eq!(rt; done.status, 2, "at {line}");
+        assert_eq!(rt; done.text.as_str(), USAGE, "at {line}");
+        assert_eq!(rt; done.image.as_slice(), formatted(rt.alloc())?.as_slice());
     }
     Ok(())
 }
@@ -653,6 +703,112 @@ fn each_frame_is_judged_by_the_adapter_too(rt: HostRuntime) -> Result<(), Fail> 
             said,
             "{is_write}: {done} {guard} {reference}"
         );
+    }
+    Ok(())
+}
+
+/// Words, the byte that is set to 01h before them where it isn't 0, the status and the text.
+const LIFE: [(&str, u32, u8, &str); 8] = [
+    ("format|a|1:256|1:256", 0, 0, "formatted 2\n"),
+    ("scrub|a", 0, 0, "dix scrub 1\nscrubbed 512 bad 0\n"),
+    (
+        "scrub|a",
+        52512,
+        1,
+        "dix scrub 1\nbad 0 100 target guard\nscrubbed 512 bad 1\n",
+    ),
+    ("migrate|a", 0, 0, "migrated 2\n"),
+    ("migrate|a", 0, 0, "migrated 0\n"),
+    (
+        "scrub|a",
+        266751,
+        1,
+        "dix scrub 1\nbad 0 100 target guard\nbad 1 255 target ref\nscrubbed 512 bad 2\n",
+    ),
+    ("run|a", 0, 4, "image NotBuilt\n"),
+    ("format|a|1:4", 0, 0, "formatted 1\n"),
+];
+
+fn damage(image: &mut Vec<u8>, at: u32) {
+    if let Some(byte) = image.get_mut(at as usize) {
+        *byte = 1;
+    }
+}
+
+#[test]
+fn an_image_is_made_and_looked_after(rt: HostRuntime) -> Result<(), Fail> {
+    let mut image = Vec::new(rt.alloc());
+    for (line, at, status, text) in LIFE {
+        if at > 0 {
+            damage(&mut image, at);
+        }
+        let done = left_by_words(rt.alloc(), line, image, NO_FAULTS)?;
+        assert_eq!(rt; done.status, status, "at {line}");
+        assert_eq!(rt; done.text.as_str(), text, "at {line}");
+        image = done.image;
+    }
+    assert_eq!(rt; image.as_slice(), formatted(rt.alloc())?.as_slice());
+    Ok(())
+}
+
+/// Words over a formatted image of four blocks, the calls of store and sink that fail, 0 for none,
+/// the sink's room, the status and the text.
+const FAILING: [(&str, u64, u64, u32, u8, &str); 13] = [
+    ("format|a|1:4", 1, 0, 4096, 5, "rig fault\n"),
+    ("format|a|1:4", 0, 1, 4096, 8, ""),
+    ("format|a|1:4", 0, 0, 5, 8, "forma"),
+    ("migrate|a", 1, 0, 4096, 5, "rig fault\n"),
+    ("migrate|a", 2, 0, 4096, 5, "rig fault\n"),
+    ("migrate|a", 0, 1, 4096, 8, ""),
+    ("scrub|a", 1, 0, 4096, 5, "rig fault\n"),
+    (
+        "scrub|a",
+        2,
+        0,
+        4096,
+        1,
+        "dix scrub 1\nbad 0 0 medium\nscrubbed 4 bad 1\n",
+    ),
+    (
+        "scrub|a",
+        3,
+        0,
+        4096,
+        1,
+        "dix scrub 1\nbad 0 1 medium\nscrubbed 4 bad 1\n",
+    ),
+    (
+        "scrub|a",
+        4,
+        0,
+        4096,
+        1,
+        "dix scrub 1\nbad 0 2 medium\nscrubbed 4 bad 1\n",
+    ),
+    (
+        "scrub|a",
+        5,
+        0,
+        4096,
+        1,
+        "dix scrub 1\nbad 0 3 medium\nscrubbed 4 bad 1\n",
+    ),
+    ("scrub|a", 6, 0, 4096, 0, "dix scrub 1\nscrubbed 4 bad 0\n"),
+    ("scrub|a", 0, 1, 4096, 8, ""),
+];
+
+#[test]
+fn each_call_of_a_command_fails_in_turn(rt: HostRuntime) -> Result<(), Fail> {
+    for (line, store, sink, room, status, text) in FAILING {
+        let faults = Faults {
+            source: 0,
+            store,
+            sink,
+            room,
+        };
+        let done = left_by_words(rt.alloc(), line, formatted(rt.alloc())?, faults)?;
+        assert_eq!(rt; done.status, status, "{line} {store} {sink} {room}");
+        assert_eq!(rt; done.text.as_str(), text, "{line} {store} {sink} {room}");
     }
     Ok(())
 }

@@ -1,14 +1,52 @@
-use Rattle.std.proofs.Common.{refl}
-use Rattle.dix_cli.proofs.Endings.{ended_refused, ended_run}
+use Rattle.std.proofs.Common.{◌≡◌, Option, Some, refl, sym, ap, ◌∙◌}
+use Rattle.dix_words.specs.declared.command.Command.{Command}
+use Rattle.dix_cli.proofs.Endings.{ended_none, not_built}
 use Rattle.dix_cli.proofs.Headlines.{carried}
 use Rattle.dix_cli.proofs.program.run.Goals as goal
 
-pub returns-in-Ok : goal.returns-in-Ok
-returns-in-Ok g c =
-    carried _ _ _ _ _ c.finish.result (ended_run _ _ _ c.in-Ok.ready c.run_ops.new.report.bad c.run_ops.ensures.ran.0 c.run_ops.new.report.text.items _ _ _ _ c.finish.result
-    c.in-Ok.ensures.prepared c.in-Ok.ensures.device refl (rw c.deref.ensures.value at c.run_ops.ensures.ran.1) c.run_ops.ensures.standing
-    (rw (c.run_status.ensures, c.deref-in-Ok.ensures.value) at c.finish.ensures)) (g.met.R.Rig.laid c.run_ops.new.rig) (g.met.R.Rig.ready c.run_ops.new.rig)
+pub returns-in_default : goal.returns-in_default
+returns-in_default g c =
+    carried _ _ _ _ _ c.refuse.result (ended_none _ _ _ _ _ c.refuse.result refl (refl, refl) (ap not_built (sym c.command_of.ensures ∙ c.in_default.is)) c.refuse.ensures)
+    (g.met.R.Rig.laid c.args.rig.now) (g.met.R.Rig.ready c.args.rig.now)
 
-pub returns-in-Err : goal.returns-in-Err
-returns-in-Err g c =
-    carried _ _ _ _ _ c.refuse.result (ended_refused _ c.in-Err.refusal _ _ _ _ c.refuse.result c.in-Err.ensures.prepared c.refuse.ensures) (g.met.R.Rig.laid c.prepare.new.rig) (g.met.R.Rig.ready c.prepare.new.rig)
+pub returns-in-Run : goal.returns-in-Run
+returns-in-Run g c = carried _ _ _ _ _ c.run_script.result c.run_script.ensures (g.met.R.Rig.laid c.run_script.new.rig) (g.met.R.Rig.ready c.run_script.new.rig)
+
+pub returns-in-Format : goal.returns-in-Format
+returns-in-Format g c = carried _ _ _ _ _ c.format.result (c.format.ensures (g.S.Source.left c.args.script.now) (g.S.Source.faults c.args.script.now)) (g.met.R.Rig.laid c.format.new.rig) (g.met.R.Rig.ready c.format.new.rig)
+
+pub returns-in-Migrate : goal.returns-in-Migrate
+returns-in-Migrate g c = carried _ _ _ _ _ c.migrate.result (c.migrate.ensures (g.S.Source.left c.args.script.now) (g.S.Source.faults c.args.script.now)) (g.met.R.Rig.laid c.migrate.new.rig) (g.met.R.Rig.ready c.migrate.new.rig)
+
+pub returns-in-Scrub : goal.returns-in-Scrub
+returns-in-Scrub g c = carried _ _ _ _ _ c.scrub.result (c.scrub.ensures (g.S.Source.left c.args.script.now) (g.S.Source.faults c.args.script.now)) (g.met.R.Rig.laid c.scrub.new.rig) (g.met.R.Rig.ready c.scrub.new.rig)
+
+pub returns-in-Trace : goal.returns-in-Trace
+returns-in-Trace g c =
+    carried _ _ _ _ _ c.refuse-in-Trace.result
+    (ended_none _ _ _ _ _ c.refuse-in-Trace.result refl (refl, refl) (ap not_built (sym c.command_of.ensures ∙ c.in-Some.is ∙ ap (λ (x : Command). Some x) c.in-Trace.is)) c.refuse-in-Trace.ensures)
+    (g.met.R.Rig.laid c.args.rig.now) (g.met.R.Rig.ready c.args.rig.now)
+
+pub returns-in-Mirror : goal.returns-in-Mirror
+returns-in-Mirror g c =
+    carried _ _ _ _ _ c.refuse-in-Mirror.result
+    (ended_none _ _ _ _ _ c.refuse-in-Mirror.result refl (refl, refl) (ap not_built (sym c.command_of.ensures ∙ c.in-Some.is ∙ ap (λ (x : Command). Some x) c.in-Mirror.is)) c.refuse-in-Mirror.ensures)
+    (g.met.R.Rig.laid c.args.rig.now) (g.met.R.Rig.ready c.args.rig.now)
+
+pub returns-in-Nvme : goal.returns-in-Nvme
+returns-in-Nvme g c =
+    carried _ _ _ _ _ c.refuse-in-Nvme.result
+    (ended_none _ _ _ _ _ c.refuse-in-Nvme.result refl (refl, refl) (ap not_built (sym c.command_of.ensures ∙ c.in-Some.is ∙ ap (λ (x : Command). Some x) c.in-Nvme.is)) c.refuse-in-Nvme.ensures)
+    (g.met.R.Rig.laid c.args.rig.now) (g.met.R.Rig.ready c.args.rig.now)
+
+pub returns-in-Modes : goal.returns-in-Modes
+returns-in-Modes g c =
+    carried _ _ _ _ _ c.refuse-in-Modes.result
+    (ended_none _ _ _ _ _ c.refuse-in-Modes.result refl (refl, refl) (ap not_built (sym c.command_of.ensures ∙ c.in-Some.is ∙ ap (λ (x : Command). Some x) c.in-Modes.is)) c.refuse-in-Modes.ensures)
+    (g.met.R.Rig.laid c.args.rig.now) (g.met.R.Rig.ready c.args.rig.now)
+
+pub returns-in-Big : goal.returns-in-Big
+returns-in-Big g c =
+    carried _ _ _ _ _ c.refuse-in-Big.result
+    (ended_none _ _ _ _ _ c.refuse-in-Big.result refl (refl, refl) (ap not_built (sym c.command_of.ensures ∙ c.in-Some.is ∙ ap (λ (x : Command). Some x) c.in-Big.is)) c.refuse-in-Big.ensures)
+    (g.met.R.Rig.laid c.args.rig.now) (g.met.R.Rig.ready c.args.rig.now)

@@ -1,6 +1,7 @@
 use Rattle.std.proofs.Common.{◌≡◌, ◌+◌, ◌-◌, ◌*◌, ◌≤◌, [], length, take}
+use Rattle.image_commands.specs.Views.{seen}
 use Rattle.rig_api.specs.Log.{HasRoom}
-use Rattle.dix_cli.specs.Runs.{Ran, room_for, seen}
+use Rattle.dix_cli.specs.Runs.{Ran, room_for}
 use Rattle.dix_cli.proofs.runner.run_ops.Given as goal
 
 abbrev pub invariant-loop-op : goal.invariant-loop-op
