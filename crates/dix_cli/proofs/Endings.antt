@@ -8,11 +8,14 @@ use Rattle.dix_words.specs.Grammar.{command_in, image_in}
 use Rattle.dix_words.specs.declared.command.Command.{Command}
 use Rattle.dix_words.specs.declared.command.Command.TheVariants.{Run, Trace, Format, Migrate, Mirror, Scrub, Nvme, Modes, Big}
 use Rattle.dix_cli.specs.declared.refusal.Refusal.TheVariants as refusal
-use Rattle.image_commands.specs.Views.{View}
+use Rattle.image_commands.specs.Views.{HasKept, View, WasOpened}
 use Rattle.dix_cli.specs.Ready.{IsReady}
 use Rattle.dix_cli.specs.Runs.{Ran, StandsSmall}
-use Rattle.dix_cli.specs.Verdict.{CauseByCommand, CauseRefused, Ended, Facts, Finished, Formatted, LeavesSource, Migrated, Refused, Scrubbed, Written, fault_of, refusal_text, status_of, verdict_status, verdict_text}
+use Rattle.dix_cli.specs.Verdict.{CauseByCommand, CauseRefused, Ended, Facts, Finished, Formatted, IsBadDevice, LeavesSource, Migrated, ReadsAs, Refused, Scrubbed, Written, fault_of, refusal_text, status_of, verdict_status, verdict_text}
 use Rattle.dix_cli.specs.declared.program.Ready.{Ready}
+use Rattle.rig_api.specs.Telling.{units_told}
+use Rattle.whole_run.specs.declared.op.Op.{Op}
+use Rattle.dix_cli.specs.Words.{is_run}
 use Rattle.dix_cli.specs.declared.refusal.Refusal.{Refusal}
 use Rattle.dix_cli.specs.declared.status.Status.{Status}
 use Rattle.dix_cli.specs.declared.status.Status.TheVariants as status
@@ -110,3 +113,20 @@ scrub_spared name devices found old new d = inr (
     count = omega (arith, d.count, d.discovered.since.count);
   },
 )
+
+-- a device's answer at fault
+pub refused_device : (f : Facts) (r : Refusal) (ops : List Op) (between : View) → is_run f.words ≡ true → ReadsAs (Some ops) f.left f.left_after → WasOpened (image_in f.words) None f.rig between → HasKept f.rig between → between.seen.units ≡ units_told between.standing between.image →
+    IsBadDevice r between f.rig_after → CauseRefused r f
+refused_device f r ops between named read opened kept laid bad =
+    let e : r ≡ refusal.BadCapacity bad.dev = bad.refusal_is in
+    rw e (
+      named,
+      (ops, read),
+      record {
+        between = between;
+        opened = opened;
+        kept = kept;
+        laid = laid;
+        bad = record { dev = bad.dev; refusal_is = refl; fault = bad.fault; untold = bad.untold; standing = bad.standing; units = bad.units; count = bad.count };
+      },
+    )

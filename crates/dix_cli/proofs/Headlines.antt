@@ -1,6 +1,6 @@
 use Rattle.std.proofs.Common.{ℕ, zero, suc, ◌≡◌, ◌+◌, ◌*◌, ◌≤◌, ◌⊎◌, inl, inr, Bool, true, false, if◌then◌else◌, List, [], ◌∷◌, ◌++◌, length, take, drop, Option, Some, None, refl, sym, ap, subst, ◌∙◌, arith, append-nil, length-append, length-drop}
 use Rattle.image_commands.specs.Views.{OpenedOnce, View, WasOpened}
-use Rattle.std.specs.Prelude.{nat_le}
+use Rattle.std.specs.Prelude.{is_some, nat_le}
 use Rattle.std.specs.List.{list_all, list_any}
 use Rattle.std.proofs.lemmas.Bool.{leb-true}
 use Rattle.whole_run.specs.Language.{script_in}
@@ -33,7 +33,7 @@ use Rattle.dix_words.specs.declared.command.Command.TheVariants.{Run, Trace, For
 use Rattle.dix_cli.specs.Words.{is_run, is_run_command}
 use Rattle.dix_cli.specs.Reading.{IsOver, IsWhole, most_bytes, script_of}
 use Rattle.dix_cli.specs.Headline.{Carries, IsComplete, IsRun, OpensOnce, RunEqualsPlain, blocks_of_image}
-use Rattle.dix_cli.specs.Verdict.{ByFault, Cause, CauseByCommand, CauseRefused, Ended, Facts, Finished, Formatted, HasFormatted, HasMigrated, HasNoCommand, HasRun, HasScrubbed, IsNotBuilt, Migrated, ReadsAs, Refused, Scrubbed, Verdict, Written, fault_of, status_of, verdict_status, verdict_text}
+use Rattle.dix_cli.specs.Verdict.{ByFault, Cause, CauseByCommand, CauseRefused, Ended, Facts, Finished, Formatted, HasBadDevice, HasFormatted, HasMigrated, HasNoCommand, HasRun, HasScrubbed, IsNotBuilt, Migrated, ReadsAs, Refused, Scrubbed, Verdict, Written, fault_of, status_of, verdict_status, verdict_text}
 use Rattle.dix_cli.specs.declared.refusal.Refusal.{Refusal}
 use Rattle.dix_cli.specs.declared.refusal.Refusal.TheVariants as refusal
 use Rattle.dix_cli.specs.declared.status.Status.{Status}
@@ -275,12 +275,18 @@ built image old new name e small c =
     let head : c.between.standing.head ≡ head_of image = headed c.between.standing.head image c.between.image told c.opened.head in
     c.looked.no image told refl (ap units_of head ∙ small)
 
+bad_told : (image : List ℕ) (name : List ℕ) (dev : ℕ) (old new : View) → old.image ≡ Some image → HasBadDevice name dev old new → ⊥
+bad_told image name dev old new e b =
+    let told : is_some b.between.seen.units ≡ true = ap is_some (b.laid ∙ ap (units_told b.between.standing) (b.kept.image ∙ e)) in
+    let untold : is_some b.between.seen.units ≡ false = b.bad.untold in
+    cc
+
 refused_for_memory : (f : Facts) (r : Refusal) (text image : List ℕ) (ops : List Op) → is_run f.words ≡ true → f.left ≡ Some text → script_of text ≡ Some ops → f.rig.image ≡ Some image → head_fault (head_of image) ≡ None → units_of (head_of image) ≡ small_spec ∷ [] →
     Calm f.reads f.reads_after → Calm f.rig.seen.faults f.rig_after.seen.faults → CauseRefused r f → status_of r ≡ status.Memory
 refused_for_memory f refusal.Words text image ops w l s i h u cr cf c = let e : is_run f.words ≡ false = c.0 in absurd (cc)
 refused_for_memory f refusal.Script text image ops w l s i h u cr cf c = absurd (no_script f text ops l s c.2)
 refused_for_memory f (refusal.Image fault) text image ops w l s i h u cr cf c = absurd (no_head_fault image fault f.rig f.rig_after (image_in f.words) i c.2.image h c.3)
-refused_for_memory f (refusal.BadCapacity dev) text image ops w l s i h u cr cf c = absurd c
+refused_for_memory f (refusal.BadCapacity dev) text image ops w l s i h u cr cf c = absurd (bad_told image (image_in f.words) dev f.rig f.rig_after i c.2)
 refused_for_memory f refusal.NotBuilt text image ops w l s i h u cr cf c = absurd (built image f.rig f.rig_after (image_in f.words) i u c.2)
 refused_for_memory f refusal.RigFault text image ops w l s i h u cr cf c = absurd (never_rose f.rig.seen.faults f.rig_after.seen.faults cf c.3)
 refused_for_memory f refusal.Memory text image ops w l s i h u cr cf c = refl
@@ -314,7 +320,7 @@ refused_opens : (f : Facts) (r : Refusal) → CauseRefused r f → OpensOnce f
 refused_opens f refusal.Words c = inl (stayed f.rig f.rig_after c.1)
 refused_opens f refusal.Script c = inl (stayed f.rig f.rig_after c.1)
 refused_opens f (refusal.Image fault) c = inr c.3.opened
-refused_opens f (refusal.BadCapacity dev) c = absurd c
+refused_opens f (refusal.BadCapacity dev) c = inr (ap (λ (s : Standing). s.openings) c.2.bad.standing ∙ c.2.opened.opened.0, ap (λ (s : Standing). s.name) c.2.bad.standing ∙ c.2.opened.opened.1)
 refused_opens f refusal.NotBuilt c = inr (ap (λ (s : Standing). s.openings) c.2.looked.standing ∙ c.2.opened.opened.0, ap (λ (s : Standing). s.name) c.2.looked.standing ∙ c.2.opened.opened.1)
 refused_opens f refusal.RigFault c = inr c.4
 refused_opens f refusal.Memory c = c.2

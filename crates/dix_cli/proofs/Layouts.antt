@@ -9,7 +9,7 @@ use Rattle.dix_words.specs.Grammar.{big_of, big_with, command_in, format_of, for
 use Rattle.dix_words.specs.Numbers.{number_in}
 use Rattle.dix_words.specs.Units.{type_in}
 use Rattle.dix_words.specs.declared.command.Command.{Command}
-use Rattle.dix_words.specs.declared.command.Command.TheVariants.{Run, Trace, Format, Migrate, Mirror, Scrub, Nvme, Modes, Big}
+use Rattle.dix_words.specs.declared.command.Command.TheVariants.{Run, Trace, Format, Migrate, Mirror, Scrub, Nvme, Big}
 
 -- Words of `format` order an image that there may be.
 

@@ -3,7 +3,7 @@ use Rattle.std.specs.Global.{Vec}
 use Rattle.std.specs.List.{list_any}
 use Rattle.image_commands.specs.Views.{Seen}
 use Rattle.dix_base.specs.Told.{Calm, Rose}
-use Rattle.rig_api.specs.Log.{Entry, Room}
+use Rattle.rig_api.specs.Log.{Room}
 use Rattle.target_answer.specs.Target.{Stored}
 use Rattle.rig_api.specs.Telling.{Standing, spec_at, unit_at, with_blocks}
 use Rattle.whole_run.specs.Small.{small_unit}

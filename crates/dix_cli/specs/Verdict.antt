@@ -1,17 +1,14 @@
-use Rattle.std.specs.Prelude.{ℕ, ◌≡◌, ◌+◌, ◌≤◌, ◌⊎◌, ◌↔◌, Bool, true, false, if◌then◌else◌, List, [], ◌∷◌, ◌++◌, length, codes, decimal, Option, Some, None}
+use Rattle.std.specs.Prelude.{ℕ, ◌≡◌, ◌≤◌, ◌⊎◌, ◌↔◌, Bool, true, false, if◌then◌else◌, List, [], ◌∷◌, ◌++◌, length, codes, decimal, Option, Some, None, is_some}
 use Rattle.image_commands.specs.Views.{HasKept, OpenedOnce, View, WasOpened}
 use Rattle.dix_base.specs.Told.{Appended, AppendedSome, Rose}
-use Rattle.target_answer.specs.Target.{capacity_data}
-use Rattle.rig_api.specs.Head.{IsHeadOf, fault_name, head_fault, units_of}
-use Rattle.rig_api.specs.Log.{Entry, Room, entry_at, entry_of}
-use Rattle.rig_api.specs.Telling.{Opened, Standing, Stayed, spec_at, units_told}
-use Rattle.rig_api.specs.declared.rig.Outcome.{Outcome}
-use Rattle.rig_api.specs.declared.rig.RigFault.{RigFault}
+use Rattle.rig_api.specs.Head.{fault_name, units_of}
+use Rattle.rig_api.specs.Telling.{Opened, units_told}
 use Rattle.whole_run.specs.Small.{small_spec}
 use Rattle.whole_run.specs.declared.op.Op.{Op}
 use Rattle.target_answer.specs.declared.units.UnitSpec.{UnitSpec}
 use Rattle.volume_table.specs.declared.device.DeviceInfo.{DeviceInfo}
 use Rattle.pi_scrub.specs.declared.found.Found.{Found}
+use Rattle.rig_discovery.specs.Discovery.{HasFault, HasFound, info_of}
 use Rattle.image_commands.specs.Causes.{CauseUnformatted, CauseUnmigrated, CauseUnscrubbed, WasFormatted, WasMigrated, WasScrubbed}
 use Rattle.image_commands.specs.declared.fault.Fault.{Fault}
 use Rattle.image_commands.specs.declared.fault.Fault.TheVariants as fault
@@ -41,38 +38,29 @@ pub record Facts : Type 0 where
 abbrev pub ReadsAs : Option (List Op) → Option (List ℕ) → Option (List ℕ) → Type 0
 ReadsAs ops old new = (text : List ℕ) × IsWhole text old new × (script_of text ≡ ops)
 
--- READ CAPACITY(16) with room for 32 bytes (SBC-3, 5.16)
-abbrev pub look : List ℕ
-look = 0x9E ∷ 0x10 ∷ 0 ∷ 0 ∷ 0 ∷ 0 ∷ 0 ∷ 0 ∷ 0 ∷ 0 ∷ 0 ∷ 0 ∷ 0 ∷ 32 ∷ 0 ∷ 0 ∷ []
+-- the small unit, as a device tells it
+abbrev pub small_device : DeviceInfo
+small_device = info_of small_spec
 
--- what the small unit answers
-abbrev pub small_data : List ℕ
-small_data = capacity_data small_spec
-
--- The device was asked for its capacity at most once, and this is the record of it.
-abbrev pub IsLook : (size : ℕ) → List Entry → Type 0
-IsLook size records = (records ≡ []) ⊎ ((o : Outcome) × (into : List ℕ) × (records ≡ entry_of size 0 look [] o [] into ∷ []))
-
--- There is one device, with the first address 0 and blocks of 512 bytes, and what the record of its READ CAPACITY holds is what the small unit answers.
-abbrev pub ShowsSmall : Standing → List Entry → Type 0
-ShowsSmall s records = (s.devices ≡ 1) × ((spec_at s 0).first ≡ 0) × ((spec_at s 0).size ≡ 512) × ((entry_at records 0).moved ≡ small_data)
-
--- One look took of the spare room at most this.
-pub record IsSpent (old new : Room) : Type 0 where
-  pub records : old.records ≤ new.records + 1
-  pub labels : old.labels ≤ new.labels
-  pub moved : old.moved ≤ new.moved + 32
-
--- It was looked whether the image's units are the small unit: what stands and the record say so, and where the image is told it is so. All but the records is as before.
+-- Each device was asked what it is, and what the records hold is that there is the small unit alone, or something else; where the image is told it is so. All but the records is as before.
 pub record Looked (small : Bool) (old new : View) : Type 0 where
-  pub records : List Entry
-  pub look : IsLook (spec_at old.standing 0).size records
-  pub log : new.seen.log ≡ old.seen.log ++ records
+  pub devices : List DeviceInfo
+  pub found : HasFound old.standing devices old.seen.log new.seen.log
+  pub shown : (small ≡ true) ↔ (devices ≡ small_device ∷ [])
   pub standing : new.standing ≡ old.standing
   pub units : new.seen.units ≡ old.seen.units
-  pub shown : (small ≡ true) ↔ ShowsSmall old.standing records
   pub yes : (image : List ℕ) → old.image ≡ Some image → small ≡ true → units_of old.standing.head ≡ small_spec ∷ []
   pub no : (image : List ℕ) → old.image ≡ Some image → small ≡ false → units_of old.standing.head ≡ small_spec ∷ [] → ⊥
+  pub count : old.seen.faults ≤ new.seen.faults
+
+-- A device's answer to READ CAPACITY(16) is at fault, the first; the blocks aren't told then.
+pub record IsBadDevice (r : Refusal) (old new : View) : Type 0 where
+  pub dev : ℕ
+  pub refusal_is : r ≡ refusal.BadCapacity dev
+  pub fault : HasFault old.standing dev old.seen.log new.seen.log
+  pub untold : is_some old.seen.units ≡ false
+  pub standing : new.standing ≡ old.standing
+  pub units : new.seen.units ≡ old.seen.units
   pub count : old.seen.faults ≤ new.seen.faults
 
 abbrev pub status_of : Refusal → Status
@@ -125,12 +113,20 @@ pub record IsNotBuilt (name : List ℕ) (old new : View) : Type 0 where
   pub kept : HasKept old between
   pub looked : Looked false between new
 
+-- The image of this name was opened, and the answer of this device is at fault.
+pub record HasBadDevice (name : List ℕ) (dev : ℕ) (old new : View) : Type 0 where
+  pub between : View
+  pub opened : WasOpened name None old between
+  pub kept : HasKept old between
+  pub laid : between.seen.units ≡ units_told between.standing between.image
+  pub bad : IsBadDevice (refusal.BadCapacity dev) between new
+
 -- Why a call of run IMAGE comes to no run. The image's bytes and the records are as before, but for the one of READ CAPACITY; where the image isn't opened all is.
 abbrev pub CauseRefused : Refusal → Facts → Type 0
 CauseRefused refusal.Words f = (is_run f.words ≡ false) × (f.rig_after ≡ f.rig) × (f.left_after ≡ f.left) × (f.reads_after ≡ f.reads)
 CauseRefused refusal.Script f = (is_run f.words ≡ true) × (f.rig_after ≡ f.rig) × (ReadsAs None f.left f.left_after ⊎ IsOver f.left f.left_after)
 CauseRefused (refusal.Image fault) f = (is_run f.words ≡ true) × ((ops : List Op) × ReadsAs (Some ops) f.left f.left_after) × HasKept f.rig f.rig_after × WasOpened (image_in f.words) (Some fault) f.rig f.rig_after
-CauseRefused (refusal.BadCapacity dev) f = ⊥
+CauseRefused (refusal.BadCapacity dev) f = (is_run f.words ≡ true) × ((ops : List Op) × ReadsAs (Some ops) f.left f.left_after) × HasBadDevice (image_in f.words) dev f.rig f.rig_after
 CauseRefused refusal.NotBuilt f = (is_run f.words ≡ true) × ((ops : List Op) × ReadsAs (Some ops) f.left f.left_after) × IsNotBuilt (image_in f.words) f.rig f.rig_after
 CauseRefused refusal.RigFault f =
     (is_run f.words ≡ true) × ((ops : List Op) × ReadsAs (Some ops) f.left f.left_after) × HasKept f.rig f.rig_after

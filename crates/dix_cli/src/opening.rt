@@ -1,14 +1,15 @@
 //! What comes before the first op: words, script, image, room.
 
-ghost use Rattle.std.specs.Prelude.{◌≡◌, ◌⊎◌, ◌+◌, ◌*◌, ◌≤◌, [], true, false, length, IfErr, IfOk, MatchResult, OnOk, Some, None, codes};
+ghost use Rattle.std.specs.Prelude.{◌≡◌, ◌⊎◌, ◌+◌, ◌*◌, ◌≤◌, [], ◌∷◌, true, false, length, IfErr, IfOk, MatchResult, OnOk, Some, None, codes};
 ghost use Rattle.image_commands.specs.Views.{HasKept, WasOpened, seen, view};
 ghost use Rattle.std.specs.List.{list_all};
+ghost use Rattle.rig_discovery.specs.Discovery.{Spent};
 ghost use Rattle.rig_api.specs.Log.{HasRoom};
 ghost use Rattle.rig_api.specs.Head.{head_fault, units_of};
 ghost use Rattle.rig_api.specs.Telling.{Opened, Stayed, greatest_size};
 ghost use Rattle.whole_run.specs.Ops.{fits};
 ghost use Rattle.dix_cli.specs.Runs.{StandsSmall, room_for};
-ghost use Rattle.dix_cli.specs.Verdict.{CauseUnopened, CauseUnread, IsSpent, Looked, ReadsAs, look, small_data};
+ghost use Rattle.dix_cli.specs.Verdict.{CauseUnopened, CauseUnread, IsBadDevice, Looked, ReadsAs, small_device};
 
 use crate::reading::{Unread, read_all};
 use crate::refusal::Refusal;
@@ -17,8 +18,11 @@ use crate::script::read_script;
 use dix_base::Source;
 use fault_schedule::FaultList;
 use image_commands::open_image;
+use pi_tuple::PiType;
 use rig_api::Rig;
+use rig_discovery::discover;
 use std::alloc::Global;
+use volume_table::DeviceInfo;
 use whole_run::Op;
 
 /// Reads the script to its end, and its ops.
@@ -56,11 +60,11 @@ pub(crate) fn open<R: Rig>(alloc: Global, image: &str, rig: &mut R) -> Result<()
     }
 }
 
-/// Takes all the memory of a run of so many ops: that of their records and of one more, and that of
-/// the report. No fault is armed then.
+/// Takes all the memory of a run of so many ops: that of their records and of one for each device,
+/// at most eight, and that of the report. No fault is armed then.
 pub(crate) fn take_room<R: Rig>(alloc: Global, ops: usize, rig: &mut R) -> Result<Report, Refusal>
     requires { ops ≤ 64 }
-    ensures room { OnOk result (HasRoom (greatest_size (R.standing rig.old)) (ops + 1) ops (R.room rig.new)) }
+    ensures room { OnOk result (HasRoom (greatest_size (R.standing rig.old)) (ops + 8) ops (R.room rig.new)) }
     ensures calm { OnOk result (R.armed rig.new ≡ []) }
     ensures text { IfOk result (λ r. r.text.items ≡ codes "dix report 1\n") }
     ensures good { IfOk result (λ r. r.bad ≡ false) }
@@ -72,7 +76,7 @@ pub(crate) fn take_room<R: Rig>(alloc: Global, ops: usize, rig: &mut R) -> Resul
     ensures log { R.log rig.new ≡ R.log rig.old }
     ensures count { R.faults rig.new ≡ R.faults rig.old }
 {
-    match rig.reserve(alloc, ops as u32 + 1, ops as u32) {
+    match rig.reserve(alloc, ops as u32 + 8, ops as u32) {
         Ok(()) => {}
         Err(_) => return Err(Refusal::Memory),
     }
@@ -83,39 +87,41 @@ pub(crate) fn take_room<R: Rig>(alloc: Global, ops: usize, rig: &mut R) -> Resul
     }
 }
 
-/// READ CAPACITY(16) with room for 32 bytes (SBC-3, 5.16).
-const LOOK: [u8; 16] = [0x9E, 0x10, 0, 0, 0, 0, 0, 0, 0, 0, 0, 0, 0, 32, 0, 0];
+/// The unit that is served.
+const SMALL: DeviceInfo = DeviceInfo {
+    ty: PiType::One,
+    blocks: 4,
+    size: 512,
+    first: 0,
+};
 
-/// What a unit of type 1 with four blocks of 512 bytes from address 0 on answers to it.
-const SMALL: [u8; 32] = [
-    0, 0, 0, 0, 0, 0, 0, 3, 0, 0, 2, 0, 1, 0, 0, 0, 0, 0, 0, 0, 0, 0, 0, 0, 0, 0, 0, 0, 0, 0, 0, 0,
-];
-
-/// Whether a device with this first address and this block size, which answered so, is the unit
-/// that is served.
-fn tells_small(first: u64, size: u32, answer: &[u8]) -> bool
-    ensures yes { result ≡ true → (first ≡ 0) × (size ≡ 512) × (answer.now ≡ small_data) }
-    ensures no { first ≡ 0 → size ≡ 512 → answer.now ≡ small_data → result ≡ true }
+/// Whether there is the unit that is served, and no other.
+fn are_small(devices: &[DeviceInfo]) -> bool
+    ensures yes { result ≡ true → devices.now ≡ small_device ∷ [] }
+    ensures no { devices.now ≡ small_device ∷ [] → result ≡ true }
 {
-    first == 0 && size == 512 && answer == SMALL.as_slice()
+    match devices {
+        [one] => *one == SMALL,
+        _ => false,
+    }
 }
 
-/// Whether the units of the image that was opened are the one that is served.
-pub(crate) fn is_small<R: Rig>(rig: &mut R) -> bool
+/// Asks each device of the image that was opened what it is, and answers whether there is the unit
+/// that is served and no other.
+pub(crate) fn is_small<R: Rig>(rig: &mut R) -> Result<bool, Refusal>
     requires right { head_fault (R.standing rig.old).head ≡ None }
     requires devices { (R.standing rig.old).devices ≡ length (units_of (R.standing rig.old).head) }
-    requires calm { R.armed rig.old ≡ [] }
-    requires room { HasRoom (greatest_size (R.standing rig.old)) 1 0 (R.room rig.old) }
-    ensures looked { Looked result (view (R.image rig.old) (R.standing rig.old) (seen (R.units rig.old) (R.log rig.old) (R.faults rig.old)))
-        (view (R.image rig.new) (R.standing rig.new) (seen (R.units rig.new) (R.log rig.new) (R.faults rig.new))) }
-    ensures small { result ≡ true → StandsSmall (R.standing rig.new) }
-    ensures calm { R.armed rig.new ≡ [] }
-    ensures room { IsSpent (R.room rig.old) (R.room rig.new) }
+    requires room { HasRoom (greatest_size (R.standing rig.old)) (R.standing rig.old).devices 0 (R.room rig.old) }
+    ensures looked { IfOk result (λ b. Looked b (view (R.image rig.old) (R.standing rig.old) (seen (R.units rig.old) (R.log rig.old) (R.faults rig.old)))
+        (view (R.image rig.new) (R.standing rig.new) (seen (R.units rig.new) (R.log rig.new) (R.faults rig.new)))) }
+    ensures bad { IfErr result (λ r. IsBadDevice r (view (R.image rig.old) (R.standing rig.old) (seen (R.units rig.old) (R.log rig.old) (R.faults rig.old)))
+        (view (R.image rig.new) (R.standing rig.new) (seen (R.units rig.new) (R.log rig.new) (R.faults rig.new)))) }
+    ensures small { IfOk result (λ b. b ≡ true → StandsSmall (R.standing rig.new)) }
+    ensures armed { R.armed rig.new ≡ R.armed rig.old }
+    ensures room { Spent (R.standing rig.old).devices (R.room rig.old) (R.room rig.new) }
 {
-    if rig.devices() != 1 {
-        return false;
+    match discover(rig) {
+        Ok(devices) => Ok(are_small(&devices)),
+        Err(bad) => Err(Refusal::BadCapacity { dev: bad.dev }),
     }
-    let mut data = [0u8; 32];
-    rig.exchange(0, &LOOK, &[], &[], &mut data);
-    tells_small(rig.first(0), rig.size(0), &data)
 }

@@ -57,10 +57,11 @@ fn prepare<S: Source, R: Rig>(
     let ops = read_ops(alloc, script)?;
     open(alloc, image_of(words), rig)?;
     let report = take_room(alloc, ops.len(), rig)?;
-    if !is_small(rig) {
-        return Err(Refusal::NotBuilt);
+    match is_small(rig) {
+        Ok(true) => Ok(Ready { ops, report }),
+        Ok(false) => Err(Refusal::NotBuilt),
+        Err(refusal) => Err(refusal),
     }
-    Ok(Ready { ops, report })
 }
 
 /// Writes the text, and says what the call comes to.

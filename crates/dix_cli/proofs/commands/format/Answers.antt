@@ -1,4 +1,4 @@
-use Rattle.std.proofs.Common.{◌≡◌, ◌≤◌, true, length, refl, ap, ◌∙◌, arith}
+use Rattle.std.proofs.Common.{length, refl, ap, ◌∙◌, arith}
 use Rattle.target_answer.specs.Headers.{is_layout}
 use Rattle.dix_words.specs.Grammar.{word_bytes}
 use Rattle.dix_cli.proofs.Endings.{ended_format, unformatted}

@@ -1,4 +1,4 @@
-use Rattle.std.proofs.Common.{◌≡◌, Option, Some, refl, sym, ap, ◌∙◌}
+use Rattle.std.proofs.Common.{Some, refl, sym, ap, ◌∙◌}
 use Rattle.dix_words.specs.declared.command.Command.{Command}
 use Rattle.dix_cli.proofs.Endings.{ended_none, not_built}
 use Rattle.dix_cli.proofs.Headlines.{carried}
