@@ -1,0 +1,9 @@
+pub mod Senses
+pub mod Blocks
+pub mod Commands
+pub mod Ahead
+pub mod Frames
+pub mod Gathering
+pub mod Grouping
+pub mod Judged
+pub mod Landing

@@ -1,0 +1,50 @@
+use Rattle.std.proofs.Common.{◌≡◌, ◌+◌, length, map, get_or, take, refl, ap, ◌∙◌, ◌-◌, arith, length-append}
+use Rattle.std.proofs.lemmas.List.{get_or_default, length-map}
+use Rattle.std.proofs.lemmas.List.Elements.{All-get_or}
+use Rattle.page_pool.specs.Cells.{flat}
+use Rattle.bio_core.specs.Bios.{block_size}
+use Rattle.block_path.specs.Routes.{wire_size}
+use Rattle.dix_adapter.specs.Groups.{IsBio, first_of, no_bio, no_request, request_of, route_by, size}
+use Rattle.dix_adapter.specs.Carried.{sends_first, unsent}
+use Rattle.dix_adapter.proofs.Blocks.{size-front, size-more}
+use Rattle.dix_adapter.proofs.Gathering.{wire-most}
+use Rattle.dix_adapter.proofs.Grouping.{first-long, gathered-more, room-left, times-most}
+use Rattle.dix_adapter.proofs.adapter.Adapter.gather.Goals as goal
+
+pub gather_bio-at-requires-clause-room : goal.gather_bio-at-requires-clause-room
+gather_bio-at-requires-clause-room c =
+    let k = (All-get_or (IsBio c.args.self.now c.args.pool.now c.requires.group.0 c.args.ios.now (first_of c.args.req.now).dev (first_of c.args.req.now).dir) c.args.req.now c.loop-bio.bio-index no_bio (omega arith) c.requires.group.1.bios) in
+    let q : c.index-ios-bio.result ≡ request_of c.args.ios.now (get_or c.args.req.now c.loop-bio.bio-index no_bio).op = c.index-ios-bio.is ∙ get_or_default c.args.ios.now ((get_or c.args.req.now c.loop-bio.bio-index no_bio).op - 1) c.index-ios-bio.result no_request (let x = k.op in let y = k.there in omega arith) in
+    let s : block_size c.index-ios-bio.result ≡ c.requires.group.0 = ap block_size q ∙ k.request.size in
+    let m = size-more c.args.req.now c.loop-bio.bio-index no_bio (omega arith) in
+    let f = size-front c.args.req.now (c.loop-bio.bio-index + 1) in
+    let z = room-left (get_or c.args.req.now c.loop-bio.bio-index no_bio).count (block_size c.index-ios-bio.result) (size (take c.loop-bio.bio-index c.args.req.now)) (size c.args.req.now) (let x = c.requires.group.1.small.1 in omega arith) (omega arith) in
+    omega (arith, z, c.loop-bio.invariant.place, c.loop-bio.invariant.long, c.requires.room)
+
+pub gather_bio-at-requires-clause-fates : goal.gather_bio-at-requires-clause-fates
+gather_bio-at-requires-clause-fates c =
+    let m = size-more c.args.req.now c.loop-bio.bio-index no_bio (omega arith) in
+    let f = size-front c.args.req.now (c.loop-bio.bio-index + 1) in
+    omega (arith, m, f, c.loop-bio.invariant.number, c.loop-bio.invariant.capacity, c.requires.fates)
+
+pub loop-bio-preserved : goal.loop-bio-preserved
+loop-bio-preserved c =
+    let k = (All-get_or (IsBio c.args.self.now c.args.pool.now c.requires.group.0 c.args.ios.now (first_of c.args.req.now).dev (first_of c.args.req.now).dir) c.args.req.now c.loop-bio.bio-index no_bio (omega arith) c.requires.group.1.bios) in
+    let q : c.index-ios-bio.result ≡ request_of c.args.ios.now (get_or c.args.req.now c.loop-bio.bio-index no_bio).op = c.index-ios-bio.is ∙ get_or_default c.args.ios.now ((get_or c.args.req.now c.loop-bio.bio-index no_bio).op - 1) c.index-ios-bio.result no_request (let x = k.op in let y = k.there in omega arith) in
+    let b = get_or c.args.req.now c.loop-bio.bio-index no_bio in
+    let m = size-more c.args.req.now c.loop-bio.bio-index no_bio (omega arith) in
+    let l = ap length c.gather_bio-at.ensures.fates in
+    let a = length-append c.loop-bio.fates.items (map unsent (sends_first c.args.self.now c.index-ios-bio.result b (flat c.args.pool.now) b.count)) in
+    let n = length-map (sends_first c.args.self.now c.index-ios-bio.result b (flat c.args.pool.now) b.count) unsent in
+    let o = first-long c.args.self.now c.index-ios-bio.result b (flat c.args.pool.now) b.count in
+    record {
+      gathered = gathered-more c.args.self.now c.args.ios.now (flat c.args.pool.now) c.args.req.now c.loop-bio.bio-index c.loop-bio.at c.gather_bio-at.result c.index-ios-bio.result b c.loop-bio.frames c.gather_bio-at.new.frames c.loop-bio.fates.items c.gather_bio-at.new.fates.items
+          (omega arith) refl q c.loop-bio.invariant.gathered c.gather_bio-at.ensures.frames c.gather_bio-at.ensures.end c.gather_bio-at.ensures.fates;
+      number = omega (arith, m, l, a, n, o, c.loop-bio.invariant.number);
+      capacity = c.gather_bio-at.ensures.capacity ∙ c.loop-bio.invariant.capacity;
+      place = (let s : block_size c.index-ios-bio.result ≡ c.requires.group.0 = ap block_size q ∙ k.request.size in
+          let w = wire-most c.args.self.now c.index-ios-bio.result b in
+          let t = times-most b.count (wire_size (route_by c.args.self.now c.index-ios-bio.result b 0)) (let x = c.requires.group.1.small.1 in omega arith) in
+          omega (arith, m, t, c.gather_bio-at.ensures.end, c.loop-bio.invariant.place));
+      long = c.gather_bio-at.ensures.long ∙ c.loop-bio.invariant.long;
+    }

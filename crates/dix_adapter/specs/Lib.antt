@@ -1,0 +1,6 @@
+pub mod Operations
+pub mod Room
+pub mod Groups
+pub mod Outcomes
+pub mod Walking
+pub mod Carried

@@ -1,0 +1,10 @@
+-- How much room there is for one command.
+use Rattle.std.specs.Prelude.{ℕ, ◌+◌, ◌*◌, ◌≤◌, length}
+use Rattle.std.specs.Vec.{vec_capacity}
+use Rattle.dix_adapter.specs.declared.scratch.Scratch.{Scratch}
+
+-- for the frames and the labels of so many blocks
+pub record HoldsBlocks (count : ℕ) (s : Scratch) : Type 0 where
+  pub frames : count * 4104 + 8 ≤ length s.frames.items
+  pub few : count ≤ 1048576
+  pub labels : count ≤ vec_capacity s.labels

@@ -1,0 +1,119 @@
+//! The adapter.
+
+ghost use Rattle.std.specs.Prelude.{◌≡◌, ◌<◌, ◌≤◌, ◌+◌, ◌^◌, ℕ, true, false, is_some, map};
+ghost use Rattle.std.specs.Vec.{vec_capacity};
+ghost use Rattle.page_pool.specs.Cells.{flat};
+ghost use Rattle.bio_core.specs.declared.request.Dir.TheVariants.{Read, Write};
+ghost use Rattle.rig_api.specs.Log.{HasRoom};
+ghost use Rattle.rig_api.specs.Telling.{greatest_size};
+ghost use Rattle.dix_adapter.specs.Carried.{Fetched, Sent, Unsent, any_bad, sends};
+ghost use Rattle.dix_adapter.specs.Groups.{EndsInTime, IsGroup, IsProtect, blocks_in, first_of, mode_of, route_by, size};
+ghost use Rattle.dix_adapter.specs.Room.{HoldsBlocks};
+
+use crate::Mode;
+use crate::scratch::Scratch;
+use bio_core::{Bio, Dir, Fate, Io};
+use block_path::Route;
+use fault_schedule::{Label, Tamper};
+use page_pool::PagePool;
+use pi_guard::GuardKind;
+use pi_tuple::PiType;
+use rig_api::Rig;
+
+/// An adapter before units of one type, in one mode.
+#[derive(Drop)]
+pub struct Adapter {
+    /// The guard of the tuples that the host has in memory.
+    pub kind: GuardKind,
+    /// Whether tuples travel between host and adapter.
+    pub dix: bool,
+    /// Whether tuples travel between adapter and target.
+    pub dif: bool,
+    /// The protect field of commands that transfer tuples.
+    pub protect: u8,
+    /// The type of the units.
+    pub ty: PiType,
+    /// The faults that act between host and adapter.
+    pub tamper: Tamper,
+    /// The application tag that is expected.
+    pub app: u16,
+    /// The bits of the application tag that are checked.
+    pub mask: u16,
+}
+
+impl Adapter {
+    /// How tuples travel.
+    pub fn mode(&self) -> Mode
+        ensures { result ≡ mode_of self.now }
+    {
+        Mode {
+            kind: self.kind,
+            dix: self.dix,
+            dif: self.dif,
+            protect: self.protect,
+            app: self.app,
+            mask: self.mask,
+        }
+    }
+
+    /// Block `i` of a bio on its way.
+    pub(crate) fn route(&self, io: &Io, bio: &Bio, i: u32) -> Route
+        requires some { 0 < io.now.count }
+        requires ends { EndsInTime bio.now }
+        requires within { i < bio.now.count }
+        requires fits { io.now.first + (bio.now.k + i) < 2 ^ 64 }
+        ensures { result ≡ route_by self.now io.now bio.now i }
+    {
+        Route {
+            label: Label {
+                op: bio.op,
+                k: bio.k + i,
+            },
+            virt: io.first + (bio.k + i) as u64,
+            dev: bio.dev,
+            lba: bio.lba + i as u64,
+            ty: self.ty,
+            size: io.block_size(),
+            mode: self.mode(),
+        }
+    }
+
+    /// Carries a group of blocks out or in by at most one command, and says what became of each block.
+    ///
+    /// Of a write every block is checked before any is sent; where one is bad nothing is sent. Of a read every block
+    /// that came is checked; a good one lands in its pages, with its tuple where the host has tuples.
+    pub fn carry<R: Rig>(
+        &self,
+        pool: &mut PagePool,
+        ios: &[Io],
+        req: &[Bio],
+        rig: &mut R,
+        scratch: &mut Scratch,
+        fates: &mut Vec<Fate>,
+    )
+        requires protect { IsProtect self.now.protect }
+        requires group { (bytes : ℕ) × IsGroup self.now pool.old bytes ios.now req.now }
+        requires scratch { HoldsBlocks (size req.now) scratch.old }
+        requires fates { size req.now ≤ vec_capacity fates.old }
+        requires device { (first_of req.now).dev < (R.standing rig.old).devices }
+        requires spare { HasRoom (greatest_size (R.standing rig.old)) 1 (size req.now) (R.room rig.old) }
+        ensures unsent { (first_of req.now).dir ≡ Write → any_bad (map (sends self.now ios.now (flat pool.old)) (blocks_in req.now)) ≡ true
+            → Unsent self.now ios.now req.now pool.old pool.new fates.new.items × (rig.new ≡ rig.old) }
+        ensures sent { (first_of req.now).dir ≡ Write → any_bad (map (sends self.now ios.now (flat pool.old)) (blocks_in req.now)) ≡ false
+            → Sent self.now ios.now req.now pool.old pool.new fates.new.items
+            (record { told = is_some (R.image rig.old); units = R.units rig.old; standing = R.standing rig.old; log = R.log rig.old; room = R.room rig.old; armed = R.armed rig.old; faults = R.faults rig.old })
+            (record { told = is_some (R.image rig.new); units = R.units rig.new; standing = R.standing rig.new; log = R.log rig.new; room = R.room rig.new; armed = R.armed rig.new; faults = R.faults rig.new }) }
+        ensures fetched { (first_of req.now).dir ≡ Read
+            → Fetched self.now ios.now req.now pool.old pool.new fates.new.items
+            (record { told = is_some (R.image rig.old); units = R.units rig.old; standing = R.standing rig.old; log = R.log rig.old; room = R.room rig.old; armed = R.armed rig.old; faults = R.faults rig.old })
+            (record { told = is_some (R.image rig.new); units = R.units rig.new; standing = R.standing rig.new; log = R.log rig.new; room = R.room rig.new; armed = R.armed rig.new; faults = R.faults rig.new }) }
+        ensures scratch { HoldsBlocks (size req.now) scratch.new }
+        ensures capacity { vec_capacity fates.new ≡ vec_capacity fates.old }
+    {
+        fates.clear();
+        match req[0].dir {
+            Dir::Write => self.carry_out(pool, ios, req, rig, scratch, fates),
+            Dir::Read => self.carry_in(pool, ios, req, rig, scratch, fates),
+        }
+    }
+}

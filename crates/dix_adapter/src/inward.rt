@@ -1,0 +1,308 @@
+//! Blocks on their way in.
+
+ghost use Rattle.std.specs.Prelude.{◌≡◌, ℕ, ◌+◌, ◌-◌, ◌*◌, ◌<◌, ◌≤◌, ◌^◌, ◌++◌, List, [], is_some, length, map, take, drop};
+ghost use Rattle.std.specs.Vec.{vec_capacity};
+ghost use Rattle.page_pool.specs.Cells.{flat};
+ghost use Rattle.page_pool.specs.Pages.{AreWhole};
+ghost use Rattle.bio_core.specs.Bios.{block_size};
+ghost use Rattle.target_answer.specs.Frames.{frames_of};
+ghost use Rattle.target_answer.specs.Passing.{unless};
+ghost use Rattle.bio_core.specs.declared.request.Dir.TheVariants.{Read};
+ghost use Rattle.cdb_codec.specs.Forms.{form};
+ghost use Rattle.cdb_codec.specs.declared.choice.Dir2.TheVariants.{In};
+ghost use Rattle.rig_api.specs.Log.{HasRoom};
+ghost use Rattle.rig_api.specs.Telling.{greatest_size};
+ghost use Rattle.dix_adapter.specs.Room.{HoldsBlocks};
+ghost use Rattle.block_path.specs.Routes.{wire_size};
+ghost use Rattle.dix_adapter.specs.Carried.{Exchanged, Fetched, carried, command_for, comes_by, comes_first, fates_in, frame_len, land, landed, lands_first};
+ghost use Rattle.dix_adapter.specs.Groups.{EndsInTime, IsGroup, IsProtect, blocks_in, data_cells, first_of, route_by, size, tuple_cells};
+ghost use Rattle.dix_adapter.specs.Walking.{HasHost, IsBefore, IsOnce, Walkable};
+
+use crate::Adapter;
+use crate::outcome::{add_rest, done_of};
+use crate::outward::fill_labels;
+use crate::scratch::{Scratch, TUPLE};
+use crate::walks::Walks;
+use bio_core::{Bio, Fate, Io, Why};
+use cdb_codec::Dir2;
+use fault_schedule::Label;
+use page_pool::PagePool;
+use pi_tuple::Check;
+use rig_api::{Outcome, Rig};
+
+impl Adapter {
+    /// Carries the blocks of a read: those that came are checked, and the good ones land.
+    pub(crate) fn carry_in<R: Rig>(
+        &self,
+        pool: &mut PagePool,
+        ios: &[Io],
+        req: &[Bio],
+        rig: &mut R,
+        scratch: &mut Scratch,
+        fates: &mut Vec<Fate>,
+    )
+        requires protect { IsProtect self.now.protect }
+        requires group { (bytes : ℕ) × IsGroup self.now pool.old bytes ios.now req.now }
+        requires way { (first_of req.now).dir ≡ Read }
+        requires scratch { HoldsBlocks (size req.now) scratch.old }
+        requires none { fates.old.items ≡ [] }
+        requires fates { size req.now ≤ vec_capacity fates.old }
+        requires device { (first_of req.now).dev < (R.standing rig.old).devices }
+        requires spare { HasRoom (greatest_size (R.standing rig.old)) 1 (size req.now) (R.room rig.old) }
+        ensures fetched { Fetched self.now ios.now req.now pool.old pool.new fates.new.items
+            (record { told = is_some (R.image rig.old); units = R.units rig.old; standing = R.standing rig.old; log = R.log rig.old; room = R.room rig.old; armed = R.armed rig.old; faults = R.faults rig.old })
+            (record { told = is_some (R.image rig.new); units = R.units rig.new; standing = R.standing rig.new; log = R.log rig.new; room = R.room rig.new; armed = R.armed rig.new; faults = R.faults rig.new }) }
+        ensures scratch { HoldsBlocks (size req.now) scratch.new }
+        ensures capacity { vec_capacity fates.new ≡ vec_capacity fates.old }
+    {
+        let count = fill_labels(req, &mut scratch.labels);
+        let size = ios[req[0].op as usize - 1].block_size() as usize;
+        let len = count as usize * self.wire_size(size);
+        let outcome = self.fetch(req, count, len, rig, &scratch.labels, &mut scratch.frames);
+        self.land(
+            pool,
+            ios,
+            req,
+            done_of(&outcome, count),
+            &mut scratch.frames,
+            fates,
+        );
+        add_rest(&outcome, count, fates);
+    }
+
+    /// Has the frames of a group, so many bytes, sent by its device to the front of the buffer.
+    fn fetch<R: Rig>(
+        &self,
+        req: &[Bio],
+        count: u32,
+        len: usize,
+        rig: &mut R,
+        labels: &[Label],
+        frames: &mut [u8],
+    ) -> Outcome
+        requires protect { IsProtect self.now.protect }
+        requires some { 1 ≤ length req.now }
+        requires count { 1 ≤ count }
+        requires ends { (first_of req.now).lba + count < 2 ^ 64 }
+        requires device { (first_of req.now).dev < (R.standing rig.old).devices }
+        requires long { len ≤ length frames.old }
+        requires spare { HasRoom (greatest_size (R.standing rig.old)) 1 count (R.room rig.old) }
+        ensures exchanged { Exchanged
+            (record { told = is_some (R.image rig.old); units = R.units rig.old; standing = R.standing rig.old; log = R.log rig.old; room = R.room rig.old; armed = R.armed rig.old; faults = R.faults rig.old })
+            (record { told = is_some (R.image rig.new); units = R.units rig.new; standing = R.standing rig.new; log = R.log rig.new; room = R.room rig.new; armed = R.armed rig.new; faults = R.faults rig.new })
+            (first_of req.now).dev (form (command_for self.now In (first_of req.now).lba count)) labels.now [] (take len frames.old) (take len frames.new) result }
+        ensures long { length frames.new ≡ length frames.old }
+    {
+        let cdb = self.command(req, Dir2::In, count);
+        let (into, _) = frames.split_at_mut(len);
+        rig.exchange(req[0].dev, &cdb.encode(), labels, &[], into)
+    }
+
+    /// Lands the first blocks of a group, so many of them, whose frames stand one after another.
+    fn land(
+        &self,
+        pool: &mut PagePool,
+        ios: &[Io],
+        req: &[Bio],
+        done: u32,
+        frames: &mut [u8],
+        fates: &mut Vec<Fate>,
+    )
+        requires group { (bytes : ℕ) × IsGroup self.now pool.old bytes ios.now req.now }
+        requires way { (first_of req.now).dir ≡ Read }
+        requires done { done ≤ size req.now }
+        requires none { fates.old.items ≡ [] }
+        requires room { size req.now * 4104 + 8 ≤ length frames.old }
+        requires fates { size req.now ≤ vec_capacity fates.old }
+        ensures fates { fates.new.items ≡ fates_in self.now ios.now (blocks_in req.now) (frames_of (frame_len self.now ios.now req.now) done frames.old) }
+        ensures cells { flat pool.new ≡ landed self.now ios.now (blocks_in req.now) (frames_of (frame_len self.now ios.now req.now) done frames.old) (flat pool.old) }
+        ensures count { length fates.new.items ≡ done }
+        ensures pages { length pool.new ≡ length pool.old }
+        ensures whole { AreWhole pool.new }
+        ensures long { length frames.new ≡ length frames.old }
+        ensures capacity { vec_capacity fates.new ≡ vec_capacity fates.old }
+    {
+        let _pages = pool.pages();
+        let mut left = done;
+        let mut at = 0usize;
+        for bio in req {
+            let count = bio.count.min(left);
+            at = self.land_bio(
+                pool,
+                &ios[bio.op as usize - 1],
+                bio,
+                count,
+                frames,
+                at,
+                fates,
+            );
+            left -= count;
+        }
+    }
+
+    /// Lands the first blocks of a bio, so many of them, whose frames stand one after another from a place on. Adds what
+    /// became of each, and answers where the last frame ends.
+    fn land_bio(
+        &self,
+        pool: &mut PagePool,
+        io: &Io,
+        bio: &Bio,
+        count: u32,
+        frames: &mut [u8],
+        from: usize,
+        fates: &mut Vec<Fate>,
+    ) -> usize
+        requires walks { Walkable pool.old io.now }
+        requires once { IsOnce io.now }
+        requires few { count ≤ bio.now.count }
+        requires within { bio.now.k + bio.now.count ≤ io.now.count }
+        requires ends { EndsInTime bio.now }
+        requires fits { io.now.first + io.now.count < 2 ^ 64 }
+        requires host { HasHost self.now.dix io.now.pi }
+        requires small { block_size io.now ≤ 4096 }
+        requires room { from + count * wire_size (route_by self.now io.now bio.now 0) + 8 ≤ length frames.old }
+        requires fates { length fates.old.items + count ≤ vec_capacity fates.old }
+        ensures fates { fates.new.items ≡ fates.old.items ++ map carried (comes_first self.now io.now bio.now (wire_size (route_by self.now io.now bio.now 0)) (drop from frames.old) count) }
+        ensures cells { flat pool.new ≡ lands_first self.now io.now bio.now (wire_size (route_by self.now io.now bio.now 0)) (drop from frames.old) (flat pool.old) count }
+        ensures pages { length pool.new ≡ length pool.old }
+        ensures whole { AreWhole pool.new }
+        ensures end { result ≡ from + count * wire_size (route_by self.now io.now bio.now 0) }
+        ensures behind { drop result frames.new ≡ drop result frames.old }
+        ensures long { length frames.new ≡ length frames.old }
+        ensures capacity { vec_capacity fates.new ≡ vec_capacity fates.old }
+    {
+        let _pages = pool.pages();
+        let step = self.wire_size(io.block_size() as usize);
+        let mut walks = Walks::of(io, bio.k);
+        let mut at = from;
+        for i in 0..count {
+            fates.push_reserved(self.land_next(pool, io, bio, i, &mut walks, frames, at));
+            at += step;
+        }
+        at
+    }
+
+    /// Lands the next block of a bio, whose frame begins at a place, and says what became of it.
+    fn land_next(
+        &self,
+        pool: &mut PagePool,
+        io: &Io,
+        bio: &Bio,
+        i: u32,
+        walks: &mut Walks<'_>,
+        frames: &mut [u8],
+        at: usize,
+    ) -> Fate
+        requires walks { Walkable pool.old io.now }
+        requires once { IsOnce io.now }
+        requires before { IsBefore io.now (bio.now.k + i) walks.old }
+        requires bio { i < bio.now.count }
+        requires within { bio.now.k + bio.now.count ≤ io.now.count }
+        requires ends { EndsInTime bio.now }
+        requires fits { io.now.first + io.now.count < 2 ^ 64 }
+        requires host { HasHost self.now.dix io.now.pi }
+        requires small { block_size io.now ≤ 4096 }
+        requires room { at + (block_size io.now + 8) ≤ length frames.old }
+        ensures fate { result ≡ carried (comes_by self.now io.now bio.now (take (wire_size (route_by self.now io.now bio.now i)) (drop at frames.old)) i) }
+        ensures cells { flat pool.new ≡ land (data_cells io.now (bio.now.k + i) ++ tuple_cells io.now.pi (bio.now.k + i)) (comes_by self.now io.now bio.now (take (wire_size (route_by self.now io.now bio.now i)) (drop at frames.old)) i) (flat pool.old) }
+        ensures pages { length pool.new ≡ length pool.old }
+        ensures whole { AreWhole pool.new }
+        ensures before { IsBefore io.now (bio.now.k + (i + 1)) walks.new }
+        ensures behind { drop (at + wire_size (route_by self.now io.now bio.now i)) frames.new ≡ drop (at + wire_size (route_by self.now io.now bio.now i)) frames.old }
+        ensures long { length frames.new ≡ length frames.old }
+    {
+        let size = io.block_size() as usize;
+        let (_, rest) = frames.split_at_mut(at);
+        let (frame, _) = rest.split_at_mut(size + TUPLE);
+        self.receive(pool, io, bio, i, walks, frame)
+    }
+
+    /// Judges the frame of the next block of a bio, and lets it land where it is good. Where no tuple came, the eight
+    /// bytes behind the data are those of the block behind it, and they are left as they were.
+    fn receive(
+        &self,
+        pool: &mut PagePool,
+        io: &Io,
+        bio: &Bio,
+        i: u32,
+        walks: &mut Walks<'_>,
+        frame: &mut [u8],
+    ) -> Fate
+        requires walks { Walkable pool.old io.now }
+        requires once { IsOnce io.now }
+        requires before { IsBefore io.now (bio.now.k + i) walks.old }
+        requires bio { i < bio.now.count }
+        requires within { bio.now.k + bio.now.count ≤ io.now.count }
+        requires ends { EndsInTime bio.now }
+        requires fits { io.now.first + io.now.count < 2 ^ 64 }
+        requires host { HasHost self.now.dix io.now.pi }
+        requires long { length frame.old ≡ block_size io.now + 8 }
+        ensures fate { result ≡ carried (comes_by self.now io.now bio.now (take (wire_size (route_by self.now io.now bio.now i)) frame.old) i) }
+        ensures cells { flat pool.new ≡ land (data_cells io.now (bio.now.k + i) ++ tuple_cells io.now.pi (bio.now.k + i)) (comes_by self.now io.now bio.now (take (wire_size (route_by self.now io.now bio.now i)) frame.old) i) (flat pool.old) }
+        ensures pages { length pool.new ≡ length pool.old }
+        ensures whole { AreWhole pool.new }
+        ensures before { IsBefore io.now (bio.now.k + (i + 1)) walks.new }
+        ensures behind { drop (wire_size (route_by self.now io.now bio.now i)) frame.new ≡ drop (wire_size (route_by self.now io.now bio.now i)) frame.old }
+        ensures long { length frame.new ≡ length frame.old }
+    {
+        let behind = tuple_behind(frame);
+        let found = self.route(io, bio, i).from_wire(&self.tamper, frame);
+        deliver(found, pool, io, bio.k + i, walks, frame);
+        put_behind(frame, &behind);
+        fate_in(found)
+    }
+}
+
+/// The last eight bytes of a frame.
+fn tuple_behind(frame: &[u8]) -> [u8; TUPLE]
+    requires { 8 ≤ length frame.now }
+    ensures { result ≡ drop (length frame.now - 8) frame.now }
+{
+    let mut behind = [0u8; TUPLE];
+    behind.copy_from_slice(frame.split_at(frame.len() - TUPLE).1);
+    behind
+}
+
+fn put_behind(frame: &mut [u8], behind: &[u8; TUPLE])
+    requires { 8 ≤ length frame.old }
+    ensures { frame.new ≡ take (length frame.old - 8) frame.old ++ behind.now }
+{
+    let size = frame.len() - TUPLE;
+    let (_, last) = frame.split_at_mut(size);
+    last.copy_from_slice(behind);
+}
+
+/// Lets a block land in which nothing was found, and else goes past it.
+fn deliver(
+    found: Option<Check>,
+    pool: &mut PagePool,
+    io: &Io,
+    k: u32,
+    walks: &mut Walks<'_>,
+    frame: &mut [u8],
+)
+    requires walks { Walkable pool.old io.now }
+    requires once { IsOnce io.now }
+    requires before { IsBefore io.now k walks.old }
+    requires within { k < io.now.count }
+    requires long { length frame.old ≡ block_size io.now + 8 }
+    ensures cells { flat pool.new ≡ land (data_cells io.now k ++ tuple_cells io.now.pi k) (unless found frame.old) (flat pool.old) }
+    ensures pages { length pool.new ≡ length pool.old }
+    ensures whole { AreWhole pool.new }
+    ensures before { IsBefore io.now (k + 1) walks.new }
+    ensures long { length frame.new ≡ length frame.old }
+{
+    match found {
+        Some(_) => walks.read(pool, io, k, frame),
+        None => walks.write(pool, io, k, frame),
+    }
+}
+
+fn fate_in(found: Option<Check>) -> Fate
+    ensures { (frame : List ℕ) → result ≡ carried (unless found frame) }
+{
+    match found {
+        Some(check) => Fate::Bad(Why::Adapter(check)),
+        None => Fate::Good,
+    }
+}

@@ -1,0 +1,16 @@
+//! The adapter between a host and its targets: it gathers a group of blocks from the pages, checks and converts their
+//! tuples, sends one command, and lands what comes back (Data Integrity Extensions).
+#![tactic(auto)]
+
+mod adapter;
+mod inward;
+mod operation;
+mod outcome;
+mod outward;
+mod scratch;
+mod walks;
+
+pub use adapter::Adapter;
+pub use block_path::Mode;
+pub use operation::{Operation, operation_for};
+pub use scratch::Scratch;

@@ -1,0 +1,332 @@
+//! Blocks on their way out.
+
+ghost use Rattle.std.specs.Prelude.{◌≡◌, true, false, ℕ, List, ◌&&◌, not, if◌then◌else◌, is_some, [], ◌+◌, ◌*◌, ◌<◌, ◌≤◌, ◌^◌, ◌++◌, length, map, replicate, take, drop};
+ghost use Rattle.std.specs.List.{All};
+ghost use Rattle.std.specs.Vec.{vec_capacity};
+ghost use Rattle.bio_core.specs.Bios.{block_size, blocks_of};
+ghost use Rattle.page_pool.specs.Cells.{flat};
+ghost use Rattle.block_path.specs.Routes.{wire_size};
+ghost use Rattle.target_answer.specs.Frames.{joined};
+ghost use Rattle.target_answer.specs.Passing.{unless};
+ghost use Rattle.bio_core.specs.declared.fate.Fate.TheVariants.{Good};
+ghost use Rattle.cdb_codec.specs.Forms.{Fits, form};
+ghost use Rattle.cdb_codec.specs.declared.choice.Dir2.TheVariants.{Out};
+ghost use Rattle.pi_tuple.specs.Finds.{is_zero};
+ghost use Rattle.rig_api.specs.Log.{HasRoom};
+ghost use Rattle.rig_api.specs.Telling.{greatest_size};
+ghost use Rattle.dix_adapter.specs.Carried.{Exchanged, Gathers, Sent, Unsent, any_bad, any_fails, fails, command_for, frame_sent, sends, sends_by, sends_first, unsent};
+ghost use Rattle.dix_adapter.specs.Walking.{HasHost, IsBefore, Walkable};
+ghost use Rattle.dix_adapter.specs.Outcomes.{done_of as spec_done, rest_of};
+ghost use Rattle.dix_adapter.specs.Room.{HoldsBlocks};
+ghost use Rattle.bio_core.specs.declared.request.Dir.TheVariants.{Write};
+ghost use Rattle.dix_adapter.specs.Groups.{EndsInTime, IsGroup, IsProtect, blocks_in, first_of, label_of, route_by, size};
+
+use crate::Adapter;
+use crate::outcome::{add_rest, done_of};
+use crate::scratch::{Scratch, TUPLE};
+use crate::walks::Walks;
+use bio_core::{Bio, Fate, Io, Why};
+use cdb_codec::{Cdb, Dir2, choose};
+use fault_schedule::Label;
+use page_pool::PagePool;
+use pi_tuple::{Check, PiType};
+use rig_api::{Outcome, Rig};
+
+impl Adapter {
+    /// Carries the blocks of a write: all are checked, and sent where none is bad.
+    pub(crate) fn carry_out<R: Rig>(
+        &self,
+        pool: &PagePool,
+        ios: &[Io],
+        req: &[Bio],
+        rig: &mut R,
+        scratch: &mut Scratch,
+        fates: &mut Vec<Fate>,
+    )
+        requires protect { IsProtect self.now.protect }
+        requires group { (bytes : ℕ) × IsGroup self.now pool.now bytes ios.now req.now }
+        requires way { (first_of req.now).dir ≡ Write }
+        requires scratch { HoldsBlocks (size req.now) scratch.old }
+        requires none { fates.old.items ≡ [] }
+        requires fates { size req.now ≤ vec_capacity fates.old }
+        requires device { (first_of req.now).dev < (R.standing rig.old).devices }
+        requires spare { HasRoom (greatest_size (R.standing rig.old)) 1 (size req.now) (R.room rig.old) }
+        ensures unsent { any_bad (map (sends self.now ios.now (flat pool.now)) (blocks_in req.now)) ≡ true
+            → Unsent self.now ios.now req.now pool.now pool.now fates.new.items × (rig.new ≡ rig.old) }
+        ensures sent { any_bad (map (sends self.now ios.now (flat pool.now)) (blocks_in req.now)) ≡ false
+            → Sent self.now ios.now req.now pool.now pool.now fates.new.items
+            (record { told = is_some (R.image rig.old); units = R.units rig.old; standing = R.standing rig.old; log = R.log rig.old; room = R.room rig.old; armed = R.armed rig.old; faults = R.faults rig.old })
+            (record { told = is_some (R.image rig.new); units = R.units rig.new; standing = R.standing rig.new; log = R.log rig.new; room = R.room rig.new; armed = R.armed rig.new; faults = R.faults rig.new }) }
+        ensures scratch { HoldsBlocks (size req.now) scratch.new }
+        ensures capacity { vec_capacity fates.new ≡ vec_capacity fates.old }
+    {
+        let end = self.gather(pool, ios, req, &mut scratch.frames, fates);
+        if has_bad(fates) {
+            return;
+        }
+        let count = fill_labels(req, &mut scratch.labels);
+        let outcome = self.send(req, count, rig, &scratch.labels, &scratch.frames[..end]);
+        set_fates(&outcome, count, fates);
+    }
+
+    /// Gathers the frames of a group, one after another, as they are sent, and judges each block. Answers where the
+    /// last one ends.
+    fn gather(
+        &self,
+        pool: &PagePool,
+        ios: &[Io],
+        req: &[Bio],
+        frames: &mut [u8],
+        fates: &mut Vec<Fate>,
+    ) -> usize
+        requires group { (bytes : ℕ) × IsGroup self.now pool.now bytes ios.now req.now }
+        requires none { fates.old.items ≡ [] }
+        requires room { size req.now * 4104 + 8 ≤ length frames.old }
+        requires fates { size req.now ≤ vec_capacity fates.old }
+        ensures fates { fates.new.items ≡ map unsent (map (sends self.now ios.now (flat pool.now)) (blocks_in req.now)) }
+        ensures frames { any_bad (map (sends self.now ios.now (flat pool.now)) (blocks_in req.now)) ≡ false
+            → take result frames.new ≡ joined (map frame_sent (map (sends self.now ios.now (flat pool.now)) (blocks_in req.now))) }
+        ensures within { result ≤ length frames.new }
+        ensures long { length frames.new ≡ length frames.old }
+        ensures capacity { vec_capacity fates.new ≡ vec_capacity fates.old }
+    {
+        let mut at = 0usize;
+        for bio in req {
+            at = self.gather_bio(pool, &ios[bio.op as usize - 1], bio, frames, at, fates);
+        }
+        at
+    }
+
+    /// Gathers the frames of a bio's blocks, from a place on, and adds what became of each. Answers where the last one
+    /// ends.
+    fn gather_bio(
+        &self,
+        pool: &PagePool,
+        io: &Io,
+        bio: &Bio,
+        frames: &mut [u8],
+        from: usize,
+        fates: &mut Vec<Fate>,
+    ) -> usize
+        requires walks { Walkable pool.now io.now }
+        requires within { bio.now.k + bio.now.count ≤ io.now.count }
+        requires ends { EndsInTime bio.now }
+        requires fits { io.now.first + io.now.count < 2 ^ 64 }
+        requires host { HasHost self.now.dix io.now.pi }
+        requires small { block_size io.now ≤ 4096 }
+        requires room { from + bio.now.count * (block_size io.now + 8) + 8 ≤ length frames.old }
+        requires fates { length fates.old.items + bio.now.count ≤ vec_capacity fates.old }
+        ensures fates { fates.new.items ≡ fates.old.items ++ map unsent (sends_first self.now io.now bio.now (flat pool.now) bio.now.count) }
+        ensures frames { Gathers self.now io.now bio.now (flat pool.now) bio.now.count from frames.old frames.new }
+        ensures end { result ≡ from + bio.now.count * wire_size (route_by self.now io.now bio.now 0) }
+        ensures long { length frames.new ≡ length frames.old }
+        ensures capacity { vec_capacity fates.new ≡ vec_capacity fates.old }
+    {
+        let mut walks = Walks::of(io, bio.k);
+        let mut at = from;
+        for i in 0..bio.count {
+            let (found, end) = self.gather_next(pool, io, bio, i, &mut walks, frames, at);
+            fates.push_reserved(fate_out(found));
+            at = end;
+        }
+        at
+    }
+
+    /// Gathers the next block of a bio into the frames, from a place on, and answers what was found in it and where
+    /// its frame ends.
+    fn gather_next(
+        &self,
+        pool: &PagePool,
+        io: &Io,
+        bio: &Bio,
+        i: u32,
+        walks: &mut Walks<'_>,
+        frames: &mut [u8],
+        at: usize,
+    ) -> (Option<Check>, usize)
+        requires walks { Walkable pool.now io.now }
+        requires before { IsBefore io.now (bio.now.k + i) walks.old }
+        requires bio { i < bio.now.count }
+        requires within { bio.now.k + bio.now.count ≤ io.now.count }
+        requires ends { EndsInTime bio.now }
+        requires fits { io.now.first + io.now.count < 2 ^ 64 }
+        requires host { HasHost self.now.dix io.now.pi }
+        requires room { at + (block_size io.now + 8) ≤ length frames.old }
+        requires small { block_size io.now ≤ 4096 }
+        ensures judged { unless result.0 (take (wire_size (route_by self.now io.now bio.now i)) (drop at frames.new)) ≡ sends_by self.now io.now bio.now (flat pool.now) i }
+        ensures front { take at frames.new ≡ take at frames.old }
+        ensures end { result.1 ≡ at + wire_size (route_by self.now io.now bio.now i) }
+        ensures long { length frames.new ≡ length frames.old }
+        ensures before { IsBefore io.now (bio.now.k + (i + 1)) walks.new }
+    {
+        let size = io.block_size() as usize;
+        let (_, rest) = frames.split_at_mut(at);
+        let (frame, _) = rest.split_at_mut(size + TUPLE);
+        let found = self.gather_block(pool, io, bio, i, walks, frame);
+        (found, at + self.wire_size(size))
+    }
+
+    /// Gathers the next block of a bio, and judges it.
+    fn gather_block(
+        &self,
+        pool: &PagePool,
+        io: &Io,
+        bio: &Bio,
+        i: u32,
+        walks: &mut Walks<'_>,
+        frame: &mut [u8],
+    ) -> Option<Check>
+        requires walks { Walkable pool.now io.now }
+        requires before { IsBefore io.now (bio.now.k + i) walks.old }
+        requires bio { i < bio.now.count }
+        requires within { bio.now.k + bio.now.count ≤ io.now.count }
+        requires ends { EndsInTime bio.now }
+        requires fits { io.now.first + io.now.count < 2 ^ 64 }
+        requires host { HasHost self.now.dix io.now.pi }
+        requires long { length frame.old ≡ block_size io.now + 8 }
+        ensures judged { unless result (take (wire_size (route_by self.now io.now bio.now i)) frame.new) ≡ sends_by self.now io.now bio.now (flat pool.now) i }
+        ensures long { length frame.new ≡ length frame.old }
+        ensures before { IsBefore io.now (bio.now.k + (i + 1)) walks.new }
+    {
+        walks.read(pool, io, bio.k + i, frame);
+        self.route(io, bio, i).to_wire(&self.tamper, frame)
+    }
+
+    /// The bytes of a frame on the wire.
+    pub(crate) fn wire_size(&self, size: usize) -> usize
+        requires { size + 8 < 2 ^ 32 }
+        ensures { result ≡ (if self.now.dif && not (is_zero self.now.ty) then size + 8 else size) }
+    {
+        if self.passes_tuples() {
+            size + TUPLE
+        } else {
+            size
+        }
+    }
+
+    fn passes_tuples(&self) -> bool
+        ensures { result ≡ (self.now.dif && not (is_zero self.now.ty)) }
+    {
+        self.dif && self.ty != PiType::Zero
+    }
+
+    /// The command for a group of so many blocks.
+    pub(crate) fn command(&self, req: &[Bio], dir: Dir2, count: u32) -> Cdb
+        requires protect { IsProtect self.now.protect }
+        requires some { 1 ≤ length req.now }
+        requires count { 1 ≤ count }
+        requires ends { (first_of req.now).lba + count < 2 ^ 64 }
+        ensures command { result ≡ command_for self.now dir (first_of req.now).lba count }
+        ensures fits { Fits result }
+    {
+        let protect = if self.passes_tuples() {
+            self.protect
+        } else {
+            0
+        };
+        choose(
+            self.ty, dir, req[0].lba, count, protect, self.app, self.mask,
+        )
+    }
+
+    /// Hands the frames of a group to its device.
+    fn send<R: Rig>(
+        &self,
+        req: &[Bio],
+        count: u32,
+        rig: &mut R,
+        labels: &[Label],
+        frames: &[u8],
+    ) -> Outcome
+        requires protect { IsProtect self.now.protect }
+        requires some { 1 ≤ length req.now }
+        requires count { 1 ≤ count }
+        requires ends { (first_of req.now).lba + count < 2 ^ 64 }
+        requires device { (first_of req.now).dev < (R.standing rig.old).devices }
+        requires spare { HasRoom (greatest_size (R.standing rig.old)) 1 count (R.room rig.old) }
+        ensures { Exchanged
+            (record { told = is_some (R.image rig.old); units = R.units rig.old; standing = R.standing rig.old; log = R.log rig.old; room = R.room rig.old; armed = R.armed rig.old; faults = R.faults rig.old })
+            (record { told = is_some (R.image rig.new); units = R.units rig.new; standing = R.standing rig.new; log = R.log rig.new; room = R.room rig.new; armed = R.armed rig.new; faults = R.faults rig.new })
+            (first_of req.now).dev (form (command_for self.now Out (first_of req.now).lba count)) labels.now frames.now [] [] result }
+    {
+        let cdb = self.command(req, Dir2::Out, count);
+        rig.exchange(req[0].dev, &cdb.encode(), labels, frames, &mut [])
+    }
+}
+
+/// The labels of a group's blocks in order, and how many they are.
+pub(crate) fn fill_labels(req: &[Bio], labels: &mut Vec<Label>) -> u32
+    requires small { size req.now < 2 ^ 32 }
+    requires ends { All EndsInTime req.now }
+    requires room { size req.now ≤ vec_capacity labels.old }
+    ensures labels { labels.new.items ≡ map label_of (blocks_in req.now) }
+    ensures count { result ≡ size req.now }
+    ensures capacity { vec_capacity labels.new ≡ vec_capacity labels.old }
+{
+    labels.clear();
+    for bio in req {
+        add_labels(bio, labels);
+    }
+    labels.len() as u32
+}
+
+fn add_labels(bio: &Bio, labels: &mut Vec<Label>)
+    requires ends { EndsInTime bio.now }
+    requires room { length labels.old.items + bio.now.count ≤ vec_capacity labels.old }
+    ensures labels { labels.new.items ≡ labels.old.items ++ map label_of (blocks_of bio.now) }
+    ensures capacity { vec_capacity labels.new ≡ vec_capacity labels.old }
+{
+    for i in 0..bio.count {
+        labels.push_reserved(Label {
+            op: bio.op,
+            k: bio.k + i,
+        });
+    }
+}
+
+fn add_good(count: u32, fates: &mut Vec<Fate>)
+    requires { length fates.old.items + count ≤ vec_capacity fates.old }
+    ensures items { fates.new.items ≡ fates.old.items ++ replicate count Good }
+    ensures capacity { vec_capacity fates.new ≡ vec_capacity fates.old }
+{
+    for _ in 0..count {
+        fates.push_reserved(Fate::Good);
+    }
+}
+
+fn fate_out(found: Option<Check>) -> Fate
+    ensures { (frame : List ℕ) → result ≡ unsent (unless found frame) }
+{
+    match found {
+        Some(check) => Fate::Bad(Why::Adapter(check)),
+        None => Fate::Untouched,
+    }
+}
+
+/// What became of so many blocks that were sent.
+fn set_fates(outcome: &Outcome, count: u32, fates: &mut Vec<Fate>)
+    requires { count ≤ vec_capacity fates.old }
+    ensures items { fates.new.items ≡ replicate (spec_done count outcome.now) Good ++ rest_of count outcome.now }
+    ensures capacity { vec_capacity fates.new ≡ vec_capacity fates.old }
+{
+    fates.clear();
+    add_good(done_of(outcome, count), fates);
+    add_rest(outcome, count, fates);
+}
+
+fn is_bad(fate: Fate) -> bool
+    ensures { result ≡ fails fate }
+{
+    matches!(fate, Fate::Bad(_))
+}
+
+fn has_bad(fates: &[Fate]) -> bool
+    ensures { result ≡ any_fails fates.now }
+{
+    for fate in fates {
+        if is_bad(*fate) {
+            return true;
+        }
+    }
+    false
+}

@@ -1,0 +1,36 @@
+//! The room of one command.
+
+ghost use Rattle.std.specs.Prelude.{◌≡◌, ◌+◌, ◌*◌, ◌≤◌, ◌<◌, ◌^◌, IfOk, length};
+ghost use Rattle.std.specs.Vec.{vec_capacity};
+ghost use Rattle.dix_adapter.specs.Room.{HoldsBlocks};
+
+use fault_schedule::Label;
+use std::alloc::{AllocError, Global};
+
+/// The most bytes of data in a block.
+pub(crate) const LARGEST_BLOCK: usize = 4096;
+
+/// The bytes of a tuple.
+pub(crate) const TUPLE: usize = 8;
+
+/// Where the adapter keeps the frames and the labels of one command.
+#[derive(Drop)]
+pub struct Scratch {
+    // One frame after another, and eight bytes more: a frame that has no tuple on the wire has room for one.
+    pub(crate) frames: Vec<u8>,
+    pub(crate) labels: Vec<Label>,
+}
+
+impl Scratch {
+    /// Room for the blocks of one command, of which there are at most 1,048,576, each of at most 4,096 bytes.
+    pub fn new(alloc: Global, max_blocks: u32) -> Result<Scratch, AllocError>
+        requires { max_blocks ≤ 1048576 }
+        ensures { IfOk result (HoldsBlocks max_blocks) }
+    {
+        let count = max_blocks as usize;
+        Ok(Scratch {
+            frames: vec![in alloc; 0; count * (LARGEST_BLOCK + TUPLE) + TUPLE]?,
+            labels: Vec::with_capacity(alloc, count)?,
+        })
+    }
+}
