@@ -2,6 +2,7 @@
 use Rattle.std.proofs.Common.{◌≡◌, ◌<◌, ◌≤◌, ℕ, zero, suc, ◌+◌, ◌-◌, Bool, true, false, not, eqb, List, [], ◌∷◌, ◌++◌, length, map, take, get_or, refl, sym, ap, ◌∙◌, ⊎_elim, arith, length-append}
 use Rattle.std.specs.Prelude.{min, nat_lt}
 use Rattle.std.specs.List.{All, filter}
+use Rattle.std.proofs.lemmas.List.{get_or_past}
 use Rattle.std.proofs.lemmas.Bool.{cases_Bool, cases_lt, and_parts, and_left, and_right, le-ltb, ne_eqb, not-true}
 use Rattle.std.proofs.lemmas.List.{length-map, get_or-map, get_or_append_left, get_or-append_right}
 use Rattle.std.proofs.lemmas.List.Elements.{filter-append, All-nil, All-cons, All-get_or}
@@ -217,17 +218,29 @@ unended-same v (suc i) =
     let r = unended-same v i in
     rw (e, r) refl
 
-none-same : (f g : ℕ → ℕ → Bool) (i : ℕ) (js : List ℕ) → ((j i : ℕ) → f j i ≡ g j i) → none_conflicts f i js ≡ none_conflicts g i js
-none-same f g i [] h = refl
-none-same f g i (j ∷ js) h = let e = h j i in let r = none-same f g i js h in rw (e, r) refl
+-- only the ops before one are looked at
+none-same : (p : Plan) (v : View) (g : Gated) (i n : ℕ) → n ≤ i → i < length p.requests → IsGateOf p g → none_conflicts (conflict_at g.conflicts) i (unended v n) ≡ none_conflicts p.conflicts i (unended v n)
+none-same p v g i zero l h c = refl
+none-same p v g i (suc n) l h c =
+    let e = c n i (omega arith) h in
+    let r = none-same p v g i n (omega arith) h c in
+    ⊎_elim
+    (λ (x : has_ended (op_at v n).phase ≡ true). rw x r)
+    (λ (x : has_ended (op_at v n).phase ≡ false). rw (x, e, r) refl)
+    (cases_Bool (has_ended (op_at v n).phase))
+
+abbrev IsGateFor : Plan → View → Gated → Type 0
+IsGateFor p v g = (length v.ops ≡ length p.requests) × IsGateOf p g
 
 -- the gate lets in what the view lets in
-pub gate-same : (p : Plan) (v : View) (g : Gated) (i : ℕ) → g.phases ≡ map phase_of v.ops → IsGateOf p g → Gate.may_admit g i ≡ may_admit p v i
+pub gate-same : (p : Plan) (v : View) (g : Gated) (i : ℕ) → g.phases ≡ map phase_of v.ops → IsGateFor p v g → Gate.may_admit g i ≡ may_admit p v i
 gate-same p v g i e c =
     let a : phase_at g.phases i ≡ (op_at v i).phase = ap (λ z. phase_at z i) e ∙ phase-there v i in
     let u : Gate.unended g.phases i ≡ unended v i = ap (λ z. Gate.unended z i) e ∙ unended-same v i in
-    let n = none-same (conflict_at g.conflicts) p.conflicts i (unended v i) c in
-    rw (a, u, n) refl
+    ⊎_elim
+    (λ (l : i < length p.requests). let n = none-same p v g i i (omega arith) l c.1 in rw (a, u, n) refl)
+    (λ (l : length p.requests ≤ i). let same = c.0 in let o : op_at v i ≡ no_op = get_or_past v.ops i no_op (omega arith) in let w : (op_at v i).phase ≡ Ended = ap phase_of o in rw (a, w) refl)
+    (cases_lt i (length p.requests))
 
 -- ---- the test of one op
 
@@ -253,7 +266,7 @@ state-there v i =
     past zero (o ∷ os) l = absurd (omega arith)
     past (suc i) (o ∷ os) l = past i os (omega arith)
 
-pub can-same : (p : Plan) (v : View) (g : Gated) (s : OpStep) (q : ℕ) → g.phases ≡ map phase_of v.ops → IsGateOf p g → can_at p g (map state_of v.ops) (live_ops v) s q ≡ can p v (step_for s (get_or (live_ops v) q 0))
+pub can-same : (p : Plan) (v : View) (g : Gated) (s : OpStep) (q : ℕ) → g.phases ≡ map phase_of v.ops → IsGateFor p v g → can_at p g (map state_of v.ops) (live_ops v) s q ≡ can p v (step_for s (get_or (live_ops v) q 0))
 can-same p v g Ending q e c =
     let s = state-there v (get_or (live_ops v) q 0) in
     let a : phase_at g.phases (get_or (live_ops v) q 0) ≡ (op_at v (get_or (live_ops v) q 0)).phase = ap (λ z. phase_at z (get_or (live_ops v) q 0)) e ∙ phase-there v (get_or (live_ops v) q 0) in
@@ -313,7 +326,7 @@ can-stays p v Cutting i h = admitted-stays (op_at v i).phase (and_parts (is_admi
 abbrev found_places : Plan → View → Gated → OpStep → List ℕ
 found_places p v g s = places p g (map state_of v.ops) (live_ops v) s
 
-places-are : (p : Plan) (v : View) (g : Gated) (s : OpStep) → Windowed v → g.phases ≡ map phase_of v.ops → IsGateOf p g →
+places-are : (p : Plan) (v : View) (g : Gated) (s : OpStep) → Windowed v → g.phases ≡ map phase_of v.ops → IsGateFor p v g →
     filter (λ i. can p v (step_for s i)) (numbers 0 (length v.ops)) ≡ map (λ q. get_or (live_ops v) q 0) (found_places p v g s)
 places-are p v g s w x c₁ =
     let t : ℕ → Bool = λ i. can p v (step_for s i) in
@@ -383,7 +396,7 @@ below-filter t k (suc n) =
     (λ (e : t k ≡ false). rw e r)
     (cases_Bool (t k))
 
-fits-ops : (p : Plan) (v : View) (g : Gated) (s : OpStep) (f : ℕ → Choice) → Windowed v → g.phases ≡ map phase_of v.ops → IsGateOf p g → ((q : ℕ) → q < length (live_ops v) → Means p v (f q) (step_for s (get_or (live_ops v) q 0))) →
+fits-ops : (p : Plan) (v : View) (g : Gated) (s : OpStep) (f : ℕ → Choice) → Windowed v → g.phases ≡ map phase_of v.ops → IsGateFor p v g → ((q : ℕ) → q < length (live_ops v) → Means p v (f q) (step_for s (get_or (live_ops v) q 0))) →
     Fits (Means p v) no_choice (StepEnd 0) (map f (found_places p v g s)) (enabled_below p v (step_for s) (length v.ops))
 fits-ops p v g s f w x c₁ h =
     let e : enabled_below p v (step_for s) (length v.ops) ≡ map (λ q. step_for s (get_or (live_ops v) q 0)) (found_places p v g s) =
@@ -421,7 +434,7 @@ fits-sends p v d (q ∷ qs) =
     fits-append (Means p v) no_choice (StepEnd 0) (map (Send d) (numbers 0 (length q.groups))) (sends_at (suc d) qs) (map (StepSend d) (numbers 0 (length q.groups))) (sends (suc d) (map groups_of qs))
     (fits-map (Means p v) no_choice (StepEnd 0) (Send d) (StepSend d) 0 (numbers 0 (length q.groups)) (λ k l. refl)) (fits-sends p v (suc d) qs)
 
-pub all-fit : (p : Plan) (v : View) (g : Gated) (ops : List OpState) (live : List ℕ) (qs : List Queued) (flight : List Command) → ops ≡ map state_of v.ops → live ≡ live_ops v → map groups_of qs ≡ v.queues → flight ≡ in_order v.commands → Windowed v → g.phases ≡ map phase_of v.ops → IsGateOf p g →
+pub all-fit : (p : Plan) (v : View) (g : Gated) (ops : List OpState) (live : List ℕ) (qs : List Queued) (flight : List Command) → ops ≡ map state_of v.ops → live ≡ live_ops v → map groups_of qs ≡ v.queues → flight ≡ in_order v.commands → Windowed v → g.phases ≡ map phase_of v.ops → IsGateFor p v g →
     Fits (Means p v) no_choice (StepEnd 0) (choices p g ops live qs flight) (enabled p v)
 all-fit p v g ops live qs flight e₁ e₂ e₃ e₄ w x c =
     let b = by-lists p v in

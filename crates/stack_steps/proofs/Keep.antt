@@ -193,7 +193,7 @@ keeps-all p gate gate' ops ops' live live' qs qs' flight flight' steps steps' he
     let w = s.taken in
     record {
       phases = g₁;
-      conflicts = λ j i. ap (λ z. conflict_at z j i) g₂ ∙ s.conflicts j i;
+      conflicts = λ j i l h. ap (λ z. conflict_at z j i) g₂ ∙ s.conflicts j i l h;
       states = e₁;
       listed = e₂;
       queued = e₃;
@@ -265,7 +265,7 @@ pub may-enter : (p : Plan) (gate : Gated) (ops : List OpState) (live : List ℕ)
     (q < length (live_ops v)) × (t ≡ Admit (get_or (live_ops v) q 0)) → may_admit gate (get_or live q 0) ≡ true
 may-enter p gate ops live qs flight steps v q t s h m =
     let g : get_or live q 0 ≡ get_or (live_ops v) q 0 = ap (λ z. get_or z q 0) s.listed in
-    ap (may_admit gate) g ∙ gate-same p v gate (get_or (live_ops v) q 0) s.phases s.conflicts ∙ ap (can p v) (sym m.1) ∙ h
+    ap (may_admit gate) g ∙ gate-same p v gate (get_or (live_ops v) q 0) s.phases (s.sound.ops, s.conflicts) ∙ ap (can p v) (sym m.1) ∙ h
 
 pub shows-end : (p : Plan) (gate gate' : Gated) (ops : List OpState) (live live' : List ℕ) (qs : List Queued) (flight : Flights) (steps steps' : ℕ) (v : View) (q : ℕ) (t : Step) (cut : ℕ) →
     Fine p → Shows p gate ops live qs flight steps v.queues v → can p v t ≡ true → (q < length (live_ops v)) × (t ≡ End (get_or (live_ops v) q 0)) →

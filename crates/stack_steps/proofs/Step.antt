@@ -118,12 +118,12 @@ counts-fit p gate ops live qs flight steps v f s =
     }
 
 pub count-is : (p : Plan) (gate : Gated) (ops : List OpState) (live : List ℕ) (qs : List Queued) (flight : Flights) (steps : ℕ) (v : View) → Shows p gate ops live qs flight steps v.queues v → length (choices p gate ops live qs flight.commands) ≡ length (enabled p v)
-count-is p gate ops live qs flight steps v s = (all-fit p v gate ops live qs flight.commands s.states s.listed s.queued s.flying s.windowed s.phases s.conflicts).same
+count-is p gate ops live qs flight steps v s = (all-fit p v gate ops live qs flight.commands s.states s.listed s.queued s.flying s.windowed s.phases (s.sound.ops, s.conflicts)).same
 
 pub means : (p : Plan) (gate : Gated) (ops : List OpState) (live : List ℕ) (qs : List Queued) (flight : Flights) (steps : ℕ) (v : View) (word n : ℕ) (c : Choice) → Shows p gate ops live qs flight steps v.queues v → 0 < length (enabled p v) → n ≡ word % length (enabled p v) →
     c ≡ get_or (choices p gate ops live qs flight.commands) n no_choice → Means p v c (chosen p v word)
 means p gate ops live qs flight steps v word n c s h e f =
-    let a = all-fit p v gate ops live qs flight.commands s.states s.listed s.queued s.flying s.windowed s.phases s.conflicts in
+    let a = all-fit p v gate ops live qs flight.commands s.states s.listed s.queued s.flying s.windowed s.phases (s.sound.ops, s.conflicts) in
     let l = a.same in
     let f₂ : c ≡ get_or (choices p gate ops live qs flight.commands) (word % length (enabled p v)) no_choice = f ∙ ap (λ m. get_or (choices p gate ops live qs flight.commands) m no_choice) e in
     rw f₂ (a.each (word % length (enabled p v)) (omega arith))

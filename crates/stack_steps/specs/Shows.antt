@@ -39,7 +39,7 @@ Windowed v = (i : ℕ) → is_admitted (op_at v i).phase ≡ true → length (un
 
 -- the gate keeps apart the ops that conflict
 abbrev pub IsGateOf : Plan → Gated → Type 0
-IsGateOf p g = (j i : ℕ) → conflict_at g.conflicts j i ≡ p.conflicts j i
+IsGateOf p g = (j i : ℕ) → j < i → i < length p.requests → conflict_at g.conflicts j i ≡ p.conflicts j i
 
 -- What is kept: of each op its phase, how much is cut and how much is unsettled; the ops that have not ended; the groups that the queues hold; the commands in flight.
 pub record Shows (p : Plan) (g : Gated) (ops : List OpState) (live : List ℕ) (queues : List Queued) (flight : Flights) (steps : ℕ) (held : List (List Group)) (v : View) : Type 0 where
