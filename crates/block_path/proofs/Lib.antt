@@ -3,6 +3,7 @@ pub mod Behind
 pub mod Cells
 pub mod Change
 pub mod Given
+pub mod InTurn
 pub mod ReadMoves
 pub mod Serial
 pub mod Sizes

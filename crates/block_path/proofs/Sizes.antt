@@ -104,7 +104,7 @@ tag_length : (c : Bool) (tag : List ℕ) (n : ℕ) → length tag ≡ 4 → leng
 tag_length true tag n l = refl
 tag_length false tag n l = l
 
-tuple_length : (ty : PiType) (from to : ℕ) (tuple : List ℕ) → length tuple ≡ 8 → length (remapped_bytes ty from to tuple) ≡ 8
+pub tuple_length : (ty : PiType) (from to : ℕ) (tuple : List ℕ) → length tuple ≡ 8 → length (remapped_bytes ty from to tuple) ≡ 8
 tuple_length ty from to tuple l =
     let t = tag_length (has_ref_tag ty && eqb (from_be_bytes w32 (drop 4 tuple)) (ref_tag from)) (drop 4 tuple) (ref_tag to) (let d = length-drop 4 tuple in omega (arith, d, l)) in
     let a = length-append (take 4 tuple) (if has_ref_tag ty && eqb (from_be_bytes w32 (drop 4 tuple)) (ref_tag from) then to_be_bytes w32 (ref_tag to) else drop 4 tuple) in

@@ -1,4 +1,4 @@
-use Rattle.std.specs.Prelude.{◌≡◌, ℕ, ◌+◌, ◌<◌, false, nat_eq, List, [], ◌∷◌, length, take, drop, get_or, replicate, Option, Some, None, Ok, Err}
+use Rattle.std.specs.Prelude.{◌≡◌, ℕ, ◌+◌, ◌<◌, false, nat_eq, List, [], ◌∷◌, length, take, drop, get_or, replicate, Option, Some, None, Ok, Err, zero, suc, ◌++◌}
 use Rattle.std.specs.List.{All, IsDistinct}
 use Rattle.pi_tuple.specs.Tuples.{tuple_bytes}
 use Rattle.integrity_payload.specs.declared.payload.Owner.{Owner}
@@ -128,3 +128,8 @@ pub record FrameAt (size : ℕ) (frame : List ℕ) (count : ℕ) : Type 0 where
 -- without the pages from byte n on, which are nobody's but the block layer's, and without fates
 abbrev pub hidden : ℕ → State → State
 hidden n s = record s { bytes = take n s.bytes; fates = [] }
+
+-- f 0, f 1 and so on, so many of them, in turn
+abbrev pub in_turn : (ℕ → Act Answer) → ℕ → List (Act Answer)
+in_turn f zero = []
+in_turn f (suc n) = in_turn f n ++ (f n ∷ [])

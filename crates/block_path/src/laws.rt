@@ -1,14 +1,24 @@
 //! What the layers above build on: acts on cells in any order that keeps conflicting ones in order, and a block's
 //! moves that are its act.
 
-ghost use Rattle.std.specs.Prelude.{◌≡◌, ℕ, ◌+◌, ◌<◌, ◌≤◌, Bool, false, true, IfOk, List, [], ◌∷◌, ◌++◌, Option, Some, None, drop, get_or, length, map, set};
+ghost use Rattle.std.specs.Prelude.{◌≡◌, ℕ, ◌+◌, ◌*◌, ◌<◌, ◌≤◌, Bool, false, true, IfOk, List, [], ◌∷◌, ◌++◌, Option, Some, None, drop, get_or, length, map, set};
 ghost use Rattle.std.specs.List.{All};
-ghost use Rattle.page_pool.specs.Cells.{share_a_cell};
+ghost use Rattle.pi_guard.specs.Guards.{guard_of};
+ghost use Rattle.pi_guard.specs.declared.GuardKind.{GuardKind as AnyKind};
+ghost use Rattle.pi_tuple.specs.Finds.{own_tag};
+ghost use Rattle.pi_tuple.specs.Tuples.{tuple_bytes};
+ghost use Rattle.pi_tuple.specs.declared.checks.PiType.{PiType as AnyType};
+ghost use Rattle.page_pool.specs.Cells.{cell, flat, share_a_cell};
+ghost use Rattle.page_pool.specs.Pages.{AllLieIn, AreWhole, Wrote};
+ghost use Rattle.page_pool.specs.Places.{Apart, NoneTwice, places_in, range_of, total};
+ghost use Rattle.page_pool.specs.declared.segs.Seg.{Seg as AnySeg};
+ghost use Rattle.integrity_payload.specs.Payloads.{made_bytes, tuple_places};
+ghost use Rattle.ref_remap.specs.Remapped.{AreRemapped, remapped_bytes};
 ghost use Rattle.integrity_payload.specs.declared.payload.Owner.{Owner};
 ghost use Rattle.block_path.specs.declared.route.Route.{Route};
 ghost use Rattle.block_path.specs.Acts.{Act, State, act, conflict, tell};
 ghost use Rattle.block_path.specs.Blocks.{Site, fetched_cell, read_block, write_block, write_block_of_app};
-ghost use Rattle.block_path.specs.Moves.{AreCells, Fills, FrameAt, IsOne, carry_in, carry_out, hidden, joined, make_tuple, map_back, map_out, settle};
+ghost use Rattle.block_path.specs.Moves.{AreCells, Fills, FrameAt, IsOne, carry_in, carry_out, hidden, in_turn, joined, make_tuple, map_back, map_out, on_bytes, settle};
 ghost use Rattle.fault_schedule.specs.declared.fault.FaultLine.{FaultLine};
 ghost use Rattle.block_path.specs.Routes.{Device, host_size, wire_size};
 ghost use Rattle.block_path.specs.WayIn.{comes_in, from_wire, mapped_back};
@@ -102,4 +112,17 @@ pub fn frames_have_their_sizes()
     ensures mapped { (r : Route) (frame : List ℕ) → length frame ≡ host_size r → (length (mapped_out r frame) ≡ host_size r) × (length (mapped_back r frame) ≡ host_size r) }
     ensures fills { (faults : List FaultLine) (device : Device) (r : Route) (stored to : List ℕ) → IfOk (device.sends r stored) (λ f. length f ≡ wire_size r) → length to ≡ host_size r
         → Fills r to (comes_in faults device r stored) }
+{}
+
+/// A call that maps the tags of n tuples in place, or makes the tuples of a payload, leaves what one move for each
+/// tuple leaves, in turn.
+pub fn tuples_are_written_in_turn()
+    ensures mapped { (old new : List (List ℕ)) (segs : List AnySeg) (ty : AnyType) (k n from to : ℕ) (now : State)
+        → AreWhole old → AllLieIn old segs → NoneTwice (places_in segs) → 8 * (k + n) ≤ total segs → now.bytes ≡ flat old → AreRemapped old new segs ty k n from to
+        → (plain act (in_turn (λ i. on_bytes (map cell (tuple_places segs (k + i))) (map cell (tuple_places segs (k + i))) (remapped_bytes ty (from + i) (to + i))) n) now).bytes ≡ flat new }
+    ensures made { (old new : List (List ℕ)) (body segs : List AnySeg) (size : ℕ) (kind : AnyKind) (ty : AnyType) (seed app n : ℕ) (now : State)
+        → AreWhole old → AllLieIn old body → AllLieIn old segs → NoneTwice (places_in segs) → Apart (places_in body) (places_in segs) → 8 * n ≤ total segs → now.bytes ≡ flat old
+        → Wrote old new (range_of segs 0 (8 * n)) (made_bytes old body size kind ty seed app n)
+        → (plain act (in_turn (λ i. on_bytes (map cell (range_of body (i * size) size)) (map cell (tuple_places segs i))
+        (λ bytes. tuple_bytes (record { guard = guard_of kind bytes; app = app; rtag = own_tag ty (seed + i) }))) n) now).bytes ≡ flat new }
 {}

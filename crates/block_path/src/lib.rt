@@ -11,7 +11,7 @@ mod ways;
 pub use adapter::host_type;
 pub use laws::{
     a_read_in_two_moves, a_walk_goes_on, a_write_in_three_moves, acts_without_conflict_commute,
-    frames_have_their_sizes, one_exchange_is_its_blocks_in_turn,
+    frames_have_their_sizes, one_exchange_is_its_blocks_in_turn, tuples_are_written_in_turn,
     what_is_not_done_may_become_another_act, what_was_done_is_a_walk, what_was_done_is_final,
 };
 pub use mode::Mode;
