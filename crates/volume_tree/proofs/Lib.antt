@@ -1,5 +1,5 @@
 mod Putting
-mod Following
+pub mod Following
 mod Gathering
 mod Spots
 mod Placing
