@@ -5,3 +5,6 @@ mod answer;
 mod discovery;
 
 pub use discovery::{BadCapacity, discover};
+
+#[cfg(test)]
+mod tests;
