@@ -1,5 +1,8 @@
 //! Runs over forms in memory: the report and the image, each text, each fault.
 
+mod files;
+mod scrubs;
+
 use crate::fate::{read_fate, reply_for, write_fate};
 use crate::report::lines_for;
 use crate::run;
