@@ -1,9 +1,10 @@
-use Rattle.std.proofs.Common.{ℕ, ◌≡◌, inr, Bool, true, false, if◌then◌else◌, List, length, Option, Some, None, refl, ◌∙◌, arith}
+use Rattle.std.proofs.Common.{ℕ, ◌≡◌, inr, Bool, true, false, if◌then◌else◌, List, [], length, Option, Some, None, refl}
 use Rattle.target_answer.specs.declared.units.UnitSpec.{UnitSpec}
 use Rattle.volume_table.specs.declared.device.DeviceInfo.{DeviceInfo}
 use Rattle.pi_scrub.specs.declared.found.Found.{Found}
-use Rattle.image_commands.specs.Causes.{CauseUnformatted, CauseUnmigrated, CauseUnscrubbed, HasSpared, WasFormatted, WasMigrated, WasScrubbed}
+use Rattle.image_commands.specs.Causes.{CauseUnformatted, CauseUnmigrated, CauseUnscrubbed, WasFormatted, WasMigrated, WasScrubbed}
 use Rattle.image_commands.specs.declared.fault.Fault.{Fault}
+use Rattle.image_commands.specs.declared.fault.Fault.TheVariants as fault
 use Rattle.dix_words.specs.Grammar.{command_in, image_in}
 use Rattle.dix_words.specs.declared.command.Command.{Command}
 use Rattle.dix_words.specs.declared.command.Command.TheVariants.{Run, Trace, Format, Migrate, Mirror, Scrub, Nvme, Modes, Big}
@@ -100,19 +101,10 @@ pub unscrubbed : (f : Facts) (r : Refusal) (x : Fault) (old new : Option (List �
     Written (status_of r) (refusal_text r) old new o m result → Ended f old new o m result
 unscrubbed f r x old new o m result named e cause source written = record { verdict = Refused r; cause = (rw (named, e) (cause, source)); written = written }
 
--- a scrub without the memory for its text leaves every stored block
-pub scrub_spared : (name : List ℕ) (devices : List DeviceInfo) (found : List Found) (old new : View) → WasScrubbed name devices found old new → HasSpared name old new
-scrub_spared name devices found old new d = inr (
-  d.discovered.between,
-  record {
-    opened = d.discovered.since.opened;
-    kept = d.discovered.since.kept;
-    laid = d.discovered.since.laid;
-    units = d.units ∙ d.discovered.since.units;
-    standing = d.standing ∙ d.discovered.since.standing;
-    count = omega (arith, d.count, d.discovered.since.count);
-  },
-)
+-- a scrub without the memory for its text looked at every block
+pub scrub_spared : (name : List ℕ) (devices : List DeviceInfo) (found : List Found) (old new : View) → WasScrubbed name devices found old new → CauseUnscrubbed fault.Memory name old new
+scrub_spared name devices found old new d =
+    inr (record { devices = devices; told = d.told; discovered = d.discovered; left = []; found = found; looked = d.looked; units = d.units; standing = d.standing; count = d.count })
 
 -- a device's answer at fault
 pub refused_device : (f : Facts) (r : Refusal) (ops : List Op) (between : View) → is_run f.words ≡ true → ReadsAs (Some ops) f.left f.left_after → WasOpened (image_in f.words) None f.rig between → HasKept f.rig between → between.seen.units ≡ units_told between.standing between.image →

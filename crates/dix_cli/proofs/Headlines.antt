@@ -24,7 +24,7 @@ use Rattle.whole_run.specs.Report.{report}
 use Rattle.whole_run.proofs.Plainly.{walk_plain}
 use Rattle.volume_table.specs.declared.device.DeviceInfo.{DeviceInfo}
 use Rattle.pi_scrub.specs.declared.found.Found.{Found}
-use Rattle.image_commands.specs.Causes.{CauseUnformatted, CauseUnmigrated, CauseUnscrubbed, HasOpened, HasSpared, WasScrubbed}
+use Rattle.image_commands.specs.Causes.{CauseUnformatted, CauseUnmigrated, CauseUnscrubbed, HasOpened}
 use Rattle.image_commands.specs.declared.fault.Fault.{Fault}
 use Rattle.image_commands.specs.declared.fault.Fault.TheVariants as fault
 use Rattle.dix_words.specs.Grammar.{command_in, image_in}
@@ -32,7 +32,7 @@ use Rattle.dix_words.specs.declared.command.Command.{Command}
 use Rattle.dix_words.specs.declared.command.Command.TheVariants.{Run, Trace, Format, Migrate, Mirror, Scrub, Nvme, Modes, Big}
 use Rattle.dix_cli.specs.Words.{is_run, is_run_command}
 use Rattle.dix_cli.specs.Reading.{IsOver, IsWhole, most_bytes, script_of}
-use Rattle.dix_cli.specs.Headline.{Carries, IsComplete, IsRun, OpensOnce, RunEqualsPlain, blocks_of_image}
+use Rattle.dix_cli.specs.Headline.{IsComplete, IsRun, OpensOnce, RunEqualsPlain, blocks_of_image}
 use Rattle.dix_cli.specs.Verdict.{ByFault, Cause, CauseByCommand, CauseRefused, Ended, Facts, Finished, Formatted, HasBadDevice, HasFormatted, HasMigrated, HasNoCommand, HasRun, HasScrubbed, IsNotBuilt, Migrated, ReadsAs, Refused, Scrubbed, Verdict, Written, fault_of, status_of, verdict_status, verdict_text}
 use Rattle.dix_cli.specs.declared.refusal.Refusal.{Refusal}
 use Rattle.dix_cli.specs.declared.refusal.Refusal.TheVariants as refusal
@@ -235,7 +235,7 @@ headline_holds f taken taken' o n result ended laid ready = λ text image writte
     }
 
 -- each refusal that has a cause other than want of memory is excluded
-never_rose : (old new : ℕ) → Calm old new → Rose old new → ⊥
+pub never_rose : (old new : ℕ) → Calm old new → Rose old new → ⊥
 never_rose old new c r = grind arith
 
 not_none : (f : Facts) (text : List ℕ) (ops : List Op) → f.left ≡ Some text → script_of text ≡ Some ops → ReadsAs None f.left f.left_after → ⊥
@@ -259,7 +259,7 @@ not_over f text ops e s over =
     let short : length text ≤ most_bytes = leb-true (length text) most_bytes (too_long (nat_le (length text) most_bytes) (script_in text) ops s) in
     over_long text over.0 f.left f.left_after e over.1 over.2 short
 
-no_head_fault : (image : List ℕ) (fault : RigFault) (old new : View) (name : List ℕ) → old.image ≡ Some image → new.image ≡ old.image → head_fault (head_of image) ≡ None → WasOpened name (Some fault) old new → ⊥
+pub no_head_fault : (image : List ℕ) (fault : RigFault) (old new : View) (name : List ℕ) → old.image ≡ Some image → new.image ≡ old.image → head_fault (head_of image) ≡ None → WasOpened name (Some fault) old new → ⊥
 no_head_fault image fault old new name e k good opened =
     let head : new.standing.head ≡ head_of image = headed new.standing.head image new.image (k ∙ e) opened.head in
     let both : ◌≡◌ {A = Option RigFault} (Some fault) None = sym opened.judged ∙ ap head_fault head ∙ good in
@@ -304,7 +304,7 @@ verdict_run f (Formatted n) text image ops w l s i h u cr cf c = absurd (no_form
 verdict_run f (Migrated n) text image ops w l s i h u cr cf c = absurd (no_migrate n f w c)
 verdict_run f (Scrubbed ds found) text image ops w l s i h u cr cf c = absurd (no_scrub ds found f w c)
 
-as_written : (v : Verdict) (old new : Option (List ℕ)) (o n : ℕ) (result : Status) → Calm o n → Written (verdict_status v) (verdict_text v) old new o n result → result ≡ verdict_status v
+pub as_written : (v : Verdict) (old new : Option (List ℕ)) (o n : ℕ) (result : Status) → Calm o n → Written (verdict_status v) (verdict_text v) old new o n result → result ≡ verdict_status v
 as_written v old new o n result c (inl w) = w.0
 as_written v old new o n result c (inr w) = absurd (never_rose o n c w.1)
 
@@ -329,6 +329,11 @@ refused_opens f refusal.ReadFault c = inl (stayed f.rig f.rig_after c.1)
 opened_still : (name : List ℕ) (old between new : View) → HasOpened name old between new → OpenedOnce name old.standing new.standing
 opened_still name old between new o = inr (ap (λ (s : Standing). s.openings) o.standing ∙ o.opened.opened.0, ap (λ (s : Standing). s.name) o.standing ∙ o.opened.opened.1)
 
+opened_on : (name : List ℕ) (old between told new : View) → HasOpened name old between told → new.standing ≡ told.standing → OpenedOnce name old.standing new.standing
+opened_on name old between told new o same =
+    let to : new.standing ≡ between.standing = same ∙ o.standing in
+    inr (ap (λ (s : Standing). s.openings) to ∙ o.opened.opened.0, ap (λ (s : Standing). s.name) to ∙ o.opened.opened.1)
+
 format_opens : (x : Option Fault) (name : List ℕ) (old new : View) → ByFault CauseUnformatted x name old new → OpenedOnce name old.standing new.standing
 format_opens None name old new c = absurd c
 format_opens (Some (fault.Image f)) name old new c = absurd c
@@ -343,9 +348,9 @@ migrate_opens (Some (fault.BadCapacity dev)) name old new c = absurd c
 migrate_opens (Some fault.RigFault) name old new c = inr c.1
 migrate_opens (Some fault.Memory) name old new c = c.1
 
-spared_opens : (name : List ℕ) (old new : View) → HasSpared name old new → OpenedOnce name old.standing new.standing
+spared_opens : (name : List ℕ) (old new : View) → CauseUnscrubbed fault.Memory name old new → OpenedOnce name old.standing new.standing
 spared_opens name old new (inl c) = c.1
-spared_opens name old new (inr c) = opened_still name old c.0 new c.1
+spared_opens name old new (inr c) = opened_on name old c.discovered.between c.told new c.discovered.since c.standing
 
 scrub_opens : (x : Option Fault) (name : List ℕ) (old new : View) → ByFault CauseUnscrubbed x name old new → OpenedOnce name old.standing new.standing
 scrub_opens None name old new c = absurd c
@@ -374,21 +379,7 @@ opens f (Refused r) c = command_opens f (command_in f.words) r c
 opens f (Finished bad text) c = inr (ap (λ (s : Standing). s.openings) (c.standing ∙ c.small.standing) ∙ c.opened.opened.0, ap (λ (s : Standing). s.name) (c.standing ∙ c.small.standing) ∙ c.opened.opened.1)
 opens f (Formatted n) c = inr c.done.opened
 opens f (Migrated n) c = inr c.done.opened
-opens f (Scrubbed ds found) c = scrubbed_opens (image_in f.words) ds found f.rig f.rig_after c.done
-  where
-    scrubbed_opens : (name : List ℕ) (devices : List DeviceInfo) (faults : List Found) (old new : View) → WasScrubbed name devices faults old new → OpenedOnce name old.standing new.standing
-    scrubbed_opens name devices faults old new d =
-        let to : new.standing ≡ d.discovered.between.standing = d.standing ∙ d.discovered.since.standing in
-        inr (ap (λ (s : Standing). s.openings) to ∙ d.discovered.since.opened.opened.0, ap (λ (s : Standing). s.name) to ∙ d.discovered.since.opened.opened.1)
+opens f (Scrubbed ds found) c = opened_on (image_in f.words) f.rig c.done.discovered.between c.done.told f.rig_after c.done.discovered.since c.done.standing
 
 pub opens_once : (f : Facts) (taken taken' : Option (List ℕ)) (o n : ℕ) (result : Status) → Ended f taken taken' o n result → OpensOnce f
 opens_once f taken taken' o n result ended = opens f ended.verdict ended.cause
-
-pub carried : (f : Facts) (taken taken' : Option (List ℕ)) (o n : ℕ) (result : Status) → Ended f taken taken' o n result → f.rig_after.seen.units ≡ units_told f.rig_after.standing f.rig_after.image → IsStanding f.rig_after.standing f.rig_after.image →
-    Carries f taken taken' o n result
-carried f taken taken' o n result ended laid ready = record {
-  ended = ended;
-  headline = headline_holds f taken taken' o n result ended laid ready;
-  complete = complete_holds f taken taken' o n result ended;
-  opens = opens_once f taken taken' o n result ended;
-}

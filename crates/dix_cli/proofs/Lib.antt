@@ -1,4 +1,5 @@
 mod Acts
+mod Carrying
 mod Exchanges
 mod Endings
 mod Fitting

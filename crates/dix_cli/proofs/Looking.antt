@@ -1,5 +1,6 @@
 use Rattle.std.proofs.Common.{ℕ, suc, ◌≡◌, ◌+◌, ◌-◌, ◌≤◌, Bool, true, false, List, [], ◌∷◌, length, take, Option, Some, None, refl, sym, ap, ◌∙◌, arith}
 use Rattle.std.specs.Prelude.{if◌then◌else◌, is_some, map, slice_index_or}
+use Rattle.image_commands.proofs.Devices.{untold}
 use Rattle.image_commands.specs.Views.{View}
 use Rattle.pi_tuple.specs.declared.checks.PiType.{PiType}
 use Rattle.target_answer.specs.Target.{Stored}
@@ -127,10 +128,6 @@ looked old new devices small count laid found standing units from_told faults te
         all [] = refl
         all (v ∷ vs) = ap (λ (w : List UnitSpec). v ∷ w) (all vs)
 
-pub bad_device : (old new : View) (dev : ℕ) (told : Bool) → told ≡ is_some old.seen.units → (told ≡ true → ⊥) → HasFault old.standing dev old.seen.log new.seen.log → new.standing ≡ old.standing → new.seen.units ≡ old.seen.units → old.seen.faults ≤ new.seen.faults →
+pub bad_device : (old new : View) (dev : ℕ) → (is_some old.seen.units ≡ true → ⊥) → HasFault old.standing dev old.seen.log new.seen.log → new.standing ≡ old.standing → new.seen.units ≡ old.seen.units → old.seen.faults ≤ new.seen.faults →
     IsBadDevice (refusal.BadCapacity dev) old new
-bad_device old new dev told e never fault standing units count = record { dev = dev; refusal_is = refl; fault = fault; untold = untold told e never; standing = standing; units = units; count = count }
-  where
-    untold : (b : Bool) → b ≡ is_some old.seen.units → (b ≡ true → ⊥) → is_some old.seen.units ≡ false
-    untold true p n = absurd (n refl)
-    untold false p n = sym p
+bad_device old new dev never fault standing units count = record { dev = dev; refusal_is = refl; fault = fault; untold = untold old.seen.units never; standing = standing; units = units; count = count }

@@ -7,7 +7,9 @@ use Rattle.whole_run.specs.declared.op.Op.{Op}
 use Rattle.whole_run.specs.Plain.{AreClean, Plain, plain_run, under}
 use Rattle.whole_run.specs.Report.{report}
 use Rattle.whole_run.specs.Small.{small_spec}
-use Rattle.dix_words.specs.Grammar.{image_in}
+use Rattle.target_answer.specs.declared.units.UnitSpec.{UnitSpec}
+use Rattle.dix_words.specs.Grammar.{command_in, image_in}
+use Rattle.dix_words.specs.declared.command.Command.{Command}
 use Rattle.dix_cli.specs.Words.{is_run}
 use Rattle.dix_cli.specs.Reading.{script_of}
 use Rattle.dix_cli.specs.Verdict.{Ended, Facts}
@@ -18,7 +20,7 @@ use Rattle.dix_cli.specs.declared.status.Status.TheVariants.{Whole, SomeBad, Mem
 abbrev pub blocks_of_image : List ℕ → List (List ℕ)
 blocks_of_image image = frames_of 520 4 (drop 512 image)
 
--- A script was run.
+-- Each block was looked at, or each op done, and the text was written.
 abbrev pub IsRun : Status → Type 0
 IsRun s = (s ≡ Whole) ⊎ (s ≡ SomeBad)
 
@@ -41,6 +43,23 @@ IsComplete f o n result =
     (text image : List ℕ) (ops : List Op) → is_run f.words ≡ true → f.left ≡ Some text → script_of text ≡ Some ops → f.rig.image ≡ Some image → head_fault (head_of image) ≡ None → units_of (head_of image) ≡ small_spec ∷ [] →
     Calm f.reads f.reads_after → Calm f.rig.seen.faults f.rig_after.seen.faults → Calm o n → IsRun result ⊎ (result ≡ Memory)
 
+-- Words of `format` and no fault give status 0, or want of memory.
+abbrev pub FormatIsComplete : Facts → ℕ → ℕ → Status → Type 0
+FormatIsComplete f o n result =
+    (units : List UnitSpec) → command_in f.words ≡ Some (Command.Format units) → Calm f.rig.seen.faults f.rig_after.seen.faults → Calm o n → (result ≡ Whole) ⊎ (result ≡ Memory)
+
+-- Words of `migrate`, an image whose head is right, and no fault give status 0, or want of memory.
+abbrev pub MigrateIsComplete : Facts → ℕ → ℕ → Status → Type 0
+MigrateIsComplete f o n result =
+    (image : List ℕ) → command_in f.words ≡ Some Command.Migrate → f.rig.image ≡ Some image → head_fault (head_of image) ≡ None →
+    Calm f.rig.seen.faults f.rig_after.seen.faults → Calm o n → (result ≡ Whole) ⊎ (result ≡ Memory)
+
+-- Words of `scrub`, an image whose head is right, and no fault give status 0 or 1, or want of memory.
+abbrev pub ScrubIsComplete : Facts → ℕ → ℕ → Status → Type 0
+ScrubIsComplete f o n result =
+    (image : List ℕ) → command_in f.words ≡ Some Command.Scrub → f.rig.image ≡ Some image → head_fault (head_of image) ≡ None →
+    Calm f.rig.seen.faults f.rig_after.seen.faults → Calm o n → IsRun result ⊎ (result ≡ Memory)
+
 -- The rig was opened at most once more, by the name in the words.
 abbrev pub OpensOnce : Facts → Type 0
 OpensOnce f = OpenedOnce (image_in f.words) f.rig.standing f.rig_after.standing
@@ -50,4 +69,7 @@ pub record Carries (f : Facts) (taken taken' : Option (List ℕ)) (o n : ℕ) (r
   pub ended : Ended f taken taken' o n result
   pub headline : RunEqualsPlain f taken taken' result
   pub complete : IsComplete f o n result
+  pub formats : FormatIsComplete f o n result
+  pub migrates : MigrateIsComplete f o n result
+  pub scrubs : ScrubIsComplete f o n result
   pub opens : OpensOnce f

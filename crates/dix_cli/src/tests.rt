@@ -1,5 +1,6 @@
 //! Runs over forms in memory: the report and the image, each text, each fault.
 
+mod capacities;
 mod files;
 mod scrubs;
 

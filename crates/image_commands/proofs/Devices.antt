@@ -1,4 +1,4 @@
-use Rattle.std.proofs.Common.{ℕ, suc, ◌≡◌, ◌+◌, ◌≤◌, Bool, true, leb, ◌&&◌, List, [], ◌∷◌, length, drop, Option, Some, None, refl, sym, ap, ◌∙◌, arith}
+use Rattle.std.proofs.Common.{ℕ, suc, ◌≡◌, ◌+◌, ◌≤◌, Bool, true, false, leb, ◌&&◌, List, [], ◌∷◌, length, drop, Option, Some, None, refl, sym, ap, ◌∙◌, arith}
 use Rattle.std.specs.Prelude.{is_some, map}
 use Rattle.std.proofs.lemmas.Bool.{leb-true}
 use Rattle.target_answer.specs.Headers.{bytes_of}
@@ -59,3 +59,8 @@ devices_are s s' devices units units' image found few ends same kept laid told =
 -- the stored blocks after a call that changed neither image nor head
 pub units_through : (s s' : Standing) (image image' : Option (List ℕ)) (units units' : Option (List Stored)) → units ≡ units_told s image → units' ≡ units_told s' image' → s' ≡ s → image' ≡ image → units' ≡ units
 units_through s s' image image' units units' p q e f = q ∙ ap (λ (v : Standing). units_told v image') e ∙ ap (units_told s) f ∙ sym p
+
+-- what can't be told isn't
+pub untold : (units : Option (List Stored)) → (is_some units ≡ true → ⊥) → is_some units ≡ false
+untold None never = refl
+untold (Some us) never = absurd (never refl)

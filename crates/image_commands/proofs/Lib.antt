@@ -1,1 +1,1 @@
-mod Devices
+pub mod Devices

@@ -1,4 +1,4 @@
-use Rattle.std.specs.Prelude.{ℕ, ◌≡◌, ◌≤◌, ◌⊎◌, List, [], Some, None}
+use Rattle.std.specs.Prelude.{ℕ, ◌≡◌, ◌≤◌, ◌⊎◌, false, List, [], Some, None, is_some}
 use Rattle.dix_base.specs.Told.{Becomes, Calm, Rose}
 use Rattle.target_answer.specs.Image.{formatted}
 use Rattle.target_answer.specs.Target.{Stored}
@@ -8,7 +8,7 @@ use Rattle.rig_api.specs.Telling.{IsMigrated, KeepsBlocks, KeepsUnits, Opened, m
 use Rattle.volume_table.specs.declared.device.DeviceInfo.{DeviceInfo}
 use Rattle.rig_discovery.specs.Discovery.{HasFault, HasFound}
 use Rattle.pi_scrub.specs.Faults.{all_faults}
-use Rattle.pi_scrub.specs.Looks.{all_places}
+use Rattle.pi_scrub.specs.Looks.{Place, all_places}
 use Rattle.pi_scrub.specs.Scrubbed.{HasDevices, Looked}
 use Rattle.pi_scrub.specs.declared.found.Found.{Found}
 use Rattle.image_commands.specs.Views.{HasKept, OpenedOnce, View, WasOpened}
@@ -68,22 +68,19 @@ pub record WasTold (name : List ℕ) (devices : List DeviceInfo) (old new : View
   pub found : HasFound between.standing devices between.seen.log new.seen.log
   pub devices_are : HasDevices devices new.standing new.seen.units
 
--- the device of this number gave an answer at fault, the first
+-- The device of this number gave an answer at fault, the first. The blocks aren't told then.
 pub record IsBad (name : List ℕ) (dev : ℕ) (old new : View) : Type 0 where
   pub between : View
   pub since : HasOpened name old between new
   pub fault : HasFault between.standing dev between.seen.log new.seen.log
-
--- Want of memory came before the image was opened, or since then no stored block changed.
-abbrev pub HasSpared : List ℕ → View → View → Type 0
-HasSpared name old new = (HasKept old new × OpenedOnce name old.standing new.standing) ⊎ ((between : View) × HasOpened name old between new)
+  pub untold : is_some between.seen.units ≡ false
 
 -- Why it isn't known what the devices of an image are: it isn't opened, a device's answer is at fault, or there is no memory.
 abbrev pub CauseUntold : Fault → List ℕ → View → View → Type 0
 CauseUntold (fault.Image f) name old new = WasOpened name (Some f) old new × HasKept old new
 CauseUntold (fault.BadCapacity dev) name old new = IsBad name dev old new
 CauseUntold fault.RigFault name old new = Rose old.seen.faults new.seen.faults × Opened name old.standing new.standing × HasKept old new
-CauseUntold fault.Memory name old new = HasSpared name old new
+CauseUntold fault.Memory name old new = HasKept old new × OpenedOnce name old.standing new.standing
 
 -- The image was opened, its devices told what they are, and then every stored block was looked at. What was found is what the records say; where the blocks are told and the count of faults didn't rise, it is exactly the blocks at fault.
 pub record WasScrubbed (name : List ℕ) (devices : List DeviceInfo) (found : List Found) (old new : View) : Type 0 where
@@ -95,6 +92,21 @@ pub record WasScrubbed (name : List ℕ) (devices : List DeviceInfo) (found : Li
   pub standing : new.standing ≡ told.standing
   pub count : told.seen.faults ≤ new.seen.faults
 
--- Why an image isn't scrubbed: as before; after want of memory no stored block is another.
+-- The devices of the image told what they are, and then blocks were looked at, each once and in order, up to those that are left. No stored block changed.
+pub record WasScrubbedInPart (name : List ℕ) (old new : View) : Type 0 where
+  pub devices : List DeviceInfo
+  pub told : View
+  pub discovered : WasTold name devices old told
+  pub left : List Place
+  pub found : List Found
+  pub looked : Looked devices (all_places 0 devices) left [] found told.seen.log new.seen.log told.seen.faults new.seen.faults
+  pub units : new.seen.units ≡ told.seen.units
+  pub standing : new.standing ≡ told.standing
+  pub count : told.seen.faults ≤ new.seen.faults
+
+-- Why an image isn't scrubbed: it isn't known what its devices are, or there is no memory, before the first block or behind any.
 abbrev pub CauseUnscrubbed : Fault → List ℕ → View → View → Type 0
-CauseUnscrubbed f name old new = CauseUntold f name old new
+CauseUnscrubbed (fault.Image f) name old new = CauseUntold (fault.Image f) name old new
+CauseUnscrubbed (fault.BadCapacity dev) name old new = CauseUntold (fault.BadCapacity dev) name old new
+CauseUnscrubbed fault.RigFault name old new = CauseUntold fault.RigFault name old new
+CauseUnscrubbed fault.Memory name old new = CauseUntold fault.Memory name old new ⊎ WasScrubbedInPart name old new

@@ -2,6 +2,5 @@ pub mod Changing
 pub mod Devices
 pub mod Formats
 pub mod Heads
-pub mod Keeping
 pub mod Migrates
 pub mod Units

@@ -2,23 +2,23 @@
 
 ghost use Rattle.std.specs.Prelude.{◌≡◌, ◌≤◌, ◌+◌, ◌*◌, [], length, refl};
 ghost use Rattle.rig_api.specs.Head.{Head};
-ghost use Rattle.image_rig.specs.Entries.{entries, few_of, keyed_of, spare};
+ghost use Rattle.rig_log.specs.Entries.{few_of, keyed_of};
+ghost use Rattle.rig_log.specs.Logs.{logged, room_in};
 ghost use Rattle.image_rig.specs.Heads.{head_in};
 ghost use Rattle.image_rig.specs.Told.{laid_of, ready_of, standing_of, units_of_image};
 
 use crate::ImageRig;
 use crate::formatting::append_formatted;
 use crate::image_head::ImageHead;
-use crate::log::Log;
 use crate::looking::look;
 use crate::migrating::migrate_head;
-use crate::note::note;
 use crate::overwriting::change_block;
 use crate::place::{greatest_size, logical};
 use arrayvec::ArrayVec;
 use dix_base::{Failed, Store, StoreFault};
 use fault_schedule::{FaultList, Label, Tamper};
 use rig_api::{Change, Outcome, Record, Rig, RigFault, UnitSpec};
+use rig_log::Log;
 use std::alloc::{AllocError, Global};
 use target_model::serve;
 
@@ -59,9 +59,9 @@ impl<S: Store> Rig for ImageRig<S> {
 
     ghost standing = { λ s. standing_of (length s.units.items) (head_in s.head) (S.handed s.store) (S.openings s.store) };
 
-    ghost log = { λ s. entries s.log.labels.items s.log.moved.items s.log.kept.items };
+    ghost log = { λ s. logged s.log };
 
-    ghost room = { λ s. record { records = s.log.free; labels = spare s.log.labels; moved = spare s.log.moved } };
+    ghost room = { λ s. room_in s.log };
 
     ghost armed = { λ s. s.tamper };
 
@@ -123,26 +123,24 @@ impl<S: Store> Rig for ImageRig<S> {
     }
 
     fn records(&self) -> u32 {
-        self.log.len() as u32
+        self.log.len()
     }
 
     fn logged(&self, i: u32) -> &Record {
-        self.log.record(i as usize)
+        self.log.record(i)
     }
 
     fn moved(&self, i: u32) -> &[u8] {
-        self.log.moved(i as usize)
+        self.log.moved(i)
     }
 
     fn labels(&self, i: u32) -> &[Label] {
-        self.log.labels(i as usize)
+        self.log.labels(i)
     }
 
     fn reserve(&mut self, _alloc: Global, exchanges: u32, blocks: u32) -> Result<(), AllocError> {
-        let frame = greatest_size(&self.units) as usize + 8;
-        let labels = exchanges as usize + blocks as usize;
-        let moved = frame * blocks as usize + 32 * exchanges as usize;
-        self.log.reserve(exchanges, labels, moved)
+        self.log
+            .reserve(greatest_size(&self.units), exchanges, blocks)
     }
 
     fn arm(&mut self, lines: FaultList) {
@@ -163,16 +161,8 @@ impl<S: Store> Rig for ImageRig<S> {
     ) -> Outcome {
         let unit = logical(&self.units, dev as usize);
         let outcome = serve(&mut self.store, &unit, cdb, labels, out, into, &self.tamper);
-        note(
-            &mut self.log,
-            unit.size,
-            dev,
-            cdb,
-            labels,
-            outcome,
-            out,
-            into,
-        );
+        self.log
+            .note(unit.size, dev, cdb, labels, outcome, out, into);
         outcome
     }
 }

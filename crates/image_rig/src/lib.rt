@@ -7,11 +7,8 @@ mod formatting;
 mod head;
 mod image;
 mod image_head;
-mod kept;
-mod log;
 mod looking;
 mod migrating;
-mod note;
 mod overwriting;
 mod place;
 

@@ -1,4 +1,3 @@
-use Rattle.std.proofs.Common.{refl}
 use Rattle.dix_cli.proofs.Looking.{at_most_eight, bad_device, looked, stands_small}
 use Rattle.dix_cli.proofs.opening.is_small.Goals as goal
 
@@ -17,4 +16,4 @@ returns-in-Ok-clause-small g c =
 
 pub returns-in-Err-clause-bad : goal.returns-in-Err-clause-bad
 returns-in-Err-clause-bad g c =
-    bad_device _ _ c.in-Err.bad.dev _ refl (λ t. (let k = c.in-Err.ensures.never t in cc)) c.in-Err.ensures.fault c.discover.ensures.standing c.discover.ensures.units c.discover.ensures.count
+    bad_device _ _ c.in-Err.bad.dev (λ t. (let k = c.in-Err.ensures.never t in cc)) c.in-Err.ensures.fault c.discover.ensures.standing c.discover.ensures.units c.discover.ensures.count

@@ -1,7 +1,7 @@
 use Rattle.std.proofs.Common.{Some, refl, sym, ap, ◌∙◌}
 use Rattle.dix_words.specs.declared.command.Command.{Command}
 use Rattle.dix_cli.proofs.Endings.{ended_none, not_built}
-use Rattle.dix_cli.proofs.Headlines.{carried}
+use Rattle.dix_cli.proofs.Carrying.{carried}
 use Rattle.dix_cli.proofs.program.run.Goals as goal
 
 pub returns-in_default : goal.returns-in_default

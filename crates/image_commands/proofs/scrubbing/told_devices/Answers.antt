@@ -1,7 +1,8 @@
 use Rattle.std.proofs.Common.{ap, ◌∙◌, arith}
+use Rattle.std.specs.Prelude.{is_some}
 use Rattle.rig_api.specs.Telling.{Standing}
 use Rattle.image_commands.specs.Views.{seen, view}
-use Rattle.image_commands.proofs.Devices.{devices_are, few_units, units_through}
+use Rattle.image_commands.proofs.Devices.{devices_are, few_units, units_through, untold}
 use Rattle.image_commands.proofs.scrubbing.told_devices.Goals as goal
 
 pub discover-requires-clause-few : goal.discover-requires-clause-few
@@ -41,4 +42,8 @@ returns-in-Err-discover g c = record {
     count = omega (arith, c.discover.ensures.count, c.reserve.ensures.count);
   };
   fault = rw (c.reserve.ensures.standing, c.reserve.ensures.log) at c.in-Err-discover.ensures.fault;
+  untold = untold _ (λ t.
+      let told = ap is_some (units_through _ _ _ _ _ _ (g.met.R.Rig.laid c.open_image.new.rig) (g.met.R.Rig.laid c.reserve.new.self) c.reserve.ensures.standing c.reserve.ensures.image) ∙ t in
+      let ok = c.in-Err-discover.ensures.never told in
+      cc);
 }

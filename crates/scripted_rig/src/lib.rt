@@ -1,0 +1,10 @@
+//! A rig for tests of what stands above a rig: it opens, formats and migrates images as another rig
+//! does, tells nothing of what they hold, and answers each command as the test wrote it down.
+#![tactic(auto)]
+
+mod answers;
+mod calls;
+mod scripted;
+
+pub use answers::Answer;
+pub use scripted::ScriptedRig;
