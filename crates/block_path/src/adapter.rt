@@ -145,11 +145,12 @@ impl Route {
             return;
         }
         let size = self.size as usize;
-        let crc = crc16(&frame[..size]);
         if !self.mode.dix {
+            let crc = crc16(&frame[..size]);
             put_tuple(frame, size, make(crc, 0, own_tag(self.ty, self.lba)));
         } else if self.mode.kind == GuardKind::Ip {
-            put_guard(frame, size, crc);
+            let guard = crc16(&frame[..size]);
+            put_guard(frame, size, guard);
         }
     }
 
@@ -163,15 +164,16 @@ impl Route {
             return;
         }
         let size = self.size as usize;
-        let guard = guard(self.mode.kind, &frame[..size]);
         if !self.passes_tuples() {
+            let guard = guard(self.mode.kind, &frame[..size]);
             put_tuple(
                 frame,
                 size,
                 make(guard, 0, own_tag(host_type(self.ty), self.lba)),
             );
         } else if self.mode.kind == GuardKind::Ip {
-            put_guard(frame, size, guard);
+            let sum = ip_sum(&frame[..size]);
+            put_guard(frame, size, sum);
         }
     }
 
