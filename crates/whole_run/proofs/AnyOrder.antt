@@ -14,23 +14,23 @@ use Rattle.whole_run.proofs.CalmRuns.{is_plain}
 
 -- The walk of ops is the walk of all their acts, in any order.
 
-plain_append : {S A : Type 0} (act : A → S → S) (xs ys : List A) (s : S) → plain act (xs ++ ys) s ≡ plain act ys (plain act xs s)
+pub plain_append : {S A : Type 0} (act : A → S → S) (xs ys : List A) (s : S) → plain act (xs ++ ys) s ≡ plain act ys (plain act xs s)
 plain_append act [] ys s = refl
 plain_append act (x ∷ xs) ys s = plain_append act xs ys (act x s)
 
-first_tells : {S A R : Type 0} (act : A → S → S) (tell : A → S → R) (xs ys : List A) (s : S) → take (length xs) (plain_tells act tell (xs ++ ys) s) ≡ plain_tells act tell xs s
+pub first_tells : {S A R : Type 0} (act : A → S → S) (tell : A → S → R) (xs ys : List A) (s : S) → take (length xs) (plain_tells act tell (xs ++ ys) s) ≡ plain_tells act tell xs s
 first_tells act tell [] ys s = refl
 first_tells act tell (x ∷ xs) ys s = ap (λ rs. tell x s ∷ rs) (first_tells act tell xs ys (act x s))
 
-other_tells : {S A R : Type 0} (act : A → S → S) (tell : A → S → R) (xs ys : List A) (s : S) → drop (length xs) (plain_tells act tell (xs ++ ys) s) ≡ plain_tells act tell ys (plain act xs s)
+pub other_tells : {S A R : Type 0} (act : A → S → S) (tell : A → S → R) (xs ys : List A) (s : S) → drop (length xs) (plain_tells act tell (xs ++ ys) s) ≡ plain_tells act tell ys (plain act xs s)
 other_tells act tell [] ys s = refl
 other_tells act tell (x ∷ xs) ys s = other_tells act tell xs ys (act x s)
 
-acts_walk : (m : Setting) (i : ℕ) (ops : List Op) (s : State) → plain act (acts_from m i ops) s ≡ walk_from m i ops s
+pub acts_walk : (m : Setting) (i : ℕ) (ops : List Op) (s : State) → plain act (acts_from m i ops) s ≡ walk_from m i ops s
 acts_walk m i [] s = refl
 acts_walk m i (op ∷ ops) s = plain_append act (acts_of m i op) (acts_from m (suc i) ops) s ∙ acts_walk m (suc i) ops (plain act (acts_of m i op) s)
 
-acts_reply : (m : Setting) (i : ℕ) (ops : List Op) (s : State) → replies_by m i ops (plain_tells act tell (acts_from m i ops) s) ≡ replies_from m i ops s
+pub acts_reply : (m : Setting) (i : ℕ) (ops : List Op) (s : State) → replies_by m i ops (plain_tells act tell (acts_from m i ops) s) ≡ replies_from m i ops s
 acts_reply m i [] s = refl
 acts_reply m i (op ∷ ops) s =
     let mine = acts_of m i op in

@@ -26,17 +26,17 @@ use Rattle.whole_run.proofs.TupleFrames.{below_replicate}
 
 -- From steps to ops, and from a setting without faults to its own form.
 
-room : (size k n : ℕ) → k < n → k * size + size ≤ n * size
+pub room : (size k n : ℕ) → k < n → k * size + size ≤ n * size
 room size k n l = let up : suc k * size ≤ n * size = mul-le-mul_right size l in let e = suc-mul k size in omega (arith, up, e)
 
 -- the cells of one part of a list
-part_length : (segs : List Seg) (size k n : ℕ) → total segs ≡ n * size → k < n → length (map cell (range_of segs (k * size) size)) ≡ size
+pub part_length : (segs : List Seg) (size k n : ℕ) → total segs ≡ n * size → k < n → length (map cell (range_of segs (k * size) size)) ≡ size
 part_length segs size k n e l = length-map (range_of segs (k * size) size) cell ∙ length-range segs (k * size) size (let r = room size k n l in omega (arith, r, e))
 
-tuple_length : (segs : List Seg) (k n : ℕ) → total segs ≡ n * 8 → k < n → length (tuple_of segs k) ≡ 8
+pub tuple_length : (segs : List Seg) (k n : ℕ) → total segs ≡ n * 8 → k < n → length (tuple_of segs k) ≡ 8
 tuple_length segs k n e l = length-map (range_of segs (8 * k) 8) cell ∙ length-range segs (8 * k) 8 (omega (arith, e, l))
 
-frame_length : (size : ℕ) (body tuples : List Seg) (k n : ℕ) → total body ≡ n * size → total tuples ≡ n * 8 → k < n → length (frame_at size body tuples k) ≡ size + 8
+pub frame_length : (size : ℕ) (body tuples : List Seg) (k n : ℕ) → total body ≡ n * size → total tuples ≡ n * 8 → k < n → length (frame_at size body tuples k) ≡ size + 8
 frame_length size body tuples k n e f l =
     let a = length-append (body_of size body k) (tuple_of tuples k) in
     let b = part_length body size k n e l in
@@ -113,7 +113,7 @@ quiet_run m' ops opening run =
     record { replies = all.replies_are; under = all.is_under }
 
 -- a setting without faults is its own form without them
-silent_form : (m : Setting) → IsCalm m → m ≡ quiet m m.mode.dix m.mode.dif m.ty
+pub silent_form : (m : Setting) → IsCalm m → m ≡ quiet m m.mode.dix m.mode.dif m.ty
 silent_form m c = λ i. record m { site = record m.site { faults = c.faults i; device = c.device i }; fails = λ op. c.fails op i }
 
 pub is_plain : (m : Setting) (ops : List Op) (opening : State) → IsCalmRun m ops opening → Says m ops opening

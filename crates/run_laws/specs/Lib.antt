@@ -1,0 +1,3 @@
+pub mod ShownRun
+pub mod StoreFaults
+pub mod ReadsAs

@@ -1,0 +1,91 @@
+use Rattle.std.specs.Prelude.{ℕ, ◌≡◌, ◌*◌, ◌<◌, ◌≤◌, ◌^◌, true, List, [], ◌∷◌, ◌++◌, length, get_or, nat_abs, pos, ◌+ℤ◌, suc}
+use Rattle.pi_tuple.specs.declared.checks.PiType.TheVariants.{One}
+use Rattle.fault_schedule.specs.Altered.{shift_of}
+use Rattle.fault_schedule.specs.declared.fault.Crossing.TheVariants.{AdapterToTarget}
+use Rattle.page_pool.specs.Places.{total}
+use Rattle.range_gate.specs.Cells.{cells_of}
+use Rattle.stack_ops.specs.declared.op.Op.{Op}
+use Rattle.stack_ops.specs.declared.op.Op.TheVariants.{Fetch, FetchPi, Fill, Overwrite, Put, Seal, Show, Wait, Write, WritePi}
+use Rattle.volume_table.specs.Places.{place_in, volume_len}
+use Rattle.volume_table.specs.Tables.{IsOn}
+use Rattle.volume_table.specs.declared.device.DeviceInfo.{DeviceInfo}
+use Rattle.target_answer.specs.Frames.{stored_size}
+use Rattle.block_path.specs.Acts.{State}
+use Rattle.block_path.specs.Moves.{AreCells}
+use Rattle.block_path.specs.Routes.{medium_lba, target, wire_lba}
+use Rattle.whole_run.specs.CalmRun.{AreBlocks}
+use Rattle.whole_run.specs.Detectable.{detectable}
+use Rattle.whole_run.specs.Past.{steps_from}
+use Rattle.whole_run.specs.Settings.{Block, Setting, block_of, route}
+use Rattle.whole_run.specs.UnderMap.{IsClean, NoEscape}
+
+-- What is asked of a run with faults, so that tuples show each of them.
+
+-- The volume is of type 1, tuples are passed all the way, commands have protect field 001b, and a target with the run's faults is behind the adapter.
+pub record IsChecked (m : Setting) : Type 0 where
+  pub ty : m.ty ≡ One
+  pub dix : m.mode.dix ≡ true
+  pub dif : m.mode.dif ≡ true
+  pub protect : m.mode.protect ≡ 1
+  pub device : m.site.device ≡ target m.site.faults
+
+-- A device of the volume's type and block size has a block at this address.
+abbrev pub HasBlock : Setting → List DeviceInfo → (dev lba : ℕ) → Type 0
+HasBlock m devices dev lba = IsOn devices m.ty m.size dev lba 1
+
+-- The volume lies on these devices: each of its blocks at an address of one, no two at the same.
+pub record LiesOn (m : Setting) (devices : List DeviceInfo) : Type 0 where
+  pub inside : (v : ℕ) → v < volume_len m.entries → HasBlock m devices (place_in m.entries v).0 (place_in m.entries v).1
+  pub alone : (v w : ℕ) → v < volume_len m.entries → w < volume_len m.entries → place_in m.entries v ≡ place_in m.entries w → v ≡ w
+
+-- The image has for each block of these devices a cell of its own, with a frame of the size that its type has.
+pub record HasCells (m : Setting) (devices : List DeviceInfo) (image : List (List ℕ)) : Type 0 where
+  pub within : (dev lba : ℕ) → HasBlock m devices dev lba → m.site.cell dev lba < length image
+  pub apart : (dev lba other at : ℕ) → HasBlock m devices dev lba → HasBlock m devices other at → m.site.cell dev lba ≡ m.site.cell other at → (dev ≡ other) × (lba ≡ at)
+  pub size : (dev lba : ℕ) → HasBlock m devices dev lba → length (get_or image (m.site.cell dev lba) []) ≡ stored_size m.ty m.size
+
+-- Each block of each device on which the volume lies is clean, its neighbours' too: a shift may lead a read there.
+abbrev pub DevicesAreClean : Setting → List DeviceInfo → List (List ℕ) → Type 0
+DevicesAreClean m devices image = (v lba : ℕ) → v < volume_len m.entries → HasBlock m devices (place_in m.entries v).0 lba →
+    IsClean m lba (get_or image (m.site.cell (place_in m.entries v).0 lba) [])
+
+-- The op is shifted at the target by at most 64 addresses, and none of its blocks below 0.
+pub record StaysNear (m : Setting) (b : Block) : Type 0 where
+  pub near : nat_abs (shift_of m.site.faults AdapterToTarget b.op) ≤ 64
+  pub above : pos (wire_lba m.site.faults (route m b)) ≡ pos (route m b).lba +ℤ shift_of m.site.faults AdapterToTarget b.op
+
+-- So it is for each of n blocks from v on, in op i.
+abbrev pub AllStayNear : Setting → (i v n : ℕ) → Type 0
+AllStayNear m i v n = (k : ℕ) → k < n → StaysNear m (block_of i v k)
+
+-- Where a read looks for them, the device has a block.
+abbrev pub AllAreFetched : Setting → List DeviceInfo → (i v n : ℕ) → Type 0
+AllAreFetched m devices i v n = (k : ℕ) → k < n → HasBlock m devices (route m (block_of i v k)).dev (medium_lba m.site.faults (route m (block_of i v k)))
+
+-- What a reader of scripts has seen to, and what binding op i to the volume and the devices has, where the pages have so many bytes.
+abbrev pub Binds : Setting → List DeviceInfo → (bytes i : ℕ) → Op → Type 0
+Binds m devices bytes i (Fill seg byte) = Unit {0}
+Binds m devices bytes i (Put page off values) = Unit {0}
+Binds m devices bytes i (Show seg) = Unit {0}
+Binds m devices bytes i (Seal n body tuples app rtag) = Unit {0}
+Binds m devices bytes i (Write v n body app) = AreBlocks m v n (total body) × ((app < 2 ^ 16) × AllStayNear m i v n)
+Binds m devices bytes i (Fetch v n body) = AreBlocks m v n (total body) × (AreCells bytes (cells_of body) × (AllStayNear m i v n × AllAreFetched m devices i v n))
+Binds m devices bytes i (WritePi v n body tuples) = AreBlocks m v n (total body) × ((total tuples ≡ n * 8) × AllStayNear m i v n)
+Binds m devices bytes i (FetchPi v n body tuples) =
+    AreBlocks m v n (total body) × ((total tuples ≡ n * 8) × (AreCells bytes (cells_of body ++ cells_of tuples) × (AllStayNear m i v n × AllAreFetched m devices i v n)))
+Binds m devices bytes i (Overwrite dev lba change) = HasBlock m devices dev lba
+Binds m devices bytes i Wait = Unit {0}
+
+abbrev pub AllBind : Setting → List DeviceInfo → (bytes i : ℕ) → List Op → Type 0
+AllBind m devices bytes i [] = Unit {0}
+AllBind m devices bytes i (op ∷ ops) = Binds m devices bytes i op × AllBind m devices bytes (suc i) ops
+
+-- A run over clean devices, with no escape, each of whose faults can be shown.
+pub record IsShownRun (m : Setting) (devices : List DeviceInfo) (ops : List Op) (opening : State) : Type 0 where
+  pub checked : IsChecked m
+  pub lies : LiesOn m devices
+  pub cells : HasCells m devices opening.blocks
+  pub clean : DevicesAreClean m devices opening.blocks
+  pub bind : AllBind m devices (length opening.bytes) 1 ops
+  pub no_escape : NoEscape m 1 ops opening
+  pub shown : detectable m (steps_from m 1 ops) opening ≡ true

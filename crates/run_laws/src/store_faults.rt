@@ -1,0 +1,28 @@
+//! Store calls that fail.
+
+ghost use Rattle.std.specs.Prelude.{◌≡◌, ℕ, List, [], ◌∷◌, ◌++◌, Option};
+ghost use Rattle.stack_ops.specs.declared.op.Op.{Op as AnyOp};
+ghost use Rattle.block_path.specs.Acts.{Act, State, conflict};
+ghost use Rattle.block_path.specs.Blocks.{Answer};
+ghost use Rattle.whole_run.specs.Past.{steps_from};
+ghost use Rattle.whole_run.specs.ScriptWalk.{act_of};
+ghost use Rattle.whole_run.specs.Settings.{Block, Setting};
+ghost use Rattle.whole_run.specs.Steps.{Step};
+ghost use Rattle.run_laws.specs.StoreFaults.{IsFallingRun, IsServed, falling_past, falling_walk, may_fall};
+
+/// Where no fault is scheduled, but some store calls fail and leave there whatever they may: a block of a read is
+/// listed for the medium, or it is the last accepted write's, unless a later write of its virtual block was listed for
+/// the medium; and a block of a write that the plain map accepts is listed for the medium or not at all. This is for
+/// every type, guard, mode, protect field, block size and expected application tag, and for escapes too.
+pub fn a_store_fault_concerns_its_block_alone()
+    ensures { (m : Setting) (falls : Block → Option (List ℕ)) (ops : List AnyOp) (opening : State) (earlier later : List Step) (step : Step)
+        → IsFallingRun m ops opening → steps_from m 1 ops ≡ earlier ++ (step ∷ later)
+        → IsServed m opening (falling_past m falls earlier opening []) falls step (falling_walk m falls earlier opening) }
+{}
+
+/// A block whose store call fails conflicts with what it would have conflicted with: so any order of the blocks that
+/// keeps conflicting ones in order is the walk, whichever calls fail.
+pub fn a_failing_block_conflicts_as_before()
+    ensures one { (m : Setting) (falls : Block → Option (List ℕ)) (step : Step) (other : Act Answer) → conflict (may_fall m falls step) other ≡ conflict (act_of m step) other }
+    ensures other { (m : Setting) (falls : Block → Option (List ℕ)) (step : Step) (other : Act Answer) → conflict other (may_fall m falls step) ≡ conflict other (act_of m step) }
+{}

@@ -1,0 +1,3 @@
+pub mod ScriptMoves
+pub mod BoundRun
+pub mod OpsApart
