@@ -1,0 +1,4 @@
+pub mod Kinds
+pub mod Verbs
+pub mod Reading
+pub mod Forms

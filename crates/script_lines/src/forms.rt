@@ -1,0 +1,67 @@
+//! What a line says, by its first word.
+
+ghost use Rattle.std.specs.Prelude.{◌≡◌, ◌≤◌, IfOk};
+ghost use Rattle.script_lines.specs.Forms.{IsSound, line_form, op_form};
+ghost use Rattle.script_lines.specs.Reading.{IsUnless, ended};
+ghost use Rattle.script_lines.specs.declared.line.Line.{Line};
+
+use crate::fault_lines::{fault_line, schedule_line, shift_line};
+use crate::header_lines::{block_line, expect_line, limits_line, mode_line, pages_line};
+use crate::op_lines::{
+    fill_line, overwrite_line, put_line, read_line, readpi_line, seal_line, show_line, wait_line,
+    write_line, writepi_line,
+};
+use crate::volume_lines::{inner_line, linear_line, over_line, stripe_line};
+use crate::{Line, OpLine, ScriptKind, Verb, Words};
+use std::alloc::Global;
+
+fn op_line(alloc: Global, verb: Verb, words: &mut Words, size: u32) -> Result<OpLine, ScriptKind>
+    requires { size ≤ 4096 }
+    ensures { IsUnless (op_form verb size words.old) result }
+{
+    match verb {
+        Verb::Fill => fill_line(words),
+        Verb::Put => put_line(alloc, words),
+        Verb::Show => show_line(words),
+        Verb::Seal => seal_line(alloc, words),
+        Verb::Write => write_line(alloc, words),
+        Verb::Read => read_line(alloc, words),
+        Verb::WritePi => writepi_line(alloc, words),
+        Verb::ReadPi => readpi_line(alloc, words),
+        Verb::Overwrite => overwrite_line(words, size),
+        _ => wait_line(words),
+    }
+}
+
+fn begin_line(words: &mut Words) -> Result<Line, ScriptKind>
+    ensures value { result ≡ ended Line.Begin words.old }
+    ensures sound { IfOk result IsSound }
+{
+    words.end()?;
+    Ok(Line::Begin)
+}
+
+/// The line that begins with this first word and goes on with these words, in a script of blocks
+/// of this size, at most 4,096: its first fault from the left, or want of memory.
+pub fn line_of(alloc: Global, verb: Verb, words: &mut Words, size: u32) -> Result<Line, ScriptKind>
+    requires { size ≤ 4096 }
+    ensures value { IsUnless (line_form verb size words.old) result }
+    ensures sound { IfOk result IsSound }
+{
+    match verb {
+        Verb::Mode => mode_line(words),
+        Verb::Limits => limits_line(words),
+        Verb::Pages => pages_line(words),
+        Verb::Block => block_line(words),
+        Verb::Expect => expect_line(words),
+        Verb::Inner => inner_line(words),
+        Verb::Linear => linear_line(words),
+        Verb::Stripe => stripe_line(alloc, words),
+        Verb::Over => over_line(alloc, words),
+        Verb::Fault => fault_line(words, size),
+        Verb::Shift => shift_line(words),
+        Verb::Schedule => schedule_line(alloc, words),
+        Verb::Begin => begin_line(words),
+        _ => Ok(Line::Op(op_line(alloc, verb, words, size)?)),
+    }
+}

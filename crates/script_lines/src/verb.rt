@@ -1,0 +1,220 @@
+//! The first words of lines.
+
+ghost use Rattle.std.specs.Prelude.{◌≡◌};
+ghost use Rattle.std.specs.Str.{bytes_eq};
+ghost use Rattle.script_lines.specs.Verbs.{comes_before, is_new_verb, page_verb_of, place_of, request_verb_of, verb_of, volume_verb_of};
+
+/// What a line begins with.
+#[derive(Clone, Copy, Debug, PartialEq, Eq)]
+pub enum Verb {
+    Dix,
+    Mode,
+    Limits,
+    Pages,
+    Block,
+    Expect,
+    Inner,
+    Linear,
+    Stripe,
+    Over,
+    Fault,
+    Shift,
+    Schedule,
+    Begin,
+    Fill,
+    Put,
+    Show,
+    Seal,
+    Write,
+    Read,
+    WritePi,
+    ReadPi,
+    Overwrite,
+    Wait,
+}
+
+fn is_same(a: &[u8], b: &[u8]) -> bool
+    ensures { result ≡ bytes_eq a.now b.now }
+{
+    a == b
+}
+
+/// What a line with this first word is, where any line begins so.
+pub fn verb_of(word: &[u8]) -> Option<Verb>
+    ensures { result ≡ verb_of word.now }
+{
+    if is_same(word, b"dix") {
+        return Some(Verb::Dix);
+    }
+    if is_same(word, b"mode") {
+        return Some(Verb::Mode);
+    }
+    if is_same(word, b"limits") {
+        return Some(Verb::Limits);
+    }
+    if is_same(word, b"pages") {
+        return Some(Verb::Pages);
+    }
+    if is_same(word, b"block") {
+        return Some(Verb::Block);
+    }
+    if is_same(word, b"expect") {
+        return Some(Verb::Expect);
+    }
+    volume_verb_of(word)
+}
+
+/// The same of the lines of the volume and of faults.
+fn volume_verb_of(word: &[u8]) -> Option<Verb>
+    ensures { result ≡ volume_verb_of word.now }
+{
+    if is_same(word, b"inner") {
+        return Some(Verb::Inner);
+    }
+    if is_same(word, b"linear") {
+        return Some(Verb::Linear);
+    }
+    if is_same(word, b"stripe") {
+        return Some(Verb::Stripe);
+    }
+    if is_same(word, b"over") {
+        return Some(Verb::Over);
+    }
+    if is_same(word, b"fault") {
+        return Some(Verb::Fault);
+    }
+    if is_same(word, b"shift") {
+        return Some(Verb::Shift);
+    }
+    page_verb_of(word)
+}
+
+/// The same of the schedule, of `begin` and of ops on pages.
+fn page_verb_of(word: &[u8]) -> Option<Verb>
+    ensures { result ≡ page_verb_of word.now }
+{
+    if is_same(word, b"schedule") {
+        return Some(Verb::Schedule);
+    }
+    if is_same(word, b"begin") {
+        return Some(Verb::Begin);
+    }
+    if is_same(word, b"fill") {
+        return Some(Verb::Fill);
+    }
+    if is_same(word, b"put") {
+        return Some(Verb::Put);
+    }
+    if is_same(word, b"show") {
+        return Some(Verb::Show);
+    }
+    if is_same(word, b"seal") {
+        return Some(Verb::Seal);
+    }
+    request_verb_of(word)
+}
+
+/// The same of requests and of the other ops.
+fn request_verb_of(word: &[u8]) -> Option<Verb>
+    ensures { result ≡ request_verb_of word.now }
+{
+    if is_same(word, b"write") {
+        return Some(Verb::Write);
+    }
+    if is_same(word, b"read") {
+        return Some(Verb::Read);
+    }
+    if is_same(word, b"writepi") {
+        return Some(Verb::WritePi);
+    }
+    if is_same(word, b"readpi") {
+        return Some(Verb::ReadPi);
+    }
+    if is_same(word, b"overwrite") {
+        return Some(Verb::Overwrite);
+    }
+    if is_same(word, b"wait") {
+        return Some(Verb::Wait);
+    }
+    None
+}
+
+/// Where a line stands among the others.
+#[derive(Clone, Copy, Debug, PartialEq, Eq)]
+pub enum Place {
+    Dix,
+    Mode,
+    Limits,
+    Pages,
+    Block,
+    Expect,
+    Inner,
+    Volume,
+    Fault,
+    Schedule,
+    Begin,
+    Op,
+}
+
+impl Verb {
+    /// Where such a line stands.
+    pub fn place(self) -> Place
+        ensures { result ≡ place_of self }
+    {
+        match self {
+            Verb::Dix => Place::Dix,
+            Verb::Mode => Place::Mode,
+            Verb::Limits => Place::Limits,
+            Verb::Pages => Place::Pages,
+            Verb::Block => Place::Block,
+            Verb::Expect => Place::Expect,
+            Verb::Inner => Place::Inner,
+            Verb::Linear | Verb::Stripe | Verb::Over => Place::Volume,
+            Verb::Fault | Verb::Shift => Place::Fault,
+            Verb::Schedule => Place::Schedule,
+            Verb::Begin => Place::Begin,
+            _ => Place::Op,
+        }
+    }
+
+    /// Whether the line is one of version 2 alone.
+    pub fn is_new(self) -> bool
+        ensures { result ≡ is_new_verb self }
+    {
+        match self {
+            Verb::Block | Verb::Expect | Verb::Inner | Verb::Over => true,
+            _ => false,
+        }
+    }
+}
+
+impl Place {
+    /// Whether a line of the next place may stand right behind one of this place, in a script of
+    /// version 2 or of version 1.
+    pub fn comes_before(self, next: Place, is_new: bool) -> bool
+        ensures { result ≡ comes_before self next is_new }
+    {
+        match self {
+            Place::Dix => next == Place::Mode,
+            Place::Mode => next == Place::Limits,
+            Place::Limits => next == Place::Pages,
+            Place::Pages if is_new => next == Place::Block,
+            Place::Pages => next == Place::Volume,
+            Place::Block => {
+                next == Place::Expect || next == Place::Inner || next == Place::Volume
+            }
+            Place::Expect | Place::Inner => next == Place::Inner || next == Place::Volume,
+            Place::Volume => {
+                next == Place::Volume
+                    || next == Place::Fault
+                    || next == Place::Schedule
+                    || next == Place::Begin
+            }
+            Place::Fault => {
+                next == Place::Fault || next == Place::Schedule || next == Place::Begin
+            }
+            Place::Schedule => next == Place::Schedule || next == Place::Begin,
+            Place::Begin | Place::Op => next == Place::Op,
+        }
+    }
+}
