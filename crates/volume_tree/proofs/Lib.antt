@@ -3,4 +3,4 @@ pub mod Following
 mod Gathering
 mod Spots
 mod Placing
-mod Stretches
+pub mod Stretches

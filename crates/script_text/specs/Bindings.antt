@@ -1,0 +1,148 @@
+use Rattle.std.specs.Prelude.{ℕ, zero, suc, ◌+◌, ℤ, pos, negsuc, Bool, true, false, not, ◌||◌, ◌&&◌, eqb, nat_le, nat_lt, if◌then◌else◌, List, [], ◌∷◌, ◌++◌, length, drop, set, slice_get, Option, Some, None}
+use Rattle.std.specs.List.{list_any}
+use Rattle.fault_schedule.specs.declared.fault.Crossing.{Crossing}
+use Rattle.fault_schedule.specs.declared.fault.Crossing.TheVariants.{TargetToMedium}
+use Rattle.fault_schedule.specs.declared.fault.FaultKind.{FaultKind}
+use Rattle.fault_schedule.specs.declared.fault.FaultKind.TheVariants.{Flip as FlipKind, Shift as ShiftKind}
+use Rattle.fault_schedule.specs.declared.fault.FaultLine.{FaultLine}
+use Rattle.pi_tuple.specs.declared.checks.PiType.{PiType}
+use Rattle.pi_tuple.specs.declared.checks.PiType.TheVariants.{Zero as TypeZero, One as TypeOne, Two as TypeTwo, Three as TypeThree}
+use Rattle.rig_api.specs.declared.change.Change.{Change}
+use Rattle.rig_api.specs.declared.change.Change.TheVariants.{Flip as FlipChange, Copy as CopyChange}
+use Rattle.stack_ops.specs.declared.op.Op.{Op}
+use Rattle.stack_ops.specs.declared.op.Op.TheVariants.{Write, Fetch, WritePi, FetchPi, Overwrite}
+use Rattle.volume_table.specs.declared.device.DeviceInfo.{DeviceInfo}
+use Rattle.volume_table.specs.Places.{place_in, volume_len}
+use Rattle.volume_table.specs.Tables.{Table}
+use Rattle.script_lines.specs.declared.kind.ScriptKind.{ScriptKind}
+use Rattle.script_lines.specs.declared.kind.ScriptKind.TheVariants.{BadRange, BadFault, NoIntegrity}
+use Rattle.script_text.specs.declared.fault.ScriptFault.{ScriptFault}
+use Rattle.script_text.specs.declared.script.Script.{Script}
+
+-- What a script may not do over a volume of devices.
+
+abbrev pub has_no_tuples : PiType → Bool
+has_no_tuples TypeZero = true
+has_no_tuples _ = false
+
+abbrev pub is_first_type : PiType → Bool
+is_first_type TypeOne = true
+is_first_type _ = false
+
+abbrev pub is_type : (a b : PiType) → Bool
+is_type TypeZero TypeZero = true
+is_type TypeOne TypeOne = true
+is_type TypeTwo TypeTwo = true
+is_type TypeThree TypeThree = true
+is_type _ _ = false
+
+-- The address that is moved by so many blocks lies on the device.
+abbrev pub is_on : DeviceInfo → ℕ → ℤ → Bool
+is_on d lba (pos n) = nat_le d.first (lba + n) && nat_lt (lba + n) (d.first + d.blocks)
+is_on d lba (negsuc n) = nat_le (d.first + suc n) lba && nat_lt lba (d.first + d.blocks + suc n)
+
+-- the first block and the number of blocks of a request
+abbrev pub request_of : Op → Option (ℕ × ℕ)
+request_of (Write v n body app) = Some (v, n)
+request_of (Fetch v n body) = Some (v, n)
+request_of (WritePi v n body tuples) = Some (v, n)
+request_of (FetchPi v n body tuples) = Some (v, n)
+request_of _ = None
+
+abbrev pub is_on_known : ℕ → ℤ → Option DeviceInfo → Bool
+is_on_known lba by None = false
+is_on_known lba by (Some d) = is_on d lba by
+
+-- A block of the volume, moved by so many blocks, lies on its device.
+abbrev pub block_stays : Table → List DeviceInfo → ℤ → ℕ → Bool
+block_stays t devices by v = is_on_known (place_in t.entries v).1 by (slice_get devices (place_in t.entries v).0)
+
+-- So do n of them from v on. Of a block that the volume hasn't, nothing is asked.
+
+abbrev pub blocks_stay : Table → List DeviceInfo → ℤ → (v n : ℕ) → Bool
+blocks_stay t devices by v zero = true
+blocks_stay t devices by v (suc n) = if nat_le (volume_len t.entries) v then true else (if block_stays t devices by v then blocks_stay t devices by (v + 1) n else false)
+
+abbrev pub is_shift : FaultKind → Bool
+is_shift (FlipKind off bytes) = false
+is_shift (ShiftKind by) = true
+
+-- The line shifts the op of this number.
+abbrev pub shifts : ℕ → FaultLine → Bool
+shifts op f = eqb op f.op && is_shift f.kind
+
+abbrev pub is_at_medium : Crossing → Bool
+is_at_medium TargetToMedium = true
+is_at_medium _ = false
+
+-- A shift needs tuples of type 1, isn't on the medium of a write, comes once for an op, and keeps each block on its device.
+abbrev pub is_bad_kind : Table → List DeviceInfo → (was_shifted : Bool) → FaultLine → ℕ × ℕ → FaultKind → Bool
+is_bad_kind t devices was f request (FlipKind off bytes) = false
+is_bad_kind t devices was f request (ShiftKind by) =
+    not (is_first_type t.ty) || (is_at_medium f.at || (was || not (blocks_stay t devices by request.0 request.1)))
+
+-- A fault line, whose op an earlier line shifts or none does, is at fault on this request: there is none, or it hasn't the block, or the line's kind can't be.
+abbrev pub is_bad_on : Table → List DeviceInfo → (was_shifted : Bool) → FaultLine → Option (ℕ × ℕ) → Bool
+is_bad_on t devices was f None = true
+is_bad_on t devices was f (Some request) = not (nat_lt f.k request.1) || is_bad_kind t devices was f request f.kind
+
+abbrev pub request_by : Option Op → Option (ℕ × ℕ)
+request_by None = None
+request_by (Some op) = request_of op
+
+-- the request that the op of this number is; ops are counted from 1
+abbrev pub request_at : List Op → ℕ → Option (ℕ × ℕ)
+request_at ops zero = None
+request_at ops (suc n) = request_by (slice_get ops n)
+
+-- the first fault of the fault lines behind these
+abbrev pub faults_fault : Table → List DeviceInfo → List Op → (earlier faults : List FaultLine) → (lines : List ℕ) → Option ScriptFault
+faults_fault t devices ops earlier (f ∷ faults) (line ∷ lines) =
+    if is_bad_on t devices (list_any (shifts f.op) earlier) f (request_at ops f.op) then Some (record { line = line; kind = BadFault })
+    else faults_fault t devices ops (earlier ++ (f ∷ [])) faults lines
+faults_fault t devices ops earlier _ _ = None
+
+-- marks of ops by their numbers, with that of the op that a line shifts
+abbrev pub marked : List Bool → FaultLine → List Bool
+marked marks f = if is_shift f.kind then set marks f.op true else marks
+
+-- A stored block can be altered: its device is there, of the volume's type and of the script's block size, and has the address.
+abbrev pub is_alterable : PiType → (size lba : ℕ) → Option DeviceInfo → Bool
+is_alterable ty size lba None = false
+is_alterable ty size lba (Some d) = is_type d.ty ty && (eqb d.size size && is_on d lba (pos 0))
+
+abbrev pub is_bad_change : Table → List DeviceInfo → ℕ → Change → Bool
+is_bad_change t devices size (FlipChange off bytes) = false
+is_bad_change t devices size (CopyChange dev lba) = not (is_alterable t.ty size lba (slice_get devices dev))
+
+abbrev pub range_fault : Table → Option (ℕ × ℕ) → Option ScriptKind
+range_fault t None = None
+range_fault t (Some request) = if nat_lt (volume_len t.entries) (request.0 + request.1) then Some BadRange else None
+
+-- what is wrong with an op over the volume
+abbrev pub op_fault : Table → List DeviceInfo → ℕ → Op → Option ScriptKind
+op_fault t devices size (Overwrite dev lba change) =
+    if is_bad_change t devices size change || not (is_alterable t.ty size lba (slice_get devices dev)) then Some BadFault else None
+op_fault t devices size op = range_fault t (request_of op)
+
+abbrev pub at_line : ℕ → Option ScriptKind → Option ScriptFault → Option ScriptFault
+at_line line None rest = rest
+at_line line (Some kind) rest = Some (record { line = line; kind = kind })
+
+abbrev pub ops_fault : Table → List DeviceInfo → ℕ → List Op → (lines : List ℕ) → Option ScriptFault
+ops_fault t devices size (op ∷ ops) (line ∷ lines) = at_line line (op_fault t devices size op) (ops_fault t devices size ops lines)
+ops_fault t devices size _ _ = None
+
+abbrev pub or_else : Option ScriptFault → Option ScriptFault → Option ScriptFault
+or_else None other = other
+or_else (Some f) other = Some f
+
+-- An application tag is expected where the devices have no tuples.
+abbrev pub expect_fault : Script → PiType → Option ScriptFault
+expect_fault s ty = if not (eqb s.mode.mask 0) && has_no_tuples ty then Some (record { line = s.expect_line; kind = NoIntegrity }) else None
+
+-- the first fault of a script over a volume of these devices: the expected tag, then each fault line, then each op
+abbrev pub binding_fault : Script → Table → List DeviceInfo → Option ScriptFault
+binding_fault s t devices =
+    or_else (expect_fault s t.ty)
+    (or_else (faults_fault t devices s.ops [] s.faults s.lines) (ops_fault t devices s.block s.ops (drop (length s.faults) s.lines)))

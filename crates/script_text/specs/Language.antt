@@ -1,0 +1,195 @@
+use Rattle.std.specs.Prelude.{ℕ, ◌≡◌, ◌⊎◌, ◌+◌, Bool, true, false, not, ◌||◌, ◌&&◌, eqb, nat_lt, if◌then◌else◌, List, [], ◌∷◌, ◌++◌, length, map, codes, Option, Some, None, Result, Ok, Err}
+use Rattle.std.specs.Str.{bytes_eq}
+use Rattle.pi_guard.specs.declared.GuardKind.TheVariants.{Crc}
+use Rattle.fault_schedule.specs.declared.fault.FaultKind.TheVariants.{Flip as FlipKind, Shift as ShiftKind}
+use Rattle.script_words.specs.Cuts.{is_plain, lines_of, words_of}
+use Rattle.script_lines.specs.declared.kind.ScriptKind.{ScriptKind}
+use Rattle.script_lines.specs.declared.kind.ScriptKind.TheVariants.{NotAscii, LongLine, UnknownWord, OutOfPlace, TooMany, NoHeader, Memory}
+use Rattle.script_lines.specs.declared.line.OpLine.{OpLine}
+use Rattle.script_lines.specs.declared.line.Line.{Line}
+use Rattle.script_lines.specs.declared.line.Line.TheVariants.{Mode, Limits, Pages, Block, Expect, Inner, Linear, Stripe, Over, Flip, Shift, Schedule, Begin, Op}
+use Rattle.script_lines.specs.declared.verb.Verb.{Verb}
+use Rattle.script_lines.specs.declared.verb.Place.{Place}
+use Rattle.script_lines.specs.declared.verb.Place.TheVariants.{Dix as AtDix, Begin as AtBegin, Op as AtOp}
+use Rattle.script_lines.specs.Forms.{line_form}
+use Rattle.script_lines.specs.Reading.{◌>>=◌}
+use Rattle.script_lines.specs.Verbs.{comes_before, is_new_verb, place_of, verb_of}
+use Rattle.volume_table.specs.declared.entry.Entry.{Entry}
+use Rattle.volume_table.specs.declared.entry.Entry.TheVariants.{Linear as LinearEntry, Stripe as StripeEntry}
+use Rattle.stack_ops.specs.declared.op.Op.{Op as AnyOp}
+use Rattle.script_text.specs.declared.raw_fault.RawFault.{RawFault}
+use Rattle.script_text.specs.declared.trees.Inner.{Inner as Extent}
+use Rattle.script_text.specs.declared.fault.ScriptFault.{ScriptFault}
+use Rattle.script_text.specs.declared.script.Script.{Script}
+use Rattle.script_text.specs.Crossings.{crossed}
+use Rattle.script_text.specs.Drafts.{Drafted}
+use Rattle.script_text.specs.Ops.{op_in}
+use Rattle.script_text.specs.Rules.{broken_rule, request_blocks}
+use Rattle.script_text.specs.Trees.{entries_over}
+
+-- The language of scripts: what reading a text answers, a script or the first fault.
+
+-- before any line
+abbrev pub nothing_read : Drafted
+nothing_read = record {
+  is_new = false;
+  place = None;
+  mode = record { kind = Crc; dix = false; dif = false; protect = 1 };
+  app = 0;
+  mask = 0;
+  expect_line = 0;
+  limits = record { max_blocks = 1; max_segs = 4; max_pi_segs = 1 };
+  pages = 1;
+  block = 512;
+  inner = [];
+  entries = [];
+  faults = [];
+  schedule = [];
+  ops = [];
+  blocks = 0;
+  fault_lines = [];
+  op_lines = [];
+}
+
+abbrev pub with_entries : Drafted → List Entry → Result Drafted ScriptKind
+with_entries d found = if nat_lt 16 (length d.entries + length found) then Err TooMany else Ok (record d { entries = d.entries ++ found })
+
+abbrev pub inner_taken : Extent → Drafted → Result Drafted ScriptKind
+inner_taken e d = Ok (record d { inner = d.inner ++ (e ∷ []) })
+
+abbrev pub entry_taken : Entry → Drafted → Result Drafted ScriptKind
+entry_taken e d = Ok (record d { entries = d.entries ++ (e ∷ []) })
+
+abbrev pub over_taken : (start len chunk : ℕ) → List ℕ → Drafted → Result Drafted ScriptKind
+over_taken start len chunk volumes d = entries_over d.inner start len chunk volumes >>= with_entries d
+
+abbrev pub fault_taken : ℕ → RawFault → Drafted → Result Drafted ScriptKind
+fault_taken number f d = Ok (record d { faults = d.faults ++ (f ∷ []); fault_lines = d.fault_lines ++ (number ∷ []) })
+
+abbrev pub schedule_taken : List (ℕ × ℕ) → Drafted → Result Drafted ScriptKind
+schedule_taken entries d = Ok (record d { schedule = d.schedule ++ entries })
+
+abbrev pub with_op : ℕ → OpLine → Drafted → AnyOp → Result Drafted ScriptKind
+with_op number line d op = Ok (record d { ops = d.ops ++ (op ∷ []); blocks = d.blocks + request_blocks line; op_lines = d.op_lines ++ (number ∷ []) })
+
+abbrev pub op_taken : ℕ → OpLine → Drafted → Result Drafted ScriptKind
+op_taken number line d = op_in d.pages d.block line >>= with_op number line d
+
+-- what is read with a line of this number that keeps the other rules
+unfoldable pub taken : ℕ → Line → Drafted → Result Drafted ScriptKind
+taken number (Mode m) d = Ok (record d { mode = m })
+taken number (Limits l) d = Ok (record d { limits = l })
+taken number (Pages n) d = Ok (record d { pages = n })
+taken number (Block size) d = Ok (record d { block = size })
+taken number (Expect app mask) d = Ok (record d { app = app; mask = mask; expect_line = number })
+taken number (Inner volume len dev at) d = inner_taken (record { volume = volume; len = len; dev = dev; at = at }) d
+taken number (Linear e) d = entry_taken (LinearEntry e) d
+taken number (Stripe start len chunk legs) d = entry_taken (StripeEntry (record { start = start; len = len; chunk = chunk; legs = legs })) d
+taken number (Over start len chunk volumes) d = over_taken start len chunk volumes d
+taken number (Flip op k spot off bytes) d = fault_taken number (record { op = op; k = k; spot = spot; kind = FlipKind off bytes }) d
+taken number (Shift op spot by) d = fault_taken number (record { op = op; k = 0; spot = spot; kind = ShiftKind by }) d
+taken number (Schedule entries) d = schedule_taken entries d
+taken number Begin d = Ok d
+taken number (Op line) d = op_taken number line d
+
+-- a line of this verb may stand behind one of this place
+abbrev pub is_behind : Bool → Verb → Option Place → Bool
+is_behind is_new verb None = false
+is_behind is_new verb (Some place) = (is_new || not (is_new_verb verb)) && comes_before place (place_of verb) is_new
+
+abbrev pub unless_broken : Option ScriptKind → Result Drafted ScriptKind → Result Drafted ScriptKind
+unless_broken None r = r
+unless_broken (Some k) r = Err k
+
+abbrev pub at_place : Verb → Drafted → Result Drafted ScriptKind
+at_place verb d = Ok (record d { place = Some (place_of verb) })
+
+-- a line of this verb, in its place, with these words behind the first
+unfoldable pub line_taken : ℕ → Verb → List (List ℕ) → Drafted → Result Drafted ScriptKind
+line_taken number verb words d = do
+  line ← line_form verb d.block words
+  next ← unless_broken (broken_rule d line) (taken number line d)
+  at_place verb next
+
+abbrev pub verb_taken : ℕ → Option Verb → List (List ℕ) → Drafted → Result Drafted ScriptKind
+verb_taken number None words d = Err UnknownWord
+verb_taken number (Some verb) words d = if is_behind d.is_new verb d.place then line_taken number verb words d else Err OutOfPlace
+
+-- whether the first line that isn't skipped is `dix 2`, or `dix 1`
+abbrev pub version_of : List (List ℕ) → Option Bool
+version_of (dix ∷ version ∷ []) =
+    if not (bytes_eq dix (codes "dix")) then None
+    else (if bytes_eq version (codes "1") then Some false else (if bytes_eq version (codes "2") then Some true else None))
+version_of _ = None
+
+abbrev pub header_taken : Option Bool → Drafted → Result Drafted ScriptKind
+header_taken None d = Err NoHeader
+header_taken (Some is_new) d = Ok (record d { is_new = is_new; place = Some AtDix })
+
+abbrev pub words_behind : Option Place → ℕ → List (List ℕ) → Drafted → Result Drafted ScriptKind
+words_behind None number words d = header_taken (version_of words) d
+words_behind (Some place) number [] d = Ok d
+words_behind (Some place) number (first ∷ words) d = verb_taken number (verb_of first) words d
+
+-- A line is skipped that has no words, or whose first word begins with a number sign.
+abbrev pub is_comment : List ℕ → Bool
+is_comment [] = false
+is_comment (b ∷ bs) = eqb b 35
+
+abbrev pub words_taken : ℕ → List (List ℕ) → Drafted → Result Drafted ScriptKind
+words_taken number [] d = Ok d
+words_taken number (first ∷ words) d = if is_comment first then Ok d else words_behind d.place number (first ∷ words) d
+
+-- what is read with a line of this number
+abbrev pub text_taken : ℕ → List ℕ → Drafted → Result Drafted ScriptKind
+text_taken number line d =
+    if not (is_plain line) then Err NotAscii
+    else (if nat_lt 4096 (length line) then Err LongLine else words_taken number (words_of line) d)
+
+-- what is wrong with the end of the text
+abbrev pub end_fault : Option Place → Option ScriptKind
+end_fault None = Some NoHeader
+end_fault (Some AtBegin) = None
+end_fault (Some AtOp) = None
+end_fault (Some _) = Some OutOfPlace
+
+abbrev pub finished : Drafted → Script
+finished d = record {
+  mode = record { kind = d.mode.kind; dix = d.mode.dix; dif = d.mode.dif; protect = d.mode.protect; app = d.app; mask = d.mask };
+  limits = d.limits;
+  pages = d.pages;
+  block = d.block;
+  expect_line = d.expect_line;
+  entries = d.entries;
+  faults = map (crossed d.ops) d.faults;
+  schedule = d.schedule;
+  ops = d.ops;
+  lines = d.fault_lines ++ d.op_lines;
+}
+
+abbrev pub at_end : ℕ → Option ScriptKind → Drafted → Result Script ScriptFault
+at_end number (Some k) d = Err (record { line = number; kind = k })
+at_end number None d = Ok (finished d)
+
+abbrev pub go_on : ℕ → Result Drafted ScriptKind → (Drafted → Result Script ScriptFault) → Result Script ScriptFault
+go_on number (Ok d) rest = rest d
+go_on number (Err k) rest = Err (record { line = number; kind = k })
+
+-- The answer to the lines from this number on. The number behind that of the last line is the text's end.
+abbrev pub lines_read : ℕ → List (List ℕ) → Drafted → Result Script ScriptFault
+lines_read number [] d = at_end number (end_fault d.place) d
+lines_read number (line ∷ lines) d = go_on number (text_taken number line d) (λ next. lines_read (number + 1) lines next)
+
+-- the script of a text, or its first fault
+abbrev pub script_in : List ℕ → Result Script ScriptFault
+script_in text = if nat_lt 4194304 (length text) then Err (record { line = 0; kind = TooMany }) else lines_read 1 (lines_of text) nothing_read
+
+-- A reader gave this and is now so, or wanted memory.
+abbrev pub Takes : Result Drafted ScriptKind → Result (Unit {0}) ScriptKind → Drafted → Type 0
+Takes want (Ok u) after = want ≡ Ok after
+Takes want (Err k) after = (k ≡ Memory) ⊎ (want ≡ Err k)
+
+-- The answer is the language's, or want of memory.
+abbrev pub Answers : Result Script ScriptFault → Result Script ScriptFault → Type 0
+Answers want (Ok script) = want ≡ Ok script
+Answers want (Err fault) = (fault.kind ≡ Memory) ⊎ (want ≡ Err fault)

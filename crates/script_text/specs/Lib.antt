@@ -1,0 +1,10 @@
+pub mod Segments
+pub mod Drafts
+pub mod Rules
+pub mod Ops
+pub mod Trees
+pub mod Crossings
+pub mod Language
+pub mod Printed
+pub mod Generator
+pub mod Bindings

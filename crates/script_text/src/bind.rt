@@ -1,0 +1,271 @@
+//! A script against a volume.
+
+ghost use Rattle.std.specs.Prelude.{◌≡◌, not, ◌||◌, ◌<◌, ◌≤◌, ◌+◌, [], Some, None, MatchResult, drop, false, length, get_or, slice_get};
+ghost use Rattle.script_text.specs.Bindings.{binding_fault, block_stays, blocks_stay, expect_fault, faults_fault, is_alterable, is_at_medium, is_bad_on, is_first_type, is_on, is_shift, marked, op_fault, ops_fault, request_at, request_of};
+ghost use Rattle.volume_table.specs.Places.{volume_len};
+
+use crate::{Script, ScriptFault, ScriptKind};
+use fault_schedule::{Crossing, FaultKind, FaultLine};
+use pi_tuple::PiType;
+use rig_api::Change;
+use stack_ops::Op;
+use volume_table::{DeviceInfo, VolumeTable};
+
+/// A mark for each number of an op, 1 to 1,024, and for 0.
+const MARKS: usize = 1025;
+
+/// The first block and the number of blocks of a request.
+fn request(op: &Op) -> Option<(u64, u32)>
+    ensures { result ≡ request_of op.now }
+{
+    match op {
+        Op::Write { v, n, .. }
+        | Op::Fetch { v, n, .. }
+        | Op::WritePi { v, n, .. }
+        | Op::FetchPi { v, n, .. } => Some((*v, *n)),
+        _ => None,
+    }
+}
+
+/// The volume and the devices that a script is bound to.
+#[derive(Clone, Copy)]
+struct Against<'a> {
+    table: &'a VolumeTable,
+    devices: &'a [DeviceInfo],
+    size: u32,
+}
+
+/// Whether an address that is moved by so many blocks lies on the device.
+fn is_on(device: DeviceInfo, lba: u64, by: i64) -> bool
+    ensures { result ≡ is_on device lba by }
+{
+    let lba = u128::from(lba);
+    let first = u128::from(device.first);
+    let end = first + u128::from(device.blocks);
+    let by_so_many = u128::from(by.unsigned_abs());
+    if by < 0 {
+        first + by_so_many <= lba && lba < end + by_so_many
+    } else {
+        first <= lba + by_so_many && lba + by_so_many < end
+    }
+}
+
+/// Whether a block of the volume lies on its device when it is moved.
+fn block_stays(against: Against, v: u64, by: i64) -> bool
+    requires { v < volume_len against.table.now.entries }
+    ensures { result ≡ block_stays against.entry.table.now against.entry.devices.now by v }
+{
+    let (dev, lba) = against.table.place(v);
+    match against.devices.get(dev as usize) {
+        None => false,
+        Some(device) => is_on(*device, lba, by),
+    }
+}
+
+/// Whether each block of the request that lies in the volume lies on its device when it is moved.
+fn stays_on(against: Against, v: u64, n: u32, by: i64) -> bool
+    ensures { result ≡ blocks_stay against.entry.table.now against.entry.devices.now by v n }
+{
+    let mut at = v;
+    for _i in 0..n {
+        if at >= against.table.len() {
+            return true;
+        }
+        if !block_stays(against, at, by) {
+            return false;
+        }
+        at += 1;
+    }
+    true
+}
+
+/// Whether a shift can't be: of another type than 1, on the medium of a write, twice on one op, or
+/// off its device.
+fn is_bad_shift(
+    against: Against,
+    line: &FaultLine,
+    by: i64,
+    request: (u64, u32),
+    was_shifted: bool,
+) -> bool
+    ensures { result ≡ (not (is_first_type against.entry.table.now.ty) || (is_at_medium line.now.at || (was_shifted || not (blocks_stay against.entry.table.now against.entry.devices.now by request.0 request.1)))) }
+{
+    let (v, n) = request;
+    against.table.ty() != PiType::One
+        || line.at == Crossing::TargetToMedium
+        || was_shifted
+        || !stays_on(against, v, n, by)
+}
+
+/// The request that the op of this number, from 1, is.
+fn request_at(ops: &[Op], number: u32) -> Option<(u64, u32)>
+    ensures { result ≡ request_at ops.now number }
+{
+    if number == 0 {
+        return None;
+    }
+    match ops.get(number as usize - 1) {
+        Some(op) => request(op),
+        None => None,
+    }
+}
+
+/// Whether a fault line can't be, where an earlier line shifts its op or none does.
+fn is_bad_fault(against: Against, line: &FaultLine, ops: &[Op], was_shifted: bool) -> bool
+    ensures { result ≡ is_bad_on against.entry.table.now against.entry.devices.now was_shifted line.now (request_at ops.now line.now.op) }
+{
+    let Some((v, n)) = request_at(ops, line.op) else {
+        return true;
+    };
+    if line.k >= n {
+        return true;
+    }
+    match line.kind {
+        FaultKind::Flip { .. } => false,
+        FaultKind::Shift { by } => is_bad_shift(against, line, by, (v, n), was_shifted),
+    }
+}
+
+/// Whether the op of this number is marked.
+fn is_marked(marks: &[bool; MARKS], op: u32) -> bool
+    ensures { result ≡ get_or marks.now op false }
+{
+    match marks.get(op as usize) {
+        Some(mark) => *mark,
+        None => false,
+    }
+}
+
+/// Marks the op that a line shifts.
+fn mark(marks: &mut [bool; MARKS], line: &FaultLine)
+    ensures { marks.new ≡ marked marks.old line.now }
+{
+    let place = line.op as usize;
+    if is_shift(line) && place < MARKS {
+        marks[place] = true;
+    }
+}
+
+fn is_shift(line: &FaultLine) -> bool
+    ensures { result ≡ is_shift line.now.kind }
+{
+    match line.kind {
+        FaultKind::Shift { .. } => true,
+        FaultKind::Flip { .. } => false,
+    }
+}
+
+/// The first fault line that can't be. Which ops the earlier lines shift is marked by their numbers.
+fn faults_fault(against: Against, script: &Script) -> Option<ScriptFault>
+    requires few { length script.now.ops ≤ 1024 }
+    requires lines { length script.now.faults ≤ length script.now.lines }
+    ensures { result ≡ faults_fault against.entry.table.now against.entry.devices.now script.now.ops [] script.now.faults script.now.lines }
+{
+    let ops = script.ops.as_slice();
+    let lines = script.lines.as_slice();
+    let mut marks = [false; MARKS];
+    for (i, fault) in script.faults.as_slice().iter().enumerate() {
+        if is_bad_fault(against, fault, ops, is_marked(&marks, fault.op)) {
+            return Some(ScriptFault {
+                line: lines[i],
+                kind: ScriptKind::BadFault,
+            });
+        }
+        mark(&mut marks, fault);
+    }
+    None
+}
+
+/// Whether a stored block can be altered: the device is there, of the volume's type and the
+/// script's block size, and has the address.
+fn can_alter(against: Against, dev: u32, lba: u64) -> bool
+    ensures { result ≡ is_alterable against.entry.table.now.ty against.entry.size lba (slice_get against.entry.devices.now dev) }
+{
+    match against.devices.get(dev as usize) {
+        None => false,
+        Some(device) => {
+            device.ty == against.table.ty() && device.size == against.size && is_on(*device, lba, 0)
+        }
+    }
+}
+
+/// What is wrong with an op against the volume.
+fn op_fault(against: Against, op: &Op) -> Option<ScriptKind>
+    ensures { result ≡ op_fault against.entry.table.now against.entry.devices.now against.entry.size op.now }
+{
+    if let Some((v, n)) = request(op) {
+        let len = against.table.len();
+        if v > len || u64::from(n) > len - v {
+            return Some(ScriptKind::BadRange);
+        }
+    }
+    if let Op::Overwrite { dev, lba, change } = op {
+        let from = match change {
+            Change::Flip { .. } => true,
+            Change::Copy { dev, lba } => can_alter(against, *dev, *lba),
+        };
+        if !from || !can_alter(against, *dev, *lba) {
+            return Some(ScriptKind::BadFault);
+        }
+    }
+    None
+}
+
+/// The first op that can't be over the volume. The lines of the ops stand behind those of the faults.
+fn ops_fault(against: Against, script: &Script) -> Option<ScriptFault>
+    requires lines { length script.now.faults + length script.now.ops ≤ length script.now.lines }
+    ensures { result ≡ ops_fault against.entry.table.now against.entry.devices.now against.entry.size script.now.ops (drop (length script.now.faults) script.now.lines) }
+{
+    let lines = script.lines.as_slice();
+    let first = script.faults.as_slice().len();
+    for (i, op) in script.ops.as_slice().iter().enumerate() {
+        if let Some(kind) = op_fault(against, op) {
+            return Some(ScriptFault {
+                line: lines[first + i],
+                kind,
+            });
+        }
+    }
+    None
+}
+
+fn expect_fault(script: &Script, ty: PiType) -> Option<ScriptFault>
+    ensures { result ≡ expect_fault script.now ty }
+{
+    if script.mode.mask != 0 && ty == PiType::Zero {
+        Some(ScriptFault {
+            line: script.expect_line,
+            kind: ScriptKind::NoIntegrity,
+        })
+    } else {
+        None
+    }
+}
+
+/// Whether the script may run over this volume of these devices, or its first fault there: an
+/// expected application tag on devices without tuples; then each fault line; then each op.
+pub fn bind_script(
+    script: &Script,
+    table: &VolumeTable,
+    devices: &[DeviceInfo],
+) -> Result<(), ScriptFault>
+    requires few { length script.now.ops ≤ 1024 }
+    requires lines { length script.now.faults + length script.now.ops ≤ length script.now.lines }
+    ensures { MatchResult result (λ u. binding_fault script.now table.now devices.now ≡ None) (λ f. binding_fault script.now table.now devices.now ≡ Some f) }
+{
+    let against = Against {
+        table,
+        devices,
+        size: script.block,
+    };
+    if let Some(fault) = expect_fault(script, table.ty()) {
+        return Err(fault);
+    }
+    if let Some(fault) = faults_fault(against, script) {
+        return Err(fault);
+    }
+    match ops_fault(against, script) {
+        Some(fault) => Err(fault),
+        None => Ok(()),
+    }
+}

@@ -1,0 +1,26 @@
+//! Which crossing a fault's place is.
+
+ghost use Rattle.std.specs.Prelude.{◌≡◌};
+ghost use Rattle.script_text.specs.Crossings.{crossing_of};
+
+use fault_schedule::{Crossing, FaultKind};
+use script_lines::Spot;
+
+/// The crossing of a place, for a read or for any other op. On the wire a shift is of the command,
+/// which goes to the target in both directions.
+pub(crate) fn crossing_of(spot: Spot, kind: &FaultKind, is_read: bool) -> Crossing
+    ensures { result ≡ crossing_of spot kind.now is_read }
+{
+    let is_shift = match kind {
+        FaultKind::Shift { .. } => true,
+        FaultKind::Flip { .. } => false,
+    };
+    match spot {
+        Spot::Host if is_read => Crossing::AdapterToHost,
+        Spot::Host => Crossing::HostToAdapter,
+        Spot::Wire if is_read && !is_shift => Crossing::TargetToAdapter,
+        Spot::Wire => Crossing::AdapterToTarget,
+        Spot::Medium if is_read => Crossing::MediumToTarget,
+        Spot::Medium => Crossing::TargetToMedium,
+    }
+}

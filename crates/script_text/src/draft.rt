@@ -1,0 +1,355 @@
+//! What was read so far.
+
+ghost use Rattle.std.specs.Prelude.{◌≡◌, ◌∷◌, ◌++◌, ◌≤◌, ◌⊎◌, [], IfErr, IfOk, MatchResult, OnOk, map, true, vec_len};
+ghost use Rattle.script_lines.specs.declared.kind.ScriptKind.{ScriptKind};
+ghost use Rattle.script_text.specs.Crossings.{crossed, is_read};
+ghost use Rattle.script_text.specs.Trees.{are_lengths};
+
+use crate::ScriptKind;
+use crate::adding::add;
+use crate::crossing::crossing_of;
+use crate::ops::{Sizes, op_of};
+use crate::raw_fault::RawFault;
+use crate::rules::{MOST_ENTRIES, request_blocks};
+use crate::script::{LineList, Script};
+use crate::trees::{Inner, OverLine, entries_over};
+use block_path::Mode;
+use fault_schedule::{FaultKind, FaultLine, FaultList};
+use merge_queue::Limits;
+use pi_guard::GuardKind;
+use script_lines::{Line, ModeLine, OpLine, Place, WordList};
+use stack_ops::{Op, OpList};
+use std::alloc::Global;
+use stripe_volume::Stripe;
+use volume_table::{Entry, EntryList};
+
+/// A script of which some lines were read.
+#[derive(Drop)]
+pub(crate) struct Draft {
+    pub(crate) is_new: bool,
+    pub(crate) place: Option<Place>,
+    pub(crate) mode: ModeLine,
+    pub(crate) app: u16,
+    pub(crate) mask: u16,
+    pub(crate) expect_line: u32,
+    pub(crate) limits: Limits,
+    pub(crate) pages: u32,
+    pub(crate) block: u32,
+    pub(crate) inner: Vec<Inner>,
+    pub(crate) entries: Vec<Entry>,
+    pub(crate) faults: Vec<RawFault>,
+    pub(crate) schedule: Vec<(u32, u32)>,
+    pub(crate) ops: Vec<Op>,
+    pub(crate) blocks: u32,
+    pub(crate) fault_lines: Vec<u32>,
+    pub(crate) op_lines: Vec<u32>,
+    ghost sized: { block ≤ 4096 },
+    ghost few: { vec_len inner ≤ 32 },
+    ghost lengths: { are_lengths inner.items ≡ true },
+    ghost counted: { blocks ≤ 16384 },
+}
+
+impl Draft {
+    ghost use Rattle.std.specs.Prelude.{None, ◌+◌, ◌<◌, length};
+    ghost use Rattle.script_lines.specs.Forms.{IsSound};
+    ghost use Rattle.script_text.specs.Drafts.{drafted};
+    ghost use Rattle.script_text.specs.Language.{Takes, entry_taken, fault_taken, finished, inner_taken, nothing_read, op_taken, over_taken, schedule_taken, taken};
+    ghost use Rattle.script_text.specs.Rules.{broken_rule, request_blocks};
+
+    /// Nothing was read.
+    pub(crate) fn new(alloc: Global) -> Draft
+        ensures { drafted result ≡ nothing_read }
+    {
+        Draft {
+            is_new: false,
+            place: None,
+            mode: ModeLine {
+                kind: GuardKind::Crc,
+                dix: false,
+                dif: false,
+                protect: 1,
+            },
+            app: 0,
+            mask: 0,
+            expect_line: 0,
+            limits: Limits {
+                max_blocks: 1,
+                max_segs: 4,
+                max_pi_segs: 1,
+            },
+            pages: 1,
+            block: 512,
+            inner: Vec::new(alloc),
+            entries: Vec::new(alloc),
+            faults: Vec::new(alloc),
+            schedule: Vec::new(alloc),
+            ops: Vec::new(alloc),
+            blocks: 0,
+            fault_lines: Vec::new(alloc),
+            op_lines: Vec::new(alloc),
+        }
+    }
+
+    /// The entries of an `over` line, which may be too many.
+    fn add_over(&mut self, alloc: Global, line: OverLine) -> Result<(), ScriptKind>
+        requires low { 1 ≤ line.len }
+        requires high { line.len ≤ 1048576 }
+        requires chunk { 1 ≤ line.chunk }
+        requires legs { 1 ≤ length line.volumes.now }
+        ensures { Takes (over_taken line.entry.start line.entry.len line.entry.chunk line.entry.volumes.now (drafted self.old)) result (drafted self.new) }
+    {
+        let found = entries_over(alloc, self.inner.as_slice(), line)?;
+        let entries = found.as_slice();
+        if self.entries.len() + entries.len() > MOST_ENTRIES {
+            return Err(ScriptKind::TooMany);
+        }
+        add_entries(alloc, &mut self.entries, entries)
+    }
+
+    fn add_fault(&mut self, number: u32, fault: RawFault) -> Result<(), ScriptKind>
+        ensures { Takes (fault_taken number fault (drafted self.old)) result (drafted self.new) }
+    {
+        add(&mut self.faults, fault)?;
+        add(&mut self.fault_lines, number)
+    }
+
+    fn add_schedule(&mut self, entries: &WordList) -> Result<(), ScriptKind>
+        ensures { Takes (schedule_taken entries.now (drafted self.old)) result (drafted self.new) }
+    {
+        match self.schedule.extend_from_slice(entries.as_slice()) {
+            Ok(()) => Ok(()),
+            Err(_) => Err(ScriptKind::Memory),
+        }
+    }
+
+    fn add_inner(&mut self, inner: Inner) -> Result<(), ScriptKind>
+        requires few { vec_len self.old.inner < 32 }
+        requires low { 1 ≤ inner.len }
+        requires high { inner.len ≤ 1048576 }
+        ensures { Takes (inner_taken inner (drafted self.old)) result (drafted self.new) }
+    {
+        add(&mut self.inner, inner)
+    }
+
+    fn add_entry(&mut self, entry: Entry) -> Result<(), ScriptKind>
+        ensures { Takes (entry_taken entry (drafted self.old)) result (drafted self.new) }
+    {
+        add(&mut self.entries, entry)
+    }
+
+    fn add_op(&mut self, alloc: Global, number: u32, line: OpLine) -> Result<(), ScriptKind>
+        requires { self.old.blocks + request_blocks line ≤ 16384 }
+        ensures { Takes (op_taken number line (drafted self.old)) result (drafted self.new) }
+    {
+        let blocks = request_blocks(&line);
+        let sizes = Sizes {
+            pages: self.pages,
+            block: self.block,
+        };
+        let op = op_of(alloc, line, sizes)?;
+        add(&mut self.ops, op)?;
+        self.blocks += blocks;
+        add(&mut self.op_lines, number)
+    }
+
+    /// Takes a line that keeps the rules that come before its segments.
+    #[tactic(auto, unfolding(crate::specs::Language::taken))]
+    pub(crate) fn take(&mut self, alloc: Global, number: u32, line: Line) -> Result<(), ScriptKind>
+        requires rule { broken_rule (drafted self.old) line ≡ None }
+        requires sound { IsSound line }
+        ensures { Takes (taken number line (drafted self.old)) result (drafted self.new) }
+    {
+        match line {
+            Line::Mode(mode) => {
+                self.mode = mode;
+                Ok(())
+            }
+            Line::Limits(limits) => {
+                self.limits = limits;
+                Ok(())
+            }
+            Line::Pages(pages) => {
+                self.pages = pages;
+                Ok(())
+            }
+            Line::Block(size) => {
+                self.block = size;
+                Ok(())
+            }
+            Line::Expect { app, mask } => {
+                self.app = app;
+                self.mask = mask;
+                self.expect_line = number;
+                Ok(())
+            }
+            Line::Inner {
+                volume,
+                len,
+                dev,
+                at,
+            } => self.add_inner(Inner {
+                volume,
+                len,
+                dev,
+                at,
+            }),
+            Line::Linear(linear) => self.add_entry(Entry::Linear(linear)),
+            Line::Stripe {
+                start,
+                len,
+                chunk,
+                legs,
+            } => self.add_entry(Entry::Stripe(Stripe {
+                start,
+                len,
+                chunk,
+                legs,
+            })),
+            Line::Over {
+                start,
+                len,
+                chunk,
+                volumes,
+            } => self.add_over(
+                alloc,
+                OverLine {
+                    start,
+                    len,
+                    chunk,
+                    volumes: volumes.as_slice(),
+                },
+            ),
+            Line::Flip {
+                op,
+                k,
+                spot,
+                off,
+                bytes,
+            } => self.add_fault(
+                number,
+                RawFault {
+                    op,
+                    k,
+                    spot,
+                    kind: FaultKind::Flip { off, bytes },
+                },
+            ),
+            Line::Shift { op, spot, by } => self.add_fault(
+                number,
+                RawFault {
+                    op,
+                    k: 0,
+                    spot,
+                    kind: FaultKind::Shift { by },
+                },
+            ),
+            Line::Schedule(entries) => self.add_schedule(&entries),
+            Line::Begin => Ok(()),
+            Line::Op(line) => self.add_op(alloc, number, line),
+        }
+    }
+
+    /// The script, once all lines are read.
+    pub(crate) fn finish(self, alloc: Global) -> Result<Script, ScriptKind>
+        ensures value { IfOk result (λ script. script ≡ finished (drafted self)) }
+        ensures memory { IfErr result (λ k. k ≡ ScriptKind.Memory) }
+    {
+        let Draft {
+            is_new: _,
+            place: _,
+            mode,
+            app,
+            mask,
+            expect_line,
+            limits,
+            pages,
+            block,
+            inner: _,
+            entries,
+            faults,
+            schedule,
+            ops,
+            blocks: _,
+            fault_lines,
+            op_lines,
+        } = self;
+        let mut lines = fault_lines;
+        if lines.extend_from_slice(op_lines.as_slice()).is_err() {
+            return Err(ScriptKind::Memory);
+        }
+        let faults = crossed(alloc, faults, ops.as_slice())?;
+        Ok(Script {
+            mode: Mode {
+                kind: mode.kind,
+                dix: mode.dix,
+                dif: mode.dif,
+                protect: mode.protect,
+                app,
+                mask,
+            },
+            limits,
+            pages,
+            block,
+            expect_line,
+            entries: EntryList::from_vec(entries),
+            faults: FaultList::from_vec(faults),
+            schedule: WordList::from_vec(schedule),
+            ops: OpList::from_vec(ops),
+            lines: LineList::from_vec(lines),
+        })
+    }
+}
+
+/// An equal entry. The one error is want of memory.
+fn copy_of(alloc: Global, entry: &Entry) -> Result<Entry, ScriptKind>
+    ensures same { IfOk result (λ e. e ≡ entry.now) }
+    ensures memory { IfErr result (λ k. k ≡ ScriptKind.Memory) }
+{
+    match entry {
+        Entry::Linear(linear) => Ok(Entry::Linear(*linear)),
+        Entry::Stripe(stripe) => match stripe.legs.copy(alloc) {
+            Ok(legs) => Ok(Entry::Stripe(Stripe {
+                start: stripe.start,
+                len: stripe.len,
+                chunk: stripe.chunk,
+                legs,
+            })),
+            Err(_) => Err(ScriptKind::Memory),
+        },
+    }
+}
+
+/// Adds copies of entries.
+fn add_entries(alloc: Global, list: &mut Vec<Entry>, entries: &[Entry]) -> Result<(), ScriptKind>
+    ensures added { OnOk result (list.new.items ≡ list.old.items ++ entries.now) }
+    ensures memory { IfErr result (λ k. k ≡ ScriptKind.Memory) }
+{
+    for entry in entries {
+        add(list, copy_of(alloc, entry)?)?;
+    }
+    Ok(())
+}
+
+/// Whether the op of this number, from 1, is a read.
+fn is_read(ops: &[Op], number: u32) -> bool
+    ensures { result ≡ is_read ops.now number }
+{
+    match ops.get(number.saturating_sub(1) as usize) {
+        Some(Op::Fetch { .. }) | Some(Op::FetchPi { .. }) => true,
+        _ => false,
+    }
+}
+
+/// The faults with their crossings.
+fn crossed(alloc: Global, faults: Vec<RawFault>, ops: &[Op]) -> Result<Vec<FaultLine>, ScriptKind>
+    ensures value { IfOk result (λ v. v.items ≡ map (crossed ops.now) faults.items) }
+    ensures memory { IfErr result (λ k. k ≡ ScriptKind.Memory) }
+{
+    let mut lines = Vec::new(alloc);
+    for fault in faults {
+        let RawFault { op, k, spot, kind } = fault;
+        let at = crossing_of(spot, &kind, is_read(ops, op));
+        add(&mut lines, FaultLine { op, k, at, kind })?;
+    }
+    Ok(lines)
+}

@@ -1,0 +1,219 @@
+//! The reader.
+
+ghost use Rattle.std.specs.Prelude.{◌≡◌, ◌∷◌};
+ghost use Rattle.std.specs.Str.{bytes_eq};
+ghost use Rattle.script_lines.specs.Verbs.{verb_of};
+ghost use Rattle.script_text.specs.Drafts.{drafted};
+ghost use Rattle.script_text.specs.Language.{Answers, Takes, at_end, end_fault, header_taken, is_behind, is_comment, line_taken, script_in, text_taken, verb_taken, version_of, words_taken};
+ghost use Rattle.script_text.specs.Rules.{broken_rule};
+
+use crate::draft::Draft;
+use crate::rules::{is_bad_fault, is_too_many, lacks_integrity};
+use crate::{Script, ScriptFault, ScriptKind};
+use script_lines::{Line, Place, Verb, Words, line_of, verb_of};
+use script_words::{is_plain, next_line};
+use std::alloc::Global;
+
+/// A text has at most this many bytes.
+const MOST_BYTES: usize = 4194304;
+/// A line has at most this many bytes, without its newline.
+const LONGEST: usize = 4096;
+
+fn is_same(a: &[u8], b: &[u8]) -> bool
+    ensures { result ≡ bytes_eq a.now b.now }
+{
+    a == b
+}
+
+/// The first rule that a line breaks, of those that ask nothing of its segments.
+fn broken_rule(draft: &Draft, line: &Line) -> Option<ScriptKind>
+    ensures { result ≡ broken_rule (drafted draft.now) line.now }
+{
+    if lacks_integrity(draft, line) {
+        return Some(ScriptKind::NoIntegrity);
+    }
+    if is_too_many(draft, line) {
+        return Some(ScriptKind::TooMany);
+    }
+    if is_bad_fault(draft, line) {
+        return Some(ScriptKind::BadFault);
+    }
+    None
+}
+
+/// Whether a line behind one of this place may stand there.
+fn is_in_place(draft: &Draft, verb: Verb) -> bool
+    ensures { result ≡ is_behind draft.now.is_new verb draft.now.place }
+{
+    match draft.place {
+        None => false,
+        Some(place) => {
+            (draft.is_new || !verb.is_new()) && place.comes_before(verb.place(), draft.is_new)
+        }
+    }
+}
+
+/// The version of the first line that isn't skipped, `dix 1` or `dix 2`: whether it is 2.
+fn version_of(first: &[u8], words: &mut Words) -> Option<bool>
+    ensures { result ≡ version_of (first.now ∷ words.old) }
+{
+    let version = words.next()?;
+    if words.next().is_some() {
+        return None;
+    }
+    if !is_same(first, b"dix") {
+        return None;
+    }
+    if is_same(version, b"1") {
+        return Some(false);
+    }
+    if is_same(version, b"2") {
+        return Some(true);
+    }
+    None
+}
+
+fn take_header(draft: &mut Draft, first: &[u8], words: &mut Words) -> Result<(), ScriptKind>
+    ensures { Takes (header_taken (version_of (first.now ∷ words.old)) (drafted draft.old)) result (drafted draft.new) }
+{
+    match version_of(first, words) {
+        Some(is_new) => {
+            draft.is_new = is_new;
+            draft.place = Some(Place::Dix);
+            Ok(())
+        }
+        None => Err(ScriptKind::NoHeader),
+    }
+}
+
+/// A line of this verb, in its place.
+#[tactic(auto, unfolding(crate::specs::Language::line_taken))]
+fn take_verb(
+    alloc: Global,
+    draft: &mut Draft,
+    number: u32,
+    verb: Verb,
+    words: &mut Words,
+) -> Result<(), ScriptKind>
+    ensures { Takes (line_taken number verb words.old (drafted draft.old)) result (drafted draft.new) }
+{
+    let line = line_of(alloc, verb, words, draft.block)?;
+    if let Some(kind) = broken_rule(draft, &line) {
+        return Err(kind);
+    }
+    draft.take(alloc, number, line)?;
+    draft.place = Some(verb.place());
+    Ok(())
+}
+
+/// A line behind the header, whose first word this is.
+fn take_line(
+    alloc: Global,
+    draft: &mut Draft,
+    number: u32,
+    first: &[u8],
+    words: &mut Words,
+) -> Result<(), ScriptKind>
+    ensures { Takes (verb_taken number (verb_of first.now) words.old (drafted draft.old)) result (drafted draft.new) }
+{
+    match verb_of(first) {
+        Some(verb) => {
+            if !is_in_place(draft, verb) {
+                return Err(ScriptKind::OutOfPlace);
+            }
+            take_verb(alloc, draft, number, verb, words)
+        }
+        None => Err(ScriptKind::UnknownWord),
+    }
+}
+
+/// Whether a line with this first word is skipped.
+fn is_comment(first: &[u8]) -> bool
+    ensures { result ≡ is_comment first.now }
+{
+    match first {
+        [] => false,
+        [byte, ..] => *byte == b'#',
+    }
+}
+
+/// The words of a line.
+fn take_words(
+    alloc: Global,
+    draft: &mut Draft,
+    number: u32,
+    words: &mut Words,
+) -> Result<(), ScriptKind>
+    ensures { Takes (words_taken number words.old (drafted draft.old)) result (drafted draft.new) }
+{
+    match words.next() {
+        None => Ok(()),
+        Some(first) => {
+            if is_comment(first) {
+                return Ok(());
+            }
+            match draft.place {
+                None => take_header(draft, first, words),
+                Some(_) => take_line(alloc, draft, number, first, words),
+            }
+        }
+    }
+}
+
+fn take_text(alloc: Global, draft: &mut Draft, number: u32, line: &[u8]) -> Result<(), ScriptKind>
+    ensures { Takes (text_taken number line.now (drafted draft.old)) result (drafted draft.new) }
+{
+    if !is_plain(line) {
+        return Err(ScriptKind::NotAscii);
+    }
+    if line.len() > LONGEST {
+        return Err(ScriptKind::LongLine);
+    }
+    take_words(alloc, draft, number, &mut Words::of(line))
+}
+
+/// What is wrong with the end of the text, if anything.
+fn end_fault(draft: &Draft) -> Option<ScriptKind>
+    ensures { result ≡ end_fault draft.now.place }
+{
+    match draft.place {
+        None => Some(ScriptKind::NoHeader),
+        Some(Place::Begin) | Some(Place::Op) => None,
+        Some(_) => Some(ScriptKind::OutOfPlace),
+    }
+}
+
+fn finish(alloc: Global, draft: Draft, line: u32) -> Result<Script, ScriptFault>
+    ensures { Answers (at_end line (end_fault draft.place) (drafted draft)) result }
+{
+    if let Some(kind) = end_fault(&draft) {
+        return Err(ScriptFault { line, kind });
+    }
+    match draft.finish(alloc) {
+        Ok(script) => Ok(script),
+        Err(kind) => Err(ScriptFault { line, kind }),
+    }
+}
+
+/// The script of a text, or its first fault. Want of memory is a fault of the kind `Memory`, at any line.
+pub fn read_script(alloc: Global, text: &[u8]) -> Result<Script, ScriptFault>
+    ensures { Answers (script_in text.now) result }
+{
+    if text.len() > MOST_BYTES {
+        return Err(ScriptFault {
+            line: 0,
+            kind: ScriptKind::TooMany,
+        });
+    }
+    let mut draft = Draft::new(alloc);
+    let mut line = 1u32;
+    let mut rest = text;
+    while let Some((first, behind)) = next_line(rest) {
+        if let Err(kind) = take_text(alloc, &mut draft, line, first) {
+            return Err(ScriptFault { line, kind });
+        }
+        line += 1;
+        rest = behind;
+    }
+    finish(alloc, draft, line)
+}
