@@ -7,3 +7,13 @@ pub mod Gathering
 pub mod Grouping
 pub mod Judged
 pub mod Landing
+pub mod Puts
+pub mod Asking
+pub mod GoingOut
+pub mod Runs
+pub mod Units
+pub mod WentOut
+pub mod GoingIn
+pub mod CameIn
+pub mod Told
+pub mod OnRecord

@@ -5,7 +5,7 @@ use Rattle.page_pool.specs.Cells.{flat, gather, scatter}
 use Rattle.page_pool.specs.Pages.{AreWhole}
 use Rattle.pi_tuple.specs.Finds.{is_zero}
 use Rattle.pi_tuple.specs.declared.checks.Check.{Check}
-use Rattle.cdb_codec.specs.Forms.{form}
+use Rattle.cdb_codec.specs.Forms.{Fits, form}
 use Rattle.cdb_codec.specs.Rule.{chosen}
 use Rattle.cdb_codec.specs.declared.command.Cdb.{Cdb}
 use Rattle.cdb_codec.specs.declared.choice.Dir2.{Dir2}
@@ -177,6 +177,7 @@ out_of a ios req pool = joined (map frame_sent (map (sends a ios (flat pool)) (b
 -- A write whose blocks are all good was sent.
 pub record Sent (a : Adapter) (ios : List Io) (req : List Bio) (pool pool' : List (List ℕ)) (fates : List Fate) (old new : Shown) : Type 0 where
   pub outcome : Outcome
+  pub fits : Fits (command_of a req)
   pub exchanged : Exchanged old new (first_of req).dev (form (command_of a req)) (map label_of (blocks_in req)) (out_of a ios req pool) [] [] outcome
   pub fates_are : fates ≡ replicate (done_of (size req) outcome) Good ++ rest_of (size req) outcome
   pub pool_is : pool' ≡ pool
@@ -188,6 +189,7 @@ frames_came a ios req o came = frames_of (frame_len a ios req) (done_of (size re
 -- A read was fetched.
 pub record Fetched (a : Adapter) (ios : List Io) (req : List Bio) (pool pool' : List (List ℕ)) (fates : List Fate) (old new : Shown) : Type 0 where
   pub outcome : Outcome
+  pub fits : Fits (command_of a req)
   pub before : List ℕ
   pub came : List ℕ
   pub exchanged : Exchanged old new (first_of req).dev (form (command_of a req)) (map label_of (blocks_in req)) [] before came outcome

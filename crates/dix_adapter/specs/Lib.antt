@@ -4,3 +4,4 @@ pub mod Groups
 pub mod Outcomes
 pub mod Walking
 pub mod Carried
+pub mod Ways

@@ -1,13 +1,16 @@
 //! The adapter.
 
-ghost use Rattle.std.specs.Prelude.{◌≡◌, ◌<◌, ◌≤◌, ◌+◌, ◌^◌, ℕ, true, false, is_some, map};
+ghost use Rattle.std.specs.Prelude.{◌≡◌, ◌<◌, ◌≤◌, ◌+◌, ◌^◌, ℕ, List, true, false, Some, is_some, length, map};
 ghost use Rattle.std.specs.Vec.{vec_capacity};
 ghost use Rattle.page_pool.specs.Cells.{flat};
 ghost use Rattle.bio_core.specs.declared.request.Dir.TheVariants.{Read, Write};
 ghost use Rattle.rig_api.specs.Log.{HasRoom};
-ghost use Rattle.rig_api.specs.Telling.{greatest_size};
+ghost use Rattle.bio_core.specs.Bios.{block_size};
+ghost use Rattle.rig_api.specs.Telling.{frame_size, greatest_size, spec_at, unit_at};
+ghost use Rattle.target_answer.specs.Target.{Stored};
+ghost use Rattle.dix_adapter.specs.Ways.{CameIn, IsBehind, RecordedIn, RecordedOut, UpTo, WentOut, any_settled};
 ghost use Rattle.dix_adapter.specs.Carried.{Fetched, Sent, Unsent, any_bad, sends};
-ghost use Rattle.dix_adapter.specs.Groups.{EndsInTime, IsGroup, IsProtect, blocks_in, first_of, mode_of, route_by, size};
+ghost use Rattle.dix_adapter.specs.Groups.{EndsInTime, IsGroup, IsProtect, blocks_in, first_of, mode_of, request_of, route_by, size};
 ghost use Rattle.dix_adapter.specs.Room.{HoldsBlocks};
 
 use crate::Mode;
@@ -107,6 +110,32 @@ impl Adapter {
             → Fetched self.now ios.now req.now pool.old pool.new fates.new.items
             (record { told = is_some (R.image rig.old); units = R.units rig.old; standing = R.standing rig.old; log = R.log rig.old; room = R.room rig.old; armed = R.armed rig.old; faults = R.faults rig.old })
             (record { told = is_some (R.image rig.new); units = R.units rig.new; standing = R.standing rig.new; log = R.log rig.new; room = R.room rig.new; armed = R.armed rig.new; faults = R.faults rig.new }) }
+        ensures recorded_out { (spec_at (R.standing rig.old) (first_of req.now).dev).size ≡ block_size (request_of ios.now (first_of req.now).op)
+            → (first_of req.now).dir ≡ Write → any_bad (map (sends self.now ios.now (flat pool.old)) (blocks_in req.now)) ≡ false
+            → RecordedOut self.now ios.now req.now (flat pool.old) fates.new.items
+            (record { told = is_some (R.image rig.old); units = R.units rig.old; standing = R.standing rig.old; log = R.log rig.old; room = R.room rig.old; armed = R.armed rig.old; faults = R.faults rig.old })
+            (record { told = is_some (R.image rig.new); units = R.units rig.new; standing = R.standing rig.new; log = R.log rig.new; room = R.room rig.new; armed = R.armed rig.new; faults = R.faults rig.new }) }
+        ensures recorded_in { (spec_at (R.standing rig.old) (first_of req.now).dev).size ≡ block_size (request_of ios.now (first_of req.now).op)
+            → (first_of req.now).dir ≡ Read
+            → RecordedIn self.now ios.now req.now pool.old pool.new fates.new.items
+            (record { told = is_some (R.image rig.old); units = R.units rig.old; standing = R.standing rig.old; log = R.log rig.old; room = R.room rig.old; armed = R.armed rig.old; faults = R.faults rig.old })
+            (record { told = is_some (R.image rig.new); units = R.units rig.new; standing = R.standing rig.new; log = R.log rig.new; room = R.room rig.new; armed = R.armed rig.new; faults = R.faults rig.new }) }
+        ensures settles { any_settled fates.new.items ≡ true }
+        ensures went_out { (us : List Stored) → R.units rig.old ≡ Some us → IsBehind self.now ios.now req.now us (R.armed rig.old)
+            → (first_of req.now).dir ≡ Write → any_bad (map (sends self.now ios.now (flat pool.old)) (blocks_in req.now)) ≡ false
+            → UpTo (λ stop. WentOut self.now ios.now req.now (flat pool.old) us stop fates.new.items
+            (record { told = is_some (R.image rig.old); units = R.units rig.old; standing = R.standing rig.old; log = R.log rig.old; room = R.room rig.old; armed = R.armed rig.old; faults = R.faults rig.old })
+            (record { told = is_some (R.image rig.new); units = R.units rig.new; standing = R.standing rig.new; log = R.log rig.new; room = R.room rig.new; armed = R.armed rig.new; faults = R.faults rig.new }))
+            (frame_size (unit_at us (first_of req.now).dev)) (R.faults rig.old) (R.faults rig.new) }
+        ensures came_in { (us : List Stored) → R.units rig.old ≡ Some us → IsBehind self.now ios.now req.now us (R.armed rig.old)
+            → (first_of req.now).dir ≡ Read
+            → UpTo (λ stop. CameIn self.now ios.now req.now pool.old pool.new us stop fates.new.items
+            (record { told = is_some (R.image rig.old); units = R.units rig.old; standing = R.standing rig.old; log = R.log rig.old; room = R.room rig.old; armed = R.armed rig.old; faults = R.faults rig.old })
+            (record { told = is_some (R.image rig.new); units = R.units rig.new; standing = R.standing rig.new; log = R.log rig.new; room = R.room rig.new; armed = R.armed rig.new; faults = R.faults rig.new }))
+            (frame_size (unit_at us (first_of req.now).dev)) (R.faults rig.old) (R.faults rig.new) }
+        ensures pages { length pool.new ≡ length pool.old }
+        ensures standing { R.standing rig.new ≡ R.standing rig.old }
+        ensures armed { R.armed rig.new ≡ R.armed rig.old }
         ensures scratch { HoldsBlocks (size req.now) scratch.new }
         ensures capacity { vec_capacity fates.new ≡ vec_capacity fates.old }
     {

@@ -8,7 +8,7 @@ ghost use Rattle.bio_core.specs.Bios.{block_size};
 ghost use Rattle.target_answer.specs.Frames.{frames_of};
 ghost use Rattle.target_answer.specs.Passing.{unless};
 ghost use Rattle.bio_core.specs.declared.request.Dir.TheVariants.{Read};
-ghost use Rattle.cdb_codec.specs.Forms.{form};
+ghost use Rattle.cdb_codec.specs.Forms.{Fits, form};
 ghost use Rattle.cdb_codec.specs.declared.choice.Dir2.TheVariants.{In};
 ghost use Rattle.rig_api.specs.Log.{HasRoom};
 ghost use Rattle.rig_api.specs.Telling.{greatest_size};
@@ -87,6 +87,7 @@ impl Adapter {
         requires device { (first_of req.now).dev < (R.standing rig.old).devices }
         requires long { len ≤ length frames.old }
         requires spare { HasRoom (greatest_size (R.standing rig.old)) 1 count (R.room rig.old) }
+        ensures fits { Fits (command_for self.now In (first_of req.now).lba count) }
         ensures exchanged { Exchanged
             (record { told = is_some (R.image rig.old); units = R.units rig.old; standing = R.standing rig.old; log = R.log rig.old; room = R.room rig.old; armed = R.armed rig.old; faults = R.faults rig.old })
             (record { told = is_some (R.image rig.new); units = R.units rig.new; standing = R.standing rig.new; log = R.log rig.new; room = R.room rig.new; armed = R.armed rig.new; faults = R.faults rig.new })

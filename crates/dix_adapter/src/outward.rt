@@ -244,7 +244,8 @@ impl Adapter {
         requires ends { (first_of req.now).lba + count < 2 ^ 64 }
         requires device { (first_of req.now).dev < (R.standing rig.old).devices }
         requires spare { HasRoom (greatest_size (R.standing rig.old)) 1 count (R.room rig.old) }
-        ensures { Exchanged
+        ensures fits { Fits (command_for self.now Out (first_of req.now).lba count) }
+        ensures exchanged { Exchanged
             (record { told = is_some (R.image rig.old); units = R.units rig.old; standing = R.standing rig.old; log = R.log rig.old; room = R.room rig.old; armed = R.armed rig.old; faults = R.faults rig.old })
             (record { told = is_some (R.image rig.new); units = R.units rig.new; standing = R.standing rig.new; log = R.log rig.new; room = R.room rig.new; armed = R.armed rig.new; faults = R.faults rig.new })
             (first_of req.now).dev (form (command_for self.now Out (first_of req.now).lba count)) labels.now frames.now [] [] result }

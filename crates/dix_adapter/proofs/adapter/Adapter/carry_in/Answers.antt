@@ -23,9 +23,10 @@ returns-clause-fetched g c =
     let q : c.index-ios-req.result ≡ request_of c.args.ios.now (first_of c.args.req.now).op = c.index-ios-req.is ∙ get_or_default c.args.ios.now ((first_of c.args.req.now).op - 1) c.index-ios-req.result no_request (let x = k.op in let y = k.there in omega arith) in
     let u : c.wire_size.result ≡ frame_len c.args.self.now c.args.ios.now c.args.req.now = c.wire_size.ensures ∙ ap (λ n. if c.args.self.now.dif && not (is_zero c.args.self.now.ty) then n + 8 else n) (c.block_size-size.ensures ∙ ap block_size q ∙ k.request.size) ∙ sym (group-width c.args.self.now c.args.pool.now c.requires.group.0 c.args.ios.now c.args.req.now c.requires.group.1) in
     let l : c.deref.result.now ≡ map label_of (blocks_in c.args.req.now) = c.deref.ensures.value ∙ c.fill_labels-count.ensures.labels in
-    let d : form (command_for c.args.self.now In (first_of c.args.req.now).lba c.fill_labels-count.result) ≡ form (command_of c.args.self.now c.args.req.now) =
-    ap (λ n. form (command_for c.args.self.now In (first_of c.args.req.now).lba n)) c.fill_labels-count.ensures.count
-    ∙ ap (λ w. form (command_for c.args.self.now w (first_of c.args.req.now).lba (size c.args.req.now))) (sym (ap way_of c.requires.way)) in
+    let cmd : command_for c.args.self.now In (first_of c.args.req.now).lba c.fill_labels-count.result ≡ command_of c.args.self.now c.args.req.now =
+    ap (λ n. command_for c.args.self.now In (first_of c.args.req.now).lba n) c.fill_labels-count.ensures.count
+    ∙ ap (λ w. command_for c.args.self.now w (first_of c.args.req.now).lba (size c.args.req.now)) (sym (ap way_of c.requires.way)) in
+    let d = ap form cmd in
     let z : c.fill_labels-count.result * c.wire_size.result ≡ size c.args.req.now * frame_len c.args.self.now c.args.ios.now c.args.req.now = ap (λ n. n * c.wire_size.result) c.fill_labels-count.ensures.count ∙ ap (λ n. size c.args.req.now * n) u in
     let m = group-most c.args.self.now c.args.pool.now c.requires.group.0 c.args.ios.now c.args.req.now c.requires.group.1 in
     let t = times-most (size c.args.req.now) (frame_len c.args.self.now c.args.ios.now c.args.req.now) m in
@@ -44,6 +45,7 @@ returns-clause-fetched g c =
     ∙ ap (λ m. frames_of (frame_len c.args.self.now c.args.ios.now c.args.req.now) m (take (c.fill_labels-count.result * c.wire_size.result) c.fetch-outcome.new.frames)) n in
     record {
       outcome = c.fetch-outcome.result;
+      fits = rw cmd at c.fetch-outcome.ensures.fits;
       before = take (c.fill_labels-count.result * c.wire_size.result) c.deref_mut.result.now;
       came = take (c.fill_labels-count.result * c.wire_size.result) c.fetch-outcome.new.frames;
       exchanged = exchanged-as

@@ -22,15 +22,17 @@ returns-clause-sent g c n =
     let l : c.deref-2.result.now ≡ map label_of (blocks_in c.args.req.now) = c.deref-2.ensures.value ∙ c.fill_labels-count.ensures.labels in
     let k : length c.gather-end.new.frames ≡ c.args.scratch.now.frames.len = omega (arith, c.gather-end.ensures.long, c.deref_mut.ensures.len) in
     let f : take c.gather-end.result c.deref-3.result.now ≡ out_of c.args.self.now c.args.ios.now c.args.req.now c.args.pool.now = ap (take c.gather-end.result) (c.deref-3.ensures.value ∙ take_at c.gather-end.new.frames (drop (length c.gather-end.new.frames) c.args.scratch.now.frames.items) c.args.scratch.now.frames.len k) ∙ c.gather-end.ensures.frames n in
-    let d : form (command_for c.args.self.now Out (first_of c.args.req.now).lba c.fill_labels-count.result) ≡ form (command_of c.args.self.now c.args.req.now) =
-    ap (λ k. form (command_for c.args.self.now Out (first_of c.args.req.now).lba k)) c.fill_labels-count.ensures.count
-    ∙ ap (λ w. form (command_for c.args.self.now w (first_of c.args.req.now).lba (size c.args.req.now))) (sym (ap way_of c.requires.way)) in
+    let m : command_for c.args.self.now Out (first_of c.args.req.now).lba c.fill_labels-count.result ≡ command_of c.args.self.now c.args.req.now =
+    ap (λ k. command_for c.args.self.now Out (first_of c.args.req.now).lba k) c.fill_labels-count.ensures.count
+    ∙ ap (λ w. command_for c.args.self.now w (first_of c.args.req.now).lba (size c.args.req.now)) (sym (ap way_of c.requires.way)) in
+    let d = ap form m in
     record {
       outcome = c.send-outcome.result;
+      fits = rw m at c.send-outcome.ensures.fits;
       exchanged = exchanged-as
           (record { told = is_some (g.R.Rig.image c.args.rig.now); units = g.R.Rig.units c.args.rig.now; standing = g.R.Rig.standing c.args.rig.now; log = g.R.Rig.log c.args.rig.now; room = g.R.Rig.room c.args.rig.now; armed = g.R.Rig.armed c.args.rig.now; faults = g.R.Rig.faults c.args.rig.now })
           (record { told = is_some (g.R.Rig.image c.send-outcome.new.rig); units = g.R.Rig.units c.send-outcome.new.rig; standing = g.R.Rig.standing c.send-outcome.new.rig; log = g.R.Rig.log c.send-outcome.new.rig; room = g.R.Rig.room c.send-outcome.new.rig; armed = g.R.Rig.armed c.send-outcome.new.rig; faults = g.R.Rig.faults c.send-outcome.new.rig })
-          (first_of c.args.req.now).dev _ _ _ _ _ _ [] [] c.send-outcome.result d l f c.send-outcome.ensures;
+          (first_of c.args.req.now).dev _ _ _ _ _ _ [] [] c.send-outcome.result d l f c.send-outcome.ensures.exchanged;
       fates_are = c.set_fates.ensures.items ∙ ap (λ k. replicate (done_of k c.send-outcome.result) Good ++ rest_of k c.send-outcome.result) c.fill_labels-count.ensures.count;
       pool_is = refl;
     }

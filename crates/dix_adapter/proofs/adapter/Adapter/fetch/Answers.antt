@@ -22,6 +22,9 @@ exchange-requires-clause-capacity g c =
     let z : capacity_len c.deref.result.now (length c.split_at_mut-into.result.0.now) ≡ 0 = ap (λ z. capacity_len z (length c.split_at_mut-into.result.0.now)) d ∙ command-capacity c.args.self.now In (first_of c.args.req.now).lba c.args.count (length c.split_at_mut-into.result.0.now) (rw c.command-cdb.ensures.command at c.command-cdb.ensures.fits) in
     omega (arith, z)
 
+pub returns-clause-fits : goal.returns-clause-fits
+returns-clause-fits g c = rw c.command-cdb.ensures.command at c.command-cdb.ensures.fits
+
 pub returns-clause-exchanged : goal.returns-clause-exchanged
 returns-clause-exchanged g c =
     let d : c.deref.result.now ≡ form (command_for c.args.self.now In (first_of c.args.req.now).lba c.args.count) = c.deref.ensures.0 ∙ c.encode.ensures ∙ ap form c.command-cdb.ensures.command in

@@ -14,8 +14,11 @@ exchange-requires-clause-room g c =
     command-room c.args.self.now Out (first_of c.args.req.now).lba c.args.count (greatest_size (g.R.Rig.standing c.args.rig.now)) c.encode.result.items c.deref.result.now (g.R.Rig.room c.args.rig.now)
     (rw c.command-cdb.ensures.command at c.command-cdb.ensures.fits) (c.encode.ensures ∙ ap form c.command-cdb.ensures.command) c.deref.ensures.0 c.requires.spare
 
-pub returns : goal.returns
-returns g c =
+pub returns-clause-fits : goal.returns-clause-fits
+returns-clause-fits g c = rw c.command-cdb.ensures.command at c.command-cdb.ensures.fits
+
+pub returns-clause-exchanged : goal.returns-clause-exchanged
+returns-clause-exchanged g c =
     let d : c.deref.result.now ≡ form (command_for c.args.self.now Out (first_of c.args.req.now).lba c.args.count) = c.deref.ensures.0 ∙ c.encode.ensures ∙ ap form c.command-cdb.ensures.command in
     let e = c.exchange.ensures in
     let x : Exchanged

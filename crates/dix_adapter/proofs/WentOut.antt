@@ -1,0 +1,212 @@
+-- A write before a unit that is told.
+use Rattle.std.proofs.Common.{◌≡◌, ◌<◌, ◌≤◌, ℕ, zero, suc, ◌+◌, ◌-◌, ◌*◌, ◌^◌, Bool, true, false, not, ◌&&◌, eqb, ltb, List, [], ◌∷◌, ◌++◌, length, map, take, drop, get_or, replicate, length-append, refl, ap, sym, subst, ◌∙◌, arith, inl, inr, ⊎_elim, Option, Some, None}
+use Rattle.std.specs.Prelude.{min, if◌then◌else◌, ℤ, pos, ◌+ℤ◌, nat_abs, Result, Ok, Err, ◌⊎◌}
+use Rattle.std.specs.List.{All}
+use Rattle.std.proofs.lemmas.Bool.{cases_Bool}
+use Rattle.std.proofs.lemmas.List.{append-nil, length-map}
+use Rattle.dix_base.specs.Told.{Calm}
+use Rattle.page_pool.specs.Cells.{flat}
+use Rattle.pi_tuple.specs.Finds.{is_zero}
+use Rattle.pi_tuple.specs.declared.checks.Check.{Check}
+use Rattle.cdb_codec.specs.Decoded.{decoded}
+use Rattle.cdb_codec.specs.Forms.{Fits, form}
+use Rattle.cdb_codec.specs.declared.choice.Dir2.TheVariants.{Out}
+use Rattle.cdb_codec.specs.declared.command.Cdb.{Cdb}
+use Rattle.cdb_codec.specs.declared.command.Rw.{Rw}
+use Rattle.cdb_codec.specs.declared.command.CdbFault.{CdbFault}
+use Rattle.cdb_codec.proofs.Inverse.{decoded_form}
+use Rattle.bio_core.specs.declared.bio.Bio.{Bio}
+use Rattle.bio_core.specs.declared.fate.Fate.{Fate}
+use Rattle.bio_core.specs.declared.fate.Fate.TheVariants.{Good}
+use Rattle.bio_core.specs.declared.request.Dir.TheVariants.{Write}
+use Rattle.bio_core.specs.declared.request.Io.{Io}
+use Rattle.bio_core.specs.Bios.{Block}
+use Rattle.fault_schedule.specs.Altered.{shift_of}
+use Rattle.fault_schedule.specs.declared.Label.{Label}
+use Rattle.fault_schedule.specs.declared.fault.Crossing.TheVariants.{AdapterToTarget}
+use Rattle.fault_schedule.specs.declared.fault.FaultLine.{FaultLine}
+use Rattle.target_answer.specs.Frames.{frames_of, joined, placed, sent_size, stored_size}
+use Rattle.target_answer.specs.Passing.{to_medium}
+use Rattle.target_answer.specs.Requests.{is_foreign, request_of}
+use Rattle.target_answer.specs.declared.request.Request.TheVariants.{Write as Writes}
+use Rattle.target_answer.specs.Target.{Answer, Ended, Stop, Stored, answer_unless, bytes_of, carried_out, each, has_blocks, passage as passage_of, passed, refusal, shape_of, storing, target_answer, wire_address, write_end, written_by}
+use Rattle.target_answer.specs.declared.units.UnitSpec.{UnitSpec}
+use Rattle.rig_api.specs.Log.{Entry, entry_of, moved_by, moved_under}
+use Rattle.rig_api.specs.Telling.{HasCause, IsAnswer, Standing, answer_of, frame_size, spec_at, unit_at, with_blocks}
+use Rattle.rig_api.specs.declared.rig.Outcome.{Outcome}
+use Rattle.block_path.specs.Acts.{State, act}
+use Rattle.block_path.specs.Blocks.{stored_cell}
+use Rattle.block_path.specs.Routes.{moved, wire_lba}
+use Rattle.block_path.specs.Serial.{plain}
+use Rattle.dix_adapter.specs.declared.adapter.Adapter.{Adapter}
+use Rattle.dix_adapter.specs.Carried.{Exchanged, Sent, Shown, any_bad, command_for, command_of, out_of, sends, way_of}
+use Rattle.dix_adapter.specs.Groups.{IsBio, IsGroup, IsProtect, blocks_in, first_of, label_of, route_of, size}
+use Rattle.dix_adapter.specs.Outcomes.{done_of, rest_of}
+use Rattle.dix_adapter.specs.Ways.{IsBehind, WentOut, acts_out, blocks_told, cell_in, cells_out, fates_out, frames_out, left_at, shapes_of, site_of, stopped_out, ways_out}
+use Rattle.dix_adapter.proofs.Asking.{address-more, asked-for, count-is, field_for, fields_of, is-pos, lba-is, no-tuples-asked, not-refused-out, own-form, protect-is}
+use Rattle.dix_adapter.proofs.Blocks.{length-in}
+use Rattle.dix_adapter.proofs.Commands.{command-blocks}
+use Rattle.dix_adapter.proofs.GoingOut.{EndsOut, InTurn, all_sent, ends-out, judged-long, judged_out, passed-few, sent-long, stored-out, take-long, told, ways-are, ways_by}
+use Rattle.dix_adapter.proofs.Puts.{before, cell-is, placed-puts, puts, puts-long, told-puts, told-shapes}
+use Rattle.dix_adapter.proofs.Runs.{AllLong, Next, Run, asked-out, cut-joined, front-joined, group-run, joined-long, sent-wide, width-sent, width_for}
+use Rattle.dix_adapter.proofs.Units.{Stands}
+
+-- the shift of the command is that of its blocks
+pub first-shift : (a : Adapter) (ios : List Io) (device bytes : ℕ) (s t : ℤ) (address : ℕ) (bs : List Block) (c : Rw) → 1 ≤ length bs → Run a ios device bytes s t address bs → wire_address a.tamper (map label_of bs) c ≡ pos c.lba +ℤ s
+first-shift a ios device bytes s t address [] c h r = absurd (omega arith)
+first-shift a ios device bytes s t address (b ∷ bs) c h r = ap (λ z. pos c.lba +ℤ z) r.0.wire
+
+pub some-blocks : (a : Adapter) (pool : List (List ℕ)) (bytes : ℕ) (ios : List Io) (req : List Bio) → IsGroup a pool bytes ios req → 1 ≤ size req
+some-blocks a pool bytes ios [] g = absurd (let x = g.some in omega arith)
+some-blocks a pool bytes ios (b ∷ bs) g =
+    let x : IsBio a pool bytes ios b.dev b.dir b = g.bios 0 b (omega arith) in
+    let y = x.some in
+    omega arith
+
+-- what is known of a write's command before its unit
+pub record Before (a : Adapter) (ios : List Io) (unit : Stored) (device bytes address n at : ℕ) (s t : ℤ) (bs : List Block) : Type 0 where
+  pub protect : IsProtect a.protect
+  pub fits : Fits (command_for a Out address n)
+  pub ty : unit.ty ≡ a.ty
+  pub long : unit.size ≡ bytes
+  pub count : length bs ≡ n
+  pub some : 1 ≤ length bs
+  pub run : Run a ios device bytes s t address bs
+  pub here : pos address +ℤ s ≡ pos at
+  pub within : has_blocks (shape_of unit) (pos at) n ≡ true
+
+storing-same : (unit : Stored) (c : Rw) (faults : List FaultLine) (labels : List Label) (out : List ℕ) (stop : Option Stop) (at : ℕ) (js : List (Result (List ℕ) Check)) → wire_address faults labels c ≡ pos at → written_by (shape_of unit) c at faults labels out ≡ js →
+    carried_out unit (Writes c) faults labels out stop ≡ storing (at - unit.first) unit.blocks (write_end at js stop)
+storing-same unit c faults labels out stop at js e j =
+    ap (λ (z : ℤ). storing (nat_abs z - unit.first) unit.blocks (write_end (nat_abs z) (written_by (shape_of unit) c (nat_abs z) faults labels out) stop)) e
+    ∙ ap (λ x. storing (at - unit.first) unit.blocks (write_end at x stop)) j
+
+answer-by : (unit : Stored) (cmd : Cdb) (faults : List FaultLine) (labels : List Label) (out : List ℕ) (stop : Option Stop) (c : Rw) → Fits cmd → request_of cmd ≡ Writes c → refusal (shape_of unit) (Ok cmd) faults labels (length out) 0 ≡ None →
+    target_answer unit faults (form cmd) labels out 0 stop ≡ carried_out unit (Writes c) faults labels out stop
+unfolding target_answer
+answer-by unit cmd faults labels out stop c f q r =
+    ap (λ (d : Result Cdb CdbFault). answer_unless (refusal (shape_of unit) d faults labels (length out) 0) unit d faults labels out stop) (decoded_form cmd f)
+    ∙ ap (λ x. answer_unless x unit (Ok cmd) faults labels out stop) r ∙ ap (λ x. carried_out unit x faults labels out stop) q
+
+pub answered-out : (a : Adapter) (ios : List Io) (unit : Stored) (device bytes address n at : ℕ) (s t : ℤ) (bs : List Block) (cells : List ℕ) (stop : Option Stop) → Before a ios unit device bytes address n at s t bs → any_bad (map (sends a ios cells) bs) ≡ false →
+    target_answer unit a.tamper (form (command_for a Out address n)) (map label_of bs) (joined (all_sent a ios cells bs)) 0 stop
+    ≡ storing (at - unit.first) unit.blocks (write_end at (judged_out a ios cells bs) stop)
+answered-out a ios unit device bytes address n at s t bs cells stop k g =
+    let c = fields_of a address n in
+    let fs = all_sent a ios cells bs in
+    let w : wire_address a.tamper (map label_of bs) c ≡ pos at = first-shift a ios device bytes s t address bs c k.some k.run ∙ ap (λ z. pos z +ℤ s) (lba-is a address n) ∙ k.here in
+    let y : sent_size c.protect unit.size ≡ width_for a bytes = ap (λ z. sent_size z unit.size) (protect-is a address n) ∙ ap (sent_size (field_for a)) k.long ∙ width-sent a bytes k.protect in
+    let wide = sent-wide a ios cells device bytes s t address bs k.run g in
+    let m : length fs ≡ n = sent-long a ios cells bs ∙ k.count in
+    let v : length (joined fs) ≡ bytes_of unit.size c = joined-long (width_for a bytes) fs wide ∙ ap (λ z. z * width_for a bytes) (m ∙ sym (count-is a address n)) ∙ ap (λ z. c.n * z) (sym y) in
+    let cut : frames_of (sent_size c.protect unit.size) c.n (joined fs) ≡ fs =
+    ap (λ z. frames_of z c.n (joined fs)) y ∙ ap (λ z. frames_of (width_for a bytes) z (joined fs)) (count-is a address n ∙ sym m)
+    ∙ ap (frames_of (width_for a bytes) (length fs)) (sym (append-nil (joined fs))) ∙ cut-joined (width_for a bytes) fs [] wide in
+    let zero-more : address ≡ address + 0 = omega arith in
+    let j : written_by (shape_of unit) c at a.tamper (map label_of bs) (joined fs) ≡ judged_out a ios cells bs =
+    ap (each (λ i frame. to_medium a.tamper (passage_of (shape_of unit) c at (map label_of bs) i) frame) 0) cut
+    ∙ asked-out a ios (shape_of unit) (map label_of bs) cells address n at device bytes s t bs 0 k.ty k.long k.here (subst (λ z. Run a ios device bytes s t z bs) zero-more k.run) refl in
+    let r : refusal (shape_of unit) (Ok (command_for a Out address n)) a.tamper (map label_of bs) (length (joined fs)) 0 ≡ None =
+    not-refused-out (shape_of unit) (command_for a Out address n) c a.tamper (map label_of bs) (length (joined fs)) 0 (asked-for a Out address n)
+    (subst (λ z. is_foreign z (command_for a Out address n) ≡ false) (sym k.ty) (own-form a Out address n))
+    (subst (λ z. (is_zero z && not (eqb c.protect 0)) ≡ false) (sym k.ty) (no-tuples-asked a address n))
+    (ap (λ z. has_blocks (shape_of unit) z c.n) w ∙ ap (has_blocks (shape_of unit) (pos at)) (count-is a address n) ∙ k.within) v in
+    answer-by unit (command_for a Out address n) a.tamper (map label_of bs) (joined fs) stop c k.fits (asked-for a Out address n) r
+    ∙ storing-same unit c a.tamper (map label_of bs) (joined fs) stop at (judged_out a ios cells bs) w j
+
+-- ---- the cells of the blocks
+
+turn-out : (a : Adapter) (ios : List Io) (us : List Stored) (device bytes address at : ℕ) (s t : ℤ) (bs : List Block) (k : ℕ) → device < length us → pos address +ℤ s ≡ pos at → (unit_at us device).first ≤ at → Run a ios device bytes s t (address + k) bs →
+    InTurn (before us device + (at - (unit_at us device).first) + k) (cells_out a ios (shapes_of us) bs)
+turn-out a ios us device bytes address at s t [] k l p f r = tt
+turn-out a ios us device bytes address at s t (b ∷ bs) k l p f r =
+    let w : wire_lba a.tamper (route_of a ios b) ≡ at + k = ap (λ j. moved b.lba j) r.0.wire ∙ ap (λ j. moved j s) r.0.lba ∙ address-more address k at s p in
+    let m : before us device + (at + k - (unit_at us device).first) ≡ before us device + (at - (unit_at us device).first) + k = omega arith in
+    let n : suc (before us device + (at - (unit_at us device).first) + k) ≡ before us device + (at - (unit_at us device).first) + suc k = omega arith in
+    let q : suc (address + k) ≡ address + suc k = omega arith in
+    (ap (λ d. cell_in (shapes_of us) d (wire_lba a.tamper (route_of a ios b))) r.0.dev ∙ ap (cell_in (shapes_of us) device) w ∙ cell-is us device (at + k) l ∙ m,
+    subst (λ c. InTurn c (cells_out a ios (shapes_of us) bs)) (sym n) (turn-out a ios us device bytes address at s t bs (suc k) l p f (subst (λ c. Run a ios device bytes s t c bs) q r.1)))
+
+end-few : (lba : ℕ) (js : List (Result (List ℕ) Check)) (stop : Option Stop) → length (write_end lba js stop).frames ≤ length js
+end-few lba js None = passed-few js
+end-few lba js (Some s) =
+    let e = passed-few js in
+    ⊎_elim
+    (λ (t : ltb s.at (length (passed js)) ≡ true).
+    (let l : s.at < length (passed js) = grind arith in
+    let n : length (take s.at (passed js) ++ (s.left ∷ [])) ≡ s.at + 1 = length-append (take s.at (passed js)) (s.left ∷ []) ∙ ap (λ k. k + 1) (take-long s.at (passed js) (omega arith)) in
+    rw t (omega arith)))
+    (λ (t : ltb s.at (length (passed js)) ≡ false). rw t e)
+    (cases_Bool (ltb s.at (length (passed js))))
+
+-- ---- the record
+
+pub moved-out : (a : Adapter) (bytes width address n d : ℕ) (fs : List (List ℕ)) (came : List ℕ) → Fits (command_for a Out address n) → IsProtect a.protect → AllLong (width_for a bytes) fs → length fs ≡ n → d ≤ n → width ≡ bytes →
+    moved_under width (decoded (form (command_for a Out address n))) d (joined fs) came ≡ joined (take d fs)
+moved-out a bytes width address n d fs came f p w m l e =
+    let c = fields_of a address n in
+    let k : min d n ≡ d = omega arith in
+    ap (λ x. moved_under width x d (joined fs) came) (decoded_form (command_for a Out address n) f)
+    ∙ ap (λ x. moved_by width x d (joined fs) came) (asked-for a Out address n)
+    ∙ ap (λ x. take (min d x * sent_size c.protect width) (joined fs)) (count-is a address n)
+    ∙ ap (λ x. take (x * sent_size c.protect width) (joined fs)) k
+    ∙ ap (λ x. take (d * sent_size x width) (joined fs)) (protect-is a address n)
+    ∙ ap (λ x. take (d * sent_size (field_for a) x) (joined fs)) e
+    ∙ ap (λ x. take (d * x) (joined fs)) (width-sent a bytes p)
+    ∙ ap (take (d * width_for a bytes)) (sym (append-nil (joined fs)))
+    ∙ front-joined (width_for a bytes) d fs [] w (omega arith)
+
+-- ---- all of it
+
+pub went-by : (a : Adapter) (ios : List Io) (req : List Bio) (pool : List (List ℕ)) (us : List Stored) (stop : Option Stop) (fates : List Fate) (old new : Shown) (bytes at width : ℕ) (s t : ℤ) (o : Outcome) →
+    Before a ios (unit_at us (first_of req).dev) (first_of req).dev bytes (first_of req).lba (size req) at s t (blocks_in req) → any_bad (map (sends a ios (flat pool)) (blocks_in req)) ≡ false → (first_of req).dev < length us →
+    (unit_at us (first_of req).dev).first ≤ at → at + size req ≤ (unit_at us (first_of req).dev).first + length (unit_at us (first_of req).dev).blocks → width ≡ bytes →
+    IsAnswer (answer_of us a.tamper (first_of req).dev (form (command_for a Out (first_of req).lba (size req))) (map label_of (blocks_in req)) (out_of a ios req pool) 0 stop) us (first_of req).dev o new.units [] [] →
+    new.log ≡ old.log ++ (entry_of width (first_of req).dev (form (command_for a Out (first_of req).lba (size req))) (map label_of (blocks_in req)) o (out_of a ios req pool) [] ∷ []) →
+    fates ≡ replicate (done_of (size req) o) Good ++ rest_of (size req) o →
+    WentOut a ios req (flat pool) us stop fates old new
+went-by a ios req pool us stop fates old new bytes at width s t o k g l f e w answer log fate =
+    let bs = blocks_in req in
+    let unit = unit_at us (first_of req).dev in
+    let cells = flat pool in
+    let js = judged_out a ios cells bs in
+    let fs = all_sent a ios cells bs in
+    let end = write_end at js stop in
+    let ways = ways-are a ios cells bs g in
+    let jn : length js ≡ size req = judged-long a ios cells bs ∙ k.count in
+    let fn : length fs ≡ length js = sent-long a ios cells bs ∙ sym (judged-long a ios cells bs) in
+    let ends = ends-out stop at fs js fn in
+    let ans = answered-out a ios unit (first_of req).dev bytes (first_of req).lba (size req) at s t bs cells stop k g in
+    let isa = subst (λ x. IsAnswer x us (first_of req).dev o new.units [] []) ans answer in
+    let pf = passed-few js in
+    let dn : end.done ≤ size req = (let x = ends.few in omega arith) in
+    let fr : frames_out (stopped_out stop (ways_out a ios cells bs)) ≡ take end.done fs = ap (λ z. frames_out (stopped_out stop z)) ways ∙ ends.frames in
+    let od : o.done ≡ end.done = ap (λ (x : Outcome). x.done) isa.outcome in
+    let fit : at - unit.first + length end.frames ≤ length unit.blocks = (let x = end-few at js stop in omega arith) in
+    let put : placed (at - unit.first) end.frames unit.blocks ≡ puts (at - unit.first) end.frames unit.blocks = placed-puts (at - unit.first) end.frames unit.blocks fit in
+    let fc : length (frames_out (ways_out a ios cells bs)) ≡ length (passed js) = ap (λ z. length (frames_out z)) ways ∙ ap length (ends-out None at fs js fn).frames ∙ take-long (length (passed js)) fs (omega arith) in
+    let lf : length (frames_out (stopped_out stop (ways_out a ios cells bs))) ≡ end.done = ap length fr ∙ take-long end.done fs (let x = ends.few in omega arith) in
+    let c0 : ℕ = before us (first_of req).dev + (at - unit.first) in
+    let za : (first_of req).lba ≡ (first_of req).lba + 0 = omega arith in
+    let zc : c0 + 0 ≡ c0 = omega arith in
+    let turn : InTurn c0 (cells_out a ios (shapes_of us) bs) =
+    subst (λ x. InTurn x (cells_out a ios (shapes_of us) bs)) zc
+    (turn-out a ios us (first_of req).dev bytes (first_of req).lba at s t bs 0 l k.here f (subst (λ x. Run a ios (first_of req).dev bytes s t x bs) za k.run)) in
+    record {
+      fates_are = fate ∙ ap (told (size req)) isa.outcome ∙ ap (λ n. told n (record { done = end.done; sense = end.sense })) (sym jn) ∙ sym ends.fates ∙ ap (λ z. fates_out (stopped_out stop z)) (sym ways);
+      units = with_blocks us (first_of req).dev (placed (at - unit.first) end.frames unit.blocks);
+      told = isa.units;
+      shapes = told-shapes us (first_of req).dev (placed (at - unit.first) end.frames unit.blocks) (ap length put ∙ puts-long (at - unit.first) end.frames unit.blocks);
+      blocks = λ now b c.
+          ap (λ z. blocks_told (with_blocks us (first_of req).dev z)) put ∙ told-puts us (first_of req).dev (at - unit.first) end.frames l fit ∙ ap (puts c0 end.frames) (sym c)
+          ∙ stored-out a ios (shapes_of us) cells bs stop at c0 now g b turn
+          ∙ ap (λ n. left_at stop n (cells_out a ios (shapes_of us) bs) (plain act (take end.done (acts_out a ios (shapes_of us) bs)) now).blocks) (sym fc)
+          ∙ ap (λ n. left_at stop (length (frames_out (ways_out a ios cells bs))) (cells_out a ios (shapes_of us) bs) (plain act (take n (acts_out a ios (shapes_of us) bs)) now).blocks) (sym lf);
+      entry = entry_of width (first_of req).dev (form (command_for a Out (first_of req).lba (size req))) (map label_of bs) o (out_of a ios req pool) [];
+      recorded = log;
+      done = od ∙ sym lf;
+      moved = ap (λ d. moved_under width (decoded (form (command_for a Out (first_of req).lba (size req)))) d (joined fs) []) od
+          ∙ moved-out a bytes width (first_of req).lba (size req) end.done fs [] k.fits k.protect (sent-wide a ios cells (first_of req).dev bytes s t (first_of req).lba bs k.run g) (fn ∙ jn) dn w
+          ∙ ap joined (sym fr);
+      labels = ap (λ n. take (min (o.done + 1) n) (map label_of bs)) (command-blocks a Out (first_of req).lba (size req) k.fits);
+    }
