@@ -1,0 +1,209 @@
+use Rattle.std.proofs.Common.{ℕ, suc, ◌≡◌, ◌+◌, ◌≤◌, ◌&&◌, ◌||◌, Bool, true, false, not, ltb, List, [], ◌∷◌, length, map, Option, Some, None, Result, Ok, Err, refl, sym, subst, ap, arith}
+use Rattle.std.specs.Prelude.{if◌then◌else◌}
+use Rattle.script_words.specs.Cuts.{is_plain, lines_of, words_of}
+use Rattle.script_lines.specs.declared.kind.ScriptKind.{ScriptKind}
+use Rattle.script_lines.specs.declared.kind.ScriptKind.TheVariants.{LongLine, NotAscii, OutOfPlace, TooMany}
+use Rattle.script_lines.specs.declared.line.Line.{Line}
+use Rattle.script_lines.specs.declared.line.OpLine.TheVariants.{Wait}
+use Rattle.script_lines.specs.declared.verb.Verb.{Verb}
+use Rattle.script_lines.specs.declared.verb.Verb.TheVariants.{Dix as DixVerb, Mode as ModeVerb, Limits as LimitsVerb, Pages as PagesVerb, Block as BlockVerb, Expect as ExpectVerb, Inner as InnerVerb, Linear as LinearVerb, Stripe as StripeVerb, Over as OverVerb, Fault as FaultVerb, Shift as ShiftVerb, Schedule as ScheduleVerb, Begin as BeginVerb, Fill as FillVerb, Put as PutVerb, Show as ShowVerb, Seal as SealVerb, Write as WriteVerb, Read as ReadVerb, WritePi as WritePiVerb, ReadPi as ReadPiVerb, Overwrite as OverwriteVerb, Wait as WaitVerb}
+use Rattle.script_lines.specs.declared.verb.Place.{Place}
+use Rattle.script_lines.specs.declared.verb.Place.TheVariants.{Dix as AtDix, Mode as AtMode, Limits as AtLimits, Pages as AtPages, Block as AtBlock, Expect as AtExpect, Inner as AtInner, Volume as AtVolume, Fault as AtFault, Schedule as AtSchedule, Begin as AtBegin, Op as AtOp}
+use Rattle.script_lines.specs.Forms.{line_form, op_form}
+use Rattle.script_lines.specs.Verbs.{comes_before, is_new_verb, place_number, place_of, verb_of}
+use Rattle.stack_ops.specs.declared.op.Op.{Op}
+use Rattle.script_text.specs.Crossings.{Raw, crossed}
+use Rattle.script_text.specs.Drafts.{Drafted}
+use Rattle.script_text.specs.declared.fault.ScriptFault.{ScriptFault}
+use Rattle.script_text.specs.declared.script.Script.{Script}
+use Rattle.script_text.specs.Language.{at_end, at_place, end_fault, finished, go_on, header_taken, is_behind, is_comment, line_taken, lines_read, nothing_read, script_in, taken, text_taken, unless_broken, verb_taken, version_of, words_behind, words_taken}
+use Rattle.script_text.specs.Rules.{broken_rule}
+use Rattle.script_laws.specs.Keeping.{Each, IsFault, Keeps}
+use Rattle.script_laws.proofs.FormsGive.{Numbers, fill_gives, overwrite_gives, put_gives, read_gives, readpi_gives, seal_gives, show_gives, write_gives, writepi_gives}
+use Rattle.script_laws.proofs.Held.{Goes, Held, InOrder, IsRaw, goes, length_both, nothing_held, number_of}
+use Rattle.script_laws.proofs.Inverse.{ended_ok, ok_of}
+use Rattle.script_laws.proofs.Kept.{Rules, begin_kept, block_kept, expect_kept, fault_kept, inner_kept, limits_kept, linear_kept, mode_kept, op_kept, over_kept, pages_kept, rules_of, schedule_kept, shift_kept, stripe_kept}
+
+-- each script that is read keeps the rules
+
+-- a line of this verb that is taken
+pub verb_kept : (verb : Verb) (n : ℕ) (words : List (List ℕ)) (d e : Drafted) → Held d → Goes (number_of d.place) (place_number (place_of verb)) → (line : Line) → line_form verb d.block words ≡ Ok line → Rules d line → taken n line d ≡ Ok e
+    → Held (record e { place = Some (place_of verb) })
+verb_kept DixVerb n words d e h g line f r t = let s = g.some in absurd (omega (arith, s))
+verb_kept ModeVerb n words d e h g line f r t = mode_kept n words d e h g line f t
+verb_kept LimitsVerb n words d e h g line f r t = limits_kept n words d e h g line f t
+verb_kept PagesVerb n words d e h g line f r t = pages_kept n words d e h g line f t
+verb_kept BlockVerb n words d e h g line f r t = block_kept n words d e h g line f t
+verb_kept ExpectVerb n words d e h g line f r t = expect_kept n words d e h g line f r t
+verb_kept InnerVerb n words d e h g line f r t = inner_kept n words d e h g line f r t
+verb_kept LinearVerb n words d e h g line f r t = linear_kept n words d e h g line f r t
+verb_kept StripeVerb n words d e h g line f r t = stripe_kept n words d e h g line f r t
+verb_kept OverVerb n words d e h g line f r t = over_kept n words d e h g line f t
+verb_kept FaultVerb n words d e h g line f r t = fault_kept n words d e h g line f r t
+verb_kept ShiftVerb n words d e h g line f r t = shift_kept n words d e h g line f r t
+verb_kept ScheduleVerb n words d e h g line f r t = schedule_kept n words d e h g line f r t
+verb_kept BeginVerb n words d e h g line f r t = begin_kept n words d e h g line f t
+verb_kept FillVerb n words d e h g line f r t = op_kept n d e h g (op_form FillVerb d.block words) line f (λ op i. fill_gives d.block words op i) r t
+verb_kept PutVerb n words d e h g line f r t = op_kept n d e h g (op_form PutVerb d.block words) line f (λ op i. put_gives d.block words op i) r t
+verb_kept ShowVerb n words d e h g line f r t = op_kept n d e h g (op_form ShowVerb d.block words) line f (λ op i. show_gives d.block words op i) r t
+verb_kept SealVerb n words d e h g line f r t = op_kept n d e h g (op_form SealVerb d.block words) line f (λ op i. seal_gives d.block words op i) r t
+verb_kept WriteVerb n words d e h g line f r t = op_kept n d e h g (op_form WriteVerb d.block words) line f (λ op i. write_gives d.block words op i) r t
+verb_kept ReadVerb n words d e h g line f r t = op_kept n d e h g (op_form ReadVerb d.block words) line f (λ op i. read_gives d.block words op i) r t
+verb_kept WritePiVerb n words d e h g line f r t = op_kept n d e h g (op_form WritePiVerb d.block words) line f (λ op i. writepi_gives d.block words op i) r t
+verb_kept ReadPiVerb n words d e h g line f r t = op_kept n d e h g (op_form ReadPiVerb d.block words) line f (λ op i. readpi_gives d.block words op i) r t
+verb_kept OverwriteVerb n words d e h g line f r t = op_kept n d e h g (op_form OverwriteVerb d.block words) line f (λ op i. overwrite_gives d.block words op i) r t
+verb_kept WaitVerb n words d e h g line f r t = op_kept n d e h g (op_form WaitVerb d.block words) line f (λ op i. subst (Numbers d.block) (sym (ended_ok Wait words op i)) tt) r t
+
+ok_draft : (a b : Drafted) → ◌≡◌ {A = Result Drafted ScriptKind} (Ok a) (Ok b) → b ≡ a
+ok_draft a b h = cc
+
+no_rule : (f : Option ScriptKind) (r : Result Drafted ScriptKind) (e : Drafted) → unless_broken f r ≡ Ok e → (f ≡ None) × (r ≡ Ok e)
+no_rule None r e h = (refl, h)
+no_rule (Some k) r e h = absurd (cc)
+
+line_kept : (n : ℕ) (verb : Verb) (words : List (List ℕ)) (d e : Drafted) → Held d → Goes (number_of d.place) (place_number (place_of verb)) → line_taken n verb words d ≡ Ok e → Held e
+unfolding line_taken
+line_kept n verb words d e h g t =
+    let a = ok_of (line_form verb d.block words) _ e t in
+    let b = ok_of (unless_broken (broken_rule d a.0) (taken n a.0 d)) (at_place verb) e a.2 in
+    let c = no_rule (broken_rule d a.0) (taken n a.0 d) b.0 b.1 in
+    subst Held (sym (ok_draft (record b.0 { place = Some (place_of verb) }) e b.2)) (verb_kept verb n words d b.0 h g a.0 a.1 (rules_of d a.0 c.0) c.1)
+
+right_part : (a b : Bool) → a && b ≡ true → b ≡ true
+right_part true b h = h
+right_part false b h = absurd (cc)
+
+may_come : (is_new : Bool) (verb : Verb) (place : Option Place) → is_behind is_new verb place ≡ true → Goes (number_of place) (place_number (place_of verb))
+may_come is_new verb None h = absurd (cc)
+may_come is_new verb (Some p) h = goes p (place_of verb) is_new (right_part (is_new || not (is_new_verb verb)) (comes_before p (place_of verb) is_new) h)
+
+where_in_place : (b : Bool) (n : ℕ) (verb : Verb) (words : List (List ℕ)) (d e : Drafted) → Held d → is_behind d.is_new verb d.place ≡ b → (if b then line_taken n verb words d else Err OutOfPlace) ≡ Ok e → Held e
+where_in_place true n verb words d e h b t = line_kept n verb words d e h (may_come d.is_new verb d.place b) t
+where_in_place false n verb words d e h b t = absurd (cc)
+
+known_kept : (n : ℕ) (verb : Option Verb) (words : List (List ℕ)) (d e : Drafted) → Held d → verb_taken n verb words d ≡ Ok e → Held e
+known_kept n None words d e h t = absurd (cc)
+known_kept n (Some verb) words d e h t = where_in_place (is_behind d.is_new verb d.place) n verb words d e h refl t
+
+header_kept : (v : Option Bool) (d e : Drafted) → Held d → d.place ≡ None → header_taken v d ≡ Ok e → Held e
+header_kept None d e h p t = absurd (cc)
+header_kept (Some is_new) d e h p t =
+    subst Held (sym (ok_draft (record d { is_new = is_new; place = Some AtDix }) e t))
+    (record {
+      front = h.front;
+      inner_are = h.inner_are;
+      inner_count = h.inner_count;
+      entries_are = h.entries_are;
+      entries_count = h.entries_count;
+      faults_hold = h.faults_hold;
+      choices_are = h.choices_are;
+      choices_count = h.choices_count;
+      ops_hold = h.ops_hold;
+      order = subst (λ q. InOrder (number_of q) d.mask d.entries d.faults d.ops) p h.order;
+    })
+
+behind_kept : (place : Option Place) (n : ℕ) (words : List (List ℕ)) (d e : Drafted) → Held d → d.place ≡ place → words_behind place n words d ≡ Ok e → Held e
+behind_kept None n words d e h p t = header_kept (version_of words) d e h p t
+behind_kept (Some place) n [] d e h p t = subst Held (sym (ok_draft d e t)) h
+behind_kept (Some place) n (first ∷ words) d e h p t = known_kept n (verb_of first) words d e h t
+
+comment_kept : (b : Bool) (n : ℕ) (first : List ℕ) (words : List (List ℕ)) (d e : Drafted) → Held d → (if b then Ok d else words_behind d.place n (first ∷ words) d) ≡ Ok e → Held e
+comment_kept true n first words d e h t = subst Held (sym (ok_draft d e t)) h
+comment_kept false n first words d e h t = behind_kept d.place n (first ∷ words) d e h refl t
+
+words_kept : (n : ℕ) (words : List (List ℕ)) (d e : Drafted) → Held d → words_taken n words d ≡ Ok e → Held e
+words_kept n [] d e h t = subst Held (sym (ok_draft d e t)) h
+words_kept n (first ∷ words) d e h t = comment_kept (is_comment first) n first words d e h t
+
+text_by : (a b : Bool) (n : ℕ) (words : List (List ℕ)) (d e : Drafted) → Held d → (if a then Err NotAscii else (if b then Err LongLine else words_taken n words d)) ≡ Ok e → Held e
+text_by true b n words d e h t = absurd (cc)
+text_by false true n words d e h t = absurd (cc)
+text_by false false n words d e h t = words_kept n words d e h t
+
+text_kept : (n : ℕ) (line : List ℕ) (d e : Drafted) → Held d → text_taken n line d ≡ Ok e → Held e
+text_kept n line d e h t = text_by (not (is_plain line)) (ltb 4096 (length line)) n (words_of line) d e h t
+
+-- at the end
+
+crossed_keep : (size : ℕ) (all : List Op) (faults : List Raw) → Each (IsRaw size) faults → Each (IsFault size all) (map (crossed all) faults)
+crossed_keep size all [] h = tt
+crossed_keep size all (f ∷ faults) h = (h.0 all, crossed_keep size all faults h.1)
+
+length-map : (all : List Op) (faults : List Raw) → length (map (crossed all) faults) ≡ length faults
+length-map all [] = refl
+length-map all (f ∷ faults) = ap suc (length-map all faults)
+
+pub record KeepsAll (s : Script) : Type 0 where
+  pub keeps : Keeps s
+  pub lined : length s.lines ≡ length s.faults + length s.ops
+
+finished_keeps : (d : Drafted) → Held d → 7 ≤ number_of d.place → KeepsAll (finished d)
+finished_keeps d h p =
+    let f = h.front in
+    let w = h.faults_hold in
+    let o = h.ops_hold in
+    let some = h.order.with_volume p in
+    let count = length-map d.ops d.faults in
+    let few = w.count in
+    let a = length_both d.fault_lines d.op_lines in
+    let b = w.lined in
+    let c = o.lined in
+    let e = o.blocks_are in
+    let most = o.blocks_count in
+    record {
+      keeps = record {
+        mode_is = record { protect_is = f.protect_is; app_fits = f.app_fits; mask_fits = f.mask_fits; unmasked = f.unmasked; expects_dix = f.expects_dix; expects_dif = f.expects_dif };
+        limits_are = f.limits_are;
+        pages_are = f.pages_are;
+        block_is = f.block_is;
+        entries_are = h.entries_are;
+        entries_count = record { low_is = some; high_is = h.entries_count };
+        faults_are = crossed_keep d.block d.ops d.faults w.each;
+        faults_count = omega (arith, count, few);
+        choices_are = h.choices_are;
+        choices_count = h.choices_count;
+        ops_are = o.each;
+        ops_count = o.count;
+        blocks_count = omega (arith, e, most);
+      };
+      lined = omega (arith, a, b, c, count);
+    }
+
+ok_script : (a b : Script) → ◌≡◌ {A = Result Script ScriptFault} (Ok a) (Ok b) → b ≡ a
+ok_script a b h = cc
+
+late_place : (place : Option Place) → end_fault place ≡ None → 7 ≤ number_of place
+late_place None h = absurd (cc)
+late_place (Some AtDix) h = absurd (cc)
+late_place (Some AtMode) h = absurd (cc)
+late_place (Some AtLimits) h = absurd (cc)
+late_place (Some AtPages) h = absurd (cc)
+late_place (Some AtBlock) h = absurd (cc)
+late_place (Some AtExpect) h = absurd (cc)
+late_place (Some AtInner) h = absurd (cc)
+late_place (Some AtVolume) h = absurd (cc)
+late_place (Some AtFault) h = absurd (cc)
+late_place (Some AtSchedule) h = absurd (cc)
+late_place (Some AtBegin) h = omega arith
+late_place (Some AtOp) h = omega arith
+
+end_keeps : (f : Option ScriptKind) (n : ℕ) (d : Drafted) (s : Script) → Held d → end_fault d.place ≡ f → at_end n f d ≡ Ok s → KeepsAll s
+end_keeps None n d s h p t = subst KeepsAll (sym (ok_script (finished d) s t)) (finished_keeps d h (late_place d.place p))
+end_keeps (Some k) n d s h p t = absurd (cc)
+
+go_keeps : (r : Result Drafted ScriptKind) (n : ℕ) (rest : Drafted → Result Script ScriptFault) (s : Script) → go_on n r rest ≡ Ok s → (e : Drafted) × (r ≡ Ok e) × (rest e ≡ Ok s)
+go_keeps (Ok e) n rest s h = (e, refl, h)
+go_keeps (Err k) n rest s h = absurd (cc)
+
+lines_keep : (n : ℕ) (lines : List (List ℕ)) (d : Drafted) (s : Script) → Held d → lines_read n lines d ≡ Ok s → KeepsAll s
+lines_keep n [] d s h t = end_keeps (end_fault d.place) n d s h refl t
+lines_keep n (line ∷ lines) d s h t =
+    let a = go_keeps (text_taken n line d) n (λ next. lines_read (n + 1) lines next) s t in
+    lines_keep (n + 1) lines a.0 s (text_kept n line d a.0 h a.1) a.2
+
+by_size : (b : Bool) (text : List ℕ) (s : Script) → (if b then Err (record { line = 0; kind = TooMany }) else lines_read 1 (lines_of text) nothing_read) ≡ Ok s → KeepsAll s
+by_size true text s h = absurd (cc)
+by_size false text s h = lines_keep 1 (lines_of text) nothing_read s nothing_held h
+
+pub read_keeps : (text : List ℕ) (s : Script) → script_in text ≡ Ok s → KeepsAll s
+read_keeps text s h = by_size (ltb 4194304 (length text)) text s h

@@ -1,0 +1,86 @@
+use Rattle.std.proofs.Common.{ℕ, ◌≡◌, ◌+◌, ◌&&◌, ◌||◌, Bool, true, false, not, ltb, List, ◌∷◌, ◌++◌, length, Some, None, Ok, Err, refl, sym, subst, ap, ◌∙◌, arith}
+use Rattle.std.specs.Prelude.{if◌then◌else◌}
+use Rattle.std.specs.List.{list_all}
+use Rattle.std.proofs.lemmas.Bool.Decides.{nat_tests}
+use Rattle.script_words.specs.Cuts.{lines_of, words_of}
+use Rattle.script_lines.specs.declared.kind.ScriptKind.TheVariants.{NotAscii, LongLine, OutOfPlace}
+use Rattle.script_lines.specs.declared.line.Line.{Line}
+use Rattle.script_lines.specs.declared.verb.Verb.{Verb}
+use Rattle.script_lines.specs.declared.verb.Place.{Place}
+use Rattle.script_lines.specs.Forms.{line_form}
+use Rattle.script_lines.specs.Reading.{◌>>=◌}
+use Rattle.script_lines.specs.Verbs.{comes_before, is_new_verb, place_of, verb_of}
+use Rattle.script_text.specs.Drafts.{Drafted}
+use Rattle.script_text.specs.Language.{at_place, go_on, is_behind, is_comment, line_taken, lines_read, taken, text_taken, unless_broken, verb_taken, words_behind, words_taken}
+use Rattle.script_text.specs.Rules.{broken_rule}
+use Rattle.script_laws.specs.Clean.{AreWords}
+use Rattle.script_laws.specs.Texts.{has_short_lines, is_short, spaced}
+use Rattle.script_laws.proofs.Clean.{left_of, right_of}
+use Rattle.script_laws.proofs.Texts.{first_line, plain_spaced, words_spaced}
+
+-- Where its lines are short, a text is read so far: what is left is read from this number and this draft on.
+abbrev pub Step : ℕ → List ℕ → Drafted → ℕ → List ℕ → Drafted → Type 0
+Step n text d m rest e = has_short_lines text ≡ true → (lines_read n (lines_of text) d ≡ lines_read m (lines_of rest) e) × (has_short_lines rest ≡ true)
+
+pub stay : (n : ℕ) (text : List ℕ) (d : Drafted) → Step n text d n text d
+stay n text d h = (refl, h)
+
+pub joined : (n : ℕ) (text : List ℕ) (d : Drafted) (m : ℕ) (rest : List ℕ) (e : Drafted) (k : ℕ) (last : List ℕ) (f : Drafted) → Step n text d m rest e → Step m rest e k last f → Step n text d k last f
+joined n text d m rest e k last f a b h = let p = a h in let q = b p.1 in (p.0 ∙ q.0, q.1)
+
+pub from_text : (n : ℕ) (text same : List ℕ) (d : Drafted) (m : ℕ) (rest : List ℕ) (e : Drafted) → text ≡ same → Step n same d m rest e → Step n text d m rest e
+from_text n text same d m rest e h s = subst (λ t. Step n t d m rest e) (sym h) s
+
+pub to_draft : (n : ℕ) (text : List ℕ) (d : Drafted) (m : ℕ) (rest : List ℕ) (e f : Drafted) → e ≡ f → Step n text d m rest e → Step n text d m rest f
+to_draft n text d m rest e f h s = subst (λ x. Step n text d m rest x) h s
+
+pub to_number : (n : ℕ) (text : List ℕ) (d : Drafted) (m k : ℕ) (rest : List ℕ) (e : Drafted) → m ≡ k → Step n text d m rest e → Step n text d k rest e
+to_number n text d m k rest e h s = subst (λ x. Step n text d x rest e) h s
+
+not_long : (line : List ℕ) → is_short line ≡ true → ltb 4096 (length line) ≡ false
+not_long line h = grind (arith, nat_tests)
+
+plain_taken : (n : ℕ) (ws : List (List ℕ)) (d : Drafted) → AreWords ws → is_short (spaced ws) ≡ true → text_taken n (spaced ws) d ≡ words_taken n ws d
+plain_taken n ws d w s =
+    ap (λ b. if not b then Err NotAscii else (if ltb 4096 (length (spaced ws)) then Err LongLine else words_taken n (words_of (spaced ws)) d)) (plain_spaced ws w)
+    ∙ ap (λ b. if b then Err LongLine else words_taken n (words_of (spaced ws)) d) (not_long (spaced ws) s)
+    ∙ ap (λ x. words_taken n x d) (words_spaced ws w)
+
+pub line_step : (n : ℕ) (ws : List (List ℕ)) (rest : List ℕ) (d e : Drafted) → AreWords ws → words_taken n ws d ≡ Ok e → Step n (spaced ws ++ (10 ∷ rest)) d (n + 1) rest e
+line_step n ws rest d e w t short =
+    let lines = first_line ws rest w in
+    let each : list_all is_short (spaced ws ∷ lines_of rest) ≡ true = sym (ap (list_all is_short) lines) ∙ short in (
+      ap (λ ls. lines_read n ls d) lines
+          ∙ ap (λ r. go_on n r (λ next. lines_read (n + 1) (lines_of rest) next)) (plain_taken n ws d w (left_of (is_short (spaced ws)) (has_short_lines rest) each) ∙ t),
+      right_of (is_short (spaced ws)) (has_short_lines rest) each,
+    )
+
+line_is_taken : (n : ℕ) (verb : Verb) (words : List (List ℕ)) (d : Drafted) (line : Line) (next : Drafted) → line_form verb d.block words ≡ Ok line → broken_rule d line ≡ None → taken n line d ≡ Ok next
+    → line_taken n verb words d ≡ Ok (record next { place = Some (place_of verb) })
+unfolding line_taken
+line_is_taken n verb words d line next f r t =
+    ap (λ x. x >>= (λ line. unless_broken (broken_rule d line) (taken n line d) >>= at_place verb)) f ∙ ap (λ x. unless_broken x (taken n line d) >>= at_place verb) r ∙ ap (λ x. x >>= at_place verb) t
+
+-- A line of this verb in its place, whose words are read as this line, which breaks no rule.
+pub verb_step : (n : ℕ) (first : List ℕ) (words : List (List ℕ)) (d : Drafted) (verb : Verb) (place : Place) (line : Line) (next : Drafted)
+    → is_comment first ≡ false → verb_of first ≡ Some verb → d.place ≡ Some place → is_behind d.is_new verb d.place ≡ true
+    → line_form verb d.block words ≡ Ok line → broken_rule d line ≡ None → taken n line d ≡ Ok next
+    → words_taken n (first ∷ words) d ≡ Ok (record next { place = Some (place_of verb) })
+verb_step n first words d verb place line next c v p b f r t =
+    ap (λ x. if x then Ok d else words_behind d.place n (first ∷ words) d) c
+    ∙ ap (λ q. words_behind q n (first ∷ words) d) p
+    ∙ ap (λ o. verb_taken n o words d) v
+    ∙ ap (λ x. if x then line_taken n verb words d else Err OutOfPlace) b
+    ∙ line_is_taken n verb words d line next f r t
+
+or_true : (b : Bool) → b || true ≡ true
+or_true true = refl
+or_true false = refl
+
+both_true : (a b : Bool) → a ≡ true → b ≡ true → a && b ≡ true
+both_true true b g h = h
+both_true false b g h = g
+
+-- a line that isn't of version 2 alone stands behind a place that any version has before it
+pub behind : (is_new : Bool) (verb : Verb) (place : Place) → is_new_verb verb ≡ false → comes_before place (place_of verb) is_new ≡ true → is_behind is_new verb (Some place) ≡ true
+behind is_new verb place v c = both_true (is_new || not (is_new_verb verb)) (comes_before place (place_of verb) is_new) (ap (λ b. is_new || not b) v ∙ or_true is_new) c

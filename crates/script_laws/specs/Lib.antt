@@ -1,0 +1,5 @@
+pub mod Clean
+pub mod Texts
+pub mod Lines
+pub mod Keeping
+pub mod RoundTrip
