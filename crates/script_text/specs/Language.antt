@@ -5,6 +5,8 @@ use Rattle.fault_schedule.specs.declared.fault.FaultKind.TheVariants.{Flip as Fl
 use Rattle.script_words.specs.Cuts.{is_plain, lines_of, words_of}
 use Rattle.script_lines.specs.declared.kind.ScriptKind.{ScriptKind}
 use Rattle.script_lines.specs.declared.kind.ScriptKind.TheVariants.{NotAscii, LongLine, UnknownWord, OutOfPlace, TooMany, NoHeader, Memory}
+use Rattle.block_path.specs.declared.mode.Mode.{Mode as FullMode}
+use Rattle.script_lines.specs.declared.line.ModeLine.{ModeLine}
 use Rattle.script_lines.specs.declared.line.OpLine.{OpLine}
 use Rattle.script_lines.specs.declared.line.Line.{Line}
 use Rattle.script_lines.specs.declared.line.Line.TheVariants.{Mode, Limits, Pages, Block, Expect, Inner, Linear, Stripe, Over, Flip, Shift, Schedule, Begin, Op}
@@ -75,22 +77,30 @@ with_op number line d op = Ok (record d { ops = d.ops ++ (op ∷ []); blocks = d
 abbrev pub op_taken : ℕ → OpLine → Drafted → Result Drafted ScriptKind
 op_taken number line d = op_in d.pages d.block line >>= with_op number line d
 
--- what is read with a line of this number that keeps the other rules
+-- what is read with the line of a fault; any other line adds none
+abbrev pub fault_line_taken : ℕ → Line → Drafted → Result Drafted ScriptKind
+fault_line_taken number (Flip op k spot off bytes) d = fault_taken number (record { op = op; k = k; spot = spot; kind = FlipKind off bytes }) d
+fault_line_taken number (Shift op spot by) d = fault_taken number (record { op = op; k = 0; spot = spot; kind = ShiftKind by }) d
+fault_line_taken number line d = Ok d
+
+-- what is read with a line of the volume, or of a fault
+abbrev pub volume_line_taken : ℕ → Line → Drafted → Result Drafted ScriptKind
+volume_line_taken number (Inner volume len dev at) d = inner_taken (record { volume = volume; len = len; dev = dev; at = at }) d
+volume_line_taken number (Linear e) d = entry_taken (LinearEntry e) d
+volume_line_taken number (Stripe start len chunk legs) d = entry_taken (StripeEntry (record { start = start; len = len; chunk = chunk; legs = legs })) d
+volume_line_taken number (Over start len chunk volumes) d = over_taken start len chunk volumes d
+volume_line_taken number line d = fault_line_taken number line d
+
+-- what is read with a line of this number that keeps the other rules; `begin` adds nothing
 unfoldable pub taken : ℕ → Line → Drafted → Result Drafted ScriptKind
 taken number (Mode m) d = Ok (record d { mode = m })
 taken number (Limits l) d = Ok (record d { limits = l })
 taken number (Pages n) d = Ok (record d { pages = n })
 taken number (Block size) d = Ok (record d { block = size })
 taken number (Expect app mask) d = Ok (record d { app = app; mask = mask; expect_line = number })
-taken number (Inner volume len dev at) d = inner_taken (record { volume = volume; len = len; dev = dev; at = at }) d
-taken number (Linear e) d = entry_taken (LinearEntry e) d
-taken number (Stripe start len chunk legs) d = entry_taken (StripeEntry (record { start = start; len = len; chunk = chunk; legs = legs })) d
-taken number (Over start len chunk volumes) d = over_taken start len chunk volumes d
-taken number (Flip op k spot off bytes) d = fault_taken number (record { op = op; k = k; spot = spot; kind = FlipKind off bytes }) d
-taken number (Shift op spot by) d = fault_taken number (record { op = op; k = 0; spot = spot; kind = ShiftKind by }) d
 taken number (Schedule entries) d = schedule_taken entries d
-taken number Begin d = Ok d
 taken number (Op line) d = op_taken number line d
+taken number line d = volume_line_taken number line d
 
 -- a line of this verb may stand behind one of this place
 abbrev pub is_behind : Bool → Verb → Option Place → Bool
@@ -153,9 +163,13 @@ end_fault (Some AtBegin) = None
 end_fault (Some AtOp) = None
 end_fault (Some _) = Some OutOfPlace
 
+-- a line `mode` with the application tag that is expected
+abbrev pub mode_of : ModeLine → (app mask : ℕ) → FullMode
+mode_of m app mask = record { kind = m.kind; dix = m.dix; dif = m.dif; protect = m.protect; app = app; mask = mask }
+
 abbrev pub finished : Drafted → Script
 finished d = record {
-  mode = record { kind = d.mode.kind; dix = d.mode.dix; dif = d.mode.dif; protect = d.mode.protect; app = d.app; mask = d.mask };
+  mode = mode_of d.mode d.app d.mask;
   limits = d.limits;
   pages = d.pages;
   block = d.block;

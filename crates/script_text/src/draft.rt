@@ -8,16 +8,16 @@ ghost use Rattle.script_text.specs.Trees.{are_lengths};
 use crate::ScriptKind;
 use crate::adding::add;
 use crate::crossing::crossing_of;
+use crate::mode::mode_of;
 use crate::ops::{Sizes, op_of};
 use crate::raw_fault::RawFault;
 use crate::rules::{MOST_ENTRIES, request_blocks};
 use crate::script::{LineList, Script};
 use crate::trees::{Inner, OverLine, entries_over};
-use block_path::Mode;
 use fault_schedule::{FaultKind, FaultLine, FaultList};
 use merge_queue::Limits;
 use pi_guard::GuardKind;
-use script_lines::{Line, ModeLine, OpLine, Place, WordList};
+use script_lines::{Line, ModeLine, OpLine, Place, VolumeList, WordList};
 use stack_ops::{Op, OpList};
 use std::alloc::Global;
 use stripe_volume::Stripe;
@@ -50,11 +50,11 @@ pub(crate) struct Draft {
 }
 
 impl Draft {
-    ghost use Rattle.std.specs.Prelude.{None, ◌+◌, ◌<◌, length};
+    ghost use Rattle.std.specs.Prelude.{None, ◌+◌, ◌<◌, false, length};
     ghost use Rattle.script_lines.specs.Forms.{IsSound};
     ghost use Rattle.script_text.specs.Drafts.{drafted};
-    ghost use Rattle.script_text.specs.Language.{Takes, entry_taken, fault_taken, finished, inner_taken, nothing_read, op_taken, over_taken, schedule_taken, taken};
-    ghost use Rattle.script_text.specs.Rules.{broken_rule, request_blocks};
+    ghost use Rattle.script_text.specs.Language.{Takes, entry_taken, fault_line_taken, fault_taken, finished, inner_taken, nothing_read, op_taken, over_taken, schedule_taken, taken, volume_line_taken};
+    ghost use Rattle.script_text.specs.Rules.{broken_rule, is_too_many, request_blocks};
 
     /// Nothing was read.
     pub(crate) fn new(alloc: Global) -> Draft
@@ -152,36 +152,41 @@ impl Draft {
         add(&mut self.op_lines, number)
     }
 
-    /// Takes a line that keeps the rules that come before its segments.
-    #[tactic(auto, unfolding(crate::specs::Language::taken))]
-    pub(crate) fn take(&mut self, alloc: Global, number: u32, line: Line) -> Result<(), ScriptKind>
-        requires rule { broken_rule (drafted self.old) line ≡ None }
+    /// Takes the line of a fault. No other line has one.
+    fn take_fault(&mut self, number: u32, line: Line) -> Result<(), ScriptKind>
+        ensures { Takes (fault_line_taken number line (drafted self.old)) result (drafted self.new) }
+    {
+        let fault = match line {
+            Line::Flip {
+                op,
+                k,
+                spot,
+                off,
+                bytes,
+            } => RawFault {
+                op,
+                k,
+                spot,
+                kind: FaultKind::Flip { off, bytes },
+            },
+            Line::Shift { op, spot, by } => RawFault {
+                op,
+                k: 0,
+                spot,
+                kind: FaultKind::Shift { by },
+            },
+            _ => return Ok(()),
+        };
+        self.add_fault(number, fault)
+    }
+
+    /// Takes a line of the volume, or of a fault.
+    fn take_volume(&mut self, alloc: Global, number: u32, line: Line) -> Result<(), ScriptKind>
+        requires few { is_too_many (drafted self.old) line ≡ false }
         requires sound { IsSound line }
-        ensures { Takes (taken number line (drafted self.old)) result (drafted self.new) }
+        ensures { Takes (volume_line_taken number line (drafted self.old)) result (drafted self.new) }
     {
         match line {
-            Line::Mode(mode) => {
-                self.mode = mode;
-                Ok(())
-            }
-            Line::Limits(limits) => {
-                self.limits = limits;
-                Ok(())
-            }
-            Line::Pages(pages) => {
-                self.pages = pages;
-                Ok(())
-            }
-            Line::Block(size) => {
-                self.block = size;
-                Ok(())
-            }
-            Line::Expect { app, mask } => {
-                self.app = app;
-                self.mask = mask;
-                self.expect_line = number;
-                Ok(())
-            }
             Line::Inner {
                 volume,
                 len,
@@ -210,42 +215,50 @@ impl Draft {
                 len,
                 chunk,
                 volumes,
-            } => self.add_over(
-                alloc,
-                OverLine {
-                    start,
-                    len,
-                    chunk,
-                    volumes: volumes.as_slice(),
-                },
-            ),
-            Line::Flip {
-                op,
-                k,
-                spot,
-                off,
-                bytes,
-            } => self.add_fault(
-                number,
-                RawFault {
-                    op,
-                    k,
-                    spot,
-                    kind: FaultKind::Flip { off, bytes },
-                },
-            ),
-            Line::Shift { op, spot, by } => self.add_fault(
-                number,
-                RawFault {
-                    op,
-                    k: 0,
-                    spot,
-                    kind: FaultKind::Shift { by },
-                },
-            ),
+            } => self.add_over(alloc, over_line(start, len, chunk, &volumes)),
+            other => self.take_fault(number, other),
+        }
+    }
+
+    fn expect(&mut self, number: u32, app: u16, mask: u16)
+        ensures { drafted self.new ≡ record (drafted self.old) { app = app; mask = mask; expect_line = number } }
+    {
+        self.app = app;
+        self.mask = mask;
+        self.expect_line = number;
+    }
+
+    /// Takes a line that keeps the rules that come before its segments.
+    #[tactic(auto, unfolding(crate::specs::Language::taken))]
+    pub(crate) fn take(&mut self, alloc: Global, number: u32, line: Line) -> Result<(), ScriptKind>
+        requires rule { broken_rule (drafted self.old) line ≡ None }
+        requires sound { IsSound line }
+        ensures { Takes (taken number line (drafted self.old)) result (drafted self.new) }
+    {
+        match line {
+            Line::Mode(mode) => {
+                self.mode = mode;
+                Ok(())
+            }
+            Line::Limits(limits) => {
+                self.limits = limits;
+                Ok(())
+            }
+            Line::Pages(pages) => {
+                self.pages = pages;
+                Ok(())
+            }
+            Line::Block(size) => {
+                self.block = size;
+                Ok(())
+            }
+            Line::Expect { app, mask } => {
+                self.expect(number, app, mask);
+                Ok(())
+            }
             Line::Schedule(entries) => self.add_schedule(&entries),
-            Line::Begin => Ok(()),
             Line::Op(line) => self.add_op(alloc, number, line),
+            other => self.take_volume(alloc, number, other),
         }
     }
 
@@ -279,14 +292,7 @@ impl Draft {
         }
         let faults = crossed(alloc, faults, ops.as_slice())?;
         Ok(Script {
-            mode: Mode {
-                kind: mode.kind,
-                dix: mode.dix,
-                dif: mode.dif,
-                protect: mode.protect,
-                app,
-                mask,
-            },
+            mode: mode_of(mode, app, mask),
             limits,
             pages,
             block,
@@ -297,6 +303,21 @@ impl Draft {
             ops: OpList::from_vec(ops),
             lines: LineList::from_vec(lines),
         })
+    }
+}
+
+/// What an `over` line says, its volumes borrowed.
+fn over_line(start: u64, len: u64, chunk: u32, volumes: &VolumeList) -> OverLine
+    ensures start { result.start ≡ start }
+    ensures len { result.len ≡ len }
+    ensures chunk { result.chunk ≡ chunk }
+    ensures volumes { result.volumes.now ≡ volumes.now }
+{
+    OverLine {
+        start,
+        len,
+        chunk,
+        volumes: volumes.as_slice(),
     }
 }
 

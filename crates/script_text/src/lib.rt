@@ -8,6 +8,7 @@ mod bind;
 mod crossing;
 mod draft;
 mod fault;
+mod mode;
 mod ops;
 mod print;
 mod raw_fault;

@@ -199,6 +199,48 @@ fn copy(dev: u32, lba: u64, from_dev: u32, from_lba: u64) -> Op
     }
 }
 
+fn seal(
+    alloc: Global,
+    n: u32,
+    lists: (SegList, SegList),
+    tags: (u16, u32),
+    sizes: Sizes,
+) -> Result<Op, ScriptKind>
+    ensures { IsUnless (op_in sizes.pages sizes.block (OpLine.Seal n lists.0 lists.1 tags.0 tags.1)) result }
+{
+    let (body, tuples) = both_of(alloc, n, &lists.0, &lists.1, sizes)?;
+    let (app, rtag) = tags;
+    Ok(Op::Seal {
+        n,
+        body,
+        tuples,
+        app,
+        rtag,
+    })
+}
+
+fn write(
+    alloc: Global,
+    v: u64,
+    n: u32,
+    body: SegList,
+    app: Option<u16>,
+    sizes: Sizes,
+) -> Result<Op, ScriptKind>
+    ensures { IsUnless (op_in sizes.pages sizes.block (OpLine.Write v n body app)) result }
+{
+    let body = data_of(alloc, n, &body, sizes)?;
+    let app = app.unwrap_or(0);
+    Ok(Op::Write { v, n, body, app })
+}
+
+fn read(alloc: Global, v: u64, n: u32, body: SegList, sizes: Sizes) -> Result<Op, ScriptKind>
+    ensures { IsUnless (op_in sizes.pages sizes.block (OpLine.Read v n body)) result }
+{
+    let body = data_of(alloc, n, &body, sizes)?;
+    Ok(Op::Fetch { v, n, body })
+}
+
 /// The op of a line, or the first rule that it breaks.
 pub(crate) fn op_of(alloc: Global, line: OpLine, sizes: Sizes) -> Result<Op, ScriptKind>
     requires { sizes.block ≤ 4096 }
@@ -214,25 +256,9 @@ pub(crate) fn op_of(alloc: Global, line: OpLine, sizes: Sizes) -> Result<Op, Scr
             tuples,
             app,
             rtag,
-        } => {
-            let (body, tuples) = both_of(alloc, n, &body, &tuples, sizes)?;
-            Ok(Op::Seal {
-                n,
-                body,
-                tuples,
-                app,
-                rtag,
-            })
-        }
-        OpLine::Write { v, n, body, app } => {
-            let body = data_of(alloc, n, &body, sizes)?;
-            let app = app.unwrap_or(0);
-            Ok(Op::Write { v, n, body, app })
-        }
-        OpLine::Read { v, n, body } => {
-            let body = data_of(alloc, n, &body, sizes)?;
-            Ok(Op::Fetch { v, n, body })
-        }
+        } => seal(alloc, n, (body, tuples), (app, rtag), sizes),
+        OpLine::Write { v, n, body, app } => write(alloc, v, n, body, app, sizes),
+        OpLine::Read { v, n, body } => read(alloc, v, n, body, sizes),
         OpLine::WritePi { v, n, body, tuples } => {
             let (body, tuples) = both_of(alloc, n, &body, &tuples, sizes)?;
             Ok(Op::WritePi { v, n, body, tuples })
