@@ -5,6 +5,7 @@ use super::{
     NO_HEADER, NO_INTEGRITY, NOT_ASCII, NOTHING, OUT_OF_PLACE, SEG_OVERLAP, TOO_MANY, UNKNOWN_WORD,
     Wrong, behind, fault_of,
 };
+use crate::ScriptKind;
 use std::alloc::Global;
 use std::test::Fail;
 
@@ -215,4 +216,11 @@ fn counts_and_tuples_at_fault(rt: HostRuntime) -> Result<(), Fail> {
         assert_eq!(rt; fault_of(rt.alloc(), text), (*line, *wrong));
     }
     Ok(())
+}
+
+// Want of memory is no fault of a text, and has a number that no fault has.
+#[test]
+fn want_of_memory(rt: HostRuntime) {
+    assert_eq!(rt; ScriptKind::Memory.number(), 255);
+    assert_eq!(rt; ScriptKind::Memory.name(), "Memory");
 }
