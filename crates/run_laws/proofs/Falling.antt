@@ -22,7 +22,7 @@ use Rattle.block_path.specs.Blocks.{Answer, fetched_cell, own_cell, own_frame, o
 use Rattle.block_path.specs.Routes.{host_type, target}
 use Rattle.block_path.specs.WayOut.{Fails, Refuses, Stores, WayOut, from_adapter, mapped_out, to_wire, way_out}
 use Rattle.block_path.proofs.Cells.{gather_length}
-use Rattle.whole_run.specs.CalmRun.{AllFit, IsCalm, LiesIn}
+use Rattle.whole_run.specs.CalmRun.{AllFit, LiesIn}
 use Rattle.whole_run.specs.FirstLayer.{last_accepted}
 use Rattle.whole_run.specs.Past.{Accepted, Brought, Event, Lost, brought_by, event_of, steps_from}
 use Rattle.whole_run.specs.PlainMap.{all_pass, as_expected, finds_of_app, finds_plainly}

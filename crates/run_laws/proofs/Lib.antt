@@ -3,7 +3,7 @@ mod Found
 mod Layers
 mod Along
 pub mod Parts
-mod Reading
+pub mod Reading
 mod ShownRows
 mod Passing
 mod QuietWays

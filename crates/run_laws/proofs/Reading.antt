@@ -1,11 +1,9 @@
-use Rattle.std.proofs.Common.{◌≡◌, ◌<◌, ◌≤◌, ℕ, zero, suc, ◌+◌, ◌-◌, ◌*◌, ◌%◌, ◌^◌, true, false, eqb, if◌then◌else◌, List, [], ◌∷◌, ◌++◌, length, map, get_or, take, Option, Some, None, refl, sym, ap, subst, ◌∙◌, arith, length-append}
+use Rattle.std.proofs.Common.{◌≡◌, ◌<◌, ◌≤◌, ℕ, zero, suc, ◌+◌, ◌-◌, ◌*◌, ◌%◌, ◌^◌, true, false, eqb, if◌then◌else◌, List, [], ◌∷◌, ◌++◌, length, map, get_or, take, Option, Some, None, refl, sym, ap, subst, ◌∙◌, arith}
 use Rattle.std.proofs.lemmas.Bool.{eq-eqb, false≢true, ne_eqb}
-use Rattle.std.proofs.lemmas.List.{append_assoc, append-nil, length-map, take-take, take_all, length-set}
-use Rattle.std.proofs.Math.Nat.{mul-le-mul_right, suc-mul}
+use Rattle.std.proofs.lemmas.List.{append_assoc, append-nil, take-take, take_all, length-set}
 use Rattle.page_pool.specs.declared.segs.Seg.{Seg}
-use Rattle.page_pool.specs.Cells.{cell, gather, scatter, share_a_cell}
-use Rattle.page_pool.specs.Places.{range_of, total}
-use Rattle.page_pool.proofs.Spreads.{length-range}
+use Rattle.page_pool.specs.Cells.{gather, scatter, share_a_cell}
+use Rattle.page_pool.specs.Places.{total}
 use Rattle.integrity_payload.specs.declared.payload.Owner.{Owner}
 use Rattle.integrity_payload.specs.declared.payload.Owner.TheVariants.{Block as OfBlock, App as OfApp}
 use Rattle.bio_core.specs.declared.fate.Why.{Why}
@@ -77,7 +75,7 @@ listed_blocks : (bad : List BadBlock) (k : ℕ) → listed_in (whole_or_bad bad)
 listed_blocks [] k = refl
 listed_blocks (x ∷ bad) k = refl
 
-is_listed : (answers : List Answer) (k : ℕ) → listed_in (request_reply answers) k ≡ (get_or answers k silent).why
+pub is_listed : (answers : List Answer) (k : ℕ) → listed_in (request_reply answers) k ≡ (get_or answers k silent).why
 is_listed answers k = listed_blocks (bad_from 0 (map (λ a. a.why) answers)) k ∙ why_listed 0 k k answers (omega arith)
 
 -- block k among n

@@ -1,0 +1,6 @@
+mod Between
+mod Labelled
+mod Mirrors
+mod Backs
+mod RecordRows
+mod FalseLogs

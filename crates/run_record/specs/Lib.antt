@@ -1,0 +1,5 @@
+pub mod Records
+pub mod TakenWalk
+pub mod BackedRun
+pub mod CarriedRun
+pub mod ToldRun

@@ -1,0 +1,7 @@
+//! What a rig's log says of a run: the entries and ends of single blocks; that a log backs replies, whatever the rig
+//! answered; and that it holds what the walk carries.
+#![tactic(auto)]
+
+mod record;
+
+pub use record::{a_log_of_the_walk_is_carried, a_walk_over_its_record_is_backed};
