@@ -1,25 +1,24 @@
 -- A group's command before its unit: it isn't refused, and each block is asked for as its route says.
-use Rattle.std.proofs.Common.{◌≡◌, ◌<◌, ◌≤◌, ℕ, zero, suc, ◌+◌, ◌-◌, ◌*◌, ◌^◌, Bool, true, false, not, ◌&&◌, ◌||◌, eqb, leb, List, [], ◌∷◌, ◌++◌, length, map, take, drop, get_or, refl, ap, sym, subst, ◌∙◌, arith, inl, inr, ⊎_elim, Option, Some, None}
-use Rattle.std.specs.Prelude.{◌%◌, ◌/◌, if◌then◌else◌, bit_and, ℤ, pos, negsuc, ◌+ℤ◌, nat_abs, Result, Ok, Err, slice_get, ◌⊎◌}
+use Rattle.std.proofs.Common.{◌≡◌, ◌≤◌, ℕ, ◌+◌, ◌*◌, ◌^◌, Bool, true, false, not, ◌&&◌, ◌||◌, eqb, leb, List, [], ◌∷◌, refl, ap, sym, subst, ◌∙◌, arith, inl, inr, ⊎_elim, Option, Some, None}
+use Rattle.std.specs.Prelude.{◌%◌, ◌/◌, if◌then◌else◌, bit_and, ℤ, pos, negsuc, ◌+ℤ◌, nat_abs, Ok, slice_get, ◌⊎◌}
 use Rattle.std.specs.Int.Bits.{and_zero_r}
 use Rattle.std.proofs.Math.IntN.{+ℤ_assoc, +ℤ_comm}
 use Rattle.std.proofs.Math.Nat.{add-mul-mod_self_left, mod-add-div}
 use Rattle.std.proofs.lemmas.Bool.{cases_Bool, eqb-true}
 use Rattle.pi_guard.specs.Guards.{crc}
 use Rattle.pi_tuple.specs.Tuples.{ref_tag}
-use Rattle.pi_tuple.specs.Finds.{asked_of as tuple_asked, finding, first_of as first_asked, has_ref_tag, is_escaped, is_zero}
+use Rattle.pi_tuple.specs.Finds.{asked_of as tuple_asked, finding, first_of as first_asked, is_escaped, is_zero}
 use Rattle.pi_tuple.specs.declared.tuple.Tuple.{Tuple}
 use Rattle.pi_tuple.specs.declared.checks.PiType.{PiType}
 use Rattle.pi_tuple.specs.declared.checks.PiType.TheVariants.{Zero, One, Two, Three}
-use Rattle.pi_tuple.specs.declared.checks.Checks.{Checks}
 use Rattle.cdb_codec.specs.declared.choice.Dir2.{Dir2}
 use Rattle.cdb_codec.specs.declared.choice.Dir2.TheVariants.{In, Out}
 use Rattle.cdb_codec.specs.declared.command.Cdb.{Cdb}
 use Rattle.cdb_codec.specs.declared.command.Rw.{Rw}
-use Rattle.cdb_codec.specs.Rule.{chosen, fits_10, is_two, tagged, untagged}
+use Rattle.cdb_codec.specs.Rule.{fits_10, is_two, tagged, untagged}
 use Rattle.fault_schedule.specs.declared.Label.{Label}
 use Rattle.fault_schedule.specs.declared.fault.FaultLine.{FaultLine}
-use Rattle.target_answer.specs.Frames.{data_of, frames_of, sent_size, tuple_of}
+use Rattle.target_answer.specs.Frames.{data_of, tuple_of}
 use Rattle.fault_schedule.specs.declared.fault.Crossing.TheVariants.{AdapterToTarget, MediumToTarget, TargetToAdapter, TargetToMedium}
 use Rattle.target_answer.specs.Passing.{accepted, asked_of, crossed, then_crossed, unless, with_own_tuple, found_in, from_medium, is_one, released, to_medium, wanted_of}
 use Rattle.target_answer.specs.Requests.{is_foreign, request_of}
@@ -27,7 +26,7 @@ use Rattle.target_answer.specs.declared.request.Request.{Request}
 use Rattle.target_answer.specs.declared.request.Request.TheVariants.{Read, Write}
 use Rattle.target_answer.specs.declared.passage.Passage.{Passage}
 use Rattle.target_answer.specs.declared.units.UnitSpec.{UnitSpec}
-use Rattle.target_answer.specs.Target.{bytes_of, fetched_outside, foreign_form, first_of, has_blocks, medium_address, no_tuples, outside, passage as passage_of, refusal, refusals_of, shift_by_first, wire_address, wrong_room}
+use Rattle.target_answer.specs.Target.{bytes_of, first_of, has_blocks, medium_address, passage as passage_of, refusal, refusals_of, wire_address}
 use Rattle.block_path.specs.Routes.{field, passage, wire_lba}
 use Rattle.block_path.specs.declared.route.Route.{Route}
 use Rattle.dix_adapter.specs.declared.adapter.Adapter.{Adapter}
@@ -152,6 +151,7 @@ finds-by ty g r app app' mask want want' guard t m w =
         let x : bit_and app mask ≡ bit_and app' mask = ap (bit_and app) z ∙ and_zero_r app ∙ sym (and_zero_r app') ∙ ap (bit_and app') (sym z) in
         rw x refl
     of-app (inr e) = rw e refl
+
     of-want : ((r ≡ false) ⊎ (want ≡ want')) → finding ty (record { guard = g; rtag = r; app = app'; mask = mask }) want guard t ≡ finding ty (record { guard = g; rtag = r; app = app'; mask = mask }) want' guard t
     of-want (inl z) = rw z refl
     of-want (inr e) = rw e refl
@@ -280,6 +280,7 @@ alike-by ty own f g address at w k n tag bits tag' bits' label label' c t p q h 
     app' : ((masked own f bits ≡ 0) ⊎ (c.app ≡ tag)) → ((masked own g bits' ≡ 0) ⊎ (c.app ≡ tag'))
     app' (inl z) = inl (ap (masked own g) (sym y) ∙ ap (λ z. masked own z bits) (sym q) ∙ z)
     app' (inr e) = inr (e ∙ x)
+
     want' : ((asks_tag own f ≡ false) ⊎ ((w : ℕ) → (if is_two own then (c.rtag + k) % 2 ^ 32 else w) ≡ (if is_two own then (address + k) % 2 ^ 32 else w))) →
         ((asks_tag own g ≡ false) ⊎ ((if is_two ty then (c.rtag + k) % 2 ^ 32 else ref_tag (at + k)) ≡ (if is_two own then (address + k) % 2 ^ 32 else ref_tag w)))
     want' (inl z) = inl (ap (asks_tag own) (sym q) ∙ z)

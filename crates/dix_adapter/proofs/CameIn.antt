@@ -1,7 +1,6 @@
 -- A read before a unit that is told.
-use Rattle.std.proofs.Common.{◌≡◌, ◌<◌, ◌≤◌, ℕ, zero, suc, ◌+◌, ◌-◌, ◌*◌, ◌^◌, Bool, true, false, not, ◌&&◌, eqb, ltb, List, [], ◌∷◌, ◌++◌, length, map, take, drop, get_or, replicate, refl, ap, sym, subst, ◌∙◌, arith, Option, Some, None}
-use Rattle.std.specs.Prelude.{min, if◌then◌else◌, ℤ, pos, ◌+ℤ◌, nat_abs, Result, Ok, Err}
-use Rattle.std.proofs.lemmas.List.{append-nil, length-map}
+use Rattle.std.proofs.Common.{◌≡◌, ◌<◌, ◌≤◌, ℕ, zero, suc, ◌+◌, ◌-◌, ◌*◌, true, false, not, ◌&&◌, eqb, List, [], ◌∷◌, ◌++◌, length, map, take, drop, get_or, refl, ap, sym, subst, ◌∙◌, arith, Option, Some, None}
+use Rattle.std.specs.Prelude.{min, ℤ, pos, ◌+ℤ◌, nat_abs, Result, Ok}
 use Rattle.page_pool.specs.Cells.{flat}
 use Rattle.pi_tuple.specs.Finds.{is_zero}
 use Rattle.pi_tuple.specs.declared.checks.Check.{Check}
@@ -15,19 +14,18 @@ use Rattle.cdb_codec.proofs.Inverse.{decoded_form}
 use Rattle.bio_core.specs.declared.bio.Bio.{Bio}
 use Rattle.bio_core.specs.declared.fate.Fate.{Fate}
 use Rattle.bio_core.specs.declared.request.Io.{Io}
-use Rattle.bio_core.specs.Bios.{Block, block_size}
+use Rattle.bio_core.specs.Bios.{Block}
 use Rattle.fault_schedule.specs.declared.Label.{Label}
 use Rattle.fault_schedule.specs.declared.fault.FaultLine.{FaultLine}
 use Rattle.target_answer.specs.Frames.{frames_of, joined, sent_size, stored_size}
 use Rattle.target_answer.specs.Passing.{from_medium}
 use Rattle.target_answer.specs.Requests.{is_foreign, request_of}
 use Rattle.target_answer.specs.declared.request.Request.TheVariants.{Read as Reads}
-use Rattle.target_answer.specs.Target.{Answer, Stop, Stored, answer_unless, bytes_of, carried_out, each, has_blocks, medium_address, passage as passage_of, passed, read_by, read_end, refusal, sending, shape_of, stored_from, target_answer, wire_address}
-use Rattle.target_answer.specs.declared.units.UnitSpec.{UnitSpec}
-use Rattle.rig_api.specs.Log.{Entry, entry_of, moved_by, moved_under}
-use Rattle.rig_api.specs.Telling.{IsAnswer, answer_of, at_front, unit_at, with_blocks}
+use Rattle.target_answer.specs.Target.{Stop, Stored, answer_unless, carried_out, each, has_blocks, medium_address, passage as passage_of, passed, read_by, read_end, refusal, sending, shape_of, stored_from, target_answer, wire_address}
+use Rattle.rig_api.specs.Log.{entry_of, moved_by, moved_under}
+use Rattle.rig_api.specs.Telling.{IsAnswer, answer_of, at_front, unit_at}
 use Rattle.rig_api.specs.declared.rig.Outcome.{Outcome}
-use Rattle.block_path.specs.Acts.{State, act}
+use Rattle.block_path.specs.Acts.{act}
 use Rattle.block_path.specs.Blocks.{fetched_cell}
 use Rattle.block_path.specs.Routes.{medium_lba, moved, passage, wire_lba}
 use Rattle.block_path.specs.Serial.{plain}
@@ -38,10 +36,10 @@ use Rattle.dix_adapter.specs.Outcomes.{done_of, rest_of}
 use Rattle.dix_adapter.specs.Ways.{CameIn, acts_in, blocks_told, cell_in, fates_of_in, frames_in, shapes_of, site_of, stopped_in, ways_in}
 use Rattle.dix_adapter.proofs.Asking.{address-more, alike-in, asked-alike, asked-for, count-is, field_for, fields_of, lba-is, no-tuples-asked, not-refused-in, own-form, protect-is}
 use Rattle.dix_adapter.proofs.Commands.{command-blocks}
-use Rattle.dix_adapter.proofs.GoingIn.{EndsIn, acts-in, ends-in, judged-in-long, judged_in, long-at, part-long, passed-long, sent-long-in, ways-in-are}
+use Rattle.dix_adapter.proofs.GoingIn.{acts-in, ends-in, judged-in-long, judged_in, long-at, part-long, passed-long, sent-long-in, ways-in-are}
 use Rattle.dix_adapter.proofs.GoingOut.{passed-few, take-long}
-use Rattle.dix_adapter.proofs.Puts.{before, cell-is, same-blocks, told-at}
-use Rattle.dix_adapter.proofs.Runs.{AllLong, Next, Run, cut-joined, front-joined, joined-long, label-at, width-sent, width_for}
+use Rattle.dix_adapter.proofs.Puts.{cell-is, same-blocks, told-at}
+use Rattle.dix_adapter.proofs.Runs.{AllLong, Next, Run, cut-joined, front-joined, label-at, width-sent, width_for}
 use Rattle.dix_adapter.proofs.WentOut.{first-shift}
 
 -- what is known of a read's command before its unit

@@ -1,6 +1,6 @@
 -- The blocks of a read at their unit: what it judges is how they end, and the moves of those that came land them.
-use Rattle.std.proofs.Common.{◌≡◌, ◌<◌, ◌≤◌, ℕ, zero, suc, ◌+◌, ◌-◌, ◌*◌, Bool, true, false, not, ◌&&◌, eqb, ltb, List, [], ◌∷◌, ◌++◌, length, map, take, drop, get_or, set, replicate, refl, ap, sym, subst, ◌∙◌, arith, inl, inr, ⊎_elim, Option, Some, None}
-use Rattle.std.specs.Prelude.{min, if◌then◌else◌, IfOk, Result, Ok, Err, ◌||◌, ◌⊎◌}
+use Rattle.std.proofs.Common.{◌≡◌, ◌<◌, ◌≤◌, ℕ, zero, suc, ◌+◌, ◌-◌, Bool, true, false, not, ◌&&◌, eqb, ltb, List, [], ◌∷◌, ◌++◌, length, take, get_or, set, replicate, refl, ap, sym, ◌∙◌, arith, inl, inr, ⊎_elim, Option, Some, None}
+use Rattle.std.specs.Prelude.{if◌then◌else◌, IfOk, Result, Ok, Err}
 use Rattle.std.proofs.lemmas.Bool.{cases_Bool}
 use Rattle.std.proofs.lemmas.List.{length-take-le}
 use Rattle.page_pool.specs.Cells.{gather, scatter}
@@ -8,10 +8,8 @@ use Rattle.pi_tuple.specs.Finds.{is_zero}
 use Rattle.pi_tuple.specs.declared.checks.PiType.{PiType}
 use Rattle.pi_tuple.specs.declared.checks.PiType.TheVariants.{Zero, One, Two, Three}
 use Rattle.pi_tuple.specs.declared.checks.Check.{Check}
-use Rattle.bio_core.specs.declared.fate.Fate.{Fate}
-use Rattle.bio_core.specs.declared.fate.Fate.TheVariants.{Good, Bad, Untouched}
-use Rattle.bio_core.specs.declared.fate.Why.{Why}
-use Rattle.bio_core.specs.declared.fate.Why.TheVariants.{Adapter as ByAdapter, Medium, Target}
+use Rattle.bio_core.specs.declared.fate.Fate.TheVariants.{Bad, Untouched}
+use Rattle.bio_core.specs.declared.fate.Why.TheVariants.{Medium, Target}
 use Rattle.bio_core.specs.declared.request.Io.{Io}
 use Rattle.bio_core.specs.Bios.{Block, block_size}
 use Rattle.fault_schedule.specs.declared.Label.{Label}
@@ -19,17 +17,16 @@ use Rattle.fault_schedule.specs.declared.fault.Crossing.{Crossing}
 use Rattle.fault_schedule.specs.declared.fault.Crossing.TheVariants.{MediumToTarget, TargetToAdapter}
 use Rattle.fault_schedule.specs.declared.fault.FaultLine.{FaultLine}
 use Rattle.target_answer.specs.Frames.{data_of, stored_size}
-use Rattle.target_answer.specs.Passing.{crossed, found_in, from_medium, released, then_crossed, unless}
+use Rattle.target_answer.specs.Passing.{crossed, found_in, from_medium, then_crossed, unless}
 use Rattle.target_answer.specs.Target.{Stop, check_sense, first_sense, medium_sense, passed, read_end}
 use Rattle.target_answer.specs.declared.passage.Passage.{Passage}
 use Rattle.target_answer.specs.declared.units.UnitSpec.{UnitSpec}
-use Rattle.rig_api.specs.declared.rig.Outcome.{Outcome}
 use Rattle.block_path.specs.Acts.{State, act}
-use Rattle.block_path.specs.Blocks.{Site, fetched_cell, own_cell}
+use Rattle.block_path.specs.Blocks.{fetched_cell, own_cell}
 use Rattle.block_path.specs.Moves.{carried_in, carry_in}
 use Rattle.block_path.specs.Routes.{by_target, passage}
 use Rattle.block_path.specs.Serial.{plain}
-use Rattle.block_path.specs.WayIn.{Delivers, Spoils, Stops, WayIn, at_host, comes_in, from_device, from_wire}
+use Rattle.block_path.specs.WayIn.{Stops, WayIn, at_host, comes_in, from_device, from_wire}
 use Rattle.block_path.specs.declared.route.Route.{Route}
 use Rattle.block_path.proofs.Sizes.{altered_length}
 use Rattle.dix_adapter.specs.declared.adapter.Adapter.{Adapter}
@@ -37,8 +34,8 @@ use Rattle.dix_adapter.specs.Carried.{arrives, carried, fates_in, land, landed}
 use Rattle.dix_adapter.specs.Groups.{IsProtect, frame_cells, label_of, request_of, route_of}
 use Rattle.dix_adapter.specs.Outcomes.{rest_of, why_of}
 use Rattle.dix_adapter.specs.Ways.{acts_in, fates_of_in, frames_in, site_of, stopped_in, ways_in}
-use Rattle.dix_adapter.proofs.GoingOut.{check-why, passed-few, rest-shift, take-long}
-use Rattle.dix_adapter.proofs.Runs.{AllLong, Run, width_for}
+use Rattle.dix_adapter.proofs.GoingOut.{check-why, rest-shift}
+use Rattle.dix_adapter.proofs.Runs.{AllLong, width_for}
 
 -- what the unit finds in each block
 abbrev pub judged_in : Adapter → List Io → List UnitSpec → (blocks : List (List ℕ)) → List Block → List (Result (List ℕ) Check)
@@ -241,6 +238,7 @@ front-long ty size f true frame p z l = by f p ∙ l ∙ of ty (z refl)
     by f (inl e) = rw e refl
     by f (inr (inl e)) = rw e refl
     by f (inr (inr e)) = rw e refl
+
     of : (ty : PiType) → is_zero ty ≡ false → stored_size ty size ≡ size + 8
     of Zero e = absurd (let x : true ≡ false = e in cc)
     of One e = refl

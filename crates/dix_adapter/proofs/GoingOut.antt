@@ -1,21 +1,17 @@
 -- The blocks of a write at their unit: what it judges is how they end, and the moves of those that were done store them.
-use Rattle.std.proofs.Common.{◌≡◌, ◌<◌, ◌≤◌, ℕ, zero, suc, ◌+◌, ◌-◌, ◌*◌, Bool, true, false, ltb, List, [], ◌∷◌, ◌++◌, length, map, take, drop, get_or, set, replicate, refl, ap, sym, subst, ◌∙◌, arith, inl, inr, ⊎_elim, Option, Some, None}
-use Rattle.std.specs.Prelude.{min, if◌then◌else◌, Result, Ok, Err, ◌||◌, ◌⊎◌}
-use Rattle.std.specs.List.{All}
+use Rattle.std.proofs.Common.{◌≡◌, ◌<◌, ◌≤◌, ℕ, zero, suc, ◌+◌, ◌-◌, true, false, ltb, List, [], ◌∷◌, ◌++◌, length, map, take, get_or, set, replicate, refl, ap, sym, ◌∙◌, arith, ⊎_elim, Option, Some, None}
+use Rattle.std.specs.Prelude.{min, if◌then◌else◌, Result, Ok, Err}
 use Rattle.std.proofs.lemmas.Bool.{cases_Bool}
-use Rattle.std.proofs.lemmas.List.{length-set, length-replicate, take_at, drop_at}
 use Rattle.page_pool.specs.Cells.{gather, scatter}
 use Rattle.pi_tuple.specs.declared.checks.Check.{Check}
 use Rattle.pi_tuple.specs.declared.checks.Check.TheVariants.{Guard, AppTag, RefTag}
 use Rattle.bio_core.specs.declared.fate.Fate.{Fate}
 use Rattle.bio_core.specs.declared.fate.Fate.TheVariants.{Good, Bad, Untouched}
-use Rattle.bio_core.specs.declared.fate.Why.{Why}
 use Rattle.bio_core.specs.declared.fate.Why.TheVariants.{Medium, Target}
 use Rattle.bio_core.specs.declared.request.Io.{Io}
 use Rattle.bio_core.specs.Bios.{Block}
-use Rattle.target_answer.specs.Frames.{frames_of, joined}
 use Rattle.target_answer.specs.Passing.{to_medium}
-use Rattle.target_answer.specs.Target.{Ended, Stop, check_sense, first_sense, medium_sense, passed, write_end, whole}
+use Rattle.target_answer.specs.Target.{Stop, check_sense, first_sense, medium_sense, passed, write_end}
 use Rattle.target_answer.specs.declared.units.UnitSpec.{UnitSpec}
 use Rattle.rig_api.specs.declared.rig.Outcome.{Outcome}
 use Rattle.block_path.specs.Acts.{State, act}
@@ -23,11 +19,11 @@ use Rattle.block_path.specs.Blocks.{Site, own_cell, stored_cell, written_by}
 use Rattle.block_path.specs.Moves.{carry_out}
 use Rattle.block_path.specs.Routes.{by_target, passage, target}
 use Rattle.block_path.specs.Serial.{plain}
-use Rattle.block_path.specs.WayOut.{Fails, Refuses, Stores, WayOut, at_device, from_adapter, goes_out}
+use Rattle.block_path.specs.WayOut.{Refuses, Stores, WayOut, at_device, from_adapter, goes_out}
 use Rattle.block_path.specs.declared.route.Route.{Route}
 use Rattle.dix_adapter.specs.declared.adapter.Adapter.{Adapter}
 use Rattle.dix_adapter.specs.Carried.{any_bad, frame_sent, is_bad, sends}
-use Rattle.dix_adapter.specs.Groups.{frame_cells, frame_in, route_of}
+use Rattle.dix_adapter.specs.Groups.{frame_cells, route_of}
 use Rattle.dix_adapter.specs.Outcomes.{done_of, rest_of, why_of}
 use Rattle.dix_adapter.specs.Ways.{acts_out, cells_out, fates_out, frames_out, left_at, site_of, stopped_out, ways_out}
 use Rattle.dix_adapter.proofs.Gathering.{or-false}
@@ -210,6 +206,7 @@ acts-out a ios units cells (x ∷ bs) (suc n) c now g b h i =
   where
     o : (is_bad (sends a ios cells x) ≡ false) × (any_bad (map (sends a ios cells) bs) ≡ false)
     o = or-false (is_bad (sends a ios cells x)) (any_bad (map (sends a ios cells) bs)) g
+
     by : (j : Judged) → to_medium a.tamper (passage a.tamper (route_of a ios x)) (frame_sent (sends a ios cells x)) ≡ j →
         (n ≤ length (passed (judged_out a ios cells bs)) → (plain act (take n (acts_out a ios units bs)) (act (carry_out (site_of a units) (route_of a ios x) (frame_cells ios x)) now)).blocks ≡ puts (suc c) (take n (passed (judged_out a ios cells bs))) (act (carry_out (site_of a units) (route_of a ios x) (frame_cells ios x)) now).blocks) →
         (plain act (take n (acts_out a ios units bs)) (act (carry_out (site_of a units) (route_of a ios x) (frame_cells ios x)) now)).blocks ≡ puts c (take (suc n) (passed (judged_out a ios cells (x ∷ bs)))) now.blocks

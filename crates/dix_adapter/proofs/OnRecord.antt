@@ -1,6 +1,6 @@
 -- What stands on record of a carried group.
-use Rattle.std.proofs.Common.{◌≡◌, ◌<◌, ◌≤◌, ℕ, zero, suc, ◌+◌, ◌-◌, ◌*◌, true, false, not, ◌&&◌, ltb, List, [], ◌∷◌, ◌++◌, length, map, take, drop, replicate, refl, ap, sym, subst, ◌∙◌, arith, Option, Some, None}
-use Rattle.std.specs.Prelude.{if◌then◌else◌, min, ◌||◌, Bool, Result, Ok, Err}
+use Rattle.std.proofs.Common.{◌≡◌, ◌<◌, ◌≤◌, ℕ, zero, suc, ◌+◌, ◌-◌, ◌*◌, true, false, ltb, List, [], ◌∷◌, ◌++◌, length, map, take, drop, replicate, refl, ap, sym, ◌∙◌, arith}
+use Rattle.std.specs.Prelude.{if◌then◌else◌, min, Result, Ok, Err}
 use Rattle.std.proofs.lemmas.List.{append-nil, drop-take, take-take}
 use Rattle.page_pool.specs.Cells.{flat}
 use Rattle.pi_tuple.specs.declared.checks.Check.{Check}
@@ -20,14 +20,13 @@ use Rattle.rig_api.specs.Log.{entry_of, moved_by, moved_under}
 use Rattle.rig_api.specs.Telling.{spec_at}
 use Rattle.rig_api.specs.declared.rig.Outcome.{Outcome}
 use Rattle.dix_adapter.specs.declared.adapter.Adapter.{Adapter}
-use Rattle.dix_adapter.specs.Carried.{Fetched, Sent, Shown, any_bad, any_fails, arrives, carried, command_for, command_of, fails, fates_in, frame_len, frame_sent, landed, out_of, sends, unsent, way_of}
+use Rattle.dix_adapter.specs.Carried.{Fetched, Sent, Shown, any_bad, arrives, carried, command_for, command_of, fates_in, frame_len, landed, out_of, sends, unsent, way_of}
 use Rattle.dix_adapter.specs.Groups.{IsGroup, IsProtect, blocks_in, first_of, label_of, request_of, size}
 use Rattle.dix_adapter.specs.Outcomes.{done_of, rest_of, why_of}
-use Rattle.dix_adapter.specs.Ways.{IsRecord, RecordedIn, RecordedOut, any_settled, is_settled}
+use Rattle.dix_adapter.specs.Ways.{RecordedIn, RecordedOut, any_settled}
 use Rattle.dix_adapter.proofs.Asking.{asked-for, count-is, field_for, fields_of, protect-is}
 use Rattle.dix_adapter.proofs.Blocks.{length-in}
 use Rattle.dix_adapter.proofs.Commands.{command-blocks}
-use Rattle.dix_adapter.proofs.Judged.{judged}
 use Rattle.dix_adapter.proofs.Landing.{group-width}
 use Rattle.dix_adapter.proofs.GoingOut.{all_sent, sent-long}
 use Rattle.dix_adapter.proofs.Runs.{AllLong, front-joined, group-wide, width-sent, width_for}

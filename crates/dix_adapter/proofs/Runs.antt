@@ -1,6 +1,6 @@
 -- The blocks of a group one after another, and what its command asks of each.
-use Rattle.std.proofs.Common.{◌≡◌, ◌<◌, ◌≤◌, ℕ, zero, suc, ◌+◌, ◌-◌, ◌*◌, ◌^◌, Bool, true, false, not, ◌&&◌, eqb, List, [], ◌∷◌, ◌++◌, length, map, take, drop, get_or, refl, ap, sym, subst, ◌∙◌, arith, inl, inr, Option, Some, None, append_assoc, length-append}
-use Rattle.std.specs.Prelude.{if◌then◌else◌, IfOk, ℤ, pos, ◌+ℤ◌, ◌⊎◌, Result, Ok, Err, slice_get}
+use Rattle.std.proofs.Common.{◌≡◌, ◌<◌, ◌≤◌, ℕ, zero, suc, ◌+◌, ◌*◌, Bool, true, false, not, ◌&&◌, List, [], ◌∷◌, ◌++◌, length, map, take, drop, refl, ap, sym, subst, ◌∙◌, arith, inl, inr, Option, Some, None, append_assoc, length-append}
+use Rattle.std.specs.Prelude.{if◌then◌else◌, IfOk, ℤ, pos, ◌+ℤ◌, Result, Ok, Err, slice_get}
 use Rattle.std.specs.List.{All}
 use Rattle.std.proofs.lemmas.List.{length-map, take_at, drop_at}
 use Rattle.page_pool.specs.Cells.{cell, flat, gather}
@@ -23,12 +23,10 @@ use Rattle.target_answer.specs.Target.{each, passage as passage_of}
 use Rattle.target_answer.specs.declared.units.UnitSpec.{UnitSpec}
 use Rattle.page_pool.proofs.Ranges.{take-sum}
 use Rattle.block_path.specs.Routes.{host_size, moved, passage, wire_lba, wire_size}
-use Rattle.block_path.specs.WayOut.{to_wire}
 use Rattle.block_path.proofs.Sizes.{out_size}
-use Rattle.block_path.specs.declared.route.Route.{Route}
 use Rattle.dix_adapter.specs.declared.adapter.Adapter.{Adapter}
 use Rattle.dix_adapter.specs.Carried.{any_bad, frame_sent, is_bad, sends}
-use Rattle.dix_adapter.specs.Groups.{Chain, IsBio, IsGroup, IsProtect, blocks_in, data_cells, first_of, frame_cells, frame_in, label_of, request_of, route_of, size, tuple_cells}
+use Rattle.dix_adapter.specs.Groups.{Chain, IsBio, IsGroup, IsProtect, blocks_in, data_cells, first_of, frame_cells, frame_in, label_of, request_of, route_of, tuple_cells}
 use Rattle.dix_adapter.specs.Walking.{HasHost, Walkable, WalksTuples}
 use Rattle.dix_adapter.proofs.Asking.{address-more, alike-out, asked-alike, field_for, fields_of}
 use Rattle.dix_adapter.proofs.Blocks.{length-blocks}
@@ -72,9 +70,10 @@ cells-long dix pool io k w h l =
 bio-run : (a : Adapter) (pool : List (List ℕ)) (ios : List Io) (bytes : ℕ) (s t : ℤ) (op k dev lba : ℕ) (dir : Dir) (n : ℕ) → block_size (request_of ios op) ≡ bytes → Walkable pool (request_of ios op) → HasHost a.dix (request_of ios op).pi → k + n ≤ (request_of ios op).count →
     shift_of a.tamper AdapterToTarget op ≡ s → shift_of a.tamper MediumToTarget op ≡ t → Run a ios dev bytes s t lba (blocks_from op k dev lba dir n)
 bio-run a pool ios bytes s t op k dev lba dir zero z w h l x y = tt
-bio-run a pool ios bytes s t op k dev lba dir (suc n) z w h l x y =
-    (record { dev = refl; lba = refl; long = z; host = cells-long a.dix pool (request_of ios op) k w h (omega arith); wire = x; medium = y },
-    bio-run a pool ios bytes s t op (suc k) dev (suc lba) dir n z w h (omega arith) x y)
+bio-run a pool ios bytes s t op k dev lba dir (suc n) z w h l x y = (
+  record { dev = refl; lba = refl; long = z; host = cells-long a.dix pool (request_of ios op) k w h (omega arith); wire = x; medium = y },
+  bio-run a pool ios bytes s t op (suc k) dev (suc lba) dir n z w h (omega arith) x y,
+)
 
 bios-run : (a : Adapter) (pool : List (List ℕ)) (ios : List Io) (bytes dev at : ℕ) (dir : Dir) (s t : ℤ) (req : List Bio) → All (IsBio a pool bytes ios dev dir) req → Chain at req →
     All (λ b. (shift_of a.tamper AdapterToTarget b.op ≡ s) × (shift_of a.tamper MediumToTarget b.op ≡ t)) req → Run a ios dev bytes s t at (blocks_in req)
@@ -101,6 +100,7 @@ label-at zero (m ∷ ls) rest l e = (ap head e, ap tail e)
     head : List Label → Option Label
     head [] = None
     head (x ∷ xs) = Some x
+
     tail : List Label → List Label
     tail [] = []
     tail (x ∷ xs) = xs
@@ -167,9 +167,10 @@ bios-shaped a pool ios bytes dev dir (b ∷ bs) h =
 shaped-wide : (a : Adapter) (ios : List Io) (cells : List ℕ) (bytes : ℕ) (bs : List Block) → Shaped a ios bytes bs → any_bad (map (sends a ios cells) bs) ≡ false → AllLong (width_for a bytes) (all_sent a ios cells bs)
 shaped-wide a ios cells bytes [] r h = tt
 shaped-wide a ios cells bytes (b ∷ bs) r h =
-    let o = or-false (is_bad (sends a ios cells b)) (any_bad (map (sends a ios cells) bs)) h in
-    (good-long (wire_size (route_of a ios b)) (sends a ios cells b) o.0 (out_size a.tamper (route_of a ios b) (frame_in ios cells b) (gathered-long cells (frame_cells ios b) ∙ r.0.1)) ∙ ap (width_for a) r.0.0,
-    shaped-wide a ios cells bytes bs r.1 o.1)
+    let o = or-false (is_bad (sends a ios cells b)) (any_bad (map (sends a ios cells) bs)) h in (
+      good-long (wire_size (route_of a ios b)) (sends a ios cells b) o.0 (out_size a.tamper (route_of a ios b) (frame_in ios cells b) (gathered-long cells (frame_cells ios b) ∙ r.0.1)) ∙ ap (width_for a) r.0.0,
+      shaped-wide a ios cells bytes bs r.1 o.1,
+    )
 
 pub sent-wide : (a : Adapter) (ios : List Io) (cells : List ℕ) (dev bytes : ℕ) (s t : ℤ) (at : ℕ) (bs : List Block) → Run a ios dev bytes s t at bs → any_bad (map (sends a ios cells) bs) ≡ false → AllLong (width_for a bytes) (all_sent a ios cells bs)
 sent-wide a ios cells dev bytes s t at bs r h = shaped-wide a ios cells bytes bs (run-shaped a ios dev bytes s t at bs r) h

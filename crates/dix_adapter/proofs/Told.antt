@@ -1,8 +1,7 @@
 -- What a carried group comes to where its rig tells.
-use Rattle.std.proofs.Common.{◌≡◌, ◌<◌, ◌≤◌, ℕ, ◌+◌, ◌*◌, true, false, not, ◌&&◌, List, [], ◌∷◌, ◌++◌, length, map, refl, ap, sym, subst, ◌∙◌, arith, Option, Some, None}
-use Rattle.std.specs.Prelude.{if◌then◌else◌, pos, ◌+ℤ◌}
+use Rattle.std.proofs.Common.{◌≡◌, ◌<◌, ℕ, ◌*◌, false, List, [], ◌∷◌, ◌++◌, length, map, ap, sym, subst, ◌∙◌, arith, Option, Some, None}
+use Rattle.std.specs.Prelude.{pos, ◌+ℤ◌}
 use Rattle.page_pool.specs.Cells.{flat}
-use Rattle.pi_tuple.specs.Finds.{is_zero}
 use Rattle.bio_core.specs.Bios.{block_size}
 use Rattle.bio_core.specs.declared.bio.Bio.{Bio}
 use Rattle.bio_core.specs.declared.fate.Fate.{Fate}
@@ -25,8 +24,8 @@ use Rattle.dix_adapter.proofs.Asking.{is-pos}
 use Rattle.dix_adapter.proofs.Blocks.{length-in}
 use Rattle.dix_adapter.proofs.CameIn.{came-by}
 use Rattle.dix_adapter.proofs.Landing.{group-width}
-use Rattle.dix_adapter.proofs.Runs.{AllLong, group-run, width_for}
-use Rattle.dix_adapter.proofs.Units.{Stands, unit-stands}
+use Rattle.dix_adapter.proofs.Runs.{AllLong, group-run}
+use Rattle.dix_adapter.proofs.Units.{unit-stands}
 use Rattle.dix_adapter.proofs.WentOut.{some-blocks, went-by}
 
 -- the blocks of the group have one size

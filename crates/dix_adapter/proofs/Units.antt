@@ -1,18 +1,17 @@
 -- The units that a rig tells are those of its devices, and their blocks have one length.
-use Rattle.std.proofs.Common.{◌≡◌, ◌<◌, ◌≤◌, ℕ, zero, suc, ◌+◌, ◌-◌, ◌*◌, Bool, true, false, eqb, ltb, List, [], ◌∷◌, length, map, take, drop, get_or, refl, ap, sym, subst, ◌∙◌, arith, inl, inr, ⊎_elim, Option, Some, None}
-use Rattle.std.specs.Prelude.{if◌then◌else◌, slice_index_or}
+use Rattle.std.proofs.Common.{◌≡◌, ◌<◌, ◌≤◌, ℕ, zero, suc, ◌+◌, ◌*◌, Bool, true, false, eqb, ltb, List, [], ◌∷◌, length, drop, get_or, refl, ap, sym, subst, ◌∙◌, arith, inl, inr, ⊎_elim, Option, Some, None}
+use Rattle.std.specs.Prelude.{if◌then◌else◌}
 use Rattle.std.proofs.lemmas.Bool.{cases_Bool, eqb-true}
 use Rattle.std.proofs.lemmas.List.{length-drop, length-take-le, take_all, length-map}
 use Rattle.target_answer.specs.Frames.{frames_of, stored_size}
 use Rattle.target_answer.specs.Headers.{all_bytes, bytes_of, image_size, is_header, specs_in}
-use Rattle.target_answer.specs.Image.{unit_from, units_from, units_in}
+use Rattle.target_answer.specs.Image.{units_from, units_in}
 use Rattle.target_answer.specs.Target.{Stored, shape_of}
 use Rattle.target_answer.specs.declared.units.UnitSpec.{UnitSpec}
 use Rattle.target_answer.specs.declared.units.Version.{Version}
 use Rattle.rig_api.specs.Head.{Head, fault_of_header, fault_under, head_fault, head_of, specs_under, units_of, version_in}
-use Rattle.rig_api.specs.declared.rig.RigFault.{RigFault}
 use Rattle.rig_api.specs.declared.rig.RigFault.TheVariants.{BadLength}
-use Rattle.rig_api.specs.Telling.{IsStanding, Standing, StandsOn, no_spec, no_unit, spec_at, specs_of, unit_at, units_told}
+use Rattle.rig_api.specs.Telling.{IsStanding, Standing, StandsOn, no_spec, spec_at, specs_of, unit_at, units_told}
 use Rattle.dix_adapter.specs.Ways.{shapes_of}
 use Rattle.dix_adapter.proofs.Runs.{AllLong}
 

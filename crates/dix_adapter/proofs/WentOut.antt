@@ -1,10 +1,8 @@
 -- A write before a unit that is told.
-use Rattle.std.proofs.Common.{◌≡◌, ◌<◌, ◌≤◌, ℕ, zero, suc, ◌+◌, ◌-◌, ◌*◌, ◌^◌, Bool, true, false, not, ◌&&◌, eqb, ltb, List, [], ◌∷◌, ◌++◌, length, map, take, drop, get_or, replicate, length-append, refl, ap, sym, subst, ◌∙◌, arith, inl, inr, ⊎_elim, Option, Some, None}
-use Rattle.std.specs.Prelude.{min, if◌then◌else◌, ℤ, pos, ◌+ℤ◌, nat_abs, Result, Ok, Err, ◌⊎◌}
-use Rattle.std.specs.List.{All}
+use Rattle.std.proofs.Common.{◌≡◌, ◌<◌, ◌≤◌, ℕ, suc, ◌+◌, ◌-◌, ◌*◌, true, false, not, ◌&&◌, eqb, ltb, List, [], ◌∷◌, ◌++◌, length, map, take, replicate, length-append, refl, ap, sym, subst, ◌∙◌, arith, ⊎_elim, Option, Some, None}
+use Rattle.std.specs.Prelude.{min, ℤ, pos, ◌+ℤ◌, nat_abs, Result, Ok}
 use Rattle.std.proofs.lemmas.Bool.{cases_Bool}
-use Rattle.std.proofs.lemmas.List.{append-nil, length-map}
-use Rattle.dix_base.specs.Told.{Calm}
+use Rattle.std.proofs.lemmas.List.{append-nil}
 use Rattle.page_pool.specs.Cells.{flat}
 use Rattle.pi_tuple.specs.Finds.{is_zero}
 use Rattle.pi_tuple.specs.declared.checks.Check.{Check}
@@ -18,38 +16,31 @@ use Rattle.cdb_codec.proofs.Inverse.{decoded_form}
 use Rattle.bio_core.specs.declared.bio.Bio.{Bio}
 use Rattle.bio_core.specs.declared.fate.Fate.{Fate}
 use Rattle.bio_core.specs.declared.fate.Fate.TheVariants.{Good}
-use Rattle.bio_core.specs.declared.request.Dir.TheVariants.{Write}
 use Rattle.bio_core.specs.declared.request.Io.{Io}
 use Rattle.bio_core.specs.Bios.{Block}
-use Rattle.fault_schedule.specs.Altered.{shift_of}
 use Rattle.fault_schedule.specs.declared.Label.{Label}
-use Rattle.fault_schedule.specs.declared.fault.Crossing.TheVariants.{AdapterToTarget}
 use Rattle.fault_schedule.specs.declared.fault.FaultLine.{FaultLine}
-use Rattle.target_answer.specs.Frames.{frames_of, joined, placed, sent_size, stored_size}
+use Rattle.target_answer.specs.Frames.{frames_of, joined, placed, sent_size}
 use Rattle.target_answer.specs.Passing.{to_medium}
 use Rattle.target_answer.specs.Requests.{is_foreign, request_of}
 use Rattle.target_answer.specs.declared.request.Request.TheVariants.{Write as Writes}
-use Rattle.target_answer.specs.Target.{Answer, Ended, Stop, Stored, answer_unless, bytes_of, carried_out, each, has_blocks, passage as passage_of, passed, refusal, shape_of, storing, target_answer, wire_address, write_end, written_by}
-use Rattle.target_answer.specs.declared.units.UnitSpec.{UnitSpec}
-use Rattle.rig_api.specs.Log.{Entry, entry_of, moved_by, moved_under}
-use Rattle.rig_api.specs.Telling.{HasCause, IsAnswer, Standing, answer_of, frame_size, spec_at, unit_at, with_blocks}
+use Rattle.target_answer.specs.Target.{Stop, Stored, answer_unless, bytes_of, carried_out, each, has_blocks, passage as passage_of, passed, refusal, shape_of, storing, target_answer, wire_address, write_end, written_by}
+use Rattle.rig_api.specs.Log.{entry_of, moved_by, moved_under}
+use Rattle.rig_api.specs.Telling.{IsAnswer, answer_of, unit_at, with_blocks}
 use Rattle.rig_api.specs.declared.rig.Outcome.{Outcome}
-use Rattle.block_path.specs.Acts.{State, act}
-use Rattle.block_path.specs.Blocks.{stored_cell}
+use Rattle.block_path.specs.Acts.{act}
 use Rattle.block_path.specs.Routes.{moved, wire_lba}
 use Rattle.block_path.specs.Serial.{plain}
 use Rattle.dix_adapter.specs.declared.adapter.Adapter.{Adapter}
-use Rattle.dix_adapter.specs.Carried.{Exchanged, Sent, Shown, any_bad, command_for, command_of, out_of, sends, way_of}
+use Rattle.dix_adapter.specs.Carried.{Shown, any_bad, command_for, out_of, sends}
 use Rattle.dix_adapter.specs.Groups.{IsBio, IsGroup, IsProtect, blocks_in, first_of, label_of, route_of, size}
 use Rattle.dix_adapter.specs.Outcomes.{done_of, rest_of}
-use Rattle.dix_adapter.specs.Ways.{IsBehind, WentOut, acts_out, blocks_told, cell_in, cells_out, fates_out, frames_out, left_at, shapes_of, site_of, stopped_out, ways_out}
-use Rattle.dix_adapter.proofs.Asking.{address-more, asked-for, count-is, field_for, fields_of, is-pos, lba-is, no-tuples-asked, not-refused-out, own-form, protect-is}
-use Rattle.dix_adapter.proofs.Blocks.{length-in}
+use Rattle.dix_adapter.specs.Ways.{WentOut, acts_out, blocks_told, cell_in, cells_out, fates_out, frames_out, left_at, shapes_of, stopped_out, ways_out}
+use Rattle.dix_adapter.proofs.Asking.{address-more, asked-for, count-is, field_for, fields_of, lba-is, no-tuples-asked, not-refused-out, own-form, protect-is}
 use Rattle.dix_adapter.proofs.Commands.{command-blocks}
-use Rattle.dix_adapter.proofs.GoingOut.{EndsOut, InTurn, all_sent, ends-out, judged-long, judged_out, passed-few, sent-long, stored-out, take-long, told, ways-are, ways_by}
+use Rattle.dix_adapter.proofs.GoingOut.{InTurn, all_sent, ends-out, judged-long, judged_out, passed-few, sent-long, stored-out, take-long, told, ways-are}
 use Rattle.dix_adapter.proofs.Puts.{before, cell-is, placed-puts, puts, puts-long, told-puts, told-shapes}
-use Rattle.dix_adapter.proofs.Runs.{AllLong, Next, Run, asked-out, cut-joined, front-joined, group-run, joined-long, sent-wide, width-sent, width_for}
-use Rattle.dix_adapter.proofs.Units.{Stands}
+use Rattle.dix_adapter.proofs.Runs.{AllLong, Run, asked-out, cut-joined, front-joined, joined-long, sent-wide, width-sent, width_for}
 
 -- the shift of the command is that of its blocks
 pub first-shift : (a : Adapter) (ios : List Io) (device bytes : ℕ) (s t : ℤ) (address : ℕ) (bs : List Block) (c : Rw) → 1 ≤ length bs → Run a ios device bytes s t address bs → wire_address a.tamper (map label_of bs) c ≡ pos c.lba +ℤ s
@@ -123,9 +114,10 @@ turn-out a ios us device bytes address at s t (b ∷ bs) k l p f r =
     let w : wire_lba a.tamper (route_of a ios b) ≡ at + k = ap (λ j. moved b.lba j) r.0.wire ∙ ap (λ j. moved j s) r.0.lba ∙ address-more address k at s p in
     let m : before us device + (at + k - (unit_at us device).first) ≡ before us device + (at - (unit_at us device).first) + k = omega arith in
     let n : suc (before us device + (at - (unit_at us device).first) + k) ≡ before us device + (at - (unit_at us device).first) + suc k = omega arith in
-    let q : suc (address + k) ≡ address + suc k = omega arith in
-    (ap (λ d. cell_in (shapes_of us) d (wire_lba a.tamper (route_of a ios b))) r.0.dev ∙ ap (cell_in (shapes_of us) device) w ∙ cell-is us device (at + k) l ∙ m,
-    subst (λ c. InTurn c (cells_out a ios (shapes_of us) bs)) (sym n) (turn-out a ios us device bytes address at s t bs (suc k) l p f (subst (λ c. Run a ios device bytes s t c bs) q r.1)))
+    let q : suc (address + k) ≡ address + suc k = omega arith in (
+      ap (λ d. cell_in (shapes_of us) d (wire_lba a.tamper (route_of a ios b))) r.0.dev ∙ ap (cell_in (shapes_of us) device) w ∙ cell-is us device (at + k) l ∙ m,
+      subst (λ c. InTurn c (cells_out a ios (shapes_of us) bs)) (sym n) (turn-out a ios us device bytes address at s t bs (suc k) l p f (subst (λ c. Run a ios device bytes s t c bs) q r.1)),
+    )
 
 end-few : (lba : ℕ) (js : List (Result (List ℕ) Check)) (stop : Option Stop) → length (write_end lba js stop).frames ≤ length js
 end-few lba js None = passed-few js

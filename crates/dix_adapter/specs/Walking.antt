@@ -28,6 +28,7 @@ tuples_ahead (Some pi) k = Some (past (8 * k) pi.tuples)
 pub record IsBefore (io : Io) (k : ℕ) (w : Walks) : Type 0 where
   pub body : w.body ≡ past (k * block_size io) io.body
   pub tuples : w.tuples ≡ tuples_ahead io.pi k
+  pub size : w.size ≡ block_size io
 
 -- the bytes of the tuple of block k, or these where there is none
 abbrev pub tuple_or : (pool : List (List ℕ)) → Option Payload → ℕ → List ℕ → List ℕ

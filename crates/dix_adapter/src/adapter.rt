@@ -59,12 +59,13 @@ impl Adapter {
         }
     }
 
-    /// Block `i` of a bio on its way.
-    pub(crate) fn route(&self, io: &Io, bio: &Bio, i: u32) -> Route
+    /// Block `i` of a bio on its way, with so many bytes of data.
+    pub(crate) fn route(&self, io: &Io, bio: &Bio, i: u32, size: u32) -> Route
         requires some { 0 < io.now.count }
         requires ends { EndsInTime bio.now }
         requires within { i < bio.now.count }
         requires fits { io.now.first + (bio.now.k + i) < 2 ^ 64 }
+        requires size { size ≡ block_size io.now }
         ensures { result ≡ route_by self.now io.now bio.now i }
     {
         Route {
@@ -76,7 +77,7 @@ impl Adapter {
             dev: bio.dev,
             lba: bio.lba + i as u64,
             ty: self.ty,
-            size: io.block_size(),
+            size,
             mode: self.mode(),
         }
     }

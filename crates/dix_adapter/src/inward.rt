@@ -212,7 +212,7 @@ impl Adapter {
         ensures behind { drop (at + wire_size (route_by self.now io.now bio.now i)) frames.new ≡ drop (at + wire_size (route_by self.now io.now bio.now i)) frames.old }
         ensures long { length frames.new ≡ length frames.old }
     {
-        let size = io.block_size() as usize;
+        let size = walks.block_size(io) as usize;
         let (_, rest) = frames.split_at_mut(at);
         let (frame, _) = rest.split_at_mut(size + TUPLE);
         self.receive(pool, io, bio, i, walks, frame)
@@ -247,7 +247,9 @@ impl Adapter {
         ensures long { length frame.new ≡ length frame.old }
     {
         let behind = tuple_behind(frame);
-        let found = self.route(io, bio, i).from_wire(&self.tamper, frame);
+        let found = self
+            .route(io, bio, i, walks.block_size(io))
+            .from_wire(&self.tamper, frame);
         deliver(found, pool, io, bio.k + i, walks, frame);
         put_behind(frame, &behind);
         fate_in(found)

@@ -159,7 +159,7 @@ impl Adapter {
         ensures long { length frames.new ≡ length frames.old }
         ensures before { IsBefore io.now (bio.now.k + (i + 1)) walks.new }
     {
-        let size = io.block_size() as usize;
+        let size = walks.block_size(io) as usize;
         let (_, rest) = frames.split_at_mut(at);
         let (frame, _) = rest.split_at_mut(size + TUPLE);
         let found = self.gather_block(pool, io, bio, i, walks, frame);
@@ -189,7 +189,8 @@ impl Adapter {
         ensures before { IsBefore io.now (bio.now.k + (i + 1)) walks.new }
     {
         walks.read(pool, io, bio.k + i, frame);
-        self.route(io, bio, i).to_wire(&self.tamper, frame)
+        self.route(io, bio, i, walks.block_size(io))
+            .to_wire(&self.tamper, frame)
     }
 
     /// The bytes of a frame on the wire.

@@ -16,6 +16,8 @@ use page_pool::{PagePool, Walk};
 pub(crate) struct Walks<'a> {
     body: Walk<'a>,
     tuples: Option<Walk<'a>>,
+    // The bytes of data of each block, which take a walk along the whole list to tell.
+    size: u32,
 }
 
 impl<'a> Walks<'a> {
@@ -26,10 +28,20 @@ impl<'a> Walks<'a> {
         ensures { IsBefore io.now k result }
     {
         let _bytes = io.body.as_slice();
+        let size = io.block_size();
         Walks {
-            body: io.body.walk(k * io.block_size()),
+            body: io.body.walk(k * size),
             tuples: tuples_from(&io.pi, k),
+            size,
         }
+    }
+
+    /// The bytes of data of each block of the request.
+    pub(crate) fn block_size(&self, _io: &Io) -> u32
+        requires { self.now.size ≡ block_size _io.now }
+        ensures { result ≡ block_size _io.now }
+    {
+        self.size
     }
 
     /// Reads the frame of the next block: its data, and its tuple behind them where it has one.
@@ -43,7 +55,7 @@ impl<'a> Walks<'a> {
         ensures before { IsBefore io.now (k + 1) self.new }
     {
         let _pages = pool.pages();
-        let size = io.block_size() as usize;
+        let size = self.block_size(io) as usize;
         let (data, tuple) = frame.split_at_mut(size);
         pool.read_ahead(&mut self.body, data);
         read_tuple(pool, &io.pi, k, &mut self.tuples, tuple);
@@ -61,7 +73,7 @@ impl<'a> Walks<'a> {
         ensures whole { AreWhole pool.new }
         ensures before { IsBefore io.now (k + 1) self.new }
     {
-        let size = io.block_size() as usize;
+        let size = self.block_size(io) as usize;
         let (data, tuple) = frame.split_at(size);
         let _pages = pool.pages();
         pool.write_ahead(&mut self.body, data);

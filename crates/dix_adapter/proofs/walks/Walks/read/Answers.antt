@@ -32,4 +32,4 @@ pub returns-clause-before : goal.returns-clause-before
 returns-clause-before c =
     let b = body c.args.pool.now c.args.io.now c.args.k c.args.self.now.body c.requires.walks c.requires.within c.requires.before.body in
     let l : length c.split_at_mut-data.result.0.now ≡ block_size c.args.io.now = c.split_at_mut-data.ensures.front_len ∙ c.block_size-size.ensures in
-    record { body = c.read_ahead.ensures.ahead ∙ ap (λ n. past n c.args.self.now.body) l ∙ b.next; tuples = c.read_tuple.ensures.before }
+    record { body = c.read_ahead.ensures.ahead ∙ ap (λ n. past n c.args.self.now.body) l ∙ b.next; tuples = c.read_tuple.ensures.before; size = c.requires.before.size }

@@ -39,4 +39,4 @@ returns-clause-cells c =
     ∙ ap (λ z. scatter (data_cells c.args.io.now c.args.k ++ tuple_cells c.args.io.now.pi c.args.k) z (flat c.args.pool.now)) (sym v)
 
 pub returns-clause-before : goal.returns-clause-before
-returns-clause-before c = let l : length c.split_at.result.0.now ≡ block_size c.args.io.now = c.split_at.ensures.front_len ∙ c.block_size-size.ensures in record { body = c.write_ahead.ensures.ahead ∙ ap (λ n. past n c.args.self.now.body) l ∙ (body c.args.pool.now c.args.io.now c.args.k c.args.self.now.body c.requires.walks c.requires.within c.requires.before.body).next; tuples = c.write_tuple.ensures.before }
+returns-clause-before c = let l : length c.split_at.result.0.now ≡ block_size c.args.io.now = c.split_at.ensures.front_len ∙ c.block_size-size.ensures in record { body = c.write_ahead.ensures.ahead ∙ ap (λ n. past n c.args.self.now.body) l ∙ (body c.args.pool.now c.args.io.now c.args.k c.args.self.now.body c.requires.walks c.requires.within c.requires.before.body).next; tuples = c.write_tuple.ensures.before; size = c.requires.before.size }
