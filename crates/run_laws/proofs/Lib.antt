@@ -4,7 +4,7 @@ mod Layers
 mod Along
 pub mod Parts
 pub mod Reading
-mod ShownRows
+pub mod ShownRows
 mod Passing
 mod QuietWays
 mod Falling

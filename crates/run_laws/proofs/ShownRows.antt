@@ -132,13 +132,13 @@ below_end off (suc n) end rest l h = All-cons (λ i. i < end) (4096 * 0 + off) (
 turned : (off n : ℕ) → cells_of (seg off n) ≡ turn off n
 turned off n = ap (map cell) (append-nil (run 0 off n))
 
-one_list : (off n : ℕ) → off + n ≤ 1100 → AreCells 1100 (cells_of (seg off n))
+pub one_list : (off n : ℕ) → off + n ≤ 1100 → AreCells 1100 (cells_of (seg off n))
 unfolding IsDistinct
 one_list off n l =
     subst (AreCells 1100) (append-nil (turn off n) ∙ sym (turned off n))
     (record { once = apart off n [] (λ i k. tt) tt; below = below_end off n 1100 [] l (All-nil (λ i. i < 1100)) })
 
-two_lists : (off n from k : ℕ) → off + n ≤ from → from + k ≤ 1100 → AreCells 1100 (cells_of (seg off n) ++ cells_of (seg from k))
+pub two_lists : (off n from k : ℕ) → off + n ≤ from → from + k ≤ 1100 → AreCells 1100 (cells_of (seg off n) ++ cells_of (seg from k))
 two_lists off n from k l h =
     let second = one_list from k h in
     let e : turn off n ++ cells_of (seg from k) ≡ cells_of (seg off n) ++ cells_of (seg from k) = ap (λ xs. xs ++ cells_of (seg from k)) (sym (turned off n)) in

@@ -6,3 +6,6 @@ mod BlocksApart
 mod Behind
 mod Does
 mod Ordered
+mod AtTarget
+mod MoveRows
+mod GateRows

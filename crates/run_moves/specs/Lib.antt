@@ -1,3 +1,4 @@
 pub mod ScriptMoves
 pub mod BoundRun
 pub mod OpsApart
+pub mod Suited
