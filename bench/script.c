@@ -1,6 +1,7 @@
 /* Measures how fast texts are read, and how long scripts from a number take, beside a guard of the same texts. Each
-   text is read whole and in half, in turn with the others. A figure is what a tenth of the rounds surpass; a ratio is
-   the median of the ratios in each round. */
+   text is read whole and in half, in turn with the others. Times are those of the processor, not of the clock, so that
+   waiting for one counts for nothing. A figure is what a tenth of the rounds surpass; a ratio is the median of the
+   ratios in each round. */
 #include <stdarg.h>
 #include <stdint.h>
 #include <stdio.h>
@@ -88,10 +89,17 @@ static struct text schedule(int entries) {
 
 static volatile uint64_t sink;
 
+/* The processor time of this thread. */
+static double spent(void) {
+    struct timespec t;
+    clock_gettime(CLOCK_THREAD_CPUTIME_ID, &t);
+    return t.tv_sec + t.tv_nsec * 1e-9;
+}
+
 static double read_once(struct text t) {
-    double start = now();
+    double start = spent();
     uint32_t line = script_bench_read(t.bytes, t.len);
-    double end = now();
+    double end = spent();
     if (line) {
         fprintf(stderr, "a fault in line %u, or no memory\n", line);
         exit(1);
@@ -108,21 +116,21 @@ static double read_text(struct text t, int times) {
 }
 
 static double made(uint32_t n, int times, size_t (*make)(uint32_t, uint32_t)) {
-    double start = now();
+    double start = spent();
     for (int i = 0; i < times; i++) {
         size_t got = make(n, (uint32_t)i);
         if (!got)
             exit(1);
         sink += got;
     }
-    return (now() - start) / times;
+    return (spent() - start) / times;
 }
 
 static double guard(struct text t) {
-    double start = now();
+    double start = spent();
     for (int i = 0; i < 8; i++)
         sink += guard_bench_crc16(t.bytes, t.len);
-    return (now() - start) / 8;
+    return (spent() - start) / 8;
 }
 
 static double quantile(double *xs, int rounds, int place) {
