@@ -17,3 +17,4 @@ pub mod Held
 pub mod Kept
 pub mod Keeping
 pub mod BigKeeps
+pub mod Examples

@@ -3,3 +3,4 @@ pub mod Texts
 pub mod Lines
 pub mod Keeping
 pub mod RoundTrip
+pub mod Examples

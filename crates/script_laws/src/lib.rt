@@ -7,6 +7,7 @@ ghost use Rattle.script_lines.specs.declared.kind.ScriptKind.{ScriptKind};
 ghost use Rattle.script_text.specs.Generator.{big};
 ghost use Rattle.script_text.specs.Language.{script_in};
 ghost use Rattle.script_text.specs.Printed.{script_printed};
+ghost use Rattle.script_laws.specs.Examples.{BoundExamples, ReadExamples};
 ghost use Rattle.script_laws.specs.Keeping.{Keeps};
 ghost use Rattle.script_laws.specs.RoundTrip.{IsSame, IsWithinLimits, ReadsAs};
 
@@ -59,3 +60,10 @@ pub fn read_back(alloc: Global, script: &Script) -> Result<Script, ScriptFault>
         }),
     }
 }
+
+/// A law: what the definition of the language says of some small texts, and the definition of
+/// binding of their scripts over two devices.
+pub fn small_texts()
+    ensures read { ReadExamples }
+    ensures bound { BoundExamples }
+{}
