@@ -17,3 +17,4 @@ pub mod GoingIn
 pub mod CameIn
 pub mod Told
 pub mod OnRecord
+pub mod Spent

@@ -142,7 +142,7 @@ settled-came a ios (b ∷ bs) (f ∷ fs) n o h l m = by (arrives a ios b f)
     by (Ok x) = refl
     by (Err c) = refl
 
-frames-count : (w n : ℕ) (X : List ℕ) → length (frames_of w n X) ≡ n
+pub frames-count : (w n : ℕ) (X : List ℕ) → length (frames_of w n X) ≡ n
 frames-count w zero X = refl
 frames-count w (suc n) X = ap suc (frames-count w n (drop w X))
 

@@ -1,5 +1,5 @@
 -- How much room there is for one command.
-use Rattle.std.specs.Prelude.{ℕ, ◌+◌, ◌*◌, ◌≤◌, length}
+use Rattle.std.specs.Prelude.{◌≡◌, ℕ, ◌+◌, ◌*◌, ◌≤◌, length}
 use Rattle.std.specs.Vec.{vec_capacity}
 use Rattle.dix_adapter.specs.declared.scratch.Scratch.{Scratch}
 
@@ -8,3 +8,8 @@ pub record HoldsBlocks (count : ℕ) (s : Scratch) : Type 0 where
   pub frames : count * 4104 + 8 ≤ length s.frames.items
   pub few : count ≤ 1048576
   pub labels : count ≤ vec_capacity s.labels
+
+-- the room is as it was, for however many blocks it is
+pub record KeepsRoom (old new : Scratch) : Type 0 where
+  pub frames : length new.frames.items ≡ length old.frames.items
+  pub labels : vec_capacity new.labels ≡ vec_capacity old.labels

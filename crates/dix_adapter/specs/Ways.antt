@@ -17,7 +17,7 @@ use Rattle.cdb_codec.specs.Forms.{Fits, form}
 use Rattle.target_answer.specs.Frames.{frames_of, joined}
 use Rattle.target_answer.specs.Target.{Stop, Stored, has_blocks, shape_of}
 use Rattle.target_answer.specs.declared.units.UnitSpec.{UnitSpec}
-use Rattle.rig_api.specs.Log.{Entry}
+use Rattle.rig_api.specs.Log.{Entry, HasRoom, Room}
 use Rattle.rig_api.specs.Telling.{HasCause, unit_at}
 use Rattle.block_path.specs.Acts.{Act, State, act}
 use Rattle.block_path.specs.Blocks.{Answer, Site, fetched_cell, stored_cell}
@@ -42,6 +42,14 @@ is_settled Untouched = false
 abbrev pub any_settled : List Fate → Bool
 any_settled [] = false
 any_settled (f ∷ fs) = is_settled f || any_settled fs
+
+abbrev pub settled_count : List Fate → ℕ
+settled_count [] = 0
+settled_count (f ∷ fs) = (if is_settled f then 1 else 0) + settled_count fs
+
+-- A command took one record, and at most a frame and a label for each block that is settled.
+abbrev pub Spends : (size : ℕ) → List Fate → (old new : Room) → Type 0
+Spends size fates old new = (exchanges blocks : ℕ) → HasRoom size (exchanges + 1) (blocks + settled_count fates) old → HasRoom size exchanges blocks new
 
 -- One record was appended: of the group's command to its device, with the labels of its blocks in their order.
 pub record IsRecord (a : Adapter) (req : List Bio) (old new : Shown) (e : Entry) : Type 0 where

@@ -8,10 +8,10 @@ ghost use Rattle.rig_api.specs.Log.{HasRoom};
 ghost use Rattle.bio_core.specs.Bios.{block_size};
 ghost use Rattle.rig_api.specs.Telling.{frame_size, greatest_size, spec_at, unit_at};
 ghost use Rattle.target_answer.specs.Target.{Stored};
-ghost use Rattle.dix_adapter.specs.Ways.{CameIn, IsBehind, RecordedIn, RecordedOut, UpTo, WentOut, any_settled};
+ghost use Rattle.dix_adapter.specs.Ways.{CameIn, IsBehind, RecordedIn, RecordedOut, Spends, UpTo, WentOut, any_settled};
 ghost use Rattle.dix_adapter.specs.Carried.{Fetched, Sent, Unsent, any_bad, sends};
 ghost use Rattle.dix_adapter.specs.Groups.{EndsInTime, IsGroup, IsProtect, blocks_in, first_of, mode_of, request_of, route_by, size};
-ghost use Rattle.dix_adapter.specs.Room.{HoldsBlocks};
+ghost use Rattle.dix_adapter.specs.Room.{HoldsBlocks, KeepsRoom};
 
 use crate::Mode;
 use crate::scratch::Scratch;
@@ -122,6 +122,7 @@ impl Adapter {
             (record { told = is_some (R.image rig.old); units = R.units rig.old; standing = R.standing rig.old; log = R.log rig.old; room = R.room rig.old; armed = R.armed rig.old; faults = R.faults rig.old })
             (record { told = is_some (R.image rig.new); units = R.units rig.new; standing = R.standing rig.new; log = R.log rig.new; room = R.room rig.new; armed = R.armed rig.new; faults = R.faults rig.new }) }
         ensures settles { any_settled fates.new.items ≡ true }
+        ensures count { length fates.new.items ≡ size req.now }
         ensures went_out { (us : List Stored) → R.units rig.old ≡ Some us → IsBehind self.now ios.now req.now us (R.armed rig.old)
             → (first_of req.now).dir ≡ Write → any_bad (map (sends self.now ios.now (flat pool.old)) (blocks_in req.now)) ≡ false
             → UpTo (λ stop. WentOut self.now ios.now req.now (flat pool.old) us stop fates.new.items
@@ -138,6 +139,8 @@ impl Adapter {
         ensures standing { R.standing rig.new ≡ R.standing rig.old }
         ensures armed { R.armed rig.new ≡ R.armed rig.old }
         ensures scratch { HoldsBlocks (size req.now) scratch.new }
+        ensures keeps_room { KeepsRoom scratch.old scratch.new }
+        ensures spent { Spends (greatest_size (R.standing rig.old)) fates.new.items (R.room rig.old) (R.room rig.new) }
         ensures capacity { vec_capacity fates.new ≡ vec_capacity fates.old }
     {
         fates.clear();

@@ -12,7 +12,7 @@ ghost use Rattle.cdb_codec.specs.Forms.{Fits, form};
 ghost use Rattle.cdb_codec.specs.declared.choice.Dir2.TheVariants.{In};
 ghost use Rattle.rig_api.specs.Log.{HasRoom};
 ghost use Rattle.rig_api.specs.Telling.{greatest_size};
-ghost use Rattle.dix_adapter.specs.Room.{HoldsBlocks};
+ghost use Rattle.dix_adapter.specs.Room.{HoldsBlocks, KeepsRoom};
 ghost use Rattle.block_path.specs.Routes.{wire_size};
 ghost use Rattle.dix_adapter.specs.Carried.{Exchanged, Fetched, carried, command_for, comes_by, comes_first, fates_in, frame_len, land, landed, lands_first};
 ghost use Rattle.dix_adapter.specs.Groups.{EndsInTime, IsGroup, IsProtect, blocks_in, data_cells, first_of, route_by, size, tuple_cells};
@@ -53,6 +53,7 @@ impl Adapter {
             (record { told = is_some (R.image rig.old); units = R.units rig.old; standing = R.standing rig.old; log = R.log rig.old; room = R.room rig.old; armed = R.armed rig.old; faults = R.faults rig.old })
             (record { told = is_some (R.image rig.new); units = R.units rig.new; standing = R.standing rig.new; log = R.log rig.new; room = R.room rig.new; armed = R.armed rig.new; faults = R.faults rig.new }) }
         ensures scratch { HoldsBlocks (size req.now) scratch.new }
+        ensures keeps_room { KeepsRoom scratch.old scratch.new }
         ensures capacity { vec_capacity fates.new ≡ vec_capacity fates.old }
     {
         let count = fill_labels(req, &mut scratch.labels);

@@ -17,7 +17,7 @@ ghost use Rattle.rig_api.specs.Telling.{greatest_size};
 ghost use Rattle.dix_adapter.specs.Carried.{Exchanged, Gathers, Sent, Unsent, any_bad, any_fails, fails, command_for, frame_sent, sends, sends_by, sends_first, unsent};
 ghost use Rattle.dix_adapter.specs.Walking.{HasHost, IsBefore, Walkable};
 ghost use Rattle.dix_adapter.specs.Outcomes.{done_of as spec_done, rest_of};
-ghost use Rattle.dix_adapter.specs.Room.{HoldsBlocks};
+ghost use Rattle.dix_adapter.specs.Room.{HoldsBlocks, KeepsRoom};
 ghost use Rattle.bio_core.specs.declared.request.Dir.TheVariants.{Write};
 ghost use Rattle.dix_adapter.specs.Groups.{EndsInTime, IsGroup, IsProtect, blocks_in, first_of, label_of, route_by, size};
 
@@ -58,6 +58,7 @@ impl Adapter {
             (record { told = is_some (R.image rig.old); units = R.units rig.old; standing = R.standing rig.old; log = R.log rig.old; room = R.room rig.old; armed = R.armed rig.old; faults = R.faults rig.old })
             (record { told = is_some (R.image rig.new); units = R.units rig.new; standing = R.standing rig.new; log = R.log rig.new; room = R.room rig.new; armed = R.armed rig.new; faults = R.faults rig.new }) }
         ensures scratch { HoldsBlocks (size req.now) scratch.new }
+        ensures keeps_room { KeepsRoom scratch.old scratch.new }
         ensures capacity { vec_capacity fates.new ≡ vec_capacity fates.old }
     {
         let end = self.gather(pool, ios, req, &mut scratch.frames, fates);

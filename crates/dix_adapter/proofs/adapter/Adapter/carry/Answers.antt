@@ -5,7 +5,9 @@ use Rattle.page_pool.specs.Cells.{flat}
 use Rattle.dix_adapter.specs.Carried.{any_bad, sends}
 use Rattle.dix_adapter.specs.Groups.{blocks_in}
 use Rattle.dix_adapter.proofs.OnRecord.{recorded-in, recorded-out, settles-in, settles-out, settles-unsent}
+use Rattle.dix_adapter.proofs.Spent.{each-in, each-out, each-unsent, spends-in, spends-none, spends-out}
 use Rattle.dix_adapter.proofs.Told.{told-in, told-out}
+use Rattle.rig_api.specs.Telling.{greatest_size}
 use Rattle.dix_adapter.proofs.adapter.Adapter.carry.Goals as goal
 
 pub returns-in-Write-clause-went_out : goal.returns-in-Write-clause-went_out
@@ -54,3 +56,39 @@ returns-in-Read-clause-settles g c =
     (record { told = is_some (g.R.Rig.image c.args.rig.now); units = g.R.Rig.units c.args.rig.now; standing = g.R.Rig.standing c.args.rig.now; log = g.R.Rig.log c.args.rig.now; room = g.R.Rig.room c.args.rig.now; armed = g.R.Rig.armed c.args.rig.now; faults = g.R.Rig.faults c.args.rig.now })
     (record { told = is_some (g.R.Rig.image c.carry_in.new.rig); units = g.R.Rig.units c.carry_in.new.rig; standing = g.R.Rig.standing c.carry_in.new.rig; log = g.R.Rig.log c.carry_in.new.rig; room = g.R.Rig.room c.carry_in.new.rig; armed = g.R.Rig.armed c.carry_in.new.rig; faults = g.R.Rig.faults c.carry_in.new.rig })
     c.requires.group.1 c.carry_in.ensures.fetched
+
+pub returns-in-Write-clause-count : goal.returns-in-Write-clause-count
+returns-in-Write-clause-count g c =
+    ⊎_elim
+    (λ (b : any_bad (map (sends c.args.self.now c.args.ios.now (flat c.args.pool.now)) (blocks_in c.args.req.now)) ≡ true). each-unsent c.args.self.now c.args.ios.now c.args.req.now (flat c.args.pool.now) c.carry_out.new.fates.items (c.carry_out.ensures.unsent b).0.fates_are)
+    (λ (b : any_bad (map (sends c.args.self.now c.args.ios.now (flat c.args.pool.now)) (blocks_in c.args.req.now)) ≡ false).
+    each-out c.args.self.now c.args.pool.now c.args.pool.now c.args.ios.now c.args.req.now c.carry_out.new.fates.items
+    (record { told = is_some (g.R.Rig.image c.args.rig.now); units = g.R.Rig.units c.args.rig.now; standing = g.R.Rig.standing c.args.rig.now; log = g.R.Rig.log c.args.rig.now; room = g.R.Rig.room c.args.rig.now; armed = g.R.Rig.armed c.args.rig.now; faults = g.R.Rig.faults c.args.rig.now })
+    (record { told = is_some (g.R.Rig.image c.carry_out.new.rig); units = g.R.Rig.units c.carry_out.new.rig; standing = g.R.Rig.standing c.carry_out.new.rig; log = g.R.Rig.log c.carry_out.new.rig; room = g.R.Rig.room c.carry_out.new.rig; armed = g.R.Rig.armed c.carry_out.new.rig; faults = g.R.Rig.faults c.carry_out.new.rig })
+    (c.carry_out.ensures.sent b))
+    (cases_Bool (any_bad (map (sends c.args.self.now c.args.ios.now (flat c.args.pool.now)) (blocks_in c.args.req.now))))
+
+pub returns-in-Read-clause-count : goal.returns-in-Read-clause-count
+returns-in-Read-clause-count g c =
+    each-in c.args.self.now c.args.pool.now c.carry_in.new.pool c.args.ios.now c.args.req.now c.carry_in.new.fates.items
+    (record { told = is_some (g.R.Rig.image c.args.rig.now); units = g.R.Rig.units c.args.rig.now; standing = g.R.Rig.standing c.args.rig.now; log = g.R.Rig.log c.args.rig.now; room = g.R.Rig.room c.args.rig.now; armed = g.R.Rig.armed c.args.rig.now; faults = g.R.Rig.faults c.args.rig.now })
+    (record { told = is_some (g.R.Rig.image c.carry_in.new.rig); units = g.R.Rig.units c.carry_in.new.rig; standing = g.R.Rig.standing c.carry_in.new.rig; log = g.R.Rig.log c.carry_in.new.rig; room = g.R.Rig.room c.carry_in.new.rig; armed = g.R.Rig.armed c.carry_in.new.rig; faults = g.R.Rig.faults c.carry_in.new.rig })
+    c.carry_in.ensures.fetched
+
+pub returns-in-Write-clause-spent : goal.returns-in-Write-clause-spent
+returns-in-Write-clause-spent g c =
+    ⊎_elim
+    (λ (b : any_bad (map (sends c.args.self.now c.args.ios.now (flat c.args.pool.now)) (blocks_in c.args.req.now)) ≡ true). rw ((c.carry_out.ensures.unsent b).1) (spends-none (greatest_size (g.R.Rig.standing c.args.rig.now)) c.carry_out.new.fates.items (g.R.Rig.room c.args.rig.now)))
+    (λ (b : any_bad (map (sends c.args.self.now c.args.ios.now (flat c.args.pool.now)) (blocks_in c.args.req.now)) ≡ false).
+    spends-out c.args.self.now c.args.pool.now c.args.pool.now c.args.ios.now c.args.req.now c.carry_out.new.fates.items
+    (record { told = is_some (g.R.Rig.image c.args.rig.now); units = g.R.Rig.units c.args.rig.now; standing = g.R.Rig.standing c.args.rig.now; log = g.R.Rig.log c.args.rig.now; room = g.R.Rig.room c.args.rig.now; armed = g.R.Rig.armed c.args.rig.now; faults = g.R.Rig.faults c.args.rig.now })
+    (record { told = is_some (g.R.Rig.image c.carry_out.new.rig); units = g.R.Rig.units c.carry_out.new.rig; standing = g.R.Rig.standing c.carry_out.new.rig; log = g.R.Rig.log c.carry_out.new.rig; room = g.R.Rig.room c.carry_out.new.rig; armed = g.R.Rig.armed c.carry_out.new.rig; faults = g.R.Rig.faults c.carry_out.new.rig })
+    (c.carry_out.ensures.sent b))
+    (cases_Bool (any_bad (map (sends c.args.self.now c.args.ios.now (flat c.args.pool.now)) (blocks_in c.args.req.now))))
+
+pub returns-in-Read-clause-spent : goal.returns-in-Read-clause-spent
+returns-in-Read-clause-spent g c =
+    spends-in c.args.self.now c.args.pool.now c.carry_in.new.pool c.args.ios.now c.args.req.now c.carry_in.new.fates.items
+    (record { told = is_some (g.R.Rig.image c.args.rig.now); units = g.R.Rig.units c.args.rig.now; standing = g.R.Rig.standing c.args.rig.now; log = g.R.Rig.log c.args.rig.now; room = g.R.Rig.room c.args.rig.now; armed = g.R.Rig.armed c.args.rig.now; faults = g.R.Rig.faults c.args.rig.now })
+    (record { told = is_some (g.R.Rig.image c.carry_in.new.rig); units = g.R.Rig.units c.carry_in.new.rig; standing = g.R.Rig.standing c.carry_in.new.rig; log = g.R.Rig.log c.carry_in.new.rig; room = g.R.Rig.room c.carry_in.new.rig; armed = g.R.Rig.armed c.carry_in.new.rig; faults = g.R.Rig.faults c.carry_in.new.rig })
+    c.carry_in.ensures.fetched
