@@ -6,8 +6,10 @@ use Rattle.pi_guard.specs.Guards.{crc, ip}
 use Rattle.pi_tuple.specs.declared.checks.Check.TheVariants.{Guard}
 use Rattle.page_pool.specs.Places.{run}
 use Rattle.bio_core.specs.declared.fate.Why.TheVariants.{Medium, Target}
+use Rattle.integrity_payload.specs.declared.payload.Owner.TheVariants.{Block as OfBlock}
 use Rattle.stack_ops.specs.declared.op.Op.{Op}
 use Rattle.stack_ops.specs.declared.op.Op.TheVariants.{Fetch, Put, Write}
+use Rattle.stack_ops.specs.declared.reply.Reply.TheVariants.{Bad, Silent, Whole}
 use Rattle.target_answer.specs.Passing.{found_in, from_medium, to_medium}
 use Rattle.block_path.specs.Acts.{act, tell}
 use Rattle.block_path.specs.Serial.{plain_tells}
@@ -18,15 +20,21 @@ use Rattle.whole_run.specs.Settings.{Block, Setting, block_of}
 use Rattle.whole_run.specs.UnderMap.{IsClean, address_of, home}
 use Rattle.whole_run.proofs.ScriptRows.{faulty, formatted, opening, seg}
 use Rattle.whole_run.proofs.TupleFrames.{no}
+use Rattle.run_laws.specs.FallingReads.{IsReadOrFails, falling_replies}
 use Rattle.run_laws.specs.StoreFaults.{IsFallingRun, falling_past, is_lost, may_fall}
+use Rattle.run_laws.proofs.FallingOps.{reads_or_fails}
+use Rattle.run_laws.proofs.ShownRows.{one_list}
 
 -- A write whose store call fails half way, worked by hand: until the next accepted write its block is lost.
 
 abbrev m : Setting
 m = faulty []
 
+abbrev before : List Op
+before = Put 0 0 (1 ∷ []) ∷ Write 0 1 (seg 0 512) 0 ∷ Fetch 0 1 (seg 512 512) ∷ Write 0 1 (seg 0 512) 0 ∷ []
+
 abbrev ops : List Op
-ops = Put 0 0 (1 ∷ []) ∷ Write 0 1 (seg 0 512) 0 ∷ Fetch 0 1 (seg 512 512) ∷ Write 0 1 (seg 0 512) 0 ∷ Fetch 0 1 (seg 512 512) ∷ []
+ops = before ++ (Fetch 0 1 (seg 512 512) ∷ [])
 
 -- the first half of the block stands
 abbrev falls : Block → Option (List ℕ)
@@ -43,7 +51,7 @@ lost_then : lost_after (Put 0 0 (1 ∷ []) ∷ Write 0 1 (seg 0 512) 0 ∷ []) 3
 unfolding crc ip found_in to_medium from_medium to_wire from_wire run
 lost_then = refl
 
-found_again : lost_after (Put 0 0 (1 ∷ []) ∷ Write 0 1 (seg 0 512) 0 ∷ Fetch 0 1 (seg 512 512) ∷ Write 0 1 (seg 0 512) 0 ∷ []) 5 ≡ false
+found_again : lost_after before 5 ≡ false
 unfolding crc ip found_in to_medium from_medium to_wire from_wire run
 found_again = refl
 
@@ -89,3 +97,12 @@ falling_run = record {
     clean (suc zero) l h = record { no_escape = refl; guard = refl; app = refl; rtag = λ k. refl }
     clean (suc (suc zero)) l h = record { no_escape = refl; guard = refl; app = refl; rtag = λ k. refl }
     clean (suc (suc (suc v))) l h = absurd (omega (arith, l))
+
+-- So does its last read: the block isn't lost then, and what lands is the second write's data, or it is listed for the medium.
+last_read : IsReadOrFails m falls before OfBlock 0 1 (seg 512 512) [] [] opening 0
+last_read = reads_or_fails m falls before [] OfBlock 0 1 0 (seg 512 512) [] opening (omega arith) (refl, one_list 512 512 (omega arith)) falling_run
+
+-- The replies, by hand: the write is listed, and so is the read of what it left.
+replies_are : falling_replies m falls 1 ops opening ≡ Silent ∷ Bad (record { k = 0; why = Medium } ∷ []) ∷ Bad (record { k = 0; why = Target Guard } ∷ []) ∷ Whole ∷ Whole ∷ []
+unfolding crc ip found_in to_medium from_medium to_wire from_wire run
+replies_are = refl

@@ -250,6 +250,7 @@ module _ (m' : Setting) (opening : State) (falls : Block → Option (List ℕ)) 
       record {
         not_listed = ap (λ w. (read_by (route m b) owner w (length to) logged).answer.why) r.way;
         frame = r.frame;
+        size = r.size;
         body = r.body;
         app = r.app;
         lands = ap (λ w. scatter to (read_by (route m b) owner w (length to) logged).written.bytes s.bytes) r.way;

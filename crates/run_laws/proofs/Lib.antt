@@ -3,9 +3,11 @@ mod Found
 mod Layers
 mod Along
 pub mod Parts
-pub mod Reading
+pub mod InSteps
+mod Reading
 pub mod ShownRows
 mod Passing
 mod QuietWays
 mod Falling
+pub mod FallingOps
 mod FallRows

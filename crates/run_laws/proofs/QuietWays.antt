@@ -261,6 +261,7 @@ module _ (m' : Setting) (b : Block) (protect : 0 < m'.mode.protect) where
     pub carried : List ℕ
     pub frame : List ℕ
     pub way : way_in [] (target []) (route (q dix dif ty) b) owner x ≡ Delivers carried frame
+    pub size : length frame ≡ (if dix then n + 8 else n)
     pub body : data_of n frame ≡ e.body
     pub app : all_pass (q dix dif ty) ≡ true → (tuple_of n frame).app ≡ e.app
 
@@ -322,6 +323,15 @@ module _ (m' : Setting) (b : Block) (protect : 0 < m'.mode.protect) where
         rtag_is = λ h. ap (retag (host_type ty) here b.virt) (k.rtag_is h) ∙ retagged (host_type ty) here b.virt h;
       })
 
+  at_least : (ty : PiType) → n ≤ stored_size ty n
+  at_least Zero = omega arith
+  at_least One = omega arith
+  at_least Two = omega arith
+  at_least Three = omega arith
+
+  front_size : (ty : PiType) (x : List ℕ) → length x ≡ stored_size ty n → length (data_of n x) ≡ n
+  front_size ty x l = length-take-le n x (let k = at_least ty in omega (arith, l, k))
+
   -- in to a host with tuples
   in_with_tuple : (dif : Bool) (ty : PiType) (owner : Owner) (x : List ℕ) (e : Brought) → (all_pass (q true dif ty) ≡ false → m'.mode.mask ≡ 0) → Kept m' true dif ty here x e → Handed true dif ty owner x e
   in_with_tuple dif ty owner x e loose h = by (dif && not (is_zero ty)) refl where
@@ -340,6 +350,7 @@ module _ (m' : Setting) (b : Block) (protect : 0 < m'.mode.protect) where
           carried = x;
           frame = mapped_back r f;
           way = comes true dif ty owner x x f (released_passing true dif ty x e p h) (adapter_none true dif ty x (λ _. h.passing z)) (ap (λ c. received_by r true c x) p) (owner_none dif ty f c.size host);
+          size = mapped_length n f c.size (host_type ty) here b.virt;
           body = mapped_body n f c.size (host_type ty) here b.virt ∙ c.body ∙ h.body;
           app = λ k. ap (λ (t : Tuple). t.app) (mapped_tuple n f c.size (host_type ty) here b.virt) ∙ ap (λ (t : Tuple). t.app) c.tuple ∙ h.app k;
         }
@@ -347,7 +358,7 @@ module _ (m' : Setting) (b : Block) (protect : 0 < m'.mode.protect) where
         let w = data_of n x in
         let t : Tuple = record { guard = guard_of kind w; app = 0; rtag = own_tag (host_type ty) here } in
         let f = frame_of w t in
-        let short = length-take-le n x (let l = h.size in let k = at_least ty in omega (arith, l, k)) in
+        let short = front_size ty x h.size in
         let fits_in : Small t = record { guard = guard_below kind w; app = omega arith; rtag = own_below (has_ref_tag (host_type ty)) } in
         let size = length-append w _ ∙ ap (λ k. k + 8) short in
         let front = data_is n w t short in
@@ -357,16 +368,11 @@ module _ (m' : Setting) (b : Block) (protect : 0 < m'.mode.protect) where
           carried = w;
           frame = mapped_back r f;
           way = comes true dif ty owner x w f (released_bare true dif ty x e p h) (adapter_none true dif ty w (λ k. absurd (false≢true (sym p ∙ k)))) (ap (λ c. received_by r true c w) p) (owner_none dif ty f size good);
+          size = mapped_length n f size (host_type ty) here b.virt;
           body = mapped_body n f size (host_type ty) here b.virt ∙ front ∙ h.body;
           app = λ k. absurd (false≢true (sym p ∙ k));
         }
       where
-        at_least : (ty : PiType) → n ≤ stored_size ty n
-        at_least Zero = omega arith
-        at_least One = omega arith
-        at_least Two = omega arith
-        at_least Three = omega arith
-
         own_below : (c : Bool) → (if c then ref_tag here else 0) < 2 ^ 32
         own_below true = tag_below here
         own_below false = omega arith
@@ -384,6 +390,7 @@ module _ (m' : Setting) (b : Block) (protect : 0 < m'.mode.protect) where
           carried = x;
           frame = data_of n x;
           way = comes false dif ty owner x x (data_of n x) (released_passing false dif ty x e p h) (adapter_none false dif ty x (λ _. h.passing z)) (ap (λ c. received_by r false c x) p) refl;
+          size = front_size ty x h.size;
           body = take-take n n x (omega arith) ∙ h.body;
           app = λ k. absurd (false≢true k);
         }
@@ -391,6 +398,7 @@ module _ (m' : Setting) (b : Block) (protect : 0 < m'.mode.protect) where
       carried = data_of n x;
       frame = data_of n x;
       way = comes false dif ty owner x (data_of n x) (data_of n x) (released_bare false dif ty x e p h) (adapter_none false dif ty (data_of n x) (λ k. absurd (false≢true (sym p ∙ k)))) (ap (λ c. received_by r false c (data_of n x)) p) refl;
+      size = front_size ty x h.size;
       body = take-take n n x (omega arith) ∙ h.body;
       app = λ k. absurd (false≢true k);
     }

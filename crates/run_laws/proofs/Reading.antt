@@ -1,104 +1,42 @@
-use Rattle.std.proofs.Common.{◌≡◌, ◌<◌, ◌≤◌, ℕ, zero, suc, ◌+◌, ◌-◌, ◌*◌, ◌%◌, ◌^◌, true, false, eqb, if◌then◌else◌, List, [], ◌∷◌, ◌++◌, length, map, get_or, take, Option, Some, None, refl, sym, ap, subst, ◌∙◌, arith}
-use Rattle.std.proofs.lemmas.Bool.{eq-eqb, false≢true, ne_eqb}
-use Rattle.std.proofs.lemmas.List.{append_assoc, append-nil, take-take, take_all, length-set}
+use Rattle.std.proofs.Common.{◌≡◌, ◌<◌, ◌≤◌, ℕ, zero, suc, ◌+◌, ◌-◌, ◌*◌, ◌%◌, ◌^◌, true, List, [], ◌∷◌, ◌++◌, length, map, get_or, take, Option, Some, None, refl, sym, ap, subst, ◌∙◌, arith}
+use Rattle.std.proofs.lemmas.Bool.{false≢true}
+use Rattle.std.proofs.lemmas.List.{append_assoc, append-nil, take-take, take_all}
 use Rattle.page_pool.specs.declared.segs.Seg.{Seg}
-use Rattle.page_pool.specs.Cells.{gather, scatter, share_a_cell}
+use Rattle.page_pool.specs.Cells.{gather, scatter}
 use Rattle.page_pool.specs.Places.{total}
 use Rattle.integrity_payload.specs.declared.payload.Owner.{Owner}
 use Rattle.integrity_payload.specs.declared.payload.Owner.TheVariants.{Block as OfBlock, App as OfApp}
-use Rattle.bio_core.specs.declared.fate.Why.{Why}
 use Rattle.stack_ops.specs.declared.op.Op.{Op}
 use Rattle.stack_ops.specs.declared.op.Op.TheVariants.{Fetch, FetchPi, Fill, Overwrite, Put, Seal, Show, Wait, Write, WritePi}
-use Rattle.stack_ops.specs.declared.reply.BadBlock.{BadBlock}
 use Rattle.stack_ops.specs.declared.reply.Reply.TheVariants.{Silent}
 use Rattle.range_gate.specs.Cells.{cells_of}
 use Rattle.volume_table.specs.declared.device.DeviceInfo.{DeviceInfo}
 use Rattle.target_answer.specs.Frames.{data_of, tuple_of as tuple_in_frame}
-use Rattle.block_path.specs.Acts.{State, act, effect, tell}
-use Rattle.block_path.specs.Blocks.{Answer, fetched_cell, silent}
+use Rattle.block_path.specs.Acts.{State, act, tell}
+use Rattle.block_path.specs.Blocks.{Answer, fetched_cell}
 use Rattle.block_path.specs.Serial.{plain, plain_tells}
-use Rattle.block_path.proofs.Cells.{AllBelow, Distinct, below, distinct, gather_past}
+use Rattle.block_path.proofs.Cells.{AllBelow, Distinct, below, distinct}
 use Rattle.whole_run.specs.Detectable.{detectable, found}
 use Rattle.whole_run.specs.FirstLayer.{Layer, first_layer, last_accepted}
 use Rattle.whole_run.specs.Past.{Event, events_of, past_after, steps_from}
-use Rattle.whole_run.specs.ScriptWalk.{act_of, acts_of, bad_from, replies_from, reply_of, request_reply, script_replies, script_walk, walk_from, whole_or_bad}
+use Rattle.whole_run.specs.ScriptWalk.{act_of, acts_of, replies_from, reply_of, request_reply, script_replies, script_walk, walk_from}
 use Rattle.whole_run.specs.Settings.{Block, Setting, block_of, route}
 use Rattle.whole_run.specs.Steps.{Reads, Seals, Step, Writes, WritesPi, body_of, each_from, frame_at, steps_of, tuple_of}
 use Rattle.whole_run.specs.UnderMap.{NoEscape, NoneEscapes}
 use Rattle.whole_run.proofs.CalmRuns.{frame_length, part_length}
-use Rattle.run_laws.specs.ReadsAs.{ReadsAs, ReadsRightly, landing, listed_among, listed_in, read_op, takes_tuples}
+use Rattle.run_laws.specs.ReadsAs.{ReadsAs, ReadsRightly, landing, listed_in, read_op, takes_tuples}
 use Rattle.run_laws.specs.ShownRun.{AllBind, Binds, IsChecked, IsShownRun}
 use Rattle.run_laws.proofs.Along.{AllFit, EndsAs, Fits, reads_after}
 use Rattle.run_laws.proofs.Layers.{checked}
 use Rattle.run_laws.proofs.Parts.{block_below, block_distinct, block_fits, blocks_apart, landed, lists_of}
+use Rattle.run_laws.proofs.InSteps.{acts_stepped, each_length, each_split, is_listed, later_blocks, read_reply, read_steps, same_pages, stepped, stepped_append, steps_split, tells_at}
 
 -- From blocks to ops: what a reply lists, and what a read leaves in the pages.
 
--- the cells after these steps
-abbrev pub steps_walk : Setting → List Step → State → State
-steps_walk m steps s = plain (λ step s. act (act_of m step) s) steps s
-
--- what is listed of a block is what its act answers
-off_head : (j k : ℕ) (why : Why) (bad : List BadBlock) → k < j → listed_among (record { k = j; why = why } ∷ bad) k ≡ listed_among bad k
-off_head j k why bad l =
-    let e : eqb j k ≡ false = ne_eqb j k (λ e. omega (arith, l, e)) in
-    ap (λ t. if t then Some why else listed_among bad k) e
-
-none_before : (j k : ℕ) (whys : List (Option Why)) → k < j → listed_among (bad_from j whys) k ≡ None
-none_before j k [] l = refl
-none_before j k (None ∷ whys) l = none_before (suc j) k whys (omega (arith, l))
-none_before j k (Some why ∷ whys) l = off_head j k why (bad_from (suc j) whys) l ∙ none_before (suc j) k whys (omega (arith, l))
-
-beyond_head : (j i : ℕ) (why : Why) (bad : List BadBlock) → j < i → listed_among (record { k = j; why = why } ∷ bad) i ≡ listed_among bad i
-beyond_head j i why bad l =
-    let e : eqb j i ≡ false = ne_eqb j i (λ e. omega (arith, l, e)) in
-    ap (λ t. if t then Some why else listed_among bad i) e
-
-at_head : (j : ℕ) (why : Why) (bad : List BadBlock) → listed_among (record { k = j; why = why } ∷ bad) j ≡ Some why
-at_head j why bad = let e : eqb j j ≡ true = eq-eqb j j refl in ap (λ t. if t then Some why else listed_among bad j) e
-
-why_listed : (j k i : ℕ) (answers : List Answer) → i ≡ j + k → listed_among (bad_from j (map (λ a. a.why) answers)) i ≡ (get_or answers k silent).why
-why_listed j k i [] e = refl
-why_listed j zero i (a ∷ answers) e =
-    let q : i ≡ j = omega (arith, e) in
-    ap (λ i. listed_among (bad_from j (map (λ a. a.why) (a ∷ answers))) i) q ∙ by a.why
-  where
-    by : (why : Option Why) → listed_among (bad_from j (why ∷ map (λ a. a.why) answers)) j ≡ why
-    by None = none_before (suc j) j (map (λ a. a.why) answers) (omega arith)
-    by (Some why) = at_head j why (bad_from (suc j) (map (λ a. a.why) answers))
-why_listed j (suc k) i (a ∷ answers) e = by a.why ∙ why_listed (suc j) k i answers (omega (arith, e)) where
-  by : (why : Option Why) → listed_among (bad_from j (why ∷ map (λ a. a.why) answers)) i ≡ listed_among (bad_from (suc j) (map (λ a. a.why) answers)) i
-  by None = refl
-  by (Some why) = beyond_head j i why (bad_from (suc j) (map (λ a. a.why) answers)) (omega (arith, e))
-
-listed_blocks : (bad : List BadBlock) (k : ℕ) → listed_in (whole_or_bad bad) k ≡ listed_among bad k
-listed_blocks [] k = refl
-listed_blocks (x ∷ bad) k = refl
-
-pub is_listed : (answers : List Answer) (k : ℕ) → listed_in (request_reply answers) k ≡ (get_or answers k silent).why
-is_listed answers k = listed_blocks (bad_from 0 (map (λ a. a.why) answers)) k ∙ why_listed 0 k k answers (omega arith)
-
--- block k among n
-each_split : {X : Type 0} (j k n i : ℕ) (f : ℕ → X) → k < n → i ≡ j + k → each_from j n f ≡ each_from j k f ++ (f i ∷ each_from (suc i) (n - suc k) f)
-each_split j k zero i f l e = absurd (omega (arith, l))
-each_split j zero (suc n) i f l e =
-    let p : j ≡ i = omega (arith, e) in let q : n ≡ suc n - 1 = omega arith in
-    ap (λ j. f j ∷ each_from (suc j) n f) p ∙ ap (λ n. f i ∷ each_from (suc i) n f) q
-each_split j (suc k) (suc n) i f l e =
-    let q : n - suc k ≡ suc n - suc (suc k) = omega arith in
-    ap (λ rest. f j ∷ rest) (each_split (suc j) k n i f (omega (arith, l)) (omega (arith, e)) ∙ ap (λ r. each_from (suc j) k f ++ (f i ∷ each_from (suc i) r f)) q)
-
-each_length : {X : Type 0} (j n : ℕ) (f : ℕ → X) → length (each_from j n f) ≡ n
-each_length j zero f = refl
-each_length j (suc n) f = ap suc (each_length (suc j) n f)
-
 module _ (m : Setting) where
-  steps_split : (i : ℕ) (before : List Op) (op : Op) (after : List Op) → steps_from m i (before ++ (op ∷ after)) ≡ steps_from m i before ++ (steps_of m (i + length before) op ++ steps_from m (suc (i + length before)) after)
-  steps_split i [] op after = let e : i ≡ i + 0 = omega arith in ap (λ i. steps_of m i op ++ steps_from m (suc i) after) e
-  steps_split i (first ∷ before) op after =
-      let e : suc i + length before ≡ i + suc (length before) = omega arith in
-      ap (λ xs. steps_of m i first ++ xs) (steps_split (suc i) before op after ∙ ap (λ j. steps_from m (suc i) before ++ (steps_of m j op ++ steps_from m (suc j) after)) e)
-      ∙ sym (append_assoc (steps_of m i first) (steps_from m (suc i) before) (steps_of m (i + suc (length before)) op ++ steps_from m (suc (i + suc (length before))) after))
+  -- the cells after these steps
+  abbrev steps_walk : List Step → State → State
+  steps_walk steps s = stepped (act_of m) steps s
 
   reply_at : (i : ℕ) (before : List Op) (op : Op) (after : List Op) (s : State) →
       get_or (replies_from m i (before ++ (op ∷ after)) s) (length before) Silent ≡ reply_of (m.fails (i + length before)) op (plain_tells act tell (acts_of m (i + length before) op) (walk_from m i before s))
@@ -109,26 +47,18 @@ module _ (m : Setting) where
       reply_at (suc i) before op after now
       ∙ ap (λ j. reply_of (m.fails j) op (plain_tells act tell (acts_of m j op) (walk_from m (suc i) before now))) e
 
-  pub walk_append : (xs ys : List Step) (s : State) → steps_walk m (xs ++ ys) s ≡ steps_walk m ys (steps_walk m xs s)
-  walk_append [] ys s = refl
-  walk_append (x ∷ xs) ys s = walk_append xs ys (act (act_of m x) s)
-
-  acts_walk : (steps : List Step) (s : State) → plain act (map (act_of m) steps) s ≡ steps_walk m steps s
-  acts_walk [] s = refl
-  acts_walk (x ∷ xs) s = acts_walk xs (act (act_of m x) s)
-
-  pub ops_walk : (i : ℕ) (ops : List Op) (s : State) → walk_from m i ops s ≡ steps_walk m (steps_from m i ops) s
+  pub ops_walk : (i : ℕ) (ops : List Op) (s : State) → walk_from m i ops s ≡ steps_walk (steps_from m i ops) s
   ops_walk i [] s = refl
   ops_walk i (op ∷ ops) s =
-      ap (walk_from m (suc i) ops) (acts_walk (steps_of m i op) s)
-      ∙ ops_walk (suc i) ops (steps_walk m (steps_of m i op) s)
-      ∙ sym (walk_append (steps_of m i op) (steps_from m (suc i) ops) s)
+      ap (walk_from m (suc i) ops) (acts_stepped (act_of m) (steps_of m i op) s)
+      ∙ ops_walk (suc i) ops (steps_walk (steps_of m i op) s)
+      ∙ sym (stepped_append (act_of m) (steps_of m i op) (steps_from m (suc i) ops) s)
 
-  past_append : (xs ys : List Step) (s : State) (past : List Event) → past_after m (xs ++ ys) s past ≡ past_after m ys (steps_walk m xs s) (past_after m xs s past)
+  past_append : (xs ys : List Step) (s : State) (past : List Event) → past_after m (xs ++ ys) s past ≡ past_after m ys (steps_walk xs s) (past_after m xs s past)
   past_append [] ys s past = refl
   past_append (x ∷ xs) ys s past = past_append xs ys (act (act_of m x) s) (events_of m x s ++ past)
 
-  escapes_append : (xs ys : List Step) (s : State) → NoneEscapes m xs s → NoneEscapes m ys (steps_walk m xs s) → NoneEscapes m (xs ++ ys) s
+  escapes_append : (xs ys : List Step) (s : State) → NoneEscapes m xs s → NoneEscapes m ys (steps_walk xs s) → NoneEscapes m (xs ++ ys) s
   escapes_append [] ys s h k = k
   escapes_append (x ∷ xs) ys s h k = (h.0, escapes_append xs ys (act (act_of m x) s) h.1 k)
 
@@ -136,26 +66,7 @@ module _ (m : Setting) where
   none_escapes i [] s h = tt
   none_escapes i (op ∷ ops) s h =
       escapes_append (steps_of m i op) (steps_from m (suc i) ops) s h.0
-      (subst (NoneEscapes m (steps_from m (suc i) ops)) (acts_walk (steps_of m i op) s) (none_escapes (suc i) ops (plain act (acts_of m i op) s) h.1))
-
-  tells_at : (xs : List Step) (y : Step) (ys : List Step) (s : State) (k : ℕ) → length xs ≡ k →
-      get_or (plain_tells act tell (map (act_of m) (xs ++ (y ∷ ys))) s) k silent ≡ tell (act_of m y) (steps_walk m xs s)
-  tells_at [] y ys s zero e = refl
-  tells_at [] y ys s (suc k) e = absurd (omega (arith, e))
-  tells_at (x ∷ xs) y ys s zero e = absurd (omega (arith, e))
-  tells_at (x ∷ xs) y ys s (suc k) e = tells_at xs y ys (act (act_of m x) s) k (omega (arith, e))
-
-  scatter_length : (at values cells : List ℕ) → length (scatter at values cells) ≡ length cells
-  scatter_length [] values cells = refl
-  scatter_length (i ∷ at) [] cells = refl
-  scatter_length (i ∷ at) (v ∷ values) cells = scatter_length at values _ ∙ length-set cells i v
-
-  -- the pages keep their size
-  same_pages : (steps : List Step) (s : State) → length (steps_walk m steps s).bytes ≡ length s.bytes
-  same_pages [] s = refl
-  same_pages (step ∷ steps) s =
-      let a = act_of m step in
-      same_pages steps (act a s) ∙ scatter_length a.bytes.writes (effect a s).written.bytes s.bytes
+      (subst (NoneEscapes m (steps_from m (suc i) ops)) (acts_stepped (act_of m) (steps_of m i op) s) (none_escapes (suc i) ops (plain act (acts_of m i op) s) h.1))
 
 -- the blocks of a read
 module _ (m : Setting) (i v : ℕ) (owner : Owner) (body tuples : List Seg) where
@@ -169,22 +80,6 @@ module _ (m : Setting) (i v : ℕ) (owner : Owner) (body tuples : List Seg) wher
   read_blocks : (j n : ℕ) (s : State) → (steps_walk m (each_from j n step_at) s).blocks ≡ s.blocks
   read_blocks j zero s = refl
   read_blocks j (suc n) s = read_blocks (suc j) n (act (act_of m (step_at j)) s)
-
-  -- later blocks land elsewhere
-  later_blocks : (at : List ℕ) (j n : ℕ) (s : State) → ((l : ℕ) → j ≤ l → share_a_cell at (landing m.size owner body tuples l) ≡ false) → gather 0 at (steps_walk m (each_from j n step_at) s).bytes ≡ gather 0 at s.bytes
-  later_blocks at j zero s h = refl
-  later_blocks at j (suc n) s h =
-      let a = act_of m (step_at j) in
-      later_blocks at (suc j) n (act a s) (λ l k. h l (omega (arith, k)))
-      ∙ gather_past 0 at (landing m.size owner body tuples j) (effect a s).written.bytes s.bytes (h j (omega arith))
-
-read_steps : (m : Setting) (i v n : ℕ) (owner : Owner) (body tuples : List Seg) → steps_of m i (read_op owner v n body tuples) ≡ each_from 0 n (λ k. Reads (block_of i v k) owner (landing m.size owner body tuples k))
-read_steps m i v n OfBlock body tuples = refl
-read_steps m i v n OfApp body tuples = refl
-
-read_reply : (fails : _) (v n : ℕ) (owner : Owner) (body tuples : List Seg) (answers : List Answer) → reply_of fails (read_op owner v n body tuples) answers ≡ request_reply answers
-read_reply fails v n OfBlock body tuples answers = refl
-read_reply fails v n OfApp body tuples answers = refl
 
 -- what binding gives each step
 module _ (m : Setting) (devices : List DeviceInfo) where
@@ -312,7 +207,7 @@ module _ (m' : Setting) (devices : List DeviceInfo) (before after : List Op) (ow
       ∙ sym (append_assoc (steps_from m 1 before) (each_from 0 k f) (f k ∷ (later ++ rest)))
 
   walked : steps_walk m earlier opening ≡ here
-  walked = walk_append m (steps_from m 1 before) (each_from 0 k f) opening ∙ ap (steps_walk m (each_from 0 k f)) (sym (ops_walk m 1 before opening))
+  walked = stepped_append (act_of m) (steps_from m 1 before) (each_from 0 k f) opening ∙ ap (steps_walk m (each_from 0 k f)) (sym (ops_walk m 1 before opening))
 
   happened : past_after m earlier opening [] ≡ past
   happened = past_append m (steps_from m 1 before) (each_from 0 k f) opening [] ∙ read_past m i v owner body tuples 0 k (steps_walk m (steps_from m 1 before) opening) past
@@ -321,7 +216,7 @@ module _ (m' : Setting) (devices : List DeviceInfo) (before after : List Op) (ow
   whole_op =
       ops_walk m 1 (before ++ (op ∷ [])) opening
       ∙ ap (λ xs. steps_walk m xs opening) (steps_split m 1 before op [])
-      ∙ walk_append m (steps_from m 1 before) (steps_of m (1 + length before) op ++ []) opening
+      ∙ stepped_append (act_of m) (steps_from m 1 before) (steps_of m (1 + length before) op ++ []) opening
       ∙ ap (λ xs. steps_walk m xs (steps_walk m (steps_from m 1 before) opening)) (append-nil (steps_of m (1 + length before) op) ∙ op_steps)
       ∙ ap (steps_walk m (each_from 0 k f ++ (f k ∷ later))) (sym (ops_walk m 1 before opening))
 
@@ -333,7 +228,7 @@ module _ (m' : Setting) (devices : List DeviceInfo) (before after : List Op) (ow
       ap (λ r. listed_in r k) (reply_at m 1 before op after opening ∙ read_reply (m.fails (1 + length before)) v n owner body tuples (plain_tells act tell (acts_of m (1 + length before) op) s)
       ∙ ap (λ steps. request_reply (plain_tells act tell (map (act_of m) steps) s)) op_steps)
       ∙ is_listed (plain_tells act tell (map (act_of m) (each_from 0 k f ++ (f k ∷ later))) s) k
-      ∙ ap (λ (a : Answer). a.why) (tells_at m (each_from 0 k f) (f k) later s k (each_length 0 k f))
+      ∙ ap (λ (a : Answer). a.why) (tells_at (act_of m) (each_from 0 k f) (f k) later s k (each_length 0 k f))
 
   read_lands : Lands m devices (length opening.bytes) owner n body tuples
   read_lands = lands m devices (length opening.bytes) (1 + length before) owner v n body tuples (bind_at m devices (length opening.bytes) 1 before op after run.bind)
@@ -341,9 +236,9 @@ module _ (m' : Setting) (devices : List DeviceInfo) (before after : List Op) (ow
   -- what stands in the pages where a frame landed
   arrived : (frame : List ℕ) → length frame ≡ m.size + 8 → (act (act_of m (f k)) here).bytes ≡ scatter to frame here.bytes → gather 0 to (script_walk m (before ++ (op ∷ [])) opening).bytes ≡ take (length to) frame
   arrived frame size there =
-      let pages = same_pages m (each_from 0 k f) s ∙ ap (λ (c : State). length c.bytes) (ops_walk m 1 before opening) ∙ same_pages m (steps_from m 1 before) opening in
-      ap (λ (c : State). gather 0 to c.bytes) (whole_op ∙ walk_append m (each_from 0 k f) (f k ∷ later) s)
-      ∙ later_blocks m i v owner body tuples to (suc k) (n - suc k) (act (act_of m (f k)) here) (λ j g. blocks_apart m.size body tuples owner k j read_lands.once (omega (arith, g)))
+      let pages = same_pages (act_of m) (each_from 0 k f) s ∙ ap (λ (c : State). length c.bytes) (ops_walk m 1 before opening) ∙ same_pages (act_of m) (steps_from m 1 before) opening in
+      ap (λ (c : State). gather 0 to c.bytes) (whole_op ∙ stepped_append (act_of m) (each_from 0 k f) (f k ∷ later) s)
+      ∙ later_blocks (act_of m) f (λ j. landing m.size owner body tuples j) (λ j. refl) to (suc k) (n - suc k) (act (act_of m (f k)) here) (λ j g. blocks_apart m.size body tuples owner k j read_lands.once (omega (arith, g)))
       ∙ ap (gather 0 to) there
       ∙ landed to frame here.bytes (block_distinct m.size body tuples owner k read_lands.once)
       (subst (λ p. AllBelow p to) (sym pages) (block_below m.size body tuples owner (length opening.bytes) k read_lands.below_end))

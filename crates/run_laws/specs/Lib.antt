@@ -1,3 +1,4 @@
 pub mod ShownRun
 pub mod StoreFaults
 pub mod ReadsAs
+pub mod FallingReads

@@ -1,4 +1,4 @@
-use Rattle.std.specs.Prelude.{ℕ, ◌≡◌, Bool, true, false, eqb, if◌then◌else◌, List, [], ◌∷◌, ◌++◌, ◌⊎◌, Option, Some, None, Err}
+use Rattle.std.specs.Prelude.{ℕ, ◌≡◌, ◌+◌, Bool, true, false, eqb, if◌then◌else◌, List, [], ◌∷◌, ◌++◌, length, ◌⊎◌, Option, Some, None, Err}
 use Rattle.page_pool.specs.Cells.{gather, scatter}
 use Rattle.bio_core.specs.declared.fate.Why.{Why}
 use Rattle.bio_core.specs.declared.fate.Why.TheVariants.{Adapter, App, Block as ByOwner, Medium, Refused, Short, Target}
@@ -84,10 +84,11 @@ is_lost b (Accepted a e ∷ past) = if eqb a.virt b.virt then false else is_lost
 is_lost b (Lost a ∷ past) = if eqb a.virt b.virt then true else is_lost b past
 is_lost b (Overwritten cell ∷ past) = is_lost b past
 
--- A frame of these data lands and isn't listed; where tuples pass all the way it has this application tag.
+-- A frame of these data, as long as the host has it, lands and isn't listed; where tuples pass all the way it has this application tag.
 pub record LandsAs (m : Setting) (a : Act Answer) (to : List ℕ) (e : Brought) (s : State) : Type 0 where
   pub not_listed : (tell a s).why ≡ None
   pub frame : List ℕ
+  pub size : length frame ≡ (if m.mode.dix then m.size + 8 else m.size)
   pub body : data_of m.size frame ≡ e.body
   pub app : all_pass m ≡ true → (tuple_of m.size frame).app ≡ e.app
   pub lands : (act a s).bytes ≡ scatter to frame s.bytes

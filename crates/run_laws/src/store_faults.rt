@@ -1,6 +1,8 @@
 //! Store calls that fail.
 
-ghost use Rattle.std.specs.Prelude.{◌≡◌, ℕ, List, [], ◌∷◌, ◌++◌, Option};
+ghost use Rattle.std.specs.Prelude.{◌≡◌, ◌<◌, ℕ, List, [], ◌∷◌, ◌++◌, Option, length};
+ghost use Rattle.page_pool.specs.declared.segs.Seg.{Seg as AnySeg};
+ghost use Rattle.integrity_payload.specs.declared.payload.Owner.{Owner as AnyOwner};
 ghost use Rattle.stack_ops.specs.declared.op.Op.{Op as AnyOp};
 ghost use Rattle.block_path.specs.Acts.{Act, State, conflict};
 ghost use Rattle.block_path.specs.Blocks.{Answer};
@@ -8,6 +10,8 @@ ghost use Rattle.whole_run.specs.Past.{steps_from};
 ghost use Rattle.whole_run.specs.ScriptWalk.{act_of};
 ghost use Rattle.whole_run.specs.Settings.{Block, Setting};
 ghost use Rattle.whole_run.specs.Steps.{Step};
+ghost use Rattle.run_laws.specs.FallingReads.{HasRoom, IsReadOrFails};
+ghost use Rattle.run_laws.specs.ReadsAs.{read_op};
 ghost use Rattle.run_laws.specs.StoreFaults.{IsFallingRun, IsServed, falling_past, falling_walk, may_fall};
 
 /// Where no fault is scheduled, but some store calls fail and leave there whatever they may: a block of a read is
@@ -18,6 +22,15 @@ pub fn a_store_fault_concerns_its_block_alone()
     ensures { (m : Setting) (falls : Block → Option (List ℕ)) (ops : List AnyOp) (opening : State) (earlier later : List Step) (step : Step)
         → IsFallingRun m ops opening → steps_from m 1 ops ≡ earlier ++ (step ∷ later)
         → IsServed m opening (falling_past m falls earlier opening []) falls step (falling_walk m falls earlier opening) }
+{}
+
+/// So a read's reply and pages: a block that isn't lost when the op begins is listed for the medium, or it isn't listed,
+/// and where it lands stand the last accepted write's data, and for an application its application tag, where tuples
+/// pass all the way. What is listed otherwise is lost.
+pub fn a_read_is_the_last_write_or_fails_at_the_medium()
+    ensures { (m : Setting) (falls : Block → Option (List ℕ)) (before after : List AnyOp) (owner : AnyOwner) (v n k : ℕ) (body tuples : List AnySeg) (opening : State)
+        → IsFallingRun m (before ++ (read_op owner v n body tuples ∷ after)) opening → HasRoom m (length opening.bytes) owner n body tuples → k < n
+        → IsReadOrFails m falls before owner v n body tuples after opening k }
 {}
 
 /// A block whose store call fails conflicts with what it would have conflicted with: so any order of the blocks that

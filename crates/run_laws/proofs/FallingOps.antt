@@ -1,0 +1,225 @@
+use Rattle.std.proofs.Common.{◌≡◌, ◌<◌, ◌≤◌, ℕ, zero, suc, ◌+◌, ◌-◌, Bool, true, false, if◌then◌else◌, List, [], ◌∷◌, ◌++◌, length, map, get_or, take, drop, Option, Some, None, refl, sym, ap, subst, ◌∙◌, inl, inr, arith}
+use Rattle.std.proofs.lemmas.Bool.{false≢true}
+use Rattle.std.proofs.lemmas.List.{append_assoc, append-nil, length-map, map-append, take-take, take_all}
+use Rattle.page_pool.specs.declared.segs.Seg.{Seg}
+use Rattle.page_pool.specs.Cells.{gather, scatter}
+use Rattle.range_gate.specs.Cells.{cells_of}
+use Rattle.integrity_payload.specs.declared.payload.Owner.{Owner}
+use Rattle.integrity_payload.specs.declared.payload.Owner.TheVariants.{Block as OfBlock, App as OfApp}
+use Rattle.bio_core.specs.declared.fate.Why.{Why}
+use Rattle.stack_ops.specs.declared.op.Op.{Op}
+use Rattle.stack_ops.specs.declared.reply.Reply.TheVariants.{Silent}
+use Rattle.target_answer.specs.Frames.{data_of, tuple_of}
+use Rattle.block_path.specs.Acts.{Act, State, act, tell}
+use Rattle.block_path.specs.Blocks.{Answer}
+use Rattle.block_path.specs.Serial.{plain_tells}
+use Rattle.block_path.proofs.Cells.{AllBelow, Distinct, below, distinct}
+use Rattle.whole_run.specs.FirstLayer.{last_accepted}
+use Rattle.whole_run.specs.Past.{Brought, Event, steps_from}
+use Rattle.whole_run.specs.ScriptWalk.{act_of, acts_of, replies_by, reply_of, request_reply}
+use Rattle.whole_run.specs.Settings.{Block, Setting, block_of}
+use Rattle.whole_run.specs.Steps.{Reads, Step, each_from, steps_of}
+use Rattle.whole_run.proofs.AnyOrder.{first_tells, other_tells}
+use Rattle.whole_run.proofs.CalmRuns.{frame_length, part_length}
+use Rattle.run_laws.specs.FallingReads.{HasRoom, IsReadAs, IsReadOrFails, falling_replies}
+use Rattle.run_laws.specs.ReadsAs.{landing, listed_in, read_op, takes_tuples}
+use Rattle.run_laws.specs.StoreFaults.{IsFallingRun, IsServed, LandsAs, events_when, falling_past, may_fall, or_fallen}
+use Rattle.run_laws.proofs.Falling.{each_is_served}
+use Rattle.run_laws.proofs.InSteps.{acts_stepped, block_says, each_split, later_blocks, read_reply, read_steps, same_pages, stepped, stepped_append, steps_split}
+use Rattle.run_laws.proofs.Parts.{block_below, block_distinct, blocks_apart, landed, lists_of}
+
+-- From blocks whose store calls fail to ops: what a reply lists, and what a read leaves in the pages.
+
+module _ (m : Setting) (falls : Block → Option (List ℕ)) where
+  abbrev a : Step → Act Answer
+  a = may_fall m falls
+
+  reply_at : (i : ℕ) (before : List Op) (op : Op) (after : List Op) (s : State) →
+      get_or (falling_replies m falls i (before ++ (op ∷ after)) s) (length before) Silent
+      ≡ reply_of (m.fails (i + length before)) op (plain_tells act tell (map a (steps_of m (i + length before) op)) (stepped a (steps_from m i before) s))
+  reply_at i [] op after s = let e : i ≡ i + 0 = omega arith in ap (λ i. reply_of (m.fails i) op (plain_tells act tell (map a (steps_of m i op)) s)) e
+  reply_at i (first ∷ before) op after s =
+      let e : suc i + length before ≡ i + suc (length before) = omega arith in
+      let now = stepped a (steps_of m i first) s in
+      reply_at (suc i) before op after now
+      ∙ ap (λ j. reply_of (m.fails j) op (plain_tells act tell (map a (steps_of m j op)) (stepped a (steps_from m (suc i) before) now))) e
+      ∙ ap (λ c. reply_of (m.fails (i + suc (length before))) op (plain_tells act tell (map a (steps_of m (i + suc (length before)) op)) c)) (sym (stepped_append a (steps_of m i first) (steps_from m (suc i) before) s))
+
+  past_append : (xs ys : List Step) (s : State) (past : List Event) → falling_past m falls (xs ++ ys) s past ≡ falling_past m falls ys (stepped a xs s) (falling_past m falls xs s past)
+  past_append [] ys s past = refl
+  past_append (x ∷ xs) ys s past = past_append xs ys (act (a x) s) (events_when m (tell (a x) s).why x s ++ past)
+
+  -- the replies that the answers of all blocks make
+  pub replies_are : (i : ℕ) (ops : List Op) (s : State) → replies_by m i ops (plain_tells act tell (map a (steps_from m i ops)) s) ≡ falling_replies m falls i ops s
+  replies_are i [] s = refl
+  replies_are i (op ∷ ops) s =
+      let mine = map a (steps_of m i op) in
+      let others = map a (steps_from m (suc i) ops) in
+      let count : length (acts_of m i op) ≡ length mine = length-map (steps_of m i op) (act_of m) ∙ sym (length-map (steps_of m i op) a) in
+      let first = ap (λ n. take n (plain_tells act tell (mine ++ others) s)) count ∙ first_tells act tell mine others s in
+      let rest = ap (λ n. drop n (plain_tells act tell (mine ++ others) s)) count ∙ other_tells act tell mine others s in
+      ap (λ acts. replies_by m i (op ∷ ops) (plain_tells act tell acts s)) (map-append a (steps_of m i op) (steps_from m (suc i) ops))
+      ∙ ap (λ xs. reply_of (m.fails i) op xs ∷ replies_by m (suc i) ops (drop (length (acts_of m i op)) (plain_tells act tell (mine ++ others) s))) first
+      ∙ ap (λ rs. reply_of (m.fails i) op (plain_tells act tell mine s) ∷ rs)
+      (ap (replies_by m (suc i) ops) rest ∙ ap (λ c. replies_by m (suc i) ops (plain_tells act tell others c)) (acts_stepped a (steps_of m i op) s) ∙ replies_are (suc i) ops (stepped a (steps_of m i op) s))
+
+-- the blocks of a read
+module _ (m : Setting) (falls : Block → Option (List ℕ)) (i v : ℕ) (owner : Owner) (body tuples : List Seg) where
+  abbrev step_at : ℕ → Step
+  step_at k = Reads (block_of i v k) owner (landing m.size owner body tuples k)
+
+  read_past : (j n : ℕ) (s : State) (past : List Event) → falling_past m falls (each_from j n step_at) s past ≡ past
+  read_past j zero s past = refl
+  read_past j (suc n) s past = read_past (suc j) n (act (may_fall m falls (step_at j)) s) past
+
+  lands_there : (j : ℕ) → (may_fall m falls (step_at j)).bytes.writes ≡ landing m.size owner body tuples j
+  lands_there j = by (falls (block_of i v j)) where
+    by : (o : Option (List ℕ)) → (or_fallen m (step_at j) o).bytes.writes ≡ landing m.size owner body tuples j
+    by None = refl
+    by (Some left) = refl
+
+host_most : (c : Bool) (n : ℕ) → (if c then n + 8 else n) ≤ n + 8
+host_most true n = omega arith
+host_most false n = omega arith
+
+host_least : (c : Bool) (n : ℕ) → n ≤ (if c then n + 8 else n)
+host_least true n = omega arith
+host_least false n = omega arith
+
+-- where block k of a read lands
+record Lands (m : Setting) (bytes : ℕ) (owner : Owner) (body tuples : List Seg) (k : ℕ) : Type 0 where
+  once : Distinct (lists_of owner body tuples)
+  below_end : AllBelow bytes (lists_of owner body tuples)
+  enough : length (landing m.size owner body tuples k) ≤ (if m.mode.dix then m.size + 8 else m.size)
+  front : m.size ≤ length (landing m.size owner body tuples k)
+  whole : takes_tuples owner ≡ true → m.size + 8 ≤ length (landing m.size owner body tuples k)
+
+lands : (m : Setting) (bytes : ℕ) (owner : Owner) (n k : ℕ) (body tuples : List Seg) → k < n → HasRoom m bytes owner n body tuples → Lands m bytes owner body tuples k
+lands m bytes OfBlock n k body tuples l h =
+    let p = part_length body m.size k n h.0 l in
+    let least = host_least m.mode.dix m.size in
+    record {
+      once = distinct (cells_of body) h.1.once;
+      below_end = below bytes (cells_of body) h.1.below;
+      enough = omega (arith, p, least);
+      front = omega (arith, p);
+      whole = λ t. absurd (false≢true t);
+    }
+lands m bytes OfApp n k body tuples l h =
+    let p = frame_length m.size body tuples k n h.0 h.1.0 l in
+    let size : (if m.mode.dix then m.size + 8 else m.size) ≡ m.size + 8 = ap (λ c. if c then m.size + 8 else m.size) h.1.1.1 in
+    record {
+      once = distinct (cells_of body ++ cells_of tuples) h.1.1.0.once;
+      below_end = below bytes (cells_of body ++ cells_of tuples) h.1.1.0.below;
+      enough = omega (arith, p, size);
+      front = omega (arith, p);
+      whole = λ t. omega (arith, p);
+    }
+
+module _ (m : Setting) (falls : Block → Option (List ℕ)) (before after : List Op) (owner : Owner) (v n k : ℕ) (body tuples : List Seg) (opening : State) (l : k < n)
+    (room : HasRoom m (length opening.bytes) owner n body tuples) (run : IsFallingRun m (before ++ (read_op owner v n body tuples ∷ after)) opening) where
+  abbrev does : Step → Act Answer
+  does = may_fall m falls
+
+  abbrev i : ℕ
+  i = suc (length before)
+
+  abbrev op : Op
+  op = read_op owner v n body tuples
+
+  abbrev f : ℕ → Step
+  f k = Reads (block_of i v k) owner (landing m.size owner body tuples k)
+
+  abbrev to : List ℕ
+  to = landing m.size owner body tuples k
+
+  -- the cells and what is past, before the op and before its block k
+  abbrev s : State
+  s = stepped does (steps_from m 1 before) opening
+
+  abbrev past : List Event
+  past = falling_past m falls (steps_from m 1 before) opening []
+
+  abbrev here : State
+  here = stepped does (each_from 0 k f) s
+
+  abbrev earlier : List Step
+  earlier = steps_from m 1 before ++ each_from 0 k f
+
+  abbrev later : List Step
+  later = each_from (suc k) (n - suc k) f
+
+  all_steps : steps_of m (1 + length before) op ≡ each_from 0 n f
+  all_steps = let e : 1 + length before ≡ i = omega arith in ap (λ j. steps_of m j op) e ∙ read_steps m i v n owner body tuples
+
+  op_steps : steps_of m (1 + length before) op ≡ each_from 0 k f ++ (f k ∷ later)
+  op_steps = all_steps ∙ each_split 0 k n k f l (omega arith)
+
+  at_block : steps_from m 1 (before ++ (op ∷ after)) ≡ earlier ++ (f k ∷ (later ++ steps_from m (suc (1 + length before)) after))
+  at_block =
+      let rest = steps_from m (suc (1 + length before)) after in
+      steps_split m 1 before op after
+      ∙ ap (λ xs. steps_from m 1 before ++ (xs ++ rest)) op_steps
+      ∙ ap (λ xs. steps_from m 1 before ++ xs) (append_assoc (each_from 0 k f) (f k ∷ later) rest)
+      ∙ sym (append_assoc (steps_from m 1 before) (each_from 0 k f) (f k ∷ (later ++ rest)))
+
+  reached : stepped does earlier opening ≡ here
+  reached = stepped_append does (steps_from m 1 before) (each_from 0 k f) opening
+
+  happened : falling_past m falls earlier opening [] ≡ past
+  happened = past_append m falls (steps_from m 1 before) (each_from 0 k f) opening [] ∙ read_past m falls i v owner body tuples 0 k s past
+
+  whole_op : stepped does (steps_from m 1 (before ++ (op ∷ []))) opening ≡ stepped does (each_from 0 k f ++ (f k ∷ later)) s
+  whole_op =
+      ap (λ xs. stepped does xs opening) (steps_split m 1 before op [])
+      ∙ stepped_append does (steps_from m 1 before) (steps_of m (1 + length before) op ++ []) opening
+      ∙ ap (λ xs. stepped does xs s) (append-nil (steps_of m (1 + length before) op) ∙ op_steps)
+
+  abbrev listed : Option Why
+  listed = listed_in (get_or (falling_replies m falls 1 (before ++ (op ∷ after)) opening) (length before) Silent) k
+
+  why_is : listed ≡ (tell (does (f k)) here).why
+  why_is =
+      ap (λ r. listed_in r k) (reply_at m falls 1 before op after opening ∙ read_reply (m.fails (1 + length before)) v n owner body tuples (plain_tells act tell (map does (steps_of m (1 + length before) op)) s)
+      ∙ ap (λ steps. request_reply (plain_tells act tell (map does steps) s)) all_steps)
+      ∙ block_says does f k n s l
+
+  abbrev mine : Lands m (length opening.bytes) owner body tuples k
+  mine = lands m (length opening.bytes) owner n k body tuples l room
+
+  -- what stands in the pages where a frame landed
+  arrived : (frame : List ℕ) → length to ≤ length frame → (act (does (f k)) here).bytes ≡ scatter to frame here.bytes → gather 0 to (stepped does (steps_from m 1 (before ++ (op ∷ []))) opening).bytes ≡ take (length to) frame
+  arrived frame size there =
+      let pages : length here.bytes ≡ length opening.bytes = same_pages does (each_from 0 k f) s ∙ same_pages does (steps_from m 1 before) opening in
+      ap (λ (c : State). gather 0 to c.bytes) (whole_op ∙ stepped_append does (each_from 0 k f) (f k ∷ later) s)
+      ∙ later_blocks does f (λ j. landing m.size owner body tuples j) (lands_there m falls i v owner body tuples) to (suc k) (n - suc k) (act (does (f k)) here)
+      (λ j g. blocks_apart m.size body tuples owner k j mine.once (omega (arith, g)))
+      ∙ ap (gather 0 to) there
+      ∙ landed to frame here.bytes (block_distinct m.size body tuples owner k mine.once)
+      (subst (λ p. AllBelow p to) (sym pages) (block_below m.size body tuples owner (length opening.bytes) k mine.below_end)) size
+
+  abbrev last : Brought
+  last = last_accepted m opening (block_of i v k) past
+
+  lands_as : LandsAs m (does (f k)) to last here → IsReadAs m owner last listed (gather 0 to (stepped does (steps_from m 1 (before ++ (op ∷ []))) opening).bytes)
+  lands_as r =
+      let size = r.size in
+      let enough = mine.enough in
+      let e = arrived r.frame (omega (arith, size, enough)) r.lands in
+      record {
+        is_listed = why_is ∙ r.not_listed;
+        body = ap (data_of m.size) e ∙ take-take m.size (length to) r.frame mine.front ∙ r.body;
+        app = λ takes all.
+            let whole = mine.whole takes in
+            let most = host_most m.mode.dix m.size in
+            ap (λ frame. (tuple_of m.size frame).app) (e ∙ take_all (length to) r.frame (omega (arith, size, whole, most))) ∙ r.app all;
+      }
+
+  pub reads_or_fails : IsReadOrFails m falls before owner v n body tuples after opening k
+  reads_or_fails lost =
+      let rest = later ++ steps_from m (suc (1 + length before)) after in
+      let known = each_is_served m falls (before ++ (op ∷ after)) opening earlier rest (f k) run at_block in
+      let served : IsServed m opening past falls (f k) here =
+      subst (λ c. IsServed m opening past falls (f k) c) reached
+      (subst (λ p. IsServed m opening p falls (f k) (stepped does earlier opening)) happened known) in
+      elim (served lost) [ inl medium ↦ inl (why_is ∙ medium) | inr good ↦ inr (lands_as good) ]
