@@ -33,7 +33,7 @@ pub each_other : {X : Type 0} (P : X → Type 0) (xs ys : List X) → Each P (xs
 each_other P [] ys h = h
 each_other P (x ∷ xs) ys h = each_other P xs ys h.1
 
-each_both : {X : Type 0} (P : X → Type 0) (xs ys : List X) → Each P xs → Each P ys → Each P (xs ++ ys)
+pub each_both : {X : Type 0} (P : X → Type 0) (xs ys : List X) → Each P xs → Each P ys → Each P (xs ++ ys)
 each_both P [] ys h k = k
 each_both P (x ∷ xs) ys h k = (h.0, each_both P xs ys h.1 k)
 

@@ -2,5 +2,6 @@ mod Between
 mod Labelled
 mod Mirrors
 mod Backs
+mod Earlier
 mod RecordRows
 mod FalseLogs

@@ -1,4 +1,4 @@
-use Rattle.std.proofs.Common.{◌≡◌, ◌<◌, ℕ, zero, suc, false, eqb, List, [], ◌∷◌, get_or, Option, Some, None, refl, sym, ◌∙◌, arith}
+use Rattle.std.proofs.Common.{◌≡◌, ◌<◌, ℕ, zero, suc, false, eqb, List, [], ◌∷◌, get_or, Option, Some, None, refl, sym, subst, ◌∙◌, arith}
 use Rattle.std.specs.Prelude.{Ok, Err}
 use Rattle.std.proofs.lemmas.Bool.{ne_eqb}
 use Rattle.std.proofs.lemmas.List.{get_or_past}
@@ -11,6 +11,7 @@ use Rattle.cdb_codec.specs.declared.command.Rw.{Rw}
 use Rattle.cdb_codec.specs.declared.command.Cdb.TheVariants.{Read16, Write16}
 use Rattle.fault_schedule.specs.declared.Label.{Label}
 use Rattle.rig_api.specs.Log.{Entry}
+use Rattle.integrity_payload.specs.declared.payload.Owner.TheVariants.{Block as OfBlock}
 use Rattle.bio_core.specs.declared.fate.Why.TheVariants.{Adapter, Medium}
 use Rattle.bio_core.specs.declared.request.Dir.TheVariants.{Read, Write as ToUnit}
 use Rattle.stack_ops.specs.declared.op.Op.{Op}
@@ -24,9 +25,14 @@ use Rattle.block_path.specs.WayIn.{from_wire}
 use Rattle.block_path.specs.WayOut.{to_wire}
 use Rattle.whole_run.specs.ScriptWalk.{script_replies, script_walk}
 use Rattle.whole_run.specs.Settings.{Setting}
+use Rattle.whole_run.specs.UnderMap.{home}
 use Rattle.whole_run.proofs.ScriptRows.{faulty, formatted, opening, seg}
+use Rattle.run_record.specs.BackedRun.{Backed}
+use Rattle.run_record.specs.EarlierWrites.{LogsAreEmpty, StandsAfter, accepted_in}
 use Rattle.run_record.specs.Records.{recorded, writes_at}
 use Rattle.run_record.specs.ToldRun.{IsRecordOf, told}
+use Rattle.run_record.proofs.Backs.{backs}
+use Rattle.run_record.proofs.Earlier.{stands_after}
 
 -- A log worked by hand: a write that ends at its second block, and a read for which the rig hands out another block's frame.
 
@@ -99,6 +105,33 @@ run_on_record = record {
   where
     none : (c : ℕ) → 4 < c → writes_at m.site c es ≡ []
     none c l = let e = off 2 c (omega arith) l in let f = off 3 c (omega arith) l in rw (e, f) refl
+
+-- Its log backs the replies, and each place has a log that is empty at first.
+backed_replies : Backed m ops opening log replies
+backed_replies = subst (Backed m ops opening log) replies_are (backs m ops opening es run_on_record)
+
+below_five : (v : ℕ) → v < 2 → home m v < 5
+below_five zero l = omega arith
+below_five (suc zero) l = omega arith
+below_five (suc (suc v)) l = absurd (omega (arith, l))
+
+empty_logs : LogsAreEmpty m ops opening
+unfolding run
+empty_logs = record {
+  within = (below_five 0 (omega arith), (below_five 1 (omega arith), (below_five 0 (omega arith), (below_five 1 (omega arith), tt))));
+  empty = five (λ c. get_or opening.logs c [] ≡ []) refl refl refl refl refl (λ c l. get_or_past opening.logs c [] l);
+}
+
+-- The first block of the read stands after one accepted write, the second has none in front of it.
+abbrev written : List Op
+written = Write 0 2 (seg 0 1024) 0 ∷ []
+
+accepted_are : (accepted_in m 2 1 written replies ≡ 1) × (accepted_in m 3 1 written replies ≡ 0)
+accepted_are = (refl, refl)
+
+first_stands : StandsAfter (recorded m log) (record { op = 2; k = 0 }) 1
+unfolding run
+first_stands = stands_after m written [] OfBlock 0 2 0 (seg 0 1024) [] opening es replies backed_replies empty_logs (omega arith) refl
 
 -- and a log of the walk itself, with two reads in another order
 abbrev honest_log : List Entry

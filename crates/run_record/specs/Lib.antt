@@ -3,3 +3,4 @@ pub mod TakenWalk
 pub mod BackedRun
 pub mod CarriedRun
 pub mod ToldRun
+pub mod EarlierWrites
