@@ -31,7 +31,7 @@ use Rattle.run_moves.proofs.Turns.{AllFrom, share_bound}
 -- The moves of one block do what its act does to what is seen.
 
 -- a stored block that is set
-set_fine : (fine : ℕ → List ℕ → Bool) (cell : ℕ) (x : List ℕ) (blocks : List (List ℕ)) → fine cell x ≡ true → ((c : ℕ) → fine c (get_or blocks c []) ≡ true) → (c : ℕ) → fine c (get_or (set blocks cell x) c []) ≡ true
+pub set_fine : (fine : ℕ → List ℕ → Bool) (cell : ℕ) (x : List ℕ) (blocks : List (List ℕ)) → fine cell x ≡ true → ((c : ℕ) → fine c (get_or blocks c []) ≡ true) → (c : ℕ) → fine c (get_or (set blocks cell x) c []) ≡ true
 set_fine fine cell x [] h all c = all c
 set_fine fine zero x (b ∷ blocks) h all zero = h
 set_fine fine zero x (b ∷ blocks) h all (suc c) = all (suc c)

@@ -6,6 +6,8 @@ mod BlocksApart
 mod Behind
 mod Does
 mod Ordered
+mod Fallen
 mod AtTarget
 mod MoveRows
+mod FallenRows
 mod GateRows

@@ -23,11 +23,11 @@ use Rattle.run_moves.proofs.Turns.{from_less, turn_below, turn_distinct, turn_fr
 
 -- From blocks to ops, and to a script by moves in any order.
 
-abbrev wholes : List ByMoves → List (Act Answer)
+abbrev pub wholes : List ByMoves → List (Act Answer)
 wholes [] = []
 wholes (b ∷ blocks) = b.whole ∷ wholes blocks
 
-whole_is : (m : Setting) (own : List ℕ) (fate : ℕ) (step : Step) → (by_moves m own fate step).whole ≡ act_of m step
+pub whole_is : (m : Setting) (own : List ℕ) (fate : ℕ) (step : Step) → (by_moves m own fate step).whole ≡ act_of m step
 whole_is m own fate (Sets at values) = refl
 whole_is m own fate (Shows at) = refl
 whole_is m own fate (Seals body tuple app rtag) = refl
@@ -54,16 +54,16 @@ module _ (m : Setting) (fine : ℕ → List ℕ → Bool) (n : ℕ) (opening : S
   abbrev Shaped : State → Type 0
   Shaped s = IsShaped m fine n opening s
 
-  abbrev AllDo : List ByMoves → Type 0
+  abbrev pub AllDo : List ByMoves → Type 0
   AllDo [] = Unit {0}
   AllDo (b ∷ blocks) = Does m fine n opening b.moves b.whole b.join × AllDo blocks
 
-  record AreBlocks (blocks : List ByMoves) (s : State) : Type 0 where
-    state : hidden n (plain act (all_moves blocks) s) ≡ plain act (wholes blocks) (hidden n s)
-    answers : joins blocks (plain_tells act tell (all_moves blocks) s) ≡ plain_tells act tell (wholes blocks) (hidden n s)
-    shape : Shaped (plain act (all_moves blocks) s)
+  pub record AreBlocks (blocks : List ByMoves) (s : State) : Type 0 where
+    pub state : hidden n (plain act (all_moves blocks) s) ≡ plain act (wholes blocks) (hidden n s)
+    pub answers : joins blocks (plain_tells act tell (all_moves blocks) s) ≡ plain_tells act tell (wholes blocks) (hidden n s)
+    pub shape : Shaped (plain act (all_moves blocks) s)
 
-  moves_are_blocks : (blocks : List ByMoves) (s : State) → AllDo blocks → Shaped s → AreBlocks blocks s
+  pub moves_are_blocks : (blocks : List ByMoves) (s : State) → AllDo blocks → Shaped s → AreBlocks blocks s
   moves_are_blocks [] s d p = record { state = refl; answers = refl; shape = p }
   moves_are_blocks (b ∷ blocks) s d p =
       let after = plain act b.moves s in
@@ -80,7 +80,7 @@ module _ (m : Setting) (fine : ℕ → List ℕ → Bool) (n : ℕ) (opening : S
   abbrev Ready : (own : List ℕ) → (fate : ℕ) → Step → Type 0
   Ready own fate step = IsReady m fine n opening own fate step
 
-  abbrev AllReady : (from fate k : ℕ) → List Step → Type 0
+  abbrev pub AllReady : (from fate k : ℕ) → List Step → Type 0
   AllReady from fate k [] = Unit {0}
   AllReady from fate k (step ∷ steps) = Ready (own_at from k) (fate + k) step × AllReady from fate (suc k) steps
 
@@ -104,7 +104,7 @@ module _ (m : Setting) (fine : ℕ → List ℕ → Bool) (n : ℕ) (opening : S
         within = turn_below (from + 8 * j) 8 (length opening.bytes) (omega (arith, r, e, k));
       }
 
-  op_ready : (from fate i : ℕ) (op : Op) → n ≤ from → from + room_of m op ≤ length opening.bytes → fate + fates_of op ≤ length opening.fates → IsBound m fine n i op → AllReady from fate 0 (steps_of m i op)
+  pub op_ready : (from fate i : ℕ) (op : Op) → n ≤ from → from + room_of m op ≤ length opening.bytes → fate + fates_of op ≤ length opening.fates → IsBound m fine n i op → AllReady from fate 0 (steps_of m i op)
   op_ready from fate i (Fill seg byte) l r f h = (tt, tt)
   op_ready from fate i (Put page off values) l r f h = (tt, tt)
   op_ready from fate i (Show seg) l r f h = (below n (cells_of (seg ∷ [])) h, tt)
