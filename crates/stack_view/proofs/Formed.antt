@@ -25,6 +25,7 @@ use Rattle.stack_view.proofs.Enabled.{group-has}
 
 part-named : (p : Plan) (d : ℕ) (b : Bio) (at n : ℕ) → Named p d b → 1 ≤ n → at + n ≤ b.count → Named p d (part p b at n)
 part-named p d b at n h l m = record {
+  numbered = h.numbered;
   some = l;
   within = let w = h.within in omega arith;
   on = h.on;
@@ -213,6 +214,7 @@ piece-group p i k n s h l m =
     let r : n ≤ p.run_from ((request_at p i).first + k) = omega arith in
     record {
       named = All-cons (Named p (bio_of p i k n).dev) (bio_of p i k n) [] (record {
+        numbered = omega arith;
         some = l;
         within = omega arith;
         on = refl;

@@ -19,6 +19,7 @@ pub record Straight (p : Plan) : Type 0 where
 
 -- a bio of device d names blocks of its request, where they lie
 pub record Named (p : Plan) (d : ℕ) (b : Bio) : Type 0 where
+  pub numbered : 1 ≤ b.op
   pub some : 1 ≤ b.count
   pub within : b.k + b.count ≤ (request_at p (place_of b.op)).count
   pub on : b.dev ≡ d
