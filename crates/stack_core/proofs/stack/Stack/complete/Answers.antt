@@ -1,0 +1,42 @@
+use Rattle.std.proofs.Common.{refl}
+use Rattle.stack_steps.specs.declared.choice.Choice.TheVariants.{Complete}
+use Rattle.stack_core.specs.Stacks.{plan_in}
+use Rattle.stack_core.proofs.Facts.{completed}
+use Rattle.stack_core.proofs.Keeps.{is-stack}
+use Rattle.stack_core.proofs.Steps.{works}
+use Rattle.stack_core.proofs.stack.Stack.complete.Goals as goal
+
+pub settle_all-requires-clause-whole : goal.settle_all-requires-clause-whole
+settle_all-requires-clause-whole c = rw c.ios.ensures c.requires.stack.whole
+
+pub settle_all-requires-clause-kept : goal.settle_all-requires-clause-kept
+settle_all-requires-clause-kept c = rw c.ios.ensures c.requires.stack.kept
+
+pub settle_all-requires-clause-bios : goal.settle_all-requires-clause-bios
+settle_all-requires-clause-bios c =
+    let s = c.args.self.now.sheet in
+    let k = completed s.ops s.shifted.items s.ios.items s.table s.limits s.devices c.args.self.now.machine c.args.i c.complete.new.bios.items c.complete.new.fates.items s.right.fine c.requires.ready c.complete.ensures.lands in
+    rw (c.ios.ensures, c.deref.ensures.value) k.of
+
+pub settle_all-requires-clause-fates : goal.settle_all-requires-clause-fates
+settle_all-requires-clause-fates c =
+    let s = c.args.self.now.sheet in
+    let k = completed s.ops s.shifted.items s.ios.items s.table s.limits s.devices c.args.self.now.machine c.args.i c.complete.new.bios.items c.complete.new.fates.items s.right.fine c.requires.ready c.complete.ensures.lands in
+    rw (c.deref.ensures.value, c.deref-2.ensures.value) k.each
+
+pub returns-clause-stack : goal.returns-clause-stack
+returns-clause-stack c = is-stack c.args.self.now _ c.requires.stack (record {
+  sheet = refl;
+  adapter = refl;
+  works = works (plan_in c.args.self.now.sheet) c.args.self.now.machine c.complete.new.self (Complete c.args.i) 0 c.requires.ready (c.complete.ensures.step 0);
+  pages = c.settle_all.ensures.pages;
+  rooms = c.requires.stack.rooms;
+  kept = rw c.ios.ensures at c.settle_all.ensures.kept;
+  replies = refl;
+  group = c.complete.ensures.bios;
+  fates = c.complete.ensures.fates;
+  scratch = c.requires.stack.lists.scratch_room;
+})
+
+pub returns-clause-stays : goal.returns-clause-stays
+returns-clause-stays c = record { sheet = refl; adapter = refl; host = refl }

@@ -1,0 +1,50 @@
+use Rattle.std.proofs.Common.{◌-◌, refl, arith}
+use Rattle.stack_steps.specs.declared.choice.Choice.TheVariants.{Cut}
+use Rattle.stack_core.specs.Stacks.{plan_in}
+use Rattle.stack_core.proofs.Facts.{piece-is}
+use Rattle.stack_core.proofs.Keeps.{is-stack}
+use Rattle.stack_core.proofs.Steps.{works}
+use Rattle.stack_core.proofs.stack.Stack.cut.Goals as goal
+
+pub io-requires : goal.io-requires
+io-requires c =
+    let s = c.args.self.now.sheet in
+    let k = piece-is s.ops s.shifted.items s.ios.items s.table s.limits s.devices c.args.self.now.machine c.args.q c.args.size c.cut-bio.result s.right.fine c.requires.ready c.cut-bio.ensures.piece in
+    let n = k.numbered in
+    let t = k.there in
+    omega arith
+
+pub map_piece-requires-clause-whole : goal.map_piece-requires-clause-whole
+map_piece-requires-clause-whole c =
+    let s = c.args.self.now.sheet in
+    let k = piece-is s.ops s.shifted.items s.ios.items s.table s.limits s.devices c.args.self.now.machine c.args.q c.args.size c.cut-bio.result s.right.fine c.requires.ready c.cut-bio.ensures.piece in
+    let n = k.numbered in
+    let t = k.there in
+    rw c.io.ensures (c.requires.stack.whole (c.cut-bio.result.op - 1) (omega arith))
+
+pub map_piece-requires-clause-within : goal.map_piece-requires-clause-within
+map_piece-requires-clause-within c =
+    let s = c.args.self.now.sheet in
+    rw c.io.ensures (piece-is s.ops s.shifted.items s.ios.items s.table s.limits s.devices c.args.self.now.machine c.args.q c.args.size c.cut-bio.result s.right.fine c.requires.ready c.cut-bio.ensures.piece).within
+
+pub map_piece-requires-clause-ends : goal.map_piece-requires-clause-ends
+map_piece-requires-clause-ends c =
+    let s = c.args.self.now.sheet in
+    (piece-is s.ops s.shifted.items s.ios.items s.table s.limits s.devices c.args.self.now.machine c.args.q c.args.size c.cut-bio.result s.right.fine c.requires.ready c.cut-bio.ensures.piece).ends
+
+pub returns-clause-stack : goal.returns-clause-stack
+returns-clause-stack c = is-stack c.args.self.now _ c.requires.stack (record {
+  sheet = refl;
+  adapter = refl;
+  works = works (plan_in c.args.self.now.sheet) c.args.self.now.machine c.cut-bio.new.self (Cut c.args.q) c.args.size c.requires.ready c.cut-bio.ensures.step;
+  pages = c.map_piece.ensures;
+  rooms = c.requires.stack.rooms;
+  kept = c.requires.stack.kept;
+  replies = refl;
+  group = refl;
+  fates = refl;
+  scratch = c.requires.stack.lists.scratch_room;
+})
+
+pub returns-clause-stays : goal.returns-clause-stays
+returns-clause-stays c = record { sheet = refl; adapter = refl; host = refl }

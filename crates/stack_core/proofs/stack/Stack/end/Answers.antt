@@ -1,0 +1,58 @@
+use Rattle.std.proofs.Common.{length, ap, refl, ◌∙◌, arith}
+use Rattle.std.proofs.lemmas.List.{length-set}
+use Rattle.stack_steps.specs.declared.choice.Choice.TheVariants.{End}
+use Rattle.stack_core.specs.Stacks.{plan_in}
+use Rattle.stack_core.proofs.Facts.{op-ends}
+use Rattle.stack_core.proofs.Keeps.{is-stack}
+use Rattle.stack_core.proofs.Rooms.{taken}
+use Rattle.stack_core.proofs.Steps.{works}
+use Rattle.stack_core.proofs.stack.Stack.end.Goals as goal
+
+pub take_room-room-requires : goal.take_room-room-requires
+take_room-room-requires c =
+    let s = c.args.self.now.sheet in
+    let l = op-ends s.ops s.shifted.items s.ios.items s.table s.limits s.devices c.args.self.now.machine c.args.q c.end-op.result s.right.fine c.requires.ready c.end-op.ensures.op in
+    let n = c.requires.stack.rooms.count in
+    omega arith
+
+pub io-requires : goal.io-requires
+io-requires c =
+    let s = c.args.self.now.sheet in
+    op-ends s.ops s.shifted.items s.ios.items s.table s.limits s.devices c.args.self.now.machine c.args.q c.end-op.result s.right.fine c.requires.ready c.end-op.ensures.op
+
+pub of-fates-requires-clause-there : goal.of-fates-requires-clause-there
+of-fates-requires-clause-there c =
+    let s = c.args.self.now.sheet in
+    let l = op-ends s.ops s.shifted.items s.ios.items s.table s.limits s.devices c.args.self.now.machine c.args.q c.end-op.result s.right.fine c.requires.ready c.end-op.ensures.op in
+    let n = c.requires.stack.kept.count in
+    omega arith
+
+pub of-fates-requires-clause-within : goal.of-fates-requires-clause-within
+of-fates-requires-clause-within c =
+    let s = c.args.self.now.sheet in
+    let l = op-ends s.ops s.shifted.items s.ios.items s.table s.limits s.devices c.args.self.now.machine c.args.q c.end-op.result s.right.fine c.requires.ready c.end-op.ensures.op in
+    rw (c.io.ensures) (c.requires.stack.kept.within c.end-op.result l)
+
+pub set_reply-requires : goal.set_reply-requires
+set_reply-requires c =
+    let s = c.args.self.now.sheet in
+    let l = op-ends s.ops s.shifted.items s.ios.items s.table s.limits s.devices c.args.self.now.machine c.args.q c.end-op.result s.right.fine c.requires.ready c.end-op.ensures.op in
+    let n = c.requires.stack.replies in
+    omega arith
+
+pub returns-clause-stack : goal.returns-clause-stack
+returns-clause-stack c = is-stack c.args.self.now _ c.requires.stack (record {
+  sheet = refl;
+  adapter = refl;
+  works = works (plan_in c.args.self.now.sheet) c.args.self.now.machine c.end-op.new.self (End c.args.q) 0 c.requires.ready (c.end-op.ensures.step 0);
+  pages = refl;
+  rooms = taken c.args.self.now.pool c.args.self.now.sheet.ops c.args.self.now.sheet.ios.items c.args.self.now.rooms.items c.take_room-room.new.rooms.items c.end-op.result c.requires.stack.rooms c.take_room-room.ensures.rooms;
+  kept = c.requires.stack.kept;
+  replies = ap length c.set_reply.ensures ∙ length-set _ _ _;
+  group = refl;
+  fates = refl;
+  scratch = c.requires.stack.lists.scratch_room;
+})
+
+pub returns-clause-stays : goal.returns-clause-stays
+returns-clause-stays c = record { sheet = refl; adapter = refl; host = refl }

@@ -1,0 +1,23 @@
+use Rattle.std.proofs.Common.{refl}
+use Rattle.stack_steps.specs.declared.choice.Choice.TheVariants.{Join}
+use Rattle.stack_core.specs.Stacks.{plan_in}
+use Rattle.stack_core.proofs.Keeps.{is-stack}
+use Rattle.stack_core.proofs.Steps.{works}
+use Rattle.stack_core.proofs.stack.Stack.join.Goals as goal
+
+pub returns-clause-stack : goal.returns-clause-stack
+returns-clause-stack c = is-stack c.args.self.now _ c.requires.stack (record {
+  sheet = refl;
+  adapter = refl;
+  works = works (plan_in c.args.self.now.sheet) c.args.self.now.machine c.join.new.self (Join c.args.d c.args.i c.args.j) 0 c.requires.ready (c.join.ensures 0);
+  pages = refl;
+  rooms = c.requires.stack.rooms;
+  kept = c.requires.stack.kept;
+  replies = refl;
+  group = refl;
+  fates = refl;
+  scratch = c.requires.stack.lists.scratch_room;
+})
+
+pub returns-clause-stays : goal.returns-clause-stays
+returns-clause-stays c = record { sheet = refl; adapter = refl; host = refl }

@@ -1,0 +1,97 @@
+use Rattle.std.proofs.Common.{◌≡◌, ap, ◌∙◌, length, map, replicate, subst, sym, arith}
+use Rattle.std.proofs.lemmas.List.{length-map}
+use Rattle.range_gate.specs.declared.phase.Phase.TheVariants.{Waiting}
+use Rattle.stack_view.specs.Runs.{blocks_of_requests}
+use Rattle.stack_view.specs.View.{start}
+use Rattle.stack_steps.specs.Shows.{IsGateOf}
+use Rattle.stack_core.specs.Sheets.{prints_of, request_in}
+use Rattle.stack_core.specs.Requests.{pages_from, requests_from}
+use Rattle.stack_core.specs.Stacks.{plan_in}
+use Rattle.stack_core.proofs.Begin.{length-requests}
+use Rattle.stack_core.proofs.FirstStack.{first-stack}
+use Rattle.stack_core.proofs.Gates.{gate-is, length-prints}
+use Rattle.stack_core.proofs.Opening.{inside-each, numbers, own-few, sheet-is}
+use Rattle.stack_core.proofs.stack.Stack.new.Goals as goal
+
+pub new-requires : goal.new-requires
+new-requires c =
+    let v = c.in_ok-footprints.field-0 in
+    let n = length-prints c.as_slice-3.result.now c.deref.result.now in
+    let o = ap length c.as_slice-3.ensures in
+    let e = ap length c.in_ok-footprints.ensures in
+    let f = c.requires.1.few_ops in
+    omega (arith, v.ok.0)
+
+pub requests-requires-clause-blocks : goal.requests-requires-clause-blocks
+requests-requires-clause-blocks c =
+    let s = c.args.setup in
+    rw (c.as_slice-4.ensures) (own-few s.table s.mode.dix s.mode.protect s.limits s.pages c.requires.0 c.args.ops c.requires.1)
+
+pub count_devices-devices-requires-clause-inside : goal.count_devices-devices-requires-clause-inside
+count_devices-devices-requires-clause-inside c =
+    let s = c.args.setup in
+    let e : c.deref-2.result.now ≡ requests_from s.mode.dix s.pages c.args.ops = c.deref-2.ensures.value ∙ c.in_ok-ios.ensures.ios ∙ ap (requests_from s.mode.dix s.pages) c.as_slice-4.ensures in
+    rw e (inside-each s.table s.mode.dix s.mode.protect s.limits s.pages c.requires.0 c.args.ops c.requires.1)
+
+pub count_devices-devices-requires-clause-numbers : goal.count_devices-devices-requires-clause-numbers
+count_devices-devices-requires-clause-numbers c =
+    let s = c.args.setup in
+    let e : c.deref-2.result.now ≡ requests_from s.mode.dix s.pages c.args.ops = c.deref-2.ensures.value ∙ c.in_ok-ios.ensures.ios ∙ ap (requests_from s.mode.dix s.pages) c.as_slice-4.ensures in
+    rw e (numbers s.table s.mode.dix s.mode.protect s.limits s.pages c.requires.0 c.args.ops c.requires.1)
+
+pub sheet_of-sheet-requires : goal.sheet_of-sheet-requires
+sheet_of-sheet-requires c =
+    let s = c.args.setup in
+    let e : c.deref-2.result.now ≡ requests_from s.mode.dix s.pages c.args.ops = c.deref-2.ensures.value ∙ c.in_ok-ios.ensures.ios ∙ ap (requests_from s.mode.dix s.pages) c.as_slice-4.ensures in
+    let i : c.in_ok-ios.ios.items ≡ requests_from s.mode.dix s.pages c.args.ops = c.in_ok-ios.ensures.ios ∙ ap (requests_from s.mode.dix s.pages) c.as_slice-4.ensures in
+    rw i (sheet-is s.table s.mode.dix s.mode.protect s.limits s.pages c.requires.0 c.args.ops c.in_ok-shifted.shifted.items c.count_devices-devices.result c.requires.1 c.count_devices-devices.ensures.few (rw e at c.count_devices-devices.ensures.all))
+
+pub new-requires-3-clause-ops : goal.new-requires-3-clause-ops
+new-requires-3-clause-ops c =
+    let s = c.args.setup in
+    let ios = c.sheet_of-sheet.result.ios.items in
+    let a = ap length c.in_ok-footprints.ensures in
+    let b = length-prints c.as_slice-3.result.now c.deref.result.now in
+    let d = ap length c.as_slice-3.ensures in
+    let i = ap length (c.sheet_of-sheet.ensures.ios ∙ c.in_ok-ios.ensures.ios ∙ ap (requests_from s.mode.dix s.pages) c.as_slice-4.ensures) in
+    let r = length-requests s.mode.dix s.pages c.args.ops in
+    let m = length-map ios request_in in
+    let n : length c.in_ok-footprints.field-0.items ≡ length (map request_in ios) = omega arith in
+    c.in_ok-gate.ensures.phases ∙ ap (λ n. replicate n Waiting) n
+
+pub new-requires-3-clause-conflicts : goal.new-requires-3-clause-conflicts
+new-requires-3-clause-conflicts c =
+    let s = c.args.setup in
+    let shifted = c.in_ok-shifted.shifted.items in
+    let a = c.in_ok-footprints.ensures in
+    let b = c.as_slice-3.ensures in
+    let d = c.deref.ensures.value in
+    let e : c.in_ok-footprints.field-0.items ≡ prints_of c.args.ops shifted = cc in
+    let n : length c.in_ok-ios.ios.items ≡ length c.args.ops = ap length (c.in_ok-ios.ensures.ios ∙ ap (requests_from s.mode.dix s.pages) c.as_slice-4.ensures) ∙ length-requests s.mode.dix s.pages c.args.ops in
+    subst (λ p. IsGateOf p c.in_ok-gate.gate) (sym c.sheet_of-sheet.ensures.plan)
+    (gate-is c.args.ops shifted c.in_ok-ios.ios.items s.table s.limits c.count_devices-devices.result c.in_ok-gate.gate n (rw e at c.in_ok-gate.ensures))
+
+pub returns-clause-stack : goal.returns-clause-stack
+returns-clause-stack c =
+    let s = c.args.setup in
+    let i : c.in_ok-ios.ios.items ≡ requests_from s.mode.dix s.pages c.args.ops = c.in_ok-ios.ensures.ios ∙ ap (requests_from s.mode.dix s.pages) c.as_slice-4.ensures in
+    let k : c.deref-3.result.now ≡ requests_from s.mode.dix s.pages c.args.ops = c.deref-3.ensures.value ∙ i in
+    let n = c.in_ok-kept.ensures.count ∙ ap (λ ios. blocks_of_requests (map request_in ios)) k in
+    let l = ap length i ∙ length-requests s.mode.dix s.pages c.args.ops in
+    first-stack s.table s.mode.dix s.mode.protect s.limits s.pages c.requires.0 c.args.ops _ c.requires.1 (record {
+      ops_are = c.sheet_of-sheet.ensures.ops;
+      ios_are = c.sheet_of-sheet.ensures.ios ∙ i;
+      limits_are = c.sheet_of-sheet.ensures.limits;
+      works = (start (plan_in c.sheet_of-sheet.result), c.in_ok-machine.ensures);
+      protect_is = ap (λ a. a.protect) c.adapter_of.ensures;
+      dix_is = ap (λ a. a.dix) c.adapter_of.ensures;
+      count = c.in_ok-new.ensures.pages ∙ c.in_ok-ios.ensures.pages ∙ ap (pages_from s.mode.dix s.pages) c.as_slice-4.ensures;
+      rooms = c.in_ok-rooms.ensures.count ∙ ap length c.as_slice-5.ensures;
+      bad = rw (c.as_slice-5.ensures) at c.in_ok-rooms.ensures.bad;
+      suits = rw (c.as_slice-5.ensures) at c.in_ok-rooms.ensures.suits;
+      kept = rw k at c.in_ok-kept.ensures.fates;
+      replies = omega (arith, c.in_ok-ios.ios.ok.0, c.len.ensures, c.in_ok-replies.ensures);
+      group = omega (arith, c.in_ok-with_capacity.ensures.exact, c.blocks-blocks.ensures);
+      fates = omega (arith, c.in_ok-with_capacity-2.ensures.exact, c.blocks-blocks.ensures);
+      scratch = c.in_ok-new-2.ensures;
+    })

@@ -1,0 +1,75 @@
+use Rattle.std.proofs.Common.{ap, refl, ◌∙◌, arith}
+use Rattle.dix_adapter.specs.Groups.{size}
+use Rattle.stack_core.specs.Stacks.{plan_in}
+use Rattle.stack_core.proofs.Keeps.{is-stack}
+use Rattle.stack_core.proofs.Sending.{settles-of}
+use Rattle.stack_core.proofs.Sent.{can-carry, holds-fewer, holds-still, sending, sent-works, spare-sent}
+use Rattle.stack_core.proofs.stack.Stack.send.Goals as goal
+
+pub carry-requires-clause-group : goal.carry-requires-clause-group
+carry-requires-clause-group g c =
+    let k = can-carry c.args.self.now c.args.d c.args.i c.take.new.group.items c.take.new.self (g.R.Rig.standing c.args.rig.now) (g.R.Rig.room c.args.rig.now) c.requires.stack c.requires.spare c.requires.rig c.requires.ready c.take.ensures.takes in
+    (k.bytes, rw (c.ios.ensures, c.deref.ensures.value) k.fits)
+
+pub carry-requires-clause-scratch : goal.carry-requires-clause-scratch
+carry-requires-clause-scratch g c =
+    let k = can-carry c.args.self.now c.args.d c.args.i c.take.new.group.items c.take.new.self (g.R.Rig.standing c.args.rig.now) (g.R.Rig.room c.args.rig.now) c.requires.stack c.requires.spare c.requires.rig c.requires.ready c.take.ensures.takes in
+    rw c.deref.ensures.value (holds-fewer c.args.self.now.sheet.limits.max_blocks _ c.args.self.now.scratch k.most c.requires.stack.lists.scratch_room)
+
+pub carry-requires-clause-fates : goal.carry-requires-clause-fates
+carry-requires-clause-fates g c =
+    let k = can-carry c.args.self.now c.args.d c.args.i c.take.new.group.items c.take.new.self (g.R.Rig.standing c.args.rig.now) (g.R.Rig.room c.args.rig.now) c.requires.stack c.requires.spare c.requires.rig c.requires.ready c.take.ensures.takes in
+    let f = k.few in
+    let r = c.requires.stack.lists.fates_room in
+    rw c.deref.ensures.value (omega arith)
+
+pub carry-requires-clause-device : goal.carry-requires-clause-device
+carry-requires-clause-device g c =
+    let k = can-carry c.args.self.now c.args.d c.args.i c.take.new.group.items c.take.new.self (g.R.Rig.standing c.args.rig.now) (g.R.Rig.room c.args.rig.now) c.requires.stack c.requires.spare c.requires.rig c.requires.ready c.take.ensures.takes in
+    rw c.deref.ensures.value k.device
+
+pub carry-requires-clause-spare : goal.carry-requires-clause-spare
+carry-requires-clause-spare g c =
+    let k = can-carry c.args.self.now c.args.d c.args.i c.take.new.group.items c.take.new.self (g.R.Rig.standing c.args.rig.now) (g.R.Rig.room c.args.rig.now) c.requires.stack c.requires.spare c.requires.rig c.requires.ready c.take.ensures.takes in
+    rw c.deref.ensures.value k.spare
+
+pub fly-requires : goal.fly-requires
+fly-requires g c =
+    let s = settles-of c.take.new.group.items c.carry.new.fates.items (c.carry.ensures.count ∙ ap size c.deref.ensures.value) c.carry.ensures.settles in
+    rw (c.deref-2.ensures.value, c.deref-3.ensures.value) (sending (plan_in c.args.self.now.sheet) c.args.self.now.machine c.take.new.self c.args.d c.args.i c.take.new.group.items c.carry.new.fates.items c.requires.ready c.take.ensures.takes s)
+
+pub returns-clause-stack : goal.returns-clause-stack
+returns-clause-stack g c =
+    let s = settles-of c.take.new.group.items c.carry.new.fates.items (c.carry.ensures.count ∙ ap size c.deref.ensures.value) c.carry.ensures.settles in
+    is-stack c.args.self.now _ c.requires.stack (record {
+      sheet = refl;
+      adapter = refl;
+      works = sent-works (plan_in c.args.self.now.sheet) c.args.self.now.machine c.take.new.self c.fly.new.self c.args.d c.args.i c.take.new.group.items c.carry.new.fates.items c.requires.ready c.take.ensures.takes s (rw (c.deref-2.ensures.value, c.deref-3.ensures.value) at c.fly.ensures);
+      pages = c.carry.ensures.pages;
+      rooms = c.requires.stack.rooms;
+      kept = c.requires.stack.kept;
+      replies = refl;
+      group = c.take.ensures.capacity;
+      fates = c.carry.ensures.capacity;
+      scratch = holds-still c.args.self.now.sheet.limits.max_blocks c.args.self.now.scratch c.carry.new.scratch c.carry.ensures.keeps_room c.requires.stack.lists.scratch_room;
+    })
+
+pub returns-clause-stays : goal.returns-clause-stays
+returns-clause-stays g c = record { sheet = refl; adapter = refl; host = refl }
+
+pub returns-clause-sends : goal.returns-clause-sends
+returns-clause-sends g c =
+    record {
+      taken = c.take.new.self;
+      group = c.take.new.group.items;
+      fates = c.carry.new.fates.items;
+      takes = c.take.ensures.takes;
+      flies = rw (c.deref-2.ensures.value, c.deref-3.ensures.value) at c.fly.ensures;
+      settles = settles-of c.take.new.group.items c.carry.new.fates.items (c.carry.ensures.count ∙ ap size c.deref.ensures.value) c.carry.ensures.settles;
+    }
+
+pub returns-clause-spare : goal.returns-clause-spare
+returns-clause-spare g c =
+    let s = settles-of c.take.new.group.items c.carry.new.fates.items (c.carry.ensures.count ∙ ap size c.deref.ensures.value) c.carry.ensures.settles in
+    spare-sent c.args.self.now _ c.take.new.self c.args.d c.args.i c.take.new.group.items c.carry.new.fates.items (g.R.Rig.standing c.args.rig.now) (g.R.Rig.standing c.carry.new.rig) (g.R.Rig.room c.args.rig.now) (g.R.Rig.room c.carry.new.rig)
+    c.requires.spare c.requires.ready c.take.ensures.takes s (rw (c.deref-2.ensures.value, c.deref-3.ensures.value) at c.fly.ensures) c.carry.ensures.spent refl c.carry.ensures.standing

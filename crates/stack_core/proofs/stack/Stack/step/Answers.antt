@@ -1,0 +1,93 @@
+use Rattle.std.proofs.Common.{refl}
+use Rattle.stack_steps.specs.declared.choice.Choice.TheVariants.{Admit, Complete, Cut, End, Join, Send}
+use Rattle.stack_steps.specs.Does.{Chooses}
+use Rattle.stack_core.specs.Stacks.{plan_in}
+use Rattle.stack_core.proofs.Going.{can-step, spare-left}
+use Rattle.stack_core.proofs.Steps.{one-send, one-step, ready}
+use Rattle.stack_core.proofs.stack.Stack.step.Goals as goal
+
+pub end-requires-clause-ready : goal.end-requires-clause-ready
+end-requires-clause-ready g c =
+    let h : Chooses (plan_in c.args.self.now.sheet) c.args.self.now.machine c.args.word (End c.in-End.q) = rw c.in-End.is at c.choose-choice.ensures in
+    ready (plan_in c.args.self.now.sheet) c.args.self.now.machine c.args.word (End c.in-End.q) (can-step c.args.self.now (g.R.Rig.standing c.args.rig.now) (g.R.Rig.room c.args.rig.now) c.requires.spare c.requires.some) h
+
+pub returns-in-End-clause-step : goal.returns-in-End-clause-step
+returns-in-End-clause-step g c =
+    let h : Chooses (plan_in c.args.self.now.sheet) c.args.self.now.machine c.args.word (End c.in-End.q) = rw c.in-End.is at c.choose-choice.ensures in
+    one-step (plan_in c.args.self.now.sheet) c.args.self.now.machine c.end.new.self.machine c.args.word c.args.cut (End c.in-End.q) tt h (c.end.ensures.step c.args.cut)
+
+pub returns-in-End-clause-spare : goal.returns-in-End-clause-spare
+returns-in-End-clause-spare g c =
+    let h : Chooses (plan_in c.args.self.now.sheet) c.args.self.now.machine c.args.word (End c.in-End.q) = rw c.in-End.is at c.choose-choice.ensures in
+    spare-left c.args.self.now c.end.new.self c.args.word c.args.cut (End c.in-End.q) (g.R.Rig.standing c.args.rig.now) (g.R.Rig.standing c.args.rig.now) (g.R.Rig.room c.args.rig.now) (g.R.Rig.room c.args.rig.now) tt c.args.self.now.sheet.right.fine c.requires.spare c.requires.some h (c.end.ensures.step c.args.cut) c.end.ensures.stays.sheet refl refl
+
+pub complete-requires-clause-ready : goal.complete-requires-clause-ready
+complete-requires-clause-ready g c =
+    let h : Chooses (plan_in c.args.self.now.sheet) c.args.self.now.machine c.args.word (Complete c.in-Complete.i) = rw c.in-Complete.is at c.choose-choice.ensures in
+    ready (plan_in c.args.self.now.sheet) c.args.self.now.machine c.args.word (Complete c.in-Complete.i) (can-step c.args.self.now (g.R.Rig.standing c.args.rig.now) (g.R.Rig.room c.args.rig.now) c.requires.spare c.requires.some) h
+
+pub returns-in-Complete-clause-step : goal.returns-in-Complete-clause-step
+returns-in-Complete-clause-step g c =
+    let h : Chooses (plan_in c.args.self.now.sheet) c.args.self.now.machine c.args.word (Complete c.in-Complete.i) = rw c.in-Complete.is at c.choose-choice.ensures in
+    one-step (plan_in c.args.self.now.sheet) c.args.self.now.machine c.complete.new.self.machine c.args.word c.args.cut (Complete c.in-Complete.i) tt h (c.complete.ensures.step c.args.cut)
+
+pub returns-in-Complete-clause-spare : goal.returns-in-Complete-clause-spare
+returns-in-Complete-clause-spare g c =
+    let h : Chooses (plan_in c.args.self.now.sheet) c.args.self.now.machine c.args.word (Complete c.in-Complete.i) = rw c.in-Complete.is at c.choose-choice.ensures in
+    spare-left c.args.self.now c.complete.new.self c.args.word c.args.cut (Complete c.in-Complete.i) (g.R.Rig.standing c.args.rig.now) (g.R.Rig.standing c.args.rig.now) (g.R.Rig.room c.args.rig.now) (g.R.Rig.room c.args.rig.now) tt c.args.self.now.sheet.right.fine c.requires.spare c.requires.some h (c.complete.ensures.step c.args.cut) c.complete.ensures.stays.sheet refl refl
+
+pub admit-requires-clause-ready : goal.admit-requires-clause-ready
+admit-requires-clause-ready g c =
+    let h : Chooses (plan_in c.args.self.now.sheet) c.args.self.now.machine c.args.word (Admit c.in-Admit.q) = rw c.in-Admit.is at c.choose-choice.ensures in
+    ready (plan_in c.args.self.now.sheet) c.args.self.now.machine c.args.word (Admit c.in-Admit.q) (can-step c.args.self.now (g.R.Rig.standing c.args.rig.now) (g.R.Rig.room c.args.rig.now) c.requires.spare c.requires.some) h
+
+pub returns-in-Admit-clause-step : goal.returns-in-Admit-clause-step
+returns-in-Admit-clause-step g c =
+    let h : Chooses (plan_in c.args.self.now.sheet) c.args.self.now.machine c.args.word (Admit c.in-Admit.q) = rw c.in-Admit.is at c.choose-choice.ensures in
+    one-step (plan_in c.args.self.now.sheet) c.args.self.now.machine c.admit.new.self.machine c.args.word c.args.cut (Admit c.in-Admit.q) tt h (c.admit.ensures.step c.args.cut)
+
+pub returns-in-Admit-clause-spare : goal.returns-in-Admit-clause-spare
+returns-in-Admit-clause-spare g c =
+    let h : Chooses (plan_in c.args.self.now.sheet) c.args.self.now.machine c.args.word (Admit c.in-Admit.q) = rw c.in-Admit.is at c.choose-choice.ensures in
+    spare-left c.args.self.now c.admit.new.self c.args.word c.args.cut (Admit c.in-Admit.q) (g.R.Rig.standing c.args.rig.now) (g.R.Rig.standing c.admit.new.rig) (g.R.Rig.room c.args.rig.now) (g.R.Rig.room c.admit.new.rig) tt c.args.self.now.sheet.right.fine c.requires.spare c.requires.some h (c.admit.ensures.step c.args.cut) c.admit.ensures.stays.sheet c.admit.ensures.standing c.admit.ensures.room
+
+pub cut-requires-clause-ready : goal.cut-requires-clause-ready
+cut-requires-clause-ready g c =
+    let h : Chooses (plan_in c.args.self.now.sheet) c.args.self.now.machine c.args.word (Cut c.in-Cut.q) = rw c.in-Cut.is at c.choose-choice.ensures in
+    ready (plan_in c.args.self.now.sheet) c.args.self.now.machine c.args.word (Cut c.in-Cut.q) (can-step c.args.self.now (g.R.Rig.standing c.args.rig.now) (g.R.Rig.room c.args.rig.now) c.requires.spare c.requires.some) h
+
+pub returns-in-Cut-clause-step : goal.returns-in-Cut-clause-step
+returns-in-Cut-clause-step g c =
+    let h : Chooses (plan_in c.args.self.now.sheet) c.args.self.now.machine c.args.word (Cut c.in-Cut.q) = rw c.in-Cut.is at c.choose-choice.ensures in
+    one-step (plan_in c.args.self.now.sheet) c.args.self.now.machine c.cut.new.self.machine c.args.word c.args.cut (Cut c.in-Cut.q) tt h c.cut.ensures.step
+
+pub returns-in-Cut-clause-spare : goal.returns-in-Cut-clause-spare
+returns-in-Cut-clause-spare g c =
+    let h : Chooses (plan_in c.args.self.now.sheet) c.args.self.now.machine c.args.word (Cut c.in-Cut.q) = rw c.in-Cut.is at c.choose-choice.ensures in
+    spare-left c.args.self.now c.cut.new.self c.args.word c.args.cut (Cut c.in-Cut.q) (g.R.Rig.standing c.args.rig.now) (g.R.Rig.standing c.args.rig.now) (g.R.Rig.room c.args.rig.now) (g.R.Rig.room c.args.rig.now) tt c.args.self.now.sheet.right.fine c.requires.spare c.requires.some h c.cut.ensures.step c.cut.ensures.stays.sheet refl refl
+
+pub join-requires-clause-ready : goal.join-requires-clause-ready
+join-requires-clause-ready g c =
+    let h : Chooses (plan_in c.args.self.now.sheet) c.args.self.now.machine c.args.word (Join c.in-Join.d c.in-Join.i c.in-Join.j) = rw c.in-Join.is at c.choose-choice.ensures in
+    ready (plan_in c.args.self.now.sheet) c.args.self.now.machine c.args.word (Join c.in-Join.d c.in-Join.i c.in-Join.j) (can-step c.args.self.now (g.R.Rig.standing c.args.rig.now) (g.R.Rig.room c.args.rig.now) c.requires.spare c.requires.some) h
+
+pub returns-in-Join-clause-step : goal.returns-in-Join-clause-step
+returns-in-Join-clause-step g c =
+    let h : Chooses (plan_in c.args.self.now.sheet) c.args.self.now.machine c.args.word (Join c.in-Join.d c.in-Join.i c.in-Join.j) = rw c.in-Join.is at c.choose-choice.ensures in
+    one-step (plan_in c.args.self.now.sheet) c.args.self.now.machine c.join.new.self.machine c.args.word c.args.cut (Join c.in-Join.d c.in-Join.i c.in-Join.j) tt h (c.join.ensures.step c.args.cut)
+
+pub returns-in-Join-clause-spare : goal.returns-in-Join-clause-spare
+returns-in-Join-clause-spare g c =
+    let h : Chooses (plan_in c.args.self.now.sheet) c.args.self.now.machine c.args.word (Join c.in-Join.d c.in-Join.i c.in-Join.j) = rw c.in-Join.is at c.choose-choice.ensures in
+    spare-left c.args.self.now c.join.new.self c.args.word c.args.cut (Join c.in-Join.d c.in-Join.i c.in-Join.j) (g.R.Rig.standing c.args.rig.now) (g.R.Rig.standing c.args.rig.now) (g.R.Rig.room c.args.rig.now) (g.R.Rig.room c.args.rig.now) tt c.args.self.now.sheet.right.fine c.requires.spare c.requires.some h (c.join.ensures.step c.args.cut) c.join.ensures.stays.sheet refl refl
+
+pub send-requires-clause-ready : goal.send-requires-clause-ready
+send-requires-clause-ready g c =
+    let h : Chooses (plan_in c.args.self.now.sheet) c.args.self.now.machine c.args.word (Send c.in-Send.d c.in-Send.i) = rw c.in-Send.is at c.choose-choice.ensures in
+    ready (plan_in c.args.self.now.sheet) c.args.self.now.machine c.args.word (Send c.in-Send.d c.in-Send.i) (can-step c.args.self.now (g.R.Rig.standing c.args.rig.now) (g.R.Rig.room c.args.rig.now) c.requires.spare c.requires.some) h
+
+pub returns-in-Send-clause-step : goal.returns-in-Send-clause-step
+returns-in-Send-clause-step g c =
+    let h : Chooses (plan_in c.args.self.now.sheet) c.args.self.now.machine c.args.word (Send c.in-Send.d c.in-Send.i) = rw c.in-Send.is at c.choose-choice.ensures in
+    let x = c.send.ensures.sends in
+    one-send (plan_in c.args.self.now.sheet) c.args.self.now.machine x.taken c.send.new.self.machine c.args.word c.args.cut c.in-Send.d c.in-Send.i x.group x.fates h x.takes x.flies x.settles

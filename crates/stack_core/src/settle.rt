@@ -1,0 +1,286 @@
+//! Settling the blocks of a completed command.
+
+ghost use Rattle.std.specs.Prelude.{◌≡◌, ◌<◌, ◌≤◌, ◌+◌, ◌-◌, ◌*◌, ◌/◌, ◌^◌, length, slice_index_or, Some};
+ghost use Rattle.std.specs.List.{All};
+ghost use Rattle.page_pool.specs.Pages.{AllLieIn};
+ghost use Rattle.page_pool.specs.Places.{NoneTwice, places_in, total};
+ghost use Rattle.pi_guard.specs.Guards.{guard_of};
+ghost use Rattle.pi_tuple.specs.Finds.{finding};
+ghost use Rattle.pi_tuple.specs.Tuples.{ref_tag};
+ghost use Rattle.integrity_payload.specs.Payloads.{all_asked, block_of, tuple_of};
+ghost use Rattle.bio_core.specs.declared.request.Dir.TheVariants.{Read};
+ghost use Rattle.merge_queue.specs.Groups.{size};
+ghost use Rattle.stack_core.specs.Sheets.{io_at};
+ghost use Rattle.stack_core.specs.Settling.{AreAllWhole, AreFates, HasTuples, IsOf, IsWhole, fate_by, found_by};
+
+use crate::kept::Fates;
+use bio_core::{Bio, Dir, Fate, Io, Why};
+use dix_adapter::Mode;
+use integrity_payload::{Owner, Payload};
+use page_pool::{PagePool, SgList};
+use pi_tuple::{Check, PiType};
+use ref_remap::map_back;
+
+/// A block of a read whose tuple its owner found at fault.
+fn found_by(owner: Owner, check: Check) -> Why
+    ensures { result ≡ found_by owner check }
+{
+    match owner {
+        Owner::Block => Why::Block(check),
+        Owner::App => Why::App(check),
+    }
+}
+
+/// What the owner of its tuple says of a block that came.
+fn verified(pool: &PagePool, io: &Io, pi: &Payload, mode: Mode, ty: PiType, k: u32) -> Fate
+    requires whole { IsWhole pool.now io.now }
+    requires tuples { HasTuples pool.now io.now pi.now }
+    requires within { k < io.now.count }
+    ensures { result ≡ fate_by pi.now.owner (finding ty (all_asked mode.app mode.mask) (ref_tag (pi.now.seed + k))
+        (guard_of mode.kind (block_of pool.now io.now.body (total io.now.body / pi.now.count) k)) (tuple_of pool.now pi.now.tuples k)) }
+{
+    match pi.verify(pool, &io.body, mode.kind, ty, k, mode.app, mode.mask) {
+        Some(check) => Fate::Bad(found_by(pi.owner, check)),
+        None => Fate::Good,
+    }
+}
+
+/// Zeros the data of a block of a read.
+fn blank_data(pool: &mut PagePool, io: &Io, k: u32)
+    requires whole { IsWhole pool.old io.now }
+    requires read { io.now.dir ≡ Read }
+    requires within { k < io.now.count }
+    ensures { length pool.new ≡ length pool.old }
+{
+    // The body's bytes are known to be few once it was looked at.
+    let _segs = io.body.as_slice();
+    let size = io.block_size();
+    pool.zero(&io.body, k * size, size);
+}
+
+/// Zeros the tuple of a block, where it has one.
+fn blank_tuple(pool: &mut PagePool, io: &Io, k: u32)
+    requires whole { IsWhole pool.old io.now }
+    requires within { k < io.now.count }
+    ensures { length pool.new ≡ length pool.old }
+{
+    if let Some(pi) = &io.pi {
+        zero_tuple(pool, &pi.tuples, k);
+    }
+}
+
+fn zero_tuple(pool: &mut PagePool, tuples: &SgList, k: u32)
+    requires lie { AllLieIn pool.old tuples.now }
+    requires once { NoneTwice (places_in tuples.now) }
+    requires within { 8 * k + 8 ≤ total tuples.now }
+    ensures { length pool.new ≡ length pool.old }
+{
+    // The list's bytes are known to be few once it was looked at.
+    let _segs = tuples.as_slice();
+    pool.zero(tuples, 8 * k, 8);
+}
+
+/// Zeros the data of a block of a read that failed, and its tuple.
+fn blank(pool: &mut PagePool, io: &Io, k: u32)
+    requires whole { IsWhole pool.old io.now }
+    requires read { io.now.dir ≡ Read }
+    requires within { k < io.now.count }
+    ensures { length pool.new ≡ length pool.old }
+{
+    blank_data(pool, io, k);
+    blank_tuple(pool, io, k);
+}
+
+/// A good block that was read has its tag mapped back and is looked at by its owner.
+fn look_at(
+    pool: &mut PagePool,
+    io: &Io,
+    pi: &Payload,
+    mode: Mode,
+    ty: PiType,
+    k: u32,
+    lba: u64,
+) -> Fate
+    requires whole { IsWhole pool.old io.now }
+    requires tuples { HasTuples pool.old io.now pi.now }
+    requires within { k < io.now.count }
+    requires ends { lba + 1 < 2 ^ 64 }
+    ensures { length pool.new ≡ length pool.old }
+{
+    map_back(pool, pi, ty, k, 1, lba);
+    verified(pool, io, pi, mode, ty, k)
+}
+
+/// What becomes of a block that was read.
+fn judge_read(
+    pool: &mut PagePool,
+    io: &Io,
+    mode: Mode,
+    ty: PiType,
+    k: u32,
+    lba: u64,
+    fate: Fate,
+) -> Fate
+    requires whole { IsWhole pool.old io.now }
+    requires within { k < io.now.count }
+    requires ends { lba + 1 < 2 ^ 64 }
+    ensures { length pool.new ≡ length pool.old }
+{
+    match (fate, &io.pi) {
+        (Fate::Good, Some(pi)) => look_at(pool, io, pi, mode, ty, k, lba),
+        _ => fate,
+    }
+}
+
+fn blank_unless_good(pool: &mut PagePool, io: &Io, k: u32, fate: Fate)
+    requires whole { IsWhole pool.old io.now }
+    requires read { io.now.dir ≡ Read }
+    requires within { k < io.now.count }
+    ensures { length pool.new ≡ length pool.old }
+{
+    if fate != Fate::Good {
+        blank(pool, io, k);
+    }
+}
+
+/// Settles a block that was read: a good one has its tag mapped back and is looked at by its owner; zeros stand in
+/// place of a bad one.
+fn settle_read(
+    pool: &mut PagePool,
+    io: &Io,
+    mode: Mode,
+    ty: PiType,
+    k: u32,
+    lba: u64,
+    fate: Fate,
+) -> Fate
+    requires whole { IsWhole pool.old io.now }
+    requires read { io.now.dir ≡ Read }
+    requires within { k < io.now.count }
+    requires ends { lba + 1 < 2 ^ 64 }
+    ensures { length pool.new ≡ length pool.old }
+{
+    let settled = judge_read(pool, io, mode, ty, k, lba, fate);
+    blank_unless_good(pool, io, k, settled);
+    settled
+}
+
+/// Settles a block that was written: its tag is mapped back.
+fn settle_write(pool: &mut PagePool, io: &Io, ty: PiType, k: u32, lba: u64)
+    requires whole { IsWhole pool.old io.now }
+    requires within { k < io.now.count }
+    requires ends { lba + 1 < 2 ^ 64 }
+    ensures { length pool.new ≡ length pool.old }
+{
+    if let Some(pi) = &io.pi {
+        map_back(pool, pi, ty, k, 1, lba);
+    }
+}
+
+/// Settles block `k` of a request, which lies at this address.
+fn settle_block(
+    pool: &mut PagePool,
+    io: &Io,
+    mode: Mode,
+    ty: PiType,
+    k: u32,
+    lba: u64,
+    fate: Fate,
+) -> Fate
+    requires whole { IsWhole pool.old io.now }
+    requires within { k < io.now.count }
+    requires ends { lba + 1 < 2 ^ 64 }
+    ensures { length pool.new ≡ length pool.old }
+{
+    match io.dir {
+        Dir::Read => settle_read(pool, io, mode, ty, k, lba, fate),
+        Dir::Write => {
+            settle_write(pool, io, ty, k, lba);
+            fate
+        }
+    }
+}
+
+/// Settles block `i` of a bio, unless it is untouched.
+fn settle_one(
+    pool: &mut PagePool,
+    io: &Io,
+    mode: Mode,
+    ty: PiType,
+    bio: &Bio,
+    i: u32,
+    fate: Fate,
+    kept: &mut Fates,
+)
+    requires whole { IsWhole pool.old io.now }
+    requires within { bio.now.k + bio.now.count ≤ io.now.count }
+    requires there { i < bio.now.count }
+    requires ends { bio.now.lba + bio.now.count < 2 ^ 64 }
+    requires numbered { 1 ≤ bio.now.op }
+    requires starts { bio.now.op ≤ length kept.old.starts.items }
+    requires held { slice_index_or kept.old.starts.items (bio.now.op - 1) 0 + io.now.count ≤ length kept.old.held.items }
+    ensures pages { length pool.new ≡ length pool.old }
+    ensures starts { kept.new.starts.items ≡ kept.old.starts.items }
+    ensures held { length kept.new.held.items ≡ length kept.old.held.items }
+{
+    // That the request has few blocks is known once their number was looked at.
+    let _blocks = io.count;
+    if fate != Fate::Untouched {
+        let k = bio.k + i;
+        let lba = bio.lba + i as u64;
+        let settled = settle_block(pool, io, mode, ty, k, lba, fate);
+        kept.set(bio.op as usize - 1, k, settled);
+    }
+}
+
+/// Settles the blocks of a bio that were carried, whose fates these are, from a place on.
+fn settle_bio(
+    pool: &mut PagePool,
+    io: &Io,
+    mode: Mode,
+    ty: PiType,
+    bio: &Bio,
+    fates: &[Fate],
+    at: usize,
+    kept: &mut Fates,
+)
+    requires whole { IsWhole pool.old io.now }
+    requires within { bio.now.k + bio.now.count ≤ io.now.count }
+    requires ends { bio.now.lba + bio.now.count < 2 ^ 64 }
+    requires numbered { 1 ≤ bio.now.op }
+    requires starts { bio.now.op ≤ length kept.old.starts.items }
+    requires held { slice_index_or kept.old.starts.items (bio.now.op - 1) 0 + io.now.count ≤ length kept.old.held.items }
+    requires fates { at + bio.now.count ≤ length fates.now }
+    ensures pages { length pool.new ≡ length pool.old }
+    ensures starts { kept.new.starts.items ≡ kept.old.starts.items }
+    ensures held { length kept.new.held.items ≡ length kept.old.held.items }
+{
+    for i in 0..bio.count {
+        settle_one(pool, io, mode, ty, bio, i, fates[at + i as usize], kept);
+    }
+}
+
+/// Settles the blocks of a command that were carried.
+pub(crate) fn settle_all(
+    pool: &mut PagePool,
+    ios: &[Io],
+    mode: Mode,
+    ty: PiType,
+    bios: &[Bio],
+    fates: &[Fate],
+    kept: &mut Fates,
+)
+    requires whole { AreAllWhole pool.old ios.now }
+    requires bios { All (IsOf ios.now) bios.now }
+    requires fates { size bios.now ≡ length fates.now }
+    requires kept { AreFates ios.now kept.old.starts.items kept.old.held.items }
+    ensures pages { length pool.new ≡ length pool.old }
+    ensures kept { AreFates ios.now kept.new.starts.items kept.new.held.items }
+{
+    let mut at = 0usize;
+    for bio in bios {
+        let io = &ios[bio.op as usize - 1];
+        settle_bio(pool, io, mode, ty, bio, fates, at, kept);
+        at += bio.count as usize;
+    }
+}

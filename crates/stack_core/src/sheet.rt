@@ -1,0 +1,154 @@
+//! The requests of a run over a volume, as the steps are told of them.
+
+ghost use Rattle.std.specs.Prelude.{◌≡◌, ◌<◌, ◌≤◌, ◌+◌, ◌*◌, ◌^◌, ℕ, length};
+ghost use Rattle.page_pool.specs.Places.{total};
+ghost use Rattle.page_pool.specs.Cuts.{cut};
+ghost use Rattle.bio_core.specs.Bios.{data_segs, tuple_segs};
+ghost use Rattle.volume_table.specs.Places.{place_in, volume_len};
+ghost use Rattle.stack_core.specs.Sheets.{HaveNumbers, IsSheet, io_at, op_in, plan_of};
+
+use bio_core::{Dir, Io};
+use merge_queue::Limits;
+use page_pool::SgList;
+use stack_ops::{Op, OpList};
+use stack_steps::{Requests, Site};
+use volume_table::VolumeTable;
+
+/// The requests, the volume and the limits of a command.
+#[derive(Drop)]
+pub(crate) struct Sheet {
+    pub(crate) ops: OpList,
+    /// Whether a shift line names each op.
+    pub(crate) shifted: Vec<bool>,
+    /// The request of each op.
+    pub(crate) ios: Vec<Io>,
+    pub(crate) table: VolumeTable,
+    pub(crate) limits: Limits,
+    pub(crate) devices: u32,
+    ghost right: { IsSheet ops shifted.items ios.items table limits devices },
+}
+
+impl Requests for Sheet {
+    ghost plan = { λ s. plan_of s.ops s.shifted.items s.ios.items s.table s.limits s.devices };
+
+    fn ops(&self) -> u32 {
+        self.ios.len() as u32
+    }
+
+    fn devices(&self) -> u32 {
+        self.devices
+    }
+
+    fn limits(&self) -> Limits {
+        self.limits
+    }
+
+    fn count(&self, op: u32) -> u32 {
+        self.ios[op as usize].count
+    }
+
+    fn dir(&self, op: u32) -> Dir {
+        self.ios[op as usize].dir
+    }
+
+    fn site(&self, op: u32, k: u32) -> Site {
+        let v = self.ios[op as usize].first + k as u64;
+        let (dev, lba) = self.table.place(v);
+        Site {
+            dev,
+            lba,
+            run: self.table.run_from(v),
+        }
+    }
+
+    fn segs(&self, op: u32, k: u32, n: u32) -> u32 {
+        data_segs_of(&self.ios[op as usize], k, n)
+    }
+
+    fn pi_segs(&self, op: u32, k: u32, n: u32) -> u32 {
+        match &self.ios[op as usize].pi {
+            Some(pi) => tuple_segs_of(&pi.tuples, k, n),
+            None => 0,
+        }
+    }
+
+    ghost fine = { λ s. s.right.fine };
+}
+
+// A sheet is lent whole: its ghost field speaks of all others.
+impl Sheet {
+    /// The requests of all ops.
+    pub(crate) fn ios(&self) -> &[Io]
+        ensures { result.now ≡ self.now.ios.items }
+    {
+        self.ios.as_slice()
+    }
+
+    /// The request of an op.
+    pub(crate) fn io(&self, op: usize) -> &Io
+        requires { op < length self.now.ios.items }
+        ensures { result.now ≡ io_at self.now.ios.items op }
+    {
+        &self.ios[op]
+    }
+
+    /// An op.
+    pub(crate) fn op(&self, op: usize) -> &Op
+        requires { op < length self.now.ops }
+        ensures { result.now ≡ op_in self.now.ops op }
+    {
+        &self.ops.as_slice()[op]
+    }
+}
+
+fn data_segs_of(io: &Io, k: u32, n: u32) -> u32
+    requires some { 1 ≤ n }
+    requires within { k + n ≤ io.now.count }
+    ensures { result ≡ data_segs io.now k n }
+{
+    // The body's bytes are known to be few once it was looked at.
+    let _segs = io.body.as_slice();
+    let size = io.block_size();
+    io.body.segs_in(k * size, n * size)
+}
+
+fn tuple_segs_of(tuples: &SgList, k: u32, n: u32) -> u32
+    requires { 8 * (k + n) ≤ total tuples.now }
+    ensures { result ≡ length (cut tuples.now (8 * k) (8 * n)) }
+{
+    let _segs = tuples.as_slice();
+    tuples.segs_in(8 * k, 8 * n)
+}
+
+/// One more than the greatest device on which a block of a request lies.
+fn devices_of(io: &Io, table: &VolumeTable) -> u32
+    requires inside { io.now.first + io.now.count ≤ volume_len table.now.entries }
+    requires numbers { io.now.first + io.now.count < 2 ^ 64 }
+    requires few { (v : ℕ) → v < volume_len table.now.entries → (place_in table.now.entries v).0 < 8 }
+    ensures all { (k : ℕ) → k < io.now.count → (place_in table.now.entries (io.now.first + k)).0 < result }
+    ensures few { result ≤ 8 }
+{
+    let mut most = 0;
+    let mut k = 0;
+    while k < io.count {
+        let v = io.first + k as u64;
+        most = (table.place(v).0 + 1).max(most);
+        k += table.run_from(v).min((io.count - k) as u64) as u32;
+    }
+    most
+}
+
+/// One more than the greatest device on which a block of the requests lies.
+pub(crate) fn count_devices(ios: &[Io], table: &VolumeTable) -> u32
+    requires inside { (i : ℕ) → i < length ios.now → (io_at ios.now i).first + (io_at ios.now i).count ≤ volume_len table.now.entries }
+    requires numbers { HaveNumbers ios.now }
+    requires few { (v : ℕ) → v < volume_len table.now.entries → (place_in table.now.entries v).0 < 8 }
+    ensures all { (i k : ℕ) → k < (io_at ios.now i).count → (place_in table.now.entries ((io_at ios.now i).first + k)).0 < result }
+    ensures few { result ≤ 8 }
+{
+    let mut most = 0;
+    for io in ios {
+        most = devices_of(io, table).max(most);
+    }
+    most
+}

@@ -1,0 +1,324 @@
+//! The stack and its steps.
+
+ghost use Rattle.std.specs.Prelude.{◌≡◌, ◌<◌, ◌≤◌, ◌+◌, ◌↔◌, ◌^◌, ℕ, IsTrue, [], length, slice_index_or, slice_set};
+ghost use Rattle.stack_view.specs.Steps.{enabled};
+ghost use Rattle.stack_view.specs.View.{View};
+ghost use Rattle.stack_steps.specs.declared.choice.Choice.TheVariants.{End, Complete, Admit, Cut, Join, Send};
+ghost use Rattle.stack_steps.specs.Does.{Does, Holds, Ready};
+ghost use Rattle.stack_core.specs.declared.kept.Room.TheVariants.{Nothing};
+ghost use Rattle.stack_core.specs.Settling.{HasTuples, IsWhole};
+ghost use Rattle.stack_core.specs.Replies.{HoldsSeal};
+ghost use Rattle.stack_core.specs.Doing.{CanDo, CanReach, HasBlocks};
+ghost use Rattle.stack_core.specs.Stacks.{HasSpare, HasStep, IsStack, Reaches, Sends, Stays, Steps, plan_in};
+
+use crate::kept::{Fates, Room, reply_of, shown};
+use crate::pages::{fill, put};
+use crate::settle::settle_all;
+use crate::sheet::Sheet;
+use bio_core::{Bio, Dir, Fate, Io};
+use dix_adapter::{Adapter, Scratch};
+use integrity_payload::{Owner, Payload};
+use page_pool::{PagePool, SgList};
+use pi_guard::GuardKind;
+use pi_tuple::PiType;
+use ref_remap::map_out;
+use rig_api::{Change, Rig};
+use stack_ops::{Op, Reply};
+use stack_steps::{Choice, Machine};
+
+/// Ops in flight over a rig: those that are requests are cut into pieces, joined, sent, partly done and sent again, in
+/// the order that the words choose.
+#[derive(Drop)]
+pub struct Stack {
+    pub(crate) sheet: Sheet,
+    pub(crate) machine: Machine,
+    pub(crate) adapter: Adapter,
+    /// The type of the tuples in the host's memory.
+    pub(crate) host: PiType,
+    pub(crate) pool: PagePool,
+    pub(crate) scratch: Scratch,
+    /// The bios of one command, and the fates of its blocks.
+    pub(crate) group: Vec<Bio>,
+    pub(crate) fates: Vec<Fate>,
+    pub(crate) kept: Fates,
+    pub(crate) rooms: Vec<Room>,
+    pub(crate) replies: Vec<Reply>,
+}
+
+impl Stack {
+    /// The number of steps that may be taken next: 0 exactly where all ops have ended.
+    pub fn enabled(&self) -> u32
+        requires { IsStack self.now }
+        ensures { (v : View) → Holds (plan_in self.now.sheet) self.now.machine v → result ≡ length (enabled (plan_in self.now.sheet) v) }
+    {
+        self.machine.enabled(&self.sheet)
+    }
+
+    /// Whether all ops have ended.
+    pub fn finished(&self) -> bool
+        requires { IsStack self.now }
+        ensures { (v : View) → Holds (plan_in self.now.sheet) self.now.machine v → IsTrue result ↔ enabled (plan_in self.now.sheet) v ≡ [] }
+    {
+        self.machine.finished(&self.sheet)
+    }
+
+    /// What each op replied, once it has ended.
+    pub fn replies(&self) -> &[Reply]
+        ensures { result.now ≡ self.now.replies.items }
+    {
+        self.replies.as_slice()
+    }
+
+    /// The pages.
+    pub fn pool(&self) -> &PagePool
+        ensures { result.now ≡ self.now.pool }
+    {
+        &self.pool
+    }
+
+    /// How many steps were done.
+    pub fn steps(&self) -> u64
+        ensures { result ≡ self.now.machine.steps }
+    {
+        self.machine.steps()
+    }
+
+    /// How many blocks all requests have.
+    pub fn blocks(&self) -> u32
+        requires { IsStack self.now }
+        ensures { result ≡ length self.now.kept.held.items }
+    {
+        self.kept.blocks()
+    }
+
+    /// Does the step of a word: number `word` modulo the number of steps that may be taken, of which there is one. A
+    /// piece is the greatest one for a cut of 0, else `1 + (cut - 1) mod n` blocks of the greatest one's `n`.
+    pub fn step<R: Rig>(&mut self, word: u32, cut: u32, rig: &mut R)
+        requires stack { IsStack self.old }
+        requires some { HasStep (plan_in self.old.sheet) self.old.machine }
+        requires rig { Reaches self.old (R.standing rig.old) }
+        requires spare { HasSpare self.old (R.standing rig.old) (R.room rig.old) }
+        ensures stack { IsStack self.new }
+        ensures stays { Stays self.old self.new }
+        ensures step { Steps (plan_in self.old.sheet) self.old.machine word cut self.new.machine }
+        ensures rig { Reaches self.new (R.standing rig.new) }
+        ensures spare { HasSpare self.new (R.standing rig.new) (R.room rig.new) }
+    {
+        let choice = self.machine.choose(&self.sheet, word);
+        match choice {
+            Choice::End(q) => self.end(q),
+            Choice::Complete(i) => self.complete(i),
+            Choice::Admit(q) => self.admit(q, rig),
+            Choice::Cut(q) => self.cut(q, cut),
+            Choice::Join(d, i, j) => self.join(d, i, j),
+            Choice::Send(d, i) => self.send(d, i, rig),
+        }
+    }
+
+    fn end(&mut self, q: usize)
+        requires stack { IsStack self.old }
+        requires ready { Ready (plan_in self.old.sheet) self.old.machine (End q) }
+        ensures stack { IsStack self.new }
+        ensures stays { Stays self.old self.new }
+        ensures step { (cut : ℕ) → Does (plan_in self.old.sheet) self.old.machine (End q) cut self.new.machine }
+    {
+        let op = self.machine.end(&self.sheet, q) as usize;
+        let room = take_room(&mut self.rooms, op);
+        let fates = self.kept.of(op, self.sheet.io(op).count);
+        set_reply(&mut self.replies, op, reply_of(fates, room));
+    }
+
+    fn complete(&mut self, i: u32)
+        requires stack { IsStack self.old }
+        requires ready { Ready (plan_in self.old.sheet) self.old.machine (Complete i) }
+        ensures stack { IsStack self.new }
+        ensures stays { Stays self.old self.new }
+        ensures step { (cut : ℕ) → Does (plan_in self.old.sheet) self.old.machine (Complete i) cut self.new.machine }
+    {
+        self.machine
+            .complete(&self.sheet, i, &mut self.group, &mut self.fates);
+        settle_all(
+            &mut self.pool,
+            self.sheet.ios(),
+            self.adapter.mode(),
+            self.host,
+            &self.group,
+            &self.fates,
+            &mut self.kept,
+        );
+    }
+
+    fn admit<R: Rig>(&mut self, q: usize, rig: &mut R)
+        requires stack { IsStack self.old }
+        requires ready { Ready (plan_in self.old.sheet) self.old.machine (Admit q) }
+        requires rig { Reaches self.old (R.standing rig.old) }
+        ensures stack { IsStack self.new }
+        ensures stays { Stays self.old self.new }
+        ensures step { (cut : ℕ) → Does (plan_in self.old.sheet) self.old.machine (Admit q) cut self.new.machine }
+        ensures standing { R.standing rig.new ≡ R.standing rig.old }
+        ensures room { R.room rig.new ≡ R.room rig.old }
+    {
+        let op = self.machine.admit(&self.sheet, q) as usize;
+        if self.sheet.io(op).count > 0 {
+            make_tuples(
+                &mut self.pool,
+                self.sheet.io(op),
+                self.adapter.kind,
+                self.host,
+            );
+            return;
+        }
+        let room = take_room(&mut self.rooms, op);
+        let done = do_op(
+            &mut self.pool,
+            self.sheet.op(op),
+            self.adapter.kind,
+            room,
+            rig,
+        );
+        set_reply(&mut self.replies, op, done);
+    }
+
+    fn cut(&mut self, q: usize, size: u32)
+        requires stack { IsStack self.old }
+        requires ready { Ready (plan_in self.old.sheet) self.old.machine (Cut q) }
+        ensures stack { IsStack self.new }
+        ensures stays { Stays self.old self.new }
+        ensures step { Does (plan_in self.old.sheet) self.old.machine (Cut q) size self.new.machine }
+    {
+        let bio = self.machine.cut(&self.sheet, q, size);
+        map_piece(
+            &mut self.pool,
+            self.sheet.io(bio.op as usize - 1),
+            self.host,
+            &bio,
+        );
+    }
+
+    fn join(&mut self, d: u32, i: u32, j: u32)
+        requires stack { IsStack self.old }
+        requires ready { Ready (plan_in self.old.sheet) self.old.machine (Join d i j) }
+        ensures stack { IsStack self.new }
+        ensures stays { Stays self.old self.new }
+        ensures step { (cut : ℕ) → Does (plan_in self.old.sheet) self.old.machine (Join d i j) cut self.new.machine }
+    {
+        self.machine.join(&self.sheet, d, i, j);
+    }
+
+    fn send<R: Rig>(&mut self, d: u32, i: u32, rig: &mut R)
+        requires stack { IsStack self.old }
+        requires ready { Ready (plan_in self.old.sheet) self.old.machine (Send d i) }
+        requires rig { Reaches self.old (R.standing rig.old) }
+        requires spare { HasSpare self.old (R.standing rig.old) (R.room rig.old) }
+        ensures stack { IsStack self.new }
+        ensures stays { Stays self.old self.new }
+        ensures sends { Sends (plan_in self.old.sheet) self.old.machine d i self.new.machine }
+        ensures standing { R.standing rig.new ≡ R.standing rig.old }
+        ensures spare { HasSpare self.new (R.standing rig.new) (R.room rig.new) }
+    {
+        self.machine.take(&self.sheet, d, i, &mut self.group);
+        self.adapter.carry(
+            &mut self.pool,
+            self.sheet.ios(),
+            &self.group,
+            rig,
+            &mut self.scratch,
+            &mut self.fates,
+        );
+        self.machine.fly(&self.sheet, d, &self.group, &self.fates);
+    }
+}
+
+/// Takes the room of an op.
+fn take_room(rooms: &mut Vec<Room>, op: usize) -> Room
+    requires { op < length rooms.old.items }
+    ensures room { result ≡ slice_index_or rooms.old.items op Nothing }
+    ensures rooms { rooms.new.items ≡ slice_set rooms.old.items op Nothing }
+{
+    std::mem::replace(&mut rooms[op], Room::Nothing)
+}
+
+fn set_reply(replies: &mut Vec<Reply>, op: usize, reply: Reply)
+    requires { op < length replies.old.items }
+    ensures { replies.new.items ≡ slice_set replies.old.items op reply }
+{
+    replies[op] = reply;
+}
+
+/// Maps the tags of a piece of a write out.
+fn map_piece(pool: &mut PagePool, io: &Io, ty: PiType, bio: &Bio)
+    requires whole { IsWhole pool.old io.now }
+    requires within { bio.now.k + bio.now.count ≤ io.now.count }
+    requires ends { bio.now.lba + bio.now.count < 2 ^ 64 }
+    ensures { length pool.new ≡ length pool.old }
+{
+    if let (Dir::Write, Some(pi)) = (io.dir, &io.pi) {
+        map_out(pool, pi, ty, bio.k, bio.count, bio.lba);
+    }
+}
+
+/// Makes the tuples of a write whose tuples are the block layer's.
+fn make_tuples(pool: &mut PagePool, io: &Io, kind: GuardKind, ty: PiType)
+    requires whole { IsWhole pool.old io.now }
+    requires some { 0 < io.now.count }
+    ensures { length pool.new ≡ length pool.old }
+{
+    if let (Dir::Write, Some(pi)) = (io.dir, &io.pi) {
+        make_own(pool, io, pi, kind, ty);
+    }
+}
+
+fn make_own(pool: &mut PagePool, io: &Io, pi: &Payload, kind: GuardKind, ty: PiType)
+    requires whole { IsWhole pool.old io.now }
+    requires tuples { HasTuples pool.old io.now pi.now }
+    requires some { 0 < io.now.count }
+    ensures { length pool.new ≡ length pool.old }
+{
+    if pi.owner == Owner::Block {
+        pi.generate(pool, &io.body, kind, ty);
+    }
+}
+
+/// Makes the tuples of a `seal`. Its tags are counted on for every type.
+fn seal(pool: &mut PagePool, body: &SgList, kind: GuardKind, room: Room)
+    requires { HoldsSeal pool.old body.now room }
+    ensures { length pool.new ≡ length pool.old }
+{
+    if let Room::Tuples(pi) = room {
+        pi.generate(pool, body, kind, PiType::One);
+    }
+}
+
+fn overwrite<R: Rig>(rig: &mut R, dev: u32, lba: u64, change: &Change) -> Reply
+    requires { HasBlocks (R.standing rig.old) dev lba change.now }
+    ensures standing { R.standing rig.new ≡ R.standing rig.old }
+    ensures room { R.room rig.new ≡ R.room rig.old }
+    ensures armed { R.armed rig.new ≡ R.armed rig.old }
+    ensures log { R.log rig.new ≡ R.log rig.old }
+{
+    match rig.overwrite(dev, lba, change) {
+        Ok(()) => Reply::Silent,
+        Err(_) => Reply::Medium,
+    }
+}
+
+/// Does an op that is no request, and says what it replies.
+fn do_op<R: Rig>(pool: &mut PagePool, op: &Op, kind: GuardKind, room: Room, rig: &mut R) -> Reply
+    requires can { CanDo pool.old room op.now }
+    requires reach { CanReach (R.standing rig.old) op.now }
+    ensures pages { length pool.new ≡ length pool.old }
+    ensures standing { R.standing rig.new ≡ R.standing rig.old }
+    ensures room { R.room rig.new ≡ R.room rig.old }
+    ensures armed { R.armed rig.new ≡ R.armed rig.old }
+    ensures log { R.log rig.new ≡ R.log rig.old }
+{
+    match op {
+        Op::Fill { seg, byte } => fill(pool, *seg, *byte),
+        Op::Put { page, off, bytes } => put(pool, *page, *off, bytes.as_slice()),
+        Op::Show { seg } => return shown(pool.part(*seg), room),
+        Op::Seal { body, .. } => seal(pool, body, kind, room),
+        Op::Overwrite { dev, lba, change } => return overwrite(rig, *dev, *lba, change),
+        _ => {}
+    }
+    Reply::Silent
+}

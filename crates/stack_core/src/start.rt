@@ -1,0 +1,212 @@
+//! A stack before its first step.
+
+ghost use Rattle.std.specs.Prelude.{◌≡◌, ◌<◌, ◌≤◌, ◌+◌, ℕ, List, IfOk, length};
+ghost use Rattle.page_pool.specs.Pages.{IsBlank};
+ghost use Rattle.dix_adapter.specs.Groups.{mode_of};
+ghost use Rattle.stack_ops.specs.Footprints.{IsShortPut};
+ghost use Rattle.stack_view.specs.View.{start};
+ghost use Rattle.stack_steps.specs.Does.{Holds};
+ghost use Rattle.stack_core.specs.Sheets.{IsSheet, op_in, plan_of, prints_of};
+ghost use Rattle.stack_core.specs.Requests.{first_page, own_blocks, page_after, pages_from, requests_from};
+ghost use Rattle.stack_core.specs.Replies.{HoldsBad};
+ghost use Rattle.stack_core.specs.Rooms.{Suits, blocks_in};
+ghost use Rattle.stack_core.specs.Stacks.{IsStack, plan_in, room_at};
+ghost use Rattle.stack_core.specs.Starting.{CanStart};
+
+use crate::kept::{Fates, Room, room_for};
+use crate::requests::{own_blocks, pages_for, request_of};
+use crate::sheet::{Sheet, count_devices};
+use crate::{Setup, Stack};
+use bio_core::Io;
+use block_path::host_type;
+use dix_adapter::{Adapter, Mode, Scratch};
+use fault_schedule::{FaultKind, FaultLine, FaultList, Tamper};
+use merge_queue::Limits;
+use page_pool::PagePool;
+use pi_tuple::PiType;
+use range_gate::{Footprint, Gate};
+use stack_ops::{Op, OpList, Reply, footprint_of};
+use stack_steps::Machine;
+use std::alloc::{AllocError, Global};
+use volume_table::VolumeTable;
+
+/// Whether a line shifts the op of this number, from 1.
+fn shifts(line: &FaultLine, op: u32) -> bool {
+    line.op == op && matches!(line.kind, FaultKind::Shift { .. })
+}
+
+/// Whether a line shifts each op.
+fn shifted_ops(alloc: Global, n: u32, faults: &[FaultLine]) -> Result<Vec<bool>, AllocError>
+    requires { n ≤ 4096 }
+    ensures { IfOk result (λ v. length v.items ≡ n) }
+{
+    let mut shifted = Vec::with_capacity(alloc, n as usize)?;
+    for i in 0..n {
+        shifted.push_reserved(faults.iter().any(|line| shifts(line, i + 1)));
+    }
+    Ok(shifted)
+}
+
+/// What each op touches.
+fn footprints(alloc: Global, ops: &[Op], shifted: &[bool]) -> Result<Vec<Footprint>, AllocError>
+    requires count { length shifted.now ≡ length ops.now }
+    requires short { (i : ℕ) → i < length ops.now → IsShortPut (op_in ops.now i) }
+    ensures { IfOk result (λ v. v.items ≡ prints_of ops.now shifted.now) }
+{
+    let mut prints = Vec::with_capacity(alloc, ops.len())?;
+    for i in 0..ops.len() {
+        prints.push_reserved(footprint_of(alloc, &ops[i], shifted[i])?);
+    }
+    Ok(prints)
+}
+
+fn first_page(dix: bool, page: u32) -> Option<u32>
+    ensures { result ≡ first_page dix page }
+{
+    if dix { Some(page) } else { None }
+}
+
+fn page_after(dix: bool, page: u32, op: &Op) -> u32
+    requires few { own_blocks op.now ≤ 16384 }
+    requires pages { page ≤ 262144 }
+    ensures next { result ≡ page_after dix page op.now }
+    ensures most { result ≤ page + 32 }
+{
+    if dix {
+        page + pages_for(own_blocks(op))
+    } else {
+        page
+    }
+}
+
+/// The requests of the ops; those whose tuples the block layer makes have them behind the first pages.
+fn requests(alloc: Global, ops: &[Op], dix: bool, pages: u32) -> Result<(Vec<Io>, u32), AllocError>
+    requires few { length ops.now ≤ 4096 }
+    requires blocks { (i : ℕ) → i < length ops.now → own_blocks (op_in ops.now i) ≤ 16384 }
+    requires pages { pages ≤ 65536 }
+    ensures ios { IfOk result (λ r. r.0.items ≡ requests_from dix pages ops.now) }
+    ensures pages { IfOk result (λ r. r.1 ≡ pages_from dix pages ops.now) }
+{
+    let mut ios = Vec::with_capacity(alloc, ops.len())?;
+    let mut next = pages;
+    for op in ops {
+        ios.push_reserved(request_of(alloc, op, first_page(dix, next))?);
+        next = page_after(dix, next, op);
+    }
+    Ok((ios, next))
+}
+
+fn rooms_of(alloc: Global, ops: &[Op]) -> Result<Vec<Room>, AllocError>
+    ensures count { IfOk result (λ v. length v.items ≡ length ops.now) }
+    ensures bad { IfOk result (λ v. (i : ℕ) → i < length ops.now → HoldsBad (blocks_in (op_in ops.now i)) (room_at v.items i)) }
+    ensures suits { IfOk result (λ v. (i : ℕ) → i < length ops.now → Suits (op_in ops.now i) (room_at v.items i)) }
+{
+    let mut rooms = Vec::with_capacity(alloc, ops.len())?;
+    for op in ops {
+        rooms.push_reserved(room_for(alloc, op)?);
+    }
+    Ok(rooms)
+}
+
+fn silent(alloc: Global, n: usize) -> Result<Vec<Reply>, AllocError>
+    ensures { IfOk result (λ v. length v.items ≡ n) }
+{
+    let mut replies = Vec::with_capacity(alloc, n)?;
+    for _ in 0..n {
+        replies.push_reserved(Reply::Silent);
+    }
+    Ok(replies)
+}
+
+fn sheet_of(
+    ops: OpList,
+    shifted: Vec<bool>,
+    ios: Vec<Io>,
+    table: VolumeTable,
+    limits: Limits,
+    devices: u32,
+) -> Sheet
+    requires { IsSheet ops shifted.items ios.items table limits devices }
+    ensures plan { plan_in result ≡ plan_of ops shifted.items ios.items table limits devices }
+    ensures ops { result.ops ≡ ops }
+    ensures ios { result.ios.items ≡ ios.items }
+    ensures table { result.table ≡ table }
+    ensures limits { result.limits ≡ limits }
+    ensures devices { result.devices ≡ devices }
+{
+    Sheet {
+        ops,
+        shifted,
+        ios,
+        table,
+        limits,
+        devices,
+    }
+}
+
+fn adapter_of(mode: Mode, ty: PiType, faults: FaultList) -> Adapter
+    ensures { result ≡ record { kind = mode.kind; dix = mode.dix; dif = mode.dif; protect = mode.protect; ty = ty; tamper = faults; app = mode.app; mask = mode.mask } }
+{
+    Adapter {
+        kind: mode.kind,
+        dix: mode.dix,
+        dif: mode.dif,
+        protect: mode.protect,
+        ty,
+        tamper: Tamper::new(faults),
+        app: mode.app,
+        mask: mode.mask,
+    }
+}
+
+impl Stack {
+    /// A stack of these ops, none of which has begun. Takes all the memory of the run.
+    ///
+    /// The ops are at most 4,096, of together at most 16,384 blocks of one size, which is at most 4,096 bytes. Their
+    /// bytes lie in the pages and their blocks in the volume, which lies on at most eight devices.
+    pub fn new(alloc: Global, setup: Setup, ops: OpList) -> Result<Stack, AllocError>
+        requires { (pool : List (List ℕ)) × CanStart setup.table setup.mode.dix setup.mode.protect setup.limits setup.pages pool ops }
+        ensures stack { IfOk result IsStack }
+        ensures first { IfOk result (λ s. Holds (plan_in s.sheet) s.machine (start (plan_in s.sheet))) }
+        ensures ops { IfOk result (λ s. s.sheet.ops ≡ ops) }
+        ensures ios { IfOk result (λ s. s.sheet.ios.items ≡ requests_from setup.mode.dix setup.pages ops) }
+        ensures table { IfOk result (λ s. s.sheet.table ≡ setup.table) }
+        ensures limits { IfOk result (λ s. s.sheet.limits ≡ setup.limits) }
+        ensures mode { IfOk result (λ s. mode_of s.adapter ≡ setup.mode) }
+        ensures faults { IfOk result (λ s. s.adapter.tamper ≡ setup.faults) }
+        ensures pool { IfOk result (λ s. IsBlank (pages_from setup.mode.dix setup.pages ops) s.pool) }
+    {
+        let Setup {
+            table,
+            mode,
+            limits,
+            pages,
+            faults,
+        } = setup;
+        let count = ops.as_slice().len() as u32;
+        let shifted = shifted_ops(alloc, count, faults.as_slice())?;
+        let gate = Gate::new(alloc, footprints(alloc, ops.as_slice(), &shifted)?)?;
+        let (ios, pages) = requests(alloc, ops.as_slice(), mode.dix, pages)?;
+        let ty = table.ty();
+        let devices = count_devices(&ios, &table);
+        let kept = Fates::new(alloc, &ios)?;
+        let rooms = rooms_of(alloc, ops.as_slice())?;
+        let replies = silent(alloc, ios.len())?;
+        let blocks = kept.blocks() as usize;
+        let sheet = sheet_of(ops, shifted, ios, table, limits, devices);
+        let machine = Machine::new(alloc, &sheet, gate)?;
+        Ok(Stack {
+            sheet,
+            machine,
+            adapter: adapter_of(mode, ty, faults),
+            host: host_type(ty),
+            pool: PagePool::new(alloc, pages)?,
+            scratch: Scratch::new(alloc, limits.max_blocks)?,
+            group: Vec::with_capacity(alloc, blocks)?,
+            fates: Vec::with_capacity(alloc, blocks)?,
+            kept,
+            rooms,
+            replies,
+        })
+    }
+}
