@@ -3,5 +3,5 @@ mod Labelled
 mod Mirrors
 mod Backs
 mod Earlier
-mod RecordRows
+pub mod RecordRows
 mod FalseLogs

@@ -55,7 +55,7 @@ entry cdb done sense labels frames = record { what = record { dev = 0; cdb = cdb
 abbrev pub ops : List Op
 ops = Write 0 2 (seg 0 1024) 0 ∷ Fetch 0 2 (seg 0 1024) ∷ []
 
-abbrev log : List Entry
+abbrev pub log : List Entry
 log =
     entry (form (Write16 (fields 2 2))) 1 (sense 3 0x0C 0) (labels 1 0 2) (formatted 2 ∷ [])
     ∷ entry (form (Read16 (fields 2 2))) 2 None (labels 2 0 2) (formatted 2 ∷ formatted 2 ∷ [])
@@ -64,7 +64,7 @@ log =
 abbrev sent : (op k lba : ℕ) → Sent
 sent op k lba = record { label = record { op = op; k = k }; dir = ToUnit; dev = 0; lba = lba; came = Ok (formatted 2); after = 0 }
 
-abbrev es : List Sent
+abbrev pub es : List Sent
 es =
     sent 1 0 2
     ∷ record (sent 1 1 3) { came = Err Medium }
