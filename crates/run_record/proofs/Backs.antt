@@ -94,7 +94,7 @@ module _ (m : Setting) (es : List Sent) where
       first_and_rest (act_of over step) (taken_act m es reply step) (map (act_of over) steps) (map (taken_act m es reply) steps) s
       (mirrored m es reply step s filed.0 says.0) (lists_mirrored reply steps (act (act_of over step) s) filed.1 says.1)
 
-  steps_same : (i : ℕ) (op : Op) → steps_of m i op ≡ steps_of over i op
+  pub steps_same : (i : ℕ) (op : Op) → steps_of m i op ≡ steps_of over i op
   steps_same i (Fill seg byte) = refl
   steps_same i (Put page off values) = refl
   steps_same i (Show seg) = refl

@@ -30,9 +30,10 @@ use Rattle.whole_run.proofs.ScriptRows.{faulty, formatted, opening, seg}
 use Rattle.run_record.specs.BackedRun.{Backed}
 use Rattle.run_record.specs.EarlierWrites.{LogsAreEmpty, StandsAfter, accepted_in}
 use Rattle.run_record.specs.Records.{recorded, writes_at}
-use Rattle.run_record.specs.ToldRun.{IsRecordOf, told}
+use Rattle.run_record.specs.ToldRun.{IsRecordOf, IsSameWalk, told}
 use Rattle.run_record.proofs.Backs.{backs}
 use Rattle.run_record.proofs.Earlier.{stands_after}
+use Rattle.run_record.proofs.OwnRecord.{same_walk}
 
 -- A log worked by hand: a write that ends at its second block, and a read for which the rig hands out another block's frame.
 
@@ -151,3 +152,7 @@ log_of_the_walk = record {
   where
     none : (c : ℕ) → 4 < c → writes_at m.site c (recorded m honest_log) ≡ []
     none c l = let e = off 2 c (omega arith) l in let f = off 3 c (omega arith) l in rw (e, f) refl
+
+-- Over its record it is the same walk.
+same_over_its_record : IsSameWalk m ops opening (recorded m honest_log)
+same_over_its_record = same_walk m ops opening (recorded m honest_log) log_of_the_walk

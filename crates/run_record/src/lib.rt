@@ -6,5 +6,6 @@ mod record;
 
 pub use record::{
     a_delivered_block_stands_after_the_accepted_writes, a_log_of_the_walk_is_carried,
-    a_walk_over_its_record_is_backed, the_walk_counts_accepted_writes,
+    a_walk_is_the_walk_over_its_record, a_walk_over_its_record_is_backed,
+    the_walk_counts_accepted_writes,
 };

@@ -17,7 +17,7 @@ ghost use Rattle.run_record.specs.BackedRun.{Backed, OfRead, answered};
 ghost use Rattle.run_record.specs.CarriedRun.{Carried};
 ghost use Rattle.run_record.specs.EarlierWrites.{IsCounted, LogsAreEmpty, StandsAfter, accepted_in};
 ghost use Rattle.run_record.specs.Records.{recorded};
-ghost use Rattle.run_record.specs.ToldRun.{IsRecordOf, told};
+ghost use Rattle.run_record.specs.ToldRun.{IsRecordOf, IsSameWalk, told};
 
 /// Over any rig, honest or not, in every mode: where the walk runs over what stands on record of its blocks, and these
 /// entries and ends are just its own, the log backs its replies.
@@ -29,6 +29,14 @@ pub fn a_walk_over_its_record_is_backed()
 /// Where the entries and ends of a log are those of the walk itself, the log holds what the walk carries.
 pub fn a_log_of_the_walk_is_carried()
     ensures { (m : Setting) (ops : List AnyOp) (opening : State) (log : List Entry) → IsRecordOf m ops opening (recorded m log) → Carried m ops opening log }
+{}
+
+/// What a walk puts on record fixes it, whatever device is behind the adapter, honest or not: the walk over its record
+/// answers of each block the same, with the same replies, pages and carried frames. So what was told of an honest
+/// target is the target's walk, and its log backs its replies.
+pub fn a_walk_is_the_walk_over_its_record()
+    ensures same { (m : Setting) (ops : List AnyOp) (opening : State) (log : List Entry) → IsRecordOf m ops opening (recorded m log) → IsSameWalk m ops opening (recorded m log) }
+    ensures backed { (m : Setting) (ops : List AnyOp) (opening : State) (log : List Entry) → IsRecordOf m ops opening (recorded m log) → Backed m ops opening log (script_replies m ops opening) }
 {}
 
 /// The walk that takes the replies carries a block of a read after as many write frames of its place as earlier ops
