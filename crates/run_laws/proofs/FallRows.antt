@@ -8,22 +8,25 @@ use Rattle.page_pool.specs.Places.{run}
 use Rattle.bio_core.specs.declared.fate.Why.TheVariants.{Medium, Target}
 use Rattle.integrity_payload.specs.declared.payload.Owner.TheVariants.{Block as OfBlock}
 use Rattle.stack_ops.specs.declared.op.Op.{Op}
-use Rattle.stack_ops.specs.declared.op.Op.TheVariants.{Fetch, Put, Write}
+use Rattle.stack_ops.specs.declared.op.Op.TheVariants.{Fetch, Put, Write, WritePi}
 use Rattle.stack_ops.specs.declared.reply.Reply.TheVariants.{Bad, Silent, Whole}
 use Rattle.target_answer.specs.Passing.{found_in, from_medium, to_medium}
 use Rattle.block_path.specs.Acts.{act, tell}
 use Rattle.block_path.specs.Serial.{plain_tells}
 use Rattle.block_path.specs.WayIn.{from_wire}
 use Rattle.block_path.specs.WayOut.{to_wire}
+use Rattle.whole_run.specs.CalmRun.{AllFit}
 use Rattle.whole_run.specs.Past.{steps_from}
 use Rattle.whole_run.specs.Settings.{Block, Setting, block_of}
 use Rattle.whole_run.specs.UnderMap.{IsClean, address_of, home}
 use Rattle.whole_run.proofs.ScriptRows.{faulty, formatted, opening, seg}
 use Rattle.whole_run.proofs.TupleFrames.{no}
 use Rattle.run_laws.specs.FallingReads.{IsReadOrFails, falling_replies}
+use Rattle.run_laws.specs.FallingWrites.{FailsAtMediumAlone, finds_then}
 use Rattle.run_laws.specs.StoreFaults.{IsFallingRun, falling_past, is_lost, may_fall}
 use Rattle.run_laws.proofs.FallingOps.{reads_or_fails}
-use Rattle.run_laws.proofs.ShownRows.{one_list}
+use Rattle.run_laws.proofs.FallingWrites.{app_write_fails, own_write_fails}
+use Rattle.run_laws.proofs.ShownRows.{one_list, two_lists}
 
 -- A write whose store call fails half way, worked by hand: until the next accepted write its block is lost.
 
@@ -55,14 +58,14 @@ found_again : lost_after before 5 ≡ false
 unfolding crc ip found_in to_medium from_medium to_wire from_wire run
 found_again = refl
 
--- The run meets all that the law asks for.
-falling_run : IsFallingRun m ops opening
+-- Each script that fits runs so.
+falling_over : (script : List Op) → AllFit m script → IsFallingRun m script opening
 unfolding crc
-falling_run = record {
+falling_over script fit = record {
   calm = record { faults = refl; device = refl; fails = λ op. refl; protect = omega arith; mask = λ h. no (sym h) };
   lies = record { within = within; apart = apart; size = size; bytes = bytes };
   clean = clean;
-  fit = (All-cons (λ x. x < 256) 1 [] (omega arith) (All-nil (λ x. x < 256)), ((record { within = omega arith; bytes_are = refl }, omega arith), (omega arith, ((record { within = omega arith; bytes_are = refl }, omega arith), (omega arith, tt)))));
+  fit = fit;
 }
   where
     place : (v : ℕ) → v < 3 → home m v ≡ 2 + v
@@ -98,6 +101,10 @@ falling_run = record {
     clean (suc (suc zero)) l h = record { no_escape = refl; guard = refl; app = refl; rtag = λ k. refl }
     clean (suc (suc (suc v))) l h = absurd (omega (arith, l))
 
+-- The run meets all that the laws ask for.
+falling_run : IsFallingRun m ops opening
+falling_run = falling_over ops (All-cons (λ x. x < 256) 1 [] (omega arith) (All-nil (λ x. x < 256)), ((record { within = omega arith; bytes_are = refl }, omega arith), (omega arith, ((record { within = omega arith; bytes_are = refl }, omega arith), (omega arith, tt)))))
+
 -- So does its last read: the block isn't lost then, and what lands is the second write's data, or it is listed for the medium.
 last_read : IsReadOrFails m falls before OfBlock 0 1 (seg 512 512) [] [] opening 0
 last_read = reads_or_fails m falls before [] OfBlock 0 1 0 (seg 512 512) [] opening (omega arith) (refl, one_list 512 512 (omega arith)) falling_run
@@ -106,3 +113,16 @@ last_read = reads_or_fails m falls before [] OfBlock 0 1 0 (seg 512 512) [] open
 replies_are : falling_replies m falls 1 ops opening ≡ Silent ∷ Bad (record { k = 0; why = Medium } ∷ []) ∷ Bad (record { k = 0; why = Target Guard } ∷ []) ∷ Whole ∷ Whole ∷ []
 unfolding crc ip found_in to_medium from_medium to_wire from_wire run
 replies_are = refl
+
+-- Its first write is listed for the medium or not at all, and so is a write with a tuple of zeros, which is that of zeros at block 0.
+first_write : FailsAtMediumAlone m falls (Put 0 0 (1 ∷ []) ∷ []) (Write 0 1 (seg 0 512) 0) (drop 2 ops) opening 0
+first_write = own_write_fails m falls (Put 0 0 (1 ∷ []) ∷ []) (drop 2 ops) 0 1 0 (seg 0 512) 0 opening falling_run (omega arith) refl
+
+tuple_is_right : finds_then m falls [] 0 (seg 0 512) (seg 512 8) opening 0 ≡ None
+unfolding crc run
+tuple_is_right = refl
+
+brought_write : FailsAtMediumAlone m falls [] (WritePi 0 1 (seg 0 512) (seg 512 8)) [] opening 0
+brought_write =
+    app_write_fails m falls [] [] 0 1 0 (seg 0 512) (seg 512 8) opening (falling_over (WritePi 0 1 (seg 0 512) (seg 512 8) ∷ []) ((record { within = omega arith; bytes_are = refl }, (refl, refl)), tt))
+    (refl, (refl, (two_lists 0 512 512 8 (omega arith) (omega arith), refl))) (omega arith) tuple_is_right

@@ -116,11 +116,62 @@ lands m bytes OfApp n k body tuples l h =
       whole = λ t. omega (arith, p);
     }
 
-module _ (m : Setting) (falls : Block → Option (List ℕ)) (before after : List Op) (owner : Owner) (v n k : ℕ) (body tuples : List Seg) (opening : State) (l : k < n)
-    (room : HasRoom m (length opening.bytes) owner n body tuples) (run : IsFallingRun m (before ++ (read_op owner v n body tuples ∷ after)) opening) where
+-- one block of an op that is a request
+module _ (m : Setting) (falls : Block → Option (List ℕ)) (before after : List Op) (op : Op) (f : ℕ → Step) (n k : ℕ) (opening : State) (l : k < n)
+    (steps_are : steps_of m (suc (length before)) op ≡ each_from 0 n f) (replies : (answers : List Answer) → reply_of (m.fails (1 + length before)) op answers ≡ request_reply answers) where
   abbrev does : Step → Act Answer
   does = may_fall m falls
 
+  -- the cells before the op, and before its block k
+  abbrev s : State
+  s = stepped does (steps_from m 1 before) opening
+
+  abbrev here : State
+  here = stepped does (each_from 0 k f) s
+
+  abbrev earlier : List Step
+  earlier = steps_from m 1 before ++ each_from 0 k f
+
+  abbrev later : List Step
+  later = each_from (suc k) (n - suc k) f
+
+  abbrev rest : List Step
+  rest = later ++ steps_from m (suc (1 + length before)) after
+
+  all_steps : steps_of m (1 + length before) op ≡ each_from 0 n f
+  all_steps = let e : 1 + length before ≡ suc (length before) = omega arith in ap (λ j. steps_of m j op) e ∙ steps_are
+
+  op_steps : steps_of m (1 + length before) op ≡ each_from 0 k f ++ (f k ∷ later)
+  op_steps = all_steps ∙ each_split 0 k n k f l (omega arith)
+
+  at_block : steps_from m 1 (before ++ (op ∷ after)) ≡ earlier ++ (f k ∷ rest)
+  at_block =
+      let others = steps_from m (suc (1 + length before)) after in
+      steps_split m 1 before op after
+      ∙ ap (λ xs. steps_from m 1 before ++ (xs ++ others)) op_steps
+      ∙ ap (λ xs. steps_from m 1 before ++ xs) (append_assoc (each_from 0 k f) (f k ∷ later) others)
+      ∙ sym (append_assoc (steps_from m 1 before) (each_from 0 k f) (f k ∷ rest))
+
+  reached : stepped does earlier opening ≡ here
+  reached = stepped_append does (steps_from m 1 before) (each_from 0 k f) opening
+
+  whole_op : stepped does (steps_from m 1 (before ++ (op ∷ []))) opening ≡ stepped does (each_from 0 k f ++ (f k ∷ later)) s
+  whole_op =
+      ap (λ xs. stepped does xs opening) (steps_split m 1 before op [])
+      ∙ stepped_append does (steps_from m 1 before) (steps_of m (1 + length before) op ++ []) opening
+      ∙ ap (λ xs. stepped does xs s) (append-nil (steps_of m (1 + length before) op) ∙ op_steps)
+
+  pub why_is : listed_in (get_or (falling_replies m falls 1 (before ++ (op ∷ after)) opening) (length before) Silent) k ≡ (tell (does (f k)) here).why
+  why_is =
+      ap (λ r. listed_in r k) (reply_at m falls 1 before op after opening ∙ replies (plain_tells act tell (map does (steps_of m (1 + length before) op)) s) ∙ ap (λ steps. request_reply (plain_tells act tell (map does steps) s)) all_steps)
+      ∙ block_says does f k n s l
+
+  -- what is known of it
+  pub served : IsFallingRun m (before ++ (op ∷ after)) opening → IsServed m opening (falling_past m falls earlier opening []) falls (f k) here
+  served run = subst (λ c. IsServed m opening (falling_past m falls earlier opening []) falls (f k) c) reached (each_is_served m falls (before ++ (op ∷ after)) opening earlier rest (f k) run at_block)
+
+module _ (m : Setting) (falls : Block → Option (List ℕ)) (before after : List Op) (owner : Owner) (v n k : ℕ) (body tuples : List Seg) (opening : State) (l : k < n)
+    (room : HasRoom m (length opening.bytes) owner n body tuples) (run : IsFallingRun m (before ++ (read_op owner v n body tuples ∷ after)) opening) where
   abbrev i : ℕ
   i = suc (length before)
 
@@ -133,81 +184,57 @@ module _ (m : Setting) (falls : Block → Option (List ℕ)) (before after : Lis
   abbrev to : List ℕ
   to = landing m.size owner body tuples k
 
-  -- the cells and what is past, before the op and before its block k
-  abbrev s : State
-  s = stepped does (steps_from m 1 before) opening
+  are_reads : steps_of m i op ≡ each_from 0 n f
+  are_reads = read_steps m i v n owner body tuples
+
+  replies_so : (answers : List Answer) → reply_of (m.fails (1 + length before)) op answers ≡ request_reply answers
+  replies_so answers = read_reply (m.fails (1 + length before)) v n owner body tuples answers
+
+  abbrev doing : Step → Act Answer
+  doing = may_fall m falls
+
+  abbrev began : State
+  began = stepped doing (steps_from m 1 before) opening
+
+  abbrev there : State
+  there = stepped doing (each_from 0 k f) began
 
   abbrev past : List Event
   past = falling_past m falls (steps_from m 1 before) opening []
 
-  abbrev here : State
-  here = stepped does (each_from 0 k f) s
-
-  abbrev earlier : List Step
-  earlier = steps_from m 1 before ++ each_from 0 k f
-
-  abbrev later : List Step
-  later = each_from (suc k) (n - suc k) f
-
-  all_steps : steps_of m (1 + length before) op ≡ each_from 0 n f
-  all_steps = let e : 1 + length before ≡ i = omega arith in ap (λ j. steps_of m j op) e ∙ read_steps m i v n owner body tuples
-
-  op_steps : steps_of m (1 + length before) op ≡ each_from 0 k f ++ (f k ∷ later)
-  op_steps = all_steps ∙ each_split 0 k n k f l (omega arith)
-
-  at_block : steps_from m 1 (before ++ (op ∷ after)) ≡ earlier ++ (f k ∷ (later ++ steps_from m (suc (1 + length before)) after))
-  at_block =
-      let rest = steps_from m (suc (1 + length before)) after in
-      steps_split m 1 before op after
-      ∙ ap (λ xs. steps_from m 1 before ++ (xs ++ rest)) op_steps
-      ∙ ap (λ xs. steps_from m 1 before ++ xs) (append_assoc (each_from 0 k f) (f k ∷ later) rest)
-      ∙ sym (append_assoc (steps_from m 1 before) (each_from 0 k f) (f k ∷ (later ++ rest)))
-
-  reached : stepped does earlier opening ≡ here
-  reached = stepped_append does (steps_from m 1 before) (each_from 0 k f) opening
-
-  happened : falling_past m falls earlier opening [] ≡ past
-  happened = past_append m falls (steps_from m 1 before) (each_from 0 k f) opening [] ∙ read_past m falls i v owner body tuples 0 k s past
-
-  whole_op : stepped does (steps_from m 1 (before ++ (op ∷ []))) opening ≡ stepped does (each_from 0 k f ++ (f k ∷ later)) s
-  whole_op =
-      ap (λ xs. stepped does xs opening) (steps_split m 1 before op [])
-      ∙ stepped_append does (steps_from m 1 before) (steps_of m (1 + length before) op ++ []) opening
-      ∙ ap (λ xs. stepped does xs s) (append-nil (steps_of m (1 + length before) op) ∙ op_steps)
+  happened : falling_past m falls (steps_from m 1 before ++ each_from 0 k f) opening [] ≡ past
+  happened = past_append m falls (steps_from m 1 before) (each_from 0 k f) opening [] ∙ read_past m falls i v owner body tuples 0 k began past
 
   abbrev listed : Option Why
   listed = listed_in (get_or (falling_replies m falls 1 (before ++ (op ∷ after)) opening) (length before) Silent) k
 
-  why_is : listed ≡ (tell (does (f k)) here).why
-  why_is =
-      ap (λ r. listed_in r k) (reply_at m falls 1 before op after opening ∙ read_reply (m.fails (1 + length before)) v n owner body tuples (plain_tells act tell (map does (steps_of m (1 + length before) op)) s)
-      ∙ ap (λ steps. request_reply (plain_tells act tell (map does steps) s)) all_steps)
-      ∙ block_says does f k n s l
+  listed_so : listed ≡ (tell (doing (f k)) there).why
+  listed_so = why_is m falls before after op f n k opening l are_reads replies_so
 
   abbrev mine : Lands m (length opening.bytes) owner body tuples k
   mine = lands m (length opening.bytes) owner n k body tuples l room
 
   -- what stands in the pages where a frame landed
-  arrived : (frame : List ℕ) → length to ≤ length frame → (act (does (f k)) here).bytes ≡ scatter to frame here.bytes → gather 0 to (stepped does (steps_from m 1 (before ++ (op ∷ []))) opening).bytes ≡ take (length to) frame
-  arrived frame size there =
-      let pages : length here.bytes ≡ length opening.bytes = same_pages does (each_from 0 k f) s ∙ same_pages does (steps_from m 1 before) opening in
-      ap (λ (c : State). gather 0 to c.bytes) (whole_op ∙ stepped_append does (each_from 0 k f) (f k ∷ later) s)
-      ∙ later_blocks does f (λ j. landing m.size owner body tuples j) (lands_there m falls i v owner body tuples) to (suc k) (n - suc k) (act (does (f k)) here)
-      (λ j g. blocks_apart m.size body tuples owner k j mine.once (omega (arith, g)))
-      ∙ ap (gather 0 to) there
-      ∙ landed to frame here.bytes (block_distinct m.size body tuples owner k mine.once)
+  arrived : (frame : List ℕ) → length to ≤ length frame → (act (doing (f k)) there).bytes ≡ scatter to frame there.bytes → gather 0 to (stepped doing (steps_from m 1 (before ++ (op ∷ []))) opening).bytes ≡ take (length to) frame
+  arrived frame size lies =
+      let pages : length there.bytes ≡ length opening.bytes = same_pages doing (each_from 0 k f) began ∙ same_pages doing (steps_from m 1 before) opening in
+      ap (λ (c : State). gather 0 to c.bytes) (whole_op m falls before after op f n k opening l are_reads replies_so ∙ stepped_append doing (each_from 0 k f) (f k ∷ each_from (suc k) (n - suc k) f) began)
+      ∙ later_blocks doing f (λ j. landing m.size owner body tuples j) (lands_there m falls i v owner body tuples) to (suc k) (n - suc k) (act (doing (f k)) there)
+      (λ j g _. blocks_apart m.size body tuples owner k j mine.once (omega (arith, g)))
+      ∙ ap (gather 0 to) lies
+      ∙ landed to frame there.bytes (block_distinct m.size body tuples owner k mine.once)
       (subst (λ p. AllBelow p to) (sym pages) (block_below m.size body tuples owner (length opening.bytes) k mine.below_end)) size
 
   abbrev last : Brought
   last = last_accepted m opening (block_of i v k) past
 
-  lands_as : LandsAs m (does (f k)) to last here → IsReadAs m owner last listed (gather 0 to (stepped does (steps_from m 1 (before ++ (op ∷ []))) opening).bytes)
+  lands_as : LandsAs m (doing (f k)) to last there → IsReadAs m owner last listed (gather 0 to (stepped doing (steps_from m 1 (before ++ (op ∷ []))) opening).bytes)
   lands_as r =
       let size = r.size in
       let enough = mine.enough in
       let e = arrived r.frame (omega (arith, size, enough)) r.lands in
       record {
-        is_listed = why_is ∙ r.not_listed;
+        is_listed = listed_so ∙ r.not_listed;
         body = ap (data_of m.size) e ∙ take-take m.size (length to) r.frame mine.front ∙ r.body;
         app = λ takes all.
             let whole = mine.whole takes in
@@ -217,9 +244,5 @@ module _ (m : Setting) (falls : Block → Option (List ℕ)) (before after : Lis
 
   pub reads_or_fails : IsReadOrFails m falls before owner v n body tuples after opening k
   reads_or_fails lost =
-      let rest = later ++ steps_from m (suc (1 + length before)) after in
-      let known = each_is_served m falls (before ++ (op ∷ after)) opening earlier rest (f k) run at_block in
-      let served : IsServed m opening past falls (f k) here =
-      subst (λ c. IsServed m opening past falls (f k) c) reached
-      (subst (λ p. IsServed m opening p falls (f k) (stepped does earlier opening)) happened known) in
-      elim (served lost) [ inl medium ↦ inl (why_is ∙ medium) | inr good ↦ inr (lands_as good) ]
+      let known : IsServed m opening past falls (f k) there = subst (λ p. IsServed m opening p falls (f k) there) happened (served m falls before after op f n k opening l are_reads replies_so run) in
+      elim (known lost) [ inl medium ↦ inl (listed_so ∙ medium) | inr good ↦ inr (lands_as good) ]

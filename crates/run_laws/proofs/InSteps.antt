@@ -111,14 +111,14 @@ module _ (a : Step → Act Answer) where
   same_pages (step ∷ steps) s =
       same_pages steps (act (a step) s) ∙ scatter_length (a step).bytes.writes (effect (a step) s).written.bytes s.bytes
 
-  -- later blocks land elsewhere
-  pub later_blocks : (f : ℕ → Step) (lands : ℕ → List ℕ) → ((j : ℕ) → (a (f j)).bytes.writes ≡ lands j) → (at : List ℕ) (j n : ℕ) (s : State) → ((l : ℕ) → j ≤ l → share_a_cell at (lands l) ≡ false) →
+  -- blocks that land elsewhere
+  pub later_blocks : (f : ℕ → Step) (lands : ℕ → List ℕ) → ((j : ℕ) → (a (f j)).bytes.writes ≡ lands j) → (at : List ℕ) (j n : ℕ) (s : State) → ((l : ℕ) → j ≤ l → l < j + n → share_a_cell at (lands l) ≡ false) →
       gather 0 at (stepped (each_from j n f) s).bytes ≡ gather 0 at s.bytes
   later_blocks f lands there at j zero s h = refl
   later_blocks f lands there at j (suc n) s h =
-      later_blocks f lands there at (suc j) n (act (a (f j)) s) (λ l k. h l (omega (arith, k)))
+      later_blocks f lands there at (suc j) n (act (a (f j)) s) (λ l k g. h l (omega (arith, k)) (omega (arith, g)))
       ∙ ap (λ cells. gather 0 at (scatter cells (effect (a (f j)) s).written.bytes s.bytes)) (there j)
-      ∙ gather_past 0 at (lands j) (effect (a (f j)) s).written.bytes s.bytes (h j (omega arith))
+      ∙ gather_past 0 at (lands j) (effect (a (f j)) s).written.bytes s.bytes (h j (omega arith) (omega arith))
 
   -- block k of n among the answers of a request
   pub block_says : (f : ℕ → Step) (k n : ℕ) (s : State) → k < n → listed_in (request_reply (plain_tells act tell (map a (each_from 0 n f)) s)) k ≡ (tell (a (f k)) (stepped (each_from 0 k f) s)).why

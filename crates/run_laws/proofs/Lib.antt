@@ -10,4 +10,5 @@ mod Passing
 mod QuietWays
 mod Falling
 pub mod FallingOps
+mod FallingWrites
 mod FallRows

@@ -238,7 +238,7 @@ module _ (m' : Setting) (devices : List DeviceInfo) (before after : List Op) (ow
   arrived frame size there =
       let pages = same_pages (act_of m) (each_from 0 k f) s ∙ ap (λ (c : State). length c.bytes) (ops_walk m 1 before opening) ∙ same_pages (act_of m) (steps_from m 1 before) opening in
       ap (λ (c : State). gather 0 to c.bytes) (whole_op ∙ stepped_append (act_of m) (each_from 0 k f) (f k ∷ later) s)
-      ∙ later_blocks (act_of m) f (λ j. landing m.size owner body tuples j) (λ j. refl) to (suc k) (n - suc k) (act (act_of m (f k)) here) (λ j g. blocks_apart m.size body tuples owner k j read_lands.once (omega (arith, g)))
+      ∙ later_blocks (act_of m) f (λ j. landing m.size owner body tuples j) (λ j. refl) to (suc k) (n - suc k) (act (act_of m (f k)) here) (λ j g _. blocks_apart m.size body tuples owner k j read_lands.once (omega (arith, g)))
       ∙ ap (gather 0 to) there
       ∙ landed to frame here.bytes (block_distinct m.size body tuples owner k read_lands.once)
       (subst (λ p. AllBelow p to) (sym pages) (block_below m.size body tuples owner (length opening.bytes) k read_lands.below_end))

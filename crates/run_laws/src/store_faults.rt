@@ -1,16 +1,20 @@
 //! Store calls that fail.
 
-ghost use Rattle.std.specs.Prelude.{◌≡◌, ◌<◌, ℕ, List, [], ◌∷◌, ◌++◌, Option, length};
+ghost use Rattle.std.specs.Prelude.{◌≡◌, ◌<◌, ℕ, List, [], ◌∷◌, ◌++◌, Option, None, length};
 ghost use Rattle.page_pool.specs.declared.segs.Seg.{Seg as AnySeg};
 ghost use Rattle.integrity_payload.specs.declared.payload.Owner.{Owner as AnyOwner};
+ghost use Rattle.integrity_payload.specs.declared.payload.Owner.TheVariants.{App};
 ghost use Rattle.stack_ops.specs.declared.op.Op.{Op as AnyOp};
+ghost use Rattle.stack_ops.specs.declared.op.Op.TheVariants.{Write, WritePi};
 ghost use Rattle.block_path.specs.Acts.{Act, State, conflict};
 ghost use Rattle.block_path.specs.Blocks.{Answer};
 ghost use Rattle.whole_run.specs.Past.{steps_from};
+ghost use Rattle.whole_run.specs.PlainMap.{finds_plainly};
 ghost use Rattle.whole_run.specs.ScriptWalk.{act_of};
 ghost use Rattle.whole_run.specs.Settings.{Block, Setting};
 ghost use Rattle.whole_run.specs.Steps.{Step};
 ghost use Rattle.run_laws.specs.FallingReads.{HasRoom, IsReadOrFails};
+ghost use Rattle.run_laws.specs.FallingWrites.{FailsAtMediumAlone, finds_then};
 ghost use Rattle.run_laws.specs.ReadsAs.{read_op};
 ghost use Rattle.run_laws.specs.StoreFaults.{IsFallingRun, IsServed, falling_past, falling_walk, may_fall};
 
@@ -31,6 +35,16 @@ pub fn a_read_is_the_last_write_or_fails_at_the_medium()
     ensures { (m : Setting) (falls : Block → Option (List ℕ)) (before after : List AnyOp) (owner : AnyOwner) (v n k : ℕ) (body tuples : List AnySeg) (opening : State)
         → IsFallingRun m (before ++ (read_op owner v n body tuples ∷ after)) opening → HasRoom m (length opening.bytes) owner n body tuples → k < n
         → IsReadOrFails m falls before owner v n body tuples after opening k }
+{}
+
+/// And a write's reply: a block that the plain map accepts is listed for the medium or not at all. Where the application
+/// brings the tuples, the plain map looks at the frame as it stands in the pages when the op begins.
+pub fn a_write_fails_at_the_medium_alone()
+    ensures own { (m : Setting) (falls : Block → Option (List ℕ)) (before after : List AnyOp) (v n k : ℕ) (body : List AnySeg) (app : ℕ) (opening : State) → let op = Write v n body app in
+        IsFallingRun m (before ++ (op ∷ after)) opening → k < n → finds_plainly m app ≡ None → FailsAtMediumAlone m falls before op after opening k }
+    ensures brought { (m : Setting) (falls : Block → Option (List ℕ)) (before after : List AnyOp) (v n k : ℕ) (body tuples : List AnySeg) (opening : State) → let op = WritePi v n body tuples in
+        IsFallingRun m (before ++ (op ∷ after)) opening → HasRoom m (length opening.bytes) App n body tuples → k < n → finds_then m falls before v body tuples opening k ≡ None
+        → FailsAtMediumAlone m falls before op after opening k }
 {}
 
 /// A block whose store call fails conflicts with what it would have conflicted with: so any order of the blocks that
