@@ -1,5 +1,5 @@
 -- One more of a list.
-use Rattle.std.proofs.Common.{◌≡◌, ◌<◌, ◌≤◌, ℕ, zero, suc, ◌+◌, true, false, List, [], ◌∷◌, ◌++◌, length, take, get_or, refl, sym, ap, subst, ◌∙◌, arith, inl, inr, append_assoc}
+use Rattle.std.proofs.Common.{◌≡◌, ◌<◌, ℕ, zero, suc, ◌+◌, List, [], ◌∷◌, ◌++◌, length, take, drop, get_or, refl, sym, ap, subst, ◌∙◌, arith, inl, inr, append_assoc}
 use Rattle.std.specs.Prelude.{◌%◌, ◌⊎◌}
 use Rattle.std.specs.List.{All}
 use Rattle.page_pool.specs.declared.segs.Seg.{Seg}
@@ -92,6 +92,19 @@ chain-more at (x ∷ xs) (suc i) h c e =
     let z : at + (x.count + size (take i xs)) ≡ at + x.count + size (take i xs) = omega arith in
     subst (λ k. Chain at (take k (x ∷ xs))) (sym s) (c.0, chain-more (at + x.count) xs i (omega arith) c.1 (e ∙ z))
 
-pub total-more : (xs : List Seg) (s : Seg) → total (xs ++ (s ∷ [])) ≡ total xs + s.len
-total-more [] s = omega arith
-total-more (x ∷ xs) s = let e = total-more xs s in omega arith
+-- ---- what is left of a list
+
+pub lie-at : (pool : List (List ℕ)) (xs : List Seg) (i : ℕ) (d : Seg) → i < length xs → AllLieIn pool xs → LiesIn pool (get_or xs i d)
+lie-at pool [] i d h a = absurd (omega arith)
+lie-at pool (x ∷ xs) zero d h a = a.0
+lie-at pool (x ∷ xs) (suc i) d h a = lie-at pool xs i d (omega arith) a.1
+
+pub total-drop : (xs : List Seg) (i : ℕ) (d : Seg) → i < length xs → total (drop i xs) ≡ (get_or xs i d).len + total (drop (i + 1) xs)
+total-drop [] i d h = absurd (omega arith)
+total-drop (x ∷ xs) zero d h = refl
+total-drop (x ∷ xs) (suc i) d h = let s : suc i + 1 ≡ suc (i + 1) = omega arith in total-drop xs i d (omega arith) ∙ ap (λ k. (get_or xs i d).len + total (drop k (x ∷ xs))) (sym s)
+
+pub places-drop : (xs : List Seg) (i : ℕ) (d : Seg) → i < length xs → places_in (drop i xs) ≡ places_of (get_or xs i d) ++ places_in (drop (i + 1) xs)
+places-drop [] i d h = absurd (omega arith)
+places-drop (x ∷ xs) zero d h = refl
+places-drop (x ∷ xs) (suc i) d h = let s : suc i + 1 ≡ suc (i + 1) = omega arith in places-drop xs i d (omega arith) ∙ ap (λ k. places_of (get_or xs i d) ++ places_in (drop k (x ∷ xs))) (sym s)

@@ -1,18 +1,12 @@
 //! Groups.
 
 ghost use Rattle.std.specs.Prelude.{◌≡◌, ℕ, ◌+◌, true, IfSome};
-ghost use Rattle.dix_adapter.specs.Groups.{IsBio, IsGroup, IsProtect, first_of, size};
+ghost use Rattle.dix_adapter.specs.Groups.{IsBio, IsGroup, first_of, size};
 
 use crate::requests::is_request;
 use bio_core::{Bio, Io};
 use dix_adapter::Adapter;
 use page_pool::PagePool;
-
-pub(crate) fn is_protect(protect: u8) -> bool
-    ensures { result ≡ true → IsProtect protect }
-{
-    protect == 1 || protect == 3 || protect == 4
-}
 
 /// Whether the bio may stand in a group of blocks of this size that begins with `first`.
 fn is_bio(

@@ -3,10 +3,8 @@
 #![tactic(auto)]
 
 mod bytes;
-mod carried;
 mod groups;
 mod requests;
 
-pub use bytes::{list_of, read_all, write_all};
-pub use carried::carry_checked;
+pub use bytes::{list_of, write_all};
 pub use groups::group_blocks;

@@ -13,15 +13,17 @@ use dix_adapter::Adapter;
 use integrity_payload::Payload;
 use page_pool::{PAGE, PagePool, Seg};
 
-pub(crate) fn lies(pool: &PagePool, s: Seg) -> bool
-    ensures { result ≡ true → LiesIn pool.now s }
+fn lies(pool: &PagePool, s: Seg) -> bool
+    ensures yes { result ≡ true → LiesIn pool.now s }
+    ensures no { LiesIn pool.now s → result ≡ true }
 {
     (s.page as usize) < pool.pages() && s.off as u64 + s.len as u64 <= PAGE as u64
 }
 
 /// Whether all segments lie in the pool.
-fn all_lie(pool: &PagePool, segs: &[Seg]) -> bool
-    ensures { result ≡ true → AllLieIn pool.now segs.now }
+pub(crate) fn all_lie(pool: &PagePool, segs: &[Seg]) -> bool
+    ensures yes { result ≡ true → AllLieIn pool.now segs.now }
+    ensures no { AllLieIn pool.now segs.now → result ≡ true }
 {
     for s in segs {
         if !lies(pool, *s) {
