@@ -1,0 +1,30 @@
+-- An exchange out of one buffer.
+use Rattle.std.proofs.Common.{◌≡◌, ℕ, zero, suc, ◌+◌, ◌≤◌, Bool, true, false, List, [], ◌∷◌, ◌++◌, length, take, drop, refl, ap, subst, arith}
+use Rattle.std.proofs.lemmas.List.{length-drop, length-take-le}
+use Rattle.rig_api.specs.declared.rig.Outcome.{Outcome}
+use Rattle.nvme_front.specs.Exchanges.{Exchanged, Shown}
+
+pub cut-front : (n : ℕ) (xs ys : List ℕ) → length xs ≡ n → take n (xs ++ ys) ≡ xs
+cut-front zero [] ys e = refl
+cut-front zero (x ∷ xs) ys e = absurd (omega arith)
+cut-front (suc n) [] ys e = absurd (omega arith)
+cut-front (suc n) (x ∷ xs) ys e = ap (λ z. x ∷ z) (cut-front n xs ys (omega arith))
+
+pub cut-back : (n : ℕ) (xs ys : List ℕ) → length xs ≡ n → drop n (xs ++ ys) ≡ ys
+cut-back zero [] ys e = refl
+cut-back zero (x ∷ xs) ys e = absurd (omega arith)
+cut-back (suc n) [] ys e = absurd (omega arith)
+cut-back (suc n) (x ∷ xs) ys e = cut-back n xs ys (omega arith)
+
+pub with-lists : (dev : ℕ) (cdb out out' before before' came came' : List ℕ) (o : Outcome) (old new : Shown) → out ≡ out' → before ≡ before' → came ≡ came' → Exchanged dev cdb out before came o old new → Exchanged dev cdb out' before' came' o old new
+with-lists dev cdb out out' before before' came came' o old new e f h x =
+    subst (λ z. Exchanged dev cdb out' before' z o old new) h (subst (λ z. Exchanged dev cdb out' z came o old new) f (subst (λ z. Exchanged dev cdb z before came o old new) e x))
+
+-- a part of a buffer
+pub part-long : (at n : ℕ) (xs : List ℕ) → at + n ≤ length xs → length (take n (drop at xs)) ≡ n
+part-long at n xs h = let d = length-drop at xs in length-take-le n (drop at xs) (omega (arith, d, h))
+
+-- one of the two is nothing
+pub space : (b : Bool) (s r m : ℕ) → (b ≡ true → r ≡ 0) → (b ≡ false → s ≡ 0) → s ≤ m → r ≤ m → s + r ≤ m
+space true s r m p q h k = let e = p refl in omega arith
+space false s r m p q h k = let e = q refl in omega arith

@@ -1,0 +1,20 @@
+use Rattle.std.proofs.Common.{take, ap, ◌∙◌, sym}
+use Rattle.nvme_front.proofs.Sending.{cut-back, cut-front, with-lists}
+use Rattle.nvme_front.proofs.front.send.Goals as goal
+
+pub returns-clause-exchanged : goal.returns-clause-exchanged
+returns-clause-exchanged g c =
+    with-lists c.args.dev c.args.cdb.now _ _ _ _ _ _ c.exchange.result _ _
+    c.split_at_mut-out.ensures.front
+    (c.split_at_mut-into.ensures.front ∙ ap (take c.args.room) c.split_at_mut-out.ensures.back)
+    (sym (ap (take c.args.room) (cut-back c.args.sent c.split_at_mut-out.result.0.now _ c.split_at_mut-out.ensures.front_len) ∙ cut-front c.args.room c.exchange.new.into _ (c.exchange.auto.into ∙ c.split_at_mut-into.ensures.front_len)))
+    (record {
+      recorded = c.exchange.ensures.recorded;
+      calm = c.exchange.ensures.calm;
+      stopped = c.exchange.ensures.told;
+      medium = c.exchange.ensures.medium;
+      told = c.exchange.ensures.tells;
+      standing = c.exchange.ensures.standing;
+      armed = c.exchange.ensures.armed;
+      count = c.exchange.ensures.count;
+    })

@@ -1,0 +1,7 @@
+pub mod Commands
+pub mod Completions
+pub mod Refusals
+pub mod Translation
+pub mod Buffers
+pub mod Answers
+pub mod Exchanges
