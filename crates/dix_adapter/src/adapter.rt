@@ -136,6 +136,7 @@ impl Adapter {
             (record { told = is_some (R.image rig.new); units = R.units rig.new; standing = R.standing rig.new; log = R.log rig.new; room = R.room rig.new; armed = R.armed rig.new; faults = R.faults rig.new }))
             (frame_size (unit_at us (first_of req.now).dev)) (R.faults rig.old) (R.faults rig.new) }
         ensures pages { length pool.new ≡ length pool.old }
+        ensures tells { is_some (R.image rig.new) ≡ is_some (R.image rig.old) }
         ensures standing { R.standing rig.new ≡ R.standing rig.old }
         ensures armed { R.armed rig.new ≡ R.armed rig.old }
         ensures scratch { HoldsBlocks (size req.now) scratch.new }

@@ -1,5 +1,5 @@
 -- Where the blocks of a request lie.
-use Rattle.std.proofs.Common.{◌≡◌, ◌<◌, ◌≤◌, ℕ, ◌+◌, ◌-◌, max, List, get_or, map, sym, ap, ◌∙◌, ⊎_elim, arith}
+use Rattle.std.proofs.Common.{◌≡◌, ◌<◌, ◌≤◌, ℕ, ◌+◌, ◌-◌, max, List, length, get_or, map, sym, ap, ◌∙◌, ⊎_elim, arith}
 use Rattle.std.proofs.lemmas.Bool.{cases_lt}
 use Rattle.std.proofs.lemmas.List.{get_or_read}
 use Rattle.bio_core.specs.declared.request.Io.{Io}
@@ -31,3 +31,19 @@ devices-more entries first k m run most next goes l e h = λ j b.
     let d : (place_in entries (first + j)).0 ≡ (place_in entries (first + k)).0 = ap (λ v. (place_in entries v).0) (sym g) ∙ ap (λ q. q.0) p in
     omega arith)
     (cases_lt j k)
+
+-- one request more
+pub ios-more : (entries : List Entry) (ios : List Io) (at : ℕ) (io : Io) (most got next : ℕ) → io ≡ get_or ios at io → at < length ios → ((k : ℕ) → k < io.count → (place_in entries (io.first + k)).0 < got) → next ≡ max got most →
+    ((i k : ℕ) → i < at → k < (io_at ios i).count → (place_in entries ((io_at ios i).first + k)).0 < most) → (i k : ℕ) → i < at + 1 → k < (io_at ios i).count → (place_in entries ((io_at ios i).first + k)).0 < next
+ios-more entries ios at io most got next e l here n before i k h b =
+    let q : io ≡ io_at ios at = get_or_read ios at io l e no_io in
+    ⊎_elim
+    (λ (s : i < at). let x = before i k s b in omega arith)
+    (λ (s : at ≤ i).
+    let g : at ≡ i = omega arith in
+    let r : io ≡ io_at ios i = q ∙ ap (io_at ios) g in
+    let c : k < io.count = rw r b in
+    let x = here k c in
+    let y : (place_in entries (io.first + k)).0 ≡ (place_in entries ((io_at ios i).first + k)).0 = ap (λ (z : Io). (place_in entries (z.first + k)).0) r in
+    omega arith)
+    (cases_lt i at)

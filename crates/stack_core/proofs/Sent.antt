@@ -1,5 +1,5 @@
 -- The group that a step sends: it can be carried, and room is left for what may still be sent.
-use Rattle.std.proofs.Common.{◌≡◌, ◌<◌, ◌≤◌, ℕ, zero, suc, ◌+◌, true, List, [], ◌∷◌, length, replicate, get_or, refl, sym, ap, ◌∙◌, arith}
+use Rattle.std.proofs.Common.{◌≡◌, ◌<◌, ◌≤◌, ℕ, zero, suc, ◌+◌, Bool, true, List, [], ◌∷◌, length, replicate, get_or, refl, sym, ap, ◌∙◌, arith}
 use Rattle.std.specs.Prelude.{nat_lt}
 use Rattle.std.proofs.lemmas.Bool.{ltb-true}
 use Rattle.std.proofs.lemmas.List.{length-replicate}
@@ -104,8 +104,8 @@ pub record CanCarry (s : Stack) (d i : ℕ) (group : List Bio) (st : Standing) (
   pub device : (Carry.first_of group).dev < st.devices
   pub spare : HasRoom (greatest_size st) 1 (Carry.size group) room
 
-pub can-carry : (s : Stack) (d i : ℕ) (group : List Bio) (m : Machine) (st : Standing) (room : Room) → IsStack s → HasSpare s st room → Reaches s st → Ready (plan_in s.sheet) s.machine (Send d i) → Takes (plan_in s.sheet) s.machine d i group m → CanCarry s d i group st room
-can-carry s d i group m st room k sp re rd tk =
+pub can-carry : (s : Stack) (d i : ℕ) (group : List Bio) (m : Machine) (told : Bool) (st : Standing) (room : Room) → IsStack s → HasSpare s st room → Reaches s told st → Ready (plan_in s.sheet) s.machine (Send d i) → Takes (plan_in s.sheet) s.machine d i group m → CanCarry s d i group st room
+can-carry s d i group m told st room k sp re rd tk =
     let p = plan_in s.sheet in
     let v = sp.view in
     let f = s.sheet.right.fine in

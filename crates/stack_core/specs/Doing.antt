@@ -1,5 +1,5 @@
 -- What ops need that are no requests.
-use Rattle.std.specs.Prelude.{◌≡◌, ℕ, ◌<◌, ◌^◌, true, List, length}
+use Rattle.std.specs.Prelude.{◌≡◌, ℕ, ◌<◌, ◌^◌, Bool, true, List, length}
 use Rattle.page_pool.specs.Pages.{LiesIn}
 use Rattle.rig_api.specs.declared.change.Change.{Change}
 use Rattle.rig_api.specs.Telling.{Standing, can_change, source_of}
@@ -9,11 +9,11 @@ use Rattle.stack_ops.specs.Footprints.{put_seg}
 use Rattle.stack_core.specs.declared.kept.Room.{Room}
 use Rattle.stack_core.specs.Replies.{HoldsSeal, HoldsShown}
 
--- a rig has the block that is changed, and the one that is copied
-pub record HasBlocks (st : Standing) (dev lba : ℕ) (change : Change) : Type 0 where
+-- A rig has the devices of the block that is changed and of the one that is copied; one that tells its image has the blocks.
+pub record HasBlocks (told : Bool) (st : Standing) (dev lba : ℕ) (change : Change) : Type 0 where
   pub device : dev < st.devices
   pub source : source_of change dev < st.devices
-  pub place : can_change st dev lba change ≡ true
+  pub place : told ≡ true → can_change st dev lba change ≡ true
 
 -- its bytes lie in the pool, and there is room for its reply
 abbrev pub CanDo : List (List ℕ) → Room → Op → Type 0
@@ -29,14 +29,14 @@ CanDo pool room (Overwrite dev lba change) = Unit {0}
 CanDo pool room Wait = Unit {0}
 
 -- the rig has the blocks that it names
-abbrev pub CanReach : Standing → Op → Type 0
-CanReach st (Fill seg byte) = Unit {0}
-CanReach st (Put page off bytes) = Unit {0}
-CanReach st (Show seg) = Unit {0}
-CanReach st (Seal n body tuples app rtag) = Unit {0}
-CanReach st (Write v n body app) = Unit {0}
-CanReach st (Fetch v n body) = Unit {0}
-CanReach st (WritePi v n body tuples) = Unit {0}
-CanReach st (FetchPi v n body tuples) = Unit {0}
-CanReach st (Overwrite dev lba change) = HasBlocks st dev lba change
-CanReach st Wait = Unit {0}
+abbrev pub CanReach : (told : Bool) → Standing → Op → Type 0
+CanReach told st (Fill seg byte) = Unit {0}
+CanReach told st (Put page off bytes) = Unit {0}
+CanReach told st (Show seg) = Unit {0}
+CanReach told st (Seal n body tuples app rtag) = Unit {0}
+CanReach told st (Write v n body app) = Unit {0}
+CanReach told st (Fetch v n body) = Unit {0}
+CanReach told st (WritePi v n body tuples) = Unit {0}
+CanReach told st (FetchPi v n body tuples) = Unit {0}
+CanReach told st (Overwrite dev lba change) = HasBlocks told st dev lba change
+CanReach told st Wait = Unit {0}

@@ -75,9 +75,9 @@ pub record IsStack (s : Stack) : Type 0 where
   pub lists : HasLists (blocks_of_requests (plan_in s.sheet).requests) s.sheet.limits.max_blocks s.group s.fates s.scratch
 
 -- the rig has the devices and the blocks that the ops name
-pub record Reaches (s : Stack) (st : Standing) : Type 0 where
+pub record Reaches (s : Stack) (told : Bool) (st : Standing) : Type 0 where
   pub devices : s.sheet.devices ≤ st.devices
-  pub blocks : (i : ℕ) → i < length s.sheet.ops → CanReach st (op_in s.sheet.ops i)
+  pub blocks : (i : ℕ) → i < length s.sheet.ops → CanReach told st (op_in s.sheet.ops i)
 
 -- It has room for what may still be sent: an exchange for each block that isn't settled, less the commands in flight, and the frames of the blocks that may still be carried.
 pub record HasSpare (s : Stack) (st : Standing) (room : Spare) : Type 0 where

@@ -1,6 +1,6 @@
 //! The stack and its steps.
 
-ghost use Rattle.std.specs.Prelude.{◌≡◌, ◌<◌, ◌≤◌, ◌+◌, ◌↔◌, ◌^◌, ℕ, IsTrue, [], length, slice_index_or, slice_set};
+ghost use Rattle.std.specs.Prelude.{◌≡◌, ◌<◌, ◌≤◌, ◌+◌, ◌↔◌, ◌^◌, ℕ, IsTrue, [], is_some, length, slice_index_or, slice_set};
 ghost use Rattle.stack_view.specs.Steps.{enabled};
 ghost use Rattle.stack_view.specs.View.{View};
 ghost use Rattle.stack_steps.specs.declared.choice.Choice.TheVariants.{End, Complete, Admit, Cut, Join, Send};
@@ -96,12 +96,13 @@ impl Stack {
     pub fn step<R: Rig>(&mut self, word: u32, cut: u32, rig: &mut R)
         requires stack { IsStack self.old }
         requires some { HasStep (plan_in self.old.sheet) self.old.machine }
-        requires rig { Reaches self.old (R.standing rig.old) }
+        requires rig { Reaches self.old (is_some (R.image rig.old)) (R.standing rig.old) }
         requires spare { HasSpare self.old (R.standing rig.old) (R.room rig.old) }
         ensures stack { IsStack self.new }
         ensures stays { Stays self.old self.new }
         ensures step { Steps (plan_in self.old.sheet) self.old.machine word cut self.new.machine }
-        ensures rig { Reaches self.new (R.standing rig.new) }
+        ensures tells { is_some (R.image rig.new) ≡ is_some (R.image rig.old) }
+        ensures rig { Reaches self.new (is_some (R.image rig.new)) (R.standing rig.new) }
         ensures spare { HasSpare self.new (R.standing rig.new) (R.room rig.new) }
     {
         let choice = self.machine.choose(&self.sheet, word);
@@ -151,10 +152,11 @@ impl Stack {
     fn admit<R: Rig>(&mut self, q: usize, rig: &mut R)
         requires stack { IsStack self.old }
         requires ready { Ready (plan_in self.old.sheet) self.old.machine (Admit q) }
-        requires rig { Reaches self.old (R.standing rig.old) }
+        requires rig { Reaches self.old (is_some (R.image rig.old)) (R.standing rig.old) }
         ensures stack { IsStack self.new }
         ensures stays { Stays self.old self.new }
         ensures step { (cut : ℕ) → Does (plan_in self.old.sheet) self.old.machine (Admit q) cut self.new.machine }
+        ensures tells { is_some (R.image rig.new) ≡ is_some (R.image rig.old) }
         ensures standing { R.standing rig.new ≡ R.standing rig.old }
         ensures room { R.room rig.new ≡ R.room rig.old }
     {
@@ -208,11 +210,12 @@ impl Stack {
     fn send<R: Rig>(&mut self, d: u32, i: u32, rig: &mut R)
         requires stack { IsStack self.old }
         requires ready { Ready (plan_in self.old.sheet) self.old.machine (Send d i) }
-        requires rig { Reaches self.old (R.standing rig.old) }
+        requires rig { Reaches self.old (is_some (R.image rig.old)) (R.standing rig.old) }
         requires spare { HasSpare self.old (R.standing rig.old) (R.room rig.old) }
         ensures stack { IsStack self.new }
         ensures stays { Stays self.old self.new }
         ensures sends { Sends (plan_in self.old.sheet) self.old.machine d i self.new.machine }
+        ensures tells { is_some (R.image rig.new) ≡ is_some (R.image rig.old) }
         ensures standing { R.standing rig.new ≡ R.standing rig.old }
         ensures spare { HasSpare self.new (R.standing rig.new) (R.room rig.new) }
     {
@@ -290,7 +293,8 @@ fn seal(pool: &mut PagePool, body: &SgList, kind: GuardKind, room: Room)
 }
 
 fn overwrite<R: Rig>(rig: &mut R, dev: u32, lba: u64, change: &Change) -> Reply
-    requires { HasBlocks (R.standing rig.old) dev lba change.now }
+    requires { HasBlocks (is_some (R.image rig.old)) (R.standing rig.old) dev lba change.now }
+    ensures tells { is_some (R.image rig.new) ≡ is_some (R.image rig.old) }
     ensures standing { R.standing rig.new ≡ R.standing rig.old }
     ensures room { R.room rig.new ≡ R.room rig.old }
     ensures armed { R.armed rig.new ≡ R.armed rig.old }
@@ -305,8 +309,9 @@ fn overwrite<R: Rig>(rig: &mut R, dev: u32, lba: u64, change: &Change) -> Reply
 /// Does an op that is no request, and says what it replies.
 fn do_op<R: Rig>(pool: &mut PagePool, op: &Op, kind: GuardKind, room: Room, rig: &mut R) -> Reply
     requires can { CanDo pool.old room op.now }
-    requires reach { CanReach (R.standing rig.old) op.now }
+    requires reach { CanReach (is_some (R.image rig.old)) (R.standing rig.old) op.now }
     ensures pages { length pool.new ≡ length pool.old }
+    ensures tells { is_some (R.image rig.new) ≡ is_some (R.image rig.old) }
     ensures standing { R.standing rig.new ≡ R.standing rig.old }
     ensures room { R.room rig.new ≡ R.room rig.old }
     ensures armed { R.armed rig.new ≡ R.armed rig.old }

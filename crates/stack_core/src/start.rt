@@ -4,6 +4,7 @@ ghost use Rattle.std.specs.Prelude.{◌≡◌, ◌<◌, ◌≤◌, ◌+◌, ℕ,
 ghost use Rattle.page_pool.specs.Pages.{IsBlank};
 ghost use Rattle.dix_adapter.specs.Groups.{mode_of};
 ghost use Rattle.stack_ops.specs.Footprints.{IsShortPut};
+ghost use Rattle.volume_table.specs.Places.{place_in, volume_len};
 ghost use Rattle.stack_view.specs.View.{start};
 ghost use Rattle.stack_steps.specs.Does.{Holds};
 ghost use Rattle.stack_core.specs.Sheets.{IsSheet, op_in, plan_of, prints_of};
@@ -172,6 +173,7 @@ impl Stack {
         ensures ios { IfOk result (λ s. s.sheet.ios.items ≡ requests_from setup.mode.dix setup.pages ops) }
         ensures table { IfOk result (λ s. s.sheet.table ≡ setup.table) }
         ensures limits { IfOk result (λ s. s.sheet.limits ≡ setup.limits) }
+        ensures devices { IfOk result (λ s. (n : ℕ) → ((v : ℕ) → v < volume_len setup.table.entries → (place_in setup.table.entries v).0 < n) → s.sheet.devices ≤ n) }
         ensures mode { IfOk result (λ s. mode_of s.adapter ≡ setup.mode) }
         ensures faults { IfOk result (λ s. s.adapter.tamper ≡ setup.faults) }
         ensures pool { IfOk result (λ s. IsBlank (pages_from setup.mode.dix setup.pages ops) s.pool) }

@@ -1,4 +1,4 @@
-use Rattle.std.proofs.Common.{◌≡◌, true, false, map, ⊎_elim}
+use Rattle.std.proofs.Common.{◌≡◌, true, false, map, ap, ⊎_elim}
 use Rattle.std.specs.Prelude.{is_some}
 use Rattle.std.proofs.lemmas.Bool.{cases_Bool}
 use Rattle.page_pool.specs.Cells.{flat}
@@ -92,3 +92,13 @@ returns-in-Read-clause-spent g c =
     (record { told = is_some (g.R.Rig.image c.args.rig.now); units = g.R.Rig.units c.args.rig.now; standing = g.R.Rig.standing c.args.rig.now; log = g.R.Rig.log c.args.rig.now; room = g.R.Rig.room c.args.rig.now; armed = g.R.Rig.armed c.args.rig.now; faults = g.R.Rig.faults c.args.rig.now })
     (record { told = is_some (g.R.Rig.image c.carry_in.new.rig); units = g.R.Rig.units c.carry_in.new.rig; standing = g.R.Rig.standing c.carry_in.new.rig; log = g.R.Rig.log c.carry_in.new.rig; room = g.R.Rig.room c.carry_in.new.rig; armed = g.R.Rig.armed c.carry_in.new.rig; faults = g.R.Rig.faults c.carry_in.new.rig })
     c.carry_in.ensures.fetched
+
+pub returns-in-Write-clause-tells : goal.returns-in-Write-clause-tells
+returns-in-Write-clause-tells g c =
+    ⊎_elim
+    (λ (b : any_bad (map (sends c.args.self.now c.args.ios.now (flat c.args.pool.now)) (blocks_in c.args.req.now)) ≡ true). ap (λ r. is_some (g.R.Rig.image r)) (c.carry_out.ensures.unsent b).1)
+    (λ (b : any_bad (map (sends c.args.self.now c.args.ios.now (flat c.args.pool.now)) (blocks_in c.args.req.now)) ≡ false). (c.carry_out.ensures.sent b).exchanged.tells)
+    (cases_Bool (any_bad (map (sends c.args.self.now c.args.ios.now (flat c.args.pool.now)) (blocks_in c.args.req.now))))
+
+pub returns-in-Read-clause-tells : goal.returns-in-Read-clause-tells
+returns-in-Read-clause-tells g c = c.carry_in.ensures.fetched.exchanged.tells

@@ -95,3 +95,9 @@ returns-clause-stack c =
       fates = omega (arith, c.in_ok-with_capacity-2.ensures.exact, c.blocks-blocks.ensures);
       scratch = c.in_ok-new-2.ensures;
     })
+
+pub returns-clause-devices : goal.returns-clause-devices
+returns-clause-devices c n h =
+    let l = c.count_devices-devices.ensures.least n h in
+    let e = c.sheet_of-sheet.ensures.devices in
+    omega arith

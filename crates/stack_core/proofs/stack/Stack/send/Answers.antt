@@ -1,4 +1,5 @@
 use Rattle.std.proofs.Common.{ap, refl, ◌∙◌, arith}
+use Rattle.std.specs.Prelude.{is_some}
 use Rattle.dix_adapter.specs.Groups.{size}
 use Rattle.stack_core.specs.Stacks.{plan_in}
 use Rattle.stack_core.proofs.Keeps.{is-stack}
@@ -8,29 +9,29 @@ use Rattle.stack_core.proofs.stack.Stack.send.Goals as goal
 
 pub carry-requires-clause-group : goal.carry-requires-clause-group
 carry-requires-clause-group g c =
-    let k = can-carry c.args.self.now c.args.d c.args.i c.take.new.group.items c.take.new.self (g.R.Rig.standing c.args.rig.now) (g.R.Rig.room c.args.rig.now) c.requires.stack c.requires.spare c.requires.rig c.requires.ready c.take.ensures.takes in
+    let k = can-carry c.args.self.now c.args.d c.args.i c.take.new.group.items c.take.new.self (is_some (g.R.Rig.image c.args.rig.now)) (g.R.Rig.standing c.args.rig.now) (g.R.Rig.room c.args.rig.now) c.requires.stack c.requires.spare c.requires.rig c.requires.ready c.take.ensures.takes in
     (k.bytes, rw (c.ios.ensures, c.deref.ensures.value) k.fits)
 
 pub carry-requires-clause-scratch : goal.carry-requires-clause-scratch
 carry-requires-clause-scratch g c =
-    let k = can-carry c.args.self.now c.args.d c.args.i c.take.new.group.items c.take.new.self (g.R.Rig.standing c.args.rig.now) (g.R.Rig.room c.args.rig.now) c.requires.stack c.requires.spare c.requires.rig c.requires.ready c.take.ensures.takes in
+    let k = can-carry c.args.self.now c.args.d c.args.i c.take.new.group.items c.take.new.self (is_some (g.R.Rig.image c.args.rig.now)) (g.R.Rig.standing c.args.rig.now) (g.R.Rig.room c.args.rig.now) c.requires.stack c.requires.spare c.requires.rig c.requires.ready c.take.ensures.takes in
     rw c.deref.ensures.value (holds-fewer c.args.self.now.sheet.limits.max_blocks _ c.args.self.now.scratch k.most c.requires.stack.lists.scratch_room)
 
 pub carry-requires-clause-fates : goal.carry-requires-clause-fates
 carry-requires-clause-fates g c =
-    let k = can-carry c.args.self.now c.args.d c.args.i c.take.new.group.items c.take.new.self (g.R.Rig.standing c.args.rig.now) (g.R.Rig.room c.args.rig.now) c.requires.stack c.requires.spare c.requires.rig c.requires.ready c.take.ensures.takes in
+    let k = can-carry c.args.self.now c.args.d c.args.i c.take.new.group.items c.take.new.self (is_some (g.R.Rig.image c.args.rig.now)) (g.R.Rig.standing c.args.rig.now) (g.R.Rig.room c.args.rig.now) c.requires.stack c.requires.spare c.requires.rig c.requires.ready c.take.ensures.takes in
     let f = k.few in
     let r = c.requires.stack.lists.fates_room in
     rw c.deref.ensures.value (omega arith)
 
 pub carry-requires-clause-device : goal.carry-requires-clause-device
 carry-requires-clause-device g c =
-    let k = can-carry c.args.self.now c.args.d c.args.i c.take.new.group.items c.take.new.self (g.R.Rig.standing c.args.rig.now) (g.R.Rig.room c.args.rig.now) c.requires.stack c.requires.spare c.requires.rig c.requires.ready c.take.ensures.takes in
+    let k = can-carry c.args.self.now c.args.d c.args.i c.take.new.group.items c.take.new.self (is_some (g.R.Rig.image c.args.rig.now)) (g.R.Rig.standing c.args.rig.now) (g.R.Rig.room c.args.rig.now) c.requires.stack c.requires.spare c.requires.rig c.requires.ready c.take.ensures.takes in
     rw c.deref.ensures.value k.device
 
 pub carry-requires-clause-spare : goal.carry-requires-clause-spare
 carry-requires-clause-spare g c =
-    let k = can-carry c.args.self.now c.args.d c.args.i c.take.new.group.items c.take.new.self (g.R.Rig.standing c.args.rig.now) (g.R.Rig.room c.args.rig.now) c.requires.stack c.requires.spare c.requires.rig c.requires.ready c.take.ensures.takes in
+    let k = can-carry c.args.self.now c.args.d c.args.i c.take.new.group.items c.take.new.self (is_some (g.R.Rig.image c.args.rig.now)) (g.R.Rig.standing c.args.rig.now) (g.R.Rig.room c.args.rig.now) c.requires.stack c.requires.spare c.requires.rig c.requires.ready c.take.ensures.takes in
     rw c.deref.ensures.value k.spare
 
 pub fly-requires : goal.fly-requires
