@@ -18,3 +18,4 @@ pub mod Laid
 pub mod Listing
 pub mod FirstStack
 pub mod Sent
+pub mod InTurn

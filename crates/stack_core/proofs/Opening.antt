@@ -71,8 +71,8 @@ tuples table dix protect limits pages pool now ops c n i pi l e =
     let b = t.payload.long in
     omega arith
 
-pub numbers : (table : Table) (dix : Bool) (protect : ℕ) (limits : Limits) (pages : ℕ) (pool : List (List ℕ)) (ops : List Op) → CanStart table dix protect limits pages pool ops → HaveNumbers (requests_from dix pages ops)
-numbers table dix protect limits pages pool ops c = λ i.
+pub have-numbers : (table : Table) (dix : Bool) (protect : ℕ) (limits : Limits) (pages : ℕ) (pool : List (List ℕ)) (ops : List Op) → CanStart table dix protect limits pages pool ops → HaveNumbers (requests_from dix pages ops)
+have-numbers table dix protect limits pages pool ops c = λ i.
     (let ios = requests_from dix pages ops in
     let n = length-requests dix pages ops in
     ⊎_elim
@@ -102,7 +102,7 @@ sheet-is table dix protect limits pages pool ops shifted devices c eight on =
     record {
       fine = fine-of ops shifted (requests_from dix pages ops) table limits devices (record { devices = c.devices; size = c.bytes; made = c.made }) (record { inside = a; on = on }) (omega arith) c.few_blocks eight c.some_blocks;
       inside = a;
-      numbers = numbers table dix protect limits pages pool ops c;
+      numbers = have-numbers table dix protect limits pages pool ops c;
       tuples = all-tuples table dix protect limits pages pool ops c;
     }
 

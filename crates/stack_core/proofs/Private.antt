@@ -1,5 +1,5 @@
 -- The pages in which the tuples of the block layer lie.
-use Rattle.std.proofs.Common.{◌≡◌, ◌<◌, ◌≤◌, ℕ, zero, suc, ◌+◌, ◌-◌, ◌*◌, ◌%◌, min, inl, inr, List, [], ◌∷◌, ◌++◌, length, map, refl, ap, ◌∙◌, arith}
+use Rattle.std.proofs.Common.{◌≡◌, ◌<◌, ◌≤◌, ℕ, zero, suc, ◌+◌, ◌-◌, ◌*◌, ◌%◌, min, inl, inr, List, [], ◌∷◌, length, map, ap, ◌∙◌, arith}
 use Rattle.page_pool.specs.declared.segs.Seg.{Seg}
 use Rattle.page_pool.specs.Pages.{AllLieIn}
 use Rattle.page_pool.specs.Places.{Apart, IsAmong, NoneTwice, PageByte, places_in, places_of, total}
@@ -8,8 +8,6 @@ use Rattle.page_pool.proofs.Placing.{among-append, segments_stand}
 use Rattle.page_pool.proofs.Separate.{once-append, run-once, within}
 use Rattle.integrity_payload.specs.Payloads.{AreWholeTuples}
 use Rattle.merge_queue.specs.Groups.{numbers}
-use Rattle.merge_queue.proofs.Joins.{numbers-split}
-use Rattle.std.proofs.lemmas.List.{map-append}
 use Rattle.stack_core.specs.Requests.{pages_for, private_tuples, tuple_page}
 
 -- the tuples of the pages k to k + m - 1
@@ -33,13 +31,6 @@ eighths n = omega arith
 whole-from : (page count k m : ℕ) → AreWholeTuples (tuples_from page count k m)
 whole-from page count k zero = tt
 whole-from page count k (suc m) = (eighths (count - 512 * k), whole-from page count (suc k) m)
-
--- one page more
-pub page-more : (page count i : ℕ) → map (tuple_page page count) (numbers 0 (i + 1)) ≡ map (tuple_page page count) (numbers 0 i) ++ tuple_page page count i ∷ []
-page-more page count i =
-    let z : 0 + i ≡ i = omega arith in
-    ap (map (tuple_page page count)) (numbers-split 0 i 1 (i + 1) refl) ∙ map-append (tuple_page page count) (numbers 0 i) (numbers (0 + i) 1)
-    ∙ ap (λ j. map (tuple_page page count) (numbers 0 i) ++ tuple_page page count j ∷ []) z
 
 pub whole-private : (page count : ℕ) → AreWholeTuples (private_tuples page count)
 whole-private page count = whole-from page count 0 (pages_for count)

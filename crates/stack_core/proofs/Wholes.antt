@@ -7,9 +7,10 @@ use Rattle.page_pool.specs.Places.{total}
 use Rattle.page_pool.proofs.Placing.{all_lie-same}
 use Rattle.integrity_payload.specs.declared.payload.Payload.{Payload}
 use Rattle.bio_core.specs.declared.bio.Bio.{Bio}
+use Rattle.bio_core.specs.declared.fate.Fate.{Fate}
 use Rattle.bio_core.specs.declared.request.Io.{Io}
 use Rattle.stack_core.specs.Sheets.{io_at, no_io}
-use Rattle.stack_core.specs.Settling.{AreAllWhole, HasTuples, IsOf, IsWhole}
+use Rattle.stack_core.specs.Settling.{AreAllWhole, AreFates, HasTuples, IsOf, IsWhole}
 
 pub tuples_stay : (old new : List (List ℕ)) (io : Io) (pi : Payload) → length new ≡ length old → HasTuples old io pi → HasTuples new io pi
 tuples_stay old new io pi e h = record {
@@ -44,3 +45,7 @@ whole-of pool ios bios i d io w a h e =
     let l : (get_or bios i d).op - 1 < length ios = omega arith in
     let f : io ≡ io_at ios ((get_or bios i d).op - 1) = get_or_read ios ((get_or bios i d).op - 1) io l e no_io in
     rw f (w ((get_or bios i d).op - 1) l)
+
+-- Fates in place of as many stay where they are.
+pub fates_stay : (ios : List Io) (starts starts' : List ℕ) (held held' : List Fate) → starts' ≡ starts → length held' ≡ length held → AreFates ios starts held → AreFates ios starts' held'
+fates_stay ios starts starts' held held' e n h = rw e (record { count = h.count; begin = h.begin; within = λ i l. (let w = h.within i l in omega arith); few = let f = h.few in omega arith })

@@ -1,8 +1,10 @@
 pub mod Sheets
 pub mod Settling
+pub mod Settled
 pub mod Replies
 pub mod Doing
 pub mod Stacks
 pub mod Requests
 pub mod Starting
+pub mod Shifts
 pub mod Rooms

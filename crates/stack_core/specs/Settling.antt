@@ -1,5 +1,5 @@
 -- What became of the blocks of requests, and the requests whose blocks can be settled.
-use Rattle.std.specs.Prelude.{◌≡◌, ℕ, ◌+◌, ◌-◌, ◌<◌, ◌≤◌, ◌^◌, List, length, get_or, Option, Some, None}
+use Rattle.std.specs.Prelude.{◌≡◌, ℕ, ◌+◌, ◌-◌, ◌<◌, ◌≤◌, ◌^◌, List, length, map, take, get_or, Option, Some, None}
 use Rattle.page_pool.specs.Pages.{AllLieIn}
 use Rattle.page_pool.specs.Places.{Apart, NoneTwice, places_in}
 use Rattle.pi_tuple.specs.declared.checks.Check.{Check}
@@ -14,7 +14,8 @@ use Rattle.bio_core.specs.declared.fate.Why.{Why}
 use Rattle.bio_core.specs.declared.fate.Why.TheVariants.{Block, App}
 use Rattle.bio_core.specs.declared.request.Dir.TheVariants.{Read}
 use Rattle.bio_core.specs.declared.request.Io.{Io}
-use Rattle.stack_core.specs.Sheets.{io_at}
+use Rattle.stack_view.specs.Runs.{blocks_of_requests}
+use Rattle.stack_core.specs.Sheets.{io_at, request_in}
 
 -- what the owner of its tuple says of a block at fault
 abbrev pub found_by : Owner → Check → Why
@@ -50,8 +51,13 @@ pub record IsOf (ios : List Io) (b : Bio) : Type 0 where
   pub within : b.k + b.count ≤ (io_at ios (b.op - 1)).count
   pub ends : b.lba + b.count < 2 ^ 64
 
+-- the blocks of the requests before this one
+abbrev pub blocks_before : List Io → ℕ → ℕ
+blocks_before ios i = blocks_of_requests (map request_in (take i ios))
+
 -- where the blocks of each request begin, and what became of each block
 pub record AreFates (ios : List Io) (starts : List ℕ) (held : List Fate) : Type 0 where
   pub count : length starts ≡ length ios
+  pub begin : (i : ℕ) → i < length ios → get_or starts i 0 ≡ blocks_before ios i
   pub within : (i : ℕ) → i < length ios → get_or starts i 0 + (io_at ios i).count ≤ length held
   pub few : length held ≤ 16384

@@ -1,6 +1,7 @@
 //! What became of each block of each request, and the room for replies.
 
-ghost use Rattle.std.specs.Prelude.{◌≡◌, ◌<◌, ◌≤◌, ◌+◌, ◌^◌, ◌++◌, [], ◌∷◌, IfOk, length, map, take, drop, slice_index_or, slice_set};
+ghost use Rattle.std.specs.Prelude.{◌≡◌, ◌<◌, ◌≤◌, ◌+◌, ◌^◌, ◌++◌, [], ◌∷◌, IfOk, length, map, take, drop, replicate, slice_index_or, slice_set};
+ghost use Rattle.bio_core.specs.declared.fate.Fate.TheVariants.{Untouched};
 ghost use Rattle.std.specs.Vec.{vec_capacity};
 ghost use Rattle.stack_view.specs.Runs.{blocks_of_requests};
 ghost use Rattle.stack_core.specs.Sheets.{io_at, request_in};
@@ -28,7 +29,7 @@ impl Fates {
     pub(crate) fn new(alloc: Global, ios: &[Io]) -> Result<Fates, AllocError>
         requires { blocks_of_requests (map request_in ios.now) ≤ 16384 }
         ensures fates { IfOk result (λ f. AreFates ios.now f.starts.items f.held.items) }
-        ensures count { IfOk result (λ f. length f.held.items ≡ blocks_of_requests (map request_in ios.now)) }
+        ensures held { IfOk result (λ f. f.held.items ≡ replicate (blocks_of_requests (map request_in ios.now)) Untouched) }
     {
         let mut starts = Vec::with_capacity(alloc, ios.len())?;
         let mut blocks = 0usize;

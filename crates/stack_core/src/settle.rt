@@ -1,17 +1,17 @@
 //! Settling the blocks of a completed command.
 
-ghost use Rattle.std.specs.Prelude.{◌≡◌, ◌<◌, ◌≤◌, ◌+◌, ◌-◌, ◌*◌, ◌/◌, ◌^◌, length, slice_index_or, Some};
+ghost use Rattle.std.specs.Prelude.{◌≡◌, ◌<◌, ◌≤◌, ◌+◌, ◌-◌, ◌*◌, ◌^◌, length, replicate, slice_index_or};
 ghost use Rattle.std.specs.List.{All};
-ghost use Rattle.page_pool.specs.Pages.{AllLieIn};
-ghost use Rattle.page_pool.specs.Places.{NoneTwice, places_in, total};
-ghost use Rattle.pi_guard.specs.Guards.{guard_of};
-ghost use Rattle.pi_tuple.specs.Finds.{finding};
-ghost use Rattle.pi_tuple.specs.Tuples.{ref_tag};
-ghost use Rattle.integrity_payload.specs.Payloads.{all_asked, block_of, tuple_of};
+ghost use Rattle.page_pool.specs.Pages.{AllLieIn, Wrote};
+ghost use Rattle.page_pool.specs.Places.{NoneTwice, places_in, range_of, total};
+ghost use Rattle.integrity_payload.specs.Payloads.{tuple_places};
+ghost use Rattle.ref_remap.specs.Remapped.{AreRemapped};
+ghost use Rattle.bio_core.specs.Bios.{block_size};
 ghost use Rattle.bio_core.specs.declared.request.Dir.TheVariants.{Read};
 ghost use Rattle.merge_queue.specs.Groups.{size};
 ghost use Rattle.stack_core.specs.Sheets.{io_at};
-ghost use Rattle.stack_core.specs.Settling.{AreAllWhole, AreFates, HasTuples, IsOf, IsWhole, fate_by, found_by};
+ghost use Rattle.stack_core.specs.Settling.{AreAllWhole, AreFates, HasTuples, IsOf, IsWhole, found_by};
+ghost use Rattle.stack_core.specs.Settled.{AllSettled, BioSettled, Blanked, Judged, Kept, LeftBy, MappedBack, OneSettled, ReadSettled, Settled, TupleBlanked, said_by};
 
 use crate::kept::Fates;
 use bio_core::{Bio, Dir, Fate, Io, Why};
@@ -36,8 +36,7 @@ fn verified(pool: &PagePool, io: &Io, pi: &Payload, mode: Mode, ty: PiType, k: u
     requires whole { IsWhole pool.now io.now }
     requires tuples { HasTuples pool.now io.now pi.now }
     requires within { k < io.now.count }
-    ensures { result ≡ fate_by pi.now.owner (finding ty (all_asked mode.app mode.mask) (ref_tag (pi.now.seed + k))
-        (guard_of mode.kind (block_of pool.now io.now.body (total io.now.body / pi.now.count) k)) (tuple_of pool.now pi.now.tuples k)) }
+    ensures { result ≡ said_by pi.now mode ty pool.now io.now k }
 {
     match pi.verify(pool, &io.body, mode.kind, ty, k, mode.app, mode.mask) {
         Some(check) => Fate::Bad(found_by(pi.owner, check)),
@@ -50,7 +49,8 @@ fn blank_data(pool: &mut PagePool, io: &Io, k: u32)
     requires whole { IsWhole pool.old io.now }
     requires read { io.now.dir ≡ Read }
     requires within { k < io.now.count }
-    ensures { length pool.new ≡ length pool.old }
+    ensures pages { length pool.new ≡ length pool.old }
+    ensures zeros { Wrote pool.old pool.new (range_of io.now.body (k * block_size io.now) (block_size io.now)) (replicate (block_size io.now) 0) }
 {
     // The body's bytes are known to be few once it was looked at.
     let _segs = io.body.as_slice();
@@ -62,7 +62,8 @@ fn blank_data(pool: &mut PagePool, io: &Io, k: u32)
 fn blank_tuple(pool: &mut PagePool, io: &Io, k: u32)
     requires whole { IsWhole pool.old io.now }
     requires within { k < io.now.count }
-    ensures { length pool.new ≡ length pool.old }
+    ensures pages { length pool.new ≡ length pool.old }
+    ensures zeros { TupleBlanked io.now.pi k pool.old pool.new }
 {
     if let Some(pi) = &io.pi {
         zero_tuple(pool, &pi.tuples, k);
@@ -73,7 +74,8 @@ fn zero_tuple(pool: &mut PagePool, tuples: &SgList, k: u32)
     requires lie { AllLieIn pool.old tuples.now }
     requires once { NoneTwice (places_in tuples.now) }
     requires within { 8 * k + 8 ≤ total tuples.now }
-    ensures { length pool.new ≡ length pool.old }
+    ensures pages { length pool.new ≡ length pool.old }
+    ensures zeros { Wrote pool.old pool.new (tuple_places tuples.now k) (replicate 8 0) }
 {
     // The list's bytes are known to be few once it was looked at.
     let _segs = tuples.as_slice();
@@ -85,7 +87,8 @@ fn blank(pool: &mut PagePool, io: &Io, k: u32)
     requires whole { IsWhole pool.old io.now }
     requires read { io.now.dir ≡ Read }
     requires within { k < io.now.count }
-    ensures { length pool.new ≡ length pool.old }
+    ensures pages { length pool.new ≡ length pool.old }
+    ensures zeros { Blanked io.now k pool.old pool.new }
 {
     blank_data(pool, io, k);
     blank_tuple(pool, io, k);
@@ -105,7 +108,9 @@ fn look_at(
     requires tuples { HasTuples pool.old io.now pi.now }
     requires within { k < io.now.count }
     requires ends { lba + 1 < 2 ^ 64 }
-    ensures { length pool.new ≡ length pool.old }
+    ensures pages { length pool.new ≡ length pool.old }
+    ensures mapped { AreRemapped pool.old pool.new pi.now.tuples ty k 1 lba (pi.now.seed + k) }
+    ensures said { result ≡ said_by pi.now mode ty pool.new io.now k }
 {
     map_back(pool, pi, ty, k, 1, lba);
     verified(pool, io, pi, mode, ty, k)
@@ -124,7 +129,8 @@ fn judge_read(
     requires whole { IsWhole pool.old io.now }
     requires within { k < io.now.count }
     requires ends { lba + 1 < 2 ^ 64 }
-    ensures { length pool.new ≡ length pool.old }
+    ensures pages { length pool.new ≡ length pool.old }
+    ensures judged { Judged io.now.pi fate mode ty io.now k lba pool.old pool.new result }
 {
     match (fate, &io.pi) {
         (Fate::Good, Some(pi)) => look_at(pool, io, pi, mode, ty, k, lba),
@@ -136,7 +142,8 @@ fn blank_unless_good(pool: &mut PagePool, io: &Io, k: u32, fate: Fate)
     requires whole { IsWhole pool.old io.now }
     requires read { io.now.dir ≡ Read }
     requires within { k < io.now.count }
-    ensures { length pool.new ≡ length pool.old }
+    ensures pages { length pool.new ≡ length pool.old }
+    ensures left { LeftBy fate io.now k pool.old pool.new }
 {
     if fate != Fate::Good {
         blank(pool, io, k);
@@ -158,7 +165,8 @@ fn settle_read(
     requires read { io.now.dir ≡ Read }
     requires within { k < io.now.count }
     requires ends { lba + 1 < 2 ^ 64 }
-    ensures { length pool.new ≡ length pool.old }
+    ensures pages { length pool.new ≡ length pool.old }
+    ensures settled { ReadSettled mode ty io.now k lba fate pool.old pool.new result }
 {
     let settled = judge_read(pool, io, mode, ty, k, lba, fate);
     blank_unless_good(pool, io, k, settled);
@@ -170,7 +178,8 @@ fn settle_write(pool: &mut PagePool, io: &Io, ty: PiType, k: u32, lba: u64)
     requires whole { IsWhole pool.old io.now }
     requires within { k < io.now.count }
     requires ends { lba + 1 < 2 ^ 64 }
-    ensures { length pool.new ≡ length pool.old }
+    ensures pages { length pool.new ≡ length pool.old }
+    ensures mapped { MappedBack io.now.pi ty k lba pool.old pool.new }
 {
     if let Some(pi) = &io.pi {
         map_back(pool, pi, ty, k, 1, lba);
@@ -190,7 +199,8 @@ fn settle_block(
     requires whole { IsWhole pool.old io.now }
     requires within { k < io.now.count }
     requires ends { lba + 1 < 2 ^ 64 }
-    ensures { length pool.new ≡ length pool.old }
+    ensures pages { length pool.new ≡ length pool.old }
+    ensures settled { Settled io.now.dir mode ty io.now k lba fate pool.old pool.new result }
 {
     match io.dir {
         Dir::Read => settle_read(pool, io, mode, ty, k, lba, fate),
@@ -222,6 +232,7 @@ fn settle_one(
     ensures pages { length pool.new ≡ length pool.old }
     ensures starts { kept.new.starts.items ≡ kept.old.starts.items }
     ensures held { length kept.new.held.items ≡ length kept.old.held.items }
+    ensures settled { OneSettled mode ty io.now (slice_index_or kept.old.starts.items (bio.now.op - 1) 0) (bio.now.k + i) (bio.now.lba + i) fate (record { pages = pool.old; held = kept.old.held.items }) (record { pages = pool.new; held = kept.new.held.items }) }
 {
     // That the request has few blocks is known once their number was looked at.
     let _blocks = io.count;
@@ -254,6 +265,7 @@ fn settle_bio(
     ensures pages { length pool.new ≡ length pool.old }
     ensures starts { kept.new.starts.items ≡ kept.old.starts.items }
     ensures held { length kept.new.held.items ≡ length kept.old.held.items }
+    ensures settled { BioSettled mode ty io.now (slice_index_or kept.old.starts.items (bio.now.op - 1) 0) bio.now fates.now at bio.now.count (record { pages = pool.old; held = kept.old.held.items }) (record { pages = pool.new; held = kept.new.held.items }) }
 {
     for i in 0..bio.count {
         settle_one(pool, io, mode, ty, bio, i, fates[at + i as usize], kept);
@@ -276,6 +288,7 @@ pub(crate) fn settle_all(
     requires kept { AreFates ios.now kept.old.starts.items kept.old.held.items }
     ensures pages { length pool.new ≡ length pool.old }
     ensures kept { AreFates ios.now kept.new.starts.items kept.new.held.items }
+    ensures settled { AllSettled mode ty ios.now kept.old.starts.items bios.now fates.now (length bios.now) (record { pages = pool.old; held = kept.old.held.items }) (record { pages = pool.new; held = kept.new.held.items }) }
 {
     let mut at = 0usize;
     for bio in bios {

@@ -1,13 +1,18 @@
 //! A stack before its first step.
 
-ghost use Rattle.std.specs.Prelude.{◌≡◌, ◌<◌, ◌≤◌, ◌+◌, ℕ, List, IfOk, length};
+ghost use Rattle.std.specs.Prelude.{◌≡◌, ◌<◌, ◌≤◌, ◌+◌, ℕ, List, IfOk, length, map, replicate};
+ghost use Rattle.std.specs.List.{list_any};
+ghost use Rattle.bio_core.specs.declared.fate.Fate.TheVariants.{Untouched};
+ghost use Rattle.stack_ops.specs.declared.reply.Reply.TheVariants.{Silent};
+ghost use Rattle.stack_view.specs.Runs.{blocks_of_requests};
 ghost use Rattle.page_pool.specs.Pages.{IsBlank};
 ghost use Rattle.dix_adapter.specs.Groups.{mode_of};
 ghost use Rattle.stack_ops.specs.Footprints.{IsShortPut};
 ghost use Rattle.volume_table.specs.Places.{place_in, volume_len};
 ghost use Rattle.stack_view.specs.View.{start};
 ghost use Rattle.stack_steps.specs.Does.{Holds};
-ghost use Rattle.stack_core.specs.Sheets.{IsSheet, op_in, plan_of, prints_of};
+ghost use Rattle.stack_core.specs.Sheets.{IsSheet, op_in, plan_of, prints_of, request_in};
+ghost use Rattle.stack_core.specs.Shifts.{is_shift, shifted_by, shifts};
 ghost use Rattle.stack_core.specs.Requests.{first_page, own_blocks, page_after, pages_from, requests_from};
 ghost use Rattle.stack_core.specs.Replies.{HoldsBad};
 ghost use Rattle.stack_core.specs.Rooms.{Suits, blocks_in};
@@ -31,19 +36,29 @@ use stack_steps::Machine;
 use std::alloc::{AllocError, Global};
 use volume_table::VolumeTable;
 
+fn is_shift(kind: &FaultKind) -> bool
+    ensures { result ≡ is_shift kind.now }
+{
+    matches!(kind, FaultKind::Shift { .. })
+}
+
 /// Whether a line shifts the op of this number, from 1.
-fn shifts(line: &FaultLine, op: u32) -> bool {
-    line.op == op && matches!(line.kind, FaultKind::Shift { .. })
+fn is_shifted(faults: &[FaultLine], op: u32) -> bool
+    ensures { result ≡ list_any (shifts op) faults.now }
+{
+    faults
+        .iter()
+        .any(|line| line.op == op && is_shift(&line.kind))
 }
 
 /// Whether a line shifts each op.
 fn shifted_ops(alloc: Global, n: u32, faults: &[FaultLine]) -> Result<Vec<bool>, AllocError>
     requires { n ≤ 4096 }
-    ensures { IfOk result (λ v. length v.items ≡ n) }
+    ensures { IfOk result (λ v. v.items ≡ shifted_by faults.now n) }
 {
     let mut shifted = Vec::with_capacity(alloc, n as usize)?;
     for i in 0..n {
-        shifted.push_reserved(faults.iter().any(|line| shifts(line, i + 1)));
+        shifted.push_reserved(is_shifted(faults, i + 1));
     }
     Ok(shifted)
 }
@@ -110,7 +125,7 @@ fn rooms_of(alloc: Global, ops: &[Op]) -> Result<Vec<Room>, AllocError>
 }
 
 fn silent(alloc: Global, n: usize) -> Result<Vec<Reply>, AllocError>
-    ensures { IfOk result (λ v. length v.items ≡ n) }
+    ensures { IfOk result (λ v. v.items ≡ replicate n Silent) }
 {
     let mut replies = Vec::with_capacity(alloc, n)?;
     for _ in 0..n {
@@ -130,6 +145,7 @@ fn sheet_of(
     requires { IsSheet ops shifted.items ios.items table limits devices }
     ensures plan { plan_in result ≡ plan_of ops shifted.items ios.items table limits devices }
     ensures ops { result.ops ≡ ops }
+    ensures shifted { result.shifted.items ≡ shifted.items }
     ensures ios { result.ios.items ≡ ios.items }
     ensures table { result.table ≡ table }
     ensures limits { result.limits ≡ limits }
@@ -176,6 +192,9 @@ impl Stack {
         ensures devices { IfOk result (λ s. (n : ℕ) → ((v : ℕ) → v < volume_len setup.table.entries → (place_in setup.table.entries v).0 < n) → s.sheet.devices ≤ n) }
         ensures mode { IfOk result (λ s. mode_of s.adapter ≡ setup.mode) }
         ensures faults { IfOk result (λ s. s.adapter.tamper ≡ setup.faults) }
+        ensures shifted { IfOk result (λ s. s.sheet.shifted.items ≡ shifted_by setup.faults (length ops)) }
+        ensures kept { IfOk result (λ s. s.kept.held.items ≡ replicate (blocks_of_requests (map request_in (requests_from setup.mode.dix setup.pages ops))) Untouched) }
+        ensures replies { IfOk result (λ s. s.replies.items ≡ replicate (length ops) Silent) }
         ensures pool { IfOk result (λ s. IsBlank (pages_from setup.mode.dix setup.pages ops) s.pool) }
     {
         let Setup {

@@ -2,12 +2,13 @@ use Rattle.std.proofs.Common.{◌≡◌, ◌*◌, map, ap, ◌∙◌, arith}
 use Rattle.page_pool.specs.Places.{total}
 use Rattle.merge_queue.specs.Groups.{numbers}
 use Rattle.stack_core.specs.Requests.{pages_for, tuple_page}
-use Rattle.stack_core.proofs.Private.{page-more, total-private}
+use Rattle.stack_core.proofs.Counts.{numbers-more}
+use Rattle.stack_core.proofs.Private.{total-private}
 use Rattle.stack_core.proofs.requests.private_tuples.Goals as goal
 
 pub loop-i-preserved : goal.loop-i-preserved
 loop-i-preserved c =
-    let e = page-more c.args.page c.args.count c.loop-i.i in
+    let e = numbers-more (tuple_page c.args.page c.args.count) c.loop-i.i in
     let p = c.in_ok-push.ensures.ok in
     let t = c.tuple_page.ensures in
     let h = c.loop-i.invariant in

@@ -1,16 +1,22 @@
-use Rattle.std.proofs.Common.{◌≡◌, ap, ◌∙◌, length, map, replicate, subst, sym, arith}
-use Rattle.std.proofs.lemmas.List.{length-map}
+use Rattle.std.proofs.Common.{◌≡◌, ◌+◌, ap, ◌∙◌, length, map, replicate, subst, sym, arith}
+use Rattle.std.proofs.lemmas.List.{length-map, length-replicate}
+use Rattle.bio_core.specs.declared.fate.Fate.TheVariants.{Untouched}
+use Rattle.stack_ops.specs.declared.reply.Reply.TheVariants.{Silent}
 use Rattle.range_gate.specs.declared.phase.Phase.TheVariants.{Waiting}
 use Rattle.stack_view.specs.Runs.{blocks_of_requests}
 use Rattle.stack_view.specs.View.{start}
 use Rattle.stack_steps.specs.Shows.{IsGateOf}
 use Rattle.stack_core.specs.Sheets.{prints_of, request_in}
 use Rattle.stack_core.specs.Requests.{pages_from, requests_from}
+use Rattle.stack_core.specs.Shifts.{shifts}
 use Rattle.stack_core.specs.Stacks.{plan_in}
+use Rattle.merge_queue.specs.Groups.{numbers}
+use Rattle.merge_queue.proofs.Linking.{length-numbers}
+use Rattle.std.specs.List.{list_any}
 use Rattle.stack_core.proofs.Begin.{length-requests}
 use Rattle.stack_core.proofs.FirstStack.{first-stack}
 use Rattle.stack_core.proofs.Gates.{gate-is, length-prints}
-use Rattle.stack_core.proofs.Opening.{inside-each, numbers, own-few, sheet-is}
+use Rattle.stack_core.proofs.Opening.{have-numbers, inside-each, own-few, sheet-is}
 use Rattle.stack_core.proofs.stack.Stack.new.Goals as goal
 
 pub new-requires : goal.new-requires
@@ -37,7 +43,7 @@ pub count_devices-devices-requires-clause-numbers : goal.count_devices-devices-r
 count_devices-devices-requires-clause-numbers c =
     let s = c.args.setup in
     let e : c.deref-2.result.now ≡ requests_from s.mode.dix s.pages c.args.ops = c.deref-2.ensures.value ∙ c.in_ok-ios.ensures.ios ∙ ap (requests_from s.mode.dix s.pages) c.as_slice-4.ensures in
-    rw e (numbers s.table s.mode.dix s.mode.protect s.limits s.pages c.requires.0 c.args.ops c.requires.1)
+    rw e (have-numbers s.table s.mode.dix s.mode.protect s.limits s.pages c.requires.0 c.args.ops c.requires.1)
 
 pub sheet_of-sheet-requires : goal.sheet_of-sheet-requires
 sheet_of-sheet-requires c =
@@ -76,7 +82,8 @@ returns-clause-stack c =
     let s = c.args.setup in
     let i : c.in_ok-ios.ios.items ≡ requests_from s.mode.dix s.pages c.args.ops = c.in_ok-ios.ensures.ios ∙ ap (requests_from s.mode.dix s.pages) c.as_slice-4.ensures in
     let k : c.deref-3.result.now ≡ requests_from s.mode.dix s.pages c.args.ops = c.deref-3.ensures.value ∙ i in
-    let n = c.in_ok-kept.ensures.count ∙ ap (λ ios. blocks_of_requests (map request_in ios)) k in
+    let n = ap length c.in_ok-kept.ensures.held ∙ length-replicate (blocks_of_requests (map request_in c.deref-3.result.now)) Untouched ∙ ap (λ ios. blocks_of_requests (map request_in ios)) k in
+    let r = ap length c.in_ok-replies.ensures ∙ length-replicate c.len.result Silent in
     let l = ap length i ∙ length-requests s.mode.dix s.pages c.args.ops in
     first-stack s.table s.mode.dix s.mode.protect s.limits s.pages c.requires.0 c.args.ops _ c.requires.1 (record {
       ops_are = c.sheet_of-sheet.ensures.ops;
@@ -90,7 +97,7 @@ returns-clause-stack c =
       bad = rw (c.as_slice-5.ensures) at c.in_ok-rooms.ensures.bad;
       suits = rw (c.as_slice-5.ensures) at c.in_ok-rooms.ensures.suits;
       kept = rw k at c.in_ok-kept.ensures.fates;
-      replies = omega (arith, c.in_ok-ios.ios.ok.0, c.len.ensures, c.in_ok-replies.ensures);
+      replies = omega (arith, c.in_ok-ios.ios.ok.0, c.len.ensures);
       group = omega (arith, c.in_ok-with_capacity.ensures.exact, c.blocks-blocks.ensures);
       fates = omega (arith, c.in_ok-with_capacity-2.ensures.exact, c.blocks-blocks.ensures);
       scratch = c.in_ok-new-2.ensures;
@@ -101,3 +108,25 @@ returns-clause-devices c n h =
     let l = c.count_devices-devices.ensures.least n h in
     let e = c.sheet_of-sheet.ensures.devices in
     omega arith
+
+pub returns-clause-kept : goal.returns-clause-kept
+returns-clause-kept c =
+    let s = c.args.setup in
+    let k : c.deref-3.result.now ≡ requests_from s.mode.dix s.pages c.args.ops = c.deref-3.ensures.value ∙ c.in_ok-ios.ensures.ios ∙ ap (requests_from s.mode.dix s.pages) c.as_slice-4.ensures in
+    c.in_ok-kept.ensures.held ∙ ap (λ ios. replicate (blocks_of_requests (map request_in ios)) Untouched) k
+
+pub returns-clause-replies : goal.returns-clause-replies
+returns-clause-replies c =
+    let s = c.args.setup in
+    let i = c.in_ok-ios.ensures.ios ∙ ap (requests_from s.mode.dix s.pages) c.as_slice-4.ensures in
+    let l = ap length i ∙ length-requests s.mode.dix s.pages c.args.ops in
+    let n : c.len.result ≡ length c.args.ops = omega (arith, c.in_ok-ios.ios.ok.0, c.len.ensures) in
+    c.in_ok-replies.ensures ∙ ap (λ n. replicate n Silent) n
+
+pub footprints-requires-clause-count : goal.footprints-requires-clause-count
+footprints-requires-clause-count c =
+    let n = length c.as_slice.result.now in
+    let e = ap length c.in_ok-shifted.ensures in
+    let m = length-map (numbers 0 n) (λ i. list_any (shifts (i + 1)) c.as_slice-2.result.now) in
+    let l = length-numbers 0 n in
+    omega (arith, ap length c.deref.ensures.value, ap length c.as_slice.ensures, ap length c.as_slice-3.ensures)
