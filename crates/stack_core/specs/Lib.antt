@@ -3,6 +3,7 @@ pub mod Settling
 pub mod Settled
 pub mod Replies
 pub mod Doing
+pub mod Done
 pub mod Stacks
 pub mod Requests
 pub mod Starting

@@ -1,6 +1,6 @@
 //! The stack and its steps.
 
-ghost use Rattle.std.specs.Prelude.{◌≡◌, ◌<◌, ◌≤◌, ◌+◌, ◌↔◌, ◌^◌, ℕ, IsTrue, [], is_some, length, slice_index_or, slice_set};
+ghost use Rattle.std.specs.Prelude.{◌≡◌, ◌<◌, ◌≤◌, ◌+◌, ◌↔◌, ◌^◌, ◌⊎◌, ℕ, IsTrue, [], is_some, length, slice_index_or, slice_set};
 ghost use Rattle.stack_view.specs.Steps.{enabled};
 ghost use Rattle.stack_view.specs.View.{View};
 ghost use Rattle.stack_steps.specs.declared.choice.Choice.TheVariants.{End, Complete, Admit, Cut, Join, Send};
@@ -8,6 +8,8 @@ ghost use Rattle.stack_steps.specs.Does.{Does, Holds, Ready};
 ghost use Rattle.stack_core.specs.declared.kept.Room.TheVariants.{Nothing};
 ghost use Rattle.stack_core.specs.Settling.{HasTuples, IsWhole};
 ghost use Rattle.stack_core.specs.Replies.{HoldsSeal};
+ghost use Rattle.stack_ops.specs.declared.reply.Reply.TheVariants.{Medium, Silent};
+ghost use Rattle.stack_core.specs.Done.{MadeBy, OpDone, Sealed, WriteMade, WriteMapped};
 ghost use Rattle.stack_core.specs.Doing.{CanDo, CanReach, HasBlocks};
 ghost use Rattle.stack_core.specs.Stacks.{HasSpare, HasStep, IsStack, Reaches, Sends, Stays, Steps, plan_in};
 
@@ -253,7 +255,8 @@ fn map_piece(pool: &mut PagePool, io: &Io, ty: PiType, bio: &Bio)
     requires whole { IsWhole pool.old io.now }
     requires within { bio.now.k + bio.now.count ≤ io.now.count }
     requires ends { bio.now.lba + bio.now.count < 2 ^ 64 }
-    ensures { length pool.new ≡ length pool.old }
+    ensures pages { length pool.new ≡ length pool.old }
+    ensures mapped { WriteMapped io.now.dir io.now.pi ty bio.now.k bio.now.count bio.now.lba pool.old pool.new }
 {
     if let (Dir::Write, Some(pi)) = (io.dir, &io.pi) {
         map_out(pool, pi, ty, bio.k, bio.count, bio.lba);
@@ -264,7 +267,8 @@ fn map_piece(pool: &mut PagePool, io: &Io, ty: PiType, bio: &Bio)
 fn make_tuples(pool: &mut PagePool, io: &Io, kind: GuardKind, ty: PiType)
     requires whole { IsWhole pool.old io.now }
     requires some { 0 < io.now.count }
-    ensures { length pool.new ≡ length pool.old }
+    ensures pages { length pool.new ≡ length pool.old }
+    ensures made { WriteMade io.now.dir io.now.pi kind ty io.now.body pool.old pool.new }
 {
     if let (Dir::Write, Some(pi)) = (io.dir, &io.pi) {
         make_own(pool, io, pi, kind, ty);
@@ -275,7 +279,8 @@ fn make_own(pool: &mut PagePool, io: &Io, pi: &Payload, kind: GuardKind, ty: PiT
     requires whole { IsWhole pool.old io.now }
     requires tuples { HasTuples pool.old io.now pi.now }
     requires some { 0 < io.now.count }
-    ensures { length pool.new ≡ length pool.old }
+    ensures pages { length pool.new ≡ length pool.old }
+    ensures made { MadeBy pi.now.owner pi.now kind ty io.now.body pool.old pool.new }
 {
     if pi.owner == Owner::Block {
         pi.generate(pool, &io.body, kind, ty);
@@ -285,7 +290,8 @@ fn make_own(pool: &mut PagePool, io: &Io, pi: &Payload, kind: GuardKind, ty: PiT
 /// Makes the tuples of a `seal`. Its tags are counted on for every type.
 fn seal(pool: &mut PagePool, body: &SgList, kind: GuardKind, room: Room)
     requires { HoldsSeal pool.old body.now room }
-    ensures { length pool.new ≡ length pool.old }
+    ensures pages { length pool.new ≡ length pool.old }
+    ensures sealed { Sealed room kind body.now pool.old pool.new }
 {
     if let Room::Tuples(pi) = room {
         pi.generate(pool, body, kind, PiType::One);
@@ -294,6 +300,7 @@ fn seal(pool: &mut PagePool, body: &SgList, kind: GuardKind, room: Room)
 
 fn overwrite<R: Rig>(rig: &mut R, dev: u32, lba: u64, change: &Change) -> Reply
     requires { HasBlocks (is_some (R.image rig.old)) (R.standing rig.old) dev lba change.now }
+    ensures reply { (result ≡ Silent) ⊎ (result ≡ Medium) }
     ensures tells { is_some (R.image rig.new) ≡ is_some (R.image rig.old) }
     ensures standing { R.standing rig.new ≡ R.standing rig.old }
     ensures room { R.room rig.new ≡ R.room rig.old }
@@ -311,6 +318,7 @@ fn do_op<R: Rig>(pool: &mut PagePool, op: &Op, kind: GuardKind, room: Room, rig:
     requires can { CanDo pool.old room op.now }
     requires reach { CanReach (is_some (R.image rig.old)) (R.standing rig.old) op.now }
     ensures pages { length pool.new ≡ length pool.old }
+    ensures done { OpDone op.now kind room pool.old pool.new result }
     ensures tells { is_some (R.image rig.new) ≡ is_some (R.image rig.old) }
     ensures standing { R.standing rig.new ≡ R.standing rig.old }
     ensures room { R.room rig.new ≡ R.room rig.old }
@@ -318,12 +326,21 @@ fn do_op<R: Rig>(pool: &mut PagePool, op: &Op, kind: GuardKind, room: Room, rig:
     ensures log { R.log rig.new ≡ R.log rig.old }
 {
     match op {
-        Op::Fill { seg, byte } => fill(pool, *seg, *byte),
-        Op::Put { page, off, bytes } => put(pool, *page, *off, bytes.as_slice()),
-        Op::Show { seg } => return shown(pool.part(*seg), room),
-        Op::Seal { body, .. } => seal(pool, body, kind, room),
-        Op::Overwrite { dev, lba, change } => return overwrite(rig, *dev, *lba, change),
-        _ => {}
+        Op::Fill { seg, byte } => {
+            fill(pool, *seg, *byte);
+            Reply::Silent
+        }
+        Op::Put { page, off, bytes } => {
+            put(pool, *page, *off, bytes.as_slice());
+            Reply::Silent
+        }
+        Op::Show { seg } => shown(pool.part(*seg), room),
+        Op::Seal { body, .. } => {
+            seal(pool, body, kind, room);
+            Reply::Silent
+        }
+        Op::Overwrite { dev, lba, change } => overwrite(rig, *dev, *lba, change),
+        Op::Write { .. } | Op::Fetch { .. } | Op::WritePi { .. } | Op::FetchPi { .. } | Op::Wait =>
+            Reply::Silent,
     }
-    Reply::Silent
 }
