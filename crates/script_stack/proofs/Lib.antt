@@ -1,0 +1,4 @@
+pub mod Shared
+pub mod Ready
+pub mod Reach
+pub mod Steps

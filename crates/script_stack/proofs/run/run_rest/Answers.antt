@@ -1,0 +1,15 @@
+use Rattle.std.proofs.Common.{◌≡◌, true, false, ap, sym, ◌∙◌, arith}
+use Rattle.stack_view.specs.Runs.{most_steps}
+use Rattle.stack_core.specs.Stacks.{plan_in}
+use Rattle.script_stack.proofs.Steps.{has-step, one-more}
+use Rattle.script_stack.proofs.run.run_rest.Goals as goal
+
+pub loop-stack-smaller : goal.loop-stack-smaller
+loop-stack-smaller g c =
+    let s = c.loop-stack.stack in
+    let h = has-step (plan_in s.sheet) s.machine (λ v x e. (let t : true ≡ false = sym ((c.finished.ensures v x).1 e) ∙ c.loop-stack-test.true in absurd cc)) in
+    let k = one-more (plan_in s.sheet) s.machine c.step.new.self.machine 0 0 c.loop-stack.invariant.is.works h c.step.ensures.step in
+    let a = k.one in
+    let b = k.most in
+    let e = ap (λ z. most_steps (plan_in z)) c.step.ensures.stays.sheet in
+    omega arith

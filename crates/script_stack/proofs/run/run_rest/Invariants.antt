@@ -1,0 +1,17 @@
+use Rattle.std.proofs.Common.{◌≡◌, ◌-◌}
+use Rattle.std.specs.Prelude.{is_some}
+use Rattle.stack_view.specs.Runs.{most_steps}
+use Rattle.stack_core.specs.Stacks.{HasSpare, IsStack, Reaches, Stays, plan_in}
+use Rattle.script_stack.proofs.run.run_rest.Given as goal
+
+abbrev pub invariant-loop-stack : goal.invariant-loop-stack
+invariant-loop-stack g l = record {
+  is : IsStack l.stack;
+  stays : Stays l.fn.stack l.stack;
+  tells : is_some (g.R.Rig.image l.rig) ≡ is_some (g.R.Rig.image l.fn.rig);
+  reaches : Reaches l.stack (is_some (g.R.Rig.image l.rig)) (g.R.Rig.standing l.rig);
+  spare : HasSpare l.stack (g.R.Rig.standing l.rig) (g.R.Rig.room l.rig);
+}
+
+abbrev pub decreases-loop-stack : goal.decreases-loop-stack
+decreases-loop-stack g l = most_steps (plan_in l.stack.sheet) - l.stack.machine.steps

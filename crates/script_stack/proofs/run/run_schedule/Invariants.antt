@@ -1,0 +1,13 @@
+use Rattle.std.proofs.Common.{◌≡◌}
+use Rattle.std.specs.Prelude.{is_some}
+use Rattle.stack_core.specs.Stacks.{HasSpare, IsStack, Reaches, Stays}
+use Rattle.script_stack.proofs.run.run_schedule.Given as goal
+
+abbrev pub invariant-loop-word : goal.invariant-loop-word
+invariant-loop-word g l = record {
+  is : IsStack l.stack;
+  stays : Stays l.fn.stack l.stack;
+  tells : is_some (g.R.Rig.image l.rig) ≡ is_some (g.R.Rig.image l.fn.rig);
+  reaches : Reaches l.stack (is_some (g.R.Rig.image l.rig)) (g.R.Rig.standing l.rig);
+  spare : HasSpare l.stack (g.R.Rig.standing l.rig) (g.R.Rig.room l.rig);
+}

@@ -1,0 +1,62 @@
+//! The steps of a stack, to the end.
+
+ghost use Rattle.std.specs.Prelude.{◌≡◌, ◌<◌, ◌≤◌, ◌+◌, ◌*◌, [], is_some, length};
+ghost use Rattle.stack_view.specs.Runs.{most_steps};
+ghost use Rattle.stack_view.specs.Steps.{enabled};
+ghost use Rattle.stack_view.specs.View.{View};
+ghost use Rattle.stack_steps.specs.Does.{Holds};
+ghost use Rattle.stack_core.specs.Stacks.{HasSpare, IsStack, Reaches, Stays, plan_in};
+
+use rig_api::Rig;
+use stack_core::Stack;
+
+/// Does the steps of these words and cuts, as far as steps are left.
+fn run_schedule<R: Rig>(stack: &mut Stack, schedule: &[(u32, u32)], rig: &mut R)
+    requires stack { IsStack stack.old }
+    requires rig { Reaches stack.old (is_some (R.image rig.old)) (R.standing rig.old) }
+    requires spare { HasSpare stack.old (R.standing rig.old) (R.room rig.old) }
+    ensures stack { IsStack stack.new }
+    ensures stays { Stays stack.old stack.new }
+    ensures tells { is_some (R.image rig.new) ≡ is_some (R.image rig.old) }
+    ensures rig { Reaches stack.new (is_some (R.image rig.new)) (R.standing rig.new) }
+    ensures spare { HasSpare stack.new (R.standing rig.new) (R.room rig.new) }
+{
+    for (word, cut) in schedule {
+        if stack.finished() {
+            return;
+        }
+        stack.step(*word, *cut, rig);
+    }
+}
+
+/// Does the first step that may be taken, until all ops have ended.
+fn run_rest<R: Rig>(stack: &mut Stack, rig: &mut R)
+    requires stack { IsStack stack.old }
+    requires rig { Reaches stack.old (is_some (R.image rig.old)) (R.standing rig.old) }
+    requires spare { HasSpare stack.old (R.standing rig.old) (R.room rig.old) }
+    ensures stack { IsStack stack.new }
+    ensures stays { Stays stack.old stack.new }
+    ensures ended { (v : View) → Holds (plan_in stack.new.sheet) stack.new.machine v → enabled (plan_in stack.new.sheet) v ≡ [] }
+    ensures tells { is_some (R.image rig.new) ≡ is_some (R.image rig.old) }
+    ensures rig { Reaches stack.new (is_some (R.image rig.new)) (R.standing rig.new) }
+{
+    while !stack.finished() {
+        stack.step(0, 0, rig);
+    }
+}
+
+/// Lets all ops of a stack come to their ends: by the steps of these words and cuts, then always by the first step that
+/// may be taken.
+pub fn run_all<R: Rig>(stack: &mut Stack, schedule: &[(u32, u32)], rig: &mut R)
+    requires stack { IsStack stack.old }
+    requires rig { Reaches stack.old (is_some (R.image rig.old)) (R.standing rig.old) }
+    requires spare { HasSpare stack.old (R.standing rig.old) (R.room rig.old) }
+    ensures stack { IsStack stack.new }
+    ensures stays { Stays stack.old stack.new }
+    ensures ended { (v : View) → Holds (plan_in stack.new.sheet) stack.new.machine v → enabled (plan_in stack.new.sheet) v ≡ [] }
+    ensures tells { is_some (R.image rig.new) ≡ is_some (R.image rig.old) }
+    ensures rig { Reaches stack.new (is_some (R.image rig.new)) (R.standing rig.new) }
+{
+    run_schedule(stack, schedule, rig);
+    run_rest(stack, rig);
+}
