@@ -19,3 +19,4 @@ pub mod Listing
 pub mod FirstStack
 pub mod Sent
 pub mod InTurn
+pub mod InCells

@@ -9,3 +9,4 @@ pub mod Requests
 pub mod Starting
 pub mod Shifts
 pub mod Rooms
+pub mod Moved

@@ -2,6 +2,7 @@
 #![tactic(auto)]
 
 mod kept;
+mod laws;
 mod pages;
 mod requests;
 mod settle;
@@ -10,5 +11,6 @@ mod sheet;
 mod stack;
 mod start;
 
+pub use laws::{a_read_is_settled_by_a_move, a_write_goes_on_by_moves};
 pub use setup::Setup;
 pub use stack::Stack;

@@ -1,0 +1,50 @@
+//! What the layers above build on: what the stack does to blocks are moves on cells.
+
+ghost use Rattle.std.specs.Prelude.{◌≡◌, ◌<◌, ◌≤◌, ℕ, List, ◌+◌, ◌++◌, true, false, Option, None, get_or};
+ghost use Rattle.fault_schedule.specs.declared.Label.{Label as AnyLabel};
+ghost use Rattle.page_pool.specs.Cells.{flat};
+ghost use Rattle.page_pool.specs.Pages.{AllLieIn, AreWhole};
+ghost use Rattle.pi_tuple.specs.declared.checks.PiType.{PiType as AnyType};
+ghost use Rattle.integrity_payload.specs.declared.payload.Owner.{Owner as AnyOwner};
+ghost use Rattle.integrity_payload.specs.declared.payload.Owner.TheVariants.{Block};
+ghost use Rattle.integrity_payload.specs.declared.payload.Payload.{Payload as AnyPayload};
+ghost use Rattle.bio_core.specs.declared.fate.Fate.{Fate as AnyFate};
+ghost use Rattle.bio_core.specs.declared.fate.Fate.TheVariants.{Untouched};
+ghost use Rattle.bio_core.specs.declared.request.Dir.TheVariants.{Write};
+ghost use Rattle.bio_core.specs.declared.request.Io.{Io as AnyIo};
+ghost use Rattle.block_path.specs.declared.mode.Mode.{Mode as AnyMode};
+ghost use Rattle.block_path.specs.Acts.{State, act};
+ghost use Rattle.block_path.specs.Moves.{map_back};
+ghost use Rattle.block_path.specs.Routes.{host_type};
+ghost use Rattle.block_path.specs.Serial.{plain};
+ghost use Rattle.dix_adapter.specs.Groups.{data_cells};
+ghost use Rattle.stack_core.specs.Done.{WriteMade, WriteMapped};
+ghost use Rattle.stack_core.specs.Settled.{MappedBack, ReadSettled};
+ghost use Rattle.stack_core.specs.Moved.{HasFrames, IsSettle, makes, maps_out, route_to, tuple_at, why_of};
+
+/// A write whose tuples are made as it is admitted, and whose tags are mapped out as it is cut and back as it is
+/// settled, is one move a block further each time: the pages are those that the moves leave.
+pub fn a_write_goes_on_by_moves()
+    ensures made { (old new : List (List ℕ)) (io : AnyIo) (pi : AnyPayload) (dev : ℕ) (label : ℕ → AnyLabel) (ty : AnyType) (mode : AnyMode) (now : State)
+        → HasFrames old io pi → io.dir ≡ Write → pi.owner ≡ Block → now.bytes ≡ flat old → WriteMade io.dir io.pi mode.kind (host_type ty) io.body old new
+        → flat new ≡ (plain act (makes label dev ty mode io pi pi.count) now).bytes }
+    ensures mapped { (old new : List (List ℕ)) (io : AnyIo) (pi : AnyPayload) (k n lba dev : ℕ) (label : ℕ → AnyLabel) (ty : AnyType) (mode : AnyMode) (now : State)
+        → HasFrames old io pi → io.dir ≡ Write → k + n ≤ io.count → now.bytes ≡ flat old → WriteMapped io.dir io.pi (host_type ty) k n lba old new
+        → flat new ≡ (plain act (maps_out label dev ty mode io pi k n lba) now).bytes }
+    ensures back { (old new : List (List ℕ)) (io : AnyIo) (pi : AnyPayload) (k lba dev : ℕ) (label : AnyLabel) (ty : AnyType) (mode : AnyMode) (now : State)
+        → HasFrames old io pi → k < io.count → now.bytes ≡ flat old → MappedBack io.pi (host_type ty) k lba old new
+        → flat new ≡ (act (map_back (route_to label dev ty mode io k lba) (tuple_at pi k)) now).bytes }
+{}
+
+/// A block of a read that is settled is one move further: the pages are those that the move leaves, and it came to
+/// what the move answers.
+pub fn a_read_is_settled_by_a_move()
+    ensures framed { (old new : List (List ℕ)) (io : AnyIo) (pi : AnyPayload) (k lba dev n : ℕ) (label : AnyLabel) (ty : AnyType) (mode : AnyMode) (fate result : AnyFate) (now : State)
+        → HasFrames old io pi → mode.dix ≡ true → k < io.count → (fate ≡ Untouched → ⊥) → now.bytes ≡ flat old → get_or now.fates n None ≡ why_of fate
+        → ReadSettled mode (host_type ty) io k lba fate old new result
+        → IsSettle (route_to label dev ty mode io k lba) pi.owner (data_cells io k ++ tuple_at pi k) n fate now new result }
+    ensures bare { (old new : List (List ℕ)) (io : AnyIo) (owner : AnyOwner) (k lba dev n : ℕ) (label : AnyLabel) (ty : AnyType) (mode : AnyMode) (fate result : AnyFate) (now : State)
+        → io.pi ≡ None → mode.dix ≡ false → AreWhole old → AllLieIn old io.body → k < io.count → (fate ≡ Untouched → ⊥) → now.bytes ≡ flat old → get_or now.fates n None ≡ why_of fate
+        → ReadSettled mode (host_type ty) io k lba fate old new result
+        → IsSettle (route_to label dev ty mode io k lba) owner (data_cells io k) n fate now new result }
+{}
