@@ -1,6 +1,7 @@
 //! The stack and its steps.
 
-ghost use Rattle.std.specs.Prelude.{◌≡◌, ◌<◌, ◌≤◌, ◌+◌, ◌↔◌, ◌^◌, ◌⊎◌, ℕ, IsTrue, [], is_some, length, slice_index_or, slice_set};
+ghost use Rattle.std.specs.Prelude.{◌≡◌, ◌<◌, ◌≤◌, ◌+◌, ◌*◌, ◌↔◌, ◌^◌, ◌⊎◌, ℕ, IsTrue, [], is_some, length, slice_index_or, slice_set};
+ghost use Rattle.stack_view.specs.Runs.{blocks_of_requests};
 ghost use Rattle.stack_view.specs.Steps.{enabled};
 ghost use Rattle.stack_view.specs.View.{View};
 ghost use Rattle.stack_steps.specs.declared.choice.Choice.TheVariants.{End, Complete, Admit, Cut, Join, Send};
@@ -78,9 +79,10 @@ impl Stack {
         &self.pool
     }
 
-    /// How many steps were done.
+    /// How many steps were done: at most two for each op and five for each block.
     pub fn steps(&self) -> u64
-        ensures { result ≡ self.now.machine.steps }
+        ensures value { result ≡ self.now.machine.steps }
+        ensures most { IsStack self.now → result ≤ 2 * length self.now.sheet.ops + 5 * blocks_of_requests (plan_in self.now.sheet).requests }
     {
         self.machine.steps()
     }
