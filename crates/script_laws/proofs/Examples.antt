@@ -2,7 +2,8 @@ use Rattle.std.proofs.Common.{refl}
 use Rattle.hex.specs.Hex.{decode_pairs}
 use Rattle.script_lines.specs.Forms.{app_form, block_form, change_form, fault_form, flip_form, limits_form, linear_form, mode_form, overwrite_form, pages_form, place_form, read_form, readpi_form, shift_form, show_form, write_form}
 use Rattle.script_text.specs.Language.{line_taken, taken}
-use Rattle.script_laws.specs.Examples.{BoundExamples, ReadExamples}
+use Rattle.script_text.specs.Generator.{next_state}
+use Rattle.script_laws.specs.Examples.{BoundExamples, ReadExamples, StateExamples}
 
 pub read_examples : ReadExamples
 unfolding app_form block_form limits_form linear_form line_taken mode_form pages_form place_form readpi_form read_form show_form taken write_form decode_pairs
@@ -36,4 +37,14 @@ bound_examples = record {
   other_type = refl;
   no_such_device = refl;
   past_device = refl;
+}
+
+pub state_examples : StateExamples
+unfolding next_state
+state_examples = record {
+  first = refl;
+  second = refl;
+  third = refl;
+  fourth = refl;
+  fifth = refl;
 }

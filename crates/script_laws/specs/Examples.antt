@@ -10,6 +10,7 @@ use Rattle.script_lines.specs.declared.kind.ScriptKind.TheVariants.{BadFault, Ba
 use Rattle.script_text.specs.declared.fault.ScriptFault.{ScriptFault}
 use Rattle.script_text.specs.declared.script.Script.{Script}
 use Rattle.script_text.specs.Bindings.{binding_fault}
+use Rattle.script_text.specs.Generator.{next_state}
 use Rattle.script_text.specs.Language.{script_in}
 
 -- Small texts and what they are, by the definition alone.
@@ -81,3 +82,11 @@ pub record BoundExamples : Type 0 where
   pub other_type : bound TypeZero (script_in (with_fault (codes "shift 2 wire 1\n"))) ≡ Some (record { line = 6; kind = BadFault })
   pub no_such_device : bound TypeOne (script_in (with_ops (codes "overwrite 2 0 flip 0 01\n"))) ≡ Some (record { line = 7; kind = BadFault })
   pub past_device : bound TypeOne (script_in (with_ops (codes "overwrite 0 0 from 1 256\n"))) ≡ Some (record { line = 7; kind = BadFault })
+
+-- the first states of the generator from 1, worked by hand
+pub record StateExamples : Type 0 where
+  pub first : next_state 1 ≡ 1015568748
+  pub second : next_state 1015568748 ≡ 1586005467
+  pub third : next_state 1586005467 ≡ 2165703038
+  pub fourth : next_state 2165703038 ≡ 3027450565
+  pub fifth : next_state 3027450565 ≡ 217083232

@@ -7,7 +7,7 @@ ghost use Rattle.script_lines.specs.declared.kind.ScriptKind.{ScriptKind};
 ghost use Rattle.script_text.specs.Generator.{big};
 ghost use Rattle.script_text.specs.Language.{script_in};
 ghost use Rattle.script_text.specs.Printed.{script_printed};
-ghost use Rattle.script_laws.specs.Examples.{BoundExamples, ReadExamples};
+ghost use Rattle.script_laws.specs.Examples.{BoundExamples, ReadExamples, StateExamples};
 ghost use Rattle.script_laws.specs.Keeping.{Keeps};
 ghost use Rattle.script_laws.specs.RoundTrip.{IsSame, IsWithinLimits, ReadsAs};
 
@@ -69,4 +69,9 @@ pub fn read_back(alloc: Global, script: &Script) -> Result<Script, ScriptFault>
 pub fn small_texts()
     ensures read { ReadExamples }
     ensures bound { BoundExamples }
+{}
+
+/// A law: what the definition of the generator says of its first states.
+pub fn first_states()
+    ensures { StateExamples }
 {}

@@ -17,9 +17,6 @@ use std::alloc::{AllocError, Global};
 use stripe_volume::{Leg, LegList, Stripe};
 use volume_table::{Entry, EntryList};
 
-#[cfg(test)]
-mod states;
-
 /// A linear congruential generator over 32 bits.
 #[derive(Drop)]
 struct Draws {

@@ -16,8 +16,6 @@ mod read;
 mod rules;
 mod script;
 mod segments;
-#[cfg(test)]
-mod tests;
 mod text;
 mod trees;
 

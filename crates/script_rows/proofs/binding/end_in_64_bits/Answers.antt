@@ -2,7 +2,7 @@ use Rattle.std.proofs.Common.{rules}
 use Rattle.std.proofs.lemmas.List.Elements.{All-more}
 use Rattle.volume_table.specs.Tables.{EndFits}
 use Rattle.volume_table.proofs.Sums.{all_of}
-use Rattle.script_text.proofs.tests.binding.end_in_64_bits.Goals as goal
+use Rattle.script_rows.proofs.binding.end_in_64_bits.Goals as goal
 
 pub loop-device-preserved : goal.loop-device-preserved
 loop-device-preserved c =

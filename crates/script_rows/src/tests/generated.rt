@@ -3,8 +3,8 @@
 
 ghost use Rattle.std.specs.Prelude.{◌≤◌};
 
-use crate::{big_script, print_script, read_script};
 use pi_guard::crc16;
+use script_text::{big_script, print_script, read_script};
 use std::alloc::Global;
 use std::test::Fail;
 

@@ -2,7 +2,7 @@ use Rattle.std.proofs.Common.{rules, subst}
 use Rattle.std.proofs.lemmas.List.Elements.{All-more}
 use Rattle.volume_table.specs.Entries.{IsInRange}
 use Rattle.volume_table.proofs.Sums.{all_of}
-use Rattle.script_text.proofs.tests.binding.are_in_range.Goals as goal
+use Rattle.script_rows.proofs.binding.are_in_range.Goals as goal
 
 pub loop-entry-preserved : goal.loop-entry-preserved
 loop-entry-preserved c =
