@@ -1,0 +1,123 @@
+//! One command of a session.
+
+ghost use Rattle.std.specs.Prelude.{◌≡◌, ◌-◌, ◌≤◌, ◌+◌, ◌*◌, ◌^◌, true, false, List, Option, Some, None, IfOk, OnErr, is_some, length, replicate};
+ghost use Rattle.dix_base.specs.Told.{Calm, Rose};
+ghost use Rattle.target_answer.specs.Target.{Stop, Stored};
+ghost use Rattle.rig_api.specs.Telling.{HasCause, frame_size, unit_at};
+ghost use Rattle.nvme_front.specs.Answers.{HasDevices, IsNvmAnswer, Submitted, nvm_answer};
+ghost use Rattle.nvme_front.specs.Commands.{command_in};
+ghost use Rattle.nvme_front.specs.Completions.{is_internal, is_of_medium};
+ghost use Rattle.nvme_front.specs.Refusals.{body_len, device_at, meta_len, refusal};
+ghost use Rattle.nvme_session.specs.Sessions.{given};
+ghost use Rattle.nvme_front.specs.declared.completion.Completion.{Completion as AnyCompletion};
+
+use nvme_front::{Completion, NvmCommand, NvmFront};
+use rig_api::Rig;
+use std::alloc::{AllocError, Global};
+
+/// What a command comes to.
+#[derive(Drop)]
+pub struct NvmReply {
+    /// The completion.
+    pub completion: Completion,
+    /// The buffer of data, as the command leaves it; empty where it was refused.
+    pub body: Vec<u8>,
+    /// The buffer of metadata.
+    pub meta: Vec<u8>,
+}
+
+/// The buffer of metadata: what is given, where it has so many bytes, else zeros.
+fn given(alloc: Global, count: usize, meta: &[u8]) -> Result<Vec<u8>, AllocError>
+    ensures { IfOk result (λ v. v.items ≡ given count meta.now) }
+{
+    let mut tuples = vec![in alloc; 0u8; count]?;
+    if meta.len() == count {
+        tuples.copy_from_slice(meta);
+    }
+    Ok(tuples)
+}
+
+/// So many bytes that are this one.
+fn filled(alloc: Global, count: usize, byte: u8) -> Result<Vec<u8>, AllocError>
+    ensures { IfOk result (λ v. v.items ≡ replicate count byte) }
+{
+    Ok(vec![in alloc; byte; count]?)
+}
+
+/// Does a command that isn't refused, with these buffers.
+fn do_granted<R: Rig>(
+    alloc: Global,
+    front: &mut NvmFront,
+    sqe: &[u8; 64],
+    mut body: Vec<u8>,
+    mut meta: Vec<u8>,
+    rig: &mut R,
+) -> Result<NvmReply, AllocError>
+    requires granted { refusal front.old (command_in sqe.now) ≡ None }
+    requires body { length body.items ≡ body_len (device_at front.old (command_in sqe.now).nsid) (command_in sqe.now) }
+    requires meta { length meta.items ≡ meta_len (device_at front.old (command_in sqe.now).nsid).ty (command_in sqe.now) }
+    requires devices { HasDevices front.old (R.standing rig.old) (R.units rig.old) }
+    ensures submitted { IfOk result (λ r. Submitted (device_at front.old (command_in sqe.now).nsid) (command_in sqe.now) (R.standing rig.old) body.items meta.items r.body.items r.meta.items r.completion (R.log rig.old) (R.log rig.new)) }
+    ensures told { IfOk result (λ r. (us : List Stored) → R.units rig.old ≡ Some us
+        → (stop : Option Stop) × HasCause stop (frame_size (unit_at us ((command_in sqe.now).nsid - 1))) (R.faults rig.old) (R.faults rig.new)
+        × IsNvmAnswer (nvm_answer (unit_at us ((command_in sqe.now).nsid - 1)) (R.armed rig.old) (command_in sqe.now) body.items meta.items stop) us ((command_in sqe.now).nsid - 1) r.completion (R.units rig.new) r.body.items r.meta.items) }
+    ensures never { IfOk result (λ r. is_some (R.units rig.old) ≡ true → is_internal r.completion ≡ false) }
+    ensures medium { IfOk result (λ r. is_of_medium r.completion ≡ true → Rose (R.faults rig.old) (R.faults rig.new)) }
+    ensures none { OnErr result (R.units rig.new ≡ R.units rig.old) }
+    ensures unlogged { OnErr result (R.log rig.new ≡ R.log rig.old) }
+    ensures standing { R.standing rig.new ≡ R.standing rig.old }
+    ensures armed { R.armed rig.new ≡ R.armed rig.old }
+    ensures count { R.faults rig.old ≤ R.faults rig.new }
+    ensures front { front.new ≡ front.old }
+{
+    rig.reserve(alloc, 1, NvmCommand::of(sqe).count)?;
+    let completion = front.submit(sqe, &mut body, &mut meta, rig);
+    Ok(NvmReply {
+        completion,
+        body,
+        meta,
+    })
+}
+
+/// Does the command of these 64 bytes, with data of this byte and with the metadata that is given, where
+/// it has as many bytes as the command takes, else zeros. A command that is refused sends nothing. Want
+/// of memory comes before anything is sent.
+pub fn do_command<R: Rig>(
+    alloc: Global,
+    front: &mut NvmFront,
+    sqe: &[u8; 64],
+    fill: u8,
+    meta: &[u8],
+    rig: &mut R,
+) -> Result<NvmReply, AllocError>
+    requires devices { HasDevices front.old (R.standing rig.old) (R.units rig.old) }
+    ensures refused { IfOk result (λ r. (x : AnyCompletion) → refusal front.old (command_in sqe.now) ≡ Some x → (r.completion ≡ x) × (R.log rig.new ≡ R.log rig.old) × (R.units rig.new ≡ R.units rig.old)) }
+    ensures submitted { IfOk result (λ r. refusal front.old (command_in sqe.now) ≡ None
+        → Submitted (device_at front.old (command_in sqe.now).nsid) (command_in sqe.now) (R.standing rig.old) (replicate (body_len (device_at front.old (command_in sqe.now).nsid) (command_in sqe.now)) fill)
+        (given (meta_len (device_at front.old (command_in sqe.now).nsid).ty (command_in sqe.now)) meta.now) r.body.items r.meta.items r.completion (R.log rig.old) (R.log rig.new)) }
+    ensures told { IfOk result (λ r. refusal front.old (command_in sqe.now) ≡ None → (us : List Stored) → R.units rig.old ≡ Some us
+        → (stop : Option Stop) × HasCause stop (frame_size (unit_at us ((command_in sqe.now).nsid - 1))) (R.faults rig.old) (R.faults rig.new)
+        × IsNvmAnswer (nvm_answer (unit_at us ((command_in sqe.now).nsid - 1)) (R.armed rig.old) (command_in sqe.now) (replicate (body_len (device_at front.old (command_in sqe.now).nsid) (command_in sqe.now)) fill)
+        (given (meta_len (device_at front.old (command_in sqe.now).nsid).ty (command_in sqe.now)) meta.now) stop) us ((command_in sqe.now).nsid - 1) r.completion (R.units rig.new) r.body.items r.meta.items) }
+    ensures medium { IfOk result (λ r. is_of_medium r.completion ≡ true → Rose (R.faults rig.old) (R.faults rig.new)) }
+    ensures none { OnErr result (R.units rig.new ≡ R.units rig.old) }
+    ensures unlogged { OnErr result (R.log rig.new ≡ R.log rig.old) }
+    ensures standing { R.standing rig.new ≡ R.standing rig.old }
+    ensures armed { R.armed rig.new ≡ R.armed rig.old }
+    ensures count { R.faults rig.old ≤ R.faults rig.new }
+    ensures front { front.new ≡ front.old }
+{
+    let (body_len, meta_len) = match front.lengths(sqe) {
+        Ok(lengths) => lengths,
+        Err(completion) => {
+            return Ok(NvmReply {
+                completion,
+                body: Vec::new(alloc),
+                meta: Vec::new(alloc),
+            });
+        }
+    };
+    let body = filled(alloc, body_len as usize, fill)?;
+    let tuples = given(alloc, meta_len as usize, meta)?;
+    do_granted(alloc, front, sqe, body, tuples, rig)
+}
