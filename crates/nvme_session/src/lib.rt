@@ -8,6 +8,5 @@ mod opening;
 pub use doing::{NvmReply, do_command};
 pub use opening::front_of;
 
-
 #[cfg(test)]
 mod tests;

@@ -63,7 +63,7 @@ struct Want {
     meta: &'static [u8],
 }
 
-fn want(sct: u8, sc: u8, meta: &'static [u8]) -> Want {
+fn ends(sct: u8, sc: u8, meta: &'static [u8]) -> Want {
     Want {
         completion: [sct, sc],
         guard: 0,
@@ -71,21 +71,29 @@ fn want(sct: u8, sc: u8, meta: &'static [u8]) -> Want {
     }
 }
 
-/// Does the commands one after another on the formatted image of these units, whose store fails at this
-/// call. Answers the number of the first command that comes to something else, or that of all, and the
-/// image.
-fn done(
-    alloc: Global,
-    units: &[UnitSpec],
-    fail: u64,
-    rows: &[(Row, Want)],
-) -> Result<(usize, Vec<u8>), Fail>
+/// The formatted image of these units.
+fn formatted(alloc: Global, units: &[UnitSpec]) -> Result<Vec<u8>, Fail>
     requires { is_layout units.now ≡ true }
 {
-    let store = MemStore::new(Vec::new(alloc), vec![in alloc; fail]?);
+    let store = MemStore::new(Vec::new(alloc), Vec::new(alloc));
     let mut rig = ImageRig::new(alloc, store);
-    let mut good = 0;
     let _formatted = rig.format(alloc, "n.img", units);
+    let mut image = Vec::new(alloc);
+    image.extend_from_slice(rig.store().bytes())?;
+    Ok(image)
+}
+
+/// Does the commands one after another on an image whose store fails at this call; the first one reads
+/// the header. Answers the number of the first command that comes to something else, or that of all, and
+/// the image.
+fn done(
+    alloc: Global,
+    image: Vec<u8>,
+    fail: u64,
+    rows: &[(Row, Want)],
+) -> Result<(usize, Vec<u8>), Fail> {
+    let mut rig = ImageRig::new(alloc, MemStore::new(image, vec![in alloc; fail]?));
+    let mut good = 0;
     if let Ok(()) = rig.open(alloc, "n.img") {
         if let Ok(mut front) = front_of(alloc, &mut rig) {
             for (row, want) in rows {
@@ -108,9 +116,9 @@ fn done(
             }
         }
     }
-    let mut image = Vec::new(alloc);
-    image.extend_from_slice(rig.store().bytes())?;
-    Ok((good, image))
+    let mut left = Vec::new(alloc);
+    left.extend_from_slice(rig.store().bytes())?;
+    Ok((good, left))
 }
 
 #[test]
@@ -124,27 +132,27 @@ fn a_unit_of_type_1_takes_commands(rt: HostRuntime) -> Result<(), Fail> {
                 app: 0x1234,
                 ..READ
             },
-            want(0, 0, b""),
+            ends(0, 0, b""),
         ),
-        (READ, want(0, 0, b"\x00\x00\x12\x34\x00\x00\x00\x00")),
+        (READ, ends(0, 0, b"\x00\x00\x12\x34\x00\x00\x00\x00")),
         (
             Row {
                 flags: 0x34,
                 ..READ
             },
-            want(0, 0, b""),
+            ends(0, 0, b""),
         ),
-        (Row { rtag: 1, ..READ }, want(1, 0x81, b"")),
+        (Row { rtag: 1, ..READ }, ends(1, 0x81, b"")),
         (
             Row {
                 first: 64,
                 rtag: 64,
                 ..READ
             },
-            want(0, 0x80, &[0; 8]),
+            ends(0, 0x80, &[0; 8]),
         ),
-        (Row { opcode: 3, ..READ }, want(0, 0x01, b"")),
-        (Row { nsid: 2, ..READ }, want(0, 0x0B, b"")),
+        (Row { opcode: 3, ..READ }, ends(0, 0x01, b"")),
+        (Row { nsid: 2, ..READ }, ends(0, 0x0B, b"")),
         // The tags that are made rise with the blocks.
         (
             Row {
@@ -156,7 +164,7 @@ fn a_unit_of_type_1_takes_commands(rt: HostRuntime) -> Result<(), Fail> {
                 app: 7,
                 ..READ
             },
-            want(0, 0, b""),
+            ends(0, 0, b""),
         ),
         (
             Row {
@@ -165,7 +173,7 @@ fn a_unit_of_type_1_takes_commands(rt: HostRuntime) -> Result<(), Fail> {
                 last: 1,
                 ..READ
             },
-            want(
+            ends(
                 0,
                 0,
                 b"\x00\x00\x00\x07\x00\x00\x00\x3e\x00\x00\x00\x07\x00\x00\x00\x3f",
@@ -178,7 +186,7 @@ fn a_unit_of_type_1_takes_commands(rt: HostRuntime) -> Result<(), Fail> {
                 meta: b"\x00\x01\x00\x00\x00\x00\x00\x00",
                 ..READ
             },
-            want(2, 0x82, b"\x00\x01\x00\x00\x00\x00\x00\x00"),
+            ends(2, 0x82, b"\x00\x01\x00\x00\x00\x00\x00\x00"),
         ),
         (
             Row {
@@ -186,7 +194,7 @@ fn a_unit_of_type_1_takes_commands(rt: HostRuntime) -> Result<(), Fail> {
                 meta: b"\x00\x00\x00\x00\x00\x00\x00\x09",
                 ..READ
             },
-            want(2, 0x84, b"\x00\x00\x00\x00\x00\x00\x00\x09"),
+            ends(2, 0x84, b"\x00\x00\x00\x00\x00\x00\x00\x09"),
         ),
         (
             Row {
@@ -196,7 +204,7 @@ fn a_unit_of_type_1_takes_commands(rt: HostRuntime) -> Result<(), Fail> {
                 meta: b"\x00\x01\x00\x00\x00\x00\x00\x09",
                 ..READ
             },
-            want(0, 0, b"\x00\x01\x00\x00\x00\x00\x00\x09"),
+            ends(0, 0, b"\x00\x01\x00\x00\x00\x00\x00\x09"),
         ),
         (
             Row {
@@ -204,7 +212,7 @@ fn a_unit_of_type_1_takes_commands(rt: HostRuntime) -> Result<(), Fail> {
                 rtag: 5,
                 ..READ
             },
-            want(2, 0x82, &[0; 8]),
+            ends(2, 0x82, &[0; 8]),
         ),
         (
             Row {
@@ -212,7 +220,7 @@ fn a_unit_of_type_1_takes_commands(rt: HostRuntime) -> Result<(), Fail> {
                 flags: 0,
                 ..READ
             },
-            want(0, 0, b"\x00\x01\x00\x00\x00\x00\x00\x09"),
+            ends(0, 0, b"\x00\x01\x00\x00\x00\x00\x00\x09"),
         ),
     ];
     let unit = UnitSpec {
@@ -221,7 +229,7 @@ fn a_unit_of_type_1_takes_commands(rt: HostRuntime) -> Result<(), Fail> {
         size: 512,
         first: 0,
     };
-    let (good, image) = done(rt.alloc(), &[unit], 0, &rows)?;
+    let (good, image) = done(rt.alloc(), formatted(rt.alloc(), &[unit])?, 0, &rows)?;
     assert_eq!(rt; good, rows.len());
     assert_eq!(rt;
         &image[1024..1032],
@@ -243,7 +251,7 @@ fn other_types_and_sizes_take_commands(rt: HostRuntime) -> Result<(), Fail> {
                 app: 0x1234,
                 ..READ
             },
-            want(0, 0, b""),
+            ends(0, 0, b""),
         ),
         (
             Row {
@@ -251,7 +259,7 @@ fn other_types_and_sizes_take_commands(rt: HostRuntime) -> Result<(), Fail> {
                 last: 1,
                 ..READ
             },
-            want(
+            ends(
                 0,
                 0,
                 b"\x00\x00\x12\x34\xff\xff\xff\xff\x00\x00\x12\x34\x00\x00\x00\x00",
@@ -265,7 +273,7 @@ fn other_types_and_sizes_take_commands(rt: HostRuntime) -> Result<(), Fail> {
                 mask: 0xFF00,
                 ..READ
             },
-            want(0, 0, b"\x00\x00\x12\x34\xff\xff\xff\xff"),
+            ends(0, 0, b"\x00\x00\x12\x34\xff\xff\xff\xff"),
         ),
         (
             Row {
@@ -275,9 +283,9 @@ fn other_types_and_sizes_take_commands(rt: HostRuntime) -> Result<(), Fail> {
                 mask: 0xFFFF,
                 ..READ
             },
-            want(2, 0x83, &[0; 8]),
+            ends(2, 0x83, &[0; 8]),
         ),
-        (Row { rtag: 1, ..READ }, want(2, 0x84, &[0; 8])),
+        (Row { rtag: 1, ..READ }, ends(2, 0x84, &[0; 8])),
         // Type 3: the tag stays, and isn't checked.
         (
             Row {
@@ -288,7 +296,7 @@ fn other_types_and_sizes_take_commands(rt: HostRuntime) -> Result<(), Fail> {
                 last: 1,
                 ..READ
             },
-            want(0, 0, b""),
+            ends(0, 0, b""),
         ),
         (
             Row {
@@ -297,7 +305,7 @@ fn other_types_and_sizes_take_commands(rt: HostRuntime) -> Result<(), Fail> {
                 last: 1,
                 ..READ
             },
-            want(
+            ends(
                 0,
                 0,
                 b"\x00\x00\x00\x00\x00\x00\x00\x09\x00\x00\x00\x00\x00\x00\x00\x09",
@@ -311,7 +319,7 @@ fn other_types_and_sizes_take_commands(rt: HostRuntime) -> Result<(), Fail> {
                 flags: 0x3C,
                 ..READ
             },
-            want(0, 0, b""),
+            ends(0, 0, b""),
         ),
         (
             Row {
@@ -320,7 +328,7 @@ fn other_types_and_sizes_take_commands(rt: HostRuntime) -> Result<(), Fail> {
                 rtag: 7,
                 ..READ
             },
-            want(0, 0, b""),
+            ends(0, 0, b""),
         ),
         // Type 1 with blocks of 4,096 bytes across 2^32.
         (
@@ -331,7 +339,7 @@ fn other_types_and_sizes_take_commands(rt: HostRuntime) -> Result<(), Fail> {
                 last: 1,
                 ..READ
             },
-            want(
+            ends(
                 0,
                 0,
                 b"\x00\x00\x00\x00\xff\xff\xff\xff\x00\x00\x00\x00\x00\x00\x00\x00",
@@ -364,7 +372,44 @@ fn other_types_and_sizes_take_commands(rt: HostRuntime) -> Result<(), Fail> {
             first: 0xFFFF_FFFF,
         },
     ];
-    let (good, _) = done(rt.alloc(), &units, 0, &rows)?;
+    let (good, _) = done(rt.alloc(), formatted(rt.alloc(), &units)?, 0, &rows)?;
     assert_eq!(rt; good, rows.len());
+    Ok(())
+}
+
+#[test]
+fn a_store_that_fails_ends_its_command(rt: HostRuntime) -> Result<(), Fail> {
+    let unit = UnitSpec {
+        ty: PiType::One,
+        blocks: 2,
+        size: 512,
+        first: 0,
+    };
+    let fresh = b"\x00\x00\x00\x00\x00\x00\x00\x00";
+    let reads = [(READ, ends(2, 0x81, fresh)), (READ, ends(0, 0, fresh))];
+    let writes = [
+        (
+            Row {
+                opcode: 1,
+                meta: fresh,
+                ..READ
+            },
+            ends(2, 0x80, fresh),
+        ),
+        (
+            Row {
+                opcode: 1,
+                meta: fresh,
+                ..READ
+            },
+            ends(0, 0, fresh),
+        ),
+        (READ, ends(0, 0, fresh)),
+    ];
+    for rows in [reads.as_slice(), writes.as_slice()] {
+        let image = formatted(rt.alloc(), &[unit])?;
+        let (good, _) = done(rt.alloc(), image, 2, rows)?;
+        assert_eq!(rt; good, rows.len());
+    }
     Ok(())
 }
