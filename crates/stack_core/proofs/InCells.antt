@@ -200,9 +200,10 @@ module _ (old : List (List ℕ)) (io : Io) (pi : Payload) (k : ℕ) (h : HasFram
       (ap flat e ∙ m ∙ ap (scatter (tuple_at pi k) mapped) (sym (scatter-self (data_cells io k) (flat old))) ∙ sym (scatter-append (data_cells io k) (tuple_at pi k) body mapped (flat old) n), ap why_of r)
   by-finding (Some check) mid new result m f r l =
       let b : Blanked io k mid new = subst (λ x. LeftBy x io k mid new) r l in
-      let n = length-frame old io pi k h there in
-      (blanked-cells mid io pi k f there new b ∙ ap (scatter to (replicate (block_size io + 8) 0)) m ∙ forget old io pi k h there mapped (long-tuple old io pi k h there (host_type ty) lba (io.first + k)) ∙ ap (λ z. scatter to (replicate z 0) (flat old)) (sym n),
-      ap why_of r ∙ ap (λ w. Some w) (says pi.owner check))
+      let n = length-frame old io pi k h there in (
+        blanked-cells mid io pi k f there new b ∙ ap (scatter to (replicate (block_size io + 8) 0)) m ∙ forget old io pi k h there mapped (long-tuple old io pi k h there (host_type ty) lba (io.first + k)) ∙ ap (λ z. scatter to (replicate z 0) (flat old)) (sym n),
+        ap why_of r ∙ ap (λ w. Some w) (says pi.owner check),
+      )
 
   settled-good : (mid new : List (List ℕ)) (result : Fate) → AreRemapped old mid pi.tuples (host_type ty) k 1 lba (pi.seed + k) → result ≡ said_by pi mode (host_type ty) mid io k → LeftBy result io k mid new →
       (flat new ≡ scatter to (settled_by way pi.owner None (gather 0 to (flat old))).written.bytes (flat old)) × (why_of result ≡ (settled_by way pi.owner None (gather 0 to (flat old))).answer.why)
