@@ -1,5 +1,5 @@
 -- Requests stay in a pool of as many pages.
-use Rattle.std.proofs.Common.{◌≡◌, ℕ, ◌+◌, ◌-◌, ◌*◌, ◌<◌, ◌≤◌, List, length, get_or, arith}
+use Rattle.std.proofs.Common.{◌≡◌, ℕ, ◌+◌, ◌-◌, ◌*◌, ◌<◌, ◌≤◌, List, length, get_or, ◌∙◌, arith}
 use Rattle.std.specs.List.{All}
 use Rattle.std.proofs.lemmas.List.{get_or_read}
 use Rattle.std.proofs.lemmas.List.Elements.{All-get_or}
@@ -48,4 +48,4 @@ whole-of pool ios bios i d io w a h e =
 
 -- Fates in place of as many stay where they are.
 pub fates_stay : (ios : List Io) (starts starts' : List ℕ) (held held' : List Fate) → starts' ≡ starts → length held' ≡ length held → AreFates ios starts held → AreFates ios starts' held'
-fates_stay ios starts starts' held held' e n h = rw e (record { count = h.count; begin = h.begin; within = λ i l. (let w = h.within i l in omega arith); few = let f = h.few in omega arith })
+fates_stay ios starts starts' held held' e n h = rw e (record { count = h.count; all = n ∙ h.all; begin = h.begin; within = λ i l. (let w = h.within i l in omega arith); few = let f = h.few in omega arith })

@@ -58,6 +58,7 @@ blocks_before ios i = blocks_of_requests (map request_in (take i ios))
 -- where the blocks of each request begin, and what became of each block
 pub record AreFates (ios : List Io) (starts : List ℕ) (held : List Fate) : Type 0 where
   pub count : length starts ≡ length ios
+  pub all : length held ≡ blocks_of_requests (map request_in ios)
   pub begin : (i : ℕ) → i < length ios → get_or starts i 0 ≡ blocks_before ios i
   pub within : (i : ℕ) → i < length ios → get_or starts i 0 + (io_at ios i).count ≤ length held
   pub few : length held ≤ 16384

@@ -90,7 +90,8 @@ impl Stack {
     /// How many blocks all requests have.
     pub fn blocks(&self) -> u32
         requires { IsStack self.now }
-        ensures { result ≡ length self.now.kept.held.items }
+        ensures value { result ≡ length self.now.kept.held.items }
+        ensures all { result ≡ blocks_of_requests (plan_in self.now.sheet).requests }
     {
         self.kept.blocks()
     }
