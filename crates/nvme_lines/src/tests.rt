@@ -95,7 +95,7 @@ fn lines_and_texts_have_their_most(rt: HostRuntime) -> Result<(), Fail> {
         "fault 1025 8"
     );
     // A fault of the line's form comes first.
-    text.truncate(text.len() - 2);
+    text.truncate(text.len().saturating_sub(2));
     assert_eq!(rt;
         told(rt.alloc(), &read_lines(rt.alloc(), &text))?.as_str(),
         "fault 1025 5"

@@ -1,15 +1,19 @@
 -- Buffers on the heap that a command was done with.
-use Rattle.std.proofs.Common.{◌≡◌, ◌<◌, ◌≤◌, ℕ, zero, suc, ◌+◌, ◌-◌, eqb, if◌then◌else◌, Bool, true, false, List, [], ◌∷◌, ◌++◌, length, take, drop, Option, Some, None, refl, sym, ap, subst, ◌∙◌, arith, ⊎_elim}
-use Rattle.std.specs.Prelude.{replicate, Result, Ok, Err, IfOk}
+use Rattle.std.proofs.Common.{◌≡◌, ℕ, zero, suc, eqb, true, false, List, [], ◌∷◌, ◌++◌, length, take, drop, Option, Some, None, refl, sym, ap, subst, ◌∙◌, arith, ⊎_elim}
+use Rattle.std.specs.Prelude.{Result, Ok, Err, IfOk, is_some, map}
 use Rattle.std.proofs.lemmas.Bool.{cases_Bool, eqb-true}
 use Rattle.std.proofs.lemmas.List.{length-replicate}
-use Rattle.dix_base.specs.Told.{Rose}
 use Rattle.fault_schedule.specs.declared.fault.FaultLine.{FaultLine}
 use Rattle.target_answer.specs.Target.{Stop, Stored}
 use Rattle.rig_api.specs.Log.{Entry}
-use Rattle.rig_api.specs.Telling.{HasCause, Standing, frame_size, unit_at}
+use Rattle.target_answer.specs.Headers.{bytes_of}
+use Rattle.target_answer.specs.Image.{unit_from, units_from, units_in}
+use Rattle.target_answer.specs.declared.units.UnitSpec.{UnitSpec}
+use Rattle.rig_api.specs.Telling.{HasCause, Standing, frame_size, specs_of, unit_at, units_told}
+use Rattle.rig_discovery.specs.Discovery.{info_of}
+use Rattle.rig_discovery.proofs.Telling.{shape_is}
 use Rattle.volume_table.specs.declared.device.DeviceInfo.{DeviceInfo}
-use Rattle.nvme_front.specs.Answers.{IsNvmAnswer, Submitted, nvm_answer}
+use Rattle.nvme_front.specs.Answers.{HasDevices, IsNvmAnswer, Submitted, device_of, nvm_answer}
 use Rattle.nvme_front.specs.declared.command.NvmCommand.{NvmCommand}
 use Rattle.nvme_front.specs.declared.completion.Completion.{Completion}
 use Rattle.nvme_session.specs.Sessions.{given}
@@ -57,3 +61,29 @@ given-long n meta =
 pub ok-with : {A E : Type 0} {P Q : A → Type 0} (r : Result A E) → ((a : A) → P a → Q a) → IfOk r P → IfOk r Q
 ok-with (Ok a) f h = f a h
 ok-with (Err e) f h = h
+
+-- ---- a command leaves the devices what they are
+
+shapes : (us : List UnitSpec) (bytes : List ℕ) → map device_of (units_from us bytes) ≡ map info_of us
+shapes [] bytes = refl
+shapes (u ∷ us) bytes =
+    let same : device_of (unit_from u bytes) ≡ info_of u = ap (λ (v : UnitSpec). info_of v) (shape_is u bytes) in
+    ap (λ (d : DeviceInfo). d ∷ map device_of (units_from us (drop (bytes_of u) bytes))) same ∙ ap (λ (v : List DeviceInfo). info_of u ∷ v) (shapes us (drop (bytes_of u) bytes))
+
+told-is : (s : Standing) (image : Option (List ℕ)) (us : List Stored) → units_told s image ≡ Some us → (is_some image ≡ true) × (map device_of us ≡ map info_of (specs_of s))
+told-is s None us e = absurd (cc)
+told-is s (Some bytes) us e = let k : us ≡ units_in (specs_of s) bytes = cc in (refl, ap (λ (v : List Stored). map device_of v) k ∙ shapes (specs_of s) (drop 512 bytes))
+
+told-some : (s : Standing) (image : Option (List ℕ)) → is_some image ≡ true → (us : List Stored) × (units_told s image ≡ Some us)
+told-some s None e = absurd (cc)
+told-some s (Some bytes) e = (units_in (specs_of s) bytes, refl)
+
+pub devices-kept : (front : List DeviceInfo) (s s' : Standing) (units units' : Option (List Stored)) (image image' : Option (List ℕ)) → HasDevices front s units → units ≡ units_told s image → units' ≡ units_told s' image' → s' ≡ s → is_some image' ≡ is_some image → HasDevices front s' units'
+devices-kept front s s' units units' image image' has laid laid' same tells = record {
+  count = has.count ∙ ap (λ (v : Standing). v.devices) (sym same);
+  told = λ us e.
+      let new = told-is s' image' us (sym laid' ∙ e) in
+      let old = told-some s image (sym tells ∙ new.0) in
+      let was = told-is s image old.0 old.1 in
+      has.told old.0 (laid ∙ old.1) ∙ was.1 ∙ ap (λ (v : Standing). map info_of (specs_of v)) (sym same) ∙ sym new.1;
+}

@@ -1,18 +1,18 @@
 -- The devices that are told have a block size that is served.
-use Rattle.std.proofs.Common.{◌≡◌, ◌<◌, ◌≤◌, ℕ, zero, suc, ◌+◌, Bool, true, false, eqb, leb, ◌&&◌, ◌||◌, if◌then◌else◌, List, [], ◌∷◌, length, Option, Some, None, refl, sym, ap, subst, ◌∙◌, arith}
-use Rattle.std.specs.Prelude.{slice_index_or, take}
+use Rattle.std.proofs.Common.{◌≡◌, ◌<◌, ℕ, zero, suc, ◌+◌, Bool, true, false, eqb, leb, ◌&&◌, ◌||◌, if◌then◌else◌, List, [], ◌∷◌, length, Option, Some, None, refl, sym, ap, subst, ◌∙◌, arith}
+use Rattle.std.specs.Prelude.{slice_index_or}
 use Rattle.std.specs.List.{list_all}
 use Rattle.std.proofs.lemmas.List.{take_all}
 use Rattle.pi_tuple.specs.declared.checks.PiType.{PiType}
 use Rattle.cdb_codec.specs.Decoded.{eight_at, four_at}
 use Rattle.std.specs.Prelude.{slice_index}
-use Rattle.target_answer.specs.Headers.{is_layout, is_spec}
+use Rattle.target_answer.specs.Headers.{is_spec}
 use Rattle.target_answer.specs.declared.units.UnitSpec.{UnitSpec}
 use Rattle.rig_api.specs.Head.{head_fault, units_of}
 use Rattle.rig_api.specs.Log.{Entry}
 use Rattle.rig_api.specs.Telling.{Standing, no_spec, spec_at, specs_of}
 use Rattle.volume_table.specs.declared.device.DeviceInfo.{DeviceInfo}
-use Rattle.rig_discovery.specs.Answers.{info_with, is_fault, told_by, type_told}
+use Rattle.rig_discovery.specs.Answers.{info_with, is_fault, type_told}
 use Rattle.rig_discovery.specs.Discovery.{Answer, HasFound, all_told, told, with_info}
 use Rattle.rig_discovery.proofs.Telling.{right_layout}
 use Rattle.target_answer.specs.Target.{Stored}

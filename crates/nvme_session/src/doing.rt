@@ -65,6 +65,7 @@ fn do_granted<R: Rig>(
     ensures medium { IfOk result (λ r. is_of_medium r.completion ≡ true → Rose (R.faults rig.old) (R.faults rig.new)) }
     ensures none { OnErr result (R.units rig.new ≡ R.units rig.old) }
     ensures unlogged { OnErr result (R.log rig.new ≡ R.log rig.old) }
+    ensures tells { is_some (R.image rig.new) ≡ is_some (R.image rig.old) }
     ensures standing { R.standing rig.new ≡ R.standing rig.old }
     ensures armed { R.armed rig.new ≡ R.armed rig.old }
     ensures count { R.faults rig.old ≤ R.faults rig.new }
@@ -102,6 +103,8 @@ pub fn do_command<R: Rig>(
     ensures medium { IfOk result (λ r. is_of_medium r.completion ≡ true → Rose (R.faults rig.old) (R.faults rig.new)) }
     ensures none { OnErr result (R.units rig.new ≡ R.units rig.old) }
     ensures unlogged { OnErr result (R.log rig.new ≡ R.log rig.old) }
+    ensures devices { HasDevices front.new (R.standing rig.new) (R.units rig.new) }
+    ensures tells { is_some (R.image rig.new) ≡ is_some (R.image rig.old) }
     ensures standing { R.standing rig.new ≡ R.standing rig.old }
     ensures armed { R.armed rig.new ≡ R.armed rig.old }
     ensures count { R.faults rig.old ≤ R.faults rig.new }

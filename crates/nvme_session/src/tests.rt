@@ -3,10 +3,12 @@
 
 ghost use Rattle.std.specs.Prelude.{◌≡◌, true};
 ghost use Rattle.target_answer.specs.Headers.{is_layout};
+ghost use Rattle.nvme_front.specs.Answers.{HasDevices};
 
 use crate::{do_command, front_of};
 use dix_base::MemStore;
 use image_rig::ImageRig;
+use nvme_front::NvmFront;
 use pi_guard::crc16;
 use pi_tuple::PiType;
 use rig_api::{Rig, UnitSpec};
@@ -83,9 +85,31 @@ fn formatted(alloc: Global, units: &[UnitSpec]) -> Result<Vec<u8>, Fail>
     Ok(image)
 }
 
-/// Does the commands one after another on an image whose store fails at this call; the first one reads
-/// the header. Answers the number of the first command that comes to something else, or that of all, and
-/// the image.
+/// Does the commands one after another. Answers the number of the first that comes to something else, or
+/// that of all.
+fn good_rows<R: Rig>(
+    alloc: Global,
+    front: &mut NvmFront,
+    rig: &mut R,
+    rows: &[(Row, Want)],
+) -> Result<usize, Fail>
+    requires { HasDevices front.old (R.standing rig.old) (R.units rig.old) }
+{
+    for (i, (row, want)) in rows.iter().enumerate() {
+        let reply = do_command(alloc, front, &sqe(*row), row.fill, row.meta, rig)?;
+        let completion = [reply.completion.sct, reply.completion.sc];
+        if completion != want.completion
+            || crc16(&reply.body) != want.guard
+            || reply.meta.as_slice() != want.meta
+        {
+            return Ok(i);
+        }
+    }
+    Ok(rows.len())
+}
+
+/// Does the commands on an image whose store fails at this call; the first one reads the header. Answers
+/// the number of the first command that comes to something else, or that of all, and the image.
 fn done(
     alloc: Global,
     image: Vec<u8>,
@@ -96,24 +120,7 @@ fn done(
     let mut good = 0;
     if let Ok(()) = rig.open(alloc, "n.img") {
         if let Ok(mut front) = front_of(alloc, &mut rig) {
-            for (row, want) in rows {
-                let reply = do_command(
-                    alloc,
-                    &mut front,
-                    &sqe(*row),
-                    row.fill,
-                    row.meta,
-                    &mut rig,
-                )?;
-                let completion = [reply.completion.sct, reply.completion.sc];
-                if completion != want.completion
-                    || crc16(&reply.body) != want.guard
-                    || reply.meta.as_slice() != want.meta
-                {
-                    break;
-                }
-                good += 1;
-            }
+            good = good_rows(alloc, &mut front, &mut rig, rows)?;
         }
     }
     let mut left = Vec::new(alloc);
@@ -232,8 +239,8 @@ fn a_unit_of_type_1_takes_commands(rt: HostRuntime) -> Result<(), Fail> {
     let (good, image) = done(rt.alloc(), formatted(rt.alloc(), &[unit])?, 0, &rows)?;
     assert_eq!(rt; good, rows.len());
     assert_eq!(rt;
-        &image[1024..1032],
-        b"\x00\x00\x12\x34\x00\x00\x00\x00".as_slice()
+        image.get(1024..1032),
+        Some(b"\x00\x00\x12\x34\x00\x00\x00\x00".as_slice())
     );
     Ok(())
 }

@@ -1,4 +1,4 @@
-use Rattle.std.proofs.Common.{◌≡◌, ◌-◌, length, ap, sym, ◌∙◌, arith}
+use Rattle.std.proofs.Common.{◌≡◌, ◌-◌, length, ap, sym, ◌∙◌}
 use Rattle.image_commands.proofs.Devices.{units_through}
 use Rattle.nvme_front.specs.Commands.{command_in}
 use Rattle.nvme_session.proofs.Kept.{answered-with, kept-front, submitted-with}

@@ -1,9 +1,8 @@
-use Rattle.std.proofs.Common.{ap, sym, ◌∙◌, arith}
+use Rattle.std.proofs.Common.{ap, ◌∙◌, arith}
 use Rattle.std.specs.Prelude.{is_some}
 use Rattle.std.specs.List.{list_all}
 use Rattle.rig_api.specs.Telling.{Standing}
 use Rattle.nvme_front.specs.Refusals.{has_size}
-use Rattle.nvme_front.specs.Answers.{HasDevices}
 use Rattle.image_commands.proofs.Devices.{devices_are, few_units, units_through, untold}
 use Rattle.nvme_session.proofs.Sizes.{for-front, sizes-found}
 use Rattle.nvme_session.proofs.opening.front_of.Goals as goal
