@@ -1,11 +1,11 @@
 mod Reach
 mod Turns
 mod Inside
-mod Meeting
-mod BlocksApart
+pub mod Meeting
+pub mod BlocksApart
 mod Behind
 mod Does
-mod Ordered
+pub mod Ordered
 mod Fallen
 mod AtTarget
 mod MoveRows
