@@ -1,3 +1,5 @@
 mod Runs
 mod Begins
 mod Standing
+mod Moving
+mod Quietly

@@ -1,9 +1,11 @@
-use Rattle.std.specs.Prelude.{ℕ, suc, ◌≡◌, ◌⊎◌, Bool, true, false, List, [], ◌∷◌}
+use Rattle.std.specs.Prelude.{ℕ, suc, ◌+◌, ◌≡◌, ◌⊎◌, Bool, true, false, List, [], ◌∷◌, ◌++◌, length}
 use Rattle.stack_ops.specs.declared.op.Op.{Op}
 use Rattle.whole_run.specs.Settings.{Setting}
 use Rattle.whole_run.specs.Steps.{Step, steps_of}
-use Rattle.run_moves.specs.OpsApart.{IsPlaced, OpsConflict}
-use Rattle.run_follows.specs.Slots.{Admitted, Carried, Cut, Done, Settled, Status, Waits}
+use Rattle.run_moves.specs.BoundRun.{fates, rooms}
+use Rattle.run_moves.specs.OpsApart.{IsPlaced, IsSpread, OneCellEach, OpsConflict}
+use Rattle.run_moves.specs.ScriptMoves.{own_at}
+use Rattle.run_follows.specs.Slots.{Admitted, Carried, Cut, Done, Parts, Settled, Status, Waits, parts_of}
 
 -- What the gate keeps: an op goes only where no earlier op that it conflicts with is still on its way.
 
@@ -29,3 +31,35 @@ LetsIn m status i (op ∷ ops) j other = (AreOver 0 (steps_of m i op) (status i)
 abbrev pub AllPlaced : Setting → (n : ℕ) → List Op → Type 0
 AllPlaced m n [] = Unit {0}
 AllPlaced m n (op ∷ ops) = IsPlaced m n op × AllPlaced m n ops
+
+-- a block of a script: its op, with the ops in front of it and behind, and its step among those of the op
+pub record Spot : Type 0 where
+  pub front : List Op
+  pub op : Op
+  pub behind : List Op
+  pub before : List Step
+  pub step : Step
+  pub after : List Step
+
+abbrev pub ops_of : Spot → List Op
+ops_of s = s.front ++ (s.op ∷ s.behind)
+
+-- the op's number, from 1, and the block's place in it, from 0
+abbrev pub number : Spot → ℕ
+number s = suc (length s.front)
+
+abbrev pub place : Spot → ℕ
+place s = length s.before
+
+-- its moves, in a script with n bytes of pages
+abbrev pub parts_at : Setting → (n : ℕ) → Spot → Parts
+parts_at m n s = parts_of m (own_at (n + rooms m s.front) (place s)) (fates s.front + place s) s.step
+
+-- The block may move: its op was let in, and its blocks are spread.
+pub record MayMove (m : Setting) (n : ℕ) (status : ℕ → ℕ → Status) (s : Spot) : Type 0 where
+  pub one : OneCellEach m
+  pub placed : AllPlaced m n s.front
+  pub mine : IsPlaced m n s.op
+  pub spread : IsSpread m (number s) s.op
+  pub steps : steps_of m (number s) s.op ≡ s.before ++ (s.step ∷ s.after)
+  pub lets : LetsIn m status 1 s.front (number s) s.op

@@ -1,0 +1,10 @@
+use Rattle.std.proofs.Common.{◌+◌}
+use Rattle.run_moves.specs.BoundRun.{fates, rooms}
+use Rattle.run_moves.specs.ScriptMoves.{own_at}
+use Rattle.run_follows.specs.Gate.{place}
+use Rattle.run_follows.proofs.Quietly.{cut_quiet}
+use Rattle.run_follows.proofs.Moving.{cut}
+use Rattle.run_follows.proofs.steps.a_block_is_cut.Goals as goal
+
+pub returns : goal.returns
+returns c = λ m n s opening now old new es may e becomes h. cut m n s opening now old new es may h e becomes (cut_quiet m (own_at (n + rooms m s.front) (place s)) (fates s.front + place s) s.step)

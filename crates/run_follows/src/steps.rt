@@ -1,0 +1,36 @@
+//! One law for each step that leaves the record as it is.
+
+ghost use Rattle.std.specs.Prelude.{ℕ, ◌≡◌, List, Option, get_or};
+ghost use Rattle.bio_core.specs.declared.fate.Why.{Why as AnyWhy};
+ghost use Rattle.block_path.specs.Acts.{State, act, tell};
+ghost use Rattle.block_path.specs.Blocks.{Sent, silent};
+ghost use Rattle.block_path.specs.Moves.{first_why};
+ghost use Rattle.block_path.specs.Serial.{plain, plain_tells};
+ghost use Rattle.whole_run.specs.Settings.{Setting};
+ghost use Rattle.run_follows.specs.Following.{Becomes, Follows};
+ghost use Rattle.run_follows.specs.Gate.{MayMove, Spot, number, ops_of, parts_at, place};
+ghost use Rattle.run_follows.specs.Slots.{Admitted, Carried, Cut, Settled, Status, Waits};
+
+/// A block of a request is admitted: where the block layer makes its tuple, that is made.
+pub fn a_block_is_admitted()
+    ensures { (m : Setting) (n : ℕ) (s : Spot) (opening now : State) (old new : ℕ → ℕ → Status) (es : List Sent) → MayMove m n old s → old (number s) (place s) ≡ Waits
+        → Becomes (number s) (place s) Admitted old new → Follows m n (ops_of s) opening old now es
+        → Follows m n (ops_of s) opening new (plain act (parts_at m n s).made now) es }
+{}
+
+/// It is cut into a piece: the tag of a write's tuple is mapped out.
+pub fn a_block_is_cut()
+    ensures { (m : Setting) (n : ℕ) (s : Spot) (opening now : State) (old new : ℕ → ℕ → Status) (es : List Sent) → MayMove m n old s → old (number s) (place s) ≡ Admitted
+        → Becomes (number s) (place s) Cut old new → Follows m n (ops_of s) opening old now es
+        → Follows m n (ops_of s) opening new (plain act (parts_at m n s).cut now) es }
+{}
+
+/// Its command is completed: the tag of a write's tuple is mapped back, and a read is mapped back and verified by its
+/// owner, or zeros are left. It is listed with what was found when it was carried, or else with what its owner finds.
+pub fn a_block_is_settled()
+    ensures { (m : Setting) (n : ℕ) (s : Spot) (opening now : State) (old new : ℕ → ℕ → Status) (es : List Sent) (fate : Option AnyWhy) → MayMove m n old s
+        → old (number s) (place s) ≡ Carried fate
+        → Becomes (number s) (place s) (Settled (first_why fate (get_or (plain_tells act tell (parts_at m n s).settled now) 0 silent).why)) old new
+        → Follows m n (ops_of s) opening old now es
+        → Follows m n (ops_of s) opening new (plain act (parts_at m n s).settled now) es }
+{}
