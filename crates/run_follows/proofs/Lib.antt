@@ -3,3 +3,7 @@ mod Begins
 mod Standing
 mod Moving
 mod Quietly
+mod Wholly
+mod Carrying
+mod Ends
+mod Backing

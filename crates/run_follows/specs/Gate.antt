@@ -1,5 +1,10 @@
-use Rattle.std.specs.Prelude.{ℕ, suc, ◌+◌, ◌≡◌, ◌⊎◌, Bool, true, false, List, [], ◌∷◌, ◌++◌, length}
+use Rattle.std.specs.Prelude.{ℕ, suc, ◌+◌, ◌≡◌, ◌⊎◌, Bool, true, false, List, [], ◌∷◌, ◌++◌, length, get_or}
 use Rattle.stack_ops.specs.declared.op.Op.{Op}
+use Rattle.stack_ops.specs.declared.op.Op.TheVariants.{Fetch, FetchPi, Fill, Overwrite, Put, Seal, Show, Wait, Write, WritePi}
+use Rattle.block_path.specs.Acts.{State, act, tell}
+use Rattle.block_path.specs.Blocks.{silent}
+use Rattle.block_path.specs.Serial.{plain_tells}
+use Rattle.whole_run.specs.ScriptWalk.{acts_of}
 use Rattle.whole_run.specs.Settings.{Setting}
 use Rattle.whole_run.specs.Steps.{Step, steps_of}
 use Rattle.run_moves.specs.BoundRun.{fates, rooms}
@@ -63,3 +68,22 @@ pub record MayMove (m : Setting) (n : ℕ) (status : ℕ → ℕ → Status) (s 
   pub spread : IsSpread m (number s) s.op
   pub steps : steps_of m (number s) s.op ≡ s.before ++ (s.step ∷ s.after)
   pub lets : LetsIn m status 1 s.front (number s) s.op
+
+-- an op that is no request
+abbrev pub IsAlone : Op → Type 0
+IsAlone (Fill seg byte) = Unit {0}
+IsAlone (Put page off bytes) = Unit {0}
+IsAlone (Show seg) = Unit {0}
+IsAlone (Seal n body tuples app rtag) = Unit {0}
+IsAlone (Write v n body app) = ⊥
+IsAlone (Fetch v n body) = ⊥
+IsAlone (WritePi v n body tuples) = ⊥
+IsAlone (FetchPi v n body tuples) = ⊥
+IsAlone (Overwrite dev lba change) = Unit {0}
+IsAlone Wait = Unit {0}
+
+-- Op i waits, and then each of its steps is done, and shows what the acts of the op show in turn; all else is where it was.
+pub record BecomesDone (m : Setting) (i : ℕ) (op : Op) (now : State) (old new : ℕ → ℕ → Status) : Type 0 where
+  pub waits : (k : ℕ) → old i k ≡ Waits
+  pub done : (k : ℕ) → new i k ≡ Done (get_or (plain_tells act tell (acts_of m i op) now) k silent).shown
+  pub elsewhere : (j k : ℕ) → (j ≡ i → ⊥) → new j k ≡ old j k

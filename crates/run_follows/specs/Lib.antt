@@ -1,3 +1,4 @@
 pub mod Slots
 pub mod Following
 pub mod Gate
+pub mod Finished

@@ -1,14 +1,19 @@
 //! One law for each step that leaves the record as it is.
 
-ghost use Rattle.std.specs.Prelude.{ℕ, ◌≡◌, List, Option, get_or};
+ghost use Rattle.std.specs.Prelude.{ℕ, suc, ◌≡◌, List, [], ◌∷◌, ◌++◌, length, Option, get_or};
 ghost use Rattle.bio_core.specs.declared.fate.Why.{Why as AnyWhy};
 ghost use Rattle.block_path.specs.Acts.{State, act, tell};
 ghost use Rattle.block_path.specs.Blocks.{Sent, silent};
 ghost use Rattle.block_path.specs.Moves.{first_why};
 ghost use Rattle.block_path.specs.Serial.{plain, plain_tells};
+ghost use Rattle.stack_ops.specs.declared.op.Op.{Op as AnyOp};
+ghost use Rattle.run_moves.specs.OpsApart.{IsPlaced, OneCellEach};
+ghost use Rattle.run_record.specs.Records.{put_sent};
+ghost use Rattle.run_record.specs.EarlierWrites.{HasLog};
+ghost use Rattle.whole_run.specs.ScriptWalk.{acts_of};
 ghost use Rattle.whole_run.specs.Settings.{Setting};
 ghost use Rattle.run_follows.specs.Following.{Becomes, Follows};
-ghost use Rattle.run_follows.specs.Gate.{MayMove, Spot, number, ops_of, parts_at, place};
+ghost use Rattle.run_follows.specs.Gate.{AllPlaced, BecomesDone, IsAlone, LetsIn, MayMove, Spot, number, ops_of, parts_at, place};
 ghost use Rattle.run_follows.specs.Slots.{Admitted, Carried, Cut, Settled, Status, Waits};
 
 /// A block of a request is admitted: where the block layer makes its tuple, that is made.
@@ -33,4 +38,19 @@ pub fn a_block_is_settled()
         → Becomes (number s) (place s) (Settled (first_why fate (get_or (plain_tells act tell (parts_at m n s).settled now) 0 silent).why)) old new
         → Follows m n (ops_of s) opening old now es
         → Follows m n (ops_of s) opening new (plain act (parts_at m n s).settled now) es }
+{}
+
+/// An op that is no request is done whole, once the gate lets it in.
+pub fn an_op_is_done_whole()
+    ensures { (m : Setting) (n : ℕ) (front behind : List AnyOp) (op : AnyOp) (opening now : State) (old new : ℕ → ℕ → Status) (es : List Sent) → let i = suc (length front) in
+        OneCellEach m → AllPlaced m n front → IsPlaced m n op → IsAlone op → LetsIn m old 1 front i op → BecomesDone m i op now old new
+        → Follows m n (front ++ (op ∷ behind)) opening old now es → Follows m n (front ++ (op ∷ behind)) opening new (plain act (acts_of m i op) now) es }
+{}
+
+/// A block is carried, or a command ends at it, or the adapter finds it bad before it is sent: its move puts on record
+/// what came of it, where anything did.
+pub fn a_block_is_carried()
+    ensures { (m : Setting) (n : ℕ) (s : Spot) (opening now : State) (old new : ℕ → ℕ → Status) (es : List Sent) → let a = (parts_at m n s).carrying in
+        MayMove m n old s → HasLog m (length opening.logs) s.step → old (number s) (place s) ≡ Cut → Becomes (number s) (place s) (Carried (tell a now).why) old new
+        → Follows m n (ops_of s) opening old now es → Follows m n (ops_of s) opening new (act a now) (es ++ put_sent (tell a now).sent []) }
 {}

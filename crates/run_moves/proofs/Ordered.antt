@@ -176,14 +176,20 @@ module _ (m : Setting) (fine : ℕ → List ℕ → Bool) (n : ℕ) (opening : S
             ∙ sym (tells_append acts (acts_from m (suc i) ops) (hidden n s));
       }
 
+-- once all are done, whatever the order was
+pub once_done : (m : Setting) (fine : ℕ → List ℕ → Bool) (n : ℕ) (ops : List Op) (opening now : State) (answers : List Answer) → IsBoundRun m fine n ops opening →
+    now ≡ plain act (script_moves m n ops) opening → answers ≡ plain_tells act tell (script_moves m n ops) opening → AreTheWalk m n ops opening now answers
+once_done m fine n ops opening now answers run state tells =
+    let room = run.room in
+    let k = ops_by_moves m fine n opening (omega (arith, room)) n 0 1 ops opening (omega arith) run.room (let f = run.found in omega (arith, f)) run.bound (record { bytes = refl; fates = refl; all_fine = run.all_fine }) in
+    record {
+      cells = ap (hidden n) state ∙ k.state;
+      replies = ap (replies_from_moves m n 0 1 ops) tells ∙ k.replies;
+      answers_are = ap (answers_from m n 0 1 ops) tells ∙ k.answers;
+    }
+
 pub in_any_order : (m : Setting) (fine : ℕ → List ℕ → Bool) (n : ℕ) (ops : List Op) (opening now : State) (places : List ℕ) (answers : List Answer) → IsBoundRun m fine n ops opening →
     Leads act tell conflict (script_moves m n ops) places (none_done (script_moves m n ops)) opening (all_done answers) now → AreTheWalk m n ops opening now answers
 in_any_order m fine n ops opening now places answers run l =
     let h = any_whole_order act tell conflict commutes (script_moves m n ops) places opening answers now l in
-    let room = run.room in
-    let k = ops_by_moves m fine n opening (omega (arith, room)) n 0 1 ops opening (omega arith) run.room (let f = run.found in omega (arith, f)) run.bound (record { bytes = refl; fates = refl; all_fine = run.all_fine }) in
-    record {
-      cells = ap (hidden n) h.0 ∙ k.state;
-      replies = ap (replies_from_moves m n 0 1 ops) h.1 ∙ k.replies;
-      answers_are = ap (answers_from m n 0 1 ops) h.1 ∙ k.answers;
-    }
+    once_done m fine n ops opening now answers run h.0 h.1

@@ -1,8 +1,8 @@
-mod Between
-mod Labelled
+pub mod Between
+pub mod Labelled
 mod Mirrors
-mod Backs
-mod OwnRecord
+pub mod Backs
+pub mod OwnRecord
 mod Earlier
 pub mod RecordRows
 mod FalseLogs

@@ -1,0 +1,39 @@
+//! At the end.
+
+ghost use Rattle.std.specs.Prelude.{ℕ, Bool, true, List};
+ghost use Rattle.rig_api.specs.Log.{Entry};
+ghost use Rattle.stack_ops.specs.declared.op.Op.{Op as AnyOp};
+ghost use Rattle.block_path.specs.Acts.{State};
+ghost use Rattle.block_path.specs.Blocks.{Sent};
+ghost use Rattle.block_path.specs.Moves.{hidden};
+ghost use Rattle.whole_run.specs.Settings.{Setting};
+ghost use Rattle.run_record.specs.BackedRun.{Backed};
+ghost use Rattle.run_record.specs.CarriedRun.{Carried};
+ghost use Rattle.run_record.specs.Records.{recorded};
+ghost use Rattle.run_record.specs.ToldRun.{told};
+ghost use Rattle.run_moves.specs.BoundRun.{IsBoundRun};
+ghost use Rattle.run_follows.specs.Finished.{AllEnded, EndsAsWalk, replies_of};
+ghost use Rattle.run_follows.specs.Following.{Follows};
+ghost use Rattle.run_follows.specs.Slots.{Status};
+
+/// Once all has ended, pages, stored blocks, carried frames, replies and record are those of the script's walk, over
+/// whatever is behind the adapter.
+pub fn a_finished_stack_is_the_walk()
+    ensures { (m : Setting) (fine : ℕ → List ℕ → Bool) (n : ℕ) (ops : List AnyOp) (opening now : State) (status : ℕ → ℕ → Status) (es : List Sent) → IsBoundRun m fine n ops opening
+        → AllEnded m 1 ops status → Follows m n ops opening status now es → EndsAsWalk m n ops opening status now es }
+{}
+
+/// So over any rig, honest or not, its log backs the stack's replies.
+pub fn a_finished_stack_is_backed()
+    ensures { (m : Setting) (n : ℕ) (ops : List AnyOp) (opening now : State) (status : ℕ → ℕ → Status) (log : List Entry) → let over = told m (recorded m log) in
+        IsBoundRun over (λ c block. true) n ops opening → AllEnded m 1 ops status → Follows over n ops opening status now (recorded m log)
+        → Backed m ops (hidden n opening) log (replies_of m 1 ops status) }
+{}
+
+/// And over a rig that tells its blocks, its log holds what the script's walk over the target carries, and backs the
+/// stack's replies.
+pub fn a_finished_told_stack_is_carried()
+    ensures { (m : Setting) (fine : ℕ → List ℕ → Bool) (n : ℕ) (ops : List AnyOp) (opening now : State) (status : ℕ → ℕ → Status) (log : List Entry) → IsBoundRun m fine n ops opening
+        → AllEnded m 1 ops status → Follows m n ops opening status now (recorded m log)
+        → Carried m ops (hidden n opening) log × Backed m ops (hidden n opening) log (replies_of m 1 ops status) }
+{}
