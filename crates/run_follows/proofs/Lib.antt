@@ -7,3 +7,4 @@ mod Wholly
 mod Carrying
 mod Ends
 mod Backing
+mod Switch

@@ -2,3 +2,4 @@ pub mod Slots
 pub mod Following
 pub mod Gate
 pub mod Finished
+pub mod Sending

@@ -1,0 +1,89 @@
+use Rattle.std.specs.Prelude.{ℕ, ◌+◌, ◌≡◌, Bool, true, false, ◌&&◌, eqb, if◌then◌else◌, List, [], ◌∷◌, ◌++◌, length, Option, Some, None}
+use Rattle.bio_core.specs.Bios.{Block}
+use Rattle.bio_core.specs.declared.fate.Fate.{Fate}
+use Rattle.bio_core.specs.declared.fate.Fate.TheVariants.{Bad, Good, Untouched}
+use Rattle.bio_core.specs.declared.request.Dir.{Dir}
+use Rattle.bio_core.specs.declared.request.Dir.TheVariants.{Read, Write as WriteDir}
+use Rattle.bio_core.specs.declared.request.Io.{Io}
+use Rattle.stack_ops.specs.declared.op.Op.{Op}
+use Rattle.block_path.specs.declared.route.Route.{Route}
+use Rattle.block_path.specs.Blocks.{Sent}
+use Rattle.whole_run.specs.Settings.{Setting, route}
+use Rattle.whole_run.specs.Steps.{Alters, Reads, Seals, Sets, Shows, Step, Writes, WritesPi}
+use Rattle.run_record.specs.EarlierWrites.{HasLog}
+use Rattle.run_record.specs.Records.{find}
+use Rattle.run_moves.specs.BoundRun.{rooms}
+use Rattle.run_moves.specs.ScriptMoves.{lands_in, own_at}
+use Rattle.dix_adapter.specs.declared.adapter.Adapter.{Adapter}
+use Rattle.dix_adapter.specs.Groups.{frame_cells, route_of}
+use Rattle.run_follows.specs.Gate.{MayMove, Spot, number, ops_of, place}
+use Rattle.run_follows.specs.Slots.{Admitted, Carried, Cut, Done, Settled, Status, Waits}
+
+-- A group of blocks that is sent by one command.
+
+-- something may stand on record of it
+abbrev pub is_carried : Status → Bool
+is_carried Waits = false
+is_carried Admitted = false
+is_carried Cut = false
+is_carried (Carried fate) = true
+is_carried (Settled why) = true
+is_carried (Done shown) = true
+
+-- Nothing stands on record of a block that was not carried.
+abbrev pub NoneBefore : (ℕ → ℕ → Status) → List Sent → Type 0
+NoneBefore status es = (i k : ℕ) → is_carried (status i k) ≡ false → find (record { op = i; k = k }) es ≡ None
+
+-- a block's status, and all others as they were
+abbrev pub with_status : (i k : ℕ) → Status → (ℕ → ℕ → Status) → ℕ → ℕ → Status
+with_status i k next status j l = if eqb j i && eqb l k then next else status j l
+
+-- what becomes of a block by its fate; an untouched one stays in its queue
+abbrev pub with_fate : Block → Fate → (ℕ → ℕ → Status) → ℕ → ℕ → Status
+with_fate b Good status = with_status b.op b.k (Carried None) status
+with_fate b (Bad why) status = with_status b.op b.k (Carried (Some why)) status
+with_fate b Untouched status = status
+
+abbrev pub with_fates : List Block → List Fate → (ℕ → ℕ → Status) → ℕ → ℕ → Status
+with_fates [] fates status = status
+with_fates (b ∷ bs) [] status = status
+with_fates (b ∷ bs) (f ∷ fs) status = with_fates bs fs (with_fate b f status)
+
+-- a block on its way: its route, its direction, and the cells of its frame
+pub record Carriage : Type 0 where
+  pub route : Route
+  pub dir : Dir
+  pub frame : List ℕ
+
+abbrev pub carriage_of : Setting → (own : List ℕ) → Step → Option Carriage
+carriage_of m own (Sets at values) = None
+carriage_of m own (Shows at) = None
+carriage_of m own (Seals body tuple app rtag) = None
+carriage_of m own (Writes b app body) = Some (record { route = route m b; dir = WriteDir; frame = if m.mode.dix then body ++ own else body })
+carriage_of m own (WritesPi b frame) = Some (record { route = route m b; dir = WriteDir; frame = frame })
+carriage_of m own (Reads b owner to) = Some (record { route = route m b; dir = Read; frame = lands_in owner m.mode.dix to own })
+carriage_of m own (Alters dev lba change) = None
+
+abbrev pub carriage_at : Setting → (n : ℕ) → Spot → Option Carriage
+carriage_at m n s = carriage_of m (own_at (n + rooms m s.front) (place s)) s.step
+
+-- A block of the group is this block of the script, is carried as the adapter carries it, and was cut and not yet sent.
+pub record IsGoing (m : Setting) (n : ℕ) (ops : List Op) (a : Adapter) (ios : List Io) (logs : ℕ) (status : ℕ → ℕ → Status) (b : Block) (s : Spot) : Type 0 where
+  pub script : ops_of s ≡ ops
+  pub number : number s ≡ b.op
+  pub place : place s ≡ b.k
+  pub carriage : carriage_at m n s ≡ Some (record { route = route_of a ios b; dir = b.dir; frame = frame_cells ios b })
+  pub log : HasLog m logs s.step
+  pub is_cut : status b.op b.k ≡ Cut
+  pub may : MayMove m n status s
+
+-- it is none of these
+abbrev pub IsElsewhere : Block → List Block → Type 0
+IsElsewhere b [] = Unit {0}
+IsElsewhere b (c ∷ cs) = (c.op ≡ b.op → c.k ≡ b.k → ⊥) × IsElsewhere b cs
+
+-- no two blocks of a group are one
+abbrev pub AllGoing : Setting → (n : ℕ) → List Op → Adapter → List Io → (logs : ℕ) → (ℕ → ℕ → Status) → List Block → List Spot → Type 0
+AllGoing m n ops a ios logs status [] spots = Unit {0}
+AllGoing m n ops a ios logs status (b ∷ bs) [] = ⊥
+AllGoing m n ops a ios logs status (b ∷ bs) (s ∷ spots) = IsGoing m n ops a ios logs status b s × (IsElsewhere b bs × AllGoing m n ops a ios logs status bs spots)
