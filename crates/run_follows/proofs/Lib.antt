@@ -8,3 +8,4 @@ mod Carrying
 mod Ends
 mod Backing
 mod Switch
+mod Sends

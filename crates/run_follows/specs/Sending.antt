@@ -1,13 +1,18 @@
-use Rattle.std.specs.Prelude.{ℕ, ◌+◌, ◌≡◌, Bool, true, false, ◌&&◌, eqb, if◌then◌else◌, List, [], ◌∷◌, ◌++◌, length, Option, Some, None}
+use Rattle.std.specs.Prelude.{ℕ, ◌+◌, ◌≡◌, Bool, true, false, ◌&&◌, eqb, if◌then◌else◌, List, [], ◌∷◌, ◌++◌, length, get_or, Option, Some, None, Result, Ok, Err}
 use Rattle.bio_core.specs.Bios.{Block}
 use Rattle.bio_core.specs.declared.fate.Fate.{Fate}
 use Rattle.bio_core.specs.declared.fate.Fate.TheVariants.{Bad, Good, Untouched}
+use Rattle.bio_core.specs.declared.fate.Why.{Why}
 use Rattle.bio_core.specs.declared.request.Dir.{Dir}
 use Rattle.bio_core.specs.declared.request.Dir.TheVariants.{Read, Write as WriteDir}
 use Rattle.bio_core.specs.declared.request.Io.{Io}
 use Rattle.stack_ops.specs.declared.op.Op.{Op}
 use Rattle.block_path.specs.declared.route.Route.{Route}
-use Rattle.block_path.specs.Blocks.{Sent}
+use Rattle.block_path.specs.Acts.{Act, State, act}
+use Rattle.block_path.specs.Blocks.{Answer, Sent, fetched_cell}
+use Rattle.block_path.specs.Moves.{carry_out}
+use Rattle.block_path.specs.Serial.{plain}
+use Rattle.block_path.specs.WayOut.{Refuses, Stores, goes_out}
 use Rattle.whole_run.specs.Settings.{Setting, route}
 use Rattle.whole_run.specs.Steps.{Alters, Reads, Seals, Sets, Shows, Step, Writes, WritesPi}
 use Rattle.run_record.specs.EarlierWrites.{HasLog}
@@ -15,7 +20,10 @@ use Rattle.run_record.specs.Records.{find}
 use Rattle.run_moves.specs.BoundRun.{rooms}
 use Rattle.run_moves.specs.ScriptMoves.{lands_in, own_at}
 use Rattle.dix_adapter.specs.declared.adapter.Adapter.{Adapter}
-use Rattle.dix_adapter.specs.Groups.{frame_cells, route_of}
+use Rattle.dix_adapter.specs.Carried.{arrives, carried, land}
+use Rattle.dix_adapter.specs.Groups.{frame_cells, frame_in, route_of}
+use Rattle.carried_record.specs.OnRecord.{put_each}
+use Rattle.run_follows.specs.Following.{Follows}
 use Rattle.run_follows.specs.Gate.{MayMove, Spot, number, ops_of, place}
 use Rattle.run_follows.specs.Slots.{Admitted, Carried, Cut, Done, Settled, Status, Waits}
 
@@ -87,3 +95,65 @@ abbrev pub AllGoing : Setting → (n : ℕ) → List Op → Adapter → List Io 
 AllGoing m n ops a ios logs status [] spots = Unit {0}
 AllGoing m n ops a ios logs status (b ∷ bs) [] = ⊥
 AllGoing m n ops a ios logs status (b ∷ bs) (s ∷ spots) = IsGoing m n ops a ios logs status b s × (IsElsewhere b bs × AllGoing m n ops a ios logs status bs spots)
+
+-- What came of the blocks of a group: the frames that were carried, and why the command ended, where it did; later blocks are untouched.
+
+abbrev pub out_fates : List Block → List (Result (List ℕ) Why) → List Fate
+out_fates [] cames = []
+out_fates (b ∷ bs) [] = Untouched ∷ out_fates bs []
+out_fates (b ∷ bs) (Ok frame ∷ cames) = Good ∷ out_fates bs cames
+out_fates (b ∷ bs) (Err why ∷ cames) = Bad why ∷ out_fates bs cames
+
+-- a frame that came passes the adapter's check, or fails
+abbrev pub fate_in : Adapter → List Io → Block → Result (List ℕ) Why → Fate
+fate_in a ios b (Ok frame) = carried (arrives a ios b frame)
+fate_in a ios b (Err why) = Bad why
+
+abbrev pub in_fates : Adapter → List Io → List Block → List (Result (List ℕ) Why) → List Fate
+in_fates a ios [] cames = []
+in_fates a ios (b ∷ bs) [] = Untouched ∷ in_fates a ios bs []
+in_fates a ios (b ∷ bs) (came ∷ cames) = fate_in a ios b came ∷ in_fates a ios bs cames
+
+-- the pages after a read's blocks landed
+abbrev pub land_one : Adapter → List Io → Block → Result (List ℕ) Why → List ℕ → List ℕ
+land_one a ios b (Ok frame) cells = land (frame_cells ios b) (arrives a ios b frame) cells
+land_one a ios b (Err why) cells = cells
+
+abbrev pub land_all : Adapter → List Io → List Block → List (Result (List ℕ) Why) → List ℕ → List ℕ
+land_all a ios [] cames cells = cells
+land_all a ios (b ∷ bs) [] cells = cells
+land_all a ios (b ∷ bs) (came ∷ cames) cells = land_all a ios bs cames (land_one a ios b came cells)
+
+-- So much came of the blocks of a write, from these pages: each frame is stored, and the last may be refused behind the adapter. And of those of a read, from these stored blocks.
+abbrev pub AllGoOut : Setting → Adapter → List Io → (cells : List ℕ) → List Block → List (Result (List ℕ) Why) → Type 0
+AllGoOut m a ios cells [] cames = cames ≡ []
+AllGoOut m a ios cells (b ∷ bs) [] = Unit {0}
+AllGoOut m a ios cells (b ∷ bs) (Ok frame ∷ cames) =
+    (b.dir ≡ WriteDir) × (((stored : List ℕ) × (goes_out m.site.faults m.site.device (route_of a ios b) (frame_in ios cells b) ≡ Stores frame stored)) × AllGoOut m a ios cells bs cames)
+AllGoOut m a ios cells (b ∷ bs) (Err why ∷ cames) = (b.dir ≡ WriteDir) × ((goes_out m.site.faults m.site.device (route_of a ios b) (frame_in ios cells b) ≡ Refuses why) × (cames ≡ []))
+
+abbrev pub AllComeIn : Setting → Adapter → List Io → (blocks : List (List ℕ)) → List Block → List (Result (List ℕ) Why) → Type 0
+AllComeIn m a ios blocks [] cames = cames ≡ []
+AllComeIn m a ios blocks (b ∷ bs) [] = Unit {0}
+AllComeIn m a ios blocks (b ∷ bs) (came ∷ cames) =
+    (b.dir ≡ Read) × ((m.site.device.sends (route_of a ios b) (get_or blocks (fetched_cell m.site (route_of a ios b)) []) ≡ came) × AllComeIn m a ios blocks bs cames)
+
+-- the moves of the blocks that were carried
+abbrev pub out_acts : Setting → Adapter → List Io → List Block → List (Result (List ℕ) Why) → List (Act Answer)
+out_acts m a ios [] cames = []
+out_acts m a ios (b ∷ bs) [] = []
+out_acts m a ios (b ∷ bs) (Ok frame ∷ cames) = carry_out m.site (route_of a ios b) (frame_cells ios b) ∷ out_acts m a ios bs cames
+out_acts m a ios (b ∷ bs) (Err why ∷ cames) = []
+
+-- What a group leaves that was sent: the stack follows on, with the blocks' fates and with what came of them on record.
+pub record SentOut (m : Setting) (n : ℕ) (ops : List Op) (a : Adapter) (ios : List Io) (opening now : State) (bs : List Block) (cames : List (Result (List ℕ) Why)) (status : ℕ → ℕ → Status) (es : List Sent) : Type 0 where
+  pub after : State
+  pub follows : Follows m n ops opening (with_fates bs (out_fates bs cames) status) after (put_each m.site bs cames es)
+  pub bytes : after.bytes ≡ now.bytes
+  pub blocks : after.blocks ≡ (plain act (out_acts m a ios bs cames) now).blocks
+
+pub record SentIn (m : Setting) (n : ℕ) (ops : List Op) (a : Adapter) (ios : List Io) (opening now : State) (bs : List Block) (cames : List (Result (List ℕ) Why)) (status : ℕ → ℕ → Status) (es : List Sent) : Type 0 where
+  pub after : State
+  pub follows : Follows m n ops opening (with_fates bs (in_fates a ios bs cames) status) after (put_each m.site bs cames es)
+  pub bytes : after.bytes ≡ land_all a ios bs cames now.bytes
+  pub blocks : after.blocks ≡ now.blocks

@@ -1,15 +1,19 @@
 //! A command is sent.
 
-ghost use Rattle.std.specs.Prelude.{ℕ, ◌≡◌, true, List, Result};
+ghost use Rattle.std.specs.Prelude.{ℕ, ◌≡◌, true, List, length, Result};
 ghost use Rattle.fault_schedule.specs.declared.Label.{Label as AnyLabel};
 ghost use Rattle.bio_core.specs.declared.fate.Why.{Why as AnyWhy};
+ghost use Rattle.bio_core.specs.Bios.{Block};
+ghost use Rattle.bio_core.specs.declared.request.Io.{Io as AnyIo};
+ghost use Rattle.dix_adapter.specs.declared.adapter.Adapter.{Adapter as AnyAdapter};
 ghost use Rattle.stack_ops.specs.declared.op.Op.{Op as AnyOp};
 ghost use Rattle.block_path.specs.Acts.{State};
 ghost use Rattle.block_path.specs.Blocks.{Sent};
 ghost use Rattle.whole_run.specs.Settings.{Setting};
 ghost use Rattle.run_record.specs.ToldRun.{came_by, told};
 ghost use Rattle.run_follows.specs.Following.{Follows};
-ghost use Rattle.run_follows.specs.Sending.{is_carried};
+ghost use Rattle.run_follows.specs.Sending.{AllComeIn, AllGoOut, AllGoing, SentIn, SentOut, is_carried};
+ghost use Rattle.run_follows.specs.Gate.{Spot};
 ghost use Rattle.run_follows.specs.Slots.{Status};
 
 /// What stands on record may grow: a stack follows what is told by it as long as of each block that was carried it
@@ -18,4 +22,16 @@ pub fn more_may_stand_on_record()
     ensures { (m : Setting) (n : ℕ) (ops : List AnyOp) (opening now : State) (status : ℕ → ℕ → Status) (one two es : List Sent)
         → ((i k : ℕ) → is_carried (status i k) ≡ true → came_by one (record { op = i; k = k }) ≡ came_by two (record { op = i; k = k }))
         → Follows (told m one) n ops opening status now es → Follows (told m two) n ops opening status now es }
+{}
+
+/// A group of blocks is sent, over whatever is behind the adapter: each block that is carried, or at which the command
+/// ends, has its fate and stands on record, and the others stay cut.
+pub fn a_group_is_sent()
+    ensures out { (m : Setting) (n : ℕ) (ops : List AnyOp) (a : AnyAdapter) (ios : List AnyIo) (opening now : State) (status : ℕ → ℕ → Status) (es : List Sent) (bs : List Block) (spots : List Spot)
+        (cames : List (Result (List ℕ) AnyWhy))
+        → AllGoing m n ops a ios (length opening.logs) status bs spots → AllGoOut m a ios now.bytes bs cames → Follows m n ops opening status now es → SentOut m n ops a ios opening now bs cames status es }
+    ensures inward { (m : Setting) (n : ℕ) (ops : List AnyOp) (a : AnyAdapter) (ios : List AnyIo) (opening now : State) (status : ℕ → ℕ → Status) (es : List Sent) (bs : List Block) (spots : List Spot)
+        (cames : List (Result (List ℕ) AnyWhy))
+        → m.site.faults ≡ a.tamper → AllGoing m n ops a ios (length opening.logs) status bs spots → AllComeIn m a ios now.blocks bs cames → Follows m n ops opening status now es
+        → SentIn m n ops a ios opening now bs cames status es }
 {}
