@@ -1,3 +1,3 @@
-mod Puts
-mod Named
+pub mod Puts
+pub mod Named
 mod Rows

@@ -40,7 +40,7 @@ one_more m [] e es = refl
 one_more m (x ∷ log) e es = one_more m log e (put_decoded m (decoded x.what.cdb) x es)
 
 -- blocks of one direction and device, at addresses in turn
-abbrev InTurn : Dir → (dev lba : ℕ) → List Block → Type 0
+abbrev pub InTurn : Dir → (dev lba : ℕ) → List Block → Type 0
 InTurn dir dev lba [] = Unit {0}
 InTurn dir dev lba (b ∷ bs) = ((b.dir ≡ dir) × ((b.dev ≡ dev) × (b.lba ≡ lba))) × InTurn dir dev (suc lba) bs
 
@@ -124,7 +124,7 @@ module _ (m : Setting) (a : Adapter) (ios : List Io) (req : List Bio) (pool : Li
   wire : sent_size c.protect m.size ≡ width_for a m.size
   wire = ap (λ p. sent_size p m.size) (protect-is a first.lba n) ∙ width-sent a m.size protect
 
-  turn : InTurn first.dir first.dev first.lba (blocks_in req)
+  pub turn : InTurn first.dir first.dev first.lba (blocks_in req)
   turn = bios_turn a pool m.size ios first.dev first.dir first.lba req g.bios g.chain
 
   -- the record of a read, and of a write

@@ -9,3 +9,5 @@ mod Ends
 mod Backing
 mod Switch
 mod Sends
+mod Over
+mod Recording

@@ -16,7 +16,9 @@ use Rattle.block_path.specs.WayOut.{Refuses, Stores, goes_out}
 use Rattle.whole_run.specs.Settings.{Setting, route}
 use Rattle.whole_run.specs.Steps.{Alters, Reads, Seals, Sets, Shows, Step, Writes, WritesPi}
 use Rattle.run_record.specs.EarlierWrites.{HasLog}
-use Rattle.run_record.specs.Records.{find}
+use Rattle.rig_api.specs.Log.{Entry}
+use Rattle.run_record.specs.Records.{find, recorded}
+use Rattle.run_record.specs.ToldRun.{told}
 use Rattle.run_moves.specs.BoundRun.{rooms}
 use Rattle.run_moves.specs.ScriptMoves.{lands_in, own_at}
 use Rattle.dix_adapter.specs.declared.adapter.Adapter.{Adapter}
@@ -157,3 +159,10 @@ pub record SentIn (m : Setting) (n : ℕ) (ops : List Op) (a : Adapter) (ios : L
   pub follows : Follows m n ops opening (with_fates bs (in_fates a ios bs cames) status) after (put_each m.site bs cames es)
   pub bytes : after.bytes ≡ land_all a ios bs cames now.bytes
   pub blocks : after.blocks ≡ now.blocks
+
+-- After a command was sent over any rig: the stack follows on with the new log as its record, the blocks have these fates, the pages are these, and nothing stands on record of a block that wasn't carried.
+pub record FollowsOn (m : Setting) (n : ℕ) (ops : List Op) (opening : State) (status : ℕ → ℕ → Status) (pages : List ℕ) (log : List Entry) : Type 0 where
+  pub after : State
+  pub follows : Follows (told m (recorded m log)) n ops opening status after (recorded m log)
+  pub bytes : after.bytes ≡ pages
+  pub none_before : NoneBefore status (recorded m log)

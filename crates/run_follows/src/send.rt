@@ -1,18 +1,26 @@
 //! A command is sent.
 
-ghost use Rattle.std.specs.Prelude.{ℕ, ◌≡◌, true, List, length, Result};
+ghost use Rattle.std.specs.Prelude.{ℕ, ◌≡◌, true, false, List, length, map, Result};
 ghost use Rattle.fault_schedule.specs.declared.Label.{Label as AnyLabel};
 ghost use Rattle.bio_core.specs.declared.fate.Why.{Why as AnyWhy};
 ghost use Rattle.bio_core.specs.Bios.{Block};
 ghost use Rattle.bio_core.specs.declared.request.Io.{Io as AnyIo};
 ghost use Rattle.dix_adapter.specs.declared.adapter.Adapter.{Adapter as AnyAdapter};
+ghost use Rattle.bio_core.specs.declared.bio.Bio.{Bio as AnyBio};
+ghost use Rattle.bio_core.specs.declared.fate.Fate.{Fate as AnyFate};
+ghost use Rattle.bio_core.specs.declared.request.Dir.TheVariants.{Read, Write};
+ghost use Rattle.page_pool.specs.Cells.{flat};
+ghost use Rattle.run_record.specs.Records.{recorded};
+ghost use Rattle.dix_adapter.specs.Carried.{Shown, any_bad, sends};
+ghost use Rattle.dix_adapter.specs.Groups.{IsGroup, IsProtect, blocks_in, first_of};
+ghost use Rattle.dix_adapter.specs.Ways.{RecordedIn, RecordedOut};
 ghost use Rattle.stack_ops.specs.declared.op.Op.{Op as AnyOp};
 ghost use Rattle.block_path.specs.Acts.{State};
 ghost use Rattle.block_path.specs.Blocks.{Sent};
 ghost use Rattle.whole_run.specs.Settings.{Setting};
 ghost use Rattle.run_record.specs.ToldRun.{came_by, told};
 ghost use Rattle.run_follows.specs.Following.{Follows};
-ghost use Rattle.run_follows.specs.Sending.{AllComeIn, AllGoOut, AllGoing, SentIn, SentOut, is_carried};
+ghost use Rattle.run_follows.specs.Sending.{AllComeIn, AllGoOut, AllGoing, FollowsOn, NoneBefore, SentIn, SentOut, is_carried, with_fates};
 ghost use Rattle.run_follows.specs.Gate.{Spot};
 ghost use Rattle.run_follows.specs.Slots.{Status};
 
@@ -34,4 +42,23 @@ pub fn a_group_is_sent()
         (cames : List (Result (List ℕ) AnyWhy))
         → m.site.faults ≡ a.tamper → AllGoing m n ops a ios (length opening.logs) status bs spots → AllComeIn m a ios now.blocks bs cames → Follows m n ops opening status now es
         → SentIn m n ops a ios opening now bs cames status es }
+{}
+
+/// A command is sent over any rig, as the adapter says: what came of its blocks stands on record, and the stack follows
+/// it on.
+pub fn a_command_is_sent()
+    ensures out { (m : Setting) (n : ℕ) (ops : List AnyOp) (a : AnyAdapter) (ios : List AnyIo) (req : List AnyBio) (pool : List (List ℕ)) (fates : List AnyFate) (old new : Shown)
+        (opening now : State) (status : ℕ → ℕ → Status) (spots : List Spot)
+        → IsProtect a.protect → IsGroup a pool m.size ios req → (first_of req).dir ≡ Write → any_bad (map (sends a ios (flat pool)) (blocks_in req)) ≡ false → m.site.faults ≡ a.tamper
+        → RecordedOut a ios req (flat pool) fates old new
+        → AllGoing m n ops a ios (length opening.logs) status (blocks_in req) spots → now.bytes ≡ flat pool → NoneBefore status (recorded m old.log)
+        → Follows (told m (recorded m old.log)) n ops opening status now (recorded m old.log)
+        → FollowsOn m n ops opening (with_fates (blocks_in req) fates status) (flat pool) new.log }
+    ensures inward { (m : Setting) (n : ℕ) (ops : List AnyOp) (a : AnyAdapter) (ios : List AnyIo) (req : List AnyBio) (pool pool' : List (List ℕ)) (fates : List AnyFate) (old new : Shown)
+        (opening now : State) (status : ℕ → ℕ → Status) (spots : List Spot)
+        → IsProtect a.protect → IsGroup a pool m.size ios req → (first_of req).dir ≡ Read → m.site.faults ≡ a.tamper
+        → RecordedIn a ios req pool pool' fates old new
+        → AllGoing m n ops a ios (length opening.logs) status (blocks_in req) spots → now.bytes ≡ flat pool → NoneBefore status (recorded m old.log)
+        → Follows (told m (recorded m old.log)) n ops opening status now (recorded m old.log)
+        → FollowsOn m n ops opening (with_fates (blocks_in req) fates status) (flat pool') new.log }
 {}

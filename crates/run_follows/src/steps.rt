@@ -12,6 +12,7 @@ ghost use Rattle.run_record.specs.Records.{put_sent};
 ghost use Rattle.run_record.specs.EarlierWrites.{HasLog};
 ghost use Rattle.whole_run.specs.ScriptWalk.{acts_of};
 ghost use Rattle.whole_run.specs.Settings.{Setting};
+ghost use Rattle.run_record.specs.ToldRun.{told};
 ghost use Rattle.run_follows.specs.Following.{Becomes, Follows};
 ghost use Rattle.run_follows.specs.Gate.{AllPlaced, BecomesDone, IsAlone, LetsIn, MayMove, Spot, number, ops_of, parts_at, place};
 ghost use Rattle.run_follows.specs.Slots.{Admitted, Carried, Cut, Settled, Status, Waits};
@@ -53,4 +54,13 @@ pub fn a_block_is_carried()
     ensures { (m : Setting) (n : ℕ) (s : Spot) (opening now : State) (old new : ℕ → ℕ → Status) (es : List Sent) → let a = (parts_at m n s).carrying in
         MayMove m n old s → HasLog m (length opening.logs) s.step → old (number s) (place s) ≡ Cut → Becomes (number s) (place s) (Carried (tell a now).why) old new
         → Follows m n (ops_of s) opening old now es → Follows m n (ops_of s) opening new (act a now) (es ++ put_sent (tell a now).sent []) }
+{}
+
+/// What may move over a target may move over the record, and moves alike but where it is carried.
+pub fn what_may_move_may_over_the_record()
+    ensures may { (m : Setting) (es : List Sent) (n : ℕ) (status : ℕ → ℕ → Status) (s : Spot) → MayMove m n status s → MayMove (told m es) n status s }
+    ensures moves { (m : Setting) (es : List Sent) (n : ℕ) (s : Spot) → let p = parts_at (told m es) n s in let q = parts_at m n s in (p.made ≡ q.made) × ((p.cut ≡ q.cut) × (p.settled ≡ q.settled)) }
+    ensures acts { (m : Setting) (es : List Sent) (i : ℕ) (op : AnyOp) → IsAlone op → acts_of (told m es) i op ≡ acts_of m i op }
+    ensures lets { (m : Setting) (es : List Sent) (status : ℕ → ℕ → Status) (i j : ℕ) (ops : List AnyOp) (op : AnyOp) → LetsIn m status i ops j op → LetsIn (told m es) status i ops j op }
+    ensures placed { (m : Setting) (es : List Sent) (n : ℕ) (ops : List AnyOp) → AllPlaced m n ops → AllPlaced (told m es) n ops }
 {}
