@@ -11,3 +11,4 @@ mod Switch
 mod Sends
 mod Over
 mod Recording
+mod Telling

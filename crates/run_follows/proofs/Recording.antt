@@ -49,7 +49,7 @@ use Rattle.run_follows.proofs.Switch.{switch}
 abbrev Came : Type 0
 Came = Result (List ℕ) Why
 
-abbrev arrived : List ℕ → Came
+abbrev pub arrived : List ℕ → Came
 arrived frame = Ok frame
 
 -- finding
@@ -252,7 +252,7 @@ module _ (n : ℕ) (o : Outcome) (bs : List Block) (long : length bs ≡ n) wher
       (ended ds (in_fates a ios ds) l (in_rest a ios ds) (λ d es q. rw q (ap (λ x. Bad (why_ended o.sense) ∷ x) (in_rest a ios es))))
 
 -- where the blocks of a read land
-lands : (a : Adapter) (ios : List Io) (bs : List Block) (frames : List (List ℕ)) (c : Bool) (why : Why) (cells : List ℕ) → land_all a ios bs (map arrived frames ++ (if c then Err why ∷ [] else [])) cells ≡ landed a ios bs frames cells
+pub lands : (a : Adapter) (ios : List Io) (bs : List Block) (frames : List (List ℕ)) (c : Bool) (why : Why) (cells : List ℕ) → land_all a ios bs (map arrived frames ++ (if c then Err why ∷ [] else [])) cells ≡ landed a ios bs frames cells
 lands a ios [] [] c why cells = refl
 lands a ios [] (f ∷ frames) c why cells = refl
 lands a ios (b ∷ bs) [] false why cells = refl
@@ -308,7 +308,7 @@ module _ (m : Setting) (a : Adapter) (ios : List Io) (faults : m.site.faults ≡
 
 -- a command
 
-frames_many : (w k : ℕ) (bytes : List ℕ) → length (frames_of w k bytes) ≡ k
+pub frames_many : (w k : ℕ) (bytes : List ℕ) → length (frames_of w k bytes) ≡ k
 frames_many w zero bytes = refl
 frames_many w (suc k) bytes = ap suc (frames_many w k (drop w bytes))
 
@@ -316,7 +316,7 @@ module _ (m : Setting) (n : ℕ) (ops : List Op) (a : Adapter) (ios : List Io) (
   abbrev bs : List Block
   bs = blocks_in req
 
-  came_length : (o : Outcome) (frames : List (List ℕ)) → length frames ≡ min o.done (size req) → length (came_of (size req) o.done o.sense frames) ≤ length bs
+  pub came_length : (o : Outcome) (frames : List (List ℕ)) → length frames ≡ min o.done (size req) → length (came_of (size req) o.done o.sense frames) ≤ length bs
   came_length o frames e = by (ltb o.done (size req)) refl where
     by : (c : Bool) → ltb o.done (size req) ≡ c → length (map arrived frames ++ (if c then Err (why_ended o.sense) ∷ [] else [])) ≤ length bs
     by true q = let u : o.done < size req = grind (arith, q) in let x = length-append (map arrived frames) (Err (why_ended o.sense) ∷ []) in let y = length-map frames arrived in let z = length-in req in omega (arith, x, y, z, e, u)

@@ -1,4 +1,4 @@
-use Rattle.std.specs.Prelude.{ℕ, ◌+◌, ◌≡◌, Bool, true, false, ◌&&◌, eqb, if◌then◌else◌, List, [], ◌∷◌, ◌++◌, length, get_or, Option, Some, None, Result, Ok, Err}
+use Rattle.std.specs.Prelude.{ℕ, ◌+◌, ◌≡◌, Bool, true, false, ◌&&◌, eqb, if◌then◌else◌, List, [], ◌∷◌, ◌++◌, length, get_or, Option, Some, None, Result, Ok, Err, IfOk}
 use Rattle.bio_core.specs.Bios.{Block}
 use Rattle.bio_core.specs.declared.fate.Fate.{Fate}
 use Rattle.bio_core.specs.declared.fate.Fate.TheVariants.{Bad, Good, Untouched}
@@ -166,3 +166,16 @@ pub record FollowsOn (m : Setting) (n : ℕ) (ops : List Op) (opening : State) (
   pub follows : Follows (told m (recorded m log)) n ops opening status after (recorded m log)
   pub bytes : after.bytes ≡ pages
   pub none_before : NoneBefore status (recorded m log)
+
+-- what is sent of the stored blocks has so many bytes
+abbrev pub AllSized : Setting → Adapter → List Io → (blocks : List (List ℕ)) → (bytes : ℕ) → List Block → Type 0
+AllSized m a ios blocks bytes [] = Unit {0}
+AllSized m a ios blocks bytes (b ∷ bs) =
+    IfOk (m.site.device.sends (route_of a ios b) (get_or blocks (fetched_cell m.site (route_of a ios b)) [])) (λ frame. length frame ≡ bytes) × AllSized m a ios blocks bytes bs
+
+-- After a command was sent over a rig that tells its blocks: the stack follows on, and stored blocks are as told.
+pub record FollowsTold (m : Setting) (n : ℕ) (ops : List Op) (opening : State) (status : ℕ → ℕ → Status) (pages : List ℕ) (blocks : List (List ℕ)) (log : List Entry) : Type 0 where
+  pub after : State
+  pub follows : Follows m n ops opening status after (recorded m log)
+  pub bytes : after.bytes ≡ pages
+  pub blocks_are : after.blocks ≡ blocks

@@ -10,7 +10,10 @@ pub use begin::a_stack_begins;
 pub use end::{
     a_finished_stack_is_backed, a_finished_stack_is_the_walk, a_finished_told_stack_is_carried,
 };
-pub use send::{a_command_is_sent, a_group_is_sent, more_may_stand_on_record};
+pub use send::{
+    a_command_is_sent, a_group_is_sent, a_told_command_is_sent, more_may_stand_on_record,
+    what_was_not_carried_is_not_on_record,
+};
 pub use steps::{
     a_block_is_admitted, a_block_is_carried, a_block_is_cut, a_block_is_settled, an_op_is_done_whole,
     what_may_move_may_over_the_record,
