@@ -53,7 +53,7 @@ bio_turn : (op k dev lba : ℕ) (dir : Dir) (n : ℕ) → InTurn dir dev lba (bl
 bio_turn op k dev lba dir zero = tt
 bio_turn op k dev lba dir (suc n) = ((refl, (refl, refl)), bio_turn op (suc k) dev (suc lba) dir n)
 
-bios_turn : (a : Adapter) (pool : List (List ℕ)) (bytes : ℕ) (ios : List Io) (dev : ℕ) (dir : Dir) (at : ℕ) (req : List Bio) → All (IsBio a pool bytes ios dev dir) req → Chain at req → InTurn dir dev at (blocks_in req)
+pub bios_turn : (a : Adapter) (pool : List (List ℕ)) (bytes : ℕ) (ios : List Io) (dev : ℕ) (dir : Dir) (at : ℕ) (req : List Bio) → All (IsBio a pool bytes ios dev dir) req → Chain at req → InTurn dir dev at (blocks_in req)
 bios_turn a pool bytes ios dev dir at [] h c = tt
 bios_turn a pool bytes ios dev dir at (b ∷ bs) h c =
     let x : IsBio a pool bytes ios dev dir b = h 0 b (omega arith) in

@@ -12,3 +12,4 @@ mod Sends
 mod Over
 mod Recording
 mod Telling
+mod Holding

@@ -1,4 +1,4 @@
-use Rattle.std.proofs.Common.{◌≡◌, ◌⊎◌, inl, inr, ℕ, zero, suc, ◌+◌, Bool, true, false, ◌&&◌, eqb, if◌then◌else◌, List, [], ◌∷◌, ◌++◌, length, replicate, get_or, Option, Some, None, refl, sym, ap, subst, ◌∙◌, arith, append-nil}
+use Rattle.std.proofs.Common.{◌≡◌, ◌⊎◌, inl, inr, ℕ, zero, suc, ◌+◌, Bool, true, false, ◌&&◌, eqb, if◌then◌else◌, List, [], ◌∷◌, ◌++◌, length, map, replicate, get_or, Option, Some, None, refl, sym, ap, subst, ◌∙◌, arith, append-nil}
 use Rattle.std.specs.Prelude.{Result, Ok, Err}
 use Rattle.std.proofs.lemmas.Bool.{eq-eqb, eqb-true, false≢true}
 use Rattle.page_pool.specs.Cells.{gather, scatter}
@@ -18,21 +18,21 @@ use Rattle.block_path.specs.Blocks.{Answer, Sent, fetched_cell, own_cell, stored
 use Rattle.block_path.specs.Moves.{carried_in, carry_in, carry_out}
 use Rattle.block_path.specs.Serial.{plain}
 use Rattle.block_path.specs.WayIn.{Delivers, Spoils, Stops, at_host, from_device, from_wire}
-use Rattle.block_path.specs.WayOut.{Refuses, Stores, WayOut, goes_out}
+use Rattle.block_path.specs.WayOut.{Fails, Refuses, Stores, WayOut, from_adapter, goes_out, to_wire}
 use Rattle.whole_run.specs.Settings.{Setting, route}
 use Rattle.whole_run.specs.Steps.{Alters, Reads, Seals, Sets, Shows, Step, Writes, WritesPi, steps_of}
 use Rattle.run_record.specs.EarlierWrites.{HasLog}
-use Rattle.run_record.specs.Records.{put_sent, stamped, writes_at}
+use Rattle.run_record.specs.Records.{find, put_sent, stamped, writes_at}
 use Rattle.run_moves.specs.BoundRun.{fates, rooms}
 use Rattle.run_moves.specs.OpsApart.{OpsConflict}
 use Rattle.run_moves.specs.ScriptMoves.{lands_in, own_at}
 use Rattle.dix_adapter.specs.declared.adapter.Adapter.{Adapter}
-use Rattle.dix_adapter.specs.Carried.{arrives, carried as fate_of, land}
+use Rattle.dix_adapter.specs.Carried.{arrives, carried as fate_of, land, sends, unsent}
 use Rattle.dix_adapter.specs.Groups.{frame_cells, frame_in, label_of, route_of}
 use Rattle.carried_record.specs.OnRecord.{put_each}
 use Rattle.run_follows.specs.Following.{Becomes, Follows}
 use Rattle.run_follows.specs.Gate.{AreOver, LetsIn, MayMove, Spot, is_over, number, ops_of, parts_at, place}
-use Rattle.run_follows.specs.Sending.{AllComeIn, AllGoOut, AllGoing, Carriage, IsElsewhere, IsGoing, SentIn, SentOut, out_acts, carriage_at, carriage_of, fate_in, in_fates, out_fates, land_all, land_one, with_fate, with_fates, with_status}
+use Rattle.run_follows.specs.Sending.{AllComeIn, AllGoOut, AllGoing, Carriage, HeldBack, IsElsewhere, IsGoing, NoneBefore, SentIn, SentOut, out_acts, carriage_at, carriage_of, fate_in, in_fates, is_carried, out_fates, land_all, land_one, with_fate, with_fates, with_status}
 use Rattle.run_follows.specs.Slots.{Admitted, Carried, Cut, Settled, Status, Waits, parts_of, write_parts}
 use Rattle.run_follows.proofs.Carrying.{carried}
 
@@ -147,24 +147,30 @@ going_rest m n ops a ios logs status b next (x ∷ bs) (s ∷ spots) c e h =
       (h.1.0, going_rest m n ops a ios logs status b next bs spots c e.1 h.1.1),
     )
 
-one_block : (m : Setting) (n : ℕ) (ops : List Op) (a : Adapter) (ios : List Io) (opening now : State) (status : ℕ → ℕ → Status) (es : List Sent) (b : Block) (s : Spot) (c : Act Answer) (e : Sent) (why : Option Why) →
-    IsGoing m n ops a ios (length opening.logs) status b s → (parts_at m n s).carrying ≡ c → Tells m c now e why → Follows m n ops opening status now es →
-    Follows m n ops opening (with_status b.op b.k (Carried why) status) (act c now) (es ++ (e ∷ []))
-one_block m n ops a ios opening now status es b s c e why g q t h =
+-- whatever it puts on record
+put_block : (m : Setting) (n : ℕ) (ops : List Op) (a : Adapter) (ios : List Io) (opening now : State) (status : ℕ → ℕ → Status) (es : List Sent) (b : Block) (s : Spot) (c : Act Answer) (o : Option Sent) (why : Option Why) →
+    IsGoing m n ops a ios (length opening.logs) status b s → (parts_at m n s).carrying ≡ c → (tell c now).sent ≡ o → (tell c now).why ≡ why → Follows m n ops opening status now es →
+    Follows m n ops opening (with_status b.op b.k (Carried why) status) (act c now) (es ++ put_sent o [])
+put_block m n ops a ios opening now status es b s c o why g q put found h =
     let here = subst (λ o. Follows m n o opening status now es) (sym g.script) h in
     let new = with_status b.op b.k (Carried why) status in
     let k = (parts_at m n s).carrying in
-    let told : (tell k now).why ≡ why = ap (λ (x : Act Answer). (tell x now).why) q ∙ t.why_is in
-    let sent : (tell k now).sent ≡ Some e = ap (λ (x : Act Answer). (tell x now).sent) q ∙ t.sent in
+    let told : (tell k now).why ≡ why = ap (λ (x : Act Answer). (tell x now).why) q ∙ found in
+    let sent : (tell k now).sent ≡ o = ap (λ (x : Act Answer). (tell x now).sent) q ∙ put in
     let becomes : Becomes (number s) (place s) (Carried (tell k now).why) status new = record {
       here = with_here b.op b.k (number s) (place s) (Carried why) status g.number g.place ∙ ap (λ w. Carried w) (sym told);
       elsewhere = λ j l f. with_other b.op b.k j l (Carried why) status (λ x y. f (x ∙ sym g.number) (y ∙ sym g.place));
     } in
     let cut : status (number s) (place s) ≡ Cut = ap (λ i. status i (place s)) g.number ∙ ap (status b.op) g.place ∙ g.is_cut in
     let done = carried m n s opening now status new es g.may g.log cut becomes here in
-    subst (λ o. Follows m n o opening new (act c now) (es ++ (e ∷ []))) g.script
-    (subst (λ x. Follows m n (ops_of s) opening new (act x now) (es ++ (e ∷ []))) q
-    (subst (λ o. Follows m n (ops_of s) opening new (act k now) (es ++ put_sent o [])) sent done))
+    subst (λ o'. Follows m n o' opening new (act c now) (es ++ put_sent o [])) g.script
+    (subst (λ x. Follows m n (ops_of s) opening new (act x now) (es ++ put_sent o [])) q
+    (subst (λ e. Follows m n (ops_of s) opening new (act k now) (es ++ put_sent e [])) sent done))
+
+one_block : (m : Setting) (n : ℕ) (ops : List Op) (a : Adapter) (ios : List Io) (opening now : State) (status : ℕ → ℕ → Status) (es : List Sent) (b : Block) (s : Spot) (c : Act Answer) (e : Sent) (why : Option Why) →
+    IsGoing m n ops a ios (length opening.logs) status b s → (parts_at m n s).carrying ≡ c → Tells m c now e why → Follows m n ops opening status now es →
+    Follows m n ops opening (with_status b.op b.k (Carried why) status) (act c now) (es ++ (e ∷ []))
+one_block m n ops a ios opening now status es b s c e why g q t h = put_block m n ops a ios opening now status es b s c (Some e) why g q t.sent t.why_is h
 
 -- the ones behind stay cut
 
@@ -291,3 +297,49 @@ module _ (m : Setting) (n : ℕ) (ops : List Op) (a : Adapter) (ios : List Io) (
         bytes = rest.bytes ∙ ap (λ x. land_all a ios bs cames x) k.bytes;
         blocks = rest.blocks;
       }
+
+-- a write that the adapter holds back
+
+module _ (m : Setting) (n : ℕ) (ops : List Op) (a : Adapter) (ios : List Io) (opening : State) (faults : m.site.faults ≡ a.tamper) where
+  fails_at : (b : Block) (cells : List ℕ) (check : Check) → sends a ios cells b ≡ Err check → goes_out m.site.faults m.site.device (route_of a ios b) (frame_in ios cells b) ≡ Fails (ByAdapter check)
+  fails_at b cells check e = ap (λ x. from_adapter m.site.device (route_of a ios b) (to_wire x (route_of a ios b) (frame_in ios cells b))) faults ∙ ap (from_adapter m.site.device (route_of a ios b)) e
+
+  none_held : (b : Block) (why : Option Why) (status : ℕ → ℕ → Status) (es : List Sent) → status b.op b.k ≡ Cut → NoneBefore status es → NoneBefore (with_status b.op b.k (Carried why) status) es
+  none_held b why status es c h i k e = by (eqb i b.op) (eqb k b.k) refl refl e where
+    by : (x y : Bool) → eqb i b.op ≡ x → eqb k b.k ≡ y → is_carried (if x && y then Carried why else status i k) ≡ false → find (record { op = i; k = k }) es ≡ None
+    by true true p q e = absurd (false≢true (sym e))
+    by true false p q e = h i k e
+    by false y p q e = h i k e
+
+  abbrev pub AllWrites : List Block → Type 0
+  AllWrites [] = Unit {0}
+  AllWrites (b ∷ bs) = (b.dir ≡ Write) × AllWrites bs
+
+  pub held_all : (bs : List Block) (spots : List Spot) (now : State) (status : ℕ → ℕ → Status) (es : List Sent) → AllGoing m n ops a ios (length opening.logs) status bs spots → AllWrites bs →
+      Follows m n ops opening status now es → HeldBack m n ops opening now status (with_fates bs (map unsent (map (sends a ios now.bytes) bs)) status) es
+  held_all [] spots now status es g w h = record { after = now; follows = h; bytes = refl; blocks = refl; none_before = λ k. k }
+  held_all (b ∷ bs) [] now status es g w h = absurd g
+  held_all (b ∷ bs) (s ∷ spots) now status es g w h =
+      by (sends a ios now.bytes b) refl (λ now' status' k f. held_all bs spots now' status' es k w.1 f)
+    where
+      by : (x : Result (List ℕ) Check) → sends a ios now.bytes b ≡ x →
+          ((now' : State) (status' : ℕ → ℕ → Status) → AllGoing m n ops a ios (length opening.logs) status' bs spots → Follows m n ops opening status' now' es → HeldBack m n ops opening now' status' (with_fates bs (map unsent (map (sends a ios now'.bytes) bs)) status') es) →
+          HeldBack m n ops opening now status (with_fates bs (map unsent (map (sends a ios now.bytes) bs)) (with_fate b (unsent x) status)) es
+      by (Ok frame) e f = f now status g.1.1 h
+      by (Err check) e f =
+          let r = route_of a ios b in
+          let c = carry_out m.site r (frame_cells ios b) in
+          let way = fails_at b now.bytes check e in
+          let log = get_or now.logs (own_cell m.site r) [] in
+          let why = Some (ByAdapter check) in
+          let q = carries_out m (own_at (n + rooms m s.front) (place s)) (fates s.front + place s) s.step r (frame_cells ios b) (g.0.carriage ∙ ap (λ d. Some (carriage r d (frame_cells ios b))) w.0) in
+          let one = put_block m n ops a ios opening now status es b s c None why g.0 q (ap (λ x. (written_by r x [] log).answer.sent) way) (ap (λ x. (written_by r x [] log).answer.why) way) h in
+          let there = subst (λ x. Follows m n ops opening (with_status b.op b.k (Carried why) status) (act c now) x) (append-nil es) one in
+          let more = f (act c now) (with_status b.op b.k (Carried why) status) (going_rest m n ops a ios (length opening.logs) status b (Carried why) bs spots g.0.is_cut g.1.0 g.1.1) there in
+          record {
+            after = more.after;
+            follows = more.follows;
+            bytes = more.bytes;
+            blocks = more.blocks ∙ ap (λ x. scatter (stored_cell m.site r ∷ []) (written_by r x [] log).written.blocks now.blocks) way;
+            none_before = λ k. more.none_before (none_held b why status es g.0.is_cut k);
+          }

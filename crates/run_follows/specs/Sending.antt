@@ -179,3 +179,11 @@ pub record FollowsTold (m : Setting) (n : ℕ) (ops : List Op) (opening : State)
   pub follows : Follows m n ops opening status after (recorded m log)
   pub bytes : after.bytes ≡ pages
   pub blocks_are : after.blocks ≡ blocks
+
+-- After the adapter held a write back: the stack follows on with these fates; pages, stored blocks and record are as they were.
+pub record HeldBack (m : Setting) (n : ℕ) (ops : List Op) (opening now : State) (old new : ℕ → ℕ → Status) (es : List Sent) : Type 0 where
+  pub after : State
+  pub follows : Follows m n ops opening new after es
+  pub bytes : after.bytes ≡ now.bytes
+  pub blocks : after.blocks ≡ now.blocks
+  pub none_before : NoneBefore old es → NoneBefore new es

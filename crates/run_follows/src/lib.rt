@@ -11,7 +11,8 @@ pub use end::{
     a_finished_stack_is_backed, a_finished_stack_is_the_walk, a_finished_told_stack_is_carried,
 };
 pub use send::{
-    a_command_is_sent, a_group_is_sent, a_told_command_is_sent, more_may_stand_on_record,
+    a_command_is_sent, a_group_is_sent, a_told_command_is_sent, a_write_is_held_back,
+    more_may_stand_on_record,
     what_was_not_carried_is_not_on_record,
 };
 pub use steps::{

@@ -11,7 +11,7 @@ ghost use Rattle.bio_core.specs.declared.fate.Fate.{Fate as AnyFate};
 ghost use Rattle.bio_core.specs.declared.request.Dir.TheVariants.{Read, Write};
 ghost use Rattle.page_pool.specs.Cells.{flat};
 ghost use Rattle.run_record.specs.Records.{recorded};
-ghost use Rattle.dix_adapter.specs.Carried.{Shown, any_bad, frame_len, sends};
+ghost use Rattle.dix_adapter.specs.Carried.{Shown, Unsent, any_bad, frame_len, sends};
 ghost use Rattle.dix_adapter.specs.Groups.{IsGroup, IsProtect, blocks_in, first_of};
 ghost use Rattle.dix_adapter.specs.Ways.{CameIn, RecordedIn, RecordedOut, WentOut, blocks_told, shapes_of, site_of};
 ghost use Rattle.target_answer.specs.Target.{Stored};
@@ -21,7 +21,7 @@ ghost use Rattle.block_path.specs.Blocks.{Sent};
 ghost use Rattle.whole_run.specs.Settings.{Setting};
 ghost use Rattle.run_record.specs.ToldRun.{came_by, told};
 ghost use Rattle.run_follows.specs.Following.{Follows};
-ghost use Rattle.run_follows.specs.Sending.{AllComeIn, AllGoOut, AllGoing, AllSized, FollowsOn, FollowsTold, NoneBefore, SentIn, SentOut, is_carried, with_fates};
+ghost use Rattle.run_follows.specs.Sending.{AllComeIn, AllGoOut, AllGoing, AllSized, FollowsOn, FollowsTold, HeldBack, NoneBefore, SentIn, SentOut, is_carried, with_fates};
 ghost use Rattle.run_follows.specs.Gate.{Spot};
 ghost use Rattle.run_follows.specs.Slots.{Status, Waits};
 
@@ -43,6 +43,16 @@ pub fn a_group_is_sent()
         (cames : List (Result (List ℕ) AnyWhy))
         → m.site.faults ≡ a.tamper → AllGoing m n ops a ios (length opening.logs) status bs spots → AllComeIn m a ios now.blocks bs cames → Follows m n ops opening status now es
         → SentIn m n ops a ios opening now bs cames status es }
+{}
+
+/// The adapter finds a block of a write bad and sends nothing: each bad block has that fate, and the others stay cut. This
+/// is over whatever is behind the adapter, so over the record too.
+pub fn a_write_is_held_back()
+    ensures { (m : Setting) (n : ℕ) (ops : List AnyOp) (a : AnyAdapter) (ios : List AnyIo) (req : List AnyBio) (pool pool' : List (List ℕ)) (fates : List AnyFate) (opening now : State)
+        (status : ℕ → ℕ → Status) (es : List Sent) (spots : List Spot)
+        → IsGroup a pool m.size ios req → (first_of req).dir ≡ Write → m.site.faults ≡ a.tamper → Unsent a ios req pool pool' fates
+        → AllGoing m n ops a ios (length opening.logs) status (blocks_in req) spots → now.bytes ≡ flat pool → Follows m n ops opening status now es
+        → HeldBack m n ops opening now status (with_fates (blocks_in req) fates status) es }
 {}
 
 /// A command is sent over any rig, as the adapter says: what came of its blocks stands on record, and the stack follows

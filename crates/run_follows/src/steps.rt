@@ -15,6 +15,10 @@ ghost use Rattle.whole_run.specs.Settings.{Setting};
 ghost use Rattle.run_record.specs.ToldRun.{told};
 ghost use Rattle.run_follows.specs.Following.{Becomes, Follows};
 ghost use Rattle.run_follows.specs.Gate.{AllPlaced, BecomesDone, IsAlone, LetsIn, MayMove, Spot, number, ops_of, parts_at, place};
+ghost use Rattle.bio_core.specs.Bios.{Block as AnyBlock};
+ghost use Rattle.bio_core.specs.declared.request.Io.{Io as AnyIo};
+ghost use Rattle.dix_adapter.specs.declared.adapter.Adapter.{Adapter as AnyAdapter};
+ghost use Rattle.run_follows.specs.Sending.{AllGoing};
 ghost use Rattle.run_follows.specs.Slots.{Admitted, Carried, Cut, Settled, Status, Waits};
 
 /// A block of a request is admitted: where the block layer makes its tuple, that is made.
@@ -62,5 +66,7 @@ pub fn what_may_move_may_over_the_record()
     ensures moves { (m : Setting) (es : List Sent) (n : ℕ) (s : Spot) → let p = parts_at (told m es) n s in let q = parts_at m n s in (p.made ≡ q.made) × ((p.cut ≡ q.cut) × (p.settled ≡ q.settled)) }
     ensures acts { (m : Setting) (es : List Sent) (i : ℕ) (op : AnyOp) → IsAlone op → acts_of (told m es) i op ≡ acts_of m i op }
     ensures lets { (m : Setting) (es : List Sent) (status : ℕ → ℕ → Status) (i j : ℕ) (ops : List AnyOp) (op : AnyOp) → LetsIn m status i ops j op → LetsIn (told m es) status i ops j op }
+    ensures going { (m : Setting) (es : List Sent) (n : ℕ) (ops : List AnyOp) (a : AnyAdapter) (ios : List AnyIo) (logs : ℕ) (status : ℕ → ℕ → Status) (bs : List AnyBlock) (spots : List Spot)
+        → AllGoing m n ops a ios logs status bs spots → AllGoing (told m es) n ops a ios logs status bs spots }
     ensures placed { (m : Setting) (es : List Sent) (n : ℕ) (ops : List AnyOp) → AllPlaced m n ops → AllPlaced (told m es) n ops }
 {}

@@ -1,5 +1,5 @@
 use Rattle.run_record.specs.ToldRun.{came_by}
-use Rattle.run_follows.proofs.Over.{acts_over, all_placed_over, lets_over, may_over, moves_over}
+use Rattle.run_follows.proofs.Over.{acts_over, all_placed_over, going_over, lets_over, may_over, moves_over}
 use Rattle.run_follows.proofs.steps.what_may_move_may_over_the_record.Goals as goal
 
 pub returns-clause-may : goal.returns-clause-may
@@ -16,3 +16,6 @@ returns-clause-lets c = λ m es status i j ops op h. lets_over m (came_by es) st
 
 pub returns-clause-placed : goal.returns-clause-placed
 returns-clause-placed c = λ m es n ops h. all_placed_over m (came_by es) n ops h
+
+pub returns-clause-going : goal.returns-clause-going
+returns-clause-going c = λ m es n ops a ios logs status bs spots h. going_over m (came_by es) n ops a ios logs status bs spots h
