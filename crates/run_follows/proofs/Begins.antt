@@ -1,15 +1,14 @@
-use Rattle.std.proofs.Common.{◌≡◌, ℕ, suc, ◌+◌, List, [], ◌∷◌, ◌++◌, length, get_or, Option, None, refl, sym, ap, ◌∙◌}
+use Rattle.std.proofs.Common.{◌≡◌, ℕ, suc, ◌+◌, List, [], ◌∷◌, ◌++◌, get_or, None, refl, sym, ap, ◌∙◌}
 use Rattle.stack_ops.specs.declared.op.Op.{Op}
-use Rattle.block_path.specs.Acts.{Act, State, act, conflict, tell}
+use Rattle.block_path.specs.Acts.{State, act, conflict, tell}
 use Rattle.block_path.specs.Blocks.{Answer}
-use Rattle.block_path.specs.Serial.{Serial, none_done}
-use Rattle.block_path.proofs.Acts.{commutes}
+use Rattle.block_path.specs.Serial.{none_done}
 use Rattle.block_path.proofs.Serial.{begins}
 use Rattle.whole_run.specs.Settings.{Setting}
 use Rattle.whole_run.specs.Steps.{Step, steps_of}
 use Rattle.run_moves.specs.ScriptMoves.{all_moves, blocks_from, blocks_of, by_moves, fates_of, moves_from, own_at, room_of, script_moves}
-use Rattle.run_follows.specs.Following.{AllStand, Follows, StandFrom, sents_so_far}
-use Rattle.run_follows.specs.Slots.{Stands, Status, Waits, parts_of}
+use Rattle.run_follows.specs.Following.{AllStand, Follows, StandFrom}
+use Rattle.run_follows.specs.Slots.{Status, Waits}
 use Rattle.run_follows.proofs.Runs.{Moves, none_far, sents_none}
 
 -- At first.
@@ -26,11 +25,16 @@ module _ (m : Setting) where
   steps_wait from fate k [] = refl
   steps_wait from fate k (step ∷ steps) =
       let b = by_moves m (own_at from k) (fate + k) step in
-      let rest = all_moves (blocks_from m from fate (suc k) steps) in
-      ([], (none_done rest, (
-        none_join b.moves rest ∙ ap (λ t. t ++ none_done rest) (sym (none_far b.moves)),
-        (record { count = refl; sent = refl; tells = tt }, steps_wait from fate (suc k) steps),
-      )))
+      let rest = all_moves (blocks_from m from fate (suc k) steps) in (
+        [],
+        (
+          none_done rest,
+          (
+            none_join b.moves rest ∙ ap (λ t. t ++ none_done rest) (sym (none_far b.moves)),
+            (record { count = refl; sent = refl; tells = tt }, steps_wait from fate (suc k) steps),
+          ),
+        ),
+      )
 
   ops_wait : (from fate i : ℕ) (ops : List Op) → AllStand m from fate i ops all_wait (none_done (moves_from m from fate i ops))
   ops_wait from fate i [] = refl

@@ -1,27 +1,25 @@
-use Rattle.std.proofs.Common.{◌≡◌, ◌<◌, ℕ, zero, suc, ◌+◌, Bool, true, false, ◌&&◌, eqb, List, [], ◌∷◌, ◌++◌, length, drop, get_or, set, Option, Some, None, refl, sym, ap, subst, ◌∙◌, arith, append-nil, length-append}
+use Rattle.std.proofs.Common.{◌≡◌, ◌<◌, ℕ, zero, suc, ◌+◌, Bool, true, false, ◌&&◌, eqb, List, [], ◌∷◌, ◌++◌, length, get_or, set, Option, Some, None, refl, sym, ap, subst, ◌∙◌, arith, append-nil, length-append}
 use Rattle.std.specs.Prelude.{Result, Ok, Err}
-use Rattle.std.proofs.lemmas.Bool.{eq-eqb, eqb-false, eqb-true}
+use Rattle.std.proofs.lemmas.Bool.{eqb-false, eqb-true}
 use Rattle.std.proofs.lemmas.List.{append_assoc, get_or-set_other, get_or-set_same, length-set}
 use Rattle.page_pool.specs.Cells.{gather, scatter}
 use Rattle.bio_core.specs.declared.fate.Why.{Why}
-use Rattle.bio_core.specs.declared.request.Dir.TheVariants.{Read, Write}
 use Rattle.block_path.specs.declared.route.Route.{Route}
-use Rattle.block_path.specs.Acts.{Act, Effect, State, act, conflict, effect, tell}
+use Rattle.block_path.specs.Acts.{Act, Effect, State, act, tell}
 use Rattle.block_path.specs.Blocks.{Answer, Sent, Site, fetched_cell, own_cell, silent, written_by}
 use Rattle.block_path.specs.Moves.{carried_in, carry_in, carry_out}
-use Rattle.block_path.specs.Serial.{all_done, plain, plain_tells}
 use Rattle.block_path.specs.WayIn.{Delivers, Spoils, Stops, WayIn, comes_in}
 use Rattle.block_path.specs.WayOut.{Fails, Refuses, Stores, WayOut, goes_out}
-use Rattle.whole_run.specs.Settings.{Block, Setting, route}
+use Rattle.whole_run.specs.Settings.{Setting, route}
 use Rattle.whole_run.specs.Steps.{Alters, Reads, Seals, Sets, Shows, Step, Writes, WritesPi}
 use Rattle.run_record.specs.EarlierWrites.{HasLog}
-use Rattle.run_record.specs.Records.{Mixed, is_out, put_frame, put_sent, sents, writes_at}
+use Rattle.run_record.specs.Records.{Mixed, is_out, put_frame, put_sent, writes_at}
 use Rattle.run_moves.specs.BoundRun.{fates, rooms}
 use Rattle.run_moves.specs.ScriptMoves.{by_moves, lands_in, own_at}
-use Rattle.run_follows.specs.Following.{AllStand, Becomes, Follows, sents_so_far}
+use Rattle.run_follows.specs.Following.{Becomes, Follows, sents_so_far}
 use Rattle.run_follows.specs.Gate.{MayMove, Spot, number, ops_of, parts_at, place}
-use Rattle.run_follows.specs.Slots.{Carried, Cut, Parts, Stands, Status, before_carrying, moves_in, parts_of, write_parts}
-use Rattle.run_follows.proofs.Runs.{Done, Moves, Turn, sents_after, sents_before, sents_both}
+use Rattle.run_follows.specs.Slots.{Carried, Cut, Status, before_carrying, parts_of, write_parts}
+use Rattle.run_follows.proofs.Runs.{sents_after, sents_before, sents_both}
 use Rattle.run_follows.proofs.Standing.{BlockTurns}
 use Rattle.run_follows.proofs.Moving.{Stretch, block_turns, follow_turn, spot_turn}
 
@@ -31,14 +29,13 @@ use Rattle.run_follows.proofs.Moving.{Stretch, block_turns, follow_turn, spot_tu
 
 pub mixed_more : {X : Type 0} (xs ys zs : List X) (x : X) → Mixed (xs ++ ys) zs → Mixed (xs ++ (x ∷ ys)) (zs ++ (x ∷ []))
 mixed_more [] ys zs x h = (zs, ([], (refl, subst (Mixed ys) (sym (append-nil zs)) h)))
-mixed_more (w ∷ xs) ys zs x h =
-    (
-      h.0,
-      (
-        h.1.0 ++ (x ∷ []),
-        (ap (λ t. t ++ (x ∷ [])) h.1.1.0 ∙ append_assoc h.0 (w ∷ h.1.0) (x ∷ []), subst (Mixed (xs ++ (x ∷ ys))) (append_assoc h.0 h.1.0 (x ∷ [])) (mixed_more xs ys (h.0 ++ h.1.0) x h.1.1.1)),
-      ),
-    )
+mixed_more (w ∷ xs) ys zs x h = (
+  h.0,
+  (
+    h.1.0 ++ (x ∷ []),
+    (ap (λ t. t ++ (x ∷ [])) h.1.1.0 ∙ append_assoc h.0 (w ∷ h.1.0) (x ∷ []), subst (Mixed (xs ++ (x ∷ ys))) (append_assoc h.0 h.1.0 (x ∷ [])) (mixed_more xs ys (h.0 ++ h.1.0) x h.1.1.1)),
+  ),
+)
 
 mixed_put : (o : Option Sent) (xs ys zs : List Sent) → Mixed (xs ++ ys) zs → Mixed (xs ++ (put_sent o [] ++ ys)) (zs ++ put_sent o [])
 mixed_put None xs ys zs h = subst (Mixed (xs ++ ys)) (sym (append-nil zs)) h

@@ -1,4 +1,4 @@
-use Rattle.std.proofs.Common.{◌≡◌, ℕ, zero, suc, ◌+◌, ◌%◌, ◌^◌, Bool, true, false, List, [], ◌∷◌, ◌++◌, length, map, take, drop, get_or, Option, Some, None, refl, sym, ap, subst, ◌∙◌, arith, length-append}
+use Rattle.std.proofs.Common.{◌≡◌, ℕ, zero, suc, ◌+◌, Bool, true, false, List, [], ◌∷◌, ◌++◌, length, map, take, drop, get_or, Option, Some, None, refl, sym, ap, subst, ◌∙◌, arith, length-append}
 use Rattle.integrity_payload.specs.declared.payload.Owner.TheVariants.{Block as OfBlock, App as OfApp}
 use Rattle.bio_core.specs.declared.fate.Why.{Why}
 use Rattle.stack_ops.specs.declared.op.Op.{Op}
@@ -13,12 +13,12 @@ use Rattle.whole_run.specs.Settings.{Setting, block_of}
 use Rattle.whole_run.specs.Steps.{Alters, Reads, Seals, Sets, Shows, Step, Writes, WritesPi, body_of, each_from, frame_at, steps_of}
 use Rattle.run_record.specs.Records.{Mixed, put_sent, sents}
 use Rattle.run_moves.specs.BoundRun.{IsBoundRun}
-use Rattle.run_moves.specs.ScriptMoves.{ByMoves, all_moves, answers_from, blocks_from, blocks_of, by_moves, carried_by, fates_of, joins, moves_from, own_at, replies_from_moves, room_of, script_moves}
+use Rattle.run_moves.specs.ScriptMoves.{all_moves, answers_from, blocks_from, blocks_of, by_moves, carried_by, fates_of, joins, moves_from, own_at, replies_from_moves, room_of, script_moves}
 use Rattle.run_moves.proofs.Ordered.{once_done}
 use Rattle.run_follows.specs.Finished.{AllEnded, EndsAsWalk, HasEnded, HaveEnded, answer_of, answers_of, replies_of}
 use Rattle.run_follows.specs.Following.{AllStand, Follows, StandFrom, sents_so_far}
-use Rattle.run_follows.specs.Slots.{Done as AllDone, Parts, Settled, Stands, Status, Tells, before_carrying, done_by, moves_in, parts_of, so_far, write_parts}
-use Rattle.run_follows.proofs.Runs.{Done, Moves, all_both, far_whole, sents_all, sents_both}
+use Rattle.run_follows.specs.Slots.{Done as AllDone, Parts, Settled, Status, Tells, before_carrying, done_by, moves_in, parts_of, write_parts}
+use Rattle.run_follows.proofs.Runs.{Done, all_both, far_whole, sents_all, sents_both}
 use Rattle.run_follows.proofs.Standing.{moves_length, parts_are}
 
 -- Once all has ended.

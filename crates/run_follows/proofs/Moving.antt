@@ -1,13 +1,12 @@
-use Rattle.std.proofs.Common.{◌≡◌, ◌<◌, ◌≤◌, ◌⊎◌, inl, inr, ℕ, zero, suc, ◌+◌, Bool, true, false, List, [], ◌∷◌, ◌++◌, length, get_or, Option, Some, None, refl, sym, ap, subst, ◌∙◌, arith, append-nil, length-append}
+use Rattle.std.proofs.Common.{◌≡◌, ◌<◌, ◌≤◌, ◌⊎◌, inl, inr, ℕ, zero, suc, ◌+◌, List, [], ◌∷◌, ◌++◌, length, get_or, Option, refl, sym, ap, subst, ◌∙◌, arith, append-nil, length-append}
 use Rattle.std.proofs.lemmas.List.{append_assoc}
 use Rattle.bio_core.specs.declared.fate.Why.{Why}
 use Rattle.stack_ops.specs.declared.op.Op.{Op}
 use Rattle.block_path.specs.Acts.{Act, State, act, conflict, tell}
 use Rattle.block_path.specs.Blocks.{Answer, Sent, silent}
-use Rattle.block_path.specs.Moves.{first_why}
-use Rattle.block_path.specs.Serial.{all_done, none_done, plain, plain_tells}
-use Rattle.whole_run.specs.Settings.{Block, Setting}
-use Rattle.whole_run.specs.Steps.{Alters, Reads, Seals, Sets, Shows, Step, Writes, WritesPi, steps_of}
+use Rattle.block_path.specs.Serial.{all_done, plain, plain_tells}
+use Rattle.whole_run.specs.Settings.{Setting}
+use Rattle.whole_run.specs.Steps.{Step}
 use Rattle.run_record.specs.Records.{Mixed, put_sent, sents, writes_at}
 use Rattle.run_moves.specs.BoundRun.{fates, rooms}
 use Rattle.run_moves.specs.OpsApart.{NoneMeet}
@@ -16,7 +15,7 @@ use Rattle.run_moves.proofs.BlocksApart.{blocks_apart}
 use Rattle.run_follows.specs.Following.{AllStand, Becomes, Follows, StandFrom, sents_so_far}
 use Rattle.run_follows.specs.Gate.{MayMove, Spot, number, ops_of, parts_at, place}
 use Rattle.run_follows.specs.Slots.{Admitted, Carried, Cut, Parts, Settled, Stands, Status, Waits, before_carrying, done_by, moves_in, parts_of, so_far}
-use Rattle.run_follows.proofs.Runs.{AllQuiet, Done, IsQuiet, Moves, Turn, midst_apart, of_block, quiet_logs, quiet_sents, sents_after, sents_before, sents_both, tells_length, turn_serial}
+use Rattle.run_follows.proofs.Runs.{AllQuiet, Done, Moves, Turn, midst_apart, of_block, quiet_logs, quiet_sents, sents_after, sents_before, sents_both, tells_length, turn_serial}
 use Rattle.run_follows.proofs.Standing.{BlockTurns, OpTurns, gate_clears, op_turn, parts_are, step_turn}
 
 -- One block moves on.

@@ -1,4 +1,4 @@
-use Rattle.std.proofs.Common.{◌≡◌, ◌⊎◌, inl, inr, ℕ, zero, suc, ◌+◌, ◌%◌, ◌^◌, Bool, true, false, List, [], ◌∷◌, ◌++◌, length, map, refl, sym, ap, subst, ◌∙◌}
+use Rattle.std.proofs.Common.{◌≡◌, ◌⊎◌, inl, inr, ℕ, zero, suc, ◌+◌, ◌%◌, ◌^◌, Bool, true, false, List, [], ◌∷◌, map, refl, sym, ap, subst, ◌∙◌}
 use Rattle.bio_core.specs.Bios.{Block}
 use Rattle.bio_core.specs.declared.request.Io.{Io}
 use Rattle.page_pool.specs.Places.{total}
@@ -13,8 +13,8 @@ use Rattle.run_moves.specs.BoundRun.{fates, rooms}
 use Rattle.run_moves.specs.OpsApart.{HasBlocks, IsPlaced, IsSpread, OpsConflict}
 use Rattle.run_moves.specs.ScriptMoves.{own_at, room_of}
 use Rattle.dix_adapter.specs.declared.adapter.Adapter.{Adapter}
-use Rattle.run_follows.specs.Gate.{AllPlaced, AreOver, IsAlone, LetsIn, MayMove, Spot, number, ops_of, parts_at, place}
-use Rattle.run_follows.specs.Sending.{AllGoing, IsGoing, carriage_at, carriage_of}
+use Rattle.run_follows.specs.Gate.{AllPlaced, AreOver, IsAlone, LetsIn, MayMove, Spot, number, parts_at, place}
+use Rattle.run_follows.specs.Sending.{AllGoing, carriage_of}
 use Rattle.run_follows.specs.Slots.{Status, parts_of, write_parts}
 use Rattle.run_follows.proofs.Switch.{Told, over}
 
@@ -123,8 +123,7 @@ module _ (m : Setting) (came : Told) where
   going_over n ops a ios logs status (b ∷ bs) [] h = absurd h
   going_over n ops a ios logs status (b ∷ bs) (s ∷ spots) h =
       let g = h.0 in
-      let carriage = sym (ap (λ r. carriage_of m (own_at (n + r) (place s)) s.step) (same_rooms s.front) ∙ carriage_over (own_at (n + rooms (over m came) s.front) (place s)) s.step) ∙ g.carriage in
-      (
+      let carriage = sym (ap (λ r. carriage_of m (own_at (n + r) (place s)) s.step) (same_rooms s.front) ∙ carriage_over (own_at (n + rooms (over m came) s.front) (place s)) s.step) ∙ g.carriage in (
         record { script = g.script; number = g.number; place = g.place; carriage = carriage; log = log_over logs s.step g.log; is_cut = g.is_cut; may = may_over n status s g.may },
         (h.1.0, going_over n ops a ios logs status bs spots h.1.1),
       )

@@ -1,18 +1,17 @@
-use Rattle.std.proofs.Common.{◌≡◌, ◌<◌, ℕ, zero, suc, ◌+◌, Bool, true, false, List, [], ◌∷◌, ◌++◌, length, drop, get_or, Option, Some, None, refl, sym, ap, ◌∙◌, arith}
+use Rattle.std.proofs.Common.{◌≡◌, ◌<◌, ℕ, zero, suc, Bool, true, false, List, [], ◌∷◌, ◌++◌, length, get_or, Option, Some, None, refl, sym, ap, ◌∙◌, arith}
 use Rattle.bio_core.specs.declared.fate.Why.{Why}
 use Rattle.integrity_payload.specs.declared.payload.Owner.{Owner}
 use Rattle.pi_tuple.specs.declared.checks.Check.{Check}
-use Rattle.std.specs.Prelude.{Result, Ok, Err}
 use Rattle.block_path.specs.declared.route.Route.{Route}
 use Rattle.block_path.specs.Acts.{State, act, tell}
 use Rattle.block_path.specs.Blocks.{Answer, silent}
-use Rattle.block_path.specs.Moves.{first_why, left_by, make_tuple, map_back, map_out, settle, settled_by}
+use Rattle.block_path.specs.Moves.{first_why, left_by, settle, settled_by}
 use Rattle.block_path.specs.Serial.{plain_tells}
-use Rattle.block_path.specs.WayIn.{Delivers, delivered_unless, mapped_back, owner_finds}
-use Rattle.whole_run.specs.Settings.{Block, Setting, route}
+use Rattle.block_path.specs.WayIn.{delivered_unless, mapped_back, owner_finds}
+use Rattle.whole_run.specs.Settings.{Setting, route}
 use Rattle.whole_run.specs.Steps.{Alters, Reads, Seals, Sets, Shows, Step, Writes, WritesPi}
 use Rattle.run_moves.specs.ScriptMoves.{by_moves, carried_by, lands_in}
-use Rattle.run_follows.specs.Slots.{Parts, before_carrying, parts_of, write_parts}
+use Rattle.run_follows.specs.Slots.{before_carrying, parts_of, write_parts}
 use Rattle.run_follows.proofs.Runs.{AllQuiet, IsQuiet}
 
 -- Moves in pages alone leave the record as it is; what settling finds.

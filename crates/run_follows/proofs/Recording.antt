@@ -1,21 +1,18 @@
-use Rattle.std.proofs.Common.{◌≡◌, ◌<◌, ◌≤◌, ◌⊎◌, inl, inr, ℕ, zero, suc, ◌+◌, ◌-◌, Bool, true, false, ◌&&◌, ◌||◌, eqb, if◌then◌else◌, List, [], ◌∷◌, ◌++◌, length, map, take, drop, replicate, get_or, Option, Some, None, refl, sym, ap, subst, ◌∙◌, arith, append-nil, length-append}
+use Rattle.std.proofs.Common.{◌≡◌, ◌<◌, ◌≤◌, ℕ, zero, suc, ◌-◌, Bool, true, false, ◌&&◌, ◌||◌, eqb, if◌then◌else◌, List, [], ◌∷◌, ◌++◌, length, map, take, drop, replicate, Option, Some, None, refl, sym, ap, subst, ◌∙◌, arith, length-append}
 use Rattle.std.specs.Prelude.{Result, Ok, Err, min, ltb}
 use Rattle.std.proofs.lemmas.Bool.{eq-eqb, eqb-true, false≢true}
 use Rattle.std.proofs.lemmas.List.{length-map, length-take}
 use Rattle.page_pool.specs.Cells.{flat}
 use Rattle.pi_tuple.specs.declared.checks.Check.{Check}
-use Rattle.sense_codes.specs.declared.Sense.{Sense}
 use Rattle.fault_schedule.specs.declared.Label.{Label}
 use Rattle.target_answer.specs.Frames.{frames_of}
 use Rattle.rig_api.specs.declared.rig.Outcome.{Outcome}
-use Rattle.rig_api.specs.Log.{Entry}
 use Rattle.bio_core.specs.Bios.{Block}
 use Rattle.bio_core.specs.declared.bio.Bio.{Bio}
 use Rattle.bio_core.specs.declared.fate.Fate.{Fate}
 use Rattle.bio_core.specs.declared.fate.Fate.TheVariants.{Bad, Good, Untouched}
 use Rattle.bio_core.specs.declared.fate.Why.{Why}
 use Rattle.bio_core.specs.declared.fate.Why.TheVariants.{Adapter as ByAdapter}
-use Rattle.bio_core.specs.declared.request.Dir.{Dir}
 use Rattle.bio_core.specs.declared.request.Dir.TheVariants.{Read, Write}
 use Rattle.bio_core.specs.declared.request.Io.{Io}
 use Rattle.stack_ops.specs.declared.op.Op.{Op}
@@ -38,8 +35,8 @@ use Rattle.carried_record.proofs.Named.{named_alike}
 use Rattle.carried_record.proofs.Puts.{InTurn, goes_in, goes_out as went_out, turn}
 use Rattle.run_follows.specs.Following.{Follows}
 use Rattle.run_follows.specs.Gate.{Spot}
-use Rattle.run_follows.specs.Sending.{AllComeIn, AllGoOut, AllGoing, FollowsOn, IsElsewhere, NoneBefore, fate_in, in_fates, is_carried, land_all, out_fates, with_fate, with_fates, with_status}
-use Rattle.run_follows.specs.Slots.{Carried, Cut, Status}
+use Rattle.run_follows.specs.Sending.{AllComeIn, AllGoOut, AllGoing, FollowsOn, IsElsewhere, NoneBefore, in_fates, is_carried, land_all, out_fates, with_fate, with_fates, with_status}
+use Rattle.run_follows.specs.Slots.{Carried, Status}
 use Rattle.run_follows.proofs.Over.{going_over}
 use Rattle.run_follows.proofs.Sends.{in_all, out_all, with_here, with_other}
 use Rattle.run_follows.proofs.Switch.{switch}
@@ -175,8 +172,7 @@ module _ (m : Setting) (n : ℕ) (ops : List Op) (a : Adapter) (ios : List Io) (
   each_came status (b ∷ bs) [] (c ∷ cames) es g h = absurd g
   each_came status (b ∷ bs) (s ∷ spots) (c ∷ cames) es g h =
       let e = stamped m.site es (label_of b) b.dir b.dev b.lba c in
-      let es' = es ++ (e ∷ []) in
-      (
+      let es' = es ++ (e ∷ []) in (
         ap came_in (find_put m.site b.op b.k bs cames es' (elsewhere_none b bs g.1.0) ∙ find_last (label_of b) es e (same_numbers b.op b.k) h.0),
         each_came status bs spots cames es' g.1.1 (none_still es b e bs refl g.1.0 h.1),
       )
@@ -297,8 +293,7 @@ module _ (m : Setting) (a : Adapter) (ios : List Io) (faults : m.site.faults ≡
   goes_all dev lba es cells (b ∷ bs) zero true why l u t good h = (t.0.0, (refuses es b cells why (sends a ios cells b) refl (both_false (is_bad (sends a ios cells b)) (any_bad (map (sends a ios cells) bs)) good).0 h.0, refl))
   goes_all dev lba es cells (b ∷ bs) zero false why l u t good h = tt
   goes_all dev lba es cells (b ∷ bs) (suc k) c why l u t good h =
-      let g = both_false (is_bad (sends a ios cells b)) (any_bad (map (sends a ios cells) bs)) good in
-      (
+      let g = both_false (is_bad (sends a ios cells b)) (any_bad (map (sends a ios cells) bs)) good in (
         t.0.0,
         (
           (frame_sent (sends a ios cells b), stores es b cells (frame_sent (sends a ios cells b)) (sends a ios cells b) refl g.0 refl h.0),

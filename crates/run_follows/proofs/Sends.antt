@@ -1,11 +1,9 @@
-use Rattle.std.proofs.Common.{◌≡◌, ◌⊎◌, inl, inr, ℕ, zero, suc, ◌+◌, Bool, true, false, ◌&&◌, eqb, if◌then◌else◌, List, [], ◌∷◌, ◌++◌, length, map, replicate, get_or, Option, Some, None, refl, sym, ap, subst, ◌∙◌, arith, append-nil}
+use Rattle.std.proofs.Common.{◌≡◌, ◌⊎◌, inl, inr, ℕ, suc, ◌+◌, Bool, true, false, ◌&&◌, eqb, if◌then◌else◌, List, [], ◌∷◌, ◌++◌, length, map, get_or, Option, Some, None, refl, sym, ap, subst, ◌∙◌, append-nil}
 use Rattle.std.specs.Prelude.{Result, Ok, Err}
 use Rattle.std.proofs.lemmas.Bool.{eq-eqb, eqb-true, false≢true}
 use Rattle.page_pool.specs.Cells.{gather, scatter}
 use Rattle.pi_tuple.specs.declared.checks.Check.{Check}
 use Rattle.bio_core.specs.Bios.{Block}
-use Rattle.bio_core.specs.declared.fate.Fate.{Fate}
-use Rattle.bio_core.specs.declared.fate.Fate.TheVariants.{Bad, Good, Untouched}
 use Rattle.bio_core.specs.declared.fate.Why.{Why}
 use Rattle.bio_core.specs.declared.fate.Why.TheVariants.{Adapter as ByAdapter}
 use Rattle.bio_core.specs.declared.request.Dir.{Dir}
@@ -14,26 +12,24 @@ use Rattle.bio_core.specs.declared.request.Io.{Io}
 use Rattle.stack_ops.specs.declared.op.Op.{Op}
 use Rattle.block_path.specs.declared.route.Route.{Route}
 use Rattle.block_path.specs.Acts.{Act, Effect, State, act, effect, tell}
-use Rattle.block_path.specs.Blocks.{Answer, Sent, fetched_cell, own_cell, stored_cell, written_by}
+use Rattle.block_path.specs.Blocks.{Answer, Sent, own_cell, stored_cell, written_by}
 use Rattle.block_path.specs.Moves.{carried_in, carry_in, carry_out}
-use Rattle.block_path.specs.Serial.{plain}
-use Rattle.block_path.specs.WayIn.{Delivers, Spoils, Stops, at_host, from_device, from_wire}
-use Rattle.block_path.specs.WayOut.{Fails, Refuses, Stores, WayOut, from_adapter, goes_out, to_wire}
+use Rattle.block_path.specs.WayIn.{at_host, from_device, from_wire}
+use Rattle.block_path.specs.WayOut.{Fails, Refuses, Stores, from_adapter, goes_out, to_wire}
 use Rattle.whole_run.specs.Settings.{Setting, route}
 use Rattle.whole_run.specs.Steps.{Alters, Reads, Seals, Sets, Shows, Step, Writes, WritesPi, steps_of}
-use Rattle.run_record.specs.EarlierWrites.{HasLog}
 use Rattle.run_record.specs.Records.{find, put_sent, stamped, writes_at}
 use Rattle.run_moves.specs.BoundRun.{fates, rooms}
 use Rattle.run_moves.specs.OpsApart.{OpsConflict}
-use Rattle.run_moves.specs.ScriptMoves.{lands_in, own_at}
+use Rattle.run_moves.specs.ScriptMoves.{own_at}
 use Rattle.dix_adapter.specs.declared.adapter.Adapter.{Adapter}
 use Rattle.dix_adapter.specs.Carried.{arrives, carried as fate_of, land, sends, unsent}
 use Rattle.dix_adapter.specs.Groups.{frame_cells, frame_in, label_of, route_of}
 use Rattle.carried_record.specs.OnRecord.{put_each}
 use Rattle.run_follows.specs.Following.{Becomes, Follows}
-use Rattle.run_follows.specs.Gate.{AreOver, LetsIn, MayMove, Spot, is_over, number, ops_of, parts_at, place}
-use Rattle.run_follows.specs.Sending.{AllComeIn, AllGoOut, AllGoing, Carriage, HeldBack, IsElsewhere, IsGoing, NoneBefore, SentIn, SentOut, out_acts, carriage_at, carriage_of, fate_in, in_fates, is_carried, out_fates, land_all, land_one, with_fate, with_fates, with_status}
-use Rattle.run_follows.specs.Slots.{Admitted, Carried, Cut, Settled, Status, Waits, parts_of, write_parts}
+use Rattle.run_follows.specs.Gate.{AreOver, LetsIn, Spot, is_over, number, ops_of, parts_at, place}
+use Rattle.run_follows.specs.Sending.{AllComeIn, AllGoOut, AllGoing, Carriage, HeldBack, IsElsewhere, IsGoing, NoneBefore, SentIn, SentOut, carriage_of, fate_in, in_fates, is_carried, out_fates, land_all, land_one, with_fate, with_fates, with_status}
+use Rattle.run_follows.specs.Slots.{Carried, Cut, Status, parts_of, write_parts}
 use Rattle.run_follows.proofs.Carrying.{carried}
 
 -- A group is sent, block by block.
@@ -133,8 +129,7 @@ going_rest m n ops a ios logs status b next (x ∷ bs) (s ∷ spots) c e h =
     let g = h.0 in
     let may = g.may in
     let new = with_status b.op b.k next status in
-    let same = λ (i l : ℕ) (o : is_over (status i l) ≡ true). with_other b.op b.k i l next status (λ p q. false≢true (sym (ap is_over c) ∙ ap is_over (sym (ap (λ t. status t b.k) p) ∙ sym (ap (status i) q)) ∙ o)) in
-    (
+    let same = λ (i l : ℕ) (o : is_over (status i l) ≡ true). with_other b.op b.k i l next status (λ p q. false≢true (sym (ap is_over c) ∙ ap is_over (sym (ap (λ t. status t b.k) p) ∙ sym (ap (status i) q)) ∙ o)) in (
       record {
         script = g.script;
         number = g.number;

@@ -1,8 +1,7 @@
-use Rattle.std.proofs.Common.{◌≡◌, ◌≤◌, ◌⊎◌, inl, inr, ℕ, zero, suc, ◌+◌, Bool, true, false, List, [], ◌∷◌, ◌++◌, length, get_or, Option, Some, None, refl, sym, ap, subst, ◌∙◌, arith, append-nil, length-append}
-use Rattle.std.proofs.lemmas.List.{append_assoc}
+use Rattle.std.proofs.Common.{◌≡◌, ◌≤◌, ◌⊎◌, inl, inr, ℕ, suc, ◌+◌, Bool, true, false, List, [], ◌∷◌, ◌++◌, length, refl, sym, ap, subst, ◌∙◌, arith, length-append}
 use Rattle.std.proofs.lemmas.Bool.{false≢true}
 use Rattle.stack_ops.specs.declared.op.Op.{Op}
-use Rattle.block_path.specs.Acts.{Act, conflict}
+use Rattle.block_path.specs.Acts.{conflict}
 use Rattle.block_path.specs.Blocks.{Answer}
 use Rattle.whole_run.specs.Settings.{Setting}
 use Rattle.whole_run.specs.Steps.{Alters, Reads, Seals, Sets, Shows, Step, Writes, WritesPi, steps_of}
@@ -10,7 +9,7 @@ use Rattle.run_moves.specs.BoundRun.{fates, rooms}
 use Rattle.run_moves.specs.OpsApart.{IsPlaced, NoneMeet, OneCellEach, OpsConflict}
 use Rattle.run_moves.specs.ScriptMoves.{all_moves, blocks_from, blocks_of, by_moves, fates_of, moves_from, own_at, room_of, write_moves}
 use Rattle.run_moves.proofs.Meeting.{ops_apart}
-use Rattle.run_follows.specs.Following.{AllStand, Becomes, StandFrom}
+use Rattle.run_follows.specs.Following.{AllStand, StandFrom}
 use Rattle.run_follows.specs.Gate.{AllPlaced, AreOver, LetsIn, is_over}
 use Rattle.run_follows.specs.Slots.{Admitted, Carried, Cut, Done as AllDone, Parts, Settled, Stands, Status, Waits, before_carrying, done_by, moves_in, parts_of, so_far, write_parts}
 use Rattle.run_follows.proofs.Runs.{AllClear, Done, Moves, Turn, behind, clear_join, clear_nothing, clear_of_all, clear_over, far_length, in_front, midst_apart}
@@ -77,20 +76,19 @@ module _ (m : Setting) where
 
   pub ops_same : (from fate i : ℕ) (ops : List Op) (old new : ℕ → ℕ → Status) (done : Done) → ((j k : ℕ) → i ≤ j → new j k ≡ old j k) → AllStand m from fate i ops old done → AllStand m from fate i ops new done
   ops_same from fate i [] old new done e h = h
-  ops_same from fate i (op ∷ ops) old new done e h =
+  ops_same from fate i (op ∷ ops) old new done e h = (
+    h.0,
+    (
+      h.1.0,
       (
-        h.0,
+        h.1.1.0,
         (
-          h.1.0,
-          (
-            h.1.1.0,
-            (
-              steps_same from fate 0 (steps_of m i op) (old i) (new i) h.0 (λ l u. e i l (omega arith)) h.1.1.1.0,
-              ops_same (from + room_of m op) (fate + fates_of op) (suc i) ops old new h.1.0 (λ j k u. e j k (omega (arith, u))) h.1.1.1.1,
-            ),
-          ),
+          steps_same from fate 0 (steps_of m i op) (old i) (new i) h.0 (λ l u. e i l (omega arith)) h.1.1.1.0,
+          ops_same (from + room_of m op) (fate + fates_of op) (suc i) ops old new h.1.0 (λ j k u. e j k (omega (arith, u))) h.1.1.1.1,
         ),
-      )
+      ),
+    ),
+  )
 
   -- a block's next moves among those of its op
 

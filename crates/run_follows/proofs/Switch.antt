@@ -1,4 +1,4 @@
-use Rattle.std.proofs.Common.{◌≡◌, ◌≤◌, ◌⊎◌, inl, inr, ℕ, zero, suc, ◌+◌, ◌%◌, ◌^◌, Bool, true, false, List, [], ◌∷◌, ◌++◌, length, drop, get_or, Option, Some, None, refl, sym, ap, subst, ◌∙◌, arith, length-append}
+use Rattle.std.proofs.Common.{◌≡◌, ◌≤◌, ◌⊎◌, inl, inr, ℕ, zero, suc, ◌+◌, ◌%◌, ◌^◌, Bool, true, false, List, [], ◌∷◌, ◌++◌, length, drop, get_or, Some, None, refl, sym, ap, subst, ◌∙◌, arith, length-append}
 use Rattle.std.specs.Prelude.{Result, Ok, Err}
 use Rattle.std.proofs.lemmas.Bool.{false≢true}
 use Rattle.page_pool.specs.Cells.{gather, scatter}
@@ -13,7 +13,7 @@ use Rattle.block_path.specs.Acts.{Act, Effect, State, act, conflict, effect, tel
 use Rattle.block_path.specs.Blocks.{Answer, Sent, own_cell, silent, written_by}
 use Rattle.block_path.specs.Moves.{carried_in, carry_in, carry_out, make_tuple, map_back, map_out, settle}
 use Rattle.block_path.specs.Routes.{told_by}
-use Rattle.block_path.specs.Serial.{Alike, Serial, StandFor}
+use Rattle.block_path.specs.Serial.{Alike, StandFor}
 use Rattle.block_path.specs.WayIn.{from_device}
 use Rattle.block_path.specs.WayOut.{at_device, from_adapter, to_wire}
 use Rattle.block_path.proofs.Acts.{same_cells}

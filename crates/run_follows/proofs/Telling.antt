@@ -1,4 +1,4 @@
-use Rattle.std.proofs.Common.{◌≡◌, ◌<◌, ◌≤◌, ℕ, zero, suc, ◌+◌, Bool, true, false, ◌||◌, if◌then◌else◌, List, [], ◌∷◌, ◌++◌, length, map, take, get_or, Option, Some, None, refl, sym, ap, subst, ◌∙◌, arith, append-nil, length-append}
+use Rattle.std.proofs.Common.{◌≡◌, ◌<◌, ◌≤◌, ℕ, zero, suc, Bool, true, false, ◌||◌, if◌then◌else◌, List, [], ◌∷◌, ◌++◌, length, map, take, get_or, None, refl, sym, ap, subst, ◌∙◌, arith, append-nil}
 use Rattle.std.specs.Prelude.{Result, Ok, Err, IfOk, min, ltb}
 use Rattle.std.proofs.lemmas.Bool.{false≢true}
 use Rattle.std.proofs.lemmas.List.{length-map, length-take}
@@ -15,13 +15,13 @@ use Rattle.bio_core.specs.declared.fate.Why.{Why}
 use Rattle.bio_core.specs.declared.request.Dir.TheVariants.{Read, Write}
 use Rattle.bio_core.specs.declared.request.Io.{Io}
 use Rattle.stack_ops.specs.declared.op.Op.{Op}
-use Rattle.block_path.specs.Acts.{Act, State, act}
-use Rattle.block_path.specs.Blocks.{Answer, Site, fetched_cell}
+use Rattle.block_path.specs.Acts.{State, act}
+use Rattle.block_path.specs.Blocks.{Site, fetched_cell}
 use Rattle.block_path.specs.Moves.{carry_out}
 use Rattle.block_path.specs.Routes.{target}
 use Rattle.block_path.specs.Serial.{plain}
 use Rattle.block_path.specs.WayIn.{Delivers, Spoils, Stops, WayIn, at_host, from_device, from_wire}
-use Rattle.block_path.specs.WayOut.{Refuses, Stores, at_device, from_adapter, goes_out, to_wire}
+use Rattle.block_path.specs.WayOut.{Refuses, at_device, from_adapter, goes_out}
 use Rattle.whole_run.specs.Senses.{why_ended}
 use Rattle.whole_run.specs.Settings.{Setting}
 use Rattle.run_record.specs.Records.{came_of, recorded}

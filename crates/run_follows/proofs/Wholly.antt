@@ -1,8 +1,7 @@
-use Rattle.std.proofs.Common.{◌≡◌, ℕ, zero, suc, ◌+◌, ◌%◌, ◌^◌, Bool, List, [], ◌∷◌, ◌++◌, length, map, replicate, get_or, Option, Some, None, refl, sym, ap, subst, ◌∙◌, arith, append-nil}
-use Rattle.range_gate.specs.Cells.{cells_of}
+use Rattle.std.proofs.Common.{◌≡◌, ℕ, zero, suc, ◌+◌, ◌%◌, ◌^◌, List, [], ◌∷◌, ◌++◌, length, map, get_or, None, refl, sym, ap, subst, ◌∙◌, arith, append-nil}
 use Rattle.stack_ops.specs.declared.op.Op.{Op}
 use Rattle.stack_ops.specs.declared.op.Op.TheVariants.{Fetch, FetchPi, Fill, Overwrite, Put, Seal, Show, Wait, Write, WritePi}
-use Rattle.block_path.specs.Acts.{Act, State, act, conflict, tell}
+use Rattle.block_path.specs.Acts.{State, act, tell}
 use Rattle.block_path.specs.Blocks.{Answer, Sent, silent}
 use Rattle.block_path.specs.Serial.{all_done, none_done, plain, plain_tells}
 use Rattle.whole_run.specs.ScriptWalk.{act_of, acts_of}
@@ -10,11 +9,11 @@ use Rattle.whole_run.specs.Settings.{Setting}
 use Rattle.whole_run.specs.Steps.{Alters, Reads, Seals, Sets, Shows, Step, Writes, WritesPi, body_of, each_from, steps_of, tuple_of}
 use Rattle.run_moves.specs.BoundRun.{fates, rooms}
 use Rattle.run_moves.specs.OpsApart.{IsPlaced, OneCellEach}
-use Rattle.run_moves.specs.ScriptMoves.{ByMoves, all_moves, at_once, blocks_from, blocks_of, by_moves, own_at, script_moves}
-use Rattle.run_follows.specs.Following.{AllStand, Follows, StandFrom}
+use Rattle.run_moves.specs.ScriptMoves.{ByMoves, all_moves, at_once, blocks_from, blocks_of, by_moves, own_at}
+use Rattle.run_follows.specs.Following.{Follows, StandFrom}
 use Rattle.run_follows.specs.Gate.{AllPlaced, BecomesDone, IsAlone, LetsIn}
-use Rattle.run_follows.specs.Slots.{Done as AllDone, Parts, Stands, Status, Waits, parts_of, so_far, whole_part}
-use Rattle.run_follows.proofs.Runs.{AllQuiet, Done, IsQuiet, Moves, Turn, clear_nothing}
+use Rattle.run_follows.specs.Slots.{Done as AllDone, Stands, Status, Waits, parts_of, so_far, whole_part}
+use Rattle.run_follows.proofs.Runs.{AllQuiet, Done, IsQuiet, clear_nothing}
 use Rattle.run_follows.proofs.Standing.{OpTurns, gate_clears, op_turn}
 use Rattle.run_follows.proofs.Moving.{follow_quiet}
 
@@ -95,8 +94,7 @@ module _ (m : Setting) (from fate : ℕ) where
       let mine : Stands (whole_part (act_of m step)) (at_once (act_of m step)).join (status k) (t ∷ []) =
       subst (λ x. Stands (whole_part (act_of m step)) (at_once (act_of m step)).join x (t ∷ [])) (sym (w 0 k (omega arith))) (record { count = refl; sent = refl; tells = refl }) in
       let there : Stands (parts_of m (own_at from k) (fate + k) step) (by_moves m (own_at from k) (fate + k) step).join (status k) (t ∷ []) =
-      subst (λ p. Stands p (by_moves m (own_at from k) (fate + k) step).join (status k) (t ∷ [])) (sym one.parts) (subst (λ (b : ByMoves). Stands (whole_part (act_of m step)) b.join (status k) (t ∷ [])) (sym one.moves) mine) in
-      (
+      subst (λ p. Stands p (by_moves m (own_at from k) (fate + k) step).join (status k) (t ∷ [])) (sym one.parts) (subst (λ (b : ByMoves). Stands (whole_part (act_of m step)) b.join (status k) (t ∷ [])) (sym one.moves) mine) in (
         t ∷ [],
         (
           rest,

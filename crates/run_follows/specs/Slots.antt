@@ -1,13 +1,13 @@
 use Rattle.std.specs.Prelude.{ℕ, suc, ◌+◌, ◌≡◌, Bool, true, false, List, [], ◌∷◌, ◌++◌, length, drop, get_or, Option, Some, None}
 use Rattle.bio_core.specs.declared.fate.Why.{Why}
 use Rattle.block_path.specs.Acts.{Act}
-use Rattle.block_path.specs.Blocks.{Answer, Sent, silent}
+use Rattle.block_path.specs.Blocks.{Answer, silent}
 use Rattle.block_path.specs.Moves.{carry_in, carry_out, make_tuple, map_back, map_out, settle}
 use Rattle.whole_run.specs.ScriptWalk.{act_of}
 use Rattle.whole_run.specs.Settings.{Block, Setting, route}
 use Rattle.whole_run.specs.Steps.{Alters, Reads, Seals, Sets, Shows, Step, Writes, WritesPi}
 use Rattle.run_record.specs.Records.{put_sent, sents}
-use Rattle.run_moves.specs.ScriptMoves.{ByMoves, lands_in}
+use Rattle.run_moves.specs.ScriptMoves.{lands_in}
 
 -- How far each block of a script is, and which of its moves are done by then.
 

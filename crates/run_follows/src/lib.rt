@@ -12,10 +12,9 @@ pub use end::{
 };
 pub use send::{
     a_command_is_sent, a_group_is_sent, a_told_command_is_sent, a_write_is_held_back,
-    more_may_stand_on_record,
-    what_was_not_carried_is_not_on_record,
+    more_may_stand_on_record, what_was_not_carried_is_not_on_record,
 };
 pub use steps::{
-    a_block_is_admitted, a_block_is_carried, a_block_is_cut, a_block_is_settled, an_op_is_done_whole,
-    what_may_move_may_over_the_record,
+    a_block_is_admitted, a_block_is_carried, a_block_is_cut, a_block_is_settled,
+    an_op_is_done_whole, what_may_move_may_over_the_record,
 };
