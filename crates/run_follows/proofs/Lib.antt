@@ -13,3 +13,4 @@ mod Over
 mod Recording
 mod Telling
 mod Holding
+mod FollowRows
