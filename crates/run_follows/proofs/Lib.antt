@@ -14,3 +14,4 @@ mod Recording
 mod Telling
 mod Holding
 mod FollowRows
+mod Binding

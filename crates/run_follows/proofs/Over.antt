@@ -45,7 +45,7 @@ module _ (m : Setting) (came : Told) where
   same_room (Overwrite dev lba change) = refl
   same_room Wait = refl
 
-  same_rooms : (ops : List Op) → rooms m ops ≡ rooms (over m came) ops
+  pub same_rooms : (ops : List Op) → rooms m ops ≡ rooms (over m came) ops
   same_rooms [] = refl
   same_rooms (op ∷ ops) = ap (λ r. r + rooms m ops) (same_room op) ∙ ap (λ r. room_of (over m came) op + r) (same_rooms ops)
 

@@ -1,4 +1,4 @@
-use Rattle.std.specs.Prelude.{ℕ, suc, ◌≡◌, List, [], ◌∷◌, Option}
+use Rattle.std.specs.Prelude.{ℕ, suc, ◌≡◌, List, [], ◌∷◌, length, Option, IfOk}
 use Rattle.bio_core.specs.declared.fate.Why.{Why}
 use Rattle.stack_ops.specs.declared.op.Op.{Op}
 use Rattle.stack_ops.specs.declared.reply.Reply.{Reply}
@@ -6,9 +6,10 @@ use Rattle.block_path.specs.Acts.{State}
 use Rattle.block_path.specs.Blocks.{Answer, Sent, silent}
 use Rattle.block_path.specs.Moves.{hidden}
 use Rattle.whole_run.specs.ScriptWalk.{reply_of, script_replies, script_walk}
-use Rattle.whole_run.specs.Settings.{Setting}
+use Rattle.block_path.specs.Routes.{wire_size}
+use Rattle.whole_run.specs.Settings.{Block, Setting, route}
 use Rattle.whole_run.specs.Steps.{Alters, Reads, Seals, Sets, Shows, Step, Writes, WritesPi, steps_of}
-use Rattle.run_record.specs.ToldRun.{IsRecordOf}
+use Rattle.run_record.specs.ToldRun.{IsRecordOf, came_by}
 use Rattle.run_follows.specs.Slots.{Admitted, Carried, Cut, Done, Settled, Status, Waits}
 
 -- A stack once all has ended, and what it replies.
@@ -61,3 +62,7 @@ pub record EndsAsWalk (m : Setting) (n : ℕ) (ops : List Op) (opening : State) 
   pub cells : hidden n now ≡ script_walk m ops (hidden n opening)
   pub replies : replies_of m 1 ops status ≡ script_replies m ops (hidden n opening)
   pub recorded : IsRecordOf m ops (hidden n opening) es
+
+-- Each frame that came of a block has the size of the wire's frames.
+abbrev pub FramesFit : Setting → List Sent → Type 0
+FramesFit m es = (b : Block) → IfOk (came_by es (route m b).label) (λ frame. length frame ≡ wire_size (route m b))

@@ -12,7 +12,7 @@ ghost use Rattle.run_record.specs.CarriedRun.{Carried};
 ghost use Rattle.run_record.specs.Records.{recorded};
 ghost use Rattle.run_record.specs.ToldRun.{told};
 ghost use Rattle.run_moves.specs.BoundRun.{IsBoundRun};
-ghost use Rattle.run_follows.specs.Finished.{AllEnded, EndsAsWalk, replies_of};
+ghost use Rattle.run_follows.specs.Finished.{AllEnded, EndsAsWalk, FramesFit, replies_of};
 ghost use Rattle.run_follows.specs.Following.{Follows};
 ghost use Rattle.run_follows.specs.Slots.{Status};
 
@@ -21,6 +21,12 @@ ghost use Rattle.run_follows.specs.Slots.{Status};
 pub fn a_finished_stack_is_the_walk()
     ensures { (m : Setting) (fine : ℕ → List ℕ → Bool) (n : ℕ) (ops : List AnyOp) (opening now : State) (status : ℕ → ℕ → Status) (es : List Sent) → IsBoundRun m fine n ops opening
         → AllEnded m 1 ops status → Follows m n ops opening status now es → EndsAsWalk m n ops opening status now es }
+{}
+
+/// A script that is bound for a target is bound for what stands on record too, where each frame has the wire's size.
+pub fn a_bound_run_is_bound_over_its_record()
+    ensures { (m : Setting) (fine : ℕ → List ℕ → Bool) (n : ℕ) (ops : List AnyOp) (opening : State) (es : List Sent) → IsBoundRun m fine n ops opening → FramesFit m es
+        → IsBoundRun (told m es) (λ c block. true) n ops opening }
 {}
 
 /// So over any rig, honest or not, its log backs the stack's replies.
