@@ -34,6 +34,12 @@ use Rattle.run_follows.proofs.Moving.{admitted, cut, settled}
 use Rattle.run_follows.proofs.Quietly.{cut_quiet, listed_as, made_quiet, settled_quiet}
 use Rattle.run_follows.proofs.Sends.{with_here, with_other}
 use Rattle.run_follows.proofs.Wholly.{wholly}
+use Rattle.bio_core.specs.Bios.{Block}
+use Rattle.bio_core.specs.declared.request.Dir.TheVariants.{Write as ToUnit}
+use Rattle.bio_core.specs.declared.request.Io.{Io}
+use Rattle.integrity_payload.specs.declared.payload.Owner.TheVariants.{Block as OfBlock}
+use Rattle.dix_adapter.specs.declared.adapter.Adapter.{Adapter}
+use Rattle.run_follows.specs.Sending.{IsGoing, NoneBefore}
 
 -- A write of one block and a `put`, step by step from first to last, over a device that tells one frame of each block.
 
@@ -187,3 +193,20 @@ bound_run = record {
 
 ended : EndsAsWalk m 1100 (ops_of spot) first five (plain act (acts_of m 2 put) back) es
 ended = ends_as_walk m (λ c block. true) 1100 (ops_of spot) first (plain act (acts_of m 2 put) back) five es bound_run (((why, refl), tt), (((shown 0, refl), tt), tt)) put_is_done
+
+-- The block is sent by the adapter as the script has it.
+abbrev adapter : Adapter
+adapter = record { kind = m.mode.kind; dix = true; dif = true; protect = 1; ty = m.ty; tamper = []; app = 0; mask = 0 }
+
+abbrev request : Io
+request = record { dir = ToUnit; first = 0; count = 1; body = seg 0 4; pi = Some (record { seed = 0; count = 1; tuples = record { page = 0; off = 1100; len = 8 } ∷ []; owner = OfBlock; app = 0x1234 }) }
+
+abbrev block : Block
+block = record { op = 1; k = 0; dev = 0; lba = 2; dir = ToUnit }
+
+is_going : IsGoing m 1100 (ops_of spot) adapter (request ∷ []) 5 two block spot
+unfolding run
+is_going = record { script = refl; number = refl; place = refl; carriage = refl; log = omega arith; is_cut = refl; may = may_move two }
+
+none_before : NoneBefore two []
+none_before i k e = refl
