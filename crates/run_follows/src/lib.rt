@@ -8,7 +8,8 @@ mod steps;
 
 pub use begin::a_stack_begins;
 pub use end::{
-    a_bound_run_is_bound_over_its_record, a_finished_stack_is_backed, a_finished_stack_is_the_walk, a_finished_told_stack_is_carried,
+    a_bound_run_is_bound_over_its_record, a_finished_stack_is_backed, a_finished_stack_is_the_walk,
+    a_finished_told_stack_is_carried,
 };
 pub use send::{
     a_command_is_sent, a_group_is_sent, a_told_command_is_sent, a_write_is_held_back,
