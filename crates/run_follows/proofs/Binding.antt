@@ -1,4 +1,4 @@
-use Rattle.std.proofs.Common.{◌≡◌, ◌<◌, ◌≤◌, ℕ, suc, ◌+◌, Bool, true, List, [], ◌∷◌, length, refl, sym, ap, subst, ◌∙◌}
+use Rattle.std.proofs.Common.{◌≡◌, ◌≤◌, ℕ, suc, ◌+◌, Bool, true, List, [], ◌∷◌, length, refl, subst}
 use Rattle.std.specs.Prelude.{Result, Ok, Err, IfOk}
 use Rattle.bio_core.specs.declared.fate.Why.{Why}
 use Rattle.stack_ops.specs.declared.op.Op.{Op}
@@ -7,7 +7,7 @@ use Rattle.block_path.specs.Acts.{State}
 use Rattle.block_path.specs.Blocks.{Sent}
 use Rattle.whole_run.specs.Settings.{Setting, block_of, route}
 use Rattle.run_record.specs.ToldRun.{came_by, told}
-use Rattle.run_moves.specs.BoundRun.{AllBound, AllSuit, IsBound, IsBoundRun, rooms}
+use Rattle.run_moves.specs.BoundRun.{AllBound, AllSuit, IsBound, IsBoundRun}
 use Rattle.run_follows.specs.Finished.{FramesFit}
 use Rattle.run_follows.proofs.Over.{same_rooms}
 

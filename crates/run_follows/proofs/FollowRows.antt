@@ -1,5 +1,5 @@
-use Rattle.std.proofs.Common.{◌≡◌, ◌<◌, ◌≤◌, ◌+◌, ℕ, zero, suc, List, [], ◌∷◌, ◌++◌, get_or, length, Option, Some, None, refl, arith, inl, true}
-use Rattle.std.specs.Prelude.{replicate, Result, Ok}
+use Rattle.std.proofs.Common.{◌≡◌, ◌<◌, ◌+◌, ℕ, zero, suc, List, [], ◌∷◌, ◌++◌, get_or, Option, Some, None, refl, arith, inl, true}
+use Rattle.std.specs.Prelude.{replicate, Ok}
 use Rattle.std.proofs.lemmas.List.{length-replicate}
 use Rattle.std.proofs.lemmas.List.Elements.{All-nil}
 use Rattle.page_pool.specs.Places.{run}
@@ -7,8 +7,8 @@ use Rattle.bio_core.specs.declared.fate.Why.{Why}
 use Rattle.run_moves.specs.ScriptMoves.{own_at}
 use Rattle.stack_ops.specs.declared.op.Op.{Op}
 use Rattle.stack_ops.specs.declared.op.Op.TheVariants.{Put, Write}
-use Rattle.block_path.specs.Acts.{Act, State, act, tell}
-use Rattle.block_path.specs.Blocks.{Answer, Sent, silent}
+use Rattle.block_path.specs.Acts.{State, act, tell}
+use Rattle.block_path.specs.Blocks.{Sent, silent}
 use Rattle.block_path.specs.Moves.{first_why}
 use Rattle.block_path.specs.Routes.{told_by}
 use Rattle.block_path.specs.Serial.{plain, plain_tells}
@@ -22,9 +22,9 @@ use Rattle.run_record.specs.Records.{put_sent}
 use Rattle.run_moves.specs.BoundRun.{IsBoundRun, Suits}
 use Rattle.run_moves.specs.OpsApart.{IsPlaced, OneCellEach}
 use Rattle.run_moves.proofs.BlocksApart.{still_apart}
-use Rattle.run_follows.specs.Finished.{AllEnded, EndsAsWalk}
+use Rattle.run_follows.specs.Finished.{EndsAsWalk}
 use Rattle.run_follows.specs.Following.{Becomes, Follows}
-use Rattle.run_follows.specs.Gate.{BecomesDone, LetsIn, MayMove, Spot, ops_of, parts_at}
+use Rattle.run_follows.specs.Gate.{BecomesDone, MayMove, Spot, ops_of, parts_at}
 use Rattle.run_follows.specs.Sending.{with_status}
 use Rattle.run_follows.specs.Slots.{Admitted, Carried, Cut, Done, Parts, Settled, Status, Waits}
 use Rattle.run_follows.proofs.Begins.{begin_all}

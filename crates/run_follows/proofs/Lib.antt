@@ -15,3 +15,4 @@ mod Telling
 mod Holding
 mod FollowRows
 mod Binding
+mod Fitting

@@ -1,4 +1,5 @@
-//! A stack between two steps follows the walk.
+//! That a stack between two steps follows the walk of its script: what it is, one law for each step, and what a finished
+//! stack comes to. It speaks of no code: a stack's contract cites it.
 #![tactic(auto)]
 
 mod begin;
@@ -13,7 +14,7 @@ pub use end::{
 };
 pub use send::{
     a_command_is_sent, a_group_is_sent, a_told_command_is_sent, a_write_is_held_back,
-    more_may_stand_on_record, what_was_not_carried_is_not_on_record,
+    frames_on_record_fit, more_may_stand_on_record, what_was_not_carried_is_not_on_record,
 };
 pub use steps::{
     a_block_is_admitted, a_block_is_carried, a_block_is_cut, a_block_is_settled,

@@ -1,6 +1,6 @@
 //! A command is sent.
 
-ghost use Rattle.std.specs.Prelude.{ℕ, ◌≡◌, true, false, List, [], length, map, None, Result};
+ghost use Rattle.std.specs.Prelude.{ℕ, ◌≡◌, ◌*◌, true, false, List, [], length, map, None, Result};
 ghost use Rattle.fault_schedule.specs.declared.Label.{Label as AnyLabel};
 ghost use Rattle.bio_core.specs.declared.fate.Why.{Why as AnyWhy};
 ghost use Rattle.bio_core.specs.Bios.{Block};
@@ -12,7 +12,7 @@ ghost use Rattle.bio_core.specs.declared.request.Dir.TheVariants.{Read, Write};
 ghost use Rattle.page_pool.specs.Cells.{flat};
 ghost use Rattle.run_record.specs.Records.{recorded};
 ghost use Rattle.dix_adapter.specs.Carried.{Shown, Unsent, any_bad, frame_len, sends};
-ghost use Rattle.dix_adapter.specs.Groups.{IsGroup, IsProtect, blocks_in, first_of};
+ghost use Rattle.dix_adapter.specs.Groups.{IsGroup, IsProtect, blocks_in, first_of, size};
 ghost use Rattle.dix_adapter.specs.Ways.{CameIn, RecordedIn, RecordedOut, WentOut, blocks_told, shapes_of, site_of};
 ghost use Rattle.target_answer.specs.Target.{Stored};
 ghost use Rattle.stack_ops.specs.declared.op.Op.{Op as AnyOp};
@@ -20,6 +20,10 @@ ghost use Rattle.block_path.specs.Acts.{State};
 ghost use Rattle.block_path.specs.Blocks.{Sent};
 ghost use Rattle.whole_run.specs.Settings.{Setting};
 ghost use Rattle.run_record.specs.ToldRun.{came_by, told};
+ghost use Rattle.block_path.specs.Routes.{wire_size};
+ghost use Rattle.dix_adapter.specs.Outcomes.{done_of};
+ghost use Rattle.run_follows.specs.Finished.{FramesFit};
+ghost use Rattle.whole_run.specs.Settings.{Block as AnyBlock, route};
 ghost use Rattle.run_follows.specs.Following.{Follows};
 ghost use Rattle.run_follows.specs.Sending.{AllComeIn, AllGoOut, AllGoing, AllSized, FollowsOn, FollowsTold, HeldBack, NoneBefore, SentIn, SentOut, is_carried, with_fates};
 ghost use Rattle.run_follows.specs.Gate.{Spot};
@@ -99,4 +103,17 @@ pub fn a_told_command_is_sent()
 pub fn what_was_not_carried_is_not_on_record()
     ensures begins { NoneBefore (λ i k. Waits) [] }
     ensures goes_on { (old new : ℕ → ℕ → Status) (es : List Sent) → ((i k : ℕ) → is_carried (new i k) ≡ false → is_carried (old i k) ≡ false) → NoneBefore old es → NoneBefore new es }
+{}
+
+/// The frames on record keep the wire's size: those that are sent have it, and those that come where the command moved
+/// so many bytes for each block that is done.
+pub fn frames_on_record_fit()
+    ensures out { (m : Setting) (a : AnyAdapter) (ios : List AnyIo) (req : List AnyBio) (pool : List (List ℕ)) (fates : List AnyFate) (old new : Shown)
+        → IsProtect a.protect → IsGroup a pool m.size ios req → (first_of req).dir ≡ Write → any_bad (map (sends a ios (flat pool)) (blocks_in req)) ≡ false
+        → ((b : AnyBlock) → wire_size (route m b) ≡ frame_len a ios req) → RecordedOut a ios req (flat pool) fates old new
+        → FramesFit m (recorded m old.log) → FramesFit m (recorded m new.log) }
+    ensures inward { (m : Setting) (a : AnyAdapter) (ios : List AnyIo) (req : List AnyBio) (pool pool' : List (List ℕ)) (fates : List AnyFate) (old new : Shown)
+        → IsProtect a.protect → IsGroup a pool m.size ios req → (first_of req).dir ≡ Read → ((b : AnyBlock) → wire_size (route m b) ≡ frame_len a ios req)
+        → (r : RecordedIn a ios req pool pool' fates old new) → length r.entry.moved ≡ done_of (size req) r.entry.what.outcome * frame_len a ios req
+        → FramesFit m (recorded m old.log) → FramesFit m (recorded m new.log) }
 {}
