@@ -16,3 +16,4 @@ mod Holding
 mod FollowRows
 mod Binding
 mod Fitting
+mod Together

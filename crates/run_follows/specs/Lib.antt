@@ -3,3 +3,4 @@ pub mod Following
 pub mod Gate
 pub mod Finished
 pub mod Sending
+pub mod Pieces

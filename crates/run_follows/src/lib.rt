@@ -18,5 +18,5 @@ pub use send::{
 };
 pub use steps::{
     a_block_is_admitted, a_block_is_carried, a_block_is_cut, a_block_is_settled,
-    an_op_is_done_whole, what_may_move_may_over_the_record,
+    an_op_is_done_whole, some_blocks_move_on, what_may_move_may_over_the_record,
 };

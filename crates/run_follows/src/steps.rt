@@ -18,6 +18,7 @@ ghost use Rattle.run_follows.specs.Gate.{AllPlaced, BecomesDone, IsAlone, LetsIn
 ghost use Rattle.bio_core.specs.Bios.{Block as AnyBlock};
 ghost use Rattle.bio_core.specs.declared.request.Io.{Io as AnyIo};
 ghost use Rattle.dix_adapter.specs.declared.adapter.Adapter.{Adapter as AnyAdapter};
+ghost use Rattle.run_follows.specs.Pieces.{AllMayMove, all_cut, all_made, with_all};
 ghost use Rattle.run_follows.specs.Sending.{AllGoing};
 ghost use Rattle.run_follows.specs.Slots.{Admitted, Carried, Cut, Settled, Status, Waits};
 
@@ -33,6 +34,14 @@ pub fn a_block_is_cut()
     ensures { (m : Setting) (n : ℕ) (s : Spot) (opening now : State) (old new : ℕ → ℕ → Status) (es : List Sent) → MayMove m n old s → old (number s) (place s) ≡ Admitted
         → Becomes (number s) (place s) Cut old new → Follows m n (ops_of s) opening old now es
         → Follows m n (ops_of s) opening new (plain act (parts_at m n s).cut now) es }
+{}
+
+/// So some blocks together: those of an op that is admitted, and those of a piece that is cut.
+pub fn some_blocks_move_on()
+    ensures admitted { (m : Setting) (n : ℕ) (ops : List AnyOp) (opening now : State) (status : ℕ → ℕ → Status) (es : List Sent) (spots : List Spot) → AllMayMove m n ops status Waits spots
+        → Follows m n ops opening status now es → Follows m n ops opening (with_all spots Admitted status) (plain act (all_made m n spots) now) es }
+    ensures cut { (m : Setting) (n : ℕ) (ops : List AnyOp) (opening now : State) (status : ℕ → ℕ → Status) (es : List Sent) (spots : List Spot) → AllMayMove m n ops status Admitted spots
+        → Follows m n ops opening status now es → Follows m n ops opening (with_all spots Cut status) (plain act (all_cut m n spots) now) es }
 {}
 
 /// Its command is completed: the tag of a write's tuple is mapped back, and a read is mapped back and verified by its
