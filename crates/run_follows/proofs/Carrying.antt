@@ -10,16 +10,17 @@ use Rattle.block_path.specs.Blocks.{Answer, Sent, Site, fetched_cell, own_cell, 
 use Rattle.block_path.specs.Moves.{carried_in, carry_in, carry_out}
 use Rattle.block_path.specs.WayIn.{Delivers, Spoils, Stops, WayIn, comes_in}
 use Rattle.block_path.specs.WayOut.{Fails, Refuses, Stores, WayOut, goes_out}
+use Rattle.block_path.specs.Serial.{all_done, none_done}
 use Rattle.whole_run.specs.Settings.{Setting, route}
 use Rattle.whole_run.specs.Steps.{Alters, Reads, Seals, Sets, Shows, Step, Writes, WritesPi}
 use Rattle.run_record.specs.EarlierWrites.{HasLog}
-use Rattle.run_record.specs.Records.{Mixed, is_out, put_frame, put_sent, writes_at}
+use Rattle.run_record.specs.Records.{Mixed, is_out, put_frame, put_sent, writes_at, sents}
 use Rattle.run_moves.specs.BoundRun.{fates, rooms}
 use Rattle.run_moves.specs.ScriptMoves.{by_moves, lands_in, own_at}
 use Rattle.run_follows.specs.Following.{Becomes, Follows, sents_so_far}
 use Rattle.run_follows.specs.Gate.{MayMove, Spot, number, ops_of, parts_at, place}
 use Rattle.run_follows.specs.Slots.{Carried, Cut, Status, before_carrying, parts_of, write_parts}
-use Rattle.run_follows.proofs.Runs.{sents_after, sents_before, sents_both}
+use Rattle.run_follows.proofs.Runs.{Done, sents_after, sents_before, sents_both}
 use Rattle.run_follows.proofs.Standing.{BlockTurns}
 use Rattle.run_follows.proofs.Moving.{Stretch, block_turns, follow_turn, spot_turn}
 
@@ -113,6 +114,18 @@ get_nothing [] c e = refl
 get_nothing (x ∷ xs) zero e = absurd (omega (arith, e))
 get_nothing (x ∷ xs) (suc c) e = get_nothing xs c (omega (arith, e))
 
+-- one answer more
+mixed_done : (a : Act Answer) (t : Answer) (done ds bs : Done) (es : List Sent) → done ≡ ds ++ (none_done (a ∷ []) ++ bs) → Mixed (sents_so_far done) es → Mixed (sents_so_far (ds ++ (all_done (t ∷ []) ++ bs))) (es ++ put_sent t.sent [])
+mixed_done a t done ds bs es e h =
+    let before = ap sents_so_far e ∙ sents_before (a ∷ []) ds bs in
+    let mixed = mixed_put t.sent (sents_so_far ds) (sents_so_far bs) es (subst (λ q. Mixed q es) before h) in
+    subst (λ q. Mixed q (es ++ put_sent t.sent [])) (sym (sents_after (t ∷ []) ds bs)) mixed
+
+-- only the last answer puts something on record
+one_sent : (here : List Answer) (t : Answer) (c : ℕ) → length here ≡ c → sents here ≡ put_sent (get_or here c silent).sent [] → sents (here ++ (t ∷ [])) ≡ put_sent (get_or (here ++ (t ∷ [])) c silent).sent []
+one_sent here t c l e =
+    sents_both here (t ∷ []) ∙ ap (λ q. q ++ put_sent t.sent []) (e ∙ ap (λ (r : Answer). put_sent r.sent []) (get_nothing here c l)) ∙ ap (λ (r : Answer). put_sent r.sent []) (sym (get_last here t c l))
+
 pub carried : (m : Setting) (n : ℕ) (s : Spot) (opening now : State) (old new : ℕ → ℕ → Status) (es : List Sent) → let a = (parts_at m n s).carrying in
     MayMove m n old s → HasLog m (length opening.logs) s.step → old (number s) (place s) ≡ Cut → Becomes (number s) (place s) (Carried (tell a now).why) old new →
     Follows m n (ops_of s) opening old now es → Follows m n (ops_of s) opening new (act a now) (es ++ put_sent (tell a now).sent [])
@@ -132,12 +145,10 @@ carried m n s opening now old new es may has e becomes h =
     let turns = block_turns m from fate k s.step Cut next run (t ∷ []) stretch refl
     (λ here st. let y = length-append here (t ∷ []) in let z = st.count in record {
       count = omega (arith, y, z);
-      sent = sents_both here (t ∷ []) ∙ ap (λ q. q ++ put_sent t.sent []) (st.sent ∙ ap (λ (r : Answer). put_sent r.sent []) (get_nothing here (before_carrying p) st.count)) ∙ ap (λ (r : Answer). put_sent r.sent []) (sym (get_last here t (before_carrying p) st.count));
+      sent = one_sent here t (before_carrying p) st.count st.sent;
       tells = ap (λ (r : Answer). r.why) (get_last here t (before_carrying p) st.count);
     }) in
     let turn = spot_turn m n s old new next h.done run (t ∷ []) may becomes (subst (λ w. Stretch p w run) (sym e) stretch) (subst (λ w. BlockTurns m from fate k s.step w next run (t ∷ [])) (sym e) turns) h.stand in
-    let before = ap sents_so_far turn.done_is ∙ sents_before run turn.ds turn.bs in
-    let mixed = mixed_put t.sent (sents_so_far turn.ds) (sents_so_far turn.bs) es (subst (λ q. Mixed q es) before h.sent) in
     follow_turn m n (ops_of s) opening now old new es (es ++ put_sent t.sent []) run h turn
     (λ c. logs.grows c ∙ ap (λ q. q ++ writes_at m.site c (put_sent t.sent [])) (h.logs c) ∙ sym (writes_more m.site c es (put_sent t.sent []))) logs.room
-    (subst (λ q. Mixed q (es ++ put_sent t.sent [])) (sym (sents_after (t ∷ []) turn.ds turn.bs)) mixed)
+    (mixed_done a t h.done turn.ds turn.bs es turn.done_is h.sent)

@@ -1,4 +1,4 @@
-use Rattle.std.proofs.Common.{◌≡◌, ℕ, ◌+◌, false, true, List, [], ◌∷◌, ◌++◌, refl, sym, ap, subst, ◌∙◌}
+use Rattle.std.proofs.Common.{◌≡◌, ℕ, ◌+◌, false, true, List, [], ◌∷◌, refl, sym, ap, subst, ◌∙◌}
 use Rattle.std.proofs.lemmas.Bool.{false≢true}
 use Rattle.stack_ops.specs.declared.op.Op.{Op}
 use Rattle.block_path.specs.Acts.{State, act}
@@ -9,7 +9,7 @@ use Rattle.whole_run.proofs.AnyOrder.{plain_append}
 use Rattle.run_moves.specs.BoundRun.{fates, rooms}
 use Rattle.run_moves.specs.ScriptMoves.{own_at}
 use Rattle.run_follows.specs.Following.{Becomes, Follows}
-use Rattle.run_follows.specs.Gate.{MayMove, Spot, is_over, number, ops_of, parts_at, place}
+use Rattle.run_follows.specs.Gate.{Spot, is_over, number, parts_at, place}
 use Rattle.run_follows.specs.Pieces.{AllMayMove, IsNoneOf, all_cut, all_made, with_all}
 use Rattle.run_follows.specs.Sending.{with_status}
 use Rattle.run_follows.specs.Slots.{Admitted, Cut, Status, Waits}
@@ -30,8 +30,7 @@ module _ (m : Setting) (n : ℕ) (ops : List Op) where
       let may = h.1.0 in
       let new = with_status (number s) (place s) next status in
       let same = λ (i l : ℕ) (over : is_over (status i l) ≡ true).
-      with_other (number s) (place s) i l next status (λ p q. false≢true (sym o ∙ ap is_over (sym c ∙ sym (ap (λ j. status j (place s)) p) ∙ sym (ap (status i) q)) ∙ over)) in
-      (
+      with_other (number s) (place s) i l next status (λ p q. false≢true (sym o ∙ ap is_over (sym c ∙ sym (ap (λ j. status j (place s)) p) ∙ sym (ap (status i) q)) ∙ over)) in (
         h.0,
         (
           record { one = may.one; placed = may.placed; mine = may.mine; spread = may.spread; steps = may.steps; lets = lets_stay m status new 1 t.front (number t) t.op same may.lets },
