@@ -1,6 +1,6 @@
 //! The index of a queue: where its groups begin, and an entry for each of them.
 
-ghost use Rattle.std.specs.Prelude.{◌≡◌, ◌<◌, ◌≤◌, ◌+◌, ◌^◌, ℕ, if◌then◌else◌, length, slice_index_or};
+ghost use Rattle.std.specs.Prelude.{◌≡◌, ◌<◌, ◌≤◌, ◌+◌, ◌^◌, ℕ, IsTrue, if◌then◌else◌, length, slice_index_or};
 ghost use Rattle.std.specs.List.{insert};
 ghost use Rattle.std.specs.List.Sorted.{IsNonDecreasing};
 ghost use Rattle.std.specs.Vec.{vec_capacity};
@@ -63,14 +63,58 @@ pub(crate) fn place_for(begins: &[u64], lba: u64) -> usize
     begins.partition_point(|b| *b <= lba)
 }
 
-/// Behind all groups that begin before this address.
-pub(crate) fn place_before(begins: &[u64], lba: u64) -> usize
+/// Whether all groups before a place begin before this address, and no other one does.
+fn is_place_before(begins: &[u64], at: usize, lba: u64) -> bool
+    requires { IsNonDecreasing begins.now }
+    ensures bound { IsTrue result → at ≤ length begins.now }
+    ensures before { IsTrue result → (k d : ℕ) → k < at → slice_index_or begins.now k d < lba }
+    ensures after { IsTrue result → (k d : ℕ) → at ≤ k → k < length begins.now → lba ≤ slice_index_or begins.now k d }
+{
+    at <= begins.len()
+        && (at == 0 || begins[at - 1] < lba)
+        && (at == begins.len() || lba <= begins[at])
+}
+
+/// Behind all groups that begin before this address. Looks first whether that is this place.
+pub(crate) fn place_before(begins: &[u64], near: usize, lba: u64) -> usize
     requires { IsNonDecreasing begins.now }
     ensures bound { result ≤ length begins.now }
     ensures before { (k d : ℕ) → k < result → slice_index_or begins.now k d < lba }
     ensures after { (k d : ℕ) → result ≤ k → k < length begins.now → lba ≤ slice_index_or begins.now k d }
 {
+    if is_place_before(begins, near, lba) {
+        return near;
+    }
     begins.partition_point(|b| *b < lba)
+}
+
+/// Whether all groups before a place begin at this address or before, and no other one does.
+fn is_place_for(begins: &[u64], at: usize, lba: u64) -> bool
+    requires { IsNonDecreasing begins.now }
+    ensures bound { IsTrue result → at ≤ length begins.now }
+    ensures before { IsTrue result → (k d : ℕ) → k < at → slice_index_or begins.now k d ≤ lba }
+    ensures after { IsTrue result → (k d : ℕ) → at ≤ k → k < length begins.now → lba < slice_index_or begins.now k d }
+{
+    at <= begins.len()
+        && (at == 0 || begins[at - 1] <= lba)
+        && (at == begins.len() || lba < begins[at])
+}
+
+/// Behind all groups that begin at this address or before. Looks first whether that is this place or the next.
+pub(crate) fn place_for_near(begins: &[u64], near: usize, lba: u64) -> usize
+    requires rise { IsNonDecreasing begins.now }
+    requires near { near ≤ length begins.now }
+    ensures bound { result ≤ length begins.now }
+    ensures before { (k d : ℕ) → k < result → slice_index_or begins.now k d ≤ lba }
+    ensures after { (k d : ℕ) → result ≤ k → k < length begins.now → lba < slice_index_or begins.now k d }
+{
+    if is_place_for(begins, near, lba) {
+        return near;
+    }
+    if is_place_for(begins, near + 1, lba) {
+        return near + 1;
+    }
+    place_for(begins, lba)
 }
 
 pub(crate) fn as_number(b: bool) -> u32

@@ -10,7 +10,8 @@ ghost use Rattle.merge_queue.specs.Index.{bios_in};
 use crate::Limits;
 use crate::chains::{copy_out, fill, one_chain};
 use crate::entries::{
-    Entry, as_number, both_entries, entry_of, may_join, place_before, place_for, put_in,
+    Entry, as_number, both_entries, entry_of, may_join, place_before, place_for, place_for_near,
+    put_in,
 };
 use bio_core::{Bio, Dir};
 use std::alloc::{AllocError, Global};
@@ -183,8 +184,9 @@ impl DeviceQueue {
         let place = self.places[i as usize];
         let entry = self.entries[place as usize];
         let end = entry.lba + entry.blocks;
-        let from = place_before(&self.begins, end);
-        let to = place_for(&self.begins, end);
+        // mostly the groups lie side by side
+        let from = place_before(&self.begins, i as usize + 1, end);
+        let to = place_for_near(&self.begins, from, end);
         (from as u32, to as u32)
     }
 

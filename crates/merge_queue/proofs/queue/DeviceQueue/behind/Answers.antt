@@ -20,8 +20,8 @@ pub place_before-from-requires : goal.place_before-from-requires
 place_before-from-requires c =
     rw c.deref.ensures.value (rises c.self.inside.room c.self.inside.begins.items c.self.inside.places.items c.self.inside.entries.items c.self.inside.bios.items c.self.inside.next.items c.self.inside.free c.self.inside.left c.self.invariant.0)
 
-pub place_for-to-requires : goal.place_for-to-requires
-place_for-to-requires c =
+pub place_for_near-to-requires-clause-rise : goal.place_for_near-to-requires-clause-rise
+place_for_near-to-requires-clause-rise c =
     rw c.deref-2.ensures.value (rises c.self.inside.room c.self.inside.begins.items c.self.inside.places.items c.self.inside.entries.items c.self.inside.bios.items c.self.inside.next.items c.self.inside.free c.self.inside.left c.self.invariant.0)
 
 pub overflow_cast-result : goal.overflow_cast-result
@@ -41,9 +41,9 @@ returns-clause-order c =
     let s = held-sizes c.self.inside.room c.self.inside.begins.items c.self.inside.places.items c.self.inside.entries.items c.self.inside.bios.items c.self.inside.next.items c.self.inside.free c.self.inside.left c.args.self.now c.self.invariant.0 c.self.view_is in
     let f = found c.self.inside.room c.self.inside.begins.items c.self.inside.places.items c.self.inside.entries.items c.self.inside.bios.items c.self.inside.next.items c.self.inside.free c.self.inside.left c.args.i c.index-place.result.now c.self.invariant.0 (omega (arith, s)) c.index-place.ensures in
     (behind-whole c.self.inside.room (entries_of c.self.inside.places.items c.self.inside.entries.items) c.self.inside.bios.items c.self.inside.next.items c.self.inside.free c.self.inside.left c.args.self.now
-    c.self.inside.begins.items c.deref.result.now c.deref-2.result.now c.args.i c.place_before-from.result c.place_for-to.result c.index-entry.result.now c.self.invariant.0.index c.self.view_is c.self.invariant.0.begins_of f.within
+    c.self.inside.begins.items c.deref.result.now c.deref-2.result.now c.args.i c.place_before-from.result c.place_for_near-to.result c.index-entry.result.now c.self.invariant.0.index c.self.view_is c.self.invariant.0.begins_of f.within
     (read c.self.inside.room c.self.inside.begins.items c.self.inside.places.items c.self.inside.entries.items c.self.inside.bios.items c.self.inside.next.items c.self.inside.free c.self.inside.left c.args.i c.index-place.result.now c.index-entry.result.now c.self.invariant.0 (omega (arith, s)) c.index-place.ensures c.index-entry.ensures)
-    c.deref.ensures.value c.deref-2.ensures.value c.place_before-from.ensures.bound c.place_for-to.ensures.bound c.place_before-from.ensures.before c.place_for-to.ensures.after).0
+    c.deref.ensures.value c.deref-2.ensures.value c.place_before-from.ensures.bound c.place_for_near-to.ensures.bound c.place_before-from.ensures.before c.place_for_near-to.ensures.after).0
 
 pub returns-clause-bound : goal.returns-clause-bound
 returns-clause-bound c =
@@ -56,6 +56,6 @@ returns-clause-only c =
     let s = held-sizes c.self.inside.room c.self.inside.begins.items c.self.inside.places.items c.self.inside.entries.items c.self.inside.bios.items c.self.inside.next.items c.self.inside.free c.self.inside.left c.args.self.now c.self.invariant.0 c.self.view_is in
     let f = found c.self.inside.room c.self.inside.begins.items c.self.inside.places.items c.self.inside.entries.items c.self.inside.bios.items c.self.inside.next.items c.self.inside.free c.self.inside.left c.args.i c.index-place.result.now c.self.invariant.0 (omega (arith, s)) c.index-place.ensures in
     (behind-whole c.self.inside.room (entries_of c.self.inside.places.items c.self.inside.entries.items) c.self.inside.bios.items c.self.inside.next.items c.self.inside.free c.self.inside.left c.args.self.now
-    c.self.inside.begins.items c.deref.result.now c.deref-2.result.now c.args.i c.place_before-from.result c.place_for-to.result c.index-entry.result.now c.self.invariant.0.index c.self.view_is c.self.invariant.0.begins_of f.within
+    c.self.inside.begins.items c.deref.result.now c.deref-2.result.now c.args.i c.place_before-from.result c.place_for_near-to.result c.index-entry.result.now c.self.invariant.0.index c.self.view_is c.self.invariant.0.begins_of f.within
     (read c.self.inside.room c.self.inside.begins.items c.self.inside.places.items c.self.inside.entries.items c.self.inside.bios.items c.self.inside.next.items c.self.inside.free c.self.inside.left c.args.i c.index-place.result.now c.index-entry.result.now c.self.invariant.0 (omega (arith, s)) c.index-place.ensures c.index-entry.ensures)
-    c.deref.ensures.value c.deref-2.ensures.value c.place_before-from.ensures.bound c.place_for-to.ensures.bound c.place_before-from.ensures.before c.place_for-to.ensures.after).1
+    c.deref.ensures.value c.deref-2.ensures.value c.place_before-from.ensures.bound c.place_for_near-to.ensures.bound c.place_before-from.ensures.before c.place_for_near-to.ensures.after).1
