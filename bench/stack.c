@@ -1,6 +1,7 @@
 /* Measures how long a stack of requests takes to its end under several ways to choose the words, and beside the adapter
    alone. Times are those of the processor that the thread took. A figure is the median of the rounds; making the stack,
    which the same library does without running it, is taken off. */
+#include <malloc.h>
 #include <stdint.h>
 #include <stdio.h>
 #include <stdlib.h>
@@ -12,7 +13,7 @@
 uint32_t stack_bench_run(const uint8_t *text, size_t n, uint32_t words);
 uint32_t stack_bench_carry(uint32_t requests, _Bool carries);
 
-enum { ROUNDS = 20, NONE = 0xffff, ZEROS = 0, FIRST = 1, LAST = 2, LAST_ONCE_CUT = 3, RANDOM = 4, PAGE_BLOCKS = 8, BLOCKS = 16384, BYTES = 1 << 20 };
+enum { ROUNDS = 20, NONE = 0xffff, ZEROS = 0, FIRST = 1, LAST = 2, LAST_ONCE_CUT = 3, RANDOM = 4, PAGE_BLOCKS = 8, PAGES = 256, BLOCKS = 16384, BYTES = 1 << 20 };
 
 struct script {
     char *text;
@@ -26,16 +27,17 @@ static void expect(uint32_t got, uint32_t least, uint32_t most) {
     }
 }
 
-/* Writes of so many blocks in all, in requests of so many, over whole pages, one request behind the other. */
+/* Writes of so many blocks in all, in requests of so many, over whole pages, one request behind the other. A script has
+   at most 256 pages, so several write the same ones. */
 static struct script writes(uint32_t blocks, uint32_t of, uint32_t most) {
     struct script s = {malloc(BYTES), 0};
     if (!s.text)
         exit(1);
-    s.len += (size_t)sprintf(s.text + s.len, "dix 1\nmode crc on on 1\nlimits %u 128 64\npages %u\nlinear 0 16384 dev 1 at 0\nbegin\n", most, blocks / PAGE_BLOCKS);
+    s.len += (size_t)sprintf(s.text + s.len, "dix 1\nmode crc on on 1\nlimits %u 128 64\npages %d\nlinear 0 16384 dev 1 at 0\nbegin\n", most, PAGES);
     for (uint32_t v = 0; v < blocks; v += of) {
         s.len += (size_t)sprintf(s.text + s.len, "write %u %u ", v, of);
         for (uint32_t page = v / PAGE_BLOCKS; page < (v + of) / PAGE_BLOCKS; page++)
-            s.len += (size_t)sprintf(s.text + s.len, "%s%u:0:4096", page == v / PAGE_BLOCKS ? "" : ",", page);
+            s.len += (size_t)sprintf(s.text + s.len, "%s%u:0:4096", page == v / PAGE_BLOCKS ? "" : ",", page % PAGES);
         s.len += (size_t)sprintf(s.text + s.len, "\n");
     }
     return s;
@@ -71,6 +73,9 @@ int main(int count, char **arguments) {
     int rounds = count > 1 ? atoi(arguments[1]) : ROUNDS;
     if (rounds < 1)
         return 1;
+    /* Memory that was given back is handed out again, so that the system doesn't clear it anew in each run. */
+    mallopt(M_MMAP_MAX, 0);
+    mallopt(M_TRIM_THRESHOLD, 1 << 30);
     struct way ways[] = {
         {"8,192 blocks, no words", writes(8192, 1024, 1024), ZEROS},
         {"16,384 blocks, no words", writes(16384, 1024, 1024), ZEROS},

@@ -17,13 +17,13 @@ use pi_tuple::{PiType, make};
 use rig_api::Rig;
 use std::alloc::{AllocError, Global};
 
-/// The requests, each of so many blocks on two pages.
+/// The requests, each of so many blocks on two pages, some of the same ones.
 const REQUESTS: u32 = 1024;
 
 const BLOCKS: u32 = 16;
 
 /// Each request's tuples have a page of their own behind the pages of the data.
-const DATA_PAGES: u32 = 2048;
+const DATA_PAGES: u32 = 256;
 
 const TUPLE_BYTES: u32 = 128;
 
@@ -44,7 +44,7 @@ fn page(page: u32, len: u32) -> Seg {
 /// The write of this number.
 fn request(alloc: Global, k: u32) -> Result<Io, AllocError> {
     let first = k.wrapping_mul(BLOCKS) as u64;
-    let front = k.wrapping_mul(2);
+    let front = k.wrapping_mul(2) % DATA_PAGES;
     let data = [page(front, PAGE), page(front.wrapping_add(1), PAGE)];
     let tuples = [page(DATA_PAGES.wrapping_add(k), TUPLE_BYTES)];
     Ok(Io {

@@ -51,12 +51,19 @@ impl Words {
     }
 }
 
+/// How many steps admit all ops and cut all blocks one by one.
+fn admitted_and_cut(stack: &Stack) -> usize
+    requires { IsStack stack.now }
+{
+    stack.replies().len().saturating_add(stack.blocks() as usize)
+}
+
 /// The word and the cut of a step; `drawn` is a random number.
 fn word_of(words: Words, stack: &Stack, step: u32, drawn: u32) -> (u32, u32)
     requires { IsStack stack.now }
 {
     let is_last = words == Words::LastOfOne
-        || words == Words::LastOnceCut && step > stack.blocks().saturating_add(1024);
+        || words == Words::LastOnceCut && step as usize >= admitted_and_cut(stack);
     if is_last {
         return (stack.enabled().saturating_sub(1), 1);
     }
