@@ -96,6 +96,34 @@ pub fn count_ops<P: Requests>(
     count
 }
 
+/// How many of the first ops have this step. The count ends once it is past this number.
+fn count_past<P: Requests>(
+    plan: &P,
+    gate: &Gate,
+    ops: &[OpState],
+    live: &[u32],
+    step: OpStep,
+    number: u64,
+) -> u32
+    requires few { length (P.plan plan.now).requests + 1 < 2 ^ 32 }
+    requires phases { length gate.now.phases ≡ length (P.plan plan.now).requests }
+    requires same { length ops.now ≡ length (P.plan plan.now).requests }
+    requires ops { All (IsBelow (length (P.plan plan.now).requests)) live.now }
+    ensures some { result ≤ length (places (P.plan plan.now) gate.now ops.now live.now step) }
+    ensures all { result ≤ number → result ≡ length (places (P.plan plan.now) gate.now ops.now live.now step) }
+    ensures few { result ≤ 32 }
+{
+    let n = live.len().min(32);
+    let mut count = 0u32;
+    for at in 0..n {
+        if count as u64 > number {
+            return count;
+        }
+        count += one_if(can_do(plan, gate, ops, live, step, at));
+    }
+    count
+}
+
 /// The place of the op of this number among those that have this step.
 pub fn pick_op<P: Requests>(
     plan: &P,
@@ -228,7 +256,7 @@ pub fn nth_choice<P: Requests>(
     ensures { result ≡ slice_index_or (choices (P.plan plan.now) gate.now ops.now live.now queues.now flight.now.commands) number no_choice }
 {
     let lim = plan.limits();
-    let ends = count_ops(plan, gate, ops, live, OpStep::Ending) as u64;
+    let ends = count_past(plan, gate, ops, live, OpStep::Ending, number) as u64;
     if number < ends {
         return Choice::End(pick_op(plan, gate, ops, live, OpStep::Ending, number));
     }
@@ -238,12 +266,12 @@ pub fn nth_choice<P: Requests>(
         return Choice::Complete(second as u32);
     }
     let third = second - completions;
-    let admissions = count_ops(plan, gate, ops, live, OpStep::Admission) as u64;
+    let admissions = count_past(plan, gate, ops, live, OpStep::Admission, third) as u64;
     if third < admissions {
         return Choice::Admit(pick_op(plan, gate, ops, live, OpStep::Admission, third));
     }
     let fourth = third - admissions;
-    let cuts = count_ops(plan, gate, ops, live, OpStep::Cutting) as u64;
+    let cuts = count_past(plan, gate, ops, live, OpStep::Cutting, fourth) as u64;
     if fourth < cuts {
         return Choice::Cut(pick_op(plan, gate, ops, live, OpStep::Cutting, fourth));
     }

@@ -7,40 +7,40 @@ use Rattle.stack_steps.proofs.choice.nth_choice.Goals as goal
 
 pub returns-then-second-completions : goal.returns-then-second-completions
 returns-then-second-completions g c =
-    sym (to-second (g.P.Requests.plan c.args.plan.now) c.args.gate.now c.args.ops.now c.args.live.now c.args.queues.now c.args.flight.now.commands c.args.number c.count_ops-ends.result c.count_ops-ends.ensures.count (omega arith)
-    ∙ in-second (g.P.Requests.plan c.args.plan.now) c.args.gate.now c.args.ops.now c.args.live.now c.args.queues.now c.args.flight.now.commands (c.args.number - c.count_ops-ends.result) (omega (arith, c.len-completions.ensures)))
+    sym (to-second (g.P.Requests.plan c.args.plan.now) c.args.gate.now c.args.ops.now c.args.live.now c.args.queues.now c.args.flight.now.commands c.args.number c.count_past-ends.result (c.count_past-ends.ensures.all (omega arith)) (omega arith)
+    ∙ in-second (g.P.Requests.plan c.args.plan.now) c.args.gate.now c.args.ops.now c.args.live.now c.args.queues.now c.args.flight.now.commands (c.args.number - c.count_past-ends.result) (omega (arith, c.len-completions.ensures)))
 
 pub returns-then-third-admissions : goal.returns-then-third-admissions
 returns-then-third-admissions g c =
-    sym (to-second (g.P.Requests.plan c.args.plan.now) c.args.gate.now c.args.ops.now c.args.live.now c.args.queues.now c.args.flight.now.commands c.args.number c.count_ops-ends.result c.count_ops-ends.ensures.count (omega arith) ∙ to-third (g.P.Requests.plan c.args.plan.now) c.args.gate.now c.args.ops.now c.args.live.now c.args.queues.now c.args.flight.now.commands (c.args.number - c.count_ops-ends.result) c.len-completions.result c.len-completions.ensures (omega arith)
-    ∙ in-third (g.P.Requests.plan c.args.plan.now) c.args.gate.now c.args.ops.now c.args.live.now c.args.queues.now (c.args.number - c.count_ops-ends.result - c.len-completions.result) (omega (arith, c.count_ops-admissions.ensures.count))
+    sym (to-second (g.P.Requests.plan c.args.plan.now) c.args.gate.now c.args.ops.now c.args.live.now c.args.queues.now c.args.flight.now.commands c.args.number c.count_past-ends.result (c.count_past-ends.ensures.all (omega arith)) (omega arith) ∙ to-third (g.P.Requests.plan c.args.plan.now) c.args.gate.now c.args.ops.now c.args.live.now c.args.queues.now c.args.flight.now.commands (c.args.number - c.count_past-ends.result) c.len-completions.result c.len-completions.ensures (omega arith)
+    ∙ in-third (g.P.Requests.plan c.args.plan.now) c.args.gate.now c.args.ops.now c.args.live.now c.args.queues.now (c.args.number - c.count_past-ends.result - c.len-completions.result) (omega (arith, c.count_past-admissions.ensures.some))
     ∙ ap Admit (sym c.pick_op-then-third-admissions.ensures))
 
 pub returns-then-fourth-cuts : goal.returns-then-fourth-cuts
 returns-then-fourth-cuts g c =
-    sym (to-second (g.P.Requests.plan c.args.plan.now) c.args.gate.now c.args.ops.now c.args.live.now c.args.queues.now c.args.flight.now.commands c.args.number c.count_ops-ends.result c.count_ops-ends.ensures.count (omega arith) ∙ to-third (g.P.Requests.plan c.args.plan.now) c.args.gate.now c.args.ops.now c.args.live.now c.args.queues.now c.args.flight.now.commands (c.args.number - c.count_ops-ends.result) c.len-completions.result c.len-completions.ensures (omega arith) ∙ to-fourth (g.P.Requests.plan c.args.plan.now) c.args.gate.now c.args.ops.now c.args.live.now c.args.queues.now (c.args.number - c.count_ops-ends.result - c.len-completions.result) c.count_ops-admissions.result c.count_ops-admissions.ensures.count (omega arith)
-    ∙ in-fourth (g.P.Requests.plan c.args.plan.now) c.args.gate.now c.args.ops.now c.args.live.now c.args.queues.now (c.args.number - c.count_ops-ends.result - c.len-completions.result - c.count_ops-admissions.result) (omega (arith, c.count_ops-cuts.ensures.count))
+    sym (to-second (g.P.Requests.plan c.args.plan.now) c.args.gate.now c.args.ops.now c.args.live.now c.args.queues.now c.args.flight.now.commands c.args.number c.count_past-ends.result (c.count_past-ends.ensures.all (omega arith)) (omega arith) ∙ to-third (g.P.Requests.plan c.args.plan.now) c.args.gate.now c.args.ops.now c.args.live.now c.args.queues.now c.args.flight.now.commands (c.args.number - c.count_past-ends.result) c.len-completions.result c.len-completions.ensures (omega arith) ∙ to-fourth (g.P.Requests.plan c.args.plan.now) c.args.gate.now c.args.ops.now c.args.live.now c.args.queues.now (c.args.number - c.count_past-ends.result - c.len-completions.result) c.count_past-admissions.result (c.count_past-admissions.ensures.all (omega arith)) (omega arith)
+    ∙ in-fourth (g.P.Requests.plan c.args.plan.now) c.args.gate.now c.args.ops.now c.args.live.now c.args.queues.now (c.args.number - c.count_past-ends.result - c.len-completions.result - c.count_past-admissions.result) (omega (arith, c.count_past-cuts.ensures.some))
     ∙ ap Cut (sym c.pick_op-then-fourth-cuts.ensures))
 
 pub returns-in-Ok : goal.returns-in-Ok
 returns-in-Ok g c =
-    let f : ChoiceFound (joins_at (g.P.Requests.plan c.args.plan.now).limits 0 c.args.queues.now) (c.args.number - c.count_ops-ends.result - c.len-completions.result - c.count_ops-admissions.result - c.count_ops-cuts.result) (Ok c.in-Ok.choice) = rw (c.in-Ok.is, c.limits-lim.ensures) at c.find_join.ensures in
-    sym (to-second (g.P.Requests.plan c.args.plan.now) c.args.gate.now c.args.ops.now c.args.live.now c.args.queues.now c.args.flight.now.commands c.args.number c.count_ops-ends.result c.count_ops-ends.ensures.count (omega arith) ∙ to-third (g.P.Requests.plan c.args.plan.now) c.args.gate.now c.args.ops.now c.args.live.now c.args.queues.now c.args.flight.now.commands (c.args.number - c.count_ops-ends.result) c.len-completions.result c.len-completions.ensures (omega arith) ∙ to-fourth (g.P.Requests.plan c.args.plan.now) c.args.gate.now c.args.ops.now c.args.live.now c.args.queues.now (c.args.number - c.count_ops-ends.result - c.len-completions.result) c.count_ops-admissions.result c.count_ops-admissions.ensures.count (omega arith) ∙ to-fifth (g.P.Requests.plan c.args.plan.now) c.args.gate.now c.args.ops.now c.args.live.now c.args.queues.now (c.args.number - c.count_ops-ends.result - c.len-completions.result - c.count_ops-admissions.result) c.count_ops-cuts.result c.count_ops-cuts.ensures.count (omega arith)
-    ∙ in-fifth (g.P.Requests.plan c.args.plan.now) c.args.queues.now (c.args.number - c.count_ops-ends.result - c.len-completions.result - c.count_ops-admissions.result - c.count_ops-cuts.result) f.0
+    let f : ChoiceFound (joins_at (g.P.Requests.plan c.args.plan.now).limits 0 c.args.queues.now) (c.args.number - c.count_past-ends.result - c.len-completions.result - c.count_past-admissions.result - c.count_past-cuts.result) (Ok c.in-Ok.choice) = rw (c.in-Ok.is, c.limits-lim.ensures) at c.find_join.ensures in
+    sym (to-second (g.P.Requests.plan c.args.plan.now) c.args.gate.now c.args.ops.now c.args.live.now c.args.queues.now c.args.flight.now.commands c.args.number c.count_past-ends.result (c.count_past-ends.ensures.all (omega arith)) (omega arith) ∙ to-third (g.P.Requests.plan c.args.plan.now) c.args.gate.now c.args.ops.now c.args.live.now c.args.queues.now c.args.flight.now.commands (c.args.number - c.count_past-ends.result) c.len-completions.result c.len-completions.ensures (omega arith) ∙ to-fourth (g.P.Requests.plan c.args.plan.now) c.args.gate.now c.args.ops.now c.args.live.now c.args.queues.now (c.args.number - c.count_past-ends.result - c.len-completions.result) c.count_past-admissions.result (c.count_past-admissions.ensures.all (omega arith)) (omega arith) ∙ to-fifth (g.P.Requests.plan c.args.plan.now) c.args.gate.now c.args.ops.now c.args.live.now c.args.queues.now (c.args.number - c.count_past-ends.result - c.len-completions.result - c.count_past-admissions.result) c.count_past-cuts.result (c.count_past-cuts.ensures.all (omega arith)) (omega arith)
+    ∙ in-fifth (g.P.Requests.plan c.args.plan.now) c.args.queues.now (c.args.number - c.count_past-ends.result - c.len-completions.result - c.count_past-admissions.result - c.count_past-cuts.result) f.0
     ∙ sym f.1)
 
 pub pick_send-requires-clause-within : goal.pick_send-requires-clause-within
 pick_send-requires-clause-within g c =
     let n = length-choices (g.P.Requests.plan c.args.plan.now) c.args.gate.now c.args.ops.now c.args.live.now c.args.queues.now c.args.flight.now.commands in
-    let f : ChoiceFound (joins_at (g.P.Requests.plan c.args.plan.now).limits 0 c.args.queues.now) (c.args.number - c.count_ops-ends.result - c.len-completions.result - c.count_ops-admissions.result - c.count_ops-cuts.result) (Err c.in-Err.sixth) = rw (c.in-Err.is, c.limits-lim.ensures) at c.find_join.ensures in
-    omega (arith, n, f, c.count_ops-ends.ensures.count, c.len-completions.ensures, c.count_ops-admissions.ensures.count, c.count_ops-cuts.ensures.count)
+    let f : ChoiceFound (joins_at (g.P.Requests.plan c.args.plan.now).limits 0 c.args.queues.now) (c.args.number - c.count_past-ends.result - c.len-completions.result - c.count_past-admissions.result - c.count_past-cuts.result) (Err c.in-Err.sixth) = rw (c.in-Err.is, c.limits-lim.ensures) at c.find_join.ensures in
+    omega (arith, n, f, (c.count_past-ends.ensures.all (omega arith)), c.len-completions.ensures, (c.count_past-admissions.ensures.all (omega arith)), (c.count_past-cuts.ensures.all (omega arith)))
 
 pub returns-in-Err : goal.returns-in-Err
 returns-in-Err g c =
-    let f : ChoiceFound (joins_at (g.P.Requests.plan c.args.plan.now).limits 0 c.args.queues.now) (c.args.number - c.count_ops-ends.result - c.len-completions.result - c.count_ops-admissions.result - c.count_ops-cuts.result) (Err c.in-Err.sixth) = rw (c.in-Err.is, c.limits-lim.ensures) at c.find_join.ensures in
+    let f : ChoiceFound (joins_at (g.P.Requests.plan c.args.plan.now).limits 0 c.args.queues.now) (c.args.number - c.count_past-ends.result - c.len-completions.result - c.count_past-admissions.result - c.count_past-cuts.result) (Err c.in-Err.sixth) = rw (c.in-Err.is, c.limits-lim.ensures) at c.find_join.ensures in
     let j = length (joins_at (g.P.Requests.plan c.args.plan.now).limits 0 c.args.queues.now) in
-    let e : (c.args.number - c.count_ops-ends.result - c.len-completions.result - c.count_ops-admissions.result - c.count_ops-cuts.result) - j ≡ c.in-Err.sixth = omega (arith, f) in
-    sym (to-second (g.P.Requests.plan c.args.plan.now) c.args.gate.now c.args.ops.now c.args.live.now c.args.queues.now c.args.flight.now.commands c.args.number c.count_ops-ends.result c.count_ops-ends.ensures.count (omega arith) ∙ to-third (g.P.Requests.plan c.args.plan.now) c.args.gate.now c.args.ops.now c.args.live.now c.args.queues.now c.args.flight.now.commands (c.args.number - c.count_ops-ends.result) c.len-completions.result c.len-completions.ensures (omega arith) ∙ to-fourth (g.P.Requests.plan c.args.plan.now) c.args.gate.now c.args.ops.now c.args.live.now c.args.queues.now (c.args.number - c.count_ops-ends.result - c.len-completions.result) c.count_ops-admissions.result c.count_ops-admissions.ensures.count (omega arith) ∙ to-fifth (g.P.Requests.plan c.args.plan.now) c.args.gate.now c.args.ops.now c.args.live.now c.args.queues.now (c.args.number - c.count_ops-ends.result - c.len-completions.result - c.count_ops-admissions.result) c.count_ops-cuts.result c.count_ops-cuts.ensures.count (omega arith)
-    ∙ to-sixth (g.P.Requests.plan c.args.plan.now) c.args.queues.now (c.args.number - c.count_ops-ends.result - c.len-completions.result - c.count_ops-admissions.result - c.count_ops-cuts.result) j refl (omega (arith, f))
+    let e : (c.args.number - c.count_past-ends.result - c.len-completions.result - c.count_past-admissions.result - c.count_past-cuts.result) - j ≡ c.in-Err.sixth = omega (arith, f) in
+    sym (to-second (g.P.Requests.plan c.args.plan.now) c.args.gate.now c.args.ops.now c.args.live.now c.args.queues.now c.args.flight.now.commands c.args.number c.count_past-ends.result (c.count_past-ends.ensures.all (omega arith)) (omega arith) ∙ to-third (g.P.Requests.plan c.args.plan.now) c.args.gate.now c.args.ops.now c.args.live.now c.args.queues.now c.args.flight.now.commands (c.args.number - c.count_past-ends.result) c.len-completions.result c.len-completions.ensures (omega arith) ∙ to-fourth (g.P.Requests.plan c.args.plan.now) c.args.gate.now c.args.ops.now c.args.live.now c.args.queues.now (c.args.number - c.count_past-ends.result - c.len-completions.result) c.count_past-admissions.result (c.count_past-admissions.ensures.all (omega arith)) (omega arith) ∙ to-fifth (g.P.Requests.plan c.args.plan.now) c.args.gate.now c.args.ops.now c.args.live.now c.args.queues.now (c.args.number - c.count_past-ends.result - c.len-completions.result - c.count_past-admissions.result) c.count_past-cuts.result (c.count_past-cuts.ensures.all (omega arith)) (omega arith)
+    ∙ to-sixth (g.P.Requests.plan c.args.plan.now) c.args.queues.now (c.args.number - c.count_past-ends.result - c.len-completions.result - c.count_past-admissions.result - c.count_past-cuts.result) j refl (omega (arith, f))
     ∙ ap (λ n. get_or (sends_at 0 c.args.queues.now) n no_choice) e
     ∙ sym c.pick_send.ensures)
