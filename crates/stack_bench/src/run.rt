@@ -55,7 +55,10 @@ impl Words {
 fn admitted_and_cut(stack: &Stack) -> usize
     requires { IsStack stack.now }
 {
-    stack.replies().len().saturating_add(stack.blocks() as usize)
+    stack
+        .replies()
+        .len()
+        .saturating_add(stack.blocks() as usize)
 }
 
 /// The word and the cut of a step; `drawn` is a random number.
