@@ -5,6 +5,10 @@ use Rattle.pi_scrub.specs.declared.found.Found.{Found}
 use Rattle.image_commands.specs.Causes.{CauseUnformatted, CauseUnmigrated, CauseUnscrubbed, WasFormatted, WasMigrated, WasScrubbed}
 use Rattle.image_commands.specs.declared.fault.Fault.{Fault}
 use Rattle.image_commands.specs.declared.fault.Fault.TheVariants as fault
+use Rattle.pi_tuple.specs.declared.checks.PiType.{PiType}
+use Rattle.nvme_command.specs.Causes.{CauseNotDone, WereDone}
+use Rattle.nvme_command.specs.declared.fault.NvmFault.{NvmFault}
+use Rattle.mode_map.specs.Modes.{modes_text}
 use Rattle.dix_words.specs.Grammar.{command_in, image_in}
 use Rattle.dix_words.specs.declared.command.Command.{Command}
 use Rattle.dix_words.specs.declared.command.Command.TheVariants.{Run, Trace, Format, Migrate, Mirror, Scrub, Nvme, Modes, Big}
@@ -12,7 +16,7 @@ use Rattle.dix_cli.specs.declared.refusal.Refusal.TheVariants as refusal
 use Rattle.image_commands.specs.Views.{HasKept, View, WasOpened}
 use Rattle.dix_cli.specs.Ready.{IsReady}
 use Rattle.dix_cli.specs.Runs.{Ran, StandsSmall}
-use Rattle.dix_cli.specs.Verdict.{CauseByCommand, CauseRefused, Ended, Facts, Finished, Formatted, IsBadDevice, LeavesSource, Migrated, ReadsAs, Refused, Scrubbed, Written, fault_of, refusal_text, status_of, verdict_status, verdict_text}
+use Rattle.dix_cli.specs.Verdict.{CauseByCommand, CauseRefused, Commanded, Ended, Facts, Finished, Formatted, IsBadDevice, LeavesSource, Mapped, Migrated, ReadsAs, Refused, Scrubbed, Written, fault_of, nvm_fault_of, refusal_text, status_of, verdict_status, verdict_text}
 use Rattle.dix_cli.specs.declared.program.Ready.{Ready}
 use Rattle.rig_api.specs.Telling.{units_told}
 use Rattle.whole_run.specs.declared.op.Op.{Op}
@@ -30,8 +34,8 @@ not_built (Some (Format us)) = false
 not_built (Some Migrate) = false
 not_built (Some Mirror) = true
 not_built (Some Scrub) = false
-not_built (Some Nvme) = true
-not_built (Some (Modes ty)) = true
+not_built (Some Nvme) = false
+not_built (Some (Modes ty)) = false
 not_built (Some (Big n seed)) = true
 
 -- a call that came to a run
@@ -74,8 +78,8 @@ ended_none f old new o n result rig source none written = record { verdict = Ref
     by (Some Migrate) e = absurd (cc)
     by (Some Mirror) e = (refl, rig, source)
     by (Some Scrub) e = absurd (cc)
-    by (Some Nvme) e = (refl, rig, source)
-    by (Some (Modes ty)) e = (refl, rig, source)
+    by (Some Nvme) e = absurd (cc)
+    by (Some (Modes ty)) e = absurd (cc)
     by (Some (Big n seed)) e = (refl, rig, source)
 
 pub ended_format : (f : Facts) (us : List UnitSpec) (n : ℕ) (old new : Option (List ℕ)) (o m : ℕ) (result : Status) → command_in f.words ≡ Some (Format us) → n ≡ length us → WasFormatted (image_in f.words) us f.rig f.rig_after → LeavesSource f →
@@ -100,6 +104,20 @@ ended_scrub f devices found old new o m result named done source written = recor
 pub unscrubbed : (f : Facts) (r : Refusal) (x : Fault) (old new : Option (List ℕ)) (o m : ℕ) (result : Status) → command_in f.words ≡ Some Scrub → fault_of r ≡ Some x → CauseUnscrubbed x (image_in f.words) f.rig f.rig_after → LeavesSource f →
     Written (status_of r) (refusal_text r) old new o m result → Ended f old new o m result
 unscrubbed f r x old new o m result named e cause source written = record { verdict = Refused r; cause = (rw (named, e) (cause, source)); written = written }
+
+pub ended_nvme : (f : Facts) (bad : Bool) (text : List ℕ) (old new : Option (List ℕ)) (o m : ℕ) (result : Status) → command_in f.words ≡ Some Nvme → WereDone (image_in f.words) text bad f.left f.left_after f.rig f.rig_after →
+    Written (if bad then status.SomeBad else status.Whole) text old new o m result → Ended f old new o m result
+ended_nvme f bad text old new o m result named done written = record { verdict = Commanded bad text; cause = record { named = named; done = done }; written = written }
+
+pub uncommanded : (f : Facts) (r : Refusal) (x : NvmFault) (old new : Option (List ℕ)) (o m : ℕ) (result : Status) → command_in f.words ≡ Some Nvme → nvm_fault_of r ≡ Some x → CauseNotDone x (image_in f.words) f.left f.left_after f.reads f.reads_after f.rig f.rig_after →
+    Written (status_of r) (refusal_text r) old new o m result → Ended f old new o m result
+uncommanded f r x old new o m result named e cause written = record { verdict = Refused r; cause = (rw (named, e) cause); written = written }
+
+pub ended_modes : (f : Facts) (ty : PiType) (old new : Option (List ℕ)) (o m : ℕ) (result : Status) → command_in f.words ≡ Some (Modes ty) → f.rig_after ≡ f.rig → LeavesSource f → Written status.Whole (modes_text ty) old new o m result → Ended f old new o m result
+ended_modes f ty old new o m result named rig source written = record { verdict = Mapped ty; cause = record { named = named; rig_is = rig; source = source }; written = written }
+
+pub unmapped : (f : Facts) (ty : PiType) (old new : Option (List ℕ)) (o m : ℕ) (result : Status) → command_in f.words ≡ Some (Modes ty) → f.rig_after ≡ f.rig → LeavesSource f → Written status.Memory (refusal_text refusal.Memory) old new o m result → Ended f old new o m result
+unmapped f ty old new o m result named rig source written = record { verdict = Refused refusal.Memory; cause = (rw named (refl, rig, source)); written = written }
 
 -- a scrub without the memory for its text looked at every block
 pub scrub_spared : (name : List ℕ) (devices : List DeviceInfo) (found : List Found) (old new : View) → WasScrubbed name devices found old new → CauseUnscrubbed fault.Memory name old new

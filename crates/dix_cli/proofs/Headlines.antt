@@ -27,29 +27,23 @@ use Rattle.pi_scrub.specs.declared.found.Found.{Found}
 use Rattle.image_commands.specs.Causes.{CauseUnformatted, CauseUnmigrated, CauseUnscrubbed, HasOpened}
 use Rattle.image_commands.specs.declared.fault.Fault.{Fault}
 use Rattle.image_commands.specs.declared.fault.Fault.TheVariants as fault
+use Rattle.pi_tuple.specs.declared.checks.PiType.{PiType}
+use Rattle.nvme_command.specs.declared.fault.NvmFault.{NvmFault}
+use Rattle.nvme_command.proofs.Completes.{done_opens, not_done_opens}
 use Rattle.dix_words.specs.Grammar.{command_in, image_in}
 use Rattle.dix_words.specs.declared.command.Command.{Command}
 use Rattle.dix_words.specs.declared.command.Command.TheVariants.{Run, Trace, Format, Migrate, Mirror, Scrub, Nvme, Modes, Big}
 use Rattle.dix_cli.specs.Words.{is_run, is_run_command}
-use Rattle.dix_cli.specs.Reading.{IsOver, IsWhole, most_bytes, script_of}
+use Rattle.source_text.specs.Reading.{IsOver, IsWhole, most_bytes}
+use Rattle.source_text.proofs.Taking.{over_long, whole_text}
+use Rattle.dix_cli.specs.Reading.{script_of}
 use Rattle.dix_cli.specs.Headline.{IsComplete, IsRun, OpensOnce, RunEqualsPlain, blocks_of_image}
-use Rattle.dix_cli.specs.Verdict.{ByFault, Cause, CauseByCommand, CauseRefused, Ended, Facts, Finished, Formatted, HasBadDevice, HasFormatted, HasMigrated, HasNoCommand, HasRun, HasScrubbed, IsNotBuilt, Migrated, ReadsAs, Refused, Scrubbed, Verdict, Written, fault_of, status_of, verdict_status, verdict_text}
+use Rattle.dix_cli.specs.Verdict.{ByFault, ByNvmFault, Cause, CauseByCommand, CauseRefused, Commanded, Ended, Facts, Finished, Formatted, HasBadDevice, HasCommanded, HasFormatted, HasMapped, HasMigrated, HasNoCommand, HasRun, HasScrubbed, IsNotBuilt, Mapped, Migrated, ReadsAs, Refused, Scrubbed, Verdict, Written, fault_of, nvm_fault_of, status_of, verdict_status, verdict_text}
 use Rattle.dix_cli.specs.declared.refusal.Refusal.{Refusal}
 use Rattle.dix_cli.specs.declared.refusal.Refusal.TheVariants as refusal
 use Rattle.dix_cli.specs.declared.status.Status.{Status}
 use Rattle.dix_cli.specs.declared.status.Status.TheVariants as status
 use Rattle.dix_cli.proofs.Fitting.{script_fits}
-
--- what a told source held is what was read
-pub read_is : (text held : List ℕ) (new : Option (List ℕ)) → IsWhole text (Some held) new → text ≡ held
-read_is text held None w = absurd w.0
-read_is text held (Some left) w =
-    let none : left ≡ [] = w.1 in
-    let all : held ≡ text ++ left = w.0 in
-    sym (append-nil text) ∙ ap (λ v. text ++ v) (sym none) ∙ sym all
-
-whole_text : (text held : List ℕ) (old new : Option (List ℕ)) → old ≡ Some held → IsWhole text old new → text ≡ held
-whole_text text held old new e w = let v = rw e at w in read_is text held new v
 
 pub same_script : (f : Facts) (text : List ℕ) (ops ops' : Option (List Op)) → f.left ≡ Some text → script_of text ≡ ops → ReadsAs ops' f.left f.left_after → ops' ≡ ops
 same_script f text ops ops' e s r = sym r.2 ∙ ap script_of (whole_text r.0 text f.left f.left_after e r.1) ∙ s
@@ -171,11 +165,19 @@ no_migrate n f w c = not_run f.words Migrate c.named w refl
 no_scrub : (ds : List DeviceInfo) (found : List Found) (f : Facts) → is_run f.words ≡ true → HasScrubbed ds found f → ⊥
 no_scrub ds found f w c = not_run f.words Scrub c.named w refl
 
+no_commands : (bad : Bool) (text : List ℕ) (f : Facts) → is_run f.words ≡ true → HasCommanded bad text f → ⊥
+no_commands bad text f w c = not_run f.words Nvme c.named w refl
+
+no_map : (ty : PiType) (f : Facts) → is_run f.words ≡ true → HasMapped ty f → ⊥
+no_map ty f w c = not_run f.words (Modes ty) c.named w refl
+
 refused_none : (r : Refusal) (result : Status) → IsRun result → result ≡ status_of r → ⊥
 refused_none refusal.Words result (inl r) e = cc
 refused_none refusal.Words result (inr r) e = cc
 refused_none refusal.Script result (inl r) e = cc
 refused_none refusal.Script result (inr r) e = cc
+refused_none (refusal.Line x) result (inl r) e = cc
+refused_none (refusal.Line x) result (inr r) e = cc
 refused_none (refusal.Image x) result (inl r) e = cc
 refused_none (refusal.Image x) result (inr r) e = cc
 refused_none (refusal.BadCapacity dev) result (inl r) e = cc
@@ -195,6 +197,8 @@ verdict_is f (Refused x) result w c r e = absurd (refused_none x result r e)
 verdict_is f (Formatted n) result w c r e = absurd (no_format n f w c)
 verdict_is f (Migrated n) result w c r e = absurd (no_migrate n f w c)
 verdict_is f (Scrubbed ds found) result w c r e = absurd (no_scrub ds found f w c)
+verdict_is f (Commanded bad text) result w c r e = absurd (no_commands bad text f w c)
+verdict_is f (Mapped ty) result w c r e = absurd (no_map ty f w c)
 
 appended_to : (text written : List ℕ) (old new : Option (List ℕ)) → old ≡ Some written → Appended text old new → new ≡ Some (written ++ text)
 appended_to text written None new e a = absurd (cc)
@@ -245,15 +249,6 @@ too_long : (b : Bool) (x : Option (List Op)) (ops : List Op) → (if b then x el
 too_long true x ops e = refl
 too_long false x ops e = absurd (cc)
 
-over_long : (text all : List ℕ) (old new : Option (List ℕ)) → old ≡ Some text → Took all old new → length all ≡ most_bytes + 1 → length text ≤ most_bytes → ⊥
-over_long text all None new e t l s = cc
-over_long text all (Some held) None e t l s = t
-over_long text all (Some held) (Some left) e t l s =
-    let same : held ≡ text = cc in
-    let long = ap length (sym same ∙ t) in
-    let parts = length-append all left in
-    omega (arith, long, parts, l, s)
-
 not_over : (f : Facts) (text : List ℕ) (ops : List Op) → f.left ≡ Some text → script_of text ≡ Some ops → IsOver f.left f.left_after → ⊥
 not_over f text ops e s over =
     let short : length text ≤ most_bytes = leb-true (length text) most_bytes (too_long (nat_le (length text) most_bytes) (script_in text) ops s) in
@@ -285,6 +280,7 @@ refused_for_memory : (f : Facts) (r : Refusal) (text image : List ℕ) (ops : Li
     Calm f.reads f.reads_after → Calm f.rig.seen.faults f.rig_after.seen.faults → CauseRefused r f → status_of r ≡ status.Memory
 refused_for_memory f refusal.Words text image ops w l s i h u cr cf c = let e : is_run f.words ≡ false = c.0 in absurd (cc)
 refused_for_memory f refusal.Script text image ops w l s i h u cr cf c = absurd (no_script f text ops l s c.2)
+refused_for_memory f (refusal.Line x) text image ops w l s i h u cr cf c = absurd c
 refused_for_memory f (refusal.Image fault) text image ops w l s i h u cr cf c = absurd (no_head_fault image fault f.rig f.rig_after (image_in f.words) i c.2.image h c.3)
 refused_for_memory f (refusal.BadCapacity dev) text image ops w l s i h u cr cf c = absurd (bad_told image (image_in f.words) dev f.rig f.rig_after i c.2)
 refused_for_memory f refusal.NotBuilt text image ops w l s i h u cr cf c = absurd (built image f.rig f.rig_after (image_in f.words) i u c.2)
@@ -303,6 +299,8 @@ verdict_run f (Finished bad t) text image ops w l s i h u cr cf c = inl (run_or_
 verdict_run f (Formatted n) text image ops w l s i h u cr cf c = absurd (no_format n f w c)
 verdict_run f (Migrated n) text image ops w l s i h u cr cf c = absurd (no_migrate n f w c)
 verdict_run f (Scrubbed ds found) text image ops w l s i h u cr cf c = absurd (no_scrub ds found f w c)
+verdict_run f (Commanded bad t) text image ops w l s i h u cr cf c = absurd (no_commands bad t f w c)
+verdict_run f (Mapped ty) text image ops w l s i h u cr cf c = absurd (no_map ty f w c)
 
 pub as_written : (v : Verdict) (old new : Option (List ℕ)) (o n : ℕ) (result : Status) → Calm o n → Written (verdict_status v) (verdict_text v) old new o n result → result ≡ verdict_status v
 as_written v old new o n result c (inl w) = w.0
@@ -319,6 +317,7 @@ stayed a b e = (ap (λ (v : View). v.standing.openings) e, ap (λ (v : View). v.
 refused_opens : (f : Facts) (r : Refusal) → CauseRefused r f → OpensOnce f
 refused_opens f refusal.Words c = inl (stayed f.rig f.rig_after c.1)
 refused_opens f refusal.Script c = inl (stayed f.rig f.rig_after c.1)
+refused_opens f (refusal.Line x) c = absurd c
 refused_opens f (refusal.Image fault) c = inr c.3.opened
 refused_opens f (refusal.BadCapacity dev) c = inr (ap (λ (s : Standing). s.openings) c.2.bad.standing ∙ c.2.opened.opened.0, ap (λ (s : Standing). s.name) c.2.bad.standing ∙ c.2.opened.opened.1)
 refused_opens f refusal.NotBuilt c = inr (ap (λ (s : Standing). s.openings) c.2.looked.standing ∙ c.2.opened.opened.0, ap (λ (s : Standing). s.name) c.2.looked.standing ∙ c.2.opened.opened.1)
@@ -359,6 +358,10 @@ scrub_opens (Some (fault.BadCapacity dev)) name old new c = opened_still name ol
 scrub_opens (Some fault.RigFault) name old new c = inr c.1
 scrub_opens (Some fault.Memory) name old new c = spared_opens name old new c
 
+nvme_opens : (x : Option NvmFault) (f : Facts) → ByNvmFault x f → OpensOnce f
+nvme_opens None f c = absurd c
+nvme_opens (Some x) f c = not_done_opens x (image_in f.words) f.left f.left_after f.reads f.reads_after f.rig f.rig_after c
+
 none_opens : (f : Facts) (r : Refusal) → HasNoCommand r f → OpensOnce f
 none_opens f r c = inl (stayed f.rig f.rig_after c.1)
 
@@ -370,8 +373,8 @@ command_opens f (Some (Format us)) r cause = format_opens (fault_of r) (image_in
 command_opens f (Some Migrate) r cause = migrate_opens (fault_of r) (image_in f.words) f.rig f.rig_after cause.0
 command_opens f (Some Mirror) r cause = none_opens f r cause
 command_opens f (Some Scrub) r cause = scrub_opens (fault_of r) (image_in f.words) f.rig f.rig_after cause.0
-command_opens f (Some Nvme) r cause = none_opens f r cause
-command_opens f (Some (Modes ty)) r cause = none_opens f r cause
+command_opens f (Some Nvme) r cause = nvme_opens (nvm_fault_of r) f cause
+command_opens f (Some (Modes ty)) r cause = inl (stayed f.rig f.rig_after cause.1)
 command_opens f (Some (Big n seed)) r cause = none_opens f r cause
 
 opens : (f : Facts) (v : Verdict) → Cause v f → OpensOnce f
@@ -380,6 +383,8 @@ opens f (Finished bad text) c = inr (ap (λ (s : Standing). s.openings) (c.stand
 opens f (Formatted n) c = inr c.done.opened
 opens f (Migrated n) c = inr c.done.opened
 opens f (Scrubbed ds found) c = opened_on (image_in f.words) f.rig c.done.discovered.between c.done.told f.rig_after c.done.discovered.since c.done.standing
+opens f (Commanded bad text) c = done_opens (image_in f.words) text bad f.left f.left_after f.rig f.rig_after c.done
+opens f (Mapped ty) c = inl (stayed f.rig f.rig_after c.rig_is)
 
 pub opens_once : (f : Facts) (taken taken' : Option (List ℕ)) (o n : ℕ) (result : Status) → Ended f taken taken' o n result → OpensOnce f
 opens_once f taken taken' o n result ended = opens f ended.verdict ended.cause

@@ -1,4 +1,4 @@
-use Rattle.std.specs.Prelude.{ℕ, ◌≡◌, ◌⊎◌, true, List, [], ◌∷◌, ◌++◌, take, drop, Option, Some, None}
+use Rattle.std.specs.Prelude.{ℕ, ◌≡◌, ◌⊎◌, true, List, [], ◌∷◌, ◌++◌, take, drop, map, Option, Some, None, Ok}
 use Rattle.image_commands.specs.Views.{OpenedOnce}
 use Rattle.dix_base.specs.Told.{Calm}
 use Rattle.target_answer.specs.Frames.{frames_of, joined}
@@ -8,6 +8,11 @@ use Rattle.whole_run.specs.Plain.{AreClean, Plain, plain_run, under}
 use Rattle.whole_run.specs.Report.{report}
 use Rattle.whole_run.specs.Small.{small_spec}
 use Rattle.target_answer.specs.declared.units.UnitSpec.{UnitSpec}
+use Rattle.pi_tuple.specs.declared.checks.PiType.{PiType}
+use Rattle.rig_discovery.specs.Discovery.{info_of}
+use Rattle.nvme_lines.specs.Texts.{text_in}
+use Rattle.nvme_lines.specs.declared.line.NvmLine.{NvmLine}
+use Rattle.nvme_command.specs.Fits.{misfit}
 use Rattle.dix_words.specs.Grammar.{command_in, image_in}
 use Rattle.dix_words.specs.declared.command.Command.{Command}
 use Rattle.dix_cli.specs.Words.{is_run}
@@ -60,6 +65,16 @@ ScrubIsComplete f o n result =
     (image : List ℕ) → command_in f.words ≡ Some Command.Scrub → f.rig.image ≡ Some image → head_fault (head_of image) ≡ None →
     Calm f.rig.seen.faults f.rig_after.seen.faults → Calm o n → IsRun result ⊎ (result ≡ Memory)
 
+-- Words of `nvme`, lines whose metadata fit their commands, an image whose head is right, and no fault give status 0 or 1, or want of memory.
+abbrev pub NvmeIsComplete : Facts → ℕ → ℕ → Status → Type 0
+NvmeIsComplete f o n result =
+    (text image : List ℕ) (lines : List NvmLine) → command_in f.words ≡ Some Command.Nvme → f.left ≡ Some text → text_in text ≡ Ok lines → f.rig.image ≡ Some image → head_fault (head_of image) ≡ None →
+    misfit (map info_of (units_of (head_of image))) lines ≡ None → Calm f.reads f.reads_after → Calm f.rig.seen.faults f.rig_after.seen.faults → Calm o n → IsRun result ⊎ (result ≡ Memory)
+
+-- Words of `modes` and no fault of the sink give status 0, or want of memory.
+abbrev pub ModesIsComplete : Facts → ℕ → ℕ → Status → Type 0
+ModesIsComplete f o n result = (ty : PiType) → command_in f.words ≡ Some (Command.Modes ty) → Calm o n → (result ≡ Whole) ⊎ (result ≡ Memory)
+
 -- The rig was opened at most once more, by the name in the words.
 abbrev pub OpensOnce : Facts → Type 0
 OpensOnce f = OpenedOnce (image_in f.words) f.rig.standing f.rig_after.standing
@@ -72,4 +87,6 @@ pub record Carries (f : Facts) (taken taken' : Option (List ℕ)) (o n : ℕ) (r
   pub formats : FormatIsComplete f o n result
   pub migrates : MigrateIsComplete f o n result
   pub scrubs : ScrubIsComplete f o n result
+  pub commands : NvmeIsComplete f o n result
+  pub maps : ModesIsComplete f o n result
   pub opens : OpensOnce f

@@ -12,12 +12,20 @@ use Rattle.rig_discovery.specs.Discovery.{HasFault, HasFound, info_of}
 use Rattle.image_commands.specs.Causes.{CauseUnformatted, CauseUnmigrated, CauseUnscrubbed, WasFormatted, WasMigrated, WasScrubbed}
 use Rattle.image_commands.specs.declared.fault.Fault.{Fault}
 use Rattle.image_commands.specs.declared.fault.Fault.TheVariants as fault
+use Rattle.pi_tuple.specs.declared.checks.PiType.{PiType}
+use Rattle.script_lines.specs.Kinds.{kind_name, kind_number}
+use Rattle.nvme_lines.specs.declared.read.LineFault.{LineFault}
+use Rattle.nvme_command.specs.Causes.{CauseNotDone, WereDone}
+use Rattle.nvme_command.specs.declared.fault.NvmFault.{NvmFault}
+use Rattle.nvme_command.specs.declared.fault.NvmFault.TheVariants as nvm
+use Rattle.mode_map.specs.Modes.{modes_text}
 use Rattle.dix_words.specs.Grammar.{command_in, image_in}
 use Rattle.dix_words.specs.declared.command.Command.{Command}
 use Rattle.dix_words.specs.declared.command.Command.TheVariants.{Run, Trace, Format, Migrate, Mirror, Scrub, Nvme, Modes, Big}
 use Rattle.dix_cli.specs.ScrubText.{has_some, scrub_text}
 use Rattle.dix_cli.specs.Words.{is_run}
-use Rattle.dix_cli.specs.Reading.{IsOver, IsWhole, script_of}
+use Rattle.source_text.specs.Reading.{IsOver, IsWhole}
+use Rattle.dix_cli.specs.Reading.{script_of}
 use Rattle.dix_cli.specs.Runs.{Ran, StandsSmall}
 use Rattle.dix_cli.specs.declared.status.Status.{Status}
 use Rattle.dix_cli.specs.declared.status.Status.TheVariants as status
@@ -66,6 +74,7 @@ pub record IsBadDevice (r : Refusal) (old new : View) : Type 0 where
 abbrev pub status_of : Refusal → Status
 status_of refusal.Words = status.Words
 status_of refusal.Script = status.Script
+status_of (refusal.Line fault) = status.Script
 status_of (refusal.Image fault) = status.Image
 status_of (refusal.BadCapacity dev) = status.Image
 status_of refusal.NotBuilt = status.Image
@@ -73,10 +82,15 @@ status_of refusal.RigFault = status.RigFault
 status_of refusal.Memory = status.Memory
 status_of refusal.ReadFault = status.ReadFault
 
+-- the line that names a line at fault: its number, and the number and the name of the fault
+abbrev pub line_text : LineFault → List ℕ
+line_text f = codes "script " ++ (decimal f.line ++ (codes " " ++ (decimal (kind_number f.kind) ++ (codes " " ++ (kind_name f.kind ++ codes "\n")))))
+
 -- the text of a refusal
 abbrev pub refusal_text : Refusal → List ℕ
-refusal_text refusal.Words = codes "usage: dix run IMAGE, format IMAGE T:BLOCKS.., migrate IMAGE, scrub IMAGE\n"
+refusal_text refusal.Words = codes "usage: dix run IMAGE, format IMAGE T:BLOCKS.., migrate IMAGE, scrub IMAGE, nvme IMAGE, modes T\n"
 refusal_text refusal.Script = codes "script 0 0 NotBuilt\n"
+refusal_text (refusal.Line fault) = line_text fault
 refusal_text (refusal.Image fault) = codes "image " ++ (fault_name fault ++ codes "\n")
 refusal_text (refusal.BadCapacity dev) = codes "device " ++ (decimal dev ++ codes " BadCapacity\n")
 refusal_text refusal.NotBuilt = codes "image NotBuilt\n"
@@ -88,6 +102,7 @@ refusal_text refusal.ReadFault = codes "read fault\n"
 abbrev pub CauseUnread : Refusal → Option (List ℕ) → Option (List ℕ) → ℕ → ℕ → Type 0
 CauseUnread refusal.Words old new o n = ⊥
 CauseUnread refusal.Script old new o n = ReadsAs None old new ⊎ IsOver old new
+CauseUnread (refusal.Line fault) old new o n = ⊥
 CauseUnread (refusal.Image fault) old new o n = ⊥
 CauseUnread (refusal.BadCapacity dev) old new o n = ⊥
 CauseUnread refusal.NotBuilt old new o n = ⊥
@@ -99,6 +114,7 @@ CauseUnread refusal.ReadFault old new o n = Rose o n
 abbrev pub CauseUnopened : Refusal → List ℕ → View → View → Type 0
 CauseUnopened refusal.Words name old new = ⊥
 CauseUnopened refusal.Script name old new = ⊥
+CauseUnopened (refusal.Line fault) name old new = ⊥
 CauseUnopened (refusal.Image fault) name old new = WasOpened name (Some fault) old new
 CauseUnopened (refusal.BadCapacity dev) name old new = ⊥
 CauseUnopened refusal.NotBuilt name old new = ⊥
@@ -125,6 +141,7 @@ pub record HasBadDevice (name : List ℕ) (dev : ℕ) (old new : View) : Type 0 
 abbrev pub CauseRefused : Refusal → Facts → Type 0
 CauseRefused refusal.Words f = (is_run f.words ≡ false) × (f.rig_after ≡ f.rig) × (f.left_after ≡ f.left) × (f.reads_after ≡ f.reads)
 CauseRefused refusal.Script f = (is_run f.words ≡ true) × (f.rig_after ≡ f.rig) × (ReadsAs None f.left f.left_after ⊎ IsOver f.left f.left_after)
+CauseRefused (refusal.Line fault) f = ⊥
 CauseRefused (refusal.Image fault) f = (is_run f.words ≡ true) × ((ops : List Op) × ReadsAs (Some ops) f.left f.left_after) × HasKept f.rig f.rig_after × WasOpened (image_in f.words) (Some fault) f.rig f.rig_after
 CauseRefused (refusal.BadCapacity dev) f = (is_run f.words ≡ true) × ((ops : List Op) × ReadsAs (Some ops) f.left f.left_after) × HasBadDevice (image_in f.words) dev f.rig f.rig_after
 CauseRefused refusal.NotBuilt f = (is_run f.words ≡ true) × ((ops : List Op) × ReadsAs (Some ops) f.left f.left_after) × IsNotBuilt (image_in f.words) f.rig f.rig_after
@@ -154,6 +171,7 @@ pub record HasRun (f : Facts) (bad : Bool) (text : List ℕ) : Type 0 where
 abbrev pub fault_of : Refusal → Option Fault
 fault_of refusal.Words = None
 fault_of refusal.Script = None
+fault_of (refusal.Line x) = None
 fault_of (refusal.Image x) = Some (fault.Image x)
 fault_of (refusal.BadCapacity dev) = Some (fault.BadCapacity dev)
 fault_of refusal.NotBuilt = None
@@ -166,6 +184,23 @@ abbrev pub ByFault : (Fault → List ℕ → View → View → Type 0) → Optio
 ByFault Cause None name old new = ⊥
 ByFault Cause (Some x) name old new = Cause x name old new
 
+-- the fault by which NVM commands are refused
+abbrev pub nvm_fault_of : Refusal → Option NvmFault
+nvm_fault_of refusal.Words = None
+nvm_fault_of refusal.Script = None
+nvm_fault_of (refusal.Line x) = Some (nvm.Line x)
+nvm_fault_of (refusal.Image x) = Some (nvm.Image (fault.Image x))
+nvm_fault_of (refusal.BadCapacity dev) = Some (nvm.Image (fault.BadCapacity dev))
+nvm_fault_of refusal.NotBuilt = None
+nvm_fault_of refusal.RigFault = Some (nvm.Image fault.RigFault)
+nvm_fault_of refusal.Memory = Some (nvm.Image fault.Memory)
+nvm_fault_of refusal.ReadFault = Some nvm.Source
+
+-- The NVM commands are refused by a fault that has its cause.
+abbrev pub ByNvmFault : Option NvmFault → Facts → Type 0
+ByNvmFault None f = ⊥
+ByNvmFault (Some x) f = CauseNotDone x (image_in f.words) f.left f.left_after f.reads f.reads_after f.rig f.rig_after
+
 -- The source is as before.
 abbrev pub LeavesSource : Facts → Type 0
 LeavesSource f = (f.left_after ≡ f.left) × (f.reads_after ≡ f.reads)
@@ -173,6 +208,10 @@ LeavesSource f = (f.left_after ≡ f.left) × (f.reads_after ≡ f.reads)
 -- The words are not in the grammar, or their command isn't built; the rig and the source are as before.
 abbrev pub HasNoCommand : Refusal → Facts → Type 0
 HasNoCommand r f = (r ≡ refusal.Words) × (f.rig_after ≡ f.rig) × LeavesSource f
+
+-- Want of memory is all that refuses `modes`; the rig and the source are as before.
+abbrev pub HasNoMap : Refusal → Facts → Type 0
+HasNoMap r f = (r ≡ refusal.Memory) × (f.rig_after ≡ f.rig) × LeavesSource f
 
 -- why a call is refused, by its command
 abbrev pub CauseByCommand : Option Command → Refusal → Facts → Type 0
@@ -183,8 +222,8 @@ CauseByCommand (Some (Format us)) r f = ByFault CauseUnformatted (fault_of r) (i
 CauseByCommand (Some Migrate) r f = ByFault CauseUnmigrated (fault_of r) (image_in f.words) f.rig f.rig_after × LeavesSource f
 CauseByCommand (Some Mirror) r f = HasNoCommand r f
 CauseByCommand (Some Scrub) r f = ByFault CauseUnscrubbed (fault_of r) (image_in f.words) f.rig f.rig_after × LeavesSource f
-CauseByCommand (Some Nvme) r f = HasNoCommand r f
-CauseByCommand (Some (Modes ty)) r f = HasNoCommand r f
+CauseByCommand (Some Nvme) r f = ByNvmFault (nvm_fault_of r) f
+CauseByCommand (Some (Modes ty)) r f = HasNoMap r f
 CauseByCommand (Some (Big n seed)) r f = HasNoCommand r f
 
 -- The image of the words was formatted with the n units that they name.
@@ -207,6 +246,17 @@ pub record HasScrubbed (devices : List DeviceInfo) (found : List Found) (f : Fac
   pub done : WasScrubbed (image_in f.words) devices found f.rig f.rig_after
   pub source : LeavesSource f
 
+-- The NVM commands of the source were done on the image of the words.
+pub record HasCommanded (bad : Bool) (text : List ℕ) (f : Facts) : Type 0 where
+  pub named : command_in f.words ≡ Some Nvme
+  pub done : WereDone (image_in f.words) text bad f.left f.left_after f.rig f.rig_after
+
+-- The map of the words' type was told; the rig and the source are as before.
+pub record HasMapped (ty : PiType) (f : Facts) : Type 0 where
+  pub named : command_in f.words ≡ Some (Modes ty)
+  pub rig_is : f.rig_after ≡ f.rig
+  pub source : LeavesSource f
+
 -- what a call comes to, before it writes the text
 pub data Verdict : Type 0 where
   Refused : Refusal → Verdict
@@ -214,6 +264,8 @@ pub data Verdict : Type 0 where
   Formatted : ℕ → Verdict
   Migrated : ℕ → Verdict
   Scrubbed : List DeviceInfo → List Found → Verdict
+  Commanded : Bool → List ℕ → Verdict
+  Mapped : PiType → Verdict
 
 abbrev pub verdict_status : Verdict → Status
 verdict_status (Refused r) = status_of r
@@ -221,6 +273,8 @@ verdict_status (Finished bad text) = if bad then status.SomeBad else status.Whol
 verdict_status (Formatted n) = status.Whole
 verdict_status (Migrated n) = status.Whole
 verdict_status (Scrubbed devices found) = if has_some found then status.SomeBad else status.Whole
+verdict_status (Commanded bad text) = if bad then status.SomeBad else status.Whole
+verdict_status (Mapped ty) = status.Whole
 
 abbrev pub verdict_text : Verdict → List ℕ
 verdict_text (Refused r) = refusal_text r
@@ -228,6 +282,8 @@ verdict_text (Finished bad text) = text
 verdict_text (Formatted n) = codes "formatted " ++ (decimal n ++ codes "\n")
 verdict_text (Migrated n) = codes "migrated " ++ (decimal n ++ codes "\n")
 verdict_text (Scrubbed devices found) = scrub_text devices found
+verdict_text (Commanded bad text) = text
+verdict_text (Mapped ty) = modes_text ty
 
 abbrev pub Cause : Verdict → Facts → Type 0
 Cause (Refused r) f = CauseByCommand (command_in f.words) r f
@@ -235,6 +291,8 @@ Cause (Finished bad text) f = HasRun f bad text
 Cause (Formatted n) f = HasFormatted n f
 Cause (Migrated n) f = HasMigrated n f
 Cause (Scrubbed devices found) f = HasScrubbed devices found f
+Cause (Commanded bad text) f = HasCommanded bad text f
+Cause (Mapped ty) f = HasMapped ty f
 
 -- The text was written whole, and the status is the verdict's; or the sink failed, and a prefix of the text was written.
 abbrev pub Written : Status → List ℕ → Option (List ℕ) → Option (List ℕ) → ℕ → ℕ → Status → Type 0

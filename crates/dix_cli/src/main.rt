@@ -5,9 +5,10 @@
 mod commands;
 mod fate;
 mod frames;
+mod modes;
+mod nvme;
 mod opening;
 mod program;
-mod reading;
 mod refusal;
 mod report;
 mod requests;

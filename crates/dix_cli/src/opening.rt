@@ -11,7 +11,6 @@ ghost use Rattle.whole_run.specs.Ops.{fits};
 ghost use Rattle.dix_cli.specs.Runs.{StandsSmall, room_for};
 ghost use Rattle.dix_cli.specs.Verdict.{CauseUnopened, CauseUnread, IsBadDevice, Looked, ReadsAs, small_device};
 
-use crate::reading::{Unread, read_all};
 use crate::refusal::Refusal;
 use crate::runner::Report;
 use crate::script::read_script;
@@ -21,6 +20,7 @@ use image_commands::open_image;
 use pi_tuple::PiType;
 use rig_api::Rig;
 use rig_discovery::discover;
+use source_text::{Unread, read_all};
 use std::alloc::Global;
 use volume_table::DeviceInfo;
 use whole_run::Op;

@@ -14,6 +14,8 @@ ghost use Rattle.dix_cli.specs.Ready.{IsReady};
 ghost use Rattle.dix_cli.specs.declared.status.Status.{Status};
 
 use crate::commands::{format, migrate, scrub};
+use crate::modes::modes;
+use crate::nvme::nvme;
 use crate::opening::{is_small, open, read_ops, take_room};
 use crate::refusal::Refusal;
 use crate::runner::{Report, run_ops};
@@ -147,8 +149,8 @@ pub fn run<S: Source, R: Rig, O: Sink>(
         Command::Scrub => scrub(alloc, words, rig, out),
         Command::Trace => refuse(out, Refusal::Words),
         Command::Mirror => refuse(out, Refusal::Words),
-        Command::Nvme => refuse(out, Refusal::Words),
-        Command::Modes(_) => refuse(out, Refusal::Words),
+        Command::Nvme => nvme(alloc, words, script, rig, out),
+        Command::Modes(ty) => modes(alloc, ty, out),
         Command::Big { .. } => refuse(out, Refusal::Words),
     }
 }

@@ -2,6 +2,7 @@
 
 mod capacities;
 mod files;
+mod nvme;
 mod scrubs;
 
 use crate::fate::{read_fate, reply_for, write_fate};
@@ -305,7 +306,8 @@ fn a_script_is_bounded(rt: HostRuntime) -> Result<(), Fail> {
 }
 
 /// The usage line.
-const USAGE: &str = "usage: dix run IMAGE, format IMAGE T:BLOCKS.., migrate IMAGE, scrub IMAGE\n";
+const USAGE: &str =
+    "usage: dix run IMAGE, format IMAGE T:BLOCKS.., migrate IMAGE, scrub IMAGE, nvme IMAGE, modes T\n";
 
 /// Words that are in the grammar, with bars between them, and what their command writes over a
 /// formatted image of one unit of type 1 with four blocks.
@@ -320,7 +322,7 @@ const COMMANDS: [(&str, &str); 7] = [
 ];
 
 /// Words that are not in the grammar, or whose command isn't built.
-const NO_COMMANDS: [&str; 42] = [
+const NO_COMMANDS: [&str; 45] = [
     "",
     "run",
     "run|a|b",
@@ -332,8 +334,11 @@ const NO_COMMANDS: [&str; 42] = [
     "a|run",
     "trace|a",
     "mirror|a",
-    "nvme|a",
-    "modes|1",
+    "nvme",
+    "nvme|-a",
+    "nvme|a|b",
+    "modes",
+    "modes|01",
     "modes|4",
     "big|1|1",
     "big|01|1",
@@ -757,7 +762,11 @@ fn an_image_is_made_and_looked_after(rt: HostRuntime) -> Result<(), Fail> {
 
 /// Words over a formatted image of four blocks, the calls of store and sink that fail, 0 for none,
 /// the sink's room, the status and the text.
-const FAILING: [(&str, u64, u64, u32, u8, &str); 13] = [
+const FAILING: [(&str, u64, u64, u32, u8, &str); 17] = [
+    ("nvme|a", 0, 0, 4096, 3, "script 1 4 BadNumber\n"),
+    ("nvme|a", 0, 0, 8, 8, "script 1"),
+    ("modes|1", 0, 1, 4096, 8, ""),
+    ("modes|1", 0, 0, 5, 8, "off o"),
     ("format|a|1:4", 1, 0, 4096, 5, "rig fault\n"),
     ("format|a|1:4", 0, 1, 4096, 8, ""),
     ("format|a|1:4", 0, 0, 5, 8, "forma"),

@@ -70,7 +70,8 @@ shapes (u ∷ us) bytes =
     let same : device_of (unit_from u bytes) ≡ info_of u = ap (λ (v : UnitSpec). info_of v) (shape_is u bytes) in
     ap (λ (d : DeviceInfo). d ∷ map device_of (units_from us (drop (bytes_of u) bytes))) same ∙ ap (λ (v : List DeviceInfo). info_of u ∷ v) (shapes us (drop (bytes_of u) bytes))
 
-told-is : (s : Standing) (image : Option (List ℕ)) (us : List Stored) → units_told s image ≡ Some us → (is_some image ≡ true) × (map device_of us ≡ map info_of (specs_of s))
+-- the devices of a told image are those of its units
+pub told-is : (s : Standing) (image : Option (List ℕ)) (us : List Stored) → units_told s image ≡ Some us → (is_some image ≡ true) × (map device_of us ≡ map info_of (specs_of s))
 told-is s None us e = absurd (cc)
 told-is s (Some bytes) us e = let k : us ≡ units_in (specs_of s) bytes = cc in (refl, ap (λ (v : List Stored). map device_of v) k ∙ shapes (specs_of s) (drop 512 bytes))
 

@@ -1,6 +1,6 @@
 //! One command of a session.
 
-ghost use Rattle.std.specs.Prelude.{◌≡◌, ◌-◌, ◌≤◌, ◌+◌, ◌*◌, ◌^◌, true, false, List, Option, Some, None, IfOk, OnErr, is_some, length, replicate};
+ghost use Rattle.std.specs.Prelude.{◌≡◌, ◌-◌, ◌≤◌, ◌+◌, ◌*◌, ◌^◌, [], true, false, List, Option, Some, None, IfOk, OnErr, is_some, length, replicate};
 ghost use Rattle.dix_base.specs.Told.{Calm, Rose};
 ghost use Rattle.target_answer.specs.Target.{Stop, Stored};
 ghost use Rattle.rig_api.specs.Telling.{HasCause, frame_size, unit_at};
@@ -82,7 +82,8 @@ fn do_granted<R: Rig>(
 
 /// Does the command of these 64 bytes, with data of this byte and with the metadata that is given, where
 /// it has as many bytes as the command takes, else zeros. A command that is refused sends nothing. Want
-/// of memory comes before anything is sent.
+/// of memory comes before anything is sent. 2h/80h and 2h/81h come only where the rig's count of faults
+/// rose, 0h/06h never over a rig that tells its blocks.
 pub fn do_command<R: Rig>(
     alloc: Global,
     front: &mut NvmFront,
@@ -93,6 +94,7 @@ pub fn do_command<R: Rig>(
 ) -> Result<NvmReply, AllocError>
     requires devices { HasDevices front.old (R.standing rig.old) (R.units rig.old) }
     ensures refused { IfOk result (λ r. (x : AnyCompletion) → refusal front.old (command_in sqe.now) ≡ Some x → (r.completion ≡ x) × (R.log rig.new ≡ R.log rig.old) × (R.units rig.new ≡ R.units rig.old)) }
+    ensures empty { IfOk result (λ r. (x : AnyCompletion) → refusal front.old (command_in sqe.now) ≡ Some x → (r.body.items ≡ []) × (r.meta.items ≡ [])) }
     ensures submitted { IfOk result (λ r. refusal front.old (command_in sqe.now) ≡ None
         → Submitted (device_at front.old (command_in sqe.now).nsid) (command_in sqe.now) (R.standing rig.old) (replicate (body_len (device_at front.old (command_in sqe.now).nsid) (command_in sqe.now)) fill)
         (given (meta_len (device_at front.old (command_in sqe.now).nsid).ty (command_in sqe.now)) meta.now) r.body.items r.meta.items r.completion (R.log rig.old) (R.log rig.new)) }
@@ -100,6 +102,7 @@ pub fn do_command<R: Rig>(
         → (stop : Option Stop) × HasCause stop (frame_size (unit_at us ((command_in sqe.now).nsid - 1))) (R.faults rig.old) (R.faults rig.new)
         × IsNvmAnswer (nvm_answer (unit_at us ((command_in sqe.now).nsid - 1)) (R.armed rig.old) (command_in sqe.now) (replicate (body_len (device_at front.old (command_in sqe.now).nsid) (command_in sqe.now)) fill)
         (given (meta_len (device_at front.old (command_in sqe.now).nsid).ty (command_in sqe.now)) meta.now) stop) us ((command_in sqe.now).nsid - 1) r.completion (R.units rig.new) r.body.items r.meta.items) }
+    ensures never { IfOk result (λ r. is_some (R.units rig.old) ≡ true → is_internal r.completion ≡ false) }
     ensures medium { IfOk result (λ r. is_of_medium r.completion ≡ true → Rose (R.faults rig.old) (R.faults rig.new)) }
     ensures none { OnErr result (R.units rig.new ≡ R.units rig.old) }
     ensures unlogged { OnErr result (R.log rig.new ≡ R.log rig.old) }

@@ -20,7 +20,7 @@ pub fn front_of<R: Rig>(alloc: Global, rig: &mut R) -> Result<NvmFront, Fault>
     requires devices { (R.standing rig.old).devices ≡ length (units_of (R.standing rig.old).head) }
     ensures devices { IfOk result (λ f. HasDevices f (R.standing rig.new) (R.units rig.new)) }
     ensures found { IfOk result (λ f. HasFound (R.standing rig.old) f (R.log rig.old) (R.log rig.new)) }
-    ensures cause { IfErr result (λ e. CauseNoFront e (R.standing rig.old) (R.units rig.old) (R.log rig.old) (R.log rig.new)) }
+    ensures cause { IfErr result (λ e. CauseNoFront e (R.standing rig.old) (R.units rig.old) (R.log rig.old) (R.log rig.new) (R.image rig.old) (R.image rig.new)) }
     ensures units { R.units rig.new ≡ R.units rig.old }
     ensures tells { is_some (R.image rig.new) ≡ is_some (R.image rig.old) }
     ensures standing { R.standing rig.new ≡ R.standing rig.old }

@@ -75,7 +75,9 @@ fn answered(alloc: Global, format: &str, line: &str, answers: Vec<Answer>) -> Re
         &mut sink,
     );
     let mut text = Vec::new(alloc);
-    text.extend_from_slice(BEGIN.as_bytes())?;
+    if line == "run|a" {
+        text.extend_from_slice(BEGIN.as_bytes())?;
+    }
     let mut source = MemSource::new(text, Vec::new(alloc));
     let mut rig = ScriptedRig::new(alloc, rig, answers);
     let mut sink = MemSink::new(alloc, 4096, Vec::new(alloc))?;
@@ -99,7 +101,7 @@ fn answered(alloc: Global, format: &str, line: &str, answers: Vec<Answer>) -> Re
 fn each_capacity_at_fault_is_named(rt: HostRuntime) -> Result<(), Fail> {
     let alloc = rt.alloc();
     for (outcome, told) in AT_FAULT {
-        for line in ["run|a", "scrub|a"] {
+        for line in ["run|a", "scrub|a", "nvme|a"] {
             let answers = vec![in alloc; answer(alloc, outcome, told)?]?;
             let seen = answered(alloc, "format|a|1:4", line, answers)?;
             assert_eq!(rt; seen.status, 4);

@@ -34,16 +34,11 @@ returns-in-Mirror g c =
     (g.met.R.Rig.laid c.args.rig.now) (g.met.R.Rig.ready c.args.rig.now)
 
 pub returns-in-Nvme : goal.returns-in-Nvme
-returns-in-Nvme g c =
-    carried _ _ _ _ _ c.refuse-in-Nvme.result
-    (ended_none _ _ _ _ _ c.refuse-in-Nvme.result refl (refl, refl) (ap not_built (sym c.command_of.ensures ∙ c.in-Some.is ∙ ap (λ (x : Command). Some x) c.in-Nvme.is)) c.refuse-in-Nvme.ensures)
-    (g.met.R.Rig.laid c.args.rig.now) (g.met.R.Rig.ready c.args.rig.now)
+returns-in-Nvme g c = carried _ _ _ _ _ c.nvme.result c.nvme.ensures (g.met.R.Rig.laid c.nvme.new.rig) (g.met.R.Rig.ready c.nvme.new.rig)
 
 pub returns-in-Modes : goal.returns-in-Modes
 returns-in-Modes g c =
-    carried _ _ _ _ _ c.refuse-in-Modes.result
-    (ended_none _ _ _ _ _ c.refuse-in-Modes.result refl (refl, refl) (ap not_built (sym c.command_of.ensures ∙ c.in-Some.is ∙ ap (λ (x : Command). Some x) c.in-Modes.is)) c.refuse-in-Modes.ensures)
-    (g.met.R.Rig.laid c.args.rig.now) (g.met.R.Rig.ready c.args.rig.now)
+    carried _ _ _ _ _ c.modes.result (c.modes.ensures _ (sym c.command_of.ensures ∙ c.in-Some.is ∙ ap (λ (x : Command). Some x) c.in-Modes.is) refl (refl, refl)) (g.met.R.Rig.laid c.args.rig.now) (g.met.R.Rig.ready c.args.rig.now)
 
 pub returns-in-Big : goal.returns-in-Big
 returns-in-Big g c =

@@ -1,6 +1,6 @@
 use Rattle.std.proofs.Common.{arith, refl}
-use Rattle.dix_cli.proofs.Flow.{most_is, took_none}
-use Rattle.dix_cli.proofs.reading.read_all.Goals as goal
+use Rattle.source_text.proofs.Taking.{most_is, took_none}
+use Rattle.source_text.proofs.read_all.Goals as goal
 
 pub loop-room-init : goal.loop-room-init
 loop-room-init g c = record {

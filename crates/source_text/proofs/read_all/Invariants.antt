@@ -1,7 +1,7 @@
 use Rattle.std.proofs.Common.{◌≡◌, ◌+◌, ◌≤◌, length}
 use Rattle.dix_base.specs.Told.{Took}
-use Rattle.dix_cli.specs.Reading.{most_bytes}
-use Rattle.dix_cli.proofs.reading.read_all.Given as goal
+use Rattle.source_text.specs.Reading.{most_bytes}
+use Rattle.source_text.proofs.read_all.Given as goal
 
 abbrev pub invariant-loop-room : goal.invariant-loop-room
 invariant-loop-room g l = record {

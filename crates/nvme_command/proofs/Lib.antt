@@ -1,0 +1,3 @@
+pub mod Completes
+mod Opening
+mod Steps

@@ -1,0 +1,4 @@
+pub mod Replies
+pub mod Fits
+pub mod Done
+pub mod Causes
