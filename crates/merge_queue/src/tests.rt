@@ -191,6 +191,7 @@ fn two_thousand_calls_are_those_of_a_plain_queue(rt: HostRuntime) -> Result<(), 
     let mut into = Vec::with_capacity(rt.alloc(), ROOM as usize)?;
     let mut dice = 14u64;
     let mut joined = 0u32;
+    let mut missed = 0u32;
     for call in 0..2000u32 {
         let ways = pairs(rt.alloc(), &plain, &WIDE)?;
         assert_eq!(rt;
@@ -222,6 +223,7 @@ fn two_thousand_calls_are_those_of_a_plain_queue(rt: HostRuntime) -> Result<(), 
                 if !ways.is_empty() {
                     let n = roll(&mut dice, ways.len() as u64);
                     let Ok((i, j)) = queue.find_join(n, &WIDE) else {
+                        missed = missed.wrapping_add(1);
                         continue;
                     };
                     assert_eq!(rt;
@@ -247,6 +249,7 @@ fn two_thousand_calls_are_those_of_a_plain_queue(rt: HostRuntime) -> Result<(), 
         assert_eq!(rt; queue.groups() as usize, plain.len(), "after call {call}");
         assert_eq!(rt; queue.bios() as usize, bios_in(&plain), "after call {call}");
     }
+    assert_eq!(rt; missed, 0, "pairs not found");
     assert!(rt; joined > 200, "{joined} joins");
     Ok(())
 }
