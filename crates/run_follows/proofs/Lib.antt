@@ -8,7 +8,7 @@ mod Carrying
 mod Ends
 mod Backing
 mod Switch
-mod Sends
+pub mod Sends
 mod Over
 mod Recording
 mod Telling

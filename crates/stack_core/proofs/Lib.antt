@@ -20,3 +20,8 @@ pub mod FirstStack
 pub mod Sent
 pub mod InTurn
 pub mod InCells
+pub mod OwnCells
+pub mod BlockParts
+pub mod Planning
+pub mod Listed
+pub mod FollowsEnd
