@@ -163,6 +163,14 @@ next-failed t j to left h e =
 rows-first : (lim : Limits) (q : List Group) (i n : ℕ) → i < n → flat_map (row lim q) (numbers i (n - i)) ≡ row lim q i ++ flat_map (row lim q) (numbers (i + 1) (n - (i + 1)))
 rows-first lim q i n h = ap (flat_map (row lim q)) (numbers-more i n h)
 
+-- the row of group i, and the rows behind it
+pub rows-length : (lim : Limits) (q : List Group) (i n : ℕ) → i < n → length (flat_map (row lim q) (numbers i (n - i))) ≡ length (followers lim q i) + length (flat_map (row lim q) (numbers (i + 1) (n - (i + 1))))
+rows-length lim q i n h =
+    let a = ap length (rows-first lim q i n h) in
+    let b = length-append (row lim q i) (flat_map (row lim q) (numbers (i + 1) (n - (i + 1)))) in
+    let c = length-row lim q i in
+    omega arith
+
 pub pair-found : (lim : Limits) (q : List Group) (i n left : ℕ) → i < n → left < length (followers lim q i) →
     get_or (flat_map (row lim q) (numbers i (n - i))) left (0, 0) ≡ (i, get_or (followers lim q i) left 0)
 pair-found lim q i n left h l =

@@ -1,5 +1,5 @@
 -- The queue of one device: groups by first address, then by age.
-use Rattle.std.specs.Prelude.{ℕ, zero, suc, ◌+◌, Bool, true, false, not, ◌&&◌, eqb, nat_lt, nat_le, if◌then◌else◌, List, [], ◌∷◌, ◌++◌, length, get_or, set, map}
+use Rattle.std.specs.Prelude.{◌≡◌, ◌<◌, ℕ, zero, suc, ◌+◌, Bool, true, false, not, ◌&&◌, eqb, nat_lt, nat_le, if◌then◌else◌, List, [], ◌∷◌, ◌++◌, length, get_or, set, map, Result, Ok, Err}
 use Rattle.std.specs.List.{filter, flat_map}
 use Rattle.bio_core.specs.declared.bio.Bio.{Bio}
 use Rattle.bio_core.specs.declared.request.Dir.{Dir}
@@ -82,3 +82,8 @@ pairs_below lim q n = flat_map (λ i. map (λ j. (i, j)) (followers lim q i)) (n
 
 abbrev pub pairs : Limits → List Group → List (ℕ × ℕ)
 pairs lim q = pairs_below lim q (length q)
+
+-- the pair of this number, or how far the number is past the last
+abbrev pub PairFound : Limits → List Group → ℕ → Result (ℕ × ℕ) ℕ → Type 0
+PairFound lim q n (Ok pair) = (n < length (pairs lim q)) × (pair ≡ get_or (pairs lim q) n (0, 0))
+PairFound lim q n (Err left) = n ≡ length (pairs lim q) + left

@@ -1,10 +1,10 @@
 //! The queue of one device.
 
-ghost use Rattle.std.specs.Prelude.{◌≡◌, ◌<◌, ◌≤◌, ◌+◌, ◌-◌, ◌^◌, IfOk, not, ◌&&◌, eqb, [], ◌++◌, length, slice_index, slice_index_or};
+ghost use Rattle.std.specs.Prelude.{◌≡◌, ◌<◌, ◌≤◌, ◌+◌, ◌-◌, ◌^◌, IfOk, not, ◌&&◌, eqb, [], ◌++◌, length, slice_index};
 ghost use Rattle.std.specs.List.{filter};
 ghost use Rattle.std.specs.Vec.{vec_capacity};
 ghost use Rattle.merge_queue.specs.declared.limits.Limits.{Limits as AnyLimits};
-ghost use Rattle.merge_queue.specs.Groups.{followers, group_in, joined, lba_of, may_follow, may_join, numbers, pairs, put, size, without};
+ghost use Rattle.merge_queue.specs.Groups.{PairFound, followers, group_in, joined, lba_of, may_follow, may_join, numbers, pairs, put, size, without};
 ghost use Rattle.merge_queue.specs.Index.{bios_in};
 
 use crate::Limits;
@@ -233,20 +233,20 @@ impl DeviceQueue {
         unreachable!()
     }
 
-    /// The pair of this number among those that may be joined.
-    pub fn nth_join(&self, number: u64, lim: &Limits) -> (u32, u32)
-        requires { number < length (pairs lim.now self.now.groups) }
-        ensures { result ≡ slice_index_or (pairs lim.now self.now.groups) number (0, 0) }
+    /// The pair of this number among those that may be joined, or how far the number is past the last. For a low number
+    /// few groups are looked at.
+    pub fn find_join(&self, number: u64, lim: &Limits) -> Result<(u32, u32), u64>
+        ensures { PairFound lim.now self.now.groups number result }
     {
         let n = self.groups();
         let mut left = number;
         for i in 0..n {
             let count = self.count_followers(i, lim) as u64;
             if left < count {
-                return (i, self.follower(i, left as u32, lim));
+                return Ok((i, self.follower(i, left as u32, lim)));
             }
             left -= count;
         }
-        unreachable!()
+        Err(left)
     }
 }

@@ -1,7 +1,6 @@
 //! A stack before its first step.
 
-ghost use Rattle.std.specs.Prelude.{◌≡◌, ◌<◌, ◌≤◌, ◌+◌, ℕ, List, IfOk, length, map, replicate};
-ghost use Rattle.std.specs.List.{list_any};
+ghost use Rattle.std.specs.Prelude.{◌≡◌, ◌<◌, ◌≤◌, ◌+◌, ◌||◌, ℕ, false, List, IfOk, length, map, replicate, slice_index_or};
 ghost use Rattle.bio_core.specs.declared.fate.Fate.TheVariants.{Untouched};
 ghost use Rattle.stack_ops.specs.declared.reply.Reply.TheVariants.{Silent};
 ghost use Rattle.stack_view.specs.Runs.{blocks_of_requests};
@@ -42,13 +41,15 @@ fn is_shift(kind: &FaultKind) -> bool
     matches!(kind, FaultKind::Shift { .. })
 }
 
-/// Whether a line shifts the op of this number, from 1.
-fn is_shifted(faults: &[FaultLine], op: u32) -> bool
-    ensures { result ≡ list_any (shifts op) faults.now }
+/// Marks the op that a line shifts.
+fn mark(shifted: &mut Vec<bool>, line: &FaultLine)
+    ensures count { length shifted.new.items ≡ length shifted.old.items }
+    ensures each { (i : ℕ) → i < length shifted.old.items → slice_index_or shifted.new.items i false ≡ (slice_index_or shifted.old.items i false || shifts (i + 1) line.now) }
 {
-    faults
-        .iter()
-        .any(|line| line.op == op && is_shift(&line.kind))
+    let op = line.op as usize;
+    if is_shift(&line.kind) && 1 <= op && op <= shifted.len() {
+        shifted[op - 1] = true;
+    }
 }
 
 /// Whether a line shifts each op.
@@ -56,9 +57,9 @@ fn shifted_ops(alloc: Global, n: u32, faults: &[FaultLine]) -> Result<Vec<bool>,
     requires { n ≤ 4096 }
     ensures { IfOk result (λ v. v.items ≡ shifted_by faults.now n) }
 {
-    let mut shifted = Vec::with_capacity(alloc, n as usize)?;
-    for i in 0..n {
-        shifted.push_reserved(is_shifted(faults, i + 1));
+    let mut shifted = vec![in alloc; false; n as usize]?;
+    for line in faults {
+        mark(&mut shifted, line);
     }
     Ok(shifted)
 }

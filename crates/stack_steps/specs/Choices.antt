@@ -1,5 +1,5 @@
 -- What a stack may do next, as it counts and finds it.
-use Rattle.std.specs.Prelude.{◌<◌, ℕ, suc, min, Bool, ◌&&◌, eqb, nat_lt, List, [], ◌∷◌, ◌++◌, length, get_or, map}
+use Rattle.std.specs.Prelude.{◌≡◌, ◌<◌, ℕ, suc, ◌+◌, min, Bool, ◌&&◌, eqb, nat_lt, List, [], ◌∷◌, ◌++◌, length, get_or, map, Result, Ok, Err}
 use Rattle.std.specs.List.{filter}
 use Rattle.merge_queue.specs.declared.limits.Limits.{Limits}
 use Rattle.stack_view.specs.Plan.{Plan, request_at}
@@ -47,3 +47,8 @@ choices p g ops live queues flight = map End (places p g ops live Ending) ++ (ma
 
 abbrev pub IsBelow : ℕ → ℕ → Type 0
 IsBelow n i = i < n
+
+-- the choice of this number among these, or how far the number is past the last
+abbrev pub ChoiceFound : List Choice → ℕ → Result Choice ℕ → Type 0
+ChoiceFound cs n (Ok c) = (n < length cs) × (c ≡ get_or cs n no_choice)
+ChoiceFound cs n (Err left) = n ≡ length cs + left

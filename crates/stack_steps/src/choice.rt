@@ -5,7 +5,7 @@ ghost use Rattle.std.specs.List.{All};
 ghost use Rattle.merge_queue.specs.Groups.{pairs};
 ghost use Rattle.range_gate.specs.Gates.{phase_at};
 ghost use Rattle.stack_view.specs.View as Admits;
-ghost use Rattle.stack_steps.specs.Choices.{can_at, places, no_choice, joins_at, sends_at, choices, IsBelow};
+ghost use Rattle.stack_steps.specs.Choices.{ChoiceFound, can_at, places, no_choice, joins_at, sends_at, choices, IsBelow};
 
 use crate::Requests;
 use crate::flight::InFlight;
@@ -137,21 +137,19 @@ pub fn count_joins(queues: &[DeviceQueue], lim: &Limits) -> u64
     count
 }
 
-pub fn pick_join(queues: &[DeviceQueue], lim: &Limits, number: u64) -> Choice
+/// The joining of this number, from 0, or how far the number is past the last.
+pub fn find_join(queues: &[DeviceQueue], lim: &Limits, number: u64) -> Result<Choice, u64>
     requires devices { length queues.now < 2 ^ 32 }
-    requires within { number < length (joins_at lim.now 0 queues.now) }
-    ensures { result ≡ slice_index_or (joins_at lim.now 0 queues.now) number no_choice }
+    ensures { ChoiceFound (joins_at lim.now 0 queues.now) number result }
 {
     let mut left = number;
     for d in 0..queues.len() {
-        let count = queues[d].joins(lim);
-        if left < count {
-            let (i, j) = queues[d].nth_join(left, lim);
-            return Choice::Join(d as u32, i, j);
+        match queues[d].find_join(left, lim) {
+            Ok((i, j)) => return Ok(Choice::Join(d as u32, i, j)),
+            Err(behind) => left = behind,
         }
-        left -= count;
     }
-    unreachable!()
+    Err(left)
 }
 
 /// How many groups may be sent.
@@ -166,6 +164,7 @@ pub fn count_sends(queues: &[DeviceQueue]) -> u64
     count
 }
 
+/// The sending of this number, from 0.
 pub fn pick_send(queues: &[DeviceQueue], number: u64) -> Choice
     requires devices { length queues.now < 2 ^ 32 }
     requires within { number < length (sends_at 0 queues.now) }
@@ -249,9 +248,8 @@ pub fn nth_choice<P: Requests>(
         return Choice::Cut(pick_op(plan, gate, ops, live, OpStep::Cutting, fourth));
     }
     let fifth = fourth - cuts;
-    let joins = count_joins(queues, &lim);
-    if fifth < joins {
-        return pick_join(queues, &lim, fifth);
+    match find_join(queues, &lim, fifth) {
+        Ok(choice) => choice,
+        Err(sixth) => pick_send(queues, sixth),
     }
-    pick_send(queues, fifth - joins)
 }

@@ -104,6 +104,7 @@ impl Model for InFlight {
 }
 
 impl InFlight {
+    /// No command, and room for as many commands, bios and blocks. All its memory is taken here.
     pub fn new(alloc: Global, room: u32) -> Result<InFlight, AllocError>
         ensures { IfOk result (λ f. (f.commands ≡ []) × (f.room ≡ room)) }
     {
@@ -118,6 +119,7 @@ impl InFlight {
         })
     }
 
+    /// How many commands are in flight.
     pub fn len(&self) -> u32
         ensures { result ≡ length self.now.commands }
     {

@@ -1,11 +1,10 @@
-use Rattle.std.proofs.Common.{◌≡◌, ◌≤◌, length}
-use Rattle.std.specs.Vec.{vec_capacity}
-use Rattle.stack_core.specs.Shifts.{shifted_by}
+use Rattle.std.proofs.Common.{◌≡◌, ◌+◌, ◌<◌, ℕ, false, length, get_or, take}
+use Rattle.std.specs.List.{list_any}
+use Rattle.stack_core.specs.Shifts.{shifts}
 use Rattle.stack_core.proofs.start.shifted_ops.Given as goal
 
-abbrev pub invariant-loop-i : goal.invariant-loop-i
-invariant-loop-i l = record {
-  shifted : l.shifted.items ≡ shifted_by l.faults l.i;
-  count : length l.shifted.items ≡ l.i;
-  room : l.n ≤ vec_capacity l.shifted;
+abbrev pub invariant-loop-line : goal.invariant-loop-line
+invariant-loop-line l = record {
+  count : length l.shifted.items ≡ l.n;
+  marked : (i : ℕ) → i < l.n → get_or l.shifted.items i false ≡ list_any (shifts (i + 1)) (take l.line-index l.faults);
 }
