@@ -67,7 +67,7 @@ module _ (m : Setting) (i k fate page : ℕ) where
 
   -- behind the data lies the tuple
   tuple_behind : (body tuples : List Seg) → k * m.size + m.size ≤ total body → drop m.size (frame_at m.size body tuples k) ≡ tuple_of tuples k
-  tuple_behind body tuples h = drop_at m.size (body_of m.size body k) (tuple_of tuples k) (length-map (range_of body (k * m.size) m.size) cell ∙ length-range body (k * m.size) m.size h)
+  tuple_behind body tuples h = drop_at (body_of m.size body k) (tuple_of tuples k) m.size (length-map (range_of body (k * m.size) m.size) cell ∙ length-range body (k * m.size) m.size h)
 
   -- of the op's request, with its private tuples from this page on
   abbrev io_of : Bool → Op → Io
@@ -94,7 +94,7 @@ module _ (m : Setting) (i k fate page : ℕ) where
       let e : step_of (Write v n body app) ≡ Writes (block_of (suc i) v k) app (body_of m.size body k) = each_first n (λ j. Writes (block_of (suc i) v j) app (body_of m.size body j)) k no_step h in
       let b = body_is (block_size (io_of false (Write v n body app))) body s in
       let z = append-nil (data_cells (io_of false (Write v n body app)) k) in
-      rw (e, b, d) (record { made = refl; cut = refl; settled = refl; carriage = ap (λ x. Some (record { route = route m (block_of (suc i) v k); dir = WriteDir; frame = x })) (sym z) })
+      rw (e, b) (record { made = rw d refl; cut = rw d refl; settled = rw d refl; carriage = rw (d, z) refl })
   parts_are true (Fetch v n body) d h s l o =
       let e : step_of (Fetch v n body) ≡ Reads (block_of (suc i) v k) OfBlock (body_of m.size body k) = each_first n (λ j. Reads (block_of (suc i) v j) OfBlock (body_of m.size body j)) k no_step h in
       let b = body_is (block_size (io_of true (Fetch v n body))) body s in
@@ -104,18 +104,12 @@ module _ (m : Setting) (i k fate page : ℕ) where
       let e : step_of (Fetch v n body) ≡ Reads (block_of (suc i) v k) OfBlock (body_of m.size body k) = each_first n (λ j. Reads (block_of (suc i) v j) OfBlock (body_of m.size body j)) k no_step h in
       let b = body_is (block_size (io_of false (Fetch v n body))) body s in
       let z = append-nil (data_cells (io_of false (Fetch v n body)) k) in
-      rw (e, b, d)
-      (record {
-        made = refl;
-        cut = refl;
-        settled = ap (λ x. settle (route m (block_of (suc i) v k)) OfBlock x fate ∷ []) (sym z);
-        carriage = ap (λ x. Some (record { route = route m (block_of (suc i) v k); dir = Read; frame = x })) (sym z);
-      })
+      rw (e, b) (record { made = refl; cut = refl; settled = rw (d, z) refl; carriage = rw (d, z) refl })
   parts_are true (WritePi v n body tuples) d h s l o =
       let e : step_of (WritePi v n body tuples) ≡ WritesPi (block_of (suc i) v k) (frame_at m.size body tuples k) = each_first n (λ j. WritesPi (block_of (suc i) v j) (frame_at m.size body tuples j)) k no_step h in
       let t = tuple_behind body tuples l in
       let b = body_is (block_size (io_of true (WritePi v n body tuples))) body s in
-      rw (e, t, b) (record { made = refl; cut = refl; settled = refl; carriage = refl })
+      rw e (record { made = refl; cut = rw t refl; settled = rw t refl; carriage = rw b refl })
   parts_are false (WritePi v n body tuples) d h s l o = absurd o
   parts_are true (FetchPi v n body tuples) d h s l o =
       let e : step_of (FetchPi v n body tuples) ≡ Reads (block_of (suc i) v k) OfApp (frame_at m.size body tuples k) = each_first n (λ j. Reads (block_of (suc i) v j) OfApp (frame_at m.size body tuples j)) k no_step h in

@@ -25,3 +25,5 @@ pub mod BlockParts
 pub mod Planning
 pub mod Listed
 pub mod FollowsEnd
+pub mod Spotted
+pub mod FollowsMove

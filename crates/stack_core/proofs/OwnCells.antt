@@ -10,8 +10,8 @@ use Rattle.stack_core.specs.Requests.{pages_for, private_tuples}
 use Rattle.stack_core.proofs.Private.{tuples_from}
 
 turn_join : (from a b : ℕ) → in_turn from (a + b) ≡ in_turn from a ++ in_turn (from + a) b
-turn_join from zero b = let e : from + 0 ≡ from = omega arith in ap (λ z. in_turn z b) (sym e)
-turn_join from (suc a) b = let e : suc from + a ≡ from + suc a = omega arith in ap (λ l. from ∷ l) (turn_join (suc from) a b ∙ ap (λ z. in_turn (suc from) a ++ in_turn z b) e)
+turn_join from zero b = let e : from + 0 ≡ from = omega arith in let f : 0 + b ≡ b = omega arith in ap (in_turn from) f ∙ ap (λ z. in_turn z b) (sym e)
+turn_join from (suc a) b = let e : suc from + a ≡ from + suc a = omega arith in let f : suc a + b ≡ suc (a + b) = omega arith in ap (in_turn from) f ∙ ap (λ l. from ∷ l) (turn_join (suc from) a b ∙ ap (λ z. in_turn (suc from) a ++ in_turn z b) e)
 
 take_turn : (from n k : ℕ) → k ≤ n → take k (in_turn from n) ≡ in_turn from k
 take_turn from n zero h = refl
@@ -26,7 +26,7 @@ drop_turn from (suc n) (suc k) h = let e : suc from + k ≡ from + suc k = omega
 run_cells : (page off n : ℕ) → map cell (run page off n) ≡ in_turn (4096 * page + off) n
 unfolding run
 run_cells page off zero = refl
-run_cells page off (suc n) = let e : 4096 * page + (off + 1) ≡ suc (4096 * page + off) = omega arith in ap (λ l. 4096 * page + off ∷ l) (run_cells page (off + 1) n ∙ ap (λ z. in_turn z n) e)
+run_cells page off (suc n) = let e : 4096 * page + (off + 1) ≡ suc (4096 * page + off) = omega arith in ap (λ l. (4096 * page + off) ∷ l) (run_cells page (off + 1) n ∙ ap (λ z. in_turn z n) e)
 
 -- the pages from the k-th on
 pages_cells : (page count k m : ℕ) → cells_of (tuples_from page count k m) ≡ in_turn (4096 * (page + k)) (min (8 * (count - 512 * k)) (4096 * m))

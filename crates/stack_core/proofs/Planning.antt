@@ -132,7 +132,7 @@ plan_is m dix page ops shifted ios table limits devices a b = record {
         let q = prints-at ops shifted i no_print n l in
         let f = footprint (op_in ops j) (get_or shifted j false) in
         let g = footprint (op_in ops i) (get_or shifted i false) in
-        let same : do_clash f g ≡ false = rw (sym p, sym q) e in
+        let same : do_clash f g ≡ false = sym (ap (λ x. do_clash x (get_or (prints_of ops shifted) i no_print)) p ∙ ap (do_clash f) q) ∙ e in
         let more = more_conflict (op_in ops j) (op_in ops i) (is_shifted m (suc j)) (get_or shifted j false) (is_shifted m (suc i)) (get_or shifted i false)
         (λ (t : is_shifted m (suc j) ≡ true). ap (λ x. get_or x j false) b ∙ is_marked m (length ops) j (omega arith) t)
         (λ (t : is_shifted m (suc i) ≡ true). ap (λ x. get_or x i false) b ∙ is_marked m (length ops) i l t)

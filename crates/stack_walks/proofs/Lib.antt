@@ -8,3 +8,4 @@ pub mod Groups
 pub mod Sending
 pub mod Completing
 pub mod Found
+pub mod Letting
