@@ -27,3 +27,4 @@ pub mod Listed
 pub mod FollowsEnd
 pub mod Spotted
 pub mod FollowsMove
+pub mod FollowsStep
