@@ -28,3 +28,5 @@ pub mod FollowsEnd
 pub mod Spotted
 pub mod FollowsMove
 pub mod FollowsStep
+pub mod FollowsBlock
+pub mod Chained
