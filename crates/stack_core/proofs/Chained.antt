@@ -116,10 +116,10 @@ module _ (mode : Mode) (ty : PiType) (ios : List Io) (starts : List ℕ) where
       Each mode ty ios starts (blocks_from bio.op bio.k bio.dev bio.lba bio.dir n) (take n (drop at fates)) old new
   bio_each bio fates at zero old new h s = s
   bio_each bio fates at (suc n) old new h s =
-      let one : Each mode ty ios starts (record { op = bio.op; k = bio.k + n; dev = bio.dev; lba = bio.lba + n; dir = bio.dir } ∷ []) (get_or fates (at + n) Good ∷ []) s.0 new = (new, (s.1.1, refl)) in
+      let one : Each mode ty ios starts (record { op = bio.op; k = bio.k + n; dev = bio.dev; lba = bio.lba + n; dir = bio.dir } ∷ []) (get_or fates (at + n) Good ∷ []) s.0 new = (new, (s.2, refl)) in
       let l = fates_long fates at n (omega arith) in
       let m = from_long bio.op bio.k bio.dev bio.lba bio.dir n in
-      rw (from_last bio.op bio.k bio.dev bio.lba bio.dir n, fates_more fates at n (omega arith)) (each_join (blocks_from bio.op bio.k bio.dev bio.lba bio.dir n) _ (take n (drop at fates)) _ old s.0 new (omega arith) (bio_each bio fates at n old s.0 (omega arith) s.1.0) one)
+      rw (from_last bio.op bio.k bio.dev bio.lba bio.dir n, fates_more fates at n (omega arith)) (each_join (blocks_from bio.op bio.k bio.dev bio.lba bio.dir n) _ (take n (drop at fates)) _ old s.0 new (omega arith) (bio_each bio fates at n old s.0 (omega arith) s.1) one)
 
   blocks_join : (xs ys : List Bio) → blocks_in (xs ++ ys) ≡ blocks_in xs ++ blocks_in ys
   blocks_join [] ys = refl
@@ -134,12 +134,12 @@ module _ (mode : Mode) (ty : PiType) (ios : List Io) (starts : List ℕ) where
   size_join [] ys = omega arith
   size_join (x ∷ xs) ys = let e = size_join xs ys in omega arith
 
+  size_nil : (n : ℕ) → size (take n []) ≡ 0
+  size_nil zero = refl
+  size_nil (suc n) = refl
+
   size_below : (bios : List Bio) (n : ℕ) → size (take n bios) ≤ size bios
-  size_below [] n = let e : size (take n []) ≡ 0 = ap size (take_nil n) in omega arith
-    where
-      take_nil : (n : ℕ) → take n ([] {A = Bio}) ≡ []
-      take_nil zero = refl
-      take_nil (suc n) = refl
+  size_below [] n = let e = size_nil n in omega arith
   size_below (b ∷ bios) zero = omega arith
   size_below (b ∷ bios) (suc n) = let e = size_below bios n in omega arith
 
@@ -161,8 +161,8 @@ module _ (mode : Mode) (ty : PiType) (ios : List Io) (starts : List ℕ) where
       let a = blocks_long (take n bios) in
       let b : length (take (size (take n bios)) (drop 0 fates)) ≡ size (take n bios) = fates_long fates 0 (size (take n bios)) (omega arith) in
       rw (bs, fs)
-      (each_join (blocks_in (take n bios)) (blocks_of bio) (take (size (take n bios)) fates) (take bio.count (drop (size (take n bios)) fates)) old s.0 new (omega arith) (bios_each bios fates n old s.0 (omega arith) l s.1.0)
-      (bio_each bio fates (size (take n bios)) bio.count s.0 new (omega arith) s.1.1))
+      (each_join (blocks_in (take n bios)) (blocks_of bio) (take (size (take n bios)) fates) (take bio.count (drop (size (take n bios)) fates)) old s.0 new (omega arith) (bios_each bios fates n old s.0 (omega arith) l s.1)
+      (bio_each bio fates (size (take n bios)) bio.count s.0 new (omega arith) s.2))
 
   pub all_each : (bios : List Bio) (fates : List Fate) (old new : Kept) → size bios ≡ length fates → AllSettled mode ty ios starts bios fates (length bios) old new → Each mode ty ios starts (blocks_in bios) fates old new
   all_each bios fates old new l s =

@@ -30,3 +30,5 @@ pub mod FollowsMove
 pub mod FollowsStep
 pub mod FollowsBlock
 pub mod Chained
+pub mod FollowsComplete
+pub mod FollowsGroup
