@@ -115,7 +115,7 @@ lets_on m ops old new i e h j l = by (h j l)
     by (inr x) = inr x
 
 module _ (m : Setting) (n : ℕ) (opening : State) (es : List Sent) (p : Plan) (ops : List Op) (ios : List Io) (starts : List ℕ) (found : fates ops ≤ length opening.fates) where
-  each_keeps : (x : ℕ) (bs : List Block) (fs : List Fate) (old new : Kept) → NotAt starts x bs → Each m.mode (host_type m.ty) ios starts bs fs old new → get_or new.held x Untouched ≡ get_or old.held x Untouched
+  pub each_keeps : (x : ℕ) (bs : List Block) (fs : List Fate) (old new : Kept) → NotAt starts x bs → Each m.mode (host_type m.ty) ios starts bs fs old new → get_or new.held x Untouched ≡ get_or old.held x Untouched
   each_keeps x [] fs old new a h = ap (λ (k : Kept). get_or k.held x Untouched) h
   each_keeps x (b ∷ bs) [] old new a h = absurd h
   each_keeps x (b ∷ bs) (f ∷ fs) old new a h = each_keeps x bs fs h.0 new a.1 h.1.1 ∙ by f h.1.0
@@ -135,7 +135,7 @@ module _ (m : Setting) (n : ℕ) (opening : State) (es : List Sent) (p : Plan) (
       by (Bad why) s = ap length s.held ∙ length-set old.held (at starts b) s.result
       by Untouched s = ap (λ (k : Kept). length k.held) s
 
-  each_whole : (bs : List Block) (fs : List Fate) (old new : Kept) → Each m.mode (host_type m.ty) ios starts bs fs old new → AreWhole old.pages → AreWhole new.pages
+  pub each_whole : (bs : List Block) (fs : List Fate) (old new : Kept) → Each m.mode (host_type m.ty) ios starts bs fs old new → AreWhole old.pages → AreWhole new.pages
   each_whole [] fs old new h w = subst (λ (k : Kept). AreWhole k.pages) (sym h) w
   each_whole (b ∷ bs) [] old new h w = absurd h
   each_whole (b ∷ bs) (f ∷ fs) old new h w = each_whole bs fs h.0 new h.1.1 (by f h.1.0)
@@ -166,7 +166,7 @@ module _ (m : Setting) (n : ℕ) (opening : State) (es : List Sent) (p : Plan) (
       let one = block_settled m n opening es p ops ios old.pages g w now same status follows i b.k (omega arith) (omega arith) inside may b.lba f mid.pages s.result u place cell was s.settled in
       subst (λ x. IsOn m n ops opening es (with_status x b.k (NowSettled (why_of s.result)) status) mid.pages now.blocks) e one
 
-  abbrev AllLets : (ℕ → ℕ → Status) → List Block → Type 0
+  abbrev pub AllLets : (ℕ → ℕ → Status) → List Block → Type 0
   AllLets status [] = Unit {0}
   AllLets status (b ∷ bs) = Lets m status ops (b.op - 1) × AllLets status bs
 

@@ -49,7 +49,7 @@ abbrev pub AllLie : Setting → List Io → List Block → Type 0
 AllLie m ios [] = Unit {0}
 AllLie m ios (b ∷ bs) = Lies m ios b × AllLie m ios bs
 
-there_is : (ios : List Io) (i : ℕ) → 0 < (io_at ios i).count → i < length ios
+pub there_is : (ios : List Io) (i : ℕ) → 0 < (io_at ios i).count → i < length ios
 there_is [] i h = absurd (omega arith)
 there_is (io ∷ ios) zero h = omega arith
 there_is (io ∷ ios) (suc i) h = let e = there_is ios i h in omega arith
@@ -90,7 +90,7 @@ abbrev pub AllApart : List Block → Type 0
 AllApart [] = Unit {0}
 AllApart (b ∷ bs) = IsElsewhere b bs × AllApart bs
 
-is_this : (b : Block) → is_block (place_of b.op) b.k (id_of b) ≡ 1
+pub is_this : (b : Block) → is_block (place_of b.op) b.k (id_of b) ≡ 1
 is_this b = let x : eqb (place_of b.op) (place_of b.op) ≡ true = eq-eqb (place_of b.op) (place_of b.op) refl in let y : eqb b.k b.k ≡ true = eq-eqb b.k b.k refl in rw (x, y) refl
 
 elsewhere_of : (b : Block) (bs : List Block) → times (place_of b.op) b.k (map id_of bs) ≡ 0 → IsElsewhere b bs

@@ -32,3 +32,4 @@ pub mod FollowsBlock
 pub mod Chained
 pub mod FollowsComplete
 pub mod FollowsGroup
+pub mod Completes

@@ -149,7 +149,7 @@ module _ (p : Plan) (v : View) (s : Sound p v) (shown : ℕ → ℕ → List ℕ
       ∙ (sym (old ∙ ap sent_as x) ∙ sym (ap (λ y. after_all y (new a q) (status_in p v shown why (suc a) q)) x)))
       (cases_Bool (is_settled (fate_at a q bs cmd.fates))))
 
-  once : (a q : ℕ) → times a q bs ≤ 1
+  pub once : (a q : ℕ) → times a q bs ≤ 1
   once a q =
       ⊎_elim
       (λ (h : 1 ≤ times a q bs).
@@ -159,6 +159,22 @@ module _ (p : Plan) (v : View) (s : Sound p v) (shown : ℕ → ℕ → List ℕ
       omega arith)
       (λ (h : times a q bs ≤ 0). omega arith)
       (cases_lt 0 (times a q bs))
+
+  -- where its blocks are
+  pub were_out : (a q : ℕ) → 1 ≤ times a q bs → IsOut p v a q
+  were_out a q h =
+      let u = here_times a q in
+      let below = total-one (λ (x : Command). times_in a q x) v.commands j no_command (command-there v j live) in
+      (flying p v a q s (omega arith)).0
+
+  pub were_sent : (a q : ℕ) → 1 ≤ times a q bs → status_in p v shown why (suc a) q ≡ sent_as (fate_at a q bs cmd.fates)
+  were_sent a q h =
+      let u = here_times a q in
+      let below = total-one (λ (x : Command). times_in a q x) v.commands j no_command (command-there v j live) in
+      let r = flying p v a q s (omega arith) in
+      let both = in_this a q v.commands j (omega arith) (omega arith) in
+      let e : fate_in a q v.commands ≡ fate_at a q bs cmd.fates = both.0 ∙ rw live refl in
+      is_sent (request_at p a).count (op_at v a) (shown a q) (why a q) (fate_in a q v.commands) q r.0.waits r.0.within r.0.unsettled r.0.is_cut ∙ ap sent_as e
 
   pub completed_statuses : (a q : ℕ) → status_in p w shown new a q ≡ with_settled (blocks_in cmd.bios) cmd.fates new (status_in p v shown why) a q
   completed_statuses zero q = sym (settled_nobody (blocks_in cmd.bios) cmd.fates new (status_in p v shown why) q n)

@@ -30,7 +30,7 @@ ended_waits Waiting e = cc
 ended_waits OpAdmitted e = cc
 ended_waits Ended e = refl
 
-all_marked : (xs : List Bool) (k : ℕ) → all_true xs ≡ true → k < length xs → get_or xs k false ≡ true
+pub all_marked : (xs : List Bool) (k : ℕ) → all_true xs ≡ true → k < length xs → get_or xs k false ≡ true
 all_marked [] k h l = absurd (omega arith)
 all_marked (true ∷ xs) zero h l = refl
 all_marked (false ∷ xs) zero h l = cc
