@@ -64,7 +64,7 @@ after_carried Good w old e = absurd (false≢true (sym e))
 after_carried (Bad x) w old e = absurd (false≢true (sym e))
 after_carried Untouched w old e = e
 
-all_numbered : (m : Setting) (ios : List Io) (bs : List Block) → AllLie m ios bs → AllNumbered bs
+pub all_numbered : (m : Setting) (ios : List Io) (bs : List Block) → AllLie m ios bs → AllNumbered bs
 all_numbered m ios [] l = tt
 all_numbered m ios (b ∷ bs) l = (l.0.numbered, all_numbered m ios bs l.1)
 

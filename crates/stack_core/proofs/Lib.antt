@@ -33,3 +33,4 @@ pub mod Chained
 pub mod FollowsComplete
 pub mod FollowsGroup
 pub mod Completes
+pub mod FollowsSend

@@ -19,6 +19,8 @@ use Rattle.stack_steps.specs.Does.{Holds}
 use Rattle.block_path.specs.Acts.{State}
 use Rattle.block_path.specs.Blocks.{Sent}
 use Rattle.block_path.specs.Routes.{host_type}
+use Rattle.pi_tuple.specs.declared.checks.PiType.{PiType}
+use Rattle.dix_adapter.specs.declared.adapter.Adapter.{Adapter}
 use Rattle.dix_adapter.specs.Groups.{mode_of}
 use Rattle.whole_run.specs.ScriptWalk.{bad_from, whole_or_bad}
 use Rattle.whole_run.specs.Settings.{Setting}
@@ -33,6 +35,7 @@ use Rattle.run_follows.specs.Slots.{Status}
 use Rattle.stack_walks.specs.Ground.{Ground}
 use Rattle.stack_walks.specs.Statuses.{status_in}
 use Rattle.stack_core.specs.declared.kept.Room.{Room}
+use Rattle.stack_core.specs.declared.sheet.Sheet.{Sheet}
 use Rattle.stack_core.specs.declared.stack.Stack.{Stack}
 use Rattle.stack_core.specs.Moved.{why_of}
 use Rattle.stack_core.specs.Requests.{requests_from}
@@ -92,19 +95,19 @@ IsReply Wait whys reply = reply ≡ Silent
 -- ---- between two steps
 
 -- What no step changes: the ops are the script's of this setting, in n bytes of pages, over the adapter's units.
-pub record IsOver (m : Setting) (n : ℕ) (opening : State) (s : Stack) : Type 0 where
-  pub ground : Ground m n (length opening.logs) s.sheet.ops
-  pub found : fates s.sheet.ops ≤ length opening.fates
+pub record IsOver (m : Setting) (n : ℕ) (opening : State) (sheet : Sheet) (a : Adapter) (host : PiType) : Type 0 where
+  pub ground : Ground m n (length opening.logs) sheet.ops
+  pub found : fates sheet.ops ≤ length opening.fates
   pub pages : ℕ
   pub bytes : n ≡ 4096 * pages
-  pub ios : s.sheet.ios.items ≡ requests_from m.mode.dix pages s.sheet.ops
-  pub shifted : s.sheet.shifted.items ≡ shifted_by m.site.faults (length s.sheet.ops)
-  pub mode : m.mode ≡ mode_of s.adapter
-  pub ty : m.ty ≡ s.adapter.ty
-  pub host : s.host ≡ host_type m.ty
-  pub size : (i : ℕ) → 0 < (io_at s.sheet.ios.items i).count → block_size (io_at s.sheet.ios.items i) ≡ m.size
-  pub entries : m.entries ≡ s.sheet.table.entries
-  pub faults : m.site.faults ≡ s.adapter.tamper
+  pub ios : sheet.ios.items ≡ requests_from m.mode.dix pages sheet.ops
+  pub shifted : sheet.shifted.items ≡ shifted_by m.site.faults (length sheet.ops)
+  pub mode : m.mode ≡ mode_of a
+  pub ty : m.ty ≡ a.ty
+  pub host_is : host ≡ host_type m.ty
+  pub size : (i : ℕ) → 0 < (io_at sheet.ios.items i).count → block_size (io_at sheet.ios.items i) ≡ m.size
+  pub entries : m.entries ≡ sheet.table.entries
+  pub faults : m.site.faults ≡ a.tamper
 
 -- A stack of this plan, with these data, that shows this view follows the walk of its script over a setting, with these entries and ends on record: its pages are those of the walk's state; each op that has ended has its reply, and each other one the room for it.
 pub record Follow (over : Setting) (n : ℕ) (opening : State) (es : List Sent) (p : Plan) (ops : List Op) (d : Data) (v : View) (now : State) : Type 0 where
@@ -124,7 +127,7 @@ pub record GoesOn (over : Setting) (n : ℕ) (opening : State) (es : List Sent) 
 
 -- Over any rig, whose records from the first on are this log: what came of each block is what stands on record.
 pub record Walks (m : Setting) (n : ℕ) (opening : State) (first : ℕ) (s : Stack) (st : Standing) (log : List Entry) : Type 0 where
-  pub over : IsOver m n opening s
+  pub over : IsOver m n opening s.sheet s.adapter s.host
   pub sizes : (d : ℕ) → d < s.sheet.devices → (spec_at st d).size ≡ m.size
   pub recorded_from : first ≤ length log
   pub view : View
