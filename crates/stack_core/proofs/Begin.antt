@@ -121,7 +121,7 @@ pub record IsFit (dix : Bool) (bytes len : ℕ) (io : Io) : Type 0 where
   pub host : 0 < io.count → HasHost dix io.pi
   pub number : io.first + io.count < 2 ^ 64
 
-size-is : (body : List Seg) (n bytes : ℕ) → 0 < n → total body ≡ n * bytes → total body / n ≡ bytes
+pub size-is : (body : List Seg) (n bytes : ℕ) → 0 < n → total body ≡ n * bytes → total body / n ≡ bytes
 size-is body n bytes h e = ap (λ t. t / n) e ∙ mul-div_cancel_left bytes h
 
 fit-none : (dix : Bool) (bytes len : ℕ) → IsFit dix bytes len no_io

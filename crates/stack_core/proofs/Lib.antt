@@ -34,3 +34,5 @@ pub mod FollowsComplete
 pub mod FollowsGroup
 pub mod Completes
 pub mod FollowsSend
+pub mod OpWhole
+pub mod FollowsOp

@@ -2,6 +2,7 @@
 use Rattle.std.specs.Prelude.{◌≡◌, ◌⊎◌, ℕ, zero, suc, ◌+◌, ◌*◌, ◌<◌, ◌≤◌, false, true, List, [], ◌∷◌, length, drop, get_or, Option}
 use Rattle.page_pool.specs.Cells.{flat}
 use Rattle.page_pool.specs.Pages.{AreWhole}
+use Rattle.page_pool.specs.Places.{total}
 use Rattle.bio_core.specs.declared.fate.Fate.{Fate}
 use Rattle.bio_core.specs.declared.fate.Fate.TheVariants.{Untouched}
 use Rattle.bio_core.specs.declared.fate.Why.{Why}
@@ -92,6 +93,19 @@ IsReply (FetchPi v n body tuples) whys reply = reply ≡ whole_or_bad (bad_from 
 IsReply (Overwrite dev lba change) whys reply = (reply ≡ Silent) ⊎ (reply ≡ Medium)
 IsReply Wait whys reply = reply ≡ Silent
 
+-- what a `seal` takes is whole blocks of the volume's size
+abbrev pub IsSealed : Setting → Op → Type 0
+IsSealed m (Fill seg byte) = Unit {0}
+IsSealed m (Put page off bytes) = Unit {0}
+IsSealed m (Show seg) = Unit {0}
+IsSealed m (Seal n body tuples app rtag) = total body ≡ n * m.size
+IsSealed m (Write v n body app) = Unit {0}
+IsSealed m (Fetch v n body) = Unit {0}
+IsSealed m (WritePi v n body tuples) = Unit {0}
+IsSealed m (FetchPi v n body tuples) = Unit {0}
+IsSealed m (Overwrite dev lba change) = Unit {0}
+IsSealed m Wait = Unit {0}
+
 -- ---- between two steps
 
 -- What no step changes: the ops are the script's of this setting, in n bytes of pages, over the adapter's units.
@@ -108,6 +122,7 @@ pub record IsOver (m : Setting) (n : ℕ) (opening : State) (sheet : Sheet) (a :
   pub size : (i : ℕ) → 0 < (io_at sheet.ios.items i).count → block_size (io_at sheet.ios.items i) ≡ m.size
   pub entries : m.entries ≡ sheet.table.entries
   pub faults : m.site.faults ≡ a.tamper
+  pub seals : (i : ℕ) → i < length sheet.ops → IsSealed m (op_in sheet.ops i)
 
 -- A stack of this plan, with these data, that shows this view follows the walk of its script over a setting, with these entries and ends on record: its pages are those of the walk's state; each op that has ended has its reply, and each other one the room for it.
 pub record Follow (over : Setting) (n : ℕ) (opening : State) (es : List Sent) (p : Plan) (ops : List Op) (d : Data) (v : View) (now : State) : Type 0 where
