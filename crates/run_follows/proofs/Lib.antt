@@ -7,7 +7,7 @@ pub mod Wholly
 mod Carrying
 mod Ends
 mod Backing
-mod Switch
+pub mod Switch
 pub mod Sends
 pub mod Over
 pub mod Recording

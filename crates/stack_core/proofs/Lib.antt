@@ -36,3 +36,5 @@ pub mod Completes
 pub mod FollowsSend
 pub mod OpWhole
 pub mod FollowsOp
+pub mod Context
+pub mod Walked

@@ -16,7 +16,8 @@ use Rattle.stack_ops.specs.declared.reply.Reply.{Reply}
 use Rattle.stack_ops.specs.declared.reply.Reply.TheVariants.{Silent, Whole, Bad, Shown, Medium}
 use Rattle.stack_view.specs.Plan.{Plan, request_at}
 use Rattle.stack_view.specs.View.{View, is_admitted, op_at}
-use Rattle.stack_steps.specs.Does.{Holds}
+use Rattle.stack_steps.specs.declared.choice.Choice.{Choice}
+use Rattle.stack_steps.specs.Does.{Chooses, Holds}
 use Rattle.block_path.specs.Acts.{State}
 use Rattle.block_path.specs.Blocks.{Sent}
 use Rattle.block_path.specs.Routes.{host_type}
@@ -43,7 +44,7 @@ use Rattle.stack_core.specs.Requests.{requests_from}
 use Rattle.stack_core.specs.Rooms.{Suits}
 use Rattle.stack_core.specs.Sheets.{io_at, op_in}
 use Rattle.stack_core.specs.Shifts.{shifted_by}
-use Rattle.stack_core.specs.Stacks.{plan_in, room_at}
+use Rattle.stack_core.specs.Stacks.{HasStep, plan_in, room_at}
 
 -- ---- how far each block is
 
@@ -150,3 +151,13 @@ pub record Walks (m : Setting) (n : ℕ) (opening : State) (first : ℕ) (s : St
   pub now : State
   pub follow : Follow (told m (recorded m (drop first log))) n opening (recorded m (drop first log)) (plan_in s.sheet) s.sheet.ops (data_of s) view now
   pub none_before : NoneBefore (status_of (plan_in s.sheet) (data_of s) view) (recorded m (drop first log))
+
+-- ---- from one step to the next
+
+-- some word chooses this step
+abbrev pub IsChosen : Stack → Choice → Type 0
+IsChosen s c = (word : ℕ) × Chooses (plan_in s.sheet) s.machine word c × HasStep (plan_in s.sheet) s.machine
+
+-- A stack that follows the walk still does, over a rig with these records.
+abbrev pub WalksOn : (old new : Stack) → Type 0
+WalksOn old new = (m : Setting) (n : ℕ) (opening : State) (first : ℕ) (st : Standing) (log : List Entry) → Walks m n opening first old st log → Walks m n opening first new st log

@@ -9,3 +9,4 @@ pub mod Sending
 pub mod Completing
 pub mod Found
 pub mod Letting
+pub mod Over
