@@ -38,3 +38,4 @@ pub mod OpWhole
 pub mod FollowsOp
 pub mod Context
 pub mod Walked
+pub mod WalkedFar

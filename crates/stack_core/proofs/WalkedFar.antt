@@ -45,7 +45,7 @@ use Rattle.stack_walks.proofs.Sending.{in_its_queue}
 use Rattle.stack_walks.proofs.Standing.{due_one}
 use Rattle.stack_core.specs.declared.sheet.Sheet.{Sheet}
 use Rattle.stack_core.specs.declared.stack.Stack.{Stack}
-use Rattle.stack_core.specs.Settled.{AllSettled}
+use Rattle.stack_core.specs.Settled.{AllSettled, Kept}
 use Rattle.stack_core.specs.Settling.{AreFates}
 use Rattle.stack_core.specs.Sheets.{io_at}
 use Rattle.stack_core.specs.Stacks.{IsStack, Stays, plan_in}
@@ -63,7 +63,7 @@ starts_stay : (ios : List Io) (a b : List ℕ) (x y : List Fate) → AreFates io
 starts_stay ios a b x y f g =
     let m = f.count in
     let n = g.count in
-    ext_get_or b a (n ∙ sym m) 0 (λ i l. g.begin i (omega arith) ∙ sym (f.begin i (omega arith)))
+    ext_get_or 0 b a (n ∙ sym m) (λ i l. g.begin i (omega arith) ∙ sym (f.begin i (omega arith)))
 
 module _ (m : Setting) (n : ℕ) (opening : State) (first : ℕ) (s : Stack) (st : Standing) (log : List Entry) (k : IsStack s) (w : Walks m n opening first s st log) where
   abbrev view : View
@@ -100,8 +100,8 @@ module _ (m : Setting) (n : ℕ) (opening : State) (first : ℕ) (s : Stack) (st
       let h : Holds design s'.machine after = subst (λ z. Holds design s'.machine (step design view z 0 [])) is (does view t w.holds (can_be m n opening first s st log k w c ch) mean) in
       let done = completed sh.ops sh.shifted.items sh.ios.items sh.table sh.limits sh.devices s.machine i bios fates sh.right.fine (ready m n opening first s st log k w c ch) lands in
       let each : size cmd.bios ≡ length cmd.fates = ap size (sym x.1.1.0) ∙ (done.each ∙ ap length x.1.1.1) in
-      let new = record { pages = s'.pool; held = s'.kept.held.items } in
-      let old = record { pages = s.pool; held = s.kept.held.items } in
+      let new : Kept = record { pages = s'.pool; held = s'.kept.held.items } in
+      let old : Kept = record { pages = s.pool; held = s.kept.held.items } in
       let settled : AllSettled (mode_of s.adapter) s.host sh.ios.items s.kept.starts.items cmd.bios cmd.fates (length cmd.bios) old new
       = subst (λ fs. AllSettled (mode_of s.adapter) s.host sh.ios.items s.kept.starts.items cmd.bios fs (length cmd.bios) old new) x.1.1.1 (subst (λ bs. AllSettled (mode_of s.adapter) s.host sh.ios.items s.kept.starts.items bs fates (length bs) old new) x.1.1.0 settles) in
       let starts = starts_stay sh.ios.items s.kept.starts.items s'.kept.starts.items s.kept.held.items s'.kept.held.items k.kept kept in
