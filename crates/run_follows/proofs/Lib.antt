@@ -1,12 +1,12 @@
 mod Runs
-mod Begins
+pub mod Begins
 mod Standing
 pub mod Moving
 pub mod Quietly
 pub mod Wholly
 mod Carrying
-mod Ends
-mod Backing
+pub mod Ends
+pub mod Backing
 pub mod Switch
 pub mod Sends
 pub mod Over
@@ -14,6 +14,6 @@ pub mod Recording
 pub mod Telling
 pub mod Holding
 mod FollowRows
-mod Binding
-mod Fitting
+pub mod Binding
+pub mod Fitting
 pub mod Together

@@ -39,3 +39,5 @@ pub mod FollowsOp
 pub mod Context
 pub mod Walked
 pub mod WalkedFar
+pub mod WalkBegins
+pub mod WalkEnds

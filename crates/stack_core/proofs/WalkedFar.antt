@@ -8,6 +8,7 @@ use Rattle.page_pool.specs.Pages.{AreWhole}
 use Rattle.bio_core.specs.Bios.{Block, block_size}
 use Rattle.bio_core.specs.declared.bio.Bio.{Bio}
 use Rattle.bio_core.specs.declared.fate.Fate.{Fate}
+use Rattle.bio_core.specs.declared.request.Dir.{Dir}
 use Rattle.bio_core.specs.declared.request.Dir.TheVariants.{Read, Write as WriteDir}
 use Rattle.bio_core.specs.declared.request.Io.{Io}
 use Rattle.dix_adapter.specs.Carried.{Shown, Unsent, any_bad, sends}
@@ -276,3 +277,20 @@ module _ (m : Setting) (n : ℕ) (opening : State) (first : ℕ) (s : Stack) (st
         let on = sent_in m n s.sheet.ops s.adapter s.sheet.ios.items (group_at view d i) s.pool k.fixed.protect fits w.over.faults s'.pool fates (from_first old) (from_first new) opening w.now status (spots_of m s.sheet.ops bs) dir' r'' going w.follow.bytes
             (subst (λ x. NoneBefore status x) (sym logs) w.none_before) (subst (λ x. Follows (told m x) n s.sheet.ops opening status w.now x) (sym logs) w.follow.follows) in
         went s'.pool new.log refl whole (grows old new r'.entry l r'.what) on
+
+    -- whatever the adapter did
+    pub walk_sends : (old new : Shown) → old.log ≡ log
+        → ((first_of group).dir ≡ WriteDir → any_bad (map (sends s.adapter s.sheet.ios.items (flat s.pool)) (blocks_in group)) ≡ true → Unsent s.adapter s.sheet.ios.items group s.pool s'.pool fates × (new.log ≡ log))
+        → ((first_of group).dir ≡ WriteDir → any_bad (map (sends s.adapter s.sheet.ios.items (flat s.pool)) (blocks_in group)) ≡ false → s'.pool ≡ s.pool)
+        → ((first_of group).dir ≡ Read → AreWhole s'.pool)
+        → ((spec_at st (first_of group).dev).size ≡ block_size (Carry.request_of s.sheet.ios.items (first_of group).op) → (first_of group).dir ≡ WriteDir → any_bad (map (sends s.adapter s.sheet.ios.items (flat s.pool)) (blocks_in group)) ≡ false → RecordedOut s.adapter s.sheet.ios.items group (flat s.pool) fates old new)
+        → ((spec_at st (first_of group).dev).size ≡ block_size (Carry.request_of s.sheet.ios.items (first_of group).op) → (first_of group).dir ≡ Read → RecordedIn s.adapter s.sheet.ios.items group s.pool s'.pool fates old new)
+        → Walks m n opening first s' st new.log
+    walk_sends old new l unsent stay whole out in_ = by (first_of group).dir refl where
+      writes : (first_of group).dir ≡ WriteDir → (b : Bool) → any_bad (map (sends s.adapter s.sheet.ios.items (flat s.pool)) (blocks_in group)) ≡ b → Walks m n opening first s' st new.log
+      writes e true q = let u = unsent e q in subst (λ x. Walks m n opening first s' st x) (sym u.1) (walk_held e u.0)
+      writes e false q = walk_out old new l e q (stay e q) (out size_known e q)
+
+      by : (dir : Dir) → (first_of group).dir ≡ dir → Walks m n opening first s' st new.log
+      by WriteDir e = writes e (any_bad (map (sends s.adapter s.sheet.ios.items (flat s.pool)) (blocks_in group))) refl
+      by Read e = walk_in old new l e (whole e) (in_ size_known e)

@@ -1,5 +1,5 @@
 -- That a stack between two steps follows the walk of its script.
-use Rattle.std.specs.Prelude.{◌≡◌, ◌⊎◌, ℕ, zero, suc, ◌+◌, ◌*◌, ◌<◌, ◌≤◌, false, true, List, [], ◌∷◌, length, drop, get_or, Option}
+use Rattle.std.specs.Prelude.{◌≡◌, ◌⊎◌, ℕ, zero, suc, ◌+◌, ◌*◌, ◌<◌, ◌≤◌, Bool, false, true, List, [], ◌∷◌, length, drop, get_or, Option}
 use Rattle.page_pool.specs.Cells.{flat}
 use Rattle.page_pool.specs.Pages.{AreWhole}
 use Rattle.page_pool.specs.Places.{total}
@@ -107,6 +107,18 @@ IsSealed m (FetchPi v n body tuples) = Unit {0}
 IsSealed m (Overwrite dev lba change) = Unit {0}
 IsSealed m Wait = Unit {0}
 
+-- an overwrite whose store call failed
+abbrev pub is_medium : Reply → Bool
+is_medium Silent = false
+is_medium Whole = false
+is_medium (Bad blocks) = false
+is_medium (Shown bytes) = false
+is_medium Medium = true
+
+-- the setting says which overwrites failed, as the stack replied; ops are numbered from 1 there
+abbrev pub HasFails : Setting → List Reply → Type 0
+HasFails m replies = (i : ℕ) → m.fails (suc i) ≡ is_medium (get_or replies i Silent)
+
 -- ---- between two steps
 
 -- What no step changes: the ops are the script's of this setting, in n bytes of pages, over the adapter's units.
@@ -151,6 +163,16 @@ pub record Walks (m : Setting) (n : ℕ) (opening : State) (first : ℕ) (s : St
   pub now : State
   pub follow : Follow (told m (recorded m (drop first log))) n opening (recorded m (drop first log)) (plan_in s.sheet) s.sheet.ops (data_of s) view now
   pub none_before : NoneBefore (status_of (plan_in s.sheet) (data_of s) view) (recorded m (drop first log))
+
+-- the cells with which a stack begins: its pages are those of these, and no frame was carried yet
+pub record Opens (opening : State) (s : Stack) : Type 0 where
+  pub bytes : opening.bytes ≡ flat s.pool
+  pub logs : (c : ℕ) → get_or opening.logs c [] ≡ []
+
+-- A new stack follows the walk, over any rig with devices of blocks of this size, from the rig's next record on.
+abbrev pub WalksAtFirst : Stack → Type 0
+WalksAtFirst s = (m : Setting) (n : ℕ) (opening : State) (st : Standing) (log : List Entry)
+    → Opens opening s → IsOver m n opening s.sheet s.adapter s.host → ((d : ℕ) → d < s.sheet.devices → (spec_at st d).size ≡ m.size) → Walks m n opening (length log) s st log
 
 -- ---- from one step to the next
 
