@@ -156,10 +156,10 @@ ready-op dix pages size pool t devices (Fetch v n body) e k h =
     (data-of pool size (volume_len t.entries) v n body a.body_is (in-range t v n h), a.once)
 ready-op dix pages size pool t devices (WritePi v n body tuples) e k h =
     let b = both-of pages size n pool body tuples e (unless-ok (both_fault pages size n body tuples) _ _ k.rules) in
-    (travels dix k.integrity, (data-of pool size (volume_len t.entries) v n body b.body_is (in-range t v n h), b.tuples_are))
+    (travels dix k.integrity, (data-of pool size (volume_len t.entries) v n body b.body_is (in-range t v n h), (b.tuples_are, (are-once body tuples b.overlap).apart)))
 ready-op dix pages size pool t devices (FetchPi v n body tuples) e k h =
     let b = both-of pages size n pool body tuples e (unless-ok (both_fault pages size n body tuples) _ _ k.rules) in
-    (travels dix k.integrity, (data-of pool size (volume_len t.entries) v n body b.body_is (in-range t v n h), (b.once, b.tuples_are)))
+    (travels dix k.integrity, (data-of pool size (volume_len t.entries) v n body b.body_is (in-range t v n h), (b.once, (b.tuples_are, (are-once body tuples b.overlap).apart))))
 ready-op dix pages size pool t devices (Overwrite dev lba change) e k h = tt
 ready-op dix pages size pool t devices Wait e k h = tt
 
