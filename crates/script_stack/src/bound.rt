@@ -1,9 +1,11 @@
 //! The volume of a script over the devices of a rig.
 
-ghost use Rattle.std.specs.Prelude.{◌≡◌, ◌+◌, ◌≤◌, All, IfErr, IfOk, IsOkUnless, None, Some, is_some, length, map, true};
+ghost use Rattle.std.specs.Prelude.{◌≡◌, ◌+◌, ◌≤◌, All, Err, IfErr, IfOk, IsOkUnless, None, Some, is_some, length, map, true};
 ghost use Rattle.rig_api.specs.Telling.{specs_of};
 ghost use Rattle.rig_discovery.specs.Discovery.{HasFound, info_of};
+ghost use Rattle.volume_table.specs.declared.fault.VolumeFault.{VolumeFault};
 ghost use Rattle.volume_table.specs.Faults.{table_fault};
+ghost use Rattle.script_stack.specs.declared.unready.Unready.{Unready};
 ghost use Rattle.volume_table.specs.Tables.{EndFits, MadeFor};
 ghost use Rattle.script_text.specs.Bindings.{binding_fault};
 ghost use Rattle.script_laws.specs.Keeping.{Keeps};
@@ -57,6 +59,7 @@ pub fn bound_volume(
     ensures table { IfOk result (λ t. t ≡ table_of script.now devices.now) }
     ensures made { IfOk result (λ t. MadeFor t devices.now script.now.block) }
     ensures bound { IfOk result (λ t. binding_fault script.now t devices.now ≡ None) }
+    ensures volume { (f : VolumeFault) → table_fault script.now.entries devices.now script.now.block ≡ Some f → result ≡ Err (Unready.Volume f) }
     ensures cause { IfErr result (λ u. CauseUnbound u script.now devices.now) }
 {
     let table = match VolumeTable::new(alloc, &script.entries, devices, script.block) {

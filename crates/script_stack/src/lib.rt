@@ -11,4 +11,4 @@ pub use bound::{bound_volume, found_devices};
 pub use run::run_all;
 pub use start::{Run, start_script};
 pub use unready::Unready;
-pub use whole::run_script;
+pub use whole::{ready_script, run_script};
