@@ -88,10 +88,12 @@ pub fn run_script<R: Rig>(alloc: Global, script: Script, rig: &mut R) -> Result<
         Err(unready) => return Err(unready),
     };
     match ready_script(alloc, script, table, &devices, rig) {
-        Ok(Run {
-            mut stack,
-            schedule,
-        }) => {
+        Ok(
+            Run {
+                mut stack,
+                schedule,
+            },
+        ) => {
             run_all(&mut stack, schedule.as_slice(), rig);
             Ok(stack)
         }
