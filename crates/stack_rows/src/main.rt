@@ -4,6 +4,7 @@
 #![tactic(auto)]
 
 mod answers;
+mod image;
 mod row;
 mod runs;
 mod table;

@@ -1,9 +1,9 @@
 //! What comes of a row.
 
 use crate::answers::answers_by;
+use crate::image::Image;
 use crate::row::{Row, add_line};
-use dix_base::{MemSink, MemStore};
-use image_rig::ImageRig;
+use dix_base::MemSink;
 use report_text::{print_report, print_trace};
 use rig_api::Rig;
 use script_laws::a_read_script_keeps_the_rules;
@@ -12,7 +12,6 @@ use script_text::{ScriptFault, read_script};
 use scripted_rig::ScriptedRig;
 use stack_core::Stack;
 use std::alloc::{AllocError, Global};
-use target_answer::{UnitSpec, is_layout};
 
 /// The most bytes of a report or a trace.
 const ROOM: u32 = 100_000;
@@ -25,23 +24,6 @@ const FRONT: usize = b"dix report 1\n".len();
 pub(crate) struct Came {
     pub(crate) report: Vec<u8>,
     pub(crate) trace: Vec<u8>,
-}
-
-/// A rig over the formatted image of these units, whose store fails at these calls.
-fn opened(
-    alloc: Global,
-    units: &[UnitSpec],
-    fails: &[u64],
-) -> Result<ImageRig<MemStore>, AllocError> {
-    let mut maker = ImageRig::new(alloc, MemStore::new(Vec::new(alloc), Vec::new(alloc)));
-    if is_layout(units) {
-        let _ = maker.format(alloc, "a", units);
-    }
-    let image = Vec::from_slice(alloc, maker.store().bytes())?;
-    let fails = Vec::from_slice(alloc, fails)?;
-    let mut rig = ImageRig::new(alloc, MemStore::new(image, fails));
-    let _ = rig.open(alloc, "a");
-    Ok(rig)
 }
 
 /// A fault of a script, as the program names it.
@@ -97,13 +79,13 @@ fn came_over<R: Rig>(alloc: Global, text: &[u8], rig: &mut R) -> Result<Came, Al
     Ok(Came { report, trace })
 }
 
-/// What comes of a row over the formatted image of these units.
-pub(crate) fn came_of(alloc: Global, units: &[UnitSpec], row: &Row) -> Result<Came, AllocError> {
-    let mut rig = opened(alloc, units, &row.fails)?;
+/// What comes of a row over an image.
+pub(crate) fn came_of(alloc: Global, image: &Image, row: &Row) -> Result<Came, AllocError> {
+    let mut rig = image.opened(alloc, &row.fails)?;
     if row.rules.is_empty() {
         return came_over(alloc, &row.script, &mut rig);
     }
-    let answers = answers_by(alloc, units, &row.rules)?;
+    let answers = answers_by(alloc, &image.units, &row.rules)?;
     let mut lying = ScriptedRig::new(alloc, rig, answers);
     came_over(alloc, &row.script, &mut lying)
 }

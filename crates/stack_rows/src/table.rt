@@ -1,16 +1,15 @@
 //! The lines of the table.
 
 use crate::answers::Rule;
+use crate::image::Image;
 use crate::row::{Row, add_line};
 use crate::runs::{Came, came_of};
-use dix_words::unit_of;
 use std::alloc::{AllocError, Global};
-use target_answer::UnitSpec;
 
-/// The units of the image from here on, the row that is read, and how many there were.
+/// The image from here on, the row that is read, and how many there were.
 #[derive(Drop)]
 pub(crate) struct Table {
-    units: Vec<UnitSpec>,
+    image: Image,
     row: Option<Row>,
     rows: u32,
 }
@@ -59,7 +58,7 @@ fn text_of(alloc: Global, row: &Row, came: &Came) -> Result<Vec<u8>, AllocError>
 impl Table {
     pub(crate) fn new(alloc: Global) -> Table {
         Table {
-            units: Vec::new(alloc),
+            image: Image::none(alloc),
             row: None,
             rows: 0,
         }
@@ -76,7 +75,7 @@ impl Table {
             "" | "#" => Ok(None),
             "image" => {
                 let judged = self.judge(alloc)?;
-                self.set_units(rest)?;
+                self.image = Image::of(alloc, rest)?;
                 Ok(judged)
             }
             "row" => {
@@ -89,16 +88,6 @@ impl Table {
                 Ok(None)
             }
         }
-    }
-
-    fn set_units(&mut self, words: &str) -> Result<(), AllocError> {
-        self.units.clear();
-        for word in words.split(' ') {
-            if let Some(unit) = unit_of(word.as_bytes()) {
-                self.units.push(unit)?;
-            }
-        }
-        Ok(())
     }
 
     fn add(&mut self, word: &str, rest: &str, line: &str) -> Result<(), AllocError> {
@@ -114,7 +103,7 @@ impl Table {
             return Ok(None);
         };
         self.rows = self.rows.saturating_add(1);
-        let came = came_of(alloc, &self.units, &row)?;
+        let came = came_of(alloc, &self.image, &row)?;
         if came.report.as_slice() == row.report.as_slice()
             && came.trace.as_slice() == row.trace.as_slice()
         {
