@@ -46,3 +46,7 @@ ends-all (d ∷ ds) h = All-cons EndFits d ds h.0 (ends-all ds h.1)
 pub told-units : (s : Standing) (image : Option (List ℕ)) (units : Option (List Stored)) → units ≡ units_told s image → is_some image ≡ true → is_some units ≡ true
 told-units s None units e h = absurd cc
 told-units s (Some image) units e h = ap is_some e
+
+-- the stored blocks after a call that changed neither image nor head
+pub units-through : (s s2 : Standing) (image image2 : Option (List ℕ)) (units units2 : Option (List Stored)) → units ≡ units_told s image → units2 ≡ units_told s2 image2 → s2 ≡ s → image2 ≡ image → units2 ≡ units
+units-through s s2 image image2 units units2 p q e f = q ∙ ap (λ (v : Standing). units_told v image2) e ∙ ap (units_told s) f ∙ sym p
