@@ -5,3 +5,4 @@ pub mod Ops
 pub mod Shifts
 pub mod Spreads
 pub mod Standing
+pub mod Units

@@ -4,4 +4,7 @@
 
 mod laws;
 
-pub use laws::{a_bound_script_seals_whole_blocks, a_bound_script_stands_on_ground};
+pub use laws::{
+    a_bound_script_seals_whole_blocks, a_bound_script_stands_on_ground,
+    a_rig_has_a_cell_for_each_address,
+};
