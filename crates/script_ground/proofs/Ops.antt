@@ -34,7 +34,7 @@ use Rattle.script_ground.specs.Bound.{IsSettingOf}
 use Rattle.script_ground.specs.Seals.{IsSealed}
 use Rattle.script_ground.proofs.Bodies.{alone-of, both-of, if-none, inside-ok, unless-ok}
 use Rattle.script_ground.proofs.Places.{home-logged}
-use Rattle.script_ground.proofs.Segments.{cells-below, none-below, one-stands, pages-append, touched-in-pages}
+use Rattle.script_ground.proofs.Segments.{cells-below, none-below, one-stands, pages-append, stands, touched-in-pages}
 
 -- ---- an op in the volume
 
@@ -46,6 +46,9 @@ in-range t v n h =
 blocks-of : (m : Setting) (t : Table) (size v n bytes : ℕ) → m.size ≡ size → m.entries ≡ t.entries → bytes ≡ n * size → v + n ≤ volume_len t.entries → AreBlocks m v n bytes
 blocks-of m t size v n bytes z e l w =
     record { within = subst (λ (es : List Entry). v + n ≤ volume_len es) (sym e) w; bytes_are = l ∙ ap (λ k. n * k) (sym z) }
+
+eights : (n bytes : ℕ) → bytes ≡ 8 * n → bytes ≡ n * 8
+eights n bytes h = omega arith
 
 pub placed-op : (m : Setting) (t : Table) (devices : List DeviceInfo) (dix : Bool) (pages size : ℕ) (op : Op) → m.size ≡ size → m.entries ≡ t.entries → KeepsRules dix pages size op → op_fault t devices size op ≡ None → IsPlaced m (4096 * pages) op
 placed-op m t devices dix pages size (Fill seg byte) z e k h =
@@ -59,8 +62,8 @@ placed-op m t devices dix pages size (Show seg) z e k h =
     record { in_pages = touched-in-pages pages false (seg ∷ []) st; reads = cells-below pages (seg ∷ []) st; writes = none-below (4096 * pages); blocks = tt }
 placed-op m t devices dix pages size (Seal n body tuples app rtag) z e k h =
     let b = both-of pages size n body tuples (unless-ok (both_fault pages size n body tuples) _ _ k.rules) in
-    let p = b.data_is.inside in
-    let q = b.tuples_are.inside in
+    let p = stands pages body b.body_is.inside in
+    let q = stands pages tuples b.tuples_are.inside in
     record {
       in_pages = pages-append (touches false body) (touches true tuples) (touched-in-pages pages false body p) (touched-in-pages pages true tuples q);
       reads = cells-below pages body p;
@@ -69,31 +72,31 @@ placed-op m t devices dix pages size (Seal n body tuples app rtag) z e k h =
     }
 placed-op m t devices dix pages size (Write v n body app) z e k h =
     let a = alone-of pages size n body (unless-ok (data_fault pages size n body) _ _ k.rules) in
-    let p = a.data_is.inside in
-    record { in_pages = touched-in-pages pages false body p; reads = cells-below pages body p; writes = none-below (4096 * pages); blocks = blocks-of m t size v n (total body) z e a.data_is.long (in-range t v n h) }
+    let p = stands pages body a.body_is.inside in
+    record { in_pages = touched-in-pages pages false body p; reads = cells-below pages body p; writes = none-below (4096 * pages); blocks = blocks-of m t size v n (total body) z e a.body_is.long (in-range t v n h) }
 placed-op m t devices dix pages size (Fetch v n body) z e k h =
     let a = alone-of pages size n body (unless-ok (data_fault pages size n body) _ _ k.rules) in
-    let p = a.data_is.inside in
-    record { in_pages = touched-in-pages pages true body p; reads = none-below (4096 * pages); writes = cells-below pages body p; blocks = blocks-of m t size v n (total body) z e a.data_is.long (in-range t v n h) }
+    let p = stands pages body a.body_is.inside in
+    record { in_pages = touched-in-pages pages true body p; reads = none-below (4096 * pages); writes = cells-below pages body p; blocks = blocks-of m t size v n (total body) z e a.body_is.long (in-range t v n h) }
 placed-op m t devices dix pages size (WritePi v n body tuples) z e k h =
     let b = both-of pages size n body tuples (unless-ok (both_fault pages size n body tuples) _ _ k.rules) in
-    let p = b.data_is.inside in
-    let q = b.tuples_are.inside in
+    let p = stands pages body b.body_is.inside in
+    let q = stands pages tuples b.tuples_are.inside in
     record {
       in_pages = pages-append (touches false body) (touches true tuples) (touched-in-pages pages false body p) (touched-in-pages pages true tuples q);
       reads = cells-below pages body p;
       writes = cells-below pages tuples q;
-      blocks = (blocks-of m t size v n (total body) z e b.data_is.long (in-range t v n h), b.tuples_are.long);
+      blocks = (blocks-of m t size v n (total body) z e b.body_is.long (in-range t v n h), eights n (total tuples) b.tuples_are.long);
     }
 placed-op m t devices dix pages size (FetchPi v n body tuples) z e k h =
     let b = both-of pages size n body tuples (unless-ok (both_fault pages size n body tuples) _ _ k.rules) in
-    let p = b.data_is.inside in
-    let q = b.tuples_are.inside in
+    let p = stands pages body b.body_is.inside in
+    let q = stands pages tuples b.tuples_are.inside in
     record {
       in_pages = pages-append (touches true body) (touches true tuples) (touched-in-pages pages true body p) (touched-in-pages pages true tuples q);
       reads = none-below (4096 * pages);
       writes = All-append (λ i. i < 4096 * pages) (cells_of body) (cells_of tuples) (cells-below pages body p) (cells-below pages tuples q);
-      blocks = (blocks-of m t size v n (total body) z e b.data_is.long (in-range t v n h), b.tuples_are.long);
+      blocks = (blocks-of m t size v n (total body) z e b.body_is.long (in-range t v n h), eights n (total tuples) b.tuples_are.long);
     }
 placed-op m t devices dix pages size (Overwrite dev lba change) z e k h = record { in_pages = tt; reads = none-below (4096 * pages); writes = none-below (4096 * pages); blocks = tt }
 placed-op m t devices dix pages size Wait z e k h = record { in_pages = tt; reads = none-below (4096 * pages); writes = none-below (4096 * pages); blocks = tt }
@@ -124,15 +127,18 @@ rules-at dix pages size (op ∷ ops) (suc i) h b = rules-at dix pages size ops i
 
 -- ---- kinds of ops
 
+at-least-one : (n : ℕ) → 1 ≤ n → 0 < n
+at-least-one n h = omega arith
+
 pub kind-of : (dix : Bool) (pages size : ℕ) (op : Op) → KeepsRules dix pages size op → IsNoRequest op ⊎ (0 < fates_of op)
 kind-of dix pages size (Fill seg byte) k = inl tt
 kind-of dix pages size (Put page off bytes) k = inl tt
 kind-of dix pages size (Show seg) k = inl tt
 kind-of dix pages size (Seal n body tuples app rtag) k = inl tt
-kind-of dix pages size (Write v n body app) k = inr (alone-of pages size n body (unless-ok (data_fault pages size n body) _ _ k.rules)).data_is.some
-kind-of dix pages size (Fetch v n body) k = inr (alone-of pages size n body (unless-ok (data_fault pages size n body) _ _ k.rules)).data_is.some
-kind-of dix pages size (WritePi v n body tuples) k = inr (both-of pages size n body tuples (unless-ok (both_fault pages size n body tuples) _ _ k.rules)).data_is.some
-kind-of dix pages size (FetchPi v n body tuples) k = inr (both-of pages size n body tuples (unless-ok (both_fault pages size n body tuples) _ _ k.rules)).data_is.some
+kind-of dix pages size (Write v n body app) k = inr (at-least-one n (alone-of pages size n body (unless-ok (data_fault pages size n body) _ _ k.rules)).body_is.some)
+kind-of dix pages size (Fetch v n body) k = inr (at-least-one n (alone-of pages size n body (unless-ok (data_fault pages size n body) _ _ k.rules)).body_is.some)
+kind-of dix pages size (WritePi v n body tuples) k = inr (at-least-one n (both-of pages size n body tuples (unless-ok (both_fault pages size n body tuples) _ _ k.rules)).body_is.some)
+kind-of dix pages size (FetchPi v n body tuples) k = inr (at-least-one n (both-of pages size n body tuples (unless-ok (both_fault pages size n body tuples) _ _ k.rules)).body_is.some)
 kind-of dix pages size (Overwrite dev lba change) k = inl tt
 kind-of dix pages size Wait k = inl tt
 
@@ -144,7 +150,7 @@ seal-of m dix pages size (Put page off bytes) z k = tt
 seal-of m dix pages size (Show seg) z k = tt
 seal-of m dix pages size (Seal n body tuples app rtag) z k =
     let b = both-of pages size n body tuples (unless-ok (both_fault pages size n body tuples) _ _ k.rules) in
-    b.data_is.long ∙ ap (λ x. n * x) (sym z)
+    b.body_is.long ∙ ap (λ x. n * x) (sym z)
 seal-of m dix pages size (Write v n body app) z k = tt
 seal-of m dix pages size (Fetch v n body) z k = tt
 seal-of m dix pages size (WritePi v n body tuples) z k = tt

@@ -20,14 +20,14 @@ use Rattle.script_text.specs.Segments.{any_share, are_inside, do_overlap, is_ins
 
 -- ---- inside the pages
 
-lies : (pages : ℕ) (pool : List (List ℕ)) (s : Seg) → length pool ≡ pages → is_inside pages s ≡ true → LiesIn pool s
+pub lies : (pages : ℕ) (pool : List (List ℕ)) (s : Seg) → length pool ≡ pages → is_inside pages s ≡ true → LiesIn pool s
 lies pages pool s e h =
     let a = and_parts (nat_lt s.page pages) (nat_lt 0 s.len && nat_le (s.off + s.len) 4096) h in
     let b = and_parts (nat_lt 0 s.len) (nat_le (s.off + s.len) 4096) a.1 in
     let p = ltb-true s.page pages a.0 in
     record { in_pool = omega arith; in_page = leb-true (s.off + s.len) 4096 b.1 }
 
-all-lie : (pages : ℕ) (pool : List (List ℕ)) (segs : List Seg) → length pool ≡ pages → are_inside pages segs ≡ true → AllLieIn pool segs
+pub all-lie : (pages : ℕ) (pool : List (List ℕ)) (segs : List Seg) → length pool ≡ pages → are_inside pages segs ≡ true → AllLieIn pool segs
 all-lie pages pool [] e h = tt
 all-lie pages pool (s ∷ ss) e h =
     let a = and_parts (is_inside pages s) (are_inside pages ss) h in
@@ -87,7 +87,7 @@ places-append : (a b : List Seg) → places_in (a ++ b) ≡ places_in a ++ place
 places-append [] b = refl
 places-append (s ∷ a) b = ap (λ ps. places_of s ++ ps) (places-append a b) ∙ sym (append_assoc (places_of s) (places_in a) (places_in b))
 
-once-both : (body tuples : List Seg) → do_overlap body tuples ≡ false → NoneTwice (places_in body ++ places_in tuples)
+pub once-both : (body tuples : List Seg) → do_overlap body tuples ≡ false → NoneTwice (places_in body ++ places_in tuples)
 once-both body tuples h = subst NoneTwice (places-append body tuples) (once-all (body ++ tuples) h)
 
 -- the cells of data, and of data and tuples, are there once each

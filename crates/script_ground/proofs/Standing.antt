@@ -22,11 +22,11 @@ or-none None b e = (refl, e)
 or-none (Some f) b e = absurd cc
 
 -- no line of a fault or of an op is at fault
-record IsBound (s : Script) (t : Table) (devices : List DeviceInfo) : Type 0 where
-  faults : faults_fault t devices s.ops [] s.faults s.lines ≡ None
-  ops : ops_fault t devices s.block s.ops (drop (length s.faults) s.lines) ≡ None
+pub record IsBound (s : Script) (t : Table) (devices : List DeviceInfo) : Type 0 where
+  pub faults : faults_fault t devices s.ops [] s.faults s.lines ≡ None
+  pub ops : ops_fault t devices s.block s.ops (drop (length s.faults) s.lines) ≡ None
 
-bound : (s : Script) (t : Table) (devices : List DeviceInfo) → binding_fault s t devices ≡ None → IsBound s t devices
+pub bound : (s : Script) (t : Table) (devices : List DeviceInfo) → binding_fault s t devices ≡ None → IsBound s t devices
 bound s t devices h =
     let a = or-none (expect_fault s t.ty) _ h in
     let b = or-none (faults_fault t devices s.ops [] s.faults s.lines) (ops_fault t devices s.block s.ops (drop (length s.faults) s.lines)) a.1 in
