@@ -1,19 +1,19 @@
 mod Runs
-mod Begins
+pub mod Begins
 mod Standing
-mod Moving
-mod Quietly
-mod Wholly
+pub mod Moving
+pub mod Quietly
+pub mod Wholly
 mod Carrying
-mod Ends
-mod Backing
-mod Switch
-mod Sends
-mod Over
-mod Recording
-mod Telling
-mod Holding
+pub mod Ends
+pub mod Backing
+pub mod Switch
+pub mod Sends
+pub mod Over
+pub mod Recording
+pub mod Telling
+pub mod Holding
 mod FollowRows
-mod Binding
-mod Fitting
-mod Together
+pub mod Binding
+pub mod Fitting
+pub mod Together

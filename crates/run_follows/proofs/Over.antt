@@ -21,7 +21,7 @@ use Rattle.run_follows.proofs.Switch.{Told, over}
 -- What may move over one device may move over another.
 
 module _ (m : Setting) (came : Told) where
-  same_steps : (i : ℕ) (op : Op) → steps_of m i op ≡ steps_of (over m came) i op
+  pub same_steps : (i : ℕ) (op : Op) → steps_of m i op ≡ steps_of (over m came) i op
   same_steps i (Fill seg byte) = refl
   same_steps i (Put page off values) = refl
   same_steps i (Show seg) = refl
@@ -71,7 +71,7 @@ module _ (m : Setting) (came : Told) where
   all_placed_over n [] h = tt
   all_placed_over n (op ∷ ops) h = (placed_over n op h.0, all_placed_over n ops h.1)
 
-  spread_over : (i : ℕ) (op : Op) → IsSpread m i op → IsSpread (over m came) i op
+  pub spread_over : (i : ℕ) (op : Op) → IsSpread m i op → IsSpread (over m came) i op
   spread_over i (Fill seg byte) h = h
   spread_over i (Put page off values) h = h
   spread_over i (Show seg) h = h
@@ -109,7 +109,7 @@ module _ (m : Setting) (came : Told) where
   carriage_over own (Reads b owner to) = refl
   carriage_over own (Alters dev lba change) = refl
 
-  log_over : (logs : ℕ) (step : Step) → HasLog m logs step → HasLog (over m came) logs step
+  pub log_over : (logs : ℕ) (step : Step) → HasLog m logs step → HasLog (over m came) logs step
   log_over logs (Sets at values) h = tt
   log_over logs (Shows at) h = tt
   log_over logs (Seals body tuple app rtag) h = tt

@@ -48,7 +48,7 @@ with_other i k j l next status h = by (eqb j i) (eqb l k) refl refl where
 
 -- what is over stays so, and with it what the gate lets in
 
-over_stays : (k : ℕ) (steps : List Step) (old new : ℕ → Status) → ((l : ℕ) → is_over (old l) ≡ true → new l ≡ old l) → AreOver k steps old → AreOver k steps new
+pub over_stays : (k : ℕ) (steps : List Step) (old new : ℕ → Status) → ((l : ℕ) → is_over (old l) ≡ true → new l ≡ old l) → AreOver k steps old → AreOver k steps new
 over_stays k [] old new e h = tt
 over_stays k (step ∷ steps) old new e h = (ap is_over (e k h.0) ∙ h.0, over_stays (suc k) steps old new e h.1)
 

@@ -23,7 +23,9 @@ use Rattle.stack_core.specs.declared.stack.Stack.{Stack}
 use Rattle.stack_core.specs.Doing.{CanReach}
 use Rattle.stack_core.specs.Sheets.{op_in as op_at}
 use Rattle.stack_core.specs.Stacks.{Reaches}
-use Rattle.script_stack.proofs.Ready.{bound-ops, no-fault}
+use Rattle.script_ground.proofs.Bodies.{true-of}
+use Rattle.script_ground.proofs.Ops.{no-fault}
+use Rattle.script_ground.proofs.Standing.{bound}
 
 get-there : (ds : List DeviceInfo) (i : ℕ) (d : DeviceInfo) → slice_get ds i ≡ Some d → i < length ds
 get-there [] i d h = absurd cc
@@ -72,10 +74,6 @@ address : (u : UnitSpec) (lba : ℕ) → is_on (info_of u) lba (pos 0) ≡ true 
 address u lba h =
     let z : lba + 0 ≡ lba = omega arith in
     rw z at h
-
-true-of : (b : Bool) → not b ≡ false → b ≡ true
-true-of true h = refl
-true-of false h = absurd cc
 
 neither : (a b : Bool) → a || b ≡ false → (a ≡ false) × (b ≡ false)
 neither true b h = absurd cc
@@ -141,10 +139,10 @@ op-reaches Wait told st t devices size n e h = tt
 
 pub reaches : (x : Stack) (s : Script) (t : Table) (devices : List DeviceInfo) (told : Bool) (st : Standing) → x.sheet.ops ≡ s.ops → ((n : ℕ) → ((v : ℕ) → v < volume_len t.entries → (place_in t.entries v).0 < n) → x.sheet.devices ≤ n) →
     length s.lines ≡ length s.faults + length s.ops → MadeFor t devices s.block → binding_fault s t devices ≡ None → st.devices ≡ length devices → (told ≡ true → devices ≡ map info_of (specs_of st)) → Reaches x told st
-reaches x s t devices told st e least lines made bound n tells =
+reaches x s t devices told st e least lines made good n tells =
     let l = length-drop (length s.faults) s.lines in
     let d = least (length devices) (λ v h. (made.inside v h).known) in
     record {
       devices = omega arith;
-      blocks = λ i h. (rw e (let k : i < length s.ops = rw e at h in op-reaches (op_at s.ops i) told st t devices s.block n tells (no-fault t devices s.block s.ops (drop (length s.faults) s.lines) i (omega arith) (bound-ops s t devices bound) k)));
+      blocks = λ i h. (rw e (let k : i < length s.ops = rw e at h in op-reaches (op_at s.ops i) told st t devices s.block n tells (no-fault t devices s.block s.ops (drop (length s.faults) s.lines) i (omega arith) (bound s t devices good).ops k)));
     }

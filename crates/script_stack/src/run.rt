@@ -1,11 +1,14 @@
 //! The steps of a stack, to the end.
 
-ghost use Rattle.std.specs.Prelude.{◌≡◌, ◌<◌, ◌≤◌, ◌+◌, ◌*◌, [], is_some, length};
+ghost use Rattle.std.specs.Prelude.{◌≡◌, ◌<◌, ◌≤◌, ◌+◌, ◌*◌, ℕ, [], is_some, length};
 ghost use Rattle.stack_view.specs.Runs.{most_steps};
 ghost use Rattle.stack_view.specs.Steps.{enabled};
 ghost use Rattle.stack_view.specs.View.{View};
 ghost use Rattle.stack_steps.specs.Does.{Holds};
 ghost use Rattle.stack_core.specs.Stacks.{HasSpare, IsStack, Reaches, Stays, plan_in};
+ghost use Rattle.stack_core.specs.Walking.{Walks};
+ghost use Rattle.block_path.specs.Acts.{State};
+ghost use Rattle.whole_run.specs.Settings.{Setting};
 
 use rig_api::Rig;
 use stack_core::Stack;
@@ -20,6 +23,7 @@ fn run_schedule<R: Rig>(stack: &mut Stack, schedule: &[(u32, u32)], rig: &mut R)
     ensures tells { is_some (R.image rig.new) ≡ is_some (R.image rig.old) }
     ensures rig { Reaches stack.new (is_some (R.image rig.new)) (R.standing rig.new) }
     ensures spare { HasSpare stack.new (R.standing rig.new) (R.room rig.new) }
+    ensures walks { (m : Setting) (n : ℕ) (opening : State) (first : ℕ) → Walks m n opening first stack.old (R.standing rig.old) (R.log rig.old) → Walks m n opening first stack.new (R.standing rig.new) (R.log rig.new) }
 {
     for (word, cut) in schedule {
         if stack.finished() {
@@ -39,6 +43,7 @@ fn run_rest<R: Rig>(stack: &mut Stack, rig: &mut R)
     ensures ended { (v : View) → Holds (plan_in stack.new.sheet) stack.new.machine v → enabled (plan_in stack.new.sheet) v ≡ [] }
     ensures tells { is_some (R.image rig.new) ≡ is_some (R.image rig.old) }
     ensures rig { Reaches stack.new (is_some (R.image rig.new)) (R.standing rig.new) }
+    ensures walks { (m : Setting) (n : ℕ) (opening : State) (first : ℕ) → Walks m n opening first stack.old (R.standing rig.old) (R.log rig.old) → Walks m n opening first stack.new (R.standing rig.new) (R.log rig.new) }
 {
     while !stack.finished() {
         stack.step(0, 0, rig);
@@ -56,6 +61,7 @@ pub fn run_all<R: Rig>(stack: &mut Stack, schedule: &[(u32, u32)], rig: &mut R)
     ensures ended { (v : View) → Holds (plan_in stack.new.sheet) stack.new.machine v → enabled (plan_in stack.new.sheet) v ≡ [] }
     ensures tells { is_some (R.image rig.new) ≡ is_some (R.image rig.old) }
     ensures rig { Reaches stack.new (is_some (R.image rig.new)) (R.standing rig.new) }
+    ensures walks { (m : Setting) (n : ℕ) (opening : State) (first : ℕ) → Walks m n opening first stack.old (R.standing rig.old) (R.log rig.old) → Walks m n opening first stack.new (R.standing rig.new) (R.log rig.new) }
 {
     run_schedule(stack, schedule, rig);
     run_rest(stack, rig);

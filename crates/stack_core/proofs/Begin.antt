@@ -5,7 +5,7 @@ use Rattle.std.proofs.lemmas.Option.{none-some, same_Some}
 use Rattle.std.proofs.Math.Nat.{mul-div_cancel_left}
 use Rattle.page_pool.specs.declared.segs.Seg.{Seg}
 use Rattle.page_pool.specs.Pages.{AllLieIn}
-use Rattle.page_pool.specs.Places.{total}
+use Rattle.page_pool.specs.Places.{Apart, places_in, total}
 use Rattle.integrity_payload.specs.declared.payload.Owner.TheVariants.{Block, App}
 use Rattle.integrity_payload.specs.declared.payload.Payload.{Payload}
 use Rattle.bio_core.specs.declared.request.Io.{Io}
@@ -62,9 +62,9 @@ whole-none : (pool : List (List ℕ)) → IsWhole pool no_io
 whole-none pool = record { lies = tt; once = λ e. tt; tuples = λ pi e. absurd (none-some pi e) }
 
 -- the tuples of the block layer
-own-tuples : (script pool : List (List ℕ)) (io : Io) (v n app at : ℕ) (pi : Payload) → io.count ≡ n → AllLieIn script io.body → length script ≤ at → at + pages_for n ≤ length pool → v + n < 2 ^ 64 →
+own-tuples : (script pool : List (List ℕ)) (io : Io) (v n app at : ℕ) (pi : Payload) → io.first ≡ v → io.count ≡ n → AllLieIn script io.body → length script ≤ at → at + pages_for n ≤ length pool → v + n < 2 ^ 64 →
     Some (record { seed = v; count = n; tuples = private_tuples at n; owner = Block; app = app }) ≡ io.pi → io.pi ≡ Some pi → HasTuples pool io pi
-own-tuples script pool io v n app at pi c l low high few e h =
+own-tuples script pool io v n app at pi f c l low high few e h =
     let x : record { seed = v; count = n; tuples = private_tuples at n; owner = Block; app = app } ≡ pi = same_Some _ pi (e ∙ h) in
     rw (sym x) (record {
       payload = record { whole = whole-private at n; long = total-private at n };
@@ -72,13 +72,14 @@ own-tuples script pool io v n app at pi c l low high few e h =
       lie = lie-private pool at n high;
       once = once-private at n;
       numbers = few;
-      made = λ o. apart-private script io.body at n low l;
+      apart = apart-private script io.body at n low l;
+      seed = sym f;
     })
 
 -- the application's tuples
-app-tuples : (script pool : List (List ℕ)) (io : Io) (v n : ℕ) (tuples : List Seg) (pi : Payload) → io.count ≡ n → AreTuples script n tuples → length script ≤ length pool → v + n < 2 ^ 64 →
+app-tuples : (script pool : List (List ℕ)) (io : Io) (v n : ℕ) (tuples : List Seg) (pi : Payload) → io.first ≡ v → io.count ≡ n → AreTuples script n tuples → Apart (places_in io.body) (places_in tuples) → length script ≤ length pool → v + n < 2 ^ 64 →
     Some (record { seed = v; count = n; tuples = tuples; owner = App; app = 0 }) ≡ io.pi → io.pi ≡ Some pi → HasTuples pool io pi
-app-tuples script pool io v n tuples pi c t more few e h =
+app-tuples script pool io v n tuples pi f c t apart more few e h =
     let x : record { seed = v; count = n; tuples = tuples; owner = App; app = 0 } ≡ pi = same_Some _ pi (e ∙ h) in
     rw (sym x) (record {
       payload = record { whole = t.whole; long = t.long };
@@ -86,7 +87,8 @@ app-tuples script pool io v n tuples pi c t more few e h =
       lie = all-more script pool tuples more t.lies;
       once = t.once;
       numbers = few;
-      made = λ o. absurd cc;
+      apart = apart;
+      seed = sym f;
     })
 
 pub whole-request : (dix : Bool) (script pool : List (List ℕ)) (bytes len at : ℕ) (op : Op) → IsOp dix script bytes len op → length script ≤ length pool → length script ≤ at → (dix ≡ true → at + pages_for (own_blocks op) ≤ length pool) → len < 2 ^ 63 →
@@ -97,18 +99,18 @@ whole-request dix script pool bytes len at (Show seg) h m l t s = whole-none poo
 whole-request dix script pool bytes len at (Seal n body tuples app rtag) h m l t s = whole-none pool
 whole-request true script pool bytes len at (Write v n body app) h m l t s =
     let i = h.inside in
-    record { lies = all-more script pool body m h.lies; once = λ e. absurd cc; tuples = λ pi e. own-tuples script pool (request_of (Write v n body app) (Some at)) v n app at pi refl h.lies l (t refl) (omega arith) refl e }
+    record { lies = all-more script pool body m h.lies; once = λ e. absurd cc; tuples = λ pi e. own-tuples script pool (request_of (Write v n body app) (Some at)) v n app at pi refl refl h.lies l (t refl) (omega arith) refl e }
 whole-request false script pool bytes len at (Write v n body app) h m l t s = record { lies = all-more script pool body m h.lies; once = λ e. absurd cc; tuples = λ pi e. absurd (none-some pi e) }
 whole-request true script pool bytes len at (Fetch v n body) h m l t s =
     let i = h.0.inside in
-    record { lies = all-more script pool body m h.0.lies; once = λ e. h.1; tuples = λ pi e. own-tuples script pool (request_of (Fetch v n body) (Some at)) v n 0 at pi refl h.0.lies l (t refl) (omega arith) refl e }
+    record { lies = all-more script pool body m h.0.lies; once = λ e. h.1; tuples = λ pi e. own-tuples script pool (request_of (Fetch v n body) (Some at)) v n 0 at pi refl refl h.0.lies l (t refl) (omega arith) refl e }
 whole-request false script pool bytes len at (Fetch v n body) h m l t s = record { lies = all-more script pool body m h.0.lies; once = λ e. h.1; tuples = λ pi e. absurd (none-some pi e) }
 whole-request dix script pool bytes len at (WritePi v n body tuples) h m l t s =
     let i = h.1.0.inside in
-    record { lies = all-more script pool body m h.1.0.lies; once = λ e. absurd cc; tuples = λ pi e. app-tuples script pool (request_of (WritePi v n body tuples) (first_page dix at)) v n tuples pi refl h.1.1 m (omega arith) refl e }
+    record { lies = all-more script pool body m h.1.0.lies; once = λ e. absurd cc; tuples = λ pi e. app-tuples script pool (request_of (WritePi v n body tuples) (first_page dix at)) v n tuples pi refl refl h.1.1.0 h.1.1.1 m (omega arith) refl e }
 whole-request dix script pool bytes len at (FetchPi v n body tuples) h m l t s =
     let i = h.1.0.inside in
-    record { lies = all-more script pool body m h.1.0.lies; once = λ e. h.1.1.0; tuples = λ pi e. app-tuples script pool (request_of (FetchPi v n body tuples) (first_page dix at)) v n tuples pi refl h.1.1.1 m (omega arith) refl e }
+    record { lies = all-more script pool body m h.1.0.lies; once = λ e. h.1.1.0; tuples = λ pi e. app-tuples script pool (request_of (FetchPi v n body tuples) (first_page dix at)) v n tuples pi refl refl h.1.1.1.0 h.1.1.1.1 m (omega arith) refl e }
 whole-request dix script pool bytes len at (Overwrite dev lba change) h m l t s = whole-none pool
 whole-request dix script pool bytes len at Wait h m l t s = whole-none pool
 
@@ -119,7 +121,7 @@ pub record IsFit (dix : Bool) (bytes len : ℕ) (io : Io) : Type 0 where
   pub host : 0 < io.count → HasHost dix io.pi
   pub number : io.first + io.count < 2 ^ 64
 
-size-is : (body : List Seg) (n bytes : ℕ) → 0 < n → total body ≡ n * bytes → total body / n ≡ bytes
+pub size-is : (body : List Seg) (n bytes : ℕ) → 0 < n → total body ≡ n * bytes → total body / n ≡ bytes
 size-is body n bytes h e = ap (λ t. t / n) e ∙ mul-div_cancel_left bytes h
 
 fit-none : (dix : Bool) (bytes len : ℕ) → IsFit dix bytes len no_io

@@ -36,7 +36,7 @@ lies-more old new s e h = let l = h.in_pool in record { in_pool = omega arith; i
 can-first : (dix : Bool) (script now : List (List ℕ)) (bytes len : ℕ) (room : Room) (op : Op) → length script ≤ length now → IsOp dix script bytes len op → Suits op room → CanDo now room op
 can-first dix script now bytes len room (Fill seg byte) e h s = lies-more script now seg e h
 can-first dix script now bytes len room (Put page off bs) e h s = (lies-more script now _ e h.0, h.1)
-can-first dix script now bytes len room (Show seg) e h s = (lies-more script now seg e h, s)
+can-first dix script now bytes len room (Show seg) e h s = (lies-more script now seg e h, s.1)
 can-first dix script now bytes len room (Seal n body tuples app rtag) e h s =
     let t = h.1.1.0 in
     rw s (record {

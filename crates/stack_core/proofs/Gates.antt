@@ -19,7 +19,7 @@ length-prints [] bs = refl
 length-prints (op ∷ ops) [] = ap suc (length-prints ops [])
 length-prints (op ∷ ops) (b ∷ bs) = ap suc (length-prints ops bs)
 
-laid : (f : Footprint) → IsLayoutOf f (layout_of f)
+pub laid : (f : Footprint) → IsLayoutOf f (layout_of f)
 laid f = record { alone = refl; blocks = refl; reads = IsPermutation-refl (chosen false f.bytes); writes = IsPermutation-refl (chosen true f.bytes) }
 
 both-ways : (a b : Bool) → (a ≡ true → b ≡ true) → (b ≡ true → a ≡ true) → a ≡ b

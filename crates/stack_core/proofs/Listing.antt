@@ -15,7 +15,7 @@ use Rattle.stack_core.specs.Requests.{first_page, own_blocks, page_after, pages_
 use Rattle.stack_core.specs.Stacks.{room_at}
 use Rattle.stack_core.proofs.Gates.{length-prints}
 
-prints-at : (ops : List Op) (shifted : List Bool) (i : ℕ) (d : Footprint) → length shifted ≡ length ops → i < length ops → get_or (prints_of ops shifted) i d ≡ footprint (op_in ops i) (get_or shifted i false)
+pub prints-at : (ops : List Op) (shifted : List Bool) (i : ℕ) (d : Footprint) → length shifted ≡ length ops → i < length ops → get_or (prints_of ops shifted) i d ≡ footprint (op_in ops i) (get_or shifted i false)
 prints-at [] bs i d e h = absurd (omega arith)
 prints-at (op ∷ ops) [] i d e h = absurd (omega arith)
 prints-at (op ∷ ops) (b ∷ bs) zero d e h = refl

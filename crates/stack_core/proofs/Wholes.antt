@@ -19,7 +19,8 @@ tuples_stay old new io pi e h = record {
   lie = all_lie-same old new pi.tuples e h.lie;
   once = h.once;
   numbers = h.numbers;
-  made = h.made;
+  apart = h.apart;
+  seed = h.seed;
 }
 
 pub whole_stays : (old new : List (List ℕ)) (io : Io) → length new ≡ length old → IsWhole old io → IsWhole new io

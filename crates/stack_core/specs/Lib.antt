@@ -10,3 +10,4 @@ pub mod Starting
 pub mod Shifts
 pub mod Rooms
 pub mod Moved
+pub mod Walking

@@ -26,14 +26,15 @@ abbrev pub fate_by : Owner → Option Check → Fate
 fate_by owner None = Good
 fate_by owner (Some check) = Bad (found_by owner check)
 
--- a request's tuples: they lie in the pool, and no byte of them is there twice; those of the block layer are apart from the data
+-- a request's tuples: they lie in the pool, apart from the data, and no byte of them is there twice
 pub record HasTuples (pool : List (List ℕ)) (io : Io) (pi : Payload) : Type 0 where
   pub payload : IsPayload pi
   pub count : pi.count ≡ io.count
   pub lie : AllLieIn pool pi.tuples
   pub once : NoneTwice (places_in pi.tuples)
   pub numbers : pi.seed + pi.count < 2 ^ 64
-  pub made : pi.owner ≡ OfBlock → Apart (places_in io.body) (places_in pi.tuples)
+  pub apart : Apart (places_in io.body) (places_in pi.tuples)
+  pub seed : pi.seed ≡ io.first
 
 -- a request whose data and tuples lie in the pool
 pub record IsWhole (pool : List (List ℕ)) (io : Io) : Type 0 where

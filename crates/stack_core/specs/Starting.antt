@@ -42,8 +42,8 @@ IsOp dix pool bytes len (Show seg) = LiesIn pool seg
 IsOp dix pool bytes len (Seal n body tuples app rtag) = (1 ≤ n) × (AllLieIn pool body × (AreTuples pool n tuples × (Apart (places_in body) (places_in tuples) × (rtag + n ≤ 2 ^ 64))))
 IsOp dix pool bytes len (Write v n body app) = IsData pool bytes len v n body
 IsOp dix pool bytes len (Fetch v n body) = IsData pool bytes len v n body × NoneTwice (places_in body)
-IsOp dix pool bytes len (WritePi v n body tuples) = Travels dix × (IsData pool bytes len v n body × AreTuples pool n tuples)
-IsOp dix pool bytes len (FetchPi v n body tuples) = Travels dix × (IsData pool bytes len v n body × (NoneTwice (places_in body) × AreTuples pool n tuples))
+IsOp dix pool bytes len (WritePi v n body tuples) = Travels dix × (IsData pool bytes len v n body × (AreTuples pool n tuples × Apart (places_in body) (places_in tuples)))
+IsOp dix pool bytes len (FetchPi v n body tuples) = Travels dix × (IsData pool bytes len v n body × (NoneTwice (places_in body) × (AreTuples pool n tuples × Apart (places_in body) (places_in tuples))))
 IsOp dix pool bytes len (Overwrite dev lba change) = Unit {0}
 IsOp dix pool bytes len Wait = Unit {0}
 

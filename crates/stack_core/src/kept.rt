@@ -6,7 +6,7 @@ ghost use Rattle.std.specs.Vec.{vec_capacity};
 ghost use Rattle.stack_view.specs.Runs.{blocks_of_requests};
 ghost use Rattle.stack_core.specs.Sheets.{io_at, request_in};
 ghost use Rattle.stack_core.specs.Settling.{AreFates};
-ghost use Rattle.stack_core.specs.Rooms.{Suits, blocks_in};
+ghost use Rattle.stack_core.specs.Rooms.{IsForBlocks, Suits, blocks_in};
 ghost use Rattle.stack_core.specs.Replies.{HoldsBad, HoldsShown, bad_from, reply_of, shown};
 
 use crate::requests::sealed;
@@ -104,7 +104,8 @@ pub(crate) fn room_for(alloc: Global, op: &Op) -> Result<Room, AllocError>
 }
 
 fn room_for_bad(alloc: Global, n: u32) -> Result<Room, AllocError>
-    ensures { IfOk result (HoldsBad n) }
+    ensures bad { IfOk result (HoldsBad n) }
+    ensures blocks { IfOk result IsForBlocks }
 {
     Ok(Room::Blocks(Vec::with_capacity(alloc, n as usize)?))
 }

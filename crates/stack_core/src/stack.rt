@@ -13,6 +13,9 @@ ghost use Rattle.stack_ops.specs.declared.reply.Reply.TheVariants.{Medium, Silen
 ghost use Rattle.stack_core.specs.Done.{MadeBy, OpDone, Sealed, WriteMade, WriteMapped};
 ghost use Rattle.stack_core.specs.Doing.{CanDo, CanReach, HasBlocks};
 ghost use Rattle.stack_core.specs.Stacks.{HasSpare, HasStep, IsStack, Reaches, Sends, Stays, Steps, plan_in};
+ghost use Rattle.stack_core.specs.Walking.{IsChosen, Walks, WalksOn};
+ghost use Rattle.block_path.specs.Acts.{State};
+ghost use Rattle.whole_run.specs.Settings.{Setting};
 
 use crate::kept::{Fates, Room, reply_of, shown};
 use crate::pages::{fill, put};
@@ -109,6 +112,7 @@ impl Stack {
         ensures tells { is_some (R.image rig.new) ≡ is_some (R.image rig.old) }
         ensures rig { Reaches self.new (is_some (R.image rig.new)) (R.standing rig.new) }
         ensures spare { HasSpare self.new (R.standing rig.new) (R.room rig.new) }
+        ensures walks { (m : Setting) (n : ℕ) (opening : State) (first : ℕ) → Walks m n opening first self.old (R.standing rig.old) (R.log rig.old) → Walks m n opening first self.new (R.standing rig.new) (R.log rig.new) }
     {
         let choice = self.machine.choose(&self.sheet, word);
         match choice {
@@ -127,6 +131,7 @@ impl Stack {
         ensures stack { IsStack self.new }
         ensures stays { Stays self.old self.new }
         ensures step { (cut : ℕ) → Does (plan_in self.old.sheet) self.old.machine (End q) cut self.new.machine }
+        ensures walks { IsChosen self.old (End q) → WalksOn self.old self.new }
     {
         let op = self.machine.end(&self.sheet, q) as usize;
         let room = take_room(&mut self.rooms, op);
@@ -140,6 +145,7 @@ impl Stack {
         ensures stack { IsStack self.new }
         ensures stays { Stays self.old self.new }
         ensures step { (cut : ℕ) → Does (plan_in self.old.sheet) self.old.machine (Complete i) cut self.new.machine }
+        ensures walks { IsChosen self.old (Complete i) → WalksOn self.old self.new }
     {
         self.machine
             .complete(&self.sheet, i, &mut self.group, &mut self.fates);
@@ -161,9 +167,11 @@ impl Stack {
         ensures stack { IsStack self.new }
         ensures stays { Stays self.old self.new }
         ensures step { (cut : ℕ) → Does (plan_in self.old.sheet) self.old.machine (Admit q) cut self.new.machine }
+        ensures walks { IsChosen self.old (Admit q) → WalksOn self.old self.new }
         ensures tells { is_some (R.image rig.new) ≡ is_some (R.image rig.old) }
         ensures standing { R.standing rig.new ≡ R.standing rig.old }
         ensures room { R.room rig.new ≡ R.room rig.old }
+        ensures log { R.log rig.new ≡ R.log rig.old }
     {
         let op = self.machine.admit(&self.sheet, q) as usize;
         if self.sheet.io(op).count > 0 {
@@ -192,6 +200,7 @@ impl Stack {
         ensures stack { IsStack self.new }
         ensures stays { Stays self.old self.new }
         ensures step { Does (plan_in self.old.sheet) self.old.machine (Cut q) size self.new.machine }
+        ensures walks { IsChosen self.old (Cut q) → WalksOn self.old self.new }
     {
         let bio = self.machine.cut(&self.sheet, q, size);
         map_piece(
@@ -208,6 +217,7 @@ impl Stack {
         ensures stack { IsStack self.new }
         ensures stays { Stays self.old self.new }
         ensures step { (cut : ℕ) → Does (plan_in self.old.sheet) self.old.machine (Join d i j) cut self.new.machine }
+        ensures walks { IsChosen self.old (Join d i j) → WalksOn self.old self.new }
     {
         self.machine.join(&self.sheet, d, i, j);
     }
@@ -220,6 +230,7 @@ impl Stack {
         ensures stack { IsStack self.new }
         ensures stays { Stays self.old self.new }
         ensures sends { Sends (plan_in self.old.sheet) self.old.machine d i self.new.machine }
+        ensures walks { IsChosen self.old (Send d i) → (m : Setting) (n : ℕ) (opening : State) (first : ℕ) → Walks m n opening first self.old (R.standing rig.old) (R.log rig.old) → Walks m n opening first self.new (R.standing rig.new) (R.log rig.new) }
         ensures tells { is_some (R.image rig.new) ≡ is_some (R.image rig.old) }
         ensures standing { R.standing rig.new ≡ R.standing rig.old }
         ensures spare { HasSpare self.new (R.standing rig.new) (R.room rig.new) }

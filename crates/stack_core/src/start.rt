@@ -10,6 +10,7 @@ ghost use Rattle.stack_ops.specs.Footprints.{IsShortPut};
 ghost use Rattle.volume_table.specs.Places.{place_in, volume_len};
 ghost use Rattle.stack_view.specs.View.{start};
 ghost use Rattle.stack_steps.specs.Does.{Holds};
+ghost use Rattle.stack_core.specs.Walking.{WalksAtFirst};
 ghost use Rattle.stack_core.specs.Sheets.{IsSheet, op_in, plan_of, prints_of, request_in};
 ghost use Rattle.stack_core.specs.Shifts.{is_shift, shifted_by, shifts};
 ghost use Rattle.stack_core.specs.Requests.{first_page, own_blocks, page_after, pages_from, requests_from};
@@ -197,6 +198,7 @@ impl Stack {
         ensures kept { IfOk result (λ s. s.kept.held.items ≡ replicate (blocks_of_requests (map request_in (requests_from setup.mode.dix setup.pages ops))) Untouched) }
         ensures replies { IfOk result (λ s. s.replies.items ≡ replicate (length ops) Silent) }
         ensures pool { IfOk result (λ s. IsBlank (pages_from setup.mode.dix setup.pages ops) s.pool) }
+        ensures walks { IfOk result WalksAtFirst }
     {
         let Setup {
             table,

@@ -205,10 +205,10 @@ joined-group p d (x ∷ xs) h s a b m =
 
 -- ---- a piece
 
-piece-longest : (p : Plan) (i k : ℕ) → 1 ≤ longest p i k → greatest_piece p i k ≤ longest p i k
+pub piece-longest : (p : Plan) (i k : ℕ) → 1 ≤ longest p i k → greatest_piece p i k ≤ longest p i k
 piece-longest p i k h = greatest-within (fits p i k) (longest p i k) (longest p i k) (omega arith) h
 
-piece-group : (p : Plan) (i k n : ℕ) → Straight p → k < (request_at p i).count → 1 ≤ n → n ≤ longest p i k → IsGroup p ((bio_of p i k n).dev) (bio_of p i k n ∷ [])
+pub piece-group : (p : Plan) (i k n : ℕ) → Straight p → k < (request_at p i).count → 1 ≤ n → n ≤ longest p i k → IsGroup p ((bio_of p i k n).dev) (bio_of p i k n ∷ [])
 piece-group p i k n s h l m =
     let b : n ≤ (request_at p i).count - k = omega arith in
     let r : n ≤ p.run_from ((request_at p i).first + k) = omega arith in
@@ -229,7 +229,7 @@ piece-group p i k n s h l m =
       few = omega arith;
     }
 
-longest-some : (p : Plan) (i k : ℕ) → Straight p → k < (request_at p i).count → 1 ≤ longest p i k
+pub longest-some : (p : Plan) (i k : ℕ) → Straight p → k < (request_at p i).count → 1 ≤ longest p i k
 longest-some p i k s h = let a = s.some i k h in let b = s.one in omega arith
 
 -- ---- queues

@@ -1,6 +1,9 @@
-use Rattle.std.proofs.Common.{◌≡◌, ◌-◌}
+use Rattle.std.proofs.Common.{◌≡◌, ◌-◌, ℕ}
 use Rattle.std.specs.Prelude.{is_some}
 use Rattle.stack_view.specs.Runs.{most_steps}
+use Rattle.block_path.specs.Acts.{State}
+use Rattle.whole_run.specs.Settings.{Setting}
+use Rattle.stack_core.specs.Walking.{Walks}
 use Rattle.stack_core.specs.Stacks.{HasSpare, IsStack, Reaches, Stays, plan_in}
 use Rattle.script_stack.proofs.run.run_rest.Given as goal
 
@@ -11,6 +14,7 @@ invariant-loop-stack g l = record {
   tells : is_some (g.R.Rig.image l.rig) ≡ is_some (g.R.Rig.image l.fn.rig);
   reaches : Reaches l.stack (is_some (g.R.Rig.image l.rig)) (g.R.Rig.standing l.rig);
   spare : HasSpare l.stack (g.R.Rig.standing l.rig) (g.R.Rig.room l.rig);
+  walks : (m : Setting) (n : ℕ) (opening : State) (first : ℕ) → Walks m n opening first l.fn.stack (g.R.Rig.standing l.fn.rig) (g.R.Rig.log l.fn.rig) → Walks m n opening first l.stack (g.R.Rig.standing l.rig) (g.R.Rig.log l.rig);
 }
 
 abbrev pub decreases-loop-stack : goal.decreases-loop-stack

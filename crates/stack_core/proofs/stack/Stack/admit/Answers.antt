@@ -1,4 +1,4 @@
-use Rattle.std.proofs.Common.{length, ap, refl, ◌∙◌, arith}
+use Rattle.std.proofs.Common.{◌≡◌, ◌<◌, length, ap, refl, set, subst, sym, ◌∙◌, arith}
 use Rattle.std.proofs.lemmas.List.{length-set}
 use Rattle.stack_steps.specs.declared.choice.Choice.TheVariants.{Admit}
 use Rattle.stack_core.specs.Stacks.{plan_in}
@@ -6,6 +6,12 @@ use Rattle.stack_core.proofs.Facts.{op-enters}
 use Rattle.stack_core.proofs.Keeps.{is-stack}
 use Rattle.stack_core.proofs.Rooms.{taken}
 use Rattle.stack_core.proofs.Steps.{works}
+use Rattle.bio_core.specs.declared.request.Io.{Io}
+use Rattle.stack_core.specs.declared.kept.Room.TheVariants.{Nothing}
+use Rattle.stack_core.specs.Done.{OpDone, WriteMade}
+use Rattle.stack_core.specs.Sheets.{io_at, op_in}
+use Rattle.stack_core.specs.Walking.{data_of}
+use Rattle.stack_core.proofs.Walked.{walk_admits, walk_op}
 use Rattle.stack_core.proofs.stack.Stack.admit.Goals as goal
 
 pub io-requires : goal.io-requires
@@ -79,3 +85,22 @@ returns-clause-stack g c =
       fates = refl;
       scratch = c.requires.stack.lists.scratch_room;
     })
+
+pub returns-then-io-gt0-clause-walks : goal.returns-then-io-gt0-clause-walks
+returns-then-io-gt0-clause-walks g c = λ ch m n opening first st log w.
+    (let s = c.args.self.now in
+    let some = subst (λ (io : Io). 0 < io.count) c.io.ensures c.if-io-gt0.true in
+    let made = subst (λ (io : Io). WriteMade io.dir io.pi s.adapter.kind s.host io.body s.pool c.make_tuples.new.pool) c.io-then-io-gt0.ensures c.make_tuples.ensures.made in
+    walk_admits m n opening first s st log c.requires.stack w _ c.args.q c.admit-op.result (record { sheet = refl; adapter = refl; host = refl }) ch (c.admit-op.ensures.step 0) c.admit-op.ensures.op some c.make_tuples.new.pool made refl)
+
+pub returns-clause-walks : goal.returns-clause-walks
+returns-clause-walks g c = λ ch m n opening first st log w.
+    (let s = c.args.self.now in
+    let i = c.admit-op.result in
+    let d = data_of s in
+    let none = ap (λ (io : Io). io.count) (sym c.io.ensures) in
+    let empty : (io_at s.sheet.ios.items i).count ≡ 0 = omega (arith, none, c.if-io-gt0.false) in
+    let done = subst (λ op. OpDone op s.adapter.kind c.take_room-room.result s.pool c.do_op-done.new.pool c.do_op-done.result) c.op.ensures c.do_op-done.ensures.done in
+    let done' = subst (λ room. OpDone (op_in s.sheet.ops i) s.adapter.kind room s.pool c.do_op-done.new.pool c.do_op-done.result) c.take_room-room.ensures.room done in
+    walk_op m n opening first s st log c.requires.stack w _ c.args.q i (record { sheet = refl; adapter = refl; host = refl }) ch (c.admit-op.ensures.step 0) c.admit-op.ensures.op empty c.do_op-done.new.pool c.do_op-done.result done'
+    (ap (λ x. record d { pool = c.do_op-done.new.pool; rooms = x; replies = c.set_reply.new.replies.items }) c.take_room-room.ensures.rooms ∙ ap (λ x. record d { pool = c.do_op-done.new.pool; rooms = set s.rooms.items i Nothing; replies = x }) c.set_reply.ensures))

@@ -4,6 +4,7 @@ use Rattle.stack_core.specs.Stacks.{plan_in}
 use Rattle.stack_core.proofs.Facts.{completed}
 use Rattle.stack_core.proofs.Keeps.{is-stack}
 use Rattle.stack_core.proofs.Steps.{works}
+use Rattle.stack_core.proofs.WalkedFar.{walk_completes}
 use Rattle.stack_core.proofs.stack.Stack.complete.Goals as goal
 
 pub settle_all-requires-clause-whole : goal.settle_all-requires-clause-whole
@@ -40,3 +41,8 @@ returns-clause-stack c = is-stack c.args.self.now _ c.requires.stack (record {
 
 pub returns-clause-stays : goal.returns-clause-stays
 returns-clause-stays c = record { sheet = refl; adapter = refl; host = refl }
+
+pub returns-clause-walks : goal.returns-clause-walks
+returns-clause-walks c = λ ch m n opening first st log w.
+    walk_completes m n opening first c.args.self.now st log c.requires.stack w _ c.args.i c.complete.new.bios.items c.complete.new.fates.items (record { sheet = refl; adapter = refl; host = refl }) ch (c.complete.ensures.step 0) c.complete.ensures.lands
+    (rw c.ios.ensures at c.settle_all.ensures.kept) (rw (c.ios.ensures, c.mode.ensures, c.deref.ensures.value, c.deref-2.ensures.value) at c.settle_all.ensures.settled) refl

@@ -1,9 +1,12 @@
-use Rattle.std.proofs.Common.{◌-◌, refl, arith}
+use Rattle.std.proofs.Common.{◌-◌, refl, subst, arith}
 use Rattle.stack_steps.specs.declared.choice.Choice.TheVariants.{Cut}
 use Rattle.stack_core.specs.Stacks.{plan_in}
 use Rattle.stack_core.proofs.Facts.{piece-is}
 use Rattle.stack_core.proofs.Keeps.{is-stack}
 use Rattle.stack_core.proofs.Steps.{works}
+use Rattle.bio_core.specs.declared.request.Io.{Io}
+use Rattle.stack_core.specs.Done.{WriteMapped}
+use Rattle.stack_core.proofs.Walked.{walk_cuts}
 use Rattle.stack_core.proofs.stack.Stack.cut.Goals as goal
 
 pub io-requires : goal.io-requires
@@ -48,3 +51,9 @@ returns-clause-stack c = is-stack c.args.self.now _ c.requires.stack (record {
 
 pub returns-clause-stays : goal.returns-clause-stays
 returns-clause-stays c = record { sheet = refl; adapter = refl; host = refl }
+
+pub returns-clause-walks : goal.returns-clause-walks
+returns-clause-walks c = λ ch m n opening first st log w.
+    (let s = c.args.self.now in
+    let mapped = subst (λ (io : Io). WriteMapped io.dir io.pi s.host c.cut-bio.result.k c.cut-bio.result.count c.cut-bio.result.lba s.pool c.map_piece.new.pool) c.io.ensures c.map_piece.ensures.mapped in
+    walk_cuts m n opening first s st log c.requires.stack w _ c.args.q c.args.size c.cut-bio.result c.map_piece.new.pool (record { sheet = refl; adapter = refl; host = refl }) ch c.cut-bio.ensures.step c.cut-bio.ensures.piece mapped refl)

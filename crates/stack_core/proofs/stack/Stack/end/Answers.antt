@@ -1,4 +1,4 @@
-use Rattle.std.proofs.Common.{length, ap, refl, ◌∙◌, arith}
+use Rattle.std.proofs.Common.{length, ap, refl, ◌∙◌, arith, drop, get_or, set, take}
 use Rattle.std.proofs.lemmas.List.{length-set}
 use Rattle.stack_steps.specs.declared.choice.Choice.TheVariants.{End}
 use Rattle.stack_core.specs.Stacks.{plan_in}
@@ -6,6 +6,12 @@ use Rattle.stack_core.proofs.Facts.{op-ends}
 use Rattle.stack_core.proofs.Keeps.{is-stack}
 use Rattle.stack_core.proofs.Rooms.{taken}
 use Rattle.stack_core.proofs.Steps.{works}
+use Rattle.bio_core.specs.declared.request.Io.{Io}
+use Rattle.stack_core.specs.declared.kept.Room.TheVariants.{Nothing}
+use Rattle.stack_core.specs.Replies.{reply_of}
+use Rattle.stack_core.specs.Sheets.{io_at}
+use Rattle.stack_core.specs.Walking.{data_of}
+use Rattle.stack_core.proofs.Walked.{walk_ends}
 use Rattle.stack_core.proofs.stack.Stack.end.Goals as goal
 
 pub take_room-room-requires : goal.take_room-room-requires
@@ -56,3 +62,14 @@ returns-clause-stack c = is-stack c.args.self.now _ c.requires.stack (record {
 
 pub returns-clause-stays : goal.returns-clause-stays
 returns-clause-stays c = record { sheet = refl; adapter = refl; host = refl }
+
+pub returns-clause-walks : goal.returns-clause-walks
+returns-clause-walks c = λ ch m n opening first st log w.
+    (let s = c.args.self.now in
+    let i = c.end-op.result in
+    let d = data_of s in
+    let fates = c.of-fates.ensures.value ∙ ap (λ (io : Io). take io.count (drop (get_or s.kept.starts.items i 0) s.kept.held.items)) c.io.ensures in
+    let reply = c.reply_of.ensures ∙ (ap (λ fs. reply_of fs c.take_room-room.result) fates ∙ ap (reply_of (take (io_at s.sheet.ios.items i).count (drop (get_or s.kept.starts.items i 0) s.kept.held.items))) c.take_room-room.ensures.room) in
+    let replies = c.set_reply.ensures ∙ ap (set s.replies.items i) reply in
+    walk_ends m n opening first s st log c.requires.stack w _ c.args.q i (record { sheet = refl; adapter = refl; host = refl }) ch (c.end-op.ensures.step 0) c.end-op.ensures.op
+    (ap (λ x. record d { rooms = x; replies = c.set_reply.new.replies.items }) c.take_room-room.ensures.rooms ∙ ap (λ x. record d { rooms = set s.rooms.items i Nothing; replies = x }) replies))

@@ -3,6 +3,7 @@ use Rattle.stack_steps.specs.declared.choice.Choice.TheVariants.{Join}
 use Rattle.stack_core.specs.Stacks.{plan_in}
 use Rattle.stack_core.proofs.Keeps.{is-stack}
 use Rattle.stack_core.proofs.Steps.{works}
+use Rattle.stack_core.proofs.Walked.{walk_joins}
 use Rattle.stack_core.proofs.stack.Stack.join.Goals as goal
 
 pub returns-clause-stack : goal.returns-clause-stack
@@ -21,3 +22,6 @@ returns-clause-stack c = is-stack c.args.self.now _ c.requires.stack (record {
 
 pub returns-clause-stays : goal.returns-clause-stays
 returns-clause-stays c = record { sheet = refl; adapter = refl; host = refl }
+
+pub returns-clause-walks : goal.returns-clause-walks
+returns-clause-walks c = λ ch m n opening first st log w. walk_joins m n opening first c.args.self.now st log c.requires.stack w _ c.args.d c.args.i c.args.j (record { sheet = refl; adapter = refl; host = refl }) ch (c.join.ensures 0) refl

@@ -1,4 +1,4 @@
-use Rattle.std.proofs.Common.{◌≡◌, ◌+◌, ap, ◌∙◌, length, map, replicate, subst, sym, arith}
+use Rattle.std.proofs.Common.{◌≡◌, ◌<◌, ◌+◌, ℕ, ap, ◌∙◌, length, map, replicate, subst, sym, arith}
 use Rattle.std.proofs.lemmas.List.{length-map, length-replicate}
 use Rattle.bio_core.specs.declared.fate.Fate.TheVariants.{Untouched}
 use Rattle.stack_ops.specs.declared.reply.Reply.TheVariants.{Silent}
@@ -6,10 +6,11 @@ use Rattle.range_gate.specs.declared.phase.Phase.TheVariants.{Waiting}
 use Rattle.stack_view.specs.Runs.{blocks_of_requests}
 use Rattle.stack_view.specs.View.{start}
 use Rattle.stack_steps.specs.Shows.{IsGateOf}
-use Rattle.stack_core.specs.Sheets.{prints_of, request_in}
+use Rattle.stack_core.specs.Sheets.{op_in, prints_of, request_in}
 use Rattle.stack_core.specs.Requests.{pages_from, requests_from}
 use Rattle.stack_core.specs.Shifts.{shifts}
-use Rattle.stack_core.specs.Stacks.{plan_in}
+use Rattle.stack_core.specs.Stacks.{plan_in, room_at}
+use Rattle.stack_core.specs.Rooms.{Suits}
 use Rattle.merge_queue.specs.Groups.{numbers}
 use Rattle.merge_queue.proofs.Linking.{length-numbers}
 use Rattle.std.specs.List.{list_any}
@@ -17,6 +18,7 @@ use Rattle.stack_core.proofs.Begin.{length-requests}
 use Rattle.stack_core.proofs.FirstStack.{first-stack}
 use Rattle.stack_core.proofs.Gates.{gate-is, length-prints}
 use Rattle.stack_core.proofs.Opening.{have-numbers, inside-each, own-few, sheet-is}
+use Rattle.stack_core.proofs.WalkBegins.{walk_begins}
 use Rattle.stack_core.proofs.stack.Stack.new.Goals as goal
 
 pub new-requires : goal.new-requires
@@ -130,3 +132,9 @@ footprints-requires-clause-count c =
     let m = length-map (numbers 0 n) (λ i. list_any (shifts (i + 1)) c.as_slice-2.result.now) in
     let l = length-numbers 0 n in
     omega (arith, ap length c.deref.ensures.value, ap length c.as_slice.ensures, ap length c.as_slice-3.ensures)
+
+pub returns-clause-walks : goal.returns-clause-walks
+returns-clause-walks c = λ m n opening st log o over sizes.
+    (let suits = rw (c.as_slice-5.ensures) at c.in_ok-rooms.ensures.suits in
+    walk_begins m n opening _ st log (returns-clause-stack c) c.in_ok-machine.ensures c.in_ok-new.ensures.whole
+    (subst (λ ops. (i : ℕ) → i < length ops → Suits (op_in ops i) (room_at c.in_ok-rooms.rooms.items i)) (sym c.sheet_of-sheet.ensures.ops) suits) o over sizes)

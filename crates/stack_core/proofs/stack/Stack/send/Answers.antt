@@ -1,10 +1,14 @@
-use Rattle.std.proofs.Common.{ap, refl, ◌∙◌, arith}
+use Rattle.std.proofs.Common.{ap, refl, subst, sym, ◌∙◌, arith}
 use Rattle.std.specs.Prelude.{is_some}
 use Rattle.dix_adapter.specs.Groups.{size}
 use Rattle.stack_core.specs.Stacks.{plan_in}
 use Rattle.stack_core.proofs.Keeps.{is-stack}
 use Rattle.stack_core.proofs.Sending.{settles-of}
 use Rattle.stack_core.proofs.Sent.{can-carry, holds-fewer, holds-still, sending, sent-works, spare-sent}
+use Rattle.dix_adapter.specs.Carried.{Shown}
+use Rattle.stack_core.specs.declared.stack.Stack.{Stack}
+use Rattle.stack_core.specs.Walking.{Walks}
+use Rattle.stack_core.proofs.WalkedFar.{walk_sends}
 use Rattle.stack_core.proofs.stack.Stack.send.Goals as goal
 
 pub carry-requires-clause-group : goal.carry-requires-clause-group
@@ -74,3 +78,21 @@ returns-clause-spare g c =
     let s = settles-of c.take.new.group.items c.carry.new.fates.items (c.carry.ensures.count ∙ ap size c.deref.ensures.value) c.carry.ensures.settles in
     spare-sent c.args.self.now _ c.take.new.self c.args.d c.args.i c.take.new.group.items c.carry.new.fates.items (g.R.Rig.standing c.args.rig.now) (g.R.Rig.standing c.carry.new.rig) (g.R.Rig.room c.args.rig.now) (g.R.Rig.room c.carry.new.rig)
     c.requires.spare c.requires.ready c.take.ensures.takes s (rw (c.deref-2.ensures.value, c.deref-3.ensures.value) at c.fly.ensures) c.carry.ensures.spent refl c.carry.ensures.standing
+
+pub returns-clause-walks : goal.returns-clause-walks
+returns-clause-walks g c = λ ch m n opening first w.
+    (let s = c.args.self.now in
+    let a = c.args.rig.now in
+    let b = c.carry.new.rig in
+    let old : Shown = record { told = is_some (g.R.Rig.image a); units = g.R.Rig.units a; standing = g.R.Rig.standing a; log = g.R.Rig.log a; room = g.R.Rig.room a; armed = g.R.Rig.armed a; faults = g.R.Rig.faults a } in
+    let new : Shown = record { told = is_some (g.R.Rig.image b); units = g.R.Rig.units b; standing = g.R.Rig.standing b; log = g.R.Rig.log b; room = g.R.Rig.room b; armed = g.R.Rig.armed b; faults = g.R.Rig.faults b } in
+    let after : Stack = record s { machine = c.fly.new.self; pool = c.carry.new.pool; scratch = c.carry.new.scratch; group = c.take.new.group; fates = c.carry.new.fates } in
+    let settles = settles-of c.take.new.group.items c.carry.new.fates.items (c.carry.ensures.count ∙ ap size c.deref.ensures.value) c.carry.ensures.settles in
+    let unsent = rw (c.ios.ensures, c.deref.ensures.value) at c.carry.ensures.unsent in
+    let sent = rw (c.ios.ensures, c.deref.ensures.value) at c.carry.ensures.sent in
+    let fetched = rw (c.ios.ensures, c.deref.ensures.value) at c.carry.ensures.fetched in
+    let out = rw (c.ios.ensures, c.deref.ensures.value) at c.carry.ensures.recorded_out in
+    let came = rw (c.ios.ensures, c.deref.ensures.value) at c.carry.ensures.recorded_in in
+    subst (λ st. Walks m n opening first after st (g.R.Rig.log b)) (sym c.carry.ensures.standing)
+    (walk_sends m n opening first s (g.R.Rig.standing a) (g.R.Rig.log a) c.requires.stack w after c.args.d c.args.i c.take.new.group.items c.carry.new.fates.items c.take.new.self (record { sheet = refl; adapter = refl; host = refl }) ch c.take.ensures.takes (rw (c.deref-2.ensures.value, c.deref-3.ensures.value) at c.fly.ensures) settles refl
+    old new refl (λ e q. ((unsent e q).0, ap g.R.Rig.log (unsent e q).1)) (λ e q. (sent e q).pool_is) (λ e. (fetched e).whole) out came))

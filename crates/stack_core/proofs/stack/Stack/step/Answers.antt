@@ -1,9 +1,10 @@
-use Rattle.std.proofs.Common.{refl}
+use Rattle.std.proofs.Common.{refl, subst, sym}
 use Rattle.stack_steps.specs.declared.choice.Choice.TheVariants.{Admit, Complete, Cut, End, Join, Send}
 use Rattle.stack_steps.specs.Does.{Chooses}
 use Rattle.stack_core.specs.Stacks.{plan_in}
 use Rattle.stack_core.proofs.Going.{can-step, spare-left}
 use Rattle.stack_core.proofs.Steps.{one-send, one-step, ready}
+use Rattle.stack_core.specs.Walking.{Walks}
 use Rattle.stack_core.proofs.stack.Stack.step.Goals as goal
 
 pub end-requires-clause-ready : goal.end-requires-clause-ready
@@ -91,3 +92,34 @@ returns-in-Send-clause-step g c =
     let h : Chooses (plan_in c.args.self.now.sheet) c.args.self.now.machine c.args.word (Send c.in-Send.d c.in-Send.i) = rw c.in-Send.is at c.choose-choice.ensures in
     let x = c.send.ensures.sends in
     one-send (plan_in c.args.self.now.sheet) c.args.self.now.machine x.taken c.send.new.self.machine c.args.word c.args.cut c.in-Send.d c.in-Send.i x.group x.fates h x.takes x.flies x.settles
+
+pub returns-in-End-clause-walks : goal.returns-in-End-clause-walks
+returns-in-End-clause-walks g c = λ m n opening first w.
+    (let h : Chooses (plan_in c.args.self.now.sheet) c.args.self.now.machine c.args.word (End c.in-End.q) = rw c.in-End.is at c.choose-choice.ensures in
+    c.end.ensures.walks (c.args.word, h, c.requires.some) m n opening first (g.R.Rig.standing c.args.rig.now) (g.R.Rig.log c.args.rig.now) w)
+
+pub returns-in-Complete-clause-walks : goal.returns-in-Complete-clause-walks
+returns-in-Complete-clause-walks g c = λ m n opening first w.
+    (let h : Chooses (plan_in c.args.self.now.sheet) c.args.self.now.machine c.args.word (Complete c.in-Complete.i) = rw c.in-Complete.is at c.choose-choice.ensures in
+    c.complete.ensures.walks (c.args.word, h, c.requires.some) m n opening first (g.R.Rig.standing c.args.rig.now) (g.R.Rig.log c.args.rig.now) w)
+
+pub returns-in-Admit-clause-walks : goal.returns-in-Admit-clause-walks
+returns-in-Admit-clause-walks g c = λ m n opening first w.
+    (let h : Chooses (plan_in c.args.self.now.sheet) c.args.self.now.machine c.args.word (Admit c.in-Admit.q) = rw c.in-Admit.is at c.choose-choice.ensures in
+    let x = c.admit.ensures.walks (c.args.word, h, c.requires.some) m n opening first (g.R.Rig.standing c.args.rig.now) (g.R.Rig.log c.args.rig.now) w in
+    subst (λ st. Walks m n opening first c.admit.new.self st (g.R.Rig.log c.admit.new.rig)) (sym c.admit.ensures.standing) (subst (λ log. Walks m n opening first c.admit.new.self (g.R.Rig.standing c.args.rig.now) log) (sym c.admit.ensures.log) x))
+
+pub returns-in-Cut-clause-walks : goal.returns-in-Cut-clause-walks
+returns-in-Cut-clause-walks g c = λ m n opening first w.
+    (let h : Chooses (plan_in c.args.self.now.sheet) c.args.self.now.machine c.args.word (Cut c.in-Cut.q) = rw c.in-Cut.is at c.choose-choice.ensures in
+    c.cut.ensures.walks (c.args.word, h, c.requires.some) m n opening first (g.R.Rig.standing c.args.rig.now) (g.R.Rig.log c.args.rig.now) w)
+
+pub returns-in-Join-clause-walks : goal.returns-in-Join-clause-walks
+returns-in-Join-clause-walks g c = λ m n opening first w.
+    (let h : Chooses (plan_in c.args.self.now.sheet) c.args.self.now.machine c.args.word (Join c.in-Join.d c.in-Join.i c.in-Join.j) = rw c.in-Join.is at c.choose-choice.ensures in
+    c.join.ensures.walks (c.args.word, h, c.requires.some) m n opening first (g.R.Rig.standing c.args.rig.now) (g.R.Rig.log c.args.rig.now) w)
+
+pub returns-in-Send-clause-walks : goal.returns-in-Send-clause-walks
+returns-in-Send-clause-walks g c = λ m n opening first w.
+    (let h : Chooses (plan_in c.args.self.now.sheet) c.args.self.now.machine c.args.word (Send c.in-Send.d c.in-Send.i) = rw c.in-Send.is at c.choose-choice.ensures in
+    c.send.ensures.walks (c.args.word, h, c.requires.some) m n opening first w)

@@ -1,0 +1,10 @@
+//! That a script that was read and bound to a volume stands on ground: its ops lie in the pages and in the volume, and
+//! the blocks of each request are spread, so that the stack of the script may walk. It speaks of no code.
+#![tactic(auto)]
+
+mod laws;
+
+pub use laws::{
+    a_bound_script_seals_whole_blocks, a_bound_script_stands_on_ground,
+    a_rig_has_a_cell_for_each_address,
+};

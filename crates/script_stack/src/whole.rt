@@ -1,0 +1,102 @@
+//! A script over an opened rig, to its end.
+
+ghost use Rattle.std.specs.Prelude.{◌≡◌, ◌+◌, ◌≤◌, [], IfErr, IfOk, None, OnOk, is_some, length, map, true};
+ghost use Rattle.rig_api.specs.Telling.{specs_of};
+ghost use Rattle.rig_discovery.specs.Discovery.{info_of};
+ghost use Rattle.volume_table.specs.Tables.{MadeFor};
+ghost use Rattle.page_pool.specs.Pages.{IsBlank};
+ghost use Rattle.dix_adapter.specs.Groups.{mode_of};
+ghost use Rattle.stack_view.specs.Steps.{enabled};
+ghost use Rattle.stack_view.specs.View.{View, start};
+ghost use Rattle.stack_steps.specs.Does.{Holds};
+ghost use Rattle.stack_core.specs.Requests.{pages_from, requests_from};
+ghost use Rattle.stack_core.specs.Stacks.{HasSpare, IsStack, Reaches, plan_in};
+ghost use Rattle.script_text.specs.Bindings.{binding_fault};
+ghost use Rattle.script_laws.specs.Keeping.{Keeps};
+ghost use Rattle.script_stack.specs.Causes.{CauseUnrun};
+
+use crate::bound::{bound_volume, found_devices};
+use crate::run::run_all;
+use crate::start::{Run, start_script};
+use crate::unready::Unready;
+use rig_api::Rig;
+use script_text::Script;
+use stack_core::Stack;
+use std::alloc::{AllocError, Global};
+use volume_table::{DeviceInfo, VolumeTable};
+
+/// The stack of a script over a volume of a rig's devices, with the script's faults armed, and room in the rig for all
+/// of its exchanges. Takes all the memory of the run.
+pub fn ready_script<R: Rig>(
+    alloc: Global,
+    script: Script,
+    table: VolumeTable,
+    devices: &[DeviceInfo],
+    rig: &mut R,
+) -> Result<Run, AllocError>
+    requires keeps { Keeps script }
+    requires lines { length script.lines ≡ length script.faults + length script.ops }
+    requires few { length devices.now ≤ 8 }
+    requires made { MadeFor table devices.now script.block }
+    requires bound { binding_fault script table devices.now ≡ None }
+    requires count { length devices.now ≡ (R.standing rig.old).devices }
+    requires told { is_some (R.image rig.old) ≡ true → devices.now ≡ map info_of (specs_of (R.standing rig.old)) }
+    ensures stack { IfOk result (λ r. IsStack r.stack) }
+    ensures first { IfOk result (λ r. Holds (plan_in r.stack.sheet) r.stack.machine (start (plan_in r.stack.sheet))) }
+    ensures ops { IfOk result (λ r. r.stack.sheet.ops ≡ script.ops) }
+    ensures ios { IfOk result (λ r. r.stack.sheet.ios.items ≡ requests_from script.mode.dix script.pages script.ops) }
+    ensures table { IfOk result (λ r. r.stack.sheet.table ≡ table) }
+    ensures limits { IfOk result (λ r. r.stack.sheet.limits ≡ script.limits) }
+    ensures mode { IfOk result (λ r. mode_of r.stack.adapter ≡ script.mode) }
+    ensures faults { IfOk result (λ r. r.stack.adapter.tamper ≡ script.faults) }
+    ensures pool { IfOk result (λ r. IsBlank (pages_from script.mode.dix script.pages script.ops) r.stack.pool) }
+    ensures schedule { IfOk result (λ r. r.schedule ≡ script.schedule) }
+    ensures reaches { IfOk result (λ r. Reaches r.stack (is_some (R.image rig.new)) (R.standing rig.new)) }
+    ensures spare { IfOk result (λ r. HasSpare r.stack (R.standing rig.new) (R.room rig.new)) }
+    ensures armed { OnOk result (R.armed rig.new ≡ script.faults) }
+    ensures image { R.image rig.new ≡ R.image rig.old }
+    ensures standing { R.standing rig.new ≡ R.standing rig.old }
+    ensures log { R.log rig.new ≡ R.log rig.old }
+    ensures count { R.faults rig.new ≡ R.faults rig.old }
+{
+    rig.arm(script.faults.copy(alloc)?);
+    let run = start_script(alloc, script, table, devices)?;
+    let blocks = run.stack.blocks();
+    rig.reserve(alloc, blocks, blocks)?;
+    Ok(run)
+}
+
+/// Runs a script over an opened rig, and answers its stack, all of whose ops have ended: asks each device what it is,
+/// binds the script to its volume, arms its faults, takes all the memory of the run, and does the steps.
+pub fn run_script<R: Rig>(alloc: Global, script: Script, rig: &mut R) -> Result<Stack, Unready>
+    requires keeps { Keeps script }
+    requires lines { length script.lines ≡ length script.faults + length script.ops }
+    ensures stack { IfOk result IsStack }
+    ensures ended { IfOk result (λ s. (v : View) → Holds (plan_in s.sheet) s.machine v → enabled (plan_in s.sheet) v ≡ []) }
+    ensures ops { IfOk result (λ s. s.sheet.ops ≡ script.ops) }
+    ensures mode { IfOk result (λ s. mode_of s.adapter ≡ script.mode) }
+    ensures faults { IfOk result (λ s. s.adapter.tamper ≡ script.faults) }
+    ensures tells { is_some (R.image rig.new) ≡ is_some (R.image rig.old) }
+    ensures cause { IfErr result (λ u. CauseUnrun u script (R.standing rig.old) (R.log rig.old) (R.log rig.new)) }
+{
+    let devices = match found_devices(alloc, rig) {
+        Ok(devices) => devices,
+        Err(unready) => return Err(unready),
+    };
+    let table = match bound_volume(alloc, &script, &devices) {
+        Ok(table) => table,
+        Err(unready) => return Err(unready),
+    };
+    match ready_script(alloc, script, table, &devices, rig) {
+        Ok(
+            Run {
+                mut stack,
+                schedule,
+            },
+        ) => {
+            run_all(&mut stack, schedule.as_slice(), rig);
+            Ok(stack)
+        }
+        Err(_) => Err(Unready::Memory),
+    }
+}

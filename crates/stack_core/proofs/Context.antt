@@ -1,0 +1,91 @@
+-- What a stack and its script are to each other, over what is told.
+use Rattle.std.proofs.Common.{◌≡◌, ◌<◌, ℕ, List, length, get_or, refl, sym, ap, subst, ◌∙◌}
+use Rattle.bio_core.specs.declared.request.Io.{Io}
+use Rattle.dix_adapter.specs.Walking.{HasHost}
+use Rattle.stack_view.specs.Plan.{Plan, Request}
+use Rattle.stack_ops.specs.declared.op.Op.{Op}
+use Rattle.stack_ops.specs.declared.op.Op.TheVariants.{Fetch, FetchPi, Fill, Overwrite, Put, Seal, Show, Wait, Write, WritePi}
+use Rattle.block_path.specs.Acts.{State}
+use Rattle.block_path.specs.Blocks.{Sent}
+use Rattle.volume_table.specs.declared.entry.Entry.{Entry}
+use Rattle.volume_table.specs.Places.{place_in}
+use Rattle.whole_run.specs.Settings.{Setting}
+use Rattle.run_record.specs.ToldRun.{came_by, told}
+use Rattle.stack_walks.specs.Ground.{Ground, IsPlanOf}
+use Rattle.stack_walks.proofs.Over.{ground_over}
+use Rattle.stack_core.specs.declared.stack.Stack.{Stack}
+use Rattle.stack_core.specs.Sheets.{io_at, op_in}
+use Rattle.stack_core.specs.Stacks.{IsStack, plan_in}
+use Rattle.stack_core.specs.Walking.{IsOver, IsSealed}
+use Rattle.stack_core.proofs.Facts.{request-at}
+use Rattle.stack_core.proofs.FollowsGroup.{Places}
+use Rattle.stack_core.proofs.FollowsSend.{Adapts}
+use Rattle.stack_core.proofs.Planning.{plan_is}
+use Rattle.stack_core.proofs.Spotted.{Stands}
+
+module _ (m : Setting) (n : ℕ) (opening : State) (s : Stack) (h : IsStack s) (o : IsOver m n opening s.sheet s.adapter s.host) where
+  abbrev plan : Plan
+  plan = plan_in s.sheet
+
+  abbrev ops : List Op
+  ops = s.sheet.ops
+
+  abbrev ios : List Io
+  ios = s.sheet.ios.items
+
+  pub plan_of : IsPlanOf plan m ops
+  plan_of = plan_is m m.mode.dix o.pages ops s.sheet.shifted.items ios s.sheet.table s.sheet.limits s.sheet.devices o.ios o.shifted
+
+  host_at : (i : ℕ) → 0 < (io_at ios i).count → HasHost m.mode.dix (io_at ios i).pi
+  host_at i z = subst (λ dix. HasHost dix (io_at ios i).pi) (sym (ap (λ mode. mode.dix) o.mode)) (h.fixed.uniform.host i z)
+
+  pub stands : Stands m n (length opening.logs) plan ops ios s.pool
+  stands = record { ground = o.ground; plan = plan_of; pages = o.pages; bytes = o.bytes; requests = o.ios; size = o.size; host = host_at; whole = h.whole }
+
+  pub stands_over : (es : List Sent) → Stands (told m es) n (length opening.logs) plan ops ios s.pool
+  stands_over es = record {
+    ground = ground_over m (came_by es) n (length opening.logs) ops o.ground;
+    plan = plan_is (told m es) m.mode.dix o.pages ops s.sheet.shifted.items ios s.sheet.table s.sheet.limits s.sheet.devices o.ios o.shifted;
+    pages = o.pages;
+    bytes = o.bytes;
+    requests = o.ios;
+    size = o.size;
+    host = host_at;
+    whole = h.whole;
+  }
+
+  pub places : (es : List Sent) → Places (told m es) plan ops ios
+  places es = record {
+    many = h.fixed.ops;
+    first = λ i. ap (λ (r : Request). r.first) (request-at ios i);
+    count = λ i. ap (λ (r : Request). r.count) (request-at ios i);
+    dir = λ i. ap (λ (r : Request). r.dir) (request-at ios i);
+    dev = λ v. ap (λ (x : List Entry). (place_in x v).0) (sym o.entries);
+    lba = λ v. ap (λ (x : List Entry). (place_in x v).1) (sym o.entries);
+  }
+
+  pub places_here : Places m plan ops ios
+  places_here = record {
+    many = h.fixed.ops;
+    first = λ i. ap (λ (r : Request). r.first) (request-at ios i);
+    count = λ i. ap (λ (r : Request). r.count) (request-at ios i);
+    dir = λ i. ap (λ (r : Request). r.dir) (request-at ios i);
+    dev = λ v. ap (λ (x : List Entry). (place_in x v).0) (sym o.entries);
+    lba = λ v. ap (λ (x : List Entry). (place_in x v).1) (sym o.entries);
+  }
+
+  pub adapts : Adapts m s.adapter
+  adapts = record { mode = o.mode; ty = o.ty }
+
+-- an op's data are sealed over what is told, too
+pub sealed_over : (m : Setting) (es : List Sent) (op : Op) → IsSealed m op → IsSealed (told m es) op
+sealed_over m es (Fill seg byte) h = tt
+sealed_over m es (Put page off bytes) h = tt
+sealed_over m es (Show seg) h = tt
+sealed_over m es (Seal n body tuples app rtag) h = h
+sealed_over m es (Write v n body app) h = tt
+sealed_over m es (Fetch v n body) h = tt
+sealed_over m es (WritePi v n body tuples) h = tt
+sealed_over m es (FetchPi v n body tuples) h = tt
+sealed_over m es (Overwrite dev lba change) h = tt
+sealed_over m es Wait h = tt

@@ -1,0 +1,159 @@
+-- An op that is no request is done whole: the stack follows on.
+use Rattle.std.proofs.Common.{◌≡◌, ◌⊎◌, ◌<◌, ◌≤◌, ℕ, zero, suc, ◌+◌, Bool, true, false, List, [], ◌∷◌, ◌++◌, length, get_or, set, take, drop, Option, refl, sym, ap, subst, ◌∙◌, arith, ⊎_elim}
+use Rattle.std.proofs.lemmas.Bool.{cases_eq}
+use Rattle.std.proofs.lemmas.List.{get_or-set_other, get_or-set_same}
+use Rattle.page_pool.specs.Cells.{flat}
+use Rattle.range_gate.specs.Gates.{has_ended, is_waiting}
+use Rattle.range_gate.specs.declared.phase.Phase.{Phase}
+use Rattle.range_gate.specs.declared.phase.Phase.TheVariants.{Admitted as OpAdmitted, Ended, Waiting}
+use Rattle.stack_ops.specs.declared.op.Op.{Op}
+use Rattle.stack_ops.specs.declared.op.Op.TheVariants.{Wait}
+use Rattle.stack_ops.specs.declared.reply.Reply.{Reply}
+use Rattle.stack_ops.specs.declared.reply.Reply.TheVariants.{Silent}
+use Rattle.stack_view.specs.Plan.{Plan, request_at}
+use Rattle.stack_view.specs.Sound.{Sound}
+use Rattle.stack_view.specs.View.{OpView, View, is_admitted, no_op, op_at}
+use Rattle.block_path.specs.Acts.{State, act, tell}
+use Rattle.block_path.specs.Blocks.{Sent, silent}
+use Rattle.block_path.specs.Serial.{plain, plain_tells}
+use Rattle.whole_run.specs.ScriptWalk.{acts_of}
+use Rattle.whole_run.specs.Settings.{Setting}
+use Rattle.whole_run.specs.Steps.{each_from}
+use Rattle.run_moves.specs.ScriptMoves.{fates_of}
+use Rattle.run_record.specs.Records.{find}
+use Rattle.run_follows.specs.Following.{Follows}
+use Rattle.run_follows.specs.Gate.{BecomesDone, IsAlone, LetsIn}
+use Rattle.run_follows.specs.Sending.{NoneBefore, is_carried}
+use Rattle.run_follows.specs.Slots.{Done, Status}
+use Rattle.run_follows.proofs.Wholly.{wholly}
+use Rattle.stack_walks.specs.Ground.{Ground, IsPlanOf}
+use Rattle.stack_walks.specs.Statuses.{fate_in}
+use Rattle.stack_walks.proofs.Letting.{lets_of}
+use Rattle.stack_walks.proofs.Moving.{elsewhere}
+use Rattle.stack_walks.proofs.Spots.{cut_at, lets_in, placed_at, placed_front, take_long}
+use Rattle.stack_walks.proofs.Standing.{is_done, waits}
+use Rattle.stack_core.specs.declared.kept.Room.{Room}
+use Rattle.stack_core.specs.declared.kept.Room.TheVariants.{Nothing}
+use Rattle.stack_core.specs.Rooms.{Suits}
+use Rattle.stack_core.specs.Sheets.{op_in}
+use Rattle.stack_core.specs.Stacks.{room_at}
+use Rattle.stack_core.specs.Walking.{Data, Follow, GoesOn, IsReply, shown_by, shown_in, status_of, why_in}
+use Rattle.stack_core.proofs.OpWhole.{IsWholly, at_first}
+
+module _ (over : Setting) (n : ℕ) (opening : State) (es : List Sent) (p : Plan) (ops : List Op) (d : Data) (v : View) (now : State) (ground : Ground over n (length opening.logs) ops) (plan : IsPlanOf p over ops) (s : Sound p v) (h : Follow over n opening es p ops d v now)
+    (i : ℕ) (l : i < length ops) (lo : i < length v.ops) (lr : i < length d.replies) (empty : (request_at p i).count ≡ 0) where
+  abbrev op : Op
+  op = op_in ops i
+
+  abbrev run : State
+  run = plain act (acts_of over (suc i) op) now
+
+  none : fates_of op ≡ 0
+  none = sym (plan.count i) ∙ empty
+
+  pub alone : IsAlone op
+  alone = ⊎_elim (λ (a : IsAlone op). a) (λ (z : 0 < fates_of op). let e = none in absurd (omega arith)) (ground.kinds i l)
+
+  front_long : length (take i ops) ≡ i
+  front_long = take_long i ops (omega arith)
+
+  split : ops ≡ take i ops ++ (op ∷ drop (suc i) ops)
+  split = cut_at ops i Wait l
+
+  module _ (w : View) (pool : List (List ℕ)) (reply : Reply) (a : is_waiting (op_at v i).phase ≡ true) (e : w.ops ≡ set v.ops i (record (op_at v i) { phase = Ended })) (c : w.commands ≡ v.commands) (sw : Sound p w) (does : IsWholly over (suc i) op pool reply now) where
+    abbrev d' : Data
+    d' = record d { pool = pool; rooms = set d.rooms i Nothing; replies = set d.replies i reply }
+
+    abbrev old : ℕ → ℕ → Status
+    old = status_of p d v
+
+    abbrev new : ℕ → ℕ → Status
+    new = status_of p d' w
+
+    at : (j : ℕ) → op_at w j ≡ get_or (set v.ops i (record (op_at v i) { phase = Ended })) j no_op
+    at j = ap (λ (x : List OpView). get_or x j no_op) e
+
+    mine : op_at w i ≡ record (op_at v i) { phase = Ended }
+    mine = at i ∙ get_or-set_same v.ops i (record (op_at v i) { phase = Ended }) no_op lo
+
+    other : (j : ℕ) → (j ≡ i → ⊥) → op_at w j ≡ op_at v j
+    other j ne = at j ∙ get_or-set_other v.ops i j (record (op_at v i) { phase = Ended }) no_op ne
+
+    replied_same : (j : ℕ) → (j ≡ i → ⊥) → get_or d'.replies j Silent ≡ get_or d.replies j Silent
+    replied_same j ne = get_or-set_other d.replies i j reply Silent ne
+
+    shown_same : (j q : ℕ) → (j ≡ i → ⊥) → shown_in d'.replies j q ≡ shown_in d.replies j q
+    shown_same j zero ne = ap shown_by (replied_same j ne)
+    shown_same j (suc q) ne = refl
+
+    shown_mine : (q : ℕ) → shown_in d'.replies i q ≡ at_first (shown_by reply) q
+    shown_mine zero = ap shown_by (get_or-set_same d.replies i reply Silent lr)
+    shown_mine (suc q) = refl
+
+    is_over : (q : ℕ) → new (suc i) q ≡ Done (get_or (plain_tells act tell (acts_of over (suc i) op) now) q silent).shown
+    is_over q =
+        is_done (request_at p i).count (op_at w i) (shown_in d'.replies i q) (why_in d.starts d.held i q) (fate_in i q w.commands) q (ap (λ (x : OpView). is_waiting x.phase) mine) empty
+        ∙ ap Done (shown_mine q ∙ does.shows q)
+
+    away : (j q : ℕ) → (j ≡ suc i → ⊥) → new j q ≡ old j q
+    away zero q ne = refl
+    away (suc j) q ne =
+        let other_op : j ≡ i → ⊥ = λ (f : j ≡ i). ne (ap suc f) in
+        elsewhere p v w (shown_in d.replies) (shown_in d'.replies) (why_in d.starts d.held) j q c (other j other_op) (λ (z : (request_at p j).count ≡ 0). shown_same j q other_op)
+
+    becomes : BecomesDone over (suc i) op now old new
+    becomes = record { waits = λ q. waits (request_at p i).count (op_at v i) (shown_in d.replies i q) (why_in d.starts d.held i q) (fate_in i q v.commands) q a; done = is_over; elsewhere = away }
+
+    lets : LetsIn over old 1 (take i ops) (suc i) op
+    lets =
+        lets_in over old ops i (omega arith)
+        (lets_of over n (length opening.logs) p ops ground plan v s (shown_in d.replies) (why_in d.starts d.held) i l
+        (λ (j : ℕ) (b : j < i) (x : p.conflicts j i ≡ true). sym (ap (λ (y : OpView). has_ended y.phase) (other j (λ (f : j ≡ i). omega arith))) ∙ sw.order j i b (let t = sw.ops in let u = plan.many in omega arith) (ap (λ (y : OpView). is_waiting y.phase) mine) x))
+
+    follows : Follows over n ops opening new run es
+    follows =
+        let f = front_long in
+        let nf : suc i ≡ suc (length (take i ops)) = omega arith in
+        subst (λ (x : List Op). Follows over n x opening new run es) (sym split)
+        (subst (λ (x : ℕ). Follows over n (take i ops ++ (op ∷ drop (suc i) ops)) opening new (plain act (acts_of over x op) now) es) (sym nf)
+        (wholly over n (take i ops) (drop (suc i) ops) op opening now old new es ground.one (placed_front over n i ops ground.placed) (placed_at over n i ops l ground.placed) alone
+        (subst (λ (x : ℕ). LetsIn over old 1 (take i ops) x op) nf lets)
+        (subst (λ (x : ℕ). BecomesDone over x op now old new) nf becomes)
+        (subst (λ (x : List Op). Follows over n x opening old now es) split h.follows)))
+
+    begun_on : (j : ℕ) → is_admitted (op_at w j).phase ≡ true → 0 < (request_at p j).count
+    begun_on j x =
+        ⊎_elim
+        (λ (f : j ≡ i). let z : false ≡ true = sym (ap (λ (y : ℕ). is_admitted (op_at w y).phase) f ∙ ap (λ (y : OpView). is_admitted y.phase) mine) ∙ x in absurd cc)
+        (λ (ne : j ≡ i → ⊥). h.begun j (sym (ap (λ (y : OpView). is_admitted y.phase) (other j ne)) ∙ x))
+        (cases_eq j i)
+
+    replied_on : (j : ℕ) → j < length ops → has_ended (op_at w j).phase ≡ true → IsReply (op_in ops j) (each_from 0 (fates_of (op_in ops j)) (why_in d.starts d.held j)) (get_or d'.replies j Silent)
+    replied_on j b x =
+        ⊎_elim
+        (λ (f : j ≡ i). subst (λ y. IsReply (op_in ops y) (each_from 0 (fates_of (op_in ops y)) (why_in d.starts d.held y)) (get_or d'.replies y Silent)) (sym f)
+        (subst (IsReply op (each_from 0 (fates_of op) (why_in d.starts d.held i))) (sym (get_or-set_same d.replies i reply Silent lr)) (does.replies (each_from 0 (fates_of op) (why_in d.starts d.held i)))))
+        (λ (ne : j ≡ i → ⊥). subst (IsReply (op_in ops j) (each_from 0 (fates_of (op_in ops j)) (why_in d.starts d.held j))) (sym (replied_same j ne)) (h.replied j b (sym (ap (λ (y : OpView). has_ended y.phase) (other j ne)) ∙ x)))
+        (cases_eq j i)
+
+    suited_on : (j : ℕ) → j < length ops → has_ended (op_at w j).phase ≡ false → Suits (op_in ops j) (room_at d'.rooms j)
+    suited_on j b x =
+        ⊎_elim
+        (λ (f : j ≡ i). let z : true ≡ false = sym (ap (λ (y : ℕ). has_ended (op_at w y).phase) f ∙ ap (λ (y : OpView). has_ended y.phase) mine) ∙ x in absurd cc)
+        (λ (ne : j ≡ i → ⊥). rw (get_or-set_other d.rooms i j Nothing Nothing ne) (h.suited j b (sym (ap (λ (y : OpView). has_ended y.phase) (other j ne)) ∙ x)))
+        (cases_eq j i)
+
+    none_carried : NoneBefore old es → NoneBefore new es
+    none_carried none j q x =
+        ⊎_elim
+        (λ (f : j ≡ suc i). none j q (ap (λ (y : ℕ). is_carried (old y q)) f ∙ ap is_carried (becomes.waits q)))
+        (λ (ne : j ≡ suc i → ⊥). none j q (sym (ap is_carried (away j q ne)) ∙ x))
+        (cases_eq j (suc i))
+
+    pub op_goes : GoesOn over n opening es p ops d d' v w run.blocks
+    op_goes = record {
+      after = run;
+      follow = record { bytes = sym does.bytes; whole = does.whole; follows = follows; begun = begun_on; replied = replied_on; suited = suited_on };
+      blocks = refl;
+      none_before = none_carried;
+    }

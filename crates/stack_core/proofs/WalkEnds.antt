@@ -1,0 +1,160 @@
+-- What a stack comes to that followed the walk of its script to the end.
+use Rattle.std.proofs.Common.{◌≡◌, ◌⊎◌, inl, inr, ◌<◌, ◌≤◌, ℕ, zero, suc, ◌+◌, Bool, true, false, List, [], ◌∷◌, length, drop, get_or, map, Option, refl, sym, ap, subst, ◌∙◌, arith, ⊎_elim}
+use Rattle.std.specs.Prelude.{if◌then◌else◌}
+use Rattle.std.proofs.lemmas.Bool.{cases_lt}
+use Rattle.std.proofs.lemmas.List.{ext_get_or}
+use Rattle.bio_core.specs.declared.fate.Why.{Why}
+use Rattle.range_gate.specs.Gates.{has_ended, is_waiting}
+use Rattle.range_gate.specs.declared.phase.Phase.{Phase}
+use Rattle.range_gate.specs.declared.phase.Phase.TheVariants.{Admitted as OpAdmitted, Ended, Waiting}
+use Rattle.rig_api.specs.Log.{Entry}
+use Rattle.rig_api.specs.Telling.{Standing}
+use Rattle.stack_ops.specs.declared.op.Op.{Op}
+use Rattle.stack_ops.specs.declared.op.Op.TheVariants.{Fetch, FetchPi, Fill, Overwrite, Put, Seal, Show, Wait, Write, WritePi}
+use Rattle.stack_ops.specs.declared.reply.Reply.{Reply}
+use Rattle.stack_ops.specs.declared.reply.Reply.TheVariants.{Bad, Medium, Shown, Silent, Whole}
+use Rattle.stack_view.specs.Plan.{Plan, request_at}
+use Rattle.stack_view.specs.Steps.{enabled}
+use Rattle.stack_view.specs.View.{View, op_at}
+use Rattle.stack_view.proofs.Enabled.{stuck}
+use Rattle.block_path.specs.Acts.{State}
+use Rattle.block_path.specs.Blocks.{Answer, Sent, silent}
+use Rattle.block_path.specs.Moves.{hidden}
+use Rattle.whole_run.specs.ScriptWalk.{bad_from, reply_of, whole_or_bad}
+use Rattle.whole_run.specs.Settings.{Setting}
+use Rattle.whole_run.specs.Steps.{Step, each_from, steps_of}
+use Rattle.run_moves.specs.BoundRun.{IsBoundRun}
+use Rattle.run_moves.specs.ScriptMoves.{fates_of}
+use Rattle.run_record.specs.BackedRun.{Backed}
+use Rattle.run_record.specs.Records.{recorded}
+use Rattle.run_record.specs.ToldRun.{told}
+use Rattle.run_follows.specs.Finished.{AllEnded, HasEnded, HaveEnded, answer_of, answers_of, replies_of}
+use Rattle.run_follows.specs.Gate.{IsAlone}
+use Rattle.run_follows.specs.Slots.{Done, Settled, Status}
+use Rattle.run_follows.proofs.Backing.{is_backed}
+use Rattle.stack_walks.specs.Statuses.{fate_in}
+use Rattle.stack_walks.proofs.Letting.{all_marked}
+use Rattle.stack_walks.proofs.Standing.{is_done, is_settled}
+use Rattle.stack_core.specs.declared.stack.Stack.{Stack}
+use Rattle.stack_core.specs.Sheets.{op_in}
+use Rattle.stack_core.specs.Stacks.{IsStack, plan_in}
+use Rattle.stack_core.specs.Walking.{HasFails, IsReply, Walks, data_of, is_medium, shown_by, shown_in, status_of, why_in}
+use Rattle.stack_core.proofs.Walked.{sound, stand}
+
+ended_waits : (h : Phase) → has_ended h ≡ true → is_waiting h ≡ false
+ended_waits Waiting e = cc
+ended_waits OpAdmitted e = cc
+ended_waits Ended e = refl
+
+-- blocks of a request, of which each is settled so
+module _ (f : ℕ → Step) (status : ℕ → Status) (why : ℕ → Option Why) where
+  whys_are : (k c : ℕ) → ((q : ℕ) → k ≤ q → q < k + c → status q ≡ Settled (why q)) → map (λ (a : Answer). a.why) (answers_of k (each_from k c f) status) ≡ each_from k c why
+  whys_are k zero h = refl
+  whys_are k (suc c) h = ap (λ s. (answer_of s).why ∷ map (λ (a : Answer). a.why) (answers_of (suc k) (each_from (suc k) c f) status)) (h k (omega arith) (omega arith)) ∙ ap (λ l. why k ∷ l) (whys_are (suc k) c (λ q a b. h q (omega arith) (omega arith)))
+
+module _ (m : Setting) (i : ℕ) (status : ℕ → Status) (why : ℕ → Option Why) (reply : Reply) where
+  -- what the op replied is what its blocks say
+  request_says : (f : ℕ → Step) (c : ℕ) → ((q : ℕ) → q < c → status q ≡ Settled (why q)) → reply ≡ whole_or_bad (bad_from 0 (each_from 0 c why)) → whole_or_bad (bad_from 0 (map (λ (a : Answer). a.why) (answers_of 0 (each_from 0 c f) status))) ≡ reply
+  request_says f c h e = ap (λ w. whole_or_bad (bad_from 0 w)) (whys_are f status why 0 c (λ q a b. h q (omega arith))) ∙ sym e
+
+  over_says : (fails : Bool) → (reply ≡ Silent) ⊎ (reply ≡ Medium) → fails ≡ is_medium reply → (if fails then Medium else Silent) ≡ reply
+  over_says fails (inl e) h = ap (λ b. if b then Medium else Silent) (h ∙ ap is_medium e) ∙ sym e
+  over_says fails (inr e) h = ap (λ b. if b then Medium else Silent) (h ∙ ap is_medium e) ∙ sym e
+
+  says : (op : Op) → ((q : ℕ) → q < fates_of op → status q ≡ Settled (why q)) → (fates_of op ≡ 0 → status 0 ≡ Done (shown_by reply)) → IsReply op (each_from 0 (fates_of op) why) reply → m.fails i ≡ is_medium reply →
+      reply_of (m.fails i) op (answers_of 0 (steps_of m i op) status) ≡ reply
+  says (Fill seg byte) s d r f = sym r
+  says (Put page off bytes) s d r f = sym r
+  says (Show seg) s d r f = ap (λ (x : Status). Shown (answer_of x).shown) (d refl) ∙ (ap (λ (x : Reply). Shown (shown_by x)) r.1 ∙ sym r.1)
+  says (Seal n body tuples app rtag) s d r f = sym r
+  says (Write v n body app) s d r f = request_says _ n s r
+  says (Fetch v n body) s d r f = request_says _ n s r
+  says (WritePi v n body tuples) s d r f = request_says _ n s r
+  says (FetchPi v n body tuples) s d r f = request_says _ n s r
+  says (Overwrite dev lba change) s d r f = over_says (m.fails i) r f
+  says Wait s d r f = sym r
+
+  -- and all its steps have ended
+  each_over : (f : ℕ → Step) (k c : ℕ) → ((q : ℕ) → k ≤ q → q < k + c → HasEnded (f q) (status q)) → HaveEnded k (each_from k c f) status
+  each_over f k zero h = tt
+  each_over f k (suc c) h = (h k (omega arith) (omega arith), each_over f (suc k) c (λ q a b. h q (omega arith) (omega arith)))
+
+  over : (op : Op) → ((q : ℕ) → q < fates_of op → status q ≡ Settled (why q)) → (fates_of op ≡ 0 → (q : ℕ) → (shown : List ℕ) × (status q ≡ Done shown)) → HaveEnded 0 (steps_of m i op) status
+  over (Fill seg byte) s d = (d refl 0, tt)
+  over (Put page off bytes) s d = (d refl 0, tt)
+  over (Show seg) s d = (d refl 0, tt)
+  over (Seal n body tuples app rtag) s d = each_over _ 0 n (λ q a b. d refl q)
+  over (Write v n body app) s d = each_over _ 0 n (λ q a b. (why q, s q (omega arith)))
+  over (Fetch v n body) s d = each_over _ 0 n (λ q a b. (why q, s q (omega arith)))
+  over (WritePi v n body tuples) s d = each_over _ 0 n (λ q a b. (why q, s q (omega arith)))
+  over (FetchPi v n body tuples) s d = each_over _ 0 n (λ q a b. (why q, s q (omega arith)))
+  over (Overwrite dev lba change) s d = (d refl 0, tt)
+  over Wait s d = tt
+
+-- of all ops
+all_over : (m : Setting) (from : ℕ) (ops : List Op) (status : ℕ → ℕ → Status) → ((j : ℕ) → j < length ops → HaveEnded 0 (steps_of m (from + j) (op_in ops j)) (status (from + j))) → AllEnded m from ops status
+all_over m from [] status h = tt
+all_over m from (op ∷ ops) status h =
+    let z : from + 0 ≡ from = omega arith in
+    (
+      subst (λ x. HaveEnded 0 (steps_of m x op) (status x)) z (h 0 (omega arith)),
+      all_over m (suc from) ops status (λ j l. let y : from + suc j ≡ suc from + j = omega arith in subst (λ x. HaveEnded 0 (steps_of m x (op_in ops j)) (status x)) y (h (suc j) (omega arith))),
+    )
+
+all_replies : (m : Setting) (from : ℕ) (ops : List Op) (status : ℕ → ℕ → Status) (replies : List Reply) → length replies ≡ length ops →
+    ((j : ℕ) → j < length ops → reply_of (m.fails (from + j)) (op_in ops j) (answers_of 0 (steps_of m (from + j) (op_in ops j)) (status (from + j))) ≡ get_or replies j Silent) → replies_of m from ops status ≡ replies
+all_replies m from [] status [] e h = refl
+all_replies m from [] status (r ∷ replies) e h = absurd (omega arith)
+all_replies m from (op ∷ ops) status [] e h = absurd (omega arith)
+all_replies m from (op ∷ ops) status (r ∷ replies) e h =
+    let z : from + 0 ≡ from = omega arith in
+    let here : reply_of (m.fails from) op (answers_of 0 (steps_of m from op) (status from)) ≡ r = subst (λ x. reply_of (m.fails x) op (answers_of 0 (steps_of m x op) (status x)) ≡ r) z (h 0 (omega arith)) in
+    let rest = all_replies m (suc from) ops status replies (omega arith) (λ j l. let y : from + suc j ≡ suc from + j = omega arith in subst (λ x. reply_of (m.fails x) (op_in ops j) (answers_of 0 (steps_of m x (op_in ops j)) (status x)) ≡ get_or replies j Silent) y (h (suc j) (omega arith))) in
+    ap (λ x. x ∷ replies_of m (suc from) ops status) here ∙ ap (λ l. r ∷ l) rest
+
+module _ (m : Setting) (n : ℕ) (opening : State) (first : ℕ) (s : Stack) (st : Standing) (log : List Entry) (k : IsStack s) (w : Walks m n opening first s st log) (none : enabled (plan_in s.sheet) w.view ≡ []) where
+  abbrev plan : Plan
+  plan = plan_in s.sheet
+
+  abbrev ops : List Op
+  ops = s.sheet.ops
+
+  abbrev status : ℕ → ℕ → Status
+  status = status_of plan (data_of s) w.view
+
+  abbrev why : ℕ → ℕ → Option Why
+  why = why_in (data_of s).starts (data_of s).held
+
+  ended : (i : ℕ) → i < length ops → has_ended (op_at w.view i).phase ≡ true
+  ended i l =
+      let x = sound m n opening first s st log k w in
+      let y = (stand m n opening first s st log k w).plan.many in
+      let z = x.ops in
+      stuck plan w.view x none i (omega arith)
+
+  settled : (i q : ℕ) → i < length ops → q < fates_of (op_in ops i) → status (suc i) q ≡ Settled (why i q)
+  settled i q l b =
+      let x = sound m n opening first s st log k w in
+      let c = (stand m n opening first s st log k w).plan.count i in
+      let e = ended i l in
+      let g = x.lengths i in
+      is_settled (request_at plan i).count (op_at w.view i) (shown_in (data_of s).replies i q) (why i q) (fate_in i q w.view.commands) q (ended_waits (op_at w.view i).phase e) (omega arith) (all_marked (op_at w.view i).settled q (x.ended i e) (omega arith))
+
+  done : (i q : ℕ) → i < length ops → fates_of (op_in ops i) ≡ 0 → status (suc i) q ≡ Done (shown_in (data_of s).replies i q)
+  done i q l z =
+      let c = (stand m n opening first s st log k w).plan.count i in
+      is_done (request_at plan i).count (op_at w.view i) (shown_in (data_of s).replies i q) (why i q) (fate_in i q w.view.commands) q (ended_waits (op_at w.view i).phase (ended i l)) (omega arith)
+
+  pub all_ended : AllEnded m 1 ops status
+  all_ended = all_over m 1 ops status (λ j l. let y : suc j ≡ 1 + j = omega arith in subst (λ x. HaveEnded 0 (steps_of m x (op_in ops j)) (status x)) y (over m (suc j) (status (suc j)) (why j) Silent (op_in ops j) (λ q b. settled j q l b) (λ z q. (shown_in (data_of s).replies j q, done j q l z))))
+
+  pub all_replied : HasFails m s.replies.items → replies_of m 1 ops status ≡ s.replies.items
+  all_replied f =
+      let r = k.replies in
+      let o = k.fixed.ops in
+      all_replies m 1 ops status s.replies.items (omega arith)
+      (λ j l. let y : suc j ≡ 1 + j = omega arith in subst (λ x. reply_of (m.fails x) (op_in ops j) (answers_of 0 (steps_of m x (op_in ops j)) (status x)) ≡ get_or s.replies.items j Silent) y (says m (suc j) (status (suc j)) (why j) (get_or s.replies.items j Silent) (op_in ops j) (λ q b. settled j q l b) (λ z. done j 0 l z) (w.follow.replied j l (ended j l)) (f j)))
+
+  -- so its replies are backed by what stands on record since it began
+  pub ends_backed : HasFails m s.replies.items → IsBoundRun (told m (recorded m (drop first log))) (λ c block. true) n ops opening → Backed m ops (hidden n opening) (drop first log) s.replies.items
+  ends_backed f bound = subst (Backed m ops (hidden n opening) (drop first log)) (all_replied f) (is_backed m n ops opening w.now status (drop first log) bound all_ended w.follow.follows)

@@ -1,0 +1,185 @@
+-- That a stack between two steps follows the walk of its script.
+use Rattle.std.specs.Prelude.{◌≡◌, ◌⊎◌, ℕ, zero, suc, ◌+◌, ◌*◌, ◌<◌, ◌≤◌, Bool, false, true, List, [], ◌∷◌, length, drop, get_or, Option}
+use Rattle.page_pool.specs.Cells.{flat}
+use Rattle.page_pool.specs.Pages.{AreWhole}
+use Rattle.page_pool.specs.Places.{total}
+use Rattle.bio_core.specs.declared.fate.Fate.{Fate}
+use Rattle.bio_core.specs.declared.fate.Fate.TheVariants.{Untouched}
+use Rattle.bio_core.specs.declared.fate.Why.{Why}
+use Rattle.bio_core.specs.Bios.{block_size}
+use Rattle.range_gate.specs.Gates.{has_ended}
+use Rattle.rig_api.specs.Log.{Entry}
+use Rattle.rig_api.specs.Telling.{Standing, spec_at}
+use Rattle.stack_ops.specs.declared.op.Op.{Op}
+use Rattle.stack_ops.specs.declared.op.Op.TheVariants.{Fill, Put, Show, Seal, Write, Fetch, WritePi, FetchPi, Overwrite, Wait}
+use Rattle.stack_ops.specs.declared.reply.Reply.{Reply}
+use Rattle.stack_ops.specs.declared.reply.Reply.TheVariants.{Silent, Whole, Bad, Shown, Medium}
+use Rattle.stack_view.specs.Plan.{Plan, request_at}
+use Rattle.stack_view.specs.View.{View, is_admitted, op_at}
+use Rattle.stack_steps.specs.declared.choice.Choice.{Choice}
+use Rattle.stack_steps.specs.Does.{Chooses, Holds}
+use Rattle.block_path.specs.Acts.{State}
+use Rattle.block_path.specs.Blocks.{Sent}
+use Rattle.block_path.specs.Routes.{host_type}
+use Rattle.pi_tuple.specs.declared.checks.PiType.{PiType}
+use Rattle.dix_adapter.specs.declared.adapter.Adapter.{Adapter}
+use Rattle.dix_adapter.specs.Groups.{mode_of}
+use Rattle.whole_run.specs.ScriptWalk.{bad_from, whole_or_bad}
+use Rattle.whole_run.specs.Settings.{Setting}
+use Rattle.whole_run.specs.Steps.{each_from}
+use Rattle.run_moves.specs.BoundRun.{fates}
+use Rattle.run_moves.specs.ScriptMoves.{fates_of}
+use Rattle.run_record.specs.Records.{recorded}
+use Rattle.run_record.specs.ToldRun.{told}
+use Rattle.run_follows.specs.Following.{Follows}
+use Rattle.run_follows.specs.Sending.{NoneBefore}
+use Rattle.run_follows.specs.Slots.{Status}
+use Rattle.stack_walks.specs.Ground.{Ground}
+use Rattle.stack_walks.specs.Statuses.{status_in}
+use Rattle.stack_core.specs.declared.kept.Room.{Room}
+use Rattle.stack_core.specs.declared.sheet.Sheet.{Sheet}
+use Rattle.stack_core.specs.declared.stack.Stack.{Stack}
+use Rattle.stack_core.specs.Moved.{why_of}
+use Rattle.stack_core.specs.Requests.{requests_from}
+use Rattle.stack_core.specs.Rooms.{Suits}
+use Rattle.stack_core.specs.Sheets.{io_at, op_in}
+use Rattle.stack_core.specs.Shifts.{shifted_by}
+use Rattle.stack_core.specs.Stacks.{HasStep, plan_in, room_at}
+
+-- ---- how far each block is
+
+abbrev pub shown_by : Reply → List ℕ
+shown_by Silent = []
+shown_by Whole = []
+shown_by (Bad blocks) = []
+shown_by (Shown bytes) = bytes
+shown_by Medium = []
+
+-- what op i, from 0, shows at place k
+abbrev pub shown_in : List Reply → (i k : ℕ) → List ℕ
+shown_in replies i zero = shown_by (get_or replies i Silent)
+shown_in replies i (suc k) = []
+
+-- with what block k of op i is listed
+abbrev pub why_in : (starts : List ℕ) → List Fate → (i k : ℕ) → Option Why
+why_in starts held i k = why_of (get_or held (get_or starts i 0 + k) Untouched)
+
+-- the pages of a stack, what became of each block so far, the room for replies, and these
+pub record Data : Type 0 where
+  pub pool : List (List ℕ)
+  pub starts : List ℕ
+  pub held : List Fate
+  pub rooms : List Room
+  pub replies : List Reply
+
+abbrev pub data_of : Stack → Data
+data_of s = record { pool = s.pool; starts = s.kept.starts.items; held = s.kept.held.items; rooms = s.rooms.items; replies = s.replies.items }
+
+-- the status of each block, where the stack shows this view
+abbrev pub status_of : Plan → Data → View → ℕ → ℕ → Status
+status_of p d v = status_in p v (shown_in d.replies) (why_in d.starts d.held)
+
+-- ---- replies
+
+-- what an op replies, whose blocks are listed so
+abbrev pub IsReply : Op → List (Option Why) → Reply → Type 0
+IsReply (Fill seg byte) whys reply = reply ≡ Silent
+IsReply (Put page off bytes) whys reply = reply ≡ Silent
+IsReply (Show seg) whys reply = (bytes : List ℕ) × (reply ≡ Shown bytes)
+IsReply (Seal n body tuples app rtag) whys reply = reply ≡ Silent
+IsReply (Write v n body app) whys reply = reply ≡ whole_or_bad (bad_from 0 whys)
+IsReply (Fetch v n body) whys reply = reply ≡ whole_or_bad (bad_from 0 whys)
+IsReply (WritePi v n body tuples) whys reply = reply ≡ whole_or_bad (bad_from 0 whys)
+IsReply (FetchPi v n body tuples) whys reply = reply ≡ whole_or_bad (bad_from 0 whys)
+IsReply (Overwrite dev lba change) whys reply = (reply ≡ Silent) ⊎ (reply ≡ Medium)
+IsReply Wait whys reply = reply ≡ Silent
+
+-- what a `seal` takes is whole blocks of the volume's size
+abbrev pub IsSealed : Setting → Op → Type 0
+IsSealed m (Fill seg byte) = Unit {0}
+IsSealed m (Put page off bytes) = Unit {0}
+IsSealed m (Show seg) = Unit {0}
+IsSealed m (Seal n body tuples app rtag) = total body ≡ n * m.size
+IsSealed m (Write v n body app) = Unit {0}
+IsSealed m (Fetch v n body) = Unit {0}
+IsSealed m (WritePi v n body tuples) = Unit {0}
+IsSealed m (FetchPi v n body tuples) = Unit {0}
+IsSealed m (Overwrite dev lba change) = Unit {0}
+IsSealed m Wait = Unit {0}
+
+-- an overwrite whose store call failed
+abbrev pub is_medium : Reply → Bool
+is_medium Silent = false
+is_medium Whole = false
+is_medium (Bad blocks) = false
+is_medium (Shown bytes) = false
+is_medium Medium = true
+
+-- the setting says which overwrites failed, as the stack replied; ops are numbered from 1 there
+abbrev pub HasFails : Setting → List Reply → Type 0
+HasFails m replies = (i : ℕ) → m.fails (suc i) ≡ is_medium (get_or replies i Silent)
+
+-- ---- between two steps
+
+-- What no step changes: the ops are the script's of this setting, in n bytes of pages, over the adapter's units.
+pub record IsOver (m : Setting) (n : ℕ) (opening : State) (sheet : Sheet) (a : Adapter) (host : PiType) : Type 0 where
+  pub ground : Ground m n (length opening.logs) sheet.ops
+  pub found : fates sheet.ops ≤ length opening.fates
+  pub pages : ℕ
+  pub bytes : n ≡ 4096 * pages
+  pub ios : sheet.ios.items ≡ requests_from m.mode.dix pages sheet.ops
+  pub shifted : sheet.shifted.items ≡ shifted_by m.site.faults (length sheet.ops)
+  pub mode : m.mode ≡ mode_of a
+  pub ty : m.ty ≡ a.ty
+  pub host_is : host ≡ host_type m.ty
+  pub size : (i : ℕ) → 0 < (io_at sheet.ios.items i).count → block_size (io_at sheet.ios.items i) ≡ m.size
+  pub entries : m.entries ≡ sheet.table.entries
+  pub faults : m.site.faults ≡ a.tamper
+  pub seals : (i : ℕ) → i < length sheet.ops → IsSealed m (op_in sheet.ops i)
+
+-- A stack of this plan, with these data, that shows this view follows the walk of its script over a setting, with these entries and ends on record: its pages are those of the walk's state; each op that has ended has its reply, and each other one the room for it.
+pub record Follow (over : Setting) (n : ℕ) (opening : State) (es : List Sent) (p : Plan) (ops : List Op) (d : Data) (v : View) (now : State) : Type 0 where
+  pub bytes : now.bytes ≡ flat d.pool
+  pub whole : AreWhole d.pool
+  pub follows : Follows over n ops opening (status_of p d v) now es
+  pub begun : (i : ℕ) → is_admitted (op_at v i).phase ≡ true → 0 < (request_at p i).count
+  pub replied : (i : ℕ) → i < length ops → has_ended (op_at v i).phase ≡ true → IsReply (op_in ops i) (each_from 0 (fates_of (op_in ops i)) (why_in d.starts d.held i)) (get_or d.replies i Silent)
+  pub suited : (i : ℕ) → i < length ops → has_ended (op_at v i).phase ≡ false → Suits (op_in ops i) (room_at d.rooms i)
+
+-- The stack goes on from one view to the next: it follows the walk still, with this left of the stored blocks, and what wasn't carried is not on record.
+pub record GoesOn (over : Setting) (n : ℕ) (opening : State) (es : List Sent) (p : Plan) (ops : List Op) (d d' : Data) (v v' : View) (left : List (List ℕ)) : Type 0 where
+  pub after : State
+  pub follow : Follow over n opening es p ops d' v' after
+  pub blocks : after.blocks ≡ left
+  pub none_before : NoneBefore (status_of p d v) es → NoneBefore (status_of p d' v') es
+
+-- Over any rig, whose records from the first on are this log: what came of each block is what stands on record.
+pub record Walks (m : Setting) (n : ℕ) (opening : State) (first : ℕ) (s : Stack) (st : Standing) (log : List Entry) : Type 0 where
+  pub over : IsOver m n opening s.sheet s.adapter s.host
+  pub sizes : (d : ℕ) → d < s.sheet.devices → (spec_at st d).size ≡ m.size
+  pub recorded_from : first ≤ length log
+  pub view : View
+  pub holds : Holds (plan_in s.sheet) s.machine view
+  pub now : State
+  pub follow : Follow (told m (recorded m (drop first log))) n opening (recorded m (drop first log)) (plan_in s.sheet) s.sheet.ops (data_of s) view now
+  pub none_before : NoneBefore (status_of (plan_in s.sheet) (data_of s) view) (recorded m (drop first log))
+
+-- the cells with which a stack begins: its pages are those of these, and no frame was carried yet
+pub record Opens (opening : State) (s : Stack) : Type 0 where
+  pub bytes : opening.bytes ≡ flat s.pool
+  pub logs : (c : ℕ) → get_or opening.logs c [] ≡ []
+
+-- A new stack follows the walk, over any rig with devices of blocks of this size, from the rig's next record on.
+abbrev pub WalksAtFirst : Stack → Type 0
+WalksAtFirst s = (m : Setting) (n : ℕ) (opening : State) (st : Standing) (log : List Entry)
+    → Opens opening s → IsOver m n opening s.sheet s.adapter s.host → ((d : ℕ) → d < s.sheet.devices → (spec_at st d).size ≡ m.size) → Walks m n opening (length log) s st log
+
+-- ---- from one step to the next
+
+-- some word chooses this step
+abbrev pub IsChosen : Stack → Choice → Type 0
+IsChosen s c = (word : ℕ) × Chooses (plan_in s.sheet) s.machine word c × HasStep (plan_in s.sheet) s.machine
+
+-- A stack that follows the walk still does, over a rig with these records.
+abbrev pub WalksOn : (old new : Stack) → Type 0
+WalksOn old new = (m : Setting) (n : ℕ) (opening : State) (first : ℕ) (st : Standing) (log : List Entry) → Walks m n opening first old st log → Walks m n opening first new st log

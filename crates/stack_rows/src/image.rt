@@ -1,0 +1,53 @@
+//! A formatted image in memory.
+
+use dix_base::MemStore;
+use dix_words::unit_of;
+use image_rig::ImageRig;
+use rig_api::Rig;
+use std::alloc::{AllocError, Global};
+use target_answer::{UnitSpec, is_layout};
+
+#[derive(Drop)]
+pub(crate) struct Image {
+    pub(crate) units: Vec<UnitSpec>,
+    bytes: Vec<u8>,
+}
+
+impl Image {
+    /// No image.
+    pub(crate) fn none(alloc: Global) -> Image {
+        Image {
+            units: Vec::new(alloc),
+            bytes: Vec::new(alloc),
+        }
+    }
+
+    /// The freshly formatted image of the units that these words name; no bytes where an image can't have them.
+    pub(crate) fn of(alloc: Global, words: &str) -> Result<Image, AllocError> {
+        let mut units = Vec::new(alloc);
+        for word in words.split(' ') {
+            if let Some(unit) = unit_of(word.as_bytes()) {
+                units.push(unit)?;
+            }
+        }
+        let mut rig = ImageRig::new(alloc, MemStore::new(Vec::new(alloc), Vec::new(alloc)));
+        if is_layout(&units) {
+            let _ = rig.format(alloc, "a", &units);
+        }
+        let bytes = Vec::from_slice(alloc, rig.store().bytes())?;
+        Ok(Image { units, bytes })
+    }
+
+    /// An opened rig over the image, whose store fails at these calls.
+    pub(crate) fn opened(
+        &self,
+        alloc: Global,
+        fails: &[u64],
+    ) -> Result<ImageRig<MemStore>, AllocError> {
+        let bytes = Vec::from_slice(alloc, &self.bytes)?;
+        let fails = Vec::from_slice(alloc, fails)?;
+        let mut rig = ImageRig::new(alloc, MemStore::new(bytes, fails));
+        let _ = rig.open(alloc, "a");
+        Ok(rig)
+    }
+}

@@ -1,0 +1,38 @@
+//! A row: what is run, and what is to come of it.
+
+use crate::answers::Rule;
+use std::alloc::{AllocError, Global};
+
+#[derive(Drop)]
+pub(crate) struct Row {
+    pub(crate) name: Vec<u8>,
+    pub(crate) script: Vec<u8>,
+    /// The store's calls that fail.
+    pub(crate) fails: Vec<u64>,
+    /// How the devices answer, where they don't do what they are asked.
+    pub(crate) rules: Vec<Rule>,
+    /// The report behind its first line, or why the script isn't run.
+    pub(crate) report: Vec<u8>,
+    /// All records behind those of discovery.
+    pub(crate) trace: Vec<u8>,
+}
+
+impl Row {
+    pub(crate) fn new(alloc: Global, name: &str) -> Result<Row, AllocError> {
+        Ok(Row {
+            name: Vec::from_slice(alloc, name.as_bytes())?,
+            script: Vec::new(alloc),
+            fails: Vec::new(alloc),
+            rules: Vec::new(alloc),
+            report: Vec::new(alloc),
+            trace: Vec::new(alloc),
+        })
+    }
+}
+
+/// One more line of a text.
+pub(crate) fn add_line(text: &mut Vec<u8>, line: &str) -> Result<(), AllocError> {
+    text.extend_from_slice(line.as_bytes())?;
+    text.push(b'\n')?;
+    Ok(())
+}

@@ -1,0 +1,91 @@
+//! What comes of a row.
+
+use crate::answers::answers_by;
+use crate::image::Image;
+use crate::row::{Row, add_line};
+use dix_base::MemSink;
+use report_text::{print_report, print_trace};
+use rig_api::Rig;
+use script_laws::a_read_script_keeps_the_rules;
+use script_stack::{Unready, run_script};
+use script_text::{ScriptFault, read_script};
+use scripted_rig::ScriptedRig;
+use stack_core::Stack;
+use std::alloc::{AllocError, Global};
+
+/// The most bytes of a report or a trace.
+const ROOM: u32 = 100_000;
+
+/// What stands before each report.
+const FRONT: usize = b"dix report 1\n".len();
+
+/// The report of a run behind its first line, or why there was none, and the records behind those of discovery.
+#[derive(Drop)]
+pub(crate) struct Came {
+    pub(crate) report: Vec<u8>,
+    pub(crate) trace: Vec<u8>,
+}
+
+/// A fault of a script, as the program names it.
+fn fault_text(alloc: Global, fault: ScriptFault) -> Result<Vec<u8>, AllocError> {
+    let line = fault.line;
+    let number = fault.kind.number();
+    let name = fault.kind.name();
+    let text = format!(in alloc; "script {line} {number} {name}")?;
+    let mut bytes = Vec::new(alloc);
+    add_line(&mut bytes, text.as_str())?;
+    Ok(bytes)
+}
+
+/// Why a script isn't run.
+fn unready_text(alloc: Global, unready: Unready) -> Result<Vec<u8>, AllocError> {
+    match unready {
+        Unready::Script(fault) => fault_text(alloc, fault),
+        Unready::Device(_) => Vec::from_slice(alloc, b"device\n"),
+        Unready::Volume(_) => Vec::from_slice(alloc, b"volume\n"),
+        Unready::Memory => Vec::from_slice(alloc, b"memory\n"),
+    }
+}
+
+fn report_of(alloc: Global, stack: &Stack) -> Result<Vec<u8>, AllocError> {
+    let mut sink = MemSink::new(alloc, ROOM, Vec::new(alloc))?;
+    let _ = print_report(&mut sink, stack.replies());
+    Vec::from_slice(alloc, sink.bytes().get(FRONT..).unwrap_or(&[]))
+}
+
+fn trace_of<R: Rig>(alloc: Global, rig: &R) -> Result<Vec<u8>, AllocError> {
+    let mut sink = MemSink::new(alloc, ROOM, Vec::new(alloc))?;
+    let _ = print_trace(&mut sink, rig, rig.devices().min(rig.records()));
+    Vec::from_slice(alloc, sink.bytes())
+}
+
+/// What comes of a text over an opened rig.
+fn came_over<R: Rig>(alloc: Global, text: &[u8], rig: &mut R) -> Result<Came, AllocError> {
+    let script = match read_script(alloc, text) {
+        Ok(script) => script,
+        Err(fault) => {
+            return Ok(Came {
+                report: fault_text(alloc, fault)?,
+                trace: Vec::new(alloc),
+            });
+        }
+    };
+    a_read_script_keeps_the_rules(text, &script);
+    let report = match run_script(alloc, script, rig) {
+        Ok(stack) => report_of(alloc, &stack)?,
+        Err(unready) => unready_text(alloc, unready)?,
+    };
+    let trace = trace_of(alloc, rig)?;
+    Ok(Came { report, trace })
+}
+
+/// What comes of a row over an image.
+pub(crate) fn came_of(alloc: Global, image: &Image, row: &Row) -> Result<Came, AllocError> {
+    let mut rig = image.opened(alloc, &row.fails)?;
+    if row.rules.is_empty() {
+        return came_over(alloc, &row.script, &mut rig);
+    }
+    let answers = answers_by(alloc, &image.units, &row.rules)?;
+    let mut lying = ScriptedRig::new(alloc, rig, answers);
+    came_over(alloc, &row.script, &mut lying)
+}

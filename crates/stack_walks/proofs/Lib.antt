@@ -1,0 +1,12 @@
+pub mod Standing
+pub mod Fates
+pub mod Same
+pub mod Spots
+pub mod Together
+pub mod Moving
+pub mod Groups
+pub mod Sending
+pub mod Completing
+pub mod Found
+pub mod Letting
+pub mod Over

@@ -1,0 +1,3 @@
+pub mod Statuses
+pub mod Spots
+pub mod Ground

@@ -1,0 +1,7 @@
+//! How far each block of a script is by what is seen of a stack, and that the stack's steps keep that it follows the
+//! walk of the script. Definitions and laws alone.
+#![tactic(auto)]
+
+mod laws;
+
+pub use laws::what_was_found_stands_in_its_cell;
