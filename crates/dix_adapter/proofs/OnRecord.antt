@@ -2,6 +2,7 @@
 use Rattle.std.proofs.Common.{◌≡◌, ◌<◌, ◌≤◌, ℕ, zero, suc, ◌+◌, ◌-◌, ◌*◌, true, false, ltb, List, [], ◌∷◌, ◌++◌, length, map, take, drop, replicate, refl, ap, sym, ◌∙◌, arith}
 use Rattle.std.specs.Prelude.{if◌then◌else◌, min, Result, Ok, Err}
 use Rattle.std.proofs.lemmas.List.{append-nil, drop-take, take-take}
+use Rattle.std.proofs.Math.Nat.{min-le_right, mul-le-mul_right}
 use Rattle.page_pool.specs.Cells.{flat}
 use Rattle.pi_tuple.specs.declared.checks.Check.{Check}
 use Rattle.bio_core.specs.Bios.{Block, block_size}
@@ -27,7 +28,7 @@ use Rattle.dix_adapter.specs.Ways.{RecordedIn, RecordedOut, any_settled}
 use Rattle.dix_adapter.proofs.Asking.{asked-for, count-is, field_for, fields_of, protect-is}
 use Rattle.dix_adapter.proofs.Blocks.{length-in}
 use Rattle.dix_adapter.proofs.Commands.{command-blocks}
-use Rattle.dix_adapter.proofs.Landing.{group-width}
+use Rattle.dix_adapter.proofs.Landing.{group-width, taken-long}
 use Rattle.dix_adapter.proofs.GoingOut.{all_sent, sent-long}
 use Rattle.dix_adapter.proofs.Runs.{AllLong, front-joined, group-wide, width-sent, width_for}
 use Rattle.dix_adapter.proofs.Told.{group-bytes}
@@ -68,6 +69,7 @@ recorded-in a pool pool' bytes ios req fates old new p g w e got =
     ∙ ap (λ k. take (done_of n got.outcome * k) got.came) (sym gw) in
     let f : frames_of (frame_len a ios req) (done_of n got.outcome) got.came ≡ frames_of (frame_len a ios req) (done_of n got.outcome) (moved_under (spec_at old.standing (first_of req).dev).size (decoded (form (command_of a req))) got.outcome.done [] got.came) =
     sym (frames-front (frame_len a ios req) (done_of n got.outcome) got.came) ∙ ap (frames_of (frame_len a ios req) (done_of n got.outcome)) (sym m) in
+    let q : done_of n got.outcome * frame_len a ios req ≤ n * frame_len a ios req = mul-le-mul_right (frame_len a ios req) (min-le_right got.outcome.done n) in
     record {
       entry = entry_of (spec_at old.standing (first_of req).dev).size (first_of req).dev (form (command_of a req)) (map label_of (blocks_in req)) got.outcome [] got.came;
       what = record {
@@ -77,6 +79,7 @@ recorded-in a pool pool' bytes ios req fates old new p g w e got =
         fits = got.fits;
         labels = ap (λ k. take (min (got.outcome.done + 1) k) (map label_of (blocks_in req))) (ap (λ y. blocks_of (form y)) d ∙ command-blocks a In (first_of req).lba n x);
       };
+      long = ap length m ∙ taken-long (done_of n got.outcome * frame_len a ios req) got.came (omega (arith, q, got.long));
       fates_are = got.fates_are ∙ ap (λ fs. fates_in a ios (blocks_in req) fs ++ rest_of n got.outcome) f;
       cells = got.cells ∙ ap (λ fs. landed a ios (blocks_in req) fs (flat pool)) f;
     }

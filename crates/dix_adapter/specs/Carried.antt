@@ -194,6 +194,7 @@ pub record Fetched (a : Adapter) (ios : List Io) (req : List Bio) (pool pool' : 
   pub came : List ℕ
   pub exchanged : Exchanged old new (first_of req).dev (form (command_of a req)) (map label_of (blocks_in req)) [] before came outcome
   pub room : length before ≡ size req * frame_len a ios req
+  pub long : length came ≡ size req * frame_len a ios req
   pub fates_are : fates ≡ fates_in a ios (blocks_in req) (frames_came a ios req outcome came) ++ rest_of (size req) outcome
   pub pages : length pool' ≡ length pool
   pub whole : AreWhole pool'

@@ -66,10 +66,11 @@ pub record RecordedOut (a : Adapter) (ios : List Io) (req : List Bio) (cells : L
   pub moved : entry.moved ≡ joined (take (done_of (size req) entry.what.outcome) (map frame_sent (map (sends a ios cells) (blocks_in req))))
   pub fates_are : fates ≡ replicate (done_of (size req) entry.what.outcome) Good ++ rest_of (size req) entry.what.outcome
 
--- What becomes of a read's blocks, and of the cells, is what the frames on record come to.
+-- The record of a read has a whole frame of each block that is done. What becomes of the blocks, and of the cells, is what these frames come to.
 pub record RecordedIn (a : Adapter) (ios : List Io) (req : List Bio) (pool pool' : List (List ℕ)) (fates : List Fate) (old new : Shown) : Type 0 where
   pub entry : Entry
   pub what : IsRecord a req old new entry
+  pub long : length entry.moved ≡ done_of (size req) entry.what.outcome * frame_len a ios req
   pub fates_are : fates ≡ fates_in a ios (blocks_in req) (frames_of (frame_len a ios req) (done_of (size req) entry.what.outcome) entry.moved) ++ rest_of (size req) entry.what.outcome
   pub cells : flat pool' ≡ landed a ios (blocks_in req) (frames_of (frame_len a ios req) (done_of (size req) entry.what.outcome) entry.moved) (flat pool)
 

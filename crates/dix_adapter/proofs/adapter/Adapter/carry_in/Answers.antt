@@ -53,6 +53,7 @@ returns-clause-fetched g c =
           (record { told = is_some (g.R.Rig.image c.fetch-outcome.new.rig); units = g.R.Rig.units c.fetch-outcome.new.rig; standing = g.R.Rig.standing c.fetch-outcome.new.rig; log = g.R.Rig.log c.fetch-outcome.new.rig; room = g.R.Rig.room c.fetch-outcome.new.rig; armed = g.R.Rig.armed c.fetch-outcome.new.rig; faults = g.R.Rig.faults c.fetch-outcome.new.rig })
           (first_of c.args.req.now).dev _ _ _ _ _ _ (take (c.fill_labels-count.result * c.wire_size.result) c.deref_mut.result.now) (take (c.fill_labels-count.result * c.wire_size.result) c.fetch-outcome.new.frames) c.fetch-outcome.result d l refl c.fetch-outcome.ensures.exchanged;
       room = r;
+      long = taken-long (c.fill_labels-count.result * c.wire_size.result) c.fetch-outcome.new.frames (omega (arith, y, c.fetch-outcome.ensures.long)) ∙ z;
       fates_are = c.add_rest.ensures.items ∙ ap (λ z. z ++ rest_of c.fill_labels-count.result c.fetch-outcome.result) (c.land.ensures.fates ∙ ap (fates_in c.args.self.now c.args.ios.now (blocks_in c.args.req.now)) f)
           ∙ ap (λ m. fates_in c.args.self.now c.args.ios.now (blocks_in c.args.req.now) (frames_came c.args.self.now c.args.ios.now c.args.req.now c.fetch-outcome.result (take (c.fill_labels-count.result * c.wire_size.result) c.fetch-outcome.new.frames)) ++ rest_of m c.fetch-outcome.result) c.fill_labels-count.ensures.count;
       pages = c.land.ensures.pages;
