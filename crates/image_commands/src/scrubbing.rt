@@ -14,7 +14,7 @@ use std::alloc::Global;
 use volume_table::DeviceInfo;
 
 /// Opens the image of this name and asks each device what it is.
-fn told_devices<R: Rig>(
+pub fn told_devices<R: Rig>(
     alloc: Global,
     name: &str,
     rig: &mut R,

@@ -1,0 +1,14 @@
+use Rattle.std.specs.Prelude.{ℕ, ◌≡◌, ◌≤◌, ◌+◌, nat_le, if◌then◌else◌, List, length, Option, None}
+use Rattle.dix_base.specs.Told.{IsAtEnd, Took}
+
+-- A script has at most this many bytes.
+unfoldable pub most_bytes : ℕ
+most_bytes = 4194304
+
+-- The source was read to its end, and these bytes were all that was left.
+abbrev pub IsWhole : List ℕ → Option (List ℕ) → Option (List ℕ) → Type 0
+IsWhole text old new = Took text old new × IsAtEnd new × (length text ≤ most_bytes)
+
+-- One byte more than a script may have was taken.
+abbrev pub IsOver : Option (List ℕ) → Option (List ℕ) → Type 0
+IsOver old new = (text : List ℕ) × Took text old new × (length text ≡ most_bytes + 1)
