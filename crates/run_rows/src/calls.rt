@@ -3,7 +3,7 @@
 use crate::outside::{Failing, copy_of};
 use dix_base::{MemSink, MemSource, MemStore, Sink};
 use image_rig::ImageRig;
-use script_verdict::{Finished, Refusal, print_run, print_traced_run, run_script};
+use script_verdict::{Finished, Refusal, print_run, print_traced_run, run_source};
 use std::alloc::{AllocError, Global};
 
 /// The exit status of a call that was refused.
@@ -56,7 +56,7 @@ pub(crate) fn call(
     let mut source = MemSource::new(script, copy_of(alloc, &failing.source)?);
     let mut rig = ImageRig::new(alloc, MemStore::new(image, copy_of(alloc, &failing.store)?));
     let mut out = MemSink::new(alloc, 1_000_000, copy_of(alloc, &failing.sink)?)?;
-    let (status, is_written) = match run_script(alloc, "image", &mut source, &mut rig) {
+    let (status, is_written) = match run_source(alloc, "image", &mut source, &mut rig) {
         Ok(run) => {
             let written = if is_traced {
                 print_traced_run(&mut out, &run, &rig)

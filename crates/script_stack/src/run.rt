@@ -5,7 +5,7 @@ ghost use Rattle.stack_view.specs.Runs.{most_steps};
 ghost use Rattle.stack_view.specs.Steps.{enabled};
 ghost use Rattle.stack_view.specs.View.{View};
 ghost use Rattle.stack_steps.specs.Does.{Holds};
-ghost use Rattle.stack_core.specs.Stacks.{HasSpare, IsStack, Reaches, Stays, plan_in};
+ghost use Rattle.stack_core.specs.Stacks.{GoesOn, HasSpare, IsStack, Reaches, Stays, plan_in};
 
 use rig_api::Rig;
 use stack_core::Stack;
@@ -19,6 +19,7 @@ fn run_schedule<R: Rig>(stack: &mut Stack, schedule: &[(u32, u32)], rig: &mut R)
     ensures stays { Stays stack.old stack.new }
     ensures tells { is_some (R.image rig.new) ≡ is_some (R.image rig.old) }
     ensures rig { Reaches stack.new (is_some (R.image rig.new)) (R.standing rig.new) }
+    ensures goes { GoesOn (R.standing rig.old) (R.standing rig.new) (R.log rig.old) (R.log rig.new) (R.faults rig.old) (R.faults rig.new) }
     ensures spare { HasSpare stack.new (R.standing rig.new) (R.room rig.new) }
 {
     for (word, cut) in schedule {
@@ -39,6 +40,7 @@ fn run_rest<R: Rig>(stack: &mut Stack, rig: &mut R)
     ensures ended { (v : View) → Holds (plan_in stack.new.sheet) stack.new.machine v → enabled (plan_in stack.new.sheet) v ≡ [] }
     ensures tells { is_some (R.image rig.new) ≡ is_some (R.image rig.old) }
     ensures rig { Reaches stack.new (is_some (R.image rig.new)) (R.standing rig.new) }
+    ensures goes { GoesOn (R.standing rig.old) (R.standing rig.new) (R.log rig.old) (R.log rig.new) (R.faults rig.old) (R.faults rig.new) }
 {
     while !stack.finished() {
         stack.step(0, 0, rig);
@@ -56,6 +58,7 @@ pub fn run_all<R: Rig>(stack: &mut Stack, schedule: &[(u32, u32)], rig: &mut R)
     ensures ended { (v : View) → Holds (plan_in stack.new.sheet) stack.new.machine v → enabled (plan_in stack.new.sheet) v ≡ [] }
     ensures tells { is_some (R.image rig.new) ≡ is_some (R.image rig.old) }
     ensures rig { Reaches stack.new (is_some (R.image rig.new)) (R.standing rig.new) }
+    ensures goes { GoesOn (R.standing rig.old) (R.standing rig.new) (R.log rig.old) (R.log rig.new) (R.faults rig.old) (R.faults rig.new) }
 {
     run_schedule(stack, schedule, rig);
     run_rest(stack, rig);

@@ -1,1 +1,3 @@
-pub mod Reading
+pub mod Texts
+pub mod Verdict
+pub mod Working

@@ -4,13 +4,13 @@
 
 mod binding;
 mod line;
-mod reading;
 mod refusal;
 mod scripts;
 mod starting;
 mod text;
 mod verdict;
 
+pub use line::{Line, add, add_number};
 pub use refusal::Refusal;
 pub use text::{print_run, print_traced_run};
-pub use verdict::{Finished, run_script};
+pub use verdict::{Finished, run_script, run_source};

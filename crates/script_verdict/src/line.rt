@@ -4,11 +4,12 @@ ghost use Rattle.std.specs.Prelude.{◌≡◌, ◌+◌, ◌≤◌, ◌++◌, len
 
 use arrayvec::ArrayVec;
 
-/// A piece of text of at most 128 bytes, on the stack.
-pub(crate) type Line = ArrayVec<u8, 128>;
+/// A piece of text of at most 512 bytes, on the stack.
+pub type Line = ArrayVec<u8, 512>;
 
-pub(crate) fn add(line: &mut Line, piece: &[u8])
-    requires { length line.old.items + length piece.now ≤ 128 }
+/// Adds a piece, for which there is room.
+pub fn add(line: &mut Line, piece: &[u8])
+    requires { length line.old.items + length piece.now ≤ 512 }
     ensures { line.new.items ≡ line.old.items ++ piece.now }
 {
     match line.try_extend_from_slice(piece) {
@@ -17,8 +18,9 @@ pub(crate) fn add(line: &mut Line, piece: &[u8])
     }
 }
 
-pub(crate) fn add_number(line: &mut Line, number: u32)
-    requires { length line.old.items + 40 ≤ 128 }
+/// Adds the decimal digits of a number.
+pub fn add_number(line: &mut Line, number: u64)
+    requires { length line.old.items + 40 ≤ 512 }
     ensures items { line.new.items ≡ line.old.items ++ decimal number }
     ensures bound { length line.new.items ≤ length line.old.items + 40 }
 {

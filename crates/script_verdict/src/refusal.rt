@@ -1,5 +1,13 @@
 //! Why a call comes to no run.
 
+ghost use Rattle.std.specs.Prelude.{◌≡◌, ◌⊎◌, ◌≤◌, ◌++◌, codes, decimal, length};
+ghost use Rattle.rig_api.specs.Head.{fault_name};
+ghost use Rattle.script_lines.specs.Kinds.{kind_name, kind_number};
+ghost use Rattle.script_lines.specs.declared.kind.ScriptKind.{ScriptKind};
+ghost use Rattle.volume_table.specs.Faults.{kind_name as volume_kind_name, kind_number as volume_kind_number};
+ghost use Rattle.script_verdict.specs.Texts.{fault_line, refusal_text};
+ghost use Rattle.script_verdict.specs.Working.{refusal_of};
+
 use crate::line::{Line, add, add_number};
 use image_commands::Fault;
 use rig_api::RigFault;
@@ -35,7 +43,9 @@ pub enum Refusal {
 
 impl Refusal {
     /// The refusal of an image that isn't opened, or whose devices aren't known.
-    pub(crate) fn of(fault: Fault) -> Refusal {
+    pub(crate) fn of(fault: Fault) -> Refusal
+        ensures { result ≡ refusal_of fault }
+    {
         match fault {
             Fault::Image(fault) => Refusal::Image(fault),
             Fault::BadCapacity { dev } => Refusal::BadCapacity { dev },
@@ -45,7 +55,11 @@ impl Refusal {
     }
 
     /// The refusal of a script that isn't read.
-    pub(crate) fn of_script(fault: ScriptFault) -> Refusal {
+    pub(crate) fn of_script(fault: ScriptFault) -> Refusal
+        ensures memory { fault.kind ≡ ScriptKind.Memory → result ≡ Refusal.Memory }
+        ensures other { (fault.kind ≡ ScriptKind.Memory → ⊥) → result ≡ Refusal.Script fault }
+        ensures either { (result ≡ Refusal.Memory) ⊎ (result ≡ Refusal.Script fault) }
+    {
         if fault.kind == ScriptKind::Memory {
             return Refusal::Memory;
         }
@@ -53,7 +67,9 @@ impl Refusal {
     }
 
     /// The line that says it.
-    pub fn line(self) -> Line {
+    pub fn line(self) -> Line
+        ensures { result.items ≡ refusal_text self }
+    {
         match self {
             Refusal::Script(fault) => script_line(fault),
             Refusal::Image(fault) => image_line(fault),
@@ -66,25 +82,47 @@ impl Refusal {
     }
 }
 
-fn plain_line(what: &[u8]) -> Line {
+fn plain_line(what: &[u8]) -> Line
+    requires { length what.now ≤ 64 }
+    ensures { result.items ≡ what.now }
+{
     let mut line = Line::new();
     add(&mut line, what);
     line
 }
 
-fn script_line(fault: ScriptFault) -> Line {
+/// What is at fault, its number, and the number and the name of the fault.
+fn placed_line(what: &[u8], place: u32, number: u8, name: &[u8]) -> Line
+    requires what { length what.now ≤ 16 }
+    requires name { length name.now ≤ 16 }
+    ensures { result.items ≡ fault_line what.now place number name.now }
+{
     let mut line = Line::new();
-    add(&mut line, b"script ");
-    add_number(&mut line, fault.line);
+    add(&mut line, what);
     add(&mut line, b" ");
-    add_number(&mut line, u32::from(fault.kind.number()));
+    add_number(&mut line, u64::from(place));
     add(&mut line, b" ");
-    add(&mut line, fault.kind.name().as_bytes());
+    add_number(&mut line, u64::from(number));
+    add(&mut line, b" ");
+    add(&mut line, name);
     add(&mut line, b"\n");
     line
 }
 
-fn image_line(fault: RigFault) -> Line {
+fn script_line(fault: ScriptFault) -> Line
+    ensures { result.items ≡ fault_line (codes "script") fault.line (kind_number fault.kind) (kind_name fault.kind) }
+{
+    placed_line(
+        b"script",
+        fault.line,
+        fault.kind.number(),
+        fault.kind.name().as_bytes(),
+    )
+}
+
+fn image_line(fault: RigFault) -> Line
+    ensures { result.items ≡ codes "image " ++ (fault_name fault ++ codes "\n") }
+{
     let mut line = Line::new();
     add(&mut line, b"image ");
     add(&mut line, fault.name().as_bytes());
@@ -92,22 +130,18 @@ fn image_line(fault: RigFault) -> Line {
     line
 }
 
-fn device_line(dev: u32) -> Line {
+fn device_line(dev: u32) -> Line
+    ensures { result.items ≡ codes "device " ++ (decimal dev ++ codes " BadCapacity\n") }
+{
     let mut line = Line::new();
     add(&mut line, b"device ");
-    add_number(&mut line, dev);
+    add_number(&mut line, u64::from(dev));
     add(&mut line, b" BadCapacity\n");
     line
 }
 
-fn volume_line(entry: u32, kind: VolumeKind) -> Line {
-    let mut line = Line::new();
-    add(&mut line, b"volume ");
-    add_number(&mut line, entry);
-    add(&mut line, b" ");
-    add_number(&mut line, u32::from(kind.number()));
-    add(&mut line, b" ");
-    add(&mut line, kind.name().as_bytes());
-    add(&mut line, b"\n");
-    line
+fn volume_line(entry: u32, kind: VolumeKind) -> Line
+    ensures { result.items ≡ fault_line (codes "volume") entry (volume_kind_number kind) (volume_kind_name kind) }
+{
+    placed_line(b"volume", entry, kind.number(), kind.name().as_bytes())
 }

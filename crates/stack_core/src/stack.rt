@@ -12,7 +12,7 @@ ghost use Rattle.stack_core.specs.Replies.{HoldsSeal};
 ghost use Rattle.stack_ops.specs.declared.reply.Reply.TheVariants.{Medium, Silent};
 ghost use Rattle.stack_core.specs.Done.{MadeBy, OpDone, Sealed, WriteMade, WriteMapped};
 ghost use Rattle.stack_core.specs.Doing.{CanDo, CanReach, HasBlocks};
-ghost use Rattle.stack_core.specs.Stacks.{HasSpare, HasStep, IsStack, Reaches, Sends, Stays, Steps, plan_in};
+ghost use Rattle.stack_core.specs.Stacks.{GoesOn, HasSpare, HasStep, IsStack, Reaches, Sends, Stays, Steps, plan_in};
 
 use crate::kept::{Fates, Room, reply_of, shown};
 use crate::pages::{fill, put};
@@ -108,6 +108,7 @@ impl Stack {
         ensures step { Steps (plan_in self.old.sheet) self.old.machine word cut self.new.machine }
         ensures tells { is_some (R.image rig.new) ≡ is_some (R.image rig.old) }
         ensures rig { Reaches self.new (is_some (R.image rig.new)) (R.standing rig.new) }
+        ensures goes { GoesOn (R.standing rig.old) (R.standing rig.new) (R.log rig.old) (R.log rig.new) (R.faults rig.old) (R.faults rig.new) }
         ensures spare { HasSpare self.new (R.standing rig.new) (R.room rig.new) }
     {
         let choice = self.machine.choose(&self.sheet, word);
@@ -164,6 +165,7 @@ impl Stack {
         ensures tells { is_some (R.image rig.new) ≡ is_some (R.image rig.old) }
         ensures standing { R.standing rig.new ≡ R.standing rig.old }
         ensures room { R.room rig.new ≡ R.room rig.old }
+        ensures goes { GoesOn (R.standing rig.old) (R.standing rig.new) (R.log rig.old) (R.log rig.new) (R.faults rig.old) (R.faults rig.new) }
     {
         let op = self.machine.admit(&self.sheet, q) as usize;
         if self.sheet.io(op).count > 0 {
@@ -223,6 +225,7 @@ impl Stack {
         ensures tells { is_some (R.image rig.new) ≡ is_some (R.image rig.old) }
         ensures standing { R.standing rig.new ≡ R.standing rig.old }
         ensures spare { HasSpare self.new (R.standing rig.new) (R.room rig.new) }
+        ensures goes { GoesOn (R.standing rig.old) (R.standing rig.new) (R.log rig.old) (R.log rig.new) (R.faults rig.old) (R.faults rig.new) }
     {
         self.machine.take(&self.sheet, d, i, &mut self.group);
         self.adapter.carry(
@@ -309,6 +312,7 @@ fn overwrite<R: Rig>(rig: &mut R, dev: u32, lba: u64, change: &Change) -> Reply
     ensures room { R.room rig.new ≡ R.room rig.old }
     ensures armed { R.armed rig.new ≡ R.armed rig.old }
     ensures log { R.log rig.new ≡ R.log rig.old }
+    ensures count { R.faults rig.old ≤ R.faults rig.new }
 {
     match rig.overwrite(dev, lba, change) {
         Ok(()) => Reply::Silent,
@@ -327,6 +331,7 @@ fn do_op<R: Rig>(pool: &mut PagePool, op: &Op, kind: GuardKind, room: Room, rig:
     ensures room { R.room rig.new ≡ R.room rig.old }
     ensures armed { R.armed rig.new ≡ R.armed rig.old }
     ensures log { R.log rig.new ≡ R.log rig.old }
+    ensures count { R.faults rig.old ≤ R.faults rig.new }
 {
     match op {
         Op::Fill { seg, byte } => {

@@ -1,7 +1,7 @@
 use Rattle.std.proofs.Common.{◌≡◌, ◌-◌}
 use Rattle.std.specs.Prelude.{is_some}
 use Rattle.stack_view.specs.Runs.{most_steps}
-use Rattle.stack_core.specs.Stacks.{HasSpare, IsStack, Reaches, Stays, plan_in}
+use Rattle.stack_core.specs.Stacks.{GoesOn, HasSpare, IsStack, Reaches, Stays, plan_in}
 use Rattle.script_stack.proofs.run.run_rest.Given as goal
 
 abbrev pub invariant-loop-stack : goal.invariant-loop-stack
@@ -11,6 +11,7 @@ invariant-loop-stack g l = record {
   tells : is_some (g.R.Rig.image l.rig) ≡ is_some (g.R.Rig.image l.fn.rig);
   reaches : Reaches l.stack (is_some (g.R.Rig.image l.rig)) (g.R.Rig.standing l.rig);
   spare : HasSpare l.stack (g.R.Rig.standing l.rig) (g.R.Rig.room l.rig);
+  goes : GoesOn (g.R.Rig.standing l.fn.rig) (g.R.Rig.standing l.rig) (g.R.Rig.log l.fn.rig) (g.R.Rig.log l.rig) (g.R.Rig.faults l.fn.rig) (g.R.Rig.faults l.rig);
 }
 
 abbrev pub decreases-loop-stack : goal.decreases-loop-stack

@@ -1,6 +1,6 @@
 use Rattle.std.proofs.Common.{◌≡◌}
 use Rattle.std.specs.Prelude.{is_some}
-use Rattle.stack_core.specs.Stacks.{HasSpare, IsStack, Reaches, Stays}
+use Rattle.stack_core.specs.Stacks.{GoesOn, HasSpare, IsStack, Reaches, Stays}
 use Rattle.script_stack.proofs.run.run_schedule.Given as goal
 
 abbrev pub invariant-loop-word : goal.invariant-loop-word
@@ -10,4 +10,5 @@ invariant-loop-word g l = record {
   tells : is_some (g.R.Rig.image l.rig) ≡ is_some (g.R.Rig.image l.fn.rig);
   reaches : Reaches l.stack (is_some (g.R.Rig.image l.rig)) (g.R.Rig.standing l.rig);
   spare : HasSpare l.stack (g.R.Rig.standing l.rig) (g.R.Rig.room l.rig);
+  goes : GoesOn (g.R.Rig.standing l.fn.rig) (g.R.Rig.standing l.rig) (g.R.Rig.log l.fn.rig) (g.R.Rig.log l.rig) (g.R.Rig.faults l.fn.rig) (g.R.Rig.faults l.rig);
 }

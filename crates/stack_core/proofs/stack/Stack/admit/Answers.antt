@@ -2,6 +2,7 @@ use Rattle.std.proofs.Common.{length, ap, refl, ◌∙◌, arith}
 use Rattle.std.proofs.lemmas.List.{length-set}
 use Rattle.stack_steps.specs.declared.choice.Choice.TheVariants.{Admit}
 use Rattle.stack_core.specs.Stacks.{plan_in}
+use Rattle.stack_core.proofs.Goes.{goes-as-before, goes-nowhere}
 use Rattle.stack_core.proofs.Facts.{op-enters}
 use Rattle.stack_core.proofs.Keeps.{is-stack}
 use Rattle.stack_core.proofs.Rooms.{taken}
@@ -79,3 +80,11 @@ returns-clause-stack g c =
       fates = refl;
       scratch = c.requires.stack.lists.scratch_room;
     })
+
+pub returns-then-io-gt0-clause-goes : goal.returns-then-io-gt0-clause-goes
+returns-then-io-gt0-clause-goes g c = goes-nowhere (g.R.Rig.standing c.args.rig.now) (g.R.Rig.log c.args.rig.now) (g.R.Rig.faults c.args.rig.now)
+
+pub returns-clause-goes : goal.returns-clause-goes
+returns-clause-goes g c =
+    goes-as-before (g.R.Rig.standing c.args.rig.now) (g.R.Rig.standing c.do_op-done.new.rig) (g.R.Rig.log c.args.rig.now) (g.R.Rig.log c.do_op-done.new.rig) (g.R.Rig.faults c.args.rig.now) (g.R.Rig.faults c.do_op-done.new.rig)
+    c.do_op-done.ensures.standing c.do_op-done.ensures.log c.do_op-done.ensures.count

@@ -2,6 +2,7 @@ use Rattle.std.proofs.Common.{ap, refl, ◌∙◌, arith}
 use Rattle.std.specs.Prelude.{is_some}
 use Rattle.dix_adapter.specs.Groups.{size}
 use Rattle.stack_core.specs.Stacks.{plan_in}
+use Rattle.stack_core.proofs.Goes.{either-way, goes-as-before}
 use Rattle.stack_core.proofs.Keeps.{is-stack}
 use Rattle.stack_core.proofs.Sending.{settles-of}
 use Rattle.stack_core.proofs.Sent.{can-carry, holds-fewer, holds-still, sending, sent-works, spare-sent}
@@ -74,3 +75,12 @@ returns-clause-spare g c =
     let s = settles-of c.take.new.group.items c.carry.new.fates.items (c.carry.ensures.count ∙ ap size c.deref.ensures.value) c.carry.ensures.settles in
     spare-sent c.args.self.now _ c.take.new.self c.args.d c.args.i c.take.new.group.items c.carry.new.fates.items (g.R.Rig.standing c.args.rig.now) (g.R.Rig.standing c.carry.new.rig) (g.R.Rig.room c.args.rig.now) (g.R.Rig.room c.carry.new.rig)
     c.requires.spare c.requires.ready c.take.ensures.takes s (rw (c.deref-2.ensures.value, c.deref-3.ensures.value) at c.fly.ensures) c.carry.ensures.spent refl c.carry.ensures.standing
+
+pub returns-clause-goes : goal.returns-clause-goes
+returns-clause-goes g c =
+    either-way _ _ _
+    (λ w b. (let e = (c.carry.ensures.unsent w b).1 in
+    goes-as-before (g.R.Rig.standing c.args.rig.now) (g.R.Rig.standing c.carry.new.rig) (g.R.Rig.log c.args.rig.now) (g.R.Rig.log c.carry.new.rig) (g.R.Rig.faults c.args.rig.now) (g.R.Rig.faults c.carry.new.rig)
+    c.carry.ensures.standing (ap g.R.Rig.log e) (let k = ap g.R.Rig.faults e in omega (arith, k))))
+    (λ w b. (let x = (c.carry.ensures.sent w b).exchanged in record { standing = c.carry.ensures.standing; more = _; log = x.recorded; faults = x.count }))
+    (λ r. (let x = (c.carry.ensures.fetched r).exchanged in record { standing = c.carry.ensures.standing; more = _; log = x.recorded; faults = x.count }))

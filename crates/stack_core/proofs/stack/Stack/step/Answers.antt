@@ -2,6 +2,7 @@ use Rattle.std.proofs.Common.{refl}
 use Rattle.stack_steps.specs.declared.choice.Choice.TheVariants.{Admit, Complete, Cut, End, Join, Send}
 use Rattle.stack_steps.specs.Does.{Chooses}
 use Rattle.stack_core.specs.Stacks.{plan_in}
+use Rattle.stack_core.proofs.Goes.{goes-nowhere}
 use Rattle.stack_core.proofs.Going.{can-step, spare-left}
 use Rattle.stack_core.proofs.Steps.{one-send, one-step, ready}
 use Rattle.stack_core.proofs.stack.Stack.step.Goals as goal
@@ -91,3 +92,15 @@ returns-in-Send-clause-step g c =
     let h : Chooses (plan_in c.args.self.now.sheet) c.args.self.now.machine c.args.word (Send c.in-Send.d c.in-Send.i) = rw c.in-Send.is at c.choose-choice.ensures in
     let x = c.send.ensures.sends in
     one-send (plan_in c.args.self.now.sheet) c.args.self.now.machine x.taken c.send.new.self.machine c.args.word c.args.cut c.in-Send.d c.in-Send.i x.group x.fates h x.takes x.flies x.settles
+
+pub returns-in-End-clause-goes : goal.returns-in-End-clause-goes
+returns-in-End-clause-goes g c = goes-nowhere (g.R.Rig.standing c.args.rig.now) (g.R.Rig.log c.args.rig.now) (g.R.Rig.faults c.args.rig.now)
+
+pub returns-in-Complete-clause-goes : goal.returns-in-Complete-clause-goes
+returns-in-Complete-clause-goes g c = goes-nowhere (g.R.Rig.standing c.args.rig.now) (g.R.Rig.log c.args.rig.now) (g.R.Rig.faults c.args.rig.now)
+
+pub returns-in-Cut-clause-goes : goal.returns-in-Cut-clause-goes
+returns-in-Cut-clause-goes g c = goes-nowhere (g.R.Rig.standing c.args.rig.now) (g.R.Rig.log c.args.rig.now) (g.R.Rig.faults c.args.rig.now)
+
+pub returns-in-Join-clause-goes : goal.returns-in-Join-clause-goes
+returns-in-Join-clause-goes g c = goes-nowhere (g.R.Rig.standing c.args.rig.now) (g.R.Rig.log c.args.rig.now) (g.R.Rig.faults c.args.rig.now)
