@@ -20,6 +20,7 @@ fn run_schedule<R: Rig>(stack: &mut Stack, schedule: &[(u32, u32)], rig: &mut R)
     ensures tells { is_some (R.image rig.new) ≡ is_some (R.image rig.old) }
     ensures rig { Reaches stack.new (is_some (R.image rig.new)) (R.standing rig.new) }
     ensures goes { GoesOn (R.standing rig.old) (R.standing rig.new) (R.log rig.old) (R.log rig.new) (R.faults rig.old) (R.faults rig.new) }
+    ensures armed { R.armed rig.new ≡ R.armed rig.old }
     ensures spare { HasSpare stack.new (R.standing rig.new) (R.room rig.new) }
 {
     for (word, cut) in schedule {
@@ -41,6 +42,7 @@ fn run_rest<R: Rig>(stack: &mut Stack, rig: &mut R)
     ensures tells { is_some (R.image rig.new) ≡ is_some (R.image rig.old) }
     ensures rig { Reaches stack.new (is_some (R.image rig.new)) (R.standing rig.new) }
     ensures goes { GoesOn (R.standing rig.old) (R.standing rig.new) (R.log rig.old) (R.log rig.new) (R.faults rig.old) (R.faults rig.new) }
+    ensures armed { R.armed rig.new ≡ R.armed rig.old }
 {
     while !stack.finished() {
         stack.step(0, 0, rig);
@@ -59,6 +61,7 @@ pub fn run_all<R: Rig>(stack: &mut Stack, schedule: &[(u32, u32)], rig: &mut R)
     ensures tells { is_some (R.image rig.new) ≡ is_some (R.image rig.old) }
     ensures rig { Reaches stack.new (is_some (R.image rig.new)) (R.standing rig.new) }
     ensures goes { GoesOn (R.standing rig.old) (R.standing rig.new) (R.log rig.old) (R.log rig.new) (R.faults rig.old) (R.faults rig.new) }
+    ensures armed { R.armed rig.new ≡ R.armed rig.old }
 {
     run_schedule(stack, schedule, rig);
     run_rest(stack, rig);

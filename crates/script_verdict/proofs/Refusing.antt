@@ -72,6 +72,6 @@ traced run script name old new ran =
     let told = ran.asked.told in
     let a = ap length told.since.kept.log in
     let b = ap length told.found.log ∙ length-append told.between.seen.log (looks told.between.standing 0 told.found.answers) in
-    let c = ap length ran.followed.goes.log ∙ length-append ran.told.seen.log ran.followed.goes.more in
+    let c = ap length ran.followed.goes.records ∙ length-append ran.told.seen.log ran.followed.goes.more in
     let d = ran.first in
     omega (arith, a, b, c, d)

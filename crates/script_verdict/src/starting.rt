@@ -1,6 +1,6 @@
 //! All that comes before the first step.
 
-ghost use Rattle.std.specs.Prelude.{◌≡◌, ◌≤◌, IfOk, None, is_some, length, map, true};
+ghost use Rattle.std.specs.Prelude.{◌≡◌, ◌≤◌, IfOk, None, OnOk, is_some, length, map, true};
 ghost use Rattle.rig_api.specs.Telling.{specs_of};
 ghost use Rattle.rig_discovery.specs.Discovery.{info_of};
 ghost use Rattle.script_text.specs.Bindings.{binding_fault};
@@ -31,6 +31,7 @@ pub(crate) fn start<R: Rig>(
     ensures begun { IfOk result (λ r. IsBegun script table r.stack) }
     ensures reaches { IfOk result (λ r. Reaches r.stack (is_some (R.image rig.new)) (R.standing rig.new)) }
     ensures spare { IfOk result (λ r. HasSpare r.stack (R.standing rig.new) (R.room rig.new)) }
+    ensures armed { OnOk result (R.armed rig.new ≡ script.faults) }
     ensures image { R.image rig.new ≡ R.image rig.old }
     ensures standing { R.standing rig.new ≡ R.standing rig.old }
     ensures log { R.log rig.new ≡ R.log rig.old }

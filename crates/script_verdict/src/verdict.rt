@@ -1,6 +1,6 @@
 //! The run of a script.
 
-ghost use Rattle.std.specs.Prelude.{◌≡◌, ◌≤◌, IfErr, IfOk, MatchResult, length};
+ghost use Rattle.std.specs.Prelude.{◌≡◌, ◌≤◌, IfErr, IfOk, MatchResult, OnOk, length};
 ghost use Rattle.image_commands.specs.Views.{seen, view};
 ghost use Rattle.script_verdict.specs.Texts.{has_bad, is_bad};
 ghost use Rattle.script_verdict.specs.Verdict.{CauseRefused, CauseStopped, Facts, HasRun, HasRunSource, IsComplete, StopsForMemory};
@@ -72,6 +72,7 @@ pub fn run_script<R: Rig>(
         let new = view (R.image rig.new) (R.standing rig.new) (seen (R.units rig.new) (R.log rig.new) (R.faults rig.new)) in
         IfErr result (λ r. StopsForMemory r script old new) }
     ensures traced { IfOk result (λ r. r.first ≤ length (R.log rig.new)) }
+    ensures armed { OnOk result (R.armed rig.new ≡ script.faults) }
 {
     let first = rig.records();
     let bound = match bind(alloc, image, &script, rig) {

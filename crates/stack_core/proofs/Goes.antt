@@ -9,7 +9,7 @@ use Rattle.stack_core.specs.Stacks.{GoesOn}
 
 -- its records are as before
 pub goes-as-before : (st st' : Standing) (log log' : List Entry) (n n' : ℕ) → st' ≡ st → log' ≡ log → n ≤ n' → GoesOn st st' log log' n n'
-goes-as-before st st' log log' n n' e l f = record { standing = e; more = []; log = (l ∙ sym (append-nil log)); faults = f }
+goes-as-before st st' log log' n n' e l f = record { standing = e; more = []; records = l ∙ sym (append-nil log); faults = f }
 
 pub goes-nowhere : (st : Standing) (log : List Entry) (n : ℕ) → GoesOn st st log log n n
 goes-nowhere st log n = goes-as-before st st log log n n refl refl (omega arith)
@@ -18,7 +18,7 @@ pub goes-further : (st st' st₂ : Standing) (log log' log₂ : List Entry) (n n
 goes-further st st' st₂ log log' log₂ n n' n₂ a b = record {
   standing = b.standing ∙ a.standing;
   more = a.more ++ b.more;
-  log = b.log ∙ ap (λ v. v ++ b.more) a.log ∙ append_assoc log a.more b.more;
+  records = b.records ∙ ap (λ v. v ++ b.more) a.records ∙ append_assoc log a.more b.more;
   faults = (let p = a.faults in let q = b.faults in omega (arith, p, q));
 }
 

@@ -113,5 +113,5 @@ pub record Stays (old new : Stack) : Type 0 where
 pub record GoesOn (st st' : Standing) (log log' : List Entry) (count count' : ℕ) : Type 0 where
   pub standing : st' ≡ st
   pub more : List Entry
-  pub log : log' ≡ log ++ more
+  pub records : log' ≡ log ++ more
   pub faults : count ≤ count'

@@ -109,6 +109,7 @@ impl Stack {
         ensures tells { is_some (R.image rig.new) ≡ is_some (R.image rig.old) }
         ensures rig { Reaches self.new (is_some (R.image rig.new)) (R.standing rig.new) }
         ensures goes { GoesOn (R.standing rig.old) (R.standing rig.new) (R.log rig.old) (R.log rig.new) (R.faults rig.old) (R.faults rig.new) }
+        ensures armed { R.armed rig.new ≡ R.armed rig.old }
         ensures spare { HasSpare self.new (R.standing rig.new) (R.room rig.new) }
     {
         let choice = self.machine.choose(&self.sheet, word);
@@ -166,6 +167,7 @@ impl Stack {
         ensures standing { R.standing rig.new ≡ R.standing rig.old }
         ensures room { R.room rig.new ≡ R.room rig.old }
         ensures goes { GoesOn (R.standing rig.old) (R.standing rig.new) (R.log rig.old) (R.log rig.new) (R.faults rig.old) (R.faults rig.new) }
+        ensures armed { R.armed rig.new ≡ R.armed rig.old }
     {
         let op = self.machine.admit(&self.sheet, q) as usize;
         if self.sheet.io(op).count > 0 {
@@ -226,6 +228,7 @@ impl Stack {
         ensures standing { R.standing rig.new ≡ R.standing rig.old }
         ensures spare { HasSpare self.new (R.standing rig.new) (R.room rig.new) }
         ensures goes { GoesOn (R.standing rig.old) (R.standing rig.new) (R.log rig.old) (R.log rig.new) (R.faults rig.old) (R.faults rig.new) }
+        ensures armed { R.armed rig.new ≡ R.armed rig.old }
     {
         self.machine.take(&self.sheet, d, i, &mut self.group);
         self.adapter.carry(

@@ -12,6 +12,7 @@ invariant-loop-stack g l = record {
   reaches : Reaches l.stack (is_some (g.R.Rig.image l.rig)) (g.R.Rig.standing l.rig);
   spare : HasSpare l.stack (g.R.Rig.standing l.rig) (g.R.Rig.room l.rig);
   goes : GoesOn (g.R.Rig.standing l.fn.rig) (g.R.Rig.standing l.rig) (g.R.Rig.log l.fn.rig) (g.R.Rig.log l.rig) (g.R.Rig.faults l.fn.rig) (g.R.Rig.faults l.rig);
+  armed : g.R.Rig.armed l.rig ≡ g.R.Rig.armed l.fn.rig;
 }
 
 abbrev pub decreases-loop-stack : goal.decreases-loop-stack

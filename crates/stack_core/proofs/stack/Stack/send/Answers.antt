@@ -82,5 +82,5 @@ returns-clause-goes g c =
     (λ w b. (let e = (c.carry.ensures.unsent w b).1 in
     goes-as-before (g.R.Rig.standing c.args.rig.now) (g.R.Rig.standing c.carry.new.rig) (g.R.Rig.log c.args.rig.now) (g.R.Rig.log c.carry.new.rig) (g.R.Rig.faults c.args.rig.now) (g.R.Rig.faults c.carry.new.rig)
     c.carry.ensures.standing (ap g.R.Rig.log e) (let k = ap g.R.Rig.faults e in omega (arith, k))))
-    (λ w b. (let x = (c.carry.ensures.sent w b).exchanged in record { standing = c.carry.ensures.standing; more = _; log = x.recorded; faults = x.count }))
-    (λ r. (let x = (c.carry.ensures.fetched r).exchanged in record { standing = c.carry.ensures.standing; more = _; log = x.recorded; faults = x.count }))
+    (λ w b. (let x = (c.carry.ensures.sent w b).exchanged in record { standing = c.carry.ensures.standing; more = _; records = x.recorded; faults = x.count }))
+    (λ r. (let x = (c.carry.ensures.fetched r).exchanged in record { standing = c.carry.ensures.standing; more = _; records = x.recorded; faults = x.count }))
