@@ -141,16 +141,25 @@ fn is_bad(reply: &Reply) -> bool
     }
 }
 
+/// Whether one of these is such a reply.
+fn is_any_bad(replies: &[Reply]) -> bool
+    ensures { result ≡ has_bad replies.now }
+{
+    let mut rest = replies;
+    while let Some((reply, behind)) = rest.split_first() {
+        if is_bad(reply) {
+            return true;
+        }
+        rest = behind;
+    }
+    false
+}
+
 impl Finished {
     /// Whether some block failed, or some stored block couldn't be altered.
     pub fn has_bad(&self) -> bool
         ensures { result ≡ has_bad self.now.stack.replies.items }
     {
-        for reply in self.stack.replies() {
-            if is_bad(reply) {
-                return true;
-            }
-        }
-        false
+        is_any_bad(self.stack.replies())
     }
 }
