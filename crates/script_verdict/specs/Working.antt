@@ -1,6 +1,7 @@
 -- What the parts of a call give each other.
 use Rattle.std.specs.Prelude.{ℕ, ◌≡◌, ◌+◌, ◌⊎◌, List, length, Option, None, Err, Ok, Result}
 use Rattle.dix_base.specs.Told.{Rose}
+use Rattle.image_commands.specs.Views.{View}
 use Rattle.image_commands.specs.declared.fault.Fault.{Fault}
 use Rattle.image_commands.specs.declared.fault.Fault.TheVariants as fault
 use Rattle.script_laws.specs.Keeping.{Keeps}
