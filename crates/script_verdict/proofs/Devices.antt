@@ -1,14 +1,13 @@
-use Rattle.std.proofs.Common.{ℕ, ◌≡◌, true, List, length, take, drop, Option, Some, None, refl, sym, ap, subst, ◌∙◌}
+use Rattle.std.proofs.Common.{ℕ, ◌≡◌, true, List, length, take, drop, Option, Some, None, sym, ap, ◌∙◌}
 use Rattle.std.specs.Prelude.{is_some, map}
 use Rattle.std.proofs.Math.Seq.{take-length}
 use Rattle.image_commands.proofs.Devices.{shapes}
 use Rattle.image_commands.specs.Views.{View}
-use Rattle.pi_scrub.specs.Scrubbed.{HasDevices, device_of}
+use Rattle.pi_scrub.specs.Scrubbed.{HasDevices}
 use Rattle.rig_api.specs.Head.{Head, IsHeadOf, head_of, units_of}
 use Rattle.rig_api.specs.Telling.{Standing, specs_of, units_told}
 use Rattle.rig_discovery.specs.Discovery.{info_of}
 use Rattle.target_answer.specs.Target.{Stored}
-use Rattle.target_answer.specs.declared.units.UnitSpec.{UnitSpec}
 use Rattle.volume_table.specs.declared.device.DeviceInfo.{DeviceInfo}
 use Rattle.script_verdict.specs.Verdict.{WasAsked, devices_of}
 

@@ -1,6 +1,5 @@
-use Rattle.std.proofs.Common.{ℕ, ◌≡◌, ◌⊎◌, inl, inr, ◌+◌, ◌≤◌, List, length, Option, Result, Ok, Err, refl, sym, ap, subst, ◌∙◌, arith, length-append}
+use Rattle.std.proofs.Common.{ℕ, ◌≡◌, ◌⊎◌, inl, inr, ◌+◌, List, Option, Result, Ok, Err, sym, subst, arith}
 use Rattle.std.specs.Prelude.{IfErr, IfOk, MatchResult}
-use Rattle.rig_discovery.specs.Discovery.{looks}
 use Rattle.image_commands.specs.Causes.{CauseUntold}
 use Rattle.image_commands.specs.Views.{View}
 use Rattle.image_commands.specs.declared.fault.Fault.{Fault}
@@ -65,13 +64,3 @@ source_run (Err r) f script read h = inr (script, read, h)
 -- the images' devices told what they are before the call gave up
 pub asked_still : (name : List ℕ) (devices : List DeviceInfo) (old a b : View) → a.image ≡ b.image → a.standing ≡ b.standing → a.seen.units ≡ b.seen.units → a.seen.log ≡ b.seen.log → a.seen.faults ≡ b.seen.faults → WasAsked name devices old b → WasAsked name devices old a
 asked_still name devices old a b i s u l n asked = rw (i, s, u, l, n) asked
-
--- the records of a call stand behind those before it
-pub traced : (run : Finished) (script : Script) (name : List ℕ) (old new : View) → HasRun run script name old new → run.first ≤ length new.seen.log
-traced run script name old new ran =
-    let told = ran.asked.told in
-    let a = ap length told.since.kept.log in
-    let b = ap length told.found.log ∙ length-append told.between.seen.log (looks told.between.standing 0 told.found.answers) in
-    let c = ap length ran.followed.goes.records ∙ length-append ran.told.seen.log ran.followed.goes.more in
-    let d = ran.first in
-    omega (arith, a, b, c, d)

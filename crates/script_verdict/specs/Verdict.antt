@@ -1,4 +1,4 @@
-use Rattle.std.specs.Prelude.{ℕ, ◌≡◌, ◌+◌, ◌≤◌, ◌⊎◌, List, [], length, map, is_some, Option, Some, None, Err, Ok}
+use Rattle.std.specs.Prelude.{ℕ, ◌≡◌, ◌+◌, ◌⊎◌, List, [], length, map, is_some, Option, Some, None, Err, Ok}
 use Rattle.dix_base.specs.Told.{Calm, Rose}
 use Rattle.page_pool.specs.Pages.{IsBlank}
 use Rattle.dix_adapter.specs.Groups.{mode_of}
@@ -19,7 +19,6 @@ use Rattle.stack_ops.specs.declared.reply.Reply.{Reply}
 use Rattle.stack_steps.specs.Does.{Holds}
 use Rattle.stack_view.specs.Steps.{enabled}
 use Rattle.stack_view.specs.View.{View as StackView, start}
-use Rattle.target_answer.specs.declared.units.UnitSpec.{UnitSpec}
 use Rattle.volume_table.specs.Faults.{table_fault, volume_type}
 use Rattle.volume_table.specs.Tables.{MadeFor, Table}
 use Rattle.volume_table.specs.declared.device.DeviceInfo.{DeviceInfo}

@@ -1,6 +1,5 @@
 -- What the parts of a call give each other.
-use Rattle.std.specs.Prelude.{ℕ, ◌≡◌, ◌+◌, ◌⊎◌, List, length, Option, None, Err, Ok, Result}
-use Rattle.dix_base.specs.Told.{Rose}
+use Rattle.std.specs.Prelude.{ℕ, ◌≡◌, ◌+◌, ◌⊎◌, List, length, None, Err, Result}
 use Rattle.image_commands.specs.Views.{View}
 use Rattle.image_commands.specs.declared.fault.Fault.{Fault}
 use Rattle.image_commands.specs.declared.fault.Fault.TheVariants as fault
@@ -8,14 +7,12 @@ use Rattle.script_laws.specs.Keeping.{Keeps}
 use Rattle.script_text.specs.Bindings.{binding_fault}
 use Rattle.script_text.specs.declared.fault.ScriptFault.{ScriptFault}
 use Rattle.script_text.specs.declared.script.Script.{Script}
-use Rattle.script_lines.specs.declared.kind.ScriptKind.TheVariants.{Memory as MemoryKind}
 use Rattle.volume_table.specs.Faults.{table_fault}
 use Rattle.volume_table.specs.Tables.{Table}
 use Rattle.volume_table.specs.declared.device.DeviceInfo.{DeviceInfo}
 use Rattle.volume_table.specs.declared.fault.VolumeFault.TheVariants.{At}
 use Rattle.std.specs.Prelude.{Some}
-use Rattle.source_text.specs.Reading.{TookAtMost, most_bytes}
-use Rattle.script_verdict.specs.Verdict.{Facts, HasRead, HasTable, HoldsFault, WasAsked}
+use Rattle.script_verdict.specs.Verdict.{HasTable, WasAsked}
 use Rattle.script_verdict.specs.declared.refusal.Refusal.{Refusal}
 use Rattle.script_verdict.specs.declared.refusal.Refusal.TheVariants as refusal
 use Rattle.script_verdict.specs.declared.verdict.Bound.{Bound}
