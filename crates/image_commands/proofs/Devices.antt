@@ -31,7 +31,7 @@ told_length : (s : Standing) (dev : ℕ) (xs : List Answer) (found : List Device
 told_length s dev [] found e = let k : found ≡ [] = cc in ap length k
 told_length s dev (x ∷ xs) found e = one_info (told s dev x) (all_told s (dev + 1) xs) found (length xs) e (λ more r. told_length s (dev + 1) xs more r)
 
-shapes : (us : List UnitSpec) (bytes : List ℕ) → map info_of us ≡ map device_of (units_from us bytes)
+pub shapes : (us : List UnitSpec) (bytes : List ℕ) → map info_of us ≡ map device_of (units_from us bytes)
 shapes [] bytes = refl
 shapes (u ∷ us) bytes =
     let same : info_of u ≡ device_of (unit_from u bytes) = ap (λ (v : UnitSpec). info_of v) (sym (shape_is u bytes)) in

@@ -11,4 +11,4 @@ pub use fault::Fault;
 pub use formatting::format_image;
 pub use migrating::migrate_image;
 pub use opening::open_image;
-pub use scrubbing::scrub_image;
+pub use scrubbing::{scrub_image, told_devices};

@@ -1,6 +1,7 @@
 //! Scrubbing an image.
 
-ghost use Rattle.std.specs.Prelude.{◌≡◌, [], MatchResult};
+ghost use Rattle.std.specs.Prelude.{◌≡◌, [], MatchResult, OnOk, length};
+ghost use Rattle.rig_api.specs.Head.{units_of};
 ghost use Rattle.image_commands.specs.Views.{seen, view};
 ghost use Rattle.image_commands.specs.Causes.{CauseUnscrubbed, CauseUntold, WasScrubbed, WasTold};
 
@@ -13,15 +14,16 @@ use rig_discovery::discover;
 use std::alloc::Global;
 use volume_table::DeviceInfo;
 
-/// Opens the image of this name and asks each device what it is.
-fn told_devices<R: Rig>(
+/// Opens the image of this name and asks each of its devices what it is.
+pub fn told_devices<R: Rig>(
     alloc: Global,
     name: &str,
     rig: &mut R,
 ) -> Result<ArrayVec<DeviceInfo, 8>, Fault>
-    ensures { let old = view (R.image rig.old) (R.standing rig.old) (seen (R.units rig.old) (R.log rig.old) (R.faults rig.old)) in
+    ensures told { let old = view (R.image rig.old) (R.standing rig.old) (seen (R.units rig.old) (R.log rig.old) (R.faults rig.old)) in
         let new = view (R.image rig.new) (R.standing rig.new) (seen (R.units rig.new) (R.log rig.new) (R.faults rig.new)) in
         MatchResult result (λ v. WasTold name.now v.items old new) (λ r. CauseUntold r name.now old new) }
+    ensures all { OnOk result ((R.standing rig.new).devices ≡ length (units_of (R.standing rig.new).head)) }
 {
     match open_image(alloc, name, rig) {
         Ok(()) => {}

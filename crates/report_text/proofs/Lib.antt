@@ -1,2 +1,2 @@
-mod Flow
+pub mod Flow
 mod Lines

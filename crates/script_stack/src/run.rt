@@ -5,10 +5,10 @@ ghost use Rattle.stack_view.specs.Runs.{most_steps};
 ghost use Rattle.stack_view.specs.Steps.{enabled};
 ghost use Rattle.stack_view.specs.View.{View};
 ghost use Rattle.stack_steps.specs.Does.{Holds};
-ghost use Rattle.stack_core.specs.Stacks.{HasSpare, IsStack, Reaches, Stays, plan_in};
 ghost use Rattle.stack_core.specs.Walking.{Walks};
 ghost use Rattle.block_path.specs.Acts.{State};
 ghost use Rattle.whole_run.specs.Settings.{Setting};
+ghost use Rattle.stack_core.specs.Stacks.{GoesOn, HasSpare, IsStack, Reaches, Stays, plan_in};
 
 use rig_api::Rig;
 use stack_core::Stack;
@@ -22,6 +22,8 @@ fn run_schedule<R: Rig>(stack: &mut Stack, schedule: &[(u32, u32)], rig: &mut R)
     ensures stays { Stays stack.old stack.new }
     ensures tells { is_some (R.image rig.new) ≡ is_some (R.image rig.old) }
     ensures rig { Reaches stack.new (is_some (R.image rig.new)) (R.standing rig.new) }
+    ensures goes { GoesOn (R.standing rig.old) (R.standing rig.new) (R.log rig.old) (R.log rig.new) (R.faults rig.old) (R.faults rig.new) }
+    ensures armed { R.armed rig.new ≡ R.armed rig.old }
     ensures spare { HasSpare stack.new (R.standing rig.new) (R.room rig.new) }
     ensures walks { (m : Setting) (n : ℕ) (opening : State) (first : ℕ) → Walks m n opening first stack.old (R.standing rig.old) (R.log rig.old) → Walks m n opening first stack.new (R.standing rig.new) (R.log rig.new) }
 {
@@ -44,6 +46,8 @@ fn run_rest<R: Rig>(stack: &mut Stack, rig: &mut R)
     ensures tells { is_some (R.image rig.new) ≡ is_some (R.image rig.old) }
     ensures rig { Reaches stack.new (is_some (R.image rig.new)) (R.standing rig.new) }
     ensures walks { (m : Setting) (n : ℕ) (opening : State) (first : ℕ) → Walks m n opening first stack.old (R.standing rig.old) (R.log rig.old) → Walks m n opening first stack.new (R.standing rig.new) (R.log rig.new) }
+    ensures goes { GoesOn (R.standing rig.old) (R.standing rig.new) (R.log rig.old) (R.log rig.new) (R.faults rig.old) (R.faults rig.new) }
+    ensures armed { R.armed rig.new ≡ R.armed rig.old }
 {
     while !stack.finished() {
         stack.step(0, 0, rig);
@@ -62,6 +66,8 @@ pub fn run_all<R: Rig>(stack: &mut Stack, schedule: &[(u32, u32)], rig: &mut R)
     ensures tells { is_some (R.image rig.new) ≡ is_some (R.image rig.old) }
     ensures rig { Reaches stack.new (is_some (R.image rig.new)) (R.standing rig.new) }
     ensures walks { (m : Setting) (n : ℕ) (opening : State) (first : ℕ) → Walks m n opening first stack.old (R.standing rig.old) (R.log rig.old) → Walks m n opening first stack.new (R.standing rig.new) (R.log rig.new) }
+    ensures goes { GoesOn (R.standing rig.old) (R.standing rig.new) (R.log rig.old) (R.log rig.new) (R.faults rig.old) (R.faults rig.new) }
+    ensures armed { R.armed rig.new ≡ R.armed rig.old }
 {
     run_schedule(stack, schedule, rig);
     run_rest(stack, rig);

@@ -12,6 +12,7 @@ pub mod Planned
 pub mod Opening
 pub mod FirstRooms
 pub mod Going
+pub mod Goes
 pub mod Bads
 pub mod Counts
 pub mod Laid

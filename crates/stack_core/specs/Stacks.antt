@@ -1,5 +1,5 @@
 -- A stack whose steps can be done, and the rigs over which they can.
-use Rattle.std.specs.Prelude.{◌≡◌, ℕ, ◌<◌, ◌≤◌, Bool, List, length, get_or}
+use Rattle.std.specs.Prelude.{◌≡◌, ℕ, ◌<◌, ◌≤◌, Bool, List, ◌++◌, length, get_or}
 use Rattle.std.specs.Vec.{vec_capacity}
 use Rattle.std.specs.declared.alloc.Global.{Global}
 use Rattle.std.specs.declared.vec.Vec.{Vec}
@@ -12,7 +12,7 @@ use Rattle.dix_adapter.specs.declared.adapter.Adapter.{Adapter}
 use Rattle.dix_adapter.specs.Groups.{IsProtect}
 use Rattle.dix_adapter.specs.Room.{HoldsBlocks}
 use Rattle.dix_adapter.specs.Walking.{HasHost}
-use Rattle.rig_api.specs.Log.{HasRoom, Room as Spare}
+use Rattle.rig_api.specs.Log.{Entry, HasRoom, Room as Spare}
 use Rattle.rig_api.specs.Telling.{Standing, greatest_size}
 use Rattle.stack_ops.specs.declared.op.Op.{Op}
 use Rattle.stack_view.specs.Plan.{Plan}
@@ -108,3 +108,10 @@ pub record Stays (old new : Stack) : Type 0 where
   pub sheet : new.sheet ≡ old.sheet
   pub adapter : new.adapter ≡ old.adapter
   pub host : new.host ≡ old.host
+
+-- The rig goes on as it stands: its records are followed by others or by none, and its count of faults doesn't fall.
+pub record GoesOn (st st' : Standing) (log log' : List Entry) (count count' : ℕ) : Type 0 where
+  pub standing : st' ≡ st
+  pub more : List Entry
+  pub records : log' ≡ log ++ more
+  pub faults : count ≤ count'

@@ -12,10 +12,10 @@ ghost use Rattle.stack_core.specs.Replies.{HoldsSeal};
 ghost use Rattle.stack_ops.specs.declared.reply.Reply.TheVariants.{Medium, Silent};
 ghost use Rattle.stack_core.specs.Done.{MadeBy, OpDone, Sealed, WriteMade, WriteMapped};
 ghost use Rattle.stack_core.specs.Doing.{CanDo, CanReach, HasBlocks};
-ghost use Rattle.stack_core.specs.Stacks.{HasSpare, HasStep, IsStack, Reaches, Sends, Stays, Steps, plan_in};
 ghost use Rattle.stack_core.specs.Walking.{IsChosen, Walks, WalksOn};
 ghost use Rattle.block_path.specs.Acts.{State};
 ghost use Rattle.whole_run.specs.Settings.{Setting};
+ghost use Rattle.stack_core.specs.Stacks.{GoesOn, HasSpare, HasStep, IsStack, Reaches, Sends, Stays, Steps, plan_in};
 
 use crate::kept::{Fates, Room, reply_of, shown};
 use crate::pages::{fill, put};
@@ -111,6 +111,8 @@ impl Stack {
         ensures step { Steps (plan_in self.old.sheet) self.old.machine word cut self.new.machine }
         ensures tells { is_some (R.image rig.new) ≡ is_some (R.image rig.old) }
         ensures rig { Reaches self.new (is_some (R.image rig.new)) (R.standing rig.new) }
+        ensures goes { GoesOn (R.standing rig.old) (R.standing rig.new) (R.log rig.old) (R.log rig.new) (R.faults rig.old) (R.faults rig.new) }
+        ensures armed { R.armed rig.new ≡ R.armed rig.old }
         ensures spare { HasSpare self.new (R.standing rig.new) (R.room rig.new) }
         ensures walks { (m : Setting) (n : ℕ) (opening : State) (first : ℕ) → Walks m n opening first self.old (R.standing rig.old) (R.log rig.old) → Walks m n opening first self.new (R.standing rig.new) (R.log rig.new) }
     {
@@ -172,6 +174,8 @@ impl Stack {
         ensures standing { R.standing rig.new ≡ R.standing rig.old }
         ensures room { R.room rig.new ≡ R.room rig.old }
         ensures log { R.log rig.new ≡ R.log rig.old }
+        ensures goes { GoesOn (R.standing rig.old) (R.standing rig.new) (R.log rig.old) (R.log rig.new) (R.faults rig.old) (R.faults rig.new) }
+        ensures armed { R.armed rig.new ≡ R.armed rig.old }
     {
         let op = self.machine.admit(&self.sheet, q) as usize;
         if self.sheet.io(op).count > 0 {
@@ -234,6 +238,8 @@ impl Stack {
         ensures tells { is_some (R.image rig.new) ≡ is_some (R.image rig.old) }
         ensures standing { R.standing rig.new ≡ R.standing rig.old }
         ensures spare { HasSpare self.new (R.standing rig.new) (R.room rig.new) }
+        ensures goes { GoesOn (R.standing rig.old) (R.standing rig.new) (R.log rig.old) (R.log rig.new) (R.faults rig.old) (R.faults rig.new) }
+        ensures armed { R.armed rig.new ≡ R.armed rig.old }
     {
         self.machine.take(&self.sheet, d, i, &mut self.group);
         self.adapter.carry(
@@ -320,6 +326,7 @@ fn overwrite<R: Rig>(rig: &mut R, dev: u32, lba: u64, change: &Change) -> Reply
     ensures room { R.room rig.new ≡ R.room rig.old }
     ensures armed { R.armed rig.new ≡ R.armed rig.old }
     ensures log { R.log rig.new ≡ R.log rig.old }
+    ensures count { R.faults rig.old ≤ R.faults rig.new }
 {
     match rig.overwrite(dev, lba, change) {
         Ok(()) => Reply::Silent,
@@ -338,6 +345,7 @@ fn do_op<R: Rig>(pool: &mut PagePool, op: &Op, kind: GuardKind, room: Room, rig:
     ensures room { R.room rig.new ≡ R.room rig.old }
     ensures armed { R.armed rig.new ≡ R.armed rig.old }
     ensures log { R.log rig.new ≡ R.log rig.old }
+    ensures count { R.faults rig.old ≤ R.faults rig.new }
 {
     match op {
         Op::Fill { seg, byte } => {

@@ -11,8 +11,8 @@ discover-requires-clause-few g c =
     let same = ap (λ (s : Standing). s.devices) c.reserve.ensures.standing in
     omega (arith, few, same, c.in-Ok.ensures.devices)
 
-pub returns-in-Ok-discover : goal.returns-in-Ok-discover
-returns-in-Ok-discover g c =
+pub returns-in-Ok-discover-clause-told : goal.returns-in-Ok-discover-clause-told
+returns-in-Ok-discover-clause-told g c =
     let few = few_units _ c.in-Ok.ensures.opened.judged in
     let same = ap (λ (s : Standing). s.devices) c.reserve.ensures.standing in
     record {
@@ -30,8 +30,8 @@ returns-in-Ok-discover g c =
           (g.met.R.Rig.laid c.reserve.new.self) c.in-Ok-discover.ensures.told;
     }
 
-pub returns-in-Err-discover : goal.returns-in-Err-discover
-returns-in-Err-discover g c = record {
+pub returns-in-Err-discover-clause-told : goal.returns-in-Err-discover-clause-told
+returns-in-Err-discover-clause-told g c = record {
   between = view (g.R.Rig.image c.open_image.new.rig) (g.R.Rig.standing c.open_image.new.rig) (seen (g.R.Rig.units c.open_image.new.rig) (g.R.Rig.log c.open_image.new.rig) (g.R.Rig.faults c.open_image.new.rig));
   since = record {
     opened = c.in-Ok.ensures.opened;

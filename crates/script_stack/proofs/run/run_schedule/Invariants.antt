@@ -3,7 +3,7 @@ use Rattle.std.specs.Prelude.{is_some}
 use Rattle.block_path.specs.Acts.{State}
 use Rattle.whole_run.specs.Settings.{Setting}
 use Rattle.stack_core.specs.Walking.{Walks}
-use Rattle.stack_core.specs.Stacks.{HasSpare, IsStack, Reaches, Stays}
+use Rattle.stack_core.specs.Stacks.{GoesOn, HasSpare, IsStack, Reaches, Stays}
 use Rattle.script_stack.proofs.run.run_schedule.Given as goal
 
 abbrev pub invariant-loop-word : goal.invariant-loop-word
@@ -14,4 +14,6 @@ invariant-loop-word g l = record {
   reaches : Reaches l.stack (is_some (g.R.Rig.image l.rig)) (g.R.Rig.standing l.rig);
   spare : HasSpare l.stack (g.R.Rig.standing l.rig) (g.R.Rig.room l.rig);
   walks : (m : Setting) (n : ℕ) (opening : State) (first : ℕ) → Walks m n opening first l.fn.stack (g.R.Rig.standing l.fn.rig) (g.R.Rig.log l.fn.rig) → Walks m n opening first l.stack (g.R.Rig.standing l.rig) (g.R.Rig.log l.rig);
+  goes : GoesOn (g.R.Rig.standing l.fn.rig) (g.R.Rig.standing l.rig) (g.R.Rig.log l.fn.rig) (g.R.Rig.log l.rig) (g.R.Rig.faults l.fn.rig) (g.R.Rig.faults l.rig);
+  armed : g.R.Rig.armed l.rig ≡ g.R.Rig.armed l.fn.rig;
 }

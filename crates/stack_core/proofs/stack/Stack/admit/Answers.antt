@@ -2,6 +2,7 @@ use Rattle.std.proofs.Common.{◌≡◌, ◌<◌, length, ap, refl, set, subst, 
 use Rattle.std.proofs.lemmas.List.{length-set}
 use Rattle.stack_steps.specs.declared.choice.Choice.TheVariants.{Admit}
 use Rattle.stack_core.specs.Stacks.{plan_in}
+use Rattle.stack_core.proofs.Goes.{goes-as-before, goes-nowhere}
 use Rattle.stack_core.proofs.Facts.{op-enters}
 use Rattle.stack_core.proofs.Keeps.{is-stack}
 use Rattle.stack_core.proofs.Rooms.{taken}
@@ -104,3 +105,11 @@ returns-clause-walks g c = λ ch m n opening first st log w.
     let done' = subst (λ room. OpDone (op_in s.sheet.ops i) s.adapter.kind room s.pool c.do_op-done.new.pool c.do_op-done.result) c.take_room-room.ensures.room done in
     walk_op m n opening first s st log c.requires.stack w _ c.args.q i (record { sheet = refl; adapter = refl; host = refl }) ch (c.admit-op.ensures.step 0) c.admit-op.ensures.op empty c.do_op-done.new.pool c.do_op-done.result done'
     (ap (λ x. record d { pool = c.do_op-done.new.pool; rooms = x; replies = c.set_reply.new.replies.items }) c.take_room-room.ensures.rooms ∙ ap (λ x. record d { pool = c.do_op-done.new.pool; rooms = set s.rooms.items i Nothing; replies = x }) c.set_reply.ensures))
+
+pub returns-then-io-gt0-clause-goes : goal.returns-then-io-gt0-clause-goes
+returns-then-io-gt0-clause-goes g c = goes-nowhere (g.R.Rig.standing c.args.rig.now) (g.R.Rig.log c.args.rig.now) (g.R.Rig.faults c.args.rig.now)
+
+pub returns-clause-goes : goal.returns-clause-goes
+returns-clause-goes g c =
+    goes-as-before (g.R.Rig.standing c.args.rig.now) (g.R.Rig.standing c.do_op-done.new.rig) (g.R.Rig.log c.args.rig.now) (g.R.Rig.log c.do_op-done.new.rig) (g.R.Rig.faults c.args.rig.now) (g.R.Rig.faults c.do_op-done.new.rig)
+    c.do_op-done.ensures.standing c.do_op-done.ensures.log c.do_op-done.ensures.count

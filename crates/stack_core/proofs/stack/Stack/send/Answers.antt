@@ -2,6 +2,7 @@ use Rattle.std.proofs.Common.{ap, refl, subst, sym, ◌∙◌, arith}
 use Rattle.std.specs.Prelude.{is_some}
 use Rattle.dix_adapter.specs.Groups.{size}
 use Rattle.stack_core.specs.Stacks.{plan_in}
+use Rattle.stack_core.proofs.Goes.{either-way, goes-as-before}
 use Rattle.stack_core.proofs.Keeps.{is-stack}
 use Rattle.stack_core.proofs.Sending.{settles-of}
 use Rattle.stack_core.proofs.Sent.{can-carry, holds-fewer, holds-still, sending, sent-works, spare-sent}
@@ -96,3 +97,12 @@ returns-clause-walks g c = λ ch m n opening first w.
     subst (λ st. Walks m n opening first after st (g.R.Rig.log b)) (sym c.carry.ensures.standing)
     (walk_sends m n opening first s (g.R.Rig.standing a) (g.R.Rig.log a) c.requires.stack w after c.args.d c.args.i c.take.new.group.items c.carry.new.fates.items c.take.new.self (record { sheet = refl; adapter = refl; host = refl }) ch c.take.ensures.takes (rw (c.deref-2.ensures.value, c.deref-3.ensures.value) at c.fly.ensures) settles refl
     old new refl (λ e q. ((unsent e q).0, ap g.R.Rig.log (unsent e q).1)) (λ e q. (sent e q).pool_is) (λ e. (fetched e).whole) out came))
+
+pub returns-clause-goes : goal.returns-clause-goes
+returns-clause-goes g c =
+    either-way _ _ _
+    (λ w b. (let e = (c.carry.ensures.unsent w b).1 in
+    goes-as-before (g.R.Rig.standing c.args.rig.now) (g.R.Rig.standing c.carry.new.rig) (g.R.Rig.log c.args.rig.now) (g.R.Rig.log c.carry.new.rig) (g.R.Rig.faults c.args.rig.now) (g.R.Rig.faults c.carry.new.rig)
+    c.carry.ensures.standing (ap g.R.Rig.log e) (let k = ap g.R.Rig.faults e in omega (arith, k))))
+    (λ w b. (let x = (c.carry.ensures.sent w b).exchanged in record { standing = c.carry.ensures.standing; more = _; records = x.recorded; faults = x.count }))
+    (λ r. (let x = (c.carry.ensures.fetched r).exchanged in record { standing = c.carry.ensures.standing; more = _; records = x.recorded; faults = x.count }))

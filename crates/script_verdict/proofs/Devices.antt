@@ -1,0 +1,42 @@
+use Rattle.std.proofs.Common.{ℕ, ◌≡◌, true, List, length, take, drop, Option, Some, None, sym, ap, ◌∙◌}
+use Rattle.std.specs.Prelude.{is_some, map}
+use Rattle.std.proofs.Math.Seq.{take-length}
+use Rattle.image_commands.proofs.Devices.{shapes}
+use Rattle.image_commands.specs.Views.{View}
+use Rattle.pi_scrub.specs.Scrubbed.{HasDevices}
+use Rattle.rig_api.specs.Head.{Head, IsHeadOf, head_of, units_of}
+use Rattle.rig_api.specs.Telling.{Standing, specs_of, units_told}
+use Rattle.rig_discovery.specs.Discovery.{info_of}
+use Rattle.target_answer.specs.Target.{Stored}
+use Rattle.volume_table.specs.declared.device.DeviceInfo.{DeviceInfo}
+use Rattle.script_verdict.specs.Verdict.{WasAsked, devices_of}
+
+-- The devices that a rig told, where it tells its image.
+
+-- devices that are a told rig's are as its head tells them
+as_head : (s : Standing) (devices : List DeviceInfo) (units : Option (List Stored)) (image : List ℕ) → HasDevices devices s units → units ≡ units_told s (Some image) → devices ≡ map info_of (specs_of s)
+as_head s devices units image has laid = has.told _ laid ∙ sym (shapes (specs_of s) (drop 512 image))
+
+known : (s : Standing) (devices : List DeviceInfo) (units : Option (List Stored)) (image : Option (List ℕ)) → HasDevices devices s units → units ≡ units_told s image → is_some image ≡ true → devices ≡ map info_of (specs_of s)
+known s devices units None has laid told = absurd (cc)
+known s devices units (Some image) has laid told = as_head s devices units image has laid
+
+-- the devices of a rig that tells are its head's
+pub known_infos : (name : List ℕ) (devices : List DeviceInfo) (old new : View) → WasAsked name devices old new → new.seen.units ≡ units_told new.standing new.image → is_some new.image ≡ true → devices ≡ map info_of (specs_of new.standing)
+known_infos name devices old new asked laid told = known new.standing devices new.seen.units new.image asked.told.devices_are laid told
+
+all_specs : (s : Standing) → s.devices ≡ length (units_of s.head) → specs_of s ≡ units_of s.head
+all_specs s e = ap (λ n. take n (units_of s.head)) e ∙ take-length (units_of s.head)
+
+headed : (h : Head) (image : List ℕ) (told : Option (List ℕ)) → told ≡ Some image → IsHeadOf h told → h ≡ head_of image
+headed h image told e i = rw e at i
+
+-- they are those of the image
+pub image_devices : (name : List ℕ) (devices : List DeviceInfo) (old new : View) (image : List ℕ) → WasAsked name devices old new → old.image ≡ Some image → devices ≡ devices_of image
+image_devices name devices old new image asked e =
+    let since = asked.told.since in
+    let between = asked.told.between in
+    let told : between.image ≡ Some image = since.kept.image ∙ e in
+    let laid : new.seen.units ≡ units_told new.standing (Some image) = since.units ∙ since.laid ∙ ap (units_told between.standing) told ∙ ap (λ (s : Standing). units_told s (Some image)) (sym since.standing) in
+    let head : new.standing.head ≡ head_of image = ap (λ (s : Standing). s.head) since.standing ∙ headed between.standing.head image between.image told since.opened.head in
+    as_head new.standing devices new.seen.units image asked.told.devices_are laid ∙ ap (map info_of) (all_specs new.standing asked.all ∙ ap units_of head)

@@ -1,0 +1,4 @@
+pub mod Tables
+pub mod Devices
+pub mod Refusing
+pub mod Completing

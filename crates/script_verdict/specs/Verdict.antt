@@ -1,0 +1,168 @@
+use Rattle.std.specs.Prelude.{ℕ, ◌≡◌, ◌+◌, ◌⊎◌, List, [], length, map, is_some, Option, Some, None, Err, Ok}
+use Rattle.dix_base.specs.Told.{Calm, Rose}
+use Rattle.page_pool.specs.Pages.{IsBlank}
+use Rattle.dix_adapter.specs.Groups.{mode_of}
+use Rattle.image_commands.specs.Causes.{CauseUntold, WasTold}
+use Rattle.image_commands.specs.Views.{HasKept, OpenedOnce, View}
+use Rattle.image_commands.specs.declared.fault.Fault.TheVariants as fault
+use Rattle.rig_api.specs.Head.{head_fault, head_of, units_of}
+use Rattle.rig_discovery.specs.Discovery.{info_of}
+use Rattle.script_lines.specs.declared.kind.ScriptKind.TheVariants.{TooMany}
+use Rattle.script_text.specs.Bindings.{binding_fault}
+use Rattle.script_text.specs.Language.{script_in}
+use Rattle.script_text.specs.declared.fault.ScriptFault.{ScriptFault}
+use Rattle.script_text.specs.declared.script.Script.{Script}
+use Rattle.stack_core.specs.Requests.{pages_from, requests_from}
+use Rattle.stack_core.specs.Stacks.{GoesOn, IsStack, Stays, plan_in}
+use Rattle.stack_core.specs.declared.stack.Stack.{Stack}
+use Rattle.stack_ops.specs.declared.reply.Reply.{Reply}
+use Rattle.stack_steps.specs.Does.{Holds}
+use Rattle.stack_view.specs.Steps.{enabled}
+use Rattle.stack_view.specs.View.{View as StackView, start}
+use Rattle.volume_table.specs.Faults.{table_fault, volume_type}
+use Rattle.volume_table.specs.Tables.{MadeFor, Table}
+use Rattle.volume_table.specs.declared.device.DeviceInfo.{DeviceInfo}
+use Rattle.volume_table.specs.declared.entry.Entry.{Entry}
+use Rattle.volume_table.specs.declared.fault.VolumeFault.TheVariants.{At}
+use Rattle.volume_table.specs.declared.fault.VolumeKind.{VolumeKind}
+use Rattle.source_text.specs.Reading.{IsOver, IsWhole, TookAtMost, most_bytes}
+use Rattle.script_verdict.specs.declared.refusal.Refusal.{Refusal}
+use Rattle.script_verdict.specs.declared.refusal.Refusal.TheVariants as refusal
+use Rattle.script_verdict.specs.declared.verdict.Finished.{Finished}
+
+-- what a call speaks of: the name of the image, and the source and the rig, before and after
+pub record Facts : Type 0 where
+  pub name : List ℕ
+  pub left : Option (List ℕ)
+  pub left_after : Option (List ℕ)
+  pub reads : ℕ
+  pub reads_after : ℕ
+  pub rig : View
+  pub rig_after : View
+
+-- The source was read to its end; what it held is the text of this script.
+pub record HasRead (script : Script) (old new : Option (List ℕ)) : Type 0 where
+  pub text : List ℕ
+  pub whole : IsWhole text old new
+  pub reads : script_in text ≡ Ok script
+
+-- The source was read to its end, and this is the first fault of the text that it held; or one byte more was taken than a script may have.
+abbrev pub HoldsFault : ScriptFault → Option (List ℕ) → Option (List ℕ) → Type 0
+HoldsFault f old new = ((text : List ℕ) × IsWhole text old new × (script_in text ≡ Err f)) ⊎ (IsOver old new × (f ≡ record { line = 0; kind = TooMany }))
+
+-- The table of the script's volume over these devices, none of whose entries is at fault.
+pub record HasTable (script : Script) (devices : List DeviceInfo) (table : Table) : Type 0 where
+  pub entries : table.entries ≡ script.entries
+  pub ty : table.ty ≡ volume_type script.entries devices
+  pub made : MadeFor table devices script.block
+
+-- The image of this name was opened, and all of its devices told what they are. Nothing else was done.
+pub record WasAsked (name : List ℕ) (devices : List DeviceInfo) (old new : View) : Type 0 where
+  pub told : WasTold name devices old new
+  pub all : new.standing.devices ≡ length (units_of new.standing.head)
+
+-- The image was opened, its devices told what they are, and an entry of the script's volume is at fault over them, the first.
+pub record HasBadVolume (entry : ℕ) (kind : VolumeKind) (script : Script) (name : List ℕ) (old new : View) : Type 0 where
+  pub devices : List DeviceInfo
+  pub asked : WasAsked name devices old new
+  pub bad : table_fault script.entries devices script.block ≡ Some (At entry kind)
+
+-- No entry is at fault, and the script has a fault over its volume, the first.
+pub record IsUnbound (bad : ScriptFault) (script : Script) (name : List ℕ) (old new : View) : Type 0 where
+  pub devices : List DeviceInfo
+  pub asked : WasAsked name devices old new
+  pub table : Table
+  pub made : HasTable script devices table
+  pub bound : binding_fault script table devices ≡ Some bad
+
+-- The image was opened at most once, its bytes and the records are as before; or it was opened, and no more was done than asking its devices what they are.
+abbrev pub StoppedShort : List ℕ → View → View → Type 0
+StoppedShort name old new = (HasKept old new × OpenedOnce name old.standing new.standing) ⊎ ((devices : List DeviceInfo) × WasAsked name devices old new)
+
+-- Why a script comes to no run over the image of this name, and what that leaves.
+abbrev pub CauseStopped : Refusal → Script → List ℕ → View → View → Type 0
+CauseStopped (refusal.Script bad) script name old new = IsUnbound bad script name old new
+CauseStopped (refusal.Image x) script name old new = CauseUntold (fault.Image x) name old new
+CauseStopped (refusal.BadCapacity dev) script name old new = CauseUntold (fault.BadCapacity dev) name old new
+CauseStopped (refusal.Volume entry kind) script name old new = HasBadVolume entry kind script name old new
+CauseStopped refusal.RigFault script name old new = CauseUntold fault.RigFault name old new
+CauseStopped refusal.Memory script name old new = StoppedShort name old new
+CauseStopped refusal.ReadFault script name old new = ⊥
+
+-- Why a source gives no script: its text has a fault, there is no memory, or the source failed.
+abbrev pub CauseUntaken : Refusal → Option (List ℕ) → Option (List ℕ) → ℕ → ℕ → Type 0
+CauseUntaken (refusal.Script bad) old new o n = HoldsFault bad old new
+CauseUntaken (refusal.Image x) old new o n = ⊥
+CauseUntaken (refusal.BadCapacity dev) old new o n = ⊥
+CauseUntaken (refusal.Volume entry kind) old new o n = ⊥
+CauseUntaken refusal.RigFault old new o n = ⊥
+CauseUntaken refusal.Memory old new o n = TookAtMost (most_bytes + 1) old new
+CauseUntaken refusal.ReadFault old new o n = Rose o n × TookAtMost most_bytes old new
+
+-- Why a call comes to no run: the source gives no script, and the rig is as before; or it was read to its end, and its script comes to no run.
+abbrev pub CauseRefused : Refusal → Facts → Type 0
+CauseRefused r f =
+    (CauseUntaken r f.left f.left_after f.reads f.reads_after × (f.rig_after ≡ f.rig))
+    ⊎ ((script : Script) × HasRead script f.left f.left_after × CauseStopped r script f.name f.rig f.rig_after)
+
+-- The stack of a script over its volume, none of whose ops has begun.
+pub record IsBegun (script : Script) (table : Table) (s : Stack) : Type 0 where
+  pub stack : IsStack s
+  pub first : Holds (plan_in s.sheet) s.machine (start (plan_in s.sheet))
+  pub ops : s.sheet.ops ≡ script.ops
+  pub ios : s.sheet.ios.items ≡ requests_from script.mode.dix script.pages script.ops
+  pub table_is : s.sheet.table ≡ table
+  pub limits : s.sheet.limits ≡ script.limits
+  pub mode : mode_of s.adapter ≡ script.mode
+  pub faults : s.adapter.tamper ≡ script.faults
+  pub pool : IsBlank (pages_from script.mode.dix script.pages script.ops) s.pool
+
+-- All ops of the stack have ended, and what no step changes is as it was.
+pub record IsEnded (begun s : Stack) : Type 0 where
+  pub stack : IsStack s
+  pub stays : Stays begun s
+  pub ended : (v : StackView) → Holds (plan_in s.sheet) s.machine v → enabled (plan_in s.sheet) v ≡ []
+
+-- What the steps of a script over its volume did, from the rig that told what its devices are to the rig as it is afterwards: with these replies.
+pub record Followed (script : Script) (table : Table) (old new : View) (replies : List Reply) : Type 0 where
+  pub tells : is_some new.image ≡ is_some old.image
+  pub goes : GoesOn old.standing new.standing old.seen.log new.seen.log old.seen.faults new.seen.faults
+
+-- The image was opened, its devices told what they are, the script is bound to its volume, and the stack of its ops was run to its end.
+pub record HasRun (run : Finished) (script : Script) (name : List ℕ) (old new : View) : Type 0 where
+  pub devices : List DeviceInfo
+  pub told : View
+  pub asked : WasAsked name devices old told
+  pub table : Table
+  pub made : HasTable script devices table
+  pub bound : binding_fault script table devices ≡ None
+  pub begun : Stack
+  pub starts : IsBegun script table begun
+  pub ends : IsEnded begun run.stack
+  pub followed : Followed script table told new run.stack.replies.items
+  pub first : run.first ≡ length old.seen.log
+
+-- The source was read to its end, and its script was run.
+pub record HasRunSource (run : Finished) (f : Facts) : Type 0 where
+  pub script : Script
+  pub read : HasRead script f.left f.left_after
+  pub ran : HasRun run script f.name f.rig f.rig_after
+
+-- the devices of an image
+abbrev pub devices_of : List ℕ → List DeviceInfo
+devices_of image = map info_of (units_of (head_of image))
+
+abbrev pub table_over : List Entry → List DeviceInfo → Table
+table_over entries devices = record { entries = entries; ty = volume_type entries devices }
+
+-- An image whose head is right, over whose devices the script and its volume have no fault, and no fault of the rig: then the one refusal is want of memory.
+abbrev pub StopsForMemory : Refusal → Script → View → View → Type 0
+StopsForMemory r script old new =
+    (image : List ℕ) → old.image ≡ Some image → head_fault (head_of image) ≡ None → table_fault script.entries (devices_of image) script.block ≡ None →
+    binding_fault script (table_over script.entries (devices_of image)) (devices_of image) ≡ None → Calm old.seen.faults new.seen.faults → r ≡ refusal.Memory
+
+-- A text of the language, such an image, and no fault of source and rig: then the one refusal is want of memory.
+abbrev pub IsComplete : Refusal → Facts → Type 0
+IsComplete r f =
+    (text image : List ℕ) (script : Script) → f.left ≡ Some text → script_in text ≡ Ok script → f.rig.image ≡ Some image → head_fault (head_of image) ≡ None → table_fault script.entries (devices_of image) script.block ≡ None →
+    binding_fault script (table_over script.entries (devices_of image)) (devices_of image) ≡ None → Calm f.reads f.reads_after → Calm f.rig.seen.faults f.rig_after.seen.faults → r ≡ refusal.Memory

@@ -1,0 +1,16 @@
+//! What a call that runs a script comes to: a script is read from a source, bound to the volume of
+//! an image, and run by a stack over its rig; or why it comes to no run. And the texts of both.
+#![tactic(auto)]
+
+mod binding;
+mod line;
+mod refusal;
+mod scripts;
+mod starting;
+mod text;
+mod verdict;
+
+pub use line::{Line, add, add_number};
+pub use refusal::Refusal;
+pub use text::{print_run, print_traced_run};
+pub use verdict::{Finished, run_script, run_source};

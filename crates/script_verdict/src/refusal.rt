@@ -1,0 +1,147 @@
+//! Why a call comes to no run.
+
+ghost use Rattle.std.specs.Prelude.{◌≡◌, ◌⊎◌, ◌≤◌, ◌++◌, codes, decimal, length};
+ghost use Rattle.rig_api.specs.Head.{fault_name};
+ghost use Rattle.script_lines.specs.Kinds.{kind_name, kind_number};
+ghost use Rattle.script_lines.specs.declared.kind.ScriptKind.{ScriptKind};
+ghost use Rattle.volume_table.specs.Faults.{kind_name as volume_kind_name, kind_number as volume_kind_number};
+ghost use Rattle.script_verdict.specs.Texts.{fault_line, refusal_text};
+ghost use Rattle.script_verdict.specs.Working.{refusal_of};
+
+use crate::line::{Line, add, add_number};
+use image_commands::Fault;
+use rig_api::RigFault;
+use script_text::{ScriptFault, ScriptKind};
+use volume_table::VolumeKind;
+
+/// Why a call comes to no run.
+#[derive(Clone, Copy, Debug, PartialEq, Eq)]
+pub enum Refusal {
+    /// The script is not in the language, or may not run over the volume; its first fault.
+    Script(ScriptFault),
+    /// The image's head has this fault: `BadMagic`, `BadHeader` or `BadLength`.
+    Image(RigFault),
+    /// This device's answer to READ CAPACITY(16) is at fault.
+    BadCapacity {
+        /// The number of the device, from 0.
+        dev: u32,
+    },
+    /// An entry of the volume is at fault.
+    Volume {
+        /// The number of the entry, from 1.
+        entry: u32,
+        /// Its first fault.
+        kind: VolumeKind,
+    },
+    /// The rig failed as the image was opened.
+    RigFault,
+    /// Want of memory.
+    Memory,
+    /// The source of the script failed.
+    ReadFault,
+}
+
+impl Refusal {
+    /// The refusal of an image that isn't opened, or whose devices aren't known.
+    pub(crate) fn of(fault: Fault) -> Refusal
+        ensures { result ≡ refusal_of fault }
+    {
+        match fault {
+            Fault::Image(fault) => Refusal::Image(fault),
+            Fault::BadCapacity { dev } => Refusal::BadCapacity { dev },
+            Fault::RigFault => Refusal::RigFault,
+            Fault::Memory => Refusal::Memory,
+        }
+    }
+
+    /// The refusal of a script that isn't read.
+    pub(crate) fn of_script(fault: ScriptFault) -> Refusal
+        ensures memory { fault.kind ≡ ScriptKind.Memory → result ≡ Refusal.Memory }
+        ensures other { (fault.kind ≡ ScriptKind.Memory → ⊥) → result ≡ Refusal.Script fault }
+        ensures either { (result ≡ Refusal.Memory) ⊎ (result ≡ Refusal.Script fault) }
+    {
+        if fault.kind == ScriptKind::Memory {
+            return Refusal::Memory;
+        }
+        Refusal::Script(fault)
+    }
+
+    /// The line that says it.
+    pub fn line(self) -> Line
+        ensures { result.items ≡ refusal_text self }
+    {
+        match self {
+            Refusal::Script(fault) => script_line(fault),
+            Refusal::Image(fault) => image_line(fault),
+            Refusal::BadCapacity { dev } => device_line(dev),
+            Refusal::Volume { entry, kind } => volume_line(entry, kind),
+            Refusal::RigFault => plain_line(b"rig fault\n"),
+            Refusal::Memory => plain_line(b"no memory\n"),
+            Refusal::ReadFault => plain_line(b"read fault\n"),
+        }
+    }
+}
+
+fn plain_line(what: &[u8]) -> Line
+    requires { length what.now ≤ 64 }
+    ensures { result.items ≡ what.now }
+{
+    let mut line = Line::new();
+    add(&mut line, what);
+    line
+}
+
+/// What is at fault, its number, and the number and the name of the fault.
+fn placed_line(what: &[u8], place: u32, number: u8, name: &[u8]) -> Line
+    requires what { length what.now ≤ 16 }
+    requires name { length name.now ≤ 16 }
+    ensures { result.items ≡ fault_line what.now place number name.now }
+{
+    let mut line = Line::new();
+    add(&mut line, what);
+    add(&mut line, b" ");
+    add_number(&mut line, u64::from(place));
+    add(&mut line, b" ");
+    add_number(&mut line, u64::from(number));
+    add(&mut line, b" ");
+    add(&mut line, name);
+    add(&mut line, b"\n");
+    line
+}
+
+fn script_line(fault: ScriptFault) -> Line
+    ensures { result.items ≡ fault_line (codes "script") fault.line (kind_number fault.kind) (kind_name fault.kind) }
+{
+    placed_line(
+        b"script",
+        fault.line,
+        fault.kind.number(),
+        fault.kind.name().as_bytes(),
+    )
+}
+
+fn image_line(fault: RigFault) -> Line
+    ensures { result.items ≡ codes "image " ++ (fault_name fault ++ codes "\n") }
+{
+    let mut line = Line::new();
+    add(&mut line, b"image ");
+    add(&mut line, fault.name().as_bytes());
+    add(&mut line, b"\n");
+    line
+}
+
+fn device_line(dev: u32) -> Line
+    ensures { result.items ≡ codes "device " ++ (decimal dev ++ codes " BadCapacity\n") }
+{
+    let mut line = Line::new();
+    add(&mut line, b"device ");
+    add_number(&mut line, u64::from(dev));
+    add(&mut line, b" BadCapacity\n");
+    line
+}
+
+fn volume_line(entry: u32, kind: VolumeKind) -> Line
+    ensures { result.items ≡ fault_line (codes "volume") entry (volume_kind_number kind) (volume_kind_name kind) }
+{
+    placed_line(b"volume", entry, kind.number(), kind.name().as_bytes())
+}

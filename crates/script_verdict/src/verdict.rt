@@ -1,0 +1,165 @@
+//! The run of a script.
+
+ghost use Rattle.std.specs.Prelude.{◌≡◌, ◌≤◌, IfErr, IfOk, MatchResult, OnOk, length};
+ghost use Rattle.image_commands.specs.Views.{seen, view};
+ghost use Rattle.script_verdict.specs.Texts.{has_bad, is_bad};
+ghost use Rattle.script_verdict.specs.Verdict.{CauseRefused, CauseStopped, Facts, HasRun, HasRunSource, IsComplete, StopsForMemory};
+ghost use Rattle.script_verdict.specs.Working.{IsBound, IsSound};
+
+use crate::binding::bound_table;
+use crate::refusal::Refusal;
+use crate::scripts::take_script;
+use crate::starting::start;
+use arrayvec::ArrayVec;
+use dix_base::Source;
+use image_commands::told_devices;
+use rig_api::Rig;
+use script_stack::{Run, run_all};
+use script_text::Script;
+use stack_core::Stack;
+use stack_ops::Reply;
+use std::alloc::Global;
+use volume_table::{DeviceInfo, VolumeTable};
+
+/// A script that was run to its end.
+#[derive(Drop)]
+pub struct Finished {
+    /// The stack, all of whose ops have ended.
+    pub stack: Stack,
+    /// The number of the first record of the call, from 0.
+    pub first: u32,
+}
+
+/// The devices of an image that was opened, and the table of a script's volume over them.
+#[derive(Drop)]
+struct Bound {
+    devices: ArrayVec<DeviceInfo, 8>,
+    table: VolumeTable,
+}
+
+/// Opens the image, asks its devices what they are, and binds the script to its volume over them.
+fn bind<R: Rig>(alloc: Global, image: &str, script: &Script, rig: &mut R) -> Result<Bound, Refusal>
+    requires { IsSound script.now }
+    ensures { let old = view (R.image rig.old) (R.standing rig.old) (seen (R.units rig.old) (R.log rig.old) (R.faults rig.old)) in
+        let new = view (R.image rig.new) (R.standing rig.new) (seen (R.units rig.new) (R.log rig.new) (R.faults rig.new)) in
+        MatchResult result (λ b. IsBound b script.now image.now old new) (λ r. CauseStopped r script.now image.now old new) }
+{
+    let devices = match told_devices(alloc, image, rig) {
+        Ok(devices) => devices,
+        Err(fault) => return Err(Refusal::of(fault)),
+    };
+    match bound_table(alloc, script, &devices) {
+        Ok(table) => Ok(Bound { devices, table }),
+        Err(refusal) => Err(refusal),
+    }
+}
+
+/// Runs a script over the image of this name: opens the image, asks all of its devices what they are,
+/// binds the script to its volume over them, takes all the memory of the run, and does the steps.
+///
+/// The script keeps the rules of its language. No step is done where a refusal is answered.
+pub fn run_script<R: Rig>(
+    alloc: Global,
+    image: &str,
+    script: Script,
+    rig: &mut R,
+) -> Result<Finished, Refusal>
+    requires { IsSound script }
+    ensures verdict { let old = view (R.image rig.old) (R.standing rig.old) (seen (R.units rig.old) (R.log rig.old) (R.faults rig.old)) in
+        let new = view (R.image rig.new) (R.standing rig.new) (seen (R.units rig.new) (R.log rig.new) (R.faults rig.new)) in
+        MatchResult result (λ r. HasRun r script image.now old new) (λ r. CauseStopped r script image.now old new) }
+    ensures complete { let old = view (R.image rig.old) (R.standing rig.old) (seen (R.units rig.old) (R.log rig.old) (R.faults rig.old)) in
+        let new = view (R.image rig.new) (R.standing rig.new) (seen (R.units rig.new) (R.log rig.new) (R.faults rig.new)) in
+        IfErr result (λ r. StopsForMemory r script old new) }
+    ensures traced { IfOk result (λ r. r.first ≤ length (R.log rig.new)) }
+    ensures armed { OnOk result (R.armed rig.new ≡ script.faults) }
+{
+    let first = rig.records();
+    let bound = match bind(alloc, image, &script, rig) {
+        Ok(bound) => bound,
+        Err(refusal) => return Err(refusal),
+    };
+    let Bound { devices, table } = bound;
+    let run = match start(alloc, script, table, &devices, rig) {
+        Ok(run) => run,
+        Err(_) => return Err(Refusal::Memory),
+    };
+    let Run {
+        mut stack,
+        schedule,
+    } = run;
+    run_all(&mut stack, schedule.as_slice(), rig);
+    Ok(Finished { stack, first })
+}
+
+/// Reads the script that the source holds, to its end but no further than one byte more than a script
+/// may have, and then runs it over the image of this name.
+pub fn run_source<S: Source, R: Rig>(
+    alloc: Global,
+    image: &str,
+    source: &mut S,
+    rig: &mut R,
+) -> Result<Finished, Refusal>
+    ensures verdict { let f : Facts = record {
+      name = image.now;
+      left = S.left source.old;
+      left_after = S.left source.new;
+      reads = S.faults source.old;
+      reads_after = S.faults source.new;
+      rig = view (R.image rig.old) (R.standing rig.old) (seen (R.units rig.old) (R.log rig.old) (R.faults rig.old));
+      rig_after = view (R.image rig.new) (R.standing rig.new) (seen (R.units rig.new) (R.log rig.new) (R.faults rig.new));
+    } in
+        MatchResult result (λ r. HasRunSource r f) (λ r. CauseRefused r f) }
+    ensures complete { let f : Facts = record {
+      name = image.now;
+      left = S.left source.old;
+      left_after = S.left source.new;
+      reads = S.faults source.old;
+      reads_after = S.faults source.new;
+      rig = view (R.image rig.old) (R.standing rig.old) (seen (R.units rig.old) (R.log rig.old) (R.faults rig.old));
+      rig_after = view (R.image rig.new) (R.standing rig.new) (seen (R.units rig.new) (R.log rig.new) (R.faults rig.new));
+    } in
+        IfErr result (λ r. IsComplete r f) }
+    ensures traced { IfOk result (λ r. r.first ≤ length (R.log rig.new)) }
+{
+    match take_script(alloc, source) {
+        Ok(script) => run_script(alloc, image, script, rig),
+        Err(refusal) => Err(refusal),
+    }
+}
+
+/// Whether this is the reply of an op of which something failed.
+fn is_bad(reply: &Reply) -> bool
+    ensures { result ≡ is_bad reply.now }
+{
+    match reply {
+        Reply::Silent => false,
+        Reply::Whole => false,
+        Reply::Bad(_) => true,
+        Reply::Shown(_) => false,
+        Reply::Medium => true,
+    }
+}
+
+/// Whether one of these is such a reply.
+fn is_any_bad(replies: &[Reply]) -> bool
+    ensures { result ≡ has_bad replies.now }
+{
+    let mut rest = replies;
+    while let Some((reply, behind)) = rest.split_first() {
+        if is_bad(reply) {
+            return true;
+        }
+        rest = behind;
+    }
+    false
+}
+
+impl Finished {
+    /// Whether some block failed, or some stored block couldn't be altered.
+    pub fn has_bad(&self) -> bool
+        ensures { result ≡ has_bad self.now.stack.replies.items }
+    {
+        is_any_bad(self.stack.replies())
+    }
+}
