@@ -1,6 +1,7 @@
-use Rattle.std.proofs.Common.{ℕ, ◌≡◌, ◌+◌, ◌≤◌, List, [], ◌++◌, length, Option, Some, None, refl, sym, ap, ◌∙◌, arith, append_assoc, append-nil, length-append}
+use Rattle.std.proofs.Common.{ℕ, ◌≡◌, ◌+◌, ◌≤◌, List, [], ◌++◌, length, take, Option, Some, None, refl, sym, ap, ◌∙◌, arith, append_assoc, append-nil, length-append}
+use Rattle.std.proofs.lemmas.List.{length-take}
 use Rattle.dix_base.specs.Told.{IsAtEnd, Took}
-use Rattle.source_text.specs.Reading.{IsWhole, most_bytes}
+use Rattle.source_text.specs.Reading.{IsWhole, TookAtMost, most_bytes}
 
 -- What was taken from a source, piece by piece.
 
@@ -50,3 +51,10 @@ over_long text all (Some held) (Some left) e t l s =
     let long = ap length (sym same ∙ t) in
     let parts = length-append all left in
     omega (arith, long, parts, l, s)
+
+-- what was taken, and the front of a piece
+pub took_both : (all xs : List ℕ) (k n : ℕ) (a b c : Option (List ℕ)) → Took all a b → Took (take k xs) b c → length all + k ≤ n → TookAtMost n a c
+took_both all xs k n a b c p q l =
+    let e = length-append all (take k xs) in
+    let m = length-take k xs in
+    (all ++ take k xs, took_more all (take k xs) a b c p q, grind (arith, e, m, l))

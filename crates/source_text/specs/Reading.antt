@@ -12,3 +12,7 @@ IsWhole text old new = Took text old new × IsAtEnd new × (length text ≤ most
 -- One byte more than a text may have was taken.
 abbrev pub IsOver : Option (List ℕ) → Option (List ℕ) → Type 0
 IsOver old new = (text : List ℕ) × Took text old new × (length text ≡ most_bytes + 1)
+
+-- At most so many bytes were taken.
+abbrev pub TookAtMost : ℕ → Option (List ℕ) → Option (List ℕ) → Type 0
+TookAtMost most old new = (text : List ℕ) × Took text old new × (length text ≤ most)

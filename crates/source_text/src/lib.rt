@@ -1,9 +1,9 @@
 //! A text that a source holds, read to the source's end.
 #![tactic(auto)]
 
-ghost use Rattle.std.specs.Prelude.{◌≡◌, ◌≤◌, IfOk, IsErrOf};
+ghost use Rattle.std.specs.Prelude.{◌≡◌, ◌+◌, ◌≤◌, IfOk, IsErrOf};
 ghost use Rattle.dix_base.specs.Told.{Rose};
-ghost use Rattle.source_text.specs.Reading.{IsOver, IsWhole};
+ghost use Rattle.source_text.specs.Reading.{IsOver, IsWhole, TookAtMost, most_bytes};
 
 use dix_base::{Failed, Source};
 use std::alloc::Global;
@@ -23,11 +23,14 @@ pub enum Unread {
 }
 
 /// Reads the source to its end, or to one byte more than the 4,194,304 that a text may have. `Failed`
-/// comes only where the source's count of faults rose.
+/// comes only where the source's count of faults rose. Whatever is answered, no more is taken than
+/// that one byte more, and where the source failed no more than a text may have.
 pub fn read_all<S: Source>(alloc: Global, source: &mut S) -> Result<Vec<u8>, Unread>
     ensures whole { IfOk result (λ v. IsWhole v.items (S.left source.old) (S.left source.new)) }
     ensures over { IsErrOf result Unread.TooMany → IsOver (S.left source.old) (S.left source.new) }
     ensures failed { IsErrOf result Unread.Failed → Rose (S.faults source.old) (S.faults source.new) }
+    ensures before { IsErrOf result Unread.Failed → TookAtMost most_bytes (S.left source.old) (S.left source.new) }
+    ensures most { TookAtMost (most_bytes + 1) (S.left source.old) (S.left source.new) }
     ensures count { S.faults source.old ≤ S.faults source.new }
 {
     let mut all = Vec::new(alloc);

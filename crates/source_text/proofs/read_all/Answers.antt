@@ -1,5 +1,5 @@
 use Rattle.std.proofs.Common.{arith, refl}
-use Rattle.source_text.proofs.Taking.{most_is, took_none}
+use Rattle.source_text.proofs.Taking.{most_is, took_both, took_none}
 use Rattle.source_text.proofs.read_all.Goals as goal
 
 pub loop-room-init : goal.loop-room-init
@@ -9,3 +9,8 @@ loop-room-init g c = record {
   sizes = rw c.new-all.ensures.items (rw most_is refl);
   count = omega arith;
 }
+
+pub returns-in-Err-extend_from_slice-clause-most : goal.returns-in-Err-extend_from_slice-clause-most
+returns-in-Err-extend_from_slice-clause-most g c =
+    took_both c.loop-room.all.items c.take.new.buf c.in-Ok.n _ _ _ _ c.loop-room.invariant.taken c.in-Ok.ensures.taken
+    (omega (arith, c.loop-room.invariant.sizes, c.in-Ok.ensures.bound, c.split_at_mut-part.ensures.front_len, c.min.ensures))
