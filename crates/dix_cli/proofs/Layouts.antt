@@ -93,3 +93,86 @@ second_true a b c h = grind arith
 
 pub few_units : (us : List UnitSpec) → is_layout us ≡ true → length us ≤ 8
 few_units us e = leb-true (length us) 8 (second_true _ (leb (length us) 8) _ e)
+
+-- ---- Words of `big` have at most so many ops.
+
+none_big : (c : Command) (words : List (List ℕ)) (n seed : ℕ) → (c ≡ Big n seed → ⊥) → on_image c words ≡ Some (Big n seed) → ⊥
+none_big c words n seed no e = by (is_one_name words) e
+  where
+    by : (b : Bool) → (if b then Some c else None) ≡ Some (Big n seed) → ⊥
+    by true e = no (cc)
+    by false e = cc
+
+layout_not : (us : List UnitSpec) (n seed : ℕ) → (if is_layout us then Some (Format us) else None) ≡ Some (Big n seed) → ⊥
+layout_not us n seed e = by (is_layout us) e
+  where
+    by : (b : Bool) → (if b then Some (Format us) else None) ≡ Some (Big n seed) → ⊥
+    by true e = cc
+    by false e = cc
+
+format_with_not : (x : Option (List UnitSpec)) (n seed : ℕ) → format_with x ≡ Some (Big n seed) → ⊥
+format_with_not None n seed e = cc
+format_with_not (Some us) n seed e = layout_not us n seed e
+
+format_not : (words : List (List ℕ)) (n seed : ℕ) → format_of words ≡ Some (Big n seed) → ⊥
+format_not [] n seed e = cc
+format_not (image ∷ words) n seed e = by (is_name image) e
+  where
+    by : (b : Bool) → (if b then format_with (units_in words) else None) ≡ Some (Big n seed) → ⊥
+    by true e = format_with_not (units_in words) n seed e
+    by false e = cc
+
+modes_with_big : (x : Option PiType) (n seed : ℕ) → modes_with x ≡ Some (Big n seed) → ⊥
+modes_with_big None n seed e = cc
+modes_with_big (Some ty) n seed e = cc
+
+modes_big : (words : List (List ℕ)) (n seed : ℕ) → modes_of words ≡ Some (Big n seed) → ⊥
+modes_big [] n seed e = cc
+modes_big (t ∷ []) n seed e = modes_with_big (type_in t) n seed e
+modes_big (t ∷ u ∷ words) n seed e = cc
+
+within_big : (a b c : Bool) → (a && (b && c)) ≡ true → b ≡ true
+within_big a b c h = grind arith
+
+few_with : (x y : Option ℕ) (n seed : ℕ) → big_with x y ≡ Some (Big n seed) → n ≤ 1024
+few_with None y n seed e = absurd (cc)
+few_with (Some k) None n seed e = absurd (cc)
+few_with (Some k) (Some s) n seed e = by (leb 1 k && (leb k 1024 && ltb s (2 ^ 32))) refl e
+  where
+    by : (b : Bool) → (leb 1 k && (leb k 1024 && ltb s (2 ^ 32))) ≡ b → (if b then Some (Big k s) else None) ≡ Some (Big n seed) → n ≤ 1024
+    by true p e = let same : k ≡ n = cc in let l = leb-true k 1024 (within_big (leb 1 k) (leb k 1024) (ltb s (2 ^ 32)) p) in omega (arith, same, l)
+    by false p e = absurd (cc)
+
+few_of : (words : List (List ℕ)) (n seed : ℕ) → big_of words ≡ Some (Big n seed) → n ≤ 1024
+few_of [] n seed e = absurd (cc)
+few_of (k ∷ []) n seed e = absurd (cc)
+few_of (k ∷ s ∷ []) n seed e = few_with (number_in k) (number_in s) n seed e
+few_of (k ∷ s ∷ more ∷ words) n seed e = absurd (cc)
+
+few_chain : (a b c d f g h i j : Bool) (words : List (List ℕ)) (n seed : ℕ) →
+    (if a then on_image Run words
+    else (if b then on_image Trace words
+    else (if c then format_of words
+    else (if d then on_image Migrate words
+    else (if f then on_image Mirror words
+    else (if g then on_image Scrub words
+    else (if h then on_image Nvme words
+    else (if i then modes_of words
+    else (if j then big_of words
+    else None))))))))) ≡ Some (Big n seed) → n ≤ 1024
+few_chain true b c d f g h i j words n seed e = absurd (none_big Run words n seed (λ k. cc) e)
+few_chain false true c d f g h i j words n seed e = absurd (none_big Trace words n seed (λ k. cc) e)
+few_chain false false true d f g h i j words n seed e = absurd (format_not words n seed e)
+few_chain false false false true f g h i j words n seed e = absurd (none_big Migrate words n seed (λ k. cc) e)
+few_chain false false false false true g h i j words n seed e = absurd (none_big Mirror words n seed (λ k. cc) e)
+few_chain false false false false false true h i j words n seed e = absurd (none_big Scrub words n seed (λ k. cc) e)
+few_chain false false false false false false true i j words n seed e = absurd (none_big Nvme words n seed (λ k. cc) e)
+few_chain false false false false false false false true j words n seed e = absurd (modes_big words n seed e)
+few_chain false false false false false false false false true words n seed e = few_of words n seed e
+few_chain false false false false false false false false false words n seed e = absurd (cc)
+
+pub few_ops : (words : List (List ℕ)) (n seed : ℕ) → command_in words ≡ Some (Big n seed) → n ≤ 1024
+few_ops [] n seed e = absurd (cc)
+few_ops (verb ∷ words) n seed e =
+    few_chain (bytes_eq verb (codes "run")) (bytes_eq verb (codes "trace")) (bytes_eq verb (codes "format")) (bytes_eq verb (codes "migrate")) (bytes_eq verb (codes "mirror")) (bytes_eq verb (codes "scrub")) (bytes_eq verb (codes "nvme"))
+    (bytes_eq verb (codes "modes")) (bytes_eq verb (codes "big")) words n seed e

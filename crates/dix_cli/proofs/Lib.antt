@@ -1,14 +1,6 @@
-mod Acts
 mod Carrying
-mod Exchanges
 mod Endings
-mod Fitting
 mod Flow
-mod FrameLemmas
-mod Headlines
-mod Lines
-mod Looking
-mod Numbers
-mod Running
 mod Layouts
+mod Opening
 mod ScrubLines

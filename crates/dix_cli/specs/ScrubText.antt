@@ -1,7 +1,7 @@
 use Rattle.std.specs.Prelude.{ℕ, ◌+◌, Bool, true, false, List, [], ◌∷◌, ◌++◌, length, codes, decimal}
 use Rattle.volume_table.specs.declared.device.DeviceInfo.{DeviceInfo}
 use Rattle.pi_scrub.specs.declared.found.Found.{Found}
-use Rattle.whole_run.specs.Report.{why_text}
+use Rattle.report_text.specs.Report.{why_text}
 
 -- The text of a scrub.
 

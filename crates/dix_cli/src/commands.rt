@@ -1,21 +1,20 @@
 //! The commands that make images and look after them. None of them reads the source.
 
-ghost use Rattle.std.specs.Prelude.{◌≡◌, ◌≤◌, ◌++◌, ℕ, if◌then◌else◌, List, Option, Some, codes, decimal, length};
+ghost use Rattle.std.specs.Prelude.{◌≡◌, ◌≤◌, ◌++◌, ℕ, List, Option, Some, codes, decimal, length};
 ghost use Rattle.dix_words.specs.Grammar.{command_in, word_bytes};
 ghost use Rattle.dix_words.specs.declared.command.Command.{Command};
 ghost use Rattle.image_commands.specs.Views.{seen, view};
 ghost use Rattle.dix_cli.specs.Verdict.{Ended};
-ghost use Rattle.dix_cli.specs.declared.status.Status.{Status};
 
-use crate::program::{finish, refuse};
+use crate::program::{finish, refuse, status_for};
 use crate::refusal::Refusal;
-use crate::report::{Line, add, add_number};
 use crate::scrub_text::{has_some, scrub_text};
 use crate::status::Status;
 use dix_base::Sink;
 use dix_words::{UnitList, image_of};
 use image_commands::{format_image, migrate_image, scrub_image};
 use rig_api::Rig;
+use script_verdict::{Line, add, add_number};
 use std::alloc::Global;
 
 /// The line that says how many units were formatted or migrated.
@@ -25,7 +24,7 @@ fn count_line(what: &[u8], count: u32) -> Line
 {
     let mut line = Line::new();
     add(&mut line, what);
-    add_number(&mut line, count);
+    add_number(&mut line, u64::from(count));
     add(&mut line, b"\n");
     line
 }
@@ -88,12 +87,6 @@ pub(crate) fn migrate<R: Rig, O: Sink>(
     }
 }
 
-fn scrub_status(bad: bool) -> Status
-    ensures { result ≡ (if bad then Status.SomeBad else Status.Whole) }
-{
-    if bad { Status::SomeBad } else { Status::Whole }
-}
-
 /// `scrub IMAGE`: looks at every stored block of the image, and reports those at fault.
 pub(crate) fn scrub<R: Rig, O: Sink>(
     alloc: Global,
@@ -118,7 +111,7 @@ pub(crate) fn scrub<R: Rig, O: Sink>(
         Err(fault) => return refuse(out, Refusal::of(fault)),
     };
     match scrub_text(alloc, &devices, &found) {
-        Ok(text) => finish(out, &text, scrub_status(has_some(&found))),
-        Err(_) => refuse(out, Refusal::Memory),
+        Ok(text) => finish(out, &text, status_for(has_some(&found))),
+        Err(_) => refuse(out, Refusal::MEMORY),
     }
 }

@@ -2,22 +2,18 @@
 //! report.
 #![tactic(auto)]
 
+mod big;
 mod commands;
-mod fate;
-mod frames;
 mod modes;
 mod nvme;
-mod opening;
 mod program;
 mod refusal;
-mod report;
-mod requests;
-mod runner;
-mod script;
+mod running;
 mod scrub_text;
 mod status;
 #[cfg(test)]
 mod tests;
+mod why;
 mod writing;
 
 use dix_base::{FileStore, StdinSource, StdoutSink};
@@ -63,6 +59,6 @@ fn main(rt: HostRuntime) -> io::Result<ExitCode> {
 fn refusal_of(error: &io::Error) -> Refusal {
     match error.kind() {
         io::ErrorKind::InvalidData => Refusal::Words,
-        _ => Refusal::Memory,
+        _ => Refusal::MEMORY,
     }
 }

@@ -21,6 +21,6 @@ pub(crate) fn modes<O: Sink>(alloc: Global, ty: PiType, out: &mut O) -> Status
 {
     match modes_text(alloc, ty) {
         Ok(text) => finish(out, &text, Status::Whole),
-        Err(_) => refuse(out, Refusal::Memory),
+        Err(_) => refuse(out, Refusal::MEMORY),
     }
 }

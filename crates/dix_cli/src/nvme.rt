@@ -1,13 +1,12 @@
 //! NVM commands on an image.
 
-ghost use Rattle.std.specs.Prelude.{◌≡◌, if◌then◌else◌, Some};
+ghost use Rattle.std.specs.Prelude.{◌≡◌, Some};
 ghost use Rattle.dix_words.specs.Grammar.{command_in, word_bytes};
 ghost use Rattle.dix_words.specs.declared.command.Command.{Command};
 ghost use Rattle.image_commands.specs.Views.{seen, view};
 ghost use Rattle.dix_cli.specs.Verdict.{Ended, Facts};
-ghost use Rattle.dix_cli.specs.declared.status.Status.{Status};
 
-use crate::program::{finish, refuse};
+use crate::program::{finish, refuse, status_for};
 use crate::refusal::Refusal;
 use crate::status::Status;
 use dix_base::{Sink, Source};
@@ -15,12 +14,6 @@ use dix_words::image_of;
 use nvme_command::do_commands;
 use rig_api::Rig;
 use std::alloc::Global;
-
-fn nvme_status(bad: bool) -> Status
-    ensures { result ≡ (if bad then Status.SomeBad else Status.Whole) }
-{
-    if bad { Status::SomeBad } else { Status::Whole }
-}
 
 /// `nvme IMAGE`: does the NVM commands of the source's lines, and writes their completions.
 pub(crate) fn nvme<S: Source, R: Rig, O: Sink>(
@@ -43,7 +36,7 @@ pub(crate) fn nvme<S: Source, R: Rig, O: Sink>(
         Ended f (O.taken out.old) (O.taken out.new) (O.faults out.old) (O.faults out.new) result }
 {
     match do_commands(alloc, image_of(words), source, rig) {
-        Ok(done) => finish(out, &done.text, nvme_status(done.bad)),
+        Ok(done) => finish(out, &done.text, status_for(done.bad)),
         Err(fault) => refuse(out, Refusal::of_commands(fault)),
     }
 }

@@ -1,53 +1,36 @@
-//! Why a call comes to no run.
+//! Why a call of the program comes to nothing.
 
-ghost use Rattle.std.specs.Prelude.{◌≡◌, ◌≤◌, Some, length};
-ghost use Rattle.script_lines.specs.Kinds.{kind_name};
-ghost use Rattle.dix_cli.specs.Verdict.{fault_of, line_text, nvm_fault_of, refusal_text, status_of};
+ghost use Rattle.std.specs.Prelude.{◌≡◌, Some};
+ghost use Rattle.dix_cli.specs.Verdict.{fault_of, nvm_fault_of, refusal_text, status_of};
 
-use crate::report::{Line, add, add_number};
 use crate::status::Status;
 use image_commands::Fault;
 use nvme_command::NvmFault;
-use nvme_lines::LineFault;
-use rig_api::RigFault;
-use script_lines::ScriptKind;
+use script_text::ScriptFault;
+use script_verdict::{Line, Refusal as Stop, add};
 
-/// Why a call comes to no run.
+/// Why a call of the program comes to nothing.
 #[derive(Clone, Copy, Debug, PartialEq, Eq)]
 pub enum Refusal {
     /// The words are not in the grammar.
     Words,
-    /// The script is not in the language.
-    Script,
-    /// This line of the source is at fault.
-    Line(LineFault),
-    /// The image's head has this fault.
-    Image(RigFault),
-    /// This device's answer to READ CAPACITY(16) is at fault.
-    BadCapacity {
-        /// The number of the device, from 0.
-        dev: u32,
-    },
-    /// The image has other units than the one that is served.
-    NotBuilt,
-    /// The rig failed as the image was opened or written.
-    RigFault,
-    /// Want of memory.
-    Memory,
-    /// The source of the script failed.
-    ReadFault,
+    /// The command is refused: for its source, its image, or want of memory.
+    Stopped(Stop),
 }
 
 impl Refusal {
+    /// Want of memory.
+    pub(crate) const MEMORY: Refusal = Refusal::Stopped(Stop::Memory);
+
     /// The refusal that a fault of an image's command is.
     pub(crate) fn of(fault: Fault) -> Refusal
         ensures { fault_of result ≡ Some fault }
     {
         match fault {
-            Fault::Image(fault) => Refusal::Image(fault),
-            Fault::BadCapacity { dev } => Refusal::BadCapacity { dev },
-            Fault::RigFault => Refusal::RigFault,
-            Fault::Memory => Refusal::Memory,
+            Fault::Image(fault) => Refusal::Stopped(Stop::Image(fault)),
+            Fault::BadCapacity { dev } => Refusal::Stopped(Stop::BadCapacity { dev }),
+            Fault::RigFault => Refusal::Stopped(Stop::RigFault),
+            Fault::Memory => Refusal::Stopped(Stop::Memory),
         }
     }
 
@@ -56,9 +39,12 @@ impl Refusal {
         ensures { nvm_fault_of result ≡ Some fault }
     {
         match fault {
-            NvmFault::Line(fault) => Refusal::Line(fault),
+            NvmFault::Line(fault) => Refusal::Stopped(Stop::Script(ScriptFault {
+                line: fault.line,
+                kind: fault.kind,
+            })),
             NvmFault::Image(fault) => Refusal::of(fault),
-            NvmFault::Source => Refusal::ReadFault,
+            NvmFault::Source => Refusal::Stopped(Stop::ReadFault),
         }
     }
 
@@ -68,14 +54,13 @@ impl Refusal {
     {
         match self {
             Refusal::Words => Status::Words,
-            Refusal::Script => Status::Script,
-            Refusal::Line(_) => Status::Script,
-            Refusal::Image(_) => Status::Image,
-            Refusal::BadCapacity { .. } => Status::Image,
-            Refusal::NotBuilt => Status::Image,
-            Refusal::RigFault => Status::RigFault,
-            Refusal::Memory => Status::Memory,
-            Refusal::ReadFault => Status::ReadFault,
+            Refusal::Stopped(Stop::Script(_)) => Status::Script,
+            Refusal::Stopped(Stop::Image(_)) => Status::Image,
+            Refusal::Stopped(Stop::BadCapacity { .. }) => Status::Image,
+            Refusal::Stopped(Stop::Volume { .. }) => Status::Image,
+            Refusal::Stopped(Stop::RigFault) => Status::RigFault,
+            Refusal::Stopped(Stop::Memory) => Status::Memory,
+            Refusal::Stopped(Stop::ReadFault) => Status::ReadFault,
         }
     }
 
@@ -83,51 +68,20 @@ impl Refusal {
     pub(crate) fn line(self) -> Line
         ensures { result.items ≡ refusal_text self }
     {
-        let mut line = Line::new();
         match self {
-            Refusal::Words => add(&mut line, USAGE),
-            Refusal::Script => add(&mut line, b"script 0 0 NotBuilt\n"),
-            Refusal::Line(fault) => return line_for(fault),
-            Refusal::Image(fault) => {
-                add(&mut line, b"image ");
-                add(&mut line, fault.name().as_bytes());
-                add(&mut line, b"\n");
-            }
-            Refusal::BadCapacity { dev } => {
-                add(&mut line, b"device ");
-                add_number(&mut line, dev);
-                add(&mut line, b" BadCapacity\n");
-            }
-            Refusal::NotBuilt => add(&mut line, b"image NotBuilt\n"),
-            Refusal::RigFault => add(&mut line, b"rig fault\n"),
-            Refusal::Memory => add(&mut line, b"no memory\n"),
-            Refusal::ReadFault => add(&mut line, b"read fault\n"),
+            Refusal::Words => usage_line(),
+            Refusal::Stopped(stop) => stop.line(),
         }
-        line
     }
 }
 
-fn kind_name(kind: ScriptKind) -> &'static [u8]
-    ensures name { result.now ≡ kind_name kind }
-    ensures short { length result.now ≤ 16 }
-{
-    kind.name().as_bytes()
-}
-
-/// The line that names a line at fault, with the number and the name of the fault.
-fn line_for(fault: LineFault) -> Line
-    ensures { result.items ≡ line_text fault }
+fn usage_line() -> Line
+    ensures { result.items ≡ refusal_text Refusal.Words }
 {
     let mut line = Line::new();
-    add(&mut line, b"script ");
-    add_number(&mut line, fault.line);
-    add(&mut line, b" ");
-    add_number(&mut line, u32::from(fault.kind.number()));
-    add(&mut line, b" ");
-    add(&mut line, kind_name(fault.kind));
-    add(&mut line, b"\n");
+    add(&mut line, USAGE);
     line
 }
 
 const USAGE: &[u8] =
-    b"usage: dix run IMAGE, format IMAGE T:BLOCKS.., migrate IMAGE, scrub IMAGE, nvme IMAGE, modes T\n";
+    b"usage: dix run IMAGE, trace IMAGE, format IMAGE T:BLOCKS.., migrate IMAGE, scrub IMAGE, nvme IMAGE, modes T, big N SEED\n";

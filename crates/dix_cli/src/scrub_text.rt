@@ -3,13 +3,15 @@
 ghost use Rattle.std.specs.Prelude.{◌≡◌, ◌+◌, ◌≤◌, ◌++◌, IfOk, decimal, length};
 ghost use Rattle.dix_cli.specs.ScrubText.{all_blocks, found_line, found_lines, has_some, last_line, scrub_text};
 
-use crate::report::{Line, add, add_number, add_why};
+use crate::why::add_why;
 use pi_scrub::Found;
+use script_verdict::{Line, add, add_number};
 use std::alloc::{AllocError, Global};
 use volume_table::DeviceInfo;
 
+/// As `add_number`, for a sum that 64 bits may not hold.
 fn add_wide(line: &mut Line, number: u128)
-    requires { length line.old.items + 40 ≤ 256 }
+    requires { length line.old.items + 40 ≤ 512 }
     ensures items { line.new.items ≡ line.old.items ++ decimal number }
     ensures bound { length line.new.items ≤ length line.old.items + 40 }
 {
@@ -23,9 +25,9 @@ fn line_of(found: Found) -> Line
 {
     let mut line = Line::new();
     add(&mut line, b"bad ");
-    add_number(&mut line, found.dev);
+    add_number(&mut line, u64::from(found.dev));
     add(&mut line, b" ");
-    add_wide(&mut line, found.lba as u128);
+    add_number(&mut line, found.lba);
     add(&mut line, b" ");
     add_why(&mut line, found.why);
     add(&mut line, b"\n");
@@ -40,7 +42,7 @@ fn last_line(blocks: u128, bad: usize) -> Line
     add(&mut line, b"scrubbed ");
     add_wide(&mut line, blocks);
     add(&mut line, b" bad ");
-    add_wide(&mut line, bad as u128);
+    add_number(&mut line, bad as u64);
     add(&mut line, b"\n");
     line
 }

@@ -12,9 +12,9 @@ pub enum Status {
     SomeBad,
     /// The words are not in the grammar.
     Words,
-    /// The script is not in the language.
+    /// The script is not in the language, or may not run over its volume; or a line of NVM commands is at fault.
     Script,
-    /// The image's head is at fault, or the image has other units than the one that is served.
+    /// The image's head, the answer of one of its devices, or the volume over them is at fault.
     Image,
     /// The rig failed as the image was opened.
     RigFault,

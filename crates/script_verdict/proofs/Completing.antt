@@ -20,29 +20,18 @@ use Rattle.volume_table.specs.declared.fault.VolumeFault.{VolumeFault}
 use Rattle.volume_table.specs.declared.fault.VolumeFault.TheVariants.{At}
 use Rattle.volume_table.specs.declared.fault.VolumeKind.{VolumeKind}
 use Rattle.script_verdict.proofs.Devices.{image_devices}
-use Rattle.source_text.proofs.Taking.{most_is}
+use Rattle.source_text.proofs.Taking.{most_is, whole_text}
 use Rattle.source_text.specs.Reading.{IsOver, IsWhole}
-use Rattle.script_verdict.specs.Verdict.{CauseRefused, CauseStopped, CauseUntaken, Facts, HasBadVolume, HasRead, HasRunSource, HasTable, HoldsFault, IsComplete, IsUnbound, StopsForMemory, devices_of, table_over}
+use Rattle.script_verdict.specs.Verdict.{CauseRefused, CauseStopped, CauseUntaken, Facts, HasBadVolume, HasRead, HasRunSource, HasTable, HoldsFault, IsComplete, IsUnbound, StopsFromOutside, devices_of, table_over}
 use Rattle.script_verdict.specs.declared.verdict.Finished.{Finished}
 use Rattle.script_verdict.specs.declared.refusal.Refusal.{Refusal}
 use Rattle.script_verdict.specs.declared.refusal.Refusal.TheVariants as refusal
 
--- Where nothing is at fault the one refusal is want of memory.
+-- Where nothing is at fault in text and image, what is refused comes from outside.
 
-never_rose : (o n : ℕ) → Calm o n → Rose o n → ⊥
+pub never_rose : (o n : ℕ) → Calm o n → Rose o n → ⊥
 never_rose o n c (inl r) = omega (arith, c.0, r)
 never_rose o n c (inr r) = omega (arith, c.1, r)
-
--- what a told source held is what was read
-read_is : (text held : List ℕ) (new : Option (List ℕ)) → IsWhole text (Some held) new → text ≡ held
-read_is text held None w = absurd w.0
-read_is text held (Some left) w =
-    let none : left ≡ [] = w.1 in
-    let all : held ≡ text ++ left = w.0 in
-    sym (append-nil text) ∙ ap (λ v. text ++ v) (sym none) ∙ sym all
-
-whole_text : (text held : List ℕ) (old new : Option (List ℕ)) → old ≡ Some held → IsWhole text old new → text ≡ held
-whole_text text held old new e w = let v = rw e at w in read_is text held new v
 
 same_script : (f : Facts) (text : List ℕ) (script found : Script) → f.left ≡ Some text → script_in text ≡ Ok script → HasRead found f.left f.left_after → found ≡ script
 same_script f text script found l s read =
@@ -92,28 +81,28 @@ not_bad image script entry kind name old new i t u =
 headed : (h : Head) (image : List ℕ) (told : Option (List ℕ)) → told ≡ Some image → IsHeadOf h told → h ≡ head_of image
 headed h image told e i = rw e at i
 
-no_head_fault : (image : List ℕ) (x : RigFault) (name : List ℕ) (old new : View) → old.image ≡ Some image → new.image ≡ old.image → head_fault (head_of image) ≡ None → WasOpened name (Some x) old new → ⊥
+pub no_head_fault : (image : List ℕ) (x : RigFault) (name : List ℕ) (old new : View) → old.image ≡ Some image → new.image ≡ old.image → head_fault (head_of image) ≡ None → WasOpened name (Some x) old new → ⊥
 no_head_fault image x name old new i same h opened =
     let e : new.standing.head ≡ head_of image = headed new.standing.head image new.image (same ∙ i) opened.head in
     let k : ◌≡◌ {A = Option RigFault} None (Some x) = sym h ∙ ap head_fault (sym e) ∙ opened.judged in
     absurd (cc)
 
 -- a rig that tells its image answers rightly for its capacities
-told_is_good : (image name : List ℕ) (dev : ℕ) (old new : View) → old.image ≡ Some image → IsBad name dev old new → ⊥
+pub told_is_good : (image name : List ℕ) (dev : ℕ) (old new : View) → old.image ≡ Some image → IsBad name dev old new → ⊥
 told_is_good image name dev old new e b =
     let told : is_some b.between.seen.units ≡ true = ap is_some (b.since.laid ∙ ap (units_told b.between.standing) (b.since.kept.image ∙ e)) in
     let untold : is_some b.between.seen.units ≡ false = b.untold in
     let k : true ≡ false = sym told ∙ untold in
     absurd (cc)
 
-pub stops_for_memory : (r : Refusal) (script : Script) (name : List ℕ) (old new : View) → CauseStopped r script name old new → StopsForMemory r script old new
-stops_for_memory (refusal.Script bad) script name old new c = λ image i h t b calm. absurd (not_unbound image script bad name old new i b c)
-stops_for_memory (refusal.Image x) script name old new c = λ image i h t b calm. absurd (no_head_fault image x name old new i c.1.image h c.0)
-stops_for_memory (refusal.BadCapacity dev) script name old new c = λ image i h t b calm. absurd (told_is_good image name dev old new i c)
-stops_for_memory (refusal.Volume entry kind) script name old new c = λ image i h t b calm. absurd (not_bad image script entry kind name old new i t c)
-stops_for_memory refusal.RigFault script name old new c = λ image i h t b calm. absurd (never_rose old.seen.faults new.seen.faults calm c.0)
-stops_for_memory refusal.Memory script name old new c = λ image i h t b calm. refl
-stops_for_memory refusal.ReadFault script name old new c = absurd c
+pub stops_from_outside : (r : Refusal) (script : Script) (name : List ℕ) (old new : View) → CauseStopped r script name old new → StopsFromOutside r script old
+stops_from_outside (refusal.Script bad) script name old new c = λ image i h t b. absurd (not_unbound image script bad name old new i b c)
+stops_from_outside (refusal.Image x) script name old new c = λ image i h t b. absurd (no_head_fault image x name old new i c.1.image h c.0)
+stops_from_outside (refusal.BadCapacity dev) script name old new c = λ image i h t b. absurd (told_is_good image name dev old new i c)
+stops_from_outside (refusal.Volume entry kind) script name old new c = λ image i h t b. absurd (not_bad image script entry kind name old new i t c)
+stops_from_outside refusal.RigFault script name old new c = λ image i h t b. inr refl
+stops_from_outside refusal.Memory script name old new c = λ image i h t b. inl refl
+stops_from_outside refusal.ReadFault script name old new c = absurd c
 
 -- a source without a fault gives its script
 untaken_for_memory : (r : Refusal) (f : Facts) (text : List ℕ) (script : Script) → f.left ≡ Some text → script_in text ≡ Ok script → Calm f.reads f.reads_after → CauseUntaken r f.left f.left_after f.reads f.reads_after → r ≡ refusal.Memory
@@ -126,11 +115,11 @@ untaken_for_memory refusal.Memory f text script l s calm c = refl
 untaken_for_memory refusal.ReadFault f text script l s calm c = absurd (never_rose f.reads f.reads_after calm c.0)
 
 pub complete : (r : Refusal) (f : Facts) → CauseRefused r f → IsComplete r f
-complete r f (inl c) = λ text image script l s i h t b cr cf. untaken_for_memory r f text script l s cr c.0
-complete r f (inr c) = λ text image script l s i h t b cr cf.
+complete r f (inl c) = λ text image script l s i h t b cr. inl (untaken_for_memory r f text script l s cr c.0)
+complete r f (inr c) = λ text image script l s i h t b cr.
     let e : c.0 ≡ script = same_script f text script c.0 l s c.1 in
     let stopped = subst (λ (v : Script). CauseStopped r v f.name f.rig f.rig_after) e c.2 in
-    stops_for_memory r script f.name f.rig f.rig_after stopped image i h t b cf
+    stops_from_outside r script f.name f.rig f.rig_after stopped image i h t b
 
 pub all_complete : (r : Result Finished Refusal) (f : Facts) → MatchResult r (λ x. HasRunSource x f) (λ x. CauseRefused x f) → IfErr r (λ x. IsComplete x f)
 all_complete (Ok run) f h = tt

@@ -155,14 +155,18 @@ devices_of image = map info_of (units_of (head_of image))
 abbrev pub table_over : List Entry → List DeviceInfo → Table
 table_over entries devices = record { entries = entries; ty = volume_type entries devices }
 
--- An image whose head is right, over whose devices the script and its volume have no fault, and no fault of the rig: then the one refusal is want of memory.
-abbrev pub StopsForMemory : Refusal → Script → View → View → Type 0
-StopsForMemory r script old new =
-    (image : List ℕ) → old.image ≡ Some image → head_fault (head_of image) ≡ None → table_fault script.entries (devices_of image) script.block ≡ None →
-    binding_fault script (table_over script.entries (devices_of image)) (devices_of image) ≡ None → Calm old.seen.faults new.seen.faults → r ≡ refusal.Memory
+-- want of memory, or a fault of the rig as the image is opened
+abbrev pub IsFromOutside : Refusal → Type 0
+IsFromOutside r = (r ≡ refusal.Memory) ⊎ (r ≡ refusal.RigFault)
 
--- A text of the language, such an image, and no fault of source and rig: then the one refusal is want of memory.
+-- An image whose head is right, over whose devices the script and its volume have no fault: then nothing in them is refused.
+abbrev pub StopsFromOutside : Refusal → Script → View → Type 0
+StopsFromOutside r script old =
+    (image : List ℕ) → old.image ≡ Some image → head_fault (head_of image) ≡ None → table_fault script.entries (devices_of image) script.block ≡ None →
+    binding_fault script (table_over script.entries (devices_of image)) (devices_of image) ≡ None → IsFromOutside r
+
+-- A text of the language, such an image, and no fault of the source: then nothing in them is refused.
 abbrev pub IsComplete : Refusal → Facts → Type 0
 IsComplete r f =
     (text image : List ℕ) (script : Script) → f.left ≡ Some text → script_in text ≡ Ok script → f.rig.image ≡ Some image → head_fault (head_of image) ≡ None → table_fault script.entries (devices_of image) script.block ≡ None →
-    binding_fault script (table_over script.entries (devices_of image)) (devices_of image) ≡ None → Calm f.reads f.reads_after → Calm f.rig.seen.faults f.rig_after.seen.faults → r ≡ refusal.Memory
+    binding_fault script (table_over script.entries (devices_of image)) (devices_of image) ≡ None → Calm f.reads f.reads_after → IsFromOutside r

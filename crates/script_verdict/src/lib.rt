@@ -6,7 +6,6 @@ mod binding;
 mod line;
 mod refusal;
 mod scripts;
-mod starting;
 mod text;
 mod verdict;
 

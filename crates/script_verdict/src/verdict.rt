@@ -3,18 +3,17 @@
 ghost use Rattle.std.specs.Prelude.{◌≡◌, ◌≤◌, IfErr, IfOk, MatchResult, OnOk, length};
 ghost use Rattle.image_commands.specs.Views.{seen, view};
 ghost use Rattle.script_verdict.specs.Texts.{has_bad, is_bad};
-ghost use Rattle.script_verdict.specs.Verdict.{CauseRefused, CauseStopped, Facts, HasRun, HasRunSource, IsComplete, StopsForMemory};
+ghost use Rattle.script_verdict.specs.Verdict.{CauseRefused, CauseStopped, Facts, HasRun, HasRunSource, IsComplete, StopsFromOutside};
 ghost use Rattle.script_verdict.specs.Working.{IsBound, IsSound};
 
 use crate::binding::bound_table;
 use crate::refusal::Refusal;
 use crate::scripts::take_script;
-use crate::starting::start;
 use arrayvec::ArrayVec;
 use dix_base::Source;
 use image_commands::told_devices;
 use rig_api::Rig;
-use script_stack::{Run, run_all};
+use script_stack::{Run, ready_script, run_all};
 use script_text::Script;
 use stack_core::Stack;
 use stack_ops::Reply;
@@ -69,8 +68,7 @@ pub fn run_script<R: Rig>(
         let new = view (R.image rig.new) (R.standing rig.new) (seen (R.units rig.new) (R.log rig.new) (R.faults rig.new)) in
         MatchResult result (λ r. HasRun r script image.now old new) (λ r. CauseStopped r script image.now old new) }
     ensures complete { let old = view (R.image rig.old) (R.standing rig.old) (seen (R.units rig.old) (R.log rig.old) (R.faults rig.old)) in
-        let new = view (R.image rig.new) (R.standing rig.new) (seen (R.units rig.new) (R.log rig.new) (R.faults rig.new)) in
-        IfErr result (λ r. StopsForMemory r script old new) }
+        IfErr result (λ r. StopsFromOutside r script old) }
     ensures traced { IfOk result (λ r. r.first ≤ length (R.log rig.new)) }
     ensures armed { OnOk result (R.armed rig.new ≡ script.faults) }
 {
@@ -80,7 +78,7 @@ pub fn run_script<R: Rig>(
         Err(refusal) => return Err(refusal),
     };
     let Bound { devices, table } = bound;
-    let run = match start(alloc, script, table, &devices, rig) {
+    let run = match ready_script(alloc, script, table, &devices, rig) {
         Ok(run) => run,
         Err(_) => return Err(Refusal::Memory),
     };

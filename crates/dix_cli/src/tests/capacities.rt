@@ -146,10 +146,10 @@ fn a_right_capacity_is_gone_by(rt: HostRuntime) -> Result<(), Fail> {
         "dix scrub 1\nbad 0 0 short\nbad 0 1 short\nbad 0 2 short\nbad 0 3 short\nscrubbed 4 bad 4\n"
     );
     assert_eq!(rt; seen.records, 5);
-    // What it is, is what it answers: here another device than the program runs on.
-    let five = ([0, 0, 0, 0, 0, 0, 0, 4], [2, 0], 1);
-    let answers = vec![in alloc; answer(alloc, GOOD, five)?]?;
+    // What it is, is what it answers: here it has too few blocks for the volume.
+    let three = ([0, 0, 0, 0, 0, 0, 0, 2], [2, 0], 1);
+    let answers = vec![in alloc; answer(alloc, GOOD, three)?]?;
     let seen = answered(alloc, "format|a|1:4", "run|a", answers)?;
-    assert_eq!(rt; seen.text.as_str(), "image NotBuilt\n");
+    assert_eq!(rt; seen.text.as_str(), "volume 1 3 PastEnd\n");
     Ok(())
 }

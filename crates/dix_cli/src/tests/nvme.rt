@@ -1,31 +1,23 @@
-//! NVM commands on images in memory, and the map of finders.
+//! Rows of NVM commands on images in memory, and the map of finders.
 
-use super::{Faults, NO_FAULTS, left_by, words_of};
-use std::alloc::Global;
-use std::test::Fail;
-
-/// A call: its words, the source's lines, the call of the store that fails, the status and the text.
-///
-/// In a line the words are those bytes of a command that aren't always 0: opcode, fuse, namespace,
-/// first block, dword 12, initial reference tag, application tag, mask; then FILL and META. A line of
-/// fewer words goes into the source as it stands.
-type Step = (&'static str, &'static str, u64, u8, &'static str);
+use super::rows::Outside::{Nothing, Room, Source, Store};
+use super::rows::Row;
 
 /// One after another on one image.
-const STEPS: &[Step] = &[
-    ("format|a|1:64", "", 0, 0, "formatted 1\n"),
+pub(super) const COMMANDS: &[Row] = &[
+    ("format|a|1:64", "", Nothing, 0, "formatted 1\n"),
     // A write with PRACT, and a read of what it stored with its tuple.
     (
         "nvme|a",
         "01 00 01000000 0000000000000000 00000034 00000000 3412 0000 00 -\n",
-        0,
+        Nothing,
         0,
         "00 00\n",
     ),
     (
         "nvme|a",
         "02 00 01000000 0000000000000000 00000014 00000000 0000 0000 00 -\n",
-        0,
+        Nothing,
         0,
         "00 00 0000 0000123400000000\n",
     ),
@@ -33,28 +25,28 @@ const STEPS: &[Step] = &[
     (
         "nvme|a",
         "02 00 01000000 0000000000000000 00000014 01000000 0000 0000 00 -\n",
-        0,
+        Nothing,
         1,
         "01 81\n",
     ),
     (
         "nvme|a",
         "02 00 01000000 4000000000000000 00000014 40000000 0000 0000 00 -\n",
-        0,
+        Nothing,
         1,
         "00 80\n",
     ),
     (
         "nvme|a",
         "03 00 01000000 0000000000000000 00000014 00000000 0000 0000 00 -\n",
-        0,
+        Nothing,
         1,
         "00 01\n",
     ),
     (
         "nvme|a",
         "02 00 02000000 0000000000000000 00000014 00000000 0000 0000 00 -\n",
-        0,
+        Nothing,
         1,
         "00 0b\n",
     ),
@@ -62,7 +54,7 @@ const STEPS: &[Step] = &[
     (
         "nvme|a",
         "# a read\n\n02 00 01000000 0000000000000000 00000034 00000000 0000 0000 aF -\n",
-        0,
+        Nothing,
         0,
         "00 00 0000 -\n",
     ),
@@ -73,7 +65,7 @@ const STEPS: &[Step] = &[
         "01 00 01000000 0400000000000000 01000014 04000000 0000 0000 00 00000000000000040001000000000005\n\
          02 00 01000000 0400000000000000 00000014 04000000 0000 0000 00 -\n\
          02 00 01000000 0500000000000000 00000010 00000000 0000 0000 00 -\n",
-        0,
+        Nothing,
         1,
         "02 82\n00 00 0000 0000000000000004\n00 00 0000 0000000000000005\n",
     ),
@@ -83,7 +75,7 @@ const STEPS: &[Step] = &[
         "01 00 01000000 0600000000000000 00000000 00000000 0000 0000 00 0000000000000009\n\
          02 00 01000000 0600000000000000 00000014 06000000 0000 0000 00 -\n\
          02 00 01000000 0600000000000000 00000000 00000000 0000 0000 00 -\n",
-        0,
+        Nothing,
         1,
         "00 00\n02 84\n00 00 0000 0000000000000009\n",
     ),
@@ -92,28 +84,28 @@ const STEPS: &[Step] = &[
         "nvme|a",
         "01 00 01000000 0100000000000000 00000034 01000000 ffff 0000 00 -\n\
          01 00 01000000 0000000000000000 00000014 00000000 0000 0000 00 -\n",
-        0,
+        Nothing,
         3,
         "script 2 11 BadRange\n",
     ),
     (
         "nvme|a",
         "01 00 01000000 0000000000000000 00000014 00000000 0000 0000 00 000000000000000000\n",
-        0,
+        Nothing,
         3,
         "script 1 11 BadRange\n",
     ),
     (
         "nvme|a",
         "\n01 00 01000000 0000000000000000 00000034 00000000 0000 0000 00 0000000000000000\n",
-        0,
+        Nothing,
         3,
         "script 2 11 BadRange\n",
     ),
     (
         "nvme|a",
         "02 00 01000000 0100000000000000 00000014 01000000 0000 0000 00 0000000000000001\n",
-        0,
+        Nothing,
         3,
         "script 1 11 BadRange\n",
     ),
@@ -121,21 +113,21 @@ const STEPS: &[Step] = &[
     (
         "nvme|a",
         "01 00 01000000 0000000000000000 00000014 00000000 0000 0000 00 -\nx\n",
-        0,
+        Nothing,
         3,
         "script 2 4 BadNumber\n",
     ),
     (
         "nvme|a",
         "03 00 01000000 0000000000000000 00000014 00000000 0000 0000 00 00\n",
-        0,
+        Nothing,
         1,
         "00 01\n",
     ),
     (
         "nvme|a",
         "02 00 01000000 0100000000000000 00000014 01000000 0000 0000 00 -\n",
-        0,
+        Nothing,
         0,
         "00 00 0000 0000000000000001\n",
     ),
@@ -143,7 +135,7 @@ const STEPS: &[Step] = &[
     (
         "nvme|a",
         "02 00 01000000 0100000000000000 00000014 01000000 0000 0000 00 -\n",
-        1,
+        Store(1),
         5,
         "rig fault\n",
     ),
@@ -151,22 +143,22 @@ const STEPS: &[Step] = &[
         "nvme|a",
         "02 00 01000000 0100000000000000 00000014 01000000 0000 0000 00 -\n\
          02 00 01000000 0100000000000000 00000014 01000000 0000 0000 00 -\n",
-        2,
+        Store(2),
         1,
         "02 81\n00 00 0000 0000000000000001\n",
     ),
     (
         "nvme|a",
         "01 00 01000000 0700000000000000 00000034 07000000 0000 0000 00 -\n",
-        2,
+        Store(2),
         1,
         "02 80\n",
     ),
     // No line is no command.
-    ("nvme|a", "", 0, 0, ""),
-    ("nvme|a", "# nothing", 0, 0, ""),
+    ("nvme|a", "", Nothing, 0, ""),
+    ("nvme|a", "# nothing", Nothing, 0, ""),
     // Blocks of 4,096 bytes of a unit of type 2 with tags of the command's own, and of type 0.
-    ("format|a|2:4:4096:16|0:2", "", 0, 0, "formatted 2\n"),
+    ("format|a|2:4:4096:16|0:2", "", Nothing, 0, "formatted 2\n"),
     (
         "nvme|a",
         "01 00 01000000 1000000000000000 01000034 ffffffff 3412 0000 00 -\n\
@@ -174,14 +166,18 @@ const STEPS: &[Step] = &[
          02 00 01000000 1000000000000000 0100001c ffffffff 3512 ffff 00 -\n\
          01 00 02000000 0000000000000000 00000034 00000000 0000 0000 55 -\n\
          02 00 02000000 0000000000000000 0000003c 00000000 0000 0000 00 -\n",
-        0,
+        Nothing,
         1,
         "00 00\n00 00 0000 00001234ffffffff0000123400000000\n02 83\n00 00\n00 00 5d9f -\n",
     ),
-    ("modes|0", "x", 0, 0, BARE),
-    ("modes|1", "x", 1, 0, WITH_TUPLES),
-    ("modes|2", "", 0, 0, WITH_TUPLES),
-    ("modes|3", "", 0, 0, WITH_TUPLES),
+    ("nvme|a", "", Source(1), 7, "read fault\n"),
+    ("nvme|a", "# ", Room(0), 0, ""),
+    ("nvme|a", "x\n", Nothing, 3, "script 1 4 BadNumber\n"),
+    ("nvme|a", "x\n", Room(8), 8, "script 1"),
+    ("modes|0", "x", Nothing, 0, BARE),
+    ("modes|1", "x", Store(1), 0, WITH_TUPLES),
+    ("modes|2", "", Nothing, 0, WITH_TUPLES),
+    ("modes|3", "", Nothing, 0, WITH_TUPLES),
 ];
 
 const BARE: &str = "off off - none none none none none none
@@ -203,69 +199,3 @@ on on 1 adapter target target target adapter owner
 on on 3 adapter adapter adapter adapter adapter owner
 on on 4 adapter target target target adapter owner
 ";
-
-/// The digits that stand behind each word of a line, the first eight of which make a command.
-const BEHIND: [&str; 8] = [
-    "",
-    "0000",
-    "0000000000000000000000000000000000000000000000000000000000000000",
-    "",
-    "00000000",
-    "",
-    "",
-    "",
-];
-
-/// A line with the bytes that are 0.
-fn expanded(alloc: Global, line: &str) -> Result<String, Fail> {
-    let mut text = String::new(alloc);
-    if line.split(' ').count() < 10 {
-        text.push_str(line)?;
-        return Ok(text);
-    }
-    for (i, word) in line.split(' ').enumerate() {
-        if i > 7 {
-            text.push_str(" ")?;
-        }
-        text.push_str(word)?;
-        if let Some(zeros) = BEHIND.get(i) {
-            text.push_str(zeros)?;
-        }
-    }
-    Ok(text)
-}
-
-fn source_of(alloc: Global, lines: &str) -> Result<Vec<u8>, Fail> {
-    let mut text = Vec::new(alloc);
-    for line in lines.split('\n') {
-        text.extend_from_slice(expanded(alloc, line)?.as_bytes())?;
-        text.extend_from_slice(b"\n")?;
-    }
-    Ok(text)
-}
-
-#[test]
-fn each_call_has_its_completions(rt: HostRuntime) -> Result<(), Fail> {
-    let mut image = Vec::new(rt.alloc());
-    for (line, lines, store, status, text) in STEPS {
-        let faults = Faults {
-            store: *store,
-            ..NO_FAULTS
-        };
-        let words = words_of(rt.alloc(), line)?;
-        let source = source_of(rt.alloc(), lines)?;
-        let done = left_by(rt.alloc(), &words, source, image, faults)?;
-        assert_eq!(rt; done.text.as_str(), *text, "at {line} {lines}");
-        assert_eq!(rt; done.status, *status, "at {line} {lines}");
-        image = done.image;
-    }
-    let faults = Faults {
-        source: 1,
-        ..NO_FAULTS
-    };
-    let words = words_of(rt.alloc(), "nvme|a")?;
-    let done = left_by(rt.alloc(), &words, Vec::new(rt.alloc()), image, faults)?;
-    assert_eq!(rt; done.text.as_str(), "read fault\n");
-    assert_eq!(rt; done.status, 7);
-    Ok(())
-}

@@ -1,7 +1,6 @@
-//! Scrubs and migrations of images in memory: what is found and what is sent, each type, images of
-//! a wrong length, and each call outside that fails.
+//! Scrubs of images in memory: what is sent, and what is found of each type.
 
-use super::{Faults, Left, NO_FAULTS, left_by_words, script, words_of};
+use super::{NO_FAULTS, left_by, made, put, words_of};
 use crate::run;
 use dix_base::{MemSink, MemSource, MemStore};
 use image_rig::ImageRig;
@@ -9,47 +8,6 @@ use rig_api::{Outcome, Rig};
 use sense_codes::Sense;
 use std::alloc::Global;
 use std::test::Fail;
-
-/// The image that these words format.
-fn made(alloc: Global, format: &str) -> Result<Vec<u8>, Fail> {
-    let done = left_by_words(alloc, format, Vec::new(alloc), NO_FAULTS)?;
-    Ok(done.image)
-}
-
-/// Writes bytes over those of the image from this place on, as far as it has them.
-fn put(image: &mut [u8], at: usize, bytes: &[u8]) {
-    for (place, byte) in image.iter_mut().skip(at).zip(bytes) {
-        *place = *byte;
-    }
-}
-
-#[test]
-fn an_image_cut_by_one_byte_has_a_bad_length(rt: HostRuntime) -> Result<(), Fail> {
-    for (format, len) in [
-        ("format|a|1:256|1:256", 266_752usize),
-        ("format|a|1:4096", 2_130_432),
-    ] {
-        for line in ["run|a", "migrate|a", "scrub|a"] {
-            let mut image = made(rt.alloc(), format)?;
-            assert_eq!(rt; image.len(), len, "of {format}");
-            image.truncate(len - 1);
-            let kept = image.clone()?;
-            let done = left_by_words(rt.alloc(), line, image, NO_FAULTS)?;
-            assert_eq!(rt; done.status, 4, "{line} after {format}");
-            assert_eq!(rt;
-                done.text.as_str(),
-                "image BadLength\n",
-                "{line} after {format}"
-            );
-            assert_eq!(rt;
-                done.image.as_slice(),
-                kept.as_slice(),
-                "{line} after {format}"
-            );
-        }
-    }
-    Ok(())
-}
 
 /// The device, the command block, the number of blocks that were done and the address at fault of
 /// each record of a scrub of two devices with 256 blocks, behind the two that tell what they are.
@@ -64,7 +22,7 @@ const VERIFY_REST: [u8; 10] = [0x2F, 0x20, 0, 0, 0, 0x65, 0, 0, 0x9B, 0];
 /// Scrubs an image, and compares the records behind the first two with these.
 fn sends(alloc: Global, image: Vec<u8>, text: &str, sent: &[Sent]) -> Result<bool, Fail> {
     let words = words_of(alloc, "scrub|a")?;
-    let mut source = MemSource::new(script(alloc, "")?, Vec::new(alloc));
+    let mut source = MemSource::new(Vec::new(alloc), Vec::new(alloc));
     let mut rig = ImageRig::new(alloc, MemStore::new(image, Vec::new(alloc)));
     let mut sink = MemSink::new(alloc, 4096, Vec::new(alloc))?;
     let _ = run(alloc, &words, &mut source, &mut rig, &mut sink);
@@ -171,7 +129,7 @@ fn a_scrub_checks_what_each_type_stores(rt: HostRuntime) -> Result<(), Fail> {
         let kept = image.clone()?;
         let bad = u8::from(!said.is_empty());
         let text = format!(in rt.alloc(); "dix scrub 1\n{said}scrubbed 16 bad {bad}\n")?;
-        let done = left_by_words(rt.alloc(), "scrub|a", image, NO_FAULTS)?;
+        let done = left_by(rt.alloc(), "scrub|a", b"", image, NO_FAULTS)?;
         assert_eq!(rt;
             done.text.as_str(),
             text.as_str(),
@@ -183,95 +141,6 @@ fn a_scrub_checks_what_each_type_stores(rt: HostRuntime) -> Result<(), Fail> {
             kept.as_slice(),
             "{byte} {tags:?} at {at}"
         );
-    }
-    Ok(())
-}
-
-// Two blocks of 4,096 bytes with the addresses 4,294,967,295 and 4,294,967,296, whose low 32 bits
-// are FFFFFFFFh and 0. Block 1 begins at 4,616 and ends with the image, at 8,720.
-#[test]
-fn a_scrub_names_addresses_past_32_bits(rt: HostRuntime) -> Result<(), Fail> {
-    for (at, said, bad) in [
-        (0usize, "", 0u8),
-        (512, "bad 0 4294967295 target guard\n", 1),
-        (4612, "bad 0 4294967295 target ref\n", 1),
-        (4616, "bad 0 4294967296 target guard\n", 1),
-        (8719, "bad 0 4294967296 target ref\n", 1),
-    ] {
-        let mut image = made(rt.alloc(), "format|a|1:2:4096:4294967295")?;
-        assert_eq!(rt; image.len(), 8720);
-        if at > 0 {
-            put(&mut image, at, &[1]);
-        }
-        let text = format!(in rt.alloc(); "dix scrub 1\n{said}scrubbed 2 bad {bad}\n")?;
-        let done = left_by_words(rt.alloc(), "scrub|a", image, NO_FAULTS)?;
-        assert_eq!(rt; done.text.as_str(), text.as_str(), "at {at}");
-        assert_eq!(rt; done.status, bad, "at {at}");
-    }
-    Ok(())
-}
-
-/// What is left where the store fails its n-th call, counted from 1.
-fn failing(alloc: Global, line: &str, image: &[u8], n: u64) -> Result<Left, Fail> {
-    let mut held = Vec::new(alloc);
-    held.extend_from_slice(image)?;
-    let faults = Faults {
-        store: n,
-        ..NO_FAULTS
-    };
-    left_by_words(alloc, line, held, faults)
-}
-
-// The first call reads the header; then each block is read once, device by device.
-#[test]
-fn each_block_that_cannot_be_read_is_named(rt: HostRuntime) -> Result<(), Fail> {
-    for format in ["format|a|1:3|0:3", "format|a|2:3|3:3:4096:5"] {
-        let image = made(rt.alloc(), format)?;
-        let first = if format == "format|a|1:3|0:3" {
-            0u64
-        } else {
-            5
-        };
-        let header = failing(rt.alloc(), "scrub|a", &image, 1)?;
-        assert_eq!(rt; header.status, 5);
-        assert_eq!(rt; header.text.as_str(), "rig fault\n");
-        for n in 2..8u64 {
-            let (dev, lba) = if n < 5 {
-                (0u8, n - 2)
-            } else {
-                (1, first + (n - 5))
-            };
-            let done = failing(rt.alloc(), "scrub|a", &image, n)?;
-            let text = format!(in rt.alloc();
-                "dix scrub 1\nbad {dev} {lba} medium\nscrubbed 6 bad 1\n"
-            )?;
-            assert_eq!(rt; done.text.as_str(), text.as_str(), "call {n} of {format}");
-            assert_eq!(rt; done.status, 1, "call {n} of {format}");
-            assert_eq!(rt; done.image.as_slice(), image.as_slice());
-        }
-        let whole = failing(rt.alloc(), "scrub|a", &image, 8)?;
-        assert_eq!(rt; whole.status, 0);
-        assert_eq!(rt; whole.text.as_str(), "dix scrub 1\nscrubbed 6 bad 0\n");
-    }
-    Ok(())
-}
-
-#[test]
-fn a_sink_without_room_gets_the_front_of_the_report(rt: HostRuntime) -> Result<(), Fail> {
-    let text = "dix scrub 1\nbad 0 1 target guard\nscrubbed 4 bad 1\n";
-    for room in 0..51u32 {
-        let mut image = made(rt.alloc(), "format|a|1:4")?;
-        put(&mut image, 1032, &[1]);
-        let faults = Faults { room, ..NO_FAULTS };
-        let done = left_by_words(rt.alloc(), "scrub|a", image, faults)?;
-        assert!(rt; text.starts_with(done.text.as_str()), "room for {room}");
-        if room < 50 {
-            assert_eq!(rt; done.status, 8, "room for {room}");
-            assert_eq!(rt; done.text.len(), room as usize);
-        } else {
-            assert_eq!(rt; done.status, 1, "room for {room}");
-            assert_eq!(rt; done.text.as_str(), text);
-        }
     }
     Ok(())
 }

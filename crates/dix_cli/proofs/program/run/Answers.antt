@@ -1,47 +1,43 @@
 use Rattle.std.proofs.Common.{Some, refl, sym, ap, ◌∙◌}
 use Rattle.dix_words.specs.declared.command.Command.{Command}
-use Rattle.dix_cli.proofs.Endings.{ended_none, not_built}
 use Rattle.dix_cli.proofs.Carrying.{carried}
+use Rattle.dix_cli.proofs.Endings.{ended_none, not_built}
+use Rattle.dix_cli.proofs.Layouts.{few_ops}
 use Rattle.dix_cli.proofs.program.run.Goals as goal
 
+pub big-requires : goal.big-requires
+big-requires g c = few_ops _ c.in-Big.n c.in-Big.seed (sym c.command_of.ensures ∙ c.in-Some.is ∙ ap (λ (x : Command). Some x) c.in-Big.is)
+
 pub returns-in_default : goal.returns-in_default
-returns-in_default g c =
-    carried _ _ _ _ _ c.refuse.result (ended_none _ _ _ _ _ c.refuse.result refl (refl, refl) (ap not_built (sym c.command_of.ensures ∙ c.in_default.is)) c.refuse.ensures)
-    (g.met.R.Rig.laid c.args.rig.now) (g.met.R.Rig.ready c.args.rig.now)
+returns-in_default g c = carried _ _ _ _ _ c.refuse.result (ended_none _ _ _ _ _ c.refuse.result refl (refl, refl) (ap not_built (sym c.command_of.ensures ∙ c.in_default.is)) c.refuse.ensures)
 
 pub returns-in-Run : goal.returns-in-Run
-returns-in-Run g c = carried _ _ _ _ _ c.run_script.result c.run_script.ensures (g.met.R.Rig.laid c.run_script.new.rig) (g.met.R.Rig.ready c.run_script.new.rig)
-
-pub returns-in-Format : goal.returns-in-Format
-returns-in-Format g c = carried _ _ _ _ _ c.format.result (c.format.ensures (g.S.Source.left c.args.script.now) (g.S.Source.faults c.args.script.now)) (g.met.R.Rig.laid c.format.new.rig) (g.met.R.Rig.ready c.format.new.rig)
-
-pub returns-in-Migrate : goal.returns-in-Migrate
-returns-in-Migrate g c = carried _ _ _ _ _ c.migrate.result (c.migrate.ensures (g.S.Source.left c.args.script.now) (g.S.Source.faults c.args.script.now)) (g.met.R.Rig.laid c.migrate.new.rig) (g.met.R.Rig.ready c.migrate.new.rig)
-
-pub returns-in-Scrub : goal.returns-in-Scrub
-returns-in-Scrub g c = carried _ _ _ _ _ c.scrub.result (c.scrub.ensures (g.S.Source.left c.args.script.now) (g.S.Source.faults c.args.script.now)) (g.met.R.Rig.laid c.scrub.new.rig) (g.met.R.Rig.ready c.scrub.new.rig)
+returns-in-Run g c = carried _ _ _ _ _ c.run_image.result c.run_image.ensures
 
 pub returns-in-Trace : goal.returns-in-Trace
-returns-in-Trace g c =
-    carried _ _ _ _ _ c.refuse-in-Trace.result
-    (ended_none _ _ _ _ _ c.refuse-in-Trace.result refl (refl, refl) (ap not_built (sym c.command_of.ensures ∙ c.in-Some.is ∙ ap (λ (x : Command). Some x) c.in-Trace.is)) c.refuse-in-Trace.ensures)
-    (g.met.R.Rig.laid c.args.rig.now) (g.met.R.Rig.ready c.args.rig.now)
+returns-in-Trace g c = carried _ _ _ _ _ c.trace_image.result c.trace_image.ensures
+
+pub returns-in-Format : goal.returns-in-Format
+returns-in-Format g c = carried _ _ _ _ _ c.format.result (c.format.ensures (g.S.Source.left c.args.script.now) (g.S.Source.faults c.args.script.now))
+
+pub returns-in-Migrate : goal.returns-in-Migrate
+returns-in-Migrate g c = carried _ _ _ _ _ c.migrate.result (c.migrate.ensures (g.S.Source.left c.args.script.now) (g.S.Source.faults c.args.script.now))
 
 pub returns-in-Mirror : goal.returns-in-Mirror
 returns-in-Mirror g c =
     carried _ _ _ _ _ c.refuse-in-Mirror.result
     (ended_none _ _ _ _ _ c.refuse-in-Mirror.result refl (refl, refl) (ap not_built (sym c.command_of.ensures ∙ c.in-Some.is ∙ ap (λ (x : Command). Some x) c.in-Mirror.is)) c.refuse-in-Mirror.ensures)
-    (g.met.R.Rig.laid c.args.rig.now) (g.met.R.Rig.ready c.args.rig.now)
+
+pub returns-in-Scrub : goal.returns-in-Scrub
+returns-in-Scrub g c = carried _ _ _ _ _ c.scrub.result (c.scrub.ensures (g.S.Source.left c.args.script.now) (g.S.Source.faults c.args.script.now))
 
 pub returns-in-Nvme : goal.returns-in-Nvme
-returns-in-Nvme g c = carried _ _ _ _ _ c.nvme.result c.nvme.ensures (g.met.R.Rig.laid c.nvme.new.rig) (g.met.R.Rig.ready c.nvme.new.rig)
+returns-in-Nvme g c = carried _ _ _ _ _ c.nvme.result c.nvme.ensures
 
 pub returns-in-Modes : goal.returns-in-Modes
 returns-in-Modes g c =
-    carried _ _ _ _ _ c.modes.result (c.modes.ensures _ (sym c.command_of.ensures ∙ c.in-Some.is ∙ ap (λ (x : Command). Some x) c.in-Modes.is) refl (refl, refl)) (g.met.R.Rig.laid c.args.rig.now) (g.met.R.Rig.ready c.args.rig.now)
+    carried _ _ _ _ _ c.modes.result (c.modes.ensures _ (sym c.command_of.ensures ∙ c.in-Some.is ∙ ap (λ (x : Command). Some x) c.in-Modes.is) refl (refl, refl))
 
 pub returns-in-Big : goal.returns-in-Big
 returns-in-Big g c =
-    carried _ _ _ _ _ c.refuse-in-Big.result
-    (ended_none _ _ _ _ _ c.refuse-in-Big.result refl (refl, refl) (ap not_built (sym c.command_of.ensures ∙ c.in-Some.is ∙ ap (λ (x : Command). Some x) c.in-Big.is)) c.refuse-in-Big.ensures)
-    (g.met.R.Rig.laid c.args.rig.now) (g.met.R.Rig.ready c.args.rig.now)
+    carried _ _ _ _ _ c.big.result (c.big.ensures _ (sym c.command_of.ensures ∙ c.in-Some.is ∙ ap (λ (x : Command). Some x) c.in-Big.is) refl (refl, refl))

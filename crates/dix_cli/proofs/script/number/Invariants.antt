@@ -1,9 +1,0 @@
-use Rattle.std.proofs.Common.{◌≡◌, ◌<◌, ◌^◌, drop}
-use Rattle.whole_run.specs.Language.{value_from}
-use Rattle.dix_cli.proofs.script.number.Given as goal
-
-abbrev pub invariant-loop-digit : goal.invariant-loop-digit
-invariant-loop-digit l = record {
-  value : value_from l.value (drop l.digit-index l.word) ≡ value_from 0 l.word;
-  small : l.value < 2 ^ 32;
-}
