@@ -1,5 +1,5 @@
 -- That a stack between two steps follows the walk of its script.
-use Rattle.std.specs.Prelude.{◌≡◌, ◌⊎◌, ℕ, zero, suc, ◌+◌, ◌*◌, ◌<◌, ◌≤◌, ℤ, pos, ◌+ℤ◌, Bool, false, true, List, [], ◌∷◌, length, drop, get_or, set, Option, Some}
+use Rattle.std.specs.Prelude.{◌≡◌, ◌⊎◌, ℕ, zero, suc, ◌+◌, ◌*◌, ◌<◌, ◌≤◌, ℤ, pos, ◌+ℤ◌, Bool, false, true, List, [], ◌∷◌, length, drop, get_or, set, take, Option, Some}
 use Rattle.page_pool.specs.Cells.{flat}
 use Rattle.page_pool.specs.Pages.{AreWhole}
 use Rattle.page_pool.specs.Places.{total}
@@ -32,11 +32,14 @@ use Rattle.pi_tuple.specs.declared.checks.PiType.{PiType}
 use Rattle.dix_adapter.specs.declared.adapter.Adapter.{Adapter}
 use Rattle.dix_adapter.specs.Groups.{mode_of}
 use Rattle.dix_adapter.specs.Ways.{blocks_told, site_of}
-use Rattle.whole_run.specs.ScriptWalk.{bad_from, changed, source_of as source_cell, whole_or_bad}
+use Rattle.block_path.specs.Moves.{hidden}
+use Rattle.whole_run.specs.ScriptWalk.{bad_from, changed, script_replies, script_walk, source_of as source_cell, whole_or_bad}
 use Rattle.whole_run.specs.Settings.{Setting, block_of, route}
 use Rattle.whole_run.specs.Steps.{each_from}
 use Rattle.run_moves.specs.BoundRun.{fates}
 use Rattle.run_moves.specs.ScriptMoves.{fates_of}
+use Rattle.run_record.specs.BackedRun.{Backed}
+use Rattle.run_record.specs.CarriedRun.{Carried}
 use Rattle.run_record.specs.Records.{recorded}
 use Rattle.run_record.specs.ToldRun.{told}
 use Rattle.run_follows.specs.Finished.{FramesFit}
@@ -198,6 +201,7 @@ pub record AreAtUnits (m : Setting) (st : Standing) (ios : List Io) : Type 0 whe
 -- Over a rig that tells its blocks, with the stack's faults armed: what came of each block is the target's answer, and the cells of the stored blocks are those that the rig tells.
 pub record WalksTold (m : Setting) (n : ℕ) (opening : State) (first : ℕ) (s : Stack) (units : Option (List Stored)) (armed : List FaultLine) (st : Standing) (log : List Entry) : Type 0 where
   pub over : IsOver m n opening s.sheet s.adapter s.host
+  pub sizes : (d : ℕ) → d < s.sheet.devices → (spec_at st d).size ≡ m.size
   pub site : m.site ≡ site_of s.adapter (specs_of st)
   pub behind : AreAtUnits m st s.sheet.ios.items
   pub armed_are : armed ≡ s.adapter.tamper
@@ -215,6 +219,12 @@ pub record Opens (opening : State) (s : Stack) : Type 0 where
 abbrev pub WalksAtFirst : Stack → Type 0
 WalksAtFirst s = (m : Setting) (n : ℕ) (opening : State) (st : Standing) (log : List Entry)
     → Opens opening s → IsOver m n opening s.sheet s.adapter s.host → ((d : ℕ) → d < s.sheet.devices → (spec_at st d).size ≡ m.size) → Walks m n opening (length log) s st log
+
+-- So it does over a rig that tells its blocks, which are those of the opening, with its faults armed.
+abbrev pub WalksToldAtFirst : Stack → Type 0
+WalksToldAtFirst s = (m : Setting) (n : ℕ) (opening : State) (us : List Stored) (armed : List FaultLine) (st : Standing) (log : List Entry)
+    → Opens opening s → IsOver m n opening s.sheet s.adapter s.host → ((d : ℕ) → d < s.sheet.devices → (spec_at st d).size ≡ m.size) → m.site ≡ site_of s.adapter (specs_of st) → AreAtUnits m st s.sheet.ios.items
+    → armed ≡ s.adapter.tamper → opening.blocks ≡ blocks_told us → WalksTold m n opening (length log) s (Some us) armed st log
 
 -- ---- from one step to the next
 
@@ -258,3 +268,13 @@ pub record Enters (told_is : Bool) (st : Standing) (units units' : Option (List 
   pub reach : CanReach told_is st op
   pub walks : (over : Setting) (n : ℕ) (opening : State) (es : List Sent) (left : List (List ℕ)) → IsOver over n opening old.sheet old.adapter old.host → WalksOver over n opening es left old → WalksOver over n opening es (op_left over op left) new
   pub tells : (us : List Stored) → units ≡ Some us → Calm count count' → units' ≡ Some (units_left op us)
+
+-- ---- at the end
+
+-- Over a rig that tells its blocks: the stack's replies, the script's pages and the stored blocks are those of the script's walk at the target, and the log holds what the walk carries and backs the replies.
+pub record EndsTold (m : Setting) (n : ℕ) (opening : State) (ops : List Op) (s : Stack) (us : List Stored) (log : List Entry) : Type 0 where
+  pub replies : s.replies.items ≡ script_replies m ops (hidden n opening)
+  pub pages : take n (flat s.pool) ≡ (script_walk m ops (hidden n opening)).bytes
+  pub blocks : blocks_told us ≡ (script_walk m ops (hidden n opening)).blocks
+  pub carried : Carried m ops (hidden n opening) log
+  pub backed : Backed m ops (hidden n opening) log s.replies.items
