@@ -1,7 +1,8 @@
-use Rattle.std.proofs.Common.{ℕ, ◌≡◌, ◌⊎◌, inl, inr, ◌≤◌, Bool, true, false, List, [], ◌++◌, length, drop, Option, Some, None, refl, sym, ap, subst, ◌∙◌, append_assoc}
+use Rattle.std.proofs.Common.{ℕ, ◌≡◌, ◌⊎◌, inl, inr, ◌≤◌, Bool, true, false, List, [], ◌∷◌, ◌++◌, length, drop, Option, Some, None, refl, sym, ap, subst, ◌∙◌, append_assoc}
 use Rattle.target_answer.specs.declared.units.UnitSpec.{UnitSpec}
 use Rattle.volume_table.specs.declared.device.DeviceInfo.{DeviceInfo}
 use Rattle.rig_api.specs.Log.{Entry}
+use Rattle.rig_discovery.specs.Discovery.{looks}
 use Rattle.pi_scrub.specs.declared.found.Found.{Found}
 use Rattle.image_commands.specs.Causes.{CauseUnformatted, CauseUnmigrated, CauseUnscrubbed, WasFormatted, WasMigrated, WasScrubbed}
 use Rattle.image_commands.specs.Views.{View}
@@ -63,9 +64,10 @@ dropped (x ∷ xs) ys = dropped xs ys
 records_since : (run : Finished) (script : Script) (name : List ℕ) (old new : View) → HasRun run script name old new → new.seen.log ≡ old.seen.log ++ drop run.first new.seen.log
 records_since run script name old new r =
     let told = r.asked.told in
-    let asked = told.found.log ∙ ap (λ v. v ++ _) told.since.kept.log in
-    let more : new.seen.log ≡ old.seen.log ++ (_ ++ r.followed.goes.more) = r.followed.goes.records ∙ ap (λ v. v ++ r.followed.goes.more) asked ∙ append_assoc old.seen.log _ r.followed.goes.more in
-    let rest = ap (λ k. drop k new.seen.log) r.first ∙ ap (drop (length old.seen.log)) more ∙ dropped old.seen.log _ in
+    let asks : List Entry = looks told.between.standing 0 told.found.answers in
+    let asked : r.told.seen.log ≡ old.seen.log ++ asks = told.found.log ∙ ap (λ v. v ++ asks) told.since.kept.log in
+    let more : new.seen.log ≡ old.seen.log ++ (asks ++ r.followed.goes.more) = r.followed.goes.records ∙ ap (λ v. v ++ r.followed.goes.more) asked ∙ append_assoc old.seen.log asks r.followed.goes.more in
+    let rest : drop run.first new.seen.log ≡ asks ++ r.followed.goes.more = ap (λ k. drop k new.seen.log) r.first ∙ ap (drop (length old.seen.log)) more ∙ dropped old.seen.log (asks ++ r.followed.goes.more) in
     more ∙ ap (λ v. old.seen.log ++ v) (sym rest)
 
 -- a call of trace IMAGE that ran the script

@@ -97,10 +97,10 @@ few_units us e = leb-true (length us) 8 (second_true _ (leb (length us) 8) _ e)
 -- ---- Words of `big` have at most so many ops.
 
 none_big : (c : Command) (words : List (List ℕ)) (n seed : ℕ) → (c ≡ Big n seed → ⊥) → on_image c words ≡ Some (Big n seed) → ⊥
-none_big c words n seed no e = by (is_one_name words) e
+none_big c words n seed isnt e = by (is_one_name words) e
   where
     by : (b : Bool) → (if b then Some c else None) ≡ Some (Big n seed) → ⊥
-    by true e = no (cc)
+    by true e = isnt (cc)
     by false e = cc
 
 layout_not : (us : List UnitSpec) (n seed : ℕ) → (if is_layout us then Some (Format us) else None) ≡ Some (Big n seed) → ⊥

@@ -1,4 +1,5 @@
 use Rattle.std.proofs.Common.{Some, refl, sym, ap, ◌∙◌}
+use Rattle.dix_words.specs.Grammar.{word_bytes}
 use Rattle.dix_words.specs.declared.command.Command.{Command}
 use Rattle.dix_cli.proofs.Carrying.{carried}
 use Rattle.dix_cli.proofs.Endings.{ended_none, not_built}
@@ -6,7 +7,7 @@ use Rattle.dix_cli.proofs.Layouts.{few_ops}
 use Rattle.dix_cli.proofs.program.run.Goals as goal
 
 pub big-requires : goal.big-requires
-big-requires g c = few_ops _ c.in-Big.n c.in-Big.seed (sym c.command_of.ensures ∙ c.in-Some.is ∙ ap (λ (x : Command). Some x) c.in-Big.is)
+big-requires g c = few_ops (word_bytes c.args.words.now) c.in-Big.n c.in-Big.seed (sym c.command_of.ensures ∙ c.in-Some.is ∙ ap (λ (x : Command). Some x) c.in-Big.is)
 
 pub returns-in_default : goal.returns-in_default
 returns-in_default g c = carried _ _ _ _ _ c.refuse.result (ended_none _ _ _ _ _ c.refuse.result refl (refl, refl) (ap not_built (sym c.command_of.ensures ∙ c.in_default.is)) c.refuse.ensures)
