@@ -1,5 +1,5 @@
 -- Addresses of devices that have the volume's type and block size: of each block of a request, where the op's shifts lead it, and of an overwrite.
-use Rattle.std.proofs.Common.{◌≡◌, ◌<◌, ◌≤◌, ◌⊎◌, ℕ, ◌+◌, Bool, true, false, not, ◌&&◌, ◌||◌, List, [], length, refl, sym, ap, ◌∙◌, subst, arith, ℤ, pos, Option, Some, None}
+use Rattle.std.proofs.Common.{◌≡◌, ◌<◌, ◌≤◌, ◌⊎◌, inl, inr, ℕ, ◌+◌, true, false, not, ◌&&◌, ◌||◌, List, [], length, refl, sym, ap, ◌∙◌, subst, arith, ℤ, pos, Option, Some, None}
 use Rattle.std.specs.Prelude.{nat_le, nat_lt, eqb, slice_get}
 use Rattle.std.proofs.lemmas.Bool.{and_parts, eqb-true, leb-true, ltb-true, or_parts}
 use Rattle.pi_tuple.specs.declared.checks.PiType.{PiType}
@@ -8,10 +8,9 @@ use Rattle.fault_schedule.specs.Altered.{shift_of}
 use Rattle.fault_schedule.specs.declared.fault.Crossing.TheVariants.{AdapterToTarget, MediumToTarget}
 use Rattle.block_path.specs.Routes.{moved}
 use Rattle.rig_api.specs.declared.change.Change.{Change}
-use Rattle.rig_api.specs.declared.change.Change.TheVariants.{Copy, Flip}
+use Rattle.rig_api.specs.declared.change.Change.TheVariants.{Copy}
 use Rattle.stack_ops.specs.declared.op.Op.TheVariants.{Overwrite}
 use Rattle.volume_table.specs.declared.device.DeviceInfo.{DeviceInfo}
-use Rattle.volume_table.specs.Faults.{device}
 use Rattle.volume_table.specs.Places.{place_in, volume_len}
 use Rattle.volume_table.specs.Tables.{IsOn, MadeFor, Table}
 use Rattle.script_lines.specs.declared.kind.ScriptKind.TheVariants.{BadFault}

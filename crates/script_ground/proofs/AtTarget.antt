@@ -1,5 +1,5 @@
 -- Over a target whose blocks have the size of stored blocks, the ops of a bound script are bound.
-use Rattle.std.proofs.Common.{◌≡◌, ◌<◌, ◌≤◌, ℕ, zero, suc, ◌+◌, ◌*◌, ◌-◌, Bool, true, eqb, List, [], ◌∷◌, length, drop, get_or, map, refl, sym, ap, ◌∙◌, subst, arith, Some, None}
+use Rattle.std.proofs.Common.{◌≡◌, ◌<◌, ◌≤◌, ℕ, zero, suc, ◌+◌, ◌*◌, ◌-◌, true, eqb, List, [], ◌∷◌, length, drop, get_or, map, refl, sym, ap, ◌∙◌, subst, arith, Some, None}
 use Rattle.std.proofs.lemmas.Bool.{eq-eqb}
 use Rattle.std.proofs.lemmas.List.{length-drop}
 use Rattle.pi_tuple.specs.declared.checks.PiType.{PiType}
@@ -14,11 +14,11 @@ use Rattle.rig_api.specs.declared.change.Change.{Change}
 use Rattle.rig_api.specs.declared.change.Change.TheVariants.{Copy, Flip}
 use Rattle.rig_discovery.specs.Discovery.{info_of}
 use Rattle.block_path.specs.Acts.{State}
-use Rattle.block_path.specs.Blocks.{Site, fetched_cell, stored_cell}
-use Rattle.block_path.specs.Routes.{Device, moved, target}
+use Rattle.block_path.specs.Blocks.{Site, fetched_cell}
+use Rattle.block_path.specs.Routes.{moved, target}
 use Rattle.block_path.specs.declared.mode.Mode.{Mode}
 use Rattle.dix_adapter.specs.Ways.{blocks_told, cell_in, shapes_of}
-use Rattle.dix_adapter.proofs.Puts.{before, cell-is, told-at}
+use Rattle.dix_adapter.proofs.Puts.{cell-is, told-at}
 use Rattle.stack_ops.specs.declared.op.Op.{Op}
 use Rattle.stack_ops.specs.declared.op.Op.TheVariants.{Fetch, FetchPi, Fill, Overwrite, Put, Seal, Show, Wait, Write, WritePi}
 use Rattle.volume_table.specs.declared.device.DeviceInfo.{DeviceInfo}
@@ -36,7 +36,7 @@ use Rattle.script_text.specs.Bindings.{binding_fault, op_fault, request_of}
 use Rattle.script_laws.specs.Keeping.{Keeps}
 use Rattle.script_ground.specs.Bound.{IsSettingOf}
 use Rattle.script_ground.specs.Units.{AreStored}
-use Rattle.script_ground.proofs.Addresses.{AreLed, IsChange, all-led, good-change}
+use Rattle.script_ground.proofs.Addresses.{AreLed, all-led, good-change}
 use Rattle.script_ground.proofs.BoundRuns.{OpSuits, bound-all, suits-all}
 use Rattle.script_ground.proofs.Ops.{at-least-one, in-range, no-fault}
 use Rattle.script_ground.proofs.Shifts.{stored-at}
@@ -133,8 +133,8 @@ module _ (law : TargetSuits) (m : Setting) (s : Script) (t : Table) (devices : L
       let many : length s.ops ≤ length (drop (length s.faults) s.lines) = omega arith in
       let few : length s.faults ≤ length s.lines = omega arith in
       let suits : (j : ℕ) → j < length s.ops → OpSuits m (keeps_size blocks) (suc j) (op_at s.ops j)
-          = λ j l. op-suits m t devices s.block blocks (suc j) (op_at s.ops j) long (no-fault t devices s.block s.ops (drop (length s.faults) s.lines) j many b.ops l)
-              (λ v c e w. block-suits (suc j) v c (all-led s t devices made few b.faults (suc j) v c (asked-by s.ops j l ∙ e) w)) in
+      = λ j l. op-suits m t devices s.block blocks (suc j) (op_at s.ops j) long (no-fault t devices s.block s.ops (drop (length s.faults) s.lines) j many b.ops l)
+      (λ v c e w. block-suits (suc j) v c (all-led s t devices made few b.faults (suc j) v c (asked-by s.ops j l ∙ e) w)) in
       bound-all m (keeps_size blocks) s.mode.dix s.pages s.block 1 s.ops is.size (ap (λ (x : Mode). x.dix) is.mode) k.ops_are (suits-all m (keeps_size blocks) s.ops suits)
 
 -- ---- over units
@@ -148,8 +148,8 @@ over-stored : TargetSuits → (m : Setting) (s : Script) (t : Table) (us : List 
 over-stored law m s t us logs opening k n stored e room found made h is site =
     let at : m.site.device ≡ target m.site.faults = ap (λ (x : Site). x.device) site ∙ ap (λ (x : Site). target x.faults) (sym site) in
     let long : AreLong m t.ty s.block (map info_of (shapes_of us)) opening.blocks = λ dev lba on.
-        ap (λ (x : Site). length (get_or opening.blocks (x.cell dev lba) [])) site ∙ ap (λ (bs : List (List ℕ)). length (get_or bs (cell_in (shapes_of us) dev lba) [])) e ∙ told-long us t.ty s.block dev lba stored on
-        ∙ ap (λ (x : PiType). stored_size x s.block) (sym is.ty) ∙ ap (stored_size m.ty) (sym is.size) in
+    ap (λ (x : Site). length (get_or opening.blocks (x.cell dev lba) [])) site ∙ ap (λ (bs : List (List ℕ)). length (get_or bs (cell_in (shapes_of us) dev lba) [])) e ∙ told-long us t.ty s.block dev lba stored on
+    ∙ ap (λ (x : PiType). stored_size x s.block) (sym is.ty) ∙ ap (stored_size m.ty) (sym is.size) in
     record {
       bound = all-bound law m s t (map info_of (shapes_of us)) logs opening.blocks is at long k n made h;
       room = room;

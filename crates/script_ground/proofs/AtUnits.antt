@@ -104,8 +104,8 @@ module _ (m : Setting) (s : Script) (t : Table) (units : List UnitSpec) (logs : 
       let long : length s.ops ≤ length (drop (length s.faults) s.lines) = omega arith in
       let few : length s.faults ≤ length s.lines = omega arith in
       let led : (i : ℕ) → i < length s.ops → 0 < fates_of (op_at s.ops i) → AreLed t (map info_of units) s (suc i) (first_virt (op_at s.ops i)) (fates_of (op_at s.ops i))
-          = λ i l some. all-led s t (map info_of units) made few b.faults (suc i) (first_virt (op_at s.ops i)) (fates_of (op_at s.ops i)) (asked-by s.ops i l ∙ asks (op_at s.ops i) some)
-              (in-volume t (map info_of units) s.block (op_at s.ops i) some (no-fault t (map info_of units) s.block s.ops (drop (length s.faults) s.lines) i long b.ops l)) in
+      = λ i l some. all-led s t (map info_of units) made few b.faults (suc i) (first_virt (op_at s.ops i)) (fates_of (op_at s.ops i)) (asked-by s.ops i l ∙ asks (op_at s.ops i) some)
+      (in-volume t (map info_of units) s.block (op_at s.ops i) some (no-fault t (map info_of units) s.block s.ops (drop (length s.faults) s.lines) i long b.ops l)) in
       record {
         sent = λ i k l j.
             let v = first_virt (op_at s.ops i) in

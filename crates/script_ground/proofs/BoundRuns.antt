@@ -1,5 +1,5 @@
 -- The ops of a bound script are bound to its pages: what its run asks of them, over a device that suits its blocks.
-use Rattle.std.proofs.Common.{◌≡◌, ◌<◌, ◌≤◌, ℕ, zero, suc, ◌+◌, ◌*◌, Bool, true, false, ◌&&◌, List, [], ◌∷◌, ◌++◌, length, refl, sym, ap, ◌∙◌, subst, arith, Option, Some, None}
+use Rattle.std.proofs.Common.{◌≡◌, ◌<◌, ◌≤◌, ℕ, suc, ◌+◌, ◌*◌, Bool, true, false, ◌&&◌, List, [], ◌∷◌, ◌++◌, length, refl, sym, ap, ◌∙◌, subst, arith}
 use Rattle.std.specs.Prelude.{IfOk, Result, Ok, Err, nat_eq, nat_le, not}
 use Rattle.std.specs.List.{All, IsDistinct}
 use Rattle.std.proofs.lemmas.Bool.{and_parts}
@@ -11,7 +11,6 @@ use Rattle.bio_core.specs.declared.fate.Why.{Why}
 use Rattle.block_path.specs.Acts.{State}
 use Rattle.block_path.specs.Blocks.{Sent}
 use Rattle.block_path.specs.declared.mode.Mode.{Mode}
-use Rattle.rig_api.specs.declared.change.Change.{Change}
 use Rattle.stack_ops.specs.declared.op.Op.{Op}
 use Rattle.stack_ops.specs.declared.op.Op.TheVariants.{Fetch, FetchPi, Fill, Overwrite, Put, Seal, Show, Wait, Write, WritePi}
 use Rattle.whole_run.specs.ScriptWalk.{changed, source_of}
@@ -61,8 +60,7 @@ both-bound : (m : Setting) (fine : ℕ → List ℕ → Bool) (dix : Bool) (page
     All (λ c. c < 4096 * pages) (cells_of body ++ cells_of tuples) × ((total body ≡ n * m.size) × ((total tuples ≡ n * 8) × (IsDistinct nat_eq (cells_of body ++ cells_of tuples) × ((m.mode.dix ≡ true) × AllSuit m fine i v n))))
 both-bound m fine dix pages size i v n body tuples z d b t h =
     let p = stands pages body b.body_is.inside in
-    let q = stands pages tuples b.tuples_are.inside in
-    (
+    let q = stands pages tuples b.tuples_are.inside in (
       All-append (λ c. c < 4096 * pages) (cells_of body) (cells_of tuples) (cells-below pages body p) (cells-below pages tuples q),
       (b.body_is.long ∙ ap (λ x. n * x) (sym z), (eights n (total tuples) b.tuples_are.long, (distinct-both pages body tuples p q b.overlap, (d ∙ t, h)))),
     )
@@ -95,8 +93,7 @@ bound-all m fine dix pages size i (op ∷ ops) z d k h = (bound-op m fine dix pa
 suits-each : (m : Setting) (fine : ℕ → List ℕ → Bool) (i : ℕ) (ops : List Op) → ((j : ℕ) → j < length ops → OpSuits m fine (i + j) (op_at ops j)) → OpsSuit m fine i ops
 suits-each m fine i [] h = tt
 suits-each m fine i (op ∷ ops) h =
-    let here : i + 0 ≡ i = omega arith in
-    (
+    let here : i + 0 ≡ i = omega arith in (
       subst (λ (k : ℕ). OpSuits m fine k op) here (h 0 (omega arith)),
       suits-each m fine (suc i) ops (λ j l. let z : i + suc j ≡ suc i + j = omega arith in subst (λ (k : ℕ). OpSuits m fine k (op_at ops j)) z (h (suc j) (omega arith))),
     )

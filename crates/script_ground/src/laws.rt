@@ -1,7 +1,5 @@
 //! What a script that keeps the rules of its language and was bound to a volume gives a stack.
 
-use run_moves::a_target_keeps_sizes;
-
 ghost use Rattle.std.specs.Prelude.{◌≡◌, ◌<◌, ◌≤◌, ◌+◌, ◌*◌, ℕ, true, List, length, map, None};
 ghost use Rattle.volume_table.specs.declared.device.DeviceInfo.{DeviceInfo as AnyDevice};
 ghost use Rattle.volume_table.specs.Tables.{MadeFor, Table};
@@ -26,6 +24,8 @@ ghost use Rattle.stack_walks.specs.Units.{AreAtUnits};
 ghost use Rattle.script_ground.specs.Bound.{IsSettingOf};
 ghost use Rattle.script_ground.specs.Seals.{IsSealed};
 ghost use Rattle.script_ground.specs.Units.{AreStored, all_blocks};
+
+use run_moves::a_target_keeps_sizes;
 
 /// Each block of the volume has a cell of its own, and each place a log; the ops lie in the script's pages and in the
 /// volume; each op is a request of some blocks or done whole; and the blocks of a request are spread, also where a

@@ -1,5 +1,7 @@
 //! That a script that was read and bound to a volume stands on ground: its ops lie in the pages and in the volume, and
-//! the blocks of each request are spread, so that the stack of the script may walk. It speaks of no code.
+//! the blocks of each request are spread, so that the stack of the script may walk. Its blocks lie in the units behind
+//! it, also where a shift leads them, and its run is bound, over what stands on record and at its target. It speaks of
+//! no code.
 #![tactic(auto)]
 
 mod laws;
