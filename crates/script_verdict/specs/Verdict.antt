@@ -1,4 +1,4 @@
-use Rattle.std.specs.Prelude.{ℕ, ◌≡◌, ◌+◌, ◌⊎◌, List, [], length, map, is_some, Option, Some, None, Err, Ok}
+use Rattle.std.specs.Prelude.{ℕ, ◌≡◌, ◌+◌, ◌*◌, ◌⊎◌, List, [], length, map, take, is_some, Option, Some, None, Err, Ok}
 use Rattle.dix_base.specs.Told.{Calm, Rose}
 use Rattle.page_pool.specs.Pages.{IsBlank}
 use Rattle.dix_adapter.specs.Groups.{mode_of}
@@ -12,12 +12,21 @@ use Rattle.script_text.specs.Bindings.{binding_fault}
 use Rattle.script_text.specs.Language.{script_in}
 use Rattle.script_text.specs.declared.fault.ScriptFault.{ScriptFault}
 use Rattle.script_text.specs.declared.script.Script.{Script}
+use Rattle.script_stack.specs.Followed.{HasWalked, IsBackedBy, none_fails, opening_of, setting_of}
+use Rattle.block_path.specs.Acts.{State}
+use Rattle.dix_adapter.specs.Ways.{blocks_told, shapes_of}
+use Rattle.page_pool.specs.Cells.{flat}
+use Rattle.whole_run.specs.CalmRun.{IsCalmRun}
+use Rattle.whole_run.specs.PlainMap.{plain_map, plain_replies}
+use Rattle.whole_run.specs.Settings.{Setting}
+use Rattle.whole_run.specs.UnderMap.{opened, under}
 use Rattle.stack_core.specs.Requests.{pages_from, requests_from}
 use Rattle.stack_core.specs.Stacks.{GoesOn, IsStack, Stays, plan_in}
 use Rattle.stack_core.specs.declared.stack.Stack.{Stack}
 use Rattle.stack_ops.specs.declared.reply.Reply.{Reply}
 use Rattle.stack_steps.specs.Does.{Holds}
 use Rattle.stack_view.specs.Steps.{enabled}
+use Rattle.target_answer.specs.Target.{Stored}
 use Rattle.stack_view.specs.View.{View as StackView, start}
 use Rattle.volume_table.specs.Faults.{table_fault, volume_type}
 use Rattle.volume_table.specs.Tables.{MadeFor, Table}
@@ -123,10 +132,27 @@ pub record IsEnded (begun s : Stack) : Type 0 where
   pub stays : Stays begun s
   pub ended : (v : StackView) → Holds (plan_in s.sheet) s.machine v → enabled (plan_in s.sheet) v ≡ []
 
--- What the steps of a script over its volume did, from the rig that told what its devices are to the rig as it is afterwards: with these replies.
-pub record Followed (script : Script) (table : Table) (old new : View) (replies : List Reply) : Type 0 where
+-- what a script runs with over these units, behind each of which is a target, and with what it begins
+abbrev pub setting_told : Script → Table → List Stored → Setting
+setting_told script table us = setting_of script table (shapes_of us) none_fails
+
+abbrev pub opening_told : Script → List Stored → State
+opening_told script us = opening_of script (shapes_of us) (blocks_told us)
+
+-- Replies, pages and stored blocks are those of the script's ops on a plain map of virtual blocks, which knows no adapter, no target and no address; the stored blocks are the image under that map.
+pub record HasPlain (script : Script) (table : Table) (us left : List Stored) (pool : List (List ℕ)) (replies : List Reply) : Type 0 where
+  pub replies_are : replies ≡ plain_replies (setting_told script table us) script.ops (opened (setting_told script table us) (opening_told script us))
+  pub pages : take (4096 * script.pages) (flat pool) ≡ (plain_map (setting_told script table us) script.ops (opened (setting_told script table us) (opening_told script us))).bytes
+  pub blocks : blocks_told left ≡ under (setting_told script table us) 0 (plain_map (setting_told script table us) script.ops (opened (setting_told script table us) (opening_told script us))).map (blocks_told us)
+
+-- What the steps of a script over its volume did, from the rig that told what its devices are to the rig as it is afterwards, with these pages and replies. Over any rig, honest or not, the records of the steps back the replies. Over a rig that tells its blocks, and whose count of faults didn't rise, replies, pages and stored blocks are those of the script's ops done one after another at the target, and the records hold what these carry; and where no fault is scheduled, the blocks are clean and no write supplies an escape, they are those of the plain map.
+pub record Followed (script : Script) (table : Table) (devices : List DeviceInfo) (old new : View) (pool : List (List ℕ)) (replies : List Reply) : Type 0 where
   pub tells : is_some new.image ≡ is_some old.image
   pub goes : GoesOn old.standing new.standing old.seen.log new.seen.log old.seen.faults new.seen.faults
+  pub backed : IsBackedBy script table devices goes.more replies
+  pub plain : (us : List Stored) → old.seen.units ≡ Some us → Calm old.seen.faults new.seen.faults → IsCalmRun (setting_told script table us) script.ops (opening_told script us)
+      → (left : List Stored) × (new.seen.units ≡ Some left) × HasPlain script table us left pool replies
+  pub walked : (us : List Stored) → old.seen.units ≡ Some us → Calm old.seen.faults new.seen.faults → (left : List Stored) × (new.seen.units ≡ Some left) × HasWalked script table us left pool goes.more replies
 
 -- The image was opened, its devices told what they are, the script is bound to its volume, and the stack of its ops was run to its end.
 pub record HasRun (run : Finished) (script : Script) (name : List ℕ) (old new : View) : Type 0 where
@@ -139,7 +165,7 @@ pub record HasRun (run : Finished) (script : Script) (name : List ℕ) (old new 
   pub begun : Stack
   pub starts : IsBegun script table begun
   pub ends : IsEnded begun run.stack
-  pub followed : Followed script table told new run.stack.replies.items
+  pub followed : Followed script table devices told new run.stack.pool run.stack.replies.items
   pub first : run.first ≡ length old.seen.log
 
 -- The source was read to its end, and its script was run.

@@ -13,12 +13,15 @@ use arrayvec::ArrayVec;
 use dix_base::Source;
 use image_commands::told_devices;
 use rig_api::Rig;
-use script_stack::{Run, ready_script, run_all};
+use script_stack::{
+    Run, a_script_run_is_backed, a_told_script_run_has_walked, ready_script, run_all,
+};
 use script_text::Script;
 use stack_core::Stack;
 use stack_ops::Reply;
 use std::alloc::Global;
 use volume_table::{DeviceInfo, VolumeTable};
+use whole_run::a_calm_walk_is_a_plain_map;
 
 /// A script that was run to its end.
 #[derive(Drop)]
@@ -87,6 +90,9 @@ pub fn run_script<R: Rig>(
         schedule,
     } = run;
     run_all(&mut stack, schedule.as_slice(), rig);
+    a_script_run_is_backed();
+    a_told_script_run_has_walked();
+    a_calm_walk_is_a_plain_map();
     Ok(Finished { stack, first })
 }
 

@@ -1,9 +1,12 @@
-use Rattle.std.proofs.Common.{inr}
+use Rattle.std.proofs.Common.{inr, ap, ◌∙◌}
 use Rattle.image_commands.proofs.Devices.{units_through}
 use Rattle.image_commands.specs.Views.{seen, view}
 use Rattle.script_verdict.proofs.Completing.{stops_from_outside}
 use Rattle.script_verdict.proofs.Devices.{known_infos}
+use Rattle.script_stack.proofs.Following.{sizes-found}
 use Rattle.script_verdict.proofs.Refusing.{asked_still}
+use Rattle.script_verdict.proofs.Walked.{followed}
+use Rattle.stack_core.specs.declared.sheet.Sheet.{Sheet}
 use Rattle.script_verdict.proofs.verdict.run_script.Goals as goal
 
 pub ready_script-requires-clause-few : goal.ready_script-requires-clause-few
@@ -26,21 +29,24 @@ returns-in-Err-clause-complete g c =
     stops_from_outside c.in-Err.refusal c.args.script c.args.image.now (view (g.R.Rig.image c.args.rig.now) (g.R.Rig.standing c.args.rig.now) (seen (g.R.Rig.units c.args.rig.now) (g.R.Rig.log c.args.rig.now) (g.R.Rig.faults c.args.rig.now))) (view (g.R.Rig.image c.bind.new.rig) (g.R.Rig.standing c.bind.new.rig) (seen (g.R.Rig.units c.bind.new.rig) (g.R.Rig.log c.bind.new.rig) (g.R.Rig.faults c.bind.new.rig))) c.in-Err.ensures
 
 pub returns-in-Err-ready_script-clause-verdict : goal.returns-in-Err-ready_script-clause-verdict
-returns-in-Err-ready_script-clause-verdict g c = inr (c.in-Ok.bound.devices.items, (asked_still c.args.image.now c.in-Ok.bound.devices.items (view (g.R.Rig.image c.args.rig.now) (g.R.Rig.standing c.args.rig.now) (seen (g.R.Rig.units c.args.rig.now) (g.R.Rig.log c.args.rig.now) (g.R.Rig.faults c.args.rig.now))) (view (g.R.Rig.image c.ready_script.new.rig) (g.R.Rig.standing c.ready_script.new.rig) (seen (g.R.Rig.units c.ready_script.new.rig) (g.R.Rig.log c.ready_script.new.rig) (g.R.Rig.faults c.ready_script.new.rig))) (view (g.R.Rig.image c.bind.new.rig) (g.R.Rig.standing c.bind.new.rig) (seen (g.R.Rig.units c.bind.new.rig) (g.R.Rig.log c.bind.new.rig) (g.R.Rig.faults c.bind.new.rig)))
-    c.ready_script.ensures.image c.ready_script.ensures.standing
-    (units_through (g.R.Rig.standing c.bind.new.rig) (g.R.Rig.standing c.ready_script.new.rig) (g.R.Rig.image c.bind.new.rig) (g.R.Rig.image c.ready_script.new.rig) (g.R.Rig.units c.bind.new.rig) (g.R.Rig.units c.ready_script.new.rig)
-    (g.met.R.Rig.laid c.bind.new.rig) (g.met.R.Rig.laid c.ready_script.new.rig) c.ready_script.ensures.standing c.ready_script.ensures.image)
-    c.ready_script.ensures.log c.ready_script.ensures.count c.in-Ok.ensures.asked))
+returns-in-Err-ready_script-clause-verdict g c = inr (
+  c.in-Ok.bound.devices.items,
+  (asked_still c.args.image.now c.in-Ok.bound.devices.items (view (g.R.Rig.image c.args.rig.now) (g.R.Rig.standing c.args.rig.now) (seen (g.R.Rig.units c.args.rig.now) (g.R.Rig.log c.args.rig.now) (g.R.Rig.faults c.args.rig.now))) (view (g.R.Rig.image c.ready_script.new.rig) (g.R.Rig.standing c.ready_script.new.rig) (seen (g.R.Rig.units c.ready_script.new.rig) (g.R.Rig.log c.ready_script.new.rig) (g.R.Rig.faults c.ready_script.new.rig))) (view (g.R.Rig.image c.bind.new.rig) (g.R.Rig.standing c.bind.new.rig) (seen (g.R.Rig.units c.bind.new.rig) (g.R.Rig.log c.bind.new.rig) (g.R.Rig.faults c.bind.new.rig)))
+      c.ready_script.ensures.image c.ready_script.ensures.standing
+      (units_through (g.R.Rig.standing c.bind.new.rig) (g.R.Rig.standing c.ready_script.new.rig) (g.R.Rig.image c.bind.new.rig) (g.R.Rig.image c.ready_script.new.rig) (g.R.Rig.units c.bind.new.rig) (g.R.Rig.units c.ready_script.new.rig)
+      (g.met.R.Rig.laid c.bind.new.rig) (g.met.R.Rig.laid c.ready_script.new.rig) c.ready_script.ensures.standing c.ready_script.ensures.image)
+      c.ready_script.ensures.log c.ready_script.ensures.count c.in-Ok.ensures.asked),
+)
 
 pub returns-clause-verdict : goal.returns-clause-verdict
 returns-clause-verdict g c = record {
   devices = c.in-Ok.bound.devices.items;
   told = view (g.R.Rig.image c.ready_script.new.rig) (g.R.Rig.standing c.ready_script.new.rig) (seen (g.R.Rig.units c.ready_script.new.rig) (g.R.Rig.log c.ready_script.new.rig) (g.R.Rig.faults c.ready_script.new.rig));
   asked = (asked_still c.args.image.now c.in-Ok.bound.devices.items (view (g.R.Rig.image c.args.rig.now) (g.R.Rig.standing c.args.rig.now) (seen (g.R.Rig.units c.args.rig.now) (g.R.Rig.log c.args.rig.now) (g.R.Rig.faults c.args.rig.now))) (view (g.R.Rig.image c.ready_script.new.rig) (g.R.Rig.standing c.ready_script.new.rig) (seen (g.R.Rig.units c.ready_script.new.rig) (g.R.Rig.log c.ready_script.new.rig) (g.R.Rig.faults c.ready_script.new.rig))) (view (g.R.Rig.image c.bind.new.rig) (g.R.Rig.standing c.bind.new.rig) (seen (g.R.Rig.units c.bind.new.rig) (g.R.Rig.log c.bind.new.rig) (g.R.Rig.faults c.bind.new.rig)))
-    c.ready_script.ensures.image c.ready_script.ensures.standing
-    (units_through (g.R.Rig.standing c.bind.new.rig) (g.R.Rig.standing c.ready_script.new.rig) (g.R.Rig.image c.bind.new.rig) (g.R.Rig.image c.ready_script.new.rig) (g.R.Rig.units c.bind.new.rig) (g.R.Rig.units c.ready_script.new.rig)
-    (g.met.R.Rig.laid c.bind.new.rig) (g.met.R.Rig.laid c.ready_script.new.rig) c.ready_script.ensures.standing c.ready_script.ensures.image)
-    c.ready_script.ensures.log c.ready_script.ensures.count c.in-Ok.ensures.asked);
+      c.ready_script.ensures.image c.ready_script.ensures.standing
+      (units_through (g.R.Rig.standing c.bind.new.rig) (g.R.Rig.standing c.ready_script.new.rig) (g.R.Rig.image c.bind.new.rig) (g.R.Rig.image c.ready_script.new.rig) (g.R.Rig.units c.bind.new.rig) (g.R.Rig.units c.ready_script.new.rig)
+      (g.met.R.Rig.laid c.bind.new.rig) (g.met.R.Rig.laid c.ready_script.new.rig) c.ready_script.ensures.standing c.ready_script.ensures.image)
+      c.ready_script.ensures.log c.ready_script.ensures.count c.in-Ok.ensures.asked);
   table = c.in-Ok.bound.table;
   made = c.in-Ok.ensures.made;
   bound = c.in-Ok.ensures.bound;
@@ -57,6 +63,31 @@ returns-clause-verdict g c = record {
     pool = c.in-Ok-ready_script.ensures.pool;
   };
   ends = record { stack = c.run_all.ensures.stack; stays = c.run_all.ensures.stays; ended = c.run_all.ensures.ended };
-  followed = record { tells = c.run_all.ensures.tells; goes = c.run_all.ensures.goes };
+  followed = followed c.args.script c.in-Ok.bound.table c.in-Ok.bound.devices.items c.in-Ok-ready_script.run'.stack c.run_all.new.stack
+      (view (g.R.Rig.image c.ready_script.new.rig) (g.R.Rig.standing c.ready_script.new.rig) (seen (g.R.Rig.units c.ready_script.new.rig) (g.R.Rig.log c.ready_script.new.rig) (g.R.Rig.faults c.ready_script.new.rig)))
+      (view (g.R.Rig.image c.run_all.new.rig) (g.R.Rig.standing c.run_all.new.rig) (seen (g.R.Rig.units c.run_all.new.rig) (g.R.Rig.log c.run_all.new.rig) (g.R.Rig.faults c.run_all.new.rig)))
+      c.a_script_run_is_backed.ensures c.a_told_script_run_has_walked.ensures c.a_calm_walk_is_a_plain_map.ensures.replies c.a_calm_walk_is_a_plain_map.ensures.under
+      (record {
+        keeps = c.requires.keeps;
+        lines = c.requires.lines;
+        made = c.in-Ok.ensures.made.made;
+        bound = c.in-Ok.ensures.bound;
+        sizes = rw (c.ready_script.ensures.standing, c.in-Ok.ensures.asked.told.since.standing) (sizes-found c.in-Ok.ensures.asked.told.between.standing c.in-Ok.bound.devices.items _ _ c.in-Ok.ensures.asked.told.found);
+        known = rw (c.ready_script.ensures.image, c.ready_script.ensures.standing) (known_infos c.args.image.now c.in-Ok.bound.devices.items _ _ c.in-Ok.ensures.asked (g.met.R.Rig.laid c.bind.new.rig));
+        laid = g.met.R.Rig.laid c.ready_script.new.rig;
+        ready = g.met.R.Rig.ready c.ready_script.new.rig;
+        laid_after = g.met.R.Rig.laid c.run_all.new.rig;
+        ready_after = g.met.R.Rig.ready c.run_all.new.rig;
+        stack = c.run_all.ensures.stack;
+        ops = ap (λ (x : Sheet). x.ops) c.run_all.ensures.stays.sheet ∙ c.in-Ok-ready_script.ensures.ops;
+        ended = c.run_all.ensures.ended;
+        walks = rw c.deref.ensures.0 at c.in-Ok-ready_script.ensures.walks;
+        told = rw c.deref.ensures.0 at c.in-Ok-ready_script.ensures.told;
+        silent = c.in-Ok-ready_script.ensures.silent;
+        goes = c.run_all.ensures.goes;
+        tells = c.run_all.ensures.tells;
+        armed_after = g.R.Rig.armed c.run_all.new.rig;
+        went = rw c.in-Ok-ready_script.ensures.armed at c.run_all.ensures.went;
+      });
   first = c.records-first.ensures;
 }
