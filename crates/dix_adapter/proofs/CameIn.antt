@@ -73,7 +73,7 @@ fetched-lba a ios device bytes address at from s t k b p q r =
     let w : wire_lba a.tamper (route_of a ios b) ≡ at + k = ap (λ j. moved b.lba j) r.wire ∙ ap (λ j. moved j s) r.lba ∙ address-more address k at s p in
     (sym w, ap (λ j. moved (wire_lba a.tamper (route_of a ios b)) j) r.medium ∙ ap (λ j. moved j t) w ∙ address-more at k from t q)
 
-fetched-block : (a : Adapter) (ios : List Io) (us : List Stored) (device bytes address at from : ℕ) (s t : ℤ) (k : ℕ) (b : Block) → device < length us → (unit_at us device).first ≤ from → from + k < (unit_at us device).first + length (unit_at us device).blocks →
+pub fetched-block : (a : Adapter) (ios : List Io) (us : List Stored) (device bytes address at from : ℕ) (s t : ℤ) (k : ℕ) (b : Block) → device < length us → (unit_at us device).first ≤ from → from + k < (unit_at us device).first + length (unit_at us device).blocks →
     pos address +ℤ s ≡ pos at → pos at +ℤ t ≡ pos from → Next a ios device bytes s t (address + k) b →
     get_or (blocks_told us) (fetched_cell (site_of a (shapes_of us)) (route_of a ios b)) [] ≡ get_or (unit_at us device).blocks (from + k - (unit_at us device).first) []
 fetched-block a ios us device bytes address at from s t k b l f h p q r =

@@ -1,5 +1,5 @@
 -- What becomes of a group before a unit that is told: each block goes its way, up to the one at which the command ends.
-use Rattle.std.specs.Prelude.{◌≡◌, ℕ, zero, suc, ◌+◌, ◌-◌, min, ltb, Bool, true, false, ◌||◌, if◌then◌else◌, List, [], ◌∷◌, ◌++◌, get_or, length, map, replicate, set, take, pos, ◌+ℤ◌, Option, Some, None}
+use Rattle.std.specs.Prelude.{◌≡◌, ℕ, zero, suc, ◌+◌, ◌*◌, ◌-◌, min, ltb, Bool, true, false, ◌||◌, if◌then◌else◌, List, [], ◌∷◌, ◌++◌, get_or, length, map, replicate, set, take, pos, ◌+ℤ◌, Option, Some, None}
 use Rattle.std.specs.List.{All}
 use Rattle.dix_base.specs.Told.{Calm}
 use Rattle.page_pool.specs.Cells.{flat}

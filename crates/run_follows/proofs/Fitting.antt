@@ -87,12 +87,12 @@ module _ (m : Setting) (a : Adapter) (ios : List Io) (req : List Bio) (pool : Li
       (put_fits (came_of (size req) o.done o.sense frames) len (recorded m old.log) wide (came_fit len frames (ltb o.done (size req)) (why_ended o.sense) (long_front len (done_of (size req) o) all long)) fit)
 
   pub fit_in : (pool' : List (List ℕ)) (fates : List Fate) (old new : Shown) → (first_of req).dir ≡ Read → ((b : ScriptBlock) → wire_size (route m b) ≡ frame_len a ios req) →
-      (r : RecordedIn a ios req pool pool' fates old new) → length r.entry.moved ≡ done_of (size req) r.entry.what.outcome * frame_len a ios req → FramesFit m (recorded m old.log) → FramesFit m (recorded m new.log)
-  fit_in pool' fates old new w wide r moved fit =
+      RecordedIn a ios req pool pool' fates old new → FramesFit m (recorded m old.log) → FramesFit m (recorded m new.log)
+  fit_in pool' fates old new w wide r fit =
       let o = r.entry.what.outcome in
       let len = frame_len a ios req in
       let k = done_of (size req) o in
       let frames = frames_of len k r.entry.moved in
-      let enough : k * len ≤ length r.entry.moved = subst (λ x. k * len ≤ x) (sym moved) (omega arith) in
+      let enough : k * len ≤ length r.entry.moved = subst (λ x. k * len ≤ x) (sym r.long) (omega arith) in
       subst (FramesFit m) (sym (goes_in m a ios req pool protect g pool' fates old new w r))
       (put_fits (came_of (size req) o.done o.sense frames) len (recorded m old.log) wide (came_fit len frames (ltb o.done (size req)) (why_ended o.sense) (cut_long len k r.entry.moved enough)) fit)

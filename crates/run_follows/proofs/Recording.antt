@@ -317,6 +317,36 @@ module _ (m : Setting) (n : ℕ) (ops : List Op) (a : Adapter) (ios : List Io) (
     by true q = let u : o.done < size req = grind (arith, q) in let x = length-append (map arrived frames) (Err (why_ended o.sense) ∷ []) in let y = length-map frames arrived in let z = length-in req in omega (arith, x, y, z, e, u)
     by false q = let x = length-append (map arrived frames) [] in let y = length-map frames arrived in let z = length-in req in omega (arith, x, y, z, e)
 
+  -- nothing stands on record of a block that wasn't carried, also once a command was sent
+  pub none_in : (pool' : List (List ℕ)) (fates : List Fate) (old new : Shown) (status : ℕ → ℕ → Status) → (first_of req).dir ≡ Read → RecordedIn a ios req pool pool' fates old new →
+      NoneBefore status (recorded m old.log) → NoneBefore (with_fates bs fates status) (recorded m new.log)
+  none_in pool' fates old new status w r none =
+      let o = r.entry.what.outcome in
+      let es = recorded m old.log in
+      let frames = frames_of (frame_len a ios req) (done_of (size req) o) r.entry.moved in
+      let cames = came_of (size req) o.done o.sense frames in
+      let count = frames_many (frame_len a ios req) (done_of (size req) o) r.entry.moved in
+      let put : recorded m new.log ≡ put_each m.site bs cames es = goes_in m a ios req pool protect g pool' fates old new w r in
+      let fate : in_fates a ios bs cames ≡ fates = in_fates_are (size req) o bs (length-in req) a ios frames count ∙ sym r.fates_are in
+      subst (λ x. NoneBefore (with_fates bs fates status) x) (sym put) (subst (λ f. NoneBefore (with_fates bs f status) (put_each m.site bs cames es)) fate
+      (none_after m n ops a ios 0 bs cames (in_fates a ios bs cames) status es (in_are m n ops a ios 0 bs cames) none))
+
+  pub none_out : (fates : List Fate) (old new : Shown) (status : ℕ → ℕ → Status) → (first_of req).dir ≡ Write → any_bad (map (sends a ios (flat pool)) bs) ≡ false → RecordedOut a ios req (flat pool) fates old new →
+      NoneBefore status (recorded m old.log) → NoneBefore (with_fates bs fates status) (recorded m new.log)
+  none_out fates old new status w good r none =
+      let o = r.entry.what.outcome in
+      let es = recorded m old.log in
+      let all = map frame_sent (map (sends a ios (flat pool)) bs) in
+      let frames = take (done_of (size req) o) all in
+      let cames = came_of (size req) o.done o.sense frames in
+      let many : length all ≡ size req = length-map (map (sends a ios (flat pool)) bs) frame_sent ∙ length-map bs (sends a ios (flat pool)) ∙ length-in req in
+      let taken = length-take (done_of (size req) o) all in
+      let count : length frames ≡ min o.done (size req) = omega (arith, taken, many) in
+      let put : recorded m new.log ≡ put_each m.site bs cames es = went_out m a ios req pool protect g fates old new w good r in
+      let fate : out_fates bs cames ≡ fates = out_fates_are (size req) o bs (length-in req) frames count ∙ sym r.fates_are in
+      subst (λ x. NoneBefore (with_fates bs fates status) x) (sym put) (subst (λ f. NoneBefore (with_fates bs f status) (put_each m.site bs cames es)) fate
+      (none_after m n ops a ios 0 bs cames (out_fates bs cames) status es (out_are m n ops a ios 0 bs cames) none))
+
   pub sent_in : (pool' : List (List ℕ)) (fates : List Fate) (old new : Shown) (opening now : State) (status : ℕ → ℕ → Status) (spots : List Spot) → (first_of req).dir ≡ Read → RecordedIn a ios req pool pool' fates old new →
       AllGoing m n ops a ios (length opening.logs) status bs spots → now.bytes ≡ flat pool → NoneBefore status (recorded m old.log) → Follows (told m (recorded m old.log)) n ops opening status now (recorded m old.log) →
       FollowsOn m n ops opening (with_fates bs fates status) (flat pool') new.log
@@ -339,8 +369,7 @@ module _ (m : Setting) (n : ℕ) (ops : List Op) (a : Adapter) (ios : List Io) (
         after = sent.after;
         follows = subst (λ x. Follows (told m es') n ops opening (with_fates bs fates status) sent.after x) (sym put) (subst (λ f. Follows (told m es') n ops opening (with_fates bs f status) sent.after (put_each m.site bs cames es)) fate sent.follows);
         bytes = sent.bytes ∙ ap (land_all a ios bs cames) pages ∙ lands a ios bs frames (ltb o.done (size req)) (why_ended o.sense) (flat pool) ∙ sym r.cells;
-        none_before = subst (λ x. NoneBefore (with_fates bs fates status) x) (sym put) (subst (λ f. NoneBefore (with_fates bs f status) (put_each m.site bs cames es)) fate
-            (none_after m n ops a ios (length opening.logs) bs cames (in_fates a ios bs cames) status es (in_are m n ops a ios (length opening.logs) bs cames) none));
+        none_before = none_in pool' fates old new status w r none;
       }
 
   pub sent_out : (fates : List Fate) (old new : Shown) (opening now : State) (status : ℕ → ℕ → Status) (spots : List Spot) → (first_of req).dir ≡ Write → any_bad (map (sends a ios (flat pool)) bs) ≡ false → RecordedOut a ios req (flat pool) fates old new →
@@ -372,6 +401,5 @@ module _ (m : Setting) (n : ℕ) (ops : List Op) (a : Adapter) (ios : List Io) (
         after = sent.after;
         follows = subst (λ x. Follows (told m es') n ops opening (with_fates bs fates status) sent.after x) (sym put) (subst (λ f. Follows (told m es') n ops opening (with_fates bs f status) sent.after (put_each m.site bs cames es)) fate sent.follows);
         bytes = sent.bytes ∙ pages;
-        none_before = subst (λ x. NoneBefore (with_fates bs fates status) x) (sym put) (subst (λ f. NoneBefore (with_fates bs f status) (put_each m.site bs cames es)) fate
-            (none_after m n ops a ios (length opening.logs) bs cames (out_fates bs cames) status es (out_are m n ops a ios (length opening.logs) bs cames) none));
+        none_before = none_out fates old new status w good r none;
       }

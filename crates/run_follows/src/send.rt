@@ -1,6 +1,6 @@
 //! A command is sent.
 
-ghost use Rattle.std.specs.Prelude.{ℕ, ◌≡◌, ◌*◌, true, false, List, [], length, map, None, Result};
+ghost use Rattle.std.specs.Prelude.{ℕ, ◌≡◌, true, false, List, [], length, map, None, Result};
 ghost use Rattle.fault_schedule.specs.declared.Label.{Label as AnyLabel};
 ghost use Rattle.bio_core.specs.declared.fate.Why.{Why as AnyWhy};
 ghost use Rattle.bio_core.specs.Bios.{Block};
@@ -21,7 +21,6 @@ ghost use Rattle.block_path.specs.Blocks.{Sent};
 ghost use Rattle.whole_run.specs.Settings.{Setting};
 ghost use Rattle.run_record.specs.ToldRun.{came_by, told};
 ghost use Rattle.block_path.specs.Routes.{wire_size};
-ghost use Rattle.dix_adapter.specs.Outcomes.{done_of};
 ghost use Rattle.run_follows.specs.Finished.{FramesFit};
 ghost use Rattle.whole_run.specs.Settings.{Block as AnyBlock, route};
 ghost use Rattle.run_follows.specs.Following.{Follows};
@@ -105,8 +104,7 @@ pub fn what_was_not_carried_is_not_on_record()
     ensures goes_on { (old new : ℕ → ℕ → Status) (es : List Sent) → ((i k : ℕ) → is_carried (new i k) ≡ false → is_carried (old i k) ≡ false) → NoneBefore old es → NoneBefore new es }
 {}
 
-/// The frames on record keep the wire's size: those that are sent have it, and those that come where the command moved
-/// so many bytes for each block that is done.
+/// The frames on record keep the wire's size: those that are sent, and those that come.
 pub fn frames_on_record_fit()
     ensures out { (m : Setting) (a : AnyAdapter) (ios : List AnyIo) (req : List AnyBio) (pool : List (List ℕ)) (fates : List AnyFate) (old new : Shown)
         → IsProtect a.protect → IsGroup a pool m.size ios req → (first_of req).dir ≡ Write → any_bad (map (sends a ios (flat pool)) (blocks_in req)) ≡ false
@@ -114,6 +112,6 @@ pub fn frames_on_record_fit()
         → FramesFit m (recorded m old.log) → FramesFit m (recorded m new.log) }
     ensures inward { (m : Setting) (a : AnyAdapter) (ios : List AnyIo) (req : List AnyBio) (pool pool' : List (List ℕ)) (fates : List AnyFate) (old new : Shown)
         → IsProtect a.protect → IsGroup a pool m.size ios req → (first_of req).dir ≡ Read → ((b : AnyBlock) → wire_size (route m b) ≡ frame_len a ios req)
-        → (r : RecordedIn a ios req pool pool' fates old new) → length r.entry.moved ≡ done_of (size req) r.entry.what.outcome * frame_len a ios req
+        → RecordedIn a ios req pool pool' fates old new
         → FramesFit m (recorded m old.log) → FramesFit m (recorded m new.log) }
 {}

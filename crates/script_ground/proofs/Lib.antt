@@ -6,3 +6,4 @@ pub mod Shifts
 pub mod Spreads
 pub mod Standing
 pub mod Units
+pub mod BoundRuns

@@ -47,7 +47,7 @@ blocks-of : (m : Setting) (t : Table) (size v n bytes : ℕ) → m.size ≡ size
 blocks-of m t size v n bytes z e l w =
     record { within = subst (λ (es : List Entry). v + n ≤ volume_len es) (sym e) w; bytes_are = l ∙ ap (λ k. n * k) (sym z) }
 
-eights : (n bytes : ℕ) → bytes ≡ 8 * n → bytes ≡ n * 8
+pub eights : (n bytes : ℕ) → bytes ≡ 8 * n → bytes ≡ n * 8
 eights n bytes h = omega arith
 
 pub placed-op : (m : Setting) (t : Table) (devices : List DeviceInfo) (dix : Bool) (pages size : ℕ) (op : Op) → m.size ≡ size → m.entries ≡ t.entries → KeepsRules dix pages size op → op_fault t devices size op ≡ None → IsPlaced m (4096 * pages) op

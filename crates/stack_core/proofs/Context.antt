@@ -13,9 +13,12 @@ use Rattle.whole_run.specs.Settings.{Setting}
 use Rattle.run_record.specs.ToldRun.{came_by, told}
 use Rattle.stack_walks.specs.Ground.{Ground, IsPlanOf}
 use Rattle.stack_walks.proofs.Over.{ground_over}
+use Rattle.pi_tuple.specs.declared.checks.PiType.{PiType}
+use Rattle.dix_adapter.specs.declared.adapter.Adapter.{Adapter}
+use Rattle.stack_core.specs.declared.sheet.Sheet.{Sheet}
 use Rattle.stack_core.specs.declared.stack.Stack.{Stack}
 use Rattle.stack_core.specs.Sheets.{io_at, op_in}
-use Rattle.stack_core.specs.Stacks.{IsStack, plan_in}
+use Rattle.stack_core.specs.Stacks.{IsStack, Stays, plan_in}
 use Rattle.stack_core.specs.Walking.{IsOver, IsSealed}
 use Rattle.stack_core.proofs.Facts.{request-at}
 use Rattle.stack_core.proofs.FollowsGroup.{Places}
@@ -42,30 +45,8 @@ module _ (m : Setting) (n : ℕ) (opening : State) (s : Stack) (h : IsStack s) (
   pub stands : Stands m n (length opening.logs) plan ops ios s.pool
   stands = record { ground = o.ground; plan = plan_of; pages = o.pages; bytes = o.bytes; requests = o.ios; size = o.size; host = host_at; whole = h.whole }
 
-  pub stands_over : (es : List Sent) → Stands (told m es) n (length opening.logs) plan ops ios s.pool
-  stands_over es = record {
-    ground = ground_over m (came_by es) n (length opening.logs) ops o.ground;
-    plan = plan_is (told m es) m.mode.dix o.pages ops s.sheet.shifted.items ios s.sheet.table s.sheet.limits s.sheet.devices o.ios o.shifted;
-    pages = o.pages;
-    bytes = o.bytes;
-    requests = o.ios;
-    size = o.size;
-    host = host_at;
-    whole = h.whole;
-  }
-
-  pub places : (es : List Sent) → Places (told m es) plan ops ios
-  places es = record {
-    many = h.fixed.ops;
-    first = λ i. ap (λ (r : Request). r.first) (request-at ios i);
-    count = λ i. ap (λ (r : Request). r.count) (request-at ios i);
-    dir = λ i. ap (λ (r : Request). r.dir) (request-at ios i);
-    dev = λ v. ap (λ (x : List Entry). (place_in x v).0) (sym o.entries);
-    lba = λ v. ap (λ (x : List Entry). (place_in x v).1) (sym o.entries);
-  }
-
-  pub places_here : Places m plan ops ios
-  places_here = record {
+  pub places : Places m plan ops ios
+  places = record {
     many = h.fixed.ops;
     first = λ i. ap (λ (r : Request). r.first) (request-at ios i);
     count = λ i. ap (λ (r : Request). r.count) (request-at ios i);
@@ -89,3 +70,28 @@ sealed_over m es (WritePi v n body tuples) h = tt
 sealed_over m es (FetchPi v n body tuples) h = tt
 sealed_over m es (Overwrite dev lba change) h = tt
 sealed_over m es Wait h = tt
+
+-- what is known of a setting is known of it over what is told
+pub over_told : (m : Setting) (es : List Sent) (n : ℕ) (opening : State) (sheet : Sheet) (a : Adapter) (host : PiType) → IsOver m n opening sheet a host → IsOver (told m es) n opening sheet a host
+over_told m es n opening sheet a host o = record {
+  ground = ground_over m (came_by es) n (length opening.logs) sheet.ops o.ground;
+  found = o.found;
+  pages = o.pages;
+  bytes = o.bytes;
+  ios = o.ios;
+  shifted = o.shifted;
+  mode = o.mode;
+  ty = o.ty;
+  host_is = o.host_is;
+  size = o.size;
+  entries = o.entries;
+  faults = o.faults;
+  seals = λ i l. sealed_over m es (op_in sheet.ops i) (o.seals i l);
+}
+
+-- and once the stack has gone on
+pub over_stays : (m : Setting) (n : ℕ) (opening : State) (s s' : Stack) → Stays s s' → IsOver m n opening s.sheet s.adapter s.host → IsOver m n opening s'.sheet s'.adapter s'.host
+over_stays m n opening s s' stays o =
+    subst (λ (x : Sheet). IsOver m n opening x s'.adapter s'.host) (sym stays.sheet)
+    (subst (λ (a : Adapter). IsOver m n opening s.sheet a s'.host) (sym stays.adapter)
+    (subst (λ (t : PiType). IsOver m n opening s.sheet s.adapter t) (sym stays.host) o))

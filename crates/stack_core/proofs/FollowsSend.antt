@@ -68,13 +68,13 @@ module _ (m : Setting) (n : ℕ) (opening : State) (p : Plan) (ops : List Op) (i
   pub group_numbered : AllNumbered bs
   group_numbered = all_numbered m ios bs group_lies
 
-  ids : map id_of bs ≡ blocks (group_at v dev i)
+  pub ids : map id_of bs ≡ blocks (group_at v dev i)
   ids = ids_are (group_at v dev i)
 
   pub once_is : (op k : ℕ) → times op k (map id_of bs) ≤ 1
   once_is op k = subst (λ x. times op k x ≤ 1) (sym ids) (times_one op k)
 
-  out_is : (op k : ℕ) → 1 ≤ times op k (map id_of bs) → IsOut p v op k × (status (suc op) k ≡ Cut)
+  pub out_is : (op k : ℕ) → 1 ≤ times op k (map id_of bs) → IsOut p v op k × (status (suc op) k ≡ Cut)
   out_is op k h =
       let t = in_its_queue v dev i op k l in
       let h' = subst (λ x. 1 ≤ times op k x) ids h in

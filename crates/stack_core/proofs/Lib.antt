@@ -40,5 +40,9 @@ pub mod FollowsOp
 pub mod Context
 pub mod Walked
 pub mod WalkedFar
+pub mod WalkedRecord
+pub mod AtUnits
+pub mod WalkedTold
+pub mod ToldOps
 pub mod WalkBegins
 pub mod WalkEnds

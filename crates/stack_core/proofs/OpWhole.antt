@@ -38,7 +38,7 @@ use Rattle.stack_core.specs.Done.{OpDone, Sealed}
 use Rattle.stack_core.specs.Replies.{CanSeal, HoldsSeal, shown}
 use Rattle.stack_core.specs.Requests.{sealed}
 use Rattle.stack_core.specs.Rooms.{Suits}
-use Rattle.stack_core.specs.Walking.{IsReply, IsSealed, shown_by}
+use Rattle.stack_core.specs.Walking.{IsReply, IsSealed, op_left, shown_by}
 use Rattle.stack_core.proofs.Begin.{size-is}
 use Rattle.stack_core.proofs.Spotted.{turns, turns_one}
 
@@ -54,6 +54,7 @@ at_none (suc k) = refl
 -- Pages and reply are those of the op's acts.
 pub record IsWholly (m : Setting) (i : ℕ) (op : Op) (new : List (List ℕ)) (reply : Reply) (now : State) : Type 0 where
   pub bytes : flat new ≡ (plain act (acts_of m i op) now).bytes
+  pub blocks : (plain act (acts_of m i op) now).blocks ≡ op_left m op now.blocks
   pub whole : AreWhole new
   pub replies : (whys : List (Option Why)) → IsReply op whys reply
   pub shows : (k : ℕ) → at_first (shown_by reply) k ≡ (get_or (plain_tells act tell (acts_of m i op) now) k silent).shown
@@ -82,6 +83,10 @@ seals_silent : (m : Setting) (F : ℕ → Step) (k n q : ℕ) (s : State) → ((
 seals_silent m F k zero q s h = ap (λ (a : Answer). a.shown) (get_or_past none_told q silent (omega arith))
 seals_silent m F k (suc n) zero s h = h k s
 seals_silent m F k (suc n) (suc q) s h = seals_silent m F (suc k) n q (act (act_of m (F k)) s) h
+
+seals_blocks : (m : Setting) (F : ℕ → Step) (k n : ℕ) (s : State) → ((j : ℕ) (t : State) → (act (act_of m (F j)) t).blocks ≡ t.blocks) → (plain act (map (act_of m) (each_from k n F)) s).blocks ≡ s.blocks
+seals_blocks m F k zero s h = refl
+seals_blocks m F k (suc n) s h = seals_blocks m F (suc k) n (act (act_of m (F k)) s) h ∙ h k s
 
 module _ (m : Setting) (i : ℕ) (old new : List (List ℕ)) (reply : Reply) (now : State) (w : AreWhole old) (same : now.bytes ≡ flat old) where
   -- nothing is written, and nothing shown
@@ -120,12 +125,14 @@ module _ (m : Setting) (i : ℕ) (old new : List (List ℕ)) (reply : Reply) (no
   by_op : (op : Op) (kind : GuardKind) (room : Room) → IsAlone op → CanDo old room op → Suits op room → IsSealed m op → kind ≡ m.mode.kind → OpDone op kind room old new reply → IsWholly m i op new reply now
   by_op (Fill seg byte) kind room a c s f k h = record {
     bytes = wrote_segment old new seg (replicate seg.len byte) now w same c h.0;
+    blocks = refl;
     whole = whole_stays old new (places_of seg) h.0.others w;
     replies = λ whys. h.1;
     shows = one_silent silent refl h.1;
   }
   by_op (Put page off bytes) kind room a c s f k h = record {
     bytes = wrote_segment old new (put_seg page off bytes) bytes now w same c.0 h.0;
+    blocks = refl;
     whole = whole_stays old new (places_of (put_seg page off bytes)) h.0.others w;
     replies = λ whys. h.1;
     shows = one_silent silent refl h.1;
@@ -137,6 +144,7 @@ module _ (m : Setting) (i : ℕ) (old new : List (List ℕ)) (reply : Reply) (no
       = ap (bytes_at old) (sym n) ∙ (read-cells old (places_of seg ++ []) w (segment_stands old seg c.0) ∙ ap (gather 0 (cells_of (seg ∷ []))) (sym same)) in
       record {
         bytes = still_bytes h.0;
+        blocks = refl;
         whole = still_whole h.0;
         replies = λ whys. (bytes_at old (places_of seg), e);
         shows = λ q. ap (λ r. at_first (shown_by r) q) e ∙ (ap (λ b. at_first b q) r ∙ sym (one_tell (record silent { shown = gather 0 (cells_of (seg ∷ [])) now.bytes }) q));
@@ -147,6 +155,7 @@ module _ (m : Setting) (i : ℕ) (old new : List (List ℕ)) (reply : Reply) (no
       let done : Sealed (Tuples pi) m.mode.kind body old new = subst (λ x. Sealed (Tuples pi) x body old new) k (subst (λ x. Sealed x kind body old new) s h.0) in
       record {
         bytes = seal_bytes n body tuples app rtag can f done;
+        blocks = seals_blocks m (F n body tuples app rtag) 0 n now (λ j t. refl);
         whole = whole_stays old new (range_of tuples 0 (8 * n)) done.others w;
         replies = λ whys. h.1;
         shows = λ q. silent_shows h.1 q ∙ sym (seals_silent m (F n body tuples app rtag) 0 n q now (λ j t. refl));
@@ -157,6 +166,7 @@ module _ (m : Setting) (i : ℕ) (old new : List (List ℕ)) (reply : Reply) (no
   by_op (FetchPi v n body tuples) kind room a c s f k h = absurd a
   by_op (Overwrite dev lba change) kind room a c s f k h = record {
     bytes = still_bytes h.0;
+    blocks = refl;
     whole = still_whole h.0;
     replies = λ whys. h.1;
     shows = λ q. over_shows h.1 q;
@@ -167,6 +177,7 @@ module _ (m : Setting) (i : ℕ) (old new : List (List ℕ)) (reply : Reply) (no
       over_shows (inr e) q = ap (λ r. at_first (shown_by r) q) e ∙ (at_none q ∙ (sym (at_none q) ∙ sym (one_tell silent q)))
   by_op Wait kind room a c s f k h = record {
     bytes = still_bytes h.0;
+    blocks = refl;
     whole = still_whole h.0;
     replies = λ whys. h.1;
     shows = λ q. silent_shows h.1 q ∙ sym (ap (λ (a : Answer). a.shown) (get_or_past none_told q silent (omega arith)));

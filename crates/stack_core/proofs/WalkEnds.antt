@@ -1,5 +1,5 @@
 -- What a stack comes to that followed the walk of its script to the end.
-use Rattle.std.proofs.Common.{◌≡◌, ◌⊎◌, inl, inr, ◌<◌, ◌≤◌, ℕ, zero, suc, ◌+◌, Bool, true, false, List, [], ◌∷◌, length, drop, get_or, map, Option, refl, sym, ap, subst, ◌∙◌, arith, ⊎_elim}
+use Rattle.std.proofs.Common.{◌≡◌, ◌⊎◌, inl, inr, ◌<◌, ◌≤◌, ℕ, zero, suc, ◌+◌, Bool, true, false, List, [], ◌∷◌, length, drop, get_or, map, take, Option, refl, sym, ap, subst, ◌∙◌, arith, ⊎_elim}
 use Rattle.std.specs.Prelude.{if◌then◌else◌}
 use Rattle.std.proofs.lemmas.Bool.{cases_lt}
 use Rattle.std.proofs.lemmas.List.{ext_get_or}
@@ -8,6 +8,9 @@ use Rattle.range_gate.specs.Gates.{has_ended, is_waiting}
 use Rattle.range_gate.specs.declared.phase.Phase.{Phase}
 use Rattle.range_gate.specs.declared.phase.Phase.TheVariants.{Admitted as OpAdmitted, Ended, Waiting}
 use Rattle.rig_api.specs.Log.{Entry}
+use Rattle.fault_schedule.specs.declared.fault.FaultLine.{FaultLine}
+use Rattle.target_answer.specs.Target.{Stored}
+use Rattle.dix_adapter.specs.Ways.{blocks_told}
 use Rattle.rig_api.specs.Telling.{Standing}
 use Rattle.stack_ops.specs.declared.op.Op.{Op}
 use Rattle.stack_ops.specs.declared.op.Op.TheVariants.{Fetch, FetchPi, Fill, Overwrite, Put, Seal, Show, Wait, Write, WritePi}
@@ -31,14 +34,17 @@ use Rattle.run_record.specs.ToldRun.{told}
 use Rattle.run_follows.specs.Finished.{AllEnded, HasEnded, HaveEnded, answer_of, answers_of, replies_of}
 use Rattle.run_follows.specs.Gate.{IsAlone}
 use Rattle.run_follows.specs.Slots.{Done, Settled, Status}
-use Rattle.run_follows.proofs.Backing.{is_backed}
+use Rattle.run_follows.proofs.Backing.{is_backed, told_carried}
+use Rattle.run_follows.proofs.Binding.{bound_over}
+use Rattle.run_follows.proofs.Ends.{ends_as_walk}
 use Rattle.stack_walks.specs.Statuses.{fate_in}
 use Rattle.stack_walks.proofs.Letting.{all_marked}
 use Rattle.stack_walks.proofs.Standing.{is_done, is_settled}
 use Rattle.stack_core.specs.declared.stack.Stack.{Stack}
 use Rattle.stack_core.specs.Sheets.{op_in}
 use Rattle.stack_core.specs.Stacks.{IsStack, plan_in}
-use Rattle.stack_core.specs.Walking.{HasFails, IsReply, Walks, data_of, is_medium, shown_by, shown_in, status_of, why_in}
+use Rattle.stack_core.specs.Walking.{EndsTold, HasFails, IsOver, IsReply, Walks, WalksOver, WalksTold, data_of, is_medium, shown_by, shown_in, status_of, why_in}
+use Rattle.stack_core.proofs.Context.{over_told}
 use Rattle.stack_core.proofs.Walked.{sound, stand}
 
 ended_waits : (h : Phase) → has_ended h ≡ true → is_waiting h ≡ false
@@ -79,17 +85,17 @@ module _ (m : Setting) (i : ℕ) (status : ℕ → Status) (why : ℕ → Option
   each_over f k zero h = tt
   each_over f k (suc c) h = (h k (omega arith) (omega arith), each_over f (suc k) c (λ q a b. h q (omega arith) (omega arith)))
 
-  over : (op : Op) → ((q : ℕ) → q < fates_of op → status q ≡ Settled (why q)) → (fates_of op ≡ 0 → (q : ℕ) → (shown : List ℕ) × (status q ≡ Done shown)) → HaveEnded 0 (steps_of m i op) status
-  over (Fill seg byte) s d = (d refl 0, tt)
-  over (Put page off bytes) s d = (d refl 0, tt)
-  over (Show seg) s d = (d refl 0, tt)
-  over (Seal n body tuples app rtag) s d = each_over _ 0 n (λ q a b. d refl q)
-  over (Write v n body app) s d = each_over _ 0 n (λ q a b. (why q, s q (omega arith)))
-  over (Fetch v n body) s d = each_over _ 0 n (λ q a b. (why q, s q (omega arith)))
-  over (WritePi v n body tuples) s d = each_over _ 0 n (λ q a b. (why q, s q (omega arith)))
-  over (FetchPi v n body tuples) s d = each_over _ 0 n (λ q a b. (why q, s q (omega arith)))
-  over (Overwrite dev lba change) s d = (d refl 0, tt)
-  over Wait s d = tt
+  all_steps : (op : Op) → ((q : ℕ) → q < fates_of op → status q ≡ Settled (why q)) → (fates_of op ≡ 0 → (q : ℕ) → (shown : List ℕ) × (status q ≡ Done shown)) → HaveEnded 0 (steps_of m i op) status
+  all_steps (Fill seg byte) s d = (d refl 0, tt)
+  all_steps (Put page off bytes) s d = (d refl 0, tt)
+  all_steps (Show seg) s d = (d refl 0, tt)
+  all_steps (Seal n body tuples app rtag) s d = each_over _ 0 n (λ q a b. d refl q)
+  all_steps (Write v n body app) s d = each_over _ 0 n (λ q a b. (why q, s q (omega arith)))
+  all_steps (Fetch v n body) s d = each_over _ 0 n (λ q a b. (why q, s q (omega arith)))
+  all_steps (WritePi v n body tuples) s d = each_over _ 0 n (λ q a b. (why q, s q (omega arith)))
+  all_steps (FetchPi v n body tuples) s d = each_over _ 0 n (λ q a b. (why q, s q (omega arith)))
+  all_steps (Overwrite dev lba change) s d = (d refl 0, tt)
+  all_steps Wait s d = tt
 
 -- of all ops
 all_over : (m : Setting) (from : ℕ) (ops : List Op) (status : ℕ → ℕ → Status) → ((j : ℕ) → j < length ops → HaveEnded 0 (steps_of m (from + j) (op_in ops j)) (status (from + j))) → AllEnded m from ops status
@@ -112,7 +118,7 @@ all_replies m from (op ∷ ops) status (r ∷ replies) e h =
     let rest = all_replies m (suc from) ops status replies (omega arith) (λ j l. let y : from + suc j ≡ suc from + j = omega arith in subst (λ x. reply_of (m.fails x) (op_in ops j) (answers_of 0 (steps_of m x (op_in ops j)) (status x)) ≡ get_or replies j Silent) y (h (suc j) (omega arith))) in
     ap (λ x. x ∷ replies_of m (suc from) ops status) here ∙ ap (λ l. r ∷ l) rest
 
-module _ (m : Setting) (n : ℕ) (opening : State) (first : ℕ) (s : Stack) (st : Standing) (log : List Entry) (k : IsStack s) (w : Walks m n opening first s st log) (none : enabled (plan_in s.sheet) w.view ≡ []) where
+module _ (over : Setting) (n : ℕ) (opening : State) (es : List Sent) (left : List (List ℕ)) (s : Stack) (k : IsStack s) (o : IsOver over n opening s.sheet s.adapter s.host) (w : WalksOver over n opening es left s) (none : enabled (plan_in s.sheet) w.view ≡ []) where
   abbrev plan : Plan
   plan = plan_in s.sheet
 
@@ -127,34 +133,59 @@ module _ (m : Setting) (n : ℕ) (opening : State) (first : ℕ) (s : Stack) (st
 
   ended : (i : ℕ) → i < length ops → has_ended (op_at w.view i).phase ≡ true
   ended i l =
-      let x = sound m n opening first s st log k w in
-      let y = (stand m n opening first s st log k w).plan.many in
+      let x = sound over n opening es left s k o w in
+      let y = (stand over n opening es left s k o w).plan.many in
       let z = x.ops in
       stuck plan w.view x none i (omega arith)
 
   settled : (i q : ℕ) → i < length ops → q < fates_of (op_in ops i) → status (suc i) q ≡ Settled (why i q)
   settled i q l b =
-      let x = sound m n opening first s st log k w in
-      let c = (stand m n opening first s st log k w).plan.count i in
+      let x = sound over n opening es left s k o w in
+      let c = (stand over n opening es left s k o w).plan.count i in
       let e = ended i l in
       let g = x.lengths i in
       is_settled (request_at plan i).count (op_at w.view i) (shown_in (data_of s).replies i q) (why i q) (fate_in i q w.view.commands) q (ended_waits (op_at w.view i).phase e) (omega arith) (all_marked (op_at w.view i).settled q (x.ended i e) (omega arith))
 
   done : (i q : ℕ) → i < length ops → fates_of (op_in ops i) ≡ 0 → status (suc i) q ≡ Done (shown_in (data_of s).replies i q)
   done i q l z =
-      let c = (stand m n opening first s st log k w).plan.count i in
+      let c = (stand over n opening es left s k o w).plan.count i in
       is_done (request_at plan i).count (op_at w.view i) (shown_in (data_of s).replies i q) (why i q) (fate_in i q w.view.commands) q (ended_waits (op_at w.view i).phase (ended i l)) (omega arith)
 
-  pub all_ended : AllEnded m 1 ops status
-  all_ended = all_over m 1 ops status (λ j l. let y : suc j ≡ 1 + j = omega arith in subst (λ x. HaveEnded 0 (steps_of m x (op_in ops j)) (status x)) y (over m (suc j) (status (suc j)) (why j) Silent (op_in ops j) (λ q b. settled j q l b) (λ z q. (shown_in (data_of s).replies j q, done j q l z))))
+  pub all_ended : (m : Setting) → AllEnded m 1 ops status
+  all_ended m = all_over m 1 ops status (λ j l. let y : suc j ≡ 1 + j = omega arith in subst (λ x. HaveEnded 0 (steps_of m x (op_in ops j)) (status x)) y (all_steps m (suc j) (status (suc j)) (why j) Silent (op_in ops j) (λ q b. settled j q l b) (λ z q. (shown_in (data_of s).replies j q, done j q l z))))
 
-  pub all_replied : HasFails m s.replies.items → replies_of m 1 ops status ≡ s.replies.items
-  all_replied f =
+  pub all_replied : (m : Setting) → HasFails m s.replies.items → replies_of m 1 ops status ≡ s.replies.items
+  all_replied m f =
       let r = k.replies in
       let o = k.fixed.ops in
       all_replies m 1 ops status s.replies.items (omega arith)
       (λ j l. let y : suc j ≡ 1 + j = omega arith in subst (λ x. reply_of (m.fails x) (op_in ops j) (answers_of 0 (steps_of m x (op_in ops j)) (status x)) ≡ get_or s.replies.items j Silent) y (says m (suc j) (status (suc j)) (why j) (get_or s.replies.items j Silent) (op_in ops j) (λ q b. settled j q l b) (λ z. done j 0 l z) (w.follow.replied j l (ended j l)) (f j)))
 
-  -- so its replies are backed by what stands on record since it began
-  pub ends_backed : HasFails m s.replies.items → IsBoundRun (told m (recorded m (drop first log))) (λ c block. true) n ops opening → Backed m ops (hidden n opening) (drop first log) s.replies.items
-  ends_backed f bound = subst (Backed m ops (hidden n opening) (drop first log)) (all_replied f) (is_backed m n ops opening w.now status (drop first log) bound all_ended w.follow.follows)
+-- Over any rig the replies are backed by what stands on record since the stack began.
+pub ends_backed : (m : Setting) (fine : ℕ → List ℕ → Bool) (n : ℕ) (opening : State) (first : ℕ) (s : Stack) (st : Standing) (log : List Entry) → IsStack s → (w : Walks m n opening first s st log) → enabled (plan_in s.sheet) w.walks.view ≡ [] →
+    HasFails m s.replies.items → IsBoundRun m fine n s.sheet.ops opening → Backed m s.sheet.ops (hidden n opening) (drop first log) s.replies.items
+ends_backed m fine n opening first s st log k w none f bound =
+    let es = recorded m (drop first log) in
+    let o = over_told m es n opening s.sheet s.adapter s.host w.over in
+    let status = status_of (plan_in s.sheet) (data_of s) w.walks.view in
+    subst (Backed m s.sheet.ops (hidden n opening) (drop first log)) (all_replied (told m es) n opening es w.left s k o w.walks none m f)
+    (is_backed m n s.sheet.ops opening w.walks.now status (drop first log) (bound_over m es w.fit fine n s.sheet.ops opening bound) (all_ended (told m es) n opening es w.left s k o w.walks none m) w.walks.follow.follows)
+
+-- Over a rig that tells its blocks the stack has done the walk.
+pub ends_told : (m : Setting) (fine : ℕ → List ℕ → Bool) (n : ℕ) (opening : State) (first : ℕ) (s : Stack) (units : Option (List Stored)) (armed : List FaultLine) (st : Standing) (log : List Entry) → IsStack s → (w : WalksTold m n opening first s units armed st log) → enabled (plan_in s.sheet) w.walks.view ≡ [] →
+    HasFails m s.replies.items → IsBoundRun m fine n s.sheet.ops opening → EndsTold m n opening s.sheet.ops s w.us (drop first log)
+ends_told m fine n opening first s units armed st log k w none f bound =
+    let es = recorded m (drop first log) in
+    let ops = s.sheet.ops in
+    let status = status_of (plan_in s.sheet) (data_of s) w.walks.view in
+    let replied = all_replied m n opening es (blocks_told w.us) s k w.over w.walks none m f in
+    let over = all_ended m n opening es (blocks_told w.us) s k w.over w.walks none m in
+    let ends = ends_as_walk m fine n ops opening w.walks.now status es bound over w.walks.follow.follows in
+    let told = told_carried m fine n ops opening w.walks.now status (drop first log) bound over w.walks.follow.follows in
+    record {
+      replies = sym replied ∙ ends.replies;
+      pages = ap (take n) (sym w.walks.follow.bytes) ∙ ap (λ x. x.bytes) ends.cells;
+      blocks = sym w.walks.blocks ∙ ap (λ x. x.blocks) ends.cells;
+      carried = told.0;
+      backed = subst (Backed m ops (hidden n opening) (drop first log)) replied told.1;
+    }

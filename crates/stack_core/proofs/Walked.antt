@@ -1,4 +1,4 @@
--- A stack that follows the walk of its script does so after each step that sends nothing.
+-- A stack that follows the walk of its script does so after each step that sends nothing, whatever is behind the adapter.
 use Rattle.std.proofs.Common.{◌≡◌, ◌<◌, ◌≤◌, ℕ, zero, suc, ◌+◌, ◌-◌, ◌*◌, Bool, true, false, List, [], ◌∷◌, ◌++◌, length, get_or, set, take, drop, Option, Some, None, refl, sym, ap, subst, ◌∙◌, arith}
 use Rattle.std.specs.Prelude.{eqb, if◌then◌else◌}
 use Rattle.std.proofs.lemmas.Bool.{and_parts, eqb-true, ltb-true}
@@ -18,12 +18,9 @@ use Rattle.bio_core.specs.declared.fate.Fate.{Fate}
 use Rattle.bio_core.specs.declared.request.Dir.{Dir}
 use Rattle.bio_core.specs.declared.request.Dir.TheVariants.{Read, Write as WriteDir}
 use Rattle.bio_core.specs.declared.request.Io.{Io}
-use Rattle.dix_adapter.specs.declared.adapter.Adapter.{Adapter}
 use Rattle.range_gate.specs.Gates.{has_ended, is_waiting}
 use Rattle.range_gate.specs.declared.phase.Phase.{Phase}
 use Rattle.range_gate.specs.declared.phase.Phase.TheVariants.{Admitted as OpAdmitted, Ended, Waiting}
-use Rattle.rig_api.specs.Log.{Entry}
-use Rattle.rig_api.specs.Telling.{Standing, spec_at}
 use Rattle.stack_ops.specs.declared.op.Op.{Op}
 use Rattle.stack_ops.specs.declared.reply.Reply.{Reply}
 use Rattle.stack_ops.specs.declared.reply.Reply.TheVariants.{Silent}
@@ -41,11 +38,11 @@ use Rattle.stack_steps.specs.declared.choice.Choice.TheVariants.{Admit, Complete
 use Rattle.stack_steps.specs.Does.{Chooses, Cuts, Does, Holds, OfOp, Ready}
 use Rattle.stack_steps.specs.Shows.{Means, live_ops, op_of}
 use Rattle.ref_remap.specs.Remapped.{AreRemapped}
-use Rattle.block_path.specs.Acts.{State}
+use Rattle.block_path.specs.Acts.{State, act}
 use Rattle.block_path.specs.Blocks.{Sent}
+use Rattle.block_path.specs.Serial.{plain}
+use Rattle.whole_run.specs.ScriptWalk.{acts_of}
 use Rattle.whole_run.specs.Settings.{Setting, block_of, route}
-use Rattle.run_record.specs.Records.{recorded}
-use Rattle.run_record.specs.ToldRun.{told}
 use Rattle.run_follows.specs.Sending.{NoneBefore}
 use Rattle.stack_core.specs.declared.kept.Room.{Room}
 use Rattle.stack_core.specs.declared.kept.Room.TheVariants.{Nothing}
@@ -55,8 +52,8 @@ use Rattle.stack_core.specs.Done.{MadeBy, OpDone, WriteMade, WriteMapped}
 use Rattle.stack_core.specs.Replies.{reply_of}
 use Rattle.stack_core.specs.Sheets.{io_at, op_in}
 use Rattle.stack_core.specs.Stacks.{HasStep, IsStack, Stays, plan_in, room_at}
-use Rattle.stack_core.specs.Walking.{Data, Follow, GoesOn, IsChosen, IsOver, Walks, data_of, status_of}
-use Rattle.stack_core.proofs.Context.{places, sealed_over, stands_over}
+use Rattle.stack_core.specs.Walking.{Data, Follow, GoesOn, IsChosen, IsOver, WalksOver, data_of, op_left, status_of}
+use Rattle.stack_core.proofs.Context.{places, stands}
 use Rattle.stack_core.proofs.Facts.{op-ends, op-enters}
 use Rattle.stack_core.proofs.FollowsEnd.{ends, joins}
 use Rattle.stack_core.proofs.FollowsGroup.{Places, there_is}
@@ -91,13 +88,7 @@ some_not_zero c h = by (eqb c 0) refl where
   by false e = refl
   by true e = let z = eqb-true c 0 e in absurd (omega arith)
 
-module _ (m : Setting) (n : ℕ) (opening : State) (first : ℕ) (s : Stack) (st : Standing) (log : List Entry) (k : IsStack s) (w : Walks m n opening first s st log) where
-  abbrev pub es : List Sent
-  es = recorded m (drop first log)
-
-  abbrev pub over : Setting
-  over = told m es
-
+module _ (over : Setting) (n : ℕ) (opening : State) (es : List Sent) (left : List (List ℕ)) (s : Stack) (k : IsStack s) (o : IsOver over n opening s.sheet s.adapter s.host) (w : WalksOver over n opening es left s) where
   abbrev pub plan : Plan
   plan = plan_in s.sheet
 
@@ -114,10 +105,10 @@ module _ (m : Setting) (n : ℕ) (opening : State) (first : ℕ) (s : Stack) (st
   sound = w.holds.shows.sound
 
   pub stand : Stands over n (length opening.logs) plan ops ios s.pool
-  stand = stands_over m n opening s k w.over es
+  stand = stands over n opening s k o
 
   pub lie : Places over plan ops ios
-  lie = places m n opening s k w.over es
+  lie = places over n opening s k o
 
   ops_there : length v.ops ≡ length ios
   ops_there = sound.ops ∙ (stand.plan.many ∙ k.fixed.ops)
@@ -125,25 +116,14 @@ module _ (m : Setting) (n : ℕ) (opening : State) (first : ℕ) (s : Stack) (st
   -- ---- what goes on
 
   module _ (s' : Stack) (stays : Stays s s') where
-    pub over_stays : IsOver m n opening s'.sheet s'.adapter s'.host
-    over_stays =
-        subst (λ (x : Sheet). IsOver m n opening x s'.adapter s'.host) (sym stays.sheet)
-        (subst (λ (a : Adapter). IsOver m n opening s.sheet a s'.host) (sym stays.adapter)
-        (subst (λ (t : PiType). IsOver m n opening s.sheet s.adapter t) (sym stays.host) w.over))
-
-    pub sizes_stay : (d : ℕ) → d < s'.sheet.devices → (spec_at st d).size ≡ m.size
-    sizes_stay d l = w.sizes d (subst (λ (x : Sheet). d < x.devices) stays.sheet l)
-
-    pub walked : (d' : Data) (w' : View) (left : List (List ℕ)) → data_of s' ≡ d' → Holds plan s'.machine w' → GoesOn over n opening es plan ops (data_of s) d' v w' left → Walks m n opening first s' st log
-    walked d' w' left e h g = record {
-      over = over_stays;
-      sizes = sizes_stay;
-      recorded_from = w.recorded_from;
+    pub walked : (d' : Data) (w' : View) (now' left' : List (List ℕ)) → data_of s' ≡ d' → Holds plan s'.machine w' → GoesOn over n opening es plan ops (data_of s) d' v w' now' → now' ≡ left' → WalksOver over n opening es left' s'
+    walked d' w' now' left' e h g l = record {
       view = w';
       holds = subst (λ (x : Sheet). Holds (plan_in x) s'.machine w') (sym stays.sheet) h;
       now = g.after;
       follow = subst (λ (x : Sheet). Follow over n opening es (plan_in x) x.ops (data_of s') w' g.after) (sym stays.sheet) (subst (λ (d : Data). Follow over n opening es plan ops d w' g.after) (sym e) g.follow);
       none_before = subst (λ (x : Sheet). NoneBefore (status_of (plan_in x) (data_of s') w') es) (sym stays.sheet) (subst (λ (d : Data). NoneBefore (status_of plan d w') es) (sym e) (g.none_before w.none_before));
+      blocks = g.blocks ∙ l;
     }
 
   -- ---- the step that was chosen
@@ -166,16 +146,16 @@ module _ (m : Setting) (n : ℕ) (opening : State) (first : ℕ) (s : Stack) (st
 
   -- ---- groups are joined
 
-  pub walk_joins : (s' : Stack) (d i j : ℕ) → Stays s s' → IsChosen s (Join d i j) → Does plan s.machine (Join d i j) 0 s'.machine → data_of s' ≡ data_of s → Walks m n opening first s' st log
+  pub walk_joins : (s' : Stack) (d i j : ℕ) → Stays s s' → IsChosen s (Join d i j) → Does plan s.machine (Join d i j) 0 s'.machine → data_of s' ≡ data_of s → WalksOver over n opening es left s'
   walk_joins s' d i j stays ch does same =
       let t : taken (Join d i j) ch ≡ StepJoin d i j = meant (Join d i j) ch in
       let h : Holds plan s'.machine (step plan v (StepJoin d i j) 0 []) = subst (λ x. Holds plan s'.machine (step plan v x 0 [])) t (does v (taken (Join d i j) ch) w.holds (can_be (Join d i j) ch) (meant (Join d i j) ch)) in
-      walked s' stays (data_of s) (step plan v (StepJoin d i j) 0 []) w.now.blocks same h (joins over n opening es plan ops (data_of s) v w.now w.follow d i j 0)
+      walked s' stays (data_of s) (step plan v (StepJoin d i j) 0 []) w.now.blocks left same h (joins over n opening es plan ops (data_of s) v w.now w.follow d i j 0) w.blocks
 
   -- ---- an op ends
 
   pub walk_ends : (s' : Stack) (q i : ℕ) → Stays s s' → IsChosen s (End q) → Does plan s.machine (End q) 0 s'.machine → OfOp plan s.machine (End q) i →
-      data_of s' ≡ record (data_of s) { rooms = set s.rooms.items i Nothing; replies = set s.replies.items i (reply_of (take (io_at ios i).count (drop (get_or s.kept.starts.items i 0) s.kept.held.items)) (room_at s.rooms.items i)) } → Walks m n opening first s' st log
+      data_of s' ≡ record (data_of s) { rooms = set s.rooms.items i Nothing; replies = set s.replies.items i (reply_of (take (io_at ios i).count (drop (get_or s.kept.starts.items i 0) s.kept.held.items)) (room_at s.rooms.items i)) } → WalksOver over n opening es left s'
   walk_ends s' q i stays ch does of same =
       let c = End q in
       let t : taken c ch ≡ StepEnd i = (meant c ch).1 ∙ ap StepEnd (sym (ap op_of (meant c ch).1) ∙ of v (taken c ch) w.holds (meant c ch)) in
@@ -191,8 +171,8 @@ module _ (m : Setting) (n : ℕ) (opening : State) (first : ℕ) (s : Stack) (st
       let room = k.kept.within i li in
       let same' : data_of s' ≡ record (data_of s) { rooms = set s.rooms.items i Nothing; replies = set s.replies.items i (reply_of (take (request_at plan i).count (drop (get_or s.kept.starts.items i 0) s.kept.held.items)) (room_at s.rooms.items i)) }
       = same ∙ ap (λ x. record (data_of s) { rooms = set s.rooms.items i Nothing; replies = set s.replies.items i (reply_of (take x (drop (get_or s.kept.starts.items i 0) s.kept.held.items)) (room_at s.rooms.items i)) }) (sym cnt) in
-      walked s' stays (record (data_of s) { rooms = set s.rooms.items i Nothing; replies = set s.replies.items i (reply_of (take (request_at plan i).count (drop (get_or s.kept.starts.items i 0) s.kept.held.items)) (room_at s.rooms.items i)) }) (step plan v (StepEnd i) 0 []) w.now.blocks same' h
-      (ends over n opening es plan ops (data_of s) v w.now w.follow i (omega arith) (omega arith) (omega arith) (omega arith) a (stand.plan.count i) (omega arith) 0)
+      walked s' stays (record (data_of s) { rooms = set s.rooms.items i Nothing; replies = set s.replies.items i (reply_of (take (request_at plan i).count (drop (get_or s.kept.starts.items i 0) s.kept.held.items)) (room_at s.rooms.items i)) }) (step plan v (StepEnd i) 0 []) w.now.blocks left same' h
+      (ends over n opening es plan ops (data_of s) v w.now w.follow i (omega arith) (omega arith) (omega arith) (omega arith) a (stand.plan.count i) (omega arith) 0) w.blocks
 
   -- ---- an op is admitted
 
@@ -215,20 +195,20 @@ module _ (m : Setting) (n : ℕ) (opening : State) (first : ℕ) (s : Stack) (st
     there : i < length ios
     there = op-enters ops s.sheet.shifted.items ios s.sheet.table s.sheet.limits s.sheet.devices s.machine q i s.sheet.right.fine (ready enters ch) of
 
-    pub walk_admits : 0 < (io_at ios i).count → (pool : List (List ℕ)) → WriteMade (io_at ios i).dir (io_at ios i).pi s.adapter.kind s.host (io_at ios i).body s.pool pool → data_of s' ≡ record (data_of s) { pool = pool } → Walks m n opening first s' st log
+    pub walk_admits : 0 < (io_at ios i).count → (pool : List (List ℕ)) → WriteMade (io_at ios i).dir (io_at ios i).pi s.adapter.kind s.host (io_at ios i).body s.pool pool → data_of s' ≡ record (data_of s) { pool = pool } → WalksOver over n opening es left s'
     walk_admits some pool made same =
         let l = there in
         let f = k.fixed.ops in
         let vo = ops_there in
         let cnt = lie.count i in
         let e : after.ops ≡ set v.ops i (record (op_at v i) { phase = OpAdmitted }) = ap (λ b. set v.ops i (record (op_at v i) { phase = if b then Ended else OpAdmitted })) (some_not_zero (request_at plan i).count (omega arith)) in
-        walked s' stays (record (data_of s) { pool = pool }) after w.now.blocks same holds_after
+        walked s' stays (record (data_of s) { pool = pool }) after w.now.blocks left same holds_after
         (admits over n opening es plan ops ios (data_of s) v w.now stand sound w.follow i (omega arith) l (omega arith) cnt (omega arith)
         after pool s.adapter.kind s.host waits e refl holds_after.shows.sound
-        (made_whole (io_at ios i).dir (io_at ios i).pi s.adapter.kind s.host (io_at ios i) s.pool pool w.follow.whole made) (sym (ap (λ mode. mode.kind) w.over.mode)) w.over.host_is made)
+        (made_whole (io_at ios i).dir (io_at ios i).pi s.adapter.kind s.host (io_at ios i) s.pool pool w.follow.whole made) (sym (ap (λ mode. mode.kind) o.mode)) o.host_is made) w.blocks
 
     pub walk_op : (io_at ios i).count ≡ 0 → (pool : List (List ℕ)) (reply : Reply) → OpDone (op_in ops i) s.adapter.kind (room_at s.rooms.items i) s.pool pool reply →
-        data_of s' ≡ record (data_of s) { pool = pool; rooms = set s.rooms.items i Nothing; replies = set s.replies.items i reply } → Walks m n opening first s' st log
+        data_of s' ≡ record (data_of s) { pool = pool; rooms = set s.rooms.items i Nothing; replies = set s.replies.items i reply } → WalksOver over n opening es (op_left over (op_in ops i) left) s'
     walk_op none pool reply done same =
         let l = there in
         let f = k.fixed.ops in
@@ -239,14 +219,14 @@ module _ (m : Setting) (n : ℕ) (opening : State) (first : ℕ) (s : Stack) (st
         let empty : (request_at plan i).count ≡ 0 = cnt ∙ none in
         let e : after.ops ≡ set v.ops i (record (op_at v i) { phase = Ended }) = ap (λ c. set v.ops i (record (op_at v i) { phase = if eqb c 0 then Ended else OpAdmitted })) empty in
         let single = alone over n opening es plan ops (data_of s) v w.now stand.ground stand.plan sound w.follow i lo (omega arith) (omega arith) empty in
-        let wholly = is_wholly over (suc i) s.pool pool reply w.now w.follow.whole w.follow.bytes (op_in ops i) s.adapter.kind (room_at s.rooms.items i) single (k.rooms.can i l) (w.follow.suited i lo (waiting_ended (op_at v i).phase waits)) (sealed_over m es (op_in ops i) (w.over.seals i lo)) (sym (ap (λ mode. mode.kind) w.over.mode)) done in
+        let wholly = is_wholly over (suc i) s.pool pool reply w.now w.follow.whole w.follow.bytes (op_in ops i) s.adapter.kind (room_at s.rooms.items i) single (k.rooms.can i l) (w.follow.suited i lo (waiting_ended (op_at v i).phase waits)) (o.seals i lo) (sym (ap (λ mode. mode.kind) o.mode)) done in
         let goes = op_goes over n opening es plan ops (data_of s) v w.now stand.ground stand.plan sound w.follow i lo (omega arith) (omega arith) empty after pool reply waits e refl holds_after.shows.sound wholly in
-        walked s' stays (record (data_of s) { pool = pool; rooms = set s.rooms.items i Nothing; replies = set s.replies.items i reply }) after goes.after.blocks same holds_after (record { after = goes.after; follow = goes.follow; blocks = refl; none_before = goes.none_before })
+        walked s' stays (record (data_of s) { pool = pool; rooms = set s.rooms.items i Nothing; replies = set s.replies.items i reply }) after (plain act (acts_of over (suc i) (op_in ops i)) w.now).blocks (op_left over (op_in ops i) left) same holds_after goes (wholly.blocks ∙ ap (op_left over (op_in ops i)) w.blocks)
 
   -- ---- a piece is cut
 
   pub walk_cuts : (s' : Stack) (q size : ℕ) (bio : Bio) (pool : List (List ℕ)) → Stays s s' → IsChosen s (Cut q) → Does plan s.machine (Cut q) size s'.machine → Cuts plan s.machine q size bio →
-      WriteMapped (io_at ios (bio.op - 1)).dir (io_at ios (bio.op - 1)).pi s.host bio.k bio.count bio.lba s.pool pool → data_of s' ≡ record (data_of s) { pool = pool } → Walks m n opening first s' st log
+      WriteMapped (io_at ios (bio.op - 1)).dir (io_at ios (bio.op - 1)).pi s.host bio.k bio.count bio.lba s.pool pool → data_of s' ≡ record (data_of s) { pool = pool } → WalksOver over n opening es left s'
   walk_cuts s' q size bio pool stays ch does piece mapped same =
       let c = Cut q in
       let i = get_or (live_ops v) q 0 in
@@ -276,6 +256,6 @@ module _ (m : Setting) (n : ℕ) (opening : State) (first : ℕ) (s : Stack) (st
       = λ j lj. sym (lie.lba ((io_at ios i).first + (at + j))) ∙ (ap (λ x. (plan.place (x + (at + j))).lba) (sym fst) ∙ named.lba j lj) in
       let here : WriteMapped (io_at ios i).dir (io_at ios i).pi s.host at count b.lba s.pool pool
       = subst (λ x. WriteMapped (io_at ios x).dir (io_at ios x).pi s.host at count b.lba s.pool pool) z (subst (λ (x : Bio). WriteMapped (io_at ios (x.op - 1)).dir (io_at ios (x.op - 1)).pi s.host x.k x.count x.lba s.pool pool) is mapped) in
-      walked s' stays (record (data_of s) { pool = pool }) after w.now.blocks same h
+      walked s' stays (record (data_of s) { pool = pool }) after w.now.blocks left same h
       (cuts over n opening es plan ops ios (data_of s) v w.now stand sound w.follow i (omega arith) li (omega arith) cnt (omega arith)
-      after pool count b.lba s.host y.0 refl refl (omega arith) (mapped_whole (io_at ios i).dir (io_at ios i).pi s.host at count b.lba s.pool pool w.follow.whole here) w.over.host_is lbas here)
+      after pool count b.lba s.host y.0 refl refl (omega arith) (mapped_whole (io_at ios i).dir (io_at ios i).pi s.host at count b.lba s.pool pool w.follow.whole here) o.host_is lbas here) w.blocks

@@ -1,5 +1,5 @@
 -- That a stack between two steps follows the walk of its script.
-use Rattle.std.specs.Prelude.{◌≡◌, ◌⊎◌, ℕ, zero, suc, ◌+◌, ◌*◌, ◌<◌, ◌≤◌, Bool, false, true, List, [], ◌∷◌, length, drop, get_or, Option}
+use Rattle.std.specs.Prelude.{◌≡◌, ◌⊎◌, ℕ, zero, suc, ◌+◌, ◌*◌, ◌<◌, ◌≤◌, ℤ, pos, ◌+ℤ◌, Bool, false, true, List, [], ◌∷◌, length, drop, get_or, set, take, Option, Some}
 use Rattle.page_pool.specs.Cells.{flat}
 use Rattle.page_pool.specs.Pages.{AreWhole}
 use Rattle.page_pool.specs.Places.{total}
@@ -7,9 +7,16 @@ use Rattle.bio_core.specs.declared.fate.Fate.{Fate}
 use Rattle.bio_core.specs.declared.fate.Fate.TheVariants.{Untouched}
 use Rattle.bio_core.specs.declared.fate.Why.{Why}
 use Rattle.bio_core.specs.Bios.{block_size}
+use Rattle.bio_core.specs.declared.request.Dir.TheVariants.{Read}
+use Rattle.bio_core.specs.declared.request.Io.{Io}
+use Rattle.dix_base.specs.Told.{Calm}
+use Rattle.fault_schedule.specs.Altered.{shift_of}
+use Rattle.fault_schedule.specs.declared.fault.Crossing.TheVariants.{AdapterToTarget, MediumToTarget}
+use Rattle.fault_schedule.specs.declared.fault.FaultLine.{FaultLine}
+use Rattle.target_answer.specs.Target.{Stored, has_blocks}
 use Rattle.range_gate.specs.Gates.{has_ended}
 use Rattle.rig_api.specs.Log.{Entry}
-use Rattle.rig_api.specs.Telling.{Standing, spec_at}
+use Rattle.rig_api.specs.Telling.{Standing, block_at, changed as changed_told, spec_at, specs_of, with_block}
 use Rattle.stack_ops.specs.declared.op.Op.{Op}
 use Rattle.stack_ops.specs.declared.op.Op.TheVariants.{Fill, Put, Show, Seal, Write, Fetch, WritePi, FetchPi, Overwrite, Wait}
 use Rattle.stack_ops.specs.declared.reply.Reply.{Reply}
@@ -24,13 +31,18 @@ use Rattle.block_path.specs.Routes.{host_type}
 use Rattle.pi_tuple.specs.declared.checks.PiType.{PiType}
 use Rattle.dix_adapter.specs.declared.adapter.Adapter.{Adapter}
 use Rattle.dix_adapter.specs.Groups.{mode_of}
-use Rattle.whole_run.specs.ScriptWalk.{bad_from, whole_or_bad}
-use Rattle.whole_run.specs.Settings.{Setting}
+use Rattle.dix_adapter.specs.Ways.{blocks_told, site_of}
+use Rattle.block_path.specs.Moves.{hidden}
+use Rattle.whole_run.specs.ScriptWalk.{bad_from, changed, script_replies, script_walk, source_of as source_cell, whole_or_bad}
+use Rattle.whole_run.specs.Settings.{Setting, block_of, route}
 use Rattle.whole_run.specs.Steps.{each_from}
 use Rattle.run_moves.specs.BoundRun.{fates}
 use Rattle.run_moves.specs.ScriptMoves.{fates_of}
+use Rattle.run_record.specs.BackedRun.{Backed}
+use Rattle.run_record.specs.CarriedRun.{Carried}
 use Rattle.run_record.specs.Records.{recorded}
 use Rattle.run_record.specs.ToldRun.{told}
+use Rattle.run_follows.specs.Finished.{FramesFit}
 use Rattle.run_follows.specs.Following.{Follows}
 use Rattle.run_follows.specs.Sending.{NoneBefore}
 use Rattle.run_follows.specs.Slots.{Status}
@@ -39,6 +51,7 @@ use Rattle.stack_walks.specs.Statuses.{status_in}
 use Rattle.stack_core.specs.declared.kept.Room.{Room}
 use Rattle.stack_core.specs.declared.sheet.Sheet.{Sheet}
 use Rattle.stack_core.specs.declared.stack.Stack.{Stack}
+use Rattle.stack_core.specs.Doing.{CanReach}
 use Rattle.stack_core.specs.Moved.{why_of}
 use Rattle.stack_core.specs.Requests.{requests_from}
 use Rattle.stack_core.specs.Rooms.{Suits}
@@ -153,16 +166,49 @@ pub record GoesOn (over : Setting) (n : ℕ) (opening : State) (es : List Sent) 
   pub blocks : after.blocks ≡ left
   pub none_before : NoneBefore (status_of p d v) es → NoneBefore (status_of p d' v') es
 
--- Over any rig, whose records from the first on are this log: what came of each block is what stands on record.
+-- A stack follows the walk of its script over a setting, with these entries and ends on record and these stored blocks behind it.
+pub record WalksOver (over : Setting) (n : ℕ) (opening : State) (es : List Sent) (left : List (List ℕ)) (s : Stack) : Type 0 where
+  pub view : View
+  pub holds : Holds (plan_in s.sheet) s.machine view
+  pub now : State
+  pub follow : Follow over n opening es (plan_in s.sheet) s.sheet.ops (data_of s) view now
+  pub none_before : NoneBefore (status_of (plan_in s.sheet) (data_of s) view) es
+  pub blocks : now.blocks ≡ left
+
+-- Over any rig, whose records from the first on are this log: what came of each block is what stands on record, and each frame that came has the wire's size.
 pub record Walks (m : Setting) (n : ℕ) (opening : State) (first : ℕ) (s : Stack) (st : Standing) (log : List Entry) : Type 0 where
   pub over : IsOver m n opening s.sheet s.adapter s.host
   pub sizes : (d : ℕ) → d < s.sheet.devices → (spec_at st d).size ≡ m.size
   pub recorded_from : first ≤ length log
-  pub view : View
-  pub holds : Holds (plan_in s.sheet) s.machine view
-  pub now : State
-  pub follow : Follow (told m (recorded m (drop first log))) n opening (recorded m (drop first log)) (plan_in s.sheet) s.sheet.ops (data_of s) view now
-  pub none_before : NoneBefore (status_of (plan_in s.sheet) (data_of s) view) (recorded m (drop first log))
+  pub fit : FramesFit m (recorded m (drop first log))
+  pub left : List (List ℕ)
+  pub walks : WalksOver (told m (recorded m (drop first log))) n opening (recorded m (drop first log)) left s
+
+-- ---- over a rig that tells its blocks
+
+-- The unit behind a device is of the volume's type, with blocks of its size, and has a block at this address.
+pub record IsAtUnit (m : Setting) (st : Standing) (dev : ℕ) (lba : ℤ) : Type 0 where
+  pub ty : (spec_at st dev).ty ≡ m.ty
+  pub size : (spec_at st dev).size ≡ m.size
+  pub there : has_blocks (spec_at st dev) lba 1 ≡ true
+
+-- So it is of each block of a request, where the op's shifts lead it.
+pub record AreAtUnits (m : Setting) (st : Standing) (ios : List Io) : Type 0 where
+  pub sent : (i k : ℕ) → k < (io_at ios i).count → let r = route m (block_of (suc i) (io_at ios i).first k) in IsAtUnit m st r.dev (pos r.lba +ℤ shift_of m.site.faults AdapterToTarget (suc i))
+  pub fetched : (i k : ℕ) → k < (io_at ios i).count → (io_at ios i).dir ≡ Read
+      → let r = route m (block_of (suc i) (io_at ios i).first k) in IsAtUnit m st r.dev ((pos r.lba +ℤ shift_of m.site.faults AdapterToTarget (suc i)) +ℤ shift_of m.site.faults MediumToTarget (suc i))
+
+-- Over a rig that tells its blocks, with the stack's faults armed: what came of each block is the target's answer, and the cells of the stored blocks are those that the rig tells.
+pub record WalksTold (m : Setting) (n : ℕ) (opening : State) (first : ℕ) (s : Stack) (units : Option (List Stored)) (armed : List FaultLine) (st : Standing) (log : List Entry) : Type 0 where
+  pub over : IsOver m n opening s.sheet s.adapter s.host
+  pub sizes : (d : ℕ) → d < s.sheet.devices → (spec_at st d).size ≡ m.size
+  pub site : m.site ≡ site_of s.adapter (specs_of st)
+  pub behind : AreAtUnits m st s.sheet.ios.items
+  pub armed_are : armed ≡ s.adapter.tamper
+  pub recorded_from : first ≤ length log
+  pub us : List Stored
+  pub told_are : units ≡ Some us
+  pub walks : WalksOver m n opening (recorded m (drop first log)) (blocks_told us) s
 
 -- the cells with which a stack begins: its pages are those of these, and no frame was carried yet
 pub record Opens (opening : State) (s : Stack) : Type 0 where
@@ -174,12 +220,61 @@ abbrev pub WalksAtFirst : Stack → Type 0
 WalksAtFirst s = (m : Setting) (n : ℕ) (opening : State) (st : Standing) (log : List Entry)
     → Opens opening s → IsOver m n opening s.sheet s.adapter s.host → ((d : ℕ) → d < s.sheet.devices → (spec_at st d).size ≡ m.size) → Walks m n opening (length log) s st log
 
+-- So it does over a rig that tells its blocks, which are those of the opening, with its faults armed.
+abbrev pub WalksToldAtFirst : Stack → Type 0
+WalksToldAtFirst s = (m : Setting) (n : ℕ) (opening : State) (us : List Stored) (armed : List FaultLine) (st : Standing) (log : List Entry)
+    → Opens opening s → IsOver m n opening s.sheet s.adapter s.host → ((d : ℕ) → d < s.sheet.devices → (spec_at st d).size ≡ m.size) → m.site ≡ site_of s.adapter (specs_of st) → AreAtUnits m st s.sheet.ios.items
+    → armed ≡ s.adapter.tamper → opening.blocks ≡ blocks_told us → WalksTold m n opening (length log) s (Some us) armed st log
+
 -- ---- from one step to the next
 
 -- some word chooses this step
 abbrev pub IsChosen : Stack → Choice → Type 0
 IsChosen s c = (word : ℕ) × Chooses (plan_in s.sheet) s.machine word c × HasStep (plan_in s.sheet) s.machine
 
--- A stack that follows the walk still does, over a rig with these records.
+-- A stack that follows the walk over a setting still does.
 abbrev pub WalksOn : (old new : Stack) → Type 0
-WalksOn old new = (m : Setting) (n : ℕ) (opening : State) (first : ℕ) (st : Standing) (log : List Entry) → Walks m n opening first old st log → Walks m n opening first new st log
+WalksOn old new = (over : Setting) (n : ℕ) (opening : State) (es : List Sent) (left : List (List ℕ)) → IsOver over n opening old.sheet old.adapter old.host → WalksOver over n opening es left old → WalksOver over n opening es left new
+
+-- what an op that is no request leaves of the stored blocks
+abbrev pub op_left : Setting → Op → List (List ℕ) → List (List ℕ)
+op_left m (Fill seg byte) blocks = blocks
+op_left m (Put page off bytes) blocks = blocks
+op_left m (Show seg) blocks = blocks
+op_left m (Seal n body tuples app rtag) blocks = blocks
+op_left m (Write v n body app) blocks = blocks
+op_left m (Fetch v n body) blocks = blocks
+op_left m (WritePi v n body tuples) blocks = blocks
+op_left m (FetchPi v n body tuples) blocks = blocks
+op_left m (Overwrite dev lba change) blocks = set blocks (m.site.cell dev lba) (changed change (get_or blocks (source_cell m.site dev lba change) []))
+op_left m Wait blocks = blocks
+
+-- and of the units that a rig tells
+abbrev pub units_left : Op → List Stored → List Stored
+units_left (Fill seg byte) us = us
+units_left (Put page off bytes) us = us
+units_left (Show seg) us = us
+units_left (Seal n body tuples app rtag) us = us
+units_left (Write v n body app) us = us
+units_left (Fetch v n body) us = us
+units_left (WritePi v n body tuples) us = us
+units_left (FetchPi v n body tuples) us = us
+units_left (Overwrite dev lba change) us = with_block us dev lba (changed_told us change (block_at us dev lba))
+units_left Wait us = us
+
+-- An op is admitted. Where a rig tells its blocks and its count of faults doesn't rise, it tells afterwards what the op leaves.
+pub record Enters (told_is : Bool) (st : Standing) (units units' : Option (List Stored)) (count count' : ℕ) (old new : Stack) : Type 0 where
+  pub op : Op
+  pub reach : CanReach told_is st op
+  pub walks : (over : Setting) (n : ℕ) (opening : State) (es : List Sent) (left : List (List ℕ)) → IsOver over n opening old.sheet old.adapter old.host → WalksOver over n opening es left old → WalksOver over n opening es (op_left over op left) new
+  pub tells : (us : List Stored) → units ≡ Some us → Calm count count' → units' ≡ Some (units_left op us)
+
+-- ---- at the end
+
+-- Over a rig that tells its blocks: the stack's replies, the script's pages and the stored blocks are those of the script's walk at the target, and the log holds what the walk carries and backs the replies.
+pub record EndsTold (m : Setting) (n : ℕ) (opening : State) (ops : List Op) (s : Stack) (us : List Stored) (log : List Entry) : Type 0 where
+  pub replies : s.replies.items ≡ script_replies m ops (hidden n opening)
+  pub pages : take n (flat s.pool) ≡ (script_walk m ops (hidden n opening)).bytes
+  pub blocks : blocks_told us ≡ (script_walk m ops (hidden n opening)).blocks
+  pub carried : Carried m ops (hidden n opening) log
+  pub backed : Backed m ops (hidden n opening) log s.replies.items

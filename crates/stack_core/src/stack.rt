@@ -1,6 +1,6 @@
 //! The stack and its steps.
 
-ghost use Rattle.std.specs.Prelude.{◌≡◌, ◌<◌, ◌≤◌, ◌+◌, ◌*◌, ◌↔◌, ◌^◌, ◌⊎◌, ℕ, IsTrue, [], is_some, length, slice_index_or, slice_set};
+ghost use Rattle.std.specs.Prelude.{◌≡◌, ◌<◌, ◌≤◌, ◌+◌, ◌*◌, ◌↔◌, ◌^◌, ◌⊎◌, ℕ, IsTrue, List, [], Some, is_some, length, slice_index_or, slice_set};
 ghost use Rattle.stack_view.specs.Runs.{blocks_of_requests};
 ghost use Rattle.stack_view.specs.Steps.{enabled};
 ghost use Rattle.stack_view.specs.View.{View};
@@ -12,7 +12,10 @@ ghost use Rattle.stack_core.specs.Replies.{HoldsSeal};
 ghost use Rattle.stack_ops.specs.declared.reply.Reply.TheVariants.{Medium, Silent};
 ghost use Rattle.stack_core.specs.Done.{MadeBy, OpDone, Sealed, WriteMade, WriteMapped};
 ghost use Rattle.stack_core.specs.Doing.{CanDo, CanReach, HasBlocks};
-ghost use Rattle.stack_core.specs.Walking.{IsChosen, Walks, WalksOn};
+ghost use Rattle.stack_core.specs.Walking.{Enters, IsChosen, Walks, WalksOn, WalksTold, units_left};
+ghost use Rattle.dix_base.specs.Told.{Calm};
+ghost use Rattle.rig_api.specs.Telling.{block_at, changed, with_block};
+ghost use Rattle.target_answer.specs.Target.{Stored};
 ghost use Rattle.block_path.specs.Acts.{State};
 ghost use Rattle.whole_run.specs.Settings.{Setting};
 ghost use Rattle.stack_core.specs.Stacks.{GoesOn, HasSpare, HasStep, IsStack, Reaches, Sends, Stays, Steps, plan_in};
@@ -115,6 +118,8 @@ impl Stack {
         ensures armed { R.armed rig.new ≡ R.armed rig.old }
         ensures spare { HasSpare self.new (R.standing rig.new) (R.room rig.new) }
         ensures walks { (m : Setting) (n : ℕ) (opening : State) (first : ℕ) → Walks m n opening first self.old (R.standing rig.old) (R.log rig.old) → Walks m n opening first self.new (R.standing rig.new) (R.log rig.new) }
+        ensures told { (m : Setting) (n : ℕ) (opening : State) (first : ℕ) → WalksTold m n opening first self.old (R.units rig.old) (R.armed rig.old) (R.standing rig.old) (R.log rig.old)
+            → Calm (R.faults rig.old) (R.faults rig.new) → WalksTold m n opening first self.new (R.units rig.new) (R.armed rig.new) (R.standing rig.new) (R.log rig.new) }
     {
         let choice = self.machine.choose(&self.sheet, word);
         match choice {
@@ -169,7 +174,7 @@ impl Stack {
         ensures stack { IsStack self.new }
         ensures stays { Stays self.old self.new }
         ensures step { (cut : ℕ) → Does (plan_in self.old.sheet) self.old.machine (Admit q) cut self.new.machine }
-        ensures walks { IsChosen self.old (Admit q) → WalksOn self.old self.new }
+        ensures walks { IsChosen self.old (Admit q) → Enters (is_some (R.image rig.old)) (R.standing rig.old) (R.units rig.old) (R.units rig.new) (R.faults rig.old) (R.faults rig.new) self.old self.new }
         ensures tells { is_some (R.image rig.new) ≡ is_some (R.image rig.old) }
         ensures standing { R.standing rig.new ≡ R.standing rig.old }
         ensures room { R.room rig.new ≡ R.room rig.old }
@@ -235,6 +240,8 @@ impl Stack {
         ensures stays { Stays self.old self.new }
         ensures sends { Sends (plan_in self.old.sheet) self.old.machine d i self.new.machine }
         ensures walks { IsChosen self.old (Send d i) → (m : Setting) (n : ℕ) (opening : State) (first : ℕ) → Walks m n opening first self.old (R.standing rig.old) (R.log rig.old) → Walks m n opening first self.new (R.standing rig.new) (R.log rig.new) }
+        ensures told { IsChosen self.old (Send d i) → (m : Setting) (n : ℕ) (opening : State) (first : ℕ) → WalksTold m n opening first self.old (R.units rig.old) (R.armed rig.old) (R.standing rig.old) (R.log rig.old)
+            → Calm (R.faults rig.old) (R.faults rig.new) → WalksTold m n opening first self.new (R.units rig.new) (R.armed rig.new) (R.standing rig.new) (R.log rig.new) }
         ensures tells { is_some (R.image rig.new) ≡ is_some (R.image rig.old) }
         ensures standing { R.standing rig.new ≡ R.standing rig.old }
         ensures spare { HasSpare self.new (R.standing rig.new) (R.room rig.new) }
@@ -327,6 +334,7 @@ fn overwrite<R: Rig>(rig: &mut R, dev: u32, lba: u64, change: &Change) -> Reply
     ensures armed { R.armed rig.new ≡ R.armed rig.old }
     ensures log { R.log rig.new ≡ R.log rig.old }
     ensures count { R.faults rig.old ≤ R.faults rig.new }
+    ensures left { (us : List Stored) → R.units rig.old ≡ Some us → Calm (R.faults rig.old) (R.faults rig.new) → R.units rig.new ≡ Some (with_block us dev lba (changed us change.now (block_at us dev lba))) }
 {
     match rig.overwrite(dev, lba, change) {
         Ok(()) => Reply::Silent,
@@ -346,6 +354,7 @@ fn do_op<R: Rig>(pool: &mut PagePool, op: &Op, kind: GuardKind, room: Room, rig:
     ensures armed { R.armed rig.new ≡ R.armed rig.old }
     ensures log { R.log rig.new ≡ R.log rig.old }
     ensures count { R.faults rig.old ≤ R.faults rig.new }
+    ensures left { (us : List Stored) → R.units rig.old ≡ Some us → Calm (R.faults rig.old) (R.faults rig.new) → R.units rig.new ≡ Some (units_left op.now us) }
 {
     match op {
         Op::Fill { seg, byte } => {

@@ -10,7 +10,8 @@ ghost use Rattle.stack_ops.specs.Footprints.{IsShortPut};
 ghost use Rattle.volume_table.specs.Places.{place_in, volume_len};
 ghost use Rattle.stack_view.specs.View.{start};
 ghost use Rattle.stack_steps.specs.Does.{Holds};
-ghost use Rattle.stack_core.specs.Walking.{WalksAtFirst};
+ghost use Rattle.block_path.specs.Routes.{host_type};
+ghost use Rattle.stack_core.specs.Walking.{WalksAtFirst, WalksToldAtFirst};
 ghost use Rattle.stack_core.specs.Sheets.{IsSheet, op_in, plan_of, prints_of, request_in};
 ghost use Rattle.stack_core.specs.Shifts.{is_shift, shifted_by, shifts};
 ghost use Rattle.stack_core.specs.Requests.{first_page, own_blocks, page_after, pages_from, requests_from};
@@ -199,6 +200,9 @@ impl Stack {
         ensures replies { IfOk result (λ s. s.replies.items ≡ replicate (length ops) Silent) }
         ensures pool { IfOk result (λ s. IsBlank (pages_from setup.mode.dix setup.pages ops) s.pool) }
         ensures walks { IfOk result WalksAtFirst }
+        ensures told { IfOk result WalksToldAtFirst }
+        ensures ty { IfOk result (λ s. s.adapter.ty ≡ setup.table.ty) }
+        ensures host { IfOk result (λ s. s.host ≡ host_type setup.table.ty) }
     {
         let Setup {
             table,

@@ -1,3 +1,4 @@
 pub mod Statuses
 pub mod Spots
 pub mod Ground
+pub mod Units

@@ -5,4 +5,4 @@ pub returns-clause-out : goal.returns-clause-out
 returns-clause-out c = λ m a ios req pool fates old new protect g w good wide r fit. fit_out m a ios req pool protect g fates old new w good wide r fit
 
 pub returns-clause-inward : goal.returns-clause-inward
-returns-clause-inward c = λ m a ios req pool pool' fates old new protect g w wide r long fit. fit_in m a ios req pool protect g pool' fates old new w wide r long fit
+returns-clause-inward c = λ m a ios req pool pool' fates old new protect g w wide r fit. fit_in m a ios req pool protect g pool' fates old new w wide r fit

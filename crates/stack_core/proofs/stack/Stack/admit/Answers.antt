@@ -1,4 +1,4 @@
-use Rattle.std.proofs.Common.{◌≡◌, ◌<◌, length, ap, refl, set, subst, sym, ◌∙◌, arith}
+use Rattle.std.proofs.Common.{◌≡◌, ◌<◌, Some, length, ap, refl, set, subst, sym, ◌∙◌, arith}
 use Rattle.std.proofs.lemmas.List.{length-set}
 use Rattle.stack_steps.specs.declared.choice.Choice.TheVariants.{Admit}
 use Rattle.stack_core.specs.Stacks.{plan_in}
@@ -11,7 +11,8 @@ use Rattle.bio_core.specs.declared.request.Io.{Io}
 use Rattle.stack_core.specs.declared.kept.Room.TheVariants.{Nothing}
 use Rattle.stack_core.specs.Done.{OpDone, WriteMade}
 use Rattle.stack_core.specs.Sheets.{io_at, op_in}
-use Rattle.stack_core.specs.Walking.{data_of}
+use Rattle.stack_ops.specs.declared.op.Op.TheVariants.{Wait}
+use Rattle.stack_core.specs.Walking.{data_of, units_left}
 use Rattle.stack_core.proofs.Walked.{walk_admits, walk_op}
 use Rattle.stack_core.proofs.stack.Stack.admit.Goals as goal
 
@@ -88,14 +89,19 @@ returns-clause-stack g c =
     })
 
 pub returns-then-io-gt0-clause-walks : goal.returns-then-io-gt0-clause-walks
-returns-then-io-gt0-clause-walks g c = λ ch m n opening first st log w.
+returns-then-io-gt0-clause-walks g c = λ ch.
     (let s = c.args.self.now in
     let some = subst (λ (io : Io). 0 < io.count) c.io.ensures c.if-io-gt0.true in
     let made = subst (λ (io : Io). WriteMade io.dir io.pi s.adapter.kind s.host io.body s.pool c.make_tuples.new.pool) c.io-then-io-gt0.ensures c.make_tuples.ensures.made in
-    walk_admits m n opening first s st log c.requires.stack w _ c.args.q c.admit-op.result (record { sheet = refl; adapter = refl; host = refl }) ch (c.admit-op.ensures.step 0) c.admit-op.ensures.op some c.make_tuples.new.pool made refl)
+    record {
+      op = Wait;
+      reach = tt;
+      walks = λ over n opening es left o w. walk_admits over n opening es left s c.requires.stack o w _ c.args.q c.admit-op.result (record { sheet = refl; adapter = refl; host = refl }) ch (c.admit-op.ensures.step 0) c.admit-op.ensures.op some c.make_tuples.new.pool made refl;
+      tells = λ us e calm. e;
+    })
 
 pub returns-clause-walks : goal.returns-clause-walks
-returns-clause-walks g c = λ ch m n opening first st log w.
+returns-clause-walks g c = λ ch.
     (let s = c.args.self.now in
     let i = c.admit-op.result in
     let d = data_of s in
@@ -103,8 +109,15 @@ returns-clause-walks g c = λ ch m n opening first st log w.
     let empty : (io_at s.sheet.ios.items i).count ≡ 0 = omega (arith, none, c.if-io-gt0.false) in
     let done = subst (λ op. OpDone op s.adapter.kind c.take_room-room.result s.pool c.do_op-done.new.pool c.do_op-done.result) c.op.ensures c.do_op-done.ensures.done in
     let done' = subst (λ room. OpDone (op_in s.sheet.ops i) s.adapter.kind room s.pool c.do_op-done.new.pool c.do_op-done.result) c.take_room-room.ensures.room done in
-    walk_op m n opening first s st log c.requires.stack w _ c.args.q i (record { sheet = refl; adapter = refl; host = refl }) ch (c.admit-op.ensures.step 0) c.admit-op.ensures.op empty c.do_op-done.new.pool c.do_op-done.result done'
-    (ap (λ x. record d { pool = c.do_op-done.new.pool; rooms = x; replies = c.set_reply.new.replies.items }) c.take_room-room.ensures.rooms ∙ ap (λ x. record d { pool = c.do_op-done.new.pool; rooms = set s.rooms.items i Nothing; replies = x }) c.set_reply.ensures))
+    let li = op-enters s.sheet.ops s.sheet.shifted.items s.sheet.ios.items s.sheet.table s.sheet.limits s.sheet.devices s.machine c.args.q i s.sheet.right.fine c.requires.ready c.admit-op.ensures.op in
+    let f = c.requires.stack.fixed.ops in
+    record {
+      op = op_in s.sheet.ops i;
+      reach = c.requires.rig.blocks i (omega arith);
+      walks = λ over n opening es left o w. walk_op over n opening es left s c.requires.stack o w _ c.args.q i (record { sheet = refl; adapter = refl; host = refl }) ch (c.admit-op.ensures.step 0) c.admit-op.ensures.op empty c.do_op-done.new.pool c.do_op-done.result done'
+          (ap (λ x. record d { pool = c.do_op-done.new.pool; rooms = x; replies = c.set_reply.new.replies.items }) c.take_room-room.ensures.rooms ∙ ap (λ x. record d { pool = c.do_op-done.new.pool; rooms = set s.rooms.items i Nothing; replies = x }) c.set_reply.ensures);
+      tells = λ us e calm. c.do_op-done.ensures.left us e calm ∙ ap (λ op. Some (units_left op us)) c.op.ensures;
+    })
 
 pub returns-then-io-gt0-clause-goes : goal.returns-then-io-gt0-clause-goes
 returns-then-io-gt0-clause-goes g c = goes-nowhere (g.R.Rig.standing c.args.rig.now) (g.R.Rig.log c.args.rig.now) (g.R.Rig.faults c.args.rig.now)

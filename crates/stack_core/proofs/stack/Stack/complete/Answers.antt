@@ -43,6 +43,6 @@ pub returns-clause-stays : goal.returns-clause-stays
 returns-clause-stays c = record { sheet = refl; adapter = refl; host = refl }
 
 pub returns-clause-walks : goal.returns-clause-walks
-returns-clause-walks c = λ ch m n opening first st log w.
-    walk_completes m n opening first c.args.self.now st log c.requires.stack w _ c.args.i c.complete.new.bios.items c.complete.new.fates.items (record { sheet = refl; adapter = refl; host = refl }) ch (c.complete.ensures.step 0) c.complete.ensures.lands
+returns-clause-walks c = λ ch over n opening es left o w.
+    walk_completes over n opening es left c.args.self.now c.requires.stack o w _ c.args.i c.complete.new.bios.items c.complete.new.fates.items (record { sheet = refl; adapter = refl; host = refl }) ch (c.complete.ensures.step 0) c.complete.ensures.lands
     (rw c.ios.ensures at c.settle_all.ensures.kept) (rw (c.ios.ensures, c.mode.ensures, c.deref.ensures.value, c.deref-2.ensures.value) at c.settle_all.ensures.settled) refl

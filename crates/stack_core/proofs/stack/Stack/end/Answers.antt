@@ -64,12 +64,12 @@ pub returns-clause-stays : goal.returns-clause-stays
 returns-clause-stays c = record { sheet = refl; adapter = refl; host = refl }
 
 pub returns-clause-walks : goal.returns-clause-walks
-returns-clause-walks c = λ ch m n opening first st log w.
+returns-clause-walks c = λ ch over n opening es left o w.
     (let s = c.args.self.now in
     let i = c.end-op.result in
     let d = data_of s in
     let fates = c.of-fates.ensures.value ∙ ap (λ (io : Io). take io.count (drop (get_or s.kept.starts.items i 0) s.kept.held.items)) c.io.ensures in
     let reply = c.reply_of.ensures ∙ (ap (λ fs. reply_of fs c.take_room-room.result) fates ∙ ap (reply_of (take (io_at s.sheet.ios.items i).count (drop (get_or s.kept.starts.items i 0) s.kept.held.items))) c.take_room-room.ensures.room) in
     let replies = c.set_reply.ensures ∙ ap (set s.replies.items i) reply in
-    walk_ends m n opening first s st log c.requires.stack w _ c.args.q i (record { sheet = refl; adapter = refl; host = refl }) ch (c.end-op.ensures.step 0) c.end-op.ensures.op
+    walk_ends over n opening es left s c.requires.stack o w _ c.args.q i (record { sheet = refl; adapter = refl; host = refl }) ch (c.end-op.ensures.step 0) c.end-op.ensures.op
     (ap (λ x. record d { rooms = x; replies = c.set_reply.new.replies.items }) c.take_room-room.ensures.rooms ∙ ap (λ x. record d { rooms = set s.rooms.items i Nothing; replies = x }) replies))

@@ -18,7 +18,7 @@ use Rattle.stack_core.proofs.Begin.{length-requests}
 use Rattle.stack_core.proofs.FirstStack.{first-stack}
 use Rattle.stack_core.proofs.Gates.{gate-is, length-prints}
 use Rattle.stack_core.proofs.Opening.{have-numbers, inside-each, own-few, sheet-is}
-use Rattle.stack_core.proofs.WalkBegins.{walk_begins}
+use Rattle.stack_core.proofs.WalkBegins.{told_begins, walk_begins}
 use Rattle.stack_core.proofs.stack.Stack.new.Goals as goal
 
 pub new-requires : goal.new-requires
@@ -138,3 +138,9 @@ returns-clause-walks c = λ m n opening st log o over sizes.
     (let suits = rw (c.as_slice-5.ensures) at c.in_ok-rooms.ensures.suits in
     walk_begins m n opening _ st log (returns-clause-stack c) c.in_ok-machine.ensures c.in_ok-new.ensures.whole
     (subst (λ ops. (i : ℕ) → i < length ops → Suits (op_in ops i) (room_at c.in_ok-rooms.rooms.items i)) (sym c.sheet_of-sheet.ensures.ops) suits) o over sizes)
+
+pub returns-clause-told : goal.returns-clause-told
+returns-clause-told c = λ m n opening us armed st log o over sizes site behind armed_are blocks.
+    (let suits = rw (c.as_slice-5.ensures) at c.in_ok-rooms.ensures.suits in
+    told_begins m n opening _ us armed st log (returns-clause-stack c) c.in_ok-machine.ensures c.in_ok-new.ensures.whole
+    (subst (λ ops. (i : ℕ) → i < length ops → Suits (op_in ops i) (room_at c.in_ok-rooms.rooms.items i)) (sym c.sheet_of-sheet.ensures.ops) suits) o over sizes site behind armed_are blocks)

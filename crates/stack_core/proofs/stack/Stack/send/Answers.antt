@@ -8,8 +8,9 @@ use Rattle.stack_core.proofs.Sending.{settles-of}
 use Rattle.stack_core.proofs.Sent.{can-carry, holds-fewer, holds-still, sending, sent-works, spare-sent}
 use Rattle.dix_adapter.specs.Carried.{Shown}
 use Rattle.stack_core.specs.declared.stack.Stack.{Stack}
-use Rattle.stack_core.specs.Walking.{Walks}
-use Rattle.stack_core.proofs.WalkedFar.{walk_sends}
+use Rattle.stack_core.specs.Walking.{Walks, WalksTold}
+use Rattle.stack_core.proofs.WalkedRecord.{walk_sends}
+use Rattle.stack_core.proofs.WalkedTold.{told_sends}
 use Rattle.stack_core.proofs.stack.Stack.send.Goals as goal
 
 pub carry-requires-clause-group : goal.carry-requires-clause-group
@@ -97,6 +98,27 @@ returns-clause-walks g c = λ ch m n opening first w.
     subst (λ st. Walks m n opening first after st (g.R.Rig.log b)) (sym c.carry.ensures.standing)
     (walk_sends m n opening first s (g.R.Rig.standing a) (g.R.Rig.log a) c.requires.stack w after c.args.d c.args.i c.take.new.group.items c.carry.new.fates.items c.take.new.self (record { sheet = refl; adapter = refl; host = refl }) ch c.take.ensures.takes (rw (c.deref-2.ensures.value, c.deref-3.ensures.value) at c.fly.ensures) settles refl
     old new refl (λ e q. ((unsent e q).0, ap g.R.Rig.log (unsent e q).1)) (λ e q. (sent e q).pool_is) (λ e. (fetched e).whole) out came))
+
+pub returns-clause-told : goal.returns-clause-told
+returns-clause-told g c = λ ch m n opening first w calm.
+    (let s = c.args.self.now in
+    let a = c.args.rig.now in
+    let b = c.carry.new.rig in
+    let old : Shown = record { told = is_some (g.R.Rig.image a); units = g.R.Rig.units a; standing = g.R.Rig.standing a; log = g.R.Rig.log a; room = g.R.Rig.room a; armed = g.R.Rig.armed a; faults = g.R.Rig.faults a } in
+    let new : Shown = record { told = is_some (g.R.Rig.image b); units = g.R.Rig.units b; standing = g.R.Rig.standing b; log = g.R.Rig.log b; room = g.R.Rig.room b; armed = g.R.Rig.armed b; faults = g.R.Rig.faults b } in
+    let after : Stack = record s { machine = c.fly.new.self; pool = c.carry.new.pool; scratch = c.carry.new.scratch; group = c.take.new.group; fates = c.carry.new.fates } in
+    let settles = settles-of c.take.new.group.items c.carry.new.fates.items (c.carry.ensures.count ∙ ap size c.deref.ensures.value) c.carry.ensures.settles in
+    let unsent = rw (c.ios.ensures, c.deref.ensures.value) at c.carry.ensures.unsent in
+    let sent = rw (c.ios.ensures, c.deref.ensures.value) at c.carry.ensures.sent in
+    let fetched = rw (c.ios.ensures, c.deref.ensures.value) at c.carry.ensures.fetched in
+    let out = rw (c.ios.ensures, c.deref.ensures.value) at c.carry.ensures.recorded_out in
+    let came = rw (c.ios.ensures, c.deref.ensures.value) at c.carry.ensures.recorded_in in
+    let went_out = rw (c.ios.ensures, c.deref.ensures.value) at c.carry.ensures.went_out in
+    let came_in = rw (c.ios.ensures, c.deref.ensures.value) at c.carry.ensures.came_in in
+    subst (λ st. WalksTold m n opening first after (g.R.Rig.units b) (g.R.Rig.armed b) st (g.R.Rig.log b)) (sym c.carry.ensures.standing)
+    (told_sends m n opening first s (g.R.Rig.units a) (g.R.Rig.armed a) (g.R.Rig.standing a) (g.R.Rig.log a) c.requires.stack w after c.args.d c.args.i c.take.new.group.items c.carry.new.fates.items c.take.new.self (record { sheet = refl; adapter = refl; host = refl }) ch c.take.ensures.takes (rw (c.deref-2.ensures.value, c.deref-3.ensures.value) at c.fly.ensures) settles refl
+    old new (g.R.Rig.image a) refl refl refl c.carry.ensures.armed calm (g.R.Rig.laid a) (g.R.Rig.ready a) c.requires.rig.devices
+    (λ e q. ((unsent e q).0, (ap g.R.Rig.log (unsent e q).1, ap g.R.Rig.units (unsent e q).1))) (λ e q. (sent e q).pool_is) (λ e. (fetched e).whole) out came went_out came_in))
 
 pub returns-clause-goes : goal.returns-clause-goes
 returns-clause-goes g c =

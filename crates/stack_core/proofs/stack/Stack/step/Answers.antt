@@ -1,11 +1,13 @@
 use Rattle.std.proofs.Common.{refl, subst, sym}
+use Rattle.std.specs.Prelude.{is_some}
 use Rattle.stack_steps.specs.declared.choice.Choice.TheVariants.{Admit, Complete, Cut, End, Join, Send}
 use Rattle.stack_steps.specs.Does.{Chooses}
 use Rattle.stack_core.specs.Stacks.{plan_in}
 use Rattle.stack_core.proofs.Goes.{goes-nowhere}
 use Rattle.stack_core.proofs.Going.{can-step, spare-left}
 use Rattle.stack_core.proofs.Steps.{one-send, one-step, ready}
-use Rattle.stack_core.specs.Walking.{Walks}
+use Rattle.stack_core.specs.Walking.{Walks, WalksTold}
+use Rattle.stack_core.proofs.ToldOps.{told_entered, told_on, walks_entered, walks_on}
 use Rattle.stack_core.proofs.stack.Stack.step.Goals as goal
 
 pub end-requires-clause-ready : goal.end-requires-clause-ready
@@ -97,33 +99,68 @@ returns-in-Send-clause-step g c =
 pub returns-in-End-clause-walks : goal.returns-in-End-clause-walks
 returns-in-End-clause-walks g c = λ m n opening first w.
     (let h : Chooses (plan_in c.args.self.now.sheet) c.args.self.now.machine c.args.word (End c.in-End.q) = rw c.in-End.is at c.choose-choice.ensures in
-    c.end.ensures.walks (c.args.word, h, c.requires.some) m n opening first (g.R.Rig.standing c.args.rig.now) (g.R.Rig.log c.args.rig.now) w)
+    walks_on m n opening first c.args.self.now c.end.new.self (g.R.Rig.standing c.args.rig.now) (g.R.Rig.log c.args.rig.now) c.requires.stack c.end.ensures.stays (c.end.ensures.walks (c.args.word, h, c.requires.some)) w)
+
+pub returns-in-End-clause-told : goal.returns-in-End-clause-told
+returns-in-End-clause-told g c = λ m n opening first w calm.
+    (let h : Chooses (plan_in c.args.self.now.sheet) c.args.self.now.machine c.args.word (End c.in-End.q) = rw c.in-End.is at c.choose-choice.ensures in
+    told_on m n opening first c.args.self.now c.end.new.self (g.R.Rig.units c.args.rig.now) (g.R.Rig.armed c.args.rig.now) (g.R.Rig.standing c.args.rig.now) (g.R.Rig.log c.args.rig.now) c.requires.stack c.end.ensures.stays (c.end.ensures.walks (c.args.word, h, c.requires.some)) w)
 
 pub returns-in-Complete-clause-walks : goal.returns-in-Complete-clause-walks
 returns-in-Complete-clause-walks g c = λ m n opening first w.
     (let h : Chooses (plan_in c.args.self.now.sheet) c.args.self.now.machine c.args.word (Complete c.in-Complete.i) = rw c.in-Complete.is at c.choose-choice.ensures in
-    c.complete.ensures.walks (c.args.word, h, c.requires.some) m n opening first (g.R.Rig.standing c.args.rig.now) (g.R.Rig.log c.args.rig.now) w)
+    walks_on m n opening first c.args.self.now c.complete.new.self (g.R.Rig.standing c.args.rig.now) (g.R.Rig.log c.args.rig.now) c.requires.stack c.complete.ensures.stays (c.complete.ensures.walks (c.args.word, h, c.requires.some)) w)
 
-pub returns-in-Admit-clause-walks : goal.returns-in-Admit-clause-walks
-returns-in-Admit-clause-walks g c = λ m n opening first w.
-    (let h : Chooses (plan_in c.args.self.now.sheet) c.args.self.now.machine c.args.word (Admit c.in-Admit.q) = rw c.in-Admit.is at c.choose-choice.ensures in
-    let x = c.admit.ensures.walks (c.args.word, h, c.requires.some) m n opening first (g.R.Rig.standing c.args.rig.now) (g.R.Rig.log c.args.rig.now) w in
-    subst (λ st. Walks m n opening first c.admit.new.self st (g.R.Rig.log c.admit.new.rig)) (sym c.admit.ensures.standing) (subst (λ log. Walks m n opening first c.admit.new.self (g.R.Rig.standing c.args.rig.now) log) (sym c.admit.ensures.log) x))
+pub returns-in-Complete-clause-told : goal.returns-in-Complete-clause-told
+returns-in-Complete-clause-told g c = λ m n opening first w calm.
+    (let h : Chooses (plan_in c.args.self.now.sheet) c.args.self.now.machine c.args.word (Complete c.in-Complete.i) = rw c.in-Complete.is at c.choose-choice.ensures in
+    told_on m n opening first c.args.self.now c.complete.new.self (g.R.Rig.units c.args.rig.now) (g.R.Rig.armed c.args.rig.now) (g.R.Rig.standing c.args.rig.now) (g.R.Rig.log c.args.rig.now) c.requires.stack c.complete.ensures.stays (c.complete.ensures.walks (c.args.word, h, c.requires.some)) w)
 
 pub returns-in-Cut-clause-walks : goal.returns-in-Cut-clause-walks
 returns-in-Cut-clause-walks g c = λ m n opening first w.
     (let h : Chooses (plan_in c.args.self.now.sheet) c.args.self.now.machine c.args.word (Cut c.in-Cut.q) = rw c.in-Cut.is at c.choose-choice.ensures in
-    c.cut.ensures.walks (c.args.word, h, c.requires.some) m n opening first (g.R.Rig.standing c.args.rig.now) (g.R.Rig.log c.args.rig.now) w)
+    walks_on m n opening first c.args.self.now c.cut.new.self (g.R.Rig.standing c.args.rig.now) (g.R.Rig.log c.args.rig.now) c.requires.stack c.cut.ensures.stays (c.cut.ensures.walks (c.args.word, h, c.requires.some)) w)
+
+pub returns-in-Cut-clause-told : goal.returns-in-Cut-clause-told
+returns-in-Cut-clause-told g c = λ m n opening first w calm.
+    (let h : Chooses (plan_in c.args.self.now.sheet) c.args.self.now.machine c.args.word (Cut c.in-Cut.q) = rw c.in-Cut.is at c.choose-choice.ensures in
+    told_on m n opening first c.args.self.now c.cut.new.self (g.R.Rig.units c.args.rig.now) (g.R.Rig.armed c.args.rig.now) (g.R.Rig.standing c.args.rig.now) (g.R.Rig.log c.args.rig.now) c.requires.stack c.cut.ensures.stays (c.cut.ensures.walks (c.args.word, h, c.requires.some)) w)
 
 pub returns-in-Join-clause-walks : goal.returns-in-Join-clause-walks
 returns-in-Join-clause-walks g c = λ m n opening first w.
     (let h : Chooses (plan_in c.args.self.now.sheet) c.args.self.now.machine c.args.word (Join c.in-Join.d c.in-Join.i c.in-Join.j) = rw c.in-Join.is at c.choose-choice.ensures in
-    c.join.ensures.walks (c.args.word, h, c.requires.some) m n opening first (g.R.Rig.standing c.args.rig.now) (g.R.Rig.log c.args.rig.now) w)
+    walks_on m n opening first c.args.self.now c.join.new.self (g.R.Rig.standing c.args.rig.now) (g.R.Rig.log c.args.rig.now) c.requires.stack c.join.ensures.stays (c.join.ensures.walks (c.args.word, h, c.requires.some)) w)
+
+pub returns-in-Join-clause-told : goal.returns-in-Join-clause-told
+returns-in-Join-clause-told g c = λ m n opening first w calm.
+    (let h : Chooses (plan_in c.args.self.now.sheet) c.args.self.now.machine c.args.word (Join c.in-Join.d c.in-Join.i c.in-Join.j) = rw c.in-Join.is at c.choose-choice.ensures in
+    told_on m n opening first c.args.self.now c.join.new.self (g.R.Rig.units c.args.rig.now) (g.R.Rig.armed c.args.rig.now) (g.R.Rig.standing c.args.rig.now) (g.R.Rig.log c.args.rig.now) c.requires.stack c.join.ensures.stays (c.join.ensures.walks (c.args.word, h, c.requires.some)) w)
+
+pub returns-in-Admit-clause-walks : goal.returns-in-Admit-clause-walks
+returns-in-Admit-clause-walks g c = λ m n opening first w.
+    (let h : Chooses (plan_in c.args.self.now.sheet) c.args.self.now.machine c.args.word (Admit c.in-Admit.q) = rw c.in-Admit.is at c.choose-choice.ensures in
+    let x = walks_entered m n opening first c.args.self.now c.admit.new.self (is_some (g.R.Rig.image c.args.rig.now)) (g.R.Rig.standing c.args.rig.now) (g.R.Rig.units c.args.rig.now) (g.R.Rig.units c.admit.new.rig) (g.R.Rig.faults c.args.rig.now) (g.R.Rig.faults c.admit.new.rig) (g.R.Rig.log c.args.rig.now)
+        c.requires.stack c.admit.ensures.stays (c.admit.ensures.walks (c.args.word, h, c.requires.some)) w in
+    subst (λ st. Walks m n opening first c.admit.new.self st (g.R.Rig.log c.admit.new.rig)) (sym c.admit.ensures.standing) (subst (λ log. Walks m n opening first c.admit.new.self (g.R.Rig.standing c.args.rig.now) log) (sym c.admit.ensures.log) x))
+
+pub returns-in-Admit-clause-told : goal.returns-in-Admit-clause-told
+returns-in-Admit-clause-told g c = λ m n opening first w calm.
+    (let h : Chooses (plan_in c.args.self.now.sheet) c.args.self.now.machine c.args.word (Admit c.in-Admit.q) = rw c.in-Admit.is at c.choose-choice.ensures in
+    let a = c.args.rig.now in
+    let b = c.admit.new.rig in
+    let x = told_entered m n opening first c.args.self.now c.admit.new.self (g.R.Rig.image a) (g.R.Rig.standing a) (g.R.Rig.units a) (g.R.Rig.units b) (g.R.Rig.armed a) (g.R.Rig.armed b) (g.R.Rig.faults a) (g.R.Rig.faults b) (g.R.Rig.log a)
+        c.requires.stack c.admit.ensures.stays (c.admit.ensures.walks (c.args.word, h, c.requires.some)) (g.R.Rig.laid a) (g.R.Rig.ready a) c.admit.ensures.armed calm w in
+    subst (λ st. WalksTold m n opening first c.admit.new.self (g.R.Rig.units b) (g.R.Rig.armed b) st (g.R.Rig.log b)) (sym c.admit.ensures.standing) (subst (λ log. WalksTold m n opening first c.admit.new.self (g.R.Rig.units b) (g.R.Rig.armed b) (g.R.Rig.standing a) log) (sym c.admit.ensures.log) x))
 
 pub returns-in-Send-clause-walks : goal.returns-in-Send-clause-walks
 returns-in-Send-clause-walks g c = λ m n opening first w.
     (let h : Chooses (plan_in c.args.self.now.sheet) c.args.self.now.machine c.args.word (Send c.in-Send.d c.in-Send.i) = rw c.in-Send.is at c.choose-choice.ensures in
     c.send.ensures.walks (c.args.word, h, c.requires.some) m n opening first w)
+
+pub returns-in-Send-clause-told : goal.returns-in-Send-clause-told
+returns-in-Send-clause-told g c = λ m n opening first w calm.
+    (let h : Chooses (plan_in c.args.self.now.sheet) c.args.self.now.machine c.args.word (Send c.in-Send.d c.in-Send.i) = rw c.in-Send.is at c.choose-choice.ensures in
+    c.send.ensures.told (c.args.word, h, c.requires.some) m n opening first w calm)
 
 pub returns-in-End-clause-goes : goal.returns-in-End-clause-goes
 returns-in-End-clause-goes g c = goes-nowhere (g.R.Rig.standing c.args.rig.now) (g.R.Rig.log c.args.rig.now) (g.R.Rig.faults c.args.rig.now)

@@ -1,0 +1,75 @@
+-- The ops of a bound script are bound to its pages: what its run asks of them, over a device that suits its blocks.
+use Rattle.std.proofs.Common.{◌≡◌, ◌<◌, ◌≤◌, ℕ, zero, suc, ◌+◌, ◌*◌, Bool, true, false, ◌&&◌, List, [], ◌∷◌, ◌++◌, length, refl, sym, ap, ◌∙◌, subst, arith, Option, Some, None}
+use Rattle.std.specs.Prelude.{nat_eq, nat_le, not}
+use Rattle.std.specs.List.{All, IsDistinct}
+use Rattle.std.proofs.lemmas.Bool.{and_parts}
+use Rattle.std.proofs.lemmas.List.Elements.{All-append}
+use Rattle.page_pool.specs.Places.{total}
+use Rattle.page_pool.specs.declared.segs.Seg.{Seg}
+use Rattle.range_gate.specs.Cells.{cells_of}
+use Rattle.rig_api.specs.declared.change.Change.{Change}
+use Rattle.stack_ops.specs.declared.op.Op.{Op}
+use Rattle.stack_ops.specs.declared.op.Op.TheVariants.{Fetch, FetchPi, Fill, Overwrite, Put, Seal, Show, Wait, Write, WritePi}
+use Rattle.whole_run.specs.ScriptWalk.{changed, source_of}
+use Rattle.whole_run.specs.Settings.{Setting}
+use Rattle.run_moves.specs.BoundRun.{AllBound, AllSuit, IsBound}
+use Rattle.script_text.specs.Ops.{both_fault, data_fault}
+use Rattle.script_text.specs.Segments.{is_inside}
+use Rattle.script_laws.specs.Keeping.{Each, IsOp as KeepsRules}
+use Rattle.script_ground.proofs.Bodies.{AreBoth, alone-of, both-of, inside-ok, unless-ok}
+use Rattle.script_ground.proofs.Ops.{eights}
+use Rattle.script_ground.proofs.Segments.{cells-below, distinct-body, distinct-both, one-stands, stands}
+
+has_tuples : (b : Bool) → (not b && true) ≡ false → b ≡ true
+has_tuples true h = refl
+has_tuples false h = sym h
+
+-- A device suits the blocks of op i, where it is a request; and what an overwrite leaves is fine.
+abbrev pub OpSuits : Setting → (ℕ → List ℕ → Bool) → (i : ℕ) → Op → Type 0
+OpSuits m fine i (Fill seg byte) = Unit {0}
+OpSuits m fine i (Put page off bytes) = Unit {0}
+OpSuits m fine i (Show seg) = Unit {0}
+OpSuits m fine i (Seal n body tuples app rtag) = Unit {0}
+OpSuits m fine i (Write v n body app) = AllSuit m fine i v n
+OpSuits m fine i (Fetch v n body) = AllSuit m fine i v n
+OpSuits m fine i (WritePi v n body tuples) = AllSuit m fine i v n
+OpSuits m fine i (FetchPi v n body tuples) = AllSuit m fine i v n
+OpSuits m fine i (Overwrite dev lba change) = (block : List ℕ) → fine (source_of m.site dev lba change) block ≡ true → fine (m.site.cell dev lba) (changed change block) ≡ true
+OpSuits m fine i Wait = Unit {0}
+
+abbrev pub OpsSuit : Setting → (ℕ → List ℕ → Bool) → (i : ℕ) → List Op → Type 0
+OpsSuit m fine i [] = Unit {0}
+OpsSuit m fine i (op ∷ ops) = OpSuits m fine i op × OpsSuit m fine (suc i) ops
+
+both-bound : (m : Setting) (fine : ℕ → List ℕ → Bool) (dix : Bool) (pages size i v n : ℕ) (body tuples : List Seg) → m.size ≡ size → m.mode.dix ≡ dix → AreBoth pages size n body tuples → dix ≡ true → AllSuit m fine i v n →
+    All (λ c. c < 4096 * pages) (cells_of body ++ cells_of tuples) × ((total body ≡ n * m.size) × ((total tuples ≡ n * 8) × (IsDistinct nat_eq (cells_of body ++ cells_of tuples) × ((m.mode.dix ≡ true) × AllSuit m fine i v n))))
+both-bound m fine dix pages size i v n body tuples z d b t h =
+    let p = stands pages body b.body_is.inside in
+    let q = stands pages tuples b.tuples_are.inside in
+    (
+      All-append (λ c. c < 4096 * pages) (cells_of body) (cells_of tuples) (cells-below pages body p) (cells-below pages tuples q),
+      (b.body_is.long ∙ ap (λ x. n * x) (sym z), (eights n (total tuples) b.tuples_are.long, (distinct-both pages body tuples p q b.overlap, (d ∙ t, h)))),
+    )
+
+bound-op : (m : Setting) (fine : ℕ → List ℕ → Bool) (dix : Bool) (pages size i : ℕ) (op : Op) → m.size ≡ size → m.mode.dix ≡ dix → KeepsRules dix pages size op → OpSuits m fine i op → IsBound m fine (4096 * pages) i op
+bound-op m fine dix pages size i (Fill seg byte) z d k h = tt
+bound-op m fine dix pages size i (Put page off bytes) z d k h = tt
+bound-op m fine dix pages size i (Show seg) z d k h = cells-below pages (seg ∷ []) (one-stands pages seg (and_parts (is_inside pages seg) (nat_le seg.len 64) (inside-ok (is_inside pages seg && nat_le seg.len 64) _ _ k.rules)).0)
+bound-op m fine dix pages size i (Seal n body tuples app rtag) z d k h =
+    let b = both-of pages size n body tuples (unless-ok (both_fault pages size n body tuples) _ _ k.rules) in
+    cells-below pages body (stands pages body b.body_is.inside)
+bound-op m fine dix pages size i (Write v n body app) z d k h =
+    let a = alone-of pages size n body (unless-ok (data_fault pages size n body) _ _ k.rules) in
+    (cells-below pages body (stands pages body a.body_is.inside), (a.body_is.long ∙ ap (λ x. n * x) (sym z), h))
+bound-op m fine dix pages size i (Fetch v n body) z d k h =
+    let a = alone-of pages size n body (unless-ok (data_fault pages size n body) _ _ k.rules) in
+    let p = stands pages body a.body_is.inside in
+    (cells-below pages body p, (a.body_is.long ∙ ap (λ x. n * x) (sym z), (distinct-body pages body p a.overlap, h)))
+bound-op m fine dix pages size i (WritePi v n body tuples) z d k h = both-bound m fine dix pages size i v n body tuples z d (both-of pages size n body tuples (unless-ok (both_fault pages size n body tuples) _ _ k.rules)) (has_tuples dix k.integrity) h
+bound-op m fine dix pages size i (FetchPi v n body tuples) z d k h = both-bound m fine dix pages size i v n body tuples z d (both-of pages size n body tuples (unless-ok (both_fault pages size n body tuples) _ _ k.rules)) (has_tuples dix k.integrity) h
+bound-op m fine dix pages size i (Overwrite dev lba change) z d k h = h
+bound-op m fine dix pages size i Wait z d k h = tt
+
+pub bound-all : (m : Setting) (fine : ℕ → List ℕ → Bool) (dix : Bool) (pages size i : ℕ) (ops : List Op) → m.size ≡ size → m.mode.dix ≡ dix → Each (KeepsRules dix pages size) ops → OpsSuit m fine i ops → AllBound m fine (4096 * pages) i ops
+bound-all m fine dix pages size i [] z d k h = tt
+bound-all m fine dix pages size i (op ∷ ops) z d k h = (bound-op m fine dix pages size i op z d k.0 h.0, bound-all m fine dix pages size (suc i) ops z d k.1 h.1)

@@ -1,0 +1,106 @@
+-- A group before the units of a rig that tells its blocks: its ops are shifted alike, and the unit behind it has its addresses, where the shifts lead them.
+use Rattle.std.proofs.Common.{◌≡◌, ◌⊎◌, inl, inr, ◌<◌, ◌≤◌, ℕ, zero, suc, ◌+◌, ◌-◌, Bool, true, false, eqb, not, ◌||◌, ◌&&◌, List, [], ◌∷◌, ◌++◌, length, get_or, map, refl, sym, ap, subst, ◌∙◌, arith, ⊎_elim}
+use Rattle.std.specs.Prelude.{ℤ, pos, negsuc, ◌+ℤ◌, nat_abs, IfOk, Ok, Err, Result}
+use Rattle.std.specs.List.{All}
+use Rattle.std.proofs.lemmas.Bool.{cases_eq, cases_lt, eqb-true, false≢true}
+use Rattle.std.proofs.lemmas.List.Elements.{All-cons, All-head, All-nil, All-tail}
+use Rattle.bio_core.specs.Bios.{Block, block_size}
+use Rattle.bio_core.specs.declared.bio.Bio.{Bio}
+use Rattle.bio_core.specs.declared.request.Dir.{Dir}
+use Rattle.fault_schedule.specs.Altered.{shift_of}
+use Rattle.fault_schedule.specs.declared.fault.Crossing.TheVariants.{AdapterToTarget, MediumToTarget}
+use Rattle.range_gate.specs.Conflicts.{Conflict}
+use Rattle.stack_ops.specs.declared.op.Op.{Op}
+use Rattle.stack_ops.specs.declared.op.Op.TheVariants.{Fetch, FetchPi, Fill, Overwrite, Put, Seal, Show, Wait, Write, WritePi}
+use Rattle.stack_ops.specs.Footprints.{footprint}
+use Rattle.stack_view.specs.Blocks.{blocks, place_of, run_of, times}
+use Rattle.stack_view.specs.Formed.{Named}
+use Rattle.target_answer.specs.Target.{has_blocks}
+use Rattle.target_answer.specs.declared.units.UnitSpec.{UnitSpec}
+use Rattle.carried_record.proofs.Puts.{InTurn}
+use Rattle.dix_adapter.proofs.Asking.{is-pos, moved-more}
+use Rattle.whole_run.specs.Settings.{Setting}
+use Rattle.run_moves.specs.OpsApart.{OpsConflict, is_shifted}
+use Rattle.run_moves.specs.ScriptMoves.{fates_of}
+
+-- ---- shifts
+
+no_size : (z : ℤ) → not (eqb (nat_abs z) 0) ≡ false → z ≡ pos 0
+no_size (pos zero) h = refl
+no_size (pos (suc n)) h = absurd (false≢true (sym h))
+no_size (negsuc n) h = absurd (false≢true (sym h))
+
+both_false : (x y : Bool) → (x || y) ≡ false → (x ≡ false) × (y ≡ false)
+both_false false y h = (refl, h)
+both_false true y h = absurd (false≢true (sym h))
+
+-- an op that no line shifts
+pub still : (m : Setting) (i : ℕ) → is_shifted m i ≡ false → (shift_of m.site.faults AdapterToTarget i ≡ pos 0) × (shift_of m.site.faults MediumToTarget i ≡ pos 0)
+still m i h =
+    let b = both_false (not (eqb (nat_abs (shift_of m.site.faults AdapterToTarget i)) 0)) (not (eqb (nat_abs (shift_of m.site.faults MediumToTarget i)) 0)) h in
+    (no_size (shift_of m.site.faults AdapterToTarget i) b.0, no_size (shift_of m.site.faults MediumToTarget i) b.1)
+
+-- a request that is shifted is alone
+request_alone : (op : Op) (shifted : Bool) → 0 < fates_of op → (footprint op shifted).alone ≡ shifted
+request_alone (Fill seg byte) shifted h = absurd (omega arith)
+request_alone (Put page off bytes) shifted h = absurd (omega arith)
+request_alone (Show seg) shifted h = absurd (omega arith)
+request_alone (Seal n body tuples app rtag) shifted h = absurd (omega arith)
+request_alone (Write v n body app) shifted h = refl
+request_alone (Fetch v n body) shifted h = refl
+request_alone (WritePi v n body tuples) shifted h = refl
+request_alone (FetchPi v n body tuples) shifted h = refl
+request_alone (Overwrite dev lba change) shifted h = absurd (omega arith)
+request_alone Wait shifted h = absurd (omega arith)
+
+not_shifted : (b : Bool) → (b ≡ true → ⊥) → b ≡ false
+not_shifted true h = absurd (h refl)
+not_shifted false h = refl
+
+-- Two requests that don't conflict aren't shifted.
+pub both_still : (m : Setting) (i j : ℕ) (op other : Op) → 0 < fates_of op → 0 < fates_of other → ¬ OpsConflict m i op j other → (is_shifted m i ≡ false) × (is_shifted m j ≡ false)
+both_still m i j op other f g n = (
+  not_shifted (is_shifted m i) (λ t. n (inl (request_alone op (is_shifted m i) f ∙ t))),
+  not_shifted (is_shifted m j) (λ t. n (inr (inl (request_alone other (is_shifted m j) g ∙ t)))),
+)
+
+-- ---- a bio's first block is among those of its group
+
+pub first_block : (b : Bio) (bs : List Bio) → 0 < b.count → 1 ≤ times (place_of b.op) b.k (blocks (b ∷ bs))
+first_block b bs h = by b.count h where
+  by : (n : ℕ) → 0 < n → 1 ≤ times (place_of b.op) b.k (run_of (place_of b.op) b.k n ++ blocks bs)
+  by zero h = absurd (omega arith)
+  by (suc n) h = let x : eqb (place_of b.op) (place_of b.op) ≡ true = grind arith in let y : eqb b.k b.k ≡ true = grind arith in rw (x, y) (omega arith)
+
+times_behind : (i k op at n : ℕ) (bs : List Bio) → times i k (blocks bs) ≤ times i k (run_of op at n ++ blocks bs)
+times_behind i k op at zero bs = omega arith
+times_behind i k op at (suc n) bs = let h = times_behind i k op (suc at) n bs in omega (arith, h)
+
+pub fewer_behind : (i k : ℕ) (b : Bio) (bs : List Bio) → times i k (blocks bs) ≤ times i k (blocks (b ∷ bs))
+fewer_behind i k b bs = times_behind i k (place_of b.op) b.k b.count bs
+
+-- ---- the addresses of blocks in turn
+
+join_range : (u : UnitSpec) (lba n : ℕ) (s : ℤ) → has_blocks u (pos lba +ℤ s) 1 ≡ true → has_blocks u (pos (suc lba) +ℤ s) (suc n) ≡ true → has_blocks u (pos lba +ℤ s) (suc (suc n)) ≡ true
+join_range u lba n s f g =
+    let x = is-pos u (pos lba +ℤ s) 1 f in
+    let y = is-pos u (pos (suc lba) +ℤ s) (suc n) g in
+    let z : suc lba ≡ lba + 1 = omega arith in
+    let next : pos (suc lba) +ℤ s ≡ pos (x.0 + 1) = ap (λ l. pos l +ℤ s) z ∙ moved-more lba 1 x.0 s x.1.0 in
+    let same : y.0 ≡ x.0 + 1 = ap nat_abs (sym y.1.0 ∙ next) in
+    let a = x.1.1.0 in
+    let b = y.1.1.1 in
+    ap (λ p. has_blocks u p (suc (suc n))) x.1.0 ∙ within x.0 (omega (arith, a)) (omega (arith, b, same))
+  where
+    within : (at : ℕ) → u.first ≤ at → at + suc (suc n) ≤ u.first + u.blocks → has_blocks u (pos at) (suc (suc n)) ≡ true
+    within at h k = grind (arith, h, k)
+
+-- each of these blocks is in the unit, where its op's shift leads it
+abbrev pub EachIn : UnitSpec → ℤ → List Block → Type 0
+EachIn u s [] = Unit {0}
+EachIn u s (b ∷ bs) = (has_blocks u (pos b.lba +ℤ s) 1 ≡ true) × EachIn u s bs
+
+pub range_in : (u : UnitSpec) (s : ℤ) (dir : Dir) (dev lba : ℕ) (bs : List Block) → 0 < length bs → InTurn dir dev lba bs → EachIn u s bs → has_blocks u (pos lba +ℤ s) (length bs) ≡ true
+range_in u s dir dev lba [] h t e = absurd (omega arith)
+range_in u s dir dev lba (b ∷ []) h t e = subst (λ l. has_blocks u (pos l +ℤ s) 1 ≡ true) t.0.1.1 e.0
+range_in u s dir dev lba (b ∷ (c ∷ bs)) h t e = join_range u lba (length bs) s (subst (λ l. has_blocks u (pos l +ℤ s) 1 ≡ true) t.0.1.1 e.0) (range_in u s dir dev (suc lba) (c ∷ bs) (omega arith) t.1 e.1)

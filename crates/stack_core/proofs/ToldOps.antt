@@ -1,0 +1,122 @@
+-- A stack that follows the walk of its script over a rig that tells its blocks does so after an op is admitted, and after each step that leaves the rig alone.
+use Rattle.std.proofs.Common.{◌≡◌, ◌⊎◌, ◌<◌, ◌≤◌, ℕ, zero, suc, ◌+◌, ◌-◌, ◌^◌, Bool, true, false, ◌&&◌, leb, ltb, List, [], ◌∷◌, length, drop, get_or, set, Option, Some, None, refl, sym, ap, subst, ◌∙◌, arith, ⊎_elim}
+use Rattle.std.specs.Prelude.{is_some}
+use Rattle.std.proofs.lemmas.Bool.{and_parts}
+use Rattle.dix_base.specs.Told.{Calm, Rose}
+use Rattle.fault_schedule.specs.Altered.{byte_at, xored_from}
+use Rattle.fault_schedule.specs.declared.fault.FaultLine.{FaultLine}
+use Rattle.target_answer.specs.Target.{Stored, shape_of}
+use Rattle.target_answer.specs.declared.units.UnitSpec.{UnitSpec}
+use Rattle.rig_api.specs.Log.{Entry}
+use Rattle.rig_api.specs.declared.change.Change.{Change}
+use Rattle.rig_api.specs.declared.change.Change.TheVariants.{Copy, Flip}
+use Rattle.rig_api.specs.Telling.{IsStanding, Standing, block_at, can_change, changed as changed_told, has_address, source_of as source_device, spec_at, specs_of, unit_at, units_told, with_block}
+use Rattle.dix_adapter.specs.Ways.{blocks_told, cell_in, shapes_of, site_of}
+use Rattle.dix_adapter.proofs.Puts.{before, cell-is, told-at, told-puts}
+use Rattle.dix_adapter.proofs.Units.{Stands, unit-stands}
+use Rattle.stack_ops.specs.declared.op.Op.{Op}
+use Rattle.stack_ops.specs.declared.op.Op.TheVariants.{Fetch, FetchPi, Fill, Overwrite, Put, Seal, Show, Wait, Write, WritePi}
+use Rattle.block_path.specs.Acts.{State}
+use Rattle.block_path.specs.Blocks.{Site}
+use Rattle.whole_run.specs.ScriptWalk.{changed, source_of as source_cell}
+use Rattle.whole_run.specs.Settings.{Setting}
+use Rattle.run_record.specs.Records.{recorded}
+use Rattle.stack_core.specs.declared.stack.Stack.{Stack}
+use Rattle.stack_core.specs.Doing.{CanReach, HasBlocks}
+use Rattle.stack_core.specs.Stacks.{IsStack, Stays}
+use Rattle.stack_core.specs.Walking.{Enters, Walks, WalksOn, WalksOver, WalksTold, op_left, units_left}
+use Rattle.stack_core.proofs.Context.{over_stays, over_told}
+use Rattle.stack_core.proofs.WalkedRecord.{over_record, records_stay}
+use Rattle.stack_core.proofs.WalkedTold.{told_stay}
+
+-- ---- an overwrite
+
+address-there : (u : UnitSpec) (lba : ℕ) → has_address u lba ≡ true → (u.first ≤ lba) × (lba < u.first + u.blocks)
+address-there u lba h = let p = and_parts (leb u.first lba) (ltb lba (u.first + u.blocks)) h in let a = p.0 in let b = p.1 in (grind (arith, a), grind (arith, b))
+
+module _ (us : List Stored) (st : Standing) where
+  -- a stored block in its cell
+  here_is : (dev lba : ℕ) → Stands st us dev → has_address (spec_at st dev) lba ≡ true → get_or (blocks_told us) (cell_in (shapes_of us) dev lba) [] ≡ block_at us dev lba
+  here_is dev lba u h =
+      let a = address-there (spec_at st dev) lba h in
+      let x = a.0 in
+      let y = a.1 in
+      let f = ap (λ z. z.first) u.shape in
+      let b = ap (λ z. z.blocks) u.shape in
+      ap (λ c. get_or (blocks_told us) c []) (cell-is us dev lba u.there) ∙ told-at us dev (lba - (unit_at us dev).first) u.there (omega (arith, x, y, f, b))
+
+  put_here : (dev lba : ℕ) (block : List ℕ) → Stands st us dev → has_address (spec_at st dev) lba ≡ true → blocks_told (with_block us dev lba block) ≡ set (blocks_told us) (cell_in (shapes_of us) dev lba) block
+  put_here dev lba block u h =
+      let a = address-there (spec_at st dev) lba h in
+      let x = a.0 in
+      let y = a.1 in
+      let f = ap (λ z. z.first) u.shape in
+      let b = ap (λ z. z.blocks) u.shape in
+      told-puts us dev (lba - (unit_at us dev).first) (block ∷ []) u.there (omega (arith, x, y, f, b)) ∙ ap (λ c. set (blocks_told us) c block) (sym (cell-is us dev lba u.there))
+
+  has_place : (dev lba : ℕ) (change : Change) → can_change st dev lba change ≡ true → has_address (spec_at st dev) lba ≡ true
+  has_place dev lba (Flip off bytes) h = h
+  has_place dev lba (Copy from at) h = (and_parts (has_address (spec_at st dev) lba) _ h).0
+
+  change_is : (site : Site) (dev lba : ℕ) (change : Change) → site.cell ≡ cell_in (shapes_of us) → Stands st us dev → Stands st us (source_device change dev) → can_change st dev lba change ≡ true →
+      changed_told us change (block_at us dev lba) ≡ changed change (get_or (blocks_told us) (source_cell site dev lba change) [])
+  change_is site dev lba (Flip off bytes) e u v h = ap (λ block. xored_from (byte_at off bytes) 0 block) (sym (here_is dev lba u h) ∙ ap (λ cell. get_or (blocks_told us) (cell dev lba) []) (sym e))
+  change_is site dev lba (Copy from at) e u v h =
+      let p = and_parts (has_address (spec_at st dev) lba) _ h in
+      let q = and_parts (has_address (spec_at st from) at) _ p.1 in
+      sym (here_is from at v q.0) ∙ ap (λ cell. get_or (blocks_told us) (cell from at) []) (sym e)
+
+  -- what an op leaves of the units is what it leaves of the cells
+  left_is : (m : Setting) (image : Option (List ℕ)) (op : Op) → m.site.cell ≡ cell_in (specs_of st) → units_told st image ≡ Some us → IsStanding st image → CanReach true st op → blocks_told (units_left op us) ≡ op_left m op (blocks_told us)
+  left_is m image (Fill seg byte) e u r c = refl
+  left_is m image (Put page off bytes) e u r c = refl
+  left_is m image (Show seg) e u r c = refl
+  left_is m image (Seal n body tuples app rtag) e u r c = refl
+  left_is m image (Write v n body app) e u r c = refl
+  left_is m image (Fetch v n body) e u r c = refl
+  left_is m image (WritePi v n body tuples) e u r c = refl
+  left_is m image (FetchPi v n body tuples) e u r c = refl
+  left_is m image (Overwrite dev lba change) e u r c =
+      let here = unit-stands st image us dev u r c.device in
+      let from = unit-stands st image us (source_device change dev) u r c.source in
+      let can = c.place refl in
+      let e' : m.site.cell ≡ cell_in (shapes_of us) = e ∙ ap cell_in (sym here.shapes) in
+      put_here dev lba (changed_told us change (block_at us dev lba)) here (has_place dev lba change can)
+      ∙ (ap (λ block. set (blocks_told us) (cell_in (shapes_of us) dev lba) block) (change_is m.site dev lba change e' here from can)
+      ∙ ap (λ cell. set (blocks_told us) (cell dev lba) (changed change (get_or (blocks_told us) (source_cell m.site dev lba change) []))) (sym e'))
+  left_is m image Wait e u r c = refl
+
+-- a rig that tells its units tells its image
+none_some : (us : List Stored) → None ≡ Some us → ⊥
+none_some us e = cc
+
+is_told : (st : Standing) (image : Option (List ℕ)) (us : List Stored) → units_told st image ≡ Some us → is_some image ≡ true
+is_told st None us e = absurd (none_some us e)
+is_told st (Some bytes) us e = refl
+
+-- ---- a step that leaves the rig alone
+
+pub walks_on : (m : Setting) (n : ℕ) (opening : State) (first : ℕ) (s s' : Stack) (st : Standing) (log : List Entry) → IsStack s → Stays s s' → WalksOn s s' → Walks m n opening first s st log → Walks m n opening first s' st log
+walks_on m n opening first s s' st log k stays on w =
+    records_stay m n opening first s st log k w s' stays w.left (on _ n opening _ w.left (over_record m n opening first s st log k w) w.walks)
+
+pub told_on : (m : Setting) (n : ℕ) (opening : State) (first : ℕ) (s s' : Stack) (units : Option (List Stored)) (armed : List FaultLine) (st : Standing) (log : List Entry) → IsStack s → Stays s s' → WalksOn s s' → WalksTold m n opening first s units armed st log → WalksTold m n opening first s' units armed st log
+told_on m n opening first s s' units armed st log k stays on w =
+    told_stay m n opening first s units armed st log k w s' stays units w.us armed log w.recorded_from w.told_are refl (on m n opening (recorded m (drop first log)) (blocks_told w.us) w.over w.walks)
+
+-- ---- an op is admitted
+
+pub walks_entered : (m : Setting) (n : ℕ) (opening : State) (first : ℕ) (s s' : Stack) (tells : Bool) (st : Standing) (units units' : Option (List Stored)) (count count' : ℕ) (log : List Entry) → IsStack s → Stays s s' → Enters tells st units units' count count' s s' →
+    Walks m n opening first s st log → Walks m n opening first s' st log
+walks_entered m n opening first s s' tells st units units' count count' log k stays enters w =
+    records_stay m n opening first s st log k w s' stays _ (enters.walks _ n opening _ w.left (over_record m n opening first s st log k w) w.walks)
+
+pub told_entered : (m : Setting) (n : ℕ) (opening : State) (first : ℕ) (s s' : Stack) (image : Option (List ℕ)) (st : Standing) (units units' : Option (List Stored)) (armed armed' : List FaultLine) (count count' : ℕ) (log : List Entry) → IsStack s → Stays s s' → Enters (is_some image) st units units' count count' s s' →
+    units ≡ units_told st image → IsStanding st image → armed' ≡ armed → Calm count count' → WalksTold m n opening first s units armed st log → WalksTold m n opening first s' units' armed' st log
+told_entered m n opening first s s' image st units units' armed armed' count count' log k stays enters laid ready still calm w =
+    let us : units_told st image ≡ Some w.us = sym laid ∙ w.told_are in
+    let told : is_some image ≡ true = is_told st image w.us us in
+    let cell : m.site.cell ≡ cell_in (specs_of st) = ap (λ (x : Site). x.cell) w.site in
+    let left = left_is w.us st m image enters.op cell us ready (subst (λ t. CanReach t st enters.op) told enters.reach) in
+    told_stay m n opening first s units armed st log k w s' stays units' (units_left enters.op w.us) armed' log w.recorded_from (enters.tells w.us w.told_are calm) still
+    (subst (λ x. WalksOver m n opening (recorded m (drop first log)) x s') (sym left) (enters.walks m n opening (recorded m (drop first log)) (blocks_told w.us) w.over w.walks))

@@ -1,0 +1,456 @@
+-- A stack that follows the walk of its script over a rig that tells its blocks does so after a group is sent, while no store call failed: each block went its way over the target.
+use Rattle.std.proofs.Common.{◌≡◌, ◌⊎◌, inl, inr, ◌<◌, ◌≤◌, ℕ, zero, suc, ◌+◌, ◌-◌, ◌*◌, Bool, true, false, List, [], ◌∷◌, ◌++◌, length, get_or, map, drop, Option, Some, None, refl, sym, ap, subst, ◌∙◌, arith, ⊎_elim}
+use Rattle.std.specs.Prelude.{ℤ, pos, ◌+ℤ◌, IfOk, Result, Ok, Err}
+use Rattle.std.specs.List.{All}
+use Rattle.std.proofs.Common.{+ℤ_assoc}
+use Rattle.std.proofs.lemmas.Bool.{cases_Bool, cases_eq, cases_lt, false≢true}
+use Rattle.std.proofs.lemmas.List.{get_or_past, length-append}
+use Rattle.std.proofs.lemmas.List.Elements.{All-cons, All-head, All-nil, All-tail}
+use Rattle.dix_base.specs.Told.{Calm}
+use Rattle.page_pool.specs.Cells.{flat}
+use Rattle.page_pool.specs.Pages.{AreWhole}
+use Rattle.bio_core.specs.Bios.{Block, block_size}
+use Rattle.bio_core.specs.declared.bio.Bio.{Bio}
+use Rattle.bio_core.specs.declared.fate.Fate.{Fate}
+use Rattle.bio_core.specs.declared.request.Dir.{Dir}
+use Rattle.bio_core.specs.declared.request.Dir.TheVariants.{Read, Write as WriteDir}
+use Rattle.bio_core.specs.declared.request.Io.{Io}
+use Rattle.fault_schedule.specs.Altered.{shift_of}
+use Rattle.fault_schedule.specs.declared.fault.Crossing.TheVariants.{AdapterToTarget, MediumToTarget}
+use Rattle.fault_schedule.specs.declared.fault.FaultLine.{FaultLine}
+use Rattle.pi_tuple.specs.declared.checks.Check.{Check}
+use Rattle.bio_core.specs.declared.fate.Why.{Why}
+use Rattle.target_answer.specs.Frames.{stored_size}
+use Rattle.target_answer.specs.Passing.{from_medium}
+use Rattle.target_answer.specs.Target.{Stored, has_blocks, shape_of}
+use Rattle.dix_adapter.specs.Carried.{Shown, Unsent, any_bad, frame_len, sends}
+use Rattle.dix_adapter.specs.Groups as Carry
+use Rattle.dix_adapter.specs.Groups.{blocks_in, first_of, route_of}
+use Rattle.dix_adapter.specs.Ways.{CameIn, IsBehind, IsRecord, RecordedIn, RecordedOut, UpTo, WentOut, blocks_told, shapes_of, site_of}
+use Rattle.dix_adapter.proofs.Asking.{is-pos}
+use Rattle.dix_adapter.proofs.Blocks.{length-in}
+use Rattle.dix_adapter.proofs.CameIn.{fetched-block}
+use Rattle.dix_adapter.proofs.GoingIn.{long-at, sent-long-in}
+use Rattle.dix_adapter.proofs.Landing.{group-width}
+use Rattle.dix_adapter.proofs.Runs.{AllLong, Next, Run, group-run, width_for}
+use Rattle.dix_adapter.proofs.Units.{Stands as UnitStands, unit-stands}
+use Rattle.carried_record.proofs.Puts.{InTurn, bios_turn}
+use Rattle.range_gate.specs.Gates.{has_ended}
+use Rattle.rig_api.specs.Log.{Entry}
+use Rattle.rig_api.specs.Telling.{IsStanding, Standing, frame_size, spec_at, specs_of, unit_at, units_told}
+use Rattle.merge_queue.specs.Groups.{Group, size}
+use Rattle.stack_ops.specs.declared.op.Op.{Op}
+use Rattle.stack_view.specs.Blocks.{blocks, place_of, times}
+use Rattle.stack_view.specs.Formed.{Named}
+use Rattle.stack_view.specs.Plan.{Plan, no_request, request_at}
+use Rattle.stack_view.specs.Sound.{HasBlocks, Settles}
+use Rattle.stack_view.specs.View.{View, group_at, op_at, queue_at}
+use Rattle.stack_steps.specs.declared.choice.Choice.TheVariants.{Send}
+use Rattle.stack_steps.specs.declared.machine.Machine.{Machine}
+use Rattle.stack_steps.specs.Does.{Flies, Takes}
+use Rattle.block_path.specs.Acts.{State}
+use Rattle.block_path.specs.Blocks.{Sent, Site, fetched_cell}
+use Rattle.block_path.specs.Routes.{by_target, passage}
+use Rattle.whole_run.specs.Settings.{Setting, block_of, route}
+use Rattle.run_moves.specs.OpsApart.{is_shifted}
+use Rattle.run_record.specs.Records.{recorded}
+use Rattle.run_follows.specs.Following.{Follows}
+use Rattle.run_follows.specs.Sending.{AllGoing, AllSized, NoneBefore, with_fates}
+use Rattle.run_follows.specs.Slots.{Status}
+use Rattle.run_follows.proofs.Recording.{none_in, none_out}
+use Rattle.run_follows.proofs.Telling.{told_in, told_out}
+use Rattle.stack_walks.proofs.Letting.{all_marked}
+use Rattle.stack_walks.proofs.Standing.{IsOut}
+use Rattle.stack_core.specs.declared.sheet.Sheet.{Sheet}
+use Rattle.stack_core.specs.declared.stack.Stack.{Stack}
+use Rattle.stack_core.specs.Sheets.{io_at, op_in}
+use Rattle.stack_core.specs.Stacks.{IsStack, Stays, plan_in}
+use Rattle.stack_core.specs.Walking.{AreAtUnits, Data, IsAtUnit, IsChosen, IsOver, WalksOver, WalksTold, data_of, status_of}
+use Rattle.stack_core.proofs.AtUnits.{EachIn, both_still, fewer_behind, first_block, range_in, still}
+use Rattle.stack_core.proofs.Context.{adapts, over_stays, places, stands}
+use Rattle.stack_core.proofs.Facts.{place-is}
+use Rattle.stack_core.proofs.FollowsGroup.{AllLie, Lies}
+use Rattle.stack_core.proofs.FollowsSend.{all_going, group_lies, ids, out_is, spots_of}
+use Rattle.stack_core.proofs.Walked.{sound, stand}
+use Rattle.stack_core.proofs.WalkedFar.{fits, formed, goes_on, group_is, head_on, head_there, named, once, place, size_known, some, walk_held}
+
+-- the same of what the target says
+by_target_ok : (x : Result (List ℕ) Check) (P : List ℕ → Type 0) → IfOk x P → IfOk (by_target x) P
+by_target_ok (Ok frame) P h = h
+by_target_ok (Err check) P h = tt
+
+module _ (m : Setting) (n : ℕ) (opening : State) (first : ℕ) (s : Stack) (units : Option (List Stored)) (armed : List FaultLine) (st : Standing) (log : List Entry) (k : IsStack s) (w : WalksTold m n opening first s units armed st log) where
+  abbrev records : List Sent
+  records = recorded m (drop first log)
+
+  abbrev told_blocks : List (List ℕ)
+  told_blocks = blocks_told w.us
+
+  abbrev view : View
+  view = w.walks.view
+
+  abbrev design : Plan
+  design = plan_in s.sheet
+
+  abbrev ios : List Io
+  ios = s.sheet.ios.items
+
+  abbrev ops : List Op
+  ops = s.sheet.ops
+
+  -- the same over the same records and the same units
+  pub told_stay : (s' : Stack) → Stays s s' → (units' : Option (List Stored)) (us' : List Stored) (armed' : List FaultLine) (log' : List Entry) → first ≤ length log' → units' ≡ Some us' → armed' ≡ armed → WalksOver m n opening (recorded m (drop first log')) (blocks_told us') s' → WalksTold m n opening first s' units' armed' st log'
+  told_stay s' stays units' us' armed' log' l e a walks = record {
+    over = over_stays m n opening s s' stays w.over;
+    sizes = λ d b. w.sizes d (subst (λ x. d < x.devices) stays.sheet b);
+    site = w.site ∙ ap (λ x. site_of x (specs_of st)) (sym stays.adapter);
+    behind = subst (λ (x : Sheet). AreAtUnits m st x.ios.items) (sym stays.sheet) w.behind;
+    armed_are = a ∙ (w.armed_are ∙ ap (λ x. x.tamper) (sym stays.adapter));
+    recorded_from = l;
+    us = us';
+    told_are = e;
+    walks = walks;
+  }
+
+  module _ (s' : Stack) (d i : ℕ) (group : List Bio) (fates : List Fate) (between : Machine) (stays : Stays s s') (ch : IsChosen s (Send d i)) (takes : Takes design s.machine d i group between) (flies : Flies design between d group fates s'.machine) (settles : Settles group fates)
+      (same : data_of s' ≡ record (data_of s) { pool = s'.pool }) where
+    abbrev g : List Bio
+    g = group_at view d i
+
+    abbrev bs : List Block
+    bs = blocks_in g
+
+    abbrev status : ℕ → ℕ → Status
+    status = status_of design (data_of s) view
+
+    is_group : group ≡ g
+    is_group = group_is m n opening records told_blocks s k w.over w.walks s' d i group fates between stays ch takes flies settles same
+
+    names : All (Named design d) g
+    names = (named m n opening records told_blocks s k w.over w.walks s' d i group fates between stays ch takes flies settles same).named
+
+    here : i < length (queue_at view d)
+    here = place m n opening records told_blocks s k w.over w.walks s' d i group fates between stays ch takes flies settles same
+
+    fit : Carry.IsGroup s.adapter s.pool m.size ios g
+    fit = fits m n opening records told_blocks s k w.over w.walks s' d i group fates between stays ch takes flies settles same
+
+    has_some : HasBlocks g
+    has_some = some m n opening records told_blocks s k w.over w.walks s' d i group fates between stays ch takes flies settles same
+
+    going : AllGoing m n ops s.adapter ios (length opening.logs) status bs (spots_of m ops bs)
+    going = all_going m n opening design ops ios (data_of s) view (stands m n opening s k w.over) (sound m n opening records told_blocks s k w.over w.walks) (formed m n opening records told_blocks s k w.over w.walks) (places m n opening s k w.over) s.adapter (adapts m n opening s k w.over) d i here
+        (named m n opening records told_blocks s k w.over w.walks s' d i group fates between stays ch takes flies settles same)
+        (once m n opening records told_blocks s k w.over w.walks s' d i group fates between stays ch takes flies settles same)
+
+    lies : AllLie m ios bs
+    lies = group_lies m n opening design ops ios (data_of s) view (stands m n opening s k w.over) (sound m n opening records told_blocks s k w.over w.walks) (formed m n opening records told_blocks s k w.over w.walks) (places m n opening s k w.over) s.adapter (adapts m n opening s k w.over) d i here
+        (named m n opening records told_blocks s k w.over w.walks s' d i group fates between stays ch takes flies settles same)
+        (once m n opening records told_blocks s k w.over w.walks s' d i group fates between stays ch takes flies settles same)
+
+    -- ---- its ops are shifted alike
+
+    out_at : (b : Bio) → 1 ≤ times (place_of b.op) b.k (blocks g) → IsOut design view (place_of b.op) b.k
+    out_at b h =
+        (out_is m n opening design ops ios (data_of s) view (stands m n opening s k w.over) (sound m n opening records told_blocks s k w.over w.walks) (formed m n opening records told_blocks s k w.over w.walks) (places m n opening s k w.over) s.adapter (adapts m n opening s k w.over) d i here
+        (named m n opening records told_blocks s k w.over w.walks s' d i group fates between stays ch takes flies settles same)
+        (once m n opening records told_blocks s k w.over w.walks s' d i group fates between stays ch takes flies settles same)
+        (place_of b.op) b.k
+        (subst (λ x. 1 ≤ times (place_of b.op) b.k x) (sym (ids m n opening design ops ios (data_of s) view (stands m n opening s k w.over) (sound m n opening records told_blocks s k w.over w.walks) (formed m n opening records told_blocks s k w.over w.walks) (places m n opening s k w.over) s.adapter (adapts m n opening s k w.over) d i here
+        (named m n opening records told_blocks s k w.over w.walks s' d i group fates between stays ch takes flies settles same)
+        (once m n opening records told_blocks s k w.over w.walks s' d i group fates between stays ch takes flies settles same))) h)).0
+
+    going_on : (j q : ℕ) → IsOut design view j q → has_ended (op_at view j).phase ≡ true → ⊥
+    going_on j q o e =
+        let x = sound m n opening records told_blocks s k w.over w.walks in
+        let l = x.lengths j in
+        let b = o.within in
+        false≢true (sym o.unsettled ∙ all_marked (op_at view j).settled q (x.ended j e) (omega arith))
+
+    pair_still : (j p q r : ℕ) → j < p → IsOut design view j q → IsOut design view p r → (is_shifted m (suc j) ≡ false) × (is_shifted m (suc p) ≡ false)
+    pair_still j p q r l a b =
+        let x = sound m n opening records told_blocks s k w.over w.walks in
+        let y = (stand m n opening records told_blocks s k w.over w.walks).plan in
+        let cj = y.count j in
+        let cp = y.count p in
+        let aw = a.within in
+        let bw = b.within in
+        let many = y.many in
+        let lp : p < length design.requests = requests_there design p (omega arith) in
+        let vo = x.ops in
+        let free : design.conflicts j p ≡ false = ⊎_elim
+            (λ (t : design.conflicts j p ≡ true). absurd (going_on j q a (x.order j p l (omega arith) b.waits t)))
+            (λ (f : design.conflicts j p ≡ false). f)
+            (cases_Bool (design.conflicts j p)) in
+        both_still m (suc j) (suc p) (op_in ops j) (op_in ops p) (omega arith) (omega arith) (y.apart j p l (omega arith) free)
+      where
+        requests_there : (pl : Plan) (t : ℕ) → 0 < (request_at pl t).count → t < length pl.requests
+        requests_there pl t h = ⊎_elim
+            (λ (u : t < length pl.requests). u)
+            (λ (u : length pl.requests ≤ t). let z : (request_at pl t).count ≡ 0 = ap (λ x. x.count) (get_or_past pl.requests t no_request u) in absurd (omega arith))
+            (cases_lt t (length pl.requests))
+
+    abbrev Alike : Bio → Bio → Type 0
+    Alike f b = (shift_of m.site.faults AdapterToTarget b.op ≡ shift_of m.site.faults AdapterToTarget f.op) × (shift_of m.site.faults MediumToTarget b.op ≡ shift_of m.site.faults MediumToTarget f.op)
+
+    two_still : (f b : Bio) → (is_shifted m b.op ≡ false) × (is_shifted m f.op ≡ false) → Alike f b
+    two_still f b h = let x = still m b.op h.0 in let y = still m f.op h.1 in (x.0 ∙ sym y.0, x.1 ∙ sym y.1)
+
+    pair : (f b : Bio) → 1 ≤ f.op → 1 ≤ b.op → IsOut design view (place_of f.op) f.k → IsOut design view (place_of b.op) b.k → Alike f b
+    pair f b nf nb of ob =
+        let zf : suc (place_of f.op) ≡ f.op = (let e = place-is f.op nf in omega arith) in
+        let zb : suc (place_of b.op) ≡ b.op = (let e = place-is b.op nb in omega arith) in
+        ⊎_elim
+        (λ (e : place_of b.op ≡ place_of f.op). let e' : b.op ≡ f.op = sym zb ∙ (ap suc e ∙ zf) in (ap (λ x. shift_of m.site.faults AdapterToTarget x) e', ap (λ x. shift_of m.site.faults MediumToTarget x) e'))
+        (λ (ne : place_of b.op ≡ place_of f.op → ⊥). ⊎_elim
+        (λ (l : place_of b.op < place_of f.op). two_still f b (let x = pair_still (place_of b.op) (place_of f.op) b.k f.k l ob of in (ap (is_shifted m) (sym zb) ∙ x.0, ap (is_shifted m) (sym zf) ∙ x.1)))
+        (λ (l : place_of f.op ≤ place_of b.op). two_still f b (let x = pair_still (place_of f.op) (place_of b.op) f.k b.k (omega (arith, l, ne)) of ob in (ap (is_shifted m) (sym zb) ∙ x.1, ap (is_shifted m) (sym zf) ∙ x.0)))
+        (cases_lt (place_of b.op) (place_of f.op)))
+        (cases_eq (place_of b.op) (place_of f.op))
+
+    alike_from : (f : Bio) → 1 ≤ f.op → IsOut design view (place_of f.op) f.k → (cs : List Bio) → All (Named design d) cs → ((x q : ℕ) → times x q (blocks cs) ≤ times x q (blocks g)) → All (Alike f) cs
+    alike_from f nf of [] h t = All-nil (Alike f)
+    alike_from f nf of (b ∷ cs) h t =
+        let nb = All-head (Named design d) b cs h in
+        let one = first_block b cs nb.some in
+        let most = t (place_of b.op) b.k in
+        All-cons (Alike f) b cs (pair f b nf nb.numbered of (out_at b (omega (arith, one, most)))) (alike_from f nf of cs (All-tail (Named design d) b cs h) (λ x q. (let y = fewer_behind x q b cs in let z = t x q in omega (arith, y, z))))
+
+    alike : All (Alike (first_of g)) g
+    alike = by g has_some names (λ x q. omega arith) where
+      by : (cs : List Bio) → 0 < size cs → All (Named design d) cs → ((x q : ℕ) → times x q (blocks cs) ≤ times x q (blocks g)) → All (Alike (first_of cs)) cs
+      by [] l h t = absurd (omega arith)
+      by (b ∷ cs) l h t =
+          let nb = All-head (Named design d) b cs h in
+          let one = first_block b cs nb.some in
+          let most = t (place_of b.op) b.k in
+          alike_from b nb.numbered (out_at b (omega (arith, one, most))) (b ∷ cs) h t
+
+    -- ---- the unit behind it has its addresses
+
+    abbrev dev : ℕ
+    dev = (first_of g).dev
+
+    abbrev lba : ℕ
+    lba = (first_of g).lba
+
+    abbrev wire : ℤ
+    wire = shift_of s.adapter.tamper AdapterToTarget (first_of g).op
+
+    abbrev medium : ℤ
+    medium = shift_of s.adapter.tamper MediumToTarget (first_of g).op
+
+    armed_alike : All (λ b. (shift_of s.adapter.tamper AdapterToTarget b.op ≡ wire) × (shift_of s.adapter.tamper MediumToTarget b.op ≡ medium)) g
+    armed_alike = subst (λ f. All (λ b. (shift_of f AdapterToTarget b.op ≡ shift_of f AdapterToTarget (first_of g).op) × (shift_of f MediumToTarget b.op ≡ shift_of f MediumToTarget (first_of g).op)) g) w.over.faults alike
+
+    run : Run s.adapter ios dev m.size wire medium lba bs
+    run = group-run s.adapter s.pool m.size ios g wire medium fit armed_alike
+
+    turns : InTurn (first_of g).dir dev lba bs
+    turns = bios_turn s.adapter s.pool m.size ios dev (first_of g).dir lba g fit.bios fit.chain
+
+    long : length bs ≡ size g
+    long = length-in g
+
+    -- a block where the shifts lead it
+    sent_at : (b : Block) → Lies m ios b → (bytes address : ℕ) → Next s.adapter ios dev bytes wire medium address b → IsAtUnit m st dev (pos b.lba +ℤ wire)
+    sent_at b x bytes address r =
+        let nb = x.numbered in
+        let z : suc (b.op - 1) ≡ b.op = omega arith in
+        let u = w.behind.sent (b.op - 1) b.k x.within in
+        let u' = subst (λ o. IsAtUnit m st (route m (block_of o (io_at ios (b.op - 1)).first b.k)).dev (pos (route m (block_of o (io_at ios (b.op - 1)).first b.k)).lba +ℤ shift_of m.site.faults AdapterToTarget o)) z u in
+        subst (λ p. IsAtUnit m st dev (pos b.lba +ℤ p)) (ap (λ f. shift_of f AdapterToTarget b.op) w.over.faults ∙ r.wire)
+        (subst (λ l. IsAtUnit m st dev (pos l +ℤ shift_of m.site.faults AdapterToTarget b.op)) x.lba (subst (λ p. IsAtUnit m st p (pos (route m (block_of b.op (io_at ios (b.op - 1)).first b.k)).lba +ℤ shift_of m.site.faults AdapterToTarget b.op)) (x.dev ∙ r.dev) u'))
+
+    fetched_at : (b : Block) → Lies m ios b → b.dir ≡ Read → (bytes address : ℕ) → Next s.adapter ios dev bytes wire medium address b → has_blocks (spec_at st dev) (pos b.lba +ℤ (wire +ℤ medium)) 1 ≡ true
+    fetched_at b x read bytes address r =
+        let nb = x.numbered in
+        let z : suc (b.op - 1) ≡ b.op = omega arith in
+        let u = (w.behind.fetched (b.op - 1) b.k x.within (sym x.dir ∙ read)).there in
+        let u' = subst (λ o. has_blocks (spec_at st (route m (block_of o (io_at ios (b.op - 1)).first b.k)).dev) ((pos (route m (block_of o (io_at ios (b.op - 1)).first b.k)).lba +ℤ shift_of m.site.faults AdapterToTarget o) +ℤ shift_of m.site.faults MediumToTarget o) 1 ≡ true) z u in
+        let at_dev = subst (λ p. has_blocks (spec_at st p) ((pos (route m (block_of b.op (io_at ios (b.op - 1)).first b.k)).lba +ℤ shift_of m.site.faults AdapterToTarget b.op) +ℤ shift_of m.site.faults MediumToTarget b.op) 1 ≡ true) (x.dev ∙ r.dev) u' in
+        let at_lba = subst (λ l. has_blocks (spec_at st dev) ((pos l +ℤ shift_of m.site.faults AdapterToTarget b.op) +ℤ shift_of m.site.faults MediumToTarget b.op) 1 ≡ true) x.lba at_dev in
+        let at_wire = subst (λ p. has_blocks (spec_at st dev) ((pos b.lba +ℤ p) +ℤ shift_of m.site.faults MediumToTarget b.op) 1 ≡ true) (ap (λ f. shift_of f AdapterToTarget b.op) w.over.faults ∙ r.wire) at_lba in
+        let at_medium = subst (λ p. has_blocks (spec_at st dev) ((pos b.lba +ℤ wire) +ℤ p) 1 ≡ true) (ap (λ f. shift_of f MediumToTarget b.op) w.over.faults ∙ r.medium) at_wire in
+        ap (λ p. has_blocks (spec_at st dev) p 1) (sym (+ℤ_assoc (pos b.lba) wire medium)) ∙ at_medium
+
+    each_sent : (cs : List Block) (at : ℕ) → AllLie m ios cs → Run s.adapter ios dev m.size wire medium at cs → EachIn (spec_at st dev) wire cs
+    each_sent [] at x r = tt
+    each_sent (b ∷ cs) at x r = ((sent_at b x.0 m.size at r.0).there, each_sent cs (suc at) x.1 r.1)
+
+    each_fetched : (cs : List Block) (at : ℕ) → AllLie m ios cs → InTurn Read dev at cs → Run s.adapter ios dev m.size wire medium at cs → EachIn (spec_at st dev) (wire +ℤ medium) cs
+    each_fetched [] at x t r = tt
+    each_fetched (b ∷ cs) at x t r = (fetched_at b x.0 t.0.0 m.size at r.0, each_fetched cs (suc at) x.1 t.1 r.1)
+
+    first_at : IsAtUnit m st dev (pos lba +ℤ wire)
+    first_at = by bs lba (omega (arith, long, has_some)) lies run where
+      by : (cs : List Block) (at : ℕ) → 0 < length cs → AllLie m ios cs → Run s.adapter ios dev m.size wire medium at cs → IsAtUnit m st dev (pos at +ℤ wire)
+      by [] at h x r = absurd (omega arith)
+      by (b ∷ cs) at h x r = subst (λ l. IsAtUnit m st dev (pos l +ℤ wire)) r.0.lba (sent_at b x.0 m.size at r.0)
+
+    sent_in_unit : has_blocks (spec_at st dev) (pos lba +ℤ wire) (size g) ≡ true
+    sent_in_unit = ap (λ c. has_blocks (spec_at st dev) (pos lba +ℤ wire) c) (sym long) ∙ range_in (spec_at st dev) wire (first_of g).dir dev lba bs (omega (arith, long, has_some)) turns (each_sent bs lba lies run)
+
+    fetched_in_unit : (first_of g).dir ≡ Read → has_blocks (spec_at st dev) ((pos lba +ℤ wire) +ℤ medium) (size g) ≡ true
+    fetched_in_unit read =
+        ap (λ p. has_blocks (spec_at st dev) p (size g)) (+ℤ_assoc (pos lba) wire medium)
+        ∙ (ap (λ c. has_blocks (spec_at st dev) (pos lba +ℤ (wire +ℤ medium)) c) (sym long)
+        ∙ range_in (spec_at st dev) (wire +ℤ medium) Read dev lba bs (omega (arith, long, has_some)) (subst (λ x. InTurn x dev lba bs) read turns) (each_fetched bs lba lies (subst (λ x. InTurn x dev lba bs) read turns) run))
+
+    head : 0 < (io_at ios ((first_of g).op - 1)).count
+    head = head_there m n opening records told_blocks s k w.over w.walks s' d i group fates between stays ch takes flies settles same
+
+    module _ (u : UnitStands st w.us dev) where
+      pub is_behind : IsBehind s.adapter ios g w.us armed
+      is_behind = record {
+        ty = ap (λ x. x.ty) u.shape ∙ (first_at.ty ∙ w.over.ty);
+        bytes = ap (λ x. x.size) u.shape ∙ (first_at.size ∙ sym (w.over.size ((first_of g).op - 1) head));
+        armed = w.armed_are;
+        alike = armed_alike;
+        sent = ap (λ x. has_blocks x (pos lba +ℤ wire) (size g)) u.shape ∙ sent_in_unit;
+        fetched = λ read. ap (λ x. has_blocks x ((pos lba +ℤ wire) +ℤ medium) (size g)) u.shape ∙ fetched_in_unit read;
+      }
+
+      site_is : m.site ≡ site_of s.adapter (shapes_of w.us)
+      site_is = w.site ∙ ap (site_of s.adapter) (sym u.shapes)
+
+      -- ---- what a read is sent has the wire's size
+
+      sized_from : (cs : List Block) (at from q : ℕ) → pos lba +ℤ wire ≡ pos at → pos at +ℤ medium ≡ pos from → (unit_at w.us dev).first ≤ from → from + q + length cs ≤ (unit_at w.us dev).first + length (unit_at w.us dev).blocks →
+          Run s.adapter ios dev m.size wire medium (lba + q) cs → AllSized (record m { site = site_of s.adapter (shapes_of w.us) }) s.adapter ios told_blocks (width_for s.adapter m.size) cs
+      sized_from [] at from q x y f h r = tt
+      sized_from (b ∷ cs) at from q x y f h r =
+          let a = s.adapter in
+          let e : suc (lba + q) ≡ lba + suc q = omega arith in
+          let stored = get_or told_blocks (fetched_cell (site_of a (shapes_of w.us)) (route_of a ios b)) [] in
+          let block = fetched-block a ios w.us dev m.size lba at from wire medium q b u.there f (omega (arith, h)) x y r.0 in
+          let ty : (unit_at w.us dev).ty ≡ a.ty = is_behind.ty in
+          let bytes : (unit_at w.us dev).size ≡ m.size = ap (λ z. z.size) u.shape ∙ first_at.size in
+          let sized : length stored ≡ stored_size a.ty m.size = ap length block ∙ (long-at (stored_size (unit_at w.us dev).ty (unit_at w.us dev).size) (unit_at w.us dev).blocks (from + q - (unit_at w.us dev).first) u.long (omega (arith, f, h)) ∙ (ap (λ z. stored_size z (unit_at w.us dev).size) ty ∙ ap (stored_size a.ty) bytes)) in
+          (
+            by_target_ok (from_medium a.tamper (passage a.tamper (route_of a ios b)) stored) (λ frame. length frame ≡ width_for a m.size) (sent-long-in a ios b stored m.size k.fixed.protect r.0.long sized),
+            sized_from cs at from (suc q) x y f (omega (arith, h)) (subst (λ z. Run a ios dev m.size wire medium z cs) e r.1),
+          )
+
+      sized : (first_of g).dir ≡ Read → AllSized m s.adapter ios told_blocks (frame_len s.adapter ios g) bs
+      sized read =
+          let x = is-pos (spec_at st dev) (pos lba +ℤ wire) (size g) sent_in_unit in
+          let y = is-pos (spec_at st dev) ((pos lba +ℤ wire) +ℤ medium) (size g) (fetched_in_unit read) in
+          let there : pos x.0 +ℤ medium ≡ pos y.0 = ap (λ z. z +ℤ medium) (sym x.1.0) ∙ y.1.0 in
+          let f = y.1.1.0 in
+          let h = y.1.1.1 in
+          let fu = ap (λ z. z.first) u.shape in
+          let bu = ap (λ z. z.blocks) u.shape in
+          let z : lba + 0 ≡ lba = omega arith in
+          let all = sized_from bs x.0 y.0 0 x.1.0 there (omega (arith, f, fu)) (omega (arith, h, fu, bu, long)) (subst (λ l. Run s.adapter ios dev m.size wire medium l bs) (sym z) run) in
+          subst (λ len. AllSized m s.adapter ios told_blocks len bs) (sym (group-width s.adapter s.pool m.size ios g fit))
+          (subst (λ (x : Site). AllSized (record m { site = x }) s.adapter ios told_blocks (width_for s.adapter m.size) bs) (sym site_is) all)
+
+      -- ---- what was sent
+
+      abbrev from_first : Shown → Shown
+      from_first x = record x { log = drop first x.log }
+
+      drop_end : (f : ℕ) (x : List Entry) (e : Entry) → f ≤ length x → drop f (x ++ (e ∷ [])) ≡ drop f x ++ (e ∷ [])
+      drop_end zero x e h = refl
+      drop_end (suc f) [] e h = absurd (omega arith)
+      drop_end (suc f) (y ∷ x) e h = drop_end f x e (omega arith)
+
+      from_then : (old new : Shown) (e : Entry) → old.log ≡ log → new.log ≡ old.log ++ (e ∷ []) → drop first new.log ≡ drop first old.log ++ (e ∷ [])
+      from_then old new e l r = ap (drop first) r ∙ drop_end first old.log e (subst (λ x. first ≤ length x) (sym l) w.recorded_from)
+
+      dropped : (old new : Shown) (e : Entry) → old.log ≡ log → IsRecord s.adapter g old new e → IsRecord s.adapter g (from_first old) (from_first new) e
+      dropped old new e l r = record { recorded = from_then old new e l r.recorded; dev = r.dev; cdb = r.cdb; fits = r.fits; labels = r.labels }
+
+      grows : (old new : Shown) (e : Entry) → old.log ≡ log → new.log ≡ old.log ++ (e ∷ []) → first ≤ length new.log
+      grows old new e l r =
+          let a = ap length r in
+          let b = length-append old.log (e ∷ []) in
+          let c = ap length l in
+          let f = w.recorded_from in
+          omega arith
+
+      -- the stack goes on over the target
+      on_told : (units' : Option (List Stored)) (us' : List Stored) (armed' : List FaultLine) (log' : List Entry) (now' : State) → units' ≡ Some us' → armed' ≡ armed → first ≤ length log' → AreWhole s'.pool → now'.bytes ≡ flat s'.pool → now'.blocks ≡ blocks_told us' →
+          Follows m n ops opening (with_fates bs fates status) now' (recorded m (drop first log')) → NoneBefore (with_fates bs fates status) (recorded m (drop first log')) → WalksTold m n opening first s' units' armed' st log'
+      on_told units' us' armed' log' now' e a l whole bytes blocks follows none =
+          told_stay s' stays units' us' armed' log' l e a
+          (goes_on m n opening records told_blocks s k w.over w.walks s' d i group fates between stays ch takes flies settles same m (recorded m (drop first log')) now' (blocks_told us') whole bytes follows none blocks)
+
+      went_out : (old new : Shown) → old.log ≡ log → new.armed ≡ armed → (first_of g).dir ≡ WriteDir → any_bad (map (sends s.adapter ios (flat s.pool)) bs) ≡ false → s'.pool ≡ s.pool → RecordedOut s.adapter ios g (flat s.pool) fates old new →
+          WentOut s.adapter ios g (flat s.pool) w.us None fates old new → WalksTold m n opening first s' new.units new.armed st new.log
+      went_out old new l a dir good stay r t =
+          let r' : RecordedOut s.adapter ios g (flat s.pool) fates (from_first old) (from_first new) = record { entry = r.entry; what = dropped old new r.entry l r.what; moved = r.moved; fates_are = r.fates_are } in
+          let t' : WentOut s.adapter ios g (flat s.pool) w.us None fates (from_first old) (from_first new) = record { fates_are = t.fates_are; units = t.units; told = t.told; shapes = t.shapes; blocks = t.blocks; entry = t.entry; recorded = from_then old new t.entry l t.recorded; done = t.done; moved = t.moved; labels = t.labels } in
+          let logs : recorded m (drop first old.log) ≡ records = ap (λ x. recorded m (drop first x)) l in
+          let on = told_out m n ops s.adapter ios g s.pool w.us k.fixed.protect fit site_is fates (from_first old) (from_first new) opening w.walks.now status (spots_of m ops bs) dir good r' t' going w.walks.follow.bytes w.walks.blocks
+              (subst (λ x. Follows m n ops opening status w.walks.now x) (sym logs) w.walks.follow.follows) in
+          let none = none_out m n ops s.adapter ios g s.pool k.fixed.protect fit w.over.faults fates (from_first old) (from_first new) status dir good r' (subst (λ x. NoneBefore status x) (sym logs) w.walks.none_before) in
+          on_told new.units t.units new.armed new.log on.after t.told a (grows old new r.entry l r.what.recorded) (subst AreWhole (sym stay) w.walks.follow.whole) (on.bytes ∙ ap flat (sym stay)) on.blocks_are on.follows none
+
+      came_in : (old new : Shown) → old.log ≡ log → new.armed ≡ armed → (first_of g).dir ≡ Read → AreWhole s'.pool → RecordedIn s.adapter ios g s.pool s'.pool fates old new →
+          CameIn s.adapter ios g s.pool s'.pool w.us None fates old new → WalksTold m n opening first s' new.units new.armed st new.log
+      came_in old new l a dir whole r t =
+          let r' : RecordedIn s.adapter ios g s.pool s'.pool fates (from_first old) (from_first new) = record { entry = r.entry; what = dropped old new r.entry l r.what; long = r.long; fates_are = r.fates_are; cells = r.cells } in
+          let t' : CameIn s.adapter ios g s.pool s'.pool w.us None fates (from_first old) (from_first new) = record { fates_are = t.fates_are; told = t.told; cells = t.cells; entry = t.entry; recorded = from_then old new t.entry l t.recorded; done = t.done; moved = t.moved; labels = t.labels } in
+          let logs : recorded m (drop first old.log) ≡ records = ap (λ x. recorded m (drop first x)) l in
+          let on = told_in m n ops s.adapter ios g s.pool w.us k.fixed.protect fit site_is s'.pool fates (from_first old) (from_first new) opening w.walks.now status (spots_of m ops bs) dir (sized dir) r' t' going w.walks.follow.bytes w.walks.blocks
+              (subst (λ x. Follows m n ops opening status w.walks.now x) (sym logs) w.walks.follow.follows) in
+          let none = none_in m n ops s.adapter ios g s.pool k.fixed.protect fit w.over.faults s'.pool fates (from_first old) (from_first new) status dir r' (subst (λ x. NoneBefore status x) (sym logs) w.walks.none_before) in
+          on_told new.units w.us new.armed new.log on.after t.told a (grows old new r.entry l r.what.recorded) whole on.bytes on.blocks_are on.follows none
+
+    -- whatever the adapter did
+    module _ (old new : Shown) (image : Option (List ℕ)) (same_log : old.log ≡ log) (same_units : old.units ≡ units) (same_armed : old.armed ≡ armed) (still_armed : new.armed ≡ old.armed) (calm : Calm old.faults new.faults)
+        (laid : units ≡ units_told st image) (ready : IsStanding st image) (reach : s.sheet.devices ≤ st.devices) where
+      behind_here : UnitStands st w.us dev
+      behind_here =
+          let h = head_on m n opening records told_blocks s k w.over w.walks s' d i group fates between stays ch takes flies settles same in
+          unit-stands st image w.us dev (sym laid ∙ w.told_are) ready (omega (arith, h, reach))
+
+      behind_group : IsBehind s.adapter ios group w.us old.armed
+      behind_group = subst (λ x. IsBehind s.adapter ios x w.us old.armed) (sym is_group) (subst (IsBehind s.adapter ios g w.us) (sym same_armed) (is_behind behind_here))
+
+      size_is : (spec_at st (first_of group).dev).size ≡ block_size (Carry.request_of ios (first_of group).op)
+      size_is = size_known m n opening records told_blocks s k w.over w.walks s' d i group fates between stays ch takes flies settles same st w.sizes
+
+      abbrev Bad : Bool → Type 0
+      Bad b = any_bad (map (sends s.adapter ios (flat s.pool)) (blocks_in group)) ≡ b
+
+      good_here : Bad false → any_bad (map (sends s.adapter ios (flat s.pool)) bs) ≡ false
+      good_here q = ap (λ x. any_bad (map (sends s.adapter ios (flat s.pool)) (blocks_in x))) (sym is_group) ∙ q
+
+      way_here : (dir : Dir) → (first_of group).dir ≡ dir → (first_of g).dir ≡ dir
+      way_here dir e = ap (λ x. (first_of x).dir) (sym is_group) ∙ e
+
+      pub told_sends : ((first_of group).dir ≡ WriteDir → Bad true → Unsent s.adapter ios group s.pool s'.pool fates × ((new.log ≡ log) × (new.units ≡ units)))
+          → ((first_of group).dir ≡ WriteDir → Bad false → s'.pool ≡ s.pool)
+          → ((first_of group).dir ≡ Read → AreWhole s'.pool)
+          → ((spec_at st (first_of group).dev).size ≡ block_size (Carry.request_of ios (first_of group).op) → (first_of group).dir ≡ WriteDir → Bad false → RecordedOut s.adapter ios group (flat s.pool) fates old new)
+          → ((spec_at st (first_of group).dev).size ≡ block_size (Carry.request_of ios (first_of group).op) → (first_of group).dir ≡ Read → RecordedIn s.adapter ios group s.pool s'.pool fates old new)
+          → ((us : List Stored) → old.units ≡ Some us → IsBehind s.adapter ios group us old.armed → (first_of group).dir ≡ WriteDir → Bad false → UpTo (λ stop. WentOut s.adapter ios group (flat s.pool) us stop fates old new) (frame_size (unit_at us (first_of group).dev)) old.faults new.faults)
+          → ((us : List Stored) → old.units ≡ Some us → IsBehind s.adapter ios group us old.armed → (first_of group).dir ≡ Read → UpTo (λ stop. CameIn s.adapter ios group s.pool s'.pool us stop fates old new) (frame_size (unit_at us (first_of group).dev)) old.faults new.faults)
+          → WalksTold m n opening first s' new.units new.armed st new.log
+      told_sends unsent stay whole out in_ went came = by (first_of group).dir refl where
+        held : (first_of group).dir ≡ WriteDir → Bad true → WalksTold m n opening first s' new.units new.armed st new.log
+        held e q =
+            let u = unsent e q in
+            subst (λ x. WalksTold m n opening first s' new.units new.armed st x) (sym u.1.0)
+            (told_stay s' stays new.units w.us new.armed log w.recorded_from (u.1.1 ∙ w.told_are) (still_armed ∙ same_armed)
+            (walk_held m n opening records told_blocks s k w.over w.walks s' d i group fates between stays ch takes flies settles same e u.0))
+
+        gone : (first_of group).dir ≡ WriteDir → Bad false → WalksTold m n opening first s' new.units new.armed st new.log
+        gone e q =
+            let r = subst (λ x. RecordedOut s.adapter ios x (flat s.pool) fates old new) is_group (out size_is e q) in
+            let t = subst (λ x. WentOut s.adapter ios x (flat s.pool) w.us None fates old new) is_group ((went w.us (same_units ∙ w.told_are) behind_group e q).0 calm) in
+            went_out behind_here old new same_log (still_armed ∙ same_armed) (way_here WriteDir e) (good_here q) (stay e q) r t
+
+        writes : (first_of group).dir ≡ WriteDir → (b : Bool) → Bad b → WalksTold m n opening first s' new.units new.armed st new.log
+        writes e true q = held e q
+        writes e false q = gone e q
+
+        by : (dir : Dir) → (first_of group).dir ≡ dir → WalksTold m n opening first s' new.units new.armed st new.log
+        by WriteDir e = writes e (any_bad (map (sends s.adapter ios (flat s.pool)) (blocks_in group))) refl
+        by Read e =
+            let r = subst (λ x. RecordedIn s.adapter ios x s.pool s'.pool fates old new) is_group (in_ size_is e) in
+            let t = subst (λ x. CameIn s.adapter ios x s.pool s'.pool w.us None fates old new) is_group ((came w.us (same_units ∙ w.told_are) behind_group e).0 calm) in
+            came_in behind_here old new same_log (still_armed ∙ same_armed) (way_here Read e) (whole e) r t
