@@ -1,34 +1,42 @@
 -- A group before the units of a rig that tells its blocks: its ops are shifted alike, and the unit behind it has its addresses, where the shifts lead them.
-use Rattle.std.proofs.Common.{◌≡◌, ◌⊎◌, inl, inr, ◌<◌, ◌≤◌, ℕ, zero, suc, ◌+◌, ◌-◌, Bool, true, false, eqb, not, ◌||◌, ◌&&◌, List, [], ◌∷◌, ◌++◌, length, get_or, map, refl, sym, ap, subst, ◌∙◌, arith, ⊎_elim}
-use Rattle.std.specs.Prelude.{ℤ, pos, negsuc, ◌+ℤ◌, nat_abs, IfOk, Ok, Err, Result}
-use Rattle.std.specs.List.{All}
-use Rattle.std.proofs.lemmas.Bool.{cases_eq, cases_lt, eqb-true, false≢true}
-use Rattle.std.proofs.lemmas.List.Elements.{All-cons, All-head, All-nil, All-tail}
-use Rattle.bio_core.specs.Bios.{Block, block_size}
+use Rattle.std.proofs.Common.{◌≡◌, ◌⊎◌, inl, inr, ◌<◌, ◌≤◌, ℕ, zero, suc, ◌+◌, ◌-◌, Bool, true, false, eqb, not, ◌||◌, ◌&&◌, List, [], ◌∷◌, ◌++◌, length, get_or, map, Option, refl, sym, ap, subst, ◌∙◌, arith, ⊎_elim}
+use Rattle.std.specs.Prelude.{ℤ, pos, negsuc, ◌+ℤ◌, nat_abs}
+use Rattle.std.proofs.Math.IntN.{+ℤ_assoc, +ℤ_comm}
+use Rattle.std.proofs.lemmas.Bool.{eqb-true, false≢true}
+use Rattle.std.proofs.lemmas.List.{get_or_past}
+use Rattle.bio_core.specs.Bios.{Block}
 use Rattle.bio_core.specs.declared.bio.Bio.{Bio}
 use Rattle.bio_core.specs.declared.request.Dir.{Dir}
+use Rattle.bio_core.specs.declared.request.Io.{Io}
 use Rattle.fault_schedule.specs.Altered.{shift_of}
 use Rattle.fault_schedule.specs.declared.fault.Crossing.TheVariants.{AdapterToTarget, MediumToTarget}
-use Rattle.range_gate.specs.Conflicts.{Conflict}
 use Rattle.stack_ops.specs.declared.op.Op.{Op}
 use Rattle.stack_ops.specs.declared.op.Op.TheVariants.{Fetch, FetchPi, Fill, Overwrite, Put, Seal, Show, Wait, Write, WritePi}
 use Rattle.stack_ops.specs.Footprints.{footprint}
 use Rattle.stack_view.specs.Blocks.{blocks, place_of, run_of, times}
-use Rattle.stack_view.specs.Formed.{Named}
 use Rattle.target_answer.specs.Target.{has_blocks}
 use Rattle.target_answer.specs.declared.units.UnitSpec.{UnitSpec}
 use Rattle.carried_record.proofs.Puts.{InTurn}
-use Rattle.dix_adapter.proofs.Asking.{is-pos, moved-more}
+use Rattle.dix_adapter.proofs.Asking.{is-pos}
+use Rattle.stack_walks.specs.Units.{first_virt}
+use Rattle.stack_core.specs.Requests.{first_page, page_after, request_of, requests_from}
+use Rattle.stack_core.specs.Sheets.{io_at, no_io, op_in}
 use Rattle.whole_run.specs.Settings.{Setting}
 use Rattle.run_moves.specs.OpsApart.{OpsConflict, is_shifted}
 use Rattle.run_moves.specs.ScriptMoves.{fates_of}
 
 -- ---- shifts
 
+true_of : (b : Bool) → not b ≡ false → b ≡ true
+true_of true h = refl
+true_of false h = absurd (false≢true (sym h))
+
+zero_of : (z : ℤ) → nat_abs z ≡ 0 → z ≡ pos 0
+zero_of (pos n) h = ap pos h
+zero_of (negsuc n) h = absurd (omega arith)
+
 no_size : (z : ℤ) → not (eqb (nat_abs z) 0) ≡ false → z ≡ pos 0
-no_size (pos zero) h = refl
-no_size (pos (suc n)) h = absurd (false≢true (sym h))
-no_size (negsuc n) h = absurd (false≢true (sym h))
+no_size z h = zero_of z (eqb-true (nat_abs z) 0 (true_of (eqb (nat_abs z) 0) h))
 
 both_false : (x y : Bool) → (x || y) ≡ false → (x ≡ false) × (y ≡ false)
 both_false false y h = (refl, h)
@@ -81,12 +89,16 @@ fewer_behind i k b bs = times_behind i k (place_of b.op) b.k b.count bs
 
 -- ---- the addresses of blocks in turn
 
+-- the address behind one
+one_more : (lba at : ℕ) (s : ℤ) → pos lba +ℤ s ≡ pos at → pos (lba + 1) +ℤ s ≡ pos (at + 1)
+one_more lba at s e = +ℤ_assoc (pos lba) (pos 1) s ∙ (ap (λ z. pos lba +ℤ z) (+ℤ_comm (pos 1) s) ∙ (sym (+ℤ_assoc (pos lba) s (pos 1)) ∙ ap (λ z. z +ℤ pos 1) e))
+
 join_range : (u : UnitSpec) (lba n : ℕ) (s : ℤ) → has_blocks u (pos lba +ℤ s) 1 ≡ true → has_blocks u (pos (suc lba) +ℤ s) (suc n) ≡ true → has_blocks u (pos lba +ℤ s) (suc (suc n)) ≡ true
 join_range u lba n s f g =
     let x = is-pos u (pos lba +ℤ s) 1 f in
     let y = is-pos u (pos (suc lba) +ℤ s) (suc n) g in
     let z : suc lba ≡ lba + 1 = omega arith in
-    let next : pos (suc lba) +ℤ s ≡ pos (x.0 + 1) = ap (λ l. pos l +ℤ s) z ∙ moved-more lba 1 x.0 s x.1.0 in
+    let next : pos (suc lba) +ℤ s ≡ pos (x.0 + 1) = ap (λ l. pos l +ℤ s) z ∙ one_more lba x.0 s x.1.0 in
     let same : y.0 ≡ x.0 + 1 = ap nat_abs (sym y.1.0 ∙ next) in
     let a = x.1.1.0 in
     let b = y.1.1.1 in
@@ -104,3 +116,39 @@ pub range_in : (u : UnitSpec) (s : ℤ) (dir : Dir) (dev lba : ℕ) (bs : List B
 range_in u s dir dev lba [] h t e = absurd (omega arith)
 range_in u s dir dev lba (b ∷ []) h t e = subst (λ l. has_blocks u (pos l +ℤ s) 1 ≡ true) t.0.1.1 e.0
 range_in u s dir dev lba (b ∷ (c ∷ bs)) h t e = join_range u lba (length bs) s (subst (λ l. has_blocks u (pos l +ℤ s) 1 ≡ true) t.0.1.1 e.0) (range_in u s dir dev (suc lba) (c ∷ bs) (omega arith) t.1 e.1)
+
+-- ---- the requests of ops
+
+virt_of : (op : Op) (page : Option ℕ) → (request_of op page).first ≡ first_virt op
+virt_of (Fill seg byte) page = refl
+virt_of (Put page off bytes) p = refl
+virt_of (Show seg) page = refl
+virt_of (Seal n body tuples app rtag) page = refl
+virt_of (Write v n body app) page = refl
+virt_of (Fetch v n body) page = refl
+virt_of (WritePi v n body tuples) page = refl
+virt_of (FetchPi v n body tuples) page = refl
+virt_of (Overwrite dev lba change) page = refl
+virt_of Wait page = refl
+
+count_of : (op : Op) (page : Option ℕ) → (request_of op page).count ≡ fates_of op
+count_of (Fill seg byte) page = refl
+count_of (Put page off bytes) p = refl
+count_of (Show seg) page = refl
+count_of (Seal n body tuples app rtag) page = refl
+count_of (Write v n body app) page = refl
+count_of (Fetch v n body) page = refl
+count_of (WritePi v n body tuples) page = refl
+count_of (FetchPi v n body tuples) page = refl
+count_of (Overwrite dev lba change) page = refl
+count_of Wait page = refl
+
+pub io_first : (dix : Bool) (page : ℕ) (ops : List Op) (i : ℕ) → (io_at (requests_from dix page ops) i).first ≡ first_virt (op_in ops i)
+io_first dix page [] i = ap (λ (io : Io). io.first) (get_or_past [] i no_io (omega arith)) ∙ sym (ap first_virt (get_or_past [] i Wait (omega arith)))
+io_first dix page (op ∷ ops) zero = virt_of op (first_page dix page)
+io_first dix page (op ∷ ops) (suc i) = io_first dix (page_after dix page op) ops i
+
+pub io_count : (dix : Bool) (page : ℕ) (ops : List Op) (i : ℕ) → (io_at (requests_from dix page ops) i).count ≡ fates_of (op_in ops i)
+io_count dix page [] i = ap (λ (io : Io). io.count) (get_or_past [] i no_io (omega arith)) ∙ sym (ap fates_of (get_or_past [] i Wait (omega arith)))
+io_count dix page (op ∷ ops) zero = count_of op (first_page dix page)
+io_count dix page (op ∷ ops) (suc i) = io_count dix (page_after dix page op) ops i

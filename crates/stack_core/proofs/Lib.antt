@@ -44,5 +44,6 @@ pub mod WalkedRecord
 pub mod AtUnits
 pub mod WalkedTold
 pub mod ToldOps
+pub mod Failing
 pub mod WalkBegins
 pub mod WalkEnds

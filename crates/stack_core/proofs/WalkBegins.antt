@@ -8,7 +8,7 @@ use Rattle.rig_api.specs.Log.{Entry}
 use Rattle.fault_schedule.specs.declared.fault.FaultLine.{FaultLine}
 use Rattle.target_answer.specs.Target.{Stored}
 use Rattle.dix_adapter.specs.Ways.{blocks_told, site_of}
-use Rattle.rig_api.specs.Telling.{Standing, spec_at, specs_of}
+use Rattle.rig_api.specs.Telling.{Standing, specs_of}
 use Rattle.stack_ops.specs.declared.op.Op.{Op}
 use Rattle.stack_view.specs.Plan.{Plan, Request, request_at}
 use Rattle.stack_view.specs.View.{is_admitted, no_op, op_at, start, waiting}
@@ -21,13 +21,14 @@ use Rattle.run_follows.specs.Finished.{FramesFit}
 use Rattle.run_follows.specs.Slots.{Waits}
 use Rattle.run_follows.proofs.Begins.{begin_all}
 use Rattle.stack_walks.specs.Statuses.{fate_in}
+use Rattle.stack_walks.specs.Units.{AreAtUnits}
 use Rattle.stack_walks.proofs.Same.{same_within}
 use Rattle.stack_walks.proofs.Standing.{waits}
 use Rattle.stack_core.specs.declared.stack.Stack.{Stack}
 use Rattle.stack_core.specs.Rooms.{Suits}
 use Rattle.stack_core.specs.Sheets.{op_in, request_in}
 use Rattle.stack_core.specs.Stacks.{IsStack, plan_in, room_at}
-use Rattle.stack_core.specs.Walking.{AreAtUnits, IsOver, Opens, Walks, WalksOver, WalksTold, data_of, shown_in, status_of, why_in}
+use Rattle.stack_core.specs.Walking.{IsOver, Opens, SizesFit, Walks, WalksOver, WalksTold, data_of, shown_in, status_of, why_in}
 
 start_waits : (rs : List Request) (i : ℕ) → i < length rs → is_waiting (get_or (map waiting rs) i no_op).phase ≡ true
 start_waits [] i l = absurd (omega arith)
@@ -75,7 +76,7 @@ none_recorded m log = ap (recorded m) (drop_all (length log) log (omega arith))
 
 -- over any rig
 pub walk_begins : (m : Setting) (n : ℕ) (opening : State) (s : Stack) (st : Standing) (log : List Entry) → IsStack s → Holds (plan_in s.sheet) s.machine (start (plan_in s.sheet)) → AreWhole s.pool → ((i : ℕ) → i < length s.sheet.ops → Suits (op_in s.sheet.ops i) (room_at s.rooms.items i)) →
-    Opens opening s → IsOver m n opening s.sheet s.adapter s.host → ((d : ℕ) → d < s.sheet.devices → (spec_at st d).size ≡ m.size) → Walks m n opening (length log) s st log
+    Opens opening s → IsOver m n opening s.sheet s.adapter s.host → SizesFit m st → Walks m n opening (length log) s st log
 walk_begins m n opening s st log k h whole suits o over sizes = record {
   over = over;
   sizes = sizes;
@@ -87,7 +88,7 @@ walk_begins m n opening s st log k h whole suits o over sizes = record {
 
 -- over a rig that tells its blocks
 pub told_begins : (m : Setting) (n : ℕ) (opening : State) (s : Stack) (us : List Stored) (armed : List FaultLine) (st : Standing) (log : List Entry) → IsStack s → Holds (plan_in s.sheet) s.machine (start (plan_in s.sheet)) → AreWhole s.pool → ((i : ℕ) → i < length s.sheet.ops → Suits (op_in s.sheet.ops i) (room_at s.rooms.items i)) →
-    Opens opening s → IsOver m n opening s.sheet s.adapter s.host → ((d : ℕ) → d < s.sheet.devices → (spec_at st d).size ≡ m.size) → m.site ≡ site_of s.adapter (specs_of st) → AreAtUnits m st s.sheet.ios.items → armed ≡ s.adapter.tamper → opening.blocks ≡ blocks_told us →
+    Opens opening s → IsOver m n opening s.sheet s.adapter s.host → SizesFit m st → m.site ≡ site_of s.adapter (specs_of st) → AreAtUnits m (specs_of st) s.sheet.ops → armed ≡ s.adapter.tamper → opening.blocks ≡ blocks_told us →
     WalksTold m n opening (length log) s (Some us) armed st log
 told_begins m n opening s us armed st log k h whole suits o over sizes site behind armed_are blocks = record {
   over = over;

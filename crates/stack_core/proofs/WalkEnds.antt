@@ -35,7 +35,6 @@ use Rattle.run_follows.specs.Finished.{AllEnded, HasEnded, HaveEnded, answer_of,
 use Rattle.run_follows.specs.Gate.{IsAlone}
 use Rattle.run_follows.specs.Slots.{Done, Settled, Status}
 use Rattle.run_follows.proofs.Backing.{is_backed, told_carried}
-use Rattle.run_follows.proofs.Binding.{bound_over}
 use Rattle.run_follows.proofs.Ends.{ends_as_walk}
 use Rattle.stack_walks.specs.Statuses.{fate_in}
 use Rattle.stack_walks.proofs.Letting.{all_marked}
@@ -162,14 +161,14 @@ module _ (over : Setting) (n : ℕ) (opening : State) (es : List Sent) (left : L
       (λ j l. let y : suc j ≡ 1 + j = omega arith in subst (λ x. reply_of (m.fails x) (op_in ops j) (answers_of 0 (steps_of m x (op_in ops j)) (status x)) ≡ get_or s.replies.items j Silent) y (says m (suc j) (status (suc j)) (why j) (get_or s.replies.items j Silent) (op_in ops j) (λ q b. settled j q l b) (λ z. done j 0 l z) (w.follow.replied j l (ended j l)) (f j)))
 
 -- Over any rig the replies are backed by what stands on record since the stack began.
-pub ends_backed : (m : Setting) (fine : ℕ → List ℕ → Bool) (n : ℕ) (opening : State) (first : ℕ) (s : Stack) (st : Standing) (log : List Entry) → IsStack s → (w : Walks m n opening first s st log) → enabled (plan_in s.sheet) w.walks.view ≡ [] →
-    HasFails m s.replies.items → IsBoundRun m fine n s.sheet.ops opening → Backed m s.sheet.ops (hidden n opening) (drop first log) s.replies.items
-ends_backed m fine n opening first s st log k w none f bound =
+pub ends_backed : (m : Setting) (n : ℕ) (opening : State) (first : ℕ) (s : Stack) (st : Standing) (log : List Entry) → IsStack s → (w : Walks m n opening first s st log) → enabled (plan_in s.sheet) w.walks.view ≡ [] →
+    HasFails m s.replies.items → IsBoundRun (told m (recorded m (drop first log))) (λ c block. true) n s.sheet.ops opening → Backed m s.sheet.ops (hidden n opening) (drop first log) s.replies.items
+ends_backed m n opening first s st log k w none f bound =
     let es = recorded m (drop first log) in
     let o = over_told m es n opening s.sheet s.adapter s.host w.over in
     let status = status_of (plan_in s.sheet) (data_of s) w.walks.view in
     subst (Backed m s.sheet.ops (hidden n opening) (drop first log)) (all_replied (told m es) n opening es w.left s k o w.walks none m f)
-    (is_backed m n s.sheet.ops opening w.walks.now status (drop first log) (bound_over m es w.fit fine n s.sheet.ops opening bound) (all_ended (told m es) n opening es w.left s k o w.walks none m) w.walks.follow.follows)
+    (is_backed m n s.sheet.ops opening w.walks.now status (drop first log) bound (all_ended (told m es) n opening es w.left s k o w.walks none m) w.walks.follow.follows)
 
 -- Over a rig that tells its blocks the stack has done the walk.
 pub ends_told : (m : Setting) (fine : ℕ → List ℕ → Bool) (n : ℕ) (opening : State) (first : ℕ) (s : Stack) (units : Option (List Stored)) (armed : List FaultLine) (st : Standing) (log : List Entry) → IsStack s → (w : WalksTold m n opening first s units armed st log) → enabled (plan_in s.sheet) w.walks.view ≡ [] →

@@ -31,6 +31,7 @@ use Rattle.stack_steps.specs.Does.{Does, Flies, Holds, Lands, Takes}
 use Rattle.stack_steps.proofs.Sums.{sends-fit}
 use Rattle.block_path.specs.Acts.{State}
 use Rattle.block_path.specs.Blocks.{Sent}
+use Rattle.volume_table.specs.Places.{place_in, volume_len}
 use Rattle.whole_run.specs.Settings.{Setting}
 use Rattle.run_follows.specs.Following.{Follows}
 use Rattle.run_follows.specs.Sending.{AllGoing, NoneBefore, with_fates}
@@ -44,7 +45,7 @@ use Rattle.stack_core.specs.Settled.{AllSettled, Kept}
 use Rattle.stack_core.specs.Settling.{AreFates}
 use Rattle.stack_core.specs.Sheets.{io_at}
 use Rattle.stack_core.specs.Stacks.{IsStack, Stays, plan_in}
-use Rattle.stack_core.specs.Walking.{Data, Follow, GoesOn, IsChosen, IsOver, WalksOver, data_of, status_of}
+use Rattle.stack_core.specs.Walking.{Data, Follow, GoesOn, IsChosen, IsOver, SizesFit, WalksOver, data_of, status_of}
 use Rattle.stack_core.proofs.Completes.{completes}
 use Rattle.stack_core.proofs.Context.{adapts, places, stands}
 use Rattle.stack_core.proofs.Facts.{completed, place-is}
@@ -176,12 +177,28 @@ module _ (over : Setting) (n : ℕ) (opening : State) (es : List Sent) (left : L
           omega arith
 
     -- the size that the rig knows is that of the group's request
-    pub size_known : (st : Standing) → ((d : ℕ) → d < s.sheet.devices → (spec_at st d).size ≡ over.size) → (spec_at st (first_of group).dev).size ≡ block_size (Carry.request_of s.sheet.ios.items (first_of group).op)
+    pub size_known : (st : Standing) → SizesFit over st → (spec_at st (first_of group).dev).size ≡ block_size (Carry.request_of s.sheet.ios.items (first_of group).op)
     size_known st sizes =
-        let dev : (first_of (group_at view d i)).dev < s.sheet.devices = head_on in
-        let e = sizes (first_of (group_at view d i)).dev dev in
         let f = o.size ((first_of (group_at view d i)).op - 1) head_there in
-        subst (λ g. (spec_at st (first_of g).dev).size ≡ block_size (Carry.request_of s.sheet.ios.items (first_of g).op)) (sym group_is) (e ∙ sym f)
+        subst (λ g. (spec_at st (first_of g).dev).size ≡ block_size (Carry.request_of s.sheet.ios.items (first_of g).op)) (sym group_is) (by (group_at view d i) some named ∙ sym f)
+      where
+        here : (v : ℕ) → v < volume_len s.sheet.table.entries → (spec_at st (place_in s.sheet.table.entries v).0).size ≡ over.size
+        here = subst (λ e. (v : ℕ) → v < volume_len e → (spec_at st (place_in e v).0).size ≡ over.size) o.entries sizes
+
+        by : (g : List Bio) → HasBlocks g → IsGroup design d g → (spec_at st (first_of g).dev).size ≡ over.size
+        by [] h x = absurd (omega arith)
+        by (b ∷ more) h x =
+            let nm = All-head (Named design d) b more x.named in
+            let q = b.op - 1 in
+            let z = place-is b.op nm.numbered in
+            let a = nm.some in
+            let c = nm.within in
+            let e : (request_at design (place_of b.op)).count ≡ (io_at s.sheet.ios.items q).count = ap (λ y. (request_at design y).count) z ∙ (places over n opening s k o).count q in
+            let first : (request_at design (place_of b.op)).first ≡ (io_at s.sheet.ios.items q).first = ap (λ y. (request_at design y).first) z ∙ (places over n opening s k o).first q in
+            let v : ℕ = (io_at s.sheet.ios.items q).first + b.k in
+            let at : (request_at design (place_of b.op)).first + (b.k + 0) ≡ v = omega arith in
+            let place : (place_in s.sheet.table.entries v).0 ≡ d = ap (λ y. (design.place y).dev) (sym at) ∙ nm.dev 0 nm.some in
+            ap (λ y. (spec_at st y).size) (nm.on ∙ sym place) ∙ here v (s.sheet.right.inside q b.k (omega arith))
 
     -- What came of its blocks is known, over another setting and another record where these changed: the stack goes on.
     pub goes_on : (over' : Setting) (es' : List Sent) (now' : State) (left' : List (List ℕ)) → AreWhole s'.pool → now'.bytes ≡ flat s'.pool → Follows over' n s.sheet.ops opening (with_fates bs fates status) now' es' →

@@ -60,7 +60,7 @@ module _ (m : Setting) (n : ℕ) (opening : State) (first : ℕ) (s : Stack) (st
   pub records_stay : (s' : Stack) → Stays s s' → (left : List (List ℕ)) → WalksOver device n opening records left s' → Walks m n opening first s' st log
   records_stay s' stays left walks = record {
     over = over_stays m n opening s s' stays w.over;
-    sizes = λ d l. w.sizes d (subst (λ x. d < x.devices) stays.sheet l);
+    sizes = w.sizes;
     recorded_from = w.recorded_from;
     fit = w.fit;
     left = left;
@@ -128,7 +128,7 @@ module _ (m : Setting) (n : ℕ) (opening : State) (first : ℕ) (s : Stack) (st
     went : (log' : List Entry) → AreWhole s'.pool → first ≤ length log' → FramesFit m (recorded m (drop first log')) → (on : FollowsOn m n s.sheet.ops opening (with_fates bs fates status) (flat s'.pool) (drop first log')) → Walks m n opening first s' st log'
     went log' whole l fitting on = record {
       over = over_stays m n opening s s' stays w.over;
-      sizes = λ x b. w.sizes x (subst (λ y. x < y.devices) stays.sheet b);
+      sizes = w.sizes;
       recorded_from = l;
       fit = fitting;
       left = on.after.blocks;

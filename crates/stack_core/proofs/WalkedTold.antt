@@ -2,7 +2,7 @@
 use Rattle.std.proofs.Common.{◌≡◌, ◌⊎◌, inl, inr, ◌<◌, ◌≤◌, ℕ, zero, suc, ◌+◌, ◌-◌, ◌*◌, Bool, true, false, List, [], ◌∷◌, ◌++◌, length, get_or, map, drop, Option, Some, None, refl, sym, ap, subst, ◌∙◌, arith, ⊎_elim}
 use Rattle.std.specs.Prelude.{ℤ, pos, ◌+ℤ◌, IfOk, Result, Ok, Err}
 use Rattle.std.specs.List.{All}
-use Rattle.std.proofs.Common.{+ℤ_assoc}
+use Rattle.std.proofs.Math.IntN.{+ℤ_assoc}
 use Rattle.std.proofs.lemmas.Bool.{cases_Bool, cases_eq, cases_lt, false≢true}
 use Rattle.std.proofs.lemmas.List.{get_or_past, length-append}
 use Rattle.std.proofs.lemmas.List.Elements.{All-cons, All-head, All-nil, All-tail}
@@ -50,23 +50,26 @@ use Rattle.stack_steps.specs.declared.machine.Machine.{Machine}
 use Rattle.stack_steps.specs.Does.{Flies, Takes}
 use Rattle.block_path.specs.Acts.{State}
 use Rattle.block_path.specs.Blocks.{Sent, Site, fetched_cell}
+use Rattle.block_path.specs.declared.route.Route.{Route}
 use Rattle.block_path.specs.Routes.{by_target, passage}
 use Rattle.whole_run.specs.Settings.{Setting, block_of, route}
 use Rattle.run_moves.specs.OpsApart.{is_shifted}
+use Rattle.run_moves.specs.ScriptMoves.{fates_of}
 use Rattle.run_record.specs.Records.{recorded}
 use Rattle.run_follows.specs.Following.{Follows}
 use Rattle.run_follows.specs.Sending.{AllGoing, AllSized, NoneBefore, with_fates}
 use Rattle.run_follows.specs.Slots.{Status}
 use Rattle.run_follows.proofs.Recording.{none_in, none_out}
 use Rattle.run_follows.proofs.Telling.{told_in, told_out}
+use Rattle.stack_walks.specs.Units.{AreAtUnits, IsAtUnit, first_virt}
 use Rattle.stack_walks.proofs.Letting.{all_marked}
 use Rattle.stack_walks.proofs.Standing.{IsOut}
 use Rattle.stack_core.specs.declared.sheet.Sheet.{Sheet}
 use Rattle.stack_core.specs.declared.stack.Stack.{Stack}
 use Rattle.stack_core.specs.Sheets.{io_at, op_in}
 use Rattle.stack_core.specs.Stacks.{IsStack, Stays, plan_in}
-use Rattle.stack_core.specs.Walking.{AreAtUnits, Data, IsAtUnit, IsChosen, IsOver, WalksOver, WalksTold, data_of, status_of}
-use Rattle.stack_core.proofs.AtUnits.{EachIn, both_still, fewer_behind, first_block, range_in, still}
+use Rattle.stack_core.specs.Walking.{Data, IsChosen, IsOver, WalksOver, WalksTold, data_of, status_of}
+use Rattle.stack_core.proofs.AtUnits.{EachIn, both_still, fewer_behind, first_block, io_count, io_first, range_in, still}
 use Rattle.stack_core.proofs.Context.{adapts, over_stays, places, stands}
 use Rattle.stack_core.proofs.Facts.{place-is}
 use Rattle.stack_core.proofs.FollowsGroup.{AllLie, Lies}
@@ -102,9 +105,9 @@ module _ (m : Setting) (n : ℕ) (opening : State) (first : ℕ) (s : Stack) (un
   pub told_stay : (s' : Stack) → Stays s s' → (units' : Option (List Stored)) (us' : List Stored) (armed' : List FaultLine) (log' : List Entry) → first ≤ length log' → units' ≡ Some us' → armed' ≡ armed → WalksOver m n opening (recorded m (drop first log')) (blocks_told us') s' → WalksTold m n opening first s' units' armed' st log'
   told_stay s' stays units' us' armed' log' l e a walks = record {
     over = over_stays m n opening s s' stays w.over;
-    sizes = λ d b. w.sizes d (subst (λ x. d < x.devices) stays.sheet b);
+    sizes = w.sizes;
     site = w.site ∙ ap (λ x. site_of x (specs_of st)) (sym stays.adapter);
-    behind = subst (λ (x : Sheet). AreAtUnits m st x.ios.items) (sym stays.sheet) w.behind;
+    behind = subst (λ (x : Sheet). AreAtUnits m (specs_of st) x.ops) (sym stays.sheet) w.behind;
     armed_are = a ∙ (w.armed_are ∙ ap (λ x. x.tamper) (sym stays.adapter));
     recorded_from = l;
     us = us';
@@ -253,49 +256,73 @@ module _ (m : Setting) (n : ℕ) (opening : State) (first : ℕ) (s : Stack) (un
     long = length-in g
 
     -- a block where the shifts lead it
-    sent_at : (b : Block) → Lies m ios b → (bytes address : ℕ) → Next s.adapter ios dev bytes wire medium address b → IsAtUnit m st dev (pos b.lba +ℤ wire)
-    sent_at b x bytes address r =
-        let nb = x.numbered in
-        let z : suc (b.op - 1) ≡ b.op = omega arith in
-        let u = w.behind.sent (b.op - 1) b.k x.within in
-        let u' = subst (λ o. IsAtUnit m st (route m (block_of o (io_at ios (b.op - 1)).first b.k)).dev (pos (route m (block_of o (io_at ios (b.op - 1)).first b.k)).lba +ℤ shift_of m.site.faults AdapterToTarget o)) z u in
-        subst (λ p. IsAtUnit m st dev (pos b.lba +ℤ p)) (ap (λ f. shift_of f AdapterToTarget b.op) w.over.faults ∙ r.wire)
-        (subst (λ l. IsAtUnit m st dev (pos l +ℤ shift_of m.site.faults AdapterToTarget b.op)) x.lba (subst (λ p. IsAtUnit m st p (pos (route m (block_of b.op (io_at ios (b.op - 1)).first b.k)).lba +ℤ shift_of m.site.faults AdapterToTarget b.op)) (x.dev ∙ r.dev) u'))
+    module _ (b : Block) (x : Lies m ios b) (bytes address : ℕ) (r : Next s.adapter ios dev bytes wire medium address b) where
+      abbrev op : Op
+      op = op_in ops (b.op - 1)
 
-    fetched_at : (b : Block) → Lies m ios b → b.dir ≡ Read → (bytes address : ℕ) → Next s.adapter ios dev bytes wire medium address b → has_blocks (spec_at st dev) (pos b.lba +ℤ (wire +ℤ medium)) 1 ≡ true
-    fetched_at b x read bytes address r =
-        let nb = x.numbered in
-        let z : suc (b.op - 1) ≡ b.op = omega arith in
-        let u = (w.behind.fetched (b.op - 1) b.k x.within (sym x.dir ∙ read)).there in
-        let u' = subst (λ o. has_blocks (spec_at st (route m (block_of o (io_at ios (b.op - 1)).first b.k)).dev) ((pos (route m (block_of o (io_at ios (b.op - 1)).first b.k)).lba +ℤ shift_of m.site.faults AdapterToTarget o) +ℤ shift_of m.site.faults MediumToTarget o) 1 ≡ true) z u in
-        let at_dev = subst (λ p. has_blocks (spec_at st p) ((pos (route m (block_of b.op (io_at ios (b.op - 1)).first b.k)).lba +ℤ shift_of m.site.faults AdapterToTarget b.op) +ℤ shift_of m.site.faults MediumToTarget b.op) 1 ≡ true) (x.dev ∙ r.dev) u' in
-        let at_lba = subst (λ l. has_blocks (spec_at st dev) ((pos l +ℤ shift_of m.site.faults AdapterToTarget b.op) +ℤ shift_of m.site.faults MediumToTarget b.op) 1 ≡ true) x.lba at_dev in
-        let at_wire = subst (λ p. has_blocks (spec_at st dev) ((pos b.lba +ℤ p) +ℤ shift_of m.site.faults MediumToTarget b.op) 1 ≡ true) (ap (λ f. shift_of f AdapterToTarget b.op) w.over.faults ∙ r.wire) at_lba in
-        let at_medium = subst (λ p. has_blocks (spec_at st dev) ((pos b.lba +ℤ wire) +ℤ p) 1 ≡ true) (ap (λ f. shift_of f MediumToTarget b.op) w.over.faults ∙ r.medium) at_wire in
-        ap (λ p. has_blocks (spec_at st dev) p 1) (sym (+ℤ_assoc (pos b.lba) wire medium)) ∙ at_medium
+      counted : b.k < fates_of op
+      counted = let a = x.within in let e = ap (λ l. (io_at l (b.op - 1)).count) w.over.ios in let c = io_count m.mode.dix w.over.pages ops (b.op - 1) in omega arith
+
+      op_there : b.op - 1 < length ops
+      op_there = let a = x.there in let c = x.numbered in let e = k.fixed.ops in omega arith
+
+      next : suc (b.op - 1) ≡ b.op
+      next = let c = x.numbered in omega arith
+
+      virt_is : first_virt op ≡ (io_at ios (b.op - 1)).first
+      virt_is = sym (ap (λ l. (io_at l (b.op - 1)).first) w.over.ios ∙ io_first m.mode.dix w.over.pages ops (b.op - 1))
+
+      abbrev way : ℕ → ℕ → Route
+      way i v = route m (block_of i v b.k)
+
+      wire_is : shift_of m.site.faults AdapterToTarget b.op ≡ wire
+      wire_is = ap (λ f. shift_of f AdapterToTarget b.op) w.over.faults ∙ r.wire
+
+      medium_is : shift_of m.site.faults MediumToTarget b.op ≡ medium
+      medium_is = ap (λ f. shift_of f MediumToTarget b.op) w.over.faults ∙ r.medium
+
+      sent_at : IsAtUnit m (specs_of st) dev (pos b.lba +ℤ wire)
+      sent_at =
+          let u = w.behind.sent (b.op - 1) b.k op_there counted in
+          let v = subst (λ v. IsAtUnit m (specs_of st) (way (suc (b.op - 1)) v).dev (pos (way (suc (b.op - 1)) v).lba +ℤ shift_of m.site.faults AdapterToTarget (suc (b.op - 1)))) virt_is u in
+          let o = subst (λ i. IsAtUnit m (specs_of st) (way i (io_at ios (b.op - 1)).first).dev (pos (way i (io_at ios (b.op - 1)).first).lba +ℤ shift_of m.site.faults AdapterToTarget i)) next v in
+          subst (λ z. IsAtUnit m (specs_of st) dev (pos b.lba +ℤ z)) wire_is
+          (subst (λ l. IsAtUnit m (specs_of st) dev (pos l +ℤ shift_of m.site.faults AdapterToTarget b.op)) x.lba
+          (subst (λ p. IsAtUnit m (specs_of st) p (pos (way b.op (io_at ios (b.op - 1)).first).lba +ℤ shift_of m.site.faults AdapterToTarget b.op)) (x.dev ∙ r.dev) o))
+
+      fetched_at : IsAtUnit m (specs_of st) dev (pos b.lba +ℤ (wire +ℤ medium))
+      fetched_at =
+          let u = w.behind.fetched (b.op - 1) b.k op_there counted in
+          let v = subst (λ v. IsAtUnit m (specs_of st) (way (suc (b.op - 1)) v).dev ((pos (way (suc (b.op - 1)) v).lba +ℤ shift_of m.site.faults AdapterToTarget (suc (b.op - 1))) +ℤ shift_of m.site.faults MediumToTarget (suc (b.op - 1)))) virt_is u in
+          let o = subst (λ i. IsAtUnit m (specs_of st) (way i (io_at ios (b.op - 1)).first).dev ((pos (way i (io_at ios (b.op - 1)).first).lba +ℤ shift_of m.site.faults AdapterToTarget i) +ℤ shift_of m.site.faults MediumToTarget i)) next v in
+          subst (IsAtUnit m (specs_of st) dev) (+ℤ_assoc (pos b.lba) wire medium)
+          (subst (λ z. IsAtUnit m (specs_of st) dev ((pos b.lba +ℤ wire) +ℤ z)) medium_is
+          (subst (λ z. IsAtUnit m (specs_of st) dev ((pos b.lba +ℤ z) +ℤ shift_of m.site.faults MediumToTarget b.op)) wire_is
+          (subst (λ l. IsAtUnit m (specs_of st) dev ((pos l +ℤ shift_of m.site.faults AdapterToTarget b.op) +ℤ shift_of m.site.faults MediumToTarget b.op)) x.lba
+          (subst (λ p. IsAtUnit m (specs_of st) p ((pos (way b.op (io_at ios (b.op - 1)).first).lba +ℤ shift_of m.site.faults AdapterToTarget b.op) +ℤ shift_of m.site.faults MediumToTarget b.op)) (x.dev ∙ r.dev) o))))
 
     each_sent : (cs : List Block) (at : ℕ) → AllLie m ios cs → Run s.adapter ios dev m.size wire medium at cs → EachIn (spec_at st dev) wire cs
     each_sent [] at x r = tt
     each_sent (b ∷ cs) at x r = ((sent_at b x.0 m.size at r.0).there, each_sent cs (suc at) x.1 r.1)
 
-    each_fetched : (cs : List Block) (at : ℕ) → AllLie m ios cs → InTurn Read dev at cs → Run s.adapter ios dev m.size wire medium at cs → EachIn (spec_at st dev) (wire +ℤ medium) cs
-    each_fetched [] at x t r = tt
-    each_fetched (b ∷ cs) at x t r = (fetched_at b x.0 t.0.0 m.size at r.0, each_fetched cs (suc at) x.1 t.1 r.1)
+    each_fetched : (cs : List Block) (at : ℕ) → AllLie m ios cs → Run s.adapter ios dev m.size wire medium at cs → EachIn (spec_at st dev) (wire +ℤ medium) cs
+    each_fetched [] at x r = tt
+    each_fetched (b ∷ cs) at x r = ((fetched_at b x.0 m.size at r.0).there, each_fetched cs (suc at) x.1 r.1)
 
-    first_at : IsAtUnit m st dev (pos lba +ℤ wire)
+    first_at : IsAtUnit m (specs_of st) dev (pos lba +ℤ wire)
     first_at = by bs lba (omega (arith, long, has_some)) lies run where
-      by : (cs : List Block) (at : ℕ) → 0 < length cs → AllLie m ios cs → Run s.adapter ios dev m.size wire medium at cs → IsAtUnit m st dev (pos at +ℤ wire)
+      by : (cs : List Block) (at : ℕ) → 0 < length cs → AllLie m ios cs → Run s.adapter ios dev m.size wire medium at cs → IsAtUnit m (specs_of st) dev (pos at +ℤ wire)
       by [] at h x r = absurd (omega arith)
-      by (b ∷ cs) at h x r = subst (λ l. IsAtUnit m st dev (pos l +ℤ wire)) r.0.lba (sent_at b x.0 m.size at r.0)
+      by (b ∷ cs) at h x r = subst (λ l. IsAtUnit m (specs_of st) dev (pos l +ℤ wire)) r.0.lba (sent_at b x.0 m.size at r.0)
 
     sent_in_unit : has_blocks (spec_at st dev) (pos lba +ℤ wire) (size g) ≡ true
     sent_in_unit = ap (λ c. has_blocks (spec_at st dev) (pos lba +ℤ wire) c) (sym long) ∙ range_in (spec_at st dev) wire (first_of g).dir dev lba bs (omega (arith, long, has_some)) turns (each_sent bs lba lies run)
 
-    fetched_in_unit : (first_of g).dir ≡ Read → has_blocks (spec_at st dev) ((pos lba +ℤ wire) +ℤ medium) (size g) ≡ true
-    fetched_in_unit read =
+    fetched_in_unit : has_blocks (spec_at st dev) ((pos lba +ℤ wire) +ℤ medium) (size g) ≡ true
+    fetched_in_unit =
         ap (λ p. has_blocks (spec_at st dev) p (size g)) (+ℤ_assoc (pos lba) wire medium)
         ∙ (ap (λ c. has_blocks (spec_at st dev) (pos lba +ℤ (wire +ℤ medium)) c) (sym long)
-        ∙ range_in (spec_at st dev) (wire +ℤ medium) Read dev lba bs (omega (arith, long, has_some)) (subst (λ x. InTurn x dev lba bs) read turns) (each_fetched bs lba lies (subst (λ x. InTurn x dev lba bs) read turns) run))
+        ∙ range_in (spec_at st dev) (wire +ℤ medium) (first_of g).dir dev lba bs (omega (arith, long, has_some)) turns (each_fetched bs lba lies run))
 
     head : 0 < (io_at ios ((first_of g).op - 1)).count
     head = head_there m n opening records told_blocks s k w.over w.walks s' d i group fates between stays ch takes flies settles same
@@ -308,7 +335,7 @@ module _ (m : Setting) (n : ℕ) (opening : State) (first : ℕ) (s : Stack) (un
         armed = w.armed_are;
         alike = armed_alike;
         sent = ap (λ x. has_blocks x (pos lba +ℤ wire) (size g)) u.shape ∙ sent_in_unit;
-        fetched = λ read. ap (λ x. has_blocks x ((pos lba +ℤ wire) +ℤ medium) (size g)) u.shape ∙ fetched_in_unit read;
+        fetched = λ read. ap (λ x. has_blocks x ((pos lba +ℤ wire) +ℤ medium) (size g)) u.shape ∙ fetched_in_unit;
       }
 
       site_is : m.site ≡ site_of s.adapter (shapes_of w.us)
@@ -332,10 +359,10 @@ module _ (m : Setting) (n : ℕ) (opening : State) (first : ℕ) (s : Stack) (un
             sized_from cs at from (suc q) x y f (omega (arith, h)) (subst (λ z. Run a ios dev m.size wire medium z cs) e r.1),
           )
 
-      sized : (first_of g).dir ≡ Read → AllSized m s.adapter ios told_blocks (frame_len s.adapter ios g) bs
-      sized read =
+      sized : AllSized m s.adapter ios told_blocks (frame_len s.adapter ios g) bs
+      sized =
           let x = is-pos (spec_at st dev) (pos lba +ℤ wire) (size g) sent_in_unit in
-          let y = is-pos (spec_at st dev) ((pos lba +ℤ wire) +ℤ medium) (size g) (fetched_in_unit read) in
+          let y = is-pos (spec_at st dev) ((pos lba +ℤ wire) +ℤ medium) (size g) fetched_in_unit in
           let there : pos x.0 +ℤ medium ≡ pos y.0 = ap (λ z. z +ℤ medium) (sym x.1.0) ∙ y.1.0 in
           let f = y.1.1.0 in
           let h = y.1.1.1 in
@@ -394,7 +421,7 @@ module _ (m : Setting) (n : ℕ) (opening : State) (first : ℕ) (s : Stack) (un
           let r' : RecordedIn s.adapter ios g s.pool s'.pool fates (from_first old) (from_first new) = record { entry = r.entry; what = dropped old new r.entry l r.what; long = r.long; fates_are = r.fates_are; cells = r.cells } in
           let t' : CameIn s.adapter ios g s.pool s'.pool w.us None fates (from_first old) (from_first new) = record { fates_are = t.fates_are; told = t.told; cells = t.cells; entry = t.entry; recorded = from_then old new t.entry l t.recorded; done = t.done; moved = t.moved; labels = t.labels } in
           let logs : recorded m (drop first old.log) ≡ records = ap (λ x. recorded m (drop first x)) l in
-          let on = told_in m n ops s.adapter ios g s.pool w.us k.fixed.protect fit site_is s'.pool fates (from_first old) (from_first new) opening w.walks.now status (spots_of m ops bs) dir (sized dir) r' t' going w.walks.follow.bytes w.walks.blocks
+          let on = told_in m n ops s.adapter ios g s.pool w.us k.fixed.protect fit site_is s'.pool fates (from_first old) (from_first new) opening w.walks.now status (spots_of m ops bs) dir sized r' t' going w.walks.follow.bytes w.walks.blocks
               (subst (λ x. Follows m n ops opening status w.walks.now x) (sym logs) w.walks.follow.follows) in
           let none = none_in m n ops s.adapter ios g s.pool k.fixed.protect fit w.over.faults s'.pool fates (from_first old) (from_first new) status dir r' (subst (λ x. NoneBefore status x) (sym logs) w.walks.none_before) in
           on_told new.units w.us new.armed new.log on.after t.told a (grows old new r.entry l r.what.recorded) whole on.bytes on.blocks_are on.follows none

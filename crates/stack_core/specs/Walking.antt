@@ -1,5 +1,5 @@
 -- That a stack between two steps follows the walk of its script.
-use Rattle.std.specs.Prelude.{◌≡◌, ◌⊎◌, ℕ, zero, suc, ◌+◌, ◌*◌, ◌<◌, ◌≤◌, ℤ, pos, ◌+ℤ◌, Bool, false, true, List, [], ◌∷◌, length, drop, get_or, set, take, Option, Some}
+use Rattle.std.specs.Prelude.{◌≡◌, ◌⊎◌, ℕ, zero, suc, ◌+◌, ◌*◌, ◌<◌, ◌≤◌, Bool, false, true, List, [], ◌∷◌, length, drop, get_or, set, take, Option, Some}
 use Rattle.page_pool.specs.Cells.{flat}
 use Rattle.page_pool.specs.Pages.{AreWhole}
 use Rattle.page_pool.specs.Places.{total}
@@ -7,13 +7,9 @@ use Rattle.bio_core.specs.declared.fate.Fate.{Fate}
 use Rattle.bio_core.specs.declared.fate.Fate.TheVariants.{Untouched}
 use Rattle.bio_core.specs.declared.fate.Why.{Why}
 use Rattle.bio_core.specs.Bios.{block_size}
-use Rattle.bio_core.specs.declared.request.Dir.TheVariants.{Read}
-use Rattle.bio_core.specs.declared.request.Io.{Io}
 use Rattle.dix_base.specs.Told.{Calm}
-use Rattle.fault_schedule.specs.Altered.{shift_of}
-use Rattle.fault_schedule.specs.declared.fault.Crossing.TheVariants.{AdapterToTarget, MediumToTarget}
 use Rattle.fault_schedule.specs.declared.fault.FaultLine.{FaultLine}
-use Rattle.target_answer.specs.Target.{Stored, has_blocks}
+use Rattle.target_answer.specs.Target.{Stored}
 use Rattle.range_gate.specs.Gates.{has_ended}
 use Rattle.rig_api.specs.Log.{Entry}
 use Rattle.rig_api.specs.Telling.{Standing, block_at, changed as changed_told, spec_at, specs_of, with_block}
@@ -34,7 +30,8 @@ use Rattle.dix_adapter.specs.Groups.{mode_of}
 use Rattle.dix_adapter.specs.Ways.{blocks_told, site_of}
 use Rattle.block_path.specs.Moves.{hidden}
 use Rattle.whole_run.specs.ScriptWalk.{bad_from, changed, script_replies, script_walk, source_of as source_cell, whole_or_bad}
-use Rattle.whole_run.specs.Settings.{Setting, block_of, route}
+use Rattle.volume_table.specs.Places.{place_in, volume_len}
+use Rattle.whole_run.specs.Settings.{Setting}
 use Rattle.whole_run.specs.Steps.{each_from}
 use Rattle.run_moves.specs.BoundRun.{fates}
 use Rattle.run_moves.specs.ScriptMoves.{fates_of}
@@ -48,6 +45,7 @@ use Rattle.run_follows.specs.Sending.{NoneBefore}
 use Rattle.run_follows.specs.Slots.{Status}
 use Rattle.stack_walks.specs.Ground.{Ground}
 use Rattle.stack_walks.specs.Statuses.{status_in}
+use Rattle.stack_walks.specs.Units.{AreAtUnits}
 use Rattle.stack_core.specs.declared.kept.Room.{Room}
 use Rattle.stack_core.specs.declared.sheet.Sheet.{Sheet}
 use Rattle.stack_core.specs.declared.stack.Stack.{Stack}
@@ -132,6 +130,10 @@ is_medium Medium = true
 abbrev pub HasFails : Setting → List Reply → Type 0
 HasFails m replies = (i : ℕ) → m.fails (suc i) ≡ is_medium (get_or replies i Silent)
 
+-- No overwrite failed yet.
+abbrev pub NoneFailed : List Reply → Type 0
+NoneFailed replies = (i : ℕ) → is_medium (get_or replies i Silent) ≡ false
+
 -- ---- between two steps
 
 -- What no step changes: the ops are the script's of this setting, in n bytes of pages, over the adapter's units.
@@ -175,10 +177,14 @@ pub record WalksOver (over : Setting) (n : ℕ) (opening : State) (es : List Sen
   pub none_before : NoneBefore (status_of (plan_in s.sheet) (data_of s) view) es
   pub blocks : now.blocks ≡ left
 
+-- The devices of the volume's blocks have blocks of its size, as the rig's head tells them.
+abbrev pub SizesFit : Setting → Standing → Type 0
+SizesFit m st = (v : ℕ) → v < volume_len m.entries → (spec_at st (place_in m.entries v).0).size ≡ m.size
+
 -- Over any rig, whose records from the first on are this log: what came of each block is what stands on record, and each frame that came has the wire's size.
 pub record Walks (m : Setting) (n : ℕ) (opening : State) (first : ℕ) (s : Stack) (st : Standing) (log : List Entry) : Type 0 where
   pub over : IsOver m n opening s.sheet s.adapter s.host
-  pub sizes : (d : ℕ) → d < s.sheet.devices → (spec_at st d).size ≡ m.size
+  pub sizes : SizesFit m st
   pub recorded_from : first ≤ length log
   pub fit : FramesFit m (recorded m (drop first log))
   pub left : List (List ℕ)
@@ -186,24 +192,12 @@ pub record Walks (m : Setting) (n : ℕ) (opening : State) (first : ℕ) (s : St
 
 -- ---- over a rig that tells its blocks
 
--- The unit behind a device is of the volume's type, with blocks of its size, and has a block at this address.
-pub record IsAtUnit (m : Setting) (st : Standing) (dev : ℕ) (lba : ℤ) : Type 0 where
-  pub ty : (spec_at st dev).ty ≡ m.ty
-  pub size : (spec_at st dev).size ≡ m.size
-  pub there : has_blocks (spec_at st dev) lba 1 ≡ true
-
--- So it is of each block of a request, where the op's shifts lead it.
-pub record AreAtUnits (m : Setting) (st : Standing) (ios : List Io) : Type 0 where
-  pub sent : (i k : ℕ) → k < (io_at ios i).count → let r = route m (block_of (suc i) (io_at ios i).first k) in IsAtUnit m st r.dev (pos r.lba +ℤ shift_of m.site.faults AdapterToTarget (suc i))
-  pub fetched : (i k : ℕ) → k < (io_at ios i).count → (io_at ios i).dir ≡ Read
-      → let r = route m (block_of (suc i) (io_at ios i).first k) in IsAtUnit m st r.dev ((pos r.lba +ℤ shift_of m.site.faults AdapterToTarget (suc i)) +ℤ shift_of m.site.faults MediumToTarget (suc i))
-
 -- Over a rig that tells its blocks, with the stack's faults armed: what came of each block is the target's answer, and the cells of the stored blocks are those that the rig tells.
 pub record WalksTold (m : Setting) (n : ℕ) (opening : State) (first : ℕ) (s : Stack) (units : Option (List Stored)) (armed : List FaultLine) (st : Standing) (log : List Entry) : Type 0 where
   pub over : IsOver m n opening s.sheet s.adapter s.host
-  pub sizes : (d : ℕ) → d < s.sheet.devices → (spec_at st d).size ≡ m.size
+  pub sizes : SizesFit m st
   pub site : m.site ≡ site_of s.adapter (specs_of st)
-  pub behind : AreAtUnits m st s.sheet.ios.items
+  pub behind : AreAtUnits m (specs_of st) s.sheet.ops
   pub armed_are : armed ≡ s.adapter.tamper
   pub recorded_from : first ≤ length log
   pub us : List Stored
@@ -218,12 +212,12 @@ pub record Opens (opening : State) (s : Stack) : Type 0 where
 -- A new stack follows the walk, over any rig with devices of blocks of this size, from the rig's next record on.
 abbrev pub WalksAtFirst : Stack → Type 0
 WalksAtFirst s = (m : Setting) (n : ℕ) (opening : State) (st : Standing) (log : List Entry)
-    → Opens opening s → IsOver m n opening s.sheet s.adapter s.host → ((d : ℕ) → d < s.sheet.devices → (spec_at st d).size ≡ m.size) → Walks m n opening (length log) s st log
+    → Opens opening s → IsOver m n opening s.sheet s.adapter s.host → SizesFit m st → Walks m n opening (length log) s st log
 
 -- So it does over a rig that tells its blocks, which are those of the opening, with its faults armed.
 abbrev pub WalksToldAtFirst : Stack → Type 0
 WalksToldAtFirst s = (m : Setting) (n : ℕ) (opening : State) (us : List Stored) (armed : List FaultLine) (st : Standing) (log : List Entry)
-    → Opens opening s → IsOver m n opening s.sheet s.adapter s.host → ((d : ℕ) → d < s.sheet.devices → (spec_at st d).size ≡ m.size) → m.site ≡ site_of s.adapter (specs_of st) → AreAtUnits m st s.sheet.ios.items
+    → Opens opening s → IsOver m n opening s.sheet s.adapter s.host → SizesFit m st → m.site ≡ site_of s.adapter (specs_of st) → AreAtUnits m (specs_of st) s.sheet.ops
     → armed ≡ s.adapter.tamper → opening.blocks ≡ blocks_told us → WalksTold m n opening (length log) s (Some us) armed st log
 
 -- ---- from one step to the next

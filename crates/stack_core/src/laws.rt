@@ -1,7 +1,22 @@
 //! What the layers above build on: what the stack does to blocks are moves on cells.
 
-ghost use Rattle.std.specs.Prelude.{◌≡◌, ◌<◌, ◌≤◌, ℕ, List, ◌+◌, ◌++◌, true, false, Option, None, get_or};
+ghost use Rattle.std.specs.Prelude.{◌≡◌, ◌<◌, ◌≤◌, ℕ, List, [], ◌+◌, ◌++◌, Bool, true, false, Option, None, Some, drop, get_or};
 ghost use Rattle.fault_schedule.specs.declared.Label.{Label as AnyLabel};
+ghost use Rattle.fault_schedule.specs.declared.fault.FaultLine.{FaultLine};
+ghost use Rattle.target_answer.specs.Target.{Stored};
+ghost use Rattle.rig_api.specs.Log.{Entry};
+ghost use Rattle.rig_api.specs.Telling.{Standing};
+ghost use Rattle.stack_view.specs.Steps.{enabled};
+ghost use Rattle.stack_view.specs.View.{View};
+ghost use Rattle.stack_steps.specs.Does.{Holds};
+ghost use Rattle.whole_run.specs.Settings.{Setting};
+ghost use Rattle.run_moves.specs.BoundRun.{IsBoundRun};
+ghost use Rattle.run_record.specs.BackedRun.{Backed};
+ghost use Rattle.run_record.specs.Records.{recorded};
+ghost use Rattle.run_record.specs.ToldRun.{told};
+ghost use Rattle.stack_core.specs.declared.stack.Stack.{Stack as AnyStack};
+ghost use Rattle.stack_core.specs.Stacks.{IsStack, plan_in};
+ghost use Rattle.stack_core.specs.Walking.{EndsTold, HasFails, Walks, WalksTold};
 ghost use Rattle.page_pool.specs.Cells.{flat};
 ghost use Rattle.page_pool.specs.Pages.{AllLieIn, AreWhole};
 ghost use Rattle.pi_tuple.specs.declared.checks.PiType.{PiType as AnyType};
@@ -14,7 +29,7 @@ ghost use Rattle.bio_core.specs.declared.request.Dir.TheVariants.{Write};
 ghost use Rattle.bio_core.specs.declared.request.Io.{Io as AnyIo};
 ghost use Rattle.block_path.specs.declared.mode.Mode.{Mode as AnyMode};
 ghost use Rattle.block_path.specs.Acts.{State, act};
-ghost use Rattle.block_path.specs.Moves.{map_back};
+ghost use Rattle.block_path.specs.Moves.{hidden, map_back};
 ghost use Rattle.block_path.specs.Routes.{host_type};
 ghost use Rattle.block_path.specs.Serial.{plain};
 ghost use Rattle.dix_adapter.specs.Groups.{data_cells};
@@ -47,4 +62,19 @@ pub fn a_read_is_settled_by_a_move()
         → io.pi ≡ None → mode.dix ≡ false → AreWhole old → AllLieIn old io.body → k < io.count → (fate ≡ Untouched → ⊥) → now.bytes ≡ flat old → get_or now.fates n None ≡ why_of fate
         → ReadSettled mode (host_type ty) io k lba fate old new result
         → IsSettle (route_to label dev ty mode io k lba) owner (data_cells io k) n fate now new result }
+{}
+
+/// A stack that followed the walk of its script to the end, over any rig, honest or not: the rig's log backs its replies.
+pub fn a_finished_stack_is_backed()
+    ensures { (m : Setting) (n : ℕ) (opening : State) (first : ℕ) (s : AnyStack) (st : Standing) (log : List Entry) → IsStack s → Walks m n opening first s st log
+        → ((v : View) → Holds (plan_in s.sheet) s.machine v → enabled (plan_in s.sheet) v ≡ []) → HasFails m s.replies.items
+        → IsBoundRun (told m (recorded m (drop first log))) (λ c block. true) n s.sheet.ops opening → Backed m s.sheet.ops (hidden n opening) (drop first log) s.replies.items }
+{}
+
+/// And over a rig that tells its blocks, while its count of faults didn't rise: replies, pages and stored blocks are those
+/// of the script's walk at the target, and the log holds what the walk carries.
+pub fn a_finished_stack_has_done_the_walk()
+    ensures { (m : Setting) (fine : ℕ → List ℕ → Bool) (n : ℕ) (opening : State) (first : ℕ) (s : AnyStack) (us : List Stored) (armed : List FaultLine) (st : Standing) (log : List Entry) → IsStack s
+        → WalksTold m n opening first s (Some us) armed st log → ((v : View) → Holds (plan_in s.sheet) s.machine v → enabled (plan_in s.sheet) v ≡ []) → HasFails m s.replies.items
+        → IsBoundRun m fine n s.sheet.ops opening → EndsTold m n opening s.sheet.ops s us (drop first log) }
 {}

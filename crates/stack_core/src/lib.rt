@@ -11,6 +11,9 @@ mod sheet;
 mod stack;
 mod start;
 
-pub use laws::{a_read_is_settled_by_a_move, a_write_goes_on_by_moves};
+pub use laws::{
+    a_finished_stack_has_done_the_walk, a_finished_stack_is_backed, a_read_is_settled_by_a_move,
+    a_write_goes_on_by_moves,
+};
 pub use setup::Setup;
 pub use stack::Stack;

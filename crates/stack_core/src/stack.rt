@@ -1,6 +1,6 @@
 //! The stack and its steps.
 
-ghost use Rattle.std.specs.Prelude.{◌≡◌, ◌<◌, ◌≤◌, ◌+◌, ◌*◌, ◌↔◌, ◌^◌, ◌⊎◌, ℕ, IsTrue, List, [], Some, is_some, length, slice_index_or, slice_set};
+ghost use Rattle.std.specs.Prelude.{◌≡◌, ◌<◌, ◌≤◌, ◌+◌, ◌*◌, ◌↔◌, ◌^◌, ◌⊎◌, ℕ, IsTrue, false, List, [], Some, is_some, length, slice_index_or, slice_set};
 ghost use Rattle.stack_view.specs.Runs.{blocks_of_requests};
 ghost use Rattle.stack_view.specs.Steps.{enabled};
 ghost use Rattle.stack_view.specs.View.{View};
@@ -12,7 +12,7 @@ ghost use Rattle.stack_core.specs.Replies.{HoldsSeal};
 ghost use Rattle.stack_ops.specs.declared.reply.Reply.TheVariants.{Medium, Silent};
 ghost use Rattle.stack_core.specs.Done.{MadeBy, OpDone, Sealed, WriteMade, WriteMapped};
 ghost use Rattle.stack_core.specs.Doing.{CanDo, CanReach, HasBlocks};
-ghost use Rattle.stack_core.specs.Walking.{Enters, IsChosen, Walks, WalksOn, WalksTold, units_left};
+ghost use Rattle.stack_core.specs.Walking.{Enters, IsChosen, NoneFailed, Walks, WalksOn, WalksTold, is_medium, units_left};
 ghost use Rattle.dix_base.specs.Told.{Calm};
 ghost use Rattle.rig_api.specs.Telling.{block_at, changed, with_block};
 ghost use Rattle.target_answer.specs.Target.{Stored};
@@ -120,6 +120,7 @@ impl Stack {
         ensures walks { (m : Setting) (n : ℕ) (opening : State) (first : ℕ) → Walks m n opening first self.old (R.standing rig.old) (R.log rig.old) → Walks m n opening first self.new (R.standing rig.new) (R.log rig.new) }
         ensures told { (m : Setting) (n : ℕ) (opening : State) (first : ℕ) → WalksTold m n opening first self.old (R.units rig.old) (R.armed rig.old) (R.standing rig.old) (R.log rig.old)
             → Calm (R.faults rig.old) (R.faults rig.new) → WalksTold m n opening first self.new (R.units rig.new) (R.armed rig.new) (R.standing rig.new) (R.log rig.new) }
+        ensures silent { Calm (R.faults rig.old) (R.faults rig.new) → NoneFailed self.old.replies.items → NoneFailed self.new.replies.items }
     {
         let choice = self.machine.choose(&self.sheet, word);
         match choice {
@@ -139,6 +140,7 @@ impl Stack {
         ensures stays { Stays self.old self.new }
         ensures step { (cut : ℕ) → Does (plan_in self.old.sheet) self.old.machine (End q) cut self.new.machine }
         ensures walks { IsChosen self.old (End q) → WalksOn self.old self.new }
+        ensures silent { NoneFailed self.old.replies.items → NoneFailed self.new.replies.items }
     {
         let op = self.machine.end(&self.sheet, q) as usize;
         let room = take_room(&mut self.rooms, op);
@@ -153,6 +155,7 @@ impl Stack {
         ensures stays { Stays self.old self.new }
         ensures step { (cut : ℕ) → Does (plan_in self.old.sheet) self.old.machine (Complete i) cut self.new.machine }
         ensures walks { IsChosen self.old (Complete i) → WalksOn self.old self.new }
+        ensures replies { self.new.replies.items ≡ self.old.replies.items }
     {
         self.machine
             .complete(&self.sheet, i, &mut self.group, &mut self.fates);
@@ -175,6 +178,7 @@ impl Stack {
         ensures stays { Stays self.old self.new }
         ensures step { (cut : ℕ) → Does (plan_in self.old.sheet) self.old.machine (Admit q) cut self.new.machine }
         ensures walks { IsChosen self.old (Admit q) → Enters (is_some (R.image rig.old)) (R.standing rig.old) (R.units rig.old) (R.units rig.new) (R.faults rig.old) (R.faults rig.new) self.old self.new }
+        ensures silent { Calm (R.faults rig.old) (R.faults rig.new) → NoneFailed self.old.replies.items → NoneFailed self.new.replies.items }
         ensures tells { is_some (R.image rig.new) ≡ is_some (R.image rig.old) }
         ensures standing { R.standing rig.new ≡ R.standing rig.old }
         ensures room { R.room rig.new ≡ R.room rig.old }
@@ -210,6 +214,7 @@ impl Stack {
         ensures stays { Stays self.old self.new }
         ensures step { Does (plan_in self.old.sheet) self.old.machine (Cut q) size self.new.machine }
         ensures walks { IsChosen self.old (Cut q) → WalksOn self.old self.new }
+        ensures replies { self.new.replies.items ≡ self.old.replies.items }
     {
         let bio = self.machine.cut(&self.sheet, q, size);
         map_piece(
@@ -227,6 +232,7 @@ impl Stack {
         ensures stays { Stays self.old self.new }
         ensures step { (cut : ℕ) → Does (plan_in self.old.sheet) self.old.machine (Join d i j) cut self.new.machine }
         ensures walks { IsChosen self.old (Join d i j) → WalksOn self.old self.new }
+        ensures replies { self.new.replies.items ≡ self.old.replies.items }
     {
         self.machine.join(&self.sheet, d, i, j);
     }
@@ -242,6 +248,7 @@ impl Stack {
         ensures walks { IsChosen self.old (Send d i) → (m : Setting) (n : ℕ) (opening : State) (first : ℕ) → Walks m n opening first self.old (R.standing rig.old) (R.log rig.old) → Walks m n opening first self.new (R.standing rig.new) (R.log rig.new) }
         ensures told { IsChosen self.old (Send d i) → (m : Setting) (n : ℕ) (opening : State) (first : ℕ) → WalksTold m n opening first self.old (R.units rig.old) (R.armed rig.old) (R.standing rig.old) (R.log rig.old)
             → Calm (R.faults rig.old) (R.faults rig.new) → WalksTold m n opening first self.new (R.units rig.new) (R.armed rig.new) (R.standing rig.new) (R.log rig.new) }
+        ensures replies { self.new.replies.items ≡ self.old.replies.items }
         ensures tells { is_some (R.image rig.new) ≡ is_some (R.image rig.old) }
         ensures standing { R.standing rig.new ≡ R.standing rig.old }
         ensures spare { HasSpare self.new (R.standing rig.new) (R.room rig.new) }
@@ -335,6 +342,7 @@ fn overwrite<R: Rig>(rig: &mut R, dev: u32, lba: u64, change: &Change) -> Reply
     ensures log { R.log rig.new ≡ R.log rig.old }
     ensures count { R.faults rig.old ≤ R.faults rig.new }
     ensures left { (us : List Stored) → R.units rig.old ≡ Some us → Calm (R.faults rig.old) (R.faults rig.new) → R.units rig.new ≡ Some (with_block us dev lba (changed us change.now (block_at us dev lba))) }
+    ensures silent { Calm (R.faults rig.old) (R.faults rig.new) → is_medium result ≡ false }
 {
     match rig.overwrite(dev, lba, change) {
         Ok(()) => Reply::Silent,
@@ -355,6 +363,7 @@ fn do_op<R: Rig>(pool: &mut PagePool, op: &Op, kind: GuardKind, room: Room, rig:
     ensures log { R.log rig.new ≡ R.log rig.old }
     ensures count { R.faults rig.old ≤ R.faults rig.new }
     ensures left { (us : List Stored) → R.units rig.old ≡ Some us → Calm (R.faults rig.old) (R.faults rig.new) → R.units rig.new ≡ Some (units_left op.now us) }
+    ensures silent { Calm (R.faults rig.old) (R.faults rig.new) → is_medium result ≡ false }
 {
     match op {
         Op::Fill { seg, byte } => {

@@ -12,7 +12,8 @@ use Rattle.stack_core.specs.declared.kept.Room.TheVariants.{Nothing}
 use Rattle.stack_core.specs.Done.{OpDone, WriteMade}
 use Rattle.stack_core.specs.Sheets.{io_at, op_in}
 use Rattle.stack_ops.specs.declared.op.Op.TheVariants.{Wait}
-use Rattle.stack_core.specs.Walking.{data_of, units_left}
+use Rattle.stack_core.specs.Walking.{NoneFailed, data_of, units_left}
+use Rattle.stack_core.proofs.Failing.{one-more}
 use Rattle.stack_core.proofs.Walked.{walk_admits, walk_op}
 use Rattle.stack_core.proofs.stack.Stack.admit.Goals as goal
 
@@ -126,3 +127,6 @@ pub returns-clause-goes : goal.returns-clause-goes
 returns-clause-goes g c =
     goes-as-before (g.R.Rig.standing c.args.rig.now) (g.R.Rig.standing c.do_op-done.new.rig) (g.R.Rig.log c.args.rig.now) (g.R.Rig.log c.do_op-done.new.rig) (g.R.Rig.faults c.args.rig.now) (g.R.Rig.faults c.do_op-done.new.rig)
     c.do_op-done.ensures.standing c.do_op-done.ensures.log c.do_op-done.ensures.count
+
+pub returns-clause-silent : goal.returns-clause-silent
+returns-clause-silent g c = λ calm h. subst NoneFailed (sym c.set_reply.ensures) (one-more c.args.self.now.replies.items c.admit-op.result c.do_op-done.result (c.do_op-done.ensures.silent calm) h)

@@ -117,7 +117,7 @@ returns-clause-told g c = λ ch m n opening first w calm.
     let came_in = rw (c.ios.ensures, c.deref.ensures.value) at c.carry.ensures.came_in in
     subst (λ st. WalksTold m n opening first after (g.R.Rig.units b) (g.R.Rig.armed b) st (g.R.Rig.log b)) (sym c.carry.ensures.standing)
     (told_sends m n opening first s (g.R.Rig.units a) (g.R.Rig.armed a) (g.R.Rig.standing a) (g.R.Rig.log a) c.requires.stack w after c.args.d c.args.i c.take.new.group.items c.carry.new.fates.items c.take.new.self (record { sheet = refl; adapter = refl; host = refl }) ch c.take.ensures.takes (rw (c.deref-2.ensures.value, c.deref-3.ensures.value) at c.fly.ensures) settles refl
-    old new (g.R.Rig.image a) refl refl refl c.carry.ensures.armed calm (g.R.Rig.laid a) (g.R.Rig.ready a) c.requires.rig.devices
+    old new (g.R.Rig.image a) refl refl refl c.carry.ensures.armed calm (g.met.R.Rig.laid a) (g.met.R.Rig.ready a) c.requires.rig.devices
     (λ e q. ((unsent e q).0, (ap g.R.Rig.log (unsent e q).1, ap g.R.Rig.units (unsent e q).1))) (λ e q. (sent e q).pool_is) (λ e. (fetched e).whole) out came went_out came_in))
 
 pub returns-clause-goes : goal.returns-clause-goes

@@ -6,7 +6,7 @@ use Rattle.stack_core.specs.Stacks.{plan_in}
 use Rattle.stack_core.proofs.Goes.{goes-nowhere}
 use Rattle.stack_core.proofs.Going.{can-step, spare-left}
 use Rattle.stack_core.proofs.Steps.{one-send, one-step, ready}
-use Rattle.stack_core.specs.Walking.{Walks, WalksTold}
+use Rattle.stack_core.specs.Walking.{NoneFailed, Walks, WalksTold}
 use Rattle.stack_core.proofs.ToldOps.{told_entered, told_on, walks_entered, walks_on}
 use Rattle.stack_core.proofs.stack.Stack.step.Goals as goal
 
@@ -149,7 +149,7 @@ returns-in-Admit-clause-told g c = λ m n opening first w calm.
     let a = c.args.rig.now in
     let b = c.admit.new.rig in
     let x = told_entered m n opening first c.args.self.now c.admit.new.self (g.R.Rig.image a) (g.R.Rig.standing a) (g.R.Rig.units a) (g.R.Rig.units b) (g.R.Rig.armed a) (g.R.Rig.armed b) (g.R.Rig.faults a) (g.R.Rig.faults b) (g.R.Rig.log a)
-        c.requires.stack c.admit.ensures.stays (c.admit.ensures.walks (c.args.word, h, c.requires.some)) (g.R.Rig.laid a) (g.R.Rig.ready a) c.admit.ensures.armed calm w in
+        c.requires.stack c.admit.ensures.stays (c.admit.ensures.walks (c.args.word, h, c.requires.some)) (g.met.R.Rig.laid a) (g.met.R.Rig.ready a) c.admit.ensures.armed calm w in
     subst (λ st. WalksTold m n opening first c.admit.new.self (g.R.Rig.units b) (g.R.Rig.armed b) st (g.R.Rig.log b)) (sym c.admit.ensures.standing) (subst (λ log. WalksTold m n opening first c.admit.new.self (g.R.Rig.units b) (g.R.Rig.armed b) (g.R.Rig.standing a) log) (sym c.admit.ensures.log) x))
 
 pub returns-in-Send-clause-walks : goal.returns-in-Send-clause-walks
@@ -173,3 +173,21 @@ returns-in-Cut-clause-goes g c = goes-nowhere (g.R.Rig.standing c.args.rig.now) 
 
 pub returns-in-Join-clause-goes : goal.returns-in-Join-clause-goes
 returns-in-Join-clause-goes g c = goes-nowhere (g.R.Rig.standing c.args.rig.now) (g.R.Rig.log c.args.rig.now) (g.R.Rig.faults c.args.rig.now)
+
+pub returns-in-Complete-clause-silent : goal.returns-in-Complete-clause-silent
+returns-in-Complete-clause-silent g c = λ calm h. subst NoneFailed (sym c.complete.ensures.replies) h
+
+pub returns-in-Cut-clause-silent : goal.returns-in-Cut-clause-silent
+returns-in-Cut-clause-silent g c = λ calm h. subst NoneFailed (sym c.cut.ensures.replies) h
+
+pub returns-in-Join-clause-silent : goal.returns-in-Join-clause-silent
+returns-in-Join-clause-silent g c = λ calm h. subst NoneFailed (sym c.join.ensures.replies) h
+
+pub returns-in-Send-clause-silent : goal.returns-in-Send-clause-silent
+returns-in-Send-clause-silent g c = λ calm h. subst NoneFailed (sym c.send.ensures.replies) h
+
+pub returns-in-End-clause-silent : goal.returns-in-End-clause-silent
+returns-in-End-clause-silent g c = λ calm h. c.end.ensures.silent h
+
+pub returns-in-Admit-clause-silent : goal.returns-in-Admit-clause-silent
+returns-in-Admit-clause-silent g c = λ calm h. c.admit.ensures.silent calm h
