@@ -7,3 +7,6 @@ pub mod Spreads
 pub mod Standing
 pub mod Units
 pub mod BoundRuns
+pub mod Addresses
+pub mod AtUnits
+pub mod AtTarget

@@ -127,7 +127,7 @@ rules-at dix pages size (op ∷ ops) (suc i) h b = rules-at dix pages size ops i
 
 -- ---- kinds of ops
 
-at-least-one : (n : ℕ) → 1 ≤ n → 0 < n
+pub at-least-one : (n : ℕ) → 1 ≤ n → 0 < n
 at-least-one n h = omega arith
 
 pub kind-of : (dix : Bool) (pages size : ℕ) (op : Op) → KeepsRules dix pages size op → IsNoRequest op ⊎ (0 < fates_of op)

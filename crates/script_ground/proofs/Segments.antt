@@ -1,8 +1,8 @@
 -- Segments inside the pages, by the cells of their bytes; and segments without a common byte.
-use Rattle.std.proofs.Common.{◌≡◌, ◌<◌, ℕ, ◌+◌, ◌*◌, Bool, true, false, ◌&&◌, ◌||◌, List, [], ◌∷◌, ◌++◌, length, replicate, refl, sym, ap, ◌∙◌, subst, inl, inr, arith, append_assoc}
+use Rattle.std.proofs.Common.{◌≡◌, ◌<◌, ℕ, ◌+◌, ◌*◌, Bool, true, false, ◌&&◌, List, [], ◌∷◌, ◌++◌, length, replicate, refl, sym, ap, ◌∙◌, subst, inl, inr, arith, append_assoc}
 use Rattle.std.specs.Prelude.{nat_eq, nat_le, nat_lt}
 use Rattle.std.specs.List.{All, IsDistinct, list_any}
-use Rattle.std.proofs.lemmas.Bool.{and_parts, leb-true, ltb-true}
+use Rattle.std.proofs.lemmas.Bool.{and_parts, leb-true, ltb-true, or_parts}
 use Rattle.std.proofs.lemmas.List.{length-replicate, map-append}
 use Rattle.page_pool.specs.Cells.{cell}
 use Rattle.page_pool.specs.Pages.{AllLieIn, LiesIn}
@@ -64,23 +64,19 @@ pages-append (x ∷ xs) ys a b = (a.0, pages-append xs ys a.1 b)
 
 -- ---- without a common byte
 
-neither : (a b : Bool) → a || b ≡ false → (a ≡ false) × (b ≡ false)
-neither true b h = absurd cc
-neither false b h = (refl, h)
-
 apart-one : (s t : Seg) → shares s t ≡ false → Apart (places_of s) (places_of t)
 apart-one s t h p k l = let x : true ≡ false = sym ((exact s t (shares s t) refl).1 (p, k, l)) ∙ h in absurd cc
 
 apart-all : (s : Seg) (ts : List Seg) → list_any (shares s) ts ≡ false → Apart (places_of s) (places_in ts)
 apart-all s [] h p k l = l
 apart-all s (t ∷ ts) h p k l =
-    let n = neither (shares s t) (list_any (shares s) ts) h in
+    let n = or_parts (shares s t) (list_any (shares s) ts) h in
     elim (among-append (places_of t) (places_in ts) p l) [ inl m ↦ apart-one s t n.0 p k m | inr m ↦ apart-all s ts n.1 p k m ]
 
 once-all : (ss : List Seg) → any_share ss ≡ false → NoneTwice (places_in ss)
 once-all [] h = tt
 once-all (s ∷ ss) h =
-    let n = neither (list_any (shares s) ss) (any_share ss) h in
+    let n = or_parts (list_any (shares s) ss) (any_share ss) h in
     once-append (places_of s) (places_in ss) (run-once s.page s.off s.len) (once-all ss n.1) (apart-all s ss n.0)
 
 places-append : (a b : List Seg) → places_in (a ++ b) ≡ places_in a ++ places_in b

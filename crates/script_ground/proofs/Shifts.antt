@@ -2,10 +2,12 @@
 use Rattle.std.proofs.Common.{◌≡◌, ◌<◌, ◌≤◌, ◌⊎◌, ℕ, zero, suc, ◌+◌, ◌-◌, Bool, true, false, not, ◌&&◌, ◌||◌, List, [], ◌∷◌, ◌++◌, length, refl, sym, ap, ◌∙◌, subst, inl, inr, arith, ℤ, pos, negsuc, ◌+ℤ◌, nat_abs, Option, Some, None}
 use Rattle.std.specs.Prelude.{nat_le, nat_lt, eqb, if◌then◌else◌, slice_get, unwrap_or}
 use Rattle.std.specs.List.{list_any}
-use Rattle.std.proofs.lemmas.Bool.{and_parts, eqb-true, leb-true, ltb-true}
+use Rattle.std.proofs.lemmas.Bool.{and_from, and_parts, eq-eqb, eqb-true, leb-true, ltb-true, or_left, or_parts, or_right, true≢false}
+use Rattle.std.proofs.lemmas.List.Folds.{list_any-append}
 use Rattle.std.proofs.lemmas.Int.{ints}
 use Rattle.fault_schedule.specs.Altered.{is_same, moved_by, shift_of}
-use Rattle.fault_schedule.specs.declared.fault.Crossing.TheVariants.{AdapterToTarget}
+use Rattle.fault_schedule.specs.declared.fault.Crossing.{Crossing}
+use Rattle.fault_schedule.specs.declared.fault.Crossing.TheVariants.{AdapterToHost, AdapterToTarget, HostToAdapter, MediumToTarget, TargetToAdapter, TargetToMedium}
 use Rattle.fault_schedule.specs.declared.fault.FaultKind.{FaultKind}
 use Rattle.fault_schedule.specs.declared.fault.FaultKind.TheVariants.{Flip as FlipKind, Shift as ShiftKind}
 use Rattle.fault_schedule.specs.declared.fault.FaultLine.{FaultLine}
@@ -20,7 +22,7 @@ use Rattle.volume_table.specs.Tables.{MadeFor, Table}
 use Rattle.whole_run.specs.Settings.{Setting, block_of, route}
 use Rattle.run_moves.specs.OpsApart.{AreStoredApart}
 use Rattle.script_text.specs.declared.script.Script.{Script}
-use Rattle.script_text.specs.Bindings.{block_stays, blocks_stay, faults_fault, is_at_medium, is_bad_kind, is_bad_on, is_first_type, is_on, is_on_known, request_at, shifts}
+use Rattle.script_text.specs.Bindings.{block_stays, blocks_stay, faults_fault, is_at_medium, is_bad_kind, is_bad_on, is_first_type, is_on, is_on_known, is_shift, request_at, shifts}
 use Rattle.script_ground.specs.Bound.{IsAddress, IsSettingOf}
 use Rattle.script_ground.proofs.Bodies.{if-none, true-of}
 use Rattle.script_ground.proofs.Places.{place-there, same-pair}
@@ -28,7 +30,7 @@ use Rattle.script_ground.proofs.Places.{place-there, same-pair}
 -- ---- an address that is so many blocks off
 
 -- it isn't below 0
-abbrev IsClear : ℕ → ℤ → Type 0
+abbrev pub IsClear : ℕ → ℤ → Type 0
 IsClear lba (pos n) = Unit {0}
 IsClear lba (negsuc n) = suc n ≤ lba
 
@@ -38,6 +40,14 @@ up-is lba n = omega (arith, ints)
 down-is : (lba n : ℕ) → suc n ≤ lba → moved lba (negsuc n) ≡ lba - suc n
 down-is lba n h = let z : pos lba +ℤ negsuc n ≡ pos (lba - suc n) = omega (arith, ints) in ap nat_abs z
 
+-- so it is a natural number
+pub clear-is : (lba : ℕ) (by : ℤ) → IsClear lba by → pos lba +ℤ by ≡ pos (moved lba by)
+clear-is lba (pos n) h = let z : pos lba +ℤ pos n ≡ pos (lba + n) = omega (arith, ints) in z ∙ ap pos (sym (up-is lba n))
+clear-is lba (negsuc n) h = let z : pos lba +ℤ negsuc n ≡ pos (lba - suc n) = omega (arith, ints) in z ∙ ap pos (sym (down-is lba n h))
+
+pub stays-put : (lba : ℕ) → lba ≡ moved lba (pos 0)
+stays-put lba = (let z : lba ≡ lba + 0 = omega arith in z) ∙ sym (up-is lba 0)
+
 back : (a b : ℕ) (by : ℤ) → IsClear a by → IsClear b by → moved a by ≡ moved b by → a ≡ b
 back a b (pos n) p q e = let x : a + n ≡ b + n = sym (up-is a n) ∙ e ∙ up-is b n in omega arith
 back a b (negsuc n) p q e = let x : a - suc n ≡ b - suc n = sym (down-is a n p) ∙ e ∙ down-is b n q in omega arith
@@ -45,14 +55,12 @@ back a b (negsuc n) p q e = let x : a - suc n ≡ b - suc n = sym (down-is a n p
 -- ---- on the device
 
 -- The address, so many blocks off, is one of the device.
-record Lands (devices : List DeviceInfo) (dev lba : ℕ) (by : ℤ) : Type 0 where
-  there : IsAddress devices dev (moved lba by)
-  clear : IsClear lba by
+pub record Lands (devices : List DeviceInfo) (dev lba : ℕ) (by : ℤ) : Type 0 where
+  pub there : IsAddress devices dev (moved lba by)
+  pub clear : IsClear lba by
 
 still : (devices : List DeviceInfo) (dev lba : ℕ) → IsAddress devices dev lba → Lands devices dev lba (pos 0)
-still devices dev lba h =
-    let e : lba ≡ moved lba (pos 0) = (let z : lba ≡ lba + 0 = omega arith in z) ∙ sym (up-is lba 0) in
-    record { there = subst (λ (a : ℕ). IsAddress devices dev a) e h; clear = tt }
+still devices dev lba h = record { there = subst (λ (a : ℕ). IsAddress devices dev a) (stays-put lba) h; clear = tt }
 
 record IsWithin (d : DeviceInfo) (lba : ℕ) (by : ℤ) : Type 0 where
   begins : d.first ≤ moved lba by
@@ -74,7 +82,7 @@ within d lba (negsuc n) h =
     let e = sym (down-is lba n c) in
     record { begins = subst (λ (x : ℕ). d.first ≤ x) e (omega arith); ends = subst (λ (x : ℕ). x < d.first + d.blocks) e (omega arith); clear = c }
 
-got : (devices : List DeviceInfo) (dev : ℕ) (d : DeviceInfo) → slice_get devices dev ≡ Some d → (dev < length devices) × (device devices dev ≡ d)
+pub got : (devices : List DeviceInfo) (dev : ℕ) (d : DeviceInfo) → slice_get devices dev ≡ Some d → (dev < length devices) × (device devices dev ≡ d)
 got [] dev d h = absurd cc
 got (x ∷ ds) zero d h = (omega arith, cc)
 got (x ∷ ds) (suc dev) d h = let g = got ds dev d h in let l = g.0 in (omega arith, g.1)
@@ -123,10 +131,10 @@ stays-at t devices by v (suc n) (suc j) h l w =
     subst (λ (u : ℕ). block_stays t devices by u ≡ true) e (stays-at t devices by (v + 1) n j p.1 (omega arith) (omega arith))
 
 -- no shift, or one that keeps the blocks on their devices
-abbrev Stays : Table → List DeviceInfo → (v n : ℕ) → ℤ → Type 0
+abbrev pub Stays : Table → List DeviceInfo → (v n : ℕ) → ℤ → Type 0
 Stays t devices v n by = (by ≡ pos 0) ⊎ (blocks_stay t devices by v n ≡ true)
 
-landed : (t : Table) (devices : List DeviceInfo) (size v n : ℕ) (by : ℤ) → MadeFor t devices size → Stays t devices v n by → v + n ≤ volume_len t.entries → (j : ℕ) → j < n → Lands devices (place_in t.entries (v + j)).0 (place_in t.entries (v + j)).1 by
+pub landed : (t : Table) (devices : List DeviceInfo) (size v n : ℕ) (by : ℤ) → MadeFor t devices size → Stays t devices v n by → v + n ≤ volume_len t.entries → (j : ℕ) → j < n → Lands devices (place_in t.entries (v + j)).0 (place_in t.entries (v + j)).1 by
 landed t devices size v n by made c w j l =
     elim c [
       | inl e ↦ subst (λ (z : ℤ). Lands devices (place_in t.entries (v + j)).0 (place_in t.entries (v + j)).1 z) (sym e)
@@ -134,20 +142,21 @@ landed t devices size v n by made c w j l =
       | inr s ↦ lands devices (place_in t.entries (v + j)).0 (place_in t.entries (v + j)).1 by (stays-at t devices by v n j s l (omega arith))
     ]
 
--- ---- the first shift of an op
+-- ---- the shifts of an op
 
-neither : (a b : Bool) → a || b ≡ false → (a ≡ false) × (b ≡ false)
-neither true b h = absurd cc
-neither false b h = (refl, h)
+-- a shift that isn't at fault: no earlier line shifts its op, and each block stays on its device
+record IsGood (t : Table) (devices : List DeviceInfo) (was : Bool) (v n : ℕ) (by : ℤ) : Type 0 where
+  first : was ≡ false
+  stays : blocks_stay t devices by v n ≡ true
 
-line-stays : (t : Table) (devices : List DeviceInfo) (was : Bool) (f : FaultLine) (v n : ℕ) (by : ℤ) → is_bad_on t devices was f (Some (v, n)) ≡ false → f.kind ≡ ShiftKind by → blocks_stay t devices by v n ≡ true
-line-stays t devices was f v n by h k =
-    let a = neither (not (nat_lt f.k n)) (is_bad_kind t devices was f (v, n) f.kind) h in
+good-shift : (t : Table) (devices : List DeviceInfo) (was : Bool) (f : FaultLine) (v n : ℕ) (by : ℤ) → is_bad_on t devices was f (Some (v, n)) ≡ false → f.kind ≡ ShiftKind by → IsGood t devices was v n by
+good-shift t devices was f v n by h k =
+    let a = or_parts (not (nat_lt f.k n)) (is_bad_kind t devices was f (v, n) f.kind) h in
     let b = subst (λ (kind : FaultKind). is_bad_kind t devices was f (v, n) kind ≡ false) k a.1 in
-    let c = neither (not (is_first_type t.ty)) (is_at_medium f.at || (was || not (blocks_stay t devices by v n))) b in
-    let d = neither (is_at_medium f.at) (was || not (blocks_stay t devices by v n)) c.1 in
-    let e = neither was (not (blocks_stay t devices by v n)) d.1 in
-    true-of (blocks_stay t devices by v n) e.1
+    let c = or_parts (not (is_first_type t.ty)) (is_at_medium f.at || (was || not (blocks_stay t devices by v n))) b in
+    let d = or_parts (is_at_medium f.at) (was || not (blocks_stay t devices by v n)) c.1 in
+    let e = or_parts was (not (blocks_stay t devices by v n)) d.1 in
+    record { first = e.0; stays = true-of (blocks_stay t devices by v n) e.1 }
 
 -- the line is of the op and shifts it
 record Shifts (mine : Bool) (kind : FaultKind) (found : ℤ) : Type 0 where
@@ -161,27 +170,80 @@ first-shift false kind rest = inl refl
 first-shift true (FlipKind off bytes) rest = inl refl
 first-shift true (ShiftKind by) rest = inr (record { by = by; here = refl; kind_is = refl; same = refl })
 
-pub shift-stays : (t : Table) (devices : List DeviceInfo) (ops : List Op) (i v n : ℕ) (earlier faults : List FaultLine) (lines : List ℕ) → length faults ≤ length lines → faults_fault t devices ops earlier faults lines ≡ None → request_at ops i ≡ Some (v, n) →
-    Stays t devices v n (shift_of faults AdapterToTarget i)
-shift-stays t devices ops i v n earlier [] lines l h r = inl refl
-shift-stays t devices ops i v n earlier (f ∷ faults) [] l h r = absurd (omega arith)
-shift-stays t devices ops i v n earlier (f ∷ faults) (line ∷ lines) l h r =
-    let was = list_any (shifts f.op) earlier in
-    let p = if-none (is_bad_on t devices was f (request_at ops f.op)) _ _ h in
-    let rest = shift-stays t devices ops i v n (earlier ++ (f ∷ [])) faults lines (omega arith) p.1 r in
-    elim (first-shift (is_same f.at AdapterToTarget && eqb f.op i) f.kind (shift_of faults AdapterToTarget i)) [
-      | inl e ↦ elim rest [ inl z ↦ inl (e ∙ z) | inr b ↦ inr (ap (λ (by : ℤ). blocks_stay t devices by v n) e ∙ b) ]
-      | inr s ↦
-          let mine = eqb-true f.op i (and_parts (is_same f.at AdapterToTarget) (eqb f.op i) s.here).1 in
-          let asked : request_at ops f.op ≡ Some (v, n) = ap (request_at ops) mine ∙ r in
-          let good = subst (λ (o : Option (ℕ × ℕ)). is_bad_on t devices was f o ≡ false) asked p.0 in
-          inr (ap (λ (by : ℤ). blocks_stay t devices by v n) s.same ∙ line-stays t devices was f v n s.by good s.kind_is)
-    ]
+-- such a line isn't at fault on its request
+good-line : (t : Table) (devices : List DeviceInfo) (ops : List Op) (i v n : ℕ) (earlier : List FaultLine) (f : FaultLine) (by : ℤ) → is_bad_on t devices (list_any (shifts f.op) earlier) f (request_at ops f.op) ≡ false → f.op ≡ i → request_at ops i ≡ Some (v, n) → f.kind ≡ ShiftKind by →
+    IsGood t devices (list_any (shifts i) earlier) v n by
+good-line t devices ops i v n earlier f by h mine r k =
+    let asked : request_at ops f.op ≡ Some (v, n) = ap (request_at ops) mine ∙ r in
+    let good = subst (λ (o : Option (ℕ × ℕ)). is_bad_on t devices (list_any (shifts f.op) earlier) f o ≡ false) asked h in
+    let g = good-shift t devices (list_any (shifts f.op) earlier) f v n by good k in
+    record { first = ap (λ (op : ℕ). list_any (shifts op) earlier) (sym mine) ∙ g.first; stays = g.stays }
+
+two-crossings : (at : Crossing) → is_same at AdapterToTarget ≡ true → is_same at MediumToTarget ≡ true → ⊥
+two-crossings HostToAdapter a b = true≢false (sym a)
+two-crossings AdapterToTarget a b = true≢false (sym b)
+two-crossings TargetToMedium a b = true≢false (sym a)
+two-crossings MediumToTarget a b = true≢false (sym a)
+two-crossings TargetToAdapter a b = true≢false (sym a)
+two-crossings AdapterToHost a b = true≢false (sym a)
+
+module _ (t : Table) (devices : List DeviceInfo) (ops : List Op) (i v n : ℕ) (r : request_at ops i ≡ Some (v, n)) where
+  pub shift-stays : (at : Crossing) (earlier faults : List FaultLine) (lines : List ℕ) → length faults ≤ length lines → faults_fault t devices ops earlier faults lines ≡ None → Stays t devices v n (shift_of faults at i)
+  shift-stays at earlier [] lines l h = inl refl
+  shift-stays at earlier (f ∷ faults) [] l h = absurd (omega arith)
+  shift-stays at earlier (f ∷ faults) (line ∷ lines) l h =
+      let p = if-none (is_bad_on t devices (list_any (shifts f.op) earlier) f (request_at ops f.op)) _ _ h in
+      let rest = shift-stays at (earlier ++ (f ∷ [])) faults lines (omega arith) p.1 in
+      elim (first-shift (is_same f.at at && eqb f.op i) f.kind (shift_of faults at i)) [
+        | inl e ↦ elim rest [ inl z ↦ inl (e ∙ z) | inr b ↦ inr (ap (λ (by : ℤ). blocks_stay t devices by v n) e ∙ b) ]
+        | inr s ↦
+            let mine = eqb-true f.op i (and_parts (is_same f.at at) (eqb f.op i) s.here).1 in
+            inr (ap (λ (by : ℤ). blocks_stay t devices by v n) s.same ∙ (good-line t devices ops i v n earlier f s.by p.0 mine r s.kind_is).stays)
+      ]
+
+  -- behind a line that shifts the op no other does
+  no-later : (at : Crossing) (earlier faults : List FaultLine) (lines : List ℕ) → length faults ≤ length lines → faults_fault t devices ops earlier faults lines ≡ None → list_any (shifts i) earlier ≡ true → shift_of faults at i ≡ pos 0
+  no-later at earlier [] lines l h was = refl
+  no-later at earlier (f ∷ faults) [] l h was = absurd (omega arith)
+  no-later at earlier (f ∷ faults) (line ∷ lines) l h was =
+      let p = if-none (is_bad_on t devices (list_any (shifts f.op) earlier) f (request_at ops f.op)) _ _ h in
+      elim (first-shift (is_same f.at at && eqb f.op i) f.kind (shift_of faults at i)) [
+        | inl e ↦ e ∙ no-later at (earlier ++ (f ∷ [])) faults lines (omega arith) p.1 (list_any-append (shifts i) earlier (f ∷ []) ∙ or_left (list_any (shifts i) earlier) (list_any (shifts i) (f ∷ [])) was)
+        | inr s ↦
+            let mine = eqb-true f.op i (and_parts (is_same f.at at) (eqb f.op i) s.here).1 in
+            absurd (true≢false (sym was ∙ (good-line t devices ops i v n earlier f s.by p.0 mine r s.kind_is).first))
+      ]
+
+  behind-one : (at : Crossing) (earlier faults : List FaultLine) (f : FaultLine) (lines : List ℕ) (by : ℤ) → length faults ≤ length lines → faults_fault t devices ops (earlier ++ (f ∷ [])) faults lines ≡ None → eqb f.op i ≡ true → f.kind ≡ ShiftKind by → shift_of faults at i ≡ pos 0
+  behind-one at earlier faults f lines by l h mine k =
+      let o : eqb i f.op ≡ true = eq-eqb i f.op (sym (eqb-true f.op i mine)) in
+      let here : shifts i f ≡ true = and_from (eqb i f.op) (is_shift f.kind) o (ap is_shift k) in
+      no-later at (earlier ++ (f ∷ [])) faults lines l h
+      (list_any-append (shifts i) earlier (f ∷ []) ∙ or_right (list_any (shifts i) earlier) (list_any (shifts i) (f ∷ [])) (or_left (shifts i f) false here))
+
+  -- so at one of two crossings none does
+  pub one-shift : (earlier faults : List FaultLine) (lines : List ℕ) → length faults ≤ length lines → faults_fault t devices ops earlier faults lines ≡ None → (shift_of faults AdapterToTarget i ≡ pos 0) ⊎ (shift_of faults MediumToTarget i ≡ pos 0)
+  one-shift earlier [] lines l h = inl refl
+  one-shift earlier (f ∷ faults) [] l h = absurd (omega arith)
+  one-shift earlier (f ∷ faults) (line ∷ lines) l h =
+      let p = if-none (is_bad_on t devices (list_any (shifts f.op) earlier) f (request_at ops f.op)) _ _ h in
+      let rest = one-shift (earlier ++ (f ∷ [])) faults lines (omega arith) p.1 in
+      let none : (at : Crossing) (by : ℤ) → eqb f.op i ≡ true → f.kind ≡ ShiftKind by → shift_of faults at i ≡ pos 0 = λ at by mine k. behind-one at earlier faults f lines by (omega arith) p.1 mine k in
+      elim (first-shift (is_same f.at AdapterToTarget && eqb f.op i) f.kind (shift_of faults AdapterToTarget i)) [
+        | inl e ↦ elim (first-shift (is_same f.at MediumToTarget && eqb f.op i) f.kind (shift_of faults MediumToTarget i)) [
+          | inl d ↦ elim rest [ inl z ↦ inl (e ∙ z) | inr z ↦ inr (d ∙ z) ]
+          | inr s ↦ inl (e ∙ none AdapterToTarget s.by (and_parts (is_same f.at MediumToTarget) (eqb f.op i) s.here).1 s.kind_is)
+        ]
+        | inr s ↦ elim (first-shift (is_same f.at MediumToTarget && eqb f.op i) f.kind (shift_of faults MediumToTarget i)) [
+          | inl d ↦ inr (d ∙ none MediumToTarget s.by (and_parts (is_same f.at AdapterToTarget) (eqb f.op i) s.here).1 s.kind_is)
+          | inr o ↦ absurd (two-crossings f.at (and_parts (is_same f.at AdapterToTarget) (eqb f.op i) s.here).0 (and_parts (is_same f.at MediumToTarget) (eqb f.op i) o.here).0)
+        ]
+      ]
 
 -- ---- where blocks are stored
 
 -- by the volume's own entries, and the script's own faults
-stored-at : (m : Setting) (s : Script) (t : Table) (i v : ℕ) → m.entries ≡ t.entries → m.site.faults ≡ s.faults → (j : ℕ) →
+pub stored-at : (m : Setting) (s : Script) (t : Table) (i v : ℕ) → m.entries ≡ t.entries → m.site.faults ≡ s.faults → (j : ℕ) →
     stored_cell m.site (route m (block_of i v j)) ≡ m.site.cell (place_in t.entries (v + j)).0 (moved (place_in t.entries (v + j)).1 (shift_of s.faults AdapterToTarget i))
 stored-at m s t i v e f j =
     ap (λ (es : List Entry). m.site.cell (place_in es (v + j)).0 (moved (place_in es (v + j)).1 (shift_of m.site.faults AdapterToTarget i))) e
@@ -191,7 +253,7 @@ pub stored-apart : (m : Setting) (s : Script) (t : Table) (devices : List Device
     (i v n : ℕ) → request_at s.ops i ≡ Some (v, n) → v + n ≤ volume_len t.entries → AreStoredApart m i v n
 stored-apart m s t devices logs made is few good i v n r w j k lj lk same =
     let by = shift_of s.faults AdapterToTarget i in
-    let c = shift-stays t devices s.ops i v n [] s.faults s.lines few good r in
+    let c = shift-stays t devices s.ops i v n r AdapterToTarget [] s.faults s.lines few good in
     let p = place_in t.entries (v + j) in
     let q = place_in t.entries (v + k) in
     let a = landed t devices s.block v n by made c w j lj in

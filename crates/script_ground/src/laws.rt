@@ -1,20 +1,31 @@
 //! What a script that keeps the rules of its language and was bound to a volume gives a stack.
 
-ghost use Rattle.std.specs.Prelude.{◌≡◌, ◌<◌, ◌+◌, ◌*◌, ℕ, List, length, map, None};
+ghost use Rattle.std.specs.Prelude.{◌≡◌, ◌<◌, ◌≤◌, ◌+◌, ◌*◌, ℕ, true, List, length, map, None};
 ghost use Rattle.volume_table.specs.declared.device.DeviceInfo.{DeviceInfo as AnyDevice};
 ghost use Rattle.volume_table.specs.Tables.{MadeFor, Table};
+ghost use Rattle.target_answer.specs.Target.{Stored};
 ghost use Rattle.target_answer.specs.declared.units.UnitSpec.{UnitSpec as AnyUnit};
 ghost use Rattle.rig_discovery.specs.Discovery.{info_of};
-ghost use Rattle.dix_adapter.specs.Ways.{cell_in};
+ghost use Rattle.block_path.specs.Acts.{State};
+ghost use Rattle.block_path.specs.Blocks.{Sent};
+ghost use Rattle.block_path.specs.Routes.{target};
+ghost use Rattle.dix_adapter.specs.Ways.{blocks_told, cell_in, shapes_of};
 ghost use Rattle.whole_run.specs.Settings.{Setting};
+ghost use Rattle.run_record.specs.ToldRun.{told};
+ghost use Rattle.run_moves.specs.BoundRun.{IsBoundRun, fates, rooms};
+ghost use Rattle.run_moves.specs.Suited.{keeps_size};
+ghost use Rattle.run_follows.specs.Finished.{FramesFit};
 ghost use Rattle.script_text.specs.declared.script.Script.{Script as AnyScript};
 ghost use Rattle.script_text.specs.Bindings.{binding_fault};
 ghost use Rattle.script_laws.specs.Keeping.{Keeps};
 ghost use Rattle.stack_walks.specs.Ground.{Ground};
 ghost use Rattle.stack_walks.specs.Spots.{op_in};
+ghost use Rattle.stack_walks.specs.Units.{AreAtUnits};
 ghost use Rattle.script_ground.specs.Bound.{IsSettingOf};
 ghost use Rattle.script_ground.specs.Seals.{IsSealed};
-ghost use Rattle.script_ground.specs.Units.{all_blocks};
+ghost use Rattle.script_ground.specs.Units.{AreStored, all_blocks};
+
+use run_moves::a_target_keeps_sizes;
 
 /// Each block of the volume has a cell of its own, and each place a log; the ops lie in the script's pages and in the
 /// volume; each op is a request of some blocks or done whole; and the blocks of a request are spread, also where a
@@ -35,3 +46,29 @@ pub fn a_rig_has_a_cell_for_each_address()
     ensures { (m : Setting) (s : AnyScript) (t : Table) (units : List AnyUnit) → m.mode ≡ s.mode → m.ty ≡ t.ty → m.size ≡ s.block → m.entries ≡ t.entries → m.site.faults ≡ s.faults
         → m.site.cell ≡ cell_in units → IsSettingOf m s t (map info_of units) (all_blocks units) }
 {}
+
+/// Each block of a request lies in the unit of its device, of the volume's type and block size, where the command is
+/// sent and where the block is looked for on the medium: no shift leads it out of its unit.
+pub fn a_bound_script_lies_at_its_units()
+    ensures { (m : Setting) (s : AnyScript) (t : Table) (units : List AnyUnit) (logs : ℕ) → Keeps s → length s.lines ≡ length s.faults + length s.ops → MadeFor t (map info_of units) s.block
+        → binding_fault s t (map info_of units) ≡ None → IsSettingOf m s t (map info_of units) logs → AreAtUnits m units s.ops }
+{}
+
+/// Over a device that answers what stands on record, with frames of the wire's size, the ops are bound to the script's
+/// pages, whatever is stored, where the opening has their private pages behind these and a cell for what is found of
+/// each block.
+pub fn a_bound_script_is_bound_over_its_record()
+    ensures { (m : Setting) (s : AnyScript) (t : Table) (devices : List AnyDevice) (logs : ℕ) (opening : State) (es : List Sent) → Keeps s → IsSettingOf m s t devices logs → FramesFit m es
+        → 4096 * s.pages + rooms m s.ops ≤ length opening.bytes → fates s.ops ≤ length opening.fates → IsBoundRun (told m es) (λ c block. true) (4096 * s.pages) s.ops opening }
+{}
+
+/// Over a target whose units tell their blocks, each of the size of a stored block, the ops are bound to the script's
+/// pages too, and each stored block keeps its size: also one that an overwrite alters, or replaces by another.
+pub fn a_bound_script_is_bound_at_its_target()
+    ensures { (m : Setting) (s : AnyScript) (t : Table) (units : List AnyUnit) (us : List Stored) (logs : ℕ) (opening : State) → Keeps s → length s.lines ≡ length s.faults + length s.ops
+        → MadeFor t (map info_of units) s.block → binding_fault s t (map info_of units) ≡ None → IsSettingOf m s t (map info_of units) logs
+        → m.site ≡ record { faults = s.faults; device = target s.faults; cell = cell_in units } → shapes_of us ≡ units → AreStored us → opening.blocks ≡ blocks_told us
+        → 4096 * s.pages + rooms m s.ops ≤ length opening.bytes → fates s.ops ≤ length opening.fates → IsBoundRun m (keeps_size opening.blocks) (4096 * s.pages) s.ops opening }
+{
+    a_target_keeps_sizes();
+}

@@ -4,3 +4,7 @@ pub mod Reach
 pub mod Steps
 pub mod Finding
 pub mod Volumes
+pub mod Going
+pub mod Begins
+pub mod Runs
+pub mod Following

@@ -1,24 +1,33 @@
 -- What a script's run comes to, by its records and, where a rig tells its blocks, by these.
-use Rattle.std.specs.Prelude.{◌≡◌, ℕ, suc, ◌*◌, Bool, false, List, length, get_or, map, drop, replicate, take, None}
-use Rattle.dix_base.specs.Told.{Calm}
+use Rattle.std.specs.Prelude.{◌≡◌, ℕ, zero, suc, ◌*◌, ◌<◌, ◌≤◌, Bool, false, List, [], ◌++◌, length, get_or, map, replicate, take, None, Some}
 use Rattle.page_pool.specs.Cells.{flat}
 use Rattle.target_answer.specs.Target.{Stored}
 use Rattle.target_answer.specs.declared.units.UnitSpec.{UnitSpec}
+use Rattle.dix_base.specs.Told.{Calm}
 use Rattle.rig_api.specs.Log.{Entry}
+use Rattle.rig_api.specs.Telling.{Standing, spec_at, specs_of}
+use Rattle.rig_discovery.specs.Discovery.{HasFound, info_of}
 use Rattle.stack_ops.specs.declared.reply.Reply.{Reply}
 use Rattle.stack_ops.specs.declared.reply.Reply.TheVariants.{Silent}
 use Rattle.volume_table.specs.declared.device.DeviceInfo.{DeviceInfo}
-use Rattle.volume_table.specs.Tables.{Table}
+use Rattle.volume_table.specs.Faults.{device}
+use Rattle.volume_table.specs.Tables.{MadeFor, Table}
 use Rattle.dix_adapter.specs.Ways.{blocks_told, cell_in, shapes_of}
 use Rattle.block_path.specs.Acts.{State}
 use Rattle.block_path.specs.Routes.{target}
 use Rattle.script_text.specs.declared.script.Script.{Script}
+use Rattle.script_text.specs.Bindings.{binding_fault}
 use Rattle.whole_run.specs.ScriptWalk.{script_replies, script_walk}
 use Rattle.whole_run.specs.Settings.{Setting}
 use Rattle.run_record.specs.BackedRun.{Backed}
 use Rattle.run_record.specs.CarriedRun.{Carried}
+use Rattle.run_moves.specs.BoundRun.{fates}
 use Rattle.script_ground.specs.Units.{all_blocks}
-use Rattle.stack_core.specs.Walking.{is_medium}
+use Rattle.stack_core.specs.Requests.{pages_from}
+use Rattle.stack_core.specs.declared.stack.Stack.{Stack}
+use Rattle.stack_core.specs.Walking.{Walks, WalksTold, is_medium}
+use Rattle.script_stack.specs.Causes.{table_of}
+use Rattle.script_stack.specs.Going.{Outside}
 
 -- which overwrites failed, by the replies; ops are numbered from 1
 abbrev pub failed_in : List Reply → ℕ → Bool
@@ -47,6 +56,10 @@ setting_of s t units fails = record {
 abbrev pub opening_of : Script → List UnitSpec → (blocks : List (List ℕ)) → State
 opening_of s units blocks = record { bytes = replicate (4096 * s.pages) 0; blocks = blocks; logs = replicate (all_blocks units) []; fates = [] }
 
+-- The same with the private pages of the block layer's tuples, and a cell for what is found of each block.
+abbrev pub begun_of : Script → List UnitSpec → (blocks : List (List ℕ)) → State
+begun_of s units blocks = record { bytes = replicate (4096 * pages_from s.mode.dix s.pages s.ops) 0; blocks = blocks; logs = replicate (all_blocks units) []; fates = replicate (fates s.ops) None }
+
 -- The log backs the replies, whatever lay in the stored blocks.
 abbrev pub IsBackedBy : Script → Table → List DeviceInfo → List Entry → List Reply → Type 0
 IsBackedBy s t devices log replies = (blocks : List (List ℕ)) → Backed (setting_of s t (map unit_of devices) (failed_in replies)) s.ops (opening_of s (map unit_of devices) blocks) log replies
@@ -58,3 +71,34 @@ pub record HasWalked (s : Script) (t : Table) (us us' : List Stored) (pool : Lis
   pub shapes : shapes_of us' ≡ shapes_of us
   pub blocks : blocks_told us' ≡ (script_walk (setting_of s t (shapes_of us) none_fails) s.ops (opening_of s (shapes_of us) (blocks_told us))).blocks
   pub carried : Carried (setting_of s t (shapes_of us) none_fails) s.ops (opening_of s (shapes_of us) (blocks_told us)) log
+
+-- ---- before the first step
+
+-- the devices have blocks of the sizes that the rig's head tells
+abbrev pub SizesAre : List DeviceInfo → Standing → Type 0
+SizesAre devices st = (d : ℕ) → d < length devices → (spec_at st d).size ≡ (device devices d).size
+
+-- A new stack of a script follows its walk from a rig's next record on: over any rig,
+abbrev pub BeginsWalks : Script → Table → List DeviceInfo → Stack → Type 0
+BeginsWalks s t devices r = (fails : ℕ → Bool) (blocks : List (List ℕ)) (st : Standing) (log : List Entry) → SizesAre devices st
+    → Walks (setting_of s t (map unit_of devices) fails) (4096 * s.pages) (begun_of s (map unit_of devices) blocks) (length log) r st log
+
+-- and over a rig with these devices that tells its blocks, with the script's faults armed.
+abbrev pub BeginsTold : Script → Table → List DeviceInfo → Stack → Type 0
+BeginsTold s t devices r = (us : List Stored) (st : Standing) (log : List Entry) → devices ≡ map info_of (specs_of st) → shapes_of us ≡ specs_of st
+    → WalksTold (setting_of s t (shapes_of us) none_fails) (4096 * s.pages) (begun_of s (shapes_of us) (blocks_told us)) (length log) r (Some us) s.faults st log
+
+-- ---- at the end
+
+-- A script was run over a rig. Its devices were asked first; the records from then on back the replies. Where the rig tells its blocks, and its count of faults didn't rise since its devices had answered, the script's ops were done one after another at the target.
+pub record Followed (s : Script) (before after : Outside) (r : Stack) : Type 0 where
+  pub devices : List DeviceInfo
+  pub asked : Outside
+  pub found : HasFound before.standing devices before.log asked.log
+  pub faults : before.faults ≤ asked.faults
+  pub made : MadeFor (table_of s devices) devices s.block
+  pub bound : binding_fault s (table_of s devices) devices ≡ None
+  pub more : List Entry
+  pub records : after.log ≡ asked.log ++ more
+  pub backed : IsBackedBy s (table_of s devices) devices more r.replies.items
+  pub told : (us : List Stored) → before.units ≡ Some us → Calm asked.faults after.faults → (left : List Stored) × ((after.units ≡ Some left) × HasWalked s (table_of s devices) us left r.pool more r.replies.items)

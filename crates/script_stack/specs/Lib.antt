@@ -1,2 +1,3 @@
 pub mod Causes
 pub mod Followed
+pub mod Going

@@ -5,9 +5,7 @@ ghost use Rattle.stack_view.specs.Runs.{most_steps};
 ghost use Rattle.stack_view.specs.Steps.{enabled};
 ghost use Rattle.stack_view.specs.View.{View};
 ghost use Rattle.stack_steps.specs.Does.{Holds};
-ghost use Rattle.stack_core.specs.Walking.{Walks};
-ghost use Rattle.block_path.specs.Acts.{State};
-ghost use Rattle.whole_run.specs.Settings.{Setting};
+ghost use Rattle.script_stack.specs.Going.{Went};
 ghost use Rattle.stack_core.specs.Stacks.{GoesOn, HasSpare, IsStack, Reaches, Stays, plan_in};
 
 use rig_api::Rig;
@@ -25,7 +23,8 @@ fn run_schedule<R: Rig>(stack: &mut Stack, schedule: &[(u32, u32)], rig: &mut R)
     ensures goes { GoesOn (R.standing rig.old) (R.standing rig.new) (R.log rig.old) (R.log rig.new) (R.faults rig.old) (R.faults rig.new) }
     ensures armed { R.armed rig.new ≡ R.armed rig.old }
     ensures spare { HasSpare stack.new (R.standing rig.new) (R.room rig.new) }
-    ensures walks { (m : Setting) (n : ℕ) (opening : State) (first : ℕ) → Walks m n opening first stack.old (R.standing rig.old) (R.log rig.old) → Walks m n opening first stack.new (R.standing rig.new) (R.log rig.new) }
+    ensures went { Went stack.old (record { units = R.units rig.old; armed = R.armed rig.old; standing = R.standing rig.old; log = R.log rig.old; faults = R.faults rig.old })
+        stack.new (record { units = R.units rig.new; armed = R.armed rig.new; standing = R.standing rig.new; log = R.log rig.new; faults = R.faults rig.new }) }
 {
     for (word, cut) in schedule {
         if stack.finished() {
@@ -45,7 +44,8 @@ fn run_rest<R: Rig>(stack: &mut Stack, rig: &mut R)
     ensures ended { (v : View) → Holds (plan_in stack.new.sheet) stack.new.machine v → enabled (plan_in stack.new.sheet) v ≡ [] }
     ensures tells { is_some (R.image rig.new) ≡ is_some (R.image rig.old) }
     ensures rig { Reaches stack.new (is_some (R.image rig.new)) (R.standing rig.new) }
-    ensures walks { (m : Setting) (n : ℕ) (opening : State) (first : ℕ) → Walks m n opening first stack.old (R.standing rig.old) (R.log rig.old) → Walks m n opening first stack.new (R.standing rig.new) (R.log rig.new) }
+    ensures went { Went stack.old (record { units = R.units rig.old; armed = R.armed rig.old; standing = R.standing rig.old; log = R.log rig.old; faults = R.faults rig.old })
+        stack.new (record { units = R.units rig.new; armed = R.armed rig.new; standing = R.standing rig.new; log = R.log rig.new; faults = R.faults rig.new }) }
     ensures goes { GoesOn (R.standing rig.old) (R.standing rig.new) (R.log rig.old) (R.log rig.new) (R.faults rig.old) (R.faults rig.new) }
     ensures armed { R.armed rig.new ≡ R.armed rig.old }
 {
@@ -65,7 +65,8 @@ pub fn run_all<R: Rig>(stack: &mut Stack, schedule: &[(u32, u32)], rig: &mut R)
     ensures ended { (v : View) → Holds (plan_in stack.new.sheet) stack.new.machine v → enabled (plan_in stack.new.sheet) v ≡ [] }
     ensures tells { is_some (R.image rig.new) ≡ is_some (R.image rig.old) }
     ensures rig { Reaches stack.new (is_some (R.image rig.new)) (R.standing rig.new) }
-    ensures walks { (m : Setting) (n : ℕ) (opening : State) (first : ℕ) → Walks m n opening first stack.old (R.standing rig.old) (R.log rig.old) → Walks m n opening first stack.new (R.standing rig.new) (R.log rig.new) }
+    ensures went { Went stack.old (record { units = R.units rig.old; armed = R.armed rig.old; standing = R.standing rig.old; log = R.log rig.old; faults = R.faults rig.old })
+        stack.new (record { units = R.units rig.new; armed = R.armed rig.new; standing = R.standing rig.new; log = R.log rig.new; faults = R.faults rig.new }) }
     ensures goes { GoesOn (R.standing rig.old) (R.standing rig.new) (R.log rig.old) (R.log rig.new) (R.faults rig.old) (R.faults rig.new) }
     ensures armed { R.armed rig.new ≡ R.armed rig.old }
 {

@@ -13,9 +13,12 @@ ghost use Rattle.stack_core.specs.Requests.{pages_from, requests_from};
 ghost use Rattle.stack_core.specs.Stacks.{HasSpare, IsStack, Reaches, plan_in};
 ghost use Rattle.script_text.specs.Bindings.{binding_fault};
 ghost use Rattle.script_laws.specs.Keeping.{Keeps};
+ghost use Rattle.stack_core.specs.Walking.{NoneFailed};
 ghost use Rattle.script_stack.specs.Causes.{CauseUnrun};
+ghost use Rattle.script_stack.specs.Followed.{BeginsTold, BeginsWalks, Followed};
 
 use crate::bound::{bound_volume, found_devices};
+use crate::laws::{a_script_run_is_backed, a_told_script_run_has_walked};
 use crate::run::run_all;
 use crate::start::{Run, start_script};
 use crate::unready::Unready;
@@ -51,6 +54,9 @@ pub fn ready_script<R: Rig>(
     ensures faults { IfOk result (λ r. r.stack.adapter.tamper ≡ script.faults) }
     ensures pool { IfOk result (λ r. IsBlank (pages_from script.mode.dix script.pages script.ops) r.stack.pool) }
     ensures schedule { IfOk result (λ r. r.schedule ≡ script.schedule) }
+    ensures walks { IfOk result (λ r. BeginsWalks script table devices.now r.stack) }
+    ensures told { IfOk result (λ r. BeginsTold script table devices.now r.stack) }
+    ensures silent { IfOk result (λ r. NoneFailed r.stack.replies.items) }
     ensures reaches { IfOk result (λ r. Reaches r.stack (is_some (R.image rig.new)) (R.standing rig.new)) }
     ensures spare { IfOk result (λ r. HasSpare r.stack (R.standing rig.new) (R.room rig.new)) }
     ensures armed { OnOk result (R.armed rig.new ≡ script.faults) }
@@ -77,6 +83,9 @@ pub fn run_script<R: Rig>(alloc: Global, script: Script, rig: &mut R) -> Result<
     ensures mode { IfOk result (λ s. mode_of s.adapter ≡ script.mode) }
     ensures faults { IfOk result (λ s. s.adapter.tamper ≡ script.faults) }
     ensures tells { is_some (R.image rig.new) ≡ is_some (R.image rig.old) }
+    ensures followed { IfOk result (Followed script
+        (record { units = R.units rig.old; armed = R.armed rig.old; standing = R.standing rig.old; log = R.log rig.old; faults = R.faults rig.old })
+        (record { units = R.units rig.new; armed = R.armed rig.new; standing = R.standing rig.new; log = R.log rig.new; faults = R.faults rig.new })) }
     ensures cause { IfErr result (λ u. CauseUnrun u script (R.standing rig.old) (R.log rig.old) (R.log rig.new)) }
 {
     let devices = match found_devices(alloc, rig) {
@@ -95,6 +104,8 @@ pub fn run_script<R: Rig>(alloc: Global, script: Script, rig: &mut R) -> Result<
             },
         ) => {
             run_all(&mut stack, schedule.as_slice(), rig);
+            a_script_run_is_backed();
+            a_told_script_run_has_walked();
             Ok(stack)
         }
         Err(_) => Err(Unready::Memory),

@@ -76,7 +76,7 @@ after_false m (FetchPi v n body tuples) e = refl
 after_false m (Overwrite dev lba change) e = refl
 after_false m Wait e = refl
 
-after_is : (m : Setting) (dix : Bool) (page : ℕ) (op : Op) → m.mode.dix ≡ dix → 4096 * page_after dix page op ≡ 4096 * page + room_of m op
+pub after_is : (m : Setting) (dix : Bool) (page : ℕ) (op : Op) → m.mode.dix ≡ dix → 4096 * page_after dix page op ≡ 4096 * page + room_of m op
 after_is m true page op e = after_true m page op e
 after_is m false page op e = let z = after_false m op e in omega arith
 

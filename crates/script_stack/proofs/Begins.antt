@@ -1,0 +1,177 @@
+-- The stack of a script follows the walk of its script before its first step.
+use Rattle.std.proofs.Common.{◌≡◌, ◌<◌, ◌≤◌, ℕ, zero, suc, ◌+◌, ◌*◌, ◌/◌, ◌%◌, Bool, true, false, List, [], ◌∷◌, length, get_or, map, replicate, Option, Some, None, refl, sym, ap, subst, ◌∙◌, arith}
+use Rattle.std.proofs.Math.Nat.{div-add-mod}
+use Rattle.std.proofs.lemmas.List.{ext_get_or, length-replicate}
+use Rattle.page_pool.specs.Cells.{flat}
+use Rattle.page_pool.specs.Pages.{IsBlank}
+use Rattle.page_pool.proofs.Celled.{cell-holds, length-flat}
+use Rattle.pi_tuple.specs.declared.checks.PiType.{PiType}
+use Rattle.bio_core.specs.Bios.{block_size}
+use Rattle.dix_adapter.specs.declared.adapter.Adapter.{Adapter}
+use Rattle.dix_adapter.specs.Groups.{mode_of}
+use Rattle.dix_adapter.specs.Ways.{blocks_told, cell_in, shapes_of, site_of}
+use Rattle.fault_schedule.specs.declared.fault.FaultLine.{FaultLine}
+use Rattle.target_answer.specs.Target.{Stored}
+use Rattle.rig_api.specs.Log.{Entry}
+use Rattle.rig_api.specs.Telling.{Standing, no_spec, spec_at, specs_of}
+use Rattle.stack_walks.specs.Units.{AreAtUnits}
+use Rattle.volume_table.specs.Faults.{device}
+use Rattle.volume_table.specs.Places.{place_in}
+use Rattle.script_ground.proofs.AtUnits.{lies-at-units}
+use Rattle.target_answer.specs.declared.units.UnitSpec.{UnitSpec}
+use Rattle.rig_discovery.specs.Discovery.{info_of}
+use Rattle.bio_core.specs.declared.fate.Why.{Why}
+use Rattle.stack_ops.specs.declared.op.Op.{Op}
+use Rattle.stack_ops.specs.declared.reply.Reply.TheVariants.{Silent}
+use Rattle.stack_ops.specs.declared.op.Op.TheVariants.{Fetch, FetchPi, Fill, Overwrite, Put, Seal, Show, Wait, Write, WritePi}
+use Rattle.volume_table.specs.declared.device.DeviceInfo.{DeviceInfo}
+use Rattle.volume_table.specs.Tables.{MadeFor, Table}
+use Rattle.block_path.specs.Acts.{State}
+use Rattle.block_path.specs.Routes.{host_type, target}
+use Rattle.whole_run.specs.Settings.{Setting}
+use Rattle.run_moves.specs.BoundRun.{fates}
+use Rattle.script_text.specs.declared.script.Script.{Script}
+use Rattle.script_text.specs.Bindings.{binding_fault}
+use Rattle.script_laws.specs.Keeping.{Keeps}
+use Rattle.stack_walks.specs.Ground.{Ground}
+use Rattle.script_ground.specs.Bound.{IsSettingOf}
+use Rattle.script_ground.specs.Seals.{IsSealed as IsSealedHere}
+use Rattle.script_ground.specs.Units.{all_blocks}
+use Rattle.script_ground.proofs.Standing.{seals-whole, stands-on-ground}
+use Rattle.script_ground.proofs.Units.{over-units}
+use Rattle.stack_core.specs.declared.sheet.Sheet.{Sheet}
+use Rattle.stack_core.specs.declared.stack.Stack.{Stack}
+use Rattle.stack_core.specs.Requests.{pages_from, requests_from}
+use Rattle.stack_core.specs.Sheets.{io_at, op_in}
+use Rattle.stack_core.specs.Shifts.{shifted_by}
+use Rattle.stack_core.specs.Walking.{IsOver, IsSealed, NoneFailed, Opens, SizesFit, WalksAtFirst, WalksToldAtFirst}
+use Rattle.stack_core.proofs.Opening.{uniform}
+use Rattle.script_stack.specs.Followed.{BeginsTold, BeginsWalks, SizesAre, begun_of, none_fails, setting_of, unit_of}
+use Rattle.script_stack.proofs.Runs.{own-infos}
+use Rattle.script_stack.proofs.Ready.{can-start}
+
+-- ---- pages of zeros
+
+zero-there : (n i : ℕ) → get_or (replicate n 0) i 0 ≡ 0
+zero-there zero i = refl
+zero-there (suc n) zero = refl
+zero-there (suc n) (suc i) = zero-there n i
+
+pub blank-cells : (n : ℕ) (pool : List (List ℕ)) → IsBlank n pool → flat pool ≡ replicate (4096 * n) 0
+blank-cells n pool b =
+    let long : length (flat pool) ≡ length (replicate (4096 * n) 0) = length-flat pool b.whole ∙ (ap (λ k. 4096 * k) b.pages ∙ sym (length-replicate (4096 * n) 0)) in
+    ext_get_or 0 (flat pool) (replicate (4096 * n) 0) long
+    (λ i l. (let e = length-flat pool b.whole in
+    let p = b.pages in
+    let whole : 4096 * (i / 4096) + i % 4096 ≡ i = div-add-mod i 4096 in
+    let low : i % 4096 < 4096 = omega arith in
+    let page : i / 4096 < length pool = omega arith in
+    ap (λ j. get_or (flat pool) j 0) (sym whole) ∙ (cell-holds pool (i / 4096) (i % 4096) b.whole page low ∙ (b.zeros (record { page = i / 4096; off = i % 4096 }) ∙ sym (zero-there (4096 * n) i)))))
+
+none-there : (n c : ℕ) → get_or (replicate n ([] : List (List ℕ))) c [] ≡ []
+none-there zero c = refl
+none-there (suc n) zero = refl
+none-there (suc n) (suc c) = none-there n c
+
+pub opens : (s : Script) (units : List UnitSpec) (blocks : List (List ℕ)) (r : Stack) → IsBlank (pages_from s.mode.dix s.pages s.ops) r.pool → Opens (begun_of s units blocks) r
+opens s units blocks r b = record { bytes = sym (blank-cells (pages_from s.mode.dix s.pages s.ops) r.pool b); logs = none-there (all_blocks units) }
+
+-- ---- the stack is over its script
+
+-- what is known of a stack of a script
+pub record IsStackOf (s : Script) (t : Table) (r : Stack) : Type 0 where
+  pub ops : r.sheet.ops ≡ s.ops
+  pub ios : r.sheet.ios.items ≡ requests_from s.mode.dix s.pages s.ops
+  pub shifted : r.sheet.shifted.items ≡ shifted_by s.faults (length s.ops)
+  pub table : r.sheet.table ≡ t
+  pub mode : mode_of r.adapter ≡ s.mode
+  pub ty : r.adapter.ty ≡ t.ty
+  pub host : r.host ≡ host_type t.ty
+  pub faults : r.adapter.tamper ≡ s.faults
+
+same_seal : (m : Setting) (op : Op) → IsSealedHere m op → IsSealed m op
+same_seal m (Fill seg byte) h = tt
+same_seal m (Put page off bytes) h = tt
+same_seal m (Show seg) h = tt
+same_seal m (Seal n body tuples app rtag) h = h
+same_seal m (Write v n body app) h = tt
+same_seal m (Fetch v n body) h = tt
+same_seal m (WritePi v n body tuples) h = tt
+same_seal m (FetchPi v n body tuples) h = tt
+same_seal m (Overwrite dev lba change) h = tt
+same_seal m Wait h = tt
+
+module _ (s : Script) (t : Table) (units : List UnitSpec) (fails : ℕ → Bool) (blocks : List (List ℕ)) (keeps : Keeps s) (lines : length s.lines ≡ length s.faults + length s.ops) (few : length (map info_of units) ≤ 8) (made : MadeFor t (map info_of units) s.block) (bound : binding_fault s t (map info_of units) ≡ None) where
+  abbrev m : Setting
+  m = setting_of s t units fails
+
+  pub own_setting : IsSettingOf m s t (map info_of units) (all_blocks units)
+  own_setting = over-units m s t units refl refl refl refl refl refl
+
+  pub is_over : (r : Stack) → IsStackOf s t r → IsOver m (4096 * s.pages) (begun_of s units blocks) r.sheet r.adapter r.host
+  is_over r h =
+      let logs : length (replicate (all_blocks units) ([] : List (List ℕ))) ≡ all_blocks units = length-replicate (all_blocks units) [] in
+      let ground = subst (λ k. Ground m (4096 * s.pages) k s.ops) (sym logs) (stands-on-ground m s t (map info_of units) (all_blocks units) keeps lines made bound own_setting) in
+      let long : length (replicate (fates s.ops) (None : Option Why)) ≡ fates s.ops = length-replicate (fates s.ops) None in
+      let sizes = (uniform t s.mode.dix s.mode.protect s.limits s.pages (replicate s.pages []) s.ops (can-start s t (map info_of units) keeps lines few made bound)).size in
+      record {
+        ground = subst (Ground m (4096 * s.pages) (length (replicate (all_blocks units) ([] : List (List ℕ))))) (sym h.ops) ground;
+        found = subst (λ ops. fates ops ≤ length (replicate (fates s.ops) (None : Option Why))) (sym h.ops) (omega arith);
+        pages = s.pages;
+        bytes = refl;
+        ios = h.ios ∙ ap (requests_from s.mode.dix s.pages) (sym h.ops);
+        shifted = h.shifted ∙ ap (λ (ops : List Op). shifted_by s.faults (length ops)) (sym h.ops);
+        mode = sym h.mode;
+        ty = sym h.ty;
+        host_is = h.host;
+        size = subst (λ ios. (i : ℕ) → 0 < (io_at ios i).count → block_size (io_at ios i) ≡ s.block) (sym h.ios) sizes;
+        entries = ap (λ (x : Table). x.entries) (sym h.table);
+        faults = sym h.faults;
+        seals = subst (λ ops. (i : ℕ) → i < length ops → IsSealed m (op_in ops i)) (sym h.ops) (λ i l. same_seal m (op_in s.ops i) (seals-whole m s keeps refl i l));
+      }
+
+-- ---- over any rig, and over one that tells its blocks
+
+-- the devices of the volume have blocks of the script's size
+fits-found : (s : Script) (t : Table) (devices : List DeviceInfo) (st : Standing) (fails : ℕ → Bool) → MadeFor t devices s.block → SizesAre devices st → SizesFit (setting_of s t (map unit_of devices) fails) st
+fits-found s t devices st fails made sizes v l =
+    let on = made.inside v l in
+    sizes (place_in t.entries v).0 on.known ∙ on.size_is
+
+pub begins-walks : (s : Script) (t : Table) (devices : List DeviceInfo) (r : Stack) → Keeps s → length s.lines ≡ length s.faults + length s.ops → length devices ≤ 8 → MadeFor t devices s.block → binding_fault s t devices ≡ None → IsStackOf s t r →
+    IsBlank (pages_from s.mode.dix s.pages s.ops) r.pool → WalksAtFirst r → BeginsWalks s t devices r
+begins-walks s t devices r keeps lines few made bound is blank first fails blocks st log sizes =
+    let units = map unit_of devices in
+    let e = sym (own-infos devices) in
+    first (setting_of s t units fails) (4096 * s.pages) (begun_of s units blocks) st log (opens s units blocks r blank)
+    (is_over s t units fails blocks keeps lines (subst (λ (ds : List DeviceInfo). length ds ≤ 8) e few) (subst (λ ds. MadeFor t ds s.block) e made) (subst (λ ds. binding_fault s t ds ≡ None) e bound) r is)
+    (fits-found s t devices st fails made sizes)
+
+info-size : (units : List UnitSpec) (d : ℕ) → d < length (map info_of units) → (get_or units d no_spec).size ≡ (device (map info_of units) d).size
+info-size [] d l = absurd (omega arith)
+info-size (u ∷ units) zero l = refl
+info-size (u ∷ units) (suc d) l = info-size units d (omega arith)
+
+pub begins-told : (s : Script) (t : Table) (devices : List DeviceInfo) (r : Stack) → Keeps s → length s.lines ≡ length s.faults + length s.ops → length devices ≤ 8 → MadeFor t devices s.block → binding_fault s t devices ≡ None → IsStackOf s t r →
+    IsBlank (pages_from s.mode.dix s.pages s.ops) r.pool → WalksToldAtFirst r → BeginsTold s t devices r
+begins-told s t devices r keeps lines few made bound is blank first us st log found shapes =
+    let units = shapes_of us in
+    let m = setting_of s t units none_fails in
+    let e : devices ≡ map info_of units = found ∙ ap (map info_of) (sym shapes) in
+    let few' = subst (λ (ds : List DeviceInfo). length ds ≤ 8) e few in
+    let made' = subst (λ ds. MadeFor t ds s.block) e made in
+    let bound' = subst (λ ds. binding_fault s t ds ≡ None) e bound in
+    let own = own_setting s t units none_fails (blocks_told us) keeps lines few' made' bound' in
+    let sizes : SizesAre (map info_of units) st = λ d l. ap (λ us. (get_or us d no_spec).size) (sym shapes) ∙ info-size units d l in
+    first m (4096 * s.pages) (begun_of s units (blocks_told us)) us s.faults st log (opens s units (blocks_told us) r blank)
+    (is_over s t units none_fails (blocks_told us) keeps lines few' made' bound' r is)
+    (λ v l. (let on = made'.inside v l in sizes (place_in t.entries v).0 on.known ∙ on.size_is))
+    (ap (λ (fs : List FaultLine). record { faults = fs; device = target fs; cell = cell_in units }) (sym is.faults) ∙ ap (site_of r.adapter) shapes)
+    (subst (λ us. AreAtUnits m us r.sheet.ops) shapes (subst (AreAtUnits m units) (sym is.ops) (lies-at-units m s t units (all_blocks units) own lines made' bound')))
+    (sym is.faults) refl
+
+-- no op has replied yet
+pub none-failed : (n : ℕ) → NoneFailed (replicate n Silent)
+none-failed zero i = refl
+none-failed (suc n) zero = refl
+none-failed (suc n) (suc i) = none-failed n i

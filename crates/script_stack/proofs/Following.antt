@@ -1,0 +1,87 @@
+-- A script that was run over a rig was followed to its end.
+use Rattle.std.proofs.Common.{◌≡◌, ◌<◌, ◌≤◌, ℕ, zero, suc, ◌+◌, Bool, true, false, List, [], ◌∷◌, ◌++◌, length, drop, get_or, map, Option, Some, None, refl, sym, ap, subst, ◌∙◌, arith}
+use Rattle.std.specs.Prelude.{if◌then◌else◌, slice_index, take}
+use Rattle.std.proofs.lemmas.List.{length-map, length-take}
+use Rattle.std.specs.List.{All}
+use Rattle.std.proofs.lemmas.List.Elements.{All-cons, All-nil}
+use Rattle.std.proofs.lemmas.Option.{none-some, same_Some}
+use Rattle.dix_base.specs.Told.{Calm}
+use Rattle.fault_schedule.specs.declared.fault.FaultLine.{FaultLine}
+use Rattle.target_answer.specs.Frames.{stored_size}
+use Rattle.target_answer.specs.Image.{units_in}
+use Rattle.target_answer.specs.Target.{Stored, shape_of}
+use Rattle.pi_tuple.specs.declared.checks.PiType.{PiType}
+use Rattle.cdb_codec.specs.Decoded.{eight_at, four_at}
+use Rattle.rig_api.specs.Head.{units_of}
+use Rattle.rig_api.specs.Log.{Entry}
+use Rattle.rig_api.specs.Telling.{IsStanding, Standing, spec_at, specs_of, unit_at, units_told}
+use Rattle.rig_discovery.specs.Answers.{info_with, is_fault, type_told}
+use Rattle.rig_discovery.specs.Discovery.{Answer, HasFound, all_told, info_of, told, with_info}
+use Rattle.volume_table.specs.declared.device.DeviceInfo.{DeviceInfo}
+use Rattle.volume_table.specs.Faults.{device}
+use Rattle.volume_table.specs.Tables.{MadeFor, Table}
+use Rattle.dix_adapter.specs.Ways.{blocks_told, shapes_of}
+use Rattle.dix_adapter.proofs.Runs.{AllLong}
+use Rattle.dix_adapter.proofs.Units.{unit-stands}
+use Rattle.script_ground.specs.Units.{AreStored}
+use Rattle.script_stack.specs.Followed.{SizesAre}
+use Rattle.script_stack.proofs.Finding.{found-long}
+
+-- ---- what was found has the sizes that the head tells
+
+told-size : (s : Standing) (dev : ℕ) (a : Answer) (d : DeviceInfo) → told s dev a ≡ Some d → d.size ≡ (spec_at s dev).size
+told-size s dev a d e = by (is_fault (spec_at s dev).first (spec_at s dev).size a.outcome (eight_at a.bytes 0) (four_at a.bytes 8)) (type_told (slice_index a.bytes 12)) e where
+  by : (bad : Bool) (ty : Option PiType) → (if bad then None else info_with (spec_at s dev).first (spec_at s dev).size (eight_at a.bytes 0) ty) ≡ Some d → d.size ≡ (spec_at s dev).size
+  by true ty e = absurd (none-some d e)
+  by false None e = absurd (none-some d e)
+  by false (Some ty) e = sym (ap (λ (x : DeviceInfo). x.size) (same_Some _ d e))
+
+sizes-from : (s : Standing) (dev : ℕ) (answers : List Answer) (found : List DeviceInfo) → all_told s dev answers ≡ Some found → (d : ℕ) → d < length found → (spec_at s (dev + d)).size ≡ (device found d).size
+sizes-from s dev [] found e d l = absurd (let n = ap length (same_Some [] found e) in omega arith)
+sizes-from s dev (a ∷ answers) found e d l = by (told s dev a) refl (all_told s (dev + 1) answers) refl e where
+  by : (i : Option DeviceInfo) → told s dev a ≡ i → (rest : Option (List DeviceInfo)) → all_told s (dev + 1) answers ≡ rest → with_info i rest ≡ Some found → (spec_at s (dev + d)).size ≡ (device found d).size
+  by None f rest g e = absurd (none-some found e)
+  by (Some i) f None g e = absurd (none-some found e)
+  by (Some i) f (Some more) g e =
+      let same = same_Some (i ∷ more) found e in
+      subst (λ ds. (spec_at s (dev + d)).size ≡ (device ds d).size) same (at d (subst (λ ds. d < length ds) (sym same) l))
+    where
+      at : (d : ℕ) → d < length (i ∷ more) → (spec_at s (dev + d)).size ≡ (device (i ∷ more) d).size
+      at zero l = let z : dev + 0 ≡ dev = omega arith in ap (λ x. (spec_at s x).size) z ∙ sym (told-size s dev a i f)
+      at (suc d) l = let z : dev + suc d ≡ dev + 1 + d = omega arith in ap (λ x. (spec_at s x).size) z ∙ sizes-from s (dev + 1) answers more g d (omega arith)
+
+pub sizes-found : (s : Standing) (devices : List DeviceInfo) (old new : List Entry) → HasFound s devices old new → SizesAre devices s
+sizes-found s devices old new h = sizes-from s 0 h.answers devices h.told
+
+-- ---- the units that a rig tells
+
+pub told-shapes : (st : Standing) (image : Option (List ℕ)) (us : List Stored) → units_told st image ≡ Some us → IsStanding st image → shapes_of us ≡ specs_of st
+told-shapes st None us e r = absurd (none-some us e)
+told-shapes st (Some bytes) us e r = by st.devices refl where
+  by : (n : ℕ) → st.devices ≡ n → shapes_of us ≡ specs_of st
+  by zero z =
+      let none : specs_of st ≡ [] = ap (λ n. take n (units_of st.head)) z in
+      subst (λ x. shapes_of x ≡ specs_of st) (same_Some (units_in (specs_of st) bytes) us e) (ap (λ x. shapes_of (units_in x bytes)) none ∙ sym none)
+  by (suc n) z = (unit-stands st (Some bytes) us 0 e r (omega arith)).shapes
+
+long-all : (w : ℕ) (blocks : List (List ℕ)) → AllLong w blocks → All (λ block. length block ≡ w) blocks
+long-all w [] h = All-nil _
+long-all w (b ∷ bs) h = All-cons _ b bs h.0 (long-all w bs h.1)
+
+stored-from : (us : List Stored) → ((dev : ℕ) → dev < length us → AllLong (stored_size (unit_at us dev).ty (unit_at us dev).size) (unit_at us dev).blocks) → AreStored us
+stored-from [] h = All-nil _
+stored-from (u ∷ us) h = All-cons _ u us (long-all (stored_size u.ty u.size) u.blocks (h 0 (omega arith))) (stored-from us (λ dev l. h (suc dev) (omega arith)))
+
+pub told-stored : (st : Standing) (image : Option (List ℕ)) (us : List Stored) → units_told st image ≡ Some us → IsStanding st image → AreStored us
+told-stored st image us e r =
+    let s = told-shapes st image us e r in
+    let n = length-map us shape_of in
+    let m = ap length s in
+    let t = length-take st.devices (units_of st.head) in
+    stored-from us (λ dev l. (unit-stands st image us dev e r (omega arith)).long)
+
+-- ---- the records behind some
+
+pub behind : (xs ys : List Entry) → drop (length xs) (xs ++ ys) ≡ ys
+behind [] ys = refl
+behind (x ∷ xs) ys = behind xs ys

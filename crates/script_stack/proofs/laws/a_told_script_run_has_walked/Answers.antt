@@ -1,0 +1,31 @@
+use Rattle.std.proofs.Common.{ap, drop, map, refl, subst, sym, ◌∙◌, take}
+use Rattle.page_pool.specs.Cells.{flat}
+use Rattle.dix_adapter.specs.Ways.{blocks_told, shapes_of}
+use Rattle.block_path.specs.Moves.{hidden}
+use Rattle.whole_run.specs.ScriptWalk.{script_replies, script_walk}
+use Rattle.run_moves.specs.BoundRun.{IsBoundRun}
+use Rattle.run_moves.specs.Suited.{keeps_size}
+use Rattle.run_record.specs.CarriedRun.{Carried}
+use Rattle.script_ground.proofs.Units.{over-units}
+use Rattle.stack_core.specs.Walking.{EndsTold}
+use Rattle.script_stack.specs.Followed.{begun_of, none_fails, opening_of, setting_of}
+use Rattle.script_stack.proofs.Runs.{has-cells, has-room, hides}
+use Rattle.script_stack.proofs.laws.a_told_script_run_has_walked.Goals as goal
+
+pub returns : goal.returns
+returns c = λ s t us left first r armed st log keeps lines made good stored shapes k same silent w ended.
+    (let units = shapes_of us in
+    let m = setting_of s t units none_fails in
+    let blocks = blocks_told us in
+    let opening = begun_of s units blocks in
+    let bound = c.a_bound_script_is_bound_at_its_target.ensures m s t units us _ opening keeps lines made good (over-units m s t units refl refl refl refl refl refl) refl refl stored refl (has-room s t units blocks none_fails) (has-cells s units blocks) in
+    let ends = c.a_finished_stack_has_done_the_walk.ensures m (keeps_size blocks) (4096 * s.pages) opening first r left armed st log k w ended (λ i. sym (silent i)) (subst (λ ops. IsBoundRun m (keeps_size blocks) (4096 * s.pages) ops opening) (sym same) bound) in
+    let here = subst (λ ops. EndsTold m (4096 * s.pages) opening ops r left (drop first log)) same ends in
+    let h = hides s units blocks in
+    record {
+      replies_are = here.replies ∙ ap (script_replies m s.ops) h;
+      pages = here.pages ∙ ap (λ o. (script_walk m s.ops o).bytes) h;
+      shapes = shapes;
+      blocks = here.blocks ∙ ap (λ o. (script_walk m s.ops o).blocks) h;
+      carried = subst (λ o. Carried m s.ops o (drop first log)) h here.carried;
+    })

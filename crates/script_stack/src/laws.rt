@@ -1,0 +1,49 @@
+//! What the stack of a script comes to, once it has been run to its end.
+
+ghost use Rattle.std.specs.Prelude.{◌≡◌, ◌*◌, ◌+◌, ℕ, Bool, List, [], Some, None, drop, length, map};
+ghost use Rattle.fault_schedule.specs.declared.fault.FaultLine.{FaultLine};
+ghost use Rattle.target_answer.specs.Target.{Stored};
+ghost use Rattle.rig_api.specs.Log.{Entry};
+ghost use Rattle.rig_api.specs.Telling.{Standing};
+ghost use Rattle.rig_discovery.specs.Discovery.{info_of};
+ghost use Rattle.volume_table.specs.declared.device.DeviceInfo.{DeviceInfo as AnyDevice};
+ghost use Rattle.volume_table.specs.Tables.{MadeFor, Table};
+ghost use Rattle.dix_adapter.specs.Ways.{blocks_told, shapes_of};
+ghost use Rattle.script_text.specs.declared.script.Script.{Script as AnyScript};
+ghost use Rattle.script_text.specs.Bindings.{binding_fault};
+ghost use Rattle.script_laws.specs.Keeping.{Keeps};
+ghost use Rattle.script_ground.specs.Units.{AreStored};
+ghost use Rattle.stack_view.specs.Steps.{enabled};
+ghost use Rattle.stack_view.specs.View.{View};
+ghost use Rattle.stack_steps.specs.Does.{Holds};
+ghost use Rattle.stack_core.specs.declared.stack.Stack.{Stack as AnyStack};
+ghost use Rattle.stack_core.specs.Stacks.{IsStack, plan_in};
+ghost use Rattle.stack_core.specs.Walking.{NoneFailed, Walks, WalksTold};
+ghost use Rattle.script_stack.specs.Followed.{HasWalked, IsBackedBy, begun_of, failed_in, none_fails, setting_of, unit_of};
+
+use script_ground::{
+    a_bound_script_is_bound_at_its_target, a_bound_script_is_bound_over_its_record,
+};
+use stack_core::{a_finished_stack_has_done_the_walk, a_finished_stack_is_backed};
+
+/// Over any rig, honest or not, the log of a script that was run to its end backs its replies.
+pub fn a_script_run_is_backed()
+    ensures { (s : AnyScript) (t : Table) (devices : List AnyDevice) (first : ℕ) (r : AnyStack) (st : Standing) (log : List Entry) → Keeps s → IsStack r → r.sheet.ops ≡ s.ops
+        → ((blocks : List (List ℕ)) → Walks (setting_of s t (map unit_of devices) (failed_in r.replies.items)) (4096 * s.pages) (begun_of s (map unit_of devices) blocks) first r st log)
+        → ((v : View) → Holds (plan_in r.sheet) r.machine v → enabled (plan_in r.sheet) v ≡ []) → IsBackedBy s t devices (drop first log) r.replies.items }
+{
+    a_bound_script_is_bound_over_its_record();
+    a_finished_stack_is_backed();
+}
+
+/// Over a rig that tells its blocks, while its count of faults didn't rise, the script's ops were done one after another
+/// at the target.
+pub fn a_told_script_run_has_walked()
+    ensures { (s : AnyScript) (t : Table) (us left : List Stored) (first : ℕ) (r : AnyStack) (armed : List FaultLine) (st : Standing) (log : List Entry) → Keeps s → length s.lines ≡ length s.faults + length s.ops
+        → MadeFor t (map info_of (shapes_of us)) s.block → binding_fault s t (map info_of (shapes_of us)) ≡ None → AreStored us → shapes_of left ≡ shapes_of us → IsStack r → r.sheet.ops ≡ s.ops
+        → NoneFailed r.replies.items → WalksTold (setting_of s t (shapes_of us) none_fails) (4096 * s.pages) (begun_of s (shapes_of us) (blocks_told us)) first r (Some left) armed st log
+        → ((v : View) → Holds (plan_in r.sheet) r.machine v → enabled (plan_in r.sheet) v ≡ []) → HasWalked s t us left r.pool (drop first log) r.replies.items }
+{
+    a_bound_script_is_bound_at_its_target();
+    a_finished_stack_has_done_the_walk();
+}
