@@ -45,14 +45,13 @@ use Rattle.stack_core.specs.Requests.{pages_from, requests_from}
 use Rattle.stack_core.specs.Sheets.{io_at, op_in}
 use Rattle.stack_core.specs.Shifts.{shifted_by}
 use Rattle.stack_core.specs.Walking.{IsOver, IsSealed, NoneFailed, Opens, SizesFit, WalksAtFirst, WalksToldAtFirst}
-use Rattle.stack_core.proofs.Opening.{uniform}
 use Rattle.script_stack.specs.Followed.{BeginsTold, BeginsWalks, SizesAre, begun_of, none_fails, setting_of, unit_of}
 use Rattle.script_stack.proofs.Runs.{own-infos}
-use Rattle.script_stack.proofs.Ready.{can-start}
+use Rattle.script_stack.proofs.Ready.{sizes-of}
 
 -- ---- pages of zeros
 
-zero-there : (n i : ℕ) → get_or (replicate n 0) i 0 ≡ 0
+zero-there : (n i : ℕ) → get_or {A = ℕ} (replicate n 0) i 0 ≡ 0
 zero-there zero i = refl
 zero-there (suc n) zero = refl
 zero-there (suc n) (suc i) = zero-there n i
@@ -68,7 +67,7 @@ blank-cells n pool b =
     let page : i / 4096 < length pool = omega arith in
     ap (λ j. get_or (flat pool) j 0) (sym whole) ∙ (cell-holds pool (i / 4096) (i % 4096) b.whole page low ∙ (b.zeros (record { page = i / 4096; off = i % 4096 }) ∙ sym (zero-there (4096 * n) i)))))
 
-none-there : (n c : ℕ) → get_or (replicate n ([] : List (List ℕ))) c [] ≡ []
+none-there : (n c : ℕ) → get_or {A = List (List ℕ)} (replicate n []) c [] ≡ []
 none-there zero c = refl
 none-there (suc n) zero = refl
 none-there (suc n) (suc c) = none-there n c
@@ -110,13 +109,13 @@ module _ (s : Script) (t : Table) (units : List UnitSpec) (fails : ℕ → Bool)
 
   pub is_over : (r : Stack) → IsStackOf s t r → IsOver m (4096 * s.pages) (begun_of s units blocks) r.sheet r.adapter r.host
   is_over r h =
-      let logs : length (replicate (all_blocks units) ([] : List (List ℕ))) ≡ all_blocks units = length-replicate (all_blocks units) [] in
+      let logs : length (begun_of s units blocks).logs ≡ all_blocks units = length-replicate (all_blocks units) [] in
       let ground = subst (λ k. Ground m (4096 * s.pages) k s.ops) (sym logs) (stands-on-ground m s t (map info_of units) (all_blocks units) keeps lines made bound own_setting) in
-      let long : length (replicate (fates s.ops) (None : Option Why)) ≡ fates s.ops = length-replicate (fates s.ops) None in
-      let sizes = (uniform t s.mode.dix s.mode.protect s.limits s.pages (replicate s.pages []) s.ops (can-start s t (map info_of units) keeps lines few made bound)).size in
+      let long : length (begun_of s units blocks).fates ≡ fates s.ops = length-replicate (fates s.ops) None in
+      let sizes = (sizes-of s t (map info_of units) keeps lines few made bound).size in
       record {
-        ground = subst (Ground m (4096 * s.pages) (length (replicate (all_blocks units) ([] : List (List ℕ))))) (sym h.ops) ground;
-        found = subst (λ ops. fates ops ≤ length (replicate (fates s.ops) (None : Option Why))) (sym h.ops) (omega arith);
+        ground = subst (Ground m (4096 * s.pages) (length (begun_of s units blocks).logs)) (sym h.ops) ground;
+        found = subst (λ ops. fates ops ≤ length (begun_of s units blocks).fates) (sym h.ops) (omega arith);
         pages = s.pages;
         bytes = refl;
         ios = h.ios ∙ ap (requests_from s.mode.dix s.pages) (sym h.ops);

@@ -1,6 +1,6 @@
 -- A script that was run over a rig was followed to its end.
 use Rattle.std.proofs.Common.{◌≡◌, ◌<◌, ◌≤◌, ℕ, zero, suc, ◌+◌, Bool, true, false, List, [], ◌∷◌, ◌++◌, length, drop, get_or, map, Option, Some, None, refl, sym, ap, subst, ◌∙◌, arith}
-use Rattle.std.specs.Prelude.{if◌then◌else◌, slice_index, take}
+use Rattle.std.specs.Prelude.{if◌then◌else◌, is_some, slice_index, take}
 use Rattle.std.proofs.lemmas.List.{length-map, length-take}
 use Rattle.std.specs.List.{All}
 use Rattle.std.proofs.lemmas.List.Elements.{All-cons, All-nil}
@@ -36,22 +36,23 @@ told-size s dev a d e = by (is_fault (spec_at s dev).first (spec_at s dev).size 
   by false None e = absurd (none-some d e)
   by false (Some ty) e = sym (ap (λ (x : DeviceInfo). x.size) (same_Some _ d e))
 
-size-next : (s : Standing) (dev : ℕ) (i : DeviceInfo) (more : List DeviceInfo) → (spec_at s dev).size ≡ i.size → ((d : ℕ) → d < length more → (spec_at s (dev + 1 + d)).size ≡ (device more d).size) → (d : ℕ) → d < length (i ∷ more) → (spec_at s (dev + d)).size ≡ (device (i ∷ more) d).size
-size-next s dev i more first rest zero l = let z : dev + 0 ≡ dev = omega arith in ap (λ x. (spec_at s x).size) z ∙ first
-size-next s dev i more first rest (suc d) l = let z : dev + suc d ≡ dev + 1 + d = omega arith in ap (λ x. (spec_at s x).size) z ∙ rest d (omega arith)
-
 sizes-from : (s : Standing) (dev : ℕ) (answers : List Answer) (found : List DeviceInfo) → all_told s dev answers ≡ Some found → (d : ℕ) → d < length found → (spec_at s (dev + d)).size ≡ (device found d).size
 sizes-from s dev [] found e d l = absurd (let n = ap length (same_Some [] found e) in omega arith)
-sizes-from s dev (a ∷ answers) found e d l = by (told s dev a) refl (all_told s (dev + 1) answers) refl (λ more g. sizes-from s (dev + 1) answers more g) e where
-  by : (i : Option DeviceInfo) → told s dev a ≡ i → (rest : Option (List DeviceInfo)) → all_told s (dev + 1) answers ≡ rest → ((more : List DeviceInfo) → all_told s (dev + 1) answers ≡ Some more → (n : ℕ) → n < length more → (spec_at s (dev + 1 + n)).size ≡ (device more n).size) → with_info i rest ≡ Some found → (spec_at s (dev + d)).size ≡ (device found d).size
-  by None f rest g below e = absurd (none-some found e)
-  by (Some i) f None g below e = absurd (none-some found e)
-  by (Some i) f (Some more) g below e =
+sizes-from s dev (a ∷ answers) found e d l = by (told s dev a) refl (all_told s (dev + 1) answers) refl e (λ more f d l. sizes-from s (dev + 1) answers more f d l) where
+  by : (i : Option DeviceInfo) → told s dev a ≡ i → (rest : Option (List DeviceInfo)) → all_told s (dev + 1) answers ≡ rest → with_info i rest ≡ Some found
+      → ((more : List DeviceInfo) → all_told s (dev + 1) answers ≡ Some more → (d : ℕ) → d < length more → (spec_at s (dev + 1 + d)).size ≡ (device more d).size) → (spec_at s (dev + d)).size ≡ (device found d).size
+  by None f rest g e behind = absurd (none-some found e)
+  by (Some i) f None g e behind = absurd (none-some found e)
+  by (Some i) f (Some more) g e behind =
       let same = same_Some (i ∷ more) found e in
-      subst (λ ds. (spec_at s (dev + d)).size ≡ (device ds d).size) same (size-next s dev i more (sym (told-size s dev a i f)) (below more g) d (subst (λ ds. d < length ds) (sym same) l))
+      subst (λ ds. (spec_at s (dev + d)).size ≡ (device ds d).size) same (at d (subst (λ ds. d < length ds) (sym same) l))
+    where
+      at : (d : ℕ) → d < length (i ∷ more) → (spec_at s (dev + d)).size ≡ (device (i ∷ more) d).size
+      at zero l = let z : dev + 0 ≡ dev = omega arith in ap (λ x. (spec_at s x).size) z ∙ sym (told-size s dev a i f)
+      at (suc d) l = let z : dev + suc d ≡ dev + 1 + d = omega arith in ap (λ x. (spec_at s x).size) z ∙ behind more g d (omega arith)
 
 pub sizes-found : (s : Standing) (devices : List DeviceInfo) (old new : List Entry) → HasFound s devices old new → SizesAre devices s
-sizes-found s devices old new h = λ d l. let z : d ≡ 0 + d = omega arith in ap (λ x. (spec_at s x).size) z ∙ sizes-from s 0 h.answers devices h.told d l
+sizes-found s devices old new h d l = let z : d ≡ 0 + d = omega arith in ap (λ x. (spec_at s x).size) z ∙ sizes-from s 0 h.answers devices h.told d l
 
 -- ---- the units that a rig tells
 
@@ -65,12 +66,12 @@ told-shapes st (Some bytes) us e r = by st.devices refl where
   by (suc n) z = (unit-stands st (Some bytes) us 0 e r (omega arith)).shapes
 
 long-all : (w : ℕ) (blocks : List (List ℕ)) → AllLong w blocks → All (λ block. length block ≡ w) blocks
-long-all w [] h = All-nil (λ (block : List ℕ). length block ≡ w)
-long-all w (b ∷ bs) h = All-cons (λ (block : List ℕ). length block ≡ w) b bs h.0 (long-all w bs h.1)
+long-all w [] h = All-nil _
+long-all w (b ∷ bs) h = All-cons (λ block. length {A = ℕ} block ≡ w) b bs h.0 (long-all w bs h.1)
 
 stored-from : (us : List Stored) → ((dev : ℕ) → dev < length us → AllLong (stored_size (unit_at us dev).ty (unit_at us dev).size) (unit_at us dev).blocks) → AreStored us
-stored-from [] h = All-nil (λ (u : Stored). All (λ (block : List ℕ). length block ≡ stored_size u.ty u.size) u.blocks)
-stored-from (u ∷ us) h = All-cons (λ (u : Stored). All (λ (block : List ℕ). length block ≡ stored_size u.ty u.size) u.blocks) u us (long-all (stored_size u.ty u.size) u.blocks (h 0 (omega arith))) (stored-from us (λ dev l. h (suc dev) (omega arith)))
+stored-from [] h = All-nil _
+stored-from (u ∷ us) h = All-cons (λ (u : Stored). All (λ block. length {A = ℕ} block ≡ stored_size u.ty u.size) u.blocks) u us (long-all (stored_size u.ty u.size) u.blocks (h 0 (omega arith))) (stored-from us (λ dev l. h (suc dev) (omega arith)))
 
 pub told-stored : (st : Standing) (image : Option (List ℕ)) (us : List Stored) → units_told st image ≡ Some us → IsStanding st image → AreStored us
 told-stored st image us e r =
@@ -79,6 +80,11 @@ told-stored st image us e r =
     let m = ap length s in
     let t = length-take st.devices (units_of st.head) in
     stored-from us (λ dev l. (unit-stands st image us dev e r (omega arith)).long)
+
+-- whose units are told tells its image
+pub told-image : (st : Standing) (image : Option (List ℕ)) (us : List Stored) → units_told st image ≡ Some us → is_some image ≡ true
+told-image st None us e = absurd (none-some us e)
+told-image st (Some bytes) us e = refl
 
 -- ---- the records behind some
 

@@ -1,5 +1,9 @@
 -- Steps one after another.
-use Rattle.std.proofs.Common.{◌≤◌, ◌<◌, ◌+◌, ◌^◌, ℕ, arith}
+use Rattle.std.proofs.Common.{◌≤◌, ◌<◌, ◌+◌, ◌^◌, ◌++◌, ◌∙◌, ℕ, List, ap, arith}
+use Rattle.std.proofs.lemmas.List.{append_assoc}
+use Rattle.rig_api.specs.Log.{Entry}
+use Rattle.rig_api.specs.Telling.{Standing}
+use Rattle.stack_core.specs.Stacks.{GoesOn, Stays}
 use Rattle.dix_base.specs.Told.{Calm}
 use Rattle.stack_core.specs.declared.stack.Stack.{Stack}
 use Rattle.script_stack.specs.Going.{Outside, Went}
@@ -20,3 +24,15 @@ went_on s o s' o' s'' o'' a b = record {
   silent = λ calm h. b.silent (calm-then o.faults o'.faults o''.faults a.faults b.faults calm) (a.silent (calm-first o.faults o'.faults o''.faults a.faults b.faults calm) h);
   faults = (let x = a.faults in let y = b.faults in omega arith);
 }
+
+-- the rig goes on from one to the next
+pub goes_then : (st st' st'' : Standing) (log log' log'' : List Entry) (count count' count'' : ℕ) → GoesOn st st' log log' count count' → GoesOn st' st'' log' log'' count' count'' → GoesOn st st'' log log'' count count''
+goes_then st st' st'' log log' log'' count count' count'' a b = record {
+  standing = b.standing ∙ a.standing;
+  more = a.more ++ b.more;
+  records = b.records ∙ (ap (λ l. l ++ b.more) a.records ∙ append_assoc log a.more b.more);
+  faults = (let x = a.faults in let y = b.faults in omega arith);
+}
+
+pub stays_then : (s s' s'' : Stack) → Stays s s' → Stays s' s'' → Stays s s''
+stays_then s s' s'' a b = record { sheet = b.sheet ∙ a.sheet; adapter = b.adapter ∙ a.adapter; host = b.host ∙ a.host }

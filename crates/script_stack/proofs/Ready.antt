@@ -1,5 +1,5 @@
 -- A script that keeps the rules of its language and is bound to a volume: a stack can be made for it.
-use Rattle.std.proofs.Common.{◌≡◌, ◌≤◌, ℕ, zero, suc, ◌+◌, Bool, true, false, not, ◌&&◌, List, [], ◌∷◌, length, map, drop, replicate, refl, inl, inr, arith, Option, None}
+use Rattle.std.proofs.Common.{◌≡◌, ◌≤◌, ℕ, zero, suc, ◌+◌, Bool, true, false, not, ◌&&◌, List, [], ◌∷◌, length, map, drop, replicate, refl, inl, inr, subst, arith, Option, None}
 use Rattle.std.specs.Prelude.{◌%◌, nat_le}
 use Rattle.std.proofs.lemmas.Bool.{and_parts, eqb-true}
 use Rattle.std.proofs.lemmas.List.{length-drop, length-replicate}
@@ -22,7 +22,9 @@ use Rattle.script_laws.specs.Keeping.{IsOp as KeepsRules, IsProtect, Keeps, bloc
 use Rattle.script_laws.specs.Lines.{line_of}
 use Rattle.stack_core.specs.Requests.{first_page, page_after, request_of, requests_from}
 use Rattle.stack_core.specs.Sheets.{op_in as op_at, request_in}
+use Rattle.stack_core.specs.Stacks.{AreUniform}
 use Rattle.stack_core.specs.Starting.{AreTuples, CanStart, IsData, IsOp}
+use Rattle.stack_core.proofs.Opening.{uniform}
 use Rattle.script_ground.proofs.Bodies.{HaveTuples, IsBody, alone-of, both-of, inside-ok, unless-ok}
 use Rattle.script_ground.proofs.Ops.{in-range, no-fault, rules-at}
 use Rattle.script_ground.proofs.Segments.{all-lie, lies}
@@ -109,9 +111,10 @@ protect-of (suc (suc (suc zero))) h = inr (inl refl)
 protect-of (suc (suc (suc (suc zero)))) h = inr (inr refl)
 protect-of (suc (suc (suc (suc (suc n))))) h = let l = h.range.high_is in absurd (omega arith)
 
-pub can-start : (s : Script) (t : Table) (devices : List DeviceInfo) → Keeps s → length s.lines ≡ length s.faults + length s.ops → length devices ≤ 8 → MadeFor t devices s.block → binding_fault s t devices ≡ None →
-    CanStart t s.mode.dix s.mode.protect s.limits s.pages (replicate s.pages []) s.ops
-can-start s t devices k n few made good =
+-- a stack can be made for it, with blocks of its size
+pub can-start-of : (s : Script) (t : Table) (devices : List DeviceInfo) → Keeps s → length s.lines ≡ length s.faults + length s.ops → length devices ≤ 8 → MadeFor t devices s.block → binding_fault s t devices ≡ None →
+    (c : CanStart t s.mode.dix s.mode.protect s.limits s.pages (replicate s.pages []) s.ops) × (c.bytes ≡ s.block)
+can-start-of s t devices k n few made good =
     let pages = k.pages_are in
     let pages_low = pages.low_is in
     let pages_high = pages.high_is in
@@ -124,7 +127,7 @@ can-start s t devices k n few made good =
     let long : length (replicate s.pages []) ≡ s.pages = length-replicate s.pages [] in
     let lines = length-drop (length s.faults) s.lines in
     let size : (1 ≤ s.block) × (s.block ≤ 4096) = elim k.block_is [ inl e ↦ (omega arith, omega arith) | inr e ↦ (omega arith, omega arith) ] in
-    record {
+    (record {
       pool_is = long;
       few_pages = omega arith;
       few_ops = omega arith;
@@ -140,4 +143,15 @@ can-start s t devices k n few made good =
       made = made;
       each = λ i l. ready-op s.mode.dix s.pages s.block (replicate s.pages []) t devices (op_at s.ops i) long (rules-at s.mode.dix s.pages s.block s.ops i k.ops_are l)
           (no-fault t devices s.block s.ops (drop (length s.faults) s.lines) i (omega arith) (bound s t devices good).ops l);
-    }
+    }, refl)
+
+pub can-start : (s : Script) (t : Table) (devices : List DeviceInfo) → Keeps s → length s.lines ≡ length s.faults + length s.ops → length devices ≤ 8 → MadeFor t devices s.block → binding_fault s t devices ≡ None →
+    CanStart t s.mode.dix s.mode.protect s.limits s.pages (replicate s.pages []) s.ops
+can-start s t devices k n few made good = (can-start-of s t devices k n few made good).0
+
+-- all its requests have blocks of its size
+pub sizes-of : (s : Script) (t : Table) (devices : List DeviceInfo) → Keeps s → length s.lines ≡ length s.faults + length s.ops → length devices ≤ 8 → MadeFor t devices s.block → binding_fault s t devices ≡ None →
+    AreUniform s.mode.dix s.block (requests_from s.mode.dix s.pages s.ops)
+sizes-of s t devices k n few made good =
+    let c = can-start-of s t devices k n few made good in
+    subst (λ size. AreUniform s.mode.dix size (requests_from s.mode.dix s.pages s.ops)) c.1 (uniform t s.mode.dix s.mode.protect s.limits s.pages (replicate s.pages []) s.ops c.0)

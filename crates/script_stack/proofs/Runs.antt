@@ -17,7 +17,7 @@ use Rattle.stack_core.proofs.Begin.{pages-grow}
 use Rattle.stack_core.proofs.Spotted.{after_is}
 use Rattle.script_stack.specs.Followed.{begun_of, opening_of, setting_of, unit_of}
 
-take-zeros : (n k : ℕ) → n ≤ k → take n (replicate k 0) ≡ replicate n 0
+take-zeros : (n k : ℕ) → n ≤ k → take {A = ℕ} n (replicate k 0) ≡ replicate n 0
 take-zeros zero k h = refl
 take-zeros (suc n) zero h = absurd (omega arith)
 take-zeros (suc n) (suc k) h = ap (λ xs. 0 ∷ xs) (take-zeros n k (omega arith))
@@ -34,12 +34,12 @@ rooms-are m dix page (op ∷ ops) d = let a = rooms-are m dix (page_after dix pa
 
 pub has-room : (s : Script) (t : Table) (units : List UnitSpec) (blocks : List (List ℕ)) (fails : ℕ → Bool) → 4096 * s.pages + rooms (setting_of s t units fails) s.ops ≤ length (begun_of s units blocks).bytes
 has-room s t units blocks fails =
-    let a = rooms-are (setting_of s t units fails) s.mode.dix s.pages s.ops refl in
-    let b = length-replicate (4096 * pages_from s.mode.dix s.pages s.ops) 0 in
-    omega arith
+    let a : 4096 * pages_from s.mode.dix s.pages s.ops ≡ 4096 * s.pages + rooms (setting_of s t units fails) s.ops = rooms-are (setting_of s t units fails) s.mode.dix s.pages s.ops refl in
+    let b : length (begun_of s units blocks).bytes ≡ 4096 * pages_from s.mode.dix s.pages s.ops = length-replicate (4096 * pages_from s.mode.dix s.pages s.ops) 0 in
+    omega (arith, a, b)
 
 pub has-cells : (s : Script) (units : List UnitSpec) (blocks : List (List ℕ)) → fates s.ops ≤ length (begun_of s units blocks).fates
-has-cells s units blocks = let a = length-replicate (fates s.ops) (None : Option Why) in omega arith
+has-cells s units blocks = let a : length (begun_of s units blocks).fates ≡ fates s.ops = length-replicate (fates s.ops) None in omega arith
 
 -- a device as a unit, and back
 pub own-infos : (devices : List DeviceInfo) → map info_of (map unit_of devices) ≡ devices

@@ -1,4 +1,4 @@
-use Rattle.std.proofs.Common.{ap, drop, map, refl, subst, sym, ◌∙◌, take}
+use Rattle.std.proofs.Common.{◌*◌, ap, drop, map, refl, subst, sym, ◌∙◌, take}
 use Rattle.page_pool.specs.Cells.{flat}
 use Rattle.dix_adapter.specs.Ways.{blocks_told, shapes_of}
 use Rattle.block_path.specs.Moves.{hidden}

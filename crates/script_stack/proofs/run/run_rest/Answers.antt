@@ -1,6 +1,7 @@
 use Rattle.std.proofs.Common.{◌≡◌, true, false, ap, sym, ◌∙◌, arith}
 use Rattle.stack_view.specs.Runs.{most_steps}
 use Rattle.stack_core.specs.Stacks.{plan_in}
+use Rattle.script_stack.proofs.Going.{goes_then, stays_then, went_on}
 use Rattle.script_stack.proofs.Steps.{has-step, one-more}
 use Rattle.script_stack.proofs.run.run_rest.Goals as goal
 
@@ -13,3 +14,15 @@ loop-stack-smaller g c =
     let b = k.most in
     let e = ap (λ z. most_steps (plan_in z)) c.step.ensures.stays.sheet in
     omega arith
+
+pub loop-stack-preserved : goal.loop-stack-preserved
+loop-stack-preserved g c = record {
+    is = c.step.ensures.stack;
+    stays = stays_then _ _ _ c.loop-stack.invariant.stays c.step.ensures.stays;
+    tells = c.step.ensures.tells ∙ c.loop-stack.invariant.tells;
+    reaches = c.step.ensures.rig;
+    spare = c.step.ensures.spare;
+    went = went_on _ _ _ _ _ _ c.loop-stack.invariant.went (record { walks = c.step.ensures.walks; told = c.step.ensures.told; silent = c.step.ensures.silent; faults = c.step.ensures.goes.faults });
+    goes = goes_then _ _ _ _ _ _ _ _ _ c.loop-stack.invariant.goes c.step.ensures.goes;
+    armed = c.step.ensures.armed ∙ c.loop-stack.invariant.armed;
+}

@@ -4,7 +4,7 @@ use Rattle.stack_core.specs.Walking.{EndsTold}
 use Rattle.stack_core.proofs.WalkEnds.{ends_told}
 use Rattle.stack_core.proofs.laws.a_finished_stack_has_done_the_walk.Goals as goal
 
-told_or : Option (List Stored) → List Stored
+abbrev told_or : Option (List Stored) → List Stored
 told_or (Some us) = us
 told_or None = []
 
