@@ -2,7 +2,6 @@
 
 mod capacities;
 mod files;
-mod nvme;
 mod rows;
 mod scrubs;
 

@@ -1,6 +1,5 @@
-//! Rows of scripts and of commands on images, each over what the row before left.
+//! Rows of scripts, of NVM commands and of commands on images, each over what the row before left.
 
-use super::nvme::COMMANDS;
 use super::{Faults, Left, NO_FAULTS, left_by, made, put, words_of};
 use crate::run;
 use dix_base::{MemSink, MemSource, MemStore};
@@ -8,493 +7,163 @@ use image_rig::ImageRig;
 use std::alloc::Global;
 use std::test::Fail;
 
-/// What is at fault outside of a call.
-#[derive(Clone, Copy)]
-pub(super) enum Outside {
-    Nothing,
-    /// The call of the source of this number fails.
-    Source(u64),
-    /// That of the store.
-    Store(u64),
-    /// That of the sink.
-    Sink(u64),
-    /// The sink has room for so many bytes.
-    Room(u32),
-    /// Before the call a byte of the image becomes another.
-    Byte(usize, u8),
-    /// Before the call the image ends behind so many bytes.
-    Cut(usize),
-}
-
-use Outside::{Byte, Cut, Nothing, Room, Sink, Source, Store};
-
-/// The words between bars, the source, what is at fault, the status and the text.
+/// The words between bars, the source, what is at fault outside, the status and the text; `-` for nothing
+/// and `%` for the end of a line.
 ///
 /// A source that begins with `^` has the first lines of a script in its place. In a line of ten words
-/// these are the bytes of an NVM command that aren't always 0.
-pub(super) type Row = (&'static str, &'static str, Outside, u8, &'static str);
+/// these are the bytes of an NVM command that aren't always 0. The call of a source, store or sink of a
+/// number fails, a sink has room for so many bytes; before the call a byte of the image becomes another, or
+/// the image ends behind so many.
+const ROWS: &str = "\
+format|a|1:256|1:256 ; - ; - ; 0 ; formatted 2%
+# No op; a block with its tag there and back; two writes in pieces that a schedule chooses.
+run|a ; ^linear 0 64 dev 0 at 100%begin% ; - ; 0 ; dix report 1%
+run|a ; ^linear 0 64 dev 0 at 100%begin%write 0 1 0:0:512 app 1234%readpi 0 1 1:0:512 1:512:8%show 1:512:8% ; - ; 0 ; dix report 1%op 1 whole%op 2 whole%op 3 0000123400000000%
+trace|a ; ^linear 0 64 dev 0 at 100%schedule 0 1/1 2%begin%write 0 2 0:0:1024%write 2 2 0:1024:1024% ; - ; 0 ; dix report 1%op 1 whole%op 2 whole%x 0 9e100000000000000000000000200000 0 -%x 1 9e100000000000000000000000200000 0 -%x 0 2a200000006400000100 1 -%x 0 2a200000006500000300 3 -%
+# A flip on the wire; a block that another overwrote; an overwrite that fails; a write that fails.
+trace|a ; ^linear 0 64 dev 0 at 100%fault 1 3 wire flip 0 01%begin%write 0 4 0:0:2048%write 4 4 0:2048:2048% ; - ; 1 ; dix report 1%op 1 bad 1%bad 1 3 target guard%op 2 whole%x 0 9e100000000000000000000000200000 0 -%x 1 9e100000000000000000000000200000 0 -%x 0 2a200000006400000800 3 f0000b000000670a00000000100100000000%x 0 2a200000006800000400 4 -%
+run|a ; ^linear 0 64 dev 0 at 100%begin%overwrite 0 100 from 0 101%read 0 1 0:0:512% ; - ; 1 ; dix report 1%op 2 bad 1%bad 2 0 target ref%
+run|a ; ^linear 0 64 dev 0 at 100%begin%overwrite 0 100 flip 0 01% ; store 2 ; 1 ; dix report 1%op 1 medium%
+run|a ; ^linear 0 64 dev 0 at 100%begin%put 0:0 01%write 0 1 0:0:512%read 0 1 1:0:512%write 0 1 0:0:512%read 0 1 1:0:512% ; store 2 ; 1 ; dix report 1%op 2 bad 1%bad 2 0 medium%op 3 bad 1%bad 3 0 target guard%op 4 whole%op 5 whole%
+# The script is at fault, its volume, or the script over it; each comes before what stands behind it.
+run|a ; - ; - ; 3 ; script 1 14 NoHeader%
+run|a ; x% ; store 1 ; 3 ; script 1 14 NoHeader%
+trace|a ; ^linear 0 64 dev 0 at 100%begin%read 63 2 0:0:1024% ; - ; 3 ; script 7 11 BadRange%
+run|a ; ^linear 0 8 dev 0 at 0%linear 8 8 dev 0 at 4%begin%read 16 1 0:0:512% ; - ; 4 ; volume 2 4 Overlap%
+trace|a ; ^linear 0 8 dev 2 at 0%begin% ; - ; 4 ; volume 1 2 UnknownDevice%
+# Each call outside fails in turn. What a run did stands also where the sink fails.
+run|a ; ^linear 0 64 dev 0 at 100%begin% ; source 1 ; 7 ; read fault%
+trace|a ; ^linear 0 64 dev 0 at 100%begin% ; source 2 ; 7 ; read fault%
+run|a ; ^linear 0 64 dev 0 at 100%begin% ; source 3 ; 0 ; dix report 1%
+run|a ; ^linear 0 64 dev 0 at 100%begin% ; store 1 ; 5 ; rig fault%
+run|a ; ^linear 0 64 dev 0 at 100%begin%fill 0:0:512 07%write 9 1 0:0:512% ; sink 1 ; 8 ; -
+run|a ; ^linear 0 64 dev 0 at 100%begin%read 9 1 0:0:512%show 0:510:2% ; - ; 0 ; dix report 1%op 1 whole%op 2 0707%
+run|a ; ^linear 0 64 dev 0 at 100%begin%fill 0:0:512 08%write 9 1 0:0:512% ; room 5 ; 8 ; dix r
+trace|a ; ^linear 0 64 dev 0 at 100%begin%read 9 1 0:0:512%show 0:510:2% ; room 41 ; 8 ; dix report 1%op 1 whole%op 2 0808%x 0 9e1
+run|a ; - ; room 6 ; 8 ; script
+# The head of the image is at fault, and then as it was.
+run|a ; ^linear 0 64 dev 0 at 100%begin% ; byte 7 51 ; 4 ; image BadMagic%
+trace|a ; ^linear 0 64 dev 0 at 100%begin% ; byte 7 49 ; 0 ; dix report 1%x 0 9e100000000000000000000000200000 0 -%x 1 9e100000000000000000000000200000 0 -%
+run|a ; ^linear 0 64 dev 0 at 100%begin% ; byte 9 9 ; 4 ; image BadHeader%
+trace|a ; ^linear 0 64 dev 0 at 100%begin% ; byte 9 2 ; 0 ; dix report 1%x 0 9e100000000000000000000000200000 0 -%x 1 9e100000000000000000000000200000 0 -%
+run|a ; ^linear 0 64 dev 0 at 100%begin% ; byte 511 1 ; 4 ; image BadHeader%
+trace|a ; ^linear 0 64 dev 0 at 100%begin% ; byte 511 0 ; 0 ; dix report 1%x 0 9e100000000000000000000000200000 0 -%x 1 9e100000000000000000000000200000 0 -%
+# It ends too early.
+run|a ; ^linear 0 64 dev 0 at 100%begin% ; cut 266751 ; 4 ; image BadLength%
+migrate|a ; - ; cut 266751 ; 4 ; image BadLength%
+scrub|a ; - ; cut 266751 ; 4 ; image BadLength%
+nvme|a ; - ; cut 266751 ; 4 ; image BadLength%
+trace|a ; ^linear 0 64 dev 0 at 100%begin% ; cut 511 ; 4 ; image BadLength%
+run|a ; ^linear 0 64 dev 0 at 100%begin% ; cut 7 ; 4 ; image BadMagic%
+# Images are made, looked at, damaged and migrated.
+format|a|1:256|1:256 ; - ; - ; 0 ; formatted 2%
+scrub|a ; - ; - ; 0 ; dix scrub 1%scrubbed 512 bad 0%
+scrub|a ; - ; byte 52512 1 ; 1 ; dix scrub 1%bad 0 100 target guard%scrubbed 512 bad 1%
+migrate|a ; - ; - ; 0 ; migrated 2%
+migrate|a ; - ; - ; 0 ; migrated 0%
+scrub|a ; - ; byte 266751 1 ; 1 ; dix scrub 1%bad 0 100 target guard%bad 1 255 target ref%scrubbed 512 bad 2%
+trace|a ; ^linear 0 8 dev 1 at 248%begin%read 7 1 0:0:512% ; - ; 1 ; dix report 1%op 1 bad 1%bad 1 0 target ref%x 0 9e100000000000000000000000200000 0 -%x 1 9e100000000000000000000000200000 0 -%x 1 2820000000ff00000100 0 f0000b000000ff0a00000000100300000000%
+format|a|0:1|3:2:4096:7 ; - ; - ; 0 ; formatted 2%
+format|a|1:1|1:1|1:1|1:1|1:1|1:1|1:1|1:1 ; - ; - ; 0 ; formatted 8%
+format|a|1:4 ; - ; sink 1 ; 8 ; -
+scrub|a ; - ; - ; 0 ; dix scrub 1%scrubbed 4 bad 0%
+format|a|1:4 ; - ; room 5 ; 8 ; forma
+migrate|a ; - ; store 1 ; 5 ; rig fault%
+migrate|a ; - ; sink 1 ; 8 ; -
+migrate|a ; - ; - ; 0 ; migrated 0%
+format|a|1:4 ; - ; store 1 ; 5 ; rig fault%
+format|a|1:4 ; - ; - ; 0 ; formatted 1%
+migrate|a ; - ; store 2 ; 5 ; rig fault%
+# Each block of a scrub that cannot be read is named; the first call reads the header.
+format|a|1:3|0:3 ; - ; - ; 0 ; formatted 2%
+scrub|a ; - ; store 1 ; 5 ; rig fault%
+scrub|a ; - ; store 2 ; 1 ; dix scrub 1%bad 0 0 medium%scrubbed 6 bad 1%
+scrub|a ; - ; store 3 ; 1 ; dix scrub 1%bad 0 1 medium%scrubbed 6 bad 1%
+scrub|a ; - ; store 4 ; 1 ; dix scrub 1%bad 0 2 medium%scrubbed 6 bad 1%
+scrub|a ; - ; store 5 ; 1 ; dix scrub 1%bad 1 0 medium%scrubbed 6 bad 1%
+scrub|a ; - ; store 6 ; 1 ; dix scrub 1%bad 1 1 medium%scrubbed 6 bad 1%
+scrub|a ; - ; store 7 ; 1 ; dix scrub 1%bad 1 2 medium%scrubbed 6 bad 1%
+scrub|a ; - ; store 8 ; 0 ; dix scrub 1%scrubbed 6 bad 0%
+format|a|2:3|3:3:4096:5 ; - ; - ; 0 ; formatted 2%
+scrub|a ; - ; store 1 ; 5 ; rig fault%
+scrub|a ; - ; store 2 ; 1 ; dix scrub 1%bad 0 0 medium%scrubbed 6 bad 1%
+scrub|a ; - ; store 3 ; 1 ; dix scrub 1%bad 0 1 medium%scrubbed 6 bad 1%
+scrub|a ; - ; store 4 ; 1 ; dix scrub 1%bad 0 2 medium%scrubbed 6 bad 1%
+scrub|a ; - ; store 5 ; 1 ; dix scrub 1%bad 1 5 medium%scrubbed 6 bad 1%
+scrub|a ; - ; store 6 ; 1 ; dix scrub 1%bad 1 6 medium%scrubbed 6 bad 1%
+scrub|a ; - ; store 7 ; 1 ; dix scrub 1%bad 1 7 medium%scrubbed 6 bad 1%
+scrub|a ; - ; store 8 ; 0 ; dix scrub 1%scrubbed 6 bad 0%
+scrub|a ; - ; room 0 ; 8 ; -
+scrub|a ; - ; room 13 ; 8 ; dix scrub 1%s
+# Two blocks of 4,096 bytes whose addresses have FFFFFFFFh and 0 as their low 32 bits.
+format|a|1:2:4096:4294967295 ; - ; - ; 0 ; formatted 1%
+scrub|a ; - ; byte 512 1 ; 1 ; dix scrub 1%bad 0 4294967295 target guard%scrubbed 2 bad 1%
+format|a|1:2:4096:4294967295 ; - ; - ; 0 ; formatted 1%
+scrub|a ; - ; byte 4612 1 ; 1 ; dix scrub 1%bad 0 4294967295 target ref%scrubbed 2 bad 1%
+format|a|1:2:4096:4294967295 ; - ; - ; 0 ; formatted 1%
+scrub|a ; - ; byte 4616 1 ; 1 ; dix scrub 1%bad 0 4294967296 target guard%scrubbed 2 bad 1%
+format|a|1:2:4096:4294967295 ; - ; - ; 0 ; formatted 1%
+scrub|a ; - ; byte 8719 1 ; 1 ; dix scrub 1%bad 0 4294967296 target ref%scrubbed 2 bad 1%
+run|a ; dix 2%mode crc on on 1%limits 64 16 16%pages 2%block 4096%linear 0 2 dev 0 at 4294967295%begin%read 0 2 0:0:4096,1:0:4096%write 1 1 0:0:4096%read 1 1 0:0:4096% ; - ; 1 ; dix report 1%op 1 bad 1%bad 1 1 target ref%op 2 whole%op 3 whole%
+modes|1 ; - ; sink 1 ; 8 ; -
+modes|1 ; - ; room 5 ; 8 ; off o
+# NVM commands on an image.
+format|a|1:64 ; - ; - ; 0 ; formatted 1%
+# A write with PRACT, and a read of what it stored with its tuple.
+nvme|a ; 01 00 01000000 0000000000000000 00000034 00000000 3412 0000 00 -% ; - ; 0 ; 00 00%
+nvme|a ; 02 00 01000000 0000000000000000 00000014 00000000 0000 0000 00 -% ; - ; 0 ; 00 00 0000 0000123400000000%
+# Another initial tag, a block behind the last, another opcode, another namespace.
+nvme|a ; 02 00 01000000 0000000000000000 00000014 01000000 0000 0000 00 -% ; - ; 1 ; 01 81%
+nvme|a ; 02 00 01000000 4000000000000000 00000014 40000000 0000 0000 00 -% ; - ; 1 ; 00 80%
+nvme|a ; 03 00 01000000 0000000000000000 00000014 00000000 0000 0000 00 -% ; - ; 1 ; 00 01%
+nvme|a ; 02 00 02000000 0000000000000000 00000014 00000000 0000 0000 00 -% ; - ; 1 ; 00 0b%
+# A read without metadata, behind a comment and an empty line; digits of both cases.
+nvme|a ; # a read%%02 00 01000000 0000000000000000 00000034 00000000 0000 0000 aF -% ; - ; 0 ; 00 00 0000 -%
+# A write of two blocks whose second tuple has a wrong guard stores the first alone, and the later
+# commands are done all the same. The guard of zeros is 0.
+nvme|a ; 01 00 01000000 0400000000000000 01000014 04000000 0000 0000 00 00000000000000040001000000000005%02 00 01000000 0400000000000000 00000014 04000000 0000 0000 00 -%02 00 01000000 0500000000000000 00000010 00000000 0000 0000 00 -% ; - ; 1 ; 02 82%00 00 0000 0000000000000004%00 00 0000 0000000000000005%
+# Where nothing is checked a wrong tag is stored, and found by a read that checks.
+nvme|a ; 01 00 01000000 0600000000000000 00000000 00000000 0000 0000 00 0000000000000009%02 00 01000000 0600000000000000 00000014 06000000 0000 0000 00 -%02 00 01000000 0600000000000000 00000000 00000000 0000 0000 00 -% ; - ; 1 ; 00 00%02 84%00 00 0000 0000000000000009%
+# Metadata that don't fit: too few, too many, under PRACT, of a read. Nothing is done.
+nvme|a ; 01 00 01000000 0100000000000000 00000034 01000000 ffff 0000 00 -%01 00 01000000 0000000000000000 00000014 00000000 0000 0000 00 -% ; - ; 3 ; script 2 11 BadRange%
+nvme|a ; 01 00 01000000 0000000000000000 00000014 00000000 0000 0000 00 000000000000000000% ; - ; 3 ; script 1 11 BadRange%
+nvme|a ; %01 00 01000000 0000000000000000 00000034 00000000 0000 0000 00 0000000000000000% ; - ; 3 ; script 2 11 BadRange%
+nvme|a ; 02 00 01000000 0100000000000000 00000014 01000000 0000 0000 00 0000000000000001% ; - ; 3 ; script 1 11 BadRange%
+# A fault of form in a later line comes first; one of metadata isn't asked of what is refused.
+nvme|a ; 01 00 01000000 0000000000000000 00000014 00000000 0000 0000 00 -%x% ; - ; 3 ; script 2 4 BadNumber%
+nvme|a ; 03 00 01000000 0000000000000000 00000014 00000000 0000 0000 00 00% ; - ; 1 ; 00 01%
+nvme|a ; 02 00 01000000 0100000000000000 00000014 01000000 0000 0000 00 -% ; - ; 0 ; 00 00 0000 0000000000000001%
+# Each call of the store fails: the header, the read, the write.
+nvme|a ; 02 00 01000000 0100000000000000 00000014 01000000 0000 0000 00 -% ; store 1 ; 5 ; rig fault%
+nvme|a ; 02 00 01000000 0100000000000000 00000014 01000000 0000 0000 00 -%02 00 01000000 0100000000000000 00000014 01000000 0000 0000 00 -% ; store 2 ; 1 ; 02 81%00 00 0000 0000000000000001%
+nvme|a ; 01 00 01000000 0700000000000000 00000034 07000000 0000 0000 00 -% ; store 2 ; 1 ; 02 80%
+# No line is no command.
+nvme|a ; - ; - ; 0 ; -
+nvme|a ; # nothing ; - ; 0 ; -
+# Blocks of 4,096 bytes of a unit of type 2 with tags of the command's own, and of type 0.
+format|a|2:4:4096:16|0:2 ; - ; - ; 0 ; formatted 2%
+nvme|a ; 01 00 01000000 1000000000000000 01000034 ffffffff 3412 0000 00 -%02 00 01000000 1000000000000000 0100001c ffffffff 3412 ffff 00 -%02 00 01000000 1000000000000000 0100001c ffffffff 3512 ffff 00 -%01 00 02000000 0000000000000000 00000034 00000000 0000 0000 55 -%02 00 02000000 0000000000000000 0000003c 00000000 0000 0000 00 -% ; - ; 1 ; 00 00%00 00 0000 00001234ffffffff0000123400000000%02 83%00 00%00 00 5d9f -%
+nvme|a ; - ; source 1 ; 7 ; read fault%
+nvme|a ; # ; room 0 ; 0 ; -
+nvme|a ; x% ; - ; 3 ; script 1 4 BadNumber%
+nvme|a ; x% ; room 8 ; 8 ; script 1
+modes|0 ; x ; - ; 0 ; off off - none none none none none none%off on 1 none none none none none none%off on 3 none none none none none none%off on 4 none none none none none none%on off - adapter none none none none owner%on on 1 adapter none none none none owner%on on 3 adapter none none none none owner%on on 4 adapter none none none none owner%
+modes|1 ; x ; store 1 ; 0 ; off off - none none target target none none%off on 1 none target target target adapter none%off on 3 none adapter adapter adapter adapter none%off on 4 none target target target adapter none%on off - adapter none target target none owner%on on 1 adapter target target target adapter owner%on on 3 adapter adapter adapter adapter adapter owner%on on 4 adapter target target target adapter owner%
+modes|2 ; - ; - ; 0 ; off off - none none target target none none%off on 1 none target target target adapter none%off on 3 none adapter adapter adapter adapter none%off on 4 none target target target adapter none%on off - adapter none target target none owner%on on 1 adapter target target target adapter owner%on on 3 adapter adapter adapter adapter adapter owner%on on 4 adapter target target target adapter owner%
+modes|3 ; - ; - ; 0 ; off off - none none target target none none%off on 1 none target target target adapter none%off on 3 none adapter adapter adapter adapter none%off on 4 none target target target adapter none%on off - adapter none target target none owner%on on 1 adapter target target target adapter owner%on on 3 adapter adapter adapter adapter adapter owner%on on 4 adapter target target target adapter owner%
+";
+
+/// What another program says of scripts from numbers. Neither source nor image is touched.
+const MADE: &str = "\
+big|1|1 ; x ; - ; 0 ; big 1 1%ops 0 0 1 0%blocks 0 0%bad 0%exchanges 0%sum 3a0b%
+big|8|3 ; - ; source 1 ; 0 ; big 8 3%ops 0 1 4 3%blocks 0 6%bad 0%exchanges 2%sum 4566%
+big|1024|7 ; - ; - ; 0 ; big 1024 7%ops 267 248 272 237%blocks 1160 1088%bad 0%exchanges 999%sum bad7%
+big|1024|7 ; - ; - ; 0 ; big 1024 7%ops 267 248 272 237%blocks 1160 1088%bad 0%exchanges 999%sum bad7%
+big|1|1 ; - ; sink 1 ; 8 ; -
+big|1|1 ; - ; room 5 ; 8 ; big 1
+";
 
 const HEAD: &str = "dix 1\nmode crc on on 1\nlimits 64 16 16\npages 2\n";
-
-/// One after another on one image.
-const ROWS: &[Row] = &[
-    ("format|a|1:256|1:256", "", Nothing, 0, "formatted 2\n"),
-    // No op; a block with its tag there and back; two writes in pieces that a schedule chooses.
-    (
-        "run|a",
-        "^linear 0 64 dev 0 at 100\nbegin\n",
-        Nothing,
-        0,
-        "dix report 1\n",
-    ),
-    (
-        "run|a",
-        "^linear 0 64 dev 0 at 100\nbegin\nwrite 0 1 0:0:512 app 1234\nreadpi 0 1 1:0:512 1:512:8\nshow 1:512:8\n",
-        Nothing,
-        0,
-        "dix report 1\nop 1 whole\nop 2 whole\nop 3 0000123400000000\n",
-    ),
-    (
-        "trace|a",
-        "^linear 0 64 dev 0 at 100\nschedule 0 1/1 2\nbegin\nwrite 0 2 0:0:1024\nwrite 2 2 0:1024:1024\n",
-        Nothing,
-        0,
-        "dix report 1\nop 1 whole\nop 2 whole\nx 0 9e100000000000000000000000200000 0 -\nx 1 9e100000000000000000000000200000 0 -\nx 0 2a200000006400000100 1 -\nx 0 2a200000006500000300 3 -\n",
-    ),
-    // A flip on the wire; a block that another overwrote; an overwrite that fails; a write that fails.
-    (
-        "trace|a",
-        "^linear 0 64 dev 0 at 100\nfault 1 3 wire flip 0 01\nbegin\nwrite 0 4 0:0:2048\nwrite 4 4 0:2048:2048\n",
-        Nothing,
-        1,
-        "dix report 1\nop 1 bad 1\nbad 1 3 target guard\nop 2 whole\nx 0 9e100000000000000000000000200000 0 -\nx 1 9e100000000000000000000000200000 0 -\nx 0 2a200000006400000800 3 f0000b000000670a00000000100100000000\nx 0 2a200000006800000400 4 -\n",
-    ),
-    (
-        "run|a",
-        "^linear 0 64 dev 0 at 100\nbegin\noverwrite 0 100 from 0 101\nread 0 1 0:0:512\n",
-        Nothing,
-        1,
-        "dix report 1\nop 2 bad 1\nbad 2 0 target ref\n",
-    ),
-    (
-        "run|a",
-        "^linear 0 64 dev 0 at 100\nbegin\noverwrite 0 100 flip 0 01\n",
-        Store(2),
-        1,
-        "dix report 1\nop 1 medium\n",
-    ),
-    (
-        "run|a",
-        "^linear 0 64 dev 0 at 100\nbegin\nput 0:0 01\nwrite 0 1 0:0:512\nread 0 1 1:0:512\nwrite 0 1 0:0:512\nread 0 1 1:0:512\n",
-        Store(2),
-        1,
-        "dix report 1\nop 2 bad 1\nbad 2 0 medium\nop 3 bad 1\nbad 3 0 target guard\nop 4 whole\nop 5 whole\n",
-    ),
-    // The script is at fault, its volume, or the script over it; each comes before what stands behind it.
-    ("run|a", "", Nothing, 3, "script 1 14 NoHeader\n"),
-    ("run|a", "x\n", Store(1), 3, "script 1 14 NoHeader\n"),
-    (
-        "trace|a",
-        "^linear 0 64 dev 0 at 100\nbegin\nread 63 2 0:0:1024\n",
-        Nothing,
-        3,
-        "script 7 11 BadRange\n",
-    ),
-    (
-        "run|a",
-        "^linear 0 8 dev 0 at 0\nlinear 8 8 dev 0 at 4\nbegin\nread 16 1 0:0:512\n",
-        Nothing,
-        4,
-        "volume 2 4 Overlap\n",
-    ),
-    (
-        "trace|a",
-        "^linear 0 8 dev 2 at 0\nbegin\n",
-        Nothing,
-        4,
-        "volume 1 2 UnknownDevice\n",
-    ),
-    // Each call outside fails in turn. What a run did stands also where the sink fails.
-    (
-        "run|a",
-        "^linear 0 64 dev 0 at 100\nbegin\n",
-        Source(1),
-        7,
-        "read fault\n",
-    ),
-    (
-        "trace|a",
-        "^linear 0 64 dev 0 at 100\nbegin\n",
-        Source(2),
-        7,
-        "read fault\n",
-    ),
-    (
-        "run|a",
-        "^linear 0 64 dev 0 at 100\nbegin\n",
-        Source(3),
-        0,
-        "dix report 1\n",
-    ),
-    (
-        "run|a",
-        "^linear 0 64 dev 0 at 100\nbegin\n",
-        Store(1),
-        5,
-        "rig fault\n",
-    ),
-    (
-        "run|a",
-        "^linear 0 64 dev 0 at 100\nbegin\nfill 0:0:512 07\nwrite 9 1 0:0:512\n",
-        Sink(1),
-        8,
-        "",
-    ),
-    (
-        "run|a",
-        "^linear 0 64 dev 0 at 100\nbegin\nread 9 1 0:0:512\nshow 0:510:2\n",
-        Nothing,
-        0,
-        "dix report 1\nop 1 whole\nop 2 0707\n",
-    ),
-    (
-        "run|a",
-        "^linear 0 64 dev 0 at 100\nbegin\nfill 0:0:512 08\nwrite 9 1 0:0:512\n",
-        Room(5),
-        8,
-        "dix r",
-    ),
-    (
-        "trace|a",
-        "^linear 0 64 dev 0 at 100\nbegin\nread 9 1 0:0:512\nshow 0:510:2\n",
-        Room(41),
-        8,
-        "dix report 1\nop 1 whole\nop 2 0808\nx 0 9e1",
-    ),
-    ("run|a", "", Room(7), 8, "script "),
-    // The head of the image is at fault, and then as it was.
-    (
-        "run|a",
-        "^linear 0 64 dev 0 at 100\nbegin\n",
-        Byte(7, 51),
-        4,
-        "image BadMagic\n",
-    ),
-    (
-        "trace|a",
-        "^linear 0 64 dev 0 at 100\nbegin\n",
-        Byte(7, 49),
-        0,
-        "dix report 1\nx 0 9e100000000000000000000000200000 0 -\nx 1 9e100000000000000000000000200000 0 -\n",
-    ),
-    (
-        "run|a",
-        "^linear 0 64 dev 0 at 100\nbegin\n",
-        Byte(9, 9),
-        4,
-        "image BadHeader\n",
-    ),
-    (
-        "trace|a",
-        "^linear 0 64 dev 0 at 100\nbegin\n",
-        Byte(9, 2),
-        0,
-        "dix report 1\nx 0 9e100000000000000000000000200000 0 -\nx 1 9e100000000000000000000000200000 0 -\n",
-    ),
-    (
-        "run|a",
-        "^linear 0 64 dev 0 at 100\nbegin\n",
-        Byte(511, 1),
-        4,
-        "image BadHeader\n",
-    ),
-    (
-        "trace|a",
-        "^linear 0 64 dev 0 at 100\nbegin\n",
-        Byte(511, 0),
-        0,
-        "dix report 1\nx 0 9e100000000000000000000000200000 0 -\nx 1 9e100000000000000000000000200000 0 -\n",
-    ),
-    // It ends too early.
-    (
-        "run|a",
-        "^linear 0 64 dev 0 at 100\nbegin\n",
-        Cut(266_751),
-        4,
-        "image BadLength\n",
-    ),
-    ("migrate|a", "", Cut(266_751), 4, "image BadLength\n"),
-    ("scrub|a", "", Cut(266_751), 4, "image BadLength\n"),
-    ("nvme|a", "", Cut(266_751), 4, "image BadLength\n"),
-    (
-        "trace|a",
-        "^linear 0 64 dev 0 at 100\nbegin\n",
-        Cut(511),
-        4,
-        "image BadLength\n",
-    ),
-    (
-        "run|a",
-        "^linear 0 64 dev 0 at 100\nbegin\n",
-        Cut(7),
-        4,
-        "image BadMagic\n",
-    ),
-    // Images are made, looked at, damaged and migrated.
-    ("format|a|1:256|1:256", "", Nothing, 0, "formatted 2\n"),
-    (
-        "scrub|a",
-        "",
-        Nothing,
-        0,
-        "dix scrub 1\nscrubbed 512 bad 0\n",
-    ),
-    (
-        "scrub|a",
-        "",
-        Byte(52_512, 1),
-        1,
-        "dix scrub 1\nbad 0 100 target guard\nscrubbed 512 bad 1\n",
-    ),
-    ("migrate|a", "", Nothing, 0, "migrated 2\n"),
-    ("migrate|a", "", Nothing, 0, "migrated 0\n"),
-    (
-        "scrub|a",
-        "",
-        Byte(266_751, 1),
-        1,
-        "dix scrub 1\nbad 0 100 target guard\nbad 1 255 target ref\nscrubbed 512 bad 2\n",
-    ),
-    (
-        "trace|a",
-        "^linear 0 8 dev 1 at 248\nbegin\nread 7 1 0:0:512\n",
-        Nothing,
-        1,
-        "dix report 1\nop 1 bad 1\nbad 1 0 target ref\nx 0 9e100000000000000000000000200000 0 -\nx 1 9e100000000000000000000000200000 0 -\nx 1 2820000000ff00000100 0 f0000b000000ff0a00000000100300000000\n",
-    ),
-    ("format|a|0:1|3:2:4096:7", "", Nothing, 0, "formatted 2\n"),
-    (
-        "format|a|1:1|1:1|1:1|1:1|1:1|1:1|1:1|1:1",
-        "",
-        Nothing,
-        0,
-        "formatted 8\n",
-    ),
-    ("format|a|1:4", "", Sink(1), 8, ""),
-    ("scrub|a", "", Nothing, 0, "dix scrub 1\nscrubbed 4 bad 0\n"),
-    ("format|a|1:4", "", Room(5), 8, "forma"),
-    ("migrate|a", "", Store(1), 5, "rig fault\n"),
-    ("migrate|a", "", Sink(1), 8, ""),
-    ("migrate|a", "", Nothing, 0, "migrated 0\n"),
-    ("format|a|1:4", "", Store(1), 5, "rig fault\n"),
-    ("format|a|1:4", "", Nothing, 0, "formatted 1\n"),
-    ("migrate|a", "", Store(2), 5, "rig fault\n"),
-    // Each block of a scrub that cannot be read is named; the first call reads the header.
-    ("format|a|1:3|0:3", "", Nothing, 0, "formatted 2\n"),
-    ("scrub|a", "", Store(1), 5, "rig fault\n"),
-    (
-        "scrub|a",
-        "",
-        Store(2),
-        1,
-        "dix scrub 1\nbad 0 0 medium\nscrubbed 6 bad 1\n",
-    ),
-    (
-        "scrub|a",
-        "",
-        Store(3),
-        1,
-        "dix scrub 1\nbad 0 1 medium\nscrubbed 6 bad 1\n",
-    ),
-    (
-        "scrub|a",
-        "",
-        Store(4),
-        1,
-        "dix scrub 1\nbad 0 2 medium\nscrubbed 6 bad 1\n",
-    ),
-    (
-        "scrub|a",
-        "",
-        Store(5),
-        1,
-        "dix scrub 1\nbad 1 0 medium\nscrubbed 6 bad 1\n",
-    ),
-    (
-        "scrub|a",
-        "",
-        Store(6),
-        1,
-        "dix scrub 1\nbad 1 1 medium\nscrubbed 6 bad 1\n",
-    ),
-    (
-        "scrub|a",
-        "",
-        Store(7),
-        1,
-        "dix scrub 1\nbad 1 2 medium\nscrubbed 6 bad 1\n",
-    ),
-    (
-        "scrub|a",
-        "",
-        Store(8),
-        0,
-        "dix scrub 1\nscrubbed 6 bad 0\n",
-    ),
-    ("format|a|2:3|3:3:4096:5", "", Nothing, 0, "formatted 2\n"),
-    ("scrub|a", "", Store(1), 5, "rig fault\n"),
-    (
-        "scrub|a",
-        "",
-        Store(2),
-        1,
-        "dix scrub 1\nbad 0 0 medium\nscrubbed 6 bad 1\n",
-    ),
-    (
-        "scrub|a",
-        "",
-        Store(3),
-        1,
-        "dix scrub 1\nbad 0 1 medium\nscrubbed 6 bad 1\n",
-    ),
-    (
-        "scrub|a",
-        "",
-        Store(4),
-        1,
-        "dix scrub 1\nbad 0 2 medium\nscrubbed 6 bad 1\n",
-    ),
-    (
-        "scrub|a",
-        "",
-        Store(5),
-        1,
-        "dix scrub 1\nbad 1 5 medium\nscrubbed 6 bad 1\n",
-    ),
-    (
-        "scrub|a",
-        "",
-        Store(6),
-        1,
-        "dix scrub 1\nbad 1 6 medium\nscrubbed 6 bad 1\n",
-    ),
-    (
-        "scrub|a",
-        "",
-        Store(7),
-        1,
-        "dix scrub 1\nbad 1 7 medium\nscrubbed 6 bad 1\n",
-    ),
-    (
-        "scrub|a",
-        "",
-        Store(8),
-        0,
-        "dix scrub 1\nscrubbed 6 bad 0\n",
-    ),
-    ("scrub|a", "", Room(0), 8, ""),
-    ("scrub|a", "", Room(13), 8, "dix scrub 1\ns"),
-    // Two blocks of 4,096 bytes whose addresses have FFFFFFFFh and 0 as their low 32 bits.
-    (
-        "format|a|1:2:4096:4294967295",
-        "",
-        Nothing,
-        0,
-        "formatted 1\n",
-    ),
-    (
-        "scrub|a",
-        "",
-        Byte(512, 1),
-        1,
-        "dix scrub 1\nbad 0 4294967295 target guard\nscrubbed 2 bad 1\n",
-    ),
-    (
-        "format|a|1:2:4096:4294967295",
-        "",
-        Nothing,
-        0,
-        "formatted 1\n",
-    ),
-    (
-        "scrub|a",
-        "",
-        Byte(4612, 1),
-        1,
-        "dix scrub 1\nbad 0 4294967295 target ref\nscrubbed 2 bad 1\n",
-    ),
-    (
-        "format|a|1:2:4096:4294967295",
-        "",
-        Nothing,
-        0,
-        "formatted 1\n",
-    ),
-    (
-        "scrub|a",
-        "",
-        Byte(4616, 1),
-        1,
-        "dix scrub 1\nbad 0 4294967296 target guard\nscrubbed 2 bad 1\n",
-    ),
-    (
-        "format|a|1:2:4096:4294967295",
-        "",
-        Nothing,
-        0,
-        "formatted 1\n",
-    ),
-    (
-        "scrub|a",
-        "",
-        Byte(8719, 1),
-        1,
-        "dix scrub 1\nbad 0 4294967296 target ref\nscrubbed 2 bad 1\n",
-    ),
-    (
-        "run|a",
-        "dix 2\nmode crc on on 1\nlimits 64 16 16\npages 2\nblock 4096\nlinear 0 2 dev 0 at 4294967295\nbegin\nread 0 2 0:0:4096,1:0:4096\nwrite 1 1 0:0:4096\nread 1 1 0:0:4096\n",
-        Nothing,
-        1,
-        "dix report 1\nop 1 bad 1\nbad 1 1 target ref\nop 2 whole\nop 3 whole\n",
-    ),
-    ("modes|1", "", Sink(1), 8, ""),
-    ("modes|1", "", Room(5), 8, "off o"),
-];
-
-/// What another program says of scripts from numbers; neither source nor image is touched.
-const MADE: &[Row] = &[
-    (
-        "big|1|1",
-        "x",
-        Nothing,
-        0,
-        "big 1 1\nops 0 0 1 0\nblocks 0 0\nbad 0\nexchanges 0\nsum 3a0b\n",
-    ),
-    (
-        "big|8|3",
-        "",
-        Source(1),
-        0,
-        "big 8 3\nops 0 1 4 3\nblocks 0 6\nbad 0\nexchanges 2\nsum 4566\n",
-    ),
-    (
-        "big|1024|7",
-        "",
-        Nothing,
-        0,
-        "big 1024 7\nops 267 248 272 237\nblocks 1160 1088\nbad 0\nexchanges 999\nsum bad7\n",
-    ),
-    (
-        "big|1024|7",
-        "",
-        Nothing,
-        0,
-        "big 1024 7\nops 267 248 272 237\nblocks 1160 1088\nbad 0\nexchanges 999\nsum bad7\n",
-    ),
-    ("big|1|1", "", Sink(1), 8, ""),
-    ("big|1|1", "", Room(5), 8, "big 1"),
-];
 
 /// The digits that stand behind each word of an NVM command, the first eight of which make it.
 const BEHIND: [&str; 8] = [
@@ -507,6 +176,33 @@ const BEHIND: [&str; 8] = [
     "",
     "",
 ];
+
+/// Field `i` of a row; nothing where it is `-`.
+fn field(row: &str, i: usize) -> &str {
+    match row.split(';').nth(i) {
+        Some(field) => {
+            let field = field.trim();
+            if field == "-" { "" } else { field }
+        }
+        None => "",
+    }
+}
+
+fn number(words: &str, i: usize) -> u64 {
+    match words.split(' ').nth(i) {
+        Some(word) => word.parse::<u64>().unwrap_or(0),
+        None => 0,
+    }
+}
+
+/// The bytes of a field.
+fn unfolded(alloc: Global, field: &str) -> Result<Vec<u8>, Fail> {
+    let mut text = Vec::new(alloc);
+    for byte in field.as_bytes() {
+        text.push(if *byte == b'%' { b'\n' } else { *byte })?;
+    }
+    Ok(text)
+}
 
 /// A line with the bytes that are 0.
 fn expand(line: &str, text: &mut Vec<u8>) -> Result<(), Fail> {
@@ -535,7 +231,7 @@ fn source_of(alloc: Global, source: &str) -> Result<Vec<u8>, Fail> {
         }
         None => source,
     };
-    for (i, line) in lines.split('\n').enumerate() {
+    for (i, line) in lines.split('%').enumerate() {
         if i > 0 {
             text.extend_from_slice(b"\n")?;
         }
@@ -545,38 +241,49 @@ fn source_of(alloc: Global, source: &str) -> Result<Vec<u8>, Fail> {
 }
 
 /// What fails in a call, and the image that it is over.
-fn prepare(outside: Outside, image: &mut Vec<u8>) -> Faults {
+fn prepare(outside: &str, image: &mut Vec<u8>) -> Faults {
     let mut faults = NO_FAULTS;
-    match outside {
-        Nothing => {}
-        Source(n) => faults.source = n,
-        Store(n) => faults.store = n,
-        Sink(n) => faults.sink = n,
-        Room(n) => faults.room = n,
-        Byte(at, byte) => put(image, at, &[byte]),
-        Cut(len) => image.truncate(len),
+    let n = number(outside, 1);
+    match outside.split(' ').nth(0).unwrap_or("") {
+        "source" => faults.source = n,
+        "store" => faults.store = n,
+        "sink" => faults.sink = n,
+        "room" => faults.room = n as u32,
+        "byte" => put(image, n as usize, &[number(outside, 2) as u8]),
+        "cut" => image.truncate(n as usize),
+        _ => {}
     }
     faults
 }
 
-fn done_by(alloc: Global, row: &Row, mut image: Vec<u8>) -> Result<Left, Fail> {
-    let (line, source, outside, _, _) = row;
-    let faults = prepare(*outside, &mut image);
-    left_by(alloc, line, &source_of(alloc, source)?, image, faults)
+fn done_by(alloc: Global, row: &str, mut image: Vec<u8>) -> Result<Left, Fail> {
+    let faults = prepare(field(row, 2), &mut image);
+    let source = source_of(alloc, field(row, 1))?;
+    left_by(alloc, field(row, 0), &source, image, faults)
+}
+
+/// How many rows there are; each comes to what it says.
+fn rows_of(rt: HostRuntime, rows: &str) -> Result<u32, Fail> {
+    let mut image = Vec::new(rt.alloc());
+    let mut count = 0u32;
+    for row in rows.split('\n') {
+        if row.is_empty() || row.starts_with('#') {
+            continue;
+        }
+        let done = done_by(rt.alloc(), row, image)?;
+        let text = String::from_utf8(unfolded(rt.alloc(), field(row, 4))?)?;
+        assert_eq!(rt; done.text.as_str(), text.as_str(), "at {row}");
+        assert_eq!(rt; done.status as u64, number(field(row, 3), 0), "at {row}");
+        image = done.image;
+        count = count.saturating_add(1);
+    }
+    Ok(count)
 }
 
 #[test]
 fn each_row_comes_to_what_it_says(rt: HostRuntime) -> Result<(), Fail> {
-    for rows in [ROWS, COMMANDS, MADE] {
-        let mut image = Vec::new(rt.alloc());
-        for row in rows {
-            let (line, source, _, status, text) = row;
-            let done = done_by(rt.alloc(), row, image)?;
-            assert_eq!(rt; done.text.as_str(), *text, "at {line} {source}");
-            assert_eq!(rt; done.status, *status, "at {line} {source}");
-            image = done.image;
-        }
-    }
+    assert_eq!(rt; rows_of(rt, ROWS)?, 115);
+    assert_eq!(rt; rows_of(rt, MADE)?, 6);
     Ok(())
 }
 
@@ -588,11 +295,11 @@ fn a_trace_is_that_of_its_call(rt: HostRuntime) -> Result<(), Fail> {
     let mut rig = ImageRig::new(alloc, MemStore::new(image, Vec::new(alloc)));
     for (ops, text) in [
         (
-            "^linear 0 64 dev 0 at 100\nbegin\nwrite 0 1 0:0:512\n",
+            "^linear 0 64 dev 0 at 100%begin%write 0 1 0:0:512%",
             "dix report 1\nop 1 whole\nx 0 9e100000000000000000000000200000 0 -\nx 0 2a200000006400000100 1 -\n",
         ),
         (
-            "^linear 0 64 dev 0 at 100\nbegin\nread 1 1 0:0:512\n",
+            "^linear 0 64 dev 0 at 100%begin%read 1 1 0:0:512%",
             "dix report 1\nop 1 whole\nx 0 9e100000000000000000000000200000 0 -\nx 0 28200000006500000100 1 -\n",
         ),
     ] {
