@@ -1,32 +1,26 @@
 -- The stack of a script follows the walk of its script before its first step.
-use Rattle.std.proofs.Common.{◌≡◌, ◌<◌, ◌≤◌, ℕ, zero, suc, ◌+◌, ◌*◌, ◌/◌, ◌%◌, Bool, true, false, List, [], ◌∷◌, length, get_or, map, replicate, Option, Some, None, refl, sym, ap, subst, ◌∙◌, arith}
+use Rattle.std.proofs.Common.{◌≡◌, ◌<◌, ◌≤◌, ℕ, zero, suc, ◌+◌, ◌*◌, ◌/◌, ◌%◌, Bool, List, [], ◌∷◌, length, get_or, map, replicate, None, refl, sym, ap, subst, ◌∙◌, arith}
 use Rattle.std.proofs.Math.Nat.{div-add-mod}
 use Rattle.std.proofs.lemmas.List.{ext_get_or, length-replicate}
 use Rattle.page_pool.specs.Cells.{flat}
 use Rattle.page_pool.specs.Pages.{IsBlank}
 use Rattle.page_pool.proofs.Celled.{cell-holds, length-flat}
-use Rattle.pi_tuple.specs.declared.checks.PiType.{PiType}
 use Rattle.bio_core.specs.Bios.{block_size}
-use Rattle.dix_adapter.specs.declared.adapter.Adapter.{Adapter}
 use Rattle.dix_adapter.specs.Groups.{mode_of}
 use Rattle.dix_adapter.specs.Ways.{blocks_told, cell_in, shapes_of, site_of}
 use Rattle.fault_schedule.specs.declared.fault.FaultLine.{FaultLine}
-use Rattle.target_answer.specs.Target.{Stored}
-use Rattle.rig_api.specs.Log.{Entry}
-use Rattle.rig_api.specs.Telling.{Standing, no_spec, spec_at, specs_of}
+use Rattle.rig_api.specs.Telling.{Standing, no_spec}
 use Rattle.stack_walks.specs.Units.{AreAtUnits}
 use Rattle.volume_table.specs.Faults.{device}
 use Rattle.volume_table.specs.Places.{place_in}
 use Rattle.script_ground.proofs.AtUnits.{lies-at-units}
 use Rattle.target_answer.specs.declared.units.UnitSpec.{UnitSpec}
 use Rattle.rig_discovery.specs.Discovery.{info_of}
-use Rattle.bio_core.specs.declared.fate.Why.{Why}
 use Rattle.stack_ops.specs.declared.op.Op.{Op}
 use Rattle.stack_ops.specs.declared.reply.Reply.TheVariants.{Silent}
 use Rattle.stack_ops.specs.declared.op.Op.TheVariants.{Fetch, FetchPi, Fill, Overwrite, Put, Seal, Show, Wait, Write, WritePi}
 use Rattle.volume_table.specs.declared.device.DeviceInfo.{DeviceInfo}
 use Rattle.volume_table.specs.Tables.{MadeFor, Table}
-use Rattle.block_path.specs.Acts.{State}
 use Rattle.block_path.specs.Routes.{host_type, target}
 use Rattle.whole_run.specs.Settings.{Setting}
 use Rattle.run_moves.specs.BoundRun.{fates}
@@ -39,7 +33,6 @@ use Rattle.script_ground.specs.Seals.{IsSealed as IsSealedHere}
 use Rattle.script_ground.specs.Units.{all_blocks}
 use Rattle.script_ground.proofs.Standing.{seals-whole, stands-on-ground}
 use Rattle.script_ground.proofs.Units.{over-units}
-use Rattle.stack_core.specs.declared.sheet.Sheet.{Sheet}
 use Rattle.stack_core.specs.declared.stack.Stack.{Stack}
 use Rattle.stack_core.specs.Requests.{pages_from, requests_from}
 use Rattle.stack_core.specs.Sheets.{io_at, op_in}

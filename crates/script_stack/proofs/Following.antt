@@ -1,12 +1,10 @@
 -- A script that was run over a rig was followed to its end.
-use Rattle.std.proofs.Common.{◌≡◌, ◌<◌, ◌≤◌, ℕ, zero, suc, ◌+◌, Bool, true, false, List, [], ◌∷◌, ◌++◌, length, drop, get_or, map, Option, Some, None, refl, sym, ap, subst, ◌∙◌, arith}
+use Rattle.std.proofs.Common.{◌≡◌, ◌<◌, ℕ, zero, suc, ◌+◌, Bool, true, false, List, [], ◌∷◌, ◌++◌, length, drop, Option, Some, None, refl, sym, ap, subst, ◌∙◌, arith}
 use Rattle.std.specs.Prelude.{if◌then◌else◌, is_some, slice_index, take}
 use Rattle.std.proofs.lemmas.List.{length-map, length-take}
 use Rattle.std.specs.List.{All}
 use Rattle.std.proofs.lemmas.List.Elements.{All-cons, All-nil}
 use Rattle.std.proofs.lemmas.Option.{none-some, same_Some}
-use Rattle.dix_base.specs.Told.{Calm}
-use Rattle.fault_schedule.specs.declared.fault.FaultLine.{FaultLine}
 use Rattle.target_answer.specs.Frames.{stored_size}
 use Rattle.target_answer.specs.Image.{units_in}
 use Rattle.target_answer.specs.Target.{Stored, shape_of}
@@ -16,16 +14,14 @@ use Rattle.rig_api.specs.Head.{units_of}
 use Rattle.rig_api.specs.Log.{Entry}
 use Rattle.rig_api.specs.Telling.{IsStanding, Standing, spec_at, specs_of, unit_at, units_told}
 use Rattle.rig_discovery.specs.Answers.{info_with, is_fault, type_told}
-use Rattle.rig_discovery.specs.Discovery.{Answer, HasFound, all_told, info_of, told, with_info}
+use Rattle.rig_discovery.specs.Discovery.{Answer, HasFound, all_told, told, with_info}
 use Rattle.volume_table.specs.declared.device.DeviceInfo.{DeviceInfo}
 use Rattle.volume_table.specs.Faults.{device}
-use Rattle.volume_table.specs.Tables.{MadeFor, Table}
-use Rattle.dix_adapter.specs.Ways.{blocks_told, shapes_of}
+use Rattle.dix_adapter.specs.Ways.{shapes_of}
 use Rattle.dix_adapter.proofs.Runs.{AllLong}
 use Rattle.dix_adapter.proofs.Units.{unit-stands}
 use Rattle.script_ground.specs.Units.{AreStored}
 use Rattle.script_stack.specs.Followed.{SizesAre}
-use Rattle.script_stack.proofs.Finding.{found-long}
 
 -- ---- what was found has the sizes that the head tells
 

@@ -126,24 +126,26 @@ can-start-of s t devices k n few made good =
     let same = same-blocks s.mode.dix s.pages s.ops in
     let long : length (replicate s.pages []) ≡ s.pages = length-replicate s.pages [] in
     let lines = length-drop (length s.faults) s.lines in
-    let size : (1 ≤ s.block) × (s.block ≤ 4096) = elim k.block_is [ inl e ↦ (omega arith, omega arith) | inr e ↦ (omega arith, omega arith) ] in
-    (record {
-      pool_is = long;
-      few_pages = omega arith;
-      few_ops = omega arith;
-      few_blocks = omega arith;
-      protect_is = protect-of s.mode.protect k.mode_is.protect_is;
-      some_blocks = most_low;
-      most_blocks = omega arith;
-      bytes = s.block;
-      some_bytes = size.0;
-      few_bytes = size.1;
-      devices = devices;
-      few_devices = few;
-      made = made;
-      each = λ i l. ready-op s.mode.dix s.pages s.block (replicate s.pages []) t devices (op_at s.ops i) long (rules-at s.mode.dix s.pages s.block s.ops i k.ops_are l)
-          (no-fault t devices s.block s.ops (drop (length s.faults) s.lines) i (omega arith) (bound s t devices good).ops l);
-    }, refl)
+    let size : (1 ≤ s.block) × (s.block ≤ 4096) = elim k.block_is [ inl e ↦ (omega arith, omega arith) | inr e ↦ (omega arith, omega arith) ] in (
+      record {
+        pool_is = long;
+        few_pages = omega arith;
+        few_ops = omega arith;
+        few_blocks = omega arith;
+        protect_is = protect-of s.mode.protect k.mode_is.protect_is;
+        some_blocks = most_low;
+        most_blocks = omega arith;
+        bytes = s.block;
+        some_bytes = size.0;
+        few_bytes = size.1;
+        devices = devices;
+        few_devices = few;
+        made = made;
+        each = λ i l. ready-op s.mode.dix s.pages s.block (replicate s.pages []) t devices (op_at s.ops i) long (rules-at s.mode.dix s.pages s.block s.ops i k.ops_are l)
+            (no-fault t devices s.block s.ops (drop (length s.faults) s.lines) i (omega arith) (bound s t devices good).ops l);
+      },
+      refl,
+    )
 
 pub can-start : (s : Script) (t : Table) (devices : List DeviceInfo) → Keeps s → length s.lines ≡ length s.faults + length s.ops → length devices ≤ 8 → MadeFor t devices s.block → binding_fault s t devices ≡ None →
     CanStart t s.mode.dix s.mode.protect s.limits s.pages (replicate s.pages []) s.ops

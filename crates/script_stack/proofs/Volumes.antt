@@ -7,7 +7,7 @@ use Rattle.volume_table.specs.declared.device.DeviceInfo.{DeviceInfo}
 use Rattle.volume_table.specs.declared.entry.Entry.{Entry}
 use Rattle.volume_table.specs.declared.entry.Entry.TheVariants.{Linear, Stripe}
 use Rattle.volume_table.specs.declared.fault.VolumeFault.{VolumeFault}
-use Rattle.volume_table.specs.declared.fault.VolumeFault.TheVariants.{At, Memory}
+use Rattle.volume_table.specs.declared.fault.VolumeFault.TheVariants.{Memory}
 use Rattle.volume_table.specs.declared.fault.VolumeKind.{VolumeKind}
 use Rattle.volume_table.specs.Entries.{IsInRange}
 use Rattle.volume_table.specs.Faults.{fault_from, fault_of, or_later, table_fault, volume_type}

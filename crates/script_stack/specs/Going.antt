@@ -1,5 +1,5 @@
 -- What some steps of a stack keep, over any rig and over one that tells its blocks.
-use Rattle.std.specs.Prelude.{◌≡◌, ℕ, ◌≤◌, List, Option}
+use Rattle.std.specs.Prelude.{ℕ, ◌≤◌, List, Option}
 use Rattle.dix_base.specs.Told.{Calm}
 use Rattle.fault_schedule.specs.declared.fault.FaultLine.{FaultLine}
 use Rattle.target_answer.specs.Target.{Stored}

@@ -1,5 +1,5 @@
 -- The moves of a request's block, by the request.
-use Rattle.std.proofs.Common.{◌≡◌, ◌<◌, ◌≤◌, ℕ, zero, suc, ◌+◌, ◌-◌, ◌*◌, Bool, true, false, List, [], ◌∷◌, ◌++◌, length, map, get_or, drop, Option, Some, None, refl, sym, ap, subst, ◌∙◌, arith, append-nil}
+use Rattle.std.proofs.Common.{◌≡◌, ◌<◌, ◌≤◌, ℕ, suc, ◌+◌, ◌*◌, Bool, true, false, List, [], ◌∷◌, ◌++◌, map, get_or, drop, Option, Some, None, refl, sym, ap, ◌∙◌, arith, append-nil}
 use Rattle.std.proofs.lemmas.List.{drop_at, length-map}
 use Rattle.page_pool.specs.Cells.{cell}
 use Rattle.page_pool.specs.Places.{range_of, total}
@@ -23,12 +23,12 @@ use Rattle.block_path.specs.Moves.{make_tuple, map_back, map_out, settle}
 use Rattle.whole_run.specs.Settings.{Setting, block_of, route}
 use Rattle.whole_run.specs.Steps.{Reads, Step, Writes, WritesPi, body_of, frame_at, steps_of, tuple_of}
 use Rattle.run_moves.specs.ScriptMoves.{own_at}
-use Rattle.run_follows.specs.Sending.{Carriage, carriage_of}
+use Rattle.run_follows.specs.Sending.{carriage_of}
 use Rattle.run_follows.specs.Slots.{parts_of}
 use Rattle.stack_walks.specs.Spots.{no_step}
 use Rattle.stack_walks.proofs.Spots.{each_first}
 use Rattle.stack_core.specs.Moved.{tuple_at}
-use Rattle.stack_core.specs.Requests.{first_page, private_tuples, request_of}
+use Rattle.stack_core.specs.Requests.{first_page, request_of}
 use Rattle.stack_core.proofs.OwnCells.{own_cells}
 
 -- the move that makes a block's tuple, where the block layer does

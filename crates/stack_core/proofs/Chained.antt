@@ -1,7 +1,6 @@
 -- The settled blocks of a command, one block after another.
-use Rattle.std.proofs.Common.{◌≡◌, ◌⊎◌, ◌<◌, ◌≤◌, ℕ, zero, suc, ◌+◌, ◌-◌, List, [], ◌∷◌, ◌++◌, length, get_or, set, take, drop, refl, sym, ap, subst, ◌∙◌, arith, ⊎_elim, append-nil, append_assoc, length-append}
+use Rattle.std.proofs.Common.{◌≡◌, ◌<◌, ◌≤◌, ℕ, zero, suc, ◌+◌, ◌-◌, List, [], ◌∷◌, ◌++◌, length, get_or, take, drop, refl, sym, ap, subst, ◌∙◌, arith, ⊎_elim, append-nil, append_assoc, length-append}
 use Rattle.std.proofs.lemmas.Bool.{cases_eq, cases_lt}
-use Rattle.std.proofs.lemmas.List.{get_or-set_other, length-set}
 use Rattle.page_pool.specs.Pages.{AreWhole, Wrote}
 use Rattle.page_pool.specs.Places.{PageByte}
 use Rattle.page_pool.proofs.Celled.{whole_stays}
@@ -19,7 +18,7 @@ use Rattle.block_path.specs.declared.mode.Mode.{Mode}
 use Rattle.dix_adapter.specs.Groups.{blocks_in}
 use Rattle.merge_queue.specs.Chains.{no_bio}
 use Rattle.merge_queue.specs.Groups.{size}
-use Rattle.stack_core.specs.Settled.{AllSettled, BioSettled, Blanked, Judged, Kept, LeftBy, MappedBack, OneSettled, ReadSettled, Settled, TupleBlanked}
+use Rattle.stack_core.specs.Settled.{AllSettled, BioSettled, Blanked, Judged, Kept, LeftBy, MappedBack, OneSettled, Settled, TupleBlanked}
 use Rattle.stack_core.specs.Settling.{AreFates, blocks_before}
 use Rattle.stack_core.specs.Sheets.{io_at}
 use Rattle.stack_core.proofs.Counts.{blocks-more}

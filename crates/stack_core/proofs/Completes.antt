@@ -1,14 +1,10 @@
 -- A command is completed: all that holds between two steps goes on.
-use Rattle.std.proofs.Common.{◌≡◌, ◌⊎◌, ◌<◌, ◌≤◌, ℕ, zero, suc, ◌+◌, ◌-◌, Bool, true, false, List, [], ◌∷◌, length, get_or, set, map, Option, Some, None, refl, sym, ap, subst, ◌∙◌, arith, ⊎_elim}
-use Rattle.std.specs.List.{All}
-use Rattle.std.proofs.lemmas.Bool.{cases_Bool, cases_lt, false≢true}
+use Rattle.std.proofs.Common.{◌≡◌, ◌<◌, ◌≤◌, ℕ, zero, suc, ◌+◌, ◌-◌, true, false, List, [], ◌∷◌, length, get_or, set, map, Option, refl, sym, ap, subst, ◌∙◌, arith, ⊎_elim}
+use Rattle.std.proofs.lemmas.Bool.{cases_lt, false≢true}
 use Rattle.std.proofs.lemmas.List.{get_or_past}
 use Rattle.std.proofs.lemmas.List.Elements.{All-get_or}
-use Rattle.page_pool.specs.Cells.{flat}
-use Rattle.page_pool.specs.Pages.{AreWhole}
 use Rattle.pi_tuple.specs.declared.checks.PiType.{PiType}
 use Rattle.bio_core.specs.Bios.{Block}
-use Rattle.bio_core.specs.declared.bio.Bio.{Bio}
 use Rattle.bio_core.specs.declared.fate.Fate.{Fate}
 use Rattle.bio_core.specs.declared.fate.Fate.TheVariants.{Good, Bad, Untouched}
 use Rattle.bio_core.specs.declared.fate.Why.{Why}
@@ -18,9 +14,9 @@ use Rattle.range_gate.specs.Gates.{has_ended, is_waiting}
 use Rattle.merge_queue.specs.Groups.{size}
 use Rattle.stack_ops.specs.declared.op.Op.{Op}
 use Rattle.stack_ops.specs.declared.reply.Reply.TheVariants.{Silent}
-use Rattle.stack_view.specs.Blocks.{BlockId, blocks, place_of, settled_of, times}
-use Rattle.stack_view.specs.Formed.{Formed, IsGroup, Named}
-use Rattle.stack_view.specs.Plan.{Plan, request_at}
+use Rattle.stack_view.specs.Blocks.{blocks, place_of, settled_of, times}
+use Rattle.stack_view.specs.Formed.{Formed, IsGroup}
+use Rattle.stack_view.specs.Plan.{Plan}
 use Rattle.stack_view.specs.Sound.{Sound}
 use Rattle.stack_view.specs.Steps.{settle}
 use Rattle.stack_view.specs.View.{Command, OpView, View, command_at, is_admitted, no_command, no_op, op_at}
@@ -34,7 +30,7 @@ use Rattle.whole_run.specs.Settings.{Setting}
 use Rattle.whole_run.specs.Steps.{each_from}
 use Rattle.run_moves.specs.BoundRun.{fates}
 use Rattle.run_moves.specs.ScriptMoves.{fates_of}
-use Rattle.run_follows.specs.Sending.{NoneBefore, is_carried}
+use Rattle.run_follows.specs.Sending.{is_carried}
 use Rattle.run_follows.specs.Slots.{Status}
 use Rattle.stack_walks.specs.Spots.{op_in}
 use Rattle.stack_walks.specs.Statuses.{after_all, fate_at, id_of, sent_as, with_settled}
@@ -43,7 +39,6 @@ use Rattle.stack_walks.proofs.Fates.{done_with}
 use Rattle.stack_walks.proofs.Groups.{AllNumbered, ids_are, settled_given}
 use Rattle.stack_walks.proofs.Letting.{all_marked, lets_of}
 use Rattle.stack_walks.proofs.Same.{same_statuses}
-use Rattle.stack_walks.proofs.Spots.{Lets}
 use Rattle.stack_core.specs.Moved.{why_of}
 use Rattle.stack_core.specs.Settled.{AllSettled, Kept}
 use Rattle.stack_core.specs.Settling.{AreFates}
@@ -52,7 +47,7 @@ use Rattle.stack_core.specs.Walking.{Data, Follow, GoesOn, IsReply, shown_in, st
 use Rattle.stack_core.proofs.Chained.{Each, all_each, one_place}
 use Rattle.stack_core.proofs.Facts.{place-is}
 use Rattle.stack_core.proofs.FollowsComplete.{AllLets, NotAt, all_settled, at, each_keeps, each_whole}
-use Rattle.stack_core.proofs.FollowsGroup.{AllLie, Lies, Places, all_lie, all_of, all_sent, apart_of, is_this, there_is}
+use Rattle.stack_core.proofs.FollowsGroup.{AllLie, Places, all_lie, all_of, all_sent, apart_of, is_this, there_is}
 use Rattle.stack_core.proofs.Spotted.{Stands}
 
 each_same : {X : Type 0} (k n : ℕ) (f g : ℕ → X) → ((q : ℕ) → k ≤ q → q < k + n → f q ≡ g q) → each_from k n f ≡ each_from k n g
@@ -133,13 +128,12 @@ module _ (over : Setting) (n : ℕ) (opening : State) (es : List Sent) (p : Plan
         let u = l.0.numbered in
         let t = l.0.there in
         let z = place-is b.op u in
-        let this = is_this b in
-        (
+        let this = is_this b in (
           (λ (y : at d.starts b ≡ get_or d.starts a 0 + q).
-          let r = one_place ios d.starts d.held (b.op - 1) b.k a q kept (omega arith) x.1 l.0.within x.0 y in
-          let k = f (place_of b.op) b.k (omega arith) in
-          let e' : get_or (op_at v (place_of b.op)).settled b.k false ≡ true = ap (λ i. get_or (op_at v i).settled b.k false) (z ∙ r.0) ∙ (ap (λ i. get_or (op_at v a).settled i false) r.1 ∙ e) in
-          false≢true (sym k ∙ e')),
+              let r = one_place ios d.starts d.held (b.op - 1) b.k a q kept (omega arith) x.1 l.0.within x.0 y in
+              let k = f (place_of b.op) b.k (omega arith) in
+              let e' : get_or (op_at v (place_of b.op)).settled b.k false ≡ true = ap (λ i. get_or (op_at v i).settled b.k false) (z ∙ r.0) ∙ (ap (λ i. get_or (op_at v a).settled i false) r.1 ∙ e) in
+              false≢true (sym k ∙ e')),
           not_at_marked a q cs e l.1 (λ b' t' g'. f b' t' (omega arith)),
         )
 
@@ -177,9 +171,9 @@ module _ (over : Setting) (n : ℕ) (opening : State) (es : List Sent) (p : Plan
             follows = same_statuses over n ops opening on.after (with_settled bs cmd.fates next status) (status_of p (record d { pool = new.pages; held = new.held }) w) es same on.follows;
             begun = λ a e. h.begun a (sym (ap is_admitted (phases a)) ∙ e);
             replied = λ a l e. (let e' = sym (ap has_ended (phases a)) ∙ e in
-            let cnt = g.plan.count a in
-            let lg = s.lengths a in
-            subst (λ x. IsReply (op_in ops a) x (get_or d.replies a Silent)) (each_same 0 (fates_of (op_in ops a)) (why a) (next a) (λ q x y. sym (stays a q (all_marked (op_at v a).settled q (s.ended a e') (omega arith))))) (h.replied a l e'));
+                let cnt = g.plan.count a in
+                let lg = s.lengths a in
+                subst (λ x. IsReply (op_in ops a) x (get_or d.replies a Silent)) (each_same 0 (fates_of (op_in ops a)) (why a) (next a) (λ q x y. sym (stays a q (all_marked (op_at v a).settled q (s.ended a e') (omega arith))))) (h.replied a l e'));
             suited = λ a l e. h.suited a l (sym (ap has_ended (phases a)) ∙ e);
           };
           blocks = on.same_blocks;

@@ -1,5 +1,5 @@
 -- What a stack and its script are to each other, over what is told.
-use Rattle.std.proofs.Common.{◌≡◌, ◌<◌, ℕ, List, length, get_or, refl, sym, ap, subst, ◌∙◌}
+use Rattle.std.proofs.Common.{◌<◌, ℕ, List, length, sym, ap, subst}
 use Rattle.bio_core.specs.declared.request.Io.{Io}
 use Rattle.dix_adapter.specs.Walking.{HasHost}
 use Rattle.stack_view.specs.Plan.{Plan, Request}
@@ -11,7 +11,7 @@ use Rattle.volume_table.specs.declared.entry.Entry.{Entry}
 use Rattle.volume_table.specs.Places.{place_in}
 use Rattle.whole_run.specs.Settings.{Setting}
 use Rattle.run_record.specs.ToldRun.{came_by, told}
-use Rattle.stack_walks.specs.Ground.{Ground, IsPlanOf}
+use Rattle.stack_walks.specs.Ground.{IsPlanOf}
 use Rattle.stack_walks.proofs.Over.{ground_over}
 use Rattle.pi_tuple.specs.declared.checks.PiType.{PiType}
 use Rattle.dix_adapter.specs.declared.adapter.Adapter.{Adapter}

@@ -1,8 +1,7 @@
 -- A block of a command that is completed is settled: the stack follows on.
-use Rattle.std.proofs.Common.{◌≡◌, ◌⊎◌, ◌<◌, ◌≤◌, ℕ, zero, suc, ◌+◌, Bool, true, false, List, [], ◌∷◌, ◌++◌, length, get_or, take, Option, Some, None, refl, sym, ap, subst, ◌∙◌, arith, append-nil}
+use Rattle.std.proofs.Common.{◌≡◌, ◌<◌, ℕ, suc, ◌+◌, Bool, true, false, List, [], ◌∷◌, ◌++◌, length, get_or, take, Option, Some, None, refl, sym, ap, subst, ◌∙◌, arith, append-nil}
 use Rattle.page_pool.specs.Cells.{flat}
 use Rattle.page_pool.specs.Pages.{AreWhole}
-use Rattle.pi_tuple.specs.declared.checks.PiType.{PiType}
 use Rattle.integrity_payload.specs.declared.payload.Payload.{Payload}
 use Rattle.fault_schedule.specs.declared.Label.{Label}
 use Rattle.bio_core.specs.declared.fate.Fate.{Fate}
@@ -11,31 +10,29 @@ use Rattle.bio_core.specs.declared.fate.Why.{Why}
 use Rattle.bio_core.specs.declared.request.Dir.{Dir}
 use Rattle.bio_core.specs.declared.request.Dir.TheVariants.{Read, Write as WriteDir}
 use Rattle.bio_core.specs.declared.request.Io.{Io}
-use Rattle.bio_core.specs.Bios.{block_size}
 use Rattle.dix_adapter.specs.Groups.{data_cells, tuple_cells}
 use Rattle.dix_adapter.specs.Walking.{HasHost}
 use Rattle.stack_ops.specs.declared.op.Op.{Op}
 use Rattle.stack_view.specs.Plan.{Plan}
-use Rattle.block_path.specs.declared.mode.Mode.{Mode}
 use Rattle.block_path.specs.declared.route.Route.{Route}
 use Rattle.block_path.specs.Acts.{Act, State, act, tell}
 use Rattle.block_path.specs.Blocks.{Answer, Sent, silent}
-use Rattle.block_path.specs.Moves.{first_why, map_back, settle}
+use Rattle.block_path.specs.Moves.{first_why, settle}
 use Rattle.block_path.specs.Routes.{host_type}
 use Rattle.block_path.specs.Serial.{plain, plain_tells}
 use Rattle.whole_run.specs.Settings.{Setting, block_of, route}
 use Rattle.run_moves.specs.BoundRun.{fates, rooms}
 use Rattle.run_moves.specs.ScriptMoves.{own_at}
 use Rattle.run_follows.specs.Following.{Becomes, Follows}
-use Rattle.run_follows.specs.Gate.{MayMove, Spot, number, ops_of, parts_at, place}
+use Rattle.run_follows.specs.Gate.{MayMove, Spot, number, parts_at, place}
 use Rattle.run_follows.specs.Sending.{with_status}
 use Rattle.run_follows.specs.Slots.{Carried, Parts, Settled as IsSettled, Status}
 use Rattle.run_follows.proofs.Moving.{settled}
 use Rattle.run_follows.proofs.Quietly.{listed_as, settled_quiet}
 use Rattle.run_follows.proofs.Sends.{with_here, with_other}
-use Rattle.stack_walks.specs.Spots.{spot_at, steps_in}
+use Rattle.stack_walks.specs.Spots.{spot_at}
 use Rattle.stack_walks.proofs.Spots.{spot_number, spot_ops, spot_place, steps_count}
-use Rattle.stack_core.specs.Moved.{HasFrames, IsSettle, route_to, tuple_at, why_of}
+use Rattle.stack_core.specs.Moved.{route_to, why_of}
 use Rattle.stack_core.specs.Settled.{MappedBack, ReadSettled, Settled}
 use Rattle.stack_core.specs.Settling.{IsWhole}
 use Rattle.stack_core.specs.Sheets.{io_at, op_in}

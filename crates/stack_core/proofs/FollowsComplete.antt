@@ -1,11 +1,10 @@
 -- A command is completed: the stack follows on.
-use Rattle.std.proofs.Common.{◌≡◌, ◌⊎◌, inl, inr, ◌<◌, ◌≤◌, ℕ, zero, suc, ◌+◌, ◌-◌, Bool, true, false, List, [], ◌∷◌, ◌++◌, length, get_or, set, map, take, Option, Some, None, refl, sym, ap, subst, ◌∙◌, arith, ⊎_elim}
+use Rattle.std.proofs.Common.{◌≡◌, ◌⊎◌, inl, inr, ◌<◌, ◌≤◌, ℕ, suc, ◌+◌, ◌-◌, Bool, true, false, List, [], ◌∷◌, ◌++◌, length, get_or, Option, Some, None, refl, sym, ap, subst, ◌∙◌, arith}
 use Rattle.std.specs.Prelude.{if◌then◌else◌}
 use Rattle.std.proofs.lemmas.Bool.{false≢true}
 use Rattle.std.proofs.lemmas.List.{get_or-set_other, get_or-set_same, length-set}
 use Rattle.page_pool.specs.Cells.{flat}
 use Rattle.page_pool.specs.Pages.{AreWhole}
-use Rattle.pi_tuple.specs.declared.checks.PiType.{PiType}
 use Rattle.bio_core.specs.Bios.{Block}
 use Rattle.bio_core.specs.declared.fate.Fate.{Fate}
 use Rattle.bio_core.specs.declared.fate.Fate.TheVariants.{Good, Bad, Untouched}
@@ -14,9 +13,8 @@ use Rattle.bio_core.specs.declared.request.Dir.{Dir}
 use Rattle.bio_core.specs.declared.request.Dir.TheVariants.{Read, Write as WriteDir}
 use Rattle.bio_core.specs.declared.request.Io.{Io}
 use Rattle.stack_ops.specs.declared.op.Op.{Op}
-use Rattle.stack_view.specs.Blocks.{BlockId, is_settled, place_of, times}
+use Rattle.stack_view.specs.Blocks.{is_settled, place_of}
 use Rattle.stack_view.specs.Plan.{Plan}
-use Rattle.block_path.specs.declared.mode.Mode.{Mode}
 use Rattle.block_path.specs.Acts.{State}
 use Rattle.block_path.specs.Blocks.{Sent}
 use Rattle.block_path.specs.Routes.{host_type}
@@ -24,24 +22,22 @@ use Rattle.whole_run.specs.Settings.{Setting, block_of, route}
 use Rattle.whole_run.specs.Steps.{Alters, Reads, Seals, Sets, Shows, Step, Writes, WritesPi}
 use Rattle.run_moves.specs.BoundRun.{fates}
 use Rattle.run_moves.specs.OpsApart.{OpsConflict}
-use Rattle.run_moves.specs.ScriptMoves.{fates_of}
 use Rattle.run_follows.specs.Following.{Follows}
 use Rattle.run_follows.specs.Gate.{AreOver, is_over}
 use Rattle.run_follows.specs.Sending.{Carriage, IsElsewhere, carriage_of, with_status}
 use Rattle.run_follows.specs.Slots.{Carried, Settled as NowSettled, Status}
-use Rattle.run_follows.proofs.Sends.{over_stays, with_here, with_other}
-use Rattle.stack_walks.specs.Ground.{Ground}
-use Rattle.stack_walks.specs.Spots.{IsRead, op_in, spot_at, step_in, steps_in}
-use Rattle.stack_walks.specs.Statuses.{id_of, sent_as, with_settled}
+use Rattle.run_follows.proofs.Sends.{over_stays, with_other}
+use Rattle.stack_walks.specs.Spots.{IsRead, op_in, step_in, steps_in}
+use Rattle.stack_walks.specs.Statuses.{with_settled}
 use Rattle.stack_walks.proofs.Found.{found_there}
 use Rattle.stack_walks.proofs.Spots.{Lets, may_move}
 use Rattle.dix_adapter.specs.Groups.{data_cells, tuple_cells}
 use Rattle.stack_core.specs.Moved.{why_of}
-use Rattle.stack_core.specs.Settled.{IsSettled, Kept, OneSettled, Settled}
+use Rattle.stack_core.specs.Settled.{IsSettled, Kept, OneSettled}
 use Rattle.stack_core.specs.Settling.{AreFates}
 use Rattle.stack_core.specs.Sheets.{io_at}
 use Rattle.stack_core.specs.Walking.{why_in}
-use Rattle.stack_core.proofs.Chained.{Each, KeepsPages, keeps_settled, one_place}
+use Rattle.stack_core.proofs.Chained.{Each, keeps_settled}
 use Rattle.stack_core.proofs.Facts.{place-is}
 use Rattle.stack_core.proofs.FollowsBlock.{IsOn, block_settled}
 use Rattle.stack_core.proofs.Spotted.{Stands, block_is, count_is}

@@ -1,6 +1,6 @@
 -- An op ends, or groups are joined: the stack follows on.
-use Rattle.std.proofs.Common.{◌≡◌, ◌⊎◌, ◌<◌, ◌≤◌, ℕ, zero, suc, ◌+◌, Bool, true, false, List, [], length, get_or, set, take, drop, Option, refl, sym, ap, subst, ◌∙◌, arith, ⊎_elim}
-use Rattle.std.proofs.lemmas.Bool.{and_parts, cases_eq, cases_lt}
+use Rattle.std.proofs.Common.{◌≡◌, ◌<◌, ◌≤◌, ℕ, zero, suc, ◌+◌, true, false, List, [], length, get_or, set, take, drop, Option, refl, sym, ap, subst, ◌∙◌, arith, ⊎_elim}
+use Rattle.std.proofs.lemmas.Bool.{cases_eq}
 use Rattle.std.proofs.lemmas.List.{get_or-set_other, get_or-set_same}
 use Rattle.bio_core.specs.declared.fate.Why.{Why}
 use Rattle.range_gate.specs.Gates.{has_ended, is_waiting}
@@ -11,8 +11,8 @@ use Rattle.stack_ops.specs.declared.op.Op.TheVariants.{Fetch, FetchPi, Fill, Ove
 use Rattle.stack_ops.specs.declared.reply.Reply.{Reply}
 use Rattle.stack_ops.specs.declared.reply.Reply.TheVariants.{Silent}
 use Rattle.stack_view.specs.Plan.{Plan, request_at}
-use Rattle.stack_view.specs.View.{OpView, View, all_true, is_admitted, no_op, op_at}
-use Rattle.stack_view.specs.Steps.{End, Join, can, step}
+use Rattle.stack_view.specs.View.{OpView, View, is_admitted, no_op, op_at}
+use Rattle.stack_view.specs.Steps.{End, Join, step}
 use Rattle.stack_view.proofs.Ops.{AtSet, Other, Past, Same, at_set}
 use Rattle.block_path.specs.Acts.{State}
 use Rattle.block_path.specs.Blocks.{Sent}

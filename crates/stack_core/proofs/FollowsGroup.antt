@@ -1,19 +1,17 @@
 -- The blocks of a group of the view: where they lie, and that no two are one.
-use Rattle.std.proofs.Common.{◌≡◌, ◌⊎◌, ◌<◌, ◌≤◌, ℕ, zero, suc, ◌+◌, ◌-◌, Bool, true, false, ◌&&◌, eqb, List, [], ◌∷◌, ◌++◌, length, get_or, map, Option, Some, None, refl, sym, ap, subst, ◌∙◌, arith, ⊎_elim}
-use Rattle.std.specs.Prelude.{if◌then◌else◌}
+use Rattle.std.proofs.Common.{◌≡◌, ◌<◌, ◌≤◌, ℕ, zero, suc, ◌+◌, ◌-◌, true, false, ◌&&◌, eqb, List, [], ◌∷◌, ◌++◌, length, map, refl, sym, ap, subst, ◌∙◌, arith, ⊎_elim}
 use Rattle.std.specs.List.{All}
-use Rattle.std.proofs.lemmas.Bool.{cases_Bool, cases_lt, eq-eqb}
+use Rattle.std.proofs.lemmas.Bool.{cases_Bool, eq-eqb}
 use Rattle.std.proofs.lemmas.List.Elements.{All-head, All-tail}
 use Rattle.volume_table.specs.Places.{place_in}
-use Rattle.bio_core.specs.Bios.{Block, blocks_from, blocks_of}
+use Rattle.bio_core.specs.Bios.{Block, blocks_from}
 use Rattle.bio_core.specs.declared.bio.Bio.{Bio}
 use Rattle.bio_core.specs.declared.fate.Fate.{Fate}
 use Rattle.bio_core.specs.declared.fate.Fate.TheVariants.{Good, Bad, Untouched}
-use Rattle.bio_core.specs.declared.request.Dir.{Dir}
 use Rattle.bio_core.specs.declared.request.Io.{Io}
 use Rattle.dix_adapter.specs.Groups.{blocks_in}
 use Rattle.stack_ops.specs.declared.op.Op.{Op}
-use Rattle.stack_view.specs.Blocks.{BlockId, blocks, is_block, is_settled, place_of, times}
+use Rattle.stack_view.specs.Blocks.{is_block, is_settled, place_of, times}
 use Rattle.stack_view.specs.Formed.{Named}
 use Rattle.stack_view.specs.Plan.{Plan, request_at}
 use Rattle.whole_run.specs.Settings.{Setting, block_of, route}
@@ -70,8 +68,7 @@ module _ (m : Setting) (p : Plan) (ops : List Op) (ios : List Io) (pl : Places m
       let lb : (place_in m.entries ((io_at ios i).first + (b.k + t))).1 ≡ b.lba + t = sym (pl.lba ((io_at ios i).first + (b.k + t))) ∙ (ap (λ x. (p.place x).lba) (sym v) ∙ nm.lba t (omega arith)) in
       let k1 : b.k + suc t ≡ suc (b.k + t) = omega arith in
       let k2 : b.lba + suc t ≡ suc (b.lba + t) = omega arith in
-      let more = from_lie d b nm (suc t) c bs (omega arith) r in
-      (
+      let more = from_lie d b nm (suc t) c bs (omega arith) r in (
         record { numbered = o; there = omega arith; within = omega arith; dev = dv ∙ sym nm.on; lba = lb; dir = nm.way ∙ (ap (λ x. (request_at p x).dir) z ∙ pl.dir i) },
         subst (λ x. AllLie m ios (blocks_from b.op x b.dev (suc (b.lba + t)) b.dir c ++ bs)) k1 (subst (λ x. AllLie m ios (blocks_from b.op (b.k + suc t) b.dev x b.dir c ++ bs)) k2 more),
       )
@@ -95,11 +92,10 @@ is_this b = let x : eqb (place_of b.op) (place_of b.op) ≡ true = eq-eqb (place
 
 elsewhere_of : (b : Block) (bs : List Block) → times (place_of b.op) b.k (map id_of bs) ≡ 0 → IsElsewhere b bs
 elsewhere_of b [] h = tt
-elsewhere_of b (c ∷ bs) h =
-    (
-      (λ (e : c.op ≡ b.op) (f : c.k ≡ b.k). let t : is_block (place_of b.op) b.k (id_of c) ≡ 1 = ap (λ x. is_block (place_of x) b.k (id_of c)) (sym e) ∙ (ap (λ x. is_block (place_of c.op) x (id_of c)) (sym f) ∙ is_this c) in omega arith),
-      elsewhere_of b bs (omega arith),
-    )
+elsewhere_of b (c ∷ bs) h = (
+  (λ (e : c.op ≡ b.op) (f : c.k ≡ b.k). let t : is_block (place_of b.op) b.k (id_of c) ≡ 1 = ap (λ x. is_block (place_of x) b.k (id_of c)) (sym e) ∙ (ap (λ x. is_block (place_of c.op) x (id_of c)) (sym f) ∙ is_this c) in omega arith),
+  elsewhere_of b bs (omega arith),
+)
 
 pub apart_of : (bs : List Block) → ((a q : ℕ) → times a q (map id_of bs) ≤ 1) → AllApart bs
 apart_of [] h = tt
@@ -123,15 +119,14 @@ all_sent m ios (b ∷ bs) (f ∷ fs) status l o h =
     let x : eqb (place_of b.op) (place_of b.op) ≡ true = eq-eqb (place_of b.op) (place_of b.op) refl in
     let y : eqb b.k b.k ≡ true = eq-eqb b.k b.k refl in
     let here = h (place_of b.op) b.k (omega arith) in
-    let first : fate_at (place_of b.op) b.k (map id_of (b ∷ bs)) (f ∷ fs) ≡ f = rw (x, y) refl in
-    (
+    let first : fate_at (place_of b.op) b.k (map id_of (b ∷ bs)) (f ∷ fs) ≡ f = rw (x, y) refl in (
       ap (λ i. status i b.k) (sym e) ∙ (here ∙ ap sent_as first),
       all_sent m ios bs fs status l.1 (λ a q. (let u = o a q in omega arith))
-      (λ a q g. (let u = o a q in
-      ⊎_elim
-      (λ (v : (eqb (place_of b.op) a && eqb b.k q) ≡ true). let w : is_block a q (id_of b) ≡ 1 = rw v refl in absurd (omega arith))
-      (λ (v : (eqb (place_of b.op) a && eqb b.k q) ≡ false). let s : fate_at a q (map id_of (b ∷ bs)) (f ∷ fs) ≡ fate_at a q (map id_of bs) fs = rw v refl in h a q (omega arith) ∙ ap sent_as s)
-      (cases_Bool (eqb (place_of b.op) a && eqb b.k q)))),
+          (λ a q g. (let u = o a q in
+          ⊎_elim
+          (λ (v : (eqb (place_of b.op) a && eqb b.k q) ≡ true). let w : is_block a q (id_of b) ≡ 1 = rw v refl in absurd (omega arith))
+          (λ (v : (eqb (place_of b.op) a && eqb b.k q) ≡ false). let s : fate_at a q (map id_of (b ∷ bs)) (f ∷ fs) ≡ fate_at a q (map id_of bs) fs = rw v refl in h a q (omega arith) ∙ ap sent_as s)
+          (cases_Bool (eqb (place_of b.op) a && eqb b.k q)))),
     )
 
 carried_as : (f : Fate) → is_settled f ≡ true → sent_as f ≡ Carried (why_of f)
@@ -147,8 +142,7 @@ not_at m ios starts held b (c ∷ bs) k x l e =
     let n = x.numbered in
     let u = l.0.numbered in
     let y = x.there in
-    let z = l.0.there in
-    (
+    let z = l.0.there in (
       (λ (g : at starts c ≡ at starts b). let o = one_place ios starts held (c.op - 1) c.k (b.op - 1) b.k k (omega arith) (omega arith) l.0.within x.within g in e.0 (let q = o.0 in omega arith) o.1),
       not_at m ios starts held b bs k x l.1 e.1,
     )
@@ -158,8 +152,7 @@ all_of m p ops ios starts held [] fs status pl k l a s = tt
 all_of m p ops ios starts held (b ∷ bs) [] status pl k l a s = tt
 all_of m p ops ios starts held (b ∷ bs) (f ∷ fs) status pl k l a s =
     let n = pl.many in
-    let t = l.0.there in
-    (
+    let t = l.0.there in (
       (l.0.numbered, (omega arith, (l.0.there, (l.0.within, l.0.lba)))),
       ((λ e. s.0 ∙ carried_as f e), (a.0, (not_at m ios starts held b bs k l.0 l.1 a.0, all_of m p ops ios starts held bs fs status pl k l.1 a.1 s.1))),
     )

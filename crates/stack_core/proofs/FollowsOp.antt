@@ -1,11 +1,9 @@
 -- An op that is no request is done whole: the stack follows on.
-use Rattle.std.proofs.Common.{◌≡◌, ◌⊎◌, ◌<◌, ◌≤◌, ℕ, zero, suc, ◌+◌, Bool, true, false, List, [], ◌∷◌, ◌++◌, length, get_or, set, take, drop, Option, refl, sym, ap, subst, ◌∙◌, arith, ⊎_elim}
+use Rattle.std.proofs.Common.{◌≡◌, ◌<◌, ℕ, zero, suc, true, false, List, ◌∷◌, ◌++◌, length, get_or, set, take, drop, refl, sym, ap, subst, ◌∙◌, arith, ⊎_elim}
 use Rattle.std.proofs.lemmas.Bool.{cases_eq}
 use Rattle.std.proofs.lemmas.List.{get_or-set_other, get_or-set_same}
-use Rattle.page_pool.specs.Cells.{flat}
 use Rattle.range_gate.specs.Gates.{has_ended, is_waiting}
-use Rattle.range_gate.specs.declared.phase.Phase.{Phase}
-use Rattle.range_gate.specs.declared.phase.Phase.TheVariants.{Admitted as OpAdmitted, Ended, Waiting}
+use Rattle.range_gate.specs.declared.phase.Phase.TheVariants.{Ended}
 use Rattle.stack_ops.specs.declared.op.Op.{Op}
 use Rattle.stack_ops.specs.declared.op.Op.TheVariants.{Wait}
 use Rattle.stack_ops.specs.declared.reply.Reply.{Reply}
@@ -20,7 +18,6 @@ use Rattle.whole_run.specs.ScriptWalk.{acts_of}
 use Rattle.whole_run.specs.Settings.{Setting}
 use Rattle.whole_run.specs.Steps.{each_from}
 use Rattle.run_moves.specs.ScriptMoves.{fates_of}
-use Rattle.run_record.specs.Records.{find}
 use Rattle.run_follows.specs.Following.{Follows}
 use Rattle.run_follows.specs.Gate.{BecomesDone, IsAlone, LetsIn}
 use Rattle.run_follows.specs.Sending.{NoneBefore, is_carried}
@@ -32,7 +29,6 @@ use Rattle.stack_walks.proofs.Letting.{lets_of}
 use Rattle.stack_walks.proofs.Moving.{elsewhere}
 use Rattle.stack_walks.proofs.Spots.{cut_at, lets_in, placed_at, placed_front, take_long}
 use Rattle.stack_walks.proofs.Standing.{is_done, waits}
-use Rattle.stack_core.specs.declared.kept.Room.{Room}
 use Rattle.stack_core.specs.declared.kept.Room.TheVariants.{Nothing}
 use Rattle.stack_core.specs.Rooms.{Suits}
 use Rattle.stack_core.specs.Sheets.{op_in}

@@ -1,35 +1,29 @@
 -- A group is sent: its blocks are those of the script, and the stack follows on by what came of them.
-use Rattle.std.proofs.Common.{◌≡◌, ◌⊎◌, ◌<◌, ◌≤◌, ℕ, zero, suc, ◌+◌, ◌-◌, Bool, true, false, List, [], ◌∷◌, ◌++◌, length, get_or, map, take, Option, Some, None, refl, sym, ap, subst, ◌∙◌, arith, ⊎_elim}
-use Rattle.std.specs.List.{All}
+use Rattle.std.proofs.Common.{◌≡◌, ◌<◌, ◌≤◌, ℕ, suc, ◌+◌, ◌-◌, false, List, [], ◌∷◌, ◌++◌, length, get_or, map, take, Some, sym, ap, subst, ◌∙◌, arith}
 use Rattle.page_pool.specs.Cells.{flat}
 use Rattle.page_pool.specs.Pages.{AreWhole}
 use Rattle.bio_core.specs.Bios.{Block, block_size}
-use Rattle.bio_core.specs.declared.bio.Bio.{Bio}
 use Rattle.bio_core.specs.declared.fate.Fate.{Fate}
-use Rattle.bio_core.specs.declared.fate.Fate.TheVariants.{Untouched}
-use Rattle.bio_core.specs.declared.fate.Why.{Why}
 use Rattle.bio_core.specs.declared.request.Io.{Io}
 use Rattle.dix_adapter.specs.declared.adapter.Adapter.{Adapter}
-use Rattle.dix_adapter.specs.Groups.{blocks_in, data_cells, frame_cells, mode_of, route_of, tuple_cells}
+use Rattle.dix_adapter.specs.Groups.{blocks_in, data_cells, mode_of, route_of, tuple_cells}
 use Rattle.range_gate.specs.Gates.{has_ended}
-use Rattle.merge_queue.specs.Groups.{Group}
 use Rattle.stack_ops.specs.declared.op.Op.{Op}
-use Rattle.stack_view.specs.Blocks.{BlockId, blocks, place_of, times}
+use Rattle.stack_view.specs.Blocks.{blocks, place_of, times}
 use Rattle.stack_view.specs.Formed.{Formed, IsGroup}
 use Rattle.stack_view.specs.Plan.{Plan, request_at}
 use Rattle.stack_view.specs.Sound.{Sound}
-use Rattle.stack_view.specs.View.{Command, View, group_at, is_admitted, no_op, op_at, queue_at}
+use Rattle.stack_view.specs.View.{View, group_at, is_admitted, no_op, op_at, queue_at}
 use Rattle.block_path.specs.Acts.{State}
 use Rattle.block_path.specs.Blocks.{Sent}
 use Rattle.whole_run.specs.Settings.{Setting, block_of, route}
 use Rattle.run_moves.specs.BoundRun.{rooms}
 use Rattle.run_moves.specs.ScriptMoves.{own_at}
-use Rattle.run_record.specs.EarlierWrites.{HasLog}
 use Rattle.run_follows.specs.Following.{Follows}
-use Rattle.run_follows.specs.Gate.{MayMove, Spot, place}
-use Rattle.run_follows.specs.Sending.{AllGoing, IsElsewhere, IsGoing, NoneBefore, carriage_at, carriage_of, with_fates}
+use Rattle.run_follows.specs.Gate.{Spot}
+use Rattle.run_follows.specs.Sending.{AllGoing, IsGoing, NoneBefore, carriage_of, with_fates}
 use Rattle.run_follows.specs.Slots.{Cut, Status}
-use Rattle.stack_walks.specs.Spots.{op_in, spot_at, step_in, steps_in}
+use Rattle.stack_walks.specs.Spots.{op_in, spot_at, step_in}
 use Rattle.stack_walks.specs.Statuses.{fate_in, id_of, sent_as}
 use Rattle.stack_walks.proofs.Fates.{in_none}
 use Rattle.stack_walks.proofs.Groups.{AllNumbered, ids_are}

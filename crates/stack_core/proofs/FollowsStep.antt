@@ -1,9 +1,8 @@
 -- A request is admitted, or a piece of it is cut: all that holds between two steps goes on.
-use Rattle.std.proofs.Common.{◌≡◌, ◌⊎◌, ◌<◌, ◌≤◌, ℕ, zero, suc, ◌+◌, Bool, true, false, List, [], length, get_or, set, Option, refl, sym, ap, subst, ◌∙◌, arith, ⊎_elim}
+use Rattle.std.proofs.Common.{◌≡◌, ◌<◌, ◌≤◌, ℕ, suc, ◌+◌, true, false, List, length, get_or, set, refl, sym, ap, subst, ◌∙◌, arith, ⊎_elim}
 use Rattle.std.specs.Prelude.{None}
 use Rattle.std.proofs.lemmas.Bool.{cases_eq, cases_lt}
 use Rattle.std.proofs.lemmas.List.{get_or-set_other, get_or-set_same}
-use Rattle.page_pool.specs.Cells.{flat}
 use Rattle.page_pool.specs.Pages.{AreWhole}
 use Rattle.pi_guard.specs.declared.GuardKind.{GuardKind}
 use Rattle.pi_tuple.specs.declared.checks.PiType.{PiType}
@@ -33,7 +32,7 @@ use Rattle.stack_walks.proofs.Moving.{admitted_statuses, cut_statuses}
 use Rattle.stack_walks.proofs.Same.{same_statuses}
 use Rattle.stack_walks.proofs.Spots.{steps_count}
 use Rattle.stack_walks.proofs.Standing.{is_uncut, not_cut, unmarked, waits}
-use Rattle.stack_walks.proofs.Together.{all_may, with_in, with_out}
+use Rattle.stack_walks.proofs.Together.{all_may, with_out}
 use Rattle.stack_core.specs.Done.{WriteMade, WriteMapped}
 use Rattle.stack_core.specs.Sheets.{io_at, op_in}
 use Rattle.stack_core.specs.Walking.{Data, Follow, GoesOn, shown_in, status_of, why_in}

@@ -1,13 +1,12 @@
 -- What was written to pages, as cells.
-use Rattle.std.proofs.Common.{◌≡◌, ◌<◌, ◌≤◌, ℕ, zero, suc, ◌+◌, ◌*◌, ◌/◌, Bool, true, false, List, [], ◌∷◌, ◌++◌, length, map, get_or, set, take, drop, replicate, Option, Some, None, refl, sym, ap, ◌∙◌, subst, arith}
+use Rattle.std.proofs.Common.{◌≡◌, ◌<◌, ◌≤◌, ℕ, zero, suc, ◌+◌, ◌*◌, ◌/◌, true, false, List, [], ◌∷◌, ◌++◌, length, map, get_or, take, drop, replicate, Option, Some, None, refl, sym, ap, ◌∙◌, subst, arith}
 use Rattle.std.specs.Prelude.{if◌then◌else◌, eqb}
 use Rattle.std.specs.List.{IsDistinct}
 use Rattle.std.proofs.lemmas.List.{drop_at, length-append, length-map, length-replicate, replicate-append-replicate, set-get_or, take_at}
 use Rattle.fault_schedule.specs.declared.Label.{Label}
-use Rattle.page_pool.specs.declared.segs.Seg.{Seg}
 use Rattle.page_pool.specs.Cells.{cell, flat, gather, scatter, share_a_cell}
 use Rattle.page_pool.specs.Pages.{AllLieIn, AreWhole, Wrote, bytes_at}
-use Rattle.page_pool.specs.Places.{NoneTwice, places_in, range_of, total}
+use Rattle.page_pool.specs.Places.{range_of, total}
 use Rattle.page_pool.proofs.Celled.{apart-cells, distinct-cells, gather-append, read-cells, scatter-append, whole_stays, wrote-cells}
 use Rattle.page_pool.proofs.Placing.{all_lie-same}
 use Rattle.page_pool.proofs.Ranges.{apart-lists}
@@ -24,11 +23,10 @@ use Rattle.integrity_payload.specs.Payloads.{all_asked, block_of, tuple_of, tupl
 use Rattle.ref_remap.specs.Remapped.{AreRemapped, all_remapped, remapped_bytes}
 use Rattle.bio_core.specs.declared.fate.Fate.{Fate}
 use Rattle.bio_core.specs.declared.fate.Fate.TheVariants.{Good, Bad, Untouched}
-use Rattle.bio_core.specs.declared.fate.Why.{Why}
 use Rattle.bio_core.specs.declared.request.Io.{Io}
 use Rattle.bio_core.specs.Bios.{block_size}
 use Rattle.bio_core.proofs.Sizes.{blocks_fit}
-use Rattle.dix_adapter.specs.Groups.{data_cells, tuple_cells}
+use Rattle.dix_adapter.specs.Groups.{data_cells}
 use Rattle.block_path.specs.declared.mode.Mode.{Mode}
 use Rattle.block_path.specs.Acts.{Act, State, act}
 use Rattle.block_path.specs.Blocks.{Answer}

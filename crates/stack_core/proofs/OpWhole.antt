@@ -1,10 +1,10 @@
 -- What an op that is no request does to pages and replies, as its acts.
-use Rattle.std.proofs.Common.{◌≡◌, ◌⊎◌, inl, inr, ◌<◌, ◌≤◌, ℕ, zero, suc, ◌+◌, ◌*◌, ◌/◌, ◌%◌, ◌^◌, List, [], ◌∷◌, ◌++◌, length, map, get_or, replicate, Option, refl, sym, ap, subst, ◌∙◌, arith, append-nil, zero-add}
+use Rattle.std.proofs.Common.{◌≡◌, ◌⊎◌, inl, inr, ℕ, zero, suc, ◌+◌, ◌*◌, ◌/◌, ◌%◌, ◌^◌, List, [], ◌∷◌, ◌++◌, length, map, get_or, replicate, Option, refl, sym, ap, subst, ◌∙◌, arith, append-nil}
 use Rattle.std.proofs.lemmas.List.{get_or_past}
 use Rattle.page_pool.specs.declared.segs.Seg.{Seg}
 use Rattle.page_pool.specs.Cells.{cell, flat, gather, scatter}
 use Rattle.page_pool.specs.Pages.{AreWhole, LiesIn, Wrote, bytes_at}
-use Rattle.page_pool.specs.Places.{PageByte, places_in, places_of, range_of, total}
+use Rattle.page_pool.specs.Places.{places_of, range_of, total}
 use Rattle.page_pool.specs.Walking.{AllStandIn}
 use Rattle.page_pool.proofs.Celled.{read-cells, whole_stays, wrote-cells}
 use Rattle.page_pool.proofs.Placing.{segments_stand}
@@ -27,12 +27,12 @@ use Rattle.block_path.specs.Blocks.{Answer, silent}
 use Rattle.block_path.specs.Moves.{in_turn, on_bytes}
 use Rattle.block_path.specs.Serial.{plain, plain_tells}
 use Rattle.block_path.proofs.InTurn.{made_in_turn}
-use Rattle.whole_run.specs.ScriptWalk.{act_of, acts_of, seal_block}
+use Rattle.whole_run.specs.ScriptWalk.{act_of, acts_of}
 use Rattle.whole_run.specs.Settings.{Setting}
 use Rattle.whole_run.specs.Steps.{Seals, Step, body_of, each_from, tuple_of}
 use Rattle.run_follows.specs.Gate.{IsAlone}
 use Rattle.stack_core.specs.declared.kept.Room.{Room}
-use Rattle.stack_core.specs.declared.kept.Room.TheVariants.{Bytes, Tuples}
+use Rattle.stack_core.specs.declared.kept.Room.TheVariants.{Tuples}
 use Rattle.stack_core.specs.Doing.{CanDo}
 use Rattle.stack_core.specs.Done.{OpDone, Sealed}
 use Rattle.stack_core.specs.Replies.{CanSeal, HoldsSeal, shown}

@@ -1,9 +1,9 @@
 -- The cells of the private tuples of a request are those of its private pages, in turn.
-use Rattle.std.proofs.Common.{◌≡◌, ◌<◌, ◌≤◌, ℕ, zero, suc, ◌+◌, ◌-◌, ◌*◌, min, List, [], ◌∷◌, ◌++◌, length, map, take, drop, refl, sym, ap, subst, ◌∙◌, arith, ⊎_elim, append-nil}
+use Rattle.std.proofs.Common.{◌≡◌, ◌<◌, ◌≤◌, ℕ, zero, suc, ◌+◌, ◌-◌, ◌*◌, min, ◌∷◌, ◌++◌, map, take, drop, refl, sym, ap, ◌∙◌, arith, ⊎_elim}
 use Rattle.std.proofs.lemmas.Bool.{cases_lt}
 use Rattle.std.proofs.lemmas.List.{map-append, take-map, drop-map}
 use Rattle.page_pool.specs.Cells.{cell}
-use Rattle.page_pool.specs.Places.{PageByte, places_in, range_of, run}
+use Rattle.page_pool.specs.Places.{places_in, range_of, run}
 use Rattle.range_gate.specs.Cells.{cells_of, in_turn}
 use Rattle.run_moves.specs.ScriptMoves.{own_at}
 use Rattle.stack_core.specs.Requests.{pages_for, private_tuples}

@@ -1,10 +1,10 @@
 -- The plan of a stack is that of its script.
-use Rattle.std.proofs.Common.{◌≡◌, ◌⊎◌, inl, inr, ◌<◌, ◌≤◌, ℕ, zero, suc, ◌+◌, Bool, true, false, not, ◌&&◌, ◌||◌, eqb, List, [], ◌∷◌, length, map, get_or, Option, Some, None, refl, sym, ap, subst, ◌∙◌, arith, ⊎_elim}
-use Rattle.std.specs.Prelude.{nat_abs, pos, if◌then◌else◌, unwrap_or}
+use Rattle.std.proofs.Common.{◌≡◌, inl, inr, ◌<◌, ◌≤◌, ℕ, zero, suc, ◌+◌, Bool, true, false, ◌&&◌, eqb, List, [], ◌∷◌, length, map, get_or, Option, None, refl, sym, ap, ◌∙◌, arith, ⊎_elim}
+use Rattle.std.specs.Prelude.{pos}
 use Rattle.std.specs.List.{list_any}
-use Rattle.std.proofs.lemmas.Bool.{and_left, and_right, cases_Bool, cases_lt, or_cases, or_parts, true_from_ne_false}
+use Rattle.std.proofs.lemmas.Bool.{and_right, cases_Bool, cases_lt, or_parts, true_from_ne_false}
 use Rattle.std.proofs.lemmas.List.{get_or_past, length-map}
-use Rattle.fault_schedule.specs.Altered.{is_same, moved_by, shift_by, shift_of}
+use Rattle.fault_schedule.specs.Altered.{is_same, shift_by, shift_of}
 use Rattle.fault_schedule.specs.declared.fault.Crossing.{Crossing}
 use Rattle.fault_schedule.specs.declared.fault.Crossing.TheVariants.{AdapterToTarget, MediumToTarget}
 use Rattle.fault_schedule.specs.declared.fault.FaultKind.{FaultKind}
@@ -25,8 +25,8 @@ use Rattle.run_moves.specs.ScriptMoves.{fates_of}
 use Rattle.stack_walks.specs.Ground.{IsPlanOf}
 use Rattle.stack_core.specs.Requests.{first_page, request_of, requests_from}
 use Rattle.stack_core.specs.Sheets.{do_clash, io_at, layout_of, no_io, no_print, op_in, plan_of, prints_of, request_in}
-use Rattle.stack_core.specs.Shifts.{is_shift, shifted_by, shifts}
-use Rattle.stack_core.proofs.Begin.{Placed, length-requests, placed}
+use Rattle.stack_core.specs.Shifts.{shifted_by, shifts}
+use Rattle.stack_core.proofs.Begin.{length-requests, placed}
 use Rattle.stack_core.proofs.Facts.{request-at}
 use Rattle.stack_core.proofs.Gates.{laid}
 use Rattle.stack_core.proofs.Listing.{prints-at}

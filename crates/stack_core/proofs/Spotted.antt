@@ -1,7 +1,6 @@
 -- The moves of a script's block, by the stack's request.
-use Rattle.std.proofs.Common.{◌≡◌, ◌<◌, ◌≤◌, ℕ, zero, suc, ◌+◌, ◌-◌, ◌*◌, ◌/◌, Bool, true, false, List, [], ◌∷◌, ◌++◌, length, map, get_or, take, drop, Option, Some, None, refl, sym, ap, subst, ◌∙◌, arith, append-nil, append_assoc}
+use Rattle.std.proofs.Common.{◌≡◌, ◌<◌, ◌≤◌, ℕ, zero, suc, ◌+◌, ◌*◌, Bool, true, false, List, [], ◌∷◌, ◌++◌, length, take, refl, sym, ap, subst, ◌∙◌, arith, append-nil, append_assoc}
 use Rattle.page_pool.specs.Places.{total}
-use Rattle.integrity_payload.specs.declared.payload.Payload.{Payload}
 use Rattle.bio_core.specs.declared.request.Io.{Io}
 use Rattle.bio_core.specs.Bios.{block_size}
 use Rattle.bio_core.proofs.Sizes.{blocks_fit}
@@ -9,7 +8,7 @@ use Rattle.dix_adapter.specs.Groups.{data_cells}
 use Rattle.dix_adapter.specs.Walking.{HasHost}
 use Rattle.stack_ops.specs.declared.op.Op.{Op}
 use Rattle.stack_ops.specs.declared.op.Op.TheVariants.{Fetch, FetchPi, Fill, Overwrite, Put, Seal, Show, Wait, Write, WritePi}
-use Rattle.stack_view.specs.Plan.{Plan, request_at}
+use Rattle.stack_view.specs.Plan.{Plan}
 use Rattle.block_path.specs.declared.route.Route.{Route}
 use Rattle.block_path.specs.Acts.{Act}
 use Rattle.block_path.specs.Blocks.{Answer}
@@ -21,7 +20,7 @@ use Rattle.run_follows.specs.Gate.{parts_at}
 use Rattle.run_follows.specs.Pieces.{all_cut, all_made}
 use Rattle.run_follows.specs.Slots.{Parts, parts_of}
 use Rattle.stack_walks.specs.Ground.{Ground, IsPlanOf}
-use Rattle.stack_walks.specs.Spots.{spot_at, spots_from, step_in, steps_in}
+use Rattle.stack_walks.specs.Spots.{spot_at, spots_from, step_in}
 use Rattle.stack_walks.proofs.Spots.{spot_place, steps_count}
 use Rattle.stack_core.specs.Requests.{first_page, own_blocks, page_after, pages_for, request_of, requests_from}
 use Rattle.stack_core.specs.Sheets.{io_at, op_in}

@@ -1,18 +1,18 @@
 -- A stack that follows the walk of its script over a rig that tells its blocks does so after an op is admitted, and after each step that leaves the rig alone.
-use Rattle.std.proofs.Common.{◌≡◌, ◌⊎◌, ◌<◌, ◌≤◌, ℕ, zero, suc, ◌+◌, ◌-◌, ◌^◌, Bool, true, false, ◌&&◌, leb, ltb, List, [], ◌∷◌, length, drop, get_or, set, Option, Some, None, refl, sym, ap, subst, ◌∙◌, arith, ⊎_elim}
+use Rattle.std.proofs.Common.{◌≡◌, ◌<◌, ◌≤◌, ℕ, ◌+◌, ◌-◌, Bool, true, leb, ltb, List, [], ◌∷◌, drop, get_or, set, Option, Some, None, refl, sym, ap, subst, ◌∙◌, arith}
 use Rattle.std.specs.Prelude.{is_some}
 use Rattle.std.proofs.lemmas.Bool.{and_parts}
-use Rattle.dix_base.specs.Told.{Calm, Rose}
+use Rattle.dix_base.specs.Told.{Calm}
 use Rattle.fault_schedule.specs.Altered.{byte_at, xored_from}
 use Rattle.fault_schedule.specs.declared.fault.FaultLine.{FaultLine}
-use Rattle.target_answer.specs.Target.{Stored, shape_of}
+use Rattle.target_answer.specs.Target.{Stored}
 use Rattle.target_answer.specs.declared.units.UnitSpec.{UnitSpec}
 use Rattle.rig_api.specs.Log.{Entry}
 use Rattle.rig_api.specs.declared.change.Change.{Change}
 use Rattle.rig_api.specs.declared.change.Change.TheVariants.{Copy, Flip}
 use Rattle.rig_api.specs.Telling.{IsStanding, Standing, block_at, can_change, changed as changed_told, has_address, source_of as source_device, spec_at, specs_of, unit_at, units_told, with_block}
-use Rattle.dix_adapter.specs.Ways.{blocks_told, cell_in, shapes_of, site_of}
-use Rattle.dix_adapter.proofs.Puts.{before, cell-is, told-at, told-puts}
+use Rattle.dix_adapter.specs.Ways.{blocks_told, cell_in, shapes_of}
+use Rattle.dix_adapter.proofs.Puts.{cell-is, told-at, told-puts}
 use Rattle.dix_adapter.proofs.Units.{Stands, unit-stands}
 use Rattle.stack_ops.specs.declared.op.Op.{Op}
 use Rattle.stack_ops.specs.declared.op.Op.TheVariants.{Fetch, FetchPi, Fill, Overwrite, Put, Seal, Show, Wait, Write, WritePi}
@@ -22,10 +22,9 @@ use Rattle.whole_run.specs.ScriptWalk.{changed, source_of as source_cell}
 use Rattle.whole_run.specs.Settings.{Setting}
 use Rattle.run_record.specs.Records.{recorded}
 use Rattle.stack_core.specs.declared.stack.Stack.{Stack}
-use Rattle.stack_core.specs.Doing.{CanReach, HasBlocks}
+use Rattle.stack_core.specs.Doing.{CanReach}
 use Rattle.stack_core.specs.Stacks.{IsStack, Stays}
 use Rattle.stack_core.specs.Walking.{Enters, Walks, WalksOn, WalksOver, WalksTold, op_left, units_left}
-use Rattle.stack_core.proofs.Context.{over_stays, over_told}
 use Rattle.stack_core.proofs.WalkedRecord.{over_record, records_stay}
 use Rattle.stack_core.proofs.WalkedTold.{told_stay}
 

@@ -1,5 +1,5 @@
 -- A new stack follows the walk of its script.
-use Rattle.std.proofs.Common.{◌≡◌, ◌<◌, ◌≤◌, ℕ, zero, suc, false, true, List, [], ◌∷◌, length, drop, get_or, map, Some, refl, sym, ap, subst, ◌∙◌, arith}
+use Rattle.std.proofs.Common.{◌≡◌, ◌<◌, ℕ, zero, suc, false, true, List, [], ◌∷◌, length, drop, get_or, map, Some, refl, sym, ap, subst, ◌∙◌, arith}
 use Rattle.std.proofs.lemmas.Bool.{false≢true}
 use Rattle.std.proofs.lemmas.List.{drop_all, get_or_past, length-map}
 use Rattle.page_pool.specs.Pages.{AreWhole}
@@ -9,8 +9,7 @@ use Rattle.fault_schedule.specs.declared.fault.FaultLine.{FaultLine}
 use Rattle.target_answer.specs.Target.{Stored}
 use Rattle.dix_adapter.specs.Ways.{blocks_told, site_of}
 use Rattle.rig_api.specs.Telling.{Standing, specs_of}
-use Rattle.stack_ops.specs.declared.op.Op.{Op}
-use Rattle.stack_view.specs.Plan.{Plan, Request, request_at}
+use Rattle.stack_view.specs.Plan.{Request, request_at}
 use Rattle.stack_view.specs.View.{is_admitted, no_op, op_at, start, waiting}
 use Rattle.stack_steps.specs.Does.{Holds}
 use Rattle.block_path.specs.Acts.{State}

@@ -1,8 +1,6 @@
 -- What a stack comes to that followed the walk of its script to the end.
-use Rattle.std.proofs.Common.{◌≡◌, ◌⊎◌, inl, inr, ◌<◌, ◌≤◌, ℕ, zero, suc, ◌+◌, Bool, true, false, List, [], ◌∷◌, length, drop, get_or, map, take, Option, refl, sym, ap, subst, ◌∙◌, arith, ⊎_elim}
+use Rattle.std.proofs.Common.{◌≡◌, ◌⊎◌, inl, inr, ◌<◌, ◌≤◌, ℕ, zero, suc, ◌+◌, Bool, true, false, List, [], ◌∷◌, length, drop, get_or, map, take, Option, refl, sym, ap, subst, ◌∙◌, arith}
 use Rattle.std.specs.Prelude.{if◌then◌else◌}
-use Rattle.std.proofs.lemmas.Bool.{cases_lt}
-use Rattle.std.proofs.lemmas.List.{ext_get_or}
 use Rattle.bio_core.specs.declared.fate.Why.{Why}
 use Rattle.range_gate.specs.Gates.{has_ended, is_waiting}
 use Rattle.range_gate.specs.declared.phase.Phase.{Phase}
@@ -15,13 +13,13 @@ use Rattle.rig_api.specs.Telling.{Standing}
 use Rattle.stack_ops.specs.declared.op.Op.{Op}
 use Rattle.stack_ops.specs.declared.op.Op.TheVariants.{Fetch, FetchPi, Fill, Overwrite, Put, Seal, Show, Wait, Write, WritePi}
 use Rattle.stack_ops.specs.declared.reply.Reply.{Reply}
-use Rattle.stack_ops.specs.declared.reply.Reply.TheVariants.{Bad, Medium, Shown, Silent, Whole}
+use Rattle.stack_ops.specs.declared.reply.Reply.TheVariants.{Medium, Shown, Silent}
 use Rattle.stack_view.specs.Plan.{Plan, request_at}
 use Rattle.stack_view.specs.Steps.{enabled}
-use Rattle.stack_view.specs.View.{View, op_at}
+use Rattle.stack_view.specs.View.{op_at}
 use Rattle.stack_view.proofs.Enabled.{stuck}
 use Rattle.block_path.specs.Acts.{State}
-use Rattle.block_path.specs.Blocks.{Answer, Sent, silent}
+use Rattle.block_path.specs.Blocks.{Answer, Sent}
 use Rattle.block_path.specs.Moves.{hidden}
 use Rattle.whole_run.specs.ScriptWalk.{bad_from, reply_of, whole_or_bad}
 use Rattle.whole_run.specs.Settings.{Setting}
@@ -32,7 +30,6 @@ use Rattle.run_record.specs.BackedRun.{Backed}
 use Rattle.run_record.specs.Records.{recorded}
 use Rattle.run_record.specs.ToldRun.{told}
 use Rattle.run_follows.specs.Finished.{AllEnded, HasEnded, HaveEnded, answer_of, answers_of, replies_of}
-use Rattle.run_follows.specs.Gate.{IsAlone}
 use Rattle.run_follows.specs.Slots.{Done, Settled, Status}
 use Rattle.run_follows.proofs.Backing.{is_backed, told_carried}
 use Rattle.run_follows.proofs.Ends.{ends_as_walk}
@@ -100,8 +97,7 @@ module _ (m : Setting) (i : ℕ) (status : ℕ → Status) (why : ℕ → Option
 all_over : (m : Setting) (from : ℕ) (ops : List Op) (status : ℕ → ℕ → Status) → ((j : ℕ) → j < length ops → HaveEnded 0 (steps_of m (from + j) (op_in ops j)) (status (from + j))) → AllEnded m from ops status
 all_over m from [] status h = tt
 all_over m from (op ∷ ops) status h =
-    let z : from + 0 ≡ from = omega arith in
-    (
+    let z : from + 0 ≡ from = omega arith in (
       subst (λ x. HaveEnded 0 (steps_of m x op) (status x)) z (h 0 (omega arith)),
       all_over m (suc from) ops status (λ j l. let y : from + suc j ≡ suc from + j = omega arith in subst (λ x. HaveEnded 0 (steps_of m x (op_in ops j)) (status x)) y (h (suc j) (omega arith))),
     )

@@ -1,10 +1,8 @@
 -- A stack that follows the walk of its script does so after each step that sends nothing, whatever is behind the adapter.
-use Rattle.std.proofs.Common.{◌≡◌, ◌<◌, ◌≤◌, ℕ, zero, suc, ◌+◌, ◌-◌, ◌*◌, Bool, true, false, List, [], ◌∷◌, ◌++◌, length, get_or, set, take, drop, Option, Some, None, refl, sym, ap, subst, ◌∙◌, arith}
+use Rattle.std.proofs.Common.{◌≡◌, ◌<◌, ℕ, suc, ◌+◌, ◌-◌, ◌*◌, Bool, true, false, List, [], length, get_or, set, take, drop, Option, Some, None, refl, sym, ap, subst, ◌∙◌, arith}
 use Rattle.std.specs.Prelude.{eqb, if◌then◌else◌}
 use Rattle.std.proofs.lemmas.Bool.{and_parts, eqb-true, ltb-true}
-use Rattle.std.proofs.lemmas.List.{length-map}
 use Rattle.std.proofs.lemmas.List.Elements.{All-head}
-use Rattle.page_pool.specs.Cells.{flat}
 use Rattle.page_pool.specs.Pages.{AreWhole}
 use Rattle.page_pool.specs.Places.{range_of}
 use Rattle.page_pool.proofs.Celled.{whole_stays}
@@ -14,7 +12,6 @@ use Rattle.integrity_payload.specs.declared.payload.Owner.{Owner}
 use Rattle.integrity_payload.specs.declared.payload.Owner.TheVariants.{Block as OfBlock, App as OfApp}
 use Rattle.integrity_payload.specs.declared.payload.Payload.{Payload}
 use Rattle.bio_core.specs.declared.bio.Bio.{Bio}
-use Rattle.bio_core.specs.declared.fate.Fate.{Fate}
 use Rattle.bio_core.specs.declared.request.Dir.{Dir}
 use Rattle.bio_core.specs.declared.request.Dir.TheVariants.{Read, Write as WriteDir}
 use Rattle.bio_core.specs.declared.request.Io.{Io}
@@ -23,35 +20,32 @@ use Rattle.range_gate.specs.declared.phase.Phase.{Phase}
 use Rattle.range_gate.specs.declared.phase.Phase.TheVariants.{Admitted as OpAdmitted, Ended, Waiting}
 use Rattle.stack_ops.specs.declared.op.Op.{Op}
 use Rattle.stack_ops.specs.declared.reply.Reply.{Reply}
-use Rattle.stack_ops.specs.declared.reply.Reply.TheVariants.{Silent}
-use Rattle.stack_view.specs.Formed.{Formed, IsGroup, Named}
-use Rattle.stack_view.specs.Pieces.{bio_of, cut_to, greatest_piece, longest}
+use Rattle.stack_view.specs.Formed.{Named}
+use Rattle.stack_view.specs.Pieces.{bio_of, cut_to, greatest_piece}
 use Rattle.stack_view.specs.Plan.{Plan, request_at}
 use Rattle.stack_view.specs.Sound.{Sound}
-use Rattle.stack_view.specs.Steps.{Admit as StepAdmit, Complete as StepComplete, Cut as StepCut, End as StepEnd, Join as StepJoin, Step, can, chosen, enabled, step}
-use Rattle.stack_view.specs.View.{OpView, View, all_true, command_at, is_admitted, op_at}
+use Rattle.stack_view.specs.Steps.{Admit as StepAdmit, Cut as StepCut, End as StepEnd, Join as StepJoin, Step, can, chosen, enabled, step}
+use Rattle.stack_view.specs.View.{View, all_true, is_admitted, op_at}
 use Rattle.stack_view.proofs.Enabled.{chosen-can}
 use Rattle.stack_view.proofs.Formed.{longest-some, piece-group, piece-longest}
 use Rattle.stack_view.proofs.Keeps.{cut-some, cut-within, piece-some}
 use Rattle.stack_steps.specs.declared.choice.Choice.{Choice}
-use Rattle.stack_steps.specs.declared.choice.Choice.TheVariants.{Admit, Complete, Cut, End, Join}
-use Rattle.stack_steps.specs.Does.{Chooses, Cuts, Does, Holds, OfOp, Ready}
+use Rattle.stack_steps.specs.declared.choice.Choice.TheVariants.{Admit, Cut, End, Join}
+use Rattle.stack_steps.specs.Does.{Cuts, Does, Holds, OfOp, Ready}
 use Rattle.stack_steps.specs.Shows.{Means, live_ops, op_of}
-use Rattle.ref_remap.specs.Remapped.{AreRemapped}
 use Rattle.block_path.specs.Acts.{State, act}
 use Rattle.block_path.specs.Blocks.{Sent}
 use Rattle.block_path.specs.Serial.{plain}
 use Rattle.whole_run.specs.ScriptWalk.{acts_of}
 use Rattle.whole_run.specs.Settings.{Setting, block_of, route}
 use Rattle.run_follows.specs.Sending.{NoneBefore}
-use Rattle.stack_core.specs.declared.kept.Room.{Room}
 use Rattle.stack_core.specs.declared.kept.Room.TheVariants.{Nothing}
 use Rattle.stack_core.specs.declared.sheet.Sheet.{Sheet}
 use Rattle.stack_core.specs.declared.stack.Stack.{Stack}
 use Rattle.stack_core.specs.Done.{MadeBy, OpDone, WriteMade, WriteMapped}
 use Rattle.stack_core.specs.Replies.{reply_of}
 use Rattle.stack_core.specs.Sheets.{io_at, op_in}
-use Rattle.stack_core.specs.Stacks.{HasStep, IsStack, Stays, plan_in, room_at}
+use Rattle.stack_core.specs.Stacks.{IsStack, Stays, plan_in, room_at}
 use Rattle.stack_core.specs.Walking.{Data, Follow, GoesOn, IsChosen, IsOver, WalksOver, data_of, op_left, status_of}
 use Rattle.stack_core.proofs.Context.{places, stands}
 use Rattle.stack_core.proofs.Facts.{op-ends, op-enters}

@@ -1,22 +1,20 @@
 -- A stack that follows the walk of its script does so after a command is completed, and once it is known what came of a group that was sent; whatever is behind the adapter.
-use Rattle.std.proofs.Common.{◌≡◌, ◌<◌, ◌≤◌, ℕ, zero, suc, ◌+◌, ◌-◌, Bool, true, false, not, List, [], ◌∷◌, ◌++◌, length, get_or, map, drop, Option, refl, sym, ap, subst, ◌∙◌, arith}
+use Rattle.std.proofs.Common.{◌≡◌, ◌<◌, ◌≤◌, ℕ, ◌+◌, ◌-◌, true, List, [], ◌∷◌, length, get_or, refl, sym, ap, subst, ◌∙◌, arith}
 use Rattle.std.proofs.lemmas.Bool.{ltb-true, not-true}
-use Rattle.std.proofs.lemmas.List.{drop-append-le, ext_get_or, length-append}
+use Rattle.std.proofs.lemmas.List.{ext_get_or}
 use Rattle.std.proofs.lemmas.List.Elements.{All-get_or, All-head}
 use Rattle.page_pool.specs.Cells.{flat}
 use Rattle.page_pool.specs.Pages.{AreWhole}
 use Rattle.bio_core.specs.Bios.{Block, block_size}
 use Rattle.bio_core.specs.declared.bio.Bio.{Bio}
 use Rattle.bio_core.specs.declared.fate.Fate.{Fate}
-use Rattle.bio_core.specs.declared.request.Dir.{Dir}
-use Rattle.bio_core.specs.declared.request.Dir.TheVariants.{Read, Write as WriteDir}
+use Rattle.bio_core.specs.declared.request.Dir.TheVariants.{Write as WriteDir}
 use Rattle.bio_core.specs.declared.request.Io.{Io}
 use Rattle.dix_adapter.specs.Carried.{Unsent}
 use Rattle.dix_adapter.specs.Groups as Carry
 use Rattle.dix_adapter.specs.Groups.{blocks_in, first_of, mode_of}
 use Rattle.rig_api.specs.Telling.{Standing, spec_at}
-use Rattle.merge_queue.specs.Groups.{Group, size}
-use Rattle.stack_ops.specs.declared.op.Op.{Op}
+use Rattle.merge_queue.specs.Groups.{size}
 use Rattle.stack_view.specs.Blocks.{blocks, place_of, times}
 use Rattle.stack_view.specs.Formed.{Formed, IsGroup, Named}
 use Rattle.stack_view.specs.Plan.{Plan, request_at}
@@ -45,11 +43,10 @@ use Rattle.stack_core.specs.Settled.{AllSettled, Kept}
 use Rattle.stack_core.specs.Settling.{AreFates}
 use Rattle.stack_core.specs.Sheets.{io_at}
 use Rattle.stack_core.specs.Stacks.{IsStack, Stays, plan_in}
-use Rattle.stack_core.specs.Walking.{Data, Follow, GoesOn, IsChosen, IsOver, SizesFit, WalksOver, data_of, status_of}
+use Rattle.stack_core.specs.Walking.{Data, Follow, IsChosen, IsOver, SizesFit, WalksOver, data_of, status_of}
 use Rattle.stack_core.proofs.Completes.{completes}
 use Rattle.stack_core.proofs.Context.{adapts, places, stands}
 use Rattle.stack_core.proofs.Facts.{completed, place-is}
-use Rattle.stack_core.proofs.FollowsGroup.{there_is}
 use Rattle.stack_core.proofs.FollowsSend.{all_going, sent_before, sent_follows, spots_of}
 use Rattle.stack_core.proofs.Sending.{carried-group}
 use Rattle.stack_core.proofs.Walked.{can_be, lie, meant, ready, sound, stand, taken, walked}

@@ -1,5 +1,5 @@
 -- A stack that follows the walk of its script over any rig does so after a group is sent: what came of it stands on record.
-use Rattle.std.proofs.Common.{◌≡◌, ◌<◌, ◌≤◌, ℕ, zero, suc, ◌+◌, ◌-◌, Bool, true, false, List, [], ◌∷◌, ◌++◌, length, map, drop, refl, sym, ap, subst, ◌∙◌, arith}
+use Rattle.std.proofs.Common.{◌≡◌, ◌<◌, ◌≤◌, ℕ, zero, suc, ◌-◌, Bool, true, false, List, [], ◌∷◌, ◌++◌, length, map, drop, refl, sym, ap, subst, ◌∙◌, arith}
 use Rattle.std.proofs.lemmas.List.{length-append}
 use Rattle.page_pool.specs.Cells.{flat}
 use Rattle.page_pool.specs.Pages.{AreWhole}
@@ -34,7 +34,7 @@ use Rattle.run_follows.proofs.Fitting.{fit_in, fit_out}
 use Rattle.run_follows.proofs.Recording.{sent_in, sent_out}
 use Rattle.stack_core.specs.declared.stack.Stack.{Stack}
 use Rattle.stack_core.specs.Stacks.{IsStack, Stays, plan_in}
-use Rattle.stack_core.specs.Walking.{Data, IsChosen, IsOver, Walks, WalksOver, data_of, status_of}
+use Rattle.stack_core.specs.Walking.{IsChosen, IsOver, Walks, WalksOver, data_of, status_of}
 use Rattle.stack_core.proofs.Context.{adapts, over_stays, over_told, places, stands}
 use Rattle.stack_core.proofs.FollowsSend.{all_going, spots_of}
 use Rattle.stack_core.proofs.Walked.{sound}
@@ -144,7 +144,7 @@ module _ (m : Setting) (n : ℕ) (opening : State) (first : ℕ) (s : Stack) (st
         let r'' : RecordedOut s.adapter s.sheet.ios.items (group_at view d i) (flat s.pool) fates (from_first old) (from_first new) = record { entry = r'.entry; what = dropped old new r'.entry l r'.what; moved = r'.moved; fates_are = r'.fates_are } in
         let logs : recorded m (drop first old.log) ≡ records = ap (λ x. recorded m (drop first x)) l in
         let on = sent_out m n s.sheet.ops s.adapter s.sheet.ios.items (group_at view d i) s.pool k.fixed.protect fit w.over.faults fates (from_first old) (from_first new) opening w.walks.now status (spots_of m s.sheet.ops bs) dir' good' r'' going w.walks.follow.bytes
-            (subst (λ x. NoneBefore status x) (sym logs) w.walks.none_before) (subst (λ x. Follows (told m x) n s.sheet.ops opening status w.walks.now x) (sym logs) w.walks.follow.follows) in
+        (subst (λ x. NoneBefore status x) (sym logs) w.walks.none_before) (subst (λ x. Follows (told m x) n s.sheet.ops opening status w.walks.now x) (sym logs) w.walks.follow.follows) in
         let fitting = fit_out m s.adapter s.sheet.ios.items (group_at view d i) s.pool k.fixed.protect fit fates (from_first old) (from_first new) dir' good' wide r'' (subst (FramesFit m) (sym logs) w.fit) in
         went new.log (subst AreWhole (sym stay) w.walks.follow.whole) (grows old new r'.entry l r'.what) fitting (subst (λ x. FollowsOn m n s.sheet.ops opening (with_fates bs fates status) (flat x) (drop first new.log)) (sym stay) on)
 
@@ -155,7 +155,7 @@ module _ (m : Setting) (n : ℕ) (opening : State) (first : ℕ) (s : Stack) (st
         let r'' : RecordedIn s.adapter s.sheet.ios.items (group_at view d i) s.pool s'.pool fates (from_first old) (from_first new) = record { entry = r'.entry; what = dropped old new r'.entry l r'.what; long = r'.long; fates_are = r'.fates_are; cells = r'.cells } in
         let logs : recorded m (drop first old.log) ≡ records = ap (λ x. recorded m (drop first x)) l in
         let on = sent_in m n s.sheet.ops s.adapter s.sheet.ios.items (group_at view d i) s.pool k.fixed.protect fit w.over.faults s'.pool fates (from_first old) (from_first new) opening w.walks.now status (spots_of m s.sheet.ops bs) dir' r'' going w.walks.follow.bytes
-            (subst (λ x. NoneBefore status x) (sym logs) w.walks.none_before) (subst (λ x. Follows (told m x) n s.sheet.ops opening status w.walks.now x) (sym logs) w.walks.follow.follows) in
+        (subst (λ x. NoneBefore status x) (sym logs) w.walks.none_before) (subst (λ x. Follows (told m x) n s.sheet.ops opening status w.walks.now x) (sym logs) w.walks.follow.follows) in
         let fitting = fit_in m s.adapter s.sheet.ios.items (group_at view d i) s.pool k.fixed.protect fit s'.pool fates (from_first old) (from_first new) dir' wide r'' (subst (FramesFit m) (sym logs) w.fit) in
         went new.log whole (grows old new r'.entry l r'.what) fitting on
 

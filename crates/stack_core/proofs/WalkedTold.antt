@@ -1,5 +1,5 @@
 -- A stack that follows the walk of its script over a rig that tells its blocks does so after a group is sent, while no store call failed: each block went its way over the target.
-use Rattle.std.proofs.Common.{◌≡◌, ◌⊎◌, inl, inr, ◌<◌, ◌≤◌, ℕ, zero, suc, ◌+◌, ◌-◌, ◌*◌, Bool, true, false, List, [], ◌∷◌, ◌++◌, length, get_or, map, drop, Option, Some, None, refl, sym, ap, subst, ◌∙◌, arith, ⊎_elim}
+use Rattle.std.proofs.Common.{◌≡◌, ◌<◌, ◌≤◌, ℕ, zero, suc, ◌+◌, ◌-◌, Bool, true, false, List, [], ◌∷◌, ◌++◌, length, get_or, map, drop, Option, Some, None, refl, sym, ap, subst, ◌∙◌, arith, ⊎_elim}
 use Rattle.std.specs.Prelude.{ℤ, pos, ◌+ℤ◌, IfOk, Result, Ok, Err}
 use Rattle.std.specs.List.{All}
 use Rattle.std.proofs.Math.IntN.{+ℤ_assoc}
@@ -19,10 +19,9 @@ use Rattle.fault_schedule.specs.Altered.{shift_of}
 use Rattle.fault_schedule.specs.declared.fault.Crossing.TheVariants.{AdapterToTarget, MediumToTarget}
 use Rattle.fault_schedule.specs.declared.fault.FaultLine.{FaultLine}
 use Rattle.pi_tuple.specs.declared.checks.Check.{Check}
-use Rattle.bio_core.specs.declared.fate.Why.{Why}
 use Rattle.target_answer.specs.Frames.{stored_size}
 use Rattle.target_answer.specs.Passing.{from_medium}
-use Rattle.target_answer.specs.Target.{Stored, has_blocks, shape_of}
+use Rattle.target_answer.specs.Target.{Stored, has_blocks}
 use Rattle.dix_adapter.specs.Carried.{Shown, Unsent, any_bad, frame_len, sends}
 use Rattle.dix_adapter.specs.Groups as Carry
 use Rattle.dix_adapter.specs.Groups.{blocks_in, first_of, route_of}
@@ -32,13 +31,13 @@ use Rattle.dix_adapter.proofs.Blocks.{length-in}
 use Rattle.dix_adapter.proofs.CameIn.{fetched-block}
 use Rattle.dix_adapter.proofs.GoingIn.{long-at, sent-long-in}
 use Rattle.dix_adapter.proofs.Landing.{group-width}
-use Rattle.dix_adapter.proofs.Runs.{AllLong, Next, Run, group-run, width_for}
+use Rattle.dix_adapter.proofs.Runs.{Next, Run, group-run, width_for}
 use Rattle.dix_adapter.proofs.Units.{Stands as UnitStands, unit-stands}
 use Rattle.carried_record.proofs.Puts.{InTurn, bios_turn}
 use Rattle.range_gate.specs.Gates.{has_ended}
 use Rattle.rig_api.specs.Log.{Entry}
 use Rattle.rig_api.specs.Telling.{IsStanding, Standing, frame_size, spec_at, specs_of, unit_at, units_told}
-use Rattle.merge_queue.specs.Groups.{Group, size}
+use Rattle.merge_queue.specs.Groups.{size}
 use Rattle.stack_ops.specs.declared.op.Op.{Op}
 use Rattle.stack_view.specs.Blocks.{blocks, place_of, times}
 use Rattle.stack_view.specs.Formed.{Named}
@@ -68,7 +67,7 @@ use Rattle.stack_core.specs.declared.sheet.Sheet.{Sheet}
 use Rattle.stack_core.specs.declared.stack.Stack.{Stack}
 use Rattle.stack_core.specs.Sheets.{io_at, op_in}
 use Rattle.stack_core.specs.Stacks.{IsStack, Stays, plan_in}
-use Rattle.stack_core.specs.Walking.{Data, IsChosen, IsOver, WalksOver, WalksTold, data_of, status_of}
+use Rattle.stack_core.specs.Walking.{IsChosen, WalksOver, WalksTold, data_of, status_of}
 use Rattle.stack_core.proofs.AtUnits.{EachIn, both_still, fewer_behind, first_block, io_count, io_first, range_in, still}
 use Rattle.stack_core.proofs.Context.{adapts, over_stays, places, stands}
 use Rattle.stack_core.proofs.Facts.{place-is}
@@ -182,9 +181,9 @@ module _ (m : Setting) (n : ℕ) (opening : State) (first : ℕ) (s : Stack) (un
         let lp : p < length design.requests = requests_there design p (omega arith) in
         let vo = x.ops in
         let free : design.conflicts j p ≡ false = ⊎_elim
-            (λ (t : design.conflicts j p ≡ true). absurd (going_on j q a (x.order j p l (omega arith) b.waits t)))
-            (λ (f : design.conflicts j p ≡ false). f)
-            (cases_Bool (design.conflicts j p)) in
+        (λ (t : design.conflicts j p ≡ true). absurd (going_on j q a (x.order j p l (omega arith) b.waits t)))
+        (λ (f : design.conflicts j p ≡ false). f)
+        (cases_Bool (design.conflicts j p)) in
         both_still m (suc j) (suc p) (op_in ops j) (op_in ops p) (omega arith) (omega arith) (y.apart j p l (omega arith) free)
       where
         requests_there : (pl : Plan) (t : ℕ) → 0 < (request_at pl t).count → t < length pl.requests
@@ -353,8 +352,7 @@ module _ (m : Setting) (n : ℕ) (opening : State) (first : ℕ) (s : Stack) (un
           let block = fetched-block a ios w.us dev m.size lba at from wire medium q b u.there f (omega (arith, h)) x y r.0 in
           let ty : (unit_at w.us dev).ty ≡ a.ty = is_behind.ty in
           let bytes : (unit_at w.us dev).size ≡ m.size = ap (λ z. z.size) u.shape ∙ first_at.size in
-          let sized : length stored ≡ stored_size a.ty m.size = ap length block ∙ (long-at (stored_size (unit_at w.us dev).ty (unit_at w.us dev).size) (unit_at w.us dev).blocks (from + q - (unit_at w.us dev).first) u.long (omega (arith, f, h)) ∙ (ap (λ z. stored_size z (unit_at w.us dev).size) ty ∙ ap (stored_size a.ty) bytes)) in
-          (
+          let sized : length stored ≡ stored_size a.ty m.size = ap length block ∙ (long-at (stored_size (unit_at w.us dev).ty (unit_at w.us dev).size) (unit_at w.us dev).blocks (from + q - (unit_at w.us dev).first) u.long (omega (arith, f, h)) ∙ (ap (λ z. stored_size z (unit_at w.us dev).size) ty ∙ ap (stored_size a.ty) bytes)) in (
             by_target_ok (from_medium a.tamper (passage a.tamper (route_of a ios b)) stored) (λ frame. length frame ≡ width_for a m.size) (sent-long-in a ios b stored m.size k.fixed.protect r.0.long sized),
             sized_from cs at from (suc q) x y f (omega (arith, h)) (subst (λ z. Run a ios dev m.size wire medium z cs) e r.1),
           )
@@ -411,7 +409,7 @@ module _ (m : Setting) (n : ℕ) (opening : State) (first : ℕ) (s : Stack) (un
           let t' : WentOut s.adapter ios g (flat s.pool) w.us None fates (from_first old) (from_first new) = record { fates_are = t.fates_are; units = t.units; told = t.told; shapes = t.shapes; blocks = t.blocks; entry = t.entry; recorded = from_then old new t.entry l t.recorded; done = t.done; moved = t.moved; labels = t.labels } in
           let logs : recorded m (drop first old.log) ≡ records = ap (λ x. recorded m (drop first x)) l in
           let on = told_out m n ops s.adapter ios g s.pool w.us k.fixed.protect fit site_is fates (from_first old) (from_first new) opening w.walks.now status (spots_of m ops bs) dir good r' t' going w.walks.follow.bytes w.walks.blocks
-              (subst (λ x. Follows m n ops opening status w.walks.now x) (sym logs) w.walks.follow.follows) in
+          (subst (λ x. Follows m n ops opening status w.walks.now x) (sym logs) w.walks.follow.follows) in
           let none = none_out m n ops s.adapter ios g s.pool k.fixed.protect fit w.over.faults fates (from_first old) (from_first new) status dir good r' (subst (λ x. NoneBefore status x) (sym logs) w.walks.none_before) in
           on_told new.units t.units new.armed new.log on.after t.told a (grows old new r.entry l r.what.recorded) (subst AreWhole (sym stay) w.walks.follow.whole) (on.bytes ∙ ap flat (sym stay)) on.blocks_are on.follows none
 
@@ -422,7 +420,7 @@ module _ (m : Setting) (n : ℕ) (opening : State) (first : ℕ) (s : Stack) (un
           let t' : CameIn s.adapter ios g s.pool s'.pool w.us None fates (from_first old) (from_first new) = record { fates_are = t.fates_are; told = t.told; cells = t.cells; entry = t.entry; recorded = from_then old new t.entry l t.recorded; done = t.done; moved = t.moved; labels = t.labels } in
           let logs : recorded m (drop first old.log) ≡ records = ap (λ x. recorded m (drop first x)) l in
           let on = told_in m n ops s.adapter ios g s.pool w.us k.fixed.protect fit site_is s'.pool fates (from_first old) (from_first new) opening w.walks.now status (spots_of m ops bs) dir sized r' t' going w.walks.follow.bytes w.walks.blocks
-              (subst (λ x. Follows m n ops opening status w.walks.now x) (sym logs) w.walks.follow.follows) in
+          (subst (λ x. Follows m n ops opening status w.walks.now x) (sym logs) w.walks.follow.follows) in
           let none = none_in m n ops s.adapter ios g s.pool k.fixed.protect fit w.over.faults s'.pool fates (from_first old) (from_first new) status dir r' (subst (λ x. NoneBefore status x) (sym logs) w.walks.none_before) in
           on_told new.units w.us new.armed new.log on.after t.told a (grows old new r.entry l r.what.recorded) whole on.bytes on.blocks_are on.follows none
 

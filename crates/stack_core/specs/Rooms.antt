@@ -1,5 +1,5 @@
 -- The room that an op gets before the first step.
-use Rattle.std.specs.Prelude.{◌≡◌, ℕ, List, None}
+use Rattle.std.specs.Prelude.{◌≡◌, ℕ, None}
 use Rattle.std.specs.declared.alloc.Global.{Global}
 use Rattle.std.specs.declared.vec.Vec.{Vec}
 use Rattle.stack_ops.specs.declared.reply.BadBlock.{BadBlock}

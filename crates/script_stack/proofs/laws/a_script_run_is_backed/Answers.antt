@@ -1,4 +1,4 @@
-use Rattle.std.proofs.Common.{◌*◌, ap, drop, map, refl, subst, sym, true}
+use Rattle.std.proofs.Common.{◌*◌, drop, map, refl, subst, sym, true}
 use Rattle.block_path.specs.Moves.{hidden}
 use Rattle.run_moves.specs.BoundRun.{IsBoundRun}
 use Rattle.run_record.specs.ToldRun.{told}

@@ -1,14 +1,12 @@
-use Rattle.std.proofs.Common.{◌*◌, ap, drop, map, refl, subst, sym, ◌∙◌, take}
-use Rattle.page_pool.specs.Cells.{flat}
+use Rattle.std.proofs.Common.{◌*◌, ap, drop, refl, subst, sym, ◌∙◌}
 use Rattle.dix_adapter.specs.Ways.{blocks_told, shapes_of}
-use Rattle.block_path.specs.Moves.{hidden}
 use Rattle.whole_run.specs.ScriptWalk.{script_replies, script_walk}
 use Rattle.run_moves.specs.BoundRun.{IsBoundRun}
 use Rattle.run_moves.specs.Suited.{keeps_size}
 use Rattle.run_record.specs.CarriedRun.{Carried}
 use Rattle.script_ground.proofs.Units.{over-units}
 use Rattle.stack_core.specs.Walking.{EndsTold}
-use Rattle.script_stack.specs.Followed.{begun_of, none_fails, opening_of, setting_of}
+use Rattle.script_stack.specs.Followed.{begun_of, none_fails, setting_of}
 use Rattle.script_stack.proofs.Runs.{has-cells, has-room, hides}
 use Rattle.script_stack.proofs.laws.a_told_script_run_has_walked.Goals as goal
 

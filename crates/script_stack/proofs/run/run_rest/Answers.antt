@@ -17,12 +17,12 @@ loop-stack-smaller g c =
 
 pub loop-stack-preserved : goal.loop-stack-preserved
 loop-stack-preserved g c = record {
-    is = c.step.ensures.stack;
-    stays = stays_then _ _ _ c.loop-stack.invariant.stays c.step.ensures.stays;
-    tells = c.step.ensures.tells ∙ c.loop-stack.invariant.tells;
-    reaches = c.step.ensures.rig;
-    spare = c.step.ensures.spare;
-    went = went_on _ _ _ _ _ _ c.loop-stack.invariant.went (record { walks = c.step.ensures.walks; told = c.step.ensures.told; silent = c.step.ensures.silent; faults = c.step.ensures.goes.faults });
-    goes = goes_then _ _ _ _ _ _ _ _ _ c.loop-stack.invariant.goes c.step.ensures.goes;
-    armed = c.step.ensures.armed ∙ c.loop-stack.invariant.armed;
+  is = c.step.ensures.stack;
+  stays = stays_then _ _ _ c.loop-stack.invariant.stays c.step.ensures.stays;
+  tells = c.step.ensures.tells ∙ c.loop-stack.invariant.tells;
+  reaches = c.step.ensures.rig;
+  spare = c.step.ensures.spare;
+  went = went_on _ _ _ _ _ _ c.loop-stack.invariant.went (record { walks = c.step.ensures.walks; told = c.step.ensures.told; silent = c.step.ensures.silent; faults = c.step.ensures.goes.faults });
+  goes = goes_then _ _ _ _ _ _ _ _ _ c.loop-stack.invariant.goes c.step.ensures.goes;
+  armed = c.step.ensures.armed ∙ c.loop-stack.invariant.armed;
 }

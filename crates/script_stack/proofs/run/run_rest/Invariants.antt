@@ -1,4 +1,4 @@
-use Rattle.std.proofs.Common.{◌≡◌, ◌-◌, ℕ}
+use Rattle.std.proofs.Common.{◌≡◌, ◌-◌}
 use Rattle.std.specs.Prelude.{is_some}
 use Rattle.stack_view.specs.Runs.{most_steps}
 use Rattle.script_stack.specs.Going.{Went}

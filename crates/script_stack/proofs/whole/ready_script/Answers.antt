@@ -1,4 +1,4 @@
-use Rattle.std.proofs.Common.{◌≡◌, ap, sym, ◌∙◌}
+use Rattle.std.proofs.Common.{ap, sym, ◌∙◌}
 use Rattle.std.specs.Prelude.{is_some}
 use Rattle.rig_api.specs.Telling.{Standing, specs_of}
 use Rattle.rig_discovery.specs.Discovery.{info_of}

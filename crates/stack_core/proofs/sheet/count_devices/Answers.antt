@@ -1,5 +1,4 @@
-use Rattle.std.proofs.Common.{◌≡◌, ◌<◌, ◌≤◌, ◌+◌, ℕ, length, max, arith}
-use Rattle.volume_table.specs.Places.{place_in, volume_len}
+use Rattle.std.proofs.Common.{◌≡◌, max, arith}
 use Rattle.stack_core.proofs.Laid.{ios-more}
 use Rattle.stack_core.proofs.sheet.count_devices.Goals as goal
 

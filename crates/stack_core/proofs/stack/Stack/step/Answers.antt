@@ -140,7 +140,7 @@ pub returns-in-Admit-clause-walks : goal.returns-in-Admit-clause-walks
 returns-in-Admit-clause-walks g c = λ m n opening first w.
     (let h : Chooses (plan_in c.args.self.now.sheet) c.args.self.now.machine c.args.word (Admit c.in-Admit.q) = rw c.in-Admit.is at c.choose-choice.ensures in
     let x = walks_entered m n opening first c.args.self.now c.admit.new.self (is_some (g.R.Rig.image c.args.rig.now)) (g.R.Rig.standing c.args.rig.now) (g.R.Rig.units c.args.rig.now) (g.R.Rig.units c.admit.new.rig) (g.R.Rig.faults c.args.rig.now) (g.R.Rig.faults c.admit.new.rig) (g.R.Rig.log c.args.rig.now)
-        c.requires.stack c.admit.ensures.stays (c.admit.ensures.walks (c.args.word, h, c.requires.some)) w in
+    c.requires.stack c.admit.ensures.stays (c.admit.ensures.walks (c.args.word, h, c.requires.some)) w in
     subst (λ st. Walks m n opening first c.admit.new.self st (g.R.Rig.log c.admit.new.rig)) (sym c.admit.ensures.standing) (subst (λ log. Walks m n opening first c.admit.new.self (g.R.Rig.standing c.args.rig.now) log) (sym c.admit.ensures.log) x))
 
 pub returns-in-Admit-clause-told : goal.returns-in-Admit-clause-told
@@ -149,7 +149,7 @@ returns-in-Admit-clause-told g c = λ m n opening first w calm.
     let a = c.args.rig.now in
     let b = c.admit.new.rig in
     let x = told_entered m n opening first c.args.self.now c.admit.new.self (g.R.Rig.image a) (g.R.Rig.standing a) (g.R.Rig.units a) (g.R.Rig.units b) (g.R.Rig.armed a) (g.R.Rig.armed b) (g.R.Rig.faults a) (g.R.Rig.faults b) (g.R.Rig.log a)
-        c.requires.stack c.admit.ensures.stays (c.admit.ensures.walks (c.args.word, h, c.requires.some)) (g.met.R.Rig.laid a) (g.met.R.Rig.ready a) c.admit.ensures.armed calm w in
+    c.requires.stack c.admit.ensures.stays (c.admit.ensures.walks (c.args.word, h, c.requires.some)) (g.met.R.Rig.laid a) (g.met.R.Rig.ready a) c.admit.ensures.armed calm w in
     subst (λ st. WalksTold m n opening first c.admit.new.self (g.R.Rig.units b) (g.R.Rig.armed b) st (g.R.Rig.log b)) (sym c.admit.ensures.standing) (subst (λ log. WalksTold m n opening first c.admit.new.self (g.R.Rig.units b) (g.R.Rig.armed b) (g.R.Rig.standing a) log) (sym c.admit.ensures.log) x))
 
 pub returns-in-Send-clause-walks : goal.returns-in-Send-clause-walks
