@@ -1,0 +1,6 @@
+//! A stack whose rig tells its blocks and whose store calls may fail follows the walk.
+#![tactic(auto)]
+
+mod switch;
+
+pub use switch::what_was_not_carried_may_come_to_another_device;
