@@ -1,2 +1,4 @@
 pub mod Switching
 pub mod Devices
+mod OverDevice
+mod Forgiving

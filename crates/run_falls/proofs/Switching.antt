@@ -143,7 +143,7 @@ module _ (m : Setting) (one two : Device) where
   out_effect r (Ok carried) log e = ap (λ came. written_by r (at_device carried came) [] log) (e.stores carried)
   out_effect r (Err check) log e = refl
 
-  out_same : (r : Route) (frame : List ℕ) → SameFor one two r → SameAct (carry_out (over m one).site r frame) (carry_out (over m two).site r frame)
+  pub out_same : (r : Route) (frame : List ℕ) → SameFor one two r → SameAct (carry_out (over m one).site r frame) (carry_out (over m two).site r frame)
   out_same r frame e = record { state = λ s. state s (same s); answer = λ s. ap (λ (x : Effect Answer). x.answer) (same s) } where
     same : (s : State) → effect (carry_out (over m one).site r frame) s ≡ effect (carry_out (over m two).site r frame) s
     same s = out_effect r (to_wire m.site.faults r (gather 0 frame s.bytes)) (get_or s.logs (own_cell m.site r) []) e
