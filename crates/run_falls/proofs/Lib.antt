@@ -2,3 +2,4 @@ pub mod Switching
 pub mod Devices
 mod OverDevice
 mod Forgiving
+mod Falling
