@@ -3,3 +3,4 @@ pub mod Devices
 mod OverDevice
 mod Forgiving
 mod Falling
+mod Outward
