@@ -4,3 +4,4 @@ mod OverDevice
 mod Forgiving
 mod Falling
 mod Outward
+mod SentOut
