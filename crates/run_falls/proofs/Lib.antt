@@ -5,3 +5,5 @@ mod Forgiving
 mod Falling
 mod Outward
 mod SentOut
+mod Inward
+mod SentIn
