@@ -88,7 +88,7 @@ still_going m n script ops a ios logs falls status (b ∷ bs) (s ∷ spots) h =
 
 -- an op's blocks are written or read, and so is its carriage
 
-abbrev IsOf : Bool → Step → Type 0
+abbrev pub IsOf : Bool → Step → Type 0
 IsOf w (Sets at values) = Unit {0}
 IsOf w (Shows at) = Unit {0}
 IsOf w (Seals body tuple app rtag) = Unit {0}
@@ -97,7 +97,7 @@ IsOf w (WritesPi b frame) = w ≡ true
 IsOf w (Reads b owner to) = w ≡ false
 IsOf w (Alters dev lba change) = Unit {0}
 
-abbrev AllOf : Bool → List Step → Type 0
+abbrev pub AllOf : Bool → List Step → Type 0
 AllOf w [] = Unit {0}
 AllOf w (step ∷ steps) = IsOf w step × AllOf w steps
 
@@ -105,7 +105,7 @@ each_of : (w : Bool) (k n : ℕ) (f : ℕ → Step) → ((j : ℕ) → IsOf w (f
 each_of w k zero f h = tt
 each_of w k (suc n) f h = (h k, each_of w (suc k) n f h)
 
-op_of : (m : Setting) (i : ℕ) (op : Op) → AllOf (is_write op) (steps_of m i op)
+pub op_of : (m : Setting) (i : ℕ) (op : Op) → AllOf (is_write op) (steps_of m i op)
 op_of m i (Fill seg byte) = (tt, tt)
 op_of m i (Put page off values) = (tt, tt)
 op_of m i (Show seg) = (tt, tt)
@@ -117,7 +117,7 @@ op_of m i (FetchPi v n body tuples) = each_of false 0 n (λ k. Reads (block_of i
 op_of m i (Overwrite dev lba change) = (tt, tt)
 op_of m i Wait = tt
 
-of_midst : (w : Bool) (before : List Step) (step : Step) (after : List Step) → AllOf w (before ++ (step ∷ after)) → IsOf w step
+pub of_midst : (w : Bool) (before : List Step) (step : Step) (after : List Step) → AllOf w (before ++ (step ∷ after)) → IsOf w step
 of_midst w [] step after h = h.0
 of_midst w (x ∷ before) step after h = of_midst w before step after h.1
 

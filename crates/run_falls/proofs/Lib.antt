@@ -7,3 +7,5 @@ mod Outward
 mod SentOut
 mod Inward
 mod SentIn
+mod WalksAlike
+mod Ending

@@ -90,7 +90,7 @@ stand_both (x ∷ xs) (y ∷ ys) fs gs (Some r ∷ ds) es s l h k = (h.0, (h.1.0
 
 -- the label of each step's block is its op and its place
 
-abbrev HasLabel : (i k : ℕ) → Step → Type 0
+abbrev pub HasLabel : (i k : ℕ) → Step → Type 0
 HasLabel i k (Sets at values) = Unit {0}
 HasLabel i k (Shows at) = Unit {0}
 HasLabel i k (Seals body tuple app rtag) = Unit {0}
@@ -99,7 +99,7 @@ HasLabel i k (WritesPi b frame) = (b.op ≡ i) × (b.k ≡ k)
 HasLabel i k (Reads b owner to) = (b.op ≡ i) × (b.k ≡ k)
 HasLabel i k (Alters dev lba change) = Unit {0}
 
-abbrev Labelled : (i k : ℕ) → List Step → Type 0
+abbrev pub Labelled : (i k : ℕ) → List Step → Type 0
 Labelled i k [] = Unit {0}
 Labelled i k (step ∷ steps) = HasLabel i k step × Labelled i (suc k) steps
 
@@ -107,7 +107,7 @@ each_labelled : (i k n : ℕ) (f : ℕ → Step) → ((j : ℕ) → HasLabel i j
 each_labelled i k zero f h = tt
 each_labelled i k (suc n) f h = (h k, each_labelled i (suc k) n f h)
 
-op_labelled : (m : Setting) (i : ℕ) (op : Op) → Labelled i 0 (steps_of m i op)
+pub op_labelled : (m : Setting) (i : ℕ) (op : Op) → Labelled i 0 (steps_of m i op)
 op_labelled m i (Fill seg byte) = (tt, tt)
 op_labelled m i (Put page off values) = (tt, tt)
 op_labelled m i (Show seg) = (tt, tt)
