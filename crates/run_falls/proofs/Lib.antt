@@ -9,3 +9,4 @@ mod Inward
 mod SentIn
 mod WalksAlike
 mod Ending
+mod Served
