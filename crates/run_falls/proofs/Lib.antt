@@ -10,3 +10,4 @@ mod SentIn
 mod WalksAlike
 mod Ending
 mod Served
+mod Stepping

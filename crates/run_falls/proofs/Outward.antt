@@ -105,23 +105,26 @@ still_out (b ∷ bs) status = still_out bs status
 
 -- statuses
 
-pub forgiven_here : (ops : List Op) (falls : Falls) (b : Block) (next told : Status) (status : ℕ → ℕ → Status) → forgive (left_of ops falls b.op b.k) next ≡ told →
-    with_status b.op b.k told (forgiven ops falls status) ≡ forgiven ops falls (with_status b.op b.k next status)
-forgiven_here ops falls b next told status e = λ i j l. at j l i where
-  by : (j l : ℕ) (x y : Bool) → eqb j b.op ≡ x → eqb l b.k ≡ y →
-      (if x && y then told else forgive (left_of ops falls j l) (status j l)) ≡ forgive (left_of ops falls j l) (if x && y then next else status j l)
-  by j l true true p q = sym e ∙ ap (λ i. forgive (left_of ops falls i b.k) next) (sym (eqb-true j b.op p)) ∙ ap (λ k. forgive (left_of ops falls j k) next) (sym (eqb-true l b.k q))
+pub forgiven_at : (ops : List Op) (falls : Falls) (i k : ℕ) (next told : Status) (status : ℕ → ℕ → Status) → forgive (left_of ops falls i k) next ≡ told →
+    with_status i k told (forgiven ops falls status) ≡ forgiven ops falls (with_status i k next status)
+forgiven_at ops falls i k next told status e = λ x j l. at j l x where
+  by : (j l : ℕ) (x y : Bool) → eqb j i ≡ x → eqb l k ≡ y → (if x && y then told else forgive (left_of ops falls j l) (status j l)) ≡ forgive (left_of ops falls j l) (if x && y then next else status j l)
+  by j l true true p q = sym e ∙ ap (λ u. forgive (left_of ops falls u k) next) (sym (eqb-true j i p)) ∙ ap (λ u. forgive (left_of ops falls j u) next) (sym (eqb-true l k q))
   by j l true false p q = refl
   by j l false y p q = refl
 
-  at : (j l : ℕ) → with_status b.op b.k told (forgiven ops falls status) j l ≡ forgiven ops falls (with_status b.op b.k next status) j l
-  at j l = by j l (eqb j b.op) (eqb l b.k) refl refl
+  at : (j l : ℕ) → with_status i k told (forgiven ops falls status) j l ≡ forgiven ops falls (with_status i k next status) j l
+  at j l = by j l (eqb j i) (eqb l k) refl refl
+
+pub forgiven_here : (ops : List Op) (falls : Falls) (b : Block) (next told : Status) (status : ℕ → ℕ → Status) → forgive (left_of ops falls b.op b.k) next ≡ told →
+    with_status b.op b.k told (forgiven ops falls status) ≡ forgiven ops falls (with_status b.op b.k next status)
+forgiven_here ops falls b next told status e = forgiven_at ops falls b.op b.k next told status e
 
 forgive_none : (o : Option (List ℕ)) → forgive o (Carried None) ≡ Carried None
 forgive_none None = refl
 forgive_none (Some left) = refl
 
-left_none : (ops : List Op) (falls : Falls) (b : Block) → falls (label_of b) ≡ None → left_of ops falls b.op b.k ≡ None
+pub left_none : (ops : List Op) (falls : Falls) (b : Block) → falls (label_of b) ≡ None → left_of ops falls b.op b.k ≡ None
 left_none ops falls b e = ap (λ (o : Option (List ℕ)). if writes_of ops b.op then o else None) e ∙ by (writes_of ops b.op) None where
   by : (c : Bool) (o : Option (List ℕ)) → (if c then o else o) ≡ o
   by true o = refl

@@ -65,7 +65,7 @@ module _ (m : Setting) (device : Device) where
   has_over (Overwrite dev lba change) h = tt
   has_over Wait h = tt
 
-  placed_over : (n : ℕ) (op : Op) → IsPlaced m n op → IsPlaced (over m device) n op
+  pub placed_over : (n : ℕ) (op : Op) → IsPlaced m n op → IsPlaced (over m device) n op
   placed_over n op h = record { in_pages = h.in_pages; reads = h.reads; writes = h.writes; blocks = has_over op h.blocks }
 
   pub all_placed_over : (n : ℕ) (ops : List Op) → AllPlaced m n ops → AllPlaced (over m device) n ops
