@@ -1,9 +1,8 @@
-use Rattle.std.proofs.Common.{◌≡◌, ◌<◌, ◌≤◌, ℕ, zero, suc, ◌+◌, Bool, true, false, ◌||◌, eqb, if◌then◌else◌, List, [], ◌∷◌, ◌++◌, length, map, take, drop, get_or, Option, Some, None, refl, sym, ap, subst, ◌∙◌, arith}
-use Rattle.std.specs.Prelude.{Result, Ok, Err, IfOk, IfSome}
+use Rattle.std.proofs.Common.{◌≡◌, ◌<◌, ◌≤◌, ℕ, suc, ◌+◌, Bool, true, false, ◌||◌, eqb, if◌then◌else◌, List, [], ◌∷◌, ◌++◌, length, map, take, get_or, Option, Some, None, refl, sym, ap, subst, ◌∙◌, arith}
+use Rattle.std.specs.Prelude.{Result, IfOk, IfSome}
 use Rattle.std.proofs.lemmas.Bool.{eq-eqb, eqb-true, false≢true}
 use Rattle.target_answer.specs.Frames.{stored_size}
 use Rattle.bio_core.specs.declared.fate.Why.{Why}
-use Rattle.bio_core.specs.declared.fate.Why.TheVariants.{Medium}
 use Rattle.stack_ops.specs.declared.op.Op.{Op}
 use Rattle.stack_ops.specs.declared.op.Op.TheVariants.{Fetch, FetchPi, Fill, Overwrite, Put, Seal, Show, Wait, Write, WritePi}
 use Rattle.stack_ops.specs.declared.reply.BadBlock.{BadBlock}
@@ -12,7 +11,7 @@ use Rattle.stack_ops.specs.declared.reply.Reply.TheVariants.{Bad, Medium as Medi
 use Rattle.page_pool.specs.Cells.{gather}
 use Rattle.range_gate.specs.Cells.{cells_of}
 use Rattle.block_path.specs.Acts.{State, act, tell}
-use Rattle.block_path.specs.Blocks.{Answer, Sent, stored_cell}
+use Rattle.block_path.specs.Blocks.{Sent, stored_cell}
 use Rattle.block_path.specs.Moves.{hidden}
 use Rattle.block_path.specs.Routes.{wire_size}
 use Rattle.block_path.specs.Serial.{plain, plain_tells}
@@ -22,9 +21,9 @@ use Rattle.whole_run.specs.Settings.{Setting, block_of, route}
 use Rattle.whole_run.specs.Steps.{Alters, Reads, Seals, Sets, Shows, Step, Writes, WritesPi, steps_of}
 use Rattle.run_laws.specs.FallingReads.{falling_replies}
 use Rattle.run_laws.specs.StoreFaults.{falling_walk, may_fall}
-use Rattle.run_moves.specs.BoundRun.{AllBound, AllSuit, IsBound, IsBoundRun, Suits}
+use Rattle.run_moves.specs.BoundRun.{AllBound, AllSuit, IsBound, IsBoundRun}
 use Rattle.run_follows.specs.Finished.{AllEnded, HasEnded, HaveEnded, IsDone, IsSettled, answer_of, answers_of, replies_of}
-use Rattle.run_follows.specs.Slots.{Carried, Done, Settled, Status}
+use Rattle.run_follows.specs.Slots.{Status}
 use Rattle.run_follows.proofs.Ends.{ends_as_walk}
 use Rattle.run_falls.specs.AtTheEnd.{AllTakeAny, EndsAsFalling, OpTakesAny, TakesAny}
 use Rattle.run_falls.specs.Falls.{Falls, falling, forgive, forgiven, is_write, left_of, of_blocks, over_falls, sends_or, stores_or, writes_of}
@@ -33,7 +32,7 @@ use Rattle.run_falls.proofs.Forgiving.{AllOf, IsOf, op_of}
 use Rattle.run_falls.proofs.Outward.{one_more}
 use Rattle.run_falls.proofs.OverDevice.{same_rooms, same_steps}
 use Rattle.run_falls.proofs.Switching.{HasLabel, Labelled, op_labelled}
-use Rattle.run_falls.proofs.WalksAlike.{Forgives, Sees, Tells, step_alike}
+use Rattle.run_falls.proofs.WalksAlike.{Forgives, Sees, step_alike}
 
 -- Once all has ended.
 

@@ -1,23 +1,19 @@
-use Rattle.std.proofs.Common.{◌≡◌, ◌<◌, ◌⊎◌, inl, inr, ℕ, zero, suc, Bool, true, false, ◌&&◌, eqb, if◌then◌else◌, List, [], ◌∷◌, ◌++◌, length, Option, Some, None, refl, sym, ap, subst, ◌∙◌, arith}
-use Rattle.std.specs.Prelude.{Result, Ok, Err, IfSome, ltb}
+use Rattle.std.proofs.Common.{◌≡◌, ◌⊎◌, inl, inr, ℕ, zero, suc, Bool, true, false, ◌&&◌, eqb, if◌then◌else◌, List, [], ◌∷◌, ◌++◌, length, Option, Some, None, refl, sym, ap, ◌∙◌}
+use Rattle.std.specs.Prelude.{Result, IfSome, ltb}
 use Rattle.std.proofs.lemmas.Bool.{eq-eqb, eqb-true, false≢true}
 use Rattle.fault_schedule.specs.declared.Label.{Label}
 use Rattle.bio_core.specs.Bios.{Block}
-use Rattle.bio_core.specs.declared.fate.Fate.{Fate}
-use Rattle.bio_core.specs.declared.fate.Fate.TheVariants.{Bad, Good, Untouched}
 use Rattle.bio_core.specs.declared.fate.Why.{Why}
-use Rattle.bio_core.specs.declared.fate.Why.TheVariants.{Medium}
 use Rattle.stack_ops.specs.declared.op.Op.{Op}
 use Rattle.block_path.specs.Blocks.{Sent, Site}
 use Rattle.run_record.specs.Records.{find, is_labelled, stamped}
 use Rattle.dix_adapter.specs.Groups.{label_of}
 use Rattle.carried_record.specs.OnRecord.{put_each}
-use Rattle.run_follows.specs.Sending.{IsElsewhere, NoneBefore, is_carried, with_status}
-use Rattle.run_follows.specs.Slots.{Carried, Cut, Status}
-use Rattle.run_follows.proofs.Sends.{with_here, with_other}
+use Rattle.run_follows.specs.Sending.{IsElsewhere, is_carried}
+use Rattle.run_follows.specs.Slots.{Cut, Status}
 use Rattle.target_answer.specs.Target.{Stop}
 use Rattle.run_falls.specs.Falls.{Falls, forgive, forgiven, left_of, put_really, really, writes_of}
-use Rattle.run_falls.specs.FollowsFalling.{AllFallen, AllSized, HasFallen}
+use Rattle.run_falls.specs.FollowsFalling.{AllSized}
 use Rattle.run_falls.proofs.Forgiving.{AreFresh}
 
 -- One store call more fails.

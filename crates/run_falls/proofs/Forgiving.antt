@@ -1,7 +1,6 @@
-use Rattle.std.proofs.Common.{◌≡◌, ◌⊎◌, inl, inr, ℕ, zero, suc, ◌+◌, Bool, true, false, ◌&&◌, eqb, if◌then◌else◌, List, [], ◌∷◌, ◌++◌, length, get_or, Option, Some, None, refl, sym, ap, subst, ◌∙◌, arith}
-use Rattle.std.specs.Prelude.{Result, Ok, Err, IfSome}
-use Rattle.std.proofs.lemmas.Bool.{eq-eqb, eqb-true, false≢true}
-use Rattle.fault_schedule.specs.declared.Label.{Label}
+use Rattle.std.proofs.Common.{◌≡◌, ◌⊎◌, inl, inr, ℕ, zero, suc, Bool, true, false, List, [], ◌∷◌, ◌++◌, length, get_or, Option, Some, None, refl, sym, ap, subst, ◌∙◌}
+use Rattle.std.specs.Prelude.{IfSome}
+use Rattle.std.proofs.lemmas.Bool.{false≢true}
 use Rattle.bio_core.specs.Bios.{Block}
 use Rattle.bio_core.specs.declared.request.Dir.{Dir}
 use Rattle.bio_core.specs.declared.request.Dir.TheVariants.{Read, Write as WriteDir}
@@ -10,13 +9,13 @@ use Rattle.stack_ops.specs.declared.op.Op.{Op}
 use Rattle.stack_ops.specs.declared.op.Op.TheVariants.{Fetch, FetchPi, Fill, Overwrite, Put, Seal, Show, Wait, Write, WritePi}
 use Rattle.integrity_payload.specs.declared.payload.Owner.TheVariants.{Block as OfBlock, App as OfApp}
 use Rattle.whole_run.specs.Settings.{Setting, block_of}
-use Rattle.whole_run.specs.Steps.{Alters, Reads, Seals, Sets, Shows, Step, Writes, WritesPi, body_of, each_from, frame_at, steps_of, tuple_of}
+use Rattle.whole_run.specs.Steps.{Alters, Reads, Seals, Sets, Shows, Step, Writes, WritesPi, body_of, each_from, frame_at, steps_of}
 use Rattle.run_record.specs.Records.{is_out}
 use Rattle.run_moves.specs.OpsApart.{OpsConflict}
 use Rattle.dix_adapter.specs.declared.adapter.Adapter.{Adapter}
 use Rattle.dix_adapter.specs.Groups.{label_of}
-use Rattle.run_follows.specs.Gate.{AreOver, LetsIn, MayMove, Spot, is_over, number, ops_of, place}
-use Rattle.run_follows.specs.Sending.{AllGoing, Carriage, IsElsewhere, IsGoing, carriage_at, carriage_of, is_carried}
+use Rattle.run_follows.specs.Gate.{AreOver, LetsIn, MayMove, Spot, is_over, number}
+use Rattle.run_follows.specs.Sending.{AllGoing, Carriage, IsElsewhere, IsGoing, carriage_of, is_carried}
 use Rattle.run_follows.specs.Slots.{Admitted, Carried, Cut, Done, Settled, Status, Waits}
 use Rattle.run_falls.specs.Falls.{Falls, forgive, forgiven, is_write, left_of, writes_of}
 use Rattle.run_falls.specs.FollowsFalling.{AllFallen, HasFallen}

@@ -1,5 +1,5 @@
 use Rattle.std.proofs.Common.{◌≡◌, ◌<◌, ◌≤◌, ◌⊎◌, inl, inr, ℕ, zero, suc, ◌+◌, Bool, true, false, if◌then◌else◌, List, [], ◌∷◌, ◌++◌, length, map, get_or, set, Option, Some, None, refl, sym, ap, subst, ◌∙◌, arith}
-use Rattle.std.specs.Prelude.{Result, Ok, Err, IfOk, IfSome, ltb}
+use Rattle.std.specs.Prelude.{Result, Ok, Err, IfOk, ltb}
 use Rattle.std.proofs.lemmas.Bool.{false≢true}
 use Rattle.pi_tuple.specs.declared.checks.Check.{Check}
 use Rattle.target_answer.specs.declared.units.UnitSpec.{UnitSpec}
@@ -9,12 +9,12 @@ use Rattle.bio_core.specs.declared.fate.Fate.{Fate}
 use Rattle.bio_core.specs.declared.fate.Fate.TheVariants.{Bad, Good, Untouched}
 use Rattle.bio_core.specs.declared.fate.Why.{Why}
 use Rattle.bio_core.specs.declared.fate.Why.TheVariants.{Adapter as ByAdapter, Medium}
-use Rattle.bio_core.specs.declared.request.Dir.TheVariants.{Read, Write}
+use Rattle.bio_core.specs.declared.request.Dir.TheVariants.{Read}
 use Rattle.bio_core.specs.declared.request.Io.{Io}
 use Rattle.stack_ops.specs.declared.op.Op.{Op}
 use Rattle.block_path.specs.Blocks.{Site, fetched_cell}
 use Rattle.block_path.specs.Routes.{target}
-use Rattle.block_path.specs.WayIn.{Delivers, Spoils, Stops, WayIn, at_host, from_device, from_wire}
+use Rattle.block_path.specs.WayIn.{Stops, WayIn, at_host, from_device, from_wire}
 use Rattle.whole_run.specs.Settings.{Setting}
 use Rattle.dix_adapter.specs.declared.adapter.Adapter.{Adapter}
 use Rattle.dix_adapter.specs.Carried.{arrives, carried}
@@ -25,7 +25,7 @@ use Rattle.run_follows.specs.Sending.{AllComeIn, AllSized, in_fates, with_fate, 
 use Rattle.run_follows.specs.Slots.{Carried, Status}
 use Rattle.run_follows.proofs.Recording.{arrived}
 use Rattle.run_follows.proofs.Sends.{with_here, with_other}
-use Rattle.run_falls.specs.Falls.{Falls, falling, forgive, forgiven, left_of, over_falls, really, sends_or, writes_of}
+use Rattle.run_falls.specs.Falls.{Falls, forgive, forgiven, left_of, over_falls, really, sends_or, writes_of}
 use Rattle.run_falls.specs.FollowsFalling.{AllFallen, HasFallen}
 use Rattle.run_falls.proofs.Falling.{NoneFall, all_really, decide, elsewhere_still, fall_at, fall_if, falls_by, here, none_fall, none_of_rest, rest_none, there, with_fall}
 use Rattle.run_falls.proofs.Forgiving.{AllDir, AreFresh}

@@ -1,7 +1,7 @@
 use Rattle.std.proofs.Common.{◌≡◌, ◌<◌, ◌≤◌, ◌⊎◌, inl, inr, ℕ, zero, suc, Bool, true, false, ◌&&◌, ◌||◌, eqb, if◌then◌else◌, List, [], ◌∷◌, ◌++◌, length, map, take, get_or, set, Option, Some, None, refl, sym, ap, subst, ◌∙◌, arith}
 use Rattle.std.specs.Prelude.{Result, Ok, Err, IfSome, ltb}
-use Rattle.std.proofs.lemmas.Bool.{eq-eqb, eqb-true, false≢true}
-use Rattle.page_pool.specs.Cells.{gather, scatter}
+use Rattle.std.proofs.lemmas.Bool.{eqb-true, false≢true}
+use Rattle.page_pool.specs.Cells.{scatter}
 use Rattle.pi_tuple.specs.declared.checks.Check.{Check}
 use Rattle.target_answer.specs.declared.units.UnitSpec.{UnitSpec}
 use Rattle.target_answer.specs.Target.{Stop}
@@ -10,10 +10,9 @@ use Rattle.bio_core.specs.declared.fate.Fate.{Fate}
 use Rattle.bio_core.specs.declared.fate.Fate.TheVariants.{Bad, Good, Untouched}
 use Rattle.bio_core.specs.declared.fate.Why.{Why}
 use Rattle.bio_core.specs.declared.fate.Why.TheVariants.{Medium}
-use Rattle.bio_core.specs.declared.request.Dir.TheVariants.{Read, Write}
+use Rattle.bio_core.specs.declared.request.Dir.TheVariants.{Write}
 use Rattle.bio_core.specs.declared.request.Io.{Io}
 use Rattle.stack_ops.specs.declared.op.Op.{Op}
-use Rattle.block_path.specs.declared.route.Route.{Route}
 use Rattle.block_path.specs.Acts.{State, act}
 use Rattle.block_path.specs.Blocks.{Site, own_cell, stored_cell, written_by}
 use Rattle.block_path.specs.Moves.{carry_out}
@@ -25,7 +24,7 @@ use Rattle.dix_adapter.specs.declared.adapter.Adapter.{Adapter}
 use Rattle.dix_adapter.specs.Carried.{any_bad, frame_sent, is_bad, sends}
 use Rattle.dix_adapter.specs.Groups.{frame_cells, frame_in, label_of, route_of}
 use Rattle.dix_adapter.specs.Ways.{acts_out, cells_out, fates_out, frames_out, left_at, site_of, stopped_out, ways_out}
-use Rattle.run_follows.specs.Sending.{AllGoOut, out_acts, out_fates, with_fate, with_fates, with_status}
+use Rattle.run_follows.specs.Sending.{AllGoOut, out_acts, out_fates, with_fates, with_status}
 use Rattle.run_follows.specs.Slots.{Carried, Status}
 use Rattle.run_follows.proofs.Recording.{arrived}
 use Rattle.run_follows.proofs.Sends.{with_here, with_other}
@@ -397,7 +396,6 @@ module _ (a : Adapter) (ios : List Io) (units : List UnitSpec) (cells : List ℕ
         let g = both (is_bad (sends a ios cells b)) (any_bad (map (sends a ios cells) bs)) good in
         by (falls (label_of b)) refl (stored b) (ap (λ x. goes_out m.site.faults (falling falls m.site.device) (route_of a ios b) (frame_in ios x b)) p ∙ goes b g.0) (λ now p. blocks_walk bs now p g.1)
       where
-
         by : (o : Option (List ℕ)) → falls (label_of b) ≡ o → (came : Came) → goes_out m.site.faults (falling falls m.site.device) (route_of a ios b) (frame_in ios now.bytes b) ≡ at_device (sent b) (stores_or o came) →
             ((now : State) → now.bytes ≡ cells → (plain act (out_acts (over_falls m falls) a ios bs (walk_cames falls bs)) now).blocks ≡ fill falls bs (plain act (take (length (frames_out (real_ways falls bs))) (acts_out a ios units bs)) now).blocks) →
             (plain act (out_acts (over_falls m falls) a ios (b ∷ bs) (came_here o came (sent b) (walk_cames falls bs))) now).blocks

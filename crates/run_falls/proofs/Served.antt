@@ -1,11 +1,8 @@
-use Rattle.std.proofs.Common.{◌≡◌, ◌<◌, ◌⊎◌, ℕ, suc, false, List, [], ◌∷◌, ◌++◌, length, get_or, Some, None, refl, sym, ap, subst, ◌∙◌}
+use Rattle.std.proofs.Common.{◌<◌, ℕ, List, ◌∷◌, ◌++◌, length, sym, subst}
 use Rattle.page_pool.specs.declared.segs.Seg.{Seg}
-use Rattle.page_pool.specs.Cells.{gather}
 use Rattle.integrity_payload.specs.declared.payload.Owner.{Owner}
-use Rattle.bio_core.specs.declared.fate.Why.TheVariants.{Medium}
 use Rattle.stack_ops.specs.declared.op.Op.{Op}
 use Rattle.stack_ops.specs.declared.reply.Reply.{Reply}
-use Rattle.stack_ops.specs.declared.reply.Reply.TheVariants.{Silent}
 use Rattle.block_path.specs.Acts.{State}
 use Rattle.block_path.specs.Moves.{hidden}
 use Rattle.whole_run.specs.Settings.{Setting}

@@ -1,5 +1,5 @@
-use Rattle.std.proofs.Common.{◌≡◌, ◌⊎◌, inl, inr, ℕ, zero, suc, ◌+◌, Bool, true, false, if◌then◌else◌, List, [], ◌∷◌, ◌++◌, length, get_or, Option, Some, None, refl, sym, ap, subst, ◌∙◌}
-use Rattle.std.specs.Prelude.{Result, Ok, Err, IfSome}
+use Rattle.std.proofs.Common.{◌≡◌, ◌⊎◌, inl, inr, ℕ, suc, ◌+◌, Bool, true, false, if◌then◌else◌, List, [], ◌∷◌, ◌++◌, length, get_or, Option, Some, None, refl, sym, ap, subst, ◌∙◌}
+use Rattle.std.specs.Prelude.{IfSome}
 use Rattle.std.proofs.lemmas.Bool.{false≢true}
 use Rattle.page_pool.specs.Cells.{flat}
 use Rattle.fault_schedule.specs.declared.Label.{Label}
@@ -9,17 +9,16 @@ use Rattle.bio_core.specs.declared.fate.Fate.{Fate}
 use Rattle.bio_core.specs.declared.fate.Fate.TheVariants.{Bad, Good, Untouched}
 use Rattle.bio_core.specs.declared.fate.Why.{Why}
 use Rattle.bio_core.specs.declared.fate.Why.TheVariants.{Medium}
-use Rattle.bio_core.specs.declared.request.Dir.{Dir}
 use Rattle.bio_core.specs.declared.request.Dir.TheVariants.{Read, Write as WriteDir}
 use Rattle.bio_core.specs.declared.request.Io.{Io}
 use Rattle.stack_ops.specs.declared.op.Op.{Op}
-use Rattle.block_path.specs.Acts.{Act, State, act, tell}
+use Rattle.block_path.specs.Acts.{State, act, tell}
 use Rattle.block_path.specs.Blocks.{Answer, Sent, silent}
 use Rattle.block_path.specs.Moves.{first_why}
 use Rattle.block_path.specs.Serial.{plain, plain_tells}
 use Rattle.whole_run.specs.ScriptWalk.{acts_of}
 use Rattle.whole_run.specs.Settings.{Setting}
-use Rattle.whole_run.specs.Steps.{Alters, Reads, Seals, Sets, Shows, Step, Writes, WritesPi, steps_of}
+use Rattle.whole_run.specs.Steps.{Alters, Reads, Seals, Sets, Shows, Step, Writes, WritesPi}
 use Rattle.run_moves.specs.BoundRun.{fates, rooms}
 use Rattle.run_moves.specs.OpsApart.{IsPlaced, OneCellEach}
 use Rattle.run_moves.specs.ScriptMoves.{own_at}
@@ -28,8 +27,8 @@ use Rattle.dix_adapter.specs.Carried.{Unsent}
 use Rattle.dix_adapter.specs.Groups.{IsGroup, blocks_in, first_of, label_of}
 use Rattle.run_follows.specs.Following.{Becomes, Follows}
 use Rattle.run_follows.specs.Gate.{AllPlaced, BecomesDone, IsAlone, LetsIn, MayMove, Spot, number, ops_of, parts_at, place}
-use Rattle.run_follows.specs.Pieces.{AllMayMove, IsNoneOf, all_cut, all_made, with_all}
-use Rattle.run_follows.specs.Sending.{AllGoing, HeldBack, with_fate, with_fates, with_status}
+use Rattle.run_follows.specs.Pieces.{AllMayMove, all_cut, all_made, with_all}
+use Rattle.run_follows.specs.Sending.{AllGoing, with_fate, with_fates, with_status}
 use Rattle.run_follows.specs.Slots.{Admitted, Carried, Cut, Done, Settled, Status, Waits, parts_of, write_parts}
 use Rattle.run_follows.proofs.Begins.{begin_all}
 use Rattle.run_follows.proofs.Holding.{held_back}
@@ -38,13 +37,12 @@ use Rattle.run_follows.proofs.Quietly.{listed_as, settled_quiet}
 use Rattle.run_follows.proofs.Sends.{with_other}
 use Rattle.run_follows.proofs.Together.{all_admitted, all_are_cut}
 use Rattle.run_follows.proofs.Wholly.{wholly}
-use Rattle.run_falls.specs.Falls.{Falls, falling, forgive, forgiven, is_write, left_of, none_falls, of_blocks, over_falls, writes_of}
+use Rattle.run_falls.specs.Falls.{Falls, falling, forgive, forgiven, is_write, left_of, none_falls, over_falls, writes_of}
 use Rattle.run_falls.specs.FollowsFalling.{AllFallen, FollowsFalling, HasFallen}
 use Rattle.run_falls.proofs.Falling.{IsNone, NoneFall, decide}
-use Rattle.run_falls.proofs.Forgiving.{AllDir, AllOf, IsOf, are_fresh, of_midst, op_of, op_there, still_going, still_lets, still_may, still_over}
+use Rattle.run_falls.proofs.Forgiving.{AllOf, IsOf, of_midst, op_of, op_there, still_going, still_lets, still_may, still_over}
 use Rattle.run_falls.proofs.Outward.{forgiven_at, forgiven_here, if_some, left_none, not_here, some_if}
 use Rattle.run_falls.proofs.OverDevice.{acts_over, all_placed_over, going_over, lets_over, may_over, moves_over, placed_over}
-use Rattle.run_falls.proofs.SentOut.{turn_dir}
 
 -- The steps of a stack whose store calls may have failed, but for the sending of a command.
 

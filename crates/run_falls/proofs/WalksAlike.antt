@@ -1,4 +1,4 @@
-use Rattle.std.proofs.Common.{◌≡◌, ℕ, zero, suc, ◌+◌, Bool, true, false, if◌then◌else◌, List, [], ◌∷◌, ◌++◌, length, map, drop, get_or, replicate, Option, Some, None, refl, sym, ap, subst, ◌∙◌}
+use Rattle.std.proofs.Common.{◌≡◌, ℕ, Bool, true, false, List, [], ◌∷◌, length, drop, get_or, Option, Some, None, refl, sym, ap, subst, ◌∙◌}
 use Rattle.std.specs.Prelude.{Result, Ok, Err}
 use Rattle.std.proofs.lemmas.Bool.{false≢true}
 use Rattle.page_pool.specs.Cells.{gather, scatter}
@@ -7,19 +7,18 @@ use Rattle.pi_tuple.specs.Tuples.{tuple_bytes}
 use Rattle.pi_tuple.specs.declared.checks.Check.{Check}
 use Rattle.integrity_payload.specs.declared.payload.Owner.{Owner}
 use Rattle.bio_core.specs.declared.fate.Why.{Why}
-use Rattle.bio_core.specs.declared.fate.Why.TheVariants.{Adapter, Medium}
+use Rattle.bio_core.specs.declared.fate.Why.TheVariants.{Medium}
 use Rattle.block_path.specs.declared.route.Route.{Route}
-use Rattle.block_path.specs.Acts.{Act, Effect, State, act, effect, tell}
+use Rattle.block_path.specs.Acts.{Effect, State, act, effect, tell}
 use Rattle.block_path.specs.Blocks.{Answer, fetched_cell, own_cell, own_frame, read_by, stored_cell, tuple_after, written_by}
 use Rattle.block_path.specs.Moves.{on_bytes}
 use Rattle.block_path.specs.Routes.{Device}
-use Rattle.block_path.specs.Serial.{plain, plain_tells}
 use Rattle.block_path.specs.WayIn.{WayIn, Delivers, Spoils, Stops, from_device, verified}
 use Rattle.block_path.specs.WayOut.{at_device, from_adapter, mapped_out, to_wire}
 use Rattle.whole_run.specs.ScriptWalk.{act_of, changed, source_of}
 use Rattle.whole_run.specs.Settings.{Block, Setting, route}
 use Rattle.whole_run.specs.Steps.{Alters, Reads, Seals, Sets, Shows, Step, Writes, WritesPi}
-use Rattle.run_laws.specs.StoreFaults.{failing, fallen, leaving, may_fall, or_fallen}
+use Rattle.run_laws.specs.StoreFaults.{failing, leaving, may_fall, or_fallen}
 use Rattle.run_falls.specs.Falls.{Falls, falling, of_blocks, over_falls, sends_or, stores_or}
 
 -- The walk over the device whose store calls fail, and the walk in which these fail: they leave the same pages and stored blocks, and a write whose call fails is accepted in the one and listed for the medium in the other.

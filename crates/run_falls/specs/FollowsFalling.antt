@@ -1,5 +1,4 @@
-use Rattle.std.specs.Prelude.{ℕ, ◌≡◌, List, [], length, Option, Some, None, IfSome}
-use Rattle.bio_core.specs.declared.fate.Why.{Why}
+use Rattle.std.specs.Prelude.{ℕ, ◌≡◌, List, [], length, Some, IfSome}
 use Rattle.bio_core.specs.declared.fate.Why.TheVariants.{Medium}
 use Rattle.fault_schedule.specs.declared.Label.{Label}
 use Rattle.target_answer.specs.Frames.{stored_size}
