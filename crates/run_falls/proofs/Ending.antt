@@ -27,7 +27,7 @@ use Rattle.run_follows.specs.Slots.{Status}
 use Rattle.run_follows.proofs.Ends.{ends_as_walk}
 use Rattle.run_falls.specs.AtTheEnd.{AllTakeAny, EndsAsFalling, OpTakesAny, TakesAny}
 use Rattle.run_falls.specs.Falls.{Falls, falling, forgive, forgiven, is_write, left_of, of_blocks, over_falls, sends_or, stores_or, writes_of}
-use Rattle.run_falls.specs.FollowsFalling.{AllFallen, AllSized, FollowsFalling, HasFallen}
+use Rattle.run_falls.specs.FollowsFalling.{AllFallen, LeavesSized, FollowsFalling, HasFallen}
 use Rattle.run_falls.proofs.Forgiving.{AllOf, IsOf, op_of}
 use Rattle.run_falls.proofs.Outward.{one_more}
 use Rattle.run_falls.proofs.OverDevice.{same_rooms, same_steps}
@@ -106,7 +106,7 @@ steps_ended k (step ∷ steps) o status h = (ended_still (o k) step (status k) h
 
 -- a setting whose store calls fail is bound
 
-module _ (m : Setting) (falls : Falls) (sized : AllSized (stored_size m.ty m.size) falls) (fine : ℕ → List ℕ → Bool) where
+module _ (m : Setting) (falls : Falls) (sized : LeavesSized (stored_size m.ty m.size) falls) (fine : ℕ → List ℕ → Bool) where
   suit_over : (i v n : ℕ) → TakesAny m fine i v n → AllSuit m fine i v n → AllSuit (over_falls m falls) fine i v n
   suit_over i v n takes h k l =
       let b = block_of i v k in
@@ -292,7 +292,7 @@ module _ (m : Setting) (falls : Falls) where
       (subst (λ xs. replies_of over (suc i) ops (forgiven script falls status) ≡ replies_from over (suc i) ops (plain act (map (act_of over) xs) s)) (sym (same i op)) (ap other_replies e)))
 
 pub ends_as_falling : (m : Setting) (fine : ℕ → List ℕ → Bool) (n : ℕ) (ops : List Op) (opening : State) (status : ℕ → ℕ → Status) (pages : List ℕ) (blocks : List (List ℕ)) (es : List Sent) → IsBoundRun m fine n ops opening →
-    AllTakeAny m fine 1 ops → AllEnded m 1 ops status → FollowsFalling m n ops opening status pages blocks es → EndsAsFalling m n ops opening (take n pages) blocks (replies_of m 1 ops status)
+    AllTakeAny m fine 1 ops → AllEnded m 1 ops status → FollowsFalling m n ops opening status pages blocks es → EndsAsFalling m n ops opening (take n pages) blocks (replies_of m 1 ops status) es
 ends_as_falling m fine n ops opening status pages blocks es run takes ended h =
     let over = over_falls m h.falls in
     let bound = bound_over m h.falls h.sized fine n ops opening takes run in
@@ -304,4 +304,7 @@ ends_as_falling m fine n ops opening status pages blocks es run takes ended h =
       pages_are = ap (take n) (sym h.bytes) ∙ ap (λ (s : State). s.bytes) walk.cells ∙ sees.bytes;
       blocks_are = sym h.blocks_are ∙ ap (λ (s : State). s.blocks) walk.cells ∙ sees.blocks;
       replies_are = replies_alike m h.falls ops 1 ops status start start (λ j. ap (writes_of ops) (let q : 1 + j ≡ suc j = omega arith in q)) ended h.fallen (record { bytes = refl; blocks = refl }) walk.replies;
+      told = h.told;
+      recorded = walk.recorded;
+      on_record = h.on_record;
     }

@@ -13,7 +13,7 @@ use Rattle.run_follows.specs.Sending.{IsElsewhere, is_carried}
 use Rattle.run_follows.specs.Slots.{Cut, Status}
 use Rattle.target_answer.specs.Target.{Stop}
 use Rattle.run_falls.specs.Falls.{Falls, forgive, forgiven, left_of, put_really, really, writes_of}
-use Rattle.run_falls.specs.FollowsFalling.{AllSized}
+use Rattle.run_falls.specs.FollowsFalling.{LeavesSized}
 use Rattle.run_falls.proofs.Forgiving.{AreFresh}
 
 -- One store call more fails.
@@ -138,7 +138,7 @@ carried_none status (b ∷ bs) i k g h = ((λ p q. false≢true (ap is_carried (
 
 -- what is left has its size
 
-sized_at : (size : ℕ) (bs : List Block) (at : ℕ) (left : List ℕ) (falls : Falls) → length left ≡ size → AllSized size falls → AllSized size (fall_at bs at left falls)
+sized_at : (size : ℕ) (bs : List Block) (at : ℕ) (left : List ℕ) (falls : Falls) → length left ≡ size → LeavesSized size falls → LeavesSized size (fall_at bs at left falls)
 sized_at size [] at left falls l h label = h label
 sized_at size (b ∷ bs) zero left falls l h label = by (eqb label.op b.op && eqb label.k b.k) where
   by : (c : Bool) → IfSome (or_left c left (falls label)) (λ left. length left ≡ size)
@@ -146,10 +146,10 @@ sized_at size (b ∷ bs) zero left falls l h label = by (eqb label.op b.op && eq
   by false = h label
 sized_at size (b ∷ bs) (suc at) left falls l h label = sized_at size bs at left falls l h label
 
-pub sized_by : (size : ℕ) (stop : Option Stop) (limit : ℕ) (bs : List Block) (falls : Falls) → IfSome stop (λ s. length s.left ≡ size) → AllSized size falls → AllSized size (falls_by stop limit bs falls)
+pub sized_by : (size : ℕ) (stop : Option Stop) (limit : ℕ) (bs : List Block) (falls : Falls) → IfSome stop (λ s. length s.left ≡ size) → LeavesSized size falls → LeavesSized size (falls_by stop limit bs falls)
 sized_by size None limit bs falls l h = h
 sized_by size (Some s) limit bs falls l h = by (ltb s.at limit) where
-  by : (c : Bool) → AllSized size (fall_if c bs s.at s.left falls)
+  by : (c : Bool) → LeavesSized size (fall_if c bs s.at s.left falls)
   by true = sized_at size bs s.at s.left falls l h
   by false = h
 

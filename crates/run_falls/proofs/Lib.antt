@@ -11,3 +11,4 @@ mod WalksAlike
 mod Ending
 mod Served
 mod Stepping
+mod FallsRows

@@ -9,7 +9,7 @@ use Rattle.stack_ops.specs.declared.op.Op.TheVariants.{Fetch, FetchPi, Fill, Ove
 use Rattle.stack_ops.specs.declared.reply.Reply.{Reply}
 use Rattle.stack_ops.specs.declared.reply.Reply.TheVariants.{Silent}
 use Rattle.block_path.specs.Acts.{State}
-use Rattle.block_path.specs.Blocks.{stored_cell}
+use Rattle.block_path.specs.Blocks.{Sent, stored_cell}
 use Rattle.block_path.specs.Moves.{hidden}
 use Rattle.whole_run.specs.FirstLayer.{last_accepted}
 use Rattle.whole_run.specs.Past.{steps_from}
@@ -17,7 +17,8 @@ use Rattle.whole_run.specs.Settings.{Block, Setting, block_of, route}
 use Rattle.run_laws.specs.FallingReads.{IsReadAs, falling_replies}
 use Rattle.run_laws.specs.ReadsAs.{landing, listed_in, read_op}
 use Rattle.run_laws.specs.StoreFaults.{falling_past, falling_walk, is_lost}
-use Rattle.run_falls.specs.Falls.{Falls, of_blocks}
+use Rattle.run_record.specs.ToldRun.{IsRecordOf}
+use Rattle.run_falls.specs.Falls.{Falls, of_blocks, over_falls, put_really}
 
 -- A stack once all has ended, where store calls failed.
 
@@ -42,12 +43,15 @@ abbrev pub AllTakeAny : Setting → (fine : ℕ → List ℕ → Bool) → (i : 
 AllTakeAny m fine i [] = Unit {0}
 AllTakeAny m fine i (op ∷ ops) = OpTakesAny m fine i op × AllTakeAny m fine (suc i) ops
 
--- Some store calls failed, and pages in front of the private ones, stored blocks and replies are those of the walk in which just these fail.
-pub record EndsAsFalling (m : Setting) (n : ℕ) (ops : List Op) (opening : State) (pages : List ℕ) (blocks : List (List ℕ)) (replies : List Reply) : Type 0 where
+-- Some store calls failed. Pages in front of the private ones, stored blocks and replies are those of the walk in which just these fail; what stands on record is told from the record of the walk over the device on which they fail.
+pub record EndsAsFalling (m : Setting) (n : ℕ) (ops : List Op) (opening : State) (pages : List ℕ) (blocks : List (List ℕ)) (replies : List Reply) (es : List Sent) : Type 0 where
   pub falls : Falls
   pub pages_are : pages ≡ (falling_walk m (of_blocks falls) (steps_from m 1 ops) (hidden n opening)).bytes
   pub blocks_are : blocks ≡ (falling_walk m (of_blocks falls) (steps_from m 1 ops) (hidden n opening)).blocks
   pub replies_are : replies ≡ falling_replies m (of_blocks falls) 1 ops (hidden n opening)
+  pub told : List Sent
+  pub recorded : IsRecordOf (over_falls m falls) ops (hidden n opening) told
+  pub on_record : es ≡ put_really m.site falls told []
 
 -- What is listed of block k of a read that follows `before`, by these replies: unless the block is lost, it is the medium, or nothing, and then the last accepted write landed.
 abbrev pub ReadsOrFails : Setting → (falls : Block → Option (List ℕ)) → (before : List Op) → Owner → (v n : ℕ) → (body tuples : List Seg) → State → List Reply → (k : ℕ) → Type 0

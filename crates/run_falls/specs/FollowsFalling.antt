@@ -25,8 +25,8 @@ abbrev pub AllFallen : Falls → (ℕ → ℕ → Status) → Type 0
 AllFallen falls status = (i k : ℕ) → IfSome (falls (record { op = i; k = k })) (λ left. HasFallen (status i k))
 
 -- what is left has the size of a stored block
-abbrev pub AllSized : (size : ℕ) → Falls → Type 0
-AllSized size falls = (label : Label) → IfSome (falls label) (λ left. length left ≡ size)
+abbrev pub LeavesSized : (size : ℕ) → Falls → Type 0
+LeavesSized size falls = (label : Label) → IfSome (falls label) (λ left. length left ≡ size)
 
 -- Some store calls failed. Over the device on which just these fail the stack follows the walk, with its statuses told so; pages and stored blocks are those there; and what stands on record is told from the record there.
 pub record FollowsFalling (m : Setting) (n : ℕ) (ops : List Op) (opening : State) (status : ℕ → ℕ → Status) (pages : List ℕ) (blocks : List (List ℕ)) (es : List Sent) : Type 0 where
@@ -38,4 +38,4 @@ pub record FollowsFalling (m : Setting) (n : ℕ) (ops : List Op) (opening : Sta
   pub blocks_are : after.blocks ≡ blocks
   pub on_record : es ≡ put_really m.site falls told []
   pub fallen : AllFallen falls status
-  pub sized : AllSized (stored_size m.ty m.size) falls
+  pub sized : LeavesSized (stored_size m.ty m.size) falls
