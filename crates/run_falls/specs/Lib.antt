@@ -1,0 +1,3 @@
+pub mod Falls
+pub mod FollowsFalling
+pub mod AtTheEnd
