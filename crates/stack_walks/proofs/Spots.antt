@@ -68,11 +68,10 @@ lets_from : (m : Setting) (status : ℕ → ℕ → Status) (from i : ℕ) (ops 
 lets_from m status from zero ops j other l h = tt
 lets_from m status from (suc i) [] j other l h = absurd (omega arith)
 lets_from m status from (suc i) (op ∷ ops) j other l h =
-    let z : from + 0 ≡ from = omega arith in
-    (
+    let z : from + 0 ≡ from = omega arith in (
       subst (λ (x : ℕ). AreOver 0 (steps_of m x op) (status x) ⊎ ¬ OpsConflict m x op j other) z (h 0 (omega arith)),
       lets_from m status (suc from) i ops j other (omega arith)
-      (λ k w. let e : from + suc k ≡ suc from + k = omega arith in subst (λ (x : ℕ). AreOver 0 (steps_of m x (op_in ops k)) (status x) ⊎ ¬ OpsConflict m x (op_in ops k) j other) e (h (suc k) (omega arith))),
+          (λ k w. let e : from + suc k ≡ suc from + k = omega arith in subst (λ (x : ℕ). AreOver 0 (steps_of m x (op_in ops k)) (status x) ⊎ ¬ OpsConflict m x (op_in ops k) j other) e (h (suc k) (omega arith))),
     )
 
 -- all that the gate asks of op i, from 0

@@ -49,8 +49,7 @@ module _ (m : Setting) (ops : List Op) (i : ℕ) (l : i < length ops) where
     all_may k (suc c) w z h =
         let n = steps_count m (suc i) (op_in ops i) z in
         let a = spot_number m ops i k l in
-        let b = spot_place m ops i k (omega arith) in
-        (
+        let b = spot_place m ops i k (omega arith) in (
           spot_ops m ops i k l,
           (
             may_move m bytes logs ops g status i k l (omega arith) lets,
