@@ -1,4 +1,4 @@
-use Rattle.std.proofs.Common.{ℕ, ◌≡◌, inl, inr, ◌+◌, ◌<◌, ◌≤◌, true, false, List, [], ◌++◌, length, Option, Some, None, Result, Ok, Err, refl, sym, ap, subst, ◌∙◌, arith, append-nil, length-append}
+use Rattle.std.proofs.Common.{ℕ, ◌≡◌, inl, inr, ◌<◌, ◌≤◌, true, false, List, length, Option, Some, None, Result, Ok, Err, refl, sym, ap, subst, ◌∙◌, arith, length-append}
 use Rattle.std.specs.Prelude.{IfErr, MatchResult, is_some, nat_lt}
 use Rattle.std.proofs.lemmas.Bool.{lt-ltb}
 use Rattle.dix_base.specs.Told.{Calm, Rose, Took}
@@ -21,7 +21,7 @@ use Rattle.volume_table.specs.declared.fault.VolumeFault.TheVariants.{At}
 use Rattle.volume_table.specs.declared.fault.VolumeKind.{VolumeKind}
 use Rattle.script_verdict.proofs.Devices.{image_devices}
 use Rattle.source_text.proofs.Taking.{most_is, whole_text}
-use Rattle.source_text.specs.Reading.{IsOver, IsWhole}
+use Rattle.source_text.specs.Reading.{IsOver}
 use Rattle.script_verdict.specs.Verdict.{CauseRefused, CauseStopped, CauseUntaken, Facts, HasBadVolume, HasRead, HasRunSource, HasTable, HoldsFault, IsComplete, IsUnbound, StopsFromOutside, devices_of, table_over}
 use Rattle.script_verdict.specs.declared.verdict.Finished.{Finished}
 use Rattle.script_verdict.specs.declared.refusal.Refusal.{Refusal}

@@ -1,4 +1,4 @@
-use Rattle.std.proofs.Common.{ℕ, ◌≡◌, ◌+◌, ◌*◌, ◌≤◌, true, false, List, [], ◌++◌, length, drop, Option, Some, None, refl, sym, ap, subst, ◌∙◌, arith}
+use Rattle.std.proofs.Common.{ℕ, ◌≡◌, ◌+◌, ◌*◌, ◌<◌, true, false, List, [], ◌∷◌, ◌++◌, length, drop, Option, Some, None, refl, sym, ap, subst, ◌∙◌}
 use Rattle.std.specs.Prelude.{is_some, map}
 use Rattle.dix_base.specs.Told.{Calm}
 use Rattle.fault_schedule.specs.declared.fault.FaultLine.{FaultLine}
@@ -25,7 +25,11 @@ use Rattle.script_stack.specs.Followed.{BeginsTold, BeginsWalks, HasWalked, IsBa
 use Rattle.script_stack.specs.Going.{Outside, Went}
 use Rattle.script_stack.proofs.Following.{behind, told-shapes, told-stored}
 use Rattle.image_commands.specs.Views.{View}
-use Rattle.script_verdict.specs.Verdict.{Followed, HasPlain, opening_told, setting_told}
+use Rattle.page_pool.specs.declared.segs.Seg.{Seg}
+use Rattle.integrity_payload.specs.declared.payload.Owner.{Owner}
+use Rattle.run_laws.specs.ReadsAs.{ReadsRightly, read_op}
+use Rattle.run_laws.specs.ShownRun.{IsShownRun}
+use Rattle.script_verdict.specs.Verdict.{AllReadRightly, Followed, HasPlain, HasReadRightly, opening_told, setting_told}
 use Rattle.block_path.specs.Acts.{State}
 use Rattle.stack_ops.specs.declared.op.Op.{Op}
 use Rattle.whole_run.specs.CalmRun.{IsCalmRun}
@@ -140,11 +144,28 @@ plain_at s t devices begun r old new law same under o us e calm run =
     let w = walked_at s t devices begun r old new law o us e calm in
     (w.0, w.1, plain_of s t us w.0 r.pool o.goes.more r.replies.items same under run w.2)
 
-pub followed : (s : Script) (t : Table) (devices : List DeviceInfo) (begun r : Stack) (old new : View) → BackedLaw → ToldLaw → RepliesLaw → UnderLaw → IsOver s t devices begun r old new → Followed s t devices old new r.pool r.replies.items
-followed s t devices begun r old new backed told same under o = record {
+-- the law of reads under scheduled faults
+abbrev pub DetectionLaw : Type 0
+DetectionLaw = (m : Setting) (devices : List DeviceInfo) (before after : List Op) (owner : Owner) (v n k : ℕ) (body tuples : List Seg) (opening : State) → IsShownRun m devices (before ++ (read_op owner v n body tuples ∷ after)) opening → k < n
+    → ReadsRightly m before owner v n body tuples after opening k
+
+reads_rightly : (m : Setting) (devices : List DeviceInfo) (ops : List Op) (opening : State) (replies : List Reply) → DetectionLaw → IsShownRun m devices ops opening → replies ≡ script_replies m ops opening → AllReadRightly m ops opening replies
+reads_rightly m devices ops opening replies law run same before after owner v n k body tuples is l =
+    subst (λ (r : List Reply). HasReadRightly m before owner v n body tuples opening r k) (sym (same ∙ ap (λ (all : List Op). script_replies m all opening) is))
+    (law m devices before after owner v n k body tuples opening (subst (λ (all : List Op). IsShownRun m devices all opening) is run) l)
+
+shown_at : (s : Script) (t : Table) (devices : List DeviceInfo) (begun r : Stack) (old new : View) → ToldLaw → DetectionLaw → (o : IsOver s t devices begun r old new) → (us : List Stored) → old.seen.units ≡ Some us → Calm old.seen.faults new.seen.faults →
+    IsShownRun (setting_told s t us) devices s.ops (opening_told s us) → AllReadRightly (setting_told s t us) s.ops (opening_told s us) r.replies.items
+shown_at s t devices begun r old new law detects o us e calm run =
+    let w = walked_at s t devices begun r old new law o us e calm in
+    reads_rightly (setting_told s t us) devices s.ops (opening_told s us) r.replies.items detects run w.2.replies_are
+
+pub followed : (s : Script) (t : Table) (devices : List DeviceInfo) (begun r : Stack) (old new : View) → BackedLaw → ToldLaw → RepliesLaw → UnderLaw → DetectionLaw → IsOver s t devices begun r old new → Followed s t devices old new r.pool r.replies.items
+followed s t devices begun r old new backed told same under detects o = record {
   tells = o.tells;
   goes = o.goes;
   backed = backed_by s t devices begun r old new backed o;
   plain = plain_at s t devices begun r old new told same under o;
+  shown = shown_at s t devices begun r old new told detects o;
   walked = walked_at s t devices begun r old new told o;
 }

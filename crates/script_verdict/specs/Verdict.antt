@@ -1,4 +1,4 @@
-use Rattle.std.specs.Prelude.{ℕ, ◌≡◌, ◌+◌, ◌*◌, ◌⊎◌, List, [], length, map, take, is_some, Option, Some, None, Err, Ok}
+use Rattle.std.specs.Prelude.{ℕ, suc, ◌≡◌, ◌+◌, ◌*◌, ◌<◌, ◌⊎◌, List, [], ◌∷◌, ◌++◌, length, get_or, map, take, is_some, Option, Some, None, Err, Ok}
 use Rattle.dix_base.specs.Told.{Calm, Rose}
 use Rattle.page_pool.specs.Pages.{IsBlank}
 use Rattle.dix_adapter.specs.Groups.{mode_of}
@@ -15,10 +15,19 @@ use Rattle.script_text.specs.declared.script.Script.{Script}
 use Rattle.script_stack.specs.Followed.{HasWalked, IsBackedBy, none_fails, opening_of, setting_of}
 use Rattle.block_path.specs.Acts.{State}
 use Rattle.dix_adapter.specs.Ways.{blocks_told, shapes_of}
-use Rattle.page_pool.specs.Cells.{flat}
+use Rattle.page_pool.specs.declared.segs.Seg.{Seg}
+use Rattle.page_pool.specs.Cells.{flat, gather}
+use Rattle.integrity_payload.specs.declared.payload.Owner.{Owner}
+use Rattle.run_laws.specs.ReadsAs.{ReadsAs, landing, listed_in, read_op}
+use Rattle.run_laws.specs.ShownRun.{IsShownRun}
+use Rattle.stack_ops.specs.declared.op.Op.{Op}
+use Rattle.stack_ops.specs.declared.reply.Reply.TheVariants.{Silent}
+use Rattle.whole_run.specs.FirstLayer.{first_layer, last_accepted}
+use Rattle.whole_run.specs.Past.{past_after, steps_from}
+use Rattle.whole_run.specs.ScriptWalk.{script_walk}
 use Rattle.whole_run.specs.CalmRun.{IsCalmRun}
 use Rattle.whole_run.specs.PlainMap.{plain_map, plain_replies}
-use Rattle.whole_run.specs.Settings.{Setting}
+use Rattle.whole_run.specs.Settings.{Setting, block_of}
 use Rattle.whole_run.specs.UnderMap.{opened, under}
 use Rattle.stack_core.specs.Requests.{pages_from, requests_from}
 use Rattle.stack_core.specs.Stacks.{GoesOn, IsStack, Stays, plan_in}
@@ -145,13 +154,28 @@ pub record HasPlain (script : Script) (table : Table) (us left : List Stored) (p
   pub pages : take (4096 * script.pages) (flat pool) ≡ (plain_map (setting_told script table us) script.ops (opened (setting_told script table us) (opening_told script us))).bytes
   pub blocks : blocks_told left ≡ under (setting_told script table us) 0 (plain_map (setting_told script table us) script.ops (opened (setting_told script table us) (opening_told script us))).map (blocks_told us)
 
--- What the steps of a script over its volume did, from the rig that told what its devices are to the rig as it is afterwards, with these pages and replies. Over any rig, honest or not, the records of the steps back the replies. Over a rig that tells its blocks, and whose count of faults didn't rise, replies, pages and stored blocks are those of the script's ops done one after another at the target, and the records hold what these carry; and where no fault is scheduled, the blocks are clean and no write supplies an escape, they are those of the plain map.
+-- Block k of the read that follows these ops, by the replies of the run: it is listed exactly where there is a first layer that checks after a fault, with that layer and with the check that is found in the frame that arrives there. Else what lands is the last accepted write's: its data, and where an application takes tuples its tag. What is past and stored is told as it is when the op begins.
+abbrev pub HasReadRightly : Setting → (before : List Op) → Owner → (v n : ℕ) → (body tuples : List Seg) → State → List Reply → (k : ℕ) → Type 0
+HasReadRightly m before owner v n body tuples opening replies k =
+    let b = block_of (suc (length before)) v k in
+    let past = past_after m (steps_from m 1 before) opening [] in
+    ReadsAs m b owner (first_layer m past b) (last_accepted m opening b past) (script_walk m before opening).blocks (listed_in (get_or replies (length before) Silent) k)
+    (gather 0 (landing m.size owner body tuples k) (script_walk m (before ++ (read_op owner v n body tuples ∷ [])) opening).bytes)
+
+-- each block of each read
+abbrev pub AllReadRightly : Setting → List Op → State → List Reply → Type 0
+AllReadRightly m ops opening replies = (before after : List Op) (owner : Owner) (v n k : ℕ) (body tuples : List Seg) → ops ≡ before ++ (read_op owner v n body tuples ∷ after) → k < n
+    → HasReadRightly m before owner v n body tuples opening replies k
+
+-- What the steps of a script over its volume did, from the rig that told what its devices are to the rig as it is afterwards, with these pages and replies. Over any rig, honest or not, the records of the steps back the replies. Over a rig that tells its blocks, and whose count of faults didn't rise, replies, pages and stored blocks are those of the script's ops done one after another at the target, and the records hold what these carry; and where no fault is scheduled, the blocks are clean and no write supplies an escape, they are those of the plain map. In type 1, with tuples passed all the way and protect field 001b, over clean devices, with no escape and with scheduled faults that can be shown, each block of a read is the last accepted write's or names the first layer that checks after the fault.
 pub record Followed (script : Script) (table : Table) (devices : List DeviceInfo) (old new : View) (pool : List (List ℕ)) (replies : List Reply) : Type 0 where
   pub tells : is_some new.image ≡ is_some old.image
   pub goes : GoesOn old.standing new.standing old.seen.log new.seen.log old.seen.faults new.seen.faults
   pub backed : IsBackedBy script table devices goes.more replies
   pub plain : (us : List Stored) → old.seen.units ≡ Some us → Calm old.seen.faults new.seen.faults → IsCalmRun (setting_told script table us) script.ops (opening_told script us)
       → (left : List Stored) × (new.seen.units ≡ Some left) × HasPlain script table us left pool replies
+  pub shown : (us : List Stored) → old.seen.units ≡ Some us → Calm old.seen.faults new.seen.faults → IsShownRun (setting_told script table us) devices script.ops (opening_told script us)
+      → AllReadRightly (setting_told script table us) script.ops (opening_told script us) replies
   pub walked : (us : List Stored) → old.seen.units ≡ Some us → Calm old.seen.faults new.seen.faults → (left : List Stored) × (new.seen.units ≡ Some left) × HasWalked script table us left pool goes.more replies
 
 -- The image was opened, its devices told what they are, the script is bound to its volume, and the stack of its ops was run to its end.

@@ -13,6 +13,7 @@ use arrayvec::ArrayVec;
 use dix_base::Source;
 use image_commands::told_devices;
 use rig_api::Rig;
+use run_laws::a_read_is_the_last_write_or_names_the_first_layer;
 use script_stack::{
     Run, a_script_run_is_backed, a_told_script_run_has_walked, ready_script, run_all,
 };
@@ -93,6 +94,7 @@ pub fn run_script<R: Rig>(
     a_script_run_is_backed();
     a_told_script_run_has_walked();
     a_calm_walk_is_a_plain_map();
+    a_read_is_the_last_write_or_names_the_first_layer();
     Ok(Finished { stack, first })
 }
 

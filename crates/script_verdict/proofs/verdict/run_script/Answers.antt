@@ -66,7 +66,7 @@ returns-clause-verdict g c = record {
   followed = followed c.args.script c.in-Ok.bound.table c.in-Ok.bound.devices.items c.in-Ok-ready_script.run'.stack c.run_all.new.stack
       (view (g.R.Rig.image c.ready_script.new.rig) (g.R.Rig.standing c.ready_script.new.rig) (seen (g.R.Rig.units c.ready_script.new.rig) (g.R.Rig.log c.ready_script.new.rig) (g.R.Rig.faults c.ready_script.new.rig)))
       (view (g.R.Rig.image c.run_all.new.rig) (g.R.Rig.standing c.run_all.new.rig) (seen (g.R.Rig.units c.run_all.new.rig) (g.R.Rig.log c.run_all.new.rig) (g.R.Rig.faults c.run_all.new.rig)))
-      c.a_script_run_is_backed.ensures c.a_told_script_run_has_walked.ensures c.a_calm_walk_is_a_plain_map.ensures.replies c.a_calm_walk_is_a_plain_map.ensures.under
+      c.a_script_run_is_backed.ensures c.a_told_script_run_has_walked.ensures c.a_calm_walk_is_a_plain_map.ensures.replies c.a_calm_walk_is_a_plain_map.ensures.under c.a_read_is_the_last_write_or_names_the_first_layer.ensures
       (record {
         keeps = c.requires.keeps;
         lines = c.requires.lines;
