@@ -14,7 +14,8 @@ use std::test::Fail;
 /// these are the bytes of an NVM command that aren't always 0. The call of a source, store or sink of a
 /// number fails, a sink has room for so many bytes; before the call a byte of the image becomes another, or
 /// the image ends behind so many.
-const ROWS: &str = "\
+fn rows() -> &'static str {
+    "\
 format|a|1:256|1:256 ; - ; - ; 0 ; formatted 2%
 # No op; a block with its tag there and back; two writes in pieces that a schedule chooses.
 run|a ; ^linear 0 64 dev 0 at 100%begin% ; - ; 0 ; dix report 1%
@@ -155,7 +156,8 @@ modes|3 ; - ; - ; 0 ; off off - none none target target none none%off on 1 none 
 big|1|1 ; x ; store 1 ; 0 ; big 1 1%ops 0 0 1 0%blocks 0 0%bad 0%exchanges 0%sum 3a0b%
 big|8|3 ; - ; source 1 ; 0 ; big 8 3%ops 0 1 4 3%blocks 0 6%bad 0%exchanges 2%sum 4566%
 big|1|1 ; - ; room 5 ; 8 ; big 1
-";
+"
+}
 
 const HEAD: &str = "dix 1\nmode crc on on 1\nlimits 64 16 16\npages 2\n";
 
@@ -260,7 +262,7 @@ fn done_by(alloc: Global, row: &str, mut image: Vec<u8>) -> Result<Left, Fail> {
 fn each_row_comes_to_what_it_says(rt: HostRuntime) -> Result<(), Fail> {
     let mut image = Vec::new(rt.alloc());
     let mut count = 0u32;
-    for row in ROWS.split('\n') {
+    for row in rows().split('\n') {
         if row.is_empty() || row.starts_with('#') {
             continue;
         }
