@@ -2,7 +2,6 @@
 
 mod capacities;
 mod files;
-mod rows;
 mod scrubs;
 
 use crate::run;
