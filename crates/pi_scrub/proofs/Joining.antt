@@ -10,9 +10,8 @@ use Rattle.rig_api.specs.Telling.{unit_at}
 use Rattle.rig_api.specs.declared.rig.Outcome.{Outcome}
 use Rattle.rig_discovery.specs.Discovery.{Ends}
 use Rattle.volume_table.specs.declared.device.DeviceInfo.{DeviceInfo}
-use Rattle.whole_run.specs.Senses.{why_ended}
-use Rattle.whole_run.specs.Walk.{is_medium_why}
-use Rattle.whole_run.proofs.Walks.{write_medium}
+use Rattle.whole_run.specs.Senses.{is_medium_why, why_ended}
+use Rattle.whole_run.proofs.Named.{medium_is}
 use Rattle.pi_scrub.specs.Faults.{all_faults, faults_from, faults_of, listed, stored_finding}
 use Rattle.pi_scrub.specs.Looks.{AreFit, Look, Place, all_entries, all_found, all_looked, all_places, entry_of, found_at, found_by, info_at, looked_at, place_of, places, settled}
 use Rattle.pi_scrub.specs.Scrubbed.{Looked, RoseBy, device_of, is_medium}
@@ -89,7 +88,7 @@ looked_places : (dev lba n : ℕ) (ty : PiType) (o : Outcome) → looked_at (rec
 looked_places dev lba n ty o = places_of dev lba n o (ltb o.done n) refl
 
 medium_key : (s : Option Sense) (done : ℕ) → is_medium_why (why_ended s) ≡ true → IsMedium (record { done = done; sense = s })
-medium_key s done h = write_medium (record { outcome = record { done = 0; sense = s }; frame = [] }) h
+medium_key s done h = medium_is s h
 
 medium_of : (dev lba n o m : ℕ) (out : Outcome) → o ≤ m → (IsMedium out → Rose o m) → RoseBy (count_by is_medium (found_at dev lba n out)) o m
 medium_of dev lba n o m out l r = cases (ltb out.done n)

@@ -1,8 +1,3 @@
-pub mod OneBlock
-pub mod Walks
-pub mod Listing
-pub mod Plainly
-mod Rows
 pub mod ScriptRows
 mod FaultRows
 pub mod TupleFrames
@@ -11,4 +6,4 @@ pub mod MapUnder
 pub mod PlainSteps
 pub mod CalmRuns
 pub mod AnyOrder
-pub mod Slowly
+pub mod Named

@@ -1,13 +1,4 @@
-pub mod Ops
-pub mod Small
 pub mod Senses
-pub mod Walk
-pub mod Telling
-pub mod Plain
-pub mod Report
-pub mod Language
-pub mod Laws
-pub mod Slow
 pub mod Settings
 pub mod Steps
 pub mod ScriptWalk

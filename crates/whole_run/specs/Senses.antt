@@ -1,9 +1,9 @@
-use Rattle.std.specs.Prelude.{ℕ, Bool, ◌&&◌, ◌||◌, eqb, if◌then◌else◌, Option, Some, None}
+use Rattle.std.specs.Prelude.{ℕ, Bool, true, false, ◌&&◌, ◌||◌, eqb, if◌then◌else◌, Option, Some, None}
 use Rattle.pi_tuple.specs.declared.checks.Check.{Check}
 use Rattle.pi_tuple.specs.declared.checks.Check.TheVariants.{Guard, AppTag, RefTag}
 use Rattle.sense_codes.specs.declared.Sense.{Sense}
 use Rattle.bio_core.specs.declared.fate.Why.{Why}
-use Rattle.bio_core.specs.declared.fate.Why.TheVariants.{Adapter, Target, Medium, Refused, Short}
+use Rattle.bio_core.specs.declared.fate.Why.TheVariants.{Adapter, App, Block, Medium, Refused, Short, Target}
 
 -- the check that the qualifier of ASC 10h names (SPC-4)
 abbrev pub check_of : ℕ → Option Check
@@ -32,3 +32,13 @@ why_of None s = if is_medium s then Medium else Refused s.key s.asc s.ascq
 abbrev pub why_ended : Option Sense → Why
 why_ended None = Short
 why_ended (Some s) = why_of (named_by s) s
+
+-- listed for the medium
+abbrev pub is_medium_why : Why → Bool
+is_medium_why (Adapter check) = false
+is_medium_why (Target check) = false
+is_medium_why (Block check) = false
+is_medium_why (App check) = false
+is_medium_why Medium = true
+is_medium_why (Refused key asc ascq) = false
+is_medium_why Short = false
