@@ -67,9 +67,10 @@ fn can_do<P: Requests>(
     let op = live[at];
     let state = ops[op as usize];
     match step {
-        OpStep::Ending => is_admitted(gate, op) && state.left == 0,
+        // (what rules most ops out is looked at first)
+        OpStep::Ending => state.left == 0 && is_admitted(gate, op),
         OpStep::Admission => gate.may_admit(op + 1),
-        OpStep::Cutting => is_admitted(gate, op) && state.cut < plan.count(op),
+        OpStep::Cutting => state.cut < plan.count(op) && is_admitted(gate, op),
     }
 }
 
