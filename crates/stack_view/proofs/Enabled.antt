@@ -155,7 +155,7 @@ ended-not Waiting e = cc
 ended-not Admitted e = cc
 ended-not Ended e = (refl, refl)
 
-none-can : (p : Plan) (v : View) → Sound p v → AllEnded v → (t : Step) → can p v t ≡ false
+pub none-can : (p : Plan) (v : View) → Sound p v → AllEnded v → (t : Step) → can p v t ≡ false
 none-can p v s a (End i) = let e = ended-not (op_at v i).phase (all-ended-at v a i) in let f = e.1 in rw f refl
 none-can p v s a (Complete j) = false_from_ne_true _ (λ e. no-command p v j s a (not-true (command_at v j).completed e))
 none-can p v s a (Admit i) = let e = ended-not (op_at v i).phase (all-ended-at v a i) in let f = e.0 in rw f refl
@@ -306,7 +306,7 @@ sent-in-order p v d i o k s h t =
     let a = queued-admitted p v o k s (omega arith) in
     (a.1, λ j l c. s.order j o l a.0 (admitted-waits (op_at v o).phase a.1) c)
 
-due-one : (r : Request) (o : OpView) (k : ℕ) → due r o k ≤ 1
+pub due-one : (r : Request) (o : OpView) (k : ℕ) → due r o k ≤ 1
 due-one r o k =
     ⊎_elim
     (λ (w : is_waiting o.phase ≡ true). rw w (omega arith))

@@ -10,6 +10,7 @@ pub mod Open
 pub mod Measure
 pub mod Thrift
 pub mod Runs
+pub mod Comes
 pub mod Greatest
 pub mod Formed
 pub mod Room

@@ -6,6 +6,7 @@ pub mod View
 pub mod Steps
 pub mod Runs
 pub mod Sound
+pub mod Comes
 pub mod Open
 pub mod Measure
 pub mod Formed

@@ -14,6 +14,7 @@ ghost use Rattle.stack_view.specs.Runs.{Entry, Rig, all_good, blocks_of_requests
 ghost use Rattle.merge_queue.specs.Index.{bios_in};
 ghost use Rattle.stack_view.specs.Formed.{Straight, IsGroup, Formed};
 ghost use Rattle.stack_view.specs.Room.{Accounted, unsettled, exchanges_left, exchanges_of, frames_left, frames_of};
+ghost use Rattle.stack_view.specs.Comes.{AllGood, Comes};
 ghost use Rattle.stack_view.specs.Sound.{HasBlocks, OnDevices, Answered, RigSettles, AllEnded, Sound};
 ghost use Rattle.stack_view.specs.Measure.{measure, Counted, greatest_pieces, AnsweredWhole, Thrifty};
 
@@ -87,6 +88,13 @@ pub fn each_run_ends()
 pub fn calm_runs_send_few()
     ensures good { RigSettles all_good }
     ensures few { (p : Plan) (es : List Entry) → OnDevices p → All (λ e. e.cut ≡ 0) es → length (sends_of p es) ≤ greatest_pieces p 0 p.requests }
+{}
+
+/// Whatever the fates are, no more is sent than there are blocks. Where all blocks that were sent were good and nothing is
+/// enabled any more, the view is the end of the run in which all blocks are good.
+pub fn a_run_of_good_blocks_is_known_before()
+    ensures few { (p : Plan) (es : List Entry) (n : ℕ) (v : View) → OnDevices p → Comes p es n v → length v.commands ≤ blocks_of_requests p.requests }
+    ensures good { (p : Plan) (es : List Entry) (n : ℕ) (v : View) → OnDevices p → Comes p es n v → enabled p v ≡ [] → AllGood v.commands → v ≡ end_of p all_good es }
 {}
 
 /// The greatest piece is within the limits, and no greater one is; a cut is within it.
