@@ -1,14 +1,14 @@
 pub mod Switching
 pub mod Devices
-mod OverDevice
-mod Forgiving
+pub mod OverDevice
+pub mod Forgiving
 mod Falling
 mod Outward
-mod SentOut
+pub mod SentOut
 mod Inward
-mod SentIn
+pub mod SentIn
 mod WalksAlike
-mod Ending
-mod Served
-mod Stepping
+pub mod Ending
+pub mod Served
+pub mod Stepping
 mod FallsRows
