@@ -38,13 +38,14 @@ use Rattle.stack_walks.proofs.Completing.{completed_statuses, once, were_out, we
 use Rattle.stack_walks.proofs.Fates.{done_with}
 use Rattle.stack_walks.proofs.Groups.{AllNumbered, ids_are, settled_given}
 use Rattle.stack_walks.proofs.Letting.{all_marked, lets_of}
-use Rattle.stack_walks.proofs.Same.{same_statuses}
+use Rattle.stack_core.specs.Courses.{Course}
 use Rattle.stack_core.specs.Moved.{why_of}
 use Rattle.stack_core.specs.Settled.{AllSettled, Kept}
 use Rattle.stack_core.specs.Settling.{AreFates}
 use Rattle.stack_core.specs.Sheets.{io_at}
 use Rattle.stack_core.specs.Walking.{Data, Follow, GoesOn, IsReply, shown_in, status_of, why_in}
 use Rattle.stack_core.proofs.Chained.{Each, all_each, one_place}
+use Rattle.stack_core.proofs.Courses.{same_by}
 use Rattle.stack_core.proofs.Facts.{place-is}
 use Rattle.stack_core.proofs.FollowsComplete.{AllLets, NotAt, all_settled, at, each_keeps, each_whole}
 use Rattle.stack_core.proofs.FollowsGroup.{AllLie, Places, all_lie, all_of, all_sent, apart_of, is_this, there_is}
@@ -63,7 +64,7 @@ pub all_numbered : (m : Setting) (ios : List Io) (bs : List Block) → AllLie m 
 all_numbered m ios [] l = tt
 all_numbered m ios (b ∷ bs) l = (l.0.numbered, all_numbered m ios bs l.1)
 
-module _ (over : Setting) (n : ℕ) (opening : State) (es : List Sent) (p : Plan) (ops : List Op) (ios : List Io) (d : Data) (v : View) (now : State) (g : Stands over n (length opening.logs) p ops ios d.pool) (s : Sound p v) (fm : Formed p v) (h : Follow over n opening es p ops d v now)
+module _ {course : Course} (over : Setting) (n : ℕ) (opening : State) (es : List Sent) (p : Plan) (ops : List Op) (ios : List Io) (d : Data) (v : View) (now : State) (g : Stands over n (length opening.logs) p ops ios d.pool) (s : Sound p v) (fm : Formed p v) (h : Follow course over n opening es p ops d v now)
     (pl : Places over p ops ios) (kept : AreFates ios d.starts d.held) (found : fates ops ≤ length opening.fates) (j : ℕ) (live : (command_at v j).completed ≡ false) where
   abbrev cmd : Command
   cmd = command_at v j
@@ -138,9 +139,9 @@ module _ (over : Setting) (n : ℕ) (opening : State) (es : List Sent) (p : Plan
         )
 
     stays : (a q : ℕ) → get_or (op_at v a).settled q false ≡ true → next a q ≡ why a q
-    stays a q e = ap why_of (each_keeps over n opening es p ops ios d.starts found (get_or d.starts a 0 + q) bs cmd.fates old new (not_at_marked a q bs e lie out_is) chain)
+    stays a q e = ap why_of (each_keeps course over n opening es p ops ios d.starts found (get_or d.starts a 0 + q) bs cmd.fates old new (not_at_marked a q bs e lie out_is) chain)
 
-    lets : (cs : List Block) → AllLie over ios cs → ((b t : ℕ) → 1 ≤ times b t (map id_of cs) → is_waiting (op_at v b).phase ≡ false) → AllLets over n opening es p ops ios d.starts found status cs
+    lets : (cs : List Block) → AllLie over ios cs → ((b t : ℕ) → 1 ≤ times b t (map id_of cs) → is_waiting (op_at v b).phase ≡ false) → AllLets course over n opening es p ops ios d.starts found status cs
     lets [] l f = tt
     lets (b ∷ cs) l f =
         let u = l.0.numbered in
@@ -156,19 +157,19 @@ module _ (over : Setting) (n : ℕ) (opening : State) (es : List Sent) (p : Plan
     phases : (a : ℕ) → (op_at w a).phase ≡ (op_at v a).phase
     phases a = ap (λ (x : List OpView). (get_or x a no_op).phase) o ∙ (grows-settle (settled_of (blocks cmd.bios) cmd.fates) v.ops a).phase
 
-    pub completes : GoesOn over n opening es p ops d (record d { pool = new.pages; held = new.held }) v w now.blocks
+    pub completes : GoesOn course over n opening es p ops d (record d { pool = new.pages; held = new.held }) v w now.blocks
     completes =
         let apart = apart_of bs once_is in
         let sent = all_sent over ios bs cmd.fates status lie once_is sent_is in
         let all = all_of over p ops ios d.starts d.held bs cmd.fates status pl kept lie apart sent in
-        let on = all_settled over n opening es p ops ios d.starts found bs cmd.fates status old new now kept all (lets bs lie begun_is) g h.whole h.bytes h.follows chain in
+        let on = all_settled course over n opening es p ops ios d.starts found bs cmd.fates status old new now kept all (lets bs lie begun_is) g h.whole h.bytes h.follows chain in
         let same = completed_statuses p v s (shown_in d.replies) why next stays j live numbered w o c in
         record {
           after = on.after;
           follow = record {
             bytes = on.bytes;
-            whole = each_whole over n opening es p ops ios d.starts found bs cmd.fates old new chain h.whole;
-            follows = same_statuses over n ops opening on.after (with_settled bs cmd.fates next status) (status_of p (record d { pool = new.pages; held = new.held }) w) es same on.follows;
+            whole = each_whole course over n opening es p ops ios d.starts found bs cmd.fates old new chain h.whole;
+            follows = same_by course over n ops opening on.after (with_settled bs cmd.fates next status) (status_of p (record d { pool = new.pages; held = new.held }) w) es same on.follows;
             begun = λ a e. h.begun a (sym (ap is_admitted (phases a)) ∙ e);
             replied = λ a l e. (let e' = sym (ap has_ended (phases a)) ∙ e in
                 let cnt = g.plan.count a in

@@ -21,22 +21,21 @@ use Rattle.block_path.specs.Moves.{first_why, settle}
 use Rattle.block_path.specs.Routes.{host_type}
 use Rattle.block_path.specs.Serial.{plain, plain_tells}
 use Rattle.whole_run.specs.Settings.{Setting, block_of, route}
-use Rattle.run_moves.specs.BoundRun.{fates, rooms}
-use Rattle.run_moves.specs.ScriptMoves.{own_at}
-use Rattle.run_follows.specs.Following.{Becomes, Follows}
+use Rattle.run_moves.specs.BoundRun.{fates}
+use Rattle.run_follows.specs.Following.{Becomes}
 use Rattle.run_follows.specs.Gate.{MayMove, Spot, number, parts_at, place}
 use Rattle.run_follows.specs.Sending.{with_status}
 use Rattle.run_follows.specs.Slots.{Carried, Parts, Settled as IsSettled, Status}
-use Rattle.run_follows.proofs.Moving.{settled}
-use Rattle.run_follows.proofs.Quietly.{listed_as, settled_quiet}
 use Rattle.run_follows.proofs.Sends.{with_here, with_other}
 use Rattle.stack_walks.specs.Spots.{spot_at}
 use Rattle.stack_walks.proofs.Spots.{spot_number, spot_ops, spot_place, steps_count}
+use Rattle.stack_core.specs.Courses.{Course, FollowsBy}
 use Rattle.stack_core.specs.Moved.{route_to, why_of}
 use Rattle.stack_core.specs.Settled.{MappedBack, ReadSettled, Settled}
 use Rattle.stack_core.specs.Settling.{IsWhole}
 use Rattle.stack_core.specs.Sheets.{io_at, op_in}
 use Rattle.stack_core.proofs.BlockParts.{owner_of, settled_of}
+use Rattle.stack_core.proofs.Courses.{settled_by}
 use Rattle.stack_core.proofs.FollowsMove.{frames_of}
 use Rattle.stack_core.proofs.InCells.{is-bare, is-mapped-back, is-settle}
 use Rattle.stack_core.proofs.Spotted.{Stands, block_is, count_is, parts_there}
@@ -99,14 +98,14 @@ module _ (m : Setting) (io : Io) (old : List (List ℕ)) (w : AreWhole old) (who
 -- ---- the block of a script
 
 -- the stack follows with this block settled
-pub record IsOn (m : Setting) (n : ℕ) (ops : List Op) (opening : State) (es : List Sent) (status : ℕ → ℕ → Status) (new : List (List ℕ)) (blocks : List (List ℕ)) : Type 0 where
+pub record IsOn (course : Course) (m : Setting) (n : ℕ) (ops : List Op) (opening : State) (es : List Sent) (status : ℕ → ℕ → Status) (new : List (List ℕ)) (blocks : List (List ℕ)) : Type 0 where
   pub after : State
   pub bytes : after.bytes ≡ flat new
   pub same_blocks : after.blocks ≡ blocks
-  pub follows : Follows m n ops opening status after es
+  pub follows : FollowsBy course m n ops opening status after es
 
-module _ (m : Setting) (n : ℕ) (opening : State) (es : List Sent) (p : Plan) (ops : List Op) (ios : List Io) (old : List (List ℕ)) (g : Stands m n (length opening.logs) p ops ios old) (w : AreWhole old) (now : State) (same : now.bytes ≡ flat old) (status : ℕ → ℕ → Status)
-    (h : Follows m n ops opening status now es) (i k : ℕ) (l : i < length ops) (li : i < length ios) (there : k < (io_at ios i).count) (may : MayMove m n status (spot_at m ops i k)) where
+module _ (course : Course) (m : Setting) (n : ℕ) (opening : State) (es : List Sent) (p : Plan) (ops : List Op) (ios : List Io) (old : List (List ℕ)) (g : Stands m n (length opening.logs) p ops ios old) (w : AreWhole old) (now : State) (same : now.bytes ≡ flat old) (status : ℕ → ℕ → Status)
+    (h : FollowsBy course m n ops opening status now es) (i k : ℕ) (l : i < length ops) (li : i < length ios) (there : k < (io_at ios i).count) (may : MayMove m n status (spot_at m ops i k)) where
   abbrev io : Io
   io = io_at ios i
 
@@ -117,7 +116,7 @@ module _ (m : Setting) (n : ℕ) (opening : State) (es : List Sent) (p : Plan) (
   cell = fates (take i ops) + k
 
   pub block_settled : (lba : ℕ) (fate : Fate) (new : List (List ℕ)) (result : Fate) → (fate ≡ Untouched → ⊥) → (route m (block_of (suc i) io.first k)).lba ≡ lba → (io.dir ≡ Read → get_or now.fates cell None ≡ why_of fate) → status (suc i) k ≡ Carried (why_of fate) →
-      Settled io.dir m.mode (host_type m.ty) io k lba fate old new result → IsOn m n ops opening es (with_status (suc i) k (IsSettled (why_of result)) status) new now.blocks
+      Settled io.dir m.mode (host_type m.ty) io k lba fate old new result → IsOn course m n ops opening es (with_status (suc i) k (IsSettled (why_of result)) status) new now.blocks
   block_settled lba fate new result touched at found was done =
       let c = count_is m n (length opening.logs) p ops ios old g i l in
       let z = steps_count m (suc i) (op_in ops i) (omega arith) in
@@ -136,7 +135,11 @@ module _ (m : Setting) (n : ℕ) (opening : State) (es : List Sent) (p : Plan) (
       let e : status (number s) (place s) ≡ Carried (why_of fate) = ap (λ a. status a (place s)) num ∙ (ap (status (suc i)) plc ∙ was) in
       let becomes : Becomes (number s) (place s) (IsSettled (first_why (why_of fate) (get_or (plain_tells act tell acts now) 0 silent).why)) status next
       = record { here = with_here (suc i) k (number s) (place s) (IsSettled (why_of result)) status num plc ∙ ap IsSettled x.came; elsewhere = λ j q f. with_other (suc i) k j q (IsSettled (why_of result)) status (λ a b. f (a ∙ sym num) (b ∙ sym plc)) } in
-      let mine = subst (λ o. Follows m n o opening status now es) (sym (spot_ops m ops i k l)) h in
-      let moved = settled m n s opening now status next es may mine (why_of fate) (first_why (why_of fate) (get_or (plain_tells act tell acts now) 0 silent).why) e becomes (settled_quiet m (own_at (n + rooms m s.front) (place s)) (fates s.front + place s) s.step)
-      (λ here q f. listed_as m (own_at (n + rooms m s.front) (place s)) (fates s.front + place s) s.step now (why_of fate) here q f) in
-      record { after = plain act acts now; bytes = sym x.bytes; same_blocks = x.blocks; follows = subst (λ o. Follows m n o opening next (plain act acts now) es) (spot_ops m ops i k l) moved }
+      let mine = subst (λ o. FollowsBy course m n o opening status now es) (sym (spot_ops m ops i k l)) h in
+      let moved = settled_by course m n s opening now status next es (why_of fate) may e mine becomes in
+      record {
+        after = moved.after;
+        bytes = moved.bytes_are ∙ sym x.bytes;
+        same_blocks = moved.blocks_are ∙ x.blocks;
+        follows = subst (λ o. FollowsBy course m n o opening next moved.after es) (spot_ops m ops i k l) moved.follows;
+      }

@@ -22,22 +22,22 @@ use Rattle.whole_run.specs.Settings.{Setting, block_of, route}
 use Rattle.whole_run.specs.Steps.{Alters, Reads, Seals, Sets, Shows, Step, Writes, WritesPi}
 use Rattle.run_moves.specs.BoundRun.{fates}
 use Rattle.run_moves.specs.OpsApart.{OpsConflict}
-use Rattle.run_follows.specs.Following.{Follows}
 use Rattle.run_follows.specs.Gate.{AreOver, is_over}
 use Rattle.run_follows.specs.Sending.{Carriage, IsElsewhere, carriage_of, with_status}
 use Rattle.run_follows.specs.Slots.{Carried, Settled as NowSettled, Status}
 use Rattle.run_follows.proofs.Sends.{over_stays, with_other}
 use Rattle.stack_walks.specs.Spots.{IsRead, op_in, step_in, steps_in}
 use Rattle.stack_walks.specs.Statuses.{with_settled}
-use Rattle.stack_walks.proofs.Found.{found_there}
 use Rattle.stack_walks.proofs.Spots.{Lets, may_move}
 use Rattle.dix_adapter.specs.Groups.{data_cells, tuple_cells}
+use Rattle.stack_core.specs.Courses.{Course, FollowsBy}
 use Rattle.stack_core.specs.Moved.{why_of}
 use Rattle.stack_core.specs.Settled.{IsSettled, Kept, OneSettled}
 use Rattle.stack_core.specs.Settling.{AreFates}
 use Rattle.stack_core.specs.Sheets.{io_at}
 use Rattle.stack_core.specs.Walking.{why_in}
 use Rattle.stack_core.proofs.Chained.{Each, keeps_settled}
+use Rattle.stack_core.proofs.Courses.{found_by}
 use Rattle.stack_core.proofs.Facts.{place-is}
 use Rattle.stack_core.proofs.FollowsBlock.{IsOn, block_settled}
 use Rattle.stack_core.proofs.Spotted.{Stands, block_is, count_is}
@@ -110,7 +110,7 @@ lets_on m ops old new i e h j l = by (h j l)
     by (inl o) = inl (over_stays 0 (steps_in m ops j) (old (suc j)) (new (suc j)) (e (suc j)) o)
     by (inr x) = inr x
 
-module _ (m : Setting) (n : ℕ) (opening : State) (es : List Sent) (p : Plan) (ops : List Op) (ios : List Io) (starts : List ℕ) (found : fates ops ≤ length opening.fates) where
+module _ (course : Course) (m : Setting) (n : ℕ) (opening : State) (es : List Sent) (p : Plan) (ops : List Op) (ios : List Io) (starts : List ℕ) (found : fates ops ≤ length opening.fates) where
   pub each_keeps : (x : ℕ) (bs : List Block) (fs : List Fate) (old new : Kept) → NotAt starts x bs → Each m.mode (host_type m.ty) ios starts bs fs old new → get_or new.held x Untouched ≡ get_or old.held x Untouched
   each_keeps x [] fs old new a h = ap (λ (k : Kept). get_or k.held x Untouched) h
   each_keeps x (b ∷ bs) [] old new a h = absurd h
@@ -142,8 +142,8 @@ module _ (m : Setting) (n : ℕ) (opening : State) (es : List Sent) (p : Plan) (
       by Untouched s = subst (λ (k : Kept). AreWhole k.pages) (sym s) w
 
   -- one block more is settled
-  one_more : (b : Block) (f : Fate) (bs : List Block) (fs : List Fate) (status : ℕ → ℕ → Status) (old mid : Kept) (now : State) → is_settled f ≡ true → (f ≡ Untouched → ⊥) → AreFates ios starts old.held → AllOf m ops ios starts status (b ∷ bs) (f ∷ fs) → Lets m status ops (b.op - 1) → Stands m n (length opening.logs) p ops ios old.pages → AreWhole old.pages → now.bytes ≡ flat old.pages → Follows m n ops opening status now es →
-      (s : IsSettled m.mode (host_type m.ty) (io_at ios (b.op - 1)) (get_or starts (b.op - 1) 0) b.k b.lba f old mid) → IsOn m n ops opening es (with_status b.op b.k (NowSettled (why_of s.result)) status) mid.pages now.blocks
+  one_more : (b : Block) (f : Fate) (bs : List Block) (fs : List Fate) (status : ℕ → ℕ → Status) (old mid : Kept) (now : State) → is_settled f ≡ true → (f ≡ Untouched → ⊥) → AreFates ios starts old.held → AllOf m ops ios starts status (b ∷ bs) (f ∷ fs) → Lets m status ops (b.op - 1) → Stands m n (length opening.logs) p ops ios old.pages → AreWhole old.pages → now.bytes ≡ flat old.pages → FollowsBy course m n ops opening status now es →
+      (s : IsSettled m.mode (host_type m.ty) (io_at ios (b.op - 1)) (get_or starts (b.op - 1) 0) b.k b.lba f old mid) → IsOn course m n ops opening es (with_status b.op b.k (NowSettled (why_of s.result)) status) mid.pages now.blocks
   one_more b f bs fs status old mid now t u kept h lets g w same follows s =
       let i = b.op - 1 in
       let l = h.0.1.0 in
@@ -157,10 +157,10 @@ module _ (m : Setting) (n : ℕ) (opening : State) (es : List Sent) (p : Plan) (
       let was : status (suc i) b.k ≡ Carried (why_of f) = ap (λ x. status x b.k) e ∙ h.1.0 t in
       let place : (route m (block_of (suc i) io.first b.k)).lba ≡ b.lba = h.0.1.1.1.1 in
       let carriage = (block_is m n (length opening.logs) p ops ios old.pages g i (omega arith) b.k inside).carriage in
-      let cell = λ (r : io.dir ≡ Read). found_there m n ops opening now status es i b.k (why_of f) follows found (omega arith) (omega arith)
+      let cell = λ (r : io.dir ≡ Read). found_by course m n ops opening now status es i b.k (why_of f) follows found (omega arith) (omega arith)
       (read_step m _ (step_in m ops i b.k) (ap is_in carriage ∙ ap (λ d. is_in (Some (record { route = route m (block_of (suc i) io.first b.k); dir = d; frame = data_cells io b.k ++ tuple_cells io.pi b.k }))) r)) was in
-      let one = block_settled m n opening es p ops ios old.pages g w now same status follows i b.k (omega arith) (omega arith) inside may b.lba f mid.pages s.result u place cell was s.settled in
-      subst (λ x. IsOn m n ops opening es (with_status x b.k (NowSettled (why_of s.result)) status) mid.pages now.blocks) e one
+      let one = block_settled course m n opening es p ops ios old.pages g w now same status follows i b.k (omega arith) (omega arith) inside may b.lba f mid.pages s.result u place cell was s.settled in
+      subst (λ x. IsOn course m n ops opening es (with_status x b.k (NowSettled (why_of s.result)) status) mid.pages now.blocks) e one
 
   abbrev pub AllLets : (ℕ → ℕ → Status) → List Block → Type 0
   AllLets status [] = Unit {0}
@@ -175,14 +175,14 @@ module _ (m : Setting) (n : ℕ) (opening : State) (es : List Sent) (p : Plan) (
   stays_over b w next status e j q o = with_other b.op b.k j q next status (λ (x : j ≡ b.op) (y : q ≡ b.k). let z : true ≡ false = sym o ∙ (ap is_over (ap (λ t. status t q) x ∙ ap (status b.op) y) ∙ ap is_over e) in cc)
 
   -- all blocks of a command, one after another
-  pub all_settled : (bs : List Block) (fs : List Fate) (status : ℕ → ℕ → Status) (old new : Kept) (now : State) → AreFates ios starts old.held → AllOf m ops ios starts status bs fs → AllLets status bs → Stands m n (length opening.logs) p ops ios old.pages → AreWhole old.pages → now.bytes ≡ flat old.pages → Follows m n ops opening status now es →
-      Each m.mode (host_type m.ty) ios starts bs fs old new → IsOn m n ops opening es (with_settled bs fs (why_in starts new.held) status) new.pages now.blocks
+  pub all_settled : (bs : List Block) (fs : List Fate) (status : ℕ → ℕ → Status) (old new : Kept) (now : State) → AreFates ios starts old.held → AllOf m ops ios starts status bs fs → AllLets status bs → Stands m n (length opening.logs) p ops ios old.pages → AreWhole old.pages → now.bytes ≡ flat old.pages → FollowsBy course m n ops opening status now es →
+      Each m.mode (host_type m.ty) ios starts bs fs old new → IsOn course m n ops opening es (with_settled bs fs (why_in starts new.held) status) new.pages now.blocks
   all_settled [] fs status old new now kept a lets g w same follows h = record { after = now; bytes = same ∙ ap (λ (k : Kept). flat k.pages) (sym h); same_blocks = refl; follows = follows }
   all_settled (b ∷ bs) [] status old new now kept a lets g w same follows h = absurd h
   all_settled (b ∷ bs) (f ∷ fs) status old new now kept a lets g w same follows h =
       by f refl h.1.0 (λ status' now' kept' a' lets' g' w' same' follows'. all_settled bs fs status' h.0 new now' kept' a' lets' g' w' same' follows' h.1.1)
     where
-      touched : (f' : Fate) → f ≡ f' → is_settled f' ≡ true → (f' ≡ Untouched → ⊥) → IsSettled m.mode (host_type m.ty) (io_at ios (b.op - 1)) (get_or starts (b.op - 1) 0) b.k b.lba f' old (h.0) → ((status' : ℕ → ℕ → Status) (now' : State) → AreFates ios starts (h.0).held → AllOf m ops ios starts status' bs fs → AllLets status' bs → Stands m n (length opening.logs) p ops ios (h.0).pages → AreWhole (h.0).pages → now'.bytes ≡ flat (h.0).pages → Follows m n ops opening status' now' es → IsOn m n ops opening es (with_settled bs fs (why_in starts new.held) status') new.pages now'.blocks) → IsOn m n ops opening es (with_settled (b ∷ bs) (f' ∷ fs) (why_in starts new.held) status) new.pages now.blocks
+      touched : (f' : Fate) → f ≡ f' → is_settled f' ≡ true → (f' ≡ Untouched → ⊥) → IsSettled m.mode (host_type m.ty) (io_at ios (b.op - 1)) (get_or starts (b.op - 1) 0) b.k b.lba f' old (h.0) → ((status' : ℕ → ℕ → Status) (now' : State) → AreFates ios starts (h.0).held → AllOf m ops ios starts status' bs fs → AllLets status' bs → Stands m n (length opening.logs) p ops ios (h.0).pages → AreWhole (h.0).pages → now'.bytes ≡ flat (h.0).pages → FollowsBy course m n ops opening status' now' es → IsOn course m n ops opening es (with_settled bs fs (why_in starts new.held) status') new.pages now'.blocks) → IsOn course m n ops opening es (with_settled (b ∷ bs) (f' ∷ fs) (why_in starts new.held) status) new.pages now.blocks
       touched f' e t u s more =
           let a' = subst (λ x. AllOf m ops ios starts status (b ∷ bs) (x ∷ fs)) e a in
           let one = one_more b f' bs fs status old (h.0) now t u kept a' lets.0 g w same follows s in
@@ -199,9 +199,9 @@ module _ (m : Setting) (n : ℕ) (opening : State) (es : List Sent) (p : Plan) (
           let same_why : why_in starts new.held (place_of b.op) b.k ≡ why_of s.result = (let z = place-is b.op y in ap (λ i. why_of (get_or new.held (get_or starts i 0 + b.k) Untouched)) z ∙ ap why_of held) in
           let rest = more next one.after kept' (of_on m ops ios starts status b (NowSettled (why_of s.result)) bs fs a.1.1.0 a.1.1.1.1) (all_lets_on status next bs stay lets.1) (stands_on m n (length opening.logs) p ops ios old.pages (h.0).pages pages.pages g) (pages.whole w) one.bytes one.follows in
           let st : with_settled (b ∷ bs) (f' ∷ fs) (why_in starts new.held) status ≡ with_settled bs fs (why_in starts new.held) next = ap (λ (c : Bool). with_settled bs fs (why_in starts new.held) (if c then with_status b.op b.k (NowSettled (why_in starts new.held (place_of b.op) b.k)) status else status)) t ∙ ap (λ x. with_settled bs fs (why_in starts new.held) (with_status b.op b.k (NowSettled x) status)) same_why in
-          record { after = rest.after; bytes = rest.bytes; same_blocks = rest.same_blocks ∙ one.same_blocks; follows = subst (λ x. Follows m n ops opening x rest.after es) (sym st) rest.follows }
+          record { after = rest.after; bytes = rest.bytes; same_blocks = rest.same_blocks ∙ one.same_blocks; follows = subst (λ x. FollowsBy course m n ops opening x rest.after es) (sym st) rest.follows }
 
-      by : (f' : Fate) → f ≡ f' → OneSettled m.mode (host_type m.ty) (io_at ios (b.op - 1)) (get_or starts (b.op - 1) 0) b.k b.lba f' old (h.0) → ((status' : ℕ → ℕ → Status) (now' : State) → AreFates ios starts (h.0).held → AllOf m ops ios starts status' bs fs → AllLets status' bs → Stands m n (length opening.logs) p ops ios (h.0).pages → AreWhole (h.0).pages → now'.bytes ≡ flat (h.0).pages → Follows m n ops opening status' now' es → IsOn m n ops opening es (with_settled bs fs (why_in starts new.held) status') new.pages now'.blocks) → IsOn m n ops opening es (with_settled (b ∷ bs) (f' ∷ fs) (why_in starts new.held) status) new.pages now.blocks
+      by : (f' : Fate) → f ≡ f' → OneSettled m.mode (host_type m.ty) (io_at ios (b.op - 1)) (get_or starts (b.op - 1) 0) b.k b.lba f' old (h.0) → ((status' : ℕ → ℕ → Status) (now' : State) → AreFates ios starts (h.0).held → AllOf m ops ios starts status' bs fs → AllLets status' bs → Stands m n (length opening.logs) p ops ios (h.0).pages → AreWhole (h.0).pages → now'.bytes ≡ flat (h.0).pages → FollowsBy course m n ops opening status' now' es → IsOn course m n ops opening es (with_settled bs fs (why_in starts new.held) status') new.pages now'.blocks) → IsOn course m n ops opening es (with_settled (b ∷ bs) (f' ∷ fs) (why_in starts new.held) status) new.pages now.blocks
       by Good e s more = touched Good e refl (λ (x : Good ≡ Untouched). good_touched x) s more
       by (Bad x) e s more = touched (Bad x) e refl (λ (y : Bad x ≡ Untouched). bad_touched x y) s more
       by Untouched e s more =

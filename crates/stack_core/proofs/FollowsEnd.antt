@@ -23,7 +23,6 @@ use Rattle.run_moves.specs.ScriptMoves.{fates_of}
 use Rattle.run_follows.specs.Sending.{NoneBefore, is_carried}
 use Rattle.run_follows.specs.Slots.{Status}
 use Rattle.stack_walks.proofs.Moving.{still}
-use Rattle.stack_walks.proofs.Same.{same_statuses}
 use Rattle.stack_core.specs.declared.kept.Room.{Room}
 use Rattle.stack_core.specs.declared.kept.Room.TheVariants.{Nothing}
 use Rattle.bio_core.specs.declared.fate.Fate.{Fate}
@@ -32,6 +31,8 @@ use Rattle.stack_core.specs.Rooms.{Suits}
 use Rattle.stack_core.specs.Sheets.{op_in}
 use Rattle.stack_core.specs.Stacks.{room_at}
 use Rattle.stack_core.specs.Walking.{Data, Follow, GoesOn, IsReply, shown_by, shown_in, status_of, why_in}
+use Rattle.stack_core.specs.Courses.{Course}
+use Rattle.stack_core.proofs.Courses.{same_by}
 use Rattle.stack_core.proofs.Listed.{listed_as}
 
 -- statuses that say the same leave what is on record
@@ -73,15 +74,15 @@ room_of_request (FetchPi v n body tuples) room fates h s = rw s.1 refl
 room_of_request (Overwrite dev lba change) room fates h s = absurd (omega arith)
 room_of_request Wait room fates h s = absurd (omega arith)
 
-module _ (over : Setting) (n : ℕ) (opening : State) (es : List Sent) (p : Plan) (ops : List Op) (d : Data) (v : View) (now : State) (h : Follow over n opening es p ops d v now) where
+module _ {course : Course} (over : Setting) (n : ℕ) (opening : State) (es : List Sent) (p : Plan) (ops : List Op) (d : Data) (v : View) (now : State) (h : Follow course over n opening es p ops d v now) where
   -- two groups become one
-  pub joins : (dev i j cut : ℕ) → GoesOn over n opening es p ops d d v (step p v (Join dev i j) cut []) now.blocks
+  pub joins : (dev i j cut : ℕ) → GoesOn course over n opening es p ops d d v (step p v (Join dev i j) cut []) now.blocks
   joins dev i j cut =
       let w = step p v (Join dev i j) cut [] in
       let e = still p v w (shown_in d.replies) (shown_in d.replies) (why_in d.starts d.held) refl (λ j. refl) (λ j. refl) (λ j. refl) (λ j q z. refl) in
       record {
         after = now;
-        follow = record { bytes = h.bytes; whole = h.whole; follows = same_statuses over n ops opening now (status_of p d v) (status_of p d w) es e h.follows; begun = h.begun; replied = h.replied; suited = h.suited };
+        follow = record { bytes = h.bytes; whole = h.whole; follows = same_by course over n ops opening now (status_of p d v) (status_of p d w) es e h.follows; begun = h.begun; replied = h.replied; suited = h.suited };
         blocks = refl;
         none_before = none_same (status_of p d v) (status_of p d w) es e;
       }
@@ -158,10 +159,10 @@ module _ (over : Setting) (n : ℕ) (opening : State) (es : List Sent) (p : Plan
         (λ (ne : j ≡ i → ⊥). rw (get_or-set_other d.rooms i j Nothing Nothing ne) (h.suited j b (sym (ap (λ (o : OpView). has_ended o.phase) (get_or-set_other v.ops i j done no_op ne)) ∙ e)))
         (cases_eq j i)
 
-    pub ends : (cut : ℕ) → GoesOn over n opening es p ops d ended v (w cut) now.blocks
+    pub ends : (cut : ℕ) → GoesOn course over n opening es p ops d ended v (w cut) now.blocks
     ends cut = record {
       after = now;
-      follow = record { bytes = h.bytes; whole = h.whole; follows = same_statuses over n ops opening now (status_of p d v) (status_of p ended (w cut)) es (statuses cut) h.follows; begun = begun_on; replied = replied_on; suited = suited_on };
+      follow = record { bytes = h.bytes; whole = h.whole; follows = same_by course over n ops opening now (status_of p d v) (status_of p ended (w cut)) es (statuses cut) h.follows; begun = begun_on; replied = replied_on; suited = suited_on };
       blocks = refl;
       none_before = none_same (status_of p d v) (status_of p ended (w cut)) es (statuses cut);
     }

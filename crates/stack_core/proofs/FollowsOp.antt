@@ -18,11 +18,9 @@ use Rattle.whole_run.specs.ScriptWalk.{acts_of}
 use Rattle.whole_run.specs.Settings.{Setting}
 use Rattle.whole_run.specs.Steps.{each_from}
 use Rattle.run_moves.specs.ScriptMoves.{fates_of}
-use Rattle.run_follows.specs.Following.{Follows}
 use Rattle.run_follows.specs.Gate.{BecomesDone, IsAlone, LetsIn}
 use Rattle.run_follows.specs.Sending.{NoneBefore, is_carried}
 use Rattle.run_follows.specs.Slots.{Done, Status}
-use Rattle.run_follows.proofs.Wholly.{wholly}
 use Rattle.stack_walks.specs.Ground.{Ground, IsPlanOf}
 use Rattle.stack_walks.specs.Statuses.{fate_in}
 use Rattle.stack_walks.proofs.Letting.{lets_of}
@@ -30,13 +28,15 @@ use Rattle.stack_walks.proofs.Moving.{elsewhere}
 use Rattle.stack_walks.proofs.Spots.{cut_at, lets_in, placed_at, placed_front, take_long}
 use Rattle.stack_walks.proofs.Standing.{is_done, waits}
 use Rattle.stack_core.specs.declared.kept.Room.TheVariants.{Nothing}
+use Rattle.stack_core.specs.Courses.{Course, FollowsBy}
 use Rattle.stack_core.specs.Rooms.{Suits}
 use Rattle.stack_core.specs.Sheets.{op_in}
 use Rattle.stack_core.specs.Stacks.{room_at}
 use Rattle.stack_core.specs.Walking.{Data, Follow, GoesOn, IsReply, shown_by, shown_in, status_of, why_in}
+use Rattle.stack_core.proofs.Courses.{GoesTo, whole_by}
 use Rattle.stack_core.proofs.OpWhole.{IsWholly, at_first}
 
-module _ (over : Setting) (n : ℕ) (opening : State) (es : List Sent) (p : Plan) (ops : List Op) (d : Data) (v : View) (now : State) (ground : Ground over n (length opening.logs) ops) (plan : IsPlanOf p over ops) (s : Sound p v) (h : Follow over n opening es p ops d v now)
+module _ {course : Course} (over : Setting) (n : ℕ) (opening : State) (es : List Sent) (p : Plan) (ops : List Op) (d : Data) (v : View) (now : State) (ground : Ground over n (length opening.logs) ops) (plan : IsPlanOf p over ops) (s : Sound p v) (h : Follow course over n opening es p ops d v now)
     (i : ℕ) (l : i < length ops) (lo : i < length v.ops) (lr : i < length d.replies) (empty : (request_at p i).count ≡ 0) where
   abbrev op : Op
   op = op_in ops i
@@ -106,16 +106,16 @@ module _ (over : Setting) (n : ℕ) (opening : State) (es : List Sent) (p : Plan
         (lets_of over n (length opening.logs) p ops ground plan v s (shown_in d.replies) (why_in d.starts d.held) i l
         (λ (j : ℕ) (b : j < i) (x : p.conflicts j i ≡ true). sym (ap (λ (y : OpView). has_ended y.phase) (other j (λ (f : j ≡ i). omega arith))) ∙ sw.order j i b (let t = sw.ops in let u = plan.many in omega arith) (ap (λ (y : OpView). is_waiting y.phase) mine) x))
 
-    follows : Follows over n ops opening new run es
-    follows =
+    goes : GoesTo course over n ops opening new es run.bytes run.blocks
+    goes =
         let f = front_long in
         let nf : suc i ≡ suc (length (take i ops)) = omega arith in
-        subst (λ (x : List Op). Follows over n x opening new run es) (sym split)
-        (subst (λ (x : ℕ). Follows over n (take i ops ++ (op ∷ drop (suc i) ops)) opening new (plain act (acts_of over x op) now) es) (sym nf)
-        (wholly over n (take i ops) (drop (suc i) ops) op opening now old new es ground.one (placed_front over n i ops ground.placed) (placed_at over n i ops l ground.placed) alone
+        subst (λ (x : List Op). GoesTo course over n x opening new es run.bytes run.blocks) (sym split)
+        (subst (λ (x : ℕ). GoesTo course over n (take i ops ++ (op ∷ drop (suc i) ops)) opening new es (plain act (acts_of over x op) now).bytes (plain act (acts_of over x op) now).blocks) (sym nf)
+        (whole_by course over n (take i ops) (drop (suc i) ops) op opening now old new es ground.one (placed_front over n i ops ground.placed) (placed_at over n i ops l ground.placed) alone
         (subst (λ (x : ℕ). LetsIn over old 1 (take i ops) x op) nf lets)
         (subst (λ (x : ℕ). BecomesDone over x op now old new) nf becomes)
-        (subst (λ (x : List Op). Follows over n x opening old now es) split h.follows)))
+        (subst (λ (x : List Op). FollowsBy course over n x opening old now es) split h.follows)))
 
     begun_on : (j : ℕ) → is_admitted (op_at w j).phase ≡ true → 0 < (request_at p j).count
     begun_on j x =
@@ -146,10 +146,10 @@ module _ (over : Setting) (n : ℕ) (opening : State) (es : List Sent) (p : Plan
         (λ (ne : j ≡ suc i → ⊥). none j q (sym (ap is_carried (away j q ne)) ∙ x))
         (cases_eq j (suc i))
 
-    pub op_goes : GoesOn over n opening es p ops d d' v w run.blocks
+    pub op_goes : GoesOn course over n opening es p ops d d' v w run.blocks
     op_goes = record {
-      after = run;
-      follow = record { bytes = sym does.bytes; whole = does.whole; follows = follows; begun = begun_on; replied = replied_on; suited = suited_on };
-      blocks = refl;
+      after = goes.after;
+      follow = record { bytes = goes.bytes_are ∙ sym does.bytes; whole = does.whole; follows = goes.follows; begun = begun_on; replied = replied_on; suited = suited_on };
+      blocks = goes.blocks_are;
       none_before = none_carried;
     }

@@ -19,7 +19,6 @@ use Rattle.block_path.specs.Blocks.{Sent}
 use Rattle.whole_run.specs.Settings.{Setting, block_of, route}
 use Rattle.run_moves.specs.BoundRun.{rooms}
 use Rattle.run_moves.specs.ScriptMoves.{own_at}
-use Rattle.run_follows.specs.Following.{Follows}
 use Rattle.run_follows.specs.Gate.{Spot}
 use Rattle.run_follows.specs.Sending.{AllGoing, IsGoing, NoneBefore, carriage_of, with_fates}
 use Rattle.run_follows.specs.Slots.{Cut, Status}
@@ -28,13 +27,14 @@ use Rattle.stack_walks.specs.Statuses.{fate_in, id_of, sent_as}
 use Rattle.stack_walks.proofs.Fates.{in_none}
 use Rattle.stack_walks.proofs.Groups.{AllNumbered, ids_are}
 use Rattle.stack_walks.proofs.Letting.{lets_of}
-use Rattle.stack_walks.proofs.Same.{same_statuses}
 use Rattle.stack_walks.proofs.Sending.{in_its_queue, sent_statuses}
 use Rattle.stack_walks.proofs.Spots.{may_move, spot_number, spot_ops, spot_place, steps_count}
 use Rattle.stack_walks.proofs.Standing.{IsOut, is_sent, queued}
+use Rattle.stack_core.specs.Courses.{Course, FollowsBy}
 use Rattle.stack_core.specs.Sheets.{io_at}
 use Rattle.stack_core.specs.Walking.{Data, Follow, shown_in, status_of, why_in}
 use Rattle.stack_core.proofs.Completes.{all_numbered}
+use Rattle.stack_core.proofs.Courses.{same_by}
 use Rattle.stack_core.proofs.Facts.{place-is}
 use Rattle.stack_core.proofs.FollowsEnd.{none_same}
 use Rattle.stack_core.proofs.FollowsGroup.{AllApart, AllLie, Lies, Places, all_lie, apart_of, is_this}
@@ -133,11 +133,11 @@ module _ (m : Setting) (n : ℕ) (opening : State) (p : Plan) (ops : List Op) (i
     same = sent_statuses p v s (shown_in d.replies) (why_in d.starts d.held) dev i l fates group_numbered times_one w wo wc
 
     -- the statuses are those by the fates of its blocks
-    pub sent_follows : (over : Setting) (now after : State) (pool : List (List ℕ)) → Follow over n opening es p ops d v now → AreWhole pool → (over' : Setting) → after.bytes ≡ flat pool → Follows over' n ops opening (with_fates bs fates status) after es' → Follow over' n opening es' p ops (record d { pool = pool }) w after
-    sent_follows over now after pool h whole over' bytes f = record {
+    pub sent_follows : (course : Course) (over : Setting) (now after : State) (pool : List (List ℕ)) → Follow course over n opening es p ops d v now → AreWhole pool → (over' : Setting) → after.bytes ≡ flat pool → FollowsBy course over' n ops opening (with_fates bs fates status) after es' → Follow course over' n opening es' p ops (record d { pool = pool }) w after
+    sent_follows course over now after pool h whole over' bytes f = record {
       bytes = bytes;
       whole = whole;
-      follows = same_statuses over' n ops opening after (with_fates bs fates status) (status_of p (record d { pool = pool }) w) es' same f;
+      follows = same_by course over' n ops opening after (with_fates bs fates status) (status_of p (record d { pool = pool }) w) es' same f;
       begun = λ j e. h.begun j (sym (ap (λ x. is_admitted (get_or x j no_op).phase) wo) ∙ e);
       replied = λ j lj e. h.replied j lj (sym (ap (λ x. has_ended (get_or x j no_op).phase) wo) ∙ e);
       suited = λ j lj e. h.suited j lj (sym (ap (λ x. has_ended (get_or x j no_op).phase) wo) ∙ e);

@@ -21,21 +21,21 @@ use Rattle.block_path.specs.Serial.{plain}
 use Rattle.whole_run.specs.Settings.{Setting, block_of, route}
 use Rattle.run_moves.specs.ScriptMoves.{fates_of}
 use Rattle.run_record.specs.Records.{find}
-use Rattle.run_follows.specs.Pieces.{all_cut, all_made, with_all}
+use Rattle.run_follows.specs.Pieces.{all_made, with_all}
 use Rattle.run_follows.specs.Sending.{NoneBefore, is_carried}
 use Rattle.run_follows.specs.Slots.{Admitted, Cut, Status, Waits}
-use Rattle.run_follows.proofs.Together.{all_admitted, all_are_cut}
 use Rattle.stack_walks.specs.Spots.{spots_from, steps_in}
 use Rattle.stack_walks.specs.Statuses.{fate_in}
 use Rattle.stack_walks.proofs.Letting.{lets_of}
 use Rattle.stack_walks.proofs.Moving.{admitted_statuses, cut_statuses}
-use Rattle.stack_walks.proofs.Same.{same_statuses}
 use Rattle.stack_walks.proofs.Spots.{steps_count}
 use Rattle.stack_walks.proofs.Standing.{is_uncut, not_cut, unmarked, waits}
 use Rattle.stack_walks.proofs.Together.{all_may, with_out}
 use Rattle.stack_core.specs.Done.{WriteMade, WriteMapped}
 use Rattle.stack_core.specs.Sheets.{io_at, op_in}
 use Rattle.stack_core.specs.Walking.{Data, Follow, GoesOn, shown_in, status_of, why_in}
+use Rattle.stack_core.specs.Courses.{Course}
+use Rattle.stack_core.proofs.Courses.{admitted_by, cut_by, same_by}
 use Rattle.stack_core.proofs.FollowsEnd.{none_same}
 use Rattle.stack_core.proofs.FollowsMove.{cut_pages, cut_stays, made_pages, made_stays}
 use Rattle.stack_core.proofs.Spotted.{Stands}
@@ -68,7 +68,7 @@ waiting_not_ended Waiting e = refl
 waiting_not_ended OpAdmitted e = cc
 waiting_not_ended Ended e = cc
 
-module _ (over : Setting) (n : ℕ) (opening : State) (es : List Sent) (p : Plan) (ops : List Op) (ios : List Io) (d : Data) (v : View) (now : State) (g : Stands over n (length opening.logs) p ops ios d.pool) (s : Sound p v) (h : Follow over n opening es p ops d v now)
+module _ {course : Course} (over : Setting) (n : ℕ) (opening : State) (es : List Sent) (p : Plan) (ops : List Op) (ios : List Io) (d : Data) (v : View) (now : State) (g : Stands over n (length opening.logs) p ops ios d.pool) (s : Sound p v) (h : Follow course over n opening es p ops d v now)
     (i : ℕ) (l : i < length ops) (li : i < length ios) (lo : i < length v.ops) (count : (request_at p i).count ≡ (io_at ios i).count) (some : 0 < (request_at p i).count) where
   count_is : (request_at p i).count ≡ fates_of (op_in ops i)
   count_is = g.plan.count i
@@ -113,7 +113,7 @@ module _ (over : Setting) (n : ℕ) (opening : State) (es : List Sent) (p : Plan
   -- ---- admitted
 
   pub admits : (w : View) (pool : List (List ℕ)) (kind : GuardKind) (ty : PiType) → is_waiting (op_at v i).phase ≡ true → w.ops ≡ changed (record (op_at v i) { phase = OpAdmitted }) → w.commands ≡ v.commands → Sound p w → AreWhole pool → kind ≡ over.mode.kind → ty ≡ host_type over.ty →
-      WriteMade (io_at ios i).dir (io_at ios i).pi kind ty (io_at ios i).body d.pool pool → GoesOn over n opening es p ops d (record d { pool = pool }) v w now.blocks
+      WriteMade (io_at ios i).dir (io_at ios i).pi kind ty (io_at ios i).body d.pool pool → GoesOn course over n opening es p ops d (record d { pool = pool }) v w now.blocks
   admits w pool kind ty a e c sw whole ek et made =
       let o : OpView = record (op_at v i) { phase = OpAdmitted } in
       let status = status_of p d v in
@@ -126,29 +126,29 @@ module _ (over : Setting) (n : ℕ) (opening : State) (es : List Sent) (p : Plan
       let was = λ (q : ℕ) (x : 0 ≤ q) (y : q < 0 + (request_at p i).count). waits (request_at p i).count (op_at v i) (shown_in d.replies i q) (why_in d.starts d.held i q) (fate_in i q v.commands) q a in
       let lg = long in
       let may = all_may over ops i l n (length opening.logs) g.ground status Waits lets 0 (request_at p i).count (omega arith) (omega arith) was in
-      let moved = all_admitted over n ops opening spots now status es may h.follows in
+      let moved = admitted_by course over n ops opening spots now status es may h.follows in
       let same = admitted_statuses p over ops g.plan v w s (shown_in d.replies) (why_in d.starts d.held) i l (λ (j : ℕ) (ne : j ≡ i → ⊥). at j ∙ other o j ne) c a (ap (λ (y : OpView). is_waiting y.phase) mine_is) (ap (λ (y : OpView). y.cut) mine_is) (ap (λ (y : OpView). y.settled) mine_is) some in
       let acts = λ (x : ℕ). spots_from over ops i 0 x in
       let pages = made_pages over n (length opening.logs) p ops ios d.pool g i l li h.whole now h.bytes pool kind ty ek et made in
       let stays = made_stays over n (length opening.logs) p ops ios d.pool g i l li h.whole now h.bytes in
       record {
-        after = plain act (all_made over n spots) now;
+        after = moved.after;
         follow = record {
-          bytes = ap (λ x. (plain act (all_made over n (acts x)) now).bytes) count ∙ sym pages;
+          bytes = moved.bytes_are ∙ (ap (λ x. (plain act (all_made over n (acts x)) now).bytes) count ∙ sym pages);
           whole = whole;
-          follows = same_statuses over n ops opening (plain act (all_made over n spots) now) (with_all spots Admitted status) (status_of p (record d { pool = pool }) w) es same moved;
+          follows = same_by course over n ops opening moved.after (with_all spots Admitted status) (status_of p (record d { pool = pool }) w) es same moved.follows;
           begun = λ j x. begun_on o pool refl j (sym (ap (λ (y : OpView). is_admitted y.phase) (at j)) ∙ x);
           replied = λ j b x. (let t = ended_before o pool refl j (sym (ap (λ (y : OpView). has_ended y.phase) (at j)) ∙ x) in h.replied j b t.0);
           suited = λ j b x. h.suited j b (not_before o pool refl j (waiting_not_ended (op_at v i).phase a) (sym (ap (λ (y : OpView). has_ended y.phase) (at j)) ∙ x));
         };
-        blocks = ap (λ x. (plain act (all_made over n (acts x)) now).blocks) count ∙ stays;
+        blocks = moved.blocks_are ∙ (ap (λ x. (plain act (all_made over n (acts x)) now).blocks) count ∙ stays);
         none_before = λ none. none_same (with_all spots Admitted status) (status_of p (record d { pool = pool }) w) es same (none_with over ops i l 0 (request_at p i).count Admitted Waits status es (omega arith) was refl none);
       }
 
   -- ---- cut
 
   pub cuts : (w : View) (pool : List (List ℕ)) (c lba : ℕ) (ty : PiType) → is_admitted (op_at v i).phase ≡ true → w.ops ≡ changed (record (op_at v i) { cut = (op_at v i).cut + c }) → w.commands ≡ v.commands → (op_at v i).cut + c ≤ (request_at p i).count → AreWhole pool → ty ≡ host_type over.ty →
-      ((j : ℕ) → j < c → (route over (block_of (suc i) (io_at ios i).first ((op_at v i).cut + j))).lba ≡ lba + j) → WriteMapped (io_at ios i).dir (io_at ios i).pi ty (op_at v i).cut c lba d.pool pool → GoesOn over n opening es p ops d (record d { pool = pool }) v w now.blocks
+      ((j : ℕ) → j < c → (route over (block_of (suc i) (io_at ios i).first ((op_at v i).cut + j))).lba ≡ lba + j) → WriteMapped (io_at ios i).dir (io_at ios i).pi ty (op_at v i).cut c lba d.pool pool → GoesOn course over n opening es p ops d (record d { pool = pool }) v w now.blocks
   cuts w pool c lba ty a e cs fit whole et lbas mapped =
       let k = (op_at v i).cut in
       let o : OpView = record (op_at v i) { cut = k + c } in
@@ -163,20 +163,20 @@ module _ (over : Setting) (n : ℕ) (opening : State) (es : List Sent) (p : Plan
       = λ (q : ℕ) (x : k ≤ q) (y : q < k + c). (let t = not_cut p v i q s away x (omega arith) in is_uncut (request_at p i).count (op_at v i) (shown_in d.replies i q) (why_in d.starts d.held i q) (fate_in i q v.commands) q away (omega arith) (unmarked (op_at v i) q t.0) x) in
       let lg = long in
       let may = all_may over ops i l n (length opening.logs) g.ground status Admitted lets k c (omega arith) (omega arith) was in
-      let moved = all_are_cut over n ops opening spots now status es may h.follows in
+      let moved = cut_by course over n ops opening spots now status es may h.follows in
       let same = cut_statuses p over ops g.plan v w s (shown_in d.replies) (why_in d.starts d.held) i l (λ (j : ℕ) (ne : j ≡ i → ⊥). at j ∙ other o j ne) cs c away (ap (λ (y : OpView). is_waiting y.phase) mine_is ∙ away) (ap (λ (y : OpView). y.cut) mine_is) (ap (λ (y : OpView). y.settled) mine_is) fit some in
       let pages = cut_pages over n (length opening.logs) p ops ios d.pool g i l li h.whole now h.bytes k c (omega arith) pool ty lba et lbas mapped in
       let stays = cut_stays over n (length opening.logs) p ops ios d.pool g i l li h.whole now h.bytes k c (omega arith) in
       record {
-        after = plain act (all_cut over n spots) now;
+        after = moved.after;
         follow = record {
-          bytes = sym pages;
+          bytes = moved.bytes_are ∙ sym pages;
           whole = whole;
-          follows = same_statuses over n ops opening (plain act (all_cut over n spots) now) (with_all spots Cut status) (status_of p (record d { pool = pool }) w) es same moved;
+          follows = same_by course over n ops opening moved.after (with_all spots Cut status) (status_of p (record d { pool = pool }) w) es same moved.follows;
           begun = λ j x. begun_on o pool a j (sym (ap (λ (y : OpView). is_admitted y.phase) (at j)) ∙ x);
           replied = λ j b x. (let t = ended_before o pool a j (sym (ap (λ (y : OpView). has_ended y.phase) (at j)) ∙ x) in h.replied j b t.0);
           suited = λ j b x. h.suited j b (not_before o pool a j (goes (op_at v i) pool a) (sym (ap (λ (y : OpView). has_ended y.phase) (at j)) ∙ x));
         };
-        blocks = stays;
+        blocks = moved.blocks_are ∙ stays;
         none_before = λ none. none_same (with_all spots Cut status) (status_of p (record d { pool = pool }) w) es same (none_with over ops i l k c Cut Admitted status es (omega arith) was refl none);
       }

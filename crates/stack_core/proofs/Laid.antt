@@ -1,5 +1,5 @@
 -- Where the blocks of a request lie.
-use Rattle.std.proofs.Common.{◌≡◌, ◌<◌, ◌≤◌, ℕ, ◌+◌, ◌-◌, max, List, length, get_or, map, sym, ap, ◌∙◌, ⊎_elim, arith}
+use Rattle.std.proofs.Common.{◌≡◌, ◌<◌, ◌≤◌, ℕ, ◌+◌, ◌-◌, max, List, length, get_or, map, sym, ap, subst, ◌∙◌, ⊎_elim, arith}
 use Rattle.std.proofs.lemmas.Bool.{cases_lt}
 use Rattle.std.proofs.lemmas.List.{get_or_read}
 use Rattle.bio_core.specs.declared.request.Io.{Io}
@@ -31,6 +31,12 @@ devices-more entries first k m run most next goes l e h = λ j b.
     let d : (place_in entries (first + j)).0 ≡ (place_in entries (first + k)).0 = ap (λ v. (place_in entries v).0) (sym g) ∙ ap (λ q. q.0) p in
     omega arith)
     (cases_lt j k)
+
+-- what holds of the blocks of all requests holds of those of one
+pub own-blocks : (entries : List Entry) (ios : List Io) (at : ℕ) (io : Io) (n : ℕ) → io ≡ get_or ios at io → at < length ios → ((i k : ℕ) → k < (io_at ios i).count → (place_in entries ((io_at ios i).first + k)).0 < n) → (k : ℕ) → k < io.count → (place_in entries (io.first + k)).0 < n
+own-blocks entries ios at io n e l h k b =
+    let q : io ≡ io_at ios at = get_or_read ios at io l e no_io in
+    subst (λ (z : Io). (place_in entries (z.first + k)).0 < n) (sym q) (h at k (subst (λ (z : Io). k < z.count) q b))
 
 -- one request more
 pub ios-more : (entries : List Entry) (ios : List Io) (at : ℕ) (io : Io) (most got next : ℕ) → io ≡ get_or ios at io → at < length ios → ((k : ℕ) → k < io.count → (place_in entries (io.first + k)).0 < got) → next ≡ max got most →

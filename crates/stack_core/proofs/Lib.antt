@@ -25,6 +25,7 @@ pub mod OwnCells
 pub mod BlockParts
 pub mod Planning
 pub mod Listed
+pub mod Courses
 pub mod FollowsEnd
 pub mod Spotted
 pub mod FollowsMove
@@ -47,3 +48,16 @@ pub mod ToldOps
 pub mod Failing
 pub mod WalkBegins
 pub mod WalkEnds
+pub mod KeptBad
+pub mod KeptComplete
+pub mod Recording
+pub mod Clear
+pub mod SendsOn
+pub mod StackSends
+pub mod AllSent
+pub mod ListsAll
+pub mod Queues
+pub mod MediumFates
+pub mod Mediums
+pub mod StackCounts
+pub mod MediumLines

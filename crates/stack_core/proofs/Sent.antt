@@ -101,6 +101,7 @@ pub record CanCarry (s : Stack) (d i : ℕ) (group : List Bio) (st : Standing) (
   pub fits : Carry.IsGroup s.adapter s.pool bytes s.sheet.ios.items group
   pub most : Carry.size group ≤ s.sheet.limits.max_blocks
   pub few : Carry.size group ≤ blocks_of_requests (plan_in s.sheet).requests
+  pub on : (Carry.first_of group).dev ≡ d
   pub device : (Carry.first_of group).dev < st.devices
   pub spare : HasRoom (greatest_size st) 1 (Carry.size group) room
 
@@ -127,6 +128,7 @@ can-carry s d i group m told st room k sp re rd tk =
       fits = carried-group s.sheet.ops s.sheet.shifted.items s.sheet.ios.items s.sheet.table s.sheet.limits s.sheet.devices d s.adapter s.pool k.fixed.bytes (group_at v d i) f k.fixed.uniform k.whole s.sheet.right.numbers fit.some g;
       most = omega arith;
       few = omega arith;
+      on = hd;
       device = omega arith;
       spare = rw z (room-before p s.machine v d i (greatest_size st) room f sp.holds c fit.some sp.spare);
     })

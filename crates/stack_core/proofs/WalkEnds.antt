@@ -1,6 +1,8 @@
 -- What a stack comes to that followed the walk of its script to the end.
 use Rattle.std.proofs.Common.{◌≡◌, ◌⊎◌, inl, inr, ◌<◌, ◌≤◌, ℕ, zero, suc, ◌+◌, Bool, true, false, List, [], ◌∷◌, length, drop, get_or, map, take, Option, refl, sym, ap, subst, ◌∙◌, arith}
 use Rattle.std.specs.Prelude.{if◌then◌else◌}
+use Rattle.std.proofs.lemmas.Bool.{false≢true}
+use Rattle.page_pool.specs.Cells.{flat}
 use Rattle.bio_core.specs.declared.fate.Why.{Why}
 use Rattle.range_gate.specs.Gates.{has_ended, is_waiting}
 use Rattle.range_gate.specs.declared.phase.Phase.{Phase}
@@ -33,13 +35,17 @@ use Rattle.run_follows.specs.Finished.{AllEnded, HasEnded, HaveEnded, answer_of,
 use Rattle.run_follows.specs.Slots.{Done, Settled, Status}
 use Rattle.run_follows.proofs.Backing.{is_backed, told_carried}
 use Rattle.run_follows.proofs.Ends.{ends_as_walk}
+use Rattle.run_falls.specs.AtTheEnd.{AllTakeAny, EndsAsFalling}
+use Rattle.run_falls.proofs.Ending.{ends_as_falling}
 use Rattle.stack_walks.specs.Statuses.{fate_in}
 use Rattle.stack_walks.proofs.Letting.{all_marked}
 use Rattle.stack_walks.proofs.Standing.{is_done, is_settled}
+use Rattle.stack_core.specs.Courses.{Course}
 use Rattle.stack_core.specs.declared.stack.Stack.{Stack}
 use Rattle.stack_core.specs.Sheets.{op_in}
 use Rattle.stack_core.specs.Stacks.{IsStack, plan_in}
-use Rattle.stack_core.specs.Walking.{EndsTold, HasFails, IsOver, IsReply, Walks, WalksOver, WalksTold, data_of, is_medium, shown_by, shown_in, status_of, why_in}
+use Rattle.stack_walks.specs.Overwrites.{is_overwrite}
+use Rattle.stack_core.specs.Walking.{EndsTold, HasFails, IsOver, IsReply, Walks, WalksBy, WalksFalling, WalksTold, data_of, is_medium, shown_by, shown_in, status_of, why_in}
 use Rattle.stack_core.proofs.Context.{over_told}
 use Rattle.stack_core.proofs.Walked.{sound, stand}
 
@@ -63,7 +69,7 @@ module _ (m : Setting) (i : ℕ) (status : ℕ → Status) (why : ℕ → Option
   over_says fails (inl e) h = ap (λ b. if b then Medium else Silent) (h ∙ ap is_medium e) ∙ sym e
   over_says fails (inr e) h = ap (λ b. if b then Medium else Silent) (h ∙ ap is_medium e) ∙ sym e
 
-  says : (op : Op) → ((q : ℕ) → q < fates_of op → status q ≡ Settled (why q)) → (fates_of op ≡ 0 → status 0 ≡ Done (shown_by reply)) → IsReply op (each_from 0 (fates_of op) why) reply → m.fails i ≡ is_medium reply →
+  says : (op : Op) → ((q : ℕ) → q < fates_of op → status q ≡ Settled (why q)) → (fates_of op ≡ 0 → status 0 ≡ Done (shown_by reply)) → IsReply op (each_from 0 (fates_of op) why) reply → (is_overwrite op ≡ true → m.fails i ≡ is_medium reply) →
       reply_of (m.fails i) op (answers_of 0 (steps_of m i op) status) ≡ reply
   says (Fill seg byte) s d r f = sym r
   says (Put page off bytes) s d r f = sym r
@@ -73,7 +79,7 @@ module _ (m : Setting) (i : ℕ) (status : ℕ → Status) (why : ℕ → Option
   says (Fetch v n body) s d r f = request_says _ n s r
   says (WritePi v n body tuples) s d r f = request_says _ n s r
   says (FetchPi v n body tuples) s d r f = request_says _ n s r
-  says (Overwrite dev lba change) s d r f = over_says (m.fails i) r f
+  says (Overwrite dev lba change) s d r f = over_says (m.fails i) r (f refl)
   says Wait s d r f = sym r
 
   -- and all its steps have ended
@@ -113,7 +119,7 @@ all_replies m from (op ∷ ops) status (r ∷ replies) e h =
     let rest = all_replies m (suc from) ops status replies (omega arith) (λ j l. let y : from + suc j ≡ suc from + j = omega arith in subst (λ x. reply_of (m.fails x) (op_in ops j) (answers_of 0 (steps_of m x (op_in ops j)) (status x)) ≡ get_or replies j Silent) y (h (suc j) (omega arith))) in
     ap (λ x. x ∷ replies_of m (suc from) ops status) here ∙ ap (λ l. r ∷ l) rest
 
-module _ (over : Setting) (n : ℕ) (opening : State) (es : List Sent) (left : List (List ℕ)) (s : Stack) (k : IsStack s) (o : IsOver over n opening s.sheet s.adapter s.host) (w : WalksOver over n opening es left s) (none : enabled (plan_in s.sheet) w.view ≡ []) where
+module _ {course : Course} (over : Setting) (n : ℕ) (opening : State) (es : List Sent) (left : List (List ℕ)) (s : Stack) (k : IsStack s) (o : IsOver over n opening s.sheet s.adapter s.host) (w : WalksBy course over n opening es left s) (none : enabled (plan_in s.sheet) w.view ≡ []) where
   abbrev plan : Plan
   plan = plan_in s.sheet
 
@@ -149,12 +155,13 @@ module _ (over : Setting) (n : ℕ) (opening : State) (es : List Sent) (left : L
   pub all_ended : (m : Setting) → AllEnded m 1 ops status
   all_ended m = all_over m 1 ops status (λ j l. let y : suc j ≡ 1 + j = omega arith in subst (λ x. HaveEnded 0 (steps_of m x (op_in ops j)) (status x)) y (all_steps m (suc j) (status (suc j)) (why j) Silent (op_in ops j) (λ q b. settled j q l b) (λ z q. (shown_in (data_of s).replies j q, done j q l z))))
 
-  pub all_replied : (m : Setting) → HasFails m s.replies.items → replies_of m 1 ops status ≡ s.replies.items
+  -- the setting says which overwrites failed, where there are some
+  pub all_replied : (m : Setting) → ((i : ℕ) → i < length ops → is_overwrite (op_in ops i) ≡ true → m.fails (suc i) ≡ is_medium (get_or s.replies.items i Silent)) → replies_of m 1 ops status ≡ s.replies.items
   all_replied m f =
       let r = k.replies in
       let o = k.fixed.ops in
       all_replies m 1 ops status s.replies.items (omega arith)
-      (λ j l. let y : suc j ≡ 1 + j = omega arith in subst (λ x. reply_of (m.fails x) (op_in ops j) (answers_of 0 (steps_of m x (op_in ops j)) (status x)) ≡ get_or s.replies.items j Silent) y (says m (suc j) (status (suc j)) (why j) (get_or s.replies.items j Silent) (op_in ops j) (λ q b. settled j q l b) (λ z. done j 0 l z) (w.follow.replied j l (ended j l)) (f j)))
+      (λ j l. let y : suc j ≡ 1 + j = omega arith in subst (λ x. reply_of (m.fails x) (op_in ops j) (answers_of 0 (steps_of m x (op_in ops j)) (status x)) ≡ get_or s.replies.items j Silent) y (says m (suc j) (status (suc j)) (why j) (get_or s.replies.items j Silent) (op_in ops j) (λ q b. settled j q l b) (λ z. done j 0 l z) (w.follow.replied j l (ended j l)) (f j l)))
 
 -- Over any rig the replies are backed by what stands on record since the stack began.
 pub ends_backed : (m : Setting) (n : ℕ) (opening : State) (first : ℕ) (s : Stack) (st : Standing) (log : List Entry) → IsStack s → (w : Walks m n opening first s st log) → enabled (plan_in s.sheet) w.walks.view ≡ [] →
@@ -163,7 +170,7 @@ ends_backed m n opening first s st log k w none f bound =
     let es = recorded m (drop first log) in
     let o = over_told m es n opening s.sheet s.adapter s.host w.over in
     let status = status_of (plan_in s.sheet) (data_of s) w.walks.view in
-    subst (Backed m s.sheet.ops (hidden n opening) (drop first log)) (all_replied (told m es) n opening es w.left s k o w.walks none m f)
+    subst (Backed m s.sheet.ops (hidden n opening) (drop first log)) (all_replied (told m es) n opening es w.left s k o w.walks none m (λ i l e. f i))
     (is_backed m n s.sheet.ops opening w.walks.now status (drop first log) bound (all_ended (told m es) n opening es w.left s k o w.walks none m) w.walks.follow.follows)
 
 -- Over a rig that tells its blocks the stack has done the walk.
@@ -173,7 +180,7 @@ ends_told m fine n opening first s units armed st log k w none f bound =
     let es = recorded m (drop first log) in
     let ops = s.sheet.ops in
     let status = status_of (plan_in s.sheet) (data_of s) w.walks.view in
-    let replied = all_replied m n opening es (blocks_told w.us) s k w.over w.walks none m f in
+    let replied = all_replied m n opening es (blocks_told w.us) s k w.over w.walks none m (λ i l e. f i) in
     let over = all_ended m n opening es (blocks_told w.us) s k w.over w.walks none m in
     let ends = ends_as_walk m fine n ops opening w.walks.now status es bound over w.walks.follow.follows in
     let told = told_carried m fine n ops opening w.walks.now status (drop first log) bound over w.walks.follow.follows in
@@ -184,3 +191,19 @@ ends_told m fine n opening first s units armed st log k w none f bound =
       carried = told.0;
       backed = subst (Backed m ops (hidden n opening) (drop first log)) replied told.1;
     }
+
+-- And where some store calls failed, it has done the walk in which just these fail.
+pub ends_falling : (m : Setting) (fine : ℕ → List ℕ → Bool) (n : ℕ) (opening : State) (first : ℕ) (s : Stack) (units : Option (List Stored)) (armed : List FaultLine) (st : Standing) (log : List Entry) → IsStack s → (w : WalksFalling m n opening first s units armed st log) → enabled (plan_in s.sheet) w.told.walks.view ≡ [] →
+    IsBoundRun m fine n s.sheet.ops opening → AllTakeAny m fine 1 s.sheet.ops → EndsAsFalling m n s.sheet.ops opening (take n (flat s.pool)) (blocks_told w.told.us) s.replies.items (recorded m (drop first log))
+ends_falling m fine n opening first s units armed st log k w none bound takes =
+    let es = recorded m (drop first log) in
+    let ops = s.sheet.ops in
+    let t = w.told in
+    let status = status_of (plan_in s.sheet) (data_of s) t.walks.view in
+    let replied = all_replied m n opening es (blocks_told t.us) s k t.over t.walks none m (λ i l e. absurd (false≢true (sym (w.no_overwrites i l) ∙ e))) in
+    let over = all_ended m n opening es (blocks_told t.us) s k t.over t.walks none m in
+    let h = t.walks.follow.follows.0 in
+    let ends = ends_as_falling m fine n ops opening status t.walks.now.bytes t.walks.now.blocks es bound takes over h in
+    subst (λ replies. EndsAsFalling m n ops opening (take n (flat s.pool)) (blocks_told t.us) replies es) replied
+    (subst (λ blocks. EndsAsFalling m n ops opening (take n (flat s.pool)) blocks (replies_of m 1 ops status) es) t.walks.blocks
+    (subst (λ bytes. EndsAsFalling m n ops opening (take n bytes) t.walks.now.blocks (replies_of m 1 ops status) es) t.walks.follow.bytes ends))

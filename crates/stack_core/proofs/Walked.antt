@@ -42,11 +42,12 @@ use Rattle.run_follows.specs.Sending.{NoneBefore}
 use Rattle.stack_core.specs.declared.kept.Room.TheVariants.{Nothing}
 use Rattle.stack_core.specs.declared.sheet.Sheet.{Sheet}
 use Rattle.stack_core.specs.declared.stack.Stack.{Stack}
+use Rattle.stack_core.specs.Courses.{Course}
 use Rattle.stack_core.specs.Done.{MadeBy, OpDone, WriteMade, WriteMapped}
 use Rattle.stack_core.specs.Replies.{reply_of}
 use Rattle.stack_core.specs.Sheets.{io_at, op_in}
 use Rattle.stack_core.specs.Stacks.{IsStack, Stays, plan_in, room_at}
-use Rattle.stack_core.specs.Walking.{Data, Follow, GoesOn, IsChosen, IsOver, WalksOver, data_of, op_left, status_of}
+use Rattle.stack_core.specs.Walking.{Data, Follow, GoesOn, IsChosen, IsOver, WalksBy, data_of, op_left, status_of}
 use Rattle.stack_core.proofs.Context.{places, stands}
 use Rattle.stack_core.proofs.Facts.{op-ends, op-enters}
 use Rattle.stack_core.proofs.FollowsEnd.{ends, joins}
@@ -82,7 +83,7 @@ some_not_zero c h = by (eqb c 0) refl where
   by false e = refl
   by true e = let z = eqb-true c 0 e in absurd (omega arith)
 
-module _ (over : Setting) (n : ℕ) (opening : State) (es : List Sent) (left : List (List ℕ)) (s : Stack) (k : IsStack s) (o : IsOver over n opening s.sheet s.adapter s.host) (w : WalksOver over n opening es left s) where
+module _ {course : Course} (over : Setting) (n : ℕ) (opening : State) (es : List Sent) (left : List (List ℕ)) (s : Stack) (k : IsStack s) (o : IsOver over n opening s.sheet s.adapter s.host) (w : WalksBy course over n opening es left s) where
   abbrev pub plan : Plan
   plan = plan_in s.sheet
 
@@ -110,12 +111,12 @@ module _ (over : Setting) (n : ℕ) (opening : State) (es : List Sent) (left : L
   -- ---- what goes on
 
   module _ (s' : Stack) (stays : Stays s s') where
-    pub walked : (d' : Data) (w' : View) (now' left' : List (List ℕ)) → data_of s' ≡ d' → Holds plan s'.machine w' → GoesOn over n opening es plan ops (data_of s) d' v w' now' → now' ≡ left' → WalksOver over n opening es left' s'
+    pub walked : (d' : Data) (w' : View) (now' left' : List (List ℕ)) → data_of s' ≡ d' → Holds plan s'.machine w' → GoesOn course over n opening es plan ops (data_of s) d' v w' now' → now' ≡ left' → WalksBy course over n opening es left' s'
     walked d' w' now' left' e h g l = record {
       view = w';
       holds = subst (λ (x : Sheet). Holds (plan_in x) s'.machine w') (sym stays.sheet) h;
       now = g.after;
-      follow = subst (λ (x : Sheet). Follow over n opening es (plan_in x) x.ops (data_of s') w' g.after) (sym stays.sheet) (subst (λ (d : Data). Follow over n opening es plan ops d w' g.after) (sym e) g.follow);
+      follow = subst (λ (x : Sheet). Follow course over n opening es (plan_in x) x.ops (data_of s') w' g.after) (sym stays.sheet) (subst (λ (d : Data). Follow course over n opening es plan ops d w' g.after) (sym e) g.follow);
       none_before = subst (λ (x : Sheet). NoneBefore (status_of (plan_in x) (data_of s') w') es) (sym stays.sheet) (subst (λ (d : Data). NoneBefore (status_of plan d w') es) (sym e) (g.none_before w.none_before));
       blocks = g.blocks ∙ l;
     }
@@ -140,7 +141,7 @@ module _ (over : Setting) (n : ℕ) (opening : State) (es : List Sent) (left : L
 
   -- ---- groups are joined
 
-  pub walk_joins : (s' : Stack) (d i j : ℕ) → Stays s s' → IsChosen s (Join d i j) → Does plan s.machine (Join d i j) 0 s'.machine → data_of s' ≡ data_of s → WalksOver over n opening es left s'
+  pub walk_joins : (s' : Stack) (d i j : ℕ) → Stays s s' → IsChosen s (Join d i j) → Does plan s.machine (Join d i j) 0 s'.machine → data_of s' ≡ data_of s → WalksBy course over n opening es left s'
   walk_joins s' d i j stays ch does same =
       let t : taken (Join d i j) ch ≡ StepJoin d i j = meant (Join d i j) ch in
       let h : Holds plan s'.machine (step plan v (StepJoin d i j) 0 []) = subst (λ x. Holds plan s'.machine (step plan v x 0 [])) t (does v (taken (Join d i j) ch) w.holds (can_be (Join d i j) ch) (meant (Join d i j) ch)) in
@@ -149,7 +150,7 @@ module _ (over : Setting) (n : ℕ) (opening : State) (es : List Sent) (left : L
   -- ---- an op ends
 
   pub walk_ends : (s' : Stack) (q i : ℕ) → Stays s s' → IsChosen s (End q) → Does plan s.machine (End q) 0 s'.machine → OfOp plan s.machine (End q) i →
-      data_of s' ≡ record (data_of s) { rooms = set s.rooms.items i Nothing; replies = set s.replies.items i (reply_of (take (io_at ios i).count (drop (get_or s.kept.starts.items i 0) s.kept.held.items)) (room_at s.rooms.items i)) } → WalksOver over n opening es left s'
+      data_of s' ≡ record (data_of s) { rooms = set s.rooms.items i Nothing; replies = set s.replies.items i (reply_of (take (io_at ios i).count (drop (get_or s.kept.starts.items i 0) s.kept.held.items)) (room_at s.rooms.items i)) } → WalksBy course over n opening es left s'
   walk_ends s' q i stays ch does of same =
       let c = End q in
       let t : taken c ch ≡ StepEnd i = (meant c ch).1 ∙ ap StepEnd (sym (ap op_of (meant c ch).1) ∙ of v (taken c ch) w.holds (meant c ch)) in
@@ -189,7 +190,7 @@ module _ (over : Setting) (n : ℕ) (opening : State) (es : List Sent) (left : L
     there : i < length ios
     there = op-enters ops s.sheet.shifted.items ios s.sheet.table s.sheet.limits s.sheet.devices s.machine q i s.sheet.right.fine (ready enters ch) of
 
-    pub walk_admits : 0 < (io_at ios i).count → (pool : List (List ℕ)) → WriteMade (io_at ios i).dir (io_at ios i).pi s.adapter.kind s.host (io_at ios i).body s.pool pool → data_of s' ≡ record (data_of s) { pool = pool } → WalksOver over n opening es left s'
+    pub walk_admits : 0 < (io_at ios i).count → (pool : List (List ℕ)) → WriteMade (io_at ios i).dir (io_at ios i).pi s.adapter.kind s.host (io_at ios i).body s.pool pool → data_of s' ≡ record (data_of s) { pool = pool } → WalksBy course over n opening es left s'
     walk_admits some pool made same =
         let l = there in
         let f = k.fixed.ops in
@@ -202,7 +203,7 @@ module _ (over : Setting) (n : ℕ) (opening : State) (es : List Sent) (left : L
         (made_whole (io_at ios i).dir (io_at ios i).pi s.adapter.kind s.host (io_at ios i) s.pool pool w.follow.whole made) (sym (ap (λ mode. mode.kind) o.mode)) o.host_is made) w.blocks
 
     pub walk_op : (io_at ios i).count ≡ 0 → (pool : List (List ℕ)) (reply : Reply) → OpDone (op_in ops i) s.adapter.kind (room_at s.rooms.items i) s.pool pool reply →
-        data_of s' ≡ record (data_of s) { pool = pool; rooms = set s.rooms.items i Nothing; replies = set s.replies.items i reply } → WalksOver over n opening es (op_left over (op_in ops i) left) s'
+        data_of s' ≡ record (data_of s) { pool = pool; rooms = set s.rooms.items i Nothing; replies = set s.replies.items i reply } → WalksBy course over n opening es (op_left over (op_in ops i) left) s'
     walk_op none pool reply done same =
         let l = there in
         let f = k.fixed.ops in
@@ -220,7 +221,7 @@ module _ (over : Setting) (n : ℕ) (opening : State) (es : List Sent) (left : L
   -- ---- a piece is cut
 
   pub walk_cuts : (s' : Stack) (q size : ℕ) (bio : Bio) (pool : List (List ℕ)) → Stays s s' → IsChosen s (Cut q) → Does plan s.machine (Cut q) size s'.machine → Cuts plan s.machine q size bio →
-      WriteMapped (io_at ios (bio.op - 1)).dir (io_at ios (bio.op - 1)).pi s.host bio.k bio.count bio.lba s.pool pool → data_of s' ≡ record (data_of s) { pool = pool } → WalksOver over n opening es left s'
+      WriteMapped (io_at ios (bio.op - 1)).dir (io_at ios (bio.op - 1)).pi s.host bio.k bio.count bio.lba s.pool pool → data_of s' ≡ record (data_of s) { pool = pool } → WalksBy course over n opening es left s'
   walk_cuts s' q size bio pool stays ch does piece mapped same =
       let c = Cut q in
       let i = get_or (live_ops v) q 0 in

@@ -31,20 +31,20 @@ use Rattle.block_path.specs.Acts.{State}
 use Rattle.block_path.specs.Blocks.{Sent}
 use Rattle.volume_table.specs.Places.{place_in, volume_len}
 use Rattle.whole_run.specs.Settings.{Setting}
-use Rattle.run_follows.specs.Following.{Follows}
 use Rattle.run_follows.specs.Sending.{AllGoing, NoneBefore, with_fates}
 use Rattle.run_follows.specs.Slots.{Status}
-use Rattle.run_follows.proofs.Holding.{held_back}
 use Rattle.stack_walks.proofs.Sending.{in_its_queue}
 use Rattle.stack_walks.proofs.Standing.{due_one}
+use Rattle.stack_core.specs.Courses.{Course, FollowsBy}
 use Rattle.stack_core.specs.declared.sheet.Sheet.{Sheet}
 use Rattle.stack_core.specs.declared.stack.Stack.{Stack}
 use Rattle.stack_core.specs.Settled.{AllSettled, Kept}
 use Rattle.stack_core.specs.Settling.{AreFates}
 use Rattle.stack_core.specs.Sheets.{io_at}
 use Rattle.stack_core.specs.Stacks.{IsStack, Stays, plan_in}
-use Rattle.stack_core.specs.Walking.{Data, Follow, IsChosen, IsOver, SizesFit, WalksOver, data_of, status_of}
+use Rattle.stack_core.specs.Walking.{Data, Follow, IsChosen, IsOver, SizesFit, WalksBy, data_of, status_of}
 use Rattle.stack_core.proofs.Completes.{completes}
+use Rattle.stack_core.proofs.Courses.{held_by, none_held}
 use Rattle.stack_core.proofs.Context.{adapts, places, stands}
 use Rattle.stack_core.proofs.Facts.{completed, place-is}
 use Rattle.stack_core.proofs.FollowsSend.{all_going, sent_before, sent_follows, spots_of}
@@ -52,13 +52,13 @@ use Rattle.stack_core.proofs.Sending.{carried-group}
 use Rattle.stack_core.proofs.Walked.{can_be, lie, meant, ready, sound, stand, taken, walked}
 
 -- where the blocks of each request begin doesn't change
-starts_stay : (ios : List Io) (a b : List ℕ) (x y : List Fate) → AreFates ios a x → AreFates ios b y → b ≡ a
+pub starts_stay : (ios : List Io) (a b : List ℕ) (x y : List Fate) → AreFates ios a x → AreFates ios b y → b ≡ a
 starts_stay ios a b x y f g =
     let m = f.count in
     let n = g.count in
     ext_get_or 0 b a (n ∙ sym m) (λ i l. g.begin i (omega arith) ∙ sym (f.begin i (omega arith)))
 
-module _ (over : Setting) (n : ℕ) (opening : State) (es : List Sent) (left : List (List ℕ)) (s : Stack) (k : IsStack s) (o : IsOver over n opening s.sheet s.adapter s.host) (w : WalksOver over n opening es left s) where
+module _ {course : Course} (over : Setting) (n : ℕ) (opening : State) (es : List Sent) (left : List (List ℕ)) (s : Stack) (k : IsStack s) (o : IsOver over n opening s.sheet s.adapter s.host) (w : WalksBy course over n opening es left s) where
   abbrev pub view : View
   view = w.view
 
@@ -72,7 +72,7 @@ module _ (over : Setting) (n : ℕ) (opening : State) (es : List Sent) (left : L
 
   pub walk_completes : (s' : Stack) (i : ℕ) (bios : List Bio) (fates : List Fate) → Stays s s' → IsChosen s (Complete i) → Does design s.machine (Complete i) 0 s'.machine → Lands design s.machine i bios fates → AreFates s.sheet.ios.items s'.kept.starts.items s'.kept.held.items →
       AllSettled (mode_of s.adapter) s.host s.sheet.ios.items s.kept.starts.items bios fates (length bios) (record { pages = s.pool; held = s.kept.held.items }) (record { pages = s'.pool; held = s'.kept.held.items }) →
-      data_of s' ≡ record (data_of s) { pool = s'.pool; starts = s'.kept.starts.items; held = s'.kept.held.items } → WalksOver over n opening es left s'
+      data_of s' ≡ record (data_of s) { pool = s'.pool; starts = s'.kept.starts.items; held = s'.kept.held.items } → WalksBy course over n opening es left s'
   walk_completes s' i bios fates stays ch does lands kept settles same =
       let sh = s.sheet in
       let c = Complete i in
@@ -198,26 +198,26 @@ module _ (over : Setting) (n : ℕ) (opening : State) (es : List Sent) (left : L
             ap (λ y. (spec_at st y).size) (nm.on ∙ sym place) ∙ here v (s.sheet.right.inside q b.k (omega arith))
 
     -- What came of its blocks is known, over another setting and another record where these changed: the stack goes on.
-    pub goes_on : (over' : Setting) (es' : List Sent) (now' : State) (left' : List (List ℕ)) → AreWhole s'.pool → now'.bytes ≡ flat s'.pool → Follows over' n s.sheet.ops opening (with_fates bs fates status) now' es' →
-        NoneBefore (with_fates bs fates status) es' → now'.blocks ≡ left' → WalksOver over' n opening es' left' s'
+    pub goes_on : (over' : Setting) (es' : List Sent) (now' : State) (left' : List (List ℕ)) → AreWhole s'.pool → now'.bytes ≡ flat s'.pool → FollowsBy course over' n s.sheet.ops opening (with_fates bs fates status) now' es' →
+        NoneBefore (with_fates bs fates status) es' → now'.blocks ≡ left' → WalksBy course over' n opening es' left' s'
     goes_on over' es' now' left' whole bytes follows none blocks =
         let f = sent_follows over n opening design s.sheet.ops s.sheet.ios.items (data_of s) view (stands over n opening s k o) (sound over n opening es left s k o w) formed (places over n opening s k o) s.adapter (adapts over n opening s k o) d i place named once es es' fates after refl refl
-        over w.now now' s'.pool w.follow whole over' bytes follows in
+        course over w.now now' s'.pool w.follow whole over' bytes follows in
         let none' = sent_before over n opening design s.sheet.ops s.sheet.ios.items (data_of s) view (stands over n opening s k o) (sound over n opening es left s k o w) formed (places over n opening s k o) s.adapter (adapts over n opening s k o) d i place named once es es' fates after refl refl
         s'.pool none in
         record {
           view = after;
           holds = subst (λ (x : Sheet). Holds (plan_in x) s'.machine after) (sym stays.sheet) holds_after;
           now = now';
-          follow = subst (λ (x : Sheet). Follow over' n opening es' (plan_in x) x.ops (data_of s') after now') (sym stays.sheet) (subst (λ (x : Data). Follow over' n opening es' design s.sheet.ops x after now') (sym same) f);
+          follow = subst (λ (x : Sheet). Follow course over' n opening es' (plan_in x) x.ops (data_of s') after now') (sym stays.sheet) (subst (λ (x : Data). Follow course over' n opening es' design s.sheet.ops x after now') (sym same) f);
           none_before = subst (λ (x : Sheet). NoneBefore (status_of (plan_in x) (data_of s') after) es') (sym stays.sheet) (subst (λ (x : Data). NoneBefore (status_of design x after) es') (sym same) none');
           blocks = blocks;
         }
 
     -- the adapter held a write back
-    pub walk_held : (first_of group).dir ≡ WriteDir → Unsent s.adapter s.sheet.ios.items group s.pool s'.pool fates → WalksOver over n opening es left s'
+    pub walk_held : (first_of group).dir ≡ WriteDir → Unsent s.adapter s.sheet.ios.items group s.pool s'.pool fates → WalksBy course over n opening es left s'
     walk_held dir u =
         let u' : Unsent s.adapter s.sheet.ios.items (group_at view d i) s.pool s'.pool fates = subst (λ g. Unsent s.adapter s.sheet.ios.items g s.pool s'.pool fates) group_is u in
         let dir' : (first_of (group_at view d i)).dir ≡ WriteDir = ap (λ g. (first_of g).dir) (sym group_is) ∙ dir in
-        let held = held_back over n s.sheet.ops s.adapter s.sheet.ios.items (group_at view d i) s.pool s'.pool fates opening w.now status es (spots_of over s.sheet.ops bs) fits dir' o.faults u' going w.follow.bytes w.follow.follows in
-        goes_on over es held.after left (subst AreWhole (sym u'.pool_is) w.follow.whole) (held.bytes ∙ (w.follow.bytes ∙ ap flat (sym u'.pool_is))) held.follows (held.none_before w.none_before) (held.blocks ∙ w.blocks)
+        let held = held_by course over n s.sheet.ops s.adapter s.sheet.ios.items (group_at view d i) s.pool s'.pool fates opening w.now status es (spots_of over s.sheet.ops bs) fits dir' o.faults u' going w.follow.bytes w.follow.follows in
+        goes_on over es held.after left (subst AreWhole (sym u'.pool_is) w.follow.whole) (held.bytes_are ∙ ap flat (sym u'.pool_is)) held.follows (none_held bs fates status es w.none_before) (held.blocks_are ∙ w.blocks)

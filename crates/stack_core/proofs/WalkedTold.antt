@@ -1,6 +1,6 @@
--- A stack that follows the walk of its script over a rig that tells its blocks does so after a group is sent, while no store call failed: each block went its way over the target.
+-- A stack that follows the walk of its script over a rig that tells its blocks does so after a group is sent: each block went its way over the target, up to one whose store call failed.
 use Rattle.std.proofs.Common.{◌≡◌, ◌<◌, ◌≤◌, ℕ, zero, suc, ◌+◌, ◌-◌, Bool, true, false, List, [], ◌∷◌, ◌++◌, length, get_or, map, drop, Option, Some, None, refl, sym, ap, subst, ◌∙◌, arith, ⊎_elim}
-use Rattle.std.specs.Prelude.{ℤ, pos, ◌+ℤ◌, IfOk, Result, Ok, Err}
+use Rattle.std.specs.Prelude.{ℤ, pos, ◌+ℤ◌, IfOk, IfSome, Result, Ok, Err}
 use Rattle.std.specs.List.{All}
 use Rattle.std.proofs.Math.IntN.{+ℤ_assoc}
 use Rattle.std.proofs.lemmas.Bool.{cases_Bool, cases_eq, cases_lt, false≢true}
@@ -21,7 +21,7 @@ use Rattle.fault_schedule.specs.declared.fault.FaultLine.{FaultLine}
 use Rattle.pi_tuple.specs.declared.checks.Check.{Check}
 use Rattle.target_answer.specs.Frames.{stored_size}
 use Rattle.target_answer.specs.Passing.{from_medium}
-use Rattle.target_answer.specs.Target.{Stored, has_blocks}
+use Rattle.target_answer.specs.Target.{Stop, Stored, has_blocks}
 use Rattle.dix_adapter.specs.Carried.{Shown, Unsent, any_bad, frame_len, sends}
 use Rattle.dix_adapter.specs.Groups as Carry
 use Rattle.dix_adapter.specs.Groups.{blocks_in, first_of, route_of}
@@ -36,7 +36,7 @@ use Rattle.dix_adapter.proofs.Units.{Stands as UnitStands, unit-stands}
 use Rattle.carried_record.proofs.Puts.{InTurn, bios_turn}
 use Rattle.range_gate.specs.Gates.{has_ended}
 use Rattle.rig_api.specs.Log.{Entry}
-use Rattle.rig_api.specs.Telling.{IsStanding, Standing, frame_size, spec_at, specs_of, unit_at, units_told}
+use Rattle.rig_api.specs.Telling.{HasCause, IsStanding, Standing, frame_size, spec_at, specs_of, unit_at, units_told}
 use Rattle.merge_queue.specs.Groups.{size}
 use Rattle.stack_ops.specs.declared.op.Op.{Op}
 use Rattle.stack_view.specs.Blocks.{blocks, place_of, times}
@@ -55,33 +55,46 @@ use Rattle.whole_run.specs.Settings.{Setting, block_of, route}
 use Rattle.run_moves.specs.OpsApart.{is_shifted}
 use Rattle.run_moves.specs.ScriptMoves.{fates_of}
 use Rattle.run_record.specs.Records.{recorded}
-use Rattle.run_follows.specs.Following.{Follows}
 use Rattle.run_follows.specs.Sending.{AllGoing, AllSized, NoneBefore, with_fates}
 use Rattle.run_follows.specs.Slots.{Status}
 use Rattle.run_follows.proofs.Recording.{none_in, none_out}
-use Rattle.run_follows.proofs.Telling.{told_in, told_out}
 use Rattle.stack_walks.specs.Units.{AreAtUnits, IsAtUnit, first_virt}
 use Rattle.stack_walks.proofs.Letting.{all_marked}
 use Rattle.stack_walks.proofs.Standing.{IsOut}
+use Rattle.stack_core.specs.Courses.{Course, Falling, FollowsBy, Straight}
 use Rattle.stack_core.specs.declared.sheet.Sheet.{Sheet}
 use Rattle.stack_core.specs.declared.stack.Stack.{Stack}
 use Rattle.stack_core.specs.Sheets.{io_at, op_in}
 use Rattle.stack_core.specs.Stacks.{IsStack, Stays, plan_in}
-use Rattle.stack_core.specs.Walking.{IsChosen, WalksOver, WalksTold, data_of, status_of}
+use Rattle.stack_core.specs.Walking.{IsChosen, WalksAtTarget, WalksBy, data_of, status_of}
 use Rattle.stack_core.proofs.AtUnits.{EachIn, both_still, fewer_behind, first_block, io_count, io_first, range_in, still}
 use Rattle.stack_core.proofs.Context.{adapts, over_stays, places, stands}
+use Rattle.stack_core.proofs.Courses.{StopsBy, in_by, out_by}
 use Rattle.stack_core.proofs.Facts.{place-is}
 use Rattle.stack_core.proofs.FollowsGroup.{AllLie, Lies}
 use Rattle.stack_core.proofs.FollowsSend.{all_going, group_lies, ids, out_is, spots_of}
 use Rattle.stack_core.proofs.Walked.{sound, stand}
 use Rattle.stack_core.proofs.WalkedFar.{fits, formed, goes_on, group_is, head_on, head_there, named, once, place, size_known, some, walk_held}
 
+-- where no store call fails the count of faults stays
+abbrev pub CalmBy : Course → (faults faults' : ℕ) → Type 0
+CalmBy Straight faults faults' = Calm faults faults'
+CalmBy Falling faults faults' = Unit {0}
+
+stop_left : (stop : Option Stop) (frame faults faults' : ℕ) → HasCause stop frame faults faults' → IfSome stop (λ s. length s.left ≡ frame)
+stop_left None frame faults faults' h = tt
+stop_left (Some s) frame faults faults' h = h.1
+
+up_to : (course : Course) (faults faults' frame : ℕ) (P : Option Stop → Type 0) → CalmBy course faults faults' → UpTo P frame faults faults' → (stop : Option Stop) × (StopsBy course frame stop × P stop)
+up_to Straight faults faults' frame P calm h = (None, (refl, h.0 calm))
+up_to Falling faults faults' frame P calm h = (h.1.0, (stop_left h.1.0 frame faults faults' h.1.1, h.1.2))
+
 -- the same of what the target says
 by_target_ok : (x : Result (List ℕ) Check) (P : List ℕ → Type 0) → IfOk x P → IfOk (by_target x) P
 by_target_ok (Ok frame) P h = h
 by_target_ok (Err check) P h = tt
 
-module _ (m : Setting) (n : ℕ) (opening : State) (first : ℕ) (s : Stack) (units : Option (List Stored)) (armed : List FaultLine) (st : Standing) (log : List Entry) (k : IsStack s) (w : WalksTold m n opening first s units armed st log) where
+module _ {course : Course} (m : Setting) (n : ℕ) (opening : State) (first : ℕ) (s : Stack) (units : Option (List Stored)) (armed : List FaultLine) (st : Standing) (log : List Entry) (k : IsStack s) (w : WalksAtTarget course m n opening first s units armed st log) where
   abbrev records : List Sent
   records = recorded m (drop first log)
 
@@ -101,7 +114,7 @@ module _ (m : Setting) (n : ℕ) (opening : State) (first : ℕ) (s : Stack) (un
   ops = s.sheet.ops
 
   -- the same over the same records and the same units
-  pub told_stay : (s' : Stack) → Stays s s' → (units' : Option (List Stored)) (us' : List Stored) (armed' : List FaultLine) (log' : List Entry) → first ≤ length log' → units' ≡ Some us' → armed' ≡ armed → WalksOver m n opening (recorded m (drop first log')) (blocks_told us') s' → WalksTold m n opening first s' units' armed' st log'
+  pub told_stay : (s' : Stack) → Stays s s' → (units' : Option (List Stored)) (us' : List Stored) (armed' : List FaultLine) (log' : List Entry) → first ≤ length log' → units' ≡ Some us' → armed' ≡ armed → WalksBy course m n opening (recorded m (drop first log')) (blocks_told us') s' → WalksAtTarget course m n opening first s' units' armed' st log'
   told_stay s' stays units' us' armed' log' l e a walks = record {
     over = over_stays m n opening s s' stays w.over;
     sizes = w.sizes;
@@ -397,35 +410,44 @@ module _ (m : Setting) (n : ℕ) (opening : State) (first : ℕ) (s : Stack) (un
 
       -- the stack goes on over the target
       on_told : (units' : Option (List Stored)) (us' : List Stored) (armed' : List FaultLine) (log' : List Entry) (now' : State) → units' ≡ Some us' → armed' ≡ armed → first ≤ length log' → AreWhole s'.pool → now'.bytes ≡ flat s'.pool → now'.blocks ≡ blocks_told us' →
-          Follows m n ops opening (with_fates bs fates status) now' (recorded m (drop first log')) → NoneBefore (with_fates bs fates status) (recorded m (drop first log')) → WalksTold m n opening first s' units' armed' st log'
+          FollowsBy course m n ops opening (with_fates bs fates status) now' (recorded m (drop first log')) → NoneBefore (with_fates bs fates status) (recorded m (drop first log')) → WalksAtTarget course m n opening first s' units' armed' st log'
       on_told units' us' armed' log' now' e a l whole bytes blocks follows none =
           told_stay s' stays units' us' armed' log' l e a
           (goes_on m n opening records told_blocks s k w.over w.walks s' d i group fates between stays ch takes flies settles same m (recorded m (drop first log')) now' (blocks_told us') whole bytes follows none blocks)
 
-      went_out : (old new : Shown) → old.log ≡ log → new.armed ≡ armed → (first_of g).dir ≡ WriteDir → any_bad (map (sends s.adapter ios (flat s.pool)) bs) ≡ false → s'.pool ≡ s.pool → RecordedOut s.adapter ios g (flat s.pool) fates old new →
-          WentOut s.adapter ios g (flat s.pool) w.us None fates old new → WalksTold m n opening first s' new.units new.armed st new.log
-      went_out old new l a dir good stay r t =
+      went_out : (stop : Option Stop) (old new : Shown) → StopsBy course (stored_size m.ty m.size) stop → old.log ≡ log → new.armed ≡ armed → (first_of g).dir ≡ WriteDir → any_bad (map (sends s.adapter ios (flat s.pool)) bs) ≡ false → s'.pool ≡ s.pool →
+          RecordedOut s.adapter ios g (flat s.pool) fates old new → WentOut s.adapter ios g (flat s.pool) w.us stop fates old new → WalksAtTarget course m n opening first s' new.units new.armed st new.log
+      went_out stop old new stops l a dir good stay r t =
           let r' : RecordedOut s.adapter ios g (flat s.pool) fates (from_first old) (from_first new) = record { entry = r.entry; what = dropped old new r.entry l r.what; moved = r.moved; fates_are = r.fates_are } in
-          let t' : WentOut s.adapter ios g (flat s.pool) w.us None fates (from_first old) (from_first new) = record { fates_are = t.fates_are; units = t.units; told = t.told; shapes = t.shapes; blocks = t.blocks; entry = t.entry; recorded = from_then old new t.entry l t.recorded; done = t.done; moved = t.moved; labels = t.labels } in
+          let t' : WentOut s.adapter ios g (flat s.pool) w.us stop fates (from_first old) (from_first new) = record { fates_are = t.fates_are; units = t.units; told = t.told; shapes = t.shapes; blocks = t.blocks; entry = t.entry; recorded = from_then old new t.entry l t.recorded; done = t.done; moved = t.moved; labels = t.labels } in
           let logs : recorded m (drop first old.log) ≡ records = ap (λ x. recorded m (drop first x)) l in
-          let on = told_out m n ops s.adapter ios g s.pool w.us k.fixed.protect fit site_is fates (from_first old) (from_first new) opening w.walks.now status (spots_of m ops bs) dir good r' t' going w.walks.follow.bytes w.walks.blocks
-          (subst (λ x. Follows m n ops opening status w.walks.now x) (sym logs) w.walks.follow.follows) in
-          let none = none_out m n ops s.adapter ios g s.pool k.fixed.protect fit w.over.faults fates (from_first old) (from_first new) status dir good r' (subst (λ x. NoneBefore status x) (sym logs) w.walks.none_before) in
-          on_told new.units t.units new.armed new.log on.after t.told a (grows old new r.entry l r.what.recorded) (subst AreWhole (sym stay) w.walks.follow.whole) (on.bytes ∙ ap flat (sym stay)) on.blocks_are on.follows none
+          let before : NoneBefore status (recorded m (drop first old.log)) = subst (λ x. NoneBefore status x) (sym logs) w.walks.none_before in
+          let on = out_by m n ops s.adapter ios g s.pool w.us k.fixed.protect fit site_is course stop fates (from_first old) (from_first new) opening w.walks.now status (spots_of m ops bs) stops dir good r' t' going before (w.walks.follow.bytes, w.walks.blocks)
+          (subst (λ x. FollowsBy course m n ops opening status w.walks.now x) (sym logs) w.walks.follow.follows) in
+          let none = none_out m n ops s.adapter ios g s.pool k.fixed.protect fit w.over.faults fates (from_first old) (from_first new) status dir good r' before in
+          on_told new.units t.units new.armed new.log on.after t.told a (grows old new r.entry l r.what.recorded) (subst AreWhole (sym stay) w.walks.follow.whole) (on.bytes_are ∙ ap flat (sym stay)) on.blocks_are on.follows none
 
-      came_in : (old new : Shown) → old.log ≡ log → new.armed ≡ armed → (first_of g).dir ≡ Read → AreWhole s'.pool → RecordedIn s.adapter ios g s.pool s'.pool fates old new →
-          CameIn s.adapter ios g s.pool s'.pool w.us None fates old new → WalksTold m n opening first s' new.units new.armed st new.log
-      came_in old new l a dir whole r t =
+      came_in : (stop : Option Stop) (old new : Shown) → StopsBy course (stored_size m.ty m.size) stop → old.log ≡ log → new.armed ≡ armed → (first_of g).dir ≡ Read → AreWhole s'.pool → RecordedIn s.adapter ios g s.pool s'.pool fates old new →
+          CameIn s.adapter ios g s.pool s'.pool w.us stop fates old new → WalksAtTarget course m n opening first s' new.units new.armed st new.log
+      came_in stop old new stops l a dir whole r t =
           let r' : RecordedIn s.adapter ios g s.pool s'.pool fates (from_first old) (from_first new) = record { entry = r.entry; what = dropped old new r.entry l r.what; long = r.long; fates_are = r.fates_are; cells = r.cells } in
-          let t' : CameIn s.adapter ios g s.pool s'.pool w.us None fates (from_first old) (from_first new) = record { fates_are = t.fates_are; told = t.told; cells = t.cells; entry = t.entry; recorded = from_then old new t.entry l t.recorded; done = t.done; moved = t.moved; labels = t.labels } in
+          let t' : CameIn s.adapter ios g s.pool s'.pool w.us stop fates (from_first old) (from_first new) = record { fates_are = t.fates_are; told = t.told; cells = t.cells; entry = t.entry; recorded = from_then old new t.entry l t.recorded; done = t.done; moved = t.moved; labels = t.labels } in
           let logs : recorded m (drop first old.log) ≡ records = ap (λ x. recorded m (drop first x)) l in
-          let on = told_in m n ops s.adapter ios g s.pool w.us k.fixed.protect fit site_is s'.pool fates (from_first old) (from_first new) opening w.walks.now status (spots_of m ops bs) dir sized r' t' going w.walks.follow.bytes w.walks.blocks
-          (subst (λ x. Follows m n ops opening status w.walks.now x) (sym logs) w.walks.follow.follows) in
-          let none = none_in m n ops s.adapter ios g s.pool k.fixed.protect fit w.over.faults s'.pool fates (from_first old) (from_first new) status dir r' (subst (λ x. NoneBefore status x) (sym logs) w.walks.none_before) in
-          on_told new.units w.us new.armed new.log on.after t.told a (grows old new r.entry l r.what.recorded) whole on.bytes on.blocks_are on.follows none
+          let before : NoneBefore status (recorded m (drop first old.log)) = subst (λ x. NoneBefore status x) (sym logs) w.walks.none_before in
+          let on = in_by m n ops s.adapter ios g s.pool w.us k.fixed.protect fit site_is course stop s'.pool fates (from_first old) (from_first new) opening w.walks.now status (spots_of m ops bs) stops dir sized r' t' going before (w.walks.follow.bytes, w.walks.blocks)
+          (subst (λ x. FollowsBy course m n ops opening status w.walks.now x) (sym logs) w.walks.follow.follows) in
+          let none = none_in m n ops s.adapter ios g s.pool k.fixed.protect fit w.over.faults s'.pool fates (from_first old) (from_first new) status dir r' before in
+          on_told new.units w.us new.armed new.log on.after t.told a (grows old new r.entry l r.what.recorded) whole on.bytes_are on.blocks_are on.follows none
+
+      -- a store call that failed left what has the size of a stored block
+      size_left : frame_size (unit_at w.us dev) ≡ stored_size m.ty m.size
+      size_left =
+          let bytes : (unit_at w.us dev).size ≡ m.size = ap (λ x. x.size) u.shape ∙ first_at.size in
+          let ty : (unit_at w.us dev).ty ≡ m.ty = ap (λ x. x.ty) u.shape ∙ first_at.ty in
+          ap (λ x. stored_size x (unit_at w.us dev).size) ty ∙ ap (stored_size m.ty) bytes
 
     -- whatever the adapter did
-    module _ (old new : Shown) (image : Option (List ℕ)) (same_log : old.log ≡ log) (same_units : old.units ≡ units) (same_armed : old.armed ≡ armed) (still_armed : new.armed ≡ old.armed) (calm : Calm old.faults new.faults)
+    module _ (old new : Shown) (image : Option (List ℕ)) (same_log : old.log ≡ log) (same_units : old.units ≡ units) (same_armed : old.armed ≡ armed) (still_armed : new.armed ≡ old.armed) (calm : CalmBy course old.faults new.faults)
         (laid : units ≡ units_told st image) (ready : IsStanding st image) (reach : s.sheet.devices ≤ st.devices) where
       behind_here : UnitStands st w.us dev
       behind_here =
@@ -447,6 +469,9 @@ module _ (m : Setting) (n : ℕ) (opening : State) (first : ℕ) (s : Stack) (un
       way_here : (dir : Dir) → (first_of group).dir ≡ dir → (first_of g).dir ≡ dir
       way_here dir e = ap (λ x. (first_of x).dir) (sym is_group) ∙ e
 
+      sized_stop : (stop : Option Stop) → StopsBy course (frame_size (unit_at w.us (first_of group).dev)) stop → StopsBy course (stored_size m.ty m.size) stop
+      sized_stop stop h = subst (λ n. StopsBy course n stop) (ap (λ x. frame_size (unit_at w.us (first_of x).dev)) is_group ∙ size_left behind_here) h
+
       pub told_sends : ((first_of group).dir ≡ WriteDir → Bad true → Unsent s.adapter ios group s.pool s'.pool fates × ((new.log ≡ log) × (new.units ≡ units)))
           → ((first_of group).dir ≡ WriteDir → Bad false → s'.pool ≡ s.pool)
           → ((first_of group).dir ≡ Read → AreWhole s'.pool)
@@ -454,28 +479,30 @@ module _ (m : Setting) (n : ℕ) (opening : State) (first : ℕ) (s : Stack) (un
           → ((spec_at st (first_of group).dev).size ≡ block_size (Carry.request_of ios (first_of group).op) → (first_of group).dir ≡ Read → RecordedIn s.adapter ios group s.pool s'.pool fates old new)
           → ((us : List Stored) → old.units ≡ Some us → IsBehind s.adapter ios group us old.armed → (first_of group).dir ≡ WriteDir → Bad false → UpTo (λ stop. WentOut s.adapter ios group (flat s.pool) us stop fates old new) (frame_size (unit_at us (first_of group).dev)) old.faults new.faults)
           → ((us : List Stored) → old.units ≡ Some us → IsBehind s.adapter ios group us old.armed → (first_of group).dir ≡ Read → UpTo (λ stop. CameIn s.adapter ios group s.pool s'.pool us stop fates old new) (frame_size (unit_at us (first_of group).dev)) old.faults new.faults)
-          → WalksTold m n opening first s' new.units new.armed st new.log
+          → WalksAtTarget course m n opening first s' new.units new.armed st new.log
       told_sends unsent stay whole out in_ went came = by (first_of group).dir refl where
-        held : (first_of group).dir ≡ WriteDir → Bad true → WalksTold m n opening first s' new.units new.armed st new.log
+        held : (first_of group).dir ≡ WriteDir → Bad true → WalksAtTarget course m n opening first s' new.units new.armed st new.log
         held e q =
             let u = unsent e q in
-            subst (λ x. WalksTold m n opening first s' new.units new.armed st x) (sym u.1.0)
+            subst (λ x. WalksAtTarget course m n opening first s' new.units new.armed st x) (sym u.1.0)
             (told_stay s' stays new.units w.us new.armed log w.recorded_from (u.1.1 ∙ w.told_are) (still_armed ∙ same_armed)
             (walk_held m n opening records told_blocks s k w.over w.walks s' d i group fates between stays ch takes flies settles same e u.0))
 
-        gone : (first_of group).dir ≡ WriteDir → Bad false → WalksTold m n opening first s' new.units new.armed st new.log
+        gone : (first_of group).dir ≡ WriteDir → Bad false → WalksAtTarget course m n opening first s' new.units new.armed st new.log
         gone e q =
             let r = subst (λ x. RecordedOut s.adapter ios x (flat s.pool) fates old new) is_group (out size_is e q) in
-            let t = subst (λ x. WentOut s.adapter ios x (flat s.pool) w.us None fates old new) is_group ((went w.us (same_units ∙ w.told_are) behind_group e q).0 calm) in
-            went_out behind_here old new same_log (still_armed ∙ same_armed) (way_here WriteDir e) (good_here q) (stay e q) r t
+            let up = up_to course old.faults new.faults (frame_size (unit_at w.us (first_of group).dev)) (λ stop. WentOut s.adapter ios group (flat s.pool) w.us stop fates old new) calm (went w.us (same_units ∙ w.told_are) behind_group e q) in
+            let t = subst (λ x. WentOut s.adapter ios x (flat s.pool) w.us up.0 fates old new) is_group up.1.1 in
+            went_out behind_here up.0 old new (sized_stop up.0 up.1.0) same_log (still_armed ∙ same_armed) (way_here WriteDir e) (good_here q) (stay e q) r t
 
-        writes : (first_of group).dir ≡ WriteDir → (b : Bool) → Bad b → WalksTold m n opening first s' new.units new.armed st new.log
+        writes : (first_of group).dir ≡ WriteDir → (b : Bool) → Bad b → WalksAtTarget course m n opening first s' new.units new.armed st new.log
         writes e true q = held e q
         writes e false q = gone e q
 
-        by : (dir : Dir) → (first_of group).dir ≡ dir → WalksTold m n opening first s' new.units new.armed st new.log
+        by : (dir : Dir) → (first_of group).dir ≡ dir → WalksAtTarget course m n opening first s' new.units new.armed st new.log
         by WriteDir e = writes e (any_bad (map (sends s.adapter ios (flat s.pool)) (blocks_in group))) refl
         by Read e =
             let r = subst (λ x. RecordedIn s.adapter ios x s.pool s'.pool fates old new) is_group (in_ size_is e) in
-            let t = subst (λ x. CameIn s.adapter ios x s.pool s'.pool w.us None fates old new) is_group ((came w.us (same_units ∙ w.told_are) behind_group e).0 calm) in
-            came_in behind_here old new same_log (still_armed ∙ same_armed) (way_here Read e) (whole e) r t
+            let up = up_to course old.faults new.faults (frame_size (unit_at w.us (first_of group).dev)) (λ stop. CameIn s.adapter ios group s.pool s'.pool w.us stop fates old new) calm (came w.us (same_units ∙ w.told_are) behind_group e) in
+            let t = subst (λ x. CameIn s.adapter ios x s.pool s'.pool w.us up.0 fates old new) is_group up.1.1 in
+            came_in behind_here up.0 old new (sized_stop up.0 up.1.0) same_log (still_armed ∙ same_armed) (way_here Read e) (whole e) r t

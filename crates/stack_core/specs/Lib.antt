@@ -5,9 +5,12 @@ pub mod Replies
 pub mod Doing
 pub mod Done
 pub mod Stacks
+pub mod OnRecord
+pub mod Mediums
 pub mod Requests
 pub mod Starting
 pub mod Shifts
 pub mod Rooms
 pub mod Moved
+pub mod Courses
 pub mod Walking

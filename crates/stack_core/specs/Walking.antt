@@ -2,7 +2,6 @@
 use Rattle.std.specs.Prelude.{◌≡◌, ◌⊎◌, ℕ, zero, suc, ◌+◌, ◌*◌, ◌<◌, ◌≤◌, Bool, false, true, List, [], length, drop, get_or, set, take, Option, Some}
 use Rattle.page_pool.specs.Cells.{flat}
 use Rattle.page_pool.specs.Pages.{AreWhole}
-use Rattle.page_pool.specs.Places.{total}
 use Rattle.bio_core.specs.declared.fate.Fate.{Fate}
 use Rattle.bio_core.specs.declared.fate.Fate.TheVariants.{Untouched}
 use Rattle.bio_core.specs.declared.fate.Why.{Why}
@@ -40,15 +39,17 @@ use Rattle.run_record.specs.CarriedRun.{Carried}
 use Rattle.run_record.specs.Records.{recorded}
 use Rattle.run_record.specs.ToldRun.{told}
 use Rattle.run_follows.specs.Finished.{FramesFit}
-use Rattle.run_follows.specs.Following.{Follows}
 use Rattle.run_follows.specs.Sending.{NoneBefore}
 use Rattle.run_follows.specs.Slots.{Status}
 use Rattle.stack_walks.specs.Ground.{Ground}
+use Rattle.stack_walks.specs.Overwrites.{is_overwrite}
+use Rattle.stack_walks.specs.Seals.{IsSealed}
 use Rattle.stack_walks.specs.Statuses.{status_in}
 use Rattle.stack_walks.specs.Units.{AreAtUnits}
 use Rattle.stack_core.specs.declared.kept.Room.{Room}
 use Rattle.stack_core.specs.declared.sheet.Sheet.{Sheet}
 use Rattle.stack_core.specs.declared.stack.Stack.{Stack}
+use Rattle.stack_core.specs.Courses.{Course, Falling, FollowsBy, Straight}
 use Rattle.stack_core.specs.Doing.{CanReach}
 use Rattle.stack_core.specs.Moved.{why_of}
 use Rattle.stack_core.specs.Requests.{requests_from}
@@ -105,19 +106,6 @@ IsReply (FetchPi v n body tuples) whys reply = reply ≡ whole_or_bad (bad_from 
 IsReply (Overwrite dev lba change) whys reply = (reply ≡ Silent) ⊎ (reply ≡ Medium)
 IsReply Wait whys reply = reply ≡ Silent
 
--- what a `seal` takes is whole blocks of the volume's size
-abbrev pub IsSealed : Setting → Op → Type 0
-IsSealed m (Fill seg byte) = Unit {0}
-IsSealed m (Put page off bytes) = Unit {0}
-IsSealed m (Show seg) = Unit {0}
-IsSealed m (Seal n body tuples app rtag) = total body ≡ n * m.size
-IsSealed m (Write v n body app) = Unit {0}
-IsSealed m (Fetch v n body) = Unit {0}
-IsSealed m (WritePi v n body tuples) = Unit {0}
-IsSealed m (FetchPi v n body tuples) = Unit {0}
-IsSealed m (Overwrite dev lba change) = Unit {0}
-IsSealed m Wait = Unit {0}
-
 -- an overwrite whose store call failed
 abbrev pub is_medium : Reply → Bool
 is_medium Silent = false
@@ -153,29 +141,33 @@ pub record IsOver (m : Setting) (n : ℕ) (opening : State) (sheet : Sheet) (a :
   pub seals : (i : ℕ) → i < length sheet.ops → IsSealed m (op_in sheet.ops i)
 
 -- A stack of this plan, with these data, that shows this view follows the walk of its script over a setting, with these entries and ends on record: its pages are those of the walk's state; each op that has ended has its reply, and each other one the room for it.
-pub record Follow (over : Setting) (n : ℕ) (opening : State) (es : List Sent) (p : Plan) (ops : List Op) (d : Data) (v : View) (now : State) : Type 0 where
+pub record Follow (course : Course) (over : Setting) (n : ℕ) (opening : State) (es : List Sent) (p : Plan) (ops : List Op) (d : Data) (v : View) (now : State) : Type 0 where
   pub bytes : now.bytes ≡ flat d.pool
   pub whole : AreWhole d.pool
-  pub follows : Follows over n ops opening (status_of p d v) now es
+  pub follows : FollowsBy course over n ops opening (status_of p d v) now es
   pub begun : (i : ℕ) → is_admitted (op_at v i).phase ≡ true → 0 < (request_at p i).count
   pub replied : (i : ℕ) → i < length ops → has_ended (op_at v i).phase ≡ true → IsReply (op_in ops i) (each_from 0 (fates_of (op_in ops i)) (why_in d.starts d.held i)) (get_or d.replies i Silent)
   pub suited : (i : ℕ) → i < length ops → has_ended (op_at v i).phase ≡ false → Suits (op_in ops i) (room_at d.rooms i)
 
 -- The stack goes on from one view to the next: it follows the walk still, with this left of the stored blocks, and what wasn't carried is not on record.
-pub record GoesOn (over : Setting) (n : ℕ) (opening : State) (es : List Sent) (p : Plan) (ops : List Op) (d d' : Data) (v v' : View) (left : List (List ℕ)) : Type 0 where
+pub record GoesOn (course : Course) (over : Setting) (n : ℕ) (opening : State) (es : List Sent) (p : Plan) (ops : List Op) (d d' : Data) (v v' : View) (left : List (List ℕ)) : Type 0 where
   pub after : State
-  pub follow : Follow over n opening es p ops d' v' after
+  pub follow : Follow course over n opening es p ops d' v' after
   pub blocks : after.blocks ≡ left
   pub none_before : NoneBefore (status_of p d v) es → NoneBefore (status_of p d' v') es
 
--- A stack follows the walk of its script over a setting, with these entries and ends on record and these stored blocks behind it.
-pub record WalksOver (over : Setting) (n : ℕ) (opening : State) (es : List Sent) (left : List (List ℕ)) (s : Stack) : Type 0 where
+-- A stack follows the walk of its script over a setting in one of the two ways, with these entries and ends on record and these stored blocks behind it.
+pub record WalksBy (course : Course) (over : Setting) (n : ℕ) (opening : State) (es : List Sent) (left : List (List ℕ)) (s : Stack) : Type 0 where
   pub view : View
   pub holds : Holds (plan_in s.sheet) s.machine view
   pub now : State
-  pub follow : Follow over n opening es (plan_in s.sheet) s.sheet.ops (data_of s) view now
+  pub follow : Follow course over n opening es (plan_in s.sheet) s.sheet.ops (data_of s) view now
   pub none_before : NoneBefore (status_of (plan_in s.sheet) (data_of s) view) es
   pub blocks : now.blocks ≡ left
+
+-- It does so over the setting as it is.
+abbrev pub WalksOver : (over : Setting) (n : ℕ) (opening : State) (es : List Sent) (left : List (List ℕ)) → Stack → Type 0
+WalksOver over n opening es left s = WalksBy Straight over n opening es left s
 
 -- The devices of the volume's blocks have blocks of its size, as the rig's head tells them.
 abbrev pub SizesFit : Setting → Standing → Type 0
@@ -193,7 +185,7 @@ pub record Walks (m : Setting) (n : ℕ) (opening : State) (first : ℕ) (s : St
 -- ---- over a rig that tells its blocks
 
 -- Over a rig that tells its blocks, with the stack's faults armed: what came of each block is the target's answer, and the cells of the stored blocks are those that the rig tells.
-pub record WalksTold (m : Setting) (n : ℕ) (opening : State) (first : ℕ) (s : Stack) (units : Option (List Stored)) (armed : List FaultLine) (st : Standing) (log : List Entry) : Type 0 where
+pub record WalksAtTarget (course : Course) (m : Setting) (n : ℕ) (opening : State) (first : ℕ) (s : Stack) (units : Option (List Stored)) (armed : List FaultLine) (st : Standing) (log : List Entry) : Type 0 where
   pub over : IsOver m n opening s.sheet s.adapter s.host
   pub sizes : SizesFit m st
   pub site : m.site ≡ site_of s.adapter (specs_of st)
@@ -202,7 +194,20 @@ pub record WalksTold (m : Setting) (n : ℕ) (opening : State) (first : ℕ) (s 
   pub recorded_from : first ≤ length log
   pub us : List Stored
   pub told_are : units ≡ Some us
-  pub walks : WalksOver m n opening (recorded m (drop first log)) (blocks_told us) s
+  pub walks : WalksBy course m n opening (recorded m (drop first log)) (blocks_told us) s
+
+-- while no store call failed,
+abbrev pub WalksTold : (m : Setting) (n : ℕ) (opening : State) (first : ℕ) → Stack → (units : Option (List Stored)) (armed : List FaultLine) → Standing → (log : List Entry) → Type 0
+WalksTold m n opening first s units armed st log = WalksAtTarget Straight m n opening first s units armed st log
+
+-- No op alters a stored block without a command.
+abbrev pub NoOverwrites : List Op → Type 0
+NoOverwrites ops = (i : ℕ) → i < length ops → is_overwrite (op_in ops i) ≡ false
+
+-- and whether or not some failed, where no op is an overwrite: of one whose store call fails nobody knows what it leaves.
+pub record WalksFalling (m : Setting) (n : ℕ) (opening : State) (first : ℕ) (s : Stack) (units : Option (List Stored)) (armed : List FaultLine) (st : Standing) (log : List Entry) : Type 0 where
+  pub no_overwrites : NoOverwrites s.sheet.ops
+  pub told : WalksAtTarget Falling m n opening first s units armed st log
 
 -- the cells with which a stack begins: its pages are those of these, and no frame was carried yet
 pub record Opens (opening : State) (s : Stack) : Type 0 where
@@ -220,6 +225,12 @@ WalksToldAtFirst s = (m : Setting) (n : ℕ) (opening : State) (us : List Stored
     → Opens opening s → IsOver m n opening s.sheet s.adapter s.host → SizesFit m st → m.site ≡ site_of s.adapter (specs_of st) → AreAtUnits m (specs_of st) s.sheet.ops
     → armed ≡ s.adapter.tamper → opening.blocks ≡ blocks_told us → WalksTold m n opening (length log) s (Some us) armed st log
 
+-- And so it does where store calls may fail, if no op is an overwrite.
+abbrev pub WalksFallingAtFirst : Stack → Type 0
+WalksFallingAtFirst s = (m : Setting) (n : ℕ) (opening : State) (us : List Stored) (armed : List FaultLine) (st : Standing) (log : List Entry)
+    → Opens opening s → IsOver m n opening s.sheet s.adapter s.host → SizesFit m st → m.site ≡ site_of s.adapter (specs_of st) → AreAtUnits m (specs_of st) s.sheet.ops
+    → armed ≡ s.adapter.tamper → opening.blocks ≡ blocks_told us → NoOverwrites s.sheet.ops → WalksFalling m n opening (length log) s (Some us) armed st log
+
 -- ---- from one step to the next
 
 -- some word chooses this step
@@ -228,7 +239,7 @@ IsChosen s c = (word : ℕ) × Chooses (plan_in s.sheet) s.machine word c × Has
 
 -- A stack that follows the walk over a setting still does.
 abbrev pub WalksOn : (old new : Stack) → Type 0
-WalksOn old new = (over : Setting) (n : ℕ) (opening : State) (es : List Sent) (left : List (List ℕ)) → IsOver over n opening old.sheet old.adapter old.host → WalksOver over n opening es left old → WalksOver over n opening es left new
+WalksOn old new = (course : Course) (over : Setting) (n : ℕ) (opening : State) (es : List Sent) (left : List (List ℕ)) → IsOver over n opening old.sheet old.adapter old.host → WalksBy course over n opening es left old → WalksBy course over n opening es left new
 
 -- what an op that is no request leaves of the stored blocks
 abbrev pub op_left : Setting → Op → List (List ℕ) → List (List ℕ)
@@ -256,12 +267,26 @@ units_left (FetchPi v n body tuples) us = us
 units_left (Overwrite dev lba change) us = with_block us dev lba (changed_told us change (block_at us dev lba))
 units_left Wait us = us
 
--- An op is admitted. Where a rig tells its blocks and its count of faults doesn't rise, it tells afterwards what the op leaves.
+-- What an op leaves of them is known: of an overwrite where the count of faults doesn't rise.
+abbrev pub IsKnown : Op → (count count' : ℕ) → Type 0
+IsKnown (Fill seg byte) count count' = Unit {0}
+IsKnown (Put page off bytes) count count' = Unit {0}
+IsKnown (Show seg) count count' = Unit {0}
+IsKnown (Seal n body tuples app rtag) count count' = Unit {0}
+IsKnown (Write v n body app) count count' = Unit {0}
+IsKnown (Fetch v n body) count count' = Unit {0}
+IsKnown (WritePi v n body tuples) count count' = Unit {0}
+IsKnown (FetchPi v n body tuples) count count' = Unit {0}
+IsKnown (Overwrite dev lba change) count count' = Calm count count'
+IsKnown Wait count count' = Unit {0}
+
+-- An op is admitted. Where a rig tells its blocks, it tells afterwards what the op leaves, if that is known.
 pub record Enters (told_is : Bool) (st : Standing) (units units' : Option (List Stored)) (count count' : ℕ) (old new : Stack) : Type 0 where
   pub op : Op
   pub reach : CanReach told_is st op
-  pub walks : (over : Setting) (n : ℕ) (opening : State) (es : List Sent) (left : List (List ℕ)) → IsOver over n opening old.sheet old.adapter old.host → WalksOver over n opening es left old → WalksOver over n opening es (op_left over op left) new
-  pub tells : (us : List Stored) → units ≡ Some us → Calm count count' → units' ≡ Some (units_left op us)
+  pub no_overwrite : NoOverwrites old.sheet.ops → is_overwrite op ≡ false
+  pub walks : (course : Course) (over : Setting) (n : ℕ) (opening : State) (es : List Sent) (left : List (List ℕ)) → IsOver over n opening old.sheet old.adapter old.host → WalksBy course over n opening es left old → WalksBy course over n opening es (op_left over op left) new
+  pub tells : (us : List Stored) → units ≡ Some us → IsKnown op count count' → units' ≡ Some (units_left op us)
 
 -- ---- at the end
 

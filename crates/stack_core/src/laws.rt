@@ -1,11 +1,12 @@
 //! What the layers above build on: what the stack does to blocks are moves on cells.
 
-ghost use Rattle.std.specs.Prelude.{◌≡◌, ◌<◌, ◌≤◌, ℕ, List, [], ◌+◌, ◌++◌, Bool, true, false, Option, None, Some, drop, get_or};
+ghost use Rattle.std.specs.Prelude.{◌≡◌, ◌<◌, ◌≤◌, ℕ, List, [], ◌+◌, ◌++◌, Bool, true, false, Option, None, Some, drop, get_or, length, take};
 ghost use Rattle.fault_schedule.specs.declared.Label.{Label as AnyLabel};
 ghost use Rattle.fault_schedule.specs.declared.fault.FaultLine.{FaultLine};
 ghost use Rattle.target_answer.specs.Target.{Stored};
 ghost use Rattle.rig_api.specs.Log.{Entry};
 ghost use Rattle.rig_api.specs.Telling.{Standing};
+ghost use Rattle.stack_view.specs.Runs.{Entry as AnyEntry, blocks_of_requests, sends_of};
 ghost use Rattle.stack_view.specs.Steps.{enabled};
 ghost use Rattle.stack_view.specs.View.{View};
 ghost use Rattle.stack_steps.specs.Does.{Holds};
@@ -14,9 +15,13 @@ ghost use Rattle.run_moves.specs.BoundRun.{IsBoundRun};
 ghost use Rattle.run_record.specs.BackedRun.{Backed};
 ghost use Rattle.run_record.specs.Records.{recorded};
 ghost use Rattle.run_record.specs.ToldRun.{told};
+ghost use Rattle.run_falls.specs.AtTheEnd.{AllTakeAny, EndsAsFalling};
+ghost use Rattle.dix_adapter.specs.Ways.{blocks_told};
 ghost use Rattle.stack_core.specs.declared.stack.Stack.{Stack as AnyStack};
+ghost use Rattle.stack_core.specs.Mediums.{HasCounted, RoseBy, medium_lines};
+ghost use Rattle.stack_core.specs.OnRecord.{AreRecords, HasSent, ListsNone};
 ghost use Rattle.stack_core.specs.Stacks.{IsStack, plan_in};
-ghost use Rattle.stack_core.specs.Walking.{EndsTold, HasFails, Walks, WalksTold};
+ghost use Rattle.stack_core.specs.Walking.{EndsTold, HasFails, Walks, WalksFalling, WalksTold};
 ghost use Rattle.page_pool.specs.Cells.{flat};
 ghost use Rattle.page_pool.specs.Pages.{AllLieIn, AreWhole};
 ghost use Rattle.pi_tuple.specs.declared.checks.PiType.{PiType as AnyType};
@@ -77,4 +82,29 @@ pub fn a_finished_stack_has_done_the_walk()
     ensures { (m : Setting) (fine : ℕ → List ℕ → Bool) (n : ℕ) (opening : State) (first : ℕ) (s : AnyStack) (us : List Stored) (armed : List FaultLine) (st : Standing) (log : List Entry) → IsStack s
         → WalksTold m n opening first s (Some us) armed st log → ((v : View) → Holds (plan_in s.sheet) s.machine v → enabled (plan_in s.sheet) v ≡ []) → HasFails m s.replies.items
         → IsBoundRun m fine n s.sheet.ops opening → EndsTold m n opening s.sheet.ops s us (drop first log) }
+{}
+
+/// And where store calls failed, in a script without overwrites: they are those of the script's walk in which just these
+/// calls fail, and the log holds what that walk carries.
+pub fn a_finished_stack_has_done_the_falling_walk()
+    ensures { (m : Setting) (fine : ℕ → List ℕ → Bool) (n : ℕ) (opening : State) (first : ℕ) (s : AnyStack) (us : List Stored) (armed : List FaultLine) (st : Standing) (log : List Entry) → IsStack s
+        → WalksFalling m n opening first s (Some us) armed st log → ((v : View) → Holds (plan_in s.sheet) s.machine v → enabled (plan_in s.sheet) v ≡ [])
+        → IsBoundRun m fine n s.sheet.ops opening → AllTakeAny m fine 1 s.sheet.ops
+        → EndsAsFalling m n s.sheet.ops opening (take n (flat s.pool)) (blocks_told us) s.replies.items (recorded m (drop first log)) }
+{}
+
+/// Over any rig: since its first step, a stack that came to its end by a schedule made at most as many records as its
+/// requests have blocks. Where its replies list no block, these are the records of the commands that are sent where all
+/// blocks are good, in order and one for one.
+pub fn a_finished_stack_has_sent()
+    ensures few { (es : List AnyEntry) (s : AnyStack) (log : List Entry) → IsStack s → HasSent es s log → length log ≤ blocks_of_requests (plan_in s.sheet).requests }
+    ensures all { (es : List AnyEntry) (s : AnyStack) (log : List Entry) (m : Setting) (n : ℕ) (opening : State) (first : ℕ) (st : Standing) (whole : List Entry) → IsStack s → HasSent es s log → Walks m n opening first s st whole
+        → ((v : View) → Holds (plan_in s.sheet) s.machine v → enabled (plan_in s.sheet) v ≡ []) → ListsNone s.replies.items → AreRecords (sends_of (plan_in s.sheet) es) log }
+{}
+
+/// And the lines of its replies that name the medium, of blocks and of overwrites, are at most as many as the count of
+/// faults rose, where each step kept `HasCounted`.
+pub fn a_finished_stack_names_the_medium_seldom()
+    ensures { (m : Setting) (n : ℕ) (opening : State) (begun first : ℕ) (s : AnyStack) (st : Standing) (log : List Entry) (count : ℕ) → IsStack s → Walks m n opening begun s st log
+        → ((v : View) → Holds (plan_in s.sheet) s.machine v → enabled (plan_in s.sheet) v ≡ []) → HasCounted first s count → RoseBy (medium_lines s.replies.items) first count }
 {}

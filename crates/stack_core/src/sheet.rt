@@ -128,6 +128,7 @@ fn devices_of(io: &Io, table: &VolumeTable) -> u32
     ensures all { (k : ℕ) → k < io.now.count → (place_in table.now.entries (io.now.first + k)).0 < result }
     ensures few { result ≤ 8 }
     ensures least { (n : ℕ) → ((v : ℕ) → v < volume_len table.now.entries → (place_in table.now.entries v).0 < n) → result ≤ n }
+    ensures tight { (n : ℕ) → ((k : ℕ) → k < io.now.count → (place_in table.now.entries (io.now.first + k)).0 < n) → result ≤ n }
 {
     let mut most = 0;
     let mut k = 0;
@@ -147,6 +148,7 @@ pub(crate) fn count_devices(ios: &[Io], table: &VolumeTable) -> u32
     ensures all { (i k : ℕ) → k < (io_at ios.now i).count → (place_in table.now.entries ((io_at ios.now i).first + k)).0 < result }
     ensures few { result ≤ 8 }
     ensures least { (n : ℕ) → ((v : ℕ) → v < volume_len table.now.entries → (place_in table.now.entries v).0 < n) → result ≤ n }
+    ensures tight { (n : ℕ) → ((i k : ℕ) → k < (io_at ios.now i).count → (place_in table.now.entries ((io_at ios.now i).first + k)).0 < n) → result ≤ n }
 {
     let mut most = 0;
     for io in ios {

@@ -12,12 +12,14 @@ ghost use Rattle.stack_core.specs.Replies.{HoldsSeal};
 ghost use Rattle.stack_ops.specs.declared.reply.Reply.TheVariants.{Medium, Silent};
 ghost use Rattle.stack_core.specs.Done.{MadeBy, OpDone, Sealed, WriteMade, WriteMapped};
 ghost use Rattle.stack_core.specs.Doing.{CanDo, CanReach, HasBlocks};
-ghost use Rattle.stack_core.specs.Walking.{Enters, IsChosen, NoneFailed, Walks, WalksOn, WalksTold, is_medium, units_left};
+ghost use Rattle.stack_core.specs.Walking.{Enters, IsChosen, IsKnown, NoneFailed, Walks, WalksFalling, WalksOn, WalksTold, is_medium, units_left};
 ghost use Rattle.dix_base.specs.Told.{Calm};
 ghost use Rattle.rig_api.specs.Telling.{block_at, changed, with_block};
 ghost use Rattle.target_answer.specs.Target.{Stored};
 ghost use Rattle.block_path.specs.Acts.{State};
 ghost use Rattle.whole_run.specs.Settings.{Setting};
+ghost use Rattle.stack_core.specs.Mediums.{Counts, HasCounted, RoseBy, Spoils, medium_replies};
+ghost use Rattle.stack_core.specs.OnRecord.{Carries, SendsOn, Traces};
 ghost use Rattle.stack_core.specs.Stacks.{GoesOn, HasSpare, HasStep, IsStack, Reaches, Sends, Stays, Steps, plan_in};
 
 use crate::kept::{Fates, Room, reply_of, shown};
@@ -120,7 +122,11 @@ impl Stack {
         ensures walks { (m : Setting) (n : ℕ) (opening : State) (first : ℕ) → Walks m n opening first self.old (R.standing rig.old) (R.log rig.old) → Walks m n opening first self.new (R.standing rig.new) (R.log rig.new) }
         ensures told { (m : Setting) (n : ℕ) (opening : State) (first : ℕ) → WalksTold m n opening first self.old (R.units rig.old) (R.armed rig.old) (R.standing rig.old) (R.log rig.old)
             → Calm (R.faults rig.old) (R.faults rig.new) → WalksTold m n opening first self.new (R.units rig.new) (R.armed rig.new) (R.standing rig.new) (R.log rig.new) }
+        ensures falling { (m : Setting) (n : ℕ) (opening : State) (first : ℕ) → WalksFalling m n opening first self.old (R.units rig.old) (R.armed rig.old) (R.standing rig.old) (R.log rig.old)
+            → WalksFalling m n opening first self.new (R.units rig.new) (R.armed rig.new) (R.standing rig.new) (R.log rig.new) }
         ensures silent { Calm (R.faults rig.old) (R.faults rig.new) → NoneFailed self.old.replies.items → NoneFailed self.new.replies.items }
+        ensures sends { SendsOn word cut self.old self.new (R.log rig.old) (R.log rig.new) }
+        ensures counts { (first : ℕ) → HasCounted first self.old (R.faults rig.old) → HasCounted first self.new (R.faults rig.new) }
     {
         let choice = self.machine.choose(&self.sheet, word);
         match choice {
@@ -141,6 +147,8 @@ impl Stack {
         ensures step { (cut : ℕ) → Does (plan_in self.old.sheet) self.old.machine (End q) cut self.new.machine }
         ensures walks { IsChosen self.old (End q) → WalksOn self.old self.new }
         ensures silent { NoneFailed self.old.replies.items → NoneFailed self.new.replies.items }
+        ensures kept { self.new.kept ≡ self.old.kept }
+        ensures few { medium_replies self.new.replies.items ≤ medium_replies self.old.replies.items }
     {
         let op = self.machine.end(&self.sheet, q) as usize;
         let room = take_room(&mut self.rooms, op);
@@ -156,6 +164,8 @@ impl Stack {
         ensures step { (cut : ℕ) → Does (plan_in self.old.sheet) self.old.machine (Complete i) cut self.new.machine }
         ensures walks { IsChosen self.old (Complete i) → WalksOn self.old self.new }
         ensures replies { self.new.replies.items ≡ self.old.replies.items }
+        ensures traces { Traces (plan_in self.old.sheet) self.old.machine (Complete i) self.old.kept.starts.items self.old.kept.held.items self.new.kept.starts.items self.new.kept.held.items }
+        ensures counts { Counts (plan_in self.old.sheet) self.old.machine (Complete i) self.old.kept.held.items self.new.kept.held.items }
     {
         self.machine
             .complete(&self.sheet, i, &mut self.group, &mut self.fates);
@@ -185,6 +195,8 @@ impl Stack {
         ensures log { R.log rig.new ≡ R.log rig.old }
         ensures goes { GoesOn (R.standing rig.old) (R.standing rig.new) (R.log rig.old) (R.log rig.new) (R.faults rig.old) (R.faults rig.new) }
         ensures armed { R.armed rig.new ≡ R.armed rig.old }
+        ensures kept { self.new.kept ≡ self.old.kept }
+        ensures counts { (n first : ℕ) → RoseBy (n + medium_replies self.old.replies.items) first (R.faults rig.old) → RoseBy (n + medium_replies self.new.replies.items) first (R.faults rig.new) }
     {
         let op = self.machine.admit(&self.sheet, q) as usize;
         if self.sheet.io(op).count > 0 {
@@ -215,6 +227,7 @@ impl Stack {
         ensures step { Does (plan_in self.old.sheet) self.old.machine (Cut q) size self.new.machine }
         ensures walks { IsChosen self.old (Cut q) → WalksOn self.old self.new }
         ensures replies { self.new.replies.items ≡ self.old.replies.items }
+        ensures kept { self.new.kept ≡ self.old.kept }
     {
         let bio = self.machine.cut(&self.sheet, q, size);
         map_piece(
@@ -233,6 +246,7 @@ impl Stack {
         ensures step { (cut : ℕ) → Does (plan_in self.old.sheet) self.old.machine (Join d i j) cut self.new.machine }
         ensures walks { IsChosen self.old (Join d i j) → WalksOn self.old self.new }
         ensures replies { self.new.replies.items ≡ self.old.replies.items }
+        ensures kept { self.new.kept ≡ self.old.kept }
     {
         self.machine.join(&self.sheet, d, i, j);
     }
@@ -248,12 +262,17 @@ impl Stack {
         ensures walks { IsChosen self.old (Send d i) → (m : Setting) (n : ℕ) (opening : State) (first : ℕ) → Walks m n opening first self.old (R.standing rig.old) (R.log rig.old) → Walks m n opening first self.new (R.standing rig.new) (R.log rig.new) }
         ensures told { IsChosen self.old (Send d i) → (m : Setting) (n : ℕ) (opening : State) (first : ℕ) → WalksTold m n opening first self.old (R.units rig.old) (R.armed rig.old) (R.standing rig.old) (R.log rig.old)
             → Calm (R.faults rig.old) (R.faults rig.new) → WalksTold m n opening first self.new (R.units rig.new) (R.armed rig.new) (R.standing rig.new) (R.log rig.new) }
+        ensures falling { IsChosen self.old (Send d i) → (m : Setting) (n : ℕ) (opening : State) (first : ℕ) → WalksFalling m n opening first self.old (R.units rig.old) (R.armed rig.old) (R.standing rig.old) (R.log rig.old)
+            → WalksFalling m n opening first self.new (R.units rig.new) (R.armed rig.new) (R.standing rig.new) (R.log rig.new) }
         ensures replies { self.new.replies.items ≡ self.old.replies.items }
         ensures tells { is_some (R.image rig.new) ≡ is_some (R.image rig.old) }
         ensures standing { R.standing rig.new ≡ R.standing rig.old }
         ensures spare { HasSpare self.new (R.standing rig.new) (R.room rig.new) }
         ensures goes { GoesOn (R.standing rig.old) (R.standing rig.new) (R.log rig.old) (R.log rig.new) (R.faults rig.old) (R.faults rig.new) }
         ensures armed { R.armed rig.new ≡ R.armed rig.old }
+        ensures kept { self.new.kept ≡ self.old.kept }
+        ensures carries { Carries (plan_in self.old.sheet) self.old.machine d i self.new.machine (R.log rig.old) (R.log rig.new) }
+        ensures spoils { Spoils (plan_in self.old.sheet) self.old.machine d i self.new.machine (R.faults rig.old) (R.faults rig.new) }
     {
         self.machine.take(&self.sheet, d, i, &mut self.group);
         self.adapter.carry(
@@ -362,7 +381,7 @@ fn do_op<R: Rig>(pool: &mut PagePool, op: &Op, kind: GuardKind, room: Room, rig:
     ensures armed { R.armed rig.new ≡ R.armed rig.old }
     ensures log { R.log rig.new ≡ R.log rig.old }
     ensures count { R.faults rig.old ≤ R.faults rig.new }
-    ensures left { (us : List Stored) → R.units rig.old ≡ Some us → Calm (R.faults rig.old) (R.faults rig.new) → R.units rig.new ≡ Some (units_left op.now us) }
+    ensures left { (us : List Stored) → R.units rig.old ≡ Some us → IsKnown op.now (R.faults rig.old) (R.faults rig.new) → R.units rig.new ≡ Some (units_left op.now us) }
     ensures silent { Calm (R.faults rig.old) (R.faults rig.new) → is_medium result ≡ false }
 {
     match op {

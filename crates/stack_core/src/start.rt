@@ -11,12 +11,13 @@ ghost use Rattle.volume_table.specs.Places.{place_in, volume_len};
 ghost use Rattle.stack_view.specs.View.{start};
 ghost use Rattle.stack_steps.specs.Does.{Holds};
 ghost use Rattle.block_path.specs.Routes.{host_type};
-ghost use Rattle.stack_core.specs.Walking.{WalksAtFirst, WalksToldAtFirst};
+ghost use Rattle.stack_core.specs.Walking.{WalksAtFirst, WalksFallingAtFirst, WalksToldAtFirst};
 ghost use Rattle.stack_core.specs.Sheets.{IsSheet, op_in, plan_of, prints_of, request_in};
 ghost use Rattle.stack_core.specs.Shifts.{is_shift, shifted_by, shifts};
 ghost use Rattle.stack_core.specs.Requests.{first_page, own_blocks, page_after, pages_from, requests_from};
 ghost use Rattle.stack_core.specs.Replies.{HoldsBad};
 ghost use Rattle.stack_core.specs.Rooms.{Suits, blocks_in};
+ghost use Rattle.stack_core.specs.OnRecord.{HasQueues};
 ghost use Rattle.stack_core.specs.Stacks.{IsStack, plan_in, room_at};
 ghost use Rattle.stack_core.specs.Starting.{CanStart};
 
@@ -201,8 +202,10 @@ impl Stack {
         ensures pool { IfOk result (λ s. IsBlank (pages_from setup.mode.dix setup.pages ops) s.pool) }
         ensures walks { IfOk result WalksAtFirst }
         ensures told { IfOk result WalksToldAtFirst }
+        ensures falling { IfOk result WalksFallingAtFirst }
         ensures ty { IfOk result (λ s. s.adapter.ty ≡ setup.table.ty) }
         ensures host { IfOk result (λ s. s.host ≡ host_type setup.table.ty) }
+        ensures queues { IfOk result (λ s. HasQueues (plan_in s.sheet)) }
     {
         let Setup {
             table,

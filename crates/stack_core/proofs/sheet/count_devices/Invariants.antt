@@ -8,4 +8,5 @@ invariant-loop-io l = record {
   all : (i k : ℕ) → i < l.io-index → k < (io_at l.ios i).count → (place_in l.table.entries ((io_at l.ios i).first + k)).0 < l.most;
   few : l.most ≤ 8;
   least : (n : ℕ) → ((v : ℕ) → v < volume_len l.table.entries → (place_in l.table.entries v).0 < n) → l.most ≤ n;
+  tight : (n : ℕ) → ((i k : ℕ) → k < (io_at l.ios i).count → (place_in l.table.entries ((io_at l.ios i).first + k)).0 < n) → l.most ≤ n;
 }

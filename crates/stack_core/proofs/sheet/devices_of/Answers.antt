@@ -15,4 +15,5 @@ loop-k-preserved c =
       all = devices-more entries first k c.min.result c.run_from.result c.loop-k.most c.max-most.result c.run_from.ensures.runs (omega (arith, c.min.ensures)) e c.loop-k.invariant.all;
       few = let f = c.requires.few (first + k) (omega arith) in omega arith;
       least = λ n h. (let f = h (first + k) (omega arith) in let m = c.loop-k.invariant.least n h in omega arith);
+      tight = λ n h. (let f = h k c.loop-k-test.true in let m = c.loop-k.invariant.tight n h in omega arith);
     }

@@ -8,6 +8,7 @@ invariant-loop-k l = record {
   all : (j : ℕ) → j < l.k → (place_in l.table.entries (l.io.first + j)).0 < l.most;
   few : l.most ≤ 8;
   least : (n : ℕ) → ((v : ℕ) → v < volume_len l.table.entries → (place_in l.table.entries v).0 < n) → l.most ≤ n;
+  tight : (n : ℕ) → ((j : ℕ) → j < l.io.count → (place_in l.table.entries (l.io.first + j)).0 < n) → l.most ≤ n;
 }
 
 abbrev pub decreases-loop-k : goal.decreases-loop-k

@@ -1,4 +1,5 @@
-use Rattle.std.proofs.Common.{◌≡◌, ◌<◌, Some, length, ap, refl, set, subst, sym, ◌∙◌, arith}
+use Rattle.std.proofs.Common.{◌≡◌, ◌<◌, ◌+◌, Some, length, ap, refl, set, subst, sym, ◌∙◌, arith}
+use Rattle.std.proofs.lemmas.Bool.{false≢true}
 use Rattle.std.proofs.lemmas.List.{length-set}
 use Rattle.stack_steps.specs.declared.choice.Choice.TheVariants.{Admit}
 use Rattle.stack_core.specs.Stacks.{plan_in}
@@ -12,9 +13,11 @@ use Rattle.stack_core.specs.declared.kept.Room.TheVariants.{Nothing}
 use Rattle.stack_core.specs.Done.{OpDone, WriteMade}
 use Rattle.stack_core.specs.Sheets.{io_at, op_in}
 use Rattle.stack_ops.specs.declared.op.Op.TheVariants.{Wait}
-use Rattle.stack_core.specs.Walking.{NoneFailed, data_of, units_left}
+use Rattle.stack_core.specs.Walking.{IsKnown, NoneFailed, data_of, units_left, is_medium}
 use Rattle.stack_core.proofs.Failing.{one-more}
 use Rattle.stack_core.proofs.Walked.{walk_admits, walk_op}
+use Rattle.stack_core.specs.Mediums.{RoseBy, medium_replies}
+use Rattle.stack_core.proofs.StackCounts.{set_rises}
 use Rattle.stack_core.proofs.stack.Stack.admit.Goals as goal
 
 pub io-requires : goal.io-requires
@@ -97,8 +100,9 @@ returns-then-io-gt0-clause-walks g c = λ ch.
     record {
       op = Wait;
       reach = tt;
-      walks = λ over n opening es left o w. walk_admits over n opening es left s c.requires.stack o w _ c.args.q c.admit-op.result (record { sheet = refl; adapter = refl; host = refl }) ch (c.admit-op.ensures.step 0) c.admit-op.ensures.op some c.make_tuples.new.pool made refl;
-      tells = λ us e calm. e;
+      no_overwrite = λ none. refl;
+      walks = λ course over n opening es left o w. walk_admits over n opening es left s c.requires.stack o w _ c.args.q c.admit-op.result (record { sheet = refl; adapter = refl; host = refl }) ch (c.admit-op.ensures.step 0) c.admit-op.ensures.op some c.make_tuples.new.pool made refl;
+      tells = λ us e known. e;
     })
 
 pub returns-clause-walks : goal.returns-clause-walks
@@ -115,9 +119,10 @@ returns-clause-walks g c = λ ch.
     record {
       op = op_in s.sheet.ops i;
       reach = c.requires.rig.blocks i (omega arith);
-      walks = λ over n opening es left o w. walk_op over n opening es left s c.requires.stack o w _ c.args.q i (record { sheet = refl; adapter = refl; host = refl }) ch (c.admit-op.ensures.step 0) c.admit-op.ensures.op empty c.do_op-done.new.pool c.do_op-done.result done'
+      no_overwrite = λ none. none i (omega arith);
+      walks = λ course over n opening es left o w. walk_op over n opening es left s c.requires.stack o w _ c.args.q i (record { sheet = refl; adapter = refl; host = refl }) ch (c.admit-op.ensures.step 0) c.admit-op.ensures.op empty c.do_op-done.new.pool c.do_op-done.result done'
           (ap (λ x. record d { pool = c.do_op-done.new.pool; rooms = x; replies = c.set_reply.new.replies.items }) c.take_room-room.ensures.rooms ∙ ap (λ x. record d { pool = c.do_op-done.new.pool; rooms = set s.rooms.items i Nothing; replies = x }) c.set_reply.ensures);
-      tells = λ us e calm. c.do_op-done.ensures.left us e calm ∙ ap (λ op. Some (units_left op us)) c.op.ensures;
+      tells = λ us e known. c.do_op-done.ensures.left us e (subst (λ op. IsKnown op (g.R.Rig.faults c.args.rig.now) (g.R.Rig.faults c.do_op-done.new.rig)) (sym c.op.ensures) known) ∙ ap (λ op. Some (units_left op us)) c.op.ensures;
     })
 
 pub returns-then-io-gt0-clause-goes : goal.returns-then-io-gt0-clause-goes
@@ -130,3 +135,8 @@ returns-clause-goes g c =
 
 pub returns-clause-silent : goal.returns-clause-silent
 returns-clause-silent g c = λ calm h. subst NoneFailed (sym c.set_reply.ensures) (one-more c.args.self.now.replies.items c.admit-op.result c.do_op-done.result (c.do_op-done.ensures.silent calm) h)
+
+pub returns-clause-counts : goal.returns-clause-counts
+returns-clause-counts g c = λ n first h.
+    subst (λ rs. RoseBy (n + medium_replies rs) first (g.R.Rig.faults c.do_op-done.new.rig)) (sym c.set_reply.ensures)
+    (set_rises c.args.self.now.replies.items c.admit-op.result c.do_op-done.result (g.R.Rig.faults c.args.rig.now) (g.R.Rig.faults c.do_op-done.new.rig) c.do_op-done.ensures.count (λ calm e. false≢true (sym (c.do_op-done.ensures.silent calm) ∙ ap is_medium e)) n first h)

@@ -13,6 +13,8 @@ use Rattle.stack_core.specs.Sheets.{io_at}
 use Rattle.stack_core.specs.Walking.{NoneFailed, data_of, is_medium}
 use Rattle.stack_core.proofs.Failing.{one-more, request-silent}
 use Rattle.stack_core.proofs.Walked.{walk_ends}
+use Rattle.stack_core.specs.Mediums.{medium_replies, one_reply}
+use Rattle.stack_core.proofs.StackCounts.{few_replies, request_quiet}
 use Rattle.stack_core.proofs.stack.Stack.end.Goals as goal
 
 pub take_room-room-requires : goal.take_room-room-requires
@@ -65,7 +67,7 @@ pub returns-clause-stays : goal.returns-clause-stays
 returns-clause-stays c = record { sheet = refl; adapter = refl; host = refl }
 
 pub returns-clause-walks : goal.returns-clause-walks
-returns-clause-walks c = λ ch over n opening es left o w.
+returns-clause-walks c = λ ch course over n opening es left o w.
     (let s = c.args.self.now in
     let i = c.end-op.result in
     let d = data_of s in
@@ -77,3 +79,9 @@ returns-clause-walks c = λ ch over n opening es left o w.
 
 pub returns-clause-silent : goal.returns-clause-silent
 returns-clause-silent c = λ h. subst NoneFailed (sym c.set_reply.ensures) (one-more c.args.self.now.replies.items c.end-op.result c.reply_of.result (ap is_medium c.reply_of.ensures ∙ request-silent c.of-fates.result.now c.take_room-room.result) h)
+
+pub returns-clause-few : goal.returns-clause-few
+returns-clause-few c =
+    let a = few_replies c.args.self.now.replies.items c.end-op.result c.reply_of.result (ap one_reply c.reply_of.ensures ∙ request_quiet c.of-fates.result.now c.take_room-room.result) in
+    let e = ap medium_replies c.set_reply.ensures in
+    omega (arith, a, e)

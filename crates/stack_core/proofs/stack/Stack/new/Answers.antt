@@ -18,7 +18,8 @@ use Rattle.stack_core.proofs.Begin.{length-requests}
 use Rattle.stack_core.proofs.FirstStack.{first-stack}
 use Rattle.stack_core.proofs.Gates.{gate-is, length-prints}
 use Rattle.stack_core.proofs.Opening.{have-numbers, inside-each, own-few, sheet-is}
-use Rattle.stack_core.proofs.WalkBegins.{told_begins, walk_begins}
+use Rattle.stack_core.proofs.Queues.{has-queues}
+use Rattle.stack_core.proofs.WalkBegins.{told_begins, walk_begins, falling_begins}
 use Rattle.stack_core.proofs.stack.Stack.new.Goals as goal
 
 pub new-requires : goal.new-requires
@@ -144,3 +145,17 @@ returns-clause-told c = λ m n opening us armed st log o over sizes site behind 
     (let suits = rw (c.as_slice-5.ensures) at c.in_ok-rooms.ensures.suits in
     told_begins m n opening _ us armed st log (returns-clause-stack c) c.in_ok-machine.ensures c.in_ok-new.ensures.whole
     (subst (λ ops. (i : ℕ) → i < length ops → Suits (op_in ops i) (room_at c.in_ok-rooms.rooms.items i)) (sym c.sheet_of-sheet.ensures.ops) suits) o over sizes site behind armed_are blocks)
+
+pub returns-clause-queues : goal.returns-clause-queues
+returns-clause-queues c =
+    let sh = c.sheet_of-sheet.result in
+    let ios : sh.ios.items ≡ c.deref-2.result.now = c.sheet_of-sheet.ensures.ios ∙ sym c.deref-2.ensures.value in
+    let table = c.sheet_of-sheet.ensures.table in
+    has-queues sh.ops sh.shifted.items sh.ios.items sh.table sh.limits sh.devices sh.right.fine.on_devices
+    (λ n h. (let l = c.count_devices-devices.ensures.tight n (rw (ios, table) at h) in let e = c.sheet_of-sheet.ensures.devices in omega arith))
+
+pub returns-clause-falling : goal.returns-clause-falling
+returns-clause-falling c = λ m n opening us armed st log o over sizes site behind armed_are blocks none_over.
+    (let suits = rw (c.as_slice-5.ensures) at c.in_ok-rooms.ensures.suits in
+    falling_begins m n opening _ us armed st log (returns-clause-stack c) c.in_ok-machine.ensures c.in_ok-new.ensures.whole
+    (subst (λ ops. (i : ℕ) → i < length ops → Suits (op_in ops i) (room_at c.in_ok-rooms.rooms.items i)) (sym c.sheet_of-sheet.ensures.ops) suits) o over sizes site behind armed_are blocks none_over)

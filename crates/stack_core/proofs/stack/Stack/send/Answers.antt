@@ -1,16 +1,19 @@
 use Rattle.std.proofs.Common.{ap, refl, subst, sym, ◌∙◌, arith}
 use Rattle.std.specs.Prelude.{is_some}
 use Rattle.dix_adapter.specs.Groups.{size}
-use Rattle.stack_core.specs.Stacks.{plan_in}
+use Rattle.stack_core.specs.Stacks.{Stays, plan_in}
 use Rattle.stack_core.proofs.Goes.{either-way, goes-as-before}
 use Rattle.stack_core.proofs.Keeps.{is-stack}
-use Rattle.stack_core.proofs.Sending.{settles-of}
+use Rattle.stack_core.proofs.Sending.{same-size, settles-of}
+use Rattle.stack_core.proofs.StackSends.{carried_by}
 use Rattle.stack_core.proofs.Sent.{can-carry, holds-fewer, holds-still, sending, sent-works, spare-sent}
 use Rattle.dix_adapter.specs.Carried.{Shown}
 use Rattle.stack_core.specs.declared.stack.Stack.{Stack}
-use Rattle.stack_core.specs.Walking.{Walks, WalksTold}
+use Rattle.stack_core.specs.Walking.{Walks, WalksFalling, WalksTold}
 use Rattle.stack_core.proofs.WalkedRecord.{walk_sends}
+use Rattle.stack_core.proofs.ToldOps.{falling_sent}
 use Rattle.stack_core.proofs.WalkedTold.{told_sends}
+use Rattle.stack_core.proofs.Mediums.{spoiled_by}
 use Rattle.stack_core.proofs.stack.Stack.send.Goals as goal
 
 pub carry-requires-clause-group : goal.carry-requires-clause-group
@@ -120,6 +123,29 @@ returns-clause-told g c = λ ch m n opening first w calm.
     old new (g.R.Rig.image a) refl refl refl c.carry.ensures.armed calm (g.met.R.Rig.laid a) (g.met.R.Rig.ready a) c.requires.rig.devices
     (λ e q. ((unsent e q).0, (ap g.R.Rig.log (unsent e q).1, ap g.R.Rig.units (unsent e q).1))) (λ e q. (sent e q).pool_is) (λ e. (fetched e).whole) out came went_out came_in))
 
+pub returns-clause-falling : goal.returns-clause-falling
+returns-clause-falling g c = λ ch m n opening first w.
+    (let s = c.args.self.now in
+    let a = c.args.rig.now in
+    let b = c.carry.new.rig in
+    let old : Shown = record { told = is_some (g.R.Rig.image a); units = g.R.Rig.units a; standing = g.R.Rig.standing a; log = g.R.Rig.log a; room = g.R.Rig.room a; armed = g.R.Rig.armed a; faults = g.R.Rig.faults a } in
+    let new : Shown = record { told = is_some (g.R.Rig.image b); units = g.R.Rig.units b; standing = g.R.Rig.standing b; log = g.R.Rig.log b; room = g.R.Rig.room b; armed = g.R.Rig.armed b; faults = g.R.Rig.faults b } in
+    let after : Stack = record s { machine = c.fly.new.self; pool = c.carry.new.pool; scratch = c.carry.new.scratch; group = c.take.new.group; fates = c.carry.new.fates } in
+    let settles = settles-of c.take.new.group.items c.carry.new.fates.items (c.carry.ensures.count ∙ ap size c.deref.ensures.value) c.carry.ensures.settles in
+    let unsent = rw (c.ios.ensures, c.deref.ensures.value) at c.carry.ensures.unsent in
+    let sent = rw (c.ios.ensures, c.deref.ensures.value) at c.carry.ensures.sent in
+    let fetched = rw (c.ios.ensures, c.deref.ensures.value) at c.carry.ensures.fetched in
+    let out = rw (c.ios.ensures, c.deref.ensures.value) at c.carry.ensures.recorded_out in
+    let came = rw (c.ios.ensures, c.deref.ensures.value) at c.carry.ensures.recorded_in in
+    let went_out = rw (c.ios.ensures, c.deref.ensures.value) at c.carry.ensures.went_out in
+    let came_in = rw (c.ios.ensures, c.deref.ensures.value) at c.carry.ensures.came_in in
+    let stays : Stays s after = record { sheet = refl; adapter = refl; host = refl } in
+    subst (λ st. WalksFalling m n opening first after (g.R.Rig.units b) (g.R.Rig.armed b) st (g.R.Rig.log b)) (sym c.carry.ensures.standing)
+    (falling_sent m n opening first s after (g.R.Rig.units a) (g.R.Rig.units b) (g.R.Rig.armed a) (g.R.Rig.armed b) (g.R.Rig.standing a) (g.R.Rig.log a) (g.R.Rig.log b) stays w
+    (told_sends m n opening first s (g.R.Rig.units a) (g.R.Rig.armed a) (g.R.Rig.standing a) (g.R.Rig.log a) c.requires.stack w.told after c.args.d c.args.i c.take.new.group.items c.carry.new.fates.items c.take.new.self stays ch c.take.ensures.takes (rw (c.deref-2.ensures.value, c.deref-3.ensures.value) at c.fly.ensures) settles refl
+    old new (g.R.Rig.image a) refl refl refl c.carry.ensures.armed tt (g.met.R.Rig.laid a) (g.met.R.Rig.ready a) c.requires.rig.devices
+    (λ e q. ((unsent e q).0, (ap g.R.Rig.log (unsent e q).1, ap g.R.Rig.units (unsent e q).1))) (λ e q. (sent e q).pool_is) (λ e. (fetched e).whole) out came went_out came_in)))
+
 pub returns-clause-goes : goal.returns-clause-goes
 returns-clause-goes g c =
     either-way _ _ _
@@ -128,3 +154,35 @@ returns-clause-goes g c =
     c.carry.ensures.standing (ap g.R.Rig.log e) (let k = ap g.R.Rig.faults e in omega (arith, k))))
     (λ w b. (let x = (c.carry.ensures.sent w b).exchanged in record { standing = c.carry.ensures.standing; more = _; records = x.recorded; faults = x.count }))
     (λ r. (let x = (c.carry.ensures.fetched r).exchanged in record { standing = c.carry.ensures.standing; more = _; records = x.recorded; faults = x.count }))
+
+pub returns-clause-carries : goal.returns-clause-carries
+returns-clause-carries g c =
+    let s = c.args.self.now in
+    let a = c.args.rig.now in
+    let b = c.carry.new.rig in
+    let old : Shown = record { told = is_some (g.R.Rig.image a); units = g.R.Rig.units a; standing = g.R.Rig.standing a; log = g.R.Rig.log a; room = g.R.Rig.room a; armed = g.R.Rig.armed a; faults = g.R.Rig.faults a } in
+    let new : Shown = record { told = is_some (g.R.Rig.image b); units = g.R.Rig.units b; standing = g.R.Rig.standing b; log = g.R.Rig.log b; room = g.R.Rig.room b; armed = g.R.Rig.armed b; faults = g.R.Rig.faults b } in
+    let k = can-carry s c.args.d c.args.i c.take.new.group.items c.take.new.self (is_some (g.R.Rig.image a)) (g.R.Rig.standing a) (g.R.Rig.room a) c.requires.stack c.requires.spare c.requires.rig c.requires.ready c.take.ensures.takes in
+    let long = c.carry.ensures.count ∙ ap size c.deref.ensures.value in
+    let settles = settles-of c.take.new.group.items c.carry.new.fates.items long c.carry.ensures.settles in
+    let unsent = rw (c.ios.ensures, c.deref.ensures.value) at c.carry.ensures.unsent in
+    let sent = rw (c.ios.ensures, c.deref.ensures.value) at c.carry.ensures.sent in
+    let fetched = rw (c.ios.ensures, c.deref.ensures.value) at c.carry.ensures.fetched in
+    carried_by (plan_in s.sheet) s.machine c.args.d c.args.i c.fly.new.self c.take.new.self c.take.new.group.items c.carry.new.fates.items c.take.ensures.takes (rw (c.deref-2.ensures.value, c.deref-3.ensures.value) at c.fly.ensures) settles
+    s.adapter s.sheet.ios.items s.pool c.carry.new.pool old new k.on (long ∙ same-size c.take.new.group.items)
+    (λ e q. ((unsent e q).0, ap g.R.Rig.log (unsent e q).1)) sent fetched
+
+pub returns-clause-spoils : goal.returns-clause-spoils
+returns-clause-spoils g c =
+    let s = c.args.self.now in
+    let a = c.args.rig.now in
+    let b = c.carry.new.rig in
+    let old : Shown = record { told = is_some (g.R.Rig.image a); units = g.R.Rig.units a; standing = g.R.Rig.standing a; log = g.R.Rig.log a; room = g.R.Rig.room a; armed = g.R.Rig.armed a; faults = g.R.Rig.faults a } in
+    let new : Shown = record { told = is_some (g.R.Rig.image b); units = g.R.Rig.units b; standing = g.R.Rig.standing b; log = g.R.Rig.log b; room = g.R.Rig.room b; armed = g.R.Rig.armed b; faults = g.R.Rig.faults b } in
+    let settles = settles-of c.take.new.group.items c.carry.new.fates.items (c.carry.ensures.count ∙ ap size c.deref.ensures.value) c.carry.ensures.settles in
+    let unsent = rw (c.ios.ensures, c.deref.ensures.value) at c.carry.ensures.unsent in
+    let sent = rw (c.ios.ensures, c.deref.ensures.value) at c.carry.ensures.sent in
+    let fetched = rw (c.ios.ensures, c.deref.ensures.value) at c.carry.ensures.fetched in
+    spoiled_by (plan_in s.sheet) s.machine c.args.d c.args.i c.fly.new.self c.take.new.self c.take.new.group.items c.carry.new.fates.items c.take.ensures.takes (rw (c.deref-2.ensures.value, c.deref-3.ensures.value) at c.fly.ensures) settles
+    s.adapter s.sheet.ios.items s.pool c.carry.new.pool old new
+    (λ e q. ((unsent e q).0, ap g.R.Rig.faults (unsent e q).1)) sent fetched

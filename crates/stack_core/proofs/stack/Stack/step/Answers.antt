@@ -1,13 +1,16 @@
-use Rattle.std.proofs.Common.{refl, subst, sym}
+use Rattle.std.proofs.Common.{refl, subst, sym, arith}
 use Rattle.std.specs.Prelude.{is_some}
 use Rattle.stack_steps.specs.declared.choice.Choice.TheVariants.{Admit, Complete, Cut, End, Join, Send}
 use Rattle.stack_steps.specs.Does.{Chooses}
 use Rattle.stack_core.specs.Stacks.{plan_in}
 use Rattle.stack_core.proofs.Goes.{goes-nowhere}
 use Rattle.stack_core.proofs.Going.{can-step, spare-left}
+use Rattle.stack_core.proofs.StackCounts.{few_counts, same_counts, sent_counts, step_counts, still_counts}
+use Rattle.stack_core.proofs.StackSends.{group_sends, lands_sends, still_sends}
 use Rattle.stack_core.proofs.Steps.{one-send, one-step, ready}
-use Rattle.stack_core.specs.Walking.{NoneFailed, Walks, WalksTold}
-use Rattle.stack_core.proofs.ToldOps.{told_entered, told_on, walks_entered, walks_on}
+use Rattle.stack_core.specs.OnRecord.{SendsOn}
+use Rattle.stack_core.specs.Walking.{NoneFailed, Walks, WalksTold, WalksFalling}
+use Rattle.stack_core.proofs.ToldOps.{told_entered, told_on, walks_entered, walks_on, falling_entered, falling_on}
 use Rattle.stack_core.proofs.stack.Stack.step.Goals as goal
 
 pub end-requires-clause-ready : goal.end-requires-clause-ready
@@ -162,6 +165,40 @@ returns-in-Send-clause-told g c = λ m n opening first w calm.
     (let h : Chooses (plan_in c.args.self.now.sheet) c.args.self.now.machine c.args.word (Send c.in-Send.d c.in-Send.i) = rw c.in-Send.is at c.choose-choice.ensures in
     c.send.ensures.told (c.args.word, h, c.requires.some) m n opening first w calm)
 
+pub returns-in-End-clause-falling : goal.returns-in-End-clause-falling
+returns-in-End-clause-falling g c = λ m n opening first w.
+    (let h : Chooses (plan_in c.args.self.now.sheet) c.args.self.now.machine c.args.word (End c.in-End.q) = rw c.in-End.is at c.choose-choice.ensures in
+    falling_on m n opening first c.args.self.now c.end.new.self (g.R.Rig.units c.args.rig.now) (g.R.Rig.armed c.args.rig.now) (g.R.Rig.standing c.args.rig.now) (g.R.Rig.log c.args.rig.now) c.requires.stack c.end.ensures.stays (c.end.ensures.walks (c.args.word, h, c.requires.some)) w)
+
+pub returns-in-Complete-clause-falling : goal.returns-in-Complete-clause-falling
+returns-in-Complete-clause-falling g c = λ m n opening first w.
+    (let h : Chooses (plan_in c.args.self.now.sheet) c.args.self.now.machine c.args.word (Complete c.in-Complete.i) = rw c.in-Complete.is at c.choose-choice.ensures in
+    falling_on m n opening first c.args.self.now c.complete.new.self (g.R.Rig.units c.args.rig.now) (g.R.Rig.armed c.args.rig.now) (g.R.Rig.standing c.args.rig.now) (g.R.Rig.log c.args.rig.now) c.requires.stack c.complete.ensures.stays (c.complete.ensures.walks (c.args.word, h, c.requires.some)) w)
+
+pub returns-in-Cut-clause-falling : goal.returns-in-Cut-clause-falling
+returns-in-Cut-clause-falling g c = λ m n opening first w.
+    (let h : Chooses (plan_in c.args.self.now.sheet) c.args.self.now.machine c.args.word (Cut c.in-Cut.q) = rw c.in-Cut.is at c.choose-choice.ensures in
+    falling_on m n opening first c.args.self.now c.cut.new.self (g.R.Rig.units c.args.rig.now) (g.R.Rig.armed c.args.rig.now) (g.R.Rig.standing c.args.rig.now) (g.R.Rig.log c.args.rig.now) c.requires.stack c.cut.ensures.stays (c.cut.ensures.walks (c.args.word, h, c.requires.some)) w)
+
+pub returns-in-Join-clause-falling : goal.returns-in-Join-clause-falling
+returns-in-Join-clause-falling g c = λ m n opening first w.
+    (let h : Chooses (plan_in c.args.self.now.sheet) c.args.self.now.machine c.args.word (Join c.in-Join.d c.in-Join.i c.in-Join.j) = rw c.in-Join.is at c.choose-choice.ensures in
+    falling_on m n opening first c.args.self.now c.join.new.self (g.R.Rig.units c.args.rig.now) (g.R.Rig.armed c.args.rig.now) (g.R.Rig.standing c.args.rig.now) (g.R.Rig.log c.args.rig.now) c.requires.stack c.join.ensures.stays (c.join.ensures.walks (c.args.word, h, c.requires.some)) w)
+
+pub returns-in-Admit-clause-falling : goal.returns-in-Admit-clause-falling
+returns-in-Admit-clause-falling g c = λ m n opening first w.
+    (let h : Chooses (plan_in c.args.self.now.sheet) c.args.self.now.machine c.args.word (Admit c.in-Admit.q) = rw c.in-Admit.is at c.choose-choice.ensures in
+    let a = c.args.rig.now in
+    let b = c.admit.new.rig in
+    let x = falling_entered m n opening first c.args.self.now c.admit.new.self (g.R.Rig.image a) (g.R.Rig.standing a) (g.R.Rig.units a) (g.R.Rig.units b) (g.R.Rig.armed a) (g.R.Rig.armed b) (g.R.Rig.faults a) (g.R.Rig.faults b) (g.R.Rig.log a)
+    c.requires.stack c.admit.ensures.stays (c.admit.ensures.walks (c.args.word, h, c.requires.some)) (g.met.R.Rig.laid a) (g.met.R.Rig.ready a) c.admit.ensures.armed w in
+    subst (λ st. WalksFalling m n opening first c.admit.new.self (g.R.Rig.units b) (g.R.Rig.armed b) st (g.R.Rig.log b)) (sym c.admit.ensures.standing) (subst (λ log. WalksFalling m n opening first c.admit.new.self (g.R.Rig.units b) (g.R.Rig.armed b) (g.R.Rig.standing a) log) (sym c.admit.ensures.log) x))
+
+pub returns-in-Send-clause-falling : goal.returns-in-Send-clause-falling
+returns-in-Send-clause-falling g c = λ m n opening first w.
+    (let h : Chooses (plan_in c.args.self.now.sheet) c.args.self.now.machine c.args.word (Send c.in-Send.d c.in-Send.i) = rw c.in-Send.is at c.choose-choice.ensures in
+    c.send.ensures.falling (c.args.word, h, c.requires.some) m n opening first w)
+
 pub returns-in-End-clause-goes : goal.returns-in-End-clause-goes
 returns-in-End-clause-goes g c = goes-nowhere (g.R.Rig.standing c.args.rig.now) (g.R.Rig.log c.args.rig.now) (g.R.Rig.faults c.args.rig.now)
 
@@ -191,3 +228,68 @@ returns-in-End-clause-silent g c = λ calm h. c.end.ensures.silent h
 
 pub returns-in-Admit-clause-silent : goal.returns-in-Admit-clause-silent
 returns-in-Admit-clause-silent g c = λ calm h. c.admit.ensures.silent calm h
+
+pub returns-in-End-clause-sends : goal.returns-in-End-clause-sends
+returns-in-End-clause-sends g c =
+    let h : Chooses (plan_in c.args.self.now.sheet) c.args.self.now.machine c.args.word (End c.in-End.q) = rw c.in-End.is at c.choose-choice.ensures in
+    still_sends c.args.self.now c.end.new.self c.args.word c.args.cut (End c.in-End.q) (g.R.Rig.log c.args.rig.now) tt tt c.end.ensures.stays h c.requires.some (c.end.ensures.step c.args.cut) c.end.ensures.kept
+
+pub returns-in-Cut-clause-sends : goal.returns-in-Cut-clause-sends
+returns-in-Cut-clause-sends g c =
+    let h : Chooses (plan_in c.args.self.now.sheet) c.args.self.now.machine c.args.word (Cut c.in-Cut.q) = rw c.in-Cut.is at c.choose-choice.ensures in
+    still_sends c.args.self.now c.cut.new.self c.args.word c.args.cut (Cut c.in-Cut.q) (g.R.Rig.log c.args.rig.now) tt tt c.cut.ensures.stays h c.requires.some c.cut.ensures.step c.cut.ensures.kept
+
+pub returns-in-Join-clause-sends : goal.returns-in-Join-clause-sends
+returns-in-Join-clause-sends g c =
+    let h : Chooses (plan_in c.args.self.now.sheet) c.args.self.now.machine c.args.word (Join c.in-Join.d c.in-Join.i c.in-Join.j) = rw c.in-Join.is at c.choose-choice.ensures in
+    still_sends c.args.self.now c.join.new.self c.args.word c.args.cut (Join c.in-Join.d c.in-Join.i c.in-Join.j) (g.R.Rig.log c.args.rig.now) tt tt c.join.ensures.stays h c.requires.some (c.join.ensures.step c.args.cut) c.join.ensures.kept
+
+pub returns-in-Admit-clause-sends : goal.returns-in-Admit-clause-sends
+returns-in-Admit-clause-sends g c =
+    let h : Chooses (plan_in c.args.self.now.sheet) c.args.self.now.machine c.args.word (Admit c.in-Admit.q) = rw c.in-Admit.is at c.choose-choice.ensures in
+    subst (SendsOn c.args.word c.args.cut c.args.self.now c.admit.new.self (g.R.Rig.log c.args.rig.now)) (sym c.admit.ensures.log)
+    (still_sends c.args.self.now c.admit.new.self c.args.word c.args.cut (Admit c.in-Admit.q) (g.R.Rig.log c.args.rig.now) tt tt c.admit.ensures.stays h c.requires.some (c.admit.ensures.step c.args.cut) c.admit.ensures.kept)
+
+pub returns-in-Complete-clause-sends : goal.returns-in-Complete-clause-sends
+returns-in-Complete-clause-sends g c =
+    let h : Chooses (plan_in c.args.self.now.sheet) c.args.self.now.machine c.args.word (Complete c.in-Complete.i) = rw c.in-Complete.is at c.choose-choice.ensures in
+    lands_sends c.args.self.now c.complete.new.self c.args.word c.args.cut c.in-Complete.i (g.R.Rig.log c.args.rig.now) c.complete.ensures.stays h c.requires.some (c.complete.ensures.step c.args.cut) c.complete.ensures.traces
+
+pub returns-in-Send-clause-sends : goal.returns-in-Send-clause-sends
+returns-in-Send-clause-sends g c =
+    let h : Chooses (plan_in c.args.self.now.sheet) c.args.self.now.machine c.args.word (Send c.in-Send.d c.in-Send.i) = rw c.in-Send.is at c.choose-choice.ensures in
+    group_sends c.args.self.now c.send.new.self c.args.word c.args.cut c.in-Send.d c.in-Send.i (g.R.Rig.log c.args.rig.now) (g.R.Rig.log c.send.new.rig) c.send.ensures.stays h c.requires.some c.send.ensures.carries c.send.ensures.kept
+
+pub returns-in-End-clause-counts : goal.returns-in-End-clause-counts
+returns-in-End-clause-counts g c =
+    let h : Chooses (plan_in c.args.self.now.sheet) c.args.self.now.machine c.args.word (End c.in-End.q) = rw c.in-End.is at c.choose-choice.ensures in
+    let n = g.R.Rig.faults c.args.rig.now in
+    still_counts c.args.self.now c.end.new.self c.args.word c.args.cut n n (End c.in-End.q) tt tt c.end.ensures.stays h c.requires.some (c.end.ensures.step c.args.cut) c.end.ensures.kept (omega arith) (few_counts c.args.self.now.replies.items c.end.new.self.replies.items n c.end.ensures.few)
+
+pub returns-in-Cut-clause-counts : goal.returns-in-Cut-clause-counts
+returns-in-Cut-clause-counts g c =
+    let h : Chooses (plan_in c.args.self.now.sheet) c.args.self.now.machine c.args.word (Cut c.in-Cut.q) = rw c.in-Cut.is at c.choose-choice.ensures in
+    let n = g.R.Rig.faults c.args.rig.now in
+    still_counts c.args.self.now c.cut.new.self c.args.word c.args.cut n n (Cut c.in-Cut.q) tt tt c.cut.ensures.stays h c.requires.some c.cut.ensures.step c.cut.ensures.kept (omega arith) (same_counts c.args.self.now.replies.items c.cut.new.self.replies.items n c.cut.ensures.replies)
+
+pub returns-in-Join-clause-counts : goal.returns-in-Join-clause-counts
+returns-in-Join-clause-counts g c =
+    let h : Chooses (plan_in c.args.self.now.sheet) c.args.self.now.machine c.args.word (Join c.in-Join.d c.in-Join.i c.in-Join.j) = rw c.in-Join.is at c.choose-choice.ensures in
+    let n = g.R.Rig.faults c.args.rig.now in
+    still_counts c.args.self.now c.join.new.self c.args.word c.args.cut n n (Join c.in-Join.d c.in-Join.i c.in-Join.j) tt tt c.join.ensures.stays h c.requires.some (c.join.ensures.step c.args.cut) c.join.ensures.kept (omega arith) (same_counts c.args.self.now.replies.items c.join.new.self.replies.items n c.join.ensures.replies)
+
+pub returns-in-Admit-clause-counts : goal.returns-in-Admit-clause-counts
+returns-in-Admit-clause-counts g c =
+    let h : Chooses (plan_in c.args.self.now.sheet) c.args.self.now.machine c.args.word (Admit c.in-Admit.q) = rw c.in-Admit.is at c.choose-choice.ensures in
+    still_counts c.args.self.now c.admit.new.self c.args.word c.args.cut (g.R.Rig.faults c.args.rig.now) (g.R.Rig.faults c.admit.new.rig) (Admit c.in-Admit.q) tt tt c.admit.ensures.stays h c.requires.some (c.admit.ensures.step c.args.cut) c.admit.ensures.kept c.admit.ensures.goes.faults c.admit.ensures.counts
+
+pub returns-in-Complete-clause-counts : goal.returns-in-Complete-clause-counts
+returns-in-Complete-clause-counts g c =
+    let h : Chooses (plan_in c.args.self.now.sheet) c.args.self.now.machine c.args.word (Complete c.in-Complete.i) = rw c.in-Complete.is at c.choose-choice.ensures in
+    let n = g.R.Rig.faults c.args.rig.now in
+    step_counts c.args.self.now c.complete.new.self c.args.word c.args.cut n n (Complete c.in-Complete.i) c.complete.ensures.stays h c.requires.some (c.complete.ensures.step c.args.cut) c.complete.ensures.counts (omega arith) (same_counts c.args.self.now.replies.items c.complete.new.self.replies.items n c.complete.ensures.replies)
+
+pub returns-in-Send-clause-counts : goal.returns-in-Send-clause-counts
+returns-in-Send-clause-counts g c =
+    let h : Chooses (plan_in c.args.self.now.sheet) c.args.self.now.machine c.args.word (Send c.in-Send.d c.in-Send.i) = rw c.in-Send.is at c.choose-choice.ensures in
+    sent_counts c.args.self.now c.send.new.self c.args.word c.in-Send.d c.in-Send.i (g.R.Rig.faults c.args.rig.now) (g.R.Rig.faults c.send.new.rig) c.send.ensures.stays h c.requires.some c.send.ensures.spoils c.send.ensures.kept c.send.ensures.replies

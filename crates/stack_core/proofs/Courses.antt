@@ -1,0 +1,260 @@
+-- The laws of the steps, whichever way a stack follows the walk of its script.
+use Rattle.std.proofs.Common.{◌≡◌, ◌<◌, ◌≤◌, ◌+◌, ℕ, zero, suc, Bool, true, false, ◌&&◌, eqb, List, [], ◌∷◌, ◌++◌, length, get_or, map, take, Option, Some, None, refl, sym, ap, subst, ◌∙◌, arith}
+use Rattle.std.specs.Prelude.{IfSome, if◌then◌else◌}
+use Rattle.std.proofs.lemmas.Bool.{false≢true}
+use Rattle.std.proofs.lemmas.Option.{none-some}
+use Rattle.page_pool.specs.Cells.{flat}
+use Rattle.bio_core.specs.Bios.{Block}
+use Rattle.bio_core.specs.declared.bio.Bio.{Bio}
+use Rattle.bio_core.specs.declared.fate.Fate.{Fate}
+use Rattle.bio_core.specs.declared.fate.Fate.TheVariants.{Bad, Good, Untouched}
+use Rattle.bio_core.specs.declared.fate.Why.{Why}
+use Rattle.bio_core.specs.declared.request.Dir.TheVariants.{Read, Write as WriteDir}
+use Rattle.bio_core.specs.declared.request.Io.{Io}
+use Rattle.target_answer.specs.Frames.{stored_size}
+use Rattle.target_answer.specs.Target.{Stop, Stored}
+use Rattle.stack_ops.specs.declared.op.Op.{Op}
+use Rattle.block_path.specs.Acts.{State, act, tell}
+use Rattle.block_path.specs.Blocks.{Sent, silent}
+use Rattle.block_path.specs.Moves.{first_why}
+use Rattle.block_path.specs.Serial.{plain, plain_tells}
+use Rattle.whole_run.specs.ScriptWalk.{acts_of}
+use Rattle.whole_run.specs.Settings.{Setting}
+use Rattle.whole_run.specs.Steps.{Alters, Reads, Seals, Sets, Shows, Step, Writes, WritesPi}
+use Rattle.run_moves.specs.BoundRun.{fates, rooms}
+use Rattle.run_moves.specs.OpsApart.{IsPlaced, OneCellEach}
+use Rattle.run_moves.specs.ScriptMoves.{fates_of, own_at}
+use Rattle.run_record.specs.Records.{recorded}
+use Rattle.dix_adapter.specs.declared.adapter.Adapter.{Adapter}
+use Rattle.dix_adapter.specs.Carried.{Shown, Unsent, any_bad, frame_len, sends}
+use Rattle.dix_adapter.specs.Groups.{IsGroup, IsProtect, blocks_in, first_of}
+use Rattle.dix_adapter.specs.Ways.{CameIn, RecordedIn, RecordedOut, WentOut, blocks_told, shapes_of, site_of}
+use Rattle.run_follows.specs.Following.{Becomes, Follows}
+use Rattle.run_follows.specs.Gate.{AllPlaced, BecomesDone, IsAlone, LetsIn, MayMove, Spot, number, ops_of, parts_at, place}
+use Rattle.run_follows.specs.Pieces.{AllMayMove, all_cut, all_made, with_all}
+use Rattle.run_follows.specs.Sending.{AllGoing, AllSized, NoneBefore, is_carried, with_fate, with_fates, with_status}
+use Rattle.run_follows.specs.Slots.{Admitted, Carried, Cut, Settled, Status, Waits}
+use Rattle.run_follows.proofs.Begins.{begin_all}
+use Rattle.run_follows.proofs.Holding.{held_back}
+use Rattle.run_follows.proofs.Moving.{settled}
+use Rattle.run_follows.proofs.Quietly.{listed_as, settled_quiet}
+use Rattle.run_follows.proofs.Telling.{told_in, told_out}
+use Rattle.run_follows.proofs.Together.{all_admitted, all_are_cut}
+use Rattle.run_follows.proofs.Wholly.{wholly}
+use Rattle.run_falls.specs.Falls.{falling, forgive, forgiven, is_write, left_of, none_falls, over_falls}
+use Rattle.run_falls.specs.FollowsFalling.{FollowsFalling, HasFallen}
+use Rattle.run_falls.proofs.Forgiving.{AllOf, IsOf, op_of}
+use Rattle.run_falls.proofs.OverDevice.{same_steps}
+use Rattle.run_falls.proofs.SentIn.{fallen_in}
+use Rattle.run_falls.proofs.SentOut.{fallen_out}
+use Rattle.run_falls.proofs.Stepping.{all_admitted_falling, all_cut_falling, held_falling, settled_falling, whole_falling}
+use Rattle.stack_walks.specs.Spots.{IsRead, op_in, steps_in}
+use Rattle.stack_walks.proofs.Found.{found_there}
+use Rattle.stack_walks.proofs.Same.{same_statuses, same_within}
+use Rattle.stack_walks.proofs.Spots.{steps_count}
+use Rattle.stack_core.specs.Courses.{Course, Falling, FollowsBy, Straight}
+
+-- The stack follows on, with pages and stored blocks as of these cells.
+pub record GoesTo (c : Course) (m : Setting) (n : ℕ) (ops : List Op) (opening : State) (status : ℕ → ℕ → Status) (es : List Sent) (bytes : List ℕ) (blocks : List (List ℕ)) : Type 0 where
+  pub after : State
+  pub follows : FollowsBy c m n ops opening status after es
+  pub bytes_are : after.bytes ≡ bytes
+  pub blocks_are : after.blocks ≡ blocks
+
+straight : (m : Setting) (n : ℕ) (ops : List Op) (opening : State) (status : ℕ → ℕ → Status) (es : List Sent) (now : State) → Follows m n ops opening status now es → GoesTo Straight m n ops opening status es now.bytes now.blocks
+straight m n ops opening status es now h = record { after = now; follows = h; bytes_are = refl; blocks_are = refl }
+
+fallen : (m : Setting) (n : ℕ) (ops : List Op) (opening : State) (status : ℕ → ℕ → Status) (es : List Sent) (bytes : List ℕ) (blocks : List (List ℕ)) → FollowsFalling m n ops opening status bytes blocks es → GoesTo Falling m n ops opening status es bytes blocks
+fallen m n ops opening status es bytes blocks f = record {
+  after = f.after;
+  follows = (record { falls = f.falls; after = f.after; told = f.told; follows = f.follows; bytes = refl; blocks_are = refl; on_record = f.on_record; fallen = f.fallen; sized = f.sized }, refl);
+  bytes_are = f.bytes;
+  blocks_are = f.blocks_are;
+}
+
+-- ---- statuses that say the same
+
+pub same_by : (c : Course) (m : Setting) (n : ℕ) (ops : List Op) (opening now : State) (old new : ℕ → ℕ → Status) (es : List Sent) → ((j l : ℕ) → new j l ≡ old j l) → FollowsBy c m n ops opening old now es → FollowsBy c m n ops opening new now es
+same_by Straight m n ops opening now old new es e h = same_statuses m n ops opening now old new es e h
+same_by Falling m n ops opening now old new es e h =
+    let f = h.0 in (
+      record {
+        falls = f.falls;
+        after = f.after;
+        told = f.told;
+        follows = same_statuses (over_falls m f.falls) n ops opening f.after (forgiven ops f.falls old) (forgiven ops f.falls new) f.told (λ j l. ap (forgive (left_of ops f.falls j l)) (e j l)) f.follows;
+        bytes = f.bytes;
+        blocks_are = f.blocks_are;
+        on_record = f.on_record;
+        fallen = λ i k. subst (λ s. IfSome (f.falls (record { op = i; k = k })) (λ left. HasFallen s)) (sym (e i k)) (f.fallen i k);
+        sized = f.sized;
+      },
+      h.1,
+    )
+
+-- ---- before the first step
+
+waits_still : (o : Option (List ℕ)) → forgive o Waits ≡ Waits
+waits_still None = refl
+waits_still (Some left) = refl
+
+pub begins_by : (c : Course) (m : Setting) (n : ℕ) (ops : List Op) (opening : State) (status : ℕ → ℕ → Status) → ((j l : ℕ) → j < length ops → status (suc j) l ≡ Waits) → ((c : ℕ) → get_or opening.logs c [] ≡ []) → FollowsBy c m n ops opening status opening []
+begins_by Straight m n ops opening status w empty = same_within m n ops opening opening (λ i j. Waits) status [] w (begin_all m n ops opening empty)
+begins_by Falling m n ops opening status w empty = (
+  record {
+    falls = none_falls;
+    after = opening;
+    told = [];
+    follows = same_within (over_falls m none_falls) n ops opening opening (λ i j. Waits) (forgiven ops none_falls status) []
+        (λ j l b. ap (forgive (left_of ops none_falls (suc j) l)) (w j l b) ∙ waits_still (left_of ops none_falls (suc j) l)) (begin_all (over_falls m none_falls) n ops opening empty);
+    bytes = refl;
+    blocks_are = refl;
+    on_record = refl;
+    fallen = λ i k. tt;
+    sized = λ label. tt;
+  },
+  refl,
+)
+
+-- ---- blocks move on together
+
+pub admitted_by : (c : Course) (m : Setting) (n : ℕ) (ops : List Op) (opening : State) (spots : List Spot) (now : State) (status : ℕ → ℕ → Status) (es : List Sent) → AllMayMove m n ops status Waits spots → FollowsBy c m n ops opening status now es →
+    let after = plain act (all_made m n spots) now in GoesTo c m n ops opening (with_all spots Admitted status) es after.bytes after.blocks
+admitted_by Straight m n ops opening spots now status es may h = straight m n ops opening (with_all spots Admitted status) es (plain act (all_made m n spots) now) (all_admitted m n ops opening spots now status es may h)
+admitted_by Falling m n ops opening spots now status es may h =
+    subst (λ (s : State). GoesTo Falling m n ops opening (with_all spots Admitted status) es (plain act (all_made m n spots) s).bytes (plain act (all_made m n spots) s).blocks) h.1
+    (fallen m n ops opening (with_all spots Admitted status) es _ _ (all_admitted_falling m n ops opening status now.bytes now.blocks es spots may h.0))
+
+pub cut_by : (c : Course) (m : Setting) (n : ℕ) (ops : List Op) (opening : State) (spots : List Spot) (now : State) (status : ℕ → ℕ → Status) (es : List Sent) → AllMayMove m n ops status Admitted spots → FollowsBy c m n ops opening status now es →
+    let after = plain act (all_cut m n spots) now in GoesTo c m n ops opening (with_all spots Cut status) es after.bytes after.blocks
+cut_by Straight m n ops opening spots now status es may h = straight m n ops opening (with_all spots Cut status) es (plain act (all_cut m n spots) now) (all_are_cut m n ops opening spots now status es may h)
+cut_by Falling m n ops opening spots now status es may h =
+    subst (λ (s : State). GoesTo Falling m n ops opening (with_all spots Cut status) es (plain act (all_cut m n spots) s).bytes (plain act (all_cut m n spots) s).blocks) h.1
+    (fallen m n ops opening (with_all spots Cut status) es _ _ (all_cut_falling m n ops opening status now.bytes now.blocks es spots may h.0))
+
+-- ---- a block is settled
+
+abbrev pub settled_at : (m : Setting) (n : ℕ) (s : Spot) → Option Why → State → Option Why
+settled_at m n s fate now = first_why fate (get_or (plain_tells act tell (parts_at m n s).settled now) 0 silent).why
+
+pub settled_by : (c : Course) (m : Setting) (n : ℕ) (s : Spot) (opening now : State) (old new : ℕ → ℕ → Status) (es : List Sent) (fate : Option Why) → MayMove m n old s → old (number s) (place s) ≡ Carried fate → FollowsBy c m n (ops_of s) opening old now es →
+    Becomes (number s) (place s) (Settled (settled_at m n s fate now)) old new → let after = plain act (parts_at m n s).settled now in GoesTo c m n (ops_of s) opening new es after.bytes after.blocks
+settled_by Straight m n s opening now old new es fate may e h becomes =
+    straight m n (ops_of s) opening new es (plain act (parts_at m n s).settled now)
+    (settled m n s opening now old new es may h fate (settled_at m n s fate now) e becomes (settled_quiet m (own_at (n + rooms m s.front) (place s)) (fates s.front + place s) s.step)
+    (λ here q f. listed_as m (own_at (n + rooms m s.front) (place s)) (fates s.front + place s) s.step now fate here q f))
+settled_by Falling m n s opening now old new es fate may e h becomes =
+    let f = h.0 in
+    let becomes' : Becomes (number s) (place s) (Settled (settled_at m n s fate f.after)) old new = subst (λ (x : State). Becomes (number s) (place s) (Settled (settled_at m n s fate x)) old new) (sym h.1) becomes in
+    subst (λ (x : State). GoesTo Falling m n (ops_of s) opening new es (plain act (parts_at m n s).settled x).bytes (plain act (parts_at m n s).settled x).blocks) h.1
+    (fallen m n (ops_of s) opening new es _ _ (settled_falling m n s opening old new now.bytes now.blocks es fate may e f becomes'))
+
+-- ---- what was found of a read's block
+
+each_is : (w : Bool) (steps : List Step) (q : ℕ) → q < length steps → AllOf w steps → IsOf w (get_or steps q (Sets [] []))
+each_is w [] q l h = absurd (omega arith)
+each_is w (step ∷ steps) zero l h = h.0
+each_is w (step ∷ steps) (suc q) l h = each_is w steps q (omega arith) h.1
+
+of_read : (w : Bool) (step : Step) → IsOf w step → IsRead step → w ≡ false
+of_read w (Sets at values) h r = absurd r
+of_read w (Shows at) h r = absurd r
+of_read w (Seals body tuple app rtag) h r = absurd r
+of_read w (Writes b app body) h r = absurd r
+of_read w (WritesPi b frame) h r = absurd r
+of_read w (Reads b owner to) h r = h
+of_read w (Alters dev lba change) h r = absurd r
+
+pub found_by : (c : Course) (m : Setting) (n : ℕ) (ops : List Op) (opening now : State) (status : ℕ → ℕ → Status) (es : List Sent) (p q : ℕ) (why : Option Why) → FollowsBy c m n ops opening status now es → fates ops ≤ length opening.fates → p < length ops → q < fates_of (op_in ops p) →
+    IsRead (get_or (steps_in m ops p) q (Sets [] [])) → status (suc p) q ≡ Carried why → get_or now.fates (fates (take p ops) + q) None ≡ why
+found_by Straight m n ops opening now status es p q why h f l w r e = found_there m n ops opening now status es p q why h f l w r e
+found_by Falling m n ops opening now status es p q why h f l w r e =
+    let falls = (h.0).falls in
+    let long = steps_count m (suc p) (op_in ops p) (omega arith) in
+    let reads : is_write (op_in ops p) ≡ false = of_read (is_write (op_in ops p)) (get_or (steps_in m ops p) q (Sets [] [])) (each_is (is_write (op_in ops p)) (steps_in m ops p) q (omega arith) (op_of m (suc p) (op_in ops p))) r in
+    let r' : IsRead (get_or (steps_in (over_falls m falls) ops p) q (Sets [] [])) = subst (λ steps. IsRead (get_or steps q (Sets [] []))) (same_steps m (falling falls m.site.device) (suc p) (op_in ops p)) r in
+    let e' : forgiven ops falls status (suc p) q ≡ Carried why = ap (λ b. forgive (if b then falls (record { op = suc p; k = q }) else None) (status (suc p) q)) reads ∙ e in
+    ap (λ (s : State). get_or s.fates (fates (take p ops) + q) None) (sym h.1) ∙ found_there (over_falls m falls) n ops opening (h.0).after (forgiven ops falls status) (h.0).told p q why (h.0).follows f l w r' e'
+
+-- ---- an op is done whole
+
+pub whole_by : (c : Course) (m : Setting) (n : ℕ) (front behind : List Op) (op : Op) (opening now : State) (old new : ℕ → ℕ → Status) (es : List Sent) → let i = suc (length front) in
+    OneCellEach m → AllPlaced m n front → IsPlaced m n op → IsAlone op → LetsIn m old 1 front i op → BecomesDone m i op now old new → FollowsBy c m n (front ++ (op ∷ behind)) opening old now es →
+    let after = plain act (acts_of m i op) now in GoesTo c m n (front ++ (op ∷ behind)) opening new es after.bytes after.blocks
+whole_by Straight m n front behind op opening now old new es one placed mine alone lets becomes h =
+    straight m n (front ++ (op ∷ behind)) opening new es (plain act (acts_of m (suc (length front)) op) now) (wholly m n front behind op opening now old new es one placed mine alone lets becomes h)
+whole_by Falling m n front behind op opening now old new es one placed mine alone lets becomes h =
+    let i = suc (length front) in
+    let f = h.0 in
+    let becomes' : BecomesDone m i op f.after old new = subst (λ (x : State). BecomesDone m i op x old new) (sym h.1) becomes in
+    subst (λ (x : State). GoesTo Falling m n (front ++ (op ∷ behind)) opening new es (plain act (acts_of m i op) x).bytes (plain act (acts_of m i op) x).blocks) h.1
+    (fallen m n (front ++ (op ∷ behind)) opening new es _ _ (whole_falling m n front behind op opening old new now.bytes now.blocks es one placed mine alone lets f becomes'))
+
+-- ---- a write is held back
+
+-- what wasn't carried afterwards wasn't carried before
+still_uncarried : (bs : List Block) (fs : List Fate) (status : ℕ → ℕ → Status) (i k : ℕ) → is_carried (with_fates bs fs status i k) ≡ false → is_carried (status i k) ≡ false
+still_uncarried [] fs status i k e = e
+still_uncarried (b ∷ bs) [] status i k e = e
+still_uncarried (b ∷ bs) (f ∷ fs) status i k e = by f (still_uncarried bs fs (with_fate b f status) i k e) where
+  one : (next : Status) → is_carried next ≡ true → is_carried (with_status b.op b.k next status i k) ≡ false → is_carried (status i k) ≡ false
+  one next c e = at (eqb i b.op && eqb k b.k) e where
+    at : (t : Bool) → is_carried (if t then next else status i k) ≡ false → is_carried (status i k) ≡ false
+    at true e = absurd (false≢true (sym e ∙ c))
+    at false e = e
+
+  by : (f : Fate) → is_carried (with_fate b f status i k) ≡ false → is_carried (status i k) ≡ false
+  by Good e = one (Carried None) refl e
+  by (Bad why) e = one (Carried (Some why)) refl e
+  by Untouched e = e
+
+pub none_held : (bs : List Block) (fs : List Fate) (status : ℕ → ℕ → Status) (es : List Sent) → NoneBefore status es → NoneBefore (with_fates bs fs status) es
+none_held bs fs status es none i k e = none i k (still_uncarried bs fs status i k e)
+
+pub held_by : (c : Course) (m : Setting) (n : ℕ) (ops : List Op) (a : Adapter) (ios : List Io) (req : List Bio) (pool pool' : List (List ℕ)) (fates : List Fate) (opening now : State) (status : ℕ → ℕ → Status) (es : List Sent) (spots : List Spot) →
+    IsGroup a pool m.size ios req → (first_of req).dir ≡ WriteDir → m.site.faults ≡ a.tamper → Unsent a ios req pool pool' fates → AllGoing m n ops a ios (length opening.logs) status (blocks_in req) spots → now.bytes ≡ flat pool →
+    FollowsBy c m n ops opening status now es → GoesTo c m n ops opening (with_fates (blocks_in req) fates status) es (flat pool) now.blocks
+held_by Straight m n ops a ios req pool pool' fates opening now status es spots g w faults u going pages h =
+    let held = held_back m n ops a ios req pool pool' fates opening now status es spots g w faults u going pages h in
+    record { after = held.after; follows = held.follows; bytes_are = held.bytes ∙ pages; blocks_are = held.blocks }
+held_by Falling m n ops a ios req pool pool' fates opening now status es spots g w faults u going pages h =
+    fallen m n ops opening (with_fates (blocks_in req) fates status) es (flat pool) now.blocks
+    (held_falling m n ops a ios req pool pool' fates opening status now.blocks es spots g w faults u going (subst (λ bytes. FollowsFalling m n ops opening status bytes now.blocks es) pages h.0))
+
+-- ---- a command is sent
+
+-- where store calls fail a command may stop at one of its blocks
+abbrev pub StopsBy : Course → (size : ℕ) → Option Stop → Type 0
+StopsBy Straight size stop = stop ≡ None
+StopsBy Falling size stop = IfSome stop (λ s. length s.left ≡ size)
+
+module _ (m : Setting) (n : ℕ) (ops : List Op) (a : Adapter) (ios : List Io) (req : List Bio) (pool : List (List ℕ)) (us : List Stored) (protect : IsProtect a.protect) (g : IsGroup a pool m.size ios req) (site : m.site ≡ site_of a (shapes_of us)) where
+  -- cells that are the pool's and the units'
+  abbrev AreShown : State → Type 0
+  AreShown now = (now.bytes ≡ flat pool) × (now.blocks ≡ blocks_told us)
+
+  of_pool : (opening now : State) (status : ℕ → ℕ → Status) (es : List Sent) → AreShown now → FollowsBy Falling m n ops opening status now es → FollowsFalling m n ops opening status (flat pool) (blocks_told us) es
+  of_pool opening now status es same h =
+      subst (λ bytes. FollowsFalling m n ops opening status bytes (blocks_told us) es) same.0 (subst (λ blocks. FollowsFalling m n ops opening status now.bytes blocks es) same.1 h.0)
+
+  pub out_by : (c : Course) (stop : Option Stop) (fates : List Fate) (old new : Shown) (opening now : State) (status : ℕ → ℕ → Status) (spots : List Spot) → StopsBy c (stored_size m.ty m.size) stop → (first_of req).dir ≡ WriteDir → any_bad (map (sends a ios (flat pool)) (blocks_in req)) ≡ false →
+      RecordedOut a ios req (flat pool) fates old new → (told : WentOut a ios req (flat pool) us stop fates old new) → AllGoing m n ops a ios (length opening.logs) status (blocks_in req) spots → NoneBefore status (recorded m old.log) → AreShown now →
+      FollowsBy c m n ops opening status now (recorded m old.log) → GoesTo c m n ops opening (with_fates (blocks_in req) fates status) (recorded m new.log) (flat pool) (blocks_told told.units)
+  out_by Straight None fates old new opening now status spots stops w good r told going none same h =
+      let on = told_out m n ops a ios req pool us protect g site fates old new opening now status spots w good r told going same.0 same.1 h in
+      record { after = on.after; follows = on.follows; bytes_are = on.bytes; blocks_are = on.blocks_are }
+  out_by Straight (Some s) fates old new opening now status spots stops w good r told going none same h = absurd (none-some s (sym stops))
+  out_by Falling stop fates old new opening now status spots stops w good r told going none same h =
+      fallen m n ops opening (with_fates (blocks_in req) fates status) (recorded m new.log) (flat pool) (blocks_told told.units)
+      (fallen_out m n ops a ios req pool us protect g site stop fates old new opening status spots w good r told stops going none (of_pool opening now status (recorded m old.log) same h))
+
+  pub in_by : (c : Course) (stop : Option Stop) (pool' : List (List ℕ)) (fates : List Fate) (old new : Shown) (opening now : State) (status : ℕ → ℕ → Status) (spots : List Spot) → StopsBy c (stored_size m.ty m.size) stop → (first_of req).dir ≡ Read →
+      AllSized m a ios (blocks_told us) (frame_len a ios req) (blocks_in req) → RecordedIn a ios req pool pool' fates old new → CameIn a ios req pool pool' us stop fates old new → AllGoing m n ops a ios (length opening.logs) status (blocks_in req) spots →
+      NoneBefore status (recorded m old.log) → AreShown now → FollowsBy c m n ops opening status now (recorded m old.log) → GoesTo c m n ops opening (with_fates (blocks_in req) fates status) (recorded m new.log) (flat pool') (blocks_told us)
+  in_by Straight None pool' fates old new opening now status spots stops w sized r told going none same h =
+      let on = told_in m n ops a ios req pool us protect g site pool' fates old new opening now status spots w sized r told going same.0 same.1 h in
+      record { after = on.after; follows = on.follows; bytes_are = on.bytes; blocks_are = on.blocks_are }
+  in_by Straight (Some s) pool' fates old new opening now status spots stops w sized r told going none same h = absurd (none-some s (sym stops))
+  in_by Falling stop pool' fates old new opening now status spots stops w sized r told going none same h =
+      fallen m n ops opening (with_fates (blocks_in req) fates status) (recorded m new.log) (flat pool') (blocks_told us)
+      (fallen_in m n ops a ios req pool us protect g site stop pool' fates old new opening status spots w sized r told stops going none (of_pool opening now status (recorded m old.log) same h))

@@ -1,0 +1,89 @@
+-- What failed at the medium so far: blocks of commands in flight, blocks that are kept, and overwrites.
+use Rattle.std.specs.Prelude.{◌≡◌, ◌≤◌, ◌⊎◌, ℕ, ◌+◌, ◌^◌, true, if◌then◌else◌, List, [], ◌∷◌}
+use Rattle.bio_core.specs.declared.fate.Fate.{Fate}
+use Rattle.bio_core.specs.declared.fate.Fate.TheVariants.{Good, Bad, Untouched}
+use Rattle.merge_queue.specs.Index.{total}
+use Rattle.stack_ops.specs.declared.reply.BadBlock.{BadBlock}
+use Rattle.stack_ops.specs.declared.reply.Reply.{Reply}
+use Rattle.stack_ops.specs.declared.reply.Reply.TheVariants.{Silent, Whole, Bad as BadReply, Shown, Medium as MediumReply}
+use Rattle.bio_core.specs.declared.bio.Bio.{Bio}
+use Rattle.stack_view.specs.Plan.{Plan}
+use Rattle.stack_view.specs.Sound.{Settles}
+use Rattle.stack_view.specs.Steps.{Step, can, step}
+use Rattle.stack_view.specs.View.{Command, View}
+use Rattle.stack_steps.specs.declared.choice.Choice.{Choice}
+use Rattle.stack_steps.specs.declared.machine.Machine.{Machine}
+use Rattle.stack_steps.specs.Does.{Flies, Holds, Takes}
+use Rattle.stack_steps.specs.Shows.{Means}
+use Rattle.whole_run.specs.Senses.{is_medium_why}
+use Rattle.stack_core.specs.declared.stack.Stack.{Stack}
+use Rattle.stack_core.specs.OnRecord.{bad_blocks}
+use Rattle.stack_core.specs.Stacks.{plan_in}
+
+-- A count rose by as much as this, or stands at its last value.
+abbrev pub RoseBy : ℕ → ℕ → ℕ → Type 0
+RoseBy n old new = (old + n ≤ new) ⊎ (2 ^ 64 ≤ new + 1)
+
+-- 1 for a block that failed at the medium
+abbrev pub one_medium : Fate → ℕ
+one_medium Good = 0
+one_medium (Bad why) = if is_medium_why why then 1 else 0
+one_medium Untouched = 0
+
+abbrev pub mediums : List Fate → ℕ
+mediums [] = 0
+mediums (f ∷ fs) = one_medium f + mediums fs
+
+-- of the commands that aren't completed
+abbrev pub in_flight : List Command → ℕ
+in_flight cs = total (λ c. if c.completed then 0 else mediums c.fates) cs
+
+-- 1 for an overwrite whose store call failed
+abbrev pub one_reply : Reply → ℕ
+one_reply Silent = 0
+one_reply Whole = 0
+one_reply (BadReply blocks) = 0
+one_reply (Shown bytes) = 0
+one_reply MediumReply = 1
+
+abbrev pub medium_replies : List Reply → ℕ
+medium_replies [] = 0
+medium_replies (r ∷ rs) = one_reply r + medium_replies rs
+
+-- ---- between two steps
+
+-- A machine with these fates kept and these replies: what failed at the medium is at most as much as the count of faults rose since it stood so.
+pub record HasCountedBy (first : ℕ) (p : Plan) (m : Machine) (held : List Fate) (replies : List Reply) (count : ℕ) : Type 0 where
+  pub view : View
+  pub holds : Holds p m view
+  pub rose : RoseBy (in_flight view.commands + (mediums held + medium_replies replies)) first count
+
+abbrev pub HasCounted : ℕ → Stack → ℕ → Type 0
+HasCounted first s count = HasCountedBy first (plan_in s.sheet) s.machine s.kept.held.items s.replies.items count
+
+-- ---- the parts of a step
+
+-- no more blocks failed at the medium when the step of this choice is done, whichever view the machine showed
+abbrev pub Counts : Plan → Machine → Choice → (held held' : List Fate) → Type 0
+Counts p m c held held' = (v : View) (t : Step) (cut : ℕ) → Holds p m v → can p v t ≡ true → Means p v c t → in_flight (step p v t cut []).commands + mediums held' ≤ in_flight v.commands + mediums held
+
+-- A group was taken and sent; for each of its blocks that failed at the medium the count rose.
+pub record Spoils (p : Plan) (m : Machine) (d i : ℕ) (m' : Machine) (count count' : ℕ) : Type 0 where
+  pub taken : Machine
+  pub group : List Bio
+  pub fates : List Fate
+  pub takes : Takes p m d i group taken
+  pub flies : Flies p taken d group fates m'
+  pub settles : Settles group fates
+  pub rose : (n first : ℕ) → RoseBy n first count → RoseBy (n + mediums fates) first count'
+
+-- ---- replies
+
+abbrev pub listed_mediums : List BadBlock → ℕ
+listed_mediums [] = 0
+listed_mediums (b ∷ blocks) = (if is_medium_why b.why then 1 else 0) + listed_mediums blocks
+
+-- the blocks that replies list with the medium, and the overwrites that it failed
+abbrev pub medium_lines : List Reply → ℕ
+medium_lines [] = 0
+medium_lines (r ∷ rs) = listed_mediums (bad_blocks r) + one_reply r + medium_lines rs
