@@ -55,7 +55,7 @@ device-is [] dev l = absurd (omega arith)
 device-is (u ∷ us) zero l = refl
 device-is (u ∷ us) (suc dev) l = device-is us dev (omega arith)
 
-told-long : (us : List Stored) (ty : PiType) (size dev lba : ℕ) → AreStored us → IsOn (map info_of (shapes_of us)) ty size dev lba 1 → length (get_or (blocks_told us) (cell_in (shapes_of us) dev lba) []) ≡ stored_size ty size
+pub told-long : (us : List Stored) (ty : PiType) (size dev lba : ℕ) → AreStored us → IsOn (map info_of (shapes_of us)) ty size dev lba 1 → length (get_or (blocks_told us) (cell_in (shapes_of us) dev lba) []) ≡ stored_size ty size
 told-long us ty size dev lba stored h =
     let l = known-in us dev h.known in
     let d = device-is us dev l in
@@ -83,7 +83,7 @@ change-fits blocks site dev lba (Copy from at) same block h = subst (λ (n : ℕ
 -- ---- ops
 
 -- what lies at each address of a device of the volume's type and block size has the size of a stored block
-abbrev AreLong : Setting → PiType → (size : ℕ) → List DeviceInfo → List (List ℕ) → Type 0
+abbrev pub AreLong : Setting → PiType → (size : ℕ) → List DeviceInfo → List (List ℕ) → Type 0
 AreLong m ty size devices blocks = (dev lba : ℕ) → IsOn devices ty size dev lba 1 → length (get_or blocks (m.site.cell dev lba) []) ≡ stored_size m.ty m.size
 
 op-suits : (m : Setting) (t : Table) (devices : List DeviceInfo) (size : ℕ) (blocks : List (List ℕ)) (i : ℕ) (op : Op) → AreLong m t.ty size devices blocks → op_fault t devices size op ≡ None → ((v n : ℕ) → request_of op ≡ Some (v, n) → v + n ≤ volume_len t.entries → AllSuit m (keeps_size blocks) i v n) → OpSuits m (keeps_size blocks) i op
@@ -143,13 +143,16 @@ module _ (law : TargetSuits) (m : Setting) (s : Script) (t : Table) (devices : L
 abbrev pub behind : Script → List UnitSpec → Site
 behind s units = record { faults = s.faults; device = target s.faults; cell = cell_in units }
 
+pub long-told : (m : Setting) (s : Script) (t : Table) (us : List Stored) (logs : ℕ) (opening : State) → AreStored us → opening.blocks ≡ blocks_told us → IsSettingOf m s t (map info_of (shapes_of us)) logs → m.site ≡ behind s (shapes_of us) → AreLong m t.ty s.block (map info_of (shapes_of us)) opening.blocks
+long-told m s t us logs opening stored e is site = λ dev lba on.
+    (ap (λ (x : Site). length (get_or opening.blocks (x.cell dev lba) [])) site ∙ ap (λ (bs : List (List ℕ)). length (get_or bs (cell_in (shapes_of us) dev lba) [])) e ∙ told-long us t.ty s.block dev lba stored on
+    ∙ ap (λ (x : PiType). stored_size x s.block) (sym is.ty) ∙ ap (stored_size m.ty) (sym is.size))
+
 over-stored : TargetSuits → (m : Setting) (s : Script) (t : Table) (us : List Stored) (logs : ℕ) (opening : State) → Keeps s → length s.lines ≡ length s.faults + length s.ops → AreStored us → opening.blocks ≡ blocks_told us → 4096 * s.pages + rooms m s.ops ≤ length opening.bytes → fates s.ops ≤ length opening.fates
     → MadeFor t (map info_of (shapes_of us)) s.block → binding_fault s t (map info_of (shapes_of us)) ≡ None → IsSettingOf m s t (map info_of (shapes_of us)) logs → m.site ≡ behind s (shapes_of us) → IsBoundRun m (keeps_size opening.blocks) (4096 * s.pages) s.ops opening
 over-stored law m s t us logs opening k n stored e room found made h is site =
     let at : m.site.device ≡ target m.site.faults = ap (λ (x : Site). x.device) site ∙ ap (λ (x : Site). target x.faults) (sym site) in
-    let long : AreLong m t.ty s.block (map info_of (shapes_of us)) opening.blocks = λ dev lba on.
-    ap (λ (x : Site). length (get_or opening.blocks (x.cell dev lba) [])) site ∙ ap (λ (bs : List (List ℕ)). length (get_or bs (cell_in (shapes_of us) dev lba) [])) e ∙ told-long us t.ty s.block dev lba stored on
-    ∙ ap (λ (x : PiType). stored_size x s.block) (sym is.ty) ∙ ap (stored_size m.ty) (sym is.size) in
+    let long = long-told m s t us logs opening stored e is site in
     record {
       bound = all-bound law m s t (map info_of (shapes_of us)) logs opening.blocks is at long k n made h;
       room = room;

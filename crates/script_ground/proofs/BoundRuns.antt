@@ -35,7 +35,7 @@ any-ok : (r : Result (List ℕ) Why) → IfOk r (λ stored. true ≡ true)
 any-ok (Ok stored) = refl
 any-ok (Err why) = tt
 
-has-tuples : (b : Bool) → (not b && true) ≡ false → b ≡ true
+pub has-tuples : (b : Bool) → (not b && true) ≡ false → b ≡ true
 has-tuples true h = refl
 has-tuples false h = sym h
 

@@ -10,3 +10,9 @@ pub mod BoundRuns
 pub mod Addresses
 pub mod AtUnits
 pub mod AtTarget
+pub mod OverUnits
+pub mod Rooms
+pub mod Calm
+pub mod Shown
+pub mod Landing
+pub mod TakesAny

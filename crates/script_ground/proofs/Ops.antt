@@ -31,7 +31,7 @@ use Rattle.script_text.specs.Ops.{both_fault, data_fault}
 use Rattle.script_text.specs.Segments.{is_inside}
 use Rattle.script_laws.specs.Keeping.{Each, IsOp as KeepsRules}
 use Rattle.script_ground.specs.Bound.{IsSettingOf}
-use Rattle.script_ground.specs.Seals.{IsSealed}
+use Rattle.stack_walks.specs.Seals.{IsSealed}
 use Rattle.script_ground.proofs.Bodies.{alone-of, both-of, if-none, inside-ok, unless-ok}
 use Rattle.script_ground.proofs.Places.{home-logged}
 use Rattle.script_ground.proofs.Segments.{cells-below, none-below, one-stands, pages-append, stands, touched-in-pages}

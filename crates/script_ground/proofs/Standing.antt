@@ -11,7 +11,7 @@ use Rattle.script_text.specs.declared.script.Script.{Script}
 use Rattle.script_text.specs.Bindings.{binding_fault, expect_fault, faults_fault, op_fault, ops_fault, or_else}
 use Rattle.script_laws.specs.Keeping.{IsOp as KeepsRules, Keeps}
 use Rattle.script_ground.specs.Bound.{IsSettingOf}
-use Rattle.script_ground.specs.Seals.{IsSealed}
+use Rattle.stack_walks.specs.Seals.{IsSealed}
 use Rattle.script_ground.proofs.Ops.{kind-of, logged-op, no-fault, placed-all, rules-at, seal-of}
 use Rattle.script_ground.proofs.Places.{one-each}
 use Rattle.script_ground.proofs.Shifts.{stored-apart}

@@ -15,14 +15,15 @@ ghost use Rattle.run_record.specs.ToldRun.{told};
 ghost use Rattle.run_moves.specs.BoundRun.{IsBoundRun, fates, rooms};
 ghost use Rattle.run_moves.specs.Suited.{keeps_size};
 ghost use Rattle.run_follows.specs.Finished.{FramesFit};
+ghost use Rattle.run_falls.specs.AtTheEnd.{AllTakeAny};
 ghost use Rattle.script_text.specs.declared.script.Script.{Script as AnyScript};
 ghost use Rattle.script_text.specs.Bindings.{binding_fault};
 ghost use Rattle.script_laws.specs.Keeping.{Keeps};
 ghost use Rattle.stack_walks.specs.Ground.{Ground};
 ghost use Rattle.stack_walks.specs.Spots.{op_in};
 ghost use Rattle.stack_walks.specs.Units.{AreAtUnits};
+ghost use Rattle.stack_walks.specs.Seals.{IsSealed};
 ghost use Rattle.script_ground.specs.Bound.{IsSettingOf};
-ghost use Rattle.script_ground.specs.Seals.{IsSealed};
 ghost use Rattle.script_ground.specs.Units.{AreStored, all_blocks};
 
 use run_moves::a_target_keeps_sizes;
@@ -72,3 +73,12 @@ pub fn a_bound_script_is_bound_at_its_target()
 {
     a_target_keeps_sizes();
 }
+
+/// There whatever has the size of a stored block is fine where a block of the script is stored, so also what a store call
+/// leaves that failed.
+pub fn a_bound_script_takes_any_block_at_its_target()
+    ensures { (m : Setting) (s : AnyScript) (t : Table) (units : List AnyUnit) (us : List Stored) (logs : ℕ) (opening : State) → length s.lines ≡ length s.faults + length s.ops
+        → MadeFor t (map info_of units) s.block → binding_fault s t (map info_of units) ≡ None → IsSettingOf m s t (map info_of units) logs
+        → m.site ≡ record { faults = s.faults; device = target s.faults; cell = cell_in units } → shapes_of us ≡ units → AreStored us → opening.blocks ≡ blocks_told us
+        → AllTakeAny m (keeps_size opening.blocks) 1 s.ops }
+{}

@@ -9,5 +9,6 @@ mod laws;
 pub use laws::{
     a_bound_script_is_bound_at_its_target, a_bound_script_is_bound_over_its_record,
     a_bound_script_lies_at_its_units, a_bound_script_seals_whole_blocks,
-    a_bound_script_stands_on_ground, a_rig_has_a_cell_for_each_address,
+    a_bound_script_stands_on_ground, a_bound_script_takes_any_block_at_its_target,
+    a_rig_has_a_cell_for_each_address,
 };
