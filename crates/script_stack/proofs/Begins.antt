@@ -9,7 +9,8 @@ use Rattle.bio_core.specs.Bios.{block_size}
 use Rattle.dix_adapter.specs.Groups.{mode_of}
 use Rattle.dix_adapter.specs.Ways.{blocks_told, cell_in, shapes_of, site_of}
 use Rattle.fault_schedule.specs.declared.fault.FaultLine.{FaultLine}
-use Rattle.rig_api.specs.Telling.{Standing, no_spec}
+use Rattle.rig_api.specs.Telling.{Standing, no_spec, specs_of}
+use Rattle.target_answer.specs.Target.{Stored}
 use Rattle.stack_walks.specs.Units.{AreAtUnits}
 use Rattle.volume_table.specs.Faults.{device}
 use Rattle.volume_table.specs.Places.{place_in}
@@ -18,7 +19,6 @@ use Rattle.target_answer.specs.declared.units.UnitSpec.{UnitSpec}
 use Rattle.rig_discovery.specs.Discovery.{info_of}
 use Rattle.stack_ops.specs.declared.op.Op.{Op}
 use Rattle.stack_ops.specs.declared.reply.Reply.TheVariants.{Silent}
-use Rattle.stack_ops.specs.declared.op.Op.TheVariants.{Fetch, FetchPi, Fill, Overwrite, Put, Seal, Show, Wait, Write, WritePi}
 use Rattle.volume_table.specs.declared.device.DeviceInfo.{DeviceInfo}
 use Rattle.volume_table.specs.Tables.{MadeFor, Table}
 use Rattle.block_path.specs.Routes.{host_type, target}
@@ -28,8 +28,8 @@ use Rattle.script_text.specs.declared.script.Script.{Script}
 use Rattle.script_text.specs.Bindings.{binding_fault}
 use Rattle.script_laws.specs.Keeping.{Keeps}
 use Rattle.stack_walks.specs.Ground.{Ground}
+use Rattle.stack_walks.specs.Seals.{IsSealed}
 use Rattle.script_ground.specs.Bound.{IsSettingOf}
-use Rattle.script_ground.specs.Seals.{IsSealed as IsSealedHere}
 use Rattle.script_ground.specs.Units.{all_blocks}
 use Rattle.script_ground.proofs.Standing.{seals-whole, stands-on-ground}
 use Rattle.script_ground.proofs.Units.{over-units}
@@ -37,8 +37,8 @@ use Rattle.stack_core.specs.declared.stack.Stack.{Stack}
 use Rattle.stack_core.specs.Requests.{pages_from, requests_from}
 use Rattle.stack_core.specs.Sheets.{io_at, op_in}
 use Rattle.stack_core.specs.Shifts.{shifted_by}
-use Rattle.stack_core.specs.Walking.{IsOver, IsSealed, NoneFailed, Opens, SizesFit, WalksAtFirst, WalksToldAtFirst}
-use Rattle.script_stack.specs.Followed.{BeginsTold, BeginsWalks, SizesAre, begun_of, none_fails, setting_of, unit_of}
+use Rattle.stack_core.specs.Walking.{IsOver, NoOverwrites, NoneFailed, Opens, SizesFit, WalksAtFirst, WalksFallingAtFirst, WalksToldAtFirst}
+use Rattle.script_stack.specs.Followed.{BeginsFalling, BeginsTold, BeginsWalks, SizesAre, begun_of, none_fails, setting_of, unit_of}
 use Rattle.script_stack.proofs.Runs.{own-infos}
 use Rattle.script_stack.proofs.Ready.{sizes-of}
 
@@ -81,18 +81,6 @@ pub record IsStackOf (s : Script) (t : Table) (r : Stack) : Type 0 where
   pub host : r.host ≡ host_type t.ty
   pub faults : r.adapter.tamper ≡ s.faults
 
-same_seal : (m : Setting) (op : Op) → IsSealedHere m op → IsSealed m op
-same_seal m (Fill seg byte) h = tt
-same_seal m (Put page off bytes) h = tt
-same_seal m (Show seg) h = tt
-same_seal m (Seal n body tuples app rtag) h = h
-same_seal m (Write v n body app) h = tt
-same_seal m (Fetch v n body) h = tt
-same_seal m (WritePi v n body tuples) h = tt
-same_seal m (FetchPi v n body tuples) h = tt
-same_seal m (Overwrite dev lba change) h = tt
-same_seal m Wait h = tt
-
 module _ (s : Script) (t : Table) (units : List UnitSpec) (fails : ℕ → Bool) (blocks : List (List ℕ)) (keeps : Keeps s) (lines : length s.lines ≡ length s.faults + length s.ops) (few : length (map info_of units) ≤ 8) (made : MadeFor t (map info_of units) s.block) (bound : binding_fault s t (map info_of units) ≡ None) where
   abbrev m : Setting
   m = setting_of s t units fails
@@ -119,7 +107,7 @@ module _ (s : Script) (t : Table) (units : List UnitSpec) (fails : ℕ → Bool)
         size = subst (λ ios. (i : ℕ) → 0 < (io_at ios i).count → block_size (io_at ios i) ≡ s.block) (sym h.ios) sizes;
         entries = ap (λ (x : Table). x.entries) (sym h.table);
         faults = sym h.faults;
-        seals = subst (λ ops. (i : ℕ) → i < length ops → IsSealed m (op_in ops i)) (sym h.ops) (λ i l. same_seal m (op_in s.ops i) (seals-whole m s keeps refl i l));
+        seals = subst (λ ops. (i : ℕ) → i < length ops → IsSealed m (op_in ops i)) (sym h.ops) (seals-whole m s keeps refl);
       }
 
 -- ---- over any rig, and over one that tells its blocks
@@ -144,23 +132,44 @@ info-size [] d l = absurd (omega arith)
 info-size (u ∷ units) zero l = refl
 info-size (u ∷ units) (suc d) l = info-size units d (omega arith)
 
-pub begins-told : (s : Script) (t : Table) (devices : List DeviceInfo) (r : Stack) → Keeps s → length s.lines ≡ length s.faults + length s.ops → length devices ≤ 8 → MadeFor t devices s.block → binding_fault s t devices ≡ None → IsStackOf s t r →
-    IsBlank (pages_from s.mode.dix s.pages s.ops) r.pool → WalksToldAtFirst r → BeginsTold s t devices r
-begins-told s t devices r keeps lines few made bound is blank first us st log found shapes =
-    let units = shapes_of us in
-    let m = setting_of s t units none_fails in
-    let e : devices ≡ map info_of units = found ∙ ap (map info_of) (sym shapes) in
-    let few' = subst (λ (ds : List DeviceInfo). length ds ≤ 8) e few in
-    let made' = subst (λ ds. MadeFor t ds s.block) e made in
-    let bound' = subst (λ ds. binding_fault s t ds ≡ None) e bound in
-    let own = own_setting s t units none_fails (blocks_told us) keeps lines few' made' bound' in
-    let sizes : SizesAre (map info_of units) st = λ d l. ap (λ us. (get_or us d no_spec).size) (sym shapes) ∙ info-size units d l in
-    first m (4096 * s.pages) (begun_of s units (blocks_told us)) us s.faults st log (opens s units (blocks_told us) r blank)
-    (is_over s t units none_fails (blocks_told us) keeps lines few' made' bound' r is)
-    (λ v l. (let on = made'.inside v l in sizes (place_in t.entries v).0 on.known ∙ on.size_is))
-    (ap (λ (fs : List FaultLine). record { faults = fs; device = target fs; cell = cell_in units }) (sym is.faults) ∙ ap (site_of r.adapter) shapes)
-    (subst (λ us. AreAtUnits m us r.sheet.ops) shapes (subst (AreAtUnits m units) (sym is.ops) (lies-at-units m s t units (all_blocks units) own lines made' bound')))
-    (sym is.faults) refl
+-- what a stack of a script begins with over a rig that tells its blocks
+record BeginsAt (s : Script) (t : Table) (us : List Stored) (r : Stack) (st : Standing) : Type 0 where
+  opens_so : Opens (begun_of s (shapes_of us) (blocks_told us)) r
+  over : IsOver (setting_of s t (shapes_of us) none_fails) (4096 * s.pages) (begun_of s (shapes_of us) (blocks_told us)) r.sheet r.adapter r.host
+  sizes : SizesFit (setting_of s t (shapes_of us) none_fails) st
+  site : (setting_of s t (shapes_of us) none_fails).site ≡ site_of r.adapter (specs_of st)
+  units : AreAtUnits (setting_of s t (shapes_of us) none_fails) (specs_of st) r.sheet.ops
+  armed : s.faults ≡ r.adapter.tamper
+
+module _ (s : Script) (t : Table) (devices : List DeviceInfo) (r : Stack) (keeps : Keeps s) (lines : length s.lines ≡ length s.faults + length s.ops) (few : length devices ≤ 8) (made : MadeFor t devices s.block) (bound : binding_fault s t devices ≡ None) (is : IsStackOf s t r) (blank : IsBlank (pages_from s.mode.dix s.pages s.ops) r.pool) where
+  begins-at : (us : List Stored) (st : Standing) → devices ≡ map info_of (specs_of st) → shapes_of us ≡ specs_of st → BeginsAt s t us r st
+  begins-at us st found shapes =
+      let units = shapes_of us in
+      let m = setting_of s t units none_fails in
+      let e : devices ≡ map info_of units = found ∙ ap (map info_of) (sym shapes) in
+      let few' = subst (λ (ds : List DeviceInfo). length ds ≤ 8) e few in
+      let made' = subst (λ ds. MadeFor t ds s.block) e made in
+      let bound' = subst (λ ds. binding_fault s t ds ≡ None) e bound in
+      let own = own_setting s t units none_fails (blocks_told us) keeps lines few' made' bound' in
+      let sizes : SizesAre (map info_of units) st = λ d l. ap (λ us. (get_or us d no_spec).size) (sym shapes) ∙ info-size units d l in
+      record {
+        opens_so = opens s units (blocks_told us) r blank;
+        over = is_over s t units none_fails (blocks_told us) keeps lines few' made' bound' r is;
+        sizes = λ v l. (let on = made'.inside v l in sizes (place_in t.entries v).0 on.known ∙ on.size_is);
+        site = ap (λ (fs : List FaultLine). record { faults = fs; device = target fs; cell = cell_in units }) (sym is.faults) ∙ ap (site_of r.adapter) shapes;
+        units = subst (λ us. AreAtUnits m us r.sheet.ops) shapes (subst (AreAtUnits m units) (sym is.ops) (lies-at-units m s t units (all_blocks units) own lines made' bound'));
+        armed = sym is.faults;
+      }
+
+  pub begins-told : WalksToldAtFirst r → BeginsTold s t devices r
+  begins-told first us st log found shapes =
+      let b = begins-at us st found shapes in
+      first (setting_of s t (shapes_of us) none_fails) (4096 * s.pages) (begun_of s (shapes_of us) (blocks_told us)) us s.faults st log b.opens_so b.over b.sizes b.site b.units b.armed refl
+
+  pub begins-falling : WalksFallingAtFirst r → BeginsFalling s t devices r
+  begins-falling first us st log found shapes none =
+      let b = begins-at us st found shapes in
+      first (setting_of s t (shapes_of us) none_fails) (4096 * s.pages) (begun_of s (shapes_of us) (blocks_told us)) us s.faults st log b.opens_so b.over b.sizes b.site b.units b.armed refl (subst NoOverwrites (sym is.ops) none)
 
 -- no op has replied yet
 pub none-failed : (n : ℕ) → NoneFailed (replicate n Silent)

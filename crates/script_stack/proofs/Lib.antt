@@ -8,3 +8,7 @@ pub mod Going
 pub mod Begins
 pub mod Runs
 pub mod Following
+pub mod SendsBy
+pub mod Ended
+pub mod Fallen
+pub mod Counted

@@ -25,6 +25,10 @@ hides s units blocks =
     let g = pages-grow s.mode.dix s.pages s.ops in
     ap (λ bytes. record (opening_of s units blocks) { bytes = bytes }) (take-zeros (4096 * s.pages) (4096 * pages_from s.mode.dix s.pages s.ops) (omega arith))
 
+-- it has no others
+pub hides-all : (s : Script) (units : List UnitSpec) (blocks : List (List ℕ)) → hidden (4096 * s.pages) (opening_of s units blocks) ≡ opening_of s units blocks
+hides-all s units blocks = ap (λ bytes. record (opening_of s units blocks) { bytes = bytes }) (take-zeros (4096 * s.pages) (4096 * s.pages) (omega arith))
+
 -- the private pages of all ops
 rooms-are : (m : Setting) (dix : Bool) (page : ℕ) (ops : List Op) → m.mode.dix ≡ dix → 4096 * pages_from dix page ops ≡ 4096 * page + rooms m ops
 rooms-are m dix page [] d = omega arith

@@ -21,13 +21,17 @@ use Rattle.whole_run.specs.ScriptWalk.{script_replies, script_walk}
 use Rattle.whole_run.specs.Settings.{Setting}
 use Rattle.run_record.specs.BackedRun.{Backed}
 use Rattle.run_record.specs.CarriedRun.{Carried}
+use Rattle.run_record.specs.Records.{recorded}
 use Rattle.run_moves.specs.BoundRun.{fates}
+use Rattle.run_falls.specs.AtTheEnd.{EndsAsFalling}
 use Rattle.script_ground.specs.Units.{all_blocks}
+use Rattle.stack_core.specs.Mediums.{RoseBy, medium_lines}
 use Rattle.stack_core.specs.Requests.{pages_from}
 use Rattle.stack_core.specs.declared.stack.Stack.{Stack}
-use Rattle.stack_core.specs.Walking.{Walks, WalksTold, is_medium}
+use Rattle.stack_core.specs.Walking.{NoOverwrites, Walks, WalksFalling, WalksTold, is_medium}
 use Rattle.script_stack.specs.Causes.{table_of}
 use Rattle.script_stack.specs.Going.{Outside}
+use Rattle.script_stack.specs.Sends.{SendsFor}
 
 -- which overwrites failed, by the replies; ops are numbered from 1
 abbrev pub failed_in : List Reply → ℕ → Bool
@@ -72,6 +76,12 @@ pub record HasWalked (s : Script) (t : Table) (us us' : List Stored) (pool : Lis
   pub blocks : blocks_told us' ≡ (script_walk (setting_of s t (shapes_of us) none_fails) s.ops (opening_of s (shapes_of us) (blocks_told us))).blocks
   pub carried : Carried (setting_of s t (shapes_of us) none_fails) s.ops (opening_of s (shapes_of us) (blocks_told us)) log
 
+-- So they are where store calls failed: they are those of the walk in which just these calls fail and leave what they may, and the log holds what that walk carries.
+pub record HasFallen (s : Script) (t : Table) (us us' : List Stored) (pool : List (List ℕ)) (log : List Entry) (replies : List Reply) : Type 0 where
+  pub shapes : shapes_of us' ≡ shapes_of us
+  pub ends : EndsAsFalling (setting_of s t (shapes_of us) none_fails) (4096 * s.pages) s.ops (opening_of s (shapes_of us) (blocks_told us)) (take (4096 * s.pages) (flat pool)) (blocks_told us') replies
+      (recorded (setting_of s t (shapes_of us) none_fails) log)
+
 -- ---- before the first step
 
 -- the devices have blocks of the sizes that the rig's head tells
@@ -88,9 +98,14 @@ abbrev pub BeginsTold : Script → Table → List DeviceInfo → Stack → Type 
 BeginsTold s t devices r = (us : List Stored) (st : Standing) (log : List Entry) → devices ≡ map info_of (specs_of st) → shapes_of us ≡ specs_of st
     → WalksTold (setting_of s t (shapes_of us) none_fails) (4096 * s.pages) (begun_of s (shapes_of us) (blocks_told us)) (length log) r (Some us) s.faults st log
 
+-- So it does where store calls may fail, in a script without overwrites.
+abbrev pub BeginsFalling : Script → Table → List DeviceInfo → Stack → Type 0
+BeginsFalling s t devices r = (us : List Stored) (st : Standing) (log : List Entry) → devices ≡ map info_of (specs_of st) → shapes_of us ≡ specs_of st → NoOverwrites s.ops
+    → WalksFalling (setting_of s t (shapes_of us) none_fails) (4096 * s.pages) (begun_of s (shapes_of us) (blocks_told us)) (length log) r (Some us) s.faults st log
+
 -- ---- at the end
 
--- A script was run over a rig. Its devices were asked first; the records from then on back the replies. Where the rig tells its blocks, and its count of faults didn't rise since its devices had answered, the script's ops were done one after another at the target.
+-- A script was run over a rig. Its devices were asked first; the records from then on back the replies, and are those that its steps send; lines that name the medium are at most as many as the count of faults rose since then. Where the rig tells its blocks, and its count of faults didn't rise since its devices had answered, the script's ops were done one after another at the target; and whether or not it rose, so they were in a script without overwrites, but for what the store calls that failed left.
 pub record Followed (s : Script) (before after : Outside) (r : Stack) : Type 0 where
   pub devices : List DeviceInfo
   pub asked : Outside
@@ -101,4 +116,7 @@ pub record Followed (s : Script) (before after : Outside) (r : Stack) : Type 0 w
   pub more : List Entry
   pub records : after.log ≡ asked.log ++ more
   pub backed : IsBackedBy s (table_of s devices) devices more r.replies.items
+  pub sends : SendsFor s (table_of s devices) more r.replies.items
+  pub medium : RoseBy (medium_lines r.replies.items) asked.faults after.faults
   pub told : (us : List Stored) → before.units ≡ Some us → Calm asked.faults after.faults → (left : List Stored) × ((after.units ≡ Some left) × HasWalked s (table_of s devices) us left r.pool more r.replies.items)
+  pub fallen : (us : List Stored) → before.units ≡ Some us → NoOverwrites s.ops → (left : List Stored) × ((after.units ≡ Some left) × HasFallen s (table_of s devices) us left r.pool more r.replies.items)

@@ -8,7 +8,7 @@ use Rattle.rig_api.specs.Telling.{Standing}
 use Rattle.block_path.specs.Acts.{State}
 use Rattle.whole_run.specs.Settings.{Setting}
 use Rattle.stack_core.specs.declared.stack.Stack.{Stack}
-use Rattle.stack_core.specs.Walking.{NoneFailed, Walks, WalksTold}
+use Rattle.stack_core.specs.Walking.{NoneFailed, Walks, WalksFalling, WalksTold}
 
 -- what a rig shows of itself to a stack's walk
 pub record Outside : Type 0 where
@@ -18,10 +18,11 @@ pub record Outside : Type 0 where
   pub log : List Entry
   pub faults : ℕ
 
--- A stack that follows the walk by what stands on record still does. So does one that follows it at the target while the count of faults doesn't rise; and then no overwrite fails.
+-- A stack that follows the walk by what stands on record still does. So does one that follows it at the target while the count of faults doesn't rise; and then no overwrite fails. Whether or not it rises, so does one that follows it where store calls may fail.
 pub record Went (old : Stack) (before : Outside) (new : Stack) (after : Outside) : Type 0 where
   pub walks : (m : Setting) (n : ℕ) (opening : State) (first : ℕ) → Walks m n opening first old before.standing before.log → Walks m n opening first new after.standing after.log
   pub told : (m : Setting) (n : ℕ) (opening : State) (first : ℕ) → WalksTold m n opening first old before.units before.armed before.standing before.log → Calm before.faults after.faults
       → WalksTold m n opening first new after.units after.armed after.standing after.log
+  pub falling : (m : Setting) (n : ℕ) (opening : State) (first : ℕ) → WalksFalling m n opening first old before.units before.armed before.standing before.log → WalksFalling m n opening first new after.units after.armed after.standing after.log
   pub silent : Calm before.faults after.faults → NoneFailed old.replies.items → NoneFailed new.replies.items
   pub faults : before.faults ≤ after.faults

@@ -1,12 +1,14 @@
 //! The steps of a stack, to the end.
 
-ghost use Rattle.std.specs.Prelude.{◌≡◌, ◌<◌, ◌≤◌, ◌+◌, ◌*◌, ℕ, [], is_some, length};
-ghost use Rattle.stack_view.specs.Runs.{most_steps};
+ghost use Rattle.std.specs.Prelude.{◌≡◌, ◌<◌, ◌≤◌, ◌+◌, ◌*◌, ℕ, List, [], is_some, length};
+ghost use Rattle.stack_view.specs.Runs.{Entry, most_steps};
 ghost use Rattle.stack_view.specs.Steps.{enabled};
 ghost use Rattle.stack_view.specs.View.{View};
 ghost use Rattle.stack_steps.specs.Does.{Holds};
+ghost use Rattle.stack_core.specs.Mediums.{HasCounted};
 ghost use Rattle.script_stack.specs.Going.{Went};
-ghost use Rattle.stack_core.specs.Stacks.{GoesOn, HasSpare, IsStack, Reaches, Stays, plan_in};
+ghost use Rattle.script_stack.specs.Sends.{SendsBy, entries_of};
+ghost use Rattle.stack_core.specs.Stacks.{GoesOn, HasSpare, HasStep, IsStack, Reaches, Stays, plan_in};
 
 use rig_api::Rig;
 use stack_core::Stack;
@@ -25,6 +27,9 @@ fn run_schedule<R: Rig>(stack: &mut Stack, schedule: &[(u32, u32)], rig: &mut R)
     ensures spare { HasSpare stack.new (R.standing rig.new) (R.room rig.new) }
     ensures went { Went stack.old (record { units = R.units rig.old; armed = R.armed rig.old; standing = R.standing rig.old; log = R.log rig.old; faults = R.faults rig.old })
         stack.new (record { units = R.units rig.new; armed = R.armed rig.new; standing = R.standing rig.new; log = R.log rig.new; faults = R.faults rig.new }) }
+    ensures sends { stack.old.machine.steps ≡ 0 → SendsBy (entries_of schedule.now) stack.old stack.new (R.log rig.old) (R.log rig.new) }
+    ensures long { stack.old.machine.steps ≡ 0 → HasStep (plan_in stack.new.sheet) stack.new.machine → length schedule.now ≤ stack.new.machine.steps }
+    ensures counts { (first : ℕ) → HasCounted first stack.old (R.faults rig.old) → HasCounted first stack.new (R.faults rig.new) }
 {
     for (word, cut) in schedule {
         if stack.finished() {
@@ -48,6 +53,8 @@ fn run_rest<R: Rig>(stack: &mut Stack, rig: &mut R)
         stack.new (record { units = R.units rig.new; armed = R.armed rig.new; standing = R.standing rig.new; log = R.log rig.new; faults = R.faults rig.new }) }
     ensures goes { GoesOn (R.standing rig.old) (R.standing rig.new) (R.log rig.old) (R.log rig.new) (R.faults rig.old) (R.faults rig.new) }
     ensures armed { R.armed rig.new ≡ R.armed rig.old }
+    ensures sends { (es : List Entry) → (HasStep (plan_in stack.old.sheet) stack.old.machine → length es ≤ stack.old.machine.steps) → SendsBy es stack.old stack.new (R.log rig.old) (R.log rig.new) }
+    ensures counts { (first : ℕ) → HasCounted first stack.old (R.faults rig.old) → HasCounted first stack.new (R.faults rig.new) }
 {
     while !stack.finished() {
         stack.step(0, 0, rig);
@@ -69,6 +76,8 @@ pub fn run_all<R: Rig>(stack: &mut Stack, schedule: &[(u32, u32)], rig: &mut R)
         stack.new (record { units = R.units rig.new; armed = R.armed rig.new; standing = R.standing rig.new; log = R.log rig.new; faults = R.faults rig.new }) }
     ensures goes { GoesOn (R.standing rig.old) (R.standing rig.new) (R.log rig.old) (R.log rig.new) (R.faults rig.old) (R.faults rig.new) }
     ensures armed { R.armed rig.new ≡ R.armed rig.old }
+    ensures sends { stack.old.machine.steps ≡ 0 → SendsBy (entries_of schedule.now) stack.old stack.new (R.log rig.old) (R.log rig.new) }
+    ensures counts { (first : ℕ) → HasCounted first stack.old (R.faults rig.old) → HasCounted first stack.new (R.faults rig.new) }
 {
     run_schedule(stack, schedule, rig);
     run_rest(stack, rig);

@@ -16,7 +16,9 @@ ghost use Rattle.stack_core.specs.Stacks.{HasSpare, IsStack, Reaches, plan_in};
 ghost use Rattle.script_text.specs.Bindings.{binding_fault};
 ghost use Rattle.script_laws.specs.Keeping.{Keeps};
 ghost use Rattle.stack_core.specs.Walking.{NoneFailed};
-ghost use Rattle.script_stack.specs.Followed.{BeginsTold, BeginsWalks};
+ghost use Rattle.script_stack.specs.Followed.{BeginsTold, BeginsWalks, BeginsFalling};
+ghost use Rattle.stack_core.specs.Mediums.{HasCounted};
+ghost use Rattle.script_stack.specs.Sends.{IsPlanFor};
 
 use script_lines::WordList;
 use script_text::Script;
@@ -57,8 +59,11 @@ pub fn start_script(
     ensures faults { IfOk result (λ r. r.stack.adapter.tamper ≡ script.faults) }
     ensures pool { IfOk result (λ r. IsBlank (pages_from script.mode.dix script.pages script.ops) r.stack.pool) }
     ensures schedule { IfOk result (λ r. r.schedule ≡ script.schedule) }
+    ensures counted { IfOk result (λ r. (first : ℕ) → HasCounted first r.stack first) }
+    ensures plan { IfOk result (λ r. IsPlanFor script table (plan_in r.stack.sheet)) }
     ensures walks { IfOk result (λ r. BeginsWalks script table _devices.now r.stack) }
     ensures told { IfOk result (λ r. BeginsTold script table _devices.now r.stack) }
+    ensures falling { IfOk result (λ r. BeginsFalling script table _devices.now r.stack) }
     ensures silent { IfOk result (λ r. NoneFailed r.stack.replies.items) }
     ensures reaches { IfOk result (λ r. (told : Bool) (st : Standing) → st.devices ≡ length _devices.now → (told ≡ true → _devices.now ≡ map info_of (specs_of st)) → Reaches r.stack told st) }
     ensures spare { IfOk result (λ r. (st : Standing) (room : Room) → HasRoom (greatest_size st) (blocks_of_requests (plan_in r.stack.sheet).requests) (blocks_of_requests (plan_in r.stack.sheet).requests) room → HasSpare r.stack st room) }

@@ -1,6 +1,6 @@
 //! A script over an opened rig, to its end.
 
-ghost use Rattle.std.specs.Prelude.{◌≡◌, ◌+◌, ◌≤◌, [], IfErr, IfOk, None, OnOk, is_some, length, map, true};
+ghost use Rattle.std.specs.Prelude.{ℕ, ◌≡◌, ◌+◌, ◌≤◌, [], IfErr, IfOk, None, OnOk, is_some, length, map, true};
 ghost use Rattle.rig_api.specs.Telling.{specs_of};
 ghost use Rattle.rig_discovery.specs.Discovery.{info_of};
 ghost use Rattle.volume_table.specs.Tables.{MadeFor};
@@ -15,16 +15,20 @@ ghost use Rattle.script_text.specs.Bindings.{binding_fault};
 ghost use Rattle.script_laws.specs.Keeping.{Keeps};
 ghost use Rattle.stack_core.specs.Walking.{NoneFailed};
 ghost use Rattle.script_stack.specs.Causes.{CauseUnrun};
-ghost use Rattle.script_stack.specs.Followed.{BeginsTold, BeginsWalks, Followed};
+ghost use Rattle.script_stack.specs.Followed.{BeginsTold, BeginsWalks, Followed, BeginsFalling};
+ghost use Rattle.stack_core.specs.Mediums.{HasCounted};
+ghost use Rattle.script_stack.specs.Sends.{IsPlanFor};
 
 use crate::bound::{bound_volume, found_devices};
-use crate::laws::{a_script_run_is_backed, a_told_script_run_has_walked};
+use crate::laws::{
+    a_script_run_is_backed, a_told_script_run_has_fallen, a_told_script_run_has_walked,
+};
 use crate::run::run_all;
 use crate::start::{Run, start_script};
 use crate::unready::Unready;
 use rig_api::Rig;
 use script_text::Script;
-use stack_core::Stack;
+use stack_core::{Stack, a_finished_stack_has_sent, a_finished_stack_names_the_medium_seldom};
 use std::alloc::{AllocError, Global};
 use volume_table::{DeviceInfo, VolumeTable};
 
@@ -54,8 +58,11 @@ pub fn ready_script<R: Rig>(
     ensures faults { IfOk result (λ r. r.stack.adapter.tamper ≡ script.faults) }
     ensures pool { IfOk result (λ r. IsBlank (pages_from script.mode.dix script.pages script.ops) r.stack.pool) }
     ensures schedule { IfOk result (λ r. r.schedule ≡ script.schedule) }
+    ensures counted { IfOk result (λ r. (first : ℕ) → HasCounted first r.stack first) }
+    ensures plan { IfOk result (λ r. IsPlanFor script table (plan_in r.stack.sheet)) }
     ensures walks { IfOk result (λ r. BeginsWalks script table devices.now r.stack) }
     ensures told { IfOk result (λ r. BeginsTold script table devices.now r.stack) }
+    ensures falling { IfOk result (λ r. BeginsFalling script table devices.now r.stack) }
     ensures silent { IfOk result (λ r. NoneFailed r.stack.replies.items) }
     ensures reaches { IfOk result (λ r. Reaches r.stack (is_some (R.image rig.new)) (R.standing rig.new)) }
     ensures spare { IfOk result (λ r. HasSpare r.stack (R.standing rig.new) (R.room rig.new)) }
@@ -106,6 +113,9 @@ pub fn run_script<R: Rig>(alloc: Global, script: Script, rig: &mut R) -> Result<
             run_all(&mut stack, schedule.as_slice(), rig);
             a_script_run_is_backed();
             a_told_script_run_has_walked();
+            a_finished_stack_has_sent();
+            a_told_script_run_has_fallen();
+            a_finished_stack_names_the_medium_seldom();
             Ok(stack)
         }
         Err(_) => Err(Unready::Memory),

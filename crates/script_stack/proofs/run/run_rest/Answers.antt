@@ -1,7 +1,9 @@
-use Rattle.std.proofs.Common.{◌≡◌, true, false, ap, sym, ◌∙◌, arith}
+use Rattle.std.proofs.Common.{◌≡◌, true, false, refl, ap, sym, ◌∙◌, arith}
 use Rattle.stack_view.specs.Runs.{most_steps}
 use Rattle.stack_core.specs.Stacks.{plan_in}
-use Rattle.script_stack.proofs.Going.{goes_then, stays_then, went_on}
+use Rattle.stack_core.proofs.Goes.{goes-nowhere}
+use Rattle.script_stack.proofs.Going.{goes_then, stays_then, went_nowhere, went_on}
+use Rattle.script_stack.proofs.SendsBy.{entry_behind, sends_nowhere, sends_once, sends_then}
 use Rattle.script_stack.proofs.Steps.{has-step, one-more}
 use Rattle.script_stack.proofs.run.run_rest.Goals as goal
 
@@ -15,6 +17,21 @@ loop-stack-smaller g c =
     let e = ap (λ z. most_steps (plan_in z)) c.step.ensures.stays.sheet in
     omega arith
 
+pub loop-stack-init : goal.loop-stack-init
+loop-stack-init g c = record {
+  is = c.requires.stack;
+  stays = record { sheet = refl; adapter = refl; host = refl };
+  tells = refl;
+  reaches = c.requires.rig;
+  spare = c.requires.spare;
+  went = went_nowhere _ _;
+  goes = goes-nowhere _ _ _;
+  armed = refl;
+  sends = λ es h. sends_nowhere es _ _;
+  counts = λ first h. h;
+  long = λ es h. h;
+}
+
 pub loop-stack-preserved : goal.loop-stack-preserved
 loop-stack-preserved g c = record {
   is = c.step.ensures.stack;
@@ -22,7 +39,19 @@ loop-stack-preserved g c = record {
   tells = c.step.ensures.tells ∙ c.loop-stack.invariant.tells;
   reaches = c.step.ensures.rig;
   spare = c.step.ensures.spare;
-  went = went_on _ _ _ _ _ _ c.loop-stack.invariant.went (record { walks = c.step.ensures.walks; told = c.step.ensures.told; silent = c.step.ensures.silent; faults = c.step.ensures.goes.faults });
+  went = went_on _ _ _ _ _ _ c.loop-stack.invariant.went (record { walks = c.step.ensures.walks; told = c.step.ensures.told; falling = c.step.ensures.falling; silent = c.step.ensures.silent; faults = c.step.ensures.goes.faults });
   goes = goes_then _ _ _ _ _ _ _ _ _ c.loop-stack.invariant.goes c.step.ensures.goes;
   armed = c.step.ensures.armed ∙ c.loop-stack.invariant.armed;
+  sends = λ es h.
+      (let s = c.loop-stack.stack in
+      let some = has-step (plan_in s.sheet) s.machine (λ v x e. (let t : true ≡ false = sym ((c.finished.ensures v x).1 e) ∙ c.loop-stack-test.true in absurd cc)) in
+      sends_then es _ _ _ _ _ _ (c.loop-stack.invariant.sends es h) (sends_once es 0 0 _ _ _ _ (entry_behind es s.machine.steps (c.loop-stack.invariant.long es h some)) c.step.ensures.sends));
+  counts = λ first h. c.step.ensures.counts first (c.loop-stack.invariant.counts first h);
+  long = λ es h next.
+      (let s = c.loop-stack.stack in
+      let some = has-step (plan_in s.sheet) s.machine (λ v x e. (let t : true ≡ false = sym ((c.finished.ensures v x).1 e) ∙ c.loop-stack-test.true in absurd cc)) in
+      let k = one-more (plan_in s.sheet) s.machine c.step.new.self.machine 0 0 c.loop-stack.invariant.is.works some c.step.ensures.step in
+      let a = k.one in
+      let b = c.loop-stack.invariant.long es h some in
+      omega arith);
 }

@@ -1,8 +1,10 @@
-use Rattle.std.proofs.Common.{◌≡◌, ◌-◌}
+use Rattle.std.proofs.Common.{◌≡◌, ℕ, ◌-◌, ◌≤◌, List, length}
 use Rattle.std.specs.Prelude.{is_some}
-use Rattle.stack_view.specs.Runs.{most_steps}
+use Rattle.stack_view.specs.Runs.{Entry, most_steps}
+use Rattle.stack_core.specs.Mediums.{HasCounted}
 use Rattle.script_stack.specs.Going.{Went}
-use Rattle.stack_core.specs.Stacks.{GoesOn, HasSpare, IsStack, Reaches, Stays, plan_in}
+use Rattle.script_stack.specs.Sends.{SendsBy}
+use Rattle.stack_core.specs.Stacks.{GoesOn, HasSpare, HasStep, IsStack, Reaches, Stays, plan_in}
 use Rattle.script_stack.proofs.run.run_rest.Given as goal
 
 abbrev pub invariant-loop-stack : goal.invariant-loop-stack
@@ -16,6 +18,9 @@ invariant-loop-stack g l = record {
       l.stack (record { units = g.R.Rig.units l.rig; armed = g.R.Rig.armed l.rig; standing = g.R.Rig.standing l.rig; log = g.R.Rig.log l.rig; faults = g.R.Rig.faults l.rig });
   goes : GoesOn (g.R.Rig.standing l.fn.rig) (g.R.Rig.standing l.rig) (g.R.Rig.log l.fn.rig) (g.R.Rig.log l.rig) (g.R.Rig.faults l.fn.rig) (g.R.Rig.faults l.rig);
   armed : g.R.Rig.armed l.rig ≡ g.R.Rig.armed l.fn.rig;
+  sends : (es : List Entry) → (HasStep (plan_in l.fn.stack.sheet) l.fn.stack.machine → length es ≤ l.fn.stack.machine.steps) → SendsBy es l.fn.stack l.stack (g.R.Rig.log l.fn.rig) (g.R.Rig.log l.rig);
+  counts : (first : ℕ) → HasCounted first l.fn.stack (g.R.Rig.faults l.fn.rig) → HasCounted first l.stack (g.R.Rig.faults l.rig);
+  long : (es : List Entry) → (HasStep (plan_in l.fn.stack.sheet) l.fn.stack.machine → length es ≤ l.fn.stack.machine.steps) → HasStep (plan_in l.stack.sheet) l.stack.machine → length es ≤ l.stack.machine.steps;
 }
 
 abbrev pub decreases-loop-stack : goal.decreases-loop-stack

@@ -1,8 +1,10 @@
 use Rattle.std.proofs.Common.{[], length, replicate, subst, sym}
 use Rattle.stack_core.specs.Walking.{NoneFailed}
-use Rattle.script_stack.proofs.Begins.{begins-told, begins-walks, none-failed}
+use Rattle.script_stack.proofs.Begins.{begins-falling, begins-told, begins-walks, none-failed}
 use Rattle.script_stack.proofs.Reach.{reaches}
 use Rattle.script_stack.proofs.Ready.{can-start}
+use Rattle.script_stack.proofs.SendsBy.{plan_is}
+use Rattle.script_stack.proofs.Counted.{none_counted}
 use Rattle.script_stack.proofs.Steps.{first-spare}
 use Rattle.script_stack.proofs.start.start_script.Goals as goal
 
@@ -27,5 +29,17 @@ returns-clause-told c =
     (record { ops = c.in_ok-new.ensures.ops; ios = c.in_ok-new.ensures.ios; shifted = c.in_ok-new.ensures.shifted; table = c.in_ok-new.ensures.table; mode = c.in_ok-new.ensures.mode; ty = c.in_ok-new.ensures.ty; host = c.in_ok-new.ensures.host; faults = c.in_ok-new.ensures.faults })
     c.in_ok-new.ensures.pool c.in_ok-new.ensures.told
 
+pub returns-clause-falling : goal.returns-clause-falling
+returns-clause-falling c =
+    begins-falling c.args.script c.args.table c.args._devices.now c.in_ok-new.field-0 c.requires.keeps c.requires.lines c.requires.few c.requires.made c.requires.bound
+    (record { ops = c.in_ok-new.ensures.ops; ios = c.in_ok-new.ensures.ios; shifted = c.in_ok-new.ensures.shifted; table = c.in_ok-new.ensures.table; mode = c.in_ok-new.ensures.mode; ty = c.in_ok-new.ensures.ty; host = c.in_ok-new.ensures.host; faults = c.in_ok-new.ensures.faults })
+    c.in_ok-new.ensures.pool c.in_ok-new.ensures.falling
+
 pub returns-clause-silent : goal.returns-clause-silent
 returns-clause-silent c = subst NoneFailed (sym c.in_ok-new.ensures.replies) (none-failed (length c.args.script.ops))
+
+pub returns-clause-plan : goal.returns-clause-plan
+returns-clause-plan c = plan_is c.args.script c.args.table c.in_ok-new.field-0.sheet c.in_ok-new.ensures.ops c.in_ok-new.ensures.shifted c.in_ok-new.ensures.ios c.in_ok-new.ensures.table c.in_ok-new.ensures.limits c.in_ok-new.ensures.queues
+
+pub returns-clause-counted : goal.returns-clause-counted
+returns-clause-counted c = none_counted c.in_ok-new.field-0 _ _ c.in_ok-new.ensures.first c.in_ok-new.ensures.kept c.in_ok-new.ensures.replies

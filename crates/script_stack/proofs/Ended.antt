@@ -1,0 +1,172 @@
+-- What the steps of a script's stack come to at its end, by the laws of a run over any rig and over one that tells its blocks.
+use Rattle.std.proofs.Common.{ℕ, ◌≡◌, ◌+◌, ◌*◌, true, List, [], length, drop, map, Option, Some, None, sym, ap, subst, ◌∙◌}
+use Rattle.std.specs.Prelude.{is_some}
+use Rattle.std.proofs.lemmas.Option.{none-some}
+use Rattle.dix_base.specs.Told.{Calm}
+use Rattle.fault_schedule.specs.declared.fault.FaultLine.{FaultLine}
+use Rattle.target_answer.specs.Image.{units_in}
+use Rattle.target_answer.specs.Target.{Stored}
+use Rattle.rig_api.specs.Log.{Entry}
+use Rattle.rig_api.specs.Telling.{IsStanding, Standing, specs_of, units_told}
+use Rattle.rig_discovery.specs.Discovery.{info_of}
+use Rattle.volume_table.specs.declared.device.DeviceInfo.{DeviceInfo}
+use Rattle.volume_table.specs.Tables.{MadeFor, Table}
+use Rattle.dix_adapter.specs.Ways.{blocks_told, shapes_of}
+use Rattle.block_path.specs.Acts.{State}
+use Rattle.whole_run.specs.Settings.{Setting}
+use Rattle.script_text.specs.Bindings.{binding_fault}
+use Rattle.script_text.specs.declared.script.Script.{Script}
+use Rattle.script_laws.specs.Keeping.{Keeps}
+use Rattle.script_ground.specs.Units.{AreStored}
+use Rattle.stack_core.specs.Mediums.{HasCounted, RoseBy, medium_lines}
+use Rattle.stack_core.specs.Stacks.{GoesOn, IsStack, Stays, plan_in}
+use Rattle.stack_core.specs.Walking.{NoneFailed, Walks, WalksTold, NoOverwrites, WalksFalling}
+use Rattle.stack_core.specs.declared.stack.Stack.{Stack}
+use Rattle.stack_steps.specs.Does.{Holds}
+use Rattle.stack_view.specs.Steps.{enabled}
+use Rattle.stack_view.specs.View.{View, start}
+use Rattle.script_stack.specs.Followed.{BeginsTold, BeginsWalks, HasWalked, IsBackedBy, SizesAre, begun_of, failed_in, none_fails, setting_of, unit_of, BeginsFalling, HasFallen}
+use Rattle.script_stack.specs.Going.{Outside, Went}
+use Rattle.script_stack.specs.Sends.{IsPlanFor, SendsBy, SendsFor, entries_of}
+use Rattle.script_stack.proofs.Following.{behind, told-image, told-shapes, told-stored}
+use Rattle.script_stack.proofs.SendsBy.{AllLaw, FewLaw, sends_for}
+
+-- the law over any rig
+abbrev pub BackedLaw : Type 0
+BackedLaw = (s : Script) (t : Table) (devices : List DeviceInfo) (first : ℕ) (r : Stack) (st : Standing) (log : List Entry) → Keeps s → IsStack r → r.sheet.ops ≡ s.ops
+    → ((blocks : List (List ℕ)) → Walks (setting_of s t (map unit_of devices) (failed_in r.replies.items)) (4096 * s.pages) (begun_of s (map unit_of devices) blocks) first r st log)
+    → ((v : View) → Holds (plan_in r.sheet) r.machine v → enabled (plan_in r.sheet) v ≡ []) → IsBackedBy s t devices (drop first log) r.replies.items
+
+-- the law over a rig that tells its blocks
+abbrev pub ToldLaw : Type 0
+ToldLaw = (s : Script) (t : Table) (us left : List Stored) (first : ℕ) (r : Stack) (armed : List FaultLine) (st : Standing) (log : List Entry) → Keeps s → length s.lines ≡ length s.faults + length s.ops
+    → MadeFor t (map info_of (shapes_of us)) s.block → binding_fault s t (map info_of (shapes_of us)) ≡ None → AreStored us → shapes_of left ≡ shapes_of us → IsStack r → r.sheet.ops ≡ s.ops
+    → NoneFailed r.replies.items → WalksTold (setting_of s t (shapes_of us) none_fails) (4096 * s.pages) (begun_of s (shapes_of us) (blocks_told us)) first r (Some left) armed st log
+    → ((v : View) → Holds (plan_in r.sheet) r.machine v → enabled (plan_in r.sheet) v ≡ []) → HasWalked s t us left r.pool (drop first log) r.replies.items
+
+-- and where its store calls may fail
+abbrev pub FallenLaw : Type 0
+FallenLaw = (s : Script) (t : Table) (us left : List Stored) (first : ℕ) (r : Stack) (armed : List FaultLine) (st : Standing) (log : List Entry) → Keeps s → length s.lines ≡ length s.faults + length s.ops
+    → MadeFor t (map info_of (shapes_of us)) s.block → binding_fault s t (map info_of (shapes_of us)) ≡ None → AreStored us → shapes_of left ≡ shapes_of us → IsStack r → r.sheet.ops ≡ s.ops
+    → WalksFalling (setting_of s t (shapes_of us) none_fails) (4096 * s.pages) (begun_of s (shapes_of us) (blocks_told us)) first r (Some left) armed st log
+    → ((v : View) → Holds (plan_in r.sheet) r.machine v → enabled (plan_in r.sheet) v ≡ []) → HasFallen s t us left r.pool (drop first log) r.replies.items
+
+-- A script that was made ready over a rig, with what the rig tells of its image then and afterwards, and its stack that went to its end.
+pub record IsOver (s : Script) (t : Table) (devices : List DeviceInfo) (begun r : Stack) (image image' : Option (List ℕ)) (old new : Outside) : Type 0 where
+  pub keeps : Keeps s
+  pub lines : length s.lines ≡ length s.faults + length s.ops
+  pub made : MadeFor t devices s.block
+  pub bound : binding_fault s t devices ≡ None
+  pub sizes : SizesAre devices old.standing
+  pub known : is_some image ≡ true → devices ≡ map info_of (specs_of old.standing)
+  pub laid : old.units ≡ units_told old.standing image
+  pub ready : IsStanding old.standing image
+  pub laid_after : new.units ≡ units_told new.standing image'
+  pub ready_after : IsStanding new.standing image'
+  pub armed : old.armed ≡ s.faults
+  pub stack : IsStack r
+  pub ops : r.sheet.ops ≡ s.ops
+  pub ended : (v : View) → Holds (plan_in r.sheet) r.machine v → enabled (plan_in r.sheet) v ≡ []
+  pub walks : BeginsWalks s t devices begun
+  pub told : BeginsTold s t devices begun
+  pub falling : BeginsFalling s t devices begun
+  pub silent : NoneFailed begun.replies.items
+  pub goes : GoesOn old.standing new.standing old.log new.log old.faults new.faults
+  pub tells : is_some image' ≡ is_some image
+  pub went : Went begun old r new
+  pub plan : IsPlanFor s t (plan_in begun.sheet)
+  pub first : Holds (plan_in begun.sheet) begun.machine (start (plan_in begun.sheet))
+  pub stays : Stays begun r
+  pub counted : HasCounted old.faults r new.faults
+  pub sent : begun.machine.steps ≡ 0 → SendsBy (entries_of s.schedule) begun r old.log new.log
+
+pub rest_is : (s : Script) (t : Table) (devices : List DeviceInfo) (begun r : Stack) (image image' : Option (List ℕ)) (old new : Outside) (o : IsOver s t devices begun r image image' old new) → drop (length old.log) new.log ≡ o.goes.more
+rest_is s t devices begun r image image' old new o = ap (drop (length old.log)) o.goes.records ∙ behind old.log o.goes.more
+
+pub backed_by : (s : Script) (t : Table) (devices : List DeviceInfo) (begun r : Stack) (image image' : Option (List ℕ)) (old new : Outside) → BackedLaw → (o : IsOver s t devices begun r image image' old new) → IsBackedBy s t devices o.goes.more r.replies.items
+backed_by s t devices begun r image image' old new law o =
+    subst (λ (more : List Entry). IsBackedBy s t devices more r.replies.items) (rest_is s t devices begun r image image' old new o)
+    (law s t devices (length old.log) r new.standing new.log o.keeps o.stack o.ops
+    (λ blocks. o.went.walks (setting_of s t (map unit_of devices) (failed_in r.replies.items)) (4096 * s.pages) (begun_of s (map unit_of devices) blocks) (length old.log) (o.walks (failed_in r.replies.items) blocks old.standing old.log o.sizes)) o.ended)
+
+pub sent_by : (s : Script) (t : Table) (devices : List DeviceInfo) (begun r : Stack) (image image' : Option (List ℕ)) (old new : Outside) → FewLaw → AllLaw → (o : IsOver s t devices begun r image image' old new) → SendsFor s t o.goes.more r.replies.items
+sent_by s t devices begun r image image' old new few all o =
+    let m = setting_of s t (map unit_of devices) (failed_in r.replies.items) in
+    let opening = begun_of s (map unit_of devices) [] in
+    sends_for s t begun r old.log new.log o.goes.more few all
+    (record { plan = o.plan; first = o.first; stays = o.stays; sent = o.sent; records = o.goes.records; stack = o.stack; ended = o.ended }) m (4096 * s.pages) opening (length old.log) new.standing new.log
+    (o.went.walks m (4096 * s.pages) opening (length old.log) (o.walks (failed_in r.replies.items) [] old.standing old.log o.sizes))
+
+-- the law of lines that name the medium
+abbrev pub MediumLaw : Type 0
+MediumLaw = (m : Setting) (n : ℕ) (opening : State) (begun first : ℕ) (s : Stack) (st : Standing) (log : List Entry) (count : ℕ) → IsStack s → Walks m n opening begun s st log
+    → ((v : View) → Holds (plan_in s.sheet) s.machine v → enabled (plan_in s.sheet) v ≡ []) → HasCounted first s count → RoseBy (medium_lines s.replies.items) first count
+
+pub few_lines : (s : Script) (t : Table) (devices : List DeviceInfo) (begun r : Stack) (image image' : Option (List ℕ)) (old new : Outside) → MediumLaw → (o : IsOver s t devices begun r image image' old new) → RoseBy (medium_lines r.replies.items) old.faults new.faults
+few_lines s t devices begun r image image' old new law o =
+    let m = setting_of s t (map unit_of devices) (failed_in r.replies.items) in
+    let opening = begun_of s (map unit_of devices) [] in
+    law m (4096 * s.pages) opening (length old.log) old.faults r new.standing new.log new.faults o.stack
+    (o.went.walks m (4096 * s.pages) opening (length old.log) (o.walks (failed_in r.replies.items) [] old.standing old.log o.sizes)) o.ended o.counted
+
+-- ---- where the rig tells its blocks
+
+-- what a rig that told units tells afterwards
+left_told : (image image' : Option (List ℕ)) (st st' : Standing) (units units' : Option (List Stored)) (us : List Stored) → units ≡ Some us → units ≡ units_told st image → units' ≡ units_told st' image' → is_some image' ≡ is_some image →
+    (left : List Stored) × (units' ≡ Some left)
+left_told None image' st st' units units' us e l l' t = absurd (none-some us (sym l ∙ e))
+left_told (Some bytes) None st st' units units' us e l l' t = absurd (cc)
+left_told (Some bytes) (Some bytes') st st' units units' us e l l' t = (units_in (specs_of st') bytes', l')
+
+-- What is known where the rig told these units: the script is bound to its volume over their shapes, and its stack begins with their blocks.
+pub record IsTold (s : Script) (t : Table) (devices : List DeviceInfo) (us : List Stored) (begun : Stack) (old new : Outside) : Type 0 where
+  pub infos : devices ≡ map info_of (shapes_of us)
+  pub made : MadeFor t (map info_of (shapes_of us)) s.block
+  pub bound : binding_fault s t (map info_of (shapes_of us)) ≡ None
+  pub stored : AreStored us
+  pub begins : WalksTold (setting_of s t (shapes_of us) none_fails) (4096 * s.pages) (begun_of s (shapes_of us) (blocks_told us)) (length old.log) begun old.units old.armed old.standing old.log
+  pub begins_falling : NoOverwrites s.ops → WalksFalling (setting_of s t (shapes_of us) none_fails) (4096 * s.pages) (begun_of s (shapes_of us) (blocks_told us)) (length old.log) begun old.units old.armed old.standing old.log
+  pub left : List Stored
+  pub left_are : new.units ≡ Some left
+  pub same : shapes_of left ≡ shapes_of us
+
+pub told_at : (s : Script) (t : Table) (devices : List DeviceInfo) (begun r : Stack) (image image' : Option (List ℕ)) (old new : Outside) → IsOver s t devices begun r image image' old new → (us : List Stored) → old.units ≡ Some us → IsTold s t devices us begun old new
+told_at s t devices begun r image image' old new o us e =
+    let after = left_told image image' old.standing new.standing old.units new.units us e o.laid o.laid_after o.tells in
+    let told : units_told old.standing image ≡ Some us = sym o.laid ∙ e in
+    let told' : units_told new.standing image' ≡ Some after.0 = sym o.laid_after ∙ after.1 in
+    let shapes : shapes_of us ≡ specs_of old.standing = told-shapes old.standing image us told o.ready in
+    let shapes' : shapes_of after.0 ≡ specs_of new.standing = told-shapes new.standing image' after.0 told' o.ready_after in
+    let known : devices ≡ map info_of (specs_of old.standing) = o.known (told-image old.standing image us told) in
+    let infos : devices ≡ map info_of (shapes_of us) = known ∙ ap (map info_of) (sym shapes) in
+    record {
+      infos = infos;
+      made = subst (λ ds. MadeFor t ds s.block) infos o.made;
+      bound = subst (λ ds. binding_fault s t ds ≡ None) infos o.bound;
+      stored = told-stored old.standing image us told o.ready;
+      begins = rw (e, o.armed) (o.told us old.standing old.log known shapes);
+      begins_falling = λ none. rw (e, o.armed) (o.falling us old.standing old.log known shapes none);
+      left = after.0;
+      left_are = after.1;
+      same = shapes' ∙ ap specs_of o.goes.standing ∙ sym shapes;
+    }
+
+pub walked_at : (s : Script) (t : Table) (devices : List DeviceInfo) (begun r : Stack) (image image' : Option (List ℕ)) (old new : Outside) → ToldLaw → (o : IsOver s t devices begun r image image' old new) → (us : List Stored) → old.units ≡ Some us → Calm old.faults new.faults →
+    (left : List Stored) × ((new.units ≡ Some left) × HasWalked s t us left r.pool o.goes.more r.replies.items)
+walked_at s t devices begun r image image' old new law o us e calm =
+    let told = told_at s t devices begun r image image' old new o us e in
+    let ends = o.went.told (setting_of s t (shapes_of us) none_fails) (4096 * s.pages) (begun_of s (shapes_of us) (blocks_told us)) (length old.log) told.begins calm in
+    let ends' : WalksTold (setting_of s t (shapes_of us) none_fails) (4096 * s.pages) (begun_of s (shapes_of us) (blocks_told us)) (length old.log) r (Some told.left) new.armed new.standing new.log = rw told.left_are at ends in
+    let walked : HasWalked s t us told.left r.pool (drop (length old.log) new.log) r.replies.items =
+    law s t us told.left (length old.log) r new.armed new.standing new.log o.keeps o.lines told.made told.bound told.stored told.same o.stack o.ops (o.went.silent calm o.silent) ends' o.ended in
+    (told.left, (told.left_are, subst (λ (more : List Entry). HasWalked s t us told.left r.pool more r.replies.items) (rest_is s t devices begun r image image' old new o) walked))
+
+pub fallen_at : (s : Script) (t : Table) (devices : List DeviceInfo) (begun r : Stack) (image image' : Option (List ℕ)) (old new : Outside) → FallenLaw → (o : IsOver s t devices begun r image image' old new) → (us : List Stored) → old.units ≡ Some us → NoOverwrites s.ops →
+    (left : List Stored) × ((new.units ≡ Some left) × HasFallen s t us left r.pool o.goes.more r.replies.items)
+fallen_at s t devices begun r image image' old new law o us e none =
+    let told = told_at s t devices begun r image image' old new o us e in
+    let ends = o.went.falling (setting_of s t (shapes_of us) none_fails) (4096 * s.pages) (begun_of s (shapes_of us) (blocks_told us)) (length old.log) (told.begins_falling none) in
+    let ends' : WalksFalling (setting_of s t (shapes_of us) none_fails) (4096 * s.pages) (begun_of s (shapes_of us) (blocks_told us)) (length old.log) r (Some told.left) new.armed new.standing new.log = rw told.left_are at ends in
+    let fallen : HasFallen s t us told.left r.pool (drop (length old.log) new.log) r.replies.items =
+    law s t us told.left (length old.log) r new.armed new.standing new.log o.keeps o.lines told.made told.bound told.stored told.same o.stack o.ops ends' o.ended in
+    (told.left, (told.left_are, subst (λ (more : List Entry). HasFallen s t us told.left r.pool more r.replies.items) (rest_is s t devices begun r image image' old new o) fallen))

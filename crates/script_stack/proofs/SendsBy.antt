@@ -1,0 +1,137 @@
+-- What steps send, one after another.
+use Rattle.std.proofs.Common.{◌≡◌, ◌≤◌, ℕ, zero, suc, List, [], ◌∷◌, ◌++◌, length, get_or, refl, sym, ap, subst, ◌∙◌, arith, append-nil, append_assoc}
+use Rattle.std.specs.List.{All}
+use Rattle.std.proofs.lemmas.List.{get_or_past}
+use Rattle.rig_api.specs.Log.{Entry as Record}
+use Rattle.rig_api.specs.Telling.{Standing}
+use Rattle.block_path.specs.Acts.{State}
+use Rattle.whole_run.specs.Settings.{Setting}
+use Rattle.bio_core.specs.declared.request.Io.{Io}
+use Rattle.merge_queue.specs.declared.limits.Limits.{Limits}
+use Rattle.stack_ops.specs.declared.op.Op.{Op}
+use Rattle.stack_view.specs.Comes.{entry_at}
+use Rattle.stack_view.specs.Measure.{greatest_pieces}
+use Rattle.stack_view.specs.Plan.{Plan}
+use Rattle.stack_view.specs.Runs.{Entry, Sent, blocks_of_requests, sends_of}
+use Rattle.stack_view.specs.Steps.{enabled}
+use Rattle.stack_view.specs.View.{View, start}
+use Rattle.stack_view.proofs.Runs.{calm-sends}
+use Rattle.stack_steps.specs.Does.{Holds, Works}
+use Rattle.volume_table.specs.Tables.{Table}
+use Rattle.script_text.specs.declared.script.Script.{Script}
+use Rattle.stack_core.specs.declared.sheet.Sheet.{Sheet}
+use Rattle.stack_core.specs.declared.stack.Stack.{Stack}
+use Rattle.stack_core.specs.OnRecord.{AreRecords, HasQueues, HasSent, ListsNone, SendsOn}
+use Rattle.stack_core.specs.Requests.{requests_from}
+use Rattle.stack_core.specs.Sheets.{plan_of}
+use Rattle.stack_core.specs.Shifts.{shifted_by}
+use Rattle.stack_core.specs.Stacks.{HasStep, IsStack, Stays, plan_in}
+use Rattle.stack_core.specs.Walking.{Walks}
+use Rattle.script_stack.specs.Sends.{IsPlanFor, SendsBy, SendsFor, entries_of}
+
+pub sends_nowhere : (es : List Entry) (s : Stack) (log : List Record) → SendsBy es s s log log
+sends_nowhere es s log = record { more = []; records = sym (append-nil log); on = λ before x. subst (HasSent es s) (sym (append-nil before)) x }
+
+pub sends_then : (es : List Entry) (s s' s'' : Stack) (log log' log'' : List Record) → SendsBy es s s' log log' → SendsBy es s' s'' log' log'' → SendsBy es s s'' log log''
+sends_then es s s' s'' log log' log'' a b = record {
+  more = a.more ++ b.more;
+  records = b.records ∙ (ap (λ l. l ++ b.more) a.records ∙ append_assoc log a.more b.more);
+  on = λ before x. subst (HasSent es s'') (append_assoc before a.more b.more) (b.on (before ++ a.more) (a.on before x));
+}
+
+-- one step, where its word and its cut are the schedule's next
+pub sends_once : (es : List Entry) (word cut : ℕ) (s s' : Stack) (log log' : List Record) → entry_at es s.machine.steps ≡ record { word = word; cut = cut } → SendsOn word cut s s' log log' → SendsBy es s s' log log'
+sends_once es word cut s s' log log' e a = record { more = a.more; records = a.records; on = λ before x. a.on es before e x }
+
+-- what stands behind a list is one list
+pub append_left : {A : Type 0} (xs ys zs : List A) → xs ++ ys ≡ xs ++ zs → ys ≡ zs
+append_left [] ys zs e = e
+append_left (x ∷ xs) ys zs e = append_left xs ys zs cc
+
+-- ---- entries
+
+entry_in : (ws : List (ℕ × ℕ)) (i : ℕ) → entry_at (entries_of ws) i ≡ record { word = (get_or ws i (0, 0)).0; cut = (get_or ws i (0, 0)).1 }
+entry_in [] zero = refl
+entry_in [] (suc i) = refl
+entry_in (w ∷ ws) zero = refl
+entry_in (w ∷ ws) (suc i) = entry_in ws i
+
+pub entry_here : (ws : List (ℕ × ℕ)) (i n : ℕ) → n ≡ i → entry_at (entries_of ws) n ≡ record { word = (get_or ws i (0, 0)).0; cut = (get_or ws i (0, 0)).1 }
+entry_here ws i n e = ap (entry_at (entries_of ws)) e ∙ entry_in ws i
+
+pub entry_behind : (es : List Entry) (n : ℕ) → length es ≤ n → entry_at es n ≡ record { word = 0; cut = 0 }
+entry_behind es n h = get_or_past es n (record { word = 0; cut = 0 }) h
+
+pub entries_long : (ws : List (ℕ × ℕ)) → length (entries_of ws) ≡ length ws
+entries_long [] = refl
+entries_long (w ∷ ws) = ap suc (entries_long ws)
+
+-- where all has ended there is no step
+pub no_step : (s : Stack) → Works (plan_in s.sheet) s.machine → ((v : View) → Holds (plan_in s.sheet) s.machine v → enabled (plan_in s.sheet) v ≡ []) → HasStep (plan_in s.sheet) s.machine → ⊥
+no_step s w none h =
+    let l = h w.0 w.1 in
+    let e = ap length (none w.0 w.1) in
+    absurd (omega arith)
+
+-- ---- the whole run
+
+-- before the first step nothing is sent
+pub none_sent : (es : List Entry) (s : Stack) → Holds (plan_in s.sheet) s.machine (start (plan_in s.sheet)) → HasSent es s []
+none_sent es s h = record { view = start (plan_in s.sheet); holds = h; comes = refl; on_record = tt; traced = tt }
+
+-- as many records as commands
+pub recorded_long : (ss : List Sent) (log : List Record) → AreRecords ss log → length log ≡ length ss
+recorded_long [] [] h = refl
+recorded_long [] (e ∷ log) h = absurd h
+recorded_long (s ∷ ss) [] h = absurd h
+recorded_long (s ∷ ss) (e ∷ log) h = ap suc (recorded_long ss log h.1)
+
+pub few_pieces : (p : Plan) (es : List Entry) (log : List Record) → HasQueues p → All (λ e. e.cut ≡ 0) es → AreRecords (sends_of p es) log → length log ≤ greatest_pieces p 0 p.requests
+few_pieces p es log q u h =
+    let a = recorded_long (sends_of p es) log h in
+    let b = calm-sends p es q.on u in
+    omega arith
+
+pub plan_is : (s : Script) (t : Table) (sh : Sheet) → sh.ops ≡ s.ops → sh.shifted.items ≡ shifted_by s.faults (length s.ops) → sh.ios.items ≡ requests_from s.mode.dix s.pages s.ops → sh.table ≡ t → sh.limits ≡ s.limits → HasQueues (plan_in sh) → IsPlanFor s t (plan_in sh)
+plan_is s t sh ops shifted ios table limits queues = record {
+  is = ap (λ (x : List Op). plan_of x sh.shifted.items sh.ios.items sh.table sh.limits sh.devices) ops
+      ∙ (ap (λ x. plan_of s.ops x sh.ios.items sh.table sh.limits sh.devices) shifted
+      ∙ (ap (λ (x : List Io). plan_of s.ops (shifted_by s.faults (length s.ops)) x sh.table sh.limits sh.devices) ios
+      ∙ (ap (λ (x : Table). plan_of s.ops (shifted_by s.faults (length s.ops)) (requests_from s.mode.dix s.pages s.ops) x sh.limits sh.devices) table
+      ∙ ap (λ (x : Limits). plan_of s.ops (shifted_by s.faults (length s.ops)) (requests_from s.mode.dix s.pages s.ops) t x sh.devices) limits)));
+  queues = queues;
+}
+
+-- what a finished stack has sent, by the law
+abbrev pub FewLaw : Type 0
+FewLaw = (es : List Entry) (s : Stack) (log : List Record) → IsStack s → HasSent es s log → length log ≤ blocks_of_requests (plan_in s.sheet).requests
+
+abbrev pub AllLaw : Type 0
+AllLaw = (es : List Entry) (s : Stack) (log : List Record) (m : Setting) (n : ℕ) (opening : State) (first : ℕ) (st : Standing) (whole : List Record) → IsStack s → HasSent es s log → Walks m n opening first s st whole
+    → ((v : View) → Holds (plan_in s.sheet) s.machine v → enabled (plan_in s.sheet) v ≡ []) → ListsNone s.replies.items → AreRecords (sends_of (plan_in s.sheet) es) log
+
+-- from a new stack to a finished one
+pub record IsWhole (s : Script) (t : Table) (begun r : Stack) (log log' more : List Record) : Type 0 where
+  pub plan : IsPlanFor s t (plan_in begun.sheet)
+  pub first : Holds (plan_in begun.sheet) begun.machine (start (plan_in begun.sheet))
+  pub stays : Stays begun r
+  pub sent : begun.machine.steps ≡ 0 → SendsBy (entries_of s.schedule) begun r log log'
+  pub records : log' ≡ log ++ more
+  pub stack : IsStack r
+  pub ended : (v : View) → Holds (plan_in r.sheet) r.machine v → enabled (plan_in r.sheet) v ≡ []
+
+pub sends_for : (s : Script) (t : Table) (begun r : Stack) (log log' more : List Record) → FewLaw → AllLaw → IsWhole s t begun r log log' more → (m : Setting) (n : ℕ) (opening : State) (first : ℕ) (st : Standing) (whole : List Record) → Walks m n opening first r st whole → SendsFor s t more r.replies.items
+sends_for s t begun r log log' more few all w m n opening first st whole walks =
+    let es = entries_of s.schedule in
+    let sent = w.sent w.first.shows.taken in
+    let same : sent.more ≡ more = append_left log sent.more more (sym sent.records ∙ w.records) in
+    let has : HasSent es r more = subst (HasSent es r) same (sent.on [] (none_sent es begun w.first)) in
+    let plan : IsPlanFor s t (plan_in r.sheet) = subst (λ (sh : Sheet). IsPlanFor s t (plan_in sh)) (sym w.stays.sheet) w.plan in
+    let each : ListsNone r.replies.items → AreRecords (sends_of (plan_in r.sheet) es) more = λ none. all es r more m n opening first st whole w.stack has walks w.ended none in
+    record {
+      plan = plan_in r.sheet;
+      is_plan = plan;
+      few = few es r more w.stack has;
+      sent = each;
+      pieces = λ none u. few_pieces (plan_in r.sheet) es more plan.queues u (each none);
+    }

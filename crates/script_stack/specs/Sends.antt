@@ -1,0 +1,45 @@
+-- What a script's run sends, by its requests, its volume and its schedule.
+use Rattle.std.specs.Prelude.{◌≡◌, ◌≤◌, ℕ, List, [], ◌∷◌, ◌++◌, length}
+use Rattle.std.specs.List.{All}
+use Rattle.rig_api.specs.Log.{Entry as Record}
+use Rattle.stack_ops.specs.declared.reply.Reply.{Reply}
+use Rattle.stack_view.specs.Measure.{greatest_pieces}
+use Rattle.stack_view.specs.Plan.{Plan}
+use Rattle.stack_view.specs.Runs.{Entry, blocks_of_requests, sends_of}
+use Rattle.volume_table.specs.Tables.{Table}
+use Rattle.script_text.specs.declared.script.Script.{Script}
+use Rattle.stack_core.specs.OnRecord.{AreRecords, HasQueues, HasSent, ListsNone}
+use Rattle.stack_core.specs.Requests.{requests_from}
+use Rattle.stack_core.specs.Sheets.{plan_of}
+use Rattle.stack_core.specs.Shifts.{shifted_by}
+use Rattle.stack_core.specs.declared.stack.Stack.{Stack}
+
+-- the entries of a schedule, each a word and a cut
+abbrev pub entries_of : List (ℕ × ℕ) → List Entry
+entries_of [] = []
+entries_of (w ∷ ws) = record { word = w.0; cut = w.1 } ∷ entries_of ws
+
+-- the plan of a script's requests over its volume, with so many queues
+abbrev pub plan_for : Script → Table → (queues : ℕ) → Plan
+plan_for s t queues = plan_of s.ops (shifted_by s.faults (length s.ops)) (requests_from s.mode.dix s.pages s.ops) t s.limits queues
+
+-- This is that plan, with a queue for each device up to the last one on which a block of a request lies.
+pub record IsPlanFor (s : Script) (t : Table) (p : Plan) : Type 0 where
+  pub is : p ≡ plan_for s t p.devices
+  pub queues : HasQueues p
+
+-- The records of a run are at most as many as its requests have blocks. Where the replies list no block they are, in order and one for one, those of the groups that are sent where all blocks are good; so where besides no entry of the schedule cuts, they are at most as many as the greatest pieces of the requests.
+pub record SendsFor (s : Script) (t : Table) (log : List Record) (replies : List Reply) : Type 0 where
+  pub plan : Plan
+  pub is_plan : IsPlanFor s t plan
+  pub few : length log ≤ blocks_of_requests plan.requests
+  pub sent : ListsNone replies → AreRecords (sends_of plan (entries_of s.schedule)) log
+  pub pieces : ListsNone replies → All (λ e. e.cut ≡ 0) (entries_of s.schedule) → length log ≤ greatest_pieces plan 0 plan.requests
+
+-- ---- some steps
+
+-- The stack goes on by a schedule, and these records are made.
+pub record SendsBy (es : List Entry) (old new : Stack) (log log' : List Record) : Type 0 where
+  pub more : List Record
+  pub records : log' ≡ log ++ more
+  pub on : (before : List Record) → HasSent es old before → HasSent es new (before ++ more)
