@@ -2,4 +2,8 @@ pub mod Tables
 pub mod Devices
 pub mod Refusing
 pub mod Completing
+pub mod Premises
+pub mod PremiseRows
+pub mod Layers
 pub mod Walked
+pub mod Fallen

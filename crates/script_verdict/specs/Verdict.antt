@@ -1,4 +1,4 @@
-use Rattle.std.specs.Prelude.{ℕ, suc, ◌≡◌, ◌+◌, ◌*◌, ◌<◌, ◌⊎◌, List, [], ◌∷◌, ◌++◌, length, get_or, map, take, is_some, Option, Some, None, Err, Ok}
+use Rattle.std.specs.Prelude.{ℕ, suc, ◌≡◌, ◌+◌, ◌*◌, ◌<◌, ◌⊎◌, List, [], ◌∷◌, ◌++◌, length, get_or, map, take, is_some, Option, Some, None, Err, Ok, All}
 use Rattle.dix_base.specs.Told.{Calm, Rose}
 use Rattle.page_pool.specs.Pages.{IsBlank}
 use Rattle.dix_adapter.specs.Groups.{mode_of}
@@ -12,23 +12,23 @@ use Rattle.script_text.specs.Bindings.{binding_fault}
 use Rattle.script_text.specs.Language.{script_in}
 use Rattle.script_text.specs.declared.fault.ScriptFault.{ScriptFault}
 use Rattle.script_text.specs.declared.script.Script.{Script}
-use Rattle.script_stack.specs.Followed.{HasWalked, IsBackedBy, none_fails, opening_of, setting_of}
+use Rattle.script_stack.specs.Followed.{HasWalked, IsBackedBy}
+use Rattle.script_stack.specs.Sends.{SendsFor}
 use Rattle.block_path.specs.Acts.{State}
-use Rattle.dix_adapter.specs.Ways.{blocks_told, shapes_of}
+use Rattle.dix_adapter.specs.Ways.{blocks_told}
 use Rattle.page_pool.specs.declared.segs.Seg.{Seg}
 use Rattle.page_pool.specs.Cells.{flat, gather}
 use Rattle.integrity_payload.specs.declared.payload.Owner.{Owner}
 use Rattle.run_laws.specs.ReadsAs.{ReadsAs, landing, listed_in, read_op}
-use Rattle.run_laws.specs.ShownRun.{IsShownRun}
 use Rattle.stack_ops.specs.declared.op.Op.{Op}
 use Rattle.stack_ops.specs.declared.reply.Reply.TheVariants.{Silent}
 use Rattle.whole_run.specs.FirstLayer.{first_layer, last_accepted}
 use Rattle.whole_run.specs.Past.{past_after, steps_from}
 use Rattle.whole_run.specs.ScriptWalk.{script_walk}
-use Rattle.whole_run.specs.CalmRun.{IsCalmRun}
 use Rattle.whole_run.specs.PlainMap.{plain_map, plain_replies}
 use Rattle.whole_run.specs.Settings.{Setting, block_of}
 use Rattle.whole_run.specs.UnderMap.{opened, under}
+use Rattle.stack_core.specs.Mediums.{RoseBy, medium_lines}
 use Rattle.stack_core.specs.Requests.{pages_from, requests_from}
 use Rattle.stack_core.specs.Stacks.{GoesOn, IsStack, Stays, plan_in}
 use Rattle.stack_core.specs.declared.stack.Stack.{Stack}
@@ -44,6 +44,10 @@ use Rattle.volume_table.specs.declared.entry.Entry.{Entry}
 use Rattle.volume_table.specs.declared.fault.VolumeFault.TheVariants.{At}
 use Rattle.volume_table.specs.declared.fault.VolumeKind.{VolumeKind}
 use Rattle.source_text.specs.Reading.{IsOver, IsWhole, TookAtMost, most_bytes}
+pub use Rattle.script_verdict.specs.Premises.{opening_told, setting_told}
+use Rattle.script_verdict.specs.Fallen.{HasServed}
+use Rattle.script_verdict.specs.Layers.{NamesLayers}
+use Rattle.script_verdict.specs.Premises.{IsDetectableRun, IsPlainRun, IsQuietRun}
 use Rattle.script_verdict.specs.declared.refusal.Refusal.{Refusal}
 use Rattle.script_verdict.specs.declared.refusal.Refusal.TheVariants as refusal
 use Rattle.script_verdict.specs.declared.verdict.Finished.{Finished}
@@ -141,13 +145,6 @@ pub record IsEnded (begun s : Stack) : Type 0 where
   pub stays : Stays begun s
   pub ended : (v : StackView) → Holds (plan_in s.sheet) s.machine v → enabled (plan_in s.sheet) v ≡ []
 
--- what a script runs with over these units, behind each of which is a target, and with what it begins
-abbrev pub setting_told : Script → Table → List Stored → Setting
-setting_told script table us = setting_of script table (shapes_of us) none_fails
-
-abbrev pub opening_told : Script → List Stored → State
-opening_told script us = opening_of script (shapes_of us) (blocks_told us)
-
 -- Replies, pages and stored blocks are those of the script's ops on a plain map of virtual blocks, which knows no adapter, no target and no address; the stored blocks are the image under that map.
 pub record HasPlain (script : Script) (table : Table) (us left : List Stored) (pool : List (List ℕ)) (replies : List Reply) : Type 0 where
   pub replies_are : replies ≡ plain_replies (setting_told script table us) script.ops (opened (setting_told script table us) (opening_told script us))
@@ -167,16 +164,20 @@ abbrev pub AllReadRightly : Setting → List Op → State → List Reply → Typ
 AllReadRightly m ops opening replies = (before after : List Op) (owner : Owner) (v n k : ℕ) (body tuples : List Seg) → ops ≡ before ++ (read_op owner v n body tuples ∷ after) → k < n
     → HasReadRightly m before owner v n body tuples opening replies k
 
--- What the steps of a script over its volume did, from the rig that told what its devices are to the rig as it is afterwards, with these pages and replies. Over any rig, honest or not, the records of the steps back the replies. Over a rig that tells its blocks, and whose count of faults didn't rise, replies, pages and stored blocks are those of the script's ops done one after another at the target, and the records hold what these carry; and where no fault is scheduled, the blocks are clean and no write supplies an escape, they are those of the plain map. In type 1, with tuples passed all the way and protect field 001b, over clean devices, with no escape and with scheduled faults that can be shown, each block of a read is the last accepted write's or names the first layer that checks after the fault.
+-- What the steps of a script over its volume did, from the rig that told what its devices are to the rig as it is afterwards, with these pages and replies. Over any rig, honest or not, the records of the steps back the replies, and are those that its steps send; lines that name the medium are at most as many as the count of faults rose. Over a rig that tells its blocks, and whose count of faults didn't rise, replies, pages and stored blocks are those of the script's ops done one after another at the target, and the records hold what these carry; and where no fault is scheduled, the blocks are clean and no write supplies an escape, they are those of the plain map. Over such a rig each block that is listed was found bad by the check of a layer. In type 1, with tuples passed all the way and protect field 001b, over clean devices, with no escape and with scheduled faults that can be shown, each block of a read is the last accepted write's or names the first layer that checks after the fault. Over a rig that tells its blocks, whatever its count of faults did, where no fault is scheduled and the blocks are clean, a block of a read that isn't lost fails at the medium or is the last accepted write's, and one of a write that the plain map accepts fails at the medium or not at all.
 pub record Followed (script : Script) (table : Table) (devices : List DeviceInfo) (old new : View) (pool : List (List ℕ)) (replies : List Reply) : Type 0 where
   pub tells : is_some new.image ≡ is_some old.image
   pub goes : GoesOn old.standing new.standing old.seen.log new.seen.log old.seen.faults new.seen.faults
   pub backed : IsBackedBy script table devices goes.more replies
-  pub plain : (us : List Stored) → old.seen.units ≡ Some us → Calm old.seen.faults new.seen.faults → IsCalmRun (setting_told script table us) script.ops (opening_told script us)
+  pub sends : SendsFor script table goes.more replies
+  pub medium : RoseBy (medium_lines replies) old.seen.faults new.seen.faults
+  pub plain : (us : List Stored) → old.seen.units ≡ Some us → Calm old.seen.faults new.seen.faults → IsPlainRun script table us
       → (left : List Stored) × (new.seen.units ≡ Some left) × HasPlain script table us left pool replies
-  pub shown : (us : List Stored) → old.seen.units ≡ Some us → Calm old.seen.faults new.seen.faults → IsShownRun (setting_told script table us) devices script.ops (opening_told script us)
+  pub shown : (us : List Stored) → old.seen.units ≡ Some us → Calm old.seen.faults new.seen.faults → IsDetectableRun script table devices us
       → AllReadRightly (setting_told script table us) script.ops (opening_told script us) replies
   pub walked : (us : List Stored) → old.seen.units ≡ Some us → Calm old.seen.faults new.seen.faults → (left : List Stored) × (new.seen.units ≡ Some left) × HasWalked script table us left pool goes.more replies
+  pub named : (us : List Stored) → old.seen.units ≡ Some us → Calm old.seen.faults new.seen.faults → All NamesLayers replies
+  pub fallen : (us : List Stored) → old.seen.units ≡ Some us → IsQuietRun script table us → (left : List Stored) × (new.seen.units ≡ Some left) × HasServed script table us left pool goes.more replies
 
 -- The image was opened, its devices told what they are, the script is bound to its volume, and the stack of its ops was run to its end.
 pub record HasRun (run : Finished) (script : Script) (name : List ℕ) (old new : View) : Type 0 where

@@ -13,12 +13,16 @@ use arrayvec::ArrayVec;
 use dix_base::Source;
 use image_commands::told_devices;
 use rig_api::Rig;
+use run_falls::{
+    a_stack_reads_the_last_write_or_fails_at_the_medium, a_stack_writes_or_fails_at_the_medium,
+};
 use run_laws::a_read_is_the_last_write_or_names_the_first_layer;
 use script_stack::{
-    Run, a_script_run_is_backed, a_told_script_run_has_walked, ready_script, run_all,
+    Run, a_script_run_is_backed, a_told_script_run_has_fallen, a_told_script_run_has_walked,
+    ready_script, run_all,
 };
 use script_text::Script;
-use stack_core::Stack;
+use stack_core::{Stack, a_finished_stack_has_sent, a_finished_stack_names_the_medium_seldom};
 use stack_ops::Reply;
 use std::alloc::Global;
 use volume_table::{DeviceInfo, VolumeTable};
@@ -93,8 +97,13 @@ pub fn run_script<R: Rig>(
     run_all(&mut stack, schedule.as_slice(), rig);
     a_script_run_is_backed();
     a_told_script_run_has_walked();
+    a_finished_stack_has_sent();
+    a_finished_stack_names_the_medium_seldom();
+    a_told_script_run_has_fallen();
     a_calm_walk_is_a_plain_map();
     a_read_is_the_last_write_or_names_the_first_layer();
+    a_stack_reads_the_last_write_or_fails_at_the_medium();
+    a_stack_writes_or_fails_at_the_medium();
     Ok(Finished { stack, first })
 }
 

@@ -1,8 +1,9 @@
-use Rattle.std.proofs.Common.{inr, ap, ◌∙◌}
+use Rattle.std.proofs.Common.{inr, refl, ap, subst, ◌∙◌}
 use Rattle.image_commands.proofs.Devices.{units_through}
 use Rattle.image_commands.specs.Views.{seen, view}
 use Rattle.script_verdict.proofs.Completing.{stops_from_outside}
 use Rattle.script_verdict.proofs.Devices.{known_infos}
+use Rattle.script_stack.specs.Sends.{SendsBy, entries_of}
 use Rattle.script_stack.proofs.Following.{sizes-found}
 use Rattle.script_verdict.proofs.Refusing.{asked_still}
 use Rattle.script_verdict.proofs.Walked.{followed}
@@ -66,7 +67,8 @@ returns-clause-verdict g c = record {
   followed = followed c.args.script c.in-Ok.bound.table c.in-Ok.bound.devices.items c.in-Ok-ready_script.run'.stack c.run_all.new.stack
       (view (g.R.Rig.image c.ready_script.new.rig) (g.R.Rig.standing c.ready_script.new.rig) (seen (g.R.Rig.units c.ready_script.new.rig) (g.R.Rig.log c.ready_script.new.rig) (g.R.Rig.faults c.ready_script.new.rig)))
       (view (g.R.Rig.image c.run_all.new.rig) (g.R.Rig.standing c.run_all.new.rig) (seen (g.R.Rig.units c.run_all.new.rig) (g.R.Rig.log c.run_all.new.rig) (g.R.Rig.faults c.run_all.new.rig)))
-      c.a_script_run_is_backed.ensures c.a_told_script_run_has_walked.ensures c.a_calm_walk_is_a_plain_map.ensures.replies c.a_calm_walk_is_a_plain_map.ensures.under c.a_read_is_the_last_write_or_names_the_first_layer.ensures
+      (g.R.Rig.armed c.run_all.new.rig) c.a_script_run_is_backed.ensures c.a_finished_stack_has_sent.ensures.few c.a_finished_stack_has_sent.ensures.all c.a_finished_stack_names_the_medium_seldom.ensures c.a_told_script_run_has_walked.ensures c.a_calm_walk_is_a_plain_map.ensures.replies c.a_calm_walk_is_a_plain_map.ensures.under c.a_read_is_the_last_write_or_names_the_first_layer.ensures
+      c.a_told_script_run_has_fallen.ensures c.a_stack_reads_the_last_write_or_fails_at_the_medium.ensures c.a_stack_writes_or_fails_at_the_medium.ensures.own c.a_stack_writes_or_fails_at_the_medium.ensures.brought
       (record {
         keeps = c.requires.keeps;
         lines = c.requires.lines;
@@ -78,16 +80,22 @@ returns-clause-verdict g c = record {
         ready = g.met.R.Rig.ready c.ready_script.new.rig;
         laid_after = g.met.R.Rig.laid c.run_all.new.rig;
         ready_after = g.met.R.Rig.ready c.run_all.new.rig;
+        armed = refl;
         stack = c.run_all.ensures.stack;
         ops = ap (λ (x : Sheet). x.ops) c.run_all.ensures.stays.sheet ∙ c.in-Ok-ready_script.ensures.ops;
         ended = c.run_all.ensures.ended;
         walks = rw c.deref.ensures.0 at c.in-Ok-ready_script.ensures.walks;
         told = rw c.deref.ensures.0 at c.in-Ok-ready_script.ensures.told;
+        falling = rw c.deref.ensures.0 at c.in-Ok-ready_script.ensures.falling;
         silent = c.in-Ok-ready_script.ensures.silent;
         goes = c.run_all.ensures.goes;
         tells = c.run_all.ensures.tells;
-        armed_after = g.R.Rig.armed c.run_all.new.rig;
         went = rw c.in-Ok-ready_script.ensures.armed at c.run_all.ensures.went;
+        plan = c.in-Ok-ready_script.ensures.plan;
+        first = c.in-Ok-ready_script.ensures.first;
+        stays = c.run_all.ensures.stays;
+        counted = c.run_all.ensures.counts (g.R.Rig.faults c.ready_script.new.rig) (c.in-Ok-ready_script.ensures.counted (g.R.Rig.faults c.ready_script.new.rig));
+        sent = λ z. subst (λ ws. SendsBy (entries_of ws) c.in-Ok-ready_script.run'.stack c.run_all.new.stack (g.R.Rig.log c.ready_script.new.rig) (g.R.Rig.log c.run_all.new.rig)) (c.as_slice.ensures ∙ c.in-Ok-ready_script.ensures.schedule) (c.run_all.ensures.sends z);
       });
   first = c.records-first.ensures;
 }
