@@ -1,1 +1,4 @@
+mod Fresh
+mod Quiet
+mod Told
 mod Records

@@ -1,4 +1,4 @@
-use Rattle.std.proofs.Common.{ℕ, zero, suc, ◌≡◌, ◌+◌, ◌-◌, ◌^◌, ◌≤◌, List, [], ◌∷◌, ◌++◌, length, min, Some, refl, sym, ap, subst, ◌∙◌, arith, length-append}
+use Rattle.std.proofs.Common.{ℕ, zero, suc, false, ◌≡◌, ◌+◌, ◌-◌, ◌^◌, ◌≤◌, List, [], ◌∷◌, length, min, Some, refl, sym, ap, subst, ◌∙◌, arith, length-append}
 use Rattle.std.specs.Prelude.{codes}
 use Rattle.dix_base.specs.Told.{Calm}
 use Rattle.image_commands.specs.Views.{View}
@@ -7,15 +7,23 @@ use Rattle.report_text.specs.Report.{report}
 use Rattle.rig_api.specs.Telling.{Standing}
 use Rattle.rig_discovery.specs.Discovery.{Answer, looks}
 use Rattle.stack_ops.specs.declared.reply.Reply.{Reply}
-use Rattle.script_text.specs.Generator.{big, ops_from}
+use Rattle.stack_ops.specs.declared.reply.Reply.TheVariants.{Silent, Whole, Bad, Shown, Medium}
+use Rattle.stack_core.specs.OnRecord.{ListsNone, bad_blocks}
+use Rattle.stack_view.specs.Runs.{sends_of}
+use Rattle.script_stack.specs.Sends.{IsPlanFor, entries_of}
+use Rattle.script_stack.proofs.SendsBy.{recorded_long}
+use Rattle.script_text.specs.Generator.{big}
 use Rattle.script_text.specs.declared.script.Script.{Script}
 use Rattle.script_verdict.specs.Texts.{has_bad}
-use Rattle.script_verdict.specs.Verdict.{HasRun}
+use Rattle.script_verdict.specs.Verdict.{Followed, HasRun}
 use Rattle.script_verdict.specs.declared.verdict.Finished.{Finished}
 use Rattle.target_answer.specs.Image.{formatted}
 use Rattle.big_run.specs.Counting.{all_bad, counts_with, no_ops}
-use Rattle.big_run.specs.Ran.{RanBig, big_unit}
+use Rattle.big_run.specs.Plain.{big_replies, big_table, big_units}
+use Rattle.big_run.specs.Ran.{RanBig}
 use Rattle.big_run.specs.declared.running.BigRun.{BigRun}
+use Rattle.big_run.proofs.Quiet.{AreQuiet, IsQuiet}
+use Rattle.big_run.proofs.Told.{plain_two, quiet_two, table_two, told_two, two}
 
 -- The records of a run, and what is said of it.
 
@@ -41,23 +49,105 @@ devices_recorded run script name old new r =
     let all = ap length r.followed.goes.records ∙ length-append r.told.seen.log r.followed.goes.more in
     omega (arith, devices, each, looked, first, all)
 
-pub ran_big : (n seed : ℕ) (b : BigRun) (old new : View) (run : Finished) (script : Script) → script ≡ big n seed → old.image ≡ Some (formatted (big_unit ∷ big_unit ∷ [])) → old.seen.log ≡ [] → Calm old.seen.faults new.seen.faults →
+-- those behind discovery are the run's
+exchanged : (run : Finished) (script : Script) (name : List ℕ) (old new : View) (exchanges : ℕ) (r : HasRun run script name old new) → old.seen.log ≡ [] → new.standing.devices + exchanges ≡ length new.seen.log → exchanges ≡ length r.followed.goes.more
+exchanged run script name old new exchanges r none e =
+    let asked = r.asked.told in
+    let devices : new.standing.devices ≡ asked.between.standing.devices = ap (λ (s : Standing). s.devices) (r.followed.goes.standing ∙ asked.since.standing) in
+    let each = asked.found.each in
+    let looked = looks_count asked.between.standing 0 asked.found.answers in
+    let opened : length asked.between.seen.log ≡ 0 = ap length (asked.since.kept.log ∙ none) in
+    let first = ap length asked.found.log ∙ length-append asked.between.seen.log (looks asked.between.standing 0 asked.found.answers) in
+    let all = ap length r.followed.goes.records ∙ length-append r.told.seen.log r.followed.goes.more in
+    omega (arith, devices, each, looked, opened, first, all)
+
+-- ---- no block fails
+
+none_bad : (replies : List Reply) → AreQuiet replies → all_bad replies ≡ 0
+none_bad [] q = refl
+none_bad (Silent ∷ replies) q = let r = none_bad replies q.1 in omega (arith, r)
+none_bad (Whole ∷ replies) q = let r = none_bad replies q.1 in omega (arith, r)
+none_bad (Bad blocks ∷ replies) q = absurd q.0
+none_bad (Shown bytes ∷ replies) q = let r = none_bad replies q.1 in omega (arith, r)
+none_bad (Medium ∷ replies) q = absurd q.0
+
+has_none : (replies : List Reply) → AreQuiet replies → has_bad replies ≡ false
+has_none [] q = refl
+has_none (Silent ∷ replies) q = has_none replies q.1
+has_none (Whole ∷ replies) q = has_none replies q.1
+has_none (Bad blocks ∷ replies) q = absurd q.0
+has_none (Shown bytes ∷ replies) q = has_none replies q.1
+has_none (Medium ∷ replies) q = absurd q.0
+
+no_blocks : (reply : Reply) → IsQuiet reply → bad_blocks reply ≡ []
+no_blocks Silent q = refl
+no_blocks Whole q = refl
+no_blocks (Bad blocks) q = absurd q
+no_blocks (Shown bytes) q = refl
+no_blocks Medium q = absurd q
+
+lists_none : (replies : List Reply) → AreQuiet replies → ListsNone replies
+lists_none [] q zero = refl
+lists_none [] q (suc i) = refl
+lists_none (r ∷ replies) q zero = no_blocks r q.0
+lists_none (r ∷ replies) q (suc i) = lists_none replies q.1 i
+
+no_bad : (bad all : ℕ) → bad ≡ min all (2 ^ 64 - 1) → all ≡ 0 → bad ≡ 0
+no_bad bad all e z = grind (arith, e, z)
+
+-- no fault was counted since the devices had answered
+since_told : (run : Finished) (script : Script) (name : List ℕ) (old new : View) (r : HasRun run script name old new) → Calm old.seen.faults new.seen.faults → Calm r.told.seen.faults new.seen.faults
+since_told run script name old new r calm =
+    let a = r.asked.told.since.kept.count in
+    let b = r.asked.told.since.count in
+    let c = calm.0 in
+    let d = calm.1 in
+    (omega (arith, a, b, c), d)
+
+-- ---- the run
+
+table_is : (n seed : ℕ) (run : Finished) (old new : View) → old.image ≡ Some (formatted two) → (r : HasRun run (big n seed) (codes "big") old new) → r.table ≡ big_table
+table_is n seed run old new image r = table_two n seed (codes "big") r.devices r.table old r.told image r.asked r.made
+
+replies_big : (n seed : ℕ) (run : Finished) (old new : View) → old.image ≡ Some (formatted two) → Calm old.seen.faults new.seen.faults → HasRun run (big n seed) (codes "big") old new → run.stack.replies.items ≡ big_replies n seed
+replies_big n seed run old new image calm r =
+    let followed : Followed (big n seed) big_table r.devices r.told new run.stack.pool run.stack.replies.items =
+    subst (λ t. Followed (big n seed) t r.devices r.told new run.stack.pool run.stack.replies.items) (table_is n seed run old new image r) r.followed in
+    let units = told_two (codes "big") r.devices old r.told image r.asked in
+    let plain = plain_two n seed (codes "big") r.devices r.table old r.told image r.asked r.made in
+    (followed.plain big_units units (since_told run (big n seed) (codes "big") old new r calm) plain).2.replies_are
+
+pub ran_big : (n seed : ℕ) (b : BigRun) (old new : View) (run : Finished) (script : Script) → script ≡ big n seed → old.image ≡ Some (formatted two) → old.seen.log ≡ [] → Calm old.seen.faults new.seen.faults →
     HasRun run script (codes "big") old new → b.counts ≡ counts_with no_ops script.ops → b.bad ≡ min (all_bad run.stack.replies.items) (2 ^ 64 - 1) → b.has_bad ≡ has_bad run.stack.replies.items →
     new.standing.devices + b.exchanges ≡ length new.seen.log → b.sum ≡ crc (report run.stack.replies.items) → RanBig n seed b
-ran_big n seed b old new run script e image log calm ran counts bad has exchanges sum = record {
-  old = old;
-  new = new;
-  run = run;
-  image = image;
-  none = log;
-  calm = calm;
-  ran = subst (λ (s : Script). HasRun run s (codes "big") old new) e ran;
-  counts_are = counts ∙ ap (λ (s : Script). counts_with no_ops s.ops) e;
-  bad_is = bad;
-  has_bad_is = has;
-  exchanges_are = exchanges;
-  sum_is = sum;
-}
+ran_big n seed b old new run script e image log calm ran counts bad has exchanges sum =
+    let made : HasRun run (big n seed) (codes "big") old new = subst (λ (s : Script). HasRun run s (codes "big") old new) e ran in
+    let own = exchanged run (big n seed) (codes "big") old new b.exchanges made log exchanges in
+    let replies = replies_big n seed run old new image calm made in
+    let quiet : AreQuiet run.stack.replies.items = subst AreQuiet (sym replies) (quiet_two n seed) in
+    let sends = made.followed.sends in
+    record {
+      old = old;
+      new = new;
+      run = run;
+      image = image;
+      none = log;
+      calm = calm;
+      ran = made;
+      counts_are = counts ∙ ap (λ (s : Script). counts_with no_ops s.ops) e;
+      bad_is = bad;
+      has_bad_is = has;
+      exchanges_are = exchanges;
+      sum_is = sum;
+      replies_are = replies;
+      none_bad = no_bad b.bad (all_bad run.stack.replies.items) bad (none_bad run.stack.replies.items quiet);
+      not_bad = has ∙ has_none run.stack.replies.items quiet;
+      sum_known = sum ∙ ap (λ rs. crc (report rs)) replies;
+      plan = sends.plan;
+      is_plan = subst (λ t. IsPlanFor (big n seed) t sends.plan) (table_is n seed run old new image made) sends.is_plan;
+      few = (let a = sends.few in omega (arith, own, a));
+      sends_are = own ∙ recorded_long (sends_of sends.plan (entries_of (big n seed).schedule)) made.followed.goes.more (sends.sent (lists_none run.stack.replies.items quiet));
+    }
 
 pub rest_of : (devices records : ℕ) → devices ≤ records → devices + (records - devices) ≡ records
 rest_of devices records h = omega arith

@@ -1,3 +1,4 @@
 pub mod Counting
+pub mod Plain
 pub mod Ran
 pub mod Text

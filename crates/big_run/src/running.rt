@@ -4,7 +4,8 @@ ghost use Rattle.std.specs.Prelude.{◌≡◌, ◌≤◌, [], ◌∷◌, IfOk, S
 ghost use Rattle.pi_guard.specs.Guards.{crc};
 ghost use Rattle.report_text.specs.Report.{report};
 ghost use Rattle.target_answer.specs.Image.{formatted};
-ghost use Rattle.big_run.specs.Ran.{RanBig, big_unit};
+ghost use Rattle.big_run.specs.Plain.{big_unit};
+ghost use Rattle.big_run.specs.Ran.{RanBig};
 
 use crate::counting::{OpCounts, bad_blocks, counts_of};
 use dix_base::{CalmStore, Failed, MemSink};

@@ -1,4 +1,4 @@
-use Rattle.std.proofs.Common.{refl, sym, ap, ◌∙◌, arith}
+use Rattle.std.proofs.Common.{arith}
 use Rattle.std.specs.Prelude.{codes}
 use Rattle.big_run.proofs.Records.{devices_recorded, ran_big, rest_of}
 use Rattle.big_run.proofs.running.run_big.Goals as goal
