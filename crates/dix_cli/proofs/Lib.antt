@@ -1,6 +1,0 @@
-mod Carrying
-mod Endings
-mod Flow
-mod Layouts
-mod Opening
-mod ScrubLines

@@ -1,4 +1,0 @@
-pub mod ScrubText
-pub mod Verdict
-pub mod Statuses
-pub mod Headline

@@ -2,25 +2,12 @@
 //! report.
 #![tactic(auto)]
 
-mod big;
-mod commands;
-mod modes;
-mod nvme;
-mod program;
-mod refusal;
-mod running;
-mod scrub_text;
-mod status;
 #[cfg(test)]
 mod tests;
-mod why;
-mod writing;
 
 use dix_base::{FileStore, StdinSource, StdoutSink};
+use dix_run::{Refusal, refuse, run};
 use image_rig::ImageRig;
-pub use program::run;
-pub use refusal::Refusal;
-pub use status::Status;
 use std::process::ExitCode;
 use std::{env, fs, io};
 
@@ -50,7 +37,7 @@ fn main(rt: HostRuntime) -> io::Result<ExitCode> {
     let mut out = StdoutSink::new(rt.clone()?);
     let status = match words_of(&rt) {
         Ok(words) => run(rt.alloc(), &words, &mut script, &mut rig, &mut out),
-        Err(error) => program::refuse(&mut out, refusal_of(&error)),
+        Err(error) => refuse(&mut out, refusal_of(&error)),
     };
     Ok(ExitCode::from(status.number()))
 }

@@ -1,108 +1,151 @@
-//! Calls over forms in memory: rows of words and sources with what each call comes to.
+//! Calls of the top call over an image in a file. Calls over forms in memory are the rows of the program `call_rows`.
 
-mod capacities;
-mod files;
-mod scrubs;
-
-use crate::run;
-use dix_base::{MemSink, MemSource, MemStore};
+use dix_base::{FileStore, MemSink, MemSource, Sink, Source};
+use dix_run::run;
 use image_rig::ImageRig;
+use rig_api::Rig;
 use std::alloc::Global;
+use std::fs::{OpenOptions, Permissions};
+use std::os::unix::fs::PermissionsExt;
 use std::test::Fail;
+use std::{env, fs, process};
 
-/// The lines of a script before its ops: the one device of an image of four blocks.
-const BEGIN: &str =
-    "dix 1\nmode crc on on 1\nlimits 64 16 16\npages 1\nlinear 0 4 dev 0 at 0\nbegin\n";
+/// The source of each call: a block is written and read.
+const SCRIPT: &[u8] =
+    b"dix 1\nmode crc on on 1\nlimits 64 16 16\npages 1\nlinear 0 4 dev 0 at 0\nbegin\nfill 0:0:512 07\nwrite 3 1 0:0:512\nread 3 1 0:512:512\nshow 0:1022:2\n";
 
-/// The calls of the forms in memory that fail, 0 for none, and the room of the sink.
-#[derive(Clone, Copy)]
-struct Faults {
-    source: u64,
-    store: u64,
-    sink: u64,
-    room: u32,
+/// A path in the folder for temporary files, of this process alone.
+fn path_of(rt: HostRuntime) -> Result<String, Fail> {
+    let id = process::id(rt.process());
+    let name = format!(in rt.alloc(); "dix_cli_{id}")?;
+    Ok(
+        env::temp_dir(&rt)?
+            .join(rt.alloc(), name.as_str())?
+            .into_string(),
+    )
 }
 
-const NO_FAULTS: Faults = Faults {
-    source: 0,
-    store: 0,
-    sink: 0,
-    room: 4096,
-};
-
-/// What a call left.
-#[derive(Drop)]
-struct Left {
-    status: u8,
-    text: String,
-    image: Vec<u8>,
-}
-
-/// The words between bars.
-fn words_of(alloc: Global, line: &str) -> Result<Vec<String>, Fail> {
+/// The words of a line, with the path in the place of `a`.
+fn words_of(alloc: Global, line: &str, path: &str) -> Result<Vec<String>, Fail> {
     let mut words = Vec::new(alloc);
-    for word in line.split('|') {
+    for word in line.split(' ') {
+        let word = if word == "a" { path } else { word };
         words.push(String::from_str(alloc, word)?)?;
     }
     Ok(words)
 }
 
-/// Does the command of these words with this source over this image, with these faults.
-fn left_by(
+/// The exit status of a call.
+fn exit<S: Source, R: Rig, O: Sink>(
     alloc: Global,
-    line: &str,
-    source: &[u8],
-    image: Vec<u8>,
-    faults: Faults,
-) -> Result<Left, Fail> {
-    let text = Vec::from_slice(alloc, source)?;
-    let mut source = MemSource::new(text, vec![in alloc; faults.source]?);
-    let mut rig = ImageRig::new(alloc, MemStore::new(image, vec![in alloc; faults.store]?));
-    let mut sink = MemSink::new(alloc, faults.room, vec![in alloc; faults.sink]?)?;
-    let status = run(
-        alloc,
-        &words_of(alloc, line)?,
-        &mut source,
-        &mut rig,
-        &mut sink,
-    );
-    Ok(Left {
-        status: status.number(),
-        text: String::from_utf8(Vec::from_slice(alloc, sink.bytes())?)?,
-        image: Vec::from_slice(alloc, rig.store().bytes())?,
-    })
+    words: &[String],
+    source: &mut S,
+    rig: &mut R,
+    out: &mut O,
+) -> u8 {
+    run(alloc, words, source, rig, out).number()
 }
 
-/// The image that these words format.
-fn made(alloc: Global, format: &str) -> Result<Vec<u8>, Fail> {
-    let done = left_by(alloc, format, b"", Vec::new(alloc), NO_FAULTS)?;
-    Ok(done.image)
+/// The status and the text of a call with the words of this line.
+fn done_by(rt: HostRuntime, line: &str, path: &str) -> Result<(u8, String), Fail> {
+    let words = words_of(rt.alloc(), line, path)?;
+    let text = Vec::from_slice(rt.alloc(), SCRIPT)?;
+    let mut source = MemSource::new(text, Vec::new(rt.alloc()));
+    let mut rig = ImageRig::new(rt.alloc(), FileStore::new(rt));
+    let mut sink = MemSink::new(rt.alloc(), 4096, Vec::new(rt.alloc()))?;
+    let status = exit(rt.alloc(), &words, &mut source, &mut rig, &mut sink);
+    let held = Vec::from_slice(rt.alloc(), sink.bytes())?;
+    Ok((status, String::from_utf8(held)?))
 }
 
-/// Writes bytes over those of the image from this place on, as far as it has them.
-fn put(image: &mut [u8], at: usize, bytes: &[u8]) {
-    for (place, byte) in image.iter_mut().skip(at).zip(bytes) {
-        *place = *byte;
+/// Sets a byte of the file to 01h.
+fn damage(rt: HostRuntime, path: &str, at: usize) -> Result<(), Fail> {
+    let mut bytes = fs::read(&rt, path)?;
+    if let Some(byte) = bytes.get_mut(at) {
+        *byte = 1;
     }
+    fs::write(&rt, path, &bytes)?;
+    Ok(())
 }
 
-/// The usage line.
-const USAGE: &str =
-    "usage: dix run IMAGE, trace IMAGE, format IMAGE T:BLOCKS.., migrate IMAGE, scrub IMAGE, nvme IMAGE, modes T, big N SEED\n";
-
-/// Words that are not in the grammar, or whose command isn't built, with a `;` between each.
-fn no_commands() -> &'static str {
-    ";run;run|a|b;run|a|;run|-a;run|;RUN|a;run |a;a|run;trace;trace|-a;trace|a|b;mirror|a;nvme;nvme|-a;nvme|a|b;modes;modes|01;modes|4;big|1;big|01|1;big|1025|1;big|0|1;big|1|4294967296;big|1|1|1;format|x;format|x|1:0;format|x|4:1;format|x|1:65537;format|x|1:1:512;format|x|1:1:513:0;format|x|1:8193:4096:0;format|x|1:1:512:9223372036854775808;format|-x|1:1;format||1:1;format|x|1:1|;format|x|1:1|1:1|1:1|1:1|1:1|1:1|1:1|1:1|1:1;format|x|01:1;format|x|1:01;migrate;migrate|-a;migrate|a|b;scrub;scrub|-a;scrub|a|b;verify|a;usage"
-}
+/// The words of each call, the byte that is damaged before it where it isn't 0, the status and the
+/// text. A directory is no file, and the full device takes no byte.
+const STEPS: [(&str, usize, u8, &str); 14] = [
+    ("scrub a", 0, 5, "rig fault\n"),
+    ("run a", 0, 5, "rig fault\n"),
+    ("format / 1:4", 0, 5, "rig fault\n"),
+    ("scrub /", 0, 5, "rig fault\n"),
+    ("format /dev/full 1:4", 0, 5, "rig fault\n"),
+    ("format a 1:256 1:256", 0, 0, "formatted 2\n"),
+    ("scrub a", 0, 0, "dix scrub 1\nscrubbed 512 bad 0\n"),
+    (
+        "run a",
+        0,
+        0,
+        "dix report 1\nop 2 whole\nop 3 whole\nop 4 0707\n",
+    ),
+    (
+        "scrub a",
+        52_512,
+        1,
+        "dix scrub 1\nbad 0 100 target guard\nscrubbed 512 bad 1\n",
+    ),
+    ("migrate a", 0, 0, "migrated 2\n"),
+    (
+        "scrub a",
+        0,
+        1,
+        "dix scrub 1\nbad 0 100 target guard\nscrubbed 512 bad 1\n",
+    ),
+    ("migrate a", 0, 0, "migrated 0\n"),
+    (
+        "run a",
+        2_080,
+        0,
+        "dix report 1\nop 2 whole\nop 3 whole\nop 4 0707\n",
+    ),
+    ("scrub a", 9, 4, "image BadHeader\n"),
+];
 
 #[test]
-fn words_that_are_no_command_are_refused(rt: HostRuntime) -> Result<(), Fail> {
-    let image = made(rt.alloc(), "format|a|1:4")?;
-    for line in no_commands().split(';') {
-        let done = left_by(rt.alloc(), line, b"", image.clone()?, NO_FAULTS)?;
-        assert_eq!(rt; done.status, 2, "at {line}");
-        assert_eq!(rt; done.text.as_str(), USAGE, "at {line}");
-        assert_eq!(rt; done.image.as_slice(), image.as_slice(), "at {line}");
+fn an_image_in_a_file_is_made_and_looked_after(rt: HostRuntime) -> Result<(), Fail> {
+    let path = path_of(rt)?;
+    for (line, at, status, text) in STEPS {
+        if at > 0 {
+            damage(rt, path.as_str(), at)?;
+        }
+        let (number, said) = done_by(rt, line, path.as_str())?;
+        assert_eq!(rt; number, status, "at {line}");
+        assert_eq!(rt; said.as_str(), text, "at {line}");
     }
+    let image = fs::read(&rt, path.as_str())?;
+    assert_eq!(rt; image.len(), 266_752);
+    assert!(rt; image.starts_with(b"DIXIMG02"));
+    let _ = fs::remove_file(&rt, path.as_str());
+    Ok(())
+}
+
+/// Whoever may write every file opens it all the same.
+#[test]
+fn a_file_that_is_only_to_be_read_is_no_image(rt: HostRuntime) -> Result<(), Fail> {
+    let mut path = path_of(rt)?;
+    path.push_str("_read")?;
+    fs::write(&rt, path.as_str(), b"")?;
+    fs::set_permissions(&rt, path.as_str(), Permissions::from_mode(0o444))?;
+    let may_write = OpenOptions::new()
+        .write(true)
+        .open(&rt, path.as_str())
+        .is_ok();
+    let (status, said) = done_by(rt, "scrub a", path.as_str())?;
+    assert_eq!(rt; status, if may_write { 4 } else { 5 });
+    assert_eq!(rt;
+        said.as_str(),
+        if may_write {
+            "image BadMagic\n"
+        } else {
+            "rig fault\n"
+        }
+    );
+    let _ = fs::remove_file(&rt, path.as_str());
     Ok(())
 }

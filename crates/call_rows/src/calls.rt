@@ -1,0 +1,62 @@
+//! One call of the top call, and what comes of it.
+
+use crate::lines::{behind, numbers};
+use crate::sources::{source_in, words_in};
+use dix_base::{MemSink, MemSource, Sink, Source};
+use dix_run::run;
+use report_text::print_trace;
+use rig_api::Rig;
+use std::alloc::{AllocError, Global};
+
+/// The most bytes of a text or a trace, where a row says nothing else.
+const ROOM: u32 = 100_000;
+
+/// What a call came to.
+#[derive(Drop)]
+pub(crate) struct Came {
+    pub(crate) status: u8,
+    pub(crate) text: Vec<u8>,
+    /// All records of the rig.
+    pub(crate) records: Vec<u8>,
+}
+
+/// The exit status of a call.
+fn exit<S: Source, R: Rig, O: Sink>(
+    alloc: Global,
+    words: &[String],
+    source: &mut S,
+    rig: &mut R,
+    out: &mut O,
+) -> u8 {
+    run(alloc, words, source, rig, out).number()
+}
+
+fn records_of<R: Rig>(alloc: Global, rig: &R) -> Result<Vec<u8>, AllocError> {
+    let mut sink = MemSink::new(alloc, ROOM, Vec::new(alloc))?;
+    let _ = print_trace(&mut sink, rig, 0);
+    Vec::from_slice(alloc, sink.bytes())
+}
+
+/// A sink with the room that a row says, which fails as it says.
+fn sink_in(alloc: Global, lines: &[String]) -> Result<MemSink, AllocError> {
+    let room = behind(lines, "room").parse::<u32>().unwrap_or(ROOM);
+    MemSink::new(alloc, room, numbers(alloc, lines, "sink-fails")?)
+}
+
+/// Calls the top call with the words and the source of a row over a rig.
+pub(crate) fn came_over<R: Rig>(
+    alloc: Global,
+    lines: &[String],
+    rig: &mut R,
+) -> Result<Came, AllocError> {
+    let words = words_in(alloc, lines)?;
+    let fails = numbers(alloc, lines, "source-fails")?;
+    let mut source = MemSource::new(source_in(alloc, lines)?, fails);
+    let mut sink = sink_in(alloc, lines)?;
+    let status = exit(alloc, &words, &mut source, rig, &mut sink);
+    Ok(Came {
+        status,
+        text: Vec::from_slice(alloc, sink.bytes())?,
+        records: records_of(alloc, rig)?,
+    })
+}

@@ -1,0 +1,6 @@
+mod Carrying
+mod Endings
+mod Flow
+mod Layouts
+mod Opening
+mod ScrubLines

@@ -1,0 +1,125 @@
+use Rattle.std.proofs.Common.{ℕ, ◌≡◌, inl, inr, List, Option, Some, None, ap, ◌∙◌}
+use Rattle.image_commands.specs.Causes.{CauseUnformatted, CauseUnmigrated, CauseUnscrubbed, CauseUntold, HasOpened}
+use Rattle.image_commands.specs.Views.{OpenedOnce, View}
+use Rattle.image_commands.specs.declared.fault.Fault.{Fault}
+use Rattle.image_commands.specs.declared.fault.Fault.TheVariants as fault
+use Rattle.nvme_command.proofs.Completes.{done_opens, not_done_opens}
+use Rattle.nvme_command.specs.declared.fault.NvmFault.{NvmFault}
+use Rattle.rig_api.specs.Telling.{Standing, Stayed}
+use Rattle.dix_words.specs.Grammar.{command_in, image_in}
+use Rattle.dix_words.specs.declared.command.Command.{Command}
+use Rattle.dix_words.specs.declared.command.Command.TheVariants.{Run, Trace, Format, Migrate, Mirror, Scrub, Nvme, Modes, Big}
+use Rattle.script_text.specs.declared.script.Script.{Script}
+use Rattle.script_verdict.specs.Verdict.{CauseRefused, CauseStopped, HasRunSource, StoppedShort}
+use Rattle.script_verdict.specs.declared.refusal.Refusal.{Refusal as Stop}
+use Rattle.script_verdict.specs.declared.refusal.Refusal.TheVariants as stop
+use Rattle.script_verdict.specs.declared.verdict.Finished.{Finished}
+use Rattle.dix_run.specs.Headline.{OpensOnce}
+use Rattle.dix_run.specs.Verdict.{ByFault, ByNvmFault, Cause, CauseByCommand, CauseNotRun, Commanded, Ended, Facts, Formatted, Generated, HasNoCommand, Mapped, Migrated, Refused, Reported, Scrubbed, Traced, Verdict, WantsMemory, call_of, fault_of, nvm_fault_of}
+use Rattle.dix_run.specs.declared.refusal.Refusal.{Refusal}
+use Rattle.dix_run.specs.declared.refusal.Refusal.TheVariants as refusal
+use Rattle.dix_run.specs.declared.status.Status.{Status}
+
+-- The rig is opened at most once in a call.
+
+stayed : (a b : View) → b ≡ a → Stayed a.standing b.standing
+stayed a b e = (ap (λ (v : View). v.standing.openings) e, ap (λ (v : View). v.standing.name) e)
+
+opened_on : (name : List ℕ) (old between told new : View) → HasOpened name old between told → new.standing ≡ told.standing → OpenedOnce name old.standing new.standing
+opened_on name old between told new o same =
+    let to : new.standing ≡ between.standing = same ∙ o.standing in
+    inr (ap (λ (s : Standing). s.openings) to ∙ o.opened.opened.0, ap (λ (s : Standing). s.name) to ∙ o.opened.opened.1)
+
+opened_still : (name : List ℕ) (old between new : View) → HasOpened name old between new → OpenedOnce name old.standing new.standing
+opened_still name old between new o = inr (ap (λ (s : Standing). s.openings) o.standing ∙ o.opened.opened.0, ap (λ (s : Standing). s.name) o.standing ∙ o.opened.opened.1)
+
+untold_opens : (x : Fault) (name : List ℕ) (old new : View) → CauseUntold x name old new → OpenedOnce name old.standing new.standing
+untold_opens (fault.Image f) name old new c = inr c.0.opened
+untold_opens (fault.BadCapacity dev) name old new c = opened_still name old c.between new c.since
+untold_opens fault.RigFault name old new c = inr c.1
+untold_opens fault.Memory name old new c = c.1
+
+short_opens : (name : List ℕ) (old new : View) → StoppedShort name old new → OpenedOnce name old.standing new.standing
+short_opens name old new (inl c) = c.1
+short_opens name old new (inr c) = opened_still name old c.1.told.between new c.1.told.since
+
+stopped_opens : (s : Stop) (script : Script) (name : List ℕ) (old new : View) → CauseStopped s script name old new → OpenedOnce name old.standing new.standing
+stopped_opens (stop.Script bad) script name old new c = opened_still name old c.asked.told.between new c.asked.told.since
+stopped_opens (stop.Image x) script name old new c = untold_opens (fault.Image x) name old new c
+stopped_opens (stop.BadCapacity dev) script name old new c = untold_opens (fault.BadCapacity dev) name old new c
+stopped_opens (stop.Volume entry kind) script name old new c = opened_still name old c.asked.told.between new c.asked.told.since
+stopped_opens stop.RigFault script name old new c = untold_opens fault.RigFault name old new c
+stopped_opens stop.Memory script name old new c = short_opens name old new c
+stopped_opens stop.ReadFault script name old new c = absurd c
+
+refused_opens : (f : Facts) (s : Stop) → CauseRefused s (call_of f) → OpensOnce f
+refused_opens f s (inl c) = inl (stayed f.rig f.rig_after c.1)
+refused_opens f s (inr c) = stopped_opens s c.0 (image_in f.words) f.rig f.rig_after c.2
+
+not_run_opens : (f : Facts) (r : Refusal) → CauseNotRun r f → OpensOnce f
+not_run_opens f refusal.Words c = absurd c
+not_run_opens f (refusal.Stopped s) c = refused_opens f s c
+
+run_opens : (f : Facts) (run : Finished) → HasRunSource run (call_of f) → OpensOnce f
+run_opens f run r = opened_on (image_in f.words) f.rig r.ran.asked.told.between r.ran.told f.rig_after r.ran.asked.told.since r.ran.followed.goes.standing
+
+format_opens : (x : Option Fault) (name : List ℕ) (old new : View) → ByFault CauseUnformatted x name old new → OpenedOnce name old.standing new.standing
+format_opens None name old new c = absurd c
+format_opens (Some (fault.Image f)) name old new c = absurd c
+format_opens (Some (fault.BadCapacity dev)) name old new c = absurd c
+format_opens (Some fault.RigFault) name old new c = inr c.1
+format_opens (Some fault.Memory) name old new c = c.0
+
+migrate_opens : (x : Option Fault) (name : List ℕ) (old new : View) → ByFault CauseUnmigrated x name old new → OpenedOnce name old.standing new.standing
+migrate_opens None name old new c = absurd c
+migrate_opens (Some (fault.Image f)) name old new c = inr c.0.opened
+migrate_opens (Some (fault.BadCapacity dev)) name old new c = absurd c
+migrate_opens (Some fault.RigFault) name old new c = inr c.1
+migrate_opens (Some fault.Memory) name old new c = c.1
+
+spared_opens : (name : List ℕ) (old new : View) → CauseUnscrubbed fault.Memory name old new → OpenedOnce name old.standing new.standing
+spared_opens name old new (inl c) = c.1
+spared_opens name old new (inr c) = opened_on name old c.discovered.between c.told new c.discovered.since c.standing
+
+scrub_opens : (x : Option Fault) (name : List ℕ) (old new : View) → ByFault CauseUnscrubbed x name old new → OpenedOnce name old.standing new.standing
+scrub_opens None name old new c = absurd c
+scrub_opens (Some (fault.Image f)) name old new c = untold_opens (fault.Image f) name old new c
+scrub_opens (Some (fault.BadCapacity dev)) name old new c = untold_opens (fault.BadCapacity dev) name old new c
+scrub_opens (Some fault.RigFault) name old new c = untold_opens fault.RigFault name old new c
+scrub_opens (Some fault.Memory) name old new c = spared_opens name old new c
+
+nvme_opens : (x : Option NvmFault) (f : Facts) → ByNvmFault x f → OpensOnce f
+nvme_opens None f c = absurd c
+nvme_opens (Some x) f c = not_done_opens x (image_in f.words) f.left f.left_after f.reads f.reads_after f.rig f.rig_after c
+
+none_opens : (f : Facts) (r : Refusal) → HasNoCommand r f → OpensOnce f
+none_opens f r c = inl (stayed f.rig f.rig_after c.1)
+
+wanting_opens : (f : Facts) (r : Refusal) → WantsMemory r f → OpensOnce f
+wanting_opens f r c = inl (stayed f.rig f.rig_after c.1)
+
+command_opens : (f : Facts) (c : Option Command) (r : Refusal) → CauseByCommand c r f → OpensOnce f
+command_opens f None r cause = none_opens f r cause
+command_opens f (Some Run) r cause = not_run_opens f r cause
+command_opens f (Some Trace) r cause = not_run_opens f r cause
+command_opens f (Some (Format us)) r cause = format_opens (fault_of r) (image_in f.words) f.rig f.rig_after cause.0
+command_opens f (Some Migrate) r cause = migrate_opens (fault_of r) (image_in f.words) f.rig f.rig_after cause.0
+command_opens f (Some Mirror) r cause = none_opens f r cause
+command_opens f (Some Scrub) r cause = scrub_opens (fault_of r) (image_in f.words) f.rig f.rig_after cause.0
+command_opens f (Some Nvme) r cause = nvme_opens (nvm_fault_of r) f cause
+command_opens f (Some (Modes ty)) r cause = wanting_opens f r cause
+command_opens f (Some (Big n seed)) r cause = wanting_opens f r cause
+
+opens : (f : Facts) (v : Verdict) → Cause v f → OpensOnce f
+opens f (Refused r) c = command_opens f (command_in f.words) r c
+opens f (Reported replies) c = run_opens f c.run c.ran
+opens f (Traced replies log) c = run_opens f c.run c.ran
+opens f (Formatted n) c = inr c.done.opened
+opens f (Migrated n) c = inr c.done.opened
+opens f (Scrubbed ds found) c = opened_on (image_in f.words) f.rig c.done.discovered.between c.done.told f.rig_after c.done.discovered.since c.done.standing
+opens f (Commanded bad text) c = done_opens (image_in f.words) text bad f.left f.left_after f.rig f.rig_after c.done
+opens f (Mapped ty) c = inl (stayed f.rig f.rig_after c.rig_is)
+opens f (Generated n seed b) c = inl (stayed f.rig f.rig_after c.rig_is)
+
+pub opens_once : (f : Facts) (taken taken' : Option (List ℕ)) (o n : ℕ) (result : Status) → Ended f taken taken' o n result → OpensOnce f
+opens_once f taken taken' o n result ended = opens f ended.verdict ended.cause

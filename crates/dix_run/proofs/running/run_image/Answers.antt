@@ -1,0 +1,9 @@
+use Rattle.std.proofs.Common.{inl}
+use Rattle.dix_run.proofs.Endings.{ended_run, unrun}
+use Rattle.dix_run.proofs.running.run_image.Goals as goal
+
+pub returns-in-Ok : goal.returns-in-Ok
+returns-in-Ok g c = ended_run _ c.in-Ok.run' _ _ _ _ c.report_run.result c.requires (rw c.image_of.ensures at c.in-Ok.ensures.verdict) c.report_run.ensures
+
+pub returns-in-Err : goal.returns-in-Err
+returns-in-Err g c = unrun _ c.in-Err.stop _ _ _ _ c.refuse.result (inl c.requires) (rw c.image_of.ensures at c.in-Err.ensures.verdict) c.refuse.ensures

@@ -1,0 +1,4 @@
+pub mod ScrubText
+pub mod Verdict
+pub mod Statuses
+pub mod Headline

@@ -1,0 +1,30 @@
+//! The run of a script that numbers make.
+
+ghost use Rattle.std.specs.Prelude.{◌≡◌, ◌≤◌, Some};
+ghost use Rattle.dix_words.specs.Grammar.{command_in};
+ghost use Rattle.dix_words.specs.declared.command.Command.{Command};
+ghost use Rattle.dix_run.specs.Verdict.{Ended, Facts, LeavesSource};
+
+use crate::program::{finish, refuse, status_for};
+use crate::refusal::Refusal;
+use crate::status::Status;
+use big_run::{big_text, run_big};
+use dix_base::Sink;
+use std::alloc::Global;
+
+/// `big N SEED`: runs the script that the two numbers make over two units in memory, and writes six
+/// lines on it. Neither source nor rig is touched.
+pub(crate) fn big<O: Sink>(alloc: Global, n: u32, seed: u32, out: &mut O) -> Status
+    requires { n ≤ 1024 }
+    ensures { (f : Facts) → command_in f.words ≡ Some (Command.Big n seed) → f.rig_after ≡ f.rig → LeavesSource f
+        → Ended f (O.taken out.old) (O.taken out.new) (O.faults out.old) (O.faults out.new) result }
+{
+    match run_big(alloc, n, seed) {
+        Ok(run) => finish(
+            out,
+            big_text(n, seed, run).as_slice(),
+            status_for(run.has_bad),
+        ),
+        Err(_) => refuse(out, Refusal::MEMORY),
+    }
+}

@@ -1,0 +1,117 @@
+//! The commands that make images and look after them. None of them reads the source.
+
+ghost use Rattle.std.specs.Prelude.{◌≡◌, ◌≤◌, ◌++◌, ℕ, List, Option, Some, codes, decimal, length};
+ghost use Rattle.dix_words.specs.Grammar.{command_in, word_bytes};
+ghost use Rattle.dix_words.specs.declared.command.Command.{Command};
+ghost use Rattle.image_commands.specs.Views.{seen, view};
+ghost use Rattle.dix_run.specs.Verdict.{Ended};
+
+use crate::program::{finish, refuse, status_for};
+use crate::refusal::Refusal;
+use crate::scrub_text::{has_some, scrub_text};
+use crate::status::Status;
+use dix_base::Sink;
+use dix_words::{UnitList, image_of};
+use image_commands::{format_image, migrate_image, scrub_image};
+use rig_api::Rig;
+use script_verdict::{Line, add, add_number};
+use std::alloc::Global;
+
+/// The line that says how many units were formatted or migrated.
+fn count_line(what: &[u8], count: u32) -> Line
+    requires { length what.now ≤ 16 }
+    ensures { result.items ≡ what.now ++ (decimal count ++ codes "\n") }
+{
+    let mut line = Line::new();
+    add(&mut line, what);
+    add_number(&mut line, u64::from(count));
+    add(&mut line, b"\n");
+    line
+}
+
+/// `format IMAGE T:BLOCKS ..`: makes the image of the words the formatted one of these units.
+pub(crate) fn format<R: Rig, O: Sink>(
+    alloc: Global,
+    words: &[String],
+    units: &UnitList,
+    rig: &mut R,
+    out: &mut O,
+) -> Status
+    requires { command_in (word_bytes words.now) ≡ Some (Command.Format units.now) }
+    ensures { (left : Option (List ℕ)) (reads : ℕ) → Ended (record {
+      words = word_bytes words.now;
+      left = left;
+      left_after = left;
+      reads = reads;
+      reads_after = reads;
+      rig = view (R.image rig.old) (R.standing rig.old) (seen (R.units rig.old) (R.log rig.old) (R.faults rig.old));
+      rig_after = view (R.image rig.new) (R.standing rig.new) (seen (R.units rig.new) (R.log rig.new) (R.faults rig.new));
+    }) (O.taken out.old) (O.taken out.new) (O.faults out.old) (O.faults out.new) result }
+{
+    let units = units.as_slice();
+    match format_image(alloc, image_of(words), units, rig) {
+        Ok(()) => finish(
+            out,
+            count_line(b"formatted ", units.len() as u32).as_slice(),
+            Status::Whole,
+        ),
+        Err(fault) => refuse(out, Refusal::of(fault)),
+    }
+}
+
+/// `migrate IMAGE`: replaces the header of version 1 of the image by the equal one of version 2.
+pub(crate) fn migrate<R: Rig, O: Sink>(
+    alloc: Global,
+    words: &[String],
+    rig: &mut R,
+    out: &mut O,
+) -> Status
+    requires { command_in (word_bytes words.now) ≡ Some Command.Migrate }
+    ensures { (left : Option (List ℕ)) (reads : ℕ) → Ended (record {
+      words = word_bytes words.now;
+      left = left;
+      left_after = left;
+      reads = reads;
+      reads_after = reads;
+      rig = view (R.image rig.old) (R.standing rig.old) (seen (R.units rig.old) (R.log rig.old) (R.faults rig.old));
+      rig_after = view (R.image rig.new) (R.standing rig.new) (seen (R.units rig.new) (R.log rig.new) (R.faults rig.new));
+    }) (O.taken out.old) (O.taken out.new) (O.faults out.old) (O.faults out.new) result }
+{
+    match migrate_image(alloc, image_of(words), rig) {
+        Ok(count) => finish(
+            out,
+            count_line(b"migrated ", count).as_slice(),
+            Status::Whole,
+        ),
+        Err(fault) => refuse(out, Refusal::of(fault)),
+    }
+}
+
+/// `scrub IMAGE`: looks at every stored block of the image, and reports those at fault.
+pub(crate) fn scrub<R: Rig, O: Sink>(
+    alloc: Global,
+    words: &[String],
+    rig: &mut R,
+    out: &mut O,
+) -> Status
+    requires { command_in (word_bytes words.now) ≡ Some Command.Scrub }
+    ensures { (left : Option (List ℕ)) (reads : ℕ) → Ended (record {
+      words = word_bytes words.now;
+      left = left;
+      left_after = left;
+      reads = reads;
+      reads_after = reads;
+      rig = view (R.image rig.old) (R.standing rig.old) (seen (R.units rig.old) (R.log rig.old) (R.faults rig.old));
+      rig_after = view (R.image rig.new) (R.standing rig.new) (seen (R.units rig.new) (R.log rig.new) (R.faults rig.new));
+    }) (O.taken out.old) (O.taken out.new) (O.faults out.old) (O.faults out.new) result }
+{
+    let mut found = Vec::new(alloc);
+    let devices = match scrub_image(alloc, image_of(words), rig, &mut found) {
+        Ok(devices) => devices,
+        Err(fault) => return refuse(out, Refusal::of(fault)),
+    };
+    match scrub_text(alloc, &devices, &found) {
+        Ok(text) => finish(out, &text, status_for(has_some(&found))),
+        Err(_) => refuse(out, Refusal::MEMORY),
+    }
+}

@@ -1,0 +1,19 @@
+//! The top call of the program `dix`: makes disk images and looks after them, runs a script on one and
+//! writes a report.
+#![tactic(auto)]
+
+mod big;
+mod commands;
+mod modes;
+mod nvme;
+mod program;
+mod refusal;
+mod running;
+mod scrub_text;
+mod status;
+mod why;
+mod writing;
+
+pub use program::{refuse, run};
+pub use refusal::Refusal;
+pub use status::Status;

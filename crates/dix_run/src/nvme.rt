@@ -1,0 +1,42 @@
+//! NVM commands on an image.
+
+ghost use Rattle.std.specs.Prelude.{◌≡◌, Some};
+ghost use Rattle.dix_words.specs.Grammar.{command_in, word_bytes};
+ghost use Rattle.dix_words.specs.declared.command.Command.{Command};
+ghost use Rattle.image_commands.specs.Views.{seen, view};
+ghost use Rattle.dix_run.specs.Verdict.{Ended, Facts};
+
+use crate::program::{finish, refuse, status_for};
+use crate::refusal::Refusal;
+use crate::status::Status;
+use dix_base::{Sink, Source};
+use dix_words::image_of;
+use nvme_command::do_commands;
+use rig_api::Rig;
+use std::alloc::Global;
+
+/// `nvme IMAGE`: does the NVM commands of the source's lines, and writes their completions.
+pub(crate) fn nvme<S: Source, R: Rig, O: Sink>(
+    alloc: Global,
+    words: &[String],
+    source: &mut S,
+    rig: &mut R,
+    out: &mut O,
+) -> Status
+    requires { command_in (word_bytes words.now) ≡ Some Command.Nvme }
+    ensures { let f : Facts = record {
+      words = word_bytes words.now;
+      left = S.left source.old;
+      left_after = S.left source.new;
+      reads = S.faults source.old;
+      reads_after = S.faults source.new;
+      rig = view (R.image rig.old) (R.standing rig.old) (seen (R.units rig.old) (R.log rig.old) (R.faults rig.old));
+      rig_after = view (R.image rig.new) (R.standing rig.new) (seen (R.units rig.new) (R.log rig.new) (R.faults rig.new));
+    } in
+        Ended f (O.taken out.old) (O.taken out.new) (O.faults out.old) (O.faults out.new) result }
+{
+    match do_commands(alloc, image_of(words), source, rig) {
+        Ok(done) => finish(out, &done.text, status_for(done.bad)),
+        Err(fault) => refuse(out, Refusal::of_commands(fault)),
+    }
+}

@@ -1,0 +1,80 @@
+//! The top call.
+
+ghost use Rattle.std.specs.Prelude.{◌≡◌};
+ghost use Rattle.dix_words.specs.Grammar.{word_bytes};
+ghost use Rattle.image_commands.specs.Views.{seen, view};
+ghost use Rattle.dix_run.specs.Headline.{Carries};
+ghost use Rattle.dix_run.specs.Verdict.{Facts, Written, done_status, refusal_text, status_of};
+
+use crate::big::big;
+use crate::commands::{format, migrate, scrub};
+use crate::modes::modes;
+use crate::nvme::nvme;
+use crate::refusal::Refusal;
+use crate::running::{run_image, trace_image};
+use crate::status::Status;
+use crate::writing::write_all;
+use dix_base::{Failed, Sink, Source};
+use dix_words::{Command, command_of};
+use rig_api::Rig;
+use std::alloc::Global;
+
+/// Writes the text, and says what the call comes to.
+pub(crate) fn finish<O: Sink>(out: &mut O, text: &[u8], status: Status) -> Status
+    ensures { Written status text.now (O.taken out.old) (O.taken out.new) (O.faults out.old) (O.faults out.new) result }
+{
+    match write_all(out, text) {
+        Ok(()) => status,
+        Err(Failed) => Status::WriteFault,
+    }
+}
+
+/// Writes the line of a refusal.
+pub fn refuse<O: Sink>(out: &mut O, refusal: Refusal) -> Status
+    ensures { Written (status_of refusal) (refusal_text refusal) (O.taken out.old) (O.taken out.new) (O.faults out.old) (O.faults out.new) result }
+{
+    finish(out, refusal.line().as_slice(), refusal.status())
+}
+
+/// The status of a command that was done, by whether something failed in it.
+pub(crate) fn status_for(bad: bool) -> Status
+    ensures { result ≡ done_status bad }
+{
+    if bad { Status::SomeBad } else { Status::Whole }
+}
+
+/// Runs the program on its words, without its own name: does the command that they are, and writes
+/// its text. Only `run`, `trace` and `nvme` read the source.
+pub fn run<S: Source, R: Rig, O: Sink>(
+    alloc: Global,
+    words: &[String],
+    script: &mut S,
+    rig: &mut R,
+    out: &mut O,
+) -> Status
+    ensures { let f : Facts = record {
+      words = word_bytes words.now;
+      left = S.left script.old;
+      left_after = S.left script.new;
+      reads = S.faults script.old;
+      reads_after = S.faults script.new;
+      rig = view (R.image rig.old) (R.standing rig.old) (seen (R.units rig.old) (R.log rig.old) (R.faults rig.old));
+      rig_after = view (R.image rig.new) (R.standing rig.new) (seen (R.units rig.new) (R.log rig.new) (R.faults rig.new));
+    } in
+        Carries f (O.taken out.old) (O.taken out.new) (O.faults out.old) (O.faults out.new) result }
+{
+    let Some(command) = command_of(words) else {
+        return refuse(out, Refusal::Words);
+    };
+    match command {
+        Command::Run => run_image(alloc, words, script, rig, out),
+        Command::Trace => trace_image(alloc, words, script, rig, out),
+        Command::Format(units) => format(alloc, words, &units, rig, out),
+        Command::Migrate => migrate(alloc, words, rig, out),
+        Command::Mirror => refuse(out, Refusal::Words),
+        Command::Scrub => scrub(alloc, words, rig, out),
+        Command::Nvme => nvme(alloc, words, script, rig, out),
+        Command::Modes(ty) => modes(alloc, ty, out),
+        Command::Big { n, seed } => big(alloc, n, seed, out),
+    }
+}

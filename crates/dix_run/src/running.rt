@@ -1,0 +1,92 @@
+//! Running a script on an image.
+
+ghost use Rattle.std.specs.Prelude.{◌≡◌, ◌≤◌, ◌++◌, drop, length, Some};
+ghost use Rattle.dix_words.specs.Grammar.{command_in, word_bytes};
+ghost use Rattle.dix_words.specs.declared.command.Command.{Command};
+ghost use Rattle.image_commands.specs.Views.{seen, view};
+ghost use Rattle.report_text.specs.Report.{report};
+ghost use Rattle.report_text.specs.Trace.{trace};
+ghost use Rattle.script_verdict.specs.Texts.{has_bad};
+ghost use Rattle.dix_run.specs.Verdict.{Ended, Facts, Written, done_status};
+
+use crate::program::{refuse, status_for};
+use crate::refusal::Refusal;
+use crate::status::Status;
+use dix_base::{Failed, Sink, Source};
+use dix_words::image_of;
+use rig_api::Rig;
+use script_verdict::{Finished, print_run, print_traced_run, run_source};
+use std::alloc::Global;
+
+/// Writes the report of a run.
+fn report_run<O: Sink>(out: &mut O, run: &Finished) -> Status
+    ensures { Written (done_status (has_bad run.now.stack.replies.items)) (report run.now.stack.replies.items) (O.taken out.old) (O.taken out.new) (O.faults out.old) (O.faults out.new) result }
+{
+    match print_run(out, run) {
+        Ok(()) => status_for(run.has_bad()),
+        Err(Failed) => Status::WriteFault,
+    }
+}
+
+/// Writes the report of a run, and behind it the trace of the records of its call.
+fn trace_run<O: Sink, R: Rig>(out: &mut O, run: &Finished, rig: &R) -> Status
+    requires { run.now.first ≤ length (R.log rig.now) }
+    ensures { Written (done_status (has_bad run.now.stack.replies.items)) (report run.now.stack.replies.items ++ trace (drop run.now.first (R.log rig.now))) (O.taken out.old) (O.taken out.new) (O.faults out.old) (O.faults out.new) result }
+{
+    match print_traced_run(out, run, rig) {
+        Ok(()) => status_for(run.has_bad()),
+        Err(Failed) => Status::WriteFault,
+    }
+}
+
+/// `run IMAGE`: runs the script of the source, and writes its report.
+pub(crate) fn run_image<S: Source, R: Rig, O: Sink>(
+    alloc: Global,
+    words: &[String],
+    source: &mut S,
+    rig: &mut R,
+    out: &mut O,
+) -> Status
+    requires { command_in (word_bytes words.now) ≡ Some Command.Run }
+    ensures { let f : Facts = record {
+      words = word_bytes words.now;
+      left = S.left source.old;
+      left_after = S.left source.new;
+      reads = S.faults source.old;
+      reads_after = S.faults source.new;
+      rig = view (R.image rig.old) (R.standing rig.old) (seen (R.units rig.old) (R.log rig.old) (R.faults rig.old));
+      rig_after = view (R.image rig.new) (R.standing rig.new) (seen (R.units rig.new) (R.log rig.new) (R.faults rig.new));
+    } in
+        Ended f (O.taken out.old) (O.taken out.new) (O.faults out.old) (O.faults out.new) result }
+{
+    match run_source(alloc, image_of(words), source, rig) {
+        Ok(run) => report_run(out, &run),
+        Err(stop) => refuse(out, Refusal::Stopped(stop)),
+    }
+}
+
+/// `trace IMAGE`: as `run`, and writes the trace of this call's records behind the report.
+pub(crate) fn trace_image<S: Source, R: Rig, O: Sink>(
+    alloc: Global,
+    words: &[String],
+    source: &mut S,
+    rig: &mut R,
+    out: &mut O,
+) -> Status
+    requires { command_in (word_bytes words.now) ≡ Some Command.Trace }
+    ensures { let f : Facts = record {
+      words = word_bytes words.now;
+      left = S.left source.old;
+      left_after = S.left source.new;
+      reads = S.faults source.old;
+      reads_after = S.faults source.new;
+      rig = view (R.image rig.old) (R.standing rig.old) (seen (R.units rig.old) (R.log rig.old) (R.faults rig.old));
+      rig_after = view (R.image rig.new) (R.standing rig.new) (seen (R.units rig.new) (R.log rig.new) (R.faults rig.new));
+    } in
+        Ended f (O.taken out.old) (O.taken out.new) (O.faults out.old) (O.faults out.new) result }
+{
+    match run_source(alloc, image_of(words), source, rig) {
+        Ok(run) => trace_run(out, &run, rig),
+        Err(stop) => refuse(out, Refusal::Stopped(stop)),
+    }
+}
