@@ -1,6 +1,6 @@
 /* Measures how long a stack of requests takes to its end under several ways to choose the words, and beside the adapter
-   alone. Times are those of the processor that the thread took. A figure is the median of the rounds; making the stack,
-   which the same library does without running it, is taken off. */
+   alone. Times are those of the processor that the thread took. Ways that are compared are taken in turn, and a figure is
+   the median of the rounds; making the stack, which the same library does without running it, is taken off. */
 #include <malloc.h>
 #include <stdint.h>
 #include <stdio.h>
@@ -65,9 +65,40 @@ static double carry(uint32_t requests) {
 
 struct way {
     const char *name;
-    struct script script;
-    uint32_t words;
+    struct script script; /* without text: the requests of 16 blocks, carried without a stack */
+    uint32_t words;       /* there: requests a command */
 };
+
+static double once(struct way way, uint32_t *sent) {
+    if (way.script.text)
+        return run(way.script, way.words, sent);
+    *sent = BLOCKS / 16 / way.words;
+    return carry(way.words);
+}
+
+/* Takes ways in turn, first a round that isn't counted, and prints the median of each: what else the program measures
+   leaves the caches to them. */
+static void measure(struct way *ways, int count, int rounds, double *figure) {
+    double *times = malloc(sizeof *times * (size_t)(count * rounds));
+    uint32_t sent;
+    if (!times)
+        exit(1);
+    for (int round = -1; round < rounds; round++)
+        for (int way = 0; way < count; way++) {
+            double time = once(ways[way], &sent);
+            if (round >= 0)
+                times[way * rounds + round] = time;
+        }
+    for (int way = 0; way < count; way++) {
+        qsort(times + way * rounds, (size_t)rounds, sizeof *times, by_size);
+        figure[way] = times[way * rounds + rounds / 2];
+        once(ways[way], &sent);
+        printf("| %s | %u | %.2f |\n", ways[way].name, sent, figure[way] * 1e3);
+    }
+    free(times);
+}
+
+enum { SIZES = 3, PAIRS = 4, WORDS = 5, MORE = 10 };
 
 int main(int count, char **arguments) {
     int rounds = count > 1 ? atoi(arguments[1]) : ROUNDS;
@@ -76,35 +107,30 @@ int main(int count, char **arguments) {
     /* Memory that was given back is handed out again, so that the system doesn't clear it anew in each run. */
     mallopt(M_MMAP_MAX, 0);
     mallopt(M_TRIM_THRESHOLD, 1 << 30);
-    struct way ways[] = {
+    struct script none = {NULL, 0};
+    struct way sizes[SIZES] = {
+        {"4,096 blocks, no words", writes(4096, 1024, 1024), ZEROS},
         {"8,192 blocks, no words", writes(8192, 1024, 1024), ZEROS},
         {"16,384 blocks, no words", writes(16384, 1024, 1024), ZEROS},
+    };
+    struct way pairs[PAIRS] = {
+        {"1,024 requests of 16 blocks, no words", writes(16384, 16, 1024), ZEROS},
+        {"the adapter alone, 32 requests a command", none, 32},
+        {"1,024 requests of 16 blocks, 16 blocks a command", writes(16384, 16, 16), ZEROS},
+        {"the adapter alone, a request a command", none, 1},
+    };
+    struct way words[WORDS] = {
         {"cut one by one, joined: words `0/1`", writes(16384, 1024, 1024), FIRST},
         {"the same, one block a command", writes(16384, 1024, 1), FIRST},
         {"each sent alone as soon as it is cut", writes(16384, 1024, 1024), LAST},
         {"each sent alone once all are cut", writes(16384, 1024, 1024), LAST_ONCE_CUT},
         {"16,384 random words, cuts of 1", writes(16384, 1024, 1024), RANDOM},
-        {"1,024 requests of 16 blocks, no words", writes(16384, 16, 1024), ZEROS},
-        {"the same, 16 blocks a command", writes(16384, 16, 16), ZEROS},
     };
-    enum { WAYS = sizeof ways / sizeof *ways, ALL = WAYS + 2 };
-    double *times = malloc(sizeof *times * ALL * (size_t)rounds);
-    uint32_t sent[WAYS];
-    if (!times)
-        return 1;
-    for (int round = 0; round < rounds; round++)
-        for (int way = 0; way < ALL; way++)
-            times[way * rounds + round] = way < WAYS ? run(ways[way].script, ways[way].words, &sent[way]) : carry(way == WAYS ? 32 : 1);
-    double figure[ALL];
-    for (int way = 0; way < ALL; way++) {
-        qsort(times + way * rounds, (size_t)rounds, sizeof *times, by_size);
-        figure[way] = times[way * rounds + rounds / 2];
-    }
+    double size[SIZES], pair[PAIRS], word[WORDS];
     printf("| | commands | ms |\n|---|---|---|\n");
-    for (int way = 0; way < WAYS; way++)
-        printf("| %s | %u | %.2f |\n", ways[way].name, sent[way], figure[way] * 1e3);
-    printf("| the adapter alone, 32 requests a command | %u | %.2f |\n", BLOCKS / 512, figure[WAYS] * 1e3);
-    printf("| the adapter alone, a request a command | %u | %.2f |\n", BLOCKS / 16, figure[WAYS + 1] * 1e3);
-    printf("twice the blocks %.2f, adapter / stack %.2f in commands of 32 requests and %.2f of one\n", figure[1] / figure[0], figure[WAYS] / figure[7], figure[WAYS + 1] / figure[8]);
+    measure(sizes, SIZES, MORE * rounds, size);
+    measure(pairs, PAIRS, MORE * rounds, pair);
+    measure(words, WORDS, rounds, word);
+    printf("twice the blocks %.2f and %.2f; adapter / stack %.2f in commands of 32 requests and %.2f of one\n", size[1] / size[0], size[2] / size[1], pair[1] / pair[0], pair[3] / pair[2]);
     return 0;
 }
