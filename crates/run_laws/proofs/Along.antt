@@ -102,7 +102,7 @@ module _ (m' : Setting) (devices : List DeviceInfo) (lies : LiesOn (checked m') 
     pub spoilt : (dev lba : ℕ) → Ours dev lba → is_hit m (cell dev lba) past ≡ true → Spoilt m' lba (get_or blocks (cell dev lba) [])
     pub newest : (a : Block) → a.virt < count → is_hit m (own_cell m.site (route m a)) past ≡ false → brought_by n (get_or blocks (own_cell m.site (route m a)) []) ≡ last_accepted m opening a past
 
-  own_block : (b : Block) → b.virt < count → HasBlock m devices (route m b).dev (route m b).lba
+  pub own_block : (b : Block) → b.virt < count → HasBlock m devices (route m b).dev (route m b).lba
   own_block b v = lies.inside b.virt v
 
   same_home : (a b : Block) → a.virt < count → b.virt < count → own_cell m.site (route m b) ≡ own_cell m.site (route m a) → b.virt ≡ a.virt
@@ -204,19 +204,19 @@ module _ (m' : Setting) (devices : List DeviceInfo) (lies : LiesOn (checked m') 
         record { escape = not-true _ p.0; foreign = not-true _ p.1 }
 
   -- the frame that the block layer makes
-  own_small : (b : Block) (app : ℕ) (x : List ℕ) → app < 2 ^ 16 → Small (own_tuple (route m b) app x)
+  pub own_small : (b : Block) (app : ℕ) (x : List ℕ) → app < 2 ^ 16 → Small (own_tuple (route m b) app x)
   own_small b app x a = record { guard = guard_below m'.mode.kind x; app = a; rtag = tag_below b.virt }
 
-  own_bare : (b : Block) (app : ℕ) (x : List ℕ) → length x ≡ n → app < 2 ^ 16 → is_escaped One (own_tuple (route m b) app x) ≡ false → IsBare n (own_frame (route m b) app x)
+  pub own_bare : (b : Block) (app : ℕ) (x : List ℕ) → length x ≡ n → app < 2 ^ 16 → is_escaped One (own_tuple (route m b) app x) ≡ false → IsBare n (own_frame (route m b) app x)
   own_bare b app x l a e = record {
     size = length-append x _ ∙ ap (λ k. k + 8) l;
     escape = ap (λ t. is_escaped One t) (tuple_is n x (own_tuple (route m b) app x) l (own_small b app x a)) ∙ e;
   }
 
-  own_brought : (b : Block) (app : ℕ) (x : List ℕ) → length x ≡ n → app < 2 ^ 16 → brought_by n (own_frame (route m b) app x) ≡ record { body = x; app = app }
+  pub own_brought : (b : Block) (app : ℕ) (x : List ℕ) → length x ≡ n → app < 2 ^ 16 → brought_by n (own_frame (route m b) app x) ≡ record { body = x; app = app }
   own_brought b app x l a = same_brought (data_is n x (own_tuple (route m b) app x) l) (ap (λ (t : Tuple). t.app) (tuple_is n x (own_tuple (route m b) app x) l (own_small b app x a)))
 
-  marks_after : (step : Step) (past : List Event) (s : State) → Fits m devices step → SuppliesNoEscape m step s → step_shows m step s ≡ true → Marks past s.blocks → Marks (events_of m step s ++ past) (act (act_of m step) s).blocks
+  pub marks_after : (step : Step) (past : List Event) (s : State) → Fits m devices step → SuppliesNoEscape m step s → step_shows m step s ≡ true → Marks past s.blocks → Marks (events_of m step s ++ past) (act (act_of m step) s).blocks
   marks_after (Sets at values) past s f e d h = h
   marks_after (Shows at) past s f e d h = h
   marks_after (Seals body tuple app rtag) past s f e d h = h
@@ -235,12 +235,12 @@ module _ (m' : Setting) (devices : List DeviceInfo) (lies : LiesOn (checked m') 
       (goes_out m' b x f.1.0 bare d) refl h
   marks_after (Alters dev lba change) past s f e d h = altered dev lba (changed change (get_or s.blocks (source_of m.site dev lba change) [])) past s.blocks f d h
 
-  why_read : (b : Block) (owner : Owner) (w : WayIn) (size after : ℕ) → (read_by (route m b) owner w size after).answer.why ≡ why_ended w
+  pub why_read : (b : Block) (owner : Owner) (w : WayIn) (size after : ℕ) → (read_by (route m b) owner w size after).answer.why ≡ why_ended w
   why_read b owner (Stops why) size after = refl
   why_read b owner (Spoils why carried) size after = refl
   why_read b owner (Delivers carried frame) size after = refl
 
-  read_as : (b : Block) (owner : Owner) (to : List ℕ) (past : List Event) (s : State) → Fits m devices (Reads b owner to) → shows_in m b (get_or s.blocks (fetched_cell m.site (route m b)) []) ≡ true → Marks past s.blocks →
+  pub read_as : (b : Block) (owner : Owner) (to : List ℕ) (past : List Event) (s : State) → Fits m devices (Reads b owner to) → shows_in m b (get_or s.blocks (fetched_cell m.site (route m b)) []) ≡ true → Marks past s.blocks →
       EndsAs m b owner to (first_layer m past b) (last_accepted m opening b past) s
   read_as b owner to past s f d h = convert (first_layer m past b) (reads m' b owner hit stored known) where
     stored : List ℕ
@@ -285,7 +285,7 @@ module _ (m' : Setting) (devices : List DeviceInfo) (lies : LiesOn (checked m') 
           lands = ap (λ w. scatter to (read_by (route m b) owner w (length to) logged).written.bytes s.bytes) r.way;
         }
 
-  begins : DevicesAreClean m devices opening.blocks → Marks [] opening.blocks
+  pub begins : DevicesAreClean m devices opening.blocks → Marks [] opening.blocks
   begins clean = record {
     size = refl;
     sound = λ dev lba o q.

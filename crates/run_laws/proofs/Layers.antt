@@ -117,7 +117,7 @@ module _ (m' : Setting) where
   abbrev target_finds : Block → List ℕ → Option Check
   target_finds b x = finding One (all_asked app 0) (ref_tag (wire b)) (crc (data_of n x)) (tuple_of n x)
 
-  found_is : (b : Block) (x : List ℕ) → found_in (passage m'.site.faults (route m b)) x ≡ target_finds b x
+  pub found_is : (b : Block) (x : List ℕ) → found_in (passage m'.site.faults (route m b)) x ≡ target_finds b x
   unfolding found_in
   found_is b x = refl
 
@@ -132,14 +132,14 @@ module _ (m' : Setting) where
     pub foreign : bears (tuple_of n x) (crc (data_of n x)) (ref_tag a) ≡ false
 
   -- what is asked for after a crossing, with one of the block's tags
-  abbrev Passes : Crossing → Tuple → ℕ → ℕ → Bool
+  abbrev pub Passes : Crossing → Tuple → ℕ → ℕ → Bool
   Passes at t g r = bears t g r && (not (asks_app at) || as_expected m t.app)
 
-  record Foreign (b : Block) (at : Crossing) (g : ℕ) (t : Tuple) : Type 0 where
-    escape : is_escaped One t ≡ false
-    virtual : Passes at t g (ref_tag b.virt) ≡ false
-    physical : Passes at t g (ref_tag (lba b)) ≡ false
-    on_wire : Passes at t g (ref_tag (wire b)) ≡ false
+  pub record Foreign (b : Block) (at : Crossing) (g : ℕ) (t : Tuple) : Type 0 where
+    pub escape : is_escaped One t ≡ false
+    pub virtual : Passes at t g (ref_tag b.virt) ≡ false
+    pub physical : Passes at t g (ref_tag (lba b)) ≡ false
+    pub on_wire : Passes at t g (ref_tag (wire b)) ≡ false
 
   is_foreign_so : (b : Block) (at : Crossing) (g : ℕ) (t : Tuple) → is_foreign m b at g t ≡ true → Foreign b at g t
   is_foreign_so b at g t h =
@@ -152,7 +152,7 @@ module _ (m' : Setting) where
   altered_is_foreign b at x d h = is_foreign_so b at (guard_at m at (data_of n (crossed m b at x))) (tuple_of n (crossed m b at x)) (must (has_flip m b at) _ d h)
 
   -- where nothing is found, no line flipped a byte of the frame
-  no_flip : (b : Block) (at : Crossing) (x : List ℕ) (mask want : ℕ) → ((t : Tuple) (g : ℕ) → Foreign b at g t → (bears t g want && expected app mask t) ≡ false) → shows m b at x ≡ true →
+  pub no_flip : (b : Block) (at : Crossing) (x : List ℕ) (mask want : ℕ) → ((t : Tuple) (g : ℕ) → Foreign b at g t → (bears t g want && expected app mask t) ≡ false) → shows m b at x ≡ true →
       finding One (all_asked app mask) want (guard_at m at (data_of n (crossed m b at x))) (tuple_of n (crossed m b at x)) ≡ None → has_flip m b at ≡ false
   no_flip b at x mask want known d o =
       let y = crossed m b at x in
@@ -161,7 +161,7 @@ module _ (m' : Setting) where
       let k = altered_is_foreign b at x d f in
       found_something (is_found app mask want g (tuple_of n y) k.escape (known (tuple_of n y) g k)) o)
 
-  unaltered : (b : Block) (at : Crossing) (x : List ℕ) → has_flip m b at ≡ false → crossed m b at x ≡ x
+  pub unaltered : (b : Block) (at : Crossing) (x : List ℕ) → has_flip m b at ≡ false → crossed m b at x ≡ x
   unaltered b at x h = not_altered m'.site.faults at (route m b).label x h
 
   -- the guard is converted, and the rest stays
@@ -182,19 +182,19 @@ module _ (m' : Setting) where
   as_ip Crc x h = absurd (false≢true (sym h))
   as_ip Ip x h = refl
 
-  sent_under : (a : ℕ) (x : List ℕ) → IsBare n x → Bears (tuple_of n x) (guard_of kind (data_of n x)) (ref_tag a) → (b : Block) → IsUnderTuple n (crc (data_of n x)) (ref_tag a) x (sent (route m b) x)
+  pub sent_under : (a : ℕ) (x : List ℕ) → IsBare n x → Bears (tuple_of n x) (guard_of kind (data_of n x)) (ref_tag a) → (b : Block) → IsUnderTuple n (crc (data_of n x)) (ref_tag a) x (sent (route m b) x)
   sent_under a x h k b = converted_under Crc (guard_of kind (data_of n x)) (crc (data_of n x)) a x h k (as_crc kind (data_of n x)) (λ _. refl) b
 
   received_under : (a : ℕ) (x : List ℕ) → IsBare n x → Bears (tuple_of n x) (crc (data_of n x)) (ref_tag a) → (b : Block) → IsUnderTuple n (guard_of kind (data_of n x)) (ref_tag a) x (received (route m b) x)
   received_under a x h k b = converted_under Ip (crc (data_of n x)) (guard_of kind (data_of n x)) a x h k (λ e. sym (as_crc kind (data_of n x) e)) (as_ip kind (data_of n x)) b
 
-  under_brought : (g r : ℕ) (x y : List ℕ) → IsUnderTuple n g r x y → brought_by n y ≡ brought_by n x
+  pub under_brought : (g r : ℕ) (x y : List ℕ) → IsUnderTuple n g r x y → brought_by n y ≡ brought_by n x
   under_brought g r x y h = same_brought h.body (ap (λ (t : Tuple). t.app) h.tuple)
 
   under_bare : (g r : ℕ) (x y : List ℕ) → IsBare n x → IsUnderTuple n g r x y → IsBare n y
   under_bare g r x y b h = record { size = h.size; escape = ap (λ t. is_escaped One t) h.tuple ∙ b.escape }
 
-  under_sound : (a : ℕ) (x y : List ℕ) → IsBare n x → as_expected m (tuple_of n x).app ≡ true → IsUnderTuple n (crc (data_of n x)) (ref_tag a) x y → Sound a y
+  pub under_sound : (a : ℕ) (x y : List ℕ) → IsBare n x → as_expected m (tuple_of n x).app ≡ true → IsUnderTuple n (crc (data_of n x)) (ref_tag a) x y → Sound a y
   under_sound a x y b e h = record {
     bare = under_bare (crc (data_of n x)) (ref_tag a) x y b h;
     bears = record { guard = ap (λ (t : Tuple). t.guard) h.tuple ∙ ap crc (sym h.body); rtag = ap (λ (t : Tuple). t.rtag) h.tuple };
@@ -327,7 +327,7 @@ module _ (m' : Setting) where
   fetched_escape b true stored h = (h.spoilt refl).escape
   fetched_escape b false stored h = (h.sound refl).bare.escape
 
-  unmoved : (a : ℕ) (z : ℤ) → nat_abs z ≡ 0 → moved a z ≡ a
+  pub unmoved : (a : ℕ) (z : ℤ) → nat_abs z ≡ 0 → moved a z ≡ a
   unmoved a (pos k) h = omega (arith, h)
   unmoved a (negsuc k) h = absurd (omega (arith, h))
 

@@ -1,7 +1,7 @@
-mod Framed
-mod Found
-mod Layers
-mod Along
+pub mod Framed
+pub mod Found
+pub mod Layers
+pub mod Along
 pub mod Parts
 pub mod InSteps
 mod Reading

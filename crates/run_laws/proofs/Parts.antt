@@ -177,7 +177,7 @@ below_right n [] ys h = h
 below_right n (x ∷ xs) ys h = below_right n xs ys h.1
 
 -- as many values as there are cells count
-scatter_enough : (at values cells : List ℕ) → scatter at values cells ≡ scatter at (take (length at) values) cells
+pub scatter_enough : (at values cells : List ℕ) → scatter at values cells ≡ scatter at (take (length at) values) cells
 scatter_enough [] values cells = refl
 scatter_enough (i ∷ at) [] cells = refl
 scatter_enough (i ∷ at) (v ∷ values) cells = scatter_enough at values (set cells i v)

@@ -87,7 +87,7 @@ module _ (faults : List FaultLine) (r : Route) (l : 0 < r.mode.protect) where
   abbrev sizes : BySize (passes_tuples r) r.ty r.size r.mode.protect
   sizes = by_size r.ty r.mode.dif r.size r.mode.protect l
 
-  stores_length : (frame : List ℕ) → length frame ≡ wire_size r → IfOk ((target faults).stores r frame) (λ x. length x ≡ stored_size r.ty r.size)
+  pub stores_length : (frame : List ℕ) → length frame ≡ wire_size r → IfOk ((target faults).stores r frame) (λ x. length x ≡ stored_size r.ty r.size)
   unfolding to_medium
   stores_length frame h =
       let p = passage faults r in
@@ -98,7 +98,7 @@ module _ (faults : List FaultLine) (r : Route) (l : 0 < r.mode.protect) where
       (λ q. made_length r.ty p.lba f r.size (e ∙ h ∙ sizes.own q))
       (λ q. e ∙ h ∙ (sizes.whole q).0 ∙ sym (sizes.whole q).1))
 
-  sends_length : (stored : List ℕ) → length stored ≡ stored_size r.ty r.size → IfOk ((target faults).sends r stored) (λ x. length x ≡ wire_size r)
+  pub sends_length : (stored : List ℕ) → length stored ≡ stored_size r.ty r.size → IfOk ((target faults).sends r stored) (λ x. length x ≡ wire_size r)
   unfolding from_medium
   sends_length stored h =
       let p = passage faults r in

@@ -7,7 +7,7 @@ mod Behind
 mod Does
 pub mod Ordered
 mod Fallen
-mod AtTarget
+pub mod AtTarget
 mod MoveRows
 mod FallenRows
 mod GateRows
