@@ -1,0 +1,16 @@
+mod Ways
+mod Holds
+mod Steps
+mod Delivery
+mod Whole
+mod Stale
+mod Mending
+mod Repaired
+mod Rows
+mod Meets
+pub mod WriteByLegs
+pub mod ReadByLegs
+pub mod OtherOps
+pub mod Stretches
+pub mod Sizes
+pub mod Pieces

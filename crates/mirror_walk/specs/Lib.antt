@@ -1,0 +1,7 @@
+pub mod Mirror
+pub mod Repair
+pub mod OneGood
+pub mod OnLegs
+pub mod LegByLeg
+pub mod Stretches
+pub mod Sizes
