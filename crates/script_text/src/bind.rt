@@ -1,54 +1,18 @@
 //! A script against a volume.
 
 ghost use Rattle.std.specs.Prelude.{◌≡◌, not, ◌||◌, ◌<◌, ◌≤◌, ◌+◌, [], Some, None, MatchResult, drop, false, length, get_or, slice_get};
-ghost use Rattle.script_text.specs.Bindings.{binding_fault, block_stays, blocks_stay, expect_fault, faults_fault, is_alterable, is_at_medium, is_bad_on, is_first_type, is_on, is_shift, marked, op_fault, ops_fault, request_at, request_of};
+ghost use Rattle.script_text.specs.Bindings.{binding_fault, block_stays, blocks_stay, expect_fault, faults_fault, is_at_medium, is_bad_on, is_first_type, is_shift, marked, op_fault, ops_fault, request_at};
 ghost use Rattle.volume_table.specs.Places.{volume_len};
 
+use crate::against::{Against, can_alter, is_bad_change, is_on, request, request_at};
 use crate::{Script, ScriptFault, ScriptKind};
 use fault_schedule::{Crossing, FaultKind, FaultLine};
 use pi_tuple::PiType;
-use rig_api::Change;
 use stack_ops::Op;
 use volume_table::{DeviceInfo, VolumeTable};
 
 /// A mark for each number of an op, 1 to 1,024, and for 0.
 const MARKS: usize = 1025;
-
-/// The first block and the number of blocks of a request.
-fn request(op: &Op) -> Option<(u64, u32)>
-    ensures { result ≡ request_of op.now }
-{
-    match op {
-        Op::Write { v, n, .. }
-        | Op::Fetch { v, n, .. }
-        | Op::WritePi { v, n, .. }
-        | Op::FetchPi { v, n, .. } => Some((*v, *n)),
-        _ => None,
-    }
-}
-
-/// The volume and the devices that a script is bound to.
-#[derive(Clone, Copy)]
-struct Against<'a> {
-    table: &'a VolumeTable,
-    devices: &'a [DeviceInfo],
-    size: u32,
-}
-
-/// Whether an address that is moved by so many blocks lies on the device.
-fn is_on(device: DeviceInfo, lba: u64, by: i64) -> bool
-    ensures { result ≡ is_on device lba by }
-{
-    let lba = u128::from(lba);
-    let first = u128::from(device.first);
-    let end = first + u128::from(device.blocks);
-    let by_so_many = u128::from(by.unsigned_abs());
-    if by < 0 {
-        first + by_so_many <= lba && lba < end + by_so_many
-    } else {
-        first <= lba + by_so_many && lba + by_so_many < end
-    }
-}
 
 /// Whether a block of the volume lies on its device when it is moved.
 fn block_stays(against: Against, v: u64, by: i64) -> bool
@@ -95,19 +59,6 @@ fn is_bad_shift(
         || line.at == Crossing::TargetToMedium
         || was_shifted
         || !stays_on(against, v, n, by)
-}
-
-/// The request that the op of this number, from 1, is.
-fn request_at(ops: &[Op], number: u32) -> Option<(u64, u32)>
-    ensures { result ≡ request_at ops.now number }
-{
-    if number == 0 {
-        return None;
-    }
-    match ops.get(number as usize - 1) {
-        Some(op) => request(op),
-        None => None,
-    }
 }
 
 /// Whether a fault line can't be, where an earlier line shifts its op or none does.
@@ -176,19 +127,6 @@ fn faults_fault(against: Against, script: &Script) -> Option<ScriptFault>
     None
 }
 
-/// Whether a stored block can be altered: the device is there, of the volume's type and the
-/// script's block size, and has the address.
-fn can_alter(against: Against, dev: u32, lba: u64) -> bool
-    ensures { result ≡ is_alterable against.entry.table.now.ty against.entry.size lba (slice_get against.entry.devices.now dev) }
-{
-    match against.devices.get(dev as usize) {
-        None => false,
-        Some(device) => {
-            device.ty == against.table.ty() && device.size == against.size && is_on(*device, lba, 0)
-        }
-    }
-}
-
 /// What is wrong with an op against the volume.
 fn op_fault(against: Against, op: &Op) -> Option<ScriptKind>
     ensures { result ≡ op_fault against.entry.table.now against.entry.devices.now against.entry.size op.now }
@@ -200,11 +138,7 @@ fn op_fault(against: Against, op: &Op) -> Option<ScriptKind>
         }
     }
     if let Op::Overwrite { dev, lba, change } = op {
-        let from = match change {
-            Change::Flip { .. } => true,
-            Change::Copy { dev, lba } => can_alter(against, *dev, *lba),
-        };
-        if !from || !can_alter(against, *dev, *lba) {
+        if is_bad_change(against, change) || !can_alter(against, *dev, *lba) {
             return Some(ScriptKind::BadFault);
         }
     }

@@ -3,6 +3,7 @@
 #![tactic(auto)]
 
 mod adding;
+mod against;
 mod big;
 mod bind;
 mod crossing;
@@ -19,6 +20,7 @@ mod segments;
 mod text;
 mod trees;
 
+pub use against::{Against, can_alter, is_bad_change, request_at};
 pub use big::big_script;
 pub use bind::bind_script;
 pub use fault::ScriptFault;

@@ -1,0 +1,58 @@
+use Rattle.std.proofs.Common.{ℕ, suc, ◌≡◌, ◌+◌, ◌<◌, ◌≤◌, true, false, List, ◌∷◌, length, get_or, drop, Some, None, sym, ap, ◌∙◌, arith, add-one, drop-cons}
+use Rattle.std.specs.Prelude.{if◌then◌else◌}
+use Rattle.std.proofs.Math.ListN.{drop_of_length-le}
+use Rattle.fault_schedule.specs.declared.fault.FaultLine.{FaultLine}
+use Rattle.script_lines.specs.declared.kind.ScriptKind.{ScriptKind}
+use Rattle.script_lines.specs.declared.kind.ScriptKind.TheVariants.{BadFault}
+use Rattle.stack_ops.specs.declared.op.Op.{Op}
+use Rattle.volume_table.specs.declared.device.DeviceInfo.{DeviceInfo}
+use Rattle.volume_table.specs.Tables.{Table}
+use Rattle.script_text.specs.Bindings.{at_line}
+use Rattle.mirror_script.specs.MirrorFaults.{faults_fault, is_bad_line, op_fault, ops_fault}
+
+-- One line after another.
+
+-- The fault line at i is the first of those that are left.
+left : (protect : ℕ) (ops : List Op) (faults : List FaultLine) (lines : List ℕ) (i : ℕ) (f : FaultLine) → i < length faults → i < length lines → get_or faults i f ≡ f
+    → faults_fault protect ops (drop i faults) (drop i lines) ≡ (if is_bad_line protect ops f then Some (record { line = get_or lines i 0; kind = BadFault }) else faults_fault protect ops (drop (suc i) faults) (drop (suc i) lines))
+left protect ops faults lines i f h l e =
+    ap (λ fs. faults_fault protect ops fs (drop i lines)) (drop-cons faults i f h ∙ ap (λ x. x ∷ drop (suc i) faults) e) ∙ ap (faults_fault protect ops (f ∷ drop (suc i) faults)) (drop-cons lines i 0 l)
+
+pub at_fault : (protect : ℕ) (ops : List Op) (faults : List FaultLine) (lines : List ℕ) (i : ℕ) (f : FaultLine) → i < length faults → i < length lines → get_or faults i f ≡ f → is_bad_line protect ops f ≡ true
+    → faults_fault protect ops (drop i faults) (drop i lines) ≡ Some (record { line = get_or lines i 0; kind = BadFault })
+at_fault protect ops faults lines i f h l e bad =
+    left protect ops faults lines i f h l e ∙ ap (λ b. if b then Some (record { line = get_or lines i 0; kind = BadFault }) else faults_fault protect ops (drop (suc i) faults) (drop (suc i) lines)) bad
+
+pub passes : (protect : ℕ) (ops : List Op) (faults : List FaultLine) (lines : List ℕ) (i : ℕ) (f : FaultLine) → i < length faults → i < length lines → get_or faults i f ≡ f → is_bad_line protect ops f ≡ false
+    → faults_fault protect ops (drop i faults) (drop i lines) ≡ faults_fault protect ops (drop (i + 1) faults) (drop (i + 1) lines)
+passes protect ops faults lines i f h l e good =
+    left protect ops faults lines i f h l e
+    ∙ ap (λ b. if b then Some (record { line = get_or lines i 0; kind = BadFault }) else faults_fault protect ops (drop (suc i) faults) (drop (suc i) lines)) good
+    ∙ ap (λ k. faults_fault protect ops (drop k faults) (drop k lines)) (sym (add-one i))
+
+pub no_faults_left : (protect : ℕ) (ops : List Op) (faults : List FaultLine) (lines : List ℕ) (i : ℕ) → length faults ≤ i → faults_fault protect ops (drop i faults) (drop i lines) ≡ None
+no_faults_left protect ops faults lines i h = ap (λ fs. faults_fault protect ops fs (drop i lines)) (drop_of_length-le faults h)
+
+-- The op at i is the first of those that are left.
+ops_left : (protect : ℕ) (t : Table) (devices : List DeviceInfo) (size : ℕ) (ops : List Op) (lines : List ℕ) (k i : ℕ) (op : Op) → i < length ops → k + i < length lines → get_or ops i op ≡ op
+    → ops_fault protect t devices size (drop i ops) (drop (k + i) lines) ≡ at_line (get_or lines (k + i) 0) (op_fault protect t devices size op) (ops_fault protect t devices size (drop (suc i) ops) (drop (suc (k + i)) lines))
+ops_left protect t devices size ops lines k i op h l e =
+    ap (λ os. ops_fault protect t devices size os (drop (k + i) lines)) (drop-cons ops i op h ∙ ap (λ x. x ∷ drop (suc i) ops) e)
+    ∙ ap (ops_fault protect t devices size (op ∷ drop (suc i) ops)) (drop-cons lines (k + i) 0 l)
+
+pub op_at_fault : (protect : ℕ) (t : Table) (devices : List DeviceInfo) (size : ℕ) (ops : List Op) (lines : List ℕ) (k i : ℕ) (op : Op) (kind : ScriptKind) → i < length ops → k + i < length lines → get_or ops i op ≡ op
+    → op_fault protect t devices size op ≡ Some kind → ops_fault protect t devices size (drop i ops) (drop (k + i) lines) ≡ Some (record { line = get_or lines (k + i) 0; kind = kind })
+op_at_fault protect t devices size ops lines k i op kind h l e bad =
+    ops_left protect t devices size ops lines k i op h l e ∙ ap (λ f. at_line (get_or lines (k + i) 0) f (ops_fault protect t devices size (drop (suc i) ops) (drop (suc (k + i)) lines))) bad
+
+pub op_passes : (protect : ℕ) (t : Table) (devices : List DeviceInfo) (size : ℕ) (ops : List Op) (lines : List ℕ) (k i : ℕ) (op : Op) → i < length ops → k + i < length lines → get_or ops i op ≡ op
+    → op_fault protect t devices size op ≡ None → ops_fault protect t devices size (drop i ops) (drop (k + i) lines) ≡ ops_fault protect t devices size (drop (i + 1) ops) (drop (k + (i + 1)) lines)
+op_passes protect t devices size ops lines k i op h l e good =
+    let next : suc (k + i) ≡ k + (i + 1) = omega arith in
+    ops_left protect t devices size ops lines k i op h l e
+    ∙ ap (λ f. at_line (get_or lines (k + i) 0) f (ops_fault protect t devices size (drop (suc i) ops) (drop (suc (k + i)) lines))) good
+    ∙ ap (λ n. ops_fault protect t devices size (drop n ops) (drop (suc (k + i)) lines)) (sym (add-one i))
+    ∙ ap (λ n. ops_fault protect t devices size (drop (i + 1) ops) (drop n lines)) next
+
+pub no_ops_left : (protect : ℕ) (t : Table) (devices : List DeviceInfo) (size : ℕ) (ops : List Op) (lines : List ℕ) (i : ℕ) → length ops ≤ i → ops_fault protect t devices size (drop i ops) lines ≡ None
+no_ops_left protect t devices size ops lines i h = ap (λ os. ops_fault protect t devices size os lines) (drop_of_length-le ops h)
