@@ -1,13 +1,21 @@
-//! Scripts that are bound to volumes of given devices.
+//! Scripts that are bound to volumes of given devices, and to mirrors on them.
 
 ghost use Rattle.std.specs.Prelude.{IsTrue, All};
 ghost use Rattle.volume_table.specs.Entries.{IsInRange};
 ghost use Rattle.volume_table.specs.Tables.{EndFits};
 
 use crate::answers::Verdict;
+use mirror_script::bind_mirror;
 use script_text::{Script, bind_script, read_script};
 use std::alloc::Global;
 use volume_table::{DeviceInfo, Entry, VolumeTable};
+
+/// What a script is bound to: a volume, or the mirror whose legs are the volume's halves.
+#[derive(Clone, Copy)]
+pub(crate) enum Target {
+    Volume,
+    Mirror,
+}
 
 fn is_in_range(entry: &Entry) -> bool
     ensures { IsTrue result → IsInRange entry.now }
@@ -62,7 +70,13 @@ fn volume(alloc: Global, script: &Script, devices: &[DeviceInfo]) -> Option<Volu
     VolumeTable::new(alloc, &script.entries, devices, script.block).ok()
 }
 
-fn is_bound(alloc: Global, script: &Script, devices: &[DeviceInfo], verdict: Verdict<'_>) -> bool {
+fn is_bound(
+    alloc: Global,
+    script: &Script,
+    target: Target,
+    devices: &[DeviceInfo],
+    verdict: Verdict<'_>,
+) -> bool {
     let Some(table) = volume(alloc, script, devices) else {
         return false;
     };
@@ -71,18 +85,22 @@ fn is_bound(alloc: Global, script: &Script, devices: &[DeviceInfo], verdict: Ver
     if faults > 256 || ops > 1024 || script.lines.as_slice().len() != faults + ops {
         return false;
     }
-    verdict.is(bind_script(script, &table, devices))
+    verdict.is(match target {
+        Target::Volume => bind_script(script, &table, devices),
+        Target::Mirror => bind_mirror(script, &table, devices),
+    })
 }
 
 /// Whether a text that is read is at fault so when it is bound over these devices.
 pub(crate) fn is_bound_so(
     alloc: Global,
     text: &[u8],
+    target: Target,
     devices: &[DeviceInfo],
     verdict: Verdict<'_>,
 ) -> bool {
     match read_script(alloc, text) {
-        Ok(script) => is_bound(alloc, &script, devices, verdict),
+        Ok(script) => is_bound(alloc, &script, target, devices, verdict),
         Err(_) => false,
     }
 }

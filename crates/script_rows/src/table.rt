@@ -1,7 +1,7 @@
 //! The lines of the table.
 
 use crate::answers::{Verdict, is_printed_so, is_read_so};
-use crate::binding::is_bound_so;
+use crate::binding::{Target, is_bound_so};
 use crate::escapes::bytes_of;
 use pi_tuple::PiType;
 use std::alloc::{AllocError, Global};
@@ -70,13 +70,15 @@ impl Table {
         Ok(true)
     }
 
-    /// One more device, of 256 blocks.
+    /// One more device, of 256 blocks where no number is given.
     fn add_device(&mut self, words: &str) -> Result<(), AllocError> {
         let (ty, rest) = cut(words);
-        let (size, first) = cut(rest);
+        let (size, rest) = cut(rest);
+        let (first, blocks) = cut(rest);
+        let blocks = if blocks == "" { 256 } else { number(blocks) };
         self.devices.push(DeviceInfo {
             ty: type_of(ty),
-            blocks: 256,
+            blocks: u64::from(blocks),
             size: number(size),
             first: number(first) as u64,
         })?;
@@ -87,8 +89,9 @@ impl Table {
         self.rows = self.rows.saturating_add(1);
         match word {
             "row" => self.is_line_so(alloc, rest),
-            "at" => self.is_text_so(alloc, rest, false),
-            "bind" => self.is_text_so(alloc, rest, true),
+            "at" => self.is_text_so(alloc, rest, None),
+            "bind" => self.is_text_so(alloc, rest, Some(Target::Volume)),
+            "mirror" => self.is_text_so(alloc, rest, Some(Target::Mirror)),
             "prints" => self.prints(alloc, rest),
             _ => Ok(false),
         }
@@ -113,7 +116,13 @@ impl Table {
         Ok(is_read_so(alloc, &whole, verdict))
     }
 
-    fn is_text_so(&self, alloc: Global, rest: &str, is_bound: bool) -> Result<bool, AllocError> {
+    /// Whether the text of a row is at fault so when it is read, or when it is bound to this.
+    fn is_text_so(
+        &self,
+        alloc: Global,
+        rest: &str,
+        target: Option<Target>,
+    ) -> Result<bool, AllocError> {
         let (line, rest) = cut(rest);
         let (name, text) = cut(rest);
         let whole = self.behind(alloc, text)?;
@@ -121,10 +130,10 @@ impl Table {
             line: number(line),
             name,
         };
-        if is_bound {
-            return Ok(is_bound_so(alloc, &whole, &self.devices, verdict));
-        }
-        Ok(is_read_so(alloc, &whole, verdict))
+        Ok(match target {
+            Some(target) => is_bound_so(alloc, &whole, target, &self.devices, verdict),
+            None => is_read_so(alloc, &whole, verdict),
+        })
     }
 
     fn prints(&self, alloc: Global, rest: &str) -> Result<bool, AllocError> {
