@@ -33,8 +33,8 @@ use Rattle.run_moves.specs.Suited.{IsAtTarget, keeps_size}
 use Rattle.stack_walks.specs.Spots.{op_in as op_at}
 use Rattle.script_text.specs.declared.script.Script.{Script}
 use Rattle.script_text.specs.Bindings.{binding_fault, op_fault, request_of}
-use Rattle.script_laws.specs.Keeping.{Keeps}
 use Rattle.script_ground.specs.Bound.{IsSettingOf}
+use Rattle.script_ground.specs.SuitsStack.{SuitsStack}
 use Rattle.script_ground.specs.Units.{AreStored}
 use Rattle.script_ground.proofs.Addresses.{AreLed, all-led, good-change}
 use Rattle.script_ground.proofs.BoundRuns.{OpSuits, bound-all, suits-all}
@@ -113,12 +113,12 @@ fetched-at m s t i v e f j =
 abbrev pub TargetSuits : Type 0
 TargetSuits = (m : Setting) (opening : List (List ℕ)) (b : Block) → IsAtTarget m opening b → Suits m (keeps_size opening) b
 
-module _ (law : TargetSuits) (m : Setting) (s : Script) (t : Table) (devices : List DeviceInfo) (logs : ℕ) (blocks : List (List ℕ)) (is : IsSettingOf m s t devices logs) (at : m.site.device ≡ target m.site.faults) (long : AreLong m t.ty s.block devices blocks) (k : Keeps s) where
+module _ (law : TargetSuits) (m : Setting) (s : Script) (t : Table) (devices : List DeviceInfo) (logs : ℕ) (blocks : List (List ℕ)) (is : IsSettingOf m s t devices logs) (at : m.site.device ≡ target m.site.faults) (long : AreLong m t.ty s.block devices blocks) (k : SuitsStack s) where
   block-suits : (i v n : ℕ) → AreLed t devices s i v n → AllSuit m (keeps_size blocks) i v n
   block-suits i v n a j l =
       let place = place_in t.entries (v + j) in
       let wire = moved place.1 (shift_of s.faults AdapterToTarget i) in
-      let least : 0 < s.mode.protect = at-least-one s.mode.protect k.mode_is.protect_is.range.low_is in
+      let least : 0 < s.mode.protect = at-least-one s.mode.protect k.protect_is.range.low_is in
       law m blocks (block_of i v j) (record {
         device = at;
         protect = subst (λ (x : Mode). 0 < x.protect) (sym is.mode) least;
@@ -148,7 +148,7 @@ long-told m s t us logs opening stored e is site = λ dev lba on.
     (ap (λ (x : Site). length (get_or opening.blocks (x.cell dev lba) [])) site ∙ ap (λ (bs : List (List ℕ)). length (get_or bs (cell_in (shapes_of us) dev lba) [])) e ∙ told-long us t.ty s.block dev lba stored on
     ∙ ap (λ (x : PiType). stored_size x s.block) (sym is.ty) ∙ ap (stored_size m.ty) (sym is.size))
 
-over-stored : TargetSuits → (m : Setting) (s : Script) (t : Table) (us : List Stored) (logs : ℕ) (opening : State) → Keeps s → length s.lines ≡ length s.faults + length s.ops → AreStored us → opening.blocks ≡ blocks_told us → 4096 * s.pages + rooms m s.ops ≤ length opening.bytes → fates s.ops ≤ length opening.fates
+over-stored : TargetSuits → (m : Setting) (s : Script) (t : Table) (us : List Stored) (logs : ℕ) (opening : State) → SuitsStack s → length s.lines ≡ length s.faults + length s.ops → AreStored us → opening.blocks ≡ blocks_told us → 4096 * s.pages + rooms m s.ops ≤ length opening.bytes → fates s.ops ≤ length opening.fates
     → MadeFor t (map info_of (shapes_of us)) s.block → binding_fault s t (map info_of (shapes_of us)) ≡ None → IsSettingOf m s t (map info_of (shapes_of us)) logs → m.site ≡ behind s (shapes_of us) → IsBoundRun m (keeps_size opening.blocks) (4096 * s.pages) s.ops opening
 over-stored law m s t us logs opening k n stored e room found made h is site =
     let at : m.site.device ≡ target m.site.faults = ap (λ (x : Site). x.device) site ∙ ap (λ (x : Site). target x.faults) (sym site) in
@@ -160,7 +160,7 @@ over-stored law m s t us logs opening k n stored e room found made h is site =
       all_fine = λ c. eq-eqb (length (get_or opening.blocks c [])) (length (get_or opening.blocks c [])) refl;
     }
 
-pub over-units : TargetSuits → (m : Setting) (s : Script) (t : Table) (units : List UnitSpec) (us : List Stored) (logs : ℕ) (opening : State) → Keeps s → length s.lines ≡ length s.faults + length s.ops → MadeFor t (map info_of units) s.block → binding_fault s t (map info_of units) ≡ None → IsSettingOf m s t (map info_of units) logs → m.site ≡ behind s units
+pub over-units : TargetSuits → (m : Setting) (s : Script) (t : Table) (units : List UnitSpec) (us : List Stored) (logs : ℕ) (opening : State) → SuitsStack s → length s.lines ≡ length s.faults + length s.ops → MadeFor t (map info_of units) s.block → binding_fault s t (map info_of units) ≡ None → IsSettingOf m s t (map info_of units) logs → m.site ≡ behind s units
     → shapes_of us ≡ units → AreStored us → opening.blocks ≡ blocks_told us → 4096 * s.pages + rooms m s.ops ≤ length opening.bytes → fates s.ops ≤ length opening.fates → IsBoundRun m (keeps_size opening.blocks) (4096 * s.pages) s.ops opening
 over-units law m s t units us logs opening k n made h is site e stored b room found =
     subst

@@ -25,8 +25,9 @@ use Rattle.stack_walks.specs.Spots.{op_in as op_at}
 use Rattle.script_text.specs.declared.script.Script.{Script}
 use Rattle.script_text.specs.Ops.{both_fault, data_fault}
 use Rattle.script_text.specs.Segments.{is_inside}
-use Rattle.script_laws.specs.Keeping.{Each, IsOp as KeepsRules, Keeps}
+use Rattle.script_laws.specs.Keeping.{Each}
 use Rattle.script_ground.specs.Bound.{IsSettingOf}
+use Rattle.script_ground.specs.SuitsStack.{IsStackOp, SuitsStack}
 use Rattle.script_ground.proofs.Bodies.{AreBoth, alone-of, both-of, inside-ok, unless-ok}
 use Rattle.script_ground.proofs.Ops.{eights}
 use Rattle.script_ground.proofs.Segments.{cells-below, distinct-body, distinct-both, one-stands, stands}
@@ -65,7 +66,7 @@ both-bound m fine dix pages size i v n body tuples z d b t h =
       (b.body_is.long ∙ ap (λ x. n * x) (sym z), (eights n (total tuples) b.tuples_are.long, (distinct-both pages body tuples p q b.overlap, (d ∙ t, h)))),
     )
 
-bound-op : (m : Setting) (fine : ℕ → List ℕ → Bool) (dix : Bool) (pages size i : ℕ) (op : Op) → m.size ≡ size → m.mode.dix ≡ dix → KeepsRules dix pages size op → OpSuits m fine i op → IsBound m fine (4096 * pages) i op
+bound-op : (m : Setting) (fine : ℕ → List ℕ → Bool) (dix : Bool) (pages size i : ℕ) (op : Op) → m.size ≡ size → m.mode.dix ≡ dix → IsStackOp dix pages size op → OpSuits m fine i op → IsBound m fine (4096 * pages) i op
 bound-op m fine dix pages size i (Fill seg byte) z d k h = tt
 bound-op m fine dix pages size i (Put page off bytes) z d k h = tt
 bound-op m fine dix pages size i (Show seg) z d k h = cells-below pages (seg ∷ []) (one-stands pages seg (and_parts (is_inside pages seg) (nat_le seg.len 64) (inside-ok (is_inside pages seg && nat_le seg.len 64) _ _ k.rules)).0)
@@ -84,7 +85,7 @@ bound-op m fine dix pages size i (FetchPi v n body tuples) z d k h = both-bound 
 bound-op m fine dix pages size i (Overwrite dev lba change) z d k h = h
 bound-op m fine dix pages size i Wait z d k h = tt
 
-pub bound-all : (m : Setting) (fine : ℕ → List ℕ → Bool) (dix : Bool) (pages size i : ℕ) (ops : List Op) → m.size ≡ size → m.mode.dix ≡ dix → Each (KeepsRules dix pages size) ops → OpsSuit m fine i ops → AllBound m fine (4096 * pages) i ops
+pub bound-all : (m : Setting) (fine : ℕ → List ℕ → Bool) (dix : Bool) (pages size i : ℕ) (ops : List Op) → m.size ≡ size → m.mode.dix ≡ dix → Each (IsStackOp dix pages size) ops → OpsSuit m fine i ops → AllBound m fine (4096 * pages) i ops
 bound-all m fine dix pages size i [] z d k h = tt
 bound-all m fine dix pages size i (op ∷ ops) z d k h = (bound-op m fine dix pages size i op z d k.0 h.0, bound-all m fine dix pages size (suc i) ops z d k.1 h.1)
 
@@ -120,7 +121,7 @@ module _ (m : Setting) (es : List Sent) (fit : FramesFit m es) where
   any-op i (Overwrite dev lba change) = λ block e. refl
   any-op i Wait = tt
 
-  pub over-record : (s : Script) (t : Table) (devices : List DeviceInfo) (logs : ℕ) (opening : State) → Keeps s → IsSettingOf m s t devices logs → 4096 * s.pages + rooms m s.ops ≤ length opening.bytes → fates s.ops ≤ length opening.fates → IsBoundRun (told m es) (λ c block. true) (4096 * s.pages) s.ops opening
+  pub over-record : (s : Script) (t : Table) (devices : List DeviceInfo) (logs : ℕ) (opening : State) → SuitsStack s → IsSettingOf m s t devices logs → 4096 * s.pages + rooms m s.ops ≤ length opening.bytes → fates s.ops ≤ length opening.fates → IsBoundRun (told m es) (λ c block. true) (4096 * s.pages) s.ops opening
   over-record s t devices logs opening k is room found = record {
     bound = bound-all (told m es) (λ c block. true) s.mode.dix s.pages s.block 1 s.ops is.size (ap (λ (x : Mode). x.dix) is.mode) k.ops_are (suits-all (told m es) (λ c block. true) s.ops (λ j l. any-op (suc j) (op_at s.ops j)));
     room = subst (λ (r : ℕ). 4096 * s.pages + r ≤ length opening.bytes) (same_rooms m (came_by es) s.ops) room;

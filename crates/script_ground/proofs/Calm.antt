@@ -37,6 +37,7 @@ use Rattle.script_ground.proofs.BoundRuns.{has-tuples}
 use Rattle.script_ground.proofs.Ops.{at-least-one, in-range, placed-op}
 use Rattle.script_ground.proofs.OverUnits.{IsBoundOver, at_first, cell-there, op-fine, op-keeps, over, own-setting}
 use Rattle.script_ground.proofs.Places.{one-each}
+use Rattle.script_ground.proofs.Suits.{stack-op}
 
 -- ---- an expected tag
 
@@ -104,10 +105,10 @@ fits-op s t us devices (Fill seg byte) k h o = k.ranges
 fits-op s t us devices (Put page off bytes) k h o = are-bytes bytes k.ranges.0
 fits-op s t us devices (Show seg) k h o = tt
 fits-op s t us devices (Seal n body tuples app rtag) k h o = tt
-fits-op s t us devices (Write v n body app) k h o = ((placed-op (over s t (shapes_of us)) t devices s.mode.dix s.pages s.block (Write v n body app) refl refl k h).blocks, tag-fits app k.ranges.1)
+fits-op s t us devices (Write v n body app) k h o = ((placed-op (over s t (shapes_of us)) t devices s.mode.dix s.pages s.block (Write v n body app) refl refl (stack-op s.mode.dix s.pages s.block (Write v n body app) k) h).blocks, tag-fits app k.ranges.1)
 fits-op s t us devices (Fetch v n body) k h o = in-range t v n h
 fits-op s t us devices (WritePi v n body tuples) k h o =
-    let b = (placed-op (over s t (shapes_of us)) t devices s.mode.dix s.pages s.block (WritePi v n body tuples) refl refl k h).blocks in
+    let b = (placed-op (over s t (shapes_of us)) t devices s.mode.dix s.pages s.block (WritePi v n body tuples) refl refl (stack-op s.mode.dix s.pages s.block (WritePi v n body tuples) k) h).blocks in
     (b.0, (b.1, has-tuples s.mode.dix k.integrity))
 fits-op s t us devices (FetchPi v n body tuples) k h o = in-range t v n h
 fits-op s t us devices (Overwrite dev lba change) k h o = absurd cc

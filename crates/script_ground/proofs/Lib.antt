@@ -6,6 +6,7 @@ pub mod Shifts
 pub mod Spreads
 pub mod Standing
 pub mod Units
+pub mod Suits
 pub mod BoundRuns
 pub mod Addresses
 pub mod AtUnits

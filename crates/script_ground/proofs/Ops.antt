@@ -29,8 +29,9 @@ use Rattle.script_text.specs.declared.script.Script.{Script}
 use Rattle.script_text.specs.Bindings.{at_line, op_fault, ops_fault, range_fault}
 use Rattle.script_text.specs.Ops.{both_fault, data_fault}
 use Rattle.script_text.specs.Segments.{is_inside}
-use Rattle.script_laws.specs.Keeping.{Each, IsOp as KeepsRules}
+use Rattle.script_laws.specs.Keeping.{Each}
 use Rattle.script_ground.specs.Bound.{IsSettingOf}
+use Rattle.script_ground.specs.SuitsStack.{IsStackOp}
 use Rattle.stack_walks.specs.Seals.{IsSealed}
 use Rattle.script_ground.proofs.Bodies.{alone-of, both-of, if-none, inside-ok, unless-ok}
 use Rattle.script_ground.proofs.Places.{home-logged}
@@ -50,7 +51,7 @@ blocks-of m t size v n bytes z e l w =
 pub eights : (n bytes : ℕ) → bytes ≡ 8 * n → bytes ≡ n * 8
 eights n bytes h = omega arith
 
-pub placed-op : (m : Setting) (t : Table) (devices : List DeviceInfo) (dix : Bool) (pages size : ℕ) (op : Op) → m.size ≡ size → m.entries ≡ t.entries → KeepsRules dix pages size op → op_fault t devices size op ≡ None → IsPlaced m (4096 * pages) op
+pub placed-op : (m : Setting) (t : Table) (devices : List DeviceInfo) (dix : Bool) (pages size : ℕ) (op : Op) → m.size ≡ size → m.entries ≡ t.entries → IsStackOp dix pages size op → op_fault t devices size op ≡ None → IsPlaced m (4096 * pages) op
 placed-op m t devices dix pages size (Fill seg byte) z e k h =
     let st = one-stands pages seg (inside-ok (is_inside pages seg) _ _ k.rules) in
     record { in_pages = touched-in-pages pages true (seg ∷ []) st; reads = none-below (4096 * pages); writes = cells-below pages (seg ∷ []) st; blocks = tt }
@@ -107,7 +108,7 @@ line-none : (line : ℕ) (k : Option ScriptKind) (rest : Option ScriptFault) →
 line-none line None rest h = (refl, h)
 line-none line (Some k) rest h = absurd cc
 
-pub placed-all : (m : Setting) (t : Table) (devices : List DeviceInfo) (dix : Bool) (pages size : ℕ) (ops : List Op) (lines : List ℕ) → m.size ≡ size → m.entries ≡ t.entries → length ops ≤ length lines → Each (KeepsRules dix pages size) ops → ops_fault t devices size ops lines ≡ None → AllPlaced m (4096 * pages) ops
+pub placed-all : (m : Setting) (t : Table) (devices : List DeviceInfo) (dix : Bool) (pages size : ℕ) (ops : List Op) (lines : List ℕ) → m.size ≡ size → m.entries ≡ t.entries → length ops ≤ length lines → Each (IsStackOp dix pages size) ops → ops_fault t devices size ops lines ≡ None → AllPlaced m (4096 * pages) ops
 placed-all m t devices dix pages size [] lines z e l k h = tt
 placed-all m t devices dix pages size (op ∷ ops) [] z e l k h = absurd (omega arith)
 placed-all m t devices dix pages size (op ∷ ops) (line ∷ lines) z e l k h =
@@ -120,17 +121,20 @@ no-fault t devices size (op ∷ ops) [] i l h b = absurd (omega arith)
 no-fault t devices size (op ∷ ops) (line ∷ lines) zero l h b = (line-none line (op_fault t devices size op) (ops_fault t devices size ops lines) h).0
 no-fault t devices size (op ∷ ops) (line ∷ lines) (suc i) l h b = no-fault t devices size ops lines i (omega arith) (line-none line (op_fault t devices size op) (ops_fault t devices size ops lines) h).1 (omega arith)
 
-pub rules-at : (dix : Bool) (pages size : ℕ) (ops : List Op) (i : ℕ) → Each (KeepsRules dix pages size) ops → i < length ops → KeepsRules dix pages size (op_at ops i)
-rules-at dix pages size [] i h b = absurd (omega arith)
-rules-at dix pages size (op ∷ ops) zero h b = h.0
-rules-at dix pages size (op ∷ ops) (suc i) h b = rules-at dix pages size ops i h.1 (omega arith)
+pub each-at : (P : Op → Type 0) (ops : List Op) (i : ℕ) → Each P ops → i < length ops → P (op_at ops i)
+each-at P [] i h b = absurd (omega arith)
+each-at P (op ∷ ops) zero h b = h.0
+each-at P (op ∷ ops) (suc i) h b = each-at P ops i h.1 (omega arith)
+
+pub rules-at : (dix : Bool) (pages size : ℕ) (ops : List Op) (i : ℕ) → Each (IsStackOp dix pages size) ops → i < length ops → IsStackOp dix pages size (op_at ops i)
+rules-at dix pages size ops i h b = each-at (IsStackOp dix pages size) ops i h b
 
 -- ---- kinds of ops
 
 pub at-least-one : (n : ℕ) → 1 ≤ n → 0 < n
 at-least-one n h = omega arith
 
-pub kind-of : (dix : Bool) (pages size : ℕ) (op : Op) → KeepsRules dix pages size op → IsNoRequest op ⊎ (0 < fates_of op)
+pub kind-of : (dix : Bool) (pages size : ℕ) (op : Op) → IsStackOp dix pages size op → IsNoRequest op ⊎ (0 < fates_of op)
 kind-of dix pages size (Fill seg byte) k = inl tt
 kind-of dix pages size (Put page off bytes) k = inl tt
 kind-of dix pages size (Show seg) k = inl tt
@@ -144,7 +148,7 @@ kind-of dix pages size Wait k = inl tt
 
 -- ---- what a `seal` takes
 
-pub seal-of : (m : Setting) (dix : Bool) (pages size : ℕ) (op : Op) → m.size ≡ size → KeepsRules dix pages size op → IsSealed m op
+pub seal-of : (m : Setting) (dix : Bool) (pages size : ℕ) (op : Op) → m.size ≡ size → IsStackOp dix pages size op → IsSealed m op
 seal-of m dix pages size (Fill seg byte) z k = tt
 seal-of m dix pages size (Put page off bytes) z k = tt
 seal-of m dix pages size (Show seg) z k = tt

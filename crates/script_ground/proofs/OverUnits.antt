@@ -17,7 +17,7 @@ use Rattle.script_text.specs.declared.script.Script.{Script}
 use Rattle.script_laws.specs.Keeping.{IsOp as KeepsRules, Keeps}
 use Rattle.script_ground.specs.Bound.{IsAddress, IsSettingOf}
 use Rattle.script_ground.specs.Units.{AreStored, all_blocks}
-use Rattle.script_ground.proofs.Ops.{no-fault, rules-at}
+use Rattle.script_ground.proofs.Ops.{each-at, no-fault}
 use Rattle.script_ground.proofs.Standing.{bound}
 use Rattle.script_ground.proofs.Units.{over-units}
 
@@ -61,7 +61,7 @@ cell-there s t us dev lba h = subst (λ n. cell_in (shapes_of us) dev lba < n) (
 -- ---- its ops, by their numbers
 
 pub op-keeps : (s : Script) → Keeps s → (i : ℕ) → i < length s.ops → KeepsRules s.mode.dix s.pages s.block (op_at s.ops i)
-op-keeps s k i l = rules-at s.mode.dix s.pages s.block s.ops i k.ops_are l
+op-keeps s k i l = each-at (KeepsRules s.mode.dix s.pages s.block) s.ops i k.ops_are l
 
 pub op-fine : (s : Script) (t : Table) (us : List Stored) → IsBoundOver s t us → (i : ℕ) → i < length s.ops → op_fault t (map info_of (shapes_of us)) s.block (op_at s.ops i) ≡ None
 op-fine s t us b i l =

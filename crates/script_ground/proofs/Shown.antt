@@ -36,6 +36,7 @@ use Rattle.script_ground.proofs.OverUnits.{IsBoundOver, at_first, cell-there, fa
 use Rattle.script_ground.proofs.Rooms.{body-cells, both-cells}
 use Rattle.script_ground.proofs.Shifts.{clear-is}
 use Rattle.script_ground.proofs.Spreads.{asked-by}
+use Rattle.script_ground.proofs.Suits.{stack-op}
 
 -- ---- shifts
 
@@ -77,17 +78,17 @@ binds-op s t us i (Put page off bytes) k h r = tt
 binds-op s t us i (Show seg) k h r = tt
 binds-op s t us i (Seal n body tuples app rtag) k h r = tt
 binds-op s t us i (Write v n body app) k h r =
-    ((placed-op (over s t (shapes_of us)) t (map info_of (shapes_of us)) s.mode.dix s.pages s.block (Write v n body app) refl refl k h).blocks, (tag-fits app k.ranges.1, (r v n refl (in-range t v n h)).near))
+    ((placed-op (over s t (shapes_of us)) t (map info_of (shapes_of us)) s.mode.dix s.pages s.block (Write v n body app) refl refl (stack-op s.mode.dix s.pages s.block (Write v n body app) k) h).blocks, (tag-fits app k.ranges.1, (r v n refl (in-range t v n h)).near))
 binds-op s t us i (Fetch v n body) k h r =
     let a = alone-of s.pages s.block n body (unless-ok (data_fault s.pages s.block n body) _ _ k.rules) in
     let x = r v n refl (in-range t v n h) in
-    ((placed-op (over s t (shapes_of us)) t (map info_of (shapes_of us)) s.mode.dix s.pages s.block (Fetch v n body) refl refl k h).blocks, (body-cells s.pages s.block n body a, (x.near, x.fetched)))
+    ((placed-op (over s t (shapes_of us)) t (map info_of (shapes_of us)) s.mode.dix s.pages s.block (Fetch v n body) refl refl (stack-op s.mode.dix s.pages s.block (Fetch v n body) k) h).blocks, (body-cells s.pages s.block n body a, (x.near, x.fetched)))
 binds-op s t us i (WritePi v n body tuples) k h r =
-    let p = (placed-op (over s t (shapes_of us)) t (map info_of (shapes_of us)) s.mode.dix s.pages s.block (WritePi v n body tuples) refl refl k h).blocks in
+    let p = (placed-op (over s t (shapes_of us)) t (map info_of (shapes_of us)) s.mode.dix s.pages s.block (WritePi v n body tuples) refl refl (stack-op s.mode.dix s.pages s.block (WritePi v n body tuples) k) h).blocks in
     (p.0, (p.1, (r v n refl (in-range t v n h)).near))
 binds-op s t us i (FetchPi v n body tuples) k h r =
     let b = both-of s.pages s.block n body tuples (unless-ok (both_fault s.pages s.block n body tuples) _ _ k.rules) in
-    let p = (placed-op (over s t (shapes_of us)) t (map info_of (shapes_of us)) s.mode.dix s.pages s.block (FetchPi v n body tuples) refl refl k h).blocks in
+    let p = (placed-op (over s t (shapes_of us)) t (map info_of (shapes_of us)) s.mode.dix s.pages s.block (FetchPi v n body tuples) refl refl (stack-op s.mode.dix s.pages s.block (FetchPi v n body tuples) k) h).blocks in
     let x = r v n refl (in-range t v n h) in
     (p.0, (p.1, (both-cells s.pages s.block n body tuples b, (x.near, x.fetched))))
 binds-op s t us i (Overwrite dev lba change) k h r = (good-change t (map info_of (shapes_of us)) s.block dev lba change h).to

@@ -12,7 +12,7 @@ use Rattle.run_moves.specs.ScriptMoves.{fates_of}
 use Rattle.stack_walks.specs.Spots.{op_in as op_at}
 use Rattle.script_text.specs.Bindings.{op_fault, request_at, request_by, request_of}
 use Rattle.script_text.specs.Ops.{both_fault, data_fault}
-use Rattle.script_laws.specs.Keeping.{IsOp as KeepsRules}
+use Rattle.script_ground.specs.SuitsStack.{IsStackOp}
 use Rattle.script_ground.proofs.Bodies.{alone-of, both-of, unless-ok}
 use Rattle.script_ground.proofs.Ops.{in-range}
 use Rattle.script_ground.proofs.Segments.{distinct-body, distinct-both, stands}
@@ -29,7 +29,7 @@ asked-by ops i l = ap request_by (got-op ops i l)
 abbrev pub Stored : Setting → Table → (i : ℕ) → Op → Type 0
 Stored m t i op = (v n : ℕ) → request_of op ≡ Some (v, n) → v + n ≤ volume_len t.entries → AreStoredApart m i v n
 
-pub spread-op : (m : Setting) (t : Table) (devices : List DeviceInfo) (dix : Bool) (pages size i : ℕ) (op : Op) → KeepsRules dix pages size op → op_fault t devices size op ≡ None → Stored m t i op → 0 < fates_of op → IsSpread m i op
+pub spread-op : (m : Setting) (t : Table) (devices : List DeviceInfo) (dix : Bool) (pages size i : ℕ) (op : Op) → IsStackOp dix pages size op → op_fault t devices size op ≡ None → Stored m t i op → 0 < fates_of op → IsSpread m i op
 spread-op m t devices dix pages size i (Fill seg byte) k h s l = absurd (omega arith)
 spread-op m t devices dix pages size i (Put page off bytes) k h s l = absurd (omega arith)
 spread-op m t devices dix pages size i (Show seg) k h s l = absurd (omega arith)

@@ -9,15 +9,15 @@ use Rattle.stack_walks.specs.Spots.{op_in as op_at}
 use Rattle.script_text.specs.declared.fault.ScriptFault.{ScriptFault}
 use Rattle.script_text.specs.declared.script.Script.{Script}
 use Rattle.script_text.specs.Bindings.{binding_fault, expect_fault, faults_fault, op_fault, ops_fault, or_else}
-use Rattle.script_laws.specs.Keeping.{IsOp as KeepsRules, Keeps}
 use Rattle.script_ground.specs.Bound.{IsSettingOf}
+use Rattle.script_ground.specs.SuitsStack.{IsStackOp, SuitsStack}
 use Rattle.stack_walks.specs.Seals.{IsSealed}
 use Rattle.script_ground.proofs.Ops.{kind-of, logged-op, no-fault, placed-all, rules-at, seal-of}
 use Rattle.script_ground.proofs.Places.{one-each}
 use Rattle.script_ground.proofs.Shifts.{stored-apart}
 use Rattle.script_ground.proofs.Spreads.{asked-by, spread-op}
 
-or-none : (a b : Option ScriptFault) → or_else a b ≡ None → (a ≡ None) × (b ≡ None)
+pub or-none : (a b : Option ScriptFault) → or_else a b ≡ None → (a ≡ None) × (b ≡ None)
 or-none None b e = (refl, e)
 or-none (Some f) b e = absurd cc
 
@@ -32,14 +32,14 @@ bound s t devices h =
     let b = or-none (faults_fault t devices s.ops [] s.faults s.lines) (ops_fault t devices s.block s.ops (drop (length s.faults) s.lines)) a.1 in
     record { faults = b.0; ops = b.1 }
 
-pub stands-on-ground : (m : Setting) (s : Script) (t : Table) (devices : List DeviceInfo) (logs : ℕ) → Keeps s → length s.lines ≡ length s.faults + length s.ops → MadeFor t devices s.block → binding_fault s t devices ≡ None → IsSettingOf m s t devices logs → Ground m (4096 * s.pages) logs s.ops
+pub stands-on-ground : (m : Setting) (s : Script) (t : Table) (devices : List DeviceInfo) (logs : ℕ) → SuitsStack s → length s.lines ≡ length s.faults + length s.ops → MadeFor t devices s.block → binding_fault s t devices ≡ None → IsSettingOf m s t devices logs → Ground m (4096 * s.pages) logs s.ops
 stands-on-ground m s t devices logs k n made h is =
     let b = bound s t devices h in
     let lines = length-drop (length s.faults) s.lines in
     let long : length s.ops ≤ length (drop (length s.faults) s.lines) = omega arith in
     let few : length s.faults ≤ length s.lines = omega arith in
     let dix = s.mode.dix in
-    let rules : (i : ℕ) → i < length s.ops → KeepsRules dix s.pages s.block (op_at s.ops i) = λ i l. rules-at dix s.pages s.block s.ops i k.ops_are l in
+    let rules : (i : ℕ) → i < length s.ops → IsStackOp dix s.pages s.block (op_at s.ops i) = λ i l. rules-at dix s.pages s.block s.ops i k.ops_are l in
     let fine : (i : ℕ) → i < length s.ops → op_fault t devices s.block (op_at s.ops i) ≡ None = λ i l. no-fault t devices s.block s.ops (drop (length s.faults) s.lines) i long b.ops l in
     record {
       one = one-each m s t devices logs made is;
@@ -50,5 +50,5 @@ stands-on-ground m s t devices logs k n made h is =
       logged = λ i j l within. logged-op m s t devices logs (suc i) j (op_at s.ops i) made is (fine i l) within;
     }
 
-pub seals-whole : (m : Setting) (s : Script) → Keeps s → m.size ≡ s.block → (i : ℕ) → i < length s.ops → IsSealed m (op_at s.ops i)
+pub seals-whole : (m : Setting) (s : Script) → SuitsStack s → m.size ≡ s.block → (i : ℕ) → i < length s.ops → IsSealed m (op_at s.ops i)
 seals-whole m s k z i l = seal-of m s.mode.dix s.pages s.block (op_at s.ops i) z (rules-at s.mode.dix s.pages s.block s.ops i k.ops_are l)

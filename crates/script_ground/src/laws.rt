@@ -1,4 +1,5 @@
-//! What a script that keeps the rules of its language and was bound to a volume gives a stack.
+//! What a script that suits a stack and was bound to a volume gives it. Each script that keeps the rules of its language
+//! suits one.
 
 ghost use Rattle.std.specs.Prelude.{◌≡◌, ◌<◌, ◌≤◌, ◌+◌, ◌*◌, ℕ, true, List, length, map, None};
 ghost use Rattle.volume_table.specs.declared.device.DeviceInfo.{DeviceInfo as AnyDevice};
@@ -18,12 +19,12 @@ ghost use Rattle.run_follows.specs.Finished.{FramesFit};
 ghost use Rattle.run_falls.specs.AtTheEnd.{AllTakeAny};
 ghost use Rattle.script_text.specs.declared.script.Script.{Script as AnyScript};
 ghost use Rattle.script_text.specs.Bindings.{binding_fault};
-ghost use Rattle.script_laws.specs.Keeping.{Keeps};
 ghost use Rattle.stack_walks.specs.Ground.{Ground};
 ghost use Rattle.stack_walks.specs.Spots.{op_in};
 ghost use Rattle.stack_walks.specs.Units.{AreAtUnits};
 ghost use Rattle.stack_walks.specs.Seals.{IsSealed};
 ghost use Rattle.script_ground.specs.Bound.{IsSettingOf};
+ghost use Rattle.script_ground.specs.SuitsStack.{SuitsStack};
 ghost use Rattle.script_ground.specs.Units.{AreStored, all_blocks};
 
 use run_moves::a_target_keeps_sizes;
@@ -32,13 +33,13 @@ use run_moves::a_target_keeps_sizes;
 /// volume; each op is a request of some blocks or done whole; and the blocks of a request are spread, also where a
 /// fault shifts them.
 pub fn a_bound_script_stands_on_ground()
-    ensures { (m : Setting) (s : AnyScript) (t : Table) (devices : List AnyDevice) (logs : ℕ) → Keeps s → length s.lines ≡ length s.faults + length s.ops → MadeFor t devices s.block
+    ensures { (m : Setting) (s : AnyScript) (t : Table) (devices : List AnyDevice) (logs : ℕ) → SuitsStack s → length s.lines ≡ length s.faults + length s.ops → MadeFor t devices s.block
         → binding_fault s t devices ≡ None → IsSettingOf m s t devices logs → Ground m (4096 * s.pages) logs s.ops }
 {}
 
 /// A `seal` takes whole blocks of the volume's size.
 pub fn a_bound_script_seals_whole_blocks()
-    ensures { (m : Setting) (s : AnyScript) → Keeps s → m.size ≡ s.block → (i : ℕ) → i < length s.ops → IsSealed m (op_in s.ops i) }
+    ensures { (m : Setting) (s : AnyScript) → SuitsStack s → m.size ≡ s.block → (i : ℕ) → i < length s.ops → IsSealed m (op_in s.ops i) }
 {}
 
 /// Where the devices are those of units, whose blocks have cells one after another, each address has a cell of its own
@@ -51,7 +52,7 @@ pub fn a_rig_has_a_cell_for_each_address()
 /// Each block of a request lies in the unit of its device, of the volume's type and block size, where the command is
 /// sent and where the block is looked for on the medium: no shift leads it out of its unit.
 pub fn a_bound_script_lies_at_its_units()
-    ensures { (m : Setting) (s : AnyScript) (t : Table) (units : List AnyUnit) (logs : ℕ) → Keeps s → length s.lines ≡ length s.faults + length s.ops → MadeFor t (map info_of units) s.block
+    ensures { (m : Setting) (s : AnyScript) (t : Table) (units : List AnyUnit) (logs : ℕ) → SuitsStack s → length s.lines ≡ length s.faults + length s.ops → MadeFor t (map info_of units) s.block
         → binding_fault s t (map info_of units) ≡ None → IsSettingOf m s t (map info_of units) logs → AreAtUnits m units s.ops }
 {}
 
@@ -59,14 +60,14 @@ pub fn a_bound_script_lies_at_its_units()
 /// pages, whatever is stored, where the opening has their private pages behind these and a cell for what is found of
 /// each block.
 pub fn a_bound_script_is_bound_over_its_record()
-    ensures { (m : Setting) (s : AnyScript) (t : Table) (devices : List AnyDevice) (logs : ℕ) (opening : State) (es : List Sent) → Keeps s → IsSettingOf m s t devices logs → FramesFit m es
+    ensures { (m : Setting) (s : AnyScript) (t : Table) (devices : List AnyDevice) (logs : ℕ) (opening : State) (es : List Sent) → SuitsStack s → IsSettingOf m s t devices logs → FramesFit m es
         → 4096 * s.pages + rooms m s.ops ≤ length opening.bytes → fates s.ops ≤ length opening.fates → IsBoundRun (told m es) (λ c block. true) (4096 * s.pages) s.ops opening }
 {}
 
 /// Over a target whose units tell their blocks, each of the size of a stored block, the ops are bound to the script's
 /// pages too, and each stored block keeps its size: also one that an overwrite alters, or replaces by another.
 pub fn a_bound_script_is_bound_at_its_target()
-    ensures { (m : Setting) (s : AnyScript) (t : Table) (units : List AnyUnit) (us : List Stored) (logs : ℕ) (opening : State) → Keeps s → length s.lines ≡ length s.faults + length s.ops
+    ensures { (m : Setting) (s : AnyScript) (t : Table) (units : List AnyUnit) (us : List Stored) (logs : ℕ) (opening : State) → SuitsStack s → length s.lines ≡ length s.faults + length s.ops
         → MadeFor t (map info_of units) s.block → binding_fault s t (map info_of units) ≡ None → IsSettingOf m s t (map info_of units) logs
         → m.site ≡ record { faults = s.faults; device = target s.faults; cell = cell_in units } → shapes_of us ≡ units → AreStored us → opening.blocks ≡ blocks_told us
         → 4096 * s.pages + rooms m s.ops ≤ length opening.bytes → fates s.ops ≤ length opening.fates → IsBoundRun m (keeps_size opening.blocks) (4096 * s.pages) s.ops opening }

@@ -26,10 +26,10 @@ use Rattle.whole_run.specs.Settings.{Setting}
 use Rattle.run_moves.specs.BoundRun.{fates}
 use Rattle.script_text.specs.declared.script.Script.{Script}
 use Rattle.script_text.specs.Bindings.{binding_fault}
-use Rattle.script_laws.specs.Keeping.{Keeps}
 use Rattle.stack_walks.specs.Ground.{Ground}
 use Rattle.stack_walks.specs.Seals.{IsSealed}
 use Rattle.script_ground.specs.Bound.{IsSettingOf}
+use Rattle.script_ground.specs.SuitsStack.{SuitsStack}
 use Rattle.script_ground.specs.Units.{all_blocks}
 use Rattle.script_ground.proofs.Standing.{seals-whole, stands-on-ground}
 use Rattle.script_ground.proofs.Units.{over-units}
@@ -81,7 +81,7 @@ pub record IsStackOf (s : Script) (t : Table) (r : Stack) : Type 0 where
   pub host : r.host ≡ host_type t.ty
   pub faults : r.adapter.tamper ≡ s.faults
 
-module _ (s : Script) (t : Table) (units : List UnitSpec) (fails : ℕ → Bool) (blocks : List (List ℕ)) (keeps : Keeps s) (lines : length s.lines ≡ length s.faults + length s.ops) (few : length (map info_of units) ≤ 8) (made : MadeFor t (map info_of units) s.block) (bound : binding_fault s t (map info_of units) ≡ None) where
+module _ (s : Script) (t : Table) (units : List UnitSpec) (fails : ℕ → Bool) (blocks : List (List ℕ)) (suits : SuitsStack s) (lines : length s.lines ≡ length s.faults + length s.ops) (few : length (map info_of units) ≤ 8) (made : MadeFor t (map info_of units) s.block) (bound : binding_fault s t (map info_of units) ≡ None) where
   abbrev m : Setting
   m = setting_of s t units fails
 
@@ -91,9 +91,9 @@ module _ (s : Script) (t : Table) (units : List UnitSpec) (fails : ℕ → Bool)
   pub is_over : (r : Stack) → IsStackOf s t r → IsOver m (4096 * s.pages) (begun_of s units blocks) r.sheet r.adapter r.host
   is_over r h =
       let logs : length (begun_of s units blocks).logs ≡ all_blocks units = length-replicate (all_blocks units) [] in
-      let ground = subst (λ k. Ground m (4096 * s.pages) k s.ops) (sym logs) (stands-on-ground m s t (map info_of units) (all_blocks units) keeps lines made bound own_setting) in
+      let ground = subst (λ k. Ground m (4096 * s.pages) k s.ops) (sym logs) (stands-on-ground m s t (map info_of units) (all_blocks units) suits lines made bound own_setting) in
       let long : length (begun_of s units blocks).fates ≡ fates s.ops = length-replicate (fates s.ops) None in
-      let sizes = (sizes-of s t (map info_of units) keeps lines few made bound).size in
+      let sizes = (sizes-of s t (map info_of units) suits lines few made bound).size in
       record {
         ground = subst (Ground m (4096 * s.pages) (length (begun_of s units blocks).logs)) (sym h.ops) ground;
         found = subst (λ ops. fates ops ≤ length (begun_of s units blocks).fates) (sym h.ops) (omega arith);
@@ -107,7 +107,7 @@ module _ (s : Script) (t : Table) (units : List UnitSpec) (fails : ℕ → Bool)
         size = subst (λ ios. (i : ℕ) → 0 < (io_at ios i).count → block_size (io_at ios i) ≡ s.block) (sym h.ios) sizes;
         entries = ap (λ (x : Table). x.entries) (sym h.table);
         faults = sym h.faults;
-        seals = subst (λ ops. (i : ℕ) → i < length ops → IsSealed m (op_in ops i)) (sym h.ops) (seals-whole m s keeps refl);
+        seals = subst (λ ops. (i : ℕ) → i < length ops → IsSealed m (op_in ops i)) (sym h.ops) (seals-whole m s suits refl);
       }
 
 -- ---- over any rig, and over one that tells its blocks
@@ -118,13 +118,13 @@ fits-found s t devices st fails made sizes v l =
     let on = made.inside v l in
     sizes (place_in t.entries v).0 on.known ∙ on.size_is
 
-pub begins-walks : (s : Script) (t : Table) (devices : List DeviceInfo) (r : Stack) → Keeps s → length s.lines ≡ length s.faults + length s.ops → length devices ≤ 8 → MadeFor t devices s.block → binding_fault s t devices ≡ None → IsStackOf s t r →
+pub begins-walks : (s : Script) (t : Table) (devices : List DeviceInfo) (r : Stack) → SuitsStack s → length s.lines ≡ length s.faults + length s.ops → length devices ≤ 8 → MadeFor t devices s.block → binding_fault s t devices ≡ None → IsStackOf s t r →
     IsBlank (pages_from s.mode.dix s.pages s.ops) r.pool → WalksAtFirst r → BeginsWalks s t devices r
-begins-walks s t devices r keeps lines few made bound is blank first fails blocks st log sizes =
+begins-walks s t devices r suits lines few made bound is blank first fails blocks st log sizes =
     let units = map unit_of devices in
     let e = sym (own-infos devices) in
     first (setting_of s t units fails) (4096 * s.pages) (begun_of s units blocks) st log (opens s units blocks r blank)
-    (is_over s t units fails blocks keeps lines (subst (λ (ds : List DeviceInfo). length ds ≤ 8) e few) (subst (λ ds. MadeFor t ds s.block) e made) (subst (λ ds. binding_fault s t ds ≡ None) e bound) r is)
+    (is_over s t units fails blocks suits lines (subst (λ (ds : List DeviceInfo). length ds ≤ 8) e few) (subst (λ ds. MadeFor t ds s.block) e made) (subst (λ ds. binding_fault s t ds ≡ None) e bound) r is)
     (fits-found s t devices st fails made sizes)
 
 info-size : (units : List UnitSpec) (d : ℕ) → d < length (map info_of units) → (get_or units d no_spec).size ≡ (device (map info_of units) d).size
@@ -141,7 +141,7 @@ record BeginsAt (s : Script) (t : Table) (us : List Stored) (r : Stack) (st : St
   units : AreAtUnits (setting_of s t (shapes_of us) none_fails) (specs_of st) r.sheet.ops
   armed : s.faults ≡ r.adapter.tamper
 
-module _ (s : Script) (t : Table) (devices : List DeviceInfo) (r : Stack) (keeps : Keeps s) (lines : length s.lines ≡ length s.faults + length s.ops) (few : length devices ≤ 8) (made : MadeFor t devices s.block) (bound : binding_fault s t devices ≡ None) (is : IsStackOf s t r) (blank : IsBlank (pages_from s.mode.dix s.pages s.ops) r.pool) where
+module _ (s : Script) (t : Table) (devices : List DeviceInfo) (r : Stack) (suits : SuitsStack s) (lines : length s.lines ≡ length s.faults + length s.ops) (few : length devices ≤ 8) (made : MadeFor t devices s.block) (bound : binding_fault s t devices ≡ None) (is : IsStackOf s t r) (blank : IsBlank (pages_from s.mode.dix s.pages s.ops) r.pool) where
   begins-at : (us : List Stored) (st : Standing) → devices ≡ map info_of (specs_of st) → shapes_of us ≡ specs_of st → BeginsAt s t us r st
   begins-at us st found shapes =
       let units = shapes_of us in
@@ -150,11 +150,11 @@ module _ (s : Script) (t : Table) (devices : List DeviceInfo) (r : Stack) (keeps
       let few' = subst (λ (ds : List DeviceInfo). length ds ≤ 8) e few in
       let made' = subst (λ ds. MadeFor t ds s.block) e made in
       let bound' = subst (λ ds. binding_fault s t ds ≡ None) e bound in
-      let own = own_setting s t units none_fails (blocks_told us) keeps lines few' made' bound' in
+      let own = own_setting s t units none_fails (blocks_told us) suits lines few' made' bound' in
       let sizes : SizesAre (map info_of units) st = λ d l. ap (λ us. (get_or us d no_spec).size) (sym shapes) ∙ info-size units d l in
       record {
         opens_so = opens s units (blocks_told us) r blank;
-        over = is_over s t units none_fails (blocks_told us) keeps lines few' made' bound' r is;
+        over = is_over s t units none_fails (blocks_told us) suits lines few' made' bound' r is;
         sizes = λ v l. (let on = made'.inside v l in sizes (place_in t.entries v).0 on.known ∙ on.size_is);
         site = ap (λ (fs : List FaultLine). record { faults = fs; device = target fs; cell = cell_in units }) (sym is.faults) ∙ ap (site_of r.adapter) shapes;
         units = subst (λ us. AreAtUnits m us r.sheet.ops) shapes (subst (AreAtUnits m units) (sym is.ops) (lies-at-units m s t units (all_blocks units) own lines made' bound'));

@@ -16,7 +16,7 @@ use Rattle.block_path.specs.Acts.{State}
 use Rattle.whole_run.specs.Settings.{Setting}
 use Rattle.script_text.specs.Bindings.{binding_fault}
 use Rattle.script_text.specs.declared.script.Script.{Script}
-use Rattle.script_laws.specs.Keeping.{Keeps}
+use Rattle.script_ground.specs.SuitsStack.{SuitsStack}
 use Rattle.script_ground.specs.Units.{AreStored}
 use Rattle.stack_core.specs.Mediums.{HasCounted, RoseBy, medium_lines}
 use Rattle.stack_core.specs.Stacks.{GoesOn, IsStack, Stays, plan_in}
@@ -27,33 +27,33 @@ use Rattle.stack_view.specs.Steps.{enabled}
 use Rattle.stack_view.specs.View.{View, start}
 use Rattle.script_stack.specs.Followed.{BeginsTold, BeginsWalks, HasWalked, IsBackedBy, SizesAre, begun_of, failed_in, none_fails, setting_of, unit_of, BeginsFalling, HasFallen}
 use Rattle.script_stack.specs.Going.{Outside, Went}
-use Rattle.script_stack.specs.Sends.{IsPlanFor, SendsBy, SendsFor, entries_of}
+use Rattle.script_stack.specs.Sends.{IsPlanFor, SendsBy, SendsFor, by_words, entries_of}
 use Rattle.script_stack.proofs.Following.{behind, told-image, told-shapes, told-stored}
 use Rattle.script_stack.proofs.SendsBy.{AllLaw, FewLaw, sends_for}
 
 -- the law over any rig
 abbrev pub BackedLaw : Type 0
-BackedLaw = (s : Script) (t : Table) (devices : List DeviceInfo) (first : ℕ) (r : Stack) (st : Standing) (log : List Entry) → Keeps s → IsStack r → r.sheet.ops ≡ s.ops
+BackedLaw = (s : Script) (t : Table) (devices : List DeviceInfo) (first : ℕ) (r : Stack) (st : Standing) (log : List Entry) → SuitsStack s → IsStack r → r.sheet.ops ≡ s.ops
     → ((blocks : List (List ℕ)) → Walks (setting_of s t (map unit_of devices) (failed_in r.replies.items)) (4096 * s.pages) (begun_of s (map unit_of devices) blocks) first r st log)
     → ((v : View) → Holds (plan_in r.sheet) r.machine v → enabled (plan_in r.sheet) v ≡ []) → IsBackedBy s t devices (drop first log) r.replies.items
 
 -- the law over a rig that tells its blocks
 abbrev pub ToldLaw : Type 0
-ToldLaw = (s : Script) (t : Table) (us left : List Stored) (first : ℕ) (r : Stack) (armed : List FaultLine) (st : Standing) (log : List Entry) → Keeps s → length s.lines ≡ length s.faults + length s.ops
+ToldLaw = (s : Script) (t : Table) (us left : List Stored) (first : ℕ) (r : Stack) (armed : List FaultLine) (st : Standing) (log : List Entry) → SuitsStack s → length s.lines ≡ length s.faults + length s.ops
     → MadeFor t (map info_of (shapes_of us)) s.block → binding_fault s t (map info_of (shapes_of us)) ≡ None → AreStored us → shapes_of left ≡ shapes_of us → IsStack r → r.sheet.ops ≡ s.ops
     → NoneFailed r.replies.items → WalksTold (setting_of s t (shapes_of us) none_fails) (4096 * s.pages) (begun_of s (shapes_of us) (blocks_told us)) first r (Some left) armed st log
     → ((v : View) → Holds (plan_in r.sheet) r.machine v → enabled (plan_in r.sheet) v ≡ []) → HasWalked s t us left r.pool (drop first log) r.replies.items
 
 -- and where its store calls may fail
 abbrev pub FallenLaw : Type 0
-FallenLaw = (s : Script) (t : Table) (us left : List Stored) (first : ℕ) (r : Stack) (armed : List FaultLine) (st : Standing) (log : List Entry) → Keeps s → length s.lines ≡ length s.faults + length s.ops
+FallenLaw = (s : Script) (t : Table) (us left : List Stored) (first : ℕ) (r : Stack) (armed : List FaultLine) (st : Standing) (log : List Entry) → SuitsStack s → length s.lines ≡ length s.faults + length s.ops
     → MadeFor t (map info_of (shapes_of us)) s.block → binding_fault s t (map info_of (shapes_of us)) ≡ None → AreStored us → shapes_of left ≡ shapes_of us → IsStack r → r.sheet.ops ≡ s.ops
     → WalksFalling (setting_of s t (shapes_of us) none_fails) (4096 * s.pages) (begun_of s (shapes_of us) (blocks_told us)) first r (Some left) armed st log
     → ((v : View) → Holds (plan_in r.sheet) r.machine v → enabled (plan_in r.sheet) v ≡ []) → HasFallen s t us left r.pool (drop first log) r.replies.items
 
--- A script that was made ready over a rig, with what the rig tells of its image then and afterwards, and its stack that went to its end.
-pub record IsOver (s : Script) (t : Table) (devices : List DeviceInfo) (begun r : Stack) (image image' : Option (List ℕ)) (old new : Outside) : Type 0 where
-  pub keeps : Keeps s
+-- A script that was made ready over a rig and run by these words, with what the rig tells of its image then and afterwards, and its stack that went to its end.
+pub record IsOver (s : Script) (t : Table) (devices : List DeviceInfo) (words : List (ℕ × ℕ)) (begun r : Stack) (image image' : Option (List ℕ)) (old new : Outside) : Type 0 where
+  pub suits : SuitsStack s
   pub lines : length s.lines ≡ length s.faults + length s.ops
   pub made : MadeFor t devices s.block
   pub bound : binding_fault s t devices ≡ None
@@ -78,23 +78,23 @@ pub record IsOver (s : Script) (t : Table) (devices : List DeviceInfo) (begun r 
   pub first : Holds (plan_in begun.sheet) begun.machine (start (plan_in begun.sheet))
   pub stays : Stays begun r
   pub counted : HasCounted old.faults r new.faults
-  pub sent : begun.machine.steps ≡ 0 → SendsBy (entries_of s.schedule) begun r old.log new.log
+  pub sent : begun.machine.steps ≡ 0 → SendsBy (entries_of words) begun r old.log new.log
 
-pub rest_is : (s : Script) (t : Table) (devices : List DeviceInfo) (begun r : Stack) (image image' : Option (List ℕ)) (old new : Outside) (o : IsOver s t devices begun r image image' old new) → drop (length old.log) new.log ≡ o.goes.more
-rest_is s t devices begun r image image' old new o = ap (drop (length old.log)) o.goes.records ∙ behind old.log o.goes.more
+pub rest_is : (s : Script) (t : Table) (devices : List DeviceInfo) (words : List (ℕ × ℕ)) (begun r : Stack) (image image' : Option (List ℕ)) (old new : Outside) (o : IsOver s t devices words begun r image image' old new) → drop (length old.log) new.log ≡ o.goes.more
+rest_is s t devices words begun r image image' old new o = ap (drop (length old.log)) o.goes.records ∙ behind old.log o.goes.more
 
-pub backed_by : (s : Script) (t : Table) (devices : List DeviceInfo) (begun r : Stack) (image image' : Option (List ℕ)) (old new : Outside) → BackedLaw → (o : IsOver s t devices begun r image image' old new) → IsBackedBy s t devices o.goes.more r.replies.items
-backed_by s t devices begun r image image' old new law o =
-    subst (λ (more : List Entry). IsBackedBy s t devices more r.replies.items) (rest_is s t devices begun r image image' old new o)
-    (law s t devices (length old.log) r new.standing new.log o.keeps o.stack o.ops
+pub backed_by : (s : Script) (t : Table) (devices : List DeviceInfo) (words : List (ℕ × ℕ)) (begun r : Stack) (image image' : Option (List ℕ)) (old new : Outside) → BackedLaw → (o : IsOver s t devices words begun r image image' old new) → IsBackedBy s t devices o.goes.more r.replies.items
+backed_by s t devices words begun r image image' old new law o =
+    subst (λ (more : List Entry). IsBackedBy s t devices more r.replies.items) (rest_is s t devices words begun r image image' old new o)
+    (law s t devices (length old.log) r new.standing new.log o.suits o.stack o.ops
     (λ blocks. o.went.walks (setting_of s t (map unit_of devices) (failed_in r.replies.items)) (4096 * s.pages) (begun_of s (map unit_of devices) blocks) (length old.log) (o.walks (failed_in r.replies.items) blocks old.standing old.log o.sizes)) o.ended)
 
-pub sent_by : (s : Script) (t : Table) (devices : List DeviceInfo) (begun r : Stack) (image image' : Option (List ℕ)) (old new : Outside) → FewLaw → AllLaw → (o : IsOver s t devices begun r image image' old new) → SendsFor s t o.goes.more r.replies.items
-sent_by s t devices begun r image image' old new few all o =
+pub sent_by : (s : Script) (t : Table) (devices : List DeviceInfo) (words : List (ℕ × ℕ)) (begun r : Stack) (image image' : Option (List ℕ)) (old new : Outside) → FewLaw → AllLaw → (o : IsOver s t devices words begun r image image' old new) → SendsFor (by_words s words) t o.goes.more r.replies.items
+sent_by s t devices words begun r image image' old new few all o =
     let m = setting_of s t (map unit_of devices) (failed_in r.replies.items) in
     let opening = begun_of s (map unit_of devices) [] in
-    sends_for s t begun r old.log new.log o.goes.more few all
-    (record { plan = o.plan; first = o.first; stays = o.stays; sent = o.sent; records = o.goes.records; stack = o.stack; ended = o.ended }) m (4096 * s.pages) opening (length old.log) new.standing new.log
+    sends_for (by_words s words) t begun r old.log new.log o.goes.more few all
+    (record { plan = record { is = o.plan.is; queues = o.plan.queues }; first = o.first; stays = o.stays; sent = o.sent; records = o.goes.records; stack = o.stack; ended = o.ended }) m (4096 * s.pages) opening (length old.log) new.standing new.log
     (o.went.walks m (4096 * s.pages) opening (length old.log) (o.walks (failed_in r.replies.items) [] old.standing old.log o.sizes))
 
 -- the law of lines that name the medium
@@ -102,8 +102,8 @@ abbrev pub MediumLaw : Type 0
 MediumLaw = (m : Setting) (n : ℕ) (opening : State) (begun first : ℕ) (s : Stack) (st : Standing) (log : List Entry) (count : ℕ) → IsStack s → Walks m n opening begun s st log
     → ((v : View) → Holds (plan_in s.sheet) s.machine v → enabled (plan_in s.sheet) v ≡ []) → HasCounted first s count → RoseBy (medium_lines s.replies.items) first count
 
-pub few_lines : (s : Script) (t : Table) (devices : List DeviceInfo) (begun r : Stack) (image image' : Option (List ℕ)) (old new : Outside) → MediumLaw → (o : IsOver s t devices begun r image image' old new) → RoseBy (medium_lines r.replies.items) old.faults new.faults
-few_lines s t devices begun r image image' old new law o =
+pub few_lines : (s : Script) (t : Table) (devices : List DeviceInfo) (words : List (ℕ × ℕ)) (begun r : Stack) (image image' : Option (List ℕ)) (old new : Outside) → MediumLaw → (o : IsOver s t devices words begun r image image' old new) → RoseBy (medium_lines r.replies.items) old.faults new.faults
+few_lines s t devices words begun r image image' old new law o =
     let m = setting_of s t (map unit_of devices) (failed_in r.replies.items) in
     let opening = begun_of s (map unit_of devices) [] in
     law m (4096 * s.pages) opening (length old.log) old.faults r new.standing new.log new.faults o.stack
@@ -130,8 +130,8 @@ pub record IsTold (s : Script) (t : Table) (devices : List DeviceInfo) (us : Lis
   pub left_are : new.units ≡ Some left
   pub same : shapes_of left ≡ shapes_of us
 
-pub told_at : (s : Script) (t : Table) (devices : List DeviceInfo) (begun r : Stack) (image image' : Option (List ℕ)) (old new : Outside) → IsOver s t devices begun r image image' old new → (us : List Stored) → old.units ≡ Some us → IsTold s t devices us begun old new
-told_at s t devices begun r image image' old new o us e =
+pub told_at : (s : Script) (t : Table) (devices : List DeviceInfo) (words : List (ℕ × ℕ)) (begun r : Stack) (image image' : Option (List ℕ)) (old new : Outside) → IsOver s t devices words begun r image image' old new → (us : List Stored) → old.units ≡ Some us → IsTold s t devices us begun old new
+told_at s t devices words begun r image image' old new o us e =
     let after = left_told image image' old.standing new.standing old.units new.units us e o.laid o.laid_after o.tells in
     let told : units_told old.standing image ≡ Some us = sym o.laid ∙ e in
     let told' : units_told new.standing image' ≡ Some after.0 = sym o.laid_after ∙ after.1 in
@@ -151,22 +151,22 @@ told_at s t devices begun r image image' old new o us e =
       same = shapes' ∙ ap specs_of o.goes.standing ∙ sym shapes;
     }
 
-pub walked_at : (s : Script) (t : Table) (devices : List DeviceInfo) (begun r : Stack) (image image' : Option (List ℕ)) (old new : Outside) → ToldLaw → (o : IsOver s t devices begun r image image' old new) → (us : List Stored) → old.units ≡ Some us → Calm old.faults new.faults →
+pub walked_at : (s : Script) (t : Table) (devices : List DeviceInfo) (words : List (ℕ × ℕ)) (begun r : Stack) (image image' : Option (List ℕ)) (old new : Outside) → ToldLaw → (o : IsOver s t devices words begun r image image' old new) → (us : List Stored) → old.units ≡ Some us → Calm old.faults new.faults →
     (left : List Stored) × ((new.units ≡ Some left) × HasWalked s t us left r.pool o.goes.more r.replies.items)
-walked_at s t devices begun r image image' old new law o us e calm =
-    let told = told_at s t devices begun r image image' old new o us e in
+walked_at s t devices words begun r image image' old new law o us e calm =
+    let told = told_at s t devices words begun r image image' old new o us e in
     let ends = o.went.told (setting_of s t (shapes_of us) none_fails) (4096 * s.pages) (begun_of s (shapes_of us) (blocks_told us)) (length old.log) told.begins calm in
     let ends' : WalksTold (setting_of s t (shapes_of us) none_fails) (4096 * s.pages) (begun_of s (shapes_of us) (blocks_told us)) (length old.log) r (Some told.left) new.armed new.standing new.log = rw told.left_are at ends in
     let walked : HasWalked s t us told.left r.pool (drop (length old.log) new.log) r.replies.items =
-    law s t us told.left (length old.log) r new.armed new.standing new.log o.keeps o.lines told.made told.bound told.stored told.same o.stack o.ops (o.went.silent calm o.silent) ends' o.ended in
-    (told.left, (told.left_are, subst (λ (more : List Entry). HasWalked s t us told.left r.pool more r.replies.items) (rest_is s t devices begun r image image' old new o) walked))
+    law s t us told.left (length old.log) r new.armed new.standing new.log o.suits o.lines told.made told.bound told.stored told.same o.stack o.ops (o.went.silent calm o.silent) ends' o.ended in
+    (told.left, (told.left_are, subst (λ (more : List Entry). HasWalked s t us told.left r.pool more r.replies.items) (rest_is s t devices words begun r image image' old new o) walked))
 
-pub fallen_at : (s : Script) (t : Table) (devices : List DeviceInfo) (begun r : Stack) (image image' : Option (List ℕ)) (old new : Outside) → FallenLaw → (o : IsOver s t devices begun r image image' old new) → (us : List Stored) → old.units ≡ Some us → NoOverwrites s.ops →
+pub fallen_at : (s : Script) (t : Table) (devices : List DeviceInfo) (words : List (ℕ × ℕ)) (begun r : Stack) (image image' : Option (List ℕ)) (old new : Outside) → FallenLaw → (o : IsOver s t devices words begun r image image' old new) → (us : List Stored) → old.units ≡ Some us → NoOverwrites s.ops →
     (left : List Stored) × ((new.units ≡ Some left) × HasFallen s t us left r.pool o.goes.more r.replies.items)
-fallen_at s t devices begun r image image' old new law o us e none =
-    let told = told_at s t devices begun r image image' old new o us e in
+fallen_at s t devices words begun r image image' old new law o us e none =
+    let told = told_at s t devices words begun r image image' old new o us e in
     let ends = o.went.falling (setting_of s t (shapes_of us) none_fails) (4096 * s.pages) (begun_of s (shapes_of us) (blocks_told us)) (length old.log) (told.begins_falling none) in
     let ends' : WalksFalling (setting_of s t (shapes_of us) none_fails) (4096 * s.pages) (begun_of s (shapes_of us) (blocks_told us)) (length old.log) r (Some told.left) new.armed new.standing new.log = rw told.left_are at ends in
     let fallen : HasFallen s t us told.left r.pool (drop (length old.log) new.log) r.replies.items =
-    law s t us told.left (length old.log) r new.armed new.standing new.log o.keeps o.lines told.made told.bound told.stored told.same o.stack o.ops ends' o.ended in
-    (told.left, (told.left_are, subst (λ (more : List Entry). HasFallen s t us told.left r.pool more r.replies.items) (rest_is s t devices begun r image image' old new o) fallen))
+    law s t us told.left (length old.log) r new.armed new.standing new.log o.suits o.lines told.made told.bound told.stored told.same o.stack o.ops ends' o.ended in
+    (told.left, (told.left_are, subst (λ (more : List Entry). HasFallen s t us told.left r.pool more r.replies.items) (rest_is s t devices words begun r image image' old new o) fallen))

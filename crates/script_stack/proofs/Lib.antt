@@ -9,6 +9,7 @@ pub mod Begins
 pub mod Runs
 pub mod Following
 pub mod SendsBy
+pub mod Words
 pub mod Ended
 pub mod Fallen
 pub mod Counted

@@ -1,7 +1,7 @@
--- A script that keeps the rules of its language and is bound to a volume: a stack can be made for it.
+-- A script that suits a stack and is bound to a volume: a stack can be made for it.
 use Rattle.std.proofs.Common.{◌≡◌, ◌≤◌, ℕ, zero, suc, ◌+◌, Bool, true, false, not, ◌&&◌, List, [], ◌∷◌, length, map, drop, replicate, refl, inl, inr, subst, arith, Option, None}
-use Rattle.std.specs.Prelude.{◌%◌, nat_le}
-use Rattle.std.proofs.lemmas.Bool.{and_parts, eqb-true}
+use Rattle.std.specs.Prelude.{◌%◌, nat_le, nat_lt}
+use Rattle.std.proofs.lemmas.Bool.{and_parts, eqb-true, leb-true}
 use Rattle.std.proofs.lemmas.List.{length-drop, length-replicate}
 use Rattle.page_pool.specs.declared.segs.Seg.{Seg}
 use Rattle.integrity_payload.specs.Payloads.{AreWholeTuples}
@@ -18,13 +18,14 @@ use Rattle.script_text.specs.Bindings.{binding_fault, op_fault}
 use Rattle.script_text.specs.Ops.{both_fault, data_fault}
 use Rattle.script_text.specs.Rules.{request_blocks}
 use Rattle.script_text.specs.Segments.{are_whole_tuples, is_inside, is_whole}
-use Rattle.script_laws.specs.Keeping.{IsOp as KeepsRules, IsProtect, Keeps, blocks_of}
+use Rattle.script_laws.specs.Keeping.{IsProtect, blocks_of}
 use Rattle.script_laws.specs.Lines.{line_of}
 use Rattle.stack_core.specs.Requests.{first_page, page_after, request_of, requests_from}
 use Rattle.stack_core.specs.Sheets.{op_in as op_at, request_in}
 use Rattle.stack_core.specs.Stacks.{AreUniform}
 use Rattle.stack_core.specs.Starting.{AreTuples, CanStart, IsData, IsOp}
 use Rattle.stack_core.proofs.Opening.{uniform}
+use Rattle.script_ground.specs.SuitsStack.{IsStackOp, SuitsStack}
 use Rattle.script_ground.proofs.Bodies.{HaveTuples, IsBody, alone-of, both-of, inside-ok, unless-ok}
 use Rattle.script_ground.proofs.Ops.{in-range, no-fault, rules-at}
 use Rattle.script_ground.proofs.Segments.{all-lie, lies}
@@ -51,18 +52,20 @@ travels false h = absurd cc
 
 -- ---- each op
 
-ready-op : (dix : Bool) (pages size : ℕ) (pool : List (List ℕ)) (t : Table) (devices : List DeviceInfo) (op : Op) → length pool ≡ pages → KeepsRules dix pages size op → op_fault t devices size op ≡ None → IsOp dix pool size (volume_len t.entries) op
+ready-op : (dix : Bool) (pages size : ℕ) (pool : List (List ℕ)) (t : Table) (devices : List DeviceInfo) (op : Op) → length pool ≡ pages → IsStackOp dix pages size op → op_fault t devices size op ≡ None → IsOp dix pool size (volume_len t.entries) op
 ready-op dix pages size pool t devices (Fill seg byte) e k h = lies pages pool seg e (inside-ok (is_inside pages seg) _ _ k.rules)
 ready-op dix pages size pool t devices (Put page off bytes) e k h =
-    let few = k.ranges.1 in
-    (lies pages pool (record { page = page; off = off; len = length bytes }) e (inside-ok (is_inside pages (record { page = page; off = off; len = length bytes })) _ _ k.rules), omega arith)
+    let there = inside-ok (is_inside pages (record { page = page; off = off; len = length bytes })) _ _ k.rules in
+    let in_page = and_parts (nat_lt page pages) (nat_lt 0 (length bytes) && nat_le (off + length bytes) 4096) there in
+    let few = leb-true (off + length bytes) 4096 (and_parts (nat_lt 0 (length bytes)) (nat_le (off + length bytes) 4096) in_page.1).1 in
+    (lies pages pool (record { page = page; off = off; len = length bytes }) e there, omega arith)
 ready-op dix pages size pool t devices (Show seg) e k h =
     lies pages pool seg e (and_parts (is_inside pages seg) (nat_le seg.len 64) (inside-ok (is_inside pages seg && nat_le seg.len 64) _ _ k.rules)).0
 ready-op dix pages size pool t devices (Seal n body tuples app rtag) e k h =
     let b = both-of pages size n body tuples (unless-ok (both_fault pages size n body tuples) _ _ k.rules) in
     let o = are-once body tuples b.overlap in
     let few = b.body_is.few in
-    let r = k.ranges.1 in
+    let r = k.tag in
     (b.body_is.some, (all-lie pages pool body e b.body_is.inside, (tuples-of pages n pool body tuples e b.tuples_are o, (o.apart, omega arith))))
 ready-op dix pages size pool t devices (Write v n body app) e k h =
     let a = alone-of pages size n body (unless-ok (data_fault pages size n body) _ _ k.rules) in
@@ -112,14 +115,14 @@ protect-of (suc (suc (suc (suc zero)))) h = inr (inr refl)
 protect-of (suc (suc (suc (suc (suc n))))) h = let l = h.range.high_is in absurd (omega arith)
 
 -- a stack can be made for it, with blocks of its size
-pub can-start-of : (s : Script) (t : Table) (devices : List DeviceInfo) → Keeps s → length s.lines ≡ length s.faults + length s.ops → length devices ≤ 8 → MadeFor t devices s.block → binding_fault s t devices ≡ None →
+pub can-start-of : (s : Script) (t : Table) (devices : List DeviceInfo) → SuitsStack s → length s.lines ≡ length s.faults + length s.ops → length devices ≤ 8 → MadeFor t devices s.block → binding_fault s t devices ≡ None →
     (c : CanStart t s.mode.dix s.mode.protect s.limits s.pages (replicate s.pages []) s.ops) × (c.bytes ≡ s.block)
 can-start-of s t devices k n few made good =
     let pages = k.pages_are in
     let pages_low = pages.low_is in
     let pages_high = pages.high_is in
     let ops = k.ops_count in
-    let most = k.limits_are.blocks in
+    let most = k.most in
     let most_low = most.low_is in
     let most_high = most.high_is in
     let blocks = k.blocks_count in
@@ -132,7 +135,7 @@ can-start-of s t devices k n few made good =
         few_pages = omega arith;
         few_ops = omega arith;
         few_blocks = omega arith;
-        protect_is = protect-of s.mode.protect k.mode_is.protect_is;
+        protect_is = protect-of s.mode.protect k.protect_is;
         some_blocks = most_low;
         most_blocks = omega arith;
         bytes = s.block;
@@ -147,12 +150,12 @@ can-start-of s t devices k n few made good =
       refl,
     )
 
-pub can-start : (s : Script) (t : Table) (devices : List DeviceInfo) → Keeps s → length s.lines ≡ length s.faults + length s.ops → length devices ≤ 8 → MadeFor t devices s.block → binding_fault s t devices ≡ None →
+pub can-start : (s : Script) (t : Table) (devices : List DeviceInfo) → SuitsStack s → length s.lines ≡ length s.faults + length s.ops → length devices ≤ 8 → MadeFor t devices s.block → binding_fault s t devices ≡ None →
     CanStart t s.mode.dix s.mode.protect s.limits s.pages (replicate s.pages []) s.ops
 can-start s t devices k n few made good = (can-start-of s t devices k n few made good).0
 
 -- all its requests have blocks of its size
-pub sizes-of : (s : Script) (t : Table) (devices : List DeviceInfo) → Keeps s → length s.lines ≡ length s.faults + length s.ops → length devices ≤ 8 → MadeFor t devices s.block → binding_fault s t devices ≡ None →
+pub sizes-of : (s : Script) (t : Table) (devices : List DeviceInfo) → SuitsStack s → length s.lines ≡ length s.faults + length s.ops → length devices ≤ 8 → MadeFor t devices s.block → binding_fault s t devices ≡ None →
     AreUniform s.mode.dix s.block (requests_from s.mode.dix s.pages s.ops)
 sizes-of s t devices k n few made good =
     let c = can-start-of s t devices k n few made good in

@@ -12,6 +12,7 @@ use Rattle.stack_ops.specs.declared.reply.Reply.TheVariants.{Silent}
 use Rattle.volume_table.specs.declared.device.DeviceInfo.{DeviceInfo}
 use Rattle.volume_table.specs.Faults.{device}
 use Rattle.volume_table.specs.Tables.{MadeFor, Table}
+use Rattle.dix_adapter.specs.Groups.{mode_of}
 use Rattle.dix_adapter.specs.Ways.{blocks_told, cell_in, shapes_of}
 use Rattle.block_path.specs.Acts.{State}
 use Rattle.block_path.specs.Routes.{target}
@@ -28,10 +29,14 @@ use Rattle.script_ground.specs.Units.{all_blocks}
 use Rattle.stack_core.specs.Mediums.{RoseBy, medium_lines}
 use Rattle.stack_core.specs.Requests.{pages_from}
 use Rattle.stack_core.specs.declared.stack.Stack.{Stack}
+use Rattle.stack_core.specs.Stacks.{IsStack, plan_in}
 use Rattle.stack_core.specs.Walking.{NoOverwrites, Walks, WalksFalling, WalksTold, is_medium}
+use Rattle.stack_steps.specs.Does.{Holds}
+use Rattle.stack_view.specs.Steps.{enabled}
+use Rattle.stack_view.specs.View.{View}
 use Rattle.script_stack.specs.Causes.{table_of}
 use Rattle.script_stack.specs.Going.{Outside}
-use Rattle.script_stack.specs.Sends.{SendsFor}
+use Rattle.script_stack.specs.Sends.{SendsFor, by_words}
 
 -- which overwrites failed, by the replies; ops are numbered from 1
 abbrev pub failed_in : List Reply → ℕ → Bool
@@ -120,3 +125,20 @@ pub record Followed (s : Script) (before after : Outside) (r : Stack) : Type 0 w
   pub medium : RoseBy (medium_lines r.replies.items) asked.faults after.faults
   pub told : (us : List Stored) → before.units ≡ Some us → Calm asked.faults after.faults → (left : List Stored) × ((after.units ≡ Some left) × HasWalked s (table_of s devices) us left r.pool more r.replies.items)
   pub fallen : (us : List Stored) → before.units ≡ Some us → NoOverwrites s.ops → (left : List Stored) × ((after.units ≡ Some left) × HasFallen s (table_of s devices) us left r.pool more r.replies.items)
+
+-- A script was run by these words over a rig, to a volume of whose devices it was bound: all ops of its stack have ended. The rig stands as it did, and its count of faults didn't fall. The records from then on back the replies, and are those that its steps send by these words; lines that name the medium are at most as many as the count rose. Where the rig tells its blocks, and its count didn't rise, the script's ops were done one after another at the target; and whether or not it rose, so they were in a script without overwrites, but for what the store calls that failed left.
+pub record Ran (s : Script) (t : Table) (devices : List DeviceInfo) (words : List (ℕ × ℕ)) (before after : Outside) (r : Stack) : Type 0 where
+  pub stack : IsStack r
+  pub ops : r.sheet.ops ≡ s.ops
+  pub mode : mode_of r.adapter ≡ s.mode
+  pub armed : r.adapter.tamper ≡ s.faults
+  pub ended : (v : View) → Holds (plan_in r.sheet) r.machine v → enabled (plan_in r.sheet) v ≡ []
+  pub standing : after.standing ≡ before.standing
+  pub faults : before.faults ≤ after.faults
+  pub more : List Entry
+  pub records : after.log ≡ before.log ++ more
+  pub backed : IsBackedBy s t devices more r.replies.items
+  pub sends : SendsFor (by_words s words) t more r.replies.items
+  pub medium : RoseBy (medium_lines r.replies.items) before.faults after.faults
+  pub told : (us : List Stored) → before.units ≡ Some us → Calm before.faults after.faults → (left : List Stored) × ((after.units ≡ Some left) × HasWalked s t us left r.pool more r.replies.items)
+  pub fallen : (us : List Stored) → before.units ≡ Some us → NoOverwrites s.ops → (left : List Stored) × ((after.units ≡ Some left) × HasFallen s t us left r.pool more r.replies.items)

@@ -19,6 +19,10 @@ abbrev pub entries_of : List (ℕ × ℕ) → List Entry
 entries_of [] = []
 entries_of (w ∷ ws) = record { word = w.0; cut = w.1 } ∷ entries_of ws
 
+-- the script with these words and cuts as its schedule
+abbrev pub by_words : Script → List (ℕ × ℕ) → Script
+by_words s words = record s { schedule = words }
+
 -- the plan of a script's requests over its volume, with so many queues
 abbrev pub plan_for : Script → Table → (queues : ℕ) → Plan
 plan_for s t queues = plan_of s.ops (shifted_by s.faults (length s.ops)) (requests_from s.mode.dix s.pages s.ops) t s.limits queues

@@ -11,7 +11,7 @@ ghost use Rattle.volume_table.specs.Tables.{MadeFor, Table};
 ghost use Rattle.dix_adapter.specs.Ways.{blocks_told, shapes_of};
 ghost use Rattle.script_text.specs.declared.script.Script.{Script as AnyScript};
 ghost use Rattle.script_text.specs.Bindings.{binding_fault};
-ghost use Rattle.script_laws.specs.Keeping.{Keeps};
+ghost use Rattle.script_ground.specs.SuitsStack.{SuitsStack};
 ghost use Rattle.script_ground.specs.Units.{AreStored};
 ghost use Rattle.stack_view.specs.Steps.{enabled};
 ghost use Rattle.stack_view.specs.View.{View};
@@ -32,7 +32,7 @@ use stack_core::{
 
 /// Over any rig, honest or not, the log of a script that was run to its end backs its replies.
 pub fn a_script_run_is_backed()
-    ensures { (s : AnyScript) (t : Table) (devices : List AnyDevice) (first : ℕ) (r : AnyStack) (st : Standing) (log : List Entry) → Keeps s → IsStack r → r.sheet.ops ≡ s.ops
+    ensures { (s : AnyScript) (t : Table) (devices : List AnyDevice) (first : ℕ) (r : AnyStack) (st : Standing) (log : List Entry) → SuitsStack s → IsStack r → r.sheet.ops ≡ s.ops
         → ((blocks : List (List ℕ)) → Walks (setting_of s t (map unit_of devices) (failed_in r.replies.items)) (4096 * s.pages) (begun_of s (map unit_of devices) blocks) first r st log)
         → ((v : View) → Holds (plan_in r.sheet) r.machine v → enabled (plan_in r.sheet) v ≡ []) → IsBackedBy s t devices (drop first log) r.replies.items }
 {
@@ -43,7 +43,7 @@ pub fn a_script_run_is_backed()
 /// Over a rig that tells its blocks, while its count of faults didn't rise, the script's ops were done one after another
 /// at the target.
 pub fn a_told_script_run_has_walked()
-    ensures { (s : AnyScript) (t : Table) (us left : List Stored) (first : ℕ) (r : AnyStack) (armed : List FaultLine) (st : Standing) (log : List Entry) → Keeps s → length s.lines ≡ length s.faults + length s.ops
+    ensures { (s : AnyScript) (t : Table) (us left : List Stored) (first : ℕ) (r : AnyStack) (armed : List FaultLine) (st : Standing) (log : List Entry) → SuitsStack s → length s.lines ≡ length s.faults + length s.ops
         → MadeFor t (map info_of (shapes_of us)) s.block → binding_fault s t (map info_of (shapes_of us)) ≡ None → AreStored us → shapes_of left ≡ shapes_of us → IsStack r → r.sheet.ops ≡ s.ops
         → NoneFailed r.replies.items → WalksTold (setting_of s t (shapes_of us) none_fails) (4096 * s.pages) (begun_of s (shapes_of us) (blocks_told us)) first r (Some left) armed st log
         → ((v : View) → Holds (plan_in r.sheet) r.machine v → enabled (plan_in r.sheet) v ≡ []) → HasWalked s t us left r.pool (drop first log) r.replies.items }
@@ -55,7 +55,7 @@ pub fn a_told_script_run_has_walked()
 /// And whether or not the count rose, in a script without overwrites: so they were but for what the store calls that
 /// failed left.
 pub fn a_told_script_run_has_fallen()
-    ensures { (s : AnyScript) (t : Table) (us left : List Stored) (first : ℕ) (r : AnyStack) (armed : List FaultLine) (st : Standing) (log : List Entry) → Keeps s → length s.lines ≡ length s.faults + length s.ops
+    ensures { (s : AnyScript) (t : Table) (us left : List Stored) (first : ℕ) (r : AnyStack) (armed : List FaultLine) (st : Standing) (log : List Entry) → SuitsStack s → length s.lines ≡ length s.faults + length s.ops
         → MadeFor t (map info_of (shapes_of us)) s.block → binding_fault s t (map info_of (shapes_of us)) ≡ None → AreStored us → shapes_of left ≡ shapes_of us → IsStack r → r.sheet.ops ≡ s.ops
         → WalksFalling (setting_of s t (shapes_of us) none_fails) (4096 * s.pages) (begun_of s (shapes_of us) (blocks_told us)) first r (Some left) armed st log
         → ((v : View) → Holds (plan_in r.sheet) r.machine v → enabled (plan_in r.sheet) v ≡ []) → HasFallen s t us left r.pool (drop first log) r.replies.items }

@@ -15,4 +15,4 @@ pub use laws::{
 pub use run::run_all;
 pub use start::{Run, start_script};
 pub use unready::Unready;
-pub use whole::{ready_script, run_script};
+pub use whole::{ready_script, run_bound, run_script};

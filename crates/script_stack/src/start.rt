@@ -14,7 +14,7 @@ ghost use Rattle.stack_steps.specs.Does.{Holds};
 ghost use Rattle.stack_core.specs.Requests.{pages_from, requests_from};
 ghost use Rattle.stack_core.specs.Stacks.{HasSpare, IsStack, Reaches, plan_in};
 ghost use Rattle.script_text.specs.Bindings.{binding_fault};
-ghost use Rattle.script_laws.specs.Keeping.{Keeps};
+ghost use Rattle.script_ground.specs.SuitsStack.{SuitsStack};
 ghost use Rattle.stack_core.specs.Walking.{NoneFailed};
 ghost use Rattle.script_stack.specs.Followed.{BeginsTold, BeginsWalks, BeginsFalling};
 ghost use Rattle.stack_core.specs.Mediums.{HasCounted};
@@ -36,7 +36,7 @@ pub struct Run {
 
 /// The stack of a script over a volume of these devices, none of whose ops has begun. Takes all the memory of the run.
 ///
-/// The script keeps the rules of its language, and has no fault over the volume. A rig with these devices has the
+/// The script suits a stack, and has no fault over the volume. A rig with these devices has the
 /// blocks that the ops name, and room for as many exchanges and frames as there are blocks is enough.
 pub fn start_script(
     alloc: Global,
@@ -44,7 +44,7 @@ pub fn start_script(
     table: VolumeTable,
     _devices: &[DeviceInfo],
 ) -> Result<Run, AllocError>
-    requires keeps { Keeps script }
+    requires suits { SuitsStack script }
     requires lines { length script.lines ≡ length script.faults + length script.ops }
     requires few { length _devices.now ≤ 8 }
     requires made { MadeFor table _devices.now script.block }

@@ -1,6 +1,6 @@
 //! A script over an opened rig, to its end.
 
-ghost use Rattle.std.specs.Prelude.{ℕ, ◌≡◌, ◌+◌, ◌≤◌, [], IfErr, IfOk, None, OnOk, is_some, length, map, true};
+ghost use Rattle.std.specs.Prelude.{ℕ, ◌≡◌, ◌+◌, ◌≤◌, [], IfErr, IfOk, None, OnErr, OnOk, is_some, length, map, true};
 ghost use Rattle.rig_api.specs.Telling.{specs_of};
 ghost use Rattle.rig_discovery.specs.Discovery.{info_of};
 ghost use Rattle.volume_table.specs.Tables.{MadeFor};
@@ -13,9 +13,10 @@ ghost use Rattle.stack_core.specs.Requests.{pages_from, requests_from};
 ghost use Rattle.stack_core.specs.Stacks.{HasSpare, IsStack, Reaches, plan_in};
 ghost use Rattle.script_text.specs.Bindings.{binding_fault};
 ghost use Rattle.script_laws.specs.Keeping.{Keeps};
+ghost use Rattle.script_ground.specs.SuitsStack.{SuitsStack};
 ghost use Rattle.stack_core.specs.Walking.{NoneFailed};
 ghost use Rattle.script_stack.specs.Causes.{CauseUnrun};
-ghost use Rattle.script_stack.specs.Followed.{BeginsTold, BeginsWalks, Followed, BeginsFalling};
+ghost use Rattle.script_stack.specs.Followed.{BeginsTold, BeginsWalks, Followed, BeginsFalling, Ran, SizesAre};
 ghost use Rattle.stack_core.specs.Mediums.{HasCounted};
 ghost use Rattle.script_stack.specs.Sends.{IsPlanFor};
 
@@ -27,6 +28,7 @@ use crate::run::run_all;
 use crate::start::{Run, start_script};
 use crate::unready::Unready;
 use rig_api::Rig;
+use script_lines::WordList;
 use script_text::Script;
 use stack_core::{Stack, a_finished_stack_has_sent, a_finished_stack_names_the_medium_seldom};
 use std::alloc::{AllocError, Global};
@@ -41,7 +43,7 @@ pub fn ready_script<R: Rig>(
     devices: &[DeviceInfo],
     rig: &mut R,
 ) -> Result<Run, AllocError>
-    requires keeps { Keeps script }
+    requires suits { SuitsStack script }
     requires lines { length script.lines ≡ length script.faults + length script.ops }
     requires few { length devices.now ≤ 8 }
     requires made { MadeFor table devices.now script.block }
@@ -79,9 +81,50 @@ pub fn ready_script<R: Rig>(
     Ok(run)
 }
 
+/// Runs a script over an opened rig, to a volume of whose devices it is bound, and answers its stack, all of whose ops
+/// have ended: arms its faults, takes all the memory of the run, and does the steps by these words and cuts, then always
+/// the first step that may be taken. The script's own schedule isn't used.
+///
+/// Each step takes one entry of the schedule, as far as there are some: so the stack's `steps` says how many a caller has
+/// used, who goes on behind them. The rig stands as it did: so another script can be run over it, bound to its devices.
+pub fn run_bound<R: Rig>(
+    alloc: Global,
+    script: Script,
+    table: VolumeTable,
+    devices: &[DeviceInfo],
+    schedule: &[(u32, u32)],
+    rig: &mut R,
+) -> Result<Stack, AllocError>
+    requires suits { SuitsStack script }
+    requires lines { length script.lines ≡ length script.faults + length script.ops }
+    requires few { length devices.now ≤ 8 }
+    requires made { MadeFor table devices.now script.block }
+    requires bound { binding_fault script table devices.now ≡ None }
+    requires count { length devices.now ≡ (R.standing rig.old).devices }
+    requires sizes { SizesAre devices.now (R.standing rig.old) }
+    requires told { is_some (R.image rig.old) ≡ true → devices.now ≡ map info_of (specs_of (R.standing rig.old)) }
+    ensures ran { IfOk result (Ran script table devices.now schedule.now
+        (record { units = R.units rig.old; armed = R.armed rig.old; standing = R.standing rig.old; log = R.log rig.old; faults = R.faults rig.old })
+        (record { units = R.units rig.new; armed = R.armed rig.new; standing = R.standing rig.new; log = R.log rig.new; faults = R.faults rig.new })) }
+    ensures tells { is_some (R.image rig.new) ≡ is_some (R.image rig.old) }
+    ensures standing { R.standing rig.new ≡ R.standing rig.old }
+    ensures log { OnErr result (R.log rig.new ≡ R.log rig.old) }
+    ensures units { OnErr result (R.units rig.new ≡ R.units rig.old) }
+    ensures faults { OnErr result (R.faults rig.new ≡ R.faults rig.old) }
+{
+    let Run { mut stack, .. } = ready_script(alloc, script, table, devices, rig)?;
+    run_all(&mut stack, schedule, rig);
+    a_script_run_is_backed();
+    a_told_script_run_has_walked();
+    a_finished_stack_has_sent();
+    a_told_script_run_has_fallen();
+    a_finished_stack_names_the_medium_seldom();
+    Ok(stack)
+}
+
 /// Runs a script over an opened rig, and answers its stack, all of whose ops have ended: asks each device what it is,
 /// binds the script to its volume, arms its faults, takes all the memory of the run, and does the steps.
-pub fn run_script<R: Rig>(alloc: Global, script: Script, rig: &mut R) -> Result<Stack, Unready>
+pub fn run_script<R: Rig>(alloc: Global, mut script: Script, rig: &mut R) -> Result<Stack, Unready>
     requires keeps { Keeps script }
     requires lines { length script.lines ≡ length script.faults + length script.ops }
     ensures stack { IfOk result IsStack }
@@ -103,21 +146,9 @@ pub fn run_script<R: Rig>(alloc: Global, script: Script, rig: &mut R) -> Result<
         Ok(table) => table,
         Err(unready) => return Err(unready),
     };
-    match ready_script(alloc, script, table, &devices, rig) {
-        Ok(
-            Run {
-                mut stack,
-                schedule,
-            },
-        ) => {
-            run_all(&mut stack, schedule.as_slice(), rig);
-            a_script_run_is_backed();
-            a_told_script_run_has_walked();
-            a_finished_stack_has_sent();
-            a_told_script_run_has_fallen();
-            a_finished_stack_names_the_medium_seldom();
-            Ok(stack)
-        }
+    let schedule = std::mem::replace(&mut script.schedule, WordList::from_vec(Vec::new(alloc)));
+    match run_bound(alloc, script, table, &devices, schedule.as_slice(), rig) {
+        Ok(stack) => Ok(stack),
         Err(_) => Err(Unready::Memory),
     }
 }

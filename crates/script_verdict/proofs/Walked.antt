@@ -1,4 +1,4 @@
-use Rattle.std.proofs.Common.{ℕ, ◌≡◌, ◌<◌, List, ◌∷◌, ◌++◌, map, Some, refl, sym, ap, subst, ◌∙◌}
+use Rattle.std.proofs.Common.{ℕ, ◌≡◌, ◌<◌, List, [], ◌∷◌, ◌++◌, map, Some, refl, sym, ap, subst, ◌∙◌}
 use Rattle.std.specs.Prelude.{All}
 use Rattle.dix_base.specs.Told.{Calm}
 use Rattle.fault_schedule.specs.declared.fault.FaultLine.{FaultLine}
@@ -13,6 +13,8 @@ use Rattle.script_stack.specs.Followed.{HasWalked}
 use Rattle.script_stack.specs.Going.{Outside}
 use Rattle.script_stack.proofs.Ended.{BackedLaw, FallenLaw, IsOver, MediumLaw, ToldLaw, backed_by, fallen_at, few_lines, sent_by, told_at, walked_at}
 use Rattle.script_stack.proofs.SendsBy.{AllLaw, FewLaw}
+use Rattle.script_stack.proofs.Words.{sends_own}
+use Rattle.script_laws.specs.Keeping.{Keeps}
 use Rattle.script_ground.proofs.OverUnits.{IsBoundOver}
 use Rattle.rig_discovery.specs.Discovery.{info_of}
 use Rattle.dix_adapter.specs.Ways.{shapes_of}
@@ -43,23 +45,24 @@ use Rattle.whole_run.specs.UnderMap.{IsUnder, opened}
 abbrev pub outside : View → List FaultLine → Outside
 outside v armed = record { units = v.seen.units; armed = armed; standing = v.standing; log = v.seen.log; faults = v.seen.faults }
 
--- a script that was made ready, from which the stack went to its end, over a rig as a call sees it
-abbrev pub IsDone : Script → Table → List DeviceInfo → (begun r : Stack) → (old new : View) → List FaultLine → Type 0
-IsDone s t devices begun r old new armed = IsOver s t devices begun r old.image new.image (outside old s.faults) (outside new armed)
+-- a script that keeps the rules of its language and was made ready, from which the stack went to its end, over a rig as a call sees it
+pub record IsDone (s : Script) (t : Table) (devices : List DeviceInfo) (begun r : Stack) (old new : View) (armed : List FaultLine) : Type 0 where
+  pub keeps : Keeps s
+  pub over : IsOver s t devices s.schedule begun r old.image new.image (outside old s.faults) (outside new armed)
 
 -- where the rig told these units, the script is bound to its volume over them
 bound_at : (s : Script) (t : Table) (devices : List DeviceInfo) (begun r : Stack) (old new : View) (armed : List FaultLine) (o : IsDone s t devices begun r old new armed) → (us : List Stored) → old.seen.units ≡ Some us → IsBoundOver s t us
 bound_at s t devices begun r old new armed o us e =
-    let told = told_at s t devices begun r old.image new.image (outside old s.faults) (outside new armed) o us e in
-    record { keeps = o.keeps; lines = o.lines; made = told.made; bound = told.bound; stored = told.stored }
+    let told = told_at s t devices s.schedule begun r old.image new.image (outside old s.faults) (outside new armed) o.over us e in
+    record { keeps = o.keeps; lines = o.over.lines; made = told.made; bound = told.bound; stored = told.stored }
 
 devices_at : (s : Script) (t : Table) (devices : List DeviceInfo) (begun r : Stack) (old new : View) (armed : List FaultLine) (o : IsDone s t devices begun r old new armed) → (us : List Stored) → old.seen.units ≡ Some us → devices ≡ map info_of (shapes_of us)
-devices_at s t devices begun r old new armed o us e = (told_at s t devices begun r old.image new.image (outside old s.faults) (outside new armed) o us e).infos
+devices_at s t devices begun r old new armed o us e = (told_at s t devices s.schedule begun r old.image new.image (outside old s.faults) (outside new armed) o.over us e).infos
 
 walked : (s : Script) (t : Table) (devices : List DeviceInfo) (begun r : Stack) (old new : View) (armed : List FaultLine) → ToldLaw → (o : IsDone s t devices begun r old new armed) → (us : List Stored) → old.seen.units ≡ Some us → Calm old.seen.faults new.seen.faults →
-    (left : List Stored) × (new.seen.units ≡ Some left) × HasWalked s t us left r.pool o.goes.more r.replies.items
+    (left : List Stored) × (new.seen.units ≡ Some left) × HasWalked s t us left r.pool o.over.goes.more r.replies.items
 walked s t devices begun r old new armed law o us e calm =
-    let w = walked_at s t devices begun r old.image new.image (outside old s.faults) (outside new armed) law o us e calm in
+    let w = walked_at s t devices s.schedule begun r old.image new.image (outside old s.faults) (outside new armed) law o.over us e calm in
     (w.0, w.1.0, w.1.1)
 
 -- behind the adapter of a script's setting is a target, and none of its overwrites fails
@@ -90,7 +93,7 @@ plain_at : (s : Script) (t : Table) (devices : List DeviceInfo) (begun r : Stack
     IsPlainRun s t us → (left : List Stored) × (new.seen.units ≡ Some left) × HasPlain s t us left r.pool r.replies.items
 plain_at s t devices begun r old new armed law same under o us e calm run =
     let w = walked s t devices begun r old new armed law o us e calm in
-    (w.0, w.1, plain_of s t us w.0 r.pool o.goes.more r.replies.items same under (plain_run s t us (bound_at s t devices begun r old new armed o us e) run) w.2)
+    (w.0, w.1, plain_of s t us w.0 r.pool o.over.goes.more r.replies.items same under (plain_run s t us (bound_at s t devices begun r old new armed o us e) run) w.2)
 
 -- the law of reads under scheduled faults
 abbrev pub DetectionLaw : Type 0
@@ -110,18 +113,18 @@ shown_at s t devices begun r old new armed law detects o us e calm run =
     (detectable_run s t devices us (devices_at s t devices begun r old new armed o us e) (bound_at s t devices begun r old new armed o us e) run) w.2.replies_are
 
 fallen_view : (s : Script) (t : Table) (devices : List DeviceInfo) (begun r : Stack) (old new : View) (armed : List FaultLine) → FallenLaw → ReadsFallLaw → OwnFallLaw → BroughtFallLaw → (o : IsDone s t devices begun r old new armed) → (us : List Stored) → old.seen.units ≡ Some us → IsQuietRun s t us →
-    (left : List Stored) × (new.seen.units ≡ Some left) × HasServed s t us left r.pool o.goes.more r.replies.items
+    (left : List Stored) × (new.seen.units ≡ Some left) × HasServed s t us left r.pool o.over.goes.more r.replies.items
 fallen_view s t devices begun r old new armed law reads own brought o us e quiet =
-    let w = fallen_at s t devices begun r old.image new.image (outside old s.faults) (outside new armed) law o us e (none-overwrites s.ops quiet.overwrites) in
-    (w.0, w.1.0, served s t us w.0 r.pool o.goes.more r.replies.items reads own brought (bound_at s t devices begun r old new armed o us e) quiet w.1.1.ends)
+    let w = fallen_at s t devices s.schedule begun r old.image new.image (outside old s.faults) (outside new armed) law o.over us e (none-overwrites s.ops quiet.overwrites) in
+    (w.0, w.1.0, served s t us w.0 r.pool o.over.goes.more r.replies.items reads own brought (bound_at s t devices begun r old new armed o us e) quiet w.1.1.ends)
 
 pub followed : (s : Script) (t : Table) (devices : List DeviceInfo) (begun r : Stack) (old new : View) (armed : List FaultLine) → BackedLaw → FewLaw → AllLaw → MediumLaw → ToldLaw → RepliesLaw → UnderLaw → DetectionLaw → FallenLaw → ReadsFallLaw → OwnFallLaw → BroughtFallLaw → IsDone s t devices begun r old new armed → Followed s t devices old new r.pool r.replies.items
 followed s t devices begun r old new armed backed few all medium told same under detects fallen reads own brought o = record {
-  tells = o.tells;
-  goes = o.goes;
-  backed = backed_by s t devices begun r old.image new.image (outside old s.faults) (outside new armed) backed o;
-  sends = sent_by s t devices begun r old.image new.image (outside old s.faults) (outside new armed) few all o;
-  medium = few_lines s t devices begun r old.image new.image (outside old s.faults) (outside new armed) medium o;
+  tells = o.over.tells;
+  goes = o.over.goes;
+  backed = backed_by s t devices s.schedule begun r old.image new.image (outside old s.faults) (outside new armed) backed o.over;
+  sends = sends_own s [] t o.over.goes.more r.replies.items (sent_by s t devices s.schedule begun r old.image new.image (outside old s.faults) (outside new armed) few all o.over);
+  medium = few_lines s t devices s.schedule begun r old.image new.image (outside old s.faults) (outside new armed) medium o.over;
   plain = plain_at s t devices begun r old new armed told same under o;
   shown = shown_at s t devices begun r old new armed told detects o;
   walked = walked s t devices begun r old new armed told o;

@@ -9,7 +9,7 @@ use Rattle.script_stack.proofs.Steps.{first-spare}
 use Rattle.script_stack.proofs.start.start_script.Goals as goal
 
 pub new-requires : goal.new-requires
-new-requires c = (replicate c.args.script.pages [], can-start c.args.script c.args.table c.args._devices.now c.requires.keeps c.requires.lines c.requires.few c.requires.made c.requires.bound)
+new-requires c = (replicate c.args.script.pages [], can-start c.args.script c.args.table c.args._devices.now c.requires.suits c.requires.lines c.requires.few c.requires.made c.requires.bound)
 
 pub returns-clause-spare : goal.returns-clause-spare
 returns-clause-spare c st room h = first-spare c.in_ok-new.field-0 st room c.in_ok-new.ensures.first h
@@ -19,19 +19,19 @@ returns-clause-reaches c told st n tells = reaches c.in_ok-new.field-0 c.args.sc
 
 pub returns-clause-walks : goal.returns-clause-walks
 returns-clause-walks c =
-    begins-walks c.args.script c.args.table c.args._devices.now c.in_ok-new.field-0 c.requires.keeps c.requires.lines c.requires.few c.requires.made c.requires.bound
+    begins-walks c.args.script c.args.table c.args._devices.now c.in_ok-new.field-0 c.requires.suits c.requires.lines c.requires.few c.requires.made c.requires.bound
     (record { ops = c.in_ok-new.ensures.ops; ios = c.in_ok-new.ensures.ios; shifted = c.in_ok-new.ensures.shifted; table = c.in_ok-new.ensures.table; mode = c.in_ok-new.ensures.mode; ty = c.in_ok-new.ensures.ty; host = c.in_ok-new.ensures.host; faults = c.in_ok-new.ensures.faults })
     c.in_ok-new.ensures.pool c.in_ok-new.ensures.walks
 
 pub returns-clause-told : goal.returns-clause-told
 returns-clause-told c =
-    begins-told c.args.script c.args.table c.args._devices.now c.in_ok-new.field-0 c.requires.keeps c.requires.lines c.requires.few c.requires.made c.requires.bound
+    begins-told c.args.script c.args.table c.args._devices.now c.in_ok-new.field-0 c.requires.suits c.requires.lines c.requires.few c.requires.made c.requires.bound
     (record { ops = c.in_ok-new.ensures.ops; ios = c.in_ok-new.ensures.ios; shifted = c.in_ok-new.ensures.shifted; table = c.in_ok-new.ensures.table; mode = c.in_ok-new.ensures.mode; ty = c.in_ok-new.ensures.ty; host = c.in_ok-new.ensures.host; faults = c.in_ok-new.ensures.faults })
     c.in_ok-new.ensures.pool c.in_ok-new.ensures.told
 
 pub returns-clause-falling : goal.returns-clause-falling
 returns-clause-falling c =
-    begins-falling c.args.script c.args.table c.args._devices.now c.in_ok-new.field-0 c.requires.keeps c.requires.lines c.requires.few c.requires.made c.requires.bound
+    begins-falling c.args.script c.args.table c.args._devices.now c.in_ok-new.field-0 c.requires.suits c.requires.lines c.requires.few c.requires.made c.requires.bound
     (record { ops = c.in_ok-new.ensures.ops; ios = c.in_ok-new.ensures.ios; shifted = c.in_ok-new.ensures.shifted; table = c.in_ok-new.ensures.table; mode = c.in_ok-new.ensures.mode; ty = c.in_ok-new.ensures.ty; host = c.in_ok-new.ensures.host; faults = c.in_ok-new.ensures.faults })
     c.in_ok-new.ensures.pool c.in_ok-new.ensures.falling
 

@@ -3,12 +3,16 @@ use Rattle.image_commands.proofs.Devices.{units_through}
 use Rattle.image_commands.specs.Views.{seen, view}
 use Rattle.script_verdict.proofs.Completing.{stops_from_outside}
 use Rattle.script_verdict.proofs.Devices.{known_infos}
+use Rattle.script_ground.proofs.Suits.{suits}
 use Rattle.script_stack.specs.Sends.{SendsBy, entries_of}
 use Rattle.script_stack.proofs.Following.{sizes-found}
 use Rattle.script_verdict.proofs.Refusing.{asked_still}
 use Rattle.script_verdict.proofs.Walked.{followed}
 use Rattle.stack_core.specs.declared.sheet.Sheet.{Sheet}
 use Rattle.script_verdict.proofs.verdict.run_script.Goals as goal
+
+pub ready_script-requires-clause-suits : goal.ready_script-requires-clause-suits
+ready_script-requires-clause-suits g c = suits c.args.script c.requires.keeps
 
 pub ready_script-requires-clause-few : goal.ready_script-requires-clause-few
 ready_script-requires-clause-few g c = rw c.deref.ensures.0 c.in-Ok.ensures.asked.told.devices_are.few
@@ -71,31 +75,34 @@ returns-clause-verdict g c = record {
       c.a_told_script_run_has_fallen.ensures c.a_stack_reads_the_last_write_or_fails_at_the_medium.ensures c.a_stack_writes_or_fails_at_the_medium.ensures.own c.a_stack_writes_or_fails_at_the_medium.ensures.brought
       (record {
         keeps = c.requires.keeps;
-        lines = c.requires.lines;
-        made = c.in-Ok.ensures.made.made;
-        bound = c.in-Ok.ensures.bound;
-        sizes = rw (c.ready_script.ensures.standing, c.in-Ok.ensures.asked.told.since.standing) (sizes-found c.in-Ok.ensures.asked.told.between.standing c.in-Ok.bound.devices.items _ _ c.in-Ok.ensures.asked.told.found);
-        known = rw (c.ready_script.ensures.image, c.ready_script.ensures.standing) (known_infos c.args.image.now c.in-Ok.bound.devices.items _ _ c.in-Ok.ensures.asked (g.met.R.Rig.laid c.bind.new.rig));
-        laid = g.met.R.Rig.laid c.ready_script.new.rig;
-        ready = g.met.R.Rig.ready c.ready_script.new.rig;
-        laid_after = g.met.R.Rig.laid c.run_all.new.rig;
-        ready_after = g.met.R.Rig.ready c.run_all.new.rig;
-        armed = refl;
-        stack = c.run_all.ensures.stack;
-        ops = ap (λ (x : Sheet). x.ops) c.run_all.ensures.stays.sheet ∙ c.in-Ok-ready_script.ensures.ops;
-        ended = c.run_all.ensures.ended;
-        walks = rw c.deref.ensures.0 at c.in-Ok-ready_script.ensures.walks;
-        told = rw c.deref.ensures.0 at c.in-Ok-ready_script.ensures.told;
-        falling = rw c.deref.ensures.0 at c.in-Ok-ready_script.ensures.falling;
-        silent = c.in-Ok-ready_script.ensures.silent;
-        goes = c.run_all.ensures.goes;
-        tells = c.run_all.ensures.tells;
-        went = rw c.in-Ok-ready_script.ensures.armed at c.run_all.ensures.went;
-        plan = c.in-Ok-ready_script.ensures.plan;
-        first = c.in-Ok-ready_script.ensures.first;
-        stays = c.run_all.ensures.stays;
-        counted = c.run_all.ensures.counts (g.R.Rig.faults c.ready_script.new.rig) (c.in-Ok-ready_script.ensures.counted (g.R.Rig.faults c.ready_script.new.rig));
-        sent = λ z. subst (λ ws. SendsBy (entries_of ws) c.in-Ok-ready_script.run'.stack c.run_all.new.stack (g.R.Rig.log c.ready_script.new.rig) (g.R.Rig.log c.run_all.new.rig)) (c.as_slice.ensures ∙ c.in-Ok-ready_script.ensures.schedule) (c.run_all.ensures.sends z);
+        over = record {
+          suits = suits c.args.script c.requires.keeps;
+          lines = c.requires.lines;
+          made = c.in-Ok.ensures.made.made;
+          bound = c.in-Ok.ensures.bound;
+          sizes = rw (c.ready_script.ensures.standing, c.in-Ok.ensures.asked.told.since.standing) (sizes-found c.in-Ok.ensures.asked.told.between.standing c.in-Ok.bound.devices.items _ _ c.in-Ok.ensures.asked.told.found);
+          known = rw (c.ready_script.ensures.image, c.ready_script.ensures.standing) (known_infos c.args.image.now c.in-Ok.bound.devices.items _ _ c.in-Ok.ensures.asked (g.met.R.Rig.laid c.bind.new.rig));
+          laid = g.met.R.Rig.laid c.ready_script.new.rig;
+          ready = g.met.R.Rig.ready c.ready_script.new.rig;
+          laid_after = g.met.R.Rig.laid c.run_all.new.rig;
+          ready_after = g.met.R.Rig.ready c.run_all.new.rig;
+          armed = refl;
+          stack = c.run_all.ensures.stack;
+          ops = ap (λ (x : Sheet). x.ops) c.run_all.ensures.stays.sheet ∙ c.in-Ok-ready_script.ensures.ops;
+          ended = c.run_all.ensures.ended;
+          walks = rw c.deref.ensures.0 at c.in-Ok-ready_script.ensures.walks;
+          told = rw c.deref.ensures.0 at c.in-Ok-ready_script.ensures.told;
+          falling = rw c.deref.ensures.0 at c.in-Ok-ready_script.ensures.falling;
+          silent = c.in-Ok-ready_script.ensures.silent;
+          goes = c.run_all.ensures.goes;
+          tells = c.run_all.ensures.tells;
+          went = rw c.in-Ok-ready_script.ensures.armed at c.run_all.ensures.went;
+          plan = c.in-Ok-ready_script.ensures.plan;
+          first = c.in-Ok-ready_script.ensures.first;
+          stays = c.run_all.ensures.stays;
+          counted = c.run_all.ensures.counts (g.R.Rig.faults c.ready_script.new.rig) (c.in-Ok-ready_script.ensures.counted (g.R.Rig.faults c.ready_script.new.rig));
+          sent = λ z. subst (λ ws. SendsBy (entries_of ws) c.in-Ok-ready_script.run'.stack c.run_all.new.stack (g.R.Rig.log c.ready_script.new.rig) (g.R.Rig.log c.run_all.new.rig)) (c.as_slice.ensures ∙ c.in-Ok-ready_script.ensures.schedule) (c.run_all.ensures.sends z);
+        };
       });
   first = c.records-first.ensures;
 }

@@ -5,6 +5,7 @@ use Rattle.rig_log.specs.Logs.{room_in}
 use Rattle.stack_view.specs.Runs.{blocks_of_requests}
 use Rattle.stack_core.specs.Stacks.{plan_in}
 use Rattle.answer_rig.specs.Answering.{standing_of}
+use Rattle.script_ground.proofs.Suits.{suits}
 use Rattle.stack_bench.proofs.run.ended.Goals as goal
 
 -- room for as many exchanges as blocks
@@ -26,3 +27,6 @@ run_words-requires-clause-spare c =
     c.in_ok-stack.ensures.spare (standing_of c.reserve.new.self.devices) (room_in c.reserve.new.self.log)
     (room-of (standing_of c.new-rig.result.devices) (standing_of c.reserve.new.self.devices) c.blocks-2.result c.blocks-3.result (blocks_of_requests (plan_in c.in_ok-stack.field-0.stack.sheet).requests) (room_in c.reserve.new.self.log)
     c.reserve.ensures.standing c.blocks-2.ensures.all c.blocks-3.ensures.all c.in_ok-reserve.ensures.room)
+
+pub start_script-requires-clause-suits : goal.start_script-requires-clause-suits
+start_script-requires-clause-suits c = suits _ c.a_read_script_keeps_the_rules.ensures.keeps
