@@ -10,6 +10,3 @@ mod unit;
 
 pub use serving::serve;
 pub use unit::LogicalUnit;
-
-#[cfg(test)]
-mod tests;

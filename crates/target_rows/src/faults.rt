@@ -1,0 +1,54 @@
+//! Faults as a row writes them: of the op whose labels the commands have.
+
+use crate::bytes::{cut, small};
+use arrayvec::ArrayVec;
+use fault_schedule::{Crossing, FaultKind, FaultLine, Label, ShortBytes};
+
+/// The labels of the blocks of every command.
+pub(crate) const LABELS: [Label; 3] = [
+    Label { op: 7, k: 0 },
+    Label { op: 7, k: 1 },
+    Label { op: 7, k: 2 },
+];
+
+fn crossing_of(word: &str) -> Crossing {
+    match word {
+        "host" => Crossing::HostToAdapter,
+        "wire" => Crossing::AdapterToTarget,
+        "storing" => Crossing::TargetToMedium,
+        "fetching" => Crossing::MediumToTarget,
+        "sending" => Crossing::TargetToAdapter,
+        _ => Crossing::AdapterToHost,
+    }
+}
+
+/// A turn of the lowest bit of a byte of a block, by three words: the block's place in its command, the crossing, and the
+/// byte.
+pub(crate) fn flip(words: &str) -> FaultLine {
+    let (k, rest) = cut(words);
+    let (at, off) = cut(rest);
+    let mut bytes = ArrayVec::new();
+    let _ = bytes.try_push(1u8);
+    FaultLine {
+        op: 7,
+        k: small(k),
+        at: crossing_of(at),
+        kind: FaultKind::Flip {
+            off: small(off),
+            bytes: ShortBytes::from_array(bytes),
+        },
+    }
+}
+
+/// A shift of the address, by two words: the crossing, and by how many blocks.
+pub(crate) fn shift(words: &str) -> FaultLine {
+    let (at, by) = cut(words);
+    FaultLine {
+        op: 7,
+        k: 0,
+        at: crossing_of(at),
+        kind: FaultKind::Shift {
+            by: by.parse::<i64>().unwrap_or(0),
+        },
+    }
+}
