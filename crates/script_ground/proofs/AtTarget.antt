@@ -45,12 +45,12 @@ use Rattle.script_ground.proofs.Standing.{bound}
 
 -- ---- what lies at an address of a unit
 
-known-in : (us : List Stored) (dev : ℕ) → dev < length (map info_of (shapes_of us)) → dev < length us
+pub known-in : (us : List Stored) (dev : ℕ) → dev < length (map info_of (shapes_of us)) → dev < length us
 known-in [] dev l = absurd (omega arith)
 known-in (u ∷ us) zero l = omega arith
 known-in (u ∷ us) (suc dev) l = let k = known-in us dev (omega arith) in omega arith
 
-device-is : (us : List Stored) (dev : ℕ) → dev < length us → device (map info_of (shapes_of us)) dev ≡ info_of (shape_of (unit_at us dev))
+pub device-is : (us : List Stored) (dev : ℕ) → dev < length us → device (map info_of (shapes_of us)) dev ≡ info_of (shape_of (unit_at us dev))
 device-is [] dev l = absurd (omega arith)
 device-is (u ∷ us) zero l = refl
 device-is (u ∷ us) (suc dev) l = device-is us dev (omega arith)

@@ -27,7 +27,7 @@ use Rattle.run_moves.specs.BoundRun.{fates}
 use Rattle.run_falls.specs.AtTheEnd.{EndsAsFalling}
 use Rattle.script_ground.specs.Units.{all_blocks}
 use Rattle.stack_core.specs.Mediums.{RoseBy, medium_lines}
-use Rattle.stack_core.specs.Requests.{pages_from}
+use Rattle.stack_core.specs.Requests.{pages_from, requests_from}
 use Rattle.stack_core.specs.declared.stack.Stack.{Stack}
 use Rattle.stack_core.specs.Stacks.{IsStack, plan_in}
 use Rattle.stack_core.specs.Walking.{NoOverwrites, Walks, WalksFalling, WalksTold, is_medium}
@@ -130,6 +130,7 @@ pub record Followed (s : Script) (before after : Outside) (r : Stack) : Type 0 w
 pub record Ran (s : Script) (t : Table) (devices : List DeviceInfo) (words : List (ℕ × ℕ)) (before after : Outside) (r : Stack) : Type 0 where
   pub stack : IsStack r
   pub ops : r.sheet.ops ≡ s.ops
+  pub ios : r.sheet.ios.items ≡ requests_from s.mode.dix s.pages s.ops
   pub mode : mode_of r.adapter ≡ s.mode
   pub armed : r.adapter.tamper ≡ s.faults
   pub ended : (v : View) → Holds (plan_in r.sheet) r.machine v → enabled (plan_in r.sheet) v ≡ []

@@ -62,6 +62,7 @@ returns-clause-ran g c =
     record {
       stack = o.stack;
       ops = o.ops;
+      ios = ap (λ (x : Sheet). x.ios.items) o.stays.sheet ∙ made_ready.ios;
       mode = ap mode_of o.stays.adapter ∙ made_ready.mode;
       armed = ap (λ (a : Adapter). a.tamper) o.stays.adapter ∙ made_ready.faults;
       ended = o.ended;
