@@ -3,7 +3,7 @@ mod Holds
 mod Steps
 mod Delivery
 mod Whole
-mod Stale
+pub mod Stale
 mod Mending
 mod Repaired
 mod Rows

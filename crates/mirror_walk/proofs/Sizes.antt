@@ -109,7 +109,7 @@ module _ (m : Setting) (half : ℕ) (opening : List (List ℕ)) (legs : HasLegs 
       subst (λ (d : Device). IfOk (stored_of (from_adapter d r onto)) (λ stored. length stored ≡ stored_size m.ty m.size)) (sym sizes.device)
       (came_out (target m.site.faults) r (stored_size m.ty m.size) onto (out_size m.site.faults r frame (mapped_sizes r (own_frame r e.app e.body) (own_size r e.app e.body l)).0) (stores_length m.site.faults r sizes.protect))
 
-  reading_size : (b : Block) (blocks : List (List ℕ)) → b.virt < volume_len m.entries → KeepsSizes opening blocks → IfOk (reading m b blocks) (λ f. length f ≡ host_size (route m b))
+  pub reading_size : (b : Block) (blocks : List (List ℕ)) → b.virt < volume_len m.entries → KeepsSizes opening blocks → IfOk (reading m b blocks) (λ f. length f ≡ host_size (route m b))
   reading_size b blocks l h =
       let r = route m b in
       let stored = get_or blocks (fetched_cell m.site r) [] in

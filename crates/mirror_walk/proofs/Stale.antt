@@ -11,10 +11,10 @@ use Rattle.mirror_walk.specs.declared.marks.Marks.{Marks}
 
 -- No block has two stale marks.
 
-abbrev OnOne : Marks → Type 0
+abbrev pub OnOne : Marks → Type 0
 OnOne k = (k.leg0 || k.leg1) ≡ true
 
-abbrev AllOnOne : List Marks → Type 0
+abbrev pub AllOnOne : List Marks → Type 0
 AllOnOne marks = (u : ℕ) → OnOne (marks_of marks u)
 
 set_one : (marks : List Marks) (i : ℕ) (k : Marks) → OnOne k → AllOnOne marks → AllOnOne (set marks i k)
@@ -45,11 +45,11 @@ step_one m half count (WritesPi b frame) s h = h
 step_one m half count (Reads b owner to) s h = h
 step_one m half count (Alters dev lba change) s h = h
 
-steps_one : (m : Setting) (half : ℕ) (count : ℕ → ℕ) (steps : List Step) (s : Mirror) → AllOnOne s.marks → AllOnOne (plain (done m half count) steps s).marks
+pub steps_one : (m : Setting) (half : ℕ) (count : ℕ → ℕ) (steps : List Step) (s : Mirror) → AllOnOne s.marks → AllOnOne (plain (done m half count) steps s).marks
 steps_one m half count [] s h = h
 steps_one m half count (step ∷ steps) s h = steps_one m half count steps (done m half count step s) (step_one m half count step s h)
 
-all_fresh : (half : ℕ) → AllOnOne (replicate half fresh)
+pub all_fresh : (half : ℕ) → AllOnOne (replicate half fresh)
 all_fresh zero u = refl
 all_fresh (suc half) zero = refl
 all_fresh (suc half) (suc u) = all_fresh half u
