@@ -16,7 +16,7 @@ use Rattle.script_ground.proofs.Standing.{or-none}
 use Rattle.mirror_script.specs.MirrorFaults.{faults_fault, is_bad_line, is_past, length_fault, mirror_fault, mode_fault, names_blocks, ops_fault}
 use Rattle.mirror_legs.specs.MirrorScript.{IsMirrorScript, without_faults}
 
-none_when : (c : Bool) (fault : ScriptFault) → (if c then None else Some fault) ≡ None → c ≡ true
+pub none_when : (c : Bool) (fault : ScriptFault) → (if c then None else Some fault) ≡ None → c ≡ true
 none_when true fault h = refl
 none_when false fault h = absurd (cc)
 

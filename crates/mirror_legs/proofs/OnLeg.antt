@@ -1,5 +1,5 @@
 -- The script of a piece, at the target: its blocks go the ways that the mirror's script says.
-use Rattle.std.proofs.Common.{◌≡◌, ◌<◌, ◌≤◌, ℕ, suc, ◌+◌, ◌*◌, Bool, true, false, if◌then◌else◌, List, [], ◌∷◌, ◌++◌, length, map, get_or, replicate, take, drop, Option, Some, None, refl, sym, ap, ◌∙◌, arith, length-append}
+use Rattle.std.proofs.Common.{◌≡◌, ◌<◌, ◌≤◌, ℕ, suc, ◌+◌, ◌*◌, Bool, true, false, if◌then◌else◌, List, [], ◌∷◌, ◌++◌, length, map, get_or, replicate, take, drop, Option, Some, None, refl, sym, ap, subst, ◌∙◌, arith, length-append}
 use Rattle.std.specs.Prelude.{IfOk, Result, Ok, Err, nat_abs}
 use Rattle.std.proofs.lemmas.Bool.{eq-eqb}
 use Rattle.std.proofs.lemmas.List.{drop-append-le, length-drop, length-replicate, take-append-le, take-take, take_all}
@@ -64,24 +64,25 @@ pages_least bytes = omega arith
 pub block_ends : (size k n : ℕ) → k < n → k * size + size ≤ n * size
 block_ends size k n l = let up : suc k * size ≤ n * size = mul-le-mul_right size l in omega (arith, up)
 
--- ---- a frame that is delivered has the data of a block
+-- ---- a frame that is delivered is as long as one between host and adapter
 
-module _ (faults : List FaultLine) (r : Route) where
-  host_least : (dix : Bool) (n : ℕ) → n ≡ (if dix then r.size + 8 else r.size) → r.size ≤ n
-  host_least true n e = omega arith
-  host_least false n e = omega arith
+host_least : (size : ℕ) (dix : Bool) → size ≤ (if dix then size + 8 else size)
+host_least size true = omega arith
+host_least size false = omega arith
 
-  ended_long : (o : Option Check) (carried frame : List ℕ) → r.size ≤ length frame → IfOk (delivered_of (delivered_unless OfBlock carried frame o)) (λ f. r.size ≤ length f)
-  ended_long None carried frame l = l
-  ended_long (Some check) carried frame l = tt
+-- so this holds of its length if it holds of that
+module _ (faults : List FaultLine) (r : Route) (P : ℕ → Type 0) (holds : P (host_size r)) where
+  ended_has : (o : Option Check) (carried frame : List ℕ) → P (length frame) → IfOk (delivered_of (delivered_unless OfBlock carried frame o)) (λ f. P (length f))
+  ended_has None carried frame l = l
+  ended_has (Some check) carried frame l = tt
 
-  host_long : (carried : List ℕ) (came : Result (List ℕ) Check) → IfOk came (λ f. length f ≡ host_size r) → IfOk (delivered_of (verified r OfBlock (at_host carried came))) (λ f. r.size ≤ length f)
-  host_long carried (Ok frame) l = ended_long (owner_finds r (mapped_back r frame)) carried (mapped_back r frame) (host_least r.mode.dix (length (mapped_back r frame)) ((mapped_sizes r frame l).1))
-  host_long carried (Err check) l = tt
+  host_has : (carried : List ℕ) (came : Result (List ℕ) Check) → IfOk came (λ f. length f ≡ host_size r) → IfOk (delivered_of (verified r OfBlock (at_host carried came))) (λ f. P (length f))
+  host_has carried (Ok frame) l = ended_has (owner_finds r (mapped_back r frame)) carried (mapped_back r frame) (subst P (sym ((mapped_sizes r frame l).1)) holds)
+  host_has carried (Err check) l = tt
 
-  device_long : (came : Result (List ℕ) Why) → IfOk came (λ f. length f ≡ wire_size r) → IfOk (delivered_of (verified r OfBlock (from_device faults r came))) (λ f. r.size ≤ length f)
-  device_long (Ok carried) l = host_long carried (from_wire faults r carried) (in_size faults r carried l)
-  device_long (Err why) l = tt
+  device_has : (came : Result (List ℕ) Why) → IfOk came (λ f. length f ≡ wire_size r) → IfOk (delivered_of (verified r OfBlock (from_device faults r came))) (λ f. P (length f))
+  device_has (Ok carried) l = host_has carried (from_wire faults r carried) (in_size faults r carried l)
+  device_has (Err why) l = tt
 
 -- ---- a piece
 
@@ -127,7 +128,7 @@ module _ (s : Script) (t : Table) (half : ℕ) (p : Piece) (is : IsMirrorScript 
     unshifted : (at : Crossing) → shift_of faults at request ≡ shift_of s.faults at p.op
     unshifted at = still faults (own_flips p request s.faults is.flips) at request ∙ sym (still s.faults is.flips at p.op)
 
-    alike : (k : ℕ) → k < n → Alike own m (block_of request v k) (there k)
+    pub alike : (k : ℕ) → k < n → Alike own m (block_of request v k) (there k)
     alike k l =
         let a = altered_same p request s.faults k l in
         let q : Label = record { op = request; k = k } in
@@ -147,7 +148,7 @@ module _ (s : Script) (t : Table) (half : ℕ) (p : Piece) (is : IsMirrorScript 
 
   -- its cells
   module _ (k : ℕ) (l : k < n) where
-    cells_are : cells_at k ≡ in_turn (k * size) size
+    pub cells_are : cells_at k ≡ in_turn (k * size) size
     cells_are = body_cells size pages (n * size) k (pages_room (n * size)) (pages_least (n * size)) (block_ends size k n l)
 
     -- and what they hold, where its data stand at the begin of the pages
@@ -235,10 +236,10 @@ module _ (s : Script) (t : Table) (half : ℕ) (p : Piece) (is : IsMirrorScript 
         fetched = ap (λ a. length (get_or (blocks_told us) (cell_in (shapes_of us) dev_at a) [])) on_medium ∙ long_there;
       }
 
-      delivers_long : IfOk (reading m (there k) (blocks_told us)) (λ f. s.block ≤ length f)
-      delivers_long =
+      pub delivers : (P : ℕ → Type 0) → P (host_size (route m (there k))) → IfOk (reading m (there k) (blocks_told us)) (λ f. P (length f))
+      delivers P holds =
           let x = get_or (blocks_told us) (fetched_cell m.site (route m (there k))) [] in
-          device_long s.faults (route m (there k)) ((target s.faults).sends (route m (there k)) x) ((law m (blocks_told us) (there k) at_target).sends x (eq-eqb (length x) (length x) refl))
+          device_has s.faults (route m (there k)) P holds ((target s.faults).sends (route m (there k)) x) ((law m (blocks_told us) (there k) at_target).sends x (eq-eqb (length x) (length x) refl))
 
     abbrev reader : Script
     reader = read_script s half p
@@ -251,7 +252,7 @@ module _ (s : Script) (t : Table) (half : ℕ) (p : Piece) (is : IsMirrorScript 
         let z = length-replicate {A = ℕ} (4096 * pages) 0 in
         let a = pages_room (n * size) in
         all_read (own 1) m (λ k. block_of 1 v k) there cells_at 0 n [] (replicate (4096 * pages) 0) begun refl (omega arith) (omega arith)
-        (λ k z l. alike 1 k (omega (arith, l))) (λ k z l. cells_are k (omega (arith, l))) (λ k z l. delivers_long k (omega (arith, l)))
+        (λ k z l. alike 1 k (omega (arith, l))) (λ k z l. cells_are k (omega (arith, l))) (λ k z l. delivers k (omega (arith, l)) (λ f. size ≤ f) (host_least size s.mode.dix))
 
     front_of : (xs ys : List ℕ) → length xs ≡ n * size → take (n * size) (xs ++ ys) ≡ xs
     front_of xs ys e = take-append-le (n * size) xs ys (omega arith) ∙ take_all (n * size) xs (omega arith)

@@ -1,9 +1,10 @@
 -- The scripts of a piece suit a stack, and have no fault over their volume.
 use Rattle.std.proofs.Common.{◌≡◌, ◌<◌, ◌≤◌, ℕ, zero, suc, ◌+◌, ◌-◌, ◌*◌, Bool, true, false, not, eqb, ◌&&◌, ◌||◌, if◌then◌else◌, List, [], ◌∷◌, ◌++◌, length, replicate, take, drop, Option, Some, None, refl, sym, ap, subst, ◌∙◌, arith, length-append, ◌⊎◌, inl, inr}
-use Rattle.std.specs.Prelude.{max, min, nat_le, nat_lt, slice_get, unwrap_or}
+use Rattle.std.specs.Prelude.{◌%◌, max, min, nat_le, nat_lt, slice_get, unwrap_or}
 use Rattle.std.specs.List.{list_any}
 use Rattle.std.proofs.lemmas.Bool.{and_from, and_parts, eq-eqb, eqb-true, le-leb, le-ltb, leb-true, lt-ltb, ltb-true, ne_eqb}
 use Rattle.std.proofs.lemmas.List.{append-nil, length-drop, length-replicate, length-take}
+use Rattle.std.proofs.lemmas.List.Folds.{list_any-append}
 use Rattle.pi_tuple.specs.declared.checks.PiType.{PiType}
 use Rattle.pi_tuple.specs.declared.checks.PiType.TheVariants.{Zero as TypeZero, One as TypeOne, Two as TypeTwo, Three as TypeThree}
 use Rattle.page_pool.specs.declared.segs.Seg.{Seg}
@@ -13,28 +14,34 @@ use Rattle.fault_schedule.specs.declared.fault.FaultKind.{FaultKind}
 use Rattle.fault_schedule.specs.declared.fault.FaultKind.TheVariants.{Flip, Shift}
 use Rattle.fault_schedule.specs.declared.fault.FaultLine.{FaultLine}
 use Rattle.stack_ops.specs.declared.op.Op.{Op}
-use Rattle.stack_ops.specs.declared.op.Op.TheVariants.{Fetch, Put, Write}
+use Rattle.stack_ops.specs.declared.op.Op.TheVariants.{Fetch, FetchPi, Put, Write}
 use Rattle.volume_table.specs.Places.{volume_len}
 use Rattle.volume_table.specs.Tables.{Table}
 use Rattle.volume_table.specs.declared.device.DeviceInfo.{DeviceInfo}
 use Rattle.script_lines.specs.declared.kind.ScriptKind.TheVariants.{BadFault, BadRange, BadSegments, SegOverlap, TooMany, NoIntegrity}
 use Rattle.script_text.specs.Bindings.{at_line, expect_fault, faults_fault, has_no_tuples, is_bad_kind, is_bad_on, is_shift, ops_fault, or_else, range_fault, request_at, request_by, shifts}
-use Rattle.script_text.specs.Ops.{data_fault, is_body, unless, where_inside}
+use Rattle.script_text.specs.Ops.{are_tuples, both_fault, data_fault, is_body, unless, where_inside}
 use Rattle.script_text.specs.Rules.{is_count}
-use Rattle.script_text.specs.Segments.{any_share, are_few_each, are_inside, do_overlap, few_from, is_inside}
+use Rattle.script_text.specs.Segments.{any_share, are_few_each, are_inside, are_whole_tuples, do_overlap, few_from, is_inside, is_whole}
 use Rattle.script_text.specs.declared.fault.ScriptFault.{ScriptFault}
 use Rattle.script_text.specs.declared.script.Script.{Script}
-use Rattle.script_laws.specs.Keeping.{Each, blocks_of}
+use Rattle.script_laws.specs.Keeping.{Each, IsWithin, blocks_of}
 use Rattle.script_laws.specs.Lines.{tag_of}
 use Rattle.script_ground.specs.SuitsStack.{IsStackOp}
 use Rattle.mirror_script.specs.MirrorFaults.{names_blocks}
 use Rattle.mirror_legs.specs.declared.piece.Piece.{Piece}
-use Rattle.mirror_legs.specs.Inner.{first_label, first_virt, own_faults, page_segs, pages_for, puts, read_script, write_script}
+use Rattle.mirror_legs.specs.Inner.{first_label, first_virt, own_faults, page_segs, pages_for, puts, read_pi_script, read_script, write_script}
 use Rattle.mirror_legs.specs.Legs.{IsReady}
-use Rattle.mirror_legs.specs.MirrorScript.{IsMirrorScript, IsPiece}
+use Rattle.mirror_legs.specs.MirrorScript.{IsMirrorScript, IsPiece, IsPieceWithTuples}
 use Rattle.mirror_legs.proofs.OnLeg.{pages_least, pages_room}
 use Rattle.mirror_legs.proofs.Puts.{puts_length}
 use Rattle.mirror_legs.proofs.Renumbered.{is_own, own_line}
+
+-- ---- a limit
+
+-- no more blocks in a group than the request has
+fewer : (most n : ℕ) → IsWithin 1 1024 most → 1 ≤ n → IsWithin 1 1024 (min most n)
+fewer most n h some = let low = h.low_is in let high = h.high_is in record { low_is = omega (arith, low, some); high_is = omega (arith, high) }
 
 -- ---- pages as segments
 
@@ -113,7 +120,7 @@ segs_few size at (suc n) page pages bytes l g =
 
 -- ---- the data of a request
 
-block_sizes : (size : ℕ) → (size ≡ 512) ⊎ (size ≡ 4096) → (512 ≤ size) × (size ≤ 4096)
+pub block_sizes : (size : ℕ) → (size ≡ 512) ⊎ (size ≡ 4096) → (512 ≤ size) × (size ≤ 4096)
 block_sizes size (inl e) = (omega arith, omega arith)
 block_sizes size (inr e) = (omega arith, omega arith)
 
@@ -127,6 +134,14 @@ record HasData (pages size n : ℕ) (segs : List Seg) : Type 0 where
   pages_low : 1 ≤ pages
   pages_high : pages ≤ 256
   few : n ≤ 2048
+
+-- in the first of so many pages
+body_inside : (all pages size n : ℕ) → pages ≤ all → size ≤ 4096 → n * size ≤ 4096 * pages → 4096 * pages < n * size + 4096 → is_body all size n (page_segs 0 pages (n * size)) ≡ true
+body_inside all pages size n l z up low =
+    let segs = page_segs 0 pages (n * size) in
+    let turned : n * size ≡ size * n = grind arith in
+    and_from (are_inside all segs) (eqb (total segs) (size * n) && are_few_each size n segs) (segs_inside all 0 pages (n * size) (omega (arith, l)) low)
+    (and_from (eqb (total segs) (size * n)) (are_few_each size n segs) (eq-eqb (total segs) (size * n) (segs_total 0 pages (n * size) up ∙ turned)) (segs_few size 0 n 0 pages (n * size) z low))
 
 has_data : (size n half : ℕ) (p : Piece) → n ≡ p.n → (size ≡ 512) ⊎ (size ≡ 4096) → IsPiece size half p → HasData (pages_for (n * size)) size n (page_segs 0 (pages_for (n * size)) (n * size))
 has_data size n half p e b f =
@@ -146,15 +161,79 @@ has_data size n half p e b f =
     let long = segs_length 0 pages bytes in
     let one : nat_lt 512 (length segs) ≡ false = le-ltb 512 (length segs) (omega arith) in
     let two : is_count n ≡ true = and_from (nat_le 1 n) (nat_le n 2048) (le-leb 1 n (omega arith)) (le-leb n 2048 few) in
-    let turned : n * size ≡ size * n = grind arith in
-    let three : is_body pages size n segs ≡ true
-    = and_from (are_inside pages segs) (eqb (total segs) (size * n) && are_few_each size n segs) (segs_inside pages 0 pages bytes (omega arith) low)
-    (and_from (eqb (total segs) (size * n)) (are_few_each size n segs) (eq-eqb (total segs) (size * n) (segs_total 0 pages bytes up ∙ turned)) (segs_few size 0 n 0 pages bytes z1 low)) in
+    let three : is_body pages size n segs ≡ true = body_inside pages pages size n (omega arith) z1 up low in
     let four : do_overlap segs [] ≡ false = ap any_share (append-nil segs) ∙ segs_apart 0 pages bytes in
     record {
       fine = λ i. if one i then Some TooMany else (if not (two i) then Some BadRange else (if not (three i) then Some BadSegments else (if four i then Some SegOverlap else None)));
       pages_low = omega arith;
       pages_high = most;
+      few = few;
+    }
+
+-- ---- and tuples in pages behind those of the data
+
+whole_each : (page pages n : ℕ) → are_whole_tuples (page_segs page pages (n * 8)) ≡ true
+whole_each page zero n = refl
+whole_each page (suc q) n =
+    let one : is_whole (record { page = page; off = 0; len = min 4096 (n * 8) }) ≡ true = eq-eqb (min 4096 (n * 8) % 8) 0 (omega arith) in
+    let left : (n - 512) * 8 ≡ n * 8 - 4096 = omega arith in
+    and_from (is_whole (record { page = page; off = 0; len = min 4096 (n * 8) })) (are_whole_tuples (page_segs (suc page) q (n * 8 - 4096))) one
+    (ap (λ b. are_whole_tuples (page_segs (suc page) q b)) (sym left) ∙ whole_each (suc page) q (n - 512))
+
+tuples_inside : (all page pages n : ℕ) → page + pages ≤ all → n * 8 ≤ 4096 * pages → 4096 * pages < n * 8 + 4096 → are_tuples all n (page_segs page pages (n * 8)) ≡ true
+tuples_inside all page pages n l up low =
+    let segs = page_segs page pages (n * 8) in
+    let turned : n * 8 ≡ 8 * n = omega arith in
+    and_from (are_inside all segs) (eqb (total segs) (8 * n) && are_whole_tuples segs) (segs_inside all page pages (n * 8) l low)
+    (and_from (eqb (total segs) (8 * n)) (are_whole_tuples segs) (eq-eqb (total segs) (8 * n) (segs_total page pages (n * 8) up ∙ turned)) (whole_each page pages n))
+
+-- pages behind others share no byte with them
+both_apart : (page pages bytes behind more others : ℕ) → page + pages ≤ behind → any_share (page_segs page pages bytes ++ page_segs behind more others) ≡ false
+both_apart page zero bytes behind more others l = segs_apart behind more others
+both_apart page (suc q) bytes behind more others l =
+    let s : Seg = record { page = page; off = 0; len = min 4096 bytes } in
+    let one = page_segs (suc page) q (bytes - 4096) in
+    let other = page_segs behind more others in
+    let a : list_any (shares s) (one ++ other) ≡ false =
+    list_any-append (shares s) one other ∙ (λ i. none_shares s (suc page) q (bytes - 4096) (omega arith) i || none_shares s behind more others (omega (arith, l)) i) in
+    ap (λ c. c || any_share (one ++ other)) a ∙ both_apart (suc page) q (bytes - 4096) behind more others (omega (arith, l))
+
+record HasBoth (pages more size n : ℕ) : Type 0 where
+  fine : both_fault (pages + more) size n (page_segs 0 pages (n * size)) (page_segs pages more (n * 8)) ≡ None
+  pages_low : 1 ≤ pages + more
+  pages_high : pages + more ≤ 256
+  few : n ≤ 2048
+
+has_both : (size half : ℕ) (p : Piece) → (size ≡ 512) ⊎ (size ≡ 4096) → IsPieceWithTuples size half p → HasBoth (pages_for (p.n * size)) (pages_for (p.n * 8)) size p.n
+has_both size half p b f =
+    let n = p.n in
+    let pages = pages_for (n * size) in
+    let more = pages_for (n * 8) in
+    let segs = page_segs 0 pages (n * size) in
+    let tuples = page_segs pages more (n * 8) in
+    let z = block_sizes size b in
+    let z0 = z.0 in
+    let z1 = z.1 in
+    let some = f.some in
+    let room = f.room in
+    let many = many_bytes size n z0 in
+    let up = pages_room (n * size) in
+    let low = pages_least (n * size) in
+    let up8 = pages_room (n * 8) in
+    let low8 = pages_least (n * 8) in
+    let few : n ≤ 2048 = omega (arith, room, up, many) in
+    let long = segs_length 0 pages (n * size) in
+    let long8 = segs_length pages more (n * 8) in
+    let one : nat_lt 512 (length segs) ≡ false = le-ltb 512 (length segs) (omega (arith, long, room)) in
+    let one8 : nat_lt 512 (length tuples) ≡ false = le-ltb 512 (length tuples) (omega (arith, long8, room)) in
+    let two : is_count n ≡ true = and_from (nat_le 1 n) (nat_le n 2048) (le-leb 1 n some) (le-leb n 2048 few) in
+    let three : is_body (pages + more) size n segs ≡ true = body_inside (pages + more) pages size n (omega arith) z1 up low in
+    let four : are_tuples (pages + more) n tuples ≡ true = tuples_inside (pages + more) pages more n (omega arith) up8 low8 in
+    let five : do_overlap segs tuples ≡ false = both_apart 0 pages (n * size) pages more (n * 8) (omega arith) in
+    record {
+      fine = λ i. if one i || one8 i then Some TooMany else (if not (two i) then Some BadRange else (if not (three i && four i) then Some BadSegments else (if five i then Some SegOverlap else None)));
+      pages_low = omega (arith, up, many, some);
+      pages_high = room;
       few = few;
     }
 
@@ -174,6 +253,9 @@ write_op dix pages size v n app segs d e = record { rules = (λ i. unless (e i) 
 
 read_op : (dix : Bool) (pages size v n : ℕ) (segs : List Seg) → dix ≡ true → data_fault pages size n segs ≡ None → IsStackOp dix pages size (Fetch v n segs)
 read_op dix pages size v n segs d e = record { rules = (λ i. unless (e i) (Fetch v n segs)); integrity = needs_none dix _ d; tag = tt }
+
+read_pi_op : (dix : Bool) (pages size v n : ℕ) (segs tuples : List Seg) → dix ≡ true → both_fault pages size n segs tuples ≡ None → IsStackOp dix pages size (FetchPi v n segs tuples)
+read_pi_op dix pages size v n segs tuples d e = record { rules = (λ i. unless (e i) (FetchPi v n segs tuples)); integrity = needs_none dix _ d; tag = tt }
 
 puts_taken : (dix : Bool) (all size page pages : ℕ) (bytes : List ℕ) (ops : List Op) → dix ≡ true → page + pages ≤ all → 4096 * pages < length bytes + 4096 → Each (IsStackOp dix all size) ops → Each (IsStackOp dix all size) (puts page pages bytes ++ ops)
 puts_taken dix all size page zero bytes ops d l g rest = rest
@@ -251,6 +333,10 @@ read_fine : (t : Table) (devices : List DeviceInfo) (size v n : ℕ) (segs : Lis
 read_fine t devices size v n segs l [] = refl
 read_fine t devices size v n segs l (line ∷ lines) = ap (λ o. at_line line o (ops_fault t devices size [] lines)) (range_fine t v n l)
 
+read_pi_fine : (t : Table) (devices : List DeviceInfo) (size v n : ℕ) (segs tuples : List Seg) → v + n ≤ volume_len t.entries → (lines : List ℕ) → ops_fault t devices size (FetchPi v n segs tuples ∷ []) lines ≡ None
+read_pi_fine t devices size v n segs tuples l [] = refl
+read_pi_fine t devices size v n segs tuples l (line ∷ lines) = ap (λ o. at_line line o (ops_fault t devices size [] lines)) (range_fine t v n l)
+
 got_behind : (page pages : ℕ) (bytes : List ℕ) (op : Op) → slice_get (puts page pages bytes ++ (op ∷ [])) pages ≡ Some op
 got_behind page zero bytes op = refl
 got_behind page (suc q) bytes op = got_behind (suc page) q (drop 4096 bytes) op
@@ -291,7 +377,7 @@ module _ (s : Script) (t : Table) (devices : List DeviceInfo) (half : ℕ) (p : 
       record {
         suits = record {
           protect_is = is.protect_is;
-          most = is.most;
+          most = fewer s.limits.max_blocks p.n is.most fits.some;
           pages_are = record { low_is = fine_data.pages_low; high_is = fine_data.pages_high };
           block_is = is.block_is;
           ops_are = (read_op s.mode.dix pages s.block (first_virt half p) p.n segs is.dix fine_data.fine, tt);
@@ -320,7 +406,7 @@ module _ (s : Script) (t : Table) (devices : List DeviceInfo) (half : ℕ) (p : 
       record {
         suits = record {
           protect_is = is.protect_is;
-          most = is.most;
+          most = fewer s.limits.max_blocks p.n is.most fits.some;
           pages_are = record { low_is = fine_data.pages_low; high_is = most };
           block_is = is.block_is;
           ops_are = puts_taken s.mode.dix pages s.block 0 pages bytes (op ∷ []) is.dix (omega arith) (omega arith) (write_op s.mode.dix pages s.block (first_virt half p) p.n app segs is.dix fine_data.fine, tt);
@@ -332,4 +418,42 @@ module _ (s : Script) (t : Table) (devices : List DeviceInfo) (half : ℕ) (p : 
             all_none (expect_fault (write_script s half p app bytes) t.ty) (faults_fault t devices ops [] own lines) (ops_fault t devices s.block ops (drop (length own) lines)) (expected (write_script s half p app bytes))
             (own_fine t devices ops p (suc pages) (first_virt half p) (ap request_by (got_behind 0 pages bytes op)) s.faults is.flips [] lines)
             (ops_behind t devices s.block 0 pages bytes (op ∷ []) (write_fine t devices s.block (first_virt half p) p.n app segs lies) (drop (length own) lines));
+      }
+
+-- ---- a piece with its tuples
+
+module _ (s : Script) (t : Table) (devices : List DeviceInfo) (half : ℕ) (p : Piece) (is : IsMirrorScript s t half) (fits : IsPieceWithTuples s.block half p) where
+  abbrev data_pages : ℕ
+  data_pages = pages_for (p.n * s.block)
+
+  abbrev tuple_pages : ℕ
+  tuple_pages = pages_for (p.n * 8)
+
+  pub read_pi_ready : IsReady (read_pi_script s half p) t devices
+  read_pi_ready =
+      let own = own_faults p 1 s.faults in
+      let data_segs = page_segs 0 data_pages (p.n * s.block) in
+      let tuples = page_segs data_pages tuple_pages (p.n * 8) in
+      let ops : List Op = FetchPi (first_virt half p) p.n data_segs tuples ∷ [] in
+      let lines : List ℕ = replicate (length own + 1) 0 in
+      let both = has_both s.block half p is.block_is fits in
+      let few = both.few in
+      let w = within half p fits.inside in
+      let g = is.long in
+      record {
+        suits = record {
+          protect_is = is.protect_is;
+          most = fewer s.limits.max_blocks p.n is.most fits.some;
+          pages_are = record { low_is = both.pages_low; high_is = both.pages_high };
+          block_is = is.block_is;
+          ops_are = (read_pi_op s.mode.dix (data_pages + tuple_pages) s.block (first_virt half p) p.n data_segs tuples is.dix both.fine, tt);
+          ops_count = omega arith;
+          blocks_count = omega (arith, few);
+        };
+        lines = length-replicate {A = ℕ} (length own + 1) 0;
+        bound =
+            all_none (expect_fault (read_pi_script s half p) t.ty) (faults_fault t devices ops [] own lines) (ops_fault t devices s.block ops (drop (length own) lines))
+            (expects (read_pi_script s half p) t.ty (has_tuples t.ty is.type_is))
+            (own_fine t devices ops p 1 (first_virt half p) refl s.faults is.flips [] lines)
+            (read_pi_fine t devices s.block (first_virt half p) p.n data_segs tuples (omega (arith, w, g)) (drop (length own) lines));
       }

@@ -27,7 +27,7 @@ take_turn v n zero l = refl
 take_turn v zero (suc len) l = absurd (omega arith)
 take_turn v (suc n) (suc len) l = ap (λ t. v ∷ t) (take_turn (suc v) n len (omega arith))
 
-turn_part : (v n at len : ℕ) → at + len ≤ n → take len (drop at (in_turn v n)) ≡ in_turn (v + at) len
+pub turn_part : (v n at len : ℕ) → at + len ≤ n → take len (drop at (in_turn v n)) ≡ in_turn (v + at) len
 turn_part v n zero len l = let e : v ≡ v + 0 = omega arith in take_turn v n len (omega arith) ∙ ap (λ x. in_turn x len) e
 turn_part v zero (suc at) len l = absurd (omega arith)
 turn_part v (suc n) (suc at) len l =

@@ -1,4 +1,4 @@
-use Rattle.std.specs.Prelude.{ℕ, zero, suc, ◌+◌, ◌-◌, ◌*◌, ◌/◌, Bool, ◌&&◌, eqb, nat_le, nat_lt, if◌then◌else◌, List, [], ◌∷◌, ◌++◌, drop, length, min, replicate, take}
+use Rattle.std.specs.Prelude.{ℕ, zero, suc, ◌+◌, ◌-◌, ◌*◌, ◌/◌, ◌&&◌, eqb, nat_le, nat_lt, if◌then◌else◌, List, [], ◌∷◌, ◌++◌, drop, length, min, replicate, take}
 use Rattle.fault_schedule.specs.declared.fault.FaultLine.{FaultLine}
 use Rattle.page_pool.specs.declared.segs.Seg.{Seg}
 use Rattle.stack_ops.specs.declared.op.Op.{Op}
@@ -39,23 +39,24 @@ abbrev pub puts : (page pages : ℕ) → List ℕ → List Op
 puts page zero bytes = []
 puts page (suc pages) bytes = Put page 0 (take 4096 bytes) ∷ puts (suc page) pages (drop 4096 bytes)
 
--- a script with the mirror's mode and limits
-abbrev pub own_script : Script → (pages : ℕ) → List FaultLine → List Op → Script
-own_script s pages faults ops = record s { pages = pages; entries = []; faults = faults; schedule = []; ops = ops; lines = replicate (length faults + length ops) 0 }
+-- a script with the mirror's mode and limits, for a request of n blocks: no group has more
+abbrev pub own_script : Script → (n pages : ℕ) → List FaultLine → List Op → Script
+own_script s n pages faults ops =
+    record s { limits = record s.limits { max_blocks = min s.limits.max_blocks n }; pages = pages; entries = []; faults = faults; schedule = []; ops = ops; lines = replicate (length faults + length ops) 0 }
 
 -- The piece is written with these data and this application tag.
 abbrev pub write_script : Script → (half : ℕ) → Piece → (app : ℕ) → (bytes : List ℕ) → Script
 write_script s half p app bytes =
-    own_script s (pages_for (p.n * s.block)) (own_faults p (suc (pages_for (p.n * s.block))) s.faults)
+    own_script s p.n (pages_for (p.n * s.block)) (own_faults p (suc (pages_for (p.n * s.block))) s.faults)
     (puts 0 (pages_for (p.n * s.block)) bytes ++ (Write (first_virt half p) p.n (page_segs 0 (pages_for (p.n * s.block)) (p.n * s.block)) app ∷ []))
 
 -- The piece is read.
 abbrev pub read_script : Script → (half : ℕ) → Piece → Script
 read_script s half p =
-    own_script s (pages_for (p.n * s.block)) (own_faults p 1 s.faults) (Fetch (first_virt half p) p.n (page_segs 0 (pages_for (p.n * s.block)) (p.n * s.block)) ∷ [])
+    own_script s p.n (pages_for (p.n * s.block)) (own_faults p 1 s.faults) (Fetch (first_virt half p) p.n (page_segs 0 (pages_for (p.n * s.block)) (p.n * s.block)) ∷ [])
 
 -- The piece is read with its tuples, which stand in pages behind those of the data.
 abbrev pub read_pi_script : Script → (half : ℕ) → Piece → Script
 read_pi_script s half p =
-    own_script s (pages_for (p.n * s.block) + pages_for (p.n * 8)) (own_faults p 1 s.faults)
+    own_script s p.n (pages_for (p.n * s.block) + pages_for (p.n * 8)) (own_faults p 1 s.faults)
     (FetchPi (first_virt half p) p.n (page_segs 0 (pages_for (p.n * s.block)) (p.n * s.block)) (page_segs (pages_for (p.n * s.block)) (pages_for (p.n * 8)) (p.n * 8)) ∷ [])

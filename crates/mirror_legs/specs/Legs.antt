@@ -1,6 +1,8 @@
 -- What a request on a leg comes to, done as a script of its own.
-use Rattle.std.specs.Prelude.{ℕ, ◌≡◌, ◌+◌, ◌*◌, List, [], ◌∷◌, ◌++◌, length, replicate, take, None}
+use Rattle.std.specs.Prelude.{ℕ, ◌≡◌, ◌+◌, ◌*◌, List, [], ◌∷◌, ◌++◌, drop, length, map, replicate, take, Option, Some, None, Result, Ok, Err}
 use Rattle.page_pool.specs.Cells.{flat}
+use Rattle.bio_core.specs.declared.fate.Why.{Why}
+use Rattle.bio_core.specs.declared.fate.Why.TheVariants.{Adapter, App, Block as ByOwner, Medium, Refused, Short, Target}
 use Rattle.target_answer.specs.Target.{Stored}
 use Rattle.dix_adapter.specs.Ways.{blocks_told, shapes_of}
 use Rattle.stack_ops.specs.declared.reply.Reply.{Reply}
@@ -14,6 +16,7 @@ use Rattle.script_text.specs.Bindings.{binding_fault}
 use Rattle.script_ground.specs.SuitsStack.{SuitsStack}
 use Rattle.script_stack.specs.Followed.{none_fails, setting_of}
 use Rattle.mirror_walk.specs.OnLegs.{blocks_on, brought_each, data_read, whys_read, whys_written, written}
+use Rattle.mirror_walk.specs.Repair.{reading}
 use Rattle.mirror_legs.specs.declared.piece.Piece.{Piece}
 use Rattle.mirror_legs.specs.Inner.{first_label, first_virt, pages_for}
 
@@ -41,3 +44,32 @@ pub record ReadOnLeg (s : Script) (t : Table) (half : ℕ) (p : Piece) (us us' :
   pub replies_are : replies ≡ whole_or_bad (bad_from 0 (whys_read (mirror_setting s t us) (blocks_of half p) (blocks_told us))) ∷ []
   pub blocks : blocks_told us' ≡ blocks_told us
   pub landed : take (p.n * s.block) (flat pool) ≡ data_read (mirror_setting s t us) (blocks_of half p) (blocks_told us)
+
+-- ---- a read with tuples
+
+-- The application verifies, in the place of the block layer, and finds what that would have found.
+abbrev pub by_app : Option Why → Option Why
+by_app None = None
+by_app (Some (Adapter check)) = Some (Adapter check)
+by_app (Some (Target check)) = Some (Target check)
+by_app (Some (ByOwner check)) = Some (App check)
+by_app (Some (App check)) = Some (App check)
+by_app (Some Medium) = Some Medium
+by_app (Some (Refused key asc ascq)) = Some (Refused key asc ascq)
+by_app (Some Short) = Some Short
+
+-- the tuple that a block of it lands: of the frame what stands behind its data, and zeros where none is delivered
+abbrev pub tuple_landed : (size : ℕ) → Result (List ℕ) Why → List ℕ
+tuple_landed size (Ok frame) = drop size frame
+tuple_landed size (Err why) = replicate 8 0
+
+abbrev pub tuples_read : Setting → List Block → List (List ℕ) → List ℕ
+tuples_read m [] blocks = []
+tuples_read m (b ∷ bs) blocks = tuple_landed m.size (reading m b blocks) ++ tuples_read m bs blocks
+
+-- Each was read as the mirror's setting says, and verified by the application: what the request replies, and what its pages hold. Behind the pages of the data stand the tuples.
+pub record ReadPiOnLeg (s : Script) (t : Table) (half : ℕ) (p : Piece) (us us' : List Stored) (pool : List (List ℕ)) (replies : List Reply) : Type 0 where
+  pub replies_are : replies ≡ whole_or_bad (bad_from 0 (map by_app (whys_read (mirror_setting s t us) (blocks_of half p) (blocks_told us)))) ∷ []
+  pub blocks : blocks_told us' ≡ blocks_told us
+  pub landed : take (p.n * s.block) (flat pool) ≡ data_read (mirror_setting s t us) (blocks_of half p) (blocks_told us)
+  pub tuples : take (p.n * 8) (drop (4096 * pages_for (p.n * s.block)) (flat pool)) ≡ tuples_read (mirror_setting s t us) (blocks_of half p) (blocks_told us)

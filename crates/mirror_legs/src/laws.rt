@@ -15,9 +15,9 @@ ghost use Rattle.script_stack.specs.Followed.{HasWalked, none_fails, setting_of}
 ghost use Rattle.mirror_walk.specs.Repair.{steady};
 ghost use Rattle.mirror_script.specs.MirrorFaults.{mirror_fault};
 ghost use Rattle.mirror_legs.specs.declared.piece.Piece.{Piece as AnyPiece};
-ghost use Rattle.mirror_legs.specs.Inner.{read_script, write_script};
-ghost use Rattle.mirror_legs.specs.Legs.{IsReady, ReadOnLeg, WroteOnLeg};
-ghost use Rattle.mirror_legs.specs.MirrorScript.{IsMirrorScript, IsPiece, without_faults};
+ghost use Rattle.mirror_legs.specs.Inner.{read_pi_script, read_script, write_script};
+ghost use Rattle.mirror_legs.specs.Legs.{IsReady, ReadOnLeg, ReadPiOnLeg, WroteOnLeg};
+ghost use Rattle.mirror_legs.specs.MirrorScript.{IsMirrorScript, IsPiece, IsPieceWithTuples, without_faults};
 
 use run_moves::a_target_keeps_sizes;
 
@@ -48,6 +48,20 @@ pub fn a_read_on_a_leg_goes_its_ways()
     ensures { (s : AnyScript) (t : Table) (half : ℕ) (p : AnyPiece) (us left : List Stored) (pool : List (List ℕ)) (log : List Entry) (replies : List AnyReply)
         → IsMirrorScript s t half → IsPiece s.block half p → MadeFor t (map info_of (shapes_of us)) s.block → AreStored us → HasWalked (read_script s half p) t us left pool log replies
         → ReadOnLeg s t half p us left pool replies }
+{
+    a_target_keeps_sizes();
+}
+
+/// A stack takes the script in which some blocks of a request are read on a leg with their tuples.
+pub fn a_stack_takes_a_read_with_tuples_on_a_leg()
+    ensures { (s : AnyScript) (t : Table) (devices : List AnyDevice) (half : ℕ) (p : AnyPiece) → IsMirrorScript s t half → IsPieceWithTuples s.block half p → IsReady (read_pi_script s half p) t devices }
+{}
+
+/// And such a read lists and lands of each block what the mirror's script says of it on this leg, and lands its tuple.
+pub fn a_read_with_tuples_on_a_leg_goes_its_ways()
+    ensures { (s : AnyScript) (t : Table) (half : ℕ) (p : AnyPiece) (us left : List Stored) (pool : List (List ℕ)) (log : List Entry) (replies : List AnyReply)
+        → IsMirrorScript s t half → IsPieceWithTuples s.block half p → MadeFor t (map info_of (shapes_of us)) s.block → AreStored us → HasWalked (read_pi_script s half p) t us left pool log replies
+        → ReadPiOnLeg s t half p us left pool replies }
 {
     a_target_keeps_sizes();
 }

@@ -6,6 +6,7 @@ ghost use Rattle.mirror_legs.specs.Inner.{own_faults, own_script, page_segs, pag
 use crate::Piece;
 use dix_base::ByteList;
 use fault_schedule::{FaultKind, FaultLine, FaultList};
+use merge_queue::Limits;
 use page_pool::{PAGE, Seg, SgList};
 use script_lines::WordList;
 use script_text::{LineList, Script};
@@ -92,20 +93,24 @@ fn puts(alloc: Global, bytes: &[u8], ops: &mut Vec<Op>) -> Result<(), AllocError
     Ok(())
 }
 
-/// A script with the mirror's mode and limits.
+/// A script with the mirror's mode and limits, for a request of n blocks: no group has more, so it takes room for no more.
 fn own_script(
     alloc: Global,
     script: &Script,
+    n: u32,
     pages: u32,
     faults: FaultList,
     ops: Vec<Op>,
 ) -> Result<Script, AllocError>
-    ensures { IfOk result (λ s. s ≡ own_script script.now pages faults ops.items) }
+    ensures { IfOk result (λ s. s ≡ own_script script.now n pages faults ops.items) }
 {
     let lines = vec![in alloc; 0u32; faults.as_slice().len() + ops.len()]?;
     Ok(Script {
         mode: script.mode,
-        limits: script.limits,
+        limits: Limits {
+            max_blocks: script.limits.max_blocks.min(n),
+            ..script.limits
+        },
         pages,
         block: script.block,
         expect_line: script.expect_line,
@@ -143,7 +148,7 @@ pub fn write_script(
         body: page_segs(alloc, 0, piece.n * script.block)?,
         app,
     })?;
-    own_script(alloc, script, pages, faults, ops)
+    own_script(alloc, script, piece.n, pages, faults, ops)
 }
 
 /// The script that reads the piece.
@@ -167,7 +172,7 @@ pub fn read_script(
         n: piece.n,
         body: page_segs(alloc, 0, piece.n * script.block)?,
     })?;
-    own_script(alloc, script, pages, faults, ops)
+    own_script(alloc, script, piece.n, pages, faults, ops)
 }
 
 /// The script that reads the piece with its tuples, which stand in pages behind those of the data.
@@ -193,5 +198,12 @@ pub fn read_pi_script(
         body: page_segs(alloc, 0, piece.n * script.block)?,
         tuples: page_segs(alloc, pages, piece.n * 8)?,
     })?;
-    own_script(alloc, script, pages + pages_for(piece.n * 8), faults, ops)
+    own_script(
+        alloc,
+        script,
+        piece.n,
+        pages + pages_for(piece.n * 8),
+        faults,
+        ops,
+    )
 }

@@ -1,5 +1,4 @@
 use Rattle.std.proofs.Common.{◌≡◌, ◌∙◌, ap, min, length, take, drop, arith}
-use Rattle.std.specs.Prelude.{ℕ, List}
 use Rattle.mirror_legs.proofs.OwnPages.{more-puts}
 use Rattle.mirror_legs.proofs.own.puts.Goals as goal
 
