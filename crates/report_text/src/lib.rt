@@ -12,3 +12,4 @@ mod writing;
 
 pub use report::print_report;
 pub use trace::print_trace;
+pub use writing::write_all;

@@ -8,7 +8,7 @@ use crate::line::{Line, add_hex};
 use dix_base::{Failed, Sink};
 
 /// Writes the whole text, or a prefix of it where the sink fails.
-pub(crate) fn write_all<O: Sink>(out: &mut O, text: &[u8]) -> Result<(), Failed>
+pub fn write_all<O: Sink>(out: &mut O, text: &[u8]) -> Result<(), Failed>
     ensures whole { OnOk result (Appended text.now (O.taken out.old) (O.taken out.new)) }
     ensures part { OnErr result (AppendedSome text.now (O.taken out.old) (O.taken out.new)) }
     ensures cause { OnErr result (Rose (O.faults out.old) (O.faults out.new)) }

@@ -33,7 +33,7 @@ pub never_rose : (o n : ℕ) → Calm o n → Rose o n → ⊥
 never_rose o n c (inl r) = omega (arith, c.0, r)
 never_rose o n c (inr r) = omega (arith, c.1, r)
 
-same_script : (f : Facts) (text : List ℕ) (script found : Script) → f.left ≡ Some text → script_in text ≡ Ok script → HasRead found f.left f.left_after → found ≡ script
+pub same_script : (f : Facts) (text : List ℕ) (script found : Script) → f.left ≡ Some text → script_in text ≡ Ok script → HasRead found f.left f.left_after → found ≡ script
 same_script f text script found l s read =
     let e : ◌≡◌ {A = Result Script ScriptFault} (Ok found) (Ok script) = sym read.reads ∙ ap script_in (whole_text read.text text f.left f.left_after l read.whole) ∙ s in
     cc
@@ -62,7 +62,7 @@ not_faulty f text script bad l s (inr h) = not_over f text script l s h.0
 same_parts : (a b : List Entry) (x y : PiType) → a ≡ b → x ≡ y → ◌≡◌ {A = Table} (record { entries = a; ty = x }) (record { entries = b; ty = y })
 same_parts a b x y e k = rw (e, k) refl
 
-table_is : (script : Script) (devices ds : List DeviceInfo) (table : Table) → devices ≡ ds → HasTable script devices table → table ≡ table_over script.entries ds
+pub table_is : (script : Script) (devices ds : List DeviceInfo) (table : Table) → devices ≡ ds → HasTable script devices table → table ≡ table_over script.entries ds
 table_is script devices ds table d h = same_parts table.entries script.entries table.ty (volume_type script.entries ds) h.entries (h.ty ∙ ap (volume_type script.entries) d)
 
 not_unbound : (image : List ℕ) (script : Script) (bad : ScriptFault) (name : List ℕ) (old new : View) → old.image ≡ Some image → binding_fault script (table_over script.entries (devices_of image)) (devices_of image) ≡ None → IsUnbound bad script name old new → ⊥
@@ -72,7 +72,7 @@ not_unbound image script bad name old new i b u =
     let k : ◌≡◌ {A = Option ScriptFault} None (Some bad) = sym b ∙ ap (λ v. binding_fault script (table_over script.entries (devices_of image)) v) (sym d) ∙ ap (λ v. binding_fault script v u.devices) (sym t) ∙ u.bound in
     absurd (cc)
 
-not_bad : (image : List ℕ) (script : Script) (entry : ℕ) (kind : VolumeKind) (name : List ℕ) (old new : View) → old.image ≡ Some image → table_fault script.entries (devices_of image) script.block ≡ None → HasBadVolume entry kind script name old new → ⊥
+pub not_bad : (image : List ℕ) (script : Script) (entry : ℕ) (kind : VolumeKind) (name : List ℕ) (old new : View) → old.image ≡ Some image → table_fault script.entries (devices_of image) script.block ≡ None → HasBadVolume entry kind script name old new → ⊥
 not_bad image script entry kind name old new i t u =
     let d : u.devices ≡ devices_of image = image_devices name u.devices old new image u.asked i in
     let k : ◌≡◌ {A = Option VolumeFault} None (Some (At entry kind)) = sym t ∙ ap (λ v. table_fault script.entries v script.block) (sym d) ∙ u.bad in
@@ -105,7 +105,7 @@ stops_from_outside refusal.Memory script name old new c = λ image i h t b. inl 
 stops_from_outside refusal.ReadFault script name old new c = absurd c
 
 -- a source without a fault gives its script
-untaken_for_memory : (r : Refusal) (f : Facts) (text : List ℕ) (script : Script) → f.left ≡ Some text → script_in text ≡ Ok script → Calm f.reads f.reads_after → CauseUntaken r f.left f.left_after f.reads f.reads_after → r ≡ refusal.Memory
+pub untaken_for_memory : (r : Refusal) (f : Facts) (text : List ℕ) (script : Script) → f.left ≡ Some text → script_in text ≡ Ok script → Calm f.reads f.reads_after → CauseUntaken r f.left f.left_after f.reads f.reads_after → r ≡ refusal.Memory
 untaken_for_memory (refusal.Script bad) f text script l s calm c = absurd (not_faulty f text script bad l s c)
 untaken_for_memory (refusal.Image x) f text script l s calm c = absurd c
 untaken_for_memory (refusal.BadCapacity dev) f text script l s calm c = absurd c

@@ -33,6 +33,16 @@ pub record IsSound (script : Script) : Type 0 where
   pub keeps : Keeps script
   pub lines : length script.lines ≡ length script.faults + length script.ops
 
+-- Why there is no table of a script's volume.
+abbrev pub CauseNoTable : Refusal → Script → List DeviceInfo → Type 0
+CauseNoTable (refusal.Script bad) script devices = ⊥
+CauseNoTable (refusal.Image x) script devices = ⊥
+CauseNoTable (refusal.BadCapacity dev) script devices = ⊥
+CauseNoTable (refusal.Volume entry kind) script devices = table_fault script.entries devices script.block ≡ Some (At entry kind)
+CauseNoTable refusal.RigFault script devices = ⊥
+CauseNoTable refusal.Memory script devices = Unit {0}
+CauseNoTable refusal.ReadFault script devices = ⊥
+
 -- Why there is no table over which a script may run.
 abbrev pub CauseUnbound : Refusal → Script → List DeviceInfo → Type 0
 CauseUnbound (refusal.Script bad) script devices = (table : Table) × HasTable script devices table × (binding_fault script table devices ≡ Some bad)

@@ -4,19 +4,24 @@ ghost use Rattle.std.specs.Prelude.{◌≡◌, ◌≤◌, IfErr, IfOk, None, len
 ghost use Rattle.rig_discovery.specs.Discovery.{Ends};
 ghost use Rattle.script_text.specs.Bindings.{binding_fault};
 ghost use Rattle.script_verdict.specs.Verdict.{HasTable};
-ghost use Rattle.script_verdict.specs.Working.{CauseUnbound, IsSound};
+ghost use Rattle.script_verdict.specs.Working.{CauseNoTable, CauseUnbound, IsSound};
 
 use crate::refusal::Refusal;
 use script_text::{Script, bind_script};
 use std::alloc::Global;
 use volume_table::{DeviceInfo, VolumeFault, VolumeTable};
 
-/// The table of a script's volume over these devices.
-fn table_of(alloc: Global, script: &Script, devices: &[DeviceInfo]) -> Result<VolumeTable, Refusal>
+/// The table of a script's volume over these devices, which are what an image's devices told of themselves. It refuses the
+/// first entry that is at fault over them, or there is no memory.
+pub fn table_of(
+    alloc: Global,
+    script: &Script,
+    devices: &[DeviceInfo],
+) -> Result<VolumeTable, Refusal>
     requires sound { IsSound script.now }
     requires ends { Ends devices.now }
     ensures table { IfOk result (λ t. HasTable script.now devices.now t) }
-    ensures cause { IfErr result (λ r. CauseUnbound r script.now devices.now) }
+    ensures cause { IfErr result (λ r. CauseNoTable r script.now devices.now) }
 {
     match VolumeTable::new(alloc, &script.entries, devices, script.block) {
         Ok(table) => Ok(table),

@@ -43,7 +43,7 @@ pub enum Refusal {
 
 impl Refusal {
     /// The refusal of an image that isn't opened, or whose devices aren't known.
-    pub(crate) fn of(fault: Fault) -> Refusal
+    pub fn of(fault: Fault) -> Refusal
         ensures { result ≡ refusal_of fault }
     {
         match fault {

@@ -156,8 +156,8 @@ fn is_bad(reply: &Reply) -> bool
     }
 }
 
-/// Whether one of these is such a reply.
-fn is_any_bad(replies: &[Reply]) -> bool
+/// Whether one of these is the reply of an op of which something failed: a block, or the alteration of a stored one.
+pub fn is_any_bad(replies: &[Reply]) -> bool
     ensures { result ≡ has_bad replies.now }
 {
     let mut rest = replies;
