@@ -1,0 +1,63 @@
+use Rattle.std.proofs.Common.{ℕ, ◌≡◌, ◌-◌, ◌≤◌, [], ◌∷◌, ap, drop, length, length-drop, refl, rules, subst, take, ◌∙◌, arith}
+use Rattle.std.proofs.lemmas.List.{take_all}
+use Rattle.script_stack.specs.Causes.{table_of}
+use Rattle.script_stack.specs.Followed.{Ran}
+use Rattle.script_stack.specs.Going.{Outside}
+use Rattle.mirror_volume.specs.LegRuns.{LegRun}
+use Rattle.mirror_volume.proofs.Runs.{ran-none, ran-one}
+use Rattle.mirror_volume.proofs.legs.run_own.Goals as goal
+
+pub returns-in_err-table-clause-ran : goal.returns-in_err-table-clause-ran
+returns-in_err-table-clause-ran g c =
+    ([], (ran-none (table_of c.args.plan.now.script c.args.plan.now.devices.items) c.args.plan.now.devices.items _ _ (record { units = refl; standing = refl; log = refl; faults = refl }), (refl, (tt, search rules))))
+
+pub slice_bounds-rest-count : goal.slice_bounds-rest-count
+slice_bounds-rest-count g c =
+    let e = ap (length {A = ℕ × ℕ}) c.as_slice-2.ensures in
+    omega (arith, e, c.requires.used)
+
+pub slice_bounds-rest-start : goal.slice_bounds-rest-start
+slice_bounds-rest-start g c =
+    let e = ap (length {A = ℕ × ℕ}) c.as_slice-2.ensures in
+    let h : c.args.used.now ≤ length c.as_slice-2.result.now = omega (arith, e, c.requires.used) in
+    search rules
+
+pub returns-in_err-stack-clause-ran : goal.returns-in_err-stack-clause-ran
+returns-in_err-stack-clause-ran g c = (
+  [],
+  (
+    ran-none (table_of c.args.plan.now.script c.args.plan.now.devices.items) c.args.plan.now.devices.items _ _
+        (record { units = c.in_err-stack.ensures.units; standing = c.run_bound.ensures.standing; log = c.in_err-stack.ensures.log; faults = c.in_err-stack.ensures.faults }),
+    (refl, (tt, search rules)),
+  ),
+)
+
+pub returns-clause-ran : goal.returns-clause-ran
+returns-clause-ran g c =
+    let s = c.args.own in
+    let plan = c.args.plan.now in
+    let devices = plan.devices.items in
+    let t = table_of plan.script devices in
+    let words = drop c.args.used.now plan.script.schedule in
+    let r = c.in_ok-stack.stack in
+    let old = c.args.rig.now in
+    let new = c.run_bound.new.rig in
+    let before : Outside = record { units = g.R.Rig.units old; armed = g.R.Rig.armed old; standing = g.R.Rig.standing old; log = g.R.Rig.log old; faults = g.R.Rig.faults old } in
+    let after : Outside = record { units = g.R.Rig.units new; armed = g.R.Rig.armed new; standing = g.R.Rig.standing new; log = g.R.Rig.log new; faults = g.R.Rig.faults new } in
+    let table : c.in_ok-table.table ≡ t = c.in_ok-table.ensures ∙ ap (table_of plan.script) c.as_slice.ensures.value in
+    let all = c.as_slice-2.result.now in
+    let rest = take (length all - c.args.used.now) (drop c.args.used.now all) in
+    let whole : rest ≡ words = take_all (length all - c.args.used.now) (drop c.args.used.now all) (omega (arith, length-drop c.args.used.now all)) ∙ ap (drop c.args.used.now) c.as_slice-2.ensures in
+    let ran : Ran s t devices words before after r =
+    subst (λ ws. Ran s t devices ws before after r) whole
+    (subst (λ ds. Ran s t ds rest before after r) c.as_slice-3.ensures.value
+    (subst (λ x. Ran s x c.as_slice-3.result.now rest before after r) table c.in_ok-stack.ensures.ran)) in
+    let run : LegRun = record { own = s; words = words; records = ran.more; stack = r } in
+    let l = length-drop c.args.used.now plan.script.schedule in
+    let e = ap (length {A = ℕ × ℕ}) c.as_slice-2.ensures in
+    (run ∷ [], (ran-one s t devices words before after r ran, ((refl, omega (arith, l, e, c.min.ensures, c.steps.ensures.value)), ((refl, tt), (run, (refl, (refl, refl)))))))
+
+pub returns-clause-used : goal.returns-clause-used
+returns-clause-used g c =
+    let e = ap (length {A = ℕ × ℕ}) c.as_slice-2.ensures in
+    omega (arith, e, c.min.ensures, c.requires.used)

@@ -1,0 +1,56 @@
+use Rattle.std.proofs.Common.{◌≡◌, ap, rules, subst, sym, ◌∙◌, arith}
+use Rattle.script_ground.specs.SuitsStack.{SuitsStack}
+use Rattle.script_text.specs.Bindings.{binding_fault}
+use Rattle.script_text.specs.declared.script.Script.{Script}
+use Rattle.script_stack.specs.Causes.{table_of}
+use Rattle.stack_core.specs.declared.stack.Stack.{Stack}
+use Rattle.std.specs.Prelude.{None}
+use Rattle.mirror_volume.specs.LegRuns.{found_by}
+use Rattle.mirror_volume.proofs.OwnRuns.{write-fits}
+use Rattle.mirror_volume.proofs.Planned.{half-small, plan-asks, plan-piece}
+use Rattle.mirror_volume.proofs.Runs.{all_own-map, ran-nothing}
+use Rattle.mirror_volume.proofs.legs.write_piece.Goals as goal
+
+pub write_script-requires-clause-virt : goal.write_script-requires-clause-virt
+write_script-requires-clause-virt g c =
+    let a = half-small c.args.plan.now c.requires.plan in
+    let b = c.requires.piece.inside in
+    omega (arith, a, b)
+
+pub returns-in_err-own-clause-ran : goal.returns-in_err-own-clause-ran
+returns-in_err-own-clause-ran g c = ran-nothing _ _ _ _ _ _ (search rules)
+
+pub run_own-requires-clause-suits : goal.run_own-requires-clause-suits
+run_own-requires-clause-suits g c =
+    let p = c.args.plan.now in
+    let t = table_of p.script p.devices.items in
+    let ready = c.a_stack_takes_a_request_on_a_leg.ensures.writes p.script t p.devices.items p.half c.args.piece c.args.app c.args.bytes.now (plan-asks c.a_mirror_has_what_its_legs_ask.ensures.script p c.requires.plan)
+    (plan-piece p c.args.piece c.requires.piece) c.requires.long in
+    subst SuitsStack (sym c.in_ok-own.ensures) ready.suits
+
+pub run_own-requires-clause-bound : goal.run_own-requires-clause-bound
+run_own-requires-clause-bound g c =
+    let p = c.args.plan.now in
+    let t = table_of p.script p.devices.items in
+    let ready = c.a_stack_takes_a_request_on_a_leg.ensures.writes p.script t p.devices.items p.half c.args.piece c.args.app c.args.bytes.now (plan-asks c.a_mirror_has_what_its_legs_ask.ensures.script p c.requires.plan)
+    (plan-piece p c.args.piece c.requires.piece) c.requires.long in
+    subst (λ (s : Script). binding_fault s t p.devices.items ≡ None) (sym c.in_ok-own.ensures) ready.bound
+
+pub returns-in_err-stack-clause-ran : goal.returns-in_err-stack-clause-ran
+returns-in_err-stack-clause-ran g c =
+    let ran = c.in_err-stack.ensures.ran in
+    (ran.0, (ran.1.0, (ran.1.1.0, (all_own-map _ _ ran.0 (λ s e. e ∙ c.in_ok-own.ensures) ran.1.1.1.0, search rules))))
+
+pub found_last-requires : goal.found_last-requires
+found_last-requires g c =
+    let p = c.args.plan.now in
+    let fits = write-fits _ _ _ _ _ _ _ c.in_ok-stack.stack p.script p.half c.args.piece c.in_ok-own.own c.args.app c.args.bytes.now c.in_ok-own.ensures c.in_ok-stack.ensures.ran in
+    rw (c.replies.ensures, c.requires.found) fits
+
+pub returns-clause-ran : goal.returns-clause-ran
+returns-clause-ran g c =
+    let ran = c.in_ok-stack.ensures.ran in
+    let one = ran.1.1.1.1 in
+    let replies = c.replies.ensures ∙ sym (ap (λ (x : Stack). x.replies.items) one.1.1.1) in
+    let found = c.found_last.ensures ∙ ap (λ n. found_by n c.replies.result.now) c.requires.found ∙ ap (found_by c.args.piece.n) replies in
+    (ran.0, (ran.1.0, (ran.1.1.0, (all_own-map _ _ ran.0 (λ s e. e ∙ c.in_ok-own.ensures) ran.1.1.1.0, (one.0, (one.1.0, (one.1.1.0 ∙ c.in_ok-own.ensures, found)))))))

@@ -1,0 +1,6 @@
+use Rattle.std.proofs.Common.{◌≡◌, ◌++◌, drop}
+use Rattle.whole_run.specs.ScriptWalk.{bad_from}
+use Rattle.mirror_volume.proofs.replies.request_reply.Given as goal
+
+abbrev pub invariant-loop-k : goal.invariant-loop-k
+invariant-loop-k l = l.bad.items ++ bad_from l.k (drop l.k l.listed) ≡ bad_from 0 l.listed

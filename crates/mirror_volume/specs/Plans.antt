@@ -1,0 +1,31 @@
+use Rattle.std.specs.Prelude.{◌≡◌, ◌+◌, ◌*◌, ◌≤◌, length}
+use Rattle.mirror_legs.specs.declared.piece.Piece.{Piece}
+use Rattle.mirror_volume.specs.declared.legs.Plan.{Plan}
+use Rattle.mirror_volume.specs.declared.mirror.Mirror.{Mirror}
+use Rattle.mirror_volume.specs.OnOps.{Sides}
+use Rattle.mirror_volume.specs.Standing.{IsBoundMirror, half_of}
+
+-- What a mirror goes by: a script that is bound to its devices, and the number of its blocks.
+pub record IsPlan (p : Plan) : Type 0 where
+  pub bound : IsBoundMirror p.script p.devices.items
+  pub half : p.half ≡ half_of p.script p.devices.items
+
+-- The piece has blocks, which are its request's and the mirror's, and their data have room in 256 pages.
+pub record IsPieceOf (p : Plan) (piece : Piece) : Type 0 where
+  pub some : 1 ≤ piece.n
+  pub first : piece.first + piece.n ≤ piece.count
+  pub count : piece.count ≤ 1024
+  pub room : piece.n * p.script.block ≤ 1048576
+  pub inside : piece.v + piece.n ≤ p.half
+
+-- A mirror between two ops: as many replies as ops are done, all of its pages, and a mark for each block.
+pub record IsMirror (r : Mirror) : Type 0 where
+  pub plan : IsPlan r.plan
+  pub pages : length r.state.pool ≡ r.plan.script.pages
+  pub marks : length r.state.marks.items ≡ r.plan.half
+  pub used : r.state.used ≤ length r.plan.script.schedule
+  pub done : length r.replies.items ≤ length r.plan.script.ops
+  pub room : length r.plan.script.ops ≤ r.replies.cap
+
+abbrev pub sides_of : Mirror → Sides
+sides_of r = record { pool = r.state.pool; marks = r.state.marks.items }

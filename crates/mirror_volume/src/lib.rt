@@ -1,0 +1,19 @@
+//! A script on a mirror: each block stands on two legs of a volume, at virtual block u on leg 0 and at L + u on leg 1,
+//! where the volume has 2 L blocks. A write goes to both legs; a read is taken from the first leg that has the last
+//! accepted write of the block and delivers it; a repair makes both legs equal again.
+#![tactic(auto)]
+
+mod legs;
+mod marks;
+mod mirror;
+mod ops;
+mod pages;
+mod reading;
+mod repair;
+mod replies;
+mod stretches;
+mod writing;
+
+pub use mirror::{Mirror, Repair};
+
+mod laws;

@@ -1,0 +1,165 @@
+//! The ops of a mirror's script.
+
+ghost use Rattle.std.specs.Prelude.{ℕ, ◌≡◌, ◌<◌, ◌≤◌, ◌+◌, ◌*◌, ◌⊎◌, List, [], ◌∷◌, IfOk, is_some, length};
+ghost use Rattle.dix_base.specs.Told.{Rose};
+ghost use Rattle.page_pool.specs.Pages.{AllLieIn};
+ghost use Rattle.page_pool.specs.Places.{NoneTwice, range_of, total};
+ghost use Rattle.stack_ops.specs.declared.op.Op.TheVariants.{Fetch, Write};
+ghost use Rattle.stack_ops.specs.declared.reply.Reply.TheVariants.{Medium, Silent};
+ghost use Rattle.stack_core.specs.Doing.{HasBlocks};
+ghost use Rattle.mirror_volume.specs.OnOps.{Altered, DidOp, RanOp, whole_request};
+ghost use Rattle.mirror_volume.specs.Plans.{IsPieceOf, IsPlan};
+ghost use Rattle.mirror_volume.specs.Standing.{HasDevices, op_at};
+
+use crate::legs::Plan;
+use crate::mirror::{State, whole_request};
+use crate::pages::{data_of, fill, put, shown};
+use crate::reading::read_blocks;
+use crate::replies::request_reply;
+use crate::writing::write_request;
+use page_pool::SgList;
+use rig_api::{Change, Rig};
+use stack_ops::{Op, Reply};
+use std::alloc::{AllocError, Global};
+
+/// Writes n blocks from block v on, as op `number`.
+fn write_blocks<R: Rig>(
+    alloc: Global,
+    plan: &Plan,
+    state: &mut State,
+    number: u32,
+    v: u64,
+    n: u32,
+    body: &SgList,
+    app: u16,
+    rig: &mut R,
+) -> Result<Reply, AllocError>
+    requires plan { IsPlan plan.now }
+    requires rig { HasDevices plan.now.devices.items (is_some (R.image rig.old)) (R.standing rig.old) }
+    requires used { state.old.used ≤ length plan.now.script.schedule }
+    requires piece { IsPieceOf plan.now (whole_request number v n) }
+    requires long { total body.now ≡ n * plan.now.script.block }
+    requires lie { AllLieIn state.old.pool body.now }
+    requires marks { length state.old.marks.items ≡ plan.now.half }
+    ensures ran { RanOp plan.now.script plan.now.devices.items plan.now.half number (Write v n body.now app) state.old.pool state.old.used state.new.used
+        (record { units = R.units rig.old; armed = R.armed rig.old; standing = R.standing rig.old; log = R.log rig.old; faults = R.faults rig.old })
+        (record { units = R.units rig.new; armed = R.armed rig.new; standing = R.standing rig.new; log = R.log rig.new; faults = R.faults rig.new })
+        (λ runs. IfOk result (DidOp plan.now.script plan.now.half number (Write v n body.now app)
+        (record { pool = state.old.pool; marks = state.old.marks.items }) (record { pool = state.new.pool; marks = state.new.marks.items })
+        (record { units = R.units rig.old; armed = R.armed rig.old; standing = R.standing rig.old; log = R.log rig.old; faults = R.faults rig.old })
+        (record { units = R.units rig.new; armed = R.armed rig.new; standing = R.standing rig.new; log = R.log rig.new; faults = R.faults rig.new }) runs)) }
+    ensures tells { is_some (R.image rig.new) ≡ is_some (R.image rig.old) }
+    ensures standing { R.standing rig.new ≡ R.standing rig.old }
+    ensures used { state.new.used ≤ length plan.now.script.schedule }
+    ensures pages { length state.new.pool ≡ length state.old.pool }
+    ensures marks { length state.new.marks.items ≡ length state.old.marks.items }
+{
+    let bytes = data_of(alloc, &state.pool, body)?;
+    let on0 = whole_request(number, v, n);
+    let marks = &mut state.marks;
+    write_request(alloc, plan, marks, on0, app, &bytes, &mut state.used, rig)
+}
+
+/// Reads n blocks from block v on, as op `number`.
+fn fetch_blocks<R: Rig>(
+    alloc: Global,
+    plan: &Plan,
+    state: &mut State,
+    number: u32,
+    v: u64,
+    n: u32,
+    body: &SgList,
+    rig: &mut R,
+) -> Result<Reply, AllocError>
+    requires plan { IsPlan plan.now }
+    requires rig { HasDevices plan.now.devices.items (is_some (R.image rig.old)) (R.standing rig.old) }
+    requires used { state.old.used ≤ length plan.now.script.schedule }
+    requires piece { IsPieceOf plan.now (whole_request number v n) }
+    requires long { total body.now ≡ n * plan.now.script.block }
+    requires lie { AllLieIn state.old.pool body.now }
+    requires once { NoneTwice (range_of body.now 0 (total body.now)) }
+    requires marks { length state.old.marks.items ≡ plan.now.half }
+    ensures ran { RanOp plan.now.script plan.now.devices.items plan.now.half number (Fetch v n body.now) state.old.pool state.old.used state.new.used
+        (record { units = R.units rig.old; armed = R.armed rig.old; standing = R.standing rig.old; log = R.log rig.old; faults = R.faults rig.old })
+        (record { units = R.units rig.new; armed = R.armed rig.new; standing = R.standing rig.new; log = R.log rig.new; faults = R.faults rig.new })
+        (λ runs. IfOk result (DidOp plan.now.script plan.now.half number (Fetch v n body.now)
+        (record { pool = state.old.pool; marks = state.old.marks.items }) (record { pool = state.new.pool; marks = state.new.marks.items })
+        (record { units = R.units rig.old; armed = R.armed rig.old; standing = R.standing rig.old; log = R.log rig.old; faults = R.faults rig.old })
+        (record { units = R.units rig.new; armed = R.armed rig.new; standing = R.standing rig.new; log = R.log rig.new; faults = R.faults rig.new }) runs)) }
+    ensures tells { is_some (R.image rig.new) ≡ is_some (R.image rig.old) }
+    ensures standing { R.standing rig.new ≡ R.standing rig.old }
+    ensures used { state.new.used ≤ length plan.now.script.schedule }
+    ensures pages { length state.new.pool ≡ length state.old.pool }
+    ensures marks { length state.new.marks.items ≡ length state.old.marks.items }
+{
+    let on0 = whole_request(number, v, n);
+    let first = v as usize;
+    let marks = &state.marks[first..first + n as usize];
+    let (listed, bytes) = read_blocks(alloc, plan, marks, on0, &mut state.used, rig)?;
+    state.pool.scatter(body, 0, &bytes);
+    request_reply(alloc, &listed)
+}
+
+/// Changes a stored block.
+fn overwrite<R: Rig>(dev: u32, lba: u64, change: &Change, rig: &mut R) -> Reply
+    requires { HasBlocks (is_some (R.image rig.old)) (R.standing rig.old) dev lba change.now }
+    ensures reply { (result ≡ Silent) ⊎ (result ≡ Medium) }
+    ensures altered { Altered dev lba change.now []
+        (record { units = R.units rig.old; armed = R.armed rig.old; standing = R.standing rig.old; log = R.log rig.old; faults = R.faults rig.old })
+        (record { units = R.units rig.new; armed = R.armed rig.new; standing = R.standing rig.new; log = R.log rig.new; faults = R.faults rig.new }) }
+    ensures medium { result ≡ Medium → Rose (R.faults rig.old) (R.faults rig.new) }
+    ensures tells { is_some (R.image rig.new) ≡ is_some (R.image rig.old) }
+    ensures standing { R.standing rig.new ≡ R.standing rig.old }
+{
+    match rig.overwrite(dev, lba, change) {
+        Ok(()) => Reply::Silent,
+        Err(_) => Reply::Medium,
+    }
+}
+
+/// Does op `at`, counted from 0.
+pub(crate) fn do_op<R: Rig>(
+    alloc: Global,
+    plan: &Plan,
+    state: &mut State,
+    at: usize,
+    rig: &mut R,
+) -> Result<Reply, AllocError>
+    requires plan { IsPlan plan.now }
+    requires rig { HasDevices plan.now.devices.items (is_some (R.image rig.old)) (R.standing rig.old) }
+    requires used { state.old.used ≤ length plan.now.script.schedule }
+    requires op { at < length plan.now.script.ops }
+    requires pages { length state.old.pool ≡ plan.now.script.pages }
+    requires marks { length state.old.marks.items ≡ plan.now.half }
+    ensures ran { RanOp plan.now.script plan.now.devices.items plan.now.half (at + 1) (op_at plan.now.script.ops at) state.old.pool state.old.used state.new.used
+        (record { units = R.units rig.old; armed = R.armed rig.old; standing = R.standing rig.old; log = R.log rig.old; faults = R.faults rig.old })
+        (record { units = R.units rig.new; armed = R.armed rig.new; standing = R.standing rig.new; log = R.log rig.new; faults = R.faults rig.new })
+        (λ runs. IfOk result (DidOp plan.now.script plan.now.half (at + 1) (op_at plan.now.script.ops at)
+        (record { pool = state.old.pool; marks = state.old.marks.items }) (record { pool = state.new.pool; marks = state.new.marks.items })
+        (record { units = R.units rig.old; armed = R.armed rig.old; standing = R.standing rig.old; log = R.log rig.old; faults = R.faults rig.old })
+        (record { units = R.units rig.new; armed = R.armed rig.new; standing = R.standing rig.new; log = R.log rig.new; faults = R.faults rig.new }) runs)) }
+    ensures tells { is_some (R.image rig.new) ≡ is_some (R.image rig.old) }
+    ensures standing { R.standing rig.new ≡ R.standing rig.old }
+    ensures used { state.new.used ≤ length plan.now.script.schedule }
+    ensures pages { length state.new.pool ≡ length state.old.pool }
+    ensures marks { length state.new.marks.items ≡ length state.old.marks.items }
+{
+    let number = at as u32 + 1;
+    match &plan.script.ops.as_slice()[at] {
+        Op::Fill { seg, byte } => {
+            fill(&mut state.pool, *seg, *byte);
+            Ok(Reply::Silent)
+        }
+        Op::Put { page, off, bytes } => {
+            put(&mut state.pool, *page, *off, bytes.as_slice());
+            Ok(Reply::Silent)
+        }
+        Op::Show { seg } => shown(alloc, &state.pool, *seg),
+        Op::Write { v, n, body, app } => write_blocks(
+            alloc, plan, state, number, *v, *n, body, *app, rig,
+        ),
+        Op::Fetch { v, n, body } => fetch_blocks(alloc, plan, state, number, *v, *n, body, rig),
+        Op::Overwrite { dev, lba, change } => Ok(overwrite(*dev, *lba, change, rig)),
+        Op::Seal { .. } | Op::WritePi { .. } | Op::FetchPi { .. } | Op::Wait => Ok(Reply::Silent),
+    }
+}
