@@ -1,0 +1,82 @@
+-- A script that was run on a mirror over an image.
+use Rattle.std.proofs.Common.{◌≡◌, ◌<◌, ◌≤◌, ℕ, ◌+◌, true, List, [], length, map, Option, Some, refl, sym, ap, ◌∙◌, subst}
+use Rattle.std.specs.Prelude.{is_some}
+use Rattle.dix_base.specs.Told.{Calm}
+use Rattle.fault_schedule.specs.declared.fault.FaultLine.{FaultLine}
+use Rattle.rig_api.specs.Telling.{IsStanding, Standing, specs_of, units_told}
+use Rattle.image_commands.specs.Views.{View}
+use Rattle.rig_discovery.specs.Discovery.{info_of}
+use Rattle.target_answer.specs.Target.{Stored}
+use Rattle.dix_adapter.specs.Ways.{shapes_of}
+use Rattle.volume_table.specs.declared.device.DeviceInfo.{DeviceInfo}
+use Rattle.script_text.specs.declared.script.Script.{Script}
+use Rattle.script_stack.specs.Followed.{SizesAre}
+use Rattle.script_stack.proofs.Following.{sizes-found, told-image, told-shapes, told-stored}
+use Rattle.script_verdict.proofs.Devices.{known_infos}
+use Rattle.script_verdict.specs.Verdict.{WasAsked}
+use Rattle.mirror_volume.specs.Standing.{HasDevices, IsBoundMirror}
+use Rattle.mirror_volume.specs.declared.mirror.Mirror.{Mirror}
+use Rattle.mirror_volume.proofs.Ground.{IsOver}
+use Rattle.mirror_verdict.specs.Premises.{IsOneGoodRun}
+use Rattle.mirror_verdict.specs.Stages.{Broke, Finished, stage_of}
+use Rattle.mirror_verdict.specs.Verdict.{HasMirrored, IsBegun, StoppedMidway, WasEnough, outside}
+use Rattle.mirror_verdict.specs.declared.mirrored.Mirrored.{Mirrored}
+use Rattle.mirror_verdict.proofs.Enough.{EqualLaw, ReadsLaw, was-enough}
+
+-- the rig has the devices that were asked
+pub has-devices : (name : List ℕ) (devices : List DeviceInfo) (old told : View) → WasAsked name devices old told → told.seen.units ≡ units_told told.standing told.image → HasDevices devices (is_some told.image) told.standing
+has-devices name devices old told asked laid = record {
+  count = asked.told.devices_are.count;
+  sizes = subst (λ (st : Standing). SizesAre devices st) (sym asked.told.since.standing) (sizes-found asked.told.between.standing devices _ _ asked.told.found);
+  told = λ tells. known_infos name devices old told asked laid tells;
+}
+
+-- A script was bound to a mirror over the devices of an image, and begun: from here on ops are done.
+pub record IsUp (s : Script) (name : List ℕ) (devices : List DeviceInfo) (old told : View) (begun : Mirror) : Type 0 where
+  pub asked : WasAsked name devices old told
+  pub bound : IsBoundMirror s devices
+  pub starts : IsBegun s devices begun
+  pub laid : told.seen.units ≡ units_told told.standing told.image
+  pub ready : IsStanding told.standing told.image
+
+-- over units that are told
+over-told : (s : Script) (name : List ℕ) (devices : List DeviceInfo) (old told : View) (begun : Mirror) (us : List Stored) → IsUp s name devices old told begun → told.seen.units ≡ Some us → IsOver s devices us
+over-told s name devices old told begun us up e =
+    let laid = sym up.laid ∙ e in
+    record {
+      bound = up.bound;
+      units = known_infos name devices old told up.asked up.laid (told-image told.standing told.image us laid) ∙ ap (map info_of) (sym (told-shapes told.standing told.image us laid up.ready));
+      stored = told-stored told.standing told.image us laid up.ready;
+    }
+
+module _ (reads : ReadsLaw) (equal : EqualLaw) (s : Script) (name : List ℕ) (devices : List DeviceInfo) (old told new : View) (begun : Mirror) (before armed : List FaultLine) (up : IsUp s name devices old told begun) (tells : is_some new.image ≡ is_some told.image) where
+  pub mirrored : (run : Mirrored) → Finished s devices (stage_of begun [] (outside told before)) run.mirror run.repair.repaired run.repair.lost (outside new armed) → HasMirrored run s name old new
+  mirrored run ended = record {
+    devices = devices;
+    told = told;
+    asked = up.asked;
+    bound = up.bound;
+    begun = begun;
+    starts = up.starts;
+    before = before;
+    armed = armed;
+    ended = ended;
+    tells = tells;
+    enough = λ us e calm p.
+        (let x = ended.told us e calm in
+        (x.0, (x.1.0, was-enough reads equal s devices us x.0 run.mirror.state.pool run.mirror.replies.items run.mirror.state.marks.items run.repair.repaired run.repair.lost (over-told s name devices old told begun us up e) p x.1.1)));
+  }
+
+  pub midway : Broke s devices (stage_of begun [] (outside told before)) (outside new armed) → StoppedMidway s name old new
+  midway broke = record {
+    devices = devices;
+    told = told;
+    asked = up.asked;
+    bound = up.bound;
+    begun = begun;
+    starts = up.starts;
+    before = before;
+    armed = armed;
+    broke = broke;
+    tells = tells;
+  }

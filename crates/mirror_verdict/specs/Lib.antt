@@ -1,0 +1,5 @@
+pub mod Stages
+pub mod Premises
+pub mod Texts
+pub mod Verdict
+pub mod Working

@@ -1,0 +1,131 @@
+use Rattle.std.specs.Prelude.{ℕ, ◌≡◌, ◌+◌, ◌<◌, ◌⊎◌, Bool, List, [], ◌∷◌, ◌++◌, length, is_some, Option, Some, None, Ok}
+use Rattle.dix_base.specs.Told.{Calm}
+use Rattle.fault_schedule.specs.declared.fault.FaultLine.{FaultLine}
+use Rattle.page_pool.specs.Cells.{flat, gather}
+use Rattle.page_pool.specs.declared.segs.Seg.{Seg}
+use Rattle.rig_api.specs.Head.{head_fault, head_of}
+use Rattle.image_commands.specs.Causes.{CauseUntold}
+use Rattle.image_commands.specs.Views.{View}
+use Rattle.image_commands.specs.declared.fault.Fault.TheVariants as fault
+use Rattle.dix_adapter.specs.Ways.{blocks_told}
+use Rattle.block_path.specs.Serial.{plain}
+use Rattle.stack_ops.specs.declared.op.Op.TheVariants.{Fetch}
+use Rattle.stack_ops.specs.declared.op.Op.{Op}
+use Rattle.target_answer.specs.Target.{Stored}
+use Rattle.volume_table.specs.Faults.{table_fault}
+use Rattle.volume_table.specs.Tables.{Table}
+use Rattle.volume_table.specs.declared.device.DeviceInfo.{DeviceInfo}
+use Rattle.whole_run.specs.Past.{steps_from}
+use Rattle.script_text.specs.Language.{script_in}
+use Rattle.script_text.specs.declared.fault.ScriptFault.{ScriptFault}
+use Rattle.script_text.specs.declared.script.Script.{Script}
+use Rattle.script_stack.specs.Going.{Outside}
+use Rattle.script_verdict.specs.Verdict.{CauseUntaken, Facts, HasBadVolume, HasRead, HasTable, IsFromOutside, StoppedShort, WasAsked, devices_of, table_over}
+use Rattle.script_verdict.specs.declared.refusal.Refusal.{Refusal}
+use Rattle.script_verdict.specs.declared.refusal.Refusal.TheVariants as refusal
+use Rattle.mirror_script.specs.MirrorFaults.{mirror_fault}
+use Rattle.mirror_walk.specs.OneGood.{HoldsProper, ReadsLast, last_of, on_leg}
+use Rattle.mirror_walk.specs.Mirror.{count_of}
+use Rattle.mirror_volume.specs.Plans.{IsMirror}
+use Rattle.mirror_volume.specs.Standing.{IsBoundMirror, half_of, mirror_setting}
+use Rattle.mirror_volume.specs.declared.mirror.Mirror.{Mirror}
+use Rattle.mirror_verdict.specs.Premises.{IsOneGoodRun}
+use Rattle.mirror_verdict.specs.Stages.{Broke, Finished, opening_over, stage_of}
+use Rattle.mirror_verdict.specs.declared.mirrored.Mirrored.{Mirrored}
+
+-- what a rig shows of itself to the runs on the legs, with these faults armed
+abbrev pub outside : View → List FaultLine → Outside
+outside v armed = record { units = v.seen.units; armed = armed; standing = v.standing; log = v.seen.log; faults = v.seen.faults }
+
+-- The mirror of a script over these devices, none of whose ops is done: all blocks are fresh on both legs, and no entry of the schedule is used.
+pub record IsBegun (s : Script) (devices : List DeviceInfo) (begun : Mirror) : Type 0 where
+  pub mirror : IsMirror begun
+  pub script_is : begun.plan.script ≡ s
+  pub devices_are : begun.plan.devices.items ≡ devices
+  pub none : begun.replies.items ≡ []
+  pub unused : begun.state.used ≡ 0
+
+-- ---- one good leg is enough
+
+-- Each read is whole, and each of its blocks has the data that were last accepted.
+abbrev pub AllReadLast : Script → List DeviceInfo → List Stored → Type 0
+AllReadLast s devices us = (before after : List Op) (v n : ℕ) (body : List Seg) → s.ops ≡ before ++ (Fetch v n body ∷ after) → ReadsLast (mirror_setting s devices us) (half_of s devices) s.ops before v n body (opening_over s us)
+
+-- Both legs hold what was last accepted of each block, under a proper tuple.
+abbrev pub BothHoldLast : Script → List DeviceInfo → List Stored → (left : List Stored) → Type 0
+BothHoldLast s devices us left = (u : ℕ) → u < half_of s devices → (leg : Bool)
+    → HoldsProper (mirror_setting s devices us) (on_leg leg u (half_of s devices + u)) (last_of (mirror_setting s devices us) (half_of s devices) (count_of s.ops) (steps_from (mirror_setting s devices us) 1 s.ops) (opening_over s us) u) (blocks_told left)
+
+-- Reads got the last accepted write, and after the repair no block is lost and both legs hold it.
+pub record WasEnough (s : Script) (devices : List DeviceInfo) (us left : List Stored) (lost : ℕ) : Type 0 where
+  pub reads : AllReadLast s devices us
+  pub equal : BothHoldLast s devices us left
+  pub lost_none : lost ≡ 0
+
+-- ---- a script that was run on a mirror
+
+-- The image was opened, its devices told what they are, the script was bound to a mirror over them, its ops were done, and then the repair. `ended` says by which runs on the legs, and what these left; over a rig that tells its blocks, and whose count of faults didn't rise, it is the mirror's walk and its repair. `enough` says when one good leg was enough.
+pub record HasMirrored (run : Mirrored) (s : Script) (name : List ℕ) (old new : View) : Type 0 where
+  pub devices : List DeviceInfo
+  pub told : View
+  pub asked : WasAsked name devices old told
+  pub bound : IsBoundMirror s devices
+  pub begun : Mirror
+  pub starts : IsBegun s devices begun
+  pub before : List FaultLine
+  pub armed : List FaultLine
+  pub ended : Finished s devices (stage_of begun [] (outside told before)) run.mirror run.repair.repaired run.repair.lost (outside new armed)
+  pub tells : is_some new.image ≡ is_some told.image
+  pub enough : (us : List Stored) → told.seen.units ≡ Some us → Calm told.seen.faults new.seen.faults → IsOneGoodRun s devices us
+      → (left : List Stored) × ((new.seen.units ≡ Some left) × WasEnough s devices us left run.repair.lost)
+
+-- The source was read to its end, and its script was run on a mirror.
+pub record HasMirroredSource (run : Mirrored) (f : Facts) : Type 0 where
+  pub script : Script
+  pub read : HasRead script f.left f.left_after
+  pub ran : HasMirrored run script f.name f.rig f.rig_after
+
+-- ---- and one that wasn't
+
+-- No entry is at fault, and the script has a fault on a mirror over its volume, the first.
+pub record IsUnbound (bad : ScriptFault) (s : Script) (name : List ℕ) (old new : View) : Type 0 where
+  pub devices : List DeviceInfo
+  pub asked : WasAsked name devices old new
+  pub table : Table
+  pub made : HasTable s devices table
+  pub bound : mirror_fault s table devices ≡ Some bad
+
+-- Memory was wanting in the middle: some ops were done, and the next one, or the repair, was broken off.
+pub record StoppedMidway (s : Script) (name : List ℕ) (old new : View) : Type 0 where
+  pub devices : List DeviceInfo
+  pub told : View
+  pub asked : WasAsked name devices old told
+  pub bound : IsBoundMirror s devices
+  pub begun : Mirror
+  pub starts : IsBegun s devices begun
+  pub before : List FaultLine
+  pub armed : List FaultLine
+  pub broke : Broke s devices (stage_of begun [] (outside told before)) (outside new armed)
+  pub tells : is_some new.image ≡ is_some told.image
+
+-- Why a script wasn't run on a mirror to its end, and what that leaves.
+abbrev pub CauseStopped : Refusal → Script → List ℕ → View → View → Type 0
+CauseStopped (refusal.Script bad) s name old new = IsUnbound bad s name old new
+CauseStopped (refusal.Image x) s name old new = CauseUntold (fault.Image x) name old new
+CauseStopped (refusal.BadCapacity dev) s name old new = CauseUntold (fault.BadCapacity dev) name old new
+CauseStopped (refusal.Volume entry kind) s name old new = HasBadVolume entry kind s name old new
+CauseStopped refusal.RigFault s name old new = CauseUntold fault.RigFault name old new
+CauseStopped refusal.Memory s name old new = StoppedShort name old new ⊎ StoppedMidway s name old new
+CauseStopped refusal.ReadFault s name old new = ⊥
+
+-- Why a call doesn't come to its end: the source gives no script, and the rig is as before; or it was read to its end, and its script stopped.
+abbrev pub CauseRefused : Refusal → Facts → Type 0
+CauseRefused r f =
+    (CauseUntaken r f.left f.left_after f.reads f.reads_after × (f.rig_after ≡ f.rig))
+    ⊎ ((s : Script) × HasRead s f.left f.left_after × CauseStopped r s f.name f.rig f.rig_after)
+
+-- A text of the language, an image whose head is right, and a script without a fault on a mirror over it, and no fault of the source: then nothing in them is refused.
+abbrev pub IsComplete : Refusal → Facts → Type 0
+IsComplete r f =
+    (text image : List ℕ) (s : Script) → f.left ≡ Some text → script_in text ≡ Ok s → f.rig.image ≡ Some image → head_fault (head_of image) ≡ None → table_fault s.entries (devices_of image) s.block ≡ None →
+    mirror_fault s (table_over s.entries (devices_of image)) (devices_of image) ≡ None → Calm f.reads f.reads_after → IsFromOutside r

@@ -1,0 +1,58 @@
+//! A script and the devices of its mirror.
+
+ghost use Rattle.std.specs.Prelude.{MatchResult};
+ghost use Rattle.image_commands.specs.Views.{seen, view};
+ghost use Rattle.rig_discovery.specs.Discovery.{Ends};
+ghost use Rattle.script_verdict.specs.Working.{IsSound};
+ghost use Rattle.mirror_verdict.specs.Verdict.{CauseStopped};
+ghost use Rattle.mirror_verdict.specs.Working.{CauseUnbound, IsBound, IsFree};
+
+use image_commands::told_devices;
+use mirror_script::bind_mirror;
+use rig_api::Rig;
+use script_text::Script;
+use script_verdict::{Refusal, table_of};
+use std::alloc::Global;
+use volume_table::DeviceInfo;
+
+/// Whether the script may run on a mirror over the volume of these devices.
+fn bind_over(alloc: Global, script: &Script, devices: &[DeviceInfo]) -> Result<(), Refusal>
+    requires sound { IsSound script.now }
+    requires ends { Ends devices.now }
+    ensures { MatchResult result (λ u. IsFree script.now devices.now) (λ r. CauseUnbound r script.now devices.now) }
+{
+    let table = match table_of(alloc, script, devices) {
+        Ok(table) => table,
+        Err(refusal) => return Err(refusal),
+    };
+    match bind_mirror(script, &table, devices) {
+        Ok(()) => Ok(()),
+        Err(fault) => Err(Refusal::Script(fault)),
+    }
+}
+
+/// Opens the image, asks its devices what they are, and binds the script to a mirror over them.
+pub(crate) fn bind<R: Rig>(
+    alloc: Global,
+    image: &str,
+    script: &Script,
+    rig: &mut R,
+) -> Result<Vec<DeviceInfo>, Refusal>
+    requires { IsSound script.now }
+    ensures { let old = view (R.image rig.old) (R.standing rig.old) (seen (R.units rig.old) (R.log rig.old) (R.faults rig.old)) in
+        let new = view (R.image rig.new) (R.standing rig.new) (seen (R.units rig.new) (R.log rig.new) (R.faults rig.new)) in
+        MatchResult result (λ v. IsBound script.now v.items image.now old new) (λ r. CauseStopped r script.now image.now old new) }
+{
+    let found = match told_devices(alloc, image, rig) {
+        Ok(found) => found,
+        Err(fault) => return Err(Refusal::of(fault)),
+    };
+    match bind_over(alloc, script, &found) {
+        Ok(()) => {}
+        Err(refusal) => return Err(refusal),
+    }
+    match Vec::from_slice(alloc, &found) {
+        Ok(devices) => Ok(devices),
+        Err(_) => Err(Refusal::Memory),
+    }
+}

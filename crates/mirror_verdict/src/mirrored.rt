@@ -1,0 +1,104 @@
+//! The run of a script on a mirror.
+
+ghost use Rattle.std.specs.Prelude.{◌≡◌, IfErr, MatchResult};
+ghost use Rattle.image_commands.specs.Views.{seen, view};
+ghost use Rattle.script_verdict.specs.Verdict.{Facts};
+ghost use Rattle.script_verdict.specs.Working.{IsSound};
+ghost use Rattle.mirror_verdict.specs.Texts.{is_any_lost};
+ghost use Rattle.mirror_verdict.specs.Verdict.{CauseRefused, CauseStopped, HasMirrored, HasMirroredSource, IsComplete};
+
+use crate::binding::bind;
+use crate::serving::serve;
+use dix_base::Source;
+use mirror_volume::{Mirror, Repair};
+use mirror_walk::{a_mirror_reads_the_last_write, a_repair_makes_both_legs_equal};
+use rig_api::Rig;
+use script_text::Script;
+use script_verdict::{Refusal, is_any_bad, take_script};
+use std::alloc::Global;
+
+/// A script that was run on a mirror to its end, and repaired.
+#[derive(Drop)]
+pub struct Mirrored {
+    /// The mirror, all of whose ops are done.
+    pub mirror: Mirror,
+    /// What its repair did.
+    pub repair: Repair,
+}
+
+/// Runs a script on a mirror over the image of this name: opens the image, asks all of its devices what they are, binds
+/// the script to a mirror over them, does its ops one after another on both legs, and repairs the mirror.
+///
+/// The script keeps the rules of its language. Where memory is wanting in the middle, blocks of the op under way may
+/// stand on one leg.
+pub fn run_mirror<R: Rig>(
+    alloc: Global,
+    image: &str,
+    script: Script,
+    rig: &mut R,
+) -> Result<Mirrored, Refusal>
+    requires { IsSound script }
+    ensures { let old = view (R.image rig.old) (R.standing rig.old) (seen (R.units rig.old) (R.log rig.old) (R.faults rig.old)) in
+        let new = view (R.image rig.new) (R.standing rig.new) (seen (R.units rig.new) (R.log rig.new) (R.faults rig.new)) in
+        MatchResult result (λ r. HasMirrored r script image.now old new) (λ r. CauseStopped r script image.now old new) }
+{
+    let devices = match bind(alloc, image, &script, rig) {
+        Ok(devices) => devices,
+        Err(refusal) => return Err(refusal),
+    };
+    let count = script.ops.as_slice().len();
+    let mut mirror = match Mirror::new(alloc, script, devices) {
+        Ok(mirror) => mirror,
+        Err(_) => return Err(Refusal::Memory),
+    };
+    a_mirror_reads_the_last_write();
+    a_repair_makes_both_legs_equal();
+    match serve(alloc, &mut mirror, count, rig) {
+        Ok(repair) => Ok(Mirrored { mirror, repair }),
+        Err(_) => Err(Refusal::Memory),
+    }
+}
+
+/// Reads the script that the source holds, to its end but no further than one byte more than a script may have, and then
+/// runs it on a mirror over the image of this name.
+pub fn mirror_source<S: Source, R: Rig>(
+    alloc: Global,
+    image: &str,
+    source: &mut S,
+    rig: &mut R,
+) -> Result<Mirrored, Refusal>
+    ensures verdict { let f : Facts = record {
+      name = image.now;
+      left = S.left source.old;
+      left_after = S.left source.new;
+      reads = S.faults source.old;
+      reads_after = S.faults source.new;
+      rig = view (R.image rig.old) (R.standing rig.old) (seen (R.units rig.old) (R.log rig.old) (R.faults rig.old));
+      rig_after = view (R.image rig.new) (R.standing rig.new) (seen (R.units rig.new) (R.log rig.new) (R.faults rig.new));
+    } in
+        MatchResult result (λ r. HasMirroredSource r f) (λ r. CauseRefused r f) }
+    ensures complete { let f : Facts = record {
+      name = image.now;
+      left = S.left source.old;
+      left_after = S.left source.new;
+      reads = S.faults source.old;
+      reads_after = S.faults source.new;
+      rig = view (R.image rig.old) (R.standing rig.old) (seen (R.units rig.old) (R.log rig.old) (R.faults rig.old));
+      rig_after = view (R.image rig.new) (R.standing rig.new) (seen (R.units rig.new) (R.log rig.new) (R.faults rig.new));
+    } in
+        IfErr result (λ r. IsComplete r f) }
+{
+    match take_script(alloc, source) {
+        Ok(script) => run_mirror(alloc, image, script, rig),
+        Err(refusal) => Err(refusal),
+    }
+}
+
+impl Mirrored {
+    /// Whether some block failed, some stored block couldn't be altered, or some block is lost.
+    pub fn has_bad(&self) -> bool
+        ensures { result ≡ is_any_lost self.now.mirror.replies.items self.now.repair.lost }
+    {
+        is_any_bad(self.mirror.replies()) || self.repair.lost != 0
+    }
+}
