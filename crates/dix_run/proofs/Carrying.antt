@@ -12,15 +12,18 @@ use Rattle.nvme_command.specs.declared.fault.NvmFault.TheVariants as nvm
 use Rattle.nvme_command.proofs.Completes.{spared_alone}
 use Rattle.dix_words.specs.Grammar.{command_in, image_in}
 use Rattle.dix_words.specs.declared.command.Command.{Command}
-use Rattle.dix_words.specs.declared.command.Command.TheVariants.{Run, Trace, Format, Migrate, Scrub, Nvme, Modes, Big}
+use Rattle.dix_words.specs.declared.command.Command.TheVariants.{Run, Trace, Format, Migrate, Mirror, Scrub, Nvme, Modes, Big}
+use Rattle.mirror_verdict.proofs.Completing.{complete as mirror_complete}
+use Rattle.mirror_verdict.specs.Texts.{is_any_lost}
+use Rattle.mirror_verdict.specs.Verdict.{IsComplete as MirrorComplete}
 use Rattle.script_verdict.proofs.Completing.{complete, never_rose, no_head_fault, told_is_good}
 use Rattle.script_verdict.specs.Verdict.{IsComplete}
 use Rattle.script_verdict.specs.declared.refusal.Refusal.{Refusal as Stop}
 use Rattle.script_verdict.specs.declared.refusal.Refusal.TheVariants as stop
-use Rattle.dix_run.specs.Headline.{BigIsComplete, Carries, FormatIsComplete, IsRun, MigrateIsComplete, ModesIsComplete, NvmeIsComplete, RunIsComplete, RunsScript, ScrubIsComplete}
+use Rattle.dix_run.specs.Headline.{BigIsComplete, Carries, FormatIsComplete, IsRun, MigrateIsComplete, MirrorIsComplete, ModesIsComplete, NvmeIsComplete, RunIsComplete, RunsScript, ScrubIsComplete}
 use Rattle.dix_run.specs.ScrubText.{has_some}
 use Rattle.script_verdict.specs.Texts.{has_bad}
-use Rattle.dix_run.specs.Verdict.{ByFault, ByNvmFault, Cause, CauseByCommand, CauseNotRun, Commanded, Ended, Facts, Formatted, Generated, Mapped, Migrated, Refused, Reported, Scrubbed, Traced, Verdict, Written, call_of, done_status, fault_of, nvm_fault_of, status_of, verdict_status, verdict_text}
+use Rattle.dix_run.specs.Verdict.{ByFault, ByNvmFault, Cause, CauseByCommand, CauseNotMirrored, CauseNotRun, Commanded, Ended, Facts, Formatted, Generated, Mapped, Migrated, Refused, Reported, Scrubbed, Served, Traced, Verdict, Written, call_of, done_status, fault_of, nvm_fault_of, status_of, verdict_status, verdict_text}
 use Rattle.dix_run.specs.declared.refusal.Refusal.{Refusal}
 use Rattle.dix_run.specs.declared.refusal.Refusal.TheVariants as refusal
 use Rattle.dix_run.specs.declared.status.Status.{Status}
@@ -53,6 +56,7 @@ by_verdict f (Reported replies) P refused done c = done _ (done_is (has_bad repl
 by_verdict f (Traced replies log) P refused done c = done _ (done_is (has_bad replies))
 by_verdict f (Formatted n) P refused done c = done _ (inl refl)
 by_verdict f (Migrated n) P refused done c = done _ (inl refl)
+by_verdict f (Served replies repaired lost) P refused done c = done _ (done_is (is_any_lost replies lost))
 by_verdict f (Scrubbed ds found) P refused done c = done _ (done_is (has_some found))
 by_verdict f (Commanded bad text) P refused done c = done _ (done_is bad)
 by_verdict f (Mapped ty) P refused done c = done _ (inl refl)
@@ -60,13 +64,13 @@ by_verdict f (Generated n seed b) P refused done c = done _ (done_is b.has_bad)
 
 -- ---- run and trace
 
+stopped_from_outside : (s : Stop) → (s ≡ stop.Memory) ⊎ (s ≡ stop.RigFault) → (status_of (refusal.Stopped s) ≡ status.Memory) ⊎ (status_of (refusal.Stopped s) ≡ status.RigFault)
+stopped_from_outside s (inl e) = inl (ap (λ (x : Stop). status_of (refusal.Stopped x)) e)
+stopped_from_outside s (inr e) = inr (ap (λ (x : Stop). status_of (refusal.Stopped x)) e)
+
 from_outside : (f : Facts) (r : Refusal) → CauseNotRun r f → ((s : Stop) → IsComplete s (call_of f) → (s ≡ stop.Memory) ⊎ (s ≡ stop.RigFault)) → (status_of r ≡ status.Memory) ⊎ (status_of r ≡ status.RigFault)
 from_outside f refusal.Words c alone = absurd c
-from_outside f (refusal.Stopped s) c alone = by (alone s (complete s (call_of f) c))
-  where
-    by : (s ≡ stop.Memory) ⊎ (s ≡ stop.RigFault) → (status_of (refusal.Stopped s) ≡ status.Memory) ⊎ (status_of (refusal.Stopped s) ≡ status.RigFault)
-    by (inl e) = inl (ap (λ (x : Stop). status_of (refusal.Stopped x)) e)
-    by (inr e) = inr (ap (λ (x : Stop). status_of (refusal.Stopped x)) e)
+from_outside f (refusal.Stopped s) c alone = stopped_from_outside s (alone s (complete s (call_of f) c))
 
 not_run_at : (f : Facts) (r : Refusal) → RunsScript f.words → CauseByCommand (command_in f.words) r f → CauseNotRun r f
 not_run_at f r (inl e) cause = cause_at f Run r e cause
@@ -77,6 +81,18 @@ run_completes f taken taken' o n result ended = λ text image script named l s i
     rw (as_written ended.verdict taken taken' o n result co ended.written)
     (by_verdict f ended.verdict (λ x. IsRun x ⊎ (x ≡ status.Memory) ⊎ (x ≡ status.RigFault))
     (λ r cause. inr (from_outside f r (not_run_at f r named cause) (λ x whole. whole text image script l s i h t b cr))) (λ x run. inl run) ended.cause)
+
+-- ---- mirror
+
+mirror_from_outside : (f : Facts) (r : Refusal) → CauseNotMirrored r f → ((s : Stop) → MirrorComplete s (call_of f) → (s ≡ stop.Memory) ⊎ (s ≡ stop.RigFault)) → (status_of r ≡ status.Memory) ⊎ (status_of r ≡ status.RigFault)
+mirror_from_outside f refusal.Words c alone = absurd c
+mirror_from_outside f (refusal.Stopped s) c alone = stopped_from_outside s (alone s (mirror_complete s (call_of f) c))
+
+mirror_completes : (f : Facts) (taken taken' : Option (List ℕ)) (o n : ℕ) (result : Status) → Ended f taken taken' o n result → MirrorIsComplete f o n result
+mirror_completes f taken taken' o n result ended = λ text image script named l s i h t b cr co.
+    rw (as_written ended.verdict taken taken' o n result co ended.written)
+    (by_verdict f ended.verdict (λ x. IsRun x ⊎ (x ≡ status.Memory) ⊎ (x ≡ status.RigFault))
+    (λ r cause. inr (mirror_from_outside f r (cause_at f Mirror r named cause) (λ x whole. whole text image script l s i h t b cr))) (λ x run. inl run) ended.cause)
 
 -- ---- the commands on images
 
@@ -127,6 +143,7 @@ format_verdict f us (Reported replies) e calm c = let k = other f.words (Format 
 format_verdict f us (Traced replies log) e calm c = let k = other f.words (Format us) Trace e c.named in absurd (cc)
 format_verdict f us (Formatted n) e calm c = inl refl
 format_verdict f us (Migrated n) e calm c = inl refl
+format_verdict f us (Served replies repaired lost) e calm c = let k = other f.words (Format us) Mirror e c.named in absurd (cc)
 format_verdict f us (Scrubbed ds found) e calm c = let k = other f.words (Format us) Scrub e c.named in absurd (cc)
 format_verdict f us (Commanded bad text) e calm c = let k = other f.words (Format us) Nvme e c.named in absurd (cc)
 format_verdict f us (Mapped ty) e calm c = inl refl
@@ -138,6 +155,7 @@ migrate_verdict f image (Reported replies) e i h calm c = let k = other f.words 
 migrate_verdict f image (Traced replies log) e i h calm c = let k = other f.words Migrate Trace e c.named in absurd (cc)
 migrate_verdict f image (Formatted n) e i h calm c = inl refl
 migrate_verdict f image (Migrated n) e i h calm c = inl refl
+migrate_verdict f image (Served replies repaired lost) e i h calm c = let k = other f.words Migrate Mirror e c.named in absurd (cc)
 migrate_verdict f image (Scrubbed ds found) e i h calm c = let k = other f.words Migrate Scrub e c.named in absurd (cc)
 migrate_verdict f image (Commanded bad text) e i h calm c = let k = other f.words Migrate Nvme e c.named in absurd (cc)
 migrate_verdict f image (Mapped ty) e i h calm c = inl refl
@@ -149,6 +167,7 @@ modes_verdict f ty (Reported replies) e c = let k = other f.words (Modes ty) Run
 modes_verdict f ty (Traced replies log) e c = let k = other f.words (Modes ty) Trace e c.named in absurd (cc)
 modes_verdict f ty (Formatted n) e c = inl refl
 modes_verdict f ty (Migrated n) e c = inl refl
+modes_verdict f ty (Served replies repaired lost) e c = let k = other f.words (Modes ty) Mirror e c.named in absurd (cc)
 modes_verdict f ty (Scrubbed ds found) e c = let k = other f.words (Modes ty) Scrub e c.named in absurd (cc)
 modes_verdict f ty (Commanded bad text) e c = let k = other f.words (Modes ty) Nvme e c.named in absurd (cc)
 modes_verdict f ty (Mapped t) e c = inl refl
@@ -189,6 +208,7 @@ carried f taken taken' o n result ended = record {
   runs = run_completes f taken taken' o n result ended;
   formats = format_completes f taken taken' o n result ended;
   migrates = migrate_completes f taken taken' o n result ended;
+  mirrors = mirror_completes f taken taken' o n result ended;
   scrubs = scrub_completes f taken taken' o n result ended;
   commands = nvme_completes f taken taken' o n result ended;
   maps = modes_completes f taken taken' o n result ended;

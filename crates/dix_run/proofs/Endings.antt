@@ -22,10 +22,13 @@ use Rattle.script_verdict.specs.Texts.{has_bad}
 use Rattle.script_verdict.specs.Verdict.{CauseRefused, HasRun, HasRunSource}
 use Rattle.script_verdict.specs.declared.refusal.Refusal.{Refusal as Stop}
 use Rattle.script_verdict.specs.declared.verdict.Finished.{Finished}
+use Rattle.mirror_verdict.specs.Texts.{is_any_lost, mirror_text}
+use Rattle.mirror_verdict.specs.Verdict.{CauseRefused as CauseUnmirrored, HasMirroredSource}
+use Rattle.mirror_verdict.specs.declared.mirrored.Mirrored.{Mirrored}
 use Rattle.big_run.specs.Ran.{RanBig}
 use Rattle.big_run.specs.declared.running.BigRun.{BigRun}
 use Rattle.dix_run.specs.Headline.{RunsScript}
-use Rattle.dix_run.specs.Verdict.{CauseByCommand, Commanded, Ended, Facts, Formatted, Generated, LeavesSource, Mapped, Migrated, Refused, Reported, Scrubbed, Traced, Written, call_of, done_status, fault_of, no_memory, nvm_fault_of, refusal_text, status_of, verdict_status, verdict_text}
+use Rattle.dix_run.specs.Verdict.{CauseByCommand, Commanded, Ended, Facts, Formatted, Generated, LeavesSource, Mapped, Migrated, Refused, Reported, Scrubbed, Served, Traced, Written, call_of, done_status, fault_of, no_memory, nvm_fault_of, refusal_text, status_of, verdict_status, verdict_text}
 use Rattle.dix_run.specs.declared.refusal.Refusal.{Refusal}
 use Rattle.dix_run.specs.declared.refusal.Refusal.TheVariants as refusal
 use Rattle.dix_run.specs.declared.status.Status.{Status}
@@ -33,18 +36,18 @@ use Rattle.dix_run.specs.declared.status.Status.TheVariants as status
 
 -- A call came to its end.
 
--- no command, or one that isn't built
-abbrev pub not_built : Option Command → Bool
-not_built None = true
-not_built (Some Run) = false
-not_built (Some Trace) = false
-not_built (Some (Format us)) = false
-not_built (Some Migrate) = false
-not_built (Some Mirror) = true
-not_built (Some Scrub) = false
-not_built (Some Nvme) = false
-not_built (Some (Modes ty)) = false
-not_built (Some (Big n seed)) = false
+-- words that are no command
+abbrev pub is_no_command : Option Command → Bool
+is_no_command None = true
+is_no_command (Some Run) = false
+is_no_command (Some Trace) = false
+is_no_command (Some (Format us)) = false
+is_no_command (Some Migrate) = false
+is_no_command (Some Mirror) = false
+is_no_command (Some Scrub) = false
+is_no_command (Some Nvme) = false
+is_no_command (Some (Modes ty)) = false
+is_no_command (Some (Big n seed)) = false
 
 -- a call of run IMAGE that ran the script
 pub ended_run : (f : Facts) (run : Finished) (old new : Option (List ℕ)) (o n : ℕ) (result : Status) → command_in f.words ≡ Some Run → HasRunSource run (call_of f) →
@@ -84,17 +87,31 @@ pub unrun : (f : Facts) (s : Stop) (old new : Option (List ℕ)) (o n : ℕ) (re
 unrun f s old new o n result (inl named) cause written = record { verdict = Refused (refusal.Stopped s); cause = (rw named cause); written = written }
 unrun f s old new o n result (inr named) cause written = record { verdict = Refused (refusal.Stopped s); cause = (rw named cause); written = written }
 
--- a call of no command that is built
-pub ended_none : (f : Facts) (old new : Option (List ℕ)) (o n : ℕ) (result : Status) → f.rig_after ≡ f.rig → LeavesSource f → not_built (command_in f.words) ≡ true → Written status.Words (refusal_text refusal.Words) old new o n result → Ended f old new o n result
+-- a call of mirror IMAGE that ran the script
+pub ended_mirror : (f : Facts) (run : Mirrored) (old new : Option (List ℕ)) (o n : ℕ) (result : Status) → command_in f.words ≡ Some Mirror → HasMirroredSource run (call_of f) →
+    Written (done_status (is_any_lost run.mirror.replies.items run.repair.lost)) (mirror_text run.mirror.replies.items run.repair.repaired run.repair.lost) old new o n result → Ended f old new o n result
+ended_mirror f run old new o n result named ran written = record {
+  verdict = Served run.mirror.replies.items run.repair.repaired run.repair.lost;
+  cause = record { named = named; run = run; ran = ran; replies_are = refl; repaired_is = refl; lost_is = refl };
+  written = written;
+}
+
+-- and one that didn't, or not to its end
+pub unmirrored : (f : Facts) (s : Stop) (old new : Option (List ℕ)) (o n : ℕ) (result : Status) → command_in f.words ≡ Some Mirror → CauseUnmirrored s (call_of f) →
+    Written (status_of (refusal.Stopped s)) (refusal_text (refusal.Stopped s)) old new o n result → Ended f old new o n result
+unmirrored f s old new o n result named cause written = record { verdict = Refused (refusal.Stopped s); cause = (rw named cause); written = written }
+
+-- a call of no command
+pub ended_none : (f : Facts) (old new : Option (List ℕ)) (o n : ℕ) (result : Status) → f.rig_after ≡ f.rig → LeavesSource f → is_no_command (command_in f.words) ≡ true → Written status.Words (refusal_text refusal.Words) old new o n result → Ended f old new o n result
 ended_none f old new o n result rig source none written = record { verdict = Refused refusal.Words; cause = by (command_in f.words) none; written = written }
   where
-    by : (c : Option Command) → not_built c ≡ true → CauseByCommand c refusal.Words f
+    by : (c : Option Command) → is_no_command c ≡ true → CauseByCommand c refusal.Words f
     by None e = (refl, rig, source)
     by (Some Run) e = absurd (cc)
     by (Some Trace) e = absurd (cc)
     by (Some (Format us)) e = absurd (cc)
     by (Some Migrate) e = absurd (cc)
-    by (Some Mirror) e = (refl, rig, source)
+    by (Some Mirror) e = absurd (cc)
     by (Some Scrub) e = absurd (cc)
     by (Some Nvme) e = absurd (cc)
     by (Some (Modes ty)) e = absurd (cc)

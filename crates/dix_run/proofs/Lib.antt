@@ -1,6 +1,5 @@
 mod Carrying
 mod Endings
-mod Flow
 mod Layouts
 mod Opening
 mod ScrubLines

@@ -1,4 +1,4 @@
-use Rattle.std.proofs.Common.{ℕ, ◌≡◌, inl, inr, List, Option, Some, None, ap, ◌∙◌}
+use Rattle.std.proofs.Common.{ℕ, ◌≡◌, ◌⊎◌, inl, inr, List, Option, Some, None, ap, ◌∙◌}
 use Rattle.image_commands.specs.Causes.{CauseUnformatted, CauseUnmigrated, CauseUnscrubbed, CauseUntold, HasOpened}
 use Rattle.image_commands.specs.Views.{OpenedOnce, View}
 use Rattle.image_commands.specs.declared.fault.Fault.{Fault}
@@ -10,12 +10,14 @@ use Rattle.dix_words.specs.Grammar.{command_in, image_in}
 use Rattle.dix_words.specs.declared.command.Command.{Command}
 use Rattle.dix_words.specs.declared.command.Command.TheVariants.{Run, Trace, Format, Migrate, Mirror, Scrub, Nvme, Modes, Big}
 use Rattle.script_text.specs.declared.script.Script.{Script}
+use Rattle.mirror_verdict.specs.Verdict.{CauseRefused as CauseUnmirrored, CauseStopped as CauseMidway, HasMirroredSource, StoppedMidway}
+use Rattle.mirror_verdict.specs.declared.mirrored.Mirrored.{Mirrored}
 use Rattle.script_verdict.specs.Verdict.{CauseRefused, CauseStopped, HasRunSource, StoppedShort}
 use Rattle.script_verdict.specs.declared.refusal.Refusal.{Refusal as Stop}
 use Rattle.script_verdict.specs.declared.refusal.Refusal.TheVariants as stop
 use Rattle.script_verdict.specs.declared.verdict.Finished.{Finished}
 use Rattle.dix_run.specs.Headline.{OpensOnce}
-use Rattle.dix_run.specs.Verdict.{ByFault, ByNvmFault, Cause, CauseByCommand, CauseNotRun, Commanded, Ended, Facts, Formatted, Generated, HasNoCommand, Mapped, Migrated, Refused, Reported, Scrubbed, Traced, Verdict, WantsMemory, call_of, fault_of, nvm_fault_of}
+use Rattle.dix_run.specs.Verdict.{ByFault, ByNvmFault, Cause, CauseByCommand, CauseNotMirrored, CauseNotRun, Commanded, Ended, Facts, Formatted, Generated, HasNoCommand, Mapped, Migrated, Refused, Reported, Scrubbed, Served, Traced, Verdict, WantsMemory, call_of, fault_of, nvm_fault_of}
 use Rattle.dix_run.specs.declared.refusal.Refusal.{Refusal}
 use Rattle.dix_run.specs.declared.refusal.Refusal.TheVariants as refusal
 use Rattle.dix_run.specs.declared.status.Status.{Status}
@@ -63,6 +65,28 @@ not_run_opens f (refusal.Stopped s) c = refused_opens f s c
 run_opens : (f : Facts) (run : Finished) → HasRunSource run (call_of f) → OpensOnce f
 run_opens f run r = opened_on (image_in f.words) f.rig r.ran.asked.told.between r.ran.told f.rig_after r.ran.asked.told.since r.ran.followed.goes.standing
 
+-- a script on a mirror that stopped, maybe in its middle
+midway_opens : (s : Script) (name : List ℕ) (old new : View) → StoppedShort name old new ⊎ StoppedMidway s name old new → OpenedOnce name old.standing new.standing
+midway_opens s name old new (inl c) = short_opens name old new c
+midway_opens s name old new (inr c) = opened_on name old c.asked.told.between c.told new c.asked.told.since (c.broke.under_way.standing ∙ c.broke.served.stretches.standing)
+
+unmirrored_opens : (s : Stop) (script : Script) (name : List ℕ) (old new : View) → CauseMidway s script name old new → OpenedOnce name old.standing new.standing
+unmirrored_opens (stop.Script bad) script name old new c = opened_still name old c.asked.told.between new c.asked.told.since
+unmirrored_opens (stop.Image x) script name old new c = untold_opens (fault.Image x) name old new c
+unmirrored_opens (stop.BadCapacity dev) script name old new c = untold_opens (fault.BadCapacity dev) name old new c
+unmirrored_opens (stop.Volume entry kind) script name old new c = opened_still name old c.asked.told.between new c.asked.told.since
+unmirrored_opens stop.RigFault script name old new c = untold_opens fault.RigFault name old new c
+unmirrored_opens stop.Memory script name old new c = midway_opens script name old new c
+unmirrored_opens stop.ReadFault script name old new c = absurd c
+
+not_mirrored_opens : (f : Facts) (r : Refusal) → CauseNotMirrored r f → OpensOnce f
+not_mirrored_opens f refusal.Words c = absurd c
+not_mirrored_opens f (refusal.Stopped s) (inl c) = inl (stayed f.rig f.rig_after c.1)
+not_mirrored_opens f (refusal.Stopped s) (inr c) = unmirrored_opens s c.0 (image_in f.words) f.rig f.rig_after c.2
+
+mirror_opens : (f : Facts) (run : Mirrored) → HasMirroredSource run (call_of f) → OpensOnce f
+mirror_opens f run r = opened_on (image_in f.words) f.rig r.ran.asked.told.between r.ran.told f.rig_after r.ran.asked.told.since r.ran.ended.stretches.standing
+
 format_opens : (x : Option Fault) (name : List ℕ) (old new : View) → ByFault CauseUnformatted x name old new → OpenedOnce name old.standing new.standing
 format_opens None name old new c = absurd c
 format_opens (Some (fault.Image f)) name old new c = absurd c
@@ -104,7 +128,7 @@ command_opens f (Some Run) r cause = not_run_opens f r cause
 command_opens f (Some Trace) r cause = not_run_opens f r cause
 command_opens f (Some (Format us)) r cause = format_opens (fault_of r) (image_in f.words) f.rig f.rig_after cause.0
 command_opens f (Some Migrate) r cause = migrate_opens (fault_of r) (image_in f.words) f.rig f.rig_after cause.0
-command_opens f (Some Mirror) r cause = none_opens f r cause
+command_opens f (Some Mirror) r cause = not_mirrored_opens f r cause
 command_opens f (Some Scrub) r cause = scrub_opens (fault_of r) (image_in f.words) f.rig f.rig_after cause.0
 command_opens f (Some Nvme) r cause = nvme_opens (nvm_fault_of r) f cause
 command_opens f (Some (Modes ty)) r cause = wanting_opens f r cause
@@ -116,6 +140,7 @@ opens f (Reported replies) c = run_opens f c.run c.ran
 opens f (Traced replies log) c = run_opens f c.run c.ran
 opens f (Formatted n) c = inr c.done.opened
 opens f (Migrated n) c = inr c.done.opened
+opens f (Served replies repaired lost) c = mirror_opens f c.run c.ran
 opens f (Scrubbed ds found) c = opened_on (image_in f.words) f.rig c.done.discovered.between c.done.told f.rig_after c.done.discovered.since c.done.standing
 opens f (Commanded bad text) c = done_opens (image_in f.words) text bad f.left f.left_after f.rig f.rig_after c.done
 opens f (Mapped ty) c = inl (stayed f.rig f.rig_after c.rig_is)

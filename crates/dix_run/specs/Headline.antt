@@ -10,6 +10,7 @@ use Rattle.script_text.specs.Bindings.{binding_fault}
 use Rattle.script_text.specs.Language.{script_in}
 use Rattle.script_text.specs.declared.script.Script.{Script}
 use Rattle.script_verdict.specs.Verdict.{devices_of, table_over}
+use Rattle.mirror_script.specs.MirrorFaults.{mirror_fault}
 use Rattle.nvme_lines.specs.Texts.{text_in}
 use Rattle.nvme_lines.specs.declared.line.NvmLine.{NvmLine}
 use Rattle.nvme_command.specs.Fits.{misfit}
@@ -45,6 +46,13 @@ MigrateIsComplete f o n result =
     (image : List ℕ) → command_in f.words ≡ Some Command.Migrate → f.rig.image ≡ Some image → head_fault (head_of image) ≡ None →
     Calm f.rig.seen.faults f.rig_after.seen.faults → Calm o n → (result ≡ Whole) ⊎ (result ≡ Memory)
 
+-- Words of `mirror`, a script in the language, an image whose head is right, over whose devices the volume has no fault and the script none on a mirror, and no fault of source and sink give status 0 or 1, or want of memory, or a fault of the rig as the image is opened.
+abbrev pub MirrorIsComplete : Facts → ℕ → ℕ → Status → Type 0
+MirrorIsComplete f o n result =
+    (text image : List ℕ) (script : Script) → command_in f.words ≡ Some Command.Mirror → f.left ≡ Some text → script_in text ≡ Ok script → f.rig.image ≡ Some image → head_fault (head_of image) ≡ None →
+    table_fault script.entries (devices_of image) script.block ≡ None → mirror_fault script (table_over script.entries (devices_of image)) (devices_of image) ≡ None →
+    Calm f.reads f.reads_after → Calm o n → IsRun result ⊎ (result ≡ Memory) ⊎ (result ≡ RigFault)
+
 -- Words of `scrub`, an image whose head is right, and no fault give status 0 or 1, or want of memory.
 abbrev pub ScrubIsComplete : Facts → ℕ → ℕ → Status → Type 0
 ScrubIsComplete f o n result =
@@ -69,12 +77,13 @@ BigIsComplete f o n result = (count seed : ℕ) → command_in f.words ≡ Some 
 abbrev pub OpensOnce : Facts → Type 0
 OpensOnce f = OpenedOnce (image_in f.words) f.rig.standing f.rig_after.standing
 
--- What a call carries, whatever its source, rig and sink are: its verdict with the cause, and what follows from it for those that tell what they hold. What a run did is told by `followed` of the record `HasRun` of its cause.
+-- What a call carries, whatever its source, rig and sink are: its verdict with the cause, and what follows from it for those that tell what they hold. What a run did is told by `followed` of the record `HasRun` of its cause, and what a script on a mirror did by `ended` and `enough` of `HasMirrored`.
 pub record Carries (f : Facts) (taken taken' : Option (List ℕ)) (o n : ℕ) (result : Status) : Type 0 where
   pub ended : Ended f taken taken' o n result
   pub runs : RunIsComplete f o n result
   pub formats : FormatIsComplete f o n result
   pub migrates : MigrateIsComplete f o n result
+  pub mirrors : MirrorIsComplete f o n result
   pub scrubs : ScrubIsComplete f o n result
   pub commands : NvmeIsComplete f o n result
   pub maps : ModesIsComplete f o n result

@@ -24,6 +24,9 @@ use Rattle.script_verdict.specs.Verdict.{CauseRefused, Facts as Call, HasRunSour
 use Rattle.script_verdict.specs.declared.refusal.Refusal.{Refusal as Stop}
 use Rattle.script_verdict.specs.declared.refusal.Refusal.TheVariants as stop
 use Rattle.script_verdict.specs.declared.verdict.Finished.{Finished}
+use Rattle.mirror_verdict.specs.Texts.{is_any_lost, mirror_text}
+use Rattle.mirror_verdict.specs.Verdict.{CauseRefused as CauseUnmirrored, HasMirroredSource}
+use Rattle.mirror_verdict.specs.declared.mirrored.Mirrored.{Mirrored}
 use Rattle.big_run.specs.Ran.{RanBig}
 use Rattle.big_run.specs.Text.{big_text}
 use Rattle.big_run.specs.declared.running.BigRun.{BigRun}
@@ -65,7 +68,7 @@ status_of (refusal.Stopped s) = stop_status s
 -- the text of a refusal
 abbrev pub refusal_text : Refusal → List ℕ
 refusal_text refusal.Words =
-    codes "usage: dix run IMAGE, trace IMAGE, format IMAGE T:BLOCKS.., migrate IMAGE, scrub IMAGE, nvme IMAGE, modes T, big N SEED\n"
+    codes "usage: dix run IMAGE, trace IMAGE, format IMAGE T:BLOCKS.., migrate IMAGE, mirror IMAGE, scrub IMAGE, nvme IMAGE, modes T, big N SEED\n"
 refusal_text (refusal.Stopped s) = stop_text s
 
 -- want of memory
@@ -80,6 +83,11 @@ LeavesSource f = (f.left_after ≡ f.left) × (f.reads_after ≡ f.reads)
 abbrev pub CauseNotRun : Refusal → Facts → Type 0
 CauseNotRun refusal.Words f = ⊥
 CauseNotRun (refusal.Stopped s) f = CauseRefused s (call_of f)
+
+-- Why a script isn't run on a mirror, or not to its end.
+abbrev pub CauseNotMirrored : Refusal → Facts → Type 0
+CauseNotMirrored refusal.Words f = ⊥
+CauseNotMirrored (refusal.Stopped s) f = CauseUnmirrored s (call_of f)
 
 abbrev pub stop_fault : Stop → Option Fault
 stop_fault (stop.Script x) = None
@@ -119,7 +127,7 @@ abbrev pub ByNvmFault : Option NvmFault → Facts → Type 0
 ByNvmFault None f = ⊥
 ByNvmFault (Some x) f = CauseNotDone x (image_in f.words) f.left f.left_after f.reads f.reads_after f.rig f.rig_after
 
--- The words are not in the grammar, or their command isn't built; the rig and the source are as before.
+-- The words are not in the grammar; the rig and the source are as before.
 abbrev pub HasNoCommand : Refusal → Facts → Type 0
 HasNoCommand r f = (r ≡ refusal.Words) × (f.rig_after ≡ f.rig) × LeavesSource f
 
@@ -134,7 +142,7 @@ CauseByCommand (Some Run) r f = CauseNotRun r f
 CauseByCommand (Some Trace) r f = CauseNotRun r f
 CauseByCommand (Some (Format us)) r f = ByFault CauseUnformatted (fault_of r) (image_in f.words) f.rig f.rig_after × LeavesSource f
 CauseByCommand (Some Migrate) r f = ByFault CauseUnmigrated (fault_of r) (image_in f.words) f.rig f.rig_after × LeavesSource f
-CauseByCommand (Some Mirror) r f = HasNoCommand r f
+CauseByCommand (Some Mirror) r f = CauseNotMirrored r f
 CauseByCommand (Some Scrub) r f = ByFault CauseUnscrubbed (fault_of r) (image_in f.words) f.rig f.rig_after × LeavesSource f
 CauseByCommand (Some Nvme) r f = ByNvmFault (nvm_fault_of r) f
 CauseByCommand (Some (Modes ty)) r f = WantsMemory r f
@@ -177,6 +185,15 @@ pub record HasScrubbed (devices : List DeviceInfo) (found : List Found) (f : Fac
   pub done : WasScrubbed (image_in f.words) devices found f.rig f.rig_after
   pub source : LeavesSource f
 
+-- The script of the source was run on a mirror over the image of the words, these are the replies of its ops, and its repair mended and lost so many blocks.
+pub record HasMirrored (replies : List Reply) (repaired lost : ℕ) (f : Facts) : Type 0 where
+  pub named : command_in f.words ≡ Some Mirror
+  pub run : Mirrored
+  pub ran : HasMirroredSource run (call_of f)
+  pub replies_are : replies ≡ run.mirror.replies.items
+  pub repaired_is : repaired ≡ run.repair.repaired
+  pub lost_is : lost ≡ run.repair.lost
+
 -- The NVM commands of the source were done on the image of the words.
 pub record HasCommanded (bad : Bool) (text : List ℕ) (f : Facts) : Type 0 where
   pub named : command_in f.words ≡ Some Nvme
@@ -204,6 +221,7 @@ pub data Verdict : Type 0 where
   Traced : List Reply → List Entry → Verdict
   Formatted : ℕ → Verdict
   Migrated : ℕ → Verdict
+  Served : List Reply → (repaired lost : ℕ) → Verdict
   Scrubbed : List DeviceInfo → List Found → Verdict
   Commanded : Bool → List ℕ → Verdict
   Mapped : PiType → Verdict
@@ -219,6 +237,7 @@ verdict_status (Reported replies) = done_status (has_bad replies)
 verdict_status (Traced replies log) = done_status (has_bad replies)
 verdict_status (Formatted n) = status.Whole
 verdict_status (Migrated n) = status.Whole
+verdict_status (Served replies repaired lost) = done_status (is_any_lost replies lost)
 verdict_status (Scrubbed devices found) = done_status (has_some found)
 verdict_status (Commanded bad text) = done_status bad
 verdict_status (Mapped ty) = status.Whole
@@ -230,6 +249,7 @@ verdict_text (Reported replies) = report replies
 verdict_text (Traced replies log) = report replies ++ trace log
 verdict_text (Formatted n) = codes "formatted " ++ (decimal n ++ codes "\n")
 verdict_text (Migrated n) = codes "migrated " ++ (decimal n ++ codes "\n")
+verdict_text (Served replies repaired lost) = mirror_text replies repaired lost
 verdict_text (Scrubbed devices found) = scrub_text devices found
 verdict_text (Commanded bad text) = text
 verdict_text (Mapped ty) = modes_text ty
@@ -241,6 +261,7 @@ Cause (Reported replies) f = HasReported replies f
 Cause (Traced replies log) f = HasTraced replies log f
 Cause (Formatted n) f = HasFormatted n f
 Cause (Migrated n) f = HasMigrated n f
+Cause (Served replies repaired lost) f = HasMirrored replies repaired lost f
 Cause (Scrubbed devices found) f = HasScrubbed devices found f
 Cause (Commanded bad text) f = HasCommanded bad text f
 Cause (Mapped ty) f = HasMapped ty f

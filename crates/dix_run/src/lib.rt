@@ -4,6 +4,7 @@
 
 mod big;
 mod commands;
+mod mirroring;
 mod modes;
 mod nvme;
 mod program;
@@ -12,7 +13,6 @@ mod running;
 mod scrub_text;
 mod status;
 mod why;
-mod writing;
 
 pub use program::{refuse, run};
 pub use refusal::Refusal;

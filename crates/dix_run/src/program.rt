@@ -8,14 +8,15 @@ ghost use Rattle.dix_run.specs.Verdict.{Facts, Written, done_status, refusal_tex
 
 use crate::big::big;
 use crate::commands::{format, migrate, scrub};
+use crate::mirroring::mirror_image;
 use crate::modes::modes;
 use crate::nvme::nvme;
 use crate::refusal::Refusal;
 use crate::running::{run_image, trace_image};
 use crate::status::Status;
-use crate::writing::write_all;
 use dix_base::{Failed, Sink, Source};
 use dix_words::{Command, command_of};
+use report_text::write_all;
 use rig_api::Rig;
 use std::alloc::Global;
 
@@ -44,7 +45,7 @@ pub(crate) fn status_for(bad: bool) -> Status
 }
 
 /// Runs the program on its words, without its own name: does the command that they are, and writes
-/// its text. Only `run`, `trace` and `nvme` read the source.
+/// its text. Only `run`, `trace`, `mirror` and `nvme` read the source.
 pub fn run<S: Source, R: Rig, O: Sink>(
     alloc: Global,
     words: &[String],
@@ -71,7 +72,7 @@ pub fn run<S: Source, R: Rig, O: Sink>(
         Command::Trace => trace_image(alloc, words, script, rig, out),
         Command::Format(units) => format(alloc, words, &units, rig, out),
         Command::Migrate => migrate(alloc, words, rig, out),
-        Command::Mirror => refuse(out, Refusal::Words),
+        Command::Mirror => mirror_image(alloc, words, script, rig, out),
         Command::Scrub => scrub(alloc, words, rig, out),
         Command::Nvme => nvme(alloc, words, script, rig, out),
         Command::Modes(ty) => modes(alloc, ty, out),

@@ -84,4 +84,4 @@ fn usage_line() -> Line
 }
 
 const USAGE: &[u8] =
-    b"usage: dix run IMAGE, trace IMAGE, format IMAGE T:BLOCKS.., migrate IMAGE, scrub IMAGE, nvme IMAGE, modes T, big N SEED\n";
+    b"usage: dix run IMAGE, trace IMAGE, format IMAGE T:BLOCKS.., migrate IMAGE, mirror IMAGE, scrub IMAGE, nvme IMAGE, modes T, big N SEED\n";

@@ -1,0 +1,53 @@
+//! Running a script on a mirror.
+
+ghost use Rattle.std.specs.Prelude.{◌≡◌, Some};
+ghost use Rattle.dix_words.specs.Grammar.{command_in, word_bytes};
+ghost use Rattle.dix_words.specs.declared.command.Command.{Command};
+ghost use Rattle.image_commands.specs.Views.{seen, view};
+ghost use Rattle.mirror_verdict.specs.Texts.{is_any_lost, mirror_text};
+ghost use Rattle.dix_run.specs.Verdict.{Ended, Facts, Written, done_status};
+
+use crate::program::{refuse, status_for};
+use crate::refusal::Refusal;
+use crate::status::Status;
+use dix_base::{Failed, Sink, Source};
+use dix_words::image_of;
+use mirror_verdict::{Mirrored, mirror_source, print_mirrored};
+use rig_api::Rig;
+use std::alloc::Global;
+
+/// Writes the report of a script on a mirror, and what its repair did.
+fn report_mirrored<O: Sink>(out: &mut O, run: &Mirrored) -> Status
+    ensures { Written (done_status (is_any_lost run.now.mirror.replies.items run.now.repair.lost)) (mirror_text run.now.mirror.replies.items run.now.repair.repaired run.now.repair.lost) (O.taken out.old) (O.taken out.new) (O.faults out.old) (O.faults out.new) result }
+{
+    match print_mirrored(out, run) {
+        Ok(()) => status_for(run.has_bad()),
+        Err(Failed) => Status::WriteFault,
+    }
+}
+
+/// `mirror IMAGE`: runs the script of the source on a mirror, repairs it, and writes its report.
+pub(crate) fn mirror_image<S: Source, R: Rig, O: Sink>(
+    alloc: Global,
+    words: &[String],
+    source: &mut S,
+    rig: &mut R,
+    out: &mut O,
+) -> Status
+    requires { command_in (word_bytes words.now) ≡ Some Command.Mirror }
+    ensures { let f : Facts = record {
+      words = word_bytes words.now;
+      left = S.left source.old;
+      left_after = S.left source.new;
+      reads = S.faults source.old;
+      reads_after = S.faults source.new;
+      rig = view (R.image rig.old) (R.standing rig.old) (seen (R.units rig.old) (R.log rig.old) (R.faults rig.old));
+      rig_after = view (R.image rig.new) (R.standing rig.new) (seen (R.units rig.new) (R.log rig.new) (R.faults rig.new));
+    } in
+        Ended f (O.taken out.old) (O.taken out.new) (O.faults out.old) (O.faults out.new) result }
+{
+    match mirror_source(alloc, image_of(words), source, rig) {
+        Ok(run) => report_mirrored(out, &run),
+        Err(stop) => refuse(out, Refusal::Stopped(stop)),
+    }
+}
