@@ -38,16 +38,14 @@ impl Image {
         Ok(Image { units, bytes })
     }
 
-    /// An opened rig over the image, whose store fails at these calls.
-    pub(crate) fn opened(
+    /// A rig over the image, whose store fails at these calls.
+    pub(crate) fn laid(
         &self,
         alloc: Global,
         fails: &[u64],
     ) -> Result<ImageRig<MemStore>, AllocError> {
         let bytes = Vec::from_slice(alloc, &self.bytes)?;
         let fails = Vec::from_slice(alloc, fails)?;
-        let mut rig = ImageRig::new(alloc, MemStore::new(bytes, fails));
-        let _ = rig.open(alloc, "a");
-        Ok(rig)
+        Ok(ImageRig::new(alloc, MemStore::new(bytes, fails)))
     }
 }

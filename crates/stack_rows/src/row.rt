@@ -11,6 +11,8 @@ pub(crate) struct Row {
     pub(crate) fails: Vec<u64>,
     /// How the devices answer, where they don't do what they are asked.
     pub(crate) rules: Vec<Rule>,
+    /// Whether the script is run on a mirror, and then repaired.
+    pub(crate) is_mirror: bool,
     /// The report behind its first line, or why the script isn't run.
     pub(crate) report: Vec<u8>,
     /// All records behind those of discovery.
@@ -24,6 +26,7 @@ impl Row {
             script: Vec::new(alloc),
             fails: Vec::new(alloc),
             rules: Vec::new(alloc),
+            is_mirror: false,
             report: Vec::new(alloc),
             trace: Vec::new(alloc),
         })

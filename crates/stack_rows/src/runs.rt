@@ -1,14 +1,18 @@
 //! What comes of a row.
 
+ghost use Rattle.script_verdict.specs.Working.{IsSound};
+
 use crate::answers::answers_by;
 use crate::image::Image;
 use crate::row::{Row, add_line};
 use dix_base::MemSink;
+use mirror_verdict::{print_mirrored, run_mirror};
 use report_text::{print_report, print_trace};
 use rig_api::Rig;
 use script_laws::a_read_script_keeps_the_rules;
 use script_stack::{Unready, run_script};
-use script_text::{ScriptFault, read_script};
+use script_text::{Script, ScriptFault, read_script};
+use script_verdict::Refusal;
 use scripted_rig::ScriptedRig;
 use stack_core::Stack;
 use std::alloc::{AllocError, Global};
@@ -59,8 +63,38 @@ fn trace_of<R: Rig>(alloc: Global, rig: &R) -> Result<Vec<u8>, AllocError> {
     Vec::from_slice(alloc, sink.bytes())
 }
 
-/// What comes of a text over an opened rig.
-fn came_over<R: Rig>(alloc: Global, text: &[u8], rig: &mut R) -> Result<Came, AllocError> {
+/// Why a script isn't run on a mirror.
+fn refusal_text(alloc: Global, refusal: Refusal) -> Result<Vec<u8>, AllocError> {
+    match refusal {
+        Refusal::Script(fault) => fault_text(alloc, fault),
+        Refusal::BadCapacity { .. } => Vec::from_slice(alloc, b"device\n"),
+        Refusal::Volume { .. } => Vec::from_slice(alloc, b"volume\n"),
+        Refusal::Memory => Vec::from_slice(alloc, b"memory\n"),
+        Refusal::Image(_) | Refusal::RigFault => Vec::from_slice(alloc, b"image\n"),
+        Refusal::ReadFault => Vec::from_slice(alloc, b"source\n"),
+    }
+}
+
+/// What comes of a script on a mirror over a rig that isn't opened.
+fn mirrored<R: Rig>(alloc: Global, script: Script, rig: &mut R) -> Result<Vec<u8>, AllocError>
+    requires { IsSound script }
+{
+    let run = match run_mirror(alloc, "a", script, rig) {
+        Ok(run) => run,
+        Err(refusal) => return refusal_text(alloc, refusal),
+    };
+    let mut sink = MemSink::new(alloc, ROOM, Vec::new(alloc))?;
+    let _ = print_mirrored(&mut sink, &run);
+    Vec::from_slice(alloc, sink.bytes().get(FRONT..).unwrap_or(&[]))
+}
+
+/// What comes of a text over a rig, which is opened but for a mirror.
+fn came_over<R: Rig>(
+    alloc: Global,
+    text: &[u8],
+    is_mirror: bool,
+    rig: &mut R,
+) -> Result<Came, AllocError> {
     let script = match read_script(alloc, text) {
         Ok(script) => script,
         Err(fault) => {
@@ -71,9 +105,13 @@ fn came_over<R: Rig>(alloc: Global, text: &[u8], rig: &mut R) -> Result<Came, Al
         }
     };
     a_read_script_keeps_the_rules(text, &script);
-    let report = match run_script(alloc, script, rig) {
-        Ok(stack) => report_of(alloc, &stack)?,
-        Err(unready) => unready_text(alloc, unready)?,
+    let report = if is_mirror {
+        mirrored(alloc, script, rig)?
+    } else {
+        match run_script(alloc, script, rig) {
+            Ok(stack) => report_of(alloc, &stack)?,
+            Err(unready) => unready_text(alloc, unready)?,
+        }
     };
     let trace = trace_of(alloc, rig)?;
     Ok(Came { report, trace })
@@ -81,11 +119,14 @@ fn came_over<R: Rig>(alloc: Global, text: &[u8], rig: &mut R) -> Result<Came, Al
 
 /// What comes of a row over an image.
 pub(crate) fn came_of(alloc: Global, image: &Image, row: &Row) -> Result<Came, AllocError> {
-    let mut rig = image.opened(alloc, &row.fails)?;
+    let mut rig = image.laid(alloc, &row.fails)?;
+    if !row.is_mirror {
+        let _ = rig.open(alloc, "a");
+    }
     if row.rules.is_empty() {
-        return came_over(alloc, &row.script, &mut rig);
+        return came_over(alloc, &row.script, row.is_mirror, &mut rig);
     }
     let answers = answers_by(alloc, &image.units, &row.rules)?;
     let mut lying = ScriptedRig::new(alloc, rig, answers);
-    came_over(alloc, &row.script, &mut lying)
+    came_over(alloc, &row.script, row.is_mirror, &mut lying)
 }

@@ -32,6 +32,7 @@ fn add_to(row: &mut Row, word: &str, rest: &str, line: &str) -> Result<(), Alloc
         ":" => add_line(&mut row.script, rest)?,
         "fails" => add_numbers(&mut row.fails, rest)?,
         "answers" => row.rules.push(Rule::of(rest))?,
+        "mirror" => row.is_mirror = true,
         "x" => add_line(&mut row.trace, line)?,
         _ => add_line(&mut row.report, line)?,
     }
