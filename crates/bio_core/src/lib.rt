@@ -9,6 +9,3 @@ mod request;
 pub use bio::Bio;
 pub use fate::{Fate, Why};
 pub use request::{Dir, Io};
-
-#[cfg(test)]
-mod tests;

@@ -16,6 +16,3 @@ pub use laws::{
 };
 pub use mode::Mode;
 pub use route::Route;
-
-#[cfg(test)]
-mod tests;

@@ -9,6 +9,3 @@ mod encode;
 
 pub use choice::{Dir2, choose};
 pub use command::{Cdb, CdbFault, Rw};
-
-#[cfg(test)]
-mod tests;

@@ -18,8 +18,6 @@ mod source;
 mod stdin_source;
 mod stdout_sink;
 mod store;
-#[cfg(test)]
-mod tests;
 
 pub use byte_list::ByteList;
 pub use calm_sink::CalmSink;

@@ -10,6 +10,3 @@ pub use command::{Command, command_of, image_of};
 pub use numbers::number;
 pub use unit::unit_of;
 pub use unit_list::UnitList;
-
-#[cfg(test)]
-mod tests;

@@ -5,8 +5,6 @@
 mod fault;
 mod short_bytes;
 mod tamper;
-#[cfg(test)]
-mod tests;
 
 pub use fault::{Crossing, FaultKind, FaultLine, FaultList};
 pub use short_bytes::ShortBytes;

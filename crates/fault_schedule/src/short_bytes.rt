@@ -45,24 +45,3 @@ impl ShortBytes {
         self.held.as_slice()
     }
 }
-
-#[cfg(test)]
-mod tests {
-    use super::*;
-
-    #[test]
-    fn hands_back_its_bytes(rt: HostRuntime) {
-        let none = ShortBytes::from_array(ArrayVec::new());
-        assert_eq!(rt; none.as_slice(), [].as_slice());
-
-        let read = [0x28, 0x20, 0, 0, 0, 0x64, 0, 0, 1, 0];
-        let mut bytes = ArrayVec::new();
-        for byte in read {
-            assert!(rt; bytes.try_push(byte).is_ok());
-        }
-        assert_eq!(rt; ShortBytes::from_array(bytes).as_slice(), read.as_slice());
-
-        let full = ShortBytes::from_array(ArrayVec::from([7; 32]));
-        assert_eq!(rt; full.as_slice(), [7; 32].as_slice());
-    }
-}

@@ -13,6 +13,3 @@ mod overwriting;
 mod place;
 
 pub use image::ImageRig;
-
-#[cfg(test)]
-mod tests;

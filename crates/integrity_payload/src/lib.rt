@@ -6,6 +6,3 @@ mod blocks;
 mod payload;
 
 pub use payload::{Owner, Payload};
-
-#[cfg(test)]
-mod tests;

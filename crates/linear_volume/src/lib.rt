@@ -4,9 +4,6 @@
 ghost use Rattle.std.specs.Prelude.{◌≡◌, ℕ, ◌+◌, ◌^◌, ◌<◌, ◌≤◌};
 ghost use Rattle.linear_volume.specs.Extents.{LinearHolds, LinearRuns, linear_place, linear_run};
 
-#[cfg(test)]
-mod tests;
-
 /// The virtual blocks from `start` on, `len` of them, on one device.
 #[derive(Clone, Copy, Debug, PartialEq, Eq)]
 pub struct Linear {

@@ -8,6 +8,3 @@ mod queue;
 
 pub use limits::Limits;
 pub use queue::DeviceQueue;
-
-#[cfg(test)]
-mod tests;

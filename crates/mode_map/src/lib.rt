@@ -7,6 +7,3 @@ mod modes;
 
 pub use finder::{Seen, first_finder};
 pub use modes::modes_text;
-
-#[cfg(test)]
-mod tests;

@@ -12,6 +12,3 @@ mod translation;
 pub use command::NvmCommand;
 pub use completion::Completion;
 pub use front::NvmFront;
-
-#[cfg(test)]
-mod tests;

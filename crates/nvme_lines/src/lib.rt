@@ -7,6 +7,3 @@ mod read;
 
 pub use line::NvmLine;
 pub use read::{LineFault, read_lines};
-
-#[cfg(test)]
-mod tests;

@@ -7,6 +7,3 @@ mod opening;
 
 pub use doing::{NvmReply, do_command};
 pub use opening::front_of;
-
-#[cfg(test)]
-mod tests;

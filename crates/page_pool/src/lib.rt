@@ -19,6 +19,3 @@ pub use walk::Walk;
 
 /// The bytes of a page.
 pub const PAGE: u32 = 4096;
-
-#[cfg(test)]
-mod tests;

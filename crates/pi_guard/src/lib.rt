@@ -94,6 +94,3 @@ pub fn ip_sum(bytes: &[u8]) -> u16
 {
     65535 - word_sums::sum_after(0, false, bytes)
 }
-
-#[cfg(test)]
-mod tests;

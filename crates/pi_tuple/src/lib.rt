@@ -7,6 +7,3 @@ mod tuple;
 
 pub use checks::{Check, Checks, PiType, finds, has_ref_tag, is_escape, own_tag};
 pub use tuple::{Tuple, make, ref_tag};
-
-#[cfg(test)]
-mod tests;

@@ -12,6 +12,3 @@ pub use footprint::{Footprint, Reach, Touch, TouchList};
 pub use gate::Gate;
 pub use laws::ops_without_conflict_share_no_cell;
 pub use phase::Phase;
-
-#[cfg(test)]
-mod tests;

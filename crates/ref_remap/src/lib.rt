@@ -95,6 +95,3 @@ pub fn the_tag_alone_is_mapped()
     ensures tag { (ty : AnyType) (from to : ℕ) (b : List ℕ) → length b ≡ 8 → drop 4 (remapped_bytes ty from to b) ≡ remapped_tag ty from to (drop 4 b) }
     ensures others { (ty : AnyType) (from to : ℕ) (b : List ℕ) → length b ≡ 8 → take 4 (remapped_bytes ty from to b) ≡ take 4 b }
 {}
-
-#[cfg(test)]
-mod tests;

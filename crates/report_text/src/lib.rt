@@ -4,8 +4,6 @@
 
 mod line;
 mod report;
-#[cfg(test)]
-mod tests;
 mod trace;
 mod why;
 mod writing;

@@ -275,22 +275,3 @@ pub trait Rig {
     /// In every record the key of a sense is below 16.
     ghost keyed: { (s : Self) → have_keys (log s) ≡ true };
 }
-
-#[cfg(test)]
-mod tests {
-    use super::*;
-
-    #[test]
-    fn names_its_faults(rt: HostRuntime) {
-        let rows = [
-            (RigFault::BadMagic, "BadMagic"),
-            (RigFault::BadHeader, "BadHeader"),
-            (RigFault::BadLength, "BadLength"),
-            (RigFault::Failed, "Failed"),
-            (RigFault::Memory, "Memory"),
-        ];
-        for (fault, name) in rows {
-            assert_eq!(rt; fault.name(), name);
-        }
-    }
-}

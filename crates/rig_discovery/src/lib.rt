@@ -5,6 +5,3 @@ mod answer;
 mod discovery;
 
 pub use discovery::{BadCapacity, discover};
-
-#[cfg(test)]
-mod tests;

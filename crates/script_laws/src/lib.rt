@@ -14,9 +14,6 @@ ghost use Rattle.script_laws.specs.RoundTrip.{IsSame, IsWithinLimits, ReadsAs};
 use script_text::{Script, ScriptFault, ScriptKind, print_script, read_script};
 use std::alloc::Global;
 
-#[cfg(test)]
-mod tests;
-
 /// A law: each script of a text keeps the counts, the ranges, the crossings and the rules of the
 /// language, and has a line number for each fault and each op.
 pub fn a_read_script_keeps_the_rules(text: &[u8], script: &Script)

@@ -6,8 +6,6 @@ mod cuts;
 mod hexes;
 mod numbers;
 mod places;
-#[cfg(test)]
-mod tests;
 
 pub use cuts::{is_plain, next_line, next_word, split_once};
 pub use hexes::{byte, hex_bytes, long_tag, short_hex, tag};

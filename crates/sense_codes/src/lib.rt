@@ -21,6 +21,3 @@ pub struct Sense {
     /// The INFORMATION field, where it is valid: the LBA of the block that the sense speaks of.
     pub info: Option<u64>,
 }
-
-#[cfg(test)]
-mod tests;

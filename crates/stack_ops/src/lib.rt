@@ -10,6 +10,3 @@ pub use footprints::footprint_of;
 pub use laws::footprints_are_cells;
 pub use op::{Op, OpList};
 pub use reply::{BadBlock, BadList, Reply};
-
-#[cfg(test)]
-mod tests;

@@ -3,8 +3,6 @@
 
 mod legs;
 mod stripe;
-#[cfg(test)]
-mod tests;
 
 pub use legs::{Leg, LegList};
 pub use stripe::Stripe;

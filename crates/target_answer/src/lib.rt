@@ -10,6 +10,3 @@ mod units;
 pub use passage::Passage;
 pub use request::{Request, is_foreign, request_of};
 pub use units::{UnitSpec, Version, header, is_header, is_layout, is_spec, specs_in, version_of};
-
-#[cfg(test)]
-mod tests;

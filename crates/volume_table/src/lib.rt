@@ -9,8 +9,6 @@ mod extent;
 mod fault;
 mod judge;
 mod table;
-#[cfg(test)]
-mod tests;
 
 pub use device::DeviceInfo;
 pub use entry::Entry;

@@ -4,8 +4,6 @@
 
 mod ends;
 mod expanding;
-#[cfg(test)]
-mod tests;
 mod track;
 
 pub use expanding::expand;
