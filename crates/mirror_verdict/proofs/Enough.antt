@@ -14,8 +14,8 @@ use Rattle.script_text.specs.declared.script.Script.{Script}
 use Rattle.mirror_walk.specs.Mirror.{count_of}
 use Rattle.mirror_walk.specs.OneGood.{AreBytes, HoldsProper, IsMirrorRun, IsRepaired, ReadsLast, last_of, on_leg}
 use Rattle.mirror_walk.specs.declared.marks.Marks.{Marks}
-use Rattle.mirror_volume.proofs.Ground.{IsOver}
-use Rattle.mirror_volume.specs.Standing.{half_of, mirror_setting}
+use Rattle.leg_runs.proofs.Ground.{IsOver}
+use Rattle.leg_runs.specs.Standing.{half_of, mirror_setting}
 use Rattle.mirror_verdict.specs.Premises.{IsOneGoodRun}
 use Rattle.mirror_verdict.specs.Stages.{HasServed, opening_over}
 use Rattle.mirror_verdict.specs.Verdict.{AllReadLast, BothHoldLast, WasEnough}

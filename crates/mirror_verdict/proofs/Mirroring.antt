@@ -14,9 +14,9 @@ use Rattle.script_stack.specs.Followed.{SizesAre}
 use Rattle.script_stack.proofs.Following.{sizes-found, told-image, told-shapes, told-stored}
 use Rattle.script_verdict.proofs.Devices.{known_infos}
 use Rattle.script_verdict.specs.Verdict.{WasAsked}
-use Rattle.mirror_volume.specs.Standing.{HasDevices, IsBoundMirror}
+use Rattle.leg_runs.specs.Standing.{HasDevices, IsBoundMirror}
 use Rattle.mirror_volume.specs.declared.mirror.Mirror.{Mirror}
-use Rattle.mirror_volume.proofs.Ground.{IsOver}
+use Rattle.leg_runs.proofs.Ground.{IsOver}
 use Rattle.mirror_verdict.specs.Premises.{IsOneGoodRun}
 use Rattle.mirror_verdict.specs.Stages.{Broke, Finished, stage_of}
 use Rattle.mirror_verdict.specs.Verdict.{HasMirrored, IsBegun, StoppedMidway, WasEnough, outside}

@@ -29,9 +29,9 @@ use Rattle.script_stack.specs.Causes.{table_of}
 use Rattle.mirror_script.specs.MirrorFaults.{faults_fault, length_fault, mode_fault, names_blocks, op_fault, ops_fault}
 use Rattle.mirror_legs.proofs.Asked.{none_when}
 use Rattle.mirror_walk.specs.OneGood.{AllBind, Binds, IsMirrorRun}
-use Rattle.mirror_volume.proofs.Ground.{IsOver, fits, legs}
-use Rattle.mirror_volume.proofs.Requests.{op-fits, overwrite-fits, request-fits}
-use Rattle.mirror_volume.specs.Standing.{half_of, mirror_setting, op_at}
+use Rattle.leg_runs.proofs.Ground.{IsOver, fits, legs}
+use Rattle.leg_runs.proofs.Requests.{op-fits, overwrite-fits, request-fits}
+use Rattle.leg_runs.specs.Standing.{half_of, mirror_setting, op_at}
 use Rattle.mirror_verdict.specs.Premises.{IsOneGoodRun}
 use Rattle.mirror_verdict.specs.Stages.{opening_over}
 

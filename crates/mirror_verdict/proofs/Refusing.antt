@@ -15,7 +15,7 @@ use Rattle.script_verdict.specs.Verdict.{Facts, HasRead, WasAsked}
 use Rattle.script_verdict.specs.Working.{CauseNoTable, IsSound, refusal_of}
 use Rattle.script_verdict.specs.declared.refusal.Refusal.{Refusal}
 use Rattle.script_verdict.specs.declared.refusal.Refusal.TheVariants as refusal
-use Rattle.mirror_volume.specs.Standing.{IsBoundMirror}
+use Rattle.leg_runs.specs.Standing.{IsBoundMirror}
 use Rattle.mirror_verdict.specs.Verdict.{CauseRefused, CauseStopped, HasMirrored, HasMirroredSource}
 use Rattle.mirror_verdict.specs.Working.{CauseUnbound, IsFree}
 use Rattle.mirror_verdict.specs.declared.mirrored.Mirrored.{Mirrored}

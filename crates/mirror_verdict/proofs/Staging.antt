@@ -23,12 +23,12 @@ use Rattle.mirror_walk.specs.declared.marks.Marks.{Marks}
 use Rattle.mirror_volume.specs.declared.mirror.Mirror.{Mirror}
 use Rattle.std.specs.declared.alloc.AllocError.{AllocError}
 use Rattle.mirror_volume.specs.declared.repair.Repair.{Repair as Done}
-use Rattle.mirror_volume.specs.LegRuns.{AllBacked, AllOwn, GoOn, LegRun, RanLegs, all_records}
-use Rattle.mirror_volume.specs.Mending.{IsRepairOf, RepairBy, stretches_in}
-use Rattle.mirror_volume.specs.OnOps.{Altered, OpAsks, OpBy, OpRan, OpTells, Sides}
+use Rattle.leg_runs.specs.LegRuns.{AllBacked, AllOwn, GoOn, LegRun, RanLegs, all_records}
+use Rattle.leg_runs.specs.Mending.{IsRepairOf, RepairBy, stretches_in}
+use Rattle.leg_runs.specs.OnOps.{Altered, OpAsks, OpBy, OpRan, OpTells, Sides}
 use Rattle.mirror_volume.specs.Plans.{sides_of}
-use Rattle.mirror_volume.specs.Standing.{IsRepairedAs, StandsAt, half_of, mirror_setting, op_at, walked}
-use Rattle.mirror_volume.proofs.Runs.{all_backed-append, all_records-append, calm-first, calm-last, go_on-append}
+use Rattle.leg_runs.specs.Standing.{IsRepairedAs, StandsAt, half_of, mirror_setting, op_at, walked}
+use Rattle.leg_runs.proofs.Runs.{all_backed-append, all_records-append, calm-first, calm-last, go_on-append}
 use Rattle.mirror_verdict.specs.Stages.{Broke, Finished, HasServed, InStretches, OneMore, Served, Stage, opening_over, repair_over, stage_of, walk_over}
 
 -- an error of which this holds

@@ -11,7 +11,7 @@ use Rattle.run_laws.specs.ShownRun.{DevicesAreClean}
 use Rattle.script_text.specs.declared.script.Script.{Script}
 use Rattle.script_stack.specs.Causes.{table_of}
 use Rattle.mirror_walk.specs.OneGood.{AreBytes, OneGood, script_asks}
-use Rattle.mirror_volume.specs.Standing.{half_of, mirror_setting}
+use Rattle.leg_runs.specs.Standing.{half_of, mirror_setting}
 use Rattle.mirror_verdict.specs.Stages.{opening_over}
 
 -- The volume is of type 1, and commands have protect field 001b. Each block of its devices is clean, both legs have the same data and application tags, and those of leg 0 are made of bytes. No write supplies an escape, each alteration can be shown, and each block has a leg on which no fault line alters it on its way, and no overwrite in its place.

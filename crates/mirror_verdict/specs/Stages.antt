@@ -15,11 +15,11 @@ use Rattle.mirror_walk.specs.declared.marks.Marks.{Marks}
 use Rattle.mirror_walk.specs.Mirror.{Mirror as Walk, mirror_replies, mirror_walk}
 use Rattle.mirror_walk.specs.Repair.{Repair, mirror_repair}
 use Rattle.mirror_volume.specs.declared.mirror.Mirror.{Mirror}
-use Rattle.mirror_volume.specs.LegRuns.{AllBacked, AllOwn, GoOn, LegRun, RanLegs, all_records}
-use Rattle.mirror_volume.specs.Mending.{IsRepairOf, RepairBy, stretches_in}
-use Rattle.mirror_volume.specs.OnOps.{OpAsks, OpBy, OpRan, OpTells, Sides}
+use Rattle.leg_runs.specs.LegRuns.{AllBacked, AllOwn, GoOn, LegRun, RanLegs, all_records}
+use Rattle.leg_runs.specs.Mending.{IsRepairOf, RepairBy, stretches_in}
+use Rattle.leg_runs.specs.OnOps.{OpAsks, OpBy, OpRan, OpTells, Sides}
 use Rattle.mirror_volume.specs.Plans.{sides_of}
-use Rattle.mirror_volume.specs.Standing.{StandsAt, half_of, mirror_setting, op_at}
+use Rattle.leg_runs.specs.Standing.{StandsAt, half_of, mirror_setting, op_at}
 
 -- Between two ops: pages and marks, how many entries of the schedule are used, the replies so far, the runs on the legs so far, and what the rig shows of itself.
 pub record Stage : Type 0 where

@@ -27,7 +27,7 @@ use Rattle.mirror_script.specs.MirrorFaults.{mirror_fault}
 use Rattle.mirror_walk.specs.OneGood.{HoldsProper, ReadsLast, last_of, on_leg}
 use Rattle.mirror_walk.specs.Mirror.{count_of}
 use Rattle.mirror_volume.specs.Plans.{IsMirror}
-use Rattle.mirror_volume.specs.Standing.{IsBoundMirror, half_of, mirror_setting}
+use Rattle.leg_runs.specs.Standing.{IsBoundMirror, half_of, mirror_setting}
 use Rattle.mirror_volume.specs.declared.mirror.Mirror.{Mirror}
 use Rattle.mirror_verdict.specs.Premises.{IsOneGoodRun}
 use Rattle.mirror_verdict.specs.Stages.{Broke, Finished, opening_over, stage_of}

@@ -3,9 +3,9 @@
 ghost use Rattle.std.specs.Prelude.{ℕ, ◌≡◌, List, [], false, MatchResult, OnOk, is_some, length};
 ghost use Rattle.script_stack.specs.Going.{Outside};
 ghost use Rattle.target_answer.specs.Target.{Stored};
-ghost use Rattle.mirror_volume.specs.LegRuns.{LegRun};
+ghost use Rattle.leg_runs.specs.LegRuns.{LegRun};
 ghost use Rattle.mirror_volume.specs.Plans.{IsMirror, sides_of};
-ghost use Rattle.mirror_volume.specs.Standing.{HasDevices, StandsAt};
+ghost use Rattle.leg_runs.specs.Standing.{HasDevices, StandsAt};
 ghost use Rattle.mirror_verdict.specs.Stages.{Broke, Finished, Served, stage_of};
 
 use mirror_volume::{Mirror, Repair};

@@ -19,10 +19,10 @@ use Rattle.script_ground.proofs.Segments.{all-lie, lies, once-both}
 use Rattle.script_stack.specs.Causes.{table_of}
 use Rattle.mirror_script.specs.MirrorFaults.{op_fault, range_fault}
 use Rattle.mirror_volume.specs.declared.legs.Plan.{Plan}
-use Rattle.mirror_volume.specs.OnOps.{whole_request}
+use Rattle.leg_runs.specs.OnOps.{whole_request}
 use Rattle.mirror_volume.specs.Plans.{IsPieceOf, IsPlan}
-use Rattle.mirror_volume.specs.Standing.{half_of, op_at}
-use Rattle.mirror_volume.proofs.Requests.{IsRequest, op-fits, op-rules, request-fits}
+use Rattle.leg_runs.specs.Standing.{half_of, op_at}
+use Rattle.leg_runs.proofs.Requests.{IsRequest, op-fits, op-rules, request-fits}
 
 -- ---- a segment
 

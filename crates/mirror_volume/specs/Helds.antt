@@ -2,9 +2,9 @@ use Rattle.std.specs.Prelude.{ℕ, ◌≡◌, ◌*◌, List, length, Option}
 use Rattle.whole_run.specs.Past.{Brought}
 use Rattle.mirror_volume.specs.declared.repair.Held.{Held}
 use Rattle.mirror_volume.specs.declared.repair.Seen.{Seen}
-use Rattle.mirror_volume.specs.LegRuns.{LegRun}
-use Rattle.mirror_volume.specs.Asked.{bytes_after, found_after}
-use Rattle.mirror_volume.specs.Mending.{goods, tuples_after}
+use Rattle.leg_runs.specs.LegRuns.{LegRun}
+use Rattle.leg_runs.specs.Asked.{bytes_after, found_after}
+use Rattle.leg_runs.specs.Mending.{goods, tuples_after}
 
 -- What a leg has of n blocks of this size.
 pub record IsHeld (size n : ℕ) (h : Held) : Type 0 where

@@ -2,8 +2,8 @@ use Rattle.std.specs.Prelude.{◌≡◌, ◌+◌, ◌*◌, ◌≤◌, length}
 use Rattle.mirror_legs.specs.declared.piece.Piece.{Piece}
 use Rattle.mirror_volume.specs.declared.legs.Plan.{Plan}
 use Rattle.mirror_volume.specs.declared.mirror.Mirror.{Mirror}
-use Rattle.mirror_volume.specs.OnOps.{Sides}
-use Rattle.mirror_volume.specs.Standing.{IsBoundMirror, half_of}
+use Rattle.leg_runs.specs.OnOps.{Sides}
+use Rattle.leg_runs.specs.Standing.{IsBoundMirror, half_of}
 
 -- What a mirror goes by: a script that is bound to its devices, and the number of its blocks.
 pub record IsPlan (p : Plan) : Type 0 where

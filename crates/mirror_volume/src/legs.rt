@@ -10,9 +10,9 @@ ghost use Rattle.stack_core.specs.Requests.{requests_from};
 ghost use Rattle.stack_core.specs.Stacks.{IsStack};
 ghost use Rattle.mirror_legs.specs.Inner.{page_segs, pages_for, read_pi_script, read_script, write_script};
 ghost use Rattle.mirror_legs.specs.MirrorScript.{IsPiece};
-ghost use Rattle.mirror_volume.specs.LegRuns.{AllOwn, GoOn, LegRun, RanLegs, found_by, pool_of, replies_of};
+ghost use Rattle.leg_runs.specs.LegRuns.{AllOwn, GoOn, LegRun, RanLegs, found_by, pool_of, replies_of};
 ghost use Rattle.mirror_volume.specs.Plans.{IsPlan, IsPieceOf};
-ghost use Rattle.mirror_volume.specs.Standing.{HasDevices, IsBoundMirror};
+ghost use Rattle.leg_runs.specs.Standing.{HasDevices, IsBoundMirror};
 
 use crate::replies::found_last;
 use bio_core::Why;

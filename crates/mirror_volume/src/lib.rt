@@ -15,5 +15,3 @@ mod stretches;
 mod writing;
 
 pub use mirror::{Mirror, Repair};
-
-mod laws;

@@ -2,24 +2,22 @@
 
 ghost use Rattle.std.specs.Prelude.{Bool, IfErr, IfOk, IsTrue, List, Ok, OnErr, Some, [], drop, false, is_err, is_none, is_some, length, take, true, ℕ, ◌*◌, ◌++◌, ◌+◌, ◌<◌, ◌^◌, ◌↔◌, ◌∷◌, ◌≡◌, ◌≤◌};
 ghost use Rattle.script_stack.specs.Causes.{table_of};
-ghost use Rattle.mirror_volume.specs.LegRuns.{AllOwn, GoOn, LegRun, RanLegs};
+ghost use Rattle.leg_runs.specs.LegRuns.{AllOwn, GoOn, LegRun, RanLegs};
 ghost use Rattle.mirror_volume.specs.Plans.{IsMirror, IsPieceOf, IsPlan, sides_of};
-ghost use Rattle.mirror_volume.specs.Standing.{HasDevices};
+ghost use Rattle.leg_runs.specs.Standing.{HasDevices};
 ghost use Rattle.dix_base.specs.Told.{Calm};
 ghost use Rattle.target_answer.specs.Target.{Stored};
 ghost use Rattle.stack_ops.specs.declared.reply.Reply.{Reply};
-ghost use Rattle.mirror_volume.specs.OnOps.{DidOp, RanOp, whole_request};
-ghost use Rattle.mirror_volume.specs.Mending.{IsRepairOf, RepairBy, stretches_in};
-ghost use Rattle.mirror_volume.specs.Standing.{IsBoundMirror, IsRepairedAs, StandsAt, half_of, op_at};
+ghost use Rattle.leg_runs.specs.OnOps.{DidOp, RanOp, whole_request};
+ghost use Rattle.leg_runs.specs.Mending.{IsRepairOf, RepairBy, stretches_in};
+ghost use Rattle.leg_runs.specs.Standing.{IsBoundMirror, IsRepairedAs, StandsAt, half_of, op_at};
 
-use crate::laws::{
-    a_repair_of_a_mirror_is_that_of_its_walk, an_op_of_a_mirror_goes_on_in_its_walk,
-};
 use crate::legs::{Plan, table_of};
 use crate::marks::FRESH;
 use crate::ops::do_op;
 pub use crate::repair::Repair;
 use crate::repair::{STRETCH, repair_stretch};
+use leg_runs::{a_repair_of_a_mirror_is_that_of_its_walk, an_op_of_a_mirror_goes_on_in_its_walk};
 use mirror_legs::Piece;
 use mirror_walk::Marks;
 use page_pool::PagePool;

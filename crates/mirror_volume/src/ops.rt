@@ -7,9 +7,9 @@ ghost use Rattle.page_pool.specs.Places.{NoneTwice, range_of, total};
 ghost use Rattle.stack_ops.specs.declared.op.Op.TheVariants.{Fetch, Write};
 ghost use Rattle.stack_ops.specs.declared.reply.Reply.TheVariants.{Medium, Silent};
 ghost use Rattle.stack_core.specs.Doing.{HasBlocks};
-ghost use Rattle.mirror_volume.specs.OnOps.{Altered, DidOp, RanOp, whole_request};
+ghost use Rattle.leg_runs.specs.OnOps.{Altered, DidOp, RanOp, whole_request};
 ghost use Rattle.mirror_volume.specs.Plans.{IsPieceOf, IsPlan};
-ghost use Rattle.mirror_volume.specs.Standing.{HasDevices, op_at};
+ghost use Rattle.leg_runs.specs.Standing.{HasDevices, op_at};
 
 use crate::legs::Plan;
 use crate::mirror::{State, whole_request};

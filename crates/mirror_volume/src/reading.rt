@@ -3,11 +3,11 @@
 
 ghost use Rattle.std.specs.Prelude.{ℕ, ◌≡◌, ◌<◌, ◌≤◌, ◌+◌, ◌*◌, ◌++◌, List, [], ◌∷◌, IfOk, None, not, ◌&&◌, ◌||◌, if◌then◌else◌, drop, is_none, is_some, length, take};
 ghost use Rattle.script_stack.specs.Causes.{table_of};
-ghost use Rattle.mirror_volume.specs.LegRuns.{AllOwn, GoOn, LegRun, RanLegs};
+ghost use Rattle.leg_runs.specs.LegRuns.{AllOwn, GoOn, LegRun, RanLegs};
 ghost use Rattle.mirror_volume.specs.Plans.{IsPieceOf, IsPlan};
-ghost use Rattle.mirror_volume.specs.Standing.{HasDevices};
+ghost use Rattle.leg_runs.specs.Standing.{HasDevices};
 ghost use Rattle.mirror_legs.specs.Inner.{read_script};
-ghost use Rattle.mirror_volume.specs.Asked.{AreOf, IsInside, IsReadOf, ReadBy, bytes_after, first_listed, found_after, fresh_on0, last_listed, rest_wanted, stretches};
+ghost use Rattle.leg_runs.specs.Asked.{AreOf, IsInside, IsReadOf, ReadBy, bytes_after, first_listed, found_after, fresh_on0, last_listed, rest_wanted, stretches};
 
 use crate::legs::{Plan, read_piece};
 use crate::stretches::stretches_of;

@@ -3,14 +3,14 @@
 
 ghost use Rattle.std.specs.Prelude.{ℕ, ◌≡◌, ◌<◌, ◌≤◌, ◌+◌, ◌*◌, ◌^◌, ◌++◌, true, ◌&&◌, List, [], ◌∷◌, IfOk, drop, get_or, None, is_none, is_some, length, take};
 ghost use Rattle.script_stack.specs.Causes.{table_of};
-ghost use Rattle.mirror_volume.specs.LegRuns.{AllOwn, GoOn, LegRun, RanLegs, found_by, replies_of};
+ghost use Rattle.leg_runs.specs.LegRuns.{AllOwn, GoOn, LegRun, RanLegs, found_by, replies_of};
 ghost use Rattle.mirror_volume.specs.Plans.{IsPieceOf, IsPlan};
-ghost use Rattle.mirror_volume.specs.Standing.{HasDevices};
+ghost use Rattle.leg_runs.specs.Standing.{HasDevices};
 ghost use Rattle.pi_tuple.specs.Tuples.{tuple_in};
 ghost use Rattle.mirror_legs.specs.Inner.{read_pi_script, write_script};
-ghost use Rattle.mirror_volume.specs.Asked.{AreOf, IsInside, stretches};
+ghost use Rattle.leg_runs.specs.Asked.{AreOf, IsInside, stretches};
 ghost use Rattle.mirror_volume.specs.Helds.{IsAfter, IsHeld, IsSeen, goods_in};
-ghost use Rattle.mirror_volume.specs.Mending.{IsRepairOf, MendsBy, StretchBy, delivered, fresh_on1, looked, need_by, needs_by, whole_stretch};
+ghost use Rattle.leg_runs.specs.Mending.{IsRepairOf, MendsBy, StretchBy, delivered, fresh_on1, looked, need_by, needs_by, whole_stretch};
 
 use crate::legs::{Plan, read_pi_piece, write_piece};
 use crate::reading::fresh;

@@ -2,10 +2,10 @@
 
 ghost use Rattle.std.specs.Prelude.{ℕ, ◌≡◌, ◌<◌, ◌≤◌, ◌+◌, ◌*◌, ◌++◌, List, [], ◌∷◌, IfOk, drop, is_some, length, take};
 ghost use Rattle.script_stack.specs.Causes.{table_of};
-ghost use Rattle.mirror_volume.specs.LegRuns.{AllOwn, GoOn, LegRun, RanLegs};
+ghost use Rattle.leg_runs.specs.LegRuns.{AllOwn, GoOn, LegRun, RanLegs};
 ghost use Rattle.mirror_volume.specs.Plans.{IsPieceOf, IsPlan};
-ghost use Rattle.mirror_volume.specs.Standing.{HasDevices};
-ghost use Rattle.mirror_volume.specs.OnOps.{IsWriteOf, WroteBy, whole_request};
+ghost use Rattle.leg_runs.specs.Standing.{HasDevices};
+ghost use Rattle.leg_runs.specs.OnOps.{IsWriteOf, WroteBy, whole_request};
 
 use crate::legs::{Plan, write_piece};
 use crate::marks::mark;

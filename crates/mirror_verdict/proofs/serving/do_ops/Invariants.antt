@@ -1,5 +1,5 @@
 use Rattle.std.proofs.Common.{◌≡◌, ℕ, false, List, [], is_some}
-use Rattle.mirror_volume.specs.LegRuns.{LegRun}
+use Rattle.leg_runs.specs.LegRuns.{LegRun}
 use Rattle.mirror_volume.specs.Plans.{IsMirror}
 use Rattle.mirror_verdict.specs.Stages.{Served, stage_of}
 use Rattle.mirror_verdict.proofs.serving.do_ops.Given as goal

@@ -6,11 +6,11 @@ use Rattle.script_text.specs.declared.script.Script.{Script}
 use Rattle.script_stack.specs.Causes.{table_of}
 use Rattle.stack_core.specs.declared.stack.Stack.{Stack}
 use Rattle.std.specs.Prelude.{None}
-use Rattle.mirror_volume.specs.LegRuns.{found_by}
-use Rattle.mirror_volume.proofs.OwnRuns.{read-fits, read-lies}
+use Rattle.leg_runs.specs.LegRuns.{found_by}
+use Rattle.leg_runs.proofs.OwnRuns.{read-fits, read-lies}
 use Rattle.mirror_volume.proofs.Planned.{half-small, plan-asks, plan-piece}
-use Rattle.mirror_volume.proofs.Results.{if-ok}
-use Rattle.mirror_volume.proofs.Runs.{all_own-map, ran-nothing}
+use Rattle.leg_runs.proofs.Results.{if-ok}
+use Rattle.leg_runs.proofs.Runs.{all_own-map, ran-nothing}
 use Rattle.mirror_volume.proofs.legs.read_piece.Goals as goal
 
 pub read_script-requires-clause-virt : goal.read_script-requires-clause-virt

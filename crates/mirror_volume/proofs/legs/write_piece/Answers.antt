@@ -5,10 +5,10 @@ use Rattle.script_text.specs.declared.script.Script.{Script}
 use Rattle.script_stack.specs.Causes.{table_of}
 use Rattle.stack_core.specs.declared.stack.Stack.{Stack}
 use Rattle.std.specs.Prelude.{None}
-use Rattle.mirror_volume.specs.LegRuns.{found_by}
-use Rattle.mirror_volume.proofs.OwnRuns.{write-fits}
+use Rattle.leg_runs.specs.LegRuns.{found_by}
+use Rattle.leg_runs.proofs.OwnRuns.{write-fits}
 use Rattle.mirror_volume.proofs.Planned.{half-small, plan-asks, plan-piece}
-use Rattle.mirror_volume.proofs.Runs.{all_own-map, ran-nothing}
+use Rattle.leg_runs.proofs.Runs.{all_own-map, ran-nothing}
 use Rattle.mirror_volume.proofs.legs.write_piece.Goals as goal
 
 pub write_script-requires-clause-virt : goal.write_script-requires-clause-virt

@@ -1,11 +1,11 @@
 use Rattle.std.proofs.Common.{◌≡◌, ◌-◌, ◌*◌, ◌++◌, List, ap, drop, length, min, refl, rules, subst, sym, take_at, ◌∙◌, arith}
 use Rattle.mirror_walk.specs.declared.marks.Marks.{Marks}
 use Rattle.mirror_legs.specs.declared.piece.Piece.{Piece}
-use Rattle.mirror_volume.specs.Mending.{Mended, RepairBy, StretchBy, stretches_in}
-use Rattle.mirror_volume.proofs.Mended.{repair-more}
-use Rattle.mirror_volume.proofs.OwnEach.{all_own-append}
+use Rattle.leg_runs.specs.Mending.{Mended, RepairBy, StretchBy, stretches_in}
+use Rattle.leg_runs.proofs.Mended.{repair-more}
+use Rattle.leg_runs.proofs.OwnEach.{all_own-append}
 use Rattle.mirror_volume.proofs.Planned.{half-small}
-use Rattle.mirror_volume.proofs.Runs.{ran-nothing, ran-two}
+use Rattle.leg_runs.proofs.Runs.{ran-nothing, ran-two}
 use Rattle.mirror_volume.proofs.mirror.repair_all.Goals as goal
 
 pub loop-i-init : goal.loop-i-init

@@ -1,8 +1,8 @@
 use Rattle.std.proofs.Common.{◌≡◌, ◌+◌, ◌*◌, ◌≤◌, List, is_some, length}
 use Rattle.script_stack.specs.Causes.{table_of}
-use Rattle.mirror_volume.specs.LegRuns.{AllOwn, LegRun}
-use Rattle.mirror_volume.specs.Mending.{IsRepairOf, RepairBy}
-use Rattle.mirror_volume.proofs.Runs.{RanBy}
+use Rattle.leg_runs.specs.LegRuns.{AllOwn, LegRun}
+use Rattle.leg_runs.specs.Mending.{IsRepairOf, RepairBy}
+use Rattle.leg_runs.proofs.Runs.{RanBy}
 use Rattle.mirror_volume.proofs.mirror.repair_all.Given as goal
 
 abbrev pub invariant-loop-i : goal.invariant-loop-i

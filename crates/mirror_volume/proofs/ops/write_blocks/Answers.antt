@@ -3,9 +3,9 @@ use Rattle.std.specs.Prelude.{IfOk}
 use Rattle.mirror_walk.specs.declared.marks.Marks.{Marks}
 use Rattle.script_stack.specs.Going.{Outside}
 use Rattle.mirror_legs.specs.declared.piece.Piece.{Piece}
-use Rattle.mirror_volume.specs.OnOps.{Sides, WroteBy}
-use Rattle.mirror_volume.proofs.Dones.{data-long, did-write}
-use Rattle.mirror_volume.proofs.Runs.{ran-nothing}
+use Rattle.leg_runs.specs.OnOps.{Sides, WroteBy}
+use Rattle.leg_runs.proofs.Dones.{data-long, did-write}
+use Rattle.leg_runs.proofs.Runs.{ran-nothing}
 use Rattle.mirror_volume.proofs.ops.write_blocks.Goals as goal
 
 pub returns-in_err-bytes-clause-ran : goal.returns-in_err-bytes-clause-ran

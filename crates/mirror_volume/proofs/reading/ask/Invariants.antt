@@ -1,9 +1,9 @@
 use Rattle.std.proofs.Common.{◌≡◌, ◌≤◌, List, is_some, length, take}
 use Rattle.script_stack.specs.Causes.{table_of}
 use Rattle.mirror_legs.specs.Inner.{read_script}
-use Rattle.mirror_volume.specs.Asked.{AreOf, IsReadOf, bytes_after, found_after}
-use Rattle.mirror_volume.specs.LegRuns.{AllOwn, LegRun}
-use Rattle.mirror_volume.proofs.Runs.{RanBy}
+use Rattle.leg_runs.specs.Asked.{AreOf, IsReadOf, bytes_after, found_after}
+use Rattle.leg_runs.specs.LegRuns.{AllOwn, LegRun}
+use Rattle.leg_runs.proofs.Runs.{RanBy}
 use Rattle.mirror_volume.proofs.reading.ask.Given as goal
 
 abbrev pub invariant-loop-i : goal.invariant-loop-i

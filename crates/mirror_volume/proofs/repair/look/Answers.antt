@@ -1,6 +1,6 @@
 use Rattle.std.proofs.Common.{ap, length, rules, sym, ◌∙◌}
 use Rattle.mirror_volume.proofs.Helds.{delivered-long}
-use Rattle.mirror_volume.proofs.Runs.{ran-nothing}
+use Rattle.leg_runs.proofs.Runs.{ran-nothing}
 use Rattle.mirror_volume.proofs.repair.look.Goals as goal
 
 pub returns-in_err-vec-clause-ran : goal.returns-in_err-vec-clause-ran

@@ -1,9 +1,9 @@
 use Rattle.std.proofs.Common.{inl, ap, drop, length, length-drop, length-take-le, rules, ◌*◌, ◌-◌, ◌+◌, arith}
 use Rattle.mirror_legs.specs.Inner.{read_pi_script}
-use Rattle.mirror_volume.specs.Asked.{part_of}
+use Rattle.leg_runs.specs.Asked.{part_of}
 use Rattle.mirror_volume.proofs.Helds.{part-after, put-part}
 use Rattle.mirror_volume.proofs.Stretched.{ends-inside}
-use Rattle.mirror_volume.proofs.OwnEach.{all_own-so}
+use Rattle.leg_runs.proofs.OwnEach.{all_own-so}
 use Rattle.mirror_volume.proofs.repair.look_at_part.Goals as goal
 
 pub returns-in_err-read_pi_piece-clause-ran : goal.returns-in_err-read_pi_piece-clause-ran

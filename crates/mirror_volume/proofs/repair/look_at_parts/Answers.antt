@@ -2,11 +2,11 @@ use Rattle.std.proofs.Common.{ℕ, ◌<◌, ◌++◌, List, length, refl, rules,
 use Rattle.std.proofs.lemmas.List.{take_all}
 use Rattle.script_laws.specs.Keeping.{Each}
 use Rattle.mirror_legs.specs.Inner.{read_pi_script}
-use Rattle.mirror_volume.specs.Asked.{AreOf, IsInside}
+use Rattle.leg_runs.specs.Asked.{AreOf, IsInside}
 use Rattle.mirror_volume.specs.Helds.{IsAfter}
 use Rattle.mirror_volume.proofs.Helds.{looks-more}
-use Rattle.mirror_volume.proofs.OwnEach.{all_own-append}
-use Rattle.mirror_volume.proofs.Runs.{ran-nothing, ran-two}
+use Rattle.leg_runs.proofs.OwnEach.{all_own-append}
+use Rattle.leg_runs.proofs.Runs.{ran-nothing, ran-two}
 use Rattle.mirror_volume.proofs.Stretched.{all-inside, each-at}
 use Rattle.mirror_volume.proofs.repair.look_at_parts.Goals as goal
 

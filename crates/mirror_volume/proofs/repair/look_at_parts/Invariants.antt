@@ -1,11 +1,11 @@
 use Rattle.std.proofs.Common.{◌≡◌, ◌≤◌, List, is_some, length, take}
 use Rattle.script_stack.specs.Causes.{table_of}
 use Rattle.mirror_legs.specs.Inner.{read_pi_script}
-use Rattle.mirror_volume.specs.Asked.{AreOf}
+use Rattle.leg_runs.specs.Asked.{AreOf}
 use Rattle.mirror_volume.specs.Helds.{IsAfter, IsSeen}
-use Rattle.mirror_volume.specs.LegRuns.{AllOwn, LegRun}
-use Rattle.mirror_volume.specs.Mending.{IsRepairOf}
-use Rattle.mirror_volume.proofs.Runs.{RanBy}
+use Rattle.leg_runs.specs.LegRuns.{AllOwn, LegRun}
+use Rattle.leg_runs.specs.Mending.{IsRepairOf}
+use Rattle.leg_runs.proofs.Runs.{RanBy}
 use Rattle.mirror_volume.proofs.repair.look_at_parts.Given as goal
 
 abbrev pub invariant-loop-i : goal.invariant-loop-i

@@ -5,7 +5,7 @@ use Rattle.pi_tuple.specs.Tuples.{tuple_in}
 use Rattle.mirror_legs.specs.declared.piece.Piece.{Piece}
 use Rattle.mirror_legs.specs.Inner.{write_script}
 use Rattle.mirror_volume.proofs.Helds.{block-at}
-use Rattle.mirror_volume.proofs.OwnEach.{all_own-so}
+use Rattle.leg_runs.proofs.OwnEach.{all_own-so}
 use Rattle.mirror_volume.proofs.repair.mend.Goals as goal
 
 turned : (some none : Bool) → some ≡ not none → none ≡ not some

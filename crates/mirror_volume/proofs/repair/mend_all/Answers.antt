@@ -3,11 +3,11 @@ use Rattle.std.specs.Prelude.{None}
 use Rattle.std.proofs.lemmas.List.{take_all}
 use Rattle.mirror_walk.specs.Stretches.{Need}
 use Rattle.mirror_volume.specs.Helds.{goods_in}
-use Rattle.mirror_volume.specs.Mending.{Mended, MendsBy, need_by, needs_by}
+use Rattle.leg_runs.specs.Mending.{Mended, MendsBy, need_by, needs_by}
 use Rattle.mirror_volume.proofs.Helds.{goods-long, need-at, needs-count}
-use Rattle.mirror_volume.proofs.Mended.{mends-more, mends-none}
-use Rattle.mirror_volume.proofs.OwnEach.{all_own-append}
-use Rattle.mirror_volume.proofs.Runs.{ran-nothing, ran-two}
+use Rattle.leg_runs.proofs.Mended.{mends-more, mends-none}
+use Rattle.leg_runs.proofs.OwnEach.{all_own-append}
+use Rattle.leg_runs.proofs.Runs.{ran-nothing, ran-two}
 use Rattle.mirror_volume.proofs.repair.mend_all.Goals as goal
 
 pub loop-i-init : goal.loop-i-init

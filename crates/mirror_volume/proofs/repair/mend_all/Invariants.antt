@@ -1,9 +1,9 @@
 use Rattle.std.proofs.Common.{◌≡◌, ◌+◌, ◌≤◌, List, is_some, length, take}
 use Rattle.script_stack.specs.Causes.{table_of}
 use Rattle.mirror_volume.specs.Helds.{goods_in}
-use Rattle.mirror_volume.specs.LegRuns.{AllOwn, LegRun}
-use Rattle.mirror_volume.specs.Mending.{IsRepairOf, MendsBy, needs_by}
-use Rattle.mirror_volume.proofs.Runs.{RanBy}
+use Rattle.leg_runs.specs.LegRuns.{AllOwn, LegRun}
+use Rattle.leg_runs.specs.Mending.{IsRepairOf, MendsBy, needs_by}
+use Rattle.leg_runs.proofs.Runs.{RanBy}
 use Rattle.mirror_volume.proofs.repair.mend_all.Given as goal
 
 abbrev pub invariant-loop-i : goal.invariant-loop-i

@@ -6,10 +6,10 @@ use Rattle.mirror_walk.specs.declared.marks.Marks.{Marks}
 use Rattle.mirror_legs.specs.declared.piece.Piece.{Piece}
 use Rattle.mirror_legs.specs.Inner.{write_script}
 use Rattle.mirror_volume.specs.Helds.{goods_in}
-use Rattle.mirror_volume.specs.Mending.{Mended, need_by}
+use Rattle.leg_runs.specs.Mending.{Mended, need_by}
 use Rattle.mirror_volume.proofs.Helds.{bit-at, good-here, none-here}
-use Rattle.mirror_volume.proofs.Mended.{mends-fine, mends-lost, mends-on0, mends-on1}
-use Rattle.mirror_volume.proofs.Runs.{ran-nothing}
+use Rattle.leg_runs.proofs.Mended.{mends-fine, mends-lost, mends-on0, mends-on1}
+use Rattle.leg_runs.proofs.Runs.{ran-nothing}
 use Rattle.mirror_volume.proofs.repair.mend_block.Goals as goal
 
 pub returns-in-true-true-clause-ran : goal.returns-in-true-true-clause-ran

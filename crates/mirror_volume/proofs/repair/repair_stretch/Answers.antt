@@ -1,13 +1,13 @@
 use Rattle.std.proofs.Common.{◌≡◌, ◌+◌, ◌-◌, ◌++◌, true, ap, drop, rules, subst, take, ◌∙◌, arith}
 use Rattle.mirror_legs.specs.declared.piece.Piece.{Piece}
 use Rattle.mirror_legs.specs.Inner.{read_pi_script}
-use Rattle.mirror_volume.specs.Asked.{AreOf, fresh_on0, stretches}
+use Rattle.leg_runs.specs.Asked.{AreOf, fresh_on0, stretches}
 use Rattle.mirror_volume.specs.Helds.{goods_in}
-use Rattle.mirror_volume.specs.Mending.{fresh_on1}
-use Rattle.mirror_volume.proofs.Mended.{stretched}
-use Rattle.mirror_volume.proofs.OwnEach.{all_own-append}
-use Rattle.mirror_volume.proofs.Results.{if-ok}
-use Rattle.mirror_volume.proofs.Runs.{ran-nothing, ran-two}
+use Rattle.leg_runs.specs.Mending.{fresh_on1}
+use Rattle.leg_runs.proofs.Mended.{stretched}
+use Rattle.leg_runs.proofs.OwnEach.{all_own-append}
+use Rattle.leg_runs.proofs.Results.{if-ok}
+use Rattle.leg_runs.proofs.Runs.{ran-nothing, ran-two}
 use Rattle.mirror_volume.proofs.repair.repair_stretch.Goals as goal
 
 pub returns-in_err-wanted0-clause-ran : goal.returns-in_err-wanted0-clause-ran

@@ -6,11 +6,11 @@ use Rattle.mirror_walk.specs.OnLegs.{listed_written, marks_written}
 use Rattle.mirror_legs.specs.declared.piece.Piece.{Piece}
 use Rattle.mirror_legs.specs.Inner.{write_script}
 use Rattle.script_text.specs.declared.script.Script.{Script}
-use Rattle.mirror_volume.specs.LegRuns.{AllOwn, LegRun, found_by, replies_of}
-use Rattle.mirror_volume.specs.OnOps.{IsWriteOf, whole_request}
-use Rattle.mirror_volume.proofs.Borrowed.{written-back}
-use Rattle.mirror_volume.proofs.Results.{if-ok}
-use Rattle.mirror_volume.proofs.Runs.{all_own-append, all_own-map, ran-nothing, ran-two}
+use Rattle.leg_runs.specs.LegRuns.{AllOwn, LegRun, found_by, replies_of}
+use Rattle.leg_runs.specs.OnOps.{IsWriteOf, whole_request}
+use Rattle.leg_runs.proofs.Borrowed.{written-back}
+use Rattle.leg_runs.proofs.Results.{if-ok}
+use Rattle.leg_runs.proofs.Runs.{all_own-append, all_own-map, ran-nothing, ran-two}
 use Rattle.mirror_volume.proofs.writing.write_request.Goals as goal
 
 -- a run on either leg is of the request

@@ -1,11 +1,11 @@
 use Rattle.std.proofs.Common.{◌≡◌, ◌+◌, List, ap, arith, length, subst, sym, ◌∙◌}
 use Rattle.stack_ops.specs.declared.reply.Reply.{Reply}
 use Rattle.script_stack.specs.Going.{Outside}
-use Rattle.mirror_volume.specs.OnOps.{DidOp, RanOp, Sides}
+use Rattle.leg_runs.specs.OnOps.{DidOp, RanOp, Sides}
 use Rattle.mirror_volume.specs.Plans.{sides_of}
-use Rattle.mirror_volume.specs.Standing.{StandsAt, op_at}
-use Rattle.mirror_volume.proofs.Ends.{ran-none-left}
-use Rattle.mirror_volume.proofs.Nexts.{IsBetween, op-stands}
+use Rattle.leg_runs.specs.Standing.{StandsAt, op_at}
+use Rattle.leg_runs.proofs.Ends.{ran-none-left}
+use Rattle.leg_runs.proofs.Nexts.{IsBetween, op-stands}
 use Rattle.mirror_volume.proofs.mirror.Mirror.next.Goals as goal
 
 pub returns-then-at-as_slice-clause-op : goal.returns-then-at-as_slice-clause-op

@@ -1,6 +1,6 @@
-use Rattle.mirror_volume.specs.Mending.{Mended}
+use Rattle.leg_runs.specs.Mending.{Mended}
 use Rattle.mirror_volume.specs.Plans.{sides_of}
-use Rattle.mirror_volume.proofs.RepairTold.{repair-told}
+use Rattle.leg_runs.proofs.RepairTold.{repair-told}
 use Rattle.mirror_volume.proofs.mirror.Mirror.repair.Goals as goal
 
 pub returns-in-Ok-clause-told : goal.returns-in-Ok-clause-told

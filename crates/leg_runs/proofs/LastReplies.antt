@@ -1,0 +1,54 @@
+-- The last op of a script that is run lists blocks of its request alone.
+use Rattle.std.proofs.Common.{ℕ, zero, suc, ◌≡◌, ◌+◌, ◌≤◌, List, [], ◌∷◌, ◌++◌, drop, get_or, length, map, Option, Some, None, refl, ap, ◌∙◌, arith}
+use Rattle.std.proofs.lemmas.List.{length-map}
+use Rattle.bio_core.specs.declared.fate.Why.{Why}
+use Rattle.block_path.specs.Acts.{Act, State, act, tell}
+use Rattle.block_path.specs.Blocks.{Answer, Sent}
+use Rattle.block_path.specs.Serial.{plain, plain_tells}
+use Rattle.stack_ops.specs.declared.op.Op.{Op}
+use Rattle.stack_ops.specs.declared.reply.BadBlock.{BadBlock}
+use Rattle.stack_ops.specs.declared.reply.Reply.{Reply}
+use Rattle.stack_ops.specs.declared.reply.Reply.TheVariants.{Silent}
+use Rattle.whole_run.specs.ScriptWalk.{bad_from, request_reply, whole_or_bad}
+use Rattle.whole_run.specs.Settings.{Setting}
+use Rattle.whole_run.specs.Steps.{Step, each_from}
+use Rattle.run_record.specs.TakenWalk.{taken_act, taken_acts, taken_reply, taken_replies}
+use Rattle.leg_runs.specs.LegRuns.{AreBelow, Fits, LastFits}
+
+long-tells : (acts : List (Act Answer)) (s : State) → length (plain_tells act tell acts s) ≡ length acts
+long-tells [] s = refl
+long-tells (a ∷ acts) s = ap suc (long-tells acts (act a s))
+
+each-long : {X : Type 0} (k n : ℕ) (f : ℕ → X) → length (each_from k n f) ≡ n
+each-long k zero f = refl
+each-long k (suc n) f = ap suc (each-long (suc k) n f)
+
+below-whys : (n k : ℕ) (whys : List (Option Why)) → k + length whys ≤ n → AreBelow n (bad_from k whys)
+below-whys n k [] h = tt
+below-whys n k (None ∷ whys) h = below-whys n (suc k) whys (omega (arith, h))
+below-whys n k (Some why ∷ whys) h = (omega (arith, h), below-whys n (suc k) whys (omega (arith, h)))
+
+fits-list : (n : ℕ) (bad : List BadBlock) → AreBelow n bad → Fits n (whole_or_bad bad)
+fits-list n [] h = tt
+fits-list n (b ∷ bad) h = h
+
+fits-answers : (n : ℕ) (answers : List Answer) → length answers ≡ n → Fits n (request_reply answers)
+fits-answers n answers e =
+    let whys = map (λ (a : Answer). a.why) answers in
+    let l : length whys ≡ length answers = length-map answers (λ (a : Answer). a.why) in
+    fits-list n (bad_from 0 whys) (below-whys n 0 whys (omega (arith, e, l)))
+
+module _ (m : Setting) (es : List Sent) where
+  pub last-fits : (i : ℕ) (before : List Op) (op : Op) (n : ℕ) (replies : List Reply) (s : State)
+      → ((j : ℕ) (reply : Reply) (now : State) → Fits n (taken_reply op reply (plain_tells act tell (taken_acts m es j op reply) now)))
+      → LastFits (taken_replies m es i (before ++ (op ∷ [])) replies s) n
+  last-fits i [] op n replies s h = h i (get_or replies 0 Silent) s
+  last-fits i (x ∷ []) op n replies s h =
+      last-fits (suc i) [] op n (drop 1 replies) (plain act (taken_acts m es i x (get_or replies 0 Silent)) s) h
+  last-fits i (x ∷ y ∷ before) op n replies s h =
+      last-fits (suc i) (y ∷ before) op n (drop 1 replies) (plain act (taken_acts m es i x (get_or replies 0 Silent)) s) h
+
+pub asks-steps : (m : Setting) (es : List Sent) (n : ℕ) (reply : Reply) (s : State) (f : ℕ → Step) → Fits n (request_reply (plain_tells act tell (map (taken_act m es reply) (each_from 0 n f)) s))
+asks-steps m es n reply s f =
+    let acts = map (taken_act m es reply) (each_from 0 n f) in
+    fits-answers n (plain_tells act tell acts s) (long-tells acts s ∙ length-map (each_from 0 n f) (taken_act m es reply) ∙ each-long 0 n f)

@@ -1,0 +1,45 @@
+-- A repair over a rig that tells its blocks.
+use Rattle.std.proofs.Common.{ℕ, ◌≡◌, List, length, map, Option, Some, ap, subst, sym, ◌∙◌}
+use Rattle.std.specs.Prelude.{is_some}
+use Rattle.dix_base.specs.Told.{Calm}
+use Rattle.target_answer.specs.Target.{Stored}
+use Rattle.target_answer.specs.declared.units.UnitSpec.{UnitSpec}
+use Rattle.rig_api.specs.Telling.{IsStanding, Standing, units_told}
+use Rattle.rig_discovery.specs.Discovery.{info_of}
+use Rattle.dix_adapter.specs.Ways.{shapes_of}
+use Rattle.stack_ops.specs.declared.reply.Reply.{Reply}
+use Rattle.volume_table.specs.declared.device.DeviceInfo.{DeviceInfo}
+use Rattle.script_text.specs.declared.script.Script.{Script}
+use Rattle.script_ground.specs.Units.{AreStored}
+use Rattle.script_stack.specs.Causes.{table_of}
+use Rattle.script_stack.specs.Going.{Outside}
+use Rattle.script_stack.proofs.Following.{told-image, told-shapes, told-stored}
+use Rattle.leg_runs.specs.LegRuns.{AllWalked, LegRun, RanLegs}
+use Rattle.leg_runs.specs.Mending.{Mended, RepairBy, stretches_in}
+use Rattle.leg_runs.specs.OnOps.{Sides}
+use Rattle.leg_runs.specs.Standing.{HasDevices, IsBoundMirror, IsRepairedAs, StandsAt, half_of}
+
+-- what the law of a repair says
+abbrev pub RepairLaw : Type 0
+RepairLaw = (s : Script) (devices : List DeviceInfo) (us now left : List Stored) (sides : Sides) (replies : List Reply) (new : Mended) (runs : List LegRun) → IsBoundMirror s devices
+    → devices ≡ map info_of (shapes_of now) → AreStored now → length sides.marks ≡ half_of s devices → StandsAt s devices us sides replies now
+    → RepairBy s (half_of s devices) 0 (stretches_in (half_of s devices)) (record { marks = sides.marks; repaired = 0; lost = 0 }) new runs → AllWalked (table_of s devices) now runs left
+    → IsRepairedAs s devices us (length replies) new.marks new.repaired new.lost left
+
+module _ (law : RepairLaw) (s : Script) (devices : List DeviceInfo) (half : ℕ) (bound : IsBoundMirror s devices) (is-half : half ≡ half_of s devices) (st : Standing) (image : Option (List ℕ))
+    (has : HasDevices devices (is_some image) st) (ready : IsStanding st image) where
+  pub repair-told : (before after : Outside) (us now : List Stored) (sides : Sides) (replies : List Reply) (new : Mended) (runs : List LegRun) → before.units ≡ units_told st image → length sides.marks ≡ half
+      → RanLegs (table_of s devices) devices runs before after → RepairBy s half 0 (stretches_in half) (record { marks = sides.marks; repaired = 0; lost = 0 }) new runs
+      → before.units ≡ Some now → Calm before.faults after.faults → StandsAt s devices us sides replies now
+      → (left : List Stored) × ((after.units ≡ Some left) × IsRepairedAs s devices us (length replies) new.marks new.repaired new.lost left)
+  repair-told before after us now sides replies new runs laid marked ran by told calm stands =
+      let e = sym laid ∙ told in
+      let units = has.told (told-image st image now e) ∙ ap (λ (xs : List UnitSpec). map info_of xs) (sym (told-shapes st image now e ready)) in
+      let x = ran.told now told calm in (
+        x.0,
+        (
+          x.1.0,
+          law s devices us now x.0 sides replies new runs bound units (told-stored st image now e ready) (marked ∙ is-half) stands
+              (subst (λ h. RepairBy s h 0 (stretches_in h) (record { marks = sides.marks; repaired = 0; lost = 0 }) new runs) is-half by) x.1.1,
+        ),
+      )

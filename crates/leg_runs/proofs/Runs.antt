@@ -1,0 +1,98 @@
+-- Runs on the legs: none, one, and some after others.
+use Rattle.std.proofs.Common.{ℕ, ◌≡◌, ◌+◌, ◌≤◌, List, [], ◌∷◌, ◌++◌, length, min, refl, sym, ap, subst, ◌∙◌, append_assoc, append-nil, arith}
+use Rattle.dix_base.specs.Told.{Calm}
+use Rattle.target_answer.specs.Target.{Stored}
+use Rattle.script_text.specs.declared.script.Script.{Script}
+use Rattle.script_stack.specs.Followed.{Ran}
+use Rattle.script_stack.specs.Going.{Outside}
+use Rattle.stack_core.specs.declared.stack.Stack.{Stack}
+use Rattle.volume_table.specs.declared.device.DeviceInfo.{DeviceInfo}
+use Rattle.volume_table.specs.Tables.{Table}
+use Rattle.leg_runs.specs.LegRuns.{AllBacked, AllOwn, AllWalked, GoOn, LegRun, RanLegs, all_records}
+
+pub all_records-append : (xs ys : List LegRun) → all_records (xs ++ ys) ≡ all_records xs ++ all_records ys
+all_records-append [] ys = refl
+all_records-append (x ∷ xs) ys = ap (λ es. x.records ++ es) (all_records-append xs ys) ∙ sym (append_assoc x.records (all_records xs) (all_records ys))
+
+pub all_backed-append : (t : Table) (devices : List DeviceInfo) (xs ys : List LegRun) → AllBacked t devices xs → AllBacked t devices ys → AllBacked t devices (xs ++ ys)
+all_backed-append t devices [] ys h k = k
+all_backed-append t devices (x ∷ xs) ys h k = (h.0, (h.1.0, all_backed-append t devices xs ys h.1.1 k))
+
+pub all_walked-append : (t : Table) (us between left : List Stored) (xs ys : List LegRun) → AllWalked t us xs between → AllWalked t between ys left → AllWalked t us (xs ++ ys) left
+all_walked-append t us between left [] ys h k = subst (λ u. AllWalked t u ys left) h k
+all_walked-append t us between left (x ∷ xs) ys h k = (h.0, (h.1.0, all_walked-append t h.0 between left xs ys h.1.1 k))
+
+pub all_own-append : (P : Script → Type 0) (xs ys : List LegRun) → AllOwn P xs → AllOwn P ys → AllOwn P (xs ++ ys)
+all_own-append P [] ys h k = k
+all_own-append P (x ∷ xs) ys h k = (h.0, all_own-append P xs ys h.1 k)
+
+pub all_own-map : (P Q : Script → Type 0) (runs : List LegRun) → ((own : Script) → P own → Q own) → AllOwn P runs → AllOwn Q runs
+all_own-map P Q [] f h = tt
+all_own-map P Q (r ∷ runs) f h = (f r.own h.0, all_own-map P Q runs f h.1)
+
+pub go_on-append : (schedule : List (ℕ × ℕ)) (used between used' : ℕ) (xs ys : List LegRun) → GoOn schedule used xs between → GoOn schedule between ys used' → GoOn schedule used (xs ++ ys) used'
+go_on-append schedule used between used' [] ys h k = subst (λ n. GoOn schedule n ys used') h k
+go_on-append schedule used between used' (x ∷ xs) ys h k = (h.0, go_on-append schedule (used + min (length x.words) x.stack.machine.steps) between used' xs ys h.1 k)
+
+pub calm-first : (b m a : ℕ) → b ≤ m → m ≤ a → Calm b a → Calm b m
+calm-first b m a l k h = (omega (arith, k, h.0), omega (arith, l, h.1))
+
+pub calm-last : (b m a : ℕ) → b ≤ m → m ≤ a → Calm b a → Calm m a
+calm-last b m a l k h = (omega (arith, l, h.0), omega (arith, k, h.0, h.1))
+
+pub ran-append : (t : Table) (devices : List DeviceInfo) (xs ys : List LegRun) (before between after : Outside) → RanLegs t devices xs before between → RanLegs t devices ys between after → RanLegs t devices (xs ++ ys) before after
+ran-append t devices xs ys before between after h k = record {
+  standing = k.standing ∙ h.standing;
+  faults = (let a = h.faults in let b = k.faults in omega (arith, a, b));
+  records = k.records ∙ ap (λ es. es ++ all_records ys) h.records ∙ append_assoc before.log (all_records xs) (all_records ys) ∙ ap (λ es. before.log ++ es) (sym (all_records-append xs ys));
+  backed = all_backed-append t devices xs ys h.backed k.backed;
+  told = λ us e calm.
+      (let x = h.told us e (calm-first before.faults between.faults after.faults h.faults k.faults calm) in
+      let y = k.told x.0 x.1.0 (calm-last before.faults between.faults after.faults h.faults k.faults calm) in
+      (y.0, (y.1.0, all_walked-append t us x.0 y.0 xs ys x.1.1 y.1.1)));
+}
+
+-- Nothing was run, and nothing changed that is seen.
+pub record AreSame (before after : Outside) : Type 0 where
+  pub units : after.units ≡ before.units
+  pub standing : after.standing ≡ before.standing
+  pub log : after.log ≡ before.log
+  pub faults : after.faults ≡ before.faults
+
+pub ran-none : (t : Table) (devices : List DeviceInfo) (before after : Outside) → AreSame before after → RanLegs t devices [] before after
+ran-none t devices before after h = record {
+  standing = h.standing;
+  faults = (let e = h.faults in omega (arith, e));
+  records = h.log ∙ sym (append-nil before.log);
+  backed = tt;
+  told = λ us e calm. (us, (h.units ∙ e, refl));
+}
+
+pub ran-one : (s : Script) (t : Table) (devices : List DeviceInfo) (words : List (ℕ × ℕ)) (before after : Outside) (r : Stack) (h : Ran s t devices words before after r)
+    → RanLegs t devices (record { own = s; words = words; records = h.more; stack = r } ∷ []) before after
+ran-one s t devices words before after r h = record {
+  standing = h.standing;
+  faults = h.faults;
+  records = h.records ∙ ap (λ es. before.log ++ es) (sym (append-nil h.more));
+  backed = (h.backed, (h.sends, tt));
+  told = λ us e calm. (let x = h.told us e calm in (x.0, (x.1.0, (x.0, (x.1.1, refl)))));
+}
+
+-- ---- runs of which something is said
+
+-- what the functions of a mirror say of their runs
+abbrev pub RanBy : Table → List DeviceInfo → (schedule : List (ℕ × ℕ)) → (before after : Outside) → (used used' : ℕ) → (List LegRun → Type 0) → Type 0
+RanBy t devices schedule before after used used' P = (runs : List LegRun) × (RanLegs t devices runs before after × (GoOn schedule used runs used' × P runs))
+
+pub ran-then : (t : Table) (devices : List DeviceInfo) (schedule : List (ℕ × ℕ)) (before between after : Outside) (used then used' : ℕ) (P Q R : List LegRun → Type 0)
+    → RanBy t devices schedule before between used then P → RanBy t devices schedule between after then used' Q → ((xs ys : List LegRun) → P xs → Q ys → R (xs ++ ys)) → RanBy t devices schedule before after used used' R
+ran-then t devices schedule before between after used then used' P Q R x y f =
+    (x.0 ++ y.0, (ran-append t devices x.0 y.0 before between after x.1.0 y.1.0, (go_on-append schedule used then used' x.0 y.0 x.1.1.0 y.1.1.0, f x.0 y.0 x.1.1.1 y.1.1.1)))
+
+pub ran-nothing : (t : Table) (devices : List DeviceInfo) (schedule : List (ℕ × ℕ)) (now : Outside) (used : ℕ) (P : List LegRun → Type 0) → P [] → RanBy t devices schedule now now used used P
+ran-nothing t devices schedule now used P h = ([], (ran-none t devices now now (record { units = refl; standing = refl; log = refl; faults = refl }), (refl, h)))
+
+-- some runs, and then others
+pub ran-two : (t : Table) (devices : List DeviceInfo) (schedule : List (ℕ × ℕ)) (before between after : Outside) (used then used' : ℕ) (xs ys : List LegRun)
+    → RanLegs t devices xs before between → GoOn schedule used xs then → RanLegs t devices ys between after → GoOn schedule then ys used' → RanLegs t devices (xs ++ ys) before after × GoOn schedule used (xs ++ ys) used'
+ran-two t devices schedule before between after used then used' xs ys h g k f = (ran-append t devices xs ys before between after h k, go_on-append schedule used then used' xs ys g f)

@@ -1,0 +1,5 @@
+pub mod LegRuns
+pub mod Asked
+pub mod OnOps
+pub mod Standing
+pub mod Mending
