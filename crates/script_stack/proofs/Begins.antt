@@ -34,9 +34,9 @@ use Rattle.script_ground.specs.Units.{all_blocks}
 use Rattle.script_ground.proofs.Standing.{seals-whole, stands-on-ground}
 use Rattle.script_ground.proofs.Units.{over-units}
 use Rattle.stack_core.specs.declared.stack.Stack.{Stack}
-use Rattle.stack_core.specs.Requests.{pages_from, requests_from}
-use Rattle.stack_core.specs.Sheets.{io_at, op_in}
-use Rattle.stack_core.specs.Shifts.{shifted_by}
+use Rattle.stack_walks.specs.Requests.{pages_from, requests_from}
+use Rattle.stack_walks.specs.Sheets.{io_at, op_in}
+use Rattle.stack_walks.specs.Shifts.{shifted_by}
 use Rattle.stack_core.specs.Walking.{IsOver, NoOverwrites, NoneFailed, Opens, SizesFit, WalksAtFirst, WalksFallingAtFirst, WalksToldAtFirst}
 use Rattle.script_stack.specs.Followed.{BeginsFalling, BeginsTold, BeginsWalks, SizesAre, begun_of, none_fails, setting_of, unit_of}
 use Rattle.script_stack.proofs.Runs.{own-infos}

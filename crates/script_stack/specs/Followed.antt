@@ -27,7 +27,7 @@ use Rattle.run_moves.specs.BoundRun.{fates}
 use Rattle.run_falls.specs.AtTheEnd.{EndsAsFalling}
 use Rattle.script_ground.specs.Units.{all_blocks}
 use Rattle.stack_core.specs.Mediums.{RoseBy, medium_lines}
-use Rattle.stack_core.specs.Requests.{pages_from, requests_from}
+use Rattle.stack_walks.specs.Requests.{pages_from, requests_from}
 use Rattle.stack_core.specs.declared.stack.Stack.{Stack}
 use Rattle.stack_core.specs.Stacks.{IsStack, plan_in}
 use Rattle.stack_core.specs.Walking.{NoOverwrites, Walks, WalksFalling, WalksTold, is_medium}

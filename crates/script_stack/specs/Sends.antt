@@ -9,9 +9,9 @@ use Rattle.stack_view.specs.Runs.{Entry, blocks_of_requests, sends_of}
 use Rattle.volume_table.specs.Tables.{Table}
 use Rattle.script_text.specs.declared.script.Script.{Script}
 use Rattle.stack_core.specs.OnRecord.{AreRecords, HasQueues, HasSent, ListsNone}
-use Rattle.stack_core.specs.Requests.{requests_from}
-use Rattle.stack_core.specs.Sheets.{plan_of}
-use Rattle.stack_core.specs.Shifts.{shifted_by}
+use Rattle.stack_walks.specs.Requests.{requests_from}
+use Rattle.stack_walks.specs.Sheets.{plan_of}
+use Rattle.stack_walks.specs.Shifts.{shifted_by}
 use Rattle.stack_core.specs.declared.stack.Stack.{Stack}
 
 -- the entries of a schedule, each a word and a cut

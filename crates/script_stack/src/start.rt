@@ -11,7 +11,7 @@ ghost use Rattle.volume_table.specs.Tables.{MadeFor};
 ghost use Rattle.stack_view.specs.Runs.{blocks_of_requests};
 ghost use Rattle.stack_view.specs.View.{start};
 ghost use Rattle.stack_steps.specs.Does.{Holds};
-ghost use Rattle.stack_core.specs.Requests.{pages_from, requests_from};
+ghost use Rattle.stack_walks.specs.Requests.{pages_from, requests_from};
 ghost use Rattle.stack_core.specs.Stacks.{HasSpare, IsStack, Reaches, plan_in};
 ghost use Rattle.script_text.specs.Bindings.{binding_fault};
 ghost use Rattle.script_ground.specs.SuitsStack.{SuitsStack};

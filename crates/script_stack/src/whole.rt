@@ -9,7 +9,7 @@ ghost use Rattle.dix_adapter.specs.Groups.{mode_of};
 ghost use Rattle.stack_view.specs.Steps.{enabled};
 ghost use Rattle.stack_view.specs.View.{View, start};
 ghost use Rattle.stack_steps.specs.Does.{Holds};
-ghost use Rattle.stack_core.specs.Requests.{pages_from, requests_from};
+ghost use Rattle.stack_walks.specs.Requests.{pages_from, requests_from};
 ghost use Rattle.stack_core.specs.Stacks.{HasSpare, IsStack, Reaches, plan_in};
 ghost use Rattle.script_text.specs.Bindings.{binding_fault};
 ghost use Rattle.script_laws.specs.Keeping.{Keeps};

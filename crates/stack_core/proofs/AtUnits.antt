@@ -19,8 +19,8 @@ use Rattle.target_answer.specs.declared.units.UnitSpec.{UnitSpec}
 use Rattle.carried_record.proofs.Puts.{InTurn}
 use Rattle.dix_adapter.proofs.Asking.{is-pos}
 use Rattle.stack_walks.specs.Units.{first_virt}
-use Rattle.stack_core.specs.Requests.{first_page, page_after, request_of, requests_from}
-use Rattle.stack_core.specs.Sheets.{io_at, no_io, op_in}
+use Rattle.stack_walks.specs.Requests.{first_page, page_after, request_of, requests_from}
+use Rattle.stack_walks.specs.Sheets.{io_at, no_io, op_in}
 use Rattle.whole_run.specs.Settings.{Setting}
 use Rattle.run_moves.specs.OpsApart.{OpsConflict, is_shifted}
 use Rattle.run_moves.specs.ScriptMoves.{fates_of}

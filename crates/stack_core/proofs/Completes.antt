@@ -39,14 +39,14 @@ use Rattle.stack_walks.proofs.Fates.{done_with}
 use Rattle.stack_walks.proofs.Groups.{AllNumbered, ids_are, settled_given}
 use Rattle.stack_walks.proofs.Letting.{all_marked, lets_of}
 use Rattle.stack_core.specs.Courses.{Course}
-use Rattle.stack_core.specs.Moved.{why_of}
-use Rattle.stack_core.specs.Settled.{AllSettled, Kept}
-use Rattle.stack_core.specs.Settling.{AreFates}
-use Rattle.stack_core.specs.Sheets.{io_at}
+use Rattle.stack_walks.specs.Moved.{why_of}
+use Rattle.stack_walks.specs.Settled.{AllSettled, Kept}
+use Rattle.stack_walks.specs.Settling.{AreFates}
+use Rattle.stack_walks.specs.Sheets.{io_at}
 use Rattle.stack_core.specs.Walking.{Data, Follow, GoesOn, IsReply, shown_in, status_of, why_in}
-use Rattle.stack_core.proofs.Chained.{Each, all_each, one_place}
+use Rattle.stack_walks.proofs.Chained.{Each, all_each, one_place}
 use Rattle.stack_core.proofs.Courses.{same_by}
-use Rattle.stack_core.proofs.Facts.{place-is}
+use Rattle.stack_walks.proofs.Facts.{place-is}
 use Rattle.stack_core.proofs.FollowsComplete.{AllLets, NotAt, all_settled, at, each_keeps, each_whole}
 use Rattle.stack_core.proofs.FollowsGroup.{AllLie, Places, all_lie, all_of, all_sent, apart_of, is_this, there_is}
 use Rattle.stack_core.proofs.Spotted.{Stands}

@@ -17,11 +17,11 @@ use Rattle.pi_tuple.specs.declared.checks.PiType.{PiType}
 use Rattle.dix_adapter.specs.declared.adapter.Adapter.{Adapter}
 use Rattle.stack_core.specs.declared.sheet.Sheet.{Sheet}
 use Rattle.stack_core.specs.declared.stack.Stack.{Stack}
-use Rattle.stack_core.specs.Sheets.{io_at, op_in}
+use Rattle.stack_walks.specs.Sheets.{io_at, op_in}
 use Rattle.stack_core.specs.Stacks.{IsStack, Stays, plan_in}
 use Rattle.stack_walks.specs.Seals.{IsSealed}
 use Rattle.stack_core.specs.Walking.{IsOver}
-use Rattle.stack_core.proofs.Facts.{request-at}
+use Rattle.stack_walks.proofs.Facts.{request-at}
 use Rattle.stack_core.proofs.FollowsGroup.{Places}
 use Rattle.stack_core.proofs.FollowsSend.{Adapts}
 use Rattle.stack_core.proofs.Planning.{plan_is}

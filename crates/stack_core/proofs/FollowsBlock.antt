@@ -30,11 +30,11 @@ use Rattle.run_follows.proofs.Sends.{with_here, with_other}
 use Rattle.stack_walks.specs.Spots.{spot_at}
 use Rattle.stack_walks.proofs.Spots.{spot_number, spot_ops, spot_place, steps_count}
 use Rattle.stack_core.specs.Courses.{Course, FollowsBy}
-use Rattle.stack_core.specs.Moved.{route_to, why_of}
-use Rattle.stack_core.specs.Settled.{MappedBack, ReadSettled, Settled}
-use Rattle.stack_core.specs.Settling.{IsWhole}
-use Rattle.stack_core.specs.Sheets.{io_at, op_in}
-use Rattle.stack_core.proofs.BlockParts.{owner_of, settled_of}
+use Rattle.stack_walks.specs.Moved.{route_to, why_of}
+use Rattle.stack_walks.specs.Settled.{MappedBack, ReadSettled, Settled}
+use Rattle.stack_walks.specs.Settling.{IsWhole}
+use Rattle.stack_walks.specs.Sheets.{io_at, op_in}
+use Rattle.stack_walks.proofs.BlockParts.{owner_of, settled_of}
 use Rattle.stack_core.proofs.Courses.{settled_by}
 use Rattle.stack_core.proofs.FollowsMove.{frames_of}
 use Rattle.stack_core.proofs.InCells.{is-bare, is-mapped-back, is-settle}

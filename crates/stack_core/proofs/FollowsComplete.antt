@@ -31,17 +31,17 @@ use Rattle.stack_walks.specs.Statuses.{with_settled}
 use Rattle.stack_walks.proofs.Spots.{Lets, may_move}
 use Rattle.dix_adapter.specs.Groups.{data_cells, tuple_cells}
 use Rattle.stack_core.specs.Courses.{Course, FollowsBy}
-use Rattle.stack_core.specs.Moved.{why_of}
-use Rattle.stack_core.specs.Settled.{IsSettled, Kept, OneSettled}
-use Rattle.stack_core.specs.Settling.{AreFates}
-use Rattle.stack_core.specs.Sheets.{io_at}
+use Rattle.stack_walks.specs.Moved.{why_of}
+use Rattle.stack_walks.specs.Settled.{IsSettled, Kept, OneSettled}
+use Rattle.stack_walks.specs.Settling.{AreFates}
+use Rattle.stack_walks.specs.Sheets.{io_at}
 use Rattle.stack_core.specs.Walking.{why_in}
-use Rattle.stack_core.proofs.Chained.{Each, keeps_settled}
+use Rattle.stack_walks.proofs.Chained.{Each, keeps_settled}
 use Rattle.stack_core.proofs.Courses.{found_by}
-use Rattle.stack_core.proofs.Facts.{place-is}
+use Rattle.stack_walks.proofs.Facts.{place-is}
 use Rattle.stack_core.proofs.FollowsBlock.{IsOn, block_settled}
 use Rattle.stack_core.proofs.Spotted.{Stands, block_is, count_is}
-use Rattle.stack_core.proofs.Wholes.{all_stay}
+use Rattle.stack_walks.proofs.Wholes.{all_stay}
 
 -- ---- a read's block is a read of the script
 

@@ -18,11 +18,11 @@ use Rattle.whole_run.specs.Settings.{Setting, block_of, route}
 use Rattle.run_follows.specs.Sending.{IsElsewhere}
 use Rattle.run_follows.specs.Slots.{Carried, Status}
 use Rattle.stack_walks.specs.Statuses.{fate_at, id_of, sent_as}
-use Rattle.stack_core.specs.Moved.{why_of}
-use Rattle.stack_core.specs.Settling.{AreFates}
-use Rattle.stack_core.specs.Sheets.{io_at}
-use Rattle.stack_core.proofs.Chained.{one_place}
-use Rattle.stack_core.proofs.Facts.{place-is}
+use Rattle.stack_walks.specs.Moved.{why_of}
+use Rattle.stack_walks.specs.Settling.{AreFates}
+use Rattle.stack_walks.specs.Sheets.{io_at}
+use Rattle.stack_walks.proofs.Chained.{one_place}
+use Rattle.stack_walks.proofs.Facts.{place-is}
 use Rattle.stack_core.proofs.FollowsComplete.{AllOf, NotAt, at}
 
 -- the plan's requests and places are the stack's and the script's

@@ -25,10 +25,10 @@ use Rattle.whole_run.proofs.AnyOrder.{plain_append}
 use Rattle.run_follows.specs.Pieces.{all_cut, all_made}
 use Rattle.stack_walks.specs.Spots.{spots_from}
 use Rattle.stack_core.specs.Done.{MadeBy, WriteMade, WriteMapped}
-use Rattle.stack_core.specs.Moved.{HasFrames, makes, maps_out, route_to, tuple_at}
-use Rattle.stack_core.specs.Settling.{IsWhole}
-use Rattle.stack_core.specs.Sheets.{io_at}
-use Rattle.stack_core.proofs.BlockParts.{cut_of, made_by, made_of}
+use Rattle.stack_walks.specs.Moved.{HasFrames, makes, maps_out, route_to, tuple_at}
+use Rattle.stack_walks.specs.Settling.{IsWhole}
+use Rattle.stack_walks.specs.Sheets.{io_at}
+use Rattle.stack_walks.proofs.BlockParts.{cut_of, made_by, made_of}
 use Rattle.stack_core.proofs.InCells.{are-made, are-mapped}
 use Rattle.stack_core.proofs.Spotted.{Stands, all_cut_are, all_made_are, turns, turns_none, turns_one}
 

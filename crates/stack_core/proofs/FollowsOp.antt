@@ -30,7 +30,7 @@ use Rattle.stack_walks.proofs.Standing.{is_done, waits}
 use Rattle.stack_core.specs.declared.kept.Room.TheVariants.{Nothing}
 use Rattle.stack_core.specs.Courses.{Course, FollowsBy}
 use Rattle.stack_core.specs.Rooms.{Suits}
-use Rattle.stack_core.specs.Sheets.{op_in}
+use Rattle.stack_walks.specs.Sheets.{op_in}
 use Rattle.stack_core.specs.Stacks.{room_at}
 use Rattle.stack_core.specs.Walking.{Data, Follow, GoesOn, IsReply, shown_by, shown_in, status_of, why_in}
 use Rattle.stack_core.proofs.Courses.{GoesTo, whole_by}

@@ -31,11 +31,11 @@ use Rattle.stack_walks.proofs.Sending.{in_its_queue, sent_statuses}
 use Rattle.stack_walks.proofs.Spots.{may_move, spot_number, spot_ops, spot_place, steps_count}
 use Rattle.stack_walks.proofs.Standing.{IsOut, is_sent, queued}
 use Rattle.stack_core.specs.Courses.{Course, FollowsBy}
-use Rattle.stack_core.specs.Sheets.{io_at}
+use Rattle.stack_walks.specs.Sheets.{io_at}
 use Rattle.stack_core.specs.Walking.{Data, Follow, shown_in, status_of, why_in}
 use Rattle.stack_core.proofs.Completes.{all_numbered}
 use Rattle.stack_core.proofs.Courses.{same_by}
-use Rattle.stack_core.proofs.Facts.{place-is}
+use Rattle.stack_walks.proofs.Facts.{place-is}
 use Rattle.stack_core.proofs.FollowsEnd.{none_same}
 use Rattle.stack_core.proofs.FollowsGroup.{AllApart, AllLie, Lies, Places, all_lie, apart_of, is_this}
 use Rattle.stack_core.proofs.Spotted.{Stands, block_is, count_is}

@@ -32,7 +32,7 @@ use Rattle.stack_walks.proofs.Spots.{steps_count}
 use Rattle.stack_walks.proofs.Standing.{is_uncut, not_cut, unmarked, waits}
 use Rattle.stack_walks.proofs.Together.{all_may, with_out}
 use Rattle.stack_core.specs.Done.{WriteMade, WriteMapped}
-use Rattle.stack_core.specs.Sheets.{io_at, op_in}
+use Rattle.stack_walks.specs.Sheets.{io_at, op_in}
 use Rattle.stack_core.specs.Walking.{Data, Follow, GoesOn, shown_in, status_of, why_in}
 use Rattle.stack_core.specs.Courses.{Course}
 use Rattle.stack_core.proofs.Courses.{admitted_by, cut_by, same_by}

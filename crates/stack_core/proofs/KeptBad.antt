@@ -32,11 +32,11 @@ use Rattle.stack_view.proofs.Ops.{marks-settle, this-block}
 use Rattle.stack_walks.specs.Statuses.{id_of}
 use Rattle.stack_walks.proofs.Groups.{ids_are}
 use Rattle.stack_core.specs.OnRecord.{AreTraced, IsKeptBad, IsTraced}
-use Rattle.stack_core.specs.Settled.{Judged, Kept, OneSettled, Settled}
-use Rattle.stack_core.specs.Settling.{AreFates, IsOf}
-use Rattle.stack_core.specs.Sheets.{io_at}
-use Rattle.stack_core.proofs.Chained.{Each, one_place}
-use Rattle.stack_core.proofs.Facts.{place-is}
+use Rattle.stack_walks.specs.Settled.{Judged, Kept, OneSettled, Settled}
+use Rattle.stack_walks.specs.Settling.{AreFates, IsOf}
+use Rattle.stack_walks.specs.Sheets.{io_at}
+use Rattle.stack_walks.proofs.Chained.{Each, one_place}
+use Rattle.stack_walks.proofs.Facts.{place-is}
 
 -- ---- where blocks are kept
 

@@ -10,10 +10,10 @@ use Rattle.stack_ops.specs.declared.op.Op.TheVariants.{Wait}
 use Rattle.stack_ops.specs.Footprints.{footprint}
 use Rattle.stack_core.specs.declared.kept.Room.{Room}
 use Rattle.stack_core.specs.declared.kept.Room.TheVariants.{Nothing}
-use Rattle.stack_core.specs.Sheets.{no_print, op_in, prints_of}
-use Rattle.stack_core.specs.Requests.{first_page, own_blocks, page_after, pages_from, request_of, requests_from}
+use Rattle.stack_walks.specs.Sheets.{no_print, op_in, prints_of}
+use Rattle.stack_walks.specs.Requests.{first_page, own_blocks, page_after, pages_from, request_of, requests_from}
 use Rattle.stack_core.specs.Stacks.{room_at}
-use Rattle.stack_core.proofs.Gates.{length-prints}
+use Rattle.stack_walks.proofs.Gates.{length-prints}
 
 pub prints-at : (ops : List Op) (shifted : List Bool) (i : ℕ) (d : Footprint) → length shifted ≡ length ops → i < length ops → get_or (prints_of ops shifted) i d ≡ footprint (op_in ops i) (get_or shifted i false)
 prints-at [] bs i d e h = absurd (omega arith)

@@ -23,9 +23,9 @@ use Rattle.run_moves.specs.ScriptMoves.{fates_of}
 use Rattle.run_record.specs.Records.{recorded}
 use Rattle.run_record.specs.ToldRun.{told}
 use Rattle.stack_core.specs.declared.stack.Stack.{Stack}
-use Rattle.stack_core.specs.Moved.{why_of}
+use Rattle.stack_walks.specs.Moved.{why_of}
 use Rattle.stack_core.specs.OnRecord.{IsKeptBad, ListsNone, bad_blocks}
-use Rattle.stack_core.specs.Sheets.{op_in}
+use Rattle.stack_walks.specs.Sheets.{op_in}
 use Rattle.stack_core.specs.Stacks.{IsStack, plan_in}
 use Rattle.stack_core.specs.Walking.{IsReply, Walks, why_in}
 use Rattle.stack_core.proofs.Context.{over_told}

@@ -24,10 +24,10 @@ use Rattle.whole_run.specs.Senses.{is_medium_why}
 use Rattle.whole_run.proofs.Named.{medium_is}
 use Rattle.carried_record.proofs.Named.{named_alike}
 use Rattle.stack_core.specs.Mediums.{mediums, one_medium}
-use Rattle.stack_core.specs.Settled.{IsSettled, Judged, Kept, OneSettled, Settled}
-use Rattle.stack_core.specs.Settling.{fate_by}
-use Rattle.stack_core.specs.Sheets.{io_at}
-use Rattle.stack_core.proofs.Chained.{Each}
+use Rattle.stack_walks.specs.Settled.{IsSettled, Judged, Kept, OneSettled, Settled}
+use Rattle.stack_walks.specs.Settling.{fate_by}
+use Rattle.stack_walks.specs.Sheets.{io_at}
+use Rattle.stack_walks.proofs.Chained.{Each}
 
 -- ---- a command is completed
 

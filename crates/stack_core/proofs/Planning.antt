@@ -23,12 +23,12 @@ use Rattle.whole_run.specs.Settings.{Setting}
 use Rattle.run_moves.specs.OpsApart.{OpsConflict, is_shifted}
 use Rattle.run_moves.specs.ScriptMoves.{fates_of}
 use Rattle.stack_walks.specs.Ground.{IsPlanOf}
-use Rattle.stack_core.specs.Requests.{first_page, request_of, requests_from}
-use Rattle.stack_core.specs.Sheets.{do_clash, io_at, layout_of, no_io, no_print, op_in, plan_of, prints_of, request_in}
-use Rattle.stack_core.specs.Shifts.{shifted_by, shifts}
-use Rattle.stack_core.proofs.Begin.{length-requests, placed}
-use Rattle.stack_core.proofs.Facts.{request-at}
-use Rattle.stack_core.proofs.Gates.{laid}
+use Rattle.stack_walks.specs.Requests.{first_page, request_of, requests_from}
+use Rattle.stack_walks.specs.Sheets.{do_clash, io_at, layout_of, no_io, no_print, op_in, plan_of, prints_of, request_in}
+use Rattle.stack_walks.specs.Shifts.{shifted_by, shifts}
+use Rattle.stack_walks.proofs.Begin.{length-requests, placed}
+use Rattle.stack_walks.proofs.Facts.{request-at}
+use Rattle.stack_walks.proofs.Gates.{laid}
 use Rattle.stack_core.proofs.Listing.{prints-at}
 
 pub count_is : (op : Op) (page : Option ℕ) → (request_of op page).count ≡ fates_of op

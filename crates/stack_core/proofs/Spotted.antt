@@ -22,10 +22,10 @@ use Rattle.run_follows.specs.Slots.{Parts, parts_of}
 use Rattle.stack_walks.specs.Ground.{Ground, IsPlanOf}
 use Rattle.stack_walks.specs.Spots.{spot_at, spots_from, step_in}
 use Rattle.stack_walks.proofs.Spots.{spot_place, steps_count}
-use Rattle.stack_core.specs.Requests.{first_page, own_blocks, page_after, pages_for, request_of, requests_from}
-use Rattle.stack_core.specs.Sheets.{io_at, op_in}
-use Rattle.stack_core.specs.Settling.{AreAllWhole}
-use Rattle.stack_core.proofs.BlockParts.{ArePartsOf, cut_of, made_of, parts_are}
+use Rattle.stack_walks.specs.Requests.{first_page, own_blocks, page_after, pages_for, request_of, requests_from}
+use Rattle.stack_walks.specs.Sheets.{io_at, op_in}
+use Rattle.stack_walks.specs.Settling.{AreAllWhole}
+use Rattle.stack_walks.proofs.BlockParts.{ArePartsOf, cut_of, made_of, parts_are}
 use Rattle.stack_core.proofs.Planning.{count_at}
 
 -- ---- moves of blocks in turn

@@ -24,7 +24,7 @@ use Rattle.stack_walks.proofs.Standing.{waits}
 use Rattle.stack_core.specs.Courses.{Course, Falling, Straight}
 use Rattle.stack_core.specs.declared.stack.Stack.{Stack}
 use Rattle.stack_core.specs.Rooms.{Suits}
-use Rattle.stack_core.specs.Sheets.{op_in, request_in}
+use Rattle.stack_walks.specs.Sheets.{op_in, request_in}
 use Rattle.stack_core.specs.Stacks.{IsStack, plan_in, room_at}
 use Rattle.stack_core.proofs.Courses.{begins_by}
 use Rattle.stack_core.specs.Walking.{IsOver, NoOverwrites, Opens, SizesFit, Walks, WalksAtTarget, WalksBy, WalksFalling, WalksOver, WalksTold, data_of, shown_in, status_of, why_in}

@@ -42,7 +42,7 @@ use Rattle.stack_walks.proofs.Letting.{all_marked}
 use Rattle.stack_walks.proofs.Standing.{is_done, is_settled}
 use Rattle.stack_core.specs.Courses.{Course}
 use Rattle.stack_core.specs.declared.stack.Stack.{Stack}
-use Rattle.stack_core.specs.Sheets.{op_in}
+use Rattle.stack_walks.specs.Sheets.{op_in}
 use Rattle.stack_core.specs.Stacks.{IsStack, plan_in}
 use Rattle.stack_walks.specs.Overwrites.{is_overwrite}
 use Rattle.stack_core.specs.Walking.{EndsTold, HasFails, IsOver, IsReply, Walks, WalksBy, WalksFalling, WalksTold, data_of, is_medium, shown_by, shown_in, status_of, why_in}

@@ -45,11 +45,11 @@ use Rattle.stack_core.specs.declared.stack.Stack.{Stack}
 use Rattle.stack_core.specs.Courses.{Course}
 use Rattle.stack_core.specs.Done.{MadeBy, OpDone, WriteMade, WriteMapped}
 use Rattle.stack_core.specs.Replies.{reply_of}
-use Rattle.stack_core.specs.Sheets.{io_at, op_in}
+use Rattle.stack_walks.specs.Sheets.{io_at, op_in}
 use Rattle.stack_core.specs.Stacks.{IsStack, Stays, plan_in, room_at}
 use Rattle.stack_core.specs.Walking.{Data, Follow, GoesOn, IsChosen, IsOver, WalksBy, data_of, op_left, status_of}
 use Rattle.stack_core.proofs.Context.{places, stands}
-use Rattle.stack_core.proofs.Facts.{op-ends, op-enters}
+use Rattle.stack_walks.proofs.Facts.{op-ends, op-enters}
 use Rattle.stack_core.proofs.FollowsEnd.{ends, joins}
 use Rattle.stack_core.proofs.FollowsGroup.{Places, there_is}
 use Rattle.stack_core.proofs.FollowsOp.{alone, op_goes}

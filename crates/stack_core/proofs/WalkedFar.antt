@@ -38,15 +38,15 @@ use Rattle.stack_walks.proofs.Standing.{due_one}
 use Rattle.stack_core.specs.Courses.{Course, FollowsBy}
 use Rattle.stack_core.specs.declared.sheet.Sheet.{Sheet}
 use Rattle.stack_core.specs.declared.stack.Stack.{Stack}
-use Rattle.stack_core.specs.Settled.{AllSettled, Kept}
-use Rattle.stack_core.specs.Settling.{AreFates}
-use Rattle.stack_core.specs.Sheets.{io_at}
+use Rattle.stack_walks.specs.Settled.{AllSettled, Kept}
+use Rattle.stack_walks.specs.Settling.{AreFates}
+use Rattle.stack_walks.specs.Sheets.{io_at}
 use Rattle.stack_core.specs.Stacks.{IsStack, Stays, plan_in}
 use Rattle.stack_core.specs.Walking.{Data, Follow, IsChosen, IsOver, SizesFit, WalksBy, data_of, status_of}
 use Rattle.stack_core.proofs.Completes.{completes}
 use Rattle.stack_core.proofs.Courses.{held_by, none_held}
 use Rattle.stack_core.proofs.Context.{adapts, places, stands}
-use Rattle.stack_core.proofs.Facts.{completed, place-is}
+use Rattle.stack_walks.proofs.Facts.{completed, place-is}
 use Rattle.stack_core.proofs.FollowsSend.{all_going, sent_before, sent_follows, spots_of}
 use Rattle.stack_core.proofs.Sending.{carried-group}
 use Rattle.stack_core.proofs.Walked.{can_be, lie, meant, ready, sound, stand, taken, walked}

@@ -64,13 +64,13 @@ use Rattle.stack_walks.proofs.Standing.{IsOut}
 use Rattle.stack_core.specs.Courses.{Course, Falling, FollowsBy, Straight}
 use Rattle.stack_core.specs.declared.sheet.Sheet.{Sheet}
 use Rattle.stack_core.specs.declared.stack.Stack.{Stack}
-use Rattle.stack_core.specs.Sheets.{io_at, op_in}
+use Rattle.stack_walks.specs.Sheets.{io_at, op_in}
 use Rattle.stack_core.specs.Stacks.{IsStack, Stays, plan_in}
 use Rattle.stack_core.specs.Walking.{IsChosen, WalksAtTarget, WalksBy, data_of, status_of}
 use Rattle.stack_core.proofs.AtUnits.{EachIn, both_still, fewer_behind, first_block, io_count, io_first, range_in, still}
 use Rattle.stack_core.proofs.Context.{adapts, over_stays, places, stands}
 use Rattle.stack_core.proofs.Courses.{StopsBy, in_by, out_by}
-use Rattle.stack_core.proofs.Facts.{place-is}
+use Rattle.stack_walks.proofs.Facts.{place-is}
 use Rattle.stack_core.proofs.FollowsGroup.{AllLie, Lies}
 use Rattle.stack_core.proofs.FollowsSend.{all_going, group_lies, ids, out_is, spots_of}
 use Rattle.stack_core.proofs.Walked.{sound, stand}

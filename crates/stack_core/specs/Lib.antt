@@ -1,16 +1,9 @@
-pub mod Sheets
-pub mod Settling
-pub mod Settled
 pub mod Replies
 pub mod Doing
 pub mod Done
 pub mod Stacks
 pub mod OnRecord
 pub mod Mediums
-pub mod Requests
-pub mod Starting
-pub mod Shifts
 pub mod Rooms
-pub mod Moved
 pub mod Courses
 pub mod Walking

@@ -51,11 +51,11 @@ use Rattle.stack_core.specs.declared.sheet.Sheet.{Sheet}
 use Rattle.stack_core.specs.declared.stack.Stack.{Stack}
 use Rattle.stack_core.specs.Courses.{Course, Falling, FollowsBy, Straight}
 use Rattle.stack_core.specs.Doing.{CanReach}
-use Rattle.stack_core.specs.Moved.{why_of}
-use Rattle.stack_core.specs.Requests.{requests_from}
+use Rattle.stack_walks.specs.Moved.{why_of}
+use Rattle.stack_walks.specs.Requests.{requests_from}
 use Rattle.stack_core.specs.Rooms.{Suits}
-use Rattle.stack_core.specs.Sheets.{io_at, op_in}
-use Rattle.stack_core.specs.Shifts.{shifted_by}
+use Rattle.stack_walks.specs.Sheets.{io_at, op_in}
+use Rattle.stack_walks.specs.Shifts.{shifted_by}
 use Rattle.stack_core.specs.Stacks.{HasStep, plan_in, room_at}
 
 -- ---- how far each block is

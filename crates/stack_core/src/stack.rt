@@ -7,7 +7,7 @@ ghost use Rattle.stack_view.specs.View.{View};
 ghost use Rattle.stack_steps.specs.declared.choice.Choice.TheVariants.{End, Complete, Admit, Cut, Join, Send};
 ghost use Rattle.stack_steps.specs.Does.{Does, Holds, Ready};
 ghost use Rattle.stack_core.specs.declared.kept.Room.TheVariants.{Nothing};
-ghost use Rattle.stack_core.specs.Settling.{HasTuples, IsWhole};
+ghost use Rattle.stack_walks.specs.Settling.{HasTuples, IsWhole};
 ghost use Rattle.stack_core.specs.Replies.{HoldsSeal};
 ghost use Rattle.stack_ops.specs.declared.reply.Reply.TheVariants.{Medium, Silent};
 ghost use Rattle.stack_core.specs.Done.{MadeBy, OpDone, Sealed, WriteMade, WriteMapped};

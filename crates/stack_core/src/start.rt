@@ -12,14 +12,14 @@ ghost use Rattle.stack_view.specs.View.{start};
 ghost use Rattle.stack_steps.specs.Does.{Holds};
 ghost use Rattle.block_path.specs.Routes.{host_type};
 ghost use Rattle.stack_core.specs.Walking.{WalksAtFirst, WalksFallingAtFirst, WalksToldAtFirst};
-ghost use Rattle.stack_core.specs.Sheets.{IsSheet, op_in, plan_of, prints_of, request_in};
-ghost use Rattle.stack_core.specs.Shifts.{is_shift, shifted_by, shifts};
-ghost use Rattle.stack_core.specs.Requests.{first_page, own_blocks, page_after, pages_from, requests_from};
+ghost use Rattle.stack_walks.specs.Sheets.{IsSheet, op_in, plan_of, prints_of, request_in};
+ghost use Rattle.stack_walks.specs.Shifts.{is_shift, shifted_by, shifts};
+ghost use Rattle.stack_walks.specs.Requests.{first_page, own_blocks, page_after, pages_from, requests_from};
 ghost use Rattle.stack_core.specs.Replies.{HoldsBad};
 ghost use Rattle.stack_core.specs.Rooms.{Suits, blocks_in};
 ghost use Rattle.stack_core.specs.OnRecord.{HasQueues};
 ghost use Rattle.stack_core.specs.Stacks.{IsStack, plan_in, room_at};
-ghost use Rattle.stack_core.specs.Starting.{CanStart};
+ghost use Rattle.stack_walks.specs.Starting.{CanStart};
 
 use crate::kept::{Fates, Room, room_for};
 use crate::requests::{own_blocks, pages_for, request_of};

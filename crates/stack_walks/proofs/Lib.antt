@@ -10,3 +10,17 @@ pub mod Completing
 pub mod Found
 pub mod Letting
 pub mod Over
+pub mod Wholes
+pub mod Facts
+pub mod Spare
+pub mod Gates
+pub mod Private
+pub mod Begin
+pub mod Planned
+pub mod Counts
+pub mod Laid
+pub mod InTurn
+pub mod OwnCells
+pub mod BlockParts
+pub mod Chained
+pub mod Clear

@@ -4,3 +4,10 @@ pub mod Ground
 pub mod Units
 pub mod Seals
 pub mod Overwrites
+pub mod Sheets
+pub mod Settling
+pub mod Settled
+pub mod Requests
+pub mod Starting
+pub mod Shifts
+pub mod Moved

@@ -1,5 +1,6 @@
 //! How far each block of a script is by what is seen of a stack, and that the stack's steps keep that it follows the
-//! walk of the script. Definitions and laws alone.
+//! walk of the script; the requests of a script, the parts that are cut of them and what becomes of their blocks.
+//! Definitions and laws alone.
 #![tactic(auto)]
 
 mod laws;

@@ -4,7 +4,7 @@ use Rattle.std.proofs.lemmas.List.{get_or-map, get_or_default, length-map, same_
 use Rattle.fault_schedule.specs.declared.fault.FaultLine.{FaultLine}
 use Rattle.merge_queue.specs.Groups.{numbers}
 use Rattle.stack_steps.proofs.Picks.{get-numbers, length-numbers}
-use Rattle.stack_core.specs.Shifts.{shifted_by, shifts}
+use Rattle.stack_walks.specs.Shifts.{shifted_by, shifts}
 use Rattle.stack_core.proofs.start.shifted_ops.Goals as goal
 
 -- marks that are right one by one are right

@@ -4,14 +4,14 @@ use Rattle.std.proofs.lemmas.List.{length-set}
 use Rattle.stack_steps.specs.declared.choice.Choice.TheVariants.{Admit}
 use Rattle.stack_core.specs.Stacks.{plan_in}
 use Rattle.stack_core.proofs.Goes.{goes-as-before, goes-nowhere}
-use Rattle.stack_core.proofs.Facts.{op-enters}
+use Rattle.stack_walks.proofs.Facts.{op-enters}
 use Rattle.stack_core.proofs.Keeps.{is-stack}
 use Rattle.stack_core.proofs.Rooms.{taken}
 use Rattle.stack_core.proofs.Steps.{works}
 use Rattle.bio_core.specs.declared.request.Io.{Io}
 use Rattle.stack_core.specs.declared.kept.Room.TheVariants.{Nothing}
 use Rattle.stack_core.specs.Done.{OpDone, WriteMade}
-use Rattle.stack_core.specs.Sheets.{io_at, op_in}
+use Rattle.stack_walks.specs.Sheets.{io_at, op_in}
 use Rattle.stack_ops.specs.declared.op.Op.TheVariants.{Wait}
 use Rattle.stack_core.specs.Walking.{IsKnown, NoneFailed, data_of, units_left, is_medium}
 use Rattle.stack_core.proofs.Failing.{one-more}

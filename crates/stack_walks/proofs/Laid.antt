@@ -7,8 +7,8 @@ use Rattle.volume_table.specs.declared.entry.Entry.{Entry}
 use Rattle.volume_table.specs.Tables.{GoesOn, Table}
 use Rattle.volume_table.specs.Places.{place_in, volume_len}
 use Rattle.stack_view.specs.Plan.{no_request}
-use Rattle.stack_core.specs.Sheets.{AreInside, io_at, no_io, request_in}
-use Rattle.stack_core.proofs.Facts.{request-at, there}
+use Rattle.stack_walks.specs.Sheets.{AreInside, io_at, no_io, request_in}
+use Rattle.stack_walks.proofs.Facts.{request-at, there}
 
 -- a block of a request is the volume's
 pub inside-at : (ios : List Io) (table : Table) (op k : ℕ) (io : Io) → AreInside ios table → k < (get_or (map request_in ios) op no_request).count → io ≡ get_or ios op io → io.first + k < volume_len table.entries

@@ -26,8 +26,8 @@ use Rattle.stack_steps.specs.Fine.{Fine}
 use Rattle.stack_steps.specs.Shows.{live_ops, op_of}
 use Rattle.stack_steps.proofs.Keep.{completion, listed-there, piece}
 use Rattle.stack_steps.proofs.Sums.{all-divide}
-use Rattle.stack_core.specs.Sheets.{io_at, no_io, plan_of, request_in}
-use Rattle.stack_core.specs.Settling.{IsOf}
+use Rattle.stack_walks.specs.Sheets.{io_at, no_io, plan_of, request_in}
+use Rattle.stack_walks.specs.Settling.{IsOf}
 use Rattle.stack_steps.specs.Parts.{Divides}
 
 pub request-at : (ios : List Io) (i : ℕ) → get_or (map request_in ios) i no_request ≡ request_in (io_at ios i)

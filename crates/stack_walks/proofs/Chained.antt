@@ -18,10 +18,10 @@ use Rattle.block_path.specs.declared.mode.Mode.{Mode}
 use Rattle.dix_adapter.specs.Groups.{blocks_in}
 use Rattle.merge_queue.specs.Chains.{no_bio}
 use Rattle.merge_queue.specs.Groups.{size}
-use Rattle.stack_core.specs.Settled.{AllSettled, BioSettled, Blanked, Judged, Kept, LeftBy, MappedBack, OneSettled, Settled, TupleBlanked}
-use Rattle.stack_core.specs.Settling.{AreFates, blocks_before}
-use Rattle.stack_core.specs.Sheets.{io_at}
-use Rattle.stack_core.proofs.Counts.{blocks-more}
+use Rattle.stack_walks.specs.Settled.{AllSettled, BioSettled, Blanked, Judged, Kept, LeftBy, MappedBack, OneSettled, Settled, TupleBlanked}
+use Rattle.stack_walks.specs.Settling.{AreFates, blocks_before}
+use Rattle.stack_walks.specs.Sheets.{io_at}
+use Rattle.stack_walks.proofs.Counts.{blocks-more}
 
 -- ---- what each leaves of the pages
 

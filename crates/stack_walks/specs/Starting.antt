@@ -13,8 +13,8 @@ use Rattle.stack_ops.specs.declared.op.Op.{Op}
 use Rattle.stack_ops.specs.declared.op.Op.TheVariants.{Fill, Put, Show, Seal, Write, Fetch, WritePi, FetchPi, Overwrite, Wait}
 use Rattle.stack_ops.specs.Footprints.{put_seg}
 use Rattle.stack_view.specs.Runs.{blocks_of_requests}
-use Rattle.stack_core.specs.Sheets.{op_in, request_in}
-use Rattle.stack_core.specs.Requests.{requests_from}
+use Rattle.stack_walks.specs.Sheets.{op_in, request_in}
+use Rattle.stack_walks.specs.Requests.{requests_from}
 
 -- data of n blocks of this size, whose blocks are the volume's
 pub record IsData (pool : List (List ℕ)) (bytes len v n : ℕ) (body : List Seg) : Type 0 where

@@ -13,11 +13,11 @@ use Rattle.bio_core.specs.Bios.{block_size}
 use Rattle.dix_adapter.specs.Walking.{HasHost}
 use Rattle.stack_ops.specs.declared.op.Op.{Op}
 use Rattle.stack_ops.specs.declared.op.Op.TheVariants.{Fill, Put, Show, Seal, Write, Fetch, WritePi, FetchPi, Overwrite, Wait}
-use Rattle.stack_core.specs.Sheets.{io_at, no_io, op_in}
-use Rattle.stack_core.specs.Settling.{HasTuples, IsWhole}
-use Rattle.stack_core.specs.Requests.{first_page, own_blocks, page_after, pages_for, pages_from, private_tuples, request_of, requests_from}
-use Rattle.stack_core.specs.Starting.{AreTuples, IsOp}
-use Rattle.stack_core.proofs.Private.{apart-private, lie-private, once-private, total-private, whole-private}
+use Rattle.stack_walks.specs.Sheets.{io_at, no_io, op_in}
+use Rattle.stack_walks.specs.Settling.{HasTuples, IsWhole}
+use Rattle.stack_walks.specs.Requests.{first_page, own_blocks, page_after, pages_for, pages_from, private_tuples, request_of, requests_from}
+use Rattle.stack_walks.specs.Starting.{AreTuples, IsOp}
+use Rattle.stack_walks.proofs.Private.{apart-private, lie-private, once-private, total-private, whole-private}
 
 pub length-requests : (dix : Bool) (page : ℕ) (ops : List Op) → length (requests_from dix page ops) ≡ length ops
 length-requests dix page [] = refl

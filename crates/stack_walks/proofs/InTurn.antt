@@ -9,8 +9,8 @@ use Rattle.bio_core.specs.declared.request.Io.{Io}
 use Rattle.block_path.specs.declared.mode.Mode.{Mode}
 use Rattle.merge_queue.specs.Chains.{no_bio}
 use Rattle.merge_queue.specs.Groups.{size}
-use Rattle.stack_core.specs.Sheets.{io_at, no_io}
-use Rattle.stack_core.specs.Settled.{AllSettled, BioSettled, Kept, OneSettled}
+use Rattle.stack_walks.specs.Sheets.{io_at, no_io}
+use Rattle.stack_walks.specs.Settled.{AllSettled, BioSettled, Kept, OneSettled}
 
 -- one block more of a bio
 pub block-more : (mode : Mode) (ty : PiType) (io : Io) (start : ℕ) (bio : Bio) (fates : List Fate) (at n : ℕ) (old between new : Kept) → BioSettled mode ty io start bio fates at n old between →

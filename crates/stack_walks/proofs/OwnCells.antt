@@ -6,8 +6,8 @@ use Rattle.page_pool.specs.Cells.{cell}
 use Rattle.page_pool.specs.Places.{places_in, range_of, run}
 use Rattle.range_gate.specs.Cells.{cells_of, in_turn}
 use Rattle.run_moves.specs.ScriptMoves.{own_at}
-use Rattle.stack_core.specs.Requests.{pages_for, private_tuples}
-use Rattle.stack_core.proofs.Private.{tuples_from}
+use Rattle.stack_walks.specs.Requests.{pages_for, private_tuples}
+use Rattle.stack_walks.proofs.Private.{tuples_from}
 
 turn_join : (from a b : ℕ) → in_turn from (a + b) ≡ in_turn from a ++ in_turn (from + a) b
 turn_join from zero b = let e : from + 0 ≡ from = omega arith in let f : 0 + b ≡ b = omega arith in ap (in_turn from) f ∙ ap (λ z. in_turn z b) (sym e)

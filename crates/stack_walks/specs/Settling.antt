@@ -15,7 +15,7 @@ use Rattle.bio_core.specs.declared.fate.Why.TheVariants.{Block, App}
 use Rattle.bio_core.specs.declared.request.Dir.TheVariants.{Read}
 use Rattle.bio_core.specs.declared.request.Io.{Io}
 use Rattle.stack_view.specs.Runs.{blocks_of_requests}
-use Rattle.stack_core.specs.Sheets.{io_at, request_in}
+use Rattle.stack_walks.specs.Sheets.{io_at, request_in}
 
 -- what the owner of its tuple says of a block at fault
 abbrev pub found_by : Owner → Check → Why

@@ -27,9 +27,9 @@ use Rattle.run_follows.specs.Sending.{carriage_of}
 use Rattle.run_follows.specs.Slots.{parts_of}
 use Rattle.stack_walks.specs.Spots.{no_step}
 use Rattle.stack_walks.proofs.Spots.{each_first}
-use Rattle.stack_core.specs.Moved.{tuple_at}
-use Rattle.stack_core.specs.Requests.{first_page, request_of}
-use Rattle.stack_core.proofs.OwnCells.{own_cells}
+use Rattle.stack_walks.specs.Moved.{tuple_at}
+use Rattle.stack_walks.specs.Requests.{first_page, request_of}
+use Rattle.stack_walks.proofs.OwnCells.{own_cells}
 
 -- the move that makes a block's tuple, where the block layer does
 abbrev pub made_by : Owner → Route → (app : ℕ) → (body tuple : List ℕ) → List (Act Answer)

@@ -12,8 +12,8 @@ use Rattle.stack_ops.specs.declared.op.Op.{Op}
 use Rattle.stack_view.specs.Plan.{request_at}
 use Rattle.stack_view.specs.Runs.{blocks_of_requests}
 use Rattle.stack_steps.specs.Fine.{Fine}
-use Rattle.stack_core.specs.Sheets.{AreInside, io_at, plan_of, request_in}
-use Rattle.stack_core.proofs.Facts.{request-at}
+use Rattle.stack_walks.specs.Sheets.{AreInside, io_at, plan_of, request_in}
+use Rattle.stack_walks.proofs.Facts.{request-at}
 
 -- the blocks of each request are the volume's, on these devices
 pub record AreLaid (ios : List Io) (table : Table) (devices : ℕ) : Type 0 where

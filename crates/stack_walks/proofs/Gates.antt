@@ -12,7 +12,7 @@ use Rattle.range_gate.proofs.Layouts.{clash_means}
 use Rattle.volume_table.specs.Tables.{Table}
 use Rattle.stack_ops.specs.declared.op.Op.{Op}
 use Rattle.stack_steps.specs.Shows.{IsGateOf}
-use Rattle.stack_core.specs.Sheets.{do_clash, layout_of, no_print, plan_of, prints_of, request_in}
+use Rattle.stack_walks.specs.Sheets.{do_clash, layout_of, no_print, plan_of, prints_of, request_in}
 
 pub length-prints : (ops : List Op) (shifted : List Bool) → length (prints_of ops shifted) ≡ length ops
 length-prints [] bs = refl

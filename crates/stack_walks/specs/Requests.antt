@@ -9,7 +9,7 @@ use Rattle.bio_core.specs.declared.request.Io.{Io}
 use Rattle.merge_queue.specs.Groups.{numbers}
 use Rattle.stack_ops.specs.declared.op.Op.{Op}
 use Rattle.stack_ops.specs.declared.op.Op.TheVariants.{Fill, Put, Show, Seal, Write, Fetch, WritePi, FetchPi, Overwrite, Wait}
-use Rattle.stack_core.specs.Sheets.{no_io}
+use Rattle.stack_walks.specs.Sheets.{no_io}
 
 -- how many pages hold the tuples of so many blocks
 abbrev pub pages_for : ℕ → ℕ

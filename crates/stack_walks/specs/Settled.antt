@@ -19,8 +19,8 @@ use Rattle.bio_core.specs.Bios.{block_size}
 use Rattle.block_path.specs.declared.mode.Mode.{Mode}
 use Rattle.merge_queue.specs.Chains.{no_bio}
 use Rattle.merge_queue.specs.Groups.{size}
-use Rattle.stack_core.specs.Sheets.{io_at}
-use Rattle.stack_core.specs.Settling.{fate_by}
+use Rattle.stack_walks.specs.Sheets.{io_at}
+use Rattle.stack_walks.specs.Settling.{fate_by}
 
 -- ---- one block
 

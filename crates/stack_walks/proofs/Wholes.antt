@@ -9,8 +9,8 @@ use Rattle.integrity_payload.specs.declared.payload.Payload.{Payload}
 use Rattle.bio_core.specs.declared.bio.Bio.{Bio}
 use Rattle.bio_core.specs.declared.fate.Fate.{Fate}
 use Rattle.bio_core.specs.declared.request.Io.{Io}
-use Rattle.stack_core.specs.Sheets.{io_at, no_io}
-use Rattle.stack_core.specs.Settling.{AreAllWhole, AreFates, HasTuples, IsOf, IsWhole}
+use Rattle.stack_walks.specs.Sheets.{io_at, no_io}
+use Rattle.stack_walks.specs.Settling.{AreAllWhole, AreFates, HasTuples, IsOf, IsWhole}
 
 pub tuples_stay : (old new : List (List ℕ)) (io : Io) (pi : Payload) → length new ≡ length old → HasTuples old io pi → HasTuples new io pi
 tuples_stay old new io pi e h = record {

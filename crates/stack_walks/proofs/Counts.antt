@@ -5,8 +5,8 @@ use Rattle.merge_queue.specs.Groups.{numbers}
 use Rattle.merge_queue.proofs.Joins.{numbers-split}
 use Rattle.bio_core.specs.declared.request.Io.{Io}
 use Rattle.stack_view.specs.Runs.{blocks_of_requests}
-use Rattle.stack_core.specs.Sheets.{io_at, request_in}
-use Rattle.stack_core.specs.Settling.{blocks_before}
+use Rattle.stack_walks.specs.Sheets.{io_at, request_in}
+use Rattle.stack_walks.specs.Settling.{blocks_before}
 
 abbrev pub blocks_of : List Io → ℕ
 blocks_of ios = blocks_of_requests (map request_in ios)
