@@ -22,7 +22,7 @@ use Rattle.whole_run.specs.Settings.{Block, Setting, route}
 use Rattle.whole_run.specs.Steps.{Reads, Step}
 use Rattle.whole_run.specs.UnderMap.{NoneEscapes, home}
 use Rattle.run_laws.specs.ShownRun.{HasCells, LiesOn}
-use Rattle.run_laws.proofs.InSteps.{scatter_length}
+use Rattle.whole_run.proofs.InSteps.{scatter_length}
 use Rattle.mirror_walk.specs.Mirror.{Mirror, accepted, all_asked, asked, asks, done, is_none, listed, marks_of, mirror_past, neither}
 use Rattle.mirror_walk.specs.declared.marks.Marks.{Marks}
 use Rattle.mirror_walk.specs.OneGood.{AllSpare, IsUnnamed, on_leg}

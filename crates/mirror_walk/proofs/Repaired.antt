@@ -22,7 +22,7 @@ use Rattle.whole_run.specs.Steps.{Alters, Reads, Seals, Sets, Shows, Step, Write
 use Rattle.whole_run.specs.UnderMap.{NoneEscapes, home}
 use Rattle.whole_run.proofs.TupleFrames.{frame_small}
 use Rattle.run_laws.specs.ShownRun.{HasCells, LiesOn}
-use Rattle.run_laws.proofs.InSteps.{scatter_length}
+use Rattle.whole_run.proofs.InSteps.{scatter_length}
 use Rattle.mirror_walk.specs.Mirror.{Mirror, accepted, all_asked, answer, asks, count_of, done, fresh, marks_of, mirror_opened, mirror_past, mirror_walk}
 use Rattle.mirror_walk.specs.declared.marks.Marks.{Marks}
 use Rattle.mirror_walk.specs.OneGood.{AllSpare, AreBytes, HoldsProper, IsMirrorRun, IsRepaired, last_of, on_leg}

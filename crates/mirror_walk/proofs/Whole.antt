@@ -23,7 +23,7 @@ use Rattle.whole_run.specs.Steps.{Reads, Step, Writes, body_of, each_from, steps
 use Rattle.whole_run.proofs.AnyOrder.{plain_append}
 use Rattle.whole_run.proofs.CalmRuns.{part_length}
 use Rattle.run_laws.specs.ShownRun.{IsChecked}
-use Rattle.run_laws.proofs.InSteps.{acts_stepped, each_split, same_pages, steps_split}
+use Rattle.whole_run.proofs.InSteps.{acts_stepped, each_split, same_pages, steps_split}
 use Rattle.run_laws.proofs.Parts.{block_below, block_distinct, blocks_apart, landed}
 use Rattle.mirror_walk.specs.Mirror.{Mirror, accepted, all_asked, answer, asked, asks, count_of, done, fresh, marks_of, mirror_opened, mirror_past, mirror_replies, replies_from, twin}
 use Rattle.mirror_walk.specs.OneGood.{AllBind, AllSpare, Binds, IsMirrorRun, ReadsLast, last_of, on_leg}

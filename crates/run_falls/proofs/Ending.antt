@@ -25,7 +25,8 @@ use Rattle.run_moves.specs.BoundRun.{AllBound, AllSuit, IsBound, IsBoundRun}
 use Rattle.run_follows.specs.Finished.{AllEnded, HasEnded, HaveEnded, IsDone, IsSettled, answer_of, answers_of, replies_of}
 use Rattle.run_follows.specs.Slots.{Status}
 use Rattle.run_follows.proofs.Ends.{ends_as_walk}
-use Rattle.run_falls.specs.AtTheEnd.{AllTakeAny, EndsAsFalling, OpTakesAny, TakesAny}
+use Rattle.run_follows.specs.Takes.{AllTakeAny, OpTakesAny, TakesAny}
+use Rattle.run_falls.specs.AtTheEnd.{EndsAsFalling}
 use Rattle.run_falls.specs.Falls.{Falls, falling, forgive, forgiven, is_write, left_of, of_blocks, over_falls, sends_or, stores_or, writes_of}
 use Rattle.run_falls.specs.FollowsFalling.{AllFallen, LeavesSized, FollowsFalling, HasFallen}
 use Rattle.run_falls.proofs.Forgiving.{AllOf, IsOf, op_of}

@@ -8,7 +8,7 @@ use Rattle.block_path.specs.Blocks.{Sent}
 use Rattle.block_path.specs.Moves.{hidden}
 use Rattle.whole_run.specs.Settings.{Setting}
 use Rattle.run_laws.specs.FallingReads.{HasRoom}
-use Rattle.run_laws.specs.ReadsAs.{read_op}
+use Rattle.whole_run.specs.ReadsAs.{read_op}
 use Rattle.run_laws.specs.StoreFaults.{IsFallingRun}
 use Rattle.run_laws.proofs.FallingOps.{reads_or_fails}
 use Rattle.run_falls.specs.AtTheEnd.{EndsAsFalling, ReadsOrFails}

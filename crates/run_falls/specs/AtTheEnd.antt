@@ -15,33 +15,12 @@ use Rattle.whole_run.specs.FirstLayer.{last_accepted}
 use Rattle.whole_run.specs.Past.{steps_from}
 use Rattle.whole_run.specs.Settings.{Block, Setting, block_of, route}
 use Rattle.run_laws.specs.FallingReads.{IsReadAs, falling_replies}
-use Rattle.run_laws.specs.ReadsAs.{landing, listed_in, read_op}
+use Rattle.whole_run.specs.ReadsAs.{landing, listed_in, read_op}
 use Rattle.run_laws.specs.StoreFaults.{falling_past, falling_walk, is_lost}
 use Rattle.run_record.specs.ToldRun.{IsRecordOf}
 use Rattle.run_falls.specs.Falls.{Falls, of_blocks, over_falls, put_really}
 
 -- A stack once all has ended, where store calls failed.
-
--- Whatever has the size of a stored block is fine where a block of the request is stored.
-abbrev pub TakesAny : Setting → (fine : ℕ → List ℕ → Bool) → (i v n : ℕ) → Type 0
-TakesAny m fine i v n = (k : ℕ) → k < n → (left : List ℕ) → length left ≡ stored_size m.ty m.size → fine (stored_cell m.site (route m (block_of i v k))) left ≡ true
-
-abbrev pub OpTakesAny : Setting → (fine : ℕ → List ℕ → Bool) → (i : ℕ) → Op → Type 0
-OpTakesAny m fine i (Fill seg byte) = Unit {0}
-OpTakesAny m fine i (Put page off bytes) = Unit {0}
-OpTakesAny m fine i (Show seg) = Unit {0}
-OpTakesAny m fine i (Seal n body tuples app rtag) = Unit {0}
-OpTakesAny m fine i (Write v n body app) = TakesAny m fine i v n
-OpTakesAny m fine i (Fetch v n body) = TakesAny m fine i v n
-OpTakesAny m fine i (WritePi v n body tuples) = TakesAny m fine i v n
-OpTakesAny m fine i (FetchPi v n body tuples) = TakesAny m fine i v n
-OpTakesAny m fine i (Overwrite dev lba change) = Unit {0}
-OpTakesAny m fine i Wait = Unit {0}
-
--- the ops from op i on
-abbrev pub AllTakeAny : Setting → (fine : ℕ → List ℕ → Bool) → (i : ℕ) → List Op → Type 0
-AllTakeAny m fine i [] = Unit {0}
-AllTakeAny m fine i (op ∷ ops) = OpTakesAny m fine i op × AllTakeAny m fine (suc i) ops
 
 -- Some store calls failed. Pages in front of the private ones, stored blocks and replies are those of the walk in which just these fail; what stands on record is told from the record of the walk over the device on which they fail.
 pub record EndsAsFalling (m : Setting) (n : ℕ) (ops : List Op) (opening : State) (pages : List ℕ) (blocks : List (List ℕ)) (replies : List Reply) (es : List Sent) : Type 0 where

@@ -15,13 +15,14 @@ ghost use Rattle.whole_run.specs.PlainMap.{finds_plainly};
 ghost use Rattle.whole_run.specs.Settings.{Block, Setting, route};
 ghost use Rattle.run_laws.specs.FallingReads.{HasRoom};
 ghost use Rattle.run_laws.specs.FallingWrites.{finds_then};
-ghost use Rattle.run_laws.specs.ReadsAs.{read_op};
+ghost use Rattle.whole_run.specs.ReadsAs.{read_op};
 ghost use Rattle.run_laws.specs.StoreFaults.{IsFallingRun};
 ghost use Rattle.run_moves.specs.BoundRun.{IsBoundRun};
 ghost use Rattle.run_moves.specs.Suited.{IsAtTarget, keeps_size};
 ghost use Rattle.run_follows.specs.Finished.{AllEnded, replies_of};
 ghost use Rattle.run_follows.specs.Slots.{Status};
-ghost use Rattle.run_falls.specs.AtTheEnd.{AllTakeAny, EndsAsFalling, IsWrittenOrFails, ReadsOrFails};
+ghost use Rattle.run_follows.specs.Takes.{AllTakeAny};
+ghost use Rattle.run_falls.specs.AtTheEnd.{EndsAsFalling, IsWrittenOrFails, ReadsOrFails};
 ghost use Rattle.run_falls.specs.Falls.{of_blocks};
 ghost use Rattle.run_falls.specs.FollowsFalling.{FollowsFalling};
 

@@ -4,3 +4,4 @@ pub mod Gate
 pub mod Finished
 pub mod Sending
 pub mod Pieces
+pub mod Takes

@@ -30,7 +30,7 @@ use Rattle.whole_run.specs.Settings.{Block, Setting, route}
 use Rattle.whole_run.specs.Steps.{Alters, Reads, Seals, Sets, Shows, Step, Writes, WritesPi}
 use Rattle.whole_run.specs.UnderMap.{IsClean, NoneEscapes, SuppliesNoEscape}
 use Rattle.whole_run.proofs.TupleFrames.{Small, data_is, guard_below, tag_below, tuple_is}
-use Rattle.run_laws.specs.ReadsAs.{said_by}
+use Rattle.whole_run.specs.ReadsAs.{said_by}
 use Rattle.run_laws.specs.ShownRun.{DevicesAreClean, HasBlock, HasCells, LiesOn, StaysNear}
 use Rattle.run_laws.proofs.Layers.{After, Fetched, IsBare, Outcome, Reading, Sound, Spoilt, checked, goes_out, reads, same_brought, why_ended}
 

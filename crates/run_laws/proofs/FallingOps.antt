@@ -22,10 +22,10 @@ use Rattle.whole_run.specs.Steps.{Reads, Step, each_from, steps_of}
 use Rattle.whole_run.proofs.AnyOrder.{first_tells, other_tells}
 use Rattle.whole_run.proofs.CalmRuns.{frame_length, part_length}
 use Rattle.run_laws.specs.FallingReads.{HasRoom, IsReadAs, IsReadOrFails, falling_replies}
-use Rattle.run_laws.specs.ReadsAs.{landing, listed_in, read_op, takes_tuples}
+use Rattle.whole_run.specs.ReadsAs.{landing, listed_in, read_op, takes_tuples}
 use Rattle.run_laws.specs.StoreFaults.{IsFallingRun, IsServed, LandsAs, events_when, falling_past, may_fall, or_fallen}
 use Rattle.run_laws.proofs.Falling.{each_is_served}
-use Rattle.run_laws.proofs.InSteps.{acts_stepped, block_says, each_split, later_blocks, read_reply, read_steps, same_pages, stepped, stepped_append, steps_split}
+use Rattle.whole_run.proofs.InSteps.{acts_stepped, block_says, each_split, later_blocks, read_reply, read_steps, same_pages, stepped, stepped_append, steps_split}
 use Rattle.run_laws.proofs.Parts.{block_below, block_distinct, blocks_apart, landed, lists_of}
 
 -- From blocks whose store calls fail to ops: what a reply lists, and what a read leaves in the pages.

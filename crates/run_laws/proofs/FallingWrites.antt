@@ -19,7 +19,7 @@ use Rattle.run_laws.specs.FallingReads.{HasRoom}
 use Rattle.run_laws.specs.FallingWrites.{FailsAtMediumAlone, finds_then}
 use Rattle.run_laws.specs.StoreFaults.{IsFallingRun, may_fall, or_fallen}
 use Rattle.run_laws.proofs.FallingOps.{served, why_is}
-use Rattle.run_laws.proofs.InSteps.{later_blocks, stepped}
+use Rattle.whole_run.proofs.InSteps.{later_blocks, stepped}
 use Rattle.run_laws.proofs.Parts.{blocks_apart, drop_within, share_within, turned}
 
 -- A block of a write that the plain map accepts, in the op's reply.

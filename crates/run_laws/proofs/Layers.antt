@@ -29,7 +29,7 @@ use Rattle.whole_run.specs.Past.{Brought, brought_by}
 use Rattle.whole_run.specs.PlainMap.{as_expected}
 use Rattle.whole_run.specs.Settings.{Block, Setting, route}
 use Rattle.whole_run.proofs.TupleFrames.{guard_below}
-use Rattle.run_laws.specs.ReadsAs.{said_by}
+use Rattle.whole_run.specs.ReadsAs.{said_by}
 use Rattle.run_laws.specs.ShownRun.{StaysNear}
 use Rattle.run_laws.proofs.Found.{Bears, IsFound, asked_on, bears_both, expected, found_something, from_both, is_found, passed, passes_if, unless_rule, unmasked}
 use Rattle.run_laws.proofs.Framed.{IsUnderTuple, guarded, mapped_body, mapped_length, mapped_tuple, not_altered, same_tuple}

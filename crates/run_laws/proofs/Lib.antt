@@ -3,7 +3,6 @@ pub mod Found
 pub mod Layers
 pub mod Along
 pub mod Parts
-pub mod InSteps
 mod Reading
 pub mod ShownRows
 mod Passing

@@ -11,7 +11,7 @@ use Rattle.integrity_payload.specs.declared.payload.Owner.{Owner}
 use Rattle.integrity_payload.specs.declared.payload.Owner.TheVariants.{Block as OfBlock, App as OfApp}
 use Rattle.block_path.proofs.Cells.{AllBelow, Distinct, both, gather_back, neither}
 use Rattle.whole_run.specs.Steps.{body_of, tuple_of}
-use Rattle.run_laws.specs.ReadsAs.{landing}
+use Rattle.whole_run.specs.ReadsAs.{landing}
 
 -- The cells of a request's blocks are parts of its lists', and share none.
 

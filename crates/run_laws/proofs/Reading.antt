@@ -24,12 +24,12 @@ use Rattle.whole_run.specs.Settings.{Block, Setting, block_of, route}
 use Rattle.whole_run.specs.Steps.{Reads, Seals, Step, Writes, WritesPi, body_of, each_from, frame_at, steps_of, tuple_of}
 use Rattle.whole_run.specs.UnderMap.{NoEscape, NoneEscapes}
 use Rattle.whole_run.proofs.CalmRuns.{frame_length, part_length}
-use Rattle.run_laws.specs.ReadsAs.{ReadsAs, ReadsRightly, landing, listed_in, read_op, takes_tuples}
+use Rattle.whole_run.specs.ReadsAs.{ReadsAs, ReadsRightly, landing, listed_in, read_op, takes_tuples}
 use Rattle.run_laws.specs.ShownRun.{AllBind, Binds, IsChecked, IsShownRun}
 use Rattle.run_laws.proofs.Along.{AllFit, EndsAs, Fits, reads_after}
 use Rattle.run_laws.proofs.Layers.{checked}
 use Rattle.run_laws.proofs.Parts.{block_below, block_distinct, block_fits, blocks_apart, landed, lists_of}
-use Rattle.run_laws.proofs.InSteps.{acts_stepped, each_length, each_split, is_listed, later_blocks, read_reply, read_steps, same_pages, stepped, stepped_append, steps_split, tells_at}
+use Rattle.whole_run.proofs.InSteps.{acts_stepped, each_length, each_split, is_listed, later_blocks, read_reply, read_steps, same_pages, stepped, stepped_append, steps_split, tells_at}
 
 -- From blocks to ops: what a reply lists, and what a read leaves in the pages.
 

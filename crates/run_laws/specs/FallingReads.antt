@@ -20,7 +20,7 @@ use Rattle.whole_run.specs.PlainMap.{all_pass}
 use Rattle.whole_run.specs.ScriptWalk.{reply_of}
 use Rattle.whole_run.specs.Settings.{Block, Setting, block_of}
 use Rattle.whole_run.specs.Steps.{steps_of}
-use Rattle.run_laws.specs.ReadsAs.{landing, listed_in, read_op, takes_tuples}
+use Rattle.whole_run.specs.ReadsAs.{landing, listed_in, read_op, takes_tuples}
 use Rattle.run_laws.specs.StoreFaults.{falling_past, falling_walk, is_lost, may_fall}
 
 -- What comes of a read op where store calls fail, in its reply and in the pages.

@@ -12,7 +12,7 @@ use Rattle.whole_run.specs.PlainMap.{finds_of_app}
 use Rattle.whole_run.specs.Settings.{Block, Setting, block_of}
 use Rattle.whole_run.specs.Steps.{frame_at}
 use Rattle.run_laws.specs.FallingReads.{falling_replies}
-use Rattle.run_laws.specs.ReadsAs.{listed_in}
+use Rattle.whole_run.specs.ReadsAs.{listed_in}
 use Rattle.run_laws.specs.StoreFaults.{falling_walk}
 
 -- What comes of a write op where store calls fail, in its reply.

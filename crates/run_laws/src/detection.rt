@@ -7,7 +7,7 @@ ghost use Rattle.stack_ops.specs.declared.op.Op.{Op as AnyOp};
 ghost use Rattle.volume_table.specs.declared.device.DeviceInfo.{DeviceInfo as AnyDevice};
 ghost use Rattle.block_path.specs.Acts.{State};
 ghost use Rattle.whole_run.specs.Settings.{Setting};
-ghost use Rattle.run_laws.specs.ReadsAs.{ReadsRightly, read_op};
+ghost use Rattle.whole_run.specs.ReadsAs.{ReadsRightly, read_op};
 ghost use Rattle.run_laws.specs.ShownRun.{IsShownRun};
 
 /// In type 1, with tuples passed all the way and protect field 001b, over clean devices, with no escape and with

@@ -15,7 +15,7 @@ ghost use Rattle.whole_run.specs.Settings.{Block, Setting};
 ghost use Rattle.whole_run.specs.Steps.{Step};
 ghost use Rattle.run_laws.specs.FallingReads.{HasRoom, IsReadOrFails};
 ghost use Rattle.run_laws.specs.FallingWrites.{FailsAtMediumAlone, finds_then};
-ghost use Rattle.run_laws.specs.ReadsAs.{read_op};
+ghost use Rattle.whole_run.specs.ReadsAs.{read_op};
 ghost use Rattle.run_laws.specs.StoreFaults.{IsFallingRun, IsServed, falling_past, falling_walk, may_fall};
 
 /// Where no fault is scheduled, but some store calls fail and leave there whatever they may: a block of a read is

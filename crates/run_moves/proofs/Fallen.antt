@@ -22,7 +22,7 @@ use Rattle.whole_run.specs.Settings.{Block, Setting, route}
 use Rattle.whole_run.specs.Steps.{Alters, Reads, Seals, Sets, Shows, Step, Writes, WritesPi, steps_of}
 use Rattle.run_laws.specs.StoreFaults.{failing, leaving, left_by, may_fall, or_fallen, over_failing}
 use Rattle.run_laws.proofs.FallingOps.{replies_are}
-use Rattle.run_laws.proofs.InSteps.{acts_stepped}
+use Rattle.whole_run.proofs.InSteps.{acts_stepped}
 use Rattle.run_moves.specs.BoundRun.{AllBound, IsBoundRun, Suits, fates, rooms}
 use Rattle.run_moves.specs.FallingMoves.{AreTheFallingWalk, LeavesFine, falling_blocks, falling_from, falling_moves, left_of, moves_or_fallen, spoiled}
 use Rattle.run_moves.specs.ScriptMoves.{carried_by, lands_in, write_moves, ByMoves, by_moves, fates_of, joins, own_at, room_of}

@@ -13,8 +13,8 @@ use Rattle.whole_run.specs.ScriptWalk.{act_of, acts_from, acts_of, bad_from, rep
 use Rattle.whole_run.specs.Settings.{Setting, block_of}
 use Rattle.whole_run.specs.Steps.{Reads, Seals, Step, Writes, WritesPi, body_of, each_from, frame_at, steps_of, tuple_of}
 use Rattle.whole_run.proofs.AnyOrder.{acts_walk, plain_append}
-use Rattle.run_laws.specs.ReadsAs.{listed_in}
-use Rattle.run_laws.proofs.InSteps.{is_listed}
+use Rattle.whole_run.specs.ReadsAs.{listed_in}
+use Rattle.whole_run.proofs.InSteps.{is_listed}
 use Rattle.run_record.specs.BackedRun.{Belongs, HasEnd, HasEntry, IsBacked, IsFound, IsInTurn, IsListedAs, OfRead, OfRequest, Owns, PassesIn}
 use Rattle.run_record.specs.Records.{Mixed, put_sent, sents}
 use Rattle.run_record.specs.TakenWalk.{taken_act, taken_acts, taken_from, taken_replies, taken_reply}

@@ -20,8 +20,8 @@ use Rattle.block_path.specs.Serial.{plain, plain_tells}
 use Rattle.whole_run.specs.Past.{steps_from}
 use Rattle.whole_run.specs.Settings.{Block, Setting, block_of, route}
 use Rattle.whole_run.specs.Steps.{Alters, Reads, Seals, Sets, Shows, Step, Writes, WritesPi, body_of, each_from, frame_at, steps_of, tuple_of}
-use Rattle.run_laws.specs.ReadsAs.{landing, listed_in, read_op}
-use Rattle.run_laws.proofs.InSteps.{read_steps, scatter_length}
+use Rattle.whole_run.specs.ReadsAs.{landing, listed_in, read_op}
+use Rattle.whole_run.proofs.InSteps.{read_steps, scatter_length}
 use Rattle.run_record.specs.BackedRun.{HasEntry, IsBacked, IsInTurn, OfRead, answered}
 use Rattle.run_record.specs.EarlierWrites.{HasLog, IsCounted, LogsAreEmpty, StandsAfter, accepted_in, is_accepted}
 use Rattle.run_record.specs.Records.{entry_for}

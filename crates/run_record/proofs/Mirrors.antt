@@ -20,7 +20,7 @@ use Rattle.block_path.specs.WayOut.{Stores, WayOut, adapter_finds_out, from_adap
 use Rattle.whole_run.specs.ScriptWalk.{act_of}
 use Rattle.whole_run.specs.Settings.{Setting, route}
 use Rattle.whole_run.specs.Steps.{Alters, Reads, Seals, Sets, Shows, Step, Writes, WritesPi}
-use Rattle.run_laws.specs.ReadsAs.{listed_in}
+use Rattle.whole_run.specs.ReadsAs.{listed_in}
 use Rattle.run_record.specs.BackedRun.{HasEnd, HasEntry, IsFound, IsInTurn, IsListedAs, OfRead, OfRequest, PassesIn, host_finds, host_lists, is_outside}
 use Rattle.run_record.specs.Records.{end_in, entry_for, entry_in}
 use Rattle.run_record.specs.TakenWalk.{carried_of, frame_in, landed_of, taken_act, taken_in, taken_out}

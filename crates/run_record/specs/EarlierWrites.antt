@@ -11,7 +11,7 @@ use Rattle.block_path.specs.declared.route.Route.{Route}
 use Rattle.whole_run.specs.Past.{steps_from}
 use Rattle.whole_run.specs.Settings.{Setting, route}
 use Rattle.whole_run.specs.Steps.{Alters, Reads, Seals, Sets, Shows, Step, Writes, WritesPi, steps_of}
-use Rattle.run_laws.specs.ReadsAs.{listed_in}
+use Rattle.whole_run.specs.ReadsAs.{listed_in}
 use Rattle.run_record.specs.Records.{Moved, entry_for}
 
 -- After how many write entries of its place a read's entry stands, by the replies alone.

@@ -16,7 +16,7 @@ use Rattle.block_path.specs.WayOut.{Fails, Stores, WayOut, mapped_out, sent}
 use Rattle.whole_run.specs.ScriptWalk.{act_of, reply_of}
 use Rattle.whole_run.specs.Settings.{Setting, route}
 use Rattle.whole_run.specs.Steps.{Alters, Reads, Seals, Sets, Shows, Step, Writes, WritesPi, steps_of}
-use Rattle.run_laws.specs.ReadsAs.{listed_in}
+use Rattle.whole_run.specs.ReadsAs.{listed_in}
 use Rattle.run_record.specs.Records.{Moved, entry_for}
 
 -- A walk that takes the replies of writes and overwrites as they are. Nobody is asked: a listed block fails as its reply says, any other block of a write is accepted, and any other block of a read gets the frame of its entry.

@@ -12,7 +12,7 @@ ghost use Rattle.block_path.specs.Acts.{State};
 ghost use Rattle.block_path.specs.Blocks.{Sent, own_cell};
 ghost use Rattle.whole_run.specs.ScriptWalk.{script_replies};
 ghost use Rattle.whole_run.specs.Settings.{Setting, block_of, route};
-ghost use Rattle.run_laws.specs.ReadsAs.{listed_in, read_op};
+ghost use Rattle.whole_run.specs.ReadsAs.{listed_in, read_op};
 ghost use Rattle.run_record.specs.BackedRun.{Backed, OfRead, answered};
 ghost use Rattle.run_record.specs.CarriedRun.{Carried};
 ghost use Rattle.run_record.specs.EarlierWrites.{IsCounted, LogsAreEmpty, StandsAfter, accepted_in};

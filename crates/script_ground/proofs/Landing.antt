@@ -12,7 +12,7 @@ use Rattle.stack_ops.specs.declared.op.Op.TheVariants.{WritePi}
 use Rattle.dix_adapter.specs.Ways.{shapes_of}
 use Rattle.volume_table.specs.Tables.{Table}
 use Rattle.run_laws.specs.FallingReads.{HasRoom}
-use Rattle.run_laws.specs.ReadsAs.{read_op}
+use Rattle.whole_run.specs.ReadsAs.{read_op}
 use Rattle.script_text.specs.Ops.{both_fault, data_fault}
 use Rattle.script_text.specs.declared.script.Script.{Script}
 use Rattle.script_laws.specs.Keeping.{Each, IsOp as KeepsRules, Keeps}

@@ -18,7 +18,7 @@ use Rattle.volume_table.specs.Places.{place_in, volume_len}
 use Rattle.volume_table.specs.Tables.{MadeFor, Table}
 use Rattle.whole_run.specs.Settings.{Setting, block_of, route}
 use Rattle.run_moves.specs.Suited.{keeps_size}
-use Rattle.run_falls.specs.AtTheEnd.{AllTakeAny, OpTakesAny, TakesAny}
+use Rattle.run_follows.specs.Takes.{AllTakeAny, OpTakesAny, TakesAny}
 use Rattle.stack_walks.specs.Spots.{op_in as op_at}
 use Rattle.script_text.specs.declared.script.Script.{Script}
 use Rattle.script_text.specs.Bindings.{binding_fault, op_fault, request_of}

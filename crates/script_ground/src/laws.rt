@@ -16,7 +16,7 @@ ghost use Rattle.run_record.specs.ToldRun.{told};
 ghost use Rattle.run_moves.specs.BoundRun.{IsBoundRun, fates, rooms};
 ghost use Rattle.run_moves.specs.Suited.{keeps_size};
 ghost use Rattle.run_follows.specs.Finished.{FramesFit};
-ghost use Rattle.run_falls.specs.AtTheEnd.{AllTakeAny};
+ghost use Rattle.run_follows.specs.Takes.{AllTakeAny};
 ghost use Rattle.script_text.specs.declared.script.Script.{Script as AnyScript};
 ghost use Rattle.script_text.specs.Bindings.{binding_fault};
 ghost use Rattle.stack_walks.specs.Ground.{Ground};

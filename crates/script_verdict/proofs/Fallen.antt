@@ -19,7 +19,7 @@ use Rattle.whole_run.specs.PlainMap.{finds_plainly}
 use Rattle.whole_run.specs.Settings.{Setting}
 use Rattle.run_laws.specs.FallingReads.{HasRoom}
 use Rattle.run_laws.specs.FallingWrites.{finds_then}
-use Rattle.run_laws.specs.ReadsAs.{read_op}
+use Rattle.whole_run.specs.ReadsAs.{read_op}
 use Rattle.run_laws.specs.StoreFaults.{IsFallingRun}
 use Rattle.run_record.specs.Records.{recorded}
 use Rattle.run_falls.specs.AtTheEnd.{EndsAsFalling, IsWrittenOrFails, ReadsOrFails}

@@ -28,7 +28,7 @@ use Rattle.script_verdict.proofs.Premises.{detectable_run, plain_run}
 use Rattle.image_commands.specs.Views.{View}
 use Rattle.page_pool.specs.declared.segs.Seg.{Seg}
 use Rattle.integrity_payload.specs.declared.payload.Owner.{Owner}
-use Rattle.run_laws.specs.ReadsAs.{ReadsRightly, read_op}
+use Rattle.whole_run.specs.ReadsAs.{ReadsRightly, read_op}
 use Rattle.run_laws.specs.ShownRun.{IsShownRun}
 use Rattle.script_verdict.specs.Verdict.{AllReadRightly, Followed, HasPlain, HasReadRightly, opening_told, setting_told}
 use Rattle.block_path.specs.Acts.{State}

@@ -14,7 +14,7 @@ use Rattle.volume_table.specs.Tables.{Table}
 use Rattle.whole_run.specs.PlainMap.{finds_plainly}
 use Rattle.whole_run.specs.Settings.{Setting}
 use Rattle.run_laws.specs.FallingWrites.{finds_then}
-use Rattle.run_laws.specs.ReadsAs.{read_op}
+use Rattle.whole_run.specs.ReadsAs.{read_op}
 use Rattle.run_record.specs.Records.{recorded}
 use Rattle.run_falls.specs.AtTheEnd.{EndsAsFalling, IsWrittenOrFails, ReadsOrFails}
 use Rattle.run_falls.specs.Falls.{Falls, of_blocks}

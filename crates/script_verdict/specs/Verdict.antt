@@ -19,7 +19,7 @@ use Rattle.dix_adapter.specs.Ways.{blocks_told}
 use Rattle.page_pool.specs.declared.segs.Seg.{Seg}
 use Rattle.page_pool.specs.Cells.{flat, gather}
 use Rattle.integrity_payload.specs.declared.payload.Owner.{Owner}
-use Rattle.run_laws.specs.ReadsAs.{ReadsAs, landing, listed_in, read_op}
+use Rattle.whole_run.specs.ReadsAs.{ReadsAs, landing, listed_in, read_op}
 use Rattle.stack_ops.specs.declared.op.Op.{Op}
 use Rattle.stack_ops.specs.declared.reply.Reply.TheVariants.{Silent}
 use Rattle.whole_run.specs.FirstLayer.{first_layer, last_accepted}

@@ -35,7 +35,8 @@ use Rattle.run_follows.specs.Finished.{AllEnded, HasEnded, HaveEnded, answer_of,
 use Rattle.run_follows.specs.Slots.{Done, Settled, Status}
 use Rattle.run_follows.proofs.Backing.{is_backed, told_carried}
 use Rattle.run_follows.proofs.Ends.{ends_as_walk}
-use Rattle.run_falls.specs.AtTheEnd.{AllTakeAny, EndsAsFalling}
+use Rattle.run_follows.specs.Takes.{AllTakeAny}
+use Rattle.run_falls.specs.AtTheEnd.{EndsAsFalling}
 use Rattle.run_falls.proofs.Ending.{ends_as_falling}
 use Rattle.stack_walks.specs.Statuses.{fate_in}
 use Rattle.stack_walks.proofs.Letting.{all_marked}

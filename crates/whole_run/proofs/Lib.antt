@@ -7,3 +7,4 @@ pub mod PlainSteps
 pub mod CalmRuns
 pub mod AnyOrder
 pub mod Named
+pub mod InSteps

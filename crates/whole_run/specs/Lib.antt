@@ -8,3 +8,4 @@ pub mod CalmRun
 pub mod Past
 pub mod FirstLayer
 pub mod Detectable
+pub mod ReadsAs

@@ -4,7 +4,8 @@ use Rattle.dix_adapter.specs.Ways.{blocks_told, shapes_of}
 use Rattle.run_moves.specs.BoundRun.{IsBoundRun}
 use Rattle.run_moves.specs.Suited.{keeps_size}
 use Rattle.run_record.specs.Records.{recorded}
-use Rattle.run_falls.specs.AtTheEnd.{AllTakeAny, EndsAsFalling}
+use Rattle.run_follows.specs.Takes.{AllTakeAny}
+use Rattle.run_falls.specs.AtTheEnd.{EndsAsFalling}
 use Rattle.script_ground.proofs.Units.{over-units}
 use Rattle.script_stack.specs.Followed.{begun_of, none_fails, opening_of, setting_of}
 use Rattle.script_stack.proofs.Fallen.{hidden-same}

@@ -17,7 +17,7 @@ use Rattle.whole_run.specs.ScriptWalk.{bad_from, reply_of, request_reply, whole_
 use Rattle.whole_run.specs.Settings.{Setting, block_of}
 use Rattle.whole_run.specs.Steps.{Reads, Step, each_from, steps_of}
 use Rattle.whole_run.proofs.AnyOrder.{plain_append}
-use Rattle.run_laws.specs.ReadsAs.{landing, listed_among, listed_in, read_op}
+use Rattle.whole_run.specs.ReadsAs.{landing, listed_among, listed_in, read_op}
 
 -- Steps one after another, whatever their acts: what a reply lists, and what a read leaves in the pages.
 
