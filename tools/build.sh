@@ -138,8 +138,8 @@ start_crates() {
         [ -n "$next" ] || return
         if [ "$running" -gt 0 ] && [ "$(free_memory)" -lt 3000 ]; then return; fi
         echo "$next" >>"$work/started"
-        jobs=$((processors / (running + $(echo "$waiting" | wc -l))))
-        start "$slot" "$next" "$((jobs > 1 ? jobs : 1))"
+        side=$((running + $(echo "$waiting" | wc -l)))
+        start "$slot" "$next" $((processors / (side < slots ? side : slots)))
         running=$((running + 1))
     done
 }
