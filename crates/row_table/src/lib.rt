@@ -2,8 +2,10 @@
 //! which something else comes, with what came, and how many rows there were.
 #![tactic(auto)]
 
+mod escapes;
 mod words;
 
+pub use escapes::text_of;
 use std::alloc::{AllocError, Global};
 use std::io;
 pub use words::{bytes_of, cut, hex_of, number, small};

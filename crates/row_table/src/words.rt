@@ -17,7 +17,7 @@ pub fn small(word: &str) -> u32 {
     word.parse::<u32>().unwrap_or(u32::MAX)
 }
 
-fn decoded(alloc: Global, digits: &str) -> Vec<u8> {
+pub(crate) fn decoded(alloc: Global, digits: &str) -> Vec<u8> {
     hex::decode(alloc, digits).unwrap_or(Vec::new(alloc))
 }
 
