@@ -1,0 +1,23 @@
+//! Reads a table from standard input of what the crates of words, lines and reports make of texts. Prints each row of
+//! which something else comes, with what came, and how many rows there were, and how many of these.
+#![tactic(auto)]
+
+mod commands;
+mod lines;
+mod reasons;
+mod records;
+mod reports;
+mod scrubs;
+mod senses;
+mod sinks;
+mod table;
+mod words;
+
+use row_table::read_table;
+use std::io;
+use table::Table;
+
+fn main(rt: HostRuntime) -> io::Result<()> {
+    let mut table = Table::new(rt.alloc());
+    read_table(&rt, &mut table)
+}
