@@ -1,26 +1,17 @@
-//! Reads a table of texts of scripts from standard input. Prints each row of which something else is answered than it
-//! says, and how many rows there were.
+//! Reads a table of texts of scripts from standard input. Prints each row of which something else comes, with what came,
+//! and how many rows there were, and how many of these.
 #![tactic(auto)]
 
-mod answers;
 mod binding;
-mod escapes;
+mod generated;
+mod reading;
 mod table;
-#[cfg(test)]
-mod tests;
 
+use row_table::read_table;
 use std::io;
 use table::Table;
 
 fn main(rt: HostRuntime) -> io::Result<()> {
     let mut table = Table::new(rt.alloc());
-    for line in rt.lines(rt.alloc()) {
-        let line = line?;
-        if !table.take(rt.alloc(), line.as_str())? {
-            println!(rt; "{line}")?;
-        }
-    }
-    let rows = table.rows();
-    println!(rt; "{rows} rows")?;
-    Ok(())
+    read_table(&rt, &mut table)
 }

@@ -1,31 +1,26 @@
 //! The lines of the table.
 
-use crate::answers::{Verdict, is_printed_so, is_read_so};
-use crate::binding::{Target, is_bound_so};
-use crate::escapes::bytes_of;
+use crate::binding::{Target, bound_row};
+use crate::generated::generated_row;
+use crate::reading::{numbers_row, printed_row, read_row};
 use pi_tuple::PiType;
+use row_table::{Judge, cut, small, text_of};
 use std::alloc::{AllocError, Global};
 use volume_table::DeviceInfo;
 
-/// What holds for the rows from here on, and how many there were.
+/// What the rows stand on.
 #[derive(Drop)]
 pub(crate) struct Table {
+    /// What stands before a row's text, and behind its line.
     front: Vec<u8>,
     tail: Vec<u8>,
     /// What is printed.
     text: Vec<u8>,
-    /// The number of the rows' lines.
-    line: u32,
     devices: Vec<DeviceInfo>,
-    rows: u32,
-}
-
-fn number(word: &str) -> u32 {
-    word.parse::<u32>().unwrap_or(u32::MAX)
 }
 
 fn type_of(word: &str) -> PiType {
-    match number(word) {
+    match small(word) {
         0 => PiType::Zero,
         1 => PiType::One,
         2 => PiType::Two,
@@ -33,9 +28,22 @@ fn type_of(word: &str) -> PiType {
     }
 }
 
-/// The first word of a text and the rest; all of it and nothing where it has no space.
-fn cut(text: &str) -> (&str, &str) {
-    text.split_once(' ').unwrap_or((text, ""))
+/// The device of three words or four, of 256 blocks where no number is given.
+fn device_of(words: &str) -> DeviceInfo {
+    let (ty, rest) = cut(words);
+    let (size, rest) = cut(rest);
+    let (first, blocks) = cut(rest);
+    let blocks = if blocks.is_empty() {
+        256
+    } else {
+        small(blocks)
+    };
+    DeviceInfo {
+        ty: type_of(ty),
+        blocks: u64::from(blocks),
+        size: small(size),
+        first: u64::from(small(first)),
+    }
 }
 
 impl Table {
@@ -44,100 +52,55 @@ impl Table {
             front: Vec::new(alloc),
             tail: Vec::new(alloc),
             text: Vec::new(alloc),
-            line: 0,
             devices: Vec::new(alloc),
-            rows: 0,
-        }
-    }
-
-    pub(crate) fn rows(&self) -> u32 {
-        self.rows
-    }
-
-    /// Takes a line. Answers false where it is a row of which something else is answered, or is no line of a table.
-    pub(crate) fn take(&mut self, alloc: Global, line: &str) -> Result<bool, AllocError> {
-        let (word, rest) = cut(line);
-        match word {
-            "" | "#" => {}
-            "front" => self.front = bytes_of(alloc, rest)?,
-            "tail" => self.tail = bytes_of(alloc, rest)?,
-            "text" => self.text = bytes_of(alloc, rest)?,
-            "line" => self.line = number(rest),
-            "devices" => self.devices.clear(),
-            "device" => self.add_device(rest)?,
-            _ => return self.row(alloc, word, rest),
-        }
-        Ok(true)
-    }
-
-    /// One more device, of 256 blocks where no number is given.
-    fn add_device(&mut self, words: &str) -> Result<(), AllocError> {
-        let (ty, rest) = cut(words);
-        let (size, rest) = cut(rest);
-        let (first, blocks) = cut(rest);
-        let blocks = if blocks == "" { 256 } else { number(blocks) };
-        self.devices.push(DeviceInfo {
-            ty: type_of(ty),
-            blocks: u64::from(blocks),
-            size: number(size),
-            first: number(first) as u64,
-        })?;
-        Ok(())
-    }
-
-    fn row(&mut self, alloc: Global, word: &str, rest: &str) -> Result<bool, AllocError> {
-        self.rows = self.rows.saturating_add(1);
-        match word {
-            "row" => self.is_line_so(alloc, rest),
-            "at" => self.is_text_so(alloc, rest, None),
-            "bind" => self.is_text_so(alloc, rest, Some(Target::Volume)),
-            "mirror" => self.is_text_so(alloc, rest, Some(Target::Mirror)),
-            "prints" => self.prints(alloc, rest),
-            _ => Ok(false),
         }
     }
 
     /// The text of a row behind the front.
     fn behind(&self, alloc: Global, text: &str) -> Result<Vec<u8>, AllocError> {
         let mut whole = Vec::from_slice(alloc, &self.front)?;
-        whole.extend_from_slice(&bytes_of(alloc, text)?)?;
+        whole.extend_from_slice(&text_of(alloc, text)?)?;
         Ok(whole)
     }
 
-    fn is_line_so(&self, alloc: Global, rest: &str) -> Result<bool, AllocError> {
-        let (name, text) = cut(rest);
-        let mut whole = self.behind(alloc, text)?;
+    /// The line of a row between the front and the tail.
+    fn between(&self, alloc: Global, line: &str) -> Result<Vec<u8>, AllocError> {
+        let mut whole = self.behind(alloc, line)?;
         whole.push(b'\n')?;
         whole.extend_from_slice(&self.tail)?;
-        let verdict = Verdict {
-            line: self.line,
-            name,
-        };
-        Ok(is_read_so(alloc, &whole, verdict))
+        Ok(whole)
     }
 
-    /// Whether the text of a row is at fault so when it is read, or when it is bound to this.
-    fn is_text_so(
-        &self,
-        alloc: Global,
-        rest: &str,
-        target: Option<Target>,
-    ) -> Result<bool, AllocError> {
-        let (line, rest) = cut(rest);
-        let (name, text) = cut(rest);
-        let whole = self.behind(alloc, text)?;
-        let verdict = Verdict {
-            line: number(line),
-            name,
-        };
-        Ok(match target {
-            Some(target) => is_bound_so(alloc, &whole, target, &self.devices, verdict),
-            None => is_read_so(alloc, &whole, verdict),
-        })
+    /// What comes of the text of a row that is bound.
+    fn bound(&self, alloc: Global, text: &str, target: Target) -> Result<String, AllocError> {
+        bound_row(alloc, &self.behind(alloc, text)?, target, &self.devices)
+    }
+}
+
+impl Judge for Table {
+    fn set(&mut self, alloc: Global, line: &str) -> Result<bool, AllocError> {
+        let (word, rest) = cut(line);
+        match word {
+            "front" => self.front = text_of(alloc, rest)?,
+            "tail" => self.tail = text_of(alloc, rest)?,
+            "text" => self.text = text_of(alloc, rest)?,
+            "devices" => self.devices.clear(),
+            "device" => self.devices.push(device_of(rest))?,
+            _ => return Ok(false),
+        }
+        Ok(true)
     }
 
-    fn prints(&self, alloc: Global, rest: &str) -> Result<bool, AllocError> {
-        let want = bytes_of(alloc, rest)?;
-        Ok(is_printed_so(alloc, &self.text, &want)? && is_printed_so(alloc, &want, &want)?)
+    fn answer(&mut self, alloc: Global, call: &str) -> Result<String, AllocError> {
+        let (word, rest) = cut(call);
+        match word {
+            "row" => read_row(alloc, &self.between(alloc, rest)?),
+            "at" => read_row(alloc, &self.behind(alloc, rest)?),
+            "bind" => self.bound(alloc, rest, Target::Volume),
+            "mirror" => self.bound(alloc, rest, Target::Mirror),
+            "prints" => printed_row(alloc, &self.text, &text_of(alloc, rest)?),
+            "numbers" => numbers_row(alloc, &text_of(alloc, rest)?),
+            _ => generated_row(alloc, word, rest),
+        }
     }
 }
