@@ -1,7 +1,7 @@
 //! Blocks as a row writes them.
 
-use crate::case::number;
 use hex::FromHex;
+use row_table::small;
 use std::alloc::{AllocError, Global};
 
 /// The data of block `p`: byte `j` is (7 j + p (j / 5) + p) mod 251.
@@ -29,7 +29,7 @@ fn alter(bytes: &mut Vec<u8>) {
 /// byte altered, and the tuple's bytes.
 pub(crate) fn frame_of(alloc: Global, word: &str, size: u32) -> Result<Vec<u8>, AllocError> {
     let (block, tuple) = word.split_once(':').unwrap_or((word, ""));
-    let p = number(block);
+    let p = small(block);
     let mut frame = data(alloc, p % 10, size)?;
     if p >= 10 {
         alter(&mut frame);

@@ -9,6 +9,7 @@ use fault_schedule::{Crossing, FaultKind, FaultLine, FaultList, ShortBytes};
 use group_checks::group_blocks;
 use page_pool::PagePool;
 use rig_api::Rig;
+use row_table::{cut, small};
 use std::alloc::{AllocError, Global};
 
 /// The address of the group's first block.
@@ -83,11 +84,11 @@ fn flip(i: u32, at: Crossing) -> FaultLine {
 
 /// The faults of these words: a crossing, and the places in the group of the blocks whose first byte is altered there.
 pub(crate) fn flips(alloc: Global, words: &str) -> Result<FaultList, AllocError> {
-    let (word, places) = crate::case::cut(words);
+    let (word, places) = cut(words);
     let at = crossing_of(word);
     let mut lines = Vec::new(alloc);
     for place in places.split(' ') {
-        lines.push(flip(crate::case::number(place), at))?;
+        lines.push(flip(small(place), at))?;
     }
     Ok(FaultList::from_vec(lines))
 }

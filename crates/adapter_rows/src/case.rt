@@ -19,15 +19,6 @@ pub(crate) struct Case {
     mask: u16,
 }
 
-/// The first word of a text and the rest; all of it and nothing where it has no space.
-pub(crate) fn cut(text: &str) -> (&str, &str) {
-    text.split_once(' ').unwrap_or((text, ""))
-}
-
-pub(crate) fn number(word: &str) -> u32 {
-    word.parse::<u32>().unwrap_or(u32::MAX)
-}
-
 fn type_of(word: &str) -> PiType {
     match word {
         "0" => PiType::Zero,

@@ -1,6 +1,5 @@
-//! Reads a table of groups of blocks from standard input. Each row is carried by the adapter over an image in memory, or
-//! over a rig that answers as it is told. Prints each row of which something else comes than it says, and how many rows
-//! there were, and how many of these.
+//! Reads a table of groups from standard input that the adapter carries over images in memory. Prints each row of which
+//! something else comes, with the step at which it came, and how many rows there were, and how many of these.
 #![tactic(auto)]
 
 mod blocks;
@@ -11,20 +10,10 @@ mod outcomes;
 mod scene;
 mod table;
 
+use row_table::read_table;
 use std::io;
 use table::Table;
 
 fn main(rt: HostRuntime) -> io::Result<()> {
-    let alloc = rt.alloc();
-    let mut table = Table::new();
-    for line in rt.lines(alloc) {
-        let line = line?;
-        if !table.take(alloc, line.as_str())? {
-            println!(rt; "{line}")?;
-        }
-    }
-    let rows = table.rows();
-    let wrong = table.wrong();
-    println!(rt; "{rows} rows, {wrong} wrong")?;
-    Ok(())
+    read_table(&rt, &mut Table::new())
 }

@@ -3,11 +3,11 @@
 ghost use Rattle.std.specs.Prelude.{◌≡◌, true};
 ghost use Rattle.rig_api.specs.Log.{has_key};
 
-use crate::case::number;
 use bio_core::{Fate, Why};
 use hex::FromHex;
 use pi_tuple::Check;
 use rig_api::Outcome;
+use row_table::small;
 use sense_codes::Sense;
 
 /// The sense of a word: key, code and qualifier in hexadecimal; none of another word.
@@ -28,7 +28,7 @@ pub(crate) fn outcome(done: &str, sense: &str) -> Outcome
     ensures { has_key result.sense ≡ true }
 {
     Outcome {
-        done: number(done),
+        done: small(done),
         sense: sense_of(sense),
     }
 }

@@ -2,7 +2,7 @@
 
 use crate::blocks::frames_of;
 use crate::carrying::{carried, flips};
-use crate::case::{Case, cut, number};
+use crate::case::Case;
 use crate::layout::{are_same, pages, put_all};
 use crate::outcomes::{are_fates, outcome};
 use answer_rig::AnswerRig;
@@ -13,6 +13,7 @@ use fault_schedule::{FaultList, Tamper};
 use image_rig::ImageRig;
 use page_pool::PagePool;
 use rig_api::{Rig, UnitSpec};
+use row_table::{cut, small};
 use std::alloc::{AllocError, Global};
 use target_answer::is_layout;
 
@@ -47,7 +48,7 @@ fn image(alloc: Global, case: Case) -> ImageRig<MemStore> {
 /// Whether the record of a number has the command of a hexadecimal text.
 fn has_command<R: Rig>(alloc: Global, rig: &R, words: &str) -> Result<bool, AllocError> {
     let (record, text) = cut(words);
-    let i = number(record);
+    let i = small(record);
     let Ok(bytes) = hex::decode(alloc, text) else {
         return Ok(false);
     };
@@ -57,7 +58,7 @@ fn has_command<R: Rig>(alloc: Global, rig: &R, words: &str) -> Result<bool, Allo
 /// Whether the record of a number has these frames.
 fn has_moved<R: Rig>(alloc: Global, rig: &R, words: &str, size: u32) -> Result<bool, AllocError> {
     let (record, blocks) = cut(words);
-    let i = number(record);
+    let i = small(record);
     let frames = frames_of(alloc, blocks, size)?;
     Ok(i < rig.records() && rig.moved(i) == frames.as_slice())
 }
@@ -91,7 +92,7 @@ impl Scene {
             "host" | "lands" | "tamper" | "arm" | "told" => self.set(alloc, word, rest),
             "out" => self.carry(alloc, Dir::Write, rest),
             "in" => self.carry(alloc, Dir::Read, rest),
-            "records" => Ok(self.rig.records() == number(rest)),
+            "records" => Ok(self.rig.records() == small(rest)),
             "command" => has_command(alloc, &self.rig, rest),
             "moved" => has_moved(alloc, &self.rig, rest, self.case.size),
             "pages" => Ok(are_same(&self.pool, &self.want)),
