@@ -43,13 +43,14 @@ fn sink_in(alloc: Global, lines: &[String]) -> Result<MemSink, AllocError> {
     MemSink::new(alloc, room, numbers(alloc, lines, "sink-fails")?)
 }
 
-/// Calls the top call with the words and the source of a row over a rig.
+/// Calls the top call with the words and the source of a row over a rig. The image of the row has this name.
 pub(crate) fn came_over<R: Rig>(
     alloc: Global,
     lines: &[String],
+    name: &str,
     rig: &mut R,
 ) -> Result<Came, AllocError> {
-    let words = words_in(alloc, lines)?;
+    let words = words_in(alloc, lines, name)?;
     let fails = numbers(alloc, lines, "source-fails")?;
     let mut source = MemSource::new(source_in(alloc, lines)?, fails);
     let mut sink = sink_in(alloc, lines)?;

@@ -1,37 +1,42 @@
 //! The lines of a row by their first words, their marks.
 
+use row_table::cut;
 use std::alloc::{AllocError, Global};
 
-/// The first word of a line and the rest; all of it and nothing where it has no space.
-pub(crate) fn cut(line: &str) -> (&str, &str) {
-    line.split_once(' ').unwrap_or((line, ""))
-}
+/// The marks that a line may have.
+const MARKS: &str =
+    "$ : :/ spaces script source-fails store-fails sink-fails room put cut more answer again each \
+                     read-only status > >/ has sends same x kept length holds";
 
-/// Whether a line has this mark.
-pub(crate) fn has(lines: &[String], mark: &str) -> bool {
-    for line in lines {
-        let (word, _) = cut(line.as_str());
-        if word == mark {
+/// Whether a line may have this mark.
+pub(crate) fn is_mark(word: &str) -> bool {
+    for mark in MARKS.split(' ') {
+        if mark == word {
             return true;
         }
     }
     false
 }
 
-/// What stands behind the mark in the first line that has it; nothing where none has it.
-pub(crate) fn behind<'a>(lines: &'a [String], mark: &str) -> &'a str {
+/// What stands behind the mark in the first line that has it.
+pub(crate) fn found<'a>(lines: &'a [String], mark: &str) -> Option<&'a str> {
     for line in lines {
         let (word, rest) = cut(line.as_str());
         if word == mark {
-            return rest;
+            return Some(rest);
         }
     }
-    ""
+    None
 }
 
-/// The number of these digits, as none where they are no number.
-pub(crate) fn number(digits: &str) -> u64 {
-    digits.parse::<u64>().unwrap_or(u64::MAX)
+/// Whether a line has this mark.
+pub(crate) fn has(lines: &[String], mark: &str) -> bool {
+    found(lines, mark).is_some()
+}
+
+/// What stands behind the mark in the first line that has it; nothing where none has it.
+pub(crate) fn behind<'a>(lines: &'a [String], mark: &str) -> &'a str {
+    found(lines, mark).unwrap_or("")
 }
 
 /// The numbers behind a mark.
@@ -67,9 +72,4 @@ pub(crate) fn text(
         }
     }
     Ok(text)
-}
-
-/// The bytes of these digits; none where they are no bytes.
-pub(crate) fn bytes(alloc: Global, digits: &str) -> Vec<u8> {
-    hex::decode(alloc, digits).unwrap_or(Vec::new(alloc))
 }

@@ -1,11 +1,12 @@
 //! What a call runs over: images, and answers of devices in their place.
 
-use crate::lines::{bytes, cut, number, numbers};
+use crate::lines::numbers;
 use dix_base::MemStore;
 use dix_words::unit_of;
 use hex::FromHex;
 use image_rig::ImageRig;
 use rig_api::{Outcome, Rig};
+use row_table::{bytes_of, cut, number};
 use scripted_rig::Answer;
 use sense_codes::Sense;
 use std::alloc::{AllocError, Global};
@@ -37,11 +38,11 @@ fn put(image: &mut [u8], at: usize, new: &[u8]) {
 fn change(alloc: Global, image: &mut Vec<u8>, word: &str, rest: &str) -> Result<(), AllocError> {
     if word == "put" {
         let (at, digits) = cut(rest);
-        put(image, number(at) as usize, &bytes(alloc, digits));
+        put(image, number(at) as usize, &bytes_of(alloc, digits)?);
     } else if word == "cut" {
         image.truncate(number(rest) as usize);
     } else if word == "more" {
-        image.extend_from_slice(&bytes(alloc, rest))?;
+        image.extend_from_slice(&bytes_of(alloc, rest)?)?;
     }
     Ok(())
 }
@@ -82,16 +83,16 @@ fn sense_of(word: &str) -> Option<Sense> {
 }
 
 /// The answer of three words: the blocks that are done, the sense or `-`, and the bytes.
-fn answer_of(alloc: Global, words: &str) -> Answer {
+fn answer_of(alloc: Global, words: &str) -> Result<Answer, AllocError> {
     let (done, rest) = cut(words);
     let (sense, digits) = cut(rest);
-    Answer {
+    Ok(Answer {
         outcome: Outcome {
             done: done.parse::<u32>().unwrap_or(0),
             sense: sense_of(sense),
         },
-        bytes: bytes(alloc, digits),
-    }
+        bytes: bytes_of(alloc, digits)?,
+    })
 }
 
 /// What devices answer in turn in place of those of the image.
@@ -100,7 +101,7 @@ pub(crate) fn answers_in(alloc: Global, lines: &[String]) -> Result<Vec<Answer>,
     for line in lines {
         let (word, rest) = cut(line.as_str());
         if word == "answer" {
-            answers.push(answer_of(alloc, rest))?;
+            answers.push(answer_of(alloc, rest)?)?;
         }
     }
     Ok(answers)

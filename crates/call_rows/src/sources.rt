@@ -1,11 +1,15 @@
 //! The words of a row's call, and the source that it reads.
 
-use crate::lines::{behind, cut, number, text};
+use crate::lines::{behind, text};
+use row_table::{cut, number};
 use script_text::{big_script, print_script};
 use std::alloc::{AllocError, Global};
 
-/// A word, which has a space for each `_`, and nothing for `''`.
-fn word_of(alloc: Global, text: &str) -> Result<String, AllocError> {
+/// A word, which is the image's name for `a`, else has a space for each `_`, and nothing for `''`.
+fn word_of(alloc: Global, text: &str, name: &str) -> Result<String, AllocError> {
+    if text == "a" {
+        return String::from_str(alloc, name);
+    }
     let mut word = String::new(alloc);
     if text == "''" {
         return Ok(word);
@@ -20,14 +24,18 @@ fn word_of(alloc: Global, text: &str) -> Result<String, AllocError> {
 }
 
 /// The words of the call.
-pub(crate) fn words_in(alloc: Global, lines: &[String]) -> Result<Vec<String>, AllocError> {
+pub(crate) fn words_in(
+    alloc: Global,
+    lines: &[String],
+    name: &str,
+) -> Result<Vec<String>, AllocError> {
     let mut words = Vec::new(alloc);
     let line = behind(lines, "$");
     if line == "" {
         return Ok(words);
     }
     for word in line.split(' ') {
-        words.push(word_of(alloc, word)?)?;
+        words.push(word_of(alloc, word, name)?)?;
     }
     Ok(words)
 }

@@ -19,7 +19,7 @@ fn came_with(
         all.push(String::from_str(alloc, line.as_str())?)?;
     }
     let mut rig = rig_over(alloc, &all, image_in(alloc, &all, image)?)?;
-    came_over(alloc, &all, &mut rig)
+    came_over(alloc, &all, "a", &mut rig)
 }
 
 /// Whether the sink failed and a beginning of the text was written: of `at` bytes where room is counted.

@@ -1,15 +1,17 @@
 //! The lines of the table.
 
-use crate::calls::{Came, came_over};
-use crate::lines::{cut, has};
+use crate::calls::came_over;
+use crate::files::{add_in_file, path_of};
+use crate::lines::{add_line, has, is_mark};
 use crate::outside::{answers_in, image_in, image_of, rig_over};
-use crate::row::{Row, is_mark};
 use crate::sweeps::add_sweep;
 use crate::wanted::{add_call, add_image};
 use dix_base::MemStore;
 use image_rig::ImageRig;
+use row_table::{Judge, cut};
 use scripted_rig::ScriptedRig;
 use std::alloc::{AllocError, Global};
+use std::{fs, io};
 
 /// What the row before left.
 #[derive(Drop)]
@@ -19,28 +21,15 @@ struct Left {
     text: Vec<u8>,
 }
 
-/// What was left by the rows that were done, the row that is read, and how many there were.
+/// What was left by the rows that were done, and the lines of the row that is read.
 #[derive(Drop)]
 pub(crate) struct Table {
+    rt: HostRuntime,
     left: Left,
-    row: Option<Row>,
-    rows: u32,
-}
-
-/// A line of the table that comes to something.
-fn told(text: Vec<u8>) -> Option<String> {
-    String::from_utf8(text).ok()
-}
-
-/// What came otherwise than a row says, under its name; nothing where all is as it says.
-fn text_of(alloc: Global, row: &Row, others: &[u8]) -> Result<Option<String>, AllocError> {
-    if others.is_empty() {
-        return Ok(None);
-    }
-    let mut text = Vec::from_slice(alloc, &row.name)?;
-    text.push(b'\n')?;
-    text.extend_from_slice(others.strip_suffix(b"\n").unwrap_or(others))?;
-    Ok(told(text))
+    lines: Vec<String>,
+    /// Where the rows go over an image in a file.
+    path: String,
+    is_in_file: bool,
 }
 
 impl Left {
@@ -56,7 +45,7 @@ impl Left {
             Some(rig) if has(lines, "again") => rig,
             _ => rig_over(alloc, lines, before.clone()?)?,
         };
-        let came = came_over(alloc, lines, &mut rig)?;
+        let came = came_over(alloc, lines, "a", &mut rig)?;
         add_call(alloc, others, lines, &came, &self.text)?;
         add_image(alloc, others, lines, &before, rig.store().bytes())?;
         self.image = Vec::from_slice(alloc, rig.store().bytes())?;
@@ -74,7 +63,7 @@ impl Left {
     ) -> Result<(), AllocError> {
         let rig = rig_over(alloc, lines, self.image.clone()?)?;
         let mut rig = ScriptedRig::new(alloc, rig, answers_in(alloc, lines)?);
-        let came = came_over(alloc, lines, &mut rig)?;
+        let came = came_over(alloc, lines, "a", &mut rig)?;
         add_call(alloc, others, lines, &came, &self.text)?;
         add_image(
             alloc,
@@ -84,69 +73,77 @@ impl Left {
             rig.inner().store().bytes(),
         )
     }
+
+    /// Makes a row's call over forms in memory.
+    fn add(
+        &mut self,
+        alloc: Global,
+        lines: &[String],
+        others: &mut Vec<u8>,
+    ) -> Result<(), AllocError> {
+        if has(lines, "each") {
+            add_sweep(alloc, others, lines, &self.image)
+        } else if has(lines, "answer") {
+            self.call_answered(alloc, lines, others)
+        } else {
+            self.call(alloc, lines, others)
+        }
+    }
 }
 
 impl Table {
-    pub(crate) fn new(alloc: Global) -> Table {
-        Table {
+    pub(crate) fn new(rt: HostRuntime) -> io::Result<Table> {
+        let alloc = rt.alloc();
+        let path = path_of(&rt)?;
+        Ok(Table {
+            rt,
             left: Left {
                 image: Vec::new(alloc),
                 rig: None,
                 text: Vec::new(alloc),
             },
-            row: None,
-            rows: 0,
-        }
+            lines: Vec::new(alloc),
+            path,
+            is_in_file: false,
+        })
     }
 
-    pub(crate) fn rows(&self) -> u32 {
-        self.rows
+    /// Takes the file away.
+    pub(crate) fn clear(&self) {
+        let _ = fs::remove_file(&self.rt, self.path.as_str());
     }
+}
 
-    /// Takes a line. Answers what came of the row before it, where that line ends one and something else came, and a
-    /// line that is none of the table's.
-    pub(crate) fn take(&mut self, alloc: Global, line: &str) -> Result<Option<String>, AllocError> {
+impl Judge for Table {
+    fn set(&mut self, alloc: Global, line: &str) -> Result<bool, AllocError> {
         let (word, rest) = cut(line);
-        if word == "" || word == "#" {
-            return Ok(None);
-        }
         if word == "image" {
-            let judged = self.judge(alloc)?;
             self.left.image = image_of(alloc, rest)?;
-            return Ok(judged);
+            self.is_in_file = false;
+            return Ok(true);
         }
-        if word == "row" {
-            let judged = self.judge(alloc)?;
-            self.row = Some(Row::new(alloc, rest)?);
-            return Ok(judged);
+        if word == "file" {
+            self.clear();
+            self.is_in_file = true;
+            return Ok(true);
         }
-        self.add(alloc, word, line)
+        self.lines.push(String::from_str(alloc, line)?)?;
+        Ok(is_mark(word))
     }
 
-    fn add(&mut self, alloc: Global, word: &str, line: &str) -> Result<Option<String>, AllocError> {
-        match &mut self.row {
-            Some(row) if is_mark(word) => {
-                row.add(alloc, line)?;
-                Ok(None)
-            }
-            _ => Ok(Some(String::from_str(alloc, line)?)),
-        }
-    }
-
-    /// Makes the call of the row that was read, if there is one. Answers what came, where it isn't what the row says.
-    pub(crate) fn judge(&mut self, alloc: Global) -> Result<Option<String>, AllocError> {
-        let Some(row) = self.row.take() else {
-            return Ok(None);
-        };
-        self.rows = self.rows.saturating_add(1);
+    /// So, where a row's call comes to what its lines say; else what came otherwise.
+    fn answer(&mut self, alloc: Global, _call: &str) -> Result<String, AllocError> {
+        let lines = std::mem::replace(&mut self.lines, Vec::new(alloc));
         let mut others = Vec::new(alloc);
-        if has(&row.lines, "each") {
-            add_sweep(alloc, &mut others, &row.lines, &self.left.image)?;
-        } else if has(&row.lines, "answer") {
-            self.left.call_answered(alloc, &row.lines, &mut others)?;
-        } else {
-            self.left.call(alloc, &row.lines, &mut others)?;
+        if !self.is_in_file {
+            self.left.add(alloc, &lines, &mut others)?;
+        } else if add_in_file(&self.rt, &mut others, &lines, self.path.as_str()).is_err() {
+            add_line(&mut others, "no file")?;
         }
-        text_of(alloc, &row, &others)
+        if others.is_empty() {
+            return String::from_str(alloc, "so");
+        }
+        let text = others.strip_suffix(b"\n").unwrap_or(&others);
+        String::from_str(alloc, std::str::from_utf8(text).unwrap_or("?"))
     }
 }

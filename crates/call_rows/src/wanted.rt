@@ -1,7 +1,8 @@
 //! What a row wants, against what came.
 
 use crate::calls::Came;
-use crate::lines::{add_line, behind, bytes, cut, has, number, text};
+use crate::lines::{add_line, behind, has, text};
+use row_table::{bytes_of, cut, hex_of, number};
 use std::alloc::{AllocError, Global};
 use std::str;
 
@@ -73,10 +74,10 @@ fn add_held(
     image: &[u8],
 ) -> Result<(), AllocError> {
     let (at, digits) = cut(rest);
-    let wanted = bytes(alloc, digits);
+    let wanted = bytes_of(alloc, digits)?;
     let found = found_at(image, at, wanted.len());
     if wanted.is_empty() || found != wanted.as_slice() {
-        let came = hex::encode(alloc, found)?;
+        let came = hex_of(alloc, found)?;
         let text = format!(in alloc; "holds {at} {came}")?;
         add_line(others, text.as_str())?;
     }

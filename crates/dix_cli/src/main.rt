@@ -2,9 +2,6 @@
 //! report.
 #![tactic(auto)]
 
-#[cfg(test)]
-mod tests;
-
 use dix_base::{FileStore, StdinSource, StdoutSink};
 use dix_run::{Refusal, refuse, run};
 use image_rig::ImageRig;
