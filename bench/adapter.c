@@ -8,10 +8,10 @@
 #include "rounds.h"
 
 /* The static libraries: a slice is a pointer and a length, an allocator is nothing, a bool is a byte. */
-uint16_t guard_bench_crc16(const uint8_t *p, size_t n);
-uint16_t guard_bench_ip_sum(const uint8_t *p, size_t n);
-uint32_t adapter_bench_carry(_Bool is_write, _Bool is_ip, uint32_t times);
-uint32_t adapter_bench_exchange(_Bool is_write, uint32_t times);
+uint16_t bench_crc16(const uint8_t *p, size_t n);
+uint16_t bench_ip_sum(const uint8_t *p, size_t n);
+uint32_t bench_carry(_Bool is_write, _Bool is_ip, uint32_t times);
+uint32_t bench_exchange(_Bool is_write, uint32_t times);
 
 enum { BLOCKS = 1024, DATA = 512, FRAME = 520, TIMES = 64, ROUNDS = 100, WAYS = 9 };
 
@@ -25,7 +25,7 @@ static double guards(_Bool is_ip, uint32_t times) {
     uint16_t all = 0;
     for (uint32_t i = 0; i < times; i++)
         for (size_t at = 0; at < BLOCKS * FRAME; at += FRAME)
-            all ^= is_ip ? guard_bench_ip_sum(source + at, DATA) : guard_bench_crc16(source + at, DATA);
+            all ^= is_ip ? bench_ip_sum(source + at, DATA) : bench_crc16(source + at, DATA);
     sink = all;
     return spent() - start;
 }
@@ -41,9 +41,9 @@ static double copies(uint32_t times) {
     return spent() - start;
 }
 
-static uint32_t carry(int way, uint32_t times) { return adapter_bench_carry(way & 1, way >> 1, times); }
+static uint32_t carry(int way, uint32_t times) { return bench_carry(way & 1, way >> 1, times); }
 
-static uint32_t exchange(int way, uint32_t times) { return adapter_bench_exchange(way & 1, times); }
+static uint32_t exchange(int way, uint32_t times) { return bench_exchange(way & 1, times); }
 
 /* The library makes its buffers anew at each call, which is measured and taken off. */
 static double taken(uint32_t (*call)(int, uint32_t), int way, uint32_t times) {

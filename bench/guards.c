@@ -10,8 +10,8 @@
 #include "tables.h"
 
 /* The static library: a slice is a pointer and a length. */
-uint16_t guard_bench_crc16(const uint8_t *p, size_t n);
-uint16_t guard_bench_ip_sum(const uint8_t *p, size_t n);
+uint16_t bench_crc16(const uint8_t *p, size_t n);
+uint16_t bench_ip_sum(const uint8_t *p, size_t n);
 
 enum { MIB = 1 << 20, ROUNDS = 300 };
 
@@ -35,8 +35,8 @@ static const struct way {
     uint16_t (*of)(const uint8_t *, size_t);
     size_t mebibytes; /* that one measurement passes over */
 } ways[] = {
-    {"crc16 (pi_guard)", guard_bench_crc16, 8},
-    {"ip_sum (pi_guard)", guard_bench_ip_sum, 8},
+    {"crc16 (pi_guard)", bench_crc16, 8},
+    {"ip_sum (pi_guard)", bench_ip_sum, 8},
     {"CRC, table of 256, C", crc_table, 1},
     {"CRC, slicing-by-16, C", crc_slicing, 4},
     {"the same, after a test for null", slicing_tested, 4},
@@ -115,7 +115,7 @@ static double paired(const double *of, const double *by, int rounds) {
 
 static void compared(size_t n) {
     uint16_t crc = crc_table(source, n);
-    if (guard_bench_crc16(source, n) != crc || crc_slicing(source, n) != crc || isal(source, n) != crc) {
+    if (bench_crc16(source, n) != crc || crc_slicing(source, n) != crc || isal(source, n) != crc) {
         fprintf(stderr, "the CRCs of %zu bytes differ\n", n);
         exit(1);
     }
@@ -124,7 +124,7 @@ static void compared(size_t n) {
         sum += i % 2 ? source[i] : source[i] << 8;
     while (sum >> 16)
         sum = (sum & 0xffff) + (sum >> 16);
-    if (guard_bench_ip_sum(source, n) != (uint16_t)~sum) {
+    if (bench_ip_sum(source, n) != (uint16_t)~sum) {
         fprintf(stderr, "the checksums of %zu bytes differ\n", n);
         exit(1);
     }

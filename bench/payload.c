@@ -7,9 +7,9 @@
 #include "rounds.h"
 
 /* The static libraries: a slice is a pointer and a length, an allocator is nothing, a bool is a byte. */
-uint16_t guard_bench_crc16(const uint8_t *p, size_t n);
-uint16_t guard_bench_ip_sum(const uint8_t *p, size_t n);
-uint32_t payload_bench_generate(_Bool is_ip, uint32_t times);
+uint16_t bench_crc16(const uint8_t *p, size_t n);
+uint16_t bench_ip_sum(const uint8_t *p, size_t n);
+uint32_t bench_generate(_Bool is_ip, uint32_t times);
 
 enum { MIB = 1 << 20, BLOCK = 512, TIMES = 64, ROUNDS = 100, WAYS = 4 };
 
@@ -31,9 +31,9 @@ static double guards(uint16_t (*of)(const uint8_t *, size_t), uint32_t times) {
 /* The tuples of as many blocks. The library makes its pages anew at each call, which is measured and taken off. */
 static double tuples(_Bool is_ip, uint32_t times) {
     double start = now();
-    uint32_t guard = payload_bench_generate(is_ip, 1);
+    uint32_t guard = bench_generate(is_ip, 1);
     double once = now();
-    uint32_t again = payload_bench_generate(is_ip, times + 1);
+    uint32_t again = bench_generate(is_ip, times + 1);
     double end = now();
     if (guard != (is_ip ? 0xFFFF : 0) || again != guard) {
         fprintf(stderr, "a wrong guard, or no memory\n");
@@ -53,9 +53,9 @@ int main(int count, char **words) {
     for (int round = 0; round < rounds; round++)
         for (int way = 0; way < WAYS; way++) {
             double seconds = way == 0   ? tuples(0, TIMES)
-                             : way == 1 ? guards(guard_bench_crc16, TIMES)
+                             : way == 1 ? guards(bench_crc16, TIMES)
                              : way == 2 ? tuples(1, TIMES)
-                                        : guards(guard_bench_ip_sum, TIMES);
+                                        : guards(bench_ip_sum, TIMES);
             rates[way * rounds + round] = (double)MIB * TIMES / seconds / 1e9;
         }
     double figure[WAYS];

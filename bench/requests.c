@@ -8,8 +8,8 @@
 #include "rounds.h"
 
 /* The static library: an allocator is nothing, a bool is a byte. */
-uint32_t request_bench_gate(uint32_t ops, uint32_t segs, _Bool runs);
-uint32_t request_bench_queue(uint32_t groups);
+uint32_t bench_gate(uint32_t ops, uint32_t segs, _Bool runs);
+uint32_t bench_queue(uint32_t groups);
 
 enum { ROUNDS = 20, WAYS = 5 };
 
@@ -23,17 +23,17 @@ static void expect(uint32_t got, uint32_t want) {
 /* Making the gate, or admitting and ending all ops; the making is then taken off. */
 static double gate(uint32_t ops, uint32_t segs, _Bool runs) {
     double start = now();
-    expect(request_bench_gate(ops, segs, 0), 0);
+    expect(bench_gate(ops, segs, 0), 0);
     double made = now();
     if (!runs)
         return made - start;
-    expect(request_bench_gate(ops, segs, 1), ops);
+    expect(bench_gate(ops, segs, 1), ops);
     return (now() - made) - (made - start);
 }
 
 static double queue(uint32_t groups) {
     double start = now();
-    expect(request_bench_queue(groups), groups);
+    expect(bench_queue(groups), groups);
     return now() - start;
 }
 

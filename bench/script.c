@@ -11,10 +11,10 @@
 #include "rounds.h"
 
 /* The static libraries: a slice is a pointer and a length, an allocator is nothing. */
-uint16_t guard_bench_crc16(const uint8_t *p, size_t n);
-uint32_t script_bench_read(const uint8_t *p, size_t n);
-size_t script_bench_big(uint32_t n, uint32_t seed);
-size_t script_bench_print(uint32_t n, uint32_t seed);
+uint16_t bench_crc16(const uint8_t *p, size_t n);
+uint32_t bench_read(const uint8_t *p, size_t n);
+size_t bench_big(uint32_t n, uint32_t seed);
+size_t bench_print(uint32_t n, uint32_t seed);
 
 enum { ROUNDS = 20, MOST = 4194304, WAYS = 9 };
 
@@ -98,7 +98,7 @@ static double spent(void) {
 
 static double read_once(struct text t) {
     double start = spent();
-    uint32_t line = script_bench_read(t.bytes, t.len);
+    uint32_t line = bench_read(t.bytes, t.len);
     double end = spent();
     if (line) {
         fprintf(stderr, "a fault in line %u, or no memory\n", line);
@@ -129,7 +129,7 @@ static double made(uint32_t n, int times, size_t (*make)(uint32_t, uint32_t)) {
 static double guard(struct text t) {
     double start = spent();
     for (int i = 0; i < 8; i++)
-        sink += guard_bench_crc16(t.bytes, t.len);
+        sink += bench_crc16(t.bytes, t.len);
     return (spent() - start) / 8;
 }
 
@@ -157,10 +157,10 @@ int main(int count, char **words) {
             small[way][round] = read_text(half[way], times);
             large[way][round] = read_text(whole[way], times);
         }
-        small[4][round] = made(512, 32, script_bench_big);
-        large[4][round] = made(1024, 32, script_bench_big);
-        small[5][round] = made(512, 8, script_bench_print);
-        large[5][round] = made(1024, 8, script_bench_print);
+        small[4][round] = made(512, 32, bench_big);
+        large[4][round] = made(1024, 32, bench_big);
+        small[5][round] = made(512, 8, bench_print);
+        large[5][round] = made(1024, 8, bench_print);
         small[6][round] = guard(half[0]);
         large[6][round] = guard(whole[0]);
         for (int way = 0; way < 7; way++)
@@ -170,7 +170,7 @@ int main(int count, char **words) {
     double lists_time = 0, single_time = 0;
     for (int way = 0; way < 7; way++) {
         double a = quantile(small[way], rounds, rounds / 10), b = quantile(large[way], rounds, rounds / 10), r = quantile(ratio[way], rounds, rounds / 2);
-        size_t bytes = way < 4 ? whole[way].len : way == 6 ? whole[0].len : way == 5 ? script_bench_print(1024, 0) : 0;
+        size_t bytes = way < 4 ? whole[way].len : way == 6 ? whole[0].len : way == 5 ? bench_print(1024, 0) : 0;
         if (bytes)
             printf("| %s | %zu | %.3f | %.3f | %.2f | %.0f |\n", name[way], bytes, a * 1e3, b * 1e3, r, (double)bytes / b / 1e6);
         else

@@ -10,8 +10,8 @@
 #include "rounds.h"
 
 /* The static library: a slice is a pointer and a length, an allocator is nothing, a bool is a byte. */
-uint32_t stack_bench_run(const uint8_t *text, size_t n, uint32_t words);
-uint32_t stack_bench_carry(uint32_t requests, _Bool carries);
+uint32_t bench_run(const uint8_t *text, size_t n, uint32_t words);
+uint32_t bench_groups(uint32_t requests, _Bool carries);
 
 enum { ROUNDS = 20, NONE = 0xffff, ZEROS = 0, FIRST = 1, LAST = 2, LAST_ONCE_CUT = 3, RANDOM = 4, PAGE_BLOCKS = 8, PAGES = 256, BLOCKS = 16384, BYTES = 1 << 20 };
 
@@ -46,9 +46,9 @@ static struct script writes(uint32_t blocks, uint32_t of, uint32_t most) {
 /* The run by itself: how long the stack takes beyond its making. Answers how many commands were sent, too. */
 static double run(struct script s, uint32_t words, uint32_t *sent) {
     double start = spent();
-    expect(stack_bench_run((const uint8_t *)s.text, s.len, NONE), 0, 0);
+    expect(bench_run((const uint8_t *)s.text, s.len, NONE), 0, 0);
     double made = spent();
-    *sent = stack_bench_run((const uint8_t *)s.text, s.len, words);
+    *sent = bench_run((const uint8_t *)s.text, s.len, words);
     double end = spent();
     expect(*sent, 1, BLOCKS);
     return (end - made) - (made - start);
@@ -57,9 +57,9 @@ static double run(struct script s, uint32_t words, uint32_t *sent) {
 /* All requests of 16 blocks carried in groups of so many. */
 static double carry(uint32_t requests) {
     double start = spent();
-    expect(stack_bench_carry(requests, 0), BLOCKS, BLOCKS);
+    expect(bench_groups(requests, 0), BLOCKS, BLOCKS);
     double looked = spent();
-    expect(stack_bench_carry(requests, 1), BLOCKS, BLOCKS);
+    expect(bench_groups(requests, 1), BLOCKS, BLOCKS);
     return (spent() - looked) - (looked - start);
 }
 

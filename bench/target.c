@@ -8,8 +8,8 @@
 #include "rounds.h"
 
 /* The static libraries: a slice is a pointer and a length, an allocator is nothing, a bool is a byte. */
-uint16_t guard_bench_crc16(const uint8_t *p, size_t n);
-uint32_t target_bench_serve(_Bool is_write, uint32_t times);
+uint16_t bench_crc16(const uint8_t *p, size_t n);
+uint32_t bench_serve(_Bool is_write, uint32_t times);
 
 enum { BLOCKS = 1024, DATA = 512, FRAME = 520, TIMES = 64, ROUNDS = 100, WAYS = 4 };
 
@@ -23,7 +23,7 @@ static double guards(uint32_t times) {
     uint16_t all = 0;
     for (uint32_t i = 0; i < times; i++)
         for (size_t at = 0; at < BLOCKS * FRAME; at += FRAME)
-            all ^= guard_bench_crc16(source + at, DATA);
+            all ^= bench_crc16(source + at, DATA);
     sink = all;
     return now() - start;
 }
@@ -42,9 +42,9 @@ static double copies(uint32_t times) {
 /* Commands of all blocks. The library makes its buffers anew at each call, which is measured and taken off. */
 static double served(_Bool is_write, uint32_t times) {
     double start = now();
-    uint32_t done = target_bench_serve(is_write, 1);
+    uint32_t done = bench_serve(is_write, 1);
     double once = now();
-    uint32_t again = target_bench_serve(is_write, times + 1);
+    uint32_t again = bench_serve(is_write, times + 1);
     double end = now();
     if (done != BLOCKS || again != done) {
         fprintf(stderr, "not all blocks are done, or no memory\n");

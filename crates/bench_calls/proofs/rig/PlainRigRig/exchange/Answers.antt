@@ -1,0 +1,22 @@
+use Rattle.std.proofs.Common.{◌≡◌, sym, ◌∙◌, arith}
+use Rattle.target_answer.specs.Requests.{blocks_of}
+use Rattle.rig_api.specs.Telling.{greatest_size, spec_at}
+use Rattle.rig_log.specs.Logs.{room_in}
+use Rattle.answer_rig.specs.Answering.{device_count, device_is, greatest_is, standing_of}
+use Rattle.bench_calls.proofs.Rooms.{room-for}
+use Rattle.bench_calls.proofs.rig.PlainRigRig.exchange.Goals as goal
+
+pub note-requires-clause-room : goal.note-requires-clause-room
+note-requires-clause-room c =
+    let g = greatest_is c.args.self.now.devices (device_count c.args.self.now.devices c.args.dev c.args.self.now.open c.requires.device) in
+    room-for c.size_of.result (greatest_size (standing_of c.args.self.now.devices)) 1 (blocks_of c.args.cdb.now) (room_in c.args.self.now.log) (omega (arith, g, c.size_of.ensures.bound)) c.requires.room
+
+pub returns-clause-recorded : goal.returns-clause-recorded
+returns-clause-recorded c =
+    let z : (spec_at (standing_of c.args.self.now.devices) c.args.dev).size ≡ c.size_of.result = (device_is c.args.self.now.devices c.args.dev c.args.self.now.open c.requires.device).0 ∙ sym c.size_of.ensures.value in
+    rw z c.note.ensures.recorded
+
+pub returns-clause-moved : goal.returns-clause-moved
+returns-clause-moved c =
+    let z : (spec_at (standing_of c.args.self.now.devices) c.args.dev).size ≡ c.size_of.result = (device_is c.args.self.now.devices c.args.dev c.args.self.now.open c.requires.device).0 ∙ sym c.size_of.ensures.value in
+    rw z c.note.ensures.moved

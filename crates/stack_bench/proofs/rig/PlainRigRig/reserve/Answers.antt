@@ -1,9 +1,0 @@
-use Rattle.rig_api.specs.Telling.{greatest_size}
-use Rattle.rig_log.specs.Logs.{room_in}
-use Rattle.answer_rig.specs.Answering.{greatest_most, standing_of}
-use Rattle.stack_bench.proofs.Rooms.{room-for}
-use Rattle.stack_bench.proofs.rig.PlainRigRig.reserve.Goals as goal
-
-pub returns-clause-room : goal.returns-clause-room
-returns-clause-room c =
-    room-for (greatest_size (standing_of c.args.self.now.devices)) 4096 c.args.exchanges c.args.blocks (room_in c.reserve.new.self) (greatest_most c.args.self.now.devices c.args.self.now.open) c.in_ok-reserve.ensures.room
