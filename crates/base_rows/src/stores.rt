@@ -1,0 +1,148 @@
+//! Stores. The functions that use the trait know nothing else of an object, and are proved from the trait alone.
+
+ghost use Rattle.std.specs.Prelude.{◌≡◌, ◌+◌, ◌-◌, ◌^◌, min, ◌≤◌, length, IsErrOf, OnErr, OnOk};
+ghost use Rattle.dix_base.specs.Told.{Apart, Becomes, Begins, Rose};
+
+use crate::names::{add, none};
+use crate::sources::numbers;
+use dix_base::{CalmStore, Failed, MemStore, Store, StoreFault};
+use row_table::{bytes_of, cut, hex_of, small};
+use std::alloc::{AllocError, Global};
+
+/// Writes the piece over what is there, and reads it back.
+fn stamp<S: Store>(store: &mut S, at: u64, piece: &[u8], into: &mut [u8]) -> Result<(), Failed>
+    requires inside { at + length piece.now ≤ S.len store.old }
+    requires within { length into.old ≤ length piece.now }
+    ensures apart { Becomes (Apart at (length piece.now)) (S.bytes store.old) (S.bytes store.new) }
+    ensures length { S.len store.new ≡ S.len store.old }
+    ensures opened { S.openings store.new ≡ S.openings store.old }
+    ensures calm { OnOk result (S.faults store.new ≡ S.faults store.old) }
+    ensures cause { OnErr result (Rose (S.faults store.old) (S.faults store.new)) }
+{
+    store.write_at(at, piece)?;
+    store.read_at(at, into)
+}
+
+/// Opens the content, writes the piece at byte 1 and reads what is there then. It does nothing to
+/// a content that is shorter.
+fn exchange<S: Store>(
+    store: &mut S,
+    name: String,
+    piece: &[u8],
+    into: &mut [u8],
+) -> Result<u64, Failed>
+    ensures opened { S.openings store.new ≡ min (S.openings store.old + 1) (2 ^ 64 - 1) }
+    ensures cause { OnErr result (Rose (S.faults store.old) (S.faults store.new)) }
+{
+    let len = store.open(name)?;
+    if len > 4 && piece.len() < 4 && into.len() <= piece.len() {
+        stamp(store, 1, piece, into)?;
+    }
+    Ok(len)
+}
+
+fn add_to<S: Store>(store: &mut S, alloc: Global, piece: &[u8]) -> Result<(), StoreFault>
+    ensures begins { Becomes Begins (S.bytes store.old) (S.bytes store.new) }
+    ensures cause { IsErrOf result StoreFault.Failed → Rose (S.faults store.old) (S.faults store.new) }
+    ensures memory { IsErrOf result StoreFault.Memory → S.bytes store.new ≡ S.bytes store.old }
+{
+    store.append(alloc, piece)
+}
+
+/// Makes the content of this name the piece.
+fn refill<S: Store>(
+    store: &mut S,
+    alloc: Global,
+    name: String,
+    piece: &[u8],
+) -> Result<(), StoreFault>
+    ensures length { OnOk result (S.len store.new ≡ length piece.now) }
+    ensures cause { IsErrOf result StoreFault.Failed → Rose (S.faults store.old) (S.faults store.new) }
+{
+    match store.reset(name) {
+        Ok(()) => store.append(alloc, piece),
+        Err(Failed) => Err(StoreFault::Failed),
+    }
+}
+
+fn done_text(alloc: Global, came: Result<(), StoreFault>) -> Result<String, AllocError> {
+    match came {
+        Ok(()) => String::from_str(alloc, "done"),
+        Err(StoreFault::Failed) => String::from_str(alloc, "failed"),
+        Err(StoreFault::Memory) => Err(AllocError),
+    }
+}
+
+/// The length of the content and what is read back, by the piece and how many bytes are read.
+fn exchanged<S: Store>(
+    alloc: Global,
+    store: &mut S,
+    name: String,
+    words: &str,
+) -> Result<String, AllocError> {
+    let (piece, len) = cut(words);
+    let piece = bytes_of(alloc, piece)?;
+    let mut buf = [0u8; 4];
+    let into = &mut buf[..(small(len) as usize).min(4)];
+    match exchange(store, name, &piece, into) {
+        Ok(len) => {
+            let bytes = hex_of(alloc, into)?;
+            format!(in alloc; "{len} {bytes}")
+        }
+        Err(Failed) => String::from_str(alloc, "failed"),
+    }
+}
+
+/// What comes of one call.
+pub(crate) fn step<S: Store>(
+    alloc: Global,
+    store: &mut S,
+    call: &str,
+    name: String,
+    words: &str,
+) -> Result<String, AllocError> {
+    match call {
+        "exchange" => exchanged(alloc, store, name, words),
+        "refill" => {
+            let piece = bytes_of(alloc, words)?;
+            done_text(alloc, refill(store, alloc, name, &piece))
+        }
+        "append" => done_text(alloc, add_to(store, alloc, &bytes_of(alloc, words)?)),
+        _ => none(alloc),
+    }
+}
+
+/// What comes of calls, one after another, each of a word and what it is of.
+fn steps<S: Store>(alloc: Global, store: &mut S, steps: &str) -> Result<String, AllocError> {
+    let mut text = String::new(alloc);
+    for one in steps.split(';') {
+        let (call, words) = cut(one);
+        add(
+            &mut text,
+            step(alloc, store, call, String::new(alloc), words)?.as_str(),
+        )?;
+    }
+    Ok(text)
+}
+
+/// What comes of the steps of a store in memory, and what it holds then.
+pub(crate) fn answer(alloc: Global, words: &str) -> Result<String, AllocError> {
+    let (form, calls) = words.split_once(';').unwrap_or((words, ""));
+    let (word, rest) = cut(form);
+    let (held, fails) = cut(rest);
+    let held = bytes_of(alloc, held)?;
+    let (text, bytes) = if word == "calm" {
+        let mut store = CalmStore::new(held);
+        (
+            steps(alloc, &mut store, calls)?,
+            hex_of(alloc, store.bytes())?,
+        )
+    } else {
+        let mut store = MemStore::new(held, numbers(alloc, fails)?);
+        (
+            steps(alloc, &mut store, calls)?,
+            hex_of(alloc, store.bytes())?,
+        )
+    };
+    format!(in alloc; "{text};holds {bytes}")
+}
