@@ -1,0 +1,61 @@
+//! Reads a table of volumes from standard input: linear and striped extents, tables of both, and stripes over inner
+//! volumes. Prints each row of which something else comes, with what came, and how many rows there were.
+#![tactic(auto)]
+
+mod entries;
+mod names;
+mod stripes;
+mod tables;
+mod trees;
+
+use row_table::{Judge, cut, read_table};
+use std::alloc::{AllocError, Global};
+use std::io;
+
+/// The stripe, the devices and the entries of the rows from here on, as the table tells them.
+#[derive(Drop)]
+struct Rows {
+    stripe: String,
+    devices: String,
+    entries: String,
+}
+
+impl Judge for Rows {
+    fn set(&mut self, alloc: Global, line: &str) -> Result<bool, AllocError> {
+        let (word, rest) = cut(line);
+        let text = String::from_str(alloc, rest)?;
+        match word {
+            "stripe" => self.stripe = text,
+            "devices" => self.devices = text,
+            "entries" => self.entries = text,
+            _ => return Ok(false),
+        }
+        Ok(true)
+    }
+
+    fn answer(&mut self, alloc: Global, call: &str) -> Result<String, AllocError> {
+        let (word, rest) = cut(call);
+        let devices = self.devices.as_str();
+        match word {
+            "linear" => entries::linear_place(alloc, rest),
+            "place" => stripes::place(alloc, self.stripe.as_str(), rest),
+            "back" => stripes::back(alloc, self.stripe.as_str(), rest),
+            "legs" => stripes::copied(alloc, rest),
+            "copy" => entries::copied(alloc, rest),
+            "table" => tables::judged(alloc, devices, rest),
+            "block" => tables::place(alloc, devices, self.entries.as_str(), rest),
+            "tree" => trees::answer(alloc, rest),
+            _ => String::from_str(alloc, "no call"),
+        }
+    }
+}
+
+fn main(rt: HostRuntime) -> io::Result<()> {
+    let alloc = rt.alloc();
+    let mut rows = Rows {
+        stripe: String::new(alloc),
+        devices: String::new(alloc),
+        entries: String::new(alloc),
+    };
+    read_table(&rt, &mut rows)
+}
