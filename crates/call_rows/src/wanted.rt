@@ -119,6 +119,15 @@ pub(crate) fn add_image(
     Ok(())
 }
 
+/// Adds a text that came, or a line that there is none.
+fn add_came(others: &mut Vec<u8>, text: &[u8], none: &str) -> Result<(), AllocError> {
+    if text.is_empty() {
+        add_line(others, none)
+    } else {
+        others.extend_from_slice(text)
+    }
+}
+
 /// The status that a row wants: 0 where it says none.
 fn status_wanted(lines: &[String]) -> u64 {
     if has(lines, "status") {
@@ -142,10 +151,10 @@ pub(crate) fn add_call(
         add_line(others, text.as_str())?;
     }
     if !is_text_wanted(alloc, lines, &came.text, last)? {
-        others.extend_from_slice(&came.text)?;
+        add_came(others, &came.text, "no text")?;
     }
     if has(lines, "x") && came.records.as_slice() != records_wanted(alloc, lines)?.as_slice() {
-        others.extend_from_slice(&came.records)?;
+        add_came(others, &came.records, "no records")?;
     }
     Ok(())
 }

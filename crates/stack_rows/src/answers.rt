@@ -3,6 +3,7 @@
 use hex::FromHex;
 use pi_tuple::PiType;
 use rig_api::Outcome;
+use row_table::cut;
 use scripted_rig::Answer;
 use sense_codes::Sense;
 use std::alloc::{AllocError, Global};
@@ -40,11 +41,9 @@ impl Rule {
     /// The rule of four words: how many commands, how many blocks are done, the key and the two codes of the sense in
     /// hexadecimal or `-`, and the byte or `-`.
     pub(crate) fn of(words: &str) -> Rule {
-        let mut words = words.split(' ');
-        let times = words.next().unwrap_or("");
-        let done = words.next().unwrap_or("");
-        let sense = words.next().unwrap_or("");
-        let byte = words.next().unwrap_or("");
+        let (times, rest) = cut(words);
+        let (done, rest) = cut(rest);
+        let (sense, byte) = cut(rest);
         Rule {
             times: times.parse::<u32>().unwrap_or(0),
             outcome: Outcome {

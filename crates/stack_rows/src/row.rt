@@ -5,7 +5,6 @@ use std::alloc::{AllocError, Global};
 
 #[derive(Drop)]
 pub(crate) struct Row {
-    pub(crate) name: Vec<u8>,
     pub(crate) script: Vec<u8>,
     /// The store's calls that fail.
     pub(crate) fails: Vec<u64>,
@@ -20,17 +19,36 @@ pub(crate) struct Row {
 }
 
 impl Row {
-    pub(crate) fn new(alloc: Global, name: &str) -> Result<Row, AllocError> {
-        Ok(Row {
-            name: Vec::from_slice(alloc, name.as_bytes())?,
+    pub(crate) fn new(alloc: Global) -> Row {
+        Row {
             script: Vec::new(alloc),
             fails: Vec::new(alloc),
             rules: Vec::new(alloc),
             is_mirror: false,
             report: Vec::new(alloc),
             trace: Vec::new(alloc),
-        })
+        }
     }
+
+    /// Takes a line of the row, by its first word and the rest.
+    pub(crate) fn add(&mut self, word: &str, rest: &str, line: &str) -> Result<(), AllocError> {
+        match word {
+            ":" => add_line(&mut self.script, rest)?,
+            "fails" => add_numbers(&mut self.fails, rest)?,
+            "answers" => self.rules.push(Rule::of(rest))?,
+            "mirror" => self.is_mirror = true,
+            "x" => add_line(&mut self.trace, line)?,
+            _ => add_line(&mut self.report, line)?,
+        }
+        Ok(())
+    }
+}
+
+fn add_numbers(numbers: &mut Vec<u64>, words: &str) -> Result<(), AllocError> {
+    for word in words.split(' ') {
+        numbers.push(word.parse::<u64>().unwrap_or(0))?;
+    }
+    Ok(())
 }
 
 /// One more line of a text.

@@ -88,6 +88,16 @@ fn mirrored<R: Rig>(alloc: Global, script: Script, rig: &mut R) -> Result<Vec<u8
     Vec::from_slice(alloc, sink.bytes().get(FRONT..).unwrap_or(&[]))
 }
 
+/// What comes of a script over a rig that is opened.
+fn ran<R: Rig>(alloc: Global, script: Script, rig: &mut R) -> Result<Vec<u8>, AllocError>
+    requires { IsSound script }
+{
+    match run_script(alloc, script, rig) {
+        Ok(stack) => report_of(alloc, &stack),
+        Err(unready) => unready_text(alloc, unready),
+    }
+}
+
 /// What comes of a text over a rig, which is opened but for a mirror.
 fn came_over<R: Rig>(
     alloc: Global,
@@ -108,10 +118,7 @@ fn came_over<R: Rig>(
     let report = if is_mirror {
         mirrored(alloc, script, rig)?
     } else {
-        match run_script(alloc, script, rig) {
-            Ok(stack) => report_of(alloc, &stack)?,
-            Err(unready) => unready_text(alloc, unready)?,
-        }
+        ran(alloc, script, rig)?
     };
     let trace = trace_of(alloc, rig)?;
     Ok(Came { report, trace })
