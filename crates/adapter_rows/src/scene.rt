@@ -29,6 +29,14 @@ pub(crate) struct Scene {
     want: PagePool,
 }
 
+/// Formats the image of one unit, and opens it.
+fn lay<R: Rig>(alloc: Global, rig: &mut R, unit: UnitSpec) {
+    if is_layout(&[unit]) {
+        let _ = rig.format(alloc, "a.img", &[unit]);
+    }
+    let _ = rig.open(alloc, "a.img");
+}
+
 /// A formatted image in memory of one unit of 8 blocks from address 4 on.
 fn image(alloc: Global, case: Case) -> ImageRig<MemStore> {
     let mut rig = ImageRig::new(alloc, MemStore::new(Vec::new(alloc), Vec::new(alloc)));
@@ -38,10 +46,7 @@ fn image(alloc: Global, case: Case) -> ImageRig<MemStore> {
         size: case.size,
         first: 4,
     };
-    if is_layout(&[unit]) {
-        let _ = rig.format(alloc, "a.img", &[unit]);
-    }
-    let _ = rig.open(alloc, "a.img");
+    lay(alloc, &mut rig, unit);
     rig
 }
 

@@ -24,15 +24,13 @@ fn why_of(word: &str) -> Why {
         "block" => Why::Block(check_of(rest)),
         "app" => Why::App(check_of(rest)),
         "medium" => Why::Medium,
-        _ => refused(rest),
+        _ => refused(rest).unwrap_or(Why::Short),
     }
 }
 
-fn refused(word: &str) -> Why {
-    match <[u8; 3] as FromHex>::from_hex(word) {
-        Ok([key, asc, ascq]) => Why::Refused { key, asc, ascq },
-        Err(_) => Why::Short,
-    }
+fn refused(word: &str) -> Option<Why> {
+    let [key, asc, ascq] = <[u8; 3] as FromHex>::from_hex(word).ok()?;
+    Some(Why::Refused { key, asc, ascq })
 }
 
 /// The blocks that fail so, by their places.
