@@ -3,9 +3,11 @@
 #![tactic(auto)]
 
 mod escapes;
+mod line;
 mod words;
 
 pub use escapes::text_of;
+pub use line::Words;
 use std::alloc::{AllocError, Global};
 use std::io;
 pub use words::{bytes_of, cut, hex_of, number, small};
