@@ -2,9 +2,8 @@
 //! groups come from tables.
 #![tactic(auto)]
 
-mod bytes;
 mod groups;
 mod requests;
 
-pub use bytes::{list_of, write_all};
 pub use groups::group_blocks;
+pub use page_checks::{list_of, write_all};

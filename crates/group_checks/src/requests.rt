@@ -1,9 +1,8 @@
 //! The requests of a group.
 
 ghost use Rattle.std.specs.Prelude.{◌≡◌, true};
-ghost use Rattle.page_pool.specs.Pages.{AllLieIn, LiesIn};
-ghost use Rattle.page_pool.specs.Places.{Apart, NoneTwice, places_in, places_of};
-ghost use Rattle.integrity_payload.specs.Payloads.{AreWholeTuples, IsPayload};
+ghost use Rattle.page_pool.specs.Pages.{AllLieIn};
+ghost use Rattle.integrity_payload.specs.Payloads.{IsPayload};
 ghost use Rattle.bio_core.specs.declared.request.Dir.TheVariants.{Read};
 ghost use Rattle.dix_adapter.specs.Groups.{IsRequest};
 ghost use Rattle.dix_adapter.specs.Walking.{HasHost, IsOnce, TuplesOnce, Walkable, WalksTuples};
@@ -11,73 +10,15 @@ ghost use Rattle.dix_adapter.specs.Walking.{HasHost, IsOnce, TuplesOnce, Walkabl
 use bio_core::{Dir, Io};
 use dix_adapter::Adapter;
 use integrity_payload::Payload;
-use page_pool::{PAGE, PagePool, Seg};
-
-fn lies(pool: &PagePool, s: Seg) -> bool
-    ensures yes { result ≡ true → LiesIn pool.now s }
-    ensures no { LiesIn pool.now s → result ≡ true }
-{
-    (s.page as usize) < pool.pages() && s.off as u64 + s.len as u64 <= PAGE as u64
-}
-
-/// Whether all segments lie in the pool.
-pub(crate) fn all_lie(pool: &PagePool, segs: &[Seg]) -> bool
-    ensures yes { result ≡ true → AllLieIn pool.now segs.now }
-    ensures no { AllLieIn pool.now segs.now → result ≡ true }
-{
-    for s in segs {
-        if !lies(pool, *s) {
-            return false;
-        }
-    }
-    true
-}
-
-/// Whether no byte of the segment is in one of these.
-fn is_apart(before: &[Seg], s: Seg) -> bool
-    ensures { result ≡ true → Apart (places_in before.now) (places_of s) }
-{
-    for t in before {
-        if t.shares(s) {
-            return false;
-        }
-    }
-    true
-}
-
-/// Whether no byte is there twice.
-fn none_twice(segs: &[Seg]) -> bool
-    ensures { result ≡ true → NoneTwice (places_in segs.now) }
-{
-    for i in 0..segs.len() {
-        if !is_apart(&segs[..i], segs[i]) {
-            return false;
-        }
-    }
-    true
-}
-
-/// Whether each segment holds whole tuples.
-fn whole_tuples(segs: &[Seg]) -> bool
-    ensures { result ≡ true → AreWholeTuples segs.now }
-{
-    for s in segs {
-        if s.len % 8 != 0 {
-            return false;
-        }
-    }
-    true
-}
+use page_checks::{all_lie, none_twice};
+use page_pool::PagePool;
 
 fn is_payload(pool: &PagePool, count: u32, pi: &Payload) -> bool
     ensures payload { result ≡ true → IsPayload pi.now }
     ensures count { result ≡ true → pi.now.count ≡ count }
     ensures lies { result ≡ true → AllLieIn pool.now pi.now.tuples }
 {
-    pi.count == count
-        && pi.tuples.total() as u64 == 8 * pi.count as u64
-        && whole_tuples(pi.tuples.as_slice())
-        && all_lie(pool, pi.tuples.as_slice())
+    pi.count == count && page_checks::is_payload(pi) && all_lie(pool, pi.tuples.as_slice())
 }
 
 fn walks_tuples(pool: &PagePool, count: u32, pi: &Option<Payload>) -> bool
