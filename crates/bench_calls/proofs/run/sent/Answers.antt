@@ -9,7 +9,12 @@ use Rattle.bench_calls.proofs.run.sent.Goals as goal
 
 -- room for as many exchanges as blocks
 room-of : (a b : Standing) (n k : ℕ) (r : Room) → b ≡ a → n ≡ k → HasRoom (greatest_size a) n n r → HasRoom (greatest_size b) k k r
-room-of a b n k r e p h = rw (e, p) h
+room-of a b n k r e p h =
+    let w : (greatest_size a + 8) * n ≡ (greatest_size a + 8) * k = ap (λ z. (greatest_size a + 8) * z) p in
+    let x = h.records in
+    let y = h.labels in
+    let z = h.moved in
+    rw e (record { records = omega (arith, x, p); labels = omega (arith, y, p); moved = omega (arith, z, w) })
 
 pub run_words-requires-clause-rig : goal.run_words-requires-clause-rig
 run_words-requires-clause-rig c =
@@ -18,5 +23,5 @@ run_words-requires-clause-rig c =
 pub run_words-requires-clause-spare : goal.run_words-requires-clause-spare
 run_words-requires-clause-spare c =
     c.requires.spare (standing_of c.reserve.new.self.devices) (room_in c.reserve.new.self.log)
-    (room-of (standing_of c.new-rig.result.devices) (standing_of c.reserve.new.self.devices) c.blocks.result (blocks_of_requests (plan_in c.args.stack.sheet).requests) (room_in c.reserve.new.self.log)
-    c.reserve.ensures.standing c.blocks.ensures.all c.in_ok-reserve.ensures.room)
+    (room-of (standing_of c.new-rig.result.devices) (standing_of c.reserve.new.self.devices) c.blocks-blocks.result (blocks_of_requests (plan_in c.args.stack.sheet).requests) (room_in c.reserve.new.self.log)
+    c.reserve.ensures.standing c.blocks-blocks.ensures.all c.in_ok-reserve.ensures.room)

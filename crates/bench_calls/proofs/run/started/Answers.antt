@@ -7,4 +7,4 @@ start_script-requires-clause-suits c = suits c.args.script c.requires.keeps
 
 pub returns-clause-reaches : goal.returns-clause-reaches
 returns-clause-reaches c st e =
-    c.in_ok-start_script.ensures.reaches false st (e ∙ sym c.requires.count) (λ (t : false ≡ true). absurd cc)
+    c.in_ok-stack.ensures.reaches false st (e ∙ sym c.requires.count) (λ (t : false ≡ true). absurd cc)
