@@ -129,6 +129,16 @@ stop_crates() {
     done
 }
 
+# How many jobs a crate gets where so many crates can be built: its share of the processors, but as many as memory allows
+# where it is so large that those above it would wait for it alone.
+jobs_for() {
+    if [ "$(du -sb --exclude=out "$here/crates/$1" | cut -f 1)" -gt 600000 ]; then
+        echo "$slots"
+    else
+        echo $((processors / ($2 < slots ? $2 : slots)))
+    fi
+}
+
 # Starts crates while there are processors, memory and crates that are ready.
 start_crates() {
     for slot in $(seq "$slots"); do
@@ -138,8 +148,7 @@ start_crates() {
         [ -n "$next" ] || return
         if [ "$running" -gt 0 ] && [ "$(free_memory)" -lt 3000 ]; then return; fi
         echo "$next" >>"$work/started"
-        side=$((running + $(echo "$waiting" | wc -l)))
-        start "$slot" "$next" $((processors / (side < slots ? side : slots)))
+        start "$slot" "$next" "$(jobs_for "$next" $((running + $(echo "$waiting" | wc -l))))"
         running=$((running + 1))
     done
 }
