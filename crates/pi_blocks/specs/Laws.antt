@@ -1,0 +1,48 @@
+use Rattle.std.specs.Prelude.{◌≡◌, ◌≢◌, ℕ, ◌+◌, ◌/◌, ◌<◌, ◌≤◌, ◌⊎◌, List, take, drop, length, slice_index, Option}
+use Rattle.std.specs.Int.{w32, from_be_bytes}
+use Rattle.pi_tuple.specs.Tuples.{ref_tag}
+use Rattle.pi_blocks.specs.Blocks.{AreFine, Block, Checked, in_line}
+use Rattle.pi_blocks.specs.Layouts.{stride_of}
+use Rattle.pi_blocks.specs.Mapped.{all_mapped, mapped_tag, tag_in, tag_place}
+use Rattle.pi_blocks.specs.declared.block.Found.{Found}
+use Rattle.pi_blocks.specs.declared.block.Want.{Want}
+use Rattle.pi_blocks.specs.declared.layout.Layout.{Layout}
+
+-- how many blocks these are
+abbrev pub count_of : Layout → List ℕ → ℕ
+count_of l bytes = length bytes / stride_of l
+
+-- a stretch of bytes shares none with the pieces of this width at n places
+abbrev pub IsClear : (ℕ → ℕ) → ℕ → ℕ → ℕ → ℕ → Type 0
+IsClear place width n at size = (i : ℕ) → i < n → (at + size ≤ place i) ⊎ (place i + width ≤ at)
+
+-- a check has one answer
+abbrev pub HasOneAnswer : Layout → Want → (ℕ → Block) → ℕ → Type 0
+HasOneAnswer l w blocks n = (a b : Option Found) → Checked l w blocks n a → Checked l w blocks n b → a ≡ b
+
+-- each tag is mapped by itself, and every other byte stays
+pub record MapsTagsAlone (l : Layout) (from to : ℕ) (bytes : List ℕ) : Type 0 where
+  pub long : length (all_mapped l from to (count_of l bytes) bytes) ≡ length bytes
+  pub tags : (i : ℕ) → i < count_of l bytes → tag_in l (all_mapped l from to (count_of l bytes) bytes) i ≡ mapped_tag l from to bytes i
+  pub others : (at size : ℕ) → IsClear (tag_place l) 4 (count_of l bytes) at size → take size (drop at (all_mapped l from to (count_of l bytes) bytes)) ≡ take size (drop at bytes)
+
+-- each is a byte
+abbrev pub AreBytes : List ℕ → Type 0
+AreBytes bytes = (k : ℕ) → slice_index bytes k < 256
+
+-- no block has the tag that mapping gives it
+abbrev pub AreFree : Layout → ℕ → List ℕ → Type 0
+AreFree l to bytes = (i : ℕ) → i < count_of l bytes → from_be_bytes w32 (tag_in l bytes i) ≢ ref_tag (to + i)
+
+-- mapping with the tags exchanged gives the bytes back
+abbrev pub IsUndone : Layout → ℕ → ℕ → List ℕ → Type 0
+IsUndone l from to bytes = all_mapped l to from (count_of l bytes) (all_mapped l from to (count_of l bytes) bytes) ≡ bytes
+
+-- the same is wanted of blocks whose tags begin elsewhere
+abbrev pub beginning_at : Want → ℕ → Want
+beginning_at w first = record { first_ref = first; app = w.app; mask = w.mask; checks = w.checks }
+
+-- blocks that are fine by their tags stay so by those that they are mapped to
+abbrev pub StayFine : Layout → Want → ℕ → List ℕ → Type 0
+StayFine l w to bytes =
+    AreFine l w (in_line l bytes) (count_of l bytes) → AreFine l (beginning_at w to) (in_line l (all_mapped l w.first_ref to (count_of l bytes) bytes)) (count_of l bytes)

@@ -1,0 +1,36 @@
+use Rattle.std.specs.Prelude.{◌≡◌, ℕ, ◌+◌, ◌^◌, ◌%◌, Bool, true, false, ◌&&◌, eqb, leb, ltb, if◌then◌else◌}
+use Rattle.pi_guard.specs.declared.GuardKind.{GuardKind}
+use Rattle.pi_guard.specs.declared.GuardKind.TheVariants.{Crc, Ip}
+use Rattle.pi_tuple.specs.declared.checks.PiType.{PiType}
+use Rattle.pi_tuple.specs.declared.checks.PiType.TheVariants.{Zero, One, Two, Three}
+use Rattle.pi_blocks.specs.declared.layout.Layout.{Layout}
+use Rattle.pi_blocks.specs.declared.layout.Refusal.{Refusal}
+use Rattle.pi_blocks.specs.declared.layout.Refusal.TheVariants.{BadLayout, BadLength}
+
+-- the type and the guard of these numbers
+abbrev pub type_of : ℕ → PiType
+type_of n = if eqb n 1 then One else (if eqb n 2 then Two else (if eqb n 3 then Three else Zero))
+
+abbrev pub kind_of : ℕ → GuardKind
+kind_of n = if eqb n 0 then Crc else Ip
+
+-- the bytes of a block with its metadata behind its data, and those of them before the tuple
+abbrev pub stride_of : Layout → ℕ
+stride_of l = l.data_size + l.meta_size
+
+abbrev pub covered_of : Layout → ℕ
+covered_of l = l.data_size + l.tuple_at
+
+-- a tuple fits its metadata, a block's size fits 32 bits, and type and guard are some
+abbrev pub is_good : Layout → Bool
+is_good l = leb (l.tuple_at + 8) l.meta_size && (ltb (stride_of l) (2 ^ 32) && (leb 1 l.pi_type && (leb l.pi_type 3 && leb l.guard 1)))
+
+-- the layout is good, and so many bytes are whole blocks of it
+pub record AreBlocks (l : Layout) (len : ℕ) : Type 0 where
+  pub good : is_good l ≡ true
+  pub even : len % stride_of l ≡ 0
+
+-- why so many bytes are none: each refusal by its cause, the layout's first
+abbrev pub Refused : Layout → ℕ → Refusal → Type 0
+Refused l len BadLayout = is_good l ≡ false
+Refused l len BadLength = (is_good l ≡ true) × ¬ (len % stride_of l ≡ 0)

@@ -1,0 +1,39 @@
+//! The check of blocks.
+
+ghost use Rattle.std.specs.Prelude.{◌≡◌, ◌+◌, ◌*◌, ◌/◌, ◌≤◌, length, true, IfErr, IfOk, IfSome};
+ghost use Rattle.pi_blocks.specs.Blocks.{Checked, in_line, looked};
+ghost use Rattle.pi_blocks.specs.Layouts.{AreBlocks, Refused, is_good, stride_of};
+
+use crate::block::{compare, guard_of_bytes, tuple_at};
+use crate::{Found, Layout, Refusal, Want};
+
+// What block i is found to differ in.
+fn look(blocks: &[u8], layout: Layout, want: Want, i: usize) -> Option<Found>
+    requires good { is_good layout ≡ true }
+    requires inside { i * stride_of layout + stride_of layout ≤ length blocks.now }
+    ensures found { result ≡ looked layout want (in_line layout blocks.now) i }
+    ensures block { IfSome result (λ f. f.block ≡ i) }
+{
+    let at = i * layout.stride();
+    let tuple = at + layout.covered();
+    let guard = guard_of_bytes(layout.kind(), &blocks[at..tuple]);
+    compare(layout, want, i, guard, tuple_at(blocks, tuple))
+}
+
+/// Checks blocks that lie one after another, each with its metadata behind its data, and answers the first difference,
+/// or `None` where there is none. A tuple that is an escape (application tag FFFFh; in type 3 reference tag FFFFFFFFh
+/// too) differs in nothing.
+pub fn verify(blocks: &[u8], layout: &Layout, want: &Want) -> Result<Option<Found>, Refusal>
+    ensures checked { IfOk result (λ found. AreBlocks layout.now (length blocks.now)
+        × Checked layout.now want.now (in_line layout.now blocks.now) (length blocks.now / stride_of layout.now) found) }
+    ensures refused { IfErr result (λ e. Refused layout.now (length blocks.now) e) }
+{
+    let layout = *layout;
+    let want = *want;
+    for i in 0..layout.count(blocks.len())? {
+        if let Some(found) = look(blocks, layout, want, i) {
+            return Ok(Some(found));
+        }
+    }
+    Ok(None)
+}

@@ -1,0 +1,28 @@
+//! Laws of what the calls answer and write. Nothing runs here.
+
+ghost use Rattle.std.specs.Prelude.{◌≡◌, ℕ, List, length};
+ghost use Rattle.pi_blocks.specs.Blocks.{Block};
+ghost use Rattle.pi_blocks.specs.Laws.{AreBytes, AreFree, HasOneAnswer, IsUndone, MapsTagsAlone, StayFine};
+ghost use Rattle.pi_blocks.specs.Layouts.{AreBlocks};
+ghost use Rattle.pi_blocks.specs.declared.block.Want.{Want as AnyWant};
+ghost use Rattle.pi_blocks.specs.declared.layout.Layout.{Layout as AnyLayout};
+
+/// The check of blocks has one answer: the first difference, or that there is none.
+pub fn a_check_has_one_answer()
+    ensures { (l : AnyLayout) (w : AnyWant) (blocks : ℕ → Block) (n : ℕ) → HasOneAnswer l w blocks n }
+{}
+
+/// Mapping reference tags maps each tag by itself, and every stretch of bytes without one stays.
+pub fn mapping_changes_tags_alone()
+    ensures { (l : AnyLayout) (from to : ℕ) (bytes : List ℕ) → AreBlocks l (length bytes) → MapsTagsAlone l from to bytes }
+{}
+
+/// Mapping there and back gives each byte back, where no block had the tag that mapping gives it.
+pub fn mapping_back_undoes_mapping()
+    ensures { (l : AnyLayout) (from to : ℕ) (bytes : List ℕ) → AreBlocks l (length bytes) → AreBytes bytes → AreFree l to bytes → IsUndone l from to bytes }
+{}
+
+/// Blocks in which a check finds nothing are fine by their new tags when they are mapped.
+pub fn mapped_blocks_stay_fine()
+    ensures { (l : AnyLayout) (w : AnyWant) (to : ℕ) (bytes : List ℕ) → AreBlocks l (length bytes) → StayFine l w to bytes }
+{}
