@@ -1,4 +1,8 @@
+pub mod Aparts
 pub mod Checks
+pub mod Feeds
+pub mod MadeLaws
+pub mod Makes
 pub mod MapLaws
 pub mod Maps
 pub mod Puts

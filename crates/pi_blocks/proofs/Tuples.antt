@@ -56,7 +56,7 @@ remapped_is_read ty from to bytes l =
 
 -- what is found, by whether the tuple is an escape and which checks differ
 
-abbrev first_by : Bool → Bool → Bool → Bool → Option Check
+abbrev pub first_by : Bool → Bool → Bool → Bool → Option Check
 first_by escape guard app tag = if escape then None else (if guard then Some Guard else (if app then Some AppTag else (if tag then Some RefTag else None)))
 
 last_none : (e g a t u : Bool) → first_by e g a t ≡ None → (t ≡ false → u ≡ false) → first_by e g a u ≡ None

@@ -1,9 +1,9 @@
 //! Laws of what the calls answer and write. Nothing runs here.
 
-ghost use Rattle.std.specs.Prelude.{◌≡◌, ℕ, List, length};
+ghost use Rattle.std.specs.Prelude.{◌≡◌, ◌<◌, ◌^◌, ℕ, List, length, true};
 ghost use Rattle.pi_blocks.specs.Blocks.{Block};
-ghost use Rattle.pi_blocks.specs.Laws.{AreBytes, AreFree, HasOneAnswer, IsUndone, MapsTagsAlone, StayFine};
-ghost use Rattle.pi_blocks.specs.Layouts.{AreBlocks};
+ghost use Rattle.pi_blocks.specs.Laws.{AreBytes, AreFineWhenMade, AreFineWhenMadeApart, AreFree, HasOneAnswer, IsUndone, MakesTuplesAlone, MakesTuplesApart, MapsTagsAlone, StayFine};
+ghost use Rattle.pi_blocks.specs.Layouts.{AreBlocks, is_good};
 ghost use Rattle.pi_blocks.specs.declared.block.Want.{Want as AnyWant};
 ghost use Rattle.pi_blocks.specs.declared.layout.Layout.{Layout as AnyLayout};
 
@@ -25,4 +25,18 @@ pub fn mapping_back_undoes_mapping()
 /// Blocks in which a check finds nothing are fine by their new tags when they are mapped.
 pub fn mapped_blocks_stay_fine()
     ensures { (l : AnyLayout) (w : AnyWant) (to : ℕ) (bytes : List ℕ) → AreBlocks l (length bytes) → StayFine l w to bytes }
+{}
+
+/// Making tuples writes the eight bytes of each, made of the guarded bytes as they were, and every stretch of bytes
+/// without one stays.
+pub fn making_writes_tuples_alone()
+    ensures in_line { (l : AnyLayout) (app first : ℕ) (bytes : List ℕ) → is_good l ≡ true → MakesTuplesAlone l app first bytes }
+    ensures apart { (l : AnyLayout) (app first : ℕ) (body meta : List ℕ) → is_good l ≡ true → MakesTuplesApart l app first body meta }
+{}
+
+/// A check by the tags that the tuples were made with finds nothing, whatever it asks for. With the application tag
+/// FFFFh that says nothing in types 1 and 2, as the tuples are escapes then.
+pub fn made_blocks_are_fine()
+    ensures in_line { (l : AnyLayout) (w : AnyWant) (bytes : List ℕ) → is_good l ≡ true → w.app < 2 ^ 16 → AreFineWhenMade l w bytes }
+    ensures apart { (l : AnyLayout) (w : AnyWant) (body meta : List ℕ) → is_good l ≡ true → w.app < 2 ^ 16 → AreFineWhenMadeApart l w body meta }
 {}

@@ -5,17 +5,23 @@
 //! of its caller. No call allocates.
 #![tactic(auto)]
 
+mod apart;
 mod block;
 mod checking;
 mod laws;
 mod layout;
+mod making;
 mod mapping;
+mod parts;
 
+pub use apart::{dix_generate, dix_verify};
 pub use block::{Found, Want};
 pub use checking::verify;
 pub use laws::{
-    a_check_has_one_answer, mapped_blocks_stay_fine, mapping_back_undoes_mapping,
-    mapping_changes_tags_alone,
+    a_check_has_one_answer, made_blocks_are_fine, making_writes_tuples_alone,
+    mapped_blocks_stay_fine, mapping_back_undoes_mapping, mapping_changes_tags_alone,
 };
 pub use layout::{Layout, Refusal};
+pub use making::generate;
 pub use mapping::remap;
+pub use parts::{Part, crc16v, ip_sumv};

@@ -1,0 +1,135 @@
+//! Bytes in parts that lie apart.
+
+ghost use Rattle.std.specs.Prelude.{◌≡◌, ℕ, List, ◌++◌, ◌+◌, ◌-◌, ◌^◌, ◌<◌, ◌≤◌, length, take, drop};
+ghost use Rattle.pi_guard.specs.Guards.{crc, guard_of, ip};
+ghost use Rattle.pi_guard.specs.Stands.{Stands, kind_of};
+ghost use Rattle.pi_blocks.specs.Parts.{IsIn, all_parts, left_of, part_of};
+ghost use Rattle.pi_blocks.specs.declared.parts.Part.{Part as AnyPart};
+
+use pi_guard::{GuardKind, GuardRun};
+
+/// A part of bytes that lie apart: in C a `struct iovec`.
+#[repr(C)]
+#[derive(Clone, Copy)]
+pub struct Part<'a> {
+    /// The part's bytes.
+    pub bytes: &'a [u8],
+}
+
+fn run_over(kind: GuardKind, parts: &[Part]) -> u16
+    ensures { result ≡ guard_of kind (all_parts parts.now) }
+{
+    let mut run = GuardRun::new(kind);
+    for part in parts {
+        run.update(part.bytes);
+    }
+    run.finish()
+}
+
+/// The CRC of the parts' bytes, one part after another.
+pub fn crc16v(parts: &[Part]) -> u16
+    ensures { result ≡ crc (all_parts parts.now) }
+{
+    run_over(GuardKind::Crc, parts)
+}
+
+/// The Internet checksum of the parts' bytes, one part after another; a part may end within a word.
+pub fn ip_sumv(parts: &[Part]) -> u16
+    ensures { result ≡ ip (all_parts parts.now) }
+{
+    run_over(GuardKind::Ip, parts)
+}
+
+/// A place in parts: the number of a part, and how many of its bytes lie before.
+#[derive(Clone, Copy)]
+pub(crate) struct Place {
+    part: usize,
+    at: usize,
+}
+
+/// The place before all bytes.
+pub(crate) fn front() -> Place
+    ensures inside { (parts : List AnyPart) → IsIn parts result }
+    ensures left { (parts : List AnyPart) → left_of parts result ≡ all_parts parts }
+{
+    Place { part: 0, at: 0 }
+}
+
+fn behind(bytes: &[u8], at: usize) -> &[u8]
+    requires { at ≤ length bytes.now }
+    ensures rest { result.now ≡ drop at bytes.now }
+    ensures fits { length bytes.now < 2 ^ 64 }
+{
+    &bytes[at..]
+}
+
+// The bytes of the part from the place on.
+fn rest_of<'a>(parts: &[Part<'a>], place: Place) -> &'a [u8]
+    requires inside { IsIn parts.now place }
+    requires more { 0 < length (left_of parts.now place) }
+    ensures rest { left_of parts.now place ≡ result.now ++ all_parts (drop (place.part + 1) parts.now) }
+    ensures ends { place.at + length result.now ≡ length (part_of (drop place.part parts.now)) }
+    ensures there { place.part < length parts.now }
+    ensures fits { place.at + length result.now < 2 ^ 64 }
+{
+    behind(parts[place.part].bytes, place.at)
+}
+
+// Takes at most so many bytes of one part into a run, and answers how many.
+fn feed_part(parts: &[Part], place: &mut Place, run: &mut GuardRun, wanted: usize) -> usize
+    requires inside { IsIn parts.now place.old }
+    requires some { 0 < wanted }
+    requires enough { wanted ≤ length (left_of parts.now place.old) }
+    ensures taken { result ≤ wanted }
+    ensures inside { IsIn parts.now place.new }
+    ensures left { left_of parts.now place.new ≡ drop result (left_of parts.now place.old) }
+    ensures kind { kind_of run.new ≡ kind_of run.old }
+    ensures more { (b : List ℕ) → Stands run.old b → Stands run.new (b ++ take result (left_of parts.now place.old)) }
+    ensures less { wanted - result + (length parts.now - place.new.part) < wanted + (length parts.now - place.old.part) }
+{
+    let rest = rest_of(parts, *place);
+    if wanted < rest.len() {
+        run.update(&rest[..wanted]);
+        place.at += wanted;
+        return wanted;
+    }
+    run.update(rest);
+    place.part += 1;
+    place.at = 0;
+    rest.len()
+}
+
+// Takes so many bytes into a run.
+fn feed(parts: &[Part], place: &mut Place, run: &mut GuardRun, count: usize)
+    requires inside { IsIn parts.now place.old }
+    requires enough { count ≤ length (left_of parts.now place.old) }
+    ensures inside { IsIn parts.now place.new }
+    ensures left { left_of parts.now place.new ≡ drop count (left_of parts.now place.old) }
+    ensures kind { kind_of run.new ≡ kind_of run.old }
+    ensures more { (b : List ℕ) → Stands run.old b → Stands run.new (b ++ take count (left_of parts.now place.old)) }
+{
+    let mut wanted = count;
+    while wanted > 0 {
+        wanted -= feed_part(parts, place, run, wanted);
+    }
+}
+
+/// The guard of the next so many bytes of the parts and of these behind them.
+pub(crate) fn guard_of_next(
+    parts: &[Part],
+    place: &mut Place,
+    kind: GuardKind,
+    count: usize,
+    behind: &[u8],
+) -> u16
+    requires inside { IsIn parts.now place.old }
+    requires enough { count ≤ length (left_of parts.now place.old) }
+    ensures guard { result ≡ guard_of kind (take count (left_of parts.now place.old) ++ behind.now) }
+    ensures inside { IsIn parts.now place.new }
+    ensures left { left_of parts.now place.new ≡ drop count (left_of parts.now place.old) }
+{
+    let mut run = GuardRun::new(kind);
+    feed(parts, place, &mut run, count);
+    run.update(behind);
+    run.finish()
+}
