@@ -1,0 +1,63 @@
+//! Reads a table of calls on blocks and their tuples from standard input. Prints each row of which something else comes,
+//! with what came, and how many rows there were.
+#![tactic(auto)]
+
+mod apart;
+mod in_line;
+mod words;
+
+use pi_blocks::Layout;
+use row_table::{Judge, Words, read_table};
+use std::alloc::{AllocError, Global};
+use std::io;
+
+/// The layout of the rows from here on, as the table tells it.
+#[derive(Drop)]
+struct Rows {
+    layout: Layout,
+}
+
+impl Judge for Rows {
+    fn set(&mut self, _alloc: Global, line: &str) -> Result<bool, AllocError> {
+        let mut words = Words::of(line);
+        if words.word() != "layout" {
+            return Ok(false);
+        }
+        self.layout = Layout {
+            data_size: words.small(),
+            meta_size: words.small(),
+            tuple_at: words.small(),
+            pi_type: words.small(),
+            guard: words.small(),
+        };
+        Ok(true)
+    }
+
+    fn answer(&mut self, alloc: Global, call: &str) -> Result<String, AllocError> {
+        let mut words = Words::of(call);
+        let layout = &self.layout;
+        match words.word() {
+            "verify" => in_line::verified(alloc, layout, &mut words),
+            "generate" => in_line::generated(alloc, layout, &mut words),
+            "remap" => in_line::remapped(alloc, layout, &mut words),
+            "dix_verify" => apart::verified(alloc, layout, &mut words),
+            "dix_generate" => apart::generated(alloc, layout, &mut words),
+            "crc16v" => apart::summed(alloc, true, &mut words),
+            "ip_sumv" => apart::summed(alloc, false, &mut words),
+            _ => String::from_str(alloc, "no call"),
+        }
+    }
+}
+
+fn main(rt: HostRuntime) -> io::Result<()> {
+    let mut rows = Rows {
+        layout: Layout {
+            data_size: 512,
+            meta_size: 8,
+            tuple_at: 0,
+            pi_type: 1,
+            guard: 0,
+        },
+    };
+    read_table(&rt, &mut rows)
+}
