@@ -34,3 +34,11 @@ pub record AreBlocks (l : Layout) (len : ℕ) : Type 0 where
 abbrev pub Refused : Layout → ℕ → Refusal → Type 0
 Refused l len BadLayout = is_good l ≡ false
 Refused l len BadLength = (is_good l ≡ true) × ¬ (len % stride_of l ≡ 0)
+
+-- a number is that of a protection type
+abbrev pub is_type : ℕ → Bool
+is_type n = leb 1 n && leb n 3
+
+-- the layout of a tuple by itself
+abbrev pub of_type : ℕ → Layout
+of_type n = record { data_size = 0; meta_size = 8; tuple_at = 0; pi_type = n; guard = 0 }

@@ -6,3 +6,4 @@ pub mod Made
 pub mod Mapped
 pub mod Parts
 pub mod Puts
+pub mod Single

@@ -72,7 +72,7 @@ fn look(
         layout.data_size as usize,
         &meta[at..tuple],
     );
-    compare(layout, want, i, guard, tuple_at(meta, tuple))
+    compare(layout, want, i as u64, guard, tuple_at(meta, tuple))
 }
 
 // Makes the tuple of block i, whose data are at the place.

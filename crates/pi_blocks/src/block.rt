@@ -53,11 +53,10 @@ impl Want {
     }
 
     // The reference tag of block i.
-    fn ref_of(self, i: usize) -> u32
-        requires { i < 2 ^ 63 }
+    fn ref_of(self, i: u64) -> u32
         ensures { result ≡ ref_of self i }
     {
-        ref_tag(u64::from(self.first_ref) + i as u64)
+        ref_tag(u64::from(self.first_ref) + i % 0x1_0000_0000)
     }
 }
 
@@ -93,8 +92,7 @@ fn number_of(check: Check) -> u32
 }
 
 // The difference that this check found in block i.
-fn told(want: Want, i: usize, guard: u16, tuple: Tuple, check: Check) -> Found
-    requires { i < 2 ^ 63 }
+fn told(want: Want, i: u64, guard: u16, tuple: Tuple, check: Check) -> Found
     ensures { result ≡ told_of want i guard tuple check }
 {
     let (expected, actual) = match check {
@@ -103,7 +101,7 @@ fn told(want: Want, i: usize, guard: u16, tuple: Tuple, check: Check) -> Found
         Check::RefTag => (want.ref_of(i), tuple.rtag),
     };
     Found {
-        block: i as u64,
+        block: i,
         check: number_of(check),
         expected,
         actual,
@@ -111,14 +109,7 @@ fn told(want: Want, i: usize, guard: u16, tuple: Tuple, check: Check) -> Found
 }
 
 /// What the tuple of block i is found to differ in, where the block's bytes have this guard.
-pub(crate) fn compare(
-    layout: Layout,
-    want: Want,
-    i: usize,
-    guard: u16,
-    tuple: Tuple,
-) -> Option<Found>
-    requires { i < 2 ^ 63 }
+pub(crate) fn compare(layout: Layout, want: Want, i: u64, guard: u16, tuple: Tuple) -> Option<Found>
     ensures found { result ≡ compared layout want i guard tuple }
     ensures block { IfSome result (λ f. f.block ≡ i) }
 {

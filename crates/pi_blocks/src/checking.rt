@@ -17,7 +17,7 @@ fn look(blocks: &[u8], layout: Layout, want: Want, i: usize) -> Option<Found>
     let at = i * layout.stride();
     let tuple = at + layout.covered();
     let guard = guard_of_bytes(layout.kind(), &blocks[at..tuple]);
-    compare(layout, want, i, guard, tuple_at(blocks, tuple))
+    compare(layout, want, i as u64, guard, tuple_at(blocks, tuple))
 }
 
 /// Checks blocks that lie one after another, each with its metadata behind its data, and answers the first difference,

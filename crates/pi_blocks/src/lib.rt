@@ -13,6 +13,7 @@ mod layout;
 mod making;
 mod mapping;
 mod parts;
+mod single;
 
 pub use apart::{dix_generate, dix_verify};
 pub use block::{Found, Want};
@@ -25,3 +26,4 @@ pub use layout::{Layout, Refusal};
 pub use making::generate;
 pub use mapping::remap;
 pub use parts::{Part, crc16v, ip_sumv};
+pub use single::{TupleFields, check};
