@@ -1,12 +1,13 @@
 -- Runs of the two kinds.
-use Rattle.std.proofs.Common.{◌≡◌, ℕ, ◌-◌, ◌*◌, ◌+◌, List, [], ◌++◌, sym, ap, ◌∙◌, subst}
+use Rattle.std.proofs.Common.{◌≡◌, ℕ, ◌-◌, ◌*◌, ◌+◌, List, [], ◌++◌, refl, sym, ap, ◌∙◌, subst}
 use Rattle.pi_guard.specs.declared.GuardKind.{GuardKind}
 use Rattle.pi_guard.specs.declared.GuardKind.TheVariants.{Crc, Ip}
 use Rattle.pi_guard.specs.declared.GuardRun.{GuardRun}
+use Rattle.pi_guard.specs.declared.RunState.{RunState}
 use Rattle.pi_guard.specs.Guards.{crc, ip, word_sum, guard_of}
 use Rattle.pi_guard.specs.Register.{register}
 use Rattle.pi_guard.specs.Words.{folded, little_sum, is_half_open, half_open_after, weight_of}
-use Rattle.pi_guard.specs.Stands.{Stands, StandsAs, kind_of}
+use Rattle.pi_guard.specs.Stands.{IsKept, IsKeptAs, Stands, StandsAs, kind_of}
 use Rattle.pi_guard.proofs.RegisterLemmas.{register-append, crc-register}
 use Rattle.pi_guard.proofs.Sums.{complement, more_words, half_open-append}
 
@@ -49,6 +50,36 @@ crc_ends run b k h = as_kind Crc run b k h ∙ ap (λ v. guard_of v b) (sym k)
 pub ip_ends : (run : GuardRun) (b : List ℕ) → run.kind ≡ Ip → Stands run b → 65535 - run.sum ≡ guard_of (kind_of run) b
 unfolding StandsAs kind_of ip
 ip_ends run b k h = ap (λ v. 65535 - v) (as_kind Ip run b k h).0 ∙ complement (word_sum b) ∙ ap (λ v. guard_of v b) (sym k)
+
+-- the remainder of bytes that go on
+pub crc_goes_on : (guard after : ℕ) (before bytes : List ℕ) → guard ≡ crc before → after ≡ register guard bytes → after ≡ crc (before ++ bytes)
+crc_goes_on guard after before bytes e r = r ∙ ap (λ v. register v bytes) (e ∙ crc-register before) ∙ sym (register-append 0 before bytes) ∙ sym (crc-register (before ++ bytes))
+
+-- runs and their states
+
+kept_as : (k : GuardKind) (state : RunState) (b : List ℕ) → state.kind ≡ k → IsKept state b → IsKeptAs k state b
+unfolding IsKept
+kept_as k state b e h = subst (λ v. IsKeptAs v state b) e h
+
+as_kept : (k : GuardKind) (state : RunState) (b : List ℕ) → state.kind ≡ k → IsKeptAs k state b → IsKept state b
+unfolding IsKept
+as_kept k state b e h = subst (λ v. IsKeptAs v state b) (sym e) h
+
+stands_by : (k : GuardKind) (state : RunState) (run : GuardRun) (b : List ℕ) → state.kind ≡ k → run.kind ≡ k → run.register ≡ state.value → run.sum ≡ state.value → run.half_open ≡ state.half_open → IsKept state b → Stands run b
+unfolding StandsAs IsKeptAs
+stands_by Crc state run b e f r s o h = of_kind Crc run b f (r ∙ kept_as Crc state b e h)
+stands_by Ip state run b e f r s o h = let was = kept_as Ip state b e h in of_kind Ip run b f (s ∙ was.0, o ∙ was.1)
+
+pub stands_again : (state : RunState) (run : GuardRun) (b : List ℕ) → run.kind ≡ state.kind → run.register ≡ state.value → run.sum ≡ state.value → run.half_open ≡ state.half_open → IsKept state b → Stands run b
+stands_again state run b e r s o h = stands_by state.kind state run b refl e r s o h
+
+pub crc_kept : (run : GuardRun) (state : RunState) (b : List ℕ) → run.kind ≡ Crc → state.kind ≡ run.kind → state.value ≡ run.register → Stands run b → IsKept state b
+unfolding StandsAs IsKeptAs
+crc_kept run state b k e v h = as_kept Crc state b (e ∙ k) (v ∙ as_kind Crc run b k h)
+
+pub ip_kept : (run : GuardRun) (state : RunState) (b : List ℕ) → run.kind ≡ Ip → state.kind ≡ run.kind → state.value ≡ run.sum → state.half_open ≡ run.half_open → Stands run b → IsKept state b
+unfolding StandsAs IsKeptAs
+ip_kept run state b k e v o h = let was = as_kind Ip run b k h in as_kept Ip state b (e ∙ k) (v ∙ was.0, o ∙ was.1)
 
 -- the sum of all the bytes, begun with none
 pub ip_whole : (total : ℕ) (bytes : List ℕ) → total ≡ folded (0 + weight_of (is_half_open []) * little_sum bytes) → 65535 - total ≡ ip bytes

@@ -37,8 +37,19 @@ pub struct GuardRun {
     half_open: bool,
 }
 
+/// What a run keeps, as plain numbers that may be stored and taken up again.
+#[derive(Clone, Copy, PartialEq, Eq, Debug)]
+pub struct RunState {
+    /// Which checksum it is.
+    pub kind: GuardKind,
+    /// The CRC so far, or the sum of words so far with its carries added back.
+    pub value: u16,
+    /// Whether the last word of a sum wants its lower byte.
+    pub half_open: bool,
+}
+
 impl GuardRun {
-    ghost use Rattle.pi_guard.specs.Stands.{Stands, kind_of};
+    ghost use Rattle.pi_guard.specs.Stands.{IsKept, Stands, kind_of};
 
     /// A run that stands for no bytes.
     pub fn new(kind: GuardKind) -> GuardRun
@@ -50,6 +61,35 @@ impl GuardRun {
             register: 0,
             sum: 0,
             half_open: false,
+        }
+    }
+
+    /// The run that has this state.
+    pub fn of_state(state: RunState) -> GuardRun
+        ensures kind { kind_of result ≡ state.kind }
+        ensures same { (b : List ℕ) → IsKept state b → Stands result b }
+    {
+        GuardRun {
+            kind: state.kind,
+            register: state.value,
+            sum: state.value,
+            half_open: state.half_open,
+        }
+    }
+
+    /// The state of the run.
+    pub fn state(&self) -> RunState
+        ensures kind { result.kind ≡ kind_of self.now }
+        ensures same { (b : List ℕ) → Stands self.now b → IsKept result b }
+    {
+        let value = match self.kind {
+            GuardKind::Crc => self.register,
+            GuardKind::Ip => self.sum,
+        };
+        RunState {
+            kind: self.kind,
+            value,
+            half_open: self.half_open,
         }
     }
 
@@ -85,6 +125,13 @@ pub fn crc16(bytes: &[u8]) -> u16
     ensures { result ≡ crc bytes.now }
 {
     vectors::register_after(0, bytes)
+}
+
+/// The CRC guard of bytes of which the first ones have this guard, by those behind them.
+pub fn crc16_after(guard: u16, bytes: &[u8]) -> u16
+    ensures { (before : List ℕ) → guard ≡ crc before → result ≡ crc (before ++ bytes.now) }
+{
+    vectors::register_after(guard, bytes)
 }
 
 /// The Internet checksum of the bytes, of any number (RFC 1071): the ones' complement of the ones'
