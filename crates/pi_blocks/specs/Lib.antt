@@ -6,4 +6,5 @@ pub mod Made
 pub mod Mapped
 pub mod Parts
 pub mod Puts
+pub mod Runs
 pub mod Single

@@ -33,6 +33,16 @@ pub enum Refusal {
     BadLength,
 }
 
+/// The kind of guard of a number.
+pub(crate) fn kind_of(guard: u32) -> GuardKind
+    ensures { result ≡ kind_of guard }
+{
+    match guard {
+        0 => GuardKind::Crc,
+        _ => GuardKind::Ip,
+    }
+}
+
 impl Layout {
     /// Whether a tuple fits its metadata, a block's size fits 32 bits, and type and guard are some.
     pub fn is_good(self) -> bool
@@ -63,10 +73,7 @@ impl Layout {
     pub(crate) fn kind(self) -> GuardKind
         ensures { result ≡ kind_of self.guard }
     {
-        match self.guard {
-            0 => GuardKind::Crc,
-            _ => GuardKind::Ip,
-        }
+        kind_of(self.guard)
     }
 
     /// The bytes of a block with its metadata behind its data.

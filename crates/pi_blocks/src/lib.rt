@@ -13,6 +13,7 @@ mod layout;
 mod making;
 mod mapping;
 mod parts;
+mod run;
 mod single;
 
 pub use apart::{dix_generate, dix_verify};
@@ -26,4 +27,5 @@ pub use layout::{Layout, Refusal};
 pub use making::generate;
 pub use mapping::remap;
 pub use parts::{Part, crc16v, ip_sumv};
+pub use run::Run;
 pub use single::{TupleFields, check};
