@@ -1,0 +1,56 @@
+//! Blocks that lie one after another, each with its metadata behind its data.
+
+ghost use Rattle.std.specs.Prelude.{◌≡◌, ◌/◌, ◌%◌, ◌⊎◌, ◌≤◌, length, true, false};
+ghost use Rattle.pi_blocks.specs.Blocks.{AreFine, IsFirst, in_line};
+ghost use Rattle.pi_blocks.specs.Layouts.{AreBlocks, is_good, stride_of};
+ghost use Rattle.pi_blocks.specs.Mapped.{all_mapped};
+
+use crate::status::{BAD_LAYOUT, BAD_LENGTH, DIFFERS, OK};
+use pi_blocks::{Found, Layout, Refusal, Want, remap, verify};
+
+/// Checks blocks. Answers `OK` where none differs, and `DIFFERS` where one does, of which the first is left in `found`;
+/// else why they are none. `found` is written where a block differs alone.
+#[unsafe(no_mangle)]
+pub extern "C" fn dixpi_verify(
+    blocks: &[u8],
+    layout: &Layout,
+    want: &Want,
+    found: &mut Found,
+) -> u32
+    ensures fine { result ≡ 0 → AreBlocks layout.now (length blocks.now)
+        × AreFine layout.now want.now (in_line layout.now blocks.now) (length blocks.now / stride_of layout.now) }
+    ensures differs { result ≡ 1 → AreBlocks layout.now (length blocks.now)
+        × IsFirst layout.now want.now (in_line layout.now blocks.now) (length blocks.now / stride_of layout.now) found.new }
+    ensures bad_layout { result ≡ 2 → is_good layout.now ≡ false }
+    ensures bad_length { result ≡ 3 → (is_good layout.now ≡ true) × ¬ (length blocks.now % stride_of layout.now ≡ 0) }
+    ensures one_of { result ≤ 3 }
+    ensures stays { ¬ (result ≡ 1) → found.new ≡ found.old }
+{
+    match verify(blocks, layout, want) {
+        Ok(None) => OK,
+        Ok(Some(first)) => {
+            *found = first;
+            DIFFERS
+        }
+        Err(Refusal::BadLayout) => BAD_LAYOUT,
+        Err(Refusal::BadLength) => BAD_LENGTH,
+    }
+}
+
+/// Maps reference tags in place, in types 1 and 2: the tag of block `i`, where it is `from + i`, becomes `to + i`, both
+/// modulo 2^32. Every other tag and every other byte stays. Answers `OK`, or why the blocks are none; then all stays.
+#[unsafe(no_mangle)]
+pub extern "C" fn dixpi_remap(blocks: &mut [u8], layout: &Layout, from: u32, to: u32) -> u32
+    ensures mapped { result ≡ 0 → AreBlocks layout.now (length blocks.old)
+        × (blocks.new ≡ all_mapped layout.now from to (length blocks.old / stride_of layout.now) blocks.old) }
+    ensures bad_layout { result ≡ 2 → (is_good layout.now ≡ false) × (blocks.new ≡ blocks.old) }
+    ensures bad_length { result ≡ 3 → (is_good layout.now ≡ true) × ¬ (length blocks.old % stride_of layout.now ≡ 0)
+        × (blocks.new ≡ blocks.old) }
+    ensures one_of { (result ≡ 0) ⊎ ((result ≡ 2) ⊎ (result ≡ 3)) }
+{
+    match remap(blocks, layout, from, to) {
+        Ok(()) => OK,
+        Err(Refusal::BadLayout) => BAD_LAYOUT,
+        Err(Refusal::BadLength) => BAD_LENGTH,
+    }
+}

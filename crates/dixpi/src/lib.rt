@@ -1,0 +1,14 @@
+//! Protection information for callers in C, C++, Rust and Python: what `lib/dixpi.h` declares. Each export calls a
+//! function of `pi_blocks` or `pi_guard` and states its clauses again, with a status in place of a result. A slice is a
+//! pointer and a length in C.
+//!
+//! No export asks anything of its caller but that the memory is as `dixpi.h` says, which is outside of every proof.
+#![tactic(auto)]
+
+mod blocks;
+mod guards;
+mod status;
+
+pub use blocks::{dixpi_remap, dixpi_verify};
+pub use guards::{dixpi_crc16, dixpi_ip_sum};
+pub use status::dixpi_version;
