@@ -3,10 +3,34 @@
 ghost use Rattle.std.specs.Prelude.{◌≡◌, ◌/◌, ◌%◌, ◌⊎◌, ◌≤◌, length, true, false};
 ghost use Rattle.pi_blocks.specs.Blocks.{AreFine, IsFirst, in_line};
 ghost use Rattle.pi_blocks.specs.Layouts.{AreBlocks, is_good, stride_of};
+ghost use Rattle.pi_blocks.specs.Made.{made_in_line};
 ghost use Rattle.pi_blocks.specs.Mapped.{all_mapped};
 
 use crate::status::{BAD_LAYOUT, BAD_LENGTH, DIFFERS, OK};
-use pi_blocks::{Found, Layout, Refusal, Want, remap, verify};
+use pi_blocks::{Found, Layout, Refusal, Want, generate, remap, verify};
+
+/// Makes the tuples of blocks: guard, application tag, and in types 1 and 2 the reference tag `first_ref + i` of block
+/// `i`, modulo 2^32; in type 3 it is 0. Every other byte stays. Answers `OK`, or why the blocks are none; then all stays.
+#[unsafe(no_mangle)]
+pub extern "C" fn dixpi_generate(
+    blocks: &mut [u8],
+    layout: &Layout,
+    app: u16,
+    first_ref: u32,
+) -> u32
+    ensures made { result ≡ 0 → AreBlocks layout.now (length blocks.old)
+        × (blocks.new ≡ made_in_line layout.now app first_ref (length blocks.old / stride_of layout.now) blocks.old) }
+    ensures bad_layout { result ≡ 2 → (is_good layout.now ≡ false) × (blocks.new ≡ blocks.old) }
+    ensures bad_length { result ≡ 3 → (is_good layout.now ≡ true) × ¬ (length blocks.old % stride_of layout.now ≡ 0)
+        × (blocks.new ≡ blocks.old) }
+    ensures one_of { (result ≡ 0) ⊎ ((result ≡ 2) ⊎ (result ≡ 3)) }
+{
+    match generate(blocks, layout, app, first_ref) {
+        Ok(()) => OK,
+        Err(Refusal::BadLayout) => BAD_LAYOUT,
+        Err(Refusal::BadLength) => BAD_LENGTH,
+    }
+}
 
 /// Checks blocks. Answers `OK` where none differs, and `DIFFERS` where one does, of which the first is left in `found`;
 /// else why they are none. `found` is written where a block differs alone.

@@ -5,10 +5,12 @@
 //! No export asks anything of its caller but that the memory is as `dixpi.h` says, which is outside of every proof.
 #![tactic(auto)]
 
+mod apart;
 mod blocks;
 mod guards;
 mod status;
 
-pub use blocks::{dixpi_remap, dixpi_verify};
-pub use guards::{dixpi_crc16, dixpi_ip_sum};
+pub use apart::{dixpi_dix_generate, dixpi_dix_verify};
+pub use blocks::{dixpi_generate, dixpi_remap, dixpi_verify};
+pub use guards::{dixpi_crc16, dixpi_crc16v, dixpi_ip_sum, dixpi_ip_sumv};
 pub use status::dixpi_version;

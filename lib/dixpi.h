@@ -1,0 +1,69 @@
+/* dixpi.h: T10 protection information, types 1 to 3. x86-64 with SSE4.2 (x86-64-v2).
+   No function allocates, locks, waits, prints or keeps state: any thread may call any at any time, on memory that no
+   one else writes meanwhile. No call keeps a pointer. Each pointer names memory that is valid for what is said. None
+   overlaps one that is written, and none is NULL but that of a buffer of length 0. Structs lie at addresses that their
+   types ask for. Lengths are bytes, and blocks count from 0. */
+#ifndef DIXPI_H
+#define DIXPI_H
+#include <stddef.h>
+#include <stdint.h>
+#ifdef __cplusplus
+extern "C" {
+#endif
+
+/* What a status says. Where it isn't 0 or 1, nothing was written. */
+enum dixpi_status {
+    DIXPI_OK = 0,         /* done; of a check, no block differs */
+    DIXPI_DIFFERS = 1,    /* a block differs: *found has the first */
+    DIXPI_BAD_LAYOUT = 2, /* no layout: see struct dixpi_layout */
+    DIXPI_BAD_LENGTH = 3, /* no whole blocks, data and metadata of other counts, or bytes of another length */
+};
+
+/* The guard: the CRC of T10, or the Internet checksum, which host memory alone has. */
+enum dixpi_guard { DIXPI_CRC = 0, DIXPI_IP = 1 };
+
+/* What a check finds: the additional sense code qualifier under code 10h. `checks` has the bits 1 << check. */
+enum dixpi_check { DIXPI_GUARD = 1, DIXPI_APP = 2, DIXPI_REF = 3 };
+#define DIXPI_ALL 0xEu
+
+/* One block: data, then metadata with its tuple; or the two in buffers of their own. */
+struct dixpi_layout {
+    uint32_t data_size; /* bytes of data, as 512 or 4096; 0 where only metadata is given */
+    uint32_t meta_size; /* bytes of metadata, at least tuple_at + 8; the sum of both sizes fits 32 bits */
+    uint32_t tuple_at;  /* bytes of metadata before the tuple. The guard is of the data and of these */
+    uint32_t type;      /* 1 to 3 */
+    uint32_t guard;     /* enum dixpi_guard */
+};
+
+/* What is wanted of the tuples. */
+struct dixpi_want {
+    uint32_t first_ref; /* the first block's reference tag: in type 1 its LBA's low 32 bits. Block i's is + i mod 2^32 */
+    uint16_t app, mask; /* application tag, and the bits of it that are checked */
+    uint32_t checks;    /* 1 << DIXPI_GUARD and so on. In type 3 the reference tag is never checked */
+};
+
+/* The first difference: by block, and in a block by the order of enum dixpi_check. */
+struct dixpi_found {
+    uint64_t block;
+    uint32_t check, expected, actual;
+};
+
+/* Guards. crc16 is ISA-L's crc16_t10dif(0, ..). */
+uint16_t dixpi_crc16(const uint8_t *bytes, size_t len);
+uint16_t dixpi_ip_sum(const uint8_t *bytes, size_t len);
+
+/* Blocks with their metadata behind each, as 512 + 8 or 4096 + 64. len is a multiple of data_size + meta_size. */
+
+/* An escape (app FFFFh; in type 3 ref FFFFFFFFh too) differs in nothing. *found is written for DIXPI_DIFFERS alone. */
+uint32_t dixpi_verify(const uint8_t *blocks, size_t len, const struct dixpi_layout *layout,
+                      const struct dixpi_want *want, struct dixpi_found *found);
+/* Types 1 and 2: where block i's tag is from + i it becomes to + i, mod 2^32. All other bytes stay, other tags too.
+   Of a buffer of metadata alone: data_size 0. Undone by from and to exchanged, unless another tag was to + i. */
+uint32_t dixpi_remap(uint8_t *blocks, size_t len, const struct dixpi_layout *layout, uint32_t from, uint32_t to);
+
+uint32_t dixpi_version(void); /* 0x000100 is 0.1.0 */
+
+#ifdef __cplusplus
+}
+#endif
+#endif

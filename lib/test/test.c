@@ -1,0 +1,275 @@
+/* Calls each export of libdixpi and compares with loops of its own: a CRC bit by bit, a checksum word by word, a check
+   block by block. Buffers end where a page begins that can't be read, so a call that goes beyond one ends the program. */
+#define _DEFAULT_SOURCE
+#include <assert.h>
+#include <stdio.h>
+#include <stdlib.h>
+#include <string.h>
+#include <sys/mman.h>
+#include "dixpi.h"
+
+static_assert(sizeof(struct dixpi_layout) == 20 && offsetof(struct dixpi_layout, meta_size) == 4, "layout");
+static_assert(offsetof(struct dixpi_layout, tuple_at) == 8 && offsetof(struct dixpi_layout, type) == 12, "layout");
+static_assert(offsetof(struct dixpi_layout, guard) == 16, "layout");
+static_assert(sizeof(struct dixpi_want) == 12 && offsetof(struct dixpi_want, app) == 4, "want");
+static_assert(offsetof(struct dixpi_want, mask) == 6 && offsetof(struct dixpi_want, checks) == 8, "want");
+static_assert(sizeof(struct dixpi_found) == 24 && offsetof(struct dixpi_found, check) == 8, "found");
+static_assert(offsetof(struct dixpi_found, expected) == 12 && offsetof(struct dixpi_found, actual) == 16, "found");
+
+static unsigned passed, failed;
+
+static void is_true(int holds, int line, const char *what) {
+    if (holds) {
+        passed++;
+    } else {
+        printf("line %d: not %s\n", line, what);
+        failed++;
+    }
+}
+#define IS(what) is_true(what, __LINE__, #what)
+
+/* Bytes that end where a page begins that can't be touched. They are never given back. */
+static uint8_t *fenced(size_t size) {
+    size_t pages = (size + 4095) / 4096 * 4096;
+    uint8_t *bytes = mmap(NULL, pages + 4096, PROT_READ | PROT_WRITE, MAP_PRIVATE | MAP_ANONYMOUS, -1, 0);
+    if (bytes == MAP_FAILED || mprotect(bytes + pages, 4096, PROT_NONE))
+        exit(70);
+    return bytes + pages - size;
+}
+
+/* A sequence of numbers that look random (xorshift), the same in each run. */
+static uint32_t drawn(void) {
+    static uint32_t state = 2463534242u;
+    state ^= state << 13;
+    state ^= state >> 17;
+    state ^= state << 5;
+    return state;
+}
+
+static void fill(uint8_t *bytes, size_t len) {
+    for (size_t i = 0; i < len; i++)
+        bytes[i] = (uint8_t)(drawn() >> 8);
+}
+
+static uint16_t crc_by_bits(uint16_t crc, const uint8_t *bytes, size_t len) {
+    for (; len; len--) {
+        crc ^= (uint16_t)(*bytes++ << 8);
+        for (int i = 0; i < 8; i++)
+            crc = (uint16_t)(crc & 0x8000 ? crc << 1 ^ 0x8BB7 : crc << 1);
+    }
+    return crc;
+}
+
+static uint16_t sum_by_words(const uint8_t *bytes, size_t len) {
+    uint32_t sum = 0;
+    for (size_t i = 0; i < len; i++) {
+        sum += i % 2 ? bytes[i] : (uint32_t)bytes[i] << 8;
+        sum = (sum & 0xFFFF) + (sum >> 16);
+    }
+    return (uint16_t)~sum;
+}
+
+static uint16_t guard_of(uint32_t kind, const uint8_t *bytes, size_t len) {
+    return kind == DIXPI_IP ? sum_by_words(bytes, len) : crc_by_bits(0, bytes, len);
+}
+
+static void put16(uint8_t *p, uint32_t x) {
+    p[0] = (uint8_t)(x >> 8);
+    p[1] = (uint8_t)x;
+}
+
+static void put32(uint8_t *p, uint32_t x) {
+    put16(p, x >> 16);
+    put16(p + 2, x);
+}
+
+static uint32_t get16(const uint8_t *p) { return (uint32_t)p[0] << 8 | p[1]; }
+static uint32_t get32(const uint8_t *p) { return get16(p) << 16 | get16(p + 2); }
+
+/* The check of block i, whose guard is of these bytes. */
+static uint32_t look(const struct dixpi_layout *l, const struct dixpi_want *w, uint64_t i, const uint8_t *guarded,
+                     size_t len, const uint8_t *tuple, struct dixpi_found *found) {
+    uint32_t guard = guard_of(l->guard, guarded, len), app = get16(tuple + 2), ref = get32(tuple + 4);
+    uint32_t wanted = w->first_ref + (uint32_t)i;
+    if (app == 0xFFFF && (l->type != 3 || ref == 0xFFFFFFFF))
+        return DIXPI_OK;
+    if (w->checks >> DIXPI_GUARD & 1 && get16(tuple) != guard)
+        *found = (struct dixpi_found){i, DIXPI_GUARD, guard, get16(tuple)};
+    else if (w->checks >> DIXPI_APP & 1 && (app ^ w->app) & w->mask)
+        *found = (struct dixpi_found){i, DIXPI_APP, w->app, app};
+    else if (w->checks >> DIXPI_REF & 1 && l->type != 3 && ref != wanted)
+        *found = (struct dixpi_found){i, DIXPI_REF, wanted, ref};
+    else
+        return DIXPI_OK;
+    return DIXPI_DIFFERS;
+}
+
+static uint32_t verified(const uint8_t *blocks, size_t n, const struct dixpi_layout *l, const struct dixpi_want *w,
+                         struct dixpi_found *found) {
+    size_t covered = l->data_size + l->tuple_at, stride = l->data_size + l->meta_size;
+    for (size_t i = 0; i < n; i++)
+        if (look(l, w, i, blocks + i * stride, covered, blocks + i * stride + covered, found))
+            return DIXPI_DIFFERS;
+    return DIXPI_OK;
+}
+
+static void make(const struct dixpi_layout *l, uint64_t i, const uint8_t *guarded, size_t len, uint8_t *tuple,
+                 uint16_t app, uint32_t first_ref) {
+    put16(tuple, guard_of(l->guard, guarded, len));
+    put16(tuple + 2, app);
+    put32(tuple + 4, l->type == 3 ? 0 : first_ref + (uint32_t)i);
+}
+
+static void generated(uint8_t *blocks, size_t n, const struct dixpi_layout *l, uint16_t app, uint32_t first_ref) {
+    size_t covered = l->data_size + l->tuple_at, stride = l->data_size + l->meta_size;
+    for (size_t i = 0; i < n; i++)
+        make(l, i, blocks + i * stride, covered, blocks + i * stride + covered, app, first_ref);
+}
+
+static void remapped(uint8_t *blocks, size_t n, const struct dixpi_layout *l, uint32_t from, uint32_t to) {
+    size_t at = l->data_size + l->tuple_at + 4, stride = l->data_size + l->meta_size;
+    for (size_t i = 0; i < n && l->type != 3; i++)
+        if (get32(blocks + i * stride + at) == from + (uint32_t)i)
+            put32(blocks + i * stride + at, to + (uint32_t)i);
+}
+
+static const struct dixpi_found NOTHING = {9, 9, 9, 9};
+
+static int same(struct dixpi_found a, struct dixpi_found b) {
+    return a.block == b.block && a.check == b.check && a.expected == b.expected && a.actual == b.actual;
+}
+
+enum { N = 24, MOST = 4096 + 64 };
+
+static void guards(void) {
+    IS(dixpi_crc16((const uint8_t *)"123456789", 9) == 0xD0DB);
+    IS(dixpi_crc16(NULL, 0) == 0);
+    IS(dixpi_ip_sum(NULL, 0) == 0xFFFF);
+    IS(dixpi_ip_sum((const uint8_t[]){0x00, 0x01, 0xF2, 0x03, 0xF4, 0xF5, 0xF6, 0xF7}, 8) == (uint16_t)~0xDDF2);
+    for (size_t len = 0; len < 700; len++) {
+        uint8_t *bytes = fenced(len);
+        fill(bytes, len);
+        IS(dixpi_crc16(bytes, len) == crc_by_bits(0, bytes, len));
+        IS(dixpi_ip_sum(bytes, len) == sum_by_words(bytes, len));
+    }
+    uint8_t *much = fenced(70001);
+    memset(much, 0xFF, 70001);
+    IS(dixpi_ip_sum(much, 70001) == sum_by_words(much, 70001));
+    IS(dixpi_crc16(much, 70001) == crc_by_bits(0, much, 70001));
+}
+
+static const struct dixpi_layout LAYOUTS[] = {
+    {512, 8, 0, 0, 0},  {520, 8, 0, 0, 0},    {4096, 8, 0, 0, 0}, {4096, 64, 0, 0, 0},
+    {4096, 64, 56, 0, 0}, {0, 8, 0, 0, 0}, {7, 11, 2, 0, 0}, {0, 13, 5, 0, 0},
+};
+
+/* Checks, and compares with the loop above. */
+static uint32_t check(const uint8_t *blocks, const struct dixpi_layout *l, const struct dixpi_want *w,
+                      struct dixpi_found *found) {
+    struct dixpi_found by_hand = NOTHING;
+    *found = NOTHING;
+    uint32_t status = dixpi_verify(blocks, (size_t)N * (l->data_size + l->meta_size), l, w, found);
+    IS(status == verified(blocks, N, l, w, &by_hand));
+    IS(same(*found, by_hand));
+    return status;
+}
+
+static void verify_finds(uint8_t *blocks, const struct dixpi_layout *l, struct dixpi_want w) {
+    size_t stride = l->data_size + l->meta_size, covered = l->data_size + l->tuple_at;
+    struct dixpi_found f;
+    IS(check(blocks, l, &w, &f) == DIXPI_OK);
+    blocks[20 * stride + covered + 7] ^= 1;
+    IS(check(blocks, l, &w, &f) == (l->type != 3));
+    if (l->type != 3)
+        IS(f.block == 20 && f.check == DIXPI_REF && f.expected == w.first_ref + 20 && f.actual == (f.expected ^ 1));
+    blocks[7 * stride + covered + 3] ^= 0x10;
+    IS(check(blocks, l, &w, &f) == DIXPI_DIFFERS);
+    IS(f.block == 7 && f.check == DIXPI_APP && f.expected == w.app && f.actual == (uint32_t)(w.app ^ 0x10));
+    blocks[7 * stride + covered] ^= 1;
+    IS(check(blocks, l, &w, &f) == DIXPI_DIFFERS);
+    IS(f.block == 7 && f.check == DIXPI_GUARD && (f.expected ^ f.actual) == 0x100);
+    if (covered) {
+        blocks[5 * stride + covered - 1] ^= 1;
+        IS(check(blocks, l, &w, &f) == DIXPI_DIFFERS && f.block == 5 && f.check == DIXPI_GUARD);
+    }
+    for (uint32_t checks = 0; checks < 32; checks++) {
+        w.checks = checks | 0xFFFF0000;
+        check(blocks, l, &w, &f);
+    }
+    w.checks = DIXPI_ALL;
+    for (size_t i = 0; i < N; i++) {
+        w.mask = (uint16_t)drawn();
+        check(blocks, l, &w, &f);
+        put16(blocks + i * stride + covered + 2, 0xFFFF);
+        check(blocks, l, &w, &f);
+        if (i % 2)
+            put32(blocks + i * stride + covered + 4, 0xFFFFFFFF);
+        check(blocks, l, &w, &f);
+    }
+}
+
+static void maps_tags(uint8_t *blocks, const struct dixpi_layout *l, uint32_t first) {
+    static uint8_t by_hand[N * MOST];
+    size_t len = (size_t)N * (l->data_size + l->meta_size);
+    blocks[3 * (l->data_size + l->meta_size) + l->data_size + l->tuple_at + 6] ^= 1;
+    memcpy(by_hand, blocks, len);
+    IS(dixpi_remap(blocks, len, l, first, first + 1000) == DIXPI_OK);
+    remapped(by_hand, N, l, first, first + 1000);
+    IS(!memcmp(blocks, by_hand, len));
+    IS(dixpi_remap(blocks, len, l, first + 1000, first) == DIXPI_OK);
+    remapped(by_hand, N, l, first + 1000, first);
+    IS(!memcmp(blocks, by_hand, len));
+}
+
+static void refusals(uint8_t *blocks, const struct dixpi_layout *l) {
+    static uint8_t before[N * MOST];
+    size_t stride = l->data_size + l->meta_size, len = N * stride;
+    struct dixpi_want w = {0, 0, 0, DIXPI_ALL};
+    struct dixpi_layout bad[] = {*l, *l, *l, *l, *l, *l};
+    bad[0].type = 0;
+    bad[1].type = 4;
+    bad[2].guard = 2;
+    bad[3].tuple_at = l->meta_size - 7;
+    bad[4].tuple_at = 0xFFFFFFF9;
+    bad[5].data_size = 0u - l->meta_size;
+    memcpy(before, blocks, len);
+    struct dixpi_found f = NOTHING;
+    for (size_t i = 0; i < 6; i++) {
+        IS(dixpi_verify(blocks, len, &bad[i], &w, &f) == DIXPI_BAD_LAYOUT && same(f, NOTHING));
+        IS(dixpi_remap(blocks, len, &bad[i], 0, 1) == DIXPI_BAD_LAYOUT);
+    }
+    IS(dixpi_verify(blocks, len - 1, l, &w, &f) == DIXPI_BAD_LENGTH && same(f, NOTHING));
+    IS(dixpi_remap(blocks, len - 1, l, 0, 1) == DIXPI_BAD_LENGTH);
+    IS(dixpi_verify(NULL, 0, l, &w, &f) == DIXPI_OK && same(f, NOTHING));
+    IS(dixpi_remap(NULL, 0, l, 0, 1) == DIXPI_OK);
+    IS(!memcmp(before, blocks, len));
+}
+
+static void blocks_in_line(struct dixpi_layout l) {
+    size_t len = (size_t)N * (l.data_size + l.meta_size);
+    uint8_t *blocks = fenced(len);
+    for (uint32_t first = 0xFFFFFFF4; first != 0x10; first += 14) {
+        struct dixpi_want w = {first, 0x1234, 0xFFFF, DIXPI_ALL};
+        fill(blocks, len);
+        generated(blocks, N, &l, w.app, first);
+        maps_tags(blocks, &l, first);
+        generated(blocks, N, &l, w.app, first);
+        verify_finds(blocks, &l, w);
+        refusals(blocks, &l);
+    }
+}
+
+int main(void) {
+    IS(dixpi_version() == 0x000100);
+    guards();
+    for (size_t i = 0; i < sizeof LAYOUTS / sizeof *LAYOUTS; i++)
+        for (uint32_t type = 1; type <= 3; type++)
+            for (uint32_t guard = DIXPI_CRC; guard <= DIXPI_IP; guard++) {
+                struct dixpi_layout l = LAYOUTS[i];
+                l.type = type;
+                l.guard = guard;
+                blocks_in_line(l);
+            }
+    printf("test.c: %u passed, %u failed\n", passed, failed);
+    return failed != 0;
+}
