@@ -7,6 +7,7 @@
 #define DIXPI_H
 #include <stddef.h>
 #include <stdint.h>
+#include <sys/uio.h> /* struct iovec */
 #ifdef __cplusplus
 extern "C" {
 #endif
@@ -37,7 +38,7 @@ struct dixpi_layout {
 
 /* What is wanted of the tuples. */
 struct dixpi_want {
-    uint32_t first_ref; /* the first block's reference tag: in type 1 its LBA's low 32 bits. Block i's is + i mod 2^32 */
+    uint32_t first_ref; /* block 0's reference tag: in type 1 its LBA's low 32 bits. Block i's is + i mod 2^32 */
     uint16_t app, mask; /* application tag, and the bits of it that are checked */
     uint32_t checks;    /* 1 << DIXPI_GUARD and so on. In type 3 the reference tag is never checked */
 };
@@ -51,15 +52,29 @@ struct dixpi_found {
 /* Guards. crc16 is ISA-L's crc16_t10dif(0, ..). */
 uint16_t dixpi_crc16(const uint8_t *bytes, size_t len);
 uint16_t dixpi_ip_sum(const uint8_t *bytes, size_t len);
+/* The same of parts of any length, one after another, uncopied. No iov_base is NULL, also where iov_len is 0. */
+uint16_t dixpi_crc16v(const struct iovec *parts, size_t count);
+uint16_t dixpi_ip_sumv(const struct iovec *parts, size_t count);
 
 /* Blocks with their metadata behind each, as 512 + 8 or 4096 + 64. len is a multiple of data_size + meta_size. */
 
+/* Writes each tuple: guard, app, and in types 1 and 2 the tag first_ref + i mod 2^32; in type 3 it is 0. */
+uint32_t dixpi_generate(uint8_t *blocks, size_t len, const struct dixpi_layout *layout, uint16_t app,
+                        uint32_t first_ref);
 /* An escape (app FFFFh; in type 3 ref FFFFFFFFh too) differs in nothing. *found is written for DIXPI_DIFFERS alone. */
 uint32_t dixpi_verify(const uint8_t *blocks, size_t len, const struct dixpi_layout *layout,
                       const struct dixpi_want *want, struct dixpi_found *found);
 /* Types 1 and 2: where block i's tag is from + i it becomes to + i, mod 2^32. All other bytes stay, other tags too.
    Of a buffer of metadata alone: data_size 0. Undone by from and to exchanged, unless another tag was to + i. */
 uint32_t dixpi_remap(uint8_t *blocks, size_t len, const struct dixpi_layout *layout, uint32_t from, uint32_t to);
+
+/* Data and metadata in buffers of their own: as many blocks in meta as in data, which may lie in parts that end
+   anywhere. Of meta only the eight bytes of each tuple are written. */
+uint32_t dixpi_dix_generate(const struct iovec *data, size_t count, uint8_t *meta, size_t meta_len,
+                            const struct dixpi_layout *layout, uint16_t app, uint32_t first_ref);
+uint32_t dixpi_dix_verify(const struct iovec *data, size_t count, const uint8_t *meta, size_t meta_len,
+                          const struct dixpi_layout *layout, const struct dixpi_want *want,
+                          struct dixpi_found *found);
 
 uint32_t dixpi_version(void); /* 0x000100 is 0.1.0 */
 

@@ -1,5 +1,6 @@
 /* Calls each export of libdixpi and compares with loops of its own: a CRC bit by bit, a checksum word by word, a check
-   block by block. Buffers end where a page begins that can't be read, so a call that goes beyond one ends the program. */
+   block by block. Buffers end where a page begins that can't be read, so a call that goes on behind one ends the
+   program. */
 #define _DEFAULT_SOURCE
 #include <assert.h>
 #include <stdio.h>
@@ -133,6 +134,22 @@ static void remapped(uint8_t *blocks, size_t n, const struct dixpi_layout *l, ui
             put32(blocks + i * stride + at, to + (uint32_t)i);
 }
 
+/* Cuts bytes in parts of drawn lengths, at most so many; each lies in memory of its own and ends at a fence. */
+static size_t cut(const uint8_t *bytes, size_t len, struct iovec *parts, size_t most) {
+    size_t count = 0;
+    while (count < most && (len || drawn() % 2)) {
+        size_t size = count + 1 == most ? len : drawn() % (len / 4 + 2);
+        if (size > len)
+            size = len;
+        uint8_t *part = fenced(size);
+        memcpy(part, bytes, size);
+        parts[count++] = (struct iovec){part, size};
+        bytes += size;
+        len -= size;
+    }
+    return count;
+}
+
 static const struct dixpi_found NOTHING = {9, 9, 9, 9};
 
 static int same(struct dixpi_found a, struct dixpi_found b) {
@@ -152,6 +169,16 @@ static void guards(void) {
         IS(dixpi_crc16(bytes, len) == crc_by_bits(0, bytes, len));
         IS(dixpi_ip_sum(bytes, len) == sum_by_words(bytes, len));
     }
+    /* Parts that end anywhere, some empty. */
+    uint8_t *bytes = fenced(600);
+    fill(bytes, 600);
+    for (size_t len = 0; len <= 600; len += 7) {
+        struct iovec parts[64];
+        size_t count = cut(bytes, len, parts, 64);
+        IS(dixpi_crc16v(parts, count) == crc_by_bits(0, bytes, len));
+        IS(dixpi_ip_sumv(parts, count) == sum_by_words(bytes, len));
+    }
+    IS(dixpi_crc16v(NULL, 0) == 0 && dixpi_ip_sumv(NULL, 0) == 0xFFFF);
     uint8_t *much = fenced(70001);
     memset(much, 0xFF, 70001);
     IS(dixpi_ip_sum(much, 70001) == sum_by_words(much, 70001));
@@ -208,6 +235,78 @@ static void verify_finds(uint8_t *blocks, const struct dixpi_layout *l, struct d
     }
 }
 
+static void generates(const struct dixpi_layout *l, uint16_t app, uint32_t first) {
+    static uint8_t by_hand[N * MOST];
+    size_t len = (size_t)N * (l->data_size + l->meta_size);
+    uint8_t *blocks = fenced(len);
+    fill(blocks, len);
+    memcpy(by_hand, blocks, len);
+    IS(dixpi_generate(blocks, len, l, app, first) == DIXPI_OK);
+    generated(by_hand, N, l, app, first);
+    IS(!memcmp(blocks, by_hand, len));
+}
+
+/* Data and metadata of their own are those of blocks in a line, taken apart. */
+static void apart(const struct dixpi_layout *l, struct dixpi_want w) {
+    static uint8_t line[N * MOST], data[N * 4096];
+    size_t stride = l->data_size + l->meta_size;
+    size_t data_len = (size_t)N * l->data_size, meta_len = (size_t)N * l->meta_size;
+    uint8_t *meta = fenced(meta_len);
+    fill(line, N * stride);
+    for (size_t i = 0; i < N; i++) {
+        memcpy(data + i * l->data_size, line + i * stride, l->data_size);
+        memcpy(meta + i * l->meta_size, line + i * stride + l->data_size, l->meta_size);
+    }
+    struct iovec parts[40];
+    size_t count = cut(data, data_len, parts, 40);
+    struct dixpi_found found = NOTHING, by_hand = NOTHING;
+    generated(line, N, l, w.app, w.first_ref);
+    IS(dixpi_dix_generate(parts, count, meta, meta_len, l, w.app, w.first_ref) == DIXPI_OK);
+    int are_same = 1;
+    for (size_t i = 0; i < N; i++)
+        are_same &= !memcmp(meta + i * l->meta_size, line + i * stride + l->data_size, l->meta_size);
+    IS(are_same);
+    IS(dixpi_dix_verify(parts, count, meta, meta_len, l, &w, &found) == DIXPI_OK && same(found, NOTHING));
+    for (size_t k = 0; k < 40; k++) {
+        size_t i = drawn() % N, at = drawn() % l->meta_size;
+        uint8_t flip = (uint8_t)(1 << drawn() % 8);
+        meta[i * l->meta_size + at] ^= flip;
+        line[i * stride + l->data_size + at] ^= flip;
+        w.mask = (uint16_t)drawn();
+        w.checks = drawn();
+        by_hand = found = NOTHING;
+        IS(dixpi_dix_verify(parts, count, meta, meta_len, l, &w, &found) == verified(line, N, l, &w, &by_hand));
+        IS(same(found, by_hand));
+        meta[i * l->meta_size + at] ^= flip;
+        line[i * stride + l->data_size + at] ^= flip;
+    }
+    w.checks = 1 << DIXPI_GUARD;
+    if (data_len) {
+        size_t last = count - 1;
+        while (!parts[last].iov_len)
+            last--;
+        uint8_t *end = parts[last].iov_base;
+        end[parts[last].iov_len - 1] ^= 1;
+        IS(dixpi_dix_verify(parts, count, meta, meta_len, l, &w, &found) == DIXPI_DIFFERS);
+        IS(found.block == N - 1 && found.check == DIXPI_GUARD);
+        parts[last].iov_len--;
+        IS(dixpi_dix_verify(parts, count, meta, meta_len, l, &w, &found) == DIXPI_BAD_LENGTH);
+        IS(dixpi_dix_generate(parts, count, meta, meta_len, l, 0, 0) == DIXPI_BAD_LENGTH);
+    }
+    struct dixpi_layout bad = *l;
+    bad.type = 5;
+    found = NOTHING;
+    IS(dixpi_dix_verify(parts, count, meta, meta_len, &bad, &w, &found) == DIXPI_BAD_LAYOUT && same(found, NOTHING));
+    IS(dixpi_dix_verify(parts, count, meta, meta_len - 1, l, &w, &found) == DIXPI_BAD_LENGTH && same(found, NOTHING));
+    IS(dixpi_dix_generate(parts, count, meta, meta_len, &bad, 0, 0) == DIXPI_BAD_LAYOUT);
+    IS(dixpi_dix_generate(parts, count, meta, meta_len - 1, l, 0, 0) == DIXPI_BAD_LENGTH);
+    IS(dixpi_dix_verify(NULL, 0, NULL, 0, l, &w, &found) == DIXPI_OK);
+    IS(dixpi_dix_generate(NULL, 0, NULL, 0, l, 0, 0) == DIXPI_OK);
+    for (size_t i = 0; i < N; i++)
+        are_same &= !memcmp(meta + i * l->meta_size, line + i * stride + l->data_size, l->meta_size);
+    IS(are_same);
+}
+
 static void maps_tags(uint8_t *blocks, const struct dixpi_layout *l, uint32_t first) {
     static uint8_t by_hand[N * MOST];
     size_t len = (size_t)N * (l->data_size + l->meta_size);
@@ -237,11 +336,14 @@ static void refusals(uint8_t *blocks, const struct dixpi_layout *l) {
     for (size_t i = 0; i < 6; i++) {
         IS(dixpi_verify(blocks, len, &bad[i], &w, &f) == DIXPI_BAD_LAYOUT && same(f, NOTHING));
         IS(dixpi_remap(blocks, len, &bad[i], 0, 1) == DIXPI_BAD_LAYOUT);
+        IS(dixpi_generate(blocks, len, &bad[i], 0, 1) == DIXPI_BAD_LAYOUT);
     }
     IS(dixpi_verify(blocks, len - 1, l, &w, &f) == DIXPI_BAD_LENGTH && same(f, NOTHING));
     IS(dixpi_remap(blocks, len - 1, l, 0, 1) == DIXPI_BAD_LENGTH);
+    IS(dixpi_generate(blocks, len - 1, l, 0, 1) == DIXPI_BAD_LENGTH);
     IS(dixpi_verify(NULL, 0, l, &w, &f) == DIXPI_OK && same(f, NOTHING));
     IS(dixpi_remap(NULL, 0, l, 0, 1) == DIXPI_OK);
+    IS(dixpi_generate(NULL, 0, l, 0, 1) == DIXPI_OK);
     IS(!memcmp(before, blocks, len));
 }
 
@@ -256,6 +358,8 @@ static void blocks_in_line(struct dixpi_layout l) {
         generated(blocks, N, &l, w.app, first);
         verify_finds(blocks, &l, w);
         refusals(blocks, &l);
+        generates(&l, w.app, first);
+        apart(&l, w);
     }
 }
 

@@ -1,0 +1,116 @@
+"""Calls each export of libdixpi by ctypes: test.py LIBRARY. Expected values are of a loop here or worked by hand."""
+import ctypes
+import sys
+from ctypes import POINTER, c_size_t, c_uint16, c_uint32, c_uint64, c_void_p
+
+passed = failed = 0
+
+
+def holds(what, is_true):
+    global passed, failed
+    if is_true:
+        passed += 1
+    else:
+        failed += 1
+        print("not", what)
+
+
+class Layout(ctypes.Structure):
+    _fields_ = [(name, c_uint32) for name in ("data_size", "meta_size", "tuple_at", "type", "guard")]
+
+
+class Want(ctypes.Structure):
+    _fields_ = [("first_ref", c_uint32), ("app", c_uint16), ("mask", c_uint16), ("checks", c_uint32)]
+
+
+class Found(ctypes.Structure):
+    _fields_ = [("block", c_uint64), ("check", c_uint32), ("expected", c_uint32), ("actual", c_uint32)]
+
+
+class Part(ctypes.Structure):
+    _fields_ = [("base", c_void_p), ("len", c_size_t)]
+
+
+dixpi = ctypes.CDLL(sys.argv[1])
+layout_at, want_at, found_at, parts_at = POINTER(Layout), POINTER(Want), POINTER(Found), POINTER(Part)
+TYPES = {
+    "crc16": (c_uint16, c_void_p, c_size_t),
+    "ip_sum": (c_uint16, c_void_p, c_size_t),
+    "crc16v": (c_uint16, parts_at, c_size_t),
+    "ip_sumv": (c_uint16, parts_at, c_size_t),
+    "generate": (c_uint32, c_void_p, c_size_t, layout_at, c_uint16, c_uint32),
+    "verify": (c_uint32, c_void_p, c_size_t, layout_at, want_at, found_at),
+    "remap": (c_uint32, c_void_p, c_size_t, layout_at, c_uint32, c_uint32),
+    "dix_generate": (c_uint32, parts_at, c_size_t, c_void_p, c_size_t, layout_at, c_uint16, c_uint32),
+    "dix_verify": (c_uint32, parts_at, c_size_t, c_void_p, c_size_t, layout_at, want_at, found_at),
+    "version": (c_uint32,),
+}
+for name, (result, *arguments) in TYPES.items():
+    function = getattr(dixpi, "dixpi_" + name)
+    function.restype, function.argtypes = result, arguments
+
+
+def crc(data):
+    register = 0
+    for byte in data:
+        register ^= byte << 8
+        for _ in range(8):
+            register = (register << 1 ^ 0x18BB7 if register & 0x8000 else register << 1) & 0xFFFF
+    return register
+
+
+def memory(data):
+    return (ctypes.c_uint8 * len(data))(*data)
+
+
+def parts(*pieces):
+    kept = [memory(piece) for piece in pieces]
+    return (Part * len(kept))(*[Part(ctypes.addressof(piece), len(piece)) for piece in kept]), kept
+
+
+def tell(found):
+    return (found.block, found.check, found.expected, found.actual)
+
+
+NINE = b"123456789"
+holds("version", dixpi.dixpi_version() == 0x100)
+holds("crc16", dixpi.dixpi_crc16(memory(NINE), 9) == 0xD0DB)
+holds("ip_sum", dixpi.dixpi_ip_sum(memory(b"\x00\x01\xf2\x03\xf4\xf5\xf6\xf7"), 8) == 0x220D)
+pieces, kept = parts(b"1", b"", b"2345", b"6789")
+holds("crc16v", dixpi.dixpi_crc16v(pieces, 4) == 0xD0DB)
+pieces, kept = parts(b"\x00", b"\x01\xf2\x03\xf4", b"\xf5\xf6\xf7")
+holds("ip_sumv", dixpi.dixpi_ip_sumv(pieces, 3) == 0x220D)
+
+FIRST = 0xFFFFFFFE
+layout, want, found = Layout(512, 8, 0, 1, 0), Want(FIRST, 0x1234, 0xFFFF, 0xE), Found(9, 9, 9, 9)
+data = [bytes((i * 31 + j * 7 + (j >> 8)) % 256 for j in range(512)) for i in range(6)]
+tags = [(FIRST + i) % 2**32 for i in range(6)]
+tuples = [crc(block).to_bytes(2, "big") + b"\x12\x34" + tag.to_bytes(4, "big") for block, tag in zip(data, tags)]
+whole = b"".join(block + its for block, its in zip(data, tuples))
+bare = memory(b"".join(block + bytes(8) for block in data))
+holds("generate", dixpi.dixpi_generate(bare, len(bare), layout, 0x1234, FIRST) == 0 and bytes(bare) == whole)
+holds("verify, no block differs", dixpi.dixpi_verify(bare, len(bare), layout, want, found) == 0)
+holds("nothing found", tell(found) == (9, 9, 9, 9))
+bare[3 * 520 + 9] ^= 4
+holds("verify, a block differs", dixpi.dixpi_verify(bare, len(bare), layout, want, found) == 1)
+holds("found", tell(found) == (3, 1, crc(bytes(bare[3 * 520 : 3 * 520 + 512])), crc(data[3])))
+bare[3 * 520 + 9] ^= 4
+holds("verify, a length", dixpi.dixpi_verify(bare, len(bare) - 1, layout, want, found) == 3)
+holds("verify, a layout", dixpi.dixpi_verify(bare, len(bare), Layout(512, 7, 0, 1, 0), want, found) == 2)
+holds("remap", dixpi.dixpi_remap(bare, len(bare), layout, FIRST, 5) == 0)
+moved = b"".join(block + its[:4] + (5 + i).to_bytes(4, "big") for i, (block, its) in enumerate(zip(data, tuples)))
+holds("remapped", bytes(bare) == moved)
+
+joined = b"".join(data)
+pieces, kept = parts(joined[:1], joined[1:1000], b"", joined[1000:])
+meta = memory(bytes(48))
+holds("dix_generate", dixpi.dixpi_dix_generate(pieces, 4, meta, 48, layout, 0x1234, FIRST) == 0)
+holds("the tuples", bytes(meta) == b"".join(tuples))
+holds("dix_verify, no block differs", dixpi.dixpi_dix_verify(pieces, 4, meta, 48, layout, want, found) == 0)
+meta[4 * 8 + 7] ^= 1
+holds("dix_verify, a block differs", dixpi.dixpi_dix_verify(pieces, 4, meta, 48, layout, want, found) == 1)
+holds("found apart", tell(found) == (4, 3, 2, 3))
+holds("dix_verify, other counts", dixpi.dixpi_dix_verify(pieces, 3, meta, 48, layout, want, found) == 3)
+
+print(f"test.py: {passed} passed, {failed} failed")
+sys.exit(failed != 0)
