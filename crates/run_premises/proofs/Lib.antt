@@ -1,0 +1,10 @@
+pub mod Near
+pub mod Sums
+pub mod Frames
+pub mod Lines
+pub mod Ways
+pub mod Runs
+pub mod Escapes
+pub mod Clean
+pub mod FormRows
+pub mod Exact

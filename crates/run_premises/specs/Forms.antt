@@ -1,0 +1,144 @@
+use Rattle.std.specs.Prelude.{ℕ, ◌+◌, ◌-◌, Bool, true, false, not, ◌&&◌, eqb, if◌then◌else◌, List, [], ◌∷◌, get_or, take, drop, replicate}
+use Rattle.std.specs.List.{list_all, list_any}
+use Rattle.pi_guard.specs.Guards.{crc}
+use Rattle.pi_guard.specs.declared.GuardKind.{GuardKind}
+use Rattle.pi_guard.specs.declared.GuardKind.TheVariants.{Crc, Ip}
+use Rattle.fault_schedule.specs.Altered.{altered, is_same}
+use Rattle.fault_schedule.specs.declared.Label.{Label}
+use Rattle.fault_schedule.specs.declared.fault.Crossing.{Crossing}
+use Rattle.fault_schedule.specs.declared.fault.Crossing.TheVariants.{AdapterToHost, AdapterToTarget, HostToAdapter, MediumToTarget, TargetToAdapter, TargetToMedium}
+use Rattle.fault_schedule.specs.declared.fault.FaultLine.{FaultLine}
+use Rattle.stack_ops.specs.declared.op.Op.{Op}
+use Rattle.stack_ops.specs.declared.op.Op.TheVariants.{Fetch, FetchPi, Fill, Overwrite, Put, Seal, Show, Wait, Write, WritePi}
+use Rattle.whole_run.specs.FirstLayer.{is_flip}
+
+-- Which scheduled faults tuples can show, told by their lines and the ops alone: in type 1 with tuples that are passed and protect field 001b.
+
+-- ---- what the lines of one block do at one crossing
+
+-- what becomes of a frame of zeros: each byte is all that the lines name for its place
+abbrev pub mask_of : (size : ℕ) → List FaultLine → Crossing → Label → List ℕ
+mask_of size faults at label = altered faults at label (replicate (size + 8) 0)
+
+-- the guard that a frame has at a crossing: the host's on its side of the adapter, else the CRC
+abbrev pub kind_at : GuardKind → Crossing → GuardKind
+kind_at kind HostToAdapter = kind
+kind_at kind AdapterToTarget = Crc
+kind_at kind TargetToMedium = Crc
+kind_at kind MediumToTarget = Crc
+kind_at kind TargetToAdapter = Crc
+kind_at kind AdapterToHost = kind
+
+abbrev pub is_none : ℕ → Bool
+is_none byte = eqb byte 0
+
+-- Some byte isn't 0, and each that isn't lies within two neighbouring ones, which aren't both FFh.
+abbrev pub is_near : List ℕ → Bool
+is_near [] = false
+is_near (x ∷ []) = not (is_none x)
+is_near (x ∷ y ∷ rest) = if is_none x then is_near (y ∷ rest) else not (eqb x 255 && eqb y 255) && list_all is_none rest
+
+-- The guard shows whatever data and guard these bytes are xored onto: the CRC exactly where their own CRC isn't 0; the Internet checksum where they are near, and where they aren't it hangs on the data.
+abbrev pub is_seen : GuardKind → List ℕ → Bool
+is_seen Crc mask = not (eqb (crc mask) 0)
+is_seen Ip mask = is_near mask
+
+-- Application tag and reference tag stay, and the guard shows what is altered.
+abbrev pub is_shown : (size : ℕ) → GuardKind → List ℕ → Bool
+is_shown size kind mask = list_all is_none (drop (size + 2) mask) && is_seen kind (take (size + 2) mask)
+
+abbrev pub label_of : FaultLine → Label
+label_of line = record { op = line.op; k = line.k }
+
+-- The line is no shift; and all lines of its block at its crossing together are shown.
+abbrev pub is_shown_line : GuardKind → (size : ℕ) → List FaultLine → FaultLine → Bool
+is_shown_line kind size faults line = is_flip line.kind && is_shown size (kind_at kind line.at) (mask_of size faults line.at (label_of line))
+
+-- ---- whose block it is
+
+-- the op of this number; ops are counted from 1
+abbrev pub op_of : List Op → ℕ → Op
+op_of ops number = get_or ops (number - 1) Wait
+
+-- the first virtual block of a request
+abbrev pub first_virt : Op → ℕ
+first_virt (Fill seg byte) = 0
+first_virt (Put page off bytes) = 0
+first_virt (Show seg) = 0
+first_virt (Seal n body tuples app rtag) = 0
+first_virt (Write v n body app) = v
+first_virt (Fetch v n body) = v
+first_virt (WritePi v n body tuples) = v
+first_virt (FetchPi v n body tuples) = v
+first_virt (Overwrite dev lba change) = 0
+first_virt Wait = 0
+
+-- the virtual block of a line
+abbrev pub virt_of : List Op → FaultLine → ℕ
+virt_of ops line = first_virt (op_of ops line.op) + line.k
+
+-- The application brings the tuples.
+abbrev pub brings_tuples : Op → Bool
+brings_tuples (Fill seg byte) = false
+brings_tuples (Put page off bytes) = false
+brings_tuples (Show seg) = false
+brings_tuples (Seal n body tuples app rtag) = false
+brings_tuples (Write v n body app) = false
+brings_tuples (Fetch v n body) = false
+brings_tuples (WritePi v n body tuples) = true
+brings_tuples (FetchPi v n body tuples) = false
+brings_tuples (Overwrite dev lba change) = false
+brings_tuples Wait = false
+
+-- A tuple that an application brings may be wrong, and a flip before the first check may make it right.
+abbrev pub may_mend : List Op → FaultLine → Bool
+may_mend ops line = is_same line.at HostToAdapter && brings_tuples (op_of ops line.op)
+
+-- A line alters the virtual block on its way to the medium, in any op.
+abbrev pub is_stored_altered : List Op → List FaultLine → (v : ℕ) → Bool
+is_stored_altered ops faults v = list_any (λ line. is_same line.at TargetToMedium && eqb (virt_of ops line) v) faults
+
+-- A flip on the way from the medium may undo one on the way there.
+abbrev pub may_undo : List Op → List FaultLine → FaultLine → Bool
+may_undo ops faults line = is_same line.at MediumToTarget && is_stored_altered ops faults (virt_of ops line)
+
+-- ---- the form
+
+-- an op that alters a stored block without a command
+abbrev pub is_overwrite : Op → Bool
+is_overwrite (Fill seg byte) = false
+is_overwrite (Put page off bytes) = false
+is_overwrite (Show seg) = false
+is_overwrite (Seal n body tuples app rtag) = false
+is_overwrite (Write v n body app) = false
+is_overwrite (Fetch v n body) = false
+is_overwrite (WritePi v n body tuples) = false
+is_overwrite (FetchPi v n body tuples) = false
+is_overwrite (Overwrite dev lba change) = true
+is_overwrite Wait = false
+
+abbrev pub is_good_line : GuardKind → (size : ℕ) → List FaultLine → List Op → FaultLine → Bool
+is_good_line kind size faults ops line = is_shown_line kind size faults line && (not (may_mend ops line) && not (may_undo ops faults line))
+
+-- Each line is a flip that is shown, none can mend a tuple or undo another, and no op overwrites a stored block.
+abbrev pub shows_by_form : GuardKind → (size : ℕ) → List FaultLine → List Op → Bool
+shows_by_form kind size faults ops = list_all (is_good_line kind size faults ops) faults && not (list_any is_overwrite ops)
+
+-- ---- escapes
+
+-- Neither a `write` with the application tag FFFFh nor a tuple that an application brings.
+abbrev pub supplies_none : Op → Bool
+supplies_none (Fill seg byte) = true
+supplies_none (Put page off bytes) = true
+supplies_none (Show seg) = true
+supplies_none (Seal n body tuples app rtag) = true
+supplies_none (Write v n body app) = not (eqb app 0xFFFF)
+supplies_none (Fetch v n body) = true
+supplies_none (WritePi v n body tuples) = false
+supplies_none (FetchPi v n body tuples) = true
+supplies_none (Overwrite dev lba change) = true
+supplies_none Wait = true
+
+-- No op supplies an escape, whatever stands in the pages.
+abbrev pub escapes_none : List Op → Bool
+escapes_none ops = list_all supplies_none ops

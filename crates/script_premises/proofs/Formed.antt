@@ -1,0 +1,93 @@
+-- A bound script whose faults have the form: all that the law of its run asks.
+use Rattle.std.proofs.Common.{◌≡◌, ◌<◌, ℕ, suc, ◌*◌, ◌%◌, true, not, ◌||◌, ◌⊎◌, inl, inr, List, [], ◌∷◌, refl, sym, ap, ◌∙◌, arith}
+use Rattle.std.specs.Prelude.{All}
+use Rattle.std.specs.List.{list_all, list_any}
+use Rattle.std.proofs.lemmas.Bool.{and_parts, not-true}
+use Rattle.std.proofs.lemmas.List.Elements.{All-cons, All-nil, All-replicate}
+use Rattle.hex.specs.Hex.{IsBytes}
+use Rattle.fault_schedule.specs.declared.fault.FaultKind.{FaultKind}
+use Rattle.fault_schedule.specs.declared.fault.FaultKind.TheVariants.{Flip, Shift}
+use Rattle.fault_schedule.specs.declared.fault.FaultLine.{FaultLine}
+use Rattle.dix_adapter.specs.Ways.{shapes_of}
+use Rattle.stack_ops.specs.declared.op.Op.{Op}
+use Rattle.stack_ops.specs.declared.op.Op.TheVariants.{Fetch, FetchPi, Fill, Overwrite, Put, Seal, Show, Wait, Write, WritePi}
+use Rattle.stack_walks.specs.Overwrites.{is_overwrite as overwrites}
+use Rattle.target_answer.specs.Target.{Stored}
+use Rattle.volume_table.specs.Tables.{Table}
+use Rattle.block_path.specs.Acts.{State}
+use Rattle.script_text.specs.declared.script.Script.{Script}
+use Rattle.script_laws.specs.Keeping.{Each, IsFault, IsKind}
+use Rattle.script_ground.proofs.Calm.{all-fit, lies-in}
+use Rattle.script_ground.proofs.OverUnits.{IsBoundOver, at_first, over}
+use Rattle.whole_run.specs.Detectable.{detectable}
+use Rattle.whole_run.specs.Past.{steps_from}
+use Rattle.whole_run.specs.Settings.{Setting}
+use Rattle.whole_run.specs.UnderMap.{NoEscape}
+use Rattle.run_premises.specs.Forms.{is_good_line, is_overwrite, supplies_none}
+use Rattle.run_premises.specs.FormedRun.{IsFormedRun, IsOfBytes}
+use Rattle.script_premises.specs.FormedScript.{IsBoundTo, IsFormedScript}
+
+even : (n : ℕ) → (n ≡ 512) ⊎ (n ≡ 4096) → n % 2 ≡ 0
+even n (inl e) = omega arith
+even n (inr e) = omega arith
+
+are-bytes : (xs : List ℕ) → IsBytes xs → All (λ x. x < 256) xs
+are-bytes [] h = All-nil (λ (x : ℕ). x < 256)
+are-bytes (x ∷ xs) h = All-cons (λ (y : ℕ). y < 256) x xs (h 0) (are-bytes xs (λ i. h (suc i)))
+
+kind-bytes : (size : ℕ) (f : FaultLine) (kind : FaultKind) → IsKind size f kind → IsOfBytes kind
+kind-bytes size f (Flip off bytes) h = are-bytes bytes h.are_bytes
+kind-bytes size f (Shift by) h = tt
+
+lines-bytes : (size : ℕ) (ops : List Op) (faults : List FaultLine) → Each (IsFault size ops) faults → All (λ (line : FaultLine). IsOfBytes line.kind) faults
+lines-bytes size ops [] h = All-nil (λ (line : FaultLine). IsOfBytes line.kind)
+lines-bytes size ops (f ∷ faults) h = All-cons (λ (line : FaultLine). IsOfBytes line.kind) f faults (kind-bytes size f f.kind h.0.kind_is) (lines-bytes size ops faults h.1)
+
+same-test : (op : Op) → is_overwrite op ≡ overwrites op
+same-test (Fill seg byte) = refl
+same-test (Put page off bytes) = refl
+same-test (Show seg) = refl
+same-test (Seal n body tuples app rtag) = refl
+same-test (Write v n body app) = refl
+same-test (Fetch v n body) = refl
+same-test (WritePi v n body tuples) = refl
+same-test (FetchPi v n body tuples) = refl
+same-test (Overwrite dev lba change) = refl
+same-test Wait = refl
+
+same-tests : (ops : List Op) → list_any is_overwrite ops ≡ list_any overwrites ops
+same-tests [] = refl
+same-tests (op ∷ ops) = ap (λ b. b || list_any is_overwrite ops) (same-test op) ∙ ap (λ b. overwrites op || b) (same-tests ops)
+
+-- the law of a run
+abbrev pub FormLaw : Type 0
+FormLaw = (m : Setting) (ops : List Op) (opening : State) → IsFormedRun m ops opening → detectable m (steps_from m 1 ops) opening ≡ true
+
+-- and that of escapes
+abbrev pub EscapeLaw : Type 0
+EscapeLaw = (m : Setting) (ops : List Op) (opening : State) → list_all supplies_none ops ≡ true → NoEscape m 1 ops opening
+
+bound-over : (s : Script) (t : Table) (us : List Stored) → IsBoundTo s t us → IsBoundOver s t us
+bound-over s t us b = record { keeps = b.keeps; lines = b.lines; made = b.made; bound = b.bound; stored = b.stored }
+
+pub formed-run : (s : Script) (t : Table) (us : List Stored) → IsBoundTo s t us → IsFormedScript s t us → IsFormedRun (over s t (shapes_of us)) s.ops (at_first s us)
+formed-run s t us b p =
+    let o = bound-over s t us b in
+    let form = and_parts (list_all (is_good_line s.mode.kind s.block s.faults s.ops) s.faults) (not (list_any is_overwrite s.ops)) p.form in
+    record {
+      checked = record { ty = p.ty; dix = p.dix; dif = p.dif; protect = p.protect; device = refl };
+      even = even s.block b.keeps.block_is;
+      flips = lines-bytes s.block s.ops s.faults b.keeps.faults_are;
+      pages = All-replicate (λ x. x < 256) (4096 * s.pages) 0 (omega arith);
+      lies = lies-in s t us o p.bytes;
+      clean = p.clean;
+      fit = all-fit s t us o (sym (same-tests s.ops) ∙ not-true _ form.1);
+      no_escape = p.no_escape;
+      form = p.form;
+    }
+
+pub formed : (s : Script) (t : Table) (us : List Stored) → FormLaw → IsBoundTo s t us → IsFormedScript s t us → detectable (over s t (shapes_of us)) (steps_from (over s t (shapes_of us)) 1 s.ops) (at_first s us) ≡ true
+formed s t us law b p = law (over s t (shapes_of us)) s.ops (at_first s us) (formed-run s t us b p)
+
+pub escapes : (s : Script) (t : Table) (us : List Stored) → EscapeLaw → list_all supplies_none s.ops ≡ true → NoEscape (over s t (shapes_of us)) 1 s.ops (at_first s us)
+escapes s t us none h = none (over s t (shapes_of us)) s.ops (at_first s us) h

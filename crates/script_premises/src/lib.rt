@@ -1,0 +1,51 @@
+//! Premises of the laws of a script's run that are read off the script: its faults are shown by their form, no write
+//! supplies an escape, and what was formatted is clean.
+#![tactic(auto)]
+
+ghost use Rattle.std.specs.Prelude.{ℕ, ◌≡◌, ◌≤◌, ◌<◌, true, false, List, length, map, All};
+ghost use Rattle.pi_tuple.specs.Finds.{is_zero};
+ghost use Rattle.dix_adapter.specs.Ways.{blocks_told, cell_in, shapes_of};
+ghost use Rattle.rig_discovery.specs.Discovery.{info_of};
+ghost use Rattle.target_answer.specs.Image.{formatted, units_in};
+ghost use Rattle.target_answer.specs.Target.{Stored};
+ghost use Rattle.target_answer.specs.declared.units.UnitSpec.{UnitSpec as AnyUnit};
+ghost use Rattle.volume_table.specs.Tables.{Table};
+ghost use Rattle.run_laws.specs.ShownRun.{DevicesAreClean};
+ghost use Rattle.whole_run.specs.Detectable.{detectable};
+ghost use Rattle.whole_run.specs.Past.{steps_from};
+ghost use Rattle.whole_run.specs.PlainMap.{as_expected};
+ghost use Rattle.whole_run.specs.Settings.{Setting};
+ghost use Rattle.whole_run.specs.UnderMap.{NoEscape};
+ghost use Rattle.script_stack.specs.Followed.{none_fails, opening_of, setting_of};
+ghost use Rattle.script_text.specs.declared.script.Script.{Script as AnyScript};
+ghost use Rattle.run_premises.specs.Forms.{escapes_none};
+ghost use Rattle.script_premises.specs.FormedScript.{IsBoundTo, IsFormedScript};
+
+use run_premises::{faults_are_shown_by_their_form, no_write_supplies_an_escape_by_its_form};
+
+/// A law: of a script that was read and bound, whose faults have the form, over a clean volume and with no escape: each
+/// fault can be shown.
+pub fn a_script_is_shown_by_its_form()
+    ensures { (s : AnyScript) (t : Table) (us : List Stored) → IsBoundTo s t us → IsFormedScript s t us
+        → detectable (setting_of s t (shapes_of us) none_fails) (steps_from (setting_of s t (shapes_of us) none_fails) 1 s.ops) (opening_of s (shapes_of us) (blocks_told us)) ≡ true }
+{
+    faults_are_shown_by_their_form();
+}
+
+/// A law: no write of a script supplies an escape where no `write` has the application tag FFFFh and there is no
+/// `writepi`.
+pub fn a_script_supplies_no_escape_by_its_form()
+    ensures { (s : AnyScript) (t : Table) (us : List Stored) → escapes_none s.ops ≡ true
+        → NoEscape (setting_of s t (shapes_of us) none_fails) 1 s.ops (opening_of s (shapes_of us) (blocks_told us)) }
+{
+    no_write_supplies_an_escape_by_its_form();
+}
+
+/// A law: in the formatted image of at most eight units each block of each device with tuples is clean, for every
+/// volume on them, where the application tag 0 is the expected one.
+pub fn a_formatted_image_is_clean()
+    ensures clean { (m : Setting) (units : List AnyUnit) → length units ≤ 8 → is_zero m.ty ≡ false → as_expected m 0 ≡ true → m.site.cell ≡ cell_in units
+        → DevicesAreClean m (map info_of units) (blocks_told (units_in units (formatted units))) }
+    ensures shapes { (units : List AnyUnit) → length units ≤ 8 → shapes_of (units_in units (formatted units)) ≡ units }
+    ensures bytes { (units : List AnyUnit) → length units ≤ 8 → All (All (λ x. x < 256)) (blocks_told (units_in units (formatted units))) }
+{}
