@@ -94,9 +94,13 @@ brings_tuples Wait = false
 abbrev pub may_mend : List Op → FaultLine → Bool
 may_mend ops line = is_same line.at HostToAdapter && brings_tuples (op_of ops line.op)
 
--- A line alters the virtual block on its way to the medium, in any op.
+-- The line alters the virtual block on its way to the medium.
+abbrev pub stores : List Op → (v : ℕ) → FaultLine → Bool
+stores ops v line = is_same line.at TargetToMedium && eqb (virt_of ops line) v
+
+-- So does one of these, in any op.
 abbrev pub is_stored_altered : List Op → List FaultLine → (v : ℕ) → Bool
-is_stored_altered ops faults v = list_any (λ line. is_same line.at TargetToMedium && eqb (virt_of ops line) v) faults
+is_stored_altered ops faults v = list_any (stores ops v) faults
 
 -- A flip on the way from the medium may undo one on the way there.
 abbrev pub may_undo : List Op → List FaultLine → FaultLine → Bool

@@ -25,6 +25,10 @@ ghost use Rattle.run_laws.specs.ShownRun.{DevicesAreClean, HasCells, LiesOn};
 ghost use Rattle.run_premises.specs.Forms.{escapes_none, is_near, is_seen, mask_of};
 ghost use Rattle.run_premises.specs.FormedRun.{IsFormedRun, IsOfBytes};
 
+mod form;
+
+pub use form::{escapes_none, shows_by_form};
+
 /// A law: bytes of data and guard that are altered within two neighbouring ones, which aren't both xored with FFh, are
 /// seen by either guard.
 pub fn near_flips_are_seen()

@@ -1,0 +1,229 @@
+//! Whether the lines of a script's faults have the form under which each of them is shown.
+
+ghost use Rattle.std.specs.Prelude.{◌≡◌, ◌+◌, ◌∷◌, false, length, IfOk};
+ghost use Rattle.std.specs.List.{list_all, list_any};
+ghost use Rattle.whole_run.specs.FirstLayer.{is_flip};
+ghost use Rattle.run_premises.specs.Forms.{brings_tuples, escapes_none, first_virt, is_good_line, is_near, is_none, is_overwrite, is_seen, is_shown, is_shown_line, is_stored_altered, kind_at, label_of, may_mend, may_undo, op_of, shows_by_form, stores, supplies_none, virt_of};
+
+use fault_schedule::{Crossing, FaultKind, FaultLine, FaultList, Label, Tamper};
+use pi_guard::{GuardKind, crc16};
+use stack_ops::{Op, OpList};
+use std::alloc::{AllocError, Global};
+
+fn are_none(bytes: &[u8]) -> bool
+    ensures { result ≡ list_all is_none bytes.now }
+{
+    bytes.iter().all(|byte| *byte == 0)
+}
+
+/// Whether a byte that isn't 0 and those behind it are near.
+fn begins_near(first: u8, rest: &[u8]) -> bool
+    requires { is_none first ≡ false }
+    ensures { result ≡ is_near (first ∷ rest.now) }
+{
+    match rest {
+        [] => true,
+        [second, more @ ..] => !(first == 255 && *second == 255) && are_none(more),
+    }
+}
+
+fn is_near(mask: &[u8]) -> bool
+    ensures { result ≡ is_near mask.now }
+{
+    let mut rest = mask;
+    while let [first, more @ ..] = rest {
+        if *first != 0 {
+            return begins_near(*first, more);
+        }
+        rest = more;
+    }
+    false
+}
+
+fn is_seen(kind: GuardKind, mask: &[u8]) -> bool
+    ensures { result ≡ is_seen kind mask.now }
+{
+    match kind {
+        GuardKind::Crc => crc16(mask) != 0,
+        GuardKind::Ip => is_near(mask),
+    }
+}
+
+fn is_shown(size: usize, kind: GuardKind, mask: &[u8]) -> bool
+    requires { length mask.now ≡ size + 8 }
+    ensures { result ≡ is_shown size kind mask.now }
+{
+    let (front, tags) = mask.split_at(size + 2);
+    are_none(tags) && is_seen(kind, front)
+}
+
+fn kind_at(kind: GuardKind, at: Crossing) -> GuardKind
+    ensures { result ≡ kind_at kind at }
+{
+    match at {
+        Crossing::HostToAdapter | Crossing::AdapterToHost => kind,
+        _ => GuardKind::Crc,
+    }
+}
+
+fn is_flip(kind: &FaultKind) -> bool
+    ensures { result ≡ is_flip kind.now }
+{
+    match kind {
+        FaultKind::Flip { .. } => true,
+        FaultKind::Shift { .. } => false,
+    }
+}
+
+/// Whether a line is no shift, and all lines of its block at its crossing are shown. The bytes are room for a frame.
+fn is_shown_line(
+    kind: GuardKind,
+    size: usize,
+    tamper: &Tamper,
+    line: &FaultLine,
+    frame: &mut [u8],
+) -> bool
+    requires { length frame.old ≡ size + 8 }
+    ensures shown { result ≡ is_shown_line kind size tamper.now line.now }
+    ensures room { length frame.new ≡ size + 8 }
+{
+    let label = Label {
+        op: line.op,
+        k: line.k,
+    };
+    frame.fill(0);
+    tamper.apply(line.at, label, frame);
+    is_flip(&line.kind) && is_shown(size, kind_at(kind, line.at), frame)
+}
+
+fn first_virt(ops: &[Op], number: u32) -> u64
+    ensures { result ≡ first_virt (op_of ops.now number) }
+{
+    match ops.get((number as usize).saturating_sub(1)) {
+        Some(Op::Write { v, .. })
+        | Some(Op::Fetch { v, .. })
+        | Some(Op::WritePi { v, .. })
+        | Some(Op::FetchPi { v, .. }) => *v,
+        _ => 0,
+    }
+}
+
+fn brings_tuples(ops: &[Op], number: u32) -> bool
+    ensures { result ≡ brings_tuples (op_of ops.now number) }
+{
+    matches!(
+        ops.get((number as usize).saturating_sub(1)),
+        Some(Op::WritePi { .. })
+    )
+}
+
+fn virt_of(ops: &[Op], line: &FaultLine) -> u128
+    ensures { result ≡ virt_of ops.now line.now }
+{
+    first_virt(ops, line.op) as u128 + line.k as u128
+}
+
+fn stores(ops: &[Op], line: &FaultLine, virt: u128) -> bool
+    ensures { result ≡ stores ops.now virt line.now }
+{
+    line.at == Crossing::TargetToMedium && virt_of(ops, line) == virt
+}
+
+fn is_stored_altered(ops: &[Op], faults: &[FaultLine], virt: u128) -> bool
+    ensures { result ≡ is_stored_altered ops.now faults.now virt }
+{
+    faults.iter().any(|line| stores(ops, line, virt))
+}
+
+fn may_mend(ops: &[Op], line: &FaultLine) -> bool
+    ensures { result ≡ may_mend ops.now line.now }
+{
+    line.at == Crossing::HostToAdapter && brings_tuples(ops, line.op)
+}
+
+fn may_undo(ops: &[Op], faults: &[FaultLine], line: &FaultLine) -> bool
+    ensures { result ≡ may_undo ops.now faults.now line.now }
+{
+    line.at == Crossing::MediumToTarget && is_stored_altered(ops, faults, virt_of(ops, line))
+}
+
+fn is_overwrite(op: &Op) -> bool
+    ensures { result ≡ is_overwrite op.now }
+{
+    matches!(op, Op::Overwrite { .. })
+}
+
+fn has_overwrite(ops: &[Op]) -> bool
+    ensures { result ≡ list_any is_overwrite ops.now }
+{
+    ops.iter().any(|op| is_overwrite(op))
+}
+
+/// Whether all lines are good; the bytes are room for a frame.
+fn are_good(
+    kind: GuardKind,
+    size: usize,
+    tamper: &Tamper,
+    lines: &[FaultLine],
+    ops: &[Op],
+    frame: &mut [u8],
+) -> bool
+    requires room { length frame.old ≡ size + 8 }
+    requires armed { tamper.now ≡ lines.now }
+    ensures { result ≡ list_all (is_good_line kind size lines.now ops.now) lines.now }
+{
+    for line in lines {
+        let shown = is_shown_line(kind, size, tamper, line, frame);
+        if !shown || may_mend(ops, line) || may_undo(ops, lines, line) {
+            return false;
+        }
+    }
+    true
+}
+
+/// Whether faults are shown by their form, where the host's guard is of this kind and a block has so many bytes of data:
+/// each line is a flip that the guard at its crossing shows together with all lines of the block there; none is of a
+/// block of a `writepi` on its way to the adapter; none alters a block on its way from the medium that another alters
+/// on its way there; and no op overwrites a stored block. Then, in type 1 with tuples passed all the way and protect
+/// field 001b, over a clean volume and with no escape, each fault can be shown. The time is the square of the number of
+/// lines, which is at most 256. Its one failure is want of memory.
+pub fn shows_by_form(
+    alloc: Global,
+    kind: GuardKind,
+    block: u32,
+    faults: &FaultList,
+    ops: &OpList,
+) -> Result<bool, AllocError>
+    ensures { IfOk result (λ shows. shows ≡ shows_by_form kind block faults.now ops.now) }
+{
+    let size = block as usize;
+    let tamper = Tamper::new(faults.copy(alloc)?);
+    let mut frame = vec![in alloc; 0u8; size + 8]?;
+    let good = are_good(
+        kind,
+        size,
+        &tamper,
+        faults.as_slice(),
+        ops.as_slice(),
+        frame.as_mut_slice(),
+    );
+    Ok(good && !has_overwrite(ops.as_slice()))
+}
+
+fn supplies_none(op: &Op) -> bool
+    ensures { result ≡ supplies_none op.now }
+{
+    match op {
+        Op::Write { app, .. } => *app != 0xFFFF,
+        Op::WritePi { .. } => false,
+        _ => true,
+    }
+}
+
+/// Whether no op supplies an escape by its form: no `write` has the application tag FFFFh, and no application brings
+/// tuples.
+pub fn escapes_none(ops: &OpList) -> bool
+    ensures { result ≡ escapes_none ops.now }
+{
+    ops.as_slice().iter().all(|op| supplies_none(op))
+}
