@@ -3,6 +3,7 @@
 #![tactic(auto)]
 
 mod binding;
+mod forming;
 mod generated;
 mod reading;
 mod table;

@@ -1,6 +1,7 @@
 //! The lines of the table.
 
 use crate::binding::{Target, bound_row};
+use crate::forming::formed_row;
 use crate::generated::generated_row;
 use crate::reading::{numbers_row, printed_row, read_row};
 use pi_tuple::PiType;
@@ -98,6 +99,7 @@ impl Judge for Table {
             "at" => read_row(alloc, &self.behind(alloc, rest)?),
             "bind" => self.bound(alloc, rest, Target::Volume),
             "mirror" => self.bound(alloc, rest, Target::Mirror),
+            "form" => formed_row(alloc, &self.behind(alloc, rest)?),
             "prints" => printed_row(alloc, &self.text, &text_of(alloc, rest)?),
             "numbers" => numbers_row(alloc, &text_of(alloc, rest)?),
             _ => generated_row(alloc, word, rest),
