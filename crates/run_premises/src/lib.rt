@@ -1,6 +1,7 @@
-//! Which scheduled faults tuples can show, read off the lines of the faults and the ops.
+//! What the laws of a run ask, read off the lines of the faults and the ops: whether tuples can show each fault, whether
+//! a write may supply an escape, and what a run without faults leaves clean.
 //!
-//! The laws hold in type 1 with tuples that are passed all the way and protect field 001b.
+//! What it says of faults holds in type 1 with tuples that are passed all the way and protect field 001b.
 #![tactic(auto)]
 
 ghost use Rattle.std.specs.Prelude.{ℕ, ◌≡◌, ◌+◌, ◌<◌, ◌↔◌, true, false, List, All, length, take};
