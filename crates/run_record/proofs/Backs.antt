@@ -229,4 +229,5 @@ backs m ops opening es h =
       caused = each_of m es (OfRequest (HasEnd es)) (λ t h. h.caused) answers ts w.twins;
       spoiled = each_of m es (OfRead (IsFound m es)) (λ t h. h.spoiled) answers ts w.twins;
       replied = w.replies;
+      checked = refl;
     }

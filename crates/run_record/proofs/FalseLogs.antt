@@ -1,13 +1,15 @@
 use Rattle.std.proofs.Common.{◌≡◌, ℕ, List, [], ◌∷◌, get_or, Option, Some, None, refl, ap, ◌∙◌, arith, inl, inr}
-use Rattle.std.specs.Prelude.{replicate}
+use Rattle.std.specs.Prelude.{drop, replicate}
 use Rattle.pi_guard.specs.Guards.{crc, ip}
-use Rattle.pi_tuple.specs.declared.checks.Check.TheVariants.{RefTag}
+use Rattle.pi_tuple.specs.declared.checks.Check.TheVariants.{Guard, RefTag}
 use Rattle.page_pool.specs.Places.{run}
 use Rattle.cdb_codec.specs.Forms.{form}
 use Rattle.cdb_codec.specs.declared.command.Cdb.TheVariants.{Read16, Write16}
 use Rattle.fault_schedule.specs.declared.Label.{Label}
+use Rattle.fault_schedule.specs.declared.fault.Crossing.TheVariants.{HostToAdapter}
 use Rattle.integrity_payload.specs.declared.payload.Owner.TheVariants.{Block as OfBlock}
-use Rattle.bio_core.specs.declared.fate.Why.TheVariants.{Adapter, Medium}
+use Rattle.bio_core.specs.declared.fate.Why.{Why}
+use Rattle.bio_core.specs.declared.fate.Why.TheVariants.{Adapter, Medium, Short}
 use Rattle.rig_api.specs.Log.{Entry}
 use Rattle.stack_ops.specs.declared.op.Op.{Op}
 use Rattle.stack_ops.specs.declared.op.Op.TheVariants.{Fetch, Show, Write}
@@ -17,12 +19,13 @@ use Rattle.block_path.specs.Blocks.{Asked}
 use Rattle.block_path.specs.WayIn.{from_wire}
 use Rattle.block_path.specs.WayOut.{to_wire}
 use Rattle.whole_run.specs.Settings.{block_of, route}
-use Rattle.whole_run.proofs.ScriptRows.{formatted, opening, seg}
+use Rattle.whole_run.specs.ReadsAs.{listed_in}
+use Rattle.whole_run.proofs.ScriptRows.{faulty, flip, formatted, opening, seg}
 use Rattle.run_record.specs.BackedRun.{Backed, host_finds}
 use Rattle.run_record.specs.TakenWalk.{frame_in}
 use Rattle.run_record.proofs.RecordRows.{entry, fields, labels, m, sense}
 
--- False logs and replies, one for each sentence that refuses them.
+-- False logs and replies, each by the number of the sentence that refuses it.
 
 abbrev one_write : List Op
 one_write = Write 0 1 (seg 0 512) 0 ∷ []
@@ -103,3 +106,17 @@ bytes_of (Failed ∷ replies) = []
 other_bytes : Backed m (Show (record { page = 0; off = 0; len = 1 }) ∷ []) opening [] (Shown (7 ∷ []) ∷ []) → ⊥
 unfolding crc ip to_wire from_wire run
 other_bytes h = let e : ◌≡◌ {A = ℕ} 7 0 = ap (λ replies. get_or (bytes_of replies) 0 0) h.replied in omega (arith, e)
+
+-- why the first block of the first request is listed
+abbrev first_listed : List Reply → Option Why
+first_listed replies = listed_in (get_or replies 0 Silent) 0
+
+-- 11: a block of a write is listed for the adapter, which finds nothing in its frame
+invented_guard : Backed m one_write opening [] (Bad (record { k = 0; why = Adapter Guard } ∷ []) ∷ []) → ⊥
+unfolding crc ip to_wire from_wire run
+invented_guard h = let e : Some (Adapter Guard) ≡ Some Short = ap first_listed h.checked in grind (arith, e)
+
+-- 11: a block of a write is sent in whose frame the adapter finds another guard
+unchecked_guard : Backed (faulty (flip 1 0 HostToAdapter 0 1)) one_write opening (out 1 ((1 ∷ drop 1 (formatted 2)) ∷ []) ∷ []) (Whole ∷ []) → ⊥
+unfolding crc ip to_wire from_wire run
+unchecked_guard h = let e : None ≡ Some (Adapter Guard) = ap first_listed h.checked in grind (arith, e)

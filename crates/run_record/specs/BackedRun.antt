@@ -15,9 +15,11 @@ use Rattle.block_path.specs.Blocks.{Answer, Asked, Sent}
 use Rattle.block_path.specs.declared.route.Route.{Route}
 use Rattle.block_path.specs.Serial.{plain, plain_tells}
 use Rattle.block_path.specs.WayIn.{adapter_finds_in, owner_finds, owner_says}
+use Rattle.whole_run.specs.ScriptWalk.{script_replies}
 use Rattle.whole_run.specs.Settings.{Setting}
 use Rattle.run_record.specs.Records.{Moved, NoTwo, end_for, entry_for, recorded, writes_at}
 use Rattle.run_record.specs.TakenWalk.{landed_of, taken_from, taken_replies}
+use Rattle.run_record.specs.ToldRun.{told}
 
 -- A log backs replies: what was read came out of commands of this run, and each answer has its cause there.
 
@@ -119,6 +121,8 @@ module _ (m : Setting) (ops : List Op) (opening : State) (es : List Sent) (repli
     pub spoiled : Each (OfRead (IsFound m es)) answered
     -- 10 The replies with all shown bytes are those of the walk.
     pub replied : replies ≡ taken_replies m es 1 ops replies opening
+    -- 11 They are those of the walk over a device that answers as the log says, too. There the adapter checks each block of a write: it is listed with what is found in its frame, and nothing is sent of it; else it has an entry or an end.
+    pub checked : replies ≡ script_replies (told m es) ops opening
 
 -- the same of a rig's log
 abbrev pub Backed : Setting → List Op → State → List Entry → List Reply → Type 0
