@@ -1,5 +1,5 @@
 -- What the steps of a script's stack come to at its end, by the laws of a run over any rig and over one that tells its blocks.
-use Rattle.std.proofs.Common.{ℕ, ◌≡◌, ◌+◌, ◌*◌, true, List, [], length, drop, map, Option, Some, None, sym, ap, subst, ◌∙◌}
+use Rattle.std.proofs.Common.{ℕ, ◌≡◌, ◌+◌, ◌*◌, true, List, [], length, drop, map, Option, Some, None, refl, sym, ap, subst, ◌∙◌}
 use Rattle.std.specs.Prelude.{is_some}
 use Rattle.std.proofs.lemmas.Option.{none-some}
 use Rattle.dix_base.specs.Told.{Calm}
@@ -95,7 +95,7 @@ sent_by s t devices words begun r image image' old new few all o =
     let opening = begun_of s (map unit_of devices) [] in
     sends_for (by_words s words) t begun r old.log new.log o.goes.more few all
     (record { plan = record { is = o.plan.is; queues = o.plan.queues }; first = o.first; stays = o.stays; sent = o.sent; records = o.goes.records; stack = o.stack; ended = o.ended }) m (4096 * s.pages) opening (length old.log) new.standing new.log
-    (o.went.walks m (4096 * s.pages) opening (length old.log) (o.walks (failed_in r.replies.items) [] old.standing old.log o.sizes))
+    (o.went.walks m (4096 * s.pages) opening (length old.log) (o.walks (failed_in r.replies.items) [] old.standing old.log o.sizes)) refl refl
 
 -- the law of lines that name the medium
 abbrev pub MediumLaw : Type 0

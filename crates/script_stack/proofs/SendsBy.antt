@@ -1,10 +1,14 @@
 -- What steps send, one after another.
 use Rattle.std.proofs.Common.{◌≡◌, ◌≤◌, ℕ, zero, suc, List, [], ◌∷◌, ◌++◌, length, get_or, refl, sym, ap, subst, ◌∙◌, arith, append-nil, append_assoc}
-use Rattle.std.specs.List.{All}
+use Rattle.std.specs.List.{All, AllByRecursion as Each}
 use Rattle.std.proofs.lemmas.List.{get_or_past}
 use Rattle.rig_api.specs.Log.{Entry as Record}
 use Rattle.rig_api.specs.Telling.{Standing}
 use Rattle.block_path.specs.Acts.{State}
+use Rattle.block_path.specs.declared.mode.Mode.{Mode}
+use Rattle.dix_adapter.specs.Groups.{mode_of}
+use Rattle.pi_tuple.specs.declared.checks.PiType.{PiType}
+use Rattle.run_record.proofs.Labelled.{each_both}
 use Rattle.whole_run.specs.Settings.{Setting}
 use Rattle.bio_core.specs.declared.request.Io.{Io}
 use Rattle.merge_queue.specs.declared.limits.Limits.{Limits}
@@ -21,7 +25,7 @@ use Rattle.volume_table.specs.Tables.{Table}
 use Rattle.script_text.specs.declared.script.Script.{Script}
 use Rattle.stack_core.specs.declared.sheet.Sheet.{Sheet}
 use Rattle.stack_core.specs.declared.stack.Stack.{Stack}
-use Rattle.stack_core.specs.OnRecord.{AreRecords, HasQueues, HasSent, ListsNone, SendsOn}
+use Rattle.stack_core.specs.OnRecord.{AreRecords, HasQueues, HasSent, IsFormed, ListsNone, SendsOn}
 use Rattle.stack_walks.specs.Requests.{requests_from}
 use Rattle.stack_walks.specs.Sheets.{plan_of}
 use Rattle.stack_walks.specs.Shifts.{shifted_by}
@@ -30,18 +34,19 @@ use Rattle.stack_core.specs.Walking.{Walks}
 use Rattle.script_stack.specs.Sends.{IsPlanFor, SendsBy, SendsFor, entries_of}
 
 pub sends_nowhere : (es : List Entry) (s : Stack) (log : List Record) → SendsBy es s s log log
-sends_nowhere es s log = record { more = []; records = sym (append-nil log); on = λ before x. subst (HasSent es s) (sym (append-nil before)) x }
+sends_nowhere es s log = record { more = []; records = sym (append-nil log); formed = tt; on = λ before x. subst (HasSent es s) (sym (append-nil before)) x }
 
-pub sends_then : (es : List Entry) (s s' s'' : Stack) (log log' log'' : List Record) → SendsBy es s s' log log' → SendsBy es s' s'' log' log'' → SendsBy es s s'' log log''
-sends_then es s s' s'' log log' log'' a b = record {
+pub sends_then : (es : List Entry) (s s' s'' : Stack) (log log' log'' : List Record) → Stays s s' → SendsBy es s s' log log' → SendsBy es s' s'' log' log'' → SendsBy es s s'' log log''
+sends_then es s s' s'' log log' log'' stays a b = record {
   more = a.more ++ b.more;
   records = b.records ∙ (ap (λ l. l ++ b.more) a.records ∙ append_assoc log a.more b.more);
+  formed = each_both (IsFormed (mode_of s.adapter) s.adapter.ty) a.more b.more a.formed (subst (λ x. Each (IsFormed (mode_of x) x.ty) b.more) stays.adapter b.formed);
   on = λ before x. subst (HasSent es s'') (append_assoc before a.more b.more) (b.on (before ++ a.more) (a.on before x));
 }
 
 -- one step, where its word and its cut are the schedule's next
 pub sends_once : (es : List Entry) (word cut : ℕ) (s s' : Stack) (log log' : List Record) → entry_at es s.machine.steps ≡ record { word = word; cut = cut } → SendsOn word cut s s' log log' → SendsBy es s s' log log'
-sends_once es word cut s s' log log' e a = record { more = a.more; records = a.records; on = λ before x. a.on es before e x }
+sends_once es word cut s s' log log' e a = record { more = a.more; records = a.records; formed = a.formed; on = λ before x. a.on es before e x }
 
 -- what stands behind a list is one list
 pub append_left : {A : Type 0} (xs ys zs : List A) → xs ++ ys ≡ xs ++ zs → ys ≡ zs
@@ -102,6 +107,10 @@ plan_is s t sh ops shifted ios table limits queues = record {
   queues = queues;
 }
 
+-- the same of an equal mode and type
+formed_as : (mode mode' : Mode) (ty ty' : PiType) (log log' : List Record) → mode ≡ mode' → ty ≡ ty' → log ≡ log' → Each (IsFormed mode ty) log → Each (IsFormed mode' ty') log'
+formed_as mode mode' ty ty' log log' e f g h = subst (λ x. Each (IsFormed x ty') log') e (subst (λ x. Each (IsFormed mode x) log') f (subst (Each (IsFormed mode ty)) g h))
+
 -- what a finished stack has sent, by the law
 abbrev pub FewLaw : Type 0
 FewLaw = (es : List Entry) (s : Stack) (log : List Record) → IsStack s → HasSent es s log → length log ≤ blocks_of_requests (plan_in s.sheet).requests
@@ -120,8 +129,8 @@ pub record IsWhole (s : Script) (t : Table) (begun r : Stack) (log log' more : L
   pub stack : IsStack r
   pub ended : (v : View) → Holds (plan_in r.sheet) r.machine v → enabled (plan_in r.sheet) v ≡ []
 
-pub sends_for : (s : Script) (t : Table) (begun r : Stack) (log log' more : List Record) → FewLaw → AllLaw → IsWhole s t begun r log log' more → (m : Setting) (n : ℕ) (opening : State) (first : ℕ) (st : Standing) (whole : List Record) → Walks m n opening first r st whole → SendsFor s t more r.replies.items
-sends_for s t begun r log log' more few all w m n opening first st whole walks =
+pub sends_for : (s : Script) (t : Table) (begun r : Stack) (log log' more : List Record) → FewLaw → AllLaw → IsWhole s t begun r log log' more → (m : Setting) (n : ℕ) (opening : State) (first : ℕ) (st : Standing) (whole : List Record) → Walks m n opening first r st whole → m.mode ≡ s.mode → m.ty ≡ t.ty → SendsFor s t more r.replies.items
+sends_for s t begun r log log' more few all w m n opening first st whole walks e f =
     let es = entries_of s.schedule in
     let sent = w.sent w.first.shows.taken in
     let same : sent.more ≡ more = append_left log sent.more more (sym sent.records ∙ w.records) in
@@ -132,6 +141,7 @@ sends_for s t begun r log log' more few all w m n opening first st whole walks =
       plan = plan_in r.sheet;
       is_plan = plan;
       few = few es r more w.stack has;
+      formed = formed_as (mode_of begun.adapter) s.mode begun.adapter.ty t.ty sent.more more (ap mode_of (sym w.stays.adapter) ∙ (sym walks.over.mode ∙ e)) (ap (λ x. x.ty) (sym w.stays.adapter) ∙ (sym walks.over.ty ∙ f)) same sent.formed;
       sent = each;
       pieces = λ none u. few_pieces (plan_in r.sheet) es more plan.queues u (each none);
     }

@@ -32,6 +32,7 @@ sends_own s words t log replies h = record {
   plan = h.plan;
   is_plan = record { is = h.is_plan.is; queues = h.is_plan.queues };
   few = h.few;
+  formed = h.formed;
   sent = h.sent;
   pieces = h.pieces;
 }

@@ -1,6 +1,6 @@
 -- What a script's run sends, by its requests, its volume and its schedule.
 use Rattle.std.specs.Prelude.{◌≡◌, ◌≤◌, ℕ, List, [], ◌∷◌, ◌++◌, length}
-use Rattle.std.specs.List.{All}
+use Rattle.std.specs.List.{All, AllByRecursion as Each}
 use Rattle.rig_api.specs.Log.{Entry as Record}
 use Rattle.stack_ops.specs.declared.reply.Reply.{Reply}
 use Rattle.stack_view.specs.Measure.{greatest_pieces}
@@ -8,7 +8,8 @@ use Rattle.stack_view.specs.Plan.{Plan}
 use Rattle.stack_view.specs.Runs.{Entry, blocks_of_requests, sends_of}
 use Rattle.volume_table.specs.Tables.{Table}
 use Rattle.script_text.specs.declared.script.Script.{Script}
-use Rattle.stack_core.specs.OnRecord.{AreRecords, HasQueues, HasSent, ListsNone}
+use Rattle.dix_adapter.specs.Groups.{mode_of}
+use Rattle.stack_core.specs.OnRecord.{AreRecords, HasQueues, HasSent, IsFormed, ListsNone}
 use Rattle.stack_walks.specs.Requests.{requests_from}
 use Rattle.stack_walks.specs.Sheets.{plan_of}
 use Rattle.stack_walks.specs.Shifts.{shifted_by}
@@ -32,18 +33,20 @@ pub record IsPlanFor (s : Script) (t : Table) (p : Plan) : Type 0 where
   pub is : p ≡ plan_for s t p.devices
   pub queues : HasQueues p
 
--- The records of a run are at most as many as its requests have blocks. Where the replies list no block they are, in order and one for one, those of the groups that are sent where all blocks are good; so where besides no entry of the schedule cuts, they are at most as many as the greatest pieces of the requests.
+-- The records of a run are at most as many as its requests have blocks. Each is of a READ or WRITE in the form that the script's mode and the volume's type call for. Where the replies list no block they are, in order and one for one, those of the groups that are sent where all blocks are good; so where besides no entry of the schedule cuts, they are at most as many as the greatest pieces of the requests.
 pub record SendsFor (s : Script) (t : Table) (log : List Record) (replies : List Reply) : Type 0 where
   pub plan : Plan
   pub is_plan : IsPlanFor s t plan
   pub few : length log ≤ blocks_of_requests plan.requests
+  pub formed : Each (IsFormed s.mode t.ty) log
   pub sent : ListsNone replies → AreRecords (sends_of plan (entries_of s.schedule)) log
   pub pieces : ListsNone replies → All (λ e. e.cut ≡ 0) (entries_of s.schedule) → length log ≤ greatest_pieces plan 0 plan.requests
 
 -- ---- some steps
 
--- The stack goes on by a schedule, and these records are made.
+-- The stack goes on by a schedule, and these records are made, each of a command in the form that the adapter calls for.
 pub record SendsBy (es : List Entry) (old new : Stack) (log log' : List Record) : Type 0 where
   pub more : List Record
   pub records : log' ≡ log ++ more
+  pub formed : Each (IsFormed (mode_of old.adapter) old.adapter.ty) more
   pub on : (before : List Record) → HasSent es old before → HasSent es new (before ++ more)

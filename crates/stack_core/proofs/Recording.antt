@@ -11,13 +11,14 @@ use Rattle.cdb_codec.proofs.Inverse.{decoded_form}
 use Rattle.dix_adapter.specs.declared.adapter.Adapter.{Adapter}
 use Rattle.dix_adapter.specs.Carried.{any_fails, command_for, command_of, way_of}
 use Rattle.dix_adapter.specs.Groups as Carry
+use Rattle.dix_adapter.specs.Groups.{mode_of}
 use Rattle.dix_adapter.proofs.Asking.{asked-for, count-is, lba-is}
 use Rattle.merge_queue.specs.Groups.{dir_of, lba_of}
 use Rattle.rig_api.specs.Log.{Entry as Record}
 use Rattle.target_answer.specs.Requests.{request_of}
 use Rattle.stack_view.specs.Runs.{sent}
 use Rattle.stack_view.specs.View.{Command, OpView, no_command}
-use Rattle.stack_core.specs.OnRecord.{AreOnRecord, AreRecords, AreTraced, AsksFor, IsKeptBad, IsRecordOf, IsTraced}
+use Rattle.stack_core.specs.OnRecord.{AreOnRecord, AreRecords, AreTraced, AsksFor, IsFormed, IsKeptBad, IsRecordOf, IsTraced}
 use Rattle.stack_core.proofs.Sending.{same-size}
 
 -- one command more, with its record or held back
@@ -106,3 +107,6 @@ record_of a d g fates e on dev cdb fits =
       decodes = ap decoded cdb ∙ decoded_form (command_of a g) fits;
       asks = subst (AsksFor (request_of (command_of a g))) same (asks a (Carry.first_of g).dir d (Carry.first_of g).lba (Carry.size g));
     }
+
+pub formed_of : (a : Adapter) (g : List Bio) (e : Record) → e.what.cdb ≡ form (command_of a g) → Fits (command_of a g) → IsFormed (mode_of a) a.ty e
+formed_of a g e cdb fits = record { dir = way_of (Carry.first_of g).dir; lba = (Carry.first_of g).lba; n = Carry.size g; fits = fits; cdb = cdb }

@@ -1,13 +1,22 @@
 -- What stands on record of the commands of a run.
-use Rattle.std.specs.Prelude.{◌≡◌, ◌≤◌, ◌⊎◌, ℕ, ◌+◌, true, false, List, [], ◌∷◌, ◌++◌, get_or, replicate, Ok}
+use Rattle.std.specs.Prelude.{◌≡◌, ◌≤◌, ◌⊎◌, ℕ, ◌+◌, true, false, not, ◌&&◌, if◌then◌else◌, List, [], ◌∷◌, ◌++◌, get_or, replicate, Ok}
+use Rattle.std.specs.List.{AllByRecursion as Each}
+use Rattle.pi_tuple.specs.Finds.{is_zero}
+use Rattle.pi_tuple.specs.declared.checks.PiType.{PiType}
 use Rattle.bio_core.specs.declared.bio.Bio.{Bio}
 use Rattle.bio_core.specs.declared.fate.Fate.{Fate}
 use Rattle.bio_core.specs.declared.fate.Fate.TheVariants.{Good, Bad, Untouched}
 use Rattle.bio_core.specs.declared.fate.Why.{Why}
 use Rattle.bio_core.specs.declared.request.Dir.TheVariants.{Read as Reads, Write as Writes}
 use Rattle.cdb_codec.specs.Decoded.{decoded}
+use Rattle.cdb_codec.specs.Forms.{Fits, form}
+use Rattle.cdb_codec.specs.Rule.{chosen}
+use Rattle.cdb_codec.specs.declared.choice.Dir2.{Dir2}
 use Rattle.cdb_codec.specs.declared.command.Cdb.{Cdb}
+use Rattle.block_path.specs.declared.mode.Mode.{Mode}
+use Rattle.dix_adapter.specs.declared.adapter.Adapter.{Adapter}
 use Rattle.dix_adapter.specs.Carried.{any_fails}
+use Rattle.dix_adapter.specs.Groups.{mode_of}
 use Rattle.merge_queue.specs.Groups.{size}
 use Rattle.rig_api.specs.Log.{Entry as Record}
 use Rattle.target_answer.specs.Requests.{request_of}
@@ -59,6 +68,20 @@ AreOnRecord [] (e ∷ es) = ⊥
 AreOnRecord (c ∷ cs) [] = (any_fails c.fates ≡ true) × AreOnRecord cs []
 AreOnRecord (c ∷ cs) (e ∷ es) = (IsRecordOf (sent c) e × AreOnRecord cs es) ⊎ ((any_fails c.fates ≡ true) × AreOnRecord cs (e ∷ es))
 
+-- ---- forms
+
+-- READ or WRITE of these blocks in the form that units of this type and the mode call for: of 32 bytes in type 2 with a protect field that isn't 0, else of 10 bytes where they reach, else of 16. The protect field is the mode's where tuples travel to the target, else 0; in the form of 32 bytes the address is the expected reference tag.
+abbrev pub command_by : Mode → PiType → Dir2 → (lba n : ℕ) → Cdb
+command_by mode ty dir lba n = chosen ty dir lba n (if mode.dif && not (is_zero ty) then mode.protect else 0) mode.app mode.mask
+
+-- A record of such a command.
+pub record IsFormed (mode : Mode) (ty : PiType) (e : Record) : Type 0 where
+  pub dir : Dir2
+  pub lba : ℕ
+  pub n : ℕ
+  pub fits : Fits (command_by mode ty dir lba n)
+  pub cdb : e.what.cdb ≡ form (command_by mode ty dir lba n)
+
 -- ---- bad blocks
 
 -- a block that is settled and kept as bad
@@ -91,16 +114,17 @@ pub record HasSentBy (es : List Entry) (p : Plan) (m : Machine) (starts : List �
 abbrev pub HasSent : List Entry → Stack → List Record → Type 0
 HasSent es s log = HasSentBy es (plan_in s.sheet) s.machine s.kept.starts.items s.kept.held.items log
 
--- A step that is the next one of a schedule goes on so, by the records that it makes.
+-- A step that is the next one of a schedule goes on so, by the records that it makes; each is of a command in the form that the adapter calls for.
 pub record SendsOn (word cut : ℕ) (old new : Stack) (log log' : List Record) : Type 0 where
   pub more : List Record
   pub records : log' ≡ log ++ more
+  pub formed : Each (IsFormed (mode_of old.adapter) old.adapter.ty) more
   pub on : (es : List Entry) (before : List Record) → entry_at es old.machine.steps ≡ record { word = word; cut = cut } → HasSent es old before → HasSent es new (before ++ more)
 
 -- ---- the parts of a step
 
--- A group was taken and sent. It is on record, but where the adapter held it back, since a block is bad; where none is, all are good.
-pub record Carries (p : Plan) (m : Machine) (d i : ℕ) (m' : Machine) (log log' : List Record) : Type 0 where
+-- A group was taken and sent by this adapter. It is on record, in the form that the adapter calls for, but where the adapter held it back, since a block is bad; where none is, all are good.
+pub record Carries (a : Adapter) (p : Plan) (m : Machine) (d i : ℕ) (m' : Machine) (log log' : List Record) : Type 0 where
   pub taken : Machine
   pub group : List Bio
   pub fates : List Fate
@@ -108,7 +132,7 @@ pub record Carries (p : Plan) (m : Machine) (d i : ℕ) (m' : Machine) (log log'
   pub flies : Flies p taken d group fates m'
   pub settles : Settles group fates
   pub good : any_fails fates ≡ false → fates ≡ replicate (size group) Good
-  pub records : ((e : Record) × (log' ≡ log ++ (e ∷ [])) × IsRecordOf (sent (record { dev = d; bios = group; fates = fates; completed = false })) e) ⊎ ((any_fails fates ≡ true) × (log' ≡ log))
+  pub records : ((e : Record) × (log' ≡ log ++ (e ∷ [])) × IsRecordOf (sent (record { dev = d; bios = group; fates = fates; completed = false })) e × IsFormed (mode_of a) a.ty e) ⊎ ((any_fails fates ≡ true) × (log' ≡ log))
 
 -- bad blocks are kept when the step of this choice is done, whichever view the machine showed
 abbrev pub Traces : Plan → Machine → Choice → (starts : List ℕ) (held : List Fate) (starts' : List ℕ) (held' : List Fate) → Type 0

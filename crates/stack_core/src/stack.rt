@@ -271,7 +271,7 @@ impl Stack {
         ensures goes { GoesOn (R.standing rig.old) (R.standing rig.new) (R.log rig.old) (R.log rig.new) (R.faults rig.old) (R.faults rig.new) }
         ensures armed { R.armed rig.new ≡ R.armed rig.old }
         ensures kept { self.new.kept ≡ self.old.kept }
-        ensures carries { Carries (plan_in self.old.sheet) self.old.machine d i self.new.machine (R.log rig.old) (R.log rig.new) }
+        ensures carries { Carries self.old.adapter (plan_in self.old.sheet) self.old.machine d i self.new.machine (R.log rig.old) (R.log rig.new) }
         ensures spoils { Spoils (plan_in self.old.sheet) self.old.machine d i self.new.machine (R.faults rig.old) (R.faults rig.new) }
     {
         self.machine.take(&self.sheet, d, i, &mut self.group);

@@ -10,7 +10,7 @@ pub returns-clause-goes : goal.returns-clause-goes
 returns-clause-goes g c = goes_then _ _ _ _ _ _ _ _ _ c.run_schedule.ensures.goes c.run_rest.ensures.goes
 
 pub returns-clause-sends : goal.returns-clause-sends
-returns-clause-sends g c = λ z. sends_then _ _ _ _ _ _ _ (c.run_schedule.ensures.sends z) (c.run_rest.ensures.sends _ (λ h. (let a = c.run_schedule.ensures.long z h in let b = entries_long c.args.schedule.now in omega arith)))
+returns-clause-sends g c = λ z. sends_then _ _ _ _ _ _ _ c.run_schedule.ensures.stays (c.run_schedule.ensures.sends z) (c.run_rest.ensures.sends _ (λ h. (let a = c.run_schedule.ensures.long z h in let b = entries_long c.args.schedule.now in omega arith)))
 
 pub returns-clause-counts : goal.returns-clause-counts
 returns-clause-counts g c = λ first h. c.run_rest.ensures.counts first (c.run_schedule.ensures.counts first h)

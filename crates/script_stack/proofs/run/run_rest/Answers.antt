@@ -45,7 +45,7 @@ loop-stack-preserved g c = record {
   sends = λ es h.
       (let s = c.loop-stack.stack in
       let some = has-step (plan_in s.sheet) s.machine (λ v x e. (let t : true ≡ false = sym ((c.finished.ensures v x).1 e) ∙ c.loop-stack-test.true in absurd cc)) in
-      sends_then es _ _ _ _ _ _ (c.loop-stack.invariant.sends es h) (sends_once es 0 0 _ _ _ _ (entry_behind es s.machine.steps (c.loop-stack.invariant.long es h some)) c.step.ensures.sends));
+      sends_then es _ _ _ _ _ _ c.loop-stack.invariant.stays (c.loop-stack.invariant.sends es h) (sends_once es 0 0 _ _ _ _ (entry_behind es s.machine.steps (c.loop-stack.invariant.long es h some)) c.step.ensures.sends));
   counts = λ first h. c.step.ensures.counts first (c.loop-stack.invariant.counts first h);
   long = λ es h next.
       (let s = c.loop-stack.stack in
