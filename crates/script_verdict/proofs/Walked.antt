@@ -1,5 +1,6 @@
-use Rattle.std.proofs.Common.{ℕ, ◌≡◌, ◌<◌, List, [], ◌∷◌, ◌++◌, map, Some, refl, sym, ap, subst, ◌∙◌}
+use Rattle.std.proofs.Common.{ℕ, ◌≡◌, ◌<◌, ◌*◌, false, List, [], ◌∷◌, ◌++◌, map, Some, refl, sym, ap, subst, ◌∙◌}
 use Rattle.std.specs.Prelude.{All}
+use Rattle.std.specs.List.{list_any}
 use Rattle.dix_base.specs.Told.{Calm}
 use Rattle.fault_schedule.specs.declared.fault.FaultLine.{FaultLine}
 use Rattle.target_answer.specs.Target.{Stored}
@@ -9,7 +10,9 @@ use Rattle.volume_table.specs.Tables.{Table}
 use Rattle.script_text.specs.declared.script.Script.{Script}
 use Rattle.stack_core.specs.declared.stack.Stack.{Stack}
 use Rattle.stack_ops.specs.declared.reply.Reply.{Reply}
-use Rattle.script_stack.specs.Followed.{HasWalked}
+use Rattle.script_stack.specs.Followed.{HasFallen, HasWalked}
+use Rattle.stack_walks.specs.Overwrites.{is_overwrite}
+use Rattle.run_falls.specs.Falls.{of_blocks}
 use Rattle.script_stack.specs.Going.{Outside}
 use Rattle.script_stack.proofs.Ended.{BackedLaw, FallenLaw, IsOver, MediumLaw, ToldLaw, backed_by, fallen_at, few_lines, sent_by, told_at, walked_at}
 use Rattle.script_stack.proofs.SendsBy.{AllLaw, FewLaw}
@@ -21,9 +24,9 @@ use Rattle.dix_adapter.specs.Ways.{shapes_of}
 use Rattle.script_ground.proofs.Calm.{none-overwrites}
 use Rattle.script_verdict.specs.Fallen.{HasServed}
 use Rattle.script_verdict.specs.Premises.{IsDetectableRun, IsPlainRun, IsQuietRun}
-use Rattle.script_verdict.specs.Layers.{NamesLayers}
+use Rattle.script_verdict.specs.Layers.{NamesFaults, NamesLayers}
 use Rattle.script_verdict.proofs.Fallen.{BroughtFallLaw, OwnFallLaw, ReadsFallLaw, served}
-use Rattle.script_verdict.proofs.Layers.{names-layers}
+use Rattle.script_verdict.proofs.Layers.{names-faults, names-layers}
 use Rattle.script_verdict.proofs.Premises.{detectable_run, plain_run}
 use Rattle.image_commands.specs.Views.{View}
 use Rattle.page_pool.specs.declared.segs.Seg.{Seg}
@@ -32,6 +35,7 @@ use Rattle.whole_run.specs.ReadsAs.{ReadsRightly, read_op}
 use Rattle.run_laws.specs.ShownRun.{IsShownRun}
 use Rattle.script_verdict.specs.Verdict.{AllReadRightly, Followed, HasPlain, HasReadRightly, opening_told, setting_told}
 use Rattle.block_path.specs.Acts.{State}
+use Rattle.block_path.specs.Moves.{hidden}
 use Rattle.stack_ops.specs.declared.op.Op.{Op}
 use Rattle.whole_run.specs.CalmRun.{IsCalmRun}
 use Rattle.whole_run.specs.PlainMap.{plain_map, plain_replies}
@@ -112,11 +116,25 @@ shown_at s t devices begun r old new armed law detects o us e calm run =
     reads_rightly (setting_told s t us) devices s.ops (opening_told s us) r.replies.items detects
     (detectable_run s t devices us (devices_at s t devices begun r old new armed o us e) (bound_at s t devices begun r old new armed o us e) run) w.2.replies_are
 
+fell : (s : Script) (t : Table) (devices : List DeviceInfo) (begun r : Stack) (old new : View) (armed : List FaultLine) → FallenLaw → (o : IsDone s t devices begun r old new armed) → (us : List Stored) → old.seen.units ≡ Some us → list_any is_overwrite s.ops ≡ false →
+    (left : List Stored) × (new.seen.units ≡ Some left) × HasFallen s t us left r.pool o.over.goes.more r.replies.items
+fell s t devices begun r old new armed law o us e none =
+    let w = fallen_at s t devices s.schedule begun r old.image new.image (outside old s.faults) (outside new armed) law o.over us e (none-overwrites s.ops none) in
+    (w.0, w.1.0, w.1.1)
+
+-- behind the adapter is a target, whose store calls may fail
+names_faults : (s : Script) (t : Table) (devices : List DeviceInfo) (begun r : Stack) (old new : View) (armed : List FaultLine) → FallenLaw → (o : IsDone s t devices begun r old new armed) → (us : List Stored) → old.seen.units ≡ Some us → list_any is_overwrite s.ops ≡ false →
+    All NamesFaults r.replies.items
+names_faults s t devices begun r old new armed law o us e none =
+    let w = fell s t devices begun r old new armed law o us e none in
+    let ends = w.2.ends in
+    subst (λ (replies : List Reply). All NamesFaults replies) (sym ends.replies_are) (names-faults (setting_told s t us) s.faults refl (of_blocks ends.falls) 1 s.ops (hidden (4096 * s.pages) (opening_told s us)))
+
 fallen_view : (s : Script) (t : Table) (devices : List DeviceInfo) (begun r : Stack) (old new : View) (armed : List FaultLine) → FallenLaw → ReadsFallLaw → OwnFallLaw → BroughtFallLaw → (o : IsDone s t devices begun r old new armed) → (us : List Stored) → old.seen.units ≡ Some us → IsQuietRun s t us →
     (left : List Stored) × (new.seen.units ≡ Some left) × HasServed s t us left r.pool o.over.goes.more r.replies.items
 fallen_view s t devices begun r old new armed law reads own brought o us e quiet =
-    let w = fallen_at s t devices s.schedule begun r old.image new.image (outside old s.faults) (outside new armed) law o.over us e (none-overwrites s.ops quiet.overwrites) in
-    (w.0, w.1.0, served s t us w.0 r.pool o.over.goes.more r.replies.items reads own brought (bound_at s t devices begun r old new armed o us e) quiet w.1.1.ends)
+    let w = fell s t devices begun r old new armed law o us e quiet.overwrites in
+    (w.0, w.1, served s t us w.0 r.pool o.over.goes.more r.replies.items reads own brought (bound_at s t devices begun r old new armed o us e) quiet w.2.ends)
 
 pub followed : (s : Script) (t : Table) (devices : List DeviceInfo) (begun r : Stack) (old new : View) (armed : List FaultLine) → BackedLaw → FewLaw → AllLaw → MediumLaw → ToldLaw → RepliesLaw → UnderLaw → DetectionLaw → FallenLaw → ReadsFallLaw → OwnFallLaw → BroughtFallLaw → IsDone s t devices begun r old new armed → Followed s t devices old new r.pool r.replies.items
 followed s t devices begun r old new armed backed few all medium told same under detects fallen reads own brought o = record {
@@ -129,5 +147,7 @@ followed s t devices begun r old new armed backed few all medium told same under
   shown = shown_at s t devices begun r old new armed told detects o;
   walked = walked s t devices begun r old new armed told o;
   named = named s t devices begun r old new armed told o;
+  fell = fell s t devices begun r old new armed fallen o;
+  faults = names_faults s t devices begun r old new armed fallen o;
   fallen = fallen_view s t devices begun r old new armed fallen reads own brought o;
 }
