@@ -37,7 +37,7 @@ use Rattle.stack_core.specs.declared.stack.Stack.{Stack}
 use Rattle.stack_walks.specs.Requests.{pages_from, requests_from}
 use Rattle.stack_walks.specs.Sheets.{io_at, op_in}
 use Rattle.stack_walks.specs.Shifts.{shifted_by}
-use Rattle.stack_core.specs.Walking.{IsOver, NoOverwrites, NoneFailed, Opens, SizesFit, WalksAtFirst, WalksFallingAtFirst, WalksToldAtFirst}
+use Rattle.stack_core.specs.Walking.{IsOver, NoneFailed, Opens, SizesFit, WalksAtFirst, WalksFallingAtFirst, WalksToldAtFirst}
 use Rattle.script_stack.specs.Followed.{BeginsFalling, BeginsTold, BeginsWalks, SizesAre, begun_of, none_fails, setting_of, unit_of}
 use Rattle.script_stack.proofs.Runs.{own-infos}
 use Rattle.script_stack.proofs.Ready.{sizes-of}
@@ -167,9 +167,9 @@ module _ (s : Script) (t : Table) (devices : List DeviceInfo) (r : Stack) (suits
       first (setting_of s t (shapes_of us) none_fails) (4096 * s.pages) (begun_of s (shapes_of us) (blocks_told us)) us s.faults st log b.opens_so b.over b.sizes b.site b.units b.armed refl
 
   pub begins-falling : WalksFallingAtFirst r → BeginsFalling s t devices r
-  begins-falling first us st log found shapes none =
+  begins-falling first us st log found shapes =
       let b = begins-at us st found shapes in
-      first (setting_of s t (shapes_of us) none_fails) (4096 * s.pages) (begun_of s (shapes_of us) (blocks_told us)) us s.faults st log b.opens_so b.over b.sizes b.site b.units b.armed refl (subst NoOverwrites (sym is.ops) none)
+      first (setting_of s t (shapes_of us) none_fails) (4096 * s.pages) (begun_of s (shapes_of us) (blocks_told us)) us s.faults st log b.opens_so b.over b.sizes b.site b.units b.armed refl
 
 -- no op has replied yet
 pub none-failed : (n : ℕ) → NoneFailed (replicate n Silent)

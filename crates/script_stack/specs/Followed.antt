@@ -30,7 +30,7 @@ use Rattle.stack_core.specs.Mediums.{RoseBy, medium_lines}
 use Rattle.stack_walks.specs.Requests.{pages_from, requests_from}
 use Rattle.stack_core.specs.declared.stack.Stack.{Stack}
 use Rattle.stack_core.specs.Stacks.{IsStack, plan_in}
-use Rattle.stack_core.specs.Walking.{NoOverwrites, Walks, WalksFalling, WalksTold, is_medium}
+use Rattle.stack_core.specs.Walking.{NoneFailed, Walks, WalksFalling, WalksTold, is_medium}
 use Rattle.stack_steps.specs.Does.{Holds}
 use Rattle.stack_view.specs.Steps.{enabled}
 use Rattle.stack_view.specs.View.{View}
@@ -103,14 +103,14 @@ abbrev pub BeginsTold : Script → Table → List DeviceInfo → Stack → Type 
 BeginsTold s t devices r = (us : List Stored) (st : Standing) (log : List Entry) → devices ≡ map info_of (specs_of st) → shapes_of us ≡ specs_of st
     → WalksTold (setting_of s t (shapes_of us) none_fails) (4096 * s.pages) (begun_of s (shapes_of us) (blocks_told us)) (length log) r (Some us) s.faults st log
 
--- So it does where store calls may fail, in a script without overwrites.
+-- So it does where store calls may fail.
 abbrev pub BeginsFalling : Script → Table → List DeviceInfo → Stack → Type 0
-BeginsFalling s t devices r = (us : List Stored) (st : Standing) (log : List Entry) → devices ≡ map info_of (specs_of st) → shapes_of us ≡ specs_of st → NoOverwrites s.ops
+BeginsFalling s t devices r = (us : List Stored) (st : Standing) (log : List Entry) → devices ≡ map info_of (specs_of st) → shapes_of us ≡ specs_of st
     → WalksFalling (setting_of s t (shapes_of us) none_fails) (4096 * s.pages) (begun_of s (shapes_of us) (blocks_told us)) (length log) r (Some us) s.faults st log
 
 -- ---- at the end
 
--- A script was run over a rig. Its devices were asked first; the records from then on back the replies, and are those that its steps send; lines that name the medium are at most as many as the count of faults rose since then. Where the rig tells its blocks, and its count of faults didn't rise since its devices had answered, the script's ops were done one after another at the target; and whether or not it rose, so they were in a script without overwrites, but for what the store calls that failed left.
+-- A script was run over a rig. Its devices were asked first; the records from then on back the replies, and are those that its steps send; lines that name the medium are at most as many as the count of faults rose since then. Where the rig tells its blocks, and its count of faults didn't rise since its devices had answered, the script's ops were done one after another at the target; and whether or not it rose, so they were if no overwrite failed, but for what the store calls that failed left.
 pub record Followed (s : Script) (before after : Outside) (r : Stack) : Type 0 where
   pub devices : List DeviceInfo
   pub asked : Outside
@@ -124,9 +124,9 @@ pub record Followed (s : Script) (before after : Outside) (r : Stack) : Type 0 w
   pub sends : SendsFor s (table_of s devices) more r.replies.items
   pub medium : RoseBy (medium_lines r.replies.items) asked.faults after.faults
   pub told : (us : List Stored) → before.units ≡ Some us → Calm asked.faults after.faults → (left : List Stored) × ((after.units ≡ Some left) × HasWalked s (table_of s devices) us left r.pool more r.replies.items)
-  pub fallen : (us : List Stored) → before.units ≡ Some us → NoOverwrites s.ops → (left : List Stored) × ((after.units ≡ Some left) × HasFallen s (table_of s devices) us left r.pool more r.replies.items)
+  pub fallen : (us : List Stored) → before.units ≡ Some us → NoneFailed r.replies.items → (left : List Stored) × ((after.units ≡ Some left) × HasFallen s (table_of s devices) us left r.pool more r.replies.items)
 
--- A script was run by these words over a rig, to a volume of whose devices it was bound: all ops of its stack have ended. The rig stands as it did, and its count of faults didn't fall. The records from then on back the replies, and are those that its steps send by these words; lines that name the medium are at most as many as the count rose. Where the rig tells its blocks, and its count didn't rise, the script's ops were done one after another at the target; and whether or not it rose, so they were in a script without overwrites, but for what the store calls that failed left.
+-- A script was run by these words over a rig, to a volume of whose devices it was bound: all ops of its stack have ended. The rig stands as it did, and its count of faults didn't fall. The records from then on back the replies, and are those that its steps send by these words; lines that name the medium are at most as many as the count rose. Where the rig tells its blocks, and its count didn't rise, the script's ops were done one after another at the target; and whether or not it rose, so they were if no overwrite failed, but for what the store calls that failed left.
 pub record Ran (s : Script) (t : Table) (devices : List DeviceInfo) (words : List (ℕ × ℕ)) (before after : Outside) (r : Stack) : Type 0 where
   pub stack : IsStack r
   pub ops : r.sheet.ops ≡ s.ops
@@ -142,4 +142,4 @@ pub record Ran (s : Script) (t : Table) (devices : List DeviceInfo) (words : Lis
   pub sends : SendsFor (by_words s words) t more r.replies.items
   pub medium : RoseBy (medium_lines r.replies.items) before.faults after.faults
   pub told : (us : List Stored) → before.units ≡ Some us → Calm before.faults after.faults → (left : List Stored) × ((after.units ≡ Some left) × HasWalked s t us left r.pool more r.replies.items)
-  pub fallen : (us : List Stored) → before.units ≡ Some us → NoOverwrites s.ops → (left : List Stored) × ((after.units ≡ Some left) × HasFallen s t us left r.pool more r.replies.items)
+  pub fallen : (us : List Stored) → before.units ≡ Some us → NoneFailed r.replies.items → (left : List Stored) × ((after.units ≡ Some left) × HasFallen s t us left r.pool more r.replies.items)

@@ -52,12 +52,12 @@ pub fn a_told_script_run_has_walked()
     a_finished_stack_has_done_the_walk();
 }
 
-/// And whether or not the count rose, in a script without overwrites: so they were but for what the store calls that
+/// And whether or not the count rose, if no overwrite's store call failed: so they were but for what the store calls that
 /// failed left.
 pub fn a_told_script_run_has_fallen()
     ensures { (s : AnyScript) (t : Table) (us left : List Stored) (first : ℕ) (r : AnyStack) (armed : List FaultLine) (st : Standing) (log : List Entry) → SuitsStack s → length s.lines ≡ length s.faults + length s.ops
         → MadeFor t (map info_of (shapes_of us)) s.block → binding_fault s t (map info_of (shapes_of us)) ≡ None → AreStored us → shapes_of left ≡ shapes_of us → IsStack r → r.sheet.ops ≡ s.ops
-        → WalksFalling (setting_of s t (shapes_of us) none_fails) (4096 * s.pages) (begun_of s (shapes_of us) (blocks_told us)) first r (Some left) armed st log
+        → NoneFailed r.replies.items → WalksFalling (setting_of s t (shapes_of us) none_fails) (4096 * s.pages) (begun_of s (shapes_of us) (blocks_told us)) first r (Some left) armed st log
         → ((v : View) → Holds (plan_in r.sheet) r.machine v → enabled (plan_in r.sheet) v ≡ []) → HasFallen s t us left r.pool (drop first log) r.replies.items }
 {
     a_bound_script_is_bound_at_its_target();

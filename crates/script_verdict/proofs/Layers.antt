@@ -1,5 +1,7 @@
-use Rattle.std.proofs.Common.{◌≡◌, ℕ, suc, false, true, List, [], ◌∷◌, map, Option, Some, None, refl, sym, ap, subst, arith}
+use Rattle.std.proofs.Common.{◌≡◌, ℕ, zero, suc, false, true, get_or, List, [], ◌∷◌, map, Option, Some, None, refl, sym, ap, subst, arith}
 use Rattle.std.specs.Prelude.{Bool, All, Result, Ok, Err}
+use Rattle.std.specs.List.{list_any}
+use Rattle.std.proofs.lemmas.Bool.{false≢true, or_parts}
 use Rattle.std.proofs.lemmas.List.Elements.{All-cons, All-head, All-tail}
 use Rattle.pi_tuple.specs.declared.checks.Check.{Check}
 use Rattle.fault_schedule.specs.declared.fault.FaultLine.{FaultLine}
@@ -18,11 +20,14 @@ use Rattle.block_path.specs.WayOut.{Fails, Refuses, Stores, WayOut, at_device, f
 use Rattle.stack_ops.specs.declared.op.Op.{Op}
 use Rattle.stack_ops.specs.declared.op.Op.TheVariants.{Fetch, FetchPi, Fill, Overwrite, Put, Seal, Show, Wait, Write, WritePi}
 use Rattle.stack_ops.specs.declared.reply.BadBlock.{BadBlock}
+use Rattle.stack_ops.specs.declared.reply.Reply.TheVariants.{Silent}
+use Rattle.stack_walks.specs.Overwrites.{is_overwrite}
+use Rattle.stack_core.specs.Walking.{is_medium}
 use Rattle.whole_run.specs.ScriptWalk.{act_of, acts_of, bad_from, replies_from, reply_of, script_replies, shown_reply, whole_or_bad}
 use Rattle.whole_run.specs.Settings.{Block, Setting, route}
 use Rattle.whole_run.specs.Steps.{Alters, Reads, Seals, Sets, Shows, Step, Writes, WritesPi, steps_of}
 use Rattle.run_laws.specs.FallingReads.{falling_replies}
-use Rattle.run_laws.specs.StoreFaults.{failing, fallen, falling_walk, leaving, left_by, may_fall, or_fallen, over_failing}
+use Rattle.run_laws.specs.StoreFaults.{failing, fallen, falling_walk, left_by, may_fall, or_fallen, over_failing}
 use Rattle.script_verdict.specs.Layers.{NamesFaults, NamesLayers, is_fault, is_finding}
 
 -- What a walk's replies list where a target is behind the adapter: what a layer found, where no overwrite and no store call fails; else that, or the medium.
@@ -256,3 +261,30 @@ module _ (m : Setting) (faults : List FaultLine) (told : m.site.device ≡ targe
       All-cons NamesFaults (reply_of (m.fails i) op answers) (falling_replies m falls (suc i) ops (falling_walk m falls (steps_of m i op) s))
       (replied-faults (m.fails i) op answers (each-finds is_fault (may_fall m falls) may-fall-finds (steps_of m i op) s))
       (names-faults (suc i) ops (falling_walk m falls (steps_of m i op) s))
+
+-- ---- where no op is an overwrite
+
+whole-no-medium : (bad : List BadBlock) → is_medium (whole_or_bad bad) ≡ false
+whole-no-medium [] = refl
+whole-no-medium (b ∷ bad) = refl
+
+shown-no-medium : (answers : List Answer) → is_medium (shown_reply answers) ≡ false
+shown-no-medium [] = refl
+shown-no-medium (a ∷ answers) = refl
+
+op-no-medium : (fails : Bool) (op : Op) (answers : List Answer) → is_overwrite op ≡ false → is_medium (reply_of fails op answers) ≡ false
+op-no-medium fails (Fill seg byte) answers h = refl
+op-no-medium fails (Put page off bytes) answers h = refl
+op-no-medium fails (Show seg) answers h = shown-no-medium answers
+op-no-medium fails (Seal n body tuples app rtag) answers h = refl
+op-no-medium fails (Write v n body app) answers h = whole-no-medium (bad_from 0 (whys_of answers))
+op-no-medium fails (Fetch v n body) answers h = whole-no-medium (bad_from 0 (whys_of answers))
+op-no-medium fails (WritePi v n body tuples) answers h = whole-no-medium (bad_from 0 (whys_of answers))
+op-no-medium fails (FetchPi v n body tuples) answers h = whole-no-medium (bad_from 0 (whys_of answers))
+op-no-medium fails (Overwrite dev lba change) answers h = absurd (false≢true (sym h))
+op-no-medium fails Wait answers h = refl
+
+pub none-medium : (m : Setting) (i : ℕ) (ops : List Op) (s : State) → list_any is_overwrite ops ≡ false → (j : ℕ) → is_medium (get_or (replies_from m i ops s) j Silent) ≡ false
+none-medium m i [] s h j = refl
+none-medium m i (op ∷ ops) s h zero = op-no-medium (m.fails i) op (plain_tells act tell (acts_of m i op) s) (or_parts (is_overwrite op) (list_any is_overwrite ops) h).0
+none-medium m i (op ∷ ops) s h (suc j) = none-medium m (suc i) ops (plain act (acts_of m i op) s) (or_parts (is_overwrite op) (list_any is_overwrite ops) h).1 j

@@ -1,4 +1,4 @@
-use Rattle.std.proofs.Common.{ℕ, ◌≡◌, ◌<◌, ◌*◌, false, List, [], ◌∷◌, ◌++◌, map, Some, refl, sym, ap, subst, ◌∙◌}
+use Rattle.std.proofs.Common.{ℕ, ◌≡◌, ◌<◌, ◌*◌, false, List, [], ◌∷◌, ◌++◌, get_or, map, Some, refl, sym, ap, subst, ◌∙◌}
 use Rattle.std.specs.Prelude.{All}
 use Rattle.std.specs.List.{list_any}
 use Rattle.dix_base.specs.Told.{Calm}
@@ -10,7 +10,11 @@ use Rattle.volume_table.specs.Tables.{Table}
 use Rattle.script_text.specs.declared.script.Script.{Script}
 use Rattle.stack_core.specs.declared.stack.Stack.{Stack}
 use Rattle.stack_ops.specs.declared.reply.Reply.{Reply}
-use Rattle.script_stack.specs.Followed.{HasFallen, HasWalked}
+use Rattle.stack_core.specs.Walking.{NoneFailed, is_medium}
+use Rattle.run_record.specs.Records.{recorded}
+use Rattle.run_record.specs.ToldRun.{told}
+use Rattle.stack_ops.specs.declared.reply.Reply.TheVariants.{Silent}
+use Rattle.script_stack.specs.Followed.{HasFallen, HasWalked, IsBackedBy, failed_in, opening_of, setting_of, unit_of}
 use Rattle.stack_walks.specs.Overwrites.{is_overwrite}
 use Rattle.run_falls.specs.Falls.{of_blocks}
 use Rattle.script_stack.specs.Going.{Outside}
@@ -21,12 +25,11 @@ use Rattle.script_laws.specs.Keeping.{Keeps}
 use Rattle.script_ground.proofs.OverUnits.{IsBoundOver}
 use Rattle.rig_discovery.specs.Discovery.{info_of}
 use Rattle.dix_adapter.specs.Ways.{shapes_of}
-use Rattle.script_ground.proofs.Calm.{none-overwrites}
 use Rattle.script_verdict.specs.Fallen.{HasServed}
 use Rattle.script_verdict.specs.Premises.{IsDetectableRun, IsPlainRun, IsQuietRun}
 use Rattle.script_verdict.specs.Layers.{NamesFaults, NamesLayers}
 use Rattle.script_verdict.proofs.Fallen.{BroughtFallLaw, OwnFallLaw, ReadsFallLaw, served}
-use Rattle.script_verdict.proofs.Layers.{names-faults, names-layers}
+use Rattle.script_verdict.proofs.Layers.{names-faults, names-layers, none-medium}
 use Rattle.script_verdict.proofs.Premises.{detectable_run, plain_run}
 use Rattle.image_commands.specs.Views.{View}
 use Rattle.page_pool.specs.declared.segs.Seg.{Seg}
@@ -116,24 +119,31 @@ shown_at s t devices begun r old new armed law detects o us e calm run =
     reads_rightly (setting_told s t us) devices s.ops (opening_told s us) r.replies.items detects
     (detectable_run s t devices us (devices_at s t devices begun r old new armed o us e) (bound_at s t devices begun r old new armed o us e) run) w.2.replies_are
 
-fell : (s : Script) (t : Table) (devices : List DeviceInfo) (begun r : Stack) (old new : View) (armed : List FaultLine) → FallenLaw → (o : IsDone s t devices begun r old new armed) → (us : List Stored) → old.seen.units ≡ Some us → list_any is_overwrite s.ops ≡ false →
+fell : (s : Script) (t : Table) (devices : List DeviceInfo) (begun r : Stack) (old new : View) (armed : List FaultLine) → FallenLaw → (o : IsDone s t devices begun r old new armed) → (us : List Stored) → old.seen.units ≡ Some us → NoneFailed r.replies.items →
     (left : List Stored) × (new.seen.units ≡ Some left) × HasFallen s t us left r.pool o.over.goes.more r.replies.items
 fell s t devices begun r old new armed law o us e none =
-    let w = fallen_at s t devices s.schedule begun r old.image new.image (outside old s.faults) (outside new armed) law o.over us e (none-overwrites s.ops none) in
+    let w = fallen_at s t devices s.schedule begun r old.image new.image (outside old s.faults) (outside new armed) law o.over us e none in
     (w.0, w.1.0, w.1.1)
 
 -- behind the adapter is a target, whose store calls may fail
-names_faults : (s : Script) (t : Table) (devices : List DeviceInfo) (begun r : Stack) (old new : View) (armed : List FaultLine) → FallenLaw → (o : IsDone s t devices begun r old new armed) → (us : List Stored) → old.seen.units ≡ Some us → list_any is_overwrite s.ops ≡ false →
+names_faults : (s : Script) (t : Table) (devices : List DeviceInfo) (begun r : Stack) (old new : View) (armed : List FaultLine) → FallenLaw → (o : IsDone s t devices begun r old new armed) → (us : List Stored) → old.seen.units ≡ Some us → NoneFailed r.replies.items →
     All NamesFaults r.replies.items
 names_faults s t devices begun r old new armed law o us e none =
     let w = fell s t devices begun r old new armed law o us e none in
     let ends = w.2.ends in
     subst (λ (replies : List Reply). All NamesFaults replies) (sym ends.replies_are) (names-faults (setting_told s t us) s.faults refl (of_blocks ends.falls) 1 s.ops (hidden (4096 * s.pages) (opening_told s us)))
 
-fallen_view : (s : Script) (t : Table) (devices : List DeviceInfo) (begun r : Stack) (old new : View) (armed : List FaultLine) → FallenLaw → ReadsFallLaw → OwnFallLaw → BroughtFallLaw → (o : IsDone s t devices begun r old new armed) → (us : List Stored) → old.seen.units ≡ Some us → IsQuietRun s t us →
+-- without overwrites none fails: the replies are those of a walk by the records
+none_failed : (s : Script) (t : Table) (devices : List DeviceInfo) (log : List Entry) (replies : List Reply) → list_any is_overwrite s.ops ≡ false → IsBackedBy s t devices log replies → NoneFailed replies
+none_failed s t devices log replies none backed i =
+    let m = setting_of s t (map unit_of devices) (failed_in replies) in
+    ap (λ (rs : List Reply). is_medium (get_or rs i Silent)) (backed []).checked ∙ none-medium (told m (recorded m log)) 1 s.ops (opening_of s (map unit_of devices) []) none i
+
+fallen_view : (s : Script) (t : Table) (devices : List DeviceInfo) (begun r : Stack) (old new : View) (armed : List FaultLine) → BackedLaw → FallenLaw → ReadsFallLaw → OwnFallLaw → BroughtFallLaw → (o : IsDone s t devices begun r old new armed) → (us : List Stored) → old.seen.units ≡ Some us → IsQuietRun s t us →
     (left : List Stored) × (new.seen.units ≡ Some left) × HasServed s t us left r.pool o.over.goes.more r.replies.items
-fallen_view s t devices begun r old new armed law reads own brought o us e quiet =
-    let w = fell s t devices begun r old new armed law o us e quiet.overwrites in
+fallen_view s t devices begun r old new armed backed law reads own brought o us e quiet =
+    let none = none_failed s t devices o.over.goes.more r.replies.items quiet.overwrites (backed_by s t devices s.schedule begun r old.image new.image (outside old s.faults) (outside new armed) backed o.over) in
+    let w = fell s t devices begun r old new armed law o us e none in
     (w.0, w.1, served s t us w.0 r.pool o.over.goes.more r.replies.items reads own brought (bound_at s t devices begun r old new armed o us e) quiet w.2.ends)
 
 pub followed : (s : Script) (t : Table) (devices : List DeviceInfo) (begun r : Stack) (old new : View) (armed : List FaultLine) → BackedLaw → FewLaw → AllLaw → MediumLaw → ToldLaw → RepliesLaw → UnderLaw → DetectionLaw → FallenLaw → ReadsFallLaw → OwnFallLaw → BroughtFallLaw → IsDone s t devices begun r old new armed → Followed s t devices old new r.pool r.replies.items
@@ -149,5 +159,5 @@ followed s t devices begun r old new armed backed few all medium told same under
   named = named s t devices begun r old new armed told o;
   fell = fell s t devices begun r old new armed fallen o;
   faults = names_faults s t devices begun r old new armed fallen o;
-  fallen = fallen_view s t devices begun r old new armed fallen reads own brought o;
+  fallen = fallen_view s t devices begun r old new armed backed fallen reads own brought o;
 }

@@ -1,4 +1,4 @@
-use Rattle.std.specs.Prelude.{ℕ, suc, ◌≡◌, ◌+◌, ◌*◌, ◌<◌, ◌⊎◌, false, List, [], ◌∷◌, ◌++◌, length, get_or, map, take, is_some, Option, Some, None, Err, Ok, All}
+use Rattle.std.specs.Prelude.{ℕ, suc, ◌≡◌, ◌+◌, ◌*◌, ◌<◌, ◌⊎◌, List, [], ◌∷◌, ◌++◌, length, get_or, map, take, is_some, Option, Some, None, Err, Ok, All}
 use Rattle.dix_base.specs.Told.{Calm, Rose}
 use Rattle.page_pool.specs.Pages.{IsBlank}
 use Rattle.dix_adapter.specs.Groups.{mode_of}
@@ -12,7 +12,6 @@ use Rattle.script_text.specs.Bindings.{binding_fault}
 use Rattle.script_text.specs.Language.{script_in}
 use Rattle.script_text.specs.declared.fault.ScriptFault.{ScriptFault}
 use Rattle.script_text.specs.declared.script.Script.{Script}
-use Rattle.std.specs.List.{list_any}
 use Rattle.script_stack.specs.Followed.{HasFallen, HasWalked, IsBackedBy}
 use Rattle.script_stack.specs.Sends.{SendsFor}
 use Rattle.block_path.specs.Acts.{State}
@@ -30,9 +29,9 @@ use Rattle.whole_run.specs.PlainMap.{plain_map, plain_replies}
 use Rattle.whole_run.specs.Settings.{Setting, block_of}
 use Rattle.whole_run.specs.UnderMap.{opened, under}
 use Rattle.stack_core.specs.Mediums.{RoseBy, medium_lines}
-use Rattle.stack_walks.specs.Overwrites.{is_overwrite}
 use Rattle.stack_walks.specs.Requests.{pages_from, requests_from}
 use Rattle.stack_core.specs.Stacks.{GoesOn, IsStack, Stays, plan_in}
+use Rattle.stack_core.specs.Walking.{NoneFailed}
 use Rattle.stack_core.specs.declared.stack.Stack.{Stack}
 use Rattle.stack_ops.specs.declared.reply.Reply.{Reply}
 use Rattle.stack_steps.specs.Does.{Holds}
@@ -166,7 +165,7 @@ abbrev pub AllReadRightly : Setting → List Op → State → List Reply → Typ
 AllReadRightly m ops opening replies = (before after : List Op) (owner : Owner) (v n k : ℕ) (body tuples : List Seg) → ops ≡ before ++ (read_op owner v n body tuples ∷ after) → k < n
     → HasReadRightly m before owner v n body tuples opening replies k
 
--- What the steps of a script over its volume did, from the rig that told what its devices are to the rig as it is afterwards, with these pages and replies. Over any rig, honest or not, the records of the steps back the replies, and are those that its steps send; lines that name the medium are at most as many as the count of faults rose. Over a rig that tells its blocks, and whose count of faults didn't rise, replies, pages and stored blocks are those of the script's ops done one after another at the target, and the records hold what these carry; and where no fault is scheduled, the blocks are clean and no write supplies an escape, they are those of the plain map. Over such a rig each block that is listed was found bad by the check of a layer. In type 1, with tuples passed all the way and protect field 001b, over clean devices, with no escape and with scheduled faults that can be shown, each block of a read is the last accepted write's or names the first layer that checks after the fault. Over a rig that tells its blocks, whatever its count of faults did, where no op is an overwrite, replies, pages and stored blocks are those of the ops done one after another but for the store calls that failed, and each block that is listed was found bad by a layer or failed at the medium; and where no fault is scheduled and the blocks are clean, a block of a read that isn't lost fails at the medium or is the last accepted write's, and one of a write that the plain map accepts fails at the medium or not at all.
+-- What the steps of a script over its volume did, from the rig that told what its devices are to the rig as it is afterwards, with these pages and replies. Over any rig, honest or not, the records of the steps back the replies, and are those that its steps send; lines that name the medium are at most as many as the count of faults rose. Over a rig that tells its blocks, and whose count of faults didn't rise, replies, pages and stored blocks are those of the script's ops done one after another at the target, and the records hold what these carry; and where no fault is scheduled, the blocks are clean and no write supplies an escape, they are those of the plain map. Over such a rig each block that is listed was found bad by the check of a layer. In type 1, with tuples passed all the way and protect field 001b, over clean devices, with no escape and with scheduled faults that can be shown, each block of a read is the last accepted write's or names the first layer that checks after the fault. Over a rig that tells its blocks, whatever its count of faults did, if no overwrite failed, replies, pages and stored blocks are those of the ops done one after another but for the store calls that failed, and each block that is listed was found bad by a layer or failed at the medium; and where no fault is scheduled and the blocks are clean, a block of a read that isn't lost fails at the medium or is the last accepted write's, and one of a write that the plain map accepts fails at the medium or not at all.
 pub record Followed (script : Script) (table : Table) (devices : List DeviceInfo) (old new : View) (pool : List (List ℕ)) (replies : List Reply) : Type 0 where
   pub tells : is_some new.image ≡ is_some old.image
   pub goes : GoesOn old.standing new.standing old.seen.log new.seen.log old.seen.faults new.seen.faults
@@ -179,8 +178,8 @@ pub record Followed (script : Script) (table : Table) (devices : List DeviceInfo
       → AllReadRightly (setting_told script table us) script.ops (opening_told script us) replies
   pub walked : (us : List Stored) → old.seen.units ≡ Some us → Calm old.seen.faults new.seen.faults → (left : List Stored) × (new.seen.units ≡ Some left) × HasWalked script table us left pool goes.more replies
   pub named : (us : List Stored) → old.seen.units ≡ Some us → Calm old.seen.faults new.seen.faults → All NamesLayers replies
-  pub fell : (us : List Stored) → old.seen.units ≡ Some us → list_any is_overwrite script.ops ≡ false → (left : List Stored) × (new.seen.units ≡ Some left) × HasFallen script table us left pool goes.more replies
-  pub faults : (us : List Stored) → old.seen.units ≡ Some us → list_any is_overwrite script.ops ≡ false → All NamesFaults replies
+  pub fell : (us : List Stored) → old.seen.units ≡ Some us → NoneFailed replies → (left : List Stored) × (new.seen.units ≡ Some left) × HasFallen script table us left pool goes.more replies
+  pub faults : (us : List Stored) → old.seen.units ≡ Some us → NoneFailed replies → All NamesFaults replies
   pub fallen : (us : List Stored) → old.seen.units ≡ Some us → IsQuietRun script table us → (left : List Stored) × (new.seen.units ≡ Some left) × HasServed script table us left pool goes.more replies
 
 -- The image was opened, its devices told what they are, the script is bound to its volume, and the stack of its ops was run to its end.

@@ -33,6 +33,7 @@ pub mod AtUnits
 pub mod WalkedTold
 pub mod ToldOps
 pub mod Failing
+pub mod Failed
 pub mod WalkBegins
 pub mod WalkEnds
 pub mod KeptBad

@@ -1,7 +1,7 @@
 -- A stack that follows the walk of its script over a rig that tells its blocks does so after an op is admitted, and after each step that leaves the rig alone.
-use Rattle.std.proofs.Common.{◌≡◌, ◌<◌, ◌≤◌, ℕ, ◌+◌, ◌-◌, Bool, true, false, leb, ltb, List, [], ◌∷◌, drop, get_or, set, Option, Some, None, refl, sym, ap, subst, ◌∙◌, arith}
+use Rattle.std.proofs.Common.{◌≡◌, ◌⊎◌, inl, inr, ◌<◌, ◌≤◌, ℕ, ◌+◌, ◌-◌, Bool, true, leb, ltb, List, [], ◌∷◌, drop, get_or, set, Option, Some, None, refl, sym, ap, subst, ◌∙◌, arith}
 use Rattle.std.specs.Prelude.{is_some}
-use Rattle.std.proofs.lemmas.Bool.{and_parts, false≢true}
+use Rattle.std.proofs.lemmas.Bool.{and_parts}
 use Rattle.dix_base.specs.Told.{Calm}
 use Rattle.fault_schedule.specs.Altered.{byte_at, xored_from}
 use Rattle.fault_schedule.specs.declared.fault.FaultLine.{FaultLine}
@@ -22,12 +22,10 @@ use Rattle.whole_run.specs.ScriptWalk.{changed, source_of as source_cell}
 use Rattle.whole_run.specs.Settings.{Setting}
 use Rattle.run_record.specs.Records.{recorded}
 use Rattle.stack_core.specs.Courses.{Course, Falling, Straight}
-use Rattle.stack_core.specs.declared.sheet.Sheet.{Sheet}
 use Rattle.stack_core.specs.declared.stack.Stack.{Stack}
 use Rattle.stack_core.specs.Doing.{CanReach}
 use Rattle.stack_core.specs.Stacks.{IsStack, Stays}
-use Rattle.stack_walks.specs.Overwrites.{is_overwrite}
-use Rattle.stack_core.specs.Walking.{Enters, IsKnown, NoOverwrites, Walks, WalksAtTarget, WalksBy, WalksFalling, WalksOn, WalksTold, op_left, units_left}
+use Rattle.stack_core.specs.Walking.{Enters, HasFailed, IsKnown, Walks, WalksAtTarget, WalksBy, WalksFalling, WalksOn, WalksTold, op_left, units_left}
 use Rattle.stack_core.proofs.WalkedRecord.{over_record, records_stay}
 use Rattle.stack_core.proofs.WalkedTold.{told_stay}
 
@@ -109,12 +107,9 @@ at_target_on course m n opening first s s' units armed st log k stays on w =
 pub told_on : (m : Setting) (n : ℕ) (opening : State) (first : ℕ) (s s' : Stack) (units : Option (List Stored)) (armed : List FaultLine) (st : Standing) (log : List Entry) → IsStack s → Stays s s' → WalksOn s s' → WalksTold m n opening first s units armed st log → WalksTold m n opening first s' units armed st log
 told_on m n opening first s s' units armed st log k stays on w = at_target_on Straight m n opening first s s' units armed st log k stays on w
 
--- the ops stay
-none_on : (s s' : Stack) → Stays s s' → NoOverwrites s.sheet.ops → NoOverwrites s'.sheet.ops
-none_on s s' stays none = subst (λ (x : Sheet). NoOverwrites x.ops) (sym stays.sheet) none
-
-pub falling_on : (m : Setting) (n : ℕ) (opening : State) (first : ℕ) (s s' : Stack) (units : Option (List Stored)) (armed : List FaultLine) (st : Standing) (log : List Entry) → IsStack s → Stays s s' → WalksOn s s' → WalksFalling m n opening first s units armed st log → WalksFalling m n opening first s' units armed st log
-falling_on m n opening first s s' units armed st log k stays on w = record { no_overwrites = none_on s s' stays w.no_overwrites; told = at_target_on Falling m n opening first s s' units armed st log k stays on w.told }
+pub falling_on : (m : Setting) (n : ℕ) (opening : State) (first : ℕ) (s s' : Stack) (units : Option (List Stored)) (armed : List FaultLine) (st : Standing) (log : List Entry) → IsStack s → Stays s s' → (HasFailed s → HasFailed s') → WalksOn s s' → WalksFalling m n opening first s units armed st log → WalksFalling m n opening first s' units armed st log
+falling_on m n opening first s s' units armed st log k stays fails on (inl f) = inl (fails f)
+falling_on m n opening first s s' units armed st log k stays fails on (inr w) = inr (at_target_on Falling m n opening first s s' units armed st log k stays on w)
 
 -- ---- an op is admitted
 
@@ -124,7 +119,7 @@ walks_entered m n opening first s s' tells st units units' count count' log k st
     records_stay m n opening first s st log k w s' stays _ (enters.walks Straight _ n opening _ w.left (over_record m n opening first s st log k w) w.walks)
 
 at_target_entered : (course : Course) (m : Setting) (n : ℕ) (opening : State) (first : ℕ) (s s' : Stack) (image : Option (List ℕ)) (st : Standing) (units units' : Option (List Stored)) (armed armed' : List FaultLine) (count count' : ℕ) (log : List Entry) → IsStack s → Stays s s' →
-    (enters : Enters (is_some image) st units units' count count' s s') → units ≡ units_told st image → IsStanding st image → armed' ≡ armed → IsKnown enters.op count count' → WalksAtTarget course m n opening first s units armed st log → WalksAtTarget course m n opening first s' units' armed' st log
+    (enters : Enters (is_some image) st units units' count count' s s') → units ≡ units_told st image → IsStanding st image → armed' ≡ armed → IsKnown enters.op enters.reply → WalksAtTarget course m n opening first s units armed st log → WalksAtTarget course m n opening first s' units' armed' st log
 at_target_entered course m n opening first s s' image st units units' armed armed' count count' log k stays enters laid ready still known w =
     let us : units_told st image ≡ Some w.us = sym laid ∙ w.told_are in
     let told : is_some image ≡ true = is_told st image w.us us in
@@ -133,46 +128,15 @@ at_target_entered course m n opening first s s' image st units units' armed arme
     told_stay m n opening first s units armed st log k w s' stays units' (units_left enters.op w.us) armed' log w.recorded_from (enters.tells w.us w.told_are known) still
     (subst (λ x. WalksBy course m n opening (recorded m (drop first log)) x s') (sym left) (enters.walks course m n opening (recorded m (drop first log)) (blocks_told w.us) w.over w.walks))
 
--- what an op leaves is known while the count stays,
-known_calm : (op : Op) (count count' : ℕ) → Calm count count' → IsKnown op count count'
-known_calm (Fill seg byte) count count' h = tt
-known_calm (Put page off bytes) count count' h = tt
-known_calm (Show seg) count count' h = tt
-known_calm (Seal n body tuples app rtag) count count' h = tt
-known_calm (Write v n body app) count count' h = tt
-known_calm (Fetch v n body) count count' h = tt
-known_calm (WritePi v n body tuples) count count' h = tt
-known_calm (FetchPi v n body tuples) count count' h = tt
-known_calm (Overwrite dev lba change) count count' h = h
-known_calm Wait count count' h = tt
-
--- and of each op that is no overwrite
-known_of : (op : Op) (count count' : ℕ) → is_overwrite op ≡ false → IsKnown op count count'
-known_of (Fill seg byte) count count' h = tt
-known_of (Put page off bytes) count count' h = tt
-known_of (Show seg) count count' h = tt
-known_of (Seal n body tuples app rtag) count count' h = tt
-known_of (Write v n body app) count count' h = tt
-known_of (Fetch v n body) count count' h = tt
-known_of (WritePi v n body tuples) count count' h = tt
-known_of (FetchPi v n body tuples) count count' h = tt
-known_of (Overwrite dev lba change) count count' h = absurd (false≢true (sym h))
-known_of Wait count count' h = tt
-
 pub told_entered : (m : Setting) (n : ℕ) (opening : State) (first : ℕ) (s s' : Stack) (image : Option (List ℕ)) (st : Standing) (units units' : Option (List Stored)) (armed armed' : List FaultLine) (count count' : ℕ) (log : List Entry) → IsStack s → Stays s s' → Enters (is_some image) st units units' count count' s s' →
     units ≡ units_told st image → IsStanding st image → armed' ≡ armed → Calm count count' → WalksTold m n opening first s units armed st log → WalksTold m n opening first s' units' armed' st log
 told_entered m n opening first s s' image st units units' armed armed' count count' log k stays enters laid ready still calm w =
-    at_target_entered Straight m n opening first s s' image st units units' armed armed' count count' log k stays enters laid ready still (known_calm enters.op count count' calm) w
+    at_target_entered Straight m n opening first s s' image st units units' armed armed' count count' log k stays enters laid ready still (enters.calm calm) w
 
-pub falling_entered : (m : Setting) (n : ℕ) (opening : State) (first : ℕ) (s s' : Stack) (image : Option (List ℕ)) (st : Standing) (units units' : Option (List Stored)) (armed armed' : List FaultLine) (count count' : ℕ) (log : List Entry) → IsStack s → Stays s s' → Enters (is_some image) st units units' count count' s s' →
-    units ≡ units_told st image → IsStanding st image → armed' ≡ armed → WalksFalling m n opening first s units armed st log → WalksFalling m n opening first s' units' armed' st log
-falling_entered m n opening first s s' image st units units' armed armed' count count' log k stays enters laid ready still w = record {
-  no_overwrites = none_on s s' stays w.no_overwrites;
-  told = at_target_entered Falling m n opening first s s' image st units units' armed armed' count count' log k stays enters laid ready still (known_of enters.op count count' (enters.no_overwrite w.no_overwrites)) w.told;
-}
-
--- ---- a group is sent
-
-pub falling_sent : (m : Setting) (n : ℕ) (opening : State) (first : ℕ) (s s' : Stack) (units units' : Option (List Stored)) (armed armed' : List FaultLine) (st : Standing) (log log' : List Entry) → Stays s s' →
-    (w : WalksFalling m n opening first s units armed st log) → WalksAtTarget Falling m n opening first s' units' armed' st log' → WalksFalling m n opening first s' units' armed' st log'
-falling_sent m n opening first s s' units units' armed armed' st log log' stays w told = record { no_overwrites = none_on s s' stays w.no_overwrites; told = told }
+pub falling_entered : (m : Setting) (n : ℕ) (opening : State) (first : ℕ) (s s' : Stack) (image : Option (List ℕ)) (st : Standing) (units units' : Option (List Stored)) (armed armed' : List FaultLine) (count count' : ℕ) (log : List Entry) → IsStack s → Stays s s' → (HasFailed s → HasFailed s') →
+    (enters : Enters (is_some image) st units units' count count' s s') → units ≡ units_told st image → IsStanding st image → armed' ≡ armed → WalksFalling m n opening first s units armed st log → WalksFalling m n opening first s' units' armed' st log
+falling_entered m n opening first s s' image st units units' armed armed' count count' log k stays fails enters laid ready still (inl f) = inl (fails f)
+falling_entered m n opening first s s' image st units units' armed armed' count count' log k stays fails enters laid ready still (inr w) = by enters.known where
+  by : IsKnown enters.op enters.reply ⊎ HasFailed s' → WalksFalling m n opening first s' units' armed' st log
+  by (inl known) = inr (at_target_entered Falling m n opening first s s' image st units units' armed armed' count count' log k stays enters laid ready still known w)
+  by (inr f) = inl f

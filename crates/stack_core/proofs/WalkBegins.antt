@@ -1,5 +1,5 @@
 -- A new stack follows the walk of its script.
-use Rattle.std.proofs.Common.{◌≡◌, ◌<◌, ℕ, zero, suc, false, true, List, [], ◌∷◌, length, drop, get_or, map, Some, refl, sym, ap, subst, ◌∙◌, arith}
+use Rattle.std.proofs.Common.{◌≡◌, ◌<◌, ℕ, zero, suc, false, true, List, [], ◌∷◌, length, drop, get_or, map, Some, refl, sym, ap, subst, ◌∙◌, arith, inr}
 use Rattle.std.proofs.lemmas.Bool.{false≢true}
 use Rattle.std.proofs.lemmas.List.{drop_all, get_or_past, length-map}
 use Rattle.page_pool.specs.Pages.{AreWhole}
@@ -27,7 +27,7 @@ use Rattle.stack_core.specs.Rooms.{Suits}
 use Rattle.stack_walks.specs.Sheets.{op_in, request_in}
 use Rattle.stack_core.specs.Stacks.{IsStack, plan_in, room_at}
 use Rattle.stack_core.proofs.Courses.{begins_by}
-use Rattle.stack_core.specs.Walking.{IsOver, NoOverwrites, Opens, SizesFit, Walks, WalksAtTarget, WalksBy, WalksFalling, WalksOver, WalksTold, data_of, shown_in, status_of, why_in}
+use Rattle.stack_core.specs.Walking.{IsOver, Opens, SizesFit, Walks, WalksAtTarget, WalksBy, WalksFalling, WalksOver, WalksTold, data_of, shown_in, status_of, why_in}
 
 start_waits : (rs : List Request) (i : ℕ) → i < length rs → is_waiting (get_or (map waiting rs) i no_op).phase ≡ true
 start_waits [] i l = absurd (omega arith)
@@ -108,9 +108,6 @@ told_begins m n opening s us armed st log k h whole suits o over sizes site behi
 
 -- and where its store calls may fail
 pub falling_begins : (m : Setting) (n : ℕ) (opening : State) (s : Stack) (us : List Stored) (armed : List FaultLine) (st : Standing) (log : List Entry) → IsStack s → Holds (plan_in s.sheet) s.machine (start (plan_in s.sheet)) → AreWhole s.pool → ((i : ℕ) → i < length s.sheet.ops → Suits (op_in s.sheet.ops i) (room_at s.rooms.items i)) →
-    Opens opening s → IsOver m n opening s.sheet s.adapter s.host → SizesFit m st → m.site ≡ site_of s.adapter (specs_of st) → AreAtUnits m (specs_of st) s.sheet.ops → armed ≡ s.adapter.tamper → opening.blocks ≡ blocks_told us → NoOverwrites s.sheet.ops →
+    Opens opening s → IsOver m n opening s.sheet s.adapter s.host → SizesFit m st → m.site ≡ site_of s.adapter (specs_of st) → AreAtUnits m (specs_of st) s.sheet.ops → armed ≡ s.adapter.tamper → opening.blocks ≡ blocks_told us →
     WalksFalling m n opening (length log) s (Some us) armed st log
-falling_begins m n opening s us armed st log k h whole suits o over sizes site behind armed_are blocks none = record {
-  no_overwrites = none;
-  told = at_target_begins Falling m n opening s us armed st log k h whole suits o over sizes site behind armed_are blocks;
-}
+falling_begins m n opening s us armed st log k h whole suits o over sizes site behind armed_are blocks = inr (at_target_begins Falling m n opening s us armed st log k h whole suits o over sizes site behind armed_are blocks)

@@ -1,7 +1,6 @@
 -- What a stack comes to that followed the walk of its script to the end.
 use Rattle.std.proofs.Common.{◌≡◌, ◌⊎◌, inl, inr, ◌<◌, ◌≤◌, ℕ, zero, suc, ◌+◌, Bool, true, false, List, [], ◌∷◌, length, drop, get_or, map, take, Option, refl, sym, ap, subst, ◌∙◌, arith}
 use Rattle.std.specs.Prelude.{if◌then◌else◌}
-use Rattle.std.proofs.lemmas.Bool.{false≢true}
 use Rattle.page_pool.specs.Cells.{flat}
 use Rattle.bio_core.specs.declared.fate.Why.{Why}
 use Rattle.range_gate.specs.Gates.{has_ended, is_waiting}
@@ -41,12 +40,12 @@ use Rattle.run_falls.proofs.Ending.{ends_as_falling}
 use Rattle.stack_walks.specs.Statuses.{fate_in}
 use Rattle.stack_walks.proofs.Letting.{all_marked}
 use Rattle.stack_walks.proofs.Standing.{is_done, is_settled}
-use Rattle.stack_core.specs.Courses.{Course}
+use Rattle.stack_core.specs.Courses.{Course, Falling}
 use Rattle.stack_core.specs.declared.stack.Stack.{Stack}
 use Rattle.stack_walks.specs.Sheets.{op_in}
 use Rattle.stack_core.specs.Stacks.{IsStack, plan_in}
 use Rattle.stack_walks.specs.Overwrites.{is_overwrite}
-use Rattle.stack_core.specs.Walking.{EndsTold, HasFails, IsOver, IsReply, Walks, WalksBy, WalksFalling, WalksTold, data_of, is_medium, shown_by, shown_in, status_of, why_in}
+use Rattle.stack_core.specs.Walking.{EndsTold, HasFails, IsOver, IsReply, Walks, WalksBy, WalksTold, data_of, is_medium, shown_by, shown_in, status_of, why_in, WalksAtTarget}
 use Rattle.stack_core.proofs.Context.{over_told}
 use Rattle.stack_core.proofs.Walked.{sound, stand}
 
@@ -194,14 +193,13 @@ ends_told m fine n opening first s units armed st log k w none f bound =
     }
 
 -- And where some store calls failed, it has done the walk in which just these fail.
-pub ends_falling : (m : Setting) (fine : ℕ → List ℕ → Bool) (n : ℕ) (opening : State) (first : ℕ) (s : Stack) (units : Option (List Stored)) (armed : List FaultLine) (st : Standing) (log : List Entry) → IsStack s → (w : WalksFalling m n opening first s units armed st log) → enabled (plan_in s.sheet) w.told.walks.view ≡ [] →
-    IsBoundRun m fine n s.sheet.ops opening → AllTakeAny m fine 1 s.sheet.ops → EndsAsFalling m n s.sheet.ops opening (take n (flat s.pool)) (blocks_told w.told.us) s.replies.items (recorded m (drop first log))
-ends_falling m fine n opening first s units armed st log k w none bound takes =
+pub ends_falling : (m : Setting) (fine : ℕ → List ℕ → Bool) (n : ℕ) (opening : State) (first : ℕ) (s : Stack) (units : Option (List Stored)) (armed : List FaultLine) (st : Standing) (log : List Entry) → IsStack s → (w : WalksAtTarget Falling m n opening first s units armed st log) → enabled (plan_in s.sheet) w.walks.view ≡ [] →
+    HasFails m s.replies.items → IsBoundRun m fine n s.sheet.ops opening → AllTakeAny m fine 1 s.sheet.ops → EndsAsFalling m n s.sheet.ops opening (take n (flat s.pool)) (blocks_told w.us) s.replies.items (recorded m (drop first log))
+ends_falling m fine n opening first s units armed st log k t none f bound takes =
     let es = recorded m (drop first log) in
     let ops = s.sheet.ops in
-    let t = w.told in
     let status = status_of (plan_in s.sheet) (data_of s) t.walks.view in
-    let replied = all_replied m n opening es (blocks_told t.us) s k t.over t.walks none m (λ i l e. absurd (false≢true (sym (w.no_overwrites i l) ∙ e))) in
+    let replied = all_replied m n opening es (blocks_told t.us) s k t.over t.walks none m (λ i l e. f i) in
     let over = all_ended m n opening es (blocks_told t.us) s k t.over t.walks none m in
     let h = t.walks.follow.follows.0 in
     let ends = ends_as_falling m fine n ops opening status t.walks.now.bytes t.walks.now.blocks es bound takes over h in

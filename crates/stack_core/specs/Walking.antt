@@ -42,7 +42,6 @@ use Rattle.run_follows.specs.Finished.{FramesFit}
 use Rattle.run_follows.specs.Sending.{NoneBefore}
 use Rattle.run_follows.specs.Slots.{Status}
 use Rattle.stack_walks.specs.Ground.{Ground}
-use Rattle.stack_walks.specs.Overwrites.{is_overwrite}
 use Rattle.stack_walks.specs.Seals.{IsSealed}
 use Rattle.stack_walks.specs.Statuses.{status_in}
 use Rattle.stack_walks.specs.Units.{AreAtUnits}
@@ -200,14 +199,17 @@ pub record WalksAtTarget (course : Course) (m : Setting) (n : ℕ) (opening : St
 abbrev pub WalksTold : (m : Setting) (n : ℕ) (opening : State) (first : ℕ) → Stack → (units : Option (List Stored)) (armed : List FaultLine) → Standing → (log : List Entry) → Type 0
 WalksTold m n opening first s units armed st log = WalksAtTarget Straight m n opening first s units armed st log
 
--- No op alters a stored block without a command.
-abbrev pub NoOverwrites : List Op → Type 0
-NoOverwrites ops = (i : ℕ) → i < length ops → is_overwrite (op_in ops i) ≡ false
+-- An overwrite has ended whose store call failed: nobody knows what it left.
+pub record HasFailed (s : Stack) : Type 0 where
+  pub view : View
+  pub holds : Holds (plan_in s.sheet) s.machine view
+  pub op : ℕ
+  pub ended : has_ended (op_at view op).phase ≡ true
+  pub failed : is_medium (get_or s.replies.items op Silent) ≡ true
 
--- and whether or not some failed, where no op is an overwrite: of one whose store call fails nobody knows what it leaves.
-pub record WalksFalling (m : Setting) (n : ℕ) (opening : State) (first : ℕ) (s : Stack) (units : Option (List Stored)) (armed : List FaultLine) (st : Standing) (log : List Entry) : Type 0 where
-  pub no_overwrites : NoOverwrites s.sheet.ops
-  pub told : WalksAtTarget Falling m n opening first s units armed st log
+-- and whether or not some failed, as long as none of them was an overwrite's.
+abbrev pub WalksFalling : (m : Setting) (n : ℕ) (opening : State) (first : ℕ) → Stack → (units : Option (List Stored)) (armed : List FaultLine) → Standing → (log : List Entry) → Type 0
+WalksFalling m n opening first s units armed st log = HasFailed s ⊎ WalksAtTarget Falling m n opening first s units armed st log
 
 -- the cells with which a stack begins: its pages are those of these, and no frame was carried yet
 pub record Opens (opening : State) (s : Stack) : Type 0 where
@@ -225,11 +227,11 @@ WalksToldAtFirst s = (m : Setting) (n : ℕ) (opening : State) (us : List Stored
     → Opens opening s → IsOver m n opening s.sheet s.adapter s.host → SizesFit m st → m.site ≡ site_of s.adapter (specs_of st) → AreAtUnits m (specs_of st) s.sheet.ops
     → armed ≡ s.adapter.tamper → opening.blocks ≡ blocks_told us → WalksTold m n opening (length log) s (Some us) armed st log
 
--- And so it does where store calls may fail, if no op is an overwrite.
+-- And so it does where store calls may fail.
 abbrev pub WalksFallingAtFirst : Stack → Type 0
 WalksFallingAtFirst s = (m : Setting) (n : ℕ) (opening : State) (us : List Stored) (armed : List FaultLine) (st : Standing) (log : List Entry)
     → Opens opening s → IsOver m n opening s.sheet s.adapter s.host → SizesFit m st → m.site ≡ site_of s.adapter (specs_of st) → AreAtUnits m (specs_of st) s.sheet.ops
-    → armed ≡ s.adapter.tamper → opening.blocks ≡ blocks_told us → NoOverwrites s.sheet.ops → WalksFalling m n opening (length log) s (Some us) armed st log
+    → armed ≡ s.adapter.tamper → opening.blocks ≡ blocks_told us → WalksFalling m n opening (length log) s (Some us) armed st log
 
 -- ---- from one step to the next
 
@@ -267,26 +269,33 @@ units_left (FetchPi v n body tuples) us = us
 units_left (Overwrite dev lba change) us = with_block us dev lba (changed_told us change (block_at us dev lba))
 units_left Wait us = us
 
--- What an op leaves of them is known: of an overwrite where the count of faults doesn't rise.
-abbrev pub IsKnown : Op → (count count' : ℕ) → Type 0
-IsKnown (Fill seg byte) count count' = Unit {0}
-IsKnown (Put page off bytes) count count' = Unit {0}
-IsKnown (Show seg) count count' = Unit {0}
-IsKnown (Seal n body tuples app rtag) count count' = Unit {0}
-IsKnown (Write v n body app) count count' = Unit {0}
-IsKnown (Fetch v n body) count count' = Unit {0}
-IsKnown (WritePi v n body tuples) count count' = Unit {0}
-IsKnown (FetchPi v n body tuples) count count' = Unit {0}
-IsKnown (Overwrite dev lba change) count count' = Calm count count'
-IsKnown Wait count count' = Unit {0}
+-- What an op leaves of them is known by its reply: of an overwrite where it doesn't say that its store call failed.
+abbrev pub IsKnown : Op → Reply → Type 0
+IsKnown (Fill seg byte) reply = Unit {0}
+IsKnown (Put page off bytes) reply = Unit {0}
+IsKnown (Show seg) reply = Unit {0}
+IsKnown (Seal n body tuples app rtag) reply = Unit {0}
+IsKnown (Write v n body app) reply = Unit {0}
+IsKnown (Fetch v n body) reply = Unit {0}
+IsKnown (WritePi v n body tuples) reply = Unit {0}
+IsKnown (FetchPi v n body tuples) reply = Unit {0}
+IsKnown (Overwrite dev lba change) reply = reply ≡ Silent
+IsKnown Wait reply = Unit {0}
 
--- An op is admitted. Where a rig tells its blocks, it tells afterwards what the op leaves, if that is known.
+-- What ops replied that have ended is as it was.
+abbrev pub KeepsReplies : (old new : Stack) → Type 0
+KeepsReplies old new = (v : View) (i : ℕ) → Holds (plan_in old.sheet) old.machine v → has_ended (op_at v i).phase ≡ true → get_or new.replies.items i Silent ≡ get_or old.replies.items i Silent
+
+-- An op is admitted. Where a rig tells its blocks, it tells afterwards what the op leaves, if that is known; if it isn't, the op is an overwrite that failed, and the count of faults rose.
 pub record Enters (told_is : Bool) (st : Standing) (units units' : Option (List Stored)) (count count' : ℕ) (old new : Stack) : Type 0 where
   pub op : Op
+  pub reply : Reply
   pub reach : CanReach told_is st op
-  pub no_overwrite : NoOverwrites old.sheet.ops → is_overwrite op ≡ false
+  pub known : IsKnown op reply ⊎ HasFailed new
+  pub calm : Calm count count' → IsKnown op reply
+  pub keeps : KeepsReplies old new
   pub walks : (course : Course) (over : Setting) (n : ℕ) (opening : State) (es : List Sent) (left : List (List ℕ)) → IsOver over n opening old.sheet old.adapter old.host → WalksBy course over n opening es left old → WalksBy course over n opening es (op_left over op left) new
-  pub tells : (us : List Stored) → units ≡ Some us → IsKnown op count count' → units' ≡ Some (units_left op us)
+  pub tells : (us : List Stored) → units ≡ Some us → IsKnown op reply → units' ≡ Some (units_left op us)
 
 -- ---- at the end
 

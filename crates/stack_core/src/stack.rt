@@ -12,7 +12,7 @@ ghost use Rattle.stack_core.specs.Replies.{HoldsSeal};
 ghost use Rattle.stack_ops.specs.declared.reply.Reply.TheVariants.{Medium, Silent};
 ghost use Rattle.stack_core.specs.Done.{MadeBy, OpDone, Sealed, WriteMade, WriteMapped};
 ghost use Rattle.stack_core.specs.Doing.{CanDo, CanReach, HasBlocks};
-ghost use Rattle.stack_core.specs.Walking.{Enters, IsChosen, IsKnown, NoneFailed, Walks, WalksFalling, WalksOn, WalksTold, is_medium, units_left};
+ghost use Rattle.stack_core.specs.Walking.{Enters, IsChosen, IsKnown, KeepsReplies, NoneFailed, Walks, WalksFalling, WalksOn, WalksTold, is_medium, units_left};
 ghost use Rattle.dix_base.specs.Told.{Calm};
 ghost use Rattle.rig_api.specs.Telling.{block_at, changed, with_block};
 ghost use Rattle.target_answer.specs.Target.{Stored};
@@ -149,6 +149,7 @@ impl Stack {
         ensures silent { NoneFailed self.old.replies.items → NoneFailed self.new.replies.items }
         ensures kept { self.new.kept ≡ self.old.kept }
         ensures few { medium_replies self.new.replies.items ≤ medium_replies self.old.replies.items }
+        ensures others { IsChosen self.old (End q) → KeepsReplies self.old self.new }
     {
         let op = self.machine.end(&self.sheet, q) as usize;
         let room = take_room(&mut self.rooms, op);
@@ -360,7 +361,7 @@ fn overwrite<R: Rig>(rig: &mut R, dev: u32, lba: u64, change: &Change) -> Reply
     ensures armed { R.armed rig.new ≡ R.armed rig.old }
     ensures log { R.log rig.new ≡ R.log rig.old }
     ensures count { R.faults rig.old ≤ R.faults rig.new }
-    ensures left { (us : List Stored) → R.units rig.old ≡ Some us → Calm (R.faults rig.old) (R.faults rig.new) → R.units rig.new ≡ Some (with_block us dev lba (changed us change.now (block_at us dev lba))) }
+    ensures left { (us : List Stored) → R.units rig.old ≡ Some us → result ≡ Silent → R.units rig.new ≡ Some (with_block us dev lba (changed us change.now (block_at us dev lba))) }
     ensures silent { Calm (R.faults rig.old) (R.faults rig.new) → is_medium result ≡ false }
 {
     match rig.overwrite(dev, lba, change) {
@@ -381,7 +382,7 @@ fn do_op<R: Rig>(pool: &mut PagePool, op: &Op, kind: GuardKind, room: Room, rig:
     ensures armed { R.armed rig.new ≡ R.armed rig.old }
     ensures log { R.log rig.new ≡ R.log rig.old }
     ensures count { R.faults rig.old ≤ R.faults rig.new }
-    ensures left { (us : List Stored) → R.units rig.old ≡ Some us → IsKnown op.now (R.faults rig.old) (R.faults rig.new) → R.units rig.new ≡ Some (units_left op.now us) }
+    ensures left { (us : List Stored) → R.units rig.old ≡ Some us → IsKnown op.now result → R.units rig.new ≡ Some (units_left op.now us) }
     ensures silent { Calm (R.faults rig.old) (R.faults rig.new) → is_medium result ≡ false }
 {
     match op {

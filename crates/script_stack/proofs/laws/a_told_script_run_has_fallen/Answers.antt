@@ -13,7 +13,7 @@ use Rattle.script_stack.proofs.Runs.{has-cells, has-room, hides, hides-all}
 use Rattle.script_stack.proofs.laws.a_told_script_run_has_fallen.Goals as goal
 
 pub returns : goal.returns
-returns c = λ s t us left first r armed st log suits lines made good stored shapes k same w ended.
+returns c = λ s t us left first r armed st log suits lines made good stored shapes k same silent w ended.
     (let units = shapes_of us in
     let m = setting_of s t units none_fails in
     let blocks = blocks_told us in
@@ -22,7 +22,7 @@ returns c = λ s t us left first r armed st log suits lines made good stored sha
     let own = over-units m s t units refl refl refl refl refl refl in
     let bound = c.a_bound_script_is_bound_at_its_target.ensures m s t units us _ opening suits lines made good own refl refl stored refl (has-room s t units blocks none_fails) (has-cells s units blocks) in
     let takes = c.a_bound_script_takes_any_block_at_its_target.ensures m s t units us _ opening lines made good own refl refl stored refl in
-    let ends = c.a_finished_stack_has_done_the_falling_walk.ensures m (keeps_size blocks) n opening first r left armed st log k w ended
+    let ends = c.a_finished_stack_has_done_the_falling_walk.ensures m (keeps_size blocks) n opening first r left armed st log k w ended (λ i. sym (silent i)) silent
     (subst (λ ops. IsBoundRun m (keeps_size blocks) n ops opening) (sym same) bound) (subst (AllTakeAny m (keeps_size blocks) 1) (sym same) takes) in
     let here = subst (λ ops. EndsAsFalling m n ops opening (take n (flat r.pool)) (blocks_told left) r.replies.items (recorded m (drop first log))) same ends in
     record { shapes = shapes; ends = hidden-same m n s.ops opening (opening_of s units blocks) (take n (flat r.pool)) (blocks_told left) r.replies.items (recorded m (drop first log)) (hides s units blocks ∙ sym (hides-all s units blocks)) here })

@@ -1,19 +1,22 @@
-use Rattle.std.proofs.Common.{◌≡◌, ◌<◌, ◌+◌, Some, length, ap, refl, set, subst, sym, ◌∙◌, arith}
+use Rattle.std.proofs.Common.{◌≡◌, ◌<◌, ◌+◌, Some, length, ap, get_or, inl, inr, refl, set, subst, sym, ◌∙◌, arith}
 use Rattle.std.proofs.lemmas.Bool.{false≢true}
-use Rattle.std.proofs.lemmas.List.{length-set}
+use Rattle.std.proofs.lemmas.List.{get_or-set_same, length-set}
 use Rattle.stack_steps.specs.declared.choice.Choice.TheVariants.{Admit}
 use Rattle.stack_core.specs.Stacks.{plan_in}
 use Rattle.stack_core.proofs.Goes.{goes-as-before, goes-nowhere}
-use Rattle.stack_walks.proofs.Facts.{op-enters}
+use Rattle.stack_walks.proofs.Facts.{op-enters, request-at}
 use Rattle.stack_core.proofs.Keeps.{is-stack}
 use Rattle.stack_core.proofs.Rooms.{taken}
 use Rattle.stack_core.proofs.Steps.{works}
 use Rattle.bio_core.specs.declared.request.Io.{Io}
 use Rattle.stack_core.specs.declared.kept.Room.TheVariants.{Nothing}
 use Rattle.stack_core.specs.Done.{OpDone, WriteMade}
+use Rattle.stack_core.specs.Stacks.{room_at}
+use Rattle.stack_ops.specs.declared.reply.Reply.TheVariants.{Silent}
 use Rattle.stack_walks.specs.Sheets.{io_at, op_in}
 use Rattle.stack_ops.specs.declared.op.Op.TheVariants.{Wait}
 use Rattle.stack_core.specs.Walking.{IsKnown, NoneFailed, data_of, units_left, is_medium}
+use Rattle.stack_core.proofs.Failed.{admit_apart, has_failed, kept_reply, known_calm, known_done}
 use Rattle.stack_core.proofs.Failing.{one-more}
 use Rattle.stack_core.proofs.Walked.{walk_admits, walk_op}
 use Rattle.stack_core.specs.Mediums.{RoseBy, medium_replies}
@@ -99,8 +102,11 @@ returns-then-io-gt0-clause-walks g c = λ ch.
     let made = subst (λ (io : Io). WriteMade io.dir io.pi s.adapter.kind s.host io.body s.pool c.make_tuples.new.pool) c.io-then-io-gt0.ensures c.make_tuples.ensures.made in
     record {
       op = Wait;
+      reply = Silent;
       reach = tt;
-      no_overwrite = λ none. refl;
+      known = inl tt;
+      calm = λ calm. tt;
+      keeps = λ v j h e. refl;
       walks = λ course over n opening es left o w. walk_admits over n opening es left s c.requires.stack o w _ c.args.q c.admit-op.result (record { sheet = refl; adapter = refl; host = refl }) ch (c.admit-op.ensures.step 0) c.admit-op.ensures.op some c.make_tuples.new.pool made refl;
       tells = λ us e known. e;
     })
@@ -118,11 +124,19 @@ returns-clause-walks g c = λ ch.
     let f = c.requires.stack.fixed.ops in
     record {
       op = op_in s.sheet.ops i;
+      reply = c.do_op-done.result;
       reach = c.requires.rig.blocks i (omega arith);
-      no_overwrite = λ none. none i (omega arith);
+      known = elim (known_done (op_in s.sheet.ops i) s.adapter.kind (room_at s.rooms.items i) s.pool c.do_op-done.new.pool c.do_op-done.result done') [
+        | inl k ↦ inl k
+        | inr m ↦ inr (has_failed s _ c.args.q i c.do_op-done.result (record { sheet = refl; adapter = refl; host = refl }) c.requires.ready c.admit-op.ensures.op (c.admit-op.ensures.step 0)
+            (ap (λ r. r.count) (request-at s.sheet.ios.items i) ∙ empty)
+            (ap (λ rs. get_or rs i Silent) c.set_reply.ensures ∙ get_or-set_same s.replies.items i c.do_op-done.result Silent (let long = c.requires.stack.replies in omega (arith, long, li))) m)
+      ];
+      calm = λ calm. known_calm (op_in s.sheet.ops i) s.adapter.kind (room_at s.rooms.items i) s.pool c.do_op-done.new.pool c.do_op-done.result done' (c.do_op-done.ensures.silent calm);
+      keeps = λ v j h e. ap (λ rs. get_or rs j Silent) c.set_reply.ensures ∙ kept_reply s.replies.items i j c.do_op-done.result v (admit_apart (plan_in s.sheet) s.machine ch.0 c.args.q i ch.1 ch.2 c.admit-op.ensures.op v h) e;
       walks = λ course over n opening es left o w. walk_op over n opening es left s c.requires.stack o w _ c.args.q i (record { sheet = refl; adapter = refl; host = refl }) ch (c.admit-op.ensures.step 0) c.admit-op.ensures.op empty c.do_op-done.new.pool c.do_op-done.result done'
           (ap (λ x. record d { pool = c.do_op-done.new.pool; rooms = x; replies = c.set_reply.new.replies.items }) c.take_room-room.ensures.rooms ∙ ap (λ x. record d { pool = c.do_op-done.new.pool; rooms = set s.rooms.items i Nothing; replies = x }) c.set_reply.ensures);
-      tells = λ us e known. c.do_op-done.ensures.left us e (subst (λ op. IsKnown op (g.R.Rig.faults c.args.rig.now) (g.R.Rig.faults c.do_op-done.new.rig)) (sym c.op.ensures) known) ∙ ap (λ op. Some (units_left op us)) c.op.ensures;
+      tells = λ us e known. c.do_op-done.ensures.left us e (subst (λ op. IsKnown op c.do_op-done.result) (sym c.op.ensures) known) ∙ ap (λ op. Some (units_left op us)) c.op.ensures;
     })
 
 pub returns-then-io-gt0-clause-goes : goal.returns-then-io-gt0-clause-goes

@@ -155,7 +155,7 @@ returns-clause-queues c =
     (λ n h. (let l = c.count_devices-devices.ensures.tight n (rw (ios, table) at h) in let e = c.sheet_of-sheet.ensures.devices in omega arith))
 
 pub returns-clause-falling : goal.returns-clause-falling
-returns-clause-falling c = λ m n opening us armed st log o over sizes site behind armed_are blocks none_over.
+returns-clause-falling c = λ m n opening us armed st log o over sizes site behind armed_are blocks.
     (let suits = rw (c.as_slice-5.ensures) at c.in_ok-rooms.ensures.suits in
     falling_begins m n opening _ us armed st log (returns-clause-stack c) c.in_ok-machine.ensures c.in_ok-new.ensures.whole
-    (subst (λ ops. (i : ℕ) → i < length ops → Suits (op_in ops i) (room_at c.in_ok-rooms.rooms.items i)) (sym c.sheet_of-sheet.ensures.ops) suits) o over sizes site behind armed_are blocks none_over)
+    (subst (λ ops. (i : ℕ) → i < length ops → Suits (op_in ops i) (room_at c.in_ok-rooms.rooms.items i)) (sym c.sheet_of-sheet.ensures.ops) suits) o over sizes site behind armed_are blocks)
