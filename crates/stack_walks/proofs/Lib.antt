@@ -24,3 +24,4 @@ pub mod OwnCells
 pub mod BlockParts
 pub mod Chained
 pub mod Clear
+pub mod Conflicting

@@ -4,5 +4,7 @@
 #![tactic(auto)]
 
 mod laws;
+mod plans;
 
 pub use laws::what_was_found_stands_in_its_cell;
+pub use plans::a_plan_has_the_conflicts_of_its_ops;
