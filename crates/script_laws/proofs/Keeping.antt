@@ -54,10 +54,10 @@ verb_kept ReadPiVerb n words d e h g line f r t = op_kept n d e h g (op_form Rea
 verb_kept OverwriteVerb n words d e h g line f r t = op_kept n d e h g (op_form OverwriteVerb d.block words) line f (λ op i. overwrite_gives d.block words op i) r t
 verb_kept WaitVerb n words d e h g line f r t = op_kept n d e h g (op_form WaitVerb d.block words) line f (λ op i. subst (Numbers d.block) (sym (ended_ok Wait words op i)) tt) r t
 
-ok_draft : (a b : Drafted) → ◌≡◌ {A = Result Drafted ScriptKind} (Ok a) (Ok b) → b ≡ a
+pub ok_draft : (a b : Drafted) → ◌≡◌ {A = Result Drafted ScriptKind} (Ok a) (Ok b) → b ≡ a
 ok_draft a b h = cc
 
-no_rule : (f : Option ScriptKind) (r : Result Drafted ScriptKind) (e : Drafted) → unless_broken f r ≡ Ok e → (f ≡ None) × (r ≡ Ok e)
+pub no_rule : (f : Option ScriptKind) (r : Result Drafted ScriptKind) (e : Drafted) → unless_broken f r ≡ Ok e → (f ≡ None) × (r ≡ Ok e)
 no_rule None r e h = (refl, h)
 no_rule (Some k) r e h = absurd (cc)
 
@@ -120,7 +120,7 @@ text_by true b n words d e h t = absurd (cc)
 text_by false true n words d e h t = absurd (cc)
 text_by false false n words d e h t = words_kept n words d e h t
 
-text_kept : (n : ℕ) (line : List ℕ) (d e : Drafted) → Held d → text_taken n line d ≡ Ok e → Held e
+pub text_kept : (n : ℕ) (line : List ℕ) (d e : Drafted) → Held d → text_taken n line d ≡ Ok e → Held e
 text_kept n line d e h t = text_by (not (is_plain line)) (ltb 4096 (length line)) n (words_of line) d e h t
 
 -- at the end
@@ -169,7 +169,7 @@ finished_keeps d h p =
       lined = omega (arith, a, b, c, count);
     }
 
-ok_script : (a b : Script) → ◌≡◌ {A = Result Script ScriptFault} (Ok a) (Ok b) → b ≡ a
+pub ok_script : (a b : Script) → ◌≡◌ {A = Result Script ScriptFault} (Ok a) (Ok b) → b ≡ a
 ok_script a b h = cc
 
 late_place : (place : Option Place) → end_fault place ≡ None → 7 ≤ number_of place
@@ -191,7 +191,7 @@ end_keeps : (f : Option ScriptKind) (n : ℕ) (d : Drafted) (s : Script) → Hel
 end_keeps None n d s h p t = subst KeepsAll (sym (ok_script (finished d) s t)) (finished_keeps d h (late_place d.place p))
 end_keeps (Some k) n d s h p t = absurd (cc)
 
-go_keeps : (r : Result Drafted ScriptKind) (n : ℕ) (rest : Drafted → Result Script ScriptFault) (s : Script) → go_on n r rest ≡ Ok s → (e : Drafted) × (r ≡ Ok e) × (rest e ≡ Ok s)
+pub go_keeps : (r : Result Drafted ScriptKind) (n : ℕ) (rest : Drafted → Result Script ScriptFault) (s : Script) → go_on n r rest ≡ Ok s → (e : Drafted) × (r ≡ Ok e) × (rest e ≡ Ok s)
 go_keeps (Ok e) n rest s h = (e, refl, h)
 go_keeps (Err k) n rest s h = absurd (cc)
 

@@ -16,5 +16,6 @@ pub mod Over
 pub mod Held
 pub mod Kept
 pub mod Keeping
+pub mod OverLines
 pub mod BigKeeps
 pub mod Examples

@@ -6,12 +6,12 @@ use Rattle.std.proofs.lemmas.List.Elements.{All-head, All-tail}
 use Rattle.linear_volume.specs.declared.Linear.{Linear}
 use Rattle.volume_table.specs.declared.entry.Entry.{Entry}
 use Rattle.volume_table.specs.Entries.{IsInRange}
-use Rattle.volume_table.specs.Places.{volume_len}
+use Rattle.volume_table.specs.Places.{place_in, volume_len}
 use Rattle.volume_tree.specs.declared.TreeFault.{TreeFault}
 use Rattle.volume_tree.specs.declared.TreeFault.TheVariants.{BadLength, Unaligned, TooMany as TooManyEnds, Memory as NoMemory}
 use Rattle.volume_tree.specs.Tracks.{FollowsFrom, ends, is_held, place_by, track_place}
-use Rattle.volume_tree.specs.Trees.{AreTracks, DoFit, expanded, has_bad_length, is_unaligned, leg_from, stripe_between, stripes, tree_fault}
-use Rattle.volume_tree.proofs.Stretches.{Built, all_blocks, all_fit, all_ranges, built}
+use Rattle.volume_tree.specs.Trees.{AreTracks, DoFit, EntriesFollow, expanded, has_bad_length, is_unaligned, leg_from, stripe_between, stripes, tree_fault, tree_place}
+use Rattle.volume_tree.proofs.Stretches.{Built, all_blocks, all_fit, all_follow, all_places, all_ranges, built}
 use Rattle.script_lines.specs.declared.kind.ScriptKind.{ScriptKind}
 use Rattle.script_text.specs.Trees.{InnerExtent, as_kind, entries_over, is_bad_volume, is_none, is_past, over_fault, track_from, tracks_in, unless_fault}
 use Rattle.script_laws.specs.Keeping.{Each, IsEntry, IsLeg, IsWithin}
@@ -132,9 +132,16 @@ some_entry : (es : List Entry) (len : ℕ) → volume_len es ≡ len → 1 ≤ l
 some_entry [] len e l = absurd (omega (arith, e, l))
 some_entry (x ∷ es) len e l = omega arith
 
-pub over_entries : (inner : List InnerExtent) (start len chunk : ℕ) (volumes : List ℕ) (found : List Entry) → Each IsInner inner → length inner ≤ 32 → IsWithin 1 1048576 len → IsWithin 1 65536 chunk → 1 ≤ length volumes
-    → entries_over inner start len chunk volumes ≡ Ok found → Each IsEntry found × (1 ≤ length found)
-over_entries inner start len chunk volumes found h few l c some e =
+record Spread (inner : List InnerExtent) (start len chunk : ℕ) (volumes : List ℕ) (found : List Entry) : Type 0 where
+  same : found ≡ expanded start chunk (tracks_in inner volumes)
+  tree : Built chunk len (tracks_in inner volumes)
+  spans : Each (Each IsSpan) (tracks_in inner volumes)
+  few : length (tracks_in inner volumes) ≤ 8
+  fits : start + len < 2 ^ 64
+
+over_spread : (inner : List InnerExtent) (start len chunk : ℕ) (volumes : List ℕ) (found : List Entry) → Each IsInner inner → length inner ≤ 32 → IsWithin 1 1048576 len → IsWithin 1 65536 chunk → 1 ≤ length volumes
+    → entries_over inner start len chunk volumes ≡ Ok found → Spread inner start len chunk volumes found
+over_spread inner start len chunk volumes found h few l c some e =
     let ts : List (List Linear) = tracks_in inner volumes in
     let u = unless_ok (over_fault inner start len chunk volumes) (expanded start chunk ts) found e in
     let a = unbroken (ltb 8 (length volumes)) _ _ u.0 in
@@ -143,11 +150,37 @@ over_entries inner start len chunk volumes found h few l c some e =
     let t = tracks_hold inner volumes h few g.0 in
     let same = t.2 in
     let eight = not_more (length volumes) 8 a.0 in
-    let fits = not_from (start + len) (2 ^ 64) b.0 in
     let f = tree_by (has_bad_length len chunk ts) (is_unaligned chunk ts) (ltb 16 (length (ends ts))) (tree_fault len chunk ts) refl g.1 in
-    let low = l.low_is in
-    let high = l.high_is in
-    let first = c.low_is in
-    let r : Built chunk len ts = built chunk len ts first (omega (arith, same, some)) low t.0 f.0 f.1 in
-    let each : Each IsEntry (expanded start chunk ts) = stripes_fit start chunk 0 ts (ends ts) (omega (arith, fits)) c t.1 (all_fit start chunk len ts r fits) (all_ranges start chunk len ts r (omega (arith, same, eight)) high) in
-    (subst (Each IsEntry) (sym u.1) each, some_entry found len (ap volume_len u.1 ∙ all_blocks start chunk len ts r) low)
+    record {
+      same = u.1;
+      tree = built chunk len ts c.low_is (omega (arith, same, some)) l.low_is t.0 f.0 f.1;
+      spans = t.1;
+      few = omega (arith, same, eight);
+      fits = not_from (start + len) (2 ^ 64) b.0;
+    }
+
+pub over_entries : (inner : List InnerExtent) (start len chunk : ℕ) (volumes : List ℕ) (found : List Entry) → Each IsInner inner → length inner ≤ 32 → IsWithin 1 1048576 len → IsWithin 1 65536 chunk → 1 ≤ length volumes
+    → entries_over inner start len chunk volumes ≡ Ok found → Each IsEntry found × (1 ≤ length found)
+over_entries inner start len chunk volumes found h few l c some e =
+    let ts : List (List Linear) = tracks_in inner volumes in
+    let r : Spread inner start len chunk volumes found = over_spread inner start len chunk volumes found h few l c some e in
+    let fits = r.fits in
+    let each : Each IsEntry (expanded start chunk ts) = stripes_fit start chunk 0 ts (ends ts) (omega (arith, fits)) c r.spans (all_fit start chunk len ts r.tree fits) (all_ranges start chunk len ts r.tree r.few l.high_is) in
+    (subst (Each IsEntry) (sym r.same) each, some_entry found len (ap volume_len r.same ∙ all_blocks start chunk len ts r.tree) l.low_is)
+
+-- They have the blocks of the line, which lie where the tree says.
+pub record OverSays (inner : List InnerExtent) (start len chunk : ℕ) (volumes : List ℕ) (found : List Entry) : Type 0 where
+  pub places : (v : ℕ) → start ≤ v → v < start + len → place_in found v ≡ tree_place start chunk (tracks_in inner volumes) v
+  pub follow : EntriesFollow start found
+  pub blocks : volume_len found ≡ len
+
+pub over_says : (inner : List InnerExtent) (start len chunk : ℕ) (volumes : List ℕ) (found : List Entry) → Each IsInner inner → length inner ≤ 32 → IsWithin 1 1048576 len → IsWithin 1 65536 chunk → 1 ≤ length volumes
+    → entries_over inner start len chunk volumes ≡ Ok found → OverSays inner start len chunk volumes found
+over_says inner start len chunk volumes found h few l c some e =
+    let ts : List (List Linear) = tracks_in inner volumes in
+    let r : Spread inner start len chunk volumes found = over_spread inner start len chunk volumes found h few l c some e in
+    record {
+      places = λ v lo hi. ap (λ es. place_in es v) r.same ∙ all_places start chunk len v ts r.tree lo hi;
+      follow = subst (EntriesFollow start) (sym r.same) (all_follow start chunk len ts r.tree);
+      blocks = ap volume_len r.same ∙ all_blocks start chunk len ts r.tree;
+    }

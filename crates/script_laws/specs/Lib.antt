@@ -4,3 +4,4 @@ pub mod Lines
 pub mod Keeping
 pub mod RoundTrip
 pub mod Examples
+pub mod OverLines

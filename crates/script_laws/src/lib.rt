@@ -2,13 +2,17 @@
 //! rules; and what is printed of a script that keeps them is read as the same script.
 #![tactic(auto)]
 
-ghost use Rattle.std.specs.Prelude.{◌≡◌, ◌+◌, ◌≤◌, MatchResult, Ok, length};
+ghost use Rattle.std.specs.Prelude.{◌≡◌, ◌+◌, ◌≤◌, ◌∷◌, ◌++◌, ℕ, List, MatchResult, Ok, codes, length};
+ghost use Rattle.volume_table.specs.Tables.{IsTable, Table};
+ghost use Rattle.script_words.specs.Cuts.{lines_of, words_of};
 ghost use Rattle.script_lines.specs.declared.kind.ScriptKind.{ScriptKind};
 ghost use Rattle.script_text.specs.Generator.{big};
 ghost use Rattle.script_text.specs.Language.{script_in};
 ghost use Rattle.script_text.specs.Printed.{script_printed};
+ghost use Rattle.script_text.specs.declared.script.Script.{Script as AnyScript};
 ghost use Rattle.script_laws.specs.Examples.{BoundExamples, ReadExamples, StateExamples};
 ghost use Rattle.script_laws.specs.Keeping.{Keeps};
+ghost use Rattle.script_laws.specs.OverLines.{LiesInTree};
 ghost use Rattle.script_laws.specs.RoundTrip.{IsSame, IsWithinLimits, ReadsAs};
 
 use script_text::{Script, ScriptFault, ScriptKind, print_script, read_script};
@@ -35,6 +39,13 @@ pub fn a_big_script_keeps_the_rules(n: u32, seed: u32, script: &Script)
     let _number = (n, seed);
     let _script = script;
 }
+
+/// A law: each virtual block of an `over` line of a script that was read lies, by a table made of the script's entries,
+/// where the tree of the inner volumes says that were read before it.
+pub fn blocks_over_inner_volumes_lie_in_the_tree()
+    ensures { (text : List ℕ) (s : AnyScript) (t : Table) (before after : List (List ℕ)) (line : List ℕ) (words : List (List ℕ)) → script_in text ≡ Ok s → IsTable t → t.entries ≡ s.entries
+        → lines_of text ≡ before ++ (line ∷ after) → words_of line ≡ codes "over" ∷ words → LiesInTree t before words }
+{}
 
 /// A law: the text that is printed of a script that keeps the rules reads as the same script, apart
 /// from the numbers of its lines, where the text is within the limits on a text and on a line.
