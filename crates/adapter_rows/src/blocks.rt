@@ -1,7 +1,6 @@
 //! Blocks as a row writes them.
 
-use hex::FromHex;
-use row_table::small;
+use row_table::{array_of, small};
 use std::alloc::{AllocError, Global};
 
 /// The data of block `p`: byte `j` is (7 j + p (j / 5) + p) mod 251.
@@ -34,7 +33,7 @@ pub(crate) fn frame_of(alloc: Global, word: &str, size: u32) -> Result<Vec<u8>, 
     if p >= 10 {
         alter(&mut frame);
     }
-    if let Ok(bytes) = <[u8; 8] as FromHex>::from_hex(tuple) {
+    if let Some(bytes) = array_of::<8>(tuple) {
         frame.extend_from_slice(bytes.as_slice())?;
     }
     Ok(frame)

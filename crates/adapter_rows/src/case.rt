@@ -2,9 +2,9 @@
 
 use dix_adapter::Adapter;
 use fault_schedule::Tamper;
-use hex::FromHex;
 use pi_guard::GuardKind;
 use pi_tuple::PiType;
+use row_table::tag_of;
 
 /// One way through the adapter.
 #[derive(Clone, Copy)]
@@ -25,13 +25,6 @@ fn type_of(word: &str) -> PiType {
         "1" => PiType::One,
         "2" => PiType::Two,
         _ => PiType::Three,
-    }
-}
-
-fn tag_of(word: &str) -> u16 {
-    match <[u8; 2] as FromHex>::from_hex(word) {
-        Ok(bytes) => u16::from_be_bytes(bytes),
-        Err(_) => 0,
     }
 }
 

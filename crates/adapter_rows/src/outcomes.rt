@@ -4,17 +4,16 @@ ghost use Rattle.std.specs.Prelude.{◌≡◌, true};
 ghost use Rattle.rig_api.specs.Log.{has_key};
 
 use bio_core::{Fate, Why};
-use hex::FromHex;
 use pi_tuple::Check;
 use rig_api::Outcome;
-use row_table::small;
+use row_table::{array_of, small};
 use sense_codes::Sense;
 
 /// The sense of a word: key, code and qualifier in hexadecimal; none of another word.
 fn sense_of(word: &str) -> Option<Sense>
     ensures { has_key result ≡ true }
 {
-    let [key, asc, ascq] = <[u8; 3] as FromHex>::from_hex(word).ok()?;
+    let [key, asc, ascq] = array_of::<3>(word)?;
     Some(Sense {
         key: key % 16,
         asc,
@@ -43,7 +42,7 @@ fn check_of(word: &str) -> Option<Check> {
 }
 
 fn refused(word: &str) -> Option<Why> {
-    let [key, asc, ascq] = <[u8; 3] as FromHex>::from_hex(word).ok()?;
+    let [key, asc, ascq] = array_of::<3>(word)?;
     Some(Why::Refused { key, asc, ascq })
 }
 

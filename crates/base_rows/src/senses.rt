@@ -5,8 +5,7 @@ ghost use Rattle.sense_codes.specs.Written.{Fits};
 
 use crate::names::{check_name, none, out_of_range};
 use arrayvec::ArrayVec;
-use hex::FromHex;
-use row_table::{bytes_of, cut, hex_of};
+use row_table::{array_of, bytes_of, cut, hex_of};
 use sense_codes::{Layer, Sense, SenseFault, layer_and_check};
 use std::alloc::{AllocError, Global};
 
@@ -33,7 +32,7 @@ fn fits(s: Sense) -> bool
 /// The sense of two words: key, code and qualifier in hexadecimal digits, and the information or -.
 fn sense_of(words: &str) -> Option<Sense> {
     let (codes, info) = cut(words);
-    let [key, asc, ascq] = <[u8; 3] as FromHex>::from_hex(codes).ok()?;
+    let [key, asc, ascq] = array_of::<3>(codes)?;
     Some(Sense {
         key,
         asc,

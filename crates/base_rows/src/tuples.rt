@@ -1,14 +1,13 @@
 //! Tuples, their fields, and what a check finds.
 
 use crate::names::{check_name, none, short, type_of, yes_or_no};
-use hex::FromHex;
 use pi_tuple::{Checks, Tuple, finds, has_ref_tag, is_escape, make, own_tag, ref_tag};
-use row_table::{cut, hex_of, number, small};
+use row_table::{array_of, cut, hex_of, number, small};
 use std::alloc::{AllocError, Global};
 
 /// The tuple of 16 hexadecimal digits; that of zeros for another word.
 fn tuple_of(word: &str) -> Tuple {
-    let bytes = <[u8; 8] as FromHex>::from_hex(word).unwrap_or([0; 8]);
+    let bytes = array_of(word).unwrap_or([0; 8]);
     Tuple::from_bytes(&bytes)
 }
 

@@ -3,14 +3,12 @@
 use crate::lines::numbers;
 use dix_base::MemStore;
 use dix_words::unit_of;
-use hex::FromHex;
 use image_rig::ImageRig;
-use rig_api::{Outcome, Rig};
-use row_table::{bytes_of, cut, number};
-use scripted_rig::Answer;
+use rig_api::Outcome;
+use row_table::{array_of, bytes_of, cut, number};
+use scripted_rig::{Answer, formatted};
 use sense_codes::Sense;
 use std::alloc::{AllocError, Global};
-use target_answer::is_layout;
 
 /// The bytes of the freshly formatted image of the units that these words name; none where an image can't have them.
 pub(crate) fn image_of(alloc: Global, words: &str) -> Result<Vec<u8>, AllocError> {
@@ -20,11 +18,7 @@ pub(crate) fn image_of(alloc: Global, words: &str) -> Result<Vec<u8>, AllocError
             units.push(unit)?;
         }
     }
-    let mut rig = ImageRig::new(alloc, MemStore::new(Vec::new(alloc), Vec::new(alloc)));
-    if is_layout(&units) {
-        let _ = rig.format(alloc, "a", &units);
-    }
-    Vec::from_slice(alloc, rig.store().bytes())
+    formatted(alloc, &units)
 }
 
 /// Puts bytes in place of those from a place on, as far as there are such.
@@ -73,7 +67,7 @@ pub(crate) fn rig_over(
 
 /// The key and the two codes of a sense; none where it is no sense.
 fn sense_of(word: &str) -> Option<Sense> {
-    let [key, asc, ascq] = <[u8; 3] as FromHex>::from_hex(word).ok()?;
+    let [key, asc, ascq] = array_of::<3>(word)?;
     Some(Sense {
         key,
         asc,

@@ -1,7 +1,5 @@
 //! Ops that conflict with none, behind one gate.
 
-ghost use Rattle.std.specs.Prelude.{◌≡◌, ◌<◌, ◌≤◌, IfOk, length, vec_len, true};
-
 use crate::gates::{empty, gate_of};
 use range_gate::Gate;
 use std::alloc::{AllocError, Global};

@@ -1,6 +1,6 @@
 //! Which ops wait for which.
 
-ghost use Rattle.std.specs.Prelude.{◌≡◌, ◌<◌, ◌≤◌, IfOk, length, vec_len, true};
+ghost use Rattle.std.specs.Prelude.{◌≡◌, ◌<◌, IfOk, length, vec_len};
 
 use crate::kinds::seg_of;
 use range_gate::{Footprint, Gate, Reach, Touch, TouchList};

@@ -3,7 +3,6 @@
 ghost use Rattle.std.specs.Prelude.{◌≡◌, ◌+◌, ◌<◌, ◌^◌, true};
 
 use bio_core::Dir;
-use hex::FromHex;
 use page_pool::Seg;
 use pi_guard::GuardKind;
 use pi_tuple::PiType;
@@ -66,14 +65,6 @@ pub(crate) fn dir_of(word: &str) -> Dir {
 /// How a direction is written.
 pub(crate) fn dir_word(dir: Dir) -> &'static str {
     if dir == Dir::Read { "read" } else { "write" }
-}
-
-/// The tag of four digits.
-pub(crate) fn tag_of(word: &str) -> u16 {
-    match <[u8; 2] as FromHex>::from_hex(word) {
-        Ok(bytes) => u16::from_be_bytes(bytes),
-        Err(_) => 0,
-    }
 }
 
 /// Whether so many blocks from one on end in 64 bits.

@@ -1,6 +1,6 @@
 //! Bytes of pages that rows write and look at.
 
-ghost use Rattle.std.specs.Prelude.{◌≡◌, ◌+◌, ◌≤◌, true, length};
+ghost use Rattle.std.specs.Prelude.{◌≡◌, ◌+◌, ◌≤◌, true};
 ghost use Rattle.page_pool.specs.Pages.{AllLieIn};
 ghost use Rattle.page_pool.specs.Places.{NoneTwice, places_in, range_of, total};
 

@@ -1,7 +1,5 @@
 //! Queues of one device.
 
-ghost use Rattle.std.specs.Prelude.{◌≡◌, ◌<◌, ◌≤◌, ◌+◌, ◌^◌, true, length, IfOk};
-
 use crate::bios::bio_text;
 use crate::kinds::{dir_of, fits};
 use crate::scene::NO_BIO;

@@ -1,13 +1,13 @@
 //! What the rows of pages, tuples and requests stand on.
 
-use crate::kinds::{dir_of, seg_of, segs_of, tag_of};
+use crate::kinds::{dir_of, seg_of, segs_of};
 use crate::pages::{put, scatter, zero};
 use crate::tuples;
 use bio_core::{Bio, Dir, Io};
 use integrity_payload::{Owner, Payload};
 use page_checks::list_of;
 use page_pool::{PagePool, SgList};
-use row_table::{Words, bytes_of, cut, small};
+use row_table::{Words, bytes_of, cut, small, tag_of};
 use std::alloc::{AllocError, Global};
 
 /// The pool, a request whose data and tuples may lie in it, and a bio of it.

@@ -1,20 +1,19 @@
 //! Tuples of the request that rows make, check and map.
 
-ghost use Rattle.std.specs.Prelude.{◌≡◌, ◌<◌, ◌≤◌, ◌+◌, ◌^◌, true, length};
+ghost use Rattle.std.specs.Prelude.{◌≡◌, ◌<◌, ◌+◌, ◌^◌, true};
 ghost use Rattle.page_pool.specs.Pages.{AllLieIn};
 ghost use Rattle.page_pool.specs.Places.{Apart, NoneTwice, places_in};
 ghost use Rattle.integrity_payload.specs.Payloads.{IsPayload};
 
-use crate::kinds::{fits, guard_of, tag_of, type_of};
+use crate::kinds::{fits, guard_of, type_of};
 use crate::scene::Scene;
 use bio_core::Io;
-use hex::FromHex;
 use integrity_payload::Payload;
 use page_checks::{all_lie, are_apart, is_payload, none_twice};
 use page_pool::{PagePool, SgList};
 use pi_tuple::{Check, Tuple};
 use ref_remap::{map_back, map_out};
-use row_table::{Words, hex_of};
+use row_table::{Words, array_of, hex_of, tag_of};
 use std::alloc::{AllocError, Global};
 
 /// Whether the payload's tuples lie in the pool.
@@ -57,7 +56,7 @@ fn generate(pool: &mut PagePool, body: &SgList, pi: &Payload, words: &str) -> bo
 
 /// The tuple of sixteen digits.
 fn tuple_of(word: &str) -> Option<Tuple> {
-    let bytes = <[u8; 8] as FromHex>::from_hex(word).ok()?;
+    let bytes = array_of(word)?;
     Some(Tuple::from_bytes(&bytes))
 }
 

@@ -64,6 +64,14 @@ fn change(rig: &mut ImageRig<FileStore>, dev: u32, lba: u64, change: &Change) ->
     dev < count && source(change, dev) < count && rig.overwrite(dev, lba, change).is_ok()
 }
 
+/// Makes the file that of these units, and opens it.
+fn format<R: Rig>(alloc: Global, rig: &mut R, path: &str, words: &str) -> bool {
+    let units = units_of(words);
+    is_layout(&units)
+        && rig.format(alloc, path, &units).is_ok()
+        && rig.open(alloc, path).is_ok()
+}
+
 /// The last byte of each of six blocks of 520 bytes.
 fn last_bytes(image: &[u8]) -> [u8; 6] {
     let mut last = [0; 6];
@@ -81,15 +89,6 @@ impl Files {
             rt,
             rig: ImageRig::new(rt.alloc(), FileStore::new(rt)),
         }
-    }
-
-    /// Makes the file that of these units, and opens it.
-    fn format(&mut self, path: &str, words: &str) -> bool {
-        let alloc = self.rt.alloc();
-        let units = units_of(words);
-        is_layout(&units)
-            && self.rig.format(alloc, path, &units).is_ok()
-            && self.rig.open(alloc, path).is_ok()
     }
 
     fn change(&mut self, alloc: Global, words: &str) -> Result<bool, AllocError> {
@@ -110,7 +109,7 @@ impl Files {
             return self.change(alloc, rest);
         }
         match path_of(&self.rt) {
-            Ok(path) if word == "file" => Ok(self.format(path.as_str(), rest)),
+            Ok(path) if word == "file" => Ok(format(alloc, &mut self.rig, path.as_str(), rest)),
             Ok(path) => Ok(fs::remove_file(&self.rt, path.as_str()).is_ok()),
             Err(_) => Ok(false),
         }

@@ -9,7 +9,6 @@ use image_rig::ImageRig;
 use rig_api::{Outcome, Rig, RigFault, blocks_of};
 use row_table::{Words, bytes_of, hex_of, small};
 use std::alloc::{AllocError, Global};
-use target_answer::is_layout;
 
 const LABELS: [Label; 2] = [Label { op: 3, k: 0 }, Label { op: 3, k: 1 }];
 
@@ -31,13 +30,9 @@ pub(crate) fn rig_over(
 }
 
 /// The formatted image of these units, which is empty where there can be none.
-fn formatted(alloc: Global, words: &str) -> Result<Vec<u8>, AllocError> {
+fn image_of(alloc: Global, words: &str) -> Result<Vec<u8>, AllocError> {
     let units = units_of(words);
-    let mut rig = rig_over(alloc, Vec::new(alloc), 0)?;
-    if !is_layout(&units) || rig.format(alloc, "unit.img", &units).is_err() {
-        return Ok(Vec::new(alloc));
-    }
-    Vec::from_slice(alloc, rig.store().bytes())
+    scripted_rig::formatted(alloc, &units)
 }
 
 fn copy(alloc: Global, bytes: &[u8]) -> Result<Vec<u8>, AllocError> {
@@ -62,13 +57,13 @@ fn altered(
 }
 
 /// How an opening ends, and how many devices there are then.
-fn opened(alloc: Global, rig: &mut ImageRig<MemStore>) -> Result<String, AllocError> {
+fn opened<R: Rig>(alloc: Global, rig: &mut R) -> Result<String, AllocError> {
     let word = opened_word(rig.open(alloc, "unit.img"));
     let devices = rig.devices();
     format!(in alloc; "{word} {devices}")
 }
 
-fn migrated(alloc: Global, rig: &mut ImageRig<MemStore>) -> Result<String, AllocError> {
+fn migrated<R: Rig>(alloc: Global, rig: &mut R) -> Result<String, AllocError> {
     let came = rig.migrate(alloc, "unit.img");
     let devices = rig.devices();
     match came {
@@ -146,7 +141,7 @@ impl Images {
     ) -> Result<bool, AllocError> {
         let fail = match word {
             "format" => {
-                self.image = formatted(alloc, rest)?;
+                self.image = image_of(alloc, rest)?;
                 0
             }
             "rig" => row_table::number(rest),

@@ -1,11 +1,10 @@
 //! The modes of a type, and how tuples travel.
 
 use block_path::Mode;
-use hex::FromHex;
 use mode_map::modes_text;
 use pi_guard::GuardKind;
 use pi_tuple::PiType;
-use row_table::Words;
+use row_table::{Words, tag_of};
 use std::alloc::{AllocError, Global};
 
 fn guard_of(word: &str) -> GuardKind {
@@ -13,14 +12,6 @@ fn guard_of(word: &str) -> GuardKind {
         GuardKind::Ip
     } else {
         GuardKind::Crc
-    }
-}
-
-/// The tag of four digits.
-fn tag_of(word: &str) -> u16 {
-    match <[u8; 2] as FromHex>::from_hex(word) {
-        Ok(bytes) => u16::from_be_bytes(bytes),
-        Err(_) => 0,
     }
 }
 

@@ -1,10 +1,9 @@
 //! Units, outcomes and bytes as rows write them.
 
 use arrayvec::ArrayVec;
-use hex::FromHex;
 use pi_tuple::PiType;
 use rig_api::{Outcome, RigFault, UnitSpec};
-use row_table::{hex_of, number, small};
+use row_table::{array_of, hex_of, number, small};
 use sense_codes::Sense;
 use std::alloc::{AllocError, Global};
 
@@ -49,7 +48,7 @@ pub(crate) fn units_of(words: &str) -> ArrayVec<UnitSpec, 8> {
 
 /// The sense of a word: key, code and qualifier in hexadecimal; none of another word.
 pub(crate) fn sense_of(word: &str) -> Option<Sense> {
-    let [key, asc, ascq] = <[u8; 3] as FromHex>::from_hex(word).ok()?;
+    let [key, asc, ascq] = array_of::<3>(word)?;
     Some(Sense {
         key,
         asc,

@@ -8,10 +8,9 @@ use crate::units::type_of;
 use bio_core::Why;
 use block_path::{Mode, Route};
 use fault_schedule::Label;
-use hex::FromHex;
 use integrity_payload::Owner;
 use pi_tuple::{Check, PiType};
-use row_table::{Words, hex_of};
+use row_table::{Words, array_of, hex_of};
 use std::alloc::{AllocError, Global};
 
 /// The block of virtual block 0, at address 100. A mode whose protect field is 0 has 1 in its place.
@@ -65,7 +64,7 @@ fn told(alloc: Global, why: Option<Why>, frame: &[u8; 520]) -> Result<String, Al
 fn frame(last: u8, tuple: &str) -> [u8; 520] {
     let mut frame = [0; 520];
     frame[511] = last;
-    if let Ok(bytes) = <[u8; 8] as FromHex>::from_hex(tuple) {
+    if let Some(bytes) = array_of::<8>(tuple) {
         frame[512..].copy_from_slice(&bytes);
     }
     frame

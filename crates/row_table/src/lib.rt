@@ -10,7 +10,7 @@ pub use escapes::text_of;
 pub use line::Words;
 use std::alloc::{AllocError, Global};
 use std::io;
-pub use words::{bytes_of, cut, hex_of, number, small};
+pub use words::{array_of, bytes_of, cut, hex_of, number, small, tag_of};
 
 /// What a program does with the lines of its table.
 pub trait Judge {

@@ -60,6 +60,23 @@ pub fn bytes_of(alloc: Global, text: &str) -> Result<Vec<u8>, AllocError> {
     Ok(bytes)
 }
 
+/// The bytes of a word of as many pairs of hexadecimal digits; none of another word.
+pub fn array_of<const N: usize>(word: &str) -> Option<[u8; N]> {
+    let mut bytes = [0u8; N];
+    match hex::decode_to_slice(word, &mut bytes) {
+        Ok(()) => Some(bytes),
+        Err(_) => None,
+    }
+}
+
+/// The tag of four hexadecimal digits; 0 of another word.
+pub fn tag_of(word: &str) -> u16 {
+    match array_of(word) {
+        Some(bytes) => u16::from_be_bytes(bytes),
+        None => 0,
+    }
+}
+
 /// Bytes as hexadecimal digits.
 pub fn hex_of(alloc: Global, bytes: &[u8]) -> Result<String, AllocError> {
     hex::encode(alloc, bytes)

@@ -32,8 +32,7 @@ pub(crate) fn wanted(alloc: Global, text: &[u8], want: &[u8]) -> Result<String, 
     if text == want {
         return String::from_str(alloc, "yes");
     }
-    let text = str::from_utf8(text).unwrap_or("?");
-    format!(in alloc; "{text:?}")
+    String::from_str(alloc, str::from_utf8(text).unwrap_or("?"))
 }
 
 /// Whether a text is printed as is wanted, and again once what was printed is read.

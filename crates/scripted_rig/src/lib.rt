@@ -4,7 +4,9 @@
 
 mod answers;
 mod calls;
+mod image;
 mod scripted;
 
 pub use answers::Answer;
+pub use image::formatted;
 pub use scripted::ScriptedRig;

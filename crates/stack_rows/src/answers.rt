@@ -1,9 +1,8 @@
 //! How devices answer that don't do what they are asked.
 
-use hex::FromHex;
 use pi_tuple::PiType;
 use rig_api::Outcome;
-use row_table::cut;
+use row_table::{array_of, cut};
 use scripted_rig::Answer;
 use sense_codes::Sense;
 use std::alloc::{AllocError, Global};
@@ -23,7 +22,7 @@ pub(crate) struct Rule {
 }
 
 fn sense_of(word: &str) -> Option<Sense> {
-    let [key, asc, ascq] = <[u8; 3] as FromHex>::from_hex(word).ok()?;
+    let [key, asc, ascq] = array_of::<3>(word)?;
     Some(Sense {
         key,
         asc,
@@ -33,7 +32,7 @@ fn sense_of(word: &str) -> Option<Sense> {
 }
 
 fn byte_of(word: &str) -> Option<u8> {
-    let [byte] = <[u8; 1] as FromHex>::from_hex(word).ok()?;
+    let [byte] = array_of::<1>(word)?;
     Some(byte)
 }
 

@@ -3,9 +3,9 @@
 use dix_base::MemStore;
 use dix_words::unit_of;
 use image_rig::ImageRig;
-use rig_api::Rig;
+use scripted_rig::formatted;
 use std::alloc::{AllocError, Global};
-use target_answer::{UnitSpec, is_layout};
+use target_answer::UnitSpec;
 
 #[derive(Drop)]
 pub(crate) struct Image {
@@ -30,11 +30,7 @@ impl Image {
                 units.push(unit)?;
             }
         }
-        let mut rig = ImageRig::new(alloc, MemStore::new(Vec::new(alloc), Vec::new(alloc)));
-        if is_layout(&units) {
-            let _ = rig.format(alloc, "a", &units);
-        }
-        let bytes = Vec::from_slice(alloc, rig.store().bytes())?;
+        let bytes = formatted(alloc, &units)?;
         Ok(Image { units, bytes })
     }
 

@@ -1,8 +1,8 @@
 //! Why blocks fail, as a row writes it.
 
 use bio_core::Why;
-use hex::FromHex;
 use pi_tuple::Check;
+use row_table::array_of;
 use stack_ops::{BadBlock, BadList};
 use std::alloc::{AllocError, Global};
 
@@ -29,7 +29,7 @@ fn why_of(word: &str) -> Why {
 }
 
 fn refused(word: &str) -> Option<Why> {
-    let [key, asc, ascq] = <[u8; 3] as FromHex>::from_hex(word).ok()?;
+    let [key, asc, ascq] = array_of::<3>(word)?;
     Some(Why::Refused { key, asc, ascq })
 }
 

@@ -20,16 +20,20 @@ fn unit(ty: PiType, blocks: u64) -> UnitSpec {
     }
 }
 
-/// A rig over a formatted image of a device of type 1 with four blocks of 512 bytes and one of type 3 with two, after a
-/// scrub.
-fn scrubbed(alloc: Global) -> ImageRig<MemStore> {
+/// Formats an image of a device of type 1 with four blocks of 512 bytes and one of type 3 with two, and scrubs it.
+fn scrub<R: Rig>(alloc: Global, rig: &mut R) {
     let units = [unit(PiType::One, 4), unit(PiType::Three, 2)];
-    let mut rig = ImageRig::new(alloc, MemStore::new(Vec::new(alloc), Vec::new(alloc)));
     if is_layout(&units) {
-        let _ = format_image(alloc, "a", &units, &mut rig);
+        let _ = format_image(alloc, "a", &units, rig);
     }
     let mut found = Vec::new(alloc);
-    let _ = scrub_image(alloc, "a", &mut rig, &mut found);
+    let _ = scrub_image(alloc, "a", rig, &mut found);
+}
+
+/// A rig over the image, after that scrub.
+fn scrubbed(alloc: Global) -> ImageRig<MemStore> {
+    let mut rig = ImageRig::new(alloc, MemStore::new(Vec::new(alloc), Vec::new(alloc)));
+    scrub(alloc, &mut rig);
     rig
 }
 

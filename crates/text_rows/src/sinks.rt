@@ -1,5 +1,6 @@
 //! Sinks in memory, and what they are left with.
 
+use crate::words::quoted;
 use dix_base::{Failed, MemSink};
 use row_table::number;
 use std::alloc::{AllocError, Global};
@@ -24,6 +25,5 @@ pub(crate) fn left(
     if written.is_err() && count < whole.len() && whole.starts_with(bytes) {
         return format!(in alloc; "front {count}");
     }
-    let text = str::from_utf8(bytes).unwrap_or("?");
-    format!(in alloc; "{text:?}")
+    quoted(alloc, bytes)
 }

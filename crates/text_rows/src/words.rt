@@ -12,14 +12,21 @@ fn none(alloc: Global) -> Result<String, AllocError> {
     String::from_str(alloc, "none")
 }
 
-/// Two pieces of a text, in brackets.
+/// A text in quotes, with what can't be seen escaped.
+pub(crate) fn quoted(alloc: Global, text: &[u8]) -> Result<String, AllocError> {
+    let text = str::from_utf8(text).unwrap_or("?");
+    format!(in alloc; "{text:?}")
+}
+
+/// Two pieces of a text.
 fn pieces(alloc: Global, found: Option<(&[u8], &[u8])>) -> Result<String, AllocError> {
     let Some((first, rest)) = found else {
         return none(alloc);
     };
-    let first = str::from_utf8(first).unwrap_or("?");
-    let rest = str::from_utf8(rest).unwrap_or("?");
-    format!(in alloc; "{first:?} {rest:?}")
+    let mut text = quoted(alloc, first)?;
+    text.push(' ')?;
+    text.push_str(quoted(alloc, rest)?.as_str())?;
+    Ok(text)
 }
 
 fn number_text(alloc: Global, found: Option<u64>) -> Result<String, AllocError> {
