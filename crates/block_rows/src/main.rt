@@ -3,7 +3,9 @@
 #![tactic(auto)]
 
 mod apart;
+mod guards;
 mod in_line;
+mod single;
 mod words;
 
 use pi_blocks::Layout;
@@ -36,14 +38,18 @@ impl Judge for Rows {
     fn answer(&mut self, alloc: Global, call: &str) -> Result<String, AllocError> {
         let mut words = Words::of(call);
         let layout = &self.layout;
-        match words.word() {
+        let name = words.word();
+        match name {
             "verify" => in_line::verified(alloc, layout, &mut words),
             "generate" => in_line::generated(alloc, layout, &mut words),
             "remap" => in_line::remapped(alloc, layout, &mut words),
             "dix_verify" => apart::verified(alloc, layout, &mut words),
             "dix_generate" => apart::generated(alloc, layout, &mut words),
-            "crc16v" => apart::summed(alloc, true, &mut words),
-            "ip_sumv" => apart::summed(alloc, false, &mut words),
+            "crc16v" | "ip_sumv" | "crc16_after" | "run_crc" | "run_ip" => {
+                guards::summed(alloc, name, &mut words)
+            }
+            "check" => single::checked(alloc, &mut words),
+            "tuple" => single::read(alloc, words.rest()),
             _ => String::from_str(alloc, "no call"),
         }
     }
