@@ -1,7 +1,8 @@
 //! Data and metadata in buffers of their own, as host memory has them (DIX). The data may lie in parts that end
 //! anywhere.
 
-ghost use Rattle.std.specs.Prelude.{◌≡◌, ◌↔◌, ℕ, List, ◌+◌, ◌*◌, ◌/◌, ◌≤◌, length, drop, true, IfErr, IfOk, IfSome, IsTrue, OnOk};
+ghost use Rattle.std.specs.Prelude.{◌≡◌, ◌↔◌, ℕ, List, ◌+◌, ◌*◌, ◌/◌, ◌≤◌, length, drop, true};
+ghost use Rattle.std.specs.Prelude.{IfErr, IfOk, IfSome, IsTrue, OnOk};
 ghost use Rattle.pi_blocks.specs.Apart.{AreApart, RefusedApart};
 ghost use Rattle.pi_blocks.specs.Blocks.{Checked, apart, looked};
 ghost use Rattle.pi_blocks.specs.Layouts.{is_good};
@@ -31,7 +32,8 @@ fn have_length(parts: &[Part], wanted: u128) -> bool
 
 // How many blocks data and metadata are.
 fn count_blocks(layout: Layout, body: &[Part], meta: &[u8]) -> Result<usize, Refusal>
-    ensures count { IfOk result (λ n. AreApart layout (length (all_parts body.now)) (length meta.now) × (n ≡ length meta.now / layout.meta_size)) }
+    ensures count { IfOk result (λ n. AreApart layout (length (all_parts body.now)) (length meta.now)
+        × (n ≡ length meta.now / layout.meta_size)) }
     ensures refused { IfErr result (λ e. RefusedApart layout (length (all_parts body.now)) (length meta.now) e) }
 {
     if !layout.is_good() {
@@ -58,7 +60,8 @@ fn look(
     requires inside { i * layout.meta_size + layout.meta_size ≤ length meta.now }
     requires placed { IsIn parts.now place.old }
     requires more { layout.data_size ≤ length (left_of parts.now place.old) }
-    ensures found { (body : List ℕ) → left_of parts.now place.old ≡ drop (i * layout.data_size) body → result ≡ looked layout want (apart layout body meta.now) i }
+    ensures found { (body : List ℕ) → left_of parts.now place.old ≡ drop (i * layout.data_size) body
+        → result ≡ looked layout want (apart layout body meta.now) i }
     ensures block { IfSome result (λ f. f.block ≡ i) }
     ensures placed { IsIn parts.now place.new }
     ensures left { left_of parts.now place.new ≡ drop layout.data_size (left_of parts.now place.old) }
@@ -90,7 +93,8 @@ fn make(
     requires placed { IsIn parts.now place.old }
     requires more { layout.data_size ≤ length (left_of parts.now place.old) }
     ensures made { (body : List ℕ) → left_of parts.now place.old ≡ drop (i * layout.data_size) body
-        → meta.new ≡ put_at (place_apart layout i) (made_bytes layout app first_ref (apart layout body meta.old) i) meta.old }
+        → meta.new ≡ put_at (place_apart layout i)
+        (made_bytes layout app first_ref (apart layout body meta.old) i) meta.old }
     ensures placed { IsIn parts.now place.new }
     ensures left { left_of parts.now place.new ≡ drop layout.data_size (left_of parts.now place.old) }
 {
@@ -119,7 +123,8 @@ pub fn dix_verify(
     want: &Want,
 ) -> Result<Option<Found>, Refusal>
     ensures checked { IfOk result (λ found. AreApart layout.now (length (all_parts body.now)) (length meta.now)
-        × Checked layout.now want.now (apart layout.now (all_parts body.now) meta.now) (length meta.now / layout.now.meta_size) found) }
+        × Checked layout.now want.now (apart layout.now (all_parts body.now) meta.now)
+        (length meta.now / layout.now.meta_size) found) }
     ensures refused { IfErr result (λ e. RefusedApart layout.now (length (all_parts body.now)) (length meta.now) e) }
 {
     let layout = *layout;
@@ -143,8 +148,10 @@ pub fn dix_generate(
     first_ref: u32,
 ) -> Result<(), Refusal>
     ensures made { OnOk result (AreApart layout.now (length (all_parts body.now)) (length meta.old)
-        × (meta.new ≡ made_apart layout.now app first_ref (length meta.old / layout.now.meta_size) (all_parts body.now) meta.old)) }
-    ensures refused { IfErr result (λ e. RefusedApart layout.now (length (all_parts body.now)) (length meta.old) e × (meta.new ≡ meta.old)) }
+        × (meta.new ≡ made_apart layout.now app first_ref (length meta.old / layout.now.meta_size)
+        (all_parts body.now) meta.old)) }
+    ensures refused { IfErr result (λ e. RefusedApart layout.now (length (all_parts body.now)) (length meta.old) e
+        × (meta.new ≡ meta.old)) }
 {
     let layout = *layout;
     let mut place = front();

@@ -25,7 +25,8 @@ fn look(blocks: &[u8], layout: Layout, want: Want, i: usize) -> Option<Found>
 /// too) differs in nothing.
 pub fn verify(blocks: &[u8], layout: &Layout, want: &Want) -> Result<Option<Found>, Refusal>
     ensures checked { IfOk result (λ found. AreBlocks layout.now (length blocks.now)
-        × Checked layout.now want.now (in_line layout.now blocks.now) (length blocks.now / stride_of layout.now) found) }
+        × Checked layout.now want.now (in_line layout.now blocks.now)
+        (length blocks.now / stride_of layout.now) found) }
     ensures refused { IfErr result (λ e. Refused layout.now (length blocks.now) e) }
 {
     let layout = *layout;

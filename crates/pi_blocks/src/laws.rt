@@ -2,7 +2,8 @@
 
 ghost use Rattle.std.specs.Prelude.{◌≡◌, ◌<◌, ◌^◌, ℕ, List, length, true};
 ghost use Rattle.pi_blocks.specs.Blocks.{Block};
-ghost use Rattle.pi_blocks.specs.Laws.{AreBytes, AreFineWhenMade, AreFineWhenMadeApart, AreFree, HasOneAnswer, IsUndone, MakesTuplesAlone, MakesTuplesApart, MapsTagsAlone, StayFine};
+ghost use Rattle.pi_blocks.specs.Laws.{AreBytes, AreFineWhenMade, AreFineWhenMadeApart, AreFree, HasOneAnswer};
+ghost use Rattle.pi_blocks.specs.Laws.{IsUndone, MakesTuplesAlone, MakesTuplesApart, MapsTagsAlone, StayFine};
 ghost use Rattle.pi_blocks.specs.Layouts.{AreBlocks, is_good};
 ghost use Rattle.pi_blocks.specs.declared.block.Want.{Want as AnyWant};
 ghost use Rattle.pi_blocks.specs.declared.layout.Layout.{Layout as AnyLayout};
@@ -14,29 +15,36 @@ pub fn a_check_has_one_answer()
 
 /// Mapping reference tags maps each tag by itself, and every stretch of bytes without one stays.
 pub fn mapping_changes_tags_alone()
-    ensures { (l : AnyLayout) (from to : ℕ) (bytes : List ℕ) → AreBlocks l (length bytes) → MapsTagsAlone l from to bytes }
+    ensures { (l : AnyLayout) (from to : ℕ) (bytes : List ℕ)
+        → AreBlocks l (length bytes) → MapsTagsAlone l from to bytes }
 {}
 
 /// Mapping there and back gives each byte back, where no block had the tag that mapping gives it.
 pub fn mapping_back_undoes_mapping()
-    ensures { (l : AnyLayout) (from to : ℕ) (bytes : List ℕ) → AreBlocks l (length bytes) → AreBytes bytes → AreFree l to bytes → IsUndone l from to bytes }
+    ensures { (l : AnyLayout) (from to : ℕ) (bytes : List ℕ)
+        → AreBlocks l (length bytes) → AreBytes bytes → AreFree l to bytes → IsUndone l from to bytes }
 {}
 
 /// Blocks in which a check finds nothing are fine by their new tags when they are mapped.
 pub fn mapped_blocks_stay_fine()
-    ensures { (l : AnyLayout) (w : AnyWant) (to : ℕ) (bytes : List ℕ) → AreBlocks l (length bytes) → StayFine l w to bytes }
+    ensures { (l : AnyLayout) (w : AnyWant) (to : ℕ) (bytes : List ℕ)
+        → AreBlocks l (length bytes) → StayFine l w to bytes }
 {}
 
 /// Making tuples writes the eight bytes of each, made of the guarded bytes as they were, and every stretch of bytes
 /// without one stays.
 pub fn making_writes_tuples_alone()
-    ensures in_line { (l : AnyLayout) (app first : ℕ) (bytes : List ℕ) → is_good l ≡ true → MakesTuplesAlone l app first bytes }
-    ensures apart { (l : AnyLayout) (app first : ℕ) (body meta : List ℕ) → is_good l ≡ true → MakesTuplesApart l app first body meta }
+    ensures in_line { (l : AnyLayout) (app first : ℕ) (bytes : List ℕ)
+        → is_good l ≡ true → MakesTuplesAlone l app first bytes }
+    ensures apart { (l : AnyLayout) (app first : ℕ) (body meta : List ℕ)
+        → is_good l ≡ true → MakesTuplesApart l app first body meta }
 {}
 
 /// A check by the tags that the tuples were made with finds nothing, whatever it asks for. With the application tag
 /// FFFFh that says nothing in types 1 and 2, as the tuples are escapes then.
 pub fn made_blocks_are_fine()
-    ensures in_line { (l : AnyLayout) (w : AnyWant) (bytes : List ℕ) → is_good l ≡ true → w.app < 2 ^ 16 → AreFineWhenMade l w bytes }
-    ensures apart { (l : AnyLayout) (w : AnyWant) (body meta : List ℕ) → is_good l ≡ true → w.app < 2 ^ 16 → AreFineWhenMadeApart l w body meta }
+    ensures in_line { (l : AnyLayout) (w : AnyWant) (bytes : List ℕ)
+        → is_good l ≡ true → w.app < 2 ^ 16 → AreFineWhenMade l w bytes }
+    ensures apart { (l : AnyLayout) (w : AnyWant) (body meta : List ℕ)
+        → is_good l ≡ true → w.app < 2 ^ 16 → AreFineWhenMadeApart l w body meta }
 {}

@@ -23,7 +23,8 @@ pub(crate) fn set_tuple(bytes: &mut [u8], at: usize, tuple: Tuple)
 fn make(blocks: &mut [u8], layout: Layout, i: usize, app: u16, first_ref: u32)
     requires good { is_good layout ≡ true }
     requires inside { i * stride_of layout + stride_of layout ≤ length blocks.old }
-    ensures { blocks.new ≡ put_at (place_in_line layout i) (made_bytes layout app first_ref (in_line layout blocks.old) i) blocks.old }
+    ensures { blocks.new ≡ put_at (place_in_line layout i)
+        (made_bytes layout app first_ref (in_line layout blocks.old) i) blocks.old }
 {
     let at = i * layout.stride();
     let end = at + layout.covered();

@@ -85,7 +85,8 @@ fn feed_part(parts: &[Part], place: &mut Place, run: &mut GuardRun, wanted: usiz
     ensures left { left_of parts.now place.new ≡ drop result (left_of parts.now place.old) }
     ensures kind { kind_of run.new ≡ kind_of run.old }
     ensures more { (b : List ℕ) → Stands run.old b → Stands run.new (b ++ take result (left_of parts.now place.old)) }
-    ensures less { wanted - result + (length parts.now - place.new.part) < wanted + (length parts.now - place.old.part) }
+    ensures less { wanted - result + (length parts.now - place.new.part)
+        < wanted + (length parts.now - place.old.part) }
 {
     let rest = rest_of(parts, *place);
     if wanted < rest.len() {

@@ -60,7 +60,8 @@ pub fn check(
     want: &Want,
     i: u64,
 ) -> Result<Option<Found>, Refusal>
-    ensures checked { IfOk result (λ found. (is_type pi_type ≡ true) × (found ≡ compared (of_type pi_type) want.now i guard (tuple_in eight.now))) }
+    ensures checked { IfOk result (λ found. (is_type pi_type ≡ true)
+        × (found ≡ compared (of_type pi_type) want.now i guard (tuple_in eight.now))) }
     ensures refused { IfErr result (λ e. (is_type pi_type ≡ false) × (e ≡ Refusal.BadLayout)) }
 {
     if pi_type < 1 || pi_type > 3 {
