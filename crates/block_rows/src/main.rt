@@ -5,6 +5,7 @@
 mod apart;
 mod guards;
 mod in_line;
+mod senses;
 mod single;
 mod words;
 
@@ -50,6 +51,9 @@ impl Judge for Rows {
             }
             "check" => single::checked(alloc, &mut words),
             "tuple" => single::read(alloc, words.rest()),
+            "sense_encode" => senses::encoded(alloc, &mut words),
+            "sense_decode" => senses::decoded(alloc, words.rest()),
+            "sense_check" => senses::told(alloc, &mut words),
             _ => String::from_str(alloc, "no call"),
         }
     }

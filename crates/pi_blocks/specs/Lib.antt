@@ -7,4 +7,5 @@ pub mod Mapped
 pub mod Parts
 pub mod Puts
 pub mod Runs
+pub mod Senses
 pub mod Single

@@ -14,6 +14,7 @@ mod making;
 mod mapping;
 mod parts;
 mod run;
+mod sensing;
 mod single;
 
 pub use apart::{dix_generate, dix_verify};
@@ -28,4 +29,5 @@ pub use making::generate;
 pub use mapping::remap;
 pub use parts::{Part, crc16v, ip_sumv};
 pub use run::Run;
+pub use sensing::SenseFields;
 pub use single::{TupleFields, check};
