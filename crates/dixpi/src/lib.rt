@@ -8,9 +8,13 @@
 mod apart;
 mod blocks;
 mod guards;
+mod runs;
+mod single;
 mod status;
 
 pub use apart::{dixpi_dix_generate, dixpi_dix_verify};
 pub use blocks::{dixpi_generate, dixpi_remap, dixpi_verify};
-pub use guards::{dixpi_crc16, dixpi_crc16v, dixpi_ip_sum, dixpi_ip_sumv};
+pub use guards::{dixpi_crc16, dixpi_crc16_after, dixpi_crc16v, dixpi_ip_sum, dixpi_ip_sumv};
+pub use runs::{dixpi_run_begin, dixpi_run_finish, dixpi_run_update};
+pub use single::{dixpi_check, dixpi_tuple_read, dixpi_tuple_write};
 pub use status::dixpi_version;
