@@ -49,12 +49,34 @@ struct dixpi_found {
     uint32_t check, expected, actual;
 };
 
-/* Guards. crc16 is ISA-L's crc16_t10dif(0, ..). */
+struct dixpi_tuple {
+    uint16_t guard, app;
+    uint32_t ref;
+};
+
+/* Guards. crc16 is ISA-L's crc16_t10dif(0, ..), and _after goes on from a guard as crc16_t10dif(guard, ..) does. */
 uint16_t dixpi_crc16(const uint8_t *bytes, size_t len);
+uint16_t dixpi_crc16_after(uint16_t guard, const uint8_t *bytes, size_t len);
 uint16_t dixpi_ip_sum(const uint8_t *bytes, size_t len);
 /* The same of parts of any length, one after another, uncopied. No iov_base is NULL, also where iov_len is 0. */
 uint16_t dixpi_crc16v(const struct iovec *parts, size_t count);
 uint16_t dixpi_ip_sumv(const struct iovec *parts, size_t count);
+/* A guard of bytes that come one part after another. The run is the caller's, and may be copied and kept. */
+struct dixpi_run {
+    uint32_t guard;      /* DIXPI_CRC; another number is DIXPI_IP */
+    uint16_t value, odd; /* what the library keeps between parts */
+};
+void dixpi_run_begin(struct dixpi_run *run, uint32_t guard);
+void dixpi_run_update(struct dixpi_run *run, const uint8_t *bytes, size_t len);
+uint16_t dixpi_run_finish(const struct dixpi_run *run); /* may be asked between parts too */
+
+/* One tuple, as its eight bytes travel, high bytes first. */
+void dixpi_tuple_write(uint8_t out[8], const struct dixpi_tuple *tuple);
+void dixpi_tuple_read(const uint8_t in[8], struct dixpi_tuple *tuple);
+/* Checks a tuple against a guard that was computed elsewhere, as by hardware, as that of block i. Another type than 1
+   to 3 is DIXPI_BAD_LAYOUT. *found is written for DIXPI_DIFFERS alone. */
+uint32_t dixpi_check(uint32_t type, const uint8_t in[8], uint16_t guard, const struct dixpi_want *want, uint64_t i,
+                     struct dixpi_found *found);
 
 /* Blocks with their metadata behind each, as 512 + 8 or 4096 + 64. len is a multiple of data_size + meta_size. */
 

@@ -16,6 +16,10 @@ static_assert(sizeof(struct dixpi_want) == 12 && offsetof(struct dixpi_want, app
 static_assert(offsetof(struct dixpi_want, mask) == 6 && offsetof(struct dixpi_want, checks) == 8, "want");
 static_assert(sizeof(struct dixpi_found) == 24 && offsetof(struct dixpi_found, check) == 8, "found");
 static_assert(offsetof(struct dixpi_found, expected) == 12 && offsetof(struct dixpi_found, actual) == 16, "found");
+static_assert(sizeof(struct dixpi_run) == 8 && offsetof(struct dixpi_run, value) == 4, "run");
+static_assert(offsetof(struct dixpi_run, odd) == 6, "run");
+static_assert(sizeof(struct dixpi_tuple) == 8 && offsetof(struct dixpi_tuple, app) == 2, "tuple");
+static_assert(offsetof(struct dixpi_tuple, ref) == 4, "tuple");
 
 static unsigned passed, failed;
 
@@ -87,10 +91,10 @@ static void put32(uint8_t *p, uint32_t x) {
 static uint32_t get16(const uint8_t *p) { return (uint32_t)p[0] << 8 | p[1]; }
 static uint32_t get32(const uint8_t *p) { return get16(p) << 16 | get16(p + 2); }
 
-/* The check of block i, whose guard is of these bytes. */
-static uint32_t look(const struct dixpi_layout *l, const struct dixpi_want *w, uint64_t i, const uint8_t *guarded,
-                     size_t len, const uint8_t *tuple, struct dixpi_found *found) {
-    uint32_t guard = guard_of(l->guard, guarded, len), app = get16(tuple + 2), ref = get32(tuple + 4);
+/* The check of block i, whose bytes have this guard. */
+static uint32_t compare(const struct dixpi_layout *l, const struct dixpi_want *w, uint64_t i, uint16_t guard,
+                        const uint8_t *tuple, struct dixpi_found *found) {
+    uint32_t app = get16(tuple + 2), ref = get32(tuple + 4);
     uint32_t wanted = w->first_ref + (uint32_t)i;
     if (app == 0xFFFF && (l->type != 3 || ref == 0xFFFFFFFF))
         return DIXPI_OK;
@@ -109,7 +113,7 @@ static uint32_t verified(const uint8_t *blocks, size_t n, const struct dixpi_lay
                          struct dixpi_found *found) {
     size_t covered = l->data_size + l->tuple_at, stride = l->data_size + l->meta_size;
     for (size_t i = 0; i < n; i++)
-        if (look(l, w, i, blocks + i * stride, covered, blocks + i * stride + covered, found))
+        if (compare(l, w, i, guard_of(l->guard, blocks + i * stride, covered), blocks + i * stride + covered, found))
             return DIXPI_DIFFERS;
     return DIXPI_OK;
 }
@@ -168,7 +172,10 @@ static void guards(void) {
         fill(bytes, len);
         IS(dixpi_crc16(bytes, len) == crc_by_bits(0, bytes, len));
         IS(dixpi_ip_sum(bytes, len) == sum_by_words(bytes, len));
+        uint16_t guard = (uint16_t)drawn();
+        IS(dixpi_crc16_after(guard, bytes, len) == crc_by_bits(guard, bytes, len));
     }
+    IS(dixpi_crc16_after(0xABCD, NULL, 0) == 0xABCD);
     /* Parts that end anywhere, some empty. */
     uint8_t *bytes = fenced(600);
     fill(bytes, 600);
@@ -177,6 +184,22 @@ static void guards(void) {
         size_t count = cut(bytes, len, parts, 64);
         IS(dixpi_crc16v(parts, count) == crc_by_bits(0, bytes, len));
         IS(dixpi_ip_sumv(parts, count) == sum_by_words(bytes, len));
+        struct dixpi_run runs[3];
+        for (uint32_t kind = 0; kind < 3; kind++)
+            dixpi_run_begin(&runs[kind], kind);
+        for (size_t i = 0, before = 0; i < count; i++) {
+            before += parts[i].iov_len;
+            for (uint32_t kind = 0; kind < 3; kind++) {
+                struct dixpi_run kept = runs[kind]; /* copied, and gone on with */
+                dixpi_run_update(&kept, parts[i].iov_base, parts[i].iov_len);
+                runs[kind] = kept;
+                IS(dixpi_run_finish(&kept) == guard_of(kind != DIXPI_CRC, bytes, before));
+            }
+        }
+        struct dixpi_run empty;
+        dixpi_run_begin(&empty, DIXPI_IP);
+        dixpi_run_update(&empty, NULL, 0);
+        IS(dixpi_run_finish(&empty) == 0xFFFF && empty.guard == DIXPI_IP);
     }
     IS(dixpi_crc16v(NULL, 0) == 0 && dixpi_ip_sumv(NULL, 0) == 0xFFFF);
     uint8_t *much = fenced(70001);
@@ -363,9 +386,38 @@ static void blocks_in_line(struct dixpi_layout l) {
     }
 }
 
+static void tuples(void) {
+    uint8_t *bytes = fenced(8);
+    const struct dixpi_tuple known = {0x0102, 0x0304, 0x05060708};
+    dixpi_tuple_write(bytes, &known);
+    IS(!memcmp(bytes, "\1\2\3\4\5\6\7\10", 8));
+    for (int k = 0; k < 2000; k++) {
+        struct dixpi_layout l = {0, 8, 0, 1 + drawn() % 3, DIXPI_CRC};
+        struct dixpi_want w = {drawn(), (uint16_t)drawn(), (uint16_t)drawn(), drawn()};
+        struct dixpi_tuple t = {(uint16_t)drawn(), (uint16_t)drawn(), drawn()}, back = {0, 0, 0};
+        uint64_t i = (uint64_t)drawn() << 32 | drawn();
+        uint16_t guard = drawn() % 4 ? t.guard : (uint16_t)drawn();
+        if (drawn() % 2)
+            t.ref = drawn() % 8 ? w.first_ref + (uint32_t)i : 0xFFFFFFFF;
+        if (drawn() % 2)
+            t.app = drawn() % 4 ? w.app : 0xFFFF;
+        dixpi_tuple_write(bytes, &t);
+        IS(get16(bytes) == t.guard && get16(bytes + 2) == t.app && get32(bytes + 4) == t.ref);
+        dixpi_tuple_read(bytes, &back);
+        IS(back.guard == t.guard && back.app == t.app && back.ref == t.ref);
+        struct dixpi_found found = NOTHING, by_hand = NOTHING;
+        IS(dixpi_check(l.type, bytes, guard, &w, i, &found) == compare(&l, &w, i, guard, bytes, &by_hand));
+        IS(same(found, by_hand));
+        found = NOTHING;
+        IS(dixpi_check(drawn() % 2 ? 0 : 4 + drawn() % 9, bytes, guard, &w, i, &found) == DIXPI_BAD_LAYOUT);
+        IS(same(found, NOTHING));
+    }
+}
+
 int main(void) {
     IS(dixpi_version() == 0x000100);
     guards();
+    tuples();
     for (size_t i = 0; i < sizeof LAYOUTS / sizeof *LAYOUTS; i++)
         for (uint32_t type = 1; type <= 3; type++)
             for (uint32_t guard = DIXPI_CRC; guard <= DIXPI_IP; guard++) {

@@ -27,17 +27,33 @@ class Found(ctypes.Structure):
     _fields_ = [("block", c_uint64), ("check", c_uint32), ("expected", c_uint32), ("actual", c_uint32)]
 
 
+class Tuple(ctypes.Structure):
+    _fields_ = [("guard", c_uint16), ("app", c_uint16), ("ref", c_uint32)]
+
+
+class Run(ctypes.Structure):
+    _fields_ = [("guard", c_uint32), ("value", c_uint16), ("odd", c_uint16)]
+
+
 class Part(ctypes.Structure):
     _fields_ = [("base", c_void_p), ("len", c_size_t)]
 
 
 dixpi = ctypes.CDLL(sys.argv[1])
 layout_at, want_at, found_at, parts_at = POINTER(Layout), POINTER(Want), POINTER(Found), POINTER(Part)
+tuple_at, run_at = POINTER(Tuple), POINTER(Run)
 TYPES = {
     "crc16": (c_uint16, c_void_p, c_size_t),
+    "crc16_after": (c_uint16, c_uint16, c_void_p, c_size_t),
     "ip_sum": (c_uint16, c_void_p, c_size_t),
     "crc16v": (c_uint16, parts_at, c_size_t),
     "ip_sumv": (c_uint16, parts_at, c_size_t),
+    "run_begin": (None, run_at, c_uint32),
+    "run_update": (None, run_at, c_void_p, c_size_t),
+    "run_finish": (c_uint16, run_at),
+    "tuple_write": (None, c_void_p, tuple_at),
+    "tuple_read": (None, c_void_p, tuple_at),
+    "check": (c_uint32, c_uint32, c_void_p, c_uint16, want_at, c_uint64, found_at),
     "generate": (c_uint32, c_void_p, c_size_t, layout_at, c_uint16, c_uint32),
     "verify": (c_uint32, c_void_p, c_size_t, layout_at, want_at, found_at),
     "remap": (c_uint32, c_void_p, c_size_t, layout_at, c_uint32, c_uint32),
@@ -80,6 +96,25 @@ pieces, kept = parts(b"1", b"", b"2345", b"6789")
 holds("crc16v", dixpi.dixpi_crc16v(pieces, 4) == 0xD0DB)
 pieces, kept = parts(b"\x00", b"\x01\xf2\x03\xf4", b"\xf5\xf6\xf7")
 holds("ip_sumv", dixpi.dixpi_ip_sumv(pieces, 3) == 0x220D)
+holds("crc16_after", dixpi.dixpi_crc16_after(crc(NINE[:4]), memory(NINE[4:]), 5) == 0xD0DB)
+# 3132 + 3334 + 3536 + 3738 + 3900 is 109D4, so 09D5 with its carry.
+for kind, wanted in (0, 0xD0DB), (1, 0xFFFF - 0x09D5):
+    run = Run()
+    dixpi.dixpi_run_begin(run, kind)
+    for piece in NINE[:1], NINE[1:4], NINE[4:]:
+        dixpi.dixpi_run_update(run, memory(piece), len(piece))
+    holds("run_finish", dixpi.dixpi_run_finish(run) == wanted)
+
+eight, back, found = memory(bytes(8)), Tuple(), Found()
+dixpi.dixpi_tuple_write(eight, Tuple(0x0102, 0x0304, 0x05060708))
+holds("tuple_write", bytes(eight) == bytes(range(1, 9)))
+dixpi.dixpi_tuple_read(eight, back)
+holds("tuple_read", (back.guard, back.app, back.ref) == (0x0102, 0x0304, 0x05060708))
+want = Want(0x05060000, 0x0304, 0xFFFF, 0xE)
+holds("check, nothing differs", dixpi.dixpi_check(1, eight, 0x0102, want, 0x0708, found) == 0)
+holds("check, the tag differs", dixpi.dixpi_check(1, eight, 0x0102, want, 0x0709, found) == 1)
+holds("the tag", tell(found) == (0x0709, 3, 0x05060709, 0x05060708))
+holds("check, a type", dixpi.dixpi_check(4, eight, 0x0102, want, 0x0708, found) == 2)
 
 FIRST = 0xFFFFFFFE
 layout, want, found = Layout(512, 8, 0, 1, 0), Want(FIRST, 0x1234, 0xFFFF, 0xE), Found(9, 9, 9, 9)
