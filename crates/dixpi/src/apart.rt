@@ -21,7 +21,8 @@ pub extern "C" fn dixpi_dix_generate(
     first_ref: u32,
 ) -> u32
     ensures made { result ≡ 0 → AreApart layout.now (length (all_parts body.now)) (length meta.old)
-        × (meta.new ≡ made_apart layout.now app first_ref (length meta.old / layout.now.meta_size) (all_parts body.now) meta.old) }
+        × (meta.new ≡ made_apart layout.now app first_ref (length meta.old / layout.now.meta_size)
+        (all_parts body.now) meta.old) }
     ensures bad_layout { result ≡ 2 → (is_good layout.now ≡ false) × (meta.new ≡ meta.old) }
     ensures bad_length { result ≡ 3 → (is_good layout.now ≡ true)
         × ¬ ((length meta.old % layout.now.meta_size ≡ 0)
@@ -46,9 +47,11 @@ pub extern "C" fn dixpi_dix_verify(
     found: &mut Found,
 ) -> u32
     ensures fine { result ≡ 0 → AreApart layout.now (length (all_parts body.now)) (length meta.now)
-        × AreFine layout.now want.now (apart layout.now (all_parts body.now) meta.now) (length meta.now / layout.now.meta_size) }
+        × AreFine layout.now want.now (apart layout.now (all_parts body.now) meta.now)
+        (length meta.now / layout.now.meta_size) }
     ensures differs { result ≡ 1 → AreApart layout.now (length (all_parts body.now)) (length meta.now)
-        × IsFirst layout.now want.now (apart layout.now (all_parts body.now) meta.now) (length meta.now / layout.now.meta_size) found.new }
+        × IsFirst layout.now want.now (apart layout.now (all_parts body.now) meta.now)
+        (length meta.now / layout.now.meta_size) found.new }
     ensures bad_layout { result ≡ 2 → is_good layout.now ≡ false }
     ensures bad_length { result ≡ 3 → (is_good layout.now ≡ true)
         × ¬ ((length meta.now % layout.now.meta_size ≡ 0)

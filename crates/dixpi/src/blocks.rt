@@ -10,7 +10,8 @@ use crate::status::{BAD_LAYOUT, BAD_LENGTH, DIFFERS, OK};
 use pi_blocks::{Found, Layout, Refusal, Want, generate, remap, verify};
 
 /// Makes the tuples of blocks: guard, application tag, and in types 1 and 2 the reference tag `first_ref + i` of block
-/// `i`, modulo 2^32; in type 3 it is 0. Every other byte stays. Answers `OK`, or why the blocks are none; then all stays.
+/// `i`, modulo 2^32; in type 3 it is 0. Every other byte stays. Answers `OK`, or why the blocks are none; then all
+/// stays.
 #[unsafe(no_mangle)]
 pub extern "C" fn dixpi_generate(
     blocks: &mut [u8],
@@ -19,7 +20,8 @@ pub extern "C" fn dixpi_generate(
     first_ref: u32,
 ) -> u32
     ensures made { result ≡ 0 → AreBlocks layout.now (length blocks.old)
-        × (blocks.new ≡ made_in_line layout.now app first_ref (length blocks.old / stride_of layout.now) blocks.old) }
+        × (blocks.new ≡ made_in_line layout.now app first_ref
+        (length blocks.old / stride_of layout.now) blocks.old) }
     ensures bad_layout { result ≡ 2 → (is_good layout.now ≡ false) × (blocks.new ≡ blocks.old) }
     ensures bad_length { result ≡ 3 → (is_good layout.now ≡ true) × ¬ (length blocks.old % stride_of layout.now ≡ 0)
         × (blocks.new ≡ blocks.old) }
@@ -44,7 +46,8 @@ pub extern "C" fn dixpi_verify(
     ensures fine { result ≡ 0 → AreBlocks layout.now (length blocks.now)
         × AreFine layout.now want.now (in_line layout.now blocks.now) (length blocks.now / stride_of layout.now) }
     ensures differs { result ≡ 1 → AreBlocks layout.now (length blocks.now)
-        × IsFirst layout.now want.now (in_line layout.now blocks.now) (length blocks.now / stride_of layout.now) found.new }
+        × IsFirst layout.now want.now (in_line layout.now blocks.now)
+        (length blocks.now / stride_of layout.now) found.new }
     ensures bad_layout { result ≡ 2 → is_good layout.now ≡ false }
     ensures bad_length { result ≡ 3 → (is_good layout.now ≡ true) × ¬ (length blocks.now % stride_of layout.now ≡ 0) }
     ensures one_of { result ≤ 3 }
