@@ -1,5 +1,5 @@
 -- A bound script whose faults have the form: all that the law of its run asks.
-use Rattle.std.proofs.Common.{◌≡◌, ◌<◌, ℕ, suc, ◌*◌, ◌%◌, true, not, ◌||◌, ◌⊎◌, inl, inr, List, [], ◌∷◌, refl, sym, ap, ◌∙◌, arith}
+use Rattle.std.proofs.Common.{◌≡◌, ◌<◌, ℕ, suc, ◌*◌, ◌%◌, true, not, ◌||◌, ◌⊎◌, inl, inr, List, [], ◌∷◌, refl, sym, ap, ◌∙◌, arith, map, false}
 use Rattle.std.specs.Prelude.{All}
 use Rattle.std.specs.List.{list_all, list_any}
 use Rattle.std.proofs.lemmas.Bool.{and_parts, not-true}
@@ -8,7 +8,7 @@ use Rattle.hex.specs.Hex.{IsBytes}
 use Rattle.fault_schedule.specs.declared.fault.FaultKind.{FaultKind}
 use Rattle.fault_schedule.specs.declared.fault.FaultKind.TheVariants.{Flip, Shift}
 use Rattle.fault_schedule.specs.declared.fault.FaultLine.{FaultLine}
-use Rattle.dix_adapter.specs.Ways.{shapes_of}
+use Rattle.dix_adapter.specs.Ways.{blocks_told, shapes_of}
 use Rattle.stack_ops.specs.declared.op.Op.{Op}
 use Rattle.stack_ops.specs.declared.op.Op.TheVariants.{Fetch, FetchPi, Fill, Overwrite, Put, Seal, Show, Wait, Write, WritePi}
 use Rattle.stack_walks.specs.Overwrites.{is_overwrite as overwrites}
@@ -17,15 +17,23 @@ use Rattle.volume_table.specs.Tables.{Table}
 use Rattle.block_path.specs.Acts.{State}
 use Rattle.script_text.specs.declared.script.Script.{Script}
 use Rattle.script_laws.specs.Keeping.{Each, IsFault, IsKind}
-use Rattle.script_ground.proofs.Calm.{all-fit, lies-in}
-use Rattle.script_ground.proofs.OverUnits.{IsBoundOver, at_first, over}
+use Rattle.pi_tuple.specs.Finds.{is_zero}
+use Rattle.rig_discovery.specs.Discovery.{info_of}
+use Rattle.volume_table.specs.declared.device.DeviceInfo.{DeviceInfo}
+use Rattle.run_laws.specs.ShownRun.{DevicesAreClean, HasCells, IsShownRun, LiesOn}
+use Rattle.script_ground.proofs.AtTarget.{told-long}
+use Rattle.script_ground.proofs.Calm.{all-fit, calm-run, lies-in}
+use Rattle.script_ground.proofs.Shown.{shown-run}
+use Rattle.script_ground.proofs.OverUnits.{IsBoundOver, at_first, cell-there, on-address, over, own-setting}
 use Rattle.whole_run.specs.Detectable.{detectable}
 use Rattle.whole_run.specs.Past.{steps_from}
 use Rattle.whole_run.specs.Settings.{Setting}
-use Rattle.whole_run.specs.UnderMap.{NoEscape}
+use Rattle.whole_run.specs.CalmRun.{IsCalmRun}
+use Rattle.whole_run.specs.ScriptWalk.{script_walk}
+use Rattle.whole_run.specs.UnderMap.{AreClean, NoEscape, address_of}
 use Rattle.run_premises.specs.Forms.{is_good_line, is_overwrite, supplies_none}
 use Rattle.run_premises.specs.FormedRun.{IsFormedRun, IsOfBytes}
-use Rattle.script_premises.specs.FormedScript.{IsBoundTo, IsFormedScript}
+use Rattle.script_premises.specs.FormedScript.{IsBoundTo, IsFormedScript, IsStillScript}
 
 even : (n : ℕ) → (n ≡ 512) ⊎ (n ≡ 4096) → n % 2 ≡ 0
 even n (inl e) = omega arith
@@ -91,3 +99,36 @@ formed s t us law b p = law (over s t (shapes_of us)) s.ops (at_first s us) (for
 
 pub escapes : (s : Script) (t : Table) (us : List Stored) → EscapeLaw → list_all supplies_none s.ops ≡ true → NoEscape (over s t (shapes_of us)) 1 s.ops (at_first s us)
 escapes s t us none h = none (over s t (shapes_of us)) s.ops (at_first s us) h
+
+-- ---- over clean devices
+
+lies-on : (s : Script) (t : Table) (us : List Stored) → IsBoundOver s t us → LiesOn (over s t (shapes_of us)) (map info_of (shapes_of us))
+lies-on s t us b = record { inside = b.made.inside; alone = b.made.alone }
+
+has-cells : (s : Script) (t : Table) (us : List Stored) → IsBoundOver s t us → HasCells (over s t (shapes_of us)) (map info_of (shapes_of us)) (blocks_told us)
+has-cells s t us b =
+    let devices = map info_of (shapes_of us) in
+    record {
+      within = λ dev lba h. cell-there s t us dev lba h;
+      apart = λ dev lba other at h k e. (own-setting s t (shapes_of us)).apart dev lba other at (on-address devices t.ty s.block dev lba h) (on-address devices t.ty s.block other at k) e;
+      size = λ dev lba h. told-long us t.ty s.block dev lba b.stored h;
+    }
+
+pub shown : (s : Script) (t : Table) (us : List Stored) → FormLaw → IsBoundTo s t us → IsFormedScript s t us → DevicesAreClean (over s t (shapes_of us)) (map info_of (shapes_of us)) (blocks_told us)
+    → IsShownRun (over s t (shapes_of us)) (map info_of (shapes_of us)) s.ops (at_first s us)
+shown s t us law b p clean = shown-run s t us (bound-over s t us b) p.ty p.dix p.dif p.protect clean p.no_escape (formed s t us law b p)
+
+-- a run without faults leaves them clean
+abbrev pub LeavesLaw : Type 0
+LeavesLaw = (m : Setting) (devices : List DeviceInfo) (ops : List Op) (opening : State) → is_zero m.ty ≡ false → IsCalmRun m ops opening → LiesOn m devices → HasCells m devices opening.blocks → DevicesAreClean m devices opening.blocks
+    → DevicesAreClean m devices (script_walk m ops opening).blocks
+
+pub stays-clean : (s : Script) (t : Table) (us : List Stored) → LeavesLaw → IsBoundTo s t us → IsStillScript s t us → DevicesAreClean (over s t (shapes_of us)) (map info_of (shapes_of us)) (blocks_told us)
+    → DevicesAreClean (over s t (shapes_of us)) (map info_of (shapes_of us)) (script_walk (over s t (shapes_of us)) s.ops (at_first s us)).blocks
+stays-clean s t us law b p clean =
+    let o = bound-over s t us b in
+    let m = over s t (shapes_of us) in
+    let volume : AreClean m (blocks_told us) = λ v l z. clean v (address_of m v) l (o.made.inside v l) in
+    law m (map info_of (shapes_of us)) s.ops (at_first s us) p.tuples
+    (calm-run s t us o p.faults (sym (same-tests s.ops) ∙ p.overwrites) p.bytes volume p.no_escape)
+    (lies-on s t us o) (has-cells s t us o) clean

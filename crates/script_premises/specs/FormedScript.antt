@@ -1,4 +1,6 @@
-use Rattle.std.specs.Prelude.{◌≡◌, ◌+◌, ◌<◌, true, List, length, map, None, All}
+use Rattle.std.specs.Prelude.{◌≡◌, ◌+◌, ◌<◌, false, true, List, [], length, map, None, All}
+use Rattle.std.specs.List.{list_any}
+use Rattle.pi_tuple.specs.Finds.{is_zero}
 use Rattle.pi_tuple.specs.declared.checks.PiType.TheVariants.{One}
 use Rattle.dix_adapter.specs.Ways.{blocks_told, shapes_of}
 use Rattle.rig_discovery.specs.Discovery.{info_of}
@@ -10,7 +12,7 @@ use Rattle.script_laws.specs.Keeping.{Keeps}
 use Rattle.script_ground.specs.Units.{AreStored}
 use Rattle.script_stack.specs.Followed.{none_fails, opening_of, setting_of}
 use Rattle.whole_run.specs.UnderMap.{AreClean, NoEscape}
-use Rattle.run_premises.specs.Forms.{shows_by_form}
+use Rattle.run_premises.specs.Forms.{is_overwrite, shows_by_form}
 
 -- What is asked of a script so that a reader of it alone knows of what its run is told: all but that the blocks are clean.
 
@@ -31,4 +33,12 @@ pub record IsFormedScript (script : Script) (table : Table) (us : List Stored) :
   pub form : shows_by_form script.mode.kind script.block script.faults script.ops ≡ true
   pub bytes : All (All (λ x. x < 256)) (blocks_told us)
   pub clean : AreClean (setting_of script table (shapes_of us) none_fails) (blocks_told us)
+  pub no_escape : NoEscape (setting_of script table (shapes_of us) none_fails) 1 script.ops (opening_of script (shapes_of us) (blocks_told us))
+
+-- The volume has tuples. There is no line of a fault and no op that overwrites a stored block. What is stored is bytes, and no write supplies an escape.
+pub record IsStillScript (script : Script) (table : Table) (us : List Stored) : Type 0 where
+  pub tuples : is_zero table.ty ≡ false
+  pub faults : script.faults ≡ []
+  pub overwrites : list_any is_overwrite script.ops ≡ false
+  pub bytes : All (All (λ x. x < 256)) (blocks_told us)
   pub no_escape : NoEscape (setting_of script table (shapes_of us) none_fails) 1 script.ops (opening_of script (shapes_of us) (blocks_told us))
