@@ -1,3 +1,4 @@
 pub mod Flips
 pub mod Stages
 pub mod Finding
+pub mod NearFlips

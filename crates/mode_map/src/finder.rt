@@ -6,6 +6,7 @@ ghost use Rattle.integrity_payload.specs.declared.payload.Owner.{Owner};
 ghost use Rattle.whole_run.specs.Settings.{Block, Setting};
 ghost use Rattle.whole_run.specs.PlainMap.{Entry};
 ghost use Rattle.mode_map.specs.Finders.{IsClean, ShowsIn, checks_stored, finder, is_served, seen_in};
+ghost use Rattle.mode_map.specs.NearFlips.{IsNearFlip};
 
 use block_path::Mode;
 use fault_schedule::Crossing;
@@ -65,11 +66,16 @@ fn finder(mode: &Mode, ty: PiType, at: Crossing) -> Option<Seen>
 /// where none does. On a write it is the layer that refuses the block or, where the block is accepted,
 /// the one that finds it at the next read.
 ///
+/// Where the flip changes the guards that see it (`found`), so where it is of one byte or of two, not both by FFh
+/// (`near`).
+///
 /// The mode's protect field is 1, 3 or 4.
 pub fn first_finder(mode: &Mode, ty: PiType, at: Crossing) -> Option<Seen>
     requires { is_served mode.now.protect ≡ true }
     ensures value { result ≡ finder mode.now ty at }
     ensures found { (m : Setting) (b : Block) (owner : Owner) (e : Entry) (off : ℕ) (bytes : List ℕ) → m.mode ≡ mode.now → m.ty ≡ ty → IsClean m e → ShowsIn m at off bytes e
+        → seen_in m b owner at off bytes e ≡ result }
+    ensures near { (m : Setting) (b : Block) (owner : Owner) (e : Entry) (off : ℕ) (bytes : List ℕ) → m.mode ≡ mode.now → m.ty ≡ ty → IsClean m e → IsNearFlip m off bytes
         → seen_in m b owner at off bytes e ≡ result }
 {
     finder(mode, ty, at)
