@@ -32,7 +32,7 @@ use Rattle.script_text.specs.Bindings.{binding_fault}
 use Rattle.script_text.specs.Language.{line_taken, script_in, taken}
 use Rattle.script_lines.specs.Forms.{app_form, fault_form, flip_form, limits_form, linear_form, mode_form, pages_form, place_form, read_form, write_form}
 use Rattle.script_text.specs.declared.script.Script.{Script}
-use Rattle.script_verdict.specs.Premises.{IsDetectableRun, IsPlainRun, setting_told}
+use Rattle.script_verdict.specs.Premises.{IsDetectableRun, IsFormedRun, IsPlainRun, setting_told}
 use Rattle.script_verdict.specs.Verdict.{devices_of, table_over}
 
 -- A text with a write and a read of one block, and the same with a flip on the wire, over a formatted image of one block: each meets the premises of its half.
@@ -157,3 +157,7 @@ detectable_row = record {
   no_escape = ((λ h. refl, tt), ((tt, tt), tt));
   shown = refl;
 }
+
+formed_row : IsFormedRun faulty table devices us
+unfolding crc
+formed_row = record { ty = refl; dix = refl; dif = refl; protect = refl; form = refl; escapes = refl; bytes = are_bytes; clean = all_clean }

@@ -1,4 +1,4 @@
-use Rattle.std.proofs.Common.{ℕ, ◌≡◌, ◌<◌, ◌*◌, false, List, [], ◌∷◌, ◌++◌, get_or, map, Some, refl, sym, ap, subst, ◌∙◌}
+use Rattle.std.proofs.Common.{ℕ, ◌≡◌, ◌<◌, ◌*◌, true, false, List, [], ◌∷◌, ◌++◌, get_or, map, Some, refl, sym, ap, subst, ◌∙◌}
 use Rattle.std.specs.Prelude.{All}
 use Rattle.std.specs.List.{list_any}
 use Rattle.dix_base.specs.Told.{Calm}
@@ -24,9 +24,9 @@ use Rattle.script_stack.proofs.Words.{sends_own}
 use Rattle.script_laws.specs.Keeping.{Keeps}
 use Rattle.script_ground.proofs.OverUnits.{IsBoundOver}
 use Rattle.rig_discovery.specs.Discovery.{info_of}
-use Rattle.dix_adapter.specs.Ways.{shapes_of}
+use Rattle.dix_adapter.specs.Ways.{blocks_told, shapes_of}
 use Rattle.script_verdict.specs.Fallen.{HasServed}
-use Rattle.script_verdict.specs.Premises.{IsDetectableRun, IsPlainRun, IsQuietRun}
+use Rattle.script_verdict.specs.Premises.{IsDetectableRun, IsFormedRun, IsPlainRun, IsQuietRun}
 use Rattle.script_verdict.specs.Layers.{NamesFaults, NamesLayers}
 use Rattle.script_verdict.proofs.Fallen.{BroughtFallLaw, OwnFallLaw, ReadsFallLaw, served}
 use Rattle.script_verdict.proofs.Layers.{names-faults, names-layers, none-medium}
@@ -35,7 +35,11 @@ use Rattle.image_commands.specs.Views.{View}
 use Rattle.page_pool.specs.declared.segs.Seg.{Seg}
 use Rattle.integrity_payload.specs.declared.payload.Owner.{Owner}
 use Rattle.whole_run.specs.ReadsAs.{ReadsRightly, read_op}
-use Rattle.run_laws.specs.ShownRun.{IsShownRun}
+use Rattle.run_laws.specs.ShownRun.{DevicesAreClean, IsShownRun}
+use Rattle.run_premises.specs.Forms.{escapes_none}
+use Rattle.script_premises.specs.FormedScript.{IsBoundTo, IsFormedScript}
+use Rattle.whole_run.specs.Detectable.{detectable}
+use Rattle.whole_run.specs.Past.{steps_from}
 use Rattle.script_verdict.specs.Verdict.{AllReadRightly, Followed, HasPlain, HasReadRightly, opening_told, setting_told}
 use Rattle.block_path.specs.Acts.{State}
 use Rattle.block_path.specs.Moves.{hidden}
@@ -44,7 +48,7 @@ use Rattle.whole_run.specs.CalmRun.{IsCalmRun}
 use Rattle.whole_run.specs.PlainMap.{plain_map, plain_replies}
 use Rattle.whole_run.specs.ScriptWalk.{script_replies, script_walk}
 use Rattle.whole_run.specs.Settings.{Setting}
-use Rattle.whole_run.specs.UnderMap.{IsUnder, opened}
+use Rattle.whole_run.specs.UnderMap.{IsUnder, NoEscape, address_of, opened}
 
 -- What the steps of a stack come to, by the laws of a script that was run to its end.
 
@@ -139,6 +143,43 @@ none_failed s t devices log replies none backed i =
     let m = setting_of s t (map unit_of devices) (failed_in replies) in
     ap (λ (rs : List Reply). is_medium (get_or rs i Silent)) (backed []).checked ∙ none-medium (told m (recorded m log)) 1 s.ops (opening_of s (map unit_of devices) []) none i
 
+-- the laws of a script's form
+abbrev pub FormLaw : Type 0
+FormLaw = (s : Script) (t : Table) (us : List Stored) → IsBoundTo s t us → IsFormedScript s t us → detectable (setting_told s t us) (steps_from (setting_told s t us) 1 s.ops) (opening_told s us) ≡ true
+
+abbrev pub EscapeLaw : Type 0
+EscapeLaw = (s : Script) (t : Table) (us : List Stored) → escapes_none s.ops ≡ true → NoEscape (setting_told s t us) 1 s.ops (opening_told s us)
+
+by_form : (s : Script) (t : Table) (devices : List DeviceInfo) (us : List Stored) → FormLaw → EscapeLaw → devices ≡ map info_of (shapes_of us) → IsBoundOver s t us → IsFormedRun s t devices us → IsDetectableRun s t devices us
+by_form s t devices us form escape same b p =
+    let none = escape s t us p.escapes in
+    let own = subst (λ (ds : List DeviceInfo). DevicesAreClean (setting_told s t us) ds (blocks_told us)) same p.clean in
+    record {
+      ty = p.ty;
+      dix = p.dix;
+      dif = p.dif;
+      protect = p.protect;
+      clean = p.clean;
+      no_escape = none;
+      shown = form s t us (record { keeps = b.keeps; lines = b.lines; made = b.made; bound = b.bound; stored = b.stored })
+          (record {
+            ty = p.ty;
+            dix = p.dix;
+            dif = p.dif;
+            protect = p.protect;
+            form = p.form;
+            bytes = p.bytes;
+            clean = λ v l z. own v (address_of (setting_told s t us) v) l (b.made.inside v l);
+            no_escape = none;
+          });
+    }
+
+formed_at : (s : Script) (t : Table) (devices : List DeviceInfo) (begun r : Stack) (old new : View) (armed : List FaultLine) → ToldLaw → DetectionLaw → FormLaw → EscapeLaw → (o : IsDone s t devices begun r old new armed) → (us : List Stored) → old.seen.units ≡ Some us →
+    Calm old.seen.faults new.seen.faults → IsFormedRun s t devices us → AllReadRightly (setting_told s t us) s.ops (opening_told s us) r.replies.items
+formed_at s t devices begun r old new armed law detects form escape o us e calm run =
+    shown_at s t devices begun r old new armed law detects o us e calm
+    (by_form s t devices us form escape (devices_at s t devices begun r old new armed o us e) (bound_at s t devices begun r old new armed o us e) run)
+
 fallen_view : (s : Script) (t : Table) (devices : List DeviceInfo) (begun r : Stack) (old new : View) (armed : List FaultLine) → BackedLaw → FallenLaw → ReadsFallLaw → OwnFallLaw → BroughtFallLaw → (o : IsDone s t devices begun r old new armed) → (us : List Stored) → old.seen.units ≡ Some us → IsQuietRun s t us →
     (left : List Stored) × (new.seen.units ≡ Some left) × HasServed s t us left r.pool o.over.goes.more r.replies.items
 fallen_view s t devices begun r old new armed backed law reads own brought o us e quiet =
@@ -146,8 +187,8 @@ fallen_view s t devices begun r old new armed backed law reads own brought o us 
     let w = fell s t devices begun r old new armed law o us e none in
     (w.0, w.1, served s t us w.0 r.pool o.over.goes.more r.replies.items reads own brought (bound_at s t devices begun r old new armed o us e) quiet w.2.ends)
 
-pub followed : (s : Script) (t : Table) (devices : List DeviceInfo) (begun r : Stack) (old new : View) (armed : List FaultLine) → BackedLaw → FewLaw → AllLaw → MediumLaw → ToldLaw → RepliesLaw → UnderLaw → DetectionLaw → FallenLaw → ReadsFallLaw → OwnFallLaw → BroughtFallLaw → IsDone s t devices begun r old new armed → Followed s t devices old new r.pool r.replies.items
-followed s t devices begun r old new armed backed few all medium told same under detects fallen reads own brought o = record {
+pub followed : (s : Script) (t : Table) (devices : List DeviceInfo) (begun r : Stack) (old new : View) (armed : List FaultLine) → BackedLaw → FewLaw → AllLaw → MediumLaw → ToldLaw → RepliesLaw → UnderLaw → DetectionLaw → FormLaw → EscapeLaw → FallenLaw → ReadsFallLaw → OwnFallLaw → BroughtFallLaw → IsDone s t devices begun r old new armed → Followed s t devices old new r.pool r.replies.items
+followed s t devices begun r old new armed backed few all medium told same under detects form escape fallen reads own brought o = record {
   tells = o.over.tells;
   goes = o.over.goes;
   backed = backed_by s t devices s.schedule begun r old.image new.image (outside old s.faults) (outside new armed) backed o.over;
@@ -155,6 +196,7 @@ followed s t devices begun r old new armed backed few all medium told same under
   medium = few_lines s t devices s.schedule begun r old.image new.image (outside old s.faults) (outside new armed) medium o.over;
   plain = plain_at s t devices begun r old new armed told same under o;
   shown = shown_at s t devices begun r old new armed told detects o;
+  formed = formed_at s t devices begun r old new armed told detects form escape o;
   walked = walked s t devices begun r old new armed told o;
   named = named s t devices begun r old new armed told o;
   fell = fell s t devices begun r old new armed fallen o;

@@ -12,6 +12,7 @@ use Rattle.whole_run.specs.Past.{steps_from}
 use Rattle.whole_run.specs.Settings.{Setting}
 use Rattle.whole_run.specs.UnderMap.{AreClean, NoEscape}
 use Rattle.run_laws.specs.ShownRun.{DevicesAreClean}
+use Rattle.run_premises.specs.Forms.{escapes_none, shows_by_form}
 use Rattle.stack_walks.specs.Overwrites.{is_overwrite}
 use Rattle.script_stack.specs.Followed.{none_fails, opening_of, setting_of}
 use Rattle.script_text.specs.declared.script.Script.{Script}
@@ -44,3 +45,14 @@ pub record IsDetectableRun (script : Script) (table : Table) (devices : List Dev
   pub clean : DevicesAreClean (setting_told script table us) devices (blocks_told us)
   pub no_escape : NoEscape (setting_told script table us) 1 script.ops (opening_told script us)
   pub shown : detectable (setting_told script table us) (steps_from (setting_told script table us) 1 script.ops) (opening_told script us) ≡ true
+
+-- The same by what a reader of the script sees, but that the blocks are clean: the faults have the form under which each is shown, no `write` has the application tag FFFFh, and there is no `writepi`. What is stored is bytes.
+pub record IsFormedRun (script : Script) (table : Table) (devices : List DeviceInfo) (us : List Stored) : Type 0 where
+  pub ty : table.ty ≡ One
+  pub dix : script.mode.dix ≡ true
+  pub dif : script.mode.dif ≡ true
+  pub protect : script.mode.protect ≡ 1
+  pub form : shows_by_form script.mode.kind script.block script.faults script.ops ≡ true
+  pub escapes : escapes_none script.ops ≡ true
+  pub bytes : All (All (λ x. x < 256)) (blocks_told us)
+  pub clean : DevicesAreClean (setting_told script table us) devices (blocks_told us)

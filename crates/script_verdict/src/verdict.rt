@@ -17,6 +17,7 @@ use run_falls::{
     a_stack_reads_the_last_write_or_fails_at_the_medium, a_stack_writes_or_fails_at_the_medium,
 };
 use run_laws::a_read_is_the_last_write_or_names_the_first_layer;
+use script_premises::{a_script_is_shown_by_its_form, a_script_supplies_no_escape_by_its_form};
 use script_stack::{
     Run, a_script_run_is_backed, a_told_script_run_has_fallen, a_told_script_run_has_walked,
     ready_script, run_all,
@@ -102,6 +103,8 @@ pub fn run_script<R: Rig>(
     a_told_script_run_has_fallen();
     a_calm_walk_is_a_plain_map();
     a_read_is_the_last_write_or_names_the_first_layer();
+    a_script_is_shown_by_its_form();
+    a_script_supplies_no_escape_by_its_form();
     a_stack_reads_the_last_write_or_fails_at_the_medium();
     a_stack_writes_or_fails_at_the_medium();
     Ok(Finished { stack, first })
