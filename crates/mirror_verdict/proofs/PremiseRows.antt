@@ -1,0 +1,132 @@
+use Rattle.std.proofs.Common.{◌≡◌, ◌<◌, ℕ, zero, suc, ◌+◌, true, List, [], ◌∷◌, get_or, refl, arith}
+use Rattle.std.specs.Prelude.{All, None, nat_lt}
+use Rattle.std.specs.List.{list_all}
+use Rattle.std.proofs.lemmas.Bool.{and_parts, ltb-true}
+use Rattle.std.proofs.lemmas.List.Elements.{All-cons, All-nil}
+use Rattle.pi_guard.specs.Guards.{crc, ip}
+use Rattle.pi_guard.specs.declared.GuardKind.TheVariants.{Crc}
+use Rattle.pi_tuple.specs.declared.checks.PiType.TheVariants.{One}
+use Rattle.fault_schedule.specs.declared.fault.Crossing.TheVariants.{AdapterToHost, AdapterToTarget, HostToAdapter, MediumToTarget, TargetToAdapter, TargetToMedium}
+use Rattle.fault_schedule.specs.declared.fault.FaultKind.TheVariants.{Flip}
+use Rattle.page_pool.specs.Places.{run}
+use Rattle.target_answer.specs.Image.{fresh}
+use Rattle.target_answer.specs.Passing.{found_in, from_medium, to_medium}
+use Rattle.target_answer.specs.Target.{Stored}
+use Rattle.target_answer.specs.declared.units.UnitSpec.{UnitSpec}
+use Rattle.rig_discovery.specs.Discovery.{info_of}
+use Rattle.block_path.specs.WayIn.{from_wire}
+use Rattle.block_path.specs.WayOut.{to_wire}
+use Rattle.dix_adapter.specs.Ways.{blocks_told}
+use Rattle.stack_ops.specs.declared.op.Op.TheVariants.{Fetch, Write}
+use Rattle.volume_table.specs.Faults.{table_fault}
+use Rattle.volume_table.specs.declared.device.DeviceInfo.{DeviceInfo}
+use Rattle.volume_table.specs.declared.entry.Entry.TheVariants.{Linear}
+use Rattle.whole_run.specs.Past.{brought_by}
+use Rattle.whole_run.specs.Settings.{Setting}
+use Rattle.whole_run.specs.UnderMap.{IsClean, home}
+use Rattle.run_laws.specs.ShownRun.{DevicesAreClean}
+use Rattle.script_text.specs.declared.script.Script.{Script}
+use Rattle.script_stack.specs.Causes.{table_of}
+use Rattle.mirror_script.specs.MirrorFaults.{mirror_fault}
+use Rattle.mirror_walk.specs.OneGood.{AreBytes, HasGoodLeg, IsUnnamed}
+use Rattle.leg_runs.specs.Standing.{half_of, mirror_setting}
+use Rattle.mirror_verdict.specs.Premises.{IsOneGoodRun}
+
+-- A script with a write and a read of the one block of a mirror, over two formatted units: the block's data are altered on their way to leg 0, which refuses them. It is bound as a mirror's, and meets the premises.
+
+abbrev unit : UnitSpec
+unit = record { ty = One; blocks = 1; size = 512; first = 0 }
+
+abbrev stored : Stored
+stored = record { ty = One; size = 512; first = 0; blocks = fresh One 512 0 ∷ [] }
+
+abbrev us : List Stored
+us = stored ∷ stored ∷ []
+
+abbrev devices : List DeviceInfo
+devices = info_of unit ∷ info_of unit ∷ []
+
+abbrev script : Script
+script = record {
+  mode = record { kind = Crc; dix = true; dif = true; protect = 1; app = 0; mask = 0 };
+  limits = record { max_blocks = 1; max_segs = 4; max_pi_segs = 1 };
+  pages = 1;
+  block = 512;
+  expect_line = 0;
+  entries = Linear (record { start = 0; len = 1; dev = 0; at = 0 }) ∷ Linear (record { start = 1; len = 1; dev = 1; at = 0 }) ∷ [];
+  faults = record { op = 1; k = 0; at = HostToAdapter; kind = Flip 0 (1 ∷ []) } ∷ [];
+  schedule = [];
+  ops = Write 0 1 (record { page = 0; off = 0; len = 512 } ∷ []) 0 ∷ Fetch 0 1 (record { page = 0; off = 0; len = 512 } ∷ []) ∷ [];
+  lines = 7 ∷ 9 ∷ 10 ∷ [];
+}
+
+no_fault : table_fault script.entries devices 512 ≡ None
+no_fault = refl
+
+bound : mirror_fault script (table_of script devices) devices ≡ None
+bound = refl
+
+abbrev m : Setting
+m = mirror_setting script devices us
+
+half : half_of script devices ≡ 1
+half = refl
+
+block_clean : IsClean m 0 (fresh One 512 0)
+unfolding crc
+block_clean = record { no_escape = refl; guard = refl; app = refl; rtag = λ h. refl }
+
+clean : DevicesAreClean m devices (blocks_told us)
+clean zero zero l h = block_clean
+clean (suc zero) zero l h = block_clean
+clean zero (suc lba) l h = absurd (let e = h.ends in omega arith)
+clean (suc zero) (suc lba) l h = absurd (let e = h.ends in omega arith)
+clean (suc (suc v)) lba l h = absurd (omega (arith, l))
+
+bytes_by : (xs : List ℕ) → list_all (λ x. nat_lt x 256) xs ≡ true → All (λ x. x < 256) xs
+bytes_by [] h = All-nil (λ (x : ℕ). x < 256)
+bytes_by (x ∷ xs) h =
+    let a = and_parts (nat_lt x 256) (list_all (λ x. nat_lt x 256) xs) h in
+    All-cons (λ (y : ℕ). y < 256) x xs (ltb-true x 256 a.0) (bytes_by xs a.1)
+
+bytes : AreBytes m 1 (blocks_told us)
+bytes zero l = bytes_by (fresh One 512 0) refl
+bytes (suc u) l = absurd (omega (arith, l))
+
+equal : (u : ℕ) → u < 1 → brought_by 512 (get_or (blocks_told us) (home m (1 + u)) []) ≡ brought_by 512 (get_or (blocks_told us) (home m u) [])
+equal zero l = refl
+equal (suc u) l = absurd (omega (arith, l))
+
+-- leg 1 has no fault line
+written : IsUnnamed m (record { op = 1; k = 1; virt = 1 })
+written HostToAdapter = refl
+written AdapterToTarget = refl
+written TargetToMedium = refl
+written MediumToTarget = refl
+written TargetToAdapter = refl
+written AdapterToHost = refl
+
+fetched : IsUnnamed m (record { op = 2; k = 1; virt = 1 })
+fetched HostToAdapter = refl
+fetched AdapterToTarget = refl
+fetched TargetToMedium = refl
+fetched MediumToTarget = refl
+fetched TargetToAdapter = refl
+fetched AdapterToHost = refl
+
+one_good : (u : ℕ) → u < 1 → HasGoodLeg m 1 script.ops u
+one_good zero l = record { leg = true; spares = (λ e. written, (λ e. fetched, tt)) }
+one_good (suc u) l = absurd (omega (arith, l))
+
+one_good_row : IsOneGoodRun script devices us
+unfolding crc ip found_in to_medium from_medium to_wire from_wire run
+one_good_row = record {
+  ty = refl;
+  protect = refl;
+  clean = clean;
+  equal = equal;
+  bytes = bytes;
+  no_escape = (λ h. refl, (λ h. refl, (tt, tt)));
+  shown = refl;
+  one_good = one_good;
+}
