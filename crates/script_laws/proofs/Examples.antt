@@ -1,12 +1,12 @@
 use Rattle.std.proofs.Common.{refl}
 use Rattle.hex.specs.Hex.{decode_pairs}
-use Rattle.script_lines.specs.Forms.{app_form, block_form, change_form, fault_form, flip_form, limits_form, linear_form, mode_form, overwrite_form, pages_form, place_form, read_form, readpi_form, shift_form, show_form, write_form}
+use Rattle.script_lines.specs.Forms.{app_form, block_form, change_form, fault_form, flip_form, inner_form, limits_form, linear_form, mode_form, over_form, overwrite_form, pages_form, place_form, read_form, readpi_form, shift_form, show_form, striped_form, write_form}
 use Rattle.script_text.specs.Language.{line_taken, taken}
 use Rattle.script_text.specs.Generator.{next_state}
 use Rattle.script_laws.specs.Examples.{BoundExamples, ReadExamples, StateExamples}
 
 pub read_examples : ReadExamples
-unfolding app_form block_form limits_form linear_form line_taken mode_form pages_form place_form readpi_form read_form show_form taken write_form decode_pairs
+unfolding app_form block_form inner_form limits_form linear_form line_taken mode_form over_form pages_form place_form readpi_form read_form show_form striped_form taken write_form decode_pairs
 read_examples = record {
   empty = refl;
   only_comments = refl;
@@ -21,6 +21,7 @@ read_examples = record {
   page_missing = refl;
   shared_byte = refl;
   whole = refl;
+  over_inner = refl;
 }
 
 pub bound_examples : BoundExamples

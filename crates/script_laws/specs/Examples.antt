@@ -4,7 +4,7 @@ use Rattle.pi_tuple.specs.declared.checks.PiType.{PiType}
 use Rattle.pi_tuple.specs.declared.checks.PiType.TheVariants.{Zero as TypeZero, One as TypeOne}
 use Rattle.stack_ops.specs.declared.op.Op.TheVariants.{Show, Write, FetchPi}
 use Rattle.volume_table.specs.declared.device.DeviceInfo.{DeviceInfo}
-use Rattle.volume_table.specs.declared.entry.Entry.TheVariants.{Linear}
+use Rattle.volume_table.specs.declared.entry.Entry.TheVariants.{Linear, Stripe}
 use Rattle.script_lines.specs.declared.kind.ScriptKind.{ScriptKind}
 use Rattle.script_lines.specs.declared.kind.ScriptKind.TheVariants.{BadFault, BadNumber, BadRange, BadSegments, ExtraWord, MissingWord, NoHeader, NoIntegrity, OutOfPlace, SegOverlap}
 use Rattle.script_text.specs.declared.fault.ScriptFault.{ScriptFault}
@@ -43,6 +43,23 @@ tagged = record {
   lines = 7 ∷ 8 ∷ 9 ∷ [];
 }
 
+-- an `over` line on two inner volumes, one of which has two extents: its blocks lie as in two stripes
+abbrev pub over_two : Script
+over_two = record {
+  mode = record { kind = Crc; dix = true; dif = true; protect = 1; app = 0; mask = 0 };
+  limits = record { max_blocks = 64; max_segs = 16; max_pi_segs = 16 };
+  pages = 1;
+  block = 512;
+  expect_line = 0;
+  entries =
+      Stripe (record { start = 0; len = 16; chunk = 4; legs = record { dev = 0; at = 0 } ∷ record { dev = 1; at = 0 } ∷ [] })
+      ∷ Stripe (record { start = 16; len = 16; chunk = 4; legs = record { dev = 0; at = 100 } ∷ record { dev = 1; at = 8 } ∷ [] }) ∷ [];
+  faults = [];
+  schedule = [];
+  ops = [];
+  lines = [];
+}
+
 pub record ReadExamples : Type 0 where
   pub empty : script_in [] ≡ at_line 1 NoHeader
   pub only_comments : script_in (codes "# one\n\n  # two") ≡ at_line 4 NoHeader
@@ -57,6 +74,7 @@ pub record ReadExamples : Type 0 where
   pub page_missing : script_in (with_ops (codes "write 0 1 2:0:512\n")) ≡ at_line 7 BadSegments
   pub shared_byte : script_in (with_ops (codes "write 0 1 0:0:256,0:255:256\n")) ≡ at_line 7 SegOverlap
   pub whole : script_in (with_ops (codes "write 0 1 0:0:512 app 1234\nreadpi 0 1 1:0:512 1:512:8\nshow 1:512:8\n")) ≡ Ok tagged
+  pub over_inner : script_in (codes "dix 2\nmode crc on on 1\nlimits 64 16 16\npages 1\nblock 512\ninner 0 8 dev 0 at 0\ninner 0 8 dev 0 at 100\ninner 1 16 dev 1 at 0\nover 0 32 chunk 4 legs 0 1\nbegin\n") ≡ Ok over_two
 
 -- two devices of 256 blocks of 512 bytes and this type
 abbrev pub two_units : PiType → List DeviceInfo
