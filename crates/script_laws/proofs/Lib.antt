@@ -19,3 +19,4 @@ pub mod Keeping
 pub mod OverLines
 pub mod BigKeeps
 pub mod Examples
+mod OverRows

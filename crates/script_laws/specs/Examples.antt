@@ -43,7 +43,11 @@ tagged = record {
   lines = 7 ∷ 8 ∷ 9 ∷ [];
 }
 
--- an `over` line on two inner volumes, one of which has two extents: its blocks lie as in two stripes
+-- an `over` line on two inner volumes, one of which has two extents
+abbrev pub over_text : List ℕ
+over_text = codes "dix 2\nmode crc on on 1\nlimits 64 16 16\npages 1\nblock 512\ninner 0 8 dev 0 at 0\ninner 0 8 dev 0 at 100\ninner 1 16 dev 1 at 0\nover 0 32 chunk 4 legs 0 1\nbegin\n"
+
+-- its blocks lie as in two stripes
 abbrev pub over_two : Script
 over_two = record {
   mode = record { kind = Crc; dix = true; dif = true; protect = 1; app = 0; mask = 0 };
@@ -74,7 +78,7 @@ pub record ReadExamples : Type 0 where
   pub page_missing : script_in (with_ops (codes "write 0 1 2:0:512\n")) ≡ at_line 7 BadSegments
   pub shared_byte : script_in (with_ops (codes "write 0 1 0:0:256,0:255:256\n")) ≡ at_line 7 SegOverlap
   pub whole : script_in (with_ops (codes "write 0 1 0:0:512 app 1234\nreadpi 0 1 1:0:512 1:512:8\nshow 1:512:8\n")) ≡ Ok tagged
-  pub over_inner : script_in (codes "dix 2\nmode crc on on 1\nlimits 64 16 16\npages 1\nblock 512\ninner 0 8 dev 0 at 0\ninner 0 8 dev 0 at 100\ninner 1 16 dev 1 at 0\nover 0 32 chunk 4 legs 0 1\nbegin\n") ≡ Ok over_two
+  pub over_inner : script_in over_text ≡ Ok over_two
 
 -- two devices of 256 blocks of 512 bytes and this type
 abbrev pub two_units : PiType → List DeviceInfo
