@@ -21,7 +21,7 @@ use Rattle.whole_run.specs.Settings.{Setting}
 use Rattle.whole_run.specs.UnderMap.{IsClean, address_of, home}
 use Rattle.whole_run.proofs.ScriptRows.{calm_run, opening, seg, with_faults}
 use Rattle.run_premises.specs.Forms.{escapes_none, shows_by_form}
-use Rattle.run_premises.specs.FormedRun.{IsFormedRun, IsOfBytes}
+use Rattle.run_premises.specs.FormedRun.{HasFormedFaults, IsOfBytes}
 
 -- Faults that have the form, and faults on each side of its limits, worked by hand.
 
@@ -169,7 +169,7 @@ two x y h k = All-cons (λ (x : ℕ). x < 256) x (y ∷ []) h (one y k)
 abbrev P : FaultLine → Type 0
 P f = IsOfBytes f.kind
 
-formed_run : IsFormedRun m ops opening
+formed_run : HasFormedFaults m ops opening
 unfolding crc
 formed_run = record {
   checked = record { ty = refl; dix = refl; dif = refl; protect = refl; device = refl };

@@ -43,7 +43,7 @@ use Rattle.whole_run.proofs.TupleFrames.{Small, below_append, below_drop, below_
 use Rattle.run_laws.specs.ShownRun.{IsChecked}
 use Rattle.run_laws.proofs.Layers.{checked, unmoved}
 use Rattle.run_premises.specs.Forms.{brings_tuples, first_virt, is_good_line, is_overwrite, is_stored_altered, op_of, virt_of}
-use Rattle.run_premises.specs.FormedRun.{IsFormedRun, IsOfBytes}
+use Rattle.run_premises.specs.FormedRun.{HasFormedFaults, IsOfBytes}
 use Rattle.run_premises.proofs.Lines.{IsLineOf, line_of, no_shift, none_of}
 use Rattle.run_premises.proofs.Ways.{Fine, Kept, OfBytes, Right, comes_bytes, comes_shown, goes_kept, goes_shown, the_line}
 
@@ -351,7 +351,7 @@ module _ (m : Setting) where
       escapes_both (steps_of m i op) (steps_from m (suc i) ops) s h.0
       (subst (NoneEscapes m (steps_from m (suc i) ops)) (acts_stepped (act_of m) (steps_of m i op) s) (none_escapes (suc i) ops (plain act (acts_of m i op) s) h.1))
 
-formed : (m' : Setting) (ops : List Op) (opening : State) → IsFormedRun (checked m') ops opening → detectable (checked m') (steps_from (checked m') 1 ops) opening ≡ true
+formed : (m' : Setting) (ops : List Op) (opening : State) → HasFormedFaults (checked m') ops opening → detectable (checked m') (steps_from (checked m') 1 ops) opening ≡ true
 formed m' ops opening run =
     let form = (and_parts (list_all (is_good_line m'.mode.kind m'.size m'.site.faults ops) m'.site.faults) (not (list_any is_overwrite ops)) run.form).0 in
     all_shown m' ops run.even run.flips form opening.blocks run.lies (steps_from (checked m') 1 ops) opening
@@ -363,7 +363,7 @@ formed m' ops opening run =
 checked_form : (m : Setting) → IsChecked m → m ≡ checked m
 checked_form m c = λ i. record m { mode = record m.mode { dix = c.dix i; dif = c.dif i; protect = c.protect i }; ty = c.ty i; site = record m.site { device = c.device i } }
 
-pub shown_by_form : (m : Setting) (ops : List Op) (opening : State) → IsFormedRun m ops opening → detectable m (steps_from m 1 ops) opening ≡ true
+pub shown_by_form : (m : Setting) (ops : List Op) (opening : State) → HasFormedFaults m ops opening → detectable m (steps_from m 1 ops) opening ≡ true
 shown_by_form m ops opening run =
     let e = checked_form m run.checked in
-    subst (λ x. detectable x (steps_from x 1 ops) opening ≡ true) (sym e) (formed m ops opening (subst (λ x. IsFormedRun x ops opening) e run))
+    subst (λ x. detectable x (steps_from x 1 ops) opening ≡ true) (sym e) (formed m ops opening (subst (λ x. HasFormedFaults x ops opening) e run))

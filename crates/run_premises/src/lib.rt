@@ -24,7 +24,7 @@ ghost use Rattle.whole_run.specs.ScriptWalk.{script_walk};
 ghost use Rattle.whole_run.specs.UnderMap.{AreClean, NoEscape};
 ghost use Rattle.run_laws.specs.ShownRun.{DevicesAreClean, HasCells, LiesOn};
 ghost use Rattle.run_premises.specs.Forms.{escapes_none, is_near, is_seen, mask_of};
-ghost use Rattle.run_premises.specs.FormedRun.{IsFormedRun, IsOfBytes};
+ghost use Rattle.run_premises.specs.FormedRun.{HasFormedFaults, IsOfBytes};
 
 mod form;
 
@@ -46,7 +46,7 @@ pub fn the_form_is_exact_for_the_crc()
 
 /// A law: over a clean volume, with no escape, faults that have the form can each be shown.
 pub fn faults_are_shown_by_their_form()
-    ensures { (m : Setting) (ops : List AnyOp) (opening : State) → IsFormedRun m ops opening → detectable m (steps_from m 1 ops) opening ≡ true }
+    ensures { (m : Setting) (ops : List AnyOp) (opening : State) → HasFormedFaults m ops opening → detectable m (steps_from m 1 ops) opening ≡ true }
 {}
 
 /// A law: no write supplies an escape where no `write` has the application tag FFFFh and no application brings tuples,

@@ -32,7 +32,7 @@ use Rattle.whole_run.specs.CalmRun.{IsCalmRun}
 use Rattle.whole_run.specs.ScriptWalk.{script_walk}
 use Rattle.whole_run.specs.UnderMap.{AreClean, NoEscape, address_of}
 use Rattle.run_premises.specs.Forms.{is_good_line, is_overwrite, supplies_none}
-use Rattle.run_premises.specs.FormedRun.{IsFormedRun, IsOfBytes}
+use Rattle.run_premises.specs.FormedRun.{HasFormedFaults, IsOfBytes}
 use Rattle.script_premises.specs.FormedScript.{IsBoundTo, IsFormedScript, IsStillScript}
 
 even : (n : ℕ) → (n ≡ 512) ⊎ (n ≡ 4096) → n % 2 ≡ 0
@@ -69,7 +69,7 @@ same-tests (op ∷ ops) = ap (λ b. b || list_any is_overwrite ops) (same-test o
 
 -- the law of a run
 abbrev pub FormLaw : Type 0
-FormLaw = (m : Setting) (ops : List Op) (opening : State) → IsFormedRun m ops opening → detectable m (steps_from m 1 ops) opening ≡ true
+FormLaw = (m : Setting) (ops : List Op) (opening : State) → HasFormedFaults m ops opening → detectable m (steps_from m 1 ops) opening ≡ true
 
 -- and that of escapes
 abbrev pub EscapeLaw : Type 0
@@ -78,7 +78,7 @@ EscapeLaw = (m : Setting) (ops : List Op) (opening : State) → list_all supplie
 bound-over : (s : Script) (t : Table) (us : List Stored) → IsBoundTo s t us → IsBoundOver s t us
 bound-over s t us b = record { keeps = b.keeps; lines = b.lines; made = b.made; bound = b.bound; stored = b.stored }
 
-pub formed-run : (s : Script) (t : Table) (us : List Stored) → IsBoundTo s t us → IsFormedScript s t us → IsFormedRun (over s t (shapes_of us)) s.ops (at_first s us)
+pub formed-run : (s : Script) (t : Table) (us : List Stored) → IsBoundTo s t us → IsFormedScript s t us → HasFormedFaults (over s t (shapes_of us)) s.ops (at_first s us)
 formed-run s t us b p =
     let o = bound-over s t us b in
     let form = and_parts (list_all (is_good_line s.mode.kind s.block s.faults s.ops) s.faults) (not (list_any is_overwrite s.ops)) p.form in
