@@ -9,6 +9,7 @@ mod apart;
 mod blocks;
 mod guards;
 mod runs;
+mod senses;
 mod single;
 mod status;
 
@@ -16,5 +17,6 @@ pub use apart::{dixpi_dix_generate, dixpi_dix_verify};
 pub use blocks::{dixpi_generate, dixpi_remap, dixpi_verify};
 pub use guards::{dixpi_crc16, dixpi_crc16_after, dixpi_crc16v, dixpi_ip_sum, dixpi_ip_sumv};
 pub use runs::{dixpi_run_begin, dixpi_run_finish, dixpi_run_update};
+pub use senses::{dixpi_sense_check, dixpi_sense_decode, dixpi_sense_encode};
 pub use single::{dixpi_check, dixpi_tuple_read, dixpi_tuple_write};
 pub use status::dixpi_version;
