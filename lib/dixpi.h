@@ -18,6 +18,7 @@ enum dixpi_status {
     DIXPI_DIFFERS = 1,    /* a block differs: *found has the first */
     DIXPI_BAD_LAYOUT = 2, /* no layout: see struct dixpi_layout */
     DIXPI_BAD_LENGTH = 3, /* no whole blocks, data and metadata of other counts, or bytes of another length */
+    DIXPI_BAD_FIELD = 5,  /* a field has a value that isn't served, or doesn't fit its form */
 };
 
 /* The guard: the CRC of T10, or the Internet checksum, which host memory alone has. */
@@ -97,6 +98,21 @@ uint32_t dixpi_dix_generate(const struct iovec *data, size_t count, uint8_t *met
 uint32_t dixpi_dix_verify(const struct iovec *data, size_t count, const uint8_t *meta, size_t meta_len,
                           const struct dixpi_layout *layout, const struct dixpi_want *want,
                           struct dixpi_found *found);
+
+/* Sense data. */
+struct dixpi_sense {
+    uint64_t info;          /* INFORMATION: the LBA of the block that the sense speaks of */
+    uint8_t key, asc, ascq; /* sense key, below 16; additional sense code and its qualifier */
+    uint8_t has_info;       /* 0: none, and info isn't looked at */
+};
+/* Writes 18 bytes (fixed format), or 20 (descriptor format) where info needs 64 bits, and their number to *len. The
+   rest of out stays. DIXPI_BAD_FIELD: the key isn't below 16. */
+uint32_t dixpi_sense_encode(const struct dixpi_sense *sense, uint8_t out[20], uint32_t *len);
+/* The inverse: DIXPI_BAD_LENGTH where the response code asks for more bytes, DIXPI_BAD_FIELD for any other form. */
+uint32_t dixpi_sense_decode(const uint8_t *bytes, size_t len, struct dixpi_sense *sense);
+/* The check that failed, by additional sense code 10h, or 0. Else *by_target is 1 for ABORTED COMMAND, which the target
+   answers, and 0 for ILLEGAL REQUEST, which the adapter does. */
+uint32_t dixpi_sense_check(const struct dixpi_sense *sense, uint32_t *by_target);
 
 uint32_t dixpi_version(void); /* 0x000100 is 0.1.0 */
 

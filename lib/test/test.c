@@ -20,6 +20,9 @@ static_assert(sizeof(struct dixpi_run) == 8 && offsetof(struct dixpi_run, value)
 static_assert(offsetof(struct dixpi_run, odd) == 6, "run");
 static_assert(sizeof(struct dixpi_tuple) == 8 && offsetof(struct dixpi_tuple, app) == 2, "tuple");
 static_assert(offsetof(struct dixpi_tuple, ref) == 4, "tuple");
+static_assert(sizeof(struct dixpi_sense) == 16 && offsetof(struct dixpi_sense, key) == 8, "sense");
+static_assert(offsetof(struct dixpi_sense, asc) == 9 && offsetof(struct dixpi_sense, ascq) == 10, "sense");
+static_assert(offsetof(struct dixpi_sense, has_info) == 11, "sense");
 
 static unsigned passed, failed;
 
@@ -88,8 +91,14 @@ static void put32(uint8_t *p, uint32_t x) {
     put16(p + 2, x);
 }
 
+static void put64(uint8_t *p, uint64_t x) {
+    put32(p, (uint32_t)(x >> 32));
+    put32(p + 4, (uint32_t)x);
+}
+
 static uint32_t get16(const uint8_t *p) { return (uint32_t)p[0] << 8 | p[1]; }
 static uint32_t get32(const uint8_t *p) { return get16(p) << 16 | get16(p + 2); }
+static uint64_t get64(const uint8_t *p) { return (uint64_t)get32(p) << 32 | get32(p + 4); }
 
 /* The check of block i, whose bytes have this guard. */
 static uint32_t compare(const struct dixpi_layout *l, const struct dixpi_want *w, uint64_t i, uint16_t guard,
@@ -414,10 +423,82 @@ static void tuples(void) {
     }
 }
 
+/* Sense data in bytes, and how many; 0 where the key has more than four bits. */
+static size_t sense_by_hand(const struct dixpi_sense *s, uint8_t out[20]) {
+    memset(out, 0, 20);
+    if (s->key > 15)
+        return 0;
+    if (s->has_info && s->info >> 32) {
+        memcpy(out, (uint8_t[]){0x72, s->key, s->asc, s->ascq, 0, 0, 0, 0x0C, 0, 0x0A, 0x80, 0}, 12);
+        put64(out + 12, s->info);
+        return 20;
+    }
+    out[0] = s->has_info ? 0xF0 : 0x70;
+    out[2] = s->key;
+    put32(out + 3, s->has_info ? (uint32_t)s->info : 0);
+    out[7] = 0x0A;
+    out[12] = s->asc;
+    out[13] = s->ascq;
+    return 18;
+}
+
+/* The sense that is written as these bytes, found by writing what stands at the places of both formats. */
+static uint32_t sense_read_by_hand(const uint8_t *b, size_t len, struct dixpi_sense *s) {
+    uint8_t out[20];
+    if (!len || ((b[0] == 0x70 || b[0] == 0xF0) && len < 18) || (b[0] == 0x72 && len < 20))
+        return DIXPI_BAD_LENGTH;
+    if (b[0] == 0x72)
+        *s = (struct dixpi_sense){.info = get64(b + 12), .key = b[1], .asc = b[2], .ascq = b[3], .has_info = 1};
+    else if (b[0] == 0x70 || b[0] == 0xF0)
+        *s = (struct dixpi_sense){.info = b[0] == 0xF0 ? get32(b + 3) : 0, .key = b[2], .asc = b[12], .ascq = b[13],
+                                  .has_info = b[0] == 0xF0};
+    else
+        return DIXPI_BAD_FIELD;
+    size_t size = sense_by_hand(s, out);
+    return size == len && !memcmp(out, b, len) ? DIXPI_OK : DIXPI_BAD_FIELD;
+}
+
+static void senses(void) {
+    for (int k = 0; k < 4000; k++) {
+        uint64_t wide = (uint64_t)drawn() << 32 | drawn();
+        struct dixpi_sense s = {.info = wide >> drawn() % 64, .key = (uint8_t)(drawn() % 18),
+                                .asc = (uint8_t)(drawn() % 2 ? 0x10 : drawn()), .ascq = (uint8_t)(drawn() % 5),
+                                .has_info = (uint8_t)(drawn() % 3)};
+        struct dixpi_sense back, by_hand;
+        uint8_t out[20], wanted[20];
+        uint8_t *bytes = fenced(24);
+        uint32_t len = 77, by_target = 77;
+        memset(out, 0xEE, 20);
+        size_t size = sense_by_hand(&s, wanted);
+        IS(dixpi_sense_encode(&s, out, &len) == (size ? DIXPI_OK : DIXPI_BAD_FIELD));
+        IS(len == (size ? size : 77) && !memcmp(out, wanted, size));
+        for (size_t i = size; i < 20; i++)
+            IS(out[i] == 0xEE);
+        uint32_t check = s.asc == 0x10 && s.ascq >= 1 && s.ascq <= 3 && (s.key == 5 || s.key == 0xB) ? s.ascq : 0;
+        IS(dixpi_sense_check(&s, &by_target) == check);
+        if (check)
+            IS(by_target == (s.key == 0xB));
+        if (!size)
+            continue;
+        memcpy(bytes + 24 - size, out, size);
+        if (drawn() % 2)
+            bytes[24 - size + drawn() % size] ^= (uint8_t)(1 << drawn() % 8);
+        size_t cut = drawn() % 4 ? size : drawn() % (size + 1);
+        memmove(bytes + 24 - cut, bytes + 24 - size, cut);
+        uint32_t status = sense_read_by_hand(bytes + 24 - cut, cut, &by_hand);
+        memset(&back, 0x5A, sizeof back);
+        IS(dixpi_sense_decode(bytes + 24 - cut, cut, &back) == status);
+        if (status == DIXPI_OK)
+            IS(back.info == by_hand.info && back.key == by_hand.key && back.asc == by_hand.asc &&
+               back.ascq == by_hand.ascq && back.has_info == by_hand.has_info);
+    }
+}
+
 int main(void) {
     IS(dixpi_version() == 0x000100);
     guards();
     tuples();
+    senses();
     for (size_t i = 0; i < sizeof LAYOUTS / sizeof *LAYOUTS; i++)
         for (uint32_t type = 1; type <= 3; type++)
             for (uint32_t guard = DIXPI_CRC; guard <= DIXPI_IP; guard++) {

@@ -1,7 +1,7 @@
 """Calls each export of libdixpi by ctypes: test.py LIBRARY. Expected values are of a loop here or worked by hand."""
 import ctypes
 import sys
-from ctypes import POINTER, c_size_t, c_uint16, c_uint32, c_uint64, c_void_p
+from ctypes import POINTER, c_size_t, c_uint8, c_uint16, c_uint32, c_uint64, c_void_p
 
 passed = failed = 0
 
@@ -35,13 +35,17 @@ class Run(ctypes.Structure):
     _fields_ = [("guard", c_uint32), ("value", c_uint16), ("odd", c_uint16)]
 
 
+class Sense(ctypes.Structure):
+    _fields_ = [("info", c_uint64)] + [(name, c_uint8) for name in ("key", "asc", "ascq", "has_info")]
+
+
 class Part(ctypes.Structure):
     _fields_ = [("base", c_void_p), ("len", c_size_t)]
 
 
 dixpi = ctypes.CDLL(sys.argv[1])
 layout_at, want_at, found_at, parts_at = POINTER(Layout), POINTER(Want), POINTER(Found), POINTER(Part)
-tuple_at, run_at = POINTER(Tuple), POINTER(Run)
+tuple_at, run_at, sense_at, number_at = POINTER(Tuple), POINTER(Run), POINTER(Sense), POINTER(c_uint32)
 TYPES = {
     "crc16": (c_uint16, c_void_p, c_size_t),
     "crc16_after": (c_uint16, c_uint16, c_void_p, c_size_t),
@@ -59,6 +63,9 @@ TYPES = {
     "remap": (c_uint32, c_void_p, c_size_t, layout_at, c_uint32, c_uint32),
     "dix_generate": (c_uint32, parts_at, c_size_t, c_void_p, c_size_t, layout_at, c_uint16, c_uint32),
     "dix_verify": (c_uint32, parts_at, c_size_t, c_void_p, c_size_t, layout_at, want_at, found_at),
+    "sense_encode": (c_uint32, sense_at, c_void_p, number_at),
+    "sense_decode": (c_uint32, c_void_p, c_size_t, sense_at),
+    "sense_check": (c_uint32, sense_at, number_at),
     "version": (c_uint32,),
 }
 for name, (result, *arguments) in TYPES.items():
@@ -146,6 +153,21 @@ meta[4 * 8 + 7] ^= 1
 holds("dix_verify, a block differs", dixpi.dixpi_dix_verify(pieces, 4, meta, 48, layout, want, found) == 1)
 holds("found apart", tell(found) == (4, 3, 2, 3))
 holds("dix_verify, other counts", dixpi.dixpi_dix_verify(pieces, 3, meta, 48, layout, want, found) == 3)
+
+sense, length, by_target = Sense(0x1234, 0xB, 0x10, 3, 1), c_uint32(), c_uint32()
+out = memory(bytes(20))
+holds("sense_encode", dixpi.dixpi_sense_encode(sense, out, length) == 0 and length.value == 18)
+holds("the sense", bytes(out) == bytes.fromhex("f0000b000012340a000000001003000000000000"))
+holds("sense_check", dixpi.dixpi_sense_check(sense, by_target) == 3 and by_target.value == 1)
+back = Sense()
+holds("sense_decode", dixpi.dixpi_sense_decode(out, 18, back) == 0 and bytes(back)[:12] == bytes(sense)[:12])
+holds("sense_decode, a length", dixpi.dixpi_sense_decode(out, 17, back) == 3)
+sense.info = 1 << 32
+wide = bytes.fromhex("720b10030000000c000a80000000000100000000")
+holds("sense_encode, 64 bits", dixpi.dixpi_sense_encode(sense, out, length) == 0 and length.value == 20)
+holds("the wide sense", bytes(out) == wide)
+sense.key = 16
+holds("sense_encode, a key", dixpi.dixpi_sense_encode(sense, out, length) == 5)
 
 print(f"test.py: {passed} passed, {failed} failed")
 sys.exit(failed != 0)
