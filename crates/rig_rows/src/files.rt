@@ -67,9 +67,7 @@ fn change(rig: &mut ImageRig<FileStore>, dev: u32, lba: u64, change: &Change) ->
 /// Makes the file that of these units, and opens it.
 fn format<R: Rig>(alloc: Global, rig: &mut R, path: &str, words: &str) -> bool {
     let units = units_of(words);
-    is_layout(&units)
-        && rig.format(alloc, path, &units).is_ok()
-        && rig.open(alloc, path).is_ok()
+    is_layout(&units) && rig.format(alloc, path, &units).is_ok() && rig.open(alloc, path).is_ok()
 }
 
 /// The last byte of each of six blocks of 520 bytes.
