@@ -1,4 +1,4 @@
-use Rattle.std.specs.Prelude.{ℕ, ◌≡◌, ◌+◌, ◌<◌, ◌⊎◌, Bool, List, [], ◌∷◌, ◌++◌, length, is_some, Option, Some, None, Ok}
+use Rattle.std.specs.Prelude.{ℕ, ◌≡◌, ◌+◌, ◌*◌, ◌<◌, ◌⊎◌, replicate, Bool, List, [], ◌∷◌, ◌++◌, length, is_some, Option, Some, None, Ok}
 use Rattle.dix_base.specs.Told.{Calm}
 use Rattle.fault_schedule.specs.declared.fault.FaultLine.{FaultLine}
 use Rattle.page_pool.specs.Cells.{flat, gather}
@@ -25,7 +25,7 @@ use Rattle.script_verdict.specs.declared.refusal.Refusal.{Refusal}
 use Rattle.script_verdict.specs.declared.refusal.Refusal.TheVariants as refusal
 use Rattle.mirror_script.specs.MirrorFaults.{mirror_fault}
 use Rattle.mirror_walk.specs.OneGood.{HoldsProper, ReadsLast, last_of, on_leg}
-use Rattle.mirror_walk.specs.Mirror.{count_of}
+use Rattle.mirror_walk.specs.Mirror.{count_of, fresh}
 use Rattle.mirror_volume.specs.Plans.{IsMirror}
 use Rattle.leg_runs.specs.Standing.{IsBoundMirror, half_of, mirror_setting}
 use Rattle.mirror_volume.specs.declared.mirror.Mirror.{Mirror}
@@ -37,13 +37,15 @@ use Rattle.mirror_verdict.specs.declared.mirrored.Mirrored.{Mirrored}
 abbrev pub outside : View → List FaultLine → Outside
 outside v armed = record { units = v.seen.units; armed = armed; standing = v.standing; log = v.seen.log; faults = v.seen.faults }
 
--- The mirror of a script over these devices, none of whose ops is done: all blocks are fresh on both legs, and no entry of the schedule is used.
+-- The mirror of a script over these devices, none of whose ops is done: all blocks are fresh on both legs, its pages are zeros, and no entry of the schedule is used.
 pub record IsBegun (s : Script) (devices : List DeviceInfo) (begun : Mirror) : Type 0 where
   pub mirror : IsMirror begun
   pub script_is : begun.plan.script ≡ s
   pub devices_are : begun.plan.devices.items ≡ devices
   pub none : begun.replies.items ≡ []
   pub unused : begun.state.used ≡ 0
+  pub marks : begun.state.marks.items ≡ replicate (half_of s devices) fresh
+  pub pages : flat begun.state.pool ≡ replicate (4096 * s.pages) 0
 
 -- ---- one good leg is enough
 

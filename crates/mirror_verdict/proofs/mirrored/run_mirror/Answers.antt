@@ -1,4 +1,4 @@
-use Rattle.std.proofs.Common.{◌≡◌, inr}
+use Rattle.std.proofs.Common.{◌≡◌, [], inr}
 use Rattle.image_commands.specs.Views.{seen, view}
 use Rattle.mirror_verdict.proofs.Mirroring.{IsUp, has-devices, midway, mirrored}
 use Rattle.mirror_verdict.proofs.Refusing.{bound_mirror}
@@ -24,7 +24,7 @@ returns-in-Ok-serve g c =
     let up : IsUp c.args.script c.args.image.now devices old told begun = record {
       asked = asked;
       bound = bound_mirror c.args.script devices c.requires asked.told.devices_are.few c.in-Ok.ensures.free;
-      starts = record { mirror = c.in-Ok-new.ensures.mirror; script_is = c.in-Ok-new.ensures.script; devices_are = c.in-Ok-new.ensures.devices; none = c.in-Ok-new.ensures.none; unused = c.in-Ok-new.ensures.unused };
+      starts = record { mirror = c.in-Ok-new.ensures.mirror; script_is = c.in-Ok-new.ensures.script; devices_are = c.in-Ok-new.ensures.devices; none = c.in-Ok-new.ensures.none; unused = c.in-Ok-new.ensures.unused; marks = (c.in-Ok-new.ensures.told []).marks; pages = (c.in-Ok-new.ensures.told []).pages };
       laid = g.met.R.Rig.laid c.bind.new.rig;
       ready = g.met.R.Rig.ready c.bind.new.rig;
     } in
@@ -42,7 +42,7 @@ returns-in-Err-serve g c =
     let up : IsUp c.args.script c.args.image.now devices old told begun = record {
       asked = asked;
       bound = bound_mirror c.args.script devices c.requires asked.told.devices_are.few c.in-Ok.ensures.free;
-      starts = record { mirror = c.in-Ok-new.ensures.mirror; script_is = c.in-Ok-new.ensures.script; devices_are = c.in-Ok-new.ensures.devices; none = c.in-Ok-new.ensures.none; unused = c.in-Ok-new.ensures.unused };
+      starts = record { mirror = c.in-Ok-new.ensures.mirror; script_is = c.in-Ok-new.ensures.script; devices_are = c.in-Ok-new.ensures.devices; none = c.in-Ok-new.ensures.none; unused = c.in-Ok-new.ensures.unused; marks = (c.in-Ok-new.ensures.told []).marks; pages = (c.in-Ok-new.ensures.told []).pages };
       laid = g.met.R.Rig.laid c.bind.new.rig;
       ready = g.met.R.Rig.ready c.bind.new.rig;
     } in
