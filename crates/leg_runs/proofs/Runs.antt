@@ -1,14 +1,15 @@
 -- Runs on the legs: none, one, and some after others.
-use Rattle.std.proofs.Common.{ℕ, ◌≡◌, ◌+◌, ◌≤◌, List, [], ◌∷◌, ◌++◌, length, min, refl, sym, ap, subst, ◌∙◌, append_assoc, append-nil, arith}
+use Rattle.std.proofs.Common.{ℕ, ◌≡◌, ◌+◌, ◌≤◌, List, [], ◌∷◌, ◌++◌, length, min, inl, refl, sym, ap, subst, ◌∙◌, append_assoc, append-nil, arith}
 use Rattle.dix_base.specs.Told.{Calm}
 use Rattle.target_answer.specs.Target.{Stored}
 use Rattle.script_text.specs.declared.script.Script.{Script}
 use Rattle.script_stack.specs.Followed.{Ran}
 use Rattle.script_stack.specs.Going.{Outside}
+use Rattle.stack_core.specs.Mediums.{RoseBy, medium_lines}
 use Rattle.stack_core.specs.declared.stack.Stack.{Stack}
 use Rattle.volume_table.specs.declared.device.DeviceInfo.{DeviceInfo}
 use Rattle.volume_table.specs.Tables.{Table}
-use Rattle.leg_runs.specs.LegRuns.{AllBacked, AllOwn, AllWalked, GoOn, LegRun, RanLegs, all_records}
+use Rattle.leg_runs.specs.LegRuns.{AllBacked, AllOwn, AllWalked, GoOn, LegRun, RanLegs, all_mediums, all_records}
 
 pub all_records-append : (xs ys : List LegRun) → all_records (xs ++ ys) ≡ all_records xs ++ all_records ys
 all_records-append [] ys = refl
@@ -40,12 +41,23 @@ calm-first b m a l k h = (omega (arith, k, h.0), omega (arith, l, h.1))
 pub calm-last : (b m a : ℕ) → b ≤ m → m ≤ a → Calm b a → Calm m a
 calm-last b m a l k h = (omega (arith, l, h.0), omega (arith, k, h.0, h.1))
 
+pub all_mediums-append : (xs ys : List LegRun) → all_mediums (xs ++ ys) ≡ all_mediums xs + all_mediums ys
+all_mediums-append [] ys = omega arith
+all_mediums-append (x ∷ xs) ys = let e = all_mediums-append xs ys in omega (arith, e)
+
+pub rose-add : (a b o m n : ℕ) → o ≤ m → m ≤ n → RoseBy a o m → RoseBy b m n → RoseBy (a + b) o n
+rose-add a b o m n p q x y = grind arith
+
+rose-one : (a o n : ℕ) → RoseBy a o n → RoseBy (a + 0) o n
+rose-one a o n x = grind arith
+
 pub ran-append : (t : Table) (devices : List DeviceInfo) (xs ys : List LegRun) (before between after : Outside) → RanLegs t devices xs before between → RanLegs t devices ys between after → RanLegs t devices (xs ++ ys) before after
 ran-append t devices xs ys before between after h k = record {
   standing = k.standing ∙ h.standing;
   faults = (let a = h.faults in let b = k.faults in omega (arith, a, b));
   records = k.records ∙ ap (λ es. es ++ all_records ys) h.records ∙ append_assoc before.log (all_records xs) (all_records ys) ∙ ap (λ es. before.log ++ es) (sym (all_records-append xs ys));
   backed = all_backed-append t devices xs ys h.backed k.backed;
+  medium = subst (λ n. RoseBy n before.faults after.faults) (sym (all_mediums-append xs ys)) (rose-add (all_mediums xs) (all_mediums ys) before.faults between.faults after.faults h.faults k.faults h.medium k.medium);
   told = λ us e calm.
       (let x = h.told us e (calm-first before.faults between.faults after.faults h.faults k.faults calm) in
       let y = k.told x.0 x.1.0 (calm-last before.faults between.faults after.faults h.faults k.faults calm) in
@@ -65,6 +77,7 @@ ran-none t devices before after h = record {
   faults = (let e = h.faults in omega (arith, e));
   records = h.log ∙ sym (append-nil before.log);
   backed = tt;
+  medium = (let e = h.faults in inl (omega (arith, e)));
   told = λ us e calm. (us, (h.units ∙ e, refl));
 }
 
@@ -75,6 +88,7 @@ ran-one s t devices words before after r h = record {
   faults = h.faults;
   records = h.records ∙ ap (λ es. before.log ++ es) (sym (append-nil h.more));
   backed = (h.backed, (h.sends, tt));
+  medium = rose-one (medium_lines r.replies.items) before.faults after.faults h.medium;
   told = λ us e calm. (let x = h.told us e calm in (x.0, (x.1.0, (x.0, (x.1.1, refl)))));
 }
 

@@ -12,6 +12,7 @@ use Rattle.script_text.specs.declared.script.Script.{Script}
 use Rattle.script_stack.specs.Followed.{HasWalked, IsBackedBy}
 use Rattle.script_stack.specs.Going.{Outside}
 use Rattle.script_stack.specs.Sends.{SendsFor, by_words}
+use Rattle.stack_core.specs.Mediums.{RoseBy, medium_lines}
 use Rattle.stack_core.specs.declared.stack.Stack.{Stack}
 
 -- Requests on the legs of a mirror, each as a stack of its own.
@@ -39,6 +40,11 @@ abbrev pub all_records : List LegRun → List Entry
 all_records [] = []
 all_records (r ∷ runs) = r.records ++ all_records runs
 
+-- how many lines of their replies name the medium
+abbrev pub all_mediums : List LegRun → ℕ
+all_mediums [] = 0
+all_mediums (r ∷ runs) = medium_lines (replies_of r) + all_mediums runs
+
 -- The records of each back its replies, and are those that its steps send by its words.
 abbrev pub AllBacked : Table → List DeviceInfo → List LegRun → Type 0
 AllBacked t devices [] = Unit {0}
@@ -54,12 +60,13 @@ abbrev pub AllWalked : Table → (us : List Stored) → List LegRun → (left : 
 AllWalked t us [] left = left ≡ us
 AllWalked t us (r ∷ runs) left = (next : List Stored) × (HasWalked r.own t us next (pool_of r) r.records (replies_of r) × AllWalked t next runs left)
 
--- These were run over a rig, one after another: their records stand there in order, and back their replies. Where the rig tells its blocks, and its count of faults didn't rise, each was done at the target.
+-- These were run over a rig, one after another: their records stand there in order, and back their replies, whose lines that name the medium are at most as many as the count of faults rose. Where the rig tells its blocks, and its count of faults didn't rise, each was done at the target.
 pub record RanLegs (t : Table) (devices : List DeviceInfo) (runs : List LegRun) (before after : Outside) : Type 0 where
   pub standing : after.standing ≡ before.standing
   pub faults : before.faults ≤ after.faults
   pub records : after.log ≡ before.log ++ all_records runs
   pub backed : AllBacked t devices runs
+  pub medium : RoseBy (all_mediums runs) before.faults after.faults
   pub told : (us : List Stored) → before.units ≡ Some us → Calm before.faults after.faults → (left : List Stored) × ((after.units ≡ Some left) × AllWalked t us runs left)
 
 -- ---- what was found of each block
