@@ -173,6 +173,19 @@ modes_verdict f ty (Commanded bad text) e c = let k = other f.words (Modes ty) N
 modes_verdict f ty (Mapped t) e c = inl refl
 modes_verdict f ty (Generated n seed b) e c = let k = other f.words (Modes ty) (Big n seed) e c.named in absurd (cc)
 
+-- no block fails
+big_verdict : (f : Facts) (count seed : ℕ) (v : Verdict) → command_in f.words ≡ Some (Big count seed) → Cause v f → (verdict_status v ≡ status.Whole) ⊎ (verdict_status v ≡ status.Memory)
+big_verdict f count seed (Refused r) e c = let k = cause_at f (Big count seed) r e c in inr (ap status_of k.0)
+big_verdict f count seed (Reported replies) e c = let k = other f.words (Big count seed) Run e c.named in absurd (cc)
+big_verdict f count seed (Traced replies log) e c = let k = other f.words (Big count seed) Trace e c.named in absurd (cc)
+big_verdict f count seed (Formatted n) e c = inl refl
+big_verdict f count seed (Migrated n) e c = inl refl
+big_verdict f count seed (Served replies repaired lost) e c = let k = other f.words (Big count seed) Mirror e c.named in absurd (cc)
+big_verdict f count seed (Scrubbed ds found) e c = let k = other f.words (Big count seed) Scrub e c.named in absurd (cc)
+big_verdict f count seed (Commanded bad text) e c = let k = other f.words (Big count seed) Nvme e c.named in absurd (cc)
+big_verdict f count seed (Mapped ty) e c = inl refl
+big_verdict f count seed (Generated n i b) e c = inl (ap done_status c.ran.not_bad)
+
 format_completes : (f : Facts) (taken taken' : Option (List ℕ)) (o n : ℕ) (result : Status) → Ended f taken taken' o n result → FormatIsComplete f o n result
 format_completes f taken taken' o n result ended = λ us e calm co.
     rw (as_written ended.verdict taken taken' o n result co ended.written) (format_verdict f us ended.verdict e calm ended.cause)
@@ -199,8 +212,7 @@ modes_completes f taken taken' o n result ended = λ ty e co.
 
 big_completes : (f : Facts) (taken taken' : Option (List ℕ)) (o n : ℕ) (result : Status) → Ended f taken taken' o n result → BigIsComplete f o n result
 big_completes f taken taken' o n result ended = λ count seed e co.
-    rw (as_written ended.verdict taken taken' o n result co ended.written)
-    (by_verdict f ended.verdict (λ x. IsRun x ⊎ (x ≡ status.Memory)) (λ r cause. let k = cause_at f (Big count seed) r e cause in inr (ap status_of k.0)) (λ x run. inl run) ended.cause)
+    rw (as_written ended.verdict taken taken' o n result co ended.written) (big_verdict f count seed ended.verdict e ended.cause)
 
 pub carried : (f : Facts) (taken taken' : Option (List ℕ)) (o n : ℕ) (result : Status) → Ended f taken taken' o n result → Carries f taken taken' o n result
 carried f taken taken' o n result ended = record {

@@ -69,9 +69,9 @@ NvmeIsComplete f o n result =
 abbrev pub ModesIsComplete : Facts → ℕ → ℕ → Status → Type 0
 ModesIsComplete f o n result = (ty : PiType) → command_in f.words ≡ Some (Command.Modes ty) → Calm o n → (result ≡ Whole) ⊎ (result ≡ Memory)
 
--- Words of `big` and no fault of the sink give status 0 or 1, or want of memory.
+-- Words of `big` and no fault of the sink give status 0, or want of memory.
 abbrev pub BigIsComplete : Facts → ℕ → ℕ → Status → Type 0
-BigIsComplete f o n result = (count seed : ℕ) → command_in f.words ≡ Some (Command.Big count seed) → Calm o n → IsRun result ⊎ (result ≡ Memory)
+BigIsComplete f o n result = (count seed : ℕ) → command_in f.words ≡ Some (Command.Big count seed) → Calm o n → (result ≡ Whole) ⊎ (result ≡ Memory)
 
 -- The rig was opened at most once more, by the name in the words.
 abbrev pub OpensOnce : Facts → Type 0
