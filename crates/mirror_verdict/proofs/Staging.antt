@@ -14,6 +14,7 @@ use Rattle.stack_ops.specs.declared.reply.Reply.{Reply}
 use Rattle.volume_table.specs.declared.device.DeviceInfo.{DeviceInfo}
 use Rattle.volume_table.specs.Tables.{Table}
 use Rattle.whole_run.specs.Past.{steps_from}
+use Rattle.stack_core.specs.Mediums.{RoseBy}
 use Rattle.script_text.specs.declared.script.Script.{Script}
 use Rattle.script_stack.specs.Causes.{table_of}
 use Rattle.script_stack.specs.Going.{Outside}
@@ -23,12 +24,12 @@ use Rattle.mirror_walk.specs.declared.marks.Marks.{Marks}
 use Rattle.mirror_volume.specs.declared.mirror.Mirror.{Mirror}
 use Rattle.std.specs.declared.alloc.AllocError.{AllocError}
 use Rattle.mirror_volume.specs.declared.repair.Repair.{Repair as Done}
-use Rattle.leg_runs.specs.LegRuns.{AllBacked, AllOwn, GoOn, LegRun, RanLegs, all_records}
+use Rattle.leg_runs.specs.LegRuns.{AllBacked, AllOwn, GoOn, LegRun, RanLegs, all_mediums, all_records}
 use Rattle.leg_runs.specs.Mending.{IsRepairOf, RepairBy, stretches_in}
 use Rattle.leg_runs.specs.OnOps.{Altered, OpAsks, OpBy, OpRan, OpTells, Sides}
 use Rattle.mirror_volume.specs.Plans.{sides_of}
 use Rattle.leg_runs.specs.Standing.{IsRepairedAs, StandsAt, half_of, mirror_setting, op_at, walked}
-use Rattle.leg_runs.proofs.Runs.{all_backed-append, all_records-append, calm-first, calm-last, go_on-append}
+use Rattle.leg_runs.proofs.Runs.{all_backed-append, all_mediums-append, all_records-append, calm-first, calm-last, go_on-append, rose-add}
 use Rattle.mirror_verdict.specs.Stages.{Broke, Finished, HasServed, InStretches, OneMore, Served, Stage, opening_over, repair_over, stage_of, walk_over}
 
 -- an error of which this holds
@@ -44,13 +45,14 @@ pub record Fell (t : Table) (devices : List DeviceInfo) (runs : List LegRun) (be
   pub faults : before.faults ≤ after.faults
   pub records : after.log ≡ before.log ++ all_records runs
   pub backed : AllBacked t devices runs
+  pub medium : RoseBy (all_mediums runs) before.faults after.faults
 
 ran-fell : (t : Table) (devices : List DeviceInfo) (runs : List LegRun) (before after : Outside) → RanLegs t devices runs before after → Fell t devices runs before after
-ran-fell t devices runs before after h = record { standing = h.standing; faults = h.faults; records = h.records; backed = h.backed }
+ran-fell t devices runs before after h = record { standing = h.standing; faults = h.faults; records = h.records; backed = h.backed; medium = h.medium }
 
 altered-fell : (t : Table) (devices : List DeviceInfo) (runs : List LegRun) (before after : Outside) → runs ≡ [] → after.standing ≡ before.standing → before.faults ≤ after.faults → after.log ≡ before.log → Fell t devices runs before after
 altered-fell t devices runs before after none standing faults log = subst (λ (rs : List LegRun). Fell t devices rs before after) (sym none)
-    (record { standing = standing; faults = faults; records = log ∙ sym (append-nil before.log); backed = tt })
+    (record { standing = standing; faults = faults; records = log ∙ sym (append-nil before.log); backed = tt; medium = inl (omega (arith, faults)) })
 
 op-fell : (op : Op) (t : Table) (devices : List DeviceInfo) (runs : List LegRun) (before after : Outside) → OpRan op t devices runs before after → Fell t devices runs before after
 op-fell (Fill seg byte) t devices runs before after h = ran-fell t devices runs before after h
@@ -71,6 +73,7 @@ stretches-more s devices runs more used used' before between after h k g = recor
   faults = (let a = h.faults in let b = k.faults in omega (arith, a, b));
   records = k.records ∙ ap (λ es. es ++ all_records more) h.records ∙ append_assoc before.log (all_records runs) (all_records more) ∙ ap (λ es. before.log ++ es) (sym (all_records-append runs more));
   backed = all_backed-append (table_of s devices) devices runs more h.backed k.backed;
+  medium = subst (λ n. RoseBy n before.faults after.faults) (sym (all_mediums-append runs more)) (rose-add (all_mediums runs) (all_mediums more) before.faults between.faults after.faults h.faults k.faults h.medium k.medium);
   goes = go_on-append s.schedule 0 used used' runs more h.goes g;
 }
 
@@ -94,6 +97,7 @@ module _ (s : Script) (devices : List DeviceInfo) (begun : Stage) where
       faults = omega arith;
       records = sym (append-nil begun.outside.log) ∙ ap (λ (rs : List LegRun). begun.outside.log ++ all_records rs) (sym runs);
       backed = subst (λ (rs : List LegRun). AllBacked t devices rs) (sym runs) tt;
+      medium = subst (λ (rs : List LegRun). RoseBy (all_mediums rs) begun.outside.faults begun.outside.faults) (sym runs) (inl (omega arith));
       goes = subst (λ (rs : List LegRun). GoOn s.schedule 0 rs begun.used) (sym runs) used;
     };
     told = λ us e calm. (us, (e, subst (λ (rs : List Reply). StandsAt s devices us begun.sides rs us) (sym replies) (stands us)));

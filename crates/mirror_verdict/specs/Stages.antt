@@ -7,6 +7,7 @@ use Rattle.volume_table.specs.declared.device.DeviceInfo.{DeviceInfo}
 use Rattle.dix_adapter.specs.Ways.{blocks_told, shapes_of}
 use Rattle.block_path.specs.Acts.{State}
 use Rattle.stack_ops.specs.declared.reply.Reply.{Reply}
+use Rattle.stack_core.specs.Mediums.{RoseBy}
 use Rattle.script_text.specs.declared.script.Script.{Script}
 use Rattle.script_stack.specs.Causes.{table_of}
 use Rattle.script_stack.specs.Followed.{opening_of}
@@ -15,7 +16,7 @@ use Rattle.mirror_walk.specs.declared.marks.Marks.{Marks}
 use Rattle.mirror_walk.specs.Mirror.{Mirror as Walk, mirror_replies, mirror_walk}
 use Rattle.mirror_walk.specs.Repair.{Repair, mirror_repair}
 use Rattle.mirror_volume.specs.declared.mirror.Mirror.{Mirror}
-use Rattle.leg_runs.specs.LegRuns.{AllBacked, AllOwn, GoOn, LegRun, RanLegs, all_records}
+use Rattle.leg_runs.specs.LegRuns.{AllBacked, AllOwn, GoOn, LegRun, RanLegs, all_mediums, all_records}
 use Rattle.leg_runs.specs.Mending.{IsRepairOf, RepairBy, stretches_in}
 use Rattle.leg_runs.specs.OnOps.{OpAsks, OpBy, OpRan, OpTells, Sides}
 use Rattle.mirror_volume.specs.Plans.{sides_of}
@@ -48,12 +49,13 @@ abbrev pub Stood : Script → List DeviceInfo → (begun : Stage) → ℕ → (n
 Stood s devices begun zero now = now ≡ begun
 Stood s devices begun (suc k) now = (old : Stage) × (Stood s devices begun k old × OneMore s devices k old now)
 
--- The records between these moments are those of the runs, a stretch for each and in their order, and each stretch backs its run's replies. The runs go on in the schedule, one where the one before it ended.
+-- The records between these moments are those of the runs, a stretch for each and in their order, and each stretch backs its run's replies, whose lines that name the medium are at most as many as the count of faults rose. The runs go on in the schedule, one where the one before it ended.
 pub record InStretches (s : Script) (devices : List DeviceInfo) (runs : List LegRun) (used : ℕ) (before after : Outside) : Type 0 where
   pub standing : after.standing ≡ before.standing
   pub faults : before.faults ≤ after.faults
   pub records : after.log ≡ before.log ++ all_records runs
   pub backed : AllBacked (table_of s devices) devices runs
+  pub medium : RoseBy (all_mediums runs) before.faults after.faults
   pub goes : GoOn s.schedule 0 runs used
 
 -- After k ops, over any rig; and over one that tells its blocks, and whose count of faults didn't rise, pages, marks, stored blocks and replies are those of the mirror's walk.
