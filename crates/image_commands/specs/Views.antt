@@ -14,7 +14,7 @@ pub record Seen : Type 0 where
 abbrev pub seen : Option (List Stored) → List Entry → ℕ → Seen
 seen units log faults = record { units = units; log = log; faults = faults }
 
--- all that a rig means at a moment, but for its spare room
+-- all that a rig means at a moment, but for its armed faults and its spare room
 pub record View : Type 0 where
   pub image : Option (List ℕ)
   pub standing : Standing
