@@ -3,6 +3,7 @@
 #![tactic(auto)]
 
 mod apart;
+mod commands;
 mod guards;
 mod in_line;
 mod senses;
@@ -51,6 +52,8 @@ impl Judge for Rows {
             }
             "check" => single::checked(alloc, &mut words),
             "tuple" => single::read(alloc, words.rest()),
+            "cdb_encode" => commands::encoded(alloc, &mut words),
+            "cdb_decode" => commands::decoded(alloc, words.rest()),
             "sense_encode" => senses::encoded(alloc, &mut words),
             "sense_decode" => senses::decoded(alloc, words.rest()),
             "sense_check" => senses::told(alloc, &mut words),

@@ -1,6 +1,7 @@
 pub mod Aparts
 pub mod Checks
 pub mod Feeds
+pub mod Forms
 pub mod MadeLaws
 pub mod Makes
 pub mod MapLaws

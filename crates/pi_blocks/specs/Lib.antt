@@ -1,9 +1,11 @@
 pub mod Apart
 pub mod Blocks
+pub mod Commands
 pub mod Laws
 pub mod Layouts
 pub mod Made
 pub mod Mapped
+pub mod Marks
 pub mod Parts
 pub mod Puts
 pub mod Runs

@@ -1,7 +1,10 @@
 //! Laws of what the calls answer and write. Nothing runs here.
 
 ghost use Rattle.std.specs.Prelude.{◌≡◌, ◌<◌, ◌^◌, ℕ, List, length, true};
+ghost use Rattle.cdb_codec.specs.Forms.{Fits, form};
+ghost use Rattle.cdb_codec.specs.declared.command.Cdb.{Cdb as AnyCdb};
 ghost use Rattle.pi_blocks.specs.Blocks.{Block};
+ghost use Rattle.pi_blocks.specs.Commands.{Says, cdb_fields};
 ghost use Rattle.pi_blocks.specs.Laws.{AreBytes, AreFineWhenMade, AreFineWhenMadeApart, AreFree, HasOneAnswer};
 ghost use Rattle.pi_blocks.specs.Laws.{IsUndone, MakesTuplesAlone, MakesTuplesApart, MapsTagsAlone, StayFine};
 ghost use Rattle.pi_blocks.specs.Layouts.{AreBlocks, is_good};
@@ -47,4 +50,10 @@ pub fn made_blocks_are_fine()
         → is_good l ≡ true → w.app < 2 ^ 16 → AreFineWhenMade l w bytes }
     ensures apart { (l : AnyLayout) (w : AnyWant) (body meta : List ℕ)
         → is_good l ≡ true → w.app < 2 ^ 16 → AreFineWhenMadeApart l w body meta }
+{}
+
+/// The codec's bytes of a command are those of its numbers with flags, group and control 0: with these, encoder and
+/// decoder are the codec's.
+pub fn plain_commands_are_the_codecs()
+    ensures { (c : AnyCdb) → Fits c → Says (cdb_fields c 0 0 0) c (form c) }
 {}

@@ -8,10 +8,12 @@
 mod apart;
 mod block;
 mod checking;
+mod commands;
 mod laws;
 mod layout;
 mod making;
 mod mapping;
+mod marks;
 mod parts;
 mod run;
 mod sensing;
@@ -20,9 +22,11 @@ mod single;
 pub use apart::{dix_generate, dix_verify};
 pub use block::{Found, Want};
 pub use checking::verify;
+pub use commands::CdbFields;
 pub use laws::{
     a_check_has_one_answer, made_blocks_are_fine, making_writes_tuples_alone,
     mapped_blocks_stay_fine, mapping_back_undoes_mapping, mapping_changes_tags_alone,
+    plain_commands_are_the_codecs,
 };
 pub use layout::{Layout, Refusal};
 pub use making::generate;
