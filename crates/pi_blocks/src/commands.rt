@@ -1,6 +1,6 @@
 //! Command descriptor blocks as plain numbers.
 
-ghost use Rattle.std.specs.Prelude.{◌≡◌, drop, take, IfErr, IfOk, Ok, Err, true};
+ghost use Rattle.std.specs.Prelude.{◌≡◌, ◌≤◌, drop, take, IfErr, IfOk, Ok, Err, true};
 ghost use Rattle.cdb_codec.specs.Decoded.{decoded};
 ghost use Rattle.cdb_codec.specs.Forms.{Fits, is_protect};
 ghost use Rattle.pi_blocks.specs.Commands.{Reads, cdb_fields, cleared, command_of, encoded, fits_capacity, fits_sixteen};
@@ -153,6 +153,7 @@ impl CdbFields {
     /// With flags, group and control 0 the bytes are those that `Cdb::encode` gives.
     pub fn encode(self, out: &mut [u8; 32]) -> Result<usize, CdbFault>
         ensures written { IfOk result (λ n. (encoded self ≡ Ok (take n out.new)) × (drop n out.new ≡ drop n out.old)) }
+        ensures len { IfOk result (λ n. n ≤ 32) }
         ensures says { IfOk result (λ n. Reads self (take n out.new)) }
         ensures refused { IfErr result (λ e. (encoded self ≡ Err e) × (out.new ≡ out.old)) }
     {

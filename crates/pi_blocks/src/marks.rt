@@ -1,7 +1,8 @@
 //! Where a command descriptor block has DPO and FUA, its group number and its control byte.
 
 ghost use Rattle.std.specs.Prelude.{◌≡◌, ◌<◌, ◌≤◌, length, true};
-ghost use Rattle.pi_blocks.specs.Marks.{AreBehind, AreInside, marked, marks_fit, part, part_at, places_for, put, put_part, without_marks};
+ghost use Rattle.pi_blocks.specs.Marks.{AreBehind, AreInside, marked, marks_fit, places_for, without_marks};
+ghost use Rattle.pi_blocks.specs.Marks.{part, part_at, put, put_part};
 
 /// The bits of a byte that carry one field.
 #[derive(Clone, Copy, Debug)]
