@@ -18,6 +18,7 @@ enum dixpi_status {
     DIXPI_DIFFERS = 1,    /* a block differs: *found has the first */
     DIXPI_BAD_LAYOUT = 2, /* no layout: see struct dixpi_layout */
     DIXPI_BAD_LENGTH = 3, /* no whole blocks, data and metadata of other counts, or bytes of another length */
+    DIXPI_BAD_OPCODE = 4, /* no command that is served */
     DIXPI_BAD_FIELD = 5,  /* a field has a value that isn't served, or doesn't fit its form */
 };
 
@@ -98,6 +99,37 @@ uint32_t dixpi_dix_generate(const struct iovec *data, size_t count, uint8_t *met
 uint32_t dixpi_dix_verify(const struct iovec *data, size_t count, const uint8_t *meta, size_t meta_len,
                           const struct dixpi_layout *layout, const struct dixpi_want *want,
                           struct dixpi_found *found);
+
+/* Command descriptor blocks (SBC-3, 5.11 to 5.35). */
+enum dixpi_op {
+    DIXPI_READ_10 = 0x28,
+    DIXPI_WRITE_10 = 0x2A,
+    DIXPI_VERIFY_10 = 0x2F,
+    DIXPI_READ_16 = 0x88,
+    DIXPI_WRITE_16 = 0x8A,
+    DIXPI_VERIFY_16 = 0x8F,
+    DIXPI_READ_32 = 0x7F09,
+    DIXPI_WRITE_32 = 0x7F0B,
+    DIXPI_READ_CAPACITY_16 = 0x9E10,
+};
+enum dixpi_cdb_flag { DIXPI_FUA = 0x08, DIXPI_DPO = 0x10 }; /* VERIFY has no FUA, READ CAPACITY neither */
+struct dixpi_cdb {
+    uint64_t lba;       /* of READ CAPACITY 0 */
+    uint32_t op;        /* enum dixpi_op */
+    uint32_t n;         /* blocks, or of READ CAPACITY the allocation length in bytes */
+    uint32_t ref;       /* expected tags and mask: of the forms of 32 bytes alone, else 0 */
+    uint16_t app, mask;
+    uint32_t protect;   /* RDPROTECT, WRPROTECT, VRPROTECT: 0, 1, 3 or 4 */
+    uint32_t flags;     /* enum dixpi_cdb_flag, added */
+    uint32_t group;     /* GROUP NUMBER, below 32; of READ CAPACITY 0 */
+    uint32_t control;   /* CONTROL, below 256 */
+};
+/* Writes 10, 16 or 32 bytes to out and their number to *len; the rest of out stays. DIXPI_BAD_OPCODE, or
+   DIXPI_BAD_FIELD where a field doesn't fit its form. */
+uint32_t dixpi_cdb_encode(const struct dixpi_cdb *cdb, uint8_t out[32], uint32_t *len);
+/* The inverse. DIXPI_BAD_LENGTH where the operation code asks for another number of bytes, DIXPI_BAD_FIELD also where a
+   bit is set outside the fields above. */
+uint32_t dixpi_cdb_decode(const uint8_t *bytes, size_t len, struct dixpi_cdb *cdb);
 
 /* Sense data. */
 struct dixpi_sense {

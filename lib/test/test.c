@@ -24,6 +24,12 @@ static_assert(sizeof(struct dixpi_sense) == 16 && offsetof(struct dixpi_sense, k
 static_assert(offsetof(struct dixpi_sense, asc) == 9 && offsetof(struct dixpi_sense, ascq) == 10, "sense");
 static_assert(offsetof(struct dixpi_sense, has_info) == 11, "sense");
 
+static_assert(sizeof(struct dixpi_cdb) == 40 && offsetof(struct dixpi_cdb, op) == 8, "cdb");
+static_assert(offsetof(struct dixpi_cdb, n) == 12 && offsetof(struct dixpi_cdb, ref) == 16, "cdb");
+static_assert(offsetof(struct dixpi_cdb, app) == 20 && offsetof(struct dixpi_cdb, mask) == 22, "cdb");
+static_assert(offsetof(struct dixpi_cdb, protect) == 24 && offsetof(struct dixpi_cdb, flags) == 28, "cdb");
+static_assert(offsetof(struct dixpi_cdb, group) == 32 && offsetof(struct dixpi_cdb, control) == 36, "cdb");
+
 static unsigned passed, failed;
 
 static void is_true(int holds, int line, const char *what) {
@@ -494,11 +500,84 @@ static void senses(void) {
     }
 }
 
+/* The bytes of a command, laid out by hand, and their number; 0 where a field doesn't fit. */
+static uint32_t cdb_by_hand(const struct dixpi_cdb *c, uint8_t out[32]) {
+    int is_verify = c->op == DIXPI_VERIFY_10 || c->op == DIXPI_VERIFY_16;
+    uint32_t size = c->op > 0xFF ? 32 : c->op < 0x80 ? 10 : 16;
+    uint8_t first = (uint8_t)(c->protect << 5 | c->flags);
+    if (c->protect > 4 || c->protect == 2 || c->group > 31 || c->control > 255 || c->flags & ~(is_verify ? 16u : 24u))
+        return 0;
+    if (size != 32 && (c->ref || c->app || c->mask))
+        return 0;
+    if (size == 10 && (c->lba >> 32 || c->n >> 16))
+        return 0;
+    memset(out, 0, size);
+    out[0] = size == 32 ? 0x7F : (uint8_t)c->op;
+    out[size == 32 ? 10 : 1] = first;
+    out[size == 16 ? 14 : 6] = (uint8_t)c->group;
+    out[size == 32 ? 1 : size - 1] = (uint8_t)c->control;
+    if (size == 10) {
+        put32(out + 2, (uint32_t)c->lba);
+        put16(out + 7, c->n);
+    } else if (size == 16) {
+        put64(out + 2, c->lba);
+        put32(out + 10, c->n);
+    } else {
+        out[7] = 0x18;
+        out[9] = (uint8_t)c->op;
+        put64(out + 12, c->lba);
+        put32(out + 20, c->ref);
+        put16(out + 24, c->app);
+        put16(out + 26, c->mask);
+        put32(out + 28, c->n);
+    }
+    return size;
+}
+
+static void commands(void) {
+    static const uint32_t OPS[] = {DIXPI_READ_10,   DIXPI_WRITE_10,  DIXPI_VERIFY_10, DIXPI_READ_16,
+                                   DIXPI_WRITE_16,  DIXPI_VERIFY_16, DIXPI_READ_32,   DIXPI_WRITE_32};
+    for (int i = 0; i < 4000; i++) {
+        int tags = drawn() % 2;
+        struct dixpi_cdb c = {.lba = drawn(), .op = OPS[drawn() % 8], .n = drawn() >> 16, .ref = tags ? drawn() : 0,
+                              .app = tags ? (uint16_t)drawn() : 0, .mask = tags ? (uint16_t)drawn() : 0,
+                              .protect = drawn() % 6, .flags = drawn() % 5 * 8, .group = drawn() % 34,
+                              .control = drawn() % 260};
+        if (drawn() % 4 == 0)
+            c.lba <<= 16, c.n <<= 8;
+        uint8_t wanted[32], out[32];
+        memset(wanted, 0xEE, 32);
+        memset(out, 0xEE, 32);
+        uint32_t size = cdb_by_hand(&c, wanted), len = 77;
+        IS(dixpi_cdb_encode(&c, out, &len) == (size ? DIXPI_OK : DIXPI_BAD_FIELD));
+        IS(len == (size ? size : 77) && !memcmp(out, wanted, 32));
+        if (!size)
+            continue;
+        struct dixpi_cdb back;
+        uint8_t *bytes = out + 32 - size;
+        memmove(bytes, out, size);
+        IS(dixpi_cdb_decode(bytes, size, &back) == DIXPI_OK && !memcmp(&back, &c, sizeof c));
+        IS(dixpi_cdb_decode(bytes, size - 1, &back) == DIXPI_BAD_LENGTH);
+        bytes[size == 32 ? 10 : 1] ^= 4;
+        IS(dixpi_cdb_decode(bytes, size, &back) == DIXPI_BAD_FIELD);
+    }
+    struct dixpi_cdb capacity = {.op = DIXPI_READ_CAPACITY_16, .n = 32, .control = 4}, back;
+    uint8_t out[32], wanted[16] = {0x9E, 0x10, [13] = 32, [15] = 4};
+    uint32_t len;
+    IS(dixpi_cdb_encode(&capacity, out, &len) == DIXPI_OK && len == 16 && !memcmp(out, wanted, 16));
+    IS(dixpi_cdb_decode(wanted, 16, &back) == DIXPI_OK && !memcmp(&back, &capacity, sizeof back));
+    wanted[1] = 0x11;
+    IS(dixpi_cdb_decode(wanted, 16, &back) == DIXPI_BAD_OPCODE);
+    capacity.op = 0x9E;
+    IS(dixpi_cdb_encode(&capacity, out, &len) == DIXPI_BAD_OPCODE);
+}
+
 int main(void) {
     IS(dixpi_version() == 0x000100);
     guards();
     tuples();
     senses();
+    commands();
     for (size_t i = 0; i < sizeof LAYOUTS / sizeof *LAYOUTS; i++)
         for (uint32_t type = 1; type <= 3; type++)
             for (uint32_t guard = DIXPI_CRC; guard <= DIXPI_IP; guard++) {

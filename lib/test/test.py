@@ -39,6 +39,12 @@ class Sense(ctypes.Structure):
     _fields_ = [("info", c_uint64)] + [(name, c_uint8) for name in ("key", "asc", "ascq", "has_info")]
 
 
+class Cdb(ctypes.Structure):
+    _fields_ = [("lba", c_uint64)] + [(name, c_uint32) for name in ("op", "n", "ref")]
+    _fields_ += [("app", c_uint16), ("mask", c_uint16)]
+    _fields_ += [(name, c_uint32) for name in ("protect", "flags", "group", "control")]
+
+
 class Part(ctypes.Structure):
     _fields_ = [("base", c_void_p), ("len", c_size_t)]
 
@@ -46,6 +52,7 @@ class Part(ctypes.Structure):
 dixpi = ctypes.CDLL(sys.argv[1])
 layout_at, want_at, found_at, parts_at = POINTER(Layout), POINTER(Want), POINTER(Found), POINTER(Part)
 tuple_at, run_at, sense_at, number_at = POINTER(Tuple), POINTER(Run), POINTER(Sense), POINTER(c_uint32)
+cdb_at = POINTER(Cdb)
 TYPES = {
     "crc16": (c_uint16, c_void_p, c_size_t),
     "crc16_after": (c_uint16, c_uint16, c_void_p, c_size_t),
@@ -63,6 +70,8 @@ TYPES = {
     "remap": (c_uint32, c_void_p, c_size_t, layout_at, c_uint32, c_uint32),
     "dix_generate": (c_uint32, parts_at, c_size_t, c_void_p, c_size_t, layout_at, c_uint16, c_uint32),
     "dix_verify": (c_uint32, parts_at, c_size_t, c_void_p, c_size_t, layout_at, want_at, found_at),
+    "cdb_encode": (c_uint32, cdb_at, c_void_p, number_at),
+    "cdb_decode": (c_uint32, c_void_p, c_size_t, cdb_at),
     "sense_encode": (c_uint32, sense_at, c_void_p, number_at),
     "sense_decode": (c_uint32, c_void_p, c_size_t, sense_at),
     "sense_check": (c_uint32, sense_at, number_at),
@@ -168,6 +177,19 @@ holds("sense_encode, 64 bits", dixpi.dixpi_sense_encode(sense, out, length) == 0
 holds("the wide sense", bytes(out) == wide)
 sense.key = 16
 holds("sense_encode, a key", dixpi.dixpi_sense_encode(sense, out, length) == 5)
+
+cdb = Cdb(0x0102030405060708, 0x7F09, 0x11121314, 0x21222324, 0x3132, 0x4142, 1, 0x18, 29, 0xC0)
+wire = bytes.fromhex("7fc000000000 1d18 0009 3800 0102030405060708 21222324 3132 4142 11121314")
+out = memory(bytes(32))
+holds("cdb_encode", dixpi.dixpi_cdb_encode(cdb, out, length) == 0 and length.value == 32)
+holds("the command", bytes(out) == wire)
+back = Cdb()
+holds("cdb_decode", dixpi.dixpi_cdb_decode(out, 32, back) == 0 and bytes(back) == bytes(cdb))
+holds("cdb_decode, a length", dixpi.dixpi_cdb_decode(out, 31, back) == 3)
+out[10] |= 4
+holds("cdb_decode, a bit", dixpi.dixpi_cdb_decode(out, 32, back) == 5)
+cdb.op = 0x7F0A
+holds("cdb_encode, an operation code", dixpi.dixpi_cdb_encode(cdb, out, length) == 4)
 
 print(f"test.py: {passed} passed, {failed} failed")
 sys.exit(failed != 0)

@@ -7,6 +7,7 @@
 
 mod apart;
 mod blocks;
+mod commands;
 mod guards;
 mod runs;
 mod senses;
@@ -15,6 +16,7 @@ mod status;
 
 pub use apart::{dixpi_dix_generate, dixpi_dix_verify};
 pub use blocks::{dixpi_generate, dixpi_remap, dixpi_verify};
+pub use commands::{dixpi_cdb_decode, dixpi_cdb_encode};
 pub use guards::{dixpi_crc16, dixpi_crc16_after, dixpi_crc16v, dixpi_ip_sum, dixpi_ip_sumv};
 pub use runs::{dixpi_run_begin, dixpi_run_finish, dixpi_run_update};
 pub use senses::{dixpi_sense_check, dixpi_sense_decode, dixpi_sense_encode};

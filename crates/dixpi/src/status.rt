@@ -14,6 +14,9 @@ pub const BAD_LAYOUT: u32 = 2;
 /// The bytes are no whole blocks, or data and metadata are of other counts.
 pub const BAD_LENGTH: u32 = 3;
 
+/// The operation code is none that is served.
+pub const BAD_OPCODE: u32 = 4;
+
 /// A field has a value that isn't served, or doesn't fit its form.
 pub const BAD_FIELD: u32 = 5;
 
