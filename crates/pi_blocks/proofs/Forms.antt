@@ -1,9 +1,9 @@
-use Rattle.std.proofs.Common.{◌≡◌, ℕ, ◌<◌, ◌≤◌, true, List, length, get_or, set, refl, sym, ap, subst, ◌∙◌, arith, rules}
+use Rattle.std.proofs.Common.{Ok, ◌≡◌, ℕ, ◌<◌, ◌≤◌, true, List, length, get_or, set, refl, sym, ap, subst, ◌∙◌, arith, rules}
 use Rattle.std.proofs.lemmas.List.{get_or-set_same, places, set-get_or, set-set, length-set}
 use Rattle.cdb_codec.specs.Forms.{Fits, form}
 use Rattle.cdb_codec.specs.declared.command.Cdb.{Cdb}
 use Rattle.cdb_codec.specs.declared.command.Cdb.TheVariants.{Read10, Write10, Verify10, Read16, Write16, Verify16, Read32, Write32, ReadCapacity16}
-use Rattle.pi_blocks.specs.Commands.{Says, cdb_fields, places_of}
+use Rattle.pi_blocks.specs.Commands.{Says, command_of, encoded, cdb_fields, places_of}
 use Rattle.pi_blocks.specs.Marks.{AreBehind, places_for, part, part_at, put, put_part, marked, marks_fit, without_marks}
 use Rattle.pi_blocks.specs.declared.commands.CdbFields.{CdbFields}
 use Rattle.pi_blocks.specs.declared.marks.Bits.{Bits}
@@ -185,3 +185,19 @@ plain_says (Verify16 c) f = record { fits = f; fields = refl; marks = refl; writ
 plain_says (Read32 c) f = record { fits = f; fields = refl; marks = refl; written = sym (plain_form (Read32 c)) }
 plain_says (Write32 c) f = record { fits = f; fields = refl; marks = refl; written = sym (plain_form (Write32 c)) }
 plain_says (ReadCapacity16 len) f = record { fits = f; fields = refl; marks = refl; written = sym (plain_form (ReadCapacity16 len)) }
+
+command_back : (c : Cdb) (flags group control : ℕ) → Fits c → command_of (cdb_fields c flags group control) ≡ Ok c
+command_back (Read10 c) flags group control f = grind (arith)
+command_back (Write10 c) flags group control f = grind (arith)
+command_back (Verify10 c) flags group control f = grind (arith)
+command_back (Read16 c) flags group control f = rw (f.protect, f.rtag, f.app, f.mask)
+command_back (Write16 c) flags group control f = rw (f.protect, f.rtag, f.app, f.mask)
+command_back (Verify16 c) flags group control f = rw (f.protect, f.rtag, f.app, f.mask)
+command_back (Read32 c) flags group control f = rw (f.protect)
+command_back (Write32 c) flags group control f = rw (f.protect)
+command_back (ReadCapacity16 len) flags group control f = refl
+
+pub says_encodes : (f : CdbFields) (c : Cdb) (bytes : List ℕ) → Says f c bytes → encoded f ≡ Ok bytes
+says_encodes f c bytes h =
+    let e : command_of f ≡ Ok c = ap command_of h.fields ∙ command_back c f.flags f.group f.control h.fits in
+    rw (e, h.marks, h.written)

@@ -1,10 +1,11 @@
 //! Laws of what the calls answer and write. Nothing runs here.
 
-ghost use Rattle.std.specs.Prelude.{◌≡◌, ◌<◌, ◌^◌, ℕ, List, length, true};
+ghost use Rattle.std.specs.Prelude.{◌≡◌, Ok, ◌<◌, ◌^◌, ℕ, List, length, true};
 ghost use Rattle.cdb_codec.specs.Forms.{Fits, form};
 ghost use Rattle.cdb_codec.specs.declared.command.Cdb.{Cdb as AnyCdb};
 ghost use Rattle.pi_blocks.specs.Blocks.{Block};
-ghost use Rattle.pi_blocks.specs.Commands.{Says, cdb_fields};
+ghost use Rattle.pi_blocks.specs.Commands.{Reads, Says, cdb_fields, encoded};
+ghost use Rattle.pi_blocks.specs.declared.commands.CdbFields.{CdbFields as AnyCommand};
 ghost use Rattle.pi_blocks.specs.Laws.{AreBytes, AreFineWhenMade, AreFineWhenMadeApart, AreFree, HasOneAnswer};
 ghost use Rattle.pi_blocks.specs.Laws.{IsUndone, MakesTuplesAlone, MakesTuplesApart, MapsTagsAlone, StayFine};
 ghost use Rattle.pi_blocks.specs.Layouts.{AreBlocks, is_good};
@@ -56,4 +57,9 @@ pub fn made_blocks_are_fine()
 /// decoder are the codec's.
 pub fn plain_commands_are_the_codecs()
     ensures { (c : AnyCdb) → Fits c → Says (cdb_fields c 0 0 0) c (form c) }
+{}
+
+/// What a decoder reads in bytes, the encoder takes, and writes these bytes.
+pub fn commands_that_are_read_are_written()
+    ensures { (f : AnyCommand) (bytes : List ℕ) → Reads f bytes → encoded f ≡ Ok bytes }
 {}
