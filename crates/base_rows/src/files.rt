@@ -2,8 +2,9 @@
 
 use crate::names::{add, yes_or_no};
 use crate::stores::step;
+use crate::walk::{shrunk, walk};
 use dix_base::{FileStore, Store};
-use row_table::{bytes_of, cut, hex_of};
+use row_table::{bytes_of, cut, hex_of, small};
 use std::alloc::{AllocError, Global};
 use std::fs::{OpenOptions, Permissions};
 use std::os::unix::fs::PermissionsExt;
@@ -40,9 +41,9 @@ fn read_of_cut(
     Ok(String::from_str(alloc, "failed")?)
 }
 
-/// Whether a file that is only to be read is refused as the system refuses it: whoever may write every file opens it all
-/// the same.
-fn refused_as_by_system(
+/// Whether a file that is only to be read is opened, and written to exactly where the system lets it: whoever may write
+/// every file writes to it all the same.
+fn written_as_by_system(
     rt: HostRuntime,
     store: &mut FileStore,
     path: &str,
@@ -51,7 +52,7 @@ fn refused_as_by_system(
     let may_write = OpenOptions::new().write(true).open(&rt, path).is_ok();
     let opened = store.open(String::from_str(rt.alloc(), path)?).is_ok();
     let added = store.append(rt.alloc(), b"d").is_ok();
-    Ok(yes_or_no(opened == may_write && added == may_write))
+    Ok(yes_or_no(opened && added == may_write))
 }
 
 fn contents(rt: HostRuntime, path: &str) -> io::Result<String> {
@@ -78,7 +79,12 @@ fn came(
             Ok(String::from_str(alloc, "done")?)
         }
         "cut" => read_of_cut(rt, store, path.as_str(), &bytes_of(alloc, words)?),
-        "lock" => Ok(String::from_str(alloc, refused_as_by_system(rt, store, path.as_str())?)?),
+        "lock" => Ok(String::from_str(alloc, written_as_by_system(rt, store, path.as_str())?)?),
+        "walk" => {
+            let (seed, count) = cut(words);
+            walk(rt, store, path.as_str(), small(seed) as u64, small(count))
+        }
+        "shrunk" => shrunk(rt, store, path.as_str()),
         "remove" => {
             fs::remove_file(&rt, path.as_str())?;
             Ok(String::from_str(alloc, "done")?)

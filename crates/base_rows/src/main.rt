@@ -14,6 +14,7 @@ mod senses;
 mod sources;
 mod stores;
 mod tuples;
+mod walk;
 
 use row_table::{Judge, cut, read_table};
 use std::alloc::{AllocError, Global};

@@ -5,17 +5,22 @@ ghost use Rattle.dix_base.specs.Forms.{after_file_fault, longer, one_more};
 ghost use Rattle.dix_base.specs.Told.{Rose};
 
 use crate::fault_plan::raise;
+use crate::read_ahead::ReadAhead;
 use crate::{Failed, Store, StoreFault};
 use std::alloc::Global;
 use std::fs::{File, OpenOptions};
-use std::io::{self, Read, Seek, SeekFrom, Write};
+use std::io::{self, ErrorKind};
 use std::marker::Model;
 
 /// A file. It doesn't tell its bytes.
+///
+/// Reads that follow one another are served from pieces that were read ahead. Writes go to the file
+/// at once.
 #[derive(Drop)]
 pub struct FileStore {
     rt: HostRuntime,
     file: Option<File>,
+    ahead: ReadAhead,
     size: u64,
     faults: u64,
     opened: u64,
@@ -31,9 +36,25 @@ impl Model for FileStore {
     ghost view = { λ s. record { is_open = is_some s.file; len = s.size; faults = s.faults; openings = s.opened; handed = string_bytes s.name } };
 }
 
+/// Whether a file may be there that only can't be written.
+fn is_for_reading(error: &io::Error) -> bool {
+    matches!(
+        error.kind(),
+        ErrorKind::PermissionDenied | ErrorKind::ReadOnlyFilesystem
+    )
+}
+
+/// Opens a file that is there, for reading alone where it may not be written.
+fn reachable(rt: &HostRuntime, name: &str) -> io::Result<File> {
+    match OpenOptions::new().read(true).write(true).open(rt, name) {
+        Err(error) if is_for_reading(&error) => OpenOptions::new().read(true).open(rt, name),
+        opened => opened,
+    }
+}
+
 /// Opens a file that is there, and gives its length in bytes.
 fn opened(rt: &HostRuntime, name: &str) -> io::Result<(File, u64)> {
-    let file = OpenOptions::new().read(true).write(true).open(rt, name)?;
+    let file = reachable(rt, name)?;
     let size = file.metadata()?.len();
     Ok((file, size))
 }
@@ -48,16 +69,6 @@ fn emptied(rt: &HostRuntime, name: &str) -> io::Result<File> {
         .open(rt, name)
 }
 
-fn read_from(file: &mut File, at: u64, into: &mut [u8]) -> io::Result<()> {
-    file.seek(SeekFrom::Start(at))?;
-    file.read_exact(into)
-}
-
-fn write_to(file: &mut File, at: u64, piece: &[u8]) -> io::Result<()> {
-    file.seek(SeekFrom::Start(at))?;
-    file.write_all(piece)
-}
-
 impl FileStore {
     /// A store with no file yet.
     pub fn new(rt: HostRuntime) -> FileStore
@@ -69,6 +80,7 @@ impl FileStore {
     {
         FileStore {
             name: String::new(rt.alloc()),
+            ahead: ReadAhead::new(rt.alloc()),
             rt,
             file: None,
             size: 0,
@@ -91,8 +103,9 @@ impl Store for FileStore {
 
     ghost told = { λ s. tt };
 
-    /// Closes the file that was open, and opens the one of this name for reading and writing. A
-    /// file that isn't there is a failure; then no file is open, and the length is 0.
+    /// Closes the file that was open, and opens the one of this name for reading and writing, or
+    /// for reading alone where it may not be written: then each write fails. A file that isn't there
+    /// is a failure; then no file is open, and the length is 0.
     fn open(&mut self, name: String) -> Result<u64, Failed>
         ensures length { IfOk result (λ n. n ≡ self.new.len) }
         ensures cause { OnErr result (Rose self.old.faults self.new.faults) }
@@ -107,6 +120,7 @@ impl Store for FileStore {
     {
         raise(&mut self.opened);
         self.file = None;
+        self.ahead.clear();
         self.size = 0;
         let found = opened(&self.rt, name.as_str());
         self.name = name;
@@ -135,6 +149,7 @@ impl Store for FileStore {
     {
         raise(&mut self.opened);
         self.file = None;
+        self.ahead.clear();
         self.size = 0;
         let made = emptied(&self.rt, name.as_str());
         self.name = name;
@@ -146,8 +161,8 @@ impl Store for FileStore {
         Err(Failed)
     }
 
-    /// Reads until all bytes came. An end that comes before is a failure, and so is a read while no
-    /// file is open.
+    /// Reads until all bytes came, of the file or of a piece that was read ahead. An end that comes
+    /// before is a failure, and so is a read while no file is open.
     fn read_at(&mut self, at: u64, into: &mut [u8]) -> Result<(), Failed>
         requires { at + length into.old ≤ self.old.len }
         ensures cause { OnErr result (Rose self.old.faults self.new.faults) }
@@ -157,8 +172,8 @@ impl Store for FileStore {
         ensures passed { OnOk result (self.new ≡ self.old) }
         ensures failed { OnErr result (self.new ≡ after_file_fault self.old) }
     {
-        if let Some(file) = &mut self.file {
-            if read_from(file, at, into).is_ok() {
+        if let Some(file) = &self.file {
+            if self.ahead.read(file, at, into).is_ok() {
                 return Ok(());
             }
         }
@@ -176,8 +191,8 @@ impl Store for FileStore {
         ensures passed { OnOk result (self.new ≡ self.old) }
         ensures failed { OnErr result (self.new ≡ after_file_fault self.old) }
     {
-        if let Some(file) = &mut self.file {
-            if write_to(file, at, piece).is_ok() {
+        if let Some(file) = &self.file {
+            if self.ahead.write(file, at, piece).is_ok() {
                 return Ok(());
             }
         }
@@ -201,8 +216,8 @@ impl Store for FileStore {
         ensures failed { OnErr result (self.new ≡ after_file_fault self.old) }
     {
         if let Some(end) = self.size.checked_add(piece.len() as u64) {
-            if let Some(file) = &mut self.file {
-                if write_to(file, self.size, piece).is_ok() {
+            if let Some(file) = &self.file {
+                if self.ahead.write(file, self.size, piece).is_ok() {
                     self.size = end;
                     return Ok(());
                 }

@@ -13,6 +13,7 @@ mod file_store;
 mod mem_sink;
 mod mem_source;
 mod mem_store;
+mod read_ahead;
 mod sink;
 mod source;
 mod stdin_source;

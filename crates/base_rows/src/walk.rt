@@ -1,0 +1,164 @@
+//! A file as a store beside a plain copy of its bytes in memory, both read and written at the same places.
+
+ghost use Rattle.std.specs.Prelude.{◌≡◌, ◌+◌, ◌≤◌, IfOk, IsTrue, length};
+
+use crate::names::yes_or_no;
+use dix_base::{CalmStore, FileStore, Store};
+use std::alloc::{AllocError, Global};
+use std::{fs, io};
+
+/// The bytes of the file: more than two of the pieces that a file is read ahead in.
+const SIZE: usize = 700_000;
+/// The bytes of the greatest read or write.
+const MOST: usize = 5_000;
+
+/// Where a walk is.
+#[derive(Clone, Copy)]
+struct Place {
+    /// A number from which the next step follows.
+    state: u64,
+    /// Where the last read ended.
+    next: usize,
+}
+
+/// Whether both give the same bytes.
+fn reads_alike(
+    file: &mut FileStore,
+    plain: &mut CalmStore,
+    at: u64,
+    room: &mut [u8; 2 * MOST],
+    n: usize,
+) -> bool
+    requires count { n ≤ 5000 }
+    requires inside { at + n ≤ file.old.len }
+    requires copied { at + n ≤ length plain.old.bytes }
+    ensures file { file.new.len ≡ file.old.len }
+    ensures plain { length plain.new.bytes ≡ length plain.old.bytes }
+{
+    let (one, other) = room.split_at_mut(MOST);
+    let came = file.read_at(at, &mut one[..n]).is_ok()
+        && plain.read_at(at, &mut other[..n]).is_ok();
+    came && one[..n] == other[..n]
+}
+
+/// Whether both took the same bytes.
+fn writes_alike(file: &mut FileStore, plain: &mut CalmStore, at: u64, piece: &[u8]) -> bool
+    requires inside { at + length piece.now ≤ file.old.len }
+    requires copied { at + length piece.now ≤ length plain.old.bytes }
+    ensures file { file.new.len ≡ file.old.len }
+    ensures plain { length plain.new.bytes ≡ length plain.old.bytes }
+{
+    file.write_at(at, piece).is_ok() && plain.write_at(at, piece).is_ok()
+}
+
+/// The next number of a sequence that looks random.
+fn stirred(state: u64) -> u64 {
+    state
+        .wrapping_mul(6_364_136_223_846_793_005)
+        .wrapping_add(1_442_695_040_888_963_407)
+}
+
+/// The next place of so many bytes: in five of eight steps the one where the last read ended, in one some bytes before it,
+/// else any.
+fn place_of(place: Place, n: usize) -> usize
+    requires { n ≤ 5000 }
+    ensures { result + n ≤ 700000 }
+{
+    let far = ((place.state >> 20) % SIZE as u64) as usize;
+    let at = match place.state >> 61 {
+        0..=4 => place.next,
+        5 => place.next.saturating_sub(far % 3_000),
+        _ => far,
+    };
+    at.min(SIZE - n)
+}
+
+/// One step: a read in three of four, else a write.
+fn step(file: &mut FileStore, plain: &mut CalmStore, place: &mut Place) -> bool
+    requires file { file.old.len ≡ 700000 }
+    requires plain { length plain.old.bytes ≡ 700000 }
+    ensures file { file.new.len ≡ 700000 }
+    ensures plain { length plain.new.bytes ≡ 700000 }
+{
+    place.state = stirred(place.state);
+    let n = 1 + ((place.state >> 40) % MOST as u64) as usize;
+    let at = place_of(*place, n);
+    if (place.state >> 33) % 4 == 0 {
+        let piece = [(place.state % 251) as u8; MOST];
+        return writes_alike(file, plain, at as u64, &piece[..n]);
+    }
+    place.next = at + n;
+    reads_alike(file, plain, at as u64, &mut [0; 2 * MOST], n)
+}
+
+/// Whether each of so many steps went alike.
+fn all_alike(file: &mut FileStore, plain: &mut CalmStore, seed: u64, steps: u32) -> bool
+    requires file { file.old.len ≡ 700000 }
+    requires plain { length plain.old.bytes ≡ 700000 }
+{
+    let mut place = Place {
+        state: seed,
+        next: 0,
+    };
+    for _ in 0..steps {
+        if !step(file, plain, &mut place) {
+            return false;
+        }
+    }
+    true
+}
+
+fn bytes_of_file(alloc: Global) -> Result<Vec<u8>, AllocError>
+    ensures { IfOk result (λ bytes. length bytes.items ≡ 700000) }
+{
+    vec![in alloc; 7; SIZE]
+}
+
+/// Whether the file, which has as many bytes, is opened.
+fn opens(alloc: Global, store: &mut FileStore, path: &str) -> Result<bool, AllocError>
+    ensures { IfOk result (λ b. IsTrue b → store.new.len ≡ 700000) }
+{
+    let name = String::from_str(alloc, path)?;
+    Ok(match store.open(name) {
+        Ok(len) => len == SIZE as u64,
+        Err(_) => false,
+    })
+}
+
+/// Makes a file, takes so many steps beside a copy of it, and says whether each step went alike, and whether the file then
+/// holds what the copy does.
+pub(crate) fn walk(
+    rt: HostRuntime,
+    store: &mut FileStore,
+    path: &str,
+    seed: u64,
+    steps: u32,
+) -> io::Result<String> {
+    let alloc = rt.alloc();
+    let bytes = bytes_of_file(alloc)?;
+    fs::write(&rt, path, bytes.as_slice())?;
+    let mut plain = CalmStore::new(bytes);
+    let alike = opens(alloc, store, path)? && all_alike(store, &mut plain, seed, steps);
+    let same = fs::read(&rt, path)?.as_slice() == plain.bytes();
+    let (alike, same) = (yes_or_no(alike), yes_or_no(same));
+    Ok(format!(in alloc; "{alike} {same}")?)
+}
+
+/// Makes a file, reads its first bytes, cuts it to half its bytes behind the store's back, and says whether reads go well:
+/// inside the piece that was read ahead, behind it, and where nothing is any more.
+pub(crate) fn shrunk(rt: HostRuntime, store: &mut FileStore, path: &str) -> io::Result<String> {
+    let alloc = rt.alloc();
+    let bytes = bytes_of_file(alloc)?;
+    fs::write(&rt, path, bytes.as_slice())?;
+    if !opens(alloc, store, path)? {
+        return Ok(String::from_str(alloc, "failed")?);
+    }
+    let mut room = [0; 100];
+    let first = yes_or_no(store.read_at(0, &mut room).is_ok());
+    let (half, _) = bytes.split_at(bytes.len() / 2);
+    fs::write(&rt, path, half)?;
+    let inside = yes_or_no(store.read_at(200_000, &mut room).is_ok());
+    let behind = yes_or_no(store.read_at(349_000, &mut room).is_ok());
+    let nowhere = yes_or_no(store.read_at(400_000, &mut room).is_ok());
+    Ok(format!(in alloc; "{first} {inside} {behind} {nowhere}")?)
+}
