@@ -4,7 +4,7 @@
 ghost use Rattle.std.specs.Prelude.{◌≡◌, drop, take, IfOk, OnErr, OnOk};
 ghost use Rattle.dix_base.specs.Told.{Appended, Rose, Took};
 
-use crate::names::{add, none};
+use crate::names::{add, none, yes_or_no};
 use dix_base::{
     ByteList, CalmSink, CalmSource, Failed, MemSink, MemSource, Sink, Source, StdinSource,
     StdoutSink,
@@ -88,6 +88,13 @@ fn puts<K: Sink>(alloc: Global, sink: &mut K, steps: &str) -> Result<String, All
     Ok(text)
 }
 
+/// The same of standard output, and whether it passes on what it holds.
+fn shown(alloc: Global, out: &mut StdoutSink, steps: &str) -> Result<String, AllocError> {
+    let text = puts(alloc, out, steps)?;
+    let passed = yes_or_no(out.flush().is_ok());
+    format!(in alloc; "{text};{passed}")
+}
+
 /// The same of a sink with so much room, and what it holds then.
 fn kept(alloc: Global, room: &str, fails: &str, steps: &str) -> Result<String, AllocError> {
     let mut sink = MemSink::new(alloc, small(room).min(4096), numbers(alloc, fails)?)?;
@@ -124,7 +131,7 @@ pub(crate) fn answer(rt: HostRuntime, words: &str) -> Result<String, AllocError>
         "sink" => kept(alloc, first, fails, steps),
         "calm-sink" => puts(alloc, &mut CalmSink::new(), steps),
         "input" => takes(alloc, &mut StdinSource::new(rt), steps),
-        "output" => puts(alloc, &mut StdoutSink::new(rt), steps),
+        "output" => shown(alloc, &mut StdoutSink::new(rt), steps),
         _ => none(alloc),
     }
 }

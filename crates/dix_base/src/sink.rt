@@ -23,4 +23,15 @@ pub trait Sink {
         ensures calm { OnOk result (faults self.new ≡ faults self.old) }
         ensures cause { OnErr result (Rose (faults self.old) (faults self.new)) }
         ensures count { faults self.old ≤ faults self.new };
+
+    /// Passes on what a sink holds of the bytes that it took. A sink that holds none has nothing to
+    /// do.
+    fn flush(&mut self) -> Result<(), Failed>
+        ensures same { taken self.new ≡ taken self.old }
+        ensures calm { OnOk result (faults self.new ≡ faults self.old) }
+        ensures cause { OnErr result (Rose (faults self.old) (faults self.new)) }
+        ensures count { faults self.old ≤ faults self.new }
+    {
+        Ok(())
+    }
 }

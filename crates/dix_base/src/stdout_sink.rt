@@ -1,6 +1,6 @@
 //! Standard output as a sink.
 
-ghost use Rattle.std.specs.Prelude.{◌≡◌, ◌≤◌, ◌<◌, None, IfOk, OnErr, OnOk, length};
+ghost use Rattle.std.specs.Prelude.{◌≡◌, ◌+◌, ◌≤◌, ◌<◌, None, IfOk, OnErr, OnOk, length};
 ghost use Rattle.dix_base.specs.Forms.{one_more};
 ghost use Rattle.dix_base.specs.Told.{Rose};
 
@@ -9,10 +9,20 @@ use crate::{Failed, Sink};
 use std::io::{Stdout, Write};
 use std::marker::Model;
 
+/// How many bytes go to the system at once, where there are as many.
+const ROOM: usize = 16384;
+
 /// Standard output. It doesn't tell what it took.
+///
+/// It holds what it takes until it has 16 KiB or is flushed, so a report is a few calls of the
+/// system.
 #[derive(Drop)]
 pub struct StdoutSink {
     output: Stdout,
+    /// The bytes from `from` to `end` are held.
+    room: [u8; ROOM],
+    from: usize,
+    end: usize,
     faults: u64,
 }
 
@@ -24,6 +34,28 @@ impl Model for StdoutSink {
     ghost view = { λ s. s.faults };
 }
 
+/// The bytes of a room from one place to another.
+fn window(room: &[u8], from: usize, end: usize) -> &[u8] {
+    let (held, _) = room.split_at(end.min(room.len()));
+    let (_, held) = held.split_at(from.min(held.len()));
+    held
+}
+
+/// Copies the first of these bytes into a room from this place on, as many as there is room for, and
+/// says how many they are.
+fn copied(room: &mut [u8], at: usize, bytes: &[u8]) -> usize
+    requires { at < length room.old }
+    ensures bound { result ≤ length bytes.now }
+    ensures some { 0 < length bytes.now → 0 < result }
+    ensures room { length room.new ≡ length room.old }
+    ensures within { at + result ≤ length room.old }
+{
+    let n = bytes.len().min(room.len() - at);
+    let (front, _) = bytes.split_at(n);
+    room[at..at + n].copy_from_slice(front);
+    n
+}
+
 impl StdoutSink {
     /// The standard output of this process. A contract sees its count of faults.
     pub fn new(rt: HostRuntime) -> StdoutSink
@@ -31,8 +63,57 @@ impl StdoutSink {
     {
         StdoutSink {
             output: rt.stdout(),
+            room: [0; ROOM],
+            from: 0,
+            end: 0,
             faults: 0,
         }
+    }
+
+    /// Makes one write of what is held, if anything is, and keeps what wasn't taken. A write that
+    /// takes no byte is a failure.
+    fn write_once(&mut self) -> bool
+        ensures { self.new ≡ self.old }
+    {
+        let held = window(&self.room, self.from, self.end);
+        match self.output.write(held) {
+            Ok(n) if n > 0 => {
+                self.from = self.from.saturating_add(n);
+                true
+            }
+            _ => held.is_empty(),
+        }
+    }
+
+    /// Makes writes until nothing is held, or one fails.
+    fn write_all_held(&mut self) -> bool
+        ensures { self.new ≡ self.old }
+    {
+        for _ in 0..ROOM {
+            if self.from >= self.end {
+                break;
+            }
+            if !self.write_once() {
+                return false;
+            }
+        }
+        true
+    }
+
+    /// Writes all that is held. A failure leaves what wasn't written.
+    fn empty(&mut self) -> Result<(), Failed>
+        ensures passed { OnOk result (self.new ≡ self.old) }
+        ensures failed { OnErr result (self.new ≡ one_more self.old) }
+        ensures cause { OnErr result (Rose self.old self.new) }
+        ensures count { self.old ≤ self.new }
+    {
+        if self.write_all_held() {
+            self.from = 0;
+            self.end = 0;
+            return Ok(());
+        }
+        raise(&mut self.faults);
+        Err(Failed)
     }
 }
 
@@ -41,8 +122,7 @@ impl Sink for StdoutSink {
 
     ghost faults = { λ s. s };
 
-    /// Makes one write, which nothing buffers. A write that takes no byte of a piece that isn't
-    /// empty is a failure.
+    /// Holds as many bytes as there is room for, which is made by writing what is held.
     fn put(&mut self, bytes: &[u8]) -> Result<usize, Failed>
         ensures bound { IfOk result (λ n. n ≤ length bytes.now) }
         ensures some { IfOk result (λ n. 0 < length bytes.now → 0 < n) }
@@ -52,12 +132,23 @@ impl Sink for StdoutSink {
         ensures passed { OnOk result (self.new ≡ self.old) }
         ensures failed { OnErr result (self.new ≡ one_more self.old) }
     {
-        if let Ok(n) = self.output.write(bytes) {
-            if n > 0 || bytes.is_empty() {
-                return Ok(n);
-            }
+        if self.end >= ROOM {
+            self.empty()?;
         }
-        raise(&mut self.faults);
-        Err(Failed)
+        let end = self.end.min(ROOM - 1);
+        let n = copied(&mut self.room, end, bytes);
+        self.end = end + n;
+        Ok(n)
+    }
+
+    /// Writes all that is held.
+    fn flush(&mut self) -> Result<(), Failed>
+        ensures cause { OnErr result (Rose self.old self.new) }
+        ensures count { self.old ≤ self.new }
+
+        ensures passed { OnOk result (self.new ≡ self.old) }
+        ensures failed { OnErr result (self.new ≡ one_more self.old) }
+    {
+        self.empty()
     }
 }

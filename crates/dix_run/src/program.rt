@@ -16,7 +16,7 @@ use crate::running::{run_image, trace_image};
 use crate::status::Status;
 use dix_base::{Failed, Sink, Source};
 use dix_words::{Command, command_of};
-use report_text::write_all;
+use report_text::write_out;
 use rig_api::Rig;
 use std::alloc::Global;
 
@@ -24,7 +24,7 @@ use std::alloc::Global;
 pub(crate) fn finish<O: Sink>(out: &mut O, text: &[u8], status: Status) -> Status
     ensures { Written status text.now (O.taken out.old) (O.taken out.new) (O.faults out.old) (O.faults out.new) result }
 {
-    match write_all(out, text) {
+    match write_out(out, text) {
         Ok(()) => status,
         Err(Failed) => Status::WriteFault,
     }

@@ -7,7 +7,7 @@ ghost use Rattle.mirror_verdict.specs.Texts.{mirror_text, repair_line};
 use crate::mirrored::Mirrored;
 use dix_base::{Failed, Sink};
 use mirror_volume::Repair;
-use report_text::{print_report, write_all};
+use report_text::{print_report, write_out};
 use script_verdict::{Line, add, add_number};
 
 /// The line that says what a repair did.
@@ -31,5 +31,5 @@ pub fn print_mirrored<O: Sink>(out: &mut O, run: &Mirrored) -> Result<(), Failed
     ensures count { O.faults out.old ≤ O.faults out.new }
 {
     print_report(out, run.mirror.replies())?;
-    write_all(out, repair_line(run.repair).as_slice())
+    write_out(out, repair_line(run.repair).as_slice())
 }

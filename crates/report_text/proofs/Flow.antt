@@ -48,6 +48,10 @@ breaks_off text piece rest a b c l p =
 pub stops : (text rest : List ℕ) (a b c : Option (List ℕ)) → Left text rest a b → c ≡ b → AppendedSome text a c
 stops text rest a b c l e = breaks_off text [] rest a b c l (0, subst (λ x. Appended [] b x) (sym e) (appended_none b))
 
+-- A text that was appended whole, behind which nothing more was, is a prefix of itself.
+pub whole_is_part : (text : List ℕ) (a b c : Option (List ℕ)) → Appended text a b → c ≡ b → AppendedSome text a c
+whole_is_part text a b c p e = stops text [] a b c (record { done = text; split = append-nil text; written = p }) e
+
 -- the next n bytes were appended
 pub goes_on_by : (n : ℕ) (text rest : List ℕ) (a b c : Option (List ℕ)) → Left text rest a b → Appended (take n rest) b c → Left text (drop n rest) a c
 goes_on_by n text rest a b c l p = goes_on text (take n rest) (drop n rest) a b c (subst (λ r. Left text r a b) (sym (take-append-drop n rest)) l) p

@@ -10,4 +10,4 @@ mod writing;
 
 pub use report::print_report;
 pub use trace::print_trace;
-pub use writing::write_all;
+pub use writing::{write_all, write_out};

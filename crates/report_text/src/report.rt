@@ -108,13 +108,7 @@ fn print_reply<O: Sink>(out: &mut O, number: u64, reply: &Reply) -> Result<(), F
     }
 }
 
-/// Writes the report of these replies, those of the ops of a script in order: the line
-/// `dix report 1`, and then the lines of each op, whose number counts from 1. Of a `Bad` reply
-/// each block has a line of its own with its place in the request, from 0, and why it failed.
-///
-/// `Failed` comes only where the sink's count of faults rose; then a prefix of the report was
-/// written. It takes no memory.
-pub fn print_report<O: Sink>(out: &mut O, replies: &[Reply]) -> Result<(), Failed>
+fn write_report<O: Sink>(out: &mut O, replies: &[Reply]) -> Result<(), Failed>
     ensures whole { OnOk result (Appended (report replies.now) (O.taken out.old) (O.taken out.new)) }
     ensures part { OnErr result (AppendedSome (report replies.now) (O.taken out.old) (O.taken out.new)) }
     ensures cause { OnErr result (Rose (O.faults out.old) (O.faults out.new)) }
@@ -125,4 +119,21 @@ pub fn print_report<O: Sink>(out: &mut O, replies: &[Reply]) -> Result<(), Faile
         print_reply(out, i as u64 + 1, reply)?;
     }
     Ok(())
+}
+
+/// Writes the report of these replies, those of the ops of a script in order: the line
+/// `dix report 1`, and then the lines of each op, whose number counts from 1. Of a `Bad` reply
+/// each block has a line of its own with its place in the request, from 0, and why it failed. The
+/// sink passes on all that it holds.
+///
+/// `Failed` comes only where the sink's count of faults rose; then a prefix of the report was
+/// written. It takes no memory.
+pub fn print_report<O: Sink>(out: &mut O, replies: &[Reply]) -> Result<(), Failed>
+    ensures whole { OnOk result (Appended (report replies.now) (O.taken out.old) (O.taken out.new)) }
+    ensures part { OnErr result (AppendedSome (report replies.now) (O.taken out.old) (O.taken out.new)) }
+    ensures cause { OnErr result (Rose (O.faults out.old) (O.faults out.new)) }
+    ensures count { O.faults out.old ≤ O.faults out.new }
+{
+    write_report(out, replies)?;
+    out.flush()
 }

@@ -48,13 +48,7 @@ pub(crate) fn print_record<O: Sink>(out: &mut O, what: &Record) -> Result<(), Fa
     write_all(out, end_of(what.outcome).as_slice())
 }
 
-/// Writes the trace of a rig's records from number `from` on, counted from 0: a line for each
-/// exchange with the device, the command descriptor block, the number of blocks that were done,
-/// and the bytes of the sense data or `-`. There are at least `from` records.
-///
-/// `Failed` comes only where the sink's count of faults rose; then a prefix of the trace was
-/// written. It takes no memory.
-pub fn print_trace<O: Sink, R: Rig>(out: &mut O, rig: &R, from: u32) -> Result<(), Failed>
+fn write_trace<O: Sink, R: Rig>(out: &mut O, rig: &R, from: u32) -> Result<(), Failed>
     requires { from ≤ length (R.log rig.now) }
     ensures whole { OnOk result (Appended (trace (drop from (R.log rig.now))) (O.taken out.old) (O.taken out.new)) }
     ensures part { OnErr result (AppendedSome (trace (drop from (R.log rig.now))) (O.taken out.old) (O.taken out.new)) }
@@ -65,4 +59,22 @@ pub fn print_trace<O: Sink, R: Rig>(out: &mut O, rig: &R, from: u32) -> Result<(
         print_record(out, rig.logged(i))?;
     }
     Ok(())
+}
+
+/// Writes the trace of a rig's records from number `from` on, counted from 0: a line for each
+/// exchange with the device, the command descriptor block, the number of blocks that were done,
+/// and the bytes of the sense data or `-`. There are at least `from` records. The sink passes on all
+/// that it holds.
+///
+/// `Failed` comes only where the sink's count of faults rose; then a prefix of the trace was
+/// written. It takes no memory.
+pub fn print_trace<O: Sink, R: Rig>(out: &mut O, rig: &R, from: u32) -> Result<(), Failed>
+    requires { from ≤ length (R.log rig.now) }
+    ensures whole { OnOk result (Appended (trace (drop from (R.log rig.now))) (O.taken out.old) (O.taken out.new)) }
+    ensures part { OnErr result (AppendedSome (trace (drop from (R.log rig.now))) (O.taken out.old) (O.taken out.new)) }
+    ensures cause { OnErr result (Rose (O.faults out.old) (O.faults out.new)) }
+    ensures count { O.faults out.old ≤ O.faults out.new }
+{
+    write_trace(out, rig, from)?;
+    out.flush()
 }

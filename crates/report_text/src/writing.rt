@@ -7,7 +7,7 @@ ghost use Rattle.dix_base.specs.Told.{Appended, AppendedSome, Rose};
 use crate::line::{Line, add_hex};
 use dix_base::{Failed, Sink};
 
-/// Writes the whole text, or a prefix of it where the sink fails.
+/// Gives the sink the whole text, or a prefix of it where the sink fails.
 pub fn write_all<O: Sink>(out: &mut O, text: &[u8]) -> Result<(), Failed>
     ensures whole { OnOk result (Appended text.now (O.taken out.old) (O.taken out.new)) }
     ensures part { OnErr result (AppendedSome text.now (O.taken out.old) (O.taken out.new)) }
@@ -24,6 +24,18 @@ pub fn write_all<O: Sink>(out: &mut O, text: &[u8]) -> Result<(), Failed>
         rest = more;
     }
     Ok(())
+}
+
+/// Writes the whole text, or a prefix of it where the sink fails. The sink passes on all that it
+/// holds.
+pub fn write_out<O: Sink>(out: &mut O, text: &[u8]) -> Result<(), Failed>
+    ensures whole { OnOk result (Appended text.now (O.taken out.old) (O.taken out.new)) }
+    ensures part { OnErr result (AppendedSome text.now (O.taken out.old) (O.taken out.new)) }
+    ensures cause { OnErr result (Rose (O.faults out.old) (O.faults out.new)) }
+    ensures count { O.faults out.old ≤ O.faults out.new }
+{
+    write_all(out, text)?;
+    out.flush()
 }
 
 /// Writes the bytes as hexadecimal digits in lower case.

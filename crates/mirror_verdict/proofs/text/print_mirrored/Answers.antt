@@ -11,9 +11,9 @@ returns-in_err-print_report-clause-part g c =
 pub returns-clause-whole : goal.returns-clause-whole
 returns-clause-whole g c =
     let run = c.args.run.now in
-    then_ok c.write_all.result (appended_both (report run.mirror.replies.items) (repair_line run.repair.repaired run.repair.lost) _ _ _ (rw c.replies.ensures at c.in_ok-print_report.ensures.whole)) (rw (c.as_slice.ensures.value, c.repair_line.ensures) at c.write_all.ensures.whole)
+    then_ok c.write_out.result (appended_both (report run.mirror.replies.items) (repair_line run.repair.repaired run.repair.lost) _ _ _ (rw c.replies.ensures at c.in_ok-print_report.ensures.whole)) (rw (c.as_slice.ensures.value, c.repair_line.ensures) at c.write_out.ensures.whole)
 
 pub returns-clause-part : goal.returns-clause-part
 returns-clause-part g c =
     let run = c.args.run.now in
-    then_err c.write_all.result (part_second (report run.mirror.replies.items) (repair_line run.repair.repaired run.repair.lost) _ _ _ (rw c.replies.ensures at c.in_ok-print_report.ensures.whole)) (rw (c.as_slice.ensures.value, c.repair_line.ensures) at c.write_all.ensures.part)
+    then_err c.write_out.result (part_second (report run.mirror.replies.items) (repair_line run.repair.repaired run.repair.lost) _ _ _ (rw c.replies.ensures at c.in_ok-print_report.ensures.whole)) (rw (c.as_slice.ensures.value, c.repair_line.ensures) at c.write_out.ensures.part)

@@ -1,7 +1,7 @@
 use Rattle.std.proofs.Common.{◌≤◌, drop}
 use Rattle.report_text.specs.Trace.{trace}
 use Rattle.report_text.proofs.Flow.{Left}
-use Rattle.report_text.proofs.trace.print_trace.Given as goal
+use Rattle.report_text.proofs.trace.write_trace.Given as goal
 
 abbrev pub invariant-loop-i : goal.invariant-loop-i
 invariant-loop-i g l = record {

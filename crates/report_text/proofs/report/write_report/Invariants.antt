@@ -1,7 +1,7 @@
 use Rattle.std.proofs.Common.{◌≤◌, ◌+◌, drop}
 use Rattle.report_text.specs.Report.{lines_from, report}
 use Rattle.report_text.proofs.Flow.{Left}
-use Rattle.report_text.proofs.report.print_report.Given as goal
+use Rattle.report_text.proofs.report.write_report.Given as goal
 
 abbrev pub invariant-loop-i : goal.invariant-loop-i
 invariant-loop-i g l = record {
