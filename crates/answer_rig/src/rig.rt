@@ -140,6 +140,8 @@ impl Rig for AnswerRig {
 
     ghost ready = { λ s. ready_of s.devices s.open };
 
+    ghost octets = { λ s. tt };
+
     ghost few = { λ s. few_of s.what s.labels.items s.moved.items };
 
     ghost keyed = { λ s. keyed_of s.what s.labels.items s.moved.items s.logged };

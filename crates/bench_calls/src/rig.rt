@@ -60,6 +60,8 @@ impl Rig for PlainRig {
 
     ghost ready = { λ s. ready_of s.devices s.open };
 
+    ghost octets = { λ s. tt };
+
     ghost few = { λ s. few_of s.log.labels.items s.log.moved.items s.log.kept.items s.log.free s.log.bound };
 
     ghost keyed = { λ s. keyed_of s.log.labels.items s.log.moved.items s.log.kept.items s.log.keyed };

@@ -1,2 +1,3 @@
 mod Over
 mod Cut
+mod Octets

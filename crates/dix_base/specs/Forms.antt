@@ -1,4 +1,4 @@
-use Rattle.std.specs.Prelude.{ℕ, ◌≡◌, ◌<◌, length, ◌+◌, ◌-◌, ◌^◌, ◌/◌, min, List, Contains, Bool}
+use Rattle.std.specs.Prelude.{ℕ, ◌≡◌, ◌<◌, length, ◌+◌, ◌-◌, ◌^◌, ◌/◌, min, List, All, Contains, Bool}
 
 -- one more, unless at the last value
 abbrev pub one_more : ℕ → ℕ
@@ -40,12 +40,14 @@ pub record Intake : Type 0 where
 -- a store in memory that never fails
 pub record Kept : Type 0 where
   pub bytes : List ℕ
+  pub octets : All (λ x. x < 256) bytes
   pub openings : ℕ
   pub handed : List ℕ
 
 -- a store in memory that fails at the calls of a list
 pub record Stock : Type 0 where
   pub bytes : List ℕ
+  pub octets : All (λ x. x < 256) bytes
   pub openings : ℕ
   pub handed : List ℕ
   pub turns : Turns

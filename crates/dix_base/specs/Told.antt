@@ -1,4 +1,4 @@
-use Rattle.std.specs.Prelude.{ℕ, ◌≡◌, ◌+◌, ◌^◌, ◌<◌, ◌≤◌, ◌⊎◌, List, [], ◌++◌, length, take, drop, Option, Some, None}
+use Rattle.std.specs.Prelude.{ℕ, ◌≡◌, ◌+◌, ◌^◌, ◌<◌, ◌≤◌, ◌⊎◌, List, [], ◌++◌, length, take, drop, All, Option, Some, None}
 
 -- A count of faults rose, or stands at its last value.
 abbrev pub Rose : ℕ → ℕ → Type 0
@@ -31,6 +31,11 @@ Begins old new = take (length old) new ≡ old
 abbrev pub HasLength : ℕ → Option (List ℕ) → Type 0
 HasLength n None = Unit {0}
 HasLength n (Some xs) = n ≡ length xs
+
+-- Each byte that is told is below 256.
+abbrev pub AreOctets : Option (List ℕ) → Type 0
+AreOctets None = Unit {0}
+AreOctets (Some xs) = All (λ x. x < 256) xs
 
 -- These are the n bytes from that place on, where told.
 abbrev pub IsRead : ℕ → ℕ → List ℕ → Option (List ℕ) → Type 0

@@ -1,6 +1,6 @@
 //! A store in memory that never fails.
 
-ghost use Rattle.std.specs.Prelude.{◌≡◌, ◌+◌, ◌-◌, ◌^◌, min, ◌≤◌, ◌++◌, [], drop, length, take, Some, refl, IfOk, IsErrOf, IsOk, OnOk, string_bytes};
+ghost use Rattle.std.specs.Prelude.{◌≡◌, ◌+◌, ◌-◌, ◌^◌, min, ◌≤◌, ◌++◌, ◌<◌, [], All, drop, length, take, Some, refl, IfOk, IsErrOf, IsOk, OnOk, string_bytes};
 ghost use Rattle.dix_base.specs.Told.{Apart, Begins, over};
 
 use crate::fault_plan::raise;
@@ -8,10 +8,17 @@ use crate::{Failed, Store, StoreFault};
 use std::alloc::Global;
 use std::marker::Model;
 
+/// Bytes, each of them below 256.
+#[derive(Drop)]
+struct Octets {
+    bytes: Vec<u8>,
+    ghost below: { All (λ x. x < 256) bytes.items },
+}
+
 /// A store that holds one content under every name, and never fails.
 #[derive(Drop)]
 pub struct CalmStore {
-    held: Vec<u8>,
+    held: Octets,
     name: String,
     opened: u64,
 }
@@ -22,7 +29,7 @@ impl Model for CalmStore {
 
     ghost Value = { Kept };
 
-    ghost view = { λ s. record { bytes = s.held.items; openings = s.opened; handed = string_bytes s.name } };
+    ghost view = { λ s. record { bytes = s.held.bytes.items; octets = s.held.below; openings = s.opened; handed = string_bytes s.name } };
 }
 
 /// Writes the piece over what is there.
@@ -42,7 +49,7 @@ impl CalmStore {
     {
         CalmStore {
             name: String::new(*bytes.allocator()),
-            held: bytes,
+            held: Octets { bytes },
             opened: 0,
         }
     }
@@ -51,7 +58,7 @@ impl CalmStore {
     pub fn bytes(&self) -> &[u8]
         ensures { result.now ≡ self.now.bytes }
     {
-        self.held.as_slice()
+        self.held.bytes.as_slice()
     }
 }
 
@@ -68,6 +75,8 @@ impl Store for CalmStore {
 
     ghost told = { λ s. refl };
 
+    ghost octets = { λ s. s.octets };
+
     /// Keeps the name, and answers the length in bytes.
     fn open(&mut self, name: String) -> Result<u64, Failed>
         ensures length { IfOk result (λ n. n ≡ length self.new.bytes) }
@@ -79,7 +88,7 @@ impl Store for CalmStore {
     {
         self.name = name;
         raise(&mut self.opened);
-        Ok(self.held.len() as u64)
+        Ok(self.held.bytes.len() as u64)
     }
 
     /// Keeps the name, and drops all bytes.
@@ -93,7 +102,7 @@ impl Store for CalmStore {
     {
         self.name = name;
         raise(&mut self.opened);
-        self.held.clear();
+        self.held.bytes.clear();
         Ok(())
     }
 
@@ -109,7 +118,7 @@ impl Store for CalmStore {
         ensures calm { IsOk result }
     {
         let at = at as usize;
-        into.copy_from_slice(&self.held[at..at + into.len()]);
+        into.copy_from_slice(&self.held.bytes[at..at + into.len()]);
         Ok(())
     }
 
@@ -124,7 +133,7 @@ impl Store for CalmStore {
 
         ensures calm { IsOk result }
     {
-        overwrite(&mut self.held, at as usize, piece);
+        overwrite(&mut self.held.bytes, at as usize, piece);
         Ok(())
     }
 
@@ -139,7 +148,7 @@ impl Store for CalmStore {
         ensures named { self.new.handed ≡ self.old.handed }
         ensures opened { self.new.openings ≡ self.old.openings }
     {
-        match self.held.extend_from_slice(piece) {
+        match self.held.bytes.extend_from_slice(piece) {
             Ok(()) => Ok(()),
             Err(_) => Err(StoreFault::Memory),
         }

@@ -103,6 +103,8 @@ impl Store for FileStore {
 
     ghost told = { λ s. tt };
 
+    ghost octets = { λ s. tt };
+
     /// Closes the file that was open, and opens the one of this name for reading and writing, or
     /// for reading alone where it may not be written: then each write fails. A file that isn't there
     /// is a failure; then no file is open, and the length is 0.

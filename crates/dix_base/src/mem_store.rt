@@ -23,7 +23,7 @@ impl Model for MemStore {
 
     ghost Value = { Stock };
 
-    ghost view = { λ s. record { bytes = s.calm.bytes; openings = s.calm.openings; handed = s.calm.handed; turns = s.plan } };
+    ghost view = { λ s. record { bytes = s.calm.bytes; octets = s.calm.octets; openings = s.calm.openings; handed = s.calm.handed; turns = s.plan } };
 }
 
 impl MemStore {
@@ -60,6 +60,8 @@ impl Store for MemStore {
     ghost handed = { λ s. s.handed };
 
     ghost told = { λ s. refl };
+
+    ghost octets = { λ s. s.octets };
 
     /// Keeps the name, and answers the length in bytes. It never fails.
     fn open(&mut self, name: String) -> Result<u64, Failed>

@@ -1,7 +1,7 @@
 //! Where bytes stay.
 
 ghost use Rattle.std.specs.Prelude.{◌≡◌, ◌+◌, ◌-◌, ◌^◌, min, ◌≤◌, ◌++◌, ℕ, List, [], length, Option, is_some, IfOk, IsErrOf, OnOk, OnErr, string_bytes};
-ghost use Rattle.dix_base.specs.Told.{Apart, Becomes, Begins, HasLength, IsRead, Rose, over};
+ghost use Rattle.dix_base.specs.Told.{Apart, AreOctets, Becomes, Begins, HasLength, IsRead, Rose, over};
 
 use crate::{Failed, StoreFault};
 use std::alloc::Global;
@@ -86,4 +86,7 @@ pub trait Store {
 
     /// Where it tells its bytes, their number is its length.
     ghost told: { (s : Self) → HasLength (len s) (bytes s) };
+
+    /// Where it tells its bytes, each is below 256.
+    ghost octets: { (s : Self) → AreOctets (bytes s) };
 }

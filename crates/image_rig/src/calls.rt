@@ -71,6 +71,8 @@ impl<S: Store> Rig for ImageRig<S> {
 
     ghost ready = { λ s. ready_of (length s.units.items) (head_in s.head) (S.handed s.store) (S.openings s.store) (S.bytes s.store) s.units.items s.right s.devices s.told refl };
 
+    ghost octets = { λ s. S.octets s.store };
+
     ghost few = { λ s. few_of s.log.labels.items s.log.moved.items s.log.kept.items s.log.free s.log.bound };
 
     ghost keyed = { λ s. keyed_of s.log.labels.items s.log.moved.items s.log.kept.items s.log.keyed };

@@ -1,7 +1,7 @@
 //! The trait, and what its calls speak of.
 
 ghost use Rattle.std.specs.Prelude.{◌≡◌, ◌⊎◌, ◌+◌, ◌^◌, ◌<◌, ◌≤◌, ◌++◌, [], ◌∷◌, ℕ, List, length, is_some, true, false, Option, OnOk, OnErr, IfOk, IsOk, IsErrOf, Some, None};
-ghost use Rattle.dix_base.specs.Told.{Becomes, Calm, Rose};
+ghost use Rattle.dix_base.specs.Told.{AreOctets, Becomes, Calm, Rose};
 ghost use Rattle.fault_schedule.specs.declared.fault.FaultLine.{FaultLine};
 ghost use Rattle.rig_api.specs.Head.{HasJudged, IsFaultOf, fault_name, units_of, version_in};
 ghost use Rattle.rig_api.specs.Log.{Entry, HasRoom, IsMedium, Room, capacity_len, entry_at, entry_of, has_key, have_keys, labels_len, moved_len};
@@ -268,6 +268,9 @@ pub trait Rig {
 
     /// Devices stand on a right head, which is the image's where that is told.
     ghost ready: { (s : Self) → IsStanding (standing s) (image s) };
+
+    /// Where the image is told, each of its bytes is below 256, and so is each of the stored blocks, which are found in it.
+    ghost octets: { (s : Self) → AreOctets (image s) };
 
     /// The records and their spare room together never pass 4,294,967,295.
     ghost few: { (s : Self) → length (log s) + (room s).records < 2 ^ 32 };

@@ -69,6 +69,8 @@ impl<R: Rig> Rig for ScriptedRig<R> {
 
     ghost ready = { λ s. untold_stands (R.standing s.inner) (R.image s.inner) (R.ready s.inner) };
 
+    ghost octets = { λ s. tt };
+
     ghost few = { λ s. few_of s.log.labels.items s.log.moved.items s.log.kept.items s.log.free s.log.bound };
 
     ghost keyed = { λ s. keyed_of s.log.labels.items s.log.moved.items s.log.kept.items s.log.keyed };
