@@ -86,10 +86,8 @@ int main(int count, char **words) {
         for (int way = 0; way < WAYS; way++)
             times[way * rounds + round] = measured(way) / TIMES / BLOCKS * 1e9;
     double figure[WAYS];
-    for (int way = 0; way < WAYS; way++) {
-        qsort(times + way * rounds, (size_t)rounds, sizeof *times, by_size);
-        figure[way] = times[way * rounds + rounds / 10];
-    }
+    for (int way = 0; way < WAYS; way++)
+        figure[way] = short_time(times + way * rounds, rounds);
     double crc = figure[6], ip = figure[7], copy = figure[8];
     printf("ns a block: crc16 %.1f, ip_sum %.1f, memcpy %.1f\n", crc, ip, copy);
     printf("| | GB/s of data | ns a block | of it the rig | the adapter | its work by itself | work / adapter | work / all |\n|---|---|---|---|---|---|---|---|\n");

@@ -93,8 +93,7 @@ static double figure(const double *rates, int rounds) {
     if (!sorted)
         exit(1);
     memcpy(sorted, rates, sizeof *sorted * (size_t)rounds);
-    qsort(sorted, (size_t)rounds, sizeof *sorted, by_size);
-    double rate = sorted[rounds - 1 - rounds / 10];
+    double rate = high_rate(sorted, rounds);
     free(sorted);
     return rate;
 }
@@ -107,8 +106,7 @@ static double paired(const double *of, const double *by, int rounds) {
         exit(1);
     for (int round = 0; round < rounds; round++)
         ratios[round] = of[round] / by[round];
-    qsort(ratios, (size_t)rounds, sizeof *ratios, by_size);
-    double middle = ratios[rounds / 2];
+    double middle = median(ratios, rounds);
     free(ratios);
     return middle;
 }

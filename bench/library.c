@@ -162,11 +162,6 @@ static const struct {
 enum { CALLED = sizeof CALLS / sizeof *CALLS };
 static const struct dixpi_layout LAYOUTS[] = {{512, 8, 0, 1, DIXPI_CRC}, {4096, 8, 0, 1, DIXPI_CRC}};
 
-static double middle(double *figures, int count) {
-    qsort(figures, (size_t)count, sizeof *figures, by_size);
-    return figures[count / 2];
-}
-
 /* Seconds of one call; at least 4 MiB are passed over. A call that isn't counted comes first. */
 static double seconds(way *it, uint8_t *b, size_t len, const struct dixpi_layout *l, int is_slow) {
     int times = is_slow || len > 4 * MIB ? 1 : (int)(4 * MIB / len);
@@ -202,10 +197,10 @@ static void measured(int call, const struct dixpi_layout *l, uint8_t *blocks, si
     for (int w = 1; w < ways; w++) {
         for (int round = 0; round < rounds; round++)
             ratios[round] = taken[w][round] / taken[0][round];
-        snprintf(by + strlen(by), sizeof by - strlen(by), " %.2f of %s;", middle(ratios, rounds), CALLS[call].names[w]);
+        snprintf(by + strlen(by), sizeof by - strlen(by), " %.2f of %s;", median(ratios, rounds), CALLS[call].names[w]);
     }
     for (int w = 0; w < ways; w++) {
-        double second = middle(taken[w], rounds);
+        double second = median(taken[w], rounds);
         printf(" %s %.2f GB/s, %.1f ns a block |", CALLS[call].names[w], (double)len / second / 1e9,
                second / (double)count * 1e9);
         free(taken[w]);

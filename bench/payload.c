@@ -59,10 +59,8 @@ int main(int count, char **words) {
             rates[way * rounds + round] = (double)MIB * TIMES / seconds / 1e9;
         }
     double figure[WAYS];
-    for (int way = 0; way < WAYS; way++) {
-        qsort(rates + way * rounds, (size_t)rounds, sizeof *rates, by_size);
-        figure[way] = rates[way * rounds + rounds - 1 - rounds / 10];
-    }
+    for (int way = 0; way < WAYS; way++)
+        figure[way] = high_rate(rates + way * rounds, rounds);
     printf("| GB/s of data | generate | the guard alone | ratio |\n|---|---|---|---|\n");
     printf("| CRC | %.2f | %.2f | %.2f |\n", figure[0], figure[1], figure[0] / figure[1]);
     printf("| Internet checksum | %.2f | %.2f | %.2f |\n", figure[2], figure[3], figure[2] / figure[3]);

@@ -85,11 +85,8 @@ int main(int count, char **words) {
     printf("| | smaller, ms | twice as many, ms | ratio |\n|---|---|---|---|\n");
     for (int way = 0; way < WAYS; way++) {
         double figure[2];
-        for (int big = 0; big < 2; big++) {
-            double *these = times + (2 * way + big) * rounds;
-            qsort(these, (size_t)rounds, sizeof *these, by_size);
-            figure[big] = these[rounds / 2];
-        }
+        for (int big = 0; big < 2; big++)
+            figure[big] = median(times + (2 * way + big) * rounds, rounds);
         printf("| %s | %.4f | %.4f | %.2f |\n", names[way], figure[0] * 1e3, figure[1] * 1e3, figure[1] / figure[0]);
     }
     return 0;

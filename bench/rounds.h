@@ -1,4 +1,5 @@
-/* What the programs that measure share: the clock, and the order of figures for qsort. */
+/* What the programs that measure share: the clocks, and the figure that many rounds come to. */
+#include <stdlib.h>
 #include <time.h>
 
 static inline double now(void) {
@@ -18,3 +19,16 @@ static inline int by_size(const void *a, const void *b) {
     double x = *(const double *)a, y = *(const double *)b;
     return (x > y) - (x < y);
 }
+
+/* The figure at this place, from 0, of those of so many rounds, which are put in order. */
+static inline double ranked(double *figures, int rounds, int place) {
+    qsort(figures, (size_t)rounds, sizeof *figures, by_size);
+    return figures[place];
+}
+
+static inline double median(double *figures, int rounds) { return ranked(figures, rounds, rounds / 2); }
+
+/* Of times, what a tenth of the rounds stay below; of rates, what a tenth surpass. */
+static inline double short_time(double *times, int rounds) { return ranked(times, rounds, rounds / 10); }
+
+static inline double high_rate(double *rates, int rounds) { return ranked(rates, rounds, rounds - 1 - rounds / 10); }

@@ -89,13 +89,6 @@ static struct text schedule(int entries) {
 
 static volatile uint64_t sink;
 
-/* The processor time of this thread. */
-static double spent(void) {
-    struct timespec t;
-    clock_gettime(CLOCK_THREAD_CPUTIME_ID, &t);
-    return t.tv_sec + t.tv_nsec * 1e-9;
-}
-
 static double read_once(struct text t) {
     double start = spent();
     uint32_t line = bench_read(t.bytes, t.len);
@@ -133,11 +126,6 @@ static double guard(struct text t) {
     return (spent() - start) / 8;
 }
 
-static double quantile(double *xs, int rounds, int place) {
-    qsort(xs, (size_t)rounds, sizeof *xs, by_size);
-    return xs[place];
-}
-
 int main(int count, char **words) {
     int rounds = count > 1 ? atoi(words[1]) : ROUNDS;
     if (rounds < 1)
@@ -169,7 +157,7 @@ int main(int count, char **words) {
     printf("| | bytes | half, ms | whole, ms | ratio | MB/s |\n|---|---|---|---|---|---|\n");
     double lists_time = 0, single_time = 0;
     for (int way = 0; way < 7; way++) {
-        double a = quantile(small[way], rounds, rounds / 10), b = quantile(large[way], rounds, rounds / 10), r = quantile(ratio[way], rounds, rounds / 2);
+        double a = short_time(small[way], rounds), b = short_time(large[way], rounds), r = median(ratio[way], rounds);
         size_t bytes = way < 4 ? whole[way].len : way == 6 ? whole[0].len : way == 5 ? bench_print(1024, 0) : 0;
         if (bytes)
             printf("| %s | %zu | %.3f | %.3f | %.2f | %.0f |\n", name[way], bytes, a * 1e3, b * 1e3, r, (double)bytes / b / 1e6);

@@ -90,8 +90,7 @@ static void measure(struct way *ways, int count, int rounds, double *figure) {
                 times[way * rounds + round] = time;
         }
     for (int way = 0; way < count; way++) {
-        qsort(times + way * rounds, (size_t)rounds, sizeof *times, by_size);
-        figure[way] = times[way * rounds + rounds / 2];
+        figure[way] = median(times + way * rounds, rounds);
         once(ways[way], &sent);
         printf("| %s | %u | %.2f |\n", ways[way].name, sent, figure[way] * 1e3);
     }

@@ -71,10 +71,8 @@ int main(int count, char **words) {
             rates[way * rounds + round] = (double)BLOCKS * DATA * TIMES / seconds / 1e9;
         }
     double figure[WAYS];
-    for (int way = 0; way < WAYS; way++) {
-        qsort(rates + way * rounds, (size_t)rounds, sizeof *rates, by_size);
-        figure[way] = rates[way * rounds + rounds - 1 - rounds / 10];
-    }
+    for (int way = 0; way < WAYS; way++)
+        figure[way] = high_rate(rates + way * rounds, rounds);
     double goal = 1 / (1 / figure[2] + 2 / figure[3]);
     printf("| GB/s of data | serve | crc16 | memcpy | guard and two copies | ratio |\n|---|---|---|---|---|---|\n");
     printf("| WRITE | %.2f | %.2f | %.2f | %.2f | %.2f |\n", figure[0], figure[2], figure[3], goal, figure[0] / goal);

@@ -1,14 +1,7 @@
-#!/bin/sh
-# Measures scripts on a mirror of 1,024 blocks, with its repair, beside the same ops in a run on one leg, by processor time:
-# bench/run_mirror [ROUNDS]. Builds dix first where it must; DIX names another program.
-set -e
-cd "$(dirname "$0")/.."
+# Measures scripts on a mirror of 1,024 blocks, with its repair, which reads both legs, beside the same script in a run on
+# one leg, and beside such a run on each leg. Times are those of the processor.
+. bench/files.sh
 rounds=${1:-40}
-work=$(mktemp -d)
-trap 'rm -rf "$work"' EXIT
-image="$work/image"
-dix=${DIX:-crates/dix_cli/out/dix_cli}
-[ -n "$DIX" ] || ./run-dix modes 1 >/dev/null
 
 # A script that writes 1,024 blocks in so many requests and then reads them, with this limit on blocks, over so many legs.
 script() {
@@ -31,24 +24,17 @@ script() {
             }
     }'
 }
-# The processor time of a call, in microseconds: of so many, that which each took on the average.
-spent() {
-    (
-        for i in $(seq "$rounds"); do "$dix" "$1" "$image" <"$2" >/dev/null; done
-        times
-    ) | tail -1 | awk -v n="$rounds" '{
-        for (i = 1; i <= 2; i++) { split($i, t, /[ms]/); all += t[1] * 60 + t[2] }
-        printf "%d", all * 1000000 / n
-    }'
-}
-"$dix" format "$image" 1:1024 1:1024 >/dev/null
-lscpu | grep 'Model name'
+call() { "$DIX" "$1" "$image" <"$2"; }
+"$DIX" format "$image" 1:1024 1:1024 >/dev/null
+echo '| Limit | Requests each way | `run`, ms | `mirror`, ms | Ratio | To a run on each leg |'
+echo '|---|---|---|---|---|---|'
 for limit in 16 64 256 1024; do
     for requests in 1 8 64 512; do
         script $requests $limit 1 >"$work/plain"
         script $requests $limit 2 >"$work/mirror"
-        plain=$(spent run "$work/plain")
-        mirror=$(spent mirror "$work/mirror")
-        echo "limit $limit, $requests requests a way: run $plain us, mirror $mirror us, ratio $(echo "$mirror $plain" | awk '{ printf "%.2f", $1 / $2 }')"
+        plain=$(spent "$rounds" call run "$work/plain")
+        mirror=$(spent "$rounds" call mirror "$work/mirror")
+        awk -v limit=$limit -v requests=$requests -v a="$plain" -v b="$mirror" \
+            'BEGIN { printf "| %d | %d | %.1f | %.1f | %.2f | %.2f |\n", limit, requests, a / 1000, b / 1000, b / a, b / a / 2 }'
     done
 done
