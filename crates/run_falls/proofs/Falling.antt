@@ -6,13 +6,14 @@ use Rattle.bio_core.specs.Bios.{Block}
 use Rattle.bio_core.specs.declared.fate.Why.{Why}
 use Rattle.stack_ops.specs.declared.op.Op.{Op}
 use Rattle.block_path.specs.Blocks.{Sent, Site}
-use Rattle.run_record.specs.Records.{find, is_labelled, stamped}
+use Rattle.run_record.specs.Records.{find, is_labelled, is_out, put_frame, stamped, writes_at}
 use Rattle.dix_adapter.specs.Groups.{label_of}
 use Rattle.carried_record.specs.OnRecord.{put_each}
 use Rattle.run_follows.specs.Sending.{IsElsewhere, is_carried}
 use Rattle.run_follows.specs.Slots.{Cut, Status}
 use Rattle.target_answer.specs.Target.{Stop}
-use Rattle.run_falls.specs.Falls.{Falls, forgive, forgiven, left_of, put_really, really, writes_of}
+use Rattle.block_path.specs.Routes.{Device}
+use Rattle.run_falls.specs.Falls.{Falls, forgive, forgiven, left_of, none_falls, put_really, really, writes_of}
 use Rattle.run_falls.specs.FollowsFalling.{LeavesSized}
 use Rattle.run_falls.proofs.Forgiving.{AreFresh}
 
@@ -172,6 +173,24 @@ put_all s other falls (b ∷ bs) [] told es = refl
 put_all s other falls (b ∷ bs) (c ∷ cames) told es =
     put_all s other falls bs cames (told ++ (stamped other told (label_of b) b.dir b.dev b.lba c ∷ [])) es
     ∙ ap (put_each s bs (all_really falls bs cames)) (put_more s falls told (stamped other told (label_of b) b.dir b.dev b.lba c) es)
+
+-- each entry there stands after the write entries before it
+
+writes_still : (s : Site) (d : Device) (c : ℕ) (es : List Sent) → writes_at (record s { device = d }) c es ≡ writes_at s c es
+writes_still s d c [] = refl
+writes_still s d c (e ∷ es) = ap (put_frame (is_out e.dir && eqb (s.cell e.dev e.lba) c) e.came) (writes_still s d c es)
+
+put_still : (s : Site) (d : Device) (bs : List Block) (cames : List (Result (List ℕ) Why)) (es : List Sent) → put_each (record s { device = d }) bs cames es ≡ put_each s bs (all_really none_falls bs cames) es
+put_still s d [] cames es = refl
+put_still s d (b ∷ bs) [] es = refl
+put_still s d (b ∷ bs) (c ∷ cames) es =
+    ap (λ ws. put_each (record s { device = d }) bs cames (es ++ (record { label = label_of b; dir = b.dir; dev = b.dev; lba = b.lba; came = c; after = length {A = List ℕ} ws } ∷ []))) (writes_still s d (s.cell b.dev b.lba) es)
+    ∙ put_still s d bs cames (es ++ (stamped s es (label_of b) b.dir b.dev b.lba c ∷ []))
+
+pub still_stamped : (s : Site) (d : Device) (bs : List Block) (cames : List (Result (List ℕ) Why)) (told : List Sent) → put_really s none_falls told [] ≡ told →
+    put_really s none_falls (put_each (record s { device = d }) bs cames told) [] ≡ put_each (record s { device = d }) bs cames told
+still_stamped s d bs cames told h =
+    put_all s (record s { device = d }) none_falls bs cames told [] ∙ (ap (put_each s bs (all_really none_falls bs cames)) h ∙ sym (put_still s d bs cames told))
 
 -- whose labels fall alike stands there alike
 abbrev AlikeFor : Falls → Falls → List Sent → Type 0

@@ -212,6 +212,7 @@ fallen = record {
   follows = subst (λ st. Follows over 1100 ops first st there.after told) (ap (with_status 1 0 (Carried None)) two_told ∙ forgiven_at ops falls 1 0 (Carried (Some Medium)) (Carried None) two refl) there.follows;
   bytes = refl;
   blocks_are = refl;
+  stamped = refl;
   on_record = refl;
   fallen = all_fallen;
   sized = all_sized;

@@ -11,4 +11,5 @@ mod WalksAlike
 pub mod Ending
 pub mod Served
 pub mod Stepping
+pub mod NoneFell
 mod FallsRows

@@ -34,7 +34,7 @@ use Rattle.run_follows.proofs.Sends.{in_all}
 use Rattle.run_falls.specs.Falls.{Falls, falling, forgiven, left_of, over_falls, put_really}
 use Rattle.run_falls.specs.FollowsFalling.{FollowsFalling, HasFallen}
 use Rattle.run_falls.proofs.Devices.{more_fall}
-use Rattle.run_falls.proofs.Falling.{all_really, alike_by, before_by, carried_none, falls_by, put_all, record_still, sized_by}
+use Rattle.run_falls.proofs.Falling.{all_really, alike_by, before_by, carried_none, falls_by, put_all, record_still, sized_by, still_stamped}
 use Rattle.run_falls.proofs.Forgiving.{are_fresh, still_carried, still_going}
 use Rattle.run_falls.proofs.Inward.{all_come, came_ins, ends_so, fell_by, has_fallen, in_statuses, long_frames, really_in, stopped_is, ways_fall}
 use Rattle.run_falls.proofs.Outward.{if_some}
@@ -111,6 +111,7 @@ module _ (m : Setting) (n : ℕ) (ops : List Op) (a : Adapter) (ios : List Io) (
         follows = subst (λ st. Follows over n ops opening st sent.after (put_each over.site bs walk h.told)) statuses sent.follows;
         bytes = sent.bytes ∙ ap (land_all a ios bs walk) h.bytes ∙ ap (λ cs. land_all a ios bs cs (flat pool)) (sym came) ∙ lands a ios bs frames (ltb o.done (size req)) (why_ended o.sense) (flat pool) ∙ sym r.cells;
         blocks_are = sent.blocks ∙ h.blocks_are;
+        stamped = still_stamped m.site (falling more m.site.device) bs walk h.told h.stamped;
         on_record = put ∙ ap (λ cs. put_each m.site bs cs es) (came ∙ sym (really_in a ios units blocks more bs))
             ∙ ap (put_each m.site bs (all_really more bs walk)) (h.on_record ∙ record_still m.site h.falls stop limit bs h.told (none_stand status (put_really m.site h.falls h.told []) bs cut (subst (NoneBefore status) h.on_record none)))
             ∙ sym (put_all m.site over.site more bs walk h.told []);

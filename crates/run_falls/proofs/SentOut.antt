@@ -36,7 +36,7 @@ use Rattle.run_follows.proofs.Sends.{out_all}
 use Rattle.run_falls.specs.Falls.{Falls, falling, forgiven, left_of, over_falls, put_really}
 use Rattle.run_falls.specs.FollowsFalling.{FollowsFalling, HasFallen}
 use Rattle.run_falls.proofs.Devices.{more_fall}
-use Rattle.run_falls.proofs.Falling.{AllCut, NoneStand, all_really, alike_by, before_by, carried_none, falls_by, none_fall, put_all, record_still, sized_by}
+use Rattle.run_falls.proofs.Falling.{AllCut, NoneStand, all_really, alike_by, before_by, carried_none, falls_by, none_fall, put_all, record_still, sized_by, still_stamped}
 use Rattle.run_falls.proofs.Forgiving.{AllDir, are_fresh, still_carried, still_going}
 use Rattle.run_falls.proofs.Outward.{all_go, blocks_walk, came_ways, ends_so, fell_by, fill_is, frames_are, has_fallen, if_some, out_statuses, plain_ways, real_ways, really_walk, stopped_is, walk_cames, ways_plain}
 use Rattle.run_falls.proofs.OverDevice.{going_over}
@@ -137,6 +137,7 @@ module _ (m : Setting) (n : ℕ) (ops : List Op) (a : Adapter) (ios : List Io) (
             ∙ ap (λ ws. left_at stop limit (cells_out a ios units bs) (plain act (take (length (frames_out ws)) (acts_out a ios units bs)) h.after).blocks) (sym ways)
             ∙ ap (λ ws. left_at stop (length (frames_out ws)) (cells_out a ios units bs) (plain act (take (length (frames_out (stopped_out stop (ways_out a ios cells bs)))) (acts_out a ios units bs)) h.after).blocks) (sym plainly)
             ∙ sym (told.blocks h.after h.bytes h.blocks_are);
+        stamped = still_stamped m.site (falling more m.site.device) bs walk h.told h.stamped;
         on_record = put ∙ ap (λ cs. put_each m.site bs cs es) (came ∙ sym (really_walk a ios units cells more bs))
             ∙ ap (put_each m.site bs (all_really more bs walk)) (h.on_record ∙ record_still m.site h.falls stop limit bs h.told (none_stand status (put_really m.site h.falls h.told []) bs cut (subst (NoneBefore status) h.on_record none)))
             ∙ sym (put_all m.site over.site more bs walk h.told []);

@@ -75,6 +75,7 @@ begins m n ops opening empty = record {
   follows = subst (λ st. Follows (over_falls m none_falls) n ops opening st opening []) (λ x i k. sym (wait_still (left_of ops none_falls i k)) x) (begin_all (over_falls m none_falls) n ops opening empty);
   bytes = refl;
   blocks_are = refl;
+  stamped = refl;
   on_record = refl;
   fallen = λ i k. tt;
   sized = λ label. tt;
@@ -144,6 +145,7 @@ module _ (m : Setting) (n : ℕ) (ops : List Op) (opening : State) (status : ℕ
             (subst (λ st. Follows over n ops opening st (plain act (all_made over n spots) f.after) f.told) (all_told ops f.falls Admitted admitted_still spots status) there);
         bytes = refl;
         blocks_are = refl;
+        stamped = f.stamped;
         on_record = f.on_record;
         fallen = all_fallen m n ops f.falls status Waits Admitted spots may (λ x. x) f.fallen;
         sized = f.sized;
@@ -162,6 +164,7 @@ module _ (m : Setting) (n : ℕ) (ops : List Op) (opening : State) (status : ℕ
             (subst (λ st. Follows over n ops opening st (plain act (all_cut over n spots) f.after) f.told) (all_told ops f.falls Cut cut_still spots status) there);
         bytes = refl;
         blocks_are = refl;
+        stamped = f.stamped;
         on_record = f.on_record;
         fallen = all_fallen m n ops f.falls status Admitted Cut spots may (λ x. x) f.fallen;
         sized = f.sized;
@@ -220,6 +223,7 @@ module _ (m : Setting) (n : ℕ) (s : Spot) (opening : State) (old new : ℕ →
         follows = subst (λ acts. Follows over n (ops_of s) opening (forgiven (ops_of s) f.falls new) (plain act acts f.after) f.told) same there;
         bytes = refl;
         blocks_are = refl;
+        stamped = f.stamped;
         on_record = f.on_record;
         fallen = λ j l. if_some (f.falls (label_at j l)) (HasFallen (new j l)) (λ left q. fell j l (some_if (f.falls (label_at j l)) (HasFallen (old j l)) left q (f.fallen j l)));
         sized = f.sized;
@@ -290,6 +294,7 @@ whole_falling m n front behind op opening old new pages blocks es cells placed m
       follows = subst (λ acts. Follows over n ops opening (forgiven ops f.falls new) (plain act acts f.after) f.told) same there;
       bytes = refl;
       blocks_are = refl;
+      stamped = f.stamped;
       on_record = f.on_record;
       fallen = λ j l. if_some (f.falls (label_at j l)) (HasFallen (new j l)) (λ left q. fell j l (some_if (f.falls (label_at j l)) (HasFallen (old j l)) left q (f.fallen j l)));
       sized = f.sized;
@@ -346,6 +351,7 @@ held_falling m n ops a ios req pool pool' fates opening status blocks es spots g
       follows = subst (λ st. Follows over n ops opening st held.after f.told) (fates_told ops f.falls bs fates status none) held.follows;
       bytes = held.bytes ∙ f.bytes;
       blocks_are = held.blocks ∙ f.blocks_are;
+      stamped = f.stamped;
       on_record = f.on_record;
       fallen = λ i k. if_some (f.falls (label_at i k)) (HasFallen (with_fates bs fates status i k))
           (λ left e. subst HasFallen (sym (fates_other i k bs fates status (none_there f.falls i k left bs e none))) (some_if (f.falls (label_at i k)) (HasFallen (status i k)) left e (f.fallen i k)));

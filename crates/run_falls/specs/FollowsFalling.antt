@@ -8,7 +8,7 @@ use Rattle.block_path.specs.Blocks.{Sent}
 use Rattle.whole_run.specs.Settings.{Setting}
 use Rattle.run_follows.specs.Following.{Follows}
 use Rattle.run_follows.specs.Slots.{Admitted, Carried, Cut, Done, Settled, Status, Waits}
-use Rattle.run_falls.specs.Falls.{Falls, forgiven, over_falls, put_really}
+use Rattle.run_falls.specs.Falls.{Falls, forgiven, none_falls, over_falls, put_really}
 
 -- A stack between two steps follows the walk, over a rig that tells its blocks and whose store calls may have failed.
 
@@ -28,7 +28,7 @@ AllFallen falls status = (i k : ℕ) → IfSome (falls (record { op = i; k = k }
 abbrev pub LeavesSized : (size : ℕ) → Falls → Type 0
 LeavesSized size falls = (label : Label) → IfSome (falls label) (λ left. length left ≡ size)
 
--- Some store calls failed. Over the device on which just these fail the stack follows the walk, with its statuses told so; pages and stored blocks are those there; and what stands on record is told from the record there.
+-- Some store calls failed. Over the device on which just these fail the stack follows the walk, with its statuses told so; pages and stored blocks are those there; and what stands on record is told from the record there, each entry of which stands after the write entries before it.
 pub record FollowsFalling (m : Setting) (n : ℕ) (ops : List Op) (opening : State) (status : ℕ → ℕ → Status) (pages : List ℕ) (blocks : List (List ℕ)) (es : List Sent) : Type 0 where
   pub falls : Falls
   pub after : State
@@ -36,6 +36,7 @@ pub record FollowsFalling (m : Setting) (n : ℕ) (ops : List Op) (opening : Sta
   pub follows : Follows (over_falls m falls) n ops opening (forgiven ops falls status) after told
   pub bytes : after.bytes ≡ pages
   pub blocks_are : after.blocks ≡ blocks
+  pub stamped : put_really m.site none_falls told [] ≡ told
   pub on_record : es ≡ put_really m.site falls told []
   pub fallen : AllFallen falls status
   pub sized : LeavesSized (stored_size m.ty m.size) falls

@@ -18,4 +18,6 @@ pub use steps::{
     a_write_is_held_back_where_calls_fail, an_op_is_done_whole_where_calls_fail,
     some_blocks_move_on_where_calls_fail,
 };
-pub use switch::what_was_not_carried_may_come_to_another_device;
+pub use switch::{
+    a_stack_that_lists_no_medium_follows_the_walk, what_was_not_carried_may_come_to_another_device,
+};

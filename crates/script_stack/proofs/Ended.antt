@@ -2,7 +2,6 @@
 use Rattle.std.proofs.Common.{ℕ, ◌≡◌, ◌+◌, ◌*◌, true, List, [], length, drop, map, Option, Some, None, refl, sym, ap, subst, ◌∙◌}
 use Rattle.std.specs.Prelude.{is_some}
 use Rattle.std.proofs.lemmas.Option.{none-some}
-use Rattle.dix_base.specs.Told.{Calm}
 use Rattle.fault_schedule.specs.declared.fault.FaultLine.{FaultLine}
 use Rattle.target_answer.specs.Image.{units_in}
 use Rattle.target_answer.specs.Target.{Stored}
@@ -20,7 +19,7 @@ use Rattle.script_ground.specs.SuitsStack.{SuitsStack}
 use Rattle.script_ground.specs.Units.{AreStored}
 use Rattle.stack_core.specs.Mediums.{HasCounted, RoseBy, medium_lines}
 use Rattle.stack_core.specs.Stacks.{GoesOn, IsStack, Stays, plan_in}
-use Rattle.stack_core.specs.Walking.{NoneFailed, Walks, WalksTold, WalksFalling}
+use Rattle.stack_core.specs.Walking.{NoneFailed, Walks, WalksFalling}
 use Rattle.stack_core.specs.declared.stack.Stack.{Stack}
 use Rattle.stack_steps.specs.Does.{Holds}
 use Rattle.stack_view.specs.Steps.{enabled}
@@ -41,7 +40,7 @@ BackedLaw = (s : Script) (t : Table) (devices : List DeviceInfo) (first : ℕ) (
 abbrev pub ToldLaw : Type 0
 ToldLaw = (s : Script) (t : Table) (us left : List Stored) (first : ℕ) (r : Stack) (armed : List FaultLine) (st : Standing) (log : List Entry) → SuitsStack s → length s.lines ≡ length s.faults + length s.ops
     → MadeFor t (map info_of (shapes_of us)) s.block → binding_fault s t (map info_of (shapes_of us)) ≡ None → AreStored us → shapes_of left ≡ shapes_of us → IsStack r → r.sheet.ops ≡ s.ops
-    → NoneFailed r.replies.items → WalksTold (setting_of s t (shapes_of us) none_fails) (4096 * s.pages) (begun_of s (shapes_of us) (blocks_told us)) first r (Some left) armed st log
+    → medium_lines r.replies.items ≡ 0 → WalksFalling (setting_of s t (shapes_of us) none_fails) (4096 * s.pages) (begun_of s (shapes_of us) (blocks_told us)) first r (Some left) armed st log
     → ((v : View) → Holds (plan_in r.sheet) r.machine v → enabled (plan_in r.sheet) v ≡ []) → HasWalked s t us left r.pool (drop first log) r.replies.items
 
 -- and where its store calls may fail
@@ -124,7 +123,6 @@ pub record IsTold (s : Script) (t : Table) (devices : List DeviceInfo) (us : Lis
   pub made : MadeFor t (map info_of (shapes_of us)) s.block
   pub bound : binding_fault s t (map info_of (shapes_of us)) ≡ None
   pub stored : AreStored us
-  pub begins : WalksTold (setting_of s t (shapes_of us) none_fails) (4096 * s.pages) (begun_of s (shapes_of us) (blocks_told us)) (length old.log) begun old.units old.armed old.standing old.log
   pub begins_falling : WalksFalling (setting_of s t (shapes_of us) none_fails) (4096 * s.pages) (begun_of s (shapes_of us) (blocks_told us)) (length old.log) begun old.units old.armed old.standing old.log
   pub left : List Stored
   pub left_are : new.units ≡ Some left
@@ -144,21 +142,20 @@ told_at s t devices words begun r image image' old new o us e =
       made = subst (λ ds. MadeFor t ds s.block) infos o.made;
       bound = subst (λ ds. binding_fault s t ds ≡ None) infos o.bound;
       stored = told-stored old.standing image us told o.ready;
-      begins = rw (e, o.armed) (o.told us old.standing old.log known shapes);
       begins_falling = rw (e, o.armed) (o.falling us old.standing old.log known shapes);
       left = after.0;
       left_are = after.1;
       same = shapes' ∙ ap specs_of o.goes.standing ∙ sym shapes;
     }
 
-pub walked_at : (s : Script) (t : Table) (devices : List DeviceInfo) (words : List (ℕ × ℕ)) (begun r : Stack) (image image' : Option (List ℕ)) (old new : Outside) → ToldLaw → (o : IsOver s t devices words begun r image image' old new) → (us : List Stored) → old.units ≡ Some us → Calm old.faults new.faults →
+pub walked_at : (s : Script) (t : Table) (devices : List DeviceInfo) (words : List (ℕ × ℕ)) (begun r : Stack) (image image' : Option (List ℕ)) (old new : Outside) → ToldLaw → (o : IsOver s t devices words begun r image image' old new) → (us : List Stored) → old.units ≡ Some us → medium_lines r.replies.items ≡ 0 →
     (left : List Stored) × ((new.units ≡ Some left) × HasWalked s t us left r.pool o.goes.more r.replies.items)
-walked_at s t devices words begun r image image' old new law o us e calm =
+walked_at s t devices words begun r image image' old new law o us e none =
     let told = told_at s t devices words begun r image image' old new o us e in
-    let ends = o.went.told (setting_of s t (shapes_of us) none_fails) (4096 * s.pages) (begun_of s (shapes_of us) (blocks_told us)) (length old.log) told.begins calm in
-    let ends' : WalksTold (setting_of s t (shapes_of us) none_fails) (4096 * s.pages) (begun_of s (shapes_of us) (blocks_told us)) (length old.log) r (Some told.left) new.armed new.standing new.log = rw told.left_are at ends in
+    let ends = o.went.falling (setting_of s t (shapes_of us) none_fails) (4096 * s.pages) (begun_of s (shapes_of us) (blocks_told us)) (length old.log) told.begins_falling in
+    let ends' : WalksFalling (setting_of s t (shapes_of us) none_fails) (4096 * s.pages) (begun_of s (shapes_of us) (blocks_told us)) (length old.log) r (Some told.left) new.armed new.standing new.log = rw told.left_are at ends in
     let walked : HasWalked s t us told.left r.pool (drop (length old.log) new.log) r.replies.items =
-    law s t us told.left (length old.log) r new.armed new.standing new.log o.suits o.lines told.made told.bound told.stored told.same o.stack o.ops (o.went.silent calm o.silent) ends' o.ended in
+    law s t us told.left (length old.log) r new.armed new.standing new.log o.suits o.lines told.made told.bound told.stored told.same o.stack o.ops none ends' o.ended in
     (told.left, (told.left_are, subst (λ (more : List Entry). HasWalked s t us told.left r.pool more r.replies.items) (rest_is s t devices words begun r image image' old new o) walked))
 
 pub fallen_at : (s : Script) (t : Table) (devices : List DeviceInfo) (words : List (ℕ × ℕ)) (begun r : Stack) (image image' : Option (List ℕ)) (old new : Outside) → FallenLaw → (o : IsOver s t devices words begun r image image' old new) → (us : List Stored) → old.units ≡ Some us → NoneFailed r.replies.items →

@@ -3,7 +3,6 @@ use Rattle.std.specs.Prelude.{◌≡◌, ℕ, zero, suc, ◌*◌, ◌<◌, ◌�
 use Rattle.page_pool.specs.Cells.{flat}
 use Rattle.target_answer.specs.Target.{Stored}
 use Rattle.target_answer.specs.declared.units.UnitSpec.{UnitSpec}
-use Rattle.dix_base.specs.Told.{Calm}
 use Rattle.rig_api.specs.Log.{Entry}
 use Rattle.rig_api.specs.Telling.{Standing, spec_at, specs_of}
 use Rattle.rig_discovery.specs.Discovery.{HasFound, info_of}
@@ -110,7 +109,7 @@ BeginsFalling s t devices r = (us : List Stored) (st : Standing) (log : List Ent
 
 -- ---- at the end
 
--- A script was run over a rig. Its devices were asked first; the records from then on back the replies, and are those that its steps send; lines that name the medium are at most as many as the count of faults rose since then. Where the rig tells its blocks, and its count of faults didn't rise since its devices had answered, the script's ops were done one after another at the target; and whether or not it rose, so they were if no overwrite failed, but for what the store calls that failed left.
+-- A script was run over a rig. Its devices were asked first; the records from then on back the replies, and are those that its steps send; lines that name the medium are at most as many as the count of faults rose since then. Where the rig tells its blocks, and no line names the medium, the script's ops were done one after another at the target; and whatever lines name it, so they were if no overwrite failed, but for what the store calls that failed left.
 pub record Followed (s : Script) (before after : Outside) (r : Stack) : Type 0 where
   pub devices : List DeviceInfo
   pub asked : Outside
@@ -123,10 +122,10 @@ pub record Followed (s : Script) (before after : Outside) (r : Stack) : Type 0 w
   pub backed : IsBackedBy s (table_of s devices) devices more r.replies.items
   pub sends : SendsFor s (table_of s devices) more r.replies.items
   pub medium : RoseBy (medium_lines r.replies.items) asked.faults after.faults
-  pub told : (us : List Stored) → before.units ≡ Some us → Calm asked.faults after.faults → (left : List Stored) × ((after.units ≡ Some left) × HasWalked s (table_of s devices) us left r.pool more r.replies.items)
+  pub told : (us : List Stored) → before.units ≡ Some us → medium_lines r.replies.items ≡ 0 → (left : List Stored) × ((after.units ≡ Some left) × HasWalked s (table_of s devices) us left r.pool more r.replies.items)
   pub fallen : (us : List Stored) → before.units ≡ Some us → NoneFailed r.replies.items → (left : List Stored) × ((after.units ≡ Some left) × HasFallen s (table_of s devices) us left r.pool more r.replies.items)
 
--- A script was run by these words over a rig, to a volume of whose devices it was bound: all ops of its stack have ended. The rig stands as it did, and its count of faults didn't fall. The records from then on back the replies, and are those that its steps send by these words; lines that name the medium are at most as many as the count rose. Where the rig tells its blocks, and its count didn't rise, the script's ops were done one after another at the target; and whether or not it rose, so they were if no overwrite failed, but for what the store calls that failed left.
+-- A script was run by these words over a rig, to a volume of whose devices it was bound: all ops of its stack have ended. The rig stands as it did, and its count of faults didn't fall. The records from then on back the replies, and are those that its steps send by these words; lines that name the medium are at most as many as the count rose. Where the rig tells its blocks, and no line names the medium, the script's ops were done one after another at the target; and whatever lines name it, so they were if no overwrite failed, but for what the store calls that failed left.
 pub record Ran (s : Script) (t : Table) (devices : List DeviceInfo) (words : List (ℕ × ℕ)) (before after : Outside) (r : Stack) : Type 0 where
   pub stack : IsStack r
   pub ops : r.sheet.ops ≡ s.ops
@@ -141,5 +140,5 @@ pub record Ran (s : Script) (t : Table) (devices : List DeviceInfo) (words : Lis
   pub backed : IsBackedBy s t devices more r.replies.items
   pub sends : SendsFor (by_words s words) t more r.replies.items
   pub medium : RoseBy (medium_lines r.replies.items) before.faults after.faults
-  pub told : (us : List Stored) → before.units ≡ Some us → Calm before.faults after.faults → (left : List Stored) × ((after.units ≡ Some left) × HasWalked s t us left r.pool more r.replies.items)
+  pub told : (us : List Stored) → before.units ≡ Some us → medium_lines r.replies.items ≡ 0 → (left : List Stored) × ((after.units ≡ Some left) × HasWalked s t us left r.pool more r.replies.items)
   pub fallen : (us : List Stored) → before.units ≡ Some us → NoneFailed r.replies.items → (left : List Stored) × ((after.units ≡ Some left) × HasFallen s t us left r.pool more r.replies.items)

@@ -18,7 +18,8 @@ ghost use Rattle.stack_view.specs.View.{View};
 ghost use Rattle.stack_steps.specs.Does.{Holds};
 ghost use Rattle.stack_core.specs.declared.stack.Stack.{Stack as AnyStack};
 ghost use Rattle.stack_core.specs.Stacks.{IsStack, plan_in};
-ghost use Rattle.stack_core.specs.Walking.{NoneFailed, Walks, WalksFalling, WalksTold};
+ghost use Rattle.stack_core.specs.Mediums.{medium_lines};
+ghost use Rattle.stack_core.specs.Walking.{NoneFailed, Walks, WalksFalling};
 ghost use Rattle.script_stack.specs.Followed.{HasFallen, HasWalked, IsBackedBy, begun_of, failed_in, none_fails, setting_of, unit_of};
 
 use script_ground::{
@@ -27,7 +28,7 @@ use script_ground::{
 };
 use stack_core::{
     a_finished_stack_has_done_the_falling_walk, a_finished_stack_has_done_the_walk,
-    a_finished_stack_is_backed,
+    a_finished_stack_is_backed, a_finished_stack_that_names_no_medium_has_followed_the_walk,
 };
 
 /// Over any rig, honest or not, the log of a script that was run to its end backs its replies.
@@ -40,20 +41,21 @@ pub fn a_script_run_is_backed()
     a_finished_stack_is_backed();
 }
 
-/// Over a rig that tells its blocks, while its count of faults didn't rise, the script's ops were done one after another
-/// at the target.
+/// Over a rig that tells its blocks, where no line of the replies names the medium, the script's ops were done one after
+/// another at the target.
 pub fn a_told_script_run_has_walked()
     ensures { (s : AnyScript) (t : Table) (us left : List Stored) (first : ℕ) (r : AnyStack) (armed : List FaultLine) (st : Standing) (log : List Entry) → SuitsStack s → length s.lines ≡ length s.faults + length s.ops
         → MadeFor t (map info_of (shapes_of us)) s.block → binding_fault s t (map info_of (shapes_of us)) ≡ None → AreStored us → shapes_of left ≡ shapes_of us → IsStack r → r.sheet.ops ≡ s.ops
-        → NoneFailed r.replies.items → WalksTold (setting_of s t (shapes_of us) none_fails) (4096 * s.pages) (begun_of s (shapes_of us) (blocks_told us)) first r (Some left) armed st log
+        → medium_lines r.replies.items ≡ 0 → WalksFalling (setting_of s t (shapes_of us) none_fails) (4096 * s.pages) (begun_of s (shapes_of us) (blocks_told us)) first r (Some left) armed st log
         → ((v : View) → Holds (plan_in r.sheet) r.machine v → enabled (plan_in r.sheet) v ≡ []) → HasWalked s t us left r.pool (drop first log) r.replies.items }
 {
     a_bound_script_is_bound_at_its_target();
+    a_finished_stack_that_names_no_medium_has_followed_the_walk();
     a_finished_stack_has_done_the_walk();
 }
 
-/// And whether or not the count rose, if no overwrite's store call failed: so they were but for what the store calls that
-/// failed left.
+/// And whatever lines name it, if no overwrite's store call failed: so they were but for what the store calls that failed
+/// left.
 pub fn a_told_script_run_has_fallen()
     ensures { (s : AnyScript) (t : Table) (us left : List Stored) (first : ℕ) (r : AnyStack) (armed : List FaultLine) (st : Standing) (log : List Entry) → SuitsStack s → length s.lines ≡ length s.faults + length s.ops
         → MadeFor t (map info_of (shapes_of us)) s.block → binding_fault s t (map info_of (shapes_of us)) ≡ None → AreStored us → shapes_of left ≡ shapes_of us → IsStack r → r.sheet.ops ≡ s.ops

@@ -1,7 +1,6 @@
 use Rattle.std.proofs.Common.{ℕ, ◌≡◌, ◌<◌, ◌*◌, true, false, List, [], ◌∷◌, ◌++◌, get_or, map, Some, refl, sym, ap, subst, ◌∙◌}
 use Rattle.std.specs.Prelude.{All}
 use Rattle.std.specs.List.{list_any}
-use Rattle.dix_base.specs.Told.{Calm}
 use Rattle.fault_schedule.specs.declared.fault.FaultLine.{FaultLine}
 use Rattle.target_answer.specs.Target.{Stored}
 use Rattle.rig_api.specs.Log.{Entry}
@@ -10,6 +9,7 @@ use Rattle.volume_table.specs.Tables.{Table}
 use Rattle.script_text.specs.declared.script.Script.{Script}
 use Rattle.stack_core.specs.declared.stack.Stack.{Stack}
 use Rattle.stack_ops.specs.declared.reply.Reply.{Reply}
+use Rattle.stack_core.specs.Mediums.{medium_lines}
 use Rattle.stack_core.specs.Walking.{NoneFailed, is_medium}
 use Rattle.run_record.specs.Records.{recorded}
 use Rattle.run_record.specs.ToldRun.{told}
@@ -70,17 +70,17 @@ bound_at s t devices begun r old new armed o us e =
 devices_at : (s : Script) (t : Table) (devices : List DeviceInfo) (begun r : Stack) (old new : View) (armed : List FaultLine) (o : IsDone s t devices begun r old new armed) → (us : List Stored) → old.seen.units ≡ Some us → devices ≡ map info_of (shapes_of us)
 devices_at s t devices begun r old new armed o us e = (told_at s t devices s.schedule begun r old.image new.image (outside old s.faults) (outside new armed) o.over us e).infos
 
-walked : (s : Script) (t : Table) (devices : List DeviceInfo) (begun r : Stack) (old new : View) (armed : List FaultLine) → ToldLaw → (o : IsDone s t devices begun r old new armed) → (us : List Stored) → old.seen.units ≡ Some us → Calm old.seen.faults new.seen.faults →
+walked : (s : Script) (t : Table) (devices : List DeviceInfo) (begun r : Stack) (old new : View) (armed : List FaultLine) → ToldLaw → (o : IsDone s t devices begun r old new armed) → (us : List Stored) → old.seen.units ≡ Some us → medium_lines r.replies.items ≡ 0 →
     (left : List Stored) × (new.seen.units ≡ Some left) × HasWalked s t us left r.pool o.over.goes.more r.replies.items
-walked s t devices begun r old new armed law o us e calm =
-    let w = walked_at s t devices s.schedule begun r old.image new.image (outside old s.faults) (outside new armed) law o.over us e calm in
+walked s t devices begun r old new armed law o us e unnamed =
+    let w = walked_at s t devices s.schedule begun r old.image new.image (outside old s.faults) (outside new armed) law o.over us e unnamed in
     (w.0, w.1.0, w.1.1)
 
 -- behind the adapter of a script's setting is a target, and none of its overwrites fails
-named : (s : Script) (t : Table) (devices : List DeviceInfo) (begun r : Stack) (old new : View) (armed : List FaultLine) → ToldLaw → (o : IsDone s t devices begun r old new armed) → (us : List Stored) → old.seen.units ≡ Some us → Calm old.seen.faults new.seen.faults →
+named : (s : Script) (t : Table) (devices : List DeviceInfo) (begun r : Stack) (old new : View) (armed : List FaultLine) → ToldLaw → (o : IsDone s t devices begun r old new armed) → (us : List Stored) → old.seen.units ≡ Some us → medium_lines r.replies.items ≡ 0 →
     All NamesLayers r.replies.items
-named s t devices begun r old new armed law o us e calm =
-    let w = walked s t devices begun r old new armed law o us e calm in
+named s t devices begun r old new armed law o us e unnamed =
+    let w = walked s t devices begun r old new armed law o us e unnamed in
     subst (λ (replies : List Reply). All NamesLayers replies) (sym w.2.replies_are) (names-layers (setting_told s t us) s.faults refl (λ i. refl) s.ops (opening_told s us))
 
 -- the laws of a calm walk
@@ -100,10 +100,10 @@ plain_of s t us left pool log replies same under calm w =
       blocks = w.blocks ∙ u.blocks;
     }
 
-plain_at : (s : Script) (t : Table) (devices : List DeviceInfo) (begun r : Stack) (old new : View) (armed : List FaultLine) → ToldLaw → RepliesLaw → UnderLaw → (o : IsDone s t devices begun r old new armed) → (us : List Stored) → old.seen.units ≡ Some us → Calm old.seen.faults new.seen.faults →
+plain_at : (s : Script) (t : Table) (devices : List DeviceInfo) (begun r : Stack) (old new : View) (armed : List FaultLine) → ToldLaw → RepliesLaw → UnderLaw → (o : IsDone s t devices begun r old new armed) → (us : List Stored) → old.seen.units ≡ Some us → medium_lines r.replies.items ≡ 0 →
     IsPlainRun s t us → (left : List Stored) × (new.seen.units ≡ Some left) × HasPlain s t us left r.pool r.replies.items
-plain_at s t devices begun r old new armed law same under o us e calm run =
-    let w = walked s t devices begun r old new armed law o us e calm in
+plain_at s t devices begun r old new armed law same under o us e unnamed run =
+    let w = walked s t devices begun r old new armed law o us e unnamed in
     (w.0, w.1, plain_of s t us w.0 r.pool o.over.goes.more r.replies.items same under (plain_run s t us (bound_at s t devices begun r old new armed o us e) run) w.2)
 
 -- the law of reads under scheduled faults
@@ -116,10 +116,10 @@ reads_rightly m devices ops opening replies law run same before after owner v n 
     subst (λ (r : List Reply). HasReadRightly m before owner v n body tuples opening r k) (sym (same ∙ ap (λ (all : List Op). script_replies m all opening) is))
     (law m devices before after owner v n k body tuples opening (subst (λ (all : List Op). IsShownRun m devices all opening) is run) l)
 
-shown_at : (s : Script) (t : Table) (devices : List DeviceInfo) (begun r : Stack) (old new : View) (armed : List FaultLine) → ToldLaw → DetectionLaw → (o : IsDone s t devices begun r old new armed) → (us : List Stored) → old.seen.units ≡ Some us → Calm old.seen.faults new.seen.faults →
+shown_at : (s : Script) (t : Table) (devices : List DeviceInfo) (begun r : Stack) (old new : View) (armed : List FaultLine) → ToldLaw → DetectionLaw → (o : IsDone s t devices begun r old new armed) → (us : List Stored) → old.seen.units ≡ Some us → medium_lines r.replies.items ≡ 0 →
     IsDetectableRun s t devices us → AllReadRightly (setting_told s t us) s.ops (opening_told s us) r.replies.items
-shown_at s t devices begun r old new armed law detects o us e calm run =
-    let w = walked s t devices begun r old new armed law o us e calm in
+shown_at s t devices begun r old new armed law detects o us e unnamed run =
+    let w = walked s t devices begun r old new armed law o us e unnamed in
     reads_rightly (setting_told s t us) devices s.ops (opening_told s us) r.replies.items detects
     (detectable_run s t devices us (devices_at s t devices begun r old new armed o us e) (bound_at s t devices begun r old new armed o us e) run) w.2.replies_are
 
@@ -175,9 +175,9 @@ by_form s t devices us form escape same b p =
     }
 
 formed_at : (s : Script) (t : Table) (devices : List DeviceInfo) (begun r : Stack) (old new : View) (armed : List FaultLine) → ToldLaw → DetectionLaw → FormLaw → EscapeLaw → (o : IsDone s t devices begun r old new armed) → (us : List Stored) → old.seen.units ≡ Some us →
-    Calm old.seen.faults new.seen.faults → IsFormedRun s t devices us → AllReadRightly (setting_told s t us) s.ops (opening_told s us) r.replies.items
-formed_at s t devices begun r old new armed law detects form escape o us e calm run =
-    shown_at s t devices begun r old new armed law detects o us e calm
+    medium_lines r.replies.items ≡ 0 → IsFormedRun s t devices us → AllReadRightly (setting_told s t us) s.ops (opening_told s us) r.replies.items
+formed_at s t devices begun r old new armed law detects form escape o us e unnamed run =
+    shown_at s t devices begun r old new armed law detects o us e unnamed
     (by_form s t devices us form escape (devices_at s t devices begun r old new armed o us e) (bound_at s t devices begun r old new armed o us e) run)
 
 fallen_view : (s : Script) (t : Table) (devices : List DeviceInfo) (begun r : Stack) (old new : View) (armed : List FaultLine) → BackedLaw → FallenLaw → ReadsFallLaw → OwnFallLaw → BroughtFallLaw → (o : IsDone s t devices begun r old new armed) → (us : List Stored) → old.seen.units ≡ Some us → IsQuietRun s t us →

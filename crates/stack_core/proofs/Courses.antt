@@ -67,7 +67,7 @@ straight m n ops opening status es now h = record { after = now; follows = h; by
 fallen : (m : Setting) (n : ℕ) (ops : List Op) (opening : State) (status : ℕ → ℕ → Status) (es : List Sent) (bytes : List ℕ) (blocks : List (List ℕ)) → FollowsFalling m n ops opening status bytes blocks es → GoesTo Falling m n ops opening status es bytes blocks
 fallen m n ops opening status es bytes blocks f = record {
   after = f.after;
-  follows = (record { falls = f.falls; after = f.after; told = f.told; follows = f.follows; bytes = refl; blocks_are = refl; on_record = f.on_record; fallen = f.fallen; sized = f.sized }, refl);
+  follows = (record { falls = f.falls; after = f.after; told = f.told; follows = f.follows; bytes = refl; blocks_are = refl; stamped = f.stamped; on_record = f.on_record; fallen = f.fallen; sized = f.sized }, refl);
   bytes_are = f.bytes;
   blocks_are = f.blocks_are;
 }
@@ -85,6 +85,7 @@ same_by Falling m n ops opening now old new es e h =
         follows = same_statuses (over_falls m f.falls) n ops opening f.after (forgiven ops f.falls old) (forgiven ops f.falls new) f.told (λ j l. ap (forgive (left_of ops f.falls j l)) (e j l)) f.follows;
         bytes = f.bytes;
         blocks_are = f.blocks_are;
+        stamped = f.stamped;
         on_record = f.on_record;
         fallen = λ i k. subst (λ s. IfSome (f.falls (record { op = i; k = k })) (λ left. HasFallen s)) (sym (e i k)) (f.fallen i k);
         sized = f.sized;
@@ -109,6 +110,7 @@ begins_by Falling m n ops opening status w empty = (
         (λ j l b. ap (forgive (left_of ops none_falls (suc j) l)) (w j l b) ∙ waits_still (left_of ops none_falls (suc j) l)) (begin_all (over_falls m none_falls) n ops opening empty);
     bytes = refl;
     blocks_are = refl;
+    stamped = refl;
     on_record = refl;
     fallen = λ i k. tt;
     sized = λ label. tt;

@@ -48,3 +48,4 @@ pub mod MediumFates
 pub mod Mediums
 pub mod StackCounts
 pub mod MediumLines
+pub mod NoMedium

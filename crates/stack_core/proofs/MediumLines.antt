@@ -64,7 +64,7 @@ each_listed held at line k (suc n) =
     next : (at k : ℕ) → suc (at + k) ≡ at + suc k
     next at k = omega arith
 
-lists_bad : (bad : List BadBlock) → bad_blocks (whole_or_bad bad) ≡ bad
+pub lists_bad : (bad : List BadBlock) → bad_blocks (whole_or_bad bad) ≡ bad
 lists_bad [] = refl
 lists_bad (b ∷ bad) = refl
 

@@ -49,7 +49,7 @@ use Rattle.stack_core.specs.Walking.{EndsTold, HasFails, IsOver, IsReply, Walks,
 use Rattle.stack_core.proofs.Context.{over_told}
 use Rattle.stack_core.proofs.Walked.{sound, stand}
 
-ended_waits : (h : Phase) → has_ended h ≡ true → is_waiting h ≡ false
+pub ended_waits : (h : Phase) → has_ended h ≡ true → is_waiting h ≡ false
 ended_waits Waiting e = cc
 ended_waits OpAdmitted e = cc
 ended_waits Ended e = refl

@@ -109,3 +109,10 @@ pub fn a_finished_stack_names_the_medium_seldom()
     ensures { (m : Setting) (n : ℕ) (opening : State) (begun first : ℕ) (s : AnyStack) (st : Standing) (log : List Entry) (count : ℕ) → IsStack s → Walks m n opening begun s st log
         → ((v : View) → Holds (plan_in s.sheet) s.machine v → enabled (plan_in s.sheet) v ≡ []) → HasCounted first s count → RoseBy (medium_lines s.replies.items) first count }
 {}
+
+/// Where no line of its replies names the medium no store call failed: over a rig that tells its blocks it followed the
+/// walk at the target, whatever the count of faults did.
+pub fn a_finished_stack_that_names_no_medium_has_followed_the_walk()
+    ensures { (m : Setting) (n : ℕ) (opening : State) (first : ℕ) (s : AnyStack) (us : List Stored) (armed : List FaultLine) (st : Standing) (log : List Entry) → IsStack s → WalksFalling m n opening first s (Some us) armed st log
+        → ((v : View) → Holds (plan_in s.sheet) s.machine v → enabled (plan_in s.sheet) v ≡ []) → medium_lines s.replies.items ≡ 0 → WalksTold m n opening first s (Some us) armed st log }
+{}

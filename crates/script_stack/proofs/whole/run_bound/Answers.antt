@@ -1,6 +1,5 @@
 use Rattle.std.proofs.Common.{◌≡◌, ◌≤◌, ◌++◌, List, Some, ap, map, subst, sym, ◌∙◌}
 use Rattle.std.specs.Prelude.{is_some}
-use Rattle.dix_base.specs.Told.{Calm}
 use Rattle.rig_api.specs.Telling.{Standing, specs_of}
 use Rattle.rig_discovery.specs.Discovery.{info_of}
 use Rattle.target_answer.specs.Target.{Stored}
@@ -73,6 +72,6 @@ returns-clause-ran g c =
       backed = backed_by s t devices words begun r (g.R.Rig.image ready) (g.R.Rig.image end) before after c.a_script_run_is_backed.ensures o;
       sends = sent_by s t devices words begun r (g.R.Rig.image ready) (g.R.Rig.image end) before after c.a_finished_stack_has_sent.ensures.few c.a_finished_stack_has_sent.ensures.all o;
       medium = subst (λ n. RoseBy (medium_lines r.replies.items) n (g.R.Rig.faults end)) made_ready.count (few_lines s t devices words begun r (g.R.Rig.image ready) (g.R.Rig.image end) before after c.a_finished_stack_names_the_medium_seldom.ensures o);
-      told = λ us e calm. walked_at s t devices words begun r (g.R.Rig.image ready) (g.R.Rig.image end) before after c.a_told_script_run_has_walked.ensures o us (units-ready us e) (subst (λ n. Calm n (g.R.Rig.faults end)) (sym made_ready.count) calm);
+      told = λ us e none. walked_at s t devices words begun r (g.R.Rig.image ready) (g.R.Rig.image end) before after c.a_told_script_run_has_walked.ensures o us (units-ready us e) none;
       fallen = λ us e none. fallen_at s t devices words begun r (g.R.Rig.image ready) (g.R.Rig.image end) before after c.a_told_script_run_has_fallen.ensures o us (units-ready us e) none;
     }

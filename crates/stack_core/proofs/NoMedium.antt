@@ -1,0 +1,199 @@
+-- A finished stack whose replies don't name the medium: no store call of it failed, and it followed the walk at the target.
+use Rattle.std.proofs.Common.{◌≡◌, ◌⊎◌, inl, inr, ◌<◌, ◌≤◌, ℕ, zero, suc, ◌+◌, Bool, true, false, List, [], ◌∷◌, length, drop, get_or, Option, Some, None, refl, sym, ap, subst, ◌∙◌, arith, ⊎_elim}
+use Rattle.std.proofs.lemmas.Bool.{cases_eq, cases_lt, false≢true}
+use Rattle.std.proofs.lemmas.List.{get_or_past}
+use Rattle.bio_core.specs.declared.fate.Why.{Why}
+use Rattle.bio_core.specs.declared.fate.Why.TheVariants.{Medium, Short}
+use Rattle.dix_adapter.specs.Ways.{blocks_told}
+use Rattle.fault_schedule.specs.declared.fault.FaultLine.{FaultLine}
+use Rattle.range_gate.specs.Gates.{has_ended, is_waiting}
+use Rattle.rig_api.specs.Log.{Entry}
+use Rattle.rig_api.specs.Telling.{Standing}
+use Rattle.target_answer.specs.Target.{Stored}
+use Rattle.stack_ops.specs.declared.op.Op.{Op}
+use Rattle.stack_ops.specs.declared.op.Op.TheVariants.{Fetch, FetchPi, Fill, Overwrite, Put, Seal, Show, Wait, Write, WritePi}
+use Rattle.stack_ops.specs.declared.reply.Reply.{Reply}
+use Rattle.stack_ops.specs.declared.reply.Reply.TheVariants.{Bad, Medium as MediumReply, Shown, Silent, Whole}
+use Rattle.stack_view.specs.Plan.{request_at}
+use Rattle.stack_view.specs.Steps.{enabled}
+use Rattle.stack_view.specs.View.{OpView, View, no_op, op_at}
+use Rattle.stack_view.proofs.Enabled.{stuck}
+use Rattle.stack_steps.specs.Does.{Holds}
+use Rattle.block_path.specs.Acts.{State}
+use Rattle.block_path.specs.Blocks.{Sent}
+use Rattle.whole_run.specs.ScriptWalk.{bad_from, whole_or_bad}
+use Rattle.whole_run.specs.Settings.{Setting}
+use Rattle.whole_run.specs.Steps.{each_from}
+use Rattle.run_moves.specs.ScriptMoves.{fates_of}
+use Rattle.run_record.specs.Records.{recorded}
+use Rattle.run_follows.specs.Following.{Follows}
+use Rattle.run_follows.specs.Slots.{Status}
+use Rattle.run_falls.specs.FollowsFalling.{HasFallen}
+use Rattle.run_falls.proofs.NoneFell.{none_fell}
+use Rattle.stack_walks.specs.Sheets.{op_in}
+use Rattle.stack_walks.specs.Statuses.{fate_in}
+use Rattle.stack_walks.proofs.Letting.{all_marked}
+use Rattle.stack_walks.proofs.Standing.{is_done, is_settled, past}
+use Rattle.stack_core.specs.Courses.{Falling, Straight}
+use Rattle.stack_core.specs.declared.stack.Stack.{Stack}
+use Rattle.stack_core.specs.Mediums.{listed_mediums, medium_lines, one_reply}
+use Rattle.stack_core.specs.OnRecord.{bad_blocks}
+use Rattle.stack_core.specs.Stacks.{IsStack, plan_in}
+use Rattle.stack_core.specs.Walking.{IsOver, IsReply, NoneFailed, WalksAtTarget, WalksBy, WalksFalling, WalksTold, data_of, is_medium, shown_in, status_of, why_in}
+use Rattle.stack_core.proofs.MediumLines.{lists_bad}
+use Rattle.stack_core.proofs.WalkEnds.{ended_waits}
+use Rattle.stack_core.proofs.Walked.{sound, stand}
+
+-- ---- what the lines say
+
+line_in : (replies : List Reply) (i : ℕ) → listed_mediums (bad_blocks (get_or replies i Silent)) + one_reply (get_or replies i Silent) ≤ medium_lines replies
+line_in [] zero = omega arith
+line_in [] (suc i) = omega arith
+line_in (r ∷ replies) zero = omega arith
+line_in (r ∷ replies) (suc i) = let h = line_in replies i in omega (arith, h)
+
+reply_medium : (reply : Reply) → one_reply reply ≡ 0 → is_medium reply ≡ false
+reply_medium Silent e = refl
+reply_medium Whole e = refl
+reply_medium (Bad blocks) e = refl
+reply_medium (Shown bytes) e = refl
+reply_medium MediumReply e = absurd (omega (arith, e))
+
+pub none_failed : (replies : List Reply) → medium_lines replies ≡ 0 → NoneFailed replies
+none_failed replies e i = let h = line_in replies i in reply_medium (get_or replies i Silent) (omega (arith, h, e))
+
+-- a block that is listed for the medium is counted
+counted : (f : ℕ → Option Why) (line k n q : ℕ) → k ≤ q → q < k + n → f q ≡ Some Medium → 1 ≤ listed_mediums (bad_from line (each_from k n f))
+counted f line k zero q a b e = absurd (omega (arith, a, b))
+counted f line k (suc n) q a b e = by (f k) refl (cases_eq q k) (λ x p. counted f x (suc k) n q (omega (arith, a, p)) (omega (arith, b)) e) where
+  Rest : Type 0
+  Rest = (x : ℕ) → (q ≡ k → ⊥) → 1 ≤ listed_mediums (bad_from x (each_from (suc k) n f))
+
+  value : Option Why → Why
+  value None = Short
+  value (Some w) = w
+
+  here : (o : Option Why) → f k ≡ o → q ≡ k → o ≡ Some Medium
+  here o x p = sym x ∙ ap f (sym p) ∙ e
+
+  is_there : Option Why → Bool
+  is_there None = false
+  is_there (Some w) = true
+
+  by : (o : Option Why) → f k ≡ o → (q ≡ k) ⊎ (q ≡ k → ⊥) → Rest → 1 ≤ listed_mediums (bad_from line (o ∷ each_from (suc k) n f))
+  by None x (inl p) rest = absurd (false≢true (ap is_there (here None x p)))
+  by None x (inr p) rest = rest (suc line) p
+  by (Some why) x (inl p) rest = let w : why ≡ Medium = ap value (here (Some why) x p) in rw w (omega arith)
+  by (Some why) x (inr p) rest = let h = rest (suc line) p in omega (arith, h)
+
+request_counted : (why : ℕ → Option Why) (n q : ℕ) (reply : Reply) → reply ≡ whole_or_bad (bad_from 0 (each_from 0 n why)) → q < n → why q ≡ Some Medium → 1 ≤ listed_mediums (bad_blocks reply)
+request_counted why n q reply r l e = let a = ap listed_mediums (ap bad_blocks r ∙ lists_bad _) in let b = counted why 0 0 n q (omega arith) (omega (arith, l)) e in omega (arith, a, b)
+
+op_counted : (op : Op) (why : ℕ → Option Why) (q : ℕ) (reply : Reply) → IsReply op (each_from 0 (fates_of op) why) reply → q < fates_of op → why q ≡ Some Medium → 1 ≤ listed_mediums (bad_blocks reply)
+op_counted (Fill seg byte) why q reply r l e = absurd (omega (arith, l))
+op_counted (Put page off bytes) why q reply r l e = absurd (omega (arith, l))
+op_counted (Show seg) why q reply r l e = absurd (omega (arith, l))
+op_counted (Seal n body tuples app rtag) why q reply r l e = absurd (omega (arith, l))
+op_counted (Write v n body app) why q reply r l e = request_counted why n q reply r l e
+op_counted (Fetch v n body) why q reply r l e = request_counted why n q reply r l e
+op_counted (WritePi v n body tuples) why q reply r l e = request_counted why n q reply r l e
+op_counted (FetchPi v n body tuples) why q reply r l e = request_counted why n q reply r l e
+op_counted (Overwrite dev lba change) why q reply r l e = absurd (omega (arith, l))
+op_counted Wait why q reply r l e = absurd (omega (arith, l))
+
+-- ---- no block has fallen
+
+module _ (over : Setting) (n : ℕ) (opening : State) (es : List Sent) (left : List (List ℕ)) (s : Stack) (k : IsStack s) (o : IsOver over n opening s.sheet s.adapter s.host) (w : WalksBy Falling over n opening es left s) (none : enabled (plan_in s.sheet) w.view ≡ []) (no_line : medium_lines s.replies.items ≡ 0) where
+  abbrev ops : List Op
+  ops = s.sheet.ops
+
+  abbrev status : ℕ → ℕ → Status
+  status = status_of (plan_in s.sheet) (data_of s) w.view
+
+  abbrev why : ℕ → ℕ → Option Why
+  why = why_in (data_of s).starts (data_of s).held
+
+  ended : (i : ℕ) → i < length ops → has_ended (op_at w.view i).phase ≡ true
+  ended i l =
+      let x = sound over n opening es left s k o w in
+      let y = (stand over n opening es left s k o w).plan.many in
+      let z = x.ops in
+      stuck (plan_in s.sheet) w.view x none i (omega (arith, l, y, z))
+
+  not_waiting : (i : ℕ) → is_waiting (op_at w.view i).phase ≡ false
+  not_waiting i =
+      let x = sound over n opening es left s k o w in
+      let y = (stand over n opening es left s k o w).plan.many in
+      let z = x.ops in
+      ⊎_elim
+      (λ (l : i < length ops). ended_waits (op_at w.view i).phase (ended i l))
+      (λ (l : length ops ≤ i). ap (λ (v : OpView). is_waiting v.phase) (get_or_past w.view.ops i no_op (omega (arith, l, y, z))))
+      (cases_lt i (length ops))
+
+  not_listed : (i q : ℕ) → q < fates_of (op_in ops i) → i < length ops → why i q ≡ Some Medium → ⊥
+  not_listed i q b l e =
+      let h = line_in s.replies.items i in
+      let c = op_counted (op_in ops i) (why i) q (get_or s.replies.items i Silent) (w.follow.replied i l (ended i l)) b e in
+      omega (arith, h, c, no_line)
+
+  pub not_fallen : (i q : ℕ) → HasFallen (status i q) → ⊥
+  not_fallen zero q f = f
+  not_fallen (suc i) q f =
+      let x = sound over n opening es left s k o w in
+      let y = (stand over n opening es left s k o w).plan.many in
+      let z = x.ops in
+      let c = (stand over n opening es left s k o w).plan.count i in
+      let g = x.lengths i in
+      let count = (request_at (plan_in s.sheet) i).count in
+      let v = op_at w.view i in
+      let shown = shown_in (data_of s).replies i q in
+      let fate = fate_in i q w.view.commands in
+      ⊎_elim
+      (λ (e : count ≡ 0). subst HasFallen (is_done count v shown (why i q) fate q (not_waiting i) e) f)
+      (λ (e : count ≡ 0 → ⊥). ⊎_elim
+      (λ (l : q < count). ⊎_elim
+      (λ (a : i < length ops). not_listed i q (omega (arith, l, c)) a (subst HasFallen (is_settled count v shown (why i q) fate q (not_waiting i) l (all_marked v.settled q (x.ended i (ended i a)) (omega (arith, l, g)))) f))
+      (λ (a : length ops ≤ i). absurd (e (beyond i a)))
+      (cases_lt i (length ops)))
+      (λ (l : count ≤ q). subst HasFallen (past count v shown (why i q) fate q (not_waiting i) (omega (arith, e)) l) f)
+      (cases_lt q count))
+      (cases_eq count 0)
+    where
+      beyond : (i : ℕ) → length ops ≤ i → (request_at (plan_in s.sheet) i).count ≡ 0
+      beyond i a = (stand over n opening es left s k o w).plan.count i ∙ ap fates_of (get_or_past ops i Wait a)
+
+-- ---- so it followed the walk
+
+pub walks_straight : (m : Setting) (n : ℕ) (opening : State) (first : ℕ) (s : Stack) (units : Option (List Stored)) (armed : List FaultLine) (st : Standing) (log : List Entry) → IsStack s → WalksAtTarget Falling m n opening first s units armed st log →
+    ((v : View) → Holds (plan_in s.sheet) s.machine v → enabled (plan_in s.sheet) v ≡ []) → medium_lines s.replies.items ≡ 0 → WalksTold m n opening first s units armed st log
+walks_straight m n opening first s units armed st log k t none e =
+    let es = recorded m (drop first log) in
+    let w = t.walks in
+    let f = w.follow.follows.0 in
+    let status = status_of (plan_in s.sheet) (data_of s) w.view in
+    let never = not_fallen m n opening es (blocks_told t.us) s k t.over w (none w.view w.holds) e in
+    record {
+      over = t.over;
+      sizes = t.sizes;
+      site = t.site;
+      behind = t.behind;
+      armed_are = t.armed_are;
+      recorded_from = t.recorded_from;
+      us = t.us;
+      told_are = t.told_are;
+      walks = record {
+        view = w.view;
+        holds = w.holds;
+        now = w.now;
+        follow = record {
+          bytes = w.follow.bytes;
+          whole = w.follow.whole;
+          follows = subst (λ (now : State). Follows m n s.sheet.ops opening status now es) w.follow.follows.1 (none_fell m n s.sheet.ops opening status w.now.bytes w.now.blocks es never f);
+          begun = w.follow.begun;
+          replied = w.follow.replied;
+          suited = w.follow.suited;
+        };
+        none_before = w.none_before;
+        blocks = w.blocks;
+      };
+    }
