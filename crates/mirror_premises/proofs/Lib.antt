@@ -1,0 +1,6 @@
+mod Apart
+mod Escapes
+mod Places
+mod Legs
+mod Runs
+mod Rows
