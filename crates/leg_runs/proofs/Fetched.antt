@@ -34,10 +34,10 @@ use Rattle.mirror_legs.specs.MirrorScript.{IsPiece}
 use Rattle.leg_runs.specs.Asked.{bytes_after, first_listed, fresh_on0, last_listed, part_of, rest_wanted, stretches}
 use Rattle.leg_runs.specs.LegRuns.{AllWalked, LegRun}
 use Rattle.leg_runs.specs.OnOps.{FetchedBy, Sides, whole_request}
-use Rattle.leg_runs.specs.Standing.{half_of, mirror_setting}
+use Rattle.leg_runs.specs.Standing.{IsOver, half_of, mirror_setting}
 use Rattle.leg_runs.proofs.Coming.{NeverTwo, all-data, all-listed, comes-each, each_comes, found_first, found_last, land0, land1, landed_first, why0, why1}
 use Rattle.leg_runs.proofs.Flat.{flat-zeros, long-zeros}
-use Rattle.leg_runs.proofs.Ground.{IsOver, delivers, fits, legs, made-over}
+use Rattle.leg_runs.proofs.Ground.{delivers, fits, legs, made-over}
 use Rattle.leg_runs.proofs.OneLeg.{AllInside, ReadLaw, all-inside, landed-long, leg-read}
 use Rattle.leg_runs.proofs.Painting.{all-stretches, chosen, painted}
 use Rattle.leg_runs.proofs.Requests.{IsRequest, whole-piece}

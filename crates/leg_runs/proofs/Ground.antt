@@ -1,5 +1,5 @@
 -- What the walk of a mirror asks of its setting, over units that tell their blocks.
-use Rattle.std.proofs.Common.{◌≡◌, List, map, refl, subst, arith}
+use Rattle.std.proofs.Common.{List, map, refl, subst, arith}
 use Rattle.target_answer.specs.Target.{Stored}
 use Rattle.rig_discovery.specs.Discovery.{info_of}
 use Rattle.volume_table.specs.declared.device.DeviceInfo.{DeviceInfo}
@@ -8,7 +8,7 @@ use Rattle.volume_table.specs.Tables.{MadeFor}
 use Rattle.dix_adapter.specs.Ways.{blocks_told, shapes_of}
 use Rattle.whole_run.specs.Settings.{Setting}
 use Rattle.script_text.specs.declared.script.Script.{Script}
-use Rattle.script_ground.specs.Units.{AreStored, all_blocks}
+use Rattle.script_ground.specs.Units.{all_blocks}
 use Rattle.script_ground.proofs.AtTarget.{told-long}
 use Rattle.script_ground.proofs.Places.{one-each}
 use Rattle.script_ground.proofs.Units.{over-units}
@@ -19,13 +19,7 @@ use Rattle.mirror_walk.proofs.Sizes.{delivers_whole}
 use Rattle.mirror_legs.specs.MirrorScript.{IsMirrorScript}
 use Rattle.mirror_legs.proofs.Asked.{asked}
 use Rattle.mirror_legs.proofs.Renumbered.{still}
-use Rattle.leg_runs.specs.Standing.{IsBoundMirror, half_of, mirror_setting}
-
--- The script is bound as a mirror's to the devices that these units are, each of whose blocks has the size of a stored block.
-pub record IsOver (s : Script) (devices : List DeviceInfo) (us : List Stored) : Type 0 where
-  pub bound : IsBoundMirror s devices
-  pub units : devices ≡ map info_of (shapes_of us)
-  pub stored : AreStored us
+use Rattle.leg_runs.specs.Standing.{IsOver, half_of, mirror_setting}
 
 module _ (s : Script) (devices : List DeviceInfo) (us : List Stored) (is : IsOver s devices us) where
   abbrev pub m : Setting

@@ -25,8 +25,7 @@ use Rattle.mirror_walk.proofs.OtherOps.{one_more_op}
 use Rattle.mirror_walk.proofs.Stale.{AllOnOne, all_fresh, steps_one}
 use Rattle.leg_runs.specs.LegRuns.{LegRun}
 use Rattle.leg_runs.specs.OnOps.{OpBy, OpWalked, Sides}
-use Rattle.leg_runs.specs.Standing.{IsBoundMirror, StandsAt, half_of, mirror_setting, op_at, walked}
-use Rattle.leg_runs.proofs.Ground.{IsOver}
+use Rattle.leg_runs.specs.Standing.{IsBoundMirror, IsOver, StandsAt, half_of, mirror_setting, op_at, walked}
 use Rattle.leg_runs.proofs.OneLeg.{ReadLaw}
 use Rattle.leg_runs.proofs.Others.{next-op}
 use Rattle.leg_runs.proofs.Requests.{op-fits, op-rules}

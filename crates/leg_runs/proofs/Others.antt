@@ -44,9 +44,8 @@ use Rattle.mirror_walk.specs.LegByLeg.{Leaves}
 use Rattle.mirror_walk.proofs.OtherOps.{no_request}
 use Rattle.leg_runs.specs.LegRuns.{AllWalked, LegRun}
 use Rattle.leg_runs.specs.OnOps.{OpBy, OpWalked, Sets, Sides}
-use Rattle.leg_runs.specs.Standing.{half_of, mirror_setting}
+use Rattle.leg_runs.specs.Standing.{IsOver, half_of, mirror_setting}
 use Rattle.leg_runs.proofs.Fetched.{fetch-goes}
-use Rattle.leg_runs.proofs.Ground.{IsOver}
 use Rattle.leg_runs.proofs.OneLeg.{ReadLaw}
 use Rattle.leg_runs.proofs.Requests.{overwrite-fits, request-fits}
 use Rattle.leg_runs.proofs.Wrote.{Goes, standing, write-goes}

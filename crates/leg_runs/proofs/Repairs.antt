@@ -36,9 +36,9 @@ use Rattle.leg_runs.specs.Asked.{AreOf, fresh_on0, part_of, stretches}
 use Rattle.leg_runs.specs.LegRuns.{AllWalked, LegRun}
 use Rattle.leg_runs.specs.Mending.{AreMends, Mended, RepairBy, StretchBy, fresh_on1, needs_by, stretches_in, whole_stretch, whys_by}
 use Rattle.leg_runs.specs.OnOps.{Sides}
-use Rattle.leg_runs.specs.Standing.{IsBoundMirror, IsRepairedAs, StandsAt, half_of, mirror_setting, walked}
+use Rattle.leg_runs.specs.Standing.{IsBoundMirror, IsOver, IsRepairedAs, StandsAt, half_of, mirror_setting, walked}
 use Rattle.leg_runs.proofs.Fetched.{walked-both}
-use Rattle.leg_runs.proofs.Ground.{IsOver, fits, legs, made-over, sizes}
+use Rattle.leg_runs.proofs.Ground.{fits, legs, made-over, sizes}
 use Rattle.leg_runs.proofs.Looked.{IsLooked, LookLaw, each_good, looks, taken}
 use Rattle.leg_runs.proofs.Mends.{NeedsWhole, mends-go}
 use Rattle.leg_runs.proofs.Painting.{length-each}

@@ -37,8 +37,8 @@ use Rattle.mirror_legs.specs.MirrorScript.{IsMirrorScript, IsPiece}
 use Rattle.mirror_legs.proofs.OnLeg.{write_goes}
 use Rattle.leg_runs.specs.LegRuns.{AllWalked, LegRun, found_by, pool_of, replies_of}
 use Rattle.leg_runs.specs.OnOps.{Sides, WroteBy, whole_request}
-use Rattle.leg_runs.specs.Standing.{half_of, mirror_setting}
-use Rattle.leg_runs.proofs.Ground.{IsOver, fits, legs}
+use Rattle.leg_runs.specs.Standing.{IsOver, half_of, mirror_setting}
+use Rattle.leg_runs.proofs.Ground.{fits, legs}
 use Rattle.leg_runs.proofs.Painting.{length-each}
 use Rattle.leg_runs.proofs.Replied.{found-last}
 use Rattle.leg_runs.proofs.Requests.{IsRequest, whole-piece}

@@ -13,6 +13,7 @@ use Rattle.whole_run.specs.Past.{steps_from}
 use Rattle.whole_run.specs.Settings.{Setting}
 use Rattle.script_text.specs.declared.script.Script.{Script}
 use Rattle.script_laws.specs.Keeping.{Keeps}
+use Rattle.script_ground.specs.Units.{AreStored}
 use Rattle.script_stack.specs.Causes.{table_of}
 use Rattle.script_stack.specs.Followed.{SizesAre, none_fails, opening_of, setting_of}
 use Rattle.mirror_script.specs.MirrorFaults.{mirror_fault}
@@ -32,6 +33,12 @@ pub record IsBoundMirror (s : Script) (devices : List DeviceInfo) : Type 0 where
   pub few : length devices ≤ 8
   pub made : MadeFor (table_of s devices) devices s.block
   pub bound : mirror_fault s (table_of s devices) devices ≡ None
+
+-- The script is bound as a mirror's to the devices that these units are, each of whose blocks has the size of a stored block.
+pub record IsOver (s : Script) (devices : List DeviceInfo) (us : List Stored) : Type 0 where
+  pub bound : IsBoundMirror s devices
+  pub units : devices ≡ map info_of (shapes_of us)
+  pub stored : AreStored us
 
 abbrev pub half_of : Script → List DeviceInfo → ℕ
 half_of s devices = volume_len (table_of s devices).entries / 2

@@ -76,7 +76,7 @@ module _ (m : Setting) (half : ℕ) (ops : List Op) where
       let c = pick (names_virt half ops u) (spares_other_leg half ops m.site.faults) m.site.faults q form in
       let e = eqb-true (virt_on_legs half ops c.line) u c.one in
       let f : (nat_lt u half && is_named half ops m.site.faults (half + u)) ≡ false =
-          subst (λ v. (nat_lt v half && is_named half ops m.site.faults (half + v)) ≡ false) e (not-true _ c.other) in
+      subst (λ v. (nat_lt v half && is_named half ops m.site.faults (half + v)) ≡ false) e (not-true _ c.other) in
       sym (ap (λ b. b && is_named half ops m.site.faults (half + u)) (lt-ltb u half l)) ∙ f
 
   pub one_good : list_all (spares_other_leg half ops m.site.faults) m.site.faults ≡ true → list_any is_overwrite ops ≡ false → OneGood m half ops

@@ -1,27 +1,29 @@
 -- A script that was run on a mirror over an image.
-use Rattle.std.proofs.Common.{◌≡◌, ◌<◌, ◌≤◌, ℕ, ◌+◌, true, List, [], length, map, Option, Some, refl, sym, ap, ◌∙◌, subst}
+use Rattle.std.proofs.Common.{◌≡◌, ℕ, List, [], length, map, Some, sym, ap, ◌∙◌, subst}
 use Rattle.std.specs.Prelude.{is_some}
 use Rattle.dix_base.specs.Told.{Calm}
 use Rattle.fault_schedule.specs.declared.fault.FaultLine.{FaultLine}
-use Rattle.rig_api.specs.Telling.{IsStanding, Standing, specs_of, units_told}
+use Rattle.rig_api.specs.Telling.{IsStanding, Standing, units_told}
 use Rattle.image_commands.specs.Views.{View}
 use Rattle.rig_discovery.specs.Discovery.{info_of}
 use Rattle.target_answer.specs.Target.{Stored}
-use Rattle.dix_adapter.specs.Ways.{shapes_of}
 use Rattle.volume_table.specs.declared.device.DeviceInfo.{DeviceInfo}
 use Rattle.script_text.specs.declared.script.Script.{Script}
 use Rattle.script_stack.specs.Followed.{SizesAre}
 use Rattle.script_stack.proofs.Following.{sizes-found, told-image, told-shapes, told-stored}
 use Rattle.script_verdict.proofs.Devices.{known_infos}
 use Rattle.script_verdict.specs.Verdict.{WasAsked}
-use Rattle.leg_runs.specs.Standing.{HasDevices, IsBoundMirror}
+use Rattle.leg_runs.specs.Standing.{HasDevices, IsBoundMirror, IsOver, IsRepairedAs}
 use Rattle.mirror_volume.specs.declared.mirror.Mirror.{Mirror}
-use Rattle.leg_runs.proofs.Ground.{IsOver}
-use Rattle.mirror_verdict.specs.Premises.{IsOneGoodRun}
-use Rattle.mirror_verdict.specs.Stages.{Broke, Finished, stage_of}
-use Rattle.mirror_verdict.specs.Verdict.{HasMirrored, IsBegun, StoppedMidway, WasEnough, outside}
+use Rattle.mirror_volume.proofs.Enough.{repaired-all}
+use Rattle.mirror_volume.specs.Enough.{WasEnough}
+use Rattle.mirror_volume.specs.Premises.{IsFormedMirror, IsOneGoodRun}
+use Rattle.mirror_verdict.specs.Stages.{Broke, Finished, HasServed, stage_of}
+use Rattle.mirror_verdict.specs.Verdict.{HasMirrored, IsBegun, StoppedMidway, outside}
 use Rattle.mirror_verdict.specs.declared.mirrored.Mirrored.{Mirrored}
-use Rattle.mirror_verdict.proofs.Enough.{EqualLaw, ReadsLaw, was-enough}
+use Rattle.mirror_walk.specs.Repair.{Repair}
+use Rattle.mirror_walk.specs.declared.marks.Marks.{Marks}
+use Rattle.stack_ops.specs.declared.reply.Reply.{Reply}
 
 -- the rig has the devices that were asked
 pub has-devices : (name : List ℕ) (devices : List DeviceInfo) (old told : View) → WasAsked name devices old told → told.seen.units ≡ units_told told.standing told.image → HasDevices devices (is_some told.image) told.standing
@@ -49,7 +51,40 @@ over-told s name devices old told begun us up e =
       stored = told-stored told.standing told.image us laid up.ready;
     }
 
-module _ (reads : ReadsLaw) (equal : EqualLaw) (s : Script) (name : List ℕ) (devices : List DeviceInfo) (old told new : View) (begun : Mirror) (before armed : List FaultLine) (up : IsUp s name devices old told begun) (tells : is_some new.image ≡ is_some told.image) where
+-- ---- what comes of good legs
+
+-- what the laws of `mirror_volume` say
+abbrev pub EnoughLaw : Type 0
+EnoughLaw = (s : Script) (devices : List DeviceInfo) (us left : List Stored) (marks : List Marks) (repaired lost : ℕ) → IsOver s devices us → IsOneGoodRun s devices us → IsRepairedAs s devices us (length s.ops) marks repaired lost left → WasEnough s devices us left lost
+
+abbrev pub FormedLaw : Type 0
+FormedLaw = (s : Script) (devices : List DeviceInfo) (us : List Stored) → IsOver s devices us → IsFormedMirror s devices us → IsOneGoodRun s devices us
+
+as-repaired : (s : Script) (devices : List DeviceInfo) (us left : List Stored) (pool : List (List ℕ)) (replies : List Reply) (marks : List Marks) (repaired lost : ℕ) → HasServed s devices us left pool replies marks repaired lost
+    → IsRepairedAs s devices us (length s.ops) marks repaired lost left
+as-repaired s devices us left pool replies marks repaired lost served =
+    let e = sym (repaired-all s devices us) in
+    record {
+      shapes = served.shapes;
+      marks_are = served.marks_are ∙ ap (λ (r : Repair). r.marks) e;
+      blocks = served.blocks ∙ ap (λ (r : Repair). r.blocks) e;
+      repaired_is = served.repaired_is ∙ ap (λ (r : Repair). r.repaired) e;
+      lost_is = served.lost_is ∙ ap (λ (r : Repair). r.lost) e;
+    }
+
+module _ (law : EnoughLaw) (by_form : FormedLaw) (s : Script) (name : List ℕ) (devices : List DeviceInfo) (old told new : View) (begun : Mirror) (before armed : List FaultLine) (up : IsUp s name devices old told begun) (tells : is_some new.image ≡ is_some told.image) where
+  enough : (run : Mirrored) → Finished s devices (stage_of begun [] (outside told before)) run.mirror run.repair.repaired run.repair.lost (outside new armed)
+      → (us : List Stored) → told.seen.units ≡ Some us → Calm told.seen.faults new.seen.faults → IsOneGoodRun s devices us → (left : List Stored) × ((new.seen.units ≡ Some left) × WasEnough s devices us left run.repair.lost)
+  enough run ended us e calm p =
+      let x = ended.told us e calm in (
+        x.0,
+        (
+          x.1.0,
+          law s devices us x.0 run.mirror.state.marks.items run.repair.repaired run.repair.lost (over-told s name devices old told begun us up e) p
+              (as-repaired s devices us x.0 run.mirror.state.pool run.mirror.replies.items run.mirror.state.marks.items run.repair.repaired run.repair.lost x.1.1),
+        ),
+      )
+
   pub mirrored : (run : Mirrored) → Finished s devices (stage_of begun [] (outside told before)) run.mirror run.repair.repaired run.repair.lost (outside new armed) → HasMirrored run s name old new
   mirrored run ended = record {
     devices = devices;
@@ -62,9 +97,8 @@ module _ (reads : ReadsLaw) (equal : EqualLaw) (s : Script) (name : List ℕ) (d
     armed = armed;
     ended = ended;
     tells = tells;
-    enough = λ us e calm p.
-        (let x = ended.told us e calm in
-        (x.0, (x.1.0, was-enough reads equal s devices us x.0 run.mirror.state.pool run.mirror.replies.items run.mirror.state.marks.items run.repair.repaired run.repair.lost (over-told s name devices old told begun us up e) p x.1.1)));
+    enough = enough run ended;
+    formed = λ us e calm p. enough run ended us e calm (by_form s devices us (over-told s name devices old told begun us up e) p);
   }
 
   pub midway : Broke s devices (stage_of begun [] (outside told before)) (outside new armed) → StoppedMidway s name old new

@@ -1,12 +1,11 @@
 -- A script on a mirror, stage by stage.
-use Rattle.std.proofs.Common.{◌≡◌, ◌<◌, ◌≤◌, ℕ, zero, suc, ◌+◌, inl, inr, true, List, [], ◌∷◌, ◌++◌, length, take, Some, refl, sym, ap, ◌∙◌, subst, arith, append-nil, append_assoc}
+use Rattle.std.proofs.Common.{◌≡◌, ◌<◌, ◌≤◌, ℕ, suc, ◌+◌, inl, inr, true, List, [], ◌∷◌, ◌++◌, length, take, Some, refl, sym, ap, ◌∙◌, subst, arith, append-nil, append_assoc}
 use Rattle.std.specs.Prelude.{Err, IfOk, MatchResult, Ok, Result, is_err}
 use Rattle.std.proofs.Math.Seq.{take-length}
 use Rattle.std.proofs.lemmas.List.{length_push}
 use Rattle.dix_base.specs.Told.{Calm}
 use Rattle.page_pool.specs.Cells.{flat}
 use Rattle.target_answer.specs.Target.{Stored}
-use Rattle.dix_adapter.specs.Ways.{shapes_of}
 use Rattle.block_path.specs.Serial.{plain}
 use Rattle.stack_ops.specs.declared.op.Op.{Op}
 use Rattle.stack_ops.specs.declared.op.Op.TheVariants.{Fetch, FetchPi, Fill, Overwrite, Put, Seal, Show, Wait, Write, WritePi}
@@ -26,11 +25,11 @@ use Rattle.std.specs.declared.alloc.AllocError.{AllocError}
 use Rattle.mirror_volume.specs.declared.repair.Repair.{Repair as Done}
 use Rattle.leg_runs.specs.LegRuns.{AllBacked, AllOwn, GoOn, LegRun, RanLegs, all_mediums, all_records}
 use Rattle.leg_runs.specs.Mending.{IsRepairOf, RepairBy, stretches_in}
-use Rattle.leg_runs.specs.OnOps.{Altered, OpAsks, OpBy, OpRan, OpTells, Sides}
-use Rattle.mirror_volume.specs.Plans.{sides_of}
+use Rattle.leg_runs.specs.OnOps.{OpAsks, OpBy, OpRan, OpTells, Sides}
+use Rattle.mirror_volume.specs.Enough.{opening_over}
 use Rattle.leg_runs.specs.Standing.{IsRepairedAs, StandsAt, half_of, mirror_setting, op_at, walked}
 use Rattle.leg_runs.proofs.Runs.{all_backed-append, all_mediums-append, all_records-append, calm-first, calm-last, go_on-append, rose-add}
-use Rattle.mirror_verdict.specs.Stages.{Broke, Finished, HasServed, InStretches, OneMore, Served, Stage, opening_over, repair_over, stage_of, walk_over}
+use Rattle.mirror_verdict.specs.Stages.{Broke, Finished, HasServed, InStretches, OneMore, Served, Stage, repair_over, walk_over}
 
 -- an error of which this holds
 pub on-err : {A E : Type 0} (r : Result A E) (P : A → Type 0) (Q : Type 0) → is_err r ≡ true → Q → MatchResult r P (λ e. Q)

@@ -1,16 +1,14 @@
 -- How a script on a mirror gets on over a rig: op by op, and then its repair.
-use Rattle.std.specs.Prelude.{ℕ, zero, suc, ◌≡◌, ◌+◌, ◌<◌, ◌≤◌, ◌⊎◌, List, [], ◌∷◌, ◌++◌, length, Option, Some}
+use Rattle.std.specs.Prelude.{ℕ, zero, suc, ◌≡◌, ◌+◌, ◌<◌, ◌≤◌, ◌⊎◌, List, [], ◌∷◌, ◌++◌, length, Some}
 use Rattle.dix_base.specs.Told.{Calm}
 use Rattle.page_pool.specs.Cells.{flat}
 use Rattle.target_answer.specs.Target.{Stored}
 use Rattle.volume_table.specs.declared.device.DeviceInfo.{DeviceInfo}
 use Rattle.dix_adapter.specs.Ways.{blocks_told, shapes_of}
-use Rattle.block_path.specs.Acts.{State}
 use Rattle.stack_ops.specs.declared.reply.Reply.{Reply}
 use Rattle.stack_core.specs.Mediums.{RoseBy}
 use Rattle.script_text.specs.declared.script.Script.{Script}
 use Rattle.script_stack.specs.Causes.{table_of}
-use Rattle.script_stack.specs.Followed.{opening_of}
 use Rattle.script_stack.specs.Going.{Outside}
 use Rattle.mirror_walk.specs.declared.marks.Marks.{Marks}
 use Rattle.mirror_walk.specs.Mirror.{Mirror as Walk, mirror_replies, mirror_walk}
@@ -19,6 +17,7 @@ use Rattle.mirror_volume.specs.declared.mirror.Mirror.{Mirror}
 use Rattle.leg_runs.specs.LegRuns.{AllBacked, AllOwn, GoOn, LegRun, RanLegs, all_mediums, all_records}
 use Rattle.leg_runs.specs.Mending.{IsRepairOf, RepairBy, stretches_in}
 use Rattle.leg_runs.specs.OnOps.{OpAsks, OpBy, OpRan, OpTells, Sides}
+use Rattle.mirror_volume.specs.Enough.{opening_over}
 use Rattle.mirror_volume.specs.Plans.{sides_of}
 use Rattle.leg_runs.specs.Standing.{StandsAt, half_of, mirror_setting, op_at}
 
@@ -86,10 +85,7 @@ pub record Broke (s : Script) (devices : List DeviceInfo) (begun : Stage) (after
 
 -- ---- the whole
 
--- the cells with which a mirror begins over these units, its walk, and the walk's repair
-abbrev pub opening_over : Script → List Stored → State
-opening_over s us = opening_of s (shapes_of us) (blocks_told us)
-
+-- the walk of a mirror over these units, and the walk's repair
 abbrev pub walk_over : Script → List DeviceInfo → List Stored → Walk
 walk_over s devices us = mirror_walk (mirror_setting s devices us) (half_of s devices) s.ops (opening_over s us)
 

@@ -1,21 +1,15 @@
-use Rattle.std.specs.Prelude.{ℕ, ◌≡◌, ◌+◌, ◌*◌, ◌<◌, ◌⊎◌, replicate, Bool, List, [], ◌∷◌, ◌++◌, length, is_some, Option, Some, None, Ok}
+use Rattle.std.specs.Prelude.{ℕ, ◌≡◌, ◌*◌, ◌⊎◌, replicate, List, [], is_some, Some, None, Ok}
 use Rattle.dix_base.specs.Told.{Calm}
 use Rattle.fault_schedule.specs.declared.fault.FaultLine.{FaultLine}
-use Rattle.page_pool.specs.Cells.{flat, gather}
-use Rattle.page_pool.specs.declared.segs.Seg.{Seg}
+use Rattle.page_pool.specs.Cells.{flat}
 use Rattle.rig_api.specs.Head.{head_fault, head_of}
 use Rattle.image_commands.specs.Causes.{CauseUntold}
 use Rattle.image_commands.specs.Views.{View}
 use Rattle.image_commands.specs.declared.fault.Fault.TheVariants as fault
-use Rattle.dix_adapter.specs.Ways.{blocks_told}
-use Rattle.block_path.specs.Serial.{plain}
-use Rattle.stack_ops.specs.declared.op.Op.TheVariants.{Fetch}
-use Rattle.stack_ops.specs.declared.op.Op.{Op}
 use Rattle.target_answer.specs.Target.{Stored}
 use Rattle.volume_table.specs.Faults.{table_fault}
 use Rattle.volume_table.specs.Tables.{Table}
 use Rattle.volume_table.specs.declared.device.DeviceInfo.{DeviceInfo}
-use Rattle.whole_run.specs.Past.{steps_from}
 use Rattle.script_text.specs.Language.{script_in}
 use Rattle.script_text.specs.declared.fault.ScriptFault.{ScriptFault}
 use Rattle.script_text.specs.declared.script.Script.{Script}
@@ -24,13 +18,13 @@ use Rattle.script_verdict.specs.Verdict.{CauseUntaken, Facts, HasBadVolume, HasR
 use Rattle.script_verdict.specs.declared.refusal.Refusal.{Refusal}
 use Rattle.script_verdict.specs.declared.refusal.Refusal.TheVariants as refusal
 use Rattle.mirror_script.specs.MirrorFaults.{mirror_fault}
-use Rattle.mirror_walk.specs.OneGood.{HoldsProper, ReadsLast, last_of, on_leg}
-use Rattle.mirror_walk.specs.Mirror.{count_of, fresh}
+use Rattle.mirror_walk.specs.Mirror.{fresh}
 use Rattle.mirror_volume.specs.Plans.{IsMirror}
-use Rattle.leg_runs.specs.Standing.{IsBoundMirror, half_of, mirror_setting}
+use Rattle.leg_runs.specs.Standing.{IsBoundMirror, half_of}
 use Rattle.mirror_volume.specs.declared.mirror.Mirror.{Mirror}
-use Rattle.mirror_verdict.specs.Premises.{IsOneGoodRun}
-use Rattle.mirror_verdict.specs.Stages.{Broke, Finished, opening_over, stage_of}
+use Rattle.mirror_volume.specs.Enough.{WasEnough}
+use Rattle.mirror_volume.specs.Premises.{IsFormedMirror, IsOneGoodRun}
+use Rattle.mirror_verdict.specs.Stages.{Broke, Finished, stage_of}
 use Rattle.mirror_verdict.specs.declared.mirrored.Mirrored.{Mirrored}
 
 -- what a rig shows of itself to the runs on the legs, with these faults armed
@@ -47,26 +41,9 @@ pub record IsBegun (s : Script) (devices : List DeviceInfo) (begun : Mirror) : T
   pub marks : begun.state.marks.items ≡ replicate (half_of s devices) fresh
   pub pages : flat begun.state.pool ≡ replicate (4096 * s.pages) 0
 
--- ---- one good leg is enough
-
--- Each read is whole, and each of its blocks has the data that were last accepted.
-abbrev pub AllReadLast : Script → List DeviceInfo → List Stored → Type 0
-AllReadLast s devices us = (before after : List Op) (v n : ℕ) (body : List Seg) → s.ops ≡ before ++ (Fetch v n body ∷ after) → ReadsLast (mirror_setting s devices us) (half_of s devices) s.ops before v n body (opening_over s us)
-
--- Both legs hold what was last accepted of each block, under a proper tuple.
-abbrev pub BothHoldLast : Script → List DeviceInfo → List Stored → (left : List Stored) → Type 0
-BothHoldLast s devices us left = (u : ℕ) → u < half_of s devices → (leg : Bool)
-    → HoldsProper (mirror_setting s devices us) (on_leg leg u (half_of s devices + u)) (last_of (mirror_setting s devices us) (half_of s devices) (count_of s.ops) (steps_from (mirror_setting s devices us) 1 s.ops) (opening_over s us) u) (blocks_told left)
-
--- Reads got the last accepted write, and after the repair no block is lost and both legs hold it.
-pub record WasEnough (s : Script) (devices : List DeviceInfo) (us left : List Stored) (lost : ℕ) : Type 0 where
-  pub reads : AllReadLast s devices us
-  pub equal : BothHoldLast s devices us left
-  pub lost_none : lost ≡ 0
-
 -- ---- a script that was run on a mirror
 
--- The image was opened, its devices told what they are, the script was bound to a mirror over them, its ops were done, and then the repair. `ended` says by which runs on the legs, and what these left; over a rig that tells its blocks, and whose count of faults didn't rise, it is the mirror's walk and its repair. `enough` says when one good leg was enough.
+-- The image was opened, its devices told what they are, the script was bound to a mirror over them, its ops were done, and then the repair. `ended` says by which runs on the legs, and what these left; over a rig that tells its blocks, and whose count of faults didn't rise, it is the mirror's walk and its repair. `enough` says when one good leg was enough, and `formed` says it by what a reader of the script sees.
 pub record HasMirrored (run : Mirrored) (s : Script) (name : List ℕ) (old new : View) : Type 0 where
   pub devices : List DeviceInfo
   pub told : View
@@ -79,6 +56,8 @@ pub record HasMirrored (run : Mirrored) (s : Script) (name : List ℕ) (old new 
   pub ended : Finished s devices (stage_of begun [] (outside told before)) run.mirror run.repair.repaired run.repair.lost (outside new armed)
   pub tells : is_some new.image ≡ is_some told.image
   pub enough : (us : List Stored) → told.seen.units ≡ Some us → Calm told.seen.faults new.seen.faults → IsOneGoodRun s devices us
+      → (left : List Stored) × ((new.seen.units ≡ Some left) × WasEnough s devices us left run.repair.lost)
+  pub formed : (us : List Stored) → told.seen.units ≡ Some us → Calm told.seen.faults new.seen.faults → IsFormedMirror s devices us
       → (left : List Stored) × ((new.seen.units ≡ Some left) × WasEnough s devices us left run.repair.lost)
 
 -- The source was read to its end, and its script was run on a mirror.

@@ -10,8 +10,7 @@ ghost use Rattle.mirror_verdict.specs.Verdict.{CauseRefused, CauseStopped, HasMi
 use crate::binding::bind;
 use crate::serving::serve;
 use dix_base::Source;
-use mirror_volume::{Mirror, Repair};
-use mirror_walk::{a_mirror_reads_the_last_write, a_repair_makes_both_legs_equal};
+use mirror_volume::{Mirror, Repair, a_formed_mirror_has_one_good_leg, one_good_leg_is_enough};
 use rig_api::Rig;
 use script_text::Script;
 use script_verdict::{Refusal, is_any_bad, take_script};
@@ -51,8 +50,8 @@ pub fn run_mirror<R: Rig>(
         Ok(mirror) => mirror,
         Err(_) => return Err(Refusal::Memory),
     };
-    a_mirror_reads_the_last_write();
-    a_repair_makes_both_legs_equal();
+    one_good_leg_is_enough();
+    a_formed_mirror_has_one_good_leg();
     match serve(alloc, &mut mirror, count, rig) {
         Ok(repair) => Ok(Mirrored { mirror, repair }),
         Err(_) => Err(Refusal::Memory),

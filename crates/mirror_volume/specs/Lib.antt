@@ -1,2 +1,4 @@
 pub mod Plans
 pub mod Helds
+pub mod Enough
+pub mod Premises

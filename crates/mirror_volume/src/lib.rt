@@ -3,6 +3,7 @@
 //! accepted write of the block and delivers it; a repair makes both legs equal again.
 #![tactic(auto)]
 
+mod laws;
 mod legs;
 mod marks;
 mod mirror;
@@ -14,4 +15,5 @@ mod replies;
 mod stretches;
 mod writing;
 
+pub use laws::{a_formed_mirror_has_one_good_leg, one_good_leg_is_enough};
 pub use mirror::{Mirror, Repair};

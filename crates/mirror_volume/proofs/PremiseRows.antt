@@ -30,7 +30,7 @@ use Rattle.script_stack.specs.Causes.{table_of}
 use Rattle.mirror_script.specs.MirrorFaults.{mirror_fault}
 use Rattle.mirror_walk.specs.OneGood.{AreBytes, HasGoodLeg, IsUnnamed}
 use Rattle.leg_runs.specs.Standing.{half_of, mirror_setting}
-use Rattle.mirror_verdict.specs.Premises.{IsOneGoodRun}
+use Rattle.mirror_volume.specs.Premises.{IsFormedMirror, IsOneGoodRun}
 
 -- A script with a write and a read of the one block of a mirror, over two formatted units: the block's data are altered on their way to leg 0, which refuses them. It is bound as a mirror's, and meets the premises.
 
@@ -129,4 +129,23 @@ one_good_row = record {
   no_escape = (λ h. refl, (λ h. refl, (tt, tt)));
   shown = refl;
   one_good = one_good;
+}
+
+-- And so it can be read off the script.
+all_bytes : All (All (λ x. x < 256)) (blocks_told us)
+all_bytes =
+    let one = bytes_by (fresh One 512 0) refl in
+    All-cons (All (λ x. x < 256)) (fresh One 512 0) (fresh One 512 0 ∷ []) one (All-cons (All (λ x. x < 256)) (fresh One 512 0) [] one (All-nil (All (λ x. x < 256))))
+
+formed_row : IsFormedMirror script devices us
+unfolding crc
+formed_row = record {
+  ty = refl;
+  protect = refl;
+  form = refl;
+  a_leg = refl;
+  escapes = refl;
+  bytes = all_bytes;
+  clean = clean;
+  equal = equal;
 }

@@ -1,9 +1,7 @@
 -- What one good leg asks, from the premises and from what reading and binding have seen to.
-use Rattle.std.proofs.Common.{◌≡◌, ◌<◌, ◌≤◌, ℕ, suc, ◌+◌, ◌*◌, Bool, true, ◌&&◌, List, [], ◌∷◌, length, map, None, Some, refl, sym, ap, ◌∙◌, subst, arith}
+use Rattle.std.proofs.Common.{◌≡◌, ◌<◌, ℕ, suc, ◌*◌, true, ◌&&◌, List, [], ◌∷◌, length, map, None, refl, sym, subst, arith}
 use Rattle.std.proofs.lemmas.Bool.{and_parts}
 use Rattle.std.proofs.lemmas.List.{length-replicate}
-use Rattle.page_pool.specs.declared.segs.Seg.{Seg}
-use Rattle.page_pool.specs.Places.{total}
 use Rattle.pi_tuple.specs.declared.checks.PiType.TheVariants.{One}
 use Rattle.rig_discovery.specs.Discovery.{info_of}
 use Rattle.target_answer.specs.Target.{Stored}
@@ -14,7 +12,7 @@ use Rattle.volume_table.specs.declared.device.DeviceInfo.{DeviceInfo}
 use Rattle.volume_table.specs.Places.{volume_len}
 use Rattle.volume_table.specs.Tables.{Table}
 use Rattle.whole_run.specs.Settings.{Setting}
-use Rattle.run_laws.specs.ShownRun.{HasCells, LiesOn}
+use Rattle.run_laws.specs.ShownRun.{HasCells, IsChecked, LiesOn}
 use Rattle.script_text.specs.Bindings.{or_else}
 use Rattle.script_text.specs.Ops.{data_fault}
 use Rattle.script_text.specs.declared.script.Script.{Script}
@@ -26,14 +24,14 @@ use Rattle.script_ground.proofs.OverUnits.{cell-there, on-address, op-keeps, own
 use Rattle.script_ground.proofs.Rooms.{body-cells}
 use Rattle.script_ground.proofs.Standing.{or-none}
 use Rattle.script_stack.specs.Causes.{table_of}
-use Rattle.mirror_script.specs.MirrorFaults.{faults_fault, length_fault, mode_fault, names_blocks, op_fault, ops_fault}
+use Rattle.mirror_script.specs.MirrorFaults.{faults_fault, length_fault, mode_fault, names_blocks, op_fault}
 use Rattle.mirror_legs.proofs.Asked.{none_when}
 use Rattle.mirror_walk.specs.OneGood.{AllBind, Binds, IsMirrorRun}
-use Rattle.leg_runs.proofs.Ground.{IsOver, fits, legs}
+use Rattle.leg_runs.proofs.Ground.{fits, legs}
 use Rattle.leg_runs.proofs.Requests.{op-fits, overwrite-fits, request-fits}
-use Rattle.leg_runs.specs.Standing.{half_of, mirror_setting, op_at}
-use Rattle.mirror_verdict.specs.Premises.{IsOneGoodRun}
-use Rattle.mirror_verdict.specs.Stages.{opening_over}
+use Rattle.leg_runs.specs.Standing.{IsOver, half_of, mirror_setting, op_at}
+use Rattle.mirror_volume.specs.Enough.{opening_over}
+use Rattle.mirror_volume.specs.Premises.{IsOneGoodRun}
 
 module _ (s : Script) (devices : List DeviceInfo) (us : List Stored) (is : IsOver s devices us) where
   abbrev m : Setting
@@ -92,16 +90,22 @@ module _ (s : Script) (devices : List DeviceInfo) (us : List Stored) (is : IsOve
       let a = or-none (mode_fault s.mode t.ty) (or_else (length_fault (volume_len t.entries)) (or_else (faults_fault s.mode.protect s.ops s.faults s.lines) _)) is.bound.bound in
       (and_parts s.mode.dif (names_blocks t.ty) (and_parts s.mode.dix (s.mode.dif && names_blocks t.ty) (none_when (s.mode.dix && (s.mode.dif && names_blocks t.ty)) _ a.0)).1).0
 
+  pub checked-over : t.ty ≡ One → s.mode.protect ≡ 1 → IsChecked m
+  checked-over ty protect = record { ty = ty; dix = (fits s devices us is).dix; dif = dif-on; protect = protect; device = refl }
+
+  pub all-bound : AllBind m devices half (length (opening_over s us).bytes) s.ops
+  all-bound = subst (λ n. AllBind m devices half n s.ops) (sym (length-replicate (4096 * s.pages) 0)) all-bind
+
   pub mirror-run : IsOneGoodRun s devices us → IsMirrorRun m devices half s.ops (opening_over s us)
   mirror-run p = record {
-    checked = record { ty = p.ty; dix = (fits s devices us is).dix; dif = dif-on; protect = p.protect; device = refl };
+    checked = checked-over p.ty p.protect;
     unshifted = λ at op. (legs s devices us is).unshifted at op;
     long = (fits s devices us is).long;
     lies = lies-on;
     cells = has-cells;
     clean = p.clean;
     equal = p.equal;
-    bind = subst (λ n. AllBind m devices half n s.ops) (sym (length-replicate (4096 * s.pages) 0)) all-bind;
+    bind = all-bound;
     no_escape = p.no_escape;
     shown = p.shown;
     one_good = p.one_good;

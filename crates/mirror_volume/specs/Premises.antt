@@ -1,5 +1,5 @@
 -- What is asked of a script on a mirror, and of the blocks that a rig tells, before one good leg per block is enough. All else that is asked there was seen to when the script was read and bound.
-use Rattle.std.specs.Prelude.{ℕ, ◌≡◌, ◌+◌, ◌<◌, true, List, [], get_or}
+use Rattle.std.specs.Prelude.{ℕ, ◌≡◌, ◌+◌, ◌<◌, true, List, [], All, get_or}
 use Rattle.pi_tuple.specs.declared.checks.PiType.TheVariants.{One}
 use Rattle.dix_adapter.specs.Ways.{blocks_told}
 use Rattle.target_answer.specs.Target.{Stored}
@@ -8,19 +8,37 @@ use Rattle.whole_run.specs.Detectable.{detectable}
 use Rattle.whole_run.specs.Past.{brought_by}
 use Rattle.whole_run.specs.UnderMap.{NoneEscapes, home}
 use Rattle.run_laws.specs.ShownRun.{DevicesAreClean}
+use Rattle.run_premises.specs.Forms.{escapes_none}
 use Rattle.script_text.specs.declared.script.Script.{Script}
 use Rattle.script_stack.specs.Causes.{table_of}
 use Rattle.mirror_walk.specs.OneGood.{AreBytes, OneGood, script_asks}
+use Rattle.mirror_premises.specs.Forms.{leaves_a_leg, shows_on_legs}
 use Rattle.leg_runs.specs.Standing.{half_of, mirror_setting}
-use Rattle.mirror_verdict.specs.Stages.{opening_over}
+use Rattle.mirror_volume.specs.Enough.{opening_over}
+
+-- Both legs have the same data and application tags.
+abbrev pub AreEqualLegs : Script → List DeviceInfo → List Stored → Type 0
+AreEqualLegs s devices us = (u : ℕ) → u < half_of s devices
+    → brought_by s.block (get_or (blocks_told us) (home (mirror_setting s devices us) (half_of s devices + u)) []) ≡ brought_by s.block (get_or (blocks_told us) (home (mirror_setting s devices us) u) [])
 
 -- The volume is of type 1, and commands have protect field 001b. Each block of its devices is clean, both legs have the same data and application tags, and those of leg 0 are made of bytes. No write supplies an escape, each alteration can be shown, and each block has a leg on which no fault line alters it on its way, and no overwrite in its place.
 pub record IsOneGoodRun (s : Script) (devices : List DeviceInfo) (us : List Stored) : Type 0 where
   pub ty : (table_of s devices).ty ≡ One
   pub protect : s.mode.protect ≡ 1
   pub clean : DevicesAreClean (mirror_setting s devices us) devices (blocks_told us)
-  pub equal : (u : ℕ) → u < half_of s devices → brought_by s.block (get_or (blocks_told us) (home (mirror_setting s devices us) (half_of s devices + u)) []) ≡ brought_by s.block (get_or (blocks_told us) (home (mirror_setting s devices us) u) [])
+  pub equal : AreEqualLegs s devices us
   pub bytes : AreBytes (mirror_setting s devices us) (half_of s devices) (blocks_told us)
   pub no_escape : NoneEscapes (mirror_setting s devices us) (script_asks (mirror_setting s devices us) (half_of s devices) s.ops (opening_over s us)) (opening_over s us)
   pub shown : detectable (mirror_setting s devices us) (script_asks (mirror_setting s devices us) (half_of s devices) s.ops (opening_over s us)) (opening_over s us) ≡ true
   pub one_good : OneGood (mirror_setting s devices us) (half_of s devices) s.ops
+
+-- The same by what a reader of the script sees, but that the blocks are clean and the legs equal: the faults have the form under which each is shown, none names a block that another names on the other leg, there is no overwrite, and no `write` has the application tag FFFFh. What is stored is bytes.
+pub record IsFormedMirror (s : Script) (devices : List DeviceInfo) (us : List Stored) : Type 0 where
+  pub ty : (table_of s devices).ty ≡ One
+  pub protect : s.mode.protect ≡ 1
+  pub form : shows_on_legs s.mode.kind s.block (half_of s devices) s.faults s.ops ≡ true
+  pub a_leg : leaves_a_leg (half_of s devices) s.faults s.ops ≡ true
+  pub escapes : escapes_none s.ops ≡ true
+  pub bytes : All (All (λ x. x < 256)) (blocks_told us)
+  pub clean : DevicesAreClean (mirror_setting s devices us) devices (blocks_told us)
+  pub equal : AreEqualLegs s devices us

@@ -1,0 +1,70 @@
+-- One good leg of each block was enough.
+use Rattle.std.proofs.Common.{◌≡◌, ℕ, ◌+◌, List, ◌∷◌, ◌++◌, length, sym, ap, subst, ◌∙◌}
+use Rattle.std.proofs.Math.Seq.{take-length}
+use Rattle.page_pool.specs.declared.segs.Seg.{Seg}
+use Rattle.target_answer.specs.Target.{Stored}
+use Rattle.block_path.specs.Acts.{State}
+use Rattle.block_path.specs.Serial.{plain}
+use Rattle.stack_ops.specs.declared.op.Op.{Op}
+use Rattle.stack_ops.specs.declared.op.Op.TheVariants.{Fetch}
+use Rattle.volume_table.specs.declared.device.DeviceInfo.{DeviceInfo}
+use Rattle.whole_run.specs.Past.{steps_from}
+use Rattle.whole_run.specs.Settings.{Setting}
+use Rattle.script_text.specs.declared.script.Script.{Script}
+use Rattle.mirror_walk.specs.Mirror.{Mirror as Walk, count_of, done, mirror_opened, mirror_walk}
+use Rattle.mirror_walk.specs.OneGood.{AreBytes, HoldsProper, IsMirrorRun, IsRepaired, ReadsLast, last_of, on_leg}
+use Rattle.mirror_walk.specs.Repair.{Repair, mirror_repair}
+use Rattle.mirror_walk.specs.declared.marks.Marks.{Marks}
+use Rattle.leg_runs.specs.Standing.{IsOver, IsRepairedAs, half_of, mirror_setting, walked}
+use Rattle.mirror_volume.specs.Enough.{WasEnough, opening_over}
+use Rattle.mirror_volume.specs.Premises.{IsOneGoodRun}
+use Rattle.mirror_volume.proofs.Premises.{mirror-run}
+
+-- what the laws of one good leg say
+abbrev pub ReadsLaw : Type 0
+ReadsLaw = (m : Setting) (devices : List DeviceInfo) (half : ℕ) (before after : List Op) (v n : ℕ) (body : List Seg) (opening : State)
+    → IsMirrorRun m devices half (before ++ (Fetch v n body ∷ after)) opening → ReadsLast m half (before ++ (Fetch v n body ∷ after)) before v n body opening
+
+abbrev pub EqualLaw : Type 0
+EqualLaw = (m : Setting) (devices : List DeviceInfo) (half : ℕ) (ops : List Op) (opening : State) → IsMirrorRun m devices half ops opening → AreBytes m half opening.blocks → IsRepaired m half ops opening
+
+-- after all ops
+module _ (s : Script) (devices : List DeviceInfo) (us : List Stored) where
+  abbrev all_walked : Walk
+  all_walked = mirror_walk (mirror_setting s devices us) (half_of s devices) s.ops (opening_over s us)
+
+  pub walked-all : walked s devices us (length s.ops) ≡ mirror_walk (mirror_setting s devices us) (half_of s devices) s.ops (opening_over s us)
+  walked-all =
+      ap (λ (ops : List Op). plain (done (mirror_setting s devices us) (half_of s devices) (count_of s.ops)) (steps_from (mirror_setting s devices us) 1 ops) (mirror_opened (half_of s devices) (opening_over s us)))
+      (take-length s.ops)
+
+  pub repaired-all : mirror_repair (mirror_setting s devices us) (half_of s devices) (walked s devices us (length s.ops))
+      ≡ mirror_repair (mirror_setting s devices us) (half_of s devices) (mirror_walk (mirror_setting s devices us) (half_of s devices) s.ops (opening_over s us))
+  repaired-all = ap (mirror_repair (mirror_setting s devices us) (half_of s devices)) walked-all
+
+-- by what the walk and its repair come to
+pub enough-by : (s : Script) (devices : List DeviceInfo) (us left : List Stored) (marks : List Marks) (repaired lost : ℕ)
+    → ((before after : List Op) (v n : ℕ) (body : List Seg) → s.ops ≡ before ++ (Fetch v n body ∷ after) → ReadsLast (mirror_setting s devices us) (half_of s devices) s.ops before v n body (opening_over s us))
+    → IsRepaired (mirror_setting s devices us) (half_of s devices) s.ops (opening_over s us) → IsRepairedAs s devices us (length s.ops) marks repaired lost left → WasEnough s devices us left lost
+enough-by s devices us left marks repaired lost reads mended done_as =
+    let m = mirror_setting s devices us in
+    let half = half_of s devices in
+    let opening = opening_over s us in
+    record {
+      reads = reads;
+      equal = λ u l leg. subst (λ (blocks : List (List ℕ)). HoldsProper m (on_leg leg u (half + u)) (last_of m half (count_of s.ops) (steps_from m 1 s.ops) opening u) blocks)
+          (sym (done_as.blocks ∙ ap (λ (r : Repair). r.blocks) (repaired-all s devices us))) (mended.holds u l leg);
+      lost_none = done_as.lost_is ∙ ap (λ (r : Repair). r.lost) (repaired-all s devices us) ∙ mended.lost;
+    }
+
+pub was-enough : ReadsLaw → EqualLaw → (s : Script) (devices : List DeviceInfo) (us left : List Stored) (marks : List Marks) (repaired lost : ℕ) → IsOver s devices us → IsOneGoodRun s devices us
+    → IsRepairedAs s devices us (length s.ops) marks repaired lost left → WasEnough s devices us left lost
+was-enough reads equal s devices us left marks repaired lost over p served =
+    let m = mirror_setting s devices us in
+    let half = half_of s devices in
+    let opening = opening_over s us in
+    let run = mirror-run s devices us over p in
+    enough-by s devices us left marks repaired lost
+    (λ before after v n body e. subst (λ (ops : List Op). ReadsLast m half ops before v n body opening) (sym e)
+    (reads m devices half before after v n body opening (subst (λ (ops : List Op). IsMirrorRun m devices half ops opening) e run)))
+    (equal m devices half s.ops opening run p.bytes) served

@@ -1,0 +1,132 @@
+-- A bound script on a mirror whose faults have the form: all that one good leg asks.
+use Rattle.std.proofs.Common.{◌≡◌, ◌<◌, ℕ, suc, ◌*◌, ◌%◌, ◌⊎◌, inl, inr, true, false, not, List, [], ◌∷◌, arith}
+use Rattle.std.specs.Prelude.{All}
+use Rattle.std.specs.List.{list_all, list_any}
+use Rattle.std.proofs.lemmas.Bool.{and_parts, not-true}
+use Rattle.std.proofs.lemmas.List.Elements.{All-cons, All-nil, All-replicate}
+use Rattle.hex.specs.Hex.{IsBytes}
+use Rattle.fault_schedule.specs.declared.fault.FaultKind.{FaultKind}
+use Rattle.fault_schedule.specs.declared.fault.FaultKind.TheVariants.{Flip, Shift}
+use Rattle.fault_schedule.specs.declared.fault.FaultLine.{FaultLine}
+use Rattle.dix_adapter.specs.Ways.{blocks_told}
+use Rattle.stack_ops.specs.declared.op.Op.{Op}
+use Rattle.stack_ops.specs.declared.op.Op.TheVariants.{Fetch, FetchPi, Fill, Overwrite, Put, Seal, Show, Wait, Write, WritePi}
+use Rattle.target_answer.specs.Target.{Stored}
+use Rattle.volume_table.specs.Places.{place_in, volume_len}
+use Rattle.volume_table.specs.declared.device.DeviceInfo.{DeviceInfo}
+use Rattle.block_path.specs.Acts.{State}
+use Rattle.script_text.specs.declared.script.Script.{Script}
+use Rattle.script_laws.specs.Keeping.{Each, IsFault, IsKind, IsOp as KeepsRules}
+use Rattle.script_ground.proofs.OverUnits.{cell-there}
+use Rattle.script_stack.specs.Causes.{table_of}
+use Rattle.whole_run.specs.CalmRun.{LiesIn}
+use Rattle.whole_run.specs.Detectable.{detectable}
+use Rattle.whole_run.specs.Settings.{Setting}
+use Rattle.whole_run.specs.UnderMap.{AreClean, NoneEscapes, address_of, home}
+use Rattle.run_laws.specs.ShownRun.{DevicesAreClean}
+use Rattle.run_premises.specs.Forms.{is_overwrite, supplies_none}
+use Rattle.run_premises.specs.FormedRun.{IsOfBytes}
+use Rattle.mirror_walk.specs.OneGood.{AreBytes, OneGood, script_asks}
+use Rattle.mirror_premises.specs.Forms.{is_good_on_legs, spares_other_leg}
+use Rattle.mirror_premises.specs.FormedMirror.{AllPutBytes, HasFormedLegs, PutsBytes}
+use Rattle.leg_runs.proofs.Ground.{fits, legs, made-over, sizes}
+use Rattle.leg_runs.specs.Standing.{IsOver, half_of, mirror_setting}
+use Rattle.mirror_volume.specs.Enough.{opening_over}
+use Rattle.mirror_volume.specs.Premises.{IsFormedMirror, IsOneGoodRun}
+use Rattle.mirror_volume.proofs.Premises.{all-bound, checked-over}
+
+-- what the laws of the form say
+abbrev pub FormLaw : Type 0
+FormLaw = (m : Setting) (devices : List DeviceInfo) (half : ℕ) (ops : List Op) (opening : State) → HasFormedLegs m devices half ops opening → detectable m (script_asks m half ops opening) opening ≡ true
+
+abbrev pub EscapeLaw : Type 0
+EscapeLaw = (m : Setting) (half : ℕ) (ops : List Op) (opening : State) → list_all supplies_none ops ≡ true → NoneEscapes m (script_asks m half ops opening) opening
+
+abbrev pub LegLaw : Type 0
+LegLaw = (m : Setting) (half : ℕ) (ops : List Op) → list_all (spares_other_leg half ops m.site.faults) m.site.faults ≡ true → list_any is_overwrite ops ≡ false → OneGood m half ops
+
+-- ---- bytes
+
+even : (n : ℕ) → (n ≡ 512) ⊎ (n ≡ 4096) → n % 2 ≡ 0
+even n (inl e) = omega arith
+even n (inr e) = omega arith
+
+are-bytes : (xs : List ℕ) → IsBytes xs → All (λ x. x < 256) xs
+are-bytes [] h = All-nil (λ (x : ℕ). x < 256)
+are-bytes (x ∷ xs) h = All-cons (λ (y : ℕ). y < 256) x xs (h 0) (are-bytes xs (λ i. h (suc i)))
+
+kind-bytes : (size : ℕ) (f : FaultLine) (kind : FaultKind) → IsKind size f kind → IsOfBytes kind
+kind-bytes size f (Flip off bytes) h = are-bytes bytes h.are_bytes
+kind-bytes size f (Shift by) h = tt
+
+lines-bytes : (size : ℕ) (ops : List Op) (faults : List FaultLine) → Each (IsFault size ops) faults → All (λ (line : FaultLine). IsOfBytes line.kind) faults
+lines-bytes size ops [] h = All-nil (λ (line : FaultLine). IsOfBytes line.kind)
+lines-bytes size ops (f ∷ faults) h = All-cons (λ (line : FaultLine). IsOfBytes line.kind) f faults (kind-bytes size f f.kind h.0.kind_is) (lines-bytes size ops faults h.1)
+
+puts-op : (dix : _) (pages size : ℕ) (op : Op) → KeepsRules dix pages size op → PutsBytes op
+puts-op dix pages size (Fill seg byte) k = k.ranges
+puts-op dix pages size (Put page off bytes) k = are-bytes bytes k.ranges.0
+puts-op dix pages size (Show seg) k = tt
+puts-op dix pages size (Seal n body tuples app rtag) k = tt
+puts-op dix pages size (Write v n body app) k = tt
+puts-op dix pages size (Fetch v n body) k = tt
+puts-op dix pages size (WritePi v n body tuples) k = tt
+puts-op dix pages size (FetchPi v n body tuples) k = tt
+puts-op dix pages size (Overwrite dev lba change) k = tt
+puts-op dix pages size Wait k = tt
+
+puts-each : (dix : _) (pages size : ℕ) (ops : List Op) → Each (KeepsRules dix pages size) ops → AllPutBytes ops
+puts-each dix pages size [] h = tt
+puts-each dix pages size (op ∷ ops) h = (puts-op dix pages size op h.0, puts-each dix pages size ops h.1)
+
+-- ---- over units
+
+module _ (s : Script) (devices : List DeviceInfo) (us : List Stored) (is : IsOver s devices us) where
+  abbrev m : Setting
+  m = mirror_setting s devices us
+
+  lies-in : All (All (λ x. x < 256)) (blocks_told us) → LiesIn m (volume_len m.entries) (blocks_told us)
+  lies-in bytes =
+      let t = table_of s devices in
+      let made = made-over s devices us is in
+      record {
+        within = λ v l. cell-there s t us (place_in t.entries v).0 (place_in t.entries v).1 (made.inside v l);
+        apart = (legs s devices us is).one_cell_each;
+        size = (sizes s devices us is).stored;
+        bytes = λ v l. bytes (home m v) [] (cell-there s t us (place_in t.entries v).0 (place_in t.entries v).1 (made.inside v l));
+      }
+
+  pub leg-bytes : All (All (λ x. x < 256)) (blocks_told us) → AreBytes m (half_of s devices) (blocks_told us)
+  leg-bytes bytes u l = let g = (fits s devices us is).long in (lies-in bytes).bytes u (omega (arith, g, l))
+
+  are-clean : DevicesAreClean m devices (blocks_told us) → AreClean m (blocks_told us)
+  are-clean clean v l z = clean v (address_of m v) l (is.bound.made.inside v l)
+
+  formed-legs : EscapeLaw → IsFormedMirror s devices us → HasFormedLegs m devices (half_of s devices) s.ops (opening_over s us)
+  formed-legs none p = record {
+    checked = checked-over s devices us is p.ty p.protect;
+    even = even s.block is.bound.keeps.block_is;
+    flips = lines-bytes s.block s.ops s.faults is.bound.keeps.faults_are;
+    pages = All-replicate (λ x. x < 256) (4096 * s.pages) 0 (omega arith);
+    long = (fits s devices us is).long;
+    lies = lies-in p.bytes;
+    clean = are-clean p.clean;
+    bind = all-bound s devices us is;
+    puts = puts-each s.mode.dix s.pages s.block s.ops is.bound.keeps.ops_are;
+    no_escape = none m (half_of s devices) s.ops (opening_over s us) p.escapes;
+    form = p.form;
+  }
+
+  pub good-run : FormLaw → EscapeLaw → LegLaw → IsFormedMirror s devices us → IsOneGoodRun s devices us
+  good-run shown none one p =
+      let form = and_parts (list_all (is_good_on_legs s.mode.kind s.block (half_of s devices) s.faults s.ops) s.faults) (not (list_any is_overwrite s.ops)) p.form in
+      record {
+        ty = p.ty;
+        protect = p.protect;
+        clean = p.clean;
+        equal = p.equal;
+        bytes = leg-bytes p.bytes;
+        no_escape = none m (half_of s devices) s.ops (opening_over s us) p.escapes;
+        shown = shown m devices (half_of s devices) s.ops (opening_over s us) (formed-legs none p);
+        one_good = one m (half_of s devices) s.ops p.a_leg (not-true _ form.1);
+      }
