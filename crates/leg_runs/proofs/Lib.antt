@@ -28,3 +28,4 @@ pub mod Nexts
 pub mod Dones
 pub mod Ends
 pub mod Starts
+pub mod Lines

@@ -13,7 +13,7 @@ use Rattle.stack_ops.specs.declared.reply.Reply.{Reply}
 use Rattle.volume_table.specs.declared.device.DeviceInfo.{DeviceInfo}
 use Rattle.volume_table.specs.Tables.{Table}
 use Rattle.whole_run.specs.Past.{steps_from}
-use Rattle.stack_core.specs.Mediums.{RoseBy}
+use Rattle.stack_core.specs.Mediums.{RoseBy, medium_lines}
 use Rattle.script_text.specs.declared.script.Script.{Script}
 use Rattle.script_stack.specs.Causes.{table_of}
 use Rattle.script_stack.specs.Going.{Outside}
@@ -28,6 +28,7 @@ use Rattle.leg_runs.specs.Mending.{IsRepairOf, RepairBy, stretches_in}
 use Rattle.leg_runs.specs.OnOps.{OpAsks, OpBy, OpRan, OpTells, Sides}
 use Rattle.mirror_volume.specs.Enough.{opening_over}
 use Rattle.leg_runs.specs.Standing.{IsRepairedAs, StandsAt, half_of, mirror_setting, op_at, walked}
+use Rattle.leg_runs.proofs.Lines.{lines-append, op-lines, rose-later}
 use Rattle.leg_runs.proofs.Runs.{all_backed-append, all_mediums-append, all_records-append, calm-first, calm-last, go_on-append, rose-add}
 use Rattle.mirror_verdict.specs.Stages.{Broke, Finished, HasServed, InStretches, OneMore, Served, Stage, repair_over, walk_over}
 
@@ -99,6 +100,7 @@ module _ (s : Script) (devices : List DeviceInfo) (begun : Stage) where
       medium = subst (λ (rs : List LegRun). RoseBy (all_mediums rs) begun.outside.faults begun.outside.faults) (sym runs) (inl (omega arith));
       goes = subst (λ (rs : List LegRun). GoOn s.schedule 0 rs begun.used) (sym runs) used;
     };
+    lines = subst (λ (rs : List Reply). RoseBy (medium_lines rs) begun.outside.faults begun.outside.faults) (sym replies) (inl (omega arith));
     told = λ us e calm. (us, (e, subst (λ (rs : List Reply). StandsAt s devices us begun.sides rs us) (sym replies) (stands us)));
   }
 
@@ -116,6 +118,9 @@ module _ (s : Script) (devices : List DeviceInfo) (begun : Stage) where
         count = omega (arith, e, l, c);
         stretches = subst (λ (rs : List LegRun). InStretches s devices rs new.used begun.outside new.outside) (sym runs_are)
             (stretches-more s devices old.runs runs old.used new.used begun.outside old.outside new.outside served.stretches fell goes);
+        lines = subst (λ n. RoseBy n begun.outside.faults new.outside.faults) (sym (ap medium_lines replies_are ∙ lines-append old.replies (reply ∷ [])))
+            (rose-add (medium_lines old.replies) (medium_lines (reply ∷ [])) begun.outside.faults old.outside.faults new.outside.faults served.stretches.faults fell.faults served.lines
+            (op-lines s t devices (half_of s devices) (length old.replies + 1) (op_at s.ops (length old.replies)) old.sides new.sides runs reply old.outside new.outside by ran tells));
         told = λ us u calm.
             (let x = served.told us u (calm-first begun.outside.faults old.outside.faults new.outside.faults served.stretches.faults fell.faults calm) in
             on us x.0 x.1.0 (calm-last begun.outside.faults old.outside.faults new.outside.faults served.stretches.faults fell.faults calm) x.1.1);
@@ -189,6 +194,7 @@ finishes s devices begun old new repaired lost after runs served ran goes mended
       runs = runs;
       mended = mended;
       stretches = stretches-more s devices old.runs runs old.used new.state.used begun.outside old.outside after served.stretches fell goes;
+      lines = subst (λ (rs : List Reply). RoseBy (medium_lines rs) begun.outside.faults after.faults) (sym replies) (rose-later (medium_lines old.replies) begun.outside.faults old.outside.faults after.faults fell.faults served.lines);
       told = λ us u calm.
           (let x = served.told us u (calm-first begun.outside.faults old.outside.faults after.faults served.stretches.faults fell.faults calm) in
           let y = on us x.0 x.1.0 (calm-last begun.outside.faults old.outside.faults after.faults served.stretches.faults fell.faults calm) x.1.1 in

@@ -6,7 +6,7 @@ use Rattle.target_answer.specs.Target.{Stored}
 use Rattle.volume_table.specs.declared.device.DeviceInfo.{DeviceInfo}
 use Rattle.dix_adapter.specs.Ways.{blocks_told, shapes_of}
 use Rattle.stack_ops.specs.declared.reply.Reply.{Reply}
-use Rattle.stack_core.specs.Mediums.{RoseBy}
+use Rattle.stack_core.specs.Mediums.{RoseBy, medium_lines}
 use Rattle.script_text.specs.declared.script.Script.{Script}
 use Rattle.script_stack.specs.Causes.{table_of}
 use Rattle.script_stack.specs.Going.{Outside}
@@ -57,11 +57,12 @@ pub record InStretches (s : Script) (devices : List DeviceInfo) (runs : List Leg
   pub medium : RoseBy (all_mediums runs) before.faults after.faults
   pub goes : GoOn s.schedule 0 runs used
 
--- After k ops, over any rig; and over one that tells its blocks, and whose count of faults didn't rise, pages, marks, stored blocks and replies are those of the mirror's walk.
+-- After k ops, over any rig: the lines of the replies that name the medium are at most as many as the count of faults rose. And over one that tells its blocks, and whose count of faults didn't rise, pages, marks, stored blocks and replies are those of the mirror's walk.
 pub record Served (s : Script) (devices : List DeviceInfo) (begun : Stage) (k : ℕ) (now : Stage) : Type 0 where
   pub stood : Stood s devices begun k now
   pub count : length now.replies ≡ k
   pub stretches : InStretches s devices now.runs now.used begun.outside now.outside
+  pub lines : RoseBy (medium_lines now.replies) begun.outside.faults now.outside.faults
   pub told : (us : List Stored) → begun.outside.units ≡ Some us → Calm begun.outside.faults now.outside.faults
       → (left : List Stored) × ((now.outside.units ≡ Some left) × StandsAt s devices us now.sides now.replies left)
 
@@ -102,7 +103,7 @@ pub record HasServed (s : Script) (devices : List DeviceInfo) (us left : List St
   pub repaired_is : repaired ≡ (repair_over s devices us).repaired
   pub lost_is : lost ≡ (repair_over s devices us).lost
 
--- All ops were done, and then the repair.
+-- All ops were done, and then the repair. Over any rig the lines of the replies that name the medium are at most as many as the count of faults rose.
 pub record Finished (s : Script) (devices : List DeviceInfo) (begun : Stage) (r : Mirror) (repaired lost : ℕ) (after : Outside) : Type 0 where
   pub stage : Stage
   pub served : Served s devices begun (length s.ops) stage
@@ -111,5 +112,6 @@ pub record Finished (s : Script) (devices : List DeviceInfo) (begun : Stage) (r 
   pub runs : List LegRun
   pub mended : RepairBy s (half_of s devices) 0 (stretches_in (half_of s devices)) (record { marks = stage.sides.marks; repaired = 0; lost = 0 }) (record { marks = r.state.marks.items; repaired = repaired; lost = lost }) runs
   pub stretches : InStretches s devices (stage.runs ++ runs) r.state.used begun.outside after
+  pub lines : RoseBy (medium_lines r.replies.items) begun.outside.faults after.faults
   pub told : (us : List Stored) → begun.outside.units ≡ Some us → Calm begun.outside.faults after.faults
       → (left : List Stored) × ((after.units ≡ Some left) × HasServed s devices us left r.state.pool r.replies.items r.state.marks.items repaired lost)
