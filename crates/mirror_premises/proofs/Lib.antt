@@ -4,3 +4,6 @@ mod Places
 mod Legs
 mod Runs
 mod Rows
+mod Protects
+mod StillWalk
+mod Still

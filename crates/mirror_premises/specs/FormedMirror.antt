@@ -1,16 +1,22 @@
-use Rattle.std.specs.Prelude.{ℕ, ◌≡◌, ◌+◌, ◌%◌, ◌<◌, true, List, [], ◌∷◌, length, All}
+use Rattle.std.specs.Prelude.{ℕ, ◌≡◌, ◌+◌, ◌%◌, ◌<◌, true, false, List, [], ◌∷◌, ◌++◌, length, All, get_or}
+use Rattle.std.specs.List.{list_any}
+use Rattle.pi_tuple.specs.declared.checks.PiType.TheVariants.{One}
+use Rattle.page_pool.specs.declared.segs.Seg.{Seg}
 use Rattle.fault_schedule.specs.declared.fault.FaultLine.{FaultLine}
 use Rattle.stack_ops.specs.declared.op.Op.{Op}
 use Rattle.stack_ops.specs.declared.op.Op.TheVariants.{Fetch, FetchPi, Fill, Overwrite, Put, Seal, Show, Wait, Write, WritePi}
 use Rattle.volume_table.specs.Places.{volume_len}
 use Rattle.volume_table.specs.declared.device.DeviceInfo.{DeviceInfo}
 use Rattle.block_path.specs.Acts.{State}
+use Rattle.block_path.specs.Routes.{target}
 use Rattle.whole_run.specs.CalmRun.{LiesIn}
+use Rattle.whole_run.specs.Past.{brought_by}
 use Rattle.whole_run.specs.Settings.{Setting}
-use Rattle.whole_run.specs.UnderMap.{AreClean, NoneEscapes}
-use Rattle.run_laws.specs.ShownRun.{IsChecked}
+use Rattle.whole_run.specs.UnderMap.{AreClean, NoneEscapes, home}
+use Rattle.run_laws.specs.ShownRun.{DevicesAreClean, HasCells, IsChecked, LiesOn}
+use Rattle.run_premises.specs.Forms.{escapes_none, is_overwrite}
 use Rattle.run_premises.specs.FormedRun.{IsOfBytes}
-use Rattle.mirror_walk.specs.OneGood.{AllBind, script_asks}
+use Rattle.mirror_walk.specs.OneGood.{AllBind, AreBytes, IsRepaired, ReadsLast, script_asks}
 use Rattle.mirror_premises.specs.Forms.{shows_on_legs}
 
 -- What is asked of a script on a mirror so that its faults are shown by their form.
@@ -45,3 +51,26 @@ pub record HasFormedLegs (m : Setting) (devices : List DeviceInfo) (half : ℕ) 
   pub puts : AllPutBytes ops
   pub no_escape : NoneEscapes m (script_asks m half ops opening) opening
   pub form : shows_on_legs m.mode.kind m.size half m.site.faults ops ≡ true
+
+-- There are no faults and no op that overwrites a stored block, and no `write` has the application tag FFFFh. The volume is of type 1, and tuples pass all the way, under any protect field but 000b, with a target behind the adapter. Both legs are clean, with the same data and application tags, and those of leg 0 are made of bytes.
+pub record HasStillLegs (m : Setting) (devices : List DeviceInfo) (half : ℕ) (ops : List Op) (opening : State) : Type 0 where
+  pub ty : m.ty ≡ One
+  pub dix : m.mode.dix ≡ true
+  pub dif : m.mode.dif ≡ true
+  pub protect : 0 < m.mode.protect
+  pub faults : m.site.faults ≡ []
+  pub device : m.site.device ≡ target []
+  pub long : volume_len m.entries ≡ half + half
+  pub lies : LiesOn m devices
+  pub cells : HasCells m devices opening.blocks
+  pub clean : DevicesAreClean m devices opening.blocks
+  pub equal : (u : ℕ) → u < half → brought_by m.size (get_or opening.blocks (home m (half + u)) []) ≡ brought_by m.size (get_or opening.blocks (home m u) [])
+  pub bytes : AreBytes m half opening.blocks
+  pub bind : AllBind m devices half (length opening.bytes) ops
+  pub overwrites : list_any is_overwrite ops ≡ false
+  pub escapes : escapes_none ops ≡ true
+
+-- Each read is whole with the data that were last accepted, and after the repair no block is lost and both legs hold them.
+pub record ServesLast (m : Setting) (half : ℕ) (ops : List Op) (opening : State) : Type 0 where
+  pub reads : (before after : List Op) (v n : ℕ) (body : List Seg) → ops ≡ before ++ (Fetch v n body ∷ after) → ReadsLast m half ops before v n body opening
+  pub repaired : IsRepaired m half ops opening

@@ -16,7 +16,9 @@ ghost use Rattle.whole_run.specs.UnderMap.{NoneEscapes};
 ghost use Rattle.run_premises.specs.Forms.{escapes_none, is_overwrite};
 ghost use Rattle.mirror_walk.specs.OneGood.{OneGood, script_asks};
 ghost use Rattle.mirror_premises.specs.Forms.{leaves_a_leg};
-ghost use Rattle.mirror_premises.specs.FormedMirror.{HasFormedLegs};
+ghost use Rattle.mirror_premises.specs.FormedMirror.{HasFormedLegs, HasStillLegs, ServesLast};
+
+use mirror_walk::{a_mirror_reads_the_last_write, a_repair_makes_both_legs_equal};
 
 /// A law: over clean legs, with no escape, faults that have the form can each be shown, on both legs.
 pub fn faults_on_a_mirror_are_shown_by_their_form()
@@ -35,3 +37,12 @@ pub fn no_write_on_a_mirror_supplies_an_escape_by_its_form()
 pub fn each_block_of_a_mirror_has_a_leg_by_its_form()
     ensures { (m : Setting) (half : ℕ) (ops : List AnyOp) → leaves_a_leg half m.site.faults ops ≡ true → list_any is_overwrite ops ≡ false → OneGood m half ops }
 {}
+
+/// A law: on a mirror of type 1 without faults, over clean legs that are equal, under any protect field with tuples: each
+/// read is whole with the data that were last accepted, and after the repair both legs hold these and no block is lost.
+pub fn a_still_mirror_serves_the_last_write_under_any_protect_field()
+    ensures { (m : Setting) (devices : List AnyDevice) (half : ℕ) (ops : List AnyOp) (opening : State) → HasStillLegs m devices half ops opening → ServesLast m half ops opening }
+{
+    a_mirror_reads_the_last_write();
+    a_repair_makes_both_legs_equal();
+}
