@@ -17,7 +17,7 @@ use Rattle.leg_runs.specs.Standing.{HasDevices, IsBoundMirror, IsOver, IsRepaire
 use Rattle.mirror_volume.specs.declared.mirror.Mirror.{Mirror}
 use Rattle.mirror_volume.proofs.Enough.{repaired-all}
 use Rattle.mirror_volume.specs.Enough.{WasEnough}
-use Rattle.mirror_volume.specs.Premises.{IsFormedMirror, IsOneGoodRun}
+use Rattle.mirror_volume.specs.Premises.{IsFormedMirror, IsOneGoodRun, IsStillMirror}
 use Rattle.mirror_verdict.specs.Stages.{Broke, Finished, HasServed, stage_of}
 use Rattle.mirror_verdict.specs.Verdict.{HasMirrored, IsBegun, StoppedMidway, outside}
 use Rattle.mirror_verdict.specs.declared.mirrored.Mirrored.{Mirrored}
@@ -60,6 +60,9 @@ EnoughLaw = (s : Script) (devices : List DeviceInfo) (us left : List Stored) (ma
 abbrev pub FormedLaw : Type 0
 FormedLaw = (s : Script) (devices : List DeviceInfo) (us : List Stored) → IsOver s devices us → IsFormedMirror s devices us → IsOneGoodRun s devices us
 
+abbrev pub StillLaw : Type 0
+StillLaw = (s : Script) (devices : List DeviceInfo) (us left : List Stored) (marks : List Marks) (repaired lost : ℕ) → IsOver s devices us → IsStillMirror s devices us → IsRepairedAs s devices us (length s.ops) marks repaired lost left → WasEnough s devices us left lost
+
 as-repaired : (s : Script) (devices : List DeviceInfo) (us left : List Stored) (pool : List (List ℕ)) (replies : List Reply) (marks : List Marks) (repaired lost : ℕ) → HasServed s devices us left pool replies marks repaired lost
     → IsRepairedAs s devices us (length s.ops) marks repaired lost left
 as-repaired s devices us left pool replies marks repaired lost served =
@@ -72,18 +75,28 @@ as-repaired s devices us left pool replies marks repaired lost served =
       lost_is = served.lost_is ∙ ap (λ (r : Repair). r.lost) e;
     }
 
-module _ (law : EnoughLaw) (by_form : FormedLaw) (s : Script) (name : List ℕ) (devices : List DeviceInfo) (old told new : View) (begun : Mirror) (before armed : List FaultLine) (up : IsUp s name devices old told begun) (tells : is_some new.image ≡ is_some told.image) where
-  enough : (run : Mirrored) → Finished s devices (stage_of begun [] (outside told before)) run.mirror run.repair.repaired run.repair.lost (outside new armed)
-      → (us : List Stored) → told.seen.units ≡ Some us → Calm told.seen.faults new.seen.faults → IsOneGoodRun s devices us → (left : List Stored) × ((new.seen.units ≡ Some left) × WasEnough s devices us left run.repair.lost)
-  enough run ended us e calm p =
+module _ (law : EnoughLaw) (by_form : FormedLaw) (unfaulted : StillLaw) (s : Script) (name : List ℕ) (devices : List DeviceInfo) (old told new : View) (begun : Mirror) (before armed : List FaultLine) (up : IsUp s name devices old told begun) (tells : is_some new.image ≡ is_some told.image) where
+  -- by one of the laws, what it asks being `P`
+  by-law : (P : List Stored → Type 0) → ((us left : List Stored) (marks : List Marks) (repaired lost : ℕ) → IsOver s devices us → P us → IsRepairedAs s devices us (length s.ops) marks repaired lost left → WasEnough s devices us left lost)
+      → (run : Mirrored) → Finished s devices (stage_of begun [] (outside told before)) run.mirror run.repair.repaired run.repair.lost (outside new armed)
+      → (us : List Stored) → told.seen.units ≡ Some us → Calm told.seen.faults new.seen.faults → P us → (left : List Stored) × ((new.seen.units ≡ Some left) × WasEnough s devices us left run.repair.lost)
+  by-law P says run ended us e calm p =
       let x = ended.told us e calm in (
         x.0,
         (
           x.1.0,
-          law s devices us x.0 run.mirror.state.marks.items run.repair.repaired run.repair.lost (over-told s name devices old told begun us up e) p
+          says us x.0 run.mirror.state.marks.items run.repair.repaired run.repair.lost (over-told s name devices old told begun us up e) p
               (as-repaired s devices us x.0 run.mirror.state.pool run.mirror.replies.items run.mirror.state.marks.items run.repair.repaired run.repair.lost x.1.1),
         ),
       )
+
+  enough : (run : Mirrored) → Finished s devices (stage_of begun [] (outside told before)) run.mirror run.repair.repaired run.repair.lost (outside new armed)
+      → (us : List Stored) → told.seen.units ≡ Some us → Calm told.seen.faults new.seen.faults → IsOneGoodRun s devices us → (left : List Stored) × ((new.seen.units ≡ Some left) × WasEnough s devices us left run.repair.lost)
+  enough = by-law (IsOneGoodRun s devices) (law s devices)
+
+  still : (run : Mirrored) → Finished s devices (stage_of begun [] (outside told before)) run.mirror run.repair.repaired run.repair.lost (outside new armed)
+      → (us : List Stored) → told.seen.units ≡ Some us → Calm told.seen.faults new.seen.faults → IsStillMirror s devices us → (left : List Stored) × ((new.seen.units ≡ Some left) × WasEnough s devices us left run.repair.lost)
+  still = by-law (IsStillMirror s devices) (unfaulted s devices)
 
   pub mirrored : (run : Mirrored) → Finished s devices (stage_of begun [] (outside told before)) run.mirror run.repair.repaired run.repair.lost (outside new armed) → HasMirrored run s name old new
   mirrored run ended = record {
@@ -99,6 +112,7 @@ module _ (law : EnoughLaw) (by_form : FormedLaw) (s : Script) (name : List ℕ) 
     tells = tells;
     enough = enough run ended;
     formed = λ us e calm p. enough run ended us e calm (by_form s devices us (over-told s name devices old told begun us up e) p);
+    still = still run ended;
   }
 
   pub midway : Broke s devices (stage_of begun [] (outside told before)) (outside new armed) → StoppedMidway s name old new

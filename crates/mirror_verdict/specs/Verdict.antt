@@ -23,7 +23,7 @@ use Rattle.mirror_volume.specs.Plans.{IsMirror}
 use Rattle.leg_runs.specs.Standing.{IsBoundMirror, half_of}
 use Rattle.mirror_volume.specs.declared.mirror.Mirror.{Mirror}
 use Rattle.mirror_volume.specs.Enough.{WasEnough}
-use Rattle.mirror_volume.specs.Premises.{IsFormedMirror, IsOneGoodRun}
+use Rattle.mirror_volume.specs.Premises.{IsFormedMirror, IsOneGoodRun, IsStillMirror}
 use Rattle.mirror_verdict.specs.Stages.{Broke, Finished, stage_of}
 use Rattle.mirror_verdict.specs.declared.mirrored.Mirrored.{Mirrored}
 
@@ -43,7 +43,7 @@ pub record IsBegun (s : Script) (devices : List DeviceInfo) (begun : Mirror) : T
 
 -- ---- a script that was run on a mirror
 
--- The image was opened, its devices told what they are, the script was bound to a mirror over them, its ops were done, and then the repair. `ended` says by which runs on the legs, and what these left; over a rig that tells its blocks, and whose count of faults didn't rise, it is the mirror's walk and its repair. `enough` says when one good leg was enough, and `formed` says it by what a reader of the script sees.
+-- The image was opened, its devices told what they are, the script was bound to a mirror over them, its ops were done, and then the repair. `ended` says by which runs on the legs, and what these left; over a rig that tells its blocks, and whose count of faults didn't rise, it is the mirror's walk and its repair. `enough` says when one good leg was enough, `formed` says it by what a reader of the script sees, and `still` says it of a script without faults under any protect field.
 pub record HasMirrored (run : Mirrored) (s : Script) (name : List ℕ) (old new : View) : Type 0 where
   pub devices : List DeviceInfo
   pub told : View
@@ -58,6 +58,8 @@ pub record HasMirrored (run : Mirrored) (s : Script) (name : List ℕ) (old new 
   pub enough : (us : List Stored) → told.seen.units ≡ Some us → Calm told.seen.faults new.seen.faults → IsOneGoodRun s devices us
       → (left : List Stored) × ((new.seen.units ≡ Some left) × WasEnough s devices us left run.repair.lost)
   pub formed : (us : List Stored) → told.seen.units ≡ Some us → Calm told.seen.faults new.seen.faults → IsFormedMirror s devices us
+      → (left : List Stored) × ((new.seen.units ≡ Some left) × WasEnough s devices us left run.repair.lost)
+  pub still : (us : List Stored) → told.seen.units ≡ Some us → Calm told.seen.faults new.seen.faults → IsStillMirror s devices us
       → (left : List Stored) × ((new.seen.units ≡ Some left) × WasEnough s devices us left run.repair.lost)
 
 -- The source was read to its end, and its script was run on a mirror.

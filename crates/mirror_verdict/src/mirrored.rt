@@ -10,7 +10,10 @@ ghost use Rattle.mirror_verdict.specs.Verdict.{CauseRefused, CauseStopped, HasMi
 use crate::binding::bind;
 use crate::serving::serve;
 use dix_base::Source;
-use mirror_volume::{Mirror, Repair, a_formed_mirror_has_one_good_leg, one_good_leg_is_enough};
+use mirror_volume::{
+    Mirror, Repair, a_formed_mirror_has_one_good_leg, no_fault_is_enough_under_any_protect_field,
+    one_good_leg_is_enough,
+};
 use rig_api::Rig;
 use script_text::Script;
 use script_verdict::{Refusal, is_any_bad, take_script};
@@ -52,6 +55,7 @@ pub fn run_mirror<R: Rig>(
     };
     one_good_leg_is_enough();
     a_formed_mirror_has_one_good_leg();
+    no_fault_is_enough_under_any_protect_field();
     match serve(alloc, &mut mirror, count, rig) {
         Ok(repair) => Ok(Mirrored { mirror, repair }),
         Err(_) => Err(Refusal::Memory),

@@ -1,5 +1,5 @@
 -- A bound script on a mirror whose faults have the form: all that one good leg asks.
-use Rattle.std.proofs.Common.{◌≡◌, ◌<◌, ℕ, suc, ◌*◌, ◌%◌, ◌⊎◌, inl, inr, true, false, not, List, [], ◌∷◌, arith}
+use Rattle.std.proofs.Common.{◌≡◌, ◌<◌, ℕ, suc, ◌*◌, ◌%◌, ◌⊎◌, inl, inr, true, false, not, List, [], ◌∷◌, arith, length, ap}
 use Rattle.std.specs.Prelude.{All}
 use Rattle.std.specs.List.{list_all, list_any}
 use Rattle.std.proofs.lemmas.Bool.{and_parts, not-true}
@@ -15,6 +15,8 @@ use Rattle.target_answer.specs.Target.{Stored}
 use Rattle.volume_table.specs.Places.{place_in, volume_len}
 use Rattle.volume_table.specs.declared.device.DeviceInfo.{DeviceInfo}
 use Rattle.block_path.specs.Acts.{State}
+use Rattle.block_path.specs.Routes.{target}
+use Rattle.mirror_walk.specs.declared.marks.Marks.{Marks}
 use Rattle.script_text.specs.declared.script.Script.{Script}
 use Rattle.script_laws.specs.Keeping.{Each, IsFault, IsKind, IsOp as KeepsRules}
 use Rattle.script_ground.proofs.OverUnits.{cell-there}
@@ -28,12 +30,13 @@ use Rattle.run_premises.specs.Forms.{is_overwrite, supplies_none}
 use Rattle.run_premises.specs.FormedRun.{IsOfBytes}
 use Rattle.mirror_walk.specs.OneGood.{AreBytes, OneGood, script_asks}
 use Rattle.mirror_premises.specs.Forms.{is_good_on_legs, spares_other_leg}
-use Rattle.mirror_premises.specs.FormedMirror.{AllPutBytes, HasFormedLegs, PutsBytes}
+use Rattle.mirror_premises.specs.FormedMirror.{AllPutBytes, HasFormedLegs, HasStillLegs, PutsBytes, ServesLast}
 use Rattle.leg_runs.proofs.Ground.{fits, legs, made-over, sizes}
-use Rattle.leg_runs.specs.Standing.{IsOver, half_of, mirror_setting}
-use Rattle.mirror_volume.specs.Enough.{opening_over}
-use Rattle.mirror_volume.specs.Premises.{IsFormedMirror, IsOneGoodRun}
-use Rattle.mirror_volume.proofs.Premises.{all-bound, checked-over}
+use Rattle.leg_runs.specs.Standing.{IsOver, IsRepairedAs, half_of, mirror_setting}
+use Rattle.mirror_volume.specs.Enough.{WasEnough, opening_over}
+use Rattle.mirror_volume.specs.Premises.{IsFormedMirror, IsOneGoodRun, IsStillMirror}
+use Rattle.mirror_volume.proofs.Enough.{enough-by}
+use Rattle.mirror_volume.proofs.Premises.{all-bound, checked-over, dif-on, has-cells, lies-on}
 
 -- what the laws of the form say
 abbrev pub FormLaw : Type 0
@@ -44,6 +47,9 @@ EscapeLaw = (m : Setting) (half : ℕ) (ops : List Op) (opening : State) → lis
 
 abbrev pub LegLaw : Type 0
 LegLaw = (m : Setting) (half : ℕ) (ops : List Op) → list_all (spares_other_leg half ops m.site.faults) m.site.faults ≡ true → list_any is_overwrite ops ≡ false → OneGood m half ops
+
+abbrev pub StillLaw : Type 0
+StillLaw = (m : Setting) (devices : List DeviceInfo) (half : ℕ) (ops : List Op) (opening : State) → HasStillLegs m devices half ops opening → ServesLast m half ops opening
 
 -- ---- bytes
 
@@ -130,3 +136,29 @@ module _ (s : Script) (devices : List DeviceInfo) (us : List Stored) (is : IsOve
         shown = shown m devices (half_of s devices) s.ops (opening_over s us) (formed-legs none p);
         one_good = one m (half_of s devices) s.ops p.a_leg (not-true _ form.1);
       }
+
+  -- ---- without faults
+
+  pub still-legs : IsStillMirror s devices us → HasStillLegs m devices (half_of s devices) s.ops (opening_over s us)
+  still-legs p = record {
+    ty = p.ty;
+    dix = (fits s devices us is).dix;
+    dif = dif-on s devices us is;
+    protect = (sizes s devices us is).protect;
+    faults = p.faults;
+    device = ap target p.faults;
+    long = (fits s devices us is).long;
+    lies = lies-on s devices us is;
+    cells = has-cells s devices us is;
+    clean = p.clean;
+    equal = p.equal;
+    bytes = leg-bytes p.bytes;
+    bind = all-bound s devices us is;
+    overwrites = p.overwrites;
+    escapes = p.escapes;
+  }
+
+  pub still-enough : StillLaw → (left : List Stored) (marks : List Marks) (repaired lost : ℕ) → IsStillMirror s devices us → IsRepairedAs s devices us (length s.ops) marks repaired lost left → WasEnough s devices us left lost
+  still-enough law left marks repaired lost p done_as =
+      let serves = law m devices (half_of s devices) s.ops (opening_over s us) (still-legs p) in
+      enough-by s devices us left marks repaired lost serves.reads serves.repaired done_as

@@ -1,5 +1,6 @@
 use Rattle.std.proofs.Common.{◌≡◌, ◌<◌, ℕ, zero, suc, ◌+◌, true, List, [], ◌∷◌, get_or, refl, arith}
-use Rattle.std.specs.Prelude.{All, None, nat_lt}
+use Rattle.std.specs.Prelude.{All, None, Some, nat_lt}
+use Rattle.script_lines.specs.declared.kind.ScriptKind.TheVariants.{BadFault}
 use Rattle.std.specs.List.{list_all}
 use Rattle.std.proofs.lemmas.Bool.{and_parts, ltb-true}
 use Rattle.std.proofs.lemmas.List.Elements.{All-cons, All-nil}
@@ -30,7 +31,7 @@ use Rattle.script_stack.specs.Causes.{table_of}
 use Rattle.mirror_script.specs.MirrorFaults.{mirror_fault}
 use Rattle.mirror_walk.specs.OneGood.{AreBytes, HasGoodLeg, IsUnnamed}
 use Rattle.leg_runs.specs.Standing.{half_of, mirror_setting}
-use Rattle.mirror_volume.specs.Premises.{IsFormedMirror, IsOneGoodRun}
+use Rattle.mirror_volume.specs.Premises.{IsFormedMirror, IsOneGoodRun, IsStillMirror}
 
 -- A script with a write and a read of the one block of a mirror, over two formatted units: the block's data are altered on their way to leg 0, which refuses them. It is bound as a mirror's, and meets the premises.
 
@@ -149,3 +150,30 @@ formed_row = record {
   clean = clean;
   equal = equal;
 }
+
+-- The same ops without the fault, under protect fields under which no fault line is admitted.
+abbrev still_script : (protect : ℕ) → Script
+still_script protect = record script { mode = record script.mode { protect = protect }; faults = []; lines = 9 ∷ 10 ∷ [] }
+
+still_bound : (mirror_fault (still_script 3) (table_of (still_script 3) devices) devices ≡ None) × (mirror_fault (still_script 4) (table_of (still_script 4) devices) devices ≡ None)
+still_bound = (refl, refl)
+
+still_clean : (protect : ℕ) → DevicesAreClean (mirror_setting (still_script protect) devices us) devices (blocks_told us)
+still_clean protect v lba l h =
+    let c = clean v lba l (record { known = h.known; begins = h.begins; ends = h.ends; type_is = h.type_is; size_is = h.size_is }) in
+    record { no_escape = c.no_escape; guard = c.guard; app = c.app; rtag = c.rtag }
+
+still_row : (protect : ℕ) → IsStillMirror (still_script protect) devices us
+still_row protect = record {
+  ty = refl;
+  faults = refl;
+  overwrites = refl;
+  escapes = refl;
+  bytes = all_bytes;
+  clean = still_clean protect;
+  equal = equal;
+}
+
+-- With the fault the script isn't still, and under 011b it isn't bound.
+not_bound : (λ (s : Script). mirror_fault s (table_of s devices) devices) (record script { mode = record script.mode { protect = 3 } }) ≡ Some (record { line = 7; kind = BadFault })
+not_bound = refl

@@ -69,7 +69,7 @@ module _ (s : Script) (devices : List DeviceInfo) (us : List Stored) (is : IsOve
 
   -- ---- the devices
 
-  lies-on : LiesOn m devices
+  pub lies-on : LiesOn m devices
   lies-on = record { inside = is.bound.made.inside; alone = is.bound.made.alone }
 
   cells-over : HasCells m (map info_of (shapes_of us)) (blocks_told us)
@@ -81,11 +81,11 @@ module _ (s : Script) (devices : List DeviceInfo) (us : List Stored) (is : IsOve
         size = λ dev lba h. told-long us t.ty s.block dev lba is.stored h;
       }
 
-  has-cells : HasCells m devices (blocks_told us)
+  pub has-cells : HasCells m devices (blocks_told us)
   has-cells = subst (λ (ds : List DeviceInfo). HasCells m ds (blocks_told us)) (sym is.units) cells-over
 
   -- tuples pass between adapter and target
-  dif-on : s.mode.dif ≡ true
+  pub dif-on : s.mode.dif ≡ true
   dif-on =
       let a = or-none (mode_fault s.mode t.ty) (or_else (length_fault (volume_len t.entries)) (or_else (faults_fault s.mode.protect s.ops s.faults s.lines) _)) is.bound.bound in
       (and_parts s.mode.dif (names_blocks t.ty) (and_parts s.mode.dix (s.mode.dif && names_blocks t.ty) (none_when (s.mode.dix && (s.mode.dif && names_blocks t.ty)) _ a.0)).1).0

@@ -1,5 +1,6 @@
 -- What is asked of a script on a mirror, and of the blocks that a rig tells, before one good leg per block is enough. All else that is asked there was seen to when the script was read and bound.
-use Rattle.std.specs.Prelude.{ℕ, ◌≡◌, ◌+◌, ◌<◌, true, List, [], All, get_or}
+use Rattle.std.specs.Prelude.{ℕ, ◌≡◌, ◌+◌, ◌<◌, true, List, [], All, get_or, false}
+use Rattle.std.specs.List.{list_any}
 use Rattle.pi_tuple.specs.declared.checks.PiType.TheVariants.{One}
 use Rattle.dix_adapter.specs.Ways.{blocks_told}
 use Rattle.target_answer.specs.Target.{Stored}
@@ -8,7 +9,7 @@ use Rattle.whole_run.specs.Detectable.{detectable}
 use Rattle.whole_run.specs.Past.{brought_by}
 use Rattle.whole_run.specs.UnderMap.{NoneEscapes, home}
 use Rattle.run_laws.specs.ShownRun.{DevicesAreClean}
-use Rattle.run_premises.specs.Forms.{escapes_none}
+use Rattle.run_premises.specs.Forms.{escapes_none, is_overwrite}
 use Rattle.script_text.specs.declared.script.Script.{Script}
 use Rattle.script_stack.specs.Causes.{table_of}
 use Rattle.mirror_walk.specs.OneGood.{AreBytes, OneGood, script_asks}
@@ -38,6 +39,16 @@ pub record IsFormedMirror (s : Script) (devices : List DeviceInfo) (us : List St
   pub protect : s.mode.protect ≡ 1
   pub form : shows_on_legs s.mode.kind s.block (half_of s devices) s.faults s.ops ≡ true
   pub a_leg : leaves_a_leg (half_of s devices) s.faults s.ops ≡ true
+  pub escapes : escapes_none s.ops ≡ true
+  pub bytes : All (All (λ x. x < 256)) (blocks_told us)
+  pub clean : DevicesAreClean (mirror_setting s devices us) devices (blocks_told us)
+  pub equal : AreEqualLegs s devices us
+
+-- No line of a fault, no overwrite, and no `write` with the application tag FFFFh; under any protect field. The volume is of type 1, each block of its devices is clean, both legs have the same data and application tags, and what is stored is bytes.
+pub record IsStillMirror (s : Script) (devices : List DeviceInfo) (us : List Stored) : Type 0 where
+  pub ty : (table_of s devices).ty ≡ One
+  pub faults : s.faults ≡ []
+  pub overwrites : list_any is_overwrite s.ops ≡ false
   pub escapes : escapes_none s.ops ≡ true
   pub bytes : All (All (λ x. x < 256)) (blocks_told us)
   pub clean : DevicesAreClean (mirror_setting s devices us) devices (blocks_told us)

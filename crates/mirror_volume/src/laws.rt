@@ -7,9 +7,10 @@ ghost use Rattle.script_text.specs.declared.script.Script.{Script as AnyScript};
 ghost use Rattle.mirror_walk.specs.declared.marks.Marks.{Marks as AnyMarks};
 ghost use Rattle.leg_runs.specs.Standing.{IsOver, IsRepairedAs};
 ghost use Rattle.mirror_volume.specs.Enough.{WasEnough};
-ghost use Rattle.mirror_volume.specs.Premises.{IsFormedMirror, IsOneGoodRun};
+ghost use Rattle.mirror_volume.specs.Premises.{IsFormedMirror, IsOneGoodRun, IsStillMirror};
 
 use mirror_premises::{
+    a_still_mirror_serves_the_last_write_under_any_protect_field,
     each_block_of_a_mirror_has_a_leg_by_its_form, faults_on_a_mirror_are_shown_by_their_form,
     no_write_on_a_mirror_supplies_an_escape_by_its_form,
 };
@@ -33,4 +34,12 @@ pub fn a_formed_mirror_has_one_good_leg()
     faults_on_a_mirror_are_shown_by_their_form();
     no_write_on_a_mirror_supplies_an_escape_by_its_form();
     each_block_of_a_mirror_has_a_leg_by_its_form();
+}
+
+/// A law: without a fault line and without an overwrite it is so under any protect field.
+pub fn no_fault_is_enough_under_any_protect_field()
+    ensures { (s : AnyScript) (devices : List AnyDevice) (us left : List Stored) (marks : List AnyMarks) (repaired lost : ℕ) → IsOver s devices us → IsStillMirror s devices us
+        → IsRepairedAs s devices us (length s.ops) marks repaired lost left → WasEnough s devices us left lost }
+{
+    a_still_mirror_serves_the_last_write_under_any_protect_field();
 }

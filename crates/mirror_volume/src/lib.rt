@@ -15,5 +15,8 @@ mod replies;
 mod stretches;
 mod writing;
 
-pub use laws::{a_formed_mirror_has_one_good_leg, one_good_leg_is_enough};
+pub use laws::{
+    a_formed_mirror_has_one_good_leg, no_fault_is_enough_under_any_protect_field,
+    one_good_leg_is_enough,
+};
 pub use mirror::{Mirror, Repair};
