@@ -43,7 +43,7 @@ pub record IsBegun (s : Script) (devices : List DeviceInfo) (begun : Mirror) : T
 
 -- ---- a script that was run on a mirror
 
--- The image was opened, its devices told what they are, the script was bound to a mirror over them, its ops were done, and then the repair. `ended` says by which runs on the legs, and what these left; over a rig that tells its blocks, and whose count of faults didn't rise, it is the mirror's walk and its repair. `enough` says when one good leg was enough, `formed` says it by what a reader of the script sees, and `still` says it of a script without faults under any protect field.
+-- The image was opened, its devices told what they are, the script was bound to a mirror over them, its ops were done, and then the repair. `ended` says by which runs on the legs, and what these left; over any rig the lines of the report that name the medium are at most as many as the count of faults rose; over one that tells its blocks, and whose count of faults didn't rise, it is the mirror's walk and its repair. `enough` says when one good leg was enough, `formed` says it by what a reader of the script sees, and `still` says it of a script without faults under any protect field.
 pub record HasMirrored (run : Mirrored) (s : Script) (name : List ℕ) (old new : View) : Type 0 where
   pub devices : List DeviceInfo
   pub told : View
