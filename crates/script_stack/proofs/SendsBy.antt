@@ -25,7 +25,7 @@ use Rattle.volume_table.specs.Tables.{Table}
 use Rattle.script_text.specs.declared.script.Script.{Script}
 use Rattle.stack_core.specs.declared.sheet.Sheet.{Sheet}
 use Rattle.stack_core.specs.declared.stack.Stack.{Stack}
-use Rattle.stack_core.specs.OnRecord.{AreRecords, HasQueues, HasSent, IsFormed, ListsNone, SendsOn}
+use Rattle.stack_core.specs.OnRecord.{AreRecords, HasQueues, HasSent, IsFormed, IsOfRequests, ListsNone, SendsOn}
 use Rattle.stack_walks.specs.Requests.{requests_from}
 use Rattle.stack_walks.specs.Sheets.{plan_of}
 use Rattle.stack_walks.specs.Shifts.{shifted_by}
@@ -34,19 +34,20 @@ use Rattle.stack_core.specs.Walking.{Walks}
 use Rattle.script_stack.specs.Sends.{IsPlanFor, SendsBy, SendsFor, entries_of}
 
 pub sends_nowhere : (es : List Entry) (s : Stack) (log : List Record) → SendsBy es s s log log
-sends_nowhere es s log = record { more = []; records = sym (append-nil log); formed = tt; on = λ before x. subst (HasSent es s) (sym (append-nil before)) x }
+sends_nowhere es s log = record { more = []; records = sym (append-nil log); formed = tt; of_requests = tt; on = λ before x. subst (HasSent es s) (sym (append-nil before)) x }
 
 pub sends_then : (es : List Entry) (s s' s'' : Stack) (log log' log'' : List Record) → Stays s s' → SendsBy es s s' log log' → SendsBy es s' s'' log' log'' → SendsBy es s s'' log log''
 sends_then es s s' s'' log log' log'' stays a b = record {
   more = a.more ++ b.more;
   records = b.records ∙ (ap (λ l. l ++ b.more) a.records ∙ append_assoc log a.more b.more);
   formed = each_both (IsFormed (mode_of s.adapter) s.adapter.ty) a.more b.more a.formed (subst (λ x. Each (IsFormed (mode_of x) x.ty) b.more) stays.adapter b.formed);
+  of_requests = each_both (IsOfRequests (plan_in s.sheet)) a.more b.more a.of_requests (subst (λ (sh : Sheet). Each (IsOfRequests (plan_in sh)) b.more) stays.sheet b.of_requests);
   on = λ before x. subst (HasSent es s'') (append_assoc before a.more b.more) (b.on (before ++ a.more) (a.on before x));
 }
 
 -- one step, where its word and its cut are the schedule's next
 pub sends_once : (es : List Entry) (word cut : ℕ) (s s' : Stack) (log log' : List Record) → entry_at es s.machine.steps ≡ record { word = word; cut = cut } → SendsOn word cut s s' log log' → SendsBy es s s' log log'
-sends_once es word cut s s' log log' e a = record { more = a.more; records = a.records; formed = a.formed; on = λ before x. a.on es before e x }
+sends_once es word cut s s' log log' e a = record { more = a.more; records = a.records; formed = a.formed; of_requests = a.of_requests; on = λ before x. a.on es before e x }
 
 -- what stands behind a list is one list
 pub append_left : {A : Type 0} (xs ys zs : List A) → xs ++ ys ≡ xs ++ zs → ys ≡ zs
@@ -142,6 +143,7 @@ sends_for s t begun r log log' more few all w m n opening first st whole walks e
       is_plan = plan;
       few = few es r more w.stack has;
       formed = formed_as (mode_of begun.adapter) s.mode begun.adapter.ty t.ty sent.more more (ap mode_of (sym w.stays.adapter) ∙ (sym walks.over.mode ∙ e)) (ap (λ x. x.ty) (sym w.stays.adapter) ∙ (sym walks.over.ty ∙ f)) same sent.formed;
+      of_requests = subst (λ (log : List Record). Each (IsOfRequests (plan_in r.sheet)) log) same (subst (λ (sh : Sheet). Each (IsOfRequests (plan_in sh)) sent.more) (sym w.stays.sheet) sent.of_requests);
       sent = each;
       pieces = λ none u. few_pieces (plan_in r.sheet) es more plan.queues u (each none);
     }

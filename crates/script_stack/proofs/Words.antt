@@ -33,6 +33,7 @@ sends_own s words t log replies h = record {
   is_plan = record { is = h.is_plan.is; queues = h.is_plan.queues };
   few = h.few;
   formed = h.formed;
+  of_requests = h.of_requests;
   sent = h.sent;
   pieces = h.pieces;
 }

@@ -9,10 +9,11 @@ use Rattle.stack_view.specs.Runs.{Entry, blocks_of_requests, sends_of}
 use Rattle.volume_table.specs.Tables.{Table}
 use Rattle.script_text.specs.declared.script.Script.{Script}
 use Rattle.dix_adapter.specs.Groups.{mode_of}
-use Rattle.stack_core.specs.OnRecord.{AreRecords, HasQueues, HasSent, IsFormed, ListsNone}
+use Rattle.stack_core.specs.OnRecord.{AreRecords, HasQueues, HasSent, IsFormed, IsOfRequests, ListsNone}
 use Rattle.stack_walks.specs.Requests.{requests_from}
 use Rattle.stack_walks.specs.Sheets.{plan_of}
 use Rattle.stack_walks.specs.Shifts.{shifted_by}
+use Rattle.stack_core.specs.Stacks.{plan_in}
 use Rattle.stack_core.specs.declared.stack.Stack.{Stack}
 
 -- the entries of a schedule, each a word and a cut
@@ -33,20 +34,22 @@ pub record IsPlanFor (s : Script) (t : Table) (p : Plan) : Type 0 where
   pub is : p ≡ plan_for s t p.devices
   pub queues : HasQueues p
 
--- The records of a run are at most as many as its requests have blocks. Each is of a READ or WRITE in the form that the script's mode and the volume's type call for. Where the replies list no block they are, in order and one for one, those of the groups that are sent where all blocks are good; so where besides no entry of the schedule cuts, they are at most as many as the greatest pieces of the requests.
+-- The records of a run are at most as many as its requests have blocks. Each is of a READ or WRITE in the form that the script's mode and the volume's type call for, and, whichever blocks are listed, of blocks of its requests, where these lie and with their labels. Where the replies list no block they are, in order and one for one, those of the groups that are sent where all blocks are good; so where besides no entry of the schedule cuts, they are at most as many as the greatest pieces of the requests.
 pub record SendsFor (s : Script) (t : Table) (log : List Record) (replies : List Reply) : Type 0 where
   pub plan : Plan
   pub is_plan : IsPlanFor s t plan
   pub few : length log ≤ blocks_of_requests plan.requests
   pub formed : Each (IsFormed s.mode t.ty) log
+  pub of_requests : Each (IsOfRequests plan) log
   pub sent : ListsNone replies → AreRecords (sends_of plan (entries_of s.schedule)) log
   pub pieces : ListsNone replies → All (λ e. e.cut ≡ 0) (entries_of s.schedule) → length log ≤ greatest_pieces plan 0 plan.requests
 
 -- ---- some steps
 
--- The stack goes on by a schedule, and these records are made, each of a command in the form that the adapter calls for.
+-- The stack goes on by a schedule, and these records are made, each of a group of its plan, in the form that the adapter calls for.
 pub record SendsBy (es : List Entry) (old new : Stack) (log log' : List Record) : Type 0 where
   pub more : List Record
   pub records : log' ≡ log ++ more
   pub formed : Each (IsFormed (mode_of old.adapter) old.adapter.ty) more
+  pub of_requests : Each (IsOfRequests (plan_in old.sheet)) more
   pub on : (before : List Record) → HasSent es old before → HasSent es new (before ++ more)

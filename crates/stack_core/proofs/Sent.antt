@@ -100,6 +100,8 @@ pub record CanCarry (s : Stack) (d i : ℕ) (group : List Bio) (st : Standing) (
   pub bytes : ℕ
   pub fits : Carry.IsGroup s.adapter s.pool bytes s.sheet.ios.items group
   pub most : Carry.size group ≤ s.sheet.limits.max_blocks
+  pub some : HasBlocks group
+  pub of_plan : IsGroup (plan_in s.sheet) d group
   pub few : Carry.size group ≤ blocks_of_requests (plan_in s.sheet).requests
   pub on : (Carry.first_of group).dev ≡ d
   pub device : (Carry.first_of group).dev < st.devices
@@ -127,6 +129,8 @@ can-carry s d i group m told st room k sp re rd tk =
       bytes = k.fixed.bytes;
       fits = carried-group s.sheet.ops s.sheet.shifted.items s.sheet.ios.items s.sheet.table s.sheet.limits s.sheet.devices d s.adapter s.pool k.fixed.bytes (group_at v d i) f k.fixed.uniform k.whole s.sheet.right.numbers fit.some g;
       most = omega arith;
+      some = fit.some;
+      of_plan = g;
       few = omega arith;
       on = hd;
       device = omega arith;

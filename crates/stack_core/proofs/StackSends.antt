@@ -13,9 +13,10 @@ use Rattle.dix_adapter.specs.Groups.{blocks_in, first_of, mode_of}
 use Rattle.dix_adapter.specs.Outcomes.{done_of}
 use Rattle.merge_queue.specs.Groups.{size}
 use Rattle.rig_api.specs.Log.{Entry as Record}
+use Rattle.stack_view.specs.Formed.{IsGroup}
 use Rattle.stack_view.specs.Plan.{Plan}
 use Rattle.stack_view.specs.Runs.{Entry, sent}
-use Rattle.stack_view.specs.Sound.{Settles}
+use Rattle.stack_view.specs.Sound.{HasBlocks, Settles}
 use Rattle.stack_steps.specs.declared.choice.Choice.{Choice}
 use Rattle.stack_steps.specs.declared.choice.Choice.TheVariants.{Complete, Send}
 use Rattle.stack_steps.specs.declared.machine.Machine.{Machine}
@@ -23,7 +24,7 @@ use Rattle.stack_steps.specs.Does.{Chooses, Does, Flies, Takes}
 use Rattle.stack_core.specs.declared.kept.Fates.{Fates}
 use Rattle.stack_core.specs.declared.sheet.Sheet.{Sheet}
 use Rattle.stack_core.specs.declared.stack.Stack.{Stack}
-use Rattle.stack_core.specs.OnRecord.{Carries, HasSentBy, IsFormed, IsRecordOf, SendsOn, Traces}
+use Rattle.stack_core.specs.OnRecord.{Carries, HasSentBy, IsFormed, IsOfRequests, IsRecordOf, SendsOn, Traces}
 use Rattle.stack_core.specs.Stacks.{HasStep, Stays, plan_in}
 use Rattle.stack_walks.proofs.Clear.{clear_in, clear_out, held_fails}
 use Rattle.stack_core.proofs.Goes.{either-way}
@@ -38,6 +39,7 @@ quiet_sends s s' word cut c log n stays h has does traces = record {
   more = [];
   records = sym (append-nil log);
   formed = tt;
+  of_requests = tt;
   on = λ es before e x. subst (HasSentBy es (plan_in s'.sheet) s'.machine s'.kept.starts.items s'.kept.held.items) (sym (append-nil before))
       (subst (λ (sh : Sheet). HasSentBy es (plan_in sh) s'.machine s'.kept.starts.items s'.kept.held.items before) (sym stays.sheet)
       (other_sends es (plan_in s.sheet) s.machine s'.machine s.kept.starts.items s'.kept.starts.items s.kept.held.items s'.kept.held.items word cut c before n h has does traces e x));
@@ -60,17 +62,19 @@ group_sends s s' word cut d i log log' stays h has x kept = by x.records
     stacked es after y = subst (λ (sh : Sheet). HasSentBy es (plan_in sh) s'.machine s'.kept.starts.items s'.kept.held.items after) (sym stays.sheet)
         (subst (λ (f : Fates). HasSentBy es (plan_in s.sheet) s'.machine f.starts.items f.held.items after) (sym kept) y)
 
-    by : ((e : Record) × (log' ≡ log ++ (e ∷ [])) × IsRecordOf (sent (record { dev = d; bios = x.group; fates = x.fates; completed = false })) e × IsFormed (mode_of s.adapter) s.adapter.ty e) ⊎ ((any_fails x.fates ≡ true) × (log' ≡ log)) → SendsOn word cut s s' log log'
+    by : ((e : Record) × (log' ≡ log ++ (e ∷ [])) × IsRecordOf (sent (record { dev = d; bios = x.group; fates = x.fates; completed = false })) e × IsFormed (mode_of s.adapter) s.adapter.ty e × IsOfRequests (plan_in s.sheet) e) ⊎ ((any_fails x.fates ≡ true) × (log' ≡ log)) → SendsOn word cut s s' log log'
     by (inl r) = record {
       more = r.0 ∷ [];
       records = r.1;
       formed = (r.3, tt);
+      of_requests = (r.4, tt);
       on = λ es before e y. stacked es (before ++ (r.0 ∷ [])) (group_recorded es (plan_in s.sheet) s.machine s'.machine x.taken s.kept.starts.items s.kept.held.items word cut d i x.group x.fates before h has x.takes x.flies x.settles x.good e y r.0 r.2);
     }
     by (inr r) = record {
       more = [];
       records = r.1 ∙ sym (append-nil log);
       formed = tt;
+      of_requests = tt;
       on = λ es before e y. subst (HasSentBy es (plan_in s'.sheet) s'.machine s'.kept.starts.items s'.kept.held.items) (sym (append-nil before))
           (stacked es before (group_held es (plan_in s.sheet) s.machine s'.machine x.taken s.kept.starts.items s.kept.held.items word cut d i x.group x.fates before h has x.takes x.flies x.settles x.good e y r.0));
     }
@@ -78,7 +82,7 @@ group_sends s s' word cut d i log log' stays h has x kept = by x.records
 -- ---- how a group is carried
 
 module _ (p : Plan) (m : Machine) (d i : ℕ) (m' taken : Machine) (group : List Bio) (fates : List Fate) (takes : Takes p m d i group taken) (flies : Flies p taken d group fates m') (settles : Settles group fates)
-    (a : Adapter) (ios : List Io) (pool pool' : List (List ℕ)) (old new : Shown) (on : (first_of group).dev ≡ d) (long : length fates ≡ size group) where
+    (a : Adapter) (ios : List Io) (pool pool' : List (List ℕ)) (old new : Shown) (on : (first_of group).dev ≡ d) (long : length fates ≡ size group) (some : HasBlocks group) (of_plan : IsGroup p d group) where
   all_good : fates ≡ replicate (length fates) Good → fates ≡ replicate (size group) Good
   all_good e = e ∙ ap (λ (n : ℕ). replicate n Good) long
 
@@ -98,7 +102,7 @@ module _ (p : Plan) (m : Machine) (d i : ℕ) (m' taken : Machine) (group : List
         flies = flies;
         settles = settles;
         good = λ z. all_good (clear_out (done_of (Carry.size group) x.outcome) (Carry.size group) x.outcome fates x.fates_are z);
-        records = inl (_, x.exchanged.recorded, record_of a d group fates _ on refl refl x.fits, formed_of a group _ refl x.fits);
+        records = inl (_, x.exchanged.recorded, record_of a d group fates _ on refl refl x.fits, formed_of a group _ refl x.fits, record { dev = d; group = group; some = some; is_group = of_plan; is_record = record_of a d group [] _ on refl refl x.fits; labels = refl });
       }))
       (λ r. (let x = fetched r in record {
         taken = taken;
@@ -108,5 +112,5 @@ module _ (p : Plan) (m : Machine) (d i : ℕ) (m' taken : Machine) (group : List
         flies = flies;
         settles = settles;
         good = λ z. all_good (clear_in a ios (blocks_in group) _ (Carry.size group) x.outcome fates x.fates_are z);
-        records = inl (_, x.exchanged.recorded, record_of a d group fates _ on refl refl x.fits, formed_of a group _ refl x.fits);
+        records = inl (_, x.exchanged.recorded, record_of a d group fates _ on refl refl x.fits, formed_of a group _ refl x.fits, record { dev = d; group = group; some = some; is_group = of_plan; is_record = record_of a d group [] _ on refl refl x.fits; labels = refl });
       }))

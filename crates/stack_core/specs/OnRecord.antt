@@ -1,5 +1,5 @@
 -- What stands on record of the commands of a run.
-use Rattle.std.specs.Prelude.{◌≡◌, ◌≤◌, ◌⊎◌, ℕ, ◌+◌, true, false, not, ◌&&◌, if◌then◌else◌, List, [], ◌∷◌, ◌++◌, get_or, replicate, Ok}
+use Rattle.std.specs.Prelude.{◌≡◌, ◌≤◌, ◌⊎◌, ℕ, ◌+◌, true, false, not, ◌&&◌, if◌then◌else◌, List, [], ◌∷◌, ◌++◌, get_or, map, replicate, Ok}
 use Rattle.std.specs.List.{AllByRecursion as Each}
 use Rattle.pi_tuple.specs.Finds.{is_zero}
 use Rattle.pi_tuple.specs.declared.checks.PiType.{PiType}
@@ -16,9 +16,9 @@ use Rattle.cdb_codec.specs.declared.command.Cdb.{Cdb}
 use Rattle.block_path.specs.declared.mode.Mode.{Mode}
 use Rattle.dix_adapter.specs.declared.adapter.Adapter.{Adapter}
 use Rattle.dix_adapter.specs.Carried.{any_fails}
-use Rattle.dix_adapter.specs.Groups.{mode_of}
+use Rattle.dix_adapter.specs.Groups.{blocks_in, label_of, mode_of}
 use Rattle.merge_queue.specs.Groups.{size}
-use Rattle.rig_api.specs.Log.{Entry as Record}
+use Rattle.rig_api.specs.Log.{Entry as Record, labels_of}
 use Rattle.target_answer.specs.Requests.{request_of}
 use Rattle.target_answer.specs.declared.request.Request.{Request}
 use Rattle.target_answer.specs.declared.request.Request.TheVariants.{Read, Write, Verify, ReadCapacity}
@@ -26,6 +26,7 @@ use Rattle.stack_ops.specs.declared.reply.BadBlock.{BadBlock}
 use Rattle.stack_ops.specs.declared.reply.Reply.{Reply}
 use Rattle.stack_ops.specs.declared.reply.Reply.TheVariants.{Silent, Whole, Bad as BadReply, Shown, Medium}
 use Rattle.stack_view.specs.Comes.{Comes, entry_at}
+use Rattle.stack_view.specs.Formed.{IsGroup}
 use Rattle.stack_view.specs.Plan.{Plan}
 use Rattle.stack_view.specs.Runs.{Entry, Sent, sent}
 use Rattle.stack_view.specs.Steps.{Step, can, step}
@@ -34,7 +35,7 @@ use Rattle.stack_steps.specs.declared.choice.Choice.{Choice}
 use Rattle.stack_steps.specs.declared.machine.Machine.{Machine}
 use Rattle.stack_steps.specs.Does.{Flies, Holds, Takes}
 use Rattle.stack_steps.specs.Shows.{Means}
-use Rattle.stack_view.specs.Sound.{OnDevices, Settles}
+use Rattle.stack_view.specs.Sound.{HasBlocks, OnDevices, Settles}
 use Rattle.stack_core.specs.declared.stack.Stack.{Stack}
 use Rattle.stack_core.specs.Stacks.{plan_in}
 
@@ -82,6 +83,17 @@ pub record IsFormed (mode : Mode) (ty : PiType) (e : Record) : Type 0 where
   pub fits : Fits (command_by mode ty dir lba n)
   pub cdb : e.what.cdb ≡ form (command_by mode ty dir lba n)
 
+-- ---- blocks of requests
+
+-- The record of a group's command: of blocks of the plan's requests, each where it lies, one behind another on one device. Its labels are those of the blocks that were done and of the one where it ended.
+pub record IsOfRequests (p : Plan) (e : Record) : Type 0 where
+  pub dev : ℕ
+  pub group : List Bio
+  pub some : HasBlocks group
+  pub is_group : IsGroup p dev group
+  pub is_record : IsRecordOf (sent (record { dev = dev; bios = group; fates = []; completed = false })) e
+  pub labels : e.labels ≡ labels_of e.what.cdb e.what.outcome (map label_of (blocks_in group))
+
 -- ---- bad blocks
 
 -- a block that is settled and kept as bad
@@ -114,11 +126,12 @@ pub record HasSentBy (es : List Entry) (p : Plan) (m : Machine) (starts : List �
 abbrev pub HasSent : List Entry → Stack → List Record → Type 0
 HasSent es s log = HasSentBy es (plan_in s.sheet) s.machine s.kept.starts.items s.kept.held.items log
 
--- A step that is the next one of a schedule goes on so, by the records that it makes; each is of a command in the form that the adapter calls for.
+-- A step that is the next one of a schedule goes on so, by the records that it makes; each is of a group of the plan, in the form that the adapter calls for.
 pub record SendsOn (word cut : ℕ) (old new : Stack) (log log' : List Record) : Type 0 where
   pub more : List Record
   pub records : log' ≡ log ++ more
   pub formed : Each (IsFormed (mode_of old.adapter) old.adapter.ty) more
+  pub of_requests : Each (IsOfRequests (plan_in old.sheet)) more
   pub on : (es : List Entry) (before : List Record) → entry_at es old.machine.steps ≡ record { word = word; cut = cut } → HasSent es old before → HasSent es new (before ++ more)
 
 -- ---- the parts of a step
@@ -132,7 +145,7 @@ pub record Carries (a : Adapter) (p : Plan) (m : Machine) (d i : ℕ) (m' : Mach
   pub flies : Flies p taken d group fates m'
   pub settles : Settles group fates
   pub good : any_fails fates ≡ false → fates ≡ replicate (size group) Good
-  pub records : ((e : Record) × (log' ≡ log ++ (e ∷ [])) × IsRecordOf (sent (record { dev = d; bios = group; fates = fates; completed = false })) e × IsFormed (mode_of a) a.ty e) ⊎ ((any_fails fates ≡ true) × (log' ≡ log))
+  pub records : ((e : Record) × (log' ≡ log ++ (e ∷ [])) × IsRecordOf (sent (record { dev = d; bios = group; fates = fates; completed = false })) e × IsFormed (mode_of a) a.ty e × IsOfRequests p e) ⊎ ((any_fails fates ≡ true) × (log' ≡ log))
 
 -- bad blocks are kept when the step of this choice is done, whichever view the machine showed
 abbrev pub Traces : Plan → Machine → Choice → (starts : List ℕ) (held : List Fate) (starts' : List ℕ) (held' : List Fate) → Type 0

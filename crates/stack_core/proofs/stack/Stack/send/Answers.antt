@@ -173,7 +173,7 @@ returns-clause-carries g c =
     let sent = rw (c.ios.ensures, c.deref.ensures.value) at c.carry.ensures.sent in
     let fetched = rw (c.ios.ensures, c.deref.ensures.value) at c.carry.ensures.fetched in
     carried_by (plan_in s.sheet) s.machine c.args.d c.args.i c.fly.new.self c.take.new.self c.take.new.group.items c.carry.new.fates.items c.take.ensures.takes (rw (c.deref-2.ensures.value, c.deref-3.ensures.value) at c.fly.ensures) settles
-    s.adapter s.sheet.ios.items s.pool c.carry.new.pool old new k.on (long ∙ same-size c.take.new.group.items)
+    s.adapter s.sheet.ios.items s.pool c.carry.new.pool old new k.on (long ∙ same-size c.take.new.group.items) k.some k.of_plan
     (λ e q. ((unsent e q).0, ap g.R.Rig.log (unsent e q).1)) sent fetched
 
 pub returns-clause-spoils : goal.returns-clause-spoils
