@@ -52,11 +52,12 @@ CauseUnmigrated (fault.BadCapacity dev) name old new = ⊥
 CauseUnmigrated fault.RigFault name old new = Rose old.seen.faults new.seen.faults × Opened name old.standing new.standing × KeepsBlocks old.image new.image × (new.seen.log ≡ old.seen.log)
 CauseUnmigrated fault.Memory name old new = HasKept old new × OpenedOnce name old.standing new.standing
 
--- The image of this name was opened, its head is right, and since then no stored block changed.
+-- The image of this name was opened, and its head is right. Neither this nor what came since changed a byte of it.
 pub record HasOpened (name : List ℕ) (old between new : View) : Type 0 where
   pub opened : WasOpened name None old between
   pub kept : HasKept old between
   pub laid : between.seen.units ≡ units_told between.standing between.image
+  pub image : new.image ≡ between.image
   pub units : new.seen.units ≡ between.seen.units
   pub standing : new.standing ≡ between.standing
   pub count : between.seen.faults ≤ new.seen.faults

@@ -3,15 +3,16 @@ use Rattle.std.proofs.Common.{◌≡◌, ℕ, List, [], length, map, Some, sym, 
 use Rattle.std.specs.Prelude.{is_some}
 use Rattle.dix_base.specs.Told.{Calm}
 use Rattle.fault_schedule.specs.declared.fault.FaultLine.{FaultLine}
-use Rattle.rig_api.specs.Telling.{IsStanding, Standing, units_told}
-use Rattle.image_commands.specs.Views.{View}
+use Rattle.rig_api.specs.Telling.{IsStanding, Standing, specs_of, units_told}
+use Rattle.image_commands.specs.Views.{HoldsBlocks, View}
+use Rattle.image_commands.proofs.Bytes.{holds_blocks}
 use Rattle.rig_discovery.specs.Discovery.{info_of}
 use Rattle.target_answer.specs.Target.{Stored}
 use Rattle.volume_table.specs.declared.device.DeviceInfo.{DeviceInfo}
 use Rattle.script_text.specs.declared.script.Script.{Script}
 use Rattle.script_stack.specs.Followed.{SizesAre}
 use Rattle.script_stack.proofs.Following.{sizes-found, told-image, told-shapes, told-stored}
-use Rattle.script_verdict.proofs.Devices.{known_infos}
+use Rattle.script_verdict.proofs.Devices.{has_device, known_infos}
 use Rattle.script_verdict.specs.Verdict.{WasAsked}
 use Rattle.leg_runs.specs.Standing.{HasDevices, IsBoundMirror, IsOver, IsRepairedAs}
 use Rattle.mirror_volume.specs.declared.mirror.Mirror.{Mirror}
@@ -75,7 +76,11 @@ as-repaired s devices us left pool replies marks repaired lost served =
       lost_is = served.lost_is ∙ ap (λ (r : Repair). r.lost) e;
     }
 
-module _ (law : EnoughLaw) (by_form : FormedLaw) (unfaulted : StillLaw) (s : Script) (name : List ℕ) (devices : List DeviceInfo) (old told new : View) (begun : Mirror) (before armed : List FaultLine) (up : IsUp s name devices old told begun) (tells : is_some new.image ≡ is_some told.image) where
+module _ (law : EnoughLaw) (by_form : FormedLaw) (unfaulted : StillLaw) (s : Script) (name : List ℕ) (devices : List DeviceInfo) (old told new : View) (begun : Mirror) (before armed : List FaultLine) (up : IsUp s name devices old told begun) (tells : is_some new.image ≡ is_some told.image) (laid : new.seen.units ≡ units_told new.standing new.image) (ready : IsStanding new.standing new.image) where
+  -- the image afterwards
+  holds : new.standing ≡ told.standing → HoldsBlocks told new
+  holds same = holds_blocks told.standing new.standing told.image new.image new.seen.units same (has_device name devices old told up.asked) up.ready ready laid tells
+
   -- by one of the laws, what it asks being `P`
   by-law : (P : List Stored → Type 0) → ((us left : List Stored) (marks : List Marks) (repaired lost : ℕ) → IsOver s devices us → P us → IsRepairedAs s devices us (length s.ops) marks repaired lost left → WasEnough s devices us left lost)
       → (run : Mirrored) → Finished s devices (stage_of begun [] (outside told before)) run.mirror run.repair.repaired run.repair.lost (outside new armed)
@@ -110,6 +115,7 @@ module _ (law : EnoughLaw) (by_form : FormedLaw) (unfaulted : StillLaw) (s : Scr
     armed = armed;
     ended = ended;
     tells = tells;
+    holds = holds ended.stretches.standing;
     enough = enough run ended;
     formed = λ us e calm p. enough run ended us e calm (by_form s devices us (over-told s name devices old told begun us up e) p);
     still = still run ended;
@@ -127,4 +133,5 @@ module _ (law : EnoughLaw) (by_form : FormedLaw) (unfaulted : StillLaw) (s : Scr
     armed = armed;
     broke = broke;
     tells = tells;
+    holds = holds (broke.under_way.standing ∙ broke.served.stretches.standing);
   }

@@ -4,7 +4,7 @@ use Rattle.fault_schedule.specs.declared.fault.FaultLine.{FaultLine}
 use Rattle.page_pool.specs.Cells.{flat}
 use Rattle.rig_api.specs.Head.{head_fault, head_of}
 use Rattle.image_commands.specs.Causes.{CauseUntold}
-use Rattle.image_commands.specs.Views.{View}
+use Rattle.image_commands.specs.Views.{HoldsBlocks, View}
 use Rattle.image_commands.specs.declared.fault.Fault.TheVariants as fault
 use Rattle.target_answer.specs.Target.{Stored}
 use Rattle.volume_table.specs.Faults.{table_fault}
@@ -55,6 +55,7 @@ pub record HasMirrored (run : Mirrored) (s : Script) (name : List ℕ) (old new 
   pub armed : List FaultLine
   pub ended : Finished s devices (stage_of begun [] (outside told before)) run.mirror run.repair.repaired run.repair.lost (outside new armed)
   pub tells : is_some new.image ≡ is_some told.image
+  pub holds : HoldsBlocks told new
   pub enough : (us : List Stored) → told.seen.units ≡ Some us → Calm told.seen.faults new.seen.faults → IsOneGoodRun s devices us
       → (left : List Stored) × ((new.seen.units ≡ Some left) × WasEnough s devices us left run.repair.lost)
   pub formed : (us : List Stored) → told.seen.units ≡ Some us → Calm told.seen.faults new.seen.faults → IsFormedMirror s devices us
@@ -90,6 +91,7 @@ pub record StoppedMidway (s : Script) (name : List ℕ) (old new : View) : Type 
   pub armed : List FaultLine
   pub broke : Broke s devices (stage_of begun [] (outside told before)) (outside new armed)
   pub tells : is_some new.image ≡ is_some told.image
+  pub holds : HoldsBlocks told new
 
 -- Why a script wasn't run on a mirror to its end, and what that leaves.
 abbrev pub CauseStopped : Refusal → Script → List ℕ → View → View → Type 0

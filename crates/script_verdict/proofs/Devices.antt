@@ -1,6 +1,7 @@
-use Rattle.std.proofs.Common.{ℕ, ◌≡◌, true, List, length, take, drop, Option, Some, None, sym, ap, ◌∙◌}
+use Rattle.std.proofs.Common.{ℕ, ◌≡◌, ◌<◌, true, List, length, take, drop, Option, Some, None, sym, ap, ◌∙◌, arith}
 use Rattle.std.specs.Prelude.{is_some, map}
 use Rattle.std.proofs.Math.Seq.{take-length}
+use Rattle.image_commands.proofs.Bytes.{some_unit}
 use Rattle.image_commands.proofs.Devices.{shapes}
 use Rattle.image_commands.specs.Views.{View}
 use Rattle.pi_scrub.specs.Scrubbed.{HasDevices}
@@ -40,3 +41,10 @@ image_devices name devices old new image asked e =
     let laid : new.seen.units ≡ units_told new.standing (Some image) = since.units ∙ since.laid ∙ ap (units_told between.standing) told ∙ ap (λ (s : Standing). units_told s (Some image)) (sym since.standing) in
     let head : new.standing.head ≡ head_of image = ap (λ (s : Standing). s.head) since.standing ∙ headed between.standing.head image between.image told since.opened.head in
     as_head new.standing devices new.seen.units image asked.told.devices_are laid ∙ ap (map info_of) (all_specs new.standing asked.all ∙ ap units_of head)
+
+-- an image whose head is right has a device
+pub has_device : (name : List ℕ) (devices : List DeviceInfo) (old new : View) → WasAsked name devices old new → 0 < new.standing.devices
+has_device name devices old new asked =
+    let some = some_unit asked.told.between.standing.head asked.told.since.opened.judged in
+    let same = ap (λ (s : Standing). length (units_of s.head)) asked.told.since.standing in
+    omega (arith, some, same, asked.all)

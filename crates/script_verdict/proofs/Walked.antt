@@ -32,6 +32,7 @@ use Rattle.script_verdict.proofs.Fallen.{BroughtFallLaw, OwnFallLaw, ReadsFallLa
 use Rattle.script_verdict.proofs.Layers.{names-faults, names-layers, none-medium}
 use Rattle.script_verdict.proofs.Premises.{detectable_run, plain_run}
 use Rattle.image_commands.specs.Views.{View}
+use Rattle.image_commands.proofs.Bytes.{holds_blocks}
 use Rattle.page_pool.specs.declared.segs.Seg.{Seg}
 use Rattle.integrity_payload.specs.declared.payload.Owner.{Owner}
 use Rattle.whole_run.specs.ReadsAs.{ReadsRightly, read_op}
@@ -59,6 +60,7 @@ outside v armed = record { units = v.seen.units; armed = armed; standing = v.sta
 -- a script that keeps the rules of its language and was made ready, from which the stack went to its end, over a rig as a call sees it
 pub record IsDone (s : Script) (t : Table) (devices : List DeviceInfo) (begun r : Stack) (old new : View) (armed : List FaultLine) : Type 0 where
   pub keeps : Keeps s
+  pub some : 0 < old.standing.devices
   pub over : IsOver s t devices s.schedule begun r old.image new.image (outside old s.faults) (outside new armed)
 
 -- where the rig told these units, the script is bound to its volume over them
@@ -190,6 +192,7 @@ fallen_view s t devices begun r old new armed backed law reads own brought o us 
 pub followed : (s : Script) (t : Table) (devices : List DeviceInfo) (begun r : Stack) (old new : View) (armed : List FaultLine) → BackedLaw → FewLaw → AllLaw → MediumLaw → ToldLaw → RepliesLaw → UnderLaw → DetectionLaw → FormLaw → EscapeLaw → FallenLaw → ReadsFallLaw → OwnFallLaw → BroughtFallLaw → IsDone s t devices begun r old new armed → Followed s t devices old new r.pool r.replies.items
 followed s t devices begun r old new armed backed few all medium told same under detects form escape fallen reads own brought o = record {
   tells = o.over.tells;
+  holds = holds_blocks old.standing new.standing old.image new.image new.seen.units o.over.goes.standing o.some o.over.ready o.over.ready_after o.over.laid_after o.over.tells;
   goes = o.over.goes;
   backed = backed_by s t devices s.schedule begun r old.image new.image (outside old s.faults) (outside new armed) backed o.over;
   sends = sends_own s [] t o.over.goes.more r.replies.items (sent_by s t devices s.schedule begun r old.image new.image (outside old s.faults) (outside new armed) few all o.over);

@@ -2,7 +2,7 @@ use Rattle.std.proofs.Common.{inr, refl, ap, subst, ◌∙◌}
 use Rattle.image_commands.proofs.Devices.{units_through}
 use Rattle.image_commands.specs.Views.{seen, view}
 use Rattle.script_verdict.proofs.Completing.{stops_from_outside}
-use Rattle.script_verdict.proofs.Devices.{known_infos}
+use Rattle.script_verdict.proofs.Devices.{has_device, known_infos}
 use Rattle.script_ground.proofs.Suits.{suits}
 use Rattle.script_stack.specs.Sends.{SendsBy, entries_of}
 use Rattle.script_stack.proofs.Following.{sizes-found}
@@ -76,6 +76,7 @@ returns-clause-verdict g c = record {
       c.a_told_script_run_has_fallen.ensures c.a_stack_reads_the_last_write_or_fails_at_the_medium.ensures c.a_stack_writes_or_fails_at_the_medium.ensures.own c.a_stack_writes_or_fails_at_the_medium.ensures.brought
       (record {
         keeps = c.requires.keeps;
+        some = rw c.ready_script.ensures.standing (has_device c.args.image.now c.in-Ok.bound.devices.items _ _ c.in-Ok.ensures.asked);
         over = record {
           suits = suits c.args.script c.requires.keeps;
           lines = c.requires.lines;
