@@ -1,7 +1,5 @@
 use Rattle.std.proofs.Common.{ℕ, zero, suc, ◌≡◌, ◌+◌, ◌-◌, ◌*◌, ◌≤◌, ◌<◌, List, [], ◌∷◌, ◌++◌, length, drop, get_or, map, replicate, refl, sym, ap, ◌∙◌, arith}
-use Rattle.std.specs.Prelude.{All}
 use Rattle.std.proofs.lemmas.List.{drop_at, length-append, length-replicate, get_or_append_left, get_or-append_right}
-use Rattle.std.proofs.lemmas.List.Elements.{All-append, All-cons, All-nil}
 use Rattle.pi_tuple.specs.Finds.{own_tag}
 use Rattle.pi_tuple.specs.Tuples.{ref_tag, tuple_bytes}
 use Rattle.pi_tuple.specs.declared.checks.PiType.{PiType}
@@ -15,9 +13,8 @@ use Rattle.dix_adapter.specs.Ways.{blocks_told, cell_in, shapes_of}
 use Rattle.dix_adapter.proofs.Runs.{AllLong, cut-joined, joined-long}
 use Rattle.pi_scrub.specs.Scrubbed.{device_of}
 use Rattle.rig_discovery.specs.Discovery.{info_of}
-use Rattle.block_path.proofs.Cells.{AllBelow}
 use Rattle.script_ground.specs.Bound.{IsAddress}
-use Rattle.whole_run.proofs.TupleFrames.{Small, data_is, tuple_below, tuple_is}
+use Rattle.whole_run.proofs.TupleFrames.{Small, data_is, tuple_is}
 use Rattle.big_run.specs.Plain.{fresh_unit}
 
 -- What a formatted unit holds, and where its blocks are found.
@@ -104,30 +101,3 @@ tuple_found size lba = tuple_is size (replicate size 0) (fresh_tuple lba) (lengt
 
 pub data_found : (size lba : ℕ) → data_of size (fresh One size lba) ≡ replicate size 0
 data_found size lba = data_is size (replicate size 0) (fresh_tuple lba) (length-replicate size 0)
-
--- ---- bytes
-
-zeros : (n : ℕ) → All (λ x. x < 256) (replicate n 0)
-zeros zero = All-nil (λ (x : ℕ). x < 256)
-zeros (suc n) = All-cons (λ (x : ℕ). x < 256) 0 (replicate n 0) (omega arith) (zeros n)
-
-each_below : (n : ℕ) (xs : List ℕ) → AllBelow n xs → All (λ x. x < n) xs
-each_below n [] h = All-nil (λ (x : ℕ). x < n)
-each_below n (x ∷ xs) h = All-cons (λ (y : ℕ). y < n) x xs h.0 (each_below n xs h.1)
-
-with_tuple : (size : ℕ) (t : Tuple) → All (λ x. x < 256) (frame_of (replicate size 0) t)
-with_tuple size t = All-append (λ (x : ℕ). x < 256) (replicate size 0) (tuple_bytes t) (zeros size) (each_below 256 (tuple_bytes t) (tuple_below t))
-
-fresh_below : (ty : PiType) (size lba : ℕ) → All (λ x. x < 256) (fresh ty size lba)
-fresh_below Zero size lba = zeros size
-fresh_below One size lba = with_tuple size (record { guard = 0; app = 0; rtag = own_tag One lba })
-fresh_below Two size lba = with_tuple size (record { guard = 0; app = 0; rtag = own_tag Two lba })
-fresh_below Three size lba = with_tuple size (record { guard = 0; app = 0; rtag = own_tag Three lba })
-
-run_below : (ty : PiType) (size lba n : ℕ) → All (All (λ x. x < 256)) (fresh_from ty size lba n)
-run_below ty size lba zero = All-nil (All (λ (x : ℕ). x < 256))
-run_below ty size lba (suc n) = All-cons (All (λ (x : ℕ). x < 256)) (fresh ty size lba) (fresh_from ty size (lba + 1) n) (fresh_below ty size lba) (run_below ty size (lba + 1) n)
-
-pub all_bytes_below : (us : List UnitSpec) → All (All (λ x. x < 256)) (blocks_told (map fresh_unit us))
-all_bytes_below [] = All-nil (All (λ (x : ℕ). x < 256))
-all_bytes_below (u ∷ us) = All-append (All (λ (x : ℕ). x < 256)) (all_fresh u) (blocks_told (map fresh_unit us)) (run_below u.ty u.size u.first u.blocks) (all_bytes_below us)

@@ -19,7 +19,7 @@ use Rattle.volume_table.specs.Faults.{volume_type}
 use Rattle.volume_table.specs.Tables.{MadeFor, Table}
 use Rattle.volume_table.specs.declared.device.DeviceInfo.{DeviceInfo}
 use Rattle.big_run.specs.Plain.{big_replies, big_setting, big_table, big_unit, big_units, fresh_unit}
-use Rattle.big_run.proofs.Fresh.{all_bytes_below, infos_are, shapes_are, units_found}
+use Rattle.big_run.proofs.Fresh.{infos_are, shapes_are, units_found}
 use Rattle.big_run.proofs.Quiet.{AreQuiet, are_clean, none_escapes, none_overwrites, replies_quiet}
 
 -- Over the formatted image of the two units a rig tells these units, and a generated script is one on a plain map.
@@ -97,7 +97,6 @@ plain_over n seed made = record {
   quiet = record {
     faults = refl;
     overwrites = none_overwrites n seed;
-    bytes = all_bytes_below two;
     clean = are_clean (big_setting n seed).site none_fails big_table two refl made (refl, refl, (refl, refl, tt)) (ap (λ us. cell_in us) shapes_two);
   };
   no_escape = none_escapes (big_setting n seed).site none_fails 1 n seed (opening_told (big n seed) big_units);

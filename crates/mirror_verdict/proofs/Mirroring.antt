@@ -1,14 +1,16 @@
 -- A script that was run on a mirror over an image.
 use Rattle.std.proofs.Common.{◌≡◌, ℕ, List, [], length, map, Some, sym, ap, ◌∙◌, subst}
 use Rattle.std.specs.Prelude.{is_some}
-use Rattle.dix_base.specs.Told.{Calm}
+use Rattle.dix_base.specs.Told.{AreOctets, Calm}
 use Rattle.fault_schedule.specs.declared.fault.FaultLine.{FaultLine}
 use Rattle.rig_api.specs.Telling.{IsStanding, Standing, specs_of, units_told}
 use Rattle.image_commands.specs.Views.{HoldsBlocks, View}
 use Rattle.image_commands.proofs.Bytes.{holds_blocks}
 use Rattle.rig_discovery.specs.Discovery.{info_of}
 use Rattle.target_answer.specs.Target.{Stored}
+use Rattle.script_stack.proofs.Octets.{blocks_octets}
 use Rattle.volume_table.specs.declared.device.DeviceInfo.{DeviceInfo}
+use Rattle.whole_run.specs.UnderMap.{home}
 use Rattle.script_text.specs.declared.script.Script.{Script}
 use Rattle.script_stack.specs.Followed.{SizesAre}
 use Rattle.script_stack.proofs.Following.{sizes-found, told-image, told-shapes, told-stored}
@@ -18,7 +20,7 @@ use Rattle.leg_runs.specs.Standing.{HasDevices, IsBoundMirror, IsOver, IsRepaire
 use Rattle.mirror_volume.specs.declared.mirror.Mirror.{Mirror}
 use Rattle.mirror_volume.proofs.Enough.{repaired-all}
 use Rattle.mirror_volume.specs.Enough.{WasEnough}
-use Rattle.mirror_volume.specs.Premises.{IsFormedMirror, IsOneGoodRun, IsStillMirror}
+use Rattle.mirror_volume.specs.Premises.{HoldsBytes, IsFormedMirror, IsOneGoodRun, IsStillMirror}
 use Rattle.mirror_verdict.specs.Stages.{Broke, Finished, HasServed, stage_of}
 use Rattle.mirror_verdict.specs.Verdict.{HasMirrored, IsBegun, StoppedMidway, outside}
 use Rattle.mirror_verdict.specs.declared.mirrored.Mirrored.{Mirrored}
@@ -41,6 +43,7 @@ pub record IsUp (s : Script) (name : List ℕ) (devices : List DeviceInfo) (old 
   pub starts : IsBegun s devices begun
   pub laid : told.seen.units ≡ units_told told.standing told.image
   pub ready : IsStanding told.standing told.image
+  pub octets : AreOctets told.image
 
 -- over units that are told
 over-told : (s : Script) (name : List ℕ) (devices : List DeviceInfo) (old told : View) (begun : Mirror) (us : List Stored) → IsUp s name devices old told begun → told.seen.units ≡ Some us → IsOver s devices us
@@ -52,17 +55,21 @@ over-told s name devices old told begun us up e =
       stored = told-stored told.standing told.image us laid up.ready;
     }
 
+-- which are of bytes, by the law of the rig
+bytes-told : (s : Script) (name : List ℕ) (devices : List DeviceInfo) (old told : View) (begun : Mirror) (us : List Stored) → IsUp s name devices old told begun → told.seen.units ≡ Some us → HoldsBytes us
+bytes-told s name devices old told begun us up e = blocks_octets told.standing told.image us up.octets (sym up.laid ∙ e)
+
 -- ---- what comes of good legs
 
 -- what the laws of `mirror_volume` say
 abbrev pub EnoughLaw : Type 0
-EnoughLaw = (s : Script) (devices : List DeviceInfo) (us left : List Stored) (marks : List Marks) (repaired lost : ℕ) → IsOver s devices us → IsOneGoodRun s devices us → IsRepairedAs s devices us (length s.ops) marks repaired lost left → WasEnough s devices us left lost
+EnoughLaw = (s : Script) (devices : List DeviceInfo) (us left : List Stored) (marks : List Marks) (repaired lost : ℕ) → IsOver s devices us → HoldsBytes us → IsOneGoodRun s devices us → IsRepairedAs s devices us (length s.ops) marks repaired lost left → WasEnough s devices us left lost
 
 abbrev pub FormedLaw : Type 0
-FormedLaw = (s : Script) (devices : List DeviceInfo) (us : List Stored) → IsOver s devices us → IsFormedMirror s devices us → IsOneGoodRun s devices us
+FormedLaw = (s : Script) (devices : List DeviceInfo) (us : List Stored) → IsOver s devices us → HoldsBytes us → IsFormedMirror s devices us → IsOneGoodRun s devices us
 
 abbrev pub StillLaw : Type 0
-StillLaw = (s : Script) (devices : List DeviceInfo) (us left : List Stored) (marks : List Marks) (repaired lost : ℕ) → IsOver s devices us → IsStillMirror s devices us → IsRepairedAs s devices us (length s.ops) marks repaired lost left → WasEnough s devices us left lost
+StillLaw = (s : Script) (devices : List DeviceInfo) (us left : List Stored) (marks : List Marks) (repaired lost : ℕ) → IsOver s devices us → HoldsBytes us → IsStillMirror s devices us → IsRepairedAs s devices us (length s.ops) marks repaired lost left → WasEnough s devices us left lost
 
 as-repaired : (s : Script) (devices : List DeviceInfo) (us left : List Stored) (pool : List (List ℕ)) (replies : List Reply) (marks : List Marks) (repaired lost : ℕ) → HasServed s devices us left pool replies marks repaired lost
     → IsRepairedAs s devices us (length s.ops) marks repaired lost left
@@ -82,7 +89,7 @@ module _ (law : EnoughLaw) (by_form : FormedLaw) (unfaulted : StillLaw) (s : Scr
   holds same = holds_blocks told.standing new.standing told.image new.image new.seen.units same (has_device name devices old told up.asked) up.ready ready laid tells
 
   -- by one of the laws, what it asks being `P`
-  by-law : (P : List Stored → Type 0) → ((us left : List Stored) (marks : List Marks) (repaired lost : ℕ) → IsOver s devices us → P us → IsRepairedAs s devices us (length s.ops) marks repaired lost left → WasEnough s devices us left lost)
+  by-law : (P : List Stored → Type 0) → ((us left : List Stored) (marks : List Marks) (repaired lost : ℕ) → IsOver s devices us → HoldsBytes us → P us → IsRepairedAs s devices us (length s.ops) marks repaired lost left → WasEnough s devices us left lost)
       → (run : Mirrored) → Finished s devices (stage_of begun [] (outside told before)) run.mirror run.repair.repaired run.repair.lost (outside new armed)
       → (us : List Stored) → told.seen.units ≡ Some us → Calm told.seen.faults new.seen.faults → P us → (left : List Stored) × ((new.seen.units ≡ Some left) × WasEnough s devices us left run.repair.lost)
   by-law P says run ended us e calm p =
@@ -90,7 +97,7 @@ module _ (law : EnoughLaw) (by_form : FormedLaw) (unfaulted : StillLaw) (s : Scr
         x.0,
         (
           x.1.0,
-          says us x.0 run.mirror.state.marks.items run.repair.repaired run.repair.lost (over-told s name devices old told begun us up e) p
+          says us x.0 run.mirror.state.marks.items run.repair.repaired run.repair.lost (over-told s name devices old told begun us up e) (bytes-told s name devices old told begun us up e) p
               (as-repaired s devices us x.0 run.mirror.state.pool run.mirror.replies.items run.mirror.state.marks.items run.repair.repaired run.repair.lost x.1.1),
         ),
       )
@@ -117,7 +124,7 @@ module _ (law : EnoughLaw) (by_form : FormedLaw) (unfaulted : StillLaw) (s : Scr
     tells = tells;
     holds = holds ended.stretches.standing;
     enough = enough run ended;
-    formed = λ us e calm p. enough run ended us e calm (by_form s devices us (over-told s name devices old told begun us up e) p);
+    formed = λ us e calm p. enough run ended us e calm (by_form s devices us (over-told s name devices old told begun us up e) (bytes-told s name devices old told begun us up e) p);
     still = still run ended;
   }
 

@@ -10,6 +10,9 @@ use Rattle.stack_ops.specs.declared.op.Op.TheVariants.{Fetch}
 use Rattle.volume_table.specs.declared.device.DeviceInfo.{DeviceInfo}
 use Rattle.whole_run.specs.Past.{steps_from}
 use Rattle.whole_run.specs.Settings.{Setting}
+use Rattle.whole_run.specs.UnderMap.{home}
+use Rattle.dix_adapter.specs.Ways.{blocks_told}
+use Rattle.script_stack.proofs.Octets.{block_octets}
 use Rattle.script_text.specs.declared.script.Script.{Script}
 use Rattle.mirror_walk.specs.Mirror.{Mirror as Walk, count_of, done, mirror_opened, mirror_walk}
 use Rattle.mirror_walk.specs.OneGood.{AreBytes, HoldsProper, IsMirrorRun, IsRepaired, ReadsLast, last_of, on_leg}
@@ -17,7 +20,7 @@ use Rattle.mirror_walk.specs.Repair.{Repair, mirror_repair}
 use Rattle.mirror_walk.specs.declared.marks.Marks.{Marks}
 use Rattle.leg_runs.specs.Standing.{IsOver, IsRepairedAs, half_of, mirror_setting, walked}
 use Rattle.mirror_volume.specs.Enough.{WasEnough, opening_over}
-use Rattle.mirror_volume.specs.Premises.{IsOneGoodRun}
+use Rattle.mirror_volume.specs.Premises.{HoldsBytes, IsOneGoodRun}
 use Rattle.mirror_volume.proofs.Premises.{mirror-run}
 
 -- what the laws of one good leg say
@@ -57,9 +60,9 @@ enough-by s devices us left marks repaired lost reads mended done_as =
       lost_none = done_as.lost_is ∙ ap (λ (r : Repair). r.lost) (repaired-all s devices us) ∙ mended.lost;
     }
 
-pub was-enough : ReadsLaw → EqualLaw → (s : Script) (devices : List DeviceInfo) (us left : List Stored) (marks : List Marks) (repaired lost : ℕ) → IsOver s devices us → IsOneGoodRun s devices us
+pub was-enough : ReadsLaw → EqualLaw → (s : Script) (devices : List DeviceInfo) (us left : List Stored) (marks : List Marks) (repaired lost : ℕ) → IsOver s devices us → HoldsBytes us → IsOneGoodRun s devices us
     → IsRepairedAs s devices us (length s.ops) marks repaired lost left → WasEnough s devices us left lost
-was-enough reads equal s devices us left marks repaired lost over p served =
+was-enough reads equal s devices us left marks repaired lost over bytes p served =
     let m = mirror_setting s devices us in
     let half = half_of s devices in
     let opening = opening_over s us in
@@ -67,4 +70,4 @@ was-enough reads equal s devices us left marks repaired lost over p served =
     enough-by s devices us left marks repaired lost
     (λ before after v n body e. subst (λ (ops : List Op). ReadsLast m half ops before v n body opening) (sym e)
     (reads m devices half before after v n body opening (subst (λ (ops : List Op). IsMirrorRun m devices half ops opening) e run)))
-    (equal m devices half s.ops opening run p.bytes) served
+    (equal m devices half s.ops opening run (λ u l. block_octets (blocks_told us) (home m u) bytes)) served

@@ -34,7 +34,7 @@ use Rattle.mirror_premises.specs.FormedMirror.{AllPutBytes, HasFormedLegs, HasSt
 use Rattle.leg_runs.proofs.Ground.{fits, legs, made-over, sizes}
 use Rattle.leg_runs.specs.Standing.{IsOver, IsRepairedAs, half_of, mirror_setting}
 use Rattle.mirror_volume.specs.Enough.{WasEnough, opening_over}
-use Rattle.mirror_volume.specs.Premises.{IsFormedMirror, IsOneGoodRun, IsStillMirror}
+use Rattle.mirror_volume.specs.Premises.{HoldsBytes, IsFormedMirror, IsOneGoodRun, IsStillMirror}
 use Rattle.mirror_volume.proofs.Enough.{enough-by}
 use Rattle.mirror_volume.proofs.Premises.{all-bound, checked-over, dif-on, has-cells, lies-on}
 
@@ -91,7 +91,7 @@ module _ (s : Script) (devices : List DeviceInfo) (us : List Stored) (is : IsOve
   abbrev m : Setting
   m = mirror_setting s devices us
 
-  lies-in : All (All (λ x. x < 256)) (blocks_told us) → LiesIn m (volume_len m.entries) (blocks_told us)
+  lies-in : HoldsBytes us → LiesIn m (volume_len m.entries) (blocks_told us)
   lies-in bytes =
       let t = table_of s devices in
       let made = made-over s devices us is in
@@ -102,20 +102,20 @@ module _ (s : Script) (devices : List DeviceInfo) (us : List Stored) (is : IsOve
         bytes = λ v l. bytes (home m v) [] (cell-there s t us (place_in t.entries v).0 (place_in t.entries v).1 (made.inside v l));
       }
 
-  pub leg-bytes : All (All (λ x. x < 256)) (blocks_told us) → AreBytes m (half_of s devices) (blocks_told us)
+  pub leg-bytes : HoldsBytes us → AreBytes m (half_of s devices) (blocks_told us)
   leg-bytes bytes u l = let g = (fits s devices us is).long in (lies-in bytes).bytes u (omega (arith, g, l))
 
   are-clean : DevicesAreClean m devices (blocks_told us) → AreClean m (blocks_told us)
   are-clean clean v l z = clean v (address_of m v) l (is.bound.made.inside v l)
 
-  formed-legs : EscapeLaw → IsFormedMirror s devices us → HasFormedLegs m devices (half_of s devices) s.ops (opening_over s us)
-  formed-legs none p = record {
+  formed-legs : EscapeLaw → HoldsBytes us → IsFormedMirror s devices us → HasFormedLegs m devices (half_of s devices) s.ops (opening_over s us)
+  formed-legs none bytes p = record {
     checked = checked-over s devices us is p.ty p.protect;
     even = even s.block is.bound.keeps.block_is;
     flips = lines-bytes s.block s.ops s.faults is.bound.keeps.faults_are;
     pages = All-replicate (λ x. x < 256) (4096 * s.pages) 0 (omega arith);
     long = (fits s devices us is).long;
-    lies = lies-in p.bytes;
+    lies = lies-in bytes;
     clean = are-clean p.clean;
     bind = all-bound s devices us is;
     puts = puts-each s.mode.dix s.pages s.block s.ops is.bound.keeps.ops_are;
@@ -123,24 +123,23 @@ module _ (s : Script) (devices : List DeviceInfo) (us : List Stored) (is : IsOve
     form = p.form;
   }
 
-  pub good-run : FormLaw → EscapeLaw → LegLaw → IsFormedMirror s devices us → IsOneGoodRun s devices us
-  good-run shown none one p =
+  pub good-run : FormLaw → EscapeLaw → LegLaw → HoldsBytes us → IsFormedMirror s devices us → IsOneGoodRun s devices us
+  good-run shown none one bytes p =
       let form = and_parts (list_all (is_good_on_legs s.mode.kind s.block (half_of s devices) s.faults s.ops) s.faults) (not (list_any is_overwrite s.ops)) p.form in
       record {
         ty = p.ty;
         protect = p.protect;
         clean = p.clean;
         equal = p.equal;
-        bytes = leg-bytes p.bytes;
         no_escape = none m (half_of s devices) s.ops (opening_over s us) p.escapes;
-        shown = shown m devices (half_of s devices) s.ops (opening_over s us) (formed-legs none p);
+        shown = shown m devices (half_of s devices) s.ops (opening_over s us) (formed-legs none bytes p);
         one_good = one m (half_of s devices) s.ops p.a_leg (not-true _ form.1);
       }
 
   -- ---- without faults
 
-  pub still-legs : IsStillMirror s devices us → HasStillLegs m devices (half_of s devices) s.ops (opening_over s us)
-  still-legs p = record {
+  pub still-legs : HoldsBytes us → IsStillMirror s devices us → HasStillLegs m devices (half_of s devices) s.ops (opening_over s us)
+  still-legs bytes p = record {
     ty = p.ty;
     dix = (fits s devices us is).dix;
     dif = dif-on s devices us is;
@@ -152,13 +151,13 @@ module _ (s : Script) (devices : List DeviceInfo) (us : List Stored) (is : IsOve
     cells = has-cells s devices us is;
     clean = p.clean;
     equal = p.equal;
-    bytes = leg-bytes p.bytes;
+    bytes = leg-bytes bytes;
     bind = all-bound s devices us is;
     overwrites = p.overwrites;
     escapes = p.escapes;
   }
 
-  pub still-enough : StillLaw → (left : List Stored) (marks : List Marks) (repaired lost : ℕ) → IsStillMirror s devices us → IsRepairedAs s devices us (length s.ops) marks repaired lost left → WasEnough s devices us left lost
-  still-enough law left marks repaired lost p done_as =
-      let serves = law m devices (half_of s devices) s.ops (opening_over s us) (still-legs p) in
+  pub still-enough : StillLaw → (left : List Stored) (marks : List Marks) (repaired lost : ℕ) → HoldsBytes us → IsStillMirror s devices us → IsRepairedAs s devices us (length s.ops) marks repaired lost left → WasEnough s devices us left lost
+  still-enough law left marks repaired lost bytes p done_as =
+      let serves = law m devices (half_of s devices) s.ops (opening_over s us) (still-legs bytes p) in
       enough-by s devices us left marks repaired lost serves.reads serves.repaired done_as

@@ -29,7 +29,7 @@ use Rattle.run_laws.specs.ShownRun.{DevicesAreClean}
 use Rattle.script_text.specs.declared.script.Script.{Script}
 use Rattle.script_stack.specs.Causes.{table_of}
 use Rattle.mirror_script.specs.MirrorFaults.{mirror_fault}
-use Rattle.mirror_walk.specs.OneGood.{AreBytes, HasGoodLeg, IsUnnamed}
+use Rattle.mirror_walk.specs.OneGood.{HasGoodLeg, IsUnnamed}
 use Rattle.leg_runs.specs.Standing.{half_of, mirror_setting}
 use Rattle.mirror_volume.specs.Premises.{IsFormedMirror, IsOneGoodRun, IsStillMirror}
 
@@ -84,16 +84,6 @@ clean zero (suc lba) l h = absurd (let e = h.ends in omega arith)
 clean (suc zero) (suc lba) l h = absurd (let e = h.ends in omega arith)
 clean (suc (suc v)) lba l h = absurd (omega (arith, l))
 
-bytes_by : (xs : List ℕ) → list_all (λ x. nat_lt x 256) xs ≡ true → All (λ x. x < 256) xs
-bytes_by [] h = All-nil (λ (x : ℕ). x < 256)
-bytes_by (x ∷ xs) h =
-    let a = and_parts (nat_lt x 256) (list_all (λ x. nat_lt x 256) xs) h in
-    All-cons (λ (y : ℕ). y < 256) x xs (ltb-true x 256 a.0) (bytes_by xs a.1)
-
-bytes : AreBytes m 1 (blocks_told us)
-bytes zero l = bytes_by (fresh One 512 0) refl
-bytes (suc u) l = absurd (omega (arith, l))
-
 equal : (u : ℕ) → u < 1 → brought_by 512 (get_or (blocks_told us) (home m (1 + u)) []) ≡ brought_by 512 (get_or (blocks_told us) (home m u) [])
 equal zero l = refl
 equal (suc u) l = absurd (omega (arith, l))
@@ -126,18 +116,12 @@ one_good_row = record {
   protect = refl;
   clean = clean;
   equal = equal;
-  bytes = bytes;
   no_escape = (λ h. refl, (λ h. refl, (tt, tt)));
   shown = refl;
   one_good = one_good;
 }
 
 -- And so it can be read off the script.
-all_bytes : All (All (λ x. x < 256)) (blocks_told us)
-all_bytes =
-    let one = bytes_by (fresh One 512 0) refl in
-    All-cons (All (λ x. x < 256)) (fresh One 512 0) (fresh One 512 0 ∷ []) one (All-cons (All (λ x. x < 256)) (fresh One 512 0) [] one (All-nil (All (λ x. x < 256))))
-
 formed_row : IsFormedMirror script devices us
 unfolding crc
 formed_row = record {
@@ -146,7 +130,6 @@ formed_row = record {
   form = refl;
   a_leg = refl;
   escapes = refl;
-  bytes = all_bytes;
   clean = clean;
   equal = equal;
 }
@@ -169,7 +152,6 @@ still_row protect = record {
   faults = refl;
   overwrites = refl;
   escapes = refl;
-  bytes = all_bytes;
   clean = still_clean protect;
   equal = equal;
 }

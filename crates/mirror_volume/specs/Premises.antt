@@ -12,44 +12,45 @@ use Rattle.run_laws.specs.ShownRun.{DevicesAreClean}
 use Rattle.run_premises.specs.Forms.{escapes_none, is_overwrite}
 use Rattle.script_text.specs.declared.script.Script.{Script}
 use Rattle.script_stack.specs.Causes.{table_of}
-use Rattle.mirror_walk.specs.OneGood.{AreBytes, OneGood, script_asks}
+use Rattle.mirror_walk.specs.OneGood.{OneGood, script_asks}
 use Rattle.mirror_premises.specs.Forms.{leaves_a_leg, shows_on_legs}
 use Rattle.leg_runs.specs.Standing.{half_of, mirror_setting}
 use Rattle.mirror_volume.specs.Enough.{opening_over}
+
+-- What is stored is bytes; so is all that a rig tells.
+abbrev pub HoldsBytes : List Stored → Type 0
+HoldsBytes us = All (All (λ x. x < 256)) (blocks_told us)
 
 -- Both legs have the same data and application tags.
 abbrev pub AreEqualLegs : Script → List DeviceInfo → List Stored → Type 0
 AreEqualLegs s devices us = (u : ℕ) → u < half_of s devices
     → brought_by s.block (get_or (blocks_told us) (home (mirror_setting s devices us) (half_of s devices + u)) []) ≡ brought_by s.block (get_or (blocks_told us) (home (mirror_setting s devices us) u) [])
 
--- The volume is of type 1, and commands have protect field 001b. Each block of its devices is clean, both legs have the same data and application tags, and those of leg 0 are made of bytes. No write supplies an escape, each alteration can be shown, and each block has a leg on which no fault line alters it on its way, and no overwrite in its place.
+-- The volume is of type 1, and commands have protect field 001b. Each block of its devices is clean, and both legs have the same data and application tags. No write supplies an escape, each alteration can be shown, and each block has a leg on which no fault line alters it on its way, and no overwrite in its place.
 pub record IsOneGoodRun (s : Script) (devices : List DeviceInfo) (us : List Stored) : Type 0 where
   pub ty : (table_of s devices).ty ≡ One
   pub protect : s.mode.protect ≡ 1
   pub clean : DevicesAreClean (mirror_setting s devices us) devices (blocks_told us)
   pub equal : AreEqualLegs s devices us
-  pub bytes : AreBytes (mirror_setting s devices us) (half_of s devices) (blocks_told us)
   pub no_escape : NoneEscapes (mirror_setting s devices us) (script_asks (mirror_setting s devices us) (half_of s devices) s.ops (opening_over s us)) (opening_over s us)
   pub shown : detectable (mirror_setting s devices us) (script_asks (mirror_setting s devices us) (half_of s devices) s.ops (opening_over s us)) (opening_over s us) ≡ true
   pub one_good : OneGood (mirror_setting s devices us) (half_of s devices) s.ops
 
--- The same by what a reader of the script sees, but that the blocks are clean and the legs equal: the faults have the form under which each is shown, none names a block that another names on the other leg, there is no overwrite, and no `write` has the application tag FFFFh. What is stored is bytes.
+-- The same by what a reader of the script sees, but that the blocks are clean and the legs equal: the faults have the form under which each is shown, none names a block that another names on the other leg, there is no overwrite, and no `write` has the application tag FFFFh.
 pub record IsFormedMirror (s : Script) (devices : List DeviceInfo) (us : List Stored) : Type 0 where
   pub ty : (table_of s devices).ty ≡ One
   pub protect : s.mode.protect ≡ 1
   pub form : shows_on_legs s.mode.kind s.block (half_of s devices) s.faults s.ops ≡ true
   pub a_leg : leaves_a_leg (half_of s devices) s.faults s.ops ≡ true
   pub escapes : escapes_none s.ops ≡ true
-  pub bytes : All (All (λ x. x < 256)) (blocks_told us)
   pub clean : DevicesAreClean (mirror_setting s devices us) devices (blocks_told us)
   pub equal : AreEqualLegs s devices us
 
--- No line of a fault, no overwrite, and no `write` with the application tag FFFFh; under any protect field. The volume is of type 1, each block of its devices is clean, both legs have the same data and application tags, and what is stored is bytes.
+-- No line of a fault, no overwrite, and no `write` with the application tag FFFFh; under any protect field. The volume is of type 1, each block of its devices is clean, and both legs have the same data and application tags.
 pub record IsStillMirror (s : Script) (devices : List DeviceInfo) (us : List Stored) : Type 0 where
   pub ty : (table_of s devices).ty ≡ One
   pub faults : s.faults ≡ []
   pub overwrites : list_any is_overwrite s.ops ≡ false
   pub escapes : escapes_none s.ops ≡ true
-  pub bytes : All (All (λ x. x < 256)) (blocks_told us)
   pub clean : DevicesAreClean (mirror_setting s devices us) devices (blocks_told us)
   pub equal : AreEqualLegs s devices us

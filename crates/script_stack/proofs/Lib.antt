@@ -13,3 +13,4 @@ pub mod Words
 pub mod Ended
 pub mod Fallen
 pub mod Counted
+pub mod Octets

@@ -1,4 +1,5 @@
 use Rattle.std.proofs.Common.{◌≡◌, ◌<◌, ℕ, ◌*◌, List, ◌∷◌, ◌++◌, length, take, replicate, None, sym, ap, subst}
+use Rattle.std.specs.Prelude.{All}
 use Rattle.std.proofs.Math.Seq.{take-length}
 use Rattle.std.proofs.lemmas.List.{length-replicate}
 use Rattle.page_pool.specs.Cells.{flat}
@@ -62,37 +63,37 @@ all-own s us =
 abbrev pub Ends : Script → Table → (us left : List Stored) → (pool : List (List ℕ)) → List Entry → List Reply → List Op → Type 0
 Ends s t us left pool log replies ops = EndsAsFalling (setting_told s t us) (4096 * s.pages) ops (opening_told s us) (take (4096 * s.pages) (flat pool)) (blocks_told left) replies (recorded (setting_told s t us) log)
 
-quiet_run : (s : Script) (t : Table) (us : List Stored) → IsBoundOver s t us → IsQuietRun s t us → IsFallingRun (setting_told s t us) s.ops (hidden (4096 * s.pages) (opening_told s us))
-quiet_run s t us b q = falling-run s t us b q.faults q.overwrites q.bytes q.clean
+quiet_run : (s : Script) (t : Table) (us : List Stored) → IsBoundOver s t us → All (All (λ x. x < 256)) (blocks_told us) → IsQuietRun s t us → IsFallingRun (setting_told s t us) s.ops (hidden (4096 * s.pages) (opening_told s us))
+quiet_run s t us b bytes q = falling-run s t us b q.faults q.overwrites bytes q.clean
 
-all_read : (s : Script) (t : Table) (us left : List Stored) (pool : List (List ℕ)) (log : List Entry) (replies : List Reply) → ReadsFallLaw → IsBoundOver s t us → IsQuietRun s t us → (e : Ends s t us left pool log replies s.ops) →
+all_read : (s : Script) (t : Table) (us left : List Stored) (pool : List (List ℕ)) (log : List Entry) (replies : List Reply) → ReadsFallLaw → IsBoundOver s t us → All (All (λ x. x < 256)) (blocks_told us) → IsQuietRun s t us → (e : Ends s t us left pool log replies s.ops) →
     AllReadOrFail (setting_told s t us) e.falls s.ops (opening_told s us) replies
-all_read s t us left pool log replies law b q e before after owner v n k body tuples is l =
+all_read s t us left pool log replies law b bytes q e before after owner v n k body tuples is l =
     let m = setting_told s t us in
     let room = room-of-read s t us before after owner v n body tuples b.keeps is in
     subst (λ (o : State). ReadsOrFails m (of_blocks e.falls) before owner v n body tuples o replies k) (all-own s us)
     (subst (λ (ops : List Op). (x : Ends s t us left pool log replies ops) → IsFallingRun m ops (hidden (4096 * s.pages) (opening_told s us)) → ReadsOrFails m (of_blocks x.falls) before owner v n body tuples (hidden (4096 * s.pages) (opening_told s us)) replies k) (sym is)
     (λ x run. law m (4096 * s.pages) before after owner v n k body tuples (opening_told s us) (take (4096 * s.pages) (flat pool)) (blocks_told left) replies (recorded m log) run room l x)
-    e (quiet_run s t us b q))
+    e (quiet_run s t us b bytes q))
 
-all_write : (s : Script) (t : Table) (us left : List Stored) (pool : List (List ℕ)) (log : List Entry) (replies : List Reply) → OwnFallLaw → BroughtFallLaw → IsBoundOver s t us → IsQuietRun s t us → (e : Ends s t us left pool log replies s.ops) →
+all_write : (s : Script) (t : Table) (us left : List Stored) (pool : List (List ℕ)) (log : List Entry) (replies : List Reply) → OwnFallLaw → BroughtFallLaw → IsBoundOver s t us → All (All (λ x. x < 256)) (blocks_told us) → IsQuietRun s t us → (e : Ends s t us left pool log replies s.ops) →
     AllWriteOrFail (setting_told s t us) e.falls s.ops (opening_told s us) replies
-all_write s t us left pool log replies own brought b q e =
+all_write s t us left pool log replies own brought b bytes q e =
     let m = setting_told s t us in
     record {
       own = λ before after v n k body app is l found.
           own m (4096 * s.pages) before after v n k body app (opening_told s us) (take (4096 * s.pages) (flat pool)) (blocks_told left) replies (recorded m log)
-          (subst (λ (ops : List Op). IsFallingRun m ops (hidden (4096 * s.pages) (opening_told s us))) is (quiet_run s t us b q)) l found (subst (Ends s t us left pool log replies) is e);
+          (subst (λ (ops : List Op). IsFallingRun m ops (hidden (4096 * s.pages) (opening_told s us))) is (quiet_run s t us b bytes q)) l found (subst (Ends s t us left pool log replies) is e);
       brought = λ before after v n k body tuples is l found.
           subst (λ (ops : List Op). (x : Ends s t us left pool log replies ops) → IsFallingRun m ops (hidden (4096 * s.pages) (opening_told s us)) → finds_then m (of_blocks x.falls) before v body tuples (opening_told s us) k ≡ None → IsWrittenOrFails (length before) replies k) (sym is)
           (λ x run none. brought m (4096 * s.pages) before after v n k body tuples (opening_told s us) (take (4096 * s.pages) (flat pool)) (blocks_told left) replies (recorded m log) run
           (room-of-write s t us before after v n body tuples b.keeps is) l x (subst (λ (o : State). finds_then m (of_blocks x.falls) before v body tuples o k ≡ None) (sym (all-own s us)) none))
-          e (quiet_run s t us b q) found;
+          e (quiet_run s t us b bytes q) found;
     }
 
-pub served : (s : Script) (t : Table) (us left : List Stored) (pool : List (List ℕ)) (log : List Entry) (replies : List Reply) → ReadsFallLaw → OwnFallLaw → BroughtFallLaw → IsBoundOver s t us → IsQuietRun s t us → Ends s t us left pool log replies s.ops → HasServed s t us left pool log replies
-served s t us left pool log replies reads own brought b q e = record {
+pub served : (s : Script) (t : Table) (us left : List Stored) (pool : List (List ℕ)) (log : List Entry) (replies : List Reply) → ReadsFallLaw → OwnFallLaw → BroughtFallLaw → IsBoundOver s t us → All (All (λ x. x < 256)) (blocks_told us) → IsQuietRun s t us → Ends s t us left pool log replies s.ops → HasServed s t us left pool log replies
+served s t us left pool log replies reads own brought b bytes q e = record {
   ends = e;
-  reads = all_read s t us left pool log replies reads b q e;
-  writes = all_write s t us left pool log replies own brought b q e;
+  reads = all_read s t us left pool log replies reads b bytes q e;
+  writes = all_write s t us left pool log replies own brought b bytes q e;
 }

@@ -112,15 +112,6 @@ faulty_bound = refl
 
 -- ---- what is stored
 
-bytes_by : (xs : List ℕ) → list_all (λ x. nat_lt x 256) xs ≡ true → All (λ x. x < 256) xs
-bytes_by [] h = All-nil (λ (x : ℕ). x < 256)
-bytes_by (x ∷ xs) h =
-    let a = and_parts (nat_lt x 256) (list_all (λ x. nat_lt x 256) xs) h in
-    All-cons (λ (y : ℕ). y < 256) x xs (ltb-true x 256 a.0) (bytes_by xs a.1)
-
-are_bytes : All (All (λ x. x < 256)) (blocks_told us)
-are_bytes = All-cons (All (λ x. x < 256)) (fresh One 512 0) [] (bytes_by (fresh One 512 0) refl) (All-nil (All (λ x. x < 256)))
-
 block_clean : IsClean (setting_told still table us) 0 (fresh One 512 0)
 unfolding crc
 block_clean = record { no_escape = refl; guard = refl; app = refl; rtag = λ h. refl }
@@ -133,7 +124,7 @@ clean (suc v) l t = absurd (omega arith)
 
 plain_row : IsPlainRun still table us
 plain_row = record {
-  quiet = record { faults = refl; overwrites = refl; bytes = are_bytes; clean = clean };
+  quiet = record { faults = refl; overwrites = refl; clean = clean };
   no_escape = ((λ h. refl, tt), ((tt, tt), tt));
 }
 
@@ -160,4 +151,4 @@ detectable_row = record {
 
 formed_row : IsFormedRun faulty table devices us
 unfolding crc
-formed_row = record { ty = refl; dix = refl; dif = refl; protect = refl; form = refl; escapes = refl; bytes = are_bytes; clean = all_clean }
+formed_row = record { ty = refl; dix = refl; dif = refl; protect = refl; form = refl; escapes = refl; clean = all_clean }

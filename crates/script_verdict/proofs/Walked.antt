@@ -1,6 +1,7 @@
 use Rattle.std.proofs.Common.{ℕ, ◌≡◌, ◌<◌, ◌*◌, true, false, List, [], ◌∷◌, ◌++◌, get_or, map, Some, refl, sym, ap, subst, ◌∙◌}
 use Rattle.std.specs.Prelude.{All}
 use Rattle.std.specs.List.{list_any}
+use Rattle.dix_base.specs.Told.{AreOctets}
 use Rattle.fault_schedule.specs.declared.fault.FaultLine.{FaultLine}
 use Rattle.target_answer.specs.Target.{Stored}
 use Rattle.rig_api.specs.Log.{Entry}
@@ -24,6 +25,7 @@ use Rattle.script_stack.proofs.Words.{sends_own}
 use Rattle.script_laws.specs.Keeping.{Keeps}
 use Rattle.script_ground.proofs.OverUnits.{IsBoundOver}
 use Rattle.rig_discovery.specs.Discovery.{info_of}
+use Rattle.script_stack.proofs.Octets.{blocks_octets}
 use Rattle.dix_adapter.specs.Ways.{blocks_told, shapes_of}
 use Rattle.script_verdict.specs.Fallen.{HasServed}
 use Rattle.script_verdict.specs.Premises.{IsDetectableRun, IsFormedRun, IsPlainRun, IsQuietRun}
@@ -61,6 +63,7 @@ outside v armed = record { units = v.seen.units; armed = armed; standing = v.sta
 pub record IsDone (s : Script) (t : Table) (devices : List DeviceInfo) (begun r : Stack) (old new : View) (armed : List FaultLine) : Type 0 where
   pub keeps : Keeps s
   pub some : 0 < old.standing.devices
+  pub octets : AreOctets old.image
   pub over : IsOver s t devices s.schedule begun r old.image new.image (outside old s.faults) (outside new armed)
 
 -- where the rig told these units, the script is bound to its volume over them
@@ -71,6 +74,9 @@ bound_at s t devices begun r old new armed o us e =
 
 devices_at : (s : Script) (t : Table) (devices : List DeviceInfo) (begun r : Stack) (old new : View) (armed : List FaultLine) (o : IsDone s t devices begun r old new armed) → (us : List Stored) → old.seen.units ≡ Some us → devices ≡ map info_of (shapes_of us)
 devices_at s t devices begun r old new armed o us e = (told_at s t devices s.schedule begun r old.image new.image (outside old s.faults) (outside new armed) o.over us e).infos
+
+bytes_at : (s : Script) (t : Table) (devices : List DeviceInfo) (begun r : Stack) (old new : View) (armed : List FaultLine) (o : IsDone s t devices begun r old new armed) → (us : List Stored) → old.seen.units ≡ Some us → All (All (λ x. x < 256)) (blocks_told us)
+bytes_at s t devices begun r old new armed o us e = blocks_octets old.standing old.image us o.octets (sym o.over.laid ∙ e)
 
 walked : (s : Script) (t : Table) (devices : List DeviceInfo) (begun r : Stack) (old new : View) (armed : List FaultLine) → ToldLaw → (o : IsDone s t devices begun r old new armed) → (us : List Stored) → old.seen.units ≡ Some us → medium_lines r.replies.items ≡ 0 →
     (left : List Stored) × (new.seen.units ≡ Some left) × HasWalked s t us left r.pool o.over.goes.more r.replies.items
@@ -106,7 +112,7 @@ plain_at : (s : Script) (t : Table) (devices : List DeviceInfo) (begun r : Stack
     IsPlainRun s t us → (left : List Stored) × (new.seen.units ≡ Some left) × HasPlain s t us left r.pool r.replies.items
 plain_at s t devices begun r old new armed law same under o us e unnamed run =
     let w = walked s t devices begun r old new armed law o us e unnamed in
-    (w.0, w.1, plain_of s t us w.0 r.pool o.over.goes.more r.replies.items same under (plain_run s t us (bound_at s t devices begun r old new armed o us e) run) w.2)
+    (w.0, w.1, plain_of s t us w.0 r.pool o.over.goes.more r.replies.items same under (plain_run s t us (bound_at s t devices begun r old new armed o us e) (bytes_at s t devices begun r old new armed o us e) run) w.2)
 
 -- the law of reads under scheduled faults
 abbrev pub DetectionLaw : Type 0
@@ -152,8 +158,8 @@ FormLaw = (s : Script) (t : Table) (us : List Stored) → IsBoundTo s t us → I
 abbrev pub EscapeLaw : Type 0
 EscapeLaw = (s : Script) (t : Table) (us : List Stored) → escapes_none s.ops ≡ true → NoEscape (setting_told s t us) 1 s.ops (opening_told s us)
 
-by_form : (s : Script) (t : Table) (devices : List DeviceInfo) (us : List Stored) → FormLaw → EscapeLaw → devices ≡ map info_of (shapes_of us) → IsBoundOver s t us → IsFormedRun s t devices us → IsDetectableRun s t devices us
-by_form s t devices us form escape same b p =
+by_form : (s : Script) (t : Table) (devices : List DeviceInfo) (us : List Stored) → FormLaw → EscapeLaw → devices ≡ map info_of (shapes_of us) → IsBoundOver s t us → All (All (λ x. x < 256)) (blocks_told us) → IsFormedRun s t devices us → IsDetectableRun s t devices us
+by_form s t devices us form escape same b bytes p =
     let none = escape s t us p.escapes in
     let own = subst (λ (ds : List DeviceInfo). DevicesAreClean (setting_told s t us) ds (blocks_told us)) same p.clean in
     record {
@@ -170,7 +176,7 @@ by_form s t devices us form escape same b p =
             dif = p.dif;
             protect = p.protect;
             form = p.form;
-            bytes = p.bytes;
+            bytes = bytes;
             clean = λ v l z. own v (address_of (setting_told s t us) v) l (b.made.inside v l);
             no_escape = none;
           });
@@ -180,14 +186,14 @@ formed_at : (s : Script) (t : Table) (devices : List DeviceInfo) (begun r : Stac
     medium_lines r.replies.items ≡ 0 → IsFormedRun s t devices us → AllReadRightly (setting_told s t us) s.ops (opening_told s us) r.replies.items
 formed_at s t devices begun r old new armed law detects form escape o us e unnamed run =
     shown_at s t devices begun r old new armed law detects o us e unnamed
-    (by_form s t devices us form escape (devices_at s t devices begun r old new armed o us e) (bound_at s t devices begun r old new armed o us e) run)
+    (by_form s t devices us form escape (devices_at s t devices begun r old new armed o us e) (bound_at s t devices begun r old new armed o us e) (bytes_at s t devices begun r old new armed o us e) run)
 
 fallen_view : (s : Script) (t : Table) (devices : List DeviceInfo) (begun r : Stack) (old new : View) (armed : List FaultLine) → BackedLaw → FallenLaw → ReadsFallLaw → OwnFallLaw → BroughtFallLaw → (o : IsDone s t devices begun r old new armed) → (us : List Stored) → old.seen.units ≡ Some us → IsQuietRun s t us →
     (left : List Stored) × (new.seen.units ≡ Some left) × HasServed s t us left r.pool o.over.goes.more r.replies.items
 fallen_view s t devices begun r old new armed backed law reads own brought o us e quiet =
     let none = none_failed s t devices o.over.goes.more r.replies.items quiet.overwrites (backed_by s t devices s.schedule begun r old.image new.image (outside old s.faults) (outside new armed) backed o.over) in
     let w = fell s t devices begun r old new armed law o us e none in
-    (w.0, w.1, served s t us w.0 r.pool o.over.goes.more r.replies.items reads own brought (bound_at s t devices begun r old new armed o us e) quiet w.2.ends)
+    (w.0, w.1, served s t us w.0 r.pool o.over.goes.more r.replies.items reads own brought (bound_at s t devices begun r old new armed o us e) (bytes_at s t devices begun r old new armed o us e) quiet w.2.ends)
 
 pub followed : (s : Script) (t : Table) (devices : List DeviceInfo) (begun r : Stack) (old new : View) (armed : List FaultLine) → BackedLaw → FewLaw → AllLaw → MediumLaw → ToldLaw → RepliesLaw → UnderLaw → DetectionLaw → FormLaw → EscapeLaw → FallenLaw → ReadsFallLaw → OwnFallLaw → BroughtFallLaw → IsDone s t devices begun r old new armed → Followed s t devices old new r.pool r.replies.items
 followed s t devices begun r old new armed backed few all medium told same under detects form escape fallen reads own brought o = record {

@@ -1,5 +1,5 @@
 -- What is asked of a script, and of the blocks that a rig tells, before its run is one on a plain map, or names the first layer that checks after a fault. All else that is asked there was seen to when the script was read and bound to its volume.
-use Rattle.std.specs.Prelude.{◌≡◌, ◌<◌, true, false, List, [], All}
+use Rattle.std.specs.Prelude.{◌≡◌, true, false, List, []}
 use Rattle.std.specs.List.{list_any}
 use Rattle.pi_tuple.specs.declared.checks.PiType.TheVariants.{One}
 use Rattle.block_path.specs.Acts.{State}
@@ -24,11 +24,10 @@ setting_told script table us = setting_of script table (shapes_of us) none_fails
 abbrev pub opening_told : Script → List Stored → State
 opening_told script us = opening_of script (shapes_of us) (blocks_told us)
 
--- The script has no `fault`, `shift` or `overwrite` line. What is stored is bytes, and each block of the volume is clean.
+-- The script has no `fault`, `shift` or `overwrite` line. Each block of the volume is clean.
 pub record IsQuietRun (script : Script) (table : Table) (us : List Stored) : Type 0 where
   pub faults : script.faults ≡ []
   pub overwrites : list_any is_overwrite script.ops ≡ false
-  pub bytes : All (All (λ x. x < 256)) (blocks_told us)
   pub clean : AreClean (setting_told script table us) (blocks_told us)
 
 -- Nor does a write supply an escape.
@@ -46,7 +45,7 @@ pub record IsDetectableRun (script : Script) (table : Table) (devices : List Dev
   pub no_escape : NoEscape (setting_told script table us) 1 script.ops (opening_told script us)
   pub shown : detectable (setting_told script table us) (steps_from (setting_told script table us) 1 script.ops) (opening_told script us) ≡ true
 
--- The same by what a reader of the script sees, but that the blocks are clean: the faults have the form under which each is shown, no `write` has the application tag FFFFh, and there is no `writepi`. What is stored is bytes.
+-- The same by what a reader of the script sees, but that the blocks are clean: the faults have the form under which each is shown, no `write` has the application tag FFFFh, and there is no `writepi`.
 pub record IsFormedRun (script : Script) (table : Table) (devices : List DeviceInfo) (us : List Stored) : Type 0 where
   pub ty : table.ty ≡ One
   pub dix : script.mode.dix ≡ true
@@ -54,5 +53,4 @@ pub record IsFormedRun (script : Script) (table : Table) (devices : List DeviceI
   pub protect : script.mode.protect ≡ 1
   pub form : shows_by_form script.mode.kind script.block script.faults script.ops ≡ true
   pub escapes : escapes_none script.ops ≡ true
-  pub bytes : All (All (λ x. x < 256)) (blocks_told us)
   pub clean : DevicesAreClean (setting_told script table us) devices (blocks_told us)

@@ -27,6 +27,7 @@ returns-in-Ok-serve g c =
       starts = record { mirror = c.in-Ok-new.ensures.mirror; script_is = c.in-Ok-new.ensures.script; devices_are = c.in-Ok-new.ensures.devices; none = c.in-Ok-new.ensures.none; unused = c.in-Ok-new.ensures.unused; marks = (c.in-Ok-new.ensures.told []).marks; pages = (c.in-Ok-new.ensures.told []).pages };
       laid = g.met.R.Rig.laid c.bind.new.rig;
       ready = g.met.R.Rig.ready c.bind.new.rig;
+      octets = g.met.R.Rig.octets c.bind.new.rig;
     } in
     mirrored c.one_good_leg_is_enough.ensures c.a_formed_mirror_has_one_good_leg.ensures c.no_fault_is_enough_under_any_protect_field.ensures c.args.script c.args.image.now devices old told new begun (g.R.Rig.armed c.bind.new.rig) (g.R.Rig.armed c.serve.new.rig) up c.serve.ensures.tells (g.met.R.Rig.laid c.serve.new.rig) (g.met.R.Rig.ready c.serve.new.rig)
     _ (rw (c.in-Ok-new.ensures.script, c.in-Ok-new.ensures.devices) at c.in-Ok-serve.ensures.done)
@@ -45,6 +46,7 @@ returns-in-Err-serve g c =
       starts = record { mirror = c.in-Ok-new.ensures.mirror; script_is = c.in-Ok-new.ensures.script; devices_are = c.in-Ok-new.ensures.devices; none = c.in-Ok-new.ensures.none; unused = c.in-Ok-new.ensures.unused; marks = (c.in-Ok-new.ensures.told []).marks; pages = (c.in-Ok-new.ensures.told []).pages };
       laid = g.met.R.Rig.laid c.bind.new.rig;
       ready = g.met.R.Rig.ready c.bind.new.rig;
+      octets = g.met.R.Rig.octets c.bind.new.rig;
     } in
     inr (midway c.one_good_leg_is_enough.ensures c.a_formed_mirror_has_one_good_leg.ensures c.no_fault_is_enough_under_any_protect_field.ensures c.args.script c.args.image.now devices old told new begun (g.R.Rig.armed c.bind.new.rig) (g.R.Rig.armed c.serve.new.rig) up c.serve.ensures.tells (g.met.R.Rig.laid c.serve.new.rig) (g.met.R.Rig.ready c.serve.new.rig)
     (rw (c.in-Ok-new.ensures.script, c.in-Ok-new.ensures.devices) at c.in-Err-serve.ensures.done))

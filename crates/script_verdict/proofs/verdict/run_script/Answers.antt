@@ -77,6 +77,7 @@ returns-clause-verdict g c = record {
       (record {
         keeps = c.requires.keeps;
         some = rw c.ready_script.ensures.standing (has_device c.args.image.now c.in-Ok.bound.devices.items _ _ c.in-Ok.ensures.asked);
+        octets = g.met.R.Rig.octets c.ready_script.new.rig;
         over = record {
           suits = suits c.args.script c.requires.keeps;
           lines = c.requires.lines;
