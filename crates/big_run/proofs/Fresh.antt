@@ -5,7 +5,7 @@ use Rattle.pi_tuple.specs.Tuples.{ref_tag, tuple_bytes}
 use Rattle.pi_tuple.specs.declared.checks.PiType.{PiType}
 use Rattle.pi_tuple.specs.declared.checks.PiType.TheVariants.{Zero, One, Two, Three}
 use Rattle.pi_tuple.specs.declared.tuple.Tuple.{Tuple}
-use Rattle.target_answer.specs.Frames.{data_of, frame_of, frames_of, joined, stored_size, tuple_of}
+use Rattle.target_answer.specs.Frames.{data_of, frames_of, joined, stored_size, tuple_of}
 use Rattle.target_answer.specs.Headers.{bytes_of}
 use Rattle.target_answer.specs.Image.{all_fresh, fresh, fresh_bytes, fresh_from, units_from}
 use Rattle.target_answer.specs.declared.units.UnitSpec.{UnitSpec}

@@ -1,9 +1,8 @@
 use Rattle.std.proofs.Common.{◌≡◌, ◌<◌, ℕ, zero, suc, ◌+◌, true, List, [], ◌∷◌, get_or, refl, arith}
-use Rattle.std.specs.Prelude.{All, None, Some, nat_lt}
+use Rattle.std.specs.Prelude.{None, Some, nat_lt}
 use Rattle.script_lines.specs.declared.kind.ScriptKind.TheVariants.{BadFault}
 use Rattle.std.specs.List.{list_all}
 use Rattle.std.proofs.lemmas.Bool.{and_parts, ltb-true}
-use Rattle.std.proofs.lemmas.List.Elements.{All-cons, All-nil}
 use Rattle.pi_guard.specs.Guards.{crc, ip}
 use Rattle.pi_guard.specs.declared.GuardKind.TheVariants.{Crc}
 use Rattle.pi_tuple.specs.declared.checks.PiType.TheVariants.{One}

@@ -1,8 +1,5 @@
-use Rattle.std.proofs.Common.{◌≡◌, ◌<◌, ℕ, zero, suc, true, List, [], ◌∷◌, ◌++◌, None, refl, arith}
-use Rattle.std.specs.Prelude.{All, Ok, codes, nat_lt}
-use Rattle.std.specs.List.{list_all}
-use Rattle.std.proofs.lemmas.Bool.{and_parts, ltb-true}
-use Rattle.std.proofs.lemmas.List.Elements.{All-cons, All-nil}
+use Rattle.std.proofs.Common.{◌≡◌, ℕ, zero, suc, true, List, [], ◌∷◌, ◌++◌, None, refl, arith}
+use Rattle.std.specs.Prelude.{Ok, codes}
 use Rattle.hex.specs.Hex.{decode_pairs}
 use Rattle.pi_guard.specs.Guards.{crc, ip}
 use Rattle.pi_guard.specs.declared.GuardKind.TheVariants.{Crc}
