@@ -11,5 +11,8 @@ mod WalksAlike
 pub mod Ending
 pub mod Served
 pub mod Stepping
+pub mod Overwriting
 pub mod NoneFell
+pub mod Flipped
+pub mod Flipping
 mod FallsRows

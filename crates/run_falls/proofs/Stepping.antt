@@ -51,7 +51,7 @@ label_at i k = record { op = i; k = k }
 
 -- at first
 
-wait_still : (o : Option (List ℕ)) → forgive o Waits ≡ Waits
+pub wait_still : (o : Option (List ℕ)) → forgive o Waits ≡ Waits
 wait_still None = refl
 wait_still (Some left) = refl
 
@@ -83,11 +83,11 @@ begins m n ops opening empty = record {
 
 -- blocks that move on together
 
-abbrev IsNotIn : (i k : ℕ) → List Spot → Type 0
+abbrev pub IsNotIn : (i k : ℕ) → List Spot → Type 0
 IsNotIn i k [] = Unit {0}
 IsNotIn i k (s ∷ spots) = (i ≡ number s → k ≡ place s → ⊥) × IsNotIn i k spots
 
-kept : (i k : ℕ) (next : Status) (spots : List Spot) (status : ℕ → ℕ → Status) → IsNotIn i k spots → with_all spots next status i k ≡ status i k
+pub kept : (i k : ℕ) (next : Status) (spots : List Spot) (status : ℕ → ℕ → Status) → IsNotIn i k spots → with_all spots next status i k ≡ status i k
 kept i k next [] status h = refl
 kept i k next (s ∷ spots) status h = kept i k next spots (with_status (number s) (place s) next status) h.1 ∙ with_other (number s) (place s) i k next status h.0
 

@@ -31,7 +31,7 @@ Done = List (Option Answer)
 abbrev Moves : Type 0
 Moves = List (Act Answer)
 
-far_length : (moves : Moves) (answers : List Answer) → length (so_far moves answers) ≡ length moves
+pub far_length : (moves : Moves) (answers : List Answer) → length (so_far moves answers) ≡ length moves
 far_length [] answers = refl
 far_length (a ∷ moves) [] = ap suc (far_length moves [])
 far_length (a ∷ moves) (r ∷ answers) = ap suc (far_length moves answers)

@@ -1,3 +1,4 @@
 pub mod Falls
 pub mod FollowsFalling
 pub mod AtTheEnd
+pub mod Flips

@@ -16,7 +16,7 @@ pub use send::a_falling_command_is_sent;
 pub use steps::{
     a_block_is_settled_where_calls_fail, a_falling_stack_begins,
     a_write_is_held_back_where_calls_fail, an_op_is_done_whole_where_calls_fail,
-    some_blocks_move_on_where_calls_fail,
+    an_overwrite_flips_its_block_where_its_call_fails, some_blocks_move_on_where_calls_fail,
 };
 pub use switch::{
     a_stack_that_lists_no_medium_follows_the_walk, what_was_not_carried_may_come_to_another_device,

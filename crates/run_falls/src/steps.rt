@@ -13,7 +13,10 @@ ghost use Rattle.block_path.specs.Acts.{State, act, tell};
 ghost use Rattle.block_path.specs.Blocks.{Sent, silent};
 ghost use Rattle.block_path.specs.Moves.{first_why};
 ghost use Rattle.block_path.specs.Serial.{plain, plain_tells};
-ghost use Rattle.whole_run.specs.ScriptWalk.{acts_of};
+ghost use Rattle.rig_api.specs.declared.change.Change.{Change as AnyChange};
+ghost use Rattle.rig_api.specs.declared.change.Change.TheVariants.{Flip};
+ghost use Rattle.stack_ops.specs.declared.op.Op.TheVariants.{Overwrite};
+ghost use Rattle.whole_run.specs.ScriptWalk.{acts_of, changed};
 ghost use Rattle.whole_run.specs.Settings.{Setting};
 ghost use Rattle.run_moves.specs.OpsApart.{IsPlaced, OneCellEach};
 ghost use Rattle.dix_adapter.specs.declared.adapter.Adapter.{Adapter as AnyAdapter};
@@ -63,4 +66,15 @@ pub fn a_write_is_held_back_where_calls_fail()
         → IsGroup a pool m.size ios req → (first_of req).dir ≡ Write → m.site.faults ≡ a.tamper → Unsent a ios req pool pool' fates
         → AllGoing m n ops a ios (length opening.logs) status (blocks_in req) spots → FollowsFalling m n ops opening status (flat pool) blocks es
         → FollowsFalling m n ops opening (with_fates (blocks_in req) fates status) (flat pool) blocks es }
+{}
+
+/// An overwrite is done whose store call fails, once the gate lets it in. Whatever it leaves in its block, of the block's
+/// size, is what some flip of the block leaves: the stack follows the walk in which this flip stands in its place.
+pub fn an_overwrite_flips_its_block_where_its_call_fails()
+    ensures flips { (old left : List ℕ) → length left ≡ length old → (mask : List ℕ) × (changed (Flip 0 mask) old ≡ left) }
+    ensures follows { (m : Setting) (n : ℕ) (front behind : List AnyOp) (dev lba : ℕ) (change : AnyChange) (mask : List ℕ) (opening : State) (old new : ℕ → ℕ → Status) (pages : List ℕ) (blocks : List (List ℕ)) (es : List Sent)
+        → let i = suc (length front) in let flip = Overwrite dev lba (Flip 0 mask) in
+        OneCellEach m → AllPlaced m n front → IsPlaced m n (Overwrite dev lba change) → LetsIn m old 1 front i (Overwrite dev lba change)
+        → (f : FollowsFalling m n (front ++ (Overwrite dev lba change ∷ behind)) opening old pages blocks es) → BecomesDone m i (Overwrite dev lba change) f.after old new
+        → let after = plain act (acts_of m i flip) f.after in FollowsFalling m n (front ++ (flip ∷ behind)) opening new after.bytes after.blocks es }
 {}

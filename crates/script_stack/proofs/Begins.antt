@@ -133,28 +133,28 @@ info-size (u ∷ units) zero l = refl
 info-size (u ∷ units) (suc d) l = info-size units d (omega arith)
 
 -- what a stack of a script begins with over a rig that tells its blocks
-record BeginsAt (s : Script) (t : Table) (us : List Stored) (r : Stack) (st : Standing) : Type 0 where
+record BeginsAt (s : Script) (t : Table) (fails : ℕ → Bool) (us : List Stored) (r : Stack) (st : Standing) : Type 0 where
   opens_so : Opens (begun_of s (shapes_of us) (blocks_told us)) r
-  over : IsOver (setting_of s t (shapes_of us) none_fails) (4096 * s.pages) (begun_of s (shapes_of us) (blocks_told us)) r.sheet r.adapter r.host
-  sizes : SizesFit (setting_of s t (shapes_of us) none_fails) st
-  site : (setting_of s t (shapes_of us) none_fails).site ≡ site_of r.adapter (specs_of st)
-  units : AreAtUnits (setting_of s t (shapes_of us) none_fails) (specs_of st) r.sheet.ops
+  over : IsOver (setting_of s t (shapes_of us) fails) (4096 * s.pages) (begun_of s (shapes_of us) (blocks_told us)) r.sheet r.adapter r.host
+  sizes : SizesFit (setting_of s t (shapes_of us) fails) st
+  site : (setting_of s t (shapes_of us) fails).site ≡ site_of r.adapter (specs_of st)
+  units : AreAtUnits (setting_of s t (shapes_of us) fails) (specs_of st) r.sheet.ops
   armed : s.faults ≡ r.adapter.tamper
 
 module _ (s : Script) (t : Table) (devices : List DeviceInfo) (r : Stack) (suits : SuitsStack s) (lines : length s.lines ≡ length s.faults + length s.ops) (few : length devices ≤ 8) (made : MadeFor t devices s.block) (bound : binding_fault s t devices ≡ None) (is : IsStackOf s t r) (blank : IsBlank (pages_from s.mode.dix s.pages s.ops) r.pool) where
-  begins-at : (us : List Stored) (st : Standing) → devices ≡ map info_of (specs_of st) → shapes_of us ≡ specs_of st → BeginsAt s t us r st
-  begins-at us st found shapes =
+  begins-at : (fails : ℕ → Bool) (us : List Stored) (st : Standing) → devices ≡ map info_of (specs_of st) → shapes_of us ≡ specs_of st → BeginsAt s t fails us r st
+  begins-at fails us st found shapes =
       let units = shapes_of us in
-      let m = setting_of s t units none_fails in
+      let m = setting_of s t units fails in
       let e : devices ≡ map info_of units = found ∙ ap (map info_of) (sym shapes) in
       let few' = subst (λ (ds : List DeviceInfo). length ds ≤ 8) e few in
       let made' = subst (λ ds. MadeFor t ds s.block) e made in
       let bound' = subst (λ ds. binding_fault s t ds ≡ None) e bound in
-      let own = own_setting s t units none_fails (blocks_told us) suits lines few' made' bound' in
+      let own = own_setting s t units fails (blocks_told us) suits lines few' made' bound' in
       let sizes : SizesAre (map info_of units) st = λ d l. ap (λ us. (get_or us d no_spec).size) (sym shapes) ∙ info-size units d l in
       record {
         opens_so = opens s units (blocks_told us) r blank;
-        over = is_over s t units none_fails (blocks_told us) suits lines few' made' bound' r is;
+        over = is_over s t units fails (blocks_told us) suits lines few' made' bound' r is;
         sizes = λ v l. (let on = made'.inside v l in sizes (place_in t.entries v).0 on.known ∙ on.size_is);
         site = ap (λ (fs : List FaultLine). record { faults = fs; device = target fs; cell = cell_in units }) (sym is.faults) ∙ ap (site_of r.adapter) shapes;
         units = subst (λ us. AreAtUnits m us r.sheet.ops) shapes (subst (AreAtUnits m units) (sym is.ops) (lies-at-units m s t units (all_blocks units) own lines made' bound'));
@@ -163,13 +163,13 @@ module _ (s : Script) (t : Table) (devices : List DeviceInfo) (r : Stack) (suits
 
   pub begins-told : WalksToldAtFirst r → BeginsTold s t devices r
   begins-told first us st log found shapes =
-      let b = begins-at us st found shapes in
+      let b = begins-at none_fails us st found shapes in
       first (setting_of s t (shapes_of us) none_fails) (4096 * s.pages) (begun_of s (shapes_of us) (blocks_told us)) us s.faults st log b.opens_so b.over b.sizes b.site b.units b.armed refl
 
   pub begins-falling : WalksFallingAtFirst r → BeginsFalling s t devices r
-  begins-falling first us st log found shapes =
-      let b = begins-at us st found shapes in
-      first (setting_of s t (shapes_of us) none_fails) (4096 * s.pages) (begun_of s (shapes_of us) (blocks_told us)) us s.faults st log b.opens_so b.over b.sizes b.site b.units b.armed refl
+  begins-falling first fails us st log found shapes =
+      let b = begins-at fails us st found shapes in
+      first (setting_of s t (shapes_of us) fails) (4096 * s.pages) (begun_of s (shapes_of us) (blocks_told us)) us s.faults st log b.opens_so b.over b.sizes b.site b.units b.armed refl
 
 -- no op has replied yet
 pub none-failed : (n : ℕ) → NoneFailed (replicate n Silent)

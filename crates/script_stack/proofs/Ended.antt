@@ -1,5 +1,5 @@
 -- What the steps of a script's stack come to at its end, by the laws of a run over any rig and over one that tells its blocks.
-use Rattle.std.proofs.Common.{ℕ, ◌≡◌, ◌+◌, ◌*◌, true, List, [], length, drop, map, Option, Some, None, refl, sym, ap, subst, ◌∙◌}
+use Rattle.std.proofs.Common.{ℕ, Bool, ◌≡◌, ◌+◌, ◌*◌, true, List, [], length, drop, map, Option, Some, None, refl, sym, ap, subst, ◌∙◌}
 use Rattle.std.specs.Prelude.{is_some}
 use Rattle.std.proofs.lemmas.Option.{none-some}
 use Rattle.fault_schedule.specs.declared.fault.FaultLine.{FaultLine}
@@ -47,7 +47,7 @@ ToldLaw = (s : Script) (t : Table) (us left : List Stored) (first : ℕ) (r : St
 abbrev pub FallenLaw : Type 0
 FallenLaw = (s : Script) (t : Table) (us left : List Stored) (first : ℕ) (r : Stack) (armed : List FaultLine) (st : Standing) (log : List Entry) → SuitsStack s → length s.lines ≡ length s.faults + length s.ops
     → MadeFor t (map info_of (shapes_of us)) s.block → binding_fault s t (map info_of (shapes_of us)) ≡ None → AreStored us → shapes_of left ≡ shapes_of us → IsStack r → r.sheet.ops ≡ s.ops
-    → NoneFailed r.replies.items → WalksFalling (setting_of s t (shapes_of us) none_fails) (4096 * s.pages) (begun_of s (shapes_of us) (blocks_told us)) first r (Some left) armed st log
+    → WalksFalling (setting_of s t (shapes_of us) (failed_in r.replies.items)) (4096 * s.pages) (begun_of s (shapes_of us) (blocks_told us)) first r (Some left) armed st log
     → ((v : View) → Holds (plan_in r.sheet) r.machine v → enabled (plan_in r.sheet) v ≡ []) → HasFallen s t us left r.pool (drop first log) r.replies.items
 
 -- A script that was made ready over a rig and run by these words, with what the rig tells of its image then and afterwards, and its stack that went to its end.
@@ -123,7 +123,7 @@ pub record IsTold (s : Script) (t : Table) (devices : List DeviceInfo) (us : Lis
   pub made : MadeFor t (map info_of (shapes_of us)) s.block
   pub bound : binding_fault s t (map info_of (shapes_of us)) ≡ None
   pub stored : AreStored us
-  pub begins_falling : WalksFalling (setting_of s t (shapes_of us) none_fails) (4096 * s.pages) (begun_of s (shapes_of us) (blocks_told us)) (length old.log) begun old.units old.armed old.standing old.log
+  pub begins_falling : (fails : ℕ → Bool) → WalksFalling (setting_of s t (shapes_of us) fails) (4096 * s.pages) (begun_of s (shapes_of us) (blocks_told us)) (length old.log) begun old.units old.armed old.standing old.log
   pub left : List Stored
   pub left_are : new.units ≡ Some left
   pub same : shapes_of left ≡ shapes_of us
@@ -142,7 +142,7 @@ told_at s t devices words begun r image image' old new o us e =
       made = subst (λ ds. MadeFor t ds s.block) infos o.made;
       bound = subst (λ ds. binding_fault s t ds ≡ None) infos o.bound;
       stored = told-stored old.standing image us told o.ready;
-      begins_falling = rw (e, o.armed) (o.falling us old.standing old.log known shapes);
+      begins_falling = λ fails. rw (e, o.armed) (o.falling fails us old.standing old.log known shapes);
       left = after.0;
       left_are = after.1;
       same = shapes' ∙ ap specs_of o.goes.standing ∙ sym shapes;
@@ -152,18 +152,18 @@ pub walked_at : (s : Script) (t : Table) (devices : List DeviceInfo) (words : Li
     (left : List Stored) × ((new.units ≡ Some left) × HasWalked s t us left r.pool o.goes.more r.replies.items)
 walked_at s t devices words begun r image image' old new law o us e none =
     let told = told_at s t devices words begun r image image' old new o us e in
-    let ends = o.went.falling (setting_of s t (shapes_of us) none_fails) (4096 * s.pages) (begun_of s (shapes_of us) (blocks_told us)) (length old.log) told.begins_falling in
+    let ends = o.went.falling (setting_of s t (shapes_of us) none_fails) (4096 * s.pages) (begun_of s (shapes_of us) (blocks_told us)) (length old.log) (told.begins_falling none_fails) in
     let ends' : WalksFalling (setting_of s t (shapes_of us) none_fails) (4096 * s.pages) (begun_of s (shapes_of us) (blocks_told us)) (length old.log) r (Some told.left) new.armed new.standing new.log = rw told.left_are at ends in
     let walked : HasWalked s t us told.left r.pool (drop (length old.log) new.log) r.replies.items =
     law s t us told.left (length old.log) r new.armed new.standing new.log o.suits o.lines told.made told.bound told.stored told.same o.stack o.ops none ends' o.ended in
     (told.left, (told.left_are, subst (λ (more : List Entry). HasWalked s t us told.left r.pool more r.replies.items) (rest_is s t devices words begun r image image' old new o) walked))
 
-pub fallen_at : (s : Script) (t : Table) (devices : List DeviceInfo) (words : List (ℕ × ℕ)) (begun r : Stack) (image image' : Option (List ℕ)) (old new : Outside) → FallenLaw → (o : IsOver s t devices words begun r image image' old new) → (us : List Stored) → old.units ≡ Some us → NoneFailed r.replies.items →
+pub fallen_at : (s : Script) (t : Table) (devices : List DeviceInfo) (words : List (ℕ × ℕ)) (begun r : Stack) (image image' : Option (List ℕ)) (old new : Outside) → FallenLaw → (o : IsOver s t devices words begun r image image' old new) → (us : List Stored) → old.units ≡ Some us →
     (left : List Stored) × ((new.units ≡ Some left) × HasFallen s t us left r.pool o.goes.more r.replies.items)
-fallen_at s t devices words begun r image image' old new law o us e none =
+fallen_at s t devices words begun r image image' old new law o us e =
     let told = told_at s t devices words begun r image image' old new o us e in
-    let ends = o.went.falling (setting_of s t (shapes_of us) none_fails) (4096 * s.pages) (begun_of s (shapes_of us) (blocks_told us)) (length old.log) told.begins_falling in
-    let ends' : WalksFalling (setting_of s t (shapes_of us) none_fails) (4096 * s.pages) (begun_of s (shapes_of us) (blocks_told us)) (length old.log) r (Some told.left) new.armed new.standing new.log = rw told.left_are at ends in
+    let ends = o.went.falling (setting_of s t (shapes_of us) (failed_in r.replies.items)) (4096 * s.pages) (begun_of s (shapes_of us) (blocks_told us)) (length old.log) (told.begins_falling (failed_in r.replies.items)) in
+    let ends' : WalksFalling (setting_of s t (shapes_of us) (failed_in r.replies.items)) (4096 * s.pages) (begun_of s (shapes_of us) (blocks_told us)) (length old.log) r (Some told.left) new.armed new.standing new.log = rw told.left_are at ends in
     let fallen : HasFallen s t us told.left r.pool (drop (length old.log) new.log) r.replies.items =
-    law s t us told.left (length old.log) r new.armed new.standing new.log o.suits o.lines told.made told.bound told.stored told.same o.stack o.ops none ends' o.ended in
+    law s t us told.left (length old.log) r new.armed new.standing new.log o.suits o.lines told.made told.bound told.stored told.same o.stack o.ops ends' o.ended in
     (told.left, (told.left_are, subst (λ (more : List Entry). HasFallen s t us told.left r.pool more r.replies.items) (rest_is s t devices words begun r image image' old new o) fallen))

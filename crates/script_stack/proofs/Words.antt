@@ -24,7 +24,7 @@ pub walked_by : (s : Script) (words : List (ℕ × ℕ)) (t : Table) (us left : 
 walked_by s words t us left pool log replies h = record { replies_are = h.replies_are; pages = h.pages; shapes = h.shapes; blocks = h.blocks; carried = h.carried }
 
 pub fallen_by : (s : Script) (words : List (ℕ × ℕ)) (t : Table) (us left : List Stored) (pool : List (List ℕ)) (log : List Entry) (replies : List Reply) → HasFallen (by_words s words) t us left pool log replies → HasFallen s t us left pool log replies
-fallen_by s words t us left pool log replies h = record { shapes = h.shapes; ends = h.ends }
+fallen_by s words t us left pool log replies h = record { shapes = h.shapes; fallen = record { flips = h.fallen.flips; replied = h.fallen.replied; ends = h.fallen.ends } }
 
 -- by its own schedule
 pub sends_own : (s : Script) (words : List (ℕ × ℕ)) (t : Table) (log : List Entry) (replies : List Reply) → SendsFor (by_words (by_words s words) s.schedule) t log replies → SendsFor s t log replies

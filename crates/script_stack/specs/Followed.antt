@@ -23,13 +23,12 @@ use Rattle.run_record.specs.BackedRun.{Backed}
 use Rattle.run_record.specs.CarriedRun.{Carried}
 use Rattle.run_record.specs.Records.{recorded}
 use Rattle.run_moves.specs.BoundRun.{fates}
-use Rattle.run_falls.specs.AtTheEnd.{EndsAsFalling}
 use Rattle.script_ground.specs.Units.{all_blocks}
 use Rattle.stack_core.specs.Mediums.{RoseBy, medium_lines}
 use Rattle.stack_walks.specs.Requests.{pages_from, requests_from}
 use Rattle.stack_core.specs.declared.stack.Stack.{Stack}
 use Rattle.stack_core.specs.Stacks.{IsStack, plan_in}
-use Rattle.stack_core.specs.Walking.{NoneFailed, Walks, WalksFalling, WalksTold, is_medium}
+use Rattle.stack_core.specs.Walking.{EndsFallen, Walks, WalksFalling, WalksTold, is_medium}
 use Rattle.stack_steps.specs.Does.{Holds}
 use Rattle.stack_view.specs.Steps.{enabled}
 use Rattle.stack_view.specs.View.{View}
@@ -80,11 +79,11 @@ pub record HasWalked (s : Script) (t : Table) (us us' : List Stored) (pool : Lis
   pub blocks : blocks_told us' ≡ (script_walk (setting_of s t (shapes_of us) none_fails) s.ops (opening_of s (shapes_of us) (blocks_told us))).blocks
   pub carried : Carried (setting_of s t (shapes_of us) none_fails) s.ops (opening_of s (shapes_of us) (blocks_told us)) log
 
--- So they are where store calls failed: they are those of the walk in which just these calls fail and leave what they may, and the log holds what that walk carries.
+-- So they are where store calls failed: they are those of the walk in which just these calls fail and leave what they may, and in which an overwrite that replied `Medium` flips its block somehow; and the log holds what that walk carries.
 pub record HasFallen (s : Script) (t : Table) (us us' : List Stored) (pool : List (List ℕ)) (log : List Entry) (replies : List Reply) : Type 0 where
   pub shapes : shapes_of us' ≡ shapes_of us
-  pub ends : EndsAsFalling (setting_of s t (shapes_of us) none_fails) (4096 * s.pages) s.ops (opening_of s (shapes_of us) (blocks_told us)) (take (4096 * s.pages) (flat pool)) (blocks_told us') replies
-      (recorded (setting_of s t (shapes_of us) none_fails) log)
+  pub fallen : EndsFallen (setting_of s t (shapes_of us) (failed_in replies)) (4096 * s.pages) (opening_of s (shapes_of us) (blocks_told us)) s.ops (take (4096 * s.pages) (flat pool)) (blocks_told us') replies
+      (recorded (setting_of s t (shapes_of us) (failed_in replies)) log)
 
 -- ---- before the first step
 
@@ -104,12 +103,12 @@ BeginsTold s t devices r = (us : List Stored) (st : Standing) (log : List Entry)
 
 -- So it does where store calls may fail.
 abbrev pub BeginsFalling : Script → Table → List DeviceInfo → Stack → Type 0
-BeginsFalling s t devices r = (us : List Stored) (st : Standing) (log : List Entry) → devices ≡ map info_of (specs_of st) → shapes_of us ≡ specs_of st
-    → WalksFalling (setting_of s t (shapes_of us) none_fails) (4096 * s.pages) (begun_of s (shapes_of us) (blocks_told us)) (length log) r (Some us) s.faults st log
+BeginsFalling s t devices r = (fails : ℕ → Bool) (us : List Stored) (st : Standing) (log : List Entry) → devices ≡ map info_of (specs_of st) → shapes_of us ≡ specs_of st
+    → WalksFalling (setting_of s t (shapes_of us) fails) (4096 * s.pages) (begun_of s (shapes_of us) (blocks_told us)) (length log) r (Some us) s.faults st log
 
 -- ---- at the end
 
--- A script was run over a rig. Its devices were asked first; the records from then on back the replies, and are those that its steps send; lines that name the medium are at most as many as the count of faults rose since then. Where the rig tells its blocks, and no line names the medium, the script's ops were done one after another at the target; and whatever lines name it, so they were if no overwrite failed, but for what the store calls that failed left.
+-- A script was run over a rig. Its devices were asked first; the records from then on back the replies, and are those that its steps send; lines that name the medium are at most as many as the count of faults rose since then. Where the rig tells its blocks, and no line names the medium, the script's ops were done one after another at the target; and whatever lines name it, so they were but for what the store calls that failed left.
 pub record Followed (s : Script) (before after : Outside) (r : Stack) : Type 0 where
   pub devices : List DeviceInfo
   pub asked : Outside
@@ -123,9 +122,9 @@ pub record Followed (s : Script) (before after : Outside) (r : Stack) : Type 0 w
   pub sends : SendsFor s (table_of s devices) more r.replies.items
   pub medium : RoseBy (medium_lines r.replies.items) asked.faults after.faults
   pub told : (us : List Stored) → before.units ≡ Some us → medium_lines r.replies.items ≡ 0 → (left : List Stored) × ((after.units ≡ Some left) × HasWalked s (table_of s devices) us left r.pool more r.replies.items)
-  pub fallen : (us : List Stored) → before.units ≡ Some us → NoneFailed r.replies.items → (left : List Stored) × ((after.units ≡ Some left) × HasFallen s (table_of s devices) us left r.pool more r.replies.items)
+  pub fallen : (us : List Stored) → before.units ≡ Some us → (left : List Stored) × ((after.units ≡ Some left) × HasFallen s (table_of s devices) us left r.pool more r.replies.items)
 
--- A script was run by these words over a rig, to a volume of whose devices it was bound: all ops of its stack have ended. The rig stands as it did, and its count of faults didn't fall. The records from then on back the replies, and are those that its steps send by these words; lines that name the medium are at most as many as the count rose. Where the rig tells its blocks, and no line names the medium, the script's ops were done one after another at the target; and whatever lines name it, so they were if no overwrite failed, but for what the store calls that failed left.
+-- A script was run by these words over a rig, to a volume of whose devices it was bound: all ops of its stack have ended. The rig stands as it did, and its count of faults didn't fall. The records from then on back the replies, and are those that its steps send by these words; lines that name the medium are at most as many as the count rose. Where the rig tells its blocks, and no line names the medium, the script's ops were done one after another at the target; and whatever lines name it, so they were but for what the store calls that failed left.
 pub record Ran (s : Script) (t : Table) (devices : List DeviceInfo) (words : List (ℕ × ℕ)) (before after : Outside) (r : Stack) : Type 0 where
   pub stack : IsStack r
   pub ops : r.sheet.ops ≡ s.ops
@@ -141,4 +140,4 @@ pub record Ran (s : Script) (t : Table) (devices : List DeviceInfo) (words : Lis
   pub sends : SendsFor (by_words s words) t more r.replies.items
   pub medium : RoseBy (medium_lines r.replies.items) before.faults after.faults
   pub told : (us : List Stored) → before.units ≡ Some us → medium_lines r.replies.items ≡ 0 → (left : List Stored) × ((after.units ≡ Some left) × HasWalked s t us left r.pool more r.replies.items)
-  pub fallen : (us : List Stored) → before.units ≡ Some us → NoneFailed r.replies.items → (left : List Stored) × ((after.units ≡ Some left) × HasFallen s t us left r.pool more r.replies.items)
+  pub fallen : (us : List Stored) → before.units ≡ Some us → (left : List Stored) × ((after.units ≡ Some left) × HasFallen s t us left r.pool more r.replies.items)

@@ -19,7 +19,7 @@ ghost use Rattle.stack_steps.specs.Does.{Holds};
 ghost use Rattle.stack_core.specs.declared.stack.Stack.{Stack as AnyStack};
 ghost use Rattle.stack_core.specs.Stacks.{IsStack, plan_in};
 ghost use Rattle.stack_core.specs.Mediums.{medium_lines};
-ghost use Rattle.stack_core.specs.Walking.{NoneFailed, Walks, WalksFalling};
+ghost use Rattle.stack_core.specs.Walking.{Walks, WalksFalling};
 ghost use Rattle.script_stack.specs.Followed.{HasFallen, HasWalked, IsBackedBy, begun_of, failed_in, none_fails, setting_of, unit_of};
 
 use script_ground::{
@@ -54,12 +54,11 @@ pub fn a_told_script_run_has_walked()
     a_finished_stack_has_done_the_walk();
 }
 
-/// And whatever lines name it, if no overwrite's store call failed: so they were but for what the store calls that failed
-/// left.
+/// And whatever lines name it, so they were but for what the store calls that failed left.
 pub fn a_told_script_run_has_fallen()
     ensures { (s : AnyScript) (t : Table) (us left : List Stored) (first : ℕ) (r : AnyStack) (armed : List FaultLine) (st : Standing) (log : List Entry) → SuitsStack s → length s.lines ≡ length s.faults + length s.ops
         → MadeFor t (map info_of (shapes_of us)) s.block → binding_fault s t (map info_of (shapes_of us)) ≡ None → AreStored us → shapes_of left ≡ shapes_of us → IsStack r → r.sheet.ops ≡ s.ops
-        → NoneFailed r.replies.items → WalksFalling (setting_of s t (shapes_of us) none_fails) (4096 * s.pages) (begun_of s (shapes_of us) (blocks_told us)) first r (Some left) armed st log
+        → WalksFalling (setting_of s t (shapes_of us) (failed_in r.replies.items)) (4096 * s.pages) (begun_of s (shapes_of us) (blocks_told us)) first r (Some left) armed st log
         → ((v : View) → Holds (plan_in r.sheet) r.machine v → enabled (plan_in r.sheet) v ≡ []) → HasFallen s t us left r.pool (drop first log) r.replies.items }
 {
     a_bound_script_is_bound_at_its_target();

@@ -1,6 +1,8 @@
-use Rattle.std.proofs.Common.{ℕ, ◌≡◌, ◌<◌, ◌*◌, true, false, List, [], ◌∷◌, ◌++◌, get_or, map, Some, refl, sym, ap, subst, ◌∙◌}
+use Rattle.std.proofs.Common.{ℕ, zero, suc, ◌≡◌, ◌<◌, ◌*◌, Bool, true, false, List, [], ◌∷◌, ◌++◌, get_or, map, take, Option, None, Some, refl, sym, ap, subst, ◌∙◌}
 use Rattle.std.specs.Prelude.{All}
 use Rattle.std.specs.List.{list_any}
+use Rattle.std.proofs.lemmas.Bool.{false≢true, or_parts}
+use Rattle.page_pool.specs.Cells.{flat}
 use Rattle.dix_base.specs.Told.{AreOctets}
 use Rattle.fault_schedule.specs.declared.fault.FaultLine.{FaultLine}
 use Rattle.target_answer.specs.Target.{Stored}
@@ -15,7 +17,7 @@ use Rattle.stack_core.specs.Walking.{NoneFailed, is_medium}
 use Rattle.run_record.specs.Records.{recorded}
 use Rattle.run_record.specs.ToldRun.{told}
 use Rattle.stack_ops.specs.declared.reply.Reply.TheVariants.{Silent}
-use Rattle.script_stack.specs.Followed.{HasFallen, HasWalked, IsBackedBy, failed_in, opening_of, setting_of, unit_of}
+use Rattle.script_stack.specs.Followed.{HasFallen, HasWalked, IsBackedBy, failed_in, none_fails, opening_of, setting_of, unit_of}
 use Rattle.stack_walks.specs.Overwrites.{is_overwrite}
 use Rattle.run_falls.specs.Falls.{of_blocks}
 use Rattle.script_stack.specs.Going.{Outside}
@@ -30,7 +32,7 @@ use Rattle.dix_adapter.specs.Ways.{blocks_told, shapes_of}
 use Rattle.script_verdict.specs.Fallen.{HasServed}
 use Rattle.script_verdict.specs.Premises.{IsDetectableRun, IsFormedRun, IsPlainRun, IsQuietRun}
 use Rattle.script_verdict.specs.Layers.{NamesFaults, NamesLayers}
-use Rattle.script_verdict.proofs.Fallen.{BroughtFallLaw, OwnFallLaw, ReadsFallLaw, served}
+use Rattle.script_verdict.proofs.Fallen.{BroughtFallLaw, Ends, OwnFallLaw, ReadsFallLaw, served}
 use Rattle.script_verdict.proofs.Layers.{names-faults, names-layers, none-medium}
 use Rattle.script_verdict.proofs.Premises.{detectable_run, plain_run}
 use Rattle.image_commands.specs.Views.{View}
@@ -47,6 +49,9 @@ use Rattle.script_verdict.specs.Verdict.{AllReadRightly, Followed, HasPlain, Has
 use Rattle.block_path.specs.Acts.{State}
 use Rattle.block_path.specs.Moves.{hidden}
 use Rattle.stack_ops.specs.declared.op.Op.{Op}
+use Rattle.stack_ops.specs.declared.op.Op.TheVariants.{Fetch, FetchPi, Fill, Overwrite, Put, Seal, Show, Wait, Write, WritePi}
+use Rattle.run_falls.specs.AtTheEnd.{EndsAsFalling}
+use Rattle.run_falls.specs.Flips.{Flips, flip_op, with_flips}
 use Rattle.whole_run.specs.CalmRun.{IsCalmRun}
 use Rattle.whole_run.specs.PlainMap.{plain_map, plain_replies}
 use Rattle.whole_run.specs.ScriptWalk.{script_replies, script_walk}
@@ -131,25 +136,57 @@ shown_at s t devices begun r old new armed law detects o us e unnamed run =
     reads_rightly (setting_told s t us) devices s.ops (opening_told s us) r.replies.items detects
     (detectable_run s t devices us (devices_at s t devices begun r old new armed o us e) (bound_at s t devices begun r old new armed o us e) run) w.2.replies_are
 
-fell : (s : Script) (t : Table) (devices : List DeviceInfo) (begun r : Stack) (old new : View) (armed : List FaultLine) → FallenLaw → (o : IsDone s t devices begun r old new armed) → (us : List Stored) → old.seen.units ≡ Some us → NoneFailed r.replies.items →
+fell : (s : Script) (t : Table) (devices : List DeviceInfo) (begun r : Stack) (old new : View) (armed : List FaultLine) → FallenLaw → (o : IsDone s t devices begun r old new armed) → (us : List Stored) → old.seen.units ≡ Some us →
     (left : List Stored) × (new.seen.units ≡ Some left) × HasFallen s t us left r.pool o.over.goes.more r.replies.items
-fell s t devices begun r old new armed law o us e none =
-    let w = fallen_at s t devices s.schedule begun r old.image new.image (outside old s.faults) (outside new armed) law o.over us e none in
+fell s t devices begun r old new armed law o us e =
+    let w = fallen_at s t devices s.schedule begun r old.image new.image (outside old s.faults) (outside new armed) law o.over us e in
     (w.0, w.1.0, w.1.1)
 
 -- behind the adapter is a target, whose store calls may fail
-names_faults : (s : Script) (t : Table) (devices : List DeviceInfo) (begun r : Stack) (old new : View) (armed : List FaultLine) → FallenLaw → (o : IsDone s t devices begun r old new armed) → (us : List Stored) → old.seen.units ≡ Some us → NoneFailed r.replies.items →
+names_faults : (s : Script) (t : Table) (devices : List DeviceInfo) (begun r : Stack) (old new : View) (armed : List FaultLine) → FallenLaw → (o : IsDone s t devices begun r old new armed) → (us : List Stored) → old.seen.units ≡ Some us →
     All NamesFaults r.replies.items
-names_faults s t devices begun r old new armed law o us e none =
-    let w = fell s t devices begun r old new armed law o us e none in
-    let ends = w.2.ends in
-    subst (λ (replies : List Reply). All NamesFaults replies) (sym ends.replies_are) (names-faults (setting_told s t us) s.faults refl (of_blocks ends.falls) 1 s.ops (hidden (4096 * s.pages) (opening_told s us)))
+names_faults s t devices begun r old new armed law o us e =
+    let w = fell s t devices begun r old new armed law o us e in
+    let f = w.2.fallen in
+    subst (λ (replies : List Reply). All NamesFaults replies) (sym f.ends.replies_are)
+    (names-faults (setting_of s t (shapes_of us) (failed_in r.replies.items)) s.faults refl (of_blocks f.ends.falls) 1 (with_flips f.flips 1 s.ops) (hidden (4096 * s.pages) (opening_told s us)))
 
 -- without overwrites none fails: the replies are those of a walk by the records
 none_failed : (s : Script) (t : Table) (devices : List DeviceInfo) (log : List Entry) (replies : List Reply) → list_any is_overwrite s.ops ≡ false → IsBackedBy s t devices log replies → NoneFailed replies
 none_failed s t devices log replies none backed i =
     let m = setting_of s t (map unit_of devices) (failed_in replies) in
     ap (λ (rs : List Reply). is_medium (get_or rs i Silent)) (backed []).checked ∙ none-medium (told m (recorded m log)) 1 s.ops (opening_of s (map unit_of devices) []) none i
+
+-- nor does one flip its block
+no_flips_in : (flips : Flips) (i : ℕ) (ops : List Op) → list_any is_overwrite ops ≡ false → with_flips flips i ops ≡ ops
+no_flips_in flips i [] h = refl
+no_flips_in flips i (op ∷ ops) h =
+    let p = or_parts (is_overwrite op) (list_any is_overwrite ops) h in
+    ap (λ (x : Op). x ∷ with_flips flips (suc i) ops) (as_it_is (flips i) op p.0) ∙ ap (λ (rest : List Op). op ∷ rest) (no_flips_in flips (suc i) ops p.1)
+  where
+    as_it_is : (o : Option (List ℕ)) (op : Op) → is_overwrite op ≡ false → flip_op o op ≡ op
+    as_it_is None op h = refl
+    as_it_is (Some mask) (Fill seg byte) h = refl
+    as_it_is (Some mask) (Put page off bytes) h = refl
+    as_it_is (Some mask) (Show seg) h = refl
+    as_it_is (Some mask) (Seal n body tuples app rtag) h = refl
+    as_it_is (Some mask) (Write v n body app) h = refl
+    as_it_is (Some mask) (Fetch v n body) h = refl
+    as_it_is (Some mask) (WritePi v n body tuples) h = refl
+    as_it_is (Some mask) (FetchPi v n body tuples) h = refl
+    as_it_is (Some mask) (Overwrite dev lba change) h = absurd (false≢true (sym h))
+    as_it_is (Some mask) Wait h = refl
+
+none_fails_in : (replies : List Reply) → NoneFailed replies → (i : ℕ) → failed_in replies i ≡ none_fails i
+none_fails_in replies none zero = refl
+none_fails_in replies none (suc i) = none i
+
+quiet_ends : (s : Script) (t : Table) (us left : List Stored) (pool : List (List ℕ)) (log : List Entry) (replies : List Reply) → list_any is_overwrite s.ops ≡ false → NoneFailed replies → HasFallen s t us left pool log replies → Ends s t us left pool log replies s.ops
+quiet_ends s t us left pool log replies none silent h =
+    let pages = take (4096 * s.pages) (flat pool) in
+    let opening = opening_told s us in
+    let script = subst (λ (ops : List Op). EndsAsFalling (setting_of s t (shapes_of us) (failed_in replies)) (4096 * s.pages) ops opening pages (blocks_told left) replies (recorded (setting_of s t (shapes_of us) (failed_in replies)) log)) (no_flips_in h.fallen.flips 1 s.ops none) h.fallen.ends in
+    subst (λ (fails : ℕ → Bool). EndsAsFalling (setting_of s t (shapes_of us) fails) (4096 * s.pages) s.ops opening pages (blocks_told left) replies (recorded (setting_of s t (shapes_of us) fails) log)) (λ x i. none_fails_in replies silent i x) script
 
 -- the laws of a script's form
 abbrev pub FormLaw : Type 0
@@ -192,8 +229,8 @@ fallen_view : (s : Script) (t : Table) (devices : List DeviceInfo) (begun r : St
     (left : List Stored) × (new.seen.units ≡ Some left) × HasServed s t us left r.pool o.over.goes.more r.replies.items
 fallen_view s t devices begun r old new armed backed law reads own brought o us e quiet =
     let none = none_failed s t devices o.over.goes.more r.replies.items quiet.overwrites (backed_by s t devices s.schedule begun r old.image new.image (outside old s.faults) (outside new armed) backed o.over) in
-    let w = fell s t devices begun r old new armed law o us e none in
-    (w.0, w.1, served s t us w.0 r.pool o.over.goes.more r.replies.items reads own brought (bound_at s t devices begun r old new armed o us e) (bytes_at s t devices begun r old new armed o us e) quiet w.2.ends)
+    let w = fell s t devices begun r old new armed law o us e in
+    (w.0, w.1, served s t us w.0 r.pool o.over.goes.more r.replies.items reads own brought (bound_at s t devices begun r old new armed o us e) (bytes_at s t devices begun r old new armed o us e) quiet (quiet_ends s t us w.0 r.pool o.over.goes.more r.replies.items quiet.overwrites none w.2))
 
 pub followed : (s : Script) (t : Table) (devices : List DeviceInfo) (begun r : Stack) (old new : View) (armed : List FaultLine) → BackedLaw → FewLaw → AllLaw → MediumLaw → ToldLaw → RepliesLaw → UnderLaw → DetectionLaw → FormLaw → EscapeLaw → FallenLaw → ReadsFallLaw → OwnFallLaw → BroughtFallLaw → IsDone s t devices begun r old new armed → Followed s t devices old new r.pool r.replies.items
 followed s t devices begun r old new armed backed few all medium told same under detects form escape fallen reads own brought o = record {

@@ -31,7 +31,6 @@ use Rattle.whole_run.specs.UnderMap.{opened, under}
 use Rattle.stack_core.specs.Mediums.{RoseBy, medium_lines}
 use Rattle.stack_walks.specs.Requests.{pages_from, requests_from}
 use Rattle.stack_core.specs.Stacks.{GoesOn, IsStack, Stays, plan_in}
-use Rattle.stack_core.specs.Walking.{NoneFailed}
 use Rattle.stack_core.specs.declared.stack.Stack.{Stack}
 use Rattle.stack_ops.specs.declared.reply.Reply.{Reply}
 use Rattle.stack_steps.specs.Does.{Holds}
@@ -165,7 +164,7 @@ abbrev pub AllReadRightly : Setting → List Op → State → List Reply → Typ
 AllReadRightly m ops opening replies = (before after : List Op) (owner : Owner) (v n k : ℕ) (body tuples : List Seg) → ops ≡ before ++ (read_op owner v n body tuples ∷ after) → k < n
     → HasReadRightly m before owner v n body tuples opening replies k
 
--- What the steps of a script over its volume did, from the rig that told what its devices are to the rig as it is afterwards, with these pages and replies. Over any rig, honest or not, the records of the steps back the replies, and are those that its steps send; lines that name the medium are at most as many as the count of faults rose. Over a rig that tells its blocks, where no line of the report names the medium (of a block, or of an overwrite), replies, pages and stored blocks are those of the script's ops done one after another at the target, and the records hold what these carry; and where no fault is scheduled, the blocks are clean and no write supplies an escape, they are those of the plain map. Of such a run each block that is listed was found bad by the check of a layer. In type 1, with tuples passed all the way and protect field 001b, over clean devices, with no escape and with scheduled faults that can be shown, each block of a read is the last accepted write's or names the first layer that checks after the fault; so it is where the script's form says that its faults are shown and that it supplies no escape. Over a rig that tells its blocks, whatever lines name the medium, if no overwrite failed, replies, pages and stored blocks are those of the ops done one after another but for the store calls that failed, and each block that is listed was found bad by a layer or failed at the medium; and where no fault is scheduled and the blocks are clean, a block of a read that isn't lost fails at the medium or is the last accepted write's, and one of a write that the plain map accepts fails at the medium or not at all.
+-- What the steps of a script over its volume did, from the rig that told what its devices are to the rig as it is afterwards, with these pages and replies. Over any rig, honest or not, the records of the steps back the replies, and are those that its steps send; lines that name the medium are at most as many as the count of faults rose. Over a rig that tells its blocks, where no line of the report names the medium (of a block, or of an overwrite), replies, pages and stored blocks are those of the script's ops done one after another at the target, and the records hold what these carry; and where no fault is scheduled, the blocks are clean and no write supplies an escape, they are those of the plain map. Of such a run each block that is listed was found bad by the check of a layer. In type 1, with tuples passed all the way and protect field 001b, over clean devices, with no escape and with scheduled faults that can be shown, each block of a read is the last accepted write's or names the first layer that checks after the fault; so it is where the script's form says that its faults are shown and that it supplies no escape. Over a rig that tells its blocks, whatever lines name the medium, replies, pages and stored blocks are those of the ops done one after another but for the store calls that failed: what a write's call left stands in its block, and where an overwrite replied `Medium` some flip of its block stands in its place; each block that is listed was found bad by a layer or failed at the medium; and where no fault is scheduled and the blocks are clean, a block of a read that isn't lost fails at the medium or is the last accepted write's, and one of a write that the plain map accepts fails at the medium or not at all.
 pub record Followed (script : Script) (table : Table) (devices : List DeviceInfo) (old new : View) (pool : List (List ℕ)) (replies : List Reply) : Type 0 where
   pub tells : is_some new.image ≡ is_some old.image
   pub holds : HoldsBlocks old new
@@ -181,8 +180,8 @@ pub record Followed (script : Script) (table : Table) (devices : List DeviceInfo
       → AllReadRightly (setting_told script table us) script.ops (opening_told script us) replies
   pub walked : (us : List Stored) → old.seen.units ≡ Some us → medium_lines replies ≡ 0 → (left : List Stored) × (new.seen.units ≡ Some left) × HasWalked script table us left pool goes.more replies
   pub named : (us : List Stored) → old.seen.units ≡ Some us → medium_lines replies ≡ 0 → All NamesLayers replies
-  pub fell : (us : List Stored) → old.seen.units ≡ Some us → NoneFailed replies → (left : List Stored) × (new.seen.units ≡ Some left) × HasFallen script table us left pool goes.more replies
-  pub faults : (us : List Stored) → old.seen.units ≡ Some us → NoneFailed replies → All NamesFaults replies
+  pub fell : (us : List Stored) → old.seen.units ≡ Some us → (left : List Stored) × (new.seen.units ≡ Some left) × HasFallen script table us left pool goes.more replies
+  pub faults : (us : List Stored) → old.seen.units ≡ Some us → All NamesFaults replies
   pub fallen : (us : List Stored) → old.seen.units ≡ Some us → IsQuietRun script table us → (left : List Stored) × (new.seen.units ≡ Some left) × HasServed script table us left pool goes.more replies
 
 -- The image was opened, its devices told what they are, the script is bound to its volume, and the stack of its ops was run to its end.

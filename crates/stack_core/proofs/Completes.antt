@@ -175,6 +175,7 @@ module _ {course : Course} (over : Setting) (n : ℕ) (opening : State) (es : Li
                 let cnt = g.plan.count a in
                 let lg = s.lengths a in
                 subst (λ x. IsReply (op_in ops a) x (get_or d.replies a Silent)) (each_same 0 (fates_of (op_in ops a)) (why a) (next a) (λ q x y. sym (stays a q (all_marked (op_at v a).settled q (s.ended a e') (omega arith))))) (h.replied a l e'));
+            failed = λ a l e. h.failed a l (sym (ap has_ended (phases a)) ∙ e);
             suited = λ a l e. h.suited a l (sym (ap has_ended (phases a)) ∙ e);
           };
           blocks = on.same_blocks;

@@ -1,6 +1,6 @@
 -- An op ends, or groups are joined: the stack follows on.
 use Rattle.std.proofs.Common.{◌≡◌, ◌<◌, ◌≤◌, ℕ, zero, suc, ◌+◌, true, false, List, [], length, get_or, set, take, drop, Option, refl, sym, ap, subst, ◌∙◌, arith, ⊎_elim}
-use Rattle.std.proofs.lemmas.Bool.{cases_eq}
+use Rattle.std.proofs.lemmas.Bool.{cases_eq, false≢true}
 use Rattle.std.proofs.lemmas.List.{get_or-set_other, get_or-set_same}
 use Rattle.bio_core.specs.declared.fate.Why.{Why}
 use Rattle.range_gate.specs.Gates.{has_ended, is_waiting}
@@ -30,8 +30,9 @@ use Rattle.stack_core.specs.Replies.{bad_from, reply_of, whole_or}
 use Rattle.stack_core.specs.Rooms.{Suits}
 use Rattle.stack_walks.specs.Sheets.{op_in}
 use Rattle.stack_core.specs.Stacks.{room_at}
-use Rattle.stack_core.specs.Walking.{Data, Follow, GoesOn, IsReply, shown_by, shown_in, status_of, why_in}
-use Rattle.stack_core.specs.Courses.{Course}
+use Rattle.stack_core.specs.Walking.{Data, FailedBy, Follow, GoesOn, IsReply, shown_by, shown_in, status_of, why_in}
+use Rattle.stack_walks.specs.Overwrites.{is_overwrite}
+use Rattle.stack_core.specs.Courses.{Course, Falling, Straight}
 use Rattle.stack_core.proofs.Courses.{same_by}
 use Rattle.stack_core.proofs.Listed.{listed_as}
 
@@ -82,7 +83,7 @@ module _ {course : Course} (over : Setting) (n : ℕ) (opening : State) (es : Li
       let e = still p v w (shown_in d.replies) (shown_in d.replies) (why_in d.starts d.held) refl (λ j. refl) (λ j. refl) (λ j. refl) (λ j q z. refl) in
       record {
         after = now;
-        follow = record { bytes = h.bytes; whole = h.whole; follows = same_by course over n ops opening now (status_of p d v) (status_of p d w) es e h.follows; begun = h.begun; replied = h.replied; suited = h.suited };
+        follow = record { bytes = h.bytes; whole = h.whole; follows = same_by course over n ops opening now (status_of p d v) (status_of p d w) es e h.follows; begun = h.begun; replied = h.replied; failed = h.failed; suited = h.suited };
         blocks = refl;
         none_before = none_same (status_of p d v) (status_of p d w) es e;
       }
@@ -152,6 +153,29 @@ module _ {course : Course} (over : Setting) (n : ℕ) (opening : State) (es : Li
         (λ (ne : j ≡ i → ⊥). rw (get_or-set_other d.replies i j reply Silent ne) (h.replied j b (sym (ap (λ (o : OpView). has_ended o.phase) (get_or-set_other v.ops i j done no_op ne)) ∙ e)))
         (cases_eq j i)
 
+    request_failed : (c : Course) (op : Op) → 0 < fates_of op → (x : ℕ) (r : Reply) → FailedBy c x op r
+    request_failed Straight op k x r = tt
+    request_failed (Falling flips) op k x r = λ e. absurd (no_blocks op k e) where
+      no_blocks : (op : Op) → 0 < fates_of op → is_overwrite op ≡ true → ⊥
+      no_blocks (Fill seg byte) k e = absurd (omega (arith, k))
+      no_blocks (Put page off bytes) k e = absurd (omega (arith, k))
+      no_blocks (Show seg) k e = absurd (omega (arith, k))
+      no_blocks (Seal n body tuples app rtag) k e = absurd (omega (arith, k))
+      no_blocks (Write v n body app) k e = false≢true e
+      no_blocks (Fetch v n body) k e = false≢true e
+      no_blocks (WritePi v n body tuples) k e = false≢true e
+      no_blocks (FetchPi v n body tuples) k e = false≢true e
+      no_blocks (Overwrite dev lba change) k e = absurd (omega (arith, k))
+      no_blocks Wait k e = absurd (omega (arith, k))
+
+    failed_on : (j : ℕ) → j < length ops → has_ended (get_or (set v.ops i done) j no_op).phase ≡ true → FailedBy course (suc j) (op_in ops j) (get_or ended.replies j Silent)
+    failed_on j b e =
+        let k = some in
+        ⊎_elim
+        (λ (f : j ≡ i). request_failed course (op_in ops j) (subst (λ x. 0 < fates_of (op_in ops x)) (sym f) (omega (arith, k, count))) (suc j) (get_or ended.replies j Silent))
+        (λ (ne : j ≡ i → ⊥). rw (get_or-set_other d.replies i j reply Silent ne) (h.failed j b (sym (ap (λ (o : OpView). has_ended o.phase) (get_or-set_other v.ops i j done no_op ne)) ∙ e)))
+        (cases_eq j i)
+
     suited_on : (j : ℕ) → j < length ops → has_ended (get_or (set v.ops i done) j no_op).phase ≡ false → Suits (op_in ops j) (room_at ended.rooms j)
     suited_on j b e =
         ⊎_elim
@@ -162,7 +186,7 @@ module _ {course : Course} (over : Setting) (n : ℕ) (opening : State) (es : Li
     pub ends : (cut : ℕ) → GoesOn course over n opening es p ops d ended v (w cut) now.blocks
     ends cut = record {
       after = now;
-      follow = record { bytes = h.bytes; whole = h.whole; follows = same_by course over n ops opening now (status_of p d v) (status_of p ended (w cut)) es (statuses cut) h.follows; begun = begun_on; replied = replied_on; suited = suited_on };
+      follow = record { bytes = h.bytes; whole = h.whole; follows = same_by course over n ops opening now (status_of p d v) (status_of p ended (w cut)) es (statuses cut) h.follows; begun = begun_on; replied = replied_on; failed = failed_on; suited = suited_on };
       blocks = refl;
       none_before = none_same (status_of p d v) (status_of p ended (w cut)) es (statuses cut);
     }

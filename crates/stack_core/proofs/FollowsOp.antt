@@ -1,11 +1,11 @@
 -- An op that is no request is done whole: the stack follows on.
-use Rattle.std.proofs.Common.{◌≡◌, ◌<◌, ℕ, zero, suc, true, false, List, ◌∷◌, ◌++◌, length, get_or, set, take, drop, refl, sym, ap, subst, ◌∙◌, arith, ⊎_elim}
+use Rattle.std.proofs.Common.{◌≡◌, ◌<◌, ℕ, zero, suc, true, false, List, [], ◌∷◌, ◌++◌, length, get_or, is_some, set, take, drop, refl, sym, ap, subst, ◌∙◌, arith, ⊎_elim}
 use Rattle.std.proofs.lemmas.Bool.{cases_eq}
 use Rattle.std.proofs.lemmas.List.{get_or-set_other, get_or-set_same}
 use Rattle.range_gate.specs.Gates.{has_ended, is_waiting}
 use Rattle.range_gate.specs.declared.phase.Phase.TheVariants.{Ended}
 use Rattle.stack_ops.specs.declared.op.Op.{Op}
-use Rattle.stack_ops.specs.declared.op.Op.TheVariants.{Wait}
+use Rattle.stack_ops.specs.declared.op.Op.TheVariants.{Overwrite, Wait}
 use Rattle.stack_ops.specs.declared.reply.Reply.{Reply}
 use Rattle.stack_ops.specs.declared.reply.Reply.TheVariants.{Silent}
 use Rattle.stack_view.specs.Plan.{Plan, request_at}
@@ -28,17 +28,27 @@ use Rattle.stack_walks.proofs.Moving.{elsewhere}
 use Rattle.stack_walks.proofs.Spots.{cut_at, lets_in, placed_at, placed_front, take_long}
 use Rattle.stack_walks.proofs.Standing.{is_done, waits}
 use Rattle.stack_core.specs.declared.kept.Room.TheVariants.{Nothing}
-use Rattle.stack_core.specs.Courses.{Course, FollowsBy}
+use Rattle.rig_api.specs.declared.change.Change.{Change}
+use Rattle.run_falls.specs.Flips.{Flips}
+use Rattle.run_falls.proofs.Flipped.{flip_at, flip_here, flip_there}
+use Rattle.run_falls.proofs.Overwriting.{between}
+use Rattle.run_moves.specs.OpsApart.{IsPlaced}
+use Rattle.stack_core.specs.Courses.{Course, Falling, FollowsBy, Straight}
 use Rattle.stack_core.specs.Rooms.{Suits}
 use Rattle.stack_walks.specs.Sheets.{op_in}
 use Rattle.stack_core.specs.Stacks.{room_at}
-use Rattle.stack_core.specs.Walking.{Data, Follow, GoesOn, IsReply, shown_by, shown_in, status_of, why_in}
-use Rattle.stack_core.proofs.Courses.{GoesTo, whole_by}
+use Rattle.stack_core.specs.Walking.{Data, FailedBy, Follow, GoesOn, IsReply, is_medium, shown_by, shown_in, status_of, why_in}
+use Rattle.stack_core.proofs.Courses.{GoesTo, failed_by, no_flip_yet, whole_by}
 use Rattle.stack_core.proofs.OpWhole.{IsWholly, at_first}
+
+-- an op's reply doesn't say that its store call failed, where it is known which did
+abbrev pub QuietBy : Course → Reply → Type 0
+QuietBy Straight reply = Unit {0}
+QuietBy (Falling flips) reply = is_medium reply ≡ false
 
 module _ {course : Course} (over : Setting) (n : ℕ) (opening : State) (es : List Sent) (p : Plan) (ops : List Op) (d : Data) (v : View) (now : State) (ground : Ground over n (length opening.logs) ops) (plan : IsPlanOf p over ops) (s : Sound p v) (h : Follow course over n opening es p ops d v now)
     (i : ℕ) (l : i < length ops) (lo : i < length v.ops) (lr : i < length d.replies) (empty : (request_at p i).count ≡ 0) where
-  abbrev op : Op
+  abbrev pub op : Op
   op = op_in ops i
 
   abbrev run : State
@@ -50,32 +60,32 @@ module _ {course : Course} (over : Setting) (n : ℕ) (opening : State) (es : Li
   pub alone : IsAlone op
   alone = ⊎_elim (λ (a : IsAlone op). a) (λ (z : 0 < fates_of op). let e = none in absurd (omega arith)) (ground.kinds i l)
 
-  front_long : length (take i ops) ≡ i
+  pub front_long : length (take i ops) ≡ i
   front_long = take_long i ops (omega arith)
 
-  split : ops ≡ take i ops ++ (op ∷ drop (suc i) ops)
+  pub split : ops ≡ take i ops ++ (op ∷ drop (suc i) ops)
   split = cut_at ops i Wait l
 
   module _ (w : View) (pool : List (List ℕ)) (reply : Reply) (a : is_waiting (op_at v i).phase ≡ true) (e : w.ops ≡ set v.ops i (record (op_at v i) { phase = Ended })) (c : w.commands ≡ v.commands) (sw : Sound p w) (does : IsWholly over (suc i) op pool reply now) where
-    abbrev d' : Data
+    abbrev pub d' : Data
     d' = record d { pool = pool; rooms = set d.rooms i Nothing; replies = set d.replies i reply }
 
-    abbrev old : ℕ → ℕ → Status
+    abbrev pub old : ℕ → ℕ → Status
     old = status_of p d v
 
-    abbrev new : ℕ → ℕ → Status
+    abbrev pub new : ℕ → ℕ → Status
     new = status_of p d' w
 
     at : (j : ℕ) → op_at w j ≡ get_or (set v.ops i (record (op_at v i) { phase = Ended })) j no_op
     at j = ap (λ (x : List OpView). get_or x j no_op) e
 
-    mine : op_at w i ≡ record (op_at v i) { phase = Ended }
+    pub mine : op_at w i ≡ record (op_at v i) { phase = Ended }
     mine = at i ∙ get_or-set_same v.ops i (record (op_at v i) { phase = Ended }) no_op lo
 
-    other : (j : ℕ) → (j ≡ i → ⊥) → op_at w j ≡ op_at v j
+    pub other : (j : ℕ) → (j ≡ i → ⊥) → op_at w j ≡ op_at v j
     other j ne = at j ∙ get_or-set_other v.ops i j (record (op_at v i) { phase = Ended }) no_op ne
 
-    replied_same : (j : ℕ) → (j ≡ i → ⊥) → get_or d'.replies j Silent ≡ get_or d.replies j Silent
+    pub replied_same : (j : ℕ) → (j ≡ i → ⊥) → get_or d'.replies j Silent ≡ get_or d.replies j Silent
     replied_same j ne = get_or-set_other d.replies i j reply Silent ne
 
     shown_same : (j q : ℕ) → (j ≡ i → ⊥) → shown_in d'.replies j q ≡ shown_in d.replies j q
@@ -97,10 +107,10 @@ module _ {course : Course} (over : Setting) (n : ℕ) (opening : State) (es : Li
         let other_op : j ≡ i → ⊥ = λ (f : j ≡ i). ne (ap suc f) in
         elsewhere p v w (shown_in d.replies) (shown_in d'.replies) (why_in d.starts d.held) j q c (other j other_op) (λ (z : (request_at p j).count ≡ 0). shown_same j q other_op)
 
-    becomes : BecomesDone over (suc i) op now old new
+    pub becomes : BecomesDone over (suc i) op now old new
     becomes = record { waits = λ q. waits (request_at p i).count (op_at v i) (shown_in d.replies i q) (why_in d.starts d.held i q) (fate_in i q v.commands) q a; done = is_over; elsewhere = away }
 
-    lets : LetsIn over old 1 (take i ops) (suc i) op
+    pub lets : LetsIn over old 1 (take i ops) (suc i) op
     lets =
         lets_in over old ops i (omega arith)
         (lets_of over n (length opening.logs) p ops ground plan v s (shown_in d.replies) (why_in d.starts d.held) i l
@@ -117,14 +127,14 @@ module _ {course : Course} (over : Setting) (n : ℕ) (opening : State) (es : Li
         (subst (λ (x : ℕ). BecomesDone over x op now old new) nf becomes)
         (subst (λ (x : List Op). FollowsBy course over n x opening old now es) split h.follows)))
 
-    begun_on : (j : ℕ) → is_admitted (op_at w j).phase ≡ true → 0 < (request_at p j).count
+    pub begun_on : (j : ℕ) → is_admitted (op_at w j).phase ≡ true → 0 < (request_at p j).count
     begun_on j x =
         ⊎_elim
         (λ (f : j ≡ i). let z : false ≡ true = sym (ap (λ (y : ℕ). is_admitted (op_at w y).phase) f ∙ ap (λ (y : OpView). is_admitted y.phase) mine) ∙ x in absurd cc)
         (λ (ne : j ≡ i → ⊥). h.begun j (sym (ap (λ (y : OpView). is_admitted y.phase) (other j ne)) ∙ x))
         (cases_eq j i)
 
-    replied_on : (j : ℕ) → j < length ops → has_ended (op_at w j).phase ≡ true → IsReply (op_in ops j) (each_from 0 (fates_of (op_in ops j)) (why_in d.starts d.held j)) (get_or d'.replies j Silent)
+    pub replied_on : (j : ℕ) → j < length ops → has_ended (op_at w j).phase ≡ true → IsReply (op_in ops j) (each_from 0 (fates_of (op_in ops j)) (why_in d.starts d.held j)) (get_or d'.replies j Silent)
     replied_on j b x =
         ⊎_elim
         (λ (f : j ≡ i). subst (λ y. IsReply (op_in ops y) (each_from 0 (fates_of (op_in ops y)) (why_in d.starts d.held y)) (get_or d'.replies y Silent)) (sym f)
@@ -132,24 +142,99 @@ module _ {course : Course} (over : Setting) (n : ℕ) (opening : State) (es : Li
         (λ (ne : j ≡ i → ⊥). subst (IsReply (op_in ops j) (each_from 0 (fates_of (op_in ops j)) (why_in d.starts d.held j))) (sym (replied_same j ne)) (h.replied j b (sym (ap (λ (y : OpView). has_ended y.phase) (other j ne)) ∙ x)))
         (cases_eq j i)
 
-    suited_on : (j : ℕ) → j < length ops → has_ended (op_at w j).phase ≡ false → Suits (op_in ops j) (room_at d'.rooms j)
+    pub suited_on : (j : ℕ) → j < length ops → has_ended (op_at w j).phase ≡ false → Suits (op_in ops j) (room_at d'.rooms j)
     suited_on j b x =
         ⊎_elim
         (λ (f : j ≡ i). let z : true ≡ false = sym (ap (λ (y : ℕ). has_ended (op_at w y).phase) f ∙ ap (λ (y : OpView). has_ended y.phase) mine) ∙ x in absurd cc)
         (λ (ne : j ≡ i → ⊥). rw (get_or-set_other d.rooms i j Nothing Nothing ne) (h.suited j b (sym (ap (λ (y : OpView). has_ended y.phase) (other j ne)) ∙ x)))
         (cases_eq j i)
 
-    none_carried : NoneBefore old es → NoneBefore new es
+    pub none_carried : NoneBefore old es → NoneBefore new es
     none_carried none j q x =
         ⊎_elim
         (λ (f : j ≡ suc i). none j q (ap (λ (y : ℕ). is_carried (old y q)) f ∙ ap is_carried (becomes.waits q)))
         (λ (ne : j ≡ suc i → ⊥). none j q (sym (ap is_carried (away j q ne)) ∙ x))
         (cases_eq j (suc i))
 
-    pub op_goes : GoesOn course over n opening es p ops d d' v w run.blocks
-    op_goes = record {
+    failed_here : (c : Course) → FollowsBy c over n ops opening old now es → QuietBy c reply → FailedBy c (suc i) op reply
+    failed_here Straight f q = tt
+    failed_here (Falling flips) f q = λ e. ap is_some (no_flip_yet flips old (suc i) f.1.1 (becomes.waits 0)) ∙ sym q
+
+    failed_on : QuietBy course reply → (j : ℕ) → j < length ops → has_ended (op_at w j).phase ≡ true → FailedBy course (suc j) (op_in ops j) (get_or d'.replies j Silent)
+    failed_on q j b x =
+        ⊎_elim
+        (λ (f : j ≡ i). subst (λ y. FailedBy course (suc y) (op_in ops y) (get_or d'.replies y Silent)) (sym f)
+        (subst (FailedBy course (suc i) op) (sym (get_or-set_same d.replies i reply Silent lr)) (failed_here course h.follows q)))
+        (λ (ne : j ≡ i → ⊥). subst (FailedBy course (suc j) (op_in ops j)) (sym (replied_same j ne)) (h.failed j b (sym (ap (λ (y : OpView). has_ended y.phase) (other j ne)) ∙ x)))
+        (cases_eq j i)
+
+    pub op_goes : QuietBy course reply → GoesOn course over n opening es p ops d d' v w run.blocks
+    op_goes q = record {
       after = goes.after;
-      follow = record { bytes = goes.bytes_are ∙ sym does.bytes; whole = does.whole; follows = goes.follows; begun = begun_on; replied = replied_on; suited = suited_on };
+      follow = record { bytes = goes.bytes_are ∙ sym does.bytes; whole = does.whole; follows = goes.follows; begun = begun_on; replied = replied_on; failed = failed_on q; suited = suited_on };
       blocks = goes.blocks_are;
       none_before = none_carried;
     }
+
+-- an overwrite's store call fails: it flips its block from here on
+module _ (flips : Flips) (over : Setting) (n : ℕ) (opening : State) (es : List Sent) (p : Plan) (ops : List Op) (d : Data) (v : View) (now : State) (ground : Ground over n (length opening.logs) ops) (plan : IsPlanOf p over ops) (s : Sound p v) (h : Follow (Falling flips) over n opening es p ops d v now)
+    (i : ℕ) (l : i < length ops) (lo : i < length v.ops) (lr : i < length d.replies) (empty : (request_at p i).count ≡ 0)
+    (w : View) (pool : List (List ℕ)) (reply : Reply) (a : is_waiting (op_at v i).phase ≡ true) (e : w.ops ≡ set v.ops i (record (op_at v i) { phase = Ended })) (c : w.commands ≡ v.commands) (sw : Sound p w) (does : IsWholly over (suc i) (op_in ops i) pool reply now)
+    (dev lba : ℕ) (change : Change) (is : op_in ops i ≡ Overwrite dev lba change) (medium : is_medium reply ≡ true) (left : List ℕ) (long : length left ≡ length (get_or now.blocks (over.site.cell dev lba) [])) where
+  abbrev front : List Op
+  front = take i ops
+
+  abbrev behind : List Op
+  behind = drop (suc i) ops
+
+  abbrev cell : ℕ
+  cell = over.site.cell dev lba
+
+  abbrev flips' : Flips
+  flips' = flip_at (suc (length front)) (between (get_or now.blocks cell []) left) flips
+
+  number_is : suc i ≡ suc (length front)
+  number_is = ap suc (sym (front_long over n opening es p ops d v now ground plan s h i l lo lr empty))
+
+  abbrev was : ℕ → ℕ → Status
+  was = status_of p d v
+
+  abbrev then : ℕ → ℕ → Status
+  then = status_of p (d' over n opening es p ops d v now ground plan s h i l lo lr empty w pool reply a e c sw does) w
+
+  whole : ops ≡ front ++ (Overwrite dev lba change ∷ behind)
+  whole = split over n opening es p ops d v now ground plan s h i l lo lr empty ∙ ap (λ op. front ++ (op ∷ behind)) is
+
+  goes_failed : GoesTo (Falling flips') over n ops opening then es now.bytes (set now.blocks cell left)
+  goes_failed =
+      subst (λ (x : List Op). GoesTo (Falling flips') over n x opening then es now.bytes (set now.blocks cell left)) (sym whole)
+      (failed_by flips over n front behind dev lba change left opening now was then es ground.one (placed_front over n i ops ground.placed) (subst (IsPlaced over n) is (placed_at over n i ops l ground.placed))
+      (subst (LetsIn over was 1 front (suc (length front))) is (subst (λ x. LetsIn over was 1 front x (op_in ops i)) number_is (lets over n opening es p ops d v now ground plan s h i l lo lr empty w pool reply a e c sw does)))
+      (subst (λ op. BecomesDone over (suc (length front)) op now was then) is (subst (λ x. BecomesDone over x (op_in ops i) now was then) number_is (becomes over n opening es p ops d v now ground plan s h i l lo lr empty w pool reply a e c sw does)))
+      long (subst (λ (x : List Op). FollowsBy (Falling flips) over n x opening was now es) whole h.follows))
+
+  failed_then : (j : ℕ) → j < length ops → has_ended (op_at w j).phase ≡ true → FailedBy (Falling flips') (suc j) (op_in ops j) (get_or (set d.replies i reply) j Silent)
+  failed_then j b x over_it =
+      ⊎_elim
+      (λ (f : j ≡ i). ap is_some (ap flips' (ap suc f ∙ number_is) ∙ flip_here (suc (length front)) (between (get_or now.blocks cell []) left) flips) ∙ (sym medium ∙ sym (ap is_medium (ap (λ y. get_or (set d.replies i reply) y Silent) f ∙ get_or-set_same d.replies i reply Silent lr))))
+      (λ (ne : j ≡ i → ⊥).
+      ap is_some (flip_there (suc (length front)) (between (get_or now.blocks cell []) left) flips (suc j) (λ q. ne (let z = number_is in omega (arith, q, z))))
+      ∙ (h.failed j b (sym (ap (λ (y : OpView). has_ended y.phase) (other over n opening es p ops d v now ground plan s h i l lo lr empty w pool reply a e c sw does j ne)) ∙ x) over_it
+      ∙ sym (ap is_medium (get_or-set_other d.replies i j reply Silent ne))))
+      (cases_eq j i)
+
+  pub op_fails : GoesOn (Falling flips') over n opening es p ops d (d' over n opening es p ops d v now ground plan s h i l lo lr empty w pool reply a e c sw does) v w (set now.blocks cell left)
+  op_fails = record {
+    after = goes_failed.after;
+    follow = record {
+      bytes = goes_failed.bytes_are ∙ sym (does.bytes ∙ ap (λ op. (plain act (acts_of over (suc i) op) now).bytes) is);
+      whole = does.whole;
+      follows = goes_failed.follows;
+      begun = begun_on over n opening es p ops d v now ground plan s h i l lo lr empty w pool reply a e c sw does;
+      replied = replied_on over n opening es p ops d v now ground plan s h i l lo lr empty w pool reply a e c sw does;
+      failed = failed_then;
+      suited = suited_on over n opening es p ops d v now ground plan s h i l lo lr empty w pool reply a e c sw does;
+    };
+    blocks = goes_failed.blocks_are;
+    none_before = none_carried over n opening es p ops d v now ground plan s h i l lo lr empty w pool reply a e c sw does;
+  }

@@ -140,6 +140,7 @@ module _ (m : Setting) (n : ℕ) (opening : State) (p : Plan) (ops : List Op) (i
       follows = same_by course over' n ops opening after (with_fates bs fates status) (status_of p (record d { pool = pool }) w) es' same f;
       begun = λ j e. h.begun j (sym (ap (λ x. is_admitted (get_or x j no_op).phase) wo) ∙ e);
       replied = λ j lj e. h.replied j lj (sym (ap (λ x. has_ended (get_or x j no_op).phase) wo) ∙ e);
+      failed = λ j lj e. h.failed j lj (sym (ap (λ x. has_ended (get_or x j no_op).phase) wo) ∙ e);
       suited = λ j lj e. h.suited j lj (sym (ap (λ x. has_ended (get_or x j no_op).phase) wo) ∙ e);
     }
 

@@ -139,6 +139,7 @@ module _ {course : Course} (over : Setting) (n : ℕ) (opening : State) (es : Li
           follows = same_by course over n ops opening moved.after (with_all spots Admitted status) (status_of p (record d { pool = pool }) w) es same moved.follows;
           begun = λ j x. begun_on o pool refl j (sym (ap (λ (y : OpView). is_admitted y.phase) (at j)) ∙ x);
           replied = λ j b x. (let t = ended_before o pool refl j (sym (ap (λ (y : OpView). has_ended y.phase) (at j)) ∙ x) in h.replied j b t.0);
+          failed = λ j b x. (let t = ended_before o pool refl j (sym (ap (λ (y : OpView). has_ended y.phase) (at j)) ∙ x) in h.failed j b t.0);
           suited = λ j b x. h.suited j b (not_before o pool refl j (waiting_not_ended (op_at v i).phase a) (sym (ap (λ (y : OpView). has_ended y.phase) (at j)) ∙ x));
         };
         blocks = moved.blocks_are ∙ (ap (λ x. (plain act (all_made over n (acts x)) now).blocks) count ∙ stays);
@@ -175,6 +176,7 @@ module _ {course : Course} (over : Setting) (n : ℕ) (opening : State) (es : Li
           follows = same_by course over n ops opening moved.after (with_all spots Cut status) (status_of p (record d { pool = pool }) w) es same moved.follows;
           begun = λ j x. begun_on o pool a j (sym (ap (λ (y : OpView). is_admitted y.phase) (at j)) ∙ x);
           replied = λ j b x. (let t = ended_before o pool a j (sym (ap (λ (y : OpView). has_ended y.phase) (at j)) ∙ x) in h.replied j b t.0);
+          failed = λ j b x. (let t = ended_before o pool a j (sym (ap (λ (y : OpView). has_ended y.phase) (at j)) ∙ x) in h.failed j b t.0);
           suited = λ j b x. h.suited j b (not_before o pool a j (goes (op_at v i) pool a) (sym (ap (λ (y : OpView). has_ended y.phase) (at j)) ∙ x));
         };
         blocks = moved.blocks_are ∙ stays;

@@ -1,5 +1,5 @@
 -- A finished stack whose replies don't name the medium: no store call of it failed, and it followed the walk at the target.
-use Rattle.std.proofs.Common.{◌≡◌, ◌⊎◌, inl, inr, ◌<◌, ◌≤◌, ℕ, zero, suc, ◌+◌, Bool, true, false, List, [], ◌∷◌, length, drop, get_or, Option, Some, None, refl, sym, ap, subst, ◌∙◌, arith, ⊎_elim}
+use Rattle.std.proofs.Common.{◌≡◌, ◌⊎◌, inl, inr, ◌<◌, ◌≤◌, ℕ, zero, suc, ◌+◌, Bool, true, false, List, [], ◌∷◌, length, drop, get_or, is_some, Option, Some, None, refl, sym, ap, subst, ◌∙◌, arith, ⊎_elim}
 use Rattle.std.proofs.lemmas.Bool.{cases_eq, cases_lt, false≢true}
 use Rattle.std.proofs.lemmas.List.{get_or_past}
 use Rattle.bio_core.specs.declared.fate.Why.{Why}
@@ -28,7 +28,9 @@ use Rattle.run_moves.specs.ScriptMoves.{fates_of}
 use Rattle.run_record.specs.Records.{recorded}
 use Rattle.run_follows.specs.Following.{Follows}
 use Rattle.run_follows.specs.Slots.{Status}
+use Rattle.run_falls.specs.Flips.{Flips, flip_op, with_flips}
 use Rattle.run_falls.specs.FollowsFalling.{HasFallen}
+use Rattle.stack_walks.specs.Overwrites.{is_overwrite}
 use Rattle.run_falls.proofs.NoneFell.{none_fell}
 use Rattle.stack_walks.specs.Sheets.{op_in}
 use Rattle.stack_walks.specs.Statuses.{fate_in}
@@ -103,7 +105,7 @@ op_counted Wait why q reply r l e = absurd (omega (arith, l))
 
 -- ---- no block has fallen
 
-module _ (over : Setting) (n : ℕ) (opening : State) (es : List Sent) (left : List (List ℕ)) (s : Stack) (k : IsStack s) (o : IsOver over n opening s.sheet s.adapter s.host) (w : WalksBy Falling over n opening es left s) (none : enabled (plan_in s.sheet) w.view ≡ []) (no_line : medium_lines s.replies.items ≡ 0) where
+module _ (flips : Flips) (over : Setting) (n : ℕ) (opening : State) (es : List Sent) (left : List (List ℕ)) (s : Stack) (k : IsStack s) (o : IsOver over n opening s.sheet s.adapter s.host) (w : WalksBy (Falling flips) over n opening es left s) (none : enabled (plan_in s.sheet) w.view ≡ []) (no_line : medium_lines s.replies.items ≡ 0) where
   abbrev ops : List Op
   ops = s.sheet.ops
 
@@ -162,16 +164,49 @@ module _ (over : Setting) (n : ℕ) (opening : State) (es : List Sent) (left : L
       beyond : (i : ℕ) → length ops ≤ i → (request_at (plan_in s.sheet) i).count ≡ 0
       beyond i a = (stand over n opening es left s k o w).plan.count i ∙ ap fates_of (get_or_past ops i Wait a)
 
+-- ---- nor does an overwrite flip its block
+
+no_flip_at : (flips : Flips) (i : ℕ) → is_some (flips i) ≡ false → flips i ≡ None
+no_flip_at flips i e = by (flips i) e where
+  by : (o : Option (List ℕ)) → is_some o ≡ false → o ≡ None
+  by None e = refl
+  by (Some mask) e = absurd (false≢true (sym e))
+
+as_is : (flips : Flips) (i k : ℕ) (ops : List Op) → ((j : ℕ) → j < length ops → is_overwrite (get_or ops j Wait) ≡ true → is_some (flips (i + j)) ≡ false) → k ≡ i → with_flips flips i ops ≡ ops
+as_is flips i k [] h e = refl
+as_is flips i k (op ∷ ops) h e =
+    ap (λ o. o ∷ with_flips flips (suc i) ops) (here op (λ x. subst (λ j. is_some (flips j) ≡ false) (let z : i + 0 ≡ i = omega arith in z) (h 0 (omega arith) x)))
+    ∙ ap (λ rest. op ∷ rest) (as_is flips (suc i) (suc k) ops (λ j l x. subst (λ j. is_some (flips j) ≡ false) (let z : i + suc j ≡ suc i + j = omega arith in z) (h (suc j) (omega (arith, l)) x)) (ap suc e))
+  where
+    here : (op : Op) → (is_overwrite op ≡ true → is_some (flips i) ≡ false) → flip_op (flips i) op ≡ op
+    here op h = op_flips (flips i) op h where
+      op_flips : (o : Option (List ℕ)) (op : Op) → (is_overwrite op ≡ true → is_some o ≡ false) → flip_op o op ≡ op
+      op_flips None op h = refl
+      op_flips (Some mask) (Fill seg byte) h = refl
+      op_flips (Some mask) (Put page off bytes) h = refl
+      op_flips (Some mask) (Show seg) h = refl
+      op_flips (Some mask) (Seal n body tuples app rtag) h = refl
+      op_flips (Some mask) (Write v n body app) h = refl
+      op_flips (Some mask) (Fetch v n body) h = refl
+      op_flips (Some mask) (WritePi v n body tuples) h = refl
+      op_flips (Some mask) (FetchPi v n body tuples) h = refl
+      op_flips (Some mask) (Overwrite dev lba change) h = absurd (false≢true (sym (h refl)))
+      op_flips (Some mask) Wait h = refl
+
 -- ---- so it followed the walk
 
-pub walks_straight : (m : Setting) (n : ℕ) (opening : State) (first : ℕ) (s : Stack) (units : Option (List Stored)) (armed : List FaultLine) (st : Standing) (log : List Entry) → IsStack s → WalksAtTarget Falling m n opening first s units armed st log →
+pub walks_straight : (m : Setting) (n : ℕ) (opening : State) (first : ℕ) (s : Stack) (units : Option (List Stored)) (armed : List FaultLine) (st : Standing) (log : List Entry) → IsStack s → WalksFalling m n opening first s units armed st log →
     ((v : View) → Holds (plan_in s.sheet) s.machine v → enabled (plan_in s.sheet) v ≡ []) → medium_lines s.replies.items ≡ 0 → WalksTold m n opening first s units armed st log
-walks_straight m n opening first s units armed st log k t none e =
+walks_straight m n opening first s units armed st log k walks none e =
+    let flips = walks.0 in
+    let t = walks.1 in
     let es = recorded m (drop first log) in
     let w = t.walks in
     let f = w.follow.follows.0 in
     let status = status_of (plan_in s.sheet) (data_of s) w.view in
-    let never = not_fallen m n opening es (blocks_told t.us) s k t.over w (none w.view w.holds) e in
+    let over = λ (i : ℕ) (l : i < length s.sheet.ops). (stuck (plan_in s.sheet) w.view (sound m n opening es (blocks_told t.us) s k t.over w) (none w.view w.holds) i (let x = (sound m n opening es (blocks_told t.us) s k t.over w).ops in let y = (stand m n opening es (blocks_told t.us) s k t.over w).plan.many in omega (arith, l, x, y))) in
+    let script : with_flips flips 1 s.sheet.ops ≡ s.sheet.ops = as_is flips 1 1 s.sheet.ops (λ j l x. subst (λ i. is_some (flips i) ≡ false) (let z : suc j ≡ 1 + j = omega arith in z) (w.follow.failed j l (over j l) x ∙ none_failed s.replies.items e j)) refl in
+    let never = not_fallen flips m n opening es (blocks_told t.us) s k t.over w (none w.view w.holds) e in
     record {
       over = t.over;
       sizes = t.sizes;
@@ -188,9 +223,11 @@ walks_straight m n opening first s units armed st log k t none e =
         follow = record {
           bytes = w.follow.bytes;
           whole = w.follow.whole;
-          follows = subst (λ (now : State). Follows m n s.sheet.ops opening status now es) w.follow.follows.1 (none_fell m n s.sheet.ops opening status w.now.bytes w.now.blocks es never f);
+          follows = subst (λ (now : State). Follows m n s.sheet.ops opening status now es) w.follow.follows.1.0
+              (subst (λ ops. Follows m n ops opening status f.after es) script (none_fell m n (with_flips flips 1 s.sheet.ops) opening status w.now.bytes w.now.blocks es never f));
           begun = w.follow.begun;
           replied = w.follow.replied;
+          failed = λ i l e. tt;
           suited = w.follow.suited;
         };
         none_before = w.none_before;

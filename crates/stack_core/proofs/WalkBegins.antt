@@ -21,12 +21,13 @@ use Rattle.run_follows.specs.Slots.{Waits}
 use Rattle.stack_walks.specs.Statuses.{fate_in}
 use Rattle.stack_walks.specs.Units.{AreAtUnits}
 use Rattle.stack_walks.proofs.Standing.{waits}
+use Rattle.run_falls.specs.Flips.{no_flips}
 use Rattle.stack_core.specs.Courses.{Course, Falling, Straight}
 use Rattle.stack_core.specs.declared.stack.Stack.{Stack}
 use Rattle.stack_core.specs.Rooms.{Suits}
 use Rattle.stack_walks.specs.Sheets.{op_in, request_in}
 use Rattle.stack_core.specs.Stacks.{IsStack, plan_in, room_at}
-use Rattle.stack_core.proofs.Courses.{begins_by}
+use Rattle.stack_core.proofs.Courses.{FlipsNone, begins_by}
 use Rattle.stack_core.specs.Walking.{IsOver, Opens, SizesFit, Walks, WalksAtTarget, WalksBy, WalksFalling, WalksOver, WalksTold, data_of, shown_in, status_of, why_in}
 
 start_waits : (rs : List Request) (i : ℕ) → i < length rs → is_waiting (get_or (map waiting rs) i no_op).phase ≡ true
@@ -45,9 +46,9 @@ start_not_admitted (r ∷ rs) zero = refl
 start_not_admitted (r ∷ rs) (suc i) = start_not_admitted rs i
 
 -- over whatever is behind the adapter, with nothing on record
-pub over_begins : (course : Course) (over : Setting) (n : ℕ) (opening : State) (s : Stack) → IsStack s → Holds (plan_in s.sheet) s.machine (start (plan_in s.sheet)) → AreWhole s.pool → ((i : ℕ) → i < length s.sheet.ops → Suits (op_in s.sheet.ops i) (room_at s.rooms.items i)) →
+pub over_begins : (course : Course) → FlipsNone course → (over : Setting) (n : ℕ) (opening : State) (s : Stack) → IsStack s → Holds (plan_in s.sheet) s.machine (start (plan_in s.sheet)) → AreWhole s.pool → ((i : ℕ) → i < length s.sheet.ops → Suits (op_in s.sheet.ops i) (room_at s.rooms.items i)) →
     Opens opening s → WalksBy course over n opening [] opening.blocks s
-over_begins course over n opening s k h whole suits o =
+over_begins course none over n opening s k h whole suits o =
     let p = plan_in s.sheet in
     let ops = s.sheet.ops in
     let f = k.fixed.ops in
@@ -61,9 +62,10 @@ over_begins course over n opening s k h whole suits o =
       follow = record {
         bytes = o.bytes;
         whole = whole;
-        follows = begins_by course over n ops opening (status_of p (data_of s) (start p)) statuses o.logs;
+        follows = begins_by course none over n ops opening (status_of p (data_of s) (start p)) statuses o.logs;
         begun = λ i e. absurd (false≢true (sym (start_not_admitted p.requests i) ∙ e));
         replied = λ i l e. absurd (false≢true (sym (start_not_ended p.requests i (omega arith)) ∙ e));
+        failed = λ i l e. absurd (false≢true (sym (start_not_ended p.requests i (omega arith)) ∙ e));
         suited = λ i l e. suits i l;
       };
       none_before = λ i j e. refl;
@@ -82,14 +84,14 @@ walk_begins m n opening s st log k h whole suits o over sizes = record {
   recorded_from = omega arith;
   fit = subst (FramesFit m) (sym (none_recorded m log)) (λ b. tt);
   left = opening.blocks;
-  walks = subst (λ es. WalksOver (told m es) n opening es opening.blocks s) (sym (none_recorded m log)) (over_begins Straight (told m []) n opening s k h whole suits o);
+  walks = subst (λ es. WalksOver (told m es) n opening es opening.blocks s) (sym (none_recorded m log)) (over_begins Straight tt (told m []) n opening s k h whole suits o);
 }
 
 -- over a rig that tells its blocks
-at_target_begins : (course : Course) (m : Setting) (n : ℕ) (opening : State) (s : Stack) (us : List Stored) (armed : List FaultLine) (st : Standing) (log : List Entry) → IsStack s → Holds (plan_in s.sheet) s.machine (start (plan_in s.sheet)) → AreWhole s.pool → ((i : ℕ) → i < length s.sheet.ops → Suits (op_in s.sheet.ops i) (room_at s.rooms.items i)) →
+at_target_begins : (course : Course) → FlipsNone course → (m : Setting) (n : ℕ) (opening : State) (s : Stack) (us : List Stored) (armed : List FaultLine) (st : Standing) (log : List Entry) → IsStack s → Holds (plan_in s.sheet) s.machine (start (plan_in s.sheet)) → AreWhole s.pool → ((i : ℕ) → i < length s.sheet.ops → Suits (op_in s.sheet.ops i) (room_at s.rooms.items i)) →
     Opens opening s → IsOver m n opening s.sheet s.adapter s.host → SizesFit m st → m.site ≡ site_of s.adapter (specs_of st) → AreAtUnits m (specs_of st) s.sheet.ops → armed ≡ s.adapter.tamper → opening.blocks ≡ blocks_told us →
     WalksAtTarget course m n opening (length log) s (Some us) armed st log
-at_target_begins course m n opening s us armed st log k h whole suits o over sizes site behind armed_are blocks = record {
+at_target_begins course none m n opening s us armed st log k h whole suits o over sizes site behind armed_are blocks = record {
   over = over;
   sizes = sizes;
   site = site;
@@ -98,16 +100,16 @@ at_target_begins course m n opening s us armed st log k h whole suits o over siz
   recorded_from = omega arith;
   us = us;
   told_are = refl;
-  walks = subst (λ es. WalksBy course m n opening es (blocks_told us) s) (sym (none_recorded m log)) (subst (λ x. WalksBy course m n opening [] x s) blocks (over_begins course m n opening s k h whole suits o));
+  walks = subst (λ es. WalksBy course m n opening es (blocks_told us) s) (sym (none_recorded m log)) (subst (λ x. WalksBy course m n opening [] x s) blocks (over_begins course none m n opening s k h whole suits o));
 }
 
 pub told_begins : (m : Setting) (n : ℕ) (opening : State) (s : Stack) (us : List Stored) (armed : List FaultLine) (st : Standing) (log : List Entry) → IsStack s → Holds (plan_in s.sheet) s.machine (start (plan_in s.sheet)) → AreWhole s.pool → ((i : ℕ) → i < length s.sheet.ops → Suits (op_in s.sheet.ops i) (room_at s.rooms.items i)) →
     Opens opening s → IsOver m n opening s.sheet s.adapter s.host → SizesFit m st → m.site ≡ site_of s.adapter (specs_of st) → AreAtUnits m (specs_of st) s.sheet.ops → armed ≡ s.adapter.tamper → opening.blocks ≡ blocks_told us →
     WalksTold m n opening (length log) s (Some us) armed st log
-told_begins m n opening s us armed st log k h whole suits o over sizes site behind armed_are blocks = at_target_begins Straight m n opening s us armed st log k h whole suits o over sizes site behind armed_are blocks
+told_begins m n opening s us armed st log k h whole suits o over sizes site behind armed_are blocks = at_target_begins Straight tt m n opening s us armed st log k h whole suits o over sizes site behind armed_are blocks
 
 -- and where its store calls may fail
 pub falling_begins : (m : Setting) (n : ℕ) (opening : State) (s : Stack) (us : List Stored) (armed : List FaultLine) (st : Standing) (log : List Entry) → IsStack s → Holds (plan_in s.sheet) s.machine (start (plan_in s.sheet)) → AreWhole s.pool → ((i : ℕ) → i < length s.sheet.ops → Suits (op_in s.sheet.ops i) (room_at s.rooms.items i)) →
     Opens opening s → IsOver m n opening s.sheet s.adapter s.host → SizesFit m st → m.site ≡ site_of s.adapter (specs_of st) → AreAtUnits m (specs_of st) s.sheet.ops → armed ≡ s.adapter.tamper → opening.blocks ≡ blocks_told us →
     WalksFalling m n opening (length log) s (Some us) armed st log
-falling_begins m n opening s us armed st log k h whole suits o over sizes site behind armed_are blocks = inr (at_target_begins Falling m n opening s us armed st log k h whole suits o over sizes site behind armed_are blocks)
+falling_begins m n opening s us armed st log k h whole suits o over sizes site behind armed_are blocks = (no_flips, at_target_begins (Falling no_flips) (λ i. refl) m n opening s us armed st log k h whole suits o over sizes site behind armed_are blocks)

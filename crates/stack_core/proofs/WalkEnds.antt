@@ -40,12 +40,14 @@ use Rattle.run_falls.proofs.Ending.{ends_as_falling}
 use Rattle.stack_walks.specs.Statuses.{fate_in}
 use Rattle.stack_walks.proofs.Letting.{all_marked}
 use Rattle.stack_walks.proofs.Standing.{is_done, is_settled}
-use Rattle.stack_core.specs.Courses.{Course, Falling}
+use Rattle.run_falls.specs.Flips.{with_flips}
+use Rattle.run_falls.proofs.Flipped.{FineByLength, bound_flip, ended_flip, replies_flip, takes_flip}
+use Rattle.stack_core.specs.Courses.{Course}
 use Rattle.stack_core.specs.declared.stack.Stack.{Stack}
 use Rattle.stack_walks.specs.Sheets.{op_in}
 use Rattle.stack_core.specs.Stacks.{IsStack, plan_in}
 use Rattle.stack_walks.specs.Overwrites.{is_overwrite}
-use Rattle.stack_core.specs.Walking.{EndsTold, HasFails, IsOver, IsReply, Walks, WalksBy, WalksTold, data_of, is_medium, shown_by, shown_in, status_of, why_in, WalksAtTarget}
+use Rattle.stack_core.specs.Walking.{EndsFallen, EndsTold, HasFails, IsOver, IsReply, Walks, WalksBy, WalksTold, data_of, is_medium, shown_by, shown_in, status_of, why_in, WalksFalling}
 use Rattle.stack_core.proofs.Context.{over_told}
 use Rattle.stack_core.proofs.Walked.{sound, stand}
 
@@ -193,16 +195,23 @@ ends_told m fine n opening first s units armed st log k w none f bound =
     }
 
 -- And where some store calls failed, it has done the walk in which just these fail.
-pub ends_falling : (m : Setting) (fine : ℕ → List ℕ → Bool) (n : ℕ) (opening : State) (first : ℕ) (s : Stack) (units : Option (List Stored)) (armed : List FaultLine) (st : Standing) (log : List Entry) → IsStack s → (w : WalksAtTarget Falling m n opening first s units armed st log) → enabled (plan_in s.sheet) w.walks.view ≡ [] →
-    HasFails m s.replies.items → IsBoundRun m fine n s.sheet.ops opening → AllTakeAny m fine 1 s.sheet.ops → EndsAsFalling m n s.sheet.ops opening (take n (flat s.pool)) (blocks_told w.us) s.replies.items (recorded m (drop first log))
-ends_falling m fine n opening first s units armed st log k t none f bound takes =
+pub ends_falling : (m : Setting) (fine : ℕ → List ℕ → Bool) (n : ℕ) (opening : State) (first : ℕ) (s : Stack) (units : Option (List Stored)) (armed : List FaultLine) (st : Standing) (log : List Entry) → IsStack s → (w : WalksFalling m n opening first s units armed st log) → enabled (plan_in s.sheet) (w.1).walks.view ≡ [] →
+    HasFails m s.replies.items → FineByLength fine → IsBoundRun m fine n s.sheet.ops opening → AllTakeAny m fine 1 s.sheet.ops → EndsFallen m n opening s.sheet.ops (take n (flat s.pool)) (blocks_told (w.1).us) s.replies.items (recorded m (drop first log))
+ends_falling m fine n opening first s units armed st log k walks none f long bound takes =
+    let flips = walks.0 in
+    let t = walks.1 in
     let es = recorded m (drop first log) in
     let ops = s.sheet.ops in
+    let script = with_flips flips 1 ops in
     let status = status_of (plan_in s.sheet) (data_of s) t.walks.view in
-    let replied = all_replied m n opening es (blocks_told t.us) s k t.over t.walks none m (λ i l e. f i) in
-    let over = all_ended m n opening es (blocks_told t.us) s k t.over t.walks none m in
+    let replied = replies_flip m flips 1 ops status ∙ all_replied m n opening es (blocks_told t.us) s k t.over t.walks none m (λ i l e. f i) in
+    let over = ended_flip m flips 1 ops status (all_ended m n opening es (blocks_told t.us) s k t.over t.walks none m) in
     let h = t.walks.follow.follows.0 in
-    let ends = ends_as_falling m fine n ops opening status t.walks.now.bytes t.walks.now.blocks es bound takes over h in
-    subst (λ replies. EndsAsFalling m n ops opening (take n (flat s.pool)) (blocks_told t.us) replies es) replied
-    (subst (λ blocks. EndsAsFalling m n ops opening (take n (flat s.pool)) blocks (replies_of m 1 ops status) es) t.walks.blocks
-    (subst (λ bytes. EndsAsFalling m n ops opening (take n bytes) t.walks.now.blocks (replies_of m 1 ops status) es) t.walks.follow.bytes ends))
+    let ends = ends_as_falling m fine n script opening status t.walks.now.bytes t.walks.now.blocks es (bound_flip m fine flips n ops opening long bound) (takes_flip m fine flips 1 ops takes) over h in
+    record {
+      flips = flips;
+      replied = λ i l e. t.walks.follow.failed i l (ended m n opening es (blocks_told t.us) s k t.over t.walks none i l) e;
+      ends = subst (λ replies. EndsAsFalling m n script opening (take n (flat s.pool)) (blocks_told t.us) replies es) replied
+          (subst (λ blocks. EndsAsFalling m n script opening (take n (flat s.pool)) blocks (replies_of m 1 script status) es) t.walks.blocks
+          (subst (λ bytes. EndsAsFalling m n script opening (take n bytes) t.walks.now.blocks (replies_of m 1 script status) es) t.walks.follow.bytes ends));
+    }

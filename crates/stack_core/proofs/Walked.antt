@@ -42,17 +42,22 @@ use Rattle.run_follows.specs.Sending.{NoneBefore}
 use Rattle.stack_core.specs.declared.kept.Room.TheVariants.{Nothing}
 use Rattle.stack_core.specs.declared.sheet.Sheet.{Sheet}
 use Rattle.stack_core.specs.declared.stack.Stack.{Stack}
-use Rattle.stack_core.specs.Courses.{Course}
+use Rattle.rig_api.specs.declared.change.Change.{Change}
+use Rattle.run_falls.specs.Flips.{Flips}
+use Rattle.run_falls.proofs.Flipped.{flip_at}
+use Rattle.run_falls.proofs.Overwriting.{between}
+use Rattle.stack_ops.specs.declared.op.Op.TheVariants.{Overwrite}
+use Rattle.stack_core.specs.Courses.{Course, Falling}
 use Rattle.stack_core.specs.Done.{MadeBy, OpDone, WriteMade, WriteMapped}
 use Rattle.stack_core.specs.Replies.{reply_of}
 use Rattle.stack_walks.specs.Sheets.{io_at, op_in}
 use Rattle.stack_core.specs.Stacks.{IsStack, Stays, plan_in, room_at}
-use Rattle.stack_core.specs.Walking.{Data, Follow, GoesOn, IsChosen, IsOver, WalksBy, data_of, op_left, status_of}
+use Rattle.stack_core.specs.Walking.{Data, Follow, GoesOn, IsChosen, IsOver, WalksBy, data_of, is_medium, op_left, status_of}
 use Rattle.stack_core.proofs.Context.{places, stands}
 use Rattle.stack_walks.proofs.Facts.{op-ends, op-enters}
 use Rattle.stack_core.proofs.FollowsEnd.{ends, joins}
 use Rattle.stack_core.proofs.FollowsGroup.{Places, there_is}
-use Rattle.stack_core.proofs.FollowsOp.{alone, op_goes}
+use Rattle.stack_core.proofs.FollowsOp.{QuietBy, alone, op_fails, op_goes}
 use Rattle.stack_core.proofs.FollowsStep.{admits, cuts}
 use Rattle.stack_core.proofs.OpWhole.{is_wholly}
 use Rattle.stack_core.proofs.Spotted.{Stands}
@@ -105,7 +110,7 @@ module _ {course : Course} (over : Setting) (n : ℕ) (opening : State) (es : Li
   pub lie : Places over plan ops ios
   lie = places over n opening s k o
 
-  ops_there : length v.ops ≡ length ios
+  pub ops_there : length v.ops ≡ length ios
   ops_there = sound.ops ∙ (stand.plan.many ∙ k.fixed.ops)
 
   -- ---- what goes on
@@ -178,16 +183,16 @@ module _ {course : Course} (over : Setting) (n : ℕ) (opening : State) (es : Li
     entered : taken enters ch ≡ StepAdmit i
     entered = (meant enters ch).1 ∙ ap StepAdmit (sym (ap op_of (meant enters ch).1) ∙ of v (taken enters ch) w.holds (meant enters ch))
 
-    abbrev after : View
+    abbrev pub after : View
     after = step plan v (StepAdmit i) 0 []
 
-    holds_after : Holds plan s'.machine after
+    pub holds_after : Holds plan s'.machine after
     holds_after = subst (λ x. Holds plan s'.machine (step plan v x 0 [])) entered (does v (taken enters ch) w.holds (can_be enters ch) (meant enters ch))
 
-    waits : is_waiting (op_at v i).phase ≡ true
+    pub waits : is_waiting (op_at v i).phase ≡ true
     waits = (and_parts (is_waiting (op_at v i).phase) _ (ap (can plan v) (sym entered) ∙ can_be enters ch)).0
 
-    there : i < length ios
+    pub there : i < length ios
     there = op-enters ops s.sheet.shifted.items ios s.sheet.table s.sheet.limits s.sheet.devices s.machine q i s.sheet.right.fine (ready enters ch) of
 
     pub walk_admits : 0 < (io_at ios i).count → (pool : List (List ℕ)) → WriteMade (io_at ios i).dir (io_at ios i).pi s.adapter.kind s.host (io_at ios i).body s.pool pool → data_of s' ≡ record (data_of s) { pool = pool } → WalksBy course over n opening es left s'
@@ -202,9 +207,9 @@ module _ {course : Course} (over : Setting) (n : ℕ) (opening : State) (es : Li
         after pool s.adapter.kind s.host waits e refl holds_after.shows.sound
         (made_whole (io_at ios i).dir (io_at ios i).pi s.adapter.kind s.host (io_at ios i) s.pool pool w.follow.whole made) (sym (ap (λ mode. mode.kind) o.mode)) o.host_is made) w.blocks
 
-    pub walk_op : (io_at ios i).count ≡ 0 → (pool : List (List ℕ)) (reply : Reply) → OpDone (op_in ops i) s.adapter.kind (room_at s.rooms.items i) s.pool pool reply →
+    pub walk_op : (io_at ios i).count ≡ 0 → (pool : List (List ℕ)) (reply : Reply) → QuietBy course reply → OpDone (op_in ops i) s.adapter.kind (room_at s.rooms.items i) s.pool pool reply →
         data_of s' ≡ record (data_of s) { pool = pool; rooms = set s.rooms.items i Nothing; replies = set s.replies.items i reply } → WalksBy course over n opening es (op_left over (op_in ops i) left) s'
-    walk_op none pool reply done same =
+    walk_op none pool reply quiet done same =
         let l = there in
         let f = k.fixed.ops in
         let r = k.replies in
@@ -215,7 +220,7 @@ module _ {course : Course} (over : Setting) (n : ℕ) (opening : State) (es : Li
         let e : after.ops ≡ set v.ops i (record (op_at v i) { phase = Ended }) = ap (λ c. set v.ops i (record (op_at v i) { phase = if eqb c 0 then Ended else OpAdmitted })) empty in
         let single = alone over n opening es plan ops (data_of s) v w.now stand.ground stand.plan sound w.follow i lo (omega arith) (omega arith) empty in
         let wholly = is_wholly over (suc i) s.pool pool reply w.now w.follow.whole w.follow.bytes (op_in ops i) s.adapter.kind (room_at s.rooms.items i) single (k.rooms.can i l) (w.follow.suited i lo (waiting_ended (op_at v i).phase waits)) (o.seals i lo) (sym (ap (λ mode. mode.kind) o.mode)) done in
-        let goes = op_goes over n opening es plan ops (data_of s) v w.now stand.ground stand.plan sound w.follow i lo (omega arith) (omega arith) empty after pool reply waits e refl holds_after.shows.sound wholly in
+        let goes = op_goes over n opening es plan ops (data_of s) v w.now stand.ground stand.plan sound w.follow i lo (omega arith) (omega arith) empty after pool reply waits e refl holds_after.shows.sound wholly quiet in
         walked s' stays (record (data_of s) { pool = pool; rooms = set s.rooms.items i Nothing; replies = set s.replies.items i reply }) after (plain act (acts_of over (suc i) (op_in ops i)) w.now).blocks (op_left over (op_in ops i) left) same holds_after goes (wholly.blocks ∙ ap (op_left over (op_in ops i)) w.blocks)
 
   -- ---- a piece is cut
@@ -254,3 +259,44 @@ module _ {course : Course} (over : Setting) (n : ℕ) (opening : State) (es : Li
       walked s' stays (record (data_of s) { pool = pool }) after w.now.blocks left same h
       (cuts over n opening es plan ops ios (data_of s) v w.now stand sound w.follow i (omega arith) li (omega arith) cnt (omega arith)
       after pool count b.lba s.host y.0 refl refl (omega arith) (mapped_whole (io_at ios i).dir (io_at ios i).pi s.host at count b.lba s.pool pool w.follow.whole here) o.host_is lbas here) w.blocks
+
+-- An overwrite is admitted whose store call fails.
+module _ (flips : Flips) (over : Setting) (n : ℕ) (opening : State) (es : List Sent) (left : List (List ℕ)) (s : Stack) (k : IsStack s) (o : IsOver over n opening s.sheet s.adapter s.host) (w : WalksBy (Falling flips) over n opening es left s) (s' : Stack) (q i : ℕ) (stays : Stays s s') (ch : IsChosen s (Admit q))
+    (does : Does (plan_in s.sheet) s.machine (Admit q) 0 s'.machine) (of : OfOp (plan_in s.sheet) s.machine (Admit q) i) where
+  pub walk_fails : (io_at s.sheet.ios.items i).count ≡ 0 → (pool : List (List ℕ)) (reply : Reply) → OpDone (op_in s.sheet.ops i) s.adapter.kind (room_at s.rooms.items i) s.pool pool reply → (dev lba : ℕ) (change : Change) → op_in s.sheet.ops i ≡ Overwrite dev lba change → is_medium reply ≡ true →
+      (block : List ℕ) → length block ≡ length (get_or left (over.site.cell dev lba) []) → data_of s' ≡ record (data_of s) { pool = pool; rooms = set s.rooms.items i Nothing; replies = set s.replies.items i reply } →
+      (flips' : Flips) × WalksBy (Falling flips') over n opening es (set left (over.site.cell dev lba) block) s'
+  walk_fails none pool reply done dev lba change is medium block long same =
+      let p = plan_in s.sheet in
+      let ops = s.sheet.ops in
+      let st = stand over n opening es left s k o w in
+      let so = sound over n opening es left s k o w in
+      let l = there over n opening es left s k o w s' q i stays ch does of in
+      let wt = waits over n opening es left s k o w s' q i stays ch does of in
+      let next = after over n opening es left s k o w s' q i stays ch does of in
+      let ha = holds_after over n opening es left s k o w s' q i stays ch does of in
+      let f = k.fixed.ops in
+      let r = k.replies in
+      let vo = ops_there over n opening es left s k o w in
+      let cnt = (lie over n opening es left s k o w).count i in
+      let lo : i < length ops = omega (arith, l, f) in
+      let lv : i < length w.view.ops = omega (arith, l, vo) in
+      let lr : i < length s.replies.items = omega (arith, l, f, r) in
+      let empty : (request_at p i).count ≡ 0 = cnt ∙ none in
+      let e : next.ops ≡ set w.view.ops i (record (op_at w.view i) { phase = Ended }) = ap (λ c. set w.view.ops i (record (op_at w.view i) { phase = if eqb c 0 then Ended else OpAdmitted })) empty in
+      let single = alone over n opening es p ops (data_of s) w.view w.now st.ground st.plan so w.follow i lo lv lr empty in
+      let wholly = is_wholly over (suc i) s.pool pool reply w.now w.follow.whole w.follow.bytes (op_in ops i) s.adapter.kind (room_at s.rooms.items i) single (k.rooms.can i l) (w.follow.suited i lo (waiting_ended (op_at w.view i).phase wt)) (o.seals i lo) (sym (ap (λ mode. mode.kind) o.mode)) done in
+      let long' : length block ≡ length (get_or w.now.blocks (over.site.cell dev lba) []) = long ∙ ap (λ (x : List (List ℕ)). length (get_or x (over.site.cell dev lba) [])) (sym w.blocks) in
+      let g = op_fails flips over n opening es p ops (data_of s) w.view w.now st.ground st.plan so w.follow i lo lv lr empty next pool reply wt e refl ha.shows.sound wholly dev lba change is medium block long' in
+      let flips' = flip_at (suc (length (take i ops))) (between (get_or w.now.blocks (over.site.cell dev lba) []) block) flips in
+      let d' : Data = record (data_of s) { pool = pool; rooms = set s.rooms.items i Nothing; replies = set s.replies.items i reply } in (
+        flips',
+        record {
+          view = next;
+          holds = subst (λ (x : Sheet). Holds (plan_in x) s'.machine next) (sym stays.sheet) ha;
+          now = g.after;
+          follow = subst (λ (x : Sheet). Follow (Falling flips') over n opening es (plan_in x) x.ops (data_of s') next g.after) (sym stays.sheet) (subst (λ (d : Data). Follow (Falling flips') over n opening es p ops d next g.after) (sym same) g.follow);
+          none_before = subst (λ (x : Sheet). NoneBefore (status_of (plan_in x) (data_of s') next) es) (sym stays.sheet) (subst (λ (d : Data). NoneBefore (status_of p d next) es) (sym same) (g.none_before w.none_before));
+          blocks = g.blocks ∙ ap (λ (x : List (List ℕ)). set x (over.site.cell dev lba) block) w.blocks;
+        },
+      )

@@ -79,7 +79,7 @@ use Rattle.stack_core.proofs.WalkedFar.{fits, formed, goes_on, group_is, head_on
 -- where no store call fails the count of faults stays
 abbrev pub CalmBy : Course → (faults faults' : ℕ) → Type 0
 CalmBy Straight faults faults' = Calm faults faults'
-CalmBy Falling faults faults' = Unit {0}
+CalmBy (Falling flips) faults faults' = Unit {0}
 
 stop_left : (stop : Option Stop) (frame faults faults' : ℕ) → HasCause stop frame faults faults' → IfSome stop (λ s. length s.left ≡ frame)
 stop_left None frame faults faults' h = tt
@@ -87,7 +87,7 @@ stop_left (Some s) frame faults faults' h = h.1
 
 up_to : (course : Course) (faults faults' frame : ℕ) (P : Option Stop → Type 0) → CalmBy course faults faults' → UpTo P frame faults faults' → (stop : Option Stop) × (StopsBy course frame stop × P stop)
 up_to Straight faults faults' frame P calm h = (None, (refl, h.0 calm))
-up_to Falling faults faults' frame P calm h = (h.1.0, (stop_left h.1.0 frame faults faults' h.1.1, h.1.2))
+up_to (Falling flips) faults faults' frame P calm h = (h.1.0, (stop_left h.1.0 frame faults faults' h.1.1, h.1.2))
 
 -- the same of what the target says
 by_target_ok : (x : Result (List ℕ) Check) (P : List ℕ → Type 0) → IfOk x P → IfOk (by_target x) P

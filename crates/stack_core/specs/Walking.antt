@@ -1,5 +1,5 @@
 -- That a stack between two steps follows the walk of its script.
-use Rattle.std.specs.Prelude.{◌≡◌, ◌⊎◌, ℕ, zero, suc, ◌+◌, ◌*◌, ◌<◌, ◌≤◌, Bool, false, true, List, [], length, drop, get_or, set, take, Option, Some}
+use Rattle.std.specs.Prelude.{◌≡◌, ◌⊎◌, ℕ, zero, suc, ◌+◌, ◌*◌, ◌<◌, ◌≤◌, Bool, false, true, List, [], length, drop, get_or, is_some, set, take, Option, Some}
 use Rattle.page_pool.specs.Cells.{flat}
 use Rattle.page_pool.specs.Pages.{AreWhole}
 use Rattle.bio_core.specs.declared.fate.Fate.{Fate}
@@ -11,7 +11,7 @@ use Rattle.fault_schedule.specs.declared.fault.FaultLine.{FaultLine}
 use Rattle.target_answer.specs.Target.{Stored}
 use Rattle.range_gate.specs.Gates.{has_ended}
 use Rattle.rig_api.specs.Log.{Entry}
-use Rattle.rig_api.specs.Telling.{Standing, block_at, changed as changed_told, spec_at, specs_of, with_block}
+use Rattle.rig_api.specs.Telling.{Standing, block_at, changed as changed_told, frame_size, spec_at, specs_of, unit_at, with_block}
 use Rattle.stack_ops.specs.declared.op.Op.{Op}
 use Rattle.stack_ops.specs.declared.op.Op.TheVariants.{Fill, Put, Show, Seal, Write, Fetch, WritePi, FetchPi, Overwrite, Wait}
 use Rattle.stack_ops.specs.declared.reply.Reply.{Reply}
@@ -48,6 +48,10 @@ use Rattle.stack_walks.specs.Units.{AreAtUnits}
 use Rattle.stack_core.specs.declared.kept.Room.{Room}
 use Rattle.stack_core.specs.declared.sheet.Sheet.{Sheet}
 use Rattle.stack_core.specs.declared.stack.Stack.{Stack}
+use Rattle.run_falls.specs.AtTheEnd.{EndsAsFalling}
+use Rattle.run_falls.specs.Flips.{Flips, with_flips}
+use Rattle.rig_api.specs.declared.change.Change.{Change}
+use Rattle.stack_walks.specs.Overwrites.{is_overwrite}
 use Rattle.stack_core.specs.Courses.{Course, Falling, FollowsBy, Straight}
 use Rattle.stack_core.specs.Doing.{CanReach}
 use Rattle.stack_walks.specs.Moved.{why_of}
@@ -121,6 +125,11 @@ HasFails m replies = (i : ℕ) → m.fails (suc i) ≡ is_medium (get_or replies
 abbrev pub NoneFailed : List Reply → Type 0
 NoneFailed replies = (i : ℕ) → is_medium (get_or replies i Silent) ≡ false
 
+-- Where it is known which store calls failed, an overwrite flips its block just where it replied that its call failed.
+abbrev pub FailedBy : Course → (i : ℕ) → Op → Reply → Type 0
+FailedBy Straight i op reply = Unit {0}
+FailedBy (Falling flips) i op reply = is_overwrite op ≡ true → is_some (flips i) ≡ is_medium reply
+
 -- ---- between two steps
 
 -- What no step changes: the ops are the script's of this setting, in n bytes of pages, over the adapter's units.
@@ -139,13 +148,14 @@ pub record IsOver (m : Setting) (n : ℕ) (opening : State) (sheet : Sheet) (a :
   pub faults : m.site.faults ≡ a.tamper
   pub seals : (i : ℕ) → i < length sheet.ops → IsSealed m (op_in sheet.ops i)
 
--- A stack of this plan, with these data, that shows this view follows the walk of its script over a setting, with these entries and ends on record: its pages are those of the walk's state; each op that has ended has its reply, and each other one the room for it.
+-- A stack of this plan, with these data, that shows this view follows the walk of its script over a setting, with these entries and ends on record: its pages are those of the walk's state; each op that has ended has its reply, which says of an overwrite whether it failed, and each other one the room for it.
 pub record Follow (course : Course) (over : Setting) (n : ℕ) (opening : State) (es : List Sent) (p : Plan) (ops : List Op) (d : Data) (v : View) (now : State) : Type 0 where
   pub bytes : now.bytes ≡ flat d.pool
   pub whole : AreWhole d.pool
   pub follows : FollowsBy course over n ops opening (status_of p d v) now es
   pub begun : (i : ℕ) → is_admitted (op_at v i).phase ≡ true → 0 < (request_at p i).count
   pub replied : (i : ℕ) → i < length ops → has_ended (op_at v i).phase ≡ true → IsReply (op_in ops i) (each_from 0 (fates_of (op_in ops i)) (why_in d.starts d.held i)) (get_or d.replies i Silent)
+  pub failed : (i : ℕ) → i < length ops → has_ended (op_at v i).phase ≡ true → FailedBy course (suc i) (op_in ops i) (get_or d.replies i Silent)
   pub suited : (i : ℕ) → i < length ops → has_ended (op_at v i).phase ≡ false → Suits (op_in ops i) (room_at d.rooms i)
 
 -- The stack goes on from one view to the next: it follows the walk still, with this left of the stored blocks, and what wasn't carried is not on record.
@@ -199,17 +209,9 @@ pub record WalksAtTarget (course : Course) (m : Setting) (n : ℕ) (opening : St
 abbrev pub WalksTold : (m : Setting) (n : ℕ) (opening : State) (first : ℕ) → Stack → (units : Option (List Stored)) (armed : List FaultLine) → Standing → (log : List Entry) → Type 0
 WalksTold m n opening first s units armed st log = WalksAtTarget Straight m n opening first s units armed st log
 
--- An overwrite has ended whose store call failed: nobody knows what it left.
-pub record HasFailed (s : Stack) : Type 0 where
-  pub view : View
-  pub holds : Holds (plan_in s.sheet) s.machine view
-  pub op : ℕ
-  pub ended : has_ended (op_at view op).phase ≡ true
-  pub failed : is_medium (get_or s.replies.items op Silent) ≡ true
-
--- and whether or not some failed, as long as none of them was an overwrite's.
+-- and whether or not some failed.
 abbrev pub WalksFalling : (m : Setting) (n : ℕ) (opening : State) (first : ℕ) → Stack → (units : Option (List Stored)) (armed : List FaultLine) → Standing → (log : List Entry) → Type 0
-WalksFalling m n opening first s units armed st log = HasFailed s ⊎ WalksAtTarget Falling m n opening first s units armed st log
+WalksFalling m n opening first s units armed st log = (flips : Flips) × WalksAtTarget (Falling flips) m n opening first s units armed st log
 
 -- the cells with which a stack begins: its pages are those of these, and no frame was carried yet
 pub record Opens (opening : State) (s : Stack) : Type 0 where
@@ -282,19 +284,43 @@ IsKnown (FetchPi v n body tuples) reply = Unit {0}
 IsKnown (Overwrite dev lba change) reply = reply ≡ Silent
 IsKnown Wait reply = Unit {0}
 
--- What ops replied that have ended is as it was.
-abbrev pub KeepsReplies : (old new : Stack) → Type 0
-KeepsReplies old new = (v : View) (i : ℕ) → Holds (plan_in old.sheet) old.machine v → has_ended (op_at v i).phase ≡ true → get_or new.replies.items i Silent ≡ get_or old.replies.items i Silent
+-- where an overwrite fails, some block of its size is left in its place, and nothing else is changed
+abbrev pub LeavesOwn : Op → List Stored → Option (List Stored) → Type 0
+LeavesOwn (Fill seg byte) us units = Unit {0}
+LeavesOwn (Put page off bytes) us units = Unit {0}
+LeavesOwn (Show seg) us units = Unit {0}
+LeavesOwn (Seal n body tuples app rtag) us units = Unit {0}
+LeavesOwn (Write v n body app) us units = Unit {0}
+LeavesOwn (Fetch v n body) us units = Unit {0}
+LeavesOwn (WritePi v n body tuples) us units = Unit {0}
+LeavesOwn (FetchPi v n body tuples) us units = Unit {0}
+LeavesOwn (Overwrite dev lba change) us units = (block : List ℕ) × ((length block ≡ frame_size (unit_at us dev)) × (units ≡ Some (with_block us dev lba block)))
+LeavesOwn Wait us units = Unit {0}
 
--- An op is admitted. Where a rig tells its blocks, it tells afterwards what the op leaves, if that is known; if it isn't, the op is an overwrite that failed, and the count of faults rose.
+-- an op that is done as it is, by its reply: where it is known which store calls failed, it says that its own didn't
+abbrev pub KnownBy : Course → Op → Reply → Type 0
+KnownBy Straight op reply = Unit {0}
+KnownBy (Falling flips) op reply = IsKnown op reply
+
+-- An overwrite is admitted whose store call fails. Whatever it leaves in its block, of its size, the stack follows the walk with that; and a rig that tells its blocks tells what it left there.
+pub record Fails (units units' : Option (List Stored)) (op : Op) (old new : Stack) : Type 0 where
+  pub dev : ℕ
+  pub lba : ℕ
+  pub change : Change
+  pub is : op ≡ Overwrite dev lba change
+  pub walks : (flips : Flips) (over : Setting) (n : ℕ) (opening : State) (es : List Sent) (left : List (List ℕ)) → IsOver over n opening old.sheet old.adapter old.host → WalksBy (Falling flips) over n opening es left old
+      → (block : List ℕ) → length block ≡ length (get_or left (over.site.cell dev lba) []) → (flips' : Flips) × WalksBy (Falling flips') over n opening es (set left (over.site.cell dev lba) block) new
+  pub tells : (us : List Stored) → units ≡ Some us → (block : List ℕ) × ((length block ≡ frame_size (unit_at us dev)) × (units' ≡ Some (with_block us dev lba block)))
+
+-- An op is admitted. Where a rig tells its blocks, it tells afterwards what the op leaves; or the op is an overwrite that failed, and the count of faults rose.
 pub record Enters (told_is : Bool) (st : Standing) (units units' : Option (List Stored)) (count count' : ℕ) (old new : Stack) : Type 0 where
   pub op : Op
   pub reply : Reply
   pub reach : CanReach told_is st op
-  pub known : IsKnown op reply ⊎ HasFailed new
+  pub known : IsKnown op reply ⊎ Fails units units' op old new
   pub calm : Calm count count' → IsKnown op reply
-  pub keeps : KeepsReplies old new
-  pub walks : (course : Course) (over : Setting) (n : ℕ) (opening : State) (es : List Sent) (left : List (List ℕ)) → IsOver over n opening old.sheet old.adapter old.host → WalksBy course over n opening es left old → WalksBy course over n opening es (op_left over op left) new
+  pub walks : (course : Course) → KnownBy course op reply → (over : Setting) (n : ℕ) (opening : State) (es : List Sent) (left : List (List ℕ)) → IsOver over n opening old.sheet old.adapter old.host → WalksBy course over n opening es left old
+      → WalksBy course over n opening es (op_left over op left) new
   pub tells : (us : List Stored) → units ≡ Some us → IsKnown op reply → units' ≡ Some (units_left op us)
 
 -- ---- at the end
@@ -306,3 +332,13 @@ pub record EndsTold (m : Setting) (n : ℕ) (opening : State) (ops : List Op) (s
   pub blocks : blocks_told us ≡ (script_walk m ops (hidden n opening)).blocks
   pub carried : Carried m ops (hidden n opening) log
   pub backed : Backed m ops (hidden n opening) log s.replies.items
+
+-- An overwrite flips its block just where it replied that its store call failed.
+abbrev pub FlipsAsReplied : Flips → List Op → List Reply → Type 0
+FlipsAsReplied flips ops replies = (i : ℕ) → i < length ops → is_overwrite (op_in ops i) ≡ true → is_some (flips (suc i)) ≡ is_medium (get_or replies i Silent)
+
+-- And where store calls failed: they are those of the script's walk in which just these fail, and in which an overwrite whose own failed flips its block.
+pub record EndsFallen (m : Setting) (n : ℕ) (opening : State) (ops : List Op) (pages : List ℕ) (blocks : List (List ℕ)) (replies : List Reply) (es : List Sent) : Type 0 where
+  pub flips : Flips
+  pub replied : FlipsAsReplied flips ops replies
+  pub ends : EndsAsFalling m n (with_flips flips 1 ops) opening pages blocks replies es

@@ -16,13 +16,12 @@ ghost use Rattle.run_record.specs.BackedRun.{Backed};
 ghost use Rattle.run_record.specs.Records.{recorded};
 ghost use Rattle.run_record.specs.ToldRun.{told};
 ghost use Rattle.run_follows.specs.Takes.{AllTakeAny};
-ghost use Rattle.run_falls.specs.AtTheEnd.{EndsAsFalling};
 ghost use Rattle.dix_adapter.specs.Ways.{blocks_told};
 ghost use Rattle.stack_core.specs.declared.stack.Stack.{Stack as AnyStack};
 ghost use Rattle.stack_core.specs.Mediums.{HasCounted, RoseBy, medium_lines};
 ghost use Rattle.stack_core.specs.OnRecord.{AreRecords, HasSent, ListsNone};
 ghost use Rattle.stack_core.specs.Stacks.{IsStack, plan_in};
-ghost use Rattle.stack_core.specs.Walking.{EndsTold, HasFails, NoneFailed, Walks, WalksFalling, WalksTold};
+ghost use Rattle.stack_core.specs.Walking.{EndsFallen, EndsTold, HasFails, Walks, WalksFalling, WalksTold};
 ghost use Rattle.page_pool.specs.Cells.{flat};
 ghost use Rattle.page_pool.specs.Pages.{AllLieIn, AreWhole};
 ghost use Rattle.pi_tuple.specs.declared.checks.PiType.{PiType as AnyType};
@@ -85,13 +84,14 @@ pub fn a_finished_stack_has_done_the_walk()
         → IsBoundRun m fine n s.sheet.ops opening → EndsTold m n opening s.sheet.ops s us (drop first log) }
 {}
 
-/// And where store calls failed, but none of an overwrite: they are those of the script's walk in which just these calls
-/// fail, and the log holds what that walk carries.
+/// And where store calls failed: they are those of the script's walk in which just these calls fail, in which each
+/// overwrite whose own failed flips its block somehow, and the log holds what that walk carries. What is as long as a fine
+/// block is fine in its place.
 pub fn a_finished_stack_has_done_the_falling_walk()
     ensures { (m : Setting) (fine : ℕ → List ℕ → Bool) (n : ℕ) (opening : State) (first : ℕ) (s : AnyStack) (us : List Stored) (armed : List FaultLine) (st : Standing) (log : List Entry) → IsStack s
-        → WalksFalling m n opening first s (Some us) armed st log → ((v : View) → Holds (plan_in s.sheet) s.machine v → enabled (plan_in s.sheet) v ≡ []) → HasFails m s.replies.items → NoneFailed s.replies.items
-        → IsBoundRun m fine n s.sheet.ops opening → AllTakeAny m fine 1 s.sheet.ops
-        → EndsAsFalling m n s.sheet.ops opening (take n (flat s.pool)) (blocks_told us) s.replies.items (recorded m (drop first log)) }
+        → WalksFalling m n opening first s (Some us) armed st log → ((v : View) → Holds (plan_in s.sheet) s.machine v → enabled (plan_in s.sheet) v ≡ []) → HasFails m s.replies.items
+        → ((c : ℕ) (old new : List ℕ) → length new ≡ length old → fine c old ≡ true → fine c new ≡ true) → IsBoundRun m fine n s.sheet.ops opening → AllTakeAny m fine 1 s.sheet.ops
+        → EndsFallen m n opening s.sheet.ops (take n (flat s.pool)) (blocks_told us) s.replies.items (recorded m (drop first log)) }
 {}
 
 /// Over any rig: since its first step, a stack that came to its end by a schedule made at most as many records as its

@@ -1,6 +1,6 @@
 //! The stack and its steps.
 
-ghost use Rattle.std.specs.Prelude.{◌≡◌, ◌<◌, ◌≤◌, ◌+◌, ◌*◌, ◌↔◌, ◌^◌, ◌⊎◌, ℕ, IsTrue, false, List, [], Some, is_some, length, slice_index_or, slice_set};
+ghost use Rattle.std.specs.Prelude.{◌≡◌, ◌<◌, ◌≤◌, ◌+◌, ◌*◌, ◌↔◌, ◌^◌, ◌⊎◌, ℕ, IsTrue, true, false, List, [], Some, is_some, length, slice_index_or, slice_set};
 ghost use Rattle.stack_view.specs.Runs.{blocks_of_requests};
 ghost use Rattle.stack_view.specs.Steps.{enabled};
 ghost use Rattle.stack_view.specs.View.{View};
@@ -12,9 +12,9 @@ ghost use Rattle.stack_core.specs.Replies.{HoldsSeal};
 ghost use Rattle.stack_ops.specs.declared.reply.Reply.TheVariants.{Medium, Silent};
 ghost use Rattle.stack_core.specs.Done.{MadeBy, OpDone, Sealed, WriteMade, WriteMapped};
 ghost use Rattle.stack_core.specs.Doing.{CanDo, CanReach, HasBlocks};
-ghost use Rattle.stack_core.specs.Walking.{Enters, IsChosen, IsKnown, KeepsReplies, NoneFailed, Walks, WalksFalling, WalksOn, WalksTold, is_medium, units_left};
+ghost use Rattle.stack_core.specs.Walking.{Enters, IsChosen, IsKnown, LeavesOwn, NoneFailed, Walks, WalksFalling, WalksOn, WalksTold, is_medium, units_left};
 ghost use Rattle.dix_base.specs.Told.{Calm};
-ghost use Rattle.rig_api.specs.Telling.{block_at, changed, with_block};
+ghost use Rattle.rig_api.specs.Telling.{block_at, changed, frame_size, unit_at, with_block};
 ghost use Rattle.target_answer.specs.Target.{Stored};
 ghost use Rattle.block_path.specs.Acts.{State};
 ghost use Rattle.whole_run.specs.Settings.{Setting};
@@ -149,7 +149,6 @@ impl Stack {
         ensures silent { NoneFailed self.old.replies.items → NoneFailed self.new.replies.items }
         ensures kept { self.new.kept ≡ self.old.kept }
         ensures few { medium_replies self.new.replies.items ≤ medium_replies self.old.replies.items }
-        ensures others { IsChosen self.old (End q) → KeepsReplies self.old self.new }
     {
         let op = self.machine.end(&self.sheet, q) as usize;
         let room = take_room(&mut self.rooms, op);
@@ -362,6 +361,7 @@ fn overwrite<R: Rig>(rig: &mut R, dev: u32, lba: u64, change: &Change) -> Reply
     ensures log { R.log rig.new ≡ R.log rig.old }
     ensures count { R.faults rig.old ≤ R.faults rig.new }
     ensures left { (us : List Stored) → R.units rig.old ≡ Some us → result ≡ Silent → R.units rig.new ≡ Some (with_block us dev lba (changed us change.now (block_at us dev lba))) }
+    ensures failed { (us : List Stored) → R.units rig.old ≡ Some us → is_medium result ≡ true → (block : List ℕ) × ((length block ≡ frame_size (unit_at us dev)) × (R.units rig.new ≡ Some (with_block us dev lba block))) }
     ensures silent { Calm (R.faults rig.old) (R.faults rig.new) → is_medium result ≡ false }
 {
     match rig.overwrite(dev, lba, change) {
@@ -383,6 +383,7 @@ fn do_op<R: Rig>(pool: &mut PagePool, op: &Op, kind: GuardKind, room: Room, rig:
     ensures log { R.log rig.new ≡ R.log rig.old }
     ensures count { R.faults rig.old ≤ R.faults rig.new }
     ensures left { (us : List Stored) → R.units rig.old ≡ Some us → IsKnown op.now result → R.units rig.new ≡ Some (units_left op.now us) }
+    ensures failed { (us : List Stored) → R.units rig.old ≡ Some us → is_medium result ≡ true → LeavesOwn op.now us (R.units rig.new) }
     ensures silent { Calm (R.faults rig.old) (R.faults rig.new) → is_medium result ≡ false }
 {
     match op {

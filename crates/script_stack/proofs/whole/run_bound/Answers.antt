@@ -73,5 +73,5 @@ returns-clause-ran g c =
       sends = sent_by s t devices words begun r (g.R.Rig.image ready) (g.R.Rig.image end) before after c.a_finished_stack_has_sent.ensures.few c.a_finished_stack_has_sent.ensures.all o;
       medium = subst (λ n. RoseBy (medium_lines r.replies.items) n (g.R.Rig.faults end)) made_ready.count (few_lines s t devices words begun r (g.R.Rig.image ready) (g.R.Rig.image end) before after c.a_finished_stack_names_the_medium_seldom.ensures o);
       told = λ us e none. walked_at s t devices words begun r (g.R.Rig.image ready) (g.R.Rig.image end) before after c.a_told_script_run_has_walked.ensures o us (units-ready us e) none;
-      fallen = λ us e none. fallen_at s t devices words begun r (g.R.Rig.image ready) (g.R.Rig.image end) before after c.a_told_script_run_has_fallen.ensures o us (units-ready us e) none;
+      fallen = λ us e. fallen_at s t devices words begun r (g.R.Rig.image ready) (g.R.Rig.image end) before after c.a_told_script_run_has_fallen.ensures o us (units-ready us e);
     }

@@ -51,5 +51,5 @@ returns-in-Ok-run_bound-clause-followed g c =
       sends = sends_own s left t ran.more r.replies.items ran.sends;
       medium = ran.medium;
       told = λ us e none. (let x = ran.told us (c.found_devices.ensures.units ∙ e) none in (x.0, (x.1.0, walked_by s left t us x.0 r.pool ran.more r.replies.items x.1.1)));
-      fallen = λ us e none. (let x = ran.fallen us (c.found_devices.ensures.units ∙ e) none in (x.0, (x.1.0, fallen_by s left t us x.0 r.pool ran.more r.replies.items x.1.1)));
+      fallen = λ us e. (let x = ran.fallen us (c.found_devices.ensures.units ∙ e) in (x.0, (x.1.0, fallen_by s left t us x.0 r.pool ran.more r.replies.items x.1.1)));
     }

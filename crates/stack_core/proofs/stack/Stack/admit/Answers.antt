@@ -15,10 +15,10 @@ use Rattle.stack_core.specs.Stacks.{room_at}
 use Rattle.stack_ops.specs.declared.reply.Reply.TheVariants.{Silent}
 use Rattle.stack_walks.specs.Sheets.{io_at, op_in}
 use Rattle.stack_ops.specs.declared.op.Op.TheVariants.{Wait}
-use Rattle.stack_core.specs.Walking.{IsKnown, NoneFailed, data_of, units_left, is_medium}
-use Rattle.stack_core.proofs.Failed.{admit_apart, has_failed, kept_reply, known_calm, known_done}
+use Rattle.stack_core.specs.Walking.{IsKnown, LeavesOwn, NoneFailed, data_of, units_left, is_medium}
+use Rattle.stack_core.proofs.Failed.{is_overwrite_done, known_calm, known_done, quiet_by}
 use Rattle.stack_core.proofs.Failing.{one-more}
-use Rattle.stack_core.proofs.Walked.{walk_admits, walk_op}
+use Rattle.stack_core.proofs.Walked.{walk_admits, walk_fails, walk_op}
 use Rattle.stack_core.specs.Mediums.{RoseBy, medium_replies}
 use Rattle.stack_core.proofs.StackCounts.{set_rises}
 use Rattle.stack_core.proofs.stack.Stack.admit.Goals as goal
@@ -106,8 +106,7 @@ returns-then-io-gt0-clause-walks g c = λ ch.
       reach = tt;
       known = inl tt;
       calm = λ calm. tt;
-      keeps = λ v j h e. refl;
-      walks = λ course over n opening es left o w. walk_admits over n opening es left s c.requires.stack o w _ c.args.q c.admit-op.result (record { sheet = refl; adapter = refl; host = refl }) ch (c.admit-op.ensures.step 0) c.admit-op.ensures.op some c.make_tuples.new.pool made refl;
+      walks = λ course known over n opening es left o w. walk_admits over n opening es left s c.requires.stack o w _ c.args.q c.admit-op.result (record { sheet = refl; adapter = refl; host = refl }) ch (c.admit-op.ensures.step 0) c.admit-op.ensures.op some c.make_tuples.new.pool made refl;
       tells = λ us e known. e;
     })
 
@@ -122,20 +121,26 @@ returns-clause-walks g c = λ ch.
     let done' = subst (λ room. OpDone (op_in s.sheet.ops i) s.adapter.kind room s.pool c.do_op-done.new.pool c.do_op-done.result) c.take_room-room.ensures.room done in
     let li = op-enters s.sheet.ops s.sheet.shifted.items s.sheet.ios.items s.sheet.table s.sheet.limits s.sheet.devices s.machine c.args.q i s.sheet.right.fine c.requires.ready c.admit-op.ensures.op in
     let f = c.requires.stack.fixed.ops in
+    let same = ap (λ x. record d { pool = c.do_op-done.new.pool; rooms = x; replies = c.set_reply.new.replies.items }) c.take_room-room.ensures.rooms ∙ ap (λ x. record d { pool = c.do_op-done.new.pool; rooms = set s.rooms.items i Nothing; replies = x }) c.set_reply.ensures in
     record {
       op = op_in s.sheet.ops i;
       reply = c.do_op-done.result;
       reach = c.requires.rig.blocks i (omega arith);
       known = elim (known_done (op_in s.sheet.ops i) s.adapter.kind (room_at s.rooms.items i) s.pool c.do_op-done.new.pool c.do_op-done.result done') [
         | inl k ↦ inl k
-        | inr m ↦ inr (has_failed s _ c.args.q i c.do_op-done.result (record { sheet = refl; adapter = refl; host = refl }) c.requires.ready c.admit-op.ensures.op (c.admit-op.ensures.step 0)
-            (ap (λ r. r.count) (request-at s.sheet.ios.items i) ∙ empty)
-            (ap (λ rs. get_or rs i Silent) c.set_reply.ensures ∙ get_or-set_same s.replies.items i c.do_op-done.result Silent (let long = c.requires.stack.replies in omega (arith, long, li))) m)
+        | inr m ↦ (let x = is_overwrite_done (op_in s.sheet.ops i) s.adapter.kind (room_at s.rooms.items i) s.pool c.do_op-done.new.pool c.do_op-done.result done' m in inr (record {
+          dev = x.dev;
+          lba = x.lba;
+          change = x.change;
+          is = x.is;
+          walks = λ flips over n opening es left o w block long. walk_fails flips over n opening es left s c.requires.stack o w _ c.args.q i (record { sheet = refl; adapter = refl; host = refl }) ch (c.admit-op.ensures.step 0) c.admit-op.ensures.op empty c.do_op-done.new.pool c.do_op-done.result done'
+              x.dev x.lba x.change x.is m block long same;
+          tells = λ us e. subst (λ op. LeavesOwn op us (g.R.Rig.units c.do_op-done.new.rig)) (c.op.ensures ∙ x.is) (c.do_op-done.ensures.failed us e m);
+        }))
       ];
       calm = λ calm. known_calm (op_in s.sheet.ops i) s.adapter.kind (room_at s.rooms.items i) s.pool c.do_op-done.new.pool c.do_op-done.result done' (c.do_op-done.ensures.silent calm);
-      keeps = λ v j h e. ap (λ rs. get_or rs j Silent) c.set_reply.ensures ∙ kept_reply s.replies.items i j c.do_op-done.result v (admit_apart (plan_in s.sheet) s.machine ch.0 c.args.q i ch.1 ch.2 c.admit-op.ensures.op v h) e;
-      walks = λ course over n opening es left o w. walk_op over n opening es left s c.requires.stack o w _ c.args.q i (record { sheet = refl; adapter = refl; host = refl }) ch (c.admit-op.ensures.step 0) c.admit-op.ensures.op empty c.do_op-done.new.pool c.do_op-done.result done'
-          (ap (λ x. record d { pool = c.do_op-done.new.pool; rooms = x; replies = c.set_reply.new.replies.items }) c.take_room-room.ensures.rooms ∙ ap (λ x. record d { pool = c.do_op-done.new.pool; rooms = set s.rooms.items i Nothing; replies = x }) c.set_reply.ensures);
+      walks = λ course known over n opening es left o w. walk_op over n opening es left s c.requires.stack o w _ c.args.q i (record { sheet = refl; adapter = refl; host = refl }) ch (c.admit-op.ensures.step 0) c.admit-op.ensures.op empty c.do_op-done.new.pool c.do_op-done.result
+          (quiet_by course (op_in s.sheet.ops i) s.adapter.kind (room_at s.rooms.items i) s.pool c.do_op-done.new.pool c.do_op-done.result done' known) done' same;
       tells = λ us e known. c.do_op-done.ensures.left us e (subst (λ op. IsKnown op c.do_op-done.result) (sym c.op.ensures) known) ∙ ap (λ op. Some (units_left op us)) c.op.ensures;
     })
 

@@ -11,7 +11,6 @@ use Rattle.stack_core.specs.declared.kept.Room.TheVariants.{Nothing}
 use Rattle.stack_core.specs.Replies.{reply_of}
 use Rattle.stack_walks.specs.Sheets.{io_at}
 use Rattle.stack_core.specs.Walking.{NoneFailed, data_of, is_medium}
-use Rattle.stack_core.proofs.Failed.{end_apart, kept_reply}
 use Rattle.stack_core.proofs.Failing.{one-more, request-silent}
 use Rattle.stack_ops.specs.declared.reply.Reply.TheVariants.{Silent}
 use Rattle.stack_core.proofs.Walked.{walk_ends}
@@ -87,8 +86,3 @@ returns-clause-few c =
     let a = few_replies c.args.self.now.replies.items c.end-op.result c.reply_of.result (ap one_reply c.reply_of.ensures ∙ request_quiet c.of-fates.result.now c.take_room-room.result) in
     let e = ap medium_replies c.set_reply.ensures in
     omega (arith, a, e)
-
-pub returns-clause-others : goal.returns-clause-others
-returns-clause-others c = λ ch v j h e.
-    (let s = c.args.self.now in
-    ap (λ rs. get_or rs j Silent) c.set_reply.ensures ∙ kept_reply s.replies.items c.end-op.result j c.reply_of.result v (end_apart (plan_in s.sheet) s.machine ch.0 c.args.q c.end-op.result ch.1 ch.2 c.end-op.ensures.op v h) e)

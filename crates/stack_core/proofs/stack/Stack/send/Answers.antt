@@ -11,7 +11,6 @@ use Rattle.dix_adapter.specs.Carried.{Shown}
 use Rattle.stack_core.specs.declared.stack.Stack.{Stack}
 use Rattle.stack_core.specs.Walking.{Walks, WalksFalling, WalksTold}
 use Rattle.stack_core.proofs.WalkedRecord.{walk_sends}
-use Rattle.stack_core.proofs.Failed.{failed_on}
 use Rattle.stack_core.proofs.Steps.{one-send}
 use Rattle.stack_core.proofs.WalkedTold.{told_sends}
 use Rattle.stack_core.proofs.Mediums.{spoiled_by}
@@ -142,13 +141,12 @@ returns-clause-falling g c = λ ch m n opening first w.
     let came_in = rw (c.ios.ensures, c.deref.ensures.value) at c.carry.ensures.came_in in
     let stays : Stays s after = record { sheet = refl; adapter = refl; host = refl } in
     let flies = rw (c.deref-2.ensures.value, c.deref-3.ensures.value) at c.fly.ensures in
-    subst (λ st. WalksFalling m n opening first after (g.R.Rig.units b) (g.R.Rig.armed b) st (g.R.Rig.log b)) (sym c.carry.ensures.standing)
-    (elim w [
-      | inl f ↦ inl (failed_on s after ch.0 0 stays ch.2 (one-send (plan_in s.sheet) s.machine c.take.new.self c.fly.new.self ch.0 0 c.args.d c.args.i c.take.new.group.items c.carry.new.fates.items ch.1 c.take.ensures.takes flies settles) (λ v j x e. refl) f)
-      | inr t ↦ inr (told_sends m n opening first s (g.R.Rig.units a) (g.R.Rig.armed a) (g.R.Rig.standing a) (g.R.Rig.log a) c.requires.stack t after c.args.d c.args.i c.take.new.group.items c.carry.new.fates.items c.take.new.self stays ch c.take.ensures.takes (rw (c.deref-2.ensures.value, c.deref-3.ensures.value) at c.fly.ensures) settles refl
+    subst (λ st. WalksFalling m n opening first after (g.R.Rig.units b) (g.R.Rig.armed b) st (g.R.Rig.log b)) (sym c.carry.ensures.standing) (
+      w.0,
+      (told_sends m n opening first s (g.R.Rig.units a) (g.R.Rig.armed a) (g.R.Rig.standing a) (g.R.Rig.log a) c.requires.stack w.1 after c.args.d c.args.i c.take.new.group.items c.carry.new.fates.items c.take.new.self stays ch c.take.ensures.takes (rw (c.deref-2.ensures.value, c.deref-3.ensures.value) at c.fly.ensures) settles refl
           old new (g.R.Rig.image a) refl refl refl c.carry.ensures.armed tt (g.met.R.Rig.laid a) (g.met.R.Rig.ready a) c.requires.rig.devices
-          (λ e q. ((unsent e q).0, (ap g.R.Rig.log (unsent e q).1, ap g.R.Rig.units (unsent e q).1))) (λ e q. (sent e q).pool_is) (λ e. (fetched e).whole) out came went_out came_in)
-    ]))
+          (λ e q. ((unsent e q).0, (ap g.R.Rig.log (unsent e q).1, ap g.R.Rig.units (unsent e q).1))) (λ e q. (sent e q).pool_is) (λ e. (fetched e).whole) out came went_out came_in),
+    ))
 
 pub returns-clause-goes : goal.returns-clause-goes
 returns-clause-goes g c =

@@ -4,7 +4,6 @@ use Rattle.stack_steps.specs.declared.choice.Choice.TheVariants.{Admit, Complete
 use Rattle.stack_steps.specs.Does.{Chooses}
 use Rattle.stack_core.specs.Stacks.{plan_in}
 use Rattle.stack_ops.specs.declared.reply.Reply.TheVariants.{Silent}
-use Rattle.stack_core.proofs.Failed.{failed_on}
 use Rattle.stack_core.proofs.Goes.{goes-nowhere}
 use Rattle.stack_core.proofs.Going.{can-step, spare-left}
 use Rattle.stack_core.proofs.StackCounts.{few_counts, same_counts, sent_counts, step_counts, still_counts}
@@ -171,28 +170,24 @@ pub returns-in-End-clause-falling : goal.returns-in-End-clause-falling
 returns-in-End-clause-falling g c = λ m n opening first w.
     (let h : Chooses (plan_in c.args.self.now.sheet) c.args.self.now.machine c.args.word (End c.in-End.q) = rw c.in-End.is at c.choose-choice.ensures in
     falling_on m n opening first c.args.self.now c.end.new.self (g.R.Rig.units c.args.rig.now) (g.R.Rig.armed c.args.rig.now) (g.R.Rig.standing c.args.rig.now) (g.R.Rig.log c.args.rig.now) c.requires.stack c.end.ensures.stays
-    (failed_on c.args.self.now c.end.new.self c.args.word c.args.cut c.end.ensures.stays c.requires.some (one-step (plan_in c.args.self.now.sheet) c.args.self.now.machine c.end.new.self.machine c.args.word c.args.cut (End c.in-End.q) tt h (c.end.ensures.step c.args.cut)) (c.end.ensures.others (c.args.word, h, c.requires.some)))
     (c.end.ensures.walks (c.args.word, h, c.requires.some)) w)
 
 pub returns-in-Complete-clause-falling : goal.returns-in-Complete-clause-falling
 returns-in-Complete-clause-falling g c = λ m n opening first w.
     (let h : Chooses (plan_in c.args.self.now.sheet) c.args.self.now.machine c.args.word (Complete c.in-Complete.i) = rw c.in-Complete.is at c.choose-choice.ensures in
     falling_on m n opening first c.args.self.now c.complete.new.self (g.R.Rig.units c.args.rig.now) (g.R.Rig.armed c.args.rig.now) (g.R.Rig.standing c.args.rig.now) (g.R.Rig.log c.args.rig.now) c.requires.stack c.complete.ensures.stays
-    (failed_on c.args.self.now c.complete.new.self c.args.word c.args.cut c.complete.ensures.stays c.requires.some (one-step (plan_in c.args.self.now.sheet) c.args.self.now.machine c.complete.new.self.machine c.args.word c.args.cut (Complete c.in-Complete.i) tt h (c.complete.ensures.step c.args.cut)) (λ v j x e. ap (λ rs. get_or rs j Silent) c.complete.ensures.replies))
     (c.complete.ensures.walks (c.args.word, h, c.requires.some)) w)
 
 pub returns-in-Cut-clause-falling : goal.returns-in-Cut-clause-falling
 returns-in-Cut-clause-falling g c = λ m n opening first w.
     (let h : Chooses (plan_in c.args.self.now.sheet) c.args.self.now.machine c.args.word (Cut c.in-Cut.q) = rw c.in-Cut.is at c.choose-choice.ensures in
     falling_on m n opening first c.args.self.now c.cut.new.self (g.R.Rig.units c.args.rig.now) (g.R.Rig.armed c.args.rig.now) (g.R.Rig.standing c.args.rig.now) (g.R.Rig.log c.args.rig.now) c.requires.stack c.cut.ensures.stays
-    (failed_on c.args.self.now c.cut.new.self c.args.word c.args.cut c.cut.ensures.stays c.requires.some (one-step (plan_in c.args.self.now.sheet) c.args.self.now.machine c.cut.new.self.machine c.args.word c.args.cut (Cut c.in-Cut.q) tt h c.cut.ensures.step) (λ v j x e. ap (λ rs. get_or rs j Silent) c.cut.ensures.replies))
     (c.cut.ensures.walks (c.args.word, h, c.requires.some)) w)
 
 pub returns-in-Join-clause-falling : goal.returns-in-Join-clause-falling
 returns-in-Join-clause-falling g c = λ m n opening first w.
     (let h : Chooses (plan_in c.args.self.now.sheet) c.args.self.now.machine c.args.word (Join c.in-Join.d c.in-Join.i c.in-Join.j) = rw c.in-Join.is at c.choose-choice.ensures in
     falling_on m n opening first c.args.self.now c.join.new.self (g.R.Rig.units c.args.rig.now) (g.R.Rig.armed c.args.rig.now) (g.R.Rig.standing c.args.rig.now) (g.R.Rig.log c.args.rig.now) c.requires.stack c.join.ensures.stays
-    (failed_on c.args.self.now c.join.new.self c.args.word c.args.cut c.join.ensures.stays c.requires.some (one-step (plan_in c.args.self.now.sheet) c.args.self.now.machine c.join.new.self.machine c.args.word c.args.cut (Join c.in-Join.d c.in-Join.i c.in-Join.j) tt h (c.join.ensures.step c.args.cut)) (λ v j x e. ap (λ rs. get_or rs j Silent) c.join.ensures.replies))
     (c.join.ensures.walks (c.args.word, h, c.requires.some)) w)
 
 pub returns-in-Admit-clause-falling : goal.returns-in-Admit-clause-falling
@@ -202,8 +197,7 @@ returns-in-Admit-clause-falling g c = λ m n opening first w.
     let b = c.admit.new.rig in
     let enters = c.admit.ensures.walks (c.args.word, h, c.requires.some) in
     let x = falling_entered m n opening first c.args.self.now c.admit.new.self (g.R.Rig.image a) (g.R.Rig.standing a) (g.R.Rig.units a) (g.R.Rig.units b) (g.R.Rig.armed a) (g.R.Rig.armed b) (g.R.Rig.faults a) (g.R.Rig.faults b) (g.R.Rig.log a)
-    c.requires.stack c.admit.ensures.stays
-    (failed_on c.args.self.now c.admit.new.self c.args.word c.args.cut c.admit.ensures.stays c.requires.some (one-step (plan_in c.args.self.now.sheet) c.args.self.now.machine c.admit.new.self.machine c.args.word c.args.cut (Admit c.in-Admit.q) tt h (c.admit.ensures.step c.args.cut)) enters.keeps) enters (g.met.R.Rig.laid a) (g.met.R.Rig.ready a) c.admit.ensures.armed w in
+    c.requires.stack c.admit.ensures.stays enters (g.met.R.Rig.laid a) (g.met.R.Rig.ready a) c.admit.ensures.armed w in
     subst (λ st. WalksFalling m n opening first c.admit.new.self (g.R.Rig.units b) (g.R.Rig.armed b) st (g.R.Rig.log b)) (sym c.admit.ensures.standing) (subst (λ log. WalksFalling m n opening first c.admit.new.self (g.R.Rig.units b) (g.R.Rig.armed b) (g.R.Rig.standing a) log) (sym c.admit.ensures.log) x))
 
 pub returns-in-Send-clause-falling : goal.returns-in-Send-clause-falling
