@@ -15,7 +15,11 @@ use Rattle.rig_api.specs.Head.{Head, fault_of_header, fault_under, head_fault, h
 use Rattle.rig_api.specs.declared.rig.RigFault.TheVariants.{BadLength}
 use Rattle.rig_api.specs.Telling.{IsStanding, Standing, StandsOn, specs_of, units_told}
 use Rattle.rig_discovery.proofs.Telling.{right_layout}
-use Rattle.image_commands.specs.Views.{bytes_told}
+
+-- the bytes of these units' blocks, one after another
+abbrev pub bytes_told : List Stored → List ℕ
+bytes_told [] = []
+bytes_told (u ∷ us) = joined u.blocks ++ bytes_told us
 
 -- ---- how long an image is
 

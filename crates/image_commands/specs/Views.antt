@@ -1,9 +1,8 @@
-use Rattle.std.specs.Prelude.{ℕ, ◌≡◌, ◌≤◌, ◌⊎◌, List, [], ◌∷◌, ◌++◌, take, Option, Some}
+use Rattle.std.specs.Prelude.{ℕ, ◌≡◌, ◌≤◌, ◌⊎◌, List, Option}
 use Rattle.rig_api.specs.Head.{IsHeadOf, head_fault}
 use Rattle.rig_api.specs.Log.{Entry}
 use Rattle.rig_api.specs.Telling.{Opened, Standing, Stayed}
 use Rattle.rig_api.specs.declared.rig.RigFault.{RigFault}
-use Rattle.target_answer.specs.Frames.{joined}
 use Rattle.target_answer.specs.Target.{Stored}
 
 -- what a rig means at a moment, as far as an op changes it
@@ -39,12 +38,3 @@ pub record HasKept (old new : View) : Type 0 where
   pub image : new.image ≡ old.image
   pub log : new.seen.log ≡ old.seen.log
   pub count : old.seen.faults ≤ new.seen.faults
-
--- the bytes of these units' blocks, one after another
-abbrev pub bytes_told : List Stored → List ℕ
-bytes_told [] = []
-bytes_told (u ∷ us) = joined u.blocks ++ bytes_told us
-
--- Where the image was told, its bytes are the first 512 that it had, and then the blocks that the rig tells, one unit after another.
-abbrev pub HoldsBlocks : (old new : View) → Type 0
-HoldsBlocks old new = (image : List ℕ) → old.image ≡ Some image → (left : List Stored) × (new.seen.units ≡ Some left) × (new.image ≡ Some (take 512 image ++ bytes_told left))

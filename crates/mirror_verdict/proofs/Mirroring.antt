@@ -4,8 +4,7 @@ use Rattle.std.specs.Prelude.{is_some}
 use Rattle.dix_base.specs.Told.{AreOctets, Calm}
 use Rattle.fault_schedule.specs.declared.fault.FaultLine.{FaultLine}
 use Rattle.rig_api.specs.Telling.{IsStanding, Standing, specs_of, units_told}
-use Rattle.image_commands.specs.Views.{HoldsBlocks, View}
-use Rattle.image_commands.proofs.Bytes.{holds_blocks}
+use Rattle.image_commands.specs.Views.{View}
 use Rattle.rig_discovery.specs.Discovery.{info_of}
 use Rattle.target_answer.specs.Target.{Stored}
 use Rattle.script_stack.proofs.Octets.{blocks_octets}
@@ -14,8 +13,8 @@ use Rattle.whole_run.specs.UnderMap.{home}
 use Rattle.script_text.specs.declared.script.Script.{Script}
 use Rattle.script_stack.specs.Followed.{SizesAre}
 use Rattle.script_stack.proofs.Following.{sizes-found, told-image, told-shapes, told-stored}
-use Rattle.script_verdict.proofs.Devices.{has_device, known_infos}
-use Rattle.script_verdict.specs.Verdict.{WasAsked}
+use Rattle.script_verdict.proofs.Devices.{has_device, image_holds, known_infos}
+use Rattle.script_verdict.specs.Verdict.{HoldsBlocks, WasAsked}
 use Rattle.leg_runs.specs.Standing.{HasDevices, IsBoundMirror, IsOver, IsRepairedAs}
 use Rattle.mirror_volume.specs.declared.mirror.Mirror.{Mirror}
 use Rattle.mirror_volume.proofs.Enough.{repaired-all}
@@ -86,7 +85,7 @@ as-repaired s devices us left pool replies marks repaired lost served =
 module _ (law : EnoughLaw) (by_form : FormedLaw) (unfaulted : StillLaw) (s : Script) (name : List ℕ) (devices : List DeviceInfo) (old told new : View) (begun : Mirror) (before armed : List FaultLine) (up : IsUp s name devices old told begun) (tells : is_some new.image ≡ is_some told.image) (laid : new.seen.units ≡ units_told new.standing new.image) (ready : IsStanding new.standing new.image) where
   -- the image afterwards
   holds : new.standing ≡ told.standing → HoldsBlocks told new
-  holds same = holds_blocks told.standing new.standing told.image new.image new.seen.units same (has_device name devices old told up.asked) up.ready ready laid tells
+  holds same = image_holds told new same (has_device name devices old told up.asked) up.ready ready laid tells
 
   -- by one of the laws, what it asks being `P`
   by-law : (P : List Stored → Type 0) → ((us left : List Stored) (marks : List Marks) (repaired lost : ℕ) → IsOver s devices us → HoldsBytes us → P us → IsRepairedAs s devices us (length s.ops) marks repaired lost left → WasEnough s devices us left lost)

@@ -4,7 +4,7 @@ use Rattle.fault_schedule.specs.declared.fault.FaultLine.{FaultLine}
 use Rattle.page_pool.specs.Cells.{flat}
 use Rattle.rig_api.specs.Head.{head_fault, head_of}
 use Rattle.image_commands.specs.Causes.{CauseUntold}
-use Rattle.image_commands.specs.Views.{HoldsBlocks, View}
+use Rattle.image_commands.specs.Views.{View}
 use Rattle.image_commands.specs.declared.fault.Fault.TheVariants as fault
 use Rattle.target_answer.specs.Target.{Stored}
 use Rattle.volume_table.specs.Faults.{table_fault}
@@ -14,7 +14,7 @@ use Rattle.script_text.specs.Language.{script_in}
 use Rattle.script_text.specs.declared.fault.ScriptFault.{ScriptFault}
 use Rattle.script_text.specs.declared.script.Script.{Script}
 use Rattle.script_stack.specs.Going.{Outside}
-use Rattle.script_verdict.specs.Verdict.{CauseUntaken, Facts, HasBadVolume, HasRead, HasTable, IsFromOutside, StoppedShort, WasAsked, devices_of, table_over}
+use Rattle.script_verdict.specs.Verdict.{CauseUntaken, Facts, HasBadVolume, HasRead, HasTable, HoldsBlocks, IsFromOutside, StoppedShort, WasAsked, devices_of, table_over}
 use Rattle.script_verdict.specs.declared.refusal.Refusal.{Refusal}
 use Rattle.script_verdict.specs.declared.refusal.Refusal.TheVariants as refusal
 use Rattle.mirror_script.specs.MirrorFaults.{mirror_fault}

@@ -1,16 +1,18 @@
-use Rattle.std.proofs.Common.{ℕ, ◌≡◌, ◌<◌, true, List, length, take, drop, Option, Some, None, sym, ap, ◌∙◌, arith}
+use Rattle.std.proofs.Common.{ℕ, ◌≡◌, ◌<◌, true, List, [], ◌∷◌, ◌++◌, length, take, drop, Option, Some, None, refl, sym, ap, ◌∙◌, append_assoc, arith}
 use Rattle.std.specs.Prelude.{is_some, map}
 use Rattle.std.proofs.Math.Seq.{take-length}
-use Rattle.image_commands.proofs.Bytes.{some_unit}
+use Rattle.image_commands.proofs.Bytes.{bytes_told, holds_blocks, some_unit}
 use Rattle.image_commands.proofs.Devices.{shapes}
 use Rattle.image_commands.specs.Views.{View}
 use Rattle.pi_scrub.specs.Scrubbed.{HasDevices}
 use Rattle.rig_api.specs.Head.{Head, IsHeadOf, head_of, units_of}
-use Rattle.rig_api.specs.Telling.{Standing, specs_of, units_told}
+use Rattle.rig_api.specs.Telling.{IsStanding, Standing, specs_of, units_told}
 use Rattle.rig_discovery.specs.Discovery.{info_of}
+use Rattle.dix_adapter.specs.Ways.{blocks_told}
+use Rattle.target_answer.specs.Frames.{joined}
 use Rattle.target_answer.specs.Target.{Stored}
 use Rattle.volume_table.specs.declared.device.DeviceInfo.{DeviceInfo}
-use Rattle.script_verdict.specs.Verdict.{WasAsked, devices_of}
+use Rattle.script_verdict.specs.Verdict.{HoldsBlocks, WasAsked, devices_of}
 
 -- The devices that a rig told, where it tells its image.
 
@@ -48,3 +50,17 @@ has_device name devices old new asked =
     let some = some_unit asked.told.between.standing.head asked.told.since.opened.judged in
     let same = ap (λ (s : Standing). length (units_of s.head)) asked.told.since.standing in
     omega (arith, some, same, asked.all)
+
+joined_append : (xs ys : List (List ℕ)) → joined (xs ++ ys) ≡ joined xs ++ joined ys
+joined_append [] ys = refl
+joined_append (x ∷ xs) ys = ap (λ v. x ++ v) (joined_append xs ys) ∙ sym (append_assoc x (joined xs) (joined ys))
+
+bytes_are : (us : List Stored) → bytes_told us ≡ joined (blocks_told us)
+bytes_are [] = refl
+bytes_are (u ∷ us) = ap (λ v. joined u.blocks ++ v) (bytes_are us) ∙ sym (joined_append u.blocks (blocks_told us))
+
+-- the image of a rig that was told before and after, and stands on devices
+pub image_holds : (old new : View) → new.standing ≡ old.standing → 0 < old.standing.devices → IsStanding old.standing old.image → IsStanding new.standing new.image → new.seen.units ≡ units_told new.standing new.image → is_some new.image ≡ is_some old.image → HoldsBlocks old new
+image_holds old new same some ready ready' laid' tells image e =
+    let h = holds_blocks old.standing new.standing old.image new.image new.seen.units same some ready ready' laid' tells image e in
+    (h.0, h.1, h.2 ∙ ap (λ v. Some (take 512 image ++ v)) (bytes_are h.0))

@@ -32,11 +32,11 @@ use Rattle.dix_adapter.specs.Ways.{blocks_told, shapes_of}
 use Rattle.script_verdict.specs.Fallen.{HasServed}
 use Rattle.script_verdict.specs.Premises.{IsDetectableRun, IsFormedRun, IsPlainRun, IsQuietRun}
 use Rattle.script_verdict.specs.Layers.{NamesFaults, NamesLayers}
+use Rattle.script_verdict.proofs.Devices.{image_holds}
 use Rattle.script_verdict.proofs.Fallen.{BroughtFallLaw, Ends, OwnFallLaw, ReadsFallLaw, served}
 use Rattle.script_verdict.proofs.Layers.{names-faults, names-layers, none-medium}
 use Rattle.script_verdict.proofs.Premises.{detectable_run, plain_run}
 use Rattle.image_commands.specs.Views.{View}
-use Rattle.image_commands.proofs.Bytes.{holds_blocks}
 use Rattle.page_pool.specs.declared.segs.Seg.{Seg}
 use Rattle.integrity_payload.specs.declared.payload.Owner.{Owner}
 use Rattle.whole_run.specs.ReadsAs.{ReadsRightly, read_op}
@@ -235,7 +235,7 @@ fallen_view s t devices begun r old new armed backed law reads own brought o us 
 pub followed : (s : Script) (t : Table) (devices : List DeviceInfo) (begun r : Stack) (old new : View) (armed : List FaultLine) → BackedLaw → FewLaw → AllLaw → MediumLaw → ToldLaw → RepliesLaw → UnderLaw → DetectionLaw → FormLaw → EscapeLaw → FallenLaw → ReadsFallLaw → OwnFallLaw → BroughtFallLaw → IsDone s t devices begun r old new armed → Followed s t devices old new r.pool r.replies.items
 followed s t devices begun r old new armed backed few all medium told same under detects form escape fallen reads own brought o = record {
   tells = o.over.tells;
-  holds = holds_blocks old.standing new.standing old.image new.image new.seen.units o.over.goes.standing o.some o.over.ready o.over.ready_after o.over.laid_after o.over.tells;
+  holds = image_holds old new o.over.goes.standing o.some o.over.ready o.over.ready_after o.over.laid_after o.over.tells;
   goes = o.over.goes;
   backed = backed_by s t devices s.schedule begun r old.image new.image (outside old s.faults) (outside new armed) backed o.over;
   sends = sends_own s [] t o.over.goes.more r.replies.items (sent_by s t devices s.schedule begun r old.image new.image (outside old s.faults) (outside new armed) few all o.over);

@@ -3,7 +3,7 @@ use Rattle.dix_base.specs.Told.{Calm, Rose}
 use Rattle.page_pool.specs.Pages.{IsBlank}
 use Rattle.dix_adapter.specs.Groups.{mode_of}
 use Rattle.image_commands.specs.Causes.{CauseUntold, WasTold}
-use Rattle.image_commands.specs.Views.{HasKept, HoldsBlocks, OpenedOnce, View}
+use Rattle.image_commands.specs.Views.{HasKept, OpenedOnce, View}
 use Rattle.image_commands.specs.declared.fault.Fault.TheVariants as fault
 use Rattle.rig_api.specs.Head.{head_fault, head_of, units_of}
 use Rattle.rig_discovery.specs.Discovery.{info_of}
@@ -35,6 +35,7 @@ use Rattle.stack_core.specs.declared.stack.Stack.{Stack}
 use Rattle.stack_ops.specs.declared.reply.Reply.{Reply}
 use Rattle.stack_steps.specs.Does.{Holds}
 use Rattle.stack_view.specs.Steps.{enabled}
+use Rattle.target_answer.specs.Frames.{joined}
 use Rattle.target_answer.specs.Target.{Stored}
 use Rattle.stack_view.specs.View.{View as StackView, start}
 use Rattle.volume_table.specs.Faults.{table_fault, volume_type}
@@ -164,7 +165,11 @@ abbrev pub AllReadRightly : Setting → List Op → State → List Reply → Typ
 AllReadRightly m ops opening replies = (before after : List Op) (owner : Owner) (v n k : ℕ) (body tuples : List Seg) → ops ≡ before ++ (read_op owner v n body tuples ∷ after) → k < n
     → HasReadRightly m before owner v n body tuples opening replies k
 
--- What the steps of a script over its volume did, from the rig that told what its devices are to the rig as it is afterwards, with these pages and replies. Over any rig, honest or not, the records of the steps back the replies, and are those that its steps send; lines that name the medium are at most as many as the count of faults rose. Over a rig that tells its blocks, where no line of the report names the medium (of a block, or of an overwrite), replies, pages and stored blocks are those of the script's ops done one after another at the target, and the records hold what these carry; and where no fault is scheduled, the blocks are clean and no write supplies an escape, they are those of the plain map. Of such a run each block that is listed was found bad by the check of a layer. In type 1, with tuples passed all the way and protect field 001b, over clean devices, with no escape and with scheduled faults that can be shown, each block of a read is the last accepted write's or names the first layer that checks after the fault; so it is where the script's form says that its faults are shown and that it supplies no escape. Over a rig that tells its blocks, whatever lines name the medium, replies, pages and stored blocks are those of the ops done one after another but for the store calls that failed: what a write's call left stands in its block, and where an overwrite replied `Medium` some flip of its block stands in its place; each block that is listed was found bad by a layer or failed at the medium; and where no fault is scheduled and the blocks are clean, a block of a read that isn't lost fails at the medium or is the last accepted write's, and one of a write that the plain map accepts fails at the medium or not at all.
+-- Where the image was told, its bytes are the first 512 that it had, and then the stored blocks, one after another.
+abbrev pub HoldsBlocks : (old new : View) → Type 0
+HoldsBlocks old new = (image : List ℕ) → old.image ≡ Some image → (left : List Stored) × (new.seen.units ≡ Some left) × (new.image ≡ Some (take 512 image ++ joined (blocks_told left)))
+
+-- What the steps of a script over its volume did, from the rig that told what its devices are to the rig as it is afterwards, with these pages and replies. Where the rig tells its image, it has its first 512 bytes as before, and then the blocks that the rig tells. Over any rig, honest or not, the records of the steps back the replies, and are those that its steps send; lines that name the medium are at most as many as the count of faults rose. Over a rig that tells its blocks, where no line of the report names the medium (of a block, or of an overwrite), replies, pages and stored blocks are those of the script's ops done one after another at the target, and the records hold what these carry; and where no fault is scheduled, the blocks are clean and no write supplies an escape, they are those of the plain map. Of such a run each block that is listed was found bad by the check of a layer. In type 1, with tuples passed all the way and protect field 001b, over clean devices, with no escape and with scheduled faults that can be shown, each block of a read is the last accepted write's or names the first layer that checks after the fault; so it is where the script's form says that its faults are shown and that it supplies no escape. Over a rig that tells its blocks, whatever lines name the medium, replies, pages and stored blocks are those of the ops done one after another but for the store calls that failed: what a write's call left stands in its block, and where an overwrite replied `Medium` some flip of its block stands in its place; each block that is listed was found bad by a layer or failed at the medium; and where no fault is scheduled and the blocks are clean, a block of a read that isn't lost fails at the medium or is the last accepted write's, and one of a write that the plain map accepts fails at the medium or not at all.
 pub record Followed (script : Script) (table : Table) (devices : List DeviceInfo) (old new : View) (pool : List (List ℕ)) (replies : List Reply) : Type 0 where
   pub tells : is_some new.image ≡ is_some old.image
   pub holds : HoldsBlocks old new
