@@ -1,7 +1,6 @@
 -- What an op of a mirror did at its end, by its kind.
 use Rattle.std.proofs.Common.{◌≡◌, ◌<◌, ℕ, zero, suc, ◌⊎◌, inl, inr, List, [], ◌∷◌, get_or, length, replicate, refl, sym, ap, ◌∙◌, subst, arith}
 use Rattle.std.specs.Prelude.{IfOk, Result}
-use Rattle.dix_base.specs.Told.{Rose}
 use Rattle.page_pool.specs.declared.segs.Seg.{Seg}
 use Rattle.page_pool.specs.Pages.{Wrote, part}
 use Rattle.page_pool.specs.Places.{places_of}
@@ -16,7 +15,7 @@ use Rattle.script_text.specs.declared.script.Script.{Script}
 use Rattle.script_stack.specs.Causes.{table_of}
 use Rattle.script_stack.specs.Going.{Outside}
 use Rattle.leg_runs.specs.LegRuns.{AllOwn, LegRun}
-use Rattle.leg_runs.specs.OnOps.{Altered, DidOp, OpAsks, RanOp, Sides}
+use Rattle.leg_runs.specs.OnOps.{Altered, DidOp, OpAsks, OverwriteTells, RanOp, Sides}
 use Rattle.leg_runs.specs.Standing.{op_at}
 use Rattle.leg_runs.proofs.Results.{if-ok}
 use Rattle.leg_runs.proofs.Runs.{ran-nothing}
@@ -64,11 +63,11 @@ module _ (s : Script) (devices : List DeviceInfo) (half number used : ℕ) (old 
       (tt, if-ok (λ (reply : Reply). reply ≡ Shown (part old.pool seg)) (DidOp s half number (Show seg) old old now now []) result (λ reply e. ((record { same = refl; none = refl }, e), tt)) said))
 
 module _ (s : Script) (devices : List DeviceInfo) (half number used : ℕ) (old : Sides) (before after : Outside) (op : Op) where
-  pub did-overwrite : (dev lba : ℕ) (change : Change) (reply : Reply) → op ≡ Overwrite dev lba change → (reply ≡ Silent) ⊎ (reply ≡ Medium) → Altered dev lba change [] before after → (reply ≡ Medium → Rose before.faults after.faults)
+  pub did-overwrite : (dev lba : ℕ) (change : Change) (reply : Reply) → op ≡ Overwrite dev lba change → (reply ≡ Silent) ⊎ (reply ≡ Medium) → Altered dev lba change [] before after → OverwriteTells dev lba change reply before after
       → RanOp s devices half number op old.pool used used before after (λ runs. DidOp s half number op old old before after runs reply)
-  did-overwrite dev lba change reply is said altered medium =
+  did-overwrite dev lba change reply is said altered tells =
       subst (λ (o : Op). RanOp s devices half number o old.pool used used before after (λ runs. DidOp s half number o old old before after runs reply)) (sym is)
-      ([], (altered, (refl, (tt, ((record { same = refl; none = refl }, said), medium)))))
+      ([], (altered, (refl, (tt, ((record { same = refl; none = refl }, said), tells)))))
 
 -- an op that does nothing on a mirror
 abbrev pub IsIdle : Op → Type 0

@@ -266,7 +266,7 @@ op-lines s t devices half number (Fetch v n body) old new runs reply before afte
     rose-less (medium_lines (reply ∷ [])) (all_mediums runs) before.faults after.faults (lines-of-read s half number v n body old new runs reply by) ran.medium
 op-lines s t devices half number (WritePi v n body tuples) old new runs reply before after by ran told = silent t devices runs reply before after ran (as-silent reply by.1)
 op-lines s t devices half number (FetchPi v n body tuples) old new runs reply before after by ran told = silent t devices runs reply before after ran (as-silent reply by.1)
-op-lines s t devices half number (Overwrite dev lba change) old new runs reply before after by ran told = overwritten reply before after ran.faults by.1 told
+op-lines s t devices half number (Overwrite dev lba change) old new runs reply before after by ran told = overwritten reply before after ran.faults by.1 told.medium
 op-lines s t devices half number Wait old new runs reply before after by ran told = silent t devices runs reply before after ran (as-silent reply by.1)
 
 -- ---- replies one after another

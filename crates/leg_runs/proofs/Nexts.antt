@@ -43,7 +43,7 @@ op-walked s t devices half number (Fetch v n body) old new before after runs rep
 op-walked s t devices half number (WritePi v n body tuples) old new before after runs reply us ran did e calm = ran.told us e calm
 op-walked s t devices half number (FetchPi v n body tuples) old new before after runs reply us ran did e calm = ran.told us e calm
 op-walked s t devices half number (Overwrite dev lba change) old new before after runs reply us ran did e calm =
-    (with_block us dev lba (changed us change (block_at us dev lba)), (ran.told us e calm, (silent before.faults after.faults reply calm did.0.1 did.1, refl)))
+    (with_block us dev lba (changed us change (block_at us dev lba)), (ran.told us e calm, (silent before.faults after.faults reply calm did.0.1 did.1.medium, refl)))
 op-walked s t devices half number Wait old new before after runs reply us ran did e calm = ran.told us e calm
 
 -- what the law of a mirror's ops says

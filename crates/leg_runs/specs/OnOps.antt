@@ -108,7 +108,13 @@ OpAsks s half op (FetchPi v n body tuples) pool own = ⊥
 OpAsks s half op (Overwrite dev lba change) pool own = ⊥
 OpAsks s half op Wait pool own = ⊥
 
--- What a reply tells of the rig: where an overwrite fails, the count of faults rose.
+-- What the reply of an overwrite tells, whatever the count of faults did: it is silent where its change was made; else its call failed, the count of faults rose, and the block may hold anything.
+pub record OverwriteTells (dev lba : ℕ) (change : Change) (reply : Reply) (before after : Outside) : Type 0 where
+  pub silent : reply ≡ Silent → (us : List Stored) → before.units ≡ Some us → after.units ≡ Some (with_block us dev lba (changed us change (block_at us dev lba)))
+  pub medium : reply ≡ Medium → Rose before.faults after.faults
+  pub left : reply ≡ Medium → (us : List Stored) → before.units ≡ Some us → (block : List ℕ) × (after.units ≡ Some (with_block us dev lba block))
+
+-- What a reply tells of the rig: an overwrite's, whether its change was made.
 abbrev pub OpTells : Op → Reply → (before after : Outside) → Type 0
 OpTells (Fill seg byte) reply before after = Unit {0}
 OpTells (Put page off bytes) reply before after = Unit {0}
@@ -118,7 +124,7 @@ OpTells (Write v n body app) reply before after = Unit {0}
 OpTells (Fetch v n body) reply before after = Unit {0}
 OpTells (WritePi v n body tuples) reply before after = Unit {0}
 OpTells (FetchPi v n body tuples) reply before after = Unit {0}
-OpTells (Overwrite dev lba change) reply before after = reply ≡ Medium → Rose before.faults after.faults
+OpTells (Overwrite dev lba change) reply before after = OverwriteTells dev lba change reply before after
 OpTells Wait reply before after = Unit {0}
 
 -- What an op leaves at the rig: that of its runs. An overwrite has none, and alters one stored block.

@@ -33,7 +33,7 @@ use Rattle.mirror_premises.specs.Forms.{is_good_on_legs, spares_other_leg}
 use Rattle.mirror_premises.specs.FormedMirror.{AllPutBytes, HasFormedLegs, HasStillLegs, PutsBytes, ServesLast}
 use Rattle.leg_runs.proofs.Ground.{fits, legs, made-over, sizes}
 use Rattle.leg_runs.specs.Standing.{IsOver, IsRepairedAs, half_of, mirror_setting}
-use Rattle.mirror_volume.specs.Enough.{WasEnough, opening_over}
+use Rattle.mirror_volume.specs.Enough.{AllReadLast, WasEnough, opening_over}
 use Rattle.mirror_volume.specs.Premises.{HoldsBytes, IsFormedMirror, IsOneGoodRun, IsStillMirror}
 use Rattle.mirror_volume.proofs.Enough.{enough-by}
 use Rattle.mirror_volume.proofs.Premises.{all-bound, checked-over, dif-on, has-cells, lies-on}
@@ -156,6 +156,9 @@ module _ (s : Script) (devices : List DeviceInfo) (us : List Stored) (is : IsOve
     overwrites = p.overwrites;
     escapes = p.escapes;
   }
+
+  pub still-reads : StillLaw → HoldsBytes us → IsStillMirror s devices us → AllReadLast s devices us
+  still-reads law bytes p = (law m devices (half_of s devices) s.ops (opening_over s us) (still-legs bytes p)).reads
 
   pub still-enough : StillLaw → (left : List Stored) (marks : List Marks) (repaired lost : ℕ) → HoldsBytes us → IsStillMirror s devices us → IsRepairedAs s devices us (length s.ops) marks repaired lost left → WasEnough s devices us left lost
   still-enough law left marks repaired lost bytes p done_as =

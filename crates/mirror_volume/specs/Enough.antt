@@ -1,5 +1,10 @@
 -- When one good leg was enough: what is said of a script that was run on a mirror to its end, and repaired, over a rig that tells its blocks.
-use Rattle.std.specs.Prelude.{ℕ, ◌≡◌, ◌+◌, ◌<◌, Bool, List, ◌∷◌, ◌++◌}
+use Rattle.std.specs.Prelude.{ℕ, ◌≡◌, ◌+◌, ◌<◌, Bool, List, ◌∷◌, ◌++◌, length, get_or}
+use Rattle.page_pool.specs.Cells.{flat, gather}
+use Rattle.stack_ops.specs.declared.reply.Reply.{Reply}
+use Rattle.stack_ops.specs.declared.reply.Reply.TheVariants.{Silent, Whole}
+use Rattle.whole_run.specs.Steps.{body_of}
+use Rattle.leg_runs.specs.OnOps.{Sides}
 use Rattle.page_pool.specs.declared.segs.Seg.{Seg}
 use Rattle.target_answer.specs.Target.{Stored}
 use Rattle.dix_adapter.specs.Ways.{blocks_told, shapes_of}
@@ -32,3 +37,9 @@ pub record WasEnough (s : Script) (devices : List DeviceInfo) (us left : List St
   pub reads : AllReadLast s devices us
   pub equal : BothHoldLast s devices us left
   pub lost_none : lost ≡ 0
+
+-- The read that follows these ops was the last that was done: it is whole, and its pages have the data that were last accepted.
+pub record HasReadLast (s : Script) (devices : List DeviceInfo) (us : List Stored) (before : List Op) (v n : ℕ) (body : List Seg) (sides : Sides) (replies : List Reply) : Type 0 where
+  pub reply : get_or replies (length before) Silent ≡ Whole
+  pub data_is : (k : ℕ) → k < n → gather 0 (body_of s.block body k) (flat sides.pool)
+      ≡ (last_of (mirror_setting s devices us) (half_of s devices) (count_of s.ops) (steps_from (mirror_setting s devices us) 1 before) (opening_over s us) (v + k)).body

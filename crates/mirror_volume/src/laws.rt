@@ -1,12 +1,17 @@
 //! When one good leg of each block is enough.
 
-ghost use Rattle.std.specs.Prelude.{ℕ, List, length};
+ghost use Rattle.std.specs.Prelude.{ℕ, ◌≡◌, ◌+◌, ◌∷◌, ◌++◌, List, length};
+ghost use Rattle.page_pool.specs.declared.segs.Seg.{Seg as AnySeg};
+ghost use Rattle.stack_ops.specs.declared.op.Op.{Op as AnyOp};
+ghost use Rattle.stack_ops.specs.declared.op.Op.TheVariants.{Fetch};
+ghost use Rattle.stack_ops.specs.declared.reply.Reply.{Reply as AnyReply};
 ghost use Rattle.target_answer.specs.Target.{Stored};
 ghost use Rattle.volume_table.specs.declared.device.DeviceInfo.{DeviceInfo as AnyDevice};
 ghost use Rattle.script_text.specs.declared.script.Script.{Script as AnyScript};
 ghost use Rattle.mirror_walk.specs.declared.marks.Marks.{Marks as AnyMarks};
-ghost use Rattle.leg_runs.specs.Standing.{IsOver, IsRepairedAs};
-ghost use Rattle.mirror_volume.specs.Enough.{WasEnough};
+ghost use Rattle.leg_runs.specs.Standing.{IsOver, IsRepairedAs, StandsAt};
+ghost use Rattle.leg_runs.specs.OnOps.{Sides};
+ghost use Rattle.mirror_volume.specs.Enough.{AllReadLast, HasReadLast, WasEnough};
 ghost use Rattle.mirror_volume.specs.Premises.{HoldsBytes, IsFormedMirror, IsOneGoodRun, IsStillMirror};
 
 use mirror_premises::{
@@ -16,11 +21,12 @@ use mirror_premises::{
 };
 use mirror_walk::{a_mirror_reads_the_last_write, a_repair_makes_both_legs_equal};
 
-/// A law, of a mirror all of whose ops are done, and which was repaired, over a rig that tells its blocks: where each
-/// block has a leg on which nothing alters it, each read of the walk, and so of the mirror, is whole and has the data
-/// that were last accepted; and after the repair both legs hold these, and no block is lost.
+/// A law, over a rig that tells its blocks: where each block has a leg on which nothing alters it, each read of a mirror's
+/// walk is whole and has the data that were last accepted. And of a mirror all of whose ops are done, and which was
+/// repaired: both legs hold these, and no block is lost.
 pub fn one_good_leg_is_enough()
-    ensures { (s : AnyScript) (devices : List AnyDevice) (us left : List Stored) (marks : List AnyMarks) (repaired lost : ℕ) → IsOver s devices us → HoldsBytes us → IsOneGoodRun s devices us
+    ensures reads { (s : AnyScript) (devices : List AnyDevice) (us : List Stored) → IsOver s devices us → IsOneGoodRun s devices us → AllReadLast s devices us }
+    ensures repaired { (s : AnyScript) (devices : List AnyDevice) (us left : List Stored) (marks : List AnyMarks) (repaired lost : ℕ) → IsOver s devices us → HoldsBytes us → IsOneGoodRun s devices us
         → IsRepairedAs s devices us (length s.ops) marks repaired lost left → WasEnough s devices us left lost }
 {
     a_mirror_reads_the_last_write();
@@ -38,8 +44,17 @@ pub fn a_formed_mirror_has_one_good_leg()
 
 /// A law: without a fault line and without an overwrite it is so under any protect field.
 pub fn no_fault_is_enough_under_any_protect_field()
-    ensures { (s : AnyScript) (devices : List AnyDevice) (us left : List Stored) (marks : List AnyMarks) (repaired lost : ℕ) → IsOver s devices us → HoldsBytes us → IsStillMirror s devices us
+    ensures reads { (s : AnyScript) (devices : List AnyDevice) (us : List Stored) → IsOver s devices us → HoldsBytes us → IsStillMirror s devices us → AllReadLast s devices us }
+    ensures repaired { (s : AnyScript) (devices : List AnyDevice) (us left : List Stored) (marks : List AnyMarks) (repaired lost : ℕ) → IsOver s devices us → HoldsBytes us → IsStillMirror s devices us
         → IsRepairedAs s devices us (length s.ops) marks repaired lost left → WasEnough s devices us left lost }
 {
     a_still_mirror_serves_the_last_write_under_any_protect_field();
 }
+
+/// A law: where reads of a mirror's walk are so, and the mirror stands at its walk, a read that `next` has just done is
+/// whole, and what landed in the pages are the data that were last accepted.
+pub fn a_read_that_is_done_has_the_last_write()
+    ensures { (s : AnyScript) (devices : List AnyDevice) (us left : List Stored) (sides : Sides) (replies : List AnyReply) (before after : List AnyOp) (v n : ℕ) (body : List AnySeg)
+        → AllReadLast s devices us → StandsAt s devices us sides replies left → s.ops ≡ before ++ (Fetch v n body ∷ after) → length replies ≡ length before + 1
+        → HasReadLast s devices us before v n body sides replies }
+{}

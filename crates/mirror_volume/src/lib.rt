@@ -16,7 +16,7 @@ mod stretches;
 mod writing;
 
 pub use laws::{
-    a_formed_mirror_has_one_good_leg, no_fault_is_enough_under_any_protect_field,
-    one_good_leg_is_enough,
+    a_formed_mirror_has_one_good_leg, a_read_that_is_done_has_the_last_write,
+    no_fault_is_enough_under_any_protect_field, one_good_leg_is_enough,
 };
 pub use mirror::{Mirror, Repair};

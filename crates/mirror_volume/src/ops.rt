@@ -1,13 +1,12 @@
 //! The ops of a mirror's script.
 
 ghost use Rattle.std.specs.Prelude.{ℕ, ◌≡◌, ◌<◌, ◌≤◌, ◌+◌, ◌*◌, ◌⊎◌, List, [], ◌∷◌, IfOk, is_some, length};
-ghost use Rattle.dix_base.specs.Told.{Rose};
 ghost use Rattle.page_pool.specs.Pages.{AllLieIn};
 ghost use Rattle.page_pool.specs.Places.{NoneTwice, range_of, total};
 ghost use Rattle.stack_ops.specs.declared.op.Op.TheVariants.{Fetch, Write};
 ghost use Rattle.stack_ops.specs.declared.reply.Reply.TheVariants.{Medium, Silent};
 ghost use Rattle.stack_core.specs.Doing.{HasBlocks};
-ghost use Rattle.leg_runs.specs.OnOps.{Altered, DidOp, RanOp, whole_request};
+ghost use Rattle.leg_runs.specs.OnOps.{Altered, DidOp, OverwriteTells, RanOp, whole_request};
 ghost use Rattle.mirror_volume.specs.Plans.{IsPieceOf, IsPlan};
 ghost use Rattle.leg_runs.specs.Standing.{HasDevices, op_at};
 
@@ -107,7 +106,9 @@ fn overwrite<R: Rig>(dev: u32, lba: u64, change: &Change, rig: &mut R) -> Reply
     ensures altered { Altered dev lba change.now []
         (record { units = R.units rig.old; armed = R.armed rig.old; standing = R.standing rig.old; log = R.log rig.old; faults = R.faults rig.old })
         (record { units = R.units rig.new; armed = R.armed rig.new; standing = R.standing rig.new; log = R.log rig.new; faults = R.faults rig.new }) }
-    ensures medium { result ≡ Medium → Rose (R.faults rig.old) (R.faults rig.new) }
+    ensures made { OverwriteTells dev lba change.now result
+        (record { units = R.units rig.old; armed = R.armed rig.old; standing = R.standing rig.old; log = R.log rig.old; faults = R.faults rig.old })
+        (record { units = R.units rig.new; armed = R.armed rig.new; standing = R.standing rig.new; log = R.log rig.new; faults = R.faults rig.new }) }
     ensures tells { is_some (R.image rig.new) ≡ is_some (R.image rig.old) }
     ensures standing { R.standing rig.new ≡ R.standing rig.old }
 {

@@ -29,7 +29,7 @@ returns-in-Ok-serve g c =
       ready = g.met.R.Rig.ready c.bind.new.rig;
       octets = g.met.R.Rig.octets c.bind.new.rig;
     } in
-    mirrored c.one_good_leg_is_enough.ensures c.a_formed_mirror_has_one_good_leg.ensures c.no_fault_is_enough_under_any_protect_field.ensures c.args.script c.args.image.now devices old told new begun (g.R.Rig.armed c.bind.new.rig) (g.R.Rig.armed c.serve.new.rig) up c.serve.ensures.tells (g.met.R.Rig.laid c.serve.new.rig) (g.met.R.Rig.ready c.serve.new.rig)
+    mirrored c.one_good_leg_is_enough.ensures.repaired c.a_formed_mirror_has_one_good_leg.ensures c.no_fault_is_enough_under_any_protect_field.ensures.repaired c.args.script c.args.image.now devices old told new begun (g.R.Rig.armed c.bind.new.rig) (g.R.Rig.armed c.serve.new.rig) up c.serve.ensures.tells (g.met.R.Rig.laid c.serve.new.rig) (g.met.R.Rig.ready c.serve.new.rig)
     _ (rw (c.in-Ok-new.ensures.script, c.in-Ok-new.ensures.devices) at c.in-Ok-serve.ensures.done)
 
 pub returns-in-Err-serve : goal.returns-in-Err-serve
@@ -48,5 +48,5 @@ returns-in-Err-serve g c =
       ready = g.met.R.Rig.ready c.bind.new.rig;
       octets = g.met.R.Rig.octets c.bind.new.rig;
     } in
-    inr (midway c.one_good_leg_is_enough.ensures c.a_formed_mirror_has_one_good_leg.ensures c.no_fault_is_enough_under_any_protect_field.ensures c.args.script c.args.image.now devices old told new begun (g.R.Rig.armed c.bind.new.rig) (g.R.Rig.armed c.serve.new.rig) up c.serve.ensures.tells (g.met.R.Rig.laid c.serve.new.rig) (g.met.R.Rig.ready c.serve.new.rig)
+    inr (midway c.one_good_leg_is_enough.ensures.repaired c.a_formed_mirror_has_one_good_leg.ensures c.no_fault_is_enough_under_any_protect_field.ensures.repaired c.args.script c.args.image.now devices old told new begun (g.R.Rig.armed c.bind.new.rig) (g.R.Rig.armed c.serve.new.rig) up c.serve.ensures.tells (g.met.R.Rig.laid c.serve.new.rig) (g.met.R.Rig.ready c.serve.new.rig)
     (rw (c.in-Ok-new.ensures.script, c.in-Ok-new.ensures.devices) at c.in-Err-serve.ensures.done))

@@ -121,7 +121,7 @@ returns-in-Overwrite-clause-ran g c =
     let now : Outside = record { units = g.R.Rig.units c.args.rig.now; armed = g.R.Rig.armed c.args.rig.now; standing = g.R.Rig.standing c.args.rig.now; log = g.R.Rig.log c.args.rig.now; faults = g.R.Rig.faults c.args.rig.now } in
     let is = op-is p.script.ops c.as_slice.result.now c.args.at c.index-as_slice-at.result (Overwrite c.in-Overwrite.dev c.in-Overwrite.lba c.in-Overwrite.change) c.as_slice.ensures c.requires.op c.index-as_slice-at.is c.in-Overwrite.is in
     let after : Outside = record { units = g.R.Rig.units c.overwrite.new.rig; armed = g.R.Rig.armed c.overwrite.new.rig; standing = g.R.Rig.standing c.overwrite.new.rig; log = g.R.Rig.log c.overwrite.new.rig; faults = g.R.Rig.faults c.overwrite.new.rig } in
-    did-overwrite p.script p.devices.items p.half (c.args.at + 1) c.args.state.now.used old now after (op_at p.script.ops c.args.at) c.in-Overwrite.dev c.in-Overwrite.lba c.in-Overwrite.change c.overwrite.result is c.overwrite.ensures.reply c.overwrite.ensures.altered c.overwrite.ensures.medium
+    did-overwrite p.script p.devices.items p.half (c.args.at + 1) c.args.state.now.used old now after (op_at p.script.ops c.args.at) c.in-Overwrite.dev c.in-Overwrite.lba c.in-Overwrite.change c.overwrite.result is c.overwrite.ensures.reply c.overwrite.ensures.altered c.overwrite.ensures.made
 
 pub returns-in-Seal-clause-ran : goal.returns-in-Seal-clause-ran
 returns-in-Seal-clause-ran g c =
