@@ -108,7 +108,7 @@ OpAsks s half op (FetchPi v n body tuples) pool own = ⊥
 OpAsks s half op (Overwrite dev lba change) pool own = ⊥
 OpAsks s half op Wait pool own = ⊥
 
--- What the reply of an overwrite tells, whatever the count of faults did: it is silent where its change was made; else its call failed, the count of faults rose, and the block may hold anything.
+-- What the reply of an overwrite tells, whatever the count of faults did: where it is silent its change was made; else its call failed, the count of faults rose, and its block alone may hold anything.
 pub record OverwriteTells (dev lba : ℕ) (change : Change) (reply : Reply) (before after : Outside) : Type 0 where
   pub silent : reply ≡ Silent → (us : List Stored) → before.units ≡ Some us → after.units ≡ Some (with_block us dev lba (changed us change (block_at us dev lba)))
   pub medium : reply ≡ Medium → Rose before.faults after.faults
