@@ -7,9 +7,10 @@ use Rattle.fault_schedule.specs.declared.fault.FaultKind.TheVariants.{Flip, Shif
 use Rattle.fault_schedule.specs.declared.fault.FaultLine.{FaultLine}
 use Rattle.rig_api.specs.declared.change.Change.TheVariants.{Copy}
 use Rattle.stack_ops.specs.declared.op.Op.{Op}
-use Rattle.stack_ops.specs.declared.op.Op.TheVariants.{Fetch, Overwrite, Write}
+use Rattle.stack_ops.specs.declared.op.Op.TheVariants.{Fetch, Fill, Overwrite, Write}
 use Rattle.std.specs.Prelude.{pos}
 use Rattle.whole_run.proofs.ScriptRows.{seg}
+use Rattle.run_premises.specs.Forms.{escapes_none}
 use Rattle.mirror_premises.specs.Forms.{leaves_a_leg, shows_on_legs, virt_on_legs}
 
 -- Faults on a mirror of four blocks on each side of the form's limits, worked by hand. Op 1 writes blocks 1 and 2, op 2 reads them, op 3 writes block 2 alone.
@@ -69,3 +70,15 @@ overwritten = refl
 hidden : shows_on_legs Crc 512 4 (record { op = 1; k = 2; at = AdapterToTarget; kind = Flip 17 (0x01 ∷ 0x8B ∷ 0xB7 ∷ []) } ∷ []) ops ≡ false
 unfolding crc
 hidden = refl
+
+-- ---- a script with a fault on each leg, by its lines: block 5 on leg 0 and block 6 on leg 1, of 64
+
+abbrev both_damaged : List Op
+both_damaged = Fill (record { page = 0; off = 0; len = 1536 }) 0xAA ∷ Write 5 3 (seg 0 1536) 0x1234 ∷ Fetch 5 3 (seg 4096 1536) ∷ []
+
+abbrev two_faults : List FaultLine
+two_faults = record { op = 2; k = 0; at = HostToAdapter; kind = Flip 0 (1 ∷ []) } ∷ record { op = 2; k = 4; at = TargetToMedium; kind = Flip 0 (1 ∷ []) } ∷ []
+
+shown_by_lines : (shows_on_legs Crc 512 64 two_faults both_damaged ≡ true) × ((leaves_a_leg 64 two_faults both_damaged ≡ true) × (escapes_none both_damaged ≡ true))
+unfolding crc
+shown_by_lines = (refl, (refl, refl))

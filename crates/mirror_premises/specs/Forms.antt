@@ -32,6 +32,7 @@ is_altered_on_legs half ops faults v = list_any (stores_on_legs half ops v) faul
 abbrev pub may_undo_on_legs : (half : ℕ) → List Op → List FaultLine → FaultLine → Bool
 may_undo_on_legs half ops faults line = is_same line.at MediumToTarget && is_altered_on_legs half ops faults (virt_on_legs half ops line)
 
+-- The line is a flip that is shown, and undoes no other on its leg.
 abbrev pub is_good_on_legs : GuardKind → (size half : ℕ) → List FaultLine → List Op → FaultLine → Bool
 is_good_on_legs kind size half faults ops line = is_shown_line kind size faults line && not (may_undo_on_legs half ops faults line)
 
