@@ -5,4 +5,4 @@ pub mod Helds
 pub mod Premises
 pub mod Enough
 pub mod Formed
-mod PremiseRows
+pub mod PremiseRows

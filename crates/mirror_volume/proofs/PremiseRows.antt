@@ -4,23 +4,15 @@ use Rattle.script_lines.specs.declared.kind.ScriptKind.TheVariants.{BadFault}
 use Rattle.std.specs.List.{list_all}
 use Rattle.std.proofs.lemmas.Bool.{and_parts, ltb-true}
 use Rattle.pi_guard.specs.Guards.{crc, ip}
-use Rattle.pi_guard.specs.declared.GuardKind.TheVariants.{Crc}
 use Rattle.pi_tuple.specs.declared.checks.PiType.TheVariants.{One}
 use Rattle.fault_schedule.specs.declared.fault.Crossing.TheVariants.{AdapterToHost, AdapterToTarget, HostToAdapter, MediumToTarget, TargetToAdapter, TargetToMedium}
-use Rattle.fault_schedule.specs.declared.fault.FaultKind.TheVariants.{Flip}
 use Rattle.page_pool.specs.Places.{run}
 use Rattle.target_answer.specs.Image.{fresh}
 use Rattle.target_answer.specs.Passing.{found_in, from_medium, to_medium}
-use Rattle.target_answer.specs.Target.{Stored}
-use Rattle.target_answer.specs.declared.units.UnitSpec.{UnitSpec}
-use Rattle.rig_discovery.specs.Discovery.{info_of}
 use Rattle.block_path.specs.WayIn.{from_wire}
 use Rattle.block_path.specs.WayOut.{to_wire}
 use Rattle.dix_adapter.specs.Ways.{blocks_told}
-use Rattle.stack_ops.specs.declared.op.Op.TheVariants.{Fetch, Write}
 use Rattle.volume_table.specs.Faults.{table_fault}
-use Rattle.volume_table.specs.declared.device.DeviceInfo.{DeviceInfo}
-use Rattle.volume_table.specs.declared.entry.Entry.TheVariants.{Linear}
 use Rattle.whole_run.specs.Past.{brought_by}
 use Rattle.whole_run.specs.Settings.{Setting}
 use Rattle.whole_run.specs.UnderMap.{IsClean, home}
@@ -30,40 +22,15 @@ use Rattle.script_stack.specs.Causes.{table_of}
 use Rattle.mirror_script.specs.MirrorFaults.{mirror_fault}
 use Rattle.mirror_walk.specs.OneGood.{HasGoodLeg, IsUnnamed}
 use Rattle.leg_runs.specs.Standing.{half_of, mirror_setting}
+use Rattle.mirror_volume.specs.Rows.{devices, script, still_script, us}
 use Rattle.mirror_volume.specs.Premises.{IsFormedMirror, IsOneGoodRun, IsStillMirror}
 
--- A script with a write and a read of the one block of a mirror, over two formatted units: the block's data are altered on their way to leg 0, which refuses them. It is bound as a mirror's, and meets the premises.
-
-abbrev unit : UnitSpec
-unit = record { ty = One; blocks = 1; size = 512; first = 0 }
-
-abbrev stored : Stored
-stored = record { ty = One; size = 512; first = 0; blocks = fresh One 512 0 ∷ [] }
-
-abbrev us : List Stored
-us = stored ∷ stored ∷ []
-
-abbrev devices : List DeviceInfo
-devices = info_of unit ∷ info_of unit ∷ []
-
-abbrev script : Script
-script = record {
-  mode = record { kind = Crc; dix = true; dif = true; protect = 1; app = 0; mask = 0 };
-  limits = record { max_blocks = 1; max_segs = 4; max_pi_segs = 1 };
-  pages = 1;
-  block = 512;
-  expect_line = 0;
-  entries = Linear (record { start = 0; len = 1; dev = 0; at = 0 }) ∷ Linear (record { start = 1; len = 1; dev = 1; at = 0 }) ∷ [];
-  faults = record { op = 1; k = 0; at = HostToAdapter; kind = Flip 0 (1 ∷ []) } ∷ [];
-  schedule = [];
-  ops = Write 0 1 (record { page = 0; off = 0; len = 512 } ∷ []) 0 ∷ Fetch 0 1 (record { page = 0; off = 0; len = 512 } ∷ []) ∷ [];
-  lines = 7 ∷ 9 ∷ 10 ∷ [];
-}
+-- The script of the rows is bound as a mirror's, and meets the premises.
 
 no_fault : table_fault script.entries devices 512 ≡ None
 no_fault = refl
 
-bound : mirror_fault script (table_of script devices) devices ≡ None
+pub bound : mirror_fault script (table_of script devices) devices ≡ None
 bound = refl
 
 abbrev m : Setting
@@ -108,7 +75,7 @@ one_good : (u : ℕ) → u < 1 → HasGoodLeg m 1 script.ops u
 one_good zero l = record { leg = true; spares = (λ e. written, (λ e. fetched, tt)) }
 one_good (suc u) l = absurd (omega (arith, l))
 
-one_good_row : IsOneGoodRun script devices us
+pub one_good_row : IsOneGoodRun script devices us
 unfolding crc ip found_in to_medium from_medium to_wire from_wire run
 one_good_row = record {
   ty = refl;
@@ -121,7 +88,7 @@ one_good_row = record {
 }
 
 -- And so it can be read off the script.
-formed_row : IsFormedMirror script devices us
+
 unfolding crc
 formed_row = record {
   ty = refl;
@@ -133,11 +100,7 @@ formed_row = record {
   equal = equal;
 }
 
--- The same ops without the fault, under protect fields under which no fault line is admitted.
-abbrev still_script : (protect : ℕ) → Script
-still_script protect = record script { mode = record script.mode { protect = protect }; faults = []; lines = 9 ∷ 10 ∷ [] }
-
-still_bound : (mirror_fault (still_script 3) (table_of (still_script 3) devices) devices ≡ None) × (mirror_fault (still_script 4) (table_of (still_script 4) devices) devices ≡ None)
+pub still_bound : (mirror_fault (still_script 3) (table_of (still_script 3) devices) devices ≡ None) × (mirror_fault (still_script 4) (table_of (still_script 4) devices) devices ≡ None)
 still_bound = (refl, refl)
 
 still_clean : (protect : ℕ) → DevicesAreClean (mirror_setting (still_script protect) devices us) devices (blocks_told us)
@@ -145,7 +108,7 @@ still_clean protect v lba l h =
     let c = clean v lba l (record { known = h.known; begins = h.begins; ends = h.ends; type_is = h.type_is; size_is = h.size_is }) in
     record { no_escape = c.no_escape; guard = c.guard; app = c.app; rtag = c.rtag }
 
-still_row : (protect : ℕ) → IsStillMirror (still_script protect) devices us
+pub still_row : (protect : ℕ) → IsStillMirror (still_script protect) devices us
 still_row protect = record {
   ty = refl;
   faults = refl;
@@ -156,5 +119,5 @@ still_row protect = record {
 }
 
 -- With the fault the script isn't still, and under 011b it isn't bound.
-not_bound : (λ (s : Script). mirror_fault s (table_of s devices) devices) (record script { mode = record script.mode { protect = 3 } }) ≡ Some (record { line = 7; kind = BadFault })
+pub not_bound : (λ (s : Script). mirror_fault s (table_of s devices) devices) (record script { mode = record script.mode { protect = 3 } }) ≡ Some (record { line = 7; kind = BadFault })
 not_bound = refl

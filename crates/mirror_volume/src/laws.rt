@@ -1,6 +1,6 @@
 //! When one good leg of each block is enough.
 
-ghost use Rattle.std.specs.Prelude.{ℕ, ◌≡◌, ◌+◌, ◌∷◌, ◌++◌, List, length};
+ghost use Rattle.std.specs.Prelude.{ℕ, ◌≡◌, ◌+◌, ◌∷◌, ◌++◌, List, None, length};
 ghost use Rattle.page_pool.specs.declared.segs.Seg.{Seg as AnySeg};
 ghost use Rattle.stack_ops.specs.declared.op.Op.{Op as AnyOp};
 ghost use Rattle.stack_ops.specs.declared.op.Op.TheVariants.{Fetch};
@@ -11,6 +11,9 @@ ghost use Rattle.script_text.specs.declared.script.Script.{Script as AnyScript};
 ghost use Rattle.mirror_walk.specs.declared.marks.Marks.{Marks as AnyMarks};
 ghost use Rattle.leg_runs.specs.Standing.{IsOver, IsRepairedAs, StandsAt};
 ghost use Rattle.leg_runs.specs.OnOps.{Sides};
+ghost use Rattle.script_stack.specs.Causes.{table_of};
+ghost use Rattle.mirror_script.specs.MirrorFaults.{mirror_fault};
+ghost use Rattle.mirror_volume.specs.Rows.{devices, script, still_script, us};
 ghost use Rattle.mirror_volume.specs.Enough.{AllReadLast, HasReadLast, WasEnough};
 ghost use Rattle.mirror_volume.specs.Premises.{HoldsBytes, IsFormedMirror, IsOneGoodRun, IsStillMirror};
 
@@ -57,4 +60,15 @@ pub fn a_read_that_is_done_has_the_last_write()
     ensures { (s : AnyScript) (devices : List AnyDevice) (us left : List Stored) (sides : Sides) (replies : List AnyReply) (before after : List AnyOp) (v n : ℕ) (body : List AnySeg)
         → AllReadLast s devices us → StandsAt s devices us sides replies left → s.ops ≡ before ++ (Fetch v n body ∷ after) → length replies ≡ length before + 1
         → HasReadLast s devices us before v n body sides replies }
+{}
+
+/// That what these laws ask can be met: by a small script on a mirror over two formatted units, whose write leg 0
+/// refuses, and by the same script without its fault line, under any protect field. That one is bound as a mirror's, and
+/// so is this one under 011b and 100b.
+pub fn premises_of_a_mirror_can_be_met()
+    ensures one_good { IsOneGoodRun script devices us }
+    ensures formed { IsFormedMirror script devices us }
+    ensures still { (protect : ℕ) → IsStillMirror (still_script protect) devices us }
+    ensures bound { mirror_fault script (table_of script devices) devices ≡ None }
+    ensures still_bound { (mirror_fault (still_script 3) (table_of (still_script 3) devices) devices ≡ None) × (mirror_fault (still_script 4) (table_of (still_script 4) devices) devices ≡ None) }
 {}

@@ -18,5 +18,6 @@ mod writing;
 pub use laws::{
     a_formed_mirror_has_one_good_leg, a_read_that_is_done_has_the_last_write,
     no_fault_is_enough_under_any_protect_field, one_good_leg_is_enough,
+    premises_of_a_mirror_can_be_met,
 };
 pub use mirror::{Mirror, Repair};
