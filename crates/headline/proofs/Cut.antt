@@ -1,0 +1,65 @@
+-- An image is its header, and behind it the blocks of its units.
+use Rattle.std.proofs.Common.{◌≡◌, ℕ, zero, suc, ◌+◌, ◌*◌, ◌<◌, List, [], ◌∷◌, ◌++◌, length, take, drop, get_or, None, refl, sym, ap, ◌∙◌, arith}
+use Rattle.std.specs.Prelude.{All}
+use Rattle.std.proofs.Math.Seq.{take-add}
+use Rattle.std.proofs.lemmas.List.{length-drop, take-append-drop, take_all}
+use Rattle.std.proofs.lemmas.List.Elements.{All-append, All-cons, All-drop, All-head, All-nil, All-tail, All-take}
+use Rattle.target_answer.specs.Frames.{frames_of, joined, stored_size}
+use Rattle.target_answer.specs.Headers.{all_bytes, bytes_of}
+use Rattle.target_answer.specs.Image.{units_from}
+use Rattle.target_answer.specs.declared.units.UnitSpec.{UnitSpec}
+use Rattle.rig_api.specs.Head.{head_fault, head_of, units_of}
+use Rattle.dix_adapter.specs.Ways.{blocks_told}
+use Rattle.dix_adapter.proofs.Gathering.{joined-append}
+use Rattle.image_rig.proofs.Heads.{right_head, right_units}
+use Rattle.headline.specs.Headline.{blocks_in, image_with}
+
+joined_frames : (w n : ℕ) (bytes : List ℕ) → joined (frames_of w n bytes) ≡ take (n * w) bytes
+joined_frames w zero bytes = let z : 0 * w ≡ 0 = omega arith in ap (λ k. take k bytes) (sym z)
+joined_frames w (suc n) bytes =
+    let m : suc n * w ≡ w + n * w = omega arith in
+    ap (λ xs. take w bytes ++ xs) (joined_frames w n (drop w bytes)) ∙ sym (take-add w (n * w) bytes) ∙ ap (λ k. take k bytes) (sym m)
+
+joined_units : (us : List UnitSpec) (bytes : List ℕ) → joined (blocks_told (units_from us bytes)) ≡ take (all_bytes us) bytes
+joined_units [] bytes = refl
+joined_units (u ∷ us) bytes =
+    joined-append (frames_of (stored_size u.ty u.size) u.blocks bytes) (blocks_told (units_from us (drop (bytes_of u) bytes)))
+    ∙ ap (λ xs. xs ++ joined (blocks_told (units_from us (drop (bytes_of u) bytes)))) (joined_frames (stored_size u.ty u.size) u.blocks bytes)
+    ∙ ap (λ xs. take (bytes_of u) bytes ++ xs) (joined_units us (drop (bytes_of u) bytes))
+    ∙ sym (take-add (bytes_of u) (all_bytes us) bytes)
+
+-- the length that a right head has
+long : (image : List ℕ) → head_fault (head_of image) ≡ None → length image ≡ 512 + all_bytes (units_of (head_of image))
+long image h = let r = right_head (head_of image) h in r.size ∙ ap (λ (us : List UnitSpec). 512 + all_bytes us) (sym (right_units (head_of image) r))
+
+pub image_is_cut : (image : List ℕ) → head_fault (head_of image) ≡ None → image ≡ image_with image (blocks_in image)
+image_is_cut image h =
+    let l = long image h in
+    let d = length-drop 512 image in
+    sym (take-append-drop 512 image)
+    ∙ ap (λ xs. take 512 image ++ xs) (sym (take_all (all_bytes (units_of (head_of image))) (drop 512 image) (omega (arith, l, d))) ∙ sym (joined_units (units_of (head_of image)) (drop 512 image)))
+
+-- ---- bytes
+
+frames_below : (w n : ℕ) (bytes : List ℕ) → All (λ x. x < 256) bytes → All (All (λ x. x < 256)) (frames_of w n bytes)
+frames_below w zero bytes h = All-nil (All (λ (x : ℕ). x < 256))
+frames_below w (suc n) bytes h =
+    All-cons (All (λ (x : ℕ). x < 256)) (take w bytes) (frames_of w n (drop w bytes)) (All-take (λ (x : ℕ). x < 256) w bytes h)
+    (frames_below w n (drop w bytes) (All-drop (λ (x : ℕ). x < 256) w bytes h))
+
+units_below : (us : List UnitSpec) (bytes : List ℕ) → All (λ x. x < 256) bytes → All (All (λ x. x < 256)) (blocks_told (units_from us bytes))
+units_below [] bytes h = All-nil (All (λ (x : ℕ). x < 256))
+units_below (u ∷ us) bytes h =
+    All-append (All (λ (x : ℕ). x < 256)) (frames_of (stored_size u.ty u.size) u.blocks bytes) (blocks_told (units_from us (drop (bytes_of u) bytes)))
+    (frames_below (stored_size u.ty u.size) u.blocks bytes h) (units_below us (drop (bytes_of u) bytes) (All-drop (λ (x : ℕ). x < 256) (bytes_of u) bytes h))
+
+-- the blocks of an image of bytes are bytes
+pub blocks_below : (image : List ℕ) → All (λ x. x < 256) image → All (All (λ x. x < 256)) (blocks_in image)
+blocks_below image h = units_below (units_of (head_of image)) (drop 512 image) (All-drop (λ (x : ℕ). x < 256) 512 image h)
+
+-- so is each block of them
+pub block_below : (blocks : List (List ℕ)) (i : ℕ) → All (All (λ x. x < 256)) blocks → All (λ x. x < 256) (get_or blocks i [])
+block_below [] zero h = All-nil (λ (x : ℕ). x < 256)
+block_below [] (suc i) h = All-nil (λ (x : ℕ). x < 256)
+block_below (b ∷ blocks) zero h = All-head (All (λ (x : ℕ). x < 256)) b blocks h
+block_below (b ∷ blocks) (suc i) h = block_below blocks i (All-tail (All (λ (x : ℕ). x < 256)) b blocks h)

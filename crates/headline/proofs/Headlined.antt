@@ -1,0 +1,271 @@
+-- The headline, of a call over bytes in memory.
+use Rattle.std.proofs.Common.{◌≡◌, ◌<◌, ℕ, true, false, List, [], map, Some, None, sym, ap, subst, ◌∙◌}
+use Rattle.std.specs.Prelude.{All, Option, IfOk, Result, Ok, Err}
+use Rattle.dix_base.specs.Told.{Calm}
+use Rattle.pi_tuple.specs.Finds.{is_zero}
+use Rattle.target_answer.specs.Headers.{is_layout}
+use Rattle.target_answer.specs.Image.{formatted, units_in}
+use Rattle.target_answer.specs.Target.{Stored}
+use Rattle.target_answer.specs.declared.units.UnitSpec.{UnitSpec}
+use Rattle.rig_api.specs.Head.{head_fault, head_of}
+use Rattle.rig_api.specs.Telling.{IsStanding, Standing, own_units, units_told}
+use Rattle.rig_discovery.specs.Discovery.{info_of}
+use Rattle.volume_table.specs.Tables.{MadeFor, Table}
+use Rattle.volume_table.specs.declared.device.DeviceInfo.{DeviceInfo}
+use Rattle.dix_adapter.specs.Ways.{blocks_told, cell_in, shapes_of}
+use Rattle.whole_run.specs.PlainMap.{as_expected}
+use Rattle.whole_run.specs.Settings.{Setting}
+use Rattle.whole_run.specs.UnderMap.{address_of, home}
+use Rattle.run_laws.specs.ShownRun.{DevicesAreClean}
+use Rattle.image_commands.specs.Views.{View}
+use Rattle.image_rig.proofs.Heads.{layout_parts}
+use Rattle.run_premises.proofs.Escapes.{none_supplied}
+use Rattle.script_premises.proofs.Fresh.{formatted_clean, shapes_are}
+use Rattle.script_text.specs.declared.script.Script.{Script}
+use Rattle.script_verdict.specs.Premises.{IsFormedRun, IsPlainRun}
+use Rattle.script_verdict.specs.Texts.{has_bad}
+use Rattle.script_verdict.specs.Verdict.{AllReadRightly, Followed, HasRun, WasAsked, devices_of}
+use Rattle.script_verdict.specs.declared.verdict.Finished.{Finished}
+use Rattle.script_verdict.proofs.Completing.{table_is}
+use Rattle.script_verdict.proofs.Devices.{image_devices}
+use Rattle.mirror_verdict.specs.Premises.{IsOneGoodRun}
+use Rattle.mirror_verdict.specs.Stages.{HasServed}
+use Rattle.mirror_verdict.specs.Texts.{is_any_lost, mirror_text}
+use Rattle.mirror_verdict.specs.Verdict.{BothHoldLast, HasMirrored, WasEnough}
+use Rattle.mirror_verdict.specs.declared.mirrored.Mirrored.{Mirrored}
+use Rattle.report_text.specs.Report.{report}
+use Rattle.dix_run.specs.Headline.{Carries}
+use Rattle.dix_run.specs.Verdict.{Facts, done_status}
+use Rattle.dix_run.specs.declared.status.Status.{Status}
+use Rattle.dix_run.specs.declared.status.Status.TheVariants as status
+use Rattle.headline.specs.Headline.{Fits, FitsMirror, HasGoodLegs, Headline, IsClean, IsFaultless, IsFormed, IsFound, IsFresh, IsMended, IsMirrored, IsPlain, IsStill, IsWalked, blocks_in, mended_over, mirror_over, opening_over, replied_on_mirror, setting_over, volume_over}
+use Rattle.headline.specs.Words.{IsTold, wants_memory, words_for}
+use Rattle.headline.specs.declared.way.Way.{Way}
+use Rattle.headline.specs.declared.way.Way.TheVariants.{Mirror, Run}
+use Rattle.headline.proofs.Coming.{CameToMirror, CameToRun, IsCalled, came_to_mirror, came_to_run}
+use Rattle.headline.proofs.Cut.{block_below, blocks_below}
+use Rattle.headline.proofs.FreshHead.{right_head, units_back}
+use Rattle.headline.proofs.Got.{got_enough, got_formed, got_plain, got_served, got_walked}
+use Rattle.headline.proofs.Told.{IsAfter, after, head_asked, image_after, units_asked}
+
+-- ---- over the image
+
+-- what a run did, said of the image's own devices, units and volume
+pub record RanOver (script : Script) (image image' : List ℕ) (run : Finished) : Type 0 where
+  pub old : View
+  pub new : View
+  pub units : old.seen.units ≡ Some (own_units image)
+  pub none : new.seen.faults ≡ 0
+  pub made : MadeFor (volume_over script image) (devices_of image) script.block
+  pub followed : Followed script (volume_over script image) (devices_of image) old new run.stack.pool run.stack.replies.items
+  pub after : (left : List Stored) → new.seen.units ≡ Some left → IsAfter image image' left
+
+-- what the rig tells at the end, where it stands as it did when its devices had answered
+told_after : (way : Way) (image text image' : List ℕ) (f : Facts) (name : List ℕ) (devices : List DeviceInfo) (told : View) → IsCalled way image text image' f → head_fault (head_of image) ≡ None → WasAsked name devices f.rig told → f.rig_after.standing ≡ told.standing
+    → (left : List Stored) → f.rig_after.seen.units ≡ Some left → IsAfter image image' left
+told_after way image text image' f name devices told called right asked same left e =
+    let s = f.rig_after.standing in
+    after s image image' left right
+    (ap (λ (st : Standing). st.head) same ∙ head_asked name devices f.rig told image called.image_is asked)
+    (rw same asked.all)
+    (subst (IsStanding s) called.left_is called.standing)
+    (ap (units_told s) (sym called.left_is) ∙ sym called.laid ∙ e)
+
+ran_over : (script : Script) (image text image' : List ℕ) (f : Facts) (name : List ℕ) (run : Finished) → IsCalled Run image text image' f → head_fault (head_of image) ≡ None → HasRun run script name f.rig f.rig_after → RanOver script image image' run
+ran_over script image text image' f name run called right r =
+    let ds : r.devices ≡ devices_of image = image_devices name r.devices f.rig r.told image r.asked called.image_is in
+    let t : r.table ≡ volume_over script image = table_is script r.devices (devices_of image) r.table ds r.made in
+    record {
+      old = r.told;
+      new = f.rig_after;
+      units = units_asked name r.devices f.rig r.told image called.image_is r.asked;
+      none = called.faults;
+      made = subst (λ (x : Table). MadeFor x (devices_of image) script.block) t (subst (λ (x : List DeviceInfo). MadeFor r.table x script.block) ds r.made.made);
+      followed = subst (λ (x : Table). Followed script x (devices_of image) r.told f.rig_after run.stack.pool run.stack.replies.items) t
+          (subst (λ (x : List DeviceInfo). Followed script r.table x r.told f.rig_after run.stack.pool run.stack.replies.items) ds r.followed);
+      after = told_after Run image text image' f name r.devices r.told called right r.asked r.followed.goes.standing;
+    }
+
+-- ---- a run
+
+walked : (script : Script) (image image' text' : List ℕ) (run : Finished) (result : Status) → head_fault (head_of image) ≡ None → RanOver script image image' run → result ≡ done_status (has_bad run.stack.replies.items) → text' ≡ report run.stack.replies.items → IsWalked script image result text' image'
+walked script image image' text' run result right o st tx =
+    let w = got_walked script (volume_over script image) (devices_of image) o.old o.new run.stack.pool run.stack.replies.items (own_units image) o.followed o.units o.none in
+    record {
+      status_is = st ∙ ap (λ rs. done_status (has_bad rs)) w.2.replies_are;
+      report_is = tx ∙ ap report w.2.replies_are;
+      image_is = image_after image image' w.0 _ right (o.after w.0 w.1) w.2.blocks;
+    }
+
+plain : (script : Script) (image image' text' : List ℕ) (run : Finished) → head_fault (head_of image) ≡ None → All (λ x. x < 256) image → RanOver script image image' run → text' ≡ report run.stack.replies.items → IsFaultless script image → IsPlain script image text' image'
+plain script image image' text' run right bytes o tx p =
+    let premise : IsPlainRun script (volume_over script image) (own_units image) = record {
+      quiet = record { faults = p.faults; overwrites = p.overwrites; bytes = blocks_below image bytes; clean = p.clean };
+      no_escape = p.no_escape;
+    } in
+    let w = got_plain script (volume_over script image) (devices_of image) o.old o.new run.stack.pool run.stack.replies.items (own_units image) o.followed o.units o.none premise in
+    record { report_is = tx ∙ ap report w.2.replies_are; image_is = image_after image image' w.0 _ right (o.after w.0 w.1) w.2.blocks }
+
+found : (script : Script) (image image' text' : List ℕ) (run : Finished) → All (λ x. x < 256) image → RanOver script image image' run → text' ≡ report run.stack.replies.items → IsFormed script image → IsClean script image → IsFound script image text'
+found script image image' text' run bytes o tx p clean =
+    let premise : IsFormedRun script (volume_over script image) (devices_of image) (own_units image) = record {
+      ty = p.ty;
+      dix = p.dix;
+      dif = p.dif;
+      protect = p.protect;
+      form = p.form;
+      escapes = p.escapes;
+      bytes = blocks_below image bytes;
+      clean = clean;
+    } in
+    let w = got_walked script (volume_over script image) (devices_of image) o.old o.new run.stack.pool run.stack.replies.items (own_units image) o.followed o.units o.none in
+    let reads = got_formed script (volume_over script image) (devices_of image) o.old o.new run.stack.pool run.stack.replies.items (own_units image) o.followed o.units o.none premise in
+    record {
+      report_is = tx ∙ ap report w.2.replies_are;
+      reads = subst (AllReadRightly (setting_over script image) script.ops (opening_over script image)) w.2.replies_are reads;
+    }
+
+-- ---- after `format`
+
+clean_of : (script : Script) (units : List UnitSpec) → is_layout units ≡ true → is_zero (volume_over script (formatted units)).ty ≡ false → as_expected (setting_over script (formatted units)) 0 ≡ true → IsClean script (formatted units)
+clean_of script units h tuples app =
+    let few = (layout_parts units h).1 in
+    let image = formatted units in
+    let own : own_units image ≡ units_in units image = ap (λ us. units_in us image) (units_back units h) in
+    let cell : cell_in (shapes_of (own_units image)) ≡ cell_in units = ap cell_in (ap shapes_of own ∙ shapes_are units few) in
+    let ds : map info_of units ≡ devices_of image = ap (map info_of) (sym (units_back units h)) in
+    let m : Setting = setting_over script image in
+    subst (λ (d : List DeviceInfo). DevicesAreClean m d (blocks_in image)) ds
+    (subst (λ (us : List Stored). DevicesAreClean m (map info_of units) (blocks_told us)) (sym own) (formatted_clean m units few tuples app cell))
+
+is_clean : (script : Script) (image : List ℕ) (units : List UnitSpec) → IsFresh units image → is_zero (volume_over script image).ty ≡ false → as_expected (setting_over script image) 0 ≡ true → IsClean script image
+is_clean script image units fresh tuples app =
+    let e = fresh.image_is in
+    subst (IsClean script) (sym e) (clean_of script units fresh.layout (subst (λ (i : List ℕ). is_zero (volume_over script i).ty ≡ false) e tuples) (subst (λ (i : List ℕ). as_expected (setting_over script i) 0 ≡ true) e app))
+
+-- a script without faults over it
+faultless : (script : Script) (image image' : List ℕ) (units : List UnitSpec) (run : Finished) → RanOver script image image' run → IsFresh units image → as_expected (setting_over script image) 0 ≡ true → IsStill script → IsFaultless script image
+faultless script image image' units run o fresh app p = record {
+  faults = p.faults;
+  overwrites = p.overwrites;
+  clean = λ v l tuples. is_clean script image units fresh tuples app v (address_of (setting_over script image) v) l (o.made.inside v l);
+  no_escape = none_supplied (setting_over script image) 1 script.ops (opening_over script image) p.escapes;
+}
+
+-- ---- a mirror
+
+pub record MirroredOver (script : Script) (image image' : List ℕ) (run : Mirrored) : Type 0 where
+  pub left : List Stored
+  pub after : IsAfter image image' left
+  pub served : HasServed script (devices_of image) (own_units image) left run.mirror.state.pool run.mirror.replies.items run.mirror.state.marks.items run.repair.repaired run.repair.lost
+  pub enough : IsOneGoodRun script (devices_of image) (own_units image) → WasEnough script (devices_of image) (own_units image) left run.repair.lost
+
+mirrored_over : (script : Script) (image text image' : List ℕ) (f : Facts) (name : List ℕ) (run : Mirrored) → IsCalled Mirror image text image' f → head_fault (head_of image) ≡ None → HasMirrored run script name f.rig f.rig_after → MirroredOver script image image' run
+mirrored_over script image text image' f name run called right r =
+    let ds : r.devices ≡ devices_of image = image_devices name r.devices f.rig r.told image r.asked called.image_is in
+    let us = own_units image in
+    let units : r.told.seen.units ≡ Some us = units_asked name r.devices f.rig r.told image called.image_is r.asked in
+    let s = got_served run script name f.rig f.rig_after us r units called.faults in
+    record {
+      left = s.0;
+      after = told_after Mirror image text image' f name r.devices r.told called right r.asked r.ended.stretches.standing s.0 s.1.0;
+      served = subst (λ (d : List DeviceInfo). HasServed script d us s.0 run.mirror.state.pool run.mirror.replies.items run.mirror.state.marks.items run.repair.repaired run.repair.lost) ds s.1.1;
+      enough = λ p.
+          let e = got_enough run script name f.rig f.rig_after us r units called.faults (subst (λ (d : List DeviceInfo). IsOneGoodRun script d us) (sym ds) p) in
+          let same : e.0 ≡ s.0 = one_left e.0 s.0 (sym e.1.0 ∙ s.1.0) in
+          subst (λ (left : List Stored). WasEnough script (devices_of image) us left run.repair.lost) same
+          (subst (λ (d : List DeviceInfo). WasEnough script d us e.0 run.repair.lost) ds e.1.1);
+    }
+  where
+    one_left : (a b : List Stored) → Some a ≡ Some b → a ≡ b
+    one_left a b e = cc
+
+mirrored : (script : Script) (image image' text' : List ℕ) (run : Mirrored) (result : Status) → head_fault (head_of image) ≡ None → MirroredOver script image image' run → result ≡ done_status (is_any_lost run.mirror.replies.items run.repair.lost) →
+    text' ≡ mirror_text run.mirror.replies.items run.repair.repaired run.repair.lost → IsMirrored script image result text' image'
+mirrored script image image' text' run result right o st tx =
+    let w = o.served in
+    let said = replied_on_mirror script image in
+    let done = mended_over script image in
+    record {
+      status_is = st ∙ ap (λ rs. done_status (is_any_lost rs run.repair.lost)) w.replies_are ∙ ap (λ k. done_status (is_any_lost said k)) w.lost_is;
+      report_is = tx ∙ ap (λ rs. mirror_text rs run.repair.repaired run.repair.lost) w.replies_are ∙ ap (λ k. mirror_text said k run.repair.lost) w.repaired_is ∙ ap (mirror_text said done.repaired) w.lost_is;
+      image_is = image_after image image' o.left done.blocks right o.after w.blocks;
+    }
+
+mended : (script : Script) (image image' text' : List ℕ) (run : Mirrored) (result : Status) → All (λ x. x < 256) image → MirroredOver script image image' run → IsMirrored script image result text' image' → HasGoodLegs script image → IsMended script image text' image'
+mended script image image' text' run result bytes o is p =
+    let premise : IsOneGoodRun script (devices_of image) (own_units image) = record {
+      ty = p.ty;
+      protect = p.protect;
+      clean = p.clean;
+      equal = p.equal;
+      bytes = λ u l. block_below (blocks_in image) (home (mirror_over script image) u) (blocks_below image bytes);
+      no_escape = p.no_escape;
+      shown = p.shown;
+      one_good = p.one_good;
+    } in
+    let w = o.enough premise in
+    record {
+      report_is = is.report_is ∙ ap (mirror_text (replied_on_mirror script image) (mended_over script image).repaired) (sym o.served.lost_is ∙ w.lost_none);
+      reads = w.reads;
+      equal = subst (BothHoldLast script (devices_of image) (own_units image)) o.after.units w.equal;
+    }
+
+-- ---- the headline
+
+pub headlined : (way : Way) (image text image' text' : List ℕ) (f : Facts) (o n : ℕ) (result : Status) → IsCalled way image text image' f → (result ≡ status.Memory → ⊥) → (result ≡ status.WriteFault → ⊥) → Carries f (Some []) (Some text') o n result →
+    Headline way image text result text' image'
+headlined way image text image' text' f o n result called memory sink carries = record {
+  walked = λ script is right fits. let c = run_at script is right fits in walked script image image' text' c.run result right (over_at script is right fits c) c.status_is c.text_is;
+  plain = λ script is right fits p. let c = run_at script is right fits in plain script image image' text' c.run right called.bytes (over_at script is right fits c) c.text_is p;
+  found = λ script is right fits p clean. let c = run_at script is right fits in found script image image' text' c.run called.bytes (over_at script is right fits c) c.text_is p clean;
+  mirrored = λ script is right fits. let c = mirror_at script is right fits in mirrored script image image' text' c.run result right (mirror_over_at script is right fits c) c.status_is c.text_is;
+  mended = λ script is right fits p.
+      let c = mirror_at script is right fits in
+      let over = mirror_over_at script is right fits c in
+      mended script image image' text' c.run result called.bytes over (mirrored script image image' text' c.run result right over c.status_is c.text_is) p;
+  fresh_plain = λ script units is fresh fits app p.
+      let right = fresh_head units fresh in
+      let c = run_at script is right fits in
+      let over = over_at script is right fits c in
+      plain script image image' text' c.run right called.bytes over c.text_is (faultless script image image' units c.run over fresh app p);
+  fresh_found = λ script units is fresh fits app p.
+      let right = fresh_head units fresh in
+      let c = run_at script is right fits in
+      found script image image' text' c.run called.bytes (over_at script is right fits c) c.text_is p (is_clean script image units fresh (ap is_zero p.ty) app);
+}
+  where
+    fresh_head : (units : List UnitSpec) → IsFresh units image → head_fault (head_of image) ≡ None
+    fresh_head units fresh = ap (λ i. head_fault (head_of i)) fresh.image_is ∙ right_head units fresh.layout
+
+    run_at : (script : Script) → way ≡ Run → head_fault (head_of image) ≡ None → Fits script image text → CameToRun script f result text'
+    run_at script is right fits = came_to_run script image text image' text' f o n result (subst (λ w. IsCalled w image text image' f) is called) right fits memory sink carries
+
+    over_at : (script : Script) → way ≡ Run → head_fault (head_of image) ≡ None → Fits script image text → (c : CameToRun script f result text') → RanOver script image image' c.run
+    over_at script is right fits c = ran_over script image text image' f _ c.run (subst (λ w. IsCalled w image text image' f) is called) right c.ran
+
+    mirror_at : (script : Script) → way ≡ Mirror → head_fault (head_of image) ≡ None → FitsMirror script image text → CameToMirror script f result text'
+    mirror_at script is right fits = came_to_mirror script image text image' text' f o n result (subst (λ w. IsCalled w image text image' f) is called) right fits memory sink carries
+
+    mirror_over_at : (script : Script) → way ≡ Mirror → head_fault (head_of image) ≡ None → FitsMirror script image text → (c : CameToMirror script f result text') → MirroredOver script image image' c.run
+    mirror_over_at script is right fits c = mirrored_over script image text image' f _ c.run (subst (λ w. IsCalled w image text image' f) is called) right c.ran
+
+-- ---- what a call answers
+
+spared : (s : Status) → wants_memory s ≡ false → (s ≡ status.Memory → ⊥) × (s ≡ status.WriteFault → ⊥)
+spared s h = (λ e. let k : true ≡ false = ap wants_memory (sym e) ∙ h in absurd (cc), λ e. let k : true ≡ false = ap wants_memory (sym e) ∙ h in absurd (cc))
+
+-- the headline of a call, by what its parts tell
+pub headlined_by : (way : Way) (image text image' text' : List ℕ) (f : Facts) (taken taken' : Option (List ℕ)) (o n : ℕ) (result answer : Status) → Carries f taken taken' o n result → IsTold f.rig_after.standing f.rig_after.image f.rig_after.seen.units f.rig_after.seen.faults →
+    f.words ≡ words_for way → f.left ≡ Some text → Calm f.reads f.reads_after → f.rig.image ≡ Some image → All (λ x. x < 256) image → f.rig_after.image ≡ Some image' → answer ≡ result → taken ≡ Some [] → taken' ≡ Some text' → wants_memory result ≡ false →
+    Headline way image text answer text' image'
+headlined_by way image text image' text' f taken taken' o n result answer carries told words left reads held bytes after_is same began ended spare =
+    let called : IsCalled way image text image' f = record { words = words; text_is = left; reads = reads; image_is = held; left_is = after_is; faults = told.calm; laid = told.laid; standing = told.stands; bytes = bytes } in
+    let good = spared result spare in
+    subst (λ (s : Status). Headline way image text s text' image') (sym same)
+    (headlined way image text image' text' f o n result called good.0 good.1 (subst (λ (t : Option (List ℕ)). Carries f (Some []) t o n result) ended (subst (λ (t : Option (List ℕ)). Carries f t taken' o n result) began carries)))
+
+-- an answer that has these parts has what follows from them
+pub answered : {X E : Type 0} (r : Result X E) (P Q R S : X → Type 0) → IfOk r P → IfOk r Q → IfOk r R → ((x : X) → P x → Q x → R x → S x) → IfOk r S
+answered (Ok x) P Q R S p q t f = f x p q t
+answered (Err e) P Q R S p q t f = tt

@@ -1,0 +1,6 @@
+mod Cut
+mod FreshHead
+mod Told
+mod Got
+mod Coming
+mod Headlined

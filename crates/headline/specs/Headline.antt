@@ -1,0 +1,190 @@
+-- What a script does to an image, from bytes to bytes. The schedule, which says in what order commands are sent, merged and answered, is part of the script's text; no sentence here hangs on it, nor on the script's limits.
+use Rattle.std.specs.Prelude.{ℕ, ◌≡◌, ◌+◌, ◌<◌, true, false, List, [], ◌++◌, get_or, take, None, Ok}
+use Rattle.std.specs.List.{list_any}
+use Rattle.pi_tuple.specs.declared.checks.PiType.TheVariants.{One}
+use Rattle.target_answer.specs.Frames.{joined}
+use Rattle.target_answer.specs.Headers.{is_layout}
+use Rattle.target_answer.specs.Image.{formatted}
+use Rattle.target_answer.specs.declared.units.UnitSpec.{UnitSpec}
+use Rattle.rig_api.specs.Head.{head_fault, head_of}
+use Rattle.rig_api.specs.Telling.{own_units}
+use Rattle.dix_adapter.specs.Ways.{blocks_told}
+use Rattle.stack_ops.specs.declared.reply.Reply.{Reply}
+use Rattle.volume_table.specs.Faults.{table_fault}
+use Rattle.volume_table.specs.Tables.{Table}
+use Rattle.block_path.specs.Acts.{State}
+use Rattle.whole_run.specs.Detectable.{detectable}
+use Rattle.whole_run.specs.Past.{brought_by}
+use Rattle.whole_run.specs.PlainMap.{Plain, as_expected, plain_map, plain_replies}
+use Rattle.whole_run.specs.ScriptWalk.{script_replies, script_walk}
+use Rattle.whole_run.specs.Settings.{Setting}
+use Rattle.whole_run.specs.Steps.{Step}
+use Rattle.whole_run.specs.UnderMap.{AreClean, NoEscape, NoneEscapes, home, opened, under}
+use Rattle.run_laws.specs.ShownRun.{DevicesAreClean}
+use Rattle.run_premises.specs.Forms.{escapes_none, shows_by_form}
+use Rattle.stack_walks.specs.Overwrites.{is_overwrite}
+use Rattle.script_text.specs.Bindings.{binding_fault}
+use Rattle.script_text.specs.Language.{script_in}
+use Rattle.script_text.specs.declared.script.Script.{Script}
+use Rattle.script_verdict.specs.Texts.{has_bad}
+use Rattle.script_verdict.specs.Verdict.{AllReadRightly, devices_of, opening_told, setting_told, table_over}
+use Rattle.mirror_script.specs.MirrorFaults.{mirror_fault}
+use Rattle.mirror_walk.specs.Mirror.{mirror_replies}
+use Rattle.mirror_walk.specs.OneGood.{OneGood, script_asks}
+use Rattle.mirror_walk.specs.Repair.{Repair}
+use Rattle.leg_runs.specs.Standing.{half_of, mirror_setting}
+use Rattle.mirror_verdict.specs.Stages.{repair_over}
+use Rattle.mirror_verdict.specs.Texts.{is_any_lost, mirror_text}
+use Rattle.mirror_verdict.specs.Verdict.{AllReadLast, BothHoldLast}
+use Rattle.report_text.specs.Report.{report}
+use Rattle.dix_run.specs.Verdict.{done_status}
+use Rattle.dix_run.specs.declared.status.Status.{Status}
+use Rattle.headline.specs.declared.way.Way.{Way}
+use Rattle.headline.specs.declared.way.Way.TheVariants.{Mirror, Run}
+
+-- ---- a script over an image
+
+-- the stored blocks of an image, one unit's behind another's
+abbrev pub blocks_in : List ℕ → List (List ℕ)
+blocks_in image = blocks_told (own_units image)
+
+-- the image with these stored blocks behind its header
+abbrev pub image_with : List ℕ → List (List ℕ) → List ℕ
+image_with image blocks = take 512 image ++ joined blocks
+
+-- the script's volume over the image's units
+abbrev pub volume_over : Script → List ℕ → Table
+volume_over script image = table_over script.entries (devices_of image)
+
+-- what the script runs with over the image: its mode, its volume, its faults, and a target behind each unit
+abbrev pub setting_over : Script → List ℕ → Setting
+setting_over script image = setting_told script (volume_over script image) (own_units image)
+
+-- with what it begins: pages of zeros, and the image's blocks
+abbrev pub opening_over : Script → List ℕ → State
+opening_over script image = opening_told script (own_units image)
+
+-- what its ops reply, and what they leave in pages and blocks, done one after another at the target
+abbrev pub replied : Script → List ℕ → List Reply
+replied script image = script_replies (setting_over script image) script.ops (opening_over script image)
+
+abbrev pub left_by : Script → List ℕ → State
+left_by script image = script_walk (setting_over script image) script.ops (opening_over script image)
+
+-- the plain map of virtual blocks that the image holds, with which the ops begin
+abbrev pub map_over : Script → List ℕ → Plain
+map_over script image = opened (setting_over script image) (opening_over script image)
+
+-- the same on a mirror, which has a leg of half the volume; what the mirror asks of the legs; and what its ops reply, and its repair does, one after another
+abbrev pub mirror_over : Script → List ℕ → Setting
+mirror_over script image = mirror_setting script (devices_of image) (own_units image)
+
+abbrev pub half_over : Script → List ℕ → ℕ
+half_over script image = half_of script (devices_of image)
+
+abbrev pub asked_of_legs : Script → List ℕ → List Step
+asked_of_legs script image = script_asks (mirror_over script image) (half_over script image) script.ops (opening_over script image)
+
+abbrev pub replied_on_mirror : Script → List ℕ → List Reply
+replied_on_mirror script image = mirror_replies (mirror_over script image) (half_over script image) script.ops (opening_over script image)
+
+abbrev pub mended_over : Script → List ℕ → Repair
+mended_over script image = repair_over script (devices_of image) (own_units image)
+
+-- The text is this script of the language, and neither its volume nor one of its lines is at fault over the image's units.
+pub record Fits (script : Script) (image text : List ℕ) : Type 0 where
+  pub language : script_in text ≡ Ok script
+  pub volume : table_fault script.entries (devices_of image) script.block ≡ None
+  pub lines : binding_fault script (volume_over script image) (devices_of image) ≡ None
+
+-- So it is of a script that is run on a mirror over them.
+pub record FitsMirror (script : Script) (image text : List ℕ) : Type 0 where
+  pub language : script_in text ≡ Ok script
+  pub volume : table_fault script.entries (devices_of image) script.block ≡ None
+  pub lines : mirror_fault script (volume_over script image) (devices_of image) ≡ None
+
+-- ---- the premises
+
+-- The script has no `fault`, `shift` or `overwrite` line. Each block of its volume is clean, and no write supplies an escape.
+pub record IsFaultless (script : Script) (image : List ℕ) : Type 0 where
+  pub faults : script.faults ≡ []
+  pub overwrites : list_any is_overwrite script.ops ≡ false
+  pub clean : AreClean (setting_over script image) (blocks_in image)
+  pub no_escape : NoEscape (setting_over script image) 1 script.ops (opening_over script image)
+
+-- The script has no such line, no `write` has the application tag FFFFh, and there is no `writepi`.
+pub record IsStill (script : Script) : Type 0 where
+  pub faults : script.faults ≡ []
+  pub overwrites : list_any is_overwrite script.ops ≡ false
+  pub escapes : escapes_none script.ops ≡ true
+
+-- The volume is of type 1, tuples pass all the way, and commands have protect field 001b. The faults have the form under which tuples show each, no `write` has the application tag FFFFh, and there is no `writepi`.
+pub record IsFormed (script : Script) (image : List ℕ) : Type 0 where
+  pub ty : (volume_over script image).ty ≡ One
+  pub dix : script.mode.dix ≡ true
+  pub dif : script.mode.dif ≡ true
+  pub protect : script.mode.protect ≡ 1
+  pub form : shows_by_form script.mode.kind script.block script.faults script.ops ≡ true
+  pub escapes : escapes_none script.ops ≡ true
+
+-- Each block of each unit on which the volume lies is clean.
+abbrev pub IsClean : Script → List ℕ → Type 0
+IsClean script image = DevicesAreClean (setting_over script image) (devices_of image) (blocks_in image)
+
+-- The volume is of type 1, and commands have protect field 001b. Each block of its units is clean, and both legs have the same data and application tags. No write supplies an escape, each alteration can be shown, and each block has a leg on which no fault line alters it on its way, and no overwrite in its place.
+pub record HasGoodLegs (script : Script) (image : List ℕ) : Type 0 where
+  pub ty : (volume_over script image).ty ≡ One
+  pub protect : script.mode.protect ≡ 1
+  pub clean : DevicesAreClean (mirror_over script image) (devices_of image) (blocks_in image)
+  pub equal : (u : ℕ) → u < half_over script image
+      → brought_by script.block (get_or (blocks_in image) (home (mirror_over script image) (half_over script image + u)) []) ≡ brought_by script.block (get_or (blocks_in image) (home (mirror_over script image) u) [])
+  pub no_escape : NoneEscapes (mirror_over script image) (asked_of_legs script image) (opening_over script image)
+  pub shown : detectable (mirror_over script image) (asked_of_legs script image) (opening_over script image) ≡ true
+  pub one_good : OneGood (mirror_over script image) (half_over script image) script.ops
+
+-- The image is what `format` leaves of these units.
+pub record IsFresh (units : List UnitSpec) (image : List ℕ) : Type 0 where
+  pub layout : is_layout units ≡ true
+  pub image_is : image ≡ formatted units
+
+-- ---- what comes of it
+
+-- Status, report and image are those of the script's ops done one after another at the target.
+pub record IsWalked (script : Script) (image : List ℕ) (status : Status) (text image' : List ℕ) : Type 0 where
+  pub status_is : status ≡ done_status (has_bad (replied script image))
+  pub report_is : text ≡ report (replied script image)
+  pub image_is : image' ≡ image_with image (left_by script image).blocks
+
+-- The report is that of the script's ops done one after another on a plain map of virtual blocks, which knows no adapter, no target and no address. The image has its old header, and behind it the blocks of that map, under their tuples and at their physical addresses.
+pub record IsPlain (script : Script) (image text image' : List ℕ) : Type 0 where
+  pub report_is : text ≡ report (plain_replies (setting_over script image) script.ops (map_over script image))
+  pub image_is : image' ≡ image_with image (under (setting_over script image) 0 (plain_map (setting_over script image) script.ops (map_over script image)).map (blocks_in image))
+
+-- Each block of each read is the last accepted write's, or it is listed: exactly where a layer checks behind a fault, with the first that does and the check that fails there. The report is that of these replies.
+pub record IsFound (script : Script) (image text : List ℕ) : Type 0 where
+  pub report_is : text ≡ report (replied script image)
+  pub reads : AllReadRightly (setting_over script image) script.ops (opening_over script image) (replied script image)
+
+-- On a mirror: status, report and image are those of its ops done one after another, and of the repair behind them.
+pub record IsMirrored (script : Script) (image : List ℕ) (status : Status) (text image' : List ℕ) : Type 0 where
+  pub status_is : status ≡ done_status (is_any_lost (replied_on_mirror script image) (mended_over script image).lost)
+  pub report_is : text ≡ mirror_text (replied_on_mirror script image) (mended_over script image).repaired (mended_over script image).lost
+  pub image_is : image' ≡ image_with image (mended_over script image).blocks
+
+-- Each read of the mirror is whole and has the data last accepted. Afterwards no block is lost, and both legs hold what was last accepted, under proper tuples.
+pub record IsMended (script : Script) (image text image' : List ℕ) : Type 0 where
+  pub report_is : text ≡ mirror_text (replied_on_mirror script image) (mended_over script image).repaired 0
+  pub reads : AllReadLast script (devices_of image) (own_units image)
+  pub equal : BothHoldLast script (devices_of image) (own_units image) (own_units image')
+
+-- ---- the headline
+
+-- What a call leaves that was handed this image and this text, of which came this status, this report and this image. (1) Whatever the schedule, it is as if the ops were done one after another; without faults, as if on a plain map of virtual blocks. (2) In type 1, with tuples passed all the way and faults of the form, each block of a read is the last accepted write's, or it is listed with the first layer that checks behind the fault. (3) On a mirror one good leg for each block is enough. (4) Over an image that `format` left nothing is asked of its blocks.
+pub record Headline (way : Way) (image text : List ℕ) (status : Status) (report' image' : List ℕ) : Type 0 where
+  pub walked : (script : Script) → way ≡ Run → head_fault (head_of image) ≡ None → Fits script image text → IsWalked script image status report' image'
+  pub plain : (script : Script) → way ≡ Run → head_fault (head_of image) ≡ None → Fits script image text → IsFaultless script image → IsPlain script image report' image'
+  pub found : (script : Script) → way ≡ Run → head_fault (head_of image) ≡ None → Fits script image text → IsFormed script image → IsClean script image → IsFound script image report'
+  pub mirrored : (script : Script) → way ≡ Mirror → head_fault (head_of image) ≡ None → FitsMirror script image text → IsMirrored script image status report' image'
+  pub mended : (script : Script) → way ≡ Mirror → head_fault (head_of image) ≡ None → FitsMirror script image text → HasGoodLegs script image → IsMended script image report' image'
+  pub fresh_plain : (script : Script) (units : List UnitSpec) → way ≡ Run → IsFresh units image → Fits script image text → as_expected (setting_over script image) 0 ≡ true → IsStill script → IsPlain script image report' image'
+  pub fresh_found : (script : Script) (units : List UnitSpec) → way ≡ Run → IsFresh units image → Fits script image text → as_expected (setting_over script image) 0 ≡ true → IsFormed script image → IsFound script image report'

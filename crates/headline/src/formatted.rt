@@ -1,0 +1,35 @@
+//! What `format` leaves.
+
+ghost use Rattle.std.specs.Prelude.{List, ℕ, ◌≡◌, ◌<◌, true, false, map, None, Some, All};
+ghost use Rattle.dix_adapter.specs.Ways.{blocks_told, cell_in};
+ghost use Rattle.image_commands.specs.Causes.{WasFormatted};
+ghost use Rattle.image_commands.specs.Views.{View as AnyView};
+ghost use Rattle.pi_tuple.specs.Finds.{is_zero};
+ghost use Rattle.rig_api.specs.Head.{head_fault, head_of, units_of};
+ghost use Rattle.rig_discovery.specs.Discovery.{info_of};
+ghost use Rattle.run_laws.specs.ShownRun.{DevicesAreClean};
+ghost use Rattle.script_verdict.specs.Verdict.{WasAsked, devices_of};
+ghost use Rattle.target_answer.specs.Headers.{is_layout};
+ghost use Rattle.target_answer.specs.Image.{formatted};
+ghost use Rattle.target_answer.specs.Target.{Stored};
+ghost use Rattle.target_answer.specs.declared.units.UnitSpec.{UnitSpec as AnyUnit};
+ghost use Rattle.volume_table.specs.declared.device.DeviceInfo.{DeviceInfo as AnyDevice};
+ghost use Rattle.whole_run.specs.PlainMap.{as_expected};
+ghost use Rattle.whole_run.specs.Settings.{Setting};
+
+use script_premises::a_formatted_image_is_clean;
+
+/// A law: what a rig that tells its image was formatted with is the formatted image of these units; it has a right head,
+/// which tells these units. Once its devices were asked, the rig tells these units and their blocks; and these are bytes,
+/// and clean for every volume over them of a type with tuples under which the application tag 0 is the expected one.
+pub fn a_formatted_image_tells_its_units()
+    ensures left { (units : List AnyUnit) (name image : List ℕ) (old new : AnyView) → WasFormatted name units old new → new.image ≡ Some image → image ≡ formatted units }
+    ensures head { (units : List AnyUnit) → is_layout units ≡ true → head_fault (head_of (formatted units)) ≡ None }
+    ensures units { (units : List AnyUnit) → is_layout units ≡ true → units_of (head_of (formatted units)) ≡ units }
+    ensures devices { (units : List AnyUnit) → is_layout units ≡ true → devices_of (formatted units) ≡ map info_of units }
+    ensures told { (units : List AnyUnit) (name : List ℕ) (devices : List AnyDevice) (old told : AnyView) → is_layout units ≡ true → old.image ≡ Some (formatted units) → WasAsked name devices old told
+        → (us : List Stored) × (told.seen.units ≡ Some us) × (devices ≡ map info_of units) × All (All (λ x. x < 256)) (blocks_told us)
+        × ((m : Setting) → is_zero m.ty ≡ false → as_expected m 0 ≡ true → m.site.cell ≡ cell_in units → DevicesAreClean m devices (blocks_told us)) }
+{
+    a_formatted_image_is_clean();
+}
