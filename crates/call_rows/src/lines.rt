@@ -6,7 +6,7 @@ use std::alloc::{AllocError, Global};
 /// The marks that a line may have.
 const MARKS: &str =
     "$ : :/ spaces script source-fails store-fails sink-fails room put cut more answer again each \
-                     read-only status > >/ has sends same x kept length holds";
+                     bytes read-only status > >/ has sends same x kept length holds";
 
 /// Whether a line may have this mark.
 pub(crate) fn is_mark(word: &str) -> bool {

@@ -3,6 +3,7 @@
 //! were, and how many of these.
 #![tactic(auto)]
 
+mod bytes;
 mod calls;
 mod files;
 mod lines;

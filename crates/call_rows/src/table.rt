@@ -1,5 +1,6 @@
 //! The lines of the table.
 
+use crate::bytes::add_on_bytes;
 use crate::calls::came_over;
 use crate::files::{add_in_file, path_of};
 use crate::lines::{add_line, has, is_mark};
@@ -74,6 +75,19 @@ impl Left {
         )
     }
 
+    /// Makes a row's call from the image's bytes to bytes.
+    fn call_on_bytes(
+        &mut self,
+        alloc: Global,
+        lines: &[String],
+        others: &mut Vec<u8>,
+    ) -> Result<(), AllocError> {
+        let before = image_in(alloc, lines, &self.image)?;
+        self.image = add_on_bytes(alloc, others, lines, &before)?;
+        self.rig = None;
+        Ok(())
+    }
+
     /// Makes a row's call over forms in memory.
     fn add(
         &mut self,
@@ -83,6 +97,8 @@ impl Left {
     ) -> Result<(), AllocError> {
         if has(lines, "each") {
             add_sweep(alloc, others, lines, &self.image)
+        } else if has(lines, "bytes") {
+            self.call_on_bytes(alloc, lines, others)
         } else if has(lines, "answer") {
             self.call_answered(alloc, lines, others)
         } else {
