@@ -1,12 +1,11 @@
-use Rattle.std.proofs.Common.{◌≡◌, ◌<◌, ◌+◌, ℕ, zero, suc, Bool, true, false, ◌&&◌, eqb, if◌then◌else◌, List, [], ◌∷◌, ◌++◌, get_or, Option, Some, None, refl, sym, ap, subst, ◌∙◌, arith, inl}
-use Rattle.std.specs.Prelude.{IfSome, length, Ok, Result, replicate, take}
+use Rattle.std.proofs.Common.{◌≡◌, ◌<◌, ◌+◌, ℕ, zero, suc, Bool, true, false, ◌&&◌, eqb, if◌then◌else◌, List, [], ◌∷◌, get_or, Option, Some, None, refl, ap, subst, ◌∙◌, arith, inl}
+use Rattle.std.specs.Prelude.{IfSome, length, Ok, replicate, take}
 use Rattle.std.proofs.lemmas.List.{length-replicate}
 use Rattle.std.proofs.lemmas.List.Elements.{All-nil}
 use Rattle.pi_guard.specs.Guards.{crc, ip}
 use Rattle.page_pool.specs.Places.{run}
 use Rattle.integrity_payload.specs.declared.payload.Owner.TheVariants.{Block as OfBlock}
 use Rattle.bio_core.specs.Bios.{Block}
-use Rattle.bio_core.specs.declared.fate.Why.{Why}
 use Rattle.bio_core.specs.declared.fate.Why.TheVariants.{Medium}
 use Rattle.bio_core.specs.declared.request.Dir.TheVariants.{Write as ToUnit}
 use Rattle.bio_core.specs.declared.request.Io.{Io}
@@ -15,7 +14,6 @@ use Rattle.stack_ops.specs.declared.op.Op.TheVariants.{Put, Write}
 use Rattle.stack_ops.specs.declared.reply.Reply.TheVariants.{Bad, Silent}
 use Rattle.block_path.specs.Acts.{State, act, tell}
 use Rattle.block_path.specs.Blocks.{Sent, silent}
-use Rattle.block_path.specs.Moves.{first_why}
 use Rattle.block_path.specs.Routes.{told_by}
 use Rattle.block_path.specs.Serial.{plain, plain_tells}
 use Rattle.block_path.specs.WayOut.{to_wire}
@@ -34,8 +32,8 @@ use Rattle.carried_record.specs.OnRecord.{put_each}
 use Rattle.run_follows.specs.Finished.{replies_of}
 use Rattle.run_follows.specs.Following.{Becomes, Follows}
 use Rattle.run_follows.specs.Gate.{BecomesDone, MayMove, Spot, ops_of, parts_at}
-use Rattle.run_follows.specs.Pieces.{AllMayMove, all_cut, all_made, with_all}
-use Rattle.run_follows.specs.Sending.{AllGoOut, AllGoing, IsGoing, SentOut, with_status}
+use Rattle.run_follows.specs.Pieces.{all_cut, all_made}
+use Rattle.run_follows.specs.Sending.{AllGoOut, IsGoing, SentOut, with_status}
 use Rattle.run_follows.specs.Slots.{Admitted, Carried, Cut, Done, Settled, Status, Waits}
 use Rattle.run_follows.proofs.Begins.{begin_all}
 use Rattle.run_follows.proofs.Sends.{out_all, with_here, with_other}

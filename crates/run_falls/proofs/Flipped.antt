@@ -12,7 +12,7 @@ use Rattle.stack_ops.specs.Footprints.{footprint}
 use Rattle.block_path.specs.Acts.{Act, State}
 use Rattle.block_path.specs.Blocks.{Answer}
 use Rattle.whole_run.specs.Settings.{Setting}
-use Rattle.whole_run.specs.Steps.{Step, steps_of}
+use Rattle.whole_run.specs.Steps.{steps_of}
 use Rattle.fault_schedule.specs.Altered.{byte_at, xored_from}
 use Rattle.stack_ops.specs.declared.reply.Reply.{Reply}
 use Rattle.whole_run.specs.ScriptWalk.{reply_of}

@@ -1,4 +1,4 @@
-use Rattle.std.proofs.Common.{◌≡◌, ◌<◌, ℕ, zero, suc, ◌+◌, ◌-◌, Bool, true, false, if◌then◌else◌, List, [], ◌∷◌, ◌++◌, length, get_or, bit_xor, Option, Some, None, refl, sym, ap, subst, ◌∙◌, arith}
+use Rattle.std.proofs.Common.{◌≡◌, ◌<◌, ℕ, zero, suc, ◌+◌, ◌-◌, if◌then◌else◌, List, [], ◌∷◌, ◌++◌, length, get_or, bit_xor, Some, None, refl, sym, ap, subst, ◌∙◌, arith}
 use Rattle.std.proofs.lemmas.List.{ext_get_or}
 use Rattle.std.specs.Int.Bits.{xor_assoc, xor_self, xor_zero_l}
 use Rattle.fault_schedule.specs.Altered.{byte_at, xored_from}
@@ -15,7 +15,7 @@ use Rattle.run_moves.specs.OpsApart.{IsPlaced, OneCellEach}
 use Rattle.run_follows.specs.Following.{Follows}
 use Rattle.run_follows.specs.Gate.{AllPlaced, BecomesDone, LetsIn}
 use Rattle.run_follows.specs.Slots.{Status, Waits}
-use Rattle.run_falls.specs.Falls.{Falls, forgive, forgiven, is_write, over_falls, writes_of}
+use Rattle.run_falls.specs.Falls.{forgive, forgiven, is_write, over_falls, writes_of}
 use Rattle.run_falls.specs.Flips.{no_flips}
 use Rattle.run_falls.specs.FollowsFalling.{FollowsFalling}
 use Rattle.run_falls.proofs.Flipped.{lets_flip, no_flip}

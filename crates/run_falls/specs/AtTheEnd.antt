@@ -1,19 +1,17 @@
-use Rattle.std.specs.Prelude.{ℕ, suc, ◌≡◌, ◌<◌, ◌⊎◌, Bool, true, false, List, [], ◌∷◌, ◌++◌, length, get_or, Option, Some, None}
+use Rattle.std.specs.Prelude.{ℕ, suc, ◌≡◌, ◌⊎◌, false, List, [], ◌∷◌, ◌++◌, length, get_or, Option, Some, None}
 use Rattle.page_pool.specs.declared.segs.Seg.{Seg}
 use Rattle.page_pool.specs.Cells.{gather}
 use Rattle.integrity_payload.specs.declared.payload.Owner.{Owner}
 use Rattle.bio_core.specs.declared.fate.Why.TheVariants.{Medium}
-use Rattle.target_answer.specs.Frames.{stored_size}
 use Rattle.stack_ops.specs.declared.op.Op.{Op}
-use Rattle.stack_ops.specs.declared.op.Op.TheVariants.{Fetch, FetchPi, Fill, Overwrite, Put, Seal, Show, Wait, Write, WritePi}
 use Rattle.stack_ops.specs.declared.reply.Reply.{Reply}
 use Rattle.stack_ops.specs.declared.reply.Reply.TheVariants.{Silent}
 use Rattle.block_path.specs.Acts.{State}
-use Rattle.block_path.specs.Blocks.{Sent, stored_cell}
+use Rattle.block_path.specs.Blocks.{Sent}
 use Rattle.block_path.specs.Moves.{hidden}
 use Rattle.whole_run.specs.FirstLayer.{last_accepted}
 use Rattle.whole_run.specs.Past.{steps_from}
-use Rattle.whole_run.specs.Settings.{Block, Setting, block_of, route}
+use Rattle.whole_run.specs.Settings.{Block, Setting, block_of}
 use Rattle.run_laws.specs.FallingReads.{IsReadAs, falling_replies}
 use Rattle.whole_run.specs.ReadsAs.{landing, listed_in, read_op}
 use Rattle.run_laws.specs.StoreFaults.{falling_past, falling_walk, is_lost}

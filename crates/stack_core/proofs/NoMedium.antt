@@ -36,12 +36,12 @@ use Rattle.stack_walks.specs.Sheets.{op_in}
 use Rattle.stack_walks.specs.Statuses.{fate_in}
 use Rattle.stack_walks.proofs.Letting.{all_marked}
 use Rattle.stack_walks.proofs.Standing.{is_done, is_settled, past}
-use Rattle.stack_core.specs.Courses.{Falling, Straight}
+use Rattle.stack_core.specs.Courses.{Falling}
 use Rattle.stack_core.specs.declared.stack.Stack.{Stack}
 use Rattle.stack_core.specs.Mediums.{listed_mediums, medium_lines, one_reply}
 use Rattle.stack_core.specs.OnRecord.{bad_blocks}
 use Rattle.stack_core.specs.Stacks.{IsStack, plan_in}
-use Rattle.stack_core.specs.Walking.{IsOver, IsReply, NoneFailed, WalksAtTarget, WalksBy, WalksFalling, WalksTold, data_of, is_medium, shown_in, status_of, why_in}
+use Rattle.stack_core.specs.Walking.{IsOver, IsReply, NoneFailed, WalksBy, WalksFalling, WalksTold, data_of, is_medium, shown_in, status_of, why_in}
 use Rattle.stack_core.proofs.MediumLines.{lists_bad}
 use Rattle.stack_core.proofs.WalkEnds.{ended_waits}
 use Rattle.stack_core.proofs.Walked.{sound, stand}

@@ -12,7 +12,6 @@ use Rattle.stack_core.specs.Replies.{reply_of}
 use Rattle.stack_walks.specs.Sheets.{io_at}
 use Rattle.stack_core.specs.Walking.{NoneFailed, data_of, is_medium}
 use Rattle.stack_core.proofs.Failing.{one-more, request-silent}
-use Rattle.stack_ops.specs.declared.reply.Reply.TheVariants.{Silent}
 use Rattle.stack_core.proofs.Walked.{walk_ends}
 use Rattle.stack_core.specs.Mediums.{medium_replies, one_reply}
 use Rattle.stack_core.proofs.StackCounts.{few_replies, request_quiet}

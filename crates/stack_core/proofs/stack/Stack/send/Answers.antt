@@ -1,4 +1,4 @@
-use Rattle.std.proofs.Common.{ap, inl, inr, refl, subst, sym, ◌∙◌, arith}
+use Rattle.std.proofs.Common.{ap, refl, subst, sym, ◌∙◌, arith}
 use Rattle.std.specs.Prelude.{is_some}
 use Rattle.dix_adapter.specs.Groups.{size}
 use Rattle.stack_core.specs.Stacks.{Stays, plan_in}
@@ -11,7 +11,6 @@ use Rattle.dix_adapter.specs.Carried.{Shown}
 use Rattle.stack_core.specs.declared.stack.Stack.{Stack}
 use Rattle.stack_core.specs.Walking.{Walks, WalksFalling, WalksTold}
 use Rattle.stack_core.proofs.WalkedRecord.{walk_sends}
-use Rattle.stack_core.proofs.Steps.{one-send}
 use Rattle.stack_core.proofs.WalkedTold.{told_sends}
 use Rattle.stack_core.proofs.Mediums.{spoiled_by}
 use Rattle.stack_core.proofs.stack.Stack.send.Goals as goal

@@ -1,9 +1,8 @@
-use Rattle.std.proofs.Common.{ap, get_or, refl, subst, sym, arith}
+use Rattle.std.proofs.Common.{refl, subst, sym, arith}
 use Rattle.std.specs.Prelude.{is_some}
 use Rattle.stack_steps.specs.declared.choice.Choice.TheVariants.{Admit, Complete, Cut, End, Join, Send}
 use Rattle.stack_steps.specs.Does.{Chooses}
 use Rattle.stack_core.specs.Stacks.{plan_in}
-use Rattle.stack_ops.specs.declared.reply.Reply.TheVariants.{Silent}
 use Rattle.stack_core.proofs.Goes.{goes-nowhere}
 use Rattle.stack_core.proofs.Going.{can-step, spare-left}
 use Rattle.stack_core.proofs.StackCounts.{few_counts, same_counts, sent_counts, step_counts, still_counts}
