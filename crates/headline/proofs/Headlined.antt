@@ -3,6 +3,7 @@ use Rattle.std.proofs.Common.{◌≡◌, ◌<◌, ℕ, true, false, List, [], ma
 use Rattle.std.specs.Prelude.{All, Option, IfOk, Result, Ok, Err}
 use Rattle.dix_base.specs.Told.{Calm}
 use Rattle.pi_tuple.specs.Finds.{is_zero}
+use Rattle.pi_tuple.specs.declared.checks.PiType.TheVariants.{One}
 use Rattle.target_answer.specs.Headers.{is_layout}
 use Rattle.target_answer.specs.Image.{formatted, units_in}
 use Rattle.target_answer.specs.Target.{Stored}
@@ -24,7 +25,7 @@ use Rattle.script_premises.proofs.Fresh.{formatted_clean, shapes_are}
 use Rattle.script_text.specs.declared.script.Script.{Script}
 use Rattle.script_verdict.specs.Premises.{IsFormedRun, IsPlainRun}
 use Rattle.script_verdict.specs.Texts.{has_bad}
-use Rattle.script_verdict.specs.Verdict.{AllReadRightly, Followed, HasRun, WasAsked, devices_of}
+use Rattle.script_verdict.specs.Verdict.{AllReadRightly, Followed, HasRun, WasAsked, devices_of, table_over}
 use Rattle.script_verdict.specs.declared.verdict.Finished.{Finished}
 use Rattle.script_verdict.proofs.Completing.{table_is}
 use Rattle.script_verdict.proofs.Devices.{image_devices}
@@ -38,13 +39,14 @@ use Rattle.dix_run.specs.Headline.{Carries}
 use Rattle.dix_run.specs.Verdict.{Facts, done_status}
 use Rattle.dix_run.specs.declared.status.Status.{Status}
 use Rattle.dix_run.specs.declared.status.Status.TheVariants as status
-use Rattle.headline.specs.Headline.{Fits, FitsMirror, HasGoodLegs, Headline, IsClean, IsFaultless, IsFormed, IsFound, IsFresh, IsMended, IsMirrored, IsPlain, IsStill, IsWalked, blocks_in, mended_over, mirror_over, opening_over, replied_on_mirror, setting_over, volume_over}
+use Rattle.headline.specs.Headline.{AreEqualLegs, Fits, FitsMirror, HasGoodLegs, Headline, IsClean, IsFaultless, IsFormed, IsFound, IsFresh, IsMended, IsMirrored, IsPlain, IsStill, IsWalked, blocks_in, mended_over, mirror_over, opening_over, replied_on_mirror, setting_over, volume_over}
 use Rattle.headline.specs.Words.{IsTold, wants_memory, words_for}
 use Rattle.headline.specs.declared.way.Way.{Way}
 use Rattle.headline.specs.declared.way.Way.TheVariants.{Mirror, Run}
 use Rattle.headline.proofs.Coming.{CameToMirror, CameToRun, IsCalled, came_to_mirror, came_to_run}
 use Rattle.headline.proofs.Cut.{block_below, blocks_below}
 use Rattle.headline.proofs.FreshHead.{right_head, units_back}
+use Rattle.headline.proofs.FreshLegs.{equal_legs}
 use Rattle.headline.proofs.Got.{got_enough, got_formed, got_plain, got_served, got_walked}
 use Rattle.headline.proofs.Told.{IsAfter, after, head_asked, image_after, units_asked}
 
@@ -157,6 +159,7 @@ faultless script image image' units run o fresh app p = record {
 pub record MirroredOver (script : Script) (image image' : List ℕ) (run : Mirrored) : Type 0 where
   pub left : List Stored
   pub after : IsAfter image image' left
+  pub made : MadeFor (volume_over script image) (devices_of image) script.block
   pub served : HasServed script (devices_of image) (own_units image) left run.mirror.state.pool run.mirror.replies.items run.mirror.state.marks.items run.repair.repaired run.repair.lost
   pub enough : IsOneGoodRun script (devices_of image) (own_units image) → WasEnough script (devices_of image) (own_units image) left run.repair.lost
 
@@ -168,6 +171,7 @@ mirrored_over script image text image' f name run called right r =
     let s = got_served run script name f.rig f.rig_after us r units called.faults in
     record {
       left = s.0;
+      made = subst (λ (d : List DeviceInfo). MadeFor (table_over script.entries d) d script.block) ds r.bound.made;
       after = told_after Mirror image text image' f name r.devices r.told called right r.asked r.ended.stretches.standing s.0 s.1.0;
       served = subst (λ (d : List DeviceInfo). HasServed script d us s.0 run.mirror.state.pool run.mirror.replies.items run.mirror.state.marks.items run.repair.repaired run.repair.lost) ds s.1.1;
       enough = λ p.
@@ -192,13 +196,13 @@ mirrored script image image' text' run result right o st tx =
       image_is = image_after image image' o.left done.blocks right o.after w.blocks;
     }
 
-mended : (script : Script) (image image' text' : List ℕ) (run : Mirrored) (result : Status) → All (λ x. x < 256) image → MirroredOver script image image' run → IsMirrored script image result text' image' → HasGoodLegs script image → IsMended script image text' image'
-mended script image image' text' run result bytes o is p =
+mended : (script : Script) (image image' text' : List ℕ) (run : Mirrored) (result : Status) → All (λ x. x < 256) image → MirroredOver script image image' run → IsMirrored script image result text' image' → HasGoodLegs script image → AreEqualLegs script image → IsMended script image text' image'
+mended script image image' text' run result bytes o is p legs =
     let premise : IsOneGoodRun script (devices_of image) (own_units image) = record {
       ty = p.ty;
       protect = p.protect;
-      clean = p.clean;
-      equal = p.equal;
+      clean = legs.clean;
+      equal = legs.equal;
       bytes = λ u l. block_below (blocks_in image) (home (mirror_over script image) u) (blocks_below image bytes);
       no_escape = p.no_escape;
       shown = p.shown;
@@ -211,6 +215,17 @@ mended script image image' text' run result bytes o is p =
       equal = subst (BothHoldLast script (devices_of image) (own_units image)) o.after.units w.equal;
     }
 
+-- so are both legs over the image that `format` left
+fresh_legs : (script : Script) (image image' : List ℕ) (units : List UnitSpec) (run : Mirrored) → MirroredOver script image image' run → IsFresh units image → as_expected (mirror_over script image) 0 ≡ true → HasGoodLegs script image → AreEqualLegs script image
+fresh_legs script image image' units run o fresh app p =
+    let e = fresh.image_is in
+    let made : MadeFor (volume_over script (formatted units)) (devices_of (formatted units)) script.block = subst (λ (i : List ℕ). MadeFor (volume_over script i) (devices_of i) script.block) e o.made in
+    let ty : (volume_over script (formatted units)).ty ≡ One = subst (λ (i : List ℕ). (volume_over script i).ty ≡ One) e p.ty in
+    subst (AreEqualLegs script) (sym e) (record {
+      clean = clean_of script units fresh.layout (ap is_zero ty) (subst (λ (i : List ℕ). as_expected (setting_over script i) 0 ≡ true) e app);
+      equal = equal_legs script units fresh.layout made ty;
+    })
+
 -- ---- the headline
 
 pub headlined : (way : Way) (image text image' text' : List ℕ) (f : Facts) (o n : ℕ) (result : Status) → IsCalled way image text image' f → (result ≡ status.Memory → ⊥) → (result ≡ status.WriteFault → ⊥) → Carries f (Some []) (Some text') o n result →
@@ -220,10 +235,10 @@ headlined way image text image' text' f o n result called memory sink carries = 
   plain = λ script is right fits p. let c = run_at script is right fits in plain script image image' text' c.run right called.bytes (over_at script is right fits c) c.text_is p;
   found = λ script is right fits p clean. let c = run_at script is right fits in found script image image' text' c.run called.bytes (over_at script is right fits c) c.text_is p clean;
   mirrored = λ script is right fits. let c = mirror_at script is right fits in mirrored script image image' text' c.run result right (mirror_over_at script is right fits c) c.status_is c.text_is;
-  mended = λ script is right fits p.
+  mended = λ script is right fits p legs.
       let c = mirror_at script is right fits in
       let over = mirror_over_at script is right fits c in
-      mended script image image' text' c.run result called.bytes over (mirrored script image image' text' c.run result right over c.status_is c.text_is) p;
+      mended script image image' text' c.run result called.bytes over (mirrored script image image' text' c.run result right over c.status_is c.text_is) p legs;
   fresh_plain = λ script units is fresh fits app p.
       let right = fresh_head units fresh in
       let c = run_at script is right fits in
@@ -233,6 +248,11 @@ headlined way image text image' text' f o n result called memory sink carries = 
       let right = fresh_head units fresh in
       let c = run_at script is right fits in
       found script image image' text' c.run called.bytes (over_at script is right fits c) c.text_is p (is_clean script image units fresh (ap is_zero p.ty) app);
+  fresh_mended = λ script units is fresh fits app p.
+      let right = fresh_head units fresh in
+      let c = mirror_at script is right fits in
+      let over = mirror_over_at script is right fits c in
+      mended script image image' text' c.run result called.bytes over (mirrored script image image' text' c.run result right over c.status_is c.text_is) p (fresh_legs script image image' units c.run over fresh app p);
 }
   where
     fresh_head : (units : List UnitSpec) → IsFresh units image → head_fault (head_of image) ≡ None

@@ -1,5 +1,6 @@
 mod Cut
 mod FreshHead
+mod FreshLegs
 mod Told
 mod Got
 mod Coming

@@ -131,16 +131,19 @@ pub record IsFormed (script : Script) (image : List ℕ) : Type 0 where
 abbrev pub IsClean : Script → List ℕ → Type 0
 IsClean script image = DevicesAreClean (setting_over script image) (devices_of image) (blocks_in image)
 
--- The volume is of type 1, and commands have protect field 001b. Each block of its units is clean, and both legs have the same data and application tags. No write supplies an escape, each alteration can be shown, and each block has a leg on which no fault line alters it on its way, and no overwrite in its place.
+-- The volume is of type 1, and commands have protect field 001b. No write supplies an escape, each alteration can be shown, and each block has a leg on which no fault line alters it on its way, and no overwrite in its place.
 pub record HasGoodLegs (script : Script) (image : List ℕ) : Type 0 where
   pub ty : (volume_over script image).ty ≡ One
   pub protect : script.mode.protect ≡ 1
-  pub clean : DevicesAreClean (mirror_over script image) (devices_of image) (blocks_in image)
-  pub equal : (u : ℕ) → u < half_over script image
-      → brought_by script.block (get_or (blocks_in image) (home (mirror_over script image) (half_over script image + u)) []) ≡ brought_by script.block (get_or (blocks_in image) (home (mirror_over script image) u) [])
   pub no_escape : NoneEscapes (mirror_over script image) (asked_of_legs script image) (opening_over script image)
   pub shown : detectable (mirror_over script image) (asked_of_legs script image) (opening_over script image) ≡ true
   pub one_good : OneGood (mirror_over script image) (half_over script image) script.ops
+
+-- Each block of the mirror's units is clean, and both legs have the same data and application tags.
+pub record AreEqualLegs (script : Script) (image : List ℕ) : Type 0 where
+  pub clean : DevicesAreClean (mirror_over script image) (devices_of image) (blocks_in image)
+  pub equal : (u : ℕ) → u < half_over script image
+      → brought_by script.block (get_or (blocks_in image) (home (mirror_over script image) (half_over script image + u)) []) ≡ brought_by script.block (get_or (blocks_in image) (home (mirror_over script image) u) [])
 
 -- The image is what `format` leaves of these units.
 pub record IsFresh (units : List UnitSpec) (image : List ℕ) : Type 0 where
@@ -181,10 +184,19 @@ pub record IsMended (script : Script) (image text image' : List ℕ) : Type 0 wh
 
 -- What a call leaves that was handed this image and this text, of which came this status, this report and this image. (1) Whatever the schedule, it is as if the ops were done one after another; without faults, as if on a plain map of virtual blocks. (2) In type 1, with tuples passed all the way and faults of the form, each block of a read is the last accepted write's, or it is listed with the first layer that checks behind the fault. (3) On a mirror one good leg for each block is enough. (4) Over an image that `format` left nothing is asked of its blocks.
 pub record Headline (way : Way) (image text : List ℕ) (status : Status) (report' image' : List ℕ) : Type 0 where
-  pub walked : (script : Script) → way ≡ Run → head_fault (head_of image) ≡ None → Fits script image text → IsWalked script image status report' image'
-  pub plain : (script : Script) → way ≡ Run → head_fault (head_of image) ≡ None → Fits script image text → IsFaultless script image → IsPlain script image report' image'
-  pub found : (script : Script) → way ≡ Run → head_fault (head_of image) ≡ None → Fits script image text → IsFormed script image → IsClean script image → IsFound script image report'
-  pub mirrored : (script : Script) → way ≡ Mirror → head_fault (head_of image) ≡ None → FitsMirror script image text → IsMirrored script image status report' image'
-  pub mended : (script : Script) → way ≡ Mirror → head_fault (head_of image) ≡ None → FitsMirror script image text → HasGoodLegs script image → IsMended script image report' image'
-  pub fresh_plain : (script : Script) (units : List UnitSpec) → way ≡ Run → IsFresh units image → Fits script image text → as_expected (setting_over script image) 0 ≡ true → IsStill script → IsPlain script image report' image'
-  pub fresh_found : (script : Script) (units : List UnitSpec) → way ≡ Run → IsFresh units image → Fits script image text → as_expected (setting_over script image) 0 ≡ true → IsFormed script image → IsFound script image report'
+  pub walked : (script : Script) → way ≡ Run → head_fault (head_of image) ≡ None → Fits script image text
+      → IsWalked script image status report' image'
+  pub plain : (script : Script) → way ≡ Run → head_fault (head_of image) ≡ None → Fits script image text
+      → IsFaultless script image → IsPlain script image report' image'
+  pub found : (script : Script) → way ≡ Run → head_fault (head_of image) ≡ None → Fits script image text
+      → IsFormed script image → IsClean script image → IsFound script image report'
+  pub mirrored : (script : Script) → way ≡ Mirror → head_fault (head_of image) ≡ None → FitsMirror script image text
+      → IsMirrored script image status report' image'
+  pub mended : (script : Script) → way ≡ Mirror → head_fault (head_of image) ≡ None → FitsMirror script image text
+      → HasGoodLegs script image → AreEqualLegs script image → IsMended script image report' image'
+  pub fresh_plain : (script : Script) (units : List UnitSpec) → way ≡ Run → IsFresh units image → Fits script image text
+      → as_expected (setting_over script image) 0 ≡ true → IsStill script → IsPlain script image report' image'
+  pub fresh_found : (script : Script) (units : List UnitSpec) → way ≡ Run → IsFresh units image → Fits script image text
+      → as_expected (setting_over script image) 0 ≡ true → IsFormed script image → IsFound script image report'
+  pub fresh_mended : (script : Script) (units : List UnitSpec) → way ≡ Mirror → IsFresh units image → FitsMirror script image text
+      → as_expected (mirror_over script image) 0 ≡ true → HasGoodLegs script image → IsMended script image report' image'

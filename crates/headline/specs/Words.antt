@@ -1,6 +1,7 @@
 use Rattle.std.specs.Prelude.{ℕ, ◌≡◌, Bool, true, false, List, [], ◌∷◌, Option, codes}
 use Rattle.target_answer.specs.Target.{Stored}
 use Rattle.rig_api.specs.Telling.{IsStanding, Standing, units_told}
+use Rattle.script_text.specs.declared.script.Script.{Script}
 use Rattle.dix_run.specs.declared.status.Status.{Status}
 use Rattle.dix_run.specs.declared.status.Status.TheVariants as status
 use Rattle.headline.specs.declared.way.Way.{Way}
@@ -37,3 +38,7 @@ pub record IsTold (standing : Standing) (image : Option (List ℕ)) (units : Opt
   pub laid : units ≡ units_told standing image
   pub stands : IsStanding standing image
   pub calm : faults ≡ 0
+
+-- a script with the schedule and the limits of another
+abbrev pub planned_as : Script → Script → Script
+planned_as script other = record script { schedule = other.schedule; limits = other.limits }

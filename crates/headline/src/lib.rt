@@ -5,8 +5,10 @@
 mod bytes;
 mod formatted;
 mod report_sink;
+mod schedule;
 mod way;
 
 pub use bytes::{Ran, run_on_bytes};
 pub use formatted::a_formatted_image_tells_its_units;
+pub use schedule::no_schedule_has_a_part;
 pub use way::Way;
