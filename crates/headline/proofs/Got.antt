@@ -1,5 +1,5 @@
 -- What a call's records say where no store call failed, one lemma for each. The count of faults of a store in memory stays at 0.
-use Rattle.std.proofs.Common.{◌≡◌, ℕ, List, Some, arith}
+use Rattle.std.proofs.Common.{◌≡◌, ◌⊎◌, inl, inr, ℕ, List, Some, arith}
 use Rattle.dix_base.specs.Told.{Calm}
 use Rattle.target_answer.specs.Target.{Stored}
 use Rattle.volume_table.specs.Tables.{Table}
@@ -10,25 +10,32 @@ use Rattle.script_text.specs.declared.script.Script.{Script}
 use Rattle.script_stack.specs.Followed.{HasWalked}
 use Rattle.script_verdict.specs.Premises.{IsFormedRun, IsPlainRun, opening_told, setting_told}
 use Rattle.script_verdict.specs.Verdict.{AllReadRightly, Followed, HasPlain}
-use Rattle.mirror_verdict.specs.Premises.{IsOneGoodRun}
+use Rattle.mirror_volume.specs.Enough.{WasEnough}
+use Rattle.mirror_volume.specs.Premises.{IsOneGoodRun}
+use Rattle.stack_core.specs.Mediums.{RoseBy, medium_lines}
 use Rattle.mirror_verdict.specs.Stages.{HasServed}
-use Rattle.mirror_verdict.specs.Verdict.{HasMirrored, WasEnough}
+use Rattle.mirror_verdict.specs.Verdict.{HasMirrored}
 use Rattle.mirror_verdict.specs.declared.mirrored.Mirrored.{Mirrored}
 
 calm : (old new : ℕ) → new ≡ 0 → Calm old new
 calm old new e = (omega (arith, e), omega (arith, e))
 
+-- so no line names the medium
+unnamed : (n old new : ℕ) → RoseBy n old new → new ≡ 0 → n ≡ 0
+unnamed n old new (inl p) e = omega (arith, p, e)
+unnamed n old new (inr p) e = absurd (omega (arith, p, e))
+
 pub got_walked : (script : Script) (table : Table) (devices : List DeviceInfo) (old new : View) (pool : List (List ℕ)) (replies : List Reply) (us : List Stored) (f : Followed script table devices old new pool replies) → old.seen.units ≡ Some us → new.seen.faults ≡ 0
     → (left : List Stored) × (new.seen.units ≡ Some left) × HasWalked script table us left pool f.goes.more replies
-got_walked script table devices old new pool replies us f e none = f.walked us e (calm old.seen.faults new.seen.faults none)
+got_walked script table devices old new pool replies us f e none = f.walked us e (unnamed (medium_lines replies) old.seen.faults new.seen.faults f.medium none)
 
 pub got_plain : (script : Script) (table : Table) (devices : List DeviceInfo) (old new : View) (pool : List (List ℕ)) (replies : List Reply) (us : List Stored) → Followed script table devices old new pool replies → old.seen.units ≡ Some us → new.seen.faults ≡ 0 → IsPlainRun script table us
     → (left : List Stored) × (new.seen.units ≡ Some left) × HasPlain script table us left pool replies
-got_plain script table devices old new pool replies us f e none p = f.plain us e (calm old.seen.faults new.seen.faults none) p
+got_plain script table devices old new pool replies us f e none p = f.plain us e (unnamed (medium_lines replies) old.seen.faults new.seen.faults f.medium none) p
 
 pub got_formed : (script : Script) (table : Table) (devices : List DeviceInfo) (old new : View) (pool : List (List ℕ)) (replies : List Reply) (us : List Stored) → Followed script table devices old new pool replies → old.seen.units ≡ Some us → new.seen.faults ≡ 0 → IsFormedRun script table devices us
     → AllReadRightly (setting_told script table us) script.ops (opening_told script us) replies
-got_formed script table devices old new pool replies us f e none p = f.formed us e (calm old.seen.faults new.seen.faults none) p
+got_formed script table devices old new pool replies us f e none p = f.formed us e (unnamed (medium_lines replies) old.seen.faults new.seen.faults f.medium none) p
 
 pub got_served : (run : Mirrored) (script : Script) (name : List ℕ) (old new : View) (us : List Stored) (m : HasMirrored run script name old new) → m.told.seen.units ≡ Some us → new.seen.faults ≡ 0
     → (left : List Stored) × ((new.seen.units ≡ Some left) × HasServed script m.devices us left run.mirror.state.pool run.mirror.replies.items run.mirror.state.marks.items run.repair.repaired run.repair.lost)

@@ -29,10 +29,11 @@ use Rattle.script_verdict.specs.Verdict.{AllReadRightly, Followed, HasRun, WasAs
 use Rattle.script_verdict.specs.declared.verdict.Finished.{Finished}
 use Rattle.script_verdict.proofs.Completing.{table_is}
 use Rattle.script_verdict.proofs.Devices.{image_devices}
-use Rattle.mirror_verdict.specs.Premises.{IsOneGoodRun}
+use Rattle.mirror_volume.specs.Enough.{BothHoldLast, WasEnough}
+use Rattle.mirror_volume.specs.Premises.{IsOneGoodRun}
 use Rattle.mirror_verdict.specs.Stages.{HasServed}
 use Rattle.mirror_verdict.specs.Texts.{is_any_lost, mirror_text}
-use Rattle.mirror_verdict.specs.Verdict.{BothHoldLast, HasMirrored, WasEnough}
+use Rattle.mirror_verdict.specs.Verdict.{HasMirrored}
 use Rattle.mirror_verdict.specs.declared.mirrored.Mirrored.{Mirrored}
 use Rattle.report_text.specs.Report.{report}
 use Rattle.dix_run.specs.Headline.{Carries}
@@ -102,7 +103,7 @@ walked script image image' text' run result right o st tx =
 plain : (script : Script) (image image' text' : List ℕ) (run : Finished) → head_fault (head_of image) ≡ None → All (λ x. x < 256) image → RanOver script image image' run → text' ≡ report run.stack.replies.items → IsFaultless script image → IsPlain script image text' image'
 plain script image image' text' run right bytes o tx p =
     let premise : IsPlainRun script (volume_over script image) (own_units image) = record {
-      quiet = record { faults = p.faults; overwrites = p.overwrites; bytes = blocks_below image bytes; clean = p.clean };
+      quiet = record { faults = p.faults; overwrites = p.overwrites; clean = p.clean };
       no_escape = p.no_escape;
     } in
     let w = got_plain script (volume_over script image) (devices_of image) o.old o.new run.stack.pool run.stack.replies.items (own_units image) o.followed o.units o.none premise in
@@ -117,7 +118,6 @@ found script image image' text' run bytes o tx p clean =
       protect = p.protect;
       form = p.form;
       escapes = p.escapes;
-      bytes = blocks_below image bytes;
       clean = clean;
     } in
     let w = got_walked script (volume_over script image) (devices_of image) o.old o.new run.stack.pool run.stack.replies.items (own_units image) o.followed o.units o.none in
@@ -203,7 +203,6 @@ mended script image image' text' run result bytes o is p legs =
       protect = p.protect;
       clean = legs.clean;
       equal = legs.equal;
-      bytes = λ u l. block_below (blocks_in image) (home (mirror_over script image) u) (blocks_below image bytes);
       no_escape = p.no_escape;
       shown = p.shown;
       one_good = p.one_good;

@@ -35,7 +35,7 @@ use Rattle.mirror_walk.specs.Repair.{Repair}
 use Rattle.leg_runs.specs.Standing.{half_of, mirror_setting}
 use Rattle.mirror_verdict.specs.Stages.{repair_over}
 use Rattle.mirror_verdict.specs.Texts.{is_any_lost, mirror_text}
-use Rattle.mirror_verdict.specs.Verdict.{AllReadLast, BothHoldLast}
+use Rattle.mirror_volume.specs.Enough.{AllReadLast, BothHoldLast}
 use Rattle.report_text.specs.Report.{report}
 use Rattle.dix_run.specs.Verdict.{done_status}
 use Rattle.dix_run.specs.declared.status.Status.{Status}
