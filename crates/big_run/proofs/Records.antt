@@ -8,7 +8,9 @@ use Rattle.rig_api.specs.Telling.{Standing}
 use Rattle.rig_discovery.specs.Discovery.{Answer, looks}
 use Rattle.stack_ops.specs.declared.reply.Reply.{Reply}
 use Rattle.stack_ops.specs.declared.reply.Reply.TheVariants.{Silent, Whole, Bad, Shown, Medium}
+use Rattle.stack_core.specs.Mediums.{medium_lines}
 use Rattle.stack_core.specs.OnRecord.{ListsNone, bad_blocks}
+use Rattle.stack_core.proofs.NoMedium.{none_named}
 use Rattle.stack_view.specs.Runs.{sends_of}
 use Rattle.script_stack.specs.Sends.{IsPlanFor, entries_of}
 use Rattle.script_stack.proofs.SendsBy.{recorded_long}
@@ -115,7 +117,8 @@ replies_big n seed run old new image calm r =
     subst (λ t. Followed (big n seed) t r.devices r.told new run.stack.pool run.stack.replies.items) (table_is n seed run old new image r) r.followed in
     let units = told_two (codes "big") r.devices old r.told image r.asked in
     let plain = plain_two n seed (codes "big") r.devices r.table old r.told image r.asked r.made in
-    (followed.plain big_units units (since_told run (big n seed) (codes "big") old new r calm) plain).2.replies_are
+    let none = none_named (medium_lines run.stack.replies.items) r.told.seen.faults new.seen.faults followed.medium (since_told run (big n seed) (codes "big") old new r calm) in
+    (followed.plain big_units units none plain).2.replies_are
 
 pub ran_big : (n seed : ℕ) (b : BigRun) (old new : View) (run : Finished) (script : Script) → script ≡ big n seed → old.image ≡ Some (formatted two) → old.seen.log ≡ [] → Calm old.seen.faults new.seen.faults →
     HasRun run script (codes "big") old new → b.counts ≡ counts_with no_ops script.ops → b.bad ≡ min (all_bad run.stack.replies.items) (2 ^ 64 - 1) → b.has_bad ≡ has_bad run.stack.replies.items →

@@ -1,11 +1,12 @@
 -- Runs on the legs: none, one, and some after others.
-use Rattle.std.proofs.Common.{ℕ, ◌≡◌, ◌+◌, ◌≤◌, List, [], ◌∷◌, ◌++◌, length, min, inl, refl, sym, ap, subst, ◌∙◌, append_assoc, append-nil, arith, inr}
+use Rattle.std.proofs.Common.{ℕ, ◌≡◌, ◌+◌, ◌≤◌, List, [], ◌∷◌, ◌++◌, length, min, inl, refl, sym, ap, subst, ◌∙◌, append_assoc, append-nil, arith}
 use Rattle.dix_base.specs.Told.{Calm}
 use Rattle.target_answer.specs.Target.{Stored}
 use Rattle.script_text.specs.declared.script.Script.{Script}
 use Rattle.script_stack.specs.Followed.{Ran}
 use Rattle.script_stack.specs.Going.{Outside}
 use Rattle.stack_core.specs.Mediums.{RoseBy, medium_lines}
+use Rattle.stack_core.proofs.NoMedium.{none_named}
 use Rattle.stack_core.specs.declared.stack.Stack.{Stack}
 use Rattle.volume_table.specs.declared.device.DeviceInfo.{DeviceInfo}
 use Rattle.volume_table.specs.Tables.{Table}
@@ -81,11 +82,6 @@ ran-none t devices before after h = record {
   told = λ us e calm. (us, (h.units ∙ e, refl));
 }
 
--- while the count doesn't rise no line names the medium
-none-named : (n old new : ℕ) → RoseBy n old new → Calm old new → n ≡ 0
-none-named n old new (inl l) c = let a = c.0 in omega (arith, l, a)
-none-named n old new (inr e) c = let a = c.1 in absurd (omega (arith, e, a))
-
 pub ran-one : (s : Script) (t : Table) (devices : List DeviceInfo) (words : List (ℕ × ℕ)) (before after : Outside) (r : Stack) (h : Ran s t devices words before after r)
     → RanLegs t devices (record { own = s; words = words; records = h.more; stack = r } ∷ []) before after
 ran-one s t devices words before after r h = record {
@@ -94,7 +90,7 @@ ran-one s t devices words before after r h = record {
   records = h.records ∙ ap (λ es. before.log ++ es) (sym (append-nil h.more));
   backed = (h.backed, (h.sends, tt));
   medium = rose-one (medium_lines r.replies.items) before.faults after.faults h.medium;
-  told = λ us e calm. (let x = h.told us e (none-named (medium_lines r.replies.items) before.faults after.faults h.medium calm) in (x.0, (x.1.0, (x.0, (x.1.1, refl)))));
+  told = λ us e calm. (let x = h.told us e (none_named (medium_lines r.replies.items) before.faults after.faults h.medium calm) in (x.0, (x.1.0, (x.0, (x.1.1, refl)))));
 }
 
 -- ---- runs of which something is said

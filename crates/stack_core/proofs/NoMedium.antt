@@ -38,7 +38,8 @@ use Rattle.stack_walks.proofs.Letting.{all_marked}
 use Rattle.stack_walks.proofs.Standing.{is_done, is_settled, past}
 use Rattle.stack_core.specs.Courses.{Falling}
 use Rattle.stack_core.specs.declared.stack.Stack.{Stack}
-use Rattle.stack_core.specs.Mediums.{listed_mediums, medium_lines, one_reply}
+use Rattle.dix_base.specs.Told.{Calm}
+use Rattle.stack_core.specs.Mediums.{RoseBy, listed_mediums, medium_lines, one_reply}
 use Rattle.stack_core.specs.OnRecord.{bad_blocks}
 use Rattle.stack_core.specs.Stacks.{IsStack, plan_in}
 use Rattle.stack_core.specs.Walking.{IsOver, IsReply, NoneFailed, WalksBy, WalksFalling, WalksTold, data_of, is_medium, shown_in, status_of, why_in}
@@ -60,6 +61,11 @@ reply_medium Whole e = refl
 reply_medium (Bad blocks) e = refl
 reply_medium (Shown bytes) e = refl
 reply_medium MediumReply e = absurd (omega (arith, e))
+
+-- while the count of faults doesn't rise no line names the medium
+pub none_named : (n old new : ℕ) → RoseBy n old new → Calm old new → n ≡ 0
+none_named n old new (inl l) c = let a = c.0 in omega (arith, l, a)
+none_named n old new (inr e) c = let a = c.1 in absurd (omega (arith, e, a))
 
 pub none_failed : (replies : List Reply) → medium_lines replies ≡ 0 → NoneFailed replies
 none_failed replies e i = let h = line_in replies i in reply_medium (get_or replies i Silent) (omega (arith, h, e))
