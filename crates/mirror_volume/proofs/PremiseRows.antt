@@ -88,7 +88,7 @@ one_good_row = record {
 }
 
 -- And so it can be read off the script.
-
+pub formed_row : IsFormedMirror script devices us
 unfolding crc
 formed_row = record {
   ty = refl;
