@@ -3,10 +3,8 @@
 #include <stdint.h>
 #include <stdio.h>
 
+#include "../lib/dixpi.h"
 #include "rounds.h"
-
-/* The static library: a slice is a pointer and a length. */
-uint16_t bench_crc16(const uint8_t *p, size_t n);
 
 enum { BLOCK = 512, MIB = 1 << 20, ROUNDS = 9 };
 
@@ -20,7 +18,7 @@ int main(int count, char **words) {
         uint16_t all = 0;
         double start = spent();
         for (long i = 0; i < blocks; i++)
-            all ^= bench_crc16(source + (size_t)i * BLOCK % MIB, BLOCK);
+            all ^= dixpi_crc16(source + (size_t)i * BLOCK % MIB, BLOCK);
         double time = spent() - start;
         sink = all;
         if (round == 0 || time < least)

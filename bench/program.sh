@@ -2,7 +2,7 @@
 # the data, and beside dd, which moves the same blocks in and out in pieces of a block. The file is in memory.
 . bench/files.sh
 rounds=${1:-21}
-exports needed
+library needed
 
 # A script of so many writes and then as many reads, each of so many blocks over whole pages.
 script() {

@@ -2,7 +2,7 @@
 # its data. The file is in memory.
 . bench/files.sh
 rounds=${1:-9}
-exports needed
+library needed
 "$DIX" format "$image" 1:65536 1:65536 1:65536 1:65536 1:65536 1:65536 1:65536 1:65536 >/dev/null
 guards=$("$work/needed" 524288)
 cat "$image" >/dev/null
