@@ -15,6 +15,7 @@ use Rattle.mirror_volume.specs.Premises.{IsOneGoodRun}
 use Rattle.stack_core.specs.Mediums.{RoseBy, medium_lines}
 use Rattle.mirror_verdict.specs.Stages.{HasServed}
 use Rattle.mirror_verdict.specs.Verdict.{HasMirrored}
+use Rattle.mirror_verdict.proofs.Mirroring.{calm-names-none}
 use Rattle.mirror_verdict.specs.declared.mirrored.Mirrored.{Mirrored}
 
 calm : (old new : ℕ) → new ≡ 0 → Calm old new
@@ -39,8 +40,8 @@ got_formed script table devices old new pool replies us f e none p = f.formed us
 
 pub got_served : (run : Mirrored) (script : Script) (name : List ℕ) (old new : View) (us : List Stored) (m : HasMirrored run script name old new) → m.told.seen.units ≡ Some us → new.seen.faults ≡ 0
     → (left : List Stored) × ((new.seen.units ≡ Some left) × HasServed script m.devices us left run.mirror.state.pool run.mirror.replies.items run.mirror.state.marks.items run.repair.repaired run.repair.lost)
-got_served run script name old new us m e none = m.ended.told us e (calm m.told.seen.faults new.seen.faults none)
+got_served run script name old new us m e none = m.ended.told us e (calm-names-none run script name old new m (calm m.told.seen.faults new.seen.faults none))
 
 pub got_enough : (run : Mirrored) (script : Script) (name : List ℕ) (old new : View) (us : List Stored) (m : HasMirrored run script name old new) → m.told.seen.units ≡ Some us → new.seen.faults ≡ 0 → IsOneGoodRun script m.devices us
     → (left : List Stored) × ((new.seen.units ≡ Some left) × WasEnough script m.devices us left run.repair.lost)
-got_enough run script name old new us m e none p = m.enough us e (calm m.told.seen.faults new.seen.faults none) p
+got_enough run script name old new us m e none p = m.enough us e (calm-names-none run script name old new m (calm m.told.seen.faults new.seen.faults none)) p

@@ -29,3 +29,5 @@ pub mod Dones
 pub mod Ends
 pub mod Starts
 pub mod Lines
+pub mod Unnamed
+pub mod Listed

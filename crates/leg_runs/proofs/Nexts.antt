@@ -1,7 +1,6 @@
 -- The next op of a mirror, over a rig that tells its blocks.
 use Rattle.std.proofs.Common.{◌≡◌, ◌<◌, ℕ, ◌+◌, ◌⊎◌, inl, inr, List, [], ◌∷◌, ◌++◌, length, map, Option, Some, refl, sym, ap, ◌∙◌, subst, arith}
 use Rattle.std.specs.Prelude.{is_some}
-use Rattle.dix_base.specs.Told.{Calm, Rose}
 use Rattle.page_pool.specs.Pages.{AreWhole}
 use Rattle.rig_api.specs.Telling.{IsStanding, block_at, changed, units_told, with_block}
 use Rattle.rig_discovery.specs.Discovery.{info_of}
@@ -14,37 +13,36 @@ use Rattle.stack_ops.specs.declared.op.Op.{Op}
 use Rattle.stack_ops.specs.declared.op.Op.TheVariants.{Fetch, FetchPi, Fill, Overwrite, Put, Seal, Show, Wait, Write, WritePi}
 use Rattle.stack_ops.specs.declared.reply.Reply.{Reply}
 use Rattle.stack_ops.specs.declared.reply.Reply.TheVariants.{Medium, Silent}
+use Rattle.stack_core.specs.Mediums.{medium_lines}
 use Rattle.script_text.specs.declared.script.Script.{Script}
 use Rattle.script_ground.specs.Units.{AreStored}
 use Rattle.script_stack.specs.Causes.{table_of}
 use Rattle.script_stack.specs.Going.{Outside}
 use Rattle.script_stack.proofs.Following.{told-image, told-shapes, told-stored}
-use Rattle.leg_runs.specs.LegRuns.{LegRun}
+use Rattle.leg_runs.specs.LegRuns.{LegRun, NamesNoMedium}
 use Rattle.leg_runs.specs.OnOps.{DidOp, OpBy, OpRan, OpWalked, Sides}
-use Rattle.leg_runs.specs.Standing.{HasDevices, IsBoundMirror, StandsAt, half_of, op_at}
+use Rattle.leg_runs.specs.Standing.{HasDevices, IsBoundMirror, KeepsToWalk, StandsAt, half_of, op_at}
 
-not-rose : (b a : ℕ) → Calm b a → Rose b a → ⊥
-not-rose b a h (inl l) = let c = h.0 in omega (arith, c, l)
-not-rose b a h (inr e) = let c = h.1 in omega (arith, c, e)
+-- an overwrite that names no medium was made
+silent : (reply : Reply) → medium_lines (reply ∷ []) ≡ 0 → (reply ≡ Silent) ⊎ (reply ≡ Medium) → reply ≡ Silent
+silent reply none (inl e) = e
+silent reply none (inr e) = let one : medium_lines (reply ∷ []) ≡ 1 = ap (λ (r : Reply). medium_lines (r ∷ [])) e in absurd (omega (arith, none, one))
 
-silent : (b a : ℕ) (reply : Reply) → Calm b a → (reply ≡ Silent) ⊎ (reply ≡ Medium) → (reply ≡ Medium → Rose b a) → reply ≡ Silent
-silent b a reply h (inl e) rose = e
-silent b a reply h (inr e) rose = absurd (not-rose b a h (rose e))
-
--- where the count of faults doesn't rise
+-- where no line names the medium
 pub op-walked : (s : Script) (t : Table) (devices : List DeviceInfo) (half number : ℕ) (op : Op) (old new : Sides) (before after : Outside) (runs : List LegRun) (reply : Reply) (us : List Stored)
-    → OpRan op t devices runs before after → DidOp s half number op old new before after runs reply → before.units ≡ Some us → Calm before.faults after.faults → (left : List Stored) × ((after.units ≡ Some left) × OpWalked op t us runs reply left)
-op-walked s t devices half number (Fill seg byte) old new before after runs reply us ran did e calm = ran.told us e calm
-op-walked s t devices half number (Put page off bytes) old new before after runs reply us ran did e calm = ran.told us e calm
-op-walked s t devices half number (Show seg) old new before after runs reply us ran did e calm = ran.told us e calm
-op-walked s t devices half number (Seal n body tuples app rtag) old new before after runs reply us ran did e calm = ran.told us e calm
-op-walked s t devices half number (Write v n body app) old new before after runs reply us ran did e calm = ran.told us e calm
-op-walked s t devices half number (Fetch v n body) old new before after runs reply us ran did e calm = ran.told us e calm
-op-walked s t devices half number (WritePi v n body tuples) old new before after runs reply us ran did e calm = ran.told us e calm
-op-walked s t devices half number (FetchPi v n body tuples) old new before after runs reply us ran did e calm = ran.told us e calm
-op-walked s t devices half number (Overwrite dev lba change) old new before after runs reply us ran did e calm =
-    (with_block us dev lba (changed us change (block_at us dev lba)), (ran.told us e calm, (silent before.faults after.faults reply calm did.0.1 did.1.medium, refl)))
-op-walked s t devices half number Wait old new before after runs reply us ran did e calm = ran.told us e calm
+    → OpRan op t devices runs before after → DidOp s half number op old new before after runs reply → before.units ≡ Some us → NamesNoMedium runs (reply ∷ []) → (left : List Stored) × ((after.units ≡ Some left) × OpWalked op t us runs reply left)
+op-walked s t devices half number (Fill seg byte) old new before after runs reply us ran did e none = ran.told us e none.legs
+op-walked s t devices half number (Put page off bytes) old new before after runs reply us ran did e none = ran.told us e none.legs
+op-walked s t devices half number (Show seg) old new before after runs reply us ran did e none = ran.told us e none.legs
+op-walked s t devices half number (Seal n body tuples app rtag) old new before after runs reply us ran did e none = ran.told us e none.legs
+op-walked s t devices half number (Write v n body app) old new before after runs reply us ran did e none = ran.told us e none.legs
+op-walked s t devices half number (Fetch v n body) old new before after runs reply us ran did e none = ran.told us e none.legs
+op-walked s t devices half number (WritePi v n body tuples) old new before after runs reply us ran did e none = ran.told us e none.legs
+op-walked s t devices half number (FetchPi v n body tuples) old new before after runs reply us ran did e none = ran.told us e none.legs
+op-walked s t devices half number (Overwrite dev lba change) old new before after runs reply us ran did e none =
+    let made = silent reply none.report did.0.1 in
+    (with_block us dev lba (changed us change (block_at us dev lba)), (did.1.silent made us e, (made, refl)))
+op-walked s t devices half number Wait old new before after runs reply us ran did e none = ran.told us e none.legs
 
 -- what the law of a mirror's ops says
 abbrev pub OpLaw : Type 0
@@ -65,15 +63,14 @@ pub record IsBetween (s : Script) (devices : List DeviceInfo) (half : ℕ) (old 
   pub marks : length old.marks ≡ half
   pub more : length replies < length s.ops
 
-pub op-stands : OpLaw → (s : Script) (devices : List DeviceInfo) (half : ℕ) (us now : List Stored) (old new : Sides) (runs : List LegRun) (replies : List Reply) (reply : Reply) (image : Option (List ℕ)) (before after : Outside)
+pub op-stands : OpLaw → (s : Script) (devices : List DeviceInfo) (half : ℕ) (old new : Sides) (runs : List LegRun) (replies : List Reply) (reply : Reply) (image : Option (List ℕ)) (before after : Outside)
     → IsBetween s devices half old replies image before → OpRan (op_at s.ops (length replies)) (table_of s devices) devices runs before after
-    → DidOp s half (length replies + 1) (op_at s.ops (length replies)) old new before after runs reply → before.units ≡ Some now → Calm before.faults after.faults → StandsAt s devices us old replies now
-    → (left : List Stored) × ((after.units ≡ Some left) × StandsAt s devices us new (replies ++ (reply ∷ [])) left)
-op-stands law s devices half us now old new runs replies reply image before after is ran did e calm stands =
+    → DidOp s half (length replies + 1) (op_at s.ops (length replies)) old new before after runs reply → KeepsToWalk s devices old new before after replies reply runs
+op-stands law s devices half old new runs replies reply image before after is ran did us now e none stands =
     let op = op_at s.ops (length replies) in
     let t = table_of s devices in
     let told = sym is.laid ∙ e in
-    let walked = op-walked s t devices half (length replies + 1) op old new before after runs reply now ran did e calm in
+    let walked = op-walked s t devices half (length replies + 1) op old new before after runs reply now ran did e none in
     let known = is.rig.told (told-image before.standing image now told) in
     let shapes = told-shapes before.standing image now told is.ready in
     let units : devices ≡ map info_of (shapes_of now) = known ∙ ap (λ (specs : List UnitSpec). map info_of specs) (sym shapes) in

@@ -1,7 +1,6 @@
 -- A repair over a rig that tells its blocks.
-use Rattle.std.proofs.Common.{ℕ, ◌≡◌, List, length, map, Option, Some, ap, subst, sym, ◌∙◌}
+use Rattle.std.proofs.Common.{ℕ, ◌≡◌, List, length, map, Option, ap, subst, sym, ◌∙◌}
 use Rattle.std.specs.Prelude.{is_some}
-use Rattle.dix_base.specs.Told.{Calm}
 use Rattle.target_answer.specs.Target.{Stored}
 use Rattle.target_answer.specs.declared.units.UnitSpec.{UnitSpec}
 use Rattle.rig_api.specs.Telling.{IsStanding, Standing, units_told}
@@ -17,7 +16,7 @@ use Rattle.script_stack.proofs.Following.{told-image, told-shapes, told-stored}
 use Rattle.leg_runs.specs.LegRuns.{AllWalked, LegRun, RanLegs}
 use Rattle.leg_runs.specs.Mending.{Mended, RepairBy, stretches_in}
 use Rattle.leg_runs.specs.OnOps.{Sides}
-use Rattle.leg_runs.specs.Standing.{HasDevices, IsBoundMirror, IsRepairedAs, StandsAt, half_of}
+use Rattle.leg_runs.specs.Standing.{HasDevices, IsBoundMirror, IsRepairedAs, RepairsAsWalk, StandsAt, half_of}
 
 -- what the law of a repair says
 abbrev pub RepairLaw : Type 0
@@ -28,14 +27,13 @@ RepairLaw = (s : Script) (devices : List DeviceInfo) (us now left : List Stored)
 
 module _ (law : RepairLaw) (s : Script) (devices : List DeviceInfo) (half : ℕ) (bound : IsBoundMirror s devices) (is-half : half ≡ half_of s devices) (st : Standing) (image : Option (List ℕ))
     (has : HasDevices devices (is_some image) st) (ready : IsStanding st image) where
-  pub repair-told : (before after : Outside) (us now : List Stored) (sides : Sides) (replies : List Reply) (new : Mended) (runs : List LegRun) → before.units ≡ units_told st image → length sides.marks ≡ half
+  pub repair-told : (before after : Outside) (sides : Sides) (replies : List Reply) (new : Mended) (runs : List LegRun) → before.units ≡ units_told st image → length sides.marks ≡ half
       → RanLegs (table_of s devices) devices runs before after → RepairBy s half 0 (stretches_in half) (record { marks = sides.marks; repaired = 0; lost = 0 }) new runs
-      → before.units ≡ Some now → Calm before.faults after.faults → StandsAt s devices us sides replies now
-      → (left : List Stored) × ((after.units ≡ Some left) × IsRepairedAs s devices us (length replies) new.marks new.repaired new.lost left)
-  repair-told before after us now sides replies new runs laid marked ran by told calm stands =
+      → RepairsAsWalk s devices sides before after replies new.marks new.repaired new.lost runs
+  repair-told before after sides replies new runs laid marked ran by us now told none stands =
       let e = sym laid ∙ told in
       let units = has.told (told-image st image now e) ∙ ap (λ (xs : List UnitSpec). map info_of xs) (sym (told-shapes st image now e ready)) in
-      let x = ran.told now told calm in (
+      let x = ran.told now told none in (
         x.0,
         (
           x.1.0,

@@ -1,16 +1,14 @@
 -- Runs on the legs: none, one, and some after others.
 use Rattle.std.proofs.Common.{ℕ, ◌≡◌, ◌+◌, ◌≤◌, List, [], ◌∷◌, ◌++◌, length, min, inl, refl, sym, ap, subst, ◌∙◌, append_assoc, append-nil, arith}
-use Rattle.dix_base.specs.Told.{Calm}
 use Rattle.target_answer.specs.Target.{Stored}
 use Rattle.script_text.specs.declared.script.Script.{Script}
 use Rattle.script_stack.specs.Followed.{Ran}
 use Rattle.script_stack.specs.Going.{Outside}
 use Rattle.stack_core.specs.Mediums.{RoseBy, medium_lines}
-use Rattle.stack_core.proofs.NoMedium.{none_named}
 use Rattle.stack_core.specs.declared.stack.Stack.{Stack}
 use Rattle.volume_table.specs.declared.device.DeviceInfo.{DeviceInfo}
 use Rattle.volume_table.specs.Tables.{Table}
-use Rattle.leg_runs.specs.LegRuns.{AllBacked, AllOwn, AllWalked, GoOn, LegRun, RanLegs, all_mediums, all_records}
+use Rattle.leg_runs.specs.LegRuns.{AllBacked, AllFallen, AllOwn, AllWalked, GoOn, LegRun, RanLegs, all_mediums, all_records}
 
 pub all_records-append : (xs ys : List LegRun) → all_records (xs ++ ys) ≡ all_records xs ++ all_records ys
 all_records-append [] ys = refl
@@ -24,6 +22,10 @@ pub all_walked-append : (t : Table) (us between left : List Stored) (xs ys : Lis
 all_walked-append t us between left [] ys h k = subst (λ u. AllWalked t u ys left) h k
 all_walked-append t us between left (x ∷ xs) ys h k = (h.0, (h.1.0, all_walked-append t h.0 between left xs ys h.1.1 k))
 
+all_fallen-append : (t : Table) (us between left : List Stored) (xs ys : List LegRun) → AllFallen t us xs between → AllFallen t between ys left → AllFallen t us (xs ++ ys) left
+all_fallen-append t us between left [] ys h k = subst (λ u. AllFallen t u ys left) h k
+all_fallen-append t us between left (x ∷ xs) ys h k = (h.0, (h.1.0, all_fallen-append t h.0 between left xs ys h.1.1 k))
+
 pub all_own-append : (P : Script → Type 0) (xs ys : List LegRun) → AllOwn P xs → AllOwn P ys → AllOwn P (xs ++ ys)
 all_own-append P [] ys h k = k
 all_own-append P (x ∷ xs) ys h k = (h.0, all_own-append P xs ys h.1 k)
@@ -36,12 +38,6 @@ pub go_on-append : (schedule : List (ℕ × ℕ)) (used between used' : ℕ) (xs
 go_on-append schedule used between used' [] ys h k = subst (λ n. GoOn schedule n ys used') h k
 go_on-append schedule used between used' (x ∷ xs) ys h k = (h.0, go_on-append schedule (used + min (length x.words) x.stack.machine.steps) between used' xs ys h.1 k)
 
-pub calm-first : (b m a : ℕ) → b ≤ m → m ≤ a → Calm b a → Calm b m
-calm-first b m a l k h = (omega (arith, k, h.0), omega (arith, l, h.1))
-
-pub calm-last : (b m a : ℕ) → b ≤ m → m ≤ a → Calm b a → Calm m a
-calm-last b m a l k h = (omega (arith, l, h.0), omega (arith, k, h.0, h.1))
-
 pub all_mediums-append : (xs ys : List LegRun) → all_mediums (xs ++ ys) ≡ all_mediums xs + all_mediums ys
 all_mediums-append [] ys = omega arith
 all_mediums-append (x ∷ xs) ys = let e = all_mediums-append xs ys in omega (arith, e)
@@ -52,6 +48,9 @@ rose-add a b o m n p q x y = grind arith
 rose-one : (a o n : ℕ) → RoseBy a o n → RoseBy (a + 0) o n
 rose-one a o n x = grind arith
 
+none-one : (a : ℕ) → a + 0 ≡ 0 → a ≡ 0
+none-one a e = omega (arith, e)
+
 pub ran-append : (t : Table) (devices : List DeviceInfo) (xs ys : List LegRun) (before between after : Outside) → RanLegs t devices xs before between → RanLegs t devices ys between after → RanLegs t devices (xs ++ ys) before after
 ran-append t devices xs ys before between after h k = record {
   standing = k.standing ∙ h.standing;
@@ -59,10 +58,15 @@ ran-append t devices xs ys before between after h k = record {
   records = k.records ∙ ap (λ es. es ++ all_records ys) h.records ∙ append_assoc before.log (all_records xs) (all_records ys) ∙ ap (λ es. before.log ++ es) (sym (all_records-append xs ys));
   backed = all_backed-append t devices xs ys h.backed k.backed;
   medium = subst (λ n. RoseBy n before.faults after.faults) (sym (all_mediums-append xs ys)) (rose-add (all_mediums xs) (all_mediums ys) before.faults between.faults after.faults h.faults k.faults h.medium k.medium);
-  told = λ us e calm.
-      (let x = h.told us e (calm-first before.faults between.faults after.faults h.faults k.faults calm) in
-      let y = k.told x.0 x.1.0 (calm-last before.faults between.faults after.faults h.faults k.faults calm) in
+  told = λ us e none.
+      (let many = all_mediums-append xs ys in
+      let x = h.told us e (omega (arith, many, none)) in
+      let y = k.told x.0 x.1.0 (omega (arith, many, none)) in
       (y.0, (y.1.0, all_walked-append t us x.0 y.0 xs ys x.1.1 y.1.1)));
+  fallen = λ us e.
+      (let x = h.fallen us e in
+      let y = k.fallen x.0 x.1.0 in
+      (y.0, (y.1.0, all_fallen-append t us x.0 y.0 xs ys x.1.1 y.1.1)));
 }
 
 -- Nothing was run, and nothing changed that is seen.
@@ -79,7 +83,8 @@ ran-none t devices before after h = record {
   records = h.log ∙ sym (append-nil before.log);
   backed = tt;
   medium = (let e = h.faults in inl (omega (arith, e)));
-  told = λ us e calm. (us, (h.units ∙ e, refl));
+  told = λ us e none. (us, (h.units ∙ e, refl));
+  fallen = λ us e. (us, (h.units ∙ e, refl));
 }
 
 pub ran-one : (s : Script) (t : Table) (devices : List DeviceInfo) (words : List (ℕ × ℕ)) (before after : Outside) (r : Stack) (h : Ran s t devices words before after r)
@@ -90,7 +95,8 @@ ran-one s t devices words before after r h = record {
   records = h.records ∙ ap (λ es. before.log ++ es) (sym (append-nil h.more));
   backed = (h.backed, (h.sends, tt));
   medium = rose-one (medium_lines r.replies.items) before.faults after.faults h.medium;
-  told = λ us e calm. (let x = h.told us e (none_named (medium_lines r.replies.items) before.faults after.faults h.medium calm) in (x.0, (x.1.0, (x.0, (x.1.1, refl)))));
+  told = λ us e none. (let x = h.told us e (none-one (medium_lines r.replies.items) none) in (x.0, (x.1.0, (x.0, (x.1.1, refl)))));
+  fallen = λ us e. (let x = h.fallen us e in (x.0, (x.1.0, (x.0, (x.1.1, refl)))));
 }
 
 -- ---- runs of which something is said

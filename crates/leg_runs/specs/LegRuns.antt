@@ -1,5 +1,4 @@
 use Rattle.std.specs.Prelude.{ℕ, ◌≡◌, ◌+◌, ◌<◌, ◌≤◌, min, List, [], ◌∷◌, ◌++◌, drop, length, replicate, set, Option, Some, None}
-use Rattle.dix_base.specs.Told.{Calm}
 use Rattle.bio_core.specs.declared.fate.Why.{Why}
 use Rattle.rig_api.specs.Log.{Entry}
 use Rattle.stack_ops.specs.declared.reply.BadBlock.{BadBlock}
@@ -9,7 +8,7 @@ use Rattle.target_answer.specs.Target.{Stored}
 use Rattle.volume_table.specs.declared.device.DeviceInfo.{DeviceInfo}
 use Rattle.volume_table.specs.Tables.{Table}
 use Rattle.script_text.specs.declared.script.Script.{Script}
-use Rattle.script_stack.specs.Followed.{HasWalked, IsBackedBy}
+use Rattle.script_stack.specs.Followed.{HasFallen, HasWalked, IsBackedBy}
 use Rattle.script_stack.specs.Going.{Outside}
 use Rattle.script_stack.specs.Sends.{SendsFor, by_words}
 use Rattle.stack_core.specs.Mediums.{RoseBy, medium_lines}
@@ -60,14 +59,25 @@ abbrev pub AllWalked : Table → (us : List Stored) → List LegRun → (left : 
 AllWalked t us [] left = left ≡ us
 AllWalked t us (r ∷ runs) left = (next : List Stored) × (HasWalked r.own t us next (pool_of r) r.records (replies_of r) × AllWalked t next runs left)
 
--- These were run over a rig, one after another: their records stand there in order, and back their replies, whose lines that name the medium are at most as many as the count of faults rose. Where the rig tells its blocks, and its count of faults didn't rise, each was done at the target.
+-- So it was but for what the store calls that failed left.
+abbrev pub AllFallen : Table → (us : List Stored) → List LegRun → (left : List Stored) → Type 0
+AllFallen t us [] left = left ≡ us
+AllFallen t us (r ∷ runs) left = (next : List Stored) × (HasFallen r.own t us next (pool_of r) r.records (replies_of r) × AllFallen t next runs left)
+
+-- No request on a leg names the medium, and no line of the report does.
+pub record NamesNoMedium (runs : List LegRun) (replies : List Reply) : Type 0 where
+  pub legs : all_mediums runs ≡ 0
+  pub report : medium_lines replies ≡ 0
+
+-- These were run over a rig, one after another: their records stand there in order, and back their replies, whose lines that name the medium are at most as many as the count of faults rose. Where the rig tells its blocks, and no line of theirs names the medium, each was done at the target; and whatever lines name it, so it was but for what the store calls that failed left.
 pub record RanLegs (t : Table) (devices : List DeviceInfo) (runs : List LegRun) (before after : Outside) : Type 0 where
   pub standing : after.standing ≡ before.standing
   pub faults : before.faults ≤ after.faults
   pub records : after.log ≡ before.log ++ all_records runs
   pub backed : AllBacked t devices runs
   pub medium : RoseBy (all_mediums runs) before.faults after.faults
-  pub told : (us : List Stored) → before.units ≡ Some us → Calm before.faults after.faults → (left : List Stored) × ((after.units ≡ Some left) × AllWalked t us runs left)
+  pub told : (us : List Stored) → before.units ≡ Some us → all_mediums runs ≡ 0 → (left : List Stored) × ((after.units ≡ Some left) × AllWalked t us runs left)
+  pub fallen : (us : List Stored) → before.units ≡ Some us → (left : List Stored) × ((after.units ≡ Some left) × AllFallen t us runs left)
 
 -- ---- what was found of each block
 

@@ -1,4 +1,4 @@
-use Rattle.std.specs.Prelude.{ℕ, ◌≡◌, ◌+◌, ◌/◌, ◌≤◌, Bool, true, List, length, map, get_or, take, None}
+use Rattle.std.specs.Prelude.{ℕ, ◌≡◌, ◌+◌, ◌/◌, ◌≤◌, Bool, true, List, [], ◌∷◌, ◌++◌, length, map, get_or, take, None, Some}
 use Rattle.page_pool.specs.Cells.{flat}
 use Rattle.target_answer.specs.Target.{Stored}
 use Rattle.rig_api.specs.Telling.{Standing, specs_of}
@@ -16,12 +16,14 @@ use Rattle.script_laws.specs.Keeping.{Keeps}
 use Rattle.script_ground.specs.Units.{AreStored}
 use Rattle.script_stack.specs.Causes.{table_of}
 use Rattle.script_stack.specs.Followed.{SizesAre, none_fails, opening_of, setting_of}
+use Rattle.script_stack.specs.Going.{Outside}
 use Rattle.mirror_script.specs.MirrorFaults.{mirror_fault}
 use Rattle.mirror_walk.specs.Mirror.{Mirror, count_of, done, mirror_opened, replies_from}
 use Rattle.mirror_walk.specs.Repair.{mirror_repair}
 use Rattle.mirror_walk.specs.declared.marks.Marks.{Marks}
 use Rattle.stack_ops.specs.declared.op.Op.{Op}
 use Rattle.stack_ops.specs.declared.op.Op.TheVariants.{Wait}
+use Rattle.leg_runs.specs.LegRuns.{LegRun, NamesNoMedium, all_mediums}
 use Rattle.leg_runs.specs.OnOps.{Sides}
 
 -- How a mirror stands between two ops, over a rig that tells its blocks.
@@ -78,3 +80,15 @@ pub record IsRepairedAs (s : Script) (devices : List DeviceInfo) (us : List Stor
   pub blocks : blocks_told left ≡ (mirror_repair (mirror_setting s devices us) (half_of s devices) (walked s devices us k)).blocks
   pub repaired_is : repaired ≡ (mirror_repair (mirror_setting s devices us) (half_of s devices) (walked s devices us k)).repaired
   pub lost_is : lost ≡ (mirror_repair (mirror_setting s devices us) (half_of s devices) (walked s devices us k)).lost
+
+-- ---- over a rig that tells its blocks
+
+-- A mirror that stood at its walk still does after one more op, where neither a request of the op names the medium nor its reply.
+abbrev pub KeepsToWalk : Script → List DeviceInfo → (old new : Sides) → (before after : Outside) → (replies : List Reply) → (reply : Reply) → List LegRun → Type 0
+KeepsToWalk s devices old new before after replies reply runs = (us now : List Stored) → before.units ≡ Some now → NamesNoMedium runs (reply ∷ []) → StandsAt s devices us old replies now
+    → (left : List Stored) × ((after.units ≡ Some left) × StandsAt s devices us new (replies ++ (reply ∷ [])) left)
+
+-- The repair of one that stood at its walk is the walk's, where no request of the repair names the medium.
+abbrev pub RepairsAsWalk : Script → List DeviceInfo → Sides → (before after : Outside) → List Reply → List Marks → (repaired lost : ℕ) → List LegRun → Type 0
+RepairsAsWalk s devices sides before after replies marks repaired lost runs = (us now : List Stored) → before.units ≡ Some now → all_mediums runs ≡ 0 → StandsAt s devices us sides replies now
+    → (left : List Stored) × ((after.units ≡ Some left) × IsRepairedAs s devices us (length replies) marks repaired lost left)

@@ -1,4 +1,5 @@
 pub mod Refusing
 pub mod Completing
+pub mod Naming
 pub mod Staging
 pub mod Mirroring

@@ -1,5 +1,5 @@
 -- A script that was run on a mirror over an image.
-use Rattle.std.proofs.Common.{◌≡◌, ℕ, List, [], length, map, Some, sym, ap, ◌∙◌, subst}
+use Rattle.std.proofs.Common.{◌≡◌, ℕ, List, [], ◌++◌, length, map, Some, sym, ap, ◌∙◌, subst}
 use Rattle.std.specs.Prelude.{is_some}
 use Rattle.dix_base.specs.Told.{AreOctets, Calm}
 use Rattle.fault_schedule.specs.declared.fault.FaultLine.{FaultLine}
@@ -15,6 +15,8 @@ use Rattle.script_stack.specs.Followed.{SizesAre}
 use Rattle.script_stack.proofs.Following.{sizes-found, told-image, told-shapes, told-stored}
 use Rattle.script_verdict.proofs.Devices.{has_device, image_holds, known_infos}
 use Rattle.script_verdict.specs.Verdict.{HoldsBlocks, WasAsked}
+use Rattle.leg_runs.specs.LegRuns.{NamesNoMedium}
+use Rattle.leg_runs.proofs.Unnamed.{calm-unnamed}
 use Rattle.leg_runs.specs.Standing.{HasDevices, IsBoundMirror, IsOver, IsRepairedAs}
 use Rattle.mirror_volume.specs.declared.mirror.Mirror.{Mirror}
 use Rattle.mirror_volume.proofs.Enough.{repaired-all}
@@ -89,10 +91,10 @@ module _ (law : EnoughLaw) (by_form : FormedLaw) (unfaulted : StillLaw) (s : Scr
 
   -- by one of the laws, what it asks being `P`
   by-law : (P : List Stored → Type 0) → ((us left : List Stored) (marks : List Marks) (repaired lost : ℕ) → IsOver s devices us → HoldsBytes us → P us → IsRepairedAs s devices us (length s.ops) marks repaired lost left → WasEnough s devices us left lost)
-      → (run : Mirrored) → Finished s devices (stage_of begun [] (outside told before)) run.mirror run.repair.repaired run.repair.lost (outside new armed)
-      → (us : List Stored) → told.seen.units ≡ Some us → Calm told.seen.faults new.seen.faults → P us → (left : List Stored) × ((new.seen.units ≡ Some left) × WasEnough s devices us left run.repair.lost)
-  by-law P says run ended us e calm p =
-      let x = ended.told us e calm in (
+      → (run : Mirrored) → (ended : Finished s devices (stage_of begun [] (outside told before)) run.mirror run.repair.repaired run.repair.lost (outside new armed))
+      → (us : List Stored) → told.seen.units ≡ Some us → NamesNoMedium (ended.stage.runs ++ ended.runs) run.mirror.replies.items → P us → (left : List Stored) × ((new.seen.units ≡ Some left) × WasEnough s devices us left run.repair.lost)
+  by-law P says run ended us e none p =
+      let x = ended.told us e none in (
         x.0,
         (
           x.1.0,
@@ -101,12 +103,12 @@ module _ (law : EnoughLaw) (by_form : FormedLaw) (unfaulted : StillLaw) (s : Scr
         ),
       )
 
-  enough : (run : Mirrored) → Finished s devices (stage_of begun [] (outside told before)) run.mirror run.repair.repaired run.repair.lost (outside new armed)
-      → (us : List Stored) → told.seen.units ≡ Some us → Calm told.seen.faults new.seen.faults → IsOneGoodRun s devices us → (left : List Stored) × ((new.seen.units ≡ Some left) × WasEnough s devices us left run.repair.lost)
+  enough : (run : Mirrored) → (ended : Finished s devices (stage_of begun [] (outside told before)) run.mirror run.repair.repaired run.repair.lost (outside new armed))
+      → (us : List Stored) → told.seen.units ≡ Some us → NamesNoMedium (ended.stage.runs ++ ended.runs) run.mirror.replies.items → IsOneGoodRun s devices us → (left : List Stored) × ((new.seen.units ≡ Some left) × WasEnough s devices us left run.repair.lost)
   enough = by-law (IsOneGoodRun s devices) (law s devices)
 
-  still : (run : Mirrored) → Finished s devices (stage_of begun [] (outside told before)) run.mirror run.repair.repaired run.repair.lost (outside new armed)
-      → (us : List Stored) → told.seen.units ≡ Some us → Calm told.seen.faults new.seen.faults → IsStillMirror s devices us → (left : List Stored) × ((new.seen.units ≡ Some left) × WasEnough s devices us left run.repair.lost)
+  still : (run : Mirrored) → (ended : Finished s devices (stage_of begun [] (outside told before)) run.mirror run.repair.repaired run.repair.lost (outside new armed))
+      → (us : List Stored) → told.seen.units ≡ Some us → NamesNoMedium (ended.stage.runs ++ ended.runs) run.mirror.replies.items → IsStillMirror s devices us → (left : List Stored) × ((new.seen.units ≡ Some left) × WasEnough s devices us left run.repair.lost)
   still = by-law (IsStillMirror s devices) (unfaulted s devices)
 
   pub mirrored : (run : Mirrored) → Finished s devices (stage_of begun [] (outside told before)) run.mirror run.repair.repaired run.repair.lost (outside new armed) → HasMirrored run s name old new
@@ -122,8 +124,9 @@ module _ (law : EnoughLaw) (by_form : FormedLaw) (unfaulted : StillLaw) (s : Scr
     ended = ended;
     tells = tells;
     holds = holds ended.stretches.standing;
+    faults = ended.faults;
     enough = enough run ended;
-    formed = λ us e calm p. enough run ended us e calm (by_form s devices us (over-told s name devices old told begun us up e) (bytes-told s name devices old told begun us up e) p);
+    formed = λ us e none p. enough run ended us e none (by_form s devices us (over-told s name devices old told begun us up e) (bytes-told s name devices old told begun us up e) p);
     still = still run ended;
   }
 
@@ -141,3 +144,9 @@ module _ (law : EnoughLaw) (by_form : FormedLaw) (unfaulted : StillLaw) (s : Scr
     tells = tells;
     holds = holds (broke.under_way.standing ∙ broke.served.stretches.standing);
   }
+
+-- While the count of faults doesn't rise, no line names the medium: neither of the report nor of a request on a leg.
+pub calm-names-none : (run : Mirrored) (s : Script) (name : List ℕ) (old new : View) (m : HasMirrored run s name old new) → Calm m.told.seen.faults new.seen.faults
+    → NamesNoMedium (m.ended.stage.runs ++ m.ended.runs) run.mirror.replies.items
+calm-names-none run s name old new m calm =
+    calm-unnamed (m.ended.stage.runs ++ m.ended.runs) run.mirror.replies.items m.told.seen.faults new.seen.faults m.ended.stretches.medium m.ended.lines calm

@@ -1,9 +1,9 @@
 -- A script on a mirror, stage by stage.
 use Rattle.std.proofs.Common.{◌≡◌, ◌<◌, ◌≤◌, ℕ, suc, ◌+◌, inl, inr, true, List, [], ◌∷◌, ◌++◌, length, take, Some, refl, sym, ap, ◌∙◌, subst, arith, append-nil, append_assoc}
-use Rattle.std.specs.Prelude.{Err, IfOk, MatchResult, Ok, Result, is_err}
+use Rattle.std.specs.Prelude.{All, Err, IfOk, MatchResult, Ok, Result, is_err}
 use Rattle.std.proofs.Math.Seq.{take-length}
 use Rattle.std.proofs.lemmas.List.{length_push}
-use Rattle.dix_base.specs.Told.{Calm}
+use Rattle.std.proofs.lemmas.List.Elements.{All-push}
 use Rattle.page_pool.specs.Cells.{flat}
 use Rattle.target_answer.specs.Target.{Stored}
 use Rattle.block_path.specs.Serial.{plain}
@@ -17,19 +17,22 @@ use Rattle.stack_core.specs.Mediums.{RoseBy, medium_lines}
 use Rattle.script_text.specs.declared.script.Script.{Script}
 use Rattle.script_stack.specs.Causes.{table_of}
 use Rattle.script_stack.specs.Going.{Outside}
+use Rattle.script_verdict.specs.Layers.{NamesFaults}
 use Rattle.mirror_walk.specs.Mirror.{Mirror as Walk, count_of, done, mirror_opened, replies_from}
 use Rattle.mirror_walk.specs.Repair.{Repair, mirror_repair}
 use Rattle.mirror_walk.specs.declared.marks.Marks.{Marks}
 use Rattle.mirror_volume.specs.declared.mirror.Mirror.{Mirror}
 use Rattle.std.specs.declared.alloc.AllocError.{AllocError}
 use Rattle.mirror_volume.specs.declared.repair.Repair.{Repair as Done}
-use Rattle.leg_runs.specs.LegRuns.{AllBacked, AllOwn, GoOn, LegRun, RanLegs, all_mediums, all_records}
+use Rattle.leg_runs.specs.LegRuns.{AllBacked, AllOwn, GoOn, LegRun, NamesNoMedium, RanLegs, all_mediums, all_records}
 use Rattle.leg_runs.specs.Mending.{IsRepairOf, RepairBy, stretches_in}
 use Rattle.leg_runs.specs.OnOps.{OpAsks, OpBy, OpRan, OpTells, Sides}
 use Rattle.mirror_volume.specs.Enough.{opening_over}
-use Rattle.leg_runs.specs.Standing.{IsRepairedAs, StandsAt, half_of, mirror_setting, op_at, walked}
+use Rattle.leg_runs.specs.Standing.{IsRepairedAs, KeepsToWalk, RepairsAsWalk, StandsAt, half_of, mirror_setting, op_at, walked}
 use Rattle.leg_runs.proofs.Lines.{lines-append, op-lines, rose-later}
-use Rattle.leg_runs.proofs.Runs.{all_backed-append, all_mediums-append, all_records-append, calm-first, calm-last, go_on-append, rose-add}
+use Rattle.leg_runs.proofs.Unnamed.{unnamed-first, unnamed-last}
+use Rattle.leg_runs.proofs.Runs.{all_backed-append, all_mediums-append, all_records-append, go_on-append, rose-add}
+use Rattle.mirror_verdict.proofs.Naming.{op-named}
 use Rattle.mirror_verdict.specs.Stages.{Broke, Finished, HasServed, InStretches, OneMore, Served, Stage, repair_over, walk_over}
 
 -- an error of which this holds
@@ -79,11 +82,6 @@ stretches-more s devices runs more used used' before between after h k g = recor
 
 -- ---- op by op
 
--- what is told of one more op, or of the repair
-abbrev pub GoesOn : Script → List DeviceInfo → (old new : Stage) → Type 0
-GoesOn s devices old new = (us now : List Stored) → old.outside.units ≡ Some now → Calm old.outside.faults new.outside.faults → StandsAt s devices us old.sides old.replies now
-    → (left : List Stored) × ((new.outside.units ≡ Some left) × StandsAt s devices us new.sides new.replies left)
-
 module _ (s : Script) (devices : List DeviceInfo) (begun : Stage) where
   abbrev t : Table
   t = table_of s devices
@@ -101,12 +99,13 @@ module _ (s : Script) (devices : List DeviceInfo) (begun : Stage) where
       goes = subst (λ (rs : List LegRun). GoOn s.schedule 0 rs begun.used) (sym runs) used;
     };
     lines = subst (λ (rs : List Reply). RoseBy (medium_lines rs) begun.outside.faults begun.outside.faults) (sym replies) (inl (omega arith));
-    told = λ us e calm. (us, (e, subst (λ (rs : List Reply). StandsAt s devices us begun.sides rs us) (sym replies) (stands us)));
+    told = λ us e none. (us, (e, subst (λ (rs : List Reply). StandsAt s devices us begun.sides rs us) (sym replies) (stands us)));
+    faults = λ us e. (us, (e, subst (λ (rs : List Reply). All NamesFaults rs) (sym replies) (λ i d l. absurd (omega arith))));
   }
 
   pub next-served : (k : ℕ) (old new : Stage) (runs : List LegRun) (reply : Reply) → Served s devices begun k old → OpRan (op_at s.ops (length old.replies)) t devices runs old.outside new.outside → GoOn s.schedule old.used runs new.used
       → OpBy s (half_of s devices) (length old.replies + 1) (op_at s.ops (length old.replies)) old.sides new.sides runs reply → OpTells (op_at s.ops (length old.replies)) reply old.outside new.outside
-      → new.replies ≡ old.replies ++ (reply ∷ []) → new.runs ≡ old.runs ++ runs → GoesOn s devices old new → Served s devices begun (suc k) new
+      → new.replies ≡ old.replies ++ (reply ∷ []) → new.runs ≡ old.runs ++ runs → KeepsToWalk s devices old.sides new.sides old.outside new.outside old.replies reply runs → Served s devices begun (suc k) new
   next-served k old new runs reply served ran goes by tells replies_are runs_are on =
       let fell = op-fell (op_at s.ops (length old.replies)) t devices runs old.outside new.outside ran in
       let one : OneMore s devices (length old.replies) old new = record { runs = runs; reply = reply; ran = ran; goes = goes; by = by; tells = tells; replies_are = replies_are; runs_are = runs_are } in
@@ -121,9 +120,15 @@ module _ (s : Script) (devices : List DeviceInfo) (begun : Stage) where
         lines = subst (λ n. RoseBy n begun.outside.faults new.outside.faults) (sym (ap medium_lines replies_are ∙ lines-append old.replies (reply ∷ [])))
             (rose-add (medium_lines old.replies) (medium_lines (reply ∷ [])) begun.outside.faults old.outside.faults new.outside.faults served.stretches.faults fell.faults served.lines
             (op-lines s t devices (half_of s devices) (length old.replies + 1) (op_at s.ops (length old.replies)) old.sides new.sides runs reply old.outside new.outside by ran tells));
-        told = λ us u calm.
-            (let x = served.told us u (calm-first begun.outside.faults old.outside.faults new.outside.faults served.stretches.faults fell.faults calm) in
-            on us x.0 x.1.0 (calm-last begun.outside.faults old.outside.faults new.outside.faults served.stretches.faults fell.faults calm) x.1.1);
+        told = λ us u none.
+            (let all : NamesNoMedium (old.runs ++ runs) (old.replies ++ (reply ∷ [])) = subst (λ (rs : List Reply). NamesNoMedium (old.runs ++ runs) rs) replies_are (subst (λ (rs : List LegRun). NamesNoMedium rs new.replies) runs_are none) in
+            let x = served.told us u (unnamed-first old.runs runs old.replies (reply ∷ []) all) in
+            let y = on us x.0 x.1.0 (unnamed-last old.runs runs old.replies (reply ∷ []) all) x.1.1 in
+            (y.0, (y.1.0, subst (λ (rs : List Reply). StandsAt s devices us new.sides rs y.0) (sym replies_are) y.1.1)));
+        faults = λ us u.
+            (let x = served.faults us u in
+            let y = op-named s t devices (half_of s devices) (length old.replies + 1) (op_at s.ops (length old.replies)) old.sides new.sides runs reply old.outside new.outside x.0 by ran tells x.1.0 in
+            (y.0, (y.1.0, subst (λ (rs : List Reply). All NamesFaults rs) (sym replies_are) (All-push NamesFaults old.replies reply x.1.1 y.1.1))));
       }
 
   -- ---- where memory is wanting
@@ -181,8 +186,7 @@ pub finishes : (s : Script) (devices : List DeviceInfo) (begun old : Stage) (new
     → GoOn s.schedule old.used runs new.state.used
     → RepairBy s (half_of s devices) 0 (stretches_in (half_of s devices)) (record { marks = old.sides.marks; repaired = 0; lost = 0 }) (record { marks = new.state.marks.items; repaired = repaired; lost = lost }) runs
     → new.state.pool ≡ old.sides.pool → new.replies.items ≡ old.replies
-    → ((us now : List Stored) → old.outside.units ≡ Some now → Calm old.outside.faults after.faults → StandsAt s devices us old.sides old.replies now
-    → (left : List Stored) × ((after.units ≡ Some left) × IsRepairedAs s devices us (length old.replies) new.state.marks.items repaired lost left))
+    → RepairsAsWalk s devices old.sides old.outside after old.replies new.state.marks.items repaired lost runs
     → Finished s devices begun new repaired lost after
 finishes s devices begun old new repaired lost after runs served ran goes mended pool replies on =
     let fell = ran-fell (table_of s devices) devices runs old.outside after ran in
@@ -195,19 +199,22 @@ finishes s devices begun old new repaired lost after runs served ran goes mended
       mended = mended;
       stretches = stretches-more s devices old.runs runs old.used new.state.used begun.outside old.outside after served.stretches fell goes;
       lines = subst (λ (rs : List Reply). RoseBy (medium_lines rs) begun.outside.faults after.faults) (sym replies) (rose-later (medium_lines old.replies) begun.outside.faults old.outside.faults after.faults fell.faults served.lines);
-      told = λ us u calm.
-          (let x = served.told us u (calm-first begun.outside.faults old.outside.faults after.faults served.stretches.faults fell.faults calm) in
-          let y = on us x.0 x.1.0 (calm-last begun.outside.faults old.outside.faults after.faults served.stretches.faults fell.faults calm) x.1.1 in
+      told = λ us u none.
+          (let all : NamesNoMedium (old.runs ++ runs) old.replies = subst (λ (rs : List Reply). NamesNoMedium (old.runs ++ runs) rs) replies none in
+          let many = all_mediums-append old.runs runs in
+          let legs = all.legs in
+          let x = served.told us u (record { legs = omega (arith, many, legs); report = all.report }) in
+          let y = on us x.0 x.1.0 (omega (arith, many, legs)) x.1.1 in
           (y.0, (y.1.0, served-as s devices us old.replies served.count old.sides x.0 y.0 new.state.pool new.replies.items new.state.marks.items repaired lost x.1.1 y.1.1 pool replies)));
+      faults = λ us u. subst (λ (rs : List Reply). All NamesFaults rs) (sym replies) (served.faults us u).1.1;
     }
 
 -- the repair came to its end, or was broken off
 pub ends-repair : (s : Script) (devices : List DeviceInfo) (begun old : Stage) (new : Mirror) (r : Result Done AllocError) (after : Outside) (runs : List LegRun) → Served s devices begun (length s.ops) old → RanLegs (table_of s devices) devices runs old.outside after
     → GoOn s.schedule old.used runs new.state.used → AllOwn (IsRepairOf s (half_of s devices)) runs
-    → IfOk r (λ done. RepairBy s (half_of s devices) 0 (stretches_in (half_of s devices)) (record { marks = old.sides.marks; repaired = 0; lost = 0 }) (record { marks = new.state.marks.items; repaired = done.repaired; lost = done.lost }) runs)
+    → IfOk r (λ done. RepairBy s (half_of s devices) 0 (stretches_in (half_of s devices)) (record { marks = old.sides.marks; repaired = 0; lost = 0 }) (record { marks = new.state.marks.items; repaired = done.repaired; lost = done.lost }) runs
+    × RepairsAsWalk s devices old.sides old.outside after old.replies new.state.marks.items done.repaired done.lost runs)
     → new.state.pool ≡ old.sides.pool → new.replies.items ≡ old.replies
-    → ((us now : List Stored) → old.outside.units ≡ Some now → Calm old.outside.faults after.faults → StandsAt s devices us old.sides old.replies now
-    → IfOk r (λ done. (left : List Stored) × ((after.units ≡ Some left) × IsRepairedAs s devices us (length old.replies) new.state.marks.items done.repaired done.lost left)))
     → MatchResult r (λ done. Finished s devices begun new done.repaired done.lost after) (λ e. Broke s devices begun after)
-ends-repair s devices begun old new (Ok done) after runs served ran goes own mended pool replies on = finishes s devices begun old new done.repaired done.lost after runs served ran goes mended pool replies on
-ends-repair s devices begun old new (Err e) after runs served ran goes own mended pool replies on = breaks-in-repair s devices begun old after runs new.state.used served ran goes own
+ends-repair s devices begun old new (Ok done) after runs served ran goes own mended pool replies = finishes s devices begun old new done.repaired done.lost after runs served ran goes mended.0 pool replies mended.1
+ends-repair s devices begun old new (Err e) after runs served ran goes own mended pool replies = breaks-in-repair s devices begun old after runs new.state.used served ran goes own

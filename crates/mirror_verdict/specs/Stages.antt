@@ -1,6 +1,5 @@
 -- How a script on a mirror gets on over a rig: op by op, and then its repair.
-use Rattle.std.specs.Prelude.{ℕ, zero, suc, ◌≡◌, ◌+◌, ◌<◌, ◌≤◌, ◌⊎◌, List, [], ◌∷◌, ◌++◌, length, Some}
-use Rattle.dix_base.specs.Told.{Calm}
+use Rattle.std.specs.Prelude.{All, ℕ, zero, suc, ◌≡◌, ◌+◌, ◌<◌, ◌≤◌, ◌⊎◌, List, [], ◌∷◌, ◌++◌, length, Some}
 use Rattle.page_pool.specs.Cells.{flat}
 use Rattle.target_answer.specs.Target.{Stored}
 use Rattle.volume_table.specs.declared.device.DeviceInfo.{DeviceInfo}
@@ -10,11 +9,12 @@ use Rattle.stack_core.specs.Mediums.{RoseBy, medium_lines}
 use Rattle.script_text.specs.declared.script.Script.{Script}
 use Rattle.script_stack.specs.Causes.{table_of}
 use Rattle.script_stack.specs.Going.{Outside}
+use Rattle.script_verdict.specs.Layers.{NamesFaults}
 use Rattle.mirror_walk.specs.declared.marks.Marks.{Marks}
 use Rattle.mirror_walk.specs.Mirror.{Mirror as Walk, mirror_replies, mirror_walk}
 use Rattle.mirror_walk.specs.Repair.{Repair, mirror_repair}
 use Rattle.mirror_volume.specs.declared.mirror.Mirror.{Mirror}
-use Rattle.leg_runs.specs.LegRuns.{AllBacked, AllOwn, GoOn, LegRun, RanLegs, all_mediums, all_records}
+use Rattle.leg_runs.specs.LegRuns.{AllBacked, AllOwn, GoOn, LegRun, NamesNoMedium, RanLegs, all_mediums, all_records}
 use Rattle.leg_runs.specs.Mending.{IsRepairOf, RepairBy, stretches_in}
 use Rattle.leg_runs.specs.OnOps.{OpAsks, OpBy, OpRan, OpTells, Sides}
 use Rattle.mirror_volume.specs.Enough.{opening_over}
@@ -57,14 +57,15 @@ pub record InStretches (s : Script) (devices : List DeviceInfo) (runs : List Leg
   pub medium : RoseBy (all_mediums runs) before.faults after.faults
   pub goes : GoOn s.schedule 0 runs used
 
--- After k ops, over any rig: the lines of the replies that name the medium are at most as many as the count of faults rose. And over one that tells its blocks, and whose count of faults didn't rise, pages, marks, stored blocks and replies are those of the mirror's walk.
+-- After k ops, over any rig: the lines of the replies that name the medium are at most as many as the count of faults rose. And over one that tells its blocks: where no line names the medium, of the report or of a request on a leg, pages, marks, stored blocks and replies are those of the mirror's walk; and whatever lines name it, no block is listed as refused or short.
 pub record Served (s : Script) (devices : List DeviceInfo) (begun : Stage) (k : ℕ) (now : Stage) : Type 0 where
   pub stood : Stood s devices begun k now
   pub count : length now.replies ≡ k
   pub stretches : InStretches s devices now.runs now.used begun.outside now.outside
   pub lines : RoseBy (medium_lines now.replies) begun.outside.faults now.outside.faults
-  pub told : (us : List Stored) → begun.outside.units ≡ Some us → Calm begun.outside.faults now.outside.faults
+  pub told : (us : List Stored) → begun.outside.units ≡ Some us → NamesNoMedium now.runs now.replies
       → (left : List Stored) × ((now.outside.units ≡ Some left) × StandsAt s devices us now.sides now.replies left)
+  pub faults : (us : List Stored) → begun.outside.units ≡ Some us → (left : List Stored) × ((now.outside.units ≡ Some left) × All NamesFaults now.replies)
 
 -- ---- where memory is wanting
 
@@ -103,7 +104,7 @@ pub record HasServed (s : Script) (devices : List DeviceInfo) (us left : List St
   pub repaired_is : repaired ≡ (repair_over s devices us).repaired
   pub lost_is : lost ≡ (repair_over s devices us).lost
 
--- All ops were done, and then the repair. Over any rig the lines of the replies that name the medium are at most as many as the count of faults rose.
+-- All ops were done, and then the repair. Over any rig the lines of the replies that name the medium are at most as many as the count of faults rose. Over one that tells its blocks: where no line names the medium, of the report or of a request on a leg, it is the mirror's walk and its repair; and whatever lines name it, no block is listed as refused or short.
 pub record Finished (s : Script) (devices : List DeviceInfo) (begun : Stage) (r : Mirror) (repaired lost : ℕ) (after : Outside) : Type 0 where
   pub stage : Stage
   pub served : Served s devices begun (length s.ops) stage
@@ -113,5 +114,6 @@ pub record Finished (s : Script) (devices : List DeviceInfo) (begun : Stage) (r 
   pub mended : RepairBy s (half_of s devices) 0 (stretches_in (half_of s devices)) (record { marks = stage.sides.marks; repaired = 0; lost = 0 }) (record { marks = r.state.marks.items; repaired = repaired; lost = lost }) runs
   pub stretches : InStretches s devices (stage.runs ++ runs) r.state.used begun.outside after
   pub lines : RoseBy (medium_lines r.replies.items) begun.outside.faults after.faults
-  pub told : (us : List Stored) → begun.outside.units ≡ Some us → Calm begun.outside.faults after.faults
+  pub told : (us : List Stored) → begun.outside.units ≡ Some us → NamesNoMedium (stage.runs ++ runs) r.replies.items
       → (left : List Stored) × ((after.units ≡ Some left) × HasServed s devices us left r.state.pool r.replies.items r.state.marks.items repaired lost)
+  pub faults : (us : List Stored) → begun.outside.units ≡ Some us → All NamesFaults r.replies.items

@@ -1,4 +1,4 @@
-use Rattle.std.specs.Prelude.{ℕ, ◌≡◌, ◌*◌, ◌⊎◌, replicate, List, [], is_some, Some, None, Ok}
+use Rattle.std.specs.Prelude.{All, ℕ, ◌≡◌, ◌*◌, ◌⊎◌, replicate, List, [], ◌++◌, is_some, Some, None, Ok}
 use Rattle.dix_base.specs.Told.{Calm}
 use Rattle.fault_schedule.specs.declared.fault.FaultLine.{FaultLine}
 use Rattle.page_pool.specs.Cells.{flat}
@@ -14,12 +14,14 @@ use Rattle.script_text.specs.Language.{script_in}
 use Rattle.script_text.specs.declared.fault.ScriptFault.{ScriptFault}
 use Rattle.script_text.specs.declared.script.Script.{Script}
 use Rattle.script_stack.specs.Going.{Outside}
+use Rattle.script_verdict.specs.Layers.{NamesFaults}
 use Rattle.script_verdict.specs.Verdict.{CauseUntaken, Facts, HasBadVolume, HasRead, HasTable, HoldsBlocks, IsFromOutside, StoppedShort, WasAsked, devices_of, table_over}
 use Rattle.script_verdict.specs.declared.refusal.Refusal.{Refusal}
 use Rattle.script_verdict.specs.declared.refusal.Refusal.TheVariants as refusal
 use Rattle.mirror_script.specs.MirrorFaults.{mirror_fault}
 use Rattle.mirror_walk.specs.Mirror.{fresh}
 use Rattle.mirror_volume.specs.Plans.{IsMirror}
+use Rattle.leg_runs.specs.LegRuns.{NamesNoMedium}
 use Rattle.leg_runs.specs.Standing.{IsBoundMirror, half_of}
 use Rattle.mirror_volume.specs.declared.mirror.Mirror.{Mirror}
 use Rattle.mirror_volume.specs.Enough.{WasEnough}
@@ -43,7 +45,7 @@ pub record IsBegun (s : Script) (devices : List DeviceInfo) (begun : Mirror) : T
 
 -- ---- a script that was run on a mirror
 
--- The image was opened, its devices told what they are, the script was bound to a mirror over them, its ops were done, and then the repair. `ended` says by which runs on the legs, and what these left; over any rig the lines of the report that name the medium are at most as many as the count of faults rose; over one that tells its blocks, and whose count of faults didn't rise, it is the mirror's walk and its repair. `enough` says when one good leg was enough, `formed` says it by what a reader of the script sees, and `still` says it of a script without faults under any protect field.
+-- The image was opened, its devices told what they are, the script was bound to a mirror over them, its ops were done, and then the repair. `ended` says by which runs on the legs, and what these left; over any rig the lines of the report that name the medium are at most as many as the count of faults rose; over one that tells its blocks, where no line names the medium, of the report or of a request on a leg, it is the mirror's walk and its repair. Of such a run `enough` says when one good leg was enough, `formed` says it by what a reader of the script sees, and `still` says it of a script without faults under any protect field. Over a rig that tells its blocks, whatever lines name the medium, no block of the report is listed as refused or short.
 pub record HasMirrored (run : Mirrored) (s : Script) (name : List ℕ) (old new : View) : Type 0 where
   pub devices : List DeviceInfo
   pub told : View
@@ -56,11 +58,12 @@ pub record HasMirrored (run : Mirrored) (s : Script) (name : List ℕ) (old new 
   pub ended : Finished s devices (stage_of begun [] (outside told before)) run.mirror run.repair.repaired run.repair.lost (outside new armed)
   pub tells : is_some new.image ≡ is_some told.image
   pub holds : HoldsBlocks told new
-  pub enough : (us : List Stored) → told.seen.units ≡ Some us → Calm told.seen.faults new.seen.faults → IsOneGoodRun s devices us
+  pub faults : (us : List Stored) → told.seen.units ≡ Some us → All NamesFaults run.mirror.replies.items
+  pub enough : (us : List Stored) → told.seen.units ≡ Some us → NamesNoMedium (ended.stage.runs ++ ended.runs) run.mirror.replies.items → IsOneGoodRun s devices us
       → (left : List Stored) × ((new.seen.units ≡ Some left) × WasEnough s devices us left run.repair.lost)
-  pub formed : (us : List Stored) → told.seen.units ≡ Some us → Calm told.seen.faults new.seen.faults → IsFormedMirror s devices us
+  pub formed : (us : List Stored) → told.seen.units ≡ Some us → NamesNoMedium (ended.stage.runs ++ ended.runs) run.mirror.replies.items → IsFormedMirror s devices us
       → (left : List Stored) × ((new.seen.units ≡ Some left) × WasEnough s devices us left run.repair.lost)
-  pub still : (us : List Stored) → told.seen.units ≡ Some us → Calm told.seen.faults new.seen.faults → IsStillMirror s devices us
+  pub still : (us : List Stored) → told.seen.units ≡ Some us → NamesNoMedium (ended.stage.runs ++ ended.runs) run.mirror.replies.items → IsStillMirror s devices us
       → (left : List Stored) × ((new.seen.units ≡ Some left) × WasEnough s devices us left run.repair.lost)
 
 -- The source was read to its end, and its script was run on a mirror.

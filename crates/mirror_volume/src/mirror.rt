@@ -5,12 +5,11 @@ ghost use Rattle.script_stack.specs.Causes.{table_of};
 ghost use Rattle.leg_runs.specs.LegRuns.{AllOwn, GoOn, LegRun, RanLegs};
 ghost use Rattle.mirror_volume.specs.Plans.{IsMirror, IsPieceOf, IsPlan, sides_of};
 ghost use Rattle.leg_runs.specs.Standing.{HasDevices};
-ghost use Rattle.dix_base.specs.Told.{Calm};
 ghost use Rattle.target_answer.specs.Target.{Stored};
 ghost use Rattle.stack_ops.specs.declared.reply.Reply.{Reply};
 ghost use Rattle.leg_runs.specs.OnOps.{DidOp, RanOp, whole_request};
 ghost use Rattle.leg_runs.specs.Mending.{IsRepairOf, RepairBy, stretches_in};
-ghost use Rattle.leg_runs.specs.Standing.{IsBoundMirror, IsRepairedAs, StandsAt, half_of, op_at};
+ghost use Rattle.leg_runs.specs.Standing.{IsBoundMirror, KeepsToWalk, RepairsAsWalk, StandsAt, half_of, op_at};
 
 use crate::legs::{Plan, table_of};
 use crate::marks::FRESH;
@@ -114,11 +113,12 @@ impl Mirror {
             (record { units = R.units rig.old; armed = R.armed rig.old; standing = R.standing rig.old; log = R.log rig.old; faults = R.faults rig.old })
             (record { units = R.units rig.new; armed = R.armed rig.new; standing = R.standing rig.new; log = R.log rig.new; faults = R.faults rig.new })
             (λ runs. result ≡ Ok true → (reply : Reply) × ((self.new.replies.items ≡ self.old.replies.items ++ (reply ∷ []))
-            × DidOp self.old.plan.script self.old.plan.half (length self.old.replies.items + 1) (op_at self.old.plan.script.ops (length self.old.replies.items)) (sides_of self.old) (sides_of self.new)
+            × (DidOp self.old.plan.script self.old.plan.half (length self.old.replies.items + 1) (op_at self.old.plan.script.ops (length self.old.replies.items)) (sides_of self.old) (sides_of self.new)
             (record { units = R.units rig.old; armed = R.armed rig.old; standing = R.standing rig.old; log = R.log rig.old; faults = R.faults rig.old })
-            (record { units = R.units rig.new; armed = R.armed rig.new; standing = R.standing rig.new; log = R.log rig.new; faults = R.faults rig.new }) runs reply)) }
-        ensures told { (us now : List Stored) → R.units rig.old ≡ Some now → Calm (R.faults rig.old) (R.faults rig.new) → StandsAt self.old.plan.script self.old.plan.devices.items us (sides_of self.old) self.old.replies.items now
-            → IfOk result (λ more. (left : List Stored) × ((R.units rig.new ≡ Some left) × StandsAt self.old.plan.script self.old.plan.devices.items us (sides_of self.new) self.new.replies.items left)) }
+            (record { units = R.units rig.new; armed = R.armed rig.new; standing = R.standing rig.new; log = R.log rig.new; faults = R.faults rig.new }) runs reply
+            × KeepsToWalk self.old.plan.script self.old.plan.devices.items (sides_of self.old) (sides_of self.new)
+            (record { units = R.units rig.old; armed = R.armed rig.old; standing = R.standing rig.old; log = R.log rig.old; faults = R.faults rig.old })
+            (record { units = R.units rig.new; armed = R.armed rig.new; standing = R.standing rig.new; log = R.log rig.new; faults = R.faults rig.new }) self.old.replies.items reply runs))) }
         ensures tells { is_some (R.image rig.new) ≡ is_some (R.image rig.old) }
         ensures standing { R.standing rig.new ≡ R.standing rig.old }
     {
@@ -157,9 +157,10 @@ impl Mirror {
             × (GoOn self.old.plan.script.schedule self.old.state.used runs self.new.state.used
             × (AllOwn (IsRepairOf self.old.plan.script self.old.plan.half) runs
             × IfOk result (λ done. RepairBy self.old.plan.script self.old.plan.half 0 (stretches_in self.old.plan.half)
-            (record { marks = self.old.state.marks.items; repaired = 0; lost = 0 }) (record { marks = self.new.state.marks.items; repaired = done.repaired; lost = done.lost }) runs)))) }
-        ensures told { (us now : List Stored) → R.units rig.old ≡ Some now → Calm (R.faults rig.old) (R.faults rig.new) → StandsAt self.old.plan.script self.old.plan.devices.items us (sides_of self.old) self.old.replies.items now
-            → IfOk result (λ done. (left : List Stored) × ((R.units rig.new ≡ Some left) × IsRepairedAs self.old.plan.script self.old.plan.devices.items us (length self.old.replies.items) self.new.state.marks.items done.repaired done.lost left)) }
+            (record { marks = self.old.state.marks.items; repaired = 0; lost = 0 }) (record { marks = self.new.state.marks.items; repaired = done.repaired; lost = done.lost }) runs
+            × RepairsAsWalk self.old.plan.script self.old.plan.devices.items (sides_of self.old)
+            (record { units = R.units rig.old; armed = R.armed rig.old; standing = R.standing rig.old; log = R.log rig.old; faults = R.faults rig.old })
+            (record { units = R.units rig.new; armed = R.armed rig.new; standing = R.standing rig.new; log = R.log rig.new; faults = R.faults rig.new }) self.old.replies.items self.new.state.marks.items done.repaired done.lost runs)))) }
         ensures tells { is_some (R.image rig.new) ≡ is_some (R.image rig.old) }
         ensures standing { R.standing rig.new ≡ R.standing rig.old }
     {

@@ -34,12 +34,11 @@ loop-preserved g c =
     let many = ap (λ (p : Plan). length p.script.ops) inv.plan in
     let yes : c.in_ok-next.field-0 ≡ true = c.in_ok-next.ensures.more.1 (omega (arith, k, many, c.requires.count, c.loop-test.true)) in
     let op = rw (inv.plan, c.requires.mirror.plan.half) at c.in_ok-next.ensures.op in
-    let told = rw inv.plan at c.in_ok-next.ensures.told in
     let ok : ◌≡◌ {A = Result Bool AllocError} (Ok c.in_ok-next.field-0) (Ok true) = ap Ok yes in
     let last = op.1.1.1.1 ok in
     let runs = inv.served.0 ++ op.0 in
     let new = stage_of c.next.new.self runs after in
-    let next : Served s devices begun (suc c.loop.counter) new = next-served s devices begun c.loop.counter old new op.0 last.0 served op.1.0 op.1.1.0 last.1.1.0 last.1.1.1 last.1.0 refl told in
+    let next : Served s devices begun (suc c.loop.counter) new = next-served s devices begun c.loop.counter old new op.0 last.0 served op.1.0 op.1.1.0 last.1.1.0.0 last.1.1.0.1 last.1.0 refl last.1.1.1 in
     let z : suc c.loop.counter ≡ c.loop.counter + 1 = omega arith in
     record {
       mirror = c.in_ok-next.ensures.mirror;

@@ -17,5 +17,4 @@ returns-clause-done g c =
     let old = stage_of mid served.0 between in
     let all : Served s devices begun (length s.ops) old = subst (λ n. Served s devices begun n old) c.requires.count served.1 in
     let ran = rw (c.do_ops.ensures.plan, c.requires.mirror.plan.half) at c.repair.ensures.ran in
-    let told = rw c.do_ops.ensures.plan at c.repair.ensures.told in
-    ends-repair s devices begun old c.repair.new.self c.repair.result after ran.0 all ran.1.0 ran.1.1.0 ran.1.1.1.0 ran.1.1.1.1 c.repair.ensures.pages c.repair.ensures.replies told
+    ends-repair s devices begun old c.repair.new.self c.repair.result after ran.0 all ran.1.0 ran.1.1.0 ran.1.1.1.0 ran.1.1.1.1 c.repair.ensures.pages c.repair.ensures.replies
