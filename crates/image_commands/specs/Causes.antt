@@ -22,20 +22,21 @@ CauseUnopened (fault.BadCapacity dev) name old new = ⊥
 CauseUnopened fault.RigFault name old new = Rose old.seen.faults new.seen.faults × Opened name old.standing new.standing
 CauseUnopened fault.Memory name old new = Unit {0}
 
--- The image of this name was opened once more, and where it is told it is the formatted one of these units. There is no further record.
+-- The image of this name was opened once more, and where it is told it is the formatted one of these units. The armed faults are as before, and there is no further record.
 pub record WasFormatted (name : List ℕ) (us : List UnitSpec) (old new : View) : Type 0 where
   pub opened : Opened name old.standing new.standing
   pub image : Becomes (λ was is. is ≡ formatted us) old.image new.image
+  pub armed : new.seen.armed ≡ old.seen.armed
   pub log : new.seen.log ≡ old.seen.log
 
--- Why an image isn't formatted: the rig failed, or there is no memory. There is no further record.
+-- Why an image isn't formatted: the rig failed, or there is no memory. The armed faults are as before, and there is no further record.
 abbrev pub CauseUnformatted : Fault → List ℕ → View → View → Type 0
 CauseUnformatted (fault.Image f) name old new = ⊥
 CauseUnformatted (fault.BadCapacity dev) name old new = ⊥
-CauseUnformatted fault.RigFault name old new = Rose old.seen.faults new.seen.faults × Opened name old.standing new.standing × (new.seen.log ≡ old.seen.log)
-CauseUnformatted fault.Memory name old new = OpenedOnce name old.standing new.standing × (new.seen.log ≡ old.seen.log)
+CauseUnformatted fault.RigFault name old new = Rose old.seen.faults new.seen.faults × Opened name old.standing new.standing × (new.seen.log ≡ old.seen.log) × (new.seen.armed ≡ old.seen.armed)
+CauseUnformatted fault.Memory name old new = OpenedOnce name old.standing new.standing × (new.seen.log ≡ old.seen.log) × (new.seen.armed ≡ old.seen.armed)
 
--- The image of this name was opened once more. Where its head, which is right, was of version 1, it has the equal head of version 2, and n is the number of its units; else it is as it was, and n is 0. Every stored block is as before, and there is no further record.
+-- The image of this name was opened once more. Where its head, which is right, was of version 1, it has the equal head of version 2, and n is the number of its units; else it is as it was, and n is 0. Every stored block is as before, so are the armed faults, and there is no further record.
 pub record WasMigrated (name : List ℕ) (n : ℕ) (old new : View) : Type 0 where
   pub opened : Opened name old.standing new.standing
   pub judged : head_fault new.standing.head ≡ None
@@ -43,13 +44,14 @@ pub record WasMigrated (name : List ℕ) (n : ℕ) (old new : View) : Type 0 whe
   pub number : n ≡ migrated_count (version_in new.standing.head) (units_of new.standing.head)
   pub image : IsMigrated new.standing.head old.image new.image
   pub stored : KeepsUnits old.image new.image
+  pub armed : new.seen.armed ≡ old.seen.armed
   pub log : new.seen.log ≡ old.seen.log
 
--- Why an image isn't migrated: its head is at fault, the rig failed, or there is no memory. Only where the rig failed may the first 512 bytes be others.
+-- Why an image isn't migrated: its head is at fault, the rig failed, or there is no memory. Only where the rig failed may the first 512 bytes be others. The armed faults are as before.
 abbrev pub CauseUnmigrated : Fault → List ℕ → View → View → Type 0
 CauseUnmigrated (fault.Image f) name old new = WasOpened name (Some f) old new × HasKept old new
 CauseUnmigrated (fault.BadCapacity dev) name old new = ⊥
-CauseUnmigrated fault.RigFault name old new = Rose old.seen.faults new.seen.faults × Opened name old.standing new.standing × KeepsBlocks old.image new.image × (new.seen.log ≡ old.seen.log)
+CauseUnmigrated fault.RigFault name old new = Rose old.seen.faults new.seen.faults × Opened name old.standing new.standing × KeepsBlocks old.image new.image × (new.seen.log ≡ old.seen.log) × (new.seen.armed ≡ old.seen.armed)
 CauseUnmigrated fault.Memory name old new = HasKept old new × OpenedOnce name old.standing new.standing
 
 -- The image of this name was opened, and its head is right. Neither this nor what came since changed a byte of it.
@@ -62,17 +64,19 @@ pub record HasOpened (name : List ℕ) (old between new : View) : Type 0 where
   pub standing : new.standing ≡ between.standing
   pub count : between.seen.faults ≤ new.seen.faults
 
--- Then each device was asked once what it is.
+-- Then each device was asked once what it is. The armed faults are those that were before it was opened.
 pub record WasTold (name : List ℕ) (devices : List DeviceInfo) (old new : View) : Type 0 where
   pub between : View
   pub since : HasOpened name old between new
+  pub armed : new.seen.armed ≡ old.seen.armed
   pub found : HasFound between.standing devices between.seen.log new.seen.log
   pub devices_are : HasDevices devices new.standing new.seen.units
 
--- The device of this number gave an answer at fault, the first. The blocks aren't told then.
+-- The device of this number gave an answer at fault, the first. The blocks aren't told then, and the armed faults are those that were before the image was opened.
 pub record IsBad (name : List ℕ) (dev : ℕ) (old new : View) : Type 0 where
   pub between : View
   pub since : HasOpened name old between new
+  pub armed : new.seen.armed ≡ old.seen.armed
   pub fault : HasFault between.standing dev between.seen.log new.seen.log
   pub untold : is_some between.seen.units ≡ false
 
@@ -83,17 +87,18 @@ CauseUntold (fault.BadCapacity dev) name old new = IsBad name dev old new
 CauseUntold fault.RigFault name old new = Rose old.seen.faults new.seen.faults × Opened name old.standing new.standing × HasKept old new
 CauseUntold fault.Memory name old new = HasKept old new × OpenedOnce name old.standing new.standing
 
--- The image was opened, its devices told what they are, and then every stored block was looked at. What was found is what the records say; where the blocks are told and the count of faults didn't rise, it is exactly the blocks at fault.
+-- The image was opened, its devices told what they are, and then every stored block was looked at. What was found is what the records say; where the blocks are told and the count of faults didn't rise, it is exactly the blocks at fault. The armed faults are as before.
 pub record WasScrubbed (name : List ℕ) (devices : List DeviceInfo) (found : List Found) (old new : View) : Type 0 where
   pub told : View
   pub discovered : WasTold name devices old told
   pub looked : Looked devices (all_places 0 devices) [] [] found told.seen.log new.seen.log told.seen.faults new.seen.faults
   pub exact : (us : List Stored) → told.seen.units ≡ Some us → Calm told.seen.faults new.seen.faults → found ≡ all_faults 0 us
   pub units : new.seen.units ≡ told.seen.units
+  pub armed : new.seen.armed ≡ told.seen.armed
   pub standing : new.standing ≡ told.standing
   pub count : told.seen.faults ≤ new.seen.faults
 
--- The devices of the image told what they are, and then blocks were looked at, each once and in order, up to those that are left. No stored block changed.
+-- The devices of the image told what they are, and then blocks were looked at, each once and in order, up to those that are left. No stored block changed, and no armed fault.
 pub record WasScrubbedInPart (name : List ℕ) (old new : View) : Type 0 where
   pub devices : List DeviceInfo
   pub told : View
@@ -102,6 +107,7 @@ pub record WasScrubbedInPart (name : List ℕ) (old new : View) : Type 0 where
   pub found : List Found
   pub looked : Looked devices (all_places 0 devices) left [] found told.seen.log new.seen.log told.seen.faults new.seen.faults
   pub units : new.seen.units ≡ told.seen.units
+  pub armed : new.seen.armed ≡ told.seen.armed
   pub standing : new.standing ≡ told.standing
   pub count : told.seen.faults ≤ new.seen.faults
 

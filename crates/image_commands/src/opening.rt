@@ -12,11 +12,11 @@ use std::alloc::Global;
 /// Opens the image of this name. `Image` comes exactly where its head has that fault, `RigFault` only
 /// where the rig's count of faults rose.
 pub fn open_image<R: Rig>(alloc: Global, name: &str, rig: &mut R) -> Result<(), Fault>
-    ensures opened { let old = view (R.image rig.old) (R.standing rig.old) (seen (R.units rig.old) (R.log rig.old) (R.faults rig.old)) in
-        let new = view (R.image rig.new) (R.standing rig.new) (seen (R.units rig.new) (R.log rig.new) (R.faults rig.new)) in
+    ensures opened { let old = view (R.image rig.old) (R.standing rig.old) (seen (R.units rig.old) (R.armed rig.old) (R.log rig.old) (R.faults rig.old)) in
+        let new = view (R.image rig.new) (R.standing rig.new) (seen (R.units rig.new) (R.armed rig.new) (R.log rig.new) (R.faults rig.new)) in
         MatchResult result (λ _. WasOpened name.now None old new) (λ r. CauseUnopened r name.now old new) }
     ensures devices { OnOk result ((R.standing rig.new).devices ≡ length (units_of (R.standing rig.new).head)) }
-    ensures kept { HasKept (view (R.image rig.old) (R.standing rig.old) (seen (R.units rig.old) (R.log rig.old) (R.faults rig.old))) (view (R.image rig.new) (R.standing rig.new) (seen (R.units rig.new) (R.log rig.new) (R.faults rig.new))) }
+    ensures kept { HasKept (view (R.image rig.old) (R.standing rig.old) (seen (R.units rig.old) (R.armed rig.old) (R.log rig.old) (R.faults rig.old))) (view (R.image rig.new) (R.standing rig.new) (seen (R.units rig.new) (R.armed rig.new) (R.log rig.new) (R.faults rig.new))) }
     ensures opening { OpenedOnce name.now (R.standing rig.old) (R.standing rig.new) }
 {
     match rig.open(alloc, name) {

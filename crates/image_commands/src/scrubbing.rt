@@ -20,8 +20,8 @@ pub fn told_devices<R: Rig>(
     name: &str,
     rig: &mut R,
 ) -> Result<ArrayVec<DeviceInfo, 8>, Fault>
-    ensures told { let old = view (R.image rig.old) (R.standing rig.old) (seen (R.units rig.old) (R.log rig.old) (R.faults rig.old)) in
-        let new = view (R.image rig.new) (R.standing rig.new) (seen (R.units rig.new) (R.log rig.new) (R.faults rig.new)) in
+    ensures told { let old = view (R.image rig.old) (R.standing rig.old) (seen (R.units rig.old) (R.armed rig.old) (R.log rig.old) (R.faults rig.old)) in
+        let new = view (R.image rig.new) (R.standing rig.new) (seen (R.units rig.new) (R.armed rig.new) (R.log rig.new) (R.faults rig.new)) in
         MatchResult result (λ v. WasTold name.now v.items old new) (λ r. CauseUntold r name.now old new) }
     ensures all { OnOk result ((R.standing rig.new).devices ≡ length (units_of (R.standing rig.new).head)) }
 {
@@ -49,8 +49,8 @@ pub fn scrub_image<R: Rig>(
     found: &mut Vec<Found>,
 ) -> Result<ArrayVec<DeviceInfo, 8>, Fault>
     requires { found.old.items ≡ [] }
-    ensures { let old = view (R.image rig.old) (R.standing rig.old) (seen (R.units rig.old) (R.log rig.old) (R.faults rig.old)) in
-        let new = view (R.image rig.new) (R.standing rig.new) (seen (R.units rig.new) (R.log rig.new) (R.faults rig.new)) in
+    ensures { let old = view (R.image rig.old) (R.standing rig.old) (seen (R.units rig.old) (R.armed rig.old) (R.log rig.old) (R.faults rig.old)) in
+        let new = view (R.image rig.new) (R.standing rig.new) (seen (R.units rig.new) (R.armed rig.new) (R.log rig.new) (R.faults rig.new)) in
         MatchResult result (λ v. WasScrubbed name.now v.items found.new.items old new) (λ r. CauseUnscrubbed r name.now old new) }
 {
     let devices = match told_devices(alloc, name, rig) {

@@ -1,7 +1,5 @@
 -- An image that is opened and asked what its devices are.
-use Rattle.std.proofs.Common.{ℕ, ◌≡◌, inl, inr, List, length, Option, sym, ap, ◌∙◌, arith}
-use Rattle.std.specs.Prelude.{is_some}
-use Rattle.target_answer.specs.Target.{Stored}
+use Rattle.std.proofs.Common.{ℕ, ◌≡◌, inl, inr, List, length, ap, ◌∙◌, arith}
 use Rattle.rig_api.specs.Head.{units_of}
 use Rattle.rig_api.specs.Telling.{Standing}
 use Rattle.image_commands.specs.Views.{View}
@@ -12,16 +10,16 @@ use Rattle.nvme_session.specs.Sessions.{CauseNoFront}
 use Rattle.nvme_command.specs.Causes.{CauseClosed}
 
 -- why an opened image has no front is why it is closed
-pub closed_by : (x : Fault) (name : List ℕ) (old between new : View) (units : Option (List Stored)) → HasOpened name old between new → between.standing.devices ≡ length (units_of between.standing.head) → units ≡ between.seen.units →
-    CauseNoFront x between.standing units between.seen.log new.seen.log between.image new.image → CauseClosed x name old new
-closed_by (fault.Image f) name old between new units since counted same c = absurd c
-closed_by (fault.BadCapacity dev) name old between new units since counted same c = record { between = between; since = since; fault = c.0; untold = ap is_some (sym same) ∙ c.1 }
-closed_by fault.RigFault name old between new units since counted same c = absurd c
-closed_by fault.Memory name old between new units since counted same (inl c) =
+pub closed_by : (x : Fault) (name : List ℕ) (old between new : View) → HasOpened name old between new → between.standing.devices ≡ length (units_of between.standing.head) → new.seen.armed ≡ between.seen.armed →
+    CauseNoFront x between.standing between.seen.units between.seen.log new.seen.log between.image new.image → CauseClosed x name old new
+closed_by (fault.Image f) name old between new since counted armed c = absurd c
+closed_by (fault.BadCapacity dev) name old between new since counted armed c = record { between = between; since = since; armed = armed ∙ since.kept.armed; fault = c.0; untold = c.1 }
+closed_by fault.RigFault name old between new since counted armed c = absurd c
+closed_by fault.Memory name old between new since counted armed (inl c) =
     let first = since.kept.count in
     let more = since.count in
     inl (
-      record { image = c.1 ∙ since.kept.image; log = c.0 ∙ since.kept.log; count = omega (arith, first, more) },
+      record { image = c.1 ∙ since.kept.image; armed = armed ∙ since.kept.armed; log = c.0 ∙ since.kept.log; count = omega (arith, first, more) },
       inr (ap (λ (s : Standing). s.openings) since.standing ∙ since.opened.opened.0, ap (λ (s : Standing). s.name) since.standing ∙ since.opened.opened.1),
     )
-closed_by fault.Memory name old between new units since counted same (inr c) = inr (c.0, record { between = between; since = since; counted = counted; found = c.1 })
+closed_by fault.Memory name old between new since counted armed (inr c) = inr (c.0, record { between = between; since = since; counted = counted; found = c.1 }, armed ∙ since.kept.armed)

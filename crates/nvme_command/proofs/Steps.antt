@@ -59,7 +59,7 @@ came_next : (ds : List DeviceInfo) (lines : List NvmLine) (i : ℕ) (d : NvmLine
 came_next ds lines i d text text' bad bad' a b c h x y = subst (λ (v : List NvmLine). Came ds v text' bad' a c) (sym (take_more lines i d h)) (came_more ds (take i lines) (get_or lines i d) text text' bad bad' a b c x y)
 
 stays_put : (a : View) → Stays a a
-stays_put a = record { units = refl; log = refl; standing = refl; count = omega arith }
+stays_put a = record { units = refl; armed = refl; log = refl; standing = refl; count = omega arith }
 
 -- where memory lacked at a line
 lacked : (ds : List DeviceInfo) (lines : List NvmLine) (i : ℕ) (d : NvmLine) (text : List ℕ) (bad : Bool) (a b c : View) → i < length lines → Came ds (take i lines) text bad a b → Lacks ds (get_or lines i d) b c → CameInPart ds lines a c

@@ -1,4 +1,4 @@
-use Rattle.std.specs.Prelude.{ℕ, ◌≡◌, ◌⊎◌, Bool, List, length, Option, Some, None, Ok, Err}
+use Rattle.std.specs.Prelude.{ℕ, ◌≡◌, ◌⊎◌, Bool, List, [], length, Option, Some, None, Ok, Err}
 use Rattle.dix_base.specs.Told.{Calm, Rose}
 use Rattle.source_text.specs.Reading.{IsOver, IsWhole}
 use Rattle.target_answer.specs.Target.{Stored}
@@ -40,9 +40,10 @@ pub record HasAsked (name : List ℕ) (devices : List DeviceInfo) (old new : Vie
   pub counted : between.standing.devices ≡ length (units_of between.standing.head)
   pub found : HasFound between.standing devices between.seen.log new.seen.log
 
--- They are the rig's, and where the blocks are told they are its units.
+-- They are the rig's, and where the blocks are told they are its units. No fault is armed.
 pub record HasTold (name : List ℕ) (devices : List DeviceInfo) (old new : View) : Type 0 where
   pub asked : HasAsked name devices old new
+  pub armed : new.seen.armed ≡ []
   pub devices_are : HasDevices devices new.standing new.seen.units
 
 -- The metadata of this line don't fit its command, and no command was done.
@@ -70,12 +71,12 @@ pub record HasDone (name : List ℕ) (lines : List NvmLine) (text : List ℕ) (b
       → (text ≡ replies_text (replies_over us lines)) × (bad ≡ has_failed (replies_over us lines)) × (new.seen.units ≡ Some (units_over us lines))
   pub laid : new.seen.units ≡ units_told new.standing new.image
 
--- Why it isn't known what the devices of an image are: it isn't opened, a device's answer is at fault, or there is no memory, also behind the last answer.
+-- Why it isn't known what the devices of an image are: it isn't opened, a device's answer is at fault, or there is no memory, also behind the last answer. The armed faults are as before.
 abbrev pub CauseClosed : Fault → (name : List ℕ) → View → View → Type 0
 CauseClosed (fault.Image f) name old new = CauseUntold (fault.Image f) name old new
 CauseClosed (fault.BadCapacity dev) name old new = CauseUntold (fault.BadCapacity dev) name old new
 CauseClosed fault.RigFault name old new = CauseUntold fault.RigFault name old new
-CauseClosed fault.Memory name old new = CauseUntold fault.Memory name old new ⊎ ((devices : List DeviceInfo) × HasAsked name devices old new)
+CauseClosed fault.Memory name old new = CauseUntold fault.Memory name old new ⊎ ((devices : List DeviceInfo) × HasAsked name devices old new × (new.seen.armed ≡ old.seen.armed))
 
 -- Why no command of an opened image is done, or not all are. What was found of the lines comes before.
 abbrev pub CauseUndone : NvmFault → (name : List ℕ) → List NvmLine → View → View → Type 0

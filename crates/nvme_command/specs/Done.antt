@@ -26,7 +26,7 @@ body_given d l = replicate (body_len d (command_of l)) l.fill
 abbrev pub meta_given : DeviceInfo → NvmLine → List ℕ
 meta_given d l = given (meta_len d.ty (command_of l)) l.meta
 
--- The command of a line was done over any rig. One that is refused sends nothing; another sends just one SCSI command, its completion is that of its outcome, and the buffers are its frames. Where the blocks are told all is the unit's answer, up to a store call that failed. Errors of the medium come only where the count of faults rose, and 0h/06h never where the blocks are told.
+-- The command of a line was done over any rig. One that is refused sends nothing; another sends just one SCSI command, its completion is that of its outcome, and the buffers are its frames. Where the blocks are told all is the unit's answer, up to a store call that failed. Errors of the medium come only where the count of faults rose, and 0h/06h never where the blocks are told. The armed faults are as before.
 pub record WasDone (devices : List DeviceInfo) (l : NvmLine) (r : Reply) (old new : View) : Type 0 where
   pub command_is : r.command ≡ command_of l
   pub refused : (x : Completion) → refusal devices (command_of l) ≡ Some x → (r ≡ record { command = command_of l; completion = x; body = []; meta = [] }) × (new.seen.log ≡ old.seen.log) × (new.seen.units ≡ old.seen.units)
@@ -37,6 +37,7 @@ pub record WasDone (devices : List DeviceInfo) (l : NvmLine) (r : Reply) (old ne
   pub medium : is_of_medium r.completion ≡ true → Rose old.seen.faults new.seen.faults
   pub devices_are : HasDevices devices new.standing new.seen.units
   pub tells : is_some new.image ≡ is_some old.image
+  pub armed : new.seen.armed ≡ old.seen.armed
   pub standing : new.standing ≡ old.standing
   pub count : old.seen.faults ≤ new.seen.faults
 
@@ -54,9 +55,10 @@ pub record Came (devices : List DeviceInfo) (lines : List NvmLine) (text : List 
   pub text_is : text ≡ replies_text replies
   pub bad_is : bad ≡ has_failed replies
 
--- Nothing was sent, and all blocks are as they were.
+-- Nothing was sent, and all blocks and the armed faults are as they were.
 pub record Stays (old new : View) : Type 0 where
   pub units : new.seen.units ≡ old.seen.units
+  pub armed : new.seen.armed ≡ old.seen.armed
   pub log : new.seen.log ≡ old.seen.log
   pub standing : new.standing ≡ old.standing
   pub count : old.seen.faults ≤ new.seen.faults

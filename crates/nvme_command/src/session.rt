@@ -33,8 +33,8 @@ fn answered<R: Rig>(
 ) -> Result<NvmReply, AllocError>
     requires devices { HasDevices front.old (R.standing rig.old) (R.units rig.old) }
     requires calm { R.armed rig.old ≡ [] }
-    ensures done { let old = view (R.image rig.old) (R.standing rig.old) (seen (R.units rig.old) (R.log rig.old) (R.faults rig.old)) in
-        let new = view (R.image rig.new) (R.standing rig.new) (seen (R.units rig.new) (R.log rig.new) (R.faults rig.new)) in
+    ensures done { let old = view (R.image rig.old) (R.standing rig.old) (seen (R.units rig.old) (R.armed rig.old) (R.log rig.old) (R.faults rig.old)) in
+        let new = view (R.image rig.new) (R.standing rig.new) (seen (R.units rig.new) (R.armed rig.new) (R.log rig.new) (R.faults rig.new)) in
         MatchResult result (λ r. WasDone front.old line.now (reply_of (command_of line.now) r) old new) (λ _. Stays old new) }
     ensures devices { HasDevices front.new (R.standing rig.new) (R.units rig.new) }
     ensures armed { R.armed rig.new ≡ R.armed rig.old }
@@ -70,8 +70,8 @@ fn do_line<R: Rig>(
 ) -> Result<(), AllocError>
     requires devices { HasDevices front.old (R.standing rig.old) (R.units rig.old) }
     requires calm { R.armed rig.old ≡ [] }
-    ensures done { let old = view (R.image rig.old) (R.standing rig.old) (seen (R.units rig.old) (R.log rig.old) (R.faults rig.old)) in
-        let new = view (R.image rig.new) (R.standing rig.new) (seen (R.units rig.new) (R.log rig.new) (R.faults rig.new)) in
+    ensures done { let old = view (R.image rig.old) (R.standing rig.old) (seen (R.units rig.old) (R.armed rig.old) (R.log rig.old) (R.faults rig.old)) in
+        let new = view (R.image rig.new) (R.standing rig.new) (seen (R.units rig.new) (R.armed rig.new) (R.log rig.new) (R.faults rig.new)) in
         MatchResult result (λ _. Adds front.old line.now done.old.text.items done.new.text.items done.old.bad done.new.bad old new) (λ _. Lacks front.old line.now old new) }
     ensures devices { HasDevices front.new (R.standing rig.new) (R.units rig.new) }
     ensures armed { R.armed rig.new ≡ R.armed rig.old }
@@ -99,8 +99,8 @@ pub(crate) fn do_lines<R: Rig>(
 ) -> Result<Done, AllocError>
     requires devices { HasDevices front.old (R.standing rig.old) (R.units rig.old) }
     requires calm { R.armed rig.old ≡ [] }
-    ensures { let old = view (R.image rig.old) (R.standing rig.old) (seen (R.units rig.old) (R.log rig.old) (R.faults rig.old)) in
-        let new = view (R.image rig.new) (R.standing rig.new) (seen (R.units rig.new) (R.log rig.new) (R.faults rig.new)) in
+    ensures { let old = view (R.image rig.old) (R.standing rig.old) (seen (R.units rig.old) (R.armed rig.old) (R.log rig.old) (R.faults rig.old)) in
+        let new = view (R.image rig.new) (R.standing rig.new) (seen (R.units rig.new) (R.armed rig.new) (R.log rig.new) (R.faults rig.new)) in
         MatchResult result (λ d. Came front.old lines.now d.text.items d.bad old new) (λ _. CameInPart front.old lines.now old new) }
 {
     let mut done = Done {

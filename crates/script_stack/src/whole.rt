@@ -35,7 +35,7 @@ use std::alloc::{AllocError, Global};
 use volume_table::{DeviceInfo, VolumeTable};
 
 /// The stack of a script over a volume of a rig's devices, with the script's faults armed, and room in the rig for all
-/// of its exchanges. Takes all the memory of the run.
+/// of its exchanges. Takes all the memory of the run; where that is wanting the armed faults are as before.
 pub fn ready_script<R: Rig>(
     alloc: Global,
     script: Script,
@@ -69,15 +69,17 @@ pub fn ready_script<R: Rig>(
     ensures reaches { IfOk result (λ r. Reaches r.stack (is_some (R.image rig.new)) (R.standing rig.new)) }
     ensures spare { IfOk result (λ r. HasSpare r.stack (R.standing rig.new) (R.room rig.new)) }
     ensures armed { OnOk result (R.armed rig.new ≡ script.faults) }
+    ensures unarmed { OnErr result (R.armed rig.new ≡ R.armed rig.old) }
     ensures image { R.image rig.new ≡ R.image rig.old }
     ensures standing { R.standing rig.new ≡ R.standing rig.old }
     ensures log { R.log rig.new ≡ R.log rig.old }
     ensures count { R.faults rig.new ≡ R.faults rig.old }
 {
-    rig.arm(script.faults.copy(alloc)?);
+    let faults = script.faults.copy(alloc)?;
     let run = start_script(alloc, script, table, devices)?;
     let blocks = run.stack.blocks();
     rig.reserve(alloc, blocks, blocks)?;
+    rig.arm(faults);
     Ok(run)
 }
 
@@ -110,6 +112,7 @@ pub fn run_bound<R: Rig>(
     ensures standing { R.standing rig.new ≡ R.standing rig.old }
     ensures log { OnErr result (R.log rig.new ≡ R.log rig.old) }
     ensures units { OnErr result (R.units rig.new ≡ R.units rig.old) }
+    ensures armed { OnErr result (R.armed rig.new ≡ R.armed rig.old) }
     ensures faults { OnErr result (R.faults rig.new ≡ R.faults rig.old) }
 {
     let Run { mut stack, .. } = ready_script(alloc, script, table, devices, rig)?;

@@ -72,5 +72,5 @@ source_run (Ok run) f script read h = record { script = script; read = read; ran
 source_run (Err r) f script read h = inr (script, read, h)
 
 -- the images' devices told what they are before the call gave up
-pub asked_still : (name : List ℕ) (devices : List DeviceInfo) (old a b : View) → a.image ≡ b.image → a.standing ≡ b.standing → a.seen.units ≡ b.seen.units → a.seen.log ≡ b.seen.log → a.seen.faults ≡ b.seen.faults → WasAsked name devices old b → WasAsked name devices old a
-asked_still name devices old a b i s u l n asked = rw (i, s, u, l, n) asked
+pub asked_still : (name : List ℕ) (devices : List DeviceInfo) (old a b : View) → a.image ≡ b.image → a.standing ≡ b.standing → a.seen.units ≡ b.seen.units → a.seen.armed ≡ b.seen.armed → a.seen.log ≡ b.seen.log → a.seen.faults ≡ b.seen.faults → WasAsked name devices old b → WasAsked name devices old a
+asked_still name devices old a b i s u f l n asked = rw (i, s, u, f, l, n) asked

@@ -69,6 +69,7 @@ pub record IsDone (s : Script) (t : Table) (devices : List DeviceInfo) (begun r 
   pub keeps : Keeps s
   pub some : 0 < old.standing.devices
   pub octets : AreOctets old.image
+  pub faults : new.seen.armed ≡ s.faults
   pub over : IsOver s t devices s.schedule begun r old.image new.image (outside old s.faults) (outside new armed)
 
 -- where the rig told these units, the script is bound to its volume over them
@@ -236,6 +237,7 @@ pub followed : (s : Script) (t : Table) (devices : List DeviceInfo) (begun r : S
 followed s t devices begun r old new armed backed few all medium told same under detects form escape fallen reads own brought o = record {
   tells = o.over.tells;
   holds = image_holds old new o.over.goes.standing o.some o.over.ready o.over.ready_after o.over.laid_after o.over.tells;
+  armed = o.faults;
   goes = o.over.goes;
   backed = backed_by s t devices s.schedule begun r old.image new.image (outside old s.faults) (outside new armed) backed o.over;
   sends = sends_own s [] t o.over.goes.more r.replies.items (sent_by s t devices s.schedule begun r old.image new.image (outside old s.faults) (outside new armed) few all o.over);

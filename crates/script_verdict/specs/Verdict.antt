@@ -98,7 +98,7 @@ pub record IsUnbound (bad : ScriptFault) (script : Script) (name : List ℕ) (ol
   pub made : HasTable script devices table
   pub bound : binding_fault script table devices ≡ Some bad
 
--- The image was opened at most once, its bytes and the records are as before; or it was opened, and no more was done than asking its devices what they are.
+-- The image was opened at most once, its bytes, the armed faults and the records are as before; or it was opened, and no more was done than asking its devices what they are.
 abbrev pub StoppedShort : List ℕ → View → View → Type 0
 StoppedShort name old new = (HasKept old new × OpenedOnce name old.standing new.standing) ⊎ ((devices : List DeviceInfo) × WasAsked name devices old new)
 
@@ -169,10 +169,11 @@ AllReadRightly m ops opening replies = (before after : List Op) (owner : Owner) 
 abbrev pub HoldsBlocks : (old new : View) → Type 0
 HoldsBlocks old new = (image : List ℕ) → old.image ≡ Some image → (left : List Stored) × (new.seen.units ≡ Some left) × (new.image ≡ Some (take 512 image ++ joined (blocks_told left)))
 
--- What the steps of a script over its volume did, from the rig that told what its devices are to the rig as it is afterwards, with these pages and replies. Where the rig tells its image, it has its first 512 bytes as before, and then the blocks that the rig tells. Over any rig, honest or not, the records of the steps back the replies, and are those that its steps send; lines that name the medium are at most as many as the count of faults rose. Over a rig that tells its blocks, where no line of the report names the medium (of a block, or of an overwrite), replies, pages and stored blocks are those of the script's ops done one after another at the target, and the records hold what these carry; and where no fault is scheduled, the blocks are clean and no write supplies an escape, they are those of the plain map. Of such a run each block that is listed was found bad by the check of a layer. In type 1, with tuples passed all the way and protect field 001b, over clean devices, with no escape and with scheduled faults that can be shown, each block of a read is the last accepted write's or names the first layer that checks after the fault; so it is where the script's form says that its faults are shown and that it supplies no escape. Over a rig that tells its blocks, whatever lines name the medium, replies, pages and stored blocks are those of the ops done one after another but for the store calls that failed: what a write's call left stands in its block, and where an overwrite replied `Medium` some flip of its block stands in its place; each block that is listed was found bad by a layer or failed at the medium; and where no fault is scheduled and the blocks are clean, a block of a read that isn't lost fails at the medium or is the last accepted write's, and one of a write that the plain map accepts fails at the medium or not at all.
+-- What the steps of a script over its volume did, from the rig that told what its devices are to the rig as it is afterwards, with these pages and replies. The faults that are armed afterwards are the script's. Where the rig tells its image, it has its first 512 bytes as before, and then the blocks that the rig tells. Over any rig, honest or not, the records of the steps back the replies, and are those that its steps send; lines that name the medium are at most as many as the count of faults rose. Over a rig that tells its blocks, where no line of the report names the medium (of a block, or of an overwrite), replies, pages and stored blocks are those of the script's ops done one after another at the target, and the records hold what these carry; and where no fault is scheduled, the blocks are clean and no write supplies an escape, they are those of the plain map. Of such a run each block that is listed was found bad by the check of a layer. In type 1, with tuples passed all the way and protect field 001b, over clean devices, with no escape and with scheduled faults that can be shown, each block of a read is the last accepted write's or names the first layer that checks after the fault; so it is where the script's form says that its faults are shown and that it supplies no escape. Over a rig that tells its blocks, whatever lines name the medium, replies, pages and stored blocks are those of the ops done one after another but for the store calls that failed: what a write's call left stands in its block, and where an overwrite replied `Medium` some flip of its block stands in its place; each block that is listed was found bad by a layer or failed at the medium; and where no fault is scheduled and the blocks are clean, a block of a read that isn't lost fails at the medium or is the last accepted write's, and one of a write that the plain map accepts fails at the medium or not at all.
 pub record Followed (script : Script) (table : Table) (devices : List DeviceInfo) (old new : View) (pool : List (List ℕ)) (replies : List Reply) : Type 0 where
   pub tells : is_some new.image ≡ is_some old.image
   pub holds : HoldsBlocks old new
+  pub armed : new.seen.armed ≡ script.faults
   pub goes : GoesOn old.standing new.standing old.seen.log new.seen.log old.seen.faults new.seen.faults
   pub backed : IsBackedBy script table devices goes.more replies
   pub sends : SendsFor script table goes.more replies

@@ -17,7 +17,7 @@ returns-in-Ok-discover-clause-told g c =
     let few = few_units _ c.in-Ok.ensures.opened.judged in
     let same = ap (λ (s : Standing). s.devices) c.reserve.ensures.standing in
     record {
-      between = view (g.R.Rig.image c.open_image.new.rig) (g.R.Rig.standing c.open_image.new.rig) (seen (g.R.Rig.units c.open_image.new.rig) (g.R.Rig.log c.open_image.new.rig) (g.R.Rig.faults c.open_image.new.rig));
+      between = view (g.R.Rig.image c.open_image.new.rig) (g.R.Rig.standing c.open_image.new.rig) (seen (g.R.Rig.units c.open_image.new.rig) (g.R.Rig.armed c.open_image.new.rig) (g.R.Rig.log c.open_image.new.rig) (g.R.Rig.faults c.open_image.new.rig));
       since = record {
         opened = c.in-Ok.ensures.opened;
         kept = c.in-Ok.ensures.kept;
@@ -29,6 +29,7 @@ returns-in-Ok-discover-clause-told g c =
         standing = c.discover.ensures.standing ∙ c.reserve.ensures.standing;
         count = omega (arith, c.discover.ensures.count, c.reserve.ensures.count);
       };
+      armed = c.discover.ensures.armed ∙ c.reserve.ensures.armed ∙ c.in-Ok.ensures.kept.armed;
       found = rw (c.reserve.ensures.standing, c.reserve.ensures.log) at c.in-Ok-discover.ensures.found;
       devices_are = devices_are _ _ c.in-Ok-discover.devices.items _ _ _ c.in-Ok-discover.ensures.found (omega (arith, few, same, c.in-Ok.ensures.devices)) c.in-Ok-discover.ensures.ends c.discover.ensures.standing c.discover.ensures.units
           (g.met.R.Rig.laid c.reserve.new.self) c.in-Ok-discover.ensures.told;
@@ -36,7 +37,7 @@ returns-in-Ok-discover-clause-told g c =
 
 pub returns-in-Err-discover-clause-told : goal.returns-in-Err-discover-clause-told
 returns-in-Err-discover-clause-told g c = record {
-  between = view (g.R.Rig.image c.open_image.new.rig) (g.R.Rig.standing c.open_image.new.rig) (seen (g.R.Rig.units c.open_image.new.rig) (g.R.Rig.log c.open_image.new.rig) (g.R.Rig.faults c.open_image.new.rig));
+  between = view (g.R.Rig.image c.open_image.new.rig) (g.R.Rig.standing c.open_image.new.rig) (seen (g.R.Rig.units c.open_image.new.rig) (g.R.Rig.armed c.open_image.new.rig) (g.R.Rig.log c.open_image.new.rig) (g.R.Rig.faults c.open_image.new.rig));
   since = record {
     opened = c.in-Ok.ensures.opened;
     kept = c.in-Ok.ensures.kept;
@@ -48,6 +49,7 @@ returns-in-Err-discover-clause-told g c = record {
     standing = c.discover.ensures.standing ∙ c.reserve.ensures.standing;
     count = omega (arith, c.discover.ensures.count, c.reserve.ensures.count);
   };
+  armed = c.discover.ensures.armed ∙ c.reserve.ensures.armed ∙ c.in-Ok.ensures.kept.armed;
   fault = rw (c.reserve.ensures.standing, c.reserve.ensures.log) at c.in-Err-discover.ensures.fault;
   untold = untold _ (λ t.
       let told = ap is_some (units_through _ _ _ _ _ _ (g.met.R.Rig.laid c.open_image.new.rig) (g.met.R.Rig.laid c.reserve.new.self) c.reserve.ensures.standing c.reserve.ensures.image) ∙ t in

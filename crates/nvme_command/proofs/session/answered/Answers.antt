@@ -19,6 +19,7 @@ returns-in-Ok-clause-done g c =
       medium = c.in-Ok.ensures.medium;
       devices_are = rw c.do_command.ensures.front at c.do_command.ensures.devices;
       tells = c.do_command.ensures.tells;
+      armed = c.do_command.ensures.armed;
       standing = c.do_command.ensures.standing;
       count = c.do_command.ensures.count;
     }

@@ -31,27 +31,27 @@ ready_script-requires-clause-told g c = rw c.deref.ensures.0 (known_infos c.args
 
 pub returns-in-Err-clause-complete : goal.returns-in-Err-clause-complete
 returns-in-Err-clause-complete g c =
-    stops_from_outside c.in-Err.refusal c.args.script c.args.image.now (view (g.R.Rig.image c.args.rig.now) (g.R.Rig.standing c.args.rig.now) (seen (g.R.Rig.units c.args.rig.now) (g.R.Rig.log c.args.rig.now) (g.R.Rig.faults c.args.rig.now))) (view (g.R.Rig.image c.bind.new.rig) (g.R.Rig.standing c.bind.new.rig) (seen (g.R.Rig.units c.bind.new.rig) (g.R.Rig.log c.bind.new.rig) (g.R.Rig.faults c.bind.new.rig))) c.in-Err.ensures
+    stops_from_outside c.in-Err.refusal c.args.script c.args.image.now (view (g.R.Rig.image c.args.rig.now) (g.R.Rig.standing c.args.rig.now) (seen (g.R.Rig.units c.args.rig.now) (g.R.Rig.armed c.args.rig.now) (g.R.Rig.log c.args.rig.now) (g.R.Rig.faults c.args.rig.now))) (view (g.R.Rig.image c.bind.new.rig) (g.R.Rig.standing c.bind.new.rig) (seen (g.R.Rig.units c.bind.new.rig) (g.R.Rig.armed c.bind.new.rig) (g.R.Rig.log c.bind.new.rig) (g.R.Rig.faults c.bind.new.rig))) c.in-Err.ensures
 
 pub returns-in-Err-ready_script-clause-verdict : goal.returns-in-Err-ready_script-clause-verdict
 returns-in-Err-ready_script-clause-verdict g c = inr (
   c.in-Ok.bound.devices.items,
-  (asked_still c.args.image.now c.in-Ok.bound.devices.items (view (g.R.Rig.image c.args.rig.now) (g.R.Rig.standing c.args.rig.now) (seen (g.R.Rig.units c.args.rig.now) (g.R.Rig.log c.args.rig.now) (g.R.Rig.faults c.args.rig.now))) (view (g.R.Rig.image c.ready_script.new.rig) (g.R.Rig.standing c.ready_script.new.rig) (seen (g.R.Rig.units c.ready_script.new.rig) (g.R.Rig.log c.ready_script.new.rig) (g.R.Rig.faults c.ready_script.new.rig))) (view (g.R.Rig.image c.bind.new.rig) (g.R.Rig.standing c.bind.new.rig) (seen (g.R.Rig.units c.bind.new.rig) (g.R.Rig.log c.bind.new.rig) (g.R.Rig.faults c.bind.new.rig)))
+  (asked_still c.args.image.now c.in-Ok.bound.devices.items (view (g.R.Rig.image c.args.rig.now) (g.R.Rig.standing c.args.rig.now) (seen (g.R.Rig.units c.args.rig.now) (g.R.Rig.armed c.args.rig.now) (g.R.Rig.log c.args.rig.now) (g.R.Rig.faults c.args.rig.now))) (view (g.R.Rig.image c.ready_script.new.rig) (g.R.Rig.standing c.ready_script.new.rig) (seen (g.R.Rig.units c.ready_script.new.rig) (g.R.Rig.armed c.ready_script.new.rig) (g.R.Rig.log c.ready_script.new.rig) (g.R.Rig.faults c.ready_script.new.rig))) (view (g.R.Rig.image c.bind.new.rig) (g.R.Rig.standing c.bind.new.rig) (seen (g.R.Rig.units c.bind.new.rig) (g.R.Rig.armed c.bind.new.rig) (g.R.Rig.log c.bind.new.rig) (g.R.Rig.faults c.bind.new.rig)))
       c.ready_script.ensures.image c.ready_script.ensures.standing
       (units_through (g.R.Rig.standing c.bind.new.rig) (g.R.Rig.standing c.ready_script.new.rig) (g.R.Rig.image c.bind.new.rig) (g.R.Rig.image c.ready_script.new.rig) (g.R.Rig.units c.bind.new.rig) (g.R.Rig.units c.ready_script.new.rig)
       (g.met.R.Rig.laid c.bind.new.rig) (g.met.R.Rig.laid c.ready_script.new.rig) c.ready_script.ensures.standing c.ready_script.ensures.image)
-      c.ready_script.ensures.log c.ready_script.ensures.count c.in-Ok.ensures.asked),
+      c.in-Err-ready_script.ensures.unarmed c.ready_script.ensures.log c.ready_script.ensures.count c.in-Ok.ensures.asked),
 )
 
 pub returns-clause-verdict : goal.returns-clause-verdict
 returns-clause-verdict g c = record {
   devices = c.in-Ok.bound.devices.items;
-  told = view (g.R.Rig.image c.ready_script.new.rig) (g.R.Rig.standing c.ready_script.new.rig) (seen (g.R.Rig.units c.ready_script.new.rig) (g.R.Rig.log c.ready_script.new.rig) (g.R.Rig.faults c.ready_script.new.rig));
-  asked = (asked_still c.args.image.now c.in-Ok.bound.devices.items (view (g.R.Rig.image c.args.rig.now) (g.R.Rig.standing c.args.rig.now) (seen (g.R.Rig.units c.args.rig.now) (g.R.Rig.log c.args.rig.now) (g.R.Rig.faults c.args.rig.now))) (view (g.R.Rig.image c.ready_script.new.rig) (g.R.Rig.standing c.ready_script.new.rig) (seen (g.R.Rig.units c.ready_script.new.rig) (g.R.Rig.log c.ready_script.new.rig) (g.R.Rig.faults c.ready_script.new.rig))) (view (g.R.Rig.image c.bind.new.rig) (g.R.Rig.standing c.bind.new.rig) (seen (g.R.Rig.units c.bind.new.rig) (g.R.Rig.log c.bind.new.rig) (g.R.Rig.faults c.bind.new.rig)))
+  told = view (g.R.Rig.image c.ready_script.new.rig) (g.R.Rig.standing c.ready_script.new.rig) (seen (g.R.Rig.units c.ready_script.new.rig) (g.R.Rig.armed c.bind.new.rig) (g.R.Rig.log c.ready_script.new.rig) (g.R.Rig.faults c.ready_script.new.rig));
+  asked = (asked_still c.args.image.now c.in-Ok.bound.devices.items (view (g.R.Rig.image c.args.rig.now) (g.R.Rig.standing c.args.rig.now) (seen (g.R.Rig.units c.args.rig.now) (g.R.Rig.armed c.args.rig.now) (g.R.Rig.log c.args.rig.now) (g.R.Rig.faults c.args.rig.now))) (view (g.R.Rig.image c.ready_script.new.rig) (g.R.Rig.standing c.ready_script.new.rig) (seen (g.R.Rig.units c.ready_script.new.rig) (g.R.Rig.armed c.bind.new.rig) (g.R.Rig.log c.ready_script.new.rig) (g.R.Rig.faults c.ready_script.new.rig))) (view (g.R.Rig.image c.bind.new.rig) (g.R.Rig.standing c.bind.new.rig) (seen (g.R.Rig.units c.bind.new.rig) (g.R.Rig.armed c.bind.new.rig) (g.R.Rig.log c.bind.new.rig) (g.R.Rig.faults c.bind.new.rig)))
       c.ready_script.ensures.image c.ready_script.ensures.standing
       (units_through (g.R.Rig.standing c.bind.new.rig) (g.R.Rig.standing c.ready_script.new.rig) (g.R.Rig.image c.bind.new.rig) (g.R.Rig.image c.ready_script.new.rig) (g.R.Rig.units c.bind.new.rig) (g.R.Rig.units c.ready_script.new.rig)
       (g.met.R.Rig.laid c.bind.new.rig) (g.met.R.Rig.laid c.ready_script.new.rig) c.ready_script.ensures.standing c.ready_script.ensures.image)
-      c.ready_script.ensures.log c.ready_script.ensures.count c.in-Ok.ensures.asked);
+      refl c.ready_script.ensures.log c.ready_script.ensures.count c.in-Ok.ensures.asked);
   table = c.in-Ok.bound.table;
   made = c.in-Ok.ensures.made;
   bound = c.in-Ok.ensures.bound;
@@ -69,8 +69,8 @@ returns-clause-verdict g c = record {
   };
   ends = record { stack = c.run_all.ensures.stack; stays = c.run_all.ensures.stays; ended = c.run_all.ensures.ended };
   followed = followed c.args.script c.in-Ok.bound.table c.in-Ok.bound.devices.items c.in-Ok-ready_script.run'.stack c.run_all.new.stack
-      (view (g.R.Rig.image c.ready_script.new.rig) (g.R.Rig.standing c.ready_script.new.rig) (seen (g.R.Rig.units c.ready_script.new.rig) (g.R.Rig.log c.ready_script.new.rig) (g.R.Rig.faults c.ready_script.new.rig)))
-      (view (g.R.Rig.image c.run_all.new.rig) (g.R.Rig.standing c.run_all.new.rig) (seen (g.R.Rig.units c.run_all.new.rig) (g.R.Rig.log c.run_all.new.rig) (g.R.Rig.faults c.run_all.new.rig)))
+      (view (g.R.Rig.image c.ready_script.new.rig) (g.R.Rig.standing c.ready_script.new.rig) (seen (g.R.Rig.units c.ready_script.new.rig) (g.R.Rig.armed c.bind.new.rig) (g.R.Rig.log c.ready_script.new.rig) (g.R.Rig.faults c.ready_script.new.rig)))
+      (view (g.R.Rig.image c.run_all.new.rig) (g.R.Rig.standing c.run_all.new.rig) (seen (g.R.Rig.units c.run_all.new.rig) (g.R.Rig.armed c.run_all.new.rig) (g.R.Rig.log c.run_all.new.rig) (g.R.Rig.faults c.run_all.new.rig)))
       (g.R.Rig.armed c.run_all.new.rig) c.a_script_run_is_backed.ensures c.a_finished_stack_has_sent.ensures.few c.a_finished_stack_has_sent.ensures.all c.a_finished_stack_names_the_medium_seldom.ensures c.a_told_script_run_has_walked.ensures c.a_calm_walk_is_a_plain_map.ensures.replies c.a_calm_walk_is_a_plain_map.ensures.under c.a_read_is_the_last_write_or_names_the_first_layer.ensures
       c.a_script_is_shown_by_its_form.ensures c.a_script_supplies_no_escape_by_its_form.ensures
       c.a_told_script_run_has_fallen.ensures c.a_stack_reads_the_last_write_or_fails_at_the_medium.ensures c.a_stack_writes_or_fails_at_the_medium.ensures.own c.a_stack_writes_or_fails_at_the_medium.ensures.brought
@@ -78,6 +78,7 @@ returns-clause-verdict g c = record {
         keeps = c.requires.keeps;
         some = rw c.ready_script.ensures.standing (has_device c.args.image.now c.in-Ok.bound.devices.items _ _ c.in-Ok.ensures.asked);
         octets = g.met.R.Rig.octets c.ready_script.new.rig;
+        faults = c.run_all.ensures.armed ∙ c.in-Ok-ready_script.ensures.armed;
         over = record {
           suits = suits c.args.script c.requires.keeps;
           lines = c.requires.lines;
