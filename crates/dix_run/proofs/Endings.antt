@@ -157,7 +157,7 @@ unmapped f ty old new o m result named rig source written = record { verdict = R
 -- a scrub without the memory for its text looked at every block
 pub scrub_spared : (name : List ℕ) (devices : List DeviceInfo) (found : List Found) (old new : View) → WasScrubbed name devices found old new → CauseUnscrubbed fault.Memory name old new
 scrub_spared name devices found old new d =
-    inr (record { devices = devices; told = d.told; discovered = d.discovered; left = []; found = found; looked = d.looked; units = d.units; standing = d.standing; count = d.count })
+    inr (record { devices = devices; told = d.told; discovered = d.discovered; left = []; found = found; looked = d.looked; units = d.units; armed = d.armed; standing = d.standing; count = d.count })
 
 -- a call of big N SEED
 pub ended_big : (f : Facts) (n seed : ℕ) (b : BigRun) (old new : Option (List ℕ)) (o m : ℕ) (result : Status) → command_in f.words ≡ Some (Big n seed) → RanBig n seed b → f.rig_after ≡ f.rig → LeavesSource f →

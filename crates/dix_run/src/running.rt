@@ -54,8 +54,8 @@ pub(crate) fn run_image<S: Source, R: Rig, O: Sink>(
       left_after = S.left source.new;
       reads = S.faults source.old;
       reads_after = S.faults source.new;
-      rig = view (R.image rig.old) (R.standing rig.old) (seen (R.units rig.old) (R.log rig.old) (R.faults rig.old));
-      rig_after = view (R.image rig.new) (R.standing rig.new) (seen (R.units rig.new) (R.log rig.new) (R.faults rig.new));
+      rig = view (R.image rig.old) (R.standing rig.old) (seen (R.units rig.old) (R.armed rig.old) (R.log rig.old) (R.faults rig.old));
+      rig_after = view (R.image rig.new) (R.standing rig.new) (seen (R.units rig.new) (R.armed rig.new) (R.log rig.new) (R.faults rig.new));
     } in
         Ended f (O.taken out.old) (O.taken out.new) (O.faults out.old) (O.faults out.new) result }
 {
@@ -80,8 +80,8 @@ pub(crate) fn trace_image<S: Source, R: Rig, O: Sink>(
       left_after = S.left source.new;
       reads = S.faults source.old;
       reads_after = S.faults source.new;
-      rig = view (R.image rig.old) (R.standing rig.old) (seen (R.units rig.old) (R.log rig.old) (R.faults rig.old));
-      rig_after = view (R.image rig.new) (R.standing rig.new) (seen (R.units rig.new) (R.log rig.new) (R.faults rig.new));
+      rig = view (R.image rig.old) (R.standing rig.old) (seen (R.units rig.old) (R.armed rig.old) (R.log rig.old) (R.faults rig.old));
+      rig_after = view (R.image rig.new) (R.standing rig.new) (seen (R.units rig.new) (R.armed rig.new) (R.log rig.new) (R.faults rig.new));
     } in
         Ended f (O.taken out.old) (O.taken out.new) (O.faults out.old) (O.faults out.new) result }
 {

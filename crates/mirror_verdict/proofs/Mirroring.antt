@@ -2,7 +2,6 @@
 use Rattle.std.proofs.Common.{◌≡◌, ℕ, List, [], ◌++◌, length, map, Some, sym, ap, ◌∙◌, subst}
 use Rattle.std.specs.Prelude.{is_some}
 use Rattle.dix_base.specs.Told.{AreOctets, Calm}
-use Rattle.fault_schedule.specs.declared.fault.FaultLine.{FaultLine}
 use Rattle.rig_api.specs.Telling.{IsStanding, Standing, specs_of, units_told}
 use Rattle.image_commands.specs.Views.{View}
 use Rattle.rig_discovery.specs.Discovery.{info_of}
@@ -84,14 +83,14 @@ as-repaired s devices us left pool replies marks repaired lost served =
       lost_is = served.lost_is ∙ ap (λ (r : Repair). r.lost) e;
     }
 
-module _ (law : EnoughLaw) (by_form : FormedLaw) (unfaulted : StillLaw) (s : Script) (name : List ℕ) (devices : List DeviceInfo) (old told new : View) (begun : Mirror) (before armed : List FaultLine) (up : IsUp s name devices old told begun) (tells : is_some new.image ≡ is_some told.image) (laid : new.seen.units ≡ units_told new.standing new.image) (ready : IsStanding new.standing new.image) where
+module _ (law : EnoughLaw) (by_form : FormedLaw) (unfaulted : StillLaw) (s : Script) (name : List ℕ) (devices : List DeviceInfo) (old told new : View) (begun : Mirror) (up : IsUp s name devices old told begun) (tells : is_some new.image ≡ is_some told.image) (laid : new.seen.units ≡ units_told new.standing new.image) (ready : IsStanding new.standing new.image) where
   -- the image afterwards
   holds : new.standing ≡ told.standing → HoldsBlocks told new
   holds same = image_holds told new same (has_device name devices old told up.asked) up.ready ready laid tells
 
   -- by one of the laws, what it asks being `P`
   by-law : (P : List Stored → Type 0) → ((us left : List Stored) (marks : List Marks) (repaired lost : ℕ) → IsOver s devices us → HoldsBytes us → P us → IsRepairedAs s devices us (length s.ops) marks repaired lost left → WasEnough s devices us left lost)
-      → (run : Mirrored) → (ended : Finished s devices (stage_of begun [] (outside told before)) run.mirror run.repair.repaired run.repair.lost (outside new armed))
+      → (run : Mirrored) → (ended : Finished s devices (stage_of begun [] (outside told)) run.mirror run.repair.repaired run.repair.lost (outside new))
       → (us : List Stored) → told.seen.units ≡ Some us → NamesNoMedium (ended.stage.runs ++ ended.runs) run.mirror.replies.items → P us → (left : List Stored) × ((new.seen.units ≡ Some left) × WasEnough s devices us left run.repair.lost)
   by-law P says run ended us e none p =
       let x = ended.told us e none in (
@@ -103,15 +102,15 @@ module _ (law : EnoughLaw) (by_form : FormedLaw) (unfaulted : StillLaw) (s : Scr
         ),
       )
 
-  enough : (run : Mirrored) → (ended : Finished s devices (stage_of begun [] (outside told before)) run.mirror run.repair.repaired run.repair.lost (outside new armed))
+  enough : (run : Mirrored) → (ended : Finished s devices (stage_of begun [] (outside told)) run.mirror run.repair.repaired run.repair.lost (outside new))
       → (us : List Stored) → told.seen.units ≡ Some us → NamesNoMedium (ended.stage.runs ++ ended.runs) run.mirror.replies.items → IsOneGoodRun s devices us → (left : List Stored) × ((new.seen.units ≡ Some left) × WasEnough s devices us left run.repair.lost)
   enough = by-law (IsOneGoodRun s devices) (law s devices)
 
-  still : (run : Mirrored) → (ended : Finished s devices (stage_of begun [] (outside told before)) run.mirror run.repair.repaired run.repair.lost (outside new armed))
+  still : (run : Mirrored) → (ended : Finished s devices (stage_of begun [] (outside told)) run.mirror run.repair.repaired run.repair.lost (outside new))
       → (us : List Stored) → told.seen.units ≡ Some us → NamesNoMedium (ended.stage.runs ++ ended.runs) run.mirror.replies.items → IsStillMirror s devices us → (left : List Stored) × ((new.seen.units ≡ Some left) × WasEnough s devices us left run.repair.lost)
   still = by-law (IsStillMirror s devices) (unfaulted s devices)
 
-  pub mirrored : (run : Mirrored) → Finished s devices (stage_of begun [] (outside told before)) run.mirror run.repair.repaired run.repair.lost (outside new armed) → HasMirrored run s name old new
+  pub mirrored : (run : Mirrored) → Finished s devices (stage_of begun [] (outside told)) run.mirror run.repair.repaired run.repair.lost (outside new) → HasMirrored run s name old new
   mirrored run ended = record {
     devices = devices;
     told = told;
@@ -119,8 +118,6 @@ module _ (law : EnoughLaw) (by_form : FormedLaw) (unfaulted : StillLaw) (s : Scr
     bound = up.bound;
     begun = begun;
     starts = up.starts;
-    before = before;
-    armed = armed;
     ended = ended;
     tells = tells;
     holds = holds ended.stretches.standing;
@@ -130,7 +127,7 @@ module _ (law : EnoughLaw) (by_form : FormedLaw) (unfaulted : StillLaw) (s : Scr
     still = still run ended;
   }
 
-  pub midway : Broke s devices (stage_of begun [] (outside told before)) (outside new armed) → StoppedMidway s name old new
+  pub midway : Broke s devices (stage_of begun [] (outside told)) (outside new) → StoppedMidway s name old new
   midway broke = record {
     devices = devices;
     told = told;
@@ -138,8 +135,6 @@ module _ (law : EnoughLaw) (by_form : FormedLaw) (unfaulted : StillLaw) (s : Scr
     bound = up.bound;
     begun = begun;
     starts = up.starts;
-    before = before;
-    armed = armed;
     broke = broke;
     tells = tells;
     holds = holds (broke.under_way.standing ∙ broke.served.stretches.standing);

@@ -1,6 +1,5 @@
 use Rattle.std.specs.Prelude.{All, ℕ, ◌≡◌, ◌*◌, ◌⊎◌, replicate, List, [], ◌++◌, is_some, Some, None, Ok}
 use Rattle.dix_base.specs.Told.{Calm}
-use Rattle.fault_schedule.specs.declared.fault.FaultLine.{FaultLine}
 use Rattle.page_pool.specs.Cells.{flat}
 use Rattle.rig_api.specs.Head.{head_fault, head_of}
 use Rattle.image_commands.specs.Causes.{CauseUntold}
@@ -29,9 +28,9 @@ use Rattle.mirror_volume.specs.Premises.{IsFormedMirror, IsOneGoodRun, IsStillMi
 use Rattle.mirror_verdict.specs.Stages.{Broke, Finished, stage_of}
 use Rattle.mirror_verdict.specs.declared.mirrored.Mirrored.{Mirrored}
 
--- what a rig shows of itself to the runs on the legs, with these faults armed
-abbrev pub outside : View → List FaultLine → Outside
-outside v armed = record { units = v.seen.units; armed = armed; standing = v.standing; log = v.seen.log; faults = v.seen.faults }
+-- what a rig shows of itself to the runs on the legs
+abbrev pub outside : View → Outside
+outside v = record { units = v.seen.units; armed = v.seen.armed; standing = v.standing; log = v.seen.log; faults = v.seen.faults }
 
 -- The mirror of a script over these devices, none of whose ops is done: all blocks are fresh on both legs, its pages are zeros, and no entry of the schedule is used.
 pub record IsBegun (s : Script) (devices : List DeviceInfo) (begun : Mirror) : Type 0 where
@@ -53,9 +52,7 @@ pub record HasMirrored (run : Mirrored) (s : Script) (name : List ℕ) (old new 
   pub bound : IsBoundMirror s devices
   pub begun : Mirror
   pub starts : IsBegun s devices begun
-  pub before : List FaultLine
-  pub armed : List FaultLine
-  pub ended : Finished s devices (stage_of begun [] (outside told before)) run.mirror run.repair.repaired run.repair.lost (outside new armed)
+  pub ended : Finished s devices (stage_of begun [] (outside told)) run.mirror run.repair.repaired run.repair.lost (outside new)
   pub tells : is_some new.image ≡ is_some told.image
   pub holds : HoldsBlocks told new
   pub faults : (us : List Stored) → told.seen.units ≡ Some us → All NamesFaults run.mirror.replies.items
@@ -90,9 +87,7 @@ pub record StoppedMidway (s : Script) (name : List ℕ) (old new : View) : Type 
   pub bound : IsBoundMirror s devices
   pub begun : Mirror
   pub starts : IsBegun s devices begun
-  pub before : List FaultLine
-  pub armed : List FaultLine
-  pub broke : Broke s devices (stage_of begun [] (outside told before)) (outside new armed)
+  pub broke : Broke s devices (stage_of begun [] (outside told)) (outside new)
   pub tells : is_some new.image ≡ is_some told.image
   pub holds : HoldsBlocks told new
 

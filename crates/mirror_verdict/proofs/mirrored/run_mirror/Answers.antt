@@ -15,9 +15,9 @@ serve-requires-clause-rig g c = rw c.in-Ok-new.ensures.devices (has-devices c.ar
 
 pub returns-in-Ok-serve : goal.returns-in-Ok-serve
 returns-in-Ok-serve g c =
-    let old = view (g.R.Rig.image c.args.rig.now) (g.R.Rig.standing c.args.rig.now) (seen (g.R.Rig.units c.args.rig.now) (g.R.Rig.log c.args.rig.now) (g.R.Rig.faults c.args.rig.now)) in
-    let told = view (g.R.Rig.image c.bind.new.rig) (g.R.Rig.standing c.bind.new.rig) (seen (g.R.Rig.units c.bind.new.rig) (g.R.Rig.log c.bind.new.rig) (g.R.Rig.faults c.bind.new.rig)) in
-    let new = view (g.R.Rig.image c.serve.new.rig) (g.R.Rig.standing c.serve.new.rig) (seen (g.R.Rig.units c.serve.new.rig) (g.R.Rig.log c.serve.new.rig) (g.R.Rig.faults c.serve.new.rig)) in
+    let old = view (g.R.Rig.image c.args.rig.now) (g.R.Rig.standing c.args.rig.now) (seen (g.R.Rig.units c.args.rig.now) (g.R.Rig.armed c.args.rig.now) (g.R.Rig.log c.args.rig.now) (g.R.Rig.faults c.args.rig.now)) in
+    let told = view (g.R.Rig.image c.bind.new.rig) (g.R.Rig.standing c.bind.new.rig) (seen (g.R.Rig.units c.bind.new.rig) (g.R.Rig.armed c.bind.new.rig) (g.R.Rig.log c.bind.new.rig) (g.R.Rig.faults c.bind.new.rig)) in
+    let new = view (g.R.Rig.image c.serve.new.rig) (g.R.Rig.standing c.serve.new.rig) (seen (g.R.Rig.units c.serve.new.rig) (g.R.Rig.armed c.serve.new.rig) (g.R.Rig.log c.serve.new.rig) (g.R.Rig.faults c.serve.new.rig)) in
     let devices = c.in-Ok.devices.items in
     let begun = c.in-Ok-new.mirror in
     let asked = c.in-Ok.ensures.asked in
@@ -29,14 +29,14 @@ returns-in-Ok-serve g c =
       ready = g.met.R.Rig.ready c.bind.new.rig;
       octets = g.met.R.Rig.octets c.bind.new.rig;
     } in
-    mirrored c.one_good_leg_is_enough.ensures.repaired c.a_formed_mirror_has_one_good_leg.ensures c.no_fault_is_enough_under_any_protect_field.ensures.repaired c.args.script c.args.image.now devices old told new begun (g.R.Rig.armed c.bind.new.rig) (g.R.Rig.armed c.serve.new.rig) up c.serve.ensures.tells (g.met.R.Rig.laid c.serve.new.rig) (g.met.R.Rig.ready c.serve.new.rig)
+    mirrored c.one_good_leg_is_enough.ensures.repaired c.a_formed_mirror_has_one_good_leg.ensures c.no_fault_is_enough_under_any_protect_field.ensures.repaired c.args.script c.args.image.now devices old told new begun up c.serve.ensures.tells (g.met.R.Rig.laid c.serve.new.rig) (g.met.R.Rig.ready c.serve.new.rig)
     _ (rw (c.in-Ok-new.ensures.script, c.in-Ok-new.ensures.devices) at c.in-Ok-serve.ensures.done)
 
 pub returns-in-Err-serve : goal.returns-in-Err-serve
 returns-in-Err-serve g c =
-    let old = view (g.R.Rig.image c.args.rig.now) (g.R.Rig.standing c.args.rig.now) (seen (g.R.Rig.units c.args.rig.now) (g.R.Rig.log c.args.rig.now) (g.R.Rig.faults c.args.rig.now)) in
-    let told = view (g.R.Rig.image c.bind.new.rig) (g.R.Rig.standing c.bind.new.rig) (seen (g.R.Rig.units c.bind.new.rig) (g.R.Rig.log c.bind.new.rig) (g.R.Rig.faults c.bind.new.rig)) in
-    let new = view (g.R.Rig.image c.serve.new.rig) (g.R.Rig.standing c.serve.new.rig) (seen (g.R.Rig.units c.serve.new.rig) (g.R.Rig.log c.serve.new.rig) (g.R.Rig.faults c.serve.new.rig)) in
+    let old = view (g.R.Rig.image c.args.rig.now) (g.R.Rig.standing c.args.rig.now) (seen (g.R.Rig.units c.args.rig.now) (g.R.Rig.armed c.args.rig.now) (g.R.Rig.log c.args.rig.now) (g.R.Rig.faults c.args.rig.now)) in
+    let told = view (g.R.Rig.image c.bind.new.rig) (g.R.Rig.standing c.bind.new.rig) (seen (g.R.Rig.units c.bind.new.rig) (g.R.Rig.armed c.bind.new.rig) (g.R.Rig.log c.bind.new.rig) (g.R.Rig.faults c.bind.new.rig)) in
+    let new = view (g.R.Rig.image c.serve.new.rig) (g.R.Rig.standing c.serve.new.rig) (seen (g.R.Rig.units c.serve.new.rig) (g.R.Rig.armed c.serve.new.rig) (g.R.Rig.log c.serve.new.rig) (g.R.Rig.faults c.serve.new.rig)) in
     let devices = c.in-Ok.devices.items in
     let begun = c.in-Ok-new.mirror in
     let asked = c.in-Ok.ensures.asked in
@@ -48,5 +48,5 @@ returns-in-Err-serve g c =
       ready = g.met.R.Rig.ready c.bind.new.rig;
       octets = g.met.R.Rig.octets c.bind.new.rig;
     } in
-    inr (midway c.one_good_leg_is_enough.ensures.repaired c.a_formed_mirror_has_one_good_leg.ensures c.no_fault_is_enough_under_any_protect_field.ensures.repaired c.args.script c.args.image.now devices old told new begun (g.R.Rig.armed c.bind.new.rig) (g.R.Rig.armed c.serve.new.rig) up c.serve.ensures.tells (g.met.R.Rig.laid c.serve.new.rig) (g.met.R.Rig.ready c.serve.new.rig)
+    inr (midway c.one_good_leg_is_enough.ensures.repaired c.a_formed_mirror_has_one_good_leg.ensures c.no_fault_is_enough_under_any_protect_field.ensures.repaired c.args.script c.args.image.now devices old told new begun up c.serve.ensures.tells (g.met.R.Rig.laid c.serve.new.rig) (g.met.R.Rig.ready c.serve.new.rig)
     (rw (c.in-Ok-new.ensures.script, c.in-Ok-new.ensures.devices) at c.in-Err-serve.ensures.done))
