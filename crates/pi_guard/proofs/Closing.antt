@@ -1,12 +1,12 @@
 -- The end of a window.
-use Rattle.std.proofs.Common.{◌≡◌, ℕ, List, [], ◌∷◌, ◌++◌, length, map, take, drop, replicate, get_or, refl, sym, ap, ◌∙◌, arith, length-append, take-add}
+use Rattle.std.proofs.Common.{◌≡◌, ℕ, suc, ◌+◌, List, [], ◌∷◌, ◌++◌, length, map, take, drop, replicate, get_or, refl, sym, ap, ◌∙◌, arith, length-append, take-add}
 use Rattle.std.specs.Prelude.{bit_xor}
 use Rattle.std.specs.Int.Bits.{xor_assoc, xor_comm, xor_zero_l, xor_zero_r}
 use Rattle.std.proofs.lemmas.List.{length-map, take_at, drop_at}
 use Rattle.std.proofs.lemmas.Simd.{length-zip2}
 use lib.Lanes.{zip2, chunk}
-use Rattle.pi_guard.specs.Register.{register, byte_step}
-use Rattle.pi_guard.specs.AfterZeros.{later}
+use Rattle.pi_guard.specs.Register.{register}
+use Rattle.pi_guard.specs.AfterZeros.{later, entry}
 use Rattle.pi_guard.proofs.Linear.{swap_middle, later-xor, by_tables}
 use Rattle.pi_guard.proofs.Folds.{Splits, split_list, of_zero, later_zero}
 use Rattle.pi_guard.proofs.Lookup.{IsBlock}
@@ -70,23 +70,41 @@ closes fa ga fb gb fc gc sa sb sc a b c d ha hb hc ld =
     ∙ turned D (later 16 C) (later 32 B) (later 48 A)
     ∙ sym whole
 
+-- bytes with one place more behind them: the first by its table
+pub front_moved : (b : ℕ) (xs : List ℕ) → later 1 (register 0 (b ∷ xs)) ≡ bit_xor (entry (suc (length xs)) b) (register 0 (xs ++ 0 ∷ []))
+front_moved b xs =
+    let ws = xs ++ 0 ∷ [] in
+    let r = later 1 (register 0 (b ∷ xs)) in
+    let long : length ws ≡ suc (length xs) = omega (arith, length-append xs (0 ∷ [])) in
+    let m : register 0 (b ∷ ws) ≡ r = zero-append (b ∷ xs) (0 ∷ []) ∙ ap (bit_xor r) byte_zero ∙ xor_zero_r r in
+    sym m ∙ of_zero (b ∷ ws) ∙ ap (λ n. bit_xor (entry n b) (by_tables ws)) long ∙ ap (bit_xor (entry (suc (length xs)) b)) (sym (of_zero ws))
+
 pub ends : (x y : List ℕ) → length x ≡ 16 → length y ≡ 16 →
-    register (byte_step 0 (get_or x 0 0)) (zip2 bit_xor (chunk 1 16 (x ++ replicate 16 0)) y) ≡ pair x y
+    bit_xor (entry 16 (get_or x 0 0)) (register 0 (zip2 bit_xor (chunk 1 16 (x ++ replicate 16 0)) y)) ≡ pair x y
 ends [] y lx ly = absurd (omega arith)
 ends (b ∷ xs) y lx ly =
     let z = replicate {A = ℕ} 16 0 in
     let l : length xs ≡ 15 = omega arith in
-    let r = byte_step 0 b in
+    let n : 16 ≡ suc (length xs) = omega arith in
     let ws = xs ++ 0 ∷ [] in
     let Y = register 0 y in
     let lw : length ws ≡ 16 = omega (arith, length-append xs (0 ∷ [])) in
     let e : take 16 (xs ++ z) ≡ ws =
     take-add 15 1 (xs ++ z) ∙ ap (λ v. v ++ take 1 (drop 15 (xs ++ z))) (take_at xs z 15 l) ∙ ap (λ v. xs ++ take 1 v) (drop_at xs z 15 l) in
-    let m : register 0 ((b ∷ xs) ++ 0 ∷ []) ≡ later 1 (register 0 (b ∷ xs)) =
-    zero-append (b ∷ xs) (0 ∷ []) ∙ ap (bit_xor (later 1 (register 0 (b ∷ xs)))) byte_zero ∙ xor_zero_r (later 1 (register 0 (b ∷ xs))) in
-    ap (λ v. register r (zip2 bit_xor v y)) e
-    ∙ after r (zip2 bit_xor ws y)
-    ∙ ap (λ n. bit_xor (later n r) (register 0 (zip2 bit_xor ws y))) (length-zip2 bit_xor ws y (lw ∙ sym ly))
-    ∙ ap (bit_xor (later (length ws) r)) (zero-xor ws y (lw ∙ sym ly))
-    ∙ sym (xor_assoc (later (length ws) r) (register 0 ws) Y)
-    ∙ ap (λ v. bit_xor v Y) (sym (after r ws) ∙ m)
+    ap (λ v. bit_xor (entry 16 b) (register 0 (zip2 bit_xor v y))) e
+    ∙ ap (bit_xor (entry 16 b)) (zero-xor ws y (lw ∙ sym ly))
+    ∙ sym (xor_assoc (entry 16 b) (register 0 ws) Y)
+    ∙ ap (λ k. bit_xor (bit_xor (entry k b) (register 0 ws)) Y) n
+    ∙ ap (λ v. bit_xor v Y) (sym (front_moved b xs))
+
+-- 32 bytes: the first sixteen are folded into the last ones
+pub two_close : (f g : ℕ → ℕ) → Splits 16 1 f g → (a b : List ℕ) → IsBlock a → length b ≡ 16 →
+    pair (zip2 bit_xor (replicate 16 0) (map f a)) (zip2 bit_xor b (map g a)) ≡ register 0 (a ++ b)
+two_close f g s a b h l =
+    let A = register 0 a in
+    let B = register 0 b in
+    let none : pair (replicate 16 0) b ≡ B = ap (λ v. bit_xor (later 1 v) B) (zeros_leave 16) ∙ ap (λ v. bit_xor v B) (later_zero 1) ∙ xor_zero_l B in
+    taken_in 16 f g s a (replicate 16 0) b h refl l
+    ∙ ap (λ v. bit_xor v (later 16 A)) none
+    ∙ xor_comm B (later 16 A)
+    ∙ sym (zero-append a b ∙ ap (λ n. bit_xor (later n A) B) l)

@@ -9,5 +9,6 @@ mod Sparse
 mod Trailing
 mod Debts
 mod Closing
+mod Halving
 mod Sums
 mod Runs

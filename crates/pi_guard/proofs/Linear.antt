@@ -171,6 +171,22 @@ two xs e =
     let y = xor_zero_r (entry 0 (get_or xs 3 0)) in
     cc
 
+-- eight bytes, by the tables
+pub eight : (xs : List ℕ) → length xs ≡ 8 →
+    by_tables xs ≡ bit_xor (entry 7 (get_or xs 0 0)) (bit_xor (entry 6 (get_or xs 1 0)) (bit_xor (entry 5 (get_or xs 2 0)) (bit_xor (entry 4 (get_or xs 3 0)) (bit_xor (entry 3 (get_or xs 4 0)) (bit_xor (entry 2 (get_or xs 5 0)) (bit_xor (entry 1 (get_or xs 6 0)) (entry 0 (get_or xs 7 0))))))))
+eight xs e =
+    let p0 = peel xs 0 8 7 e (omega arith) in
+    let p1 = peel xs 1 8 6 e (omega arith) in
+    let p2 = peel xs 2 8 5 e (omega arith) in
+    let p3 = peel xs 3 8 4 e (omega arith) in
+    let p4 = peel xs 4 8 3 e (omega arith) in
+    let p5 = peel xs 5 8 2 e (omega arith) in
+    let p6 = peel xs 6 8 1 e (omega arith) in
+    let p7 = peel xs 7 8 0 e (omega arith) in
+    let z : by_tables (drop 8 xs) ≡ 0 = ap by_tables (drop-past xs 8 (omega arith)) in
+    let y = xor_zero_r (entry 0 (get_or xs 7 0)) in
+    cc
+
 -- one byte, by the first table
 pub by_one : (r x : ℕ) → r < 2 ^ 16 → bit_xor (r % 256 * 256 % 2 ^ 16) (entry 0 (bit_xor (r / 256) x)) ≡ byte_step r x
 unfolding entry

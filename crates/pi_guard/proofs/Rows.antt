@@ -62,24 +62,24 @@ in_row f (s ∷ ss) r (suc k) i h l m =
 -- what is computed of the table, and what follows of any table of which it holds
 abbrev table_holds : (ℕ → ℕ) → List (List ℕ) → Bool
 table_holds f [] = false
-table_holds f (r ∷ ss) = eqb (length r) 256 && (eqb (length ss) 15 && (first_row f 0 r && rows_follow f r ss))
+table_holds f (r ∷ ss) = eqb (length r) 256 && (eqb (length ss) 16 && (first_row f 0 r && rows_follow f r ss))
 
-from_table : (f : ℕ → ℕ) (t : List (List ℕ)) (k i : ℕ) → table_holds f t ≡ true → k < 16 → i < 256 → get_or (get_or t k []) i 0 ≡ again f k (f (i * 2 ^ 8))
+from_table : (f : ℕ → ℕ) (t : List (List ℕ)) (k i : ℕ) → table_holds f t ≡ true → k < 17 → i < 256 → get_or (get_or t k []) i 0 ≡ again f k (f (i * 2 ^ 8))
 unfolding again
 from_table f [] k i h l m = cc
 from_table f (r ∷ ss) zero i h l m =
-    let b = both (eqb (length r) 256) (eqb (length ss) 15 && (first_row f 0 r && rows_follow f r ss)) h in
-    let c = both (eqb (length ss) 15) (first_row f 0 r && rows_follow f r ss) b.1 in
+    let b = both (eqb (length r) 256) (eqb (length ss) 16 && (first_row f 0 r && rows_follow f r ss)) h in
+    let c = both (eqb (length ss) 16) (first_row f 0 r && rows_follow f r ss) b.1 in
     let d = both (first_row f 0 r) (rows_follow f r ss) c.1 in
     let e = eqb-true (length r) 256 b.0 in
     let z : 0 + i ≡ i = omega arith in
     in_first f r 0 i d.0 (omega arith) ∙ ap (λ v. f (v * 2 ^ 8)) z
 from_table f (r ∷ ss) (suc k) i h l m =
-    let b = both (eqb (length r) 256) (eqb (length ss) 15 && (first_row f 0 r && rows_follow f r ss)) h in
-    let c = both (eqb (length ss) 15) (first_row f 0 r && rows_follow f r ss) b.1 in
+    let b = both (eqb (length r) 256) (eqb (length ss) 16 && (first_row f 0 r && rows_follow f r ss)) h in
+    let c = both (eqb (length ss) 16) (first_row f 0 r && rows_follow f r ss) b.1 in
     let d = both (first_row f 0 r) (rows_follow f r ss) c.1 in
     let e = eqb-true (length r) 256 b.0 in
-    let g = eqb-true (length ss) 15 c.0 in
+    let g = eqb-true (length ss) 16 c.0 in
     let z : 0 + i ≡ i = omega arith in
     in_row f ss r k i d.1 (omega arith) (omega arith) ∙ ap (again f (suc k)) (in_first f r 0 i d.0 (omega arith) ∙ ap (λ v. f (v * 2 ^ 8)) z)
 
@@ -87,6 +87,6 @@ it_holds : table_holds pass TABLES ≡ true
 unfolding pass
 it_holds = refl
 
-pub table_entry : (k i : ℕ) → k < 16 → i < 256 → get_or (get_or TABLES k []) i 0 ≡ entry k i
+pub table_entry : (k i : ℕ) → k < 17 → i < 256 → get_or (get_or TABLES k []) i 0 ≡ entry k i
 unfolding entry
 table_entry k i l m = from_table pass TABLES k i it_holds l m ∙ again_pass k (pass (i * 2 ^ 8))

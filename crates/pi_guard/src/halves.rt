@@ -6,7 +6,9 @@ ghost use Rattle.pi_guard.specs.Register.{register};
 ghost use Rattle.pi_guard.specs.Windows.{by_halves};
 ghost use Rattle.pi_guard.specs.AfterZeros.{later};
 
-use crate::slicing;
+use crate::byte_tables::table_entry;
+use crate::narrow::with_register;
+use crate::slicing::register_of_last_eight;
 use std::simd::prelude::*;
 
 // A byte with 48 bytes behind it leaves what two bytes leave, the first with one byte behind it and the
@@ -61,6 +63,23 @@ const FROM_16_SECOND_LOW: [u8; 16] = [
     0x00, 0x10, 0x97, 0x87, 0x99, 0x89, 0x0E, 0x1E, 0x32, 0x22, 0xA5, 0xB5, 0xAB, 0xBB, 0x3C, 0x2C,
 ];
 
+// The same of a byte with 8 bytes behind it.
+const FROM_8_FIRST_HIGH: [u8; 16] = [
+    0x00, 0x6E, 0xDC, 0xB2, 0x32, 0x5C, 0xEE, 0x80, 0x65, 0x0B, 0xB9, 0xD7, 0x57, 0x39, 0x8B, 0xE5,
+];
+
+const FROM_8_FIRST_LOW: [u8; 16] = [
+    0x00, 0xF2, 0x6F, 0x9D, 0xDE, 0x2C, 0xB1, 0x43, 0x37, 0xC5, 0x58, 0xAA, 0xE9, 0x1B, 0x86, 0x74,
+];
+
+const FROM_8_SECOND_HIGH: [u8; 16] = [
+    0x00, 0x46, 0x8C, 0xCA, 0xAF, 0xE9, 0x23, 0x65, 0x5E, 0x18, 0xD2, 0x94, 0xF1, 0xB7, 0x7D, 0x3B,
+];
+
+const FROM_8_SECOND_LOW: [u8; 16] = [
+    0x00, 0x49, 0x25, 0x6C, 0x4A, 0x03, 0x6F, 0x26, 0x23, 0x6A, 0x06, 0x4F, 0x69, 0x20, 0x4C, 0x05,
+];
+
 /// Adds to each byte of `to` what two tables give for the halves of the byte of `from`.
 #[inline(always)]
 fn folded_in(to: u8x16, high: [u8; 16], low: [u8; 16], from: u8x16) -> u8x16
@@ -87,6 +106,26 @@ pub fn register_of_window(a: u8x16, b: u8x16, c: u8x16, d: u8x16) -> u16
     register_of_pair(a1, a2)
 }
 
+/// The register after the 32 bytes of two vectors.
+#[inline(always)]
+fn register_of_two(a: u8x16, b: u8x16) -> u16
+    ensures { result ≡ register 0 (a ++ b) }
+{
+    let zero = u8x16::from_array([0; 16]);
+    let upper = folded_in(zero, FROM_16_FIRST_HIGH, FROM_16_FIRST_LOW, a);
+    let lower = folded_in(b, FROM_16_SECOND_HIGH, FROM_16_SECOND_LOW, a);
+    register_of_pair(upper, lower)
+}
+
+/// The register after 32 bytes more.
+#[inline(always)]
+pub fn after_thirty_two(start: u16, bytes: &[u8; 32]) -> u16
+    ensures { result ≡ register start bytes.now }
+{
+    let first = with_register(start, u8x16::from_slice(bytes));
+    register_of_two(first, u8x16::from_slice(&bytes[16..]))
+}
+
 /// The register after these bytes, of which the upper ones stand one place further to the front.
 #[inline(always)]
 fn register_of_pair(upper: u8x16, lower: u8x16) -> u16
@@ -97,6 +136,25 @@ fn register_of_pair(upper: u8x16, lower: u8x16) -> u16
         zero,
         [1, 2, 3, 4, 5, 6, 7, 8, 9, 10, 11, 12, 13, 14, 15, 16],
     );
-    let front = slicing::after_byte(0, upper.to_array()[0]);
-    slicing::after_sixteen(front, &(moved ^ lower).to_array())
+    table_entry(16, upper.to_array()[0]) ^ register_of_vector(moved ^ lower)
+}
+
+/// The register after sixteen bytes: the first eight are folded into the last ones and the eight that
+/// begin one place before them.
+#[inline(always)]
+fn register_of_vector(v: u8x16) -> u16
+    ensures { result ≡ register 0 v }
+{
+    let zero = u8x16::from_array([0; 16]);
+    let first = zero.shuffle(
+        v,
+        [8, 9, 10, 11, 12, 13, 14, 15, 16, 17, 18, 19, 20, 21, 22, 23],
+    );
+    let upper = folded_in(zero, FROM_8_FIRST_HIGH, FROM_8_FIRST_LOW, first);
+    let lower = folded_in(v, FROM_8_SECOND_HIGH, FROM_8_SECOND_LOW, first);
+    let moved = upper.shuffle(
+        zero,
+        [1, 2, 3, 4, 5, 6, 7, 8, 9, 10, 11, 12, 13, 14, 15, 16],
+    );
+    table_entry(8, upper.to_array()[8]) ^ register_of_last_eight(&(moved ^ lower).to_array())
 }

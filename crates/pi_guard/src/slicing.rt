@@ -22,6 +22,18 @@ fn last_eight(b: &[u8; 16]) -> [u8; 8]
     u64::from_le_bytes(*last).to_le_bytes()
 }
 
+/// The register after the last eight of sixteen bytes alone.
+#[inline(always)]
+pub fn register_of_last_eight(b: &[u8; 16]) -> u16
+    ensures { result ≡ register 0 (drop 8 b.now) }
+{
+    let last = last_eight(b);
+    let low = table_entry(3, last[4])
+        ^ (table_entry(2, last[5]) ^ (table_entry(1, last[6]) ^ table_entry(0, last[7])));
+    table_entry(7, last[0])
+        ^ (table_entry(6, last[1]) ^ (table_entry(5, last[2]) ^ (table_entry(4, last[3]) ^ low)))
+}
+
 /// The register after sixteen bytes more.
 #[inline(always)]
 pub fn after_sixteen(state: u16, b: &[u8; 16]) -> u16

@@ -15,10 +15,21 @@ pub fn register_after(start: u16, part: &[u8]) -> u16
     if part.len() < 16 {
         slicing::after_fours(start, part)
     } else if part.len() < 64 {
-        slicing::after_bytes(start, part)
+        after_some(start, part)
     } else {
         after_many(start, part)
     }
+}
+
+/// The register after these bytes, of which there are fewer than 64.
+#[inline(always)]
+fn after_some(start: u16, part: &[u8]) -> u16
+    ensures { result ≡ register start part.now }
+{
+    let Some((b, more)) = part.split_first_chunk::<32>() else {
+        return slicing::after_bytes(start, part);
+    };
+    slicing::after_bytes(halves::after_thirty_two(start, b), more)
 }
 
 /// The register after these bytes, of which there are at least 64.
