@@ -1,5 +1,5 @@
 -- The end of a window.
-use Rattle.std.proofs.Common.{◌≡◌, ℕ, suc, ◌+◌, List, [], ◌∷◌, ◌++◌, length, map, take, drop, replicate, get_or, refl, sym, ap, ◌∙◌, arith, length-append, take-add}
+use Rattle.std.proofs.Common.{◌≡◌, ℕ, suc, List, [], ◌∷◌, ◌++◌, length, map, take, drop, replicate, get_or, refl, sym, ap, ◌∙◌, arith, length-append, take-add}
 use Rattle.std.specs.Prelude.{bit_xor}
 use Rattle.std.specs.Int.Bits.{xor_assoc, xor_comm, xor_zero_l, xor_zero_r}
 use Rattle.std.proofs.lemmas.List.{length-map, take_at, drop_at}
@@ -10,7 +10,7 @@ use Rattle.pi_guard.specs.AfterZeros.{later, entry}
 use Rattle.pi_guard.proofs.Linear.{swap_middle, later-xor, by_tables}
 use Rattle.pi_guard.proofs.Folds.{Splits, split_list, of_zero, later_zero}
 use Rattle.pi_guard.proofs.Lookup.{IsBlock}
-use Rattle.pi_guard.proofs.Trailing.{after, zero-append, zero-xor, byte_zero, zeros_leave}
+use Rattle.pi_guard.proofs.Trailing.{zero-append, zero-xor, byte_zero, zeros_leave}
 
 -- what bytes leave of which the upper ones stand one place further to the front
 abbrev pub pair : List ℕ → List ℕ → ℕ

@@ -11,4 +11,5 @@ mod Debts
 mod Closing
 mod Halving
 mod Sums
+mod Numbers
 mod Runs

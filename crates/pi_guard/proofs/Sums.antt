@@ -1,6 +1,5 @@
 -- Sums of words.
-use Rattle.std.proofs.Common.{◌≡◌, ℕ, zero, suc, ◌+◌, ◌-◌, ◌*◌, ◌/◌, ◌%◌, ◌^◌, ◌<◌, ◌≤◌, Bool, true, false, not, eqb, List, [], ◌∷◌, ◌++◌, length, take, drop, get_or, bit_and, refl, sym, ap, ◌∙◌, arith, w8, Fits}
-use Rattle.std.proofs.lemmas.Nat.{and_mask}
+use Rattle.std.proofs.Common.{◌≡◌, ℕ, zero, suc, ◌+◌, ◌-◌, ◌*◌, ◌/◌, ◌%◌, ◌^◌, ◌<◌, ◌≤◌, Bool, true, false, not, eqb, List, [], ◌∷◌, ◌++◌, length, take, drop, get_or, map, refl, sym, ap, ◌∙◌, arith, w8, Fits}
 use Rattle.std.proofs.Math.Dec.{eqb-suc-zero}
 use mathlib.Core.Bool.{beq}
 use lib.Lanes.{Each1, sum_l, number_l}
@@ -236,40 +235,43 @@ nothing_left true sum [] h e = sym (folded_small sum h) ∙ ap folded (omega ari
 nothing_left false sum [] h e = sym (folded_small sum h) ∙ ap folded (omega arith)
 nothing_left o sum (x ∷ xs) h e = absurd (omega arith)
 
--- ---- lanes
+-- ---- numbers of four bytes
 
--- the words of n lanes of four bytes of a number
-abbrev pub lane_words : ℕ → ℕ → List ℕ
-lane_words zero v = []
-lane_words (suc n) v = (bit_and (v % 4294967296) 65535 + v % 4294967296 / 65536) ∷ lane_words n (v / 4294967296)
+-- the first n of them
+abbrev pub numbers : ℕ → ℕ → List ℕ
+numbers zero v = []
+numbers (suc n) v = v % 4294967296 ∷ numbers n (v / 4294967296)
+
+-- the two words of a number
+abbrev pub words : ℕ → ℕ
+words a = a % 65536 + a / 65536
 
 four_times : ℕ → ℕ
 four_times zero = zero
 four_times (suc n) = suc (suc (suc (suc (four_times n))))
 
-one_lane : (a b c d r v : ℕ) → a < 256 → b < 256 → c < 256 → d < 256 → v ≡ a + 256 * (b + 256 * (c + 256 * (d + 256 * r))) →
-    (v / 4294967296 ≡ r) × (bit_and (v % 4294967296) 65535 + v % 4294967296 / 65536 ≡ a + b * 256 + (c + d * 256))
-one_lane a b c d r v ha hb hc hd e =
-    let m : bit_and (v % 4294967296) 65535 ≡ v % 4294967296 % 65536 = and_mask (v % 4294967296) 16 in
+one_number : (a b c d r v : ℕ) → a < 256 → b < 256 → c < 256 → d < 256 → v ≡ a + 256 * (b + 256 * (c + 256 * (d + 256 * r))) →
+    (v / 4294967296 ≡ r) × (words (v % 4294967296) ≡ a + b * 256 + (c + d * 256))
+one_number a b c d r v ha hb hc hd e =
     let low : v % 4294967296 ≡ a + 256 * b + 65536 * c + 16777216 * d = omega arith in
     (omega arith, omega arith)
 
-lanes_add : (n : ℕ) (xs : List ℕ) → length xs ≡ four_times n → Each1 (Fits w8) xs → sum_l (lane_words n (number_l 256 xs)) ≡ little_sum xs
+numbers_add : (n : ℕ) (xs : List ℕ) → length xs ≡ four_times n → Each1 (Fits w8) xs → sum_l (map words (numbers n (number_l 256 xs))) ≡ little_sum xs
 unfolding four_times
-lanes_add zero [] l f = refl
-lanes_add zero (x ∷ xs) l f = absurd (omega arith)
-lanes_add (suc n) [] l f = absurd (omega arith)
-lanes_add (suc n) (a ∷ []) l f = absurd (omega arith)
-lanes_add (suc n) (a ∷ b ∷ []) l f = absurd (omega arith)
-lanes_add (suc n) (a ∷ b ∷ c ∷ []) l f = absurd (omega arith)
-lanes_add (suc n) (a ∷ b ∷ c ∷ d ∷ r) l f =
+numbers_add zero [] l f = refl
+numbers_add zero (x ∷ xs) l f = absurd (omega arith)
+numbers_add (suc n) [] l f = absurd (omega arith)
+numbers_add (suc n) (a ∷ []) l f = absurd (omega arith)
+numbers_add (suc n) (a ∷ b ∷ []) l f = absurd (omega arith)
+numbers_add (suc n) (a ∷ b ∷ c ∷ []) l f = absurd (omega arith)
+numbers_add (suc n) (a ∷ b ∷ c ∷ d ∷ r) l f =
     let v = number_l 256 (a ∷ b ∷ c ∷ d ∷ r) in
-    let o = one_lane a b c d (number_l 256 r) v f.0.fits f.1.0.fits f.1.1.0.fits f.1.1.1.0.fits refl in
-    let h = lanes_add n r (omega arith) f.1.1.1.1 in
-    let t : sum_l (lane_words n (v / 4294967296)) ≡ little_sum r = ap (λ w. sum_l (lane_words n w)) o.0 ∙ h in
+    let o = one_number a b c d (number_l 256 r) v f.0.fits f.1.0.fits f.1.1.0.fits f.1.1.1.0.fits refl in
+    let h = numbers_add n r (omega arith) f.1.1.1.1 in
+    let t : sum_l (map words (numbers n (v / 4294967296))) ≡ little_sum r = ap (λ w. sum_l (map words (numbers n w))) o.0 ∙ h in
     let p = o.1 in
     omega arith
 
-pub eight_lanes : (xs : List ℕ) → length xs ≡ 32 → Each1 (Fits w8) xs → sum_l (lane_words 8 (number_l 256 xs)) ≡ little_sum xs
+pub eight_numbers : (xs : List ℕ) → length xs ≡ 32 → Each1 (Fits w8) xs → sum_l (map words (numbers 8 (number_l 256 xs))) ≡ little_sum xs
 unfolding four_times
-eight_lanes xs l f = lanes_add 8 xs l f
+eight_numbers xs l f = numbers_add 8 xs l f

@@ -1,4 +1,6 @@
-use Rattle.std.specs.Prelude.{ℕ, zero, suc, ◌+◌, ◌*◌, ◌%◌, Bool, true, false, not, List, [], ◌∷◌}
+use Rattle.std.specs.Prelude.{◌≡◌, ℕ, zero, suc, ◌+◌, ◌*◌, ◌%◌, ◌^◌, Bool, true, false, not, List, [], ◌∷◌, length}
+use lib.Lanes.{sum_l, zip2}
+use Rattle.pi_guard.specs.declared.word_sums.Sums.{Sums}
 
 -- the sum of the words of two bytes, the lower byte first: what the bytes add to a sum whose last word wants its lower byte
 abbrev pub little_sum : List ℕ → ℕ
@@ -25,3 +27,15 @@ half_open_after open_before (x ∷ xs) = half_open_after (not open_before) xs
 abbrev pub weight_of : Bool → ℕ
 weight_of true = 1
 weight_of false = 256
+
+-- a sum of numbers of 32 bits modulo 2^32, by those of their lower and upper halves
+abbrev pub of_halves : ℕ → ℕ → ℕ
+of_halves lower upper = (lower + upper * 2 ^ 16) % 2 ^ 32
+
+-- the words of the numbers that were added come to s, those of the lower halves by themselves to `lower`
+pub record SumTo (s : ℕ) (sums : Sums) : Type 0 where
+  pub lower : List ℕ
+  pub long : length lower ≡ 8
+  pub long_upper : length sums.upper ≡ 8
+  pub whole : sums.whole ≡ zip2 of_halves lower sums.upper
+  pub sum : sum_l lower + sum_l sums.upper ≡ s

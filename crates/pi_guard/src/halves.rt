@@ -1,4 +1,4 @@
-//! The register after 64 bytes, by tables of the halves of a byte.
+//! The register after 32 or 64 bytes, by tables of the halves of a byte, down to eight bytes that are looked up.
 
 ghost use Rattle.std.specs.Prelude.{◌≡◌, ◌++◌, map, bit_xor};
 ghost use Rattle.std.specs.Simd.Lanes.{zip2};

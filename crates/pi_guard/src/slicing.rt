@@ -105,8 +105,7 @@ pub fn after_sixteens(start: u16, part: &[u8]) -> u16
     after_fours(state, rest)
 }
 
-/// The register after these bytes, of which there are fewer than 64. With fewer than 32 there is no call and
-/// no loop by sixteen.
+/// The register after these bytes, of which there are fewer than 32: by sixteen once, and no loop by sixteen.
 #[inline(always)]
 pub fn after_bytes(start: u16, part: &[u8]) -> u16
     ensures { result ≡ register start part.now }
@@ -114,9 +113,5 @@ pub fn after_bytes(start: u16, part: &[u8]) -> u16
     let Some((b, more)) = part.split_first_chunk::<16>() else {
         return after_fours(start, part);
     };
-    let state = after_sixteen(start, b);
-    if more.len() < 16 {
-        return after_fours(state, more);
-    }
-    after_sixteens(state, more)
+    after_fours(after_sixteen(start, b), more)
 }

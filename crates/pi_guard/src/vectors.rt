@@ -14,6 +14,8 @@ pub fn register_after(start: u16, part: &[u8]) -> u16
 {
     if part.len() < 16 {
         slicing::after_fours(start, part)
+    } else if part.len() < 32 {
+        slicing::after_bytes(start, part)
     } else if part.len() < 64 {
         after_some(start, part)
     } else {
@@ -21,8 +23,9 @@ pub fn register_after(start: u16, part: &[u8]) -> u16
     }
 }
 
-/// The register after these bytes, of which there are fewer than 64.
-#[inline(always)]
+/// The register after these bytes, of which there are fewer than 64. (It and the next stand out of line, so that
+/// a shorter part saves no registers.)
+#[inline(never)]
 fn after_some(start: u16, part: &[u8]) -> u16
     ensures { result ≡ register start part.now }
 {
@@ -33,6 +36,7 @@ fn after_some(start: u16, part: &[u8]) -> u16
 }
 
 /// The register after these bytes, of which there are at least 64.
+#[inline(never)]
 fn after_many(start: u16, part: &[u8]) -> u16
     requires { 64 ≤ length part.now }
     ensures { result ≡ register start part.now }

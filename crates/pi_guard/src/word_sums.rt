@@ -4,13 +4,12 @@
 //! whose higher byte comes first they add 256 times as much, with the carries added back; and where that
 //! sum's last word wants its lower byte, just as much.
 
-ghost use Rattle.std.specs.Prelude.{◌≡◌, ◌+◌, ◌*◌, ◌<◌, ◌≤◌, ◌^◌, length};
-ghost use Rattle.std.specs.Simd.Lanes.{sum_l};
-ghost use Rattle.pi_guard.specs.Words.{folded, half_open_after, little_sum, weight_of};
+ghost use Rattle.std.specs.Prelude.{◌≡◌, ◌+◌, ◌*◌, ◌<◌, ◌≤◌, ◌^◌, ℕ, length};
+ghost use Rattle.pi_guard.specs.Words.{SumTo, folded, half_open_after, little_sum, weight_of};
 
 use std::simd::prelude::*;
 
-/// So many bytes are summed before the carries are added back: no lane passes 32 bits in them.
+/// So many bytes are summed before the carries are added back: their words come to less than 2^32.
 const CHUNK: usize = 65_536;
 
 /// The sum with its carries added back, until it fits 16 bits.
@@ -25,24 +24,33 @@ fn fold(sum: u64) -> u16
     }
 }
 
-/// The lanes with the words of 32 bytes added.
-#[inline(always)]
-fn lanes_with(lanes: u32x8, bytes: u8x32) -> u32x8
-    requires { sum_l lanes + little_sum bytes < 2 ^ 32 }
-    ensures { sum_l result ≡ sum_l lanes + little_sum bytes }
-{
-    let pairs = u32x8::from_le_bytes(bytes);
-    let words = (pairs & u32x8::splat(0xFFFF)).strict_add(pairs >> u32x8::splat(16));
-    lanes.strict_add(words)
+/// Sums of numbers of four bytes, a lane for each place: modulo 2^32, and of their upper halves. Of the lower
+/// halves no sum is kept, since it is the difference of the two.
+#[derive(Clone, Copy)]
+struct Sums {
+    whole: u32x8,
+    upper: u32x8,
 }
 
-/// The sum of the lanes.
+/// The sums with the 32 bytes added.
 #[inline(always)]
-fn sum_of_lanes(lanes: u32x8) -> u32
-    requires { sum_l lanes < 2 ^ 32 }
-    ensures { result ≡ sum_l lanes }
+fn sums_with(sums: Sums, bytes: u8x32) -> Sums
+    ensures { (s : ℕ) → SumTo s sums → s + little_sum bytes < 2 ^ 32 → SumTo (s + little_sum bytes) result }
 {
-    lanes.strict_reduce_sum()
+    let numbers = u32x8::from_le_bytes(bytes);
+    Sums {
+        whole: sums.whole + numbers,
+        upper: sums.upper + (numbers >> u32x8::splat(16)),
+    }
+}
+
+/// The sum of all words.
+#[inline(always)]
+fn sum_of(sums: Sums) -> u32
+    ensures { (s : ℕ) → SumTo s sums → s < 2 ^ 32 → result ≡ s }
+{
+    let lower = sums.whole - (sums.upper << u32x8::splat(16));
+    (lower + sums.upper).reduce_sum()
 }
 
 /// The sum of the words, one by one.
@@ -67,13 +75,16 @@ fn sum_of_chunk(part: &[u8]) -> u32
     requires { length part.now ≤ 65536 }
     ensures { result ≡ little_sum part.now }
 {
-    let mut lanes = u32x8::splat(0);
+    let mut sums = Sums {
+        whole: u32x8::splat(0),
+        upper: u32x8::splat(0),
+    };
     let mut rest = part;
     while let Some((block, more)) = rest.split_first_chunk::<32>() {
-        lanes = lanes_with(lanes, u8x32::from_array(*block));
+        sums = sums_with(sums, u8x32::from_array(*block));
         rest = more;
     }
-    sum_of_lanes(lanes) + sum_by_words(rest)
+    sum_of(sums) + sum_by_words(rest)
 }
 
 /// What the next byte counts, as the lower byte of an open word or the higher one of a new word.

@@ -1,8 +1,7 @@
 use Rattle.std.proofs.Common.{◌++◌, ℕ, replicate, get_or, ap, ◌∙◌, arith, length-append}
 use Rattle.std.specs.Prelude.{bit_xor}
-use Rattle.std.specs.List.{range_with_len}
 use Rattle.std.proofs.lemmas.Simd.{pick_l-range_with_len}
-use lib.Lanes.{zip2, pick_l}
+use lib.Lanes.{zip2}
 use Rattle.pi_guard.specs.Register.{register}
 use Rattle.pi_guard.specs.AfterZeros.{entry}
 use Rattle.pi_guard.proofs.Closing.{ends}

@@ -1,8 +1,7 @@
 use Rattle.std.proofs.Common.{◌++◌, ◌≡◌, ℕ, replicate, map, get_or, drop, ap, ◌∙◌, arith, length-append}
 use Rattle.std.specs.Prelude.{bit_xor}
-use Rattle.std.specs.List.{range_with_len}
 use Rattle.std.proofs.lemmas.Simd.{pick_l-range_with_len}
-use lib.Lanes.{zip2, pick_l, chunk}
+use lib.Lanes.{zip2, chunk}
 use Rattle.pi_guard.specs.Register.{register}
 use Rattle.pi_guard.specs.AfterZeros.{entry}
 use Rattle.pi_guard.specs.Windows.{by_halves}
