@@ -51,7 +51,7 @@ count-more t j to h =
     ap (λ z. length (filter t z)) (numbers-more j to h)
     ∙ ⊎_elim (λ (e : t j ≡ true). rw e (omega arith)) (λ (e : t j ≡ false). rw e (omega arith)) (cases_Bool (t j))
 
-no-join : (lim : Limits) (gs : List Group) (i j : ℕ) → (lba_of (group_in gs i) + size (group_in gs i) ≡ lba_of (group_in gs j) → ⊥) → may_join lim gs i j ≡ false
+pub no-join : (lim : Limits) (gs : List Group) (i j : ℕ) → (lba_of (group_in gs i) + size (group_in gs i) ≡ lba_of (group_in gs j) → ⊥) → may_join lim gs i j ≡ false
 no-join lim gs i j ne =
     let e : eqb (lba_of (group_in gs i) + size (group_in gs i)) (lba_of (group_in gs j)) ≡ false = ne_eqb (lba_of (group_in gs i) + size (group_in gs i)) (lba_of (group_in gs j)) ne in
     and_right (not (eqb i j)) (may_follow lim (group_in gs i) (group_in gs j))
@@ -119,7 +119,7 @@ flat-append : {A B : Type 0} (f : A → List B) (xs ys : List A) → flat_map f 
 flat-append f [] ys = refl
 flat-append f (x ∷ xs) ys = ap (λ z. f x ++ z) (flat-append f xs ys) ∙ sym (append_assoc (f x) (flat_map f xs) (flat_map f ys))
 
-length-row : (lim : Limits) (q : List Group) (i : ℕ) → length (row lim q i) ≡ length (followers lim q i)
+pub length-row : (lim : Limits) (q : List Group) (i : ℕ) → length (row lim q i) ≡ length (followers lim q i)
 length-row lim q i = length-map (followers lim q i) (λ j. (i, j))
 
 pub pairs-more : (lim : Limits) (q : List Group) (i : ℕ) → length (pairs_below lim q (i + 1)) ≡ length (pairs_below lim q i) + length (followers lim q i)

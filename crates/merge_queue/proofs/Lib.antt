@@ -4,3 +4,5 @@ pub mod Index
 pub mod Moves
 pub mod Held
 pub mod Joins
+pub mod Counts
+pub mod Begins

@@ -221,7 +221,7 @@ join-whole room es es' bios next free left i j q a b s v h l ne p r t u =
 
 -- ---- a group is put
 
-put-at : (g : Group) (gs : List Group) (at : ℕ) → at ≤ length gs → ((k : ℕ) → k < at → lba_of (get_or gs k []) ≤ lba_of g) → (at < length gs → lba_of g < lba_of (get_or gs at [])) →
+pub put-at : (g : Group) (gs : List Group) (at : ℕ) → at ≤ length gs → ((k : ℕ) → k < at → lba_of (get_or gs k []) ≤ lba_of g) → (at < length gs → lba_of g < lba_of (get_or gs at [])) →
     put g gs ≡ insert gs at g
 put-at g [] zero l b a = refl
 put-at g [] (suc at) l b a = absurd (omega arith)

@@ -1,3 +1,4 @@
 pub mod Chains
 pub mod Groups
 pub mod Index
+pub mod Counts

@@ -3,6 +3,7 @@
 
 mod chains;
 mod entries;
+mod group_index;
 mod limits;
 mod queue;
 

@@ -1,104 +1,92 @@
 //! The queue of one device.
 
-ghost use Rattle.std.specs.Prelude.{◌≡◌, ◌<◌, ◌≤◌, ◌+◌, ◌-◌, ◌^◌, IfOk, not, ◌&&◌, eqb, [], ◌++◌, length, slice_index};
-ghost use Rattle.std.specs.List.{filter};
+ghost use Rattle.std.specs.Prelude.{◌≡◌, ◌<◌, ◌≤◌, ◌+◌, ◌^◌, IfOk, IsTrue, not, ◌&&◌, eqb, [], ◌++◌, length};
 ghost use Rattle.std.specs.Vec.{vec_capacity};
-ghost use Rattle.merge_queue.specs.declared.limits.Limits.{Limits as AnyLimits};
-ghost use Rattle.merge_queue.specs.Groups.{PairFound, followers, group_in, joined, lba_of, may_follow, may_join, numbers, pairs, put, size, without};
+ghost use Rattle.merge_queue.specs.Groups.{PairFound, group_in, joined, lba_of, may_follow, pairs, put, size, without};
 ghost use Rattle.merge_queue.specs.Index.{bios_in};
 
 use crate::Limits;
-use crate::chains::{copy_out, fill, one_chain};
-use crate::entries::{
-    Entry, as_number, both_entries, entry_of, may_join, place_before, place_for, place_for_near,
-    put_in,
-};
-use bio_core::{Bio, Dir};
+use crate::group_index::GroupIndex;
+use bio_core::Bio;
 use std::alloc::{AllocError, Global};
 use std::marker::Model;
 
 /// The groups of one device, by first address, then by age.
 #[derive(Drop)]
 pub struct DeviceQueue {
-    // Where each group begins, in order, and the place of its first bio.
-    begins: Vec<u64>,
-    places: Vec<u32>,
-    // A group's entry, at the place of its first bio.
-    entries: Vec<Entry>,
-    // The bios stay where they are; each place has the number of the place behind it, in its group or among
-    // the free places.
-    bios: Vec<Bio>,
-    next: Vec<u32>,
-    // The first free place, and how many there are.
-    free: u32,
-    left: u32,
-    room: u32,
+    index: GroupIndex,
+    // How many pairs of groups may be joined under these limits.
+    limits: Limits,
+    count: u64,
+    // No group has more blocks.
+    longest: u64,
 }
 
 impl Model for DeviceQueue {
-    ghost use Rattle.std.specs.Prelude.{◌≤◌};
-    ghost use Rattle.std.specs.Vec.{vec_capacity};
-    ghost use Rattle.merge_queue.specs.Index.{Queued, IsHeld, entries_of, groups_of};
+    ghost use Rattle.merge_queue.specs.Index.{Queued};
+    ghost use Rattle.merge_queue.specs.Counts.{Counted};
 
     ghost Value = { Queued };
 
-    ghost view = { λ q. record { groups = groups_of (entries_of q.places.items q.entries.items) q.bios.items q.next.items; room = q.room } };
+    ghost view = { λ q. q.index };
 
-    ghost invariant = { λ q. IsHeld q.room q.begins.items q.places.items q.entries.items q.bios.items q.next.items q.free q.left × (q.room ≤ vec_capacity q.begins) × (q.room ≤ vec_capacity q.places) };
+    ghost invariant = { λ q. Counted q.index.groups q.limits q.count q.longest };
 }
 
-const NO_BIO: Bio = Bio {
-    op: 0,
-    k: 0,
-    count: 0,
-    dev: 0,
-    lba: 0,
-    dir: Dir::Read,
-    segs: 0,
-    pi_segs: 0,
+const NO_LIMITS: Limits = Limits {
+    max_blocks: 0,
+    max_segs: 0,
+    max_pi_segs: 0,
 };
 
-const NO_ENTRY: Entry = Entry {
-    lba: 0,
-    dir: Dir::Read,
-    bios: 0,
-    first: 0,
-    last: 0,
-    blocks: 0,
-    segs: 0,
-    pi_segs: 0,
-};
+fn are_same(a: &Limits, b: &Limits) -> bool
+    ensures { IsTrue result → a.now ≡ b.now }
+{
+    a.max_blocks == b.max_blocks && a.max_segs == b.max_segs && a.max_pi_segs == b.max_pi_segs
+}
+
+/// Where group i is once group j has gone.
+fn place_left(i: u32, j: u32) -> u32
+    requires { i ≡ j → ⊥ }
+    ensures before { i < j → result ≡ i }
+    ensures behind { j < i → result + 1 ≡ i }
+{
+    if i < j { i } else { i - 1 }
+}
 
 impl DeviceQueue {
     /// An empty queue with room for so many bios. All its memory is taken here.
     pub fn new(alloc: Global, bios: u32) -> Result<DeviceQueue, AllocError>
         ensures { IfOk result (λ q. (q.groups ≡ []) × (q.room ≡ bios)) }
     {
-        let count = bios as usize;
         Ok(DeviceQueue {
-            begins: Vec::with_capacity(alloc, count)?,
-            places: Vec::with_capacity(alloc, count)?,
-            entries: vec![in alloc; NO_ENTRY; count]?,
-            bios: vec![in alloc; NO_BIO; count]?,
-            next: one_chain(alloc, bios)?,
-            free: 0,
-            left: bios,
-            room: bios,
+            index: GroupIndex::new(alloc, bios)?,
+            limits: NO_LIMITS,
+            count: 0,
+            longest: 0,
         })
+    }
+
+    /// From now on the number of pairs that may be joined under these limits is kept, so that `joins` needs no count.
+    pub fn keep_count(&mut self, lim: &Limits)
+        ensures { self.new ≡ self.old }
+    {
+        self.limits = *lim;
+        self.count = self.index.joins(lim);
     }
 
     /// The number of groups.
     pub fn groups(&self) -> u32
         ensures { result ≡ length self.now.groups }
     {
-        self.places.len() as u32
+        self.index.groups()
     }
 
     /// The number of bios in all groups.
     pub fn bios(&self) -> u32
         ensures { result ≡ bios_in self.now.groups }
     {
-        self.room - self.left
+        self.index.bios()
     }
 
     /// Adds one group as the youngest: bios, each beginning on the device where the one before ends. There is
@@ -110,15 +98,9 @@ impl DeviceQueue {
         ensures groups { self.new.groups ≡ put run.now self.old.groups }
         ensures room { self.new.room ≡ self.old.room }
     {
-        let first = self.free;
-        let (last, behind) = fill(&mut self.bios, &self.next, first, run);
-        let entry = entry_of(run, first, last);
-        let at = place_for(&self.begins, entry.lba);
-        put_in(&mut self.begins, at, entry.lba);
-        put_in(&mut self.places, at, first);
-        self.entries[first as usize] = entry;
-        self.free = behind;
-        self.left -= run.len() as u32;
+        let at = self.index.put(run);
+        self.longest = self.longest.max(self.index.blocks(at));
+        self.count += self.index.links(at, self.longest, &self.limits);
     }
 
     /// Whether groups `i` and `j`, both from 0, may become one: they differ, have one direction, group `j` begins
@@ -128,12 +110,7 @@ impl DeviceQueue {
         requires second { j < length self.now.groups }
         ensures { result ≡ (not (eqb i j) && may_follow lim.now (group_in self.now.groups i) (group_in self.now.groups j)) }
     {
-        if i == j {
-            return false;
-        }
-        let a = self.places[i as usize];
-        let b = self.places[j as usize];
-        may_join(&self.entries[a as usize], &self.entries[b as usize], lim)
+        self.index.joinable(i, j, lim)
     }
 
     /// Groups `i` and `j`, which differ and of which the second begins where the first ends, become one, in the
@@ -146,14 +123,11 @@ impl DeviceQueue {
         ensures groups { self.new.groups ≡ joined self.old.groups i j }
         ensures room { self.new.room ≡ self.old.room }
     {
-        let first = self.places[i as usize];
-        let second = self.places[j as usize];
-        let front = self.entries[first as usize];
-        let back = self.entries[second as usize];
-        self.next[front.last as usize] = second;
-        self.entries[first as usize] = both_entries(&front, &back);
-        let _begin = self.begins.remove(j as usize);
-        let _place = self.places.remove(j as usize);
+        self.count -= self.index.links_of_two(i, j, self.longest, &self.limits);
+        self.index.join(i, j);
+        let at = place_left(i, j);
+        self.longest = self.longest.max(self.index.blocks(at));
+        self.count += self.index.links(at, self.longest, &self.limits);
     }
 
     /// Moves group `i` out: appends its bios to `into`, which has room for them.
@@ -165,90 +139,28 @@ impl DeviceQueue {
         ensures into { into.new.items ≡ into.old.items ++ group_in self.old.groups i }
         ensures capacity { vec_capacity into.new ≡ vec_capacity into.old }
     {
-        let _begin = self.begins.remove(i as usize);
-        let first = self.places.remove(i as usize);
-        let entry = self.entries[first as usize];
-        copy_out(&self.bios, &self.next, first, entry.bios, into);
-        self.next[entry.last as usize] = self.free;
-        self.free = first;
-        self.left += entry.bios;
+        self.count -= self.index.links(i, self.longest, &self.limits);
+        self.index.take(i, into);
     }
 
-    /// Where the groups are that begin where group i ends.
-    fn behind(&self, i: u32) -> (u32, u32)
-        requires { i < length self.now.groups }
-        ensures order { result.0 ≤ result.1 }
-        ensures bound { result.1 ≤ length self.now.groups }
-        ensures only { (lim : AnyLimits) → followers lim self.now.groups i ≡ filter (may_join lim self.now.groups i) (numbers result.0 (result.1 - result.0)) }
-    {
-        let place = self.places[i as usize];
-        let entry = self.entries[place as usize];
-        let end = entry.lba + entry.blocks;
-        // mostly the groups lie side by side
-        let from = place_before(&self.begins, i as usize + 1, end);
-        let to = place_for_near(&self.begins, from, end);
-        (from as u32, to as u32)
-    }
-
-    /// How many groups may be joined behind group i.
-    fn count_followers(&self, i: u32, lim: &Limits) -> u32
-        requires { i < length self.now.groups }
-        ensures count { result ≡ length (followers lim.now self.now.groups i) }
-        ensures few { result < 2 ^ 32 }
-    {
-        let (from, to) = self.behind(i);
-        let mut count = 0u32;
-        for j in from..to {
-            count += as_number(self.joinable(i, j, lim));
-        }
-        count
-    }
-
-    /// How many pairs of groups may be joined.
+    /// How many pairs of groups may be joined. Under the limits for which a count is kept that is the answer.
     pub fn joins(&self, lim: &Limits) -> u64
         ensures { result ≡ length (pairs lim.now self.now.groups) }
     {
-        let n = self.groups();
-        let mut count = 0u64;
-        for i in 0..n {
-            count += self.count_followers(i, lim) as u64;
+        if are_same(lim, &self.limits) {
+            return self.count;
         }
-        count
-    }
-
-    /// The group of this number, from 0, among those that may be joined behind group i.
-    fn follower(&self, i: u32, number: u32, lim: &Limits) -> u32
-        requires first { i < length self.now.groups }
-        requires within { number < length (followers lim.now self.now.groups i) }
-        ensures { result ≡ slice_index (followers lim.now self.now.groups i) number }
-    {
-        let (from, to) = self.behind(i);
-        let mut left = number;
-        for j in from..to {
-            if self.joinable(i, j, lim) {
-                if left == 0 {
-                    return j;
-                }
-                left -= 1;
-            }
-        }
-        unreachable!()
+        self.index.joins(lim)
     }
 
     /// The pair of this number among those that may be joined, or how far the number is past the last. For a low number
-    /// few groups are looked at.
+    /// few groups are looked at, and none for one past the count that is kept.
     pub fn find_join(&self, number: u64, lim: &Limits) -> Result<(u32, u32), u64>
         ensures { PairFound lim.now self.now.groups number result }
     {
-        let n = self.groups();
-        let mut left = number;
-        for i in 0..n {
-            let count = self.count_followers(i, lim) as u64;
-            if left < count {
-                return Ok((i, self.follower(i, left as u32, lim)));
-            }
-            left -= count;
+        if are_same(lim, &self.limits) && number >= self.count {
+            return Err(number - self.count);
         }
-        Err(left)
+        self.index.find_join(number, lim)
     }
 }

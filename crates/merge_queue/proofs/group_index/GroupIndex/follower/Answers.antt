@@ -1,8 +1,8 @@
 use Rattle.std.proofs.Common.{arith, sym, ◌∙◌, ◌≡◌, true, false}
 use Rattle.merge_queue.specs.Groups.{may_join}
 use Rattle.merge_queue.proofs.Joins.{found, next-passed, next-failed}
-use Rattle.merge_queue.proofs.queue.DeviceQueue.follower.Goals as goal
-use Rattle.merge_queue.proofs.queue.DeviceQueue.follower.Goals.{then-joinable+else-left-eq0, else-joinable}
+use Rattle.merge_queue.proofs.group_index.GroupIndex.follower.Goals as goal
+use Rattle.merge_queue.proofs.group_index.GroupIndex.follower.Goals.{then-joinable+else-left-eq0, else-joinable}
 
 pub returns-then-left-eq0 : goal.returns-then-left-eq0
 returns-then-left-eq0 c =

@@ -1,7 +1,7 @@
 use Rattle.std.proofs.Common.{◌≡◌, ◌+◌, ◌-◌, ◌≤◌, length}
 use Rattle.std.specs.List.{filter}
 use Rattle.merge_queue.specs.Groups.{may_join, numbers}
-use Rattle.merge_queue.proofs.queue.DeviceQueue.count_followers.Given as goal
+use Rattle.merge_queue.proofs.group_index.GroupIndex.count_followers.Given as goal
 
 abbrev pub invariant-loop-j : goal.invariant-loop-j
 invariant-loop-j l = record {

@@ -1,6 +1,6 @@
 use Rattle.std.proofs.Common.{arith}
 use Rattle.merge_queue.proofs.Held.{held-sizes}
-use Rattle.merge_queue.proofs.queue.DeviceQueue.bios.Goals as goal
+use Rattle.merge_queue.proofs.group_index.GroupIndex.bios.Goals as goal
 
 pub returns : goal.returns
 returns c =

@@ -1,6 +1,6 @@
 use Rattle.std.proofs.Common.{arith, ap, sym, ◌∙◌, ℕ}
 use Rattle.merge_queue.proofs.Joins.{pair-found, pair-later, rows-length}
-use Rattle.merge_queue.proofs.queue.DeviceQueue.find_join.Goals as goal
+use Rattle.merge_queue.proofs.group_index.GroupIndex.find_join.Goals as goal
 
 pub returns-then-left-count : goal.returns-then-left-count
 returns-then-left-count c =

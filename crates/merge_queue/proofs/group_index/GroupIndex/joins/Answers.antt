@@ -1,6 +1,6 @@
 use Rattle.std.proofs.Common.{arith}
 use Rattle.merge_queue.proofs.Joins.{pairs-more}
-use Rattle.merge_queue.proofs.queue.DeviceQueue.joins.Goals as goal
+use Rattle.merge_queue.proofs.group_index.GroupIndex.joins.Goals as goal
 
 pub loop-i-preserved : goal.loop-i-preserved
 loop-i-preserved c =

@@ -1,7 +1,7 @@
 use Rattle.std.proofs.Common.{◌≡◌, ◌-◌, ◌<◌, length, get_or}
 use Rattle.std.specs.List.{filter}
 use Rattle.merge_queue.specs.Groups.{may_join, numbers, followers}
-use Rattle.merge_queue.proofs.queue.DeviceQueue.follower.Given as goal
+use Rattle.merge_queue.proofs.group_index.GroupIndex.follower.Given as goal
 
 abbrev pub invariant-loop-j : goal.invariant-loop-j
 invariant-loop-j l = record {

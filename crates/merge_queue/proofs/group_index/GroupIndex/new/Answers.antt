@@ -1,6 +1,6 @@
 use Rattle.std.proofs.Common.{arith}
 use Rattle.merge_queue.proofs.Held.{new-held}
-use Rattle.merge_queue.proofs.queue.DeviceQueue.new.Goals as goal
+use Rattle.merge_queue.proofs.group_index.GroupIndex.new.Goals as goal
 
 pub invariant_of-result : goal.invariant_of-result
 invariant_of-result c = (

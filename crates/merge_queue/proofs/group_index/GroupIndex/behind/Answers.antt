@@ -2,7 +2,7 @@ use Rattle.std.proofs.Common.{arith, length, ap}
 use Rattle.merge_queue.specs.Index.{entries_of}
 use Rattle.merge_queue.proofs.Held.{held-sizes, found, known-held, read, rises}
 use Rattle.merge_queue.proofs.Joins.{behind-whole}
-use Rattle.merge_queue.proofs.queue.DeviceQueue.behind.Goals as goal
+use Rattle.merge_queue.proofs.group_index.GroupIndex.behind.Goals as goal
 
 pub index-entry-requires : goal.index-entry-requires
 index-entry-requires c =

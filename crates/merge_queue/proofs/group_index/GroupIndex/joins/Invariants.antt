@@ -1,6 +1,6 @@
 use Rattle.std.proofs.Common.{◌≡◌, ◌*◌, ◌≤◌, length}
 use Rattle.merge_queue.specs.Groups.{pairs_below}
-use Rattle.merge_queue.proofs.queue.DeviceQueue.joins.Given as goal
+use Rattle.merge_queue.proofs.group_index.GroupIndex.joins.Given as goal
 
 abbrev pub invariant-loop-i : goal.invariant-loop-i
 invariant-loop-i l = record {

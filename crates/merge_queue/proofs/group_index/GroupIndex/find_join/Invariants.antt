@@ -2,7 +2,7 @@ use Rattle.std.proofs.Common.{◌≡◌, ◌+◌, ◌-◌, length, get_or}
 use Rattle.std.specs.List.{flat_map}
 use Rattle.merge_queue.specs.Groups.{numbers, pairs}
 use Rattle.merge_queue.proofs.Joins.{row}
-use Rattle.merge_queue.proofs.queue.DeviceQueue.find_join.Given as goal
+use Rattle.merge_queue.proofs.group_index.GroupIndex.find_join.Given as goal
 
 abbrev pub invariant-loop-i : goal.invariant-loop-i
 invariant-loop-i l = record {

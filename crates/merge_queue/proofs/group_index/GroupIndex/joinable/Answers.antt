@@ -2,7 +2,7 @@ use Rattle.std.proofs.Common.{arith, ap, subst, sym, ◌≡◌, false, eqb}
 use Rattle.std.proofs.lemmas.Bool.{ne_eqb}
 use Rattle.merge_queue.specs.Index.{Describes}
 use Rattle.merge_queue.proofs.Held.{held-sizes, found, known-held, fit-held}
-use Rattle.merge_queue.proofs.queue.DeviceQueue.joinable.Goals as goal
+use Rattle.merge_queue.proofs.group_index.GroupIndex.joinable.Goals as goal
 
 pub index-requires : goal.index-requires
 index-requires c =

@@ -1,6 +1,6 @@
 use Rattle.std.proofs.Common.{arith}
 use Rattle.merge_queue.proofs.Held.{held-sizes}
-use Rattle.merge_queue.proofs.queue.DeviceQueue.groups.Goals as goal
+use Rattle.merge_queue.proofs.group_index.GroupIndex.groups.Goals as goal
 
 pub overflow_cast-result : goal.overflow_cast-result
 overflow_cast-result c =

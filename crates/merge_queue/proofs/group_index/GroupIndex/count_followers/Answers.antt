@@ -2,7 +2,7 @@ use Rattle.std.proofs.Common.{arith, ap, ◌∙◌, ◌≡◌}
 use Rattle.std.specs.Prelude.{if◌then◌else◌}
 use Rattle.merge_queue.specs.Groups.{may_join}
 use Rattle.merge_queue.proofs.Joins.{count-more, one-or-none}
-use Rattle.merge_queue.proofs.queue.DeviceQueue.count_followers.Goals as goal
+use Rattle.merge_queue.proofs.group_index.GroupIndex.count_followers.Goals as goal
 
 pub loop-j-preserved : goal.loop-j-preserved
 loop-j-preserved c =
