@@ -14,7 +14,7 @@ ghost use Rattle.stack_steps.specs.Does.{Holds};
 use crate::flight::InFlight;
 use crate::state::OpState;
 use crate::{Machine, Requests};
-use merge_queue::DeviceQueue;
+use merge_queue::{DeviceQueue, Limits};
 use range_gate::Gate;
 use std::alloc::{AllocError, Global};
 
@@ -53,13 +53,27 @@ fn count_blocks<P: Requests>(plan: &P) -> u32
     count
 }
 
-fn new_queues(alloc: Global, n: u32, room: u32) -> Result<Vec<DeviceQueue>, AllocError>
+/// An empty queue, which keeps the number of joinings under these limits.
+fn new_queue(alloc: Global, room: u32, lim: &Limits) -> Result<DeviceQueue, AllocError>
+    ensures { IfOk result (λ queue. (queue.groups ≡ []) × (queue.room ≡ room)) }
+{
+    let mut queue = DeviceQueue::new(alloc, room)?;
+    queue.keep_count(lim);
+    Ok(queue)
+}
+
+fn new_queues(
+    alloc: Global,
+    n: u32,
+    room: u32,
+    lim: &Limits,
+) -> Result<Vec<DeviceQueue>, AllocError>
     ensures groups { IfOk result (λ queues. map groups_of queues.items ≡ replicate n []) }
     ensures room { IfOk result (λ queues. All (HasRoom room) queues.items) }
 {
     let mut queues = Vec::with_capacity(alloc, n as usize)?;
     for i in 0..n {
-        queues.push_reserved(DeviceQueue::new(alloc, room)?);
+        queues.push_reserved(new_queue(alloc, room, lim)?);
     }
     Ok(queues)
 }
@@ -76,7 +90,7 @@ impl Machine {
             gate,
             ops: new_ops(alloc, plan)?,
             live: new_live(alloc, plan.ops())?,
-            queues: new_queues(alloc, plan.devices(), room)?,
+            queues: new_queues(alloc, plan.devices(), room, &plan.limits())?,
             flight: InFlight::new(alloc, room)?,
             rest: Vec::with_capacity(alloc, room as usize)?,
             steps: 0,
