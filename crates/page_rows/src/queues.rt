@@ -135,6 +135,7 @@ impl Device {
         match word {
             "queue" => self.queue = Queue::new(alloc)?,
             "limits" => self.limits = limits_of(rest),
+            "keep" => self.queue.inner.keep_count(&limits_of(rest)),
             _ => return Ok(false),
         }
         Ok(true)
@@ -192,6 +193,7 @@ impl Device {
                 self.sums(alloc, done)
             }
             "take" => self.take(alloc, i),
+            "joins" => self.sums(alloc, true),
             "find" => self.find(alloc, i as u64),
             "joinable" => {
                 let may = self.queue.joinable(i, j, &self.limits);

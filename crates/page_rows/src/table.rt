@@ -53,7 +53,7 @@ impl Judge for Table {
         match word {
             "bio" => Ok(bios::set(&mut self.scene, rest)),
             "admit" | "end" => Ok(self.crowd.set(word, small(rest))),
-            "queue" | "limits" => self.device.set(alloc, line),
+            "queue" | "limits" | "keep" => self.device.set(alloc, line),
             _ => self.scene.set(alloc, line),
         }
     }
