@@ -1,4 +1,4 @@
-use Rattle.std.proofs.Common.{◌≡◌, ℕ, zero, suc, Bool, List, [], ◌∷◌, get_or, set, Option, Some, None, refl, sym, ap, ◌∙◌, arith}
+use Rattle.std.proofs.Common.{◌≡◌, Bool, List, [], ◌∷◌, Option, Some, None, refl, sym, ap, ◌∙◌}
 use Rattle.block_path.specs.Serial.{Alike, StandFor, walk, Answered, FreeOfDone, InOrder, Serial}
 
 -- Acts with the same cells that do the same where they were done may stand for one another.
@@ -45,20 +45,4 @@ module _ {S A R : Type 0} (act : A → S → S) (tell : A → S → R) (conflict
     order = same_order acts bs ds opening h k.order;
   }
 
-  stand_still : (acts : List A) (ds : List (Option R)) (s : S) → StandFor act tell conflicts acts acts ds s
-  stand_still [] ds s = refl
-  stand_still (a ∷ acts) [] s = tt
-  stand_still (a ∷ acts) (None ∷ ds) s = (record { one = λ x. refl; other = λ x. refl }, stand_still acts ds s)
-  stand_still (a ∷ acts) (Some r ∷ ds) s = (record { one = λ x. refl; other = λ x. refl }, (refl, (refl, stand_still acts ds (act a s))))
-
   -- the outcome of an act is chosen when it is done
-  pub chosen : (acts : List A) (ds : List (Option R)) (i : ℕ) (a : A) (s : S) → ((d : A) → Alike conflicts (get_or acts i d) a) → ((d : Option R) → get_or ds i d ≡ None) → StandFor act tell conflicts acts (set acts i a) ds s
-  chosen [] ds i a s h n = refl
-  chosen (b ∷ acts) [] i a s h n = absent i where
-    absent : (i : ℕ) → StandFor act tell conflicts (b ∷ acts) (set (b ∷ acts) i a) [] s
-    absent zero = tt
-    absent (suc i) = tt
-  chosen (b ∷ acts) (None ∷ ds) zero a s h n = (h a, stand_still acts ds s)
-  chosen (b ∷ acts) (Some r ∷ ds) zero a s h n = let e = n None in grind (arith, e)
-  chosen (b ∷ acts) (None ∷ ds) (suc i) a s h n = (record { one = λ x. refl; other = λ x. refl }, chosen acts ds i a s h n)
-  chosen (b ∷ acts) (Some r ∷ ds) (suc i) a s h n = (record { one = λ x. refl; other = λ x. refl }, (refl, (refl, chosen acts ds i a (act b s) h n)))

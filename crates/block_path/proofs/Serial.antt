@@ -134,15 +134,6 @@ pub any_whole_order : {S A R : Type 0} (act : A → S → S) (tell : A → S →
 any_whole_order {R = R} act tell conflicts c acts is s rs t l =
     ends act tell conflicts acts s rs t (sym (all_length rs) ∙ leads_length act tell conflicts acts is (none_done acts) s (all_done rs) t l ∙ none_length R acts) (any_order act tell conflicts c acts is s (all_done rs) t l)
 
--- a test that says "conflict" more often serves as well: that of two whole ops for that of their blocks
-pub coarser : {S A R : Type 0} (act : A → S → S) (tell : A → S → R) (fine coarse : A → A → Bool) → Commutes act tell fine →
-    ((a b : A) → coarse a b ≡ false → fine a b ≡ false) → Commutes act tell coarse
-coarser act tell fine coarse c h = record {
-  states = λ a b s e. c.states a b s (h a b e);
-  first = λ a b s e. c.first a b s (h a b e);
-  second = λ a b s e. c.second a b s (h a b e);
-}
-
 -- what acts that don't conflict answer at once, they answer one after another: one exchange of several blocks
 pub at_once : {S A R : Type 0} (act : A → S → S) (tell : A → S → R) (conflicts : A → A → Bool) (c : Commutes act tell conflicts) (acts : List A) (s : S) →
     AllApart conflicts acts → plain_tells act tell acts s ≡ map (λ a. tell a s) acts

@@ -1,8 +1,7 @@
-use Rattle.std.proofs.Common.{◌≡◌, ◌<◌, ℕ, zero, suc, Bool, false, List, [], ◌∷◌, ◌++◌, length, get_or, set, Option, Some, None, refl, sym, ap, arith}
-use Rattle.block_path.specs.Serial.{Commutes, Clear, ClearOf, Serial, all_done}
-use Rattle.block_path.proofs.Serial.{goes_on}
-
 -- An act by what stands before and behind it in place of its number: fit for lists that are joined of ops and blocks.
+use Rattle.std.proofs.Common.{◌≡◌, ◌<◌, ℕ, zero, suc, Bool, false, List, [], ◌∷◌, ◌++◌, length, get_or, set, Option, Some, None, refl, sym, ap, arith}
+use Rattle.block_path.specs.Serial.{Commutes, Clear, ClearOf, Serial}
+use Rattle.block_path.proofs.Serial.{goes_on}
 
 -- it conflicts with none of these
 abbrev pub NoneOf : {A : Type 0} → (A → A → Bool) → A → List A → Type 0
@@ -11,10 +10,6 @@ NoneOf conflicts a (b ∷ before) = (conflicts b a ≡ false) × NoneOf conflict
 
 module _ {A R : Type 0} (conflicts : A → A → Bool) (a : A) where
   -- an op that has ended
-  pub clear_ended : (before : List A) (rs : List R) → ClearOf conflicts a before (all_done rs)
-  clear_ended [] rs = tt
-  clear_ended (b ∷ before) [] = tt
-  clear_ended (b ∷ before) (r ∷ rs) = clear_ended before rs
 
   -- an op without conflict, however far it is
   pub clear_apart : (before : List A) (ds : List (Option R)) → NoneOf conflicts a before → ClearOf conflicts a before ds

@@ -27,10 +27,6 @@ drop_over [] ys m n e = ap (λ k. drop k ys) (omega (arith, e))
 drop_over (x ∷ xs) ys zero n e = absurd (omega (arith, e))
 drop_over (x ∷ xs) ys (suc m) n e = drop_over xs ys m n (omega (arith, e))
 
-append_nil : {X : Type 0} (xs : List X) → xs ++ [] ≡ xs
-append_nil [] = refl
-append_nil (x ∷ xs) = ap (λ rest. x ∷ rest) (append_nil xs)
-
 take_over : {X : Type 0} (xs ys : List X) (m : ℕ) → m ≡ length xs → take m (xs ++ ys) ≡ xs
 take_over [] ys m e = rw e refl
 take_over (x ∷ xs) ys zero e = absurd (omega (arith, e))

@@ -104,13 +104,3 @@ ahead-out pool (Some pi) count k w h o l e =
       once = ahead-once pi.tuples w (8 * k) 8 o x;
       cells = λ new bytes a r. wrote-range pool new pi.tuples w (8 * k) 8 bytes a h.1.1 x r;
     }
-
-no-tuple : (pi : Option Payload) (k : ℕ) → tuples_ahead pi k ≡ None → (tuple_cells pi k ≡ []) × (tuples_ahead pi (k + 1) ≡ None)
-no-tuple None k e = (refl, refl)
-no-tuple (Some pi) k e = absurd (some-none e)
-  where
-    some-none : {x : List Seg} → Some x ≡ None → ⊥
-    some-none e = cc
-
-pub stays : (pi : Option Payload) (k : ℕ) (cells bytes : List ℕ) → tuples_ahead pi k ≡ None → (cells ≡ scatter (tuple_cells pi k) bytes cells) × (tuples_ahead pi k ≡ tuples_ahead pi (k + 1))
-stays pi k cells bytes e = let n = no-tuple pi k e in (ap (λ z. scatter z bytes cells) (sym n.0), e ∙ sym n.1)

@@ -35,9 +35,6 @@ good-frame : (found : Option Check) (frame : List ℕ) (r : Result (List ℕ) Ch
 good-frame None frame r e b = ap frame_sent e
 good-frame (Some c) frame r e b = absurd (let x : true ≡ false = ap is_bad e ∙ b in cc)
 
-pub gathers-none : (a : Adapter) (io : Io) (b : Bio) (cells : List ℕ) (from : ℕ) (old : List ℕ) → Gathers a io b cells 0 from old old
-gathers-none a io b cells from old = record { front = refl; frames = λ e. (let z : from + 0 * wire_size (route_by a io b 0) ≡ from = omega arith in ap (λ n. take n old) z ∙ sym (append-nil (take from old))) }
-
 pub gathers-more : (a : Adapter) (io : Io) (b : Bio) (cells : List ℕ) (i from at : ℕ) (old now new : List ℕ) (found : Option Check) →
     Gathers a io b cells i from old now → at ≡ from + i * wire_size (route_by a io b 0) →
     take at new ≡ take at now → unless found (take (wire_size (route_by a io b i)) (drop at new)) ≡ sends_by a io b cells i →

@@ -171,11 +171,6 @@ frame-there at from i w frames first e d = ap (take w) (d ∙ ap (λ k. drop k f
 pub still-ahead : (at w : ℕ) (new frames first : List ℕ) → drop (at + w) new ≡ drop (at + w) frames → drop at frames ≡ drop at first → drop (at + w) new ≡ drop (at + w) first
 still-ahead at w new frames first b d = b ∙ drop-sum at w frames ∙ ap (drop w) d ∙ sym (drop-sum at w first)
 
-pub room-in : (i n w s from : ℕ) → i < n → s ≤ w → from + i * w + (s + 8) ≤ from + n * w + 8
-room-in i n w s from h l =
-    let b : suc i * w ≤ n * w = mul-le-mul_right w h in
-    omega arith
-
 pub came-more : (a : Adapter) (io : Io) (b : Bio) (w i : ℕ) (first : List ℕ) (old now new : List Fate) (f : Fate) (frame : List ℕ) → now ≡ old ++ map carried (comes_first a io b w first i) → new ≡ now ++ (f ∷ []) →
     f ≡ carried (comes_by a io b frame i) → frame ≡ take w (drop (i * w) first) → new ≡ old ++ map carried (comes_first a io b w first (i + 1))
 came-more a io b w i first old now new f frame e g h t =
@@ -189,13 +184,6 @@ pub landed-more : (a : Adapter) (io : Io) (b : Bio) (w i : ℕ) (first old now n
 landed-more a io b w i first old now new frame e g t =
     let s : i + 1 ≡ suc i = omega arith in
     rw s (g ∙ ap (λ z. land (data_cells io (b.k + i) ++ tuple_cells io.pi (b.k + i)) (comes_by a io b z i) now) t ∙ ap (λ z. land (data_cells io (b.k + i) ++ tuple_cells io.pi (b.k + i)) (comes_by a io b (take w (drop (i * w) first)) i) z) e)
-
-pub wire-least : (a : Adapter) (io : Io) (b : Bio) → block_size io ≤ wire_size (route_by a io b 0)
-wire-least a io b = of-size (a.dif && not (is_zero a.ty)) (block_size io)
-  where
-    of-size : (c : Bool) (n : ℕ) → n ≤ (if c then n + 8 else n)
-    of-size true n = omega arith
-    of-size false n = omega arith
 
 -- ---- a bio more of a group
 

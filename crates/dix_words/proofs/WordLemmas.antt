@@ -1,4 +1,4 @@
-use Rattle.std.proofs.Common.{ℕ, ◌≡◌, ◌<◌, suc, Bool, false, ◌&&◌, leb, List, [], ◌∷◌, ◌++◌, length, Option, Some, None, refl, sym, ap, ◌∙◌, arith, append_assoc}
+use Rattle.std.proofs.Common.{ℕ, ◌≡◌, ◌<◌, suc, Bool, false, ◌&&◌, leb, List, [], ◌∷◌, ◌++◌, length, Option, Some, None, refl, ap, ◌∙◌, arith}
 use Rattle.std.specs.Prelude.{String}
 use Rattle.std.specs.List.{list_all}
 use Rattle.target_answer.specs.Headers.{is_layout, is_spec}
@@ -22,14 +22,6 @@ not_two (a ∷ b ∷ c ∷ ws) h = refl
 abbrev pub joined : List UnitSpec → Option (List UnitSpec) → Option (List UnitSpec)
 joined us None = None
 joined us (Some more) = Some (us ++ more)
-
-pub joined_none : (more : Option (List UnitSpec)) → joined [] more ≡ more
-joined_none None = refl
-joined_none (Some us) = refl
-
-pub joined_more : (us : List UnitSpec) (u : UnitSpec) (more : Option (List UnitSpec)) → joined us (with_unit (Some u) more) ≡ joined (us ++ (u ∷ [])) more
-joined_more us u None = refl
-joined_more us u (Some more) = ap Some (sym (append_assoc us (u ∷ []) more))
 
 bytes_length : {Z : Type 0} (ws : List (String Z)) → length (word_bytes ws) ≡ length ws
 bytes_length [] = refl

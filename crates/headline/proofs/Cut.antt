@@ -1,9 +1,7 @@
 -- An image is its header, and behind it the blocks of its units.
-use Rattle.std.proofs.Common.{◌≡◌, ℕ, zero, suc, ◌+◌, ◌*◌, ◌<◌, List, [], ◌∷◌, ◌++◌, length, take, drop, get_or, None, refl, sym, ap, ◌∙◌, arith}
-use Rattle.std.specs.Prelude.{All}
+use Rattle.std.proofs.Common.{◌≡◌, ℕ, zero, suc, ◌+◌, ◌*◌, List, [], ◌∷◌, ◌++◌, length, take, drop, None, refl, sym, ap, ◌∙◌, arith}
 use Rattle.std.proofs.Math.Seq.{take-add}
 use Rattle.std.proofs.lemmas.List.{length-drop, take-append-drop, take_all}
-use Rattle.std.proofs.lemmas.List.Elements.{All-append, All-cons, All-drop, All-head, All-nil, All-tail, All-take}
 use Rattle.target_answer.specs.Frames.{frames_of, joined, stored_size}
 use Rattle.target_answer.specs.Headers.{all_bytes, bytes_of}
 use Rattle.target_answer.specs.Image.{units_from}
@@ -38,28 +36,3 @@ image_is_cut image h =
     let d = length-drop 512 image in
     sym (take-append-drop 512 image)
     ∙ ap (λ xs. take 512 image ++ xs) (sym (take_all (all_bytes (units_of (head_of image))) (drop 512 image) (omega (arith, l, d))) ∙ sym (joined_units (units_of (head_of image)) (drop 512 image)))
-
--- ---- bytes
-
-frames_below : (w n : ℕ) (bytes : List ℕ) → All (λ x. x < 256) bytes → All (All (λ x. x < 256)) (frames_of w n bytes)
-frames_below w zero bytes h = All-nil (All (λ (x : ℕ). x < 256))
-frames_below w (suc n) bytes h =
-    All-cons (All (λ (x : ℕ). x < 256)) (take w bytes) (frames_of w n (drop w bytes)) (All-take (λ (x : ℕ). x < 256) w bytes h)
-    (frames_below w n (drop w bytes) (All-drop (λ (x : ℕ). x < 256) w bytes h))
-
-units_below : (us : List UnitSpec) (bytes : List ℕ) → All (λ x. x < 256) bytes → All (All (λ x. x < 256)) (blocks_told (units_from us bytes))
-units_below [] bytes h = All-nil (All (λ (x : ℕ). x < 256))
-units_below (u ∷ us) bytes h =
-    All-append (All (λ (x : ℕ). x < 256)) (frames_of (stored_size u.ty u.size) u.blocks bytes) (blocks_told (units_from us (drop (bytes_of u) bytes)))
-    (frames_below (stored_size u.ty u.size) u.blocks bytes h) (units_below us (drop (bytes_of u) bytes) (All-drop (λ (x : ℕ). x < 256) (bytes_of u) bytes h))
-
--- the blocks of an image of bytes are bytes
-pub blocks_below : (image : List ℕ) → All (λ x. x < 256) image → All (All (λ x. x < 256)) (blocks_in image)
-blocks_below image h = units_below (units_of (head_of image)) (drop 512 image) (All-drop (λ (x : ℕ). x < 256) 512 image h)
-
--- so is each block of them
-pub block_below : (blocks : List (List ℕ)) (i : ℕ) → All (All (λ x. x < 256)) blocks → All (λ x. x < 256) (get_or blocks i [])
-block_below [] zero h = All-nil (λ (x : ℕ). x < 256)
-block_below [] (suc i) h = All-nil (λ (x : ℕ). x < 256)
-block_below (b ∷ blocks) zero h = All-head (All (λ (x : ℕ). x < 256)) b blocks h
-block_below (b ∷ blocks) (suc i) h = block_below blocks i (All-tail (All (λ (x : ℕ). x < 256)) b blocks h)

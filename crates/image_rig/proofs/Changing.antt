@@ -1,5 +1,5 @@
 -- Blocks that are changed without a command.
-use Rattle.std.proofs.Common.{◌≡◌, ℕ, suc, ◌+◌, ◌-◌, ◌<◌, ◌≤◌, Bool, true, eqb, ◌&&◌, List, [], ◌∷◌, length, get_or, take, drop, replicate, Option, Some, None, refl, sym, ap, ◌∙◌, arith}
+use Rattle.std.proofs.Common.{◌≡◌, ℕ, suc, ◌+◌, ◌-◌, ◌<◌, ◌≤◌, Bool, true, eqb, ◌&&◌, List, [], ◌∷◌, length, get_or, take, drop, replicate, Option, Some, refl, sym, ap, ◌∙◌, arith}
 use Rattle.std.specs.Prelude.{is_some, Result, Ok, Err, OnOk, OnErr}
 use Rattle.std.proofs.lemmas.List.{length-take, length-drop, length-replicate}
 use Rattle.dix_base.specs.Told.{Apart, Becomes, HasLength, over}
@@ -138,10 +138,6 @@ on_ok (Err e) f k = tt
 pub on_err : {A E : Type 0} {Q : Type 0} (r : Result A E) → Q → OnErr r Q
 on_err (Ok x) q = tt
 on_err (Err e) q = q
-
-pub becomes_same : (at n : ℕ) (b : Option (List ℕ)) → Becomes (Apart at n) b b
-becomes_same at n None = tt
-becomes_same at n (Some x) = (refl, refl, refl)
 
 pub long_as : (image : Option (List ℕ)) (len : ℕ) → HasLength len image → (was : List ℕ) → image ≡ Some was → length was ≡ len
 long_as image len h was e = sym (told_length image len was e h)

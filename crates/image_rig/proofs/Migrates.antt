@@ -137,10 +137,6 @@ keeps_units us h None (Some b) l e t m = absurd m
 keeps_units us h (Some a) None l e t m = absurd m
 keeps_units us h (Some a) (Some b) l e t m = kept_units us a b l (e ∙ ap units_of t) m
 
-pub stays : (a : Option (List ℕ)) → KeepsBlocks a a × KeepsUnits a a
-stays None = (tt, tt)
-stays (Some a) = ((refl, refl), refl)
-
 pub keeps_same : (b : Option (List ℕ)) → KeepsBlocks b b
 keeps_same None = tt
 keeps_same (Some x) = (refl, refl)

@@ -111,9 +111,6 @@ inside u lba h = grind arith
 pub addressed : (us : List UnitSpec) (dev lba : ℕ) → dev < length us → has_address (get_or us dev no_spec) lba ≡ true → Address us dev lba
 addressed us dev lba h a = let i = inside (get_or us dev no_spec) lba a in record { device = h; first = i.0; last = i.1 }
 
-abbrev frame_of_unit : UnitSpec → ℕ
-frame_of_unit u = stored_size u.ty u.size
-
 -- the stored block at an address, as bytes of the image
 pub block_found : (us : List UnitSpec) (was : List ℕ) (dev lba : ℕ) → Address us dev lba →
     block_at (units_in us was) dev lba ≡ take (stored_size (get_or us dev no_spec).ty (get_or us dev no_spec).size) (drop (block_place us dev lba) was)

@@ -129,8 +129,3 @@ landed-in pool page (suc pages) n whole some room least h =
 pub landed : (pool : List (List ℕ)) (page n : ℕ) → AreWhole pool → 1 ≤ n → AllLieIn pool (page_segs page (pages_for n) n)
     → bytes_in pool (page_segs page (pages_for n) n) 0 n ≡ take n (drop (4096 * page) (flat pool))
 landed pool page n whole some h = landed-in pool page (pages_for n) n whole some (omega arith) (omega arith) h
-
--- what is copied out of a stack's pages
-pub lands : (stack : Stack) (pool : List (List ℕ)) (segs : List Seg) (page n long : ℕ) → AreWhole pool → 1 ≤ n → pool ≡ stack.pool → segs ≡ page_segs page (pages_for n) n → long ≡ n
-    → AllLieIn stack.pool (page_segs page (pages_for n) n) → bytes_in pool segs 0 long ≡ take n (drop (4096 * page) (flat stack.pool))
-lands stack pool segs page n long whole some p s l lie = (λ i. bytes_in (p i) (s i) 0 (l i)) ∙ landed stack.pool page n (subst AreWhole p whole) some lie

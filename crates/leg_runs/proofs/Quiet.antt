@@ -12,7 +12,7 @@ use Rattle.stack_ops.specs.declared.op.Op.TheVariants.{FetchPi, Write}
 use Rattle.volume_table.specs.Places.{place_in, volume_len}
 use Rattle.volume_table.specs.Tables.{Table}
 use Rattle.volume_table.specs.declared.device.DeviceInfo.{DeviceInfo}
-use Rattle.block_path.specs.Blocks.{fetched_cell, own_frame, stored_cell}
+use Rattle.block_path.specs.Blocks.{fetched_cell, own_frame}
 use Rattle.block_path.specs.Routes.{target}
 use Rattle.block_path.specs.WayIn.{delivered_of, way_in}
 use Rattle.block_path.specs.WayOut.{stored_of}
@@ -110,6 +110,3 @@ module _ (m : Setting) (op k op' k' virt : ℕ) where
 
   pub writes-under : (e : Brought) → writing q a e ≡ writing q b e
   writes-under e = ap stored_of (out_same [] [] la lb virt dev lba m.ty m.size m.mode same unshifted (own_frame (route q b) e.app e.body))
-
-  pub stored-under : stored_cell q.site (route q a) ≡ stored_cell q.site (route q b)
-  stored-under = refl

@@ -105,11 +105,6 @@ ran-one s t devices words before after r h = record {
 abbrev pub RanBy : Table → List DeviceInfo → (schedule : List (ℕ × ℕ)) → (before after : Outside) → (used used' : ℕ) → (List LegRun → Type 0) → Type 0
 RanBy t devices schedule before after used used' P = (runs : List LegRun) × (RanLegs t devices runs before after × (GoOn schedule used runs used' × P runs))
 
-pub ran-then : (t : Table) (devices : List DeviceInfo) (schedule : List (ℕ × ℕ)) (before between after : Outside) (used then used' : ℕ) (P Q R : List LegRun → Type 0)
-    → RanBy t devices schedule before between used then P → RanBy t devices schedule between after then used' Q → ((xs ys : List LegRun) → P xs → Q ys → R (xs ++ ys)) → RanBy t devices schedule before after used used' R
-ran-then t devices schedule before between after used then used' P Q R x y f =
-    (x.0 ++ y.0, (ran-append t devices x.0 y.0 before between after x.1.0 y.1.0, (go_on-append schedule used then used' x.0 y.0 x.1.1.0 y.1.1.0, f x.0 y.0 x.1.1.1 y.1.1.1)))
-
 pub ran-nothing : (t : Table) (devices : List DeviceInfo) (schedule : List (ℕ × ℕ)) (now : Outside) (used : ℕ) (P : List LegRun → Type 0) → P [] → RanBy t devices schedule now now used used P
 ran-nothing t devices schedule now used P h = ([], (ran-none t devices now now (record { units = refl; standing = refl; log = refl; faults = refl }), (refl, h)))
 

@@ -180,11 +180,6 @@ module _ (m' : Setting) (half : ℕ) (ops : List Op) (even : m'.size % 2 ≡ 0) 
   written_held b (Refuses why) back log s e l k h = h.each
   written_held b (Stores carried stored) back log s e l k h = stored_held b stored s e l k.0 k.1 h
 
-  written_pages : (b : Block) (w : WayOut) (back : List ℕ) (log : List (List ℕ)) → (written_by (route m b) w back log).written.bytes ≡ back
-  written_pages b (Fails why) back log = refl
-  written_pages b (Refuses why) back log = refl
-  written_pages b (Stores carried stored) back log = refl
-
   -- ---- frames of the host
 
   own_fine : (b : Block) (app : ℕ) (x : List ℕ) → length x ≡ n → AllBelow 256 x → app < 2 ^ 16 → is_escaped One (own_tuple (route m b) app x) ≡ false → IsFine (own_frame (route m b) app x)

@@ -161,9 +161,6 @@ module _ (m' : Setting) (p : ℕ) (devices : List DeviceInfo) (half : ℕ) (ops 
   abbrev one : Setting
   one = still m' 1
 
-  abbrev opened : Mirror
-  opened = mirror_opened half opening
-
   abbrev count : ℕ → ℕ
   count = count_of ops
 

@@ -1,9 +1,6 @@
 -- From the refusal of a part to that of the call.
-use Rattle.std.proofs.Common.{ℕ, ◌≡◌, ◌≤◌, inl, inr, ◌+◌, List, length, None, Result, Ok, Err, refl, sym, subst}
+use Rattle.std.proofs.Common.{◌≡◌, ◌≤◌, inr, List, length, None, Result, Ok, Err, refl, subst}
 use Rattle.std.specs.Prelude.{MatchResult}
-use Rattle.image_commands.specs.Causes.{CauseUntold}
-use Rattle.image_commands.specs.Views.{View}
-use Rattle.image_commands.specs.declared.fault.Fault.{Fault}
 use Rattle.image_commands.specs.declared.fault.Fault.TheVariants as fault
 use Rattle.script_text.specs.declared.script.Script.{Script}
 use Rattle.script_stack.specs.Causes.{table_of}
@@ -11,41 +8,14 @@ use Rattle.volume_table.specs.Tables.{MadeFor, Table}
 use Rattle.volume_table.specs.declared.device.DeviceInfo.{DeviceInfo}
 use Rattle.mirror_script.specs.MirrorFaults.{mirror_fault}
 use Rattle.script_verdict.proofs.Completing.{table_is}
-use Rattle.script_verdict.specs.Verdict.{Facts, HasRead, WasAsked}
-use Rattle.script_verdict.specs.Working.{CauseNoTable, IsSound, refusal_of}
+use Rattle.script_verdict.specs.Verdict.{Facts, HasRead}
+use Rattle.script_verdict.specs.Working.{IsSound}
 use Rattle.script_verdict.specs.declared.refusal.Refusal.{Refusal}
 use Rattle.script_verdict.specs.declared.refusal.Refusal.TheVariants as refusal
 use Rattle.leg_runs.specs.Standing.{IsBoundMirror}
 use Rattle.mirror_verdict.specs.Verdict.{CauseRefused, CauseStopped, HasMirrored, HasMirroredSource}
-use Rattle.mirror_verdict.specs.Working.{CauseUnbound, IsFree}
+use Rattle.mirror_verdict.specs.Working.{IsFree}
 use Rattle.mirror_verdict.specs.declared.mirrored.Mirrored.{Mirrored}
-
--- there is no table of the script's volume
-pub no_table : (r : Refusal) (s : Script) (devices : List DeviceInfo) → CauseNoTable r s devices → CauseUnbound r s devices
-no_table (refusal.Script bad) s devices c = absurd c
-no_table (refusal.Image x) s devices c = absurd c
-no_table (refusal.BadCapacity dev) s devices c = absurd c
-no_table (refusal.Volume entry kind) s devices c = c
-no_table refusal.RigFault s devices c = absurd c
-no_table refusal.Memory s devices c = tt
-no_table refusal.ReadFault s devices c = absurd c
-
--- the devices aren't known
-pub untold : (x : Fault) (s : Script) (name : List ℕ) (old new : View) → CauseUntold x name old new → CauseStopped (refusal_of x) s name old new
-untold (fault.Image x) s name old new c = c
-untold (fault.BadCapacity dev) s name old new c = c
-untold fault.RigFault s name old new c = c
-untold fault.Memory s name old new c = inl (inl c)
-
--- the script may not run on a mirror over them
-pub unbound : (r : Refusal) (s : Script) (name : List ℕ) (devices : List DeviceInfo) (old new : View) → WasAsked name devices old new → CauseUnbound r s devices → CauseStopped r s name old new
-unbound (refusal.Script bad) s name devices old new asked c = record { devices = devices; asked = asked; table = c.0; made = c.1; bound = c.2 }
-unbound (refusal.Image x) s name devices old new asked c = absurd c
-unbound (refusal.BadCapacity dev) s name devices old new asked c = absurd c
-unbound (refusal.Volume entry kind) s name devices old new asked c = record { devices = devices; asked = asked; bad = c }
-unbound refusal.RigFault s name devices old new asked c = absurd c
-unbound refusal.Memory s name devices old new asked c = inl (inr (devices, asked))
-unbound refusal.ReadFault s name devices old new asked c = absurd c
 
 -- the script of a source was run on a mirror, or wasn't
 pub source_run : (r : Result Mirrored Refusal) (f : Facts) (s : Script) → HasRead s f.left f.left_after → MatchResult r (λ x. HasMirrored x s f.name f.rig f.rig_after) (λ x. CauseStopped x s f.name f.rig f.rig_after) →

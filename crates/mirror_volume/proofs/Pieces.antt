@@ -1,21 +1,19 @@
 -- All blocks of an op's request are a piece of its mirror, and its data lie in the pages.
 use Rattle.std.proofs.Common.{ℕ, ◌≡◌, ◌+◌, ◌<◌, Bool, List, [], length, None, sym, subst, arith}
-use Rattle.std.specs.Prelude.{nat_le, nat_lt, ◌&&◌, ◌||◌}
-use Rattle.std.proofs.lemmas.Bool.{and_parts, ltb-false, or_parts}
+use Rattle.std.specs.Prelude.{nat_lt, ◌||◌}
+use Rattle.std.proofs.lemmas.Bool.{ltb-false, or_parts}
 use Rattle.page_pool.specs.declared.segs.Seg.{Seg}
-use Rattle.page_pool.specs.Pages.{AllLieIn, LiesIn}
+use Rattle.page_pool.specs.Pages.{AllLieIn}
 use Rattle.page_pool.specs.Places.{NoneTwice, places_in, range_of, total}
 use Rattle.page_pool.proofs.Placing.{once-front}
 use Rattle.page_pool.proofs.Spreads.{once-range}
-use Rattle.stack_ops.specs.Footprints.{put_seg}
 use Rattle.stack_ops.specs.declared.op.Op.{Op}
-use Rattle.stack_ops.specs.declared.op.Op.TheVariants.{Fetch, Fill, Put, Show, Write}
+use Rattle.stack_ops.specs.declared.op.Op.TheVariants.{Fetch, Write}
 use Rattle.script_lines.specs.declared.kind.ScriptKind.TheVariants.{BadRange}
 use Rattle.script_text.specs.Ops.{data_fault}
-use Rattle.script_text.specs.Segments.{is_inside}
 use Rattle.script_ground.specs.SuitsStack.{IsStackOp}
-use Rattle.script_ground.proofs.Bodies.{alone-of, if-none, inside-ok, unless-ok}
-use Rattle.script_ground.proofs.Segments.{all-lie, lies, once-both}
+use Rattle.script_ground.proofs.Bodies.{alone-of, if-none, unless-ok}
+use Rattle.script_ground.proofs.Segments.{all-lie, once-both}
 use Rattle.script_stack.specs.Causes.{table_of}
 use Rattle.mirror_script.specs.MirrorFaults.{op_fault, range_fault}
 use Rattle.mirror_volume.specs.declared.legs.Plan.{Plan}
@@ -27,14 +25,6 @@ use Rattle.leg_runs.proofs.Requests.{IsRequest, op-fits, op-rules, request-fits}
 -- ---- a segment
 
 module _ (pages size : ℕ) (dix : Bool) (pool : List (List ℕ)) (long : length pool ≡ pages) where
-  pub fill-lies : (seg : Seg) (byte : ℕ) → IsStackOp dix pages size (Fill seg byte) → LiesIn pool seg
-  fill-lies seg byte h = lies pages pool seg long (inside-ok (is_inside pages seg) _ _ h.rules)
-
-  pub put-lies : (page off : ℕ) (bytes : List ℕ) → IsStackOp dix pages size (Put page off bytes) → LiesIn pool (put_seg page off bytes)
-  put-lies page off bytes h = lies pages pool (put_seg page off bytes) long (inside-ok (is_inside pages (put_seg page off bytes)) _ _ h.rules)
-
-  pub show-lies : (seg : Seg) → IsStackOp dix pages size (Show seg) → LiesIn pool seg
-  show-lies seg h = lies pages pool seg long (and_parts (is_inside pages seg) (nat_le seg.len 64) (inside-ok (is_inside pages seg && nat_le seg.len 64) _ _ h.rules)).0
 
 -- ---- a request
 

@@ -1,7 +1,7 @@
 -- A mirror's plan has what the scripts of its legs ask.
 use Rattle.std.proofs.Common.{◌≡◌, ◌+◌, ◌*◌, ◌≤◌, List, length, None, subst, sym, arith}
 use Rattle.std.specs.Prelude.{◌/◌}
-use Rattle.std.proofs.Math.Nat.{mul-le-mul_left, mul-le-mul_right}
+use Rattle.std.proofs.Math.Nat.{mul-le-mul_left}
 use Rattle.volume_table.specs.Places.{volume_len}
 use Rattle.volume_table.specs.Tables.{Table}
 use Rattle.volume_table.specs.declared.device.DeviceInfo.{DeviceInfo}
@@ -43,10 +43,3 @@ plan-tuples p piece is h short =
     let sizes = block_sizes p.script.block is.bound.keeps.block_is in
     let size_is : piece.n * p.script.block ≤ piece.n * 4096 = mul-le-mul_left piece.n sizes.1 in
     record { some = h.some; room = omega (arith, size_is, short); inside = h.inside }
-
-pub data-some : (p : Plan) (piece : Piece) → IsPlan p → IsPieceOf p piece → 1 ≤ piece.n * p.script.block
-data-some p piece is h =
-    let sizes = block_sizes p.script.block is.bound.keeps.block_is in
-    let size_is : 1 * p.script.block ≤ piece.n * p.script.block = mul-le-mul_right p.script.block h.some in
-    let low = sizes.0 in
-    omega (arith, size_is, low)

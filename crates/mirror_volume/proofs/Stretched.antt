@@ -6,9 +6,7 @@ use Rattle.bio_core.specs.declared.fate.Why.{Why}
 use Rattle.page_pool.specs.Cells.{flat}
 use Rattle.script_text.specs.declared.script.Script.{Script}
 use Rattle.mirror_legs.specs.declared.piece.Piece.{Piece}
-use Rattle.leg_runs.specs.Asked.{AreOf, IsInside, bytes_after, ended, found_after, part_of, pasted, stretches, stretches_from}
-use Rattle.mirror_volume.specs.Plans.{IsPieceOf}
-use Rattle.mirror_volume.specs.declared.legs.Plan.{Plan}
+use Rattle.leg_runs.specs.Asked.{AreOf, IsInside, bytes_after, ended, found_after, pasted, stretches, stretches_from}
 use Rattle.leg_runs.specs.LegRuns.{LegRun, found_by, pool_of, replies_of}
 
 pub are-of-append : (script : Piece → Script) (p : Piece) (ss ts : List (ℕ × ℕ)) (runs more : List LegRun) → AreOf script p ss runs → AreOf script p ts more → AreOf script p (ss ++ ts) (runs ++ more)
@@ -58,12 +56,3 @@ all-inside n wanted e = inside-from n 0 0 wanted (omega arith) (omega (arith, e)
 -- so many blocks more, in bytes
 pub ends-inside : (a b n size : ℕ) → a + b ≤ n → a * size + b * size ≤ n * size
 ends-inside a b n size l = let m : (a + b) * size ≤ n * size = mul-le-mul_right size l in let e = add-mul a b size in omega (arith, m, e)
-
-pub fewer-bytes : (b n size : ℕ) → b ≤ n → b * size ≤ n * size
-fewer-bytes b n size l = mul-le-mul_right size l
-
-pub part-piece : (plan : Plan) (p : Piece) (s : ℕ × ℕ) → IsPieceOf plan p → IsInside p.n s → IsPieceOf plan (part_of p s)
-part-piece plan p s h k =
-    let a = h.first in let b = h.room in let c = h.inside in let d = k.inside in
-    let m = fewer-bytes s.1 p.n plan.script.block (omega (arith, d)) in
-    record { some = k.some; first = omega (arith, a, d); count = h.count; room = omega (arith, b, m); inside = omega (arith, c, d) }

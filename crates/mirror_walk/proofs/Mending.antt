@@ -1,3 +1,4 @@
+-- The repair of one block: what a good leg holds is written to the other.
 use Rattle.std.proofs.Common.{◌≡◌, ◌<◌, ◌^◌, ℕ, suc, ◌+◌, Bool, true, false, eqb, List, [], length, get_or, set, Option, Some, None, refl, sym, ap, subst, ◌∙◌, ◌⊎◌, inl, inr, arith, length-append}
 use Rattle.std.specs.Prelude.{pos, Result, Ok, Err}
 use Rattle.std.proofs.lemmas.Bool.{false≢true}
@@ -32,8 +33,6 @@ use Rattle.mirror_walk.proofs.Holds.{apart as homes_apart, fetched_at, near, on_
 use Rattle.run_laws.proofs.Layers.{Hands, IsBare, Names, Outcome, Sound, Spoilt, checked, goes_out, reads, same_brought, why_ended}
 use Rattle.mirror_walk.proofs.Ways.{free_in, free_out, unnamed_stores}
 
--- The repair of one block: what a good leg holds is written to the other.
-
 -- what isn't delivered
 pub record IsErr (came : Result (List ℕ) Why) : Type 0 where
   pub why : Why
@@ -50,9 +49,6 @@ module _ (m' : Setting) (opening : State) (half : ℕ) where
 
   abbrev n : ℕ
   n = m'.size
-
-  abbrev q' : Setting
-  q' = steady m'
 
   abbrev q : Setting
   q = checked (steady m')
@@ -259,9 +255,6 @@ module _ (m' : Setting) (opening : State) (half : ℕ) where
       -- both are good
       both : (marks_of r.marks u).leg0 ≡ true → (marks_of r.marks u).leg1 ≡ true → SoundAs u e (at0 r u) → SoundAs (half + u) e (at1 r u) → Is r
       both f g s h = record { after = record { on0 = s; on1 = h; marks = both_fresh (marks_of r.marks u) f g }; lost = refl; size = refl; long = refl; others = λ w l d. (refl, (refl, refl)) }
-
-      abbrev g0 : Option (List ℕ)
-      g0 = good (marks_of r.marks u).leg0 (reading q (on_leg0 u) r.blocks)
 
       abbrev g1 : Option (List ℕ)
       g1 = good (marks_of r.marks u).leg1 (reading q (on_leg1 half u) r.blocks)

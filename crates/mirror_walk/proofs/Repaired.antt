@@ -49,9 +49,6 @@ module _ (m' : Setting) (opening : State) (half : ℕ) (count : ℕ → ℕ) (st
   abbrev m : Setting
   m = checked m'
 
-  abbrev n : ℕ
-  n = m'.size
-
   abbrev HeldHere : List Event → List (List ℕ) → Type 0
   HeldHere past blocks = Held m' opening half count still devices lies cells long past blocks
 

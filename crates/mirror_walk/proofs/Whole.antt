@@ -1,3 +1,4 @@
+-- From blocks to ops: what a mirror replies to a read, and what it leaves in the pages.
 use Rattle.std.proofs.Common.{◌≡◌, ◌<◌, ◌≤◌, ℕ, zero, suc, ◌+◌, ◌-◌, Bool, true, false, List, [], ◌∷◌, ◌++◌, length, map, get_or, take, replicate, None, refl, sym, ap, subst, ◌∙◌, arith}
 use Rattle.std.proofs.lemmas.List.{append_assoc, append-nil, get_or-replicate, length-replicate}
 use Rattle.page_pool.specs.declared.segs.Seg.{Seg}
@@ -31,8 +32,6 @@ use Rattle.run_laws.proofs.Along.{begins}
 use Rattle.run_laws.proofs.Layers.{checked}
 use Rattle.mirror_walk.proofs.Delivery.{AllFitIn, Gets, read_along}
 use Rattle.mirror_walk.proofs.Holds.{Has}
-
--- From blocks to ops: what a mirror replies to a read, and what it leaves in the pages.
 
 -- what reads leave alone
 module _ (m : Setting) (half : ℕ) (count : ℕ → ℕ) where
@@ -90,9 +89,6 @@ module _ (m' : Setting) (devices : List DeviceInfo) (half : ℕ) (ops : List Op)
 
   abbrev count : ℕ → ℕ
   count = count_of ops
-
-  abbrev opened : Mirror
-  opened = mirror_opened half opening
 
   abbrev pub FitAll : List Step → Type 0
   FitAll steps = AllFitIn m' opening half (count_of ops) run.unshifted devices run.lies run.cells run.long steps

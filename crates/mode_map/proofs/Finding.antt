@@ -92,9 +92,6 @@ module _ (m : Setting) (b : Block) (protect : 0 < m.mode.protect) (mask : m.mode
   abbrev pub held : Bool → PiType → Entry → List ℕ
   held dix ty e = if dix then frame_of e.body (tuple_at_host ty e) else e.body
 
-  abbrev pub lies : PiType → Entry → List ℕ
-  lies ty e = stored_as (quiet m true true ty) (here m b protect) e
-
   -- the tuple on wire and medium
   abbrev pub tuple_below : PiType → Entry → Tuple
   tuple_below ty e = record { guard = crc e.body; app = e.app; rtag = tag_of ty (here m b protect) e.own }

@@ -42,9 +42,6 @@ failed_more : (rs : List Reply) (r : Reply) → has_failed (rs ++ (r ∷ [])) �
 failed_more [] r = or_last (not (is_success r.completion))
 failed_more (x ∷ rs) r = ap (λ (b : Bool). not (is_success x.completion) || b) (failed_more rs r) ∙ or_assoc (not (is_success x.completion)) (has_failed rs) (not (is_success r.completion))
 
-pub came_none : (ds : List DeviceInfo) (a : View) → Came ds [] [] false a a
-came_none ds a = record { replies = []; done = refl; text_is = refl; bad_is = refl }
-
 came_more : (ds : List DeviceInfo) (ls : List NvmLine) (l : NvmLine) (text text' : List ℕ) (bad bad' : Bool) (a b c : View) → Came ds ls text bad a b → Adds ds l text text' bad bad' b c → Came ds (ls ++ (l ∷ [])) text' bad' a c
 came_more ds ls l text text' bad bad' a b c x y = record {
   replies = x.replies ++ (y.reply ∷ []);

@@ -81,12 +81,6 @@ count-is One c = refl
 count-is Two c = refl
 count-is Three c = refl
 
-pub first-is : (ty : PiType) (c : NvmCommand) → (fields_of ty c).lba ≡ c.first
-first-is Zero c = refl
-first-is One c = refl
-first-is Two c = refl
-first-is Three c = refl
-
 moves : (b : Bool) (r : Rw) → transferred (with_way b r) ≡ r.n
 moves true r = refl
 moves false r = refl

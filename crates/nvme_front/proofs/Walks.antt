@@ -1,6 +1,6 @@
 -- Buffers that are filled piece by piece.
 use Rattle.std.proofs.Common.{◌≡◌, ℕ, zero, suc, ◌+◌, ◌-◌, ◌*◌, ◌<◌, ◌≤◌, List, ◌++◌, length, take, drop, ap, sym, ◌∙◌, arith, append_assoc}
-use Rattle.std.proofs.lemmas.List.{append-nil, length-drop, length-take-le, take_all}
+use Rattle.std.proofs.lemmas.List.{append-nil, length-drop, length-take-le}
 use Rattle.pi_tuple.specs.declared.checks.PiType.{PiType}
 use Rattle.nvme_front.specs.Buffers.{frames_out, parts, tuple_for}
 use Rattle.nvme_front.specs.declared.command.NvmCommand.{NvmCommand}
@@ -32,11 +32,6 @@ parts-more width from len k n at end into into' rest piece whole h p e so_far =
     ∙ append_assoc (take at into) (take len (drop from (take width rest))) (parts width from len (n - (k + 1)) (drop width rest))
     ∙ ap (λ m. take at into ++ parts width from len m rest) (sym (left-more k n h))
     ∙ so_far
-
-pub parts-all : (width from len k n at : ℕ) (into rest whole : List ℕ) → n ≤ k → length into ≤ at → take at into ++ parts width from len (n - k) rest ≡ whole → into ≡ whole
-parts-all width from len k n at into rest whole h l so_far =
-    let z : n - k ≡ zero = omega arith in
-    sym (ap (λ m. take at into ++ parts width from len m rest) z ∙ append-nil (take at into) ∙ take_all at into l) ∙ so_far
 
 -- ---- frames of a write
 

@@ -34,9 +34,6 @@ same_or a b = elim (eqb_tells a b) [ inl h ↦ inl h.1 | inr h ↦ inr h.1 ]
 pub length-with_bytes : (page : List ℕ) (off : ℕ) (w : List ℕ) → length (with_bytes page off w) ≡ length page
 length-with_bytes page off w = simp (length-take, length-append, length-drop) (omega arith)
 
-pub inside : (page : List ℕ) (off : ℕ) (w : List ℕ) (j : ℕ) → off + length w ≤ length page → off ≤ j → j < off + length w → get_or (with_bytes page off w) j 0 ≡ get_or w (j - off) 0
-inside page off w j h k l = grind (arith, places)
-
 pub outside : (page : List ℕ) (off : ℕ) (w : List ℕ) (j : ℕ) → off + length w ≤ length page → j < length page → (j < off) ⊎ (off + length w ≤ j) → get_or (with_bytes page off w) j 0 ≡ get_or page j 0
 outside page off w j h k (inl l) = grind (arith, places)
 outside page off w j h k (inr l) = grind (arith, places)

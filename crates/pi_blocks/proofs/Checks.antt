@@ -4,7 +4,7 @@ use Rattle.pi_guard.specs.declared.GuardKind.{GuardKind}
 use Rattle.pi_guard.specs.Guards.{guard_of}
 use Rattle.pi_tuple.specs.declared.tuple.Tuple.{Tuple}
 use Rattle.pi_tuple.specs.Tuples.{tuple_in}
-use Rattle.pi_blocks.specs.Blocks.{AreFine, Block, IsFirst, compared, guard_in, in_line, looked}
+use Rattle.pi_blocks.specs.Blocks.{AreFine, Block, compared, guard_in, in_line, looked}
 use Rattle.pi_blocks.specs.Laws.{HasOneAnswer}
 use Rattle.pi_blocks.specs.Layouts.{covered_of, kind_of, stride_of}
 use Rattle.pi_blocks.specs.declared.block.Found.{Found}
@@ -15,14 +15,6 @@ use Rattle.pi_blocks.specs.declared.layout.Layout.{Layout}
 pub one_more : (l : Layout) (w : Want) (blocks : ℕ → Block) (n : ℕ) → AreFine l w blocks n → looked l w blocks n ≡ None → AreFine l w blocks (n + 1)
 one_more l w blocks n h e k lt =
     ⊎_elim (λ (below : k < n). h k below) (λ (above : n ≤ k). let same : k ≡ n = omega arith in subst (λ m. looked l w blocks m ≡ None) (sym same) e) (cases_lt k n)
-
--- the next block differs
-pub first_found : (l : Layout) (w : Want) (blocks : ℕ → Block) (n i : ℕ) (told : Found) → i < n → AreFine l w blocks i → looked l w blocks i ≡ Some told → told.block ≡ i → IsFirst l w blocks n told
-first_found l w blocks n i told lt h e at = record {
-  inside = subst (λ m. m < n) (sym at) lt;
-  differs = subst (λ m. looked l w blocks m ≡ Some told) (sym at) e;
-  first = subst (λ m. AreFine l w blocks m) (sym at) h;
-}
 
 -- the guard of the bytes before the tuple of block i
 pub guard_in_line : (l : Layout) (bytes : List ℕ) (i stride covered guard : ℕ) (kind : GuardKind) → stride ≡ stride_of l → covered ≡ covered_of l → kind ≡ kind_of l.guard →

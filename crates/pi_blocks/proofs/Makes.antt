@@ -2,16 +2,12 @@ use Rattle.std.proofs.Common.{◌≡◌, ℕ, ◌+◌, ◌*◌, ◌≤◌, List,
 use Rattle.pi_guard.specs.Guards.{guard_of}
 use Rattle.pi_tuple.specs.Finds.{own_tag}
 use Rattle.pi_tuple.specs.Tuples.{tuple_bytes}
-use Rattle.pi_tuple.specs.declared.tuple.Tuple.{Tuple}
 use Rattle.pi_blocks.specs.Blocks.{Block, in_line}
 use Rattle.pi_blocks.specs.Layouts.{covered_of, kind_of, stride_of, type_of}
 use Rattle.pi_blocks.specs.Made.{made_bytes, place_in_line}
 use Rattle.pi_blocks.specs.Puts.{put_at}
 use Rattle.pi_blocks.specs.declared.layout.Layout.{Layout}
 use Rattle.pi_blocks.proofs.Puts.{Puts, next_block, puts_more, same_part}
-
-pub eight_spelled : (t : Tuple) → length (tuple_bytes t) ≡ 8
-eight_spelled t = refl
 
 -- the tuple that is made looks at nothing but the guarded bytes
 pub made_by_guarded : (l : Layout) (app first : ℕ) (blocks others : ℕ → Block) (i : ℕ) → (blocks i).guarded ≡ (others i).guarded → made_bytes l app first blocks i ≡ made_bytes l app first others i

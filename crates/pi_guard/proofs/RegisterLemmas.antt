@@ -185,8 +185,5 @@ crc-register bytes =
     ∙ left_over 0 bytes
     ∙ mod-eq_of_lt (register-lt 0 bytes (lit< tt))
 
-pub step_one : (r : ℕ) → r / 2 ^ 15 ≡ 1 → step r ≡ bit_xor (r * 2 % 2 ^ 16) 0x8BB7
-step_one r e = let d : bit_at r 15 ≡ 1 = rw e refl in rw d refl
-
 pub step_zero : (r : ℕ) → r / 2 ^ 15 ≡ 0 → step r ≡ r * 2 % 2 ^ 16
 step_zero r e = let d : bit_at r 15 ≡ 0 = rw e refl in rw d refl

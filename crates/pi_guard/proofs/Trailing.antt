@@ -197,9 +197,6 @@ abbrev pub paid : ℕ → ℕ → ℕ → List (List ℕ) → List ℕ → List 
 paid i j k [] v = []
 paid i j k (m ∷ ms) v = zip2 bit_xor m (nexts i j k 16 v) ++ paid i j k ms (drop 16 v)
 
-nothing_next : (i j k : ℕ) (v : List ℕ) → nexts i j k 0 v ≡ []
-nothing_next i j k v = refl
-
 paid_is : (i j k : ℕ) (ms : List (List ℕ)) (v : List ℕ) → AreWords ms → j ≤ i → k ≤ i → i + 16 * length ms ≤ length v →
     paid i j k ms v ≡ zip2 bit_xor (joined ms) (nexts i j k (16 * length ms) v)
 paid_is i j k [] v h hj hk l = refl

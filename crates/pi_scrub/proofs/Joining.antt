@@ -39,9 +39,6 @@ fit_append ds (x ∷ xs) ys p q = (p.0, p.1, p.2, fit_append ds xs ys p.3 q)
 rose_add : (a b o m n : ℕ) → o ≤ m → m ≤ n → RoseBy a o m → RoseBy b m n → RoseBy (a + b) o n
 rose_add a b o m n p q x y = grind arith
 
-three : (a b c d : List Found) (e : List Found) → c ≡ b ++ d → b ≡ a ++ e → c ≡ a ++ (e ++ d)
-three a b c d e p q = rw (p, q) (append_assoc a e d)
-
 pub looked_then : (ds : List DeviceInfo) (due mid left : List Place) (a b c : List Found) (x y z : List Entry) (o m n : ℕ) → o ≤ m → m ≤ n → Looked ds due mid a b x y o m → Looked ds mid left b c y z m n → Looked ds due left a c x z o n
 looked_then ds due mid left a b c x y z o m n p q u v = record {
   looks = u.looks ++ v.looks;
@@ -236,15 +233,6 @@ next_faults us dev found new all l e n =
 
 pub units_length : (ds : List DeviceInfo) (us : List Stored) → ds ≡ map device_of us → length us ≡ length ds
 units_length ds us e = sym (ap length e ∙ map_length us)
-
-pub no_places : (ds : List DeviceInfo) (dev : ℕ) → length ds ≤ dev → all_places dev (drop dev ds) ≡ []
-no_places ds dev l = let e : drop dev ds ≡ [] = none ds dev l in rw e refl
-  where
-    none : (xs : List DeviceInfo) (n : ℕ) → length xs ≤ n → drop n xs ≡ []
-    none [] zero h = refl
-    none [] (suc n) h = refl
-    none (x ∷ xs) zero h = absurd (omega arith)
-    none (x ∷ xs) (suc n) h = none xs n (omega arith)
 
 pub no_faults : (us : List Stored) (dev : ℕ) (found all : List Found) → length us ≤ dev → found ++ all_faults dev (drop dev us) ≡ all → found ≡ all
 no_faults us dev found all l e = let d : drop dev us ≡ [] = none us dev l in sym (append-nil found) ∙ ap (λ (v : List Stored). found ++ all_faults dev v) (sym d) ∙ e

@@ -15,10 +15,7 @@ use Rattle.sense_codes.specs.declared.Sense.{Sense}
 use Rattle.fault_schedule.specs.declared.fault.FaultLine.{FaultLine}
 use Rattle.fault_schedule.specs.declared.fault.Crossing.TheVariants.{TargetToAdapter}
 use Rattle.target_answer.specs.Passing.{found_in, from_medium, then_crossed, unless}
-use Rattle.target_answer.specs.Requests.{blocks_in, blocks_of, request_of}
 use Rattle.target_answer.specs.Target.{Answer, Stop, Stored, answer_unless, check_sense, each, first_sense, keeping, passage, passed, read_by, refusal, shape_of, stored_from, target_answer, whole}
-use Rattle.target_answer.specs.declared.request.Request.TheVariants.{Verify}
-use Rattle.rig_api.specs.Log.{capacity_len, capacity_under}
 use Rattle.rig_api.specs.Telling.{IsAnswer, Standing, answer_of, specs_of, unit_at, units_told, with_blocks}
 use Rattle.rig_api.specs.declared.rig.Outcome.{Outcome}
 use Rattle.target_answer.specs.Image.{units_in}
@@ -32,24 +29,6 @@ use Rattle.pi_scrub.specs.Steps.{IsWithin}
 
 abbrev pub by_form : Bool → Rw → Cdb
 by_form b c = if b then Verify10 c else Verify16 c
-
-requested : (b : Bool) (c : Rw) → request_of (by_form b c) ≡ Verify c
-requested true c = refl
-requested false c = refl
-
-pub no_blocks : (ty : PiType) (lba n : ℕ) → Fits (verify_of ty lba n) → blocks_of (form (verify_of ty lba n)) ≡ 0
-no_blocks ty lba n f = rw (decoded_form (verify_of ty lba n) f) (none (leb (lba + n) (2 ^ 32)))
-  where
-    none : (b : Bool) → blocks_in (Ok (by_form b (untagged lba n (protect_for ty)))) ≡ 0
-    none true = refl
-    none false = refl
-
-pub no_capacity : (ty : PiType) (lba n room : ℕ) → Fits (verify_of ty lba n) → capacity_len (form (verify_of ty lba n)) room ≡ 0
-no_capacity ty lba n room f = rw (decoded_form (verify_of ty lba n) f) (none (leb (lba + n) (2 ^ 32)))
-  where
-    none : (b : Bool) → capacity_under (Ok (by_form b (untagged lba n (protect_for ty)))) room ≡ 0
-    none true = refl
-    none false = refl
 
 -- what is found in a stored block
 crossing : (armed : List FaultLine) (x : Option Check) (frame : List ℕ) → then_crossed armed None TargetToAdapter (unless x frame) ≡ unless x frame

@@ -1,5 +1,4 @@
 pub mod CellLaws
-pub mod Choosing
 pub mod Layouts
 pub mod Rising
 pub mod Sweep

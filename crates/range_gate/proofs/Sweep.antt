@@ -65,9 +65,6 @@ skips t ts s (u ∷ us) e r =
 pub skip_right : (s : Seg) (ss : List Seg) (t : Seg) (ts : List Seg) → Rises (s ∷ ss) → Rises (t ∷ ts) → shares s t ≡ false → NotAfter t s → any_shared (s ∷ ss) (t ∷ ts) ≡ any_shared (s ∷ ss) ts
 skip_right s ss t ts p q h o = skips t ts s ss (other_ends t s q.0 p.0 h o) p
 
-pub found : (s : Seg) (ss : List Seg) (t : Seg) (ts : List Seg) → shares s t ≡ true → any_shared (s ∷ ss) (t ∷ ts) ≡ true
-found s ss t ts h = rw h refl
-
 pub shared-nil : (ss : List Seg) → any_shared ss [] ≡ false
 shared-nil [] = refl
 shared-nil (s ∷ ss) = shared-nil ss

@@ -112,14 +112,6 @@ alike ps qs (suc n) f = with-same (has_ended (phase_at qs n)) (has_ended (phase_
 other : (ps : List Phase) (i k : ℕ) (x : Phase) → (k ≡ i → ⊥) → has_ended (phase_at (set ps i x) k) ≡ has_ended (phase_at ps k)
 other ps i k x ne = ap has_ended (get_or-set_other ps i k x Ended ne)
 
-pub unended-set : (ps : List Phase) (i n : ℕ) (x : Phase) → i < length ps → has_ended x ≡ has_ended (phase_at ps i) → unended (set ps i x) n ≡ unended ps n
-unended-set ps i n x l h =
-    alike ps (set ps i x) n (λ k m.
-    ⊎_elim
-    (λ (e : k ≡ i). ap (λ j. has_ended (phase_at (set ps i x) j)) e ∙ ap has_ended (get_or-set_same ps i x Ended l) ∙ h ∙ ap (λ j. has_ended (phase_at ps j)) (sym e))
-    (λ (ne : k ≡ i → ⊥). other ps i k x ne)
-    (cases_eq k i))
-
 removed_cons : (b : Bool) (n i at : ℕ) (us vs : List ℕ) (c : Bool) → ((k : ℕ) → k < length us → get_or us k 0 < n) → (i ≡ n → c ≡ true) → (i ≡ n → vs ≡ us) → ((i ≡ n → ⊥) → c ≡ b) →
     ((at : ℕ) → at < length us → get_or us at 0 ≡ i → remove us at ≡ vs) → at < length (with b n us) → get_or (with b n us) at 0 ≡ i → remove (with b n us) at ≡ with c n vs
 removed_cons true n i at us vs c below same keep others ih l e =

@@ -1,6 +1,5 @@
-use Rattle.std.proofs.Common.{◌≡◌, ℕ, ◌+◌, ◌*◌, ◌<◌, Bool, true, false, eqb, List, ◌++◌, length, refl, ap, ◌∙◌, subst, inl, inr, cond, ◌&&◌, ◌||◌, arith}
+use Rattle.std.proofs.Common.{◌≡◌, ℕ, ◌+◌, ◌*◌, ◌<◌, List, ◌++◌, length, ap, ◌∙◌, subst, inl, inr, arith}
 use Rattle.std.proofs.lemmas.Bool.{cases_lt}
-use Rattle.std.proofs.lemmas.Bool.Decides.{eqb_tells}
 use Rattle.page_pool.specs.declared.segs.Seg.{Seg}
 use Rattle.page_pool.specs.Cuts.{past}
 use Rattle.page_pool.specs.Places.{places_in, range_of, NoneTwice}
@@ -9,11 +8,10 @@ use Rattle.page_pool.proofs.Ranges.{apart-ranges}
 use Rattle.page_pool.proofs.Spreads.{bytes_stay, range-ahead, wrote_none}
 use Rattle.pi_tuple.specs.declared.tuple.Tuple.{Tuple}
 use Rattle.pi_tuple.specs.declared.checks.PiType.{PiType}
-use Rattle.pi_tuple.specs.Finds.{has_ref_tag}
-use Rattle.pi_tuple.specs.Tuples.{ref_tag, tuple_bytes, tuple_in}
+use Rattle.pi_tuple.specs.Tuples.{tuple_bytes, tuple_in}
 use Rattle.integrity_payload.specs.Payloads.{tuple_places, tuple_of, HoldsTuple}
 use Rattle.integrity_payload.proofs.Fills.{joined_next, next_ahead, still_holds, wrote_next}
-use Rattle.ref_remap.specs.Remapped.{remapped, remapped_bytes, all_remapped, AreRemapped, MappedOut, made_virtual}
+use Rattle.ref_remap.specs.Remapped.{remapped, remapped_bytes, all_remapped, AreRemapped}
 use Rattle.ref_remap.proofs.Tags.{mapped-bytes}
 
 -- the first i tuples from k on are rewritten
@@ -68,36 +66,3 @@ rewrites_more old now new segs ty k from to i reader reader' writer writer' byte
         wrote = subst (λ l. Wrote old new (range_of segs (8 * k) (8 * (i + 1))) l) all (wrote_next old now new segs k i (all_remapped old segs ty k from to i) (tuple_bytes t) once h.done.wrote wrote);
       };
     }
-
--- out, once or twice, and back
-
-abbrev remap_at : Bool → ℕ → ℕ → Tuple → Tuple
-remap_at b v p t = cond (b && eqb t.rtag v) (record { guard = t.guard; app = t.app; rtag = p }) t
-
-out-twice : (b : Bool) (v p : ℕ) (t : Tuple) → remap_at b v p (remap_at b v p t) ≡ remap_at b v p t
-out-twice false v p t = refl
-out-twice true v p t = elim (eqb_tells t.rtag v) [
-  | inl h ↦ elim (eqb_tells p v) [
-    | inl k ↦ rw h.0 (rw k.0 refl)
-    | inr k ↦ rw h.0 (rw k.0 refl)
-  ]
-  | inr h ↦ rw h.0 (rw h.0 refl)
-]
-
-out-back : (b : Bool) (v p : ℕ) (t : Tuple) → remap_at b p v (remap_at b v p t) ≡ cond (b && (eqb t.rtag v || eqb t.rtag p)) (record { guard = t.guard; app = t.app; rtag = v }) t
-out-back false v p t = refl
-out-back true v p t = elim (eqb_tells t.rtag v) [
-  | inl h ↦ elim (eqb_tells p p) [
-    | inl k ↦ rw h.0 (rw k.0 refl)
-    | inr k ↦ absurd (k.1 refl)
-  ]
-  | inr h ↦ rw h.0 (elim (eqb_tells t.rtag p) [
-    | inl k ↦ rw k.0 refl
-    | inr k ↦ rw k.0 refl
-  ])
-]
-
-pub there_and_back : (ty : PiType) (virtual physical : ℕ) (t u : Tuple) → MappedOut ty virtual physical t u → remapped ty physical virtual u ≡ made_virtual ty virtual physical t
-there_and_back ty virtual physical t u (inl e) = ap (remapped ty physical virtual) e ∙ out-back (has_ref_tag ty) (ref_tag virtual) (ref_tag physical) t
-there_and_back ty virtual physical t u (inr e) =
-    ap (remapped ty physical virtual) (e ∙ out-twice (has_ref_tag ty) (ref_tag virtual) (ref_tag physical) t) ∙ out-back (has_ref_tag ty) (ref_tag virtual) (ref_tag physical) t

@@ -1,4 +1,4 @@
-use Rattle.std.proofs.Common.{ℕ, zero, suc, ◌≡◌, ◌+◌, ◌^◌, ◌-◌, ◌<◌, ◌≤◌, List, [], ◌∷◌, ◌++◌, length, take, Option, Some, None, refl, sym, ap, ◌∙◌, arith, append-nil, append_assoc, length-append}
+use Rattle.std.proofs.Common.{ℕ, zero, suc, ◌≡◌, ◌+◌, ◌^◌, ◌-◌, ◌<◌, List, [], ◌∷◌, ◌++◌, length, take, Option, Some, None, refl, sym, ap, ◌∙◌, arith, append_assoc, length-append}
 use Rattle.std.specs.Prelude.{map, slice_index_or}
 use Rattle.target_answer.specs.declared.units.UnitSpec.{UnitSpec}
 use Rattle.rig_api.specs.Log.{Entry, HasRoom, Room}
@@ -6,7 +6,7 @@ use Rattle.rig_api.specs.Telling.{Standing, no_spec, spec_at}
 use Rattle.rig_api.specs.declared.rig.Outcome.{Outcome}
 use Rattle.volume_table.specs.declared.device.DeviceInfo.{DeviceInfo}
 use Rattle.rig_discovery.specs.Answers.{told_by}
-use Rattle.rig_discovery.specs.Discovery.{Answer, Ends, HasFault, HasFound, Spent, all_told, entry_of_look, info_of, looks, told, with_info}
+use Rattle.rig_discovery.specs.Discovery.{Answer, Ends, Spent, all_told, entry_of_look, info_of, looks, told, with_info}
 
 -- One look after another.
 
@@ -36,9 +36,6 @@ pub record SoFar (s : Standing) (dev : ℕ) (found : List DeviceInfo) (old new :
   pub log : new ≡ old ++ looks s 0 answers
   pub told : all_told s 0 answers ≡ Some found
 
-pub none_so_far : (s : Standing) (log : List Entry) → SoFar s 0 [] log log
-none_so_far s log = record { answers = []; each = refl; log = sym (append-nil log); told = refl }
-
 log_more : (s : Standing) (dev : ℕ) (xs : List Answer) (a : Answer) (old mid new : List Entry) → length xs ≡ dev → mid ≡ old ++ looks s 0 xs → new ≡ mid ++ (entry_of_look s dev a ∷ []) → new ≡ old ++ (looks s 0 xs ++ (entry_of_look s dev a ∷ []))
 log_more s dev xs a old mid new n p q = q ∙ ap (λ (v : List Entry). v ++ (entry_of_look s dev a ∷ [])) p ∙ append_assoc old (looks s 0 xs) (entry_of_look s dev a ∷ [])
 
@@ -52,20 +49,6 @@ one_more s dev found i old mid new result so asked r =
       told = all_more s 0 dev so.answers asked.0 found i n so.told (sym asked.1 ∙ r);
     }
 
-pub at_fault : (s : Standing) (dev : ℕ) (found : List DeviceInfo) (old mid new : List Entry) (result : Option DeviceInfo) → SoFar s dev found old mid → (a : Answer) × (result ≡ told s dev a) × (new ≡ mid ++ (entry_of_look s dev a ∷ [])) → result ≡ None → HasFault s dev old new
-at_fault s dev found old mid new result so asked r = record {
-  answers = so.answers;
-  found = found;
-  before = so.each;
-  good = so.told;
-  answer = asked.0;
-  log = log_more s dev so.answers asked.0 old mid new so.each so.log asked.2;
-  bad = sym asked.1 ∙ r;
-}
-
-pub all_found : (s : Standing) (dev : ℕ) (found : List DeviceInfo) (old new : List Entry) → SoFar s dev found old new → dev ≡ s.devices → HasFound s found old new
-all_found s dev found old new so e = record { answers = so.answers; each = so.each ∙ e; log = so.log; told = so.told }
-
 -- the devices so far, xs the head tells them
 pub infos_more : (us : List UnitSpec) (dev : ℕ) (found : List DeviceInfo) (i : DeviceInfo) → dev < length us → found ≡ map info_of (take dev us) → i ≡ info_of (slice_index_or us dev no_spec) → found ++ (i ∷ []) ≡ map info_of (take (dev + 1) us)
 infos_more us dev found i l f e = rw (f, e) (taken us dev l)
@@ -77,9 +60,6 @@ infos_more us dev found i l f e = rw (f, e) (taken us dev l)
 
 pub room_more : (size n dev : ℕ) (old new : Room) → dev < n → HasRoom size (n - dev) 0 old → Spent 1 old new → HasRoom size (n - (dev + 1)) 0 new
 room_more size n dev old new l h s = record { records = omega (arith, h.records, s.records); labels = omega (arith, h.labels, s.labels); moved = omega (arith, h.moved, s.moved) }
-
-pub room_for_one : (size n : ℕ) (r : Room) → 1 ≤ n → HasRoom size n 0 r → HasRoom size 1 0 r
-room_for_one size n r l h = record { records = omega (arith, h.records); labels = omega (arith, h.labels); moved = omega (arith, h.moved) }
 
 -- what was told of the device that was asked last
 pub told_last : (s s' : Standing) (dev : ℕ) (result : Option DeviceInfo) (i : DeviceInfo) → s' ≡ s → result ≡ Some i → result ≡ Some (info_of (spec_at s' dev)) → i ≡ info_of (spec_at s dev)

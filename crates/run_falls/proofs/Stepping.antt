@@ -198,9 +198,6 @@ left_written script falls i k left e = by (writes_of script i) e where
   by true e = refl
   by false e = absurd (false≢true (ap is_some e))
 
-left_fell : (script : List Op) (falls : Falls) (i k : ℕ) (left : List ℕ) → left_of script falls i k ≡ Some left → falls (label_at i k) ≡ Some left
-left_fell script falls i k left e = sym (ap (λ c. if c then falls (label_at i k) else None) (left_written script falls i k left e)) ∙ e
-
 spot_written : (m : Setting) (n : ℕ) (status : ℕ → ℕ → Status) (s : Spot) → MayMove m n status s → writes_of (ops_of s) (number s) ≡ true → IsOf true s.step
 spot_written m n status s may w =
     let kind : is_write s.op ≡ true = sym (ap is_write (op_there s.front s.op s.behind)) ∙ w in

@@ -1,3 +1,4 @@
+-- One block moves on.
 use Rattle.std.proofs.Common.{◌≡◌, ◌<◌, ◌≤◌, ◌⊎◌, inl, inr, ℕ, zero, suc, ◌+◌, List, [], ◌∷◌, ◌++◌, length, get_or, Option, refl, sym, ap, subst, ◌∙◌, arith, append-nil, length-append}
 use Rattle.std.proofs.lemmas.List.{append_assoc}
 use Rattle.bio_core.specs.declared.fate.Why.{Why}
@@ -17,8 +18,6 @@ use Rattle.run_follows.specs.Gate.{MayMove, Spot, number, ops_of, parts_at, plac
 use Rattle.run_follows.specs.Slots.{Admitted, Carried, Cut, Parts, Settled, Stands, Status, Waits, before_carrying, done_by, moves_in, parts_of, so_far}
 use Rattle.run_follows.proofs.Runs.{AllQuiet, Done, Moves, Turn, midst_apart, of_block, quiet_logs, quiet_sents, sents_after, sents_before, sents_both, tells_length, turn_serial}
 use Rattle.run_follows.proofs.Standing.{BlockTurns, OpTurns, gate_clears, op_turn, parts_are, step_turn}
-
--- One block moves on.
 
 -- what is done of a run, whatever it puts on record
 
@@ -44,10 +43,6 @@ follow_quiet m n ops opening now old new es run h t q =
     follow_turn m n ops opening now old new es es run h t (λ c. ap (λ x. get_or x c []) logs ∙ h.logs c) (ap length logs) (subst (λ x. Mixed x es) same h.sent)
 
 -- a run of one block, as one of all moves
-
-none_meet_left : (xs ys run : Moves) → NoneMeet conflict (xs ++ ys) run → NoneMeet conflict xs run
-none_meet_left [] ys run h = tt
-none_meet_left (x ∷ xs) ys run h = (h.0, none_meet_left xs ys run h.1)
 
 split_blocks : (m : Setting) (from fate k : ℕ) (xs : List Step) (step : Step) (ys : List Step) (at : ℕ) → k + length xs ≡ at →
     blocks_from m from fate k (xs ++ (step ∷ ys)) ≡ blocks_from m from fate k xs ++ (by_moves m (own_at from at) (fate + at) step ∷ blocks_from m from fate (suc at) ys)

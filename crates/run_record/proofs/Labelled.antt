@@ -245,9 +245,6 @@ record Marked (i k : ℕ) (a : Answer) : Type 0 where
   number : IfSome a.of (λ b. (b.route.label.op ≡ i) × (b.route.label.k ≡ k))
   proper : IfSome a.sent (λ e. (b : Asked) × ((a.of ≡ Some b) × Owns e b))
 
-owned : (e : Sent) (b : Asked) (of : Option Asked) → of ≡ Some b → Owns e b → (b : Asked) × ((of ≡ Some b) × Owns e b)
-owned e b of h o = (b, (h, o))
-
 write_marked : (r : Route) (way : WayOut) (back : List ℕ) (log : List (List ℕ)) → Marked r.label.op r.label.k (written_by r way back log).answer
 write_marked r (Fails why) back log = record { number = (refl, refl); proper = tt }
 write_marked r (Refuses why) back log = record { number = (refl, refl); proper = (record { route = r; reader = None }, (refl, record { label = refl; dir = refl; dev = refl; lba = refl })) }

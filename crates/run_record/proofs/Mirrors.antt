@@ -1,3 +1,4 @@
+-- A block over what stands on record of it, and the same block by its reply.
 use Rattle.std.proofs.Common.{◌≡◌, ℕ, true, false, List, [], length, drop, get_or, Option, Some, None, refl, sym, ap, subst, ◌∙◌, arith}
 use Rattle.std.specs.Prelude.{Result, Ok, Err}
 use Rattle.page_pool.specs.Cells.{gather, scatter}
@@ -27,8 +28,6 @@ use Rattle.run_record.specs.TakenWalk.{carried_of, frame_in, landed_of, taken_ac
 use Rattle.run_record.specs.ToldRun.{came_by, came_in, told}
 use Rattle.run_record.proofs.Labelled.{Filed}
 
--- A block over what stands on record of it, and the same block by its reply.
-
 -- all that the sentences say of one block
 pub record Fine (m : Setting) (es : List Sent) (a : Answer) : Type 0 where
   pub delivered : OfRead (HasEntry es) a
@@ -48,9 +47,6 @@ record Mirrors (m : Setting) (es : List Sent) (one other : Effect Answer) : Type
 
 no_some : {X : Type 0} {x : X} {P : Type 0} → Some x ≡ None → P
 no_some h = absurd (grind (arith, h))
-
-no_true : {P : Type 0} → true ≡ false → P
-no_true h = absurd (grind (arith, h))
 
 no_false : {P : Type 0} → false ≡ true → P
 no_false h = absurd (grind (arith, h))

@@ -49,9 +49,6 @@ few_of_one : (size at n : ℕ) (s : Seg) → few_from size at n (s ∷ []) ≡ t
 few_of_one size at zero s = refl
 few_of_one size at (suc n) s = both (leb (length (cut (s ∷ []) at size)) 4) (few_from size (at + size) n (s ∷ [])) (is_four (length (cut (s ∷ []) at size)) (upto_few size (past at (s ∷ [])) (past_few at s))) (few_of_one size (at + size) n s)
 
-in_pages : (page : ℕ) → page < 64 → ltb page 64 ≡ true
-in_pages page h = grind (arith, nat_tests)
-
 inside_one : (page len : ℕ) → page < 64 → 1 ≤ len → len ≤ 4096 → is_inside 64 (page_start page len) ≡ true
 inside_one page len p l m = grind (arith, nat_tests)
 

@@ -79,9 +79,6 @@ decimal_digits n h =
     decimal_by_steps (λ m ds. are_digits ds ≡ true) (λ m l. one_digit m l)
     (λ m ds l r. list_all-append is_digit ds ((48 + m % 10) ∷ []) ∙ both (are_digits ds) (are_digits ((48 + m % 10) ∷ [])) r (both (is_digit (48 + m % 10)) true (last_digit m) refl)) n h
 
-filled_more : (a b : List ℕ) → is_filled a ≡ true → is_filled (a ++ b) ≡ true
-filled_more a b h = filled_first a b h
-
 pub decimal_filled : (n : ℕ) → n < 2 ^ 64 → is_filled (decimal n) ≡ true
 decimal_filled n h = decimal_by_steps (λ m ds. is_filled ds ≡ true) (λ m l. refl) (λ m ds l r. filled_first ds ((48 + m % 10) ∷ []) r) n h
 

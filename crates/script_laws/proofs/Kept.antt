@@ -18,7 +18,7 @@ use Rattle.script_text.specs.Rules.{broken_rule, is_bad_fault, is_too_many, lack
 use Rattle.script_text.specs.Trees.{entries_over}
 use Rattle.script_laws.specs.Keeping.{Each, IsChoice, IsEntry}
 use Rattle.script_laws.proofs.FormsGive.{Numbers, as_line_ok, block_gives, expect_gives, fault_gives, inner_gives, limits_gives, linear_gives, mode_gives, over_gives, pages_gives, schedule_gives, shift_gives, stripe_gives}
-use Rattle.script_laws.proofs.Held.{Goes, Held, InOrder, each_both, each_none, each_snoc, faults_more, flip_raw, length_both, number_of, op_of, ops_more, order_on, shift_raw}
+use Rattle.script_laws.proofs.Held.{Goes, Held, each_both, each_none, each_snoc, faults_more, flip_raw, length_both, number_of, op_of, ops_more, order_on, shift_raw}
 use Rattle.script_laws.proofs.Inverse.{ended_ok, ok_of}
 use Rattle.script_laws.proofs.Over.{IsInner, over_entries}
 
@@ -59,11 +59,6 @@ ok_draft a b h = cc
 
 masked : (mask : ℕ) (A : Type 0) → mask ≡ 0 → eqb mask 0 ≡ false → A
 masked mask A e h = absurd (cc (ap (λ k. eqb k 0) (sym e) ∙ h))
-
--- a draft at a place, and the next line's place
-record Comes (d : Drafted) (q : ℕ) : Type 0 where
-  order : InOrder (number_of d.place) d.mask d.entries d.faults d.ops
-  to : Goes (number_of d.place) q
 
 pub mode_kept : (n : ℕ) (words : List (List ℕ)) (d e : Drafted) → Held d → Goes (number_of d.place) 1 → (line : Line) → line_form ModeVerb d.block words ≡ Ok line → taken n line d ≡ Ok e → Held (record e { place = Some AtMode })
 unfolding taken

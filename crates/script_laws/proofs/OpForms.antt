@@ -254,17 +254,11 @@ op_back size (Flip dev lba off bytes) s h = ap as_line (overwrite_flip size dev 
 op_back size (Copy dev lba from_dev from_lba) s h = ap as_line (overwrite_copy size dev lba from_dev from_lba h.0 h.1 h.2 h.3)
 op_back size Wait s h = refl
 
-literal : (w : List ℕ) → IsWord w → IsWord w
-literal w h = h
-
 number32 : (n : ℕ) → n < 2 ^ 32 → IsWord (decimal n)
 number32 n h = decimal_word n (omega (arith, h))
 
 list_word : (segs : List Seg) → AreListed segs → IsWord (segs_text segs)
 list_word segs h = segs_word segs h.0 h.1
-
-fixed_word : (w : List ℕ) → IsWord w → (ws : List (List ℕ)) → AreWords ws → AreWords (w ∷ ws)
-fixed_word w h ws g = (h, g)
 
 app_are_words : (app : Option ℕ) → AreWords (app_words app)
 app_are_words None = tt

@@ -1,4 +1,4 @@
-use Rattle.std.proofs.Common.{ℕ, suc, ◌≡◌, ◌⊎◌, inl, inr, ◌+◌, ◌*◌, ◌^◌, ◌<◌, ◌≤◌, ◌||◌, Bool, true, false, eqb, ltb, leb, cond, All, List, [], ◌∷◌, length, map, find, Option, Some, None, Ok, refl, sym, subst, ap, ◌∙◌, arith}
+use Rattle.std.proofs.Common.{ℕ, suc, ◌≡◌, ◌+◌, ◌*◌, ◌^◌, ◌<◌, ◌≤◌, ◌||◌, Bool, true, false, eqb, ltb, leb, cond, All, List, [], ◌∷◌, length, map, find, Option, Some, None, Ok, refl, sym, subst, ap, ◌∙◌, arith}
 use Rattle.std.specs.Prelude.{if◌then◌else◌}
 use Rattle.std.specs.List.{list_any}
 use Rattle.std.proofs.lemmas.Bool.Decides.{nat_tests}
@@ -8,7 +8,7 @@ use Rattle.volume_table.specs.declared.entry.Entry.{Entry}
 use Rattle.volume_table.specs.Entries.{IsInRange}
 use Rattle.volume_table.specs.Places.{place_in, volume_len}
 use Rattle.volume_tree.specs.declared.TreeFault.{TreeFault}
-use Rattle.volume_tree.specs.declared.TreeFault.TheVariants.{BadLength, Unaligned, TooMany as TooManyEnds, Memory as NoMemory}
+use Rattle.volume_tree.specs.declared.TreeFault.TheVariants.{BadLength, Unaligned, TooMany as TooManyEnds}
 use Rattle.volume_tree.specs.Tracks.{FollowsFrom, ends, is_held, place_by, track_place}
 use Rattle.volume_tree.specs.Trees.{AreTracks, DoFit, EntriesFollow, expanded, has_bad_length, is_unaligned, leg_from, stripe_between, stripes, tree_fault, tree_place}
 use Rattle.volume_tree.proofs.Stretches.{Built, all_blocks, all_fit, all_follow, all_places, all_ranges, built}
@@ -101,13 +101,6 @@ stripes_fit start chunk x ts (y ∷ ys) s c h f a =
       (s, record { low_is = (r.0).0; high_is = (r.0).1 }, c, record { each = legs_fit x ts h; count = record { low_is = r.2; high_is = r.3 } }),
       stripes_fit start chunk y ts ys f.1 c h f.2 (All-tail IsInRange (stripe_between start chunk ts x y) (stripes start chunk ts y ys) a),
     )
-
-no_kind : (f : Option TreeFault) → as_kind f ≡ None → (f ≡ None) ⊎ (f ≡ Some NoMemory)
-no_kind None h = inl refl
-no_kind (Some BadLength) h = absurd (cc)
-no_kind (Some Unaligned) h = absurd (cc)
-no_kind (Some TooManyEnds) h = absurd (cc)
-no_kind (Some NoMemory) h = inr refl
 
 tree_by : (a b c : Bool) → (f : Option TreeFault) → f ≡ (if a then Some BadLength else (if b then Some Unaligned else (if c then Some TooManyEnds else None))) → as_kind f ≡ None → (a ≡ false) × (b ≡ false)
 tree_by true b c f e h = absurd (cc (ap as_kind (sym e) ∙ h))

@@ -46,13 +46,7 @@ word32 n h = decimal_word n (omega (arith, h))
 within_word : (low high n : ℕ) → high < 2 ^ 64 → IsWithin low high n → IsWord (decimal n)
 within_word low high n s h = let m = h.high_is in decimal_word n (omega (arith, m, s))
 
-fixed_word : (w : List ℕ) → IsWord w → IsWord w
-fixed_word w h = h
-
 -- entries
-
-record IsAt (d : Drafted) (place : Place) : Type 0 where
-  place_is : d.place ≡ Some place
 
 legs_words : (legs : List Leg) → Each IsLeg legs → AreWords (leg_words legs)
 legs_words [] h = tt

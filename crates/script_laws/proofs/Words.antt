@@ -1,4 +1,4 @@
-use Rattle.std.proofs.Common.{ℕ, ℤ, pos, negsuc, zero, suc, ◌≡◌, ◌+◌, ◌-◌, ◌*◌, ◌/◌, ◌%◌, ◌^◌, ◌<◌, ◌≤◌, ◌&&◌, Bool, true, false, not, eqb, ltb, leb, List, [], ◌∷◌, ◌++◌, length, Some, None, refl, sym, ap, ◌∙◌, arith, lt-ltb, subst}
+use Rattle.std.proofs.Common.{ℕ, pos, negsuc, zero, suc, ◌≡◌, ◌+◌, ◌-◌, ◌*◌, ◌/◌, ◌%◌, ◌^◌, ◌<◌, ◌≤◌, ◌&&◌, Bool, true, false, not, eqb, ltb, leb, List, [], ◌∷◌, ◌++◌, length, Some, None, refl, ap, ◌∙◌, arith, lt-ltb}
 use Rattle.std.specs.Prelude.{decimal, if◌then◌else◌, slice_index}
 use Rattle.std.specs.Fmt.{signed_decimal}
 use Rattle.std.specs.Int.{to_be_bytes, w16, w32, w8}
@@ -13,7 +13,7 @@ use Rattle.dix_words.specs.Numbers.{is_digit, is_number, number_in, value_from}
 use Rattle.script_words.specs.Hexes.{byte_in, bytes_by, hex_in, long_tag_in, tag_in, value_of}
 use Rattle.script_words.specs.Numbers.{as_negative, as_positive, in_range, number_within, signed_within}
 use Rattle.script_laws.specs.Clean.{IsWord, avoids, clean, is_filled, is_visible}
-use Rattle.script_laws.proofs.Clean.{are_digits, both, decimal_digits, decimal_filled, decimal_word, digits_avoid, digits_clean, left_of, right_of}
+use Rattle.script_laws.proofs.Clean.{are_digits, both, decimal_digits, decimal_filled, digits_avoid, digits_clean, left_of, right_of}
 
 -- what a printed number is read as
 
@@ -189,9 +189,6 @@ long_tag_word n = hex_word (to_be_bytes w32 n) (four_bytes n) (omega arith)
 
 pub byte_word : (b : ℕ) → b < 256 → IsWord (encode_lower (b ∷ []))
 byte_word b h = hex_word (b ∷ []) (one_byte b h) (omega arith)
-
-pub signed_word : (z : ℤ) → (m : ℕ) → (z ≡ pos m) × (m < 2 ^ 64) → IsWord (signed_decimal z)
-signed_word z m h = subst (λ x. IsWord (signed_decimal x)) (sym h.0) (decimal_word m h.1)
 
 pub minus_word : (n : ℕ) → suc n < 2 ^ 64 → IsWord (signed_decimal (negsuc n))
 minus_word n h = record { clean_is = digits_clean (decimal (suc n)) (decimal_digits (suc n) h); filled_is = refl }

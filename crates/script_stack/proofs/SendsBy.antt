@@ -20,7 +20,7 @@ use Rattle.stack_view.specs.Runs.{Entry, Sent, blocks_of_requests, sends_of}
 use Rattle.stack_view.specs.Steps.{enabled}
 use Rattle.stack_view.specs.View.{View, start}
 use Rattle.stack_view.proofs.Runs.{calm-sends}
-use Rattle.stack_steps.specs.Does.{Holds, Works}
+use Rattle.stack_steps.specs.Does.{Holds}
 use Rattle.volume_table.specs.Tables.{Table}
 use Rattle.script_text.specs.declared.script.Script.{Script}
 use Rattle.stack_core.specs.declared.sheet.Sheet.{Sheet}
@@ -29,7 +29,7 @@ use Rattle.stack_core.specs.OnRecord.{AreRecords, HasQueues, HasSent, IsFormed, 
 use Rattle.stack_walks.specs.Requests.{requests_from}
 use Rattle.stack_walks.specs.Sheets.{plan_of}
 use Rattle.stack_walks.specs.Shifts.{shifted_by}
-use Rattle.stack_core.specs.Stacks.{HasStep, IsStack, Stays, plan_in}
+use Rattle.stack_core.specs.Stacks.{IsStack, Stays, plan_in}
 use Rattle.stack_core.specs.Walking.{Walks}
 use Rattle.script_stack.specs.Sends.{IsPlanFor, SendsBy, SendsFor, entries_of}
 
@@ -71,13 +71,6 @@ entry_behind es n h = get_or_past es n (record { word = 0; cut = 0 }) h
 pub entries_long : (ws : List (ℕ × ℕ)) → length (entries_of ws) ≡ length ws
 entries_long [] = refl
 entries_long (w ∷ ws) = ap suc (entries_long ws)
-
--- where all has ended there is no step
-pub no_step : (s : Stack) → Works (plan_in s.sheet) s.machine → ((v : View) → Holds (plan_in s.sheet) s.machine v → enabled (plan_in s.sheet) v ≡ []) → HasStep (plan_in s.sheet) s.machine → ⊥
-no_step s w none h =
-    let l = h w.0 w.1 in
-    let e = ap length (none w.0 w.1) in
-    absurd (omega arith)
 
 -- ---- the whole run
 

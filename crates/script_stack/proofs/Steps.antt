@@ -1,5 +1,5 @@
 -- How many steps a stack takes.
-use Rattle.std.proofs.Common.{◌≡◌, ◌<◌, ◌≤◌, ℕ, suc, ◌+◌, List, [], ◌∷◌, length, refl, ◌∙◌, arith}
+use Rattle.std.proofs.Common.{◌≡◌, ◌<◌, ◌≤◌, ℕ, suc, ◌+◌, List, [], ◌∷◌, length, refl, arith}
 use Rattle.rig_api.specs.Log.{HasRoom, Room}
 use Rattle.stack_view.specs.Plan.{Plan}
 use Rattle.stack_view.specs.Room.{exchanges_left, frames_left}
@@ -13,7 +13,7 @@ use Rattle.stack_view.proofs.Capacity.{few-unsettled}
 use Rattle.stack_view.proofs.Room.{accounted-start}
 use Rattle.stack_view.proofs.Starts.{starts}
 use Rattle.stack_core.specs.declared.stack.Stack.{Stack}
-use Rattle.stack_core.specs.Stacks.{HasSpare, HasStep, Stays, Steps, plan_in}
+use Rattle.stack_core.specs.Stacks.{HasSpare, HasStep, Steps, plan_in}
 use Rattle.stack_walks.proofs.Spare.{fewer}
 
 -- a step is one more, and there are at most so many
@@ -52,6 +52,3 @@ first-spare s st room h r =
     let n = blocks_of_requests p.requests in
     let k = first-left p in
     record { view = start p; holds = h; spare = fewer (greatest_size st) n n (exchanges_left (start p)) (frames_left p (start p)) room r k.0 k.1 }
-
-pub stays-more : (a b c : Stack) → Stays a b → Stays b c → Stays a c
-stays-more a b c x y = record { sheet = y.sheet ∙ x.sheet; adapter = y.adapter ∙ x.adapter; host = y.host ∙ x.host }

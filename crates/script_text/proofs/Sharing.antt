@@ -107,9 +107,6 @@ next_share s t ts r h =
     let none = or_none (list_any (shares s) (t ∷ ts)) (skip_left s [] t ts (r.0, tt, tt) r.2 h r.1) in
     ap (λ b. b || any_share (t ∷ ts)) none
 
-pub here_share : (s t : Seg) (ts : List Seg) → shares s t ≡ true → any_share (s ∷ t ∷ ts) ≡ true
-here_share s t ts h = ap (λ b. (b || list_any (shares s) ts) || any_share (t ∷ ts)) h
-
 pub rises_on : (s : Seg) (ts : List Seg) → Rises (s ∷ ts) → Rises ts
 rises_on s ts r = r.2
 

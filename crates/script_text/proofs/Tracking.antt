@@ -1,4 +1,4 @@
-use Rattle.std.proofs.Common.{ℕ, zero, suc, ◌≡◌, ◌≢◌, ◌+◌, ◌^◌, ◌<◌, ◌≤◌, ◌||◌, ◌&&◌, Bool, true, false, eqb, leb, cond, List, [], ◌∷◌, ◌++◌, length, get_or, drop, drop-cons, refl, sym, ap, subst, ◌∙◌, arith, add-one, append_assoc}
+use Rattle.std.proofs.Common.{ℕ, zero, suc, ◌≡◌, ◌+◌, ◌^◌, ◌<◌, ◌≤◌, ◌||◌, ◌&&◌, Bool, true, false, eqb, leb, cond, List, [], ◌∷◌, ◌++◌, length, get_or, drop, drop-cons, refl, sym, ap, subst, ◌∙◌, arith, add-one, append_assoc}
 use Rattle.std.specs.List.{list_any}
 use Rattle.std.proofs.Common.{Result, Ok, Err, OnOk, OnErr}
 use Rattle.script_lines.specs.declared.kind.ScriptKind.{ScriptKind}
@@ -16,31 +16,17 @@ use Rattle.script_text.specs.Trees.{are_lengths, is_bad_volume, is_length, is_pa
 abbrev extent : ℕ → Inner → Linear
 extent start i = record { start = start; len = i.len; dev = i.dev; at = i.at }
 
-is_not : (a b : ℕ) → a ≢ b → eqb a b ≡ false
-is_not a b h = grind (arith, nat_tests)
-
 is_same : (a b : ℕ) → a ≡ b → eqb a b ≡ true
 is_same a b h = grind (arith, nat_tests)
 
 small : (n : ℕ) → n < 2 ^ 64 → leb (2 ^ 64) n ≡ false
 small n h = grind (arith, nat_tests)
 
-large : (n : ℕ) → 2 ^ 64 ≤ n → leb (2 ^ 64) n ≡ true
-large n h = grind (arith, nat_tests)
-
 next_track : (start volume k : ℕ) (inner : List Inner) (d : Inner) → k < length inner → track_from start volume (drop k inner) ≡ track_from start volume (get_or inner k d ∷ drop (k + 1) inner)
 next_track start volume k inner d h = ap (track_from start volume) (drop-cons inner k d h ∙ ap (λ n. get_or inner k d ∷ drop n inner) (sym (add-one k)))
 
 next_past : (volume k : ℕ) (inner : List Inner) (d : Inner) → k < length inner → list_any (is_past volume) (drop k inner) ≡ is_past volume (get_or inner k d) || list_any (is_past volume) (drop (k + 1) inner)
 next_past volume k inner d h = ap (list_any (is_past volume)) (drop-cons inner k d h ∙ ap (λ n. get_or inner k d ∷ drop n inner) (sym (add-one k)))
-
-pub skip_track : (start volume k : ℕ) (inner : List Inner) (d : Inner) → k < length inner → (get_or inner k d).volume ≢ volume → track_from start volume (drop k inner) ≡ track_from start volume (drop (k + 1) inner)
-skip_track start volume k inner d h n =
-    next_track start volume k inner d h ∙ ap (λ b. cond b (extent start (get_or inner k d) ∷ track_from (start + (get_or inner k d).len) volume (drop (k + 1) inner)) (track_from start volume (drop (k + 1) inner))) (is_not (get_or inner k d).volume volume n)
-
-pub skip_past : (volume k : ℕ) (inner : List Inner) (d : Inner) → k < length inner → (get_or inner k d).volume ≢ volume → list_any (is_past volume) (drop k inner) ≡ list_any (is_past volume) (drop (k + 1) inner)
-skip_past volume k inner d h n =
-    next_past volume k inner d h ∙ ap (λ b. b && leb (2 ^ 64) ((get_or inner k d).at + (get_or inner k d).len) || list_any (is_past volume) (drop (k + 1) inner)) (is_not (get_or inner k d).volume volume n)
 
 pub take_track : (start volume k : ℕ) (inner : List Inner) (d : Inner) → k < length inner → (get_or inner k d).volume ≡ volume → track_from start volume (drop k inner) ≡ extent start (get_or inner k d) ∷ track_from (start + (get_or inner k d).len) volume (drop (k + 1) inner)
 take_track start volume k inner d h n =
@@ -52,9 +38,6 @@ past_by volume k inner d b h n e =
 
 pub take_past : (volume k : ℕ) (inner : List Inner) (d : Inner) → k < length inner → (get_or inner k d).volume ≡ volume → (get_or inner k d).at + (get_or inner k d).len < 2 ^ 64 → list_any (is_past volume) (drop k inner) ≡ list_any (is_past volume) (drop (k + 1) inner)
 take_past volume k inner d h n f = past_by volume k inner d false h n (small ((get_or inner k d).at + (get_or inner k d).len) f)
-
-pub found_past : (volume k : ℕ) (inner : List Inner) (d : Inner) → k < length inner → (get_or inner k d).volume ≡ volume → 2 ^ 64 ≤ (get_or inner k d).at + (get_or inner k d).len → list_any (is_past volume) (drop k inner) ≡ true
-found_past volume k inner d h n f = past_by volume k inner d true h n (large ((get_or inner k d).at + (get_or inner k d).len) f)
 
 and_first : (a b : Bool) → a && b ≡ true → a ≡ true
 and_first true b h = refl

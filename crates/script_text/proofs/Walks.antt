@@ -41,11 +41,6 @@ next_few size at n segs h =
     let t : leb (length (upto size (past at segs))) 4 ≡ true = grind (arith, nat_tests) in
     ap (λ b. b && few_from size (at + size) n segs) t
 
-pub too_many : (size at n : ℕ) (segs : List Seg) → 4 < length (upto size (past at segs)) → few_from size at (suc n) segs ≡ false
-too_many size at n segs h =
-    let t : leb (length (upto size (past at segs))) 4 ≡ false = grind (arith, nat_tests) in
-    ap (λ b. b && few_from size (at + size) n segs) t
-
 -- one block further along a list
 pub next_block : (size k n count : ℕ) (walk segs : List Seg) (all : Bool) → k < n → walk ≡ past (k * size) segs → few_from size (k * size) (n - k) segs ≡ all → count ≡ length (upto size walk) → count ≤ 4 → few_from size ((k + 1) * size) (n - (k + 1)) segs ≡ all
 next_block size k n count walk segs all lt w f e few =

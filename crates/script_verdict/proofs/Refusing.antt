@@ -11,7 +11,7 @@ use Rattle.script_text.specs.declared.script.Script.{Script}
 use Rattle.volume_table.specs.declared.device.DeviceInfo.{DeviceInfo}
 use Rattle.source_text.specs.Reading.{IsWhole, TookAtMost, most_bytes}
 use Rattle.script_verdict.specs.Verdict.{CauseRefused, CauseStopped, CauseUntaken, Facts, HasRead, HasRun, HasRunSource, WasAsked}
-use Rattle.script_verdict.specs.Working.{CauseNoTable, CauseUnbound, CauseUnread, refusal_of}
+use Rattle.script_verdict.specs.Working.{CauseUnbound, CauseUnread, refusal_of}
 use Rattle.script_verdict.specs.declared.verdict.Finished.{Finished}
 use Rattle.script_verdict.specs.declared.refusal.Refusal.{Refusal}
 use Rattle.script_verdict.specs.declared.refusal.Refusal.TheVariants as refusal
@@ -44,16 +44,6 @@ untold (fault.Image x) script name old new c = c
 untold (fault.BadCapacity dev) script name old new c = c
 untold fault.RigFault script name old new c = c
 untold fault.Memory script name old new c = inl c
-
--- there is no table of its volume
-pub no_table : (r : Refusal) (script : Script) (devices : List DeviceInfo) → CauseNoTable r script devices → CauseUnbound r script devices
-no_table (refusal.Script bad) script devices c = absurd c
-no_table (refusal.Image x) script devices c = absurd c
-no_table (refusal.BadCapacity dev) script devices c = absurd c
-no_table (refusal.Volume entry kind) script devices c = c
-no_table refusal.RigFault script devices c = absurd c
-no_table refusal.Memory script devices c = tt
-no_table refusal.ReadFault script devices c = absurd c
 
 -- there is no table over which the script may run
 pub unbound : (r : Refusal) (script : Script) (name : List ℕ) (devices : List DeviceInfo) (old new : View) → WasAsked name devices old new → CauseUnbound r script devices → CauseStopped r script name old new

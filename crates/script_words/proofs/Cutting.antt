@@ -1,7 +1,6 @@
-use Rattle.std.proofs.Common.{ℕ, zero, suc, ◌≡◌, ◌+◌, ◌<◌, ◌≤◌, Bool, true, false, eqb, ltb, not, cond, List, [], ◌∷◌, ◌++◌, length, take, drop, Option, Some, None, refl, sym, ap, ◌∙◌, arith, append_assoc, append-nil}
-use Rattle.std.specs.List.{position, position_or_len}
+use Rattle.std.proofs.Common.{ℕ, suc, ◌≡◌, ◌+◌, Bool, true, false, eqb, ltb, not, cond, List, [], ◌∷◌, ◌++◌, length, take, drop, Option, Some, None, refl, sym, ap, ◌∙◌, arith, append_assoc}
+use Rattle.std.specs.List.{position_or_len}
 use Rattle.std.proofs.lemmas.Bool.Decides.{nat_tests}
-use Rattle.std.proofs.lemmas.List.{length-drop}
 use Rattle.page_pool.specs.declared.segs.Seg.{Seg}
 use Rattle.script_words.specs.Cuts.{Cut, cut, cut_by, ended, filled, in_front, is_byte, lines_of, parts, words_of}
 use Rattle.script_words.specs.Places.{seg_in, segs_of, with_seg}
@@ -80,10 +79,6 @@ pub line_last : (text : List ℕ) → cut 10 text ≡ None → (length text ≡ 
 line_last [] h n = absurd (n refl)
 line_last (b ∷ bs) h n = ap ended (parts_whole 10 (b ∷ bs) h)
 
-pub word_skip : (text before after : List ℕ) → cut 32 text ≡ Some (record { before = before; after = after }) → length before ≡ 0 → words_of text ≡ words_of after
-word_skip text [] after h z = ap filled (parts_cut 32 text [] after h)
-word_skip text (b ∷ before) after h z = absurd (omega arith)
-
 pub word_cut : (text before after : List ℕ) → cut 32 text ≡ Some (record { before = before; after = after }) → (length before ≡ 0 → ⊥) → words_of text ≡ before ∷ words_of after
 word_cut text [] after h n = absurd (n refl)
 word_cut text (b ∷ before) after h n = ap filled (parts_cut 32 text (b ∷ before) after h)
@@ -91,29 +86,6 @@ word_cut text (b ∷ before) after h n = ap filled (parts_cut 32 text (b ∷ bef
 pub word_last : (text : List ℕ) → cut 32 text ≡ None → (length text ≡ 0 → ⊥) → words_of text ≡ text ∷ []
 word_last [] h n = absurd (n refl)
 word_last (b ∷ bs) h n = ap filled (parts_whole 32 (b ∷ bs) h)
-
-pub no_word : (text : List ℕ) → length text ≡ 0 → words_of text ≡ []
-no_word [] h = refl
-no_word (b ∷ bs) h = absurd (omega arith)
-
-abbrev behind : Option Cut → List ℕ
-behind None = []
-behind (Some c) = c.after
-
-cut_shorter : (text : List ℕ) (p : Option ℕ) (before after : List ℕ) → cut_by text p ≡ Some (record { before = before; after = after }) → (b : Bool) (n : ℕ) → p ≡ cond b (Some n) None → (b ≡ true → n < length text) → length after < length text
-cut_shorter text None before after e b n f h = absurd (cc)
-cut_shorter text (Some i) before after e false n f h = absurd (cc)
-cut_shorter text (Some i) before after e true n f h =
-    let same : i ≡ n = cc in
-    let k : n < length text = h refl in
-    let a : after ≡ drop (i + 1) text = sym (ap behind e) in
-    let l = length-drop (i + 1) text in
-    rw a (omega (arith, l, same, k))
-
--- what stands behind a cut is shorter
-pub shorter : (mark : ℕ) (text before after : List ℕ) → cut mark text ≡ Some (record { before = before; after = after }) → length after < length text
-shorter mark text before after e =
-    cut_shorter text (position (is_byte mark) text) before after e (ltb (position_or_len (is_byte mark) text) (length text)) (position_or_len (is_byte mark) text) refl (λ h. grind (arith, nat_tests))
 
 -- the segments so far, with those that follow
 abbrev pub joined : List Seg → Option (List Seg) → Option (List Seg)
@@ -123,10 +95,6 @@ joined segs (Some more) = Some (segs ++ more)
 pub joined_more : (segs : List Seg) (s : Seg) (more : Option (List Seg)) → joined segs (with_seg (Some s) more) ≡ joined (segs ++ (s ∷ [])) more
 joined_more segs s None = refl
 joined_more segs s (Some more) = ap Some (sym (append_assoc segs (s ∷ []) more))
-
-pub joined_none : (more : Option (List Seg)) → joined [] more ≡ more
-joined_none None = refl
-joined_none (Some more) = refl
 
 -- the next segment of a list
 pub next_seg : (done : List Seg) (rest before after : List ℕ) (s : Seg) (all : Option (List Seg)) → joined done (segs_of (parts 44 rest)) ≡ all → cut 44 rest ≡ Some (record { before = before; after = after }) → Some s ≡ seg_in before → joined (done ++ (s ∷ [])) (segs_of (parts 44 after)) ≡ all

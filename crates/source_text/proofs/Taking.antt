@@ -1,6 +1,6 @@
 use Rattle.std.proofs.Common.{ℕ, ◌≡◌, ◌+◌, ◌≤◌, List, [], ◌++◌, length, take, Option, Some, None, refl, sym, ap, ◌∙◌, arith, append_assoc, append-nil, length-append}
 use Rattle.std.proofs.lemmas.List.{length-take}
-use Rattle.dix_base.specs.Told.{IsAtEnd, Took}
+use Rattle.dix_base.specs.Told.{Took}
 use Rattle.source_text.specs.Reading.{IsWhole, TookAtMost, most_bytes}
 
 -- What was taken from a source, piece by piece.
@@ -20,16 +20,6 @@ took_more all xs None None (Some c) p q = q
 took_more all xs None (Some b) c p q = absurd p
 took_more all xs (Some a) None c p q = absurd p
 took_more all xs (Some a) (Some b) None p q = q
-
--- a source of which nothing was taken, at its end, is at its end afterwards
-still_at_end : (b c : Option (List ℕ)) → Took [] b c → IsAtEnd b → IsAtEnd c
-still_at_end None None p e = tt
-still_at_end (Some b) (Some c) p e = sym p ∙ e
-still_at_end None (Some c) p e = absurd p
-still_at_end (Some b) None p e = tt
-
-pub whole : (all : List ℕ) (a b c : Option (List ℕ)) → Took all a b → Took [] b c → IsAtEnd b → length all ≤ most_bytes → IsWhole all a c
-whole all a b c p q e l = let t = took_more all [] a b c p q in (rw append-nil at t, still_at_end b c q e, l)
 
 -- what a told source held is what was read
 read_is : (text held : List ℕ) (new : Option (List ℕ)) → IsWhole text (Some held) new → text ≡ held

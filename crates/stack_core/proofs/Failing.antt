@@ -1,9 +1,8 @@
 -- Which replies say that an overwrite failed.
-use Rattle.std.proofs.Common.{◌≡◌, inl, inr, ◌<◌, ◌≤◌, ℕ, false, List, [], ◌∷◌, length, get_or, set, refl, ap, ◌∙◌, arith, ⊎_elim}
+use Rattle.std.proofs.Common.{◌≡◌, ◌<◌, ◌≤◌, ℕ, false, List, [], ◌∷◌, length, get_or, set, refl, ap, ◌∙◌, arith, ⊎_elim}
 use Rattle.std.proofs.lemmas.Bool.{cases_eq, cases_lt}
 use Rattle.std.proofs.lemmas.List.{get_or-set_other, get_or-set_same, get_or_past, length-set}
 use Rattle.bio_core.specs.declared.fate.Fate.{Fate}
-use Rattle.dix_base.specs.Told.{Calm, Rose}
 use Rattle.stack_ops.specs.declared.reply.BadBlock.{BadBlock}
 use Rattle.stack_ops.specs.declared.reply.Reply.{Reply}
 use Rattle.stack_ops.specs.declared.reply.Reply.TheVariants.{Silent}
@@ -11,10 +10,6 @@ use Rattle.stack_core.specs.declared.kept.Room.{Room}
 use Rattle.stack_core.specs.declared.kept.Room.TheVariants.{Blocks, Bytes, Nothing, Tuples}
 use Rattle.stack_core.specs.Replies.{bad_from, reply_of, shown, whole_or}
 use Rattle.stack_core.specs.Walking.{NoneFailed, is_medium}
-
-pub calm-rose : (old new : ℕ) → Calm old new → Rose old new → ⊥
-calm-rose old new c (inl l) = let a = c.0 in absurd (omega arith)
-calm-rose old new c (inr e) = let a = c.1 in absurd (omega arith)
 
 -- one more reply, which isn't that
 pub one-more : (replies : List Reply) (i : ℕ) (reply : Reply) → is_medium reply ≡ false → NoneFailed replies → NoneFailed (set replies i reply)

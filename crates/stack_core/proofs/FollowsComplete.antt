@@ -97,9 +97,6 @@ of_on m ops ios starts status b next [] fs e h = tt
 of_on m ops ios starts status b next (c ∷ bs) [] e h = tt
 of_on m ops ios starts status b next (c ∷ bs) (f ∷ fs) e h = (h.0, ((λ t. with_other b.op b.k c.op c.k next status e.0 ∙ h.1.0 t), (h.1.1.0, (h.1.1.1.0, of_on m ops ios starts status b next bs fs e.1 h.1.1.1.1))))
 
-carried_not_over : (s : Status) (w : Option Why) → s ≡ Carried w → is_over s ≡ false
-carried_not_over s w e = ap is_over e
-
 stands_on : (m : Setting) (n logs : ℕ) (p : Plan) (ops : List Op) (ios : List Io) (old new : List (List ℕ)) → length new ≡ length old → Stands m n logs p ops ios old → Stands m n logs p ops ios new
 stands_on m n logs p ops ios old new e g = record { ground = g.ground; plan = g.plan; pages = g.pages; bytes = g.bytes; requests = g.requests; size = g.size; host = g.host; whole = all_stay old new ios e g.whole }
 
@@ -120,16 +117,6 @@ module _ (course : Course) (m : Setting) (n : ℕ) (opening : State) (es : List 
       by Good s = ap (λ l. get_or l x Untouched) s.held ∙ get_or-set_other old.held (at starts b) x s.result Untouched (λ (e : x ≡ at starts b). a.0 (sym e))
       by (Bad why) s = ap (λ l. get_or l x Untouched) s.held ∙ get_or-set_other old.held (at starts b) x s.result Untouched (λ (e : x ≡ at starts b). a.0 (sym e))
       by Untouched s = ap (λ (k : Kept). get_or k.held x Untouched) s
-
-  each_long : (bs : List Block) (fs : List Fate) (old new : Kept) → Each m.mode (host_type m.ty) ios starts bs fs old new → length new.held ≡ length old.held
-  each_long [] fs old new h = ap (λ (k : Kept). length k.held) h
-  each_long (b ∷ bs) [] old new h = absurd h
-  each_long (b ∷ bs) (f ∷ fs) old new h = each_long bs fs h.0 new h.1.1 ∙ by f h.1.0
-    where
-      by : (f : Fate) → OneSettled m.mode (host_type m.ty) (io_at ios (b.op - 1)) (get_or starts (b.op - 1) 0) b.k b.lba f old h.0 → length (h.0).held ≡ length old.held
-      by Good s = ap length s.held ∙ length-set old.held (at starts b) s.result
-      by (Bad why) s = ap length s.held ∙ length-set old.held (at starts b) s.result
-      by Untouched s = ap (λ (k : Kept). length k.held) s
 
   pub each_whole : (bs : List Block) (fs : List Fate) (old new : Kept) → Each m.mode (host_type m.ty) ios starts bs fs old new → AreWhole old.pages → AreWhole new.pages
   each_whole [] fs old new h w = subst (λ (k : Kept). AreWhole k.pages) (sym h) w

@@ -172,12 +172,6 @@ module _ (flips : Flips) (over : Setting) (n : ℕ) (opening : State) (es : List
 
 -- ---- nor does an overwrite flip its block
 
-no_flip_at : (flips : Flips) (i : ℕ) → is_some (flips i) ≡ false → flips i ≡ None
-no_flip_at flips i e = by (flips i) e where
-  by : (o : Option (List ℕ)) → is_some o ≡ false → o ≡ None
-  by None e = refl
-  by (Some mask) e = absurd (false≢true (sym e))
-
 as_is : (flips : Flips) (i k : ℕ) (ops : List Op) → ((j : ℕ) → j < length ops → is_overwrite (get_or ops j Wait) ≡ true → is_some (flips (i + j)) ≡ false) → k ≡ i → with_flips flips i ops ≡ ops
 as_is flips i k [] h e = refl
 as_is flips i k (op ∷ ops) h e =

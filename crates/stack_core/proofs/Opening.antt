@@ -106,10 +106,6 @@ sheet-is table dix protect limits pages pool ops shifted devices c eight on =
       tuples = all-tuples table dix protect limits pages pool ops c;
     }
 
--- the volume lies on few devices
-pub on-few : (table : Table) (dix : Bool) (protect : ℕ) (limits : Limits) (pages : ℕ) (pool : List (List ℕ)) (ops : List Op) → CanStart table dix protect limits pages pool ops → (v : ℕ) → v < volume_len table.entries → (place_in table.entries v).0 < 8
-on-few table dix protect limits pages pool ops c = λ v h. (let k = (c.made.inside v h).known in let l = c.few_devices in omega arith)
-
 -- ---- what the calls of `new` ask
 
 own-some : (op : Op) (page : Option ℕ) → own_blocks op ≤ (request_of op page).count

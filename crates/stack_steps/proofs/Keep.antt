@@ -208,14 +208,6 @@ keeps-all p gate gate' ops ops' live live' qs qs' flight flight' steps steps' he
       windowed = windowed-keeps p v t cut fates s.windowed h;
     }
 
-pub steps-fit : (p : Plan) (gate : Gated) (ops : List OpState) (live : List ℕ) (qs : List Queued) (flight : Flights) (steps : ℕ) (v : View) → Fine p → Shows p gate ops live qs flight steps v.queues v → steps + 1 < 2 ^ 64
-steps-fit p gate ops live qs flight steps v f s =
-    let c = s.counted.steps in
-    let a = f.few_ops in
-    let b = f.few_blocks in
-    let t = s.taken in
-    omega arith
-
 pub state-is : (p : Plan) (gate : Gated) (ops : List OpState) (live : List ℕ) (qs : List Queued) (flight : Flights) (steps : ℕ) (v : View) (i : ℕ) → Shows p gate ops live qs flight steps v.queues v → get_or ops i no_state ≡ state_of (op_at v i)
 state-is p gate ops live qs flight steps v i s = ap (λ z. get_or z i no_state) s.states ∙ state-there v i
 
@@ -552,26 +544,6 @@ shows-send p gate ops live qs flight flight' steps steps' v d i cut group fates 
     e₅ refl r
 
 -- ---- cutting
-
-pub record Cutting (p : Plan) (gate : Gated) (ops : List OpState) (live : List ℕ) (qs : List Queued) (q k : ℕ) : Type 0 where
-  pub listed : Listed p gate ops live q
-  pub more : k < (request_at p (get_or live q 0)).count
-  pub number : get_or live q 0 + 1 < 2 ^ 32
-
-pub cutting : (p : Plan) (gate : Gated) (ops : List OpState) (live : List ℕ) (qs : List Queued) (flight : Flights) (steps : ℕ) (v : View) (q k : ℕ) (t : Step) → Fine p → Shows p gate ops live qs flight steps v.queues v → can p v t ≡ true →
-    (q < length (live_ops v)) × (t ≡ Cut (get_or (live_ops v) q 0)) → k ≡ (get_or ops (get_or live q 0) no_state).cut → Cutting p gate ops live qs q k
-cutting p gate ops live qs flight steps v q k t f s h m e =
-    let hh : can p v (Cut (get_or (live_ops v) q 0)) ≡ true = ap (can p v) (sym m.1) ∙ h in
-    let b = and_parts (is_admitted (op_at v (get_or (live_ops v) q 0)).phase) _ hh in
-    let c = ltb-true (op_at v (get_or (live_ops v) q 0)).cut (request_at p (get_or (live_ops v) q 0)).count b.1 in
-    let g : get_or live q 0 ≡ get_or (live_ops v) q 0 = ap (λ z. get_or z q 0) s.listed in
-    let x = ap (λ (z : OpState). z.cut) (state-is p gate ops live qs flight steps v (get_or live q 0) s) in
-    let y = ap (λ i. (op_at v i).cut) g in
-    let z = ap (λ i. (request_at p i).count) g in
-    let l = listed-there p gate ops live qs flight steps v q f s m.0 in
-    let r = l.request in
-    let w = f.few_ops in
-    record { listed = l; more = omega arith; number = omega arith }
 
 -- where a piece goes
 pub record Piece (p : Plan) (ops : List OpState) (qs : List Queued) (i : ℕ) (b : Bio) : Type 0 where

@@ -1,29 +1,10 @@
 -- Counting and finding what may be done.
-use Rattle.std.proofs.Common.{◌≡◌, ◌<◌, ◌≤◌, ℕ, zero, suc, ◌+◌, ◌-◌, true, false, not, List, [], ◌∷◌, ◌++◌, length, map, take, drop, get_or, refl, sym, ap, ◌∙◌, arith, drop-cons, length-append}
-use Rattle.std.proofs.lemmas.Bool.{and_parts, and_from, and_right}
+use Rattle.std.proofs.Common.{◌≡◌, ◌<◌, ◌≤◌, ℕ, zero, suc, ◌+◌, ◌-◌, List, ◌++◌, length, map, drop, get_or, refl, sym, ap, ◌∙◌, arith, drop-cons, length-append}
 use Rattle.std.proofs.lemmas.List.{length-map, get_or-map, get_or_append_left, get_or-append_right}
-use Rattle.stack_view.specs.Plan.{Plan}
 use Rattle.merge_queue.specs.Groups.{numbers}
 use Rattle.merge_queue.specs.Index.{Queued}
-use Rattle.range_gate.specs.Gates.{none_conflicts}
 use Rattle.stack_steps.specs.declared.choice.Choice.TheVariants.{Send}
 use Rattle.stack_steps.specs.Choices.{no_choice, sends_at}
-
-pub none-more : (p : Plan) (i : ℕ) (xs : List ℕ) (k d : ℕ) → k < length xs → none_conflicts p.conflicts i (take k xs) ≡ true → p.conflicts (get_or xs k d) i ≡ false →
-    none_conflicts p.conflicts i (take (k + 1) xs) ≡ true
-none-more p i [] k d h n e = absurd (omega arith)
-none-more p i (x ∷ xs) zero d h n e = rw e refl
-none-more p i (x ∷ xs) (suc k) d h n e =
-    let a : suc k + 1 ≡ suc (k + 1) = omega arith in
-    let b = and_parts (not (p.conflicts x i)) (none_conflicts p.conflicts i (take k xs)) n in
-    rw a (and_from (not (p.conflicts x i)) (none_conflicts p.conflicts i (take (k + 1) xs)) b.0 (none-more p i xs k d (omega arith) b.1 e))
-
-pub one-conflicts : (p : Plan) (i : ℕ) (xs : List ℕ) (k at d : ℕ) → k < length xs → k < at → p.conflicts (get_or xs k d) i ≡ true →
-    none_conflicts p.conflicts i (take at xs) ≡ false
-one-conflicts p i [] k at d h l e = absurd (omega arith)
-one-conflicts p i (x ∷ xs) k zero d h l e = absurd (omega arith)
-one-conflicts p i (x ∷ xs) zero (suc at) d h l e = rw e refl
-one-conflicts p i (x ∷ xs) (suc k) (suc at) d h l e = and_right (not (p.conflicts x i)) (none_conflicts p.conflicts i (take at xs)) (one-conflicts p i xs k at d (omega arith) (omega arith) e)
 
 pub length-numbers : (k n : ℕ) → length (numbers k n) ≡ n
 length-numbers k zero = refl

@@ -129,9 +129,6 @@ no-group p v d i s a h =
     let m = b.1 in
     omega arith
 
-command_times : ℕ → ℕ → Command → ℕ
-command_times i k c = if c.completed then 0 else times i k (blocks c.bios)
-
 pub few-settled : (fs : List Fate) → settled_count fs ≤ length fs
 few-settled [] = omega arith
 few-settled (f ∷ fs) =

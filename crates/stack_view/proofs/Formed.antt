@@ -184,9 +184,6 @@ same-dir Read Write h = cc
 same-dir Write Read h = cc
 same-dir Write Write h = refl
 
-no-size : (b : Bio) (bs : List Bio) → ((b ∷ bs) ≡ []) → ⊥
-no-size b bs h = cc
-
 joined-group : (p : Plan) (d : ℕ) (g h : Group) → HasBlocks g → IsGroup p d g → IsGroup p d h → may_follow p.limits g h ≡ true → IsGroup p d (g ++ h)
 joined-group p d [] h s a b m = absurd (omega arith)
 joined-group p d (x ∷ xs) h s a b m =

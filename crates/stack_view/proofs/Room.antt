@@ -148,9 +148,6 @@ in-flight-has p (c ∷ cs) h =
     (λ (e : c.completed ≡ false). let o = open-has p c (All-head (IsOpen p) c cs h e) in rw e (omega arith))
     (cases_Bool c.completed)
 
-flight : Command → ℕ
-flight c = if c.completed then 0 else 1
-
 open-flight : (c : Command) → c.completed ≡ false → (if c.completed then 0 else 1) ≡ suc 0
 open-flight c h = rw h refl
 

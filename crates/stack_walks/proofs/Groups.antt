@@ -1,10 +1,8 @@
 -- The blocks of a group as the view and as the adapter name them, and their statuses once it is sent or settled.
-use Rattle.std.proofs.Common.{◌≡◌, ◌⊎◌, ℕ, zero, suc, ◌+◌, ◌<◌, ◌≤◌, Bool, true, false, ◌&&◌, eqb, List, [], ◌∷◌, ◌++◌, length, map, refl, sym, ap, subst, ◌∙◌, arith, ⊎_elim}
+use Rattle.std.proofs.Common.{◌≡◌, ℕ, zero, suc, ◌≤◌, true, false, ◌&&◌, eqb, List, [], ◌∷◌, ◌++◌, map, refl, sym, ap, ◌∙◌, arith, ⊎_elim}
 use Rattle.std.specs.Prelude.{if◌then◌else◌, Option}
-use Rattle.std.specs.List.{All}
 use Rattle.std.proofs.lemmas.Bool.{and_parts, cases_Bool, eqb-true, eq-eqb}
 use Rattle.std.proofs.lemmas.List.{map-append}
-use Rattle.std.proofs.lemmas.List.Elements.{All-head, All-tail}
 use Rattle.bio_core.specs.Bios.{Block, blocks_from, blocks_of}
 use Rattle.bio_core.specs.declared.bio.Bio.{Bio}
 use Rattle.bio_core.specs.declared.fate.Fate.{Fate}
@@ -12,7 +10,7 @@ use Rattle.bio_core.specs.declared.fate.Fate.TheVariants.{Good, Bad, Untouched}
 use Rattle.bio_core.specs.declared.fate.Why.{Why}
 use Rattle.bio_core.specs.declared.request.Dir.{Dir}
 use Rattle.dix_adapter.specs.Groups.{blocks_in}
-use Rattle.stack_view.specs.Blocks.{BlockId, blocks, is_block, is_settled, place_of, run_of, times}
+use Rattle.stack_view.specs.Blocks.{blocks, is_block, is_settled, place_of, run_of, times}
 use Rattle.run_follows.specs.Sending.{with_fate, with_fates, with_status}
 use Rattle.run_follows.specs.Slots.{Settled, Status}
 use Rattle.run_follows.proofs.Sends.{with_here, with_other}
@@ -31,14 +29,6 @@ ids_are (b ∷ bs) = map-append id_of (blocks_of b) (blocks_in bs) ∙ (ap (λ l
 abbrev pub AllNumbered : List Block → Type 0
 AllNumbered [] = Unit {0}
 AllNumbered (b ∷ bs) = (1 ≤ b.op) × AllNumbered bs
-
-numbered_from : (op k dev lba : ℕ) (dir : Dir) (n : ℕ) (bs : List Block) → 1 ≤ op → AllNumbered bs → AllNumbered (blocks_from op k dev lba dir n ++ bs)
-numbered_from op k dev lba dir zero bs h r = r
-numbered_from op k dev lba dir (suc n) bs h r = (h, numbered_from op (suc k) dev (suc lba) dir n bs h r)
-
-pub numbered_in : (bs : List Bio) → All (λ b. 1 ≤ b.op) bs → AllNumbered (blocks_in bs)
-numbered_in [] h = tt
-numbered_in (b ∷ bs) h = numbered_from b.op b.k b.dev b.lba b.dir b.count (blocks_in bs) (All-head (λ b. 1 ≤ b.op) b bs h) (numbered_in bs (All-tail (λ b. 1 ≤ b.op) b bs h))
 
 place-suc : (n : ℕ) → 1 ≤ n → suc (place_of n) ≡ n
 place-suc zero h = absurd (omega arith)

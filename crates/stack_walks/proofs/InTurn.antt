@@ -4,18 +4,12 @@ use Rattle.std.proofs.lemmas.List.{get_or_default, get_or_read}
 use Rattle.pi_tuple.specs.declared.checks.PiType.{PiType}
 use Rattle.bio_core.specs.declared.bio.Bio.{Bio}
 use Rattle.bio_core.specs.declared.fate.Fate.{Fate}
-use Rattle.bio_core.specs.declared.fate.Fate.TheVariants.{Good}
 use Rattle.bio_core.specs.declared.request.Io.{Io}
 use Rattle.block_path.specs.declared.mode.Mode.{Mode}
 use Rattle.merge_queue.specs.Chains.{no_bio}
 use Rattle.merge_queue.specs.Groups.{size}
 use Rattle.stack_walks.specs.Sheets.{io_at, no_io}
-use Rattle.stack_walks.specs.Settled.{AllSettled, BioSettled, Kept, OneSettled}
-
--- one block more of a bio
-pub block-more : (mode : Mode) (ty : PiType) (io : Io) (start : ℕ) (bio : Bio) (fates : List Fate) (at n : ℕ) (old between new : Kept) → BioSettled mode ty io start bio fates at n old between →
-    OneSettled mode ty io start (bio.k + n) (bio.lba + n) (get_or fates (at + n) Good) between new → BioSettled mode ty io start bio fates at (n + 1) old new
-block-more mode ty io start bio fates at n old between new a b = rw add-one (between, a, b)
+use Rattle.stack_walks.specs.Settled.{AllSettled, BioSettled, Kept}
 
 size-suc : (bios : List Bio) (n : ℕ) (d : Bio) → n < length bios → size (take (suc n) bios) ≡ size (take n bios) + (get_or bios n d).count
 size-suc [] n d h = absurd (omega arith)

@@ -1,5 +1,5 @@
 -- The room of the rig that is left.
-use Rattle.std.proofs.Common.{◌≡◌, ◌≤◌, ℕ, suc, ◌+◌, ◌*◌, true, List, arith}
+use Rattle.std.proofs.Common.{◌≡◌, ◌≤◌, ℕ, ◌+◌, ◌*◌, true, List, arith}
 use Rattle.std.proofs.Math.Nat.{mul-le-mul_left}
 use Rattle.bio_core.specs.declared.fate.Fate.{Fate}
 use Rattle.rig_api.specs.Log.{HasRoom, Room}
@@ -20,15 +20,6 @@ fewer size e f e₂ f₂ r h l m =
     let a = h.records in
     let b = h.labels in
     let c = h.moved in
-    record { records = omega arith; labels = omega arith; moved = omega arith }
-
--- one exchange takes its share
-pub spent : (size e f s moved labels : ℕ) (old new : Room) → HasRoom size (suc e) (f + s) old → old.records ≤ new.records + 1 → old.moved ≤ new.moved + moved → old.labels ≤ new.labels + labels → moved ≤ (size + 8) * s → labels ≤ s → HasRoom size e f new
-spent size e f s moved labels old new h a b c d g =
-    let x : (size + 8) * (f + s) ≡ (size + 8) * f + (size + 8) * s = grind arith in
-    let k = h.records in
-    let l = h.labels in
-    let m = h.moved in
     record { records = omega arith; labels = omega arith; moved = omega arith }
 
 -- whatever step is done, no more room is needed than before

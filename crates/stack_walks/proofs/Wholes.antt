@@ -1,9 +1,8 @@
 -- Requests stay in a pool of as many pages.
-use Rattle.std.proofs.Common.{◌≡◌, ℕ, ◌+◌, ◌-◌, ◌*◌, ◌<◌, ◌≤◌, List, length, get_or, ◌∙◌, arith}
+use Rattle.std.proofs.Common.{◌≡◌, ℕ, ◌-◌, ◌<◌, List, length, get_or, ◌∙◌, arith}
 use Rattle.std.specs.List.{All}
 use Rattle.std.proofs.lemmas.List.{get_or_read}
 use Rattle.std.proofs.lemmas.List.Elements.{All-get_or}
-use Rattle.page_pool.specs.Places.{total}
 use Rattle.page_pool.proofs.Placing.{all_lie-same}
 use Rattle.integrity_payload.specs.declared.payload.Payload.{Payload}
 use Rattle.bio_core.specs.declared.bio.Bio.{Bio}
@@ -32,10 +31,6 @@ whole_stays old new io e h = record {
 
 pub all_stay : (old new : List (List ℕ)) (ios : List Io) → length new ≡ length old → AreAllWhole old ios → AreAllWhole new ios
 all_stay old new ios e h = λ i l. whole_stays old new (io_at ios i) e (h i l)
-
--- the tuple of a block lies in the list
-pub tuple_within : (pool : List (List ℕ)) (io : Io) (pi : Payload) (k : ℕ) → HasTuples pool io pi → k < io.count → 8 * k + 8 ≤ total pi.tuples
-tuple_within pool io pi k h l = let c = h.count in let e = h.payload.long in omega arith
 
 -- the request of a bio is whole
 pub whole-of : (pool : List (List ℕ)) (ios : List Io) (bios : List Bio) (i : ℕ) (d : Bio) (io : Io) → AreAllWhole pool ios → All (IsOf ios) bios → i < length bios → io ≡ get_or ios ((get_or bios i d).op - 1) io → IsWhole pool io

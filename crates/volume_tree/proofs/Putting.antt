@@ -12,9 +12,6 @@ not_leb x y = grind (arith, nat_tests)
 ltb_suc : (a b : ℕ) → ltb (suc a) (suc b) ≡ ltb a b
 ltb_suc a b = grind (arith, nat_tests)
 
-eqb_ltb : (a b : ℕ) → ltb a b ≡ true → eqb a b ≡ false
-eqb_ltb a b h = grind (arith, nat_tests)
-
 cond_cons : (b : Bool) (y : ℕ) (xs ys : List ℕ) → cond b (y ∷ xs) (y ∷ ys) ≡ y ∷ cond b xs ys
 cond_cons true y xs ys = refl
 cond_cons false y xs ys = refl

@@ -1,6 +1,6 @@
-use Rattle.std.proofs.Common.{◌≡◌, ◌+◌, ◌≤◌, ℕ, List, length, take, drop, ◌++◌, Option, Some, None, Result, Ok, arith, sym, ap, ◌∙◌}
+use Rattle.std.proofs.Common.{◌≡◌, ◌+◌, ◌≤◌, ℕ, List, length, take, drop, ◌++◌, Option, Some, Result, Ok, arith, sym, ap, ◌∙◌}
 use Rattle.std.proofs.lemmas.List.{length-take, length-drop}
-use Rattle.dix_base.specs.Told.{over, Apart, Becomes, Rose}
+use Rattle.dix_base.specs.Told.{Apart, Becomes, Rose}
 use Rattle.pi_tuple.specs.declared.checks.Check.{Check}
 use Rattle.sense_codes.specs.declared.Sense.{Sense}
 use Rattle.target_answer.specs.Frames.{sent_size, stored_size}
@@ -19,12 +19,6 @@ unstored judged frame size place lba o n before now bytes sense e j l h s b r =
     let same : length w.0 ≡ length bytes = w.2.0 in
     let len : length left ≡ length frame = simp (length-take, length-drop) (omega arith) in
     rw j (l, (r, s, (left, len, w.1 ∙ ap (λ v. Some v) (over_back place (length frame) bytes w.0 h w.2))))
-
-stored : (judged : Result (List ℕ) Check) (frame : List ℕ) (size place lba o n : ℕ) (before now : Option (List ℕ)) (bytes : List ℕ) →
-    before ≡ Some bytes → judged ≡ Ok frame → length frame ≡ size → Becomes (λ was is. is ≡ over place frame was) before now → BlockWritten judged size place lba o n bytes None now
-stored judged frame size place lba o n before now bytes e j l b =
-    let w = becomes_some _ before now bytes e b in
-    rw j (l, w.1 ∙ ap (λ v. Some v) w.2)
 
 pub returns-in-Err-clause-told : goal.returns-in-Err-clause-told
 returns-in-Err-clause-told g c =
