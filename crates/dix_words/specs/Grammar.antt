@@ -3,7 +3,7 @@ use Rattle.std.specs.Str.{bytes_eq}
 use Rattle.pi_tuple.specs.declared.checks.PiType.{PiType}
 use Rattle.target_answer.specs.Headers.{is_layout}
 use Rattle.target_answer.specs.declared.units.UnitSpec.{UnitSpec}
-use Rattle.dix_words.specs.Numbers.{number_in}
+use Rattle.script_words.specs.Decimals.{number_in}
 use Rattle.dix_words.specs.Units.{type_in, unit_in}
 use Rattle.dix_words.specs.declared.command.Command.{Command}
 use Rattle.dix_words.specs.declared.command.Command.TheVariants.{Run, Trace, Format, Migrate, Mirror, Scrub, Nvme, Modes, Big}

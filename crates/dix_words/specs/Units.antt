@@ -1,25 +1,9 @@
-use Rattle.std.specs.Prelude.{ℕ, ◌+◌, ◌==◌, Bool, ltb, if◌then◌else◌, List, take, drop, Option, Some, None}
-use Rattle.std.specs.List.{position}
+use Rattle.std.specs.Prelude.{ℕ, ltb, if◌then◌else◌, List, Option, Some, None}
 use Rattle.pi_tuple.specs.declared.checks.PiType.{PiType}
 use Rattle.target_answer.specs.Headers.{is_spec, type_of}
 use Rattle.target_answer.specs.declared.units.UnitSpec.{UnitSpec}
-use Rattle.dix_words.specs.Numbers.{number_in}
-
-abbrev pub is_colon : ℕ → Bool
-is_colon b = b == 58
-
--- a text cut at a colon
-pub record Cut : Type 0 where
-  pub before : List ℕ
-  pub after : List ℕ
-
-abbrev pub cut_by : List ℕ → Option ℕ → Option Cut
-cut_by text None = None
-cut_by text (Some i) = Some (record { before = take i text; after = drop (i + 1) text })
-
--- the text cut at its first colon, where it has one
-abbrev pub cut : List ℕ → Option Cut
-cut text = cut_by text (position is_colon text)
+use Rattle.script_words.specs.Cuts.{Cut, cut}
+use Rattle.script_words.specs.Decimals.{number_in}
 
 -- the protection type of a number: 0 to 3
 abbrev pub type_numbered : ℕ → Option PiType
@@ -52,12 +36,12 @@ placed ty blocks (Some c) = spec_of ty (number_in blocks) (number_in c.before) (
 -- BLOCKS, with size 512 and first address 0, or BLOCKS:SIZE:FIRST
 abbrev pub sized : Option PiType → List ℕ → Option Cut → Option UnitSpec
 sized ty rest None = spec_of ty (number_in rest) (Some 512) (Some 0)
-sized ty rest (Some c) = placed ty c.before (cut c.after)
+sized ty rest (Some c) = placed ty c.before (cut 58 c.after)
 
 abbrev pub unit_of : Option Cut → Option UnitSpec
 unit_of None = None
-unit_of (Some c) = sized (type_in c.before) c.after (cut c.after)
+unit_of (Some c) = sized (type_in c.before) c.after (cut 58 c.after)
 
 -- the unit of a word T:BLOCKS or T:BLOCKS:SIZE:FIRST
 abbrev pub unit_in : List ℕ → Option UnitSpec
-unit_in word = unit_of (cut word)
+unit_in word = unit_of (cut 58 word)

@@ -4,11 +4,11 @@ ghost use Rattle.std.specs.Prelude.{◌≡◌, ◌≤◌, length, option_map, st
 ghost use Rattle.std.specs.Str.{bytes_eq};
 ghost use Rattle.dix_words.specs.Grammar.{big_of, big_with, command_by, command_in, format_of, format_with, image_in, is_name, is_one_name, modes_of, on_image, units_in, word_bytes};
 
-use crate::numbers::number;
 use crate::unit::{type_of, unit_of};
 use crate::unit_list::UnitList;
 use arrayvec::ArrayVec;
 use pi_tuple::PiType;
+use script_words::number;
 use target_answer::{UnitSpec, is_layout};
 
 /// A command of the program. Those that work on an image name it by their second word.

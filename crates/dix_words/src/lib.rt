@@ -2,11 +2,9 @@
 #![tactic(auto)]
 
 mod command;
-mod numbers;
 mod unit;
 mod unit_list;
 
 pub use command::{Command, command_of, image_of};
-pub use numbers::number;
 pub use unit::unit_of;
 pub use unit_list::UnitList;

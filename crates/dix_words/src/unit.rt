@@ -1,33 +1,11 @@
 //! A unit as a word orders it: `T:BLOCKS` or `T:BLOCKS:SIZE:FIRST`.
 
-ghost use Rattle.std.specs.Prelude.{◌≡◌, IfNone, IfSome, None, Some};
-ghost use Rattle.std.specs.List.{position};
-ghost use Rattle.dix_words.specs.Units.{cut, is_colon, spec_of, type_in, type_numbered, unit_in};
+ghost use Rattle.std.specs.Prelude.{◌≡◌};
+ghost use Rattle.dix_words.specs.Units.{spec_of, type_in, type_numbered, unit_in};
 
-use crate::numbers::number;
 use pi_tuple::PiType;
+use script_words::{number, split_once};
 use target_answer::{UnitSpec, is_spec};
-
-fn place_of(text: &[u8]) -> Option<usize>
-    ensures { result ≡ position is_colon text.now }
-{
-    text.iter().position(|b| *b == b':')
-}
-
-/// The text before the first colon and the text behind it, where it has one.
-fn split_once(text: &[u8]) -> Option<(&[u8], &[u8])>
-    ensures some { IfSome result (λ p. cut text.now ≡ Some (record { before = p.0.now; after = p.1.now })) }
-    ensures none { IfNone result (cut text.now ≡ None) }
-{
-    match place_of(text) {
-        Some(i) => {
-            let (before, rest) = text.split_at(i);
-            let (_, after) = rest.split_at(1);
-            Some((before, after))
-        }
-        None => None,
-    }
-}
 
 fn type_numbered(number: u64) -> Option<PiType>
     ensures { result ≡ type_numbered number }
@@ -78,12 +56,12 @@ fn spec(
 pub fn unit_of(word: &[u8]) -> Option<UnitSpec>
     ensures { result ≡ unit_in word.now }
 {
-    let (ty, rest) = split_once(word)?;
+    let (ty, rest) = split_once(word, b':')?;
     let ty = type_of(ty);
-    match split_once(rest) {
+    match split_once(rest, b':') {
         None => spec(ty, number(rest), Some(512), Some(0)),
         Some((blocks, rest)) => {
-            let (size, first) = split_once(rest)?;
+            let (size, first) = split_once(rest, b':')?;
             spec(ty, number(blocks), number(size), number(first))
         }
     }

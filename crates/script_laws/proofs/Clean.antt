@@ -4,7 +4,7 @@ use Rattle.std.specs.Prelude.{decimal}
 use Rattle.std.proofs.lemmas.Bool.Decides.{nat_tests}
 use Rattle.std.proofs.lemmas.Fmt.{decimal_by_steps}
 use Rattle.std.proofs.lemmas.List.Folds.{list_all-append}
-use Rattle.dix_words.specs.Numbers.{is_digit}
+use Rattle.script_words.specs.Decimals.{is_digit}
 use Rattle.script_laws.specs.Clean.{IsWord, avoids, clean, is_filled, is_visible}
 
 pub both : (a b : Bool) → a ≡ true → b ≡ true → a && b ≡ true

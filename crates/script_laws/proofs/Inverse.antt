@@ -5,7 +5,7 @@ use Rattle.std.proofs.lemmas.Bool.Decides.{nat_tests}
 use Rattle.hex.specs.Hex.{IsBytes, decode_of, decode_sized}
 use Rattle.hex.specs.declared.error.FromHexError.{FromHexError}
 use Rattle.hex.proofs.HexLemmas.{decode_of-ok, decode_sized-ok, decode_sized-twice}
-use Rattle.dix_words.specs.Numbers.{number_in}
+use Rattle.script_words.specs.Decimals.{number_in}
 use Rattle.script_words.specs.Hexes.{byte_in, bytes_by, hex_in, long_tag_in, tag_in, value_of}
 use Rattle.script_words.specs.Numbers.{in_range, number_within}
 use Rattle.script_words.specs.Places.{word32, word64}

@@ -9,7 +9,7 @@ use Rattle.std.proofs.lemmas.Nat.{from_be_bytes-to_be_bytes_2, from_be_bytes-to_
 use Rattle.std.proofs.lemmas.List.Folds.{list_all-append}
 use Rattle.hex.specs.Hex.{IsBytes, decode_of, encode_lower, encode_with, lower_digits}
 use Rattle.hex.proofs.HexLemmas.{decode_of-encode_lower, decode_sized-encode_lower, length-encode_with}
-use Rattle.dix_words.specs.Numbers.{is_digit, is_number, number_in, value_from}
+use Rattle.script_words.specs.Decimals.{is_digit, is_number, number_in, value_from}
 use Rattle.script_words.specs.Hexes.{byte_in, bytes_by, hex_in, long_tag_in, tag_in, value_of}
 use Rattle.script_words.specs.Numbers.{as_negative, as_positive, in_range, number_within, signed_within}
 use Rattle.script_laws.specs.Clean.{IsWord, avoids, clean, is_filled, is_visible}

@@ -1,5 +1,5 @@
 use Rattle.std.specs.Prelude.{ℕ, ◌-◌, ℤ, pos, negsuc, Bool, nat_le, ◌&&◌, eqb, if◌then◌else◌, List, [], ◌∷◌, Option, Some, None}
-use Rattle.dix_words.specs.Numbers.{number_in}
+use Rattle.script_words.specs.Decimals.{number_in}
 
 abbrev pub in_range : ℕ → ℕ → Option ℕ → Option ℕ
 in_range low high None = None

@@ -3,7 +3,7 @@
 ghost use Rattle.std.specs.Prelude.{◌≡◌, ◌≤◌, ◌<◌, ◌^◌, IfSome};
 ghost use Rattle.script_words.specs.Numbers.{number_within, signed_within};
 
-use dix_words::number;
+use crate::decimals::number;
 
 /// The number that the word spells, `0` or digits without a leading zero, where it is in this
 /// range.

@@ -1,8 +1,8 @@
 use Rattle.std.proofs.Common.{◌≡◌, ◌+◌, ◌-◌, ◌*◌, ◌^◌, ◌≤◌, true, get_or, sym, ap, ◌∙◌, arith}
 use Rattle.std.proofs.lemmas.List.{drop_all}
-use Rattle.dix_words.specs.Numbers.{is_number, value_from}
-use Rattle.dix_words.proofs.NumberLemmas.{over, within}
-use Rattle.dix_words.proofs.numbers.number.Goals as goal
+use Rattle.script_words.specs.Decimals.{is_number, value_from}
+use Rattle.script_words.proofs.DecimalLemmas.{over, within}
+use Rattle.script_words.proofs.decimals.number.Goals as goal
 
 pub returns-in_err-checked_mul : goal.returns-in_err-checked_mul
 returns-in_err-checked_mul c =

@@ -2,7 +2,7 @@
 
 ghost use Rattle.std.specs.Prelude.{◌≡◌};
 ghost use Rattle.std.specs.List.{list_all};
-ghost use Rattle.dix_words.specs.Numbers.{is_digit, is_number, number_in};
+ghost use Rattle.script_words.specs.Decimals.{is_digit, is_number, number_in};
 
 fn is_all_digits(word: &[u8]) -> bool
     ensures { result ≡ list_all is_digit word.now }

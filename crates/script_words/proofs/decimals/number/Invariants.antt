@@ -1,6 +1,6 @@
 use Rattle.std.proofs.Common.{◌≡◌, ◌<◌, ◌^◌, drop}
-use Rattle.dix_words.specs.Numbers.{value_from}
-use Rattle.dix_words.proofs.numbers.number.Given as goal
+use Rattle.script_words.specs.Decimals.{value_from}
+use Rattle.script_words.proofs.decimals.number.Given as goal
 
 abbrev pub invariant-loop-digit : goal.invariant-loop-digit
 invariant-loop-digit l = record {

@@ -1,5 +1,5 @@
 use Rattle.std.proofs.Common.{ℕ, ◌≡◌, ◌+◌, ◌-◌, ◌*◌, ◌^◌, ◌<◌, ◌≤◌, suc, true, false, ltb, List, [], ◌∷◌, length, drop, get_or, Some, None, refl, ap, arith, drop-cons, lt-ltb}
-use Rattle.dix_words.specs.Numbers.{is_number, number_in, value_from}
+use Rattle.script_words.specs.Decimals.{is_number, number_in, value_from}
 
 -- a value only grows with further digits
 value_grows : (n : ℕ) (ds : List ℕ) → n ≤ value_from n ds
