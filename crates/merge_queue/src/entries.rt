@@ -88,6 +88,19 @@ pub(crate) fn place_before(begins: &[u64], near: usize, lba: u64) -> usize
     begins.partition_point(|b| *b < lba)
 }
 
+/// Behind all groups that begin before this address. Looks first whether that is this place or the one before.
+pub(crate) fn place_before_near(begins: &[u64], near: usize, lba: u64) -> usize
+    requires { IsNonDecreasing begins.now }
+    ensures bound { result ≤ length begins.now }
+    ensures before { (k d : ℕ) → k < result → slice_index_or begins.now k d < lba }
+    ensures after { (k d : ℕ) → result ≤ k → k < length begins.now → lba ≤ slice_index_or begins.now k d }
+{
+    if is_place_before(begins, near, lba) {
+        return near;
+    }
+    place_before(begins, near.saturating_sub(1), lba)
+}
+
 /// Whether all groups before a place begin at this address or before, and no other one does.
 fn is_place_for(begins: &[u64], at: usize, lba: u64) -> bool
     requires { IsNonDecreasing begins.now }

@@ -11,8 +11,8 @@ ghost use Rattle.merge_queue.specs.Counts.{AreWithin, leaders, links};
 use crate::Limits;
 use crate::chains::{copy_out, fill, one_chain};
 use crate::entries::{
-    Entry, as_number, both_entries, entry_of, may_join, place_before, place_for, place_for_near,
-    put_in,
+    Entry, as_number, both_entries, entry_of, may_join, place_before, place_before_near, place_for,
+    place_for_near, put_in,
 };
 use bio_core::{Bio, Dir};
 use std::alloc::{AllocError, Global};
@@ -217,18 +217,20 @@ impl GroupIndex {
         self.entries[place as usize].blocks
     }
 
-    /// Where the groups are that may end where group i begins, none of which has more blocks than so many.
-    fn before(&self, i: u32, most: u64) -> (u32, u32)
+    /// Where the groups are behind which group i may be joined. None has more blocks than so many, and with those of
+    /// group i no more than the limit.
+    fn before(&self, i: u32, most: u64, lim: &Limits) -> (u32, u32)
         requires there { i < length self.now.groups }
         requires within { AreWithin most self.now.groups }
         ensures order { result.0 ≤ result.1 }
         ensures bound { result.1 ≤ length self.now.groups }
         ensures groups { length self.now.groups < 2 ^ 32 }
-        ensures only { (lim : AnyLimits) → leaders lim self.now.groups i ≡ filter (λ j. may_join lim self.now.groups j i) (numbers result.0 (result.1 - result.0)) }
+        ensures only { leaders lim.now self.now.groups i ≡ filter (λ j. may_join lim.now self.now.groups j i) (numbers result.0 (result.1 - result.0)) }
     {
         let begin = self.begins[i as usize];
-        let near = (i as usize).saturating_sub(1);
-        let from = place_before(&self.begins, near, begin.saturating_sub(most));
+        let left = (lim.max_blocks as u64).saturating_sub(self.blocks(i));
+        let low = begin.saturating_sub(most.min(left));
+        let from = place_before_near(&self.begins, i as usize, low);
         let to = place_for_near(&self.begins, i as usize, begin);
         (from as u32, to as u32)
     }
@@ -241,7 +243,7 @@ impl GroupIndex {
         ensures few { result < 2 ^ 32 }
         ensures groups { length self.now.groups < 2 ^ 32 }
     {
-        let (from, to) = self.before(i, most);
+        let (from, to) = self.before(i, most, lim);
         let mut count = 0u32;
         for j in from..to {
             count += as_number(self.joinable(j, i, lim));
