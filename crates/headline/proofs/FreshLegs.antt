@@ -18,7 +18,7 @@ use Rattle.dix_adapter.specs.Ways.{blocks_told, cell_in, shapes_of}
 use Rattle.whole_run.specs.Past.{brought_by}
 use Rattle.whole_run.specs.UnderMap.{address_of, home}
 use Rattle.whole_run.proofs.TupleFrames.{Small, data_is, tag_below, tuple_is}
-use Rattle.image_rig.proofs.Heads.{layout_parts}
+use Rattle.image_layout.proofs.Heads.{layout_parts}
 use Rattle.script_premises.proofs.Fresh.{blocks_are, fresh_unit, shapes_are}
 use Rattle.script_text.specs.declared.script.Script.{Script}
 use Rattle.script_verdict.specs.Verdict.{devices_of}

@@ -19,7 +19,7 @@ use Rattle.run_laws.specs.ShownRun.{DevicesAreClean}
 use Rattle.dix_base.specs.Told.{Becomes}
 use Rattle.image_commands.specs.Causes.{WasFormatted}
 use Rattle.image_commands.specs.Views.{View}
-use Rattle.image_rig.proofs.Heads.{layout_parts, right_layout}
+use Rattle.image_layout.proofs.Heads.{layout_parts, right_layout}
 use Rattle.script_verdict.specs.Verdict.{WasAsked, devices_of}
 use Rattle.script_verdict.proofs.Devices.{image_devices}
 use Rattle.headline.specs.Headline.{blocks_in, image_with}

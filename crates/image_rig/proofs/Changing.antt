@@ -1,5 +1,5 @@
 -- Blocks that are changed without a command.
-use Rattle.std.proofs.Common.{◌≡◌, ℕ, suc, ◌+◌, ◌-◌, ◌<◌, ◌≤◌, Bool, true, eqb, ◌&&◌, List, [], ◌∷◌, length, get_or, take, drop, replicate, Option, Some, refl, sym, ap, ◌∙◌, arith}
+use Rattle.std.proofs.Common.{◌≡◌, ℕ, suc, ◌+◌, ◌<◌, ◌≤◌, Bool, true, eqb, ◌&&◌, List, [], ◌∷◌, length, get_or, take, drop, replicate, Option, Some, refl, sym, ap, ◌∙◌, arith}
 use Rattle.std.specs.Prelude.{is_some, Result, Ok, Err, OnOk, OnErr}
 use Rattle.std.proofs.lemmas.List.{length-take, length-drop, length-replicate}
 use Rattle.dix_base.specs.Told.{Apart, Becomes, HasLength, over}
@@ -14,10 +14,11 @@ use Rattle.rig_api.specs.Telling.{block_at, can_change, changed, frame_size, has
 use Rattle.rig_api.specs.declared.change.Change.{Change}
 use Rattle.rig_api.specs.declared.change.Change.TheVariants.{Flip, Copy}
 use Rattle.image_rig.specs.Changes.{IsChanged, altered_by, source_place}
-use Rattle.image_rig.specs.Places.{block_len, block_place, can_change_in}
+use Rattle.image_layout.specs.Places.{block_len, block_place}
+use Rattle.image_rig.specs.Places.{can_change_in}
 use Rattle.image_rig.specs.Told.{standing_of, units_of_image}
 use Rattle.image_rig.proofs.Devices.{Open, image_of, size_here, size_least, units_are}
-use Rattle.image_rig.proofs.Units.{Address, addressed, block_changed, block_found, block_within, bytes_within, unit_found}
+use Rattle.image_layout.proofs.Units.{Address, addressed, block_changed, block_found, block_held, unit_found}
 
 both : (a b : Bool) → (a && b) ≡ true → (a ≡ true) × (b ≡ true)
 both a b h = grind arith
@@ -28,13 +29,6 @@ same_number a b h = grind arith
 pub target_address : (us : List UnitSpec) (dev lba : ℕ) (change : Change) → dev < length us → can_change_in us dev lba change ≡ true → Address us dev lba
 target_address us dev lba (Flip off bytes) d c = addressed us dev lba d c
 target_address us dev lba (Copy from at) d c = addressed us dev lba d (both _ _ c).0
-
-pub block_held : (us : List UnitSpec) (dev lba : ℕ) → Address us dev lba → block_place us dev lba + block_len us dev ≤ image_size us
-block_held us dev lba a =
-    let u = get_or us dev no_spec in
-    let w = bytes_within us dev a.device in
-    let b = block_within (lba - u.first) u.blocks (block_len us dev) a.last in
-    omega arith
 
 -- a block that is copied has an address, and the length of the one that it replaces
 source_address : (us : List UnitSpec) (dev lba from at : ℕ) → can_change_in us dev lba (Copy from at) ≡ true → (has_address (get_or us from no_spec) at ≡ true) × (block_len us from ≡ block_len us dev)

@@ -17,10 +17,11 @@ use Rattle.rig_api.specs.Log.{HasRoom, Room}
 use Rattle.target_model.specs.declared.unit.LogicalUnit.{LogicalUnit}
 use Rattle.rig_api.specs.Telling.{HasCause, IsAnswer, answer_of, frame_size, greatest, holding, no_spec, unit_at, with_blocks}
 use Rattle.rig_api.specs.declared.rig.Outcome.{Outcome}
-use Rattle.image_rig.specs.Places.{logical_of, place_of}
+use Rattle.image_layout.specs.Places.{place_of}
+use Rattle.image_rig.specs.Places.{logical_of}
 use Rattle.image_rig.specs.Told.{units_of_image}
-use Rattle.image_rig.proofs.Heads.{bytes_small, layout_parts, right_head, right_layout, right_units, same_head, spec_at}
-use Rattle.image_rig.proofs.Units.{bytes_within, unit_found, units_change}
+use Rattle.image_layout.proofs.Heads.{bytes_small, layout_parts, right_head, right_layout, right_units, same_head, spec_here}
+use Rattle.image_layout.proofs.Units.{bytes_within, unit_found, units_change}
 
 -- ---- what is known of an image that is open
 
@@ -61,9 +62,6 @@ all_small (u ∷ us) h =
     let a = bytes_small u s.0 in
     let b = all_small us s.1 in
     omega arith
-
-pub spec_here : (us : List UnitSpec) (dev : ℕ) → is_layout us ≡ true → dev < length us → is_spec (get_or us dev no_spec) ≡ true
-spec_here us dev l d = let p = layout_parts us l in spec_at us dev no_spec p.2 d
 
 pub size_here : (us : List UnitSpec) (dev : ℕ) → is_layout us ≡ true → dev < length us → IsSize (get_or us dev no_spec).size
 size_here us dev l d = spec_size (get_or us dev no_spec) (spec_here us dev l d)

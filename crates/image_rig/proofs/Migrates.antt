@@ -1,6 +1,6 @@
 -- The header of version 2 tells the units that it was written from.
 use Rattle.std.proofs.Common.{◌≡◌, ℕ, ◌+◌, ◌-◌, ◌*◌, ◌^◌, ◌<◌, ◌≤◌, Bool, true, false, List, [], ◌∷◌, ◌++◌, length, take, drop, replicate, map, Option, Some, None, refl, sym, ap, ◌∙◌, arith, append_assoc, length-append}
-use Rattle.std.specs.Prelude.{min, ◌&&◌, Result, Ok, Err, OnOk}
+use Rattle.std.specs.Prelude.{min, ◌&&◌}
 use Rattle.std.specs.Int.{w16, to_be_bytes, from_be_bytes}
 use Rattle.std.specs.List.{list_all}
 use Rattle.std.proofs.lemmas.Nat.{from_be_bytes-to_be_bytes_2, from_be_bytes-to_be_bytes_8}
@@ -15,7 +15,7 @@ use Rattle.target_answer.specs.declared.units.UnitSpec.{UnitSpec}
 use Rattle.target_answer.specs.declared.units.Version.TheVariants.{Second}
 use Rattle.rig_api.specs.Head.{Head, IsHeadOf, head_of, specs_under, units_of, version_in}
 use Rattle.rig_api.specs.Telling.{KeepsBlocks, KeepsUnits, own_units}
-use Rattle.image_rig.proofs.Heads.{layout_parts}
+use Rattle.image_layout.proofs.Heads.{layout_parts}
 
 type_back : (ty : PiType) → type_of (number_of ty) ≡ ty
 type_back Zero = refl
@@ -85,16 +85,6 @@ header_back us h =
     ap (λ k. specs_from Second k (j ++ zeros)) n ∙ entries_back us zeros p.2
 
 -- ---- an image with that header
-
-pub ok_map : {X E : Type 0} (r : Result X E) (P Q : Type 0) → (P → Q) → OnOk r P → OnOk r Q
-ok_map (Ok x) P Q f h = f h
-ok_map (Err e) P Q f h = tt
-
-pub becomes_map : (P Q : List ℕ → List ℕ → Type 0) → ((was is : List ℕ) → P was is → Q was is) → (a b : Option (List ℕ)) → Becomes P a b → Becomes Q a b
-becomes_map P Q f None None h = tt
-becomes_map P Q f None (Some b) h = absurd h
-becomes_map P Q f (Some a) None h = absurd h
-becomes_map P Q f (Some a) (Some b) h = f a b h
 
 pub over_header : (us : List UnitSpec) (hdr was is : List ℕ) → length us ≤ 8 → hdr ≡ header Second us → is ≡ over 0 hdr was → is ≡ migrated us was
 over_header us hdr was is h e o =

@@ -1,5 +1,4 @@
 pub mod Changes
-pub mod Heads
 pub mod Places
 pub mod Small
 pub mod Told

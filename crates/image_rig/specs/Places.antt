@@ -1,15 +1,11 @@
-use Rattle.std.specs.Prelude.{ℕ, ◌+◌, ◌-◌, ◌*◌, Bool, ◌&&◌, eqb, List, take, slice_index_or}
+use Rattle.std.specs.Prelude.{ℕ, Bool, ◌&&◌, eqb, List, slice_index_or}
 use Rattle.target_answer.specs.Frames.{stored_size}
-use Rattle.target_answer.specs.Headers.{all_bytes}
 use Rattle.target_answer.specs.declared.units.UnitSpec.{UnitSpec}
 use Rattle.target_model.specs.declared.unit.LogicalUnit.{LogicalUnit}
+use Rattle.image_layout.specs.Places.{place_of}
 use Rattle.rig_api.specs.Telling.{has_address, no_spec}
 use Rattle.rig_api.specs.declared.change.Change.{Change}
 use Rattle.rig_api.specs.declared.change.Change.TheVariants.{Flip, Copy}
-
--- where a unit's blocks begin in the image
-abbrev pub place_of : List UnitSpec → ℕ → ℕ
-place_of us dev = 512 + all_bytes (take dev us)
 
 -- the unit behind a device, with its place
 abbrev pub logical_of : List UnitSpec → ℕ → LogicalUnit
@@ -20,15 +16,6 @@ logical_of us dev = record {
   size = (slice_index_or us dev no_spec).size;
   first = (slice_index_or us dev no_spec).first;
 }
-
--- the bytes of a stored block of a unit
-abbrev pub block_len : List UnitSpec → (dev : ℕ) → ℕ
-block_len us dev = stored_size (slice_index_or us dev no_spec).ty (slice_index_or us dev no_spec).size
-
--- where the block at this address begins
-abbrev pub block_place : List UnitSpec → (dev lba : ℕ) → ℕ
-block_place us dev lba =
-    place_of us dev + (lba - (slice_index_or us dev no_spec).first) * stored_size (slice_index_or us dev no_spec).ty (slice_index_or us dev no_spec).size
 
 -- a change that these units let be made
 abbrev pub can_change_in : List UnitSpec → (dev lba : ℕ) → Change → Bool

@@ -4,19 +4,18 @@ ghost use Rattle.std.specs.Prelude.{◌≡◌, ◌≤◌, ◌+◌, ◌*◌, [], 
 ghost use Rattle.rig_api.specs.Head.{Head};
 ghost use Rattle.rig_log.specs.Entries.{few_of, keyed_of};
 ghost use Rattle.rig_log.specs.Logs.{logged, room_in};
-ghost use Rattle.image_rig.specs.Heads.{head_in};
+ghost use Rattle.image_layout.specs.Heads.{head_in};
 ghost use Rattle.image_rig.specs.Told.{laid_of, ready_of, standing_of, units_of_image};
 
 use crate::ImageRig;
 use crate::formatting::append_formatted;
-use crate::image_head::ImageHead;
-use crate::looking::look;
 use crate::migrating::migrate_head;
 use crate::overwriting::change_block;
 use crate::place::{greatest_size, logical};
 use arrayvec::ArrayVec;
 use dix_base::{Failed, Store, StoreFault};
 use fault_schedule::{FaultList, Label, Tamper};
+use image_layout::{ImageHead, look};
 use rig_api::{Change, Outcome, Record, Rig, RigFault, UnitSpec};
 use rig_log::Log;
 use std::alloc::{AllocError, Global};

@@ -8,8 +8,8 @@ ghost use Rattle.target_answer.specs.Headers.{is_layout, is_spec, version_for};
 ghost use Rattle.target_answer.specs.Image.{all_fresh, formatted, fresh};
 ghost use Rattle.image_rig.specs.Small.{is_small};
 
-use crate::head::stored_size;
 use dix_base::{Store, StoreFault};
+use image_layout::stored_size;
 use pi_tuple::{PiType, make, own_tag};
 use std::alloc::Global;
 use target_answer::{UnitSpec, Version, header};

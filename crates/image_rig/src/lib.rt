@@ -4,10 +4,7 @@
 
 mod calls;
 mod formatting;
-mod head;
 mod image;
-mod image_head;
-mod looking;
 mod migrating;
 mod overwriting;
 mod place;

@@ -3,14 +3,15 @@
 ghost use Rattle.std.specs.Prelude.{◌≡◌, ◌+◌, ◌<◌, ◌≤◌, IsOk, OnErr, OnOk, false, length, take, drop, true};
 ghost use Rattle.dix_base.specs.Told.{Apart, Becomes, Rose, over};
 ghost use Rattle.image_rig.specs.Changes.{IsChanged, altered_by};
-ghost use Rattle.image_rig.specs.Places.{block_len, block_place, can_change_in};
+ghost use Rattle.image_layout.specs.Places.{block_len, block_place};
+ghost use Rattle.image_rig.specs.Places.{can_change_in};
 ghost use Rattle.rig_api.specs.Telling.{source_of};
 ghost use Rattle.target_answer.specs.Headers.{image_size, is_layout};
 
-use crate::head::stored_size;
-use crate::place::{block_place, can_change, source_place};
+use crate::place::{can_change, source_place};
 use dix_base::{Failed, Store};
 use fault_schedule::xor_into;
+use image_layout::{block_place, stored_size};
 use rig_api::{Change, UnitSpec};
 
 fn alter(change: &Change, block: &mut [u8])

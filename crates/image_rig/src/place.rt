@@ -1,46 +1,15 @@
-//! Where units and their blocks lie in the store.
+//! The units behind devices, and which changes of blocks can be made.
 
-ghost use Rattle.std.specs.Prelude.{◌≡◌, ◌+◌, ◌-◌, ◌*◌, ◌<◌, ◌≤◌, length, slice_index_or, true, ◌&&◌, eqb};
+ghost use Rattle.std.specs.Prelude.{◌≡◌, ◌<◌, length, slice_index_or, true, ◌&&◌, eqb};
 ghost use Rattle.target_answer.specs.Frames.{stored_size};
-ghost use Rattle.target_answer.specs.Headers.{bytes_of, is_layout};
+ghost use Rattle.target_answer.specs.Headers.{is_layout};
 ghost use Rattle.rig_api.specs.Telling.{greatest, has_address, no_spec, source_of};
 ghost use Rattle.image_rig.specs.Changes.{source_place};
-ghost use Rattle.image_rig.specs.Places.{block_place, can_change_in, logical_of, place_of};
+ghost use Rattle.image_rig.specs.Places.{can_change_in, logical_of};
 
-use crate::head::{stored_size, unit_bytes};
+use image_layout::{block_place, has_address, place_of, stored_size};
 use rig_api::{Change, UnitSpec};
 use target_model::LogicalUnit;
-
-/// The byte of the store at which a unit's first block begins.
-pub(crate) fn place_of(units: &[UnitSpec], dev: usize) -> u64
-    requires layout { is_layout units.now ≡ true }
-    requires device { dev < length units.now }
-    ensures value { result ≡ place_of units.now dev }
-    ensures bound { result + bytes_of (slice_index_or units.now dev no_spec) ≤ 512 + 8 * (65536 * 520) }
-{
-    let mut place = 512u64;
-    for i in 0..dev {
-        place += unit_bytes(units[i]);
-    }
-    place
-}
-
-/// The byte of the store at which the block at this LBA of a unit begins, which has it.
-pub(crate) fn block_place(units: &[UnitSpec], dev: usize, lba: u64) -> u64
-    requires layout { is_layout units.now ≡ true }
-    requires device { dev < length units.now }
-    requires address { has_address (slice_index_or units.now dev no_spec) lba ≡ true }
-    ensures value { result ≡ block_place units.now dev lba }
-{
-    let unit = units[dev];
-    place_of(units, dev) + (lba - unit.first) * stored_size(unit.ty, unit.size)
-}
-
-fn has_address(unit: UnitSpec, lba: u64) -> bool
-    ensures { result ≡ has_address unit lba }
-{
-    unit.first <= lba && (lba as u128) < unit.first as u128 + unit.blocks as u128
-}
 
 fn has_source(units: &[UnitSpec], from: usize, at: u64, unit: UnitSpec) -> bool
     requires { from < length units.now }

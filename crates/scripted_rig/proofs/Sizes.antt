@@ -7,7 +7,7 @@ use Rattle.rig_api.specs.Head.{units_of}
 use Rattle.rig_api.specs.Log.{HasRoom, Room}
 use Rattle.rig_api.specs.Telling.{IsStanding, Standing, greatest, greatest_size, spec_at, specs_of}
 use Rattle.image_rig.proofs.Devices.{greatest_small, room_for, size_here, size_least, size_most}
-use Rattle.image_rig.proofs.Heads.{right_layout}
+use Rattle.image_layout.proofs.Heads.{right_layout}
 
 -- The block sizes of a rig's devices.
 
