@@ -1,0 +1,4 @@
+pub mod Sights
+pub mod ShowText
+pub mod UnitText
+pub mod Laws

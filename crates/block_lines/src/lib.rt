@@ -1,0 +1,12 @@
+//! The lines that tell stored blocks and units.
+#![tactic(auto)]
+
+mod line;
+mod show;
+mod sight;
+mod unit;
+
+pub use line::{Line, add, add_number};
+pub use show::{write_blocks, write_first, write_last};
+pub use sight::{Verdict, add_block};
+pub use unit::write_units;
