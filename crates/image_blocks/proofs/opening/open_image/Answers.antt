@@ -1,0 +1,17 @@
+use Rattle.std.proofs.Common.{ap, sym, ◌∙◌}
+use Rattle.target_answer.specs.Headers.{image_size, is_layout}
+use Rattle.image_layout.specs.Heads.{head_in}
+use Rattle.image_layout.proofs.Heads.{right_layout, right_size}
+use Rattle.image_blocks.proofs.opening.open_image.Goals as goal
+
+pub invariant_of-result : goal.invariant_of-result
+invariant_of-result g c = record { layout = ap is_layout c.units.ensures ∙ right_layout (head_in c.look.new.head) c.in_ok-look.ensures.judged }
+
+pub returns-clause-judged : goal.returns-clause-judged
+returns-clause-judged g c = record {
+  head = head_in c.look.new.head;
+  judged = c.in_ok-look.ensures.judged;
+  told = c.in_ok-look.ensures.head;
+  units = c.units.ensures;
+  held = sym c.in_ok-look.ensures.size ∙ right_size (head_in c.look.new.head) c.in_ok-look.ensures.judged ∙ ap image_size (sym c.units.ensures);
+}

@@ -1,0 +1,71 @@
+//! Stretches of blocks, read and written.
+
+ghost use Rattle.std.specs.Prelude.{◌≡◌, ◌+◌, ◌*◌, ◌≤◌, OnErr, OnOk, length};
+ghost use Rattle.dix_base.specs.Told.{Apart, Becomes, Rose};
+ghost use Rattle.target_answer.specs.Headers.{image_size};
+ghost use Rattle.image_layout.specs.Places.{block_len, block_place};
+ghost use Rattle.image_blocks.specs.Blocks.{AreLeft, ArePut, AreStored, blocks_of};
+ghost use Rattle.image_blocks.specs.Images.{units_open};
+ghost use Rattle.image_blocks.specs.Places.{IsStretch};
+
+use crate::image::Image;
+use crate::stretch::Stretch;
+use dix_base::{Failed, Store};
+use image_layout::{place_of, stored_size};
+
+/// The byte of the image at which a stretch begins.
+fn place_in(image: &Image, at: Stretch) -> u64
+    requires { IsStretch (units_open image.now) at }
+    ensures { result ≡ block_place (units_open image.now) at.dev at.first }
+{
+    let unit = image.units[at.dev as usize];
+    place_of(&image.units, at.dev as usize)
+        + (at.first - unit.first) * stored_size(unit.ty, unit.size)
+}
+
+/// Reads the blocks of a stretch into `into`, which has just their length, by one call of the store. A call
+/// that fails may leave anything there.
+pub fn read_blocks<S: Store>(
+    store: &mut S,
+    image: &Image,
+    at: Stretch,
+    into: &mut [u8],
+) -> Result<(), Failed>
+    requires place { IsStretch (units_open image.now) at }
+    requires room { length into.old ≡ at.count * block_len (units_open image.now) at.dev }
+    requires held { S.len store.old ≡ image_size (units_open image.now) }
+    ensures read { OnOk result (AreStored (units_open image.now) at (blocks_of (units_open image.now) at into.new) (S.bytes store.old)) }
+    ensures cause { OnErr result (Rose (S.faults store.old) (S.faults store.new)) }
+    ensures calm { OnOk result (S.faults store.new ≡ S.faults store.old) }
+    ensures same { S.bytes store.new ≡ S.bytes store.old }
+    ensures length { S.len store.new ≡ S.len store.old }
+    ensures count { S.faults store.old ≤ S.faults store.new }
+    ensures named { S.handed store.new ≡ S.handed store.old }
+    ensures opened { S.openings store.new ≡ S.openings store.old }
+{
+    store.read_at(place_in(image, at), into)
+}
+
+/// Writes these bytes over the blocks of a stretch, by one call of the store. They have just its length. A
+/// call that fails may leave any blocks there, and leaves all else.
+pub fn write_blocks<S: Store>(
+    store: &mut S,
+    image: &Image,
+    at: Stretch,
+    from: &[u8],
+) -> Result<(), Failed>
+    requires place { IsStretch (units_open image.now) at }
+    requires room { length from.now ≡ at.count * block_len (units_open image.now) at.dev }
+    requires held { S.len store.old ≡ image_size (units_open image.now) }
+    ensures put { OnOk result (ArePut (units_open image.now) at (blocks_of (units_open image.now) at from.now) (S.bytes store.old) (S.bytes store.new)) }
+    ensures left { AreLeft (units_open image.now) at (S.bytes store.old) (S.bytes store.new) }
+    ensures apart { Becomes (Apart (block_place (units_open image.now) at.dev at.first) (length from.now)) (S.bytes store.old) (S.bytes store.new) }
+    ensures cause { OnErr result (Rose (S.faults store.old) (S.faults store.new)) }
+    ensures calm { OnOk result (S.faults store.new ≡ S.faults store.old) }
+    ensures length { S.len store.new ≡ S.len store.old }
+    ensures count { S.faults store.old ≤ S.faults store.new }
+    ensures named { S.handed store.new ≡ S.handed store.old }
+    ensures opened { S.openings store.new ≡ S.openings store.old }
+{
+    store.write_at(place_in(image, at), from)
+}

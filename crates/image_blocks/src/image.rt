@@ -1,0 +1,23 @@
+//! An image that was opened and judged.
+
+ghost use Rattle.std.specs.Prelude.{◌≡◌, true};
+ghost use Rattle.target_answer.specs.Headers.{is_layout};
+
+use arrayvec::ArrayVec;
+use target_answer::UnitSpec;
+
+/// The units of an image whose head is right.
+#[derive(Drop)]
+pub struct Image {
+    pub(crate) units: ArrayVec<UnitSpec, 8>,
+    ghost layout: { is_layout units.items ≡ true },
+}
+
+impl Image {
+    /// The units, in the order in which they lie.
+    pub fn units(&self) -> &[UnitSpec]
+        ensures { result.now ≡ self.now.units.items }
+    {
+        &self.units
+    }
+}
