@@ -1,12 +1,12 @@
 -- Where the blocks of a stretch lie in an image, and what becomes of its units as they change.
-use Rattle.std.proofs.Common.{◌≡◌, ℕ, ◌+◌, ◌-◌, ◌*◌, ◌≤◌, List, ◌++◌, length, get_or, set, take, drop, Option, Some, None, sym, ap, ◌∙◌, arith}
-use Rattle.std.proofs.lemmas.List.{drop-drop, length-drop, length-take, take-take, take_all}
+use Rattle.std.proofs.Common.{◌≡◌, ℕ, ◌+◌, ◌-◌, ◌*◌, ◌^◌, ◌<◌, ◌≤◌, true, List, [], ◌++◌, length, get_or, set, take, drop, replicate, Option, Some, None, sym, ap, ◌∙◌, arith, length-append}
+use Rattle.std.proofs.lemmas.List.{drop-drop, length-drop, length-replicate, length-take, take-take, take_all}
 use Rattle.std.proofs.Math.Seq.{take-add}
 use Rattle.std.proofs.Math.Nat.{mul-le-mul_left, mul_comm}
 use Rattle.std.specs.Prelude.{Result, Ok, Err, OnOk}
 use Rattle.dix_base.specs.Told.{Apart, Becomes, HasLength, IsRead, over}
 use Rattle.target_answer.specs.Frames.{frames_of, joined, placed, stored_size}
-use Rattle.target_answer.specs.Headers.{all_bytes, bytes_of, image_size}
+use Rattle.target_answer.specs.Headers.{all_bytes, bytes_of, image_size, is_layout, is_spec}
 use Rattle.target_answer.specs.Image.{unit_from, units_from, units_in}
 use Rattle.target_answer.specs.Target.{Stored}
 use Rattle.target_answer.specs.declared.units.UnitSpec.{UnitSpec}
@@ -14,9 +14,10 @@ use Rattle.target_model.specs.Served.{AllLong}
 use Rattle.target_model.proofs.Bytes.{frames_back, frames_part, joined_frames, length_frames, long_both, long_drop, long_frames, long_take, over_back, placed_length, unit_over}
 use Rattle.rig_api.specs.Telling.{holding, no_spec, unit_at}
 use Rattle.image_layout.specs.Places.{block_len, block_place}
+use Rattle.image_layout.proofs.Heads.{spec_here}
 use Rattle.image_layout.proofs.Units.{behind_over, bytes_within, drop_over, frames_front, front_over, unit_found, units_change}
 use Rattle.image_blocks.specs.declared.stretch.Stretch.{Stretch}
-use Rattle.image_blocks.specs.Blocks.{AreLeft, ArePut, AreStored, blocks_at, blocks_of, with_stretch}
+use Rattle.image_blocks.specs.Blocks.{AreLeft, ArePut, AreStored, HasBlocks, blocks_at, blocks_of, with_stretch}
 use Rattle.image_blocks.specs.Places.{IsStretch, behind_in, spec_of}
 
 -- so many blocks from one on lie inside all of them
@@ -126,13 +127,60 @@ stored_in_turn us was s n h c =
     let low = h.first in
     blocks_in_turn (units_in us was) s n (omega arith) c
 
+-- the first blocks, and those behind them
+pub has_both : (us : List UnitSpec) (s : Stretch) (n : ℕ) (xs ys : List (List ℕ)) (image : Option (List ℕ)) → IsStretch us s → n ≤ s.count →
+    HasBlocks us (record { dev = s.dev; first = s.first; count = n }) xs image → HasBlocks us (behind_in s n) ys image → HasBlocks us s (xs ++ ys) image
+has_both us s n xs ys image h c a b =
+    let l = length-append xs ys in
+    let m = a.many in
+    let k = b.many in
+    record { many = omega arith; long = long_both (block_len us s.dev) xs ys a.long b.long; stored = both_stored image a.stored b.stored }
+  where
+    both_stored : (image : Option (List ℕ)) → AreStored us (record { dev = s.dev; first = s.first; count = n }) xs image → AreStored us (behind_in s n) ys image → AreStored us s (xs ++ ys) image
+    both_stored None p q = tt
+    both_stored (Some was) p q = ap (λ v. v ++ ys) p ∙ ap (λ v. blocks_at (units_in us was) (record { dev = s.dev; first = s.first; count = n }) ++ v) q ∙ sym (stored_in_turn us was s n h c)
+
+-- no blocks
+pub has_none : (us : List UnitSpec) (s : Stretch) (image : Option (List ℕ)) → s.count ≡ 0 → HasBlocks us s [] image
+has_none us s image e = record { many = sym e; long = tt; stored = none image }
+  where
+    none : (image : Option (List ℕ)) → AreStored us s [] image
+    none None = tt
+    none (Some was) = let u = unit_at (units_in us was) s.dev in ap (λ n. take n (drop (s.first - u.first) u.blocks)) (sym e)
+
+-- Whatever is told, there are such blocks.
+pub has_some : (us : List UnitSpec) (s : Stretch) (len : ℕ) (image : Option (List ℕ)) → IsStretch us s → len ≡ image_size us → HasLength len image → (blocks : List (List ℕ)) × HasBlocks us s blocks image
+has_some us s len None h z l =
+    let bytes : List ℕ = replicate (s.count * block_len us s.dev) 0 in
+    let c = mul_comm s.count (block_len us s.dev) in
+    let k = length-replicate {A = ℕ} (s.count * block_len us s.dev) 0 in
+    (blocks_of us s bytes, record { many = length_frames (block_len us s.dev) s.count bytes; long = long_frames (block_len us s.dev) s.count bytes (omega arith); stored = tt })
+has_some us s len (Some was) h z l =
+    let bytes = drop (block_place us s.dev s.first) was in
+    let c = mul_comm s.count (block_len us s.dev) in
+    let k = length-drop (block_place us s.dev s.first) was in
+    let held = stretch_held us s h in
+    (blocks_of us s bytes, record { many = length_frames (block_len us s.dev) s.count bytes; long = long_frames (block_len us s.dev) s.count bytes (omega arith); stored = sym (stretch_found us was s h) })
+
+-- the addresses of a stretch have 64 bits
+pub stretch_end : (us : List UnitSpec) (s : Stretch) → is_layout us ≡ true → IsStretch us s → s.first + s.count < 2 ^ 64
+stretch_end us s l h = let e = spec_ends (spec_of us s.dev) (spec_here us s.dev l h.device) in let a = h.last in omega arith
+  where
+    spec_ends : (u : UnitSpec) → is_spec u ≡ true → u.first + u.blocks ≤ 2 ^ 63
+    spec_ends u h = grind arith
+
 -- ---- what a call of the store leaves
 
-pub are_stored : {X E : Type 0} (r : Result X E) (us : List UnitSpec) (s : Stretch) (at n : ℕ) (xs : List ℕ) (bytes : Option (List ℕ)) → IsStretch us s → at ≡ block_place us s.dev s.first → n ≡ s.count * block_len us s.dev →
-    OnOk r (IsRead at n xs bytes) → OnOk r (AreStored us s (blocks_of us s xs) bytes)
-are_stored (Err e) us s at n xs bytes h p l r = tt
-are_stored (Ok x) us s at n xs None h p l r = tt
-are_stored (Ok x) us s at n xs (Some was) h p l r = blocks_read us was xs s h (r ∙ ap (λ k. take n (drop k was)) p ∙ ap (λ k. take k (drop (block_place us s.dev s.first) was)) l)
+pub were_read : {X E : Type 0} (r : Result X E) (us : List UnitSpec) (s : Stretch) (at n : ℕ) (xs : List ℕ) (image : Option (List ℕ)) → IsStretch us s → at ≡ block_place us s.dev s.first → n ≡ s.count * block_len us s.dev →
+    length xs ≡ s.count * block_len us s.dev → OnOk r (IsRead at n xs image) → OnOk r (HasBlocks us s (blocks_of us s xs) image)
+were_read (Err e) us s at n xs image h p l k r = tt
+were_read (Ok x) us s at n xs image h p l k r =
+    let c = mul_comm s.count (block_len us s.dev) in
+    record { many = length_frames (block_len us s.dev) s.count xs; long = long_frames (block_len us s.dev) s.count xs (omega arith); stored = as_stored image r }
+  where
+    as_stored : (image : Option (List ℕ)) → IsRead at n xs image → AreStored us s (blocks_of us s xs) image
+    as_stored None r = tt
+    as_stored (Some was) r = blocks_read us was xs s h (r ∙ ap (λ k. take n (drop k was)) p ∙ ap (λ k. take k (drop (block_place us s.dev s.first) was)) l)
 
 pub are_put : (us : List UnitSpec) (s : Stretch) (at len : ℕ) (xs : List ℕ) (old new : Option (List ℕ)) → IsStretch us s → at ≡ block_place us s.dev s.first → length xs ≡ s.count * block_len us s.dev → len ≡ image_size us → HasLength len old →
     Becomes (λ was is. is ≡ over at xs was) old new → ArePut us s (blocks_of us s xs) old new

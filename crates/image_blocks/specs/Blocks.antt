@@ -26,6 +26,12 @@ abbrev pub AreStored : List UnitSpec → Stretch → List (List ℕ) → Option 
 AreStored us s blocks None = Unit {0}
 AreStored us s blocks (Some image) = blocks ≡ blocks_at (units_in us image) s
 
+-- The blocks are as many as the stretch has, each of the length that is stored; where the image is told, they are the stored ones.
+pub record HasBlocks (us : List UnitSpec) (s : Stretch) (blocks : List (List ℕ)) (image : Option (List ℕ)) : Type 0 where
+  pub many : length blocks ≡ s.count
+  pub long : AllLong (block_len us s.dev) blocks
+  pub stored : AreStored us s blocks image
+
 -- Where the image is told, its units are as before, with these blocks in the stretch's place.
 abbrev pub ArePut : List UnitSpec → Stretch → List (List ℕ) → (old new : Option (List ℕ)) → Type 0
 ArePut us s blocks old new = Becomes (λ was is. units_in us is ≡ with_stretch (units_in us was) s blocks) old new

@@ -4,7 +4,7 @@ ghost use Rattle.std.specs.Prelude.{◌≡◌, ◌+◌, ◌*◌, ◌≤◌, OnEr
 ghost use Rattle.dix_base.specs.Told.{Apart, Becomes, Rose};
 ghost use Rattle.target_answer.specs.Headers.{image_size};
 ghost use Rattle.image_layout.specs.Places.{block_len, block_place};
-ghost use Rattle.image_blocks.specs.Blocks.{AreLeft, ArePut, AreStored, blocks_of};
+ghost use Rattle.image_blocks.specs.Blocks.{AreLeft, ArePut, HasBlocks, blocks_of};
 ghost use Rattle.image_blocks.specs.Images.{units_open};
 ghost use Rattle.image_blocks.specs.Places.{IsStretch};
 
@@ -34,7 +34,8 @@ pub fn read_blocks<S: Store>(
     requires place { IsStretch (units_open image.now) at }
     requires room { length into.old ≡ at.count * block_len (units_open image.now) at.dev }
     requires held { S.len store.old ≡ image_size (units_open image.now) }
-    ensures read { OnOk result (AreStored (units_open image.now) at (blocks_of (units_open image.now) at into.new) (S.bytes store.old)) }
+    ensures read { OnOk result (HasBlocks (units_open image.now) at (blocks_of (units_open image.now) at into.new) (S.bytes store.old)) }
+    ensures long { length into.new ≡ length into.old }
     ensures cause { OnErr result (Rose (S.faults store.old) (S.faults store.new)) }
     ensures calm { OnOk result (S.faults store.new ≡ S.faults store.old) }
     ensures same { S.bytes store.new ≡ S.bytes store.old }

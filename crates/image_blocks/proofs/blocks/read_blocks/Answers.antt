@@ -1,5 +1,5 @@
-use Rattle.std.proofs.Common.{arith}
-use Rattle.image_blocks.proofs.Stretches.{are_stored, stretch_held}
+use Rattle.std.proofs.Common.{◌∙◌, arith}
+use Rattle.image_blocks.proofs.Stretches.{stretch_held, were_read}
 use Rattle.image_blocks.specs.Images.{units_open}
 use Rattle.image_blocks.proofs.blocks.read_blocks.Goals as goal
 
@@ -10,4 +10,4 @@ read_at-requires g c =
 
 pub returns-clause-read : goal.returns-clause-read
 returns-clause-read g c =
-    are_stored c.read_at.result (units_open c.args.image.now) c.args.at c.place_in.result _ c.read_at.new.into (g.S.Store.bytes c.args.store.now) c.requires.place c.place_in.ensures c.requires.room c.read_at.ensures.read
+    were_read c.read_at.result (units_open c.args.image.now) c.args.at c.place_in.result _ c.read_at.new.into (g.S.Store.bytes c.args.store.now) c.requires.place c.place_in.ensures c.requires.room (c.read_at.auto.into ∙ c.requires.room) c.read_at.ensures.read
