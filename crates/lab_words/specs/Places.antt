@@ -1,5 +1,5 @@
 use Rattle.std.specs.Prelude.{ℕ, List, Option, Some, None}
-use Rattle.dix_words.specs.Numbers.{number_in}
+use Rattle.script_words.specs.Decimals.{number_in}
 use Rattle.script_words.specs.Cuts.{Cut, cut}
 use Rattle.script_words.specs.Numbers.{number_within}
 use Rattle.lab_words.specs.declared.place.Place.{Place}

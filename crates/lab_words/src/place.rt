@@ -5,8 +5,7 @@ ghost use Rattle.script_words.specs.Cuts.{cut};
 ghost use Rattle.script_words.specs.Numbers.{number_within};
 ghost use Rattle.lab_words.specs.Places.{behind_device, place_in};
 
-use dix_words::number;
-use script_words::{number_within, split_once};
+use script_words::{number, number_within, split_once};
 
 /// Where blocks of an image lie.
 #[derive(Clone, Copy, Debug, PartialEq, Eq)]

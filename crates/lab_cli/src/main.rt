@@ -1,0 +1,57 @@
+//! The program `dixlab`: shows the stored blocks of disk images.
+#![tactic(auto)]
+
+use dix_base::{FileStore, StdinSource, StdoutSink};
+use image_rig::ImageRig;
+use lab_run::{Refusal, refuse, run};
+use std::process::ExitCode;
+use std::{env, fs, io};
+
+/// The words that the program was called with, without its own name.
+fn words_of(rt: &HostRuntime) -> io::Result<Vec<String>> {
+    let mut words = Vec::new(rt.alloc());
+    for word in env::args(rt)?.skip(1) {
+        words.push(word)?;
+    }
+    Ok(words)
+}
+
+/// Takes the places of standard streams that are closed, so that no image is opened in one and
+/// overwritten. A directory can be neither read nor written as a stream.
+fn hold_closed_streams(rt: &HostRuntime) -> [Option<fs::File>; 3] {
+    [
+        fs::open(rt, "/").ok(),
+        fs::open(rt, "/").ok(),
+        fs::open(rt, "/").ok(),
+    ]
+}
+
+fn main(rt: HostRuntime) -> io::Result<ExitCode> {
+    let _held = hold_closed_streams(&rt);
+    let mut input = StdinSource::new(rt.clone()?);
+    let mut rig = ImageRig::new(rt.alloc(), FileStore::new(rt.clone()?));
+    let mut first = FileStore::new(rt.clone()?);
+    let mut second = FileStore::new(rt.clone()?);
+    let mut out = StdoutSink::new(rt.clone()?);
+    let status = match words_of(&rt) {
+        Ok(words) => run(
+            rt.alloc(),
+            &words,
+            &mut input,
+            &mut rig,
+            &mut first,
+            &mut second,
+            &mut out,
+        ),
+        Err(error) => refuse(&mut out, refusal_of(&error)),
+    };
+    Ok(ExitCode::from(status.number()))
+}
+
+/// Words that are no text are not in the grammar; all else is want of memory.
+fn refusal_of(error: &io::Error) -> Refusal {
+    match error.kind() {
+        io::ErrorKind::InvalidData => Refusal::Words,
+        _ => Refusal::Memory,
+    }
+}

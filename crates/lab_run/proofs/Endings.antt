@@ -1,0 +1,190 @@
+use Rattle.std.proofs.Common.{ℕ, ◌≡◌, ◌≤◌, inl, inr, List, Option, Some, None, Result, Ok, Err, refl, sym, ap, subst, ◌∙◌, arith, ltb}
+use Rattle.std.specs.Prelude.{IsErrOf}
+use Rattle.dix_base.specs.Told.{Rose}
+use Rattle.dix_words.specs.Grammar.{image_in}
+use Rattle.image_blocks.specs.Blocks.{HasBlocks}
+use Rattle.image_blocks.specs.Images.{IsJudged, units_open}
+use Rattle.image_blocks.specs.declared.image.Image.{Image}
+use Rattle.image_blocks.specs.declared.stretch.PlaceFault.{PlaceFault}
+use Rattle.image_blocks.specs.declared.stretch.Stretch.{Stretch}
+use Rattle.image_commands.specs.Views.{View}
+use Rattle.image_show.specs.Shown.{ShowEnds, text_of}
+use Rattle.image_show.specs.declared.fault.ShowFault.{ShowFault}
+use Rattle.image_show.specs.declared.fault.ShowFault.TheVariants as show
+use Rattle.lab_words.specs.declared.command.Command.{Command}
+use Rattle.lab_words.specs.declared.command.Command.TheVariants.{Help, Version, ShowUnits, ShowBlocks, Diff, Export, Import, Vectors, Judge, Explain, Sweep}
+use Rattle.lab_words.specs.declared.place.Place.{Place}
+use Rattle.rig_api.specs.Telling.{OpenedBy}
+use Rattle.rig_api.specs.declared.rig.RigFault.{RigFault}
+use Rattle.rig_api.specs.declared.rig.RigFault.TheVariants as head
+use Rattle.lab_run.specs.Calls.{Facts, Held, OpenedOnce, called_of, on_first, served_by, served_in, stretch_in}
+use Rattle.lab_run.specs.Texts.{refusal_of, refusal_text, status_of}
+use Rattle.lab_run.specs.Verdict.{Cause, CauseByCommand, CauseNotListed, CauseNotShown, Ended, HasOpened, Keeps, Listed, Refused, Shown, Verdict, Written, done_status, shown_status, verdict_status, verdict_text}
+use Rattle.lab_run.specs.declared.refusal.Refusal.{Refusal}
+use Rattle.lab_run.specs.declared.refusal.Refusal.TheVariants as refusal
+use Rattle.lab_run.specs.declared.status.Status.{Status}
+
+-- The verdicts of `show`.
+
+-- what the opening of an image leaves
+pub record Tried (result : Result Image RigFault) (name : List ℕ) (old new : Held) : Type 0 where
+  pub judged : IsJudged result old.bytes new.len
+  pub failed : IsErrOf result head.Failed → Rose old.faults new.faults
+  pub opening : OpenedOnce name old new
+  pub opened : OpenedBy result name (called_of old) (called_of new)
+  pub same : new.bytes ≡ old.bytes
+  pub count : old.faults ≤ new.faults
+
+pub tried : (result : Result Image RigFault) (name handed : List ℕ) (old new : Held) → handed ≡ name → IsJudged result old.bytes new.len → (IsErrOf result head.Failed → Rose old.faults new.faults) → OpenedOnce handed old new → OpenedBy result handed (called_of old) (called_of new) →
+    new.bytes ≡ old.bytes → old.faults ≤ new.faults → Tried result name old new
+tried result name handed old new e j f o p s k = record {
+  judged = j;
+  failed = f;
+  opening = subst (λ (x : List ℕ). OpenedOnce x old new) e o;
+  opened = subst (λ (x : List ℕ). OpenedBy result x (called_of old) (called_of new)) e p;
+  same = s;
+  count = k;
+}
+
+pub ended_refused : (f : Facts) (r : Refusal) (taken taken' : Option (List ℕ)) (o n : ℕ) (result : Status) → CauseByCommand (served_in f.words) r f → Keeps f → Written (status_of r) (refusal_text r) taken taken' o n result → Ended f taken taken' o n result
+ended_refused f r taken taken' o n result cause kept w = record { verdict = Refused r; cause = cause; written = inl w; kept = kept }
+
+-- ---- an image that isn't opened
+
+not_listed : (x : RigFault) (f : Facts) → Tried (Err x) (image_in f.words) f.first f.first_after → CauseNotListed (refusal_of x) f
+not_listed head.BadMagic f t = record { opened = t.opened; head = t.judged.head; judged = t.judged.judged; told = t.judged.told }
+not_listed head.BadHeader f t = record { opened = t.opened; head = t.judged.head; judged = t.judged.judged; told = t.judged.told }
+not_listed head.BadLength f t = record { opened = t.opened; head = t.judged.head; judged = t.judged.judged; told = t.judged.told }
+not_listed head.Failed f t = t.failed refl
+not_listed head.Memory f t = tt
+
+not_shown : (place : Place) (x : RigFault) (f : Facts) → Tried (Err x) (image_in f.words) f.first f.first_after → CauseNotShown place (refusal_of x) f
+not_shown place head.BadMagic f t = record { opened = t.opened; head = t.judged.head; judged = t.judged.judged; told = t.judged.told }
+not_shown place head.BadHeader f t = record { opened = t.opened; head = t.judged.head; judged = t.judged.judged; told = t.judged.told }
+not_shown place head.BadLength f t = record { opened = t.opened; head = t.judged.head; judged = t.judged.judged; told = t.judged.told }
+not_shown place head.Failed f t = t.failed refl
+not_shown place head.Memory f t = tt
+
+kept_on : (words : List (List ℕ)) (old new : Held) (left : Option (List ℕ)) (reads : ℕ) (rig : View) (second : Held) → new.bytes ≡ old.bytes → OpenedOnce (image_in words) old new → old.faults ≤ new.faults → Keeps (on_first words old new left reads rig second)
+kept_on words old new left reads rig second b o c = record { left = refl; reads = refl; rig = refl; second = refl; bytes = b; openings = o; count = c }
+
+pub unlisted : (words : List (List ℕ)) (old new : Held) (left : Option (List ℕ)) (reads : ℕ) (rig : View) (second : Held) (x : RigFault) (r : Refusal) (taken taken' : Option (List ℕ)) (o n : ℕ) (result : Status) →
+    served_in words ≡ Some ShowUnits → r ≡ refusal_of x → Tried (Err x) (image_in words) old new → Written (status_of r) (refusal_text r) taken taken' o n result → Ended (on_first words old new left reads rig second) taken taken' o n result
+unlisted words old new left reads rig second x r taken taken' o n result e s t w =
+    let f = on_first words old new left reads rig second in
+    ended_refused f r taken taken' o n result
+    (subst (λ (c : Option Command). CauseByCommand c r f) (sym e) (subst (λ (y : Refusal). CauseNotListed y f) (sym s) (not_listed x f t)))
+    (kept_on words old new left reads rig second t.same t.opening t.count) w
+
+pub unshown : (words : List (List ℕ)) (place : Place) (old new : Held) (left : Option (List ℕ)) (reads : ℕ) (rig : View) (second : Held) (x : RigFault) (r : Refusal) (taken taken' : Option (List ℕ)) (o n : ℕ) (result : Status) →
+    served_in words ≡ Some (ShowBlocks place) → r ≡ refusal_of x → Tried (Err x) (image_in words) old new → Written (status_of r) (refusal_text r) taken taken' o n result → Ended (on_first words old new left reads rig second) taken taken' o n result
+unshown words place old new left reads rig second x r taken taken' o n result e s t w =
+    let f = on_first words old new left reads rig second in
+    ended_refused f r taken taken' o n result
+    (subst (λ (c : Option Command). CauseByCommand c r f) (sym e) (subst (λ (y : Refusal). CauseNotShown place y f) (sym s) (not_shown place x f t)))
+    (kept_on words old new left reads rig second t.same t.opening t.count) w
+
+-- want of memory for the blocks
+pub spared : (words : List (List ℕ)) (place : Place) (old : Held) (left : Option (List ℕ)) (reads : ℕ) (rig : View) (second : Held) (taken taken' : Option (List ℕ)) (o n : ℕ) (result : Status) →
+    served_in words ≡ Some (ShowBlocks place) → Written (status_of refusal.Memory) (refusal_text refusal.Memory) taken taken' o n result → Ended (on_first words old old left reads rig second) taken taken' o n result
+spared words place old left reads rig second taken taken' o n result e w =
+    let f = on_first words old old left reads rig second in
+    ended_refused f refusal.Memory taken taken' o n result (subst (λ (c : Option Command). CauseByCommand c refusal.Memory f) (sym e) tt)
+    (kept_on words old old left reads rig second refl (inl (refl, refl)) (omega arith)) w
+
+-- ---- an image that is opened
+
+opened_on : (image : Image) (f : Facts) → Tried (Ok image) (image_in f.words) f.first f.first_after → HasOpened (units_open image) f
+opened_on image f t = record { opened = t.opened; head = t.judged.head; right = t.judged.judged; told = t.judged.told; units = t.judged.units }
+
+pub listed : (words : List (List ℕ)) (old new : Held) (left : Option (List ℕ)) (reads : ℕ) (rig : View) (second : Held) (image : Image) (taken taken' : Option (List ℕ)) (o n : ℕ) (result : Status) →
+    served_in words ≡ Some ShowUnits → Tried (Ok image) (image_in words) old new → Written (verdict_status (Listed (units_open image))) (verdict_text (Listed (units_open image))) taken taken' o n result → Ended (on_first words old new left reads rig second) taken taken' o n result
+listed words old new left reads rig second image taken taken' o n result e t w = record {
+  verdict = Listed (units_open image);
+  cause = record { named = e; opened = opened_on image (on_first words old new left reads rig second) t };
+  written = inl w;
+  kept = kept_on words old new left reads rig second t.same t.opening t.count;
+}
+
+-- an image without the place
+pub unplaced : (words : List (List ℕ)) (place : Place) (old new : Held) (left : Option (List ℕ)) (reads : ℕ) (rig : View) (second : Held) (image : Image) (x : PlaceFault) (taken taken' : Option (List ℕ)) (o n : ℕ) (result : Status) →
+    served_in words ≡ Some (ShowBlocks place) → Tried (Ok image) (image_in words) old new → Err x ≡ stretch_in (units_open image) place → Written (status_of (refusal.Place x)) (refusal_text (refusal.Place x)) taken taken' o n result →
+    Ended (on_first words old new left reads rig second) taken taken' o n result
+unplaced words place old new left reads rig second image x taken taken' o n result e t p w =
+    let f = on_first words old new left reads rig second in
+    ended_refused f (refusal.Place x) taken taken' o n result
+    (subst (λ (c : Option Command). CauseByCommand c (refusal.Place x) f) (sym e) (record { units = units_open image; opened = opened_on image f t; judged = sym p }))
+    (kept_on words old new left reads rig second t.same t.opening t.count) w
+
+-- ---- blocks that are shown
+
+rose_since : (a b c : ℕ) → a ≤ b → Rose b c → Rose a c
+rose_since a b c h (inl r) = inl (omega (arith, h, r))
+rose_since a b c h (inr r) = inr r
+
+-- the store as the image was opened, and after its blocks were read
+pub record Goes (name : List ℕ) (old mid new : Held) : Type 0 where
+  pub same : new.bytes ≡ mid.bytes
+  pub named : new.name ≡ mid.name
+  pub openings : new.openings ≡ mid.openings
+  pub count : mid.faults ≤ new.faults
+
+on_opened : (image : Image) (words : List (List ℕ)) (old mid new : Held) (left : Option (List ℕ)) (reads : ℕ) (rig : View) (second : Held) → Tried (Ok image) (image_in words) old mid → Goes (image_in words) old mid new → HasOpened (units_open image) (on_first words old new left reads rig second)
+on_opened image words old mid new left reads rig second t g = record {
+  opened = rw (g.named, g.openings) t.opened;
+  head = t.judged.head;
+  right = t.judged.judged;
+  told = t.judged.told;
+  units = t.judged.units;
+}
+
+keeps_on : (image : Image) (words : List (List ℕ)) (old mid new : Held) (left : Option (List ℕ)) (reads : ℕ) (rig : View) (second : Held) → Tried (Ok image) (image_in words) old mid → Goes (image_in words) old mid new → Keeps (on_first words old new left reads rig second)
+keeps_on image words old mid new left reads rig second t g =
+    kept_on words old new left reads rig second (g.same ∙ t.same) (rw (g.named, g.openings) t.opening) (let a = t.count in let b = g.count in omega arith)
+
+pub shown : (words : List (List ℕ)) (place : Place) (old mid new : Held) (left : Option (List ℕ)) (reads : ℕ) (rig : View) (second : Held) (image : Image) (at : Stretch) (r : Result ℕ ShowFault) (taken taken' : Option (List ℕ)) (o n : ℕ) (result : Status) →
+    served_in words ≡ Some (ShowBlocks place) → Tried (Ok image) (image_in words) old mid → Goes (image_in words) old mid new → Ok at ≡ stretch_in (units_open image) place →
+    ShowEnds r (text_of (units_open image) at) (units_open image) at mid.bytes mid.faults new.faults o n taken taken' → result ≡ shown_status r → Ended (on_first words old new left reads rig second) taken taken' o n result
+shown words place old mid new left reads rig second image at (Ok bad) taken taken' o n result e t g p s w = record {
+  verdict = Shown (units_open image) at s.blocks;
+  cause = record { place = place; named = e; opened = on_opened image words old mid new left reads rig second t g; there = sym p; has = subst (λ (b : Option (List ℕ)). HasBlocks (units_open image) at s.blocks b) t.same s.has };
+  written = inl (inl (w ∙ ap (λ (k : ℕ). done_status (ltb 0 k)) s.counted, s.written));
+  kept = keeps_on image words old mid new left reads rig second t g;
+}
+shown words place old mid new left reads rig second image at (Err show.Store) taken taken' o n result e t g p s w = record {
+  verdict = Shown (units_open image) at s.1.blocks;
+  cause = record { place = place; named = e; opened = on_opened image words old mid new left reads rig second t g; there = sym p; has = subst (λ (b : Option (List ℕ)). HasBlocks (units_open image) at s.1.blocks b) t.same s.1.has };
+  written = inr (w, rose_since old.faults mid.faults new.faults t.count s.0, s.1.written);
+  kept = keeps_on image words old mid new left reads rig second t g;
+}
+shown words place old mid new left reads rig second image at (Err show.Sink) taken taken' o n result e t g p s w = record {
+  verdict = Shown (units_open image) at s.1.blocks;
+  cause = record { place = place; named = e; opened = on_opened image words old mid new left reads rig second t g; there = sym p; has = subst (λ (b : Option (List ℕ)). HasBlocks (units_open image) at s.1.blocks b) t.same s.1.has };
+  written = inl (inr (w, s.0, s.1.written));
+  kept = keeps_on image words old mid new left reads rig second t g;
+}
+
+-- ---- calls that touch no image
+
+pub without_image : (words : List (List ℕ)) (h : Held) (left : Option (List ℕ)) (reads : ℕ) (rig : View) (second : Held) (v : Verdict) (taken taken' : Option (List ℕ)) (o n : ℕ) (result : Status) →
+    Cause v (on_first words h h left reads rig second) → Written (verdict_status v) (verdict_text v) taken taken' o n result → Ended (on_first words h h left reads rig second) taken taken' o n result
+without_image words h left reads rig second v taken taken' o n result c w = record { verdict = v; cause = c; written = inl w; kept = kept_on words h h left reads rig second refl (inl (refl, refl)) (omega arith) }
+
+pub no_command : (words : List (List ℕ)) (h : Held) (left : Option (List ℕ)) (reads : ℕ) (rig : View) (second : Held) (taken taken' : Option (List ℕ)) (o n : ℕ) (result : Status) →
+    served_in words ≡ None → Written (status_of refusal.Words) (refusal_text refusal.Words) taken taken' o n result → Ended (on_first words h h left reads rig second) taken taken' o n result
+no_command words h left reads rig second taken taken' o n result e w =
+    without_image words h left reads rig second (Refused refusal.Words) taken taken' o n result (subst (λ (c : Option Command). CauseByCommand c refusal.Words (on_first words h h left reads rig second)) (sym e) refl) w
+
+-- the other commands aren't done yet
+pub not_served : (c : Command) → (c ≡ Help → ⊥) → (c ≡ Version → ⊥) → (c ≡ ShowUnits → ⊥) → ((place : Place) → c ≡ ShowBlocks place → ⊥) → served_by (Some c) ≡ None
+not_served Help a b d e = absurd (a refl)
+not_served Version a b d e = absurd (b refl)
+not_served ShowUnits a b d e = absurd (d refl)
+not_served (ShowBlocks place) a b d e = absurd (e place refl)
+not_served (Diff one two) a b d e = refl
+not_served (Export place layout) a b d e = refl
+not_served (Import place layout) a b d e = refl
+not_served Vectors a b d e = refl
+not_served Judge a b d e = refl
+not_served Explain a b d e = refl
+not_served (Sweep byte units) a b d e = refl

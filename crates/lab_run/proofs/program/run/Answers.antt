@@ -1,0 +1,30 @@
+use Rattle.std.proofs.Common.{Some, ap, sym, ◌∙◌}
+use Rattle.lab_words.specs.declared.command.Command.{Command}
+use Rattle.lab_run.specs.Calls.{served_by}
+use Rattle.lab_run.specs.Verdict.{Helped, Versioned}
+use Rattle.lab_run.proofs.Carrying.{carried}
+use Rattle.lab_run.proofs.Endings.{no_command, not_served, without_image}
+use Rattle.lab_run.proofs.program.run.Goals as goal
+
+pub returns-in_default : goal.returns-in_default
+returns-in_default g c = carried _ _ _ _ _ c.refuse.result (no_command _ _ _ _ _ _ _ _ _ _ c.refuse.result (ap served_by (sym c.command_of.ensures ∙ c.in_default.is)) c.refuse.ensures)
+
+pub returns-in-Help : goal.returns-in-Help
+returns-in-Help g c =
+    carried _ _ _ _ _ c.finish.result (without_image _ _ _ _ _ _ Helped _ _ _ _ c.finish.result (ap served_by (sym c.command_of.ensures ∙ c.in-Some.is ∙ ap (λ (x : Command). Some x) c.in-Help.is)) c.finish.ensures)
+
+pub returns-in-Version : goal.returns-in-Version
+returns-in-Version g c =
+    carried _ _ _ _ _ c.finish-in-Version.result (without_image _ _ _ _ _ _ Versioned _ _ _ _ c.finish-in-Version.result (ap served_by (sym c.command_of.ensures ∙ c.in-Some.is ∙ ap (λ (x : Command). Some x) c.in-Version.is)) c.finish-in-Version.ensures)
+
+pub returns-in-ShowUnits : goal.returns-in-ShowUnits
+returns-in-ShowUnits g c = carried _ _ _ _ _ c.show_units.result (c.show_units.ensures _ _ _ _)
+
+pub returns-in-ShowBlocks : goal.returns-in-ShowBlocks
+returns-in-ShowBlocks g c = carried _ _ _ _ _ c.show_blocks.result (c.show_blocks.ensures _ _ _ _)
+
+pub returns-in_default-command : goal.returns-in_default-command
+returns-in_default-command g c =
+    let other = not_served c.in-Some.command c.in_default-command.not-Help c.in_default-command.not-Version c.in_default-command.not-ShowUnits c.in_default-command.not-ShowBlocks in
+    carried _ _ _ _ _ c.refuse-in_default-command.result
+    (no_command _ _ _ _ _ _ _ _ _ _ c.refuse-in_default-command.result (ap served_by (sym c.command_of.ensures ∙ c.in-Some.is) ∙ other) c.refuse-in_default-command.ensures)

@@ -1,0 +1,88 @@
+use Rattle.std.specs.Prelude.{ℕ, ◌⊎◌, List, Option, Some, None, Result}
+use Rattle.image_blocks.specs.Places.{part_in, whole_in}
+use Rattle.image_blocks.specs.declared.stretch.PlaceFault.{PlaceFault}
+use Rattle.image_blocks.specs.declared.stretch.Stretch.{Stretch}
+use Rattle.image_commands.specs.Views.{View}
+use Rattle.image_layout.specs.Heads.{called}
+use Rattle.lab_words.specs.Grammar.{command_in}
+use Rattle.lab_words.specs.declared.command.Command.{Command}
+use Rattle.lab_words.specs.declared.command.Command.TheVariants.{Help, Version, ShowUnits, ShowBlocks, Diff, Export, Import, Vectors, Judge, Explain, Sweep}
+use Rattle.lab_words.specs.declared.place.Place.{Place}
+use Rattle.lab_words.specs.declared.place.Place.TheVariants.{Device, Blocks}
+use Rattle.rig_api.specs.Telling.{Opened, Standing, Stayed}
+use Rattle.target_answer.specs.declared.units.UnitSpec.{UnitSpec}
+
+-- What a call of the program speaks of.
+
+-- the commands that the program does
+abbrev pub served_by : Option Command → Option Command
+served_by None = None
+served_by (Some Help) = Some Help
+served_by (Some Version) = Some Version
+served_by (Some ShowUnits) = Some ShowUnits
+served_by (Some (ShowBlocks place)) = Some (ShowBlocks place)
+served_by (Some (Diff one other)) = None
+served_by (Some (Export place layout)) = None
+served_by (Some (Import place layout)) = None
+served_by (Some Vectors) = None
+served_by (Some Judge) = None
+served_by (Some Explain) = None
+served_by (Some (Sweep byte units)) = None
+
+-- the command of the words, where they are in the grammar and the program does it
+abbrev pub served_in : List (List ℕ) → Option Command
+served_in words = served_by (command_in words)
+
+-- the blocks of a place, where the units have them, or why they haven't
+abbrev pub stretch_in : List UnitSpec → Place → Result Stretch PlaceFault
+stretch_in us (Device dev) = whole_in us dev
+stretch_in us (Blocks dev first count) = part_in us dev first count
+
+-- a store at a moment: the bytes that it tells, their number, its count of faults, its name, and how often it was opened
+pub record Held : Type 0 where
+  pub bytes : Option (List ℕ)
+  pub len : ℕ
+  pub faults : ℕ
+  pub name : List ℕ
+  pub openings : ℕ
+
+abbrev pub held : Option (List ℕ) → (len faults : ℕ) → List ℕ → ℕ → Held
+held bytes len faults name openings = record { bytes = bytes; len = len; faults = faults; name = name; openings = openings }
+
+-- its name and its openings
+abbrev pub called_of : Held → Standing
+called_of h = called h.name h.openings
+
+-- The store was opened by this name, or not at all.
+abbrev pub OpenedOnce : List ℕ → Held → Held → Type 0
+OpenedOnce name old new = Stayed (called_of old) (called_of new) ⊎ Opened name (called_of old) (called_of new)
+
+-- what a call speaks of: its words, and its source, its rig and its two stores before and after
+pub record Facts : Type 0 where
+  pub words : List (List ℕ)
+  pub left : Option (List ℕ)
+  pub left_after : Option (List ℕ)
+  pub reads : ℕ
+  pub reads_after : ℕ
+  pub rig : View
+  pub rig_after : View
+  pub first : Held
+  pub first_after : Held
+  pub second : Held
+  pub second_after : Held
+
+-- a call that works on its first store alone
+abbrev pub on_first : List (List ℕ) → (old new : Held) → Option (List ℕ) → ℕ → View → Held → Facts
+on_first words old new left reads rig second = record {
+  words = words;
+  left = left;
+  left_after = left;
+  reads = reads;
+  reads_after = reads;
+  rig = rig;
+  rig_after = rig;
+  first = old;
+  first_after = new;
+  second = second;
+  second_after = second;
+}

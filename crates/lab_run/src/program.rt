@@ -1,0 +1,84 @@
+//! The top call.
+
+ghost use Rattle.std.specs.Prelude.{◌≡◌};
+ghost use Rattle.dix_words.specs.Grammar.{word_bytes};
+ghost use Rattle.image_commands.specs.Views.{seen, view};
+ghost use Rattle.lab_run.specs.Calls.{Facts, held};
+ghost use Rattle.lab_run.specs.Headline.{Carries};
+ghost use Rattle.lab_run.specs.Texts.{help_text, refusal_text, status_of};
+ghost use Rattle.lab_run.specs.Verdict.{Written, done_status};
+
+use crate::refusal::Refusal;
+use crate::showing::{show_blocks, show_units};
+use crate::status::Status;
+use dix_base::{Failed, Sink, Source, Store};
+use lab_words::{Command, command_of};
+use report_text::write_out;
+use rig_api::Rig;
+use std::alloc::Global;
+
+/// Writes the text, and says what the call comes to.
+pub(crate) fn finish<O: Sink>(out: &mut O, text: &[u8], status: Status) -> Status
+    ensures { Written status text.now (O.taken out.old) (O.taken out.new) (O.faults out.old) (O.faults out.new) result }
+{
+    match write_out(out, text) {
+        Ok(()) => status,
+        Err(Failed) => Status::WriteFault,
+    }
+}
+
+/// Writes the line of a refusal.
+pub fn refuse<O: Sink>(out: &mut O, refusal: Refusal) -> Status
+    ensures { Written (status_of refusal) (refusal_text refusal) (O.taken out.old) (O.taken out.new) (O.faults out.old) (O.faults out.new) result }
+{
+    finish(out, refusal.line().as_slice(), refusal.status())
+}
+
+/// The status of a command that was done, by whether something was found.
+pub(crate) fn status_for(bad: bool) -> Status
+    ensures { result ≡ done_status bad }
+{
+    if bad { Status::SomeBad } else { Status::Whole }
+}
+
+/// The text of `--help`.
+const HELP: &[u8] =
+    b"usage: dixlab show IMAGE [PLACE]\nPLACE is DEV or DEV:FIRST:COUNT.\nStatus: 0 good, 1 something found, 2 words, 4 image at fault, 5 image failed,\n6 no memory, 8 output failed.\n";
+
+/// Runs the program on its words, without its own name: does the command that they are, and writes its
+/// text. `show` works on the first store. No command of this version uses another object.
+pub fn run<S: Source, R: Rig, A: Store, B: Store, O: Sink>(
+    alloc: Global,
+    words: &[String],
+    input: &mut S,
+    rig: &mut R,
+    first: &mut A,
+    second: &mut B,
+    out: &mut O,
+) -> Status
+    ensures { let f : Facts = record {
+      words = word_bytes words.now;
+      left = S.left input.old;
+      left_after = S.left input.new;
+      reads = S.faults input.old;
+      reads_after = S.faults input.new;
+      rig = view (R.image rig.old) (R.standing rig.old) (seen (R.units rig.old) (R.armed rig.old) (R.log rig.old) (R.faults rig.old));
+      rig_after = view (R.image rig.new) (R.standing rig.new) (seen (R.units rig.new) (R.armed rig.new) (R.log rig.new) (R.faults rig.new));
+      first = held (A.bytes first.old) (A.len first.old) (A.faults first.old) (A.handed first.old) (A.openings first.old);
+      first_after = held (A.bytes first.new) (A.len first.new) (A.faults first.new) (A.handed first.new) (A.openings first.new);
+      second = held (B.bytes second.old) (B.len second.old) (B.faults second.old) (B.handed second.old) (B.openings second.old);
+      second_after = held (B.bytes second.new) (B.len second.new) (B.faults second.new) (B.handed second.new) (B.openings second.new);
+    } in
+        Carries f (O.taken out.old) (O.taken out.new) (O.faults out.old) (O.faults out.new) result }
+{
+    let Some(command) = command_of(words) else {
+        return refuse(out, Refusal::Words);
+    };
+    match command {
+        Command::Help => finish(out, HELP, Status::Whole),
+        Command::Version => finish(out, b"dixlab 1\n", Status::Whole),
+        Command::ShowUnits => show_units(alloc, words, first, out),
+        Command::ShowBlocks(place) => show_blocks(alloc, words, place, first, out),
+        _ => refuse(out, Refusal::Words),
+    }
+}

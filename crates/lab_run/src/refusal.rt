@@ -1,0 +1,94 @@
+//! Why a call of the program comes to nothing.
+
+ghost use Rattle.std.specs.Prelude.{◌≡◌, ◌+◌, ◌≤◌, ◌++◌, codes, length};
+ghost use Rattle.lab_run.specs.Texts.{refusal_of, refusal_text, status_of};
+
+use crate::status::Status;
+use block_lines::{Line, add};
+use image_blocks::PlaceFault;
+use rig_api::RigFault;
+
+/// Why a call of the program comes to nothing.
+#[derive(Clone, Copy, Debug, PartialEq, Eq)]
+pub enum Refusal {
+    /// The words are not in the grammar.
+    Words,
+    /// The image's head has this fault: `BadMagic`, `BadHeader` or `BadLength`.
+    Image(RigFault),
+    /// The image hasn't the place of the words.
+    Place(PlaceFault),
+    /// The store failed as the image was opened.
+    RigFault,
+    /// Want of memory.
+    Memory,
+}
+
+impl Refusal {
+    /// The refusal of an image that isn't opened.
+    pub(crate) fn of(fault: RigFault) -> Refusal
+        ensures { result ≡ refusal_of fault }
+    {
+        match fault {
+            RigFault::BadMagic => Refusal::Image(RigFault::BadMagic),
+            RigFault::BadHeader => Refusal::Image(RigFault::BadHeader),
+            RigFault::BadLength => Refusal::Image(RigFault::BadLength),
+            RigFault::Failed => Refusal::RigFault,
+            RigFault::Memory => Refusal::Memory,
+        }
+    }
+
+    /// The status of the refusal.
+    pub(crate) fn status(self) -> Status
+        ensures { result ≡ status_of self }
+    {
+        match self {
+            Refusal::Words => Status::Words,
+            Refusal::Image(_) => Status::Image,
+            Refusal::Place(_) => Status::Image,
+            Refusal::RigFault => Status::RigFault,
+            Refusal::Memory => Status::Memory,
+        }
+    }
+
+    /// The line that is written for the refusal.
+    pub(crate) fn line(self) -> Line
+        ensures { result.items ≡ refusal_text self }
+    {
+        match self {
+            Refusal::Words => plain_line(b"usage: dixlab show IMAGE [PLACE], --help, --version\n"),
+            Refusal::Image(fault) => image_line(fault),
+            Refusal::Place(fault) => place_line(fault),
+            Refusal::RigFault => plain_line(b"rig fault\n"),
+            Refusal::Memory => plain_line(b"no memory\n"),
+        }
+    }
+}
+
+fn plain_line(text: &[u8]) -> Line
+    requires { length text.now ≤ 128 }
+    ensures { result.items ≡ text.now }
+{
+    let mut line = Line::new();
+    add(&mut line, text);
+    line
+}
+
+fn image_line(fault: RigFault) -> Line
+    ensures { result.items ≡ refusal_text (Refusal.Image fault) }
+{
+    let mut line = Line::new();
+    add(&mut line, b"image ");
+    add(&mut line, fault.name().as_bytes());
+    add(&mut line, b"\n");
+    line
+}
+
+fn place_line(fault: PlaceFault) -> Line
+    ensures { result.items ≡ refusal_text (Refusal.Place fault) }
+{
+    let mut line = Line::new();
+    add(&mut line, b"place ");
+    add(&mut line, fault.name().as_bytes());
+    add(&mut line, b"\n");
+    line
+}

@@ -1,0 +1,105 @@
+//! Showing an image.
+
+ghost use Rattle.std.specs.Prelude.{◌≡◌, ℕ, IfOk, List, Option, Some};
+ghost use Rattle.block_lines.specs.UnitText.{units_text};
+ghost use Rattle.dix_words.specs.Grammar.{word_bytes};
+ghost use Rattle.image_blocks.specs.Images.{units_open};
+ghost use Rattle.image_blocks.specs.Places.{IsStretch};
+ghost use Rattle.image_commands.specs.Views.{View};
+ghost use Rattle.lab_words.specs.declared.command.Command.{Command};
+ghost use Rattle.lab_run.specs.Calls.{Held, held, on_first, served_in, stretch_in};
+ghost use Rattle.lab_run.specs.Verdict.{Ended, Written, shown_status};
+
+use crate::program::{refuse, status_for};
+use crate::refusal::Refusal;
+use crate::status::Status;
+use dix_base::{Failed, Sink, Store};
+use dix_words::image_of;
+use image_blocks::{Image, PlaceFault, Stretch, open_image, part_of, whole_of};
+use image_show::ShowFault;
+use lab_words::Place;
+use std::alloc::Global;
+
+/// The blocks of a place.
+fn stretch_of(image: &Image, place: Place) -> Result<Stretch, PlaceFault>
+    ensures value { result ≡ stretch_in (units_open image.now) place }
+    ensures there { IfOk result (IsStretch (units_open image.now)) }
+{
+    match place {
+        Place::Device { dev } => whole_of(image, dev),
+        Place::Blocks { dev, first, count } => part_of(image, dev, first, count),
+    }
+}
+
+/// Writes the units of an image.
+fn list_units<O: Sink>(image: &Image, out: &mut O) -> Status
+    ensures { Written Status.Whole (units_text (units_open image.now)) (O.taken out.old) (O.taken out.new) (O.faults out.old) (O.faults out.new) result }
+{
+    match image_show::show_units(image, out) {
+        Ok(()) => Status::Whole,
+        Err(Failed) => Status::WriteFault,
+    }
+}
+
+/// The status of blocks that were shown.
+fn status_of(ended: Result<u32, ShowFault>) -> Status
+    ensures { result ≡ shown_status ended }
+{
+    match ended {
+        Ok(bad) => status_for(bad > 0),
+        Err(ShowFault::Store) => Status::RigFault,
+        Err(ShowFault::Sink) => Status::WriteFault,
+    }
+}
+
+/// `show IMAGE`: writes the units of the image.
+pub(crate) fn show_units<A: Store, O: Sink>(
+    alloc: Global,
+    words: &[String],
+    store: &mut A,
+    out: &mut O,
+) -> Status
+    requires { served_in (word_bytes words.now) ≡ Some Command.ShowUnits }
+    ensures { (left : Option (List ℕ)) (reads : ℕ) (rig : View) (second : Held) → Ended (on_first (word_bytes words.now)
+        (held (A.bytes store.old) (A.len store.old) (A.faults store.old) (A.handed store.old) (A.openings store.old))
+        (held (A.bytes store.new) (A.len store.new) (A.faults store.new) (A.handed store.new) (A.openings store.new))
+        left reads rig second) (O.taken out.old) (O.taken out.new) (O.faults out.old) (O.faults out.new) result }
+{
+    let image = match open_image(alloc, store, image_of(words)) {
+        Ok(image) => image,
+        Err(fault) => return refuse(out, Refusal::of(fault)),
+    };
+    list_units(&image, out)
+}
+
+/// `show IMAGE PLACE`: writes the blocks of the place.
+pub(crate) fn show_blocks<A: Store, O: Sink>(
+    alloc: Global,
+    words: &[String],
+    place: Place,
+    store: &mut A,
+    out: &mut O,
+) -> Status
+    requires { served_in (word_bytes words.now) ≡ Some (Command.ShowBlocks place) }
+    ensures { (left : Option (List ℕ)) (reads : ℕ) (rig : View) (second : Held) → Ended (on_first (word_bytes words.now)
+        (held (A.bytes store.old) (A.len store.old) (A.faults store.old) (A.handed store.old) (A.openings store.old))
+        (held (A.bytes store.new) (A.len store.new) (A.faults store.new) (A.handed store.new) (A.openings store.new))
+        left reads rig second) (O.taken out.old) (O.taken out.new) (O.faults out.old) (O.faults out.new) result }
+{
+    let mut room = match vec![in alloc; 0u8; ROOM] {
+        Ok(room) => room,
+        Err(_) => return refuse(out, Refusal::Memory),
+    };
+    let image = match open_image(alloc, store, image_of(words)) {
+        Ok(image) => image,
+        Err(fault) => return refuse(out, Refusal::of(fault)),
+    };
+    let at = match stretch_of(&image, place) {
+        Ok(at) => at,
+        Err(fault) => return refuse(out, Refusal::Place(fault)),
+    };
+    status_of(image_show::show_blocks(store, &image, at, &mut room, out))
+}
+
+/// So many bytes of blocks are read at once, at most.
+const ROOM: usize = 65536;
