@@ -8,6 +8,7 @@ mod files;
 mod images;
 mod modes;
 mod nvm;
+mod stretches;
 mod table;
 mod units;
 mod ways;

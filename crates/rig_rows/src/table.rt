@@ -5,7 +5,7 @@ use crate::images::Images;
 use crate::modes::lines;
 use crate::units::type_of;
 use crate::ways::Way;
-use crate::{capacity, nvm};
+use crate::{capacity, nvm, stretches};
 use nvme_front::NvmFront;
 use row_table::{Judge, cut};
 use std::alloc::{AllocError, Global};
@@ -35,6 +35,9 @@ impl Table {
         match word {
             "lengths" => nvm::lengths(alloc, &self.front, rest),
             "nvm" => nvm::answer(alloc, &mut self.images.rig, rest),
+            "place" | "reads" | "writes" => {
+                stretches::answer(alloc, &self.images.image, word, rest)
+            }
             "capacity" => capacity::answer(alloc, &self.images.image, rest),
             "last" => self.files.answer(alloc),
             "write" => Ok(Some(self.way.written(alloc, rest)?)),
