@@ -8,7 +8,7 @@
 # says on standard error, and no output.
 
 function is_command(line) {
-    return line ~ /^(\.\/run-dix|printf|dd|for|cp|cat|echo|cmp|od|head|tail) /
+    return line ~ /^(\.\/run-dix|\.\/run-dixlab|printf|dd|for|cp|cat|echo|cmp|od|head|tail) /
 }
 
 function is_form(text, words, n, i) {

@@ -1,14 +1,14 @@
-# Proves and builds dix with all processors. It is read by run-dix, whose say, held and end it uses.
+# Proves and builds a program with all processors. It is read by tools/wrapper.sh, whose say, held and end it uses.
 #
 # rt works in one crate and those below it at a time, and a second rt waits. So each crate is built in a copy of the
 # sources, its own folder out/ moved there and back, over the libraries of those that are done, which are linked. What is
 # proved stays in the clone, so a build that was ended goes on where it was.
-out="$here/crates/dix_cli/out"
+out="$here/crates/$crate/out"
 log="$out/build.log"
 
-# The crates below dix_cli in the order of crates.txt, each with those that its line names.
+# The crates below the program in the order of crates.txt, each with those that its line names.
 crates_below() {
-    awk '{ sub(/#.*/, "") }
+    awk -v top="$crate" '{ sub(/#.*/, "") }
     NF {
         at = index($0, ":")
         split(substr($0, 1, at - 1), words)
@@ -16,7 +16,7 @@ crates_below() {
         uses[words[1]] = substr($0, at + 1)
     }
     END {
-        wanted["dix_cli"] = 1
+        wanted[top] = 1
         for (grows = 1; grows;) {
             grows = 0
             for (name in wanted) {
@@ -24,7 +24,7 @@ crates_below() {
                 for (j = 1; j <= m; j++) if (low[j] in uses && !(low[j] in wanted)) grows = wanted[low[j]] = 1
             }
         }
-        for (i = 1; i <= n; i++) if (order[i] in wanted && order[i] != "dix_cli") {
+        for (i = 1; i <= n; i++) if (order[i] in wanted && order[i] != top) {
             line = order[i]
             m = split(uses[line], low)
             for (j = 1; j <= m; j++) if (low[j] in wanted) line = line " " low[j]
@@ -118,7 +118,7 @@ finish() {
     fi
 }
 
-# Ends all that runs, and gives back what was moved. It stands for the stop_crates of run-dix.
+# Ends all that runs, and gives back what was moved. It stands for the stop_crates of tools/wrapper.sh.
 stop_crates() {
     for it in "$work"/*/pid; do
         [ ! -f "$it" ] || kill -TERM "$(cat "$it")" 2>/dev/null
@@ -176,11 +176,11 @@ build_crates() {
     done
 }
 
-# Builds all, or says what failed and ends. A second run-dix waits, and then finds the program.
+# Builds all, or says what failed and ends. A second call waits, and then finds the program.
 build() {
     mkdir -p "$out" && exec 9>"$out/lock" || exit 70
     if command -v flock >/dev/null && ! flock -n 9; then
-        say 'waits for another run-dix that builds dix'
+        say "waits for another $me that builds $called"
         held flock 9
     fi
     if ! is_fresh; then build_alone; fi
@@ -193,11 +193,11 @@ build_alone() {
     touch "$work/begun"
     begun=$(date +%s) processors=$(nproc) slots=$(($(free_memory) / 4000))
     slots=$((slots < 1 ? 1 : slots > processors ? processors : slots))
-    say "proves and builds dix, $slots crates at a time, which can take an hour; the log is $log"
+    say "proves and builds $called, $slots crates at a time, which can take an hour; the log is $log"
     if build_crates && build_program; then
         touch -r "$work/begun" "$program"
         done=$all
-        tell dix_cli
+        tell "$crate"
         rm -rf "$work" "$log"
         work=
     else
@@ -210,8 +210,9 @@ build_alone() {
 # With all libraries built, rt has the program left; it is run once.
 build_program() {
     rm -rf "$work"/[0-9]*
-    cd "$here/crates/dix_cli" || return
-    held rt run -- modes 1 </dev/null >/dev/null 2>>"$log"
+    cd "$here/crates/$crate" || return
+    # (first is some words)
+    held rt run -- $first </dev/null >/dev/null 2>>"$log"
     status=$?
     cd "$OLDPWD" && return "$status"
 }

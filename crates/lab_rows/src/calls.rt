@@ -1,0 +1,97 @@
+//! One call of the top call, and what comes of it.
+
+use crate::images::image_in;
+use crate::lines::{behind, numbers};
+use dix_base::{MemSink, MemSource, MemStore, Sink, Source, Store};
+use image_rig::ImageRig;
+use lab_run::run;
+use rig_api::Rig;
+use std::alloc::{AllocError, Global};
+
+/// The most bytes of a text, where a row says nothing else.
+const ROOM: u32 = 1_000_000;
+
+/// What a call came to.
+#[derive(Drop)]
+pub(crate) struct Came {
+    pub(crate) status: u8,
+    pub(crate) text: Vec<u8>,
+    /// Whether each byte of the image is as before.
+    pub(crate) is_kept: bool,
+}
+
+/// A word, which is nothing for `''`, else has a space for each `_`.
+fn word_of(alloc: Global, text: &str) -> Result<String, AllocError> {
+    let mut word = String::new(alloc);
+    if text == "''" {
+        return Ok(word);
+    }
+    for (i, part) in text.split('_').enumerate() {
+        if i > 0 {
+            word.push(' ')?;
+        }
+        word.push_str(part)?;
+    }
+    Ok(word)
+}
+
+/// The words of the call.
+fn words_in(alloc: Global, lines: &[String]) -> Result<Vec<String>, AllocError> {
+    let mut words = Vec::new(alloc);
+    let line = behind(lines, "$");
+    if line == "" {
+        return Ok(words);
+    }
+    for word in line.split(' ') {
+        words.push(word_of(alloc, word)?)?;
+    }
+    Ok(words)
+}
+
+/// The exit status of a call.
+fn exit<S: Source, R: Rig, A: Store, B: Store, O: Sink>(
+    alloc: Global,
+    words: &[String],
+    input: &mut S,
+    rig: &mut R,
+    first: &mut A,
+    second: &mut B,
+    out: &mut O,
+) -> u8 {
+    run(alloc, words, input, rig, first, second, out).number()
+}
+
+fn no_store(alloc: Global) -> MemStore {
+    MemStore::new(Vec::new(alloc), Vec::new(alloc))
+}
+
+/// A sink with the room that a row says, which fails as it says.
+fn sink_in(alloc: Global, lines: &[String]) -> Result<MemSink, AllocError> {
+    let room = behind(lines, "room").parse::<u32>().unwrap_or(ROOM);
+    MemSink::new(alloc, room, numbers(alloc, lines, "sink-fails")?)
+}
+
+/// Calls the top call with the words of a row over its image.
+pub(crate) fn came_over(alloc: Global, lines: &[String], table: &[u8]) -> Result<Came, AllocError> {
+    let words = words_in(alloc, lines)?;
+    let before = image_in(alloc, lines, table)?;
+    let mut input = MemSource::new(Vec::new(alloc), Vec::new(alloc));
+    let mut rig = ImageRig::new(alloc, no_store(alloc));
+    let mut first = MemStore::new(before.clone()?, numbers(alloc, lines, "store-fails")?);
+    let mut second = no_store(alloc);
+    let mut sink = sink_in(alloc, lines)?;
+    let status = exit(
+        alloc,
+        &words,
+        &mut input,
+        &mut rig,
+        &mut first,
+        &mut second,
+        &mut sink,
+    );
+    Ok(Came {
+        status,
+        text: Vec::from_slice(alloc, sink.bytes())?,
+        is_kept: first.bytes() == before.as_slice(),
+    })
+}

@@ -1,0 +1,59 @@
+//! Calls whose store or sink fails at each of its calls in turn, or whose sink has a byte more room each time.
+
+use crate::calls::{Came, came_over};
+use crate::lines::{add_line, behind, text};
+use crate::wanted::add_call;
+use std::alloc::{AllocError, Global};
+
+/// What a row's call comes to with one more line.
+fn came_with(
+    alloc: Global,
+    lines: &[String],
+    line: String,
+    table: &[u8],
+) -> Result<Came, AllocError> {
+    let mut all = Vec::new(alloc);
+    all.push(line)?;
+    for line in lines {
+        all.push(String::from_str(alloc, line.as_str())?)?;
+    }
+    came_over(alloc, &all, table)
+}
+
+/// Whether a beginning of the text was written, which isn't all of it.
+fn is_beginning(came: &Came, whole: &[u8]) -> bool {
+    came.text.len() < whole.len() && whole.starts_with(&came.text)
+}
+
+/// Whether the call came to what it comes to where this fails: a beginning of the text, of `at` bytes where room is
+/// counted, or the line that says that the store failed as the image was opened.
+fn is_cut(came: &Came, whole: &[u8], mark: &str, at: usize) -> bool {
+    if mark == "store-fails" {
+        return came.status == 5
+            && (came.text.as_slice() == b"rig fault\n".as_slice() || is_beginning(came, whole));
+    }
+    came.status == 8 && is_beginning(came, whole) && (mark != "room" || came.text.len() == at)
+}
+
+/// Makes a row's calls until nothing fails. Adds what came otherwise than the row says in the last.
+pub(crate) fn add_sweep(
+    alloc: Global,
+    others: &mut Vec<u8>,
+    lines: &[String],
+    table: &[u8],
+) -> Result<(), AllocError> {
+    let mark = behind(lines, "each");
+    let whole = text(alloc, lines)?;
+    let first = if mark == "room" { 0usize } else { 1 };
+    for at in first..=whole.len() {
+        let line = format!(in alloc; "{mark} {at}")?;
+        let came = came_with(alloc, lines, line, table)?;
+        if !is_cut(&came, &whole, mark, at) {
+            if at == first {
+                add_line(others, "never cut short")?;
+            }
+            return add_call(alloc, others, lines, &came);
+        }
+    }
+    add_line(others, "never whole")
+}

@@ -1,0 +1,58 @@
+//! The lines of the table.
+
+use crate::calls::came_over;
+use crate::images::image_of;
+use crate::lines::{has, is_mark};
+use crate::sweeps::add_sweep;
+use crate::wanted::add_call;
+use row_table::{Judge, cut};
+use std::alloc::{AllocError, Global};
+
+/// The image that rows go over, and the lines of the row that is read.
+#[derive(Drop)]
+pub(crate) struct Table {
+    image: Vec<u8>,
+    lines: Vec<String>,
+}
+
+impl Table {
+    pub(crate) fn new(alloc: Global) -> Table {
+        Table {
+            image: Vec::new(alloc),
+            lines: Vec::new(alloc),
+        }
+    }
+}
+
+impl Judge for Table {
+    fn set(&mut self, alloc: Global, line: &str) -> Result<bool, AllocError> {
+        let (word, rest) = cut(line);
+        if word == "image" {
+            self.image = image_of(alloc, rest)?;
+            return Ok(true);
+        }
+        self.lines.push(String::from_str(alloc, line)?)?;
+        Ok(is_mark(word))
+    }
+
+    /// So, where a row's call comes to what its lines say; else what came otherwise.
+    fn answer(&mut self, alloc: Global, _call: &str) -> Result<String, AllocError> {
+        let lines = std::mem::replace(&mut self.lines, Vec::new(alloc));
+        let mut others = Vec::new(alloc);
+        if has(&lines, "each") {
+            add_sweep(alloc, &mut others, &lines, &self.image)?;
+        } else {
+            add_call(
+                alloc,
+                &mut others,
+                &lines,
+                &came_over(alloc, &lines, &self.image)?,
+            )?;
+        }
+        if others.is_empty() {
+            return String::from_str(alloc, "so");
+        }
+        let text = others.strip_suffix(b"\n").unwrap_or(&others);
+        String::from_str(alloc, std::str::from_utf8(text).unwrap_or("?"))
+    }
+}

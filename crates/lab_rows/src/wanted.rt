@@ -1,0 +1,39 @@
+//! What a row wants, against what came.
+
+use crate::calls::Came;
+use crate::lines::{add_line, behind, has, text};
+use row_table::number;
+use std::alloc::{AllocError, Global};
+
+/// The status that a row wants: 0 where it says none.
+fn status_wanted(lines: &[String]) -> u64 {
+    if has(lines, "status") {
+        number(behind(lines, "status"))
+    } else {
+        0
+    }
+}
+
+/// What came otherwise than a row says. No call changes a byte of its image.
+pub(crate) fn add_call(
+    alloc: Global,
+    others: &mut Vec<u8>,
+    lines: &[String],
+    came: &Came,
+) -> Result<(), AllocError> {
+    let status = came.status;
+    if u64::from(status) != status_wanted(lines) {
+        let line = format!(in alloc; "status {status}")?;
+        add_line(others, line.as_str())?;
+    }
+    if !came.is_kept {
+        add_line(others, "not kept")?;
+    }
+    if came.text.as_slice() != text(alloc, lines)?.as_slice() {
+        if came.text.is_empty() {
+            add_line(others, "no text")?;
+        }
+        others.extend_from_slice(&came.text)?;
+    }
+    Ok(())
+}
