@@ -1,5 +1,5 @@
 -- The six lists of choices, one behind another.
-use Rattle.std.proofs.Common.{◌≡◌, ◌<◌, ◌≤◌, ℕ, ◌+◌, ◌-◌, List, ◌++◌, length, map, get_or, sym, ap, ◌∙◌, arith, length-append}
+use Rattle.std.proofs.Common.{◌≡◌, ◌<◌, ◌≤◌, ℕ, ◌+◌, ◌-◌, List, ◌++◌, length, map, get_or, refl, sym, ap, ◌∙◌, arith, length-append}
 use Rattle.std.proofs.lemmas.List.{length-map, get_or-map, get_or_append_left, get_or-append_right}
 use Rattle.stack_view.specs.Plan.{Plan}
 use Rattle.merge_queue.specs.Groups.{numbers}
@@ -41,33 +41,43 @@ length-choices p gate ops live queues flight =
     omega arith
 
 -- past the first list, the second and so on
-pub to-second : (p : Plan) (gate : Gated) (ops : List OpState) (live : List ℕ) (queues : List Queued) (flight : List Command) (n e : ℕ) → e ≡ length (places p gate ops live Ending) → e ≤ n →
-    get_or (choices p gate ops live queues flight) n no_choice ≡ get_or (second p gate ops live queues flight) (n - e) no_choice
-to-second p gate ops live queues flight n e h l =
+past : (front back : List Choice) (n m : ℕ) → n ≡ length front + m → get_or (front ++ back) n no_choice ≡ get_or back m no_choice
+past front back n m h =
+    get_or-append_right front back (length front) n no_choice refl (omega arith)
+    ∙ ap (λ k. get_or back k no_choice) (let e : n - length front ≡ m = omega arith in e)
+
+pub to-second : (p : Plan) (gate : Gated) (ops : List OpState) (live : List ℕ) (queues : List Queued) (flight : List Command) (n a : ℕ) → n ≡ length (places p gate ops live Ending) + a →
+    get_or (choices p gate ops live queues flight) n no_choice ≡ get_or (second p gate ops live queues flight) a no_choice
+to-second p gate ops live queues flight n a h =
     let f = length-map (places p gate ops live Ending) End in
-    get_or-append_right (map End (places p gate ops live Ending)) (second p gate ops live queues flight) e n no_choice (omega arith) l
+    past (map End (places p gate ops live Ending)) (second p gate ops live queues flight) n a (omega arith)
 
-pub to-third : (p : Plan) (gate : Gated) (ops : List OpState) (live : List ℕ) (queues : List Queued) (flight : List Command) (n e : ℕ) → e ≡ length flight → e ≤ n →
-    get_or (second p gate ops live queues flight) n no_choice ≡ get_or (third p gate ops live queues) (n - e) no_choice
-to-third p gate ops live queues flight n e h l =
+pub to-third : (p : Plan) (gate : Gated) (ops : List OpState) (live : List ℕ) (queues : List Queued) (flight : List Command) (n a b : ℕ) → n ≡ length (places p gate ops live Ending) + a →
+    a ≡ length flight + b → get_or (choices p gate ops live queues flight) n no_choice ≡ get_or (third p gate ops live queues) b no_choice
+to-third p gate ops live queues flight n a b h i =
     let f = length-completions (length flight) in
-    get_or-append_right (map Complete (numbers 0 (length flight))) (third p gate ops live queues) e n no_choice (omega arith) l
+    to-second p gate ops live queues flight n a h
+    ∙ past (map Complete (numbers 0 (length flight))) (third p gate ops live queues) a b (omega arith)
 
-pub to-fourth : (p : Plan) (gate : Gated) (ops : List OpState) (live : List ℕ) (queues : List Queued) (n e : ℕ) → e ≡ length (places p gate ops live Admission) → e ≤ n →
-    get_or (third p gate ops live queues) n no_choice ≡ get_or (fourth p gate ops live queues) (n - e) no_choice
-to-fourth p gate ops live queues n e h l =
+pub to-fourth : (p : Plan) (gate : Gated) (ops : List OpState) (live : List ℕ) (queues : List Queued) (flight : List Command) (n a b d : ℕ) → n ≡ length (places p gate ops live Ending) + a →
+    a ≡ length flight + b → b ≡ length (places p gate ops live Admission) + d →
+    get_or (choices p gate ops live queues flight) n no_choice ≡ get_or (fourth p gate ops live queues) d no_choice
+to-fourth p gate ops live queues flight n a b d h i j =
     let f = length-map (places p gate ops live Admission) Admit in
-    get_or-append_right (map Admit (places p gate ops live Admission)) (fourth p gate ops live queues) e n no_choice (omega arith) l
+    to-third p gate ops live queues flight n a b h i
+    ∙ past (map Admit (places p gate ops live Admission)) (fourth p gate ops live queues) b d (omega arith)
 
-pub to-fifth : (p : Plan) (gate : Gated) (ops : List OpState) (live : List ℕ) (queues : List Queued) (n e : ℕ) → e ≡ length (places p gate ops live Cutting) → e ≤ n →
-    get_or (fourth p gate ops live queues) n no_choice ≡ get_or (joins_at p.limits 0 queues ++ sends_at 0 queues) (n - e) no_choice
-to-fifth p gate ops live queues n e h l =
+pub to-fifth : (p : Plan) (gate : Gated) (ops : List OpState) (live : List ℕ) (queues : List Queued) (flight : List Command) (n a b d e : ℕ) → n ≡ length (places p gate ops live Ending) + a →
+    a ≡ length flight + b → b ≡ length (places p gate ops live Admission) + d → d ≡ length (places p gate ops live Cutting) + e →
+    get_or (choices p gate ops live queues flight) n no_choice ≡ get_or (joins_at p.limits 0 queues ++ sends_at 0 queues) e no_choice
+to-fifth p gate ops live queues flight n a b d e h i j k =
     let f = length-map (places p gate ops live Cutting) Cut in
-    get_or-append_right (map Cut (places p gate ops live Cutting)) (joins_at p.limits 0 queues ++ sends_at 0 queues) e n no_choice (omega arith) l
+    to-fourth p gate ops live queues flight n a b d h i j
+    ∙ past (map Cut (places p gate ops live Cutting)) (joins_at p.limits 0 queues ++ sends_at 0 queues) d e (omega arith)
 
-pub to-sixth : (p : Plan) (queues : List Queued) (n e : ℕ) → e ≡ length (joins_at p.limits 0 queues) → e ≤ n →
-    get_or (joins_at p.limits 0 queues ++ sends_at 0 queues) n no_choice ≡ get_or (sends_at 0 queues) (n - e) no_choice
-to-sixth p queues n e h l = get_or-append_right (joins_at p.limits 0 queues) (sends_at 0 queues) e n no_choice (sym h) l
+pub to-sixth : (p : Plan) (queues : List Queued) (n m : ℕ) → n ≡ length (joins_at p.limits 0 queues) + m →
+    get_or (joins_at p.limits 0 queues ++ sends_at 0 queues) n no_choice ≡ get_or (sends_at 0 queues) m no_choice
+to-sixth p queues n m h = past (joins_at p.limits 0 queues) (sends_at 0 queues) n m h
 
 pub in-second : (p : Plan) (gate : Gated) (ops : List OpState) (live : List ℕ) (queues : List Queued) (flight : List Command) (n : ℕ) → n < length flight → get_or (second p gate ops live queues flight) n no_choice ≡ Complete n
 in-second p gate ops live queues flight n h =

@@ -52,3 +52,8 @@ IsBelow n i = i < n
 abbrev pub ChoiceFound : List Choice → ℕ → Result Choice ℕ → Type 0
 ChoiceFound cs n (Ok c) = (n < length cs) × (c ≡ get_or cs n no_choice)
 ChoiceFound cs n (Err left) = n ≡ length cs + left
+
+-- the place of this number among these, or how far the number is past the last
+abbrev pub PlaceFound : List ℕ → ℕ → Result ℕ ℕ → Type 0
+PlaceFound ps n (Ok q) = (n < length ps) × (q ≡ get_or ps n 0)
+PlaceFound ps n (Err left) = n ≡ length ps + left

@@ -5,7 +5,7 @@ ghost use Rattle.std.specs.List.{All};
 ghost use Rattle.merge_queue.specs.Groups.{pairs};
 ghost use Rattle.range_gate.specs.Gates.{phase_at};
 ghost use Rattle.stack_view.specs.View as Admits;
-ghost use Rattle.stack_steps.specs.Choices.{ChoiceFound, can_at, places, no_choice, joins_at, sends_at, choices, IsBelow};
+ghost use Rattle.stack_steps.specs.Choices.{ChoiceFound, PlaceFound, can_at, places, no_choice, joins_at, sends_at, choices, IsBelow};
 
 use crate::Requests;
 use crate::flight::InFlight;
@@ -97,61 +97,32 @@ pub fn count_ops<P: Requests>(
     count
 }
 
-/// How many of the first ops have this step. The count ends once it is past this number.
-fn count_past<P: Requests>(
+/// The place of the op of this number among those that have this step, or how far the number is past the last.
+fn find_op<P: Requests>(
     plan: &P,
     gate: &Gate,
     ops: &[OpState],
     live: &[u32],
     step: OpStep,
     number: u64,
-) -> u32
+) -> Result<usize, u64>
     requires few { length (P.plan plan.now).requests + 1 < 2 ^ 32 }
     requires phases { length gate.now.phases ≡ length (P.plan plan.now).requests }
     requires same { length ops.now ≡ length (P.plan plan.now).requests }
     requires ops { All (IsBelow (length (P.plan plan.now).requests)) live.now }
-    ensures some { result ≤ length (places (P.plan plan.now) gate.now ops.now live.now step) }
-    ensures all { result ≤ number → result ≡ length (places (P.plan plan.now) gate.now ops.now live.now step) }
-    ensures few { result ≤ 32 }
-{
-    let n = live.len().min(32);
-    let mut count = 0u32;
-    for at in 0..n {
-        if count as u64 > number {
-            return count;
-        }
-        count += one_if(can_do(plan, gate, ops, live, step, at));
-    }
-    count
-}
-
-/// The place of the op of this number among those that have this step.
-pub fn pick_op<P: Requests>(
-    plan: &P,
-    gate: &Gate,
-    ops: &[OpState],
-    live: &[u32],
-    step: OpStep,
-    number: u64,
-) -> usize
-    requires few { length (P.plan plan.now).requests + 1 < 2 ^ 32 }
-    requires phases { length gate.now.phases ≡ length (P.plan plan.now).requests }
-    requires same { length ops.now ≡ length (P.plan plan.now).requests }
-    requires ops { All (IsBelow (length (P.plan plan.now).requests)) live.now }
-    requires within { number < length (places (P.plan plan.now) gate.now ops.now live.now step) }
-    ensures { result ≡ slice_index_or (places (P.plan plan.now) gate.now ops.now live.now step) number 0 }
+    ensures { PlaceFound (places (P.plan plan.now) gate.now ops.now live.now step) number result }
 {
     let n = live.len().min(32);
     let mut left = number;
     for at in 0..n {
         if can_do(plan, gate, ops, live, step, at) {
             if left == 0 {
-                return at;
+                return Ok(at);
             }
             left -= 1;
         }
     }
-    unreachable!()
+    Err(left)
 }
 
 /// How many pairs of groups may be joined.
@@ -257,26 +228,23 @@ pub fn nth_choice<P: Requests>(
     ensures { result ≡ slice_index_or (choices (P.plan plan.now) gate.now ops.now live.now queues.now flight.now.commands) number no_choice }
 {
     let lim = plan.limits();
-    let ends = count_past(plan, gate, ops, live, OpStep::Ending, number) as u64;
-    if number < ends {
-        return Choice::End(pick_op(plan, gate, ops, live, OpStep::Ending, number));
-    }
-    let second = number - ends;
+    let second = match find_op(plan, gate, ops, live, OpStep::Ending, number) {
+        Ok(q) => return Choice::End(q),
+        Err(behind) => behind,
+    };
     let completions = flight.len() as u64;
     if second < completions {
         return Choice::Complete(second as u32);
     }
     let third = second - completions;
-    let admissions = count_past(plan, gate, ops, live, OpStep::Admission, third) as u64;
-    if third < admissions {
-        return Choice::Admit(pick_op(plan, gate, ops, live, OpStep::Admission, third));
-    }
-    let fourth = third - admissions;
-    let cuts = count_past(plan, gate, ops, live, OpStep::Cutting, fourth) as u64;
-    if fourth < cuts {
-        return Choice::Cut(pick_op(plan, gate, ops, live, OpStep::Cutting, fourth));
-    }
-    let fifth = fourth - cuts;
+    let fourth = match find_op(plan, gate, ops, live, OpStep::Admission, third) {
+        Ok(q) => return Choice::Admit(q),
+        Err(behind) => behind,
+    };
+    let fifth = match find_op(plan, gate, ops, live, OpStep::Cutting, fourth) {
+        Ok(q) => return Choice::Cut(q),
+        Err(behind) => behind,
+    };
     match find_join(queues, &lim, fifth) {
         Ok(choice) => choice,
         Err(sixth) => pick_send(queues, sixth),

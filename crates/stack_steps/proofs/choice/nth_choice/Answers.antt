@@ -1,46 +1,64 @@
-use Rattle.std.proofs.Common.{◌≡◌, ◌-◌, length, get_or, ap, refl, sym, ◌∙◌, arith}
+use Rattle.std.proofs.Common.{◌≡◌, ◌+◌, ◌-◌, length, ap, sym, ◌∙◌, arith}
 use Rattle.std.specs.Prelude.{Err, Ok}
 use Rattle.stack_steps.specs.declared.choice.Choice.TheVariants.{Admit, Cut}
-use Rattle.stack_steps.specs.Choices.{ChoiceFound, joins_at, no_choice, sends_at}
+use Rattle.stack_steps.specs.declared.choice.OpStep.TheVariants.{Ending, Admission, Cutting}
+use Rattle.stack_steps.specs.Choices.{ChoiceFound, PlaceFound, joins_at, places}
 use Rattle.stack_steps.proofs.Nth.{length-choices, to-second, to-third, to-fourth, to-fifth, to-sixth, in-second, in-third, in-fourth, in-fifth}
 use Rattle.stack_steps.proofs.choice.nth_choice.Goals as goal
 
 pub returns-then-second-completions : goal.returns-then-second-completions
 returns-then-second-completions g c =
-    sym (to-second (g.P.Requests.plan c.args.plan.now) c.args.gate.now c.args.ops.now c.args.live.now c.args.queues.now c.args.flight.now.commands c.args.number c.count_past-ends.result (c.count_past-ends.ensures.all (omega arith)) (omega arith)
-    ∙ in-second (g.P.Requests.plan c.args.plan.now) c.args.gate.now c.args.ops.now c.args.live.now c.args.queues.now c.args.flight.now.commands (c.args.number - c.count_past-ends.result) (omega (arith, c.len-completions.ensures)))
+    let a : PlaceFound (places (g.P.Requests.plan c.args.plan.now) c.args.gate.now c.args.ops.now c.args.live.now Ending) c.args.number (Err c.in-Err.behind) = rw (c.in-Err.is) at c.find_op.ensures in
+    sym (to-second (g.P.Requests.plan c.args.plan.now) c.args.gate.now c.args.ops.now c.args.live.now c.args.queues.now c.args.flight.now.commands c.args.number c.in-Err.behind a
+    ∙ in-second (g.P.Requests.plan c.args.plan.now) c.args.gate.now c.args.ops.now c.args.live.now c.args.queues.now c.args.flight.now.commands c.in-Err.behind (omega (arith, c.len-completions.ensures, c.if-second-completions.true)))
 
-pub returns-then-third-admissions : goal.returns-then-third-admissions
-returns-then-third-admissions g c =
-    sym (to-second (g.P.Requests.plan c.args.plan.now) c.args.gate.now c.args.ops.now c.args.live.now c.args.queues.now c.args.flight.now.commands c.args.number c.count_past-ends.result (c.count_past-ends.ensures.all (omega arith)) (omega arith) ∙ to-third (g.P.Requests.plan c.args.plan.now) c.args.gate.now c.args.ops.now c.args.live.now c.args.queues.now c.args.flight.now.commands (c.args.number - c.count_past-ends.result) c.len-completions.result c.len-completions.ensures (omega arith)
-    ∙ in-third (g.P.Requests.plan c.args.plan.now) c.args.gate.now c.args.ops.now c.args.live.now c.args.queues.now (c.args.number - c.count_past-ends.result - c.len-completions.result) (omega (arith, c.count_past-admissions.ensures.some))
-    ∙ ap Admit (sym c.pick_op-then-third-admissions.ensures))
+pub returns-in-Ok-find_op : goal.returns-in-Ok-find_op
+returns-in-Ok-find_op g c =
+    let a : PlaceFound (places (g.P.Requests.plan c.args.plan.now) c.args.gate.now c.args.ops.now c.args.live.now Ending) c.args.number (Err c.in-Err.behind) = rw (c.in-Err.is) at c.find_op.ensures in
+    let b : c.in-Err.behind ≡ length c.args.flight.now.commands + (c.in-Err.behind - c.len-completions.result) = omega (arith, c.len-completions.ensures, c.if-second-completions.false) in
+    let f : PlaceFound (places (g.P.Requests.plan c.args.plan.now) c.args.gate.now c.args.ops.now c.args.live.now Admission) (c.in-Err.behind - c.len-completions.result) (Ok c.in-Ok-find_op.q) = rw (c.in-Ok-find_op.is) at c.find_op-2.ensures in
+    sym (to-third (g.P.Requests.plan c.args.plan.now) c.args.gate.now c.args.ops.now c.args.live.now c.args.queues.now c.args.flight.now.commands c.args.number c.in-Err.behind (c.in-Err.behind - c.len-completions.result) a b
+    ∙ in-third (g.P.Requests.plan c.args.plan.now) c.args.gate.now c.args.ops.now c.args.live.now c.args.queues.now (c.in-Err.behind - c.len-completions.result) f.0
+    ∙ ap Admit (sym f.1))
 
-pub returns-then-fourth-cuts : goal.returns-then-fourth-cuts
-returns-then-fourth-cuts g c =
-    sym (to-second (g.P.Requests.plan c.args.plan.now) c.args.gate.now c.args.ops.now c.args.live.now c.args.queues.now c.args.flight.now.commands c.args.number c.count_past-ends.result (c.count_past-ends.ensures.all (omega arith)) (omega arith) ∙ to-third (g.P.Requests.plan c.args.plan.now) c.args.gate.now c.args.ops.now c.args.live.now c.args.queues.now c.args.flight.now.commands (c.args.number - c.count_past-ends.result) c.len-completions.result c.len-completions.ensures (omega arith) ∙ to-fourth (g.P.Requests.plan c.args.plan.now) c.args.gate.now c.args.ops.now c.args.live.now c.args.queues.now (c.args.number - c.count_past-ends.result - c.len-completions.result) c.count_past-admissions.result (c.count_past-admissions.ensures.all (omega arith)) (omega arith)
-    ∙ in-fourth (g.P.Requests.plan c.args.plan.now) c.args.gate.now c.args.ops.now c.args.live.now c.args.queues.now (c.args.number - c.count_past-ends.result - c.len-completions.result - c.count_past-admissions.result) (omega (arith, c.count_past-cuts.ensures.some))
-    ∙ ap Cut (sym c.pick_op-then-fourth-cuts.ensures))
-
-pub returns-in-Ok : goal.returns-in-Ok
-returns-in-Ok g c =
-    let f : ChoiceFound (joins_at (g.P.Requests.plan c.args.plan.now).limits 0 c.args.queues.now) (c.args.number - c.count_past-ends.result - c.len-completions.result - c.count_past-admissions.result - c.count_past-cuts.result) (Ok c.in-Ok.choice) = rw (c.in-Ok.is, c.limits-lim.ensures) at c.find_join.ensures in
-    sym (to-second (g.P.Requests.plan c.args.plan.now) c.args.gate.now c.args.ops.now c.args.live.now c.args.queues.now c.args.flight.now.commands c.args.number c.count_past-ends.result (c.count_past-ends.ensures.all (omega arith)) (omega arith) ∙ to-third (g.P.Requests.plan c.args.plan.now) c.args.gate.now c.args.ops.now c.args.live.now c.args.queues.now c.args.flight.now.commands (c.args.number - c.count_past-ends.result) c.len-completions.result c.len-completions.ensures (omega arith) ∙ to-fourth (g.P.Requests.plan c.args.plan.now) c.args.gate.now c.args.ops.now c.args.live.now c.args.queues.now (c.args.number - c.count_past-ends.result - c.len-completions.result) c.count_past-admissions.result (c.count_past-admissions.ensures.all (omega arith)) (omega arith) ∙ to-fifth (g.P.Requests.plan c.args.plan.now) c.args.gate.now c.args.ops.now c.args.live.now c.args.queues.now (c.args.number - c.count_past-ends.result - c.len-completions.result - c.count_past-admissions.result) c.count_past-cuts.result (c.count_past-cuts.ensures.all (omega arith)) (omega arith)
-    ∙ in-fifth (g.P.Requests.plan c.args.plan.now) c.args.queues.now (c.args.number - c.count_past-ends.result - c.len-completions.result - c.count_past-admissions.result - c.count_past-cuts.result) f.0
-    ∙ sym f.1)
+pub returns-in-Ok-find_op-2 : goal.returns-in-Ok-find_op-2
+returns-in-Ok-find_op-2 g c =
+    let a : PlaceFound (places (g.P.Requests.plan c.args.plan.now) c.args.gate.now c.args.ops.now c.args.live.now Ending) c.args.number (Err c.in-Err.behind) = rw (c.in-Err.is) at c.find_op.ensures in
+    let b : c.in-Err.behind ≡ length c.args.flight.now.commands + (c.in-Err.behind - c.len-completions.result) = omega (arith, c.len-completions.ensures, c.if-second-completions.false) in
+    let d : PlaceFound (places (g.P.Requests.plan c.args.plan.now) c.args.gate.now c.args.ops.now c.args.live.now Admission) (c.in-Err.behind - c.len-completions.result) (Err c.in-Err-find_op.behind) = rw (c.in-Err-find_op.is) at c.find_op-2.ensures in
+    let f : PlaceFound (places (g.P.Requests.plan c.args.plan.now) c.args.gate.now c.args.ops.now c.args.live.now Cutting) c.in-Err-find_op.behind (Ok c.in-Ok-find_op-2.q) = rw (c.in-Ok-find_op-2.is) at c.find_op-3.ensures in
+    sym (to-fourth (g.P.Requests.plan c.args.plan.now) c.args.gate.now c.args.ops.now c.args.live.now c.args.queues.now c.args.flight.now.commands c.args.number c.in-Err.behind (c.in-Err.behind - c.len-completions.result) c.in-Err-find_op.behind a b d
+    ∙ in-fourth (g.P.Requests.plan c.args.plan.now) c.args.gate.now c.args.ops.now c.args.live.now c.args.queues.now c.in-Err-find_op.behind f.0
+    ∙ ap Cut (sym f.1))
 
 pub pick_send-requires-clause-within : goal.pick_send-requires-clause-within
 pick_send-requires-clause-within g c =
     let n = length-choices (g.P.Requests.plan c.args.plan.now) c.args.gate.now c.args.ops.now c.args.live.now c.args.queues.now c.args.flight.now.commands in
-    let f : ChoiceFound (joins_at (g.P.Requests.plan c.args.plan.now).limits 0 c.args.queues.now) (c.args.number - c.count_past-ends.result - c.len-completions.result - c.count_past-admissions.result - c.count_past-cuts.result) (Err c.in-Err.sixth) = rw (c.in-Err.is, c.limits-lim.ensures) at c.find_join.ensures in
-    omega (arith, n, f, (c.count_past-ends.ensures.all (omega arith)), c.len-completions.ensures, (c.count_past-admissions.ensures.all (omega arith)), (c.count_past-cuts.ensures.all (omega arith)))
+    let a : PlaceFound (places (g.P.Requests.plan c.args.plan.now) c.args.gate.now c.args.ops.now c.args.live.now Ending) c.args.number (Err c.in-Err.behind) = rw (c.in-Err.is) at c.find_op.ensures in
+    let b : c.in-Err.behind ≡ length c.args.flight.now.commands + (c.in-Err.behind - c.len-completions.result) = omega (arith, c.len-completions.ensures, c.if-second-completions.false) in
+    let d : PlaceFound (places (g.P.Requests.plan c.args.plan.now) c.args.gate.now c.args.ops.now c.args.live.now Admission) (c.in-Err.behind - c.len-completions.result) (Err c.in-Err-find_op.behind) = rw (c.in-Err-find_op.is) at c.find_op-2.ensures in
+    let e : PlaceFound (places (g.P.Requests.plan c.args.plan.now) c.args.gate.now c.args.ops.now c.args.live.now Cutting) c.in-Err-find_op.behind (Err c.in-Err-find_op-2.behind) = rw (c.in-Err-find_op-2.is) at c.find_op-3.ensures in
+    let f : ChoiceFound (joins_at (g.P.Requests.plan c.args.plan.now).limits 0 c.args.queues.now) c.in-Err-find_op-2.behind (Err c.in-Err-find_join.sixth) = rw (c.in-Err-find_join.is, c.limits-lim.ensures) at c.find_join.ensures in
+    omega (arith, n, a, b, d, e, f, c.requires.within)
 
-pub returns-in-Err : goal.returns-in-Err
-returns-in-Err g c =
-    let f : ChoiceFound (joins_at (g.P.Requests.plan c.args.plan.now).limits 0 c.args.queues.now) (c.args.number - c.count_past-ends.result - c.len-completions.result - c.count_past-admissions.result - c.count_past-cuts.result) (Err c.in-Err.sixth) = rw (c.in-Err.is, c.limits-lim.ensures) at c.find_join.ensures in
-    let j = length (joins_at (g.P.Requests.plan c.args.plan.now).limits 0 c.args.queues.now) in
-    let e : (c.args.number - c.count_past-ends.result - c.len-completions.result - c.count_past-admissions.result - c.count_past-cuts.result) - j ≡ c.in-Err.sixth = omega (arith, f) in
-    sym (to-second (g.P.Requests.plan c.args.plan.now) c.args.gate.now c.args.ops.now c.args.live.now c.args.queues.now c.args.flight.now.commands c.args.number c.count_past-ends.result (c.count_past-ends.ensures.all (omega arith)) (omega arith) ∙ to-third (g.P.Requests.plan c.args.plan.now) c.args.gate.now c.args.ops.now c.args.live.now c.args.queues.now c.args.flight.now.commands (c.args.number - c.count_past-ends.result) c.len-completions.result c.len-completions.ensures (omega arith) ∙ to-fourth (g.P.Requests.plan c.args.plan.now) c.args.gate.now c.args.ops.now c.args.live.now c.args.queues.now (c.args.number - c.count_past-ends.result - c.len-completions.result) c.count_past-admissions.result (c.count_past-admissions.ensures.all (omega arith)) (omega arith) ∙ to-fifth (g.P.Requests.plan c.args.plan.now) c.args.gate.now c.args.ops.now c.args.live.now c.args.queues.now (c.args.number - c.count_past-ends.result - c.len-completions.result - c.count_past-admissions.result) c.count_past-cuts.result (c.count_past-cuts.ensures.all (omega arith)) (omega arith)
-    ∙ to-sixth (g.P.Requests.plan c.args.plan.now) c.args.queues.now (c.args.number - c.count_past-ends.result - c.len-completions.result - c.count_past-admissions.result - c.count_past-cuts.result) j refl (omega (arith, f))
-    ∙ ap (λ n. get_or (sends_at 0 c.args.queues.now) n no_choice) e
+pub returns-in-Ok-find_join : goal.returns-in-Ok-find_join
+returns-in-Ok-find_join g c =
+    let a : PlaceFound (places (g.P.Requests.plan c.args.plan.now) c.args.gate.now c.args.ops.now c.args.live.now Ending) c.args.number (Err c.in-Err.behind) = rw (c.in-Err.is) at c.find_op.ensures in
+    let b : c.in-Err.behind ≡ length c.args.flight.now.commands + (c.in-Err.behind - c.len-completions.result) = omega (arith, c.len-completions.ensures, c.if-second-completions.false) in
+    let d : PlaceFound (places (g.P.Requests.plan c.args.plan.now) c.args.gate.now c.args.ops.now c.args.live.now Admission) (c.in-Err.behind - c.len-completions.result) (Err c.in-Err-find_op.behind) = rw (c.in-Err-find_op.is) at c.find_op-2.ensures in
+    let e : PlaceFound (places (g.P.Requests.plan c.args.plan.now) c.args.gate.now c.args.ops.now c.args.live.now Cutting) c.in-Err-find_op.behind (Err c.in-Err-find_op-2.behind) = rw (c.in-Err-find_op-2.is) at c.find_op-3.ensures in
+    let f : ChoiceFound (joins_at (g.P.Requests.plan c.args.plan.now).limits 0 c.args.queues.now) c.in-Err-find_op-2.behind (Ok c.in-Ok-find_join.choice) = rw (c.in-Ok-find_join.is, c.limits-lim.ensures) at c.find_join.ensures in
+    sym (to-fifth (g.P.Requests.plan c.args.plan.now) c.args.gate.now c.args.ops.now c.args.live.now c.args.queues.now c.args.flight.now.commands c.args.number c.in-Err.behind (c.in-Err.behind - c.len-completions.result) c.in-Err-find_op.behind c.in-Err-find_op-2.behind a b d e
+    ∙ in-fifth (g.P.Requests.plan c.args.plan.now) c.args.queues.now c.in-Err-find_op-2.behind f.0
+    ∙ sym f.1)
+
+pub returns-in-Err-find_join : goal.returns-in-Err-find_join
+returns-in-Err-find_join g c =
+    let a : PlaceFound (places (g.P.Requests.plan c.args.plan.now) c.args.gate.now c.args.ops.now c.args.live.now Ending) c.args.number (Err c.in-Err.behind) = rw (c.in-Err.is) at c.find_op.ensures in
+    let b : c.in-Err.behind ≡ length c.args.flight.now.commands + (c.in-Err.behind - c.len-completions.result) = omega (arith, c.len-completions.ensures, c.if-second-completions.false) in
+    let d : PlaceFound (places (g.P.Requests.plan c.args.plan.now) c.args.gate.now c.args.ops.now c.args.live.now Admission) (c.in-Err.behind - c.len-completions.result) (Err c.in-Err-find_op.behind) = rw (c.in-Err-find_op.is) at c.find_op-2.ensures in
+    let e : PlaceFound (places (g.P.Requests.plan c.args.plan.now) c.args.gate.now c.args.ops.now c.args.live.now Cutting) c.in-Err-find_op.behind (Err c.in-Err-find_op-2.behind) = rw (c.in-Err-find_op-2.is) at c.find_op-3.ensures in
+    let f : ChoiceFound (joins_at (g.P.Requests.plan c.args.plan.now).limits 0 c.args.queues.now) c.in-Err-find_op-2.behind (Err c.in-Err-find_join.sixth) = rw (c.in-Err-find_join.is, c.limits-lim.ensures) at c.find_join.ensures in
+    sym (to-fifth (g.P.Requests.plan c.args.plan.now) c.args.gate.now c.args.ops.now c.args.live.now c.args.queues.now c.args.flight.now.commands c.args.number c.in-Err.behind (c.in-Err.behind - c.len-completions.result) c.in-Err-find_op.behind c.in-Err-find_op-2.behind a b d e
+    ∙ to-sixth (g.P.Requests.plan c.args.plan.now) c.args.queues.now c.in-Err-find_op-2.behind c.in-Err-find_join.sixth f
     ∙ sym c.pick_send.ensures)
