@@ -4,6 +4,7 @@
 
 mod choice;
 mod flight;
+mod live;
 mod machine;
 mod moves;
 mod piece;

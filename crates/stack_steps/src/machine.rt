@@ -1,6 +1,7 @@
 //! The machine.
 
 use crate::flight::InFlight;
+use crate::live::Live;
 use crate::state::OpState;
 use bio_core::Bio;
 use merge_queue::DeviceQueue;
@@ -13,7 +14,7 @@ pub struct Machine {
     pub(crate) gate: Gate,
     pub(crate) ops: Vec<OpState>,
     // the places of the ops that have not ended, in order
-    pub(crate) live: Vec<u32>,
+    pub(crate) live: Live,
     pub(crate) queues: Vec<DeviceQueue>,
     pub(crate) flight: InFlight,
     // room for what goes back of a command

@@ -15,6 +15,7 @@ ghost use Rattle.stack_steps.specs.Shows.{groups_of};
 ghost use Rattle.stack_steps.specs.Moves.{more_cut, no_queue, KeepRoom};
 
 use crate::Requests;
+use crate::live::Live;
 use crate::rests::put_rests;
 use crate::state::OpState;
 use bio_core::{Bio, Fate};
@@ -22,7 +23,7 @@ use merge_queue::DeviceQueue;
 use range_gate::Gate;
 
 /// The q-th of the ops that have not ended ends.
-pub fn end_op(gate: &mut Gate, live: &mut Vec<u32>, q: usize)
+pub fn end_op(gate: &mut Gate, live: &mut Live, q: usize)
     requires there { q < length live.old.items }
     requires number { slice_index_or live.old.items q 0 + 1 < 2 ^ 32 }
     requires op { slice_index_or live.old.items q 0 < length gate.old.phases }
@@ -31,12 +32,12 @@ pub fn end_op(gate: &mut Gate, live: &mut Vec<u32>, q: usize)
     ensures conflicts { gate.new.conflicts ≡ gate.old.conflicts }
     ensures live { live.new.items ≡ remove live.old.items q }
 {
-    gate.end(live[q] + 1);
-    let _gone = live.remove(q);
+    gate.end(live.at(q) + 1);
+    live.remove(q);
 }
 
 /// The q-th of the ops that have not ended is admitted; with no blocks it ends at once.
-pub fn enter_op<P: Requests>(plan: &P, gate: &mut Gate, live: &mut Vec<u32>, q: usize)
+pub fn enter_op<P: Requests>(plan: &P, gate: &mut Gate, live: &mut Live, q: usize)
     requires there { q < length live.old.items }
     requires number { slice_index_or live.old.items q 0 + 1 < 2 ^ 32 }
     requires op { slice_index_or live.old.items q 0 < length gate.old.phases }
@@ -46,7 +47,7 @@ pub fn enter_op<P: Requests>(plan: &P, gate: &mut Gate, live: &mut Vec<u32>, q: 
     ensures conflicts { gate.new.conflicts ≡ gate.old.conflicts }
     ensures live { live.new.items ≡ (if eqb (request_at (P.plan plan.now) (slice_index_or live.old.items q 0)).count 0 then remove live.old.items q else live.old.items) }
 {
-    let op = live[q];
+    let op = live.at(q);
     gate.admit(op + 1);
     if plan.count(op) == 0 {
         end_op(gate, live, q);

@@ -12,6 +12,7 @@ ghost use Rattle.range_gate.specs.declared.phase.Phase.TheVariants.{Waiting};
 ghost use Rattle.stack_steps.specs.Does.{Holds};
 
 use crate::flight::InFlight;
+use crate::live::Live;
 use crate::state::OpState;
 use crate::{Machine, Requests};
 use merge_queue::{DeviceQueue, Limits};
@@ -89,7 +90,7 @@ impl Machine {
         Ok(Machine {
             gate,
             ops: new_ops(alloc, plan)?,
-            live: new_live(alloc, plan.ops())?,
+            live: Live::of(new_live(alloc, plan.ops())?),
             queues: new_queues(alloc, plan.devices(), room, &plan.limits())?,
             flight: InFlight::new(alloc, room)?,
             rest: Vec::with_capacity(alloc, room as usize)?,

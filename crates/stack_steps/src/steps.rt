@@ -31,7 +31,7 @@ impl Machine {
             plan,
             &self.gate,
             &self.ops,
-            &self.live,
+            self.live.as_slice(),
             &self.queues,
             &self.flight,
         ) as u32
@@ -42,7 +42,7 @@ impl Machine {
         requires { Works (P.plan _plan.now) self.now }
         ensures { (v : View) → Holds (P.plan _plan.now) self.now v → IsTrue result ↔ enabled (P.plan _plan.now) v ≡ [] }
     {
-        has_none(&self.live)
+        has_none(self.live.as_slice())
     }
 
     /// How many steps were done.
@@ -62,7 +62,7 @@ impl Machine {
             plan,
             &self.gate,
             &self.ops,
-            &self.live,
+            self.live.as_slice(),
             &self.queues,
             &self.flight,
             number as u64,
@@ -86,7 +86,7 @@ impl Machine {
         ensures op { OfOp (P.plan _plan.now) self.old (End q) result }
         ensures step { (cut : ℕ) → Does (P.plan _plan.now) self.old (End q) cut self.new }
     {
-        let op = self.live[q];
+        let op = self.live.at(q);
         end_op(&mut self.gate, &mut self.live, q);
         self.steps += 1;
         op
@@ -98,7 +98,7 @@ impl Machine {
         ensures op { OfOp (P.plan plan.now) self.old (Admit q) result }
         ensures step { (cut : ℕ) → Does (P.plan plan.now) self.old (Admit q) cut self.new }
     {
-        let op = self.live[q];
+        let op = self.live.at(q);
         enter_op(plan, &mut self.gate, &mut self.live, q);
         self.steps += 1;
         op
@@ -111,7 +111,7 @@ impl Machine {
         ensures piece { Cuts (P.plan plan.now) self.old q size result }
         ensures step { Does (P.plan plan.now) self.old (Cut q) size self.new }
     {
-        let op = self.live[q];
+        let op = self.live.at(q);
         let k = self.ops[op as usize].cut;
         let bio = next_piece(plan, op, k, size);
         self.rest.clear();

@@ -19,7 +19,7 @@ pub enter_op-requires-clause-may : goal.enter_op-requires-clause-may
 enter_op-requires-clause-may g c = may-enter (g.P.Requests.plan c.args.plan.now) c.args.self.now.gate c.args.self.now.ops.items c.args.self.now.live.items c.args.self.now.queues.items c.args.self.now.flight c.args.self.now.steps c.requires.view c.args.q c.requires.step c.requires.holds.shows c.requires.can c.requires.means
 
 pub returns-clause-op : goal.returns-clause-op
-returns-clause-op g c = λ v t h m. ap op_of m.1 ∙ of-op (g.P.Requests.plan c.args.plan.now) c.args.self.now.gate c.args.self.now.ops.items c.args.self.now.live.items c.args.self.now.queues.items c.args.self.now.flight c.args.self.now.steps v c.args.q c.index-op.result.now (g.met.P.Requests.fine c.args.plan.now) h.shows m.0 c.index-op.ensures
+returns-clause-op g c = λ v t h m. ap op_of m.1 ∙ of-op (g.P.Requests.plan c.args.plan.now) c.args.self.now.gate c.args.self.now.ops.items c.args.self.now.live.items c.args.self.now.queues.items c.args.self.now.flight c.args.self.now.steps v c.args.q c.at-op.result (g.met.P.Requests.fine c.args.plan.now) h.shows m.0 c.at-op.ensures
 
 pub returns-clause-step : goal.returns-clause-step
 returns-clause-step g c = λ cut v t h can m. record {
