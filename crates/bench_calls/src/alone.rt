@@ -101,7 +101,7 @@ struct Host {
     ios: Vec<Io>,
     scratch: Scratch,
     fates: Vec<Fate>,
-    ghost room: { HoldsBlocks 1024 scratch },
+    ghost room: { HoldsBlocks 4096 1024 scratch },
     ghost fates_room: { 1024 ≤ vec_capacity fates },
 }
 
@@ -110,7 +110,7 @@ impl Host {
         Ok(Host {
             pool: pages(alloc)?,
             ios: requests(alloc)?,
-            scratch: Scratch::new(alloc, MOST)?,
+            scratch: Scratch::new(alloc, MOST, 4096)?,
             fates: Vec::with_capacity(alloc, MOST as usize)?,
         })
     }

@@ -2,7 +2,7 @@
 
 ghost use Rattle.std.specs.Prelude.{◌≡◌, ◌≤◌, ◌<◌, ℕ, IfOk, IfSome, length};
 ghost use Rattle.std.specs.Vec.{vec_capacity};
-ghost use Rattle.dix_adapter.specs.Groups.{IsGroup, IsProtect, first_of, size};
+ghost use Rattle.dix_adapter.specs.Groups.{IsGroup, IsProtect, block_len, first_of, size};
 ghost use Rattle.dix_adapter.specs.Room.{HoldsBlocks};
 
 use crate::exchanges::{DEVICE, DONE};
@@ -101,11 +101,11 @@ fn carry(
     requires group { (bytes : ℕ) × IsGroup adapter.now pool.old bytes ios.now req.now }
     requires count { count ≡ size req.now }
     requires few { count ≤ 1024 }
-    requires scratch { HoldsBlocks (size req.now) scratch.old }
+    requires scratch { HoldsBlocks (block_len ios.now req.now) (size req.now) scratch.old }
     requires fates { size req.now ≤ vec_capacity fates.old }
     requires device { (first_of req.now).dev < (⟦<AnswerRig as Rig>⟧.standing rig.old).devices }
     ensures group { (bytes : ℕ) × IsGroup adapter.now pool.new bytes ios.now req.now }
-    ensures scratch { HoldsBlocks (size req.now) scratch.new }
+    ensures scratch { HoldsBlocks (block_len ios.now req.now) (size req.now) scratch.new }
     ensures capacity { vec_capacity fates.new ≡ vec_capacity fates.old }
     ensures standing { ⟦<AnswerRig as Rig>⟧.standing rig.new ≡ ⟦<AnswerRig as Rig>⟧.standing rig.old }
 {
@@ -131,7 +131,7 @@ fn carry_times(
     if count > BLOCKS || req[0].dev >= rig.devices() {
         return Ok(0);
     }
-    let mut scratch = Scratch::new(alloc, count)?;
+    let mut scratch = Scratch::new(alloc, count, 4096)?;
     let mut fates = Vec::with_capacity(alloc, count as usize)?;
     for _ in 0..times {
         carry(

@@ -61,11 +61,10 @@ first-long a io b cells (suc n) = length-append (sends_first a io b cells n) (se
 
 -- ---- room
 
-pub times-most : (n w : ℕ) → w ≤ 4104 → n * w ≤ n * 4104
-times-most n w h = mul-le-mul_left n h
+pub times-most : (n w most : ℕ) → w ≤ most → n * w ≤ n * most
+times-most n w most h = mul-le-mul_left n h
 
-pub room-left : (n s before all : ℕ) → s ≤ 4096 → before + n ≤ all → before * 4104 + n * (s + 8) + 8 ≤ all * 4104 + 8
-room-left n s before all h l =
-    let a = times-most n (s + 8) (omega arith) in
-    let b : (before + n) * 4104 ≤ all * 4104 = mul-le-mul_right 4104 l in
+pub room-left : (n w before all : ℕ) → before + n ≤ all → before * w + n * w + 8 ≤ all * w + 8
+room-left n w before all l =
+    let b : (before + n) * w ≤ all * w = mul-le-mul_right w l in
     omega arith

@@ -20,7 +20,7 @@ use Rattle.bio_core.specs.declared.fate.Fate.{Fate}
 use Rattle.bio_core.specs.Bios.{Block, blocks_from, blocks_of}
 use Rattle.target_answer.specs.Frames.{frames_of}
 use Rattle.dix_adapter.specs.declared.adapter.Adapter.{Adapter}
-use Rattle.dix_adapter.specs.Groups.{IsBio, IsGroup, blocks_in, data_cells, first_of, frame_cells, no_bio, request_of, route_by, size, tuple_cells}
+use Rattle.dix_adapter.specs.Groups.{IsBio, IsGroup, block_len, blocks_in, data_cells, first_of, frame_cells, no_bio, request_of, route_by, size, tuple_cells}
 use Rattle.dix_adapter.specs.Carried.{arrives, carried, comes_by, comes_first, fates_in, frame_len, land, landed, lands_first}
 use Rattle.dix_adapter.proofs.Blocks.{bios-more, blocks-more, length-blocks, length-in}
 use Rattle.dix_adapter.specs.Walking.{HasHost, Walkable, WalksTuples}
@@ -242,10 +242,10 @@ came-long a io b w first n = length-map (comes_first a io b w first n) carried �
 pub one-width : (a : Adapter) (b : Bio) (io : Io) (bytes : ℕ) → block_size io ≡ bytes → wire_size (route_by a io b 0) ≡ (if a.dif && not (is_zero a.ty) then bytes + 8 else bytes)
 one-width a b io bytes e = ap (λ k. if a.dif && not (is_zero a.ty) then k + 8 else k) e
 
-pub room-group : (done left n w all long : ℕ) → n ≤ left → left ≤ done → done ≤ all → w ≤ 4104 → all * 4104 + 8 ≤ long → (done - left) * w + n * w + 8 ≤ long
-room-group done left n w all long h l m k r =
+pub room-group : (done left n w most all long : ℕ) → n ≤ left → left ≤ done → done ≤ all → w ≤ most → all * most + 8 ≤ long → (done - left) * w + n * w + 8 ≤ long
+room-group done left n w most all long h l m k r =
     let a : (done - left + n) * w ≤ all * w = mul-le-mul_right w (omega arith) in
-    let b : all * w ≤ all * 4104 = mul-le-mul_left all k in
+    let b : all * w ≤ all * most = mul-le-mul_left all k in
     omega arith
 
 pub group-width : (a : Adapter) (pool : List (List ℕ)) (bytes : ℕ) (ios : List Io) (req : List Bio) → IsGroup a pool bytes ios req → frame_len a ios req ≡ (if a.dif && not (is_zero a.ty) then bytes + 8 else bytes)
@@ -282,12 +282,17 @@ frames-front w (suc n) X Y h =
 pub frames-taken : (w n len : ℕ) (X : List ℕ) → n * w ≤ len → len ≤ length X → frames_of w n X ≡ frames_of w n (take len X)
 frames-taken w n len X h l = ap (frames_of w n) (sym (take-append-drop len X)) ∙ frames-front w n (take len X) (drop len X) (let e = length-take len X in omega arith)
 
-pub group-most : (a : Adapter) (pool : List (List ℕ)) (bytes : ℕ) (ios : List Io) (req : List Bio) → IsGroup a pool bytes ios req → frame_len a ios req ≤ 4104
+pub group-bytes : (a : Adapter) (pool : List (List ℕ)) (bytes : ℕ) (ios : List Io) (req : List Bio) → IsGroup a pool bytes ios req → block_len ios req ≡ bytes
+group-bytes a pool bytes ios req g =
+    let k = All-get_or (IsBio a pool bytes ios (first_of req).dev (first_of req).dir) req 0 no_bio (let x = g.some in omega arith) g.bios in
+    k.request.size
+
+pub group-most : (a : Adapter) (pool : List (List ℕ)) (bytes : ℕ) (ios : List Io) (req : List Bio) → IsGroup a pool bytes ios req → frame_len a ios req ≤ block_len ios req + 8
 group-most a pool bytes ios req g = of (a.dif && not (is_zero a.ty)) (group-width a pool bytes ios req g)
   where
-    of : (c : Bool) → frame_len a ios req ≡ (if c then bytes + 8 else bytes) → frame_len a ios req ≤ 4104
-    of true e = let x = g.small.1 in omega arith
-    of false e = let x = g.small.1 in omega arith
+    of : (c : Bool) → frame_len a ios req ≡ (if c then bytes + 8 else bytes) → frame_len a ios req ≤ block_len ios req + 8
+    of true e = let b = group-bytes a pool bytes ios req g in omega arith
+    of false e = let b = group-bytes a pool bytes ios req g in omega arith
 
 pub taken-long : (n : ℕ) (X : List ℕ) → n ≤ length X → length (take n X) ≡ n
 taken-long n X h = let e = length-take n X in omega arith

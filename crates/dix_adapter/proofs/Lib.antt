@@ -10,6 +10,7 @@ pub mod Landing
 pub mod Puts
 pub mod Asking
 pub mod GoingOut
+pub mod Rooms
 pub mod Runs
 pub mod Units
 pub mod WentOut

@@ -39,6 +39,10 @@ no_request = record { dir = Read; first = 0; count = 0; body = []; pi = None }
 abbrev pub request_of : List Io → ℕ → Io
 request_of ios op = get_or ios (op - 1) no_request
 
+-- the bytes of data in each block of a group: those of its first request's blocks
+abbrev pub block_len : List Io → List Bio → ℕ
+block_len ios req = block_size (request_of ios (first_of req).op)
+
 abbrev pub mode_of : Adapter → Mode
 mode_of a = record { kind = a.kind; dix = a.dix; dif = a.dif; protect = a.protect; app = a.app; mask = a.mask }
 

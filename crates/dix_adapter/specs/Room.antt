@@ -3,9 +3,9 @@ use Rattle.std.specs.Prelude.{◌≡◌, ℕ, ◌+◌, ◌*◌, ◌≤◌, lengt
 use Rattle.std.specs.Vec.{vec_capacity}
 use Rattle.dix_adapter.specs.declared.scratch.Scratch.{Scratch}
 
--- for the frames and the labels of so many blocks
-pub record HoldsBlocks (count : ℕ) (s : Scratch) : Type 0 where
-  pub frames : count * 4104 + 8 ≤ length s.frames.items
+-- for the frames and the labels of so many blocks, each with so many bytes of data
+pub record HoldsBlocks (bytes count : ℕ) (s : Scratch) : Type 0 where
+  pub frames : count * (bytes + 8) + 8 ≤ length s.frames.items
   pub few : count ≤ 1048576
   pub labels : count ≤ vec_capacity s.labels
 

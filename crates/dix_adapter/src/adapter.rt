@@ -10,7 +10,7 @@ ghost use Rattle.rig_api.specs.Telling.{frame_size, greatest_size, spec_at, unit
 ghost use Rattle.target_answer.specs.Target.{Stored};
 ghost use Rattle.dix_adapter.specs.Ways.{CameIn, IsBehind, RecordedIn, RecordedOut, Spends, UpTo, WentOut, any_settled};
 ghost use Rattle.dix_adapter.specs.Carried.{Fetched, Sent, Unsent, any_bad, sends};
-ghost use Rattle.dix_adapter.specs.Groups.{EndsInTime, IsGroup, IsProtect, blocks_in, first_of, mode_of, request_of, route_by, size};
+ghost use Rattle.dix_adapter.specs.Groups.{EndsInTime, IsGroup, IsProtect, block_len, blocks_in, first_of, mode_of, request_of, route_by, size};
 ghost use Rattle.dix_adapter.specs.Room.{HoldsBlocks, KeepsRoom};
 
 use crate::Mode;
@@ -97,7 +97,7 @@ impl Adapter {
     )
         requires protect { IsProtect self.now.protect }
         requires group { (bytes : ℕ) × IsGroup self.now pool.old bytes ios.now req.now }
-        requires scratch { HoldsBlocks (size req.now) scratch.old }
+        requires scratch { HoldsBlocks (block_len ios.now req.now) (size req.now) scratch.old }
         requires fates { size req.now ≤ vec_capacity fates.old }
         requires device { (first_of req.now).dev < (R.standing rig.old).devices }
         requires spare { HasRoom (greatest_size (R.standing rig.old)) 1 (size req.now) (R.room rig.old) }
@@ -139,7 +139,7 @@ impl Adapter {
         ensures tells { is_some (R.image rig.new) ≡ is_some (R.image rig.old) }
         ensures standing { R.standing rig.new ≡ R.standing rig.old }
         ensures armed { R.armed rig.new ≡ R.armed rig.old }
-        ensures scratch { HoldsBlocks (size req.now) scratch.new }
+        ensures scratch { HoldsBlocks (block_len ios.now req.now) (size req.now) scratch.new }
         ensures keeps_room { KeepsRoom scratch.old scratch.new }
         ensures spent { Spends (greatest_size (R.standing rig.old)) fates.new.items (R.room rig.old) (R.room rig.new) }
         ensures capacity { vec_capacity fates.new ≡ vec_capacity fates.old }

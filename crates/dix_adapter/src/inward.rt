@@ -15,7 +15,7 @@ ghost use Rattle.rig_api.specs.Telling.{greatest_size};
 ghost use Rattle.dix_adapter.specs.Room.{HoldsBlocks, KeepsRoom};
 ghost use Rattle.block_path.specs.Routes.{wire_size};
 ghost use Rattle.dix_adapter.specs.Carried.{Exchanged, Fetched, carried, command_for, comes_by, comes_first, fates_in, frame_len, land, landed, lands_first};
-ghost use Rattle.dix_adapter.specs.Groups.{EndsInTime, IsGroup, IsProtect, blocks_in, data_cells, first_of, route_by, size, tuple_cells};
+ghost use Rattle.dix_adapter.specs.Groups.{EndsInTime, IsGroup, IsProtect, block_len, blocks_in, data_cells, first_of, route_by, size, tuple_cells};
 ghost use Rattle.dix_adapter.specs.Walking.{HasHost, IsBefore, IsOnce, Walkable};
 
 use crate::Adapter;
@@ -44,7 +44,7 @@ impl Adapter {
         requires protect { IsProtect self.now.protect }
         requires group { (bytes : ℕ) × IsGroup self.now pool.old bytes ios.now req.now }
         requires way { (first_of req.now).dir ≡ Read }
-        requires scratch { HoldsBlocks (size req.now) scratch.old }
+        requires scratch { HoldsBlocks (block_len ios.now req.now) (size req.now) scratch.old }
         requires none { fates.old.items ≡ [] }
         requires fates { size req.now ≤ vec_capacity fates.old }
         requires device { (first_of req.now).dev < (R.standing rig.old).devices }
@@ -52,7 +52,7 @@ impl Adapter {
         ensures fetched { Fetched self.now ios.now req.now pool.old pool.new fates.new.items
             (record { told = is_some (R.image rig.old); units = R.units rig.old; standing = R.standing rig.old; log = R.log rig.old; room = R.room rig.old; armed = R.armed rig.old; faults = R.faults rig.old })
             (record { told = is_some (R.image rig.new); units = R.units rig.new; standing = R.standing rig.new; log = R.log rig.new; room = R.room rig.new; armed = R.armed rig.new; faults = R.faults rig.new }) }
-        ensures scratch { HoldsBlocks (size req.now) scratch.new }
+        ensures scratch { HoldsBlocks (block_len ios.now req.now) (size req.now) scratch.new }
         ensures keeps_room { KeepsRoom scratch.old scratch.new }
         ensures capacity { vec_capacity fates.new ≡ vec_capacity fates.old }
     {
@@ -114,7 +114,7 @@ impl Adapter {
         requires way { (first_of req.now).dir ≡ Read }
         requires done { done ≤ size req.now }
         requires none { fates.old.items ≡ [] }
-        requires room { size req.now * 4104 + 8 ≤ length frames.old }
+        requires room { size req.now * (block_len ios.now req.now + 8) + 8 ≤ length frames.old }
         requires fates { size req.now ≤ vec_capacity fates.old }
         ensures fates { fates.new.items ≡ fates_in self.now ios.now (blocks_in req.now) (frames_of (frame_len self.now ios.now req.now) done frames.old) }
         ensures cells { flat pool.new ≡ landed self.now ios.now (blocks_in req.now) (frames_of (frame_len self.now ios.now req.now) done frames.old) (flat pool.old) }

@@ -19,7 +19,7 @@ ghost use Rattle.dix_adapter.specs.Walking.{HasHost, IsBefore, Walkable};
 ghost use Rattle.dix_adapter.specs.Outcomes.{done_of as spec_done, rest_of};
 ghost use Rattle.dix_adapter.specs.Room.{HoldsBlocks, KeepsRoom};
 ghost use Rattle.bio_core.specs.declared.request.Dir.TheVariants.{Write};
-ghost use Rattle.dix_adapter.specs.Groups.{EndsInTime, IsGroup, IsProtect, blocks_in, first_of, label_of, route_by, size};
+ghost use Rattle.dix_adapter.specs.Groups.{EndsInTime, IsGroup, IsProtect, block_len, blocks_in, first_of, label_of, route_by, size};
 
 use crate::Adapter;
 use crate::outcome::{add_rest, done_of};
@@ -46,7 +46,7 @@ impl Adapter {
         requires protect { IsProtect self.now.protect }
         requires group { (bytes : ℕ) × IsGroup self.now pool.now bytes ios.now req.now }
         requires way { (first_of req.now).dir ≡ Write }
-        requires scratch { HoldsBlocks (size req.now) scratch.old }
+        requires scratch { HoldsBlocks (block_len ios.now req.now) (size req.now) scratch.old }
         requires none { fates.old.items ≡ [] }
         requires fates { size req.now ≤ vec_capacity fates.old }
         requires device { (first_of req.now).dev < (R.standing rig.old).devices }
@@ -57,7 +57,7 @@ impl Adapter {
             → Sent self.now ios.now req.now pool.now pool.now fates.new.items
             (record { told = is_some (R.image rig.old); units = R.units rig.old; standing = R.standing rig.old; log = R.log rig.old; room = R.room rig.old; armed = R.armed rig.old; faults = R.faults rig.old })
             (record { told = is_some (R.image rig.new); units = R.units rig.new; standing = R.standing rig.new; log = R.log rig.new; room = R.room rig.new; armed = R.armed rig.new; faults = R.faults rig.new }) }
-        ensures scratch { HoldsBlocks (size req.now) scratch.new }
+        ensures scratch { HoldsBlocks (block_len ios.now req.now) (size req.now) scratch.new }
         ensures keeps_room { KeepsRoom scratch.old scratch.new }
         ensures capacity { vec_capacity fates.new ≡ vec_capacity fates.old }
     {
@@ -82,7 +82,7 @@ impl Adapter {
     ) -> usize
         requires group { (bytes : ℕ) × IsGroup self.now pool.now bytes ios.now req.now }
         requires none { fates.old.items ≡ [] }
-        requires room { size req.now * 4104 + 8 ≤ length frames.old }
+        requires room { size req.now * (block_len ios.now req.now + 8) + 8 ≤ length frames.old }
         requires fates { size req.now ≤ vec_capacity fates.old }
         ensures fates { fates.new.items ≡ map unsent (map (sends self.now ios.now (flat pool.now)) (blocks_in req.now)) }
         ensures frames { any_bad (map (sends self.now ios.now (flat pool.now)) (blocks_in req.now)) ≡ false

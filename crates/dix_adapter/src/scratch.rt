@@ -7,9 +7,6 @@ ghost use Rattle.dix_adapter.specs.Room.{HoldsBlocks};
 use fault_schedule::Label;
 use std::alloc::{AllocError, Global};
 
-/// The most bytes of data in a block.
-pub(crate) const LARGEST_BLOCK: usize = 4096;
-
 /// The bytes of a tuple.
 pub(crate) const TUPLE: usize = 8;
 
@@ -22,14 +19,17 @@ pub struct Scratch {
 }
 
 impl Scratch {
-    /// Room for the blocks of one command, of which there are at most 1,048,576, each of at most 4,096 bytes.
-    pub fn new(alloc: Global, max_blocks: u32) -> Result<Scratch, AllocError>
-        requires { max_blocks ≤ 1048576 }
-        ensures { IfOk result (HoldsBlocks max_blocks) }
+    /// Room for the blocks of one command, of which there are at most 1,048,576, each of at most so many bytes, which
+    /// are at most 4,096.
+    pub fn new(alloc: Global, max_blocks: u32, most_bytes: u32) -> Result<Scratch, AllocError>
+        requires blocks { max_blocks ≤ 1048576 }
+        requires bytes { most_bytes ≤ 4096 }
+        ensures { IfOk result (HoldsBlocks most_bytes max_blocks) }
     {
         let count = max_blocks as usize;
+        let size = most_bytes as usize;
         Ok(Scratch {
-            frames: vec![in alloc; 0; count * (LARGEST_BLOCK + TUPLE) + TUPLE]?,
+            frames: vec![in alloc; 0; count * (size + TUPLE) + TUPLE]?,
             labels: Vec::with_capacity(alloc, count)?,
         })
     }

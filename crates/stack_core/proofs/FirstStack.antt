@@ -1,7 +1,6 @@
 -- What `new` makes is a stack.
 use Rattle.std.proofs.Common.{◌≡◌, ◌<◌, ◌≤◌, ℕ, Bool, List, length, map, sym, ap, ◌∙◌}
 use Rattle.std.specs.Vec.{vec_capacity}
-use Rattle.dix_adapter.specs.Room.{HoldsBlocks}
 use Rattle.merge_queue.specs.declared.limits.Limits.{Limits}
 use Rattle.volume_table.specs.Tables.{Table}
 use Rattle.stack_ops.specs.declared.op.Op.{Op}
@@ -13,7 +12,7 @@ use Rattle.stack_walks.specs.Settling.{AreFates}
 use Rattle.stack_walks.specs.Requests.{pages_from, requests_from}
 use Rattle.stack_core.specs.Replies.{HoldsBad}
 use Rattle.stack_core.specs.Rooms.{Suits, blocks_in}
-use Rattle.stack_core.specs.Stacks.{IsStack, plan_in, room_at}
+use Rattle.stack_core.specs.Stacks.{HoldsEach, IsStack, plan_in, room_at}
 use Rattle.stack_walks.specs.Starting.{CanStart}
 use Rattle.stack_walks.proofs.Begin.{length-requests}
 use Rattle.stack_core.proofs.FirstRooms.{first-rooms}
@@ -35,7 +34,7 @@ pub record Made (dix : Bool) (protect : ℕ) (limits : Limits) (pages : ℕ) (op
   pub replies : length s.replies.items ≡ length ops
   pub group : blocks_of_requests (map request_in (requests_from dix pages ops)) ≤ vec_capacity s.group
   pub fates : blocks_of_requests (map request_in (requests_from dix pages ops)) ≤ vec_capacity s.fates
-  pub scratch : HoldsBlocks limits.max_blocks s.scratch
+  pub scratch : HoldsEach (requests_from dix pages ops) limits.max_blocks s.scratch
 
 pub first-stack : (table : Table) (dix : Bool) (protect : ℕ) (limits : Limits) (pages : ℕ) (pool : List (List ℕ)) (ops : List Op) (s : Stack) → CanStart table dix protect limits pages pool ops → Made dix protect limits pages ops s → IsStack s
 first-stack table dix protect limits pages pool ops s c m =

@@ -1,11 +1,10 @@
 -- What a step leaves is a stack again.
 use Rattle.std.proofs.Common.{◌≡◌, length, ◌∙◌, arith}
 use Rattle.std.specs.Vec.{vec_capacity}
-use Rattle.dix_adapter.specs.Room.{HoldsBlocks}
 use Rattle.stack_steps.specs.Does.{Works}
 use Rattle.stack_core.specs.declared.stack.Stack.{Stack}
 use Rattle.stack_walks.specs.Settling.{AreFates}
-use Rattle.stack_core.specs.Stacks.{AreRooms, IsStack, plan_in}
+use Rattle.stack_core.specs.Stacks.{AreRooms, HoldsEach, IsStack, plan_in}
 use Rattle.stack_core.proofs.Rooms.{rooms-stay}
 use Rattle.stack_walks.proofs.Wholes.{all_stay}
 
@@ -20,7 +19,7 @@ pub record Moved (s s₂ : Stack) : Type 0 where
   pub replies : length s₂.replies.items ≡ length s.replies.items
   pub group : vec_capacity s₂.group ≡ vec_capacity s.group
   pub fates : vec_capacity s₂.fates ≡ vec_capacity s.fates
-  pub scratch : HoldsBlocks s.sheet.limits.max_blocks s₂.scratch
+  pub scratch : HoldsEach s.sheet.ios.items s.sheet.limits.max_blocks s₂.scratch
 
 pub is-stack : (s s₂ : Stack) → IsStack s → Moved s s₂ → IsStack s₂
 is-stack s s₂ h m =

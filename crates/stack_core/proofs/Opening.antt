@@ -15,6 +15,7 @@ use Rattle.volume_table.proofs.Sums.{few}
 use Rattle.stack_ops.specs.declared.op.Op.{Op}
 use Rattle.stack_ops.specs.declared.op.Op.TheVariants.{Fill, Put, Show, Seal, Write, Fetch, WritePi, FetchPi, Overwrite, Wait}
 use Rattle.stack_steps.proofs.Keep.{count-few}
+use Rattle.bio_core.specs.Bios.{block_size}
 use Rattle.stack_walks.specs.Sheets.{AreInside, HaveNumbers, HaveTuples, IsSheet, io_at, no_io, op_in, request_in}
 use Rattle.stack_walks.specs.Settling.{AreAllWhole}
 use Rattle.stack_walks.specs.Requests.{first_page, own_blocks, pages_from, request_of, requests_from}
@@ -55,6 +56,15 @@ uniform table dix protect limits pages pool ops c =
       size = λ i h. (let l = there ios i h in (fits table dix protect limits pages pool ops i c (omega arith)).size h);
       host = λ i h. (let l = there ios i h in (fits table dix protect limits pages pool ops i c (omega arith)).host h);
     }
+
+-- a block of each request has at most 4,096 bytes
+pub small-blocks : (table : Table) (dix : Bool) (protect : ℕ) (limits : Limits) (pages : ℕ) (pool : List (List ℕ)) (ops : List Op) → CanStart table dix protect limits pages pool ops →
+    (i : ℕ) → 0 < (io_at (requests_from dix pages ops) i).count → block_size (io_at (requests_from dix pages ops) i) ≤ 4096
+small-blocks table dix protect limits pages pool ops c i z =
+    let u = uniform table dix protect limits pages pool ops c in
+    let a = u.size i z in
+    let b = u.few in
+    omega arith
 
 inside : (table : Table) (dix : Bool) (protect : ℕ) (limits : Limits) (pages : ℕ) (pool : List (List ℕ)) (ops : List Op) → CanStart table dix protect limits pages pool ops → AreInside (requests_from dix pages ops) table
 inside table dix protect limits pages pool ops c = λ i k h.

@@ -1,18 +1,22 @@
 -- The group that a step sends: it can be carried, and room is left for what may still be sent.
-use Rattle.std.proofs.Common.{◌≡◌, ◌<◌, ◌≤◌, ℕ, zero, suc, ◌+◌, Bool, true, List, [], ◌∷◌, length, replicate, get_or, refl, sym, ap, ◌∙◌, arith}
+use Rattle.std.proofs.Common.{◌≡◌, ◌<◌, ◌≤◌, ℕ, zero, suc, ◌+◌, ◌-◌, Bool, true, List, [], ◌∷◌, length, replicate, get_or, refl, sym, ap, ◌∙◌, arith}
 use Rattle.std.specs.Prelude.{nat_lt}
 use Rattle.std.proofs.lemmas.Bool.{ltb-true}
 use Rattle.std.proofs.lemmas.List.{length-replicate}
 use Rattle.std.proofs.lemmas.List.Elements.{All-get_or, All-head}
 use Rattle.bio_core.specs.declared.bio.Bio.{Bio}
+use Rattle.bio_core.specs.declared.request.Io.{Io}
+use Rattle.bio_core.specs.Bios.{block_size}
 use Rattle.bio_core.specs.declared.fate.Fate.{Fate}
 use Rattle.bio_core.specs.declared.fate.Fate.TheVariants.{Bad, Good, Untouched}
 use Rattle.merge_queue.specs.Groups.{Group, size}
 use Rattle.rig_api.specs.Log.{HasRoom, Room}
 use Rattle.rig_api.specs.Telling.{Standing, greatest_size}
+use Rattle.dix_adapter.specs.declared.adapter.Adapter.{Adapter}
 use Rattle.dix_adapter.specs.declared.scratch.Scratch.{Scratch}
 use Rattle.dix_adapter.specs.Groups as Carry
 use Rattle.dix_adapter.specs.Room.{HoldsBlocks, KeepsRoom}
+use Rattle.dix_adapter.proofs.Rooms.{holds-fewer}
 use Rattle.dix_adapter.specs.Ways.{Spends, settled_count as count_settled}
 use Rattle.stack_view.specs.Blocks.{settled_count}
 use Rattle.stack_view.specs.Formed.{IsGroup, Named}
@@ -31,8 +35,9 @@ use Rattle.stack_steps.specs.Does.{Flies, Holds, Ready, Sending, Takes, Works}
 use Rattle.stack_steps.specs.Fine.{Fine}
 use Rattle.stack_steps.proofs.Sums.{sends-fit}
 use Rattle.stack_core.specs.declared.stack.Stack.{Stack}
-use Rattle.stack_core.specs.Stacks.{HasSpare, IsStack, Reaches, plan_in}
+use Rattle.stack_core.specs.Stacks.{HasSpare, HoldsEach, IsStack, Reaches, plan_in}
 use Rattle.stack_core.proofs.Sending.{carried-group, same-size}
+use Rattle.stack_walks.specs.Sheets.{io_at}
 use Rattle.stack_walks.proofs.Spare.{fewer}
 
 -- a group that can be sent in one view can be sent in each that the machine shows
@@ -41,21 +46,27 @@ can-too p m u v d i x y h = ap (λ (qs : List (List Group)). nat_lt i (length (g
 
 -- ---- room
 
--- room for so many blocks is room for fewer
-pub holds-fewer : (most n : ℕ) (s : Scratch) → n ≤ most → HoldsBlocks most s → HoldsBlocks n s
-holds-fewer most n s l h =
-    let f = h.frames in
-    let w = h.few in
-    let x = h.labels in
-    record { frames = omega arith; few = omega arith; labels = omega arith }
-
-pub holds-still : (n : ℕ) (old new : Scratch) → KeepsRoom old new → HoldsBlocks n old → HoldsBlocks n new
-holds-still n old new k h =
+pub holds-still : (ios : List Io) (most : ℕ) (old new : Scratch) → KeepsRoom old new → HoldsEach ios most old → HoldsEach ios most new
+holds-still ios most old new k each = λ i z.
+    (let h = each i z in
     let a = k.frames in
     let b = k.labels in
     let f = h.frames in
     let x = h.labels in
-    record { frames = omega arith; few = h.few; labels = omega arith }
+    record { frames = omega arith; few = h.few; labels = omega arith })
+
+-- room for the largest blocks is room for those of each request
+pub holds-all : (ios : List Io) (bytes most : ℕ) (s : Scratch) → ((i : ℕ) → 0 < (io_at ios i).count → block_size (io_at ios i) ≤ bytes) → HoldsBlocks bytes most s → HoldsEach ios most s
+holds-all ios bytes most s small h = λ i z. holds-fewer bytes (block_size (io_at ios i)) most most s (small i z) (omega arith) h
+
+-- room for the blocks of each request is room for those of a group
+pub holds-group : (a : Adapter) (pool : List (List ℕ)) (bytes : ℕ) (ios : List Io) (req : List Bio) (most : ℕ) (s : Scratch) → Carry.IsGroup a pool bytes ios req → Carry.size req ≤ most → HoldsEach ios most s →
+    HoldsBlocks (Carry.block_len ios req) (Carry.size req) s
+holds-group a pool bytes ios req most s g l h =
+    let k = All-get_or (Carry.IsBio a pool bytes ios (Carry.first_of req).dev (Carry.first_of req).dir) req 0 Carry.no_bio (let x = g.some in omega arith) g.bios in
+    let some = k.some in
+    let within = k.within in
+    holds-fewer (Carry.block_len ios req) (Carry.block_len ios req) most (Carry.size req) s (omega arith) l (h ((Carry.first_of req).op - 1) (omega arith))
 
 all-good : (n : ℕ) → settled_count (replicate n Good) ≡ n
 all-good zero = refl

@@ -59,11 +59,15 @@ pub record IsFixed (sheet : Sheet) (adapter : Adapter) : Type 0 where
   pub bytes : ℕ
   pub uniform : AreUniform adapter.dix bytes sheet.ios.items
 
+-- room for as many blocks of each request as a command may hold
+abbrev pub HoldsEach : List Io → ℕ → Scratch → Type 0
+HoldsEach ios most s = (i : ℕ) → 0 < (io_at ios i).count → HoldsBlocks (block_size (io_at ios i)) most s
+
 -- room for the lists of one command
-pub record HasLists (blocks most : ℕ) (group : Vec Bio Global) (fates : Vec Fate Global) (scratch : Scratch) : Type 0 where
+pub record HasLists (ios : List Io) (blocks most : ℕ) (group : Vec Bio Global) (fates : Vec Fate Global) (scratch : Scratch) : Type 0 where
   pub group_room : blocks ≤ vec_capacity group
   pub fates_room : blocks ≤ vec_capacity fates
-  pub scratch_room : HoldsBlocks most scratch
+  pub scratch_room : HoldsEach ios most scratch
 
 pub record IsStack (s : Stack) : Type 0 where
   pub works : Works (plan_in s.sheet) s.machine
@@ -72,7 +76,7 @@ pub record IsStack (s : Stack) : Type 0 where
   pub rooms : AreRooms s.pool s.sheet.ops s.sheet.ios.items s.rooms.items
   pub kept : AreFates s.sheet.ios.items s.kept.starts.items s.kept.held.items
   pub replies : length s.replies.items ≡ length s.sheet.ios.items
-  pub lists : HasLists (blocks_of_requests (plan_in s.sheet).requests) s.sheet.limits.max_blocks s.group s.fates s.scratch
+  pub lists : HasLists s.sheet.ios.items (blocks_of_requests (plan_in s.sheet).requests) s.sheet.limits.max_blocks s.group s.fates s.scratch
 
 -- the rig has the devices and the blocks that the ops name
 pub record Reaches (s : Stack) (told : Bool) (st : Standing) : Type 0 where

@@ -3,7 +3,7 @@
 ghost use Rattle.std.specs.Prelude.{◌≡◌, ◌<◌, ◌≤◌, ◌+◌, ◌*◌, ◌^◌, ℕ, length};
 ghost use Rattle.page_pool.specs.Places.{total};
 ghost use Rattle.page_pool.specs.Cuts.{cut};
-ghost use Rattle.bio_core.specs.Bios.{data_segs, tuple_segs};
+ghost use Rattle.bio_core.specs.Bios.{block_size, data_segs, tuple_segs};
 ghost use Rattle.volume_table.specs.Places.{place_in, volume_len};
 ghost use Rattle.stack_walks.specs.Sheets.{HaveNumbers, IsSheet, io_at, op_in, plan_of};
 
@@ -136,6 +136,31 @@ fn devices_of(io: &Io, table: &VolumeTable) -> u32
         let v = io.first + k as u64;
         most = (table.place(v).0 + 1).max(most);
         k += table.run_from(v).min((io.count - k) as u64) as u32;
+    }
+    most
+}
+
+/// The bytes of data in each block of a request, or 0 where it has no block.
+fn block_bytes(io: &Io) -> u32
+    requires { 0 < io.now.count → block_size io.now ≤ 4096 }
+    ensures all { 0 < io.now.count → block_size io.now ≤ result }
+    ensures few { result ≤ 4096 }
+{
+    if io.count == 0 {
+        return 0;
+    }
+    io.block_size()
+}
+
+/// The most bytes of data in a block of the requests.
+pub(crate) fn largest_block(ios: &[Io]) -> u32
+    requires { (i : ℕ) → 0 < (io_at ios.now i).count → block_size (io_at ios.now i) ≤ 4096 }
+    ensures all { (i : ℕ) → 0 < (io_at ios.now i).count → block_size (io_at ios.now i) ≤ result }
+    ensures few { result ≤ 4096 }
+{
+    let mut most = 0;
+    for io in ios {
+        most = block_bytes(io).max(most);
     }
     most
 }

@@ -23,7 +23,7 @@ ghost use Rattle.stack_walks.specs.Starting.{CanStart};
 
 use crate::kept::{Fates, Room, room_for};
 use crate::requests::{own_blocks, pages_for, request_of};
-use crate::sheet::{Sheet, count_devices};
+use crate::sheet::{Sheet, count_devices, largest_block};
 use crate::{Setup, Stack};
 use bio_core::Io;
 use block_path::host_type;
@@ -221,6 +221,7 @@ impl Stack {
         let ty = table.ty();
         let devices = count_devices(&ios, &table);
         let kept = Fates::new(alloc, &ios)?;
+        let most_bytes = largest_block(&ios);
         let rooms = rooms_of(alloc, ops.as_slice())?;
         let replies = silent(alloc, ios.len())?;
         let blocks = kept.blocks() as usize;
@@ -232,7 +233,7 @@ impl Stack {
             adapter: adapter_of(mode, ty, faults),
             host: host_type(ty),
             pool: PagePool::new(alloc, pages)?,
-            scratch: Scratch::new(alloc, limits.max_blocks)?,
+            scratch: Scratch::new(alloc, limits.max_blocks, most_bytes)?,
             group: Vec::with_capacity(alloc, blocks)?,
             fates: Vec::with_capacity(alloc, blocks)?,
             kept,

@@ -10,7 +10,7 @@ use Rattle.cdb_codec.specs.Forms.{form}
 use Rattle.cdb_codec.specs.declared.choice.Dir2.TheVariants.{In}
 use Rattle.target_answer.specs.Frames.{frames_of}
 use Rattle.dix_adapter.specs.Carried.{command_for, command_of, fates_in, frame_len, frames_came, landed, way_of}
-use Rattle.dix_adapter.specs.Groups.{IsBio, blocks_in, first_of, label_of, no_bio, no_request, request_of, size}
+use Rattle.dix_adapter.specs.Groups.{block_len, IsBio, blocks_in, first_of, label_of, no_bio, no_request, request_of, size}
 use Rattle.dix_adapter.specs.Outcomes.{done_of, rest_of}
 use Rattle.dix_adapter.proofs.Grouping.{times-most}
 use Rattle.dix_adapter.proofs.Judged.{exchanged-as}
@@ -29,7 +29,7 @@ returns-clause-fetched g c =
     let d = ap form cmd in
     let z : c.fill_labels-count.result * c.wire_size.result ≡ size c.args.req.now * frame_len c.args.self.now c.args.ios.now c.args.req.now = ap (λ n. n * c.wire_size.result) c.fill_labels-count.ensures.count ∙ ap (λ n. size c.args.req.now * n) u in
     let m = group-most c.args.self.now c.args.pool.now c.requires.group.0 c.args.ios.now c.args.req.now c.requires.group.1 in
-    let t = times-most (size c.args.req.now) (frame_len c.args.self.now c.args.ios.now c.args.req.now) m in
+    let t = times-most (size c.args.req.now) (frame_len c.args.self.now c.args.ios.now c.args.req.now) (block_len c.args.ios.now c.args.req.now + 8) m in
     let y : c.fill_labels-count.result * c.wire_size.result ≤ length c.deref_mut.result.now = omega (arith, z, t, c.requires.scratch.frames, c.deref_mut.ensures.len, ap length c.deref_mut.ensures.value) in
     let r : length (take (c.fill_labels-count.result * c.wire_size.result) c.deref_mut.result.now) ≡ size c.args.req.now * frame_len c.args.self.now c.args.ios.now c.args.req.now = taken-long (c.fill_labels-count.result * c.wire_size.result) c.deref_mut.result.now y ∙ z in
     let n : c.done_of.result ≡ done_of (size c.args.req.now) c.fetch-outcome.result = c.done_of.ensures.value ∙ ap (λ n. done_of n c.fetch-outcome.result) c.fill_labels-count.ensures.count in

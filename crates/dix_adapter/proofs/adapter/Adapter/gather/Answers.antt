@@ -1,14 +1,15 @@
-use Rattle.std.proofs.Common.{◌≡◌, ◌+◌, length, map, get_or, take, refl, ap, ◌∙◌, ◌-◌, arith, length-append}
+use Rattle.std.proofs.Common.{◌≡◌, ◌+◌, ◌*◌, length, map, get_or, take, refl, sym, ap, ◌∙◌, ◌-◌, arith, length-append}
 use Rattle.std.proofs.lemmas.List.{get_or_default, length-map}
 use Rattle.std.proofs.lemmas.List.Elements.{All-get_or}
 use Rattle.page_pool.specs.Cells.{flat}
 use Rattle.bio_core.specs.Bios.{block_size}
 use Rattle.block_path.specs.Routes.{wire_size}
-use Rattle.dix_adapter.specs.Groups.{IsBio, first_of, no_bio, no_request, request_of, route_by, size}
+use Rattle.dix_adapter.specs.Groups.{IsBio, first_of, no_bio, no_request, request_of, route_by, size, block_len}
 use Rattle.dix_adapter.specs.Carried.{sends_first, unsent}
 use Rattle.dix_adapter.proofs.Blocks.{size-front, size-more}
 use Rattle.dix_adapter.proofs.Gathering.{wire-most}
 use Rattle.dix_adapter.proofs.Grouping.{first-long, gathered-more, room-left, times-most}
+use Rattle.dix_adapter.proofs.Landing.{group-bytes}
 use Rattle.dix_adapter.proofs.adapter.Adapter.gather.Goals as goal
 
 pub gather_bio-at-requires-clause-room : goal.gather_bio-at-requires-clause-room
@@ -18,8 +19,12 @@ gather_bio-at-requires-clause-room c =
     let s : block_size c.index-ios-bio.result ≡ c.requires.group.0 = ap block_size q ∙ k.request.size in
     let m = size-more c.args.req.now c.loop-bio.bio-index no_bio (omega arith) in
     let f = size-front c.args.req.now (c.loop-bio.bio-index + 1) in
-    let z = room-left (get_or c.args.req.now c.loop-bio.bio-index no_bio).count (block_size c.index-ios-bio.result) (size (take c.loop-bio.bio-index c.args.req.now)) (size c.args.req.now) (let x = c.requires.group.1.small.1 in omega arith) (omega arith) in
-    omega (arith, z, c.loop-bio.invariant.place, c.loop-bio.invariant.long, c.requires.room)
+    let e : block_size c.index-ios-bio.result + 8 ≡ block_len c.args.ios.now c.args.req.now + 8 =
+    ap (λ n. n + 8) (s ∙ sym (group-bytes c.args.self.now c.args.pool.now c.requires.group.0 c.args.ios.now c.args.req.now c.requires.group.1)) in
+    let w : (get_or c.args.req.now c.loop-bio.bio-index no_bio).count * (block_size c.index-ios-bio.result + 8) ≡ (get_or c.args.req.now c.loop-bio.bio-index no_bio).count * (block_len c.args.ios.now c.args.req.now + 8) =
+    ap (λ n. (get_or c.args.req.now c.loop-bio.bio-index no_bio).count * n) e in
+    let z = room-left (get_or c.args.req.now c.loop-bio.bio-index no_bio).count (block_len c.args.ios.now c.args.req.now + 8) (size (take c.loop-bio.bio-index c.args.req.now)) (size c.args.req.now) (omega arith) in
+    omega (arith, z, w, c.loop-bio.invariant.place, c.loop-bio.invariant.long, c.requires.room)
 
 pub gather_bio-at-requires-clause-fates : goal.gather_bio-at-requires-clause-fates
 gather_bio-at-requires-clause-fates c =
@@ -44,7 +49,10 @@ loop-bio-preserved c =
       capacity = c.gather_bio-at.ensures.capacity ∙ c.loop-bio.invariant.capacity;
       place = (let s : block_size c.index-ios-bio.result ≡ c.requires.group.0 = ap block_size q ∙ k.request.size in
           let w = wire-most c.args.self.now c.index-ios-bio.result b in
-          let t = times-most b.count (wire_size (route_by c.args.self.now c.index-ios-bio.result b 0)) (let x = c.requires.group.1.small.1 in omega arith) in
-          omega (arith, m, t, c.gather_bio-at.ensures.end, c.loop-bio.invariant.place));
+          let y = group-bytes c.args.self.now c.args.pool.now c.requires.group.0 c.args.ios.now c.args.req.now c.requires.group.1 in
+          let t = times-most b.count (wire_size (route_by c.args.self.now c.index-ios-bio.result b 0)) (block_len c.args.ios.now c.args.req.now + 8) (omega (arith, w, s, y)) in
+          let z : (size (take c.loop-bio.bio-index c.args.req.now) + b.count) * (block_len c.args.ios.now c.args.req.now + 8) ≡ size (take (c.loop-bio.bio-index + 1) c.args.req.now) * (block_len c.args.ios.now c.args.req.now + 8) =
+          ap (λ n. n * (block_len c.args.ios.now c.args.req.now + 8)) (let v : size (take c.loop-bio.bio-index c.args.req.now) + b.count ≡ size (take (c.loop-bio.bio-index + 1) c.args.req.now) = omega (arith, m) in v) in
+          omega (arith, z, t, c.gather_bio-at.ensures.end, c.loop-bio.invariant.place));
       long = c.gather_bio-at.ensures.long ∙ c.loop-bio.invariant.long;
     }

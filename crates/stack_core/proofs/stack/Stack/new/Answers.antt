@@ -16,8 +16,9 @@ use Rattle.merge_queue.proofs.Linking.{length-numbers}
 use Rattle.std.specs.List.{list_any}
 use Rattle.stack_walks.proofs.Begin.{length-requests}
 use Rattle.stack_core.proofs.FirstStack.{first-stack}
+use Rattle.stack_core.proofs.Sent.{holds-all}
 use Rattle.stack_walks.proofs.Gates.{gate-is, length-prints}
-use Rattle.stack_core.proofs.Opening.{have-numbers, inside-each, own-few, sheet-is}
+use Rattle.stack_core.proofs.Opening.{have-numbers, inside-each, own-few, sheet-is, small-blocks}
 use Rattle.stack_core.proofs.Queues.{has-queues}
 use Rattle.stack_core.proofs.WalkBegins.{told_begins, walk_begins, falling_begins}
 use Rattle.stack_core.proofs.stack.Stack.new.Goals as goal
@@ -80,12 +81,19 @@ new-requires-3-clause-conflicts c =
     subst (λ p. IsGateOf p c.in_ok-gate.gate) (sym c.sheet_of-sheet.ensures.plan)
     (gate-is c.args.ops shifted c.in_ok-ios.ios.items s.table s.limits c.count_devices-devices.result c.in_ok-gate.gate n (rw e at c.in_ok-gate.ensures))
 
+pub largest_block-most_bytes-requires : goal.largest_block-most_bytes-requires
+largest_block-most_bytes-requires c =
+    let s = c.args.setup in
+    let e : c.deref-4.result.now ≡ requests_from s.mode.dix s.pages c.args.ops = c.deref-4.ensures.value ∙ c.in_ok-ios.ensures.ios ∙ ap (requests_from s.mode.dix s.pages) c.as_slice-4.ensures in
+    rw e (small-blocks s.table s.mode.dix s.mode.protect s.limits s.pages c.requires.0 c.args.ops c.requires.1)
+
 pub returns-clause-stack : goal.returns-clause-stack
 returns-clause-stack c =
     let s = c.args.setup in
     let i : c.in_ok-ios.ios.items ≡ requests_from s.mode.dix s.pages c.args.ops = c.in_ok-ios.ensures.ios ∙ ap (requests_from s.mode.dix s.pages) c.as_slice-4.ensures in
     let k : c.deref-3.result.now ≡ requests_from s.mode.dix s.pages c.args.ops = c.deref-3.ensures.value ∙ i in
     let n = ap length c.in_ok-kept.ensures.held ∙ length-replicate (blocks_of_requests (map request_in c.deref-3.result.now)) Untouched ∙ ap (λ ios. blocks_of_requests (map request_in ios)) k in
+    let h : c.deref-4.result.now ≡ requests_from s.mode.dix s.pages c.args.ops = c.deref-4.ensures.value ∙ i in
     let r = ap length c.in_ok-replies.ensures ∙ length-replicate c.len.result Silent in
     let l = ap length i ∙ length-requests s.mode.dix s.pages c.args.ops in
     first-stack s.table s.mode.dix s.mode.protect s.limits s.pages c.requires.0 c.args.ops _ c.requires.1 (record {
@@ -103,7 +111,7 @@ returns-clause-stack c =
       replies = omega (arith, c.in_ok-ios.ios.ok.0, c.len.ensures);
       group = omega (arith, c.in_ok-with_capacity.ensures.exact, c.blocks-blocks.ensures);
       fates = omega (arith, c.in_ok-with_capacity-2.ensures.exact, c.blocks-blocks.ensures);
-      scratch = c.in_ok-new-2.ensures;
+      scratch = holds-all _ c.largest_block-most_bytes.result s.limits.max_blocks _ (rw h at c.largest_block-most_bytes.ensures.all) c.in_ok-new-2.ensures;
     })
 
 pub returns-clause-devices : goal.returns-clause-devices

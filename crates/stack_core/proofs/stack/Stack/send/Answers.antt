@@ -6,7 +6,7 @@ use Rattle.stack_core.proofs.Goes.{either-way, goes-as-before}
 use Rattle.stack_core.proofs.Keeps.{is-stack}
 use Rattle.stack_core.proofs.Sending.{same-size, settles-of}
 use Rattle.stack_core.proofs.StackSends.{carried_by}
-use Rattle.stack_core.proofs.Sent.{can-carry, holds-fewer, holds-still, sending, sent-works, spare-sent}
+use Rattle.stack_core.proofs.Sent.{can-carry, holds-group, holds-still, sending, sent-works, spare-sent}
 use Rattle.dix_adapter.specs.Carried.{Shown}
 use Rattle.stack_core.specs.declared.stack.Stack.{Stack}
 use Rattle.stack_core.specs.Walking.{Walks, WalksFalling, WalksTold}
@@ -23,7 +23,7 @@ carry-requires-clause-group g c =
 pub carry-requires-clause-scratch : goal.carry-requires-clause-scratch
 carry-requires-clause-scratch g c =
     let k = can-carry c.args.self.now c.args.d c.args.i c.take.new.group.items c.take.new.self (is_some (g.R.Rig.image c.args.rig.now)) (g.R.Rig.standing c.args.rig.now) (g.R.Rig.room c.args.rig.now) c.requires.stack c.requires.spare c.requires.rig c.requires.ready c.take.ensures.takes in
-    rw c.deref.ensures.value (holds-fewer c.args.self.now.sheet.limits.max_blocks _ c.args.self.now.scratch k.most c.requires.stack.lists.scratch_room)
+    rw (c.ios.ensures, c.deref.ensures.value) (holds-group _ _ k.bytes _ _ c.args.self.now.sheet.limits.max_blocks c.args.self.now.scratch k.fits k.most c.requires.stack.lists.scratch_room)
 
 pub carry-requires-clause-fates : goal.carry-requires-clause-fates
 carry-requires-clause-fates g c =
@@ -60,7 +60,7 @@ returns-clause-stack g c =
       replies = refl;
       group = c.take.ensures.capacity;
       fates = c.carry.ensures.capacity;
-      scratch = holds-still c.args.self.now.sheet.limits.max_blocks c.args.self.now.scratch c.carry.new.scratch c.carry.ensures.keeps_room c.requires.stack.lists.scratch_room;
+      scratch = holds-still c.args.self.now.sheet.ios.items c.args.self.now.sheet.limits.max_blocks c.args.self.now.scratch c.carry.new.scratch c.carry.ensures.keeps_room c.requires.stack.lists.scratch_room;
     })
 
 pub returns-clause-stays : goal.returns-clause-stays
