@@ -8,7 +8,6 @@ use Rattle.dix_adapter.specs.Carried.{carried, comes_first, frame_len, lands_fir
 use Rattle.dix_adapter.specs.Groups.{block_len, IsBio, first_of, no_bio, no_request, request_of, route_by, size}
 use Rattle.dix_adapter.proofs.Ahead.{still-walkable}
 use Rattle.dix_adapter.proofs.Blocks.{size-more}
-use Rattle.dix_adapter.proofs.Gathering.{wire-most}
 use Rattle.dix_adapter.proofs.Landing.{came-long, group-width, landed-step, one-width, place-more, group-most, room-group, still-behind}
 use Rattle.dix_adapter.proofs.adapter.Adapter.land.Goals as goal
 
@@ -23,8 +22,6 @@ land_bio-at-requires-clause-room c =
     let k = (All-get_or (IsBio c.args.self.now c.args.pool.now c.requires.group.0 c.args.ios.now (first_of c.args.req.now).dev (first_of c.args.req.now).dir) c.args.req.now c.loop-bio.bio-index no_bio (omega arith) c.requires.group.1.bios) in
     let q : c.index-ios-bio.result ≡ request_of c.args.ios.now (get_or c.args.req.now c.loop-bio.bio-index no_bio).op = c.index-ios-bio.is ∙ get_or_default c.args.ios.now ((get_or c.args.req.now c.loop-bio.bio-index no_bio).op - 1) c.index-ios-bio.result no_request (let x = k.op in let y = k.there in omega arith) in
     let u : wire_size (route_by c.args.self.now c.index-ios-bio.result (get_or c.args.req.now c.loop-bio.bio-index no_bio) 0) ≡ frame_len c.args.self.now c.args.ios.now c.args.req.now = one-width c.args.self.now (get_or c.args.req.now c.loop-bio.bio-index no_bio) c.index-ios-bio.result c.requires.group.0 (ap block_size q ∙ k.request.size) ∙ sym (group-width c.args.self.now c.args.pool.now c.requires.group.0 c.args.ios.now c.args.req.now c.requires.group.1) in
-    let m = wire-most c.args.self.now c.index-ios-bio.result (get_or c.args.req.now c.loop-bio.bio-index no_bio) in
-    let s : block_size c.index-ios-bio.result ≡ c.requires.group.0 = ap block_size q ∙ k.request.size in
     let r = room-group c.args.done c.loop-bio.left c.min-count.result (frame_len c.args.self.now c.args.ios.now c.args.req.now) (block_len c.args.ios.now c.args.req.now + 8) (size c.args.req.now) (length c.loop-bio.frames)
     (omega (arith, c.min-count.ensures)) (omega (arith, c.loop-bio.invariant.left)) c.requires.done (group-most c.args.self.now c.args.pool.now c.requires.group.0 c.args.ios.now c.args.req.now c.requires.group.1) (omega (arith, c.loop-bio.invariant.long, c.requires.room)) in
     let p : c.min-count.result * wire_size (route_by c.args.self.now c.index-ios-bio.result (get_or c.args.req.now c.loop-bio.bio-index no_bio) 0) ≡ c.min-count.result * frame_len c.args.self.now c.args.ios.now c.args.req.now = ap (λ x. c.min-count.result * x) u in
