@@ -44,5 +44,4 @@ module _ {S A R : Type 0} (act : A → S → S) (tell : A → S → R) (conflict
     answers = same_answers acts bs ds opening h k.answers;
     order = same_order acts bs ds opening h k.order;
   }
-
   -- the outcome of an act is chosen when it is done

@@ -242,7 +242,6 @@ module _ (m' : Setting) (p : ℕ) (some : eqb p 0 ≡ false) (half : ℕ) (count
   asks-same (Alters dev lba change) s h all = absurd h
 
   module _ (step : Step) (s : Mirror) (h : OnMirror step) (all : AllPass s.state.blocks) where
-
     legs : AllSame (asks m1 half count step s) s.state
     legs = acts-same (asks m1 half count step s) s.state (asks-fit step s h) all
 

@@ -87,7 +87,6 @@ module _ {course : Course} (over : Setting) (n : ℕ) (opening : State) (es : Li
 
   -- an op that goes on and doesn't end leaves the others
   module _ (o : OpView) (pool : List (List ℕ)) (a : is_admitted o.phase ≡ true) where
-
     goes : has_ended o.phase ≡ false
     goes = by o.phase a where
       by : (x : Phase) → is_admitted x ≡ true → has_ended x ≡ false
