@@ -14,9 +14,11 @@ pub struct Image {
 }
 
 impl Image {
+    ghost use Rattle.image_blocks.specs.Images.{units_open};
+
     /// The units, in the order in which they lie.
     pub fn units(&self) -> &[UnitSpec]
-        ensures { result.now ≡ self.now.units.items }
+        ensures { result.now ≡ units_open self.now }
     {
         &self.units
     }

@@ -1,6 +1,6 @@
 //! The head of an image: its length and its first bytes.
 
-ghost use Rattle.std.specs.Prelude.{◌≡◌, ◌≤◌, ◌+◌, ◌*◌, None, Some, eqb, if◌then◌else◌, true};
+ghost use Rattle.std.specs.Prelude.{◌≡◌, ◌≤◌, ◌+◌, ◌*◌, [], None, Some, eqb, if◌then◌else◌, true};
 ghost use Rattle.target_answer.specs.Headers.{bytes_of, image_size, is_header, is_layout, is_spec, specs_in};
 ghost use Rattle.target_answer.specs.Frames.{stored_size};
 ghost use Rattle.rig_api.specs.Head.{fault_of_header, head_fault, units_of, version_in};
@@ -15,8 +15,7 @@ use target_answer::{UnitSpec, Version, is_header, specs_in, version_of};
 impl ImageHead {
     /// The head of no image.
     pub fn none() -> ImageHead
-        ensures size { result.size ≡ 0 }
-        ensures have { result.have ≡ 0 }
+        ensures { head_in result ≡ record { size = 0; first = [] } }
     {
         ImageHead {
             size: 0,

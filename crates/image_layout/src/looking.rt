@@ -68,7 +68,7 @@ pub fn look<S: Store>(
 ) -> Result<(), RigFault>
     ensures judged { IsFaultOf result (head_in head.new) }
     ensures head { HasJudged result (head_in head.old) (head_in head.new) (S.bytes store.old) }
-    ensures size { OnOk result (head.new.size ≡ S.len store.new) }
+    ensures size { OnOk result ((head_in head.new).size ≡ S.len store.new) }
     ensures failed { IsErrOf result RigFault.Failed → Rose (S.faults store.old) (S.faults store.new) }
     ensures opening { Stayed (called (S.handed store.old) (S.openings store.old)) (called (S.handed store.new) (S.openings store.new)) ⊎ Opened name.now (called (S.handed store.old) (S.openings store.old)) (called (S.handed store.new) (S.openings store.new)) }
     ensures opened { OpenedBy result name.now (called (S.handed store.old) (S.openings store.old)) (called (S.handed store.new) (S.openings store.new)) }
