@@ -50,7 +50,7 @@ pub(crate) fn carried<R: Rig>(
     if adapter.protect != 1 || count > 3 || req[0].dev >= rig.devices() {
         return Ok(Vec::new(alloc));
     }
-    let mut scratch = Scratch::new(alloc, count, 4096)?;
+    let mut scratch = Scratch::new(alloc, count)?;
     let mut fates = Vec::with_capacity(alloc, count as usize)?;
     rig.reserve(alloc, 1, count)?;
     adapter.carry(pool, &ios, &req, rig, &mut scratch, &mut fates);

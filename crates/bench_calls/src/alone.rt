@@ -110,7 +110,7 @@ impl Host {
         Ok(Host {
             pool: pages(alloc)?,
             ios: requests(alloc)?,
-            scratch: Scratch::new(alloc, MOST, 4096)?,
+            scratch: Scratch::new(alloc, MOST)?,
             fates: Vec::with_capacity(alloc, MOST as usize)?,
         })
     }

@@ -131,7 +131,7 @@ fn carry_times(
     if count > BLOCKS || req[0].dev >= rig.devices() {
         return Ok(0);
     }
-    let mut scratch = Scratch::new(alloc, count, 4096)?;
+    let mut scratch = Scratch::new(alloc, count)?;
     let mut fates = Vec::with_capacity(alloc, count as usize)?;
     for _ in 0..times {
         carry(

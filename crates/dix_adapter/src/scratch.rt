@@ -19,9 +19,16 @@ pub struct Scratch {
 }
 
 impl Scratch {
-    /// Room for the blocks of one command, of which there are at most 1,048,576, each of at most so many bytes, which
-    /// are at most 4,096.
-    pub fn new(alloc: Global, max_blocks: u32, most_bytes: u32) -> Result<Scratch, AllocError>
+    /// Room for the blocks of one command, of which there are at most 1,048,576, whatever their size.
+    pub fn new(alloc: Global, max_blocks: u32) -> Result<Scratch, AllocError>
+        requires { max_blocks ≤ 1048576 }
+        ensures { IfOk result (HoldsBlocks 4096 max_blocks) }
+    {
+        Scratch::for_size(alloc, max_blocks, 4096)
+    }
+
+    /// The same for blocks of at most so many bytes, which are at most 4,096.
+    pub fn for_size(alloc: Global, max_blocks: u32, most_bytes: u32) -> Result<Scratch, AllocError>
         requires blocks { max_blocks ≤ 1048576 }
         requires bytes { most_bytes ≤ 4096 }
         ensures { IfOk result (HoldsBlocks most_bytes max_blocks) }

@@ -233,7 +233,7 @@ impl Stack {
             adapter: adapter_of(mode, ty, faults),
             host: host_type(ty),
             pool: PagePool::new(alloc, pages)?,
-            scratch: Scratch::new(alloc, limits.max_blocks, most_bytes)?,
+            scratch: Scratch::for_size(alloc, limits.max_blocks, most_bytes)?,
             group: Vec::with_capacity(alloc, blocks)?,
             fates: Vec::with_capacity(alloc, blocks)?,
             kept,

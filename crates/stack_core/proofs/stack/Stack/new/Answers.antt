@@ -111,7 +111,7 @@ returns-clause-stack c =
       replies = omega (arith, c.in_ok-ios.ios.ok.0, c.len.ensures);
       group = omega (arith, c.in_ok-with_capacity.ensures.exact, c.blocks-blocks.ensures);
       fates = omega (arith, c.in_ok-with_capacity-2.ensures.exact, c.blocks-blocks.ensures);
-      scratch = holds-all _ c.largest_block-most_bytes.result s.limits.max_blocks _ (rw h at c.largest_block-most_bytes.ensures.all) c.in_ok-new-2.ensures;
+      scratch = holds-all _ c.largest_block-most_bytes.result s.limits.max_blocks _ (rw h at c.largest_block-most_bytes.ensures.all) c.in_ok-for_size.ensures;
     })
 
 pub returns-clause-devices : goal.returns-clause-devices
