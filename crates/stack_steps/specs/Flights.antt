@@ -1,5 +1,5 @@
 -- The commands in flight, over their bios and fates.
-use Rattle.std.specs.Prelude.{◌≡◌, ◌<◌, ◌≤◌, ◌^◌, ℕ, ◌+◌, false, List, [], ◌∷◌, ◌++◌, length, take, drop}
+use Rattle.std.specs.Prelude.{◌≡◌, ◌<◌, ◌≤◌, ◌^◌, ℕ, zero, suc, ◌+◌, ◌-◌, ⊤, false, List, [], ◌∷◌, ◌++◌, length, take, drop}
 use Rattle.bio_core.specs.declared.bio.Bio.{Bio}
 use Rattle.bio_core.specs.declared.fate.Fate.{Fate}
 use Rattle.stack_view.specs.View.{Command}
@@ -22,13 +22,26 @@ abbrev pub fates_of : List Flight → ℕ
 fates_of [] = 0
 fates_of (e ∷ es) = e.blocks + fates_of es
 
+-- each command begins where those before it end, the first at these places
+abbrev pub Begin : ℕ → ℕ → List Flight → Type 0
+Begin bio fate [] = ⊤
+Begin bio fate (e ∷ es) = (e.first_bio ≡ bio) × ((e.first_fate ≡ fate) × Begin (bio + e.bios) (fate + e.blocks) es)
+
 pub record AreFlights (room : ℕ) (es : List Flight) (bs : List Bio) (fs : List Fate) : Type 0 where
   pub bios : bios_of es ≡ length bs
   pub fates : fates_of es ≡ length fs
+  pub begin : Begin 0 0 es
   pub few : length es ≤ room
   pub few_bios : length bs ≤ room
   pub few_fates : length fs ≤ room
   pub small : room < 2 ^ 32
+
+-- the commands, where those from a place up to another begin this many bios and fates earlier
+abbrev pub earlier : (from to bios fates : ℕ) → List Flight → List Flight
+earlier from to n m [] = []
+earlier from zero n m (e ∷ es) = e ∷ es
+earlier zero (suc to) n m (e ∷ es) = record { dev = e.dev; bios = e.bios; blocks = e.blocks; first_bio = e.first_bio - n; first_fate = e.first_fate - m } ∷ earlier zero to n m es
+earlier (suc from) (suc to) n m (e ∷ es) = e ∷ earlier from to n m es
 
 -- the bios and fates of commands
 abbrev pub bios_in_flight : List Command → ℕ

@@ -1,22 +1,24 @@
 //! The commands in flight, in the order in which they were sent.
 
-ghost use Rattle.std.specs.Prelude.{◌≡◌, ◌<◌, ◌≤◌, ◌+◌, ◌^◌, IfOk, false, List, [], ◌∷◌, ◌++◌, length, take, drop, slice_index_or};
+ghost use Rattle.std.specs.Prelude.{◌≡◌, ◌<◌, ◌≤◌, ◌+◌, IfOk, false, List, [], ◌∷◌, ◌++◌, length, take, drop, slice_index_or};
 ghost use Rattle.std.specs.List.{remove};
 ghost use Rattle.std.specs.Vec.{vec_capacity};
 ghost use Rattle.stack_view.specs.View.{no_command};
 ghost use Rattle.merge_queue.specs.Groups.{without};
-ghost use Rattle.stack_steps.specs.Flights.{bios_of, fates_of, bios_in_flight, fates_in_flight, cut_out};
+ghost use Rattle.stack_steps.specs.Flights.{bios_in_flight, fates_in_flight, cut_out, earlier};
 
 use bio_core::{Bio, Fate};
 use std::alloc::{AllocError, Global};
 use std::marker::Model;
 
-/// One command: its device, and how many bios and blocks it has.
+/// One command: its device, how many bios and blocks it has, and where they begin among those of all commands.
 #[derive(Clone, Copy, Debug, PartialEq, Eq)]
 pub struct Flight {
     pub dev: u32,
     pub bios: usize,
     pub blocks: usize,
+    pub first_bio: usize,
+    pub first_fate: usize,
 }
 
 /// Moves n items of a list, from a place on, to another list.
@@ -46,28 +48,20 @@ fn turn<T: Copy>(list: &mut Vec<T>, at: usize, n: usize)
     list.slice_mut(at..).rotate_left(n);
 }
 
-fn bios_before(commands: &[Flight], at: usize) -> usize
-    requires within { at ≤ length commands.now }
-    requires few { bios_of commands.now < 2 ^ 32 }
-    ensures { result ≡ bios_of (take at commands.now) }
+/// The commands from a place on begin that many bios and fates earlier: those before them are gone.
+fn begin_earlier(commands: &mut Vec<Flight>, from: usize, bios: usize, fates: usize)
+    requires within { from ≤ length commands.old.items }
+    ensures items { commands.new.items ≡ earlier from (length commands.old.items) bios fates commands.old.items }
+    ensures capacity { vec_capacity commands.new ≡ vec_capacity commands.old }
 {
-    let mut sum = 0usize;
-    for i in 0..at {
-        sum += commands[i].bios;
+    for k in from..commands.len() {
+        let command = commands[k];
+        commands[k] = Flight {
+            first_bio: command.first_bio.saturating_sub(bios),
+            first_fate: command.first_fate.saturating_sub(fates),
+            ..command
+        };
     }
-    sum
-}
-
-fn fates_before(commands: &[Flight], at: usize) -> usize
-    requires within { at ≤ length commands.now }
-    requires few { fates_of commands.now < 2 ^ 32 }
-    ensures { result ≡ fates_of (take at commands.now) }
-{
-    let mut sum = 0usize;
-    for i in 0..at {
-        sum += commands[i].blocks;
-    }
-    sum
 }
 
 /// Adds items to a list that has room for them.
@@ -140,11 +134,10 @@ impl InFlight {
         ensures fates_capacity { vec_capacity fates.new ≡ vec_capacity fates.old }
     {
         let command = self.commands[i as usize];
-        let bio = bios_before(&self.commands, i as usize);
-        let fate = fates_before(&self.commands, i as usize);
-        take_out(&mut self.bios, bio, command.bios, bios);
-        take_out(&mut self.fates, fate, command.blocks, fates);
+        take_out(&mut self.bios, command.first_bio, command.bios, bios);
+        take_out(&mut self.fates, command.first_fate, command.blocks, fates);
         let _gone = self.commands.remove(i as usize);
+        begin_earlier(&mut self.commands, i as usize, command.bios, command.blocks);
         command.dev
     }
 
@@ -157,12 +150,16 @@ impl InFlight {
         ensures room { self.new.room ≡ self.old.room }
     {
         let _room = self.room;
+        let first_bio = self.bios.len();
+        let first_fate = self.fates.len();
         append(&mut self.bios, bios);
         append(&mut self.fates, fates);
         self.commands.push_reserved(Flight {
             dev,
             bios: bios.len(),
             blocks: fates.len(),
+            first_bio,
+            first_fate,
         });
     }
 }
