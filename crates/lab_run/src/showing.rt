@@ -65,11 +65,10 @@ pub(crate) fn show_units<A: Store, O: Sink>(
         (held (A.bytes store.new) (A.len store.new) (A.faults store.new) (A.handed store.new) (A.openings store.new))
         left reads rig second) (O.taken out.old) (O.taken out.new) (O.faults out.old) (O.faults out.new) result }
 {
-    let image = match open_image(alloc, store, image_of(words)) {
-        Ok(image) => image,
-        Err(fault) => return refuse(out, Refusal::of(fault)),
-    };
-    list_units(&image, out)
+    match open_image(alloc, store, image_of(words)) {
+        Ok(image) => list_units(&image, out),
+        Err(fault) => refuse(out, Refusal::of(fault)),
+    }
 }
 
 /// `show IMAGE PLACE`: writes the blocks of the place.
