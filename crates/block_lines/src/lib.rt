@@ -1,11 +1,13 @@
 //! The lines that tell stored blocks and units.
 #![tactic(auto)]
 
+mod laws;
 mod line;
 mod show;
 mod sight;
 mod unit;
 
+pub use laws::show_lists_what_a_scrub_lists;
 pub use line::{Line, add, add_number};
 pub use show::{write_blocks, write_first, write_last};
 pub use sight::{Verdict, add_block};
