@@ -10,9 +10,9 @@ use Rattle.rig_api.specs.Head.{Head, IsHeadOf, head_fault, head_of, units_of}
 use Rattle.rig_api.specs.declared.rig.RigFault.{RigFault}
 use Rattle.target_answer.specs.declared.units.UnitSpec.{UnitSpec}
 use Rattle.lab_run.specs.Calls.{Facts, served_in, stretch_in}
-use Rattle.lab_run.specs.Headline.{Carries, Causes, DoneBy, IsAtFault, IsComplete, IsDone, IsRight, Wrote}
+use Rattle.lab_run.specs.Headline.{Carries, Causes, DoneBy, IsAtFault, IsComplete, IsDone, IsRight, IsWrong, Wrote}
 use Rattle.lab_run.specs.Texts.{status_of}
-use Rattle.lab_run.specs.Verdict.{BrokeOff, Cause, CauseByCommand, Ended, HasBadHead, HasNoPlace, Helped, Listed, Refused, Shown, Verdict, Versioned, Written, done_status, verdict_status, verdict_text}
+use Rattle.lab_run.specs.Verdict.{BrokeOff, Cause, CauseByCommand, Ended, HasBadHead, HasNoPlace, HasOpened, Helped, Listed, Refused, Shown, Verdict, Versioned, Written, done_status, verdict_status, verdict_text}
 use Rattle.lab_run.specs.declared.refusal.Refusal.{Refusal}
 use Rattle.lab_run.specs.declared.refusal.Refusal.TheVariants as refusal
 use Rattle.lab_run.specs.declared.status.Status.{Status}
@@ -238,17 +238,6 @@ no_command f old new o n result Versioned c w e = let k = sym c ∙ e in absurd 
 no_command f old new o n result (Listed us) c w e = let k = sym c.named ∙ e in absurd (cc)
 no_command f old new o n result (Shown us at blocks) c w e = let k = sym c.named ∙ e in absurd (cc)
 
-why : (f : Facts) (old new : Option (List ℕ)) (o n : ℕ) (result : Status) → Ended f old new o n result → Causes f o n result
-why f old new o n result ended = record {
-  words = λ e. by_status f (served_in f.words ≡ None) status.Words ended.verdict ended.cause (λ r cause k. refused_words f r cause k) words_done (of_verdict f old new o n result status.Words ended.verdict ended.written e (λ k. cc) (λ k. cc));
-  no_words = λ e. no_command f old new o n result ended.verdict ended.cause ended.written e;
-  image = λ e. by_status f (IsAtFault f) status.Image ended.verdict ended.cause (λ r cause k. refused_image f r cause k) image_done (of_verdict f old new o n result status.Image ended.verdict ended.written e (λ k. cc) (λ k. cc));
-  rig = λ e. rig_rose f old new o n result ended.verdict ended.cause ended.written e;
-  sink = λ e. sink_rose f old new o n result ended.verdict ended.written e;
-  input = λ e. never ended.verdict (inl (of_verdict f old new o n result status.Input ended.verdict ended.written e (λ k. cc) (λ k. cc)));
-  reads = λ e. never ended.verdict (inr (inl (of_verdict f old new o n result status.ReadFault ended.verdict ended.written e (λ k. cc) (λ k. cc))));
-}
-
 -- ---- nothing that is right is refused
 
 head_is : (head : Head) (image : List ℕ) (bytes : Option (List ℕ)) → bytes ≡ Some image → IsHeadOf head bytes → head ≡ head_of image
@@ -299,6 +288,49 @@ as_written : (f : Facts) (old new : Option (List ℕ)) (o n : ℕ) (result : Sta
 as_written f old new o n result v (inl (inl w)) cs co = w.0
 as_written f old new o n result v (inl (inr w)) cs co = absurd (never_rose o n co w.1)
 as_written f old new o n result v (inr w) cs co = absurd (never_rose f.first.faults f.first_after.faults cs (broke_at v f old new result w).1)
+
+-- ---- an image at fault is refused
+
+wrong_head : (f : Facts) (image : List ℕ) (us : List UnitSpec) (x : RigFault) → f.first.bytes ≡ Some image → HasOpened us f → head_fault (head_of image) ≡ Some x → ⊥
+wrong_head f image us x b o e = let k : ◌≡◌ {A = Option RigFault} None (Some x) = sym o.right ∙ ap head_fault (head_is o.head image f.first.bytes b o.told) ∙ e in absurd (cc)
+
+wrong_place : (f : Facts) (image : List ℕ) (us : List UnitSpec) (at : Stretch) (place : Place) → f.first.bytes ≡ Some image → HasOpened us f → stretch_in us place ≡ Ok at → IsWrong (Some (ShowBlocks place)) image → ⊥
+wrong_place f image us at place b o t (inl w) = wrong_head f image us w.0 b o w.1
+wrong_place f image us at place b o t (inr w) =
+    let units : us ≡ units_of (head_of image) = o.units ∙ ap units_of (head_is o.head image f.first.bytes b o.told) in
+    let k : ◌≡◌ {A = Result Stretch PlaceFault} (Ok at) (Err w.0) = sym t ∙ ap (λ (u : List UnitSpec). stretch_in u place) units ∙ w.1 in
+    absurd (cc)
+
+refused_wrong : (f : Facts) (image : List ℕ) (r : Refusal) → IsWrong (served_in f.words) image → Calm f.first.faults f.first_after.faults → CauseByCommand (served_in f.words) r f → (status_of r ≡ status.Image) ⊎ (status_of r ≡ status.Memory)
+refused_wrong f image refusal.Words i calm c = absurd (subst (λ (x : Option Command). IsWrong x image) (words_alone (served_in f.words) f c) i)
+refused_wrong f image (refusal.Image x) i calm c = inl refl
+refused_wrong f image (refusal.Place x) i calm c = inl refl
+refused_wrong f image refusal.RigFault i calm c = absurd (never_rose f.first.faults f.first_after.faults calm (store_rose (served_in f.words) f c))
+refused_wrong f image refusal.Memory i calm c = inr refl
+
+wrongs : (f : Facts) (image : List ℕ) (v : Verdict) → f.first.bytes ≡ Some image → IsWrong (served_in f.words) image → Calm f.first.faults f.first_after.faults → Cause v f → (verdict_status v ≡ status.Image) ⊎ (verdict_status v ≡ status.Memory)
+wrongs f image (Refused r) b i calm c = refused_wrong f image r i calm c
+wrongs f image Helped b i calm c = absurd (subst (λ (x : Option Command). IsWrong x image) c i)
+wrongs f image Versioned b i calm c = absurd (subst (λ (x : Option Command). IsWrong x image) c i)
+wrongs f image (Listed us) b i calm c = let w = subst (λ (x : Option Command). IsWrong x image) c.named i in absurd (wrong_head f image us w.0 b c.opened w.1)
+wrongs f image (Shown us at blocks) b i calm c = absurd (wrong_place f image us at c.place b c.opened c.there (subst (λ (x : Option Command). IsWrong x image) c.named i))
+
+refused_as : (f : Facts) (old new : Option (List ℕ)) (o n : ℕ) (result : Status) → Ended f old new o n result →
+    (image : List ℕ) → f.first.bytes ≡ Some image → IsWrong (served_in f.words) image → Calm f.first.faults f.first_after.faults → Calm o n → (result ≡ status.Image) ⊎ (result ≡ status.Memory)
+refused_as f old new o n result ended = λ image b i cs co.
+    subst (λ (s : Status). (s ≡ status.Image) ⊎ (s ≡ status.Memory)) (sym (as_written f old new o n result ended.verdict ended.written cs co)) (wrongs f image ended.verdict b i cs ended.cause)
+
+why : (f : Facts) (old new : Option (List ℕ)) (o n : ℕ) (result : Status) → Ended f old new o n result → Causes f o n result
+why f old new o n result ended = record {
+  words = λ e. by_status f (served_in f.words ≡ None) status.Words ended.verdict ended.cause (λ r cause k. refused_words f r cause k) words_done (of_verdict f old new o n result status.Words ended.verdict ended.written e (λ k. cc) (λ k. cc));
+  no_words = λ e. no_command f old new o n result ended.verdict ended.cause ended.written e;
+  image = λ e. by_status f (IsAtFault f) status.Image ended.verdict ended.cause (λ r cause k. refused_image f r cause k) image_done (of_verdict f old new o n result status.Image ended.verdict ended.written e (λ k. cc) (λ k. cc));
+  wrong = λ image b i cs co. refused_as f old new o n result ended image b i cs co;
+  rig = λ e. rig_rose f old new o n result ended.verdict ended.cause ended.written e;
+  sink = λ e. sink_rose f old new o n result ended.verdict ended.written e;
+  input = λ e. never ended.verdict (inl (of_verdict f old new o n result status.Input ended.verdict ended.written e (λ k. cc) (λ k. cc)));
+  reads = λ e. never ended.verdict (inr (inl (of_verdict f old new o n result status.ReadFault ended.verdict ended.written e (λ k. cc) (λ k. cc))));
+}
 
 complete : (f : Facts) (old new : Option (List ℕ)) (o n : ℕ) (result : Status) → Ended f old new o n result → IsComplete f o n result
 complete f old new o n result ended = λ image b i cs co.

@@ -1,4 +1,4 @@
-use Rattle.std.specs.Prelude.{ℕ, ◌≡◌, ◌⊎◌, ltb, List, Option, Some, None, Ok}
+use Rattle.std.specs.Prelude.{ℕ, ◌≡◌, ◌⊎◌, ltb, List, Option, Some, None, Ok, Err}
 use Rattle.dix_base.specs.Told.{Appended, Calm, Rose}
 use Rattle.block_lines.specs.UnitText.{units_text}
 use Rattle.image_show.specs.Shown.{bad_of, text_of}
@@ -58,11 +58,27 @@ DoneBy (Some (Sweep byte units)) f old new result = ⊥
 abbrev pub IsAtFault : Facts → Type 0
 IsAtFault f = ((fault : RigFault) × HasBadHead fault f) ⊎ ((place : Place) × (fault : PlaceFault) × (served_in f.words ≡ Some (ShowBlocks place)) × HasNoPlace place fault f)
 
--- Each status but 6 has its cause: 2 comes exactly where the words are no command, 4 only where the image is at fault, 5 and 8 only where the count of faults of the store, of the sink, rose; 3 and 7 don't come, as no command reads the source.
+-- The image that is told is at fault for the command: its head, or it hasn't the place of the words.
+abbrev pub IsWrong : Option Command → List ℕ → Type 0
+IsWrong None image = ⊥
+IsWrong (Some Help) image = ⊥
+IsWrong (Some Version) image = ⊥
+IsWrong (Some ShowUnits) image = (fault : RigFault) × (head_fault (head_of image) ≡ Some fault)
+IsWrong (Some (ShowBlocks place)) image = ((fault : RigFault) × (head_fault (head_of image) ≡ Some fault)) ⊎ ((fault : PlaceFault) × (stretch_in (units_of (head_of image)) place ≡ Err fault))
+IsWrong (Some (Diff one other)) image = ⊥
+IsWrong (Some (Export place layout)) image = ⊥
+IsWrong (Some (Import place layout)) image = ⊥
+IsWrong (Some Vectors) image = ⊥
+IsWrong (Some Judge) image = ⊥
+IsWrong (Some Explain) image = ⊥
+IsWrong (Some (Sweep byte units)) image = ⊥
+
+-- Each status but 6 has its cause: 2 comes exactly where the words are no command, 4 only where the image is at fault, and where one that is told is so it comes, or want of memory, if no count rose; 5 and 8 only where the count of faults of the store, of the sink, rose; 3 and 7 don't come, as no command reads the source.
 pub record Causes (f : Facts) (o n : ℕ) (result : Status) : Type 0 where
   pub words : result ≡ status.Words → served_in f.words ≡ None
   pub no_words : served_in f.words ≡ None → (result ≡ status.Words) ⊎ (result ≡ status.WriteFault)
   pub image : result ≡ status.Image → IsAtFault f
+  pub wrong : (image : List ℕ) → f.first.bytes ≡ Some image → IsWrong (served_in f.words) image → Calm f.first.faults f.first_after.faults → Calm o n → (result ≡ status.Image) ⊎ (result ≡ status.Memory)
   pub rig : result ≡ status.RigFault → Rose f.first.faults f.first_after.faults
   pub sink : result ≡ status.WriteFault → Rose o n
   pub input : result ≡ status.Input → ⊥
