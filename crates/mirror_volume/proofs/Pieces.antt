@@ -22,12 +22,6 @@ use Rattle.mirror_volume.specs.Plans.{IsPieceOf, IsPlan}
 use Rattle.leg_runs.specs.Standing.{half_of, op_at}
 use Rattle.leg_runs.proofs.Requests.{IsRequest, op-fits, op-rules, request-fits}
 
--- ---- a segment
-
-module _ (pages size : ℕ) (dix : Bool) (pool : List (List ℕ)) (long : length pool ≡ pages) where
-
--- ---- a request
-
 -- What is needed of the request of n blocks from v on, with its data: it is op `op`.
 pub record Suits (plan : Plan) (pool : List (List ℕ)) (op v n : ℕ) (body : List Seg) : Type 0 where
   pub piece : IsPieceOf plan (whole_request op v n)
