@@ -45,7 +45,6 @@ use Rattle.headline.specs.Words.{IsTold, wants_memory, words_for}
 use Rattle.headline.specs.declared.way.Way.{Way}
 use Rattle.headline.specs.declared.way.Way.TheVariants.{Mirror, Run}
 use Rattle.headline.proofs.Coming.{CameToMirror, CameToRun, IsCalled, came_to_mirror, came_to_run}
-use Rattle.headline.proofs.Cut.{block_below, blocks_below}
 use Rattle.headline.proofs.FreshHead.{right_head, units_back}
 use Rattle.headline.proofs.FreshLegs.{equal_legs}
 use Rattle.headline.proofs.Got.{got_enough, got_formed, got_plain, got_served, got_walked}
