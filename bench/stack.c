@@ -97,7 +97,7 @@ static void measure(struct way *ways, int count, int rounds, double *figure) {
     free(times);
 }
 
-enum { SIZES = 3, PAIRS = 4, WORDS = 5, MORE = 10 };
+enum { SIZES = 3, PAIRS = 4, WORDS = 6, MORE = 10 };
 
 int main(int count, char **arguments) {
     int rounds = count > 1 ? atoi(arguments[1]) : ROUNDS;
@@ -123,6 +123,7 @@ int main(int count, char **arguments) {
         {"the same, one block a command", writes(16384, 1024, 1), FIRST},
         {"each sent alone as soon as it is cut", writes(16384, 1024, 1024), LAST},
         {"each sent alone once all are cut", writes(16384, 1024, 1024), LAST_ONCE_CUT},
+        {"the same, 8,192 blocks", writes(8192, 1024, 1024), LAST_ONCE_CUT},
         {"16,384 random words, cuts of 1", writes(16384, 1024, 1024), RANDOM},
     };
     double size[SIZES], pair[PAIRS], word[WORDS];
@@ -130,6 +131,6 @@ int main(int count, char **arguments) {
     measure(sizes, SIZES, MORE * rounds, size);
     measure(pairs, PAIRS, MORE * rounds, pair);
     measure(words, WORDS, rounds, word);
-    printf("twice the blocks %.2f and %.2f; adapter / stack %.2f in commands of 32 requests and %.2f of one\n", size[1] / size[0], size[2] / size[1], pair[1] / pair[0], pair[3] / pair[2]);
+    printf("twice the blocks %.2f and %.2f, sent alone once all are cut %.2f; adapter / stack %.2f in commands of 32 requests and %.2f of one\n", size[1] / size[0], size[2] / size[1], word[3] / word[4], pair[1] / pair[0], pair[3] / pair[2]);
     return 0;
 }
