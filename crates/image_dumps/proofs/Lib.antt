@@ -1,0 +1,6 @@
+pub mod Dumping
+pub mod Filling
+pub mod Importing
+pub mod Making
+pub mod Putting
+pub mod Storing

@@ -1,0 +1,50 @@
+use Rattle.std.proofs.Common.{◌∙◌, length, refl, take, arith}
+use Rattle.image_blocks.specs.Images.{units_open}
+use Rattle.image_dumps.proofs.Importing.{taken_bytes}
+use Rattle.image_dumps.proofs.Storing.{ends_short, ends_whole, frames_fit, pieces_fit, room_is, some_bytes, still_fits, unstored}
+use Rattle.image_dumps.proofs.import.take_stretch.Goals as goal
+
+pub returns-in-Err-clause-taken : goal.returns-in-Err-clause-taken
+returns-in-Err-clause-taken g c = (
+  c.in-Err.ensures.cause,
+  record {
+    n = 0;
+    more = c.in-Err.ensures.broken.0;
+    few = omega arith;
+    has = taken_bytes c.args.layout (units_open c.args.image.now) c.args.at c.in-Err.ensures.broken.0 (g.S.Store.bytes c.args.store.now) _ (g.R.Source.left c.args.source.now) (g.R.Source.left c.fill.new.source) refl c.in-Err.ensures.broken.1;
+  },
+)
+
+pub put_stretch-requires-clause-fits : goal.put_stretch-requires-clause-fits
+put_stretch-requires-clause-fits g c = still_fits c.args.layout (units_open c.args.image.now) c.args.at c.front_of-front.result c.min-whole.result c.front_of-front.ensures.value c.requires.fits
+
+pub put_stretch-requires-clause-pieces : goal.put_stretch-requires-clause-pieces
+put_stretch-requires-clause-pieces g c =
+    pieces_fit c.args.layout (units_open c.args.image.now) c.units.result.now c.args.at c.front_of-front.result c.min-whole.result c.in-Ok.got c.piece_len-each.result c.fill.new.into c.units.ensures c.piece_len-each.ensures c.front_of-front.ensures.value c.min-whole.ensures
+    (omega (arith, c.in-Ok.ensures.bound, c.fill.ensures.long))
+
+pub put_stretch-requires-clause-room : goal.put_stretch-requires-clause-room
+put_stretch-requires-clause-room g c =
+    frames_fit (units_open c.args.image.now) c.args.at c.front_of-front.result c.min-whole.result c.block_bytes-len.result c.args.frames.now c.block_bytes-len.ensures.value c.front_of-front.ensures.value (omega (arith, c.min-whole.ensures)) c.requires.room
+
+pub returns-in-Err-put_stretch-clause-taken : goal.returns-in-Err-put_stretch-clause-taken
+returns-in-Err-put_stretch-clause-taken g c = (
+  c.in-Err-put_stretch.ensures.cause,
+  unstored c.args.layout (units_open c.args.image.now) c.args.at c.front_of-front.result c.min-whole.result (length c.args.frames.now) (take c.in-Ok.got c.fill.new.into) (g.S.Store.bytes c.args.store.now) (g.S.Store.bytes c.put_stretch.new.store) (g.R.Source.left c.args.source.now) (g.R.Source.left c.fill.new.source)
+      c.front_of-front.ensures.value (omega (arith, c.min-whole.ensures)) c.requires.room c.in-Err-put_stretch.ensures.left c.in-Ok.ensures.taken,
+)
+
+pub returns-then-front-at-clause-taken : goal.returns-then-front-at-clause-taken
+returns-then-front-at-clause-taken g c =
+    ends_short c.args.layout (units_open c.args.image.now) c.units.result.now c.args.at c.front_of-front.result c.min-whole.result c.in-Ok.got c.piece_len-each.result c.fill.new.into (g.S.Store.bytes c.args.store.now) (g.S.Store.bytes c.put_stretch.new.store) (g.R.Source.left c.args.source.now) (g.R.Source.left c.fill.new.source)
+    c.units.ensures c.piece_len-each.ensures (some_bytes c.args.layout (units_open c.args.image.now) c.units.result.now c.args.at.dev c.piece_len-each.result c.block_bytes-len.result c.units.ensures c.piece_len-each.ensures c.block_bytes-len.ensures.value c.block_bytes-len.ensures.least)
+    c.front_of-front.ensures.value c.min-whole.ensures c.if-front-at.true
+    (c.fill.ensures.long ∙ room_is c.args.layout (units_open c.args.image.now) c.units.result.now c.args.at c.piece_len-each.result (length c.args.pieces.now) c.units.ensures c.piece_len-each.ensures c.requires.pieces)
+    (omega (arith, c.in-Ok.ensures.bound, c.fill.ensures.long)) c.in-Ok.ensures.taken (λ h. c.in-Ok.ensures.end (omega (arith, h, c.fill.ensures.long))) c.in-Ok-put_stretch.ensures.put
+
+pub returns-clause-taken : goal.returns-clause-taken
+returns-clause-taken g c =
+    ends_whole c.args.layout (units_open c.args.image.now) c.units.result.now c.args.at c.front_of-front.result c.min-whole.result c.in-Ok.got c.piece_len-each.result c.fill.new.into (g.S.Store.bytes c.args.store.now) (g.S.Store.bytes c.put_stretch.new.store) (g.R.Source.left c.args.source.now) (g.R.Source.left c.fill.new.source)
+    c.units.ensures c.piece_len-each.ensures c.front_of-front.ensures.value c.min-whole.ensures (omega (arith, c.if-front-at.false))
+    (c.fill.ensures.long ∙ room_is c.args.layout (units_open c.args.image.now) c.units.result.now c.args.at c.piece_len-each.result (length c.args.pieces.now) c.units.ensures c.piece_len-each.ensures c.requires.pieces)
+    (omega (arith, c.in-Ok.ensures.bound, c.fill.ensures.long)) c.in-Ok.ensures.taken c.in-Ok-put_stretch.ensures.put

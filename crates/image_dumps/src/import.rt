@@ -1,0 +1,230 @@
+//! A dump to blocks.
+
+ghost use Rattle.std.specs.Prelude.{◌≡◌, ◌+◌, ◌*◌, ◌^◌, ◌<◌, ◌≤◌, OnErr, OnOk, [], length, true};
+ghost use Rattle.dix_base.specs.Told.{Rose};
+ghost use Rattle.target_answer.specs.Frames.{frames_of};
+ghost use Rattle.target_answer.specs.Headers.{image_size};
+ghost use Rattle.image_layout.specs.Places.{block_len};
+ghost use Rattle.image_blocks.specs.Images.{units_open};
+ghost use Rattle.image_blocks.specs.Places.{IsStretch, spec_of};
+ghost use Rattle.image_dumps.specs.Dumps.{fits, piece_len};
+ghost use Rattle.image_dumps.specs.Ends.{ArePieces, AreSome, HasOwn, ImportEnds, TakingEnds, behind_pieces, pieces_of};
+
+use crate::fault::ImportFault;
+use crate::layout::{Layout, piece_len};
+use crate::pieces::{fill, put_pieces};
+use dix_base::{Failed, Source, Store};
+use image_blocks::{Image, Stretch, behind_of, block_bytes, front_of, read_blocks, write_blocks};
+
+/// Reads the blocks of a stretch into `frames`, which has just their length, where the pieces are tuples.
+fn read_own<S: Store>(
+    store: &mut S,
+    image: &Image,
+    at: Stretch,
+    layout: Layout,
+    frames: &mut [u8],
+) -> Result<(), Failed>
+    requires place { IsStretch (units_open image.now) at }
+    requires room { length frames.old ≡ at.count * block_len (units_open image.now) at.dev }
+    requires held { S.len store.old ≡ image_size (units_open image.now) }
+    ensures own { OnOk result (HasOwn layout (units_open image.now) at frames.new (S.bytes store.old)) }
+    ensures long { length frames.new ≡ length frames.old }
+    ensures cause { OnErr result (Rose (S.faults store.old) (S.faults store.new)) }
+    ensures same { S.bytes store.new ≡ S.bytes store.old }
+    ensures length { S.len store.new ≡ S.len store.old }
+    ensures count { S.faults store.old ≤ S.faults store.new }
+    ensures named { S.handed store.new ≡ S.handed store.old }
+    ensures opened { S.openings store.new ≡ S.openings store.old }
+{
+    match layout {
+        Layout::Tuples => read_blocks(store, image, at, frames),
+        Layout::Interleaved | Layout::Plain => Ok(()),
+    }
+}
+
+/// Stores what as many pieces make of the blocks of a stretch. These are made in `frames`, which has just
+/// their length, from their own data where the pieces are tuples.
+fn put_stretch<S: Store>(
+    store: &mut S,
+    image: &Image,
+    at: Stretch,
+    layout: Layout,
+    pieces: &[u8],
+    frames: &mut [u8],
+) -> Result<(), Failed>
+    requires place { IsStretch (units_open image.now) at }
+    requires fits { fits layout (spec_of (units_open image.now) at.dev).ty ≡ true }
+    requires pieces { length pieces.now ≡ at.count * piece_len layout (spec_of (units_open image.now) at.dev).ty (spec_of (units_open image.now) at.dev).size }
+    requires room { length frames.old ≡ at.count * block_len (units_open image.now) at.dev }
+    requires held { S.len store.old ≡ image_size (units_open image.now) }
+    ensures put { OnOk result (ArePieces layout (units_open image.now) at (frames_of (piece_len layout (spec_of (units_open image.now) at.dev).ty (spec_of (units_open image.now) at.dev).size) at.count pieces.now) [] (S.bytes store.old) (S.bytes store.new)) }
+    ensures left { OnErr result (AreSome (units_open image.now) at (S.bytes store.old) (S.bytes store.new)) }
+    ensures cause { OnErr result (Rose (S.faults store.old) (S.faults store.new)) }
+    ensures long { length frames.new ≡ length frames.old }
+    ensures length { S.len store.new ≡ S.len store.old }
+    ensures count { S.faults store.old ≤ S.faults store.new }
+    ensures named { S.handed store.new ≡ S.handed store.old }
+    ensures opened { S.openings store.new ≡ S.openings store.old }
+{
+    match read_own(store, image, at, layout, frames) {
+        Ok(()) => {}
+        Err(Failed) => return Err(Failed),
+    }
+    let unit = image.units()[at.dev as usize];
+    put_pieces(layout, unit, at.first, at.count, pieces, frames);
+    match write_blocks(store, image, at, frames) {
+        Ok(()) => Ok(()),
+        Err(Failed) => Err(Failed),
+    }
+}
+
+/// Takes a piece for each block of a stretch, and stores what they make of the blocks. `pieces` and `frames`
+/// have just their length.
+fn take_stretch<S: Store, R: Source>(
+    store: &mut S,
+    image: &Image,
+    at: Stretch,
+    layout: Layout,
+    source: &mut R,
+    pieces: &mut [u8],
+    frames: &mut [u8],
+) -> Result<u32, ImportFault>
+    requires place { IsStretch (units_open image.now) at }
+    requires fits { fits layout (spec_of (units_open image.now) at.dev).ty ≡ true }
+    requires pieces { length pieces.old ≡ at.count * piece_len layout (spec_of (units_open image.now) at.dev).ty (spec_of (units_open image.now) at.dev).size }
+    requires room { length frames.old ≡ at.count * block_len (units_open image.now) at.dev }
+    requires held { S.len store.old ≡ image_size (units_open image.now) }
+    ensures taken { TakingEnds result layout (units_open image.now) at (length frames.old) (S.faults store.old) (S.faults store.new) (R.faults source.old) (R.faults source.new) (S.bytes store.old) (S.bytes store.new) (R.left source.old) (R.left source.new) }
+    ensures length { S.len store.new ≡ S.len store.old }
+    ensures stores { S.faults store.old ≤ S.faults store.new }
+    ensures sources { R.faults source.old ≤ R.faults source.new }
+    ensures named { S.handed store.new ≡ S.handed store.old }
+    ensures opened { S.openings store.new ≡ S.openings store.old }
+{
+    let got = match fill(source, pieces) {
+        Ok(got) => got,
+        Err(Failed) => return Err(ImportFault::Source),
+    };
+    let unit = image.units()[at.dev as usize];
+    let each = piece_len(layout, unit);
+    let len = block_bytes(image, at.dev);
+    let whole = (got / each).min(at.count as usize);
+    let front = front_of(at, whole as u32);
+    match put_stretch(
+        store,
+        image,
+        front,
+        layout,
+        &pieces[..whole * each],
+        &mut frames[..whole * len],
+    ) {
+        Ok(()) => {}
+        Err(Failed) => return Err(ImportFault::Store),
+    }
+    if front.count < at.count {
+        return Err(ImportFault::Short(front.count));
+    }
+    Ok(front.count)
+}
+
+/// The same fault behind so many pieces.
+fn behind_pieces(done: u32, fault: ImportFault) -> ImportFault
+    requires { done + pieces_of fault < 2 ^ 32 }
+    ensures { result ≡ behind_pieces done fault }
+{
+    match fault {
+        ImportFault::Short(more) => ImportFault::Short(done + more),
+        ImportFault::Long => ImportFault::Long,
+        ImportFault::Store => ImportFault::Store,
+        ImportFault::Source => ImportFault::Source,
+    }
+}
+
+/// Takes a piece for each block of a place, by stretches of as many blocks as `pieces` and `frames` hold.
+fn take_all<S: Store, R: Source>(
+    store: &mut S,
+    image: &Image,
+    place: Stretch,
+    layout: Layout,
+    source: &mut R,
+    pieces: &mut [u8],
+    frames: &mut [u8],
+) -> Result<u32, ImportFault>
+    requires place { IsStretch (units_open image.now) place }
+    requires fits { fits layout (spec_of (units_open image.now) place.dev).ty ≡ true }
+    requires pieces { 4104 ≤ length pieces.old }
+    requires frames { 4104 ≤ length frames.old }
+    requires held { S.len store.old ≡ image_size (units_open image.now) }
+    ensures taken { TakingEnds result layout (units_open image.now) place (length frames.old) (S.faults store.old) (S.faults store.new) (R.faults source.old) (R.faults source.new) (S.bytes store.old) (S.bytes store.new) (R.left source.old) (R.left source.new) }
+    ensures room { length pieces.new ≡ length pieces.old }
+    ensures length { S.len store.new ≡ S.len store.old }
+    ensures stores { S.faults store.old ≤ S.faults store.new }
+    ensures sources { R.faults source.old ≤ R.faults source.new }
+    ensures named { S.handed store.new ≡ S.handed store.old }
+    ensures opened { S.openings store.new ≡ S.openings store.old }
+{
+    let len = block_bytes(image, place.dev);
+    let unit = image.units()[place.dev as usize];
+    let each = piece_len(layout, unit);
+    let most = (pieces.len().min(frames.len()) / len).min(65536) as u32;
+    let mut left = place;
+    let mut done = 0u32;
+    while left.count > 0 {
+        let piece = front_of(left, most);
+        let count = piece.count as usize;
+        match take_stretch(
+            store,
+            image,
+            piece,
+            layout,
+            source,
+            &mut pieces[..count * each],
+            &mut frames[..count * len],
+        ) {
+            Ok(more) => done += more,
+            Err(fault) => return Err(behind_pieces(done, fault)),
+        }
+        left = behind_of(image, left, piece.count);
+    }
+    Ok(done)
+}
+
+/// Takes a piece for each block of a place from the source, stores what they make of the blocks, and answers
+/// how many there are. `room` holds the pieces and blocks of a stretch. The dump ends there.
+///
+/// `Short` comes where the source is at its end before: the first blocks are those of the whole pieces, all
+/// others as before. `Long` comes where a byte follows the pieces: it is taken, and all blocks are stored.
+/// `Source` and `Store` come only where their count of faults rose; then the first blocks are those of some
+/// pieces, and all others as before, but where the store failed some behind them may be anything: not more
+/// than the room holds.
+pub fn import_blocks<S: Store, R: Source>(
+    store: &mut S,
+    image: &Image,
+    place: Stretch,
+    layout: Layout,
+    source: &mut R,
+    room: &mut [u8],
+) -> Result<u32, ImportFault>
+    requires place { IsStretch (units_open image.now) place }
+    requires fits { fits layout (spec_of (units_open image.now) place.dev).ty ≡ true }
+    requires least { 8208 ≤ length room.old }
+    requires held { S.len store.old ≡ image_size (units_open image.now) }
+    ensures imported { ImportEnds result layout (units_open image.now) place (length room.old) (S.faults store.old) (S.faults store.new) (R.faults source.old) (R.faults source.new) (S.bytes store.old) (S.bytes store.new) (R.left source.old) (R.left source.new) }
+    ensures length { S.len store.new ≡ S.len store.old }
+    ensures stores { S.faults store.old ≤ S.faults store.new }
+    ensures sources { R.faults source.old ≤ R.faults source.new }
+    ensures named { S.handed store.new ≡ S.handed store.old }
+    ensures opened { S.openings store.new ≡ S.openings store.old }
+{
+    let half = room.len() / 2;
+    let (pieces, frames) = room.split_at_mut(half);
+    let count = match take_all(store, image, place, layout, source, pieces, frames) {
+        Ok(count) => count,
+        Err(fault) => return Err(fault),
+    };
+    match source.take(&mut pieces[..1]) {
+        Ok(0) => Ok(count),
+        Ok(_) => Err(ImportFault::Long),
+        Err(Failed) => Err(ImportFault::Source),
+    }
+}

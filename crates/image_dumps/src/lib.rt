@@ -1,0 +1,13 @@
+//! Dumps of an image's blocks, out and in: with their tuples, without, or the tuples alone.
+#![tactic(auto)]
+
+mod export;
+mod fault;
+mod import;
+mod layout;
+mod pieces;
+
+pub use export::export_blocks;
+pub use fault::{DumpFault, ImportFault};
+pub use import::import_blocks;
+pub use layout::{Layout, fits};
