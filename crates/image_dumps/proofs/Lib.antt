@@ -1,3 +1,4 @@
+pub mod Back
 pub mod Dumping
 pub mod Filling
 pub mod Importing

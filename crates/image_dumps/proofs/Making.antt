@@ -16,10 +16,10 @@ pub record Made (layout : Layout) (ty : PiType) (size first count i : ℕ) (piec
   pub all : done ++ joined (imported layout ty size (first + i) (frames_of (stored_size ty size) (count - i) (drop (i * stored_size ty size) blocks)) (frames_of (piece_len layout ty size) (count - i) rest))
       ≡ joined (imported layout ty size first (frames_of (stored_size ty size) count blocks) (frames_of (piece_len layout ty size) count pieces))
 
-front_off : (n : ℕ) (x b : List ℕ) → length x ≡ n → drop n (x ++ b) ≡ b
+pub front_off : (n : ℕ) (x b : List ℕ) → length x ≡ n → drop n (x ++ b) ≡ b
 front_off n x b h = same_lists _ _ (search (rules, places)) (λ i d l. grind (arith, places))
 
-front_on : (n : ℕ) (x b : List ℕ) → length x ≡ n → take n (x ++ b) ≡ x
+pub front_on : (n : ℕ) (x b : List ℕ) → length x ≡ n → take n (x ++ b) ≡ x
 front_on n x b h = same_lists _ _ (search (rules, places)) (λ i d l. grind (arith, places))
 
 one_more : (i len : ℕ) → (i + 1) * len ≡ i * len + len

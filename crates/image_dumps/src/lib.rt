@@ -4,10 +4,12 @@
 mod export;
 mod fault;
 mod import;
+mod laws;
 mod layout;
 mod pieces;
 
 pub use export::export_blocks;
 pub use fault::{DumpFault, ImportFault};
 pub use import::import_blocks;
+pub use laws::a_dump_comes_back;
 pub use layout::{Layout, fits};
