@@ -1,6 +1,7 @@
 # What run-dix and run-dixlab share. Both read it behind what they say of their own: `me`, the name of the script; `called`
 # and `crate`, those of its program; `first`, words by which the program is run once it is built; `given`, a program to run
-# in place of the proved one; `help`, `takes_image` and `takes_script`; `own_option` and `look_first`.
+# in place of the proved one; `most`, the bytes of input at most; `help`, `takes_image` and `takes_script`; `own_option` and
+# `look_first`.
 program="$here/crates/$crate/out/$crate"
 say() { echo "$me: $*" >&2; }
 refuse() {
@@ -56,7 +57,7 @@ try_unproved() {
     [ -n "$given" ] || want_rt
     work=$(mktemp -d) || exit 70
     : >"$work/stdin"
-    if takes_script "$@"; then head -c 4194305 >"$work/stdin"; fi
+    if takes_script "$@"; then head -c "${most:-4194305}" >"$work/stdin"; fi
     image=
     if takes_image "$@"; then
         command=$1 image=$2

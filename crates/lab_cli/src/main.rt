@@ -1,4 +1,4 @@
-//! The program `dixlab`: shows the stored blocks of disk images.
+//! The program `dixlab`: shows the stored blocks of disk images, and takes dumps of them out and in.
 #![tactic(auto)]
 
 use dix_base::{FileStore, StdinSource, StdoutSink};

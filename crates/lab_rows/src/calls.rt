@@ -1,7 +1,7 @@
 //! One call of the top call, and what comes of it.
 
-use crate::images::image_in;
-use crate::lines::{behind, numbers};
+use crate::images::{image_after, image_in};
+use crate::lines::{behind, bytes, numbers};
 use dix_base::{MemSink, MemSource, MemStore, Sink, Source, Store};
 use image_rig::ImageRig;
 use lab_run::run;
@@ -16,8 +16,8 @@ const ROOM: u32 = 1_000_000;
 pub(crate) struct Came {
     pub(crate) status: u8,
     pub(crate) text: Vec<u8>,
-    /// Whether each byte of the image is as before.
-    pub(crate) is_kept: bool,
+    /// Whether each byte of the image is as the row says.
+    pub(crate) is_left: bool,
 }
 
 /// A word, which is nothing for `''`, else has a space for each `_`.
@@ -75,7 +75,10 @@ fn sink_in(alloc: Global, lines: &[String]) -> Result<MemSink, AllocError> {
 pub(crate) fn came_over(alloc: Global, lines: &[String], table: &[u8]) -> Result<Came, AllocError> {
     let words = words_in(alloc, lines)?;
     let before = image_in(alloc, lines, table)?;
-    let mut input = MemSource::new(Vec::new(alloc), Vec::new(alloc));
+    let mut input = MemSource::new(
+        bytes(alloc, lines, "in")?,
+        numbers(alloc, lines, "source-fails")?,
+    );
     let mut rig = ImageRig::new(alloc, no_store(alloc));
     let mut first = MemStore::new(before.clone()?, numbers(alloc, lines, "store-fails")?);
     let mut second = no_store(alloc);
@@ -92,6 +95,6 @@ pub(crate) fn came_over(alloc: Global, lines: &[String], table: &[u8]) -> Result
     Ok(Came {
         status,
         text: Vec::from_slice(alloc, sink.bytes())?,
-        is_kept: first.bytes() == before.as_slice(),
+        is_left: first.bytes() == image_after(alloc, lines, &before)?.as_slice(),
     })
 }

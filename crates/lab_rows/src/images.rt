@@ -49,3 +49,19 @@ pub(crate) fn image_in(
     }
     Ok(image)
 }
+
+/// The image that a row's call leaves: that of before, with the bytes that the row says in their places.
+pub(crate) fn image_after(
+    alloc: Global,
+    lines: &[String],
+    before: &[u8],
+) -> Result<Vec<u8>, AllocError> {
+    let mut image = Vec::from_slice(alloc, before)?;
+    for line in lines {
+        let (word, rest) = cut(line.as_str());
+        if word == "then" {
+            change(alloc, &mut image, "put", rest)?;
+        }
+    }
+    Ok(image)
+}

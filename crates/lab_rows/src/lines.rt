@@ -1,10 +1,11 @@
 //! The lines of a row by their first words, their marks.
 
-use row_table::cut;
+use row_table::{bytes_of, cut};
 use std::alloc::{AllocError, Global};
 
 /// The marks that a line may have.
-const MARKS: &str = "$ put cut more store-fails sink-fails room each status > >/";
+const MARKS: &str =
+    "$ put cut more in then source-fails store-fails sink-fails room each status > >/ out";
 
 /// Whether a line may have this mark.
 pub(crate) fn is_mark(word: &str) -> bool {
@@ -53,7 +54,16 @@ pub(crate) fn add_line(text: &mut Vec<u8>, line: &str) -> Result<(), AllocError>
     Ok(())
 }
 
-/// The text that a row wants: the lines with one mark, and one with the other, which has no end of a line.
+/// The bytes behind a mark, where a line has it.
+pub(crate) fn bytes(alloc: Global, lines: &[String], mark: &str) -> Result<Vec<u8>, AllocError> {
+    match found(lines, mark) {
+        None => Ok(Vec::new(alloc)),
+        Some(digits) => bytes_of(alloc, digits),
+    }
+}
+
+/// The text that a row wants: the lines with one mark, one with the other, which has no end of a line, and the bytes of
+/// a dump.
 pub(crate) fn text(alloc: Global, lines: &[String]) -> Result<Vec<u8>, AllocError> {
     let mut text = Vec::new(alloc);
     for line in lines {
@@ -62,6 +72,8 @@ pub(crate) fn text(alloc: Global, lines: &[String]) -> Result<Vec<u8>, AllocErro
             add_line(&mut text, rest)?;
         } else if word == ">/" {
             text.extend_from_slice(rest.as_bytes())?;
+        } else if word == "out" {
+            text.extend_from_slice(&bytes_of(alloc, rest)?)?;
         }
     }
     Ok(text)

@@ -1,4 +1,4 @@
-//! Calls whose store or sink fails at each of its calls in turn, or whose sink has a byte more room each time.
+//! Calls whose source, store or sink fails at each of its calls in turn, or whose sink has a byte more room each time.
 
 use crate::calls::{Came, came_over};
 use crate::lines::{add_line, behind, text};
@@ -26,11 +26,14 @@ fn is_beginning(came: &Came, whole: &[u8]) -> bool {
 }
 
 /// Whether the call came to what it comes to where this fails: a beginning of the text, of `at` bytes where room is
-/// counted, or the line that says that the store failed as the image was opened.
+/// counted, or the line that says that the source failed, or the store as the image was opened or written.
 fn is_cut(came: &Came, whole: &[u8], mark: &str, at: usize) -> bool {
     if mark == "store-fails" {
         return came.status == 5
             && (came.text.as_slice() == b"rig fault\n".as_slice() || is_beginning(came, whole));
+    }
+    if mark == "source-fails" {
+        return came.status == 7 && came.text.as_slice() == b"read fault\n".as_slice();
     }
     came.status == 8 && is_beginning(came, whole) && (mark != "room" || came.text.len() == at)
 }

@@ -14,7 +14,7 @@ fn status_wanted(lines: &[String]) -> u64 {
     }
 }
 
-/// What came otherwise than a row says. No call changes a byte of its image.
+/// What came otherwise than a row says.
 pub(crate) fn add_call(
     alloc: Global,
     others: &mut Vec<u8>,
@@ -26,8 +26,8 @@ pub(crate) fn add_call(
         let line = format!(in alloc; "status {status}")?;
         add_line(others, line.as_str())?;
     }
-    if !came.is_kept {
-        add_line(others, "not kept")?;
+    if !came.is_left {
+        add_line(others, "another image")?;
     }
     if came.text.as_slice() != text(alloc, lines)?.as_slice() {
         if came.text.is_empty() {

@@ -13,13 +13,14 @@ use Rattle.image_show.specs.declared.fault.ShowFault.{ShowFault}
 use Rattle.image_show.specs.declared.fault.ShowFault.TheVariants as show
 use Rattle.lab_words.specs.declared.command.Command.{Command}
 use Rattle.lab_words.specs.declared.command.Command.TheVariants.{Help, Version, ShowUnits, ShowBlocks, Diff, Export, Import, Vectors, Judge, Explain, Sweep}
+use Rattle.lab_words.specs.declared.layout.Layout.{Layout}
 use Rattle.lab_words.specs.declared.place.Place.{Place}
 use Rattle.rig_api.specs.Telling.{OpenedBy}
 use Rattle.rig_api.specs.declared.rig.RigFault.{RigFault}
 use Rattle.rig_api.specs.declared.rig.RigFault.TheVariants as head
 use Rattle.lab_run.specs.Calls.{Facts, Held, OpenedOnce, called_of, on_first, served_by, served_in, stretch_in}
 use Rattle.lab_run.specs.Texts.{refusal_of, refusal_text, status_of}
-use Rattle.lab_run.specs.Verdict.{Cause, CauseByCommand, CauseNotListed, CauseNotShown, Ended, HasOpened, Keeps, Listed, Refused, Shown, Verdict, Written, done_status, shown_status, verdict_status, verdict_text}
+use Rattle.lab_run.specs.Verdict.{Cause, CauseByCommand, CauseNotListed, CauseNotShown, Ended, HasOpened, Keeps, KeepsImage, KeepsSource, Listed, Refused, Shown, Verdict, Written, done_status, shown_status, verdict_status, verdict_text}
 use Rattle.lab_run.specs.declared.refusal.Refusal.{Refusal}
 use Rattle.lab_run.specs.declared.refusal.Refusal.TheVariants as refusal
 use Rattle.lab_run.specs.declared.status.Status.{Status}
@@ -65,8 +66,38 @@ not_shown place head.BadLength f t = record { opened = t.opened; head = t.judged
 not_shown place head.Failed f t = t.failed refl
 not_shown place head.Memory f t = tt
 
-kept_on : (words : List (List ℕ)) (old new : Held) (left : Option (List ℕ)) (reads : ℕ) (rig : View) (second : Held) → new.bytes ≡ old.bytes → OpenedOnce (image_in words) old new → old.faults ≤ new.faults → Keeps (on_first words old new left reads rig second)
-kept_on words old new left reads rig second b o c = record { left = refl; reads = refl; rig = refl; second = refl; bytes = b; openings = o; count = c }
+keeps_source : (c : Option Command) (f : Facts) → f.left_after ≡ f.left → f.reads_after ≡ f.reads → KeepsSource c f
+keeps_source None f l r = (l, r)
+keeps_source (Some Help) f l r = (l, r)
+keeps_source (Some Version) f l r = (l, r)
+keeps_source (Some ShowUnits) f l r = (l, r)
+keeps_source (Some (ShowBlocks place)) f l r = (l, r)
+keeps_source (Some (Diff one two)) f l r = (l, r)
+keeps_source (Some (Export place layout)) f l r = (l, r)
+keeps_source (Some (Import place layout)) f l r = omega (arith, r)
+keeps_source (Some Vectors) f l r = (l, r)
+keeps_source (Some Judge) f l r = (l, r)
+keeps_source (Some Explain) f l r = (l, r)
+keeps_source (Some (Sweep byte units)) f l r = (l, r)
+
+keeps_image : (c : Option Command) (f : Facts) → f.first_after.bytes ≡ f.first.bytes → KeepsImage c f
+keeps_image None f b = b
+keeps_image (Some Help) f b = b
+keeps_image (Some Version) f b = b
+keeps_image (Some ShowUnits) f b = b
+keeps_image (Some (ShowBlocks place)) f b = b
+keeps_image (Some (Diff one two)) f b = b
+keeps_image (Some (Export place layout)) f b = b
+keeps_image (Some (Import place layout)) f b = inl b
+keeps_image (Some Vectors) f b = b
+keeps_image (Some Judge) f b = b
+keeps_image (Some Explain) f b = b
+keeps_image (Some (Sweep byte units)) f b = b
+
+pub kept_on : (words : List (List ℕ)) (old new : Held) (left : Option (List ℕ)) (reads : ℕ) (rig : View) (second : Held) → new.bytes ≡ old.bytes → OpenedOnce (image_in words) old new → old.faults ≤ new.faults → Keeps (on_first words old new left reads rig second)
+kept_on words old new left reads rig second b o c =
+    let f = on_first words old new left reads rig second in
+    record { source = keeps_source (served_in words) f refl refl; rig = refl; second = refl; image = keeps_image (served_in words) f b; openings = o; count = c }
 
 pub unlisted : (words : List (List ℕ)) (old new : Held) (left : Option (List ℕ)) (reads : ℕ) (rig : View) (second : Held) (x : RigFault) (r : Refusal) (taken taken' : Option (List ℕ)) (o n : ℕ) (result : Status) →
     served_in words ≡ Some ShowUnits → r ≡ refusal_of x → Tried (Err x) (image_in words) old new → Written (status_of r) (refusal_text r) taken taken' o n result → Ended (on_first words old new left reads rig second) taken taken' o n result
@@ -94,7 +125,7 @@ spared words place old left reads rig second taken taken' o n result e w =
 
 -- ---- an image that is opened
 
-opened_on : (image : Image) (f : Facts) → Tried (Ok image) (image_in f.words) f.first f.first_after → HasOpened (units_open image) f
+pub opened_on : (image : Image) (f : Facts) → Tried (Ok image) (image_in f.words) f.first f.first_after → HasOpened (units_open image) f
 opened_on image f t = record { opened = t.opened; head = t.judged.head; right = t.judged.judged; told = t.judged.told; units = t.judged.units }
 
 pub listed : (words : List (List ℕ)) (old new : Held) (left : Option (List ℕ)) (reads : ℕ) (rig : View) (second : Held) (image : Image) (taken taken' : Option (List ℕ)) (o n : ℕ) (result : Status) →
@@ -118,7 +149,7 @@ unplaced words place old new left reads rig second image x taken taken' o n resu
 
 -- ---- blocks that are shown
 
-rose_since : (a b c : ℕ) → a ≤ b → Rose b c → Rose a c
+pub rose_since : (a b c : ℕ) → a ≤ b → Rose b c → Rose a c
 rose_since a b c h (inl r) = inl (omega (arith, h, r))
 rose_since a b c h (inr r) = inr r
 
@@ -129,7 +160,7 @@ pub record Goes (name : List ℕ) (old mid new : Held) : Type 0 where
   pub openings : new.openings ≡ mid.openings
   pub count : mid.faults ≤ new.faults
 
-on_opened : (image : Image) (words : List (List ℕ)) (old mid new : Held) (left : Option (List ℕ)) (reads : ℕ) (rig : View) (second : Held) → Tried (Ok image) (image_in words) old mid → Goes (image_in words) old mid new → HasOpened (units_open image) (on_first words old new left reads rig second)
+pub on_opened : (image : Image) (words : List (List ℕ)) (old mid new : Held) (left : Option (List ℕ)) (reads : ℕ) (rig : View) (second : Held) → Tried (Ok image) (image_in words) old mid → Goes (image_in words) old mid new → HasOpened (units_open image) (on_first words old new left reads rig second)
 on_opened image words old mid new left reads rig second t g = record {
   opened = rw (g.named, g.openings) t.opened;
   head = t.judged.head;
@@ -138,7 +169,7 @@ on_opened image words old mid new left reads rig second t g = record {
   units = t.judged.units;
 }
 
-keeps_on : (image : Image) (words : List (List ℕ)) (old mid new : Held) (left : Option (List ℕ)) (reads : ℕ) (rig : View) (second : Held) → Tried (Ok image) (image_in words) old mid → Goes (image_in words) old mid new → Keeps (on_first words old new left reads rig second)
+pub keeps_on : (image : Image) (words : List (List ℕ)) (old mid new : Held) (left : Option (List ℕ)) (reads : ℕ) (rig : View) (second : Held) → Tried (Ok image) (image_in words) old mid → Goes (image_in words) old mid new → Keeps (on_first words old new left reads rig second)
 keeps_on image words old mid new left reads rig second t g =
     kept_on words old new left reads rig second (g.same ∙ t.same) (rw (g.named, g.openings) t.opening) (let a = t.count in let b = g.count in omega arith)
 
@@ -176,15 +207,15 @@ no_command words h left reads rig second taken taken' o n result e w =
     without_image words h left reads rig second (Refused refusal.Words) taken taken' o n result (subst (λ (c : Option Command). CauseByCommand c refusal.Words (on_first words h h left reads rig second)) (sym e) refl) w
 
 -- the other commands aren't done yet
-pub not_served : (c : Command) → (c ≡ Help → ⊥) → (c ≡ Version → ⊥) → (c ≡ ShowUnits → ⊥) → ((place : Place) → c ≡ ShowBlocks place → ⊥) → served_by (Some c) ≡ None
-not_served Help a b d e = absurd (a refl)
-not_served Version a b d e = absurd (b refl)
-not_served ShowUnits a b d e = absurd (d refl)
-not_served (ShowBlocks place) a b d e = absurd (e place refl)
-not_served (Diff one two) a b d e = refl
-not_served (Export place layout) a b d e = refl
-not_served (Import place layout) a b d e = refl
-not_served Vectors a b d e = refl
-not_served Judge a b d e = refl
-not_served Explain a b d e = refl
-not_served (Sweep byte units) a b d e = refl
+pub not_served : (c : Command) → (c ≡ Help → ⊥) → (c ≡ Version → ⊥) → (c ≡ ShowUnits → ⊥) → ((place : Place) → c ≡ ShowBlocks place → ⊥) → ((place : Place) (layout : Layout) → c ≡ Export place layout → ⊥) → ((place : Place) (layout : Layout) → c ≡ Import place layout → ⊥) → served_by (Some c) ≡ None
+not_served Help a b d e x i = absurd (a refl)
+not_served Version a b d e x i = absurd (b refl)
+not_served ShowUnits a b d e x i = absurd (d refl)
+not_served (ShowBlocks place) a b d e x i = absurd (e place refl)
+not_served (Diff one two) a b d e x i = refl
+not_served (Export place layout) a b d e x i = absurd (x place layout refl)
+not_served (Import place layout) a b d e x i = absurd (i place layout refl)
+not_served Vectors a b d e x i = refl
+not_served Judge a b d e x i = refl
+not_served Explain a b d e x i = refl
+not_served (Sweep byte units) a b d e x i = refl

@@ -1,2 +1,3 @@
 mod Carrying
 mod Endings
+mod Dumping

@@ -3,10 +3,14 @@ use Rattle.image_blocks.specs.Places.{part_in, whole_in}
 use Rattle.image_blocks.specs.declared.stretch.PlaceFault.{PlaceFault}
 use Rattle.image_blocks.specs.declared.stretch.Stretch.{Stretch}
 use Rattle.image_commands.specs.Views.{View}
+use Rattle.image_dumps.specs.declared.layout.Layout.{Layout as DumpLayout}
+use Rattle.image_dumps.specs.declared.layout.Layout.TheVariants as dump
 use Rattle.image_layout.specs.Heads.{called}
 use Rattle.lab_words.specs.Grammar.{command_in}
 use Rattle.lab_words.specs.declared.command.Command.{Command}
 use Rattle.lab_words.specs.declared.command.Command.TheVariants.{Help, Version, ShowUnits, ShowBlocks, Diff, Export, Import, Vectors, Judge, Explain, Sweep}
+use Rattle.lab_words.specs.declared.layout.Layout.{Layout}
+use Rattle.lab_words.specs.declared.layout.Layout.TheVariants as word
 use Rattle.lab_words.specs.declared.place.Place.{Place}
 use Rattle.lab_words.specs.declared.place.Place.TheVariants.{Device, Blocks}
 use Rattle.rig_api.specs.Telling.{Opened, Standing, Stayed}
@@ -22,8 +26,8 @@ served_by (Some Version) = Some Version
 served_by (Some ShowUnits) = Some ShowUnits
 served_by (Some (ShowBlocks place)) = Some (ShowBlocks place)
 served_by (Some (Diff one other)) = None
-served_by (Some (Export place layout)) = None
-served_by (Some (Import place layout)) = None
+served_by (Some (Export place layout)) = Some (Export place layout)
+served_by (Some (Import place layout)) = Some (Import place layout)
 served_by (Some Vectors) = None
 served_by (Some Judge) = None
 served_by (Some Explain) = None
@@ -37,6 +41,12 @@ served_in words = served_by (command_in words)
 abbrev pub stretch_in : List UnitSpec → Place → Result Stretch PlaceFault
 stretch_in us (Device dev) = whole_in us dev
 stretch_in us (Blocks dev first count) = part_in us dev first count
+
+-- the layout of a dump as the words have it, and as its blocks are taken
+abbrev pub laid_as : Layout → DumpLayout
+laid_as word.Interleaved = dump.Interleaved
+laid_as word.Plain = dump.Plain
+laid_as word.Tuples = dump.Tuples
 
 -- a store at a moment: the bytes that it tells, their number, its count of faults, its name, and how often it was opened
 pub record Held : Type 0 where
@@ -71,14 +81,14 @@ pub record Facts : Type 0 where
   pub second : Held
   pub second_after : Held
 
--- a call that works on its first store alone
-abbrev pub on_first : List (List ℕ) → (old new : Held) → Option (List ℕ) → ℕ → View → Held → Facts
-on_first words old new left reads rig second = record {
+-- a call that works on its source and its first store alone
+abbrev pub on_input : List (List ℕ) → (old new : Held) → (left left_after : Option (List ℕ)) → (reads reads_after : ℕ) → View → Held → Facts
+on_input words old new left left_after reads reads_after rig second = record {
   words = words;
   left = left;
-  left_after = left;
+  left_after = left_after;
   reads = reads;
-  reads_after = reads;
+  reads_after = reads_after;
   rig = rig;
   rig_after = rig;
   first = old;
@@ -86,3 +96,7 @@ on_first words old new left reads rig second = record {
   second = second;
   second_after = second;
 }
+
+-- a call that works on its first store alone
+abbrev pub on_first : List (List ℕ) → (old new : Held) → Option (List ℕ) → ℕ → View → Held → Facts
+on_first words old new left reads rig second = on_input words old new left left reads reads rig second

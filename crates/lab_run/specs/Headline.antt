@@ -1,18 +1,22 @@
-use Rattle.std.specs.Prelude.{ℕ, ◌≡◌, ◌⊎◌, ltb, List, Option, Some, None, Ok, Err}
+use Rattle.std.specs.Prelude.{ℕ, ◌≡◌, ◌*◌, ◌⊎◌, Bool, false, true, ltb, List, length, Option, Some, None, Ok, Err}
 use Rattle.dix_base.specs.Told.{Appended, Calm, Rose}
 use Rattle.block_lines.specs.UnitText.{units_text}
 use Rattle.image_show.specs.Shown.{bad_of, text_of}
+use Rattle.image_blocks.specs.Places.{spec_of}
+use Rattle.image_dumps.specs.Dumps.{fits, piece_len}
+use Rattle.image_dumps.specs.Ends.{dump_in}
 use Rattle.image_blocks.specs.declared.stretch.PlaceFault.{PlaceFault}
 use Rattle.image_blocks.specs.declared.stretch.Stretch.{Stretch}
 use Rattle.lab_words.specs.declared.command.Command.{Command}
 use Rattle.lab_words.specs.declared.command.Command.TheVariants.{Help, Version, ShowUnits, ShowBlocks, Diff, Export, Import, Vectors, Judge, Explain, Sweep}
+use Rattle.lab_words.specs.declared.layout.Layout.{Layout}
 use Rattle.lab_words.specs.declared.place.Place.{Place}
 use Rattle.rig_api.specs.Head.{head_fault, head_of, units_of}
 use Rattle.rig_api.specs.declared.rig.RigFault.{RigFault}
 use Rattle.target_answer.specs.declared.units.UnitSpec.{UnitSpec}
-use Rattle.lab_run.specs.Calls.{Facts, served_in, stretch_in}
-use Rattle.lab_run.specs.Texts.{help_text, version_text}
-use Rattle.lab_run.specs.Verdict.{Ended, HasBadHead, HasListed, HasNoPlace, HasShown, Keeps, done_status}
+use Rattle.lab_run.specs.Calls.{Facts, laid_as, served_in, stretch_in}
+use Rattle.lab_run.specs.Texts.{help_text, imported_text, version_text}
+use Rattle.lab_run.specs.Verdict.{Ended, HasBadHead, HasExported, HasFound, HasImported, HasListed, HasNoPlace, HasNoTuples, HasOpened, HasShown, Keeps, done_status}
 use Rattle.lab_run.specs.declared.status.Status.{Status}
 use Rattle.lab_run.specs.declared.status.Status.TheVariants as status
 
@@ -39,6 +43,24 @@ pub record WroteBlocks (place : Place) (f : Facts) (old new : Option (List ℕ))
   pub there : stretch_in units place ≡ Ok at
   pub wrote : Wrote (done_status (ltb 0 (bad_of units at blocks))) (text_of units at blocks) old new result
 
+-- Each block of the place was written in the layout, and nothing else.
+pub record WroteDump (place : Place) (layout : Layout) (f : Facts) (old new : Option (List ℕ)) (result : Status) : Type 0 where
+  pub units : List UnitSpec
+  pub at : Stretch
+  pub blocks : List (List ℕ)
+  pub exported : HasExported units at layout blocks f
+  pub there : stretch_in units place ≡ Ok at
+  pub wrote : Wrote status.Whole (dump_in (laid_as layout) units at blocks) old new result
+
+-- The dump is in the place, and its blocks were counted.
+pub record TookDump (place : Place) (layout : Layout) (f : Facts) (old new : Option (List ℕ)) (result : Status) : Type 0 where
+  pub units : List UnitSpec
+  pub at : Stretch
+  pub count : ℕ
+  pub imported : HasImported units at count layout f
+  pub there : stretch_in units place ≡ Ok at
+  pub wrote : Wrote status.Whole (imported_text count) old new result
+
 -- what a command wrote that was done
 abbrev pub DoneBy : Option Command → Facts → Option (List ℕ) → Option (List ℕ) → Status → Type 0
 DoneBy None f old new result = ⊥
@@ -47,33 +69,114 @@ DoneBy (Some Version) f old new result = Wrote status.Whole version_text old new
 DoneBy (Some ShowUnits) f old new result = WroteUnits f old new result
 DoneBy (Some (ShowBlocks place)) f old new result = WroteBlocks place f old new result
 DoneBy (Some (Diff one other)) f old new result = ⊥
-DoneBy (Some (Export place layout)) f old new result = ⊥
-DoneBy (Some (Import place layout)) f old new result = ⊥
+DoneBy (Some (Export place layout)) f old new result = WroteDump place layout f old new result
+DoneBy (Some (Import place layout)) f old new result = TookDump place layout f old new result
 DoneBy (Some Vectors) f old new result = ⊥
 DoneBy (Some Judge) f old new result = ⊥
 DoneBy (Some Explain) f old new result = ⊥
 DoneBy (Some (Sweep byte units)) f old new result = ⊥
 
--- The image is at fault: its head, or it hasn't the place of the words.
-abbrev pub IsAtFault : Facts → Type 0
-IsAtFault f = ((fault : RigFault) × HasBadHead fault f) ⊎ ((place : Place) × (fault : PlaceFault) × (served_in f.words ≡ Some (ShowBlocks place)) × HasNoPlace place fault f)
+-- the place that a command names
+abbrev pub place_named : Option Command → Option Place
+place_named None = None
+place_named (Some Help) = None
+place_named (Some Version) = None
+place_named (Some ShowUnits) = None
+place_named (Some (ShowBlocks place)) = Some place
+place_named (Some (Diff one other)) = None
+place_named (Some (Export place layout)) = Some place
+place_named (Some (Import place layout)) = Some place
+place_named (Some Vectors) = None
+place_named (Some Judge) = None
+place_named (Some Explain) = None
+place_named (Some (Sweep byte units)) = None
 
--- The image that is told is at fault for the command: its head, or it hasn't the place of the words.
+-- the place and the layout that a command names
+abbrev pub layout_named : Option Command → Option (Place × Layout)
+layout_named None = None
+layout_named (Some Help) = None
+layout_named (Some Version) = None
+layout_named (Some ShowUnits) = None
+layout_named (Some (ShowBlocks place)) = None
+layout_named (Some (Diff one other)) = None
+layout_named (Some (Export place layout)) = Some (place, layout)
+layout_named (Some (Import place layout)) = Some (place, layout)
+layout_named (Some Vectors) = None
+layout_named (Some Judge) = None
+layout_named (Some Explain) = None
+layout_named (Some (Sweep byte units)) = None
+
+-- The image is at fault: its head, or it hasn't the place of the words, or no tuples there, where the words ask for them.
+abbrev pub IsAtFault : Facts → Type 0
+IsAtFault f =
+    ((fault : RigFault) × HasBadHead fault f) ⊎ (((place : Place) × (fault : PlaceFault) × (place_named (served_in f.words) ≡ Some place) × HasNoPlace place fault f) ⊎ ((place : Place) × (layout : Layout) × (layout_named (served_in f.words) ≡ Some (place, layout)) × HasNoTuples place layout f))
+
+-- The head of an image that is told has a fault.
+abbrev pub IsBadHead : List ℕ → Type 0
+IsBadHead image = (fault : RigFault) × (head_fault (head_of image) ≡ Some fault)
+
+-- An image that is told hasn't the place.
+abbrev pub IsNoPlace : Place → List ℕ → Type 0
+IsNoPlace place image = (fault : PlaceFault) × (stretch_in (units_of (head_of image)) place ≡ Err fault)
+
+-- An image that is told has the place, but no tuples there, which the layout asks for.
+abbrev pub IsNoTuples : Place → Layout → List ℕ → Type 0
+IsNoTuples place layout image = (at : Stretch) × (stretch_in (units_of (head_of image)) place ≡ Ok at) × (fits (laid_as layout) (spec_of (units_of (head_of image)) at.dev).ty ≡ false)
+
+-- The image that is told is at fault for the command: its head, or it hasn't the place of the words, or no tuples there.
 abbrev pub IsWrong : Option Command → List ℕ → Type 0
 IsWrong None image = ⊥
 IsWrong (Some Help) image = ⊥
 IsWrong (Some Version) image = ⊥
-IsWrong (Some ShowUnits) image = (fault : RigFault) × (head_fault (head_of image) ≡ Some fault)
-IsWrong (Some (ShowBlocks place)) image = ((fault : RigFault) × (head_fault (head_of image) ≡ Some fault)) ⊎ ((fault : PlaceFault) × (stretch_in (units_of (head_of image)) place ≡ Err fault))
+IsWrong (Some ShowUnits) image = IsBadHead image
+IsWrong (Some (ShowBlocks place)) image = IsBadHead image ⊎ IsNoPlace place image
 IsWrong (Some (Diff one other)) image = ⊥
-IsWrong (Some (Export place layout)) image = ⊥
-IsWrong (Some (Import place layout)) image = ⊥
+IsWrong (Some (Export place layout)) image = IsBadHead image ⊎ (IsNoPlace place image ⊎ IsNoTuples place layout image)
+IsWrong (Some (Import place layout)) image = IsBadHead image ⊎ (IsNoPlace place image ⊎ IsNoTuples place layout image)
 IsWrong (Some Vectors) image = ⊥
 IsWrong (Some Judge) image = ⊥
 IsWrong (Some Explain) image = ⊥
 IsWrong (Some (Sweep byte units)) image = ⊥
 
--- Each status but 6 has its cause: 2 comes exactly where the words are no command, 4 only where the image is at fault, and where one that is told is so it comes, or want of memory, if no count rose; 5 and 8 only where the count of faults of the store, of the sink, rose; 3 and 7 don't come, as no command reads the source.
+-- the bytes of a dump of a place
+abbrev pub dump_len : List UnitSpec → Stretch → Layout → ℕ
+dump_len us at layout = at.count * piece_len (laid_as layout) (spec_of us at.dev).ty (spec_of us at.dev).size
+
+-- What is told of the source hasn't the length of a dump of the place.
+abbrev pub IsOtherLength : List UnitSpec → Stretch → Layout → Option (List ℕ) → Type 0
+IsOtherLength us at layout None = Unit {0}
+IsOtherLength us at layout (Some dump) = length dump ≡ dump_len us at layout → ⊥
+
+-- The dump of an `import` is at fault: it is too short or too long.
+abbrev pub IsDumpAtFault : Facts → Type 0
+IsDumpAtFault f = (place : Place) × (layout : Layout) × (us : List UnitSpec) × (at : Stretch) × (served_in f.words ≡ Some (Import place layout)) × HasFound us at place layout f × IsOtherLength us at layout f.left
+
+-- The image that is told has the place, and what the layout asks for; and the source tells a dump, and doesn't fail.
+pub record IsReady (place : Place) (layout : Layout) (f : Facts) (image : List ℕ) : Type 0 where
+  pub right : head_fault (head_of image) ≡ None
+  pub at : Stretch
+  pub there : stretch_in (units_of (head_of image)) place ≡ Ok at
+  pub fits : fits (laid_as layout) (spec_of (units_of (head_of image)) at.dev).ty ≡ true
+  pub dump : List ℕ
+  pub told : f.left ≡ Some dump
+  pub calm : Calm f.reads f.reads_after
+
+-- All is right for an `import` but the dump, which has another length than the place asks for.
+abbrev pub IsWrongDump : Option Command → Facts → List ℕ → Type 0
+IsWrongDump None f image = ⊥
+IsWrongDump (Some Help) f image = ⊥
+IsWrongDump (Some Version) f image = ⊥
+IsWrongDump (Some ShowUnits) f image = ⊥
+IsWrongDump (Some (ShowBlocks place)) f image = ⊥
+IsWrongDump (Some (Diff one other)) f image = ⊥
+IsWrongDump (Some (Export place layout)) f image = ⊥
+IsWrongDump (Some (Import place layout)) f image = (r : IsReady place layout f image) × (length r.dump ≡ dump_len (units_of (head_of image)) r.at layout → ⊥)
+IsWrongDump (Some Vectors) f image = ⊥
+IsWrongDump (Some Judge) f image = ⊥
+IsWrongDump (Some Explain) f image = ⊥
+IsWrongDump (Some (Sweep byte units)) f image = ⊥
+
+-- Each status but 6 has its cause: 2 comes exactly where the words are no command; 4 only where the image is at fault, and 3 only where the dump is, and where an image or a dump that is told is so it comes, or want of memory, if no count rose; 5, 7 and 8 only where the count of faults of the store, of the source, of the sink, rose.
 pub record Causes (f : Facts) (o n : ℕ) (result : Status) : Type 0 where
   pub words : result ≡ status.Words → served_in f.words ≡ None
   pub no_words : served_in f.words ≡ None → (result ≡ status.Words) ⊎ (result ≡ status.WriteFault)
@@ -81,28 +184,29 @@ pub record Causes (f : Facts) (o n : ℕ) (result : Status) : Type 0 where
   pub wrong : (image : List ℕ) → f.first.bytes ≡ Some image → IsWrong (served_in f.words) image → Calm f.first.faults f.first_after.faults → Calm o n → (result ≡ status.Image) ⊎ (result ≡ status.Memory)
   pub rig : result ≡ status.RigFault → Rose f.first.faults f.first_after.faults
   pub sink : result ≡ status.WriteFault → Rose o n
-  pub input : result ≡ status.Input → ⊥
-  pub reads : result ≡ status.ReadFault → ⊥
+  pub input : result ≡ status.Input → IsDumpAtFault f
+  pub dump : (image : List ℕ) → f.first.bytes ≡ Some image → IsWrongDump (served_in f.words) f image → Calm f.first.faults f.first_after.faults → Calm o n → (result ≡ status.Input) ⊎ (result ≡ status.Memory)
+  pub reads : result ≡ status.ReadFault → Rose f.reads f.reads_after
 
--- The image that is told has all that the command asks of it: a right head and, where the words have a place, that place.
-abbrev pub IsRight : Option Command → List ℕ → Type 0
-IsRight None image = ⊥
-IsRight (Some Help) image = Unit {0}
-IsRight (Some Version) image = Unit {0}
-IsRight (Some ShowUnits) image = head_fault (head_of image) ≡ None
-IsRight (Some (ShowBlocks place)) image = (head_fault (head_of image) ≡ None) × ((at : Stretch) × (stretch_in (units_of (head_of image)) place ≡ Ok at))
-IsRight (Some (Diff one other)) image = ⊥
-IsRight (Some (Export place layout)) image = ⊥
-IsRight (Some (Import place layout)) image = ⊥
-IsRight (Some Vectors) image = ⊥
-IsRight (Some Judge) image = ⊥
-IsRight (Some Explain) image = ⊥
-IsRight (Some (Sweep byte units)) image = ⊥
+-- The image that is told, and the dump, have all that the command asks of them: a right head and, where the words have a place, that place; what the layout asks for; and for `import` a dump of the place's length, of a source that doesn't fail.
+abbrev pub IsRight : Option Command → Facts → List ℕ → Type 0
+IsRight None f image = ⊥
+IsRight (Some Help) f image = Unit {0}
+IsRight (Some Version) f image = Unit {0}
+IsRight (Some ShowUnits) f image = head_fault (head_of image) ≡ None
+IsRight (Some (ShowBlocks place)) f image = (head_fault (head_of image) ≡ None) × ((at : Stretch) × (stretch_in (units_of (head_of image)) place ≡ Ok at))
+IsRight (Some (Diff one other)) f image = ⊥
+IsRight (Some (Export place layout)) f image = (head_fault (head_of image) ≡ None) × ((at : Stretch) × (stretch_in (units_of (head_of image)) place ≡ Ok at) × (fits (laid_as layout) (spec_of (units_of (head_of image)) at.dev).ty ≡ true))
+IsRight (Some (Import place layout)) f image = (r : IsReady place layout f image) × (length r.dump ≡ dump_len (units_of (head_of image)) r.at layout)
+IsRight (Some Vectors) f image = ⊥
+IsRight (Some Judge) f image = ⊥
+IsRight (Some Explain) f image = ⊥
+IsRight (Some (Sweep byte units)) f image = ⊥
 
--- Words of a command, an image that is right, and no fault of store and sink give status 0 or 1, or want of memory.
+-- Words of a command, an image and a dump that are right, and no fault of store and sink give status 0 or 1, or want of memory.
 abbrev pub IsComplete : Facts → ℕ → ℕ → Status → Type 0
 IsComplete f o n result =
-    (image : List ℕ) → f.first.bytes ≡ Some image → IsRight (served_in f.words) image → Calm f.first.faults f.first_after.faults → Calm o n → IsDone result ⊎ (result ≡ status.Memory)
+    (image : List ℕ) → f.first.bytes ≡ Some image → IsRight (served_in f.words) f image → Calm f.first.faults f.first_after.faults → Calm o n → IsDone result ⊎ (result ≡ status.Memory)
 
 -- What a call carries, whatever its source, rig, stores and sink are: its verdict with the cause and its text, what was done, why it ended otherwise, what is as before, and that nothing that is right is refused.
 pub record Carries (f : Facts) (taken taken' : Option (List ℕ)) (o n : ℕ) (result : Status) : Type 0 where

@@ -1,22 +1,31 @@
-use Rattle.std.specs.Prelude.{ℕ, ◌≡◌, ◌≤◌, ◌⊎◌, Bool, ltb, if◌then◌else◌, List, Option, Some, None, Result, Ok, Err}
-use Rattle.dix_base.specs.Told.{Appended, AppendedSome, Rose}
+use Rattle.std.specs.Prelude.{ℕ, ◌≡◌, ◌≤◌, ◌⊎◌, Bool, false, true, ltb, if◌then◌else◌, List, length, Option, Some, None, Result, Ok, Err}
+use Rattle.dix_base.specs.Told.{Appended, AppendedSome, Becomes, Rose}
 use Rattle.dix_words.specs.Grammar.{image_in}
 use Rattle.block_lines.specs.UnitText.{units_text}
-use Rattle.image_blocks.specs.Blocks.{HasBlocks}
+use Rattle.image_blocks.specs.Blocks.{HasBlocks, with_stretch}
+use Rattle.image_blocks.specs.Places.{spec_of}
 use Rattle.image_blocks.specs.declared.stretch.PlaceFault.{PlaceFault}
 use Rattle.image_blocks.specs.declared.stretch.Stretch.{Stretch}
+use Rattle.image_dumps.specs.Dumps.{fits}
+use Rattle.image_dumps.specs.Ends.{ImportEnds, dump_in}
+use Rattle.image_dumps.specs.declared.fault.DumpFault.{DumpFault}
+use Rattle.image_dumps.specs.declared.fault.DumpFault.TheVariants as dumping
+use Rattle.image_dumps.specs.declared.fault.ImportFault.{ImportFault}
+use Rattle.image_dumps.specs.declared.fault.ImportFault.TheVariants as halt
 use Rattle.image_show.specs.Shown.{bad_of, text_of}
 use Rattle.image_show.specs.declared.fault.ShowFault.{ShowFault}
 use Rattle.image_show.specs.declared.fault.ShowFault.TheVariants as show
 use Rattle.lab_words.specs.declared.command.Command.{Command}
 use Rattle.lab_words.specs.declared.command.Command.TheVariants.{Help, Version, ShowUnits, ShowBlocks, Diff, Export, Import, Vectors, Judge, Explain, Sweep}
+use Rattle.lab_words.specs.declared.layout.Layout.{Layout}
 use Rattle.lab_words.specs.declared.place.Place.{Place}
 use Rattle.rig_api.specs.Head.{Head, IsHeadOf, head_fault, units_of}
 use Rattle.rig_api.specs.Telling.{Opened}
 use Rattle.rig_api.specs.declared.rig.RigFault.{RigFault}
+use Rattle.target_answer.specs.Image.{units_in}
 use Rattle.target_answer.specs.declared.units.UnitSpec.{UnitSpec}
-use Rattle.lab_run.specs.Calls.{Facts, OpenedOnce, called_of, served_in, stretch_in}
-use Rattle.lab_run.specs.Texts.{help_text, refusal_text, status_of, version_text}
+use Rattle.lab_run.specs.Calls.{Facts, OpenedOnce, called_of, laid_as, served_in, stretch_in}
+use Rattle.lab_run.specs.Texts.{help_text, imported_text, refusal_text, status_of, version_text}
 use Rattle.lab_run.specs.declared.refusal.Refusal.{Refusal}
 use Rattle.lab_run.specs.declared.refusal.Refusal.TheVariants as refusal
 use Rattle.lab_run.specs.declared.status.Status.{Status}
@@ -45,6 +54,32 @@ pub record HasListed (us : List UnitSpec) (f : Facts) : Type 0 where
   pub named : served_in f.words ≡ Some ShowUnits
   pub opened : HasOpened us f
 
+-- The image was opened, it has the place, and what the words name has the layout.
+pub record HasFound (us : List UnitSpec) (at : Stretch) (place : Place) (layout : Layout) (f : Facts) : Type 0 where
+  pub opened : HasOpened us f
+  pub there : stretch_in us place ≡ Ok at
+  pub fits : fits (laid_as layout) (spec_of us at.dev).ty ≡ true
+
+-- These are the blocks of the place of an `export`, whose layout this is: as many as the place has, each of the length that is stored. Where the image is told they are the stored ones.
+pub record HasExported (us : List UnitSpec) (at : Stretch) (layout : Layout) (blocks : List (List ℕ)) (f : Facts) : Type 0 where
+  pub place : Place
+  pub named : served_in f.words ≡ Some (Export place layout)
+  pub found : HasFound us at place layout f
+  pub has : HasBlocks us at blocks f.first.bytes
+
+-- The dump of an `import` was taken so: what came of it, and what stands in the place and is left in the source.
+pub record DumpTaken (result : Result ℕ ImportFault) (us : List UnitSpec) (at : Stretch) (place : Place) (layout : Layout) (f : Facts) : Type 0 where
+  pub found : HasFound us at place layout f
+  pub opened_faults : ℕ
+  pub since : f.first.faults ≤ opened_faults
+  pub ends : ImportEnds result (laid_as layout) us at 65536 opened_faults f.first_after.faults f.reads f.reads_after f.first.bytes f.first_after.bytes f.left f.left_after
+
+-- The dump is in the place: so many blocks of it, which are all that the place has.
+pub record HasImported (us : List UnitSpec) (at : Stretch) (count : ℕ) (layout : Layout) (f : Facts) : Type 0 where
+  pub place : Place
+  pub named : served_in f.words ≡ Some (Import place layout)
+  pub taken : DumpTaken (Ok count) us at place layout f
+
 -- ---- refusals
 
 -- The image of the words was opened, and this is the first fault of its head.
@@ -59,6 +94,10 @@ abbrev pub CauseNotListed : Refusal → Facts → Type 0
 CauseNotListed refusal.Words f = ⊥
 CauseNotListed (refusal.Image fault) f = HasBadHead fault f
 CauseNotListed (refusal.Place fault) f = ⊥
+CauseNotListed refusal.NoTuples f = ⊥
+CauseNotListed (refusal.Short pieces) f = ⊥
+CauseNotListed refusal.Long f = ⊥
+CauseNotListed refusal.ReadFault f = ⊥
 CauseNotListed refusal.RigFault f = Rose f.first.faults f.first_after.faults
 CauseNotListed refusal.Memory f = Unit {0}
 
@@ -73,8 +112,56 @@ abbrev pub CauseNotShown : Place → Refusal → Facts → Type 0
 CauseNotShown place refusal.Words f = ⊥
 CauseNotShown place (refusal.Image fault) f = HasBadHead fault f
 CauseNotShown place (refusal.Place fault) f = HasNoPlace place fault f
+CauseNotShown place refusal.NoTuples f = ⊥
+CauseNotShown place (refusal.Short pieces) f = ⊥
+CauseNotShown place refusal.Long f = ⊥
+CauseNotShown place refusal.ReadFault f = ⊥
 CauseNotShown place refusal.RigFault f = Rose f.first.faults f.first_after.faults
 CauseNotShown place refusal.Memory f = Unit {0}
+
+-- The image was opened and has the place, but no tuples there, which the words ask for.
+pub record HasNoTuples (place : Place) (layout : Layout) (f : Facts) : Type 0 where
+  pub units : List UnitSpec
+  pub opened : HasOpened units f
+  pub at : Stretch
+  pub there : stretch_in units place ≡ Ok at
+  pub judged : fits (laid_as layout) (spec_of units at.dev).ty ≡ false
+
+-- Why no block of a place is exported.
+abbrev pub CauseNotExported : Place → Layout → Refusal → Facts → Type 0
+CauseNotExported place layout refusal.Words f = ⊥
+CauseNotExported place layout (refusal.Image fault) f = HasBadHead fault f
+CauseNotExported place layout (refusal.Place fault) f = HasNoPlace place fault f
+CauseNotExported place layout refusal.NoTuples f = HasNoTuples place layout f
+CauseNotExported place layout (refusal.Short pieces) f = ⊥
+CauseNotExported place layout refusal.Long f = ⊥
+CauseNotExported place layout refusal.RigFault f = Rose f.first.faults f.first_after.faults
+CauseNotExported place layout refusal.ReadFault f = ⊥
+CauseNotExported place layout refusal.Memory f = Unit {0}
+
+-- The image and the source are as before.
+pub record IsUntouched (f : Facts) : Type 0 where
+  pub bytes : f.first_after.bytes ≡ f.first.bytes
+  pub left : f.left_after ≡ f.left
+  pub reads : f.reads_after ≡ f.reads
+
+-- The dump was broken off so, with what that leaves.
+pub record HasBrokenOff (fault : ImportFault) (place : Place) (layout : Layout) (f : Facts) : Type 0 where
+  pub units : List UnitSpec
+  pub at : Stretch
+  pub taken : DumpTaken (Err fault) units at place layout f
+
+-- Why a dump isn't imported whole, and what is left then.
+abbrev pub CauseNotImported : Place → Layout → Refusal → Facts → Type 0
+CauseNotImported place layout refusal.Words f = ⊥
+CauseNotImported place layout (refusal.Image fault) f = HasBadHead fault f × IsUntouched f
+CauseNotImported place layout (refusal.Place fault) f = HasNoPlace place fault f × IsUntouched f
+CauseNotImported place layout refusal.NoTuples f = HasNoTuples place layout f × IsUntouched f
+CauseNotImported place layout (refusal.Short pieces) f = HasBrokenOff (halt.Short pieces) place layout f
+CauseNotImported place layout refusal.Long f = HasBrokenOff halt.Long place layout f
+CauseNotImported place layout refusal.RigFault f = (Rose f.first.faults f.first_after.faults × IsUntouched f) ⊎ HasBrokenOff halt.Store place layout f
+CauseNotImported place layout refusal.ReadFault f = HasBrokenOff halt.Source place layout f
+CauseNotImported place layout refusal.Memory f = IsUntouched f
 
 -- why a call is refused, by its command
 abbrev pub CauseByCommand : Option Command → Refusal → Facts → Type 0
@@ -84,8 +171,8 @@ CauseByCommand (Some Version) r f = ⊥
 CauseByCommand (Some ShowUnits) r f = CauseNotListed r f
 CauseByCommand (Some (ShowBlocks place)) r f = CauseNotShown place r f
 CauseByCommand (Some (Diff one other)) r f = ⊥
-CauseByCommand (Some (Export place layout)) r f = ⊥
-CauseByCommand (Some (Import place layout)) r f = ⊥
+CauseByCommand (Some (Export place layout)) r f = CauseNotExported place layout r f
+CauseByCommand (Some (Import place layout)) r f = CauseNotImported place layout r f
 CauseByCommand (Some Vectors) r f = ⊥
 CauseByCommand (Some Judge) r f = ⊥
 CauseByCommand (Some Explain) r f = ⊥
@@ -100,6 +187,8 @@ pub data Verdict : Type 0 where
   Versioned : Verdict
   Listed : List UnitSpec → Verdict
   Shown : List UnitSpec → Stretch → List (List ℕ) → Verdict
+  Exported : List UnitSpec → Stretch → Layout → List (List ℕ) → Verdict
+  Imported : List UnitSpec → Stretch → (count : ℕ) → Layout → Verdict
 
 -- the status of a command that was done, by whether something was found
 abbrev pub done_status : Bool → Status
@@ -111,12 +200,27 @@ shown_status (Ok bad) = done_status (ltb 0 bad)
 shown_status (Err show.Store) = status.RigFault
 shown_status (Err show.Sink) = status.WriteFault
 
+-- the status of a dump that was written, or wasn't
+abbrev pub dumped_status : Result (Unit {0}) DumpFault → Status
+dumped_status (Ok x) = status.Whole
+dumped_status (Err dumping.Store) = status.RigFault
+dumped_status (Err dumping.Sink) = status.WriteFault
+
+-- the refusal of a dump that isn't taken whole
+abbrev pub halted : ImportFault → Refusal
+halted (halt.Short pieces) = refusal.Short pieces
+halted halt.Long = refusal.Long
+halted halt.Store = refusal.RigFault
+halted halt.Source = refusal.ReadFault
+
 abbrev pub verdict_status : Verdict → Status
 verdict_status (Refused r) = status_of r
 verdict_status Helped = status.Whole
 verdict_status Versioned = status.Whole
 verdict_status (Listed us) = status.Whole
 verdict_status (Shown us at blocks) = done_status (ltb 0 (bad_of us at blocks))
+verdict_status (Exported us at layout blocks) = status.Whole
+verdict_status (Imported us at count layout) = status.Whole
 
 abbrev pub verdict_text : Verdict → List ℕ
 verdict_text (Refused r) = refusal_text r
@@ -124,6 +228,8 @@ verdict_text Helped = help_text
 verdict_text Versioned = version_text
 verdict_text (Listed us) = units_text us
 verdict_text (Shown us at blocks) = text_of us at blocks
+verdict_text (Exported us at layout blocks) = dump_in (laid_as layout) us at blocks
+verdict_text (Imported us at count layout) = imported_text count
 
 abbrev pub Cause : Verdict → Facts → Type 0
 Cause (Refused r) f = CauseByCommand (served_in f.words) r f
@@ -131,6 +237,8 @@ Cause Helped f = served_in f.words ≡ Some Help
 Cause Versioned f = served_in f.words ≡ Some Version
 Cause (Listed us) f = HasListed us f
 Cause (Shown us at blocks) f = HasShown us at blocks f
+Cause (Exported us at layout blocks) f = HasExported us at layout blocks f
+Cause (Imported us at count layout) f = HasImported us at count layout f
 
 -- The text was written whole, and the status is the verdict's; or the sink failed, and a prefix of the text was written.
 abbrev pub Written : Status → List ℕ → Option (List ℕ) → Option (List ℕ) → ℕ → ℕ → Status → Type 0
@@ -144,14 +252,54 @@ BrokeOff Helped f old new result = ⊥
 BrokeOff Versioned f old new result = ⊥
 BrokeOff (Listed us) f old new result = ⊥
 BrokeOff (Shown us at blocks) f old new result = (result ≡ status.RigFault) × Rose f.first.faults f.first_after.faults × AppendedSome (text_of us at blocks) old new
+BrokeOff (Exported us at layout blocks) f old new result = (result ≡ status.RigFault) × Rose f.first.faults f.first_after.faults × AppendedSome (dump_in (laid_as layout) us at blocks) old new
+BrokeOff (Imported us at count layout) f old new result = ⊥
 
--- Each object that the command doesn't use is as before: the source, the rig and the second store. So is each byte that the first store tells, and it is opened at most once, by the image's name.
+-- The source is as before, but where the command reads it: `import` alone does.
+abbrev pub KeepsSource : Option Command → Facts → Type 0
+KeepsSource None f = (f.left_after ≡ f.left) × (f.reads_after ≡ f.reads)
+KeepsSource (Some Help) f = (f.left_after ≡ f.left) × (f.reads_after ≡ f.reads)
+KeepsSource (Some Version) f = (f.left_after ≡ f.left) × (f.reads_after ≡ f.reads)
+KeepsSource (Some ShowUnits) f = (f.left_after ≡ f.left) × (f.reads_after ≡ f.reads)
+KeepsSource (Some (ShowBlocks place)) f = (f.left_after ≡ f.left) × (f.reads_after ≡ f.reads)
+KeepsSource (Some (Diff one other)) f = (f.left_after ≡ f.left) × (f.reads_after ≡ f.reads)
+KeepsSource (Some (Export place layout)) f = (f.left_after ≡ f.left) × (f.reads_after ≡ f.reads)
+KeepsSource (Some (Import place layout)) f = f.reads ≤ f.reads_after
+KeepsSource (Some Vectors) f = (f.left_after ≡ f.left) × (f.reads_after ≡ f.reads)
+KeepsSource (Some Judge) f = (f.left_after ≡ f.left) × (f.reads_after ≡ f.reads)
+KeepsSource (Some Explain) f = (f.left_after ≡ f.left) × (f.reads_after ≡ f.reads)
+KeepsSource (Some (Sweep byte units)) f = (f.left_after ≡ f.left) × (f.reads_after ≡ f.reads)
+
+-- All blocks outside of the stretch are as before: the units are those of before, with some blocks of their length at its front.
+abbrev pub AreOthersKept : List UnitSpec → Stretch → (image image_after : Option (List ℕ)) → Type 0
+AreOthersKept us at image image_after = Becomes (λ was is. (left : List (List ℕ)) × (length left ≤ at.count) × (units_in us is ≡ with_stretch (units_in us was) at left)) image image_after
+
+-- Each byte that the image tells is as before, or the image has the place, and each block outside of it is as before.
+abbrev pub KeepsOthers : Place → Facts → Type 0
+KeepsOthers place f =
+    (f.first_after.bytes ≡ f.first.bytes) ⊎ ((us : List UnitSpec) × (at : Stretch) × HasOpened us f × (stretch_in us place ≡ Ok at) × AreOthersKept us at f.first.bytes f.first_after.bytes)
+
+-- Each byte that the image tells is as before; `import` keeps the blocks outside of its place.
+abbrev pub KeepsImage : Option Command → Facts → Type 0
+KeepsImage None f = f.first_after.bytes ≡ f.first.bytes
+KeepsImage (Some Help) f = f.first_after.bytes ≡ f.first.bytes
+KeepsImage (Some Version) f = f.first_after.bytes ≡ f.first.bytes
+KeepsImage (Some ShowUnits) f = f.first_after.bytes ≡ f.first.bytes
+KeepsImage (Some (ShowBlocks place)) f = f.first_after.bytes ≡ f.first.bytes
+KeepsImage (Some (Diff one other)) f = f.first_after.bytes ≡ f.first.bytes
+KeepsImage (Some (Export place layout)) f = f.first_after.bytes ≡ f.first.bytes
+KeepsImage (Some (Import place layout)) f = KeepsOthers place f
+KeepsImage (Some Vectors) f = f.first_after.bytes ≡ f.first.bytes
+KeepsImage (Some Judge) f = f.first_after.bytes ≡ f.first.bytes
+KeepsImage (Some Explain) f = f.first_after.bytes ≡ f.first.bytes
+KeepsImage (Some (Sweep byte units)) f = f.first_after.bytes ≡ f.first.bytes
+
+-- Each object that the command doesn't use is as before: the rig, the second store and, but for `import`, the source. So is each byte that the first store tells; after an `import`, each block outside of its place. It is opened at most once, by the image's name.
 pub record Keeps (f : Facts) : Type 0 where
-  pub left : f.left_after ≡ f.left
-  pub reads : f.reads_after ≡ f.reads
+  pub source : KeepsSource (served_in f.words) f
   pub rig : f.rig_after ≡ f.rig
   pub second : f.second_after ≡ f.second
-  pub bytes : f.first_after.bytes ≡ f.first.bytes
+  pub image : KeepsImage (served_in f.words) f
   pub openings : OpenedOnce (image_in f.words) f.first f.first_after
   pub count : f.first.faults ≤ f.first_after.faults
 

@@ -1,6 +1,10 @@
-//! The top call of the program `dixlab`: shows the stored blocks of disk images.
+//! The top call of the program `dixlab`: shows the stored blocks of disk images, and takes dumps
+//! of them out and in.
 #![tactic(auto)]
 
+mod dumps;
+mod exporting;
+mod importing;
 mod program;
 mod refusal;
 mod showing;

@@ -4,7 +4,7 @@ ghost use Rattle.std.specs.Prelude.{◌≡◌, ◌+◌, ◌≤◌, ◌++◌, cod
 ghost use Rattle.lab_run.specs.Texts.{refusal_of, refusal_text, status_of};
 
 use crate::status::Status;
-use block_lines::{Line, add};
+use block_lines::{Line, add, add_number};
 use image_blocks::PlaceFault;
 use rig_api::RigFault;
 
@@ -17,8 +17,16 @@ pub enum Refusal {
     Image(RigFault),
     /// The image hasn't the place of the words.
     Place(PlaceFault),
-    /// The store failed as the image was opened.
+    /// A dump of tuples alone, of a unit that has none.
+    NoTuples,
+    /// The dump ends behind so many whole pieces, before the place is full.
+    Short(u32),
+    /// The dump goes on behind its last piece.
+    Long,
+    /// The store failed.
     RigFault,
+    /// The source failed.
+    ReadFault,
     /// Want of memory.
     Memory,
 }
@@ -45,7 +53,11 @@ impl Refusal {
             Refusal::Words => Status::Words,
             Refusal::Image(_) => Status::Image,
             Refusal::Place(_) => Status::Image,
+            Refusal::NoTuples => Status::Image,
+            Refusal::Short(_) => Status::Input,
+            Refusal::Long => Status::Input,
             Refusal::RigFault => Status::RigFault,
+            Refusal::ReadFault => Status::ReadFault,
             Refusal::Memory => Status::Memory,
         }
     }
@@ -55,14 +67,22 @@ impl Refusal {
         ensures { result.items ≡ refusal_text self }
     {
         match self {
-            Refusal::Words => plain_line(b"usage: dixlab show IMAGE [PLACE], --help, --version\n"),
+            Refusal::Words => plain_line(USAGE),
             Refusal::Image(fault) => image_line(fault),
             Refusal::Place(fault) => place_line(fault),
+            Refusal::NoTuples => plain_line(b"layout NoTuples\n"),
+            Refusal::Short(pieces) => short_line(pieces),
+            Refusal::Long => plain_line(b"dump long\n"),
             Refusal::RigFault => plain_line(b"rig fault\n"),
+            Refusal::ReadFault => plain_line(b"read fault\n"),
             Refusal::Memory => plain_line(b"no memory\n"),
         }
     }
 }
+
+/// The line of words that are not in the grammar.
+const USAGE: &[u8] =
+    b"usage: dixlab show IMAGE [PLACE], export IMAGE PLACE LAYOUT, import IMAGE PLACE LAYOUT, --help, --version\n";
 
 fn plain_line(text: &[u8]) -> Line
     requires { length text.now ≤ 128 }
@@ -89,6 +109,16 @@ fn place_line(fault: PlaceFault) -> Line
     let mut line = Line::new();
     add(&mut line, b"place ");
     add(&mut line, fault.name().as_bytes());
+    add(&mut line, b"\n");
+    line
+}
+
+fn short_line(pieces: u32) -> Line
+    ensures { result.items ≡ refusal_text (Refusal.Short pieces) }
+{
+    let mut line = Line::new();
+    add(&mut line, b"dump short ");
+    add_number(&mut line, u64::from(pieces));
     add(&mut line, b"\n");
     line
 }

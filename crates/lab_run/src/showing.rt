@@ -21,7 +21,7 @@ use lab_words::Place;
 use std::alloc::Global;
 
 /// The blocks of a place.
-fn stretch_of(image: &Image, place: Place) -> Result<Stretch, PlaceFault>
+pub(crate) fn stretch_of(image: &Image, place: Place) -> Result<Stretch, PlaceFault>
     ensures value { result ≡ stretch_in (units_open image.now) place }
     ensures there { IfOk result (IsStretch (units_open image.now)) }
 {
@@ -101,4 +101,4 @@ pub(crate) fn show_blocks<A: Store, O: Sink>(
 }
 
 /// So many bytes of blocks are read at once, at most.
-const ROOM: usize = 65536;
+pub(crate) const ROOM: usize = 65536;

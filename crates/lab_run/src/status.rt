@@ -14,7 +14,7 @@ pub enum Status {
     Words,
     /// What standard input gives is at fault.
     Input,
-    /// The image's head is at fault, or it hasn't the place of the words.
+    /// The image's head is at fault, it hasn't the place of the words, or no tuples there.
     Image,
     /// The store of the image failed.
     RigFault,

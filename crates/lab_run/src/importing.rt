@@ -1,0 +1,58 @@
+//! Importing blocks into an image.
+
+ghost use Rattle.std.specs.Prelude.{◌≡◌, ℕ, List, Option, Some};
+ghost use Rattle.dix_words.specs.Grammar.{word_bytes};
+ghost use Rattle.image_commands.specs.Views.{View};
+ghost use Rattle.lab_words.specs.declared.command.Command.{Command};
+ghost use Rattle.lab_run.specs.Calls.{Held, held, on_input, served_in};
+ghost use Rattle.lab_run.specs.Verdict.{Ended};
+
+use crate::dumps::{fits_there, halted, imported_line, laid};
+use crate::program::{finish, refuse};
+use crate::refusal::Refusal;
+use crate::showing::{ROOM, stretch_of};
+use crate::status::Status;
+use dix_base::{Sink, Source, Store};
+use dix_words::image_of;
+use image_blocks::open_image;
+use image_dumps::import_blocks;
+use lab_words::{Layout, Place};
+use std::alloc::Global;
+
+/// `import IMAGE PLACE LAYOUT`: puts what the source gives in the place.
+pub(crate) fn import<S: Source, A: Store, O: Sink>(
+    alloc: Global,
+    words: &[String],
+    place: Place,
+    layout: Layout,
+    input: &mut S,
+    store: &mut A,
+    out: &mut O,
+) -> Status
+    requires { served_in (word_bytes words.now) ≡ Some (Command.Import place layout) }
+    ensures { (rig : View) (second : Held) → Ended (on_input (word_bytes words.now)
+        (held (A.bytes store.old) (A.len store.old) (A.faults store.old) (A.handed store.old) (A.openings store.old))
+        (held (A.bytes store.new) (A.len store.new) (A.faults store.new) (A.handed store.new) (A.openings store.new))
+        (S.left input.old) (S.left input.new) (S.faults input.old) (S.faults input.new)
+        rig second) (O.taken out.old) (O.taken out.new) (O.faults out.old) (O.faults out.new) result }
+{
+    let mut room = match vec![in alloc; 0u8; ROOM] {
+        Ok(room) => room,
+        Err(_) => return refuse(out, Refusal::Memory),
+    };
+    let image = match open_image(alloc, store, image_of(words)) {
+        Ok(image) => image,
+        Err(fault) => return refuse(out, Refusal::of(fault)),
+    };
+    let at = match stretch_of(&image, place) {
+        Ok(at) => at,
+        Err(fault) => return refuse(out, Refusal::Place(fault)),
+    };
+    if !fits_there(&image, at, layout) {
+        return refuse(out, Refusal::NoTuples);
+    }
+    match import_blocks(store, &image, at, laid(layout), input, &mut room) {
+        Ok(count) => finish(out, imported_line(count).as_slice(), Status::Whole),
+        Err(fault) => refuse(out, halted(fault)),
+    }
+}
