@@ -1,1 +1,2 @@
 mod Xored
+mod Spans

@@ -17,7 +17,7 @@ named-anywhere : (line : FaultLine) (before after : List FaultLine) (at : Crossi
 named-anywhere line [] after at label i = refl
 named-anywhere line (b ∷ before) after at label i = rw (named-anywhere line before after at label i) (front-swap (named_by b at label i) (named_by line at label i) _)
 
-xored-same : (f g : ℕ → ℕ) (i : ℕ) (xs : List ℕ) → ((k : ℕ) → f k ≡ g k) → xored_from f i xs ≡ xored_from g i xs
+pub xored-same : (f g : ℕ → ℕ) (i : ℕ) (xs : List ℕ) → ((k : ℕ) → f k ≡ g k) → xored_from f i xs ≡ xored_from g i xs
 xored-same f g i [] same = refl
 xored-same f g i (x ∷ xs) same = rw (same i) (ap (λ t. bit_xor x (g i) ∷ t) (xored-same f g (i + 1) xs same))
 

@@ -1,2 +1,3 @@
 pub mod Altered
 pub mod AnyOrder
+pub mod Spans

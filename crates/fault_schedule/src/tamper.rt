@@ -2,23 +2,56 @@
 
 ghost use Rattle.std.specs.Prelude.{◌≡◌};
 ghost use Rattle.fault_schedule.specs.Altered.{altered, byte_at, is_line_of, named_by, shift_by, shift_of, xored_from};
+ghost use Rattle.fault_schedule.specs.Spans.{AreWithin, lines_of_op};
 
 use crate::{Crossing, FaultKind, FaultLine, FaultList, Label};
 use std::marker::Model;
+
+/// From which line of a schedule to which those of an op stand. Two bytes do, as a place past 255 counts as 255: behind a
+/// last line at 255 there may be more.
+#[derive(Clone, Copy)]
+struct Span {
+    first: u8,
+    last: u8,
+}
 
 /// The faults that act. A contract sees them as the list of their lines.
 #[derive(Drop)]
 pub struct Tamper {
     faults: FaultList,
+    // At the op's number modulo 1,024, so that a block is held against its own op's lines, and not against each line.
+    spans: [Span; 1024],
 }
 
 impl Model for Tamper {
     ghost use Rattle.std.specs.Prelude.{List};
     ghost use Rattle.fault_schedule.specs.declared.fault.FaultLine.{FaultLine};
+    ghost use Rattle.fault_schedule.specs.Spans.{AreWithin};
 
     ghost Value = { List FaultLine };
 
     ghost view = { λ t. t.faults };
+
+    ghost invariant = { λ t. AreWithin t.spans t.faults };
+}
+
+/// From which line to which those of each op stand.
+fn spans_of(lines: &[FaultLine]) -> [Span; 1024]
+    ensures { AreWithin result lines.now }
+{
+    let mut spans = [Span {
+        first: 255,
+        last: 0,
+    }; 1024];
+    for i in 0..lines.len() {
+        let place = (lines[i].op % 1024) as usize;
+        let at = i.min(255) as u8;
+        spans[place] = Span {
+            first: spans[place].first.min(at),
+            last: at,
+        };
+    }
+    spans
 }
 
 /// Xors the bytes into the block from byte `off` on, as far as the block reaches.
@@ -66,16 +99,32 @@ impl Tamper {
     pub fn new(faults: FaultList) -> Tamper
         ensures { result ≡ faults }
     {
-        Tamper { faults }
+        let spans = spans_of(faults.as_slice());
+        Tamper { faults, spans }
+    }
+
+    /// Some lines in a row, with all that name the op among them.
+    fn lines_of(&self, op: u32) -> &[FaultLine]
+        ensures { lines_of_op op result.now ≡ lines_of_op op self.now }
+    {
+        let span = self.spans[(op % 1024) as usize];
+        let lines = self.faults.as_slice();
+        let end = if span.last == 255 {
+            lines.len()
+        } else {
+            lines.len().min(span.last as usize + 1)
+        };
+        &lines[end.min(span.first as usize)..end]
     }
 
     /// Alters a block that crosses: each byte is xored with all bytes that flips of this label
     /// and crossing name for its place. What a flip names past the end of the block alters
-    /// nothing. The time is linear in the lines and their bytes.
+    /// nothing. The time is linear in the lines from the op's first to its last and their bytes.
+    /// For this, ops are told apart modulo 1,024, and the first 255 lines by their places.
     pub fn apply(&self, at: Crossing, label: Label, block: &mut [u8])
         ensures { block.new ≡ altered self.now at label block.old }
     {
-        for line in self.faults.as_slice() {
+        for line in self.lines_of(label.op) {
             line.apply(at, label, block);
         }
     }
@@ -85,7 +134,7 @@ impl Tamper {
     pub fn shift(&self, at: Crossing, op: u32) -> i64
         ensures { result ≡ shift_of self.now at op }
     {
-        for line in self.faults.as_slice() {
+        for line in self.lines_of(op) {
             if let Some(by) = line.shift(at, op) {
                 return by;
             }
