@@ -13,8 +13,8 @@ use crate::rig::PlainRig;
 use pi_tuple::PiType;
 use rig_api::Rig;
 use script_laws::a_read_script_keeps_the_rules;
-use script_stack::{Run, bound_volume, start_script};
-use script_text::{Script, read_script};
+use script_stack::{Run, start_script};
+use script_text::{Script, bind_script, read_script};
 use stack_core::Stack;
 use std::alloc::{AllocError, Global};
 use volume_table::{DeviceInfo, VolumeTable};
@@ -180,9 +180,12 @@ pub(crate) fn ended(alloc: Global, text: &[u8], words: Words) -> Result<Option<u
         return Ok(None);
     };
     let devices = devices();
-    let Ok(table) = bound_volume(alloc, &script, &devices) else {
+    let Ok(table) = VolumeTable::new(alloc, &script.entries, &devices, script.block) else {
         return Ok(None);
     };
+    if bind_script(&script, &table, &devices).is_err() {
+        return Ok(None);
+    }
     let stack = started(alloc, script, table, &devices)?;
     sent(alloc, stack, words)
 }

@@ -14,6 +14,7 @@ pub mod Inverse
 pub mod FormsGive
 pub mod Over
 pub mod Held
+pub mod Ranges
 pub mod Kept
 pub mod Keeping
 pub mod OverLines

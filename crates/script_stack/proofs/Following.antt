@@ -82,6 +82,10 @@ pub told-image : (st : Standing) (image : Option (List ℕ)) (us : List Stored) 
 told-image st None us e = absurd (none-some us e)
 told-image st (Some bytes) us e = refl
 
+-- the stored blocks after a call that changed neither image nor head
+pub units-through : (s s2 : Standing) (image image2 : Option (List ℕ)) (units units2 : Option (List Stored)) → units ≡ units_told s image → units2 ≡ units_told s2 image2 → s2 ≡ s → image2 ≡ image → units2 ≡ units
+units-through s s2 image image2 units units2 p q e f = q ∙ ap (λ (v : Standing). units_told v image2) e ∙ ap (units_told s) f ∙ sym p
+
 -- ---- the records behind some
 
 pub behind : (xs ys : List Entry) → drop (length xs) (xs ++ ys) ≡ ys

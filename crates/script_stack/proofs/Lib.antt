@@ -2,8 +2,6 @@ pub mod Shared
 pub mod Ready
 pub mod Reach
 pub mod Steps
-pub mod Finding
-pub mod Volumes
 pub mod Going
 pub mod Begins
 pub mod Runs

@@ -5,18 +5,17 @@ use Rattle.target_answer.specs.Target.{Stored}
 use Rattle.target_answer.specs.declared.units.UnitSpec.{UnitSpec}
 use Rattle.rig_api.specs.Log.{Entry}
 use Rattle.rig_api.specs.Telling.{Standing, spec_at, specs_of}
-use Rattle.rig_discovery.specs.Discovery.{HasFound, info_of}
+use Rattle.rig_discovery.specs.Discovery.{info_of}
 use Rattle.stack_ops.specs.declared.reply.Reply.{Reply}
 use Rattle.stack_ops.specs.declared.reply.Reply.TheVariants.{Silent}
 use Rattle.volume_table.specs.declared.device.DeviceInfo.{DeviceInfo}
 use Rattle.volume_table.specs.Faults.{device}
-use Rattle.volume_table.specs.Tables.{MadeFor, Table}
+use Rattle.volume_table.specs.Tables.{Table}
 use Rattle.dix_adapter.specs.Groups.{mode_of}
 use Rattle.dix_adapter.specs.Ways.{blocks_told, cell_in, shapes_of}
 use Rattle.block_path.specs.Acts.{State}
 use Rattle.block_path.specs.Routes.{target}
 use Rattle.script_text.specs.declared.script.Script.{Script}
-use Rattle.script_text.specs.Bindings.{binding_fault}
 use Rattle.whole_run.specs.ScriptWalk.{script_replies, script_walk}
 use Rattle.whole_run.specs.Settings.{Setting}
 use Rattle.run_record.specs.BackedRun.{Backed}
@@ -32,7 +31,6 @@ use Rattle.stack_core.specs.Walking.{EndsFallen, Walks, WalksFalling, WalksTold,
 use Rattle.stack_steps.specs.Does.{Holds}
 use Rattle.stack_view.specs.Steps.{enabled}
 use Rattle.stack_view.specs.View.{View}
-use Rattle.script_stack.specs.Causes.{table_of}
 use Rattle.script_stack.specs.Going.{Outside}
 use Rattle.script_stack.specs.Sends.{SendsFor, by_words}
 
@@ -107,22 +105,6 @@ BeginsFalling s t devices r = (fails : ℕ → Bool) (us : List Stored) (st : St
     → WalksFalling (setting_of s t (shapes_of us) fails) (4096 * s.pages) (begun_of s (shapes_of us) (blocks_told us)) (length log) r (Some us) s.faults st log
 
 -- ---- at the end
-
--- A script was run over a rig. Its devices were asked first; the records from then on back the replies, and are those that its steps send; lines that name the medium are at most as many as the count of faults rose since then. Where the rig tells its blocks, and no line names the medium, the script's ops were done one after another at the target; and whatever lines name it, so they were but for what the store calls that failed left.
-pub record Followed (s : Script) (before after : Outside) (r : Stack) : Type 0 where
-  pub devices : List DeviceInfo
-  pub asked : Outside
-  pub found : HasFound before.standing devices before.log asked.log
-  pub faults : before.faults ≤ asked.faults
-  pub made : MadeFor (table_of s devices) devices s.block
-  pub bound : binding_fault s (table_of s devices) devices ≡ None
-  pub more : List Entry
-  pub records : after.log ≡ asked.log ++ more
-  pub backed : IsBackedBy s (table_of s devices) devices more r.replies.items
-  pub sends : SendsFor s (table_of s devices) more r.replies.items
-  pub medium : RoseBy (medium_lines r.replies.items) asked.faults after.faults
-  pub told : (us : List Stored) → before.units ≡ Some us → medium_lines r.replies.items ≡ 0 → (left : List Stored) × ((after.units ≡ Some left) × HasWalked s (table_of s devices) us left r.pool more r.replies.items)
-  pub fallen : (us : List Stored) → before.units ≡ Some us → (left : List Stored) × ((after.units ≡ Some left) × HasFallen s (table_of s devices) us left r.pool more r.replies.items)
 
 -- A script was run by these words over a rig, to a volume of whose devices it was bound: all ops of its stack have ended. The rig stands as it did, and its count of faults didn't fall. The records from then on back the replies, and are those that its steps send by these words; lines that name the medium are at most as many as the count rose. Where the rig tells its blocks, and no line names the medium, the script's ops were done one after another at the target; and whatever lines name it, so they were but for what the store calls that failed left.
 pub record Ran (s : Script) (t : Table) (devices : List DeviceInfo) (words : List (ℕ × ℕ)) (before after : Outside) (r : Stack) : Type 0 where

@@ -1,7 +1,7 @@
 //! The steps of a stack, to the end.
 
-ghost use Rattle.std.specs.Prelude.{◌≡◌, ◌<◌, ◌≤◌, ◌+◌, ◌*◌, ℕ, List, [], is_some, length};
-ghost use Rattle.stack_view.specs.Runs.{Entry, most_steps};
+ghost use Rattle.std.specs.Prelude.{◌≡◌, ◌<◌, ◌≤◌, ◌*◌, ℕ, List, [], is_some, length};
+ghost use Rattle.stack_view.specs.Runs.{Entry};
 ghost use Rattle.stack_view.specs.Steps.{enabled};
 ghost use Rattle.stack_view.specs.View.{View};
 ghost use Rattle.stack_steps.specs.Does.{Holds};

@@ -1,34 +1,28 @@
 //! A script over an opened rig, to its end.
 
-ghost use Rattle.std.specs.Prelude.{ℕ, ◌≡◌, ◌+◌, ◌≤◌, [], IfErr, IfOk, None, OnErr, OnOk, is_some, length, map, true};
+ghost use Rattle.std.specs.Prelude.{ℕ, ◌≡◌, ◌+◌, ◌≤◌, IfOk, None, OnErr, OnOk, is_some, length, map, true};
 ghost use Rattle.rig_api.specs.Telling.{specs_of};
 ghost use Rattle.rig_discovery.specs.Discovery.{info_of};
 ghost use Rattle.volume_table.specs.Tables.{MadeFor};
 ghost use Rattle.page_pool.specs.Pages.{IsBlank};
 ghost use Rattle.dix_adapter.specs.Groups.{mode_of};
-ghost use Rattle.stack_view.specs.Steps.{enabled};
-ghost use Rattle.stack_view.specs.View.{View, start};
+ghost use Rattle.stack_view.specs.View.{start};
 ghost use Rattle.stack_steps.specs.Does.{Holds};
 ghost use Rattle.stack_walks.specs.Requests.{pages_from, requests_from};
 ghost use Rattle.stack_core.specs.Stacks.{HasSpare, IsStack, Reaches, plan_in};
 ghost use Rattle.script_text.specs.Bindings.{binding_fault};
-ghost use Rattle.script_laws.specs.Keeping.{Keeps};
 ghost use Rattle.script_ground.specs.SuitsStack.{SuitsStack};
 ghost use Rattle.stack_core.specs.Walking.{NoneFailed};
-ghost use Rattle.script_stack.specs.Causes.{CauseUnrun};
-ghost use Rattle.script_stack.specs.Followed.{BeginsTold, BeginsWalks, Followed, BeginsFalling, Ran, SizesAre};
+ghost use Rattle.script_stack.specs.Followed.{BeginsTold, BeginsWalks, BeginsFalling, Ran, SizesAre};
 ghost use Rattle.stack_core.specs.Mediums.{HasCounted};
 ghost use Rattle.script_stack.specs.Sends.{IsPlanFor};
 
-use crate::bound::{bound_volume, found_devices};
 use crate::laws::{
     a_script_run_is_backed, a_told_script_run_has_fallen, a_told_script_run_has_walked,
 };
 use crate::run::run_all;
 use crate::start::{Run, start_script};
-use crate::unready::Unready;
 use rig_api::Rig;
-use script_lines::WordList;
 use script_text::Script;
 use stack_core::{Stack, a_finished_stack_has_sent, a_finished_stack_names_the_medium_seldom};
 use std::alloc::{AllocError, Global};
@@ -123,35 +117,4 @@ pub fn run_bound<R: Rig>(
     a_told_script_run_has_fallen();
     a_finished_stack_names_the_medium_seldom();
     Ok(stack)
-}
-
-/// Runs a script over an opened rig, and answers its stack, all of whose ops have ended: asks each device what it is,
-/// binds the script to its volume, arms its faults, takes all the memory of the run, and does the steps.
-pub fn run_script<R: Rig>(alloc: Global, mut script: Script, rig: &mut R) -> Result<Stack, Unready>
-    requires keeps { Keeps script }
-    requires lines { length script.lines ≡ length script.faults + length script.ops }
-    ensures stack { IfOk result IsStack }
-    ensures ended { IfOk result (λ s. (v : View) → Holds (plan_in s.sheet) s.machine v → enabled (plan_in s.sheet) v ≡ []) }
-    ensures ops { IfOk result (λ s. s.sheet.ops ≡ script.ops) }
-    ensures mode { IfOk result (λ s. mode_of s.adapter ≡ script.mode) }
-    ensures faults { IfOk result (λ s. s.adapter.tamper ≡ script.faults) }
-    ensures tells { is_some (R.image rig.new) ≡ is_some (R.image rig.old) }
-    ensures followed { IfOk result (Followed script
-        (record { units = R.units rig.old; armed = R.armed rig.old; standing = R.standing rig.old; log = R.log rig.old; faults = R.faults rig.old })
-        (record { units = R.units rig.new; armed = R.armed rig.new; standing = R.standing rig.new; log = R.log rig.new; faults = R.faults rig.new })) }
-    ensures cause { IfErr result (λ u. CauseUnrun u script (R.standing rig.old) (R.log rig.old) (R.log rig.new)) }
-{
-    let devices = match found_devices(alloc, rig) {
-        Ok(devices) => devices,
-        Err(unready) => return Err(unready),
-    };
-    let table = match bound_volume(alloc, &script, &devices) {
-        Ok(table) => table,
-        Err(unready) => return Err(unready),
-    };
-    let schedule = std::mem::replace(&mut script.schedule, WordList::from_vec(Vec::new(alloc)));
-    match run_bound(alloc, script, table, &devices, schedule.as_slice(), rig) {
-        Ok(stack) => Ok(stack),
-        Err(_) => Err(Unready::Memory),
-    }
 }

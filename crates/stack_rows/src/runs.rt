@@ -7,14 +7,12 @@ use crate::image::Image;
 use crate::row::{Row, add_line};
 use dix_base::MemSink;
 use mirror_verdict::{print_mirrored, run_mirror};
-use report_text::{print_report, print_trace};
+use report_text::print_trace;
 use rig_api::Rig;
 use script_laws::a_read_script_keeps_the_rules;
-use script_stack::{Unready, run_script};
 use script_text::{Script, ScriptFault, read_script};
-use script_verdict::Refusal;
+use script_verdict::{Finished, Refusal, print_run, run_script};
 use scripted_rig::ScriptedRig;
-use stack_core::Stack;
 use std::alloc::{AllocError, Global};
 
 /// The most bytes of a report or a trace.
@@ -41,19 +39,9 @@ fn fault_text(alloc: Global, fault: ScriptFault) -> Result<Vec<u8>, AllocError> 
     Ok(bytes)
 }
 
-/// Why a script isn't run.
-fn unready_text(alloc: Global, unready: Unready) -> Result<Vec<u8>, AllocError> {
-    match unready {
-        Unready::Script(fault) => fault_text(alloc, fault),
-        Unready::Device(_) => Vec::from_slice(alloc, b"device\n"),
-        Unready::Volume(_) => Vec::from_slice(alloc, b"volume\n"),
-        Unready::Memory => Vec::from_slice(alloc, b"memory\n"),
-    }
-}
-
-fn report_of(alloc: Global, stack: &Stack) -> Result<Vec<u8>, AllocError> {
+fn report_of(alloc: Global, run: &Finished) -> Result<Vec<u8>, AllocError> {
     let mut sink = MemSink::new(alloc, ROOM, Vec::new(alloc))?;
-    let _ = print_report(&mut sink, stack.replies());
+    let _ = print_run(&mut sink, run);
     Vec::from_slice(alloc, sink.bytes().get(FRONT..).unwrap_or(&[]))
 }
 
@@ -63,7 +51,7 @@ fn trace_of<R: Rig>(alloc: Global, rig: &R) -> Result<Vec<u8>, AllocError> {
     Vec::from_slice(alloc, sink.bytes())
 }
 
-/// Why a script isn't run on a mirror.
+/// Why a script isn't run.
 fn refusal_text(alloc: Global, refusal: Refusal) -> Result<Vec<u8>, AllocError> {
     match refusal {
         Refusal::Script(fault) => fault_text(alloc, fault),
@@ -88,17 +76,17 @@ fn mirrored<R: Rig>(alloc: Global, script: Script, rig: &mut R) -> Result<Vec<u8
     Vec::from_slice(alloc, sink.bytes().get(FRONT..).unwrap_or(&[]))
 }
 
-/// What comes of a script over a rig that is opened.
+/// What comes of a script over a rig that isn't opened.
 fn ran<R: Rig>(alloc: Global, script: Script, rig: &mut R) -> Result<Vec<u8>, AllocError>
     requires { IsSound script }
 {
-    match run_script(alloc, script, rig) {
-        Ok(stack) => report_of(alloc, &stack),
-        Err(unready) => unready_text(alloc, unready),
+    match run_script(alloc, "a", script, rig) {
+        Ok(run) => report_of(alloc, &run),
+        Err(refusal) => refusal_text(alloc, refusal),
     }
 }
 
-/// What comes of a text over a rig, which is opened but for a mirror.
+/// What comes of a text over a rig that isn't opened.
 fn came_over<R: Rig>(
     alloc: Global,
     text: &[u8],
@@ -127,9 +115,6 @@ fn came_over<R: Rig>(
 /// What comes of a row over an image.
 pub(crate) fn came_of(alloc: Global, image: &Image, row: &Row) -> Result<Came, AllocError> {
     let mut rig = image.laid(alloc, &row.fails)?;
-    if !row.is_mirror {
-        let _ = rig.open(alloc, "a");
-    }
     if row.rules.is_empty() {
         return came_over(alloc, &row.script, row.is_mirror, &mut rig);
     }

@@ -1,4 +1,4 @@
-use Rattle.script_rows.proofs.Ranges.{all_in_range}
+use Rattle.script_laws.proofs.Ranges.{all_in_range}
 use Rattle.script_rows.proofs.binding.volume.Goals as goal
 
 pub new-requires-clause-count : goal.new-requires-clause-count

@@ -10,7 +10,7 @@ use Rattle.stack_core.specs.declared.sheet.Sheet.{Sheet}
 use Rattle.script_stack.specs.Followed.{SizesAre}
 use Rattle.script_stack.specs.Going.{Outside}
 use Rattle.script_stack.proofs.Ended.{IsOver, backed_by, fallen_at, few_lines, sent_by, walked_at}
-use Rattle.script_stack.proofs.Finding.{units-through}
+use Rattle.script_stack.proofs.Following.{units-through}
 use Rattle.script_stack.proofs.whole.run_bound.Goals as goal
 
 pub returns-clause-ran : goal.returns-clause-ran

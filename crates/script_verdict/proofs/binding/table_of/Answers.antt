@@ -1,4 +1,5 @@
-use Rattle.script_verdict.proofs.Tables.{all_end, all_in_range}
+use Rattle.script_laws.proofs.Ranges.{all_in_range}
+use Rattle.script_verdict.proofs.Tables.{all_end}
 use Rattle.script_verdict.proofs.binding.table_of.Goals as goal
 
 pub new-requires-clause-count : goal.new-requires-clause-count

@@ -1,11 +1,10 @@
+-- The entries of a script are in the ranges of a table's.
 use Rattle.std.proofs.Common.{All, List, [], ◌∷◌}
 use Rattle.std.proofs.lemmas.List.Elements.{All-cons, All-nil}
-use Rattle.script_laws.specs.Keeping.{Each, IsEntry}
-use Rattle.volume_table.specs.Entries.{IsInRange}
 use Rattle.volume_table.specs.declared.entry.Entry.{Entry}
 use Rattle.volume_table.specs.declared.entry.Entry.TheVariants.{Linear, Stripe}
-
--- The entries of a script are in the ranges of a table's.
+use Rattle.volume_table.specs.Entries.{IsInRange}
+use Rattle.script_laws.specs.Keeping.{Each, IsEntry}
 
 in_range : (e : Entry) → IsEntry e → IsInRange e
 in_range (Linear e) h = (h.1.low_is, h.1.high_is)
