@@ -28,6 +28,7 @@ use Rattle.script_ground.specs.Bound.{IsAddress}
 use Rattle.script_ground.proofs.Places.{place-there}
 use Rattle.script_text.specs.Generator.{after_op, big_entries, drawn, next_state, op_from, ops_from, page_start}
 use Rattle.std.specs.List.{list_any}
+use Rattle.std.proofs.lemmas.Bool.{or_from}
 use Rattle.whole_run.specs.PlainMap.{Plain, as_expected, finds_plainly, plain_answer, plain_replies_from, plain_step}
 use Rattle.whole_run.specs.ScriptWalk.{bad_from, reply_of, whole_or_bad}
 use Rattle.whole_run.specs.Settings.{Setting, block_of}
@@ -104,14 +105,10 @@ op_kept false true c n v page byte tag = refl
 op_kept false false true n v page byte tag = refl
 op_kept false false false n v page byte tag = refl
 
-neither : (a b : Bool) → a ≡ false → b ≡ false → a || b ≡ false
-neither false b g h = h
-neither true b g h = g
-
 pub none_overwrites : (n x : ℕ) → list_any is_overwrite (ops_from n x) ≡ false
 none_overwrites zero x = refl
 none_overwrites (suc n) x =
-    neither (is_overwrite (op_from x)) (list_any is_overwrite (ops_from n (after_op x)))
+    or_from (is_overwrite (op_from x)) (list_any is_overwrite (ops_from n (after_op x)))
     (op_kept (eqb (drawn 4 (next_state x)) 0) (eqb (drawn 4 (next_state x)) 1) (eqb (drawn 4 (next_state x)) 2) _ _ _ _ _) (none_overwrites n (after_op x))
 
 module _ (site : Site) (fails : ℕ → Bool) where

@@ -1,10 +1,11 @@
 use Rattle.std.proofs.Common.{◌≡◌, ℕ, false, ◌||◌, List, [], Option, None, sym, ap, ◌∙◌}
+use Rattle.std.proofs.lemmas.Bool.{or_from, or_parts}
 use Rattle.bio_core.specs.declared.fate.Why.{Why}
 use Rattle.page_pool.specs.Cells.{scatter, share_a_cell}
 use Rattle.range_gate.specs.Cells.{cells_clash}
 use Rattle.block_path.specs.Acts.{State, Act, seen, effect, act, tell, conflict}
 use Rattle.block_path.specs.Serial.{Commutes}
-use Rattle.block_path.proofs.Cells.{Apart, both, clash_back, gather_past, neither, no_clash, scatter_past}
+use Rattle.block_path.proofs.Cells.{Apart, clash_back, gather_past, no_clash, scatter_past}
 
 -- Acts without conflict commute.
 
@@ -16,9 +17,9 @@ pub record AllApart {R : Type 0} (a b : Act R) : Type 0 where
 
 pub apart : {R : Type 0} (a b : Act R) → conflict a b ≡ false → AllApart a b
 apart a b h =
-    let p = both (cells_clash a.bytes b.bytes) (cells_clash a.blocks b.blocks || (cells_clash a.logs b.logs || cells_clash a.fates b.fates)) h in
-    let q = both (cells_clash a.blocks b.blocks) (cells_clash a.logs b.logs || cells_clash a.fates b.fates) p.1 in
-    let r = both (cells_clash a.logs b.logs) (cells_clash a.fates b.fates) q.1 in
+    let p = or_parts (cells_clash a.bytes b.bytes) (cells_clash a.blocks b.blocks || (cells_clash a.logs b.logs || cells_clash a.fates b.fates)) h in
+    let q = or_parts (cells_clash a.blocks b.blocks) (cells_clash a.logs b.logs || cells_clash a.fates b.fates) p.1 in
+    let r = or_parts (cells_clash a.logs b.logs) (cells_clash a.fates b.fates) q.1 in
     record { bytes = no_clash a.bytes b.bytes p.0; blocks = no_clash a.blocks b.blocks q.0; logs = no_clash a.logs b.logs r.0; fates = no_clash a.fates b.fates r.1 }
 
 pub same_cells : (bytes bytes' : List ℕ) (blocks blocks' : List (List ℕ)) (logs logs' : List (List (List ℕ))) (fates fates' : List (Option Why)) → bytes ≡ bytes' → blocks ≡ blocks' → logs ≡ logs' → fates ≡ fates' →
@@ -68,9 +69,9 @@ commutes = record {
 -- a conflict is one both ways
 pub no_conflict_back : {R : Type 0} (a b : Act R) → conflict a b ≡ false → conflict b a ≡ false
 no_conflict_back a b h =
-    let p = both (cells_clash a.bytes b.bytes) (cells_clash a.blocks b.blocks || (cells_clash a.logs b.logs || cells_clash a.fates b.fates)) h in
-    let q = both (cells_clash a.blocks b.blocks) (cells_clash a.logs b.logs || cells_clash a.fates b.fates) p.1 in
-    let r = both (cells_clash a.logs b.logs) (cells_clash a.fates b.fates) q.1 in
-    neither (cells_clash b.bytes a.bytes) (cells_clash b.blocks a.blocks || (cells_clash b.logs a.logs || cells_clash b.fates a.fates)) (clash_back a.bytes b.bytes p.0)
-    (neither (cells_clash b.blocks a.blocks) (cells_clash b.logs a.logs || cells_clash b.fates a.fates) (clash_back a.blocks b.blocks q.0)
-    (neither (cells_clash b.logs a.logs) (cells_clash b.fates a.fates) (clash_back a.logs b.logs r.0) (clash_back a.fates b.fates r.1)))
+    let p = or_parts (cells_clash a.bytes b.bytes) (cells_clash a.blocks b.blocks || (cells_clash a.logs b.logs || cells_clash a.fates b.fates)) h in
+    let q = or_parts (cells_clash a.blocks b.blocks) (cells_clash a.logs b.logs || cells_clash a.fates b.fates) p.1 in
+    let r = or_parts (cells_clash a.logs b.logs) (cells_clash a.fates b.fates) q.1 in
+    or_from (cells_clash b.bytes a.bytes) (cells_clash b.blocks a.blocks || (cells_clash b.logs a.logs || cells_clash b.fates a.fates)) (clash_back a.bytes b.bytes p.0)
+    (or_from (cells_clash b.blocks a.blocks) (cells_clash b.logs a.logs || cells_clash b.fates a.fates) (clash_back a.blocks b.blocks q.0)
+    (or_from (cells_clash b.logs a.logs) (cells_clash b.fates a.fates) (clash_back a.logs b.logs r.0) (clash_back a.fates b.fates r.1)))

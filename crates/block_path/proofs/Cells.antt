@@ -2,31 +2,23 @@ use Rattle.std.proofs.Common.{◌≡◌, ◌<◌, ◌≤◌, ℕ, suc, Bool, fal
 use Rattle.std.specs.Prelude.{nat_eq}
 use Rattle.std.specs.List.{All, AllByRecursion, IsDistinct}
 use Rattle.std.proofs.lemmas.List.{get_or-set_other, get_or-set_same, set_comm, set-set, length-set}
-use Rattle.std.proofs.lemmas.Bool.{eqb-false, eq-eqb, eqb-true}
+use Rattle.std.proofs.lemmas.Bool.{eqb-false, eq-eqb, eqb-true, or_from, or_parts, or_right}
 use Rattle.page_pool.specs.Cells.{gather, scatter, is_in, share_a_cell}
 use Rattle.range_gate.specs.Cells.{Cells, cells_clash}
 
 -- Reading and setting cells that lie apart.
 
-pub both : (p q : Bool) → (p || q) ≡ false → (p ≡ false) × (q ≡ false)
-both false q h = (refl, h)
-both true q h = (h, grind (arith, h))
-
-pub neither : (p q : Bool) → p ≡ false → q ≡ false → (p || q) ≡ false
-neither false q h k = k
-neither true q h k = grind (arith, h)
-
 pub get_past : {X : Type 0} (i : ℕ) (none : X) (at : List ℕ) (values cells : List X) → is_in i at ≡ false → get_or (scatter at values cells) i none ≡ get_or cells i none
 get_past i none [] values cells h = refl
 get_past i none (j ∷ at) [] cells h = refl
 get_past i none (j ∷ at) (v ∷ values) cells h =
-    let k = both (eqb i j) (is_in i at) h in
+    let k = or_parts (eqb i j) (is_in i at) h in
     get_past i none at values (set cells j v) k.1 ∙ get_or-set_other cells j i v none (eqb-false i j k.0)
 
 pub gather_past : {X : Type 0} (none : X) (from at : List ℕ) (values cells : List X) → share_a_cell from at ≡ false → gather none from (scatter at values cells) ≡ gather none from cells
 gather_past none [] at values cells h = refl
 gather_past none (i ∷ from) at values cells h =
-    let k = both (is_in i at) (share_a_cell from at) h in
+    let k = or_parts (is_in i at) (share_a_cell from at) h in
     let first = get_past i none at values cells k.0 in
     let rest = gather_past none from at values cells k.1 in
     cc
@@ -35,14 +27,14 @@ set_past : {X : Type 0} (i : ℕ) (u : X) (at : List ℕ) (values cells : List X
 set_past i u [] values cells h = refl
 set_past i u (j ∷ at) [] cells h = refl
 set_past i u (j ∷ at) (v ∷ values) cells h =
-    let k = both (eqb i j) (is_in i at) h in
+    let k = or_parts (eqb i j) (is_in i at) h in
     set_past i u at values (set cells j v) k.1 ∙ ap (scatter at values) (sym (set_comm cells i j u v (eqb-false i j k.0)))
 
 pub scatter_past : {X : Type 0} (to at : List ℕ) (us values cells : List X) → share_a_cell to at ≡ false → scatter to us (scatter at values cells) ≡ scatter at values (scatter to us cells)
 scatter_past [] at us values cells h = refl
 scatter_past (i ∷ to) at [] values cells h = refl
 scatter_past (i ∷ to) at (u ∷ us) values cells h =
-    let k = both (is_in i at) (share_a_cell to at) h in
+    let k = or_parts (is_in i at) (share_a_cell to at) h in
     ap (scatter to us) (set_past i u at values cells k.0) ∙ scatter_past to at us values (set cells i u) k.1
 
 -- what the cells of two acts that don't clash don't share
@@ -53,35 +45,31 @@ pub record Apart (f g : Cells) : Type 0 where
 
 pub no_clash : (f g : Cells) → cells_clash f g ≡ false → Apart f g
 no_clash f g h =
-    let p = both (share_a_cell f.reads g.writes) (share_a_cell g.reads f.writes || share_a_cell f.writes g.writes) h in
-    let q = both (share_a_cell g.reads f.writes) (share_a_cell f.writes g.writes) p.1 in
+    let p = or_parts (share_a_cell f.reads g.writes) (share_a_cell g.reads f.writes || share_a_cell f.writes g.writes) h in
+    let q = or_parts (share_a_cell g.reads f.writes) (share_a_cell f.writes g.writes) p.1 in
     record { one = p.0; other = q.0; writes = q.1 }
 
 no_true : (p : Bool) → (p ≡ true → false ≡ true) → p ≡ false
 no_true false h = refl
 no_true true h = sym (h refl)
 
-head_or_tail : (c q r : Bool) → (c ≡ true → r ≡ false) → (q ≡ true → r ≡ false) → (c || q) ≡ true → r ≡ false
+pub head_or_tail : (c q r : Bool) → (c ≡ true → r ≡ false) → (q ≡ true → r ≡ false) → (c || q) ≡ true → r ≡ false
 head_or_tail true q r h k e = h refl
 head_or_tail false q r h k e = k e
 
 -- what is in one isn't in the other
-apart_at : (xs ys : List ℕ) (i : ℕ) → share_a_cell xs ys ≡ false → is_in i xs ≡ true → is_in i ys ≡ false
+pub apart_at : (xs ys : List ℕ) (i : ℕ) → share_a_cell xs ys ≡ false → is_in i xs ≡ true → is_in i ys ≡ false
 apart_at [] ys i h k = grind (arith, k)
 apart_at (x ∷ xs) ys i h k =
-    let p = both (is_in x ys) (share_a_cell xs ys) h in
+    let p = or_parts (is_in x ys) (share_a_cell xs ys) h in
     head_or_tail (eqb i x) (is_in i xs) (is_in i ys) (λ e. rw (eqb-true i x e) p.0) (apart_at xs ys i p.1) k
 
-either : (c q : Bool) → q ≡ true → (c || q) ≡ true
-either true q e = refl
-either false q e = e
-
-in_head : (x : ℕ) (xs : List ℕ) → is_in x (x ∷ xs) ≡ true
+pub in_head : (x : ℕ) (xs : List ℕ) → is_in x (x ∷ xs) ≡ true
 in_head x xs = let e : eqb x x ≡ true = eq-eqb x x refl in rw e refl
 
-share_by : (xs ys : List ℕ) → ((i : ℕ) → is_in i xs ≡ true → is_in i ys ≡ false) → share_a_cell xs ys ≡ false
+pub share_by : (xs ys : List ℕ) → ((i : ℕ) → is_in i xs ≡ true → is_in i ys ≡ false) → share_a_cell xs ys ≡ false
 share_by [] ys h = refl
-share_by (x ∷ xs) ys h = neither (is_in x ys) (share_a_cell xs ys) (h x (in_head x xs)) (share_by xs ys (λ i e. h i (either (eqb i x) (is_in i xs) e)))
+share_by (x ∷ xs) ys h = or_from (is_in x ys) (share_a_cell xs ys) (h x (in_head x xs)) (share_by xs ys (λ i e. h i (or_right (eqb i x) (is_in i xs) e)))
 
 pub share_back : (xs ys : List ℕ) → share_a_cell xs ys ≡ false → share_a_cell ys xs ≡ false
 share_back xs ys h = share_by ys xs (λ i e. no_true (is_in i xs) (λ k. sym (apart_at xs ys i h k) ∙ e))
@@ -89,8 +77,8 @@ share_back xs ys h = share_by ys xs (λ i e. no_true (is_in i xs) (λ k. sym (ap
 pub clash_back : (f g : Cells) → cells_clash f g ≡ false → cells_clash g f ≡ false
 clash_back f g h =
     let k = no_clash f g h in
-    neither (share_a_cell g.reads f.writes) (share_a_cell f.reads g.writes || share_a_cell g.writes f.writes) k.other
-    (neither (share_a_cell f.reads g.writes) (share_a_cell g.writes f.writes) k.one (share_back f.writes g.writes k.writes))
+    or_from (share_a_cell g.reads f.writes) (share_a_cell f.reads g.writes || share_a_cell g.writes f.writes) k.other
+    (or_from (share_a_cell f.reads g.writes) (share_a_cell g.writes f.writes) k.one (share_back f.writes g.writes k.writes))
 
 -- no value, no write
 pub scatter_none : {X : Type 0} (at : List ℕ) (cells : List X) → scatter at [] cells ≡ cells
@@ -117,7 +105,7 @@ Distinct (i ∷ is) = (is_in i is ≡ false) × Distinct is
 
 not_in : (i : ℕ) (is : List ℕ) → AllByRecursion (λ j. nat_eq i j ≡ false) is → is_in i is ≡ false
 not_in i [] h = refl
-not_in i (j ∷ is) h = neither (eqb i j) (is_in i is) h.0 (not_in i is h.1)
+not_in i (j ∷ is) h = or_from (eqb i j) (is_in i is) h.0 (not_in i is h.1)
 
 pub distinct : (is : List ℕ) → IsDistinct nat_eq is → Distinct is
 unfolding IsDistinct

@@ -22,7 +22,7 @@ use Rattle.block_path.proofs.Sizes.{tuple_length}
 
 -- One write of many tuples is a write of each in turn.
 
-plain_append : {S A : Type 0} (act : A → S → S) (xs ys : List A) (s : S) → plain act (xs ++ ys) s ≡ plain act ys (plain act xs s)
+pub plain_append : {S A : Type 0} (act : A → S → S) (xs ys : List A) (s : S) → plain act (xs ++ ys) s ≡ plain act ys (plain act xs s)
 plain_append act [] ys s = refl
 plain_append act (x ∷ xs) ys s = plain_append act xs ys (act x s)
 

@@ -1,4 +1,4 @@
-use Rattle.std.proofs.Common.{◌≡◌, ℕ, suc, ◌+◌, Bool, true, false, not, ◌&&◌, eqb, if◌then◌else◌, List, [], ◌∷◌, ◌++◌, length, take, drop, Option, Some, None, refl, sym, ap, ◌∙◌, arith}
+use Rattle.std.proofs.Common.{◌≡◌, ℕ, ◌+◌, Bool, true, false, not, ◌&&◌, eqb, if◌then◌else◌, List, ◌∷◌, ◌++◌, length, take, drop, Option, Some, None, refl, sym, ◌∙◌, arith}
 use Rattle.std.specs.Prelude.{IfOk, Result, Ok, Err}
 use Rattle.std.specs.Int.{w16, w32, from_be_bytes, to_be_bytes}
 use Rattle.std.proofs.lemmas.List.{length-append, length-drop, length-take-le}
@@ -10,11 +10,12 @@ use Rattle.pi_tuple.specs.Tuples.{ref_tag}
 use Rattle.pi_tuple.specs.declared.checks.PiType.{PiType}
 use Rattle.pi_tuple.specs.declared.checks.PiType.TheVariants.{Zero, One, Two, Three}
 use Rattle.pi_tuple.specs.declared.checks.Check.{Check}
-use Rattle.fault_schedule.specs.Altered.{altered, named, xored_from}
+use Rattle.fault_schedule.specs.Altered.{altered, named}
 use Rattle.fault_schedule.specs.declared.Label.{Label}
 use Rattle.fault_schedule.specs.declared.fault.Crossing.{Crossing}
 use Rattle.fault_schedule.specs.declared.fault.Crossing.TheVariants.{AdapterToHost, HostToAdapter}
 use Rattle.fault_schedule.specs.declared.fault.FaultLine.{FaultLine}
+use Rattle.fault_schedule.proofs.Xored.{length-xored}
 use Rattle.ref_remap.specs.Remapped.{remapped_bytes}
 use Rattle.bio_core.specs.declared.fate.Why.{Why}
 use Rattle.target_answer.specs.Passing.{then_crossed, unless, with_own_tuple}
@@ -26,12 +27,8 @@ use Rattle.block_path.specs.WayOut.{adapter_finds_out, mapped_out, sent, sent_by
 
 -- The sizes of frames on their ways.
 
-xored_length : (name : ℕ → ℕ) (i : ℕ) (xs : List ℕ) → length (xored_from name i xs) ≡ length xs
-xored_length name i [] = refl
-xored_length name i (x ∷ xs) = ap suc (xored_length name (i + 1) xs)
-
 pub altered_length : (faults : List FaultLine) (at : Crossing) (label : Label) (frame : List ℕ) → length (altered faults at label frame) ≡ length frame
-altered_length faults at label frame = xored_length (named faults at label) 0 frame
+altered_length faults at label frame = length-xored (named faults at label) 0 frame
 
 -- of a frame with its tuple
 guard_length : (size guard : ℕ) (frame : List ℕ) → length frame ≡ size + 8 → length (with_guard size guard frame) ≡ size + 8
@@ -60,7 +57,7 @@ made_length One lba size bytes h l = eight_more bytes _ size l refl
 made_length Two lba size bytes h l = eight_more bytes _ size l refl
 made_length Three lba size bytes h l = eight_more bytes _ size l refl
 
-is_protected : (dif none : Bool) → (dif && not none) ≡ true → none ≡ false
+pub is_protected : (dif none : Bool) → (dif && not none) ≡ true → none ≡ false
 is_protected true false h = refl
 is_protected true true h = absurd (cc)
 is_protected false none h = absurd (cc)
@@ -81,7 +78,7 @@ received_length r frame = by r.mode.dix (passes_tuples r) where
   by false true l = front_length r.size frame l
   by false false l = l
 
-unless_length : (found : Option Check) (frame : List ℕ) (n : ℕ) → length frame ≡ n → IfOk (unless found frame) (λ f. length f ≡ n)
+pub unless_length : (found : Option Check) (frame : List ℕ) (n : ℕ) → length frame ≡ n → IfOk (unless found frame) (λ f. length f ≡ n)
 unless_length None frame n l = l
 unless_length (Some check) frame n l = tt
 
@@ -100,7 +97,7 @@ unfolding from_wire
 in_size faults r frame l =
     crossed_length faults r.label (unless (adapter_finds_in r frame) (received r frame)) (host_size r) (unless_length (adapter_finds_in r frame) (received r frame) (host_size r) (received_length r frame l))
 
-tag_length : (c : Bool) (tag : List ℕ) (n : ℕ) → length tag ≡ 4 → length (if c then to_be_bytes w32 n else tag) ≡ 4
+pub tag_length : (c : Bool) (tag : List ℕ) (n : ℕ) → length tag ≡ 4 → length (if c then to_be_bytes w32 n else tag) ≡ 4
 tag_length true tag n l = refl
 tag_length false tag n l = l
 

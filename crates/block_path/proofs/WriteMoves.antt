@@ -19,6 +19,7 @@ use Rattle.block_path.specs.WayOut.{Fails, Refuses, Stores, WayOut, goes_out, ma
 use Rattle.block_path.proofs.Acts.{same_cells}
 use Rattle.block_path.proofs.Behind.{AllFrom, from, scatter_behind}
 use Rattle.block_path.proofs.Cells.{below, distinct, gather_append, gather_back, gather_length, gather_past, scatter_twice}
+use Rattle.block_path.proofs.Sizes.{tag_length}
 
 -- A write's maps and its carry are its act.
 
@@ -27,7 +28,7 @@ drop_over [] ys m n e = ap (λ k. drop k ys) (omega (arith, e))
 drop_over (x ∷ xs) ys zero n e = absurd (omega (arith, e))
 drop_over (x ∷ xs) ys (suc m) n e = drop_over xs ys m n (omega (arith, e))
 
-take_over : {X : Type 0} (xs ys : List X) (m : ℕ) → m ≡ length xs → take m (xs ++ ys) ≡ xs
+pub take_over : {X : Type 0} (xs ys : List X) (m : ℕ) → m ≡ length xs → take m (xs ++ ys) ≡ xs
 take_over [] ys m e = rw e refl
 take_over (x ∷ xs) ys zero e = absurd (omega (arith, e))
 take_over (x ∷ xs) ys (suc m) e = ap (λ rest. x ∷ rest) (take_over xs ys m (omega (arith, e)))
@@ -57,19 +58,15 @@ round_trip r tuple l =
 eight : (tuple tag : List ℕ) → length tuple ≡ 8 → length tag ≡ 4 → length (take 4 tuple ++ tag) ≡ 8
 eight tuple tag l k = let a = length-append (take 4 tuple) tag in let b = length-take-le 4 tuple (omega (arith, l)) in omega (arith, a, b, k)
 
-chosen_length : (c : Bool) (tag : List ℕ) (n : ℕ) → length tag ≡ 4 → length (if c then to_be_bytes w32 n else tag) ≡ 4
-chosen_length true tag n l = refl
-chosen_length false tag n l = l
-
 out_length : (r : Route) (tuple : List ℕ) → length tuple ≡ 8 → length (remapped_bytes (host_type r.ty) r.virt r.lba tuple) ≡ 8
 out_length r tuple l =
     eight tuple (remapped_tag (host_type r.ty) r.virt r.lba (drop 4 tuple)) l
-    (chosen_length (has_ref_tag (host_type r.ty) && eqb (from_be_bytes w32 (drop 4 tuple)) (ref_tag r.virt)) (drop 4 tuple) (ref_tag r.lba) (let d = length-drop 4 tuple in omega (arith, d, l)))
+    (tag_length (has_ref_tag (host_type r.ty) && eqb (from_be_bytes w32 (drop 4 tuple)) (ref_tag r.virt)) (drop 4 tuple) (ref_tag r.lba) (let d = length-drop 4 tuple in omega (arith, d, l)))
 
 after_length : (r : Route) (tuple : List ℕ) → length tuple ≡ 8 → length (tuple_after r tuple) ≡ 8
 after_length r tuple l =
     eight tuple (tag_after r (drop 4 tuple)) l
-    (chosen_length (has_ref_tag (host_type r.ty) && (eqb (from_be_bytes w32 (drop 4 tuple)) (ref_tag r.virt) || eqb (from_be_bytes w32 (drop 4 tuple)) (ref_tag r.lba))) (drop 4 tuple) (ref_tag r.virt)
+    (tag_length (has_ref_tag (host_type r.ty) && (eqb (from_be_bytes w32 (drop 4 tuple)) (ref_tag r.virt) || eqb (from_be_bytes w32 (drop 4 tuple)) (ref_tag r.lba))) (drop 4 tuple) (ref_tag r.virt)
     (let d = length-drop 4 tuple in omega (arith, d, l)))
 
 -- what a way leaves besides the tuple doesn't depend on what becomes of the tuple

@@ -5,6 +5,7 @@ use Rattle.std.proofs.Math.Nat.{mul-le-mul_left, mul-le-mul_right}
 use Rattle.pi_tuple.specs.Finds.{is_zero}
 use Rattle.bio_core.specs.Bios.{block_size}
 use Rattle.std.proofs.lemmas.List.{append-nil, map-append}
+use Rattle.std.proofs.lemmas.Bool.{or_parts}
 use Rattle.page_pool.proofs.Ranges.{take-sum}
 use Rattle.pi_tuple.specs.declared.checks.Check.{Check}
 use Rattle.target_answer.specs.Frames.{joined}
@@ -25,10 +26,6 @@ any-append (Err c ∷ xs) ys = refl
 pub joined-append : (xs ys : List (List ℕ)) → joined (xs ++ ys) ≡ joined xs ++ joined ys
 joined-append [] ys = refl
 joined-append (x ∷ xs) ys = ap (λ z. x ++ z) (joined-append xs ys) ∙ sym (append_assoc x (joined xs) (joined ys))
-
-pub or-false : (a b : Bool) → (a || b) ≡ false → (a ≡ false) × (b ≡ false)
-or-false true b e = absurd (let x : true ≡ false = e in cc)
-or-false false b e = (refl, e)
 
 -- a good block's frame is what was gathered
 good-frame : (found : Option Check) (frame : List ℕ) (r : Result (List ℕ) Check) → unless found frame ≡ r → is_bad r ≡ false → frame ≡ frame_sent r
@@ -56,8 +53,8 @@ gathers-more a io b cells i from at old now new found g e f j =
 
     frames : any_bad (sends_first a io b cells (suc i)) ≡ false → take (from + suc i * wire_size (route_by a io b 0)) new ≡ take from old ++ joined (map frame_sent (sends_first a io b cells (suc i)))
     frames n =
-        let q = or-false (any_bad (sends_first a io b cells i)) (any_bad (sends_by a io b cells i ∷ [])) (sym (any-append (sends_first a io b cells i) (sends_by a io b cells i ∷ [])) ∙ n) in
-        let k = or-false (is_bad (sends_by a io b cells i)) false q.1 in
+        let q = or_parts (any_bad (sends_first a io b cells i)) (any_bad (sends_by a io b cells i ∷ [])) (sym (any-append (sends_first a io b cells i) (sends_by a io b cells i ∷ [])) ∙ n) in
+        let k = or_parts (is_bad (sends_by a io b cells i)) false q.1 in
         let y : from + suc i * wire_size (route_by a io b 0) ≡ at + wire_size (route_by a io b i) = omega arith in
         ap (λ m. take m new) y ∙ take-sum at (wire_size (route_by a io b i)) new
         ∙ ap (λ z. z ++ take (wire_size (route_by a io b i)) (drop at new)) (f ∙ ap (λ m. take m now) e ∙ g.frames q.0)

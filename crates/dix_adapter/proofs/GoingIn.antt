@@ -2,7 +2,7 @@
 use Rattle.std.proofs.Common.{◌≡◌, ◌<◌, ◌≤◌, ℕ, zero, suc, ◌+◌, ◌-◌, Bool, true, false, not, ◌&&◌, eqb, ltb, List, [], ◌∷◌, ◌++◌, length, take, get_or, set, replicate, refl, ap, sym, ◌∙◌, arith, inl, inr, ⊎_elim, Option, Some, None}
 use Rattle.std.specs.Prelude.{if◌then◌else◌, IfOk, Result, Ok, Err}
 use Rattle.std.proofs.lemmas.Bool.{cases_Bool}
-use Rattle.std.proofs.lemmas.List.{length-take-le}
+use Rattle.std.proofs.lemmas.List.{length-take-le, set_past}
 use Rattle.page_pool.specs.Cells.{gather, scatter}
 use Rattle.pi_tuple.specs.Finds.{is_zero}
 use Rattle.pi_tuple.specs.declared.checks.PiType.{PiType}
@@ -28,7 +28,7 @@ use Rattle.block_path.specs.Routes.{by_target, passage}
 use Rattle.block_path.specs.Serial.{plain}
 use Rattle.block_path.specs.WayIn.{Stops, WayIn, at_host, comes_in, from_device, from_wire}
 use Rattle.block_path.specs.declared.route.Route.{Route}
-use Rattle.block_path.proofs.Sizes.{altered_length}
+use Rattle.block_path.proofs.Sizes.{altered_length, is_protected}
 use Rattle.dix_adapter.specs.declared.adapter.Adapter.{Adapter}
 use Rattle.dix_adapter.specs.Carried.{arrives, carried, fates_in, land, landed}
 use Rattle.dix_adapter.specs.Groups.{IsProtect, frame_cells, label_of, request_of, route_of}
@@ -128,11 +128,6 @@ set-fates a ios s (suc i) (b ∷ bs) (Ok f ∷ js) w h l e =
     ∙ ap (λ z. carried (arrives a ios b f) ∷ z) (set-fates a ios s i bs js w (omega arith) (omega arith) (omega arith))
     ∙ ap (λ z. carried (arrives a ios b f) ∷ (fates_in a ios bs (take i (passed js)) ++ z)) (sym (rest-shift (length js) (record { done = i; sense = s }) (record { done = suc i; sense = s }) refl refl))
 
-set-past : {X : Type 0} (xs : List X) (i : ℕ) (x : X) → length xs ≤ i → set xs i x ≡ xs
-set-past [] i x h = refl
-set-past (y ∷ xs) zero x h = absurd (omega arith)
-set-past (y ∷ xs) (suc i) x h = ap (λ z. y ∷ z) (set-past xs i x (omega arith))
-
 -- how the command ends
 pub record EndsIn (a : Adapter) (ios : List Io) (stop : Option Stop) (lba : ℕ) (bs : List Block) (js : List (Result (List ℕ) Check)) : Type 0 where
   pub frames : frames_in (stopped_in stop (ways_from a ios bs js)) ≡ (read_end lba js stop).frames
@@ -162,7 +157,7 @@ ends-in a ios (Some s) lba bs js e =
     }))
     (λ (u : ltb s.at (length js) ≡ false).
     (let h : length js ≤ s.at = grind arith in
-    let p = set-past (ways_from a ios bs js) s.at (Stops Medium) (let x = ways-long a ios bs js e in omega arith) in
+    let p = set_past (ways_from a ios bs js) s.at (Stops Medium) (let x = ways-long a ios bs js e in omega arith) in
     record {
       frames = rw (n, t, u) (ap frames_in p ∙ frames-from a ios bs js e);
       part = rw (t, u) (take-whole (passed js));
@@ -181,7 +176,7 @@ ends-in a ios (Some s) lba bs js e =
 
 -- ---- what lands
 
-scatter-none : (at cells : List ℕ) → scatter at [] cells ≡ cells
+pub scatter-none : (at cells : List ℕ) → scatter at [] cells ≡ cells
 scatter-none [] cells = refl
 scatter-none (i ∷ at) cells = refl
 
@@ -252,16 +247,11 @@ front-long ty size f false frame p z l = length-take-le size frame (let x = leas
     least Two = omega arith
     least Three = omega arith
 
-is-protected : (dif none : Bool) → (dif && not none) ≡ true → none ≡ false
-is-protected true false h = refl
-is-protected true true h = absurd (let x : false ≡ true = h in cc)
-is-protected false none h = absurd (let x : false ≡ true = h in cc)
-
 pub sent-long-in : (a : Adapter) (ios : List Io) (b : Block) (stored : List ℕ) (bytes : ℕ) → IsProtect a.protect → block_size (request_of ios b.op) ≡ bytes → length stored ≡ stored_size a.ty bytes →
     IfOk (from_medium a.tamper (passage a.tamper (route_of a ios b)) stored) (λ f. length f ≡ width_for a bytes)
 sent-long-in a ios b stored bytes p e l =
     from-long a.tamper (passage a.tamper (route_of a ios b)) stored (width_for a bytes)
-    (front-long a.ty (block_size (request_of ios b.op)) a.protect (a.dif && not (is_zero a.ty)) (crossed a.tamper (Some (label_of b)) MediumToTarget stored) p (is-protected a.dif (is_zero a.ty))
+    (front-long a.ty (block_size (request_of ios b.op)) a.protect (a.dif && not (is_zero a.ty)) (crossed a.tamper (Some (label_of b)) MediumToTarget stored) p (is_protected a.dif (is_zero a.ty))
     (altered_length a.tamper MediumToTarget (label_of b) stored ∙ l ∙ ap (stored_size a.ty) (sym e))
     ∙ ap (width_for a) e)
 

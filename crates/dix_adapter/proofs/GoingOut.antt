@@ -1,7 +1,7 @@
 -- The blocks of a write at their unit: what it judges is how they end, and the moves of those that were done store them.
 use Rattle.std.proofs.Common.{◌≡◌, ◌<◌, ◌≤◌, ℕ, zero, suc, ◌+◌, ◌-◌, true, false, ltb, List, [], ◌∷◌, ◌++◌, length, map, take, get_or, set, replicate, refl, ap, sym, ◌∙◌, arith, ⊎_elim, Option, Some, None}
 use Rattle.std.specs.Prelude.{min, if◌then◌else◌, Result, Ok, Err}
-use Rattle.std.proofs.lemmas.Bool.{cases_Bool}
+use Rattle.std.proofs.lemmas.Bool.{cases_Bool, or_parts, ltb-true}
 use Rattle.page_pool.specs.Cells.{gather, scatter}
 use Rattle.pi_tuple.specs.declared.checks.Check.{Check}
 use Rattle.pi_tuple.specs.declared.checks.Check.TheVariants.{Guard, AppTag, RefTag}
@@ -26,7 +26,6 @@ use Rattle.dix_adapter.specs.Carried.{any_bad, frame_sent, is_bad, sends}
 use Rattle.dix_adapter.specs.Groups.{frame_cells, route_of}
 use Rattle.dix_adapter.specs.Outcomes.{done_of, rest_of, why_of}
 use Rattle.dix_adapter.specs.Ways.{acts_out, cells_out, fates_out, frames_out, left_at, site_of, stopped_out, ways_out}
-use Rattle.dix_adapter.proofs.Gathering.{or-false}
 use Rattle.dix_adapter.proofs.Puts.{puts, puts-more}
 
 abbrev Judged : Type 0
@@ -62,7 +61,7 @@ way-by a r (Err c) h = absurd (let x : true ≡ false = h in cc)
 pub ways-are : (a : Adapter) (ios : List Io) (cells : List ℕ) (bs : List Block) → any_bad (map (sends a ios cells) bs) ≡ false → ways_out a ios cells bs ≡ ways_by (all_sent a ios cells bs) (judged_out a ios cells bs)
 ways-are a ios cells [] h = refl
 ways-are a ios cells (b ∷ bs) h =
-    let o = or-false (is_bad (sends a ios cells b)) (any_bad (map (sends a ios cells) bs)) h in
+    let o = or_parts (is_bad (sends a ios cells b)) (any_bad (map (sends a ios cells) bs)) h in
     ap (λ w. w ∷ ways_out a ios cells bs) (way-by a (route_of a ios b) (sends a ios cells b) o.0)
     ∙ ap (λ ws. at_device (frame_sent (sends a ios cells b)) (by_target (to_medium a.tamper (passage a.tamper (route_of a ios b)) (frame_sent (sends a ios cells b)))) ∷ ws) (ways-are a ios cells bs o.1)
 
@@ -159,9 +158,6 @@ set-fates s (suc i) (f ∷ fs) (Ok g ∷ js) w h e = ap (λ z. Good ∷ z) (set-
 pub medium-why : (lba : ℕ) → why_of (Some (medium_sense 0x0C lba)) ≡ Medium
 medium-why lba = refl
 
-below : (a b : ℕ) → ltb a b ≡ true → a < b
-below a b e = grind arith
-
 -- how the command ends
 pub record EndsOut (stop : Option Stop) (lba : ℕ) (fs : List (List ℕ)) (js : List (Result (List ℕ) Check)) : Type 0 where
   pub frames : frames_out (stopped_out stop (ways_by fs js)) ≡ take (write_end lba js stop).done fs
@@ -174,7 +170,7 @@ ends-out (Some s) lba fs js e =
     let n = frames-count fs js e in
     ⊎_elim
     (λ (t : ltb s.at (length (passed js)) ≡ true).
-    (let l = below s.at (length (passed js)) t in
+    (let l = ltb-true s.at (length (passed js)) t in
     record {
       frames = rw (n, t) (set-frames s.at fs js l e);
       few = rw t (omega arith);
@@ -202,10 +198,10 @@ acts-out a ios units cells bs zero c now g b h i = refl
 acts-out a ios units cells [] (suc n) c now g b h i = absurd (omega arith)
 acts-out a ios units cells (x ∷ bs) (suc n) c now g b h i =
     by (to_medium a.tamper (passage a.tamper (route_of a ios x)) (frame_sent (sends a ios cells x))) refl
-    (λ k. acts-out a ios units cells bs n (suc c) (act (carry_out (site_of a units) (route_of a ios x) (frame_cells ios x)) now) (or-false (is_bad (sends a ios cells x)) (any_bad (map (sends a ios cells) bs)) g).1 b k i.1)
+    (λ k. acts-out a ios units cells bs n (suc c) (act (carry_out (site_of a units) (route_of a ios x) (frame_cells ios x)) now) (or_parts (is_bad (sends a ios cells x)) (any_bad (map (sends a ios cells) bs)) g).1 b k i.1)
   where
     o : (is_bad (sends a ios cells x) ≡ false) × (any_bad (map (sends a ios cells) bs) ≡ false)
-    o = or-false (is_bad (sends a ios cells x)) (any_bad (map (sends a ios cells) bs)) g
+    o = or_parts (is_bad (sends a ios cells x)) (any_bad (map (sends a ios cells) bs)) g
 
     by : (j : Judged) → to_medium a.tamper (passage a.tamper (route_of a ios x)) (frame_sent (sends a ios cells x)) ≡ j →
         (n ≤ length (passed (judged_out a ios cells bs)) → (plain act (take n (acts_out a ios units bs)) (act (carry_out (site_of a units) (route_of a ios x) (frame_cells ios x)) now)).blocks ≡ puts (suc c) (take n (passed (judged_out a ios cells bs))) (act (carry_out (site_of a units) (route_of a ios x) (frame_cells ios x)) now).blocks) →
@@ -250,7 +246,7 @@ stored-out a ios units cells bs (Some s) lba c now g b i =
     let js = judged_out a ios cells bs in
     ⊎_elim
     (λ (t : ltb s.at (length (passed js)) ≡ true).
-    (let l = below s.at (length (passed js)) t in
+    (let l = ltb-true s.at (length (passed js)) t in
     let k : s.at < length (cells_out a ios units bs) = (let x = passed-few js in let y = judged-long a ios cells bs in let z = cells-long a ios units bs in omega arith) in
     let q : c + length (take s.at (passed js)) ≡ get_or (cells_out a ios units bs) s.at 0 = ap (λ m. c + m) (take-long s.at (passed js) (omega arith)) ∙ sym (turn-at c (cells_out a ios units bs) s.at i k) in
     rw t (puts-more c (take s.at (passed js)) now.blocks s.left ∙ ap (λ m. set (puts c (take s.at (passed js)) now.blocks) m s.left) q

@@ -3,6 +3,7 @@ use Rattle.std.proofs.Common.{◌≡◌, ◌<◌, ◌≤◌, ℕ, zero, suc, ◌
 use Rattle.std.specs.Prelude.{if◌then◌else◌, IfOk, ℤ, pos, ◌+ℤ◌, Result, Ok, Err, slice_get}
 use Rattle.std.specs.List.{All}
 use Rattle.std.proofs.lemmas.List.{length-map, take_at, drop_at}
+use Rattle.std.proofs.lemmas.Bool.{or_parts}
 use Rattle.page_pool.specs.Cells.{cell, flat, gather}
 use Rattle.page_pool.specs.Places.{range_of, total}
 use Rattle.page_pool.proofs.Spreads.{length-range}
@@ -30,7 +31,6 @@ use Rattle.dix_adapter.specs.Groups.{Chain, IsBio, IsGroup, IsProtect, blocks_in
 use Rattle.dix_adapter.specs.Walking.{HasHost, Walkable, WalksTuples}
 use Rattle.dix_adapter.proofs.Asking.{address-more, alike-out, asked-alike, field_for, fields_of}
 use Rattle.dix_adapter.proofs.Blocks.{length-blocks}
-use Rattle.dix_adapter.proofs.Gathering.{or-false}
 use Rattle.dix_adapter.proofs.GoingOut.{all_sent, judged_out}
 
 -- what is known of a block at this address
@@ -167,7 +167,7 @@ bios-shaped a pool ios bytes dev dir (b ∷ bs) h =
 shaped-wide : (a : Adapter) (ios : List Io) (cells : List ℕ) (bytes : ℕ) (bs : List Block) → Shaped a ios bytes bs → any_bad (map (sends a ios cells) bs) ≡ false → AllLong (width_for a bytes) (all_sent a ios cells bs)
 shaped-wide a ios cells bytes [] r h = tt
 shaped-wide a ios cells bytes (b ∷ bs) r h =
-    let o = or-false (is_bad (sends a ios cells b)) (any_bad (map (sends a ios cells) bs)) h in (
+    let o = or_parts (is_bad (sends a ios cells b)) (any_bad (map (sends a ios cells) bs)) h in (
       good-long (wire_size (route_of a ios b)) (sends a ios cells b) o.0 (out_size a.tamper (route_of a ios b) (frame_in ios cells b) (gathered-long cells (frame_cells ios b) ∙ r.0.1)) ∙ ap (width_for a) r.0.0,
       shaped-wide a ios cells bytes bs r.1 o.1,
     )

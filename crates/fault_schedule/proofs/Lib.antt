@@ -1,2 +1,2 @@
-mod Xored
+pub mod Xored
 mod Spans

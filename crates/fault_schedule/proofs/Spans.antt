@@ -1,7 +1,7 @@
 use Rattle.std.proofs.Common.{◌≡◌, ℕ, suc, ◌+◌, ◌-◌, ◌%◌, ◌<◌, ◌≤◌, min, Bool, false, ◌&&◌, eqb, List, [], ◌∷◌, ◌++◌, length, get_or, set, take, drop, refl, sym, ap, ◌∙◌, arith, inl, inr, bit_xor, cond, unwrap_or, length-take, length-drop}
 use Rattle.std.proofs.lemmas.List.{append-nil, get_or-drop, get_or-take, get_or_default, get_or-set_other, get_or-set_same, take-append-drop}
 use Rattle.std.proofs.lemmas.List.Elements.{filter-append}
-use Rattle.std.proofs.lemmas.Bool.{cases_eq, ne_eqb}
+use Rattle.std.proofs.lemmas.Bool.{cases_eq, ne_eqb, and_right}
 use Rattle.std.proofs.lemmas.Bool.Decides.{eqb_tells}
 use Rattle.fault_schedule.specs.declared.Label.{Label}
 use Rattle.fault_schedule.specs.declared.fault.Crossing.{Crossing}
@@ -13,9 +13,6 @@ use Rattle.fault_schedule.specs.Spans.{IsAround, lines_of_op}
 
 second-no : (a b c : Bool) → b ≡ false → (a && (b && c)) ≡ false
 second-no a b c e = grind arith
-
-last-no : (a b : Bool) → b ≡ false → (a && b) ≡ false
-last-no a b e = grind arith
 
 named-by-op : (lines : List FaultLine) (at : Crossing) (label : Label) (i : ℕ) → named (lines_of_op label.op lines) at label i ≡ named lines at label i
 named-by-op [] at label i = refl
@@ -33,7 +30,7 @@ shift-by-op : (lines : List FaultLine) (at : Crossing) (op : ℕ) → shift_of (
 shift-by-op [] at op = refl
 shift-by-op (line ∷ lines) at op = elim (eqb_tells line.op op) [
   | inl e ↦ ap (λ b. shift_of (cond b (line ∷ lines_of_op op lines) (lines_of_op op lines)) at op) e.0 ∙ ap (unwrap_or (shift_by line at op)) (shift-by-op lines at op)
-  | inr e ↦ rw (last-no (is_same line.at at) (eqb line.op op) e.0, e.0, shift-by-op lines at op) refl
+  | inr e ↦ rw (and_right (is_same line.at at) (eqb line.op op) e.0, e.0, shift-by-op lines at op) refl
 ]
 
 -- and shift its address in the same way

@@ -14,7 +14,7 @@ use Rattle.target_answer.specs.declared.units.Version.{Version}
 use Rattle.rig_api.specs.Head.{Head, fault_of_header, fault_under, head_fault, head_of, specs_under, units_of, version_in}
 use Rattle.rig_api.specs.declared.rig.RigFault.TheVariants.{BadLength}
 use Rattle.rig_api.specs.Telling.{IsStanding, Standing, StandsOn, specs_of, units_told}
-use Rattle.rig_discovery.proofs.Telling.{right_layout}
+use Rattle.rig_discovery.proofs.Telling.{right_layout, left_true}
 
 -- the bytes of these units' blocks, one after another
 abbrev pub bytes_told : List Stored → List ℕ
@@ -40,12 +40,9 @@ image_long : (h : Head) (image : List ℕ) → head_fault h ≡ None → h ≡ h
 unfolding head_fault
 image_long h image e t = sym (ap (λ x. x.size) t) ∙ right_length h (version_in h) e
 
-first_true : (a b : Bool) → (a && b) ≡ true → a ≡ true
-first_true a b h = grind arith
-
 -- a right head tells a unit
 pub some_unit : (h : Head) → head_fault h ≡ None → 0 < length (units_of h)
-some_unit h e = let x = leb-true 1 (length (units_of h)) (first_true (leb 1 (length (units_of h))) _ (right_layout h e)) in omega arith
+some_unit h e = let x = leb-true 1 (length (units_of h)) (left_true (leb 1 (length (units_of h))) _ (right_layout h e)) in omega arith
 
 -- ---- its blocks
 

@@ -8,8 +8,9 @@ use Rattle.pi_tuple.specs.declared.checks.PiType.TheVariants.{Zero, One, Two, Th
 use Rattle.target_answer.specs.Frames.{stored_size}
 use Rattle.std.specs.Prelude.{Result, Ok, Err, IsErrOf, min}
 use Rattle.dix_base.specs.Told.{HasLength, IsRead}
-use Rattle.std.proofs.lemmas.Bool.{cases_lt}
+use Rattle.std.proofs.lemmas.Bool.{cases_lt, eqb-true, ltb-false, lt-ltb, le-ltb}
 use Rattle.std.proofs.lemmas.List.{take_all}
+use Rattle.std.proofs.lemmas.Option.{same_Some}
 use Rattle.image_layout.specs.Heads.{IsHeadFault, JudgesHead}
 use Rattle.rig_api.specs.Telling.{no_spec}
 use Rattle.rig_api.specs.Head.{HasJudged, IsHeadOf, Head, head_fault, fault_of_header, fault_under, units_of, specs_under, version_in}
@@ -27,18 +28,12 @@ pub record RightHead (h : Head) : Type 0 where
   pub header : is_header version h.first ≡ true
   pub size : h.size ≡ image_size (specs_in version h.first)
 
-not_below : (a b : ℕ) → ltb a b ≡ false → b ≤ a
-not_below a b h = grind arith
-
-same_number : (a b : ℕ) → eqb a b ≡ true → a ≡ b
-same_number a b h = grind arith
-
 right_length : (d : Bool) → (if d then None else Some BadLength) ≡ None → d ≡ true
 right_length true e = refl
 right_length false e = absurd (cc)
 
 right_table : (good : Bool) (has wants : ℕ) → fault_of_header good has wants ≡ None → (good ≡ true) × (has ≡ wants)
-right_table true has wants e = (refl, same_number has wants (right_length (eqb has wants) e))
+right_table true has wants e = (refl, eqb-true has wants (right_length (eqb has wants) e))
 right_table false has wants e = absurd (cc)
 
 right_bytes : (short good : Bool) (has wants : ℕ) → (if short then Some BadLength else fault_of_header good has wants) ≡ None → (short ≡ false) × (good ≡ true) × (has ≡ wants)
@@ -49,7 +44,7 @@ right_under : (h : Head) (v : Option Version) → version_in h ≡ v → fault_u
 right_under h None n e = absurd (cc)
 right_under h (Some v) n e =
     let r = right_bytes (ltb (length h.first) 512) (is_header v h.first) h.size (image_size (specs_in v h.first)) e in
-    record { version = v; names = n; whole = not_below (length h.first) 512 r.0; header = r.1; size = r.2 }
+    record { version = v; names = n; whole = ltb-false (length h.first) 512 r.0; header = r.1; size = r.2 }
 
 pub right_head : (h : Head) → head_fault h ≡ None → RightHead h
 unfolding head_fault
@@ -59,22 +54,16 @@ pub fault_none : (h : Head) → version_in h ≡ None → Some BadMagic ≡ head
 unfolding head_fault
 fault_none h n = ap (λ v. fault_under v h) (sym n)
 
-below : (a b : ℕ) → a < b → ltb a b ≡ true
-below a b h = grind arith
-
-above : (a b : ℕ) → b ≤ a → ltb a b ≡ false
-above a b h = grind arith
-
 pub fault_short : (h : Head) (v : Version) → version_in h ≡ Some v → length h.first < 512 → Some BadLength ≡ head_fault h
 unfolding head_fault
 fault_short h v n l =
-    let e = below (length h.first) 512 l in
+    let e = lt-ltb (length h.first) 512 l in
     ap (λ b. if b then Some BadLength else fault_of_header (is_header v h.first) h.size (image_size (specs_in v h.first))) (sym e) ∙ ap (λ w. fault_under w h) (sym n)
 
 pub fault_table : (h : Head) (v : Version) → version_in h ≡ Some v → 512 ≤ length h.first → fault_of_header (is_header v h.first) h.size (image_size (specs_in v h.first)) ≡ head_fault h
 unfolding head_fault
 fault_table h v n l =
-    let e = above (length h.first) 512 l in
+    let e = le-ltb (length h.first) 512 l in
     ap (λ b. if b then Some BadLength else fault_of_header (is_header v h.first) h.size (image_size (specs_in v h.first))) (sym e) ∙ ap (λ w. fault_under w h) (sym n)
 
 -- the units of such a head
@@ -138,11 +127,8 @@ bytes_more (u ∷ us) (suc i) d h =
     let e = bytes_more us i d (omega arith) in
     rw k (omega arith)
 
-some_same : {A : Type 0} (x y : A) → Some x ≡ Some y → x ≡ y
-some_same x y h = cc
-
 pub same_version : (h : Head) (r : RightHead h) (v : Version) → version_in h ≡ Some v → r.version ≡ v
-same_version h r v e = some_same r.version v (sym r.names ∙ e)
+same_version h r v e = same_Some r.version v (sym r.names ∙ e)
 
 pub has_version : (h : Head) → head_fault h ≡ None → version_in h ≡ None → ⊥
 has_version h e n = let r = right_head h e in none_some (sym n ∙ r.names)
@@ -171,15 +157,15 @@ head_told size have first (Some ys) m l r = same_head (record { size = size; fir
 
 length_only : (same : Bool) (f : RigFault) → (if same then None else Some BadLength) ≡ Some f → IsHeadFault f
 length_only true f e = absurd (cc)
-length_only false f e = subst IsHeadFault (some_same BadLength f e) tt
+length_only false f e = subst IsHeadFault (same_Some BadLength f e) tt
 
 table_only : (short good : Bool) (has wants : ℕ) (f : RigFault) → (if short then Some BadLength else fault_of_header good has wants) ≡ Some f → IsHeadFault f
-table_only true good has wants f e = subst IsHeadFault (some_same BadLength f e) tt
+table_only true good has wants f e = subst IsHeadFault (same_Some BadLength f e) tt
 table_only false true has wants f e = length_only (eqb has wants) f e
-table_only false false has wants f e = subst IsHeadFault (some_same BadHeader f e) tt
+table_only false false has wants f e = subst IsHeadFault (same_Some BadHeader f e) tt
 
 a_head_fault : (h : Head) (v : Option Version) (f : RigFault) → fault_under v h ≡ Some f → IsHeadFault f
-a_head_fault h None f e = subst IsHeadFault (some_same BadMagic f e) tt
+a_head_fault h None f e = subst IsHeadFault (same_Some BadMagic f e) tt
 a_head_fault h (Some v) f e = table_only (ltb (length h.first) 512) (is_header v h.first) h.size (image_size (specs_in v h.first)) f e
 
 pub is_head_fault : (h : Head) (f : RigFault) → head_fault h ≡ Some f → IsHeadFault f

@@ -1,9 +1,11 @@
 -- Blocks that are changed without a command.
-use Rattle.std.proofs.Common.{◌≡◌, ℕ, suc, ◌+◌, ◌<◌, ◌≤◌, Bool, true, eqb, ◌&&◌, List, [], ◌∷◌, length, get_or, take, drop, replicate, Option, Some, refl, sym, ap, ◌∙◌, arith}
+use Rattle.std.proofs.Common.{◌≡◌, ℕ, ◌+◌, ◌<◌, ◌≤◌, Bool, true, ◌&&◌, List, ◌∷◌, length, get_or, take, drop, replicate, Option, Some, refl, sym, ap, ◌∙◌, arith}
 use Rattle.std.specs.Prelude.{is_some, Result, Ok, Err, OnOk, OnErr}
 use Rattle.std.proofs.lemmas.List.{length-take, length-drop, length-replicate}
+use Rattle.std.proofs.lemmas.Bool.{and_parts, eqb-true}
 use Rattle.dix_base.specs.Told.{Apart, Becomes, HasLength, over}
 use Rattle.fault_schedule.specs.Altered.{byte_at, xored_from}
+use Rattle.fault_schedule.proofs.Xored.{length-xored}
 use Rattle.target_answer.specs.Headers.{image_size, is_layout}
 use Rattle.target_answer.specs.Image.{units_in}
 use Rattle.target_answer.specs.Target.{Stored}
@@ -20,21 +22,15 @@ use Rattle.image_rig.specs.Told.{standing_of, units_of_image}
 use Rattle.image_rig.proofs.Devices.{Open, image_of, size_here, size_least, units_are}
 use Rattle.image_layout.proofs.Units.{Address, addressed, block_changed, block_found, block_held, unit_found}
 
-both : (a b : Bool) → (a && b) ≡ true → (a ≡ true) × (b ≡ true)
-both a b h = grind arith
-
-same_number : (a b : ℕ) → eqb a b ≡ true → a ≡ b
-same_number a b h = grind arith
-
 pub target_address : (us : List UnitSpec) (dev lba : ℕ) (change : Change) → dev < length us → can_change_in us dev lba change ≡ true → Address us dev lba
 target_address us dev lba (Flip off bytes) d c = addressed us dev lba d c
-target_address us dev lba (Copy from at) d c = addressed us dev lba d (both _ _ c).0
+target_address us dev lba (Copy from at) d c = addressed us dev lba d (and_parts _ _ c).0
 
 -- a block that is copied has an address, and the length of the one that it replaces
 source_address : (us : List UnitSpec) (dev lba from at : ℕ) → can_change_in us dev lba (Copy from at) ≡ true → (has_address (get_or us from no_spec) at ≡ true) × (block_len us from ≡ block_len us dev)
 source_address us dev lba from at c =
-    let r = both _ _ (both _ _ c).1 in
-    (r.0, same_number (block_len us from) (block_len us dev) r.1)
+    let r = and_parts _ _ (and_parts _ _ c).1 in
+    (r.0, eqb-true (block_len us from) (block_len us dev) r.1)
 
 pub source_held : (us : List UnitSpec) (dev lba : ℕ) (change : Change) → dev < length us → source_of change dev < length us → can_change_in us dev lba change ≡ true → source_place us dev lba change + block_len us dev ≤ image_size us
 source_held us dev lba (Flip off bytes) d s c = block_held us dev lba (addressed us dev lba d c)
@@ -47,12 +43,8 @@ source_held us dev lba (Copy from at) d s c =
 pub block_behind : (us : List UnitSpec) (dev lba : ℕ) → 512 ≤ block_place us dev lba
 block_behind us dev lba = omega arith
 
-xored_long : (byte : ℕ → ℕ) (i : ℕ) (xs : List ℕ) → length (xored_from byte i xs) ≡ length xs
-xored_long byte i [] = refl
-xored_long byte i (x ∷ xs) = ap suc (xored_long byte (i + 1) xs)
-
 altered_long : (change : Change) (block : List ℕ) → length (altered_by change block) ≡ length block
-altered_long (Flip off bytes) block = xored_long (byte_at off bytes) 0 block
+altered_long (Flip off bytes) block = length-xored (byte_at off bytes) 0 block
 altered_long (Copy from at) block = refl
 
 -- what is read and changed, as blocks of the units

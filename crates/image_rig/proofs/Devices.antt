@@ -1,8 +1,10 @@
 -- The units behind the devices of an image that is open, and the answers that are theirs.
-use Rattle.std.proofs.Common.{◌≡◌, ℕ, zero, suc, ◌+◌, ◌*◌, ◌^◌, ◌<◌, ◌≤◌, Bool, true, List, [], ◌∷◌, length, get_or, take, drop, Option, Some, None, refl, sym, ap, subst, ◌∙◌, arith, inl, inr}
+use Rattle.std.proofs.Common.{◌≡◌, ℕ, zero, suc, ◌+◌, ◌*◌, ◌^◌, ◌<◌, ◌≤◌, true, List, [], ◌∷◌, length, get_or, take, drop, Option, Some, None, refl, sym, ap, subst, ◌∙◌, arith, inl, inr}
 use Rattle.std.specs.Prelude.{is_some, max, ◌&&◌}
 use Rattle.std.specs.List.{list_all}
 use Rattle.std.proofs.lemmas.List.{take-take, drop-take, drop-drop, take_all}
+use Rattle.std.proofs.lemmas.Bool.{and_parts}
+use Rattle.std.proofs.lemmas.Option.{same_Some}
 use Rattle.dix_base.specs.Told.{Apart, Becomes, Calm, Rose}
 use Rattle.fault_schedule.specs.declared.Label.{Label}
 use Rattle.fault_schedule.specs.declared.fault.FaultLine.{FaultLine}
@@ -52,13 +54,10 @@ spec_some u h = grind arith
 spec_first : (u : UnitSpec) → is_spec u ≡ true → u.first + u.blocks < 2 ^ 64
 spec_first u h = grind arith
 
-first_spec : (a b : Bool) → (a && b) ≡ true → (a ≡ true) × (b ≡ true)
-first_spec a b h = grind arith
-
 all_small : (us : List UnitSpec) → list_all is_spec us ≡ true → all_bytes us ≤ length us * 34078720
 all_small [] h = omega arith
 all_small (u ∷ us) h =
-    let s = first_spec (is_spec u) (list_all is_spec us) h in
+    let s = and_parts (is_spec u) (list_all is_spec us) h in
     let a = bytes_small u s.0 in
     let b = all_small us s.1 in
     omega arith
@@ -105,15 +104,12 @@ size_most (u ∷ us) (suc dev) h = let e = size_most us dev (omega arith) in ome
 none_some : {A : Type 0} {x : A} → None ≡ Some x → ⊥
 none_some e = cc
 
-some_is : {A : Type 0} (x y : A) → Some x ≡ Some y → x ≡ y
-some_is x y h = cc
-
 pub units_are : (us : List UnitSpec) (h : Head) (image : Option (List ℕ)) (bytes : List ℕ) → take (length us) (units_of h) ≡ us → image ≡ Some bytes → units_of_image (length us) h image ≡ Some (units_in us bytes)
 units_are us h image bytes n e = ap (units_of_image (length us) h) e ∙ ap (λ v. Some (units_in v bytes)) n
 
 pub image_of : (n : ℕ) (h : Head) (image : Option (List ℕ)) (found : List Stored) → units_of_image n h image ≡ Some found → (bytes : List ℕ) × (image ≡ Some bytes) × (found ≡ units_in (take n (units_of h)) bytes)
 image_of n h None found e = absurd (none_some e)
-image_of n h (Some bytes) found e = (bytes, refl, sym (some_is (units_in (take n (units_of h)) bytes) found e))
+image_of n h (Some bytes) found e = (bytes, refl, sym (same_Some (units_in (take n (units_of h)) bytes) found e))
 
 -- the unit behind a device, as the target finds it
 pub unit_same : (us : List UnitSpec) (bytes : List ℕ) (dev : ℕ) → dev < length us → unit_in (logical_of us dev) bytes ≡ unit_at (units_in us bytes) dev
@@ -190,7 +186,7 @@ pub becomes_apart : (at n : ℕ) (old new : Option (List ℕ)) → is_some new �
 becomes_apart at n None None e f = tt
 becomes_apart at n None (Some y) e f = absurd (cc)
 becomes_apart at n (Some x) None e f = absurd (cc)
-becomes_apart at n (Some x) (Some y) e f = let r = f x refl in subst (Apart at n x) (sym (some_is y r.0 r.1)) r.2
+becomes_apart at n (Some x) (Some y) e f = let r = f x refl in subst (Apart at n x) (sym (same_Some y r.0 r.1)) r.2
 
 same_front : (at : ℕ) (x y : List ℕ) → 512 ≤ at → take at y ≡ take at x → take 512 x ≡ take 512 y
 same_front at x y l e = sym (take-take 512 at x l) ∙ ap (take 512) (sym e) ∙ take-take 512 at y l
@@ -199,7 +195,7 @@ pub head_kept : (h : Head) (at n : ℕ) (old new : Option (List ℕ)) → 512 �
 head_kept h at n None None l b t bytes e = absurd (none_some e)
 head_kept h at n None (Some y) l b t bytes e = absurd b
 head_kept h at n (Some x) None l b t bytes e = absurd b
-head_kept h at n (Some x) (Some y) l b t bytes e = t x refl ∙ same_head (head_of x) (head_of y) (sym b.0) (same_front at x y l b.1) ∙ ap head_of (some_is y bytes e)
+head_kept h at n (Some x) (Some y) l b t bytes e = t x refl ∙ same_head (head_of x) (head_of y) (sym b.0) (same_front at x y l b.1) ∙ ap head_of (same_Some y bytes e)
 
 -- ---- an exchange with the unit behind a device
 
@@ -254,7 +250,7 @@ room_for a b exchanges blocks r h o = let m = more_room a b blocks h in let w = 
 greatest_spec : (us : List UnitSpec) → list_all is_spec us ≡ true → greatest us ≤ 4096
 greatest_spec [] h = omega arith
 greatest_spec (u ∷ us) h =
-    let s = first_spec (is_spec u) (list_all is_spec us) h in
+    let s = and_parts (is_spec u) (list_all is_spec us) h in
     let a = size_least u.size (spec_size u s.0) in
     let b = greatest_spec us s.1 in
     omega arith

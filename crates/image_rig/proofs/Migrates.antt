@@ -1,10 +1,11 @@
 -- The header of version 2 tells the units that it was written from.
-use Rattle.std.proofs.Common.{◌≡◌, ℕ, ◌+◌, ◌-◌, ◌*◌, ◌^◌, ◌<◌, ◌≤◌, Bool, true, false, List, [], ◌∷◌, ◌++◌, length, take, drop, replicate, map, Option, Some, None, refl, sym, ap, ◌∙◌, arith, append_assoc, length-append}
+use Rattle.std.proofs.Common.{◌≡◌, ℕ, ◌+◌, ◌-◌, ◌*◌, ◌^◌, ◌<◌, ◌≤◌, true, List, [], ◌∷◌, ◌++◌, length, take, drop, replicate, map, Option, Some, None, refl, sym, ap, ◌∙◌, arith, append_assoc, length-append}
 use Rattle.std.specs.Prelude.{min, ◌&&◌}
 use Rattle.std.specs.Int.{w16, to_be_bytes, from_be_bytes}
 use Rattle.std.specs.List.{list_all}
 use Rattle.std.proofs.lemmas.Nat.{from_be_bytes-to_be_bytes_2, from_be_bytes-to_be_bytes_8}
 use Rattle.std.proofs.lemmas.List.{drop_at, take_at, length-replicate}
+use Rattle.std.proofs.lemmas.Bool.{and_parts}
 use Rattle.dix_base.specs.Told.{Apart, Becomes, over}
 use Rattle.pi_tuple.specs.declared.checks.PiType.{PiType}
 use Rattle.pi_tuple.specs.declared.checks.PiType.TheVariants.{Zero, One, Two, Three}
@@ -43,14 +44,10 @@ entry_back u rest h =
 entry_long : (u : UnitSpec) → length (entry_of Second u) ≡ 32
 entry_long u = refl
 
-first_spec : (a b : Bool) → (a && b) ≡ true → (a ≡ true) × (b ≡ true)
-first_spec true b h = (refl, h)
-first_spec false b h = absurd (cc)
-
 entries_back : (us : List UnitSpec) (rest : List ℕ) → list_all is_spec us ≡ true → specs_from Second (length us) (joined (map (entry_of Second) us) ++ rest) ≡ us
 entries_back [] rest h = refl
 entries_back (u ∷ us) rest h =
-    let s = first_spec (is_spec u) (list_all is_spec us) h in
+    let s = and_parts (is_spec u) (list_all is_spec us) h in
     let a = append_assoc (entry_of Second u) (joined (map (entry_of Second) us)) rest in
     let d : drop 32 ((entry_of Second u ++ joined (map (entry_of Second) us)) ++ rest) ≡ joined (map (entry_of Second) us) ++ rest =
     ap (drop 32) a ∙ drop_at (entry_of Second u) (joined (map (entry_of Second) us) ++ rest) 32 (entry_long u) in

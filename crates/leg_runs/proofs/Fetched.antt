@@ -50,7 +50,7 @@ length-chosen f at [] xs e = refl
 length-chosen f at (w ∷ wanted) [] e = absurd (omega (arith, e))
 length-chosen f at (w ∷ wanted) (x ∷ xs) e = ap suc (length-chosen f (suc at) wanted xs (omega (arith, e)))
 
-rest-long : (marks : List Marks) (found : List (Option Why)) → length found ≡ length marks → length (rest_wanted marks found) ≡ length marks
+pub rest-long : (marks : List Marks) (found : List (Option Why)) → length found ≡ length marks → length (rest_wanted marks found) ≡ length marks
 rest-long [] found e = refl
 rest-long (k ∷ marks) [] e = absurd (omega (arith, e))
 rest-long (k ∷ marks) (why ∷ found) e = ap suc (rest-long marks found (omega (arith, e)))

@@ -1,5 +1,5 @@
 -- The last op of a script that is run lists blocks of its request alone.
-use Rattle.std.proofs.Common.{ℕ, zero, suc, ◌≡◌, ◌+◌, ◌≤◌, List, [], ◌∷◌, ◌++◌, drop, get_or, length, map, Option, Some, None, refl, ap, ◌∙◌, arith}
+use Rattle.std.proofs.Common.{ℕ, suc, ◌≡◌, ◌+◌, ◌≤◌, List, [], ◌∷◌, ◌++◌, drop, get_or, length, map, Option, Some, None, refl, ap, ◌∙◌, arith}
 use Rattle.std.proofs.lemmas.List.{length-map}
 use Rattle.bio_core.specs.declared.fate.Why.{Why}
 use Rattle.block_path.specs.Acts.{Act, State, act, tell}
@@ -12,16 +12,13 @@ use Rattle.stack_ops.specs.declared.reply.Reply.TheVariants.{Silent}
 use Rattle.whole_run.specs.ScriptWalk.{bad_from, request_reply, whole_or_bad}
 use Rattle.whole_run.specs.Settings.{Setting}
 use Rattle.whole_run.specs.Steps.{Step, each_from}
+use Rattle.whole_run.proofs.InSteps.{each_length}
 use Rattle.run_record.specs.TakenWalk.{taken_act, taken_acts, taken_reply, taken_replies}
 use Rattle.leg_runs.specs.LegRuns.{AreBelow, Fits, LastFits}
 
 long-tells : (acts : List (Act Answer)) (s : State) → length (plain_tells act tell acts s) ≡ length acts
 long-tells [] s = refl
 long-tells (a ∷ acts) s = ap suc (long-tells acts (act a s))
-
-each-long : {X : Type 0} (k n : ℕ) (f : ℕ → X) → length (each_from k n f) ≡ n
-each-long k zero f = refl
-each-long k (suc n) f = ap suc (each-long (suc k) n f)
 
 below-whys : (n k : ℕ) (whys : List (Option Why)) → k + length whys ≤ n → AreBelow n (bad_from k whys)
 below-whys n k [] h = tt
@@ -51,4 +48,4 @@ module _ (m : Setting) (es : List Sent) where
 pub asks-steps : (m : Setting) (es : List Sent) (n : ℕ) (reply : Reply) (s : State) (f : ℕ → Step) → Fits n (request_reply (plain_tells act tell (map (taken_act m es reply) (each_from 0 n f)) s))
 asks-steps m es n reply s f =
     let acts = map (taken_act m es reply) (each_from 0 n f) in
-    fits-answers n (plain_tells act tell acts s) (long-tells acts s ∙ length-map (each_from 0 n f) (taken_act m es reply) ∙ each-long 0 n f)
+    fits-answers n (plain_tells act tell acts s) (long-tells acts s ∙ length-map (each_from 0 n f) (taken_act m es reply) ∙ each_length 0 n f)

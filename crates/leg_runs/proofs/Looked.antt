@@ -16,6 +16,7 @@ use Rattle.dix_adapter.specs.Ways.{blocks_told, shapes_of}
 use Rattle.whole_run.specs.Past.{Brought, brought_by}
 use Rattle.whole_run.specs.Settings.{Block, Setting}
 use Rattle.whole_run.specs.Steps.{each_from}
+use Rattle.whole_run.proofs.InSteps.{each_length}
 use Rattle.script_text.specs.declared.script.Script.{Script}
 use Rattle.script_ground.specs.Units.{AreStored}
 use Rattle.script_stack.specs.Followed.{HasWalked}
@@ -32,7 +33,7 @@ use Rattle.leg_runs.specs.LegRuns.{AllWalked, LegRun, found_by, pool_of, replies
 use Rattle.leg_runs.specs.Mending.{delivered, goods, looked, tuples_after}
 use Rattle.leg_runs.proofs.Flat.{AllLong, flat-pasted, flat-zeros, long-each, long-zeros, pasted-long}
 use Rattle.leg_runs.proofs.OneLeg.{AllInside, all-inside, data-flat, map-each, same-units}
-use Rattle.leg_runs.proofs.Painting.{all-stretches, chosen, length-each, painted}
+use Rattle.leg_runs.proofs.Painting.{all-stretches, chosen, painted}
 use Rattle.leg_runs.proofs.Replied.{found-last}
 
 -- What a leg's law says of a read with tuples.
@@ -187,7 +188,7 @@ module _ (law : LookLaw) (s : Script) (t : Table) (half : ℕ) (is : IsMirrorScr
       record {
         left_is = same-units us left w.shapes r.blocks;
         found = ap (found_by c) r.replies_are
-            ∙ found-last c zero (map by_app (whys_read leg (blocks_of half (part_of p (a, c))) (blocks_told us))) (ap length whys ∙ length-each a c finds) ∙ whys;
+            ∙ found-last c zero (map by_app (whys_read leg (blocks_of half (part_of p (a, c))) (blocks_told us))) (ap length whys ∙ each_length a c finds) ∙ whys;
         landed = r.landed ∙ ap (λ (xs : List Block). data_read leg xs (blocks_told us)) bs ∙ data-flat leg (each_from a c block) (blocks_told us)
             ∙ ap flat (map-each (λ b. landed_by s.block (reading leg b (blocks_told us))) a c block);
         tuples = r.tuples ∙ ap (λ (xs : List Block). tuples_read leg xs (blocks_told us)) bs ∙ tuples-flat leg (each_from a c block) (blocks_told us)

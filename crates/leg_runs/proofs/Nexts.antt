@@ -14,11 +14,12 @@ use Rattle.stack_ops.specs.declared.op.Op.TheVariants.{Fetch, FetchPi, Fill, Ove
 use Rattle.stack_ops.specs.declared.reply.Reply.{Reply}
 use Rattle.stack_ops.specs.declared.reply.Reply.TheVariants.{Medium, Silent}
 use Rattle.stack_core.specs.Mediums.{medium_lines}
+use Rattle.stack_core.proofs.ToldOps.{is_told}
 use Rattle.script_text.specs.declared.script.Script.{Script}
 use Rattle.script_ground.specs.Units.{AreStored}
 use Rattle.script_stack.specs.Causes.{table_of}
 use Rattle.script_stack.specs.Going.{Outside}
-use Rattle.script_stack.proofs.Following.{told-image, told-shapes, told-stored}
+use Rattle.script_stack.proofs.Following.{told-shapes, told-stored}
 use Rattle.leg_runs.specs.LegRuns.{LegRun, NamesNoMedium}
 use Rattle.leg_runs.specs.OnOps.{DidOp, OpBy, OpRan, OpWalked, Sides}
 use Rattle.leg_runs.specs.Standing.{HasDevices, IsBoundMirror, KeepsToWalk, StandsAt, half_of, op_at}
@@ -71,7 +72,7 @@ op-stands law s devices half old new runs replies reply image before after is ra
     let t = table_of s devices in
     let told = sym is.laid ∙ e in
     let walked = op-walked s t devices half (length replies + 1) op old new before after runs reply now ran did e none in
-    let known = is.rig.told (told-image before.standing image now told) in
+    let known = is.rig.told (is_told before.standing image now told) in
     let shapes = told-shapes before.standing image now told is.ready in
     let units : devices ≡ map info_of (shapes_of now) = known ∙ ap (λ (specs : List UnitSpec). map info_of specs) (sym shapes) in
     let by = subst (λ h. OpBy s h (length replies + 1) op old new runs reply) is.half_is did.0 in

@@ -14,6 +14,7 @@ use Rattle.volume_table.specs.Tables.{MadeFor, Table}
 use Rattle.dix_adapter.specs.Ways.{blocks_told, shapes_of}
 use Rattle.whole_run.specs.Settings.{Block, Setting}
 use Rattle.whole_run.specs.Steps.{each_from}
+use Rattle.whole_run.proofs.InSteps.{each_length}
 use Rattle.script_text.specs.declared.script.Script.{Script}
 use Rattle.script_ground.specs.Units.{AreStored}
 use Rattle.script_stack.specs.Followed.{HasWalked}
@@ -28,7 +29,7 @@ use Rattle.mirror_legs.specs.MirrorScript.{IsMirrorScript, IsPiece}
 use Rattle.leg_runs.specs.Asked.{AreOf, bytes_after, ended, found_after, part_of, pasted, stretches, stretches_from}
 use Rattle.leg_runs.specs.LegRuns.{AllWalked, LegRun, found_by, pool_of, replies_of}
 use Rattle.leg_runs.proofs.Flat.{AllLong, flat-pasted, long-each, pasted-long}
-use Rattle.leg_runs.proofs.Painting.{length-each, painted}
+use Rattle.leg_runs.proofs.Painting.{painted}
 use Rattle.leg_runs.proofs.Replied.{found-last}
 
 -- What a leg's law says of a read.
@@ -144,7 +145,7 @@ module _ (law : ReadLaw) (s : Script) (t : Table) (half : ℕ) (is : IsMirrorScr
       record {
         left_is = same-units us left w.shapes r.blocks;
         found = ap (found_by c) r.replies_are
-            ∙ found-last c zero (whys_read leg (blocks_of half (part_of p (a, c))) (blocks_told us)) (ap length whys ∙ length-each a c finds) ∙ whys;
+            ∙ found-last c zero (whys_read leg (blocks_of half (part_of p (a, c))) (blocks_told us)) (ap length whys ∙ each_length a c finds) ∙ whys;
         landed = r.landed ∙ ap (λ (xs : List Block). data_read leg xs (blocks_told us)) bs ∙ data-flat leg (each_from a c block) (blocks_told us)
             ∙ ap flat (map-each (λ b. landed_by s.block (reading leg b (blocks_told us))) a c block);
       }

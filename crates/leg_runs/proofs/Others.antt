@@ -35,7 +35,6 @@ use Rattle.script_text.specs.Ops.{data_fault}
 use Rattle.script_text.specs.Segments.{is_inside}
 use Rattle.script_ground.specs.SuitsStack.{IsStackOp}
 use Rattle.script_ground.proofs.AtTarget.{device-is, known-in}
-use Rattle.script_ground.proofs.Bodies.{inside-ok, unless-ok}
 use Rattle.script_ground.proofs.Segments.{lies, one-stands}
 use Rattle.script_stack.specs.Causes.{table_of}
 use Rattle.mirror_script.specs.MirrorFaults.{op_fault}
@@ -49,6 +48,7 @@ use Rattle.leg_runs.proofs.Fetched.{fetch-goes}
 use Rattle.leg_runs.proofs.OneLeg.{ReadLaw}
 use Rattle.leg_runs.proofs.Requests.{overwrite-fits, request-fits}
 use Rattle.leg_runs.proofs.Wrote.{Goes, standing, write-goes}
+use Rattle.script_laws.proofs.OpForms.{no_fault, found_inside}
 
 -- ---- a stored block is changed
 
@@ -128,23 +128,23 @@ module _ (law : ReadLaw) (s : Script) (devices : List DeviceInfo) (now : List St
   pub next-op : (op : Op) (new : Sides) (runs : List LegRun) (reply : Reply) (left : List Stored) → IsStackOp s.mode.dix s.pages s.block op → op_fault s.mode.protect t devices s.block op ≡ None → count i ≡ blocks_in op
       → OpBy s half i op old new runs reply → OpWalked op t now runs reply left → Goes setting half count i op before now left new reply
   next-op (Fill seg byte) new runs reply left k fault counted by all =
-      let inside = inside-ok (is_inside s.pages seg) _ _ k.rules in
+      let inside = found_inside (is_inside s.pages seg) _ _ k.rules in
       let same = none-run runs left by.0.none all in
       by-leaves (Fill seg byte) _ _ left new reply (no_request setting half count i (Fill seg byte) before) (sets-cells seg (replicate seg.len byte) new runs inside by.0) by.0.marks (ap shapes_of same) (ap blocks_told same) by.1
   next-op (Put page off bytes) new runs reply left k fault counted by all =
-      let inside = inside-ok (is_inside s.pages (put_seg page off bytes)) _ _ k.rules in
+      let inside = found_inside (is_inside s.pages (put_seg page off bytes)) _ _ k.rules in
       let same = none-run runs left by.0.none all in
       by-leaves (Put page off bytes) _ _ left new reply (no_request setting half count i (Put page off bytes) before) (sets-cells (put_seg page off bytes) bytes new runs inside by.0) by.0.marks (ap shapes_of same) (ap blocks_told same) by.1
   next-op (Show seg) new runs reply left k fault counted by all =
-      let inside = (and_parts (is_inside s.pages seg) (nat_le seg.len 64) (inside-ok (is_inside s.pages seg && nat_le seg.len 64) _ _ k.rules)).0 in
+      let inside = (and_parts (is_inside s.pages seg) (nat_le seg.len 64) (found_inside (is_inside s.pages seg && nat_le seg.len 64) _ _ k.rules)).0 in
       let same = none-run runs left by.0.none all in
       by-leaves (Show seg) _ _ left new reply (no_request setting half count i (Show seg) before) (ap (λ (x : Sides). flat x.pool) by.0.same) (ap (λ (x : Sides). x.marks) by.0.same) (ap shapes_of same) (ap blocks_told same)
       (by.1 ∙ ap Shown (shows-cells seg inside))
   next-op (Seal n body tuples app rtag) new runs reply left k fault counted by all = absurd cc
   next-op (Write v n body app) new runs reply left k fault counted by all =
-      write-goes s devices now over rest old whole paged count i v n body (request-fits s devices v n body over.bound (unless-ok (data_fault s.pages s.block n body) _ _ k.rules) fault) counted app new runs reply left by.0 by.1 all
+      write-goes s devices now over rest old whole paged count i v n body (request-fits s devices v n body over.bound (no_fault (data_fault s.pages s.block n body) _ _ k.rules) fault) counted app new runs reply left by.0 by.1 all
   next-op (Fetch v n body) new runs reply left k fault counted by all =
-      fetch-goes law s devices now over rest old whole paged count i v n body (request-fits s devices v n body over.bound (unless-ok (data_fault s.pages s.block n body) _ _ k.rules) fault) counted marked never new runs reply left by all
+      fetch-goes law s devices now over rest old whole paged count i v n body (request-fits s devices v n body over.bound (no_fault (data_fault s.pages s.block n body) _ _ k.rules) fault) counted marked never new runs reply left by all
   next-op (WritePi v n body tuples) new runs reply left k fault counted by all = absurd cc
   next-op (FetchPi v n body tuples) new runs reply left k fault counted by all = absurd cc
   next-op (Overwrite dev lba change) new runs reply left k fault counted by all =

@@ -3,7 +3,7 @@ use Rattle.std.proofs.Common.{ℕ, zero, suc, ◌≡◌, ◌+◌, ◌-◌, ◌*�
 use Rattle.page_pool.specs.declared.segs.Seg.{Seg}
 use Rattle.page_pool.specs.Cells.{cell, flat, gather}
 use Rattle.page_pool.specs.Pages.{AllLieIn, AreWhole, bytes_in}
-use Rattle.page_pool.specs.Places.{range_of, total}
+use Rattle.page_pool.specs.Places.{range_of}
 use Rattle.page_pool.proofs.Celled.{length-flat, read-cells}
 use Rattle.page_pool.proofs.Spreads.{range-all, range_stands}
 use Rattle.range_gate.specs.Cells.{in_turn}
@@ -31,6 +31,7 @@ use Rattle.script_stack.specs.Going.{Outside}
 use Rattle.mirror_legs.specs.declared.piece.Piece.{Piece}
 use Rattle.mirror_legs.specs.Inner.{first_virt, page_segs, pages_for, puts, read_pi_script, read_script, write_script}
 use Rattle.mirror_legs.proofs.Turns.{gathered, segs_cells}
+use Rattle.mirror_legs.proofs.Suits.{segs_total}
 use Rattle.leg_runs.specs.LegRuns.{AllBacked, AllOwn, Fits, LastFits, LegRun, replies_of}
 use Rattle.leg_runs.proofs.LastReplies.{asks-steps, last-fits}
 use Rattle.leg_runs.proofs.Runs.{RanBy}
@@ -107,10 +108,6 @@ read-pi-lies stack own s half p e is ios =
     let first = whole 0 (omega arith) in
     (first.lies, (first.tuples _ refl).lie)
 
-pub segs-total : (page pages n : ℕ) → n ≤ 4096 * pages → total (page_segs page pages n) ≡ n
-segs-total page zero n l = omega (arith, l)
-segs-total page (suc pages) n l = let r = segs-total (suc page) pages (n - 4096) (omega (arith, l)) in omega (arith, r)
-
 segs-end : (pool : List (List ℕ)) (page pages n : ℕ) → AllLieIn pool (page_segs page (suc pages) n) → page + suc pages ≤ length pool
 segs-end pool page zero n h = let a = h.0.in_pool in omega (arith, a)
 segs-end pool page (suc pages) n h = let r = segs-end pool (suc page) pages (n - 4096) h.1 in omega (arith, r)
@@ -120,7 +117,7 @@ landed-in : (pool : List (List ℕ)) (page pages n : ℕ) → AreWhole pool → 
 landed-in pool page zero n whole some room least h = absurd (omega (arith, some, room))
 landed-in pool page (suc pages) n whole some room least h =
     let segs = page_segs page (suc pages) n in
-    let t = segs-total page (suc pages) n room in
+    let t = segs_total page (suc pages) n room in
     let cells : map cell (range_of segs 0 n) ≡ in_turn (4096 * page) n = ap (λ k. map cell (range_of segs 0 k)) (sym t) ∙ ap (map cell) (range-all segs) ∙ segs_cells page (suc pages) n room least in
     let l = length-flat pool whole in
     let e = segs-end pool page pages n h in

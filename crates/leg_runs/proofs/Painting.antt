@@ -2,6 +2,7 @@
 use Rattle.std.proofs.Common.{◌≡◌, ℕ, zero, suc, ◌+◌, ◌-◌, Bool, true, false, if◌then◌else◌, List, [], ◌∷◌, ◌++◌, length, drop, refl, sym, ap, ◌∙◌, arith}
 use Rattle.std.proofs.lemmas.List.{append_assoc, drop_at, length-append, take_at}
 use Rattle.whole_run.specs.Steps.{each_from}
+use Rattle.whole_run.proofs.InSteps.{each_length}
 use Rattle.leg_runs.specs.Asked.{ended, pasted, stretches, stretches_from}
 
 -- ---- a part in the middle
@@ -11,10 +12,6 @@ pasted-mid at part before mid after b p =
     let whole : length (before ++ mid) ≡ at + length part = length-append before mid ∙ (let q : length mid ≡ length part = sym p in omega (arith, b, q)) in
     ap (λ xs. xs ++ (part ++ drop (at + length part) (before ++ (mid ++ after)))) (take_at before (mid ++ after) at b)
     ∙ ap (λ xs. before ++ (part ++ xs)) (ap (λ xs. drop (at + length part) xs) (sym (append_assoc before mid after)) ∙ drop_at (before ++ mid) after (at + length part) whole)
-
-pub length-each : {X : Type 0} (k n : ℕ) (f : ℕ → X) → length (each_from k n f) ≡ n
-length-each k zero f = refl
-length-each k (suc n) f = ap suc (length-each (suc k) n f)
 
 pub each-last : {X : Type 0} (k n : ℕ) (f : ℕ → X) → each_from k (suc n) f ≡ each_from k n f ++ (f (k + n) ∷ [])
 each-last k zero f = let e : k ≡ k + 0 = omega arith in ap (λ j. f j ∷ []) e
@@ -42,7 +39,7 @@ module _ {X : Type 0} (f : ℕ → X) where
   painted-end at zero before [] after b m = refl
   painted-end at zero before (x ∷ mid) after b m = absurd (omega (arith, m))
   painted-end at (suc n) before mid after b m =
-      pasted-mid (at - suc n) (each_from (at - suc n) (suc n) f) before mid after (omega (arith, b)) (length-each (at - suc n) (suc n) f ∙ sym m)
+      pasted-mid (at - suc n) (each_from (at - suc n) (suc n) f) before mid after (omega (arith, b)) (each_length (at - suc n) (suc n) f ∙ sym m)
 
   pub from-stretches : (at many : ℕ) (wanted : List Bool) (before mid after : List X) → length before + many ≡ at → length mid ≡ many → length after ≡ length wanted →
       painted (stretches_from at many wanted) (before ++ (mid ++ after)) ≡ before ++ (each_from (at - many) many f ++ chosen at wanted after)
@@ -60,7 +57,7 @@ module _ {X : Type 0} (f : ℕ → X) where
   from-stretches at many (false ∷ wanted) before mid (x ∷ after) b m l =
       let own = each_from (at - many) many f in
       let long : length (before ++ (own ++ (x ∷ []))) + 0 ≡ suc at =
-      (let p = length-append before (own ++ (x ∷ [])) in let q = length-append own (x ∷ []) in let r = length-each (at - many) many f in omega (arith, p, q, r, b)) in
+      (let p = length-append before (own ++ (x ∷ [])) in let q = length-append own (x ∷ []) in let r = each_length (at - many) many f in omega (arith, p, q, r, b)) in
       painted-both (ended at many) (stretches_from (suc at) 0 wanted) (before ++ (mid ++ (x ∷ after)))
       ∙ ap (λ xs. painted (stretches_from (suc at) 0 wanted) xs) (painted-end at many before mid (x ∷ after) b m
       ∙ ap (λ xs. before ++ xs) (sym (append_assoc own (x ∷ []) after)) ∙ sym (append_assoc before (own ++ (x ∷ [])) after))

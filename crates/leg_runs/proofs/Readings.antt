@@ -8,11 +8,11 @@ use Rattle.mirror_legs.specs.declared.piece.Piece.{Piece}
 use Rattle.mirror_legs.specs.Inner.{read_script}
 use Rattle.leg_runs.specs.Asked.{AreOf, IsInside, IsReadOf, ReadBy, bytes_after, first_listed, found_after, fresh_on0, last_listed, part_of, pasted, rest_wanted, stretches}
 use Rattle.leg_runs.specs.LegRuns.{AllOwn, LegRun, found_by, pool_of, replies_of}
-use Rattle.leg_runs.proofs.Runs.{all_own-map}
+use Rattle.leg_runs.proofs.OwnEach.{all_own-so}
 
 -- what is asked on leg 1 is a read of the same blocks
 pub on-other : (s : Script) (half : ℕ) (p : Piece) (runs : List LegRun) → AllOwn (IsReadOf s half (record p { on1 = true })) runs → AllOwn (IsReadOf s half p) runs
-on-other s half p runs h = all_own-map (IsReadOf s half (record p { on1 = true })) (IsReadOf s half p) runs (λ own is. record { stretch = is.stretch; inside = is.inside; on1 = is.on1; own_is = is.own_is }) h
+on-other s half p runs h = all_own-so (IsReadOf s half (record p { on1 = true })) (IsReadOf s half p) runs (λ own is. record { stretch = is.stretch; inside = is.inside; on1 = is.on1; own_is = is.own_is }) h
 
 -- what was asked on a leg: of these blocks, over what was found and had landed before
 pub record Asked (script : Piece → Script) (p : Piece) (size : ℕ) (wanted : List Bool) (runs : List LegRun) (found found' : List (Option Why)) (bytes bytes' : List ℕ) : Type 0 where
@@ -49,11 +49,6 @@ first-long [] found e = refl
 first-long (k ∷ marks) [] e = absurd (omega (arith, e))
 first-long (k ∷ marks) (why ∷ found) e = ap suc (first-long marks found (omega (arith, e)))
 
-pub rest-long : (marks : List Marks) (found : List (Option Why)) → length found ≡ length marks → length (rest_wanted marks found) ≡ length marks
-rest-long [] found e = refl
-rest-long (k ∷ marks) [] e = absurd (omega (arith, e))
-rest-long (k ∷ marks) (why ∷ found) e = ap suc (rest-long marks found (omega (arith, e)))
-
 -- one stretch was asked
 module _ (script : Piece → Script) (p : Piece) (size : ℕ) (s : ℕ × ℕ) (found' : List (Option Why)) (bytes' : List ℕ) where
   abbrev pub RanPart : List LegRun → Type 0
@@ -71,4 +66,4 @@ module _ (script : Piece → Script) (p : Piece) (size : ℕ) (s : ℕ × ℕ) (
 -- the request of a stretch is a read of the piece
 pub reads-part : (s : Script) (half : ℕ) (p : Piece) (stretch : ℕ × ℕ) (runs : List LegRun) → IsInside p.n stretch → AllOwn (λ own. own ≡ read_script s half (part_of p stretch)) runs → AllOwn (IsReadOf s half p) runs
 reads-part s half p stretch runs h own =
-    all_own-map (λ own. own ≡ read_script s half (part_of p stretch)) (IsReadOf s half p) runs (λ own e. record { stretch = stretch; inside = h; on1 = p.on1; own_is = e }) own
+    all_own-so (λ own. own ≡ read_script s half (part_of p stretch)) (IsReadOf s half p) runs (λ own e. record { stretch = stretch; inside = h; on1 = p.on1; own_is = e }) own

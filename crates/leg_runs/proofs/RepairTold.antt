@@ -12,11 +12,12 @@ use Rattle.script_text.specs.declared.script.Script.{Script}
 use Rattle.script_ground.specs.Units.{AreStored}
 use Rattle.script_stack.specs.Causes.{table_of}
 use Rattle.script_stack.specs.Going.{Outside}
-use Rattle.script_stack.proofs.Following.{told-image, told-shapes, told-stored}
+use Rattle.script_stack.proofs.Following.{told-shapes, told-stored}
 use Rattle.leg_runs.specs.LegRuns.{AllWalked, LegRun, RanLegs}
 use Rattle.leg_runs.specs.Mending.{Mended, RepairBy, stretches_in}
 use Rattle.leg_runs.specs.OnOps.{Sides}
 use Rattle.leg_runs.specs.Standing.{HasDevices, IsBoundMirror, IsRepairedAs, RepairsAsWalk, StandsAt, half_of}
+use Rattle.stack_core.proofs.ToldOps.{is_told}
 
 -- what the law of a repair says
 abbrev pub RepairLaw : Type 0
@@ -32,7 +33,7 @@ module _ (law : RepairLaw) (s : Script) (devices : List DeviceInfo) (half : ℕ)
       → RepairsAsWalk s devices sides before after replies new.marks new.repaired new.lost runs
   repair-told before after sides replies new runs laid marked ran by us now told none stands =
       let e = sym laid ∙ told in
-      let units = has.told (told-image st image now e) ∙ ap (λ (xs : List UnitSpec). map info_of xs) (sym (told-shapes st image now e ready)) in
+      let units = has.told (is_told st image now e) ∙ ap (λ (xs : List UnitSpec). map info_of xs) (sym (told-shapes st image now e ready)) in
       let x = ran.told now told none in (
         x.0,
         (

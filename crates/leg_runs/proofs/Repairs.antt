@@ -16,6 +16,7 @@ use Rattle.stack_ops.specs.declared.reply.Reply.{Reply}
 use Rattle.whole_run.specs.Past.{brought_by}
 use Rattle.whole_run.specs.Settings.{Block, Setting}
 use Rattle.whole_run.specs.Steps.{each_from}
+use Rattle.whole_run.proofs.InSteps.{each_length}
 use Rattle.script_text.specs.declared.script.Script.{Script}
 use Rattle.script_ground.specs.Units.{AreStored}
 use Rattle.script_stack.specs.Causes.{table_of}
@@ -41,7 +42,6 @@ use Rattle.leg_runs.proofs.Fetched.{walked-both}
 use Rattle.leg_runs.proofs.Ground.{fits, legs, made-over, sizes}
 use Rattle.leg_runs.proofs.Looked.{IsLooked, LookLaw, each_good, looks, taken}
 use Rattle.leg_runs.proofs.Mends.{NeedsWhole, mends-go}
-use Rattle.leg_runs.proofs.Painting.{length-each}
 use Rattle.leg_runs.proofs.Quiet.{NoneOfZero, none-of-zero, read-quiet, reads-under}
 
 -- ---- what is good of each block, and what is needed
@@ -273,8 +273,8 @@ module _ (law : LookLaw) (s : Script) (devices : List DeviceInfo) (bound : IsBou
 
     all-count : length all ≡ n
     all-count =
-        let a : length (good0 q half u n r) ≡ n = length-each u n (λ w. good (marks_of old.marks w).leg0 (reading q (on_leg0 w) (blocks_told now))) in
-        let b : length (good1 q half u n r) ≡ n = length-each u n (λ w. good (marks_of old.marks w).leg1 (reading q (on_leg1 half w) (blocks_told now))) in
+        let a : length (good0 q half u n r) ≡ n = each_length u n (λ w. good (marks_of old.marks w).leg0 (reading q (on_leg0 w) (blocks_told now))) in
+        let b : length (good1 q half u n r) ≡ n = each_length u n (λ w. good (marks_of old.marks w).leg1 (reading q (on_leg1 half w) (blocks_told now))) in
         needs-long s.block (good0 q half u n r) (good1 q half u n r) (a ∙ sym b) ∙ a
 
     fit0 : IsLooked s'.block half p0

@@ -1,5 +1,5 @@
 -- The requests of a mirror's script lie in its pages and on the mirror.
-use Rattle.std.proofs.Common.{◌≡◌, ◌<◌, ◌≤◌, ℕ, zero, suc, ◌+◌, ◌*◌, Bool, true, false, not, eqb, ◌||◌, if◌then◌else◌, List, [], ◌∷◌, length, drop, map, refl, ap, arith, Option, Some, None}
+use Rattle.std.proofs.Common.{◌≡◌, ◌<◌, ◌≤◌, ℕ, zero, suc, ◌+◌, ◌*◌, Bool, true, false, not, eqb, ◌||◌, if◌then◌else◌, List, [], ◌∷◌, length, drop, map, refl, ap, arith, Some, None}
 use Rattle.std.specs.Prelude.{nat_eq, nat_lt, slice_get}
 use Rattle.std.specs.List.{IsDistinct, list_any}
 use Rattle.std.proofs.lemmas.Bool.{eqb-true, ltb-false, or_parts}
@@ -17,10 +17,8 @@ use Rattle.stack_ops.specs.declared.op.Op.TheVariants.{Overwrite}
 use Rattle.volume_table.specs.declared.device.DeviceInfo.{DeviceInfo}
 use Rattle.volume_table.specs.Places.{volume_len}
 use Rattle.volume_table.specs.Tables.{Table}
-use Rattle.script_lines.specs.declared.kind.ScriptKind.{ScriptKind}
 use Rattle.script_lines.specs.declared.kind.ScriptKind.TheVariants.{BadFault, BadRange}
-use Rattle.script_text.specs.Bindings.{at_line, is_alterable, is_bad_change, or_else}
-use Rattle.script_text.specs.declared.fault.ScriptFault.{ScriptFault}
+use Rattle.script_text.specs.Bindings.{is_alterable, is_bad_change, or_else}
 use Rattle.script_text.specs.declared.script.Script.{Script}
 use Rattle.script_text.specs.Ops.{data_fault}
 use Rattle.script_ground.specs.SuitsStack.{IsStackOp}
@@ -30,6 +28,7 @@ use Rattle.script_ground.proofs.OverUnits.{op-keeps}
 use Rattle.script_ground.proofs.Segments.{distinct-body, stands}
 use Rattle.script_ground.proofs.Standing.{or-none}
 use Rattle.script_ground.proofs.Suits.{stack-op}
+use Rattle.script_ground.proofs.Ops.{line-none}
 use Rattle.script_stack.specs.Causes.{table_of}
 use Rattle.mirror_script.specs.MirrorFaults.{faults_fault, length_fault, mode_fault, op_fault, ops_fault, range_fault}
 use Rattle.mirror_legs.specs.MirrorScript.{IsPiece}
@@ -38,16 +37,12 @@ use Rattle.leg_runs.specs.Standing.{IsBoundMirror, half_of, op_at}
 
 -- ---- an op is not at fault
 
-no-line : (line : ℕ) (k : Option ScriptKind) (rest : Option ScriptFault) → at_line line k rest ≡ None → (k ≡ None) × (rest ≡ None)
-no-line line None rest h = (refl, h)
-no-line line (Some k) rest h = absurd cc
-
 none-at-fault : (protect : ℕ) (t : Table) (devices : List DeviceInfo) (size : ℕ) (ops : List Op) (lines : List ℕ) (i : ℕ) → length ops ≤ length lines → ops_fault protect t devices size ops lines ≡ None → i < length ops → op_fault protect t devices size (op_at ops i) ≡ None
 none-at-fault protect t devices size [] lines i l h b = absurd (omega arith)
 none-at-fault protect t devices size (op ∷ ops) [] i l h b = absurd (omega arith)
-none-at-fault protect t devices size (op ∷ ops) (line ∷ lines) zero l h b = (no-line line (op_fault protect t devices size op) (ops_fault protect t devices size ops lines) h).0
+none-at-fault protect t devices size (op ∷ ops) (line ∷ lines) zero l h b = (line-none line (op_fault protect t devices size op) (ops_fault protect t devices size ops lines) h).0
 none-at-fault protect t devices size (op ∷ ops) (line ∷ lines) (suc i) l h b =
-    none-at-fault protect t devices size ops lines i (omega arith) (no-line line (op_fault protect t devices size op) (ops_fault protect t devices size ops lines) h).1 (omega arith)
+    none-at-fault protect t devices size ops lines i (omega arith) (line-none line (op_fault protect t devices size op) (ops_fault protect t devices size ops lines) h).1 (omega arith)
 
 pub op-fits : (s : Script) (devices : List DeviceInfo) (k : ℕ) → IsBoundMirror s devices → k < length s.ops → op_fault s.mode.protect (table_of s devices) devices s.block (op_at s.ops k) ≡ None
 op-fits s devices k is l =

@@ -8,7 +8,7 @@ use Rattle.stack_core.specs.Mediums.{RoseBy, medium_lines}
 use Rattle.stack_core.specs.declared.stack.Stack.{Stack}
 use Rattle.volume_table.specs.declared.device.DeviceInfo.{DeviceInfo}
 use Rattle.volume_table.specs.Tables.{Table}
-use Rattle.leg_runs.specs.LegRuns.{AllBacked, AllFallen, AllOwn, AllWalked, GoOn, LegRun, RanLegs, all_mediums, all_records}
+use Rattle.leg_runs.specs.LegRuns.{AllBacked, AllFallen, AllWalked, GoOn, LegRun, RanLegs, all_mediums, all_records}
 
 pub all_records-append : (xs ys : List LegRun) → all_records (xs ++ ys) ≡ all_records xs ++ all_records ys
 all_records-append [] ys = refl
@@ -25,14 +25,6 @@ all_walked-append t us between left (x ∷ xs) ys h k = (h.0, (h.1.0, all_walked
 all_fallen-append : (t : Table) (us between left : List Stored) (xs ys : List LegRun) → AllFallen t us xs between → AllFallen t between ys left → AllFallen t us (xs ++ ys) left
 all_fallen-append t us between left [] ys h k = subst (λ u. AllFallen t u ys left) h k
 all_fallen-append t us between left (x ∷ xs) ys h k = (h.0, (h.1.0, all_fallen-append t h.0 between left xs ys h.1.1 k))
-
-pub all_own-append : (P : Script → Type 0) (xs ys : List LegRun) → AllOwn P xs → AllOwn P ys → AllOwn P (xs ++ ys)
-all_own-append P [] ys h k = k
-all_own-append P (x ∷ xs) ys h k = (h.0, all_own-append P xs ys h.1 k)
-
-pub all_own-map : (P Q : Script → Type 0) (runs : List LegRun) → ((own : Script) → P own → Q own) → AllOwn P runs → AllOwn Q runs
-all_own-map P Q [] f h = tt
-all_own-map P Q (r ∷ runs) f h = (f r.own h.0, all_own-map P Q runs f h.1)
 
 pub go_on-append : (schedule : List (ℕ × ℕ)) (used between used' : ℕ) (xs ys : List LegRun) → GoOn schedule used xs between → GoOn schedule between ys used' → GoOn schedule used (xs ++ ys) used'
 go_on-append schedule used between used' [] ys h k = subst (λ n. GoOn schedule n ys used') h k

@@ -23,6 +23,7 @@ use Rattle.stack_ops.specs.declared.reply.Reply.{Reply}
 use Rattle.whole_run.specs.Past.{Brought}
 use Rattle.whole_run.specs.ScriptWalk.{bad_from, reply_of, whole_or_bad}
 use Rattle.whole_run.specs.Settings.{Block, Setting}
+use Rattle.whole_run.proofs.InSteps.{each_length}
 use Rattle.script_text.specs.declared.script.Script.{Script}
 use Rattle.script_stack.specs.Causes.{table_of}
 use Rattle.script_stack.specs.Followed.{HasWalked, none_fails, setting_of}
@@ -39,7 +40,6 @@ use Rattle.leg_runs.specs.LegRuns.{AllWalked, LegRun, found_by, pool_of, replies
 use Rattle.leg_runs.specs.OnOps.{Sides, WroteBy, whole_request}
 use Rattle.leg_runs.specs.Standing.{IsOver, half_of, mirror_setting}
 use Rattle.leg_runs.proofs.Ground.{fits, legs}
-use Rattle.leg_runs.proofs.Painting.{length-each}
 use Rattle.leg_runs.proofs.Replied.{found-last}
 use Rattle.leg_runs.proofs.Requests.{IsRequest, whole-piece}
 
@@ -63,8 +63,8 @@ whys-long m (b ∷ bs) (e ∷ es) l = ap suc (whys-long m bs es (omega (arith, l
 -- as many as blocks
 pub whys-each : (m : Setting) (op k virt n size app : ℕ) (bytes : List ℕ) → length (whys_written m (blocks_on op k virt n) (brought_each size app n bytes)) ≡ n
 whys-each m op k virt n size app bytes =
-    let a : length (blocks_on op k virt n) ≡ n = length-each 0 n (λ j. record { op = op; k = k + j; virt = virt + j }) in
-    let b : length (brought_each size app n bytes) ≡ n = length-each 0 n (λ j. record { body = take size (drop (j * size) bytes); app = app }) in
+    let a : length (blocks_on op k virt n) ≡ n = each_length 0 n (λ j. record { op = op; k = k + j; virt = virt + j }) in
+    let b : length (brought_each size app n bytes) ≡ n = each_length 0 n (λ j. record { body = take size (drop (j * size) bytes); app = app }) in
     whys-long m (blocks_on op k virt n) (brought_each size app n bytes) (a ∙ sym b) ∙ a
 
 -- the bytes of a request's data

@@ -13,7 +13,7 @@ use Rattle.merge_queue.proofs.Joins.{row, length-row, pairs-more, one-or-none}
 
 -- ---- sums
 
-total-each : {A : Type 0} (f g : A → ℕ) (xs : List A) → ((x : A) → f x ≡ g x) → total f xs ≡ total g xs
+pub total-each : {A : Type 0} (f g : A → ℕ) (xs : List A) → ((x : A) → f x ≡ g x) → total f xs ≡ total g xs
 total-each f g [] h = refl
 total-each f g (x ∷ xs) h = let a = h x in let b = total-each f g xs h in omega arith
 

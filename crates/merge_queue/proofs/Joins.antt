@@ -1,10 +1,11 @@
 -- Only the groups that begin where another ends may be joined behind it.
-use Rattle.std.proofs.Common.{◌≡◌, ℕ, zero, suc, ◌+◌, ◌-◌, ◌<◌, ◌≤◌, Bool, true, false, not, eqb, List, [], ◌∷◌, ◌++◌, length, get_or, map, refl, sym, ap, ◌∙◌, subst, ⊎_elim, arith, append-nil, append_assoc, length-append}
+use Rattle.std.proofs.Common.{◌≡◌, ℕ, zero, suc, ◌+◌, ◌-◌, ◌<◌, ◌≤◌, Bool, true, false, not, eqb, List, [], ◌∷◌, ◌++◌, length, get_or, map, refl, sym, ap, ◌∙◌, subst, ⊎_elim, arith, append-nil, length-append}
 use Rattle.std.specs.Prelude.{if◌then◌else◌}
 use Rattle.std.specs.List.{filter, flat_map}
 use Rattle.std.proofs.lemmas.Bool.{cases_Bool, cases_lt, and_left, and_right, ne_eqb}
 use Rattle.std.proofs.lemmas.List.Elements.{filter-append}
 use Rattle.std.proofs.lemmas.List.{get_or_append_left, get_or-append_right, get_or-map, length-map}
+use Rattle.std.proofs.lemmas.Grind.{flat_map-append}
 use Rattle.bio_core.specs.declared.bio.Bio.{Bio}
 use Rattle.merge_queue.specs.declared.limits.Limits.{Limits}
 use Rattle.merge_queue.specs.declared.entries.Entry.{Entry}
@@ -115,10 +116,6 @@ one-or-none false = omega arith
 abbrev pub row : Limits → List Group → ℕ → List (ℕ × ℕ)
 row lim q i = map (λ j. (i, j)) (followers lim q i)
 
-flat-append : {A B : Type 0} (f : A → List B) (xs ys : List A) → flat_map f (xs ++ ys) ≡ flat_map f xs ++ flat_map f ys
-flat-append f [] ys = refl
-flat-append f (x ∷ xs) ys = ap (λ z. f x ++ z) (flat-append f xs ys) ∙ sym (append_assoc (f x) (flat_map f xs) (flat_map f ys))
-
 pub length-row : (lim : Limits) (q : List Group) (i : ℕ) → length (row lim q i) ≡ length (followers lim q i)
 length-row lim q i = length-map (followers lim q i) (λ j. (i, j))
 
@@ -127,7 +124,7 @@ pairs-more lim q i =
     let e = numbers-split 0 i 1 (i + 1) refl in
     let z : 0 + i ≡ i = omega arith in
     ap (λ w. length (flat_map (row lim q) w)) (e ∙ ap (λ w. numbers 0 i ++ numbers w 1) z)
-    ∙ ap length (flat-append (row lim q) (numbers 0 i) (i ∷ []))
+    ∙ ap length (flat_map-append (row lim q) (numbers 0 i) (i ∷ []))
     ∙ length-append (flat_map (row lim q) (numbers 0 i)) (row lim q i ++ [])
     ∙ (let a = ap length (append-nil (row lim q i)) in let b = length-row lim q i in omega arith)
 

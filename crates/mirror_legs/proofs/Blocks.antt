@@ -18,7 +18,9 @@ use Rattle.whole_run.specs.Settings.{Block, Setting, route}
 use Rattle.whole_run.specs.Steps.{Reads, Step, Writes, each_from}
 use Rattle.mirror_walk.specs.OnLegs.{data_read, landed_by, stored_at, why_of, whys_read, whys_written, written}
 use Rattle.mirror_walk.specs.Repair.{reading, writing}
+use Rattle.mirror_walk.proofs.ReadByLegs.{finds as why_in}
 use Rattle.mirror_legs.proofs.Turns.{scattered}
+use Rattle.run_moves.proofs.Turns.{turn_length}
 
 -- ---- one block
 
@@ -31,11 +33,6 @@ left_out : (r : Route) (w : WayOut) (back : List ℕ) (log : List (List ℕ)) (c
 left_out r (Fails why) back log c blocks = refl
 left_out r (Refuses why) back log c blocks = refl
 left_out r (Stores carried stored) back log c blocks = refl
-
-why_in : (r : Route) (w : WayIn) (size after : ℕ) → (read_by r OfBlock w size after).answer.why ≡ why_of (delivered_of w)
-why_in r (Stops why) size after = refl
-why_in r (Spoils why carried) size after = refl
-why_in r (Delivers carried frame) size after = refl
 
 -- what lands is as long as the block's cells
 abbrev IsLong : (size : ℕ) → Result (List ℕ) Why → Type 0
@@ -55,10 +52,6 @@ lands r (Delivers carried frame) size after h = record { long = h; front = refl 
 
 landed_at : (r : Route) (w : WayIn) (size after : ℕ) (came : Result (List ℕ) Why) → delivered_of w ≡ came → IsLong size came → Lands size (read_by r OfBlock w size after).written.bytes (landed_by size came)
 landed_at r w size after came e h = subst (λ x. Lands size (read_by r OfBlock w size after).written.bytes (landed_by size x)) e (lands r w size after (subst (IsLong size) (sym e) h))
-
-pub turn_length : (v n : ℕ) → length (in_turn v n) ≡ n
-turn_length v zero = refl
-turn_length v (suc n) = ap suc (turn_length (suc v) n)
 
 module _ (own m : Setting) where
   -- one setting does a block as the other does another

@@ -22,8 +22,9 @@ use Rattle.whole_run.specs.Steps.{Reads, Step, each_from}
 use Rattle.mirror_walk.specs.OnLegs.{data_read, landed_by, why_of, whys_read}
 use Rattle.mirror_walk.specs.Repair.{reading}
 use Rattle.mirror_legs.specs.Legs.{by_app, tuple_landed, tuples_read}
-use Rattle.mirror_legs.proofs.Blocks.{Alike, turn_length}
+use Rattle.mirror_legs.proofs.Blocks.{Alike}
 use Rattle.mirror_legs.proofs.Turns.{scattered}
+use Rattle.run_moves.proofs.Turns.{turn_length}
 
 -- ---- who verifies a block
 

@@ -3,7 +3,6 @@ use Rattle.std.proofs.Common.{◌≡◌, ◌<◌, ◌≤◌, ℕ, suc, ◌+◌, 
 use Rattle.std.specs.Prelude.{IfOk, Result, Ok, Err, nat_abs}
 use Rattle.std.proofs.lemmas.Bool.{eq-eqb}
 use Rattle.std.proofs.lemmas.List.{drop-append-le, length-drop, length-replicate, take-append-le, take-take, take_all}
-use Rattle.std.proofs.Math.Nat.{mul-le-mul_right}
 use Rattle.page_pool.specs.declared.segs.Seg.{Seg}
 use Rattle.page_pool.specs.Cells.{flat, gather}
 use Rattle.range_gate.specs.Cells.{in_turn}
@@ -36,6 +35,7 @@ use Rattle.block_path.proofs.Sizes.{in_size, mapped_sizes}
 use Rattle.whole_run.specs.ScriptWalk.{bad_from, replies_from, walk_from, whole_or_bad}
 use Rattle.whole_run.specs.Settings.{Block, Setting, block_of, route}
 use Rattle.whole_run.specs.Steps.{body_of}
+use Rattle.whole_run.proofs.CalmRuns.{room as block_ends}
 use Rattle.run_laws.proofs.Layers.{unmoved}
 use Rattle.run_moves.specs.Suited.{IsAtTarget}
 use Rattle.script_text.specs.declared.script.Script.{Script}
@@ -60,9 +60,6 @@ pages_room bytes = omega arith
 
 pub pages_least : (bytes : ℕ) → 4096 * pages_for bytes < bytes + 4096
 pages_least bytes = omega arith
-
-pub block_ends : (size k n : ℕ) → k < n → k * size + size ≤ n * size
-block_ends size k n l = let up : suc k * size ≤ n * size = mul-le-mul_right size l in omega (arith, up)
 
 -- ---- a frame that is delivered is as long as one between host and adapter
 

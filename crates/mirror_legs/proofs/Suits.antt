@@ -1,8 +1,8 @@
 -- The scripts of a piece suit a stack, and have no fault over their volume.
 use Rattle.std.proofs.Common.{◌≡◌, ◌<◌, ◌≤◌, ℕ, zero, suc, ◌+◌, ◌-◌, ◌*◌, Bool, true, false, not, eqb, ◌&&◌, ◌||◌, if◌then◌else◌, List, [], ◌∷◌, ◌++◌, length, replicate, take, drop, Option, Some, None, refl, sym, ap, subst, ◌∙◌, arith, length-append, ◌⊎◌, inl, inr}
-use Rattle.std.specs.Prelude.{◌%◌, max, min, nat_le, nat_lt, slice_get, unwrap_or}
+use Rattle.std.specs.Prelude.{◌%◌, max, min, nat_le, nat_lt, slice_get}
 use Rattle.std.specs.List.{list_any}
-use Rattle.std.proofs.lemmas.Bool.{and_from, and_parts, eq-eqb, eqb-true, le-leb, le-ltb, leb-true, lt-ltb, ltb-true, ne_eqb}
+use Rattle.std.proofs.lemmas.Bool.{and_from, and_parts, eq-eqb, le-leb, le-ltb, leb-true, lt-ltb, ltb-true, ne_eqb}
 use Rattle.std.proofs.lemmas.List.{append-nil, length-drop, length-replicate, length-take}
 use Rattle.std.proofs.lemmas.List.Folds.{list_any-append}
 use Rattle.pi_tuple.specs.declared.checks.PiType.{PiType}
@@ -10,6 +10,7 @@ use Rattle.pi_tuple.specs.declared.checks.PiType.TheVariants.{Zero as TypeZero, 
 use Rattle.page_pool.specs.declared.segs.Seg.{Seg}
 use Rattle.page_pool.specs.Cuts.{behind, cut, front, past, upto}
 use Rattle.page_pool.specs.Places.{shares, total}
+use Rattle.page_pool.proofs.Cutting.{upto-0}
 use Rattle.fault_schedule.specs.declared.fault.FaultKind.{FaultKind}
 use Rattle.fault_schedule.specs.declared.fault.FaultKind.TheVariants.{Flip, Shift}
 use Rattle.fault_schedule.specs.declared.fault.FaultLine.{FaultLine}
@@ -26,7 +27,7 @@ use Rattle.script_text.specs.Segments.{any_share, are_few_each, are_inside, are_
 use Rattle.script_text.specs.declared.fault.ScriptFault.{ScriptFault}
 use Rattle.script_text.specs.declared.script.Script.{Script}
 use Rattle.script_laws.specs.Keeping.{Each, IsWithin, blocks_of}
-use Rattle.script_laws.specs.Lines.{tag_of}
+use Rattle.script_laws.proofs.BigKeeps.{tag_twice}
 use Rattle.script_ground.specs.SuitsStack.{IsStackOp}
 use Rattle.mirror_script.specs.MirrorFaults.{names_blocks}
 use Rattle.mirror_legs.specs.declared.piece.Piece.{Piece}
@@ -49,7 +50,7 @@ segs_length : (page pages bytes : ℕ) → length (page_segs page pages bytes) �
 segs_length page zero bytes = refl
 segs_length page (suc q) bytes = ap suc (segs_length (suc page) q (bytes - 4096))
 
-segs_total : (page pages bytes : ℕ) → bytes ≤ 4096 * pages → total (page_segs page pages bytes) ≡ bytes
+pub segs_total : (page pages bytes : ℕ) → bytes ≤ 4096 * pages → total (page_segs page pages bytes) ≡ bytes
 segs_total page zero bytes l = omega arith
 segs_total page (suc q) bytes l = let r = segs_total (suc page) q (bytes - 4096) (omega arith) in omega arith
 
@@ -78,13 +79,6 @@ segs_apart page (suc q) bytes =
 
 -- ---- a block lies in at most two of them
 
-upto_none : (ss : List Seg) → upto 0 ss ≡ []
-upto_none [] = refl
-upto_none (s ∷ ss) =
-    let e : min s.len 0 ≡ 0 = omega arith in
-    let z : 0 - s.len ≡ 0 = omega arith in
-    (λ i. if nat_lt 0 (e i) then front 0 s ∷ upto (z i) ss else upto (z i) ss) ∙ upto_none ss
-
 one_more : (c : Bool) (s : Seg) (ss : List Seg) → length (if c then s ∷ ss else ss) ≤ suc (length ss)
 one_more true s ss = omega arith
 one_more false s ss = omega arith
@@ -98,7 +92,7 @@ upto_one most page (suc zero) bytes l g = upto_head most (record { page = page; 
 upto_one most page (suc (suc q)) bytes l g =
     let rest = page_segs (suc page) (suc q) (bytes - 4096) in
     let z : most - min 4096 bytes ≡ 0 = omega arith in
-    let none : length (upto (most - min 4096 bytes) rest) ≡ 0 = ap length (ap (λ n. upto n rest) z ∙ upto_none rest) in
+    let none : length (upto (most - min 4096 bytes) rest) ≡ 0 = ap length (ap (λ n. upto n rest) z ∙ upto-0 rest) in
     let h = upto_head most (record { page = page; off = 0; len = min 4096 bytes }) rest in omega arith
 
 cut_two : (most at page pages bytes : ℕ) → most ≤ 4096 → 4096 * pages < bytes + 4096 → length (upto most (past at (page_segs page pages bytes))) ≤ 2
@@ -237,19 +231,13 @@ has_both size half p b f =
       few = few;
     }
 
-tag_back : (app : ℕ) → unwrap_or (tag_of app) 0 ≡ app
-tag_back app = by (eqb app 0) refl where
-  by : (c : Bool) → eqb app 0 ≡ c → unwrap_or (if c then None else Some app) 0 ≡ app
-  by true e = sym (eqb-true app 0 e)
-  by false e = refl
-
 -- ---- ops that a stack takes
 
 needs_none : (dix needs : Bool) → dix ≡ true → not dix && needs ≡ false
 needs_none dix needs e = ap (λ d. not d && needs) e
 
 write_op : (dix : Bool) (pages size v n app : ℕ) (segs : List Seg) → dix ≡ true → data_fault pages size n segs ≡ None → IsStackOp dix pages size (Write v n segs app)
-write_op dix pages size v n app segs d e = record { rules = (λ i. unless (e i) (Write v n segs (tag_back app i))); integrity = needs_none dix _ d; tag = tt }
+write_op dix pages size v n app segs d e = record { rules = (λ i. unless (e i) (Write v n segs (tag_twice app i))); integrity = needs_none dix _ d; tag = tt }
 
 read_op : (dix : Bool) (pages size v n : ℕ) (segs : List Seg) → dix ≡ true → data_fault pages size n segs ≡ None → IsStackOp dix pages size (Fetch v n segs)
 read_op dix pages size v n segs d e = record { rules = (λ i. unless (e i) (Fetch v n segs)); integrity = needs_none dix _ d; tag = tt }

@@ -1,12 +1,8 @@
 -- Ops that supply no escape on either leg, whatever stands in the pages.
-use Rattle.std.proofs.Common.{◌≡◌, ℕ, zero, suc, ◌%◌, ◌^◌, ◌+◌, Bool, true, false, List, [], ◌∷◌, ◌++◌, refl}
+use Rattle.std.proofs.Common.{◌≡◌, ℕ, zero, suc, ◌%◌, ◌^◌, ◌+◌, Bool, true, false, List, [], ◌∷◌, ◌++◌}
 use Rattle.std.specs.List.{list_all}
-use Rattle.std.proofs.lemmas.Bool.{and_left, and_parts, false≢true, not-true}
+use Rattle.std.proofs.lemmas.Bool.{and_parts, false≢true, not-true}
 use Rattle.std.specs.Prelude.{eqb}
-use Rattle.pi_tuple.specs.Finds.{is_escaped}
-use Rattle.pi_tuple.specs.declared.tuple.Tuple.{Tuple}
-use Rattle.pi_tuple.specs.declared.checks.PiType.{PiType}
-use Rattle.pi_tuple.specs.declared.checks.PiType.TheVariants.{One, Three, Two, Zero}
 use Rattle.page_pool.specs.Cells.{gather}
 use Rattle.integrity_payload.specs.declared.payload.Owner.{Owner}
 use Rattle.integrity_payload.specs.declared.payload.Owner.TheVariants.{Block as OfBlock, App as OfApp}
@@ -21,15 +17,9 @@ use Rattle.whole_run.specs.Settings.{Block, Setting, block_of, route}
 use Rattle.whole_run.specs.Steps.{Alters, Reads, Seals, Sets, Shows, Step, Writes, WritesPi, body_of, each_from, frame_at, steps_of, tuple_of}
 use Rattle.whole_run.specs.UnderMap.{NoneEscapes, SuppliesNoEscape}
 use Rattle.run_premises.specs.Forms.{supplies_none}
+use Rattle.run_premises.proofs.Escapes.{unescaped}
 use Rattle.mirror_walk.specs.Mirror.{Mirror, all_asked, asked, asks, count_of, done, mirror_opened}
 use Rattle.mirror_walk.specs.OneGood.{script_asks}
-
--- another application tag than FFFFh is no escape
-unescaped : (ty : PiType) (t : Tuple) → eqb t.app 0xFFFF ≡ false → is_escaped ty t ≡ false
-unescaped Zero t h = refl
-unescaped One t h = h
-unescaped Two t h = h
-unescaped Three t h = and_left (eqb t.app 0xFFFF) (eqb t.rtag 0xFFFF_FFFF) h
 
 -- a step by its form
 abbrev Bare : Step → Type 0

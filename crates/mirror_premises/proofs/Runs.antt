@@ -2,8 +2,8 @@
 use Rattle.std.proofs.Common.{◌≡◌, ◌<◌, ◌≤◌, ℕ, zero, suc, ◌+◌, ◌-◌, ◌%◌, ◌^◌, Bool, true, false, eqb, ◌&&◌, not, List, [], ◌∷◌, ◌++◌, length, get_or, set, refl, sym, ap, subst, ◌∙◌, arith, length-append}
 use Rattle.std.specs.Prelude.{All, pos, nat_abs}
 use Rattle.std.specs.List.{list_all, list_any}
-use Rattle.std.proofs.lemmas.Bool.{and_from, and_parts, eqb-false, eqb-true, eq-eqb, false≢true, false_from_ne_true, not-true, or_parts}
-use Rattle.std.proofs.lemmas.List.{get_or-set_other, get_or-set_same, length-set}
+use Rattle.std.proofs.lemmas.Bool.{and_from, and_parts, eqb-true, eq-eqb, false≢true, not-true, or_parts}
+use Rattle.std.proofs.lemmas.List.{length-set}
 use Rattle.pi_guard.specs.Guards.{guard_of}
 use Rattle.pi_guard.specs.declared.GuardKind.{GuardKind}
 use Rattle.pi_guard.specs.declared.GuardKind.TheVariants.{Crc}
@@ -37,12 +37,14 @@ use Rattle.whole_run.specs.Steps.{Alters, Reads, Seals, Sets, Shows, Step, Write
 use Rattle.whole_run.specs.UnderMap.{AreClean, NoneEscapes, SuppliesNoEscape, home}
 use Rattle.whole_run.proofs.CalmRuns.{part_length}
 use Rattle.whole_run.proofs.TupleFrames.{Small, below_append, below_gather, below_replicate, below_scatter, data_is, guard_below, tag_below, tuple_below, tuple_is}
-use Rattle.run_laws.specs.ShownRun.{IsChecked}
 use Rattle.run_laws.proofs.Layers.{checked, unmoved}
+use Rattle.run_laws.proofs.Along.{set_cases}
+use Rattle.run_laws.proofs.Reading.{checked_form}
 use Rattle.run_premises.specs.Forms.{first_virt, is_good_line, is_overwrite, is_shown_line, op_of}
 use Rattle.run_premises.specs.FormedRun.{IsOfBytes}
 use Rattle.run_premises.proofs.Lines.{IsLineOf, line_of, no_shift, none_of, pick}
 use Rattle.run_premises.proofs.Ways.{Fine, Kept, OfBytes, Right, comes_bytes, comes_shown, goes_kept, goes_shown}
+use Rattle.run_premises.proofs.Runs.{if_all}
 use Rattle.volume_table.specs.declared.device.DeviceInfo.{DeviceInfo}
 use Rattle.mirror_walk.specs.Mirror.{Mirror, all_asked, asked, asks, blocks_in, count_of, done, mirror_opened, twin}
 use Rattle.mirror_walk.specs.OneGood.{AllBind, Binds, script_asks}
@@ -50,21 +52,6 @@ use Rattle.mirror_premises.specs.Forms.{is_altered_on_legs, is_good_on_legs, may
 use Rattle.mirror_premises.specs.FormedMirror.{AllPutBytes, HasFormedLegs, PutsBytes}
 use Rattle.mirror_premises.proofs.Apart.{apart, good_apart}
 use Rattle.mirror_premises.proofs.Places.{on_leg0, on_leg1}
-
--- a cell after one was set
-set_cases : {X : Type 0} (P : X → Type 0) (cells : List X) (w c : ℕ) (x none : X) → (eqb w c ≡ true → (w < length cells) × P x) → (eqb w c ≡ false → P (get_or cells c none)) → P (get_or (set cells w x) c none)
-set_cases P cells w c x none here there = by (eqb w c) refl where
-  by : (t : Bool) → eqb w c ≡ t → P (get_or (set cells w x) c none)
-  by true q = subst (λ i. P (get_or (set cells w x) i none)) (eqb-true w c q) (subst P (sym (get_or-set_same cells w x none (here q).0)) (here q).1)
-  by false q = subst P (sym (get_or-set_other cells w c x none (λ e. eqb-false w c q (sym e)))) (there q)
-
-mends : (a b : Bool) → (a && b) ≡ false → a ≡ true → b ≡ true → ⊥
-mends true true h p q = false≢true (sym h)
-mends true false h p q = false≢true q
-mends false b h p q = false≢true p
-
-if_all : (a b : Bool) → (a && b) ≡ false → a ≡ true → b ≡ false
-if_all a b h p = false_from_ne_true b (mends a b h p)
 
 module _ (m' : Setting) (half : ℕ) (ops : List Op) (even : m'.size % 2 ≡ 0) (flips : All (λ (line : FaultLine). IsOfBytes line.kind) m'.site.faults)
     (form : list_all (is_good_on_legs m'.mode.kind m'.size half m'.site.faults ops) m'.site.faults ≡ true) (image : List (List ℕ)) (lies : LiesIn (checked m') (volume_len m'.entries) image) where
@@ -362,10 +349,6 @@ formed m' devices half ops opening run =
     (script_suits m' half ops run.even run.flips p.0 opening.blocks run.lies devices opening run.long run.bind run.puts (not-true _ p.1))
     run.no_escape
     (begins m' half ops run.even run.flips p.0 opening.blocks run.lies opening refl (below 256 opening.bytes run.pages) run.clean)
-
--- a setting in which each fault can be shown is its own form
-checked_form : (m : Setting) → IsChecked m → m ≡ checked m
-checked_form m c = λ i. record m { mode = record m.mode { dix = c.dix i; dif = c.dif i; protect = c.protect i }; ty = c.ty i; site = record m.site { device = c.device i } }
 
 pub shown_by_form : (m : Setting) (devices : List DeviceInfo) (half : ℕ) (ops : List Op) (opening : State) → HasFormedLegs m devices half ops opening → detectable m (script_asks m half ops opening) opening ≡ true
 shown_by_form m devices half ops opening run =

@@ -11,7 +11,7 @@ use Rattle.volume_table.specs.declared.device.DeviceInfo.{DeviceInfo}
 use Rattle.whole_run.specs.UnderMap.{home}
 use Rattle.script_text.specs.declared.script.Script.{Script}
 use Rattle.script_stack.specs.Followed.{SizesAre}
-use Rattle.script_stack.proofs.Following.{sizes-found, told-image, told-shapes, told-stored}
+use Rattle.script_stack.proofs.Following.{sizes-found, told-shapes, told-stored}
 use Rattle.script_verdict.proofs.Devices.{has_device, image_holds, known_infos}
 use Rattle.script_verdict.specs.Verdict.{HoldsBlocks, WasAsked}
 use Rattle.leg_runs.specs.LegRuns.{NamesNoMedium}
@@ -27,6 +27,7 @@ use Rattle.mirror_verdict.specs.declared.mirrored.Mirrored.{Mirrored}
 use Rattle.mirror_walk.specs.Repair.{Repair}
 use Rattle.mirror_walk.specs.declared.marks.Marks.{Marks}
 use Rattle.stack_ops.specs.declared.reply.Reply.{Reply}
+use Rattle.stack_core.proofs.ToldOps.{is_told}
 
 -- the rig has the devices that were asked
 pub has-devices : (name : List ℕ) (devices : List DeviceInfo) (old told : View) → WasAsked name devices old told → told.seen.units ≡ units_told told.standing told.image → HasDevices devices (is_some told.image) told.standing
@@ -51,7 +52,7 @@ over-told s name devices old told begun us up e =
     let laid = sym up.laid ∙ e in
     record {
       bound = up.bound;
-      units = known_infos name devices old told up.asked up.laid (told-image told.standing told.image us laid) ∙ ap (map info_of) (sym (told-shapes told.standing told.image us laid up.ready));
+      units = known_infos name devices old told up.asked up.laid (is_told told.standing told.image us laid) ∙ ap (map info_of) (sym (told-shapes told.standing told.image us laid up.ready));
       stored = told-stored told.standing told.image us laid up.ready;
     }
 

@@ -1,10 +1,9 @@
 -- A bound script on a mirror whose faults have the form: all that one good leg asks.
-use Rattle.std.proofs.Common.{◌≡◌, ◌<◌, ℕ, suc, ◌*◌, ◌%◌, ◌⊎◌, inl, inr, true, false, not, List, [], ◌∷◌, arith, length, ap}
+use Rattle.std.proofs.Common.{◌≡◌, ◌<◌, ℕ, ◌*◌, ◌%◌, ◌⊎◌, inl, inr, true, false, not, List, [], ◌∷◌, arith, length, ap}
 use Rattle.std.specs.Prelude.{All}
 use Rattle.std.specs.List.{list_all, list_any}
 use Rattle.std.proofs.lemmas.Bool.{and_parts, not-true}
 use Rattle.std.proofs.lemmas.List.Elements.{All-cons, All-nil, All-replicate}
-use Rattle.hex.specs.Hex.{IsBytes}
 use Rattle.fault_schedule.specs.declared.fault.FaultKind.{FaultKind}
 use Rattle.fault_schedule.specs.declared.fault.FaultKind.TheVariants.{Flip, Shift}
 use Rattle.fault_schedule.specs.declared.fault.FaultLine.{FaultLine}
@@ -20,6 +19,7 @@ use Rattle.mirror_walk.specs.declared.marks.Marks.{Marks}
 use Rattle.script_text.specs.declared.script.Script.{Script}
 use Rattle.script_laws.specs.Keeping.{Each, IsFault, IsKind, IsOp as KeepsRules}
 use Rattle.script_ground.proofs.OverUnits.{cell-there}
+use Rattle.script_ground.proofs.Calm.{are-bytes}
 use Rattle.script_stack.specs.Causes.{table_of}
 use Rattle.whole_run.specs.CalmRun.{LiesIn}
 use Rattle.whole_run.specs.Detectable.{detectable}
@@ -56,10 +56,6 @@ StillLaw = (m : Setting) (devices : List DeviceInfo) (half : ℕ) (ops : List Op
 even : (n : ℕ) → (n ≡ 512) ⊎ (n ≡ 4096) → n % 2 ≡ 0
 even n (inl e) = omega arith
 even n (inr e) = omega arith
-
-are-bytes : (xs : List ℕ) → IsBytes xs → All (λ x. x < 256) xs
-are-bytes [] h = All-nil (λ (x : ℕ). x < 256)
-are-bytes (x ∷ xs) h = All-cons (λ (y : ℕ). y < 256) x xs (h 0) (are-bytes xs (λ i. h (suc i)))
 
 kind-bytes : (size : ℕ) (f : FaultLine) (kind : FaultKind) → IsKind size f kind → IsOfBytes kind
 kind-bytes size f (Flip off bytes) h = are-bytes bytes h.are_bytes

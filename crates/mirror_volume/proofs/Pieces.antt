@@ -12,7 +12,7 @@ use Rattle.stack_ops.specs.declared.op.Op.TheVariants.{Fetch, Write}
 use Rattle.script_lines.specs.declared.kind.ScriptKind.TheVariants.{BadRange}
 use Rattle.script_text.specs.Ops.{data_fault}
 use Rattle.script_ground.specs.SuitsStack.{IsStackOp}
-use Rattle.script_ground.proofs.Bodies.{alone-of, if-none, unless-ok}
+use Rattle.script_ground.proofs.Bodies.{alone-of, if-none}
 use Rattle.script_ground.proofs.Segments.{all-lie, once-both}
 use Rattle.script_stack.specs.Causes.{table_of}
 use Rattle.mirror_script.specs.MirrorFaults.{op_fault, range_fault}
@@ -21,6 +21,7 @@ use Rattle.leg_runs.specs.OnOps.{whole_request}
 use Rattle.mirror_volume.specs.Plans.{IsPieceOf, IsPlan}
 use Rattle.leg_runs.specs.Standing.{half_of, op_at}
 use Rattle.leg_runs.proofs.Requests.{IsRequest, op-fits, op-rules, request-fits}
+use Rattle.script_laws.proofs.OpForms.{no_fault}
 
 -- What is needed of the request of n blocks from v on, with its data: it is op `op`.
 pub record Suits (plan : Plan) (pool : List (List ℕ)) (op v n : ℕ) (body : List Seg) : Type 0 where
@@ -52,11 +53,11 @@ write-suits plan pool at v n body app is long l e =
     let s = plan.script in
     let rules = subst (IsStackOp s.mode.dix s.pages s.block) e (op-rules s plan.devices.items at is.bound l) in
     let fits = subst (λ (op : Op). op_fault s.mode.protect (table_of s plan.devices.items) plan.devices.items s.block op ≡ None) e (op-fits s plan.devices.items at is.bound l) in
-    request-suits plan pool (at + 1) v n body is long (unless-ok (data_fault s.pages s.block n body) _ _ rules.rules) fits
+    request-suits plan pool (at + 1) v n body is long (no_fault (data_fault s.pages s.block n body) _ _ rules.rules) fits
 
 pub fetch-suits : (plan : Plan) (pool : List (List ℕ)) (at v n : ℕ) (body : List Seg) → IsPlan plan → length pool ≡ plan.script.pages → at < length plan.script.ops → op_at plan.script.ops at ≡ Fetch v n body → Suits plan pool (at + 1) v n body
 fetch-suits plan pool at v n body is long l e =
     let s = plan.script in
     let rules = subst (IsStackOp s.mode.dix s.pages s.block) e (op-rules s plan.devices.items at is.bound l) in
     let fits = subst (λ (op : Op). op_fault s.mode.protect (table_of s plan.devices.items) plan.devices.items s.block op ≡ None) e (op-fits s plan.devices.items at is.bound l) in
-    request-suits plan pool (at + 1) v n body is long (unless-ok (data_fault s.pages s.block n body) _ _ rules.rules) fits
+    request-suits plan pool (at + 1) v n body is long (no_fault (data_fault s.pages s.block n body) _ _ rules.rules) fits

@@ -17,8 +17,9 @@ use Rattle.script_text.specs.Bindings.{or_else}
 use Rattle.script_text.specs.Ops.{data_fault}
 use Rattle.script_text.specs.declared.script.Script.{Script}
 use Rattle.script_laws.specs.Keeping.{IsOp as KeepsRules}
+use Rattle.script_laws.proofs.OpForms.{no_fault}
 use Rattle.script_ground.proofs.AtTarget.{told-long}
-use Rattle.script_ground.proofs.Bodies.{alone-of, unless-ok}
+use Rattle.script_ground.proofs.Bodies.{alone-of}
 use Rattle.script_ground.proofs.Calm.{tag-fits}
 use Rattle.script_ground.proofs.OverUnits.{cell-there, on-address, op-keeps, own-setting}
 use Rattle.script_ground.proofs.Rooms.{body-cells}
@@ -49,10 +50,10 @@ module _ (s : Script) (devices : List DeviceInfo) (us : List Stored) (is : IsOve
   binds-op (Show seg) k h = tt
   binds-op (Seal n body tuples app rtag) k h = absurd cc
   binds-op (Write v n body app) k h =
-      let r = request-fits s devices v n body is.bound (unless-ok (data_fault s.pages s.block n body) _ _ k.rules) h in
+      let r = request-fits s devices v n body is.bound (no_fault (data_fault s.pages s.block n body) _ _ k.rules) h in
       (r.inside, (r.long, tag-fits app k.ranges.1))
   binds-op (Fetch v n body) k h =
-      let good = unless-ok (data_fault s.pages s.block n body) _ _ k.rules in
+      let good = no_fault (data_fault s.pages s.block n body) _ _ k.rules in
       let r = request-fits s devices v n body is.bound good h in
       (r.inside, (r.long, body-cells s.pages s.block n body (alone-of s.pages s.block n body good)))
   binds-op (WritePi v n body tuples) k h = absurd cc

@@ -2,6 +2,7 @@
 use Rattle.std.proofs.Common.{ℕ, zero, suc, ◌≡◌, ◌+◌, ◌*◌, ◌≤◌, ◌<◌, Bool, true, false, List, [], ◌∷◌, ◌++◌, Option, get_or, length, take, refl, arith}
 use Rattle.std.proofs.Math.Nat.{add-mul, mul-le-mul_right}
 use Rattle.script_laws.specs.Keeping.{Each}
+use Rattle.script_laws.proofs.Held.{each_both}
 use Rattle.bio_core.specs.declared.fate.Why.{Why}
 use Rattle.page_pool.specs.Cells.{flat}
 use Rattle.script_text.specs.declared.script.Script.{Script}
@@ -31,10 +32,6 @@ bytes-after-append script p size (s ∷ ss) ts (r ∷ runs) more bytes h = bytes
 
 -- ---- where stretches lie
 
-each-append : {A : Type 0} (P : A → Type 0) (xs ys : List A) → Each P xs → Each P ys → Each P (xs ++ ys)
-each-append P [] ys h k = k
-each-append P (x ∷ xs) ys h k = (h.0, each-append P xs ys h.1 k)
-
 pub each-at : {A : Type 0} (P : A → Type 0) (xs : List A) (i : ℕ) (d : A) → i < length xs → Each P xs → P (get_or xs i d)
 each-at P [] i d l h = absurd (omega (arith, l))
 each-at P (x ∷ xs) zero d l h = h.0
@@ -48,7 +45,7 @@ inside-from : (n at many : ℕ) (wanted : List Bool) → many ≤ at → at + le
 inside-from n at many [] l h = ended-inside n at many l (omega (arith, h))
 inside-from n at many (true ∷ wanted) l h = inside-from n (suc at) (suc many) wanted (omega (arith, l)) (omega (arith, h))
 inside-from n at many (false ∷ wanted) l h =
-    each-append (IsInside n) (ended at many) (stretches_from (suc at) 0 wanted) (ended-inside n at many l (omega (arith, h))) (inside-from n (suc at) 0 wanted (omega arith) (omega (arith, h)))
+    each_both (IsInside n) (ended at many) (stretches_from (suc at) 0 wanted) (ended-inside n at many l (omega (arith, h))) (inside-from n (suc at) 0 wanted (omega arith) (omega (arith, h)))
 
 pub all-inside : (n : ℕ) (wanted : List Bool) → length wanted ≡ n → Each (IsInside n) (stretches wanted)
 all-inside n wanted e = inside-from n 0 0 wanted (omega arith) (omega (arith, e))

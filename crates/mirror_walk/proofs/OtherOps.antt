@@ -2,11 +2,11 @@ use Rattle.std.proofs.Common.{◌≡◌, ℕ, suc, ◌+◌, List, [], ◌∷◌,
 use Rattle.stack_ops.specs.declared.op.Op.{Op}
 use Rattle.stack_ops.specs.declared.op.Op.TheVariants.{Fetch, FetchPi, Fill, Overwrite, Put, Seal, Show, Wait, Write, WritePi}
 use Rattle.block_path.specs.Serial.{plain}
+use Rattle.block_path.proofs.InTurn.{plain_append}
 use Rattle.whole_run.specs.Past.{steps_from}
 use Rattle.whole_run.specs.ScriptWalk.{reply_of}
 use Rattle.whole_run.specs.Settings.{Setting}
 use Rattle.whole_run.specs.Steps.{Step, steps_of}
-use Rattle.whole_run.proofs.AnyOrder.{plain_append}
 use Rattle.mirror_walk.specs.Mirror.{Mirror, done, replies_from}
 use Rattle.mirror_walk.specs.LegByLeg.{NoRequest, OneMoreOp, answers_of}
 

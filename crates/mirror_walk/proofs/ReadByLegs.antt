@@ -38,7 +38,7 @@ lands_by r (Stops why) size after = refl
 lands_by r (Spoils why carried) size after = refl
 lands_by r (Delivers carried frame) size after = refl
 
-finds : (r : Route) (w : WayIn) (size after : ℕ) → (read_by r OfBlock w size after).answer.why ≡ why_of (delivered_of w)
+pub finds : (r : Route) (w : WayIn) (size after : ℕ) → (read_by r OfBlock w size after).answer.why ≡ why_of (delivered_of w)
 finds r (Stops why) size after = refl
 finds r (Spoils why carried) size after = refl
 finds r (Delivers carried frame) size after = refl

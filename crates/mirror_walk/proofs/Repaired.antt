@@ -20,7 +20,7 @@ use Rattle.whole_run.specs.ScriptWalk.{act_of}
 use Rattle.whole_run.specs.Settings.{Block, Setting}
 use Rattle.whole_run.specs.Steps.{Alters, Reads, Seals, Sets, Shows, Step, Writes, WritesPi}
 use Rattle.whole_run.specs.UnderMap.{NoneEscapes, home}
-use Rattle.whole_run.proofs.TupleFrames.{frame_small}
+use Rattle.whole_run.proofs.TupleFrames.{frame_small, three as same_tuple}
 use Rattle.run_laws.specs.ShownRun.{HasCells, LiesOn}
 use Rattle.whole_run.proofs.InSteps.{scatter_length}
 use Rattle.mirror_walk.specs.Mirror.{Mirror, accepted, all_asked, answer, asks, count_of, done, fresh, marks_of, mirror_opened, mirror_past, mirror_walk}
@@ -29,12 +29,12 @@ use Rattle.mirror_walk.specs.OneGood.{AllSpare, AreBytes, HoldsProper, IsMirrorR
 use Rattle.mirror_walk.specs.Repair.{Repair, mirror_repair, repair_block, repair_from, steady}
 use Rattle.run_laws.proofs.Along.{begins}
 use Rattle.mirror_walk.proofs.Delivery.{AllFitIn, FitsIn, last_in, split_escapes, split_shown}
-use Rattle.run_laws.proofs.Framed.{same_tuple}
 use Rattle.mirror_walk.proofs.Holds.{refused_last}
 use Rattle.run_laws.proofs.Layers.{checked}
+use Rattle.run_laws.proofs.Reading.{checked_form}
 use Rattle.mirror_walk.proofs.Mending.{After, Before, Mended, SoundAs, SpoiltAt, at0, at1, block_mended}
 use Rattle.mirror_walk.proofs.Steps.{HasIn, Held, asks_fit, held_after, marks_long, step_has}
-use Rattle.mirror_walk.proofs.Whole.{checked_form, script_fits, starts}
+use Rattle.mirror_walk.proofs.Whole.{script_fits, starts}
 
 smaller : (w u : ℕ) → w < suc u → (w ≡ u → ⊥) → w < u
 smaller zero zero l off = absurd (off refl)

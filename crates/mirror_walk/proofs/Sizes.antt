@@ -4,7 +4,8 @@ use Rattle.std.proofs.lemmas.Bool.{eqb-true, eqb-false}
 use Rattle.std.proofs.lemmas.List.{get_or-set_other, length-take-le}
 use Rattle.page_pool.specs.Cells.{gather}
 use Rattle.pi_tuple.specs.declared.checks.Check.{Check}
-use Rattle.fault_schedule.specs.Altered.{byte_at, xored_from}
+use Rattle.fault_schedule.specs.Altered.{byte_at}
+use Rattle.fault_schedule.proofs.Xored.{length-xored}
 use Rattle.integrity_payload.specs.declared.payload.Owner.{Owner}
 use Rattle.integrity_payload.specs.declared.payload.Owner.TheVariants.{App as OfApp, Block as OfBlock}
 use Rattle.bio_core.specs.declared.fate.Why.{Why}
@@ -23,12 +24,12 @@ use Rattle.block_path.specs.WayIn.{delivered_of, delivered_unless, from_device, 
 use Rattle.block_path.specs.WayOut.{from_adapter, mapped_out, stored_of, to_wire, at_device}
 use Rattle.block_path.proofs.Cells.{gather_length}
 use Rattle.block_path.proofs.Sizes.{in_size, mapped_sizes, out_size}
+use Rattle.block_path.proofs.InTurn.{plain_append}
 use Rattle.whole_run.specs.Past.{Brought, brought_by, steps_from}
 use Rattle.whole_run.specs.ScriptWalk.{act_of, changed, source_of}
 use Rattle.whole_run.specs.Settings.{Block, Setting, block_of, route}
 use Rattle.whole_run.specs.Steps.{Reads, Seals, Step, Writes, WritesPi, body_of, each_from, frame_at, steps_of, tuple_of}
 use Rattle.whole_run.specs.UnderMap.{home}
-use Rattle.whole_run.proofs.AnyOrder.{plain_append}
 use Rattle.whole_run.proofs.CalmRuns.{part_length}
 use Rattle.run_moves.proofs.AtTarget.{sends_length, stores_length}
 use Rattle.mirror_walk.specs.Mirror.{Mirror, asked, done, is_none, marks_of, twin}
@@ -91,13 +92,8 @@ set_keeps opening blocks c x h e i = by (eqb i c) refl where
   by true q = subst (λ j. length (get_or (set blocks c x) j []) ≡ length (get_or opening j [])) (sym (eqb-true i c q)) (set_here blocks c (length (get_or opening c [])) x e (h c))
   by false q = ap length (get_or-set_other blocks c i x [] (eqb-false i c q)) ∙ h i
 
--- an overwrite's
-xored_length : (name : ℕ → ℕ) (i : ℕ) (xs : List ℕ) → length (xored_from name i xs) ≡ length xs
-xored_length name i [] = refl
-xored_length name i (x ∷ xs) = ap suc (xored_length name (i + 1) xs)
-
 changed_length : (change : Change) (block : List ℕ) → length (changed change block) ≡ length block
-changed_length (Flip off bytes) block = xored_length (byte_at off bytes) 0 block
+changed_length (Flip off bytes) block = length-xored (byte_at off bytes) 0 block
 changed_length (Copy from at) block = refl
 
 module _ (m : Setting) (half : ℕ) (opening : List (List ℕ)) (legs : HasLegs m half) (sizes : HasSizes m opening) where

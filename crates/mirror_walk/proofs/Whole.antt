@@ -14,6 +14,7 @@ use Rattle.block_path.specs.Acts.{State, act, effect}
 use Rattle.block_path.specs.Blocks.{Answer}
 use Rattle.block_path.specs.Serial.{plain, plain_tells}
 use Rattle.block_path.proofs.Cells.{AllBelow, below, distinct, gather_past}
+use Rattle.block_path.proofs.InTurn.{plain_append}
 use Rattle.whole_run.specs.Detectable.{detectable}
 use Rattle.whole_run.specs.FirstLayer.{last_accepted}
 use Rattle.whole_run.specs.UnderMap.{NoneEscapes}
@@ -21,15 +22,14 @@ use Rattle.whole_run.specs.Past.{Brought, Event, steps_from}
 use Rattle.whole_run.specs.ScriptWalk.{act_of, bad_from, reply_of, request_reply, whole_or_bad}
 use Rattle.whole_run.specs.Settings.{Block, Setting, block_of}
 use Rattle.whole_run.specs.Steps.{Reads, Step, Writes, body_of, each_from, steps_of}
-use Rattle.whole_run.proofs.AnyOrder.{plain_append}
 use Rattle.whole_run.proofs.CalmRuns.{part_length}
-use Rattle.run_laws.specs.ShownRun.{IsChecked}
 use Rattle.whole_run.proofs.InSteps.{acts_stepped, each_split, same_pages, steps_split}
 use Rattle.run_laws.proofs.Parts.{block_below, block_distinct, blocks_apart, landed}
 use Rattle.mirror_walk.specs.Mirror.{Mirror, accepted, all_asked, answer, asked, asks, count_of, done, fresh, marks_of, mirror_opened, mirror_past, mirror_replies, replies_from, twin}
 use Rattle.mirror_walk.specs.OneGood.{AllBind, AllSpare, Binds, IsMirrorRun, ReadsLast, last_of, on_leg}
 use Rattle.run_laws.proofs.Along.{begins}
 use Rattle.run_laws.proofs.Layers.{checked}
+use Rattle.run_laws.proofs.Reading.{checked_form}
 use Rattle.mirror_walk.proofs.Delivery.{AllFitIn, Gets, read_along}
 use Rattle.mirror_walk.proofs.Holds.{Has}
 
@@ -254,10 +254,6 @@ module _ (m' : Setting) (devices : List DeviceInfo) (half : ℕ) (ops : List Op)
 
     pub reads_last : ReadsLast m half ops before v n body opening
     reads_last = record { reply = reply_whole; data_is = data_read }
-
--- a setting in which each fault can be shown is its own form
-pub checked_form : (m : Setting) → IsChecked m → m ≡ checked m
-checked_form m c = λ i. record m { mode = record m.mode { dix = c.dix i; dif = c.dif i; protect = c.protect i }; ty = c.ty i; site = record m.site { device = c.device i } }
 
 pub mirror_reads_last : (m : Setting) (devices : List DeviceInfo) (half : ℕ) (before after : List Op) (v n : ℕ) (body : List Seg) (opening : State) → IsMirrorRun m devices half (before ++ (Fetch v n body ∷ after)) opening →
     ReadsLast m half (before ++ (Fetch v n body ∷ after)) before v n body opening

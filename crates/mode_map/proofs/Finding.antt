@@ -18,6 +18,7 @@ use Rattle.fault_schedule.specs.Altered.{altered, byte_at, is_same}
 use Rattle.fault_schedule.specs.declared.fault.Crossing.{Crossing}
 use Rattle.fault_schedule.specs.declared.fault.Crossing.TheVariants.{AdapterToHost, AdapterToTarget, HostToAdapter, MediumToTarget, TargetToAdapter, TargetToMedium}
 use Rattle.fault_schedule.specs.declared.fault.FaultLine.{FaultLine}
+use Rattle.fault_schedule.proofs.Xored.{length-xored}
 use Rattle.integrity_payload.specs.Payloads.{all_asked}
 use Rattle.integrity_payload.specs.declared.payload.Owner.{Owner}
 use Rattle.integrity_payload.specs.declared.payload.Owner.TheVariants.{Block as OfBlock, App as OfApp}
@@ -34,13 +35,13 @@ use Rattle.block_path.proofs.Cells.{AllBelow, below}
 use Rattle.whole_run.specs.Settings.{Block, Setting, route}
 use Rattle.whole_run.specs.PlainMap.{Entry, all_pass, as_expected, entry_of, finds_of_app, handed, own_in, tag_of}
 use Rattle.whole_run.specs.UnderMap.{stored_as}
-use Rattle.whole_run.proofs.CalmWays.{IsProper, comes_home, goes, goes_bare, goes_on, here, loud, onto_wire, proper_entry, quiet, rtag_below, unmasked, wire}
+use Rattle.whole_run.proofs.CalmWays.{IsProper, comes_home, goes, goes_bare, goes_on, here, loud, onto_wire, proper_entry, quiet, rtag_below, unmasked, wire, onto_medium, off_medium, off_wire, new_guard}
 use Rattle.whole_run.proofs.TupleFrames.{Small, data_is, finds_none, guard_below, mapped_is, tag_below}
 use Rattle.mode_map.specs.Finders.{IsClean, ShowsIn, checks_stored, seen_in, finder, flip_of, flipped, is_served, seen_by, seen_in_read, seen_in_write, seen_on_way_in, seen_on_way_out}
 use Rattle.mode_map.specs.declared.finder.Seen.{Seen}
 use Rattle.mode_map.specs.declared.finder.Seen.TheVariants.{Adapter, Target, Owner as OfOwner}
-use Rattle.mode_map.proofs.Flips.{altered-bare, altered-here, altered-there, crossed-there, flipped-below, label_of, no-shift, xored-length}
-use Rattle.mode_map.proofs.Stages.{CameIn, WentOut, came-in, finds-guard, from-medium, from-wire, guard-mapped, new-guard, off-medium, off-wire, onto-medium, open-mapped, rtag-mapped, to-medium, to-wire, went-out}
+use Rattle.mode_map.proofs.Flips.{altered-bare, altered-here, altered-there, crossed-there, flipped-below, label_of, no-shift}
+use Rattle.mode_map.proofs.Stages.{CameIn, WentOut, came-in, finds-guard, from-medium, from-wire, guard-mapped, open-mapped, rtag-mapped, to-medium, to-wire, went-out}
 
 -- the tags of an entry are no escape's
 abbrev pub Unescaped : PiType → Entry → Type 0
@@ -198,9 +199,9 @@ module _ (m : Setting) (b : Block) (protect : 0 < m.mode.protect) (mask : m.mode
   adapter-sees : (dix : Bool) (ty : PiType) (owner : Owner) (e : Entry) (body : List ℕ) → IsProper m e → Unescaped ty e → Other m e body → is_zero ty ≡ false →
       from_wire [] (way dix true ty) (frame_of body (tuple_below ty e)) ≡ Err Guard
   adapter-sees dix Zero owner e body p h o z = absurd (cc)
-  adapter-sees dix One owner e body p h o z = off-wire (way dix true One) (frame_of body (tuple_below One e)) ∙ ap (λ x. unless x (received (way dix true One) (frame_of body (tuple_below One e)))) (adapter-finds dix One e body p h o refl)
-  adapter-sees dix Two owner e body p h o z = off-wire (way dix true Two) (frame_of body (tuple_below Two e)) ∙ ap (λ x. unless x (received (way dix true Two) (frame_of body (tuple_below Two e)))) (adapter-finds dix Two e body p h o refl)
-  adapter-sees dix Three owner e body p h o z = off-wire (way dix true Three) (frame_of body (tuple_below Three e)) ∙ ap (λ x. unless x (received (way dix true Three) (frame_of body (tuple_below Three e)))) (adapter-finds dix Three e body p h o refl)
+  adapter-sees dix One owner e body p h o z = off_wire (way dix true One) (frame_of body (tuple_below One e)) ∙ ap (λ x. unless x (received (way dix true One) (frame_of body (tuple_below One e)))) (adapter-finds dix One e body p h o refl)
+  adapter-sees dix Two owner e body p h o z = off_wire (way dix true Two) (frame_of body (tuple_below Two e)) ∙ ap (λ x. unless x (received (way dix true Two) (frame_of body (tuple_below Two e)))) (adapter-finds dix Two e body p h o refl)
+  adapter-sees dix Three owner e body p h o z = off_wire (way dix true Three) (frame_of body (tuple_below Three e)) ∙ ap (λ x. unless x (received (way dix true Three) (frame_of body (tuple_below Three e)))) (adapter-finds dix Three e body p h o refl)
 
   -- the target's field: that of the mode where tuples travel
   by-target : (dix dif : Bool) (ty : PiType) (owner : Owner) (e : Entry) (body : List ℕ) → IsProper m e → Unescaped ty e → Other m e body → is_zero ty ≡ false → not (eqb (passage [] (way dix dif ty)).protect 3) ≡ true →
@@ -209,7 +210,7 @@ module _ (m : Setting) (b : Block) (protect : 0 < m.mode.protect) (mask : m.mode
       let f = frame_of body (tuple_below ty e) in
       let x = passage [] (way dix dif ty) in
       ap (λ v. seen_on_way_in (verified (way dix dif ty) owner (from_device [] (way dix dif ty) (by_target v))))
-      (off-medium (way dix dif ty) f ∙ ap (λ v. unless v (if eqb x.protect 0 then data_of m.size f else f)) (guard-asked dix dif ty e body p h o z g))
+      (off_medium (way dix dif ty) f ∙ ap (λ v. unless v (if eqb x.protect 0 then data_of m.size f else f)) (guard-asked dix dif ty e body p h o z g))
 
   past-target : (dix : Bool) (ty : PiType) (owner : Owner) (e : Entry) (body : List ℕ) → IsProper m e → Unescaped ty e → Other m e body → is_zero ty ≡ false → (passage [] (way dix true ty)).protect ≡ 3 →
       seen_in_read (quiet m dix true ty) b owner [] (frame_of body (tuple_below ty e)) ≡ Some Adapter
@@ -217,7 +218,7 @@ module _ (m : Setting) (b : Block) (protect : 0 < m.mode.protect) (mask : m.mode
       let f = frame_of body (tuple_below ty e) in
       let x = passage [] (way dix true ty) in
       ap (λ v. seen_on_way_in (verified (way dix true ty) owner (from_device [] (way dix true ty) (by_target v))))
-      (off-medium (way dix true ty) f ∙ ap (λ v. unless v (if eqb x.protect 0 then data_of m.size f else f)) (nothing-asked dix true ty f three) ∙ ap (λ n. Ok (if eqb n 0 then data_of m.size f else f)) three)
+      (off_medium (way dix true ty) f ∙ ap (λ v. unless v (if eqb x.protect 0 then data_of m.size f else f)) (nothing-asked dix true ty f three) ∙ ap (λ n. Ok (if eqb n 0 then data_of m.size f else f)) three)
       ∙ ap (λ v. seen_on_way_in (verified (way dix true ty) owner (at_host f v))) (adapter-sees dix ty owner e body p h o z)
 
   pub read-other : (dix dif : Bool) (ty : PiType) (owner : Owner) (e : Entry) (body : List ℕ) → IsProper m e → Unescaped ty e → Other m e body → is_zero ty ≡ false →
@@ -382,7 +383,7 @@ module _ (m : Setting) (b : Block) (protect : 0 < m.mode.protect) (mask : m.mode
         field = ap (λ c. if c then m.mode.protect else 0) passes
 
         taken : (x : Option Check) → found_in (passage [] (way dix true ty)) f ≡ x → to_medium [] (passage [] (way dix true ty)) f ≡ unless x f
-        taken x e' = onto-medium (way dix true ty) f ∙ ap (λ c. if c then Ok (with_own_tuple ty (passage [] (way dix true ty)).lba f) else unless (found_in (passage [] (way dix true ty)) f) f) (ne_eqb (passage [] (way dix true ty)).protect 0 (λ n. omega (arith, n, field, protect))) ∙ ap (λ o. unless o f) e'
+        taken x e' = onto_medium (way dix true ty) f ∙ ap (λ c. if c then Ok (with_own_tuple ty (passage [] (way dix true ty)).lba f) else unless (found_in (passage [] (way dix true ty)) f) f) (ne_eqb (passage [] (way dix true ty)).protect 0 (λ n. omega (arith, n, field, protect))) ∙ ap (λ o. unless o f) e'
 
         by : (c : Bool) → eqb m.mode.protect 3 ≡ c → seen_on_way_out (quiet m dix true ty) b owner (at_device (frame_of e.body (tuple_below ty e)) (by_target (to_medium [] (passage [] (way dix true ty)) f))) ≡ (if c then Some Adapter else Some Target)
         by true three =
@@ -525,7 +526,7 @@ module _ (m : Setting) (b : Block) (protect : 0 < m.mode.protect) (mask : m.mode
     hosted-frame Crc body app rtag l = refl
     hosted-frame Ip body app rtag l =
         ap (λ d. with_guard m.size (guard_of Ip d) (frame_of body (record { guard = crc body; app = app; rtag = rtag }))) (data_is m.size body (record { guard = crc body; app = app; rtag = rtag }) l)
-        ∙ new-guard m.size (guard_of Ip body) body (record { guard = crc body; app = app; rtag = rtag }) l
+        ∙ new_guard m.size (guard_of Ip body) body (record { guard = crc body; app = app; rtag = rtag }) l
 
     brought : (ty : PiType) (e : Entry) → IsProper m e → received (way true true ty) (wire (quiet m true true ty) b e) ≡ frame_of e.body (record { guard = guard_of m.mode.kind e.body; app = e.app; rtag = tag_of ty (here m b protect) e.own }) →
         is_escaped (host_type ty) (record { guard = guard_of m.mode.kind e.body; app = e.app; rtag = tag_of ty (here m b protect) e.own }) ≡ false → HostFrame true ty e
@@ -594,7 +595,7 @@ proper m e c = record { size = c.size; bytes = below 256 e.body c.bytes; app = c
 turns : (m : Setting) (b : Block) (protect : 0 < m.mode.protect) (mask : m.mode.mask ≡ 0) (at : Crossing) (off : ℕ) (bytes : List ℕ) (owner : Owner) (e : Entry) → IsClean m e → ShowsIn m at off bytes e → Turns m b protect mask off bytes owner e
 turns m b protect mask at off bytes owner e c w = record {
   inside = subst (λ n. off + length bytes ≤ n) (sym c.size) w.inside;
-  other = record { size = xored-length (byte_at off bytes) 0 e.body ∙ c.size; bytes = flipped-below off 0 bytes e.body (below 256 bytes w.below) (below 256 e.body c.bytes); shows = w.crc_shows };
+  other = record { size = length-xored (byte_at off bytes) 0 e.body ∙ c.size; bytes = flipped-below off 0 bytes e.body (below 256 bytes w.below) (below 256 e.body c.bytes); shows = w.crc_shows };
 }
 
 pub sees : (m : Setting) (b : Block) (owner : Owner) (at : Crossing) (off : ℕ) (bytes : List ℕ) (e : Entry) → is_served m.mode.protect ≡ true → IsClean m e → ShowsIn m at off bytes e → seen_in m b owner at off bytes e ≡ finder m.mode m.ty at

@@ -43,10 +43,6 @@ xored-zero : (f : ℕ → ℕ) (i : ℕ) (xs : List ℕ) → ((k : ℕ) → f k 
 xored-zero f i [] none = refl
 xored-zero f i (x ∷ xs) none = let e = ap (bit_xor x) (none i) ∙ xor_zero_r x in let rest = xored-zero f (i + 1) xs none in cc
 
-pub xored-length : (f : ℕ → ℕ) (i : ℕ) (xs : List ℕ) → length (xored_from f i xs) ≡ length xs
-xored-length f i [] = refl
-xored-length f i (x ∷ xs) = ap suc (xored-length f (i + 1) xs)
-
 past : (bytes : List ℕ) (k : ℕ) → length bytes ≤ k → slice_index bytes k ≡ 0
 past [] k h = refl
 past (x ∷ bytes) zero h = absurd (omega arith)

@@ -1,9 +1,7 @@
 -- The stages of a block's way, with the alterations taken apart, and what is found in other data.
-use Rattle.std.proofs.Common.{◌≡◌, ◌<◌, ℕ, ◌+◌, ◌^◌, Bool, true, false, not, ◌&&◌, ◌||◌, eqb, if◌then◌else◌, List, [], ◌∷◌, ◌++◌, length, drop, Option, Some, None, refl, sym, ap, ◌∙◌}
+use Rattle.std.proofs.Common.{◌≡◌, ◌<◌, ℕ, ◌+◌, ◌^◌, Bool, true, false, not, ◌&&◌, ◌||◌, eqb, if◌then◌else◌, List, [], ◌∷◌, ◌++◌, length, Option, Some, None, refl, sym, ap, ◌∙◌}
 use Rattle.std.specs.Prelude.{Result, Ok, Err}
-use Rattle.std.specs.Int.{w16, to_be_bytes}
 use Rattle.std.proofs.lemmas.Bool.{ne_eqb}
-use Rattle.std.proofs.lemmas.List.{drop-drop}
 use Rattle.pi_guard.specs.Guards.{guard_of}
 use Rattle.pi_guard.specs.declared.GuardKind.{GuardKind}
 use Rattle.pi_tuple.specs.Finds.{finding, first_of, has_ref_tag, is_escaped, is_zero}
@@ -15,8 +13,6 @@ use Rattle.pi_tuple.specs.declared.checks.Check.{Check}
 use Rattle.pi_tuple.specs.declared.checks.Check.TheVariants.{AppTag, Guard, RefTag}
 use Rattle.pi_tuple.specs.declared.checks.Checks.{Checks}
 use Rattle.fault_schedule.specs.Altered.{altered}
-use Rattle.fault_schedule.specs.declared.Label.{Label}
-use Rattle.fault_schedule.specs.declared.fault.Crossing.{Crossing}
 use Rattle.fault_schedule.specs.declared.fault.Crossing.TheVariants.{AdapterToHost, AdapterToTarget, HostToAdapter, MediumToTarget, TargetToAdapter, TargetToMedium}
 use Rattle.fault_schedule.specs.declared.fault.FaultLine.{FaultLine}
 use Rattle.integrity_payload.specs.declared.payload.Owner.{Owner}
@@ -24,26 +20,21 @@ use Rattle.ref_remap.specs.Remapped.{remapped}
 use Rattle.target_answer.specs.Frames.{data_of, frame_of, tuple_of}
 use Rattle.target_answer.specs.Passing.{accepted, from_medium, released, then_crossed, to_medium, unless}
 use Rattle.block_path.specs.declared.route.Route.{Route}
-use Rattle.block_path.specs.Routes.{by_target, passage, target, with_guard}
+use Rattle.block_path.specs.Routes.{by_target, passage, target}
 use Rattle.block_path.specs.WayIn.{Delivers, adapter_finds_in, at_host, delivered_unless, from_device, from_wire, mapped_back, owner_finds, received, verified, way_in}
 use Rattle.block_path.specs.WayOut.{Stores, at_device, checked_out, from_adapter, to_wire}
-use Rattle.whole_run.proofs.CalmWays.{altered_none}
-use Rattle.whole_run.proofs.TupleFrames.{Small, behind_is, data_is, finds_in_frame}
+use Rattle.whole_run.proofs.CalmWays.{altered_none, crossed_none, onto_medium, off_medium, off_wire}
+use Rattle.whole_run.proofs.TupleFrames.{Small, finds_in_frame}
 
 -- ---- alterations apart
-
-crossed-none : (at : Crossing) (label : Label) (came : Result (List ℕ) Check) → then_crossed [] (Some label) at came ≡ came
-crossed-none at label (Ok frame) = ap (λ f. Ok f) (altered_none at label frame)
-crossed-none at label (Err check) = refl
 
 pub to-wire : (faults : List FaultLine) (r : Route) (frame : List ℕ) → to_wire faults r frame ≡ to_wire [] r (altered faults HostToAdapter r.label frame)
 unfolding to_wire
 to-wire faults r frame = ap (checked_out r) (sym (altered_none HostToAdapter r.label (altered faults HostToAdapter r.label frame)))
 
-pub onto-medium : (r : Route) (frame : List ℕ) → to_medium [] (passage [] r) frame ≡ accepted (passage [] r) frame
 unfolding to_medium
-onto-medium r frame =
-    crossed-none TargetToMedium r.label (accepted (passage [] r) (altered [] AdapterToTarget r.label frame))
+onto_medium r frame =
+    crossed_none TargetToMedium r.label (accepted (passage [] r) (altered [] AdapterToTarget r.label frame))
     ∙ ap (accepted (passage [] r)) (altered_none AdapterToTarget r.label frame)
 
 accepted-by : (faults : List FaultLine) (r : Route) (frame : List ℕ) → to_medium faults (passage [] r) frame ≡ then_crossed faults (Some r.label) TargetToMedium (accepted (passage [] r) (altered faults AdapterToTarget r.label frame))
@@ -51,12 +42,11 @@ unfolding to_medium
 accepted-by faults r frame = refl
 
 pub to-medium : (faults : List FaultLine) (r : Route) (frame : List ℕ) → to_medium faults (passage [] r) frame ≡ then_crossed faults (Some r.label) TargetToMedium (to_medium [] (passage [] r) (altered faults AdapterToTarget r.label frame))
-to-medium faults r frame = accepted-by faults r frame ∙ ap (then_crossed faults (Some r.label) TargetToMedium) (sym (onto-medium r (altered faults AdapterToTarget r.label frame)))
+to-medium faults r frame = accepted-by faults r frame ∙ ap (then_crossed faults (Some r.label) TargetToMedium) (sym (onto_medium r (altered faults AdapterToTarget r.label frame)))
 
-pub off-medium : (r : Route) (frame : List ℕ) → from_medium [] (passage [] r) frame ≡ released (passage [] r) frame
 unfolding from_medium
-off-medium r frame =
-    crossed-none TargetToAdapter r.label (released (passage [] r) (altered [] MediumToTarget r.label frame))
+off_medium r frame =
+    crossed_none TargetToAdapter r.label (released (passage [] r) (altered [] MediumToTarget r.label frame))
     ∙ ap (released (passage [] r)) (altered_none MediumToTarget r.label frame)
 
 released-by : (faults : List FaultLine) (r : Route) (frame : List ℕ) → from_medium faults (passage [] r) frame ≡ then_crossed faults (Some r.label) TargetToAdapter (released (passage [] r) (altered faults MediumToTarget r.label frame))
@@ -64,18 +54,17 @@ unfolding from_medium
 released-by faults r frame = refl
 
 pub from-medium : (faults : List FaultLine) (r : Route) (frame : List ℕ) → from_medium faults (passage [] r) frame ≡ then_crossed faults (Some r.label) TargetToAdapter (from_medium [] (passage [] r) (altered faults MediumToTarget r.label frame))
-from-medium faults r frame = released-by faults r frame ∙ ap (then_crossed faults (Some r.label) TargetToAdapter) (sym (off-medium r (altered faults MediumToTarget r.label frame)))
+from-medium faults r frame = released-by faults r frame ∙ ap (then_crossed faults (Some r.label) TargetToAdapter) (sym (off_medium r (altered faults MediumToTarget r.label frame)))
 
-pub off-wire : (r : Route) (frame : List ℕ) → from_wire [] r frame ≡ unless (adapter_finds_in r frame) (received r frame)
 unfolding from_wire
-off-wire r frame = crossed-none AdapterToHost r.label (unless (adapter_finds_in r frame) (received r frame))
+off_wire r frame = crossed_none AdapterToHost r.label (unless (adapter_finds_in r frame) (received r frame))
 
 handed-by : (faults : List FaultLine) (r : Route) (frame : List ℕ) → from_wire faults r frame ≡ then_crossed faults (Some r.label) AdapterToHost (unless (adapter_finds_in r frame) (received r frame))
 unfolding from_wire
 handed-by faults r frame = refl
 
 pub from-wire : (faults : List FaultLine) (r : Route) (frame : List ℕ) → from_wire faults r frame ≡ then_crossed faults (Some r.label) AdapterToHost (from_wire [] r frame)
-from-wire faults r frame = handed-by faults r frame ∙ ap (then_crossed faults (Some r.label) AdapterToHost) (sym (off-wire r frame))
+from-wire faults r frame = handed-by faults r frame ∙ ap (then_crossed faults (Some r.label) AdapterToHost) (sym (off_wire r frame))
 
 -- ---- whole ways undone
 
@@ -107,7 +96,7 @@ in-carried : (r : Route) (owner : Owner) (c c' f : List ℕ) (x : Option Check) 
     (c' ≡ c) × (from_wire [] r c' ≡ Ok (received r c')) × (verified r owner (Delivers c' (received r c')) ≡ Delivers c f)
 in-carried r owner c c' f (Some k) p e = absurd (cc)
 in-carried r owner c c' f None p e =
-    (in-owned r owner c c' (mapped_back r (received r c')) f (owner_finds r (mapped_back r (received r c'))) e, off-wire r c' ∙ ap (λ o. unless o (received r c')) p, e)
+    (in-owned r owner c c' (mapped_back r (received r c')) f (owner_finds r (mapped_back r (received r c'))) e, off_wire r c' ∙ ap (λ o. unless o (received r c')) p, e)
 
 pub came-in : (r : Route) (owner : Owner) (stored c f : List ℕ) → way_in [] (target []) r owner stored ≡ Delivers c f → CameIn r owner stored c f
 came-in r owner stored c f e = by (from_medium [] (passage [] r) stored) refl e
@@ -115,7 +104,7 @@ came-in r owner stored c f e = by (from_medium [] (passage [] r) stored) refl e
     by : (x : Result (List ℕ) Check) → from_medium [] (passage [] r) stored ≡ x → verified r owner (from_device [] r (by_target x)) ≡ Delivers c f → CameIn r owner stored c f
     by (Err k) p e = absurd (cc)
     by (Ok c') p e =
-        let w = in-carried r owner c c' f (adapter_finds_in r c') refl (ap (λ v. verified r owner (at_host c' v)) (sym (off-wire r c')) ∙ e) in
+        let w = in-carried r owner c c' f (adapter_finds_in r c') refl (ap (λ v. verified r owner (at_host c' v)) (sym (off_wire r c')) ∙ e) in
         record {
           sends = p ∙ ap (λ v. Ok v) w.0;
           hands = ap (λ v. from_wire [] r v) (sym w.0) ∙ w.1 ∙ ap (λ v. Ok (received r v)) w.0;
@@ -133,12 +122,6 @@ pub finds-guard : (size : ℕ) (kind : GuardKind) (ty : PiType) (what : Checks) 
 finds-guard size kind ty what want body t l s z e g ne =
     finds_in_frame size body t l s kind ty what want
     ∙ guard-first (is_zero ty) (is_escaped ty t) what.guard _ _ (eqb t.guard (guard_of kind body)) z e g (ne_eqb t.guard (guard_of kind body) ne)
-
--- a frame with another guard
-pub new-guard : (size guard : ℕ) (body : List ℕ) (t : Tuple) → length body ≡ size → with_guard size guard (frame_of body t) ≡ frame_of body (record { guard = guard; app = t.app; rtag = t.rtag })
-new-guard size guard body t l =
-    ap (λ d. d ++ (to_be_bytes w16 guard ++ drop (size + 2) (frame_of body t))) (data_is size body t l)
-    ∙ ap (λ xs. body ++ (to_be_bytes w16 guard ++ xs)) (sym (drop-drop 2 size (frame_of body t)) ∙ ap (drop 2) (behind_is size body t l))
 
 -- ---- tuples that are no escapes
 

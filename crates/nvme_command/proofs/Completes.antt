@@ -27,7 +27,7 @@ use Rattle.nvme_command.specs.Replies.{Reply}
 use Rattle.nvme_command.specs.declared.fault.NvmFault.{NvmFault}
 use Rattle.nvme_command.specs.declared.fault.NvmFault.TheVariants.{Line, Image, Source}
 
-never_rose : (old new : ℕ) → Calm old new → Rose old new → ⊥
+pub never_rose : (old new : ℕ) → Calm old new → Rose old new → ⊥
 never_rose old new c r = grind arith
 
 not_long : (b : Bool) (x : Result (List NvmLine) LineFault) (e : LineFault) (lines : List NvmLine) → (if b then Err e else x) ≡ Ok lines → b ≡ false

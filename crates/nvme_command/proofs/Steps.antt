@@ -2,7 +2,7 @@
 use Rattle.std.proofs.Common.{ℕ, ◌≡◌, ◌+◌, ◌<◌, ◌≤◌, inl, inr, Bool, true, false, ◌||◌, List, [], ◌∷◌, ◌++◌, length, get_or, take, drop, Option, Some, None, refl, sym, ap, subst, ◌∙◌, arith, append-nil, append_assoc}
 use Rattle.std.specs.Prelude.{map, not}
 use Rattle.std.proofs.lemmas.List.{take-append-drop, take_more}
-use Rattle.dix_base.specs.Told.{Calm, Rose}
+use Rattle.dix_base.specs.Told.{Calm}
 use Rattle.target_answer.specs.Target.{Stop, Stored}
 use Rattle.rig_api.specs.Telling.{HasCause, unit_at}
 use Rattle.volume_table.specs.declared.device.DeviceInfo.{DeviceInfo}
@@ -17,6 +17,7 @@ use Rattle.nvme_session.specs.declared.doing.NvmReply.{NvmReply}
 use Rattle.nvme_command.specs.Done.{Adds, AllDone, Came, CameInPart, Lacks, Stays, WasDone, body_given, dev_of, meta_given, replies_over, step_by, step_of, units_over}
 use Rattle.nvme_command.specs.Fits.{command_of, device_of_line}
 use Rattle.nvme_command.specs.Replies.{Reply, has_failed, replies_text, reply_line, reply_of}
+use Rattle.nvme_command.proofs.Completes.{never_rose}
 
 -- ---- one more
 
@@ -89,9 +90,6 @@ rising ds [] [] a b d = let same = ap (λ (v : View). v.seen.faults) d in omega 
 rising ds [] (x ∷ rs) a b d = absurd d
 rising ds (x ∷ ls) [] a b d = absurd d
 rising ds (x ∷ ls) (y ∷ rs) a b d = let one = d.1.count in let more = rising ds ls rs d.0 b d.2 in omega (arith, one, more)
-
-never_rose : (old new : ℕ) → Calm old new → Rose old new → ⊥
-never_rose old new c r = grind arith
 
 -- the answer of a unit up to a store call that fails, where none was counted
 calm_answer : (us : List Stored) (dev : ℕ) (c : NvmCommand) (b m nb nm : List ℕ) (done : Completion) (told : Option (List Stored)) (n f f' : ℕ) (stop : Option Stop) → HasCause stop n f f' → Calm f f' →

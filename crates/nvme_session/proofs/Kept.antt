@@ -1,5 +1,5 @@
 -- Buffers on the heap that a command was done with.
-use Rattle.std.proofs.Common.{◌≡◌, ℕ, zero, suc, eqb, true, false, List, [], ◌∷◌, ◌++◌, length, take, drop, Option, Some, None, refl, sym, ap, subst, ◌∙◌, arith, ⊎_elim}
+use Rattle.std.proofs.Common.{◌≡◌, ℕ, eqb, true, false, List, [], ◌∷◌, ◌++◌, length, take, drop, Option, Some, None, refl, sym, ap, subst, ◌∙◌, ⊎_elim}
 use Rattle.std.specs.Prelude.{Result, Ok, Err, IfOk, is_some, map}
 use Rattle.std.proofs.lemmas.Bool.{cases_Bool, eqb-true}
 use Rattle.std.proofs.lemmas.List.{length-replicate}
@@ -16,13 +16,8 @@ use Rattle.volume_table.specs.declared.device.DeviceInfo.{DeviceInfo}
 use Rattle.nvme_front.specs.Answers.{HasDevices, IsNvmAnswer, Submitted, device_of, nvm_answer}
 use Rattle.nvme_front.specs.declared.command.NvmCommand.{NvmCommand}
 use Rattle.nvme_front.specs.declared.completion.Completion.{Completion}
+use Rattle.nvme_front.proofs.Sending.{cut-front}
 use Rattle.nvme_session.specs.Sessions.{given}
-
-cut-front : (n : ℕ) (xs ys : List ℕ) → length xs ≡ n → take n (xs ++ ys) ≡ xs
-cut-front zero [] ys e = refl
-cut-front zero (x ∷ xs) ys e = absurd (omega arith)
-cut-front (suc n) [] ys e = absurd (omega arith)
-cut-front (suc n) (x ∷ xs) ys e = ap (λ z. x ∷ z) (cut-front n xs ys (omega arith))
 
 pub kept-front : (n : ℕ) (xs ys : List ℕ) → length xs ≡ n → xs ≡ take n (xs ++ ys)
 kept-front n xs ys e = sym (cut-front n xs ys e)

@@ -1,11 +1,12 @@
 -- The devices that are told have a block size that is served.
-use Rattle.std.proofs.Common.{◌≡◌, ◌<◌, ℕ, zero, suc, ◌+◌, Bool, true, false, eqb, leb, ◌&&◌, ◌||◌, if◌then◌else◌, List, [], ◌∷◌, length, Option, Some, None, refl, sym, ap, subst, ◌∙◌, arith}
+use Rattle.std.proofs.Common.{◌≡◌, ◌<◌, ℕ, ◌+◌, Bool, true, false, eqb, leb, ◌&&◌, ◌||◌, if◌then◌else◌, List, [], ◌∷◌, length, Option, Some, None, refl, sym, ap, subst, ◌∙◌, arith}
 use Rattle.std.specs.Prelude.{slice_index_or}
 use Rattle.std.specs.List.{list_all}
 use Rattle.std.proofs.lemmas.List.{take_all}
 use Rattle.pi_tuple.specs.declared.checks.PiType.{PiType}
 use Rattle.cdb_codec.specs.Decoded.{eight_at, four_at}
 use Rattle.std.specs.Prelude.{slice_index}
+use Rattle.std.proofs.lemmas.Bool.{and_from}
 use Rattle.target_answer.specs.Headers.{is_spec}
 use Rattle.target_answer.specs.declared.units.UnitSpec.{UnitSpec}
 use Rattle.rig_api.specs.Head.{head_fault, units_of}
@@ -14,7 +15,7 @@ use Rattle.rig_api.specs.Telling.{Standing, no_spec, spec_at, specs_of}
 use Rattle.volume_table.specs.declared.device.DeviceInfo.{DeviceInfo}
 use Rattle.rig_discovery.specs.Answers.{info_with, is_fault, type_told}
 use Rattle.rig_discovery.specs.Discovery.{Answer, HasFound, all_told, told, with_info}
-use Rattle.rig_discovery.proofs.Telling.{right_layout}
+use Rattle.rig_discovery.proofs.Telling.{right_layout, left_true, all_at, last_true}
 use Rattle.target_answer.specs.Target.{Stored}
 use Rattle.pi_scrub.specs.Scrubbed.{HasDevices as Discovered}
 use Rattle.nvme_front.specs.Answers.{HasDevices}
@@ -36,14 +37,8 @@ told-size s dev a i e = by (is_fault (spec_at s dev).first (spec_at s dev).size 
     by false None e = absurd (cc)
     by false (Some ty) e = cc
 
-both-hold : (a b : Bool) → a ≡ true → b ≡ true → (a && b) ≡ true
-both-hold a b p q = rw (p, q) refl
-
 right-part : (a b : Bool) → (a && b) ≡ true → b ≡ true
 right-part a b h = grind arith
-
-left-part : (a b : Bool) → (a && b) ≡ true → a ≡ true
-left-part a b h = grind arith
 
 all-sizes : (s : Standing) (dev : ℕ) (xs : List Answer) (found : List DeviceInfo) → all_told s dev xs ≡ Some found → ((k : ℕ) → k < dev + length xs → is_spec (spec_at s k) ≡ true) → list_all has_size found ≡ true
 all-sizes s dev [] found e good = let k : found ≡ [] = cc in ap (list_all has_size) k
@@ -58,23 +53,15 @@ all-sizes s dev (x ∷ xs) found e good =
         let z = told-size s dev x i p in
         let g = good-size (spec_at s dev) (good dev (omega arith)) in
         let h : has_size i ≡ true = ap (λ n. eqb n 512 || eqb n 4096) z ∙ g in
-        ap (list_all has_size) k ∙ both-hold (has_size i) (list_all has_size more) h (q more refl)
-
-all-at : (us : List UnitSpec) (i : ℕ) → list_all is_spec us ≡ true → i < length us → is_spec (slice_index_or us i no_spec) ≡ true
-all-at [] i h l = absurd (omega arith)
-all-at (u ∷ us) zero h l = left-part (is_spec u) (list_all is_spec us) h
-all-at (u ∷ us) (suc i) h l = all-at us i (right-part (is_spec u) (list_all is_spec us) h) (omega arith)
-
-last-part : (a b c : Bool) → (a && (b && c)) ≡ true → c ≡ true
-last-part a b c h = grind arith
+        ap (list_all has_size) k ∙ and_from (has_size i) (list_all has_size more) h (q more refl)
 
 pub sizes-found : (s : Standing) (found : List DeviceInfo) (old new : List Entry) → head_fault s.head ≡ None → s.devices ≡ length (units_of s.head) → HasFound s found old new → list_all has_size found ≡ true
 sizes-found s found old new right devices f =
     let all : specs_of s ≡ units_of s.head = take_all s.devices (units_of s.head) (omega (arith, devices)) in
-    let good : list_all is_spec (units_of s.head) ≡ true = last-part _ _ _ (right_layout s.head right) in
+    let good : list_all is_spec (units_of s.head) ≡ true = last_true _ _ _ (right_layout s.head right) in
     let n = f.each in
     let inside : (k : ℕ) → k < 0 + length f.answers → k < length (units_of s.head) = λ k l. omega (arith, l, n, devices) in
-    all-sizes s 0 f.answers found f.told (λ k l. ap (λ us. is_spec (slice_index_or us k no_spec)) all ∙ all-at (units_of s.head) k good (inside k l))
+    all-sizes s 0 f.answers found f.told (λ k l. ap (λ us. is_spec (slice_index_or us k no_spec)) all ∙ all_at (units_of s.head) k good (inside k l))
 
 -- the devices that were discovered are those of the front
 pub for-front : (front devices : List DeviceInfo) (s : Standing) (units : Option (List Stored)) → front ≡ devices → Discovered devices s units → HasDevices front s units

@@ -129,7 +129,7 @@ below-cells pages [] h k d l = absurd (omega arith)
 below-cells pages (p ∷ ps) h zero d l = let a = h.0.in_pool in let b = h.0.in_page in omega arith
 below-cells pages (p ∷ ps) h (suc k) d l = below-cells pages ps h.1 k d (omega arith)
 
-same_cell : (p q : PageByte) → p.off < 4096 → q.off < 4096 → cell p ≡ cell q → p ≡ q
+pub same_cell : (p q : PageByte) → p.off < 4096 → q.off < 4096 → cell p ≡ cell q → p ≡ q
 same_cell p q h k e =
     let a : p.page ≡ q.page = omega arith in
     let b : p.off ≡ q.off = omega arith in

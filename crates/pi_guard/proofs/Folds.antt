@@ -2,7 +2,7 @@
 use Rattle.std.proofs.Common.{◌≡◌, ℕ, zero, suc, ◌+◌, ◌*◌, ◌/◌, ◌%◌, ◌^◌, ◌<◌, Bool, true, false, ◌&&◌, eqb, List, [], ◌∷◌, length, map, get_or, refl, sym, ap, ◌∙◌, arith, w8, Fits}
 use Rattle.std.specs.Prelude.{bit_xor, bit_and}
 use Rattle.std.specs.Int.Bits.{xor_assoc, xor_zero_l, xor_shifted}
-use Rattle.std.proofs.lemmas.Bool.{eqb-true}
+use Rattle.std.proofs.lemmas.Bool.{eqb-true, and_parts}
 use Rattle.std.proofs.lemmas.List.{length-map}
 use Rattle.std.proofs.lemmas.Nat.{and_mask}
 use Rattle.std.proofs.lemmas.Simd.{length-zip2}
@@ -15,7 +15,7 @@ use Rattle.pi_guard.proofs.Linear.{swap_middle, later-xor, entry-xor, by_tables,
 
 -- ---- bytes of zeros
 
-pass_zero : pass 0 ≡ 0
+pub pass_zero : pass 0 ≡ 0
 unfolding pass
 pass_zero = refl
 
@@ -116,20 +116,16 @@ half_holds p k j s i (x ∷ xs) [] = false
 half_holds p k j s i (x ∷ xs) (y ∷ ys) =
     eqb (again p k (p (i * s * 2 ^ 8))) (bit_xor (again p j (p (x * 2 ^ 8))) (p (y * 2 ^ 8))) && half_holds p k j s (suc i) xs ys
 
-both : (a b : Bool) → (a && b) ≡ true → (a ≡ true) × (b ≡ true)
-both true b h = (refl, h)
-both false b h = cc
-
 in_half : (p : ℕ → ℕ) (k j s i n : ℕ) (xs ys : List ℕ) → half_holds p k j s i xs ys ≡ true → n < length xs →
     again p k (p ((i + n) * s * 2 ^ 8)) ≡ bit_xor (again p j (p (get_or xs n 0 * 2 ^ 8))) (p (get_or ys n 0 * 2 ^ 8))
 in_half p k j s i n [] ys h l = absurd (omega arith)
 in_half p k j s i n (x ∷ xs) [] h l = cc
 in_half p k j s i zero (x ∷ xs) (y ∷ ys) h l =
-    let b = both (eqb (again p k (p (i * s * 2 ^ 8))) (bit_xor (again p j (p (x * 2 ^ 8))) (p (y * 2 ^ 8)))) (half_holds p k j s (suc i) xs ys) h in
+    let b = and_parts (eqb (again p k (p (i * s * 2 ^ 8))) (bit_xor (again p j (p (x * 2 ^ 8))) (p (y * 2 ^ 8)))) (half_holds p k j s (suc i) xs ys) h in
     let z : i + 0 ≡ i = omega arith in
     ap (λ v. again p k (p (v * s * 2 ^ 8))) z ∙ eqb-true _ _ b.0
 in_half p k j s i (suc n) (x ∷ xs) (y ∷ ys) h l =
-    let b = both (eqb (again p k (p (i * s * 2 ^ 8))) (bit_xor (again p j (p (x * 2 ^ 8))) (p (y * 2 ^ 8)))) (half_holds p k j s (suc i) xs ys) h in
+    let b = and_parts (eqb (again p k (p (i * s * 2 ^ 8))) (bit_xor (again p j (p (x * 2 ^ 8))) (p (y * 2 ^ 8)))) (half_holds p k j s (suc i) xs ys) h in
     let z : i + suc n ≡ suc i + n = omega arith in
     ap (λ v. again p k (p (v * s * 2 ^ 8))) z ∙ in_half p k j s (suc i) n xs ys b.1 (omega arith)
 

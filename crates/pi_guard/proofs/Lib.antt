@@ -1,12 +1,12 @@
 pub mod RegisterLemmas
 mod Rows
-mod Linear
-mod Folds
+pub mod Linear
+pub mod Folds
 mod Nibbles
 mod Lookup
 mod Windows
 mod Sparse
-mod Trailing
+pub mod Trailing
 mod Debts
 mod Closing
 mod Halving

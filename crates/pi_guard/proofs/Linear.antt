@@ -62,7 +62,7 @@ pub later-xor : (k a b : ℕ) → later k (bit_xor a b) ≡ bit_xor (later k a) 
 later-xor zero a b = refl
 later-xor (suc k) a b = ap (later k) (pass-xor a b) ∙ later-xor k (pass a) (pass b)
 
-small_steps : (k r : ℕ) → r * 2 ^ k < 2 ^ 16 → steps k r ≡ r * 2 ^ k
+pub small_steps : (k r : ℕ) → r * 2 ^ k < 2 ^ 16 → steps k r ≡ r * 2 ^ k
 small_steps zero r h = omega arith
 small_steps (suc k) r h =
     let e : r * 2 ^ suc k ≡ r * 2 * 2 ^ k = ap (λ v. r * v) (pow-suc 2 k ∙ mul_comm (2 ^ k) 2) ∙ sym (mul_assoc r 2 (2 ^ k)) in
@@ -73,11 +73,11 @@ small_steps (suc k) r h =
     ap (steps k) s ∙ small_steps k (r * 2) b ∙ sym e
 
 -- a byte in the lower half only moves
-pass_low : (x : ℕ) → x < 256 → pass x ≡ x * 2 ^ 8
+pub pass_low : (x : ℕ) → x < 256 → pass x ≡ x * 2 ^ 8
 unfolding pass
 pass_low x h = small_steps 8 x (omega arith)
 
-byte_step-is : (r x : ℕ) → byte_step r x ≡ pass (bit_xor r (x * 2 ^ 8))
+pub byte_step-is : (r x : ℕ) → byte_step r x ≡ pass (bit_xor r (x * 2 ^ 8))
 unfolding byte_step pass
 byte_step-is r x = refl
 

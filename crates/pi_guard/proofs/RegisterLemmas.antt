@@ -122,16 +122,16 @@ absorbed r x l =
     ap (add_front (bits_of 16 r)) (sym (raised 8 8 x (replicate 8 false ++ l) ∙ add_to_zeros 8 x l))
     ∙ add_twice 16 r (x * 2 ^ 8) (replicate 8 false ++ l)
 
-bits_length : (n x : ℕ) → length (bits_of n x) ≡ n
+pub bits_length : (n x : ℕ) → length (bits_of n x) ≡ n
 bits_length zero x = refl
 bits_length (suc n) x = ap suc (bits_length n x)
 
-digit_back : (u : ℕ) → u < 2 → cond (eqb u 1) 1 0 ≡ u
+pub digit_back : (u : ℕ) → u < 2 → cond (eqb u 1) 1 0 ≡ u
 digit_back zero h = refl
 digit_back (suc zero) h = refl
 digit_back (suc (suc u)) h = absurd (omega arith)
 
-number_bits : (n x : ℕ) → number (bits_of n x) ≡ x % 2 ^ n
+pub number_bits : (n x : ℕ) → number (bits_of n x) ≡ x % 2 ^ n
 number_bits zero x = sym (mod-one x)
 number_bits (suc n) x =
     let d = digit_back (bit_at x n) (bit_at-lt x n) in

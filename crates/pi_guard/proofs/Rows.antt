@@ -1,5 +1,5 @@
 use Rattle.std.proofs.Common.{◌≡◌, ℕ, zero, suc, ◌+◌, ◌*◌, ◌<◌, ◌^◌, Bool, true, false, ◌&&◌, eqb, List, [], ◌∷◌, length, get_or, refl, sym, ap, ◌∙◌, arith}
-use Rattle.std.proofs.lemmas.Bool.{eqb-true}
+use Rattle.std.proofs.lemmas.Bool.{eqb-true, and_parts}
 use Rattle.pi_guard.specs.AfterZeros.{pass, later, entry}
 use Rattle.pi_guard.specs.declared.byte_tables.TheConstants.{TABLES}
 
@@ -17,27 +17,23 @@ abbrev rows_follow : (ℕ → ℕ) → List ℕ → List (List ℕ) → Bool
 rows_follow f r [] = true
 rows_follow f r (s ∷ ss) = follows f r s && rows_follow f s ss
 
-both : (a b : Bool) → (a && b) ≡ true → (a ≡ true) × (b ≡ true)
-both true b h = (refl, h)
-both false b h = cc
-
 in_first : (f : ℕ → ℕ) (xs : List ℕ) (i k : ℕ) → first_row f i xs ≡ true → k < length xs → get_or xs k 0 ≡ f ((i + k) * 2 ^ 8)
 in_first f [] i k h l = absurd (omega arith)
 in_first f (x ∷ xs) i zero h l =
-    let b = both (eqb (f (i * 2 ^ 8)) x) (first_row f (suc i) xs) h in
+    let b = and_parts (eqb (f (i * 2 ^ 8)) x) (first_row f (suc i) xs) h in
     let e : i + 0 ≡ i = omega arith in
     sym (eqb-true (f (i * 2 ^ 8)) x b.0) ∙ ap (λ v. f (v * 2 ^ 8)) (sym e)
 in_first f (x ∷ xs) i (suc k) h l =
-    let b = both (eqb (f (i * 2 ^ 8)) x) (first_row f (suc i) xs) h in
+    let b = and_parts (eqb (f (i * 2 ^ 8)) x) (first_row f (suc i) xs) h in
     let e : suc i + k ≡ i + suc k = omega arith in
     in_first f xs (suc i) k b.1 (omega arith) ∙ ap (λ v. f (v * 2 ^ 8)) e
 
 in_next : (f : ℕ → ℕ) (xs ys : List ℕ) (k : ℕ) → follows f xs ys ≡ true → k < length xs → (k < length ys) × (get_or ys k 0 ≡ f (get_or xs k 0))
 in_next f [] ys k h l = absurd (omega arith)
 in_next f (x ∷ xs) [] k h l = cc
-in_next f (x ∷ xs) (y ∷ ys) zero h l = (omega arith, sym (eqb-true (f x) y (both (eqb (f x) y) (follows f xs ys) h).0))
+in_next f (x ∷ xs) (y ∷ ys) zero h l = (omega arith, sym (eqb-true (f x) y (and_parts (eqb (f x) y) (follows f xs ys) h).0))
 in_next f (x ∷ xs) (y ∷ ys) (suc k) h l =
-    let r = in_next f xs ys k (both (eqb (f x) y) (follows f xs ys) h).1 (omega arith) in
+    let r = in_next f xs ys k (and_parts (eqb (f x) y) (follows f xs ys) h).1 (omega arith) in
     (omega arith, r.1)
 
 again : (ℕ → ℕ) → ℕ → ℕ → ℕ
@@ -53,9 +49,9 @@ in_row : (f : ℕ → ℕ) (ss : List (List ℕ)) (r : List ℕ) (k i : ℕ) →
     get_or (get_or ss k []) i 0 ≡ again f (suc k) (get_or r i 0)
 unfolding again
 in_row f [] r k i h l m = absurd (omega arith)
-in_row f (s ∷ ss) r zero i h l m = (in_next f r s i (both (follows f r s) (rows_follow f s ss) h).0 m).1
+in_row f (s ∷ ss) r zero i h l m = (in_next f r s i (and_parts (follows f r s) (rows_follow f s ss) h).0 m).1
 in_row f (s ∷ ss) r (suc k) i h l m =
-    let b = both (follows f r s) (rows_follow f s ss) h in
+    let b = and_parts (follows f r s) (rows_follow f s ss) h in
     let n = in_next f r s i b.0 m in
     in_row f ss s k i b.1 (omega arith) n.0 ∙ ap (again f (suc k)) n.1
 
@@ -68,16 +64,16 @@ from_table : (f : ℕ → ℕ) (t : List (List ℕ)) (k i : ℕ) → table_holds
 unfolding again
 from_table f [] k i h l m = cc
 from_table f (r ∷ ss) zero i h l m =
-    let b = both (eqb (length r) 256) (eqb (length ss) 16 && (first_row f 0 r && rows_follow f r ss)) h in
-    let c = both (eqb (length ss) 16) (first_row f 0 r && rows_follow f r ss) b.1 in
-    let d = both (first_row f 0 r) (rows_follow f r ss) c.1 in
+    let b = and_parts (eqb (length r) 256) (eqb (length ss) 16 && (first_row f 0 r && rows_follow f r ss)) h in
+    let c = and_parts (eqb (length ss) 16) (first_row f 0 r && rows_follow f r ss) b.1 in
+    let d = and_parts (first_row f 0 r) (rows_follow f r ss) c.1 in
     let e = eqb-true (length r) 256 b.0 in
     let z : 0 + i ≡ i = omega arith in
     in_first f r 0 i d.0 (omega arith) ∙ ap (λ v. f (v * 2 ^ 8)) z
 from_table f (r ∷ ss) (suc k) i h l m =
-    let b = both (eqb (length r) 256) (eqb (length ss) 16 && (first_row f 0 r && rows_follow f r ss)) h in
-    let c = both (eqb (length ss) 16) (first_row f 0 r && rows_follow f r ss) b.1 in
-    let d = both (first_row f 0 r) (rows_follow f r ss) c.1 in
+    let b = and_parts (eqb (length r) 256) (eqb (length ss) 16 && (first_row f 0 r && rows_follow f r ss)) h in
+    let c = and_parts (eqb (length ss) 16) (first_row f 0 r && rows_follow f r ss) b.1 in
+    let d = and_parts (first_row f 0 r) (rows_follow f r ss) c.1 in
     let e = eqb-true (length r) 256 b.0 in
     let g = eqb-true (length ss) 16 c.0 in
     let z : 0 + i ≡ i = omega arith in

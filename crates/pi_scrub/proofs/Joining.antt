@@ -98,7 +98,7 @@ medium_of dev lba n o m out l r = cases (ltb out.done n)
     cases true = rose_one (is_medium_why (why_ended out.sense)) (λ h. r (medium_key out.sense out.done h))
     cases false = inl (omega arith)
 
-settled_most : (n d : ℕ) → settled n d ≤ n
+pub settled_most : (n d : ℕ) → settled n d ≤ n
 settled_most n d = grind arith
 
 pub settled_some : (n d : ℕ) → 1 ≤ n → 1 ≤ settled n d

@@ -1,5 +1,6 @@
 use Rattle.std.proofs.Common.{ℕ, zero, suc, ◌≡◌, ◌+◌, ◌-◌, ◌^◌, ◌≤◌, Bool, true, false, ltb, leb, List, [], ◌∷◌, ◌++◌, length, take, drop, Option, Some, None, refl, sym, ap, subst, ◌∙◌, arith, length-take-le, length-drop}
 use Rattle.std.specs.Prelude.{Result, Ok, Err, if◌then◌else◌, is_some}
+use Rattle.std.proofs.lemmas.Bool.{le-leb}
 use Rattle.pi_tuple.specs.declared.checks.Check.{Check}
 use Rattle.pi_tuple.specs.declared.checks.Check.TheVariants.{Guard, AppTag, RefTag}
 use Rattle.pi_tuple.specs.declared.checks.PiType.{PiType}
@@ -16,14 +17,15 @@ use Rattle.fault_schedule.specs.declared.fault.FaultLine.{FaultLine}
 use Rattle.fault_schedule.specs.declared.fault.Crossing.TheVariants.{TargetToAdapter}
 use Rattle.target_answer.specs.Passing.{found_in, from_medium, then_crossed, unless}
 use Rattle.target_answer.specs.Target.{Answer, Stop, Stored, answer_unless, check_sense, each, first_sense, keeping, passage, passed, read_by, refusal, shape_of, stored_from, target_answer, whole}
-use Rattle.rig_api.specs.Telling.{IsAnswer, Standing, answer_of, specs_of, unit_at, units_told, with_blocks}
+use Rattle.rig_api.specs.Telling.{IsAnswer, Standing, answer_of, unit_at, units_told, with_blocks}
 use Rattle.rig_api.specs.declared.rig.Outcome.{Outcome}
-use Rattle.target_answer.specs.Image.{units_in}
 use Rattle.whole_run.specs.Senses.{why_ended}
 use Rattle.bio_core.specs.declared.fate.Why.TheVariants.{Target}
 use Rattle.pi_scrub.specs.Faults.{faults_from, listed, stored_finding}
 use Rattle.pi_scrub.specs.Looks.{found_at, protect_for, settled, verify_of}
 use Rattle.pi_scrub.specs.Steps.{IsWithin}
+use Rattle.pi_scrub.proofs.Joining.{settled_most}
+use Rattle.rig_discovery.proofs.Telling.{own_block, same_units}
 
 -- What a unit answers to a VERIFY, and what a look finds by it.
 
@@ -97,9 +99,6 @@ take_both (suc a) zero xs l = absurd (omega arith)
 take_both (suc a) (suc b) [] l = refl
 take_both (suc a) (suc b) (x ∷ xs) l = ap (λ v. x ∷ v) (take_both a b xs (omega arith))
 
-settled_most : (n d : ℕ) → settled n d ≤ n
-settled_most n d = grind arith
-
 -- the command isn't refused
 not_refused : (armed : List FaultLine) (ty : PiType) (blocks size first lba n : ℕ) (b : Bool) → leb first lba ≡ true → leb (lba + n) (first + blocks) ≡ true →
     refusal (record { ty = ty; blocks = blocks; size = size; first = first }) (Ok (by_form b (untagged lba n (protect_for ty)))) armed [] 0 0 ≡ None
@@ -118,14 +117,11 @@ looked_over : (armed : List FaultLine) (u : Stored) (lba n : ℕ) (b : Bool) →
 looked_over armed u lba n true = refl
 looked_over armed u lba n false = refl
 
-leb_le : (a b : ℕ) → a ≤ b → leb a b ≡ true
-leb_le a b h = grind arith
-
 answer_is : (armed : List FaultLine) (u : Stored) (lba n : ℕ) → Fits (verify_of u.ty lba n) → IsWithin u.ty lba n u → target_answer u armed (form (verify_of u.ty lba n)) [] [] 0 None
     ≡ keeping u.blocks (whole lba (read_by (shape_of u) (untagged lba n (protect_for u.ty)) lba armed [] (stored_from u lba n)))
 unfolding target_answer
 answer_is armed u lba n f w =
-    let r = not_refused armed u.ty (length u.blocks) u.size u.first lba n (leb (lba + n) (2 ^ 32)) (leb_le u.first lba w.above) (leb_le (lba + n) (u.first + length u.blocks) w.below) in
+    let r = not_refused armed u.ty (length u.blocks) u.size u.first lba n (leb (lba + n) (2 ^ 32)) (le-leb u.first lba w.above) (le-leb (lba + n) (u.first + length u.blocks) w.below) in
     ap (λ (c : Result Cdb CdbFault). answer_unless (refusal (shape_of u) c armed [] 0 0) u c armed [] [] None) (decoded_form (verify_of u.ty lba n) f)
     ∙ ap (λ (x : Option Sense). answer_unless x u (Ok (verify_of u.ty lba n)) armed [] [] None) r ∙ looked_over armed u lba n (leb (lba + n) (2 ^ 32))
 
@@ -166,16 +162,6 @@ unfolding target_answer
 blocks_kept u armed ty lba n room stop f =
     ap (λ (c : Result Cdb CdbFault). (answer_unless (refusal (shape_of u) c armed [] 0 room) u c armed [] [] stop).blocks) (decoded_form (verify_of ty lba n) f)
     ∙ kept u armed (leb (lba + n) (2 ^ 32)) (untagged lba n (protect_for ty)) stop (refusal (shape_of u) (Ok (verify_of ty lba n)) armed [] 0 room)
-
-own_block : (us : List Stored) (dev : ℕ) → with_blocks us dev (unit_at us dev).blocks ≡ us
-own_block [] dev = refl
-own_block (u ∷ us) zero = refl
-own_block (u ∷ us) (suc dev) = ap (λ (v : List Stored). u ∷ v) (own_block us dev)
-
-same_units : (s : Standing) (a b : Option (List ℕ)) (old new : Option (List Stored)) → old ≡ units_told s a → new ≡ units_told s b → is_some b ≡ is_some a → ((us : List Stored) → old ≡ Some us → new ≡ Some us) → new ≡ old
-same_units s None None old new p q t h = q ∙ sym p
-same_units s (Some x) b old new p q t h = h (units_in (specs_of s) x) p ∙ sym p
-same_units s None (Some y) old new p q t h = absurd (cc)
 
 stays : (us : List Stored) (armed : List FaultLine) (dev lba n : ℕ) (ty : PiType) (o : Outcome) (told : Option (List Stored)) (stop : Option Stop) (before after : List ℕ) → Fits (verify_of ty lba n) →
     IsAnswer (answer_of us armed dev (form (verify_of ty lba n)) [] [] 0 stop) us dev o told before after → told ≡ Some us

@@ -1,7 +1,7 @@
 -- Footprints as cells.
-use Rattle.std.proofs.Common.{◌≡◌, ℕ, zero, suc, ◌+◌, ◌<◌, ◌≤◌, ◌⊎◌, inl, inr, Bool, true, false, ◌||◌, eqb, List, [], ◌∷◌, ◌++◌, map, Option, Some, None, refl, sym, ap, ◌∙◌, ⊎_elim, arith}
+use Rattle.std.proofs.Common.{◌≡◌, ℕ, zero, suc, ◌+◌, ◌<◌, ◌≤◌, ◌⊎◌, inl, inr, Bool, true, false, ◌||◌, eqb, List, [], ◌∷◌, ◌++◌, map, Option, Some, None, refl, sym, ◌∙◌, ⊎_elim, arith}
 use Rattle.std.specs.List.{Contains}
-use Rattle.std.proofs.lemmas.Bool.{cases_Bool, eqb-true}
+use Rattle.std.proofs.lemmas.Bool.{cases_Bool, eqb-true, false_from_ne_true, or_cases}
 use Rattle.page_pool.specs.Places.{PageByte, IsAmong, places_in, places_of}
 use Rattle.page_pool.specs.Walking.{InPages}
 use Rattle.range_gate.specs.declared.footprint.Reach.{Reach}
@@ -10,8 +10,9 @@ use Rattle.range_gate.specs.declared.footprint.Footprint.{Footprint}
 use Rattle.range_gate.specs.Prints.{is_same}
 use Rattle.range_gate.specs.Conflicts.{Conflict, ShareBlock, ShareByte}
 use Rattle.page_pool.specs.Cells.{cell, is_in, share_a_cell}
+use Rattle.page_pool.proofs.Celled.{same_cell}
 use Rattle.range_gate.specs.Cells.{AllInPages, Cells, block_cells, byte_cells, cells_clash, cells_of, in_turn, on_side, segs_that}
-use Rattle.range_gate.proofs.Layouts.{behind, first, or_cases, same_of}
+use Rattle.range_gate.proofs.Layouts.{behind, first, same_of}
 
 abbrev In : ℕ → List ℕ → Type 0
 In i [] = ⊥
@@ -119,18 +120,12 @@ held w (t ∷ ts) i p h =
     let r = held w ts i p.1 k in (r.0, r.1, behind t r.0 ts r.2, r.3, r.4, r.5, r.6))
     (cases_Bool (is_same t.writes w))
 
-one_cell : (b c : PageByte) → b.off < 4096 → c.off < 4096 → cell b ≡ cell c → b ≡ c
-one_cell b c h k e =
-    let p : b.page ≡ c.page = omega arith in
-    let o : b.off ≡ c.off = omega arith in
-    ap (λ n. record { page = n; off = b.off }) p ∙ ap (λ n. record { page = c.page; off = n }) o
-
 among_same : (t : Touch) (b c : PageByte) → b ≡ c → IsAmong (places_of t.seg) b → IsAmong (places_of t.seg) c
 among_same t b c e h = rw e at h
 
 share_byte : (w v : Bool) (f g : Footprint) (i : ℕ) → (w || v) ≡ true → Held w f.bytes i → Held v g.bytes i → ShareByte f g
 share_byte w v f g i e a b =
-    let s = one_cell b.1 a.1 b.5 a.5 (sym b.6 ∙ a.6) in
+    let s = same_cell b.1 a.1 b.5 a.5 (sym b.6 ∙ a.6) in
     let m = among_same b.0 b.1 a.1 s b.4 in (
       a.1,
       (a.0, a.2, a.4),
@@ -154,15 +149,11 @@ bytes_shared f g p q e =
 
 -- ---- no conflict
 
-unless : (b : Bool) → (b ≡ true → ⊥) → b ≡ false
-unless true h = absurd (h refl)
-unless false h = refl
-
 pub none_alone : (f g : Footprint) → ¬ Conflict f g → (f.alone ≡ false) × (g.alone ≡ false)
-none_alone f g n = (unless f.alone (λ h. n (inl h)), unless g.alone (λ h. n (inr (inl h))))
+none_alone f g n = (false_from_ne_true f.alone (λ h. n (inl h)), false_from_ne_true g.alone (λ h. n (inr (inl h))))
 
 pub no_block : (f g : Footprint) → ¬ Conflict f g → cells_clash (block_cells f.blocks) (block_cells g.blocks) ≡ false
-no_block f g n = unless _ (λ h. n (inr (inr (inl (blocks_shared f g h)))))
+no_block f g n = false_from_ne_true _ (λ h. n (inr (inr (inl (blocks_shared f g h)))))
 
 pub no_byte : (f g : Footprint) → AllInPages f.bytes → AllInPages g.bytes → ¬ Conflict f g → cells_clash (byte_cells f.bytes) (byte_cells g.bytes) ≡ false
-no_byte f g p q n = unless _ (λ h. n (inr (inr (inr (bytes_shared f g p q h)))))
+no_byte f g p q n = false_from_ne_true _ (λ h. n (inr (inr (inr (bytes_shared f g p q h)))))

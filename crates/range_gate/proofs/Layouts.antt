@@ -2,7 +2,7 @@
 use Rattle.std.proofs.Common.{◌≡◌, ℕ, zero, suc, ◌+◌, ◌-◌, ◌<◌, ◌≤◌, ◌⊎◌, inl, inr, Bool, true, false, ◌&&◌, ◌||◌, max, min, eqb, List, [], ◌∷◌, ◌++◌, length, get_or, map, Option, Some, None, refl, sym, ap, ◌∙◌, ⊎_elim, arith, length-append, ◌↔◌}
 use Rattle.std.specs.Prelude.{nat_lt}
 use Rattle.std.specs.List.{Contains, list_any}
-use Rattle.std.proofs.lemmas.Bool.{cases_Bool, cases_eq}
+use Rattle.std.proofs.lemmas.Bool.{cases_Bool, cases_eq, or_right, and_parts, and_from, or_cases, or_left}
 use Rattle.std.proofs.lemmas.Bool.Decides.{nat_tests}
 use Rattle.std.proofs.lemmas.List.{get_or_append_left, get_or-map, get_or_default}
 use Rattle.std.proofs.lemmas.List.Sorted.{list_any-IsPermutation}
@@ -64,21 +64,6 @@ same_of false false e = refl
 is_same-self : (b : Bool) → is_same b b ≡ true
 is_same-self true = refl
 is_same-self false = refl
-
-pub or_cases : (a b : Bool) → (a || b) ≡ true → (a ≡ true) ⊎ (b ≡ true)
-or_cases true b e = inl refl
-or_cases false b e = inr e
-
-or_left : (a b : Bool) → a ≡ true → (a || b) ≡ true
-or_left a b e = rw e refl
-
-or_right : (a b : Bool) → b ≡ true → (a || b) ≡ true
-or_right true b e = refl
-or_right false b e = e
-
-and_parts : (a b : Bool) → (a && b) ≡ true → (a ≡ true) × (b ≡ true)
-and_parts true b e = (refl, e)
-and_parts false b e = absurd (cc)
 
 chosen-yes : (w : Bool) (t : Touch) (ts : List Touch) → is_chosen w t ≡ true → chosen w (t ∷ ts) ≡ t.seg ∷ chosen w ts
 chosen-yes w t ts e = rw e refl
@@ -183,9 +168,6 @@ block_out (Some r) (Some s) f g d e h =
       ⊎_elim (λ (w : r.writes ≡ true). inl (r, d, m.0, m.1, w)) (λ (w : s.writes ≡ true). inr (s, e, m.2, m.3, w)) (or_cases r.writes s.writes p.0),
     )
 
-and_both : (a b : Bool) → a ≡ true → b ≡ true → (a && b) ≡ true
-and_both a b e f = rw e f
-
 block_in : (f g : Footprint) → ShareBlock f g → block_shared f.blocks g.blocks ≡ true
 block_in f g h =
     let r = h.1.0 in
@@ -197,7 +179,7 @@ block_in f g h =
     (λ (x : WritesBlock f h.0). let e : f.blocks ≡ Some x.0 = x.1 in let k : x.0.writes ≡ true = x.4 in let o : x.0 ≡ r = cc in or_left r.writes s.writes (sym (ap (λ (z : Reach). z.writes) o) ∙ k))
     (λ (x : WritesBlock g h.0). let e : g.blocks ≡ Some x.0 = x.1 in let k : x.0.writes ≡ true = x.4 in let o : x.0 ≡ s = cc in or_right r.writes s.writes (sym (ap (λ (z : Reach). z.writes) o) ∙ k))
     h.3 in
-    ap (λ z. block_shared z g.blocks) fb ∙ ap (block_shared (Some r)) gb ∙ and_both (r.writes || s.writes) _ w (met r.first r.count s.first s.count h.0 h.1.2 h.1.3 h.2.2 h.2.3)
+    ap (λ z. block_shared z g.blocks) fb ∙ ap (block_shared (Some r)) gb ∙ and_from (r.writes || s.writes) _ w (met r.first r.count s.first s.count h.0 h.1.2 h.1.3 h.2.2 h.2.3)
 
 -- ---- bytes
 

@@ -28,7 +28,7 @@ good_header true good has wants e = absurd (cc)
 good_header false true has wants e = refl
 good_header false false has wants e = absurd (cc)
 
-left_true : (a b : Bool) → (a && b) ≡ true → a ≡ true
+pub left_true : (a b : Bool) → (a && b) ≡ true → a ≡ true
 left_true true b h = refl
 left_true false b h = absurd (cc)
 
@@ -45,10 +45,10 @@ pub right_layout : (h : Head) → head_fault h ≡ None → is_layout (units_of 
 unfolding head_fault
 right_layout h e = layout_under h (version_in h) e
 
-last_true : (a b c : Bool) → (a && (b && c)) ≡ true → c ≡ true
+pub last_true : (a b c : Bool) → (a && (b && c)) ≡ true → c ≡ true
 last_true a b c h = grind arith
 
-all_at : (us : List UnitSpec) (i : ℕ) → list_all is_spec us ≡ true → i < length us → is_spec (slice_index_or us i no_spec) ≡ true
+pub all_at : (us : List UnitSpec) (i : ℕ) → list_all is_spec us ≡ true → i < length us → is_spec (slice_index_or us i no_spec) ≡ true
 all_at [] i h l = absurd (omega arith)
 all_at (u ∷ us) zero h l = left_true (is_spec u) _ h
 all_at (u ∷ us) (suc i) h l = all_at us i (right_true (is_spec u) (list_all is_spec us) h) (omega arith)
@@ -123,7 +123,7 @@ answered : (unit : Stored) (armed : List FaultLine) (stop : Option Stop) → tar
 unfolding target_answer refusal
 answered unit armed stop = refl
 
-own_block : (us : List Stored) (dev : ℕ) → with_blocks us dev (unit_at us dev).blocks ≡ us
+pub own_block : (us : List Stored) (dev : ℕ) → with_blocks us dev (unit_at us dev).blocks ≡ us
 own_block [] dev = refl
 own_block (u ∷ us) zero = refl
 own_block (u ∷ us) (suc dev) = ap (λ (v : List Stored). u ∷ v) (own_block us dev)
@@ -137,7 +137,7 @@ SaidTold armed dev o into old new f f' =
 stays : (us : List Stored) (armed : List FaultLine) (dev : ℕ) (into : List ℕ) (o : Outcome) (told : Option (List Stored)) (stop : Option Stop) → IsAnswer (answer_of us armed dev look [] [] 32 stop) us dev o told (replicate 32 0) into → told ≡ Some us
 stays us armed dev into o told stop a = a.units ∙ ap (λ (v : Answer). Some (with_blocks us dev v.blocks)) (answered (unit_at us dev) armed stop) ∙ ap (λ (v : List Stored). Some v) (own_block us dev)
 
-same_units : (s : Standing) (a b : Option (List ℕ)) (old new : Option (List Stored)) → old ≡ units_told s a → new ≡ units_told s b → is_some b ≡ is_some a → ((us : List Stored) → old ≡ Some us → new ≡ Some us) → new ≡ old
+pub same_units : (s : Standing) (a b : Option (List ℕ)) (old new : Option (List Stored)) → old ≡ units_told s a → new ≡ units_told s b → is_some b ≡ is_some a → ((us : List Stored) → old ≡ Some us → new ≡ Some us) → new ≡ old
 same_units s None None old new p q t h = q ∙ sym p
 same_units s (Some x) b old new p q t h = h (units_in (specs_of s) x) p ∙ sym p
 same_units s None (Some y) old new p q t h = absurd (cc)

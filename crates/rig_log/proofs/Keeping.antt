@@ -1,5 +1,5 @@
 use Rattle.std.proofs.Common.{ℕ, zero, suc, ◌≡◌, ◌+◌, ◌<◌, ◌≤◌, Bool, true, ltb, ◌&&◌, List, [], ◌∷◌, ◌++◌, length, take, drop, get_or, refl, sym, ap, ◌∙◌, arith}
-use Rattle.std.proofs.lemmas.Bool.{ltb-true, lt-ltb}
+use Rattle.std.proofs.lemmas.Bool.{ltb-true, lt-ltb, and_from}
 use Rattle.std.proofs.lemmas.List.{length-append}
 use Rattle.rig_api.specs.Log.{entry_at, has_key}
 use Rattle.fault_schedule.specs.declared.Label.{Label}
@@ -15,11 +15,8 @@ and_left a b h = grind arith
 and_right : (a b : Bool) → (a && b) ≡ true → b ≡ true
 and_right a b h = grind arith
 
-both : (a b : Bool) → a ≡ true → b ≡ true → (a && b) ≡ true
-both a b h k = grind arith
-
 one : (l m : ℕ) (k : Kept) → k.labels_at + k.labels_len ≤ l → k.moved_at + k.moved_len ≤ m → is_inside l m k ≡ true
-one l m k a b = both _ _ (lt-ltb (k.labels_at + k.labels_len) (l + 1) (omega arith)) (lt-ltb (k.moved_at + k.moved_len) (m + 1) (omega arith))
+one l m k a b = and_from _ _ (lt-ltb (k.labels_at + k.labels_len) (l + 1) (omega arith)) (lt-ltb (k.moved_at + k.moved_len) (m + 1) (omega arith))
 
 parts : (l m : ℕ) (k : Kept) → is_inside l m k ≡ true → (k.labels_at + k.labels_len ≤ l) × (k.moved_at + k.moved_len ≤ m)
 parts l m k p =
@@ -46,11 +43,11 @@ pub grown : (l m l' m' : ℕ) (ks : List Kept) → l ≤ l' → m ≤ m' → are
 grown l m l' m' [] a b h = refl
 grown l m l' m' (k ∷ ks) a b h =
     let p = parts l m k (and_left _ _ h) in
-    both _ _ (one l' m' k (omega (arith, p.0)) (omega (arith, p.1))) (grown l m l' m' ks a b (and_right _ _ h))
+    and_from _ _ (one l' m' k (omega (arith, p.0)) (omega (arith, p.1))) (grown l m l' m' ks a b (and_right _ _ h))
 
 pub one_inside : (l m : ℕ) (ks : List Kept) (k : Kept) → are_inside l m ks ≡ true → k.labels_at + k.labels_len ≤ l → k.moved_at + k.moved_len ≤ m → are_inside l m (ks ++ k ∷ []) ≡ true
-one_inside l m [] k h a b = both _ _ (one l m k a b) refl
-one_inside l m (x ∷ ks) k h a b = both _ _ (and_left _ _ h) (one_inside l m ks k (and_right _ _ h) a b)
+one_inside l m [] k h a b = and_from _ _ (one l m k a b) refl
+one_inside l m (x ∷ ks) k h a b = and_from _ _ (and_left _ _ h) (one_inside l m ks k (and_right _ _ h) a b)
 
 take_same : {A : Type 0} (n : ℕ) (xs ys : List A) → n ≤ length xs → take n (xs ++ ys) ≡ take n xs
 take_same zero xs ys h = refl
@@ -103,8 +100,8 @@ appended ls ls' ms ms' ks k ls₂ ms₂ ks₂ el em ek h a b c d =
     rw (el, em, ek) (entries_more ls ls' ms ms' ks k h ∙ ap (λ e. entries ls ms ks ++ (e ∷ [])) (entry_new ls ls' ms ms' k a b c d))
 
 one_keyed : (ks : List Kept) (k : Kept) → are_keyed ks ≡ true → has_key k.what.outcome.sense ≡ true → are_keyed (ks ++ k ∷ []) ≡ true
-one_keyed [] k h e = both _ _ e refl
-one_keyed (x ∷ ks) k h e = both _ _ (and_left _ _ h) (one_keyed ks k (and_right _ _ h) e)
+one_keyed [] k h e = and_from _ _ e refl
+one_keyed (x ∷ ks) k h e = and_from _ _ (and_left _ _ h) (one_keyed ks k (and_right _ _ h) e)
 
 pub still_keyed : (ks : List Kept) (k : Kept) (ks₂ : List Kept) → ks₂ ≡ ks ++ (k ∷ []) → are_keyed ks ≡ true → has_key k.what.outcome.sense ≡ true → are_keyed ks₂ ≡ true
 still_keyed ks k ks₂ e h l = rw e (one_keyed ks k h l)

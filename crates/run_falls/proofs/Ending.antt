@@ -15,6 +15,7 @@ use Rattle.block_path.specs.Blocks.{Sent, stored_cell}
 use Rattle.block_path.specs.Moves.{hidden}
 use Rattle.block_path.specs.Routes.{wire_size}
 use Rattle.block_path.specs.Serial.{plain, plain_tells}
+use Rattle.block_path.proofs.InTurn.{plain_append}
 use Rattle.whole_run.specs.Past.{steps_from}
 use Rattle.whole_run.specs.ScriptWalk.{act_of, bad_from, replies_from, reply_of, walk_from, whole_or_bad}
 use Rattle.whole_run.specs.Settings.{Setting, block_of, route}
@@ -24,13 +25,12 @@ use Rattle.run_laws.specs.StoreFaults.{falling_walk, may_fall}
 use Rattle.run_moves.specs.BoundRun.{AllBound, AllSuit, IsBound, IsBoundRun}
 use Rattle.run_follows.specs.Finished.{AllEnded, HasEnded, HaveEnded, IsDone, IsSettled, answer_of, answers_of, replies_of}
 use Rattle.run_follows.specs.Slots.{Status}
-use Rattle.run_follows.proofs.Ends.{ends_as_walk}
+use Rattle.run_follows.proofs.Ends.{ends_as_walk, one as one_more}
 use Rattle.run_follows.specs.Takes.{AllTakeAny, OpTakesAny, TakesAny}
 use Rattle.run_falls.specs.AtTheEnd.{EndsAsFalling}
 use Rattle.run_falls.specs.Falls.{Falls, falling, forgive, forgiven, is_write, left_of, of_blocks, over_falls, sends_or, stores_or, writes_of}
 use Rattle.run_falls.specs.FollowsFalling.{AllFallen, LeavesSized, FollowsFalling, HasFallen}
 use Rattle.run_falls.proofs.Forgiving.{AllOf, IsOf, op_of}
-use Rattle.run_falls.proofs.Outward.{one_more}
 use Rattle.run_falls.proofs.OverDevice.{same_rooms, same_steps}
 use Rattle.run_falls.proofs.Switching.{HasLabel, Labelled, op_labelled}
 use Rattle.run_falls.proofs.WalksAlike.{Forgives, Sees, step_alike}
@@ -154,10 +154,6 @@ module _ (m : Setting) (falls : Falls) (sized : LeavesSized (stored_size m.ty m.
 
 -- the two walks
 
-plain_both : {S A : Type 0} (f : A → S → S) (xs ys : List A) (s : S) → plain f (xs ++ ys) s ≡ plain f ys (plain f xs s)
-plain_both f [] ys s = refl
-plain_both f (x ∷ xs) ys s = plain_both f xs ys (f x s)
-
 module _ (m : Setting) (falls : Falls) where
   abbrev over : Setting
   over = over_falls m falls
@@ -180,7 +176,7 @@ module _ (m : Setting) (falls : Falls) where
       let steps = steps_of m i op in
       let next = falling_walk m (of_blocks falls) steps t in
       let rest = walks_alike (suc i) ops (plain act (map (act_of over) steps) s) next (steps_alike steps s t h) in
-      subst (λ u. Sees (walk_from over i (op ∷ ops) s) u) (sym (plain_both (λ step u. act (may_fall m (of_blocks falls) step) u) steps (steps_from m (suc i) ops) t))
+      subst (λ u. Sees (walk_from over i (op ∷ ops) s) u) (sym (plain_append (λ step u. act (may_fall m (of_blocks falls) step) u) steps (steps_from m (suc i) ops) t))
       (subst (λ xs. Sees (walk_from over (suc i) ops (plain act (map (act_of over) xs) s)) (falling_walk m (of_blocks falls) (steps_from m (suc i) ops) next)) (same i op) rest)
 
   -- what is listed

@@ -30,14 +30,15 @@ use Rattle.dix_adapter.specs.declared.adapter.Adapter.{Adapter}
 use Rattle.dix_adapter.specs.Carried.{frame_sent, is_bad, sends}
 use Rattle.carried_record.specs.OnRecord.{put_each}
 use Rattle.run_follows.specs.Finished.{replies_of}
-use Rattle.run_follows.specs.Following.{Becomes, Follows}
+use Rattle.run_follows.specs.Following.{Follows}
 use Rattle.run_follows.specs.Gate.{BecomesDone, MayMove, Spot, ops_of, parts_at}
 use Rattle.run_follows.specs.Pieces.{all_cut, all_made}
 use Rattle.run_follows.specs.Sending.{AllGoOut, IsGoing, SentOut, with_status}
 use Rattle.run_follows.specs.Slots.{Admitted, Carried, Cut, Done, Settled, Status, Waits}
 use Rattle.run_follows.proofs.Begins.{begin_all}
-use Rattle.run_follows.proofs.Sends.{out_all, with_here, with_other}
+use Rattle.run_follows.proofs.Sends.{out_all}
 use Rattle.run_follows.proofs.Together.{all_admitted, all_are_cut}
+use Rattle.run_follows.proofs.FollowRows.{becomes}
 use Rattle.run_falls.specs.AtTheEnd.{EndsAsFalling}
 use Rattle.run_falls.specs.Falls.{Falls, forgive, forgiven, left_of, over_falls, put_really}
 use Rattle.run_falls.specs.FollowsFalling.{AllFallen, LeavesSized, FollowsFalling, HasFallen}
@@ -109,9 +110,6 @@ may_move status = record { one = one_cell_each; placed = tt; mine = write_placed
 
 may_there : (status : ℕ → ℕ → Status) → MayMove over 1100 status spot
 may_there status = let h = may_move status in record { one = h.one; placed = tt; mine = record { in_pages = h.mine.in_pages; reads = h.mine.reads; writes = h.mine.writes; blocks = record { within = omega arith; bytes_are = refl } }; spread = h.spread; steps = refl; lets = tt }
-
-becomes : (next : Status) (old : ℕ → ℕ → Status) → Becomes 1 0 next old (with_status 1 0 next old)
-becomes next old = record { here = with_here 1 0 1 0 next old refl refl; elsewhere = λ j l h. with_other 1 0 j l next old h }
 
 abbrev waiting : ℕ → ℕ → Status
 waiting i k = Waits

@@ -14,6 +14,7 @@ use Rattle.block_path.specs.Blocks.{Answer}
 use Rattle.whole_run.specs.Settings.{Setting}
 use Rattle.whole_run.specs.Steps.{steps_of}
 use Rattle.fault_schedule.specs.Altered.{byte_at, xored_from}
+use Rattle.fault_schedule.proofs.Xored.{length-xored}
 use Rattle.stack_ops.specs.declared.reply.Reply.{Reply}
 use Rattle.whole_run.specs.ScriptWalk.{reply_of}
 use Rattle.run_follows.specs.Finished.{AllEnded, HaveEnded, answers_of, replies_of}
@@ -259,10 +260,6 @@ pub takes_flip : (m : Setting) (fine : ℕ → List ℕ → Bool) (flips : Flips
 takes_flip m fine flips i [] h = tt
 takes_flip m fine flips i (op ∷ ops) h = (carries (OpTakesAny m fine i) (λ dev lba a b k. k) op (flip_op (flips i) op) (flipped (flips i) op) h.0, takes_flip m fine flips (suc i) ops h.1)
 
-long_xored : (name : ℕ → ℕ) (i : ℕ) (xs : List ℕ) → length (xored_from name i xs) ≡ length xs
-long_xored name i [] = refl
-long_xored name i (x ∷ xs) = ap suc (long_xored name (i + 1) xs)
-
 -- whatever is as long as a fine block is fine in its place
 abbrev pub FineByLength : (ℕ → List ℕ → Bool) → Type 0
 FineByLength fine = (c : ℕ) (old new : List ℕ) → length new ≡ length old → fine c old ≡ true → fine c new ≡ true
@@ -271,7 +268,7 @@ bound_op : (m : Setting) (fine : ℕ → List ℕ → Bool) (bytes i : ℕ) (o :
 bound_op m fine bytes i o op long h = by (flipped o op) where
   by : IsFlipped op (flip_op o op) → IsBound m fine bytes i (flip_op o op)
   by (inl e) = subst (IsBound m fine bytes i) (sym e) h
-  by (inr x) = subst (IsBound m fine bytes i) (sym x.is) (λ block f. long (m.site.cell x.dev x.lba) block (xored_from (byte_at 0 x.mask) 0 block) (long_xored (byte_at 0 x.mask) 0 block) f)
+  by (inr x) = subst (IsBound m fine bytes i) (sym x.is) (λ block f. long (m.site.cell x.dev x.lba) block (xored_from (byte_at 0 x.mask) 0 block) (length-xored (byte_at 0 x.mask) 0 block) f)
 
 all_bound_flip : (m : Setting) (fine : ℕ → List ℕ → Bool) (flips : Flips) (bytes i : ℕ) (ops : List Op) → FineByLength fine → AllBound m fine bytes i ops → AllBound m fine bytes i (with_flips flips i ops)
 all_bound_flip m fine flips bytes i [] long h = tt

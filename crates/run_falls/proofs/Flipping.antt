@@ -1,4 +1,5 @@
-use Rattle.std.proofs.Common.{◌≡◌, ℕ, suc, ◌+◌, Bool, true, false, ◌||◌, List, [], ◌∷◌, ◌++◌, length, Option, Some, None, refl, sym, ap, subst, ◌∙◌, arith, length-append}
+use Rattle.std.proofs.Common.{◌≡◌, ℕ, suc, ◌+◌, false, ◌||◌, List, [], ◌∷◌, ◌++◌, length, Option, Some, None, refl, sym, ap, subst, ◌∙◌, arith, length-append}
+use Rattle.std.proofs.lemmas.Bool.{or_from, or_parts}
 use Rattle.rig_api.specs.declared.change.Change.{Change}
 use Rattle.rig_api.specs.declared.change.Change.TheVariants.{Flip}
 use Rattle.stack_ops.specs.declared.op.Op.{Op}
@@ -80,13 +81,6 @@ then_loose (x ∷ xs) as' bs (Some r ∷ ds) es l h = (refl, then_loose xs as' b
 
 -- a flip conflicts with no more than another change of the block
 
-either_false : (x y : Bool) → (x || y) ≡ false → (x ≡ false) × (y ≡ false)
-either_false true y e = cc
-either_false false y e = (refl, e)
-
-both : (x y : Bool) → x ≡ false → y ≡ false → (x || y) ≡ false
-both x y p q = rw p q
-
 stand_long : (m : Setting) (from fate k : ℕ) (steps : List Step) (status : ℕ → Status) (done : Done) → StandFrom m from fate k steps status done → length done ≡ length (all_moves (blocks_from m from fate k steps))
 stand_long m from fate k [] status done h = ap length h
 stand_long m from fate k (step ∷ steps) status done h =
@@ -114,11 +108,11 @@ module _ (m : Setting) (dev lba off : ℕ) (change : Change) (mask : List ℕ) w
       let reads = share_a_cell (src ∷ []) x.blocks.writes in
       let read = share_a_cell x.blocks.reads (c ∷ []) in
       let written = share_a_cell (c ∷ []) x.blocks.writes in
-      let p = either_false bytes ((reads || (read || written)) || (logs || fates)) e in
-      let q = either_false (reads || (read || written)) (logs || fates) p.1 in
-      let r = either_false reads (read || written) q.0 in
-      let t = either_false read written r.1 in
-      both bytes ((written || (read || written)) || (logs || fates)) p.0 (both (written || (read || written)) (logs || fates) (both written (read || written) t.1 r.1) q.1)
+      let p = or_parts bytes ((reads || (read || written)) || (logs || fates)) e in
+      let q = or_parts (reads || (read || written)) (logs || fates) p.1 in
+      let r = or_parts reads (read || written) q.0 in
+      let t = or_parts read written r.1 in
+      or_from bytes ((written || (read || written)) || (logs || fates)) p.0 (or_from (written || (read || written)) (logs || fates) (or_from written (read || written) t.1 r.1) q.1)
 
   record Turned (from fate i : ℕ) (front behind : List Op) (status : ℕ → ℕ → Status) (done : Done) : Type 0 where
     stand : AllStand m from fate i (front ++ (two ∷ behind)) status done

@@ -25,11 +25,12 @@ use Rattle.run_follows.specs.Sending.{AllComeIn, AllSized, in_fates, with_fate, 
 use Rattle.run_follows.specs.Slots.{Carried, Status}
 use Rattle.run_follows.proofs.Recording.{arrived}
 use Rattle.run_follows.proofs.Sends.{with_here, with_other}
+use Rattle.run_follows.proofs.Ends.{one as one_more}
 use Rattle.run_falls.specs.Falls.{Falls, forgive, forgiven, left_of, over_falls, really, sends_or, writes_of}
 use Rattle.run_falls.specs.FollowsFalling.{AllFallen, HasFallen}
 use Rattle.run_falls.proofs.Falling.{NoneFall, all_really, decide, elsewhere_still, fall_at, fall_if, falls_by, here, none_fall, none_of_rest, rest_none, there, with_fall}
 use Rattle.run_falls.proofs.Forgiving.{AllDir, AreFresh}
-use Rattle.run_falls.proofs.Outward.{falls_here, forgiven_here, not_here, one_more, some_if}
+use Rattle.run_falls.proofs.Outward.{falls_here, forgiven_here, not_here, some_if}
 
 -- A group of a read over a rig whose store call may have failed at one of its blocks.
 
@@ -41,7 +42,7 @@ abbrev pub next_in : Came → List Came → List Came
 next_in (Ok frame) more = Ok frame ∷ more
 next_in (Err why) more = Err why ∷ []
 
-nothing_really : (falls : Falls) (bs : List Block) → all_really falls bs [] ≡ []
+pub nothing_really : (falls : Falls) (bs : List Block) → all_really falls bs [] ≡ []
 nothing_really falls [] = refl
 nothing_really falls (b ∷ bs) = refl
 

@@ -2,6 +2,7 @@ use Rattle.std.proofs.Common.{◌≡◌, ◌<◌, ℕ, zero, suc, ◌+◌, ◌-�
 use Rattle.std.proofs.lemmas.List.{ext_get_or}
 use Rattle.std.specs.Int.Bits.{xor_assoc, xor_self, xor_zero_l}
 use Rattle.fault_schedule.specs.Altered.{byte_at, xored_from}
+use Rattle.fault_schedule.proofs.Xored.{length-xored, get-xored}
 use Rattle.rig_api.specs.declared.change.Change.{Change}
 use Rattle.rig_api.specs.declared.change.Change.TheVariants.{Flip}
 use Rattle.stack_ops.specs.declared.op.Op.{Op}
@@ -42,22 +43,13 @@ twice x y = sym (sym (xor_assoc x x y) ∙ (ap (λ v. bit_xor v y) (xor_self x) 
 first_byte : (bytes : List ℕ) (k : ℕ) → byte_at 0 bytes k ≡ get_or bytes k 0
 first_byte bytes k = let e : k - 0 ≡ k = omega arith in grind (arith, e)
 
-long_xored : (name : ℕ → ℕ) (i : ℕ) (xs : List ℕ) → length (xored_from name i xs) ≡ length xs
-long_xored name i [] = refl
-long_xored name i (x ∷ xs) = ap suc (long_xored name (i + 1) xs)
-
-at_xored : (name : ℕ → ℕ) (i : ℕ) (xs : List ℕ) (k : ℕ) → k < length xs → get_or (xored_from name i xs) k 0 ≡ bit_xor (get_or xs k 0) (name (i + k))
-at_xored name i [] k h = absurd (omega (arith, h))
-at_xored name i (x ∷ xs) zero h = let e : i ≡ i + 0 = omega arith in ap (λ j. bit_xor x (name j)) e
-at_xored name i (x ∷ xs) (suc k) h = let e : i + 1 + k ≡ i + suc k = omega arith in at_xored name (i + 1) xs k (omega (arith, h)) ∙ ap (λ j. bit_xor (get_or xs k 0) (name j)) e
-
 -- so there is a flip that leaves this
 pub flips_to : (old left : List ℕ) → length left ≡ length old → xored_from (byte_at 0 (between old left)) 0 old ≡ left
 flips_to old left l =
-    let long = long_xored (byte_at 0 (between old left)) 0 old in
+    let long = length-xored (byte_at 0 (between old left)) 0 old in
     ext_get_or 0 (xored_from (byte_at 0 (between old left)) 0 old) left (long ∙ sym l)
     (λ k h. (let b : k < length old = omega (arith, h, long) in
-    at_xored (byte_at 0 (between old left)) 0 old k b
+    get-xored (byte_at 0 (between old left)) 0 old k b
     ∙ ap (bit_xor (get_or old k 0)) (ap (byte_at 0 (between old left)) (let e : 0 + k ≡ k = omega arith in e) ∙ (first_byte (between old left) k ∙ at_between old left k l b))
     ∙ sym (twice (get_or old k 0) (get_or left k 0))))
 

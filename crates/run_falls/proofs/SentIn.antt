@@ -23,14 +23,16 @@ use Rattle.dix_adapter.specs.Outcomes.{done_of}
 use Rattle.dix_adapter.specs.Ways.{CameIn, RecordedIn, blocks_told, fates_of_in, frames_in, shapes_of, site_of, stopped_in, ways_in}
 use Rattle.dix_adapter.proofs.Blocks.{length-in}
 use Rattle.dix_adapter.proofs.Runs.{cut-joined}
+use Rattle.dix_adapter.proofs.OnRecord.{frames-count}
 use Rattle.carried_record.specs.OnRecord.{put_each}
 use Rattle.carried_record.proofs.Puts.{InTurn, goes_in, turn}
 use Rattle.run_follows.specs.Following.{Follows}
 use Rattle.run_follows.specs.Gate.{Spot}
 use Rattle.run_follows.specs.Sending.{AllComeIn, AllGoing, AllSized, NoneBefore, in_fates, land_all, with_fates}
 use Rattle.run_follows.specs.Slots.{Status}
-use Rattle.run_follows.proofs.Recording.{came_length, frames_many, in_fates_are, lands}
+use Rattle.run_follows.proofs.Recording.{came_length, in_fates_are, lands}
 use Rattle.run_follows.proofs.Sends.{in_all}
+use Rattle.run_follows.proofs.Telling.{last_one}
 use Rattle.run_falls.specs.Falls.{Falls, falling, forgiven, left_of, over_falls, put_really}
 use Rattle.run_falls.specs.FollowsFalling.{FollowsFalling, HasFallen}
 use Rattle.run_falls.proofs.Devices.{more_fall}
@@ -39,7 +41,7 @@ use Rattle.run_falls.proofs.Forgiving.{are_fresh, still_carried, still_going}
 use Rattle.run_falls.proofs.Inward.{all_come, came_ins, ends_so, fell_by, has_fallen, in_statuses, long_frames, really_in, stopped_is, ways_fall}
 use Rattle.run_falls.proofs.Outward.{if_some}
 use Rattle.run_falls.proofs.OverDevice.{going_over}
-use Rattle.run_falls.proofs.SentOut.{all_cut, last_one, none_stand, turn_dir}
+use Rattle.run_falls.proofs.SentOut.{all_cut, none_stand, turn_dir}
 
 -- A command of a read over a rig that tells its blocks, whose store call may fail.
 
@@ -82,7 +84,7 @@ module _ (m : Setting) (n : ℕ) (ops : List Op) (a : Adapter) (ios : List Io) (
       let k = done_of (size req) o in
       let frames = frames_of len k r.entry.moved in
       let cames = came_of (size req) o.done o.sense frames in
-      let count = frames_many len k r.entry.moved in
+      let count = frames-count len k r.entry.moved in
       let long = length-in req in
       let same : r.entry ≡ told.entry = last_one old.log r.entry told.entry (sym r.what.recorded ∙ told.recorded) in
       let done : o.done ≡ length (frames_in real) = ap (λ (e : Entry). e.what.outcome.done) same ∙ told.done ∙ ap (λ ws. length (frames_in ws)) ways in

@@ -1,4 +1,4 @@
-use Rattle.std.proofs.Common.{◌≡◌, ◌≤◌, ℕ, suc, true, false, List, [], ◌∷◌, ◌++◌, length, map, take, get_or, Option, refl, sym, ap, subst, ◌∙◌, arith}
+use Rattle.std.proofs.Common.{◌≡◌, ◌≤◌, ℕ, suc, true, false, List, [], ◌∷◌, ◌++◌, length, map, take, Option, refl, sym, ap, subst, ◌∙◌, arith}
 use Rattle.std.specs.Prelude.{IfSome, min, ltb}
 use Rattle.std.proofs.lemmas.List.{length-map, length-take}
 use Rattle.page_pool.specs.Cells.{flat}
@@ -33,6 +33,7 @@ use Rattle.run_follows.specs.Sending.{AllGoOut, AllGoing, NoneBefore, is_carried
 use Rattle.run_follows.specs.Slots.{Status}
 use Rattle.run_follows.proofs.Recording.{came_length, out_fates_are}
 use Rattle.run_follows.proofs.Sends.{out_all}
+use Rattle.run_follows.proofs.Telling.{last_one}
 use Rattle.run_falls.specs.Falls.{Falls, falling, forgiven, left_of, over_falls, put_really}
 use Rattle.run_falls.specs.FollowsFalling.{FollowsFalling, HasFallen}
 use Rattle.run_falls.proofs.Devices.{more_fall}
@@ -42,13 +43,6 @@ use Rattle.run_falls.proofs.Outward.{all_go, blocks_walk, came_ways, ends_so, fe
 use Rattle.run_falls.proofs.OverDevice.{going_over}
 
 -- A command of a write over a rig that tells its blocks, whose store call may fail.
-
-pub last_one : {X : Type 0} (xs : List X) (x y : X) → xs ++ (x ∷ []) ≡ xs ++ (y ∷ []) → x ≡ y
-last_one [] x y e = ap (λ zs. get_or zs 0 x) e
-last_one (z ∷ xs) x y e = last_one xs x y (ap (λ zs. cut zs) e) where
-  cut : {X : Type 0} → List X → List X
-  cut [] = []
-  cut (w ∷ ws) = ws
 
 pub turn_dir : (dir : Dir) (dev lba : ℕ) (bs : List Block) → InTurn dir dev lba bs → AllDir dir bs
 turn_dir dir dev lba [] h = tt

@@ -40,7 +40,7 @@ use Rattle.run_follows.proofs.Wholly.{wholly}
 use Rattle.run_falls.specs.Falls.{Falls, falling, forgive, forgiven, is_write, left_of, none_falls, over_falls, writes_of}
 use Rattle.run_falls.specs.FollowsFalling.{AllFallen, FollowsFalling, HasFallen}
 use Rattle.run_falls.proofs.Falling.{IsNone, NoneFall, decide}
-use Rattle.run_falls.proofs.Forgiving.{AllOf, IsOf, of_midst, op_of, op_there, still_going, still_lets, still_may, still_over}
+use Rattle.run_falls.proofs.Forgiving.{AllOf, IsOf, of_midst, op_of, op_there, still_going, still_lets, still_may, still_over, forgive_cut}
 use Rattle.run_falls.proofs.Outward.{forgiven_at, forgiven_here, if_some, left_none, not_here, some_if}
 use Rattle.run_falls.proofs.OverDevice.{acts_over, all_placed_over, going_over, lets_over, may_over, moves_over, placed_over}
 
@@ -58,10 +58,6 @@ wait_still (Some left) = refl
 admitted_still : (o : Option (List ℕ)) → forgive o Admitted ≡ Admitted
 admitted_still None = refl
 admitted_still (Some left) = refl
-
-cut_still : (o : Option (List ℕ)) → forgive o Cut ≡ Cut
-cut_still None = refl
-cut_still (Some left) = refl
 
 done_still : (shown : List ℕ) (o : Option (List ℕ)) → forgive o (Done shown) ≡ Done shown
 done_still shown None = refl
@@ -161,7 +157,7 @@ module _ (m : Setting) (n : ℕ) (ops : List Op) (opening : State) (status : ℕ
         after = plain act (all_cut m n spots) f.after;
         told = f.told;
         follows = subst (λ acts. Follows over n ops opening (forgiven ops f.falls (with_all spots Cut status)) (plain act acts f.after) f.told) (cut_alike m n f.falls spots)
-            (subst (λ st. Follows over n ops opening st (plain act (all_cut over n spots) f.after) f.told) (all_told ops f.falls Cut cut_still spots status) there);
+            (subst (λ st. Follows over n ops opening st (plain act (all_cut over n spots) f.after) f.told) (all_told ops f.falls Cut forgive_cut spots status) there);
         bytes = refl;
         blocks_are = refl;
         stamped = f.stamped;

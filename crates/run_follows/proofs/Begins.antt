@@ -16,7 +16,7 @@ use Rattle.run_follows.proofs.Runs.{Moves, none_far, sents_none}
 abbrev all_wait : ℕ → ℕ → Status
 all_wait i k = Waits
 
-none_join : (xs ys : Moves) → none_done {R = Answer} (xs ++ ys) ≡ none_done xs ++ none_done ys
+pub none_join : (xs ys : Moves) → none_done {R = Answer} (xs ++ ys) ≡ none_done xs ++ none_done ys
 none_join [] ys = refl
 none_join (x ∷ xs) ys = ap (λ rest. None ∷ rest) (none_join xs ys)
 

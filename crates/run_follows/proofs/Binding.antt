@@ -1,6 +1,4 @@
 use Rattle.std.proofs.Common.{◌≡◌, ◌≤◌, ℕ, suc, ◌+◌, Bool, true, List, [], ◌∷◌, length, refl, subst}
-use Rattle.std.specs.Prelude.{Result, Ok, Err, IfOk}
-use Rattle.bio_core.specs.declared.fate.Why.{Why}
 use Rattle.stack_ops.specs.declared.op.Op.{Op}
 use Rattle.stack_ops.specs.declared.op.Op.TheVariants.{Fetch, FetchPi, Fill, Overwrite, Put, Seal, Show, Wait, Write, WritePi}
 use Rattle.block_path.specs.Acts.{State}
@@ -8,18 +6,15 @@ use Rattle.block_path.specs.Blocks.{Sent}
 use Rattle.whole_run.specs.Settings.{Setting, block_of, route}
 use Rattle.run_record.specs.ToldRun.{came_by, told}
 use Rattle.run_moves.specs.BoundRun.{AllBound, AllSuit, IsBound, IsBoundRun}
+use Rattle.run_moves.proofs.AtTarget.{fine_always}
 use Rattle.run_follows.specs.Finished.{FramesFit}
 use Rattle.run_follows.proofs.Over.{same_rooms}
 
 -- A script that is bound, over what stands on record.
 
-any_ok : (r : Result (List ℕ) Why) → IfOk r (λ stored. true ≡ true)
-any_ok (Ok stored) = refl
-any_ok (Err why) = tt
-
 module _ (m : Setting) (es : List Sent) (fit : FramesFit m es) where
   suit_over : (i v n : ℕ) → AllSuit (told m es) (λ c block. true) i v n
-  suit_over i v n k l = record { stores = λ frame e. any_ok (came_by es (route m (block_of i v k)).label); sends = λ stored e. fit (block_of i v k) }
+  suit_over i v n k l = record { stores = λ frame e. fine_always (came_by es (route m (block_of i v k)).label); sends = λ stored e. fit (block_of i v k) }
 
   op_over : (fine : ℕ → List ℕ → Bool) (bytes i : ℕ) (op : Op) → IsBound m fine bytes i op → IsBound (told m es) (λ c block. true) bytes i op
   op_over fine bytes i (Fill seg byte) h = tt

@@ -86,7 +86,7 @@ all_moved p (WritesPi b frame) status n h e = e ∙ ap (done_by p) h.1 ∙ sym (
 all_moved p (Reads b owner to) status n h e = e ∙ ap (done_by p) h.1 ∙ sym (moves_length p)
 all_moved p (Alters dev lba change) status n h e = e ∙ ap (done_by p) h.1 ∙ sym (moves_length p)
 
-one : {X : Type 0} (x y : X) (xs ys : List X) → x ≡ y → xs ≡ ys → (x ∷ xs) ≡ (y ∷ ys)
+pub one : {X : Type 0} (x y : X) (xs ys : List X) → x ≡ y → xs ≡ ys → (x ∷ xs) ≡ (y ∷ ys)
 one x y xs ys e f = ap (λ z. z ∷ xs) e ∙ ap (λ zs. y ∷ zs) f
 
 module _ (m : Setting) where

@@ -1,6 +1,5 @@
-use Rattle.std.proofs.Common.{◌≡◌, ◌≤◌, ℕ, zero, suc, ◌*◌, Bool, true, false, if◌then◌else◌, List, [], ◌∷◌, ◌++◌, length, map, take, drop, Some, None, sym, subst, arith}
+use Rattle.std.proofs.Common.{◌≡◌, ◌≤◌, ℕ, ◌*◌, Bool, true, false, if◌then◌else◌, List, [], ◌∷◌, ◌++◌, length, map, take, Some, None, sym, subst, arith}
 use Rattle.std.specs.Prelude.{Result, Err, IfOk, ltb}
-use Rattle.std.proofs.lemmas.List.{length-drop, length-take-le}
 use Rattle.page_pool.specs.Cells.{flat}
 use Rattle.fault_schedule.specs.declared.Label.{Label}
 use Rattle.target_answer.specs.Frames.{frames_of}
@@ -23,6 +22,8 @@ use Rattle.dix_adapter.specs.Outcomes.{done_of}
 use Rattle.dix_adapter.specs.Ways.{RecordedIn, RecordedOut}
 use Rattle.dix_adapter.proofs.Landing.{group-width}
 use Rattle.dix_adapter.proofs.Runs.{AllLong, group-wide}
+use Rattle.dix_adapter.proofs.GoingIn.{part-long}
+use Rattle.dix_adapter.proofs.Units.{frames-long}
 use Rattle.carried_record.specs.OnRecord.{put_each}
 use Rattle.carried_record.proofs.Puts.{goes_in, goes_out}
 use Rattle.run_follows.specs.Finished.{FramesFit}
@@ -59,17 +60,6 @@ came_fit w [] true why h = (tt, tt)
 came_fit w [] false why h = tt
 came_fit w (f ∷ frames) c why h = (h.0, came_fit w frames c why h.1)
 
-long_front : (w k : ℕ) (fs : List (List ℕ)) → AllLong w fs → AllLong w (take k fs)
-long_front w zero fs h = tt
-long_front w (suc k) [] h = tt
-long_front w (suc k) (f ∷ fs) h = (h.0, long_front w k fs h.1)
-
-cut_long : (w k : ℕ) (bytes : List ℕ) → k * w ≤ length bytes → AllLong w (frames_of w k bytes)
-cut_long w zero bytes l = tt
-cut_long w (suc k) bytes l =
-    let d = length-drop w bytes in
-    (length-take-le w bytes (omega (arith, l)), cut_long w k (drop w bytes) (omega (arith, l, d)))
-
 module _ (m : Setting) (a : Adapter) (ios : List Io) (req : List Bio) (pool : List (List ℕ)) (protect : IsProtect a.protect) (g : IsGroup a pool m.size ios req) where
   put_fits : (cames : List (Result (List ℕ) Why)) (w : ℕ) (es : List Sent) → ((b : ScriptBlock) → wire_size (route m b) ≡ w) → AllFit w cames → FramesFit m es → FramesFit m (put_each m.site (blocks_in req) cames es)
   put_fits cames w es wide f fit = λ b. subst (λ k. Fits k (came_in (find (route m b).label (put_each m.site (blocks_in req) cames es)))) (sym (wide b))
@@ -84,7 +74,7 @@ module _ (m : Setting) (a : Adapter) (ios : List Io) (req : List Bio) (pool : Li
       let frames = take (done_of (size req) o) all in
       let long : AllLong len all = subst (λ k. AllLong k all) (sym (group-width a pool m.size ios req g)) (group-wide a pool m.size ios req g good) in
       subst (FramesFit m) (sym (goes_out m a ios req pool protect g fates old new w good r))
-      (put_fits (came_of (size req) o.done o.sense frames) len (recorded m old.log) wide (came_fit len frames (ltb o.done (size req)) (why_ended o.sense) (long_front len (done_of (size req) o) all long)) fit)
+      (put_fits (came_of (size req) o.done o.sense frames) len (recorded m old.log) wide (came_fit len frames (ltb o.done (size req)) (why_ended o.sense) (part-long len (done_of (size req) o) all long)) fit)
 
   pub fit_in : (pool' : List (List ℕ)) (fates : List Fate) (old new : Shown) → (first_of req).dir ≡ Read → ((b : ScriptBlock) → wire_size (route m b) ≡ frame_len a ios req) →
       RecordedIn a ios req pool pool' fates old new → FramesFit m (recorded m old.log) → FramesFit m (recorded m new.log)
@@ -95,4 +85,4 @@ module _ (m : Setting) (a : Adapter) (ios : List Io) (req : List Bio) (pool : Li
       let frames = frames_of len k r.entry.moved in
       let enough : k * len ≤ length r.entry.moved = subst (λ x. k * len ≤ x) (sym r.long) (omega arith) in
       subst (FramesFit m) (sym (goes_in m a ios req pool protect g pool' fates old new w r))
-      (put_fits (came_of (size req) o.done o.sense frames) len (recorded m old.log) wide (came_fit len frames (ltb o.done (size req)) (why_ended o.sense) (cut_long len k r.entry.moved enough)) fit)
+      (put_fits (came_of (size req) o.done o.sense frames) len (recorded m old.log) wide (came_fit len frames (ltb o.done (size req)) (why_ended o.sense) (frames-long len k r.entry.moved enough)) fit)

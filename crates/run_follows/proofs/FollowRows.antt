@@ -89,7 +89,7 @@ put_placed = record {
 may_move : (status : ℕ → ℕ → Status) → MayMove m 1100 status spot
 may_move status = record { one = one_cell_each; placed = tt; mine = write_placed; spread = still_apart m 1 0 1 one_cell_each refl (omega arith); steps = refl; lets = tt }
 
-becomes : (next : Status) (old : ℕ → ℕ → Status) → Becomes 1 0 next old (with_status 1 0 next old)
+pub becomes : (next : Status) (old : ℕ → ℕ → Status) → Becomes 1 0 next old (with_status 1 0 next old)
 becomes next old = record { here = with_here 1 0 1 0 next old refl refl; elsewhere = λ j l h. with_other 1 0 j l next old h }
 
 abbrev p : Parts

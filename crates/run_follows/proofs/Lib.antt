@@ -13,7 +13,7 @@ pub mod Over
 pub mod Recording
 pub mod Telling
 pub mod Holding
-mod FollowRows
+pub mod FollowRows
 pub mod Binding
 pub mod Fitting
 pub mod Together

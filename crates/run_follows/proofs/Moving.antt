@@ -93,7 +93,7 @@ spot_turn m n s old new next done run ts may becomes st turns h =
 
 -- what a block says after a quiet run
 
-get_left : (xs ys : List Answer) (c : ℕ) → c < length xs → get_or (xs ++ ys) c silent ≡ get_or xs c silent
+pub get_left : (xs ys : List Answer) (c : ℕ) → c < length xs → get_or (xs ++ ys) c silent ≡ get_or xs c silent
 get_left [] ys c l = absurd (omega (arith, l))
 get_left (x ∷ xs) ys zero l = refl
 get_left (x ∷ xs) ys (suc c) l = get_left xs ys c (omega (arith, l))

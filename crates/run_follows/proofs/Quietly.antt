@@ -1,4 +1,4 @@
-use Rattle.std.proofs.Common.{◌≡◌, ◌<◌, ℕ, zero, suc, Bool, true, false, List, [], ◌∷◌, ◌++◌, length, get_or, Option, Some, None, refl, sym, ap, ◌∙◌, arith}
+use Rattle.std.proofs.Common.{◌≡◌, ◌<◌, ℕ, suc, Bool, true, false, List, [], ◌∷◌, ◌++◌, length, get_or, Option, Some, None, refl, sym, ap, ◌∙◌, arith}
 use Rattle.bio_core.specs.declared.fate.Why.{Why}
 use Rattle.integrity_payload.specs.declared.payload.Owner.{Owner}
 use Rattle.pi_tuple.specs.declared.checks.Check.{Check}
@@ -13,6 +13,7 @@ use Rattle.whole_run.specs.Steps.{Alters, Reads, Seals, Sets, Shows, Step, Write
 use Rattle.run_moves.specs.ScriptMoves.{by_moves, carried_by, lands_in}
 use Rattle.run_follows.specs.Slots.{before_carrying, parts_of, write_parts}
 use Rattle.run_follows.proofs.Runs.{AllQuiet, IsQuiet}
+use Rattle.run_follows.proofs.Moving.{get_left}
 
 -- Moves in pages alone leave the record as it is; what settling finds.
 
@@ -64,17 +65,12 @@ settled_quiet m own fate (Alters dev lba change) = tt
 
 -- with what a settled block is listed
 
-get_first : (xs ys : List Answer) (c : ℕ) → c < length xs → get_or (xs ++ ys) c silent ≡ get_or xs c silent
-get_first [] ys c l = absurd (omega (arith, l))
-get_first (x ∷ xs) ys zero l = refl
-get_first (x ∷ xs) ys (suc c) l = get_first xs ys c (omega (arith, l))
-
-no_second : (fate : Option Why) → first_why fate None ≡ fate
+pub no_second : (fate : Option Why) → first_why fate None ≡ fate
 no_second None = refl
 no_second (Some why) = refl
 
 kept : (here ts : List Answer) (c : ℕ) (fate : Option Why) → length here ≡ suc c → (get_or here c silent).why ≡ fate → (get_or (here ++ ts) c silent).why ≡ first_why fate None
-kept here ts c fate l e = ap (λ a. a.why) (get_first here ts c (omega (arith, l))) ∙ e ∙ sym (no_second fate)
+kept here ts c fate l e = ap (λ a. a.why) (get_left here ts c (omega (arith, l))) ∙ e ∙ sym (no_second fate)
 
 pub listed_as : (m : Setting) (own : List ℕ) (fate : ℕ) (step : Step) (now : State) (found : Option Why) (here : List Answer) → let p = parts_of m own fate step in length here ≡ suc (before_carrying p) → (get_or here (before_carrying p) silent).why ≡ found →
     let ts = plain_tells act tell p.settled now in ((by_moves m own fate step).join (here ++ ts)).why ≡ first_why found (get_or ts 0 silent).why

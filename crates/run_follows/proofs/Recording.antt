@@ -30,6 +30,7 @@ use Rattle.dix_adapter.specs.Groups.{IsGroup, IsProtect, blocks_in, first_of, fr
 use Rattle.dix_adapter.specs.Outcomes.{done_of, rest_of, why_of}
 use Rattle.dix_adapter.specs.Ways.{RecordedIn, RecordedOut}
 use Rattle.dix_adapter.proofs.Blocks.{length-in}
+use Rattle.dix_adapter.proofs.OnRecord.{frames-count}
 use Rattle.carried_record.specs.OnRecord.{put_each}
 use Rattle.carried_record.proofs.Named.{named_alike}
 use Rattle.carried_record.proofs.Puts.{InTurn, goes_in, goes_out as went_out, turn}
@@ -303,10 +304,6 @@ module _ (m : Setting) (a : Adapter) (ios : List Io) (faults : m.site.faults ≡
 
 -- a command
 
-pub frames_many : (w k : ℕ) (bytes : List ℕ) → length (frames_of w k bytes) ≡ k
-frames_many w zero bytes = refl
-frames_many w (suc k) bytes = ap suc (frames_many w k (drop w bytes))
-
 module _ (m : Setting) (n : ℕ) (ops : List Op) (a : Adapter) (ios : List Io) (req : List Bio) (pool : List (List ℕ)) (protect : IsProtect a.protect) (g : IsGroup a pool m.size ios req) (faults : m.site.faults ≡ a.tamper) where
   abbrev bs : List Block
   bs = blocks_in req
@@ -325,7 +322,7 @@ module _ (m : Setting) (n : ℕ) (ops : List Op) (a : Adapter) (ios : List Io) (
       let es = recorded m old.log in
       let frames = frames_of (frame_len a ios req) (done_of (size req) o) r.entry.moved in
       let cames = came_of (size req) o.done o.sense frames in
-      let count = frames_many (frame_len a ios req) (done_of (size req) o) r.entry.moved in
+      let count = frames-count (frame_len a ios req) (done_of (size req) o) r.entry.moved in
       let put : recorded m new.log ≡ put_each m.site bs cames es = goes_in m a ios req pool protect g pool' fates old new w r in
       let fate : in_fates a ios bs cames ≡ fates = in_fates_are (size req) o bs (length-in req) a ios frames count ∙ sym r.fates_are in
       subst (λ x. NoneBefore (with_fates bs fates status) x) (sym put) (subst (λ f. NoneBefore (with_fates bs f status) (put_each m.site bs cames es)) fate
@@ -356,7 +353,7 @@ module _ (m : Setting) (n : ℕ) (ops : List Op) (a : Adapter) (ios : List Io) (
       let es' = recorded m new.log in
       let frames = frames_of (frame_len a ios req) (done_of (size req) o) r.entry.moved in
       let cames = came_of (size req) o.done o.sense frames in
-      let count = frames_many (frame_len a ios req) (done_of (size req) o) r.entry.moved in
+      let count = frames-count (frame_len a ios req) (done_of (size req) o) r.entry.moved in
       let put : es' ≡ put_each m.site bs cames es = goes_in m a ios req pool protect g pool' fates old new w r in
       let each = subst (λ x. EachCame x bs cames) (sym put) (each_came m n ops a ios (length opening.logs) status bs spots cames es going (all_none m n ops a ios (length opening.logs) status es bs spots going none)) in
       let before = λ (i k : ℕ) (c : is_carried (status i k) ≡ true). told_before m n ops a ios (length opening.logs) status bs spots cames es going i k c ∙ ap (λ x. came_by x (label_at i k)) (sym put) in

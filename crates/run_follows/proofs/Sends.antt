@@ -25,6 +25,7 @@ use Rattle.run_moves.specs.ScriptMoves.{own_at}
 use Rattle.dix_adapter.specs.declared.adapter.Adapter.{Adapter}
 use Rattle.dix_adapter.specs.Carried.{arrives, carried as fate_of, land, sends, unsent}
 use Rattle.dix_adapter.specs.Groups.{frame_cells, frame_in, label_of, route_of}
+use Rattle.dix_adapter.proofs.GoingIn.{scatter-none}
 use Rattle.carried_record.specs.OnRecord.{put_each}
 use Rattle.run_follows.specs.Following.{Becomes, Follows}
 use Rattle.run_follows.specs.Gate.{AreOver, LetsIn, Spot, is_over, number, ops_of, parts_at, place}
@@ -169,7 +170,7 @@ one_block m n ops a ios opening now status es b s c e why g q t h = put_block m 
 
 -- the ones behind stay cut
 
-untouched_out : (bs : List Block) (status : ℕ → ℕ → Status) → with_fates bs (out_fates bs []) status ≡ status
+pub untouched_out : (bs : List Block) (status : ℕ → ℕ → Status) → with_fates bs (out_fates bs []) status ≡ status
 untouched_out [] status = refl
 untouched_out (b ∷ bs) status = untouched_out bs status
 
@@ -229,10 +230,6 @@ record Comes (m : Setting) (a : Adapter) (ios : List Io) (b : Block) (now : Stat
   bytes : scatter (frame_cells ios b) e.written.bytes now.bytes ≡ land_one a ios b came now.bytes
   fate : (status : ℕ → ℕ → Status) → with_fate b (fate_in a ios b came) status ≡ with_status b.op b.k (Carried why) status
 
-scatter_nothing : (at cells : List ℕ) → scatter at [] cells ≡ cells
-scatter_nothing [] cells = refl
-scatter_nothing (i ∷ at) cells = refl
-
 module _ (m : Setting) (n : ℕ) (ops : List Op) (a : Adapter) (ios : List Io) (opening : State) (faults : m.site.faults ≡ a.tamper) where
   comes : (b : Block) (now : State) (es : List Sent) (came : Result (List ℕ) Why) → ((c : ℕ) → get_or now.logs c [] ≡ writes_at m.site c es) → let r = route_of a ios b in
       Comes m a ios b now es came (carried_in r (from_device m.site.faults r came) (length (get_or now.logs (own_cell m.site r) [])))
@@ -240,7 +237,7 @@ module _ (m : Setting) (n : ℕ) (ops : List Op) (a : Adapter) (ios : List Io) (
     why = Some why;
     sent = ap (λ (log : List (List ℕ)). Some (record { label = label_of b; dir = Read; dev = b.dev; lba = b.lba; came = Err why; after = length log })) (logs (own_cell m.site (route_of a ios b)));
     why_is = refl;
-    bytes = scatter_nothing (frame_cells ios b) now.bytes;
+    bytes = scatter-none (frame_cells ios b) now.bytes;
     fate = λ status. refl;
   }
   comes b now es (Ok frame) logs =
@@ -259,7 +256,7 @@ module _ (m : Setting) (n : ℕ) (ops : List Op) (a : Adapter) (ios : List Io) (
         why = Some (ByAdapter check);
         sent = ap (λ (log : List (List ℕ)). Some (record { label = label_of b; dir = Read; dev = b.dev; lba = b.lba; came = Ok frame; after = length log })) (logs (own_cell m.site (route_of a ios b)));
         why_is = refl;
-        bytes = scatter_nothing (frame_cells ios b) now.bytes ∙ ap (λ x. land (frame_cells ios b) x now.bytes) (sym e);
+        bytes = scatter-none (frame_cells ios b) now.bytes ∙ ap (λ x. land (frame_cells ios b) x now.bytes) (sym e);
         fate = λ status. ap (λ x. with_fate b (fate_of x) status) e;
       }
 

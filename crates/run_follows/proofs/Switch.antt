@@ -117,7 +117,7 @@ Told = Label → Result (List ℕ) Why
 abbrev pub over : Setting → Told → Setting
 over m came = record m { site = record m.site { device = told_by came } }
 
-not_yet : (p : Parts) (status : Status) (n : ℕ) → is_carried status ≡ false → n ≡ done_by p status → n ≤ before_carrying p
+pub not_yet : (p : Parts) (status : Status) (n : ℕ) → is_carried status ≡ false → n ≡ done_by p status → n ≤ before_carrying p
 not_yet p Waits n c e = omega (arith, e)
 not_yet p Admitted n c e = omega (arith, e)
 not_yet p Cut n c e = omega (arith, e)

@@ -1,6 +1,6 @@
 use Rattle.std.proofs.Common.{◌≡◌, ◌<◌, ◌≤◌, ℕ, zero, suc, Bool, true, false, ◌||◌, if◌then◌else◌, List, [], ◌∷◌, ◌++◌, length, map, take, get_or, None, refl, sym, ap, subst, ◌∙◌, arith, append-nil}
 use Rattle.std.specs.Prelude.{Result, Ok, Err, IfOk, min, ltb}
-use Rattle.std.proofs.lemmas.Bool.{false≢true}
+use Rattle.std.proofs.lemmas.Bool.{false≢true, or_parts}
 use Rattle.std.proofs.lemmas.List.{length-map, length-take}
 use Rattle.page_pool.specs.Cells.{flat}
 use Rattle.pi_tuple.specs.declared.checks.Check.{Check}
@@ -32,6 +32,7 @@ use Rattle.dix_adapter.specs.Outcomes.{done_of}
 use Rattle.dix_adapter.specs.Ways.{CameIn, RecordedIn, RecordedOut, WentOut, acts_out, blocks_told, fates_of_in, fates_out, frames_in, frames_out, shapes_of, site_of, ways_in, ways_out}
 use Rattle.dix_adapter.proofs.Blocks.{length-in}
 use Rattle.dix_adapter.proofs.Runs.{AllLong, cut-joined}
+use Rattle.dix_adapter.proofs.OnRecord.{frames-count}
 use Rattle.target_answer.specs.declared.units.UnitSpec.{UnitSpec}
 use Rattle.carried_record.specs.OnRecord.{put_each}
 use Rattle.carried_record.proofs.Puts.{InTurn, goes_in, goes_out as went_out, turn}
@@ -39,7 +40,7 @@ use Rattle.run_follows.specs.Following.{Follows}
 use Rattle.run_follows.specs.Gate.{Spot}
 use Rattle.run_follows.specs.Sending.{AllComeIn, AllGoOut, AllGoing, AllSized, FollowsTold, in_fates, land_all, out_acts, out_fates, with_fates}
 use Rattle.run_follows.specs.Slots.{Status}
-use Rattle.run_follows.proofs.Recording.{arrived, came_length, frames_many, in_fates_are, lands, out_fates_are}
+use Rattle.run_follows.proofs.Recording.{arrived, came_length, in_fates_are, lands, out_fates_are}
 use Rattle.run_follows.proofs.Sends.{in_all, out_all}
 
 -- A command of a group over a rig that tells its blocks.
@@ -66,10 +67,6 @@ abbrev why_of : Why → Fate → Why
 why_of d Good = d
 why_of d (Bad why) = why
 why_of d Untouched = d
-
-both : (x y : Bool) → (x || y) ≡ false → (x ≡ false) × (y ≡ false)
-both false y h = (refl, h)
-both true y h = absurd (false≢true (sym h))
 
 -- a write's blocks
 
@@ -125,10 +122,10 @@ module _ (m : Setting) (a : Adapter) (ios : List Io) (units : List UnitSpec) (si
   goes_told dev lba [] zero true why t good l u e = absurd (let x = u refl in omega (arith, x))
   goes_told dev lba [] zero false why t good l u e = record { ways = refl; acts = refl }
   goes_told dev lba [] (suc k) c why t good l u e = absurd (omega (arith, l))
-  goes_told dev lba (b ∷ bs) zero false why t good l u e = absurd (untouched_none b bs ((target a.tamper).stores (route_of a ios b) (frame_sent (sends a ios cells b))) refl (both (is_bad (sends a ios cells b)) (any_bad (map (sends a ios cells) bs)) good).0 e)
-  goes_told dev lba (b ∷ bs) zero true why t good l u e = ends_here b bs why t.0.0 ((target a.tamper).stores (route_of a ios b) (frame_sent (sends a ios cells b))) refl (both (is_bad (sends a ios cells b)) (any_bad (map (sends a ios cells) bs)) good).0 e
+  goes_told dev lba (b ∷ bs) zero false why t good l u e = absurd (untouched_none b bs ((target a.tamper).stores (route_of a ios b) (frame_sent (sends a ios cells b))) refl (or_parts (is_bad (sends a ios cells b)) (any_bad (map (sends a ios cells) bs)) good).0 e)
+  goes_told dev lba (b ∷ bs) zero true why t good l u e = ends_here b bs why t.0.0 ((target a.tamper).stores (route_of a ios b) (frame_sent (sends a ios cells b))) refl (or_parts (is_bad (sends a ios cells b)) (any_bad (map (sends a ios cells) bs)) good).0 e
   goes_told dev lba (b ∷ bs) (suc k) c why t good l u e =
-      let g = both (is_bad (sends a ios cells b)) (any_bad (map (sends a ios cells) bs)) good in
+      let g = or_parts (is_bad (sends a ios cells b)) (any_bad (map (sends a ios cells) bs)) good in
       let cames = map arrived (take k (map frame_sent (map (sends a ios cells) bs))) ++ (if c then Err why ∷ [] else []) in
       goes_here b bs t.0.0 cames ((target a.tamper).stores (route_of a ios b) (frame_sent (sends a ios cells b))) refl g.0 e
       (λ f. goes_told dev (suc lba) bs k c why t.1 g.1 (omega (arith, l)) (λ x. let y = u x in omega (arith, y)) f)
@@ -177,7 +174,7 @@ module _ (m : Setting) (a : Adapter) (ios : List Io) (units : List UnitSpec) (si
 
 -- the command
 
-last_one : {X : Type 0} (xs : List X) (x y : X) → xs ++ (x ∷ []) ≡ xs ++ (y ∷ []) → x ≡ y
+pub last_one : {X : Type 0} (xs : List X) (x y : X) → xs ++ (x ∷ []) ≡ xs ++ (y ∷ []) → x ≡ y
 last_one [] x y e = ap (λ zs. get_or zs 0 x) e
 last_one (z ∷ xs) x y e = last_one xs x y (ap (λ zs. cut zs) e) where
   cut : {X : Type 0} → List X → List X
@@ -225,7 +222,7 @@ module _ (m : Setting) (n : ℕ) (ops : List Op) (a : Adapter) (ios : List Io) (
       let k = done_of (size req) o in
       let frames = frames_of len k r.entry.moved in
       let cames = came_of (size req) o.done o.sense frames in
-      let count = frames_many len k r.entry.moved in
+      let count = frames-count len k r.entry.moved in
       let ways = ways_in a ios (shapes_of us) (blocks_told us) bs in
       let same : r.entry ≡ told.entry = last_one old.log r.entry told.entry (sym r.what.recorded ∙ told.recorded) in
       let done : o.done ≡ length (frames_in ways) = ap (λ (e : Entry). e.what.outcome.done) same ∙ told.done in

@@ -4,8 +4,8 @@ use Rattle.stack_ops.specs.declared.op.Op.{Op}
 use Rattle.block_path.specs.Acts.{State, act}
 use Rattle.block_path.specs.Blocks.{Sent}
 use Rattle.block_path.specs.Serial.{plain}
+use Rattle.block_path.proofs.InTurn.{plain_append}
 use Rattle.whole_run.specs.Settings.{Setting}
-use Rattle.whole_run.proofs.AnyOrder.{plain_append}
 use Rattle.run_moves.specs.BoundRun.{fates, rooms}
 use Rattle.run_moves.specs.ScriptMoves.{own_at}
 use Rattle.run_follows.specs.Following.{Becomes, Follows}

@@ -37,7 +37,7 @@ use Rattle.run_laws.proofs.Layers.{After, Fetched, IsBare, Outcome, Reading, Sou
 -- Along the steps of a run: what each cell of the volume's devices holds, by what is past.
 
 -- a cell after one was set
-set_cases : {X : Type 0} (P : X → Type 0) (cells : List X) (w c : ℕ) (x none : X) → (eqb w c ≡ true → (w < length cells) × P x) → (eqb w c ≡ false → P (get_or cells c none)) → P (get_or (set cells w x) c none)
+pub set_cases : {X : Type 0} (P : X → Type 0) (cells : List X) (w c : ℕ) (x none : X) → (eqb w c ≡ true → (w < length cells) × P x) → (eqb w c ≡ false → P (get_or cells c none)) → P (get_or (set cells w x) c none)
 set_cases P cells w c x none here there = by (eqb w c) refl where
   by : (t : Bool) → eqb w c ≡ t → P (get_or (set cells w x) c none)
   by true q = subst (λ i. P (get_or (set cells w x) i none)) (eqb-true w c q) (subst P (sym (get_or-set_same cells w x none (here q).0)) (here q).1)

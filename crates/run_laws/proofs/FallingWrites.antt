@@ -10,7 +10,7 @@ use Rattle.stack_ops.specs.declared.op.Op.{Op}
 use Rattle.stack_ops.specs.declared.op.Op.TheVariants.{Write, WritePi}
 use Rattle.target_answer.specs.Frames.{data_of, tuple_of}
 use Rattle.block_path.specs.Acts.{State, tell}
-use Rattle.block_path.proofs.Cells.{Distinct, distinct}
+use Rattle.block_path.proofs.Cells.{Distinct, distinct, share_back}
 use Rattle.whole_run.specs.Past.{steps_from}
 use Rattle.whole_run.specs.PlainMap.{finds_of_app, finds_plainly}
 use Rattle.whole_run.specs.Settings.{Block, Setting, block_of}
@@ -20,7 +20,7 @@ use Rattle.run_laws.specs.FallingWrites.{FailsAtMediumAlone, finds_then}
 use Rattle.run_laws.specs.StoreFaults.{IsFallingRun, may_fall, or_fallen}
 use Rattle.run_laws.proofs.FallingOps.{served, why_is}
 use Rattle.whole_run.proofs.InSteps.{later_blocks, stepped}
-use Rattle.run_laws.proofs.Parts.{blocks_apart, drop_within, share_within, turned}
+use Rattle.run_laws.proofs.Parts.{blocks_apart, drop_within, share_within}
 
 -- A block of a write that the plain map accepts, in the op's reply.
 
@@ -52,7 +52,7 @@ module _ (m : Setting) (falls : Block → Option (List ℕ)) (i v : ℕ) (body t
       let frame = frame_at m.size body tuples in
       later_blocks (may_fall m falls) step_at (λ j. drop m.size (frame j)) writes_tuple (frame k) 0 k s (λ j _ g.
       let apart : share_a_cell (frame j) (frame k) ≡ false = blocks_apart m.size body tuples OfApp j k once (omega (arith, g)) in
-      share_within (frame k) (frame k) (drop m.size (frame j)) (frame j) (λ c e. e) (drop_within m.size (frame j)) (turned (frame j) (frame k) apart))
+      share_within (frame k) (frame k) (drop m.size (frame j)) (frame j) (λ c e. e) (drop_within m.size (frame j)) (share_back (frame j) (frame k) apart))
 
 pub app_write_fails : (m : Setting) (falls : Block → Option (List ℕ)) (before after : List Op) (v n k : ℕ) (body tuples : List Seg) (opening : State) → let op = WritePi v n body tuples in
     IsFallingRun m (before ++ (op ∷ after)) opening → HasRoom m (length opening.bytes) OfApp n body tuples → k < n → finds_then m falls before v body tuples opening k ≡ None → FailsAtMediumAlone m falls before op after opening k

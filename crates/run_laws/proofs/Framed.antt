@@ -8,7 +8,6 @@ use Rattle.std.proofs.lemmas.List.{drop-drop, drop_at, length-drop, length-take-
 use Rattle.std.proofs.lemmas.Nat.{from_be_bytes-to_be_bytes_2, from_be_bytes-to_be_bytes_4}
 use Rattle.pi_tuple.specs.Finds.{has_ref_tag}
 use Rattle.pi_tuple.specs.Tuples.{ref_tag, tuple_in}
-use Rattle.pi_tuple.specs.declared.tuple.Tuple.{Tuple}
 use Rattle.pi_tuple.specs.declared.checks.PiType.{PiType}
 use Rattle.fault_schedule.specs.Altered.{altered, flip_at, is_line_of, named, xored_from}
 use Rattle.fault_schedule.specs.declared.Label.{Label}
@@ -21,12 +20,9 @@ use Rattle.target_answer.specs.Frames.{data_of, tuple_of}
 use Rattle.block_path.specs.Routes.{with_guard}
 use Rattle.block_path.proofs.Sizes.{tuple_length}
 use Rattle.whole_run.specs.FirstLayer.{is_flip}
-use Rattle.whole_run.proofs.TupleFrames.{tag_below}
+use Rattle.whole_run.proofs.TupleFrames.{tag_below, three as same_tuple}
 
 -- Data and tuple of a frame, after its guard or its tag was replaced, and after a crossing.
-
-pub same_tuple : {g h a b r s : ℕ} → g ≡ h → a ≡ b → r ≡ s → ◌≡◌ {A = Tuple} (record { guard = g; app = a; rtag = r }) (record { guard = h; app = b; rtag = s })
-same_tuple p q u = cc
 
 -- the tuple's tag, from one address to another
 abbrev pub retag : PiType → (from to : ℕ) → ℕ → ℕ

@@ -28,11 +28,11 @@ use Rattle.whole_run.specs.FirstLayer.{AtAdapter, AtOwner, AtTarget, Layer, has_
 use Rattle.whole_run.specs.Past.{Brought, brought_by}
 use Rattle.whole_run.specs.PlainMap.{as_expected}
 use Rattle.whole_run.specs.Settings.{Block, Setting, route}
-use Rattle.whole_run.proofs.TupleFrames.{guard_below}
+use Rattle.whole_run.proofs.TupleFrames.{guard_below, three as same_tuple}
 use Rattle.whole_run.specs.ReadsAs.{said_by}
 use Rattle.run_laws.specs.ShownRun.{StaysNear}
 use Rattle.run_laws.proofs.Found.{Bears, IsFound, asked_on, bears_both, expected, found_something, from_both, is_found, passed, passes_if, unless_rule, unmasked}
-use Rattle.run_laws.proofs.Framed.{IsUnderTuple, guarded, mapped_body, mapped_length, mapped_tuple, not_altered, same_tuple}
+use Rattle.run_laws.proofs.Framed.{IsUnderTuple, guarded, mapped_body, mapped_length, mapped_tuple, not_altered}
 
 -- One block on its way under faults that can be shown.
 

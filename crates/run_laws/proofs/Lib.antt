@@ -3,9 +3,9 @@ pub mod Found
 pub mod Layers
 pub mod Along
 pub mod Parts
-mod Reading
+pub mod Reading
 pub mod ShownRows
-mod Passing
+pub mod Passing
 mod QuietWays
 mod Falling
 pub mod FallingOps

@@ -1,17 +1,18 @@
 use Rattle.std.proofs.Common.{◌≡◌, ◌<◌, ◌≤◌, ℕ, zero, suc, ◌+◌, ◌*◌, Bool, true, false, ◌||◌, eqb, List, [], ◌∷◌, ◌++◌, length, set, take, drop, map, refl, sym, ap, ◌∙◌, arith, length-append}
 use Rattle.std.specs.List.{take-map, drop-map}
-use Rattle.std.proofs.lemmas.Bool.{eq-eqb, eqb-true, or_parts, or_from, false≢true, false_from_ne_true}
+use Rattle.std.proofs.lemmas.Bool.{or_parts, or_from, false≢true, false_from_ne_true, or_from as neither, or_right}
 use Rattle.std.proofs.lemmas.List.{length-take-le, length-take}
-use Rattle.std.proofs.Math.Nat.{mul-le-mul_right}
 use Rattle.page_pool.specs.declared.segs.Seg.{Seg}
 use Rattle.page_pool.specs.Cells.{cell, gather, is_in, scatter, share_a_cell}
 use Rattle.page_pool.specs.Places.{places_in}
 use Rattle.range_gate.specs.Cells.{cells_of}
 use Rattle.integrity_payload.specs.declared.payload.Owner.{Owner}
 use Rattle.integrity_payload.specs.declared.payload.Owner.TheVariants.{Block as OfBlock, App as OfApp}
-use Rattle.block_path.proofs.Cells.{AllBelow, Distinct, both, gather_back, neither}
+use Rattle.block_path.proofs.Cells.{AllBelow, Distinct, gather_back, apart_at, in_head, share_by, share_back}
 use Rattle.whole_run.specs.Steps.{body_of, tuple_of}
 use Rattle.whole_run.specs.ReadsAs.{landing}
+use Rattle.whole_run.proofs.CalmRuns.{room as later}
+use Rattle.whole_run.proofs.TupleFrames.{below_take, below_drop, below_append}
 
 -- The cells of a request's blocks are parts of its lists', and share none.
 
@@ -19,26 +20,8 @@ use Rattle.whole_run.specs.ReadsAs.{landing}
 abbrev pub AllIn : List ℕ → List ℕ → Type 0
 AllIn xs ys = (i : ℕ) → is_in i xs ≡ true → is_in i ys ≡ true
 
-head_or_tail : (c q r : Bool) → (c ≡ true → r ≡ false) → (q ≡ true → r ≡ false) → (c || q) ≡ true → r ≡ false
-head_or_tail true q r h k e = h refl
-head_or_tail false q r h k e = k e
-
--- what is in one isn't in the other
-pub apart_at : (xs ys : List ℕ) (i : ℕ) → share_a_cell xs ys ≡ false → is_in i xs ≡ true → is_in i ys ≡ false
-apart_at [] ys i h k = grind (arith, k)
-apart_at (x ∷ xs) ys i h k =
-    let p = both (is_in x ys) (share_a_cell xs ys) h in
-    head_or_tail (eqb i x) (is_in i xs) (is_in i ys) (λ e. rw (eqb-true i x e) p.0) (apart_at xs ys i p.1) k
-
-either : (c q : Bool) → q ≡ true → (c || q) ≡ true
-either true q e = refl
-either false q e = e
-
-pub in_head : (x : ℕ) (xs : List ℕ) → is_in x (x ∷ xs) ≡ true
-in_head x xs = let e : eqb x x ≡ true = eq-eqb x x refl in rw e refl
-
 pub in_tail : (i x : ℕ) (xs : List ℕ) → is_in i xs ≡ true → is_in i (x ∷ xs) ≡ true
-in_tail i x xs e = either (eqb i x) (is_in i xs) e
+in_tail i x xs e = or_right (eqb i x) (is_in i xs) e
 
 pub share_within : (xs big ys large : List ℕ) → AllIn xs big → AllIn ys large → share_a_cell big large ≡ false → share_a_cell xs ys ≡ false
 share_within [] big ys large a b h = refl
@@ -53,7 +36,7 @@ within_cons x xs ys h i e = by (eqb i x) e where
   by true e = refl
   by false e = h i e
 
-none_within : (xs : List ℕ) → AllIn [] xs
+pub none_within : (xs : List ℕ) → AllIn [] xs
 none_within xs i e = absurd (false≢true e)
 
 pub take_within : (n : ℕ) (xs : List ℕ) → AllIn (take n xs) xs
@@ -97,15 +80,6 @@ parts_apart a b c d xs once l =
 pub part_within : (a b : ℕ) (xs : List ℕ) → AllIn (take a (drop b xs)) xs
 part_within a b xs i e = drop_within b xs i (take_within a (drop b xs) i e)
 
-from_apart : (xs ys : List ℕ) → ((i : ℕ) → is_in i xs ≡ true → is_in i ys ≡ false) → share_a_cell xs ys ≡ false
-from_apart [] ys h = refl
-from_apart (x ∷ xs) ys h =
-    let e : eqb x x ≡ true = eq-eqb x x refl in
-    neither (is_in x ys) (share_a_cell xs ys) (h x (ap (λ c. c || is_in x xs) e)) (from_apart xs ys (λ i k. h i (in_tail i x xs k)))
-
-pub turned : (xs ys : List ℕ) → share_a_cell xs ys ≡ false → share_a_cell ys xs ≡ false
-turned xs ys h = from_apart ys xs (λ i e. false_from_ne_true (is_in i xs) (λ k. false≢true (sym (apart_at xs ys i h k) ∙ e)))
-
 in_both : (i : ℕ) (xs ys : List ℕ) → is_in i (xs ++ ys) ≡ (is_in i xs || is_in i ys)
 in_both i [] ys = refl
 in_both i (x ∷ xs) ys = ap (λ c. eqb i x || c) (in_both i xs ys) ∙ by (eqb i x) where
@@ -118,7 +92,7 @@ share_left [] ys zs h k = k
 share_left (x ∷ xs) ys zs h k = let p = or_parts (is_in x zs) (share_a_cell xs zs) h in neither (is_in x zs) (share_a_cell (xs ++ ys) zs) p.0 (share_left xs ys zs p.1 k)
 
 pub share_right : (xs ys zs : List ℕ) → share_a_cell zs xs ≡ false → share_a_cell zs ys ≡ false → share_a_cell zs (xs ++ ys) ≡ false
-share_right xs ys zs h k = turned (xs ++ ys) zs (share_left xs ys zs (turned zs xs h) (turned zs ys k))
+share_right xs ys zs h k = share_back (xs ++ ys) zs (share_left xs ys zs (share_back zs xs h) (share_back zs ys k))
 
 pub distinct_left : (xs ys : List ℕ) → Distinct (xs ++ ys) → Distinct xs
 distinct_left [] ys d = tt
@@ -151,22 +125,8 @@ distinct_drop (suc n) (x ∷ xs) d = distinct_drop n xs d.1
 pub distinct_part : (a b : ℕ) (xs : List ℕ) → Distinct xs → Distinct (take a (drop b xs))
 distinct_part a b xs d = distinct_take a (drop b xs) (distinct_drop b xs d)
 
-below_take : (n i : ℕ) (xs : List ℕ) → AllBelow n xs → AllBelow n (take i xs)
-below_take n zero xs h = tt
-below_take n (suc i) [] h = tt
-below_take n (suc i) (x ∷ xs) h = (h.0, below_take n i xs h.1)
-
-pub below_drop : (n i : ℕ) (xs : List ℕ) → AllBelow n xs → AllBelow n (drop i xs)
-below_drop n zero xs h = h
-below_drop n (suc i) [] h = tt
-below_drop n (suc i) (x ∷ xs) h = below_drop n i xs h.1
-
 pub below_part : (n a b : ℕ) (xs : List ℕ) → AllBelow n xs → AllBelow n (take a (drop b xs))
 below_part n a b xs h = below_take n a (drop b xs) (below_drop n b xs h)
-
-pub below_both : (n : ℕ) (xs ys : List ℕ) → AllBelow n xs → AllBelow n ys → AllBelow n (xs ++ ys)
-below_both n [] ys h k = k
-below_both n (x ∷ xs) ys h k = (h.0, below_both n xs ys h.1 k)
 
 pub below_left : (n : ℕ) (xs ys : List ℕ) → AllBelow n (xs ++ ys) → AllBelow n xs
 below_left n [] ys h = tt
@@ -195,10 +155,6 @@ body_part size segs k = part_of segs (k * size) size
 pub tuple_part : (segs : List Seg) (k : ℕ) → tuple_of segs k ≡ take 8 (drop (8 * k) (cells_of segs))
 tuple_part segs k = part_of segs (8 * k) 8
 
--- a later block begins behind the end of an earlier one
-later : (size k j : ℕ) → k < j → k * size + size ≤ j * size
-later size k j l = let up : suc k * size ≤ j * size = mul-le-mul_right size l in omega (arith, up)
-
 -- the cells in which a read lands: none twice, all in the pages
 abbrev pub lists_of : Owner → List Seg → List Seg → List ℕ
 lists_of OfBlock body tuples = cells_of body
@@ -225,7 +181,7 @@ module _ (size : ℕ) (body tuples : List Seg) where
         (parts_apart size (k * size) size (j * size) (cells_of body) (distinct_left (cells_of body) (cells_of tuples) d) (later size k j l))
         (share_within (b_part k) (cells_of body) (t_part j) (cells_of tuples) (part_within size (k * size) (cells_of body)) (part_within 8 (8 * j) (cells_of tuples)) apart))
         (share_right (b_part j) (t_part j) (t_part k)
-        (share_within (t_part k) (cells_of tuples) (b_part j) (cells_of body) (part_within 8 (8 * k) (cells_of tuples)) (part_within size (j * size) (cells_of body)) (turned (cells_of body) (cells_of tuples) apart))
+        (share_within (t_part k) (cells_of tuples) (b_part j) (cells_of body) (part_within 8 (8 * k) (cells_of tuples)) (part_within size (j * size) (cells_of body)) (share_back (cells_of body) (cells_of tuples) apart))
         (parts_apart 8 (8 * k) 8 (8 * j) (cells_of tuples) (distinct_right (cells_of body) (cells_of tuples) d) (omega (arith, l))))
 
   pub block_distinct : (owner : Owner) (k : ℕ) → Distinct (lists_of owner body tuples) → Distinct (landing size owner body tuples k)
@@ -238,7 +194,7 @@ module _ (size : ℕ) (body tuples : List Seg) where
   pub block_below : (owner : Owner) (n k : ℕ) → AllBelow n (lists_of owner body tuples) → AllBelow n (landing size owner body tuples k)
   block_below OfBlock n k h = rw (body_part size body k) (below_part n size (k * size) (cells_of body) h)
   block_below OfApp n k h = rw (frame_part k)
-      (below_both n (b_part k) (t_part k) (below_part n size (k * size) (cells_of body) (below_left n (cells_of body) (cells_of tuples) h)) (below_part n 8 (8 * k) (cells_of tuples) (below_right n (cells_of body) (cells_of tuples) h)))
+      (below_append n (b_part k) (t_part k) (below_part n size (k * size) (cells_of body) (below_left n (cells_of body) (cells_of tuples) h)) (below_part n 8 (8 * k) (cells_of tuples) (below_right n (cells_of body) (cells_of tuples) h)))
 
 -- a frame is never too short for where it lands
 pub block_fits : (size : ℕ) (owner : Owner) (body tuples : List Seg) (k : ℕ) → length (landing size owner body tuples k) ≤ size + 8

@@ -283,7 +283,7 @@ module _ (m' : Setting) (devices : List DeviceInfo) (before after : List Op) (ow
   reads_rightly = convert (first_layer m past b) reads_so
 
 -- a setting in which each fault can be shown is its own form
-checked_form : (m : Setting) → IsChecked m → m ≡ checked m
+pub checked_form : (m : Setting) → IsChecked m → m ≡ checked m
 checked_form m c = λ i. record m { mode = record m.mode { dix = c.dix i; dif = c.dif i; protect = c.protect i }; ty = c.ty i; site = record m.site { device = c.device i } }
 
 pub last_write_or_first_layer : (m : Setting) (devices : List DeviceInfo) (before after : List Op) (owner : Owner) (v n k : ℕ) (body tuples : List Seg) (opening : State) →

@@ -19,7 +19,7 @@ use Rattle.target_answer.specs.declared.passage.Passage.{Passage}
 use Rattle.block_path.specs.Blocks.{fetched_cell, stored_cell}
 use Rattle.block_path.specs.Routes.{Device, by_target, passage, passes_tuples, target, told_by, wire_size}
 use Rattle.block_path.specs.declared.route.Route.{Route}
-use Rattle.block_path.proofs.Sizes.{altered_length}
+use Rattle.block_path.proofs.Sizes.{altered_length, unless_length}
 use Rattle.whole_run.specs.Settings.{Block, Setting, route}
 use Rattle.run_moves.specs.BoundRun.{Suits}
 use Rattle.run_moves.specs.Suited.{IsAtTarget, keeps_size}
@@ -39,10 +39,6 @@ made_length Three lba bytes size h = let e = length-append bytes (tuple_bytes (r
 then_length : (faults : List FaultLine) (label : Option Label) (at : Crossing) (came : Result (List ℕ) Check) (n : ℕ) → IfOk came (λ x. length x ≡ n) → IfOk (by_target (then_crossed faults label at came)) (λ x. length x ≡ n)
 then_length faults label at (Ok frame) n h = crossed_length faults label at frame ∙ h
 then_length faults label at (Err check) n h = tt
-
-unless_length : (found : Option Check) (frame : List ℕ) (n : ℕ) → length frame ≡ n → IfOk (unless found frame) (λ x. length x ≡ n)
-unless_length None frame n h = h
-unless_length (Some check) frame n h = tt
 
 accepted_length : (p : Passage) (frame : List ℕ) (n : ℕ) → (eqb p.protect 0 ≡ true → length (with_own_tuple p.ty p.lba frame) ≡ n) → (eqb p.protect 0 ≡ false → length frame ≡ n) → IfOk (accepted p frame) (λ x. length x ≡ n)
 accepted_length p frame n own whole = by (eqb p.protect 0) own whole where
@@ -124,7 +120,7 @@ suits_target m opening b h =
           (sends_length m.site.faults r h.protect stored (eqb-true (length stored) (length (get_or opening (fetched_cell m.site r) [])) e ∙ h.fetched));
     }
 
-fine_always : (came : Result (List ℕ) Why) → IfOk came (λ x. true ≡ true)
+pub fine_always : (came : Result (List ℕ) Why) → IfOk came (λ x. true ≡ true)
 fine_always (Ok x) = refl
 fine_always (Err why) = tt
 

@@ -1,12 +1,12 @@
-use Rattle.std.proofs.Common.{◌≡◌, ◌<◌, ◌≤◌, ℕ, zero, suc, false, nat_eq, List, [], ◌∷◌, length, take, get_or, set, None, refl, sym, ap, ◌∙◌, arith}
+use Rattle.std.proofs.Common.{◌≡◌, ◌<◌, ◌≤◌, ℕ, zero, suc, false, nat_eq, List, [], ◌∷◌, take, get_or, set, None, refl, sym, ap, ◌∙◌, arith}
 use Rattle.std.specs.List.{All, AllByRecursion, IsDistinct}
-use Rattle.std.proofs.lemmas.List.{length-set}
 use Rattle.std.proofs.lemmas.List.Elements.{All-cons, All-nil}
+use Rattle.std.proofs.lemmas.Bool.{or_parts}
 use Rattle.page_pool.specs.Cells.{gather, is_in, scatter}
 use Rattle.block_path.specs.Acts.{Act, State, act, effect, tell}
 use Rattle.block_path.specs.Moves.{AreCells, hidden}
 use Rattle.block_path.proofs.Acts.{same_cells}
-use Rattle.block_path.proofs.Cells.{AllBelow, Distinct, both}
+use Rattle.block_path.proofs.Cells.{AllBelow, Distinct}
 use Rattle.run_moves.proofs.Turns.{AllFrom}
 
 -- What lies behind the first n bytes is not seen.
@@ -50,15 +50,10 @@ act_hidden n a s h p q =
       answer = ap (λ e. e.answer) same;
     }
 
-pub scatter_length : {X : Type 0} (at : List ℕ) (values cells : List X) → length (scatter at values cells) ≡ length cells
-scatter_length [] values cells = refl
-scatter_length (i ∷ at) [] cells = refl
-scatter_length (i ∷ at) (v ∷ values) cells = scatter_length at values (set cells i v) ∙ length-set cells i v
-
 -- lists of cells, in the words of the contracts
 not_among : (i : ℕ) (xs : List ℕ) → is_in i xs ≡ false → AllByRecursion (λ j. nat_eq i j ≡ false) xs
 not_among i [] h = tt
-not_among i (x ∷ xs) h = let p = both (nat_eq i x) (is_in i xs) h in (p.0, not_among i xs p.1)
+not_among i (x ∷ xs) h = let p = or_parts (nat_eq i x) (is_in i xs) h in (p.0, not_among i xs p.1)
 
 pub once : (xs : List ℕ) → Distinct xs → IsDistinct nat_eq xs
 unfolding IsDistinct

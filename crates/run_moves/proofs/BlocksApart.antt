@@ -1,6 +1,6 @@
 use Rattle.std.proofs.Common.{◌≡◌, ◌<◌, ◌≤◌, ℕ, zero, suc, ◌+◌, ◌*◌, Bool, true, false, ◌||◌, eqb, List, [], ◌∷◌, ◌++◌, length, drop, get_or, refl, sym, ap, ◌∙◌, arith}
 use Rattle.std.specs.Prelude.{ℤ, pos, negsuc, ◌+ℤ◌}
-use Rattle.std.proofs.lemmas.Bool.{ne_eqb}
+use Rattle.std.proofs.lemmas.Bool.{ne_eqb, or_from}
 use Rattle.std.proofs.lemmas.Int.{ints}
 use Rattle.fault_schedule.specs.Altered.{shift_of}
 use Rattle.fault_schedule.specs.declared.fault.Crossing.TheVariants.{AdapterToTarget}
@@ -15,12 +15,12 @@ use Rattle.volume_table.specs.declared.device.DeviceInfo.{DeviceInfo}
 use Rattle.block_path.specs.Acts.{Act, conflict}
 use Rattle.block_path.specs.Blocks.{Answer, stored_cell}
 use Rattle.block_path.specs.Routes.{wire_lba}
-use Rattle.block_path.proofs.Cells.{AllBelow, below, distinct, neither}
+use Rattle.block_path.proofs.Cells.{AllBelow, below, distinct, share_back}
 use Rattle.whole_run.specs.Settings.{Block, Setting, block_of, route}
 use Rattle.whole_run.specs.Steps.{Reads, Step, Writes, WritesPi, body_of, each_from, frame_at}
 use Rattle.whole_run.specs.UnderMap.{home}
 use Rattle.run_laws.specs.ShownRun.{HasBlock, HasCells, LiesOn}
-use Rattle.run_laws.proofs.Parts.{block_below, blocks_apart as parts_apart, drop_within, share_left, share_right, share_within, turned}
+use Rattle.run_laws.proofs.Parts.{block_below, blocks_apart as parts_apart, drop_within, share_left, share_right, share_within}
 use Rattle.run_moves.specs.OpsApart.{IsPlaced, IsSpread, NoneMeet, OneCellEach, is_shifted}
 use Rattle.run_moves.specs.ScriptMoves.{ByMoves, all_moves, blocks_from, blocks_of, by_moves, lands_in, own_at}
 use Rattle.run_moves.proofs.Inside.{landing_block, stored_home}
@@ -31,7 +31,7 @@ use Rattle.run_moves.proofs.Turns.{AllFrom, from_less, share_bound, share_bound_
 -- No two blocks of one request have moves that conflict.
 
 one_apart : (x y : ℕ) → (x ≡ y → ⊥) → share_a_cell (x ∷ []) (y ∷ []) ≡ false
-one_apart x y h = neither (eqb x y || false) false (neither (eqb x y) false (ne_eqb x y h) refl) refl
+one_apart x y h = or_from (eqb x y || false) false (or_from (eqb x y) false (ne_eqb x y h) refl) refl
 
 own_apart : (dix : Bool) (from j k : ℕ) → j < k → share_a_cell (where_on dix (own_at from j)) (where_on dix (own_at from k)) ≡ false
 own_apart true from j k l = share_bound (from + 8 * k) (own_at from j) (own_at from k) (turn_below (from + 8 * j) 8 (from + 8 * k) (omega (arith, l))) (turn_from (from + 8 * k) 8)
@@ -61,7 +61,7 @@ module _ (m : Setting) where
   read_clear b c at at' fate fate' p h =
       let one = one_apart fate fate' h in
       record {
-        bytes = clear (read_reach m b at fate).bytes (read_reach m c at' fate').bytes p (turned at at' p) p;
+        bytes = clear (read_reach m b at fate).bytes (read_reach m c at' fate').bytes p (share_back at at' p) p;
         blocks = refl;
         logs = refl;
         fates = clear (read_reach m b at fate).fates (read_reach m c at' fate').fates one (one_apart fate' fate (λ e. h (sym e))) one;
@@ -99,7 +99,7 @@ module _ (m : Setting) where
         let low = below bytes (cells_of body) h.reads in
         write_clear (block_of i v j) (block_of i v k) (a ++ mine) mine (b ++ yours) yours
         (share_left a mine yours (share_bound bytes a yours (in_pages body j low) (own_behind m.mode.dix bytes from k front)) own)
-        (share_left b yours mine (share_bound bytes b mine (in_pages body k low) (own_behind m.mode.dix bytes from j front)) (turned mine yours own))
+        (share_left b yours mine (share_bound bytes b mine (in_pages body k low) (own_behind m.mode.dix bytes from j front)) (share_back mine yours own))
         own
         (λ e. let x = s j k (omega (arith, l, u)) u e in omega (arith, x, l)) (homes_differ v j k n h.blocks.within l u)
 
@@ -127,7 +127,7 @@ module _ (m : Setting) where
         let whole = parts_apart m.size body tuples OfApp j k (distinct (cells_of body ++ cells_of tuples) s.1) l in
         write_clear (block_of i v j) (block_of i v k) f x g y
         (share_within f f y g (in_all f) (drop_within m.size g) whole)
-        (share_within g g x f (in_all g) (drop_within m.size f) (turned f g whole))
+        (share_within g g x f (in_all g) (drop_within m.size f) (share_back f g whole))
         (share_within x f y g (drop_within m.size f) (drop_within m.size g) whole)
         (λ e. let z = s.0 j k (omega (arith, l, u)) u e in omega (arith, z, l)) (homes_differ v j k n h.blocks.0.within l u)
 

@@ -22,10 +22,12 @@ use Rattle.block_path.proofs.WriteMoves.{bare_write, own_write, write_in_three}
 use Rattle.whole_run.specs.ScriptWalk.{act_of, changed, source_of}
 use Rattle.whole_run.specs.Settings.{Block, Setting, route}
 use Rattle.whole_run.specs.Steps.{Alters, Reads, Seals, Sets, Shows, Step, Writes, WritesPi}
-use Rattle.run_laws.proofs.Parts.{below_both, below_drop, distinct_both, distinct_drop, front_back}
+use Rattle.whole_run.proofs.TupleFrames.{below_drop, below_append}
+use Rattle.whole_run.proofs.InSteps.{scatter_length}
+use Rattle.run_laws.proofs.Parts.{distinct_both, distinct_drop, front_back}
 use Rattle.run_moves.specs.BoundRun.{Suits}
 use Rattle.run_moves.specs.ScriptMoves.{by_moves, carried_by, lands_in, read_moves, write_moves, write_pi_moves}
-use Rattle.run_moves.proofs.Behind.{act_hidden, all_from, are_cells, below_more, scatter_length}
+use Rattle.run_moves.proofs.Behind.{act_hidden, all_from, are_cells, below_more}
 use Rattle.run_moves.proofs.Turns.{AllFrom, share_bound}
 
 -- The moves of one block do what its act does to what is seen.
@@ -253,7 +255,7 @@ module _ (m : Setting) (fine : ℕ → List ℕ → Bool) (n : ℕ) (opening : S
     size = (let a = length-append to own in let e = mine.eight in let k : length (to ++ own) ≡ m.size + 8 = omega (arith, a, l, e) in k) ∙ sym (ap (λ c. if c then m.size + 8 else m.size) on)
 
     whole : Does (read_moves m b owner (to ++ own) fate) (act_of m (Reads b owner (to ++ own))) (λ answers. joined (get_or answers 0 silent) (get_or answers 1 silent))
-    whole = does_read b owner (to ++ own) fate (distinct_both to own d mine.once (share_bound n to own h mine.behind)) (below_both (length opening.bytes) to own (below_more n (length opening.bytes) to room h) mine.within) size f suits
+    whole = does_read b owner (to ++ own) fate (distinct_both to own d mine.once (share_bound n to own h mine.behind)) (below_append (length opening.bytes) to own (below_more n (length opening.bytes) to room h) mine.within) size f suits
 
     owned : (s : State) → IsOne (hidden n (act (act_of m (Reads b owner (to ++ own))) s)) (hidden n (act (act_of m (Reads b owner to)) s)) (tell (act_of m (Reads b owner (to ++ own))) s) (tell (act_of m (Reads b owner to)) s)
     owned s = own_read m.site (route m b) owner to own n s (all_from n own mine.behind)

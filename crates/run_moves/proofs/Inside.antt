@@ -17,21 +17,21 @@ use Rattle.whole_run.specs.Settings.{Block, Setting, block_of, route}
 use Rattle.whole_run.specs.Steps.{Reads, Seals, Step, Writes, WritesPi, body_of, each_from, frame_at, tuple_of}
 use Rattle.whole_run.specs.UnderMap.{home}
 use Rattle.whole_run.proofs.CalmRuns.{part_length}
-use Rattle.run_laws.proofs.Parts.{AllIn, body_part, part_within, tuple_part}
+use Rattle.run_laws.proofs.Parts.{AllIn, body_part, part_within, tuple_part, none_within}
 use Rattle.run_moves.specs.OpsApart.{IsPlaced, is_shifted}
 use Rattle.run_moves.specs.ScriptMoves.{all_moves, blocks_from, blocks_of, by_moves, fates_of, lands_in, own_at, room_for, room_of}
-use Rattle.run_moves.proofs.Reach.{AllInside, Covers, Reach, Within, block_inside, block_reach, covered, in_both, in_joined, in_left, in_nothing, in_right, inside_both, read_reach, where_on, write_reach}
+use Rattle.run_moves.proofs.Reach.{AllInside, Covers, Reach, Within, block_inside, block_reach, covered, in_both, in_joined, in_left, in_right, inside_both, read_reach, where_on, write_reach}
 use Rattle.run_moves.proofs.Turns.{in_map, in_one, in_turn_at, in_turn_part}
 
 -- The moves of an op that isn't alone lie in what the op touches, its private pages and its cells of what is found.
 
 -- a request that no shift names
-still_by : (z : ℤ) → nat_abs z ≡ 0 → z ≡ pos 0
+pub still_by : (z : ℤ) → nat_abs z ≡ 0 → z ≡ pos 0
 still_by (pos zero) h = refl
 still_by (pos (suc n)) h = absurd (omega (arith, h))
 still_by (negsuc n) h = absurd (omega (arith, h))
 
-still_is : (z : ℤ) → not (eqb (nat_abs z) 0) ≡ false → z ≡ pos 0
+pub still_is : (z : ℤ) → not (eqb (nat_abs z) 0) ≡ false → z ≡ pos 0
 still_is z h = still_by z (eqb-true (nat_abs z) 0 (not-false _ h))
 
 unmoved : (a : ℕ) → moved a (pos 0) ≡ a
@@ -71,13 +71,13 @@ op_reach m from fate op =
       fates = record { reads = found; writes = found };
     }
 
-room_enough : (n : ℕ) → 8 * n ≤ 4096 * ((n + 511) / 512)
+pub room_enough : (n : ℕ) → 8 * n ≤ 4096 * ((n + 511) / 512)
 room_enough n = omega arith
 
 module _ (m : Setting) where
   own_inside : (dix : Bool) (from k n : ℕ) → k < n → AllIn (where_on dix (own_at from k)) (in_turn from (if dix then room_for n else 0))
   own_inside true from k n l = in_turn_part from (room_for n) (from + 8 * k) 8 (omega arith) (let e = room_enough n in omega (arith, e, l))
-  own_inside false from k n l = in_nothing []
+  own_inside false from k n l = none_within []
 
   pub landing_block : (dix : Bool) (to own : List ℕ) → lands_in OfBlock dix to own ≡ to ++ where_on dix own
   landing_block true to own = refl
@@ -98,9 +98,9 @@ module _ (m : Setting) where
       let at = in_map (home m) b.virt homes.writes v in
       record {
         bytes = w;
-        blocks = record { reads = in_nothing (map (home m) homes.reads); writes = in_one (stored_cell m.site (route m b)) (map (home m) homes.writes) (rw (stored_home m b s) at) };
+        blocks = record { reads = none_within (map (home m) homes.reads); writes = in_one (stored_cell m.site (route m b)) (map (home m) homes.writes) (rw (stored_home m b s) at) };
         logs = record { reads = in_second (home m b.virt) (map (home m) homes.reads) (map (home m) homes.writes) at; writes = in_one (home m b.virt) (map (home m) homes.writes) at };
-        fates = record { reads = in_nothing found; writes = in_nothing found };
+        fates = record { reads = none_within found; writes = none_within found };
       }
 
   read_covered : (b : Block) (at : List ℕ) (fate : ℕ) (bytes homes : Cells) (found : List ℕ) → is_shifted m b.op ≡ false → is_in b.virt homes.reads ≡ true → is_in fate found ≡ true → Within (record { reads = at; writes = at }) bytes →
@@ -115,8 +115,8 @@ module _ (m : Setting) where
       let seen = map (home m) homes.reads in
       record {
         bytes = w;
-        blocks = record { reads = in_one (fetched_cell m.site (route m b)) seen (rw (fetched_home m b s) here); writes = in_nothing (map (home m) homes.writes) };
-        logs = record { reads = in_both (home m b.virt ∷ []) seen (seen ++ map (home m) homes.writes) (in_one (home m b.virt) seen here) (in_left seen (map (home m) homes.writes)); writes = in_nothing (map (home m) homes.writes) };
+        blocks = record { reads = in_one (fetched_cell m.site (route m b)) seen (rw (fetched_home m b s) here); writes = none_within (map (home m) homes.writes) };
+        logs = record { reads = in_both (home m b.virt ∷ []) seen (seen ++ map (home m) homes.writes) (in_one (home m b.virt) seen here) (in_left seen (map (home m) homes.writes)); writes = none_within (map (home m) homes.writes) };
         fates = record { reads = in_one fate found k; writes = in_one fate found k };
       }
 
@@ -137,18 +137,18 @@ module _ (m : Setting) where
   both_ways at writes own reads h = record { reads = in_both at (writes ++ own) (reads ++ (writes ++ own)) h (in_right reads (writes ++ own)); writes = h }
 
   pub op_inside : (bytes from fate i : ℕ) (op : Op) → IsPlaced m bytes op → is_alone op (is_shifted m i) ≡ false → AllInside (op_reach m from fate op) (all_moves (blocks_of m from fate i op))
-  op_inside bytes from fate i (Fill seg byte) h s = (record { bytes = record { reads = in_nothing (cells_of (seg ∷ []) ++ []); writes = in_left (cells_of (seg ∷ [])) [] }; blocks = only; logs = only; fates = only }, tt) where
+  op_inside bytes from fate i (Fill seg byte) h s = (record { bytes = record { reads = none_within (cells_of (seg ∷ []) ++ []); writes = in_left (cells_of (seg ∷ [])) [] }; blocks = only; logs = only; fates = only }, tt) where
     only : Within (record { reads = []; writes = [] }) (record { reads = []; writes = [] })
-    only = record { reads = in_nothing []; writes = in_nothing [] }
+    only = record { reads = none_within []; writes = none_within [] }
   op_inside bytes from fate i (Put page off values) h s = (
-    record { bytes = record { reads = in_nothing (cells_of (put_seg page off values ∷ []) ++ []); writes = in_left (cells_of (put_seg page off values ∷ [])) [] }; blocks = only; logs = only; fates = only },
+    record { bytes = record { reads = none_within (cells_of (put_seg page off values ∷ []) ++ []); writes = in_left (cells_of (put_seg page off values ∷ [])) [] }; blocks = only; logs = only; fates = only },
     tt,
   ) where
     only : Within (record { reads = []; writes = [] }) (record { reads = []; writes = [] })
-    only = record { reads = in_nothing []; writes = in_nothing [] }
-  op_inside bytes from fate i (Show seg) h s = (record { bytes = record { reads = in_left (cells_of (seg ∷ [])) []; writes = in_nothing [] }; blocks = only; logs = only; fates = only }, tt) where
+    only = record { reads = none_within []; writes = none_within [] }
+  op_inside bytes from fate i (Show seg) h s = (record { bytes = record { reads = in_left (cells_of (seg ∷ [])) []; writes = none_within [] }; blocks = only; logs = only; fates = only }, tt) where
     only : Within (record { reads = []; writes = [] }) (record { reads = []; writes = [] })
-    only = record { reads = in_nothing []; writes = in_nothing [] }
+    only = record { reads = none_within []; writes = none_within [] }
   op_inside bytes from fate i (Seal n body tuples app rtag) h s =
       blocks_inside (op_reach m from fate (Seal n body tuples app rtag)) from fate 0 n (λ k. Seals (body_of m.size body k) (tuple_of tuples k) app ((rtag + k) % 2 ^ 32)) (λ j l. (
         record {
@@ -164,7 +164,7 @@ module _ (m : Setting) where
       ))
     where
       only : Within (record { reads = []; writes = [] }) (record { reads = []; writes = [] })
-      only = record { reads = in_nothing []; writes = in_nothing [] }
+      only = record { reads = none_within []; writes = none_within [] }
   op_inside bytes from fate i (Write v n body app) h s =
       let op = Write v n body app in
       let own = in_turn from (room_of m op) in

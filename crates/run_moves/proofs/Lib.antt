@@ -1,6 +1,6 @@
 mod Reach
-mod Turns
-mod Inside
+pub mod Turns
+pub mod Inside
 pub mod Meeting
 pub mod BlocksApart
 mod Behind

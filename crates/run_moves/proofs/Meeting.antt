@@ -1,4 +1,5 @@
 use Rattle.std.proofs.Common.{◌≡◌, ◌≤◌, ℕ, ◌+◌, false, ◌||◌, List, ◌++◌, map, subst, arith}
+use Rattle.std.proofs.lemmas.Bool.{or_from}
 use Rattle.page_pool.specs.Cells.{share_a_cell}
 use Rattle.range_gate.specs.Cells.{Cells, block_cells, byte_cells, cells_clash, in_turn}
 use Rattle.range_gate.proofs.CellLaws.{no_block, no_byte, none_alone}
@@ -8,10 +9,10 @@ use Rattle.stack_ops.specs.Footprints.{bytes_of, cells_touched, footprint, reach
 use Rattle.stack_ops.proofs.Sides.{cells_are}
 use Rattle.volume_table.specs.Places.{volume_len}
 use Rattle.block_path.specs.Acts.{conflict}
-use Rattle.block_path.proofs.Cells.{AllBelow, below, neither, no_clash}
+use Rattle.block_path.proofs.Cells.{AllBelow, below, no_clash, share_back}
 use Rattle.whole_run.specs.Settings.{Setting}
 use Rattle.whole_run.specs.UnderMap.{home}
-use Rattle.run_laws.proofs.Parts.{share_left, share_right, turned}
+use Rattle.run_laws.proofs.Parts.{share_left, share_right}
 use Rattle.run_moves.specs.OpsApart.{HasBlocks, IsPlaced, NoneMeet, OneCellEach, OpsConflict, is_shifted}
 use Rattle.run_moves.specs.ScriptMoves.{all_moves, blocks_of, fates_of, room_of}
 use Rattle.run_moves.proofs.Inside.{op_inside, op_reach, with_own}
@@ -21,7 +22,7 @@ use Rattle.run_moves.proofs.Turns.{AllFrom, from_less, homes_apart, share_bound,
 -- Two ops that don't conflict have no moves that do.
 
 pub clear : (f g : Cells) → share_a_cell f.reads g.writes ≡ false → share_a_cell g.reads f.writes ≡ false → share_a_cell f.writes g.writes ≡ false → cells_clash f g ≡ false
-clear f g a b c = neither (share_a_cell f.reads g.writes) (share_a_cell g.reads f.writes || share_a_cell f.writes g.writes) a (neither (share_a_cell g.reads f.writes) (share_a_cell f.writes g.writes) b c)
+clear f g a b c = or_from (share_a_cell f.reads g.writes) (share_a_cell g.reads f.writes || share_a_cell f.writes g.writes) a (or_from (share_a_cell g.reads f.writes) (share_a_cell f.writes g.writes) b c)
 
 module _ (f g : Cells) (own other : List ℕ) (n mid : ℕ) (h : cells_clash f g ≡ false) (fr : AllBelow n f.reads) (fw : AllBelow n f.writes) (gr : AllBelow n g.reads) (gw : AllBelow n g.writes)
     (behind : AllFrom n own) (behind_too : AllFrom n other) (first : AllBelow mid own) (later : AllFrom mid other) where
@@ -34,7 +35,7 @@ module _ (f g : Cells) (own other : List ℕ) (n mid : ℕ) (h : cells_clash f g
       (share_right g.writes other own (share_bound_back n own g.writes behind gw) own_other) in
       clear (with_own f own) (with_own g other)
       (share_left f.reads (f.writes ++ own) (g.writes ++ other) (share_right g.writes other f.reads k.one (share_bound n f.reads other fr behind_too)) writes)
-      (share_left g.reads (g.writes ++ other) (f.writes ++ own) (share_right f.writes own g.reads k.other (share_bound n g.reads own gr behind)) (turned (f.writes ++ own) (g.writes ++ other) writes))
+      (share_left g.reads (g.writes ++ other) (f.writes ++ own) (share_right f.writes own g.reads k.other (share_bound n g.reads own gr behind)) (share_back (f.writes ++ own) (g.writes ++ other) writes))
       writes
 
 -- the blocks of an op lie in the volume
@@ -90,6 +91,6 @@ ops_apart m bytes from fate i next later j op other one p q l r k apart =
           (turn_below from (room_of m op) next r)
           (turn_from next (room_of m other));
       blocks = clear big.blocks large.blocks x y z;
-      logs = clear big.logs large.logs (share_left mr mw yw x z) (share_left yr yw mw y (turned mw yw z)) z;
-      fates = clear big.fates large.fates found (turned (in_turn fate (fates_of op)) (in_turn later (fates_of other)) found) found;
+      logs = clear big.logs large.logs (share_left mr mw yw x z) (share_left yr yw mw y (share_back mw yw z)) z;
+      fates = clear big.fates large.fates found (share_back (in_turn fate (fates_of op)) (in_turn later (fates_of other)) found) found;
     })

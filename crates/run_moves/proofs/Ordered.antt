@@ -10,16 +10,18 @@ use Rattle.block_path.specs.Serial.{Leads, all_done, none_done, plain, plain_tel
 use Rattle.block_path.proofs.Acts.{commutes}
 use Rattle.block_path.proofs.Cells.{below, distinct}
 use Rattle.block_path.proofs.Serial.{any_whole_order}
+use Rattle.block_path.proofs.InTurn.{plain_append}
 use Rattle.whole_run.specs.ScriptWalk.{act_of, acts_from, acts_of, replies_from, reply_of, walk_from}
 use Rattle.whole_run.specs.Settings.{Setting, block_of}
 use Rattle.whole_run.specs.Steps.{Alters, Reads, Seals, Sets, Shows, Step, Writes, WritesPi, body_of, each_from, frame_at, steps_of, tuple_of}
-use Rattle.whole_run.proofs.AnyOrder.{first_tells, other_tells, plain_append}
+use Rattle.whole_run.proofs.AnyOrder.{first_tells, other_tells}
 use Rattle.whole_run.proofs.CalmRuns.{frame_length, part_length}
 use Rattle.run_laws.proofs.Parts.{block_below, block_distinct}
 use Rattle.run_moves.specs.BoundRun.{AllBound, AreTheWalk, IsBound, IsBoundRun, fates, rooms}
 use Rattle.run_moves.specs.ScriptMoves.{ByMoves, all_moves, answers_from, blocks_from, blocks_of, by_moves, fates_of, joins, moves_from, own_at, replies_from_moves, room_for, room_of, script_moves}
 use Rattle.run_moves.proofs.Does.{Does, IsOwn, IsReady, IsShaped, does_step, keeps}
 use Rattle.run_moves.proofs.Turns.{from_less, turn_below, turn_distinct, turn_from, turn_length}
+use Rattle.run_moves.proofs.Inside.{room_enough}
 
 -- From blocks to ops, and to a script by moves in any order.
 
@@ -46,9 +48,6 @@ wholes_are m from fate k (step ∷ steps) =
 tells_append : (xs ys : List (Act Answer)) (s : State) → plain_tells act tell (xs ++ ys) s ≡ plain_tells act tell xs s ++ plain_tells act tell ys (plain act xs s)
 tells_append [] ys s = refl
 tells_append (x ∷ xs) ys s = ap (λ rest. tell x s ∷ rest) (tells_append xs ys (act x s))
-
-room_enough : (n : ℕ) → 8 * n ≤ 4096 * ((n + 511) / 512)
-room_enough n = omega arith
 
 module _ (m : Setting) (fine : ℕ → List ℕ → Bool) (n : ℕ) (opening : State) (room : n ≤ length opening.bytes) where
   abbrev Shaped : State → Type 0

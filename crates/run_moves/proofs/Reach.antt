@@ -1,15 +1,15 @@
 use Rattle.std.proofs.Common.{◌≡◌, ℕ, Bool, true, false, ◌||◌, eqb, List, [], ◌∷◌, ◌++◌, drop, refl}
-use Rattle.std.proofs.lemmas.Bool.{false≢true}
+use Rattle.std.proofs.lemmas.Bool.{false≢true, or_from, or_right}
 use Rattle.page_pool.specs.Cells.{is_in, share_a_cell}
 use Rattle.range_gate.specs.Cells.{Cells, cells_clash}
 use Rattle.block_path.specs.Acts.{Act, conflict}
 use Rattle.block_path.specs.Blocks.{Answer, fetched_cell, own_cell, stored_cell, untouched}
 use Rattle.block_path.specs.Serial.{Apart}
-use Rattle.block_path.proofs.Cells.{neither, no_clash}
+use Rattle.block_path.proofs.Cells.{no_clash}
 use Rattle.whole_run.specs.Settings.{Block, Setting, route}
 use Rattle.whole_run.specs.Steps.{Alters, Reads, Seals, Sets, Shows, Step, Writes, WritesPi}
 use Rattle.whole_run.specs.ScriptWalk.{source_of}
-use Rattle.run_laws.proofs.Parts.{AllIn, drop_within, share_within}
+use Rattle.run_laws.proofs.Parts.{AllIn, drop_within, share_within, none_within}
 use Rattle.run_moves.specs.OpsApart.{NoneMeet}
 use Rattle.run_moves.specs.ScriptMoves.{by_moves, lands_in, write_moves}
 
@@ -25,24 +25,17 @@ in_all xs i e = e
 pub in_both : (xs ys zs : List ℕ) → AllIn xs ys → AllIn ys zs → AllIn xs zs
 in_both xs ys zs h k i e = k i (h i e)
 
-pub in_nothing : (xs : List ℕ) → AllIn [] xs
-in_nothing xs i e = absurd (false≢true e)
-
 pub in_left : (xs ys : List ℕ) → AllIn xs (xs ++ ys)
 in_left [] ys i e = absurd (false≢true e)
 in_left (x ∷ xs) ys i e = either_in (eqb i x) (is_in i xs) (is_in i (xs ++ ys)) (in_left xs ys i) e
 
-second : (c q : Bool) → q ≡ true → (c || q) ≡ true
-second true q e = refl
-second false q e = e
-
 pub in_right : (xs ys : List ℕ) → AllIn ys (xs ++ ys)
 in_right [] ys i e = e
-in_right (x ∷ xs) ys i e = second (eqb i x) (is_in i (xs ++ ys)) (in_right xs ys i e)
+in_right (x ∷ xs) ys i e = or_right (eqb i x) (is_in i (xs ++ ys)) (in_right xs ys i e)
 
 pub in_joined : (xs ys zs : List ℕ) → AllIn xs zs → AllIn ys zs → AllIn (xs ++ ys) zs
 in_joined [] ys zs h k i e = k i e
-in_joined (x ∷ xs) ys zs h k i e = by (eqb i x) refl (in_joined xs ys zs (λ j d. h j (second (eqb j x) (is_in j xs) d)) k i) e where
+in_joined (x ∷ xs) ys zs h k i e = by (eqb i x) refl (in_joined xs ys zs (λ j d. h j (or_right (eqb j x) (is_in j xs) d)) k i) e where
   by : (c : Bool) → eqb i x ≡ c → (is_in i (xs ++ ys) ≡ true → is_in i zs ≡ true) → (c || is_in i (xs ++ ys)) ≡ true → is_in i zs ≡ true
   by true c f e = h i (rw c refl)
   by false c f e = f e
@@ -55,9 +48,9 @@ pub record Within (f big : Cells) : Type 0 where
 no_clash_within : (f big g large : Cells) → Within f big → Within g large → cells_clash big large ≡ false → cells_clash f g ≡ false
 no_clash_within f big g large a b h =
     let k = no_clash big large h in
-    neither (share_a_cell f.reads g.writes) (share_a_cell g.reads f.writes || share_a_cell f.writes g.writes)
+    or_from (share_a_cell f.reads g.writes) (share_a_cell g.reads f.writes || share_a_cell f.writes g.writes)
     (share_within f.reads big.reads g.writes large.writes a.reads b.writes k.one)
-    (neither (share_a_cell g.reads f.writes) (share_a_cell f.writes g.writes)
+    (or_from (share_a_cell g.reads f.writes) (share_a_cell f.writes g.writes)
     (share_within g.reads large.reads f.writes big.writes b.reads a.writes k.other)
     (share_within f.writes big.writes g.writes large.writes a.writes b.writes k.writes))
 
@@ -86,9 +79,9 @@ pub record AreClear (r q : Reach) : Type 0 where
 
 no_conflict : (r q : Reach) (a b : Act Answer) → IsInside r a → IsInside q b → AreClear r q → conflict a b ≡ false
 no_conflict r q a b h k c =
-    neither (cells_clash a.bytes b.bytes) (cells_clash a.blocks b.blocks || (cells_clash a.logs b.logs || cells_clash a.fates b.fates)) (no_clash_within a.bytes r.bytes b.bytes q.bytes h.bytes k.bytes c.bytes)
-    (neither (cells_clash a.blocks b.blocks) (cells_clash a.logs b.logs || cells_clash a.fates b.fates) (no_clash_within a.blocks r.blocks b.blocks q.blocks h.blocks k.blocks c.blocks)
-    (neither (cells_clash a.logs b.logs) (cells_clash a.fates b.fates) (no_clash_within a.logs r.logs b.logs q.logs h.logs k.logs c.logs)
+    or_from (cells_clash a.bytes b.bytes) (cells_clash a.blocks b.blocks || (cells_clash a.logs b.logs || cells_clash a.fates b.fates)) (no_clash_within a.bytes r.bytes b.bytes q.bytes h.bytes k.bytes c.bytes)
+    (or_from (cells_clash a.blocks b.blocks) (cells_clash a.logs b.logs || cells_clash a.fates b.fates) (no_clash_within a.blocks r.blocks b.blocks q.blocks h.blocks k.blocks c.blocks)
+    (or_from (cells_clash a.logs b.logs) (cells_clash a.fates b.fates) (no_clash_within a.logs r.logs b.logs q.logs h.logs k.logs c.logs)
     (no_clash_within a.fates r.fates b.fates q.fates h.fates k.fates c.fates)))
 
 pub none_meet : (r q : Reach) (xs ys : List (Act Answer)) → AllInside r xs → AllInside q ys → AreClear r q → NoneMeet conflict xs ys
@@ -166,7 +159,7 @@ same : (f : Cells) → Within f f
 same f = record { reads = in_all f.reads; writes = in_all f.writes }
 
 none : (f : Cells) → Within untouched f
-none f = record { reads = in_nothing f.reads; writes = in_nothing f.writes }
+none f = record { reads = none_within f.reads; writes = none_within f.writes }
 
 pub block_inside : (m : Setting) (own : List ℕ) (fate : ℕ) (step : Step) → AllInside (block_reach m own fate step) (by_moves m own fate step).moves
 block_inside m own fate (Sets at values) = (record { bytes = same _; blocks = same _; logs = same _; fates = same _ }, tt)
@@ -180,21 +173,21 @@ block_inside m own fate (Writes b app body) = by m.mode.dix where
     (
       record { bytes = record { reads = in_right body own; writes = in_all own }; blocks = none _; logs = none _; fates = same _ },
       (
-        record { bytes = record { reads = in_all (body ++ own); writes = in_nothing own }; blocks = same _; logs = same _; fates = same _ },
+        record { bytes = record { reads = in_all (body ++ own); writes = none_within own }; blocks = same _; logs = same _; fates = same _ },
         (record { bytes = record { reads = in_right body own; writes = in_all own }; blocks = none _; logs = none _; fates = same _ }, tt),
       ),
     ),
   )
-  by false = (record { bytes = record { reads = in_left body []; writes = in_nothing [] }; blocks = same _; logs = same _; fates = same _ }, tt)
+  by false = (record { bytes = record { reads = in_left body []; writes = none_within [] }; blocks = same _; logs = same _; fates = same _ }, tt)
 block_inside m own fate (WritesPi b frame) = (
   record { bytes = record { reads = drop_within m.size frame; writes = in_all (drop m.size frame) }; blocks = none _; logs = none _; fates = same _ },
   (
-    record { bytes = record { reads = in_all frame; writes = in_nothing (drop m.size frame) }; blocks = same _; logs = same _; fates = same _ },
+    record { bytes = record { reads = in_all frame; writes = none_within (drop m.size frame) }; blocks = same _; logs = same _; fates = same _ },
     (record { bytes = record { reads = drop_within m.size frame; writes = in_all (drop m.size frame) }; blocks = none _; logs = none _; fates = same _ }, tt),
   ),
 )
 block_inside m own fate (Reads b owner to) =
     let at = lands_in owner m.mode.dix to own in (
-      record { bytes = record { reads = in_nothing at; writes = in_all at }; blocks = same _; logs = same _; fates = record { reads = in_nothing (fate ∷ []); writes = in_all (fate ∷ []) } },
-      (record { bytes = same _; blocks = none _; logs = none _; fates = record { reads = in_all (fate ∷ []); writes = in_nothing (fate ∷ []) } }, tt),
+      record { bytes = record { reads = none_within at; writes = in_all at }; blocks = same _; logs = same _; fates = record { reads = none_within (fate ∷ []); writes = in_all (fate ∷ []) } },
+      (record { bytes = same _; blocks = none _; logs = none _; fates = record { reads = in_all (fate ∷ []); writes = none_within (fate ∷ []) } }, tt),
     )

@@ -1,8 +1,8 @@
 use Rattle.std.proofs.Common.{◌≡◌, ◌<◌, ◌≤◌, ℕ, zero, suc, ◌+◌, ◌-◌, Bool, true, false, ◌||◌, eqb, List, [], ◌∷◌, length, map, refl, ap, arith}
-use Rattle.std.proofs.lemmas.Bool.{eq-eqb, eqb-false, eqb-true, false≢true, ne_eqb}
+use Rattle.std.proofs.lemmas.Bool.{eq-eqb, eqb-false, eqb-true, false≢true, ne_eqb, or_from, or_parts}
 use Rattle.page_pool.specs.Cells.{is_in, share_a_cell}
 use Rattle.range_gate.specs.Cells.{in_turn}
-use Rattle.block_path.proofs.Cells.{AllBelow, Distinct, both, neither}
+use Rattle.block_path.proofs.Cells.{AllBelow, Distinct}
 use Rattle.run_laws.proofs.Parts.{AllIn, in_tail}
 
 -- Cells in turn, below and from a bound on; the cells of virtual blocks.
@@ -26,20 +26,20 @@ turn_below from (suc n) top l = (omega (arith, l), turn_below (suc from) n top (
 
 not_from : (n i : ℕ) (xs : List ℕ) → i < n → AllFrom n xs → is_in i xs ≡ false
 not_from n i [] l h = refl
-not_from n i (x ∷ xs) l h = let o = h.0 in neither (eqb i x) (is_in i xs) (ne_eqb i x (λ e. omega (arith, e, l, o))) (not_from n i xs l h.1)
+not_from n i (x ∷ xs) l h = let o = h.0 in or_from (eqb i x) (is_in i xs) (ne_eqb i x (λ e. omega (arith, e, l, o))) (not_from n i xs l h.1)
 
 not_below : (n i : ℕ) (xs : List ℕ) → n ≤ i → AllBelow n xs → is_in i xs ≡ false
 not_below n i [] l h = refl
-not_below n i (x ∷ xs) l h = let o = h.0 in neither (eqb i x) (is_in i xs) (ne_eqb i x (λ e. omega (arith, e, l, o))) (not_below n i xs l h.1)
+not_below n i (x ∷ xs) l h = let o = h.0 in or_from (eqb i x) (is_in i xs) (ne_eqb i x (λ e. omega (arith, e, l, o))) (not_below n i xs l h.1)
 
 -- what lies below and what lies from a bound on
 pub share_bound : (n : ℕ) (xs ys : List ℕ) → AllBelow n xs → AllFrom n ys → share_a_cell xs ys ≡ false
 share_bound n [] ys h k = refl
-share_bound n (x ∷ xs) ys h k = neither (is_in x ys) (share_a_cell xs ys) (not_from n x ys h.0 k) (share_bound n xs ys h.1 k)
+share_bound n (x ∷ xs) ys h k = or_from (is_in x ys) (share_a_cell xs ys) (not_from n x ys h.0 k) (share_bound n xs ys h.1 k)
 
 pub share_bound_back : (n : ℕ) (xs ys : List ℕ) → AllFrom n xs → AllBelow n ys → share_a_cell xs ys ≡ false
 share_bound_back n [] ys h k = refl
-share_bound_back n (x ∷ xs) ys h k = neither (is_in x ys) (share_a_cell xs ys) (not_below n x ys h.0 k) (share_bound_back n xs ys h.1 k)
+share_bound_back n (x ∷ xs) ys h k = or_from (is_in x ys) (share_a_cell xs ys) (not_below n x ys h.0 k) (share_bound_back n xs ys h.1 k)
 
 in_first : (i x : ℕ) (xs : List ℕ) → i ≡ x → is_in i (x ∷ xs) ≡ true
 in_first i x xs e = by (eqb i x) (eq-eqb i x e) where
@@ -82,14 +82,14 @@ module _ (f : ℕ → ℕ) (count : ℕ) (one : (u v : ℕ) → u < count → v 
   not_at_home : (v : ℕ) (ws : List ℕ) → v < count → AllBelow count ws → is_in v ws ≡ false → is_in (f v) (map f ws) ≡ false
   not_at_home v [] l k h = refl
   not_at_home v (w ∷ ws) l k h =
-      let p = both (eqb v w) (is_in v ws) h in
-      neither (eqb (f v) (f w)) (is_in (f v) (map f ws)) (ne_eqb (f v) (f w) (λ e. eqb-false v w p.0 (one v w l k.0 e))) (not_at_home v ws l k.1 p.1)
+      let p = or_parts (eqb v w) (is_in v ws) h in
+      or_from (eqb (f v) (f w)) (is_in (f v) (map f ws)) (ne_eqb (f v) (f w) (λ e. eqb-false v w p.0 (one v w l k.0 e))) (not_at_home v ws l k.1 p.1)
 
   pub homes_apart : (vs ws : List ℕ) → AllBelow count vs → AllBelow count ws → share_a_cell vs ws ≡ false → share_a_cell (map f vs) (map f ws) ≡ false
   homes_apart [] ws l k h = refl
   homes_apart (v ∷ vs) ws l k h =
-      let p = both (is_in v ws) (share_a_cell vs ws) h in
-      neither (is_in (f v) (map f ws)) (share_a_cell (map f vs) (map f ws)) (not_at_home v ws l.0 k p.0) (homes_apart vs ws l.1 k p.1)
+      let p = or_parts (is_in v ws) (share_a_cell vs ws) h in
+      or_from (is_in (f v) (map f ws)) (share_a_cell (map f vs) (map f ws)) (not_at_home v ws l.0 k p.0) (homes_apart vs ws l.1 k p.1)
 
 pub turn_distinct : (from n : ℕ) → Distinct (in_turn from n)
 turn_distinct from zero = tt

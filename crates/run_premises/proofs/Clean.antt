@@ -1,7 +1,7 @@
 -- What a run without faults leaves clean.
-use Rattle.std.proofs.Common.{◌≡◌, ◌<◌, ℕ, zero, suc, ◌+◌, Bool, true, false, not, ◌&&◌, eqb, if◌then◌else◌, List, [], ◌∷◌, length, map, get_or, set, Option, Some, None, refl, sym, ap, subst, ◌∙◌, arith}
-use Rattle.std.proofs.lemmas.Bool.{eqb-false, eqb-true, false≢true}
-use Rattle.std.proofs.lemmas.List.{get_or-set_other, get_or-set_same, length-set}
+use Rattle.std.proofs.Common.{◌≡◌, ◌<◌, ℕ, zero, suc, ◌+◌, Bool, true, false, not, ◌&&◌, if◌then◌else◌, List, [], ◌∷◌, length, map, get_or, set, Option, Some, None, refl, sym, ap, subst, ◌∙◌, arith}
+use Rattle.std.proofs.lemmas.Bool.{eqb-true, false≢true}
+use Rattle.std.proofs.lemmas.List.{length-set}
 use Rattle.pi_guard.specs.Guards.{crc}
 use Rattle.pi_guard.specs.declared.GuardKind.TheVariants.{Crc}
 use Rattle.pi_tuple.specs.Finds.{has_ref_tag, is_escaped, is_zero}
@@ -32,6 +32,8 @@ use Rattle.whole_run.proofs.MapUnder.{AllProper, map_length, proper_opened, unde
 use Rattle.whole_run.proofs.PlainSteps.{AllMeet, Stands, all_steps}
 use Rattle.whole_run.proofs.TupleFrames.{Small, data_is, guard_below, tuple_is}
 use Rattle.run_laws.specs.ShownRun.{DevicesAreClean, HasCells, LiesOn}
+use Rattle.run_laws.proofs.Along.{set_cases}
+use Rattle.run_laws.proofs.Passing.{host_same}
 
 -- ---- entries that are no escape
 
@@ -93,12 +95,6 @@ passes_all Two false dif h = absurd (false≢true h)
 passes_all Three true dif h = (refl, refl)
 passes_all Three false dif h = absurd (false≢true h)
 
-host_same : (ty : PiType) → is_zero ty ≡ false → host_type ty ≡ ty
-host_same Zero h = absurd (false≢true (sym h))
-host_same One h = refl
-host_same Two h = refl
-host_same Three h = refl
-
 -- ---- what is stored of an entry
 
 tag_right : (ty : PiType) (lba own : ℕ) → has_ref_tag ty ≡ true → tag_of ty lba own ≡ ref_tag lba
@@ -124,12 +120,6 @@ stored_clean m lba e z o p =
           app = ap (λ (t : Tuple). as_expected m t.app) is ∙ p.expected;
           rtag = λ h. ap (λ (t : Tuple). t.rtag) is ∙ tag_right m.ty lba e.own h;
         }
-
-set_cases : {X : Type 0} (P : X → Type 0) (cells : List X) (w c : ℕ) (x none : X) → (eqb w c ≡ true → (w < length cells) × P x) → (eqb w c ≡ false → P (get_or cells c none)) → P (get_or (set cells w x) c none)
-set_cases P cells w c x none here there = by (eqb w c) refl where
-  by : (t : Bool) → eqb w c ≡ t → P (get_or (set cells w x) c none)
-  by true q = subst (λ i. P (get_or (set cells w x) i none)) (eqb-true w c q) (subst P (sym (get_or-set_same cells w x none (here q).0)) (here q).1)
-  by false q = subst P (sym (get_or-set_other cells w c x none (λ e. eqb-false w c q (sym e)))) (there q)
 
 module _ (m : Setting) (n : ℕ) (image : List (List ℕ)) (lies : LiesIn m n image) (z : is_zero m.ty ≡ false) where
   long : (v : ℕ) (map : List Entry) → length (under m v map image) ≡ length image

@@ -21,7 +21,7 @@ use Rattle.whole_run.specs.UnderMap.{NoEscape, NoneEscapes, SuppliesNoEscape}
 use Rattle.run_premises.specs.Forms.{supplies_none}
 
 -- another application tag than FFFFh is no escape
-unescaped : (ty : PiType) (t : Tuple) → eqb t.app 0xFFFF ≡ false → is_escaped ty t ≡ false
+pub unescaped : (ty : PiType) (t : Tuple) → eqb t.app 0xFFFF ≡ false → is_escaped ty t ≡ false
 unescaped Zero t h = refl
 unescaped One t h = h
 unescaped Two t h = h

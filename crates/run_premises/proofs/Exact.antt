@@ -13,7 +13,7 @@ use Rattle.fault_schedule.specs.declared.fault.Crossing.{Crossing}
 use Rattle.fault_schedule.specs.declared.fault.FaultLine.{FaultLine}
 use Rattle.target_answer.specs.Frames.{data_of, tuple_of}
 use Rattle.block_path.proofs.Cells.{AllBelow, below}
-use Rattle.whole_run.proofs.TupleFrames.{below_append, below_take, frame_small, guard_below}
+use Rattle.whole_run.proofs.TupleFrames.{below_append, below_take, frame_small, guard_below, two_below}
 use Rattle.guard_laws.specs.Changes.{IsInTwoBytes}
 use Rattle.guard_laws.specs.Guarded.{guarded}
 use Rattle.guard_laws.proofs.Additive.{hidden_exactly}
@@ -24,7 +24,6 @@ use Rattle.run_premises.specs.FormedRun.{IsOfBytes}
 use Rattle.run_premises.proofs.Frames.{after_bytes, after_size, all_of, front_is, front_named, front_size}
 use Rattle.run_premises.proofs.Lines.{named_below}
 use Rattle.run_premises.proofs.Near.{take-xored}
-use Rattle.run_premises.proofs.Ways.{guard_bytes}
 
 outside_guard : (body : List ℕ) (g h : ℕ) → IsInTwoBytes (length body) (guarded body g) (guarded body h)
 outside_guard body g h k (inl l) = get_or_append_left body (to_be_bytes w16 g) 0 k l ∙ sym (get_or_append_left body (to_be_bytes w16 h) 0 k l)
@@ -34,7 +33,7 @@ outside_guard body g h k (inr l) =
     get_or_past (guarded body g) k 0 (omega arith) ∙ sym (get_or_past (guarded body h) k 0 (omega arith))
 
 all_bytes : (body : List ℕ) (g : ℕ) → AllBelow 256 body → All (λ x. x < 256) (guarded body g)
-all_bytes body g h = all_of (guarded body g) (below_append 256 body (to_be_bytes w16 g) h (guard_bytes g))
+all_bytes body g h = all_of (guarded body g) (below_append 256 body (to_be_bytes w16 g) h (two_below g))
 
 -- only its CRC behind it clears a message
 only_crc : (body : List ℕ) (g : ℕ) → AllBelow 256 body → g < 2 ^ 16 → crc (guarded body g) ≡ 0 → g ≡ crc body

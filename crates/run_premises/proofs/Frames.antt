@@ -11,12 +11,13 @@ use Rattle.pi_guard.specs.Guards.{crc, guard_of}
 use Rattle.pi_guard.specs.declared.GuardKind.{GuardKind}
 use Rattle.pi_guard.specs.declared.GuardKind.TheVariants.{Crc, Ip}
 use Rattle.fault_schedule.specs.Altered.{xored_from}
+use Rattle.fault_schedule.proofs.Xored.{length-xored, get-xored}
 use Rattle.target_answer.specs.Frames.{data_of, tuple_of}
 use Rattle.block_path.proofs.Cells.{AllBelow}
 use Rattle.whole_run.proofs.TupleFrames.{below_at, below_take, below_drop, spelled}
 use Rattle.guard_laws.specs.Guarded.{guarded}
 use Rattle.guard_laws.proofs.Additive.{hidden_exactly}
-use Rattle.guard_laws.proofs.Flips.{length-xored_from, xored_at, xored_shown_by_each}
+use Rattle.guard_laws.proofs.Flips.{xored_shown_by_each}
 use Rattle.run_premises.specs.Forms.{is_none, is_seen}
 use Rattle.run_premises.proofs.Near.{near, named_at, none_at, take-xored, xored_same}
 use Rattle.run_premises.proofs.Sums.{guard_clears}
@@ -70,7 +71,7 @@ module _ (n : ℕ) (f : ℕ → ℕ) (below : (k : ℕ) → f k < 256) (x : List
   after = xored_from f 0 x
 
   pub after_size : length after ≡ n + 8
-  after_size = length-xored_from f 0 x ∙ size
+  after_size = length-xored f 0 x ∙ size
 
   pub after_bytes : AllBelow 256 after
   after_bytes = xored_below f 0 x below bytes
@@ -82,7 +83,7 @@ module _ (n : ℕ) (f : ℕ → ℕ) (below : (k : ℕ) → f k < 256) (x : List
       let none : f (n + i) ≡ 0 =
       sym (named_at f (n + 8) (n + i) (omega arith)) ∙ ap (λ v. get_or (mask n f) v 0) (sym s) ∙ sym (get_or-drop (n + 2) (mask n f) (i - 2) 0) ∙ none_at (drop (n + 2) (mask n f)) h (i - 2) in
       get_or-drop n after i 0
-      ∙ xored_at f 0 x (n + i) (omega arith)
+      ∙ get-xored f 0 x (n + i) (omega arith)
       ∙ ap (λ v. bit_xor (get_or x (n + i) 0) (f v)) z
       ∙ ap (bit_xor (get_or x (n + i) 0)) none
       ∙ xor_zero_r (get_or x (n + i) 0)
@@ -114,7 +115,7 @@ module _ (n : ℕ) (f : ℕ → ℕ) (below : (k : ℕ) → f k < 256) (x : List
       let g : ℕ → ℕ = λ k. get_or m k 0 in
       let c = near m seen in
       let at : (k : ℕ) → k < n + 2 → g k ≡ f k = λ k l. get_or-take (n + 2) (mask n f) k 0 l ∙ named_at f (n + 8) k (omega arith) in
-      let long : length m ≡ n + 2 = ap length (front_named n f) ∙ length-xored_from f 0 (replicate (n + 2) 0) ∙ length-replicate {A = ℕ} (n + 2) 0 in
+      let long : length m ≡ n + 2 = ap length (front_named n f) ∙ length-xored f 0 (replicate (n + 2) 0) ∙ length-replicate {A = ℕ} (n + 2) 0 in
       let b : (k : ℕ) → g k < 256 = λ k. elim (cases_lt k (n + 2)) [
         | inl l ↦ rw (at k l) (below k)
         | inr l ↦ rw (get_or_past m k 0 (omega arith)) (lit< tt)

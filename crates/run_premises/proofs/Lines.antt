@@ -15,6 +15,7 @@ use Rattle.fault_schedule.specs.declared.fault.FaultLine.{FaultLine}
 use Rattle.stack_ops.specs.declared.op.Op.{Op}
 use Rattle.whole_run.specs.FirstLayer.{is_flip}
 use Rattle.guard_laws.proofs.Bursts.{are_bytes}
+use Rattle.guard_laws.proofs.Flips.{below_if}
 use Rattle.run_premises.specs.Forms.{is_good_line, is_shown_line, label_of, may_mend, may_undo}
 use Rattle.run_premises.specs.FormedRun.{IsOfBytes}
 
@@ -102,19 +103,15 @@ line_of line at label h =
 
 -- ---- bytes
 
-if_below : (c : Bool) (x : ℕ) → x < 256 → (if c then x else 0) < 256
-if_below true x h = h
-if_below false x h = lit< tt
-
 flip_below : (kind : FaultKind) (i : ℕ) → IsOfBytes kind → flip_at kind i < 256
-flip_below (Flip off bytes) i h = if_below _ (get_or bytes _ 0) (are_bytes bytes h _)
+flip_below (Flip off bytes) i h = below_if _ (get_or bytes _ 0) (are_bytes bytes h _)
 flip_below (Shift by) i h = lit< tt
 
 pub named_below : (faults : List FaultLine) (at : Crossing) (label : Label) → All (λ (line : FaultLine). IsOfBytes line.kind) faults → (i : ℕ) → named faults at label i < 256
 named_below [] at label h i = lit< tt
 named_below (f ∷ faults) at label h i =
     xor_of_8 (named_by f at label i) (named faults at label i)
-    (if_below (is_line_of f at label) (flip_at f.kind i) (flip_below f.kind i (h 0 f (omega arith))))
+    (below_if (is_line_of f at label) (flip_at f.kind i) (flip_below f.kind i (h 0 f (omega arith))))
     (named_below faults at label (λ k d l. h (suc k) d (omega arith)) i)
 
 -- ---- no shift

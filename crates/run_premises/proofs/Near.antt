@@ -10,9 +10,10 @@ use Rattle.pi_guard.specs.Guards.{crc}
 use Rattle.pi_guard.specs.declared.GuardKind.{GuardKind}
 use Rattle.pi_guard.specs.declared.GuardKind.TheVariants.{Crc, Ip}
 use Rattle.fault_schedule.specs.Altered.{xored_from}
+use Rattle.fault_schedule.proofs.Xored.{length-xored, get-xored}
 use Rattle.guard_laws.proofs.Additive.{crc-xored}
 use Rattle.guard_laws.proofs.Bursts.{are_bytes}
-use Rattle.guard_laws.proofs.Flips.{length-xored_from, xor_kept, xored_at, xored_shown}
+use Rattle.guard_laws.proofs.Flips.{xor_kept, xored_shown}
 use Rattle.run_premises.specs.Forms.{is_near, is_none, is_seen}
 
 -- ---- near bytes
@@ -85,18 +86,18 @@ near (x ∷ y ∷ rest) h = near_by x y rest (near (y ∷ rest)) (is_none x) ref
 
 pub xored_same : (f g : ℕ → ℕ) (xs : List ℕ) → ((k : ℕ) → k < length xs → f k ≡ g k) → xored_from f 0 xs ≡ xored_from g 0 xs
 xored_same f g xs h =
-    same_number_lists (xored_from f 0 xs) (xored_from g 0 xs) (length-xored_from f 0 xs ∙ sym (length-xored_from g 0 xs)) (λ k l.
-    let n = length-xored_from f 0 xs in
+    same_number_lists (xored_from f 0 xs) (xored_from g 0 xs) (length-xored f 0 xs ∙ sym (length-xored g 0 xs)) (λ k l.
+    let n = length-xored f 0 xs in
     let b : k < length xs = omega arith in
     let z : 0 + k ≡ k = omega arith in
-    xored_at f 0 xs k b ∙ ap (λ v. bit_xor (get_or xs k 0) (f v)) z ∙ ap (bit_xor (get_or xs k 0)) (h k b) ∙ sym (ap (λ v. bit_xor (get_or xs k 0) (g v)) z) ∙ sym (xored_at g 0 xs k b))
+    get-xored f 0 xs k b ∙ ap (λ v. bit_xor (get_or xs k 0) (f v)) z ∙ ap (bit_xor (get_or xs k 0)) (h k b) ∙ sym (ap (λ v. bit_xor (get_or xs k 0) (g v)) z) ∙ sym (get-xored g 0 xs k b))
 
 -- the byte that is named for a place
 pub named_at : (f : ℕ → ℕ) (n k : ℕ) → k < n → get_or (xored_from f 0 (replicate n 0)) k 0 ≡ f k
 named_at f n k l =
     let long = length-replicate {A = ℕ} n 0 in
     let z : 0 + k ≡ k = omega arith in
-    xored_at f 0 (replicate n 0) k (omega arith) ∙ ap (λ v. bit_xor v (f (0 + k))) (get_or-replicate n k 0 0 l) ∙ xor_zero_l (f (0 + k)) ∙ ap f z
+    get-xored f 0 (replicate n 0) k (omega arith) ∙ ap (λ v. bit_xor v (f (0 + k))) (get_or-replicate n k 0 0 l) ∙ xor_zero_l (f (0 + k)) ∙ ap f z
 
 pub take-xored : (f : ℕ → ℕ) (n i : ℕ) (xs : List ℕ) → take n (xored_from f i xs) ≡ xored_from f i (take n xs)
 take-xored f zero i xs = refl
@@ -106,7 +107,7 @@ take-xored f (suc n) i (x ∷ xs) = ap (λ v. bit_xor x (f i) ∷ v) (take-xored
 onto_itself : (xs : List ℕ) → xored_from (λ k. get_or xs k 0) 0 (replicate (length xs) 0) ≡ xs
 onto_itself xs =
     let f : ℕ → ℕ = λ k. get_or xs k 0 in
-    let long = length-xored_from f 0 (replicate (length xs) 0) ∙ length-replicate {A = ℕ} (length xs) 0 in
+    let long = length-xored f 0 (replicate (length xs) 0) ∙ length-replicate {A = ℕ} (length xs) 0 in
     same_number_lists (xored_from f 0 (replicate (length xs) 0)) xs long (λ k l. named_at f (length xs) k (omega arith))
 
 -- nothing leaves zeros
@@ -123,7 +124,7 @@ crc-zeros n =
     let z : crc (xored_from f 0 (replicate (length zs) 0)) ≡ 0 = xor_kept (crc zs) _ (sym e) in
     ap (λ v. crc (replicate v 0)) (sym long) ∙ sym (ap crc (nothing 0 (replicate (length zs) 0))) ∙ z
 
-zeros_are_bytes : (n : ℕ) → All (λ x. x < 256) (replicate n 0)
+pub zeros_are_bytes : (n : ℕ) → All (λ x. x < 256) (replicate n 0)
 zeros_are_bytes n k d l = let long = length-replicate {A = ℕ} n 0 in rw (get_or-replicate n k 0 d (omega arith)) (lit< tt)
 
 pub near_seen : (kind : GuardKind) (mask : List ℕ) → All (λ x. x < 256) mask → is_near mask ≡ true → is_seen kind mask ≡ true

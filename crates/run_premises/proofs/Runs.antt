@@ -3,8 +3,8 @@ use Rattle.std.proofs.Common.{◌≡◌, ◌<◌, ℕ, zero, suc, ◌+◌, ◌-�
 use Rattle.std.specs.Prelude.{All, pos, nat_abs}
 use Rattle.std.specs.Int.{w32, from_be_bytes, to_be_bytes}
 use Rattle.std.specs.List.{list_all, list_any}
-use Rattle.std.proofs.lemmas.Bool.{and_from, and_parts, eqb-false, eqb-true, eq-eqb, false≢true, false_from_ne_true}
-use Rattle.std.proofs.lemmas.List.{get_or-set_other, get_or-set_same, length-set}
+use Rattle.std.proofs.lemmas.Bool.{and_from, and_parts, eqb-true, eq-eqb, false≢true, false_from_ne_true}
+use Rattle.std.proofs.lemmas.List.{length-set}
 use Rattle.pi_guard.specs.Guards.{guard_of}
 use Rattle.pi_guard.specs.declared.GuardKind.{GuardKind}
 use Rattle.pi_guard.specs.declared.GuardKind.TheVariants.{Crc}
@@ -40,26 +40,20 @@ use Rattle.whole_run.specs.UnderMap.{AreClean, NoEscape, NoneEscapes, SuppliesNo
 use Rattle.whole_run.proofs.CalmRuns.{frame_length, part_length}
 use Rattle.whole_run.proofs.InSteps.{acts_stepped, stepped}
 use Rattle.whole_run.proofs.TupleFrames.{Small, below_append, below_drop, below_gather, below_replicate, below_scatter, below_take, data_is, four_below, guard_below, tag_below, tuple_below, tuple_is}
-use Rattle.run_laws.specs.ShownRun.{IsChecked}
 use Rattle.run_laws.proofs.Layers.{checked, unmoved}
+use Rattle.run_laws.proofs.Along.{set_cases}
+use Rattle.run_laws.proofs.Reading.{checked_form}
 use Rattle.run_premises.specs.Forms.{brings_tuples, first_virt, is_good_line, is_overwrite, is_stored_altered, op_of, virt_of}
 use Rattle.run_premises.specs.FormedRun.{HasFormedFaults, IsOfBytes}
 use Rattle.run_premises.proofs.Lines.{IsLineOf, line_of, no_shift, none_of}
 use Rattle.run_premises.proofs.Ways.{Fine, Kept, OfBytes, Right, comes_bytes, comes_shown, goes_kept, goes_shown, the_line}
 
--- a cell after one was set
-set_cases : {X : Type 0} (P : X → Type 0) (cells : List X) (w c : ℕ) (x none : X) → (eqb w c ≡ true → (w < length cells) × P x) → (eqb w c ≡ false → P (get_or cells c none)) → P (get_or (set cells w x) c none)
-set_cases P cells w c x none here there = by (eqb w c) refl where
-  by : (t : Bool) → eqb w c ≡ t → P (get_or (set cells w x) c none)
-  by true q = subst (λ i. P (get_or (set cells w x) i none)) (eqb-true w c q) (subst P (sym (get_or-set_same cells w x none (here q).0)) (here q).1)
-  by false q = subst P (sym (get_or-set_other cells w c x none (λ e. eqb-false w c q (sym e)))) (there q)
-
-mends : (a b : Bool) → (a && b) ≡ false → a ≡ true → b ≡ true → ⊥
+pub mends : (a b : Bool) → (a && b) ≡ false → a ≡ true → b ≡ true → ⊥
 mends true true h p q = false≢true (sym h)
 mends true false h p q = false≢true q
 mends false b h p q = false≢true p
 
-if_all : (a b : Bool) → (a && b) ≡ false → a ≡ true → b ≡ false
+pub if_all : (a b : Bool) → (a && b) ≡ false → a ≡ true → b ≡ false
 if_all a b h p = false_from_ne_true b (mends a b h p)
 
 module _ (m' : Setting) (ops : List Op) (even : m'.size % 2 ≡ 0) (flips : All (λ (line : FaultLine). IsOfBytes line.kind) m'.site.faults)
@@ -358,10 +352,6 @@ formed m' ops opening run =
     (all_suit m' ops run.even run.flips form opening.blocks run.lies run.fit)
     (none_escapes (checked m') 1 ops opening run.no_escape)
     (begins m' ops run.even run.flips form opening.blocks run.lies opening refl (below 256 opening.bytes run.pages) run.clean)
-
--- a setting in which each fault can be shown is its own form
-checked_form : (m : Setting) → IsChecked m → m ≡ checked m
-checked_form m c = λ i. record m { mode = record m.mode { dix = c.dix i; dif = c.dif i; protect = c.protect i }; ty = c.ty i; site = record m.site { device = c.device i } }
 
 pub shown_by_form : (m : Setting) (ops : List Op) (opening : State) → HasFormedFaults m ops opening → detectable m (steps_from m 1 ops) opening ≡ true
 shown_by_form m ops opening run =

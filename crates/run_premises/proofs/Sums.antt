@@ -1,21 +1,11 @@
 -- Data with their guard behind them, as one message: its guard is 0.
-use Rattle.std.proofs.Common.{◌≡◌, ◌≢◌, ℕ, zero, suc, ◌+◌, ◌-◌, ◌*◌, ◌/◌, ◌%◌, ◌<◌, Bool, true, false, eqb, if◌then◌else◌, List, [], ◌∷◌, ◌++◌, length, get_or, refl, ap, ◌∙◌, arith, lit<}
-use Rattle.std.specs.Int.{w16, to_be_bytes}
+use Rattle.std.proofs.Common.{◌≡◌, ◌≢◌, ℕ, ◌+◌, ◌-◌, ◌*◌, ◌/◌, ◌%◌, ◌<◌, Bool, true, false, eqb, if◌then◌else◌, List, [], ◌∷◌, ◌++◌, length, refl, ap, ◌∙◌, arith}
 use Rattle.std.proofs.lemmas.Bool.{eqb-false, eqb-true, cond-false, ne_eqb}
-use Rattle.std.proofs.lemmas.Nat.{be_bytes_2}
 use Rattle.pi_guard.specs.Guards.{checksum_of, guard_of, ip, word_sum}
 use Rattle.pi_guard.specs.declared.GuardKind.{GuardKind}
 use Rattle.pi_guard.specs.declared.GuardKind.TheVariants.{Crc, Ip}
 use Rattle.guard_laws.specs.Guarded.{guarded}
-use Rattle.guard_laws.proofs.Guarded.{guarded_clears}
-
-two_bytes : (h l : ℕ) → h < 256 → l < 256 → (i : ℕ) → get_or (h ∷ l ∷ []) i 0 < 256
-two_bytes h l p q zero = p
-two_bytes h l p q (suc zero) = q
-two_bytes h l p q (suc (suc i)) = lit< tt
-
-spelled : (g : ℕ) → g < 65536 → to_be_bytes w16 g ≡ g / 256 ∷ g % 256 ∷ []
-spelled g b = be_bytes_2 (g / 256 ∷ g % 256 ∷ []) g refl (two_bytes (g / 256) (g % 256) (omega arith) (omega arith)) (omega arith)
+use Rattle.guard_laws.proofs.Guarded.{guarded_clears, spelled}
 
 -- a word behind an even number of bytes adds to their sum
 sum-behind : (body : List ℕ) (h l : ℕ) → length body % 2 ≡ 0 → word_sum (body ++ (h ∷ l ∷ [])) ≡ word_sum body + (h * 256 + l)

@@ -1,10 +1,9 @@
 -- One block on its way under faults that have the form.
-use Rattle.std.proofs.Common.{◌≡◌, ◌<◌, ℕ, ◌+◌, ◌%◌, ◌^◌, Bool, true, false, eqb, ◌&&◌, ◌||◌, not, if◌then◌else◌, List, ◌++◌, length, take, drop, Option, Some, None, refl, sym, ap, subst, ◌∙◌, arith}
+use Rattle.std.proofs.Common.{◌≡◌, ◌<◌, ℕ, ◌+◌, ◌%◌, ◌^◌, Bool, true, false, eqb, ◌&&◌, ◌||◌, not, if◌then◌else◌, List, ◌++◌, length, take, drop, Option, Some, None, refl, sym, ap, subst, ◌∙◌}
 use Rattle.std.specs.Prelude.{All, Result}
 use Rattle.std.specs.Int.{w16, w32, from_be_bytes, to_be_bytes}
 use Rattle.std.specs.List.{list_all}
 use Rattle.std.proofs.lemmas.Bool.{and_from, and_parts, ne_eqb, not-true, not_from_false, or_left}
-use Rattle.std.proofs.lemmas.Nat.{mod_below}
 use Rattle.pi_guard.specs.Guards.{guard_of}
 use Rattle.pi_guard.specs.declared.GuardKind.{GuardKind}
 use Rattle.pi_guard.specs.declared.GuardKind.TheVariants.{Crc, Ip}
@@ -32,7 +31,7 @@ use Rattle.whole_run.specs.Detectable.{arrives, asks_app, bears, bears_some, cro
 use Rattle.whole_run.specs.FirstLayer.{AtAdapter, AtTarget, has_flip, has_shift, is_flip}
 use Rattle.whole_run.specs.PlainMap.{as_expected}
 use Rattle.whole_run.specs.Settings.{Block, Setting, route}
-use Rattle.whole_run.proofs.TupleFrames.{below_append, below_drop, below_take, four_below, guard_below}
+use Rattle.whole_run.proofs.TupleFrames.{below_append, below_drop, below_take, four_below, guard_below, two_below}
 use Rattle.run_laws.proofs.Found.{bears_both, expected, passed, unless_rule}
 use Rattle.run_laws.proofs.Framed.{guarded, mapped_body, mapped_length, mapped_tuple, not_altered}
 use Rattle.run_laws.proofs.Layers.{checked, found_is}
@@ -48,9 +47,6 @@ foreign_by m b at g t e h = rw (e, h) refl
 asked_if : (o : Option Check) (rest : Bool) → (o ≡ None → rest ≡ true) → if_passed o rest ≡ true
 asked_if None rest h = h refl
 asked_if (Some c) rest h = refl
-
-pub guard_bytes : (n : ℕ) → AllBelow 256 (to_be_bytes w16 n)
-guard_bytes n = (mod_below _ 256 (omega arith), (mod_below _ 256 (omega arith), tt))
 
 remapped_below : (from to : ℕ) (b : List ℕ) → AllBelow 256 b → AllBelow 256 (remapped_bytes One from to b)
 remapped_below from to b h = below_append 256 (take 4 b) _ (below_take 256 4 b h) (by (eqb (from_be_bytes w32 (drop 4 b)) (ref_tag from))) where
@@ -170,7 +166,7 @@ module _ (m' : Setting) (ops : List Op) (even : m'.size % 2 ≡ 0) (flips : All 
       let u = guarded n x h.size (guard_of to (data_of n x)) (guard_small to (data_of n x)) (tuple_of n x).rtag refl in
       record {
         size = u.size;
-        bytes = below_append 256 (take n x) _ (below_take 256 n x h.bytes) (below_append 256 (to_be_bytes w16 (guard_of to (data_of n x))) (drop (n + 2) x) (guard_bytes (guard_of to (data_of n x))) (below_drop 256 (n + 2) x h.bytes));
+        bytes = below_append 256 (take n x) _ (below_take 256 n x h.bytes) (below_append 256 (to_be_bytes w16 (guard_of to (data_of n x))) (drop (n + 2) x) (two_below (guard_of to (data_of n x))) (below_drop 256 (n + 2) x h.bytes));
         escape = ap (λ t. is_escaped One t) u.tuple ∙ h.escape;
       }
 

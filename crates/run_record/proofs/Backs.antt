@@ -9,10 +9,11 @@ use Rattle.stack_ops.specs.declared.reply.Reply.TheVariants.{Silent}
 use Rattle.block_path.specs.Acts.{Act, State, act, tell}
 use Rattle.block_path.specs.Blocks.{Answer, Asked, Sent, silent}
 use Rattle.block_path.specs.Serial.{plain, plain_tells}
+use Rattle.block_path.proofs.InTurn.{plain_append}
 use Rattle.whole_run.specs.ScriptWalk.{act_of, acts_from, acts_of, bad_from, replies_from, reply_of, request_reply, script_replies, shown_reply, whole_or_bad}
 use Rattle.whole_run.specs.Settings.{Setting, block_of}
 use Rattle.whole_run.specs.Steps.{Reads, Seals, Step, Writes, WritesPi, body_of, each_from, frame_at, steps_of, tuple_of}
-use Rattle.whole_run.proofs.AnyOrder.{acts_walk, plain_append}
+use Rattle.whole_run.proofs.AnyOrder.{acts_walk}
 use Rattle.whole_run.specs.ReadsAs.{listed_in}
 use Rattle.whole_run.proofs.InSteps.{is_listed}
 use Rattle.run_record.specs.BackedRun.{Belongs, HasEnd, HasEntry, IsBacked, IsFound, IsInTurn, IsListedAs, OfRead, OfRequest, Owns, PassesIn}

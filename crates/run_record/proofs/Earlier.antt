@@ -2,7 +2,7 @@ use Rattle.std.proofs.Common.{◌≡◌, ◌<◌, ◌+◌, ◌-◌, ◌%◌, ◌
 use Rattle.std.specs.Prelude.{IfSome, cond, is_none}
 use Rattle.std.specs.List.{AllByRecursion as Each, count_by}
 use Rattle.std.proofs.lemmas.Bool.{eqb-true, eqb-false}
-use Rattle.std.proofs.lemmas.List.{append_assoc, drop-drop, get_or-drop, get_or-set_same, get_or-set_other, length-append, take-append-le, take_all}
+use Rattle.std.proofs.lemmas.List.{append_assoc, drop-drop, get_or-drop, get_or-set_same, get_or-set_other, length-append}
 use Rattle.std.proofs.lemmas.List.Sums.{sum_by-cons}
 use Rattle.page_pool.specs.declared.segs.Seg.{Seg}
 use Rattle.page_pool.specs.Cells.{scatter}
@@ -17,6 +17,7 @@ use Rattle.block_path.specs.Acts.{State, act, effect, tell}
 use Rattle.block_path.specs.Blocks.{Answer, Sent, own_cell, read_by, written_by}
 use Rattle.block_path.specs.declared.route.Route.{Route}
 use Rattle.block_path.specs.Serial.{plain, plain_tells}
+use Rattle.block_path.proofs.WriteMoves.{take_over}
 use Rattle.whole_run.specs.Past.{steps_from}
 use Rattle.whole_run.specs.Settings.{Block, Setting, block_of, route}
 use Rattle.whole_run.specs.Steps.{Alters, Reads, Seals, Sets, Shows, Step, Writes, WritesPi, body_of, each_from, frame_at, steps_of, tuple_of}
@@ -69,9 +70,6 @@ accepted_more m c i (first ∷ before) op replies =
 each_pair : {X : Type 0} (P Q : X → Type 0) (xs : List X) → Each P xs → Each Q xs → Each (λ x. P x × Q x) xs
 each_pair P Q [] h k = tt
 each_pair P Q (x ∷ xs) h k = ((h.0, k.0), each_pair P Q xs h.1 k.1)
-
-take_front : {X : Type 0} (xs ys : List X) (n : ℕ) → n ≡ length xs → take n (xs ++ ys) ≡ xs
-take_front xs ys n e = take-append-le n xs ys (omega (arith, e)) ∙ take_all n xs (omega (arith, e))
 
 module _ (m : Setting) (es : List Sent) where
   -- what a step adds to a place's frames
@@ -164,7 +162,7 @@ module _ (m : Setting) (es : List Sent) where
       let others = taken_from m es (suc i) ops (drop 1 rest) in
       let next = plain act acts s in
       let mine = each_first (HasLog m logs) (steps_of m i op) (steps_from m (suc i) ops) h in
-      let front : take (i - 1) (before ++ (op ∷ ops)) ≡ before = take_front before (op ∷ ops) (i - 1) (omega (arith, e)) in
+      let front : take (i - 1) (before ++ (op ∷ ops)) ≡ before = take_over before (op ∷ ops) (i - 1) (omega (arith, e)) in
       let here : Each (OfRead (IsCounted m (before ++ (op ∷ ops)) replies)) (plain_tells act tell acts s) =
       op_counted (before ++ (op ∷ ops)) replies reply logs i op s (λ c l. f c l ∙ ap (λ xs. accepted_in m c 1 xs replies) (sym front)) mine in
       let grown : (c : ℕ) → c < logs → length (get_or next.logs c []) ≡ accepted_in m c 1 (before ++ (op ∷ [])) replies = λ c l.
@@ -249,5 +247,5 @@ stands_after m before after owner v n k body tuples opening es replies backed em
     let here : Each P (plain_tells act tell (taken_acts m es i op reply) mine.0) = subst (λ j. Each P (plain_tells act tell (taken_acts m es j op reply) mine.0)) numbered mine.1 in
     let f = λ (k : ℕ). Reads (block_of i v k) owner (landing m.size owner body tuples k) in
     let block = at_block m es P reply f 0 k n k mine.0 l (omega arith) (subst (λ steps. Each P (plain_tells act tell (map (taken_act m es reply) steps) mine.0)) (read_steps m i v n owner body tuples) here) in
-    subst (λ xs. StandsAfter es (route m b).label (accepted_in m (own_cell m.site (route m b)) 1 xs replies)) (take_front before (op ∷ after) (i - 1) (omega arith))
+    subst (λ xs. StandsAfter es (route m b).label (accepted_in m (own_cell m.site (route m b)) 1 xs replies)) (take_over before (op ∷ after) (i - 1) (omega arith))
     (stands m es ops replies reply b owner (landing m.size owner body tuples k) block.0 none block.1)

@@ -1,5 +1,5 @@
 -- A block over what stands on record of it, and the same block by its reply.
-use Rattle.std.proofs.Common.{◌≡◌, ℕ, true, false, List, [], length, drop, get_or, Option, Some, None, refl, sym, ap, subst, ◌∙◌, arith}
+use Rattle.std.proofs.Common.{◌≡◌, ℕ, false, List, [], length, drop, get_or, Option, Some, None, refl, sym, ap, subst, ◌∙◌, arith}
 use Rattle.std.specs.Prelude.{Result, Ok, Err}
 use Rattle.page_pool.specs.Cells.{gather, scatter}
 use Rattle.pi_tuple.specs.declared.checks.Check.{Check}
@@ -22,6 +22,7 @@ use Rattle.whole_run.specs.ScriptWalk.{act_of}
 use Rattle.whole_run.specs.Settings.{Setting, route}
 use Rattle.whole_run.specs.Steps.{Alters, Reads, Seals, Sets, Shows, Step, Writes, WritesPi}
 use Rattle.whole_run.specs.ReadsAs.{listed_in}
+use Rattle.whole_run.proofs.TupleFrames.{no as no_false}
 use Rattle.run_record.specs.BackedRun.{HasEnd, HasEntry, IsFound, IsInTurn, IsListedAs, OfRead, OfRequest, PassesIn, host_finds, host_lists, is_outside}
 use Rattle.run_record.specs.Records.{end_in, entry_for, entry_in}
 use Rattle.run_record.specs.TakenWalk.{carried_of, frame_in, landed_of, taken_act, taken_in, taken_out}
@@ -47,9 +48,6 @@ record Mirrors (m : Setting) (es : List Sent) (one other : Effect Answer) : Type
 
 no_some : {X : Type 0} {x : X} {P : Type 0} → Some x ≡ None → P
 no_some h = absurd (grind (arith, h))
-
-no_false : {P : Type 0} → false ≡ true → P
-no_false h = absurd (grind (arith, h))
 
 abbrev frame_or : Result (List ℕ) Why → List ℕ
 frame_or (Ok frame) = frame

@@ -1,7 +1,7 @@
 -- Addresses of devices that have the volume's type and block size: of each block of a request, where the op's shifts lead it, and of an overwrite.
 use Rattle.std.proofs.Common.{◌≡◌, ◌<◌, ◌≤◌, ◌⊎◌, inl, inr, ℕ, ◌+◌, true, false, not, ◌&&◌, ◌||◌, List, [], length, refl, sym, ap, ◌∙◌, subst, arith, ℤ, pos, Option, Some, None}
 use Rattle.std.specs.Prelude.{nat_le, nat_lt, eqb, slice_get}
-use Rattle.std.proofs.lemmas.Bool.{and_parts, eqb-true, leb-true, ltb-true, or_parts}
+use Rattle.std.proofs.lemmas.Bool.{and_parts, eqb-true, leb-true, ltb-true, or_parts, not-false}
 use Rattle.pi_tuple.specs.declared.checks.PiType.{PiType}
 use Rattle.pi_tuple.specs.declared.checks.PiType.TheVariants.{Zero as TypeZero, One as TypeOne, Two as TypeTwo, Three as TypeThree}
 use Rattle.fault_schedule.specs.Altered.{shift_of}
@@ -16,7 +16,7 @@ use Rattle.volume_table.specs.Tables.{IsOn, MadeFor, Table}
 use Rattle.script_lines.specs.declared.kind.ScriptKind.TheVariants.{BadFault}
 use Rattle.script_text.specs.declared.script.Script.{Script}
 use Rattle.script_text.specs.Bindings.{faults_fault, is_alterable, is_bad_change, is_on, is_type, op_fault, request_at}
-use Rattle.script_ground.proofs.Bodies.{if-none, true-of}
+use Rattle.script_ground.proofs.Bodies.{if-none}
 use Rattle.script_ground.proofs.Shifts.{IsClear, Lands, Stays, got, landed, one-shift, shift-stays, stays-put}
 
 -- ---- of a block of a request
@@ -65,7 +65,7 @@ all-led s t devices made few good i v n r w =
 
 -- ---- of an overwrite
 
-same-type : (a b : PiType) → is_type a b ≡ true → a ≡ b
+pub same-type : (a b : PiType) → is_type a b ≡ true → a ≡ b
 same-type TypeZero TypeZero h = refl
 same-type TypeZero TypeOne h = absurd cc
 same-type TypeZero TypeTwo h = absurd cc
@@ -112,10 +112,10 @@ pub record IsChange (devices : List DeviceInfo) (ty : PiType) (size dev lba : �
 copied-from : (t : Table) (devices : List DeviceInfo) (size : ℕ) (change : Change) → is_bad_change t devices size change ≡ false → (from at : ℕ) → change ≡ Copy from at → IsOn devices t.ty size from at 1
 copied-from t devices size change h from at e =
     let k = subst (λ (c : Change). is_bad_change t devices size c ≡ false) e h in
-    alterable devices t.ty size from at (true-of (is_alterable t.ty size at (slice_get devices from)) k)
+    alterable devices t.ty size from at (not-false (is_alterable t.ty size at (slice_get devices from)) k)
 
 pub good-change : (t : Table) (devices : List DeviceInfo) (size dev lba : ℕ) (change : Change) → op_fault t devices size (Overwrite dev lba change) ≡ None → IsChange devices t.ty size dev lba change
 good-change t devices size dev lba change h =
     let a = if-none (is_bad_change t devices size change || not (is_alterable t.ty size lba (slice_get devices dev))) BadFault None h in
     let b = or_parts (is_bad_change t devices size change) (not (is_alterable t.ty size lba (slice_get devices dev))) a.0 in
-    record { to = alterable devices t.ty size dev lba (true-of (is_alterable t.ty size lba (slice_get devices dev)) b.1); copied = copied-from t devices size change b.0 }
+    record { to = alterable devices t.ty size dev lba (not-false (is_alterable t.ty size lba (slice_get devices dev)) b.1); copied = copied-from t devices size change b.0 }

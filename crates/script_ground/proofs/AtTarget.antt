@@ -3,9 +3,10 @@ use Rattle.std.proofs.Common.{◌≡◌, ◌<◌, ◌≤◌, ℕ, zero, suc, ◌
 use Rattle.std.proofs.lemmas.Bool.{eq-eqb}
 use Rattle.std.proofs.lemmas.List.{length-drop}
 use Rattle.pi_tuple.specs.declared.checks.PiType.{PiType}
-use Rattle.fault_schedule.specs.Altered.{byte_at, shift_of, xored_from}
+use Rattle.fault_schedule.specs.Altered.{byte_at, shift_of}
 use Rattle.fault_schedule.specs.declared.fault.Crossing.TheVariants.{AdapterToTarget, MediumToTarget}
 use Rattle.fault_schedule.specs.declared.fault.FaultLine.{FaultLine}
+use Rattle.fault_schedule.proofs.Xored.{length-xored}
 use Rattle.target_answer.specs.Frames.{stored_size}
 use Rattle.target_answer.specs.Target.{Stored, shape_of}
 use Rattle.target_answer.specs.declared.units.UnitSpec.{UnitSpec}
@@ -70,14 +71,10 @@ told-long us ty size dev lba stored h =
 
 -- ---- a change
 
-xored-long : (name : ℕ → ℕ) (i : ℕ) (xs : List ℕ) → length (xored_from name i xs) ≡ length xs
-xored-long name i [] = refl
-xored-long name i (x ∷ xs) = ap suc (xored-long name (i + 1) xs)
-
 -- Where the block that is copied is as long as the one that it replaces, what is left is as long too.
 change-fits : (blocks : List (List ℕ)) (site : Site) (dev lba : ℕ) (change : Change) → ((from at : ℕ) → change ≡ Copy from at → length (get_or blocks (site.cell from at) []) ≡ length (get_or blocks (site.cell dev lba) [])) →
     (block : List ℕ) → keeps_size blocks (source_of site dev lba change) block ≡ true → keeps_size blocks (site.cell dev lba) (changed change block) ≡ true
-change-fits blocks site dev lba (Flip off bytes) same block h = subst (λ (n : ℕ). eqb n (length (get_or blocks (site.cell dev lba) [])) ≡ true) (sym (xored-long (byte_at off bytes) 0 block)) h
+change-fits blocks site dev lba (Flip off bytes) same block h = subst (λ (n : ℕ). eqb n (length (get_or blocks (site.cell dev lba) [])) ≡ true) (sym (length-xored (byte_at off bytes) 0 block)) h
 change-fits blocks site dev lba (Copy from at) same block h = subst (λ (n : ℕ). eqb (length block) n ≡ true) (same from at refl) h
 
 -- ---- ops

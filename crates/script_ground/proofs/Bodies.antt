@@ -1,33 +1,19 @@
 -- Data and tuples of an op that keeps the rules of its line.
 use Rattle.std.proofs.Common.{◌≡◌, ◌≤◌, ℕ, ◌*◌, Bool, true, false, not, ◌&&◌, ◌||◌, List, [], length, refl, ◌∙◌, arith, Option, Some, None}
-use Rattle.std.specs.Prelude.{nat_le, nat_lt, eqb, if◌then◌else◌, Ok}
-use Rattle.std.proofs.lemmas.Bool.{and_parts, eqb-true, leb-true}
+use Rattle.std.specs.Prelude.{nat_le, nat_lt, eqb, if◌then◌else◌}
+use Rattle.std.proofs.lemmas.Bool.{and_parts, eqb-true, leb-true, not-false}
 use Rattle.page_pool.specs.Places.{total}
 use Rattle.page_pool.specs.declared.segs.Seg.{Seg}
-use Rattle.script_lines.specs.declared.kind.ScriptKind.{ScriptKind}
 use Rattle.script_lines.specs.declared.kind.ScriptKind.TheVariants.{BadRange, BadSegments, SegOverlap, TooMany}
-use Rattle.stack_ops.specs.declared.op.Op.{Op}
-use Rattle.script_text.specs.Ops.{are_tuples, both_fault, data_fault, is_body, unless, where_inside}
+use Rattle.script_text.specs.Ops.{are_tuples, both_fault, data_fault, is_body}
 use Rattle.script_text.specs.Rules.{is_count}
 use Rattle.script_text.specs.Segments.{are_few_each, are_inside, are_whole_tuples, do_overlap}
 
 -- ---- tests and what they say
 
-pub true-of : (b : Bool) → not b ≡ false → b ≡ true
-true-of true h = refl
-true-of false h = absurd cc
-
 pub if-none : {X : Type 0} (b : Bool) (x : X) (o : Option X) → (if b then Some x else o) ≡ None → (b ≡ false) × (o ≡ None)
 if-none true x o h = absurd cc
 if-none false x o h = (refl, h)
-
-pub unless-ok : (o : Option ScriptKind) (op other : Op) → unless o op ≡ Ok other → o ≡ None
-unless-ok None op other h = refl
-unless-ok (Some k) op other h = absurd cc
-
-pub inside-ok : (b : Bool) (op other : Op) → where_inside b op ≡ Ok other → b ≡ true
-inside-ok true op other h = refl
-inside-ok false op other h = absurd cc
 
 -- ---- data, and tuples
 
@@ -69,7 +55,7 @@ alone-of pages size n body h =
     let b = if-none (not (is_count n)) BadRange _ a.1 in
     let c = if-none (not (is_body pages size n body)) BadSegments _ b.1 in
     let d = if-none (do_overlap body []) SegOverlap None c.1 in
-    record { body_is = body-of pages size n body (true-of (is_count n) b.0) (true-of (is_body pages size n body) c.0); overlap = d.0 }
+    record { body_is = body-of pages size n body (not-false (is_count n) b.0) (not-false (is_body pages size n body) c.0); overlap = d.0 }
 
 pub record AreBoth (pages size n : ℕ) (body tuples : List Seg) : Type 0 where
   pub body_is : IsBody pages size n body
@@ -82,5 +68,5 @@ both-of pages size n body tuples h =
     let b = if-none (not (is_count n)) BadRange _ a.1 in
     let c = if-none (not (is_body pages size n body && are_tuples pages n tuples)) BadSegments _ b.1 in
     let d = if-none (do_overlap body tuples) SegOverlap None c.1 in
-    let w = and_parts (is_body pages size n body) (are_tuples pages n tuples) (true-of (is_body pages size n body && are_tuples pages n tuples) c.0) in
-    record { body_is = body-of pages size n body (true-of (is_count n) b.0) w.0; tuples_are = tuples-of pages n tuples w.1; overlap = d.0 }
+    let w = and_parts (is_body pages size n body) (are_tuples pages n tuples) (not-false (is_body pages size n body && are_tuples pages n tuples) c.0) in
+    record { body_is = body-of pages size n body (not-false (is_count n) b.0) w.0; tuples_are = tuples-of pages n tuples w.1; overlap = d.0 }

@@ -1,13 +1,12 @@
 -- The ops of a bound script are bound to its pages: what its run asks of them, over a device that suits its blocks.
 use Rattle.std.proofs.Common.{◌≡◌, ◌<◌, ◌≤◌, ℕ, suc, ◌+◌, ◌*◌, Bool, true, false, ◌&&◌, List, [], ◌∷◌, ◌++◌, length, refl, sym, ap, ◌∙◌, subst, arith}
-use Rattle.std.specs.Prelude.{IfOk, Result, Ok, Err, nat_eq, nat_le, not}
+use Rattle.std.specs.Prelude.{nat_eq, nat_le, not}
 use Rattle.std.specs.List.{All, IsDistinct}
 use Rattle.std.proofs.lemmas.Bool.{and_parts}
 use Rattle.std.proofs.lemmas.List.Elements.{All-append}
 use Rattle.page_pool.specs.Places.{total}
 use Rattle.page_pool.specs.declared.segs.Seg.{Seg}
 use Rattle.range_gate.specs.Cells.{cells_of}
-use Rattle.bio_core.specs.declared.fate.Why.{Why}
 use Rattle.block_path.specs.Acts.{State}
 use Rattle.block_path.specs.Blocks.{Sent}
 use Rattle.block_path.specs.declared.mode.Mode.{Mode}
@@ -18,6 +17,7 @@ use Rattle.volume_table.specs.declared.device.DeviceInfo.{DeviceInfo}
 use Rattle.volume_table.specs.Tables.{Table}
 use Rattle.whole_run.specs.Settings.{Setting, block_of, route}
 use Rattle.run_moves.specs.BoundRun.{AllBound, AllSuit, IsBound, IsBoundRun, fates, rooms}
+use Rattle.run_moves.proofs.AtTarget.{fine_always}
 use Rattle.run_record.specs.ToldRun.{came_by, told}
 use Rattle.run_follows.specs.Finished.{FramesFit}
 use Rattle.run_follows.proofs.Over.{same_rooms}
@@ -26,15 +26,12 @@ use Rattle.script_text.specs.declared.script.Script.{Script}
 use Rattle.script_text.specs.Ops.{both_fault, data_fault}
 use Rattle.script_text.specs.Segments.{is_inside}
 use Rattle.script_laws.specs.Keeping.{Each}
+use Rattle.script_laws.proofs.OpForms.{no_fault, found_inside}
 use Rattle.script_ground.specs.Bound.{IsSettingOf}
 use Rattle.script_ground.specs.SuitsStack.{IsStackOp, SuitsStack}
-use Rattle.script_ground.proofs.Bodies.{AreBoth, alone-of, both-of, inside-ok, unless-ok}
+use Rattle.script_ground.proofs.Bodies.{AreBoth, alone-of, both-of}
 use Rattle.script_ground.proofs.Ops.{eights}
 use Rattle.script_ground.proofs.Segments.{cells-below, distinct-body, distinct-both, one-stands, stands}
-
-any-ok : (r : Result (List ℕ) Why) → IfOk r (λ stored. true ≡ true)
-any-ok (Ok stored) = refl
-any-ok (Err why) = tt
 
 pub has-tuples : (b : Bool) → (not b && true) ≡ false → b ≡ true
 has-tuples true h = refl
@@ -69,19 +66,19 @@ both-bound m fine dix pages size i v n body tuples z d b t h =
 bound-op : (m : Setting) (fine : ℕ → List ℕ → Bool) (dix : Bool) (pages size i : ℕ) (op : Op) → m.size ≡ size → m.mode.dix ≡ dix → IsStackOp dix pages size op → OpSuits m fine i op → IsBound m fine (4096 * pages) i op
 bound-op m fine dix pages size i (Fill seg byte) z d k h = tt
 bound-op m fine dix pages size i (Put page off bytes) z d k h = tt
-bound-op m fine dix pages size i (Show seg) z d k h = cells-below pages (seg ∷ []) (one-stands pages seg (and_parts (is_inside pages seg) (nat_le seg.len 64) (inside-ok (is_inside pages seg && nat_le seg.len 64) _ _ k.rules)).0)
+bound-op m fine dix pages size i (Show seg) z d k h = cells-below pages (seg ∷ []) (one-stands pages seg (and_parts (is_inside pages seg) (nat_le seg.len 64) (found_inside (is_inside pages seg && nat_le seg.len 64) _ _ k.rules)).0)
 bound-op m fine dix pages size i (Seal n body tuples app rtag) z d k h =
-    let b = both-of pages size n body tuples (unless-ok (both_fault pages size n body tuples) _ _ k.rules) in
+    let b = both-of pages size n body tuples (no_fault (both_fault pages size n body tuples) _ _ k.rules) in
     cells-below pages body (stands pages body b.body_is.inside)
 bound-op m fine dix pages size i (Write v n body app) z d k h =
-    let a = alone-of pages size n body (unless-ok (data_fault pages size n body) _ _ k.rules) in
+    let a = alone-of pages size n body (no_fault (data_fault pages size n body) _ _ k.rules) in
     (cells-below pages body (stands pages body a.body_is.inside), (a.body_is.long ∙ ap (λ x. n * x) (sym z), h))
 bound-op m fine dix pages size i (Fetch v n body) z d k h =
-    let a = alone-of pages size n body (unless-ok (data_fault pages size n body) _ _ k.rules) in
+    let a = alone-of pages size n body (no_fault (data_fault pages size n body) _ _ k.rules) in
     let p = stands pages body a.body_is.inside in
     (cells-below pages body p, (a.body_is.long ∙ ap (λ x. n * x) (sym z), (distinct-body pages body p a.overlap, h)))
-bound-op m fine dix pages size i (WritePi v n body tuples) z d k h = both-bound m fine dix pages size i v n body tuples z d (both-of pages size n body tuples (unless-ok (both_fault pages size n body tuples) _ _ k.rules)) (has-tuples dix k.integrity) h
-bound-op m fine dix pages size i (FetchPi v n body tuples) z d k h = both-bound m fine dix pages size i v n body tuples z d (both-of pages size n body tuples (unless-ok (both_fault pages size n body tuples) _ _ k.rules)) (has-tuples dix k.integrity) h
+bound-op m fine dix pages size i (WritePi v n body tuples) z d k h = both-bound m fine dix pages size i v n body tuples z d (both-of pages size n body tuples (no_fault (both_fault pages size n body tuples) _ _ k.rules)) (has-tuples dix k.integrity) h
+bound-op m fine dix pages size i (FetchPi v n body tuples) z d k h = both-bound m fine dix pages size i v n body tuples z d (both-of pages size n body tuples (no_fault (both_fault pages size n body tuples) _ _ k.rules)) (has-tuples dix k.integrity) h
 bound-op m fine dix pages size i (Overwrite dev lba change) z d k h = h
 bound-op m fine dix pages size i Wait z d k h = tt
 
@@ -107,7 +104,7 @@ suits-all m fine ops h = suits-each m fine 1 ops (λ j l. let z : suc j ≡ 1 + 
 
 module _ (m : Setting) (es : List Sent) (fit : FramesFit m es) where
   any-block : (i v n : ℕ) → AllSuit (told m es) (λ c block. true) i v n
-  any-block i v n k l = record { stores = λ frame e. any-ok (came_by es (route m (block_of i v k)).label); sends = λ stored e. fit (block_of i v k) }
+  any-block i v n k l = record { stores = λ frame e. fine_always (came_by es (route m (block_of i v k)).label); sends = λ stored e. fit (block_of i v k) }
 
   any-op : (i : ℕ) (op : Op) → OpSuits (told m es) (λ c block. true) i op
   any-op i (Fill seg byte) = tt

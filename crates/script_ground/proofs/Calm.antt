@@ -89,7 +89,7 @@ lies-in s t us b bytes = record {
 
 -- ---- ops
 
-are-bytes : (xs : List ℕ) → IsBytes xs → All (λ x. x < 256) xs
+pub are-bytes : (xs : List ℕ) → IsBytes xs → All (λ x. x < 256) xs
 are-bytes [] h = All-nil (λ (x : ℕ). x < 256)
 are-bytes (x ∷ xs) h = All-cons (λ (y : ℕ). y < 256) x xs (h 0) (are-bytes xs (λ i. h (suc i)))
 

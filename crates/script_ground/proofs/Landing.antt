@@ -16,7 +16,8 @@ use Rattle.whole_run.specs.ReadsAs.{read_op}
 use Rattle.script_text.specs.Ops.{both_fault, data_fault}
 use Rattle.script_text.specs.declared.script.Script.{Script}
 use Rattle.script_laws.specs.Keeping.{Each, IsOp as KeepsRules, Keeps}
-use Rattle.script_ground.proofs.Bodies.{AreBoth, alone-of, both-of, unless-ok}
+use Rattle.script_laws.proofs.OpForms.{no_fault}
+use Rattle.script_ground.proofs.Bodies.{AreBoth, alone-of, both-of}
 use Rattle.script_ground.proofs.BoundRuns.{has-tuples}
 use Rattle.script_ground.proofs.OverUnits.{at_first, over}
 use Rattle.script_ground.proofs.Rooms.{body-cells, both-cells, tuples-long}
@@ -41,9 +42,9 @@ app-room s t units n body tuples b dix = (b.body_is.long, (tuples-long s.pages s
 
 read-room : (s : Script) (t : Table) (units : List UnitSpec) (owner : Owner) (v n : ℕ) (body tuples : List Seg) → KeepsRules s.mode.dix s.pages s.block (read_op owner v n body tuples) → HasRoom (over s t units) (4096 * s.pages) owner n body tuples
 read-room s t units OfBlock v n body tuples k =
-    let a = alone-of s.pages s.block n body (unless-ok (data_fault s.pages s.block n body) _ _ k.rules) in
+    let a = alone-of s.pages s.block n body (no_fault (data_fault s.pages s.block n body) _ _ k.rules) in
     (a.body_is.long, body-cells s.pages s.block n body a)
-read-room s t units OfApp v n body tuples k = app-room s t units n body tuples (both-of s.pages s.block n body tuples (unless-ok (both_fault s.pages s.block n body tuples) _ _ k.rules)) (has-tuples s.mode.dix k.integrity)
+read-room s t units OfApp v n body tuples k = app-room s t units n body tuples (both-of s.pages s.block n body tuples (no_fault (both_fault s.pages s.block n body tuples) _ _ k.rules)) (has-tuples s.mode.dix k.integrity)
 
 pub room-of-read : (s : Script) (t : Table) (us : List Stored) (before after : List Op) (owner : Owner) (v n : ℕ) (body tuples : List Seg) → Keeps s → s.ops ≡ before ++ (read_op owner v n body tuples ∷ after)
     → HasRoom (over s t (shapes_of us)) (length (hidden (4096 * s.pages) (at_first s us)).bytes) owner n body tuples
@@ -55,4 +56,4 @@ pub room-of-write : (s : Script) (t : Table) (us : List Stored) (before after : 
 room-of-write s t us before after v n body tuples k e =
     let r = op-there s before (WritePi v n body tuples) after k e in
     subst (λ bytes. HasRoom (over s t (shapes_of us)) bytes OfApp n body tuples) (sym (pages-long s us))
-    (app-room s t (shapes_of us) n body tuples (both-of s.pages s.block n body tuples (unless-ok (both_fault s.pages s.block n body tuples) _ _ r.rules)) (has-tuples s.mode.dix r.integrity))
+    (app-room s t (shapes_of us) n body tuples (both-of s.pages s.block n body tuples (no_fault (both_fault s.pages s.block n body tuples) _ _ r.rules)) (has-tuples s.mode.dix r.integrity))

@@ -30,10 +30,11 @@ use Rattle.script_text.specs.Bindings.{at_line, op_fault, ops_fault, range_fault
 use Rattle.script_text.specs.Ops.{both_fault, data_fault}
 use Rattle.script_text.specs.Segments.{is_inside}
 use Rattle.script_laws.specs.Keeping.{Each}
+use Rattle.script_laws.proofs.OpForms.{no_fault, found_inside}
 use Rattle.script_ground.specs.Bound.{IsSettingOf}
 use Rattle.script_ground.specs.SuitsStack.{IsStackOp}
 use Rattle.stack_walks.specs.Seals.{IsSealed}
-use Rattle.script_ground.proofs.Bodies.{alone-of, both-of, if-none, inside-ok, unless-ok}
+use Rattle.script_ground.proofs.Bodies.{alone-of, both-of, if-none}
 use Rattle.script_ground.proofs.Places.{home-logged}
 use Rattle.script_ground.proofs.Segments.{cells-below, none-below, one-stands, pages-append, stands, touched-in-pages}
 
@@ -53,16 +54,16 @@ eights n bytes h = omega arith
 
 pub placed-op : (m : Setting) (t : Table) (devices : List DeviceInfo) (dix : Bool) (pages size : ℕ) (op : Op) → m.size ≡ size → m.entries ≡ t.entries → IsStackOp dix pages size op → op_fault t devices size op ≡ None → IsPlaced m (4096 * pages) op
 placed-op m t devices dix pages size (Fill seg byte) z e k h =
-    let st = one-stands pages seg (inside-ok (is_inside pages seg) _ _ k.rules) in
+    let st = one-stands pages seg (found_inside (is_inside pages seg) _ _ k.rules) in
     record { in_pages = touched-in-pages pages true (seg ∷ []) st; reads = none-below (4096 * pages); writes = cells-below pages (seg ∷ []) st; blocks = tt }
 placed-op m t devices dix pages size (Put page off bytes) z e k h =
-    let st = one-stands pages (put_seg page off bytes) (inside-ok (is_inside pages (put_seg page off bytes)) _ _ k.rules) in
+    let st = one-stands pages (put_seg page off bytes) (found_inside (is_inside pages (put_seg page off bytes)) _ _ k.rules) in
     record { in_pages = touched-in-pages pages true (put_seg page off bytes ∷ []) st; reads = none-below (4096 * pages); writes = cells-below pages (put_seg page off bytes ∷ []) st; blocks = tt }
 placed-op m t devices dix pages size (Show seg) z e k h =
-    let st = one-stands pages seg (and_parts (is_inside pages seg) (nat_le seg.len 64) (inside-ok (is_inside pages seg && nat_le seg.len 64) _ _ k.rules)).0 in
+    let st = one-stands pages seg (and_parts (is_inside pages seg) (nat_le seg.len 64) (found_inside (is_inside pages seg && nat_le seg.len 64) _ _ k.rules)).0 in
     record { in_pages = touched-in-pages pages false (seg ∷ []) st; reads = cells-below pages (seg ∷ []) st; writes = none-below (4096 * pages); blocks = tt }
 placed-op m t devices dix pages size (Seal n body tuples app rtag) z e k h =
-    let b = both-of pages size n body tuples (unless-ok (both_fault pages size n body tuples) _ _ k.rules) in
+    let b = both-of pages size n body tuples (no_fault (both_fault pages size n body tuples) _ _ k.rules) in
     let p = stands pages body b.body_is.inside in
     let q = stands pages tuples b.tuples_are.inside in
     record {
@@ -72,15 +73,15 @@ placed-op m t devices dix pages size (Seal n body tuples app rtag) z e k h =
       blocks = tt;
     }
 placed-op m t devices dix pages size (Write v n body app) z e k h =
-    let a = alone-of pages size n body (unless-ok (data_fault pages size n body) _ _ k.rules) in
+    let a = alone-of pages size n body (no_fault (data_fault pages size n body) _ _ k.rules) in
     let p = stands pages body a.body_is.inside in
     record { in_pages = touched-in-pages pages false body p; reads = cells-below pages body p; writes = none-below (4096 * pages); blocks = blocks-of m t size v n (total body) z e a.body_is.long (in-range t v n h) }
 placed-op m t devices dix pages size (Fetch v n body) z e k h =
-    let a = alone-of pages size n body (unless-ok (data_fault pages size n body) _ _ k.rules) in
+    let a = alone-of pages size n body (no_fault (data_fault pages size n body) _ _ k.rules) in
     let p = stands pages body a.body_is.inside in
     record { in_pages = touched-in-pages pages true body p; reads = none-below (4096 * pages); writes = cells-below pages body p; blocks = blocks-of m t size v n (total body) z e a.body_is.long (in-range t v n h) }
 placed-op m t devices dix pages size (WritePi v n body tuples) z e k h =
-    let b = both-of pages size n body tuples (unless-ok (both_fault pages size n body tuples) _ _ k.rules) in
+    let b = both-of pages size n body tuples (no_fault (both_fault pages size n body tuples) _ _ k.rules) in
     let p = stands pages body b.body_is.inside in
     let q = stands pages tuples b.tuples_are.inside in
     record {
@@ -90,7 +91,7 @@ placed-op m t devices dix pages size (WritePi v n body tuples) z e k h =
       blocks = (blocks-of m t size v n (total body) z e b.body_is.long (in-range t v n h), eights n (total tuples) b.tuples_are.long);
     }
 placed-op m t devices dix pages size (FetchPi v n body tuples) z e k h =
-    let b = both-of pages size n body tuples (unless-ok (both_fault pages size n body tuples) _ _ k.rules) in
+    let b = both-of pages size n body tuples (no_fault (both_fault pages size n body tuples) _ _ k.rules) in
     let p = stands pages body b.body_is.inside in
     let q = stands pages tuples b.tuples_are.inside in
     record {
@@ -104,7 +105,7 @@ placed-op m t devices dix pages size Wait z e k h = record { in_pages = tt; read
 
 -- ---- all ops
 
-line-none : (line : ℕ) (k : Option ScriptKind) (rest : Option ScriptFault) → at_line line k rest ≡ None → (k ≡ None) × (rest ≡ None)
+pub line-none : (line : ℕ) (k : Option ScriptKind) (rest : Option ScriptFault) → at_line line k rest ≡ None → (k ≡ None) × (rest ≡ None)
 line-none line None rest h = (refl, h)
 line-none line (Some k) rest h = absurd cc
 
@@ -139,10 +140,10 @@ kind-of dix pages size (Fill seg byte) k = inl tt
 kind-of dix pages size (Put page off bytes) k = inl tt
 kind-of dix pages size (Show seg) k = inl tt
 kind-of dix pages size (Seal n body tuples app rtag) k = inl tt
-kind-of dix pages size (Write v n body app) k = inr (at-least-one n (alone-of pages size n body (unless-ok (data_fault pages size n body) _ _ k.rules)).body_is.some)
-kind-of dix pages size (Fetch v n body) k = inr (at-least-one n (alone-of pages size n body (unless-ok (data_fault pages size n body) _ _ k.rules)).body_is.some)
-kind-of dix pages size (WritePi v n body tuples) k = inr (at-least-one n (both-of pages size n body tuples (unless-ok (both_fault pages size n body tuples) _ _ k.rules)).body_is.some)
-kind-of dix pages size (FetchPi v n body tuples) k = inr (at-least-one n (both-of pages size n body tuples (unless-ok (both_fault pages size n body tuples) _ _ k.rules)).body_is.some)
+kind-of dix pages size (Write v n body app) k = inr (at-least-one n (alone-of pages size n body (no_fault (data_fault pages size n body) _ _ k.rules)).body_is.some)
+kind-of dix pages size (Fetch v n body) k = inr (at-least-one n (alone-of pages size n body (no_fault (data_fault pages size n body) _ _ k.rules)).body_is.some)
+kind-of dix pages size (WritePi v n body tuples) k = inr (at-least-one n (both-of pages size n body tuples (no_fault (both_fault pages size n body tuples) _ _ k.rules)).body_is.some)
+kind-of dix pages size (FetchPi v n body tuples) k = inr (at-least-one n (both-of pages size n body tuples (no_fault (both_fault pages size n body tuples) _ _ k.rules)).body_is.some)
 kind-of dix pages size (Overwrite dev lba change) k = inl tt
 kind-of dix pages size Wait k = inl tt
 
@@ -153,7 +154,7 @@ seal-of m dix pages size (Fill seg byte) z k = tt
 seal-of m dix pages size (Put page off bytes) z k = tt
 seal-of m dix pages size (Show seg) z k = tt
 seal-of m dix pages size (Seal n body tuples app rtag) z k =
-    let b = both-of pages size n body tuples (unless-ok (both_fault pages size n body tuples) _ _ k.rules) in
+    let b = both-of pages size n body tuples (no_fault (both_fault pages size n body tuples) _ _ k.rules) in
     b.body_is.long ∙ ap (λ x. n * x) (sym z)
 seal-of m dix pages size (Write v n body app) z k = tt
 seal-of m dix pages size (Fetch v n body) z k = tt

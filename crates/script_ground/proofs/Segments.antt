@@ -1,5 +1,5 @@
 -- Segments inside the pages, by the cells of their bytes; and segments without a common byte.
-use Rattle.std.proofs.Common.{◌≡◌, ◌<◌, ℕ, ◌+◌, ◌*◌, Bool, true, false, ◌&&◌, List, [], ◌∷◌, ◌++◌, length, replicate, refl, sym, ap, ◌∙◌, subst, inl, inr, arith, append_assoc}
+use Rattle.std.proofs.Common.{◌≡◌, ◌<◌, ℕ, ◌+◌, ◌*◌, Bool, true, false, ◌&&◌, List, [], ◌∷◌, ◌++◌, length, replicate, refl, sym, ◌∙◌, subst, inl, inr, arith}
 use Rattle.std.specs.Prelude.{nat_eq, nat_le, nat_lt}
 use Rattle.std.specs.List.{All, IsDistinct, list_any}
 use Rattle.std.proofs.lemmas.Bool.{and_parts, leb-true, ltb-true, or_parts}
@@ -16,6 +16,7 @@ use Rattle.page_pool.proofs.Sharing.{exact}
 use Rattle.range_gate.specs.Cells.{AllInPages, cells_of}
 use Rattle.range_gate.specs.declared.footprint.Touch.{Touch}
 use Rattle.stack_ops.specs.Footprints.{touches}
+use Rattle.stack_ops.proofs.Sides.{places-append}
 use Rattle.script_text.specs.Segments.{any_share, are_inside, do_overlap, is_inside}
 
 -- ---- inside the pages
@@ -78,10 +79,6 @@ once-all [] h = tt
 once-all (s ∷ ss) h =
     let n = or_parts (list_any (shares s) ss) (any_share ss) h in
     once-append (places_of s) (places_in ss) (run-once s.page s.off s.len) (once-all ss n.1) (apart-all s ss n.0)
-
-places-append : (a b : List Seg) → places_in (a ++ b) ≡ places_in a ++ places_in b
-places-append [] b = refl
-places-append (s ∷ a) b = ap (λ ps. places_of s ++ ps) (places-append a b) ∙ sym (append_assoc (places_of s) (places_in a) (places_in b))
 
 pub once-both : (body tuples : List Seg) → do_overlap body tuples ≡ false → NoneTwice (places_in body ++ places_in tuples)
 once-both body tuples h = subst NoneTwice (places-append body tuples) (once-all (body ++ tuples) h)

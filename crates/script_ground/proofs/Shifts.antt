@@ -2,7 +2,7 @@
 use Rattle.std.proofs.Common.{◌≡◌, ◌<◌, ◌≤◌, ◌⊎◌, ℕ, zero, suc, ◌+◌, ◌-◌, Bool, true, false, not, ◌&&◌, ◌||◌, List, [], ◌∷◌, ◌++◌, length, refl, sym, ap, ◌∙◌, subst, inl, inr, arith, ℤ, pos, negsuc, ◌+ℤ◌, nat_abs, Option, Some, None}
 use Rattle.std.specs.Prelude.{nat_le, nat_lt, eqb, if◌then◌else◌, slice_get, unwrap_or}
 use Rattle.std.specs.List.{list_any}
-use Rattle.std.proofs.lemmas.Bool.{and_from, and_parts, eq-eqb, eqb-true, leb-true, ltb-true, or_left, or_parts, or_right, true≢false}
+use Rattle.std.proofs.lemmas.Bool.{and_from, and_parts, eq-eqb, eqb-true, leb-true, ltb-true, or_left, or_parts, or_right, true≢false, not-false}
 use Rattle.std.proofs.lemmas.List.Folds.{list_any-append}
 use Rattle.std.proofs.lemmas.Int.{ints}
 use Rattle.fault_schedule.specs.Altered.{is_same, moved_by, shift_of}
@@ -23,8 +23,9 @@ use Rattle.whole_run.specs.Settings.{Setting, block_of, route}
 use Rattle.run_moves.specs.OpsApart.{AreStoredApart}
 use Rattle.script_text.specs.declared.script.Script.{Script}
 use Rattle.script_text.specs.Bindings.{block_stays, blocks_stay, faults_fault, is_at_medium, is_bad_kind, is_bad_on, is_first_type, is_on, is_on_known, is_shift, request_at, shifts}
+use Rattle.script_text.proofs.Staying.{not_behind}
 use Rattle.script_ground.specs.Bound.{IsAddress, IsSettingOf}
-use Rattle.script_ground.proofs.Bodies.{if-none, true-of}
+use Rattle.script_ground.proofs.Bodies.{if-none}
 use Rattle.script_ground.proofs.Places.{place-there, same-pair}
 
 -- ---- an address that is so many blocks off
@@ -107,13 +108,6 @@ lands devices dev lba by h = known (slice_get devices dev) refl h
 
 -- ---- all blocks of a request
 
-not-behind : (len at : ℕ) → at < len → nat_le len at ≡ false
-not-behind len at h = by (nat_le len at) refl
-  where
-    by : (b : Bool) → nat_le len at ≡ b → b ≡ false
-    by true e = let g = leb-true len at e in absurd (omega arith)
-    by false e = refl
-
 inner : (behind here rest : Bool) → (if behind then true else (if here then rest else false)) ≡ true → behind ≡ false → (here ≡ true) × (rest ≡ true)
 inner true here rest h p = absurd cc
 inner false true rest h p = (refl, h)
@@ -122,11 +116,11 @@ inner false false rest h p = absurd cc
 stays-at : (t : Table) (devices : List DeviceInfo) (by : ℤ) (v n j : ℕ) → blocks_stay t devices by v n ≡ true → j < n → v + j < volume_len t.entries → block_stays t devices by (v + j) ≡ true
 stays-at t devices by v zero j h l w = absurd (omega arith)
 stays-at t devices by v (suc n) zero h l w =
-    let p = inner (nat_le (volume_len t.entries) v) (block_stays t devices by v) (blocks_stay t devices by (v + 1) n) h (not-behind (volume_len t.entries) v (omega arith)) in
+    let p = inner (nat_le (volume_len t.entries) v) (block_stays t devices by v) (blocks_stay t devices by (v + 1) n) h (not_behind (volume_len t.entries) v (omega arith)) in
     let e : v ≡ v + 0 = omega arith in
     subst (λ (u : ℕ). block_stays t devices by u ≡ true) e p.0
 stays-at t devices by v (suc n) (suc j) h l w =
-    let p = inner (nat_le (volume_len t.entries) v) (block_stays t devices by v) (blocks_stay t devices by (v + 1) n) h (not-behind (volume_len t.entries) v (omega arith)) in
+    let p = inner (nat_le (volume_len t.entries) v) (block_stays t devices by v) (blocks_stay t devices by (v + 1) n) h (not_behind (volume_len t.entries) v (omega arith)) in
     let e : v + 1 + j ≡ v + suc j = omega arith in
     subst (λ (u : ℕ). block_stays t devices by u ≡ true) e (stays-at t devices by (v + 1) n j p.1 (omega arith) (omega arith))
 
@@ -156,7 +150,7 @@ good-shift t devices was f v n by h k =
     let c = or_parts (not (is_first_type t.ty)) (is_at_medium f.at || (was || not (blocks_stay t devices by v n))) b in
     let d = or_parts (is_at_medium f.at) (was || not (blocks_stay t devices by v n)) c.1 in
     let e = or_parts was (not (blocks_stay t devices by v n)) d.1 in
-    record { first = e.0; stays = true-of (blocks_stay t devices by v n) e.1 }
+    record { first = e.0; stays = not-false (blocks_stay t devices by v n) e.1 }
 
 -- the line is of the op and shifts it
 record Shifts (mine : Bool) (kind : FaultKind) (found : ℤ) : Type 0 where

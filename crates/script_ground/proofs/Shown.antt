@@ -27,9 +27,10 @@ use Rattle.script_text.specs.Bindings.{op_fault, request_of}
 use Rattle.script_text.specs.Ops.{both_fault, data_fault}
 use Rattle.script_text.specs.declared.script.Script.{Script}
 use Rattle.script_laws.specs.Keeping.{Each, IsFault, IsKind, IsOp as KeepsRules, IsShift}
+use Rattle.script_laws.proofs.OpForms.{no_fault}
 use Rattle.script_ground.proofs.Addresses.{AreLed, all-led, good-change}
 use Rattle.script_ground.proofs.AtTarget.{told-long}
-use Rattle.script_ground.proofs.Bodies.{alone-of, both-of, unless-ok}
+use Rattle.script_ground.proofs.Bodies.{alone-of, both-of}
 use Rattle.script_ground.proofs.Calm.{tag-fits}
 use Rattle.script_ground.proofs.Ops.{in-range, placed-op}
 use Rattle.script_ground.proofs.OverUnits.{IsBoundOver, at_first, cell-there, faults-fine, few-faults, on-address, op-fine, op-keeps, over, own-setting}
@@ -80,14 +81,14 @@ binds-op s t us i (Seal n body tuples app rtag) k h r = tt
 binds-op s t us i (Write v n body app) k h r =
     ((placed-op (over s t (shapes_of us)) t (map info_of (shapes_of us)) s.mode.dix s.pages s.block (Write v n body app) refl refl (stack-op s.mode.dix s.pages s.block (Write v n body app) k) h).blocks, (tag-fits app k.ranges.1, (r v n refl (in-range t v n h)).near))
 binds-op s t us i (Fetch v n body) k h r =
-    let a = alone-of s.pages s.block n body (unless-ok (data_fault s.pages s.block n body) _ _ k.rules) in
+    let a = alone-of s.pages s.block n body (no_fault (data_fault s.pages s.block n body) _ _ k.rules) in
     let x = r v n refl (in-range t v n h) in
     ((placed-op (over s t (shapes_of us)) t (map info_of (shapes_of us)) s.mode.dix s.pages s.block (Fetch v n body) refl refl (stack-op s.mode.dix s.pages s.block (Fetch v n body) k) h).blocks, (body-cells s.pages s.block n body a, (x.near, x.fetched)))
 binds-op s t us i (WritePi v n body tuples) k h r =
     let p = (placed-op (over s t (shapes_of us)) t (map info_of (shapes_of us)) s.mode.dix s.pages s.block (WritePi v n body tuples) refl refl (stack-op s.mode.dix s.pages s.block (WritePi v n body tuples) k) h).blocks in
     (p.0, (p.1, (r v n refl (in-range t v n h)).near))
 binds-op s t us i (FetchPi v n body tuples) k h r =
-    let b = both-of s.pages s.block n body tuples (unless-ok (both_fault s.pages s.block n body tuples) _ _ k.rules) in
+    let b = both-of s.pages s.block n body tuples (no_fault (both_fault s.pages s.block n body tuples) _ _ k.rules) in
     let p = (placed-op (over s t (shapes_of us)) t (map info_of (shapes_of us)) s.mode.dix s.pages s.block (FetchPi v n body tuples) refl refl (stack-op s.mode.dix s.pages s.block (FetchPi v n body tuples) k) h).blocks in
     let x = r v n refl (in-range t v n h) in
     (p.0, (p.1, (both-cells s.pages s.block n body tuples b, (x.near, x.fetched))))
@@ -110,10 +111,10 @@ all-bind s t us b = binds-each (over s t (shapes_of us)) (map info_of (shapes_of
 
 -- ---- devices
 
-lies-on : (s : Script) (t : Table) (us : List Stored) → IsBoundOver s t us → LiesOn (over s t (shapes_of us)) (map info_of (shapes_of us))
+pub lies-on : (s : Script) (t : Table) (us : List Stored) → IsBoundOver s t us → LiesOn (over s t (shapes_of us)) (map info_of (shapes_of us))
 lies-on s t us b = record { inside = b.made.inside; alone = b.made.alone }
 
-has-cells : (s : Script) (t : Table) (us : List Stored) → IsBoundOver s t us → HasCells (over s t (shapes_of us)) (map info_of (shapes_of us)) (blocks_told us)
+pub has-cells : (s : Script) (t : Table) (us : List Stored) → IsBoundOver s t us → HasCells (over s t (shapes_of us)) (map info_of (shapes_of us)) (blocks_told us)
 has-cells s t us b =
     let devices = map info_of (shapes_of us) in
     record {

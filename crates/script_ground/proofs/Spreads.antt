@@ -13,9 +13,10 @@ use Rattle.stack_walks.specs.Spots.{op_in as op_at}
 use Rattle.script_text.specs.Bindings.{op_fault, request_at, request_by, request_of}
 use Rattle.script_text.specs.Ops.{both_fault, data_fault}
 use Rattle.script_ground.specs.SuitsStack.{IsStackOp}
-use Rattle.script_ground.proofs.Bodies.{alone-of, both-of, unless-ok}
+use Rattle.script_ground.proofs.Bodies.{alone-of, both-of}
 use Rattle.script_ground.proofs.Ops.{in-range}
 use Rattle.script_ground.proofs.Segments.{distinct-body, distinct-both, stands}
+use Rattle.script_laws.proofs.OpForms.{no_fault}
 
 pub got-op : (ops : List Op) (i : ℕ) → i < length ops → slice_get ops i ≡ Some (op_at ops i)
 got-op [] i l = absurd (omega arith)
@@ -36,13 +37,13 @@ spread-op m t devices dix pages size i (Show seg) k h s l = absurd (omega arith)
 spread-op m t devices dix pages size i (Seal n body tuples app rtag) k h s l = absurd (omega arith)
 spread-op m t devices dix pages size i (Write v n body app) k h s l = s v n refl (in-range t v n h)
 spread-op m t devices dix pages size i (Fetch v n body) k h s l =
-    let a = alone-of pages size n body (unless-ok (data_fault pages size n body) _ _ k.rules) in
+    let a = alone-of pages size n body (no_fault (data_fault pages size n body) _ _ k.rules) in
     distinct-body pages body (stands pages body a.body_is.inside) a.overlap
 spread-op m t devices dix pages size i (WritePi v n body tuples) k h s l =
-    let b = both-of pages size n body tuples (unless-ok (both_fault pages size n body tuples) _ _ k.rules) in
+    let b = both-of pages size n body tuples (no_fault (both_fault pages size n body tuples) _ _ k.rules) in
     (s v n refl (in-range t v n h), distinct-both pages body tuples (stands pages body b.body_is.inside) (stands pages tuples b.tuples_are.inside) b.overlap)
 spread-op m t devices dix pages size i (FetchPi v n body tuples) k h s l =
-    let b = both-of pages size n body tuples (unless-ok (both_fault pages size n body tuples) _ _ k.rules) in
+    let b = both-of pages size n body tuples (no_fault (both_fault pages size n body tuples) _ _ k.rules) in
     distinct-both pages body tuples (stands pages body b.body_is.inside) (stands pages tuples b.tuples_are.inside) b.overlap
 spread-op m t devices dix pages size i (Overwrite dev lba change) k h s l = absurd (omega arith)
 spread-op m t devices dix pages size i Wait k h s l = absurd (omega arith)

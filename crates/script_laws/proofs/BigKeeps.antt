@@ -1,6 +1,7 @@
 use Rattle.std.proofs.Common.{ℕ, zero, suc, ◌≡◌, inl, ◌+◌, ◌-◌, ◌*◌, ◌%◌, ◌^◌, ◌<◌, ◌≤◌, ◌&&◌, Bool, true, false, not, eqb, ltb, leb, min, List, [], ◌∷◌, length, Some, None, Ok, refl, ap, ◌∙◌, arith}
 use Rattle.std.specs.Prelude.{if◌then◌else◌, unwrap_or}
 use Rattle.std.proofs.lemmas.Bool.Decides.{nat_tests}
+use Rattle.std.proofs.lemmas.Bool.{and_from}
 use Rattle.page_pool.specs.declared.segs.Seg.{Seg}
 use Rattle.page_pool.specs.Cuts.{cut, past, upto}
 use Rattle.stack_ops.specs.declared.op.Op.{Op}
@@ -41,13 +42,9 @@ past_few at s = by (ltb at s.len)
 is_four : (n : ℕ) → n ≤ 4 → leb n 4 ≡ true
 is_four n h = grind (arith, nat_tests)
 
-both : (a b : Bool) → a ≡ true → b ≡ true → a && b ≡ true
-both true b g h = h
-both false b g h = g
-
 few_of_one : (size at n : ℕ) (s : Seg) → few_from size at n (s ∷ []) ≡ true
 few_of_one size at zero s = refl
-few_of_one size at (suc n) s = both (leb (length (cut (s ∷ []) at size)) 4) (few_from size (at + size) n (s ∷ [])) (is_four (length (cut (s ∷ []) at size)) (upto_few size (past at (s ∷ [])) (past_few at s))) (few_of_one size (at + size) n s)
+few_of_one size at (suc n) s = and_from (leb (length (cut (s ∷ []) at size)) 4) (few_from size (at + size) n (s ∷ [])) (is_four (length (cut (s ∷ []) at size)) (upto_few size (past at (s ∷ [])) (past_few at s))) (few_of_one size (at + size) n s)
 
 inside_one : (page len : ℕ) → page < 64 → 1 ≤ len → len ≤ 4096 → is_inside 64 (page_start page len) ≡ true
 inside_one page len p l m = grind (arith, nat_tests)
@@ -57,9 +54,9 @@ same_total n = grind (arith, nat_tests)
 
 body_is : (page n : ℕ) → page < 64 → 1 ≤ n → n ≤ 8 → is_body 64 512 n (page_start page (512 * n) ∷ []) ≡ true
 body_is page n p l m =
-    both (is_inside 64 (page_start page (512 * n)) && true) (eqb (512 * n + 0) (512 * n) && are_few_each 512 n (page_start page (512 * n) ∷ []))
-    (both (is_inside 64 (page_start page (512 * n))) true (inside_one page (512 * n) p (omega (arith, l)) (omega (arith, m))) refl)
-    (both (eqb (512 * n + 0) (512 * n)) (are_few_each 512 n (page_start page (512 * n) ∷ [])) (same_total n) (few_of_one 512 0 n (page_start page (512 * n))))
+    and_from (is_inside 64 (page_start page (512 * n)) && true) (eqb (512 * n + 0) (512 * n) && are_few_each 512 n (page_start page (512 * n) ∷ []))
+    (and_from (is_inside 64 (page_start page (512 * n))) true (inside_one page (512 * n) p (omega (arith, l)) (omega (arith, m))) refl)
+    (and_from (eqb (512 * n + 0) (512 * n)) (are_few_each 512 n (page_start page (512 * n) ∷ [])) (same_total n) (few_of_one 512 0 n (page_start page (512 * n))))
 
 count_is : (n : ℕ) → 1 ≤ n → n ≤ 8 → is_count n ≡ true
 count_is n l m = grind (arith, nat_tests)
@@ -71,7 +68,7 @@ no_data_fault page n p l m =
 same_zero : (a : ℕ) → eqb a 0 ≡ true → 0 ≡ a
 same_zero a h = grind (arith, nat_tests)
 
-tag_twice : (app : ℕ) → unwrap_or (tag_of app) 0 ≡ app
+pub tag_twice : (app : ℕ) → unwrap_or (tag_of app) 0 ≡ app
 tag_twice app = by (eqb app 0) refl
   where
     by : (b : Bool) → eqb app 0 ≡ b → unwrap_or (if b then None else Some app) 0 ≡ app

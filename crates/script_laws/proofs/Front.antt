@@ -1,6 +1,6 @@
 use Rattle.std.proofs.Common.{ℕ, ◌≡◌, ◌⊎◌, inl, inr, ◌^◌, ◌<◌, ◌||◌, Bool, true, false, not, eqb, List, [], ◌∷◌, ◌++◌, Some, None, refl, sym, ap, ◌∙◌, arith, append_assoc, append-nil}
 use Rattle.std.specs.Prelude.{codes, decimal, if◌then◌else◌}
-use Rattle.std.proofs.lemmas.Bool.Decides.{nat_tests}
+use Rattle.std.proofs.lemmas.Bool.{eqb-true}
 use Rattle.block_path.specs.declared.mode.Mode.{Mode}
 use Rattle.merge_queue.specs.declared.Limits.{Limits}
 use Rattle.pi_guard.specs.declared.GuardKind.{GuardKind}
@@ -25,7 +25,7 @@ use Rattle.script_laws.proofs.Words.{tag_word}
 
 -- the lines before the volume
 
-within_word : (low high n : ℕ) → high < 2 ^ 64 → IsWithin low high n → IsWord (decimal n)
+pub within_word : (low high n : ℕ) → high < 2 ^ 64 → IsWithin low high n → IsWord (decimal n)
 within_word low high n s h = let m = h.high_is in decimal_word n (omega (arith, m, s))
 
 guard_is_word : (kind : GuardKind) → IsWord (guard_word kind)
@@ -124,9 +124,6 @@ pub record Fronted (s : Script) (rest : List ℕ) : Type 0 where
   pub step : Step 1 (front_text s ++ rest) nothing_read number rest (fronted s expect is_new place)
   pub volume : is_behind is_new LinearVerb (Some place) ≡ true
 
-same_of : (a b : ℕ) → eqb a b ≡ true → a ≡ b
-same_of a b h = grind (arith, nat_tests)
-
 first_front : (b : Bool) (s : Script) (rest : List ℕ) → IsMode s.mode → AreLimits s.limits → IsWithin 1 256 s.pages
     → Step 1 (version_text b ++ (mode_text s.mode ++ (limits_text s.limits ++ (pages_text s.pages ++ rest)))) nothing_read 5 rest (at_pages b s.mode s.limits s.pages)
 first_front b s rest m l p =
@@ -137,14 +134,14 @@ first_front b s rest m l p =
 regroup : (v m l p n rest : List ℕ) → (v ++ (m ++ (l ++ (p ++ n)))) ++ rest ≡ v ++ (m ++ (l ++ (p ++ (n ++ rest))))
 regroup v m l p n rest = simp append_assoc
 
-parts_false : (a b : Bool) → not a || not b ≡ false → (a ≡ true) × (b ≡ true)
+pub parts_false : (a b : Bool) → not a || not b ≡ false → (a ≡ true) × (b ≡ true)
 parts_false true true h = (refl, refl)
 parts_false true false h = absurd (cc)
 parts_false false b h = absurd (cc)
 
 by_mask : (z : Bool) (s : Script) (rest : List ℕ) → eqb s.mode.mask 0 ≡ z → IsMode s.mode → AreLimits s.limits → IsWithin 1 256 s.pages → (s.block ≡ 512) ⊎ (s.block ≡ 4096) → is_version_two s.block s.mode.mask ≡ true → Fronted s rest
 by_mask true s rest z m l p k v =
-    let none = same_of s.mode.mask 0 z in
+    let none = eqb-true s.mode.mask 0 z in
     let app = m.unmasked none in
     let text : front_text s ++ rest ≡ version_text true ++ (mode_text s.mode ++ (limits_text s.limits ++ (pages_text s.pages ++ (block_text s.block ++ rest)))) =
     ap (λ b. (version_text b ++ (mode_text s.mode ++ (limits_text s.limits ++ (pages_text s.pages ++ (if b then new_text s.block s.mode.app s.mode.mask else []))))) ++ rest) v
@@ -187,8 +184,8 @@ by_version : (v : Bool) (s : Script) (rest : List ℕ) → is_version_two s.bloc
 by_version true s rest v m l p k = by_mask (eqb s.mode.mask 0) s rest refl m l p k v
 by_version false s rest v m l p k =
     let old = parts_false (eqb s.block 512) (eqb s.mode.mask 0) v in
-    let size = same_of s.block 512 old.0 in
-    let none = same_of s.mode.mask 0 old.1 in
+    let size = eqb-true s.block 512 old.0 in
+    let none = eqb-true s.mode.mask 0 old.1 in
     let app = m.unmasked none in
     let text : front_text s ++ rest ≡ version_text false ++ (mode_text s.mode ++ (limits_text s.limits ++ (pages_text s.pages ++ rest))) =
     ap (λ b. (version_text b ++ (mode_text s.mode ++ (limits_text s.limits ++ (pages_text s.pages ++ (if b then new_text s.block s.mode.app s.mode.mask else []))))) ++ rest) v

@@ -18,6 +18,7 @@ use Rattle.script_text.specs.declared.fault.ScriptFault.{ScriptFault}
 use Rattle.script_text.specs.declared.script.Script.{Script}
 use Rattle.script_text.specs.Language.{at_end, at_place, end_fault, finished, go_on, header_taken, is_behind, is_comment, line_taken, lines_read, nothing_read, script_in, taken, text_taken, unless_broken, verb_taken, version_of, words_behind, words_taken}
 use Rattle.script_text.specs.Rules.{broken_rule}
+use Rattle.script_text.proofs.Filled.{and_second}
 use Rattle.script_laws.specs.Keeping.{Each, IsFault, Keeps}
 use Rattle.script_laws.proofs.FormsGive.{Numbers, fill_gives, overwrite_gives, put_gives, read_gives, readpi_gives, seal_gives, show_gives, write_gives, writepi_gives}
 use Rattle.script_laws.proofs.Held.{Goes, Held, InOrder, IsRaw, goes, length_both, nothing_held, number_of}
@@ -69,13 +70,9 @@ line_kept n verb words d e h g t =
     let c = no_rule (broken_rule d a.0) (taken n a.0 d) b.0 b.1 in
     subst Held (sym (ok_draft (record b.0 { place = Some (place_of verb) }) e b.2)) (verb_kept verb n words d b.0 h g a.0 a.1 (rules_of d a.0 c.0) c.1)
 
-right_part : (a b : Bool) → a && b ≡ true → b ≡ true
-right_part true b h = h
-right_part false b h = absurd (cc)
-
 may_come : (is_new : Bool) (verb : Verb) (place : Option Place) → is_behind is_new verb place ≡ true → Goes (number_of place) (place_number (place_of verb))
 may_come is_new verb None h = absurd (cc)
-may_come is_new verb (Some p) h = goes p (place_of verb) is_new (right_part (is_new || not (is_new_verb verb)) (comes_before p (place_of verb) is_new) h)
+may_come is_new verb (Some p) h = goes p (place_of verb) is_new (and_second (is_new || not (is_new_verb verb)) (comes_before p (place_of verb) is_new) h)
 
 where_in_place : (b : Bool) (n : ℕ) (verb : Verb) (words : List (List ℕ)) (d e : Drafted) → Held d → is_behind d.is_new verb d.place ≡ b → (if b then line_taken n verb words d else Err OutOfPlace) ≡ Ok e → Held e
 where_in_place true n verb words d e h b t = line_kept n verb words d e h (may_come d.is_new verb d.place b) t

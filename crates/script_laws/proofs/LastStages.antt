@@ -1,6 +1,6 @@
 use Rattle.std.proofs.Common.{ℕ, suc, ◌≡◌, ◌+◌, ◌<◌, ◌≤◌, ◌||◌, Bool, true, false, eqb, ltb, leb, List, [], ◌∷◌, ◌++◌, length, Option, Some, None, Ok, refl, sym, ap, ◌∙◌, arith, append_assoc, append-nil}
 use Rattle.std.specs.Prelude.{codes, decimal, if◌then◌else◌}
-use Rattle.std.proofs.lemmas.Bool.Decides.{nat_tests}
+use Rattle.std.proofs.lemmas.Bool.{le-ltb, lt-leb}
 use Rattle.stack_ops.specs.declared.op.Op.{Op}
 use Rattle.script_words.specs.Cuts.{lines_of}
 use Rattle.script_lines.specs.declared.kind.ScriptKind.TheVariants.{TooMany, NoIntegrity}
@@ -26,14 +26,9 @@ use Rattle.script_laws.proofs.OpForms.{Readable, op_are_words, op_back, readable
 use Rattle.script_laws.proofs.Places.{pair_word}
 use Rattle.script_laws.proofs.Stages.{length-snoc, next_number, numbered, placed}
 use Rattle.script_laws.proofs.Steps.{Step, behind, from_text, joined, line_step, stay, to_draft, to_number, verb_step}
+use Rattle.volume_tree.proofs.Following.{together as add_assoc}
 
 -- the schedule, the beginning and the ops
-
-not_above : (a b : ℕ) → b < a → leb a b ≡ false
-not_above a b h = grind (arith, nat_tests)
-
-below_most : (a b : ℕ) → b ≤ a → ltb a b ≡ false
-below_most a b h = grind (arith, nat_tests)
 
 choice_word_by : (b : Bool) (e : ℕ × ℕ) → IsChoice e → IsWord (if b then decimal e.0 else decimal e.0 ++ (47 ∷ decimal e.1))
 choice_word_by true e h = let f = h.0 in decimal_word e.0 (omega (arith, f))
@@ -46,7 +41,7 @@ choice_step n e rest d place h p b few =
     from_text n _ _ d (n + 1) rest _ (choice_line e rest)
     (line_step n (codes "schedule" ∷ choice_text e ∷ []) rest d _ (record { clean_is = refl; filled_is = refl }, (choice_word_by (eqb e.1 0) e h, tt))
     (verb_step n (codes "schedule") (choice_text e ∷ []) d ScheduleVerb place (ScheduleLine (e ∷ [])) (record d { schedule = d.schedule ++ (e ∷ []) }) refl refl p b (schedule_back e h)
-    (ap (λ b. if b then Some TooMany else None) (below_most 16384 (length d.schedule + 1) (omega (arith, few)))) refl))
+    (ap (λ b. if b then Some TooMany else None) (le-ltb 16384 (length d.schedule + 1) (omega (arith, few)))) refl))
 
 more_choices : (es : List (ℕ × ℕ)) (n : ℕ) (rest : List ℕ) (d : Drafted) → Each IsChoice es → d.place ≡ Some AtSchedule → length d.schedule + length es ≤ 16384
     → Step n (schedule_text es ++ rest) d (n + length es) rest (record d { schedule = d.schedule ++ es; place = Some AtSchedule })
@@ -136,13 +131,10 @@ op_step n op rest d place g l s h p c few most =
     (verb_step n (op_word (line_of op)) (op_words_behind (line_of op)) d (verb_for (line_of op)) place (AnOp (line_of op)) next (no_comment (line_of op)) (verb_is (line_of op)) p
     (ap (is_behind d.is_new (verb_for (line_of op))) p ∙ op_behind d.is_new (line_of op) place c) (op_back d.block (line_of op) s r)
     (ap (λ b. if b then Some NoIntegrity else (if leb 1024 (length d.ops) || ltb 16384 (d.blocks + request_blocks (line_of op)) then Some TooMany else None)) h.integrity
-    ∙ ap (λ b. if b || ltb 16384 (d.blocks + request_blocks (line_of op)) then Some TooMany else None) (not_above 1024 (length d.ops) few)
-    ∙ ap (λ b. if b then Some TooMany else None) (below_most 16384 (d.blocks + request_blocks (line_of op)) most))
+    ∙ ap (λ b. if b || ltb 16384 (d.blocks + request_blocks (line_of op)) then Some TooMany else None) (lt-leb 1024 (length d.ops) few)
+    ∙ ap (λ b. if b then Some TooMany else None) (le-ltb 16384 (d.blocks + request_blocks (line_of op)) most))
     (ap (λ x. x >>= with_op n (line_of op) d) h.rules)
     ∙ ap (λ q. Ok (record next { place = q })) (op_place (line_of op))))
-
-add_assoc : (a b c : ℕ) → (a + b) + c ≡ a + (b + c)
-add_assoc a b c = omega arith
 
 no_more : (a : ℕ) → a ≡ a + 0
 no_more a = omega arith

@@ -2,6 +2,7 @@ use Rattle.std.proofs.Common.{ℕ, zero, suc, ◌≡◌, ◌*◌, ◌^◌, ◌<�
 use Rattle.std.specs.Prelude.{codes, decimal, if◌then◌else◌}
 use Rattle.std.specs.Int.{to_be_bytes, w16, w32}
 use Rattle.std.proofs.lemmas.Bool.Decides.{nat_tests}
+use Rattle.std.proofs.lemmas.Bool.{eqb-true, not-false}
 use Rattle.hex.specs.Hex.{IsBytes, encode_lower}
 use Rattle.page_pool.specs.declared.segs.Seg.{Seg}
 use Rattle.page_pool.specs.Places.{total}
@@ -21,13 +22,15 @@ use Rattle.script_text.specs.Ops.{are_tuples, both_fault, data_fault, is_body, o
 use Rattle.script_text.specs.Printed.{seg_text, segs_text}
 use Rattle.script_text.specs.Rules.{is_count}
 use Rattle.script_text.specs.Segments.{are_few_each, are_inside, are_whole_tuples, is_inside}
+use Rattle.script_text.proofs.Filled.{and_first, and_second}
 use Rattle.script_laws.specs.Clean.{AreWords, IsWord}
 use Rattle.script_laws.specs.Keeping.{InRange, IsFlip, IsTag}
 use Rattle.script_laws.specs.Lines.{app_words, flip_words, op_word, op_words_behind}
-use Rattle.script_laws.proofs.Clean.{decimal_word, left_of, right_of}
+use Rattle.script_laws.proofs.Clean.{decimal_word}
 use Rattle.script_laws.proofs.Forms.{flip_back, some_byte, value_is}
 use Rattle.script_laws.proofs.Places.{AreSegs, IsSeg, pair_word, seg_back, seg_word, segs_back, segs_word, spot_back, word32_back, word64_back}
 use Rattle.script_laws.proofs.Words.{byte_back, byte_word, hex_back, hex_word, long_tag_back, long_tag_word, tag_back, tag_word}
+use Rattle.script_laws.proofs.Kept.{unbroken}
 
 -- each op's words are read as its line
 
@@ -58,40 +61,29 @@ inside_seg pages s p h = record {
 
 inside_segs : (pages : ℕ) (segs : List Seg) → pages ≤ 256 → are_inside pages segs ≡ true → AreSegs segs
 inside_segs pages [] p h = tt
-inside_segs pages (s ∷ segs) p h = (inside_seg pages s p (left_of (is_inside pages s) (are_inside pages segs) h), inside_segs pages segs p (right_of (is_inside pages s) (are_inside pages segs) h))
-
-same_of : (a b : ℕ) → eqb a b ≡ true → a ≡ b
-same_of a b h = grind (arith, nat_tests)
+inside_segs pages (s ∷ segs) p h = (inside_seg pages s p (and_first (is_inside pages s) (are_inside pages segs) h), inside_segs pages segs p (and_second (is_inside pages s) (are_inside pages segs) h))
 
 some_total : (segs : List Seg) (size n : ℕ) → 1 ≤ size → 1 ≤ n → eqb (total segs) (size * n) ≡ true → 1 ≤ length segs
 some_total [] zero n a b h = absurd (omega arith)
 some_total [] (suc size) zero a b h = absurd (omega arith)
-some_total [] (suc size) (suc n) a b h = let e = same_of 0 (suc size * suc n) h in absurd (omega (arith, e))
+some_total [] (suc size) (suc n) a b h = let e = eqb-true 0 (suc size * suc n) h in absurd (omega (arith, e))
 some_total (s ∷ segs) size n a b h = omega arith
 
 body_listed : (pages size n : ℕ) (body : List Seg) → pages ≤ 256 → 1 ≤ size → 1 ≤ n → is_body pages size n body ≡ true → AreListed body
 body_listed pages size n body p s c h =
-    let rest = right_of (are_inside pages body) (eqb (total body) (size * n) && are_few_each size n body) h in
-    (inside_segs pages body p (left_of (are_inside pages body) (eqb (total body) (size * n) && are_few_each size n body) h), some_total body size n s c (left_of (eqb (total body) (size * n)) (are_few_each size n body) rest))
+    let rest = and_second (are_inside pages body) (eqb (total body) (size * n) && are_few_each size n body) h in
+    (inside_segs pages body p (and_first (are_inside pages body) (eqb (total body) (size * n) && are_few_each size n body) h), some_total body size n s c (and_first (eqb (total body) (size * n)) (are_few_each size n body) rest))
 
 tuples_listed : (pages n : ℕ) (tuples : List Seg) → pages ≤ 256 → 1 ≤ n → are_tuples pages n tuples ≡ true → AreListed tuples
 tuples_listed pages n tuples p c h =
-    let rest = right_of (are_inside pages tuples) (eqb (total tuples) (8 * n) && are_whole_tuples tuples) h in
-    (inside_segs pages tuples p (left_of (are_inside pages tuples) (eqb (total tuples) (8 * n) && are_whole_tuples tuples) h), some_total tuples 8 n (omega arith) c (left_of (eqb (total tuples) (8 * n)) (are_whole_tuples tuples) rest))
+    let rest = and_second (are_inside pages tuples) (eqb (total tuples) (8 * n) && are_whole_tuples tuples) h in
+    (inside_segs pages tuples p (and_first (are_inside pages tuples) (eqb (total tuples) (8 * n) && are_whole_tuples tuples) h), some_total tuples 8 n (omega arith) c (and_first (eqb (total tuples) (8 * n)) (are_whole_tuples tuples) rest))
 
 count_low : (n : ℕ) → is_count n ≡ true → 1 ≤ n
 count_low n h = grind (arith, nat_tests)
 
 count_high : (n : ℕ) → is_count n ≡ true → n < 2 ^ 32
 count_high n h = grind (arith, nat_tests)
-
-unbroken : (b : Bool) (k : ScriptKind) (rest : Option ScriptKind) → (if b then Some k else rest) ≡ None → (b ≡ false) × (rest ≡ None)
-unbroken true k rest h = absurd (cc)
-unbroken false k rest h = (refl, h)
-
-not_false : (b : Bool) → not b ≡ false → b ≡ true
-not_false true h = refl
-not_false false h = absurd (cc)
 
 pub no_fault : (f : Option ScriptKind) (op found : Op) → unless f op ≡ Ok found → f ≡ None
 no_fault None op found h = refl
@@ -102,17 +94,17 @@ data_rules pages size n body h =
     let a = unbroken (ltb 512 (length body)) _ _ h in
     let b = unbroken (not (is_count n)) _ _ a.1 in
     let c = unbroken (not (is_body pages size n body)) _ _ b.1 in
-    (not_false (is_count n) b.0, not_false (is_body pages size n body) c.0)
+    (not-false (is_count n) b.0, not-false (is_body pages size n body) c.0)
 
 both_rules : (pages size n : ℕ) (body tuples : List Seg) → both_fault pages size n body tuples ≡ None → (is_count n ≡ true) × (is_body pages size n body ≡ true) × (are_tuples pages n tuples ≡ true)
 both_rules pages size n body tuples h =
     let a = unbroken (ltb 512 (length body) || ltb 512 (length tuples)) _ _ h in
     let b = unbroken (not (is_count n)) _ _ a.1 in
     let c = unbroken (not (is_body pages size n body && are_tuples pages n tuples)) _ _ b.1 in
-    let d = not_false (is_body pages size n body && are_tuples pages n tuples) c.0 in
-    (not_false (is_count n) b.0, left_of (is_body pages size n body) (are_tuples pages n tuples) d, right_of (is_body pages size n body) (are_tuples pages n tuples) d)
+    let d = not-false (is_body pages size n body && are_tuples pages n tuples) c.0 in
+    (not-false (is_count n) b.0, and_first (is_body pages size n body) (are_tuples pages n tuples) d, and_second (is_body pages size n body) (are_tuples pages n tuples) d)
 
-found_inside : (b : Bool) (op found : Op) → where_inside b op ≡ Ok found → b ≡ true
+pub found_inside : (b : Bool) (op found : Op) → where_inside b op ≡ Ok found → b ≡ true
 found_inside true op found h = refl
 found_inside false op found h = absurd (cc)
 
@@ -129,7 +121,7 @@ put_fits pages page off len p h = (grind (arith, nat_tests), grind (arith, nat_t
 pub readable : (pages size : ℕ) (line : OpLine) (op : Op) → pages ≤ 256 → 1 ≤ size → op_in pages size line ≡ Ok op → InRange size line → Readable size line
 readable pages size (Fill seg byte) op p s h r = (inside_seg pages seg p (found_inside _ _ op h), r)
 readable pages size (Put page off bytes) op p s h r = let f = put_fits pages page off (length bytes) p (found_inside _ _ op h) in (f.0, f.1, r.0, f.2, r.1)
-readable pages size (Show seg) op p s h r = inside_seg pages seg p (left_of (is_inside pages seg) (leb seg.len 64) (found_inside _ _ op h))
+readable pages size (Show seg) op p s h r = inside_seg pages seg p (and_first (is_inside pages seg) (leb seg.len 64) (found_inside _ _ op h))
 readable pages size (Seal n body tuples app rtag) op p s h r = let f = readable_both pages size n body tuples p s (no_fault _ _ op h) in (f.0, f.1, f.2, r.0, r.1)
 readable pages size (Write v n body app) op p s h r = let f = readable_data pages size n body p s (no_fault _ _ op h) in (r.0, f.0, f.1, r.1)
 readable pages size (Read v n body) op p s h r = let f = readable_data pages size n body p s (no_fault _ _ op h) in (r, f.0, f.1)
@@ -254,7 +246,7 @@ op_back size (Flip dev lba off bytes) s h = ap as_line (overwrite_flip size dev 
 op_back size (Copy dev lba from_dev from_lba) s h = ap as_line (overwrite_copy size dev lba from_dev from_lba h.0 h.1 h.2 h.3)
 op_back size Wait s h = refl
 
-number32 : (n : ℕ) → n < 2 ^ 32 → IsWord (decimal n)
+pub number32 : (n : ℕ) → n < 2 ^ 32 → IsWord (decimal n)
 number32 n h = decimal_word n (omega (arith, h))
 
 list_word : (segs : List Seg) → AreListed segs → IsWord (segs_text segs)

@@ -1,16 +1,17 @@
 use Rattle.std.proofs.Common.{ℕ, ◌≡◌, ◌+◌, ◌<◌, ◌≤◌, Bool, true, false, not, ltb, cond, List, [], ◌∷◌, ◌++◌, length, find, Option, Some, None, Result, Ok, Err, refl, sym, subst, ap, ◌∙◌, arith, append_assoc}
 use Rattle.std.specs.Prelude.{if◌then◌else◌, codes}
 use Rattle.std.specs.List.{Contains}
-use Rattle.std.proofs.lemmas.Bool.Decides.{nat_tests}
 use Rattle.std.proofs.lemmas.List.{append-nil}
 use Rattle.std.proofs.lemmas.List.Elements.{Contains-append_left, Contains-append_right}
 use Rattle.std.proofs.lemmas.List.Sums.{sum_by-cons}
+use Rattle.std.proofs.lemmas.Bool.{ltb-true, ltb-false}
 use Rattle.script_words.specs.Cuts.{is_plain, lines_of, words_of}
 use Rattle.volume_table.specs.declared.entry.Entry.{Entry}
 use Rattle.volume_table.specs.declared.entry.Entry.TheVariants.{Linear as LinearEntry, Stripe as StripeEntry}
 use Rattle.volume_table.specs.Entries.{entry_len, entry_place, entry_start, is_held}
 use Rattle.volume_table.specs.Places.{place_by, place_in, volume_len}
 use Rattle.volume_table.specs.Tables.{IsTable, Table}
+use Rattle.volume_table.proofs.Order.{in_is, not_in}
 use Rattle.volume_tree.specs.Trees.{EntriesFollow, tree_place}
 use Rattle.script_lines.specs.declared.kind.ScriptKind.{ScriptKind}
 use Rattle.script_lines.specs.declared.kind.ScriptKind.TheVariants.{LongLine, NotAscii, OutOfPlace, TooMany}
@@ -210,30 +211,18 @@ record Holder (v : ℕ) (es : List Entry) : Type 0 where
   held : is_held v entry ≡ true
   place : place_in es v ≡ entry_place entry v
 
-is_in : (v : ℕ) (e : Entry) → entry_start e ≤ v → v < entry_start e + entry_len e → is_held v e ≡ true
-is_in v e a b = grind (arith, nat_tests)
-
-is_out : (v : ℕ) (e : Entry) → entry_start e + entry_len e ≤ v → is_held v e ≡ false
-is_out v e a = grind (arith, nat_tests)
-
-yes_below : (x y : ℕ) → ltb x y ≡ true → x < y
-yes_below x y h = grind (arith, nat_tests)
-
-no_below : (x y : ℕ) → ltb x y ≡ false → y ≤ x
-no_below x y h = grind (arith, nat_tests)
-
 found_in : (c : Bool) (v : ℕ) (e : Entry) (es : List Entry) → is_held v e ≡ c → place_in (e ∷ es) v ≡ place_by (cond c (Some e) (find (is_held v) es)) v
 found_in c v e es h = ap (λ b. place_by (cond b (Some e) (find (is_held v) es)) v) h
 
 holder_by : (b : Bool) (start v : ℕ) (e : Entry) (es : List Entry) → entry_start e ≡ start → start ≤ v → ltb v (start + entry_len e) ≡ b → (start + entry_len e ≤ v → Holder v es) → Holder v (e ∷ es)
 holder_by true start v e es s lo b r =
-    let below = yes_below v (start + entry_len e) b in
-    let h = is_in v e (omega (arith, s, lo)) (omega (arith, s, below)) in
+    let below = ltb-true v (start + entry_len e) b in
+    let h = in_is v e (omega (arith, s, lo)) (omega (arith, s, below)) in
     record { entry = e; among = (0, omega arith, refl); held = h; place = found_in true v e es h }
 holder_by false start v e es s lo b r =
-    let above = no_below v (start + entry_len e) b in
+    let above = ltb-false v (start + entry_len e) b in
     let h = r above in
-    record { entry = h.entry; among = Contains-append_right (e ∷ []) es h.entry h.among; held = h.held; place = found_in false v e es (is_out v e (omega (arith, s, above))) ∙ h.place }
+    record { entry = h.entry; among = Contains-append_right (e ∷ []) es h.entry h.among; held = h.held; place = found_in false v e es (not_in v e (omega (arith, s, above))) ∙ h.place }
 
 holder : (start v : ℕ) (es : List Entry) → EntriesFollow start es → start ≤ v → v < start + volume_len es → Holder v es
 holder start v [] f lo hi = absurd (omega (arith, lo, hi))

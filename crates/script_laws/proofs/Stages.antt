@@ -1,7 +1,8 @@
-use Rattle.std.proofs.Common.{ℕ, ℤ, pos, negsuc, zero, suc, ◌≡◌, ◌+◌, ◌^◌, ◌<◌, ◌≤◌, ◌||◌, Bool, true, false, ltb, leb, List, [], ◌∷◌, ◌++◌, length, map, Option, Some, None, refl, sym, subst, ap, ◌∙◌, arith, append_assoc, append-nil}
-use Rattle.std.specs.Prelude.{codes, decimal, if◌then◌else◌}
+use Rattle.std.proofs.Common.{ℕ, ℤ, pos, negsuc, zero, suc, ◌≡◌, ◌+◌, ◌^◌, ◌<◌, ◌≤◌, ◌||◌, Bool, true, false, ltb, List, [], ◌∷◌, ◌++◌, length, map, Option, Some, None, refl, sym, subst, ap, ◌∙◌, arith, append_assoc, append-nil}
+use Rattle.std.specs.Prelude.{codes, if◌then◌else◌}
 use Rattle.std.specs.Fmt.{signed_decimal}
 use Rattle.std.proofs.lemmas.Bool.Decides.{nat_tests}
+use Rattle.std.proofs.lemmas.Bool.{le-ltb, lt-leb}
 use Rattle.fault_schedule.specs.declared.fault.Crossing.{Crossing}
 use Rattle.fault_schedule.specs.declared.fault.FaultKind.{FaultKind}
 use Rattle.fault_schedule.specs.declared.fault.FaultKind.TheVariants.{Flip as FlipKind, Shift as ShiftKind}
@@ -31,20 +32,10 @@ use Rattle.script_laws.proofs.Lined.{fault_line, linear_line, shift_line, stripe
 use Rattle.script_laws.proofs.Places.{pair_word}
 use Rattle.script_laws.proofs.Steps.{Step, behind, from_text, joined, line_step, stay, to_draft, to_number, verb_step}
 use Rattle.script_laws.proofs.Words.{hex_word, minus_word}
+use Rattle.script_laws.proofs.Front.{within_word}
+use Rattle.script_laws.proofs.OpForms.{number32 as word32}
 
 -- the lines of a stage, one after another
-
-not_above : (a b : ℕ) → b < a → leb a b ≡ false
-not_above a b h = grind (arith, nat_tests)
-
-below_most : (a b : ℕ) → b ≤ a → ltb a b ≡ false
-below_most a b h = grind (arith, nat_tests)
-
-word32 : (n : ℕ) → n < 2 ^ 32 → IsWord (decimal n)
-word32 n h = decimal_word n (omega (arith, h))
-
-within_word : (low high n : ℕ) → high < 2 ^ 64 → IsWithin low high n → IsWord (decimal n)
-within_word low high n s h = let m = h.high_is in decimal_word n (omega (arith, m, s))
 
 -- entries
 
@@ -60,7 +51,7 @@ entry_step_linear n e rest d place h p b few =
     (line_step n (codes "linear" ∷ linear_words e) rest d _
     (record { clean_is = refl; filled_is = refl }, (decimal_word e.start h.0, (within_word 1 1048576 e.len (omega arith) h.1, (record { clean_is = refl; filled_is = refl }, (word32 e.dev h.2, (record { clean_is = refl; filled_is = refl }, (decimal_word e.at h.3, tt)))))))
     (verb_step n (codes "linear") (linear_words e) d LinearVerb place (LinearLine e) (record d { entries = d.entries ++ (LinearEntry e ∷ []) }) refl refl p b (linear_back e h.0 h.1 h.2 h.3)
-    (ap (λ b. if b then Some TooMany else None) (not_above 16 (length d.entries) few)) refl))
+    (ap (λ b. if b then Some TooMany else None) (lt-leb 16 (length d.entries) few)) refl))
 
 entry_step_stripe : (n : ℕ) (s : _) (rest : List ℕ) (d : Drafted) (place : Place) → IsEntry (StripeEntry s) → d.place ≡ Some place → is_behind d.is_new StripeVerb d.place ≡ true → length d.entries < 16
     → Step n (entry_text (StripeEntry s) ++ rest) d (n + 1) rest (record d { entries = d.entries ++ (StripeEntry s ∷ []); place = Some AtVolume })
@@ -72,7 +63,7 @@ entry_step_stripe n s rest d place h p b few =
     (line_step n (codes "stripe" ∷ stripe_words s) rest d _
     (record { clean_is = refl; filled_is = refl }, (decimal_word s.start h.0, (within_word 1 1048576 s.len (omega arith) h.1, (record { clean_is = refl; filled_is = refl }, (within_word 1 65536 s.chunk (omega arith) h.2, (record { clean_is = refl; filled_is = refl }, legs_words s.legs legs.each))))))
     (verb_step n (codes "stripe") (stripe_words s) d StripeVerb place (StripeLine s.start s.len s.chunk s.legs) (record d { entries = d.entries ++ (StripeEntry s ∷ []) }) refl refl p b (stripe_back s h.0 h.1 h.2 legs)
-    (ap (λ b. if b || ltb 8 (length s.legs) then Some TooMany else None) (not_above 16 (length d.entries) few) ∙ ap (λ b. if b then Some TooMany else None) (below_most 8 (length s.legs) most)) refl))
+    (ap (λ b. if b || ltb 8 (length s.legs) then Some TooMany else None) (lt-leb 16 (length d.entries) few) ∙ ap (λ b. if b then Some TooMany else None) (le-ltb 8 (length s.legs) most)) refl))
 
 entry_step : (n : ℕ) (e : Entry) (rest : List ℕ) (d : Drafted) (place : Place) → IsEntry e → d.place ≡ Some place → is_behind d.is_new LinearVerb d.place ≡ true → length d.entries < 16
     → Step n (entry_text e ++ rest) d (n + 1) rest (record d { entries = d.entries ++ (e ∷ []); place = Some AtVolume })
@@ -154,7 +145,7 @@ flip_step n op k at off bytes rest d place s o l h p b few =
     (record { clean_is = refl; filled_is = refl }, (within_word 1 1024 op (omega arith) o, (decimal_word k (omega (arith, l)), (spot_is_word (spot_of at), (record { clean_is = refl; filled_is = refl }, (decimal_word off (omega (arith, f, s)), (hex_word bytes h.are_bytes (some_byte d.block off bytes h), tt)))))))
     (verb_step n (codes "fault") (fault_words op k (spot_of at) off bytes) d FaultVerb place (FlipLine op k (spot_of at) off bytes)
     (record d { faults = d.faults ++ (raw_of (record { op = op; k = k; at = at; kind = FlipKind off bytes }) ∷ []); fault_lines = d.fault_lines ++ (n ∷ []) }) refl refl p b (fault_back d.block op k (spot_of at) off bytes s o l h)
-    (ap (λ b. if b then Some TooMany else (if is_bad_flip d.block off bytes then Some BadFault else None)) (not_above 256 (length d.faults) few) ∙ ap (λ b. if b then Some BadFault else None) h.good) refl))
+    (ap (λ b. if b then Some TooMany else (if is_bad_flip d.block off bytes then Some BadFault else None)) (lt-leb 256 (length d.faults) few) ∙ ap (λ b. if b then Some BadFault else None) h.good) refl))
 
 signed_word : (by : ℤ) → IsShift by → IsWord (signed_decimal by)
 signed_word (pos n) h = let m = h.high_is in decimal_word n (omega (arith, m))
@@ -176,7 +167,7 @@ shift_step n op at by rest d place o w h p b few =
     (record { clean_is = refl; filled_is = refl }, (within_word 1 1024 op (omega arith) o, (spot_is_word (spot_of at), (signed_word by h, tt))))
     (verb_step n (codes "shift") (shift_words op (spot_of at) by) d ShiftVerb place (ShiftLine op (spot_of at) by)
     (record d { faults = d.faults ++ (raw_of (record { op = op; k = 0; at = at; kind = ShiftKind by }) ∷ []); fault_lines = d.fault_lines ++ (n ∷ []) }) refl refl p b (shift_back op (spot_of at) by o w h)
-    (ap (λ b. if b then Some TooMany else (if is_no_shift by then Some BadFault else None)) (not_above 256 (length d.faults) few) ∙ ap (λ b. if b then Some BadFault else None) (some_shift by h)) refl))
+    (ap (λ b. if b then Some TooMany else (if is_no_shift by then Some BadFault else None)) (lt-leb 256 (length d.faults) few) ∙ ap (λ b. if b then Some BadFault else None) (some_shift by h)) refl))
 
 fault_by_kind : (kind : FaultKind) (n op k : ℕ) (at : Crossing) (rest : List ℕ) (d : Drafted) (place : Place) → d.block ≤ 4096 → IsWithin 1 1024 op → k ≤ 2047 → IsKind d.block (record { op = op; k = k; at = at; kind = kind }) kind
     → d.place ≡ Some place → is_behind d.is_new FaultVerb d.place ≡ true → length d.faults < 256

@@ -2,6 +2,7 @@ use Rattle.std.proofs.Common.{ℕ, ◌≡◌, ◌+◌, ◌&&◌, ◌||◌, Bool,
 use Rattle.std.specs.Prelude.{if◌then◌else◌}
 use Rattle.std.specs.List.{list_all}
 use Rattle.std.proofs.lemmas.Bool.Decides.{nat_tests}
+use Rattle.std.proofs.lemmas.Bool.{and_from}
 use Rattle.script_words.specs.Cuts.{lines_of, words_of}
 use Rattle.script_lines.specs.declared.kind.ScriptKind.TheVariants.{NotAscii, LongLine, OutOfPlace}
 use Rattle.script_lines.specs.declared.line.Line.{Line}
@@ -13,9 +14,9 @@ use Rattle.script_lines.specs.Verbs.{comes_before, is_new_verb, place_of, verb_o
 use Rattle.script_text.specs.Drafts.{Drafted}
 use Rattle.script_text.specs.Language.{at_place, go_on, is_behind, is_comment, line_taken, lines_read, taken, text_taken, unless_broken, verb_taken, words_behind, words_taken}
 use Rattle.script_text.specs.Rules.{broken_rule}
+use Rattle.script_text.proofs.Filled.{and_first, and_second}
 use Rattle.script_laws.specs.Clean.{AreWords}
 use Rattle.script_laws.specs.Texts.{has_short_lines, is_short, spaced}
-use Rattle.script_laws.proofs.Clean.{left_of, right_of}
 use Rattle.script_laws.proofs.Texts.{first_line, plain_spaced, words_spaced}
 
 -- Where its lines are short, a text is read so far: what is left is read from this number and this draft on.
@@ -51,8 +52,8 @@ line_step n ws rest d e w t short =
     let lines = first_line ws rest w in
     let each : list_all is_short (spaced ws ∷ lines_of rest) ≡ true = sym (ap (list_all is_short) lines) ∙ short in (
       ap (λ ls. lines_read n ls d) lines
-          ∙ ap (λ r. go_on n r (λ next. lines_read (n + 1) (lines_of rest) next)) (plain_taken n ws d w (left_of (is_short (spaced ws)) (has_short_lines rest) each) ∙ t),
-      right_of (is_short (spaced ws)) (has_short_lines rest) each,
+          ∙ ap (λ r. go_on n r (λ next. lines_read (n + 1) (lines_of rest) next)) (plain_taken n ws d w (and_first (is_short (spaced ws)) (has_short_lines rest) each) ∙ t),
+      and_second (is_short (spaced ws)) (has_short_lines rest) each,
     )
 
 line_is_taken : (n : ℕ) (verb : Verb) (words : List (List ℕ)) (d : Drafted) (line : Line) (next : Drafted) → line_form verb d.block words ≡ Ok line → broken_rule d line ≡ None → taken n line d ≡ Ok next
@@ -77,10 +78,6 @@ or_true : (b : Bool) → b || true ≡ true
 or_true true = refl
 or_true false = refl
 
-both_true : (a b : Bool) → a ≡ true → b ≡ true → a && b ≡ true
-both_true true b g h = h
-both_true false b g h = g
-
 -- a line that isn't of version 2 alone stands behind a place that any version has before it
 pub behind : (is_new : Bool) (verb : Verb) (place : Place) → is_new_verb verb ≡ false → comes_before place (place_of verb) is_new ≡ true → is_behind is_new verb (Some place) ≡ true
-behind is_new verb place v c = both_true (is_new || not (is_new_verb verb)) (comes_before place (place_of verb) is_new) (ap (λ b. is_new || not b) v ∙ or_true is_new) c
+behind is_new verb place v c = and_from (is_new || not (is_new_verb verb)) (comes_before place (place_of verb) is_new) (ap (λ b. is_new || not b) v ∙ or_true is_new) c

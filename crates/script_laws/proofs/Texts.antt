@@ -2,16 +2,16 @@ use Rattle.std.proofs.Common.{ℕ, suc, ◌≡◌, ◌+◌, Bool, true, false, n
 use Rattle.std.specs.List.{position_or_len}
 use Rattle.std.proofs.lemmas.Bool.Decides.{nat_tests}
 use Rattle.std.proofs.lemmas.List.Folds.{list_all-append}
+use Rattle.std.proofs.lemmas.Bool.{and_from, not-true}
 use Rattle.script_words.specs.Cuts.{Cut, cut, cut_by, ended, filled, in_front, is_byte, is_plain, is_printable, lines_of, parts, words_of}
+use Rattle.script_words.proofs.Cutting.{next_of, cut_first}
 use Rattle.script_laws.specs.Clean.{AreWords, IsWord, avoids, clean, is_filled, is_visible}
 use Rattle.script_laws.specs.Texts.{spaced}
-use Rattle.script_laws.proofs.Clean.{both, clean_avoids, left_of, right_of}
+use Rattle.script_laws.proofs.Clean.{clean_avoids}
+use Rattle.volume_tree.proofs.Putting.{ltb_suc, one_more}
+use Rattle.script_text.proofs.Filled.{and_first, and_second}
 
 -- a text is cut where it was joined
-
-not_true : (b : Bool) → not b ≡ true → b ≡ false
-not_true true h = absurd (cc)
-not_true false h = refl
 
 same_mark : (mark : ℕ) → eqb mark mark ≡ true
 same_mark mark = grind (arith, nat_tests)
@@ -19,14 +19,14 @@ same_mark mark = grind (arith, nat_tests)
 pub parts_at : (mark : ℕ) (w rest : List ℕ) → avoids mark w ≡ true → parts mark (w ++ (mark ∷ rest)) ≡ w ∷ parts mark rest
 parts_at mark [] rest h = ap (λ t. cond t ([] ∷ parts mark rest) (in_front mark (parts mark rest))) (same_mark mark)
 parts_at mark (b ∷ w) rest h =
-    ap (λ t. cond t ([] ∷ parts mark (w ++ (mark ∷ rest))) (in_front b (parts mark (w ++ (mark ∷ rest))))) (not_true (eqb b mark) (left_of (not (eqb b mark)) (avoids mark w) h))
-    ∙ ap (in_front b) (parts_at mark w rest (right_of (not (eqb b mark)) (avoids mark w) h))
+    ap (λ t. cond t ([] ∷ parts mark (w ++ (mark ∷ rest))) (in_front b (parts mark (w ++ (mark ∷ rest))))) (not-true (eqb b mark) (and_first (not (eqb b mark)) (avoids mark w) h))
+    ∙ ap (in_front b) (parts_at mark w rest (and_second (not (eqb b mark)) (avoids mark w) h))
 
 pub parts_end : (mark : ℕ) (w : List ℕ) → avoids mark w ≡ true → parts mark w ≡ w ∷ []
 parts_end mark [] h = refl
 parts_end mark (b ∷ w) h =
-    ap (λ t. cond t ([] ∷ parts mark w) (in_front b (parts mark w))) (not_true (eqb b mark) (left_of (not (eqb b mark)) (avoids mark w) h))
-    ∙ ap (in_front b) (parts_end mark w (right_of (not (eqb b mark)) (avoids mark w) h))
+    ap (λ t. cond t ([] ∷ parts mark w) (in_front b (parts mark w))) (not-true (eqb b mark) (and_first (not (eqb b mark)) (avoids mark w) h))
+    ∙ ap (in_front b) (parts_end mark w (and_second (not (eqb b mark)) (avoids mark w) h))
 
 -- there is always a part
 abbrev front : List (List ℕ) → List ℕ
@@ -77,36 +77,24 @@ visible_printable b h = grind (arith, nat_tests)
 
 clean_plain : (w : List ℕ) → clean w ≡ true → is_plain w ≡ true
 clean_plain [] h = refl
-clean_plain (b ∷ w) h = both (is_printable b) (is_plain w) (visible_printable b (left_of (is_visible b) (clean w) h)) (clean_plain w (right_of (is_visible b) (clean w) h))
+clean_plain (b ∷ w) h = and_from (is_printable b) (is_plain w) (visible_printable b (and_first (is_visible b) (clean w) h)) (clean_plain w (and_second (is_visible b) (clean w) h))
 
 pub plain_spaced : (ws : List (List ℕ)) → AreWords ws → is_plain (spaced ws) ≡ true
 plain_spaced [] h = refl
 plain_spaced (w ∷ []) h = clean_plain w (h.0).clean_is
-plain_spaced (w ∷ v ∷ ws) h = list_all-append is_printable w (32 ∷ spaced (v ∷ ws)) ∙ both (is_plain w) (is_plain (spaced (v ∷ ws))) (clean_plain w (h.0).clean_is) (plain_spaced (v ∷ ws) h.1)
+plain_spaced (w ∷ v ∷ ws) h = list_all-append is_printable w (32 ∷ spaced (v ∷ ws)) ∙ and_from (is_plain w) (is_plain (spaced (v ∷ ws))) (clean_plain w (h.0).clean_is) (plain_spaced (v ∷ ws) h.1)
 
 printable_no_newline : (b : ℕ) → is_printable b ≡ true → not (eqb b 10) ≡ true
 printable_no_newline b h = grind (arith, nat_tests)
 
 plain_one_line : (w : List ℕ) → is_plain w ≡ true → avoids 10 w ≡ true
 plain_one_line [] h = refl
-plain_one_line (b ∷ w) h = both (not (eqb b 10)) (avoids 10 w) (printable_no_newline b (left_of (is_printable b) (is_plain w) h)) (plain_one_line w (right_of (is_printable b) (is_plain w) h))
+plain_one_line (b ∷ w) h = and_from (not (eqb b 10)) (avoids 10 w) (printable_no_newline b (and_first (is_printable b) (is_plain w) h)) (plain_one_line w (and_second (is_printable b) (is_plain w) h))
 
 pub first_line : (ws : List (List ℕ)) (text : List ℕ) → AreWords ws → lines_of (spaced ws ++ (10 ∷ text)) ≡ spaced ws ∷ lines_of text
 first_line ws text h = line_first (spaced ws) text (plain_one_line (spaced ws) (plain_spaced ws h))
 
 -- a cut
-
-one_more : (n : ℕ) → 1 + n ≡ suc n
-one_more n = omega arith
-
-ltb_suc : (a b : ℕ) → ltb (suc a) (suc b) ≡ ltb a b
-ltb_suc a b = grind (arith, nat_tests)
-
-ltb_zero : (a : ℕ) → ltb 0 (suc a) ≡ true
-ltb_zero a = grind (arith, nat_tests)
-
-next_of : (n : ℕ) → suc n + 1 ≡ suc (n + 1)
-next_of n = omega arith
 
 abbrev later : ℕ → Option Cut → Option Cut
 later b None = None
@@ -115,11 +103,6 @@ later b (Some c) = Some (record { before = b ∷ c.before; after = c.after })
 later_by : (t : Bool) (b n : ℕ) (bs : List ℕ) → cut_by (b ∷ bs) (cond t (Some (suc n)) None) ≡ later b (cut_by bs (cond t (Some n) None))
 later_by true b n bs = ap (λ k. Some (record { before = b ∷ take n bs; after = drop k (b ∷ bs) })) (next_of n)
 later_by false b n bs = refl
-
-cut_first : (mark b : ℕ) (bs : List ℕ) → eqb b mark ≡ true → cut mark (b ∷ bs) ≡ Some (record { before = []; after = bs })
-cut_first mark b bs h =
-    let p : position_or_len (is_byte mark) (b ∷ bs) ≡ 0 = ap (λ t. cond (not t) (1 + position_or_len (is_byte mark) bs) 0) h in
-    ap (λ n. cut_by (b ∷ bs) (cond (ltb n (suc (length bs))) (Some n) None)) p ∙ ap (λ t. cut_by (b ∷ bs) (cond t (Some 0) None)) (ltb_zero (length bs))
 
 cut_later : (mark b : ℕ) (bs : List ℕ) → eqb b mark ≡ false → cut mark (b ∷ bs) ≡ later b (cut mark bs)
 cut_later mark b bs h =
@@ -132,8 +115,8 @@ cut_later mark b bs h =
 pub cut_at : (mark : ℕ) (w rest : List ℕ) → avoids mark w ≡ true → cut mark (w ++ (mark ∷ rest)) ≡ Some (record { before = w; after = rest })
 cut_at mark [] rest h = cut_first mark mark rest (same_mark mark)
 cut_at mark (b ∷ w) rest h =
-    cut_later mark b (w ++ (mark ∷ rest)) (not_true (eqb b mark) (left_of (not (eqb b mark)) (avoids mark w) h))
-    ∙ ap (later b) (cut_at mark w rest (right_of (not (eqb b mark)) (avoids mark w) h))
+    cut_later mark b (w ++ (mark ∷ rest)) (not-true (eqb b mark) (and_first (not (eqb b mark)) (avoids mark w) h))
+    ∙ ap (later b) (cut_at mark w rest (and_second (not (eqb b mark)) (avoids mark w) h))
 
 cut_empty : (mark : ℕ) → cut mark [] ≡ None
 cut_empty mark = refl
@@ -141,4 +124,4 @@ cut_empty mark = refl
 pub no_cut : (mark : ℕ) (w : List ℕ) → avoids mark w ≡ true → cut mark w ≡ None
 no_cut mark [] h = cut_empty mark
 no_cut mark (b ∷ w) h =
-    cut_later mark b w (not_true (eqb b mark) (left_of (not (eqb b mark)) (avoids mark w) h)) ∙ ap (later b) (no_cut mark w (right_of (not (eqb b mark)) (avoids mark w) h))
+    cut_later mark b w (not-true (eqb b mark) (and_first (not (eqb b mark)) (avoids mark w) h)) ∙ ap (later b) (no_cut mark w (and_second (not (eqb b mark)) (avoids mark w) h))

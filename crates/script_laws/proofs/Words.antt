@@ -3,7 +3,7 @@ use Rattle.std.specs.Prelude.{decimal, if◌then◌else◌, slice_index}
 use Rattle.std.specs.Fmt.{signed_decimal}
 use Rattle.std.specs.Int.{to_be_bytes, w16, w32, w8}
 use Rattle.std.proofs.lemmas.Bool.Decides.{nat_tests}
-use Rattle.std.proofs.lemmas.Bool.{le-leb}
+use Rattle.std.proofs.lemmas.Bool.{le-leb, and_from}
 use Rattle.std.proofs.lemmas.Fmt.{decimal_by_steps}
 use Rattle.std.proofs.lemmas.Nat.{from_be_bytes-to_be_bytes_2, from_be_bytes-to_be_bytes_4}
 use Rattle.std.proofs.lemmas.List.Folds.{list_all-append}
@@ -13,7 +13,8 @@ use Rattle.script_words.specs.Decimals.{is_digit, is_number, number_in, value_fr
 use Rattle.script_words.specs.Hexes.{byte_in, bytes_by, hex_in, long_tag_in, tag_in, value_of}
 use Rattle.script_words.specs.Numbers.{as_negative, as_positive, in_range, number_within, signed_within}
 use Rattle.script_laws.specs.Clean.{IsWord, avoids, clean, is_filled, is_visible}
-use Rattle.script_laws.proofs.Clean.{are_digits, both, decimal_digits, decimal_filled, digits_avoid, digits_clean, left_of, right_of}
+use Rattle.script_laws.proofs.Clean.{are_digits, decimal_digits, decimal_filled, digits_avoid, digits_clean}
+use Rattle.script_text.proofs.Filled.{and_first, and_second}
 
 -- what a printed number is read as
 
@@ -31,8 +32,8 @@ leads_more (d ∷ ds) es h = h
 
 number_from : (ds : List ℕ) → are_digits ds ≡ true → leads ds ≡ true → is_number ds ≡ true
 number_from [] g h = absurd (cc)
-number_from (d ∷ []) g h = left_of (is_digit d) true g
-number_from (d ∷ e ∷ ds) g h = both (is_digit d) (not (eqb d 48) && are_digits (e ∷ ds)) (left_of (is_digit d) (are_digits (e ∷ ds)) g) (both (not (eqb d 48)) (are_digits (e ∷ ds)) h (right_of (is_digit d) (are_digits (e ∷ ds)) g))
+number_from (d ∷ []) g h = and_first (is_digit d) true g
+number_from (d ∷ e ∷ ds) g h = and_from (is_digit d) (not (eqb d 48) && are_digits (e ∷ ds)) (and_first (is_digit d) (are_digits (e ∷ ds)) g) (and_from (not (eqb d 48)) (are_digits (e ∷ ds)) h (and_second (is_digit d) (are_digits (e ∷ ds)) g))
 
 record Spells (n : ℕ) (ds : List ℕ) : Type 0 where
   digits : are_digits ds ≡ true
@@ -48,7 +49,7 @@ one_leads n h = grind (arith, nat_tests)
 
 spells_one : (n : ℕ) → n < 10 → Spells n ((48 + n) ∷ [])
 spells_one n h = record {
-  digits = both (is_digit (48 + n)) true (one_digit n h) refl;
+  digits = and_from (is_digit (48 + n)) true (one_digit n h) refl;
   number = one_digit n h;
   value = omega arith;
   first = λ l. one_leads n l;
@@ -59,7 +60,7 @@ spells_more n ds h s =
     let low : n % 10 < 10 = omega arith in
     let lead : leads ds ≡ true = s.first (omega (arith, h)) in
     let all : are_digits (ds ++ ((48 + n % 10) ∷ [])) ≡ true =
-    list_all-append is_digit ds ((48 + n % 10) ∷ []) ∙ both (are_digits ds) (is_digit (48 + n % 10) && true) s.digits (both (is_digit (48 + n % 10)) true (one_digit (n % 10) low) refl) in
+    list_all-append is_digit ds ((48 + n % 10) ∷ []) ∙ and_from (are_digits ds) (is_digit (48 + n % 10) && true) s.digits (and_from (is_digit (48 + n % 10)) true (one_digit (n % 10) low) refl) in
     let leads_on : leads (ds ++ ((48 + n % 10) ∷ [])) ≡ true = leads_more ds ((48 + n % 10) ∷ []) lead in
     let v = value_more 0 ds (48 + n % 10) in
     let w = s.value in
@@ -82,7 +83,7 @@ number_back n h =
     ∙ ap Some s.value
 
 in_range_is : (low high n : ℕ) → low ≤ n → n ≤ high → in_range low high (Some n) ≡ Some n
-in_range_is low high n l h = ap (λ b. if b then Some n else None) (both (leb low n) (leb n high) (le-leb low n l) (le-leb n high h))
+in_range_is low high n l h = ap (λ b. if b then Some n else None) (and_from (leb low n) (leb n high) (le-leb low n l) (le-leb n high h))
 
 pub within_back : (low high n : ℕ) → low ≤ n → n ≤ high → n < 2 ^ 64 → number_within low high (decimal n) ≡ Some n
 within_back low high n l h s = ap (in_range low high) (number_back n s) ∙ in_range_is low high n l h
@@ -141,7 +142,7 @@ byte_back b h = ap (value_of w8) (decode_sized-encode_lower (b ∷ []) 1 refl (o
 pub hex_back : (most : ℕ) (bytes : List ℕ) → IsBytes bytes → 1 ≤ length bytes → length bytes ≤ most → hex_in most (encode_lower bytes) ≡ Some bytes
 hex_back most bytes f l h =
     let len = length-encode_with lower_digits bytes in
-    ap (λ b. if b then bytes_by (decode_of (encode_lower bytes)) else None) (both (leb 1 (length (encode_lower bytes))) (leb (length (encode_lower bytes)) (2 * most)) (le-leb 1 (length (encode_lower bytes)) (omega (arith, len, l))) (le-leb (length (encode_lower bytes)) (2 * most) (omega (arith, len, h))))
+    ap (λ b. if b then bytes_by (decode_of (encode_lower bytes)) else None) (and_from (leb 1 (length (encode_lower bytes))) (leb (length (encode_lower bytes)) (2 * most)) (le-leb 1 (length (encode_lower bytes)) (omega (arith, len, l))) (le-leb (length (encode_lower bytes)) (2 * most) (omega (arith, len, h))))
     ∙ ap bytes_by (decode_of-encode_lower bytes f)
 
 -- the digits are words
@@ -170,8 +171,8 @@ unfolding encode_with
 hex_clean [] f = refl
 hex_clean (b ∷ bytes) f =
     let small : b < 256 = f 0 in
-    both (is_visible (slice_index lower_digits (b / 16))) (clean (slice_index lower_digits (b % 16) ∷ encode_lower bytes)) (visible_digit (b / 16) (omega (arith, small)))
-    (both (is_visible (slice_index lower_digits (b % 16))) (clean (encode_lower bytes)) (visible_digit (b % 16) (omega arith)) (hex_clean bytes (λ k. f (suc k))))
+    and_from (is_visible (slice_index lower_digits (b / 16))) (clean (slice_index lower_digits (b % 16) ∷ encode_lower bytes)) (visible_digit (b / 16) (omega (arith, small)))
+    (and_from (is_visible (slice_index lower_digits (b % 16))) (clean (encode_lower bytes)) (visible_digit (b % 16) (omega arith)) (hex_clean bytes (λ k. f (suc k))))
 
 pub hex_filled : (bytes : List ℕ) → 1 ≤ length bytes → is_filled (encode_lower bytes) ≡ true
 unfolding encode_with

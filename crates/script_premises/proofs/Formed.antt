@@ -1,10 +1,9 @@
 -- A bound script whose faults have the form: all that the law of its run asks.
-use Rattle.std.proofs.Common.{◌≡◌, ◌<◌, ℕ, suc, ◌*◌, ◌%◌, true, not, ◌||◌, ◌⊎◌, inl, inr, List, [], ◌∷◌, refl, sym, ap, ◌∙◌, arith, map, false}
+use Rattle.std.proofs.Common.{◌≡◌, ◌<◌, ℕ, ◌*◌, ◌%◌, true, not, ◌||◌, ◌⊎◌, inl, inr, List, [], ◌∷◌, refl, sym, ap, ◌∙◌, arith, map, false}
 use Rattle.std.specs.Prelude.{All}
 use Rattle.std.specs.List.{list_all, list_any}
 use Rattle.std.proofs.lemmas.Bool.{and_parts, not-true}
 use Rattle.std.proofs.lemmas.List.Elements.{All-cons, All-nil, All-replicate}
-use Rattle.hex.specs.Hex.{IsBytes}
 use Rattle.fault_schedule.specs.declared.fault.FaultKind.{FaultKind}
 use Rattle.fault_schedule.specs.declared.fault.FaultKind.TheVariants.{Flip, Shift}
 use Rattle.fault_schedule.specs.declared.fault.FaultLine.{FaultLine}
@@ -21,10 +20,9 @@ use Rattle.pi_tuple.specs.Finds.{is_zero}
 use Rattle.rig_discovery.specs.Discovery.{info_of}
 use Rattle.volume_table.specs.declared.device.DeviceInfo.{DeviceInfo}
 use Rattle.run_laws.specs.ShownRun.{DevicesAreClean, HasCells, IsShownRun, LiesOn}
-use Rattle.script_ground.proofs.AtTarget.{told-long}
-use Rattle.script_ground.proofs.Calm.{all-fit, calm-run, lies-in}
-use Rattle.script_ground.proofs.Shown.{shown-run}
-use Rattle.script_ground.proofs.OverUnits.{IsBoundOver, at_first, cell-there, on-address, over, own-setting}
+use Rattle.script_ground.proofs.Calm.{all-fit, calm-run, lies-in, are-bytes}
+use Rattle.script_ground.proofs.Shown.{shown-run, lies-on, has-cells}
+use Rattle.script_ground.proofs.OverUnits.{IsBoundOver, at_first, over}
 use Rattle.whole_run.specs.Detectable.{detectable}
 use Rattle.whole_run.specs.Past.{steps_from}
 use Rattle.whole_run.specs.Settings.{Setting}
@@ -38,10 +36,6 @@ use Rattle.script_premises.specs.FormedScript.{IsBoundTo, IsFormedScript, IsStil
 even : (n : ℕ) → (n ≡ 512) ⊎ (n ≡ 4096) → n % 2 ≡ 0
 even n (inl e) = omega arith
 even n (inr e) = omega arith
-
-are-bytes : (xs : List ℕ) → IsBytes xs → All (λ x. x < 256) xs
-are-bytes [] h = All-nil (λ (x : ℕ). x < 256)
-are-bytes (x ∷ xs) h = All-cons (λ (y : ℕ). y < 256) x xs (h 0) (are-bytes xs (λ i. h (suc i)))
 
 kind-bytes : (size : ℕ) (f : FaultLine) (kind : FaultKind) → IsKind size f kind → IsOfBytes kind
 kind-bytes size f (Flip off bytes) h = are-bytes bytes h.are_bytes
@@ -101,18 +95,6 @@ pub escapes : (s : Script) (t : Table) (us : List Stored) → EscapeLaw → list
 escapes s t us none h = none (over s t (shapes_of us)) s.ops (at_first s us) h
 
 -- ---- over clean devices
-
-lies-on : (s : Script) (t : Table) (us : List Stored) → IsBoundOver s t us → LiesOn (over s t (shapes_of us)) (map info_of (shapes_of us))
-lies-on s t us b = record { inside = b.made.inside; alone = b.made.alone }
-
-has-cells : (s : Script) (t : Table) (us : List Stored) → IsBoundOver s t us → HasCells (over s t (shapes_of us)) (map info_of (shapes_of us)) (blocks_told us)
-has-cells s t us b =
-    let devices = map info_of (shapes_of us) in
-    record {
-      within = λ dev lba h. cell-there s t us dev lba h;
-      apart = λ dev lba other at h k e. (own-setting s t (shapes_of us)).apart dev lba other at (on-address devices t.ty s.block dev lba h) (on-address devices t.ty s.block other at k) e;
-      size = λ dev lba h. told-long us t.ty s.block dev lba b.stored h;
-    }
 
 pub shown : (s : Script) (t : Table) (us : List Stored) → FormLaw → IsBoundTo s t us → IsFormedScript s t us → DevicesAreClean (over s t (shapes_of us)) (map info_of (shapes_of us)) (blocks_told us)
     → IsShownRun (over s t (shapes_of us)) (map info_of (shapes_of us)) s.ops (at_first s us)

@@ -4,7 +4,7 @@ use Rattle.std.specs.Prelude.{All}
 use Rattle.std.specs.Int.{w16, to_be_bytes}
 use Rattle.std.proofs.lemmas.Bool.{false≢true}
 use Rattle.std.proofs.lemmas.List.{drop_at, length-append, length-replicate, get_or_append_left, get_or-append_right}
-use Rattle.std.proofs.lemmas.List.Elements.{All-append, All-cons, All-nil, All-replicate}
+use Rattle.std.proofs.lemmas.List.Elements.{All-append, All-cons, All-nil}
 use Rattle.pi_guard.specs.Guards.{crc}
 use Rattle.pi_tuple.specs.Finds.{has_ref_tag, is_escaped, is_zero, own_tag}
 use Rattle.pi_tuple.specs.Tuples.{ref_tag, tuple_bytes}
@@ -29,7 +29,7 @@ use Rattle.whole_run.specs.Settings.{Setting}
 use Rattle.whole_run.specs.UnderMap.{IsClean}
 use Rattle.whole_run.proofs.TupleFrames.{Small, data_is, tag_below, tuple_below, tuple_is}
 use Rattle.run_laws.specs.ShownRun.{DevicesAreClean}
-use Rattle.run_premises.proofs.Near.{crc-zeros}
+use Rattle.run_premises.proofs.Near.{crc-zeros, zeros_are_bytes}
 
 -- ---- the header's length
 
@@ -177,14 +177,11 @@ each_below : (n : ℕ) (xs : List ℕ) → AllBelow n xs → All (λ x. x < n) x
 each_below n [] h = All-nil (λ (x : ℕ). x < n)
 each_below n (x ∷ xs) h = All-cons (λ (y : ℕ). y < n) x xs h.0 (each_below n xs h.1)
 
-zeros : (n : ℕ) → All (λ x. x < 256) (replicate n 0)
-zeros n = All-replicate (λ (x : ℕ). x < 256) n 0 (omega arith)
-
 with_tuple : (size : ℕ) (t : Tuple) → All (λ x. x < 256) (frame_of (replicate size 0) t)
-with_tuple size t = All-append (λ (x : ℕ). x < 256) (replicate size 0) (tuple_bytes t) (zeros size) (each_below 256 (tuple_bytes t) (tuple_below t))
+with_tuple size t = All-append (λ (x : ℕ). x < 256) (replicate size 0) (tuple_bytes t) (zeros_are_bytes size) (each_below 256 (tuple_bytes t) (tuple_below t))
 
 fresh_below : (ty : PiType) (size lba : ℕ) → All (λ x. x < 256) (fresh ty size lba)
-fresh_below Zero size lba = zeros size
+fresh_below Zero size lba = zeros_are_bytes size
 fresh_below One size lba = with_tuple size (record { guard = 0; app = 0; rtag = own_tag One lba })
 fresh_below Two size lba = with_tuple size (record { guard = 0; app = 0; rtag = own_tag Two lba })
 fresh_below Three size lba = with_tuple size (record { guard = 0; app = 0; rtag = own_tag Three lba })

@@ -7,10 +7,7 @@ use Rattle.stack_steps.specs.Does.{Holds}
 use Rattle.stack_core.specs.declared.stack.Stack.{Stack}
 use Rattle.stack_core.specs.Mediums.{HasCounted, medium_replies, mediums}
 use Rattle.stack_core.specs.Stacks.{plan_in}
-
-none_untouched : (n : ℕ) → mediums (replicate n Untouched) ≡ 0
-none_untouched zero = refl
-none_untouched (suc n) = let r = none_untouched n in omega (arith, r)
+use Rattle.stack_core.proofs.MediumFates.{untouched_mediums}
 
 silent_replies : (n : ℕ) → medium_replies (replicate n Silent) ≡ 0
 silent_replies zero = refl
@@ -18,6 +15,6 @@ silent_replies (suc n) = let r = silent_replies n in omega (arith, r)
 
 pub none_counted : (s : Stack) (n k : ℕ) → Holds (plan_in s.sheet) s.machine (start (plan_in s.sheet)) → s.kept.held.items ≡ replicate n Untouched → s.replies.items ≡ replicate k Silent → (first : ℕ) → HasCounted first s first
 none_counted s n k h held replies first =
-    let a = ap mediums held ∙ none_untouched n in
+    let a = ap mediums held ∙ untouched_mediums n in
     let b = ap medium_replies replies ∙ silent_replies k in
     record { view = start (plan_in s.sheet); holds = h; rose = inl (omega (arith, a, b)) }

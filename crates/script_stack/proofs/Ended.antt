@@ -21,13 +21,14 @@ use Rattle.stack_core.specs.Mediums.{HasCounted, RoseBy, medium_lines}
 use Rattle.stack_core.specs.Stacks.{GoesOn, IsStack, Stays, plan_in}
 use Rattle.stack_core.specs.Walking.{NoneFailed, Walks, WalksFalling}
 use Rattle.stack_core.specs.declared.stack.Stack.{Stack}
+use Rattle.stack_core.proofs.ToldOps.{is_told}
 use Rattle.stack_steps.specs.Does.{Holds}
 use Rattle.stack_view.specs.Steps.{enabled}
 use Rattle.stack_view.specs.View.{View, start}
 use Rattle.script_stack.specs.Followed.{BeginsTold, BeginsWalks, HasWalked, IsBackedBy, SizesAre, begun_of, failed_in, none_fails, setting_of, unit_of, BeginsFalling, HasFallen}
 use Rattle.script_stack.specs.Going.{Outside, Went}
 use Rattle.script_stack.specs.Sends.{IsPlanFor, SendsBy, SendsFor, by_words, entries_of}
-use Rattle.script_stack.proofs.Following.{behind, told-image, told-shapes, told-stored}
+use Rattle.script_stack.proofs.Following.{behind, told-shapes, told-stored}
 use Rattle.script_stack.proofs.SendsBy.{AllLaw, FewLaw, sends_for}
 
 -- the law over any rig
@@ -135,7 +136,7 @@ told_at s t devices words begun r image image' old new o us e =
     let told' : units_told new.standing image' ≡ Some after.0 = sym o.laid_after ∙ after.1 in
     let shapes : shapes_of us ≡ specs_of old.standing = told-shapes old.standing image us told o.ready in
     let shapes' : shapes_of after.0 ≡ specs_of new.standing = told-shapes new.standing image' after.0 told' o.ready_after in
-    let known : devices ≡ map info_of (specs_of old.standing) = o.known (told-image old.standing image us told) in
+    let known : devices ≡ map info_of (specs_of old.standing) = o.known (is_told old.standing image us told) in
     let infos : devices ≡ map info_of (shapes_of us) = known ∙ ap (map info_of) (sym shapes) in
     record {
       infos = infos;

@@ -1,6 +1,6 @@
 -- A script that was run over a rig was followed to its end.
 use Rattle.std.proofs.Common.{◌≡◌, ◌<◌, ℕ, zero, suc, ◌+◌, Bool, true, false, List, [], ◌∷◌, ◌++◌, length, drop, Option, Some, None, refl, sym, ap, subst, ◌∙◌, arith}
-use Rattle.std.specs.Prelude.{if◌then◌else◌, is_some, slice_index, take}
+use Rattle.std.specs.Prelude.{if◌then◌else◌, slice_index, take}
 use Rattle.std.proofs.lemmas.List.{length-map, length-take}
 use Rattle.std.specs.List.{All}
 use Rattle.std.proofs.lemmas.List.Elements.{All-cons, All-nil}
@@ -76,11 +76,6 @@ told-stored st image us e r =
     let m = ap length s in
     let t = length-take st.devices (units_of st.head) in
     stored-from us (λ dev l. (unit-stands st image us dev e r (omega arith)).long)
-
--- whose units are told tells its image
-pub told-image : (st : Standing) (image : Option (List ℕ)) (us : List Stored) → units_told st image ≡ Some us → is_some image ≡ true
-told-image st None us e = absurd (none-some us e)
-told-image st (Some bytes) us e = refl
 
 -- the stored blocks after a call that changed neither image nor head
 pub units-through : (s s2 : Standing) (image image2 : Option (List ℕ)) (units units2 : Option (List Stored)) → units ≡ units_told s image → units2 ≡ units_told s2 image2 → s2 ≡ s → image2 ≡ image → units2 ≡ units

@@ -1,10 +1,9 @@
 -- The devices of a script that is bound to a volume are the rig's.
 use Rattle.std.proofs.Common.{◌≡◌, ◌<◌, ◌≤◌, ℕ, zero, suc, ◌+◌, Bool, true, false, not, ◌&&◌, ◌||◌, List, [], ◌∷◌, length, map, drop, refl, sym, ap, ◌∙◌, arith, Option, Some, None}
 use Rattle.std.specs.Prelude.{eqb, if◌then◌else◌, pos, slice_get, slice_index_or}
-use Rattle.std.proofs.lemmas.Bool.{and_parts, eqb-true}
+use Rattle.std.proofs.lemmas.Bool.{and_parts, eqb-true, or_parts, and_from, not-false}
 use Rattle.std.proofs.lemmas.List.{length-drop}
 use Rattle.pi_tuple.specs.declared.checks.PiType.{PiType}
-use Rattle.pi_tuple.specs.declared.checks.PiType.TheVariants.{One, Three, Two, Zero}
 use Rattle.rig_api.specs.declared.change.Change.{Change}
 use Rattle.rig_api.specs.declared.change.Change.TheVariants.{Copy, Flip}
 use Rattle.rig_api.specs.Telling.{Standing, can_change, has_address, no_spec, source_of, spec_at, specs_of}
@@ -23,9 +22,9 @@ use Rattle.stack_core.specs.declared.stack.Stack.{Stack}
 use Rattle.stack_core.specs.Doing.{CanReach}
 use Rattle.stack_walks.specs.Sheets.{op_in as op_at}
 use Rattle.stack_core.specs.Stacks.{Reaches}
-use Rattle.script_ground.proofs.Bodies.{true-of}
 use Rattle.script_ground.proofs.Ops.{no-fault}
 use Rattle.script_ground.proofs.Standing.{bound}
+use Rattle.script_ground.proofs.Addresses.{same-type}
 
 get-there : (ds : List DeviceInfo) (i : ℕ) (d : DeviceInfo) → slice_get ds i ≡ Some d → i < length ds
 get-there [] i d h = absurd cc
@@ -36,24 +35,6 @@ get-info : (us : List UnitSpec) (i : ℕ) (d : DeviceInfo) → slice_get (map in
 get-info [] i d h = absurd cc
 get-info (u ∷ us) zero d h = cc
 get-info (u ∷ us) (suc i) d h = get-info us i d h
-
-type-is : (a b : PiType) → is_type a b ≡ true → a ≡ b
-type-is Zero Zero h = refl
-type-is Zero One h = absurd cc
-type-is Zero Two h = absurd cc
-type-is Zero Three h = absurd cc
-type-is One Zero h = absurd cc
-type-is One One h = refl
-type-is One Two h = absurd cc
-type-is One Three h = absurd cc
-type-is Two Zero h = absurd cc
-type-is Two One h = absurd cc
-type-is Two Two h = refl
-type-is Two Three h = absurd cc
-type-is Three Zero h = absurd cc
-type-is Three One h = absurd cc
-type-is Three Two h = absurd cc
-type-is Three Three h = refl
 
 -- a device that can be altered at an address
 record Altered (ty : PiType) (size lba : ℕ) (o : Option DeviceInfo) : Type 0 where
@@ -68,16 +49,12 @@ altered ty size lba None h = absurd cc
 altered ty size lba (Some d) h =
     let a = and_parts (is_type d.ty ty) (eqb d.size size && is_on d lba (pos 0)) h in
     let b = and_parts (eqb d.size size) (is_on d lba (pos 0)) a.1 in
-    record { device = d; known = refl; type_same = type-is d.ty ty a.0; size_same = eqb-true d.size size b.0; inside = b.1 }
+    record { device = d; known = refl; type_same = same-type d.ty ty a.0; size_same = eqb-true d.size size b.0; inside = b.1 }
 
 address : (u : UnitSpec) (lba : ℕ) → is_on (info_of u) lba (pos 0) ≡ true → has_address u lba ≡ true
 address u lba h =
     let z : lba + 0 ≡ lba = omega arith in
     rw z at h
-
-neither : (a b : Bool) → a || b ≡ false → (a ≡ false) × (b ≡ false)
-neither true b h = absurd cc
-neither false b h = (refl, h)
 
 no-fault-of : (b : Bool) → (if b then Some BadFault else None) ≡ None → b ≡ false
 no-fault-of true h = absurd cc
@@ -102,11 +79,8 @@ stands st ty size dev lba devices e h =
 source-there : (change : Change) (t : Table) (devices : List DeviceInfo) (size dev : ℕ) → dev < length devices → is_bad_change t devices size change ≡ false → source_of change dev < length devices
 source-there (Flip off bytes) t devices size dev l h = l
 source-there (Copy from at) t devices size dev l h =
-    let a = altered t.ty size at (slice_get devices from) (true-of (is_alterable t.ty size at (slice_get devices from)) h) in
+    let a = altered t.ty size at (slice_get devices from) (not-false (is_alterable t.ty size at (slice_get devices from)) h) in
     get-there devices from a.device a.known
-
-both : (a b : Bool) → a ≡ true → b ≡ true → a && b ≡ true
-both a b h k = rw (h, k) refl
 
 same-lengths : (s d : Standing) (ty : PiType) (size from dev : ℕ) → (spec_at s from).ty ≡ ty → (spec_at s from).size ≡ size → (spec_at s dev).ty ≡ ty → (spec_at s dev).size ≡ size →
     eqb (stored_size (spec_at s from).ty (spec_at s from).size) (stored_size (spec_at s dev).ty (spec_at s dev).size) ≡ true
@@ -116,8 +90,8 @@ change-there : (change : Change) (st : Standing) (t : Table) (devices : List Dev
 change-there (Flip off bytes) st t devices size dev lba e h k = (stands st t.ty size dev lba devices e h).has
 change-there (Copy from at) st t devices size dev lba e h k =
     let a = stands st t.ty size dev lba devices e h in
-    let b = stands st t.ty size from at devices e (true-of (is_alterable t.ty size at (slice_get devices from)) k) in
-    both (has_address (spec_at st dev) lba) _ a.has (both (has_address (spec_at st from) at) _ b.has (same-lengths st st t.ty size from dev b.type_same b.size_same a.type_same a.size_same))
+    let b = stands st t.ty size from at devices e (not-false (is_alterable t.ty size at (slice_get devices from)) k) in
+    and_from (has_address (spec_at st dev) lba) _ a.has (and_from (has_address (spec_at st from) at) _ b.has (same-lengths st st t.ty size from dev b.type_same b.size_same a.type_same a.size_same))
 
 op-reaches : (op : Op) (told : Bool) (st : Standing) (t : Table) (devices : List DeviceInfo) (size : ℕ) → st.devices ≡ length devices → (told ≡ true → devices ≡ map info_of (specs_of st)) → op_fault t devices size op ≡ None → CanReach told st op
 op-reaches (Fill seg byte) told st t devices size n e h = tt
@@ -129,8 +103,8 @@ op-reaches (Fetch v k body) told st t devices size n e h = tt
 op-reaches (WritePi v k body tuples) told st t devices size n e h = tt
 op-reaches (FetchPi v k body tuples) told st t devices size n e h = tt
 op-reaches (Overwrite dev lba change) told st t devices size n e h =
-    let a = neither (is_bad_change t devices size change) (not (is_alterable t.ty size lba (slice_get devices dev))) (no-fault-of (is_bad_change t devices size change || not (is_alterable t.ty size lba (slice_get devices dev))) h) in
-    let w = true-of (is_alterable t.ty size lba (slice_get devices dev)) a.1 in
+    let a = or_parts (is_bad_change t devices size change) (not (is_alterable t.ty size lba (slice_get devices dev))) (no-fault-of (is_bad_change t devices size change || not (is_alterable t.ty size lba (slice_get devices dev))) h) in
+    let w = not-false (is_alterable t.ty size lba (slice_get devices dev)) a.1 in
     let x = altered t.ty size lba (slice_get devices dev) w in
     let l = get-there devices dev x.device x.known in
     let s = source-there change t devices size dev l a.0 in

@@ -1,5 +1,5 @@
 -- A script that suits a stack and is bound to a volume: a stack can be made for it.
-use Rattle.std.proofs.Common.{◌≡◌, ◌≤◌, ℕ, zero, suc, ◌+◌, Bool, true, false, not, ◌&&◌, List, [], ◌∷◌, length, map, drop, replicate, refl, inl, inr, subst, arith, Option, None}
+use Rattle.std.proofs.Common.{◌≡◌, ◌≤◌, ℕ, zero, suc, ◌+◌, Bool, true, false, ◌&&◌, List, [], ◌∷◌, length, map, drop, replicate, refl, inl, inr, subst, arith, Option, None}
 use Rattle.std.specs.Prelude.{◌%◌, nat_le, nat_lt}
 use Rattle.std.proofs.lemmas.Bool.{and_parts, eqb-true, leb-true}
 use Rattle.std.proofs.lemmas.List.{length-drop, length-replicate}
@@ -20,16 +20,18 @@ use Rattle.script_text.specs.Rules.{request_blocks}
 use Rattle.script_text.specs.Segments.{are_whole_tuples, is_inside, is_whole}
 use Rattle.script_laws.specs.Keeping.{IsProtect, blocks_of}
 use Rattle.script_laws.specs.Lines.{line_of}
+use Rattle.script_laws.proofs.OpForms.{no_fault, found_inside}
 use Rattle.stack_walks.specs.Requests.{first_page, page_after, request_of, requests_from}
 use Rattle.stack_walks.specs.Sheets.{op_in as op_at, request_in}
 use Rattle.stack_core.specs.Stacks.{AreUniform}
 use Rattle.stack_walks.specs.Starting.{AreTuples, CanStart, IsData, IsOp}
 use Rattle.stack_core.proofs.Opening.{uniform}
 use Rattle.script_ground.specs.SuitsStack.{IsStackOp, SuitsStack}
-use Rattle.script_ground.proofs.Bodies.{HaveTuples, IsBody, alone-of, both-of, inside-ok, unless-ok}
+use Rattle.script_ground.proofs.Bodies.{HaveTuples, IsBody, alone-of, both-of}
 use Rattle.script_ground.proofs.Ops.{in-range, no-fault, rules-at}
 use Rattle.script_ground.proofs.Segments.{all-lie, lies}
 use Rattle.script_ground.proofs.Standing.{bound}
+use Rattle.script_ground.proofs.BoundRuns.{has-tuples}
 use Rattle.script_stack.proofs.Shared.{AreOnce, are-once}
 
 -- ---- data and tuples of a request
@@ -46,41 +48,37 @@ data-of pages size len v n pool body e b r = record { some = b.some; size = b.lo
 tuples-of : (pages n : ℕ) (pool : List (List ℕ)) (body tuples : List Seg) → length pool ≡ pages → HaveTuples pages n tuples → AreOnce body tuples → AreTuples pool n tuples
 tuples-of pages n pool body tuples e b o = record { whole = all-whole tuples b.whole; long = b.long; lies = all-lie pages pool tuples e b.inside; once = o.tuples_once }
 
-travels : (dix : Bool) → not dix && true ≡ false → dix ≡ true
-travels true h = refl
-travels false h = absurd cc
-
 -- ---- each op
 
 ready-op : (dix : Bool) (pages size : ℕ) (pool : List (List ℕ)) (t : Table) (devices : List DeviceInfo) (op : Op) → length pool ≡ pages → IsStackOp dix pages size op → op_fault t devices size op ≡ None → IsOp dix pool size (volume_len t.entries) op
-ready-op dix pages size pool t devices (Fill seg byte) e k h = lies pages pool seg e (inside-ok (is_inside pages seg) _ _ k.rules)
+ready-op dix pages size pool t devices (Fill seg byte) e k h = lies pages pool seg e (found_inside (is_inside pages seg) _ _ k.rules)
 ready-op dix pages size pool t devices (Put page off bytes) e k h =
-    let there = inside-ok (is_inside pages (record { page = page; off = off; len = length bytes })) _ _ k.rules in
+    let there = found_inside (is_inside pages (record { page = page; off = off; len = length bytes })) _ _ k.rules in
     let in_page = and_parts (nat_lt page pages) (nat_lt 0 (length bytes) && nat_le (off + length bytes) 4096) there in
     let few = leb-true (off + length bytes) 4096 (and_parts (nat_lt 0 (length bytes)) (nat_le (off + length bytes) 4096) in_page.1).1 in
     (lies pages pool (record { page = page; off = off; len = length bytes }) e there, omega arith)
 ready-op dix pages size pool t devices (Show seg) e k h =
-    lies pages pool seg e (and_parts (is_inside pages seg) (nat_le seg.len 64) (inside-ok (is_inside pages seg && nat_le seg.len 64) _ _ k.rules)).0
+    lies pages pool seg e (and_parts (is_inside pages seg) (nat_le seg.len 64) (found_inside (is_inside pages seg && nat_le seg.len 64) _ _ k.rules)).0
 ready-op dix pages size pool t devices (Seal n body tuples app rtag) e k h =
-    let b = both-of pages size n body tuples (unless-ok (both_fault pages size n body tuples) _ _ k.rules) in
+    let b = both-of pages size n body tuples (no_fault (both_fault pages size n body tuples) _ _ k.rules) in
     let o = are-once body tuples b.overlap in
     let few = b.body_is.few in
     let r = k.tag in
     (b.body_is.some, (all-lie pages pool body e b.body_is.inside, (tuples-of pages n pool body tuples e b.tuples_are o, (o.apart, omega arith))))
 ready-op dix pages size pool t devices (Write v n body app) e k h =
-    let a = alone-of pages size n body (unless-ok (data_fault pages size n body) _ _ k.rules) in
+    let a = alone-of pages size n body (no_fault (data_fault pages size n body) _ _ k.rules) in
     data-of pages size (volume_len t.entries) v n pool body e a.body_is (in-range t v n h)
 ready-op dix pages size pool t devices (Fetch v n body) e k h =
-    let a = alone-of pages size n body (unless-ok (data_fault pages size n body) _ _ k.rules) in
+    let a = alone-of pages size n body (no_fault (data_fault pages size n body) _ _ k.rules) in
     (data-of pages size (volume_len t.entries) v n pool body e a.body_is (in-range t v n h), (are-once body [] a.overlap).body_once)
 ready-op dix pages size pool t devices (WritePi v n body tuples) e k h =
-    let b = both-of pages size n body tuples (unless-ok (both_fault pages size n body tuples) _ _ k.rules) in
+    let b = both-of pages size n body tuples (no_fault (both_fault pages size n body tuples) _ _ k.rules) in
     let o = are-once body tuples b.overlap in
-    (travels dix k.integrity, (data-of pages size (volume_len t.entries) v n pool body e b.body_is (in-range t v n h), (tuples-of pages n pool body tuples e b.tuples_are o, o.apart)))
+    (has-tuples dix k.integrity, (data-of pages size (volume_len t.entries) v n pool body e b.body_is (in-range t v n h), (tuples-of pages n pool body tuples e b.tuples_are o, o.apart)))
 ready-op dix pages size pool t devices (FetchPi v n body tuples) e k h =
-    let b = both-of pages size n body tuples (unless-ok (both_fault pages size n body tuples) _ _ k.rules) in
+    let b = both-of pages size n body tuples (no_fault (both_fault pages size n body tuples) _ _ k.rules) in
     let o = are-once body tuples b.overlap in
-    (travels dix k.integrity, (data-of pages size (volume_len t.entries) v n pool body e b.body_is (in-range t v n h), (o.body_once, (tuples-of pages n pool body tuples e b.tuples_are o, o.apart))))
+    (has-tuples dix k.integrity, (data-of pages size (volume_len t.entries) v n pool body e b.body_is (in-range t v n h), (o.body_once, (tuples-of pages n pool body tuples e b.tuples_are o, o.apart))))
 ready-op dix pages size pool t devices (Overwrite dev lba change) e k h = tt
 ready-op dix pages size pool t devices Wait e k h = tt
 

@@ -2,7 +2,7 @@ use Rattle.std.proofs.Common.{ℕ, suc, ◌≡◌, ◌+◌, ◌-◌, ◌<◌, Li
 use Rattle.stack_ops.specs.declared.op.Op.{Op}
 use Rattle.script_text.specs.Generator.{after_op, after_ops, drawn, next_state, numbers_from, op_from, ops_from, schedule_from}
 
-less : (n i : ℕ) → i < n → n - i ≡ suc (n - (i + 1))
+pub less : (n i : ℕ) → i < n → n - i ≡ suc (n - (i + 1))
 less n i h = omega (arith, h)
 
 -- a list whose items are those so far and a next one

@@ -5,11 +5,11 @@ use Rattle.page_pool.specs.Places.{PageByte, places_in, run, total}
 use Rattle.page_pool.specs.Walking.{InPages}
 use Rattle.script_text.specs.Segments.{are_inside, is_inside}
 
-and_first : (a b : Bool) → a && b ≡ true → a ≡ true
+pub and_first : (a b : Bool) → a && b ≡ true → a ≡ true
 and_first true b h = refl
 and_first false b h = h
 
-and_second : (a b : Bool) → a && b ≡ true → b ≡ true
+pub and_second : (a b : Bool) → a && b ≡ true → b ≡ true
 and_second true b h = h
 and_second false b h = absurd (cc)
 

@@ -1,8 +1,8 @@
 mod Walks
-mod Filled
+pub mod Filled
 mod Sharing
 mod Tracking
 mod Texts
 mod Drawing
-mod Staying
+pub mod Staying
 mod Marking

@@ -3,8 +3,7 @@ use Rattle.std.specs.List.{list_any}
 use Rattle.std.specs.Prelude.{if◌then◌else◌}
 use Rattle.std.proofs.Math.ListN.{drop_of_length-le}
 use Rattle.std.proofs.Math.Seq.{take-suc}
-use Rattle.std.proofs.lemmas.Bool.{cases_Bool, cases_lt}
-use Rattle.std.proofs.lemmas.Bool.Decides.{nat_tests}
+use Rattle.std.proofs.lemmas.Bool.{cases_Bool, cases_lt, and_right, eqb-true, and_from, and_left, eqb-false}
 use Rattle.std.proofs.lemmas.List.{get_or-replicate, get_or-set_other, get_or-set_same}
 use Rattle.std.proofs.lemmas.List.Folds.{list_any-append}
 use Rattle.std.proofs.lemmas.Option.{slice_get_past}
@@ -33,44 +32,26 @@ or_true : (a b : Bool) → b ≡ true → a || (b || false) ≡ true
 or_true true b h = refl
 or_true false b h = ap (λ x. x || false) h
 
-and_false : (a b : Bool) → b ≡ false → a && b ≡ false
-and_false true b h = h
-and_false false b h = refl
-
-both_true : (a b : Bool) → a ≡ true → b ≡ true → a && b ≡ true
-both_true true b g h = h
-both_true false b g h = g
-
-first_false : (a b : Bool) → a ≡ false → a && b ≡ false
-first_false true b g = absurd (cc)
-first_false false b g = refl
-
 one_more : (earlier : List FaultLine) (f : FaultLine) (n : ℕ) → list_any (shifts n) (earlier ++ (f ∷ [])) ≡ (list_any (shifts n) earlier || (shifts n f || false))
 one_more earlier f n = list_any-append (shifts n) earlier (f ∷ [])
-
-same_number : (n m : ℕ) → eqb n m ≡ true → n ≡ m
-same_number n m h = grind (arith, nat_tests)
-
-other_number : (n m : ℕ) → eqb n m ≡ false → n ≡ m → ⊥
-other_number n m h e = grind (arith, nat_tests)
 
 mark_at : (marks : List Bool) (earlier : List FaultLine) (f : FaultLine) (n : ℕ) → AreMarked marks earlier → n < 1025 → is_shift f.kind ≡ true → get_or (set marks f.op true) n false ≡ list_any (shifts n) (earlier ++ (f ∷ []))
 mark_at marks earlier f n m h s =
     ⊎_elim
     (λ (e : eqb n f.op ≡ true).
-    let same : n ≡ f.op = same_number n f.op e in
+    let same : n ≡ f.op = eqb-true n f.op e in
     ap (λ k. get_or (set marks f.op true) k false) same
     ∙ get_or-set_same marks f.op true false (omega (arith, same, h, m.room))
-    ∙ sym (one_more earlier f n ∙ or_true (list_any (shifts n) earlier) (shifts n f) (both_true (eqb n f.op) (is_shift f.kind) e s)))
+    ∙ sym (one_more earlier f n ∙ or_true (list_any (shifts n) earlier) (shifts n f) (and_from (eqb n f.op) (is_shift f.kind) e s)))
     (λ (e : eqb n f.op ≡ false).
-    get_or-set_other marks f.op n true false (other_number n f.op e)
+    get_or-set_other marks f.op n true false (eqb-false n f.op e)
     ∙ m.marks_are n h
-    ∙ sym (one_more earlier f n ∙ or_nothing (list_any (shifts n) earlier) (shifts n f) (first_false (eqb n f.op) (is_shift f.kind) e)))
+    ∙ sym (one_more earlier f n ∙ or_nothing (list_any (shifts n) earlier) (shifts n f) (and_left (eqb n f.op) (is_shift f.kind) e)))
     (cases_Bool (eqb n f.op))
 
 no_mark_at : (marks : List Bool) (earlier : List FaultLine) (f : FaultLine) (n : ℕ) → AreMarked marks earlier → n < 1025 → is_shift f.kind ≡ false → get_or marks n false ≡ list_any (shifts n) (earlier ++ (f ∷ []))
 no_mark_at marks earlier f n m h s =
-    m.marks_are n h ∙ sym (one_more earlier f n ∙ or_nothing (list_any (shifts n) earlier) (shifts n f) (and_false (eqb n f.op) (is_shift f.kind) s))
+    m.marks_are n h ∙ sym (one_more earlier f n ∙ or_nothing (list_any (shifts n) earlier) (shifts n f) (and_right (eqb n f.op) (is_shift f.kind) s))
 
 marked_by : (b : Bool) (marks : List Bool) (earlier : List FaultLine) (f : FaultLine) → is_shift f.kind ≡ b → AreMarked marks earlier → AreMarked (if b then set marks f.op true else marks) (earlier ++ (f ∷ []))
 marked_by true marks earlier f s m = record { room = length-set marks f.op true ∙ m.room; marks_are = λ n h. mark_at marks earlier f n m h s }

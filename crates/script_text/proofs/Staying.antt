@@ -1,15 +1,13 @@
-use Rattle.std.proofs.Common.{ℕ, ℤ, suc, ◌≡◌, ◌+◌, ◌-◌, ◌<◌, nat_le, Bool, true, false, if◌then◌else◌, List, sym, ap, ◌∙◌, arith, ⊎_elim}
+use Rattle.std.proofs.Common.{ℕ, ℤ, ◌≡◌, ◌+◌, ◌-◌, ◌<◌, nat_le, Bool, true, false, if◌then◌else◌, List, sym, ap, ◌∙◌, arith, ⊎_elim}
 use Rattle.std.proofs.lemmas.Bool.{cases_Bool, leb-true}
 use Rattle.volume_table.specs.declared.device.DeviceInfo.{DeviceInfo}
 use Rattle.volume_table.specs.Places.{volume_len}
 use Rattle.volume_table.specs.Tables.{Table}
 use Rattle.script_text.specs.Bindings.{block_stays, blocks_stay}
+use Rattle.script_text.proofs.Drawing.{less}
 
-not_behind : (l at : ℕ) → at < l → nat_le l at ≡ false
+pub not_behind : (l at : ℕ) → at < l → nat_le l at ≡ false
 not_behind l at h = ⊎_elim (λ (e : nat_le l at ≡ true). let g = leb-true l at e in absurd (omega (arith, h, g))) (λ (e : nat_le l at ≡ false). e) (cases_Bool (nat_le l at))
-
-less : (n i : ℕ) → i < n → n - i ≡ suc (n - (i + 1))
-less n i h = omega (arith, h)
 
 pub stay_more : (t : Table) (devices : List DeviceInfo) (by : ℤ) (at n i : ℕ) (all : Bool) → i < n → at < volume_len t.entries → block_stays t devices by at ≡ true
     → blocks_stay t devices by at (n - i) ≡ all → blocks_stay t devices by (at + 1) (n - (i + 1)) ≡ all

@@ -1,4 +1,4 @@
-use Rattle.std.proofs.Common.{ℕ, zero, suc, ◌≡◌, ◌+◌, ◌^◌, ◌<◌, ◌≤◌, ◌||◌, ◌&&◌, Bool, true, false, eqb, leb, cond, List, [], ◌∷◌, ◌++◌, length, get_or, drop, drop-cons, refl, sym, ap, subst, ◌∙◌, arith, add-one, append_assoc}
+use Rattle.std.proofs.Common.{ℕ, zero, suc, ◌≡◌, ◌+◌, ◌^◌, ◌<◌, ◌≤◌, ◌||◌, ◌&&◌, Bool, true, false, leb, cond, List, [], ◌∷◌, ◌++◌, length, get_or, drop, drop-cons, sym, ap, subst, ◌∙◌, arith, add-one, append_assoc}
 use Rattle.std.specs.List.{list_any}
 use Rattle.std.proofs.Common.{Result, Ok, Err, OnOk, OnErr}
 use Rattle.script_lines.specs.declared.kind.ScriptKind.{ScriptKind}
@@ -10,14 +10,13 @@ use Rattle.script_text.specs.declared.trees.Inner.{Inner}
 use Rattle.std.specs.declared.alloc.Global.{Global}
 use Rattle.std.specs.declared.vec.Vec.{Vec}
 use Rattle.std.proofs.lemmas.List.{map-append}
+use Rattle.std.proofs.lemmas.Bool.{eq-eqb}
 use Rattle.volume_tree.specs.Tracks.{tracks_of}
 use Rattle.script_text.specs.Trees.{are_lengths, is_bad_volume, is_length, is_past, track_from, tracks_in}
+use Rattle.script_text.proofs.Filled.{and_first, and_second}
 
 abbrev extent : ℕ → Inner → Linear
 extent start i = record { start = start; len = i.len; dev = i.dev; at = i.at }
-
-is_same : (a b : ℕ) → a ≡ b → eqb a b ≡ true
-is_same a b h = grind (arith, nat_tests)
 
 small : (n : ℕ) → n < 2 ^ 64 → leb (2 ^ 64) n ≡ false
 small n h = grind (arith, nat_tests)
@@ -30,22 +29,14 @@ next_past volume k inner d h = ap (list_any (is_past volume)) (drop-cons inner k
 
 pub take_track : (start volume k : ℕ) (inner : List Inner) (d : Inner) → k < length inner → (get_or inner k d).volume ≡ volume → track_from start volume (drop k inner) ≡ extent start (get_or inner k d) ∷ track_from (start + (get_or inner k d).len) volume (drop (k + 1) inner)
 take_track start volume k inner d h n =
-    next_track start volume k inner d h ∙ ap (λ b. cond b (extent start (get_or inner k d) ∷ track_from (start + (get_or inner k d).len) volume (drop (k + 1) inner)) (track_from start volume (drop (k + 1) inner))) (is_same (get_or inner k d).volume volume n)
+    next_track start volume k inner d h ∙ ap (λ b. cond b (extent start (get_or inner k d) ∷ track_from (start + (get_or inner k d).len) volume (drop (k + 1) inner)) (track_from start volume (drop (k + 1) inner))) (eq-eqb (get_or inner k d).volume volume n)
 
 past_by : (volume k : ℕ) (inner : List Inner) (d : Inner) (b : Bool) → k < length inner → (get_or inner k d).volume ≡ volume → leb (2 ^ 64) ((get_or inner k d).at + (get_or inner k d).len) ≡ b → list_any (is_past volume) (drop k inner) ≡ b || list_any (is_past volume) (drop (k + 1) inner)
 past_by volume k inner d b h n e =
-    next_past volume k inner d h ∙ ap (λ t. t && leb (2 ^ 64) ((get_or inner k d).at + (get_or inner k d).len) || list_any (is_past volume) (drop (k + 1) inner)) (is_same (get_or inner k d).volume volume n) ∙ ap (λ t. t || list_any (is_past volume) (drop (k + 1) inner)) e
+    next_past volume k inner d h ∙ ap (λ t. t && leb (2 ^ 64) ((get_or inner k d).at + (get_or inner k d).len) || list_any (is_past volume) (drop (k + 1) inner)) (eq-eqb (get_or inner k d).volume volume n) ∙ ap (λ t. t || list_any (is_past volume) (drop (k + 1) inner)) e
 
 pub take_past : (volume k : ℕ) (inner : List Inner) (d : Inner) → k < length inner → (get_or inner k d).volume ≡ volume → (get_or inner k d).at + (get_or inner k d).len < 2 ^ 64 → list_any (is_past volume) (drop k inner) ≡ list_any (is_past volume) (drop (k + 1) inner)
 take_past volume k inner d h n f = past_by volume k inner d false h n (small ((get_or inner k d).at + (get_or inner k d).len) f)
-
-and_first : (a b : Bool) → a && b ≡ true → a ≡ true
-and_first true b h = refl
-and_first false b h = h
-
-and_second : (a b : Bool) → a && b ≡ true → b ≡ true
-and_second true b h = h
-and_second false b h = absurd (cc)
 
 in_length : (i : Inner) → is_length i ≡ true → (1 ≤ i.len) × (i.len ≤ 1048576)
 in_length i h = (grind (arith, nat_tests), grind (arith, nat_tests))

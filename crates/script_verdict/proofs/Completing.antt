@@ -78,7 +78,7 @@ not_bad image script entry kind name old new i t u =
     let k : ◌≡◌ {A = Option VolumeFault} None (Some (At entry kind)) = sym t ∙ ap (λ v. table_fault script.entries v script.block) (sym d) ∙ u.bad in
     absurd (cc)
 
-headed : (h : Head) (image : List ℕ) (told : Option (List ℕ)) → told ≡ Some image → IsHeadOf h told → h ≡ head_of image
+pub headed : (h : Head) (image : List ℕ) (told : Option (List ℕ)) → told ≡ Some image → IsHeadOf h told → h ≡ head_of image
 headed h image told e i = rw e at i
 
 pub no_head_fault : (image : List ℕ) (x : RigFault) (name : List ℕ) (old new : View) → old.image ≡ Some image → new.image ≡ old.image → head_fault (head_of image) ≡ None → WasOpened name (Some x) old new → ⊥

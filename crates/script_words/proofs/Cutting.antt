@@ -16,10 +16,10 @@ one_more n = omega arith
 ltb_suc : (a b : ℕ) → ltb (suc a) (suc b) ≡ ltb a b
 ltb_suc a b = grind (arith, nat_tests)
 
-ltb_zero : (a : ℕ) → ltb 0 (suc a) ≡ true
+pub ltb_zero : (a : ℕ) → ltb 0 (suc a) ≡ true
 ltb_zero a = grind (arith, nat_tests)
 
-next_of : (n : ℕ) → suc n + 1 ≡ suc (n + 1)
+pub next_of : (n : ℕ) → suc n + 1 ≡ suc (n + 1)
 next_of n = omega arith
 
 later_by : (t : Bool) (b n : ℕ) (bs : List ℕ) → cut_by (b ∷ bs) (cond t (Some (suc n)) None) ≡ later b (cut_by bs (cond t (Some n) None))
@@ -27,7 +27,7 @@ later_by true b n bs = ap (λ k. Some (record { before = b ∷ take n bs; after 
 later_by false b n bs = refl
 
 -- a text is cut at its first byte, or behind it
-cut_first : (mark b : ℕ) (bs : List ℕ) → eqb b mark ≡ true → cut mark (b ∷ bs) ≡ Some (record { before = []; after = bs })
+pub cut_first : (mark b : ℕ) (bs : List ℕ) → eqb b mark ≡ true → cut mark (b ∷ bs) ≡ Some (record { before = []; after = bs })
 cut_first mark b bs h =
     let p : position_or_len (is_byte mark) (b ∷ bs) ≡ 0 = ap (λ t. cond (not t) (1 + position_or_len (is_byte mark) bs) 0) h in
     ap (λ n. cut_by (b ∷ bs) (cond (ltb n (suc (length bs))) (Some n) None)) p ∙ ap (λ t. cut_by (b ∷ bs) (cond t (Some 0) None)) (ltb_zero (length bs))

@@ -1,13 +1,11 @@
 use Rattle.std.proofs.Common.{ℕ, ◌≡◌, ◌+◌, ◌-◌, ◌*◌, ◌^◌, ◌<◌, ◌≤◌, suc, true, false, ltb, List, [], ◌∷◌, length, drop, get_or, Some, None, refl, ap, arith, drop-cons, lt-ltb}
+use Rattle.std.proofs.lemmas.Bool.{le-ltb}
 use Rattle.script_words.specs.Decimals.{is_number, number_in, value_from}
 
 -- a value only grows with further digits
 value_grows : (n : ℕ) (ds : List ℕ) → n ≤ value_from n ds
 value_grows n [] = omega arith
 value_grows n (d ∷ ds) = let more = value_grows (n * 10 + (d - 48)) ds in omega (arith, more)
-
-ltb_not : (a b : ℕ) → b ≤ a → ltb a b ≡ false
-ltb_not a b h = grind arith
 
 by_digit : (word : List ℕ) (i v : ℕ) → i < length word → value_from v (drop i word) ≡ value_from (v * 10 + (get_or word i 0 - 48)) (drop (suc i) word)
 by_digit word i v h = ap (value_from v) (drop-cons word i 0 h)
@@ -17,7 +15,7 @@ over word i v same h spelled big =
     let d = by_digit word i v h in
     let grown = value_grows (v * 10 + (get_or word i 0 - 48)) (drop (suc i) word) in
     let large : 2 ^ 64 ≤ value_from 0 word = omega (arith, grown, d, same) in
-    let t : ltb (value_from 0 word) (2 ^ 64) ≡ false = ltb_not (value_from 0 word) (2 ^ 64) large in
+    let t : ltb (value_from 0 word) (2 ^ 64) ≡ false = le-ltb (value_from 0 word) (2 ^ 64) large in
     rw (spelled, t) refl
 
 pub within : (word : List ℕ) (v : ℕ) → v ≡ value_from 0 word → is_number word ≡ true → v < 2 ^ 64 → Some v ≡ number_in word

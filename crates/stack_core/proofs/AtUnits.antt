@@ -1,8 +1,8 @@
 -- A group before the units of a rig that tells its blocks: its ops are shifted alike, and the unit behind it has its addresses, where the shifts lead them.
 use Rattle.std.proofs.Common.{◌≡◌, inl, inr, ◌<◌, ◌≤◌, ℕ, zero, suc, ◌+◌, Bool, true, false, eqb, not, ◌||◌, List, [], ◌∷◌, ◌++◌, length, Option, refl, sym, ap, subst, ◌∙◌, arith}
-use Rattle.std.specs.Prelude.{ℤ, pos, negsuc, ◌+ℤ◌, nat_abs}
+use Rattle.std.specs.Prelude.{ℤ, pos, ◌+ℤ◌, nat_abs}
 use Rattle.std.proofs.Math.IntN.{+ℤ_assoc, +ℤ_comm}
-use Rattle.std.proofs.lemmas.Bool.{eqb-true, false≢true}
+use Rattle.std.proofs.lemmas.Bool.{or_parts, false_from_ne_true}
 use Rattle.std.proofs.lemmas.List.{get_or_past}
 use Rattle.bio_core.specs.Bios.{Block}
 use Rattle.bio_core.specs.declared.bio.Bio.{Bio}
@@ -24,29 +24,15 @@ use Rattle.stack_walks.specs.Sheets.{io_at, no_io, op_in}
 use Rattle.whole_run.specs.Settings.{Setting}
 use Rattle.run_moves.specs.OpsApart.{OpsConflict, is_shifted}
 use Rattle.run_moves.specs.ScriptMoves.{fates_of}
+use Rattle.run_moves.proofs.Inside.{still_by, still_is}
 
 -- ---- shifts
-
-true_of : (b : Bool) → not b ≡ false → b ≡ true
-true_of true h = refl
-true_of false h = absurd (false≢true (sym h))
-
-zero_of : (z : ℤ) → nat_abs z ≡ 0 → z ≡ pos 0
-zero_of (pos n) h = ap pos h
-zero_of (negsuc n) h = absurd (omega arith)
-
-no_size : (z : ℤ) → not (eqb (nat_abs z) 0) ≡ false → z ≡ pos 0
-no_size z h = zero_of z (eqb-true (nat_abs z) 0 (true_of (eqb (nat_abs z) 0) h))
-
-both_false : (x y : Bool) → (x || y) ≡ false → (x ≡ false) × (y ≡ false)
-both_false false y h = (refl, h)
-both_false true y h = absurd (false≢true (sym h))
 
 -- an op that no line shifts
 pub still : (m : Setting) (i : ℕ) → is_shifted m i ≡ false → (shift_of m.site.faults AdapterToTarget i ≡ pos 0) × (shift_of m.site.faults MediumToTarget i ≡ pos 0)
 still m i h =
-    let b = both_false (not (eqb (nat_abs (shift_of m.site.faults AdapterToTarget i)) 0)) (not (eqb (nat_abs (shift_of m.site.faults MediumToTarget i)) 0)) h in
-    (no_size (shift_of m.site.faults AdapterToTarget i) b.0, no_size (shift_of m.site.faults MediumToTarget i) b.1)
+    let b = or_parts (not (eqb (nat_abs (shift_of m.site.faults AdapterToTarget i)) 0)) (not (eqb (nat_abs (shift_of m.site.faults MediumToTarget i)) 0)) h in
+    (still_is (shift_of m.site.faults AdapterToTarget i) b.0, still_is (shift_of m.site.faults MediumToTarget i) b.1)
 
 -- a request that is shifted is alone
 request_alone : (op : Op) (shifted : Bool) → 0 < fates_of op → (footprint op shifted).alone ≡ shifted
@@ -61,15 +47,11 @@ request_alone (FetchPi v n body tuples) shifted h = refl
 request_alone (Overwrite dev lba change) shifted h = absurd (omega arith)
 request_alone Wait shifted h = absurd (omega arith)
 
-not_shifted : (b : Bool) → (b ≡ true → ⊥) → b ≡ false
-not_shifted true h = absurd (h refl)
-not_shifted false h = refl
-
 -- Two requests that don't conflict aren't shifted.
 pub both_still : (m : Setting) (i j : ℕ) (op other : Op) → 0 < fates_of op → 0 < fates_of other → ¬ OpsConflict m i op j other → (is_shifted m i ≡ false) × (is_shifted m j ≡ false)
 both_still m i j op other f g n = (
-  not_shifted (is_shifted m i) (λ t. n (inl (request_alone op (is_shifted m i) f ∙ t))),
-  not_shifted (is_shifted m j) (λ t. n (inr (inl (request_alone other (is_shifted m j) g ∙ t)))),
+  false_from_ne_true (is_shifted m i) (λ t. n (inl (request_alone op (is_shifted m i) f ∙ t))),
+  false_from_ne_true (is_shifted m j) (λ t. n (inr (inl (request_alone other (is_shifted m j) g ∙ t)))),
 )
 
 -- ---- a bio's first block is among those of its group
@@ -131,7 +113,7 @@ virt_of (FetchPi v n body tuples) page = refl
 virt_of (Overwrite dev lba change) page = refl
 virt_of Wait page = refl
 
-count_of : (op : Op) (page : Option ℕ) → (request_of op page).count ≡ fates_of op
+pub count_of : (op : Op) (page : Option ℕ) → (request_of op page).count ≡ fates_of op
 count_of (Fill seg byte) page = refl
 count_of (Put page off bytes) p = refl
 count_of (Show seg) page = refl

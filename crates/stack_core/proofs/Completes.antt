@@ -22,6 +22,7 @@ use Rattle.stack_view.specs.Steps.{settle}
 use Rattle.stack_view.specs.View.{Command, OpView, View, command_at, is_admitted, no_command, no_op, op_at}
 use Rattle.stack_view.proofs.Keeps.{command-there}
 use Rattle.stack_view.proofs.Ops.{grows-settle}
+use Rattle.stack_view.proofs.Enabled.{all-at}
 use Rattle.block_path.specs.declared.mode.Mode.{Mode}
 use Rattle.block_path.specs.Acts.{State}
 use Rattle.block_path.specs.Blocks.{Sent}
@@ -37,7 +38,7 @@ use Rattle.stack_walks.specs.Statuses.{after_all, fate_at, id_of, sent_as, with_
 use Rattle.stack_walks.proofs.Completing.{completed_statuses, once, were_out, were_sent}
 use Rattle.stack_walks.proofs.Fates.{done_with}
 use Rattle.stack_walks.proofs.Groups.{AllNumbered, ids_are, settled_given}
-use Rattle.stack_walks.proofs.Letting.{all_marked, lets_of}
+use Rattle.stack_walks.proofs.Letting.{lets_of}
 use Rattle.stack_core.specs.Courses.{Course}
 use Rattle.stack_walks.specs.Moved.{why_of}
 use Rattle.stack_walks.specs.Settled.{AllSettled, Kept}
@@ -46,9 +47,9 @@ use Rattle.stack_walks.specs.Sheets.{io_at}
 use Rattle.stack_core.specs.Walking.{Data, Follow, GoesOn, IsReply, shown_in, status_of, why_in}
 use Rattle.stack_walks.proofs.Chained.{Each, all_each, one_place}
 use Rattle.stack_core.proofs.Courses.{same_by}
-use Rattle.stack_walks.proofs.Facts.{place-is}
+use Rattle.stack_walks.proofs.Facts.{place-is, there as there_is}
 use Rattle.stack_core.proofs.FollowsComplete.{AllLets, NotAt, all_settled, at, each_keeps, each_whole}
-use Rattle.stack_core.proofs.FollowsGroup.{AllLie, Places, all_lie, all_of, all_sent, apart_of, is_this, there_is}
+use Rattle.stack_core.proofs.FollowsGroup.{AllLie, Places, all_lie, all_of, all_sent, apart_of, is_this}
 use Rattle.stack_core.proofs.Spotted.{Stands}
 
 each_same : {X : Type 0} (k n : ℕ) (f g : ℕ → X) → ((q : ℕ) → k ≤ q → q < k + n → f q ≡ g q) → each_from k n f ≡ each_from k n g
@@ -174,7 +175,7 @@ module _ {course : Course} (over : Setting) (n : ℕ) (opening : State) (es : Li
             replied = λ a l e. (let e' = sym (ap has_ended (phases a)) ∙ e in
                 let cnt = g.plan.count a in
                 let lg = s.lengths a in
-                subst (λ x. IsReply (op_in ops a) x (get_or d.replies a Silent)) (each_same 0 (fates_of (op_in ops a)) (why a) (next a) (λ q x y. sym (stays a q (all_marked (op_at v a).settled q (s.ended a e') (omega arith))))) (h.replied a l e'));
+                subst (λ x. IsReply (op_in ops a) x (get_or d.replies a Silent)) (each_same 0 (fates_of (op_in ops a)) (why a) (next a) (λ q x y. sym (stays a q (all-at (op_at v a).settled q (s.ended a e') (omega arith))))) (h.replied a l e'));
             failed = λ a l e. h.failed a l (sym (ap has_ended (phases a)) ∙ e);
             suited = λ a l e. h.suited a l (sym (ap has_ended (phases a)) ∙ e);
           };

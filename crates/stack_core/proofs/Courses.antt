@@ -47,7 +47,7 @@ use Rattle.run_falls.proofs.Forgiving.{AllOf, IsOf, op_of}
 use Rattle.run_falls.proofs.OverDevice.{same_steps}
 use Rattle.run_falls.proofs.SentIn.{fallen_in}
 use Rattle.run_falls.proofs.SentOut.{fallen_out}
-use Rattle.run_falls.proofs.Stepping.{IsNotIn, all_admitted_falling, all_cut_falling, held_falling, kept, settled_falling, whole_falling}
+use Rattle.run_falls.proofs.Stepping.{IsNotIn, all_admitted_falling, all_cut_falling, held_falling, kept, settled_falling, whole_falling, wait_still}
 use Rattle.stack_walks.specs.Spots.{IsRead, op_in, steps_in}
 use Rattle.stack_walks.proofs.Found.{found_there}
 use Rattle.stack_walks.proofs.Same.{same_statuses, same_within}
@@ -133,10 +133,6 @@ same_by (Falling flips) m n ops opening now old new es e h =
 
 -- ---- before the first step
 
-waits_still : (o : Option (List ℕ)) → forgive o Waits ≡ Waits
-waits_still None = refl
-waits_still (Some left) = refl
-
 -- nothing flips its block before the first step
 abbrev pub FlipsNone : Course → Type 0
 FlipsNone Straight = Unit {0}
@@ -151,7 +147,7 @@ begins_by (Falling flips) none m n ops opening status w empty =
         after = opening;
         told = [];
         follows = same_within (over_falls m none_falls) n script opening opening (λ i j. Waits) (forgiven script none_falls status) []
-            (λ j l b. ap (forgive (left_of script none_falls (suc j) l)) (w j l (let x = long_flips flips 1 ops in omega (arith, b, x))) ∙ waits_still (left_of script none_falls (suc j) l)) (begin_all (over_falls m none_falls) n script opening empty);
+            (λ j l b. ap (forgive (left_of script none_falls (suc j) l)) (w j l (let x = long_flips flips 1 ops in omega (arith, b, x))) ∙ wait_still (left_of script none_falls (suc j) l)) (begin_all (over_falls m none_falls) n script opening empty);
         bytes = refl;
         blocks_are = refl;
         stamped = refl;

@@ -6,7 +6,6 @@ use Rattle.integrity_payload.specs.declared.payload.Payload.{Payload}
 use Rattle.fault_schedule.specs.declared.Label.{Label}
 use Rattle.bio_core.specs.declared.fate.Fate.{Fate}
 use Rattle.bio_core.specs.declared.fate.Fate.TheVariants.{Untouched}
-use Rattle.bio_core.specs.declared.fate.Why.{Why}
 use Rattle.bio_core.specs.declared.request.Dir.{Dir}
 use Rattle.bio_core.specs.declared.request.Dir.TheVariants.{Read, Write as WriteDir}
 use Rattle.bio_core.specs.declared.request.Io.{Io}
@@ -27,6 +26,7 @@ use Rattle.run_follows.specs.Gate.{MayMove, Spot, number, parts_at, place}
 use Rattle.run_follows.specs.Sending.{with_status}
 use Rattle.run_follows.specs.Slots.{Carried, Parts, Settled as IsSettled, Status}
 use Rattle.run_follows.proofs.Sends.{with_here, with_other}
+use Rattle.run_follows.proofs.Quietly.{no_second}
 use Rattle.stack_walks.specs.Spots.{spot_at}
 use Rattle.stack_walks.proofs.Spots.{spot_number, spot_ops, spot_place, steps_count}
 use Rattle.stack_core.specs.Courses.{Course, FollowsBy}
@@ -45,10 +45,6 @@ pub record Leaves (acts : List (Act Answer)) (fate : Fate) (now : State) (new : 
   pub bytes : flat new ≡ (plain act acts now).bytes
   pub blocks : (plain act acts now).blocks ≡ now.blocks
   pub came : why_of result ≡ first_why (why_of fate) (get_or (plain_tells act tell acts now) 0 silent).why
-
-none_more : (w : Option Why) → first_why w None ≡ w
-none_more None = refl
-none_more (Some w) = refl
 
 no_host : (b : Bool) → HasHost b None → b ≡ false
 no_host true h = absurd h
@@ -83,10 +79,10 @@ module _ (m : Setting) (io : Io) (old : List (List ℕ)) (w : AreWhole old) (who
       by : (o : Option Payload) → io.pi ≡ o → Leaves (settled_of WriteDir io.pi r (data_cells io k) k cell) fate now new result
       by None q =
           let s = subst (λ o. MappedBack o (host_type m.ty) k lba old new) q b in
-          subst (λ o. Leaves (settled_of WriteDir o r (data_cells io k) k cell) fate now new result) (sym q) (record { bytes = ap flat s ∙ sym same; blocks = refl; came = ap why_of e ∙ sym (none_more (why_of fate)) })
+          subst (λ o. Leaves (settled_of WriteDir o r (data_cells io k) k cell) fate now new result) (sym q) (record { bytes = ap flat s ∙ sym same; blocks = refl; came = ap why_of e ∙ sym (no_second (why_of fate)) })
       by (Some pi) q =
           let x = is-mapped-back old new io pi (frames_of old io pi w whole q) dev m.ty m.mode now same label k lba there b in
-          subst (λ o. Leaves (settled_of WriteDir o r (data_cells io k) k cell) fate now new result) (sym q) (record { bytes = x; blocks = refl; came = ap why_of e ∙ sym (none_more (why_of fate)) })
+          subst (λ o. Leaves (settled_of WriteDir o r (data_cells io k) k cell) fate now new result) (sym q) (record { bytes = x; blocks = refl; came = ap why_of e ∙ sym (no_second (why_of fate)) })
 
   pub leaves : (io.dir ≡ Read → get_or now.fates cell None ≡ why_of fate) → Settled io.dir m.mode (host_type m.ty) io k lba fate old new result → Leaves (settled_of io.dir io.pi r (data_cells io k) k cell) fate now new result
   leaves found s = by io.dir refl

@@ -4,8 +4,7 @@ use Rattle.std.proofs.lemmas.Bool.{cases_eq, false≢true}
 use Rattle.std.proofs.lemmas.List.{get_or-set_other, get_or-set_same}
 use Rattle.bio_core.specs.declared.fate.Why.{Why}
 use Rattle.range_gate.specs.Gates.{has_ended, is_waiting}
-use Rattle.range_gate.specs.declared.phase.Phase.{Phase}
-use Rattle.range_gate.specs.declared.phase.Phase.TheVariants.{Waiting, Admitted, Ended}
+use Rattle.range_gate.specs.declared.phase.Phase.TheVariants.{Ended}
 use Rattle.stack_ops.specs.declared.op.Op.{Op}
 use Rattle.stack_ops.specs.declared.op.Op.TheVariants.{Fetch, FetchPi, Fill, Overwrite, Put, Seal, Show, Wait, Write, WritePi}
 use Rattle.stack_ops.specs.declared.reply.Reply.{Reply}
@@ -14,6 +13,7 @@ use Rattle.stack_view.specs.Plan.{Plan, request_at}
 use Rattle.stack_view.specs.View.{OpView, View, is_admitted, no_op, op_at}
 use Rattle.stack_view.specs.Steps.{End, Join, step}
 use Rattle.stack_view.proofs.Ops.{AtSet, Other, Past, Same, at_set}
+use Rattle.stack_view.proofs.Keeps.{admitted-ended, admitted-waits}
 use Rattle.block_path.specs.Acts.{State}
 use Rattle.block_path.specs.Blocks.{Sent}
 use Rattle.whole_run.specs.ScriptWalk.{bad_from as walk_bad, whole_or_bad}
@@ -39,16 +39,6 @@ use Rattle.stack_core.proofs.Listed.{listed_as}
 -- statuses that say the same leave what is on record
 pub none_same : (old new : ℕ → ℕ → Status) (es : List Sent) → ((i k : ℕ) → new i k ≡ old i k) → NoneBefore old es → NoneBefore new es
 none_same old new es e h i k f = h i k (sym (ap is_carried (e i k)) ∙ f)
-
-admitted_not_ended : (h : Phase) → is_admitted h ≡ true → has_ended h ≡ false
-admitted_not_ended Waiting e = cc
-admitted_not_ended Admitted e = refl
-admitted_not_ended Ended e = cc
-
-admitted_not_waiting : (h : Phase) → is_admitted h ≡ true → is_waiting h ≡ false
-admitted_not_waiting Waiting e = cc
-admitted_not_waiting Admitted e = refl
-admitted_not_waiting Ended e = cc
 
 -- a request's room is for its bad blocks
 request_reply : (op : Op) (whys : List (Option Why)) (reply : Reply) → 0 < fates_of op → reply ≡ whole_or_bad (walk_bad 0 whys) → IsReply op whys reply
@@ -107,7 +97,7 @@ module _ {course : Course} (over : Setting) (n : ℕ) (opening : State) (es : Li
     phases : (j : ℕ) → is_waiting (get_or (set v.ops i done) j no_op).phase ≡ is_waiting (op_at v j).phase
     phases j = by (at_set v.ops i done no_op j) where
       by : AtSet v.ops i done no_op j → is_waiting (get_or (set v.ops i done) j no_op).phase ≡ is_waiting (op_at v j).phase
-      by (Same e k q) = ap (λ (o : OpView). is_waiting o.phase) q ∙ sym (ap (λ x. is_waiting (op_at v x).phase) e ∙ admitted_not_waiting (op_at v i).phase a)
+      by (Same e k q) = ap (λ (o : OpView). is_waiting o.phase) q ∙ sym (ap (λ x. is_waiting (op_at v x).phase) e ∙ admitted-waits (op_at v i).phase a)
       by (Other ne q) = ap (λ (o : OpView). is_waiting o.phase) q
       by (Past k q) = ap (λ (o : OpView). is_waiting o.phase) q
 
@@ -136,7 +126,7 @@ module _ {course : Course} (over : Setting) (n : ℕ) (opening : State) (es : Li
     its_reply =
         let k = some in
         request_reply (op_in ops i) (each_from 0 (fates_of (op_in ops i)) (why_in d.starts d.held i)) reply (omega arith)
-        (room_of_request (op_in ops i) (room_at d.rooms i) (take (request_at p i).count (drop (get_or d.starts i 0) d.held)) (omega arith) (h.suited i l (admitted_not_ended (op_at v i).phase a))
+        (room_of_request (op_in ops i) (room_at d.rooms i) (take (request_at p i).count (drop (get_or d.starts i 0) d.held)) (omega arith) (h.suited i l (admitted-ended (op_at v i).phase a))
         ∙ (listed_as d.starts d.held i (request_at p i).count room ∙ ap (λ x. whole_or_bad (walk_bad 0 (each_from 0 x (why_in d.starts d.held i)))) count))
 
     begun_on : (j : ℕ) → is_admitted (get_or (set v.ops i done) j no_op).phase ≡ true → 0 < (request_at p j).count

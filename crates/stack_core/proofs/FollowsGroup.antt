@@ -22,7 +22,7 @@ use Rattle.stack_walks.specs.Moved.{why_of}
 use Rattle.stack_walks.specs.Settling.{AreFates}
 use Rattle.stack_walks.specs.Sheets.{io_at}
 use Rattle.stack_walks.proofs.Chained.{one_place}
-use Rattle.stack_walks.proofs.Facts.{place-is}
+use Rattle.stack_walks.proofs.Facts.{place-is, there as there_is}
 use Rattle.stack_core.proofs.FollowsComplete.{AllOf, NotAt, at}
 
 -- the plan's requests and places are the stack's and the script's
@@ -46,11 +46,6 @@ pub record Lies (m : Setting) (ios : List Io) (b : Block) : Type 0 where
 abbrev pub AllLie : Setting → List Io → List Block → Type 0
 AllLie m ios [] = Unit {0}
 AllLie m ios (b ∷ bs) = Lies m ios b × AllLie m ios bs
-
-pub there_is : (ios : List Io) (i : ℕ) → 0 < (io_at ios i).count → i < length ios
-there_is [] i h = absurd (omega arith)
-there_is (io ∷ ios) zero h = omega arith
-there_is (io ∷ ios) (suc i) h = let e = there_is ios i h in omega arith
 
 module _ (m : Setting) (p : Plan) (ops : List Op) (ios : List Io) (pl : Places m p ops ios) where
   from_lie : (d : ℕ) (b : Bio) (nm : Named p d b) (t c : ℕ) (bs : List Block) → t + c ≤ b.count → AllLie m ios bs → AllLie m ios (blocks_from b.op (b.k + t) b.dev (b.lba + t) b.dir c ++ bs)

@@ -20,8 +20,8 @@ use Rattle.block_path.specs.Blocks.{Answer}
 use Rattle.block_path.specs.Moves.{make_tuple, map_out}
 use Rattle.block_path.specs.Routes.{host_type}
 use Rattle.block_path.specs.Serial.{plain}
+use Rattle.block_path.proofs.InTurn.{plain_append}
 use Rattle.whole_run.specs.Settings.{Setting, block_of, route}
-use Rattle.whole_run.proofs.AnyOrder.{plain_append}
 use Rattle.run_follows.specs.Pieces.{all_cut, all_made}
 use Rattle.stack_walks.specs.Spots.{spots_from}
 use Rattle.stack_core.specs.Done.{MadeBy, WriteMade, WriteMapped}

@@ -25,7 +25,7 @@ use Rattle.stack_walks.specs.Ground.{Ground, IsPlanOf}
 use Rattle.stack_walks.specs.Statuses.{fate_in}
 use Rattle.stack_walks.proofs.Letting.{lets_of}
 use Rattle.stack_walks.proofs.Moving.{elsewhere}
-use Rattle.stack_walks.proofs.Spots.{cut_at, lets_in, placed_at, placed_front, take_long}
+use Rattle.stack_walks.proofs.Spots.{cut_at, lets_in, placed_at, placed_front}
 use Rattle.stack_walks.proofs.Standing.{is_done, waits}
 use Rattle.stack_core.specs.declared.kept.Room.TheVariants.{Nothing}
 use Rattle.rig_api.specs.declared.change.Change.{Change}
@@ -40,6 +40,7 @@ use Rattle.stack_core.specs.Stacks.{room_at}
 use Rattle.stack_core.specs.Walking.{Data, FailedBy, Follow, GoesOn, IsReply, is_medium, shown_by, shown_in, status_of, why_in}
 use Rattle.stack_core.proofs.Courses.{GoesTo, failed_by, no_flip_yet, whole_by}
 use Rattle.stack_core.proofs.OpWhole.{IsWholly, at_first}
+use Rattle.dix_adapter.proofs.GoingOut.{take-long}
 
 -- an op's reply doesn't say that its store call failed, where it is known which did
 abbrev pub QuietBy : Course → Reply → Type 0
@@ -61,7 +62,7 @@ module _ {course : Course} (over : Setting) (n : ℕ) (opening : State) (es : Li
   alone = ⊎_elim (λ (a : IsAlone op). a) (λ (z : 0 < fates_of op). let e = none in absurd (omega arith)) (ground.kinds i l)
 
   pub front_long : length (take i ops) ≡ i
-  front_long = take_long i ops (omega arith)
+  front_long = take-long i ops (omega arith)
 
   pub split : ops ≡ take i ops ++ (op ∷ drop (suc i) ops)
   split = cut_at ops i Wait l

@@ -14,6 +14,7 @@ use Rattle.stack_ops.specs.declared.op.Op.{Op}
 use Rattle.stack_view.specs.Plan.{Plan, request_at}
 use Rattle.stack_view.specs.Sound.{Sound}
 use Rattle.stack_view.specs.View.{OpView, View, is_admitted, no_op, op_at}
+use Rattle.stack_view.proofs.Keeps.{admitted-waits}
 use Rattle.block_path.specs.Acts.{State, act}
 use Rattle.block_path.specs.Blocks.{Sent}
 use Rattle.block_path.specs.Routes.{host_type}
@@ -58,12 +59,7 @@ none_with m ops i l k c next was status es w h b n j q e =
     aside : (j ≡ suc i → k ≤ q → q < k + c → ⊥) → find (record { op = j; k = q }) es ≡ None
     aside out = n j q (sym (ap is_carried (with_out m ops i l k c next status j q w out)) ∙ e)
 
-admitted_waits : (h : Phase) → is_admitted h ≡ true → is_waiting h ≡ false
-admitted_waits Waiting e = cc
-admitted_waits OpAdmitted e = refl
-admitted_waits Ended e = cc
-
-waiting_not_ended : (h : Phase) → is_waiting h ≡ true → has_ended h ≡ false
+pub waiting_not_ended : (h : Phase) → is_waiting h ≡ true → has_ended h ≡ false
 waiting_not_ended Waiting e = refl
 waiting_not_ended OpAdmitted e = cc
 waiting_not_ended Ended e = cc
@@ -154,7 +150,7 @@ module _ {course : Course} (over : Setting) (n : ℕ) (opening : State) (es : Li
       let spots = spots_from over ops i k c in
       let at = λ (j : ℕ). ap (λ (x : List OpView). get_or x j no_op) e in
       let mine_is : op_at w i ≡ o = at i ∙ mine o in
-      let away : is_waiting (op_at v i).phase ≡ false = admitted_waits (op_at v i).phase a in
+      let away : is_waiting (op_at v i).phase ≡ false = admitted-waits (op_at v i).phase a in
       let lets = lets_of over n (length opening.logs) p ops g.ground g.plan v s (shown_in d.replies) (why_in d.starts d.held) i l (λ (j : ℕ) (b : j < i) (x : p.conflicts j i ≡ true). s.order j i b lo away x) in
       let ci = count_is in
       let was : (q : ℕ) → k ≤ q → q < k + c → status (suc i) q ≡ Admitted

@@ -37,6 +37,7 @@ use Rattle.stack_walks.specs.Settling.{AreFates, IsOf}
 use Rattle.stack_walks.specs.Sheets.{io_at}
 use Rattle.stack_walks.proofs.Chained.{Each, one_place}
 use Rattle.stack_walks.proofs.Facts.{place-is}
+use Rattle.stack_walks.proofs.Standing.{marked as marked_is}
 
 -- ---- where blocks are kept
 
@@ -164,9 +165,6 @@ module _ (mode : Mode) (ty : PiType) (ios : List Io) (starts : List ℕ) where
           }
 
 -- ---- the view
-
-marked_is : (o : OpView) (k : ℕ) → get_or o.settled k false ≡ true → is_marked o k ≡ 1
-marked_is o k e = rw e refl
 
 is_settled_by : (o : OpView) (k : ℕ) → 1 ≤ is_marked o k → get_or o.settled k false ≡ true
 is_settled_by o k h =

@@ -47,7 +47,7 @@ listed_there at k (suc c) (suc q) f why l e h = by (f k) h (λ x. listed_there (
     by None x more = more x
     by (Some w) x more = cc
 
-lists_bad : (bad : List BadBlock) → bad_blocks (whole_or_bad bad) ≡ bad
+pub lists_bad : (bad : List BadBlock) → bad_blocks (whole_or_bad bad) ≡ bad
 lists_bad [] = refl
 lists_bad (b ∷ bad) = refl
 

@@ -79,7 +79,7 @@ pub good_mediums : (n : ℕ) → mediums (replicate n Good) ≡ 0
 good_mediums zero = refl
 good_mediums (suc n) = let r = good_mediums n in omega (arith, r)
 
-untouched_mediums : (n : ℕ) → mediums (replicate n Untouched) ≡ 0
+pub untouched_mediums : (n : ℕ) → mediums (replicate n Untouched) ≡ 0
 untouched_mediums zero = refl
 untouched_mediums (suc n) = let r = untouched_mediums n in omega (arith, r)
 

@@ -7,7 +7,6 @@ use Rattle.rig_api.specs.Log.{Entry}
 use Rattle.rig_api.specs.Telling.{Standing}
 use Rattle.stack_ops.specs.declared.op.Op.{Op}
 use Rattle.stack_ops.specs.declared.op.Op.TheVariants.{Fetch, FetchPi, Fill, Overwrite, Put, Seal, Show, Wait, Write, WritePi}
-use Rattle.stack_ops.specs.declared.reply.BadBlock.{BadBlock}
 use Rattle.stack_ops.specs.declared.reply.Reply.{Reply}
 use Rattle.stack_ops.specs.declared.reply.Reply.TheVariants.{Silent, Medium as MediumReply}
 use Rattle.stack_view.specs.Steps.{enabled}
@@ -34,6 +33,7 @@ use Rattle.stack_walks.proofs.Counts.{blocks-more}
 use Rattle.stack_walks.proofs.Facts.{request-at}
 use Rattle.stack_core.proofs.Mediums.{rose_less}
 use Rattle.stack_core.proofs.Walked.{sound, stand}
+use Rattle.stack_core.proofs.ListsAll.{lists_bad}
 
 -- ---- the blocks of one op
 
@@ -63,10 +63,6 @@ each_listed held at line k (suc n) =
 
     next : (at k : ℕ) → suc (at + k) ≡ at + suc k
     next at k = omega arith
-
-pub lists_bad : (bad : List BadBlock) → bad_blocks (whole_or_bad bad) ≡ bad
-lists_bad [] = refl
-lists_bad (b ∷ bad) = refl
 
 fewer : (held : List Fate) (x : ℕ) → mediums (drop (x + 0) held) ≤ mediums (drop x held)
 fewer held x = let z : x + 0 ≡ x = omega arith in rw z (omega arith)

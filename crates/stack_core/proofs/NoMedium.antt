@@ -17,7 +17,7 @@ use Rattle.stack_ops.specs.declared.reply.Reply.TheVariants.{Bad, Medium as Medi
 use Rattle.stack_view.specs.Plan.{request_at}
 use Rattle.stack_view.specs.Steps.{enabled}
 use Rattle.stack_view.specs.View.{OpView, View, no_op, op_at}
-use Rattle.stack_view.proofs.Enabled.{stuck}
+use Rattle.stack_view.proofs.Enabled.{stuck, all-at}
 use Rattle.stack_steps.specs.Does.{Holds}
 use Rattle.block_path.specs.Acts.{State}
 use Rattle.block_path.specs.Blocks.{Sent}
@@ -34,7 +34,7 @@ use Rattle.stack_walks.specs.Overwrites.{is_overwrite}
 use Rattle.run_falls.proofs.NoneFell.{none_fell}
 use Rattle.stack_walks.specs.Sheets.{op_in}
 use Rattle.stack_walks.specs.Statuses.{fate_in}
-use Rattle.stack_walks.proofs.Letting.{all_marked}
+use Rattle.stack_walks.proofs.Letting.{ended_waits}
 use Rattle.stack_walks.proofs.Standing.{is_done, is_settled, past}
 use Rattle.stack_core.specs.Courses.{Falling}
 use Rattle.stack_core.specs.declared.stack.Stack.{Stack}
@@ -43,9 +43,8 @@ use Rattle.stack_core.specs.Mediums.{RoseBy, listed_mediums, medium_lines, one_r
 use Rattle.stack_core.specs.OnRecord.{bad_blocks}
 use Rattle.stack_core.specs.Stacks.{IsStack, plan_in}
 use Rattle.stack_core.specs.Walking.{IsOver, IsReply, NoneFailed, WalksBy, WalksFalling, WalksTold, data_of, is_medium, shown_in, status_of, why_in}
-use Rattle.stack_core.proofs.MediumLines.{lists_bad}
-use Rattle.stack_core.proofs.WalkEnds.{ended_waits}
 use Rattle.stack_core.proofs.Walked.{sound, stand}
+use Rattle.stack_core.proofs.ListsAll.{lists_bad}
 
 -- ---- what the lines say
 
@@ -160,7 +159,7 @@ module _ (flips : Flips) (over : Setting) (n : ℕ) (opening : State) (es : List
       (λ (e : count ≡ 0). subst HasFallen (is_done count v shown (why i q) fate q (not_waiting i) e) f)
       (λ (e : count ≡ 0 → ⊥). ⊎_elim
       (λ (l : q < count). ⊎_elim
-      (λ (a : i < length ops). not_listed i q (omega (arith, l, c)) a (subst HasFallen (is_settled count v shown (why i q) fate q (not_waiting i) l (all_marked v.settled q (x.ended i (ended i a)) (omega (arith, l, g)))) f))
+      (λ (a : i < length ops). not_listed i q (omega (arith, l, c)) a (subst HasFallen (is_settled count v shown (why i q) fate q (not_waiting i) l (all-at v.settled q (x.ended i (ended i a)) (omega (arith, l, g)))) f))
       (λ (a : length ops ≤ i). absurd (e (beyond i a)))
       (cases_lt i (length ops)))
       (λ (l : count ≤ q). subst HasFallen (past count v shown (why i q) fate q (not_waiting i) (omega (arith, e)) l) f)

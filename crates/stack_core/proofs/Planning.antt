@@ -1,9 +1,9 @@
 -- The plan of a stack is that of its script.
-use Rattle.std.proofs.Common.{◌≡◌, inl, inr, ◌<◌, ◌≤◌, ℕ, zero, suc, ◌+◌, Bool, true, false, ◌&&◌, eqb, List, [], ◌∷◌, length, map, get_or, Option, None, refl, sym, ap, ◌∙◌, arith, ⊎_elim}
+use Rattle.std.proofs.Common.{◌≡◌, inl, inr, ◌<◌, ◌≤◌, ℕ, zero, suc, ◌+◌, Bool, true, false, ◌&&◌, eqb, List, [], ◌∷◌, length, map, get_or, None, refl, sym, ap, ◌∙◌, arith, ⊎_elim}
 use Rattle.std.specs.Prelude.{pos}
 use Rattle.std.specs.List.{list_any}
-use Rattle.std.proofs.lemmas.Bool.{and_right, cases_Bool, cases_lt, or_parts, true_from_ne_false}
-use Rattle.std.proofs.lemmas.List.{get_or_past, length-map}
+use Rattle.std.proofs.lemmas.Bool.{and_right, cases_Bool, or_parts, true_from_ne_false}
+use Rattle.std.proofs.lemmas.List.{length-map}
 use Rattle.fault_schedule.specs.Altered.{is_same, shift_by, shift_of}
 use Rattle.fault_schedule.specs.declared.fault.Crossing.{Crossing}
 use Rattle.fault_schedule.specs.declared.fault.Crossing.TheVariants.{AdapterToTarget, MediumToTarget}
@@ -13,6 +13,7 @@ use Rattle.fault_schedule.specs.declared.fault.FaultLine.{FaultLine}
 use Rattle.bio_core.specs.declared.request.Io.{Io}
 use Rattle.merge_queue.specs.declared.limits.Limits.{Limits}
 use Rattle.merge_queue.specs.Groups.{numbers}
+use Rattle.merge_queue.proofs.Linking.{one-chain, length-numbers}
 use Rattle.range_gate.specs.Conflicts.{Conflict}
 use Rattle.range_gate.proofs.Layouts.{clash_means}
 use Rattle.volume_table.specs.Tables.{Table}
@@ -21,35 +22,15 @@ use Rattle.stack_ops.specs.declared.op.Op.TheVariants.{Fetch, FetchPi, Fill, Ove
 use Rattle.stack_ops.specs.Footprints.{footprint, is_alone}
 use Rattle.whole_run.specs.Settings.{Setting}
 use Rattle.run_moves.specs.OpsApart.{OpsConflict, is_shifted}
-use Rattle.run_moves.specs.ScriptMoves.{fates_of}
 use Rattle.stack_walks.specs.Ground.{IsPlanOf}
-use Rattle.stack_walks.specs.Requests.{first_page, request_of, requests_from}
-use Rattle.stack_walks.specs.Sheets.{do_clash, io_at, layout_of, no_io, no_print, op_in, plan_of, prints_of, request_in}
+use Rattle.stack_walks.specs.Requests.{requests_from}
+use Rattle.stack_walks.specs.Sheets.{do_clash, io_at, layout_of, no_print, op_in, plan_of, prints_of, request_in}
 use Rattle.stack_walks.specs.Shifts.{shifted_by, shifts}
-use Rattle.stack_walks.proofs.Begin.{length-requests, placed}
+use Rattle.stack_walks.proofs.Begin.{length-requests}
 use Rattle.stack_walks.proofs.Facts.{request-at}
-use Rattle.stack_walks.proofs.Gates.{laid}
+use Rattle.stack_walks.proofs.Conflicting.{own_layout}
 use Rattle.stack_core.proofs.Listing.{prints-at}
-
-pub count_is : (op : Op) (page : Option ℕ) → (request_of op page).count ≡ fates_of op
-count_is (Fill seg byte) page = refl
-count_is (Put p off bytes) page = refl
-count_is (Show seg) page = refl
-count_is (Seal n body tuples app rtag) page = refl
-count_is (Write v n body app) page = refl
-count_is (Fetch v n body) page = refl
-count_is (WritePi v n body tuples) page = refl
-count_is (FetchPi v n body tuples) page = refl
-count_is (Overwrite dev lba change) page = refl
-count_is Wait page = refl
-
-pub count_at : (dix : Bool) (page : ℕ) (ops : List Op) (i : ℕ) → (io_at (requests_from dix page ops) i).count ≡ fates_of (op_in ops i)
-count_at dix page ops i =
-    let n = length-requests dix page ops in
-    ⊎_elim
-    (λ (l : i < length ops). let p = placed dix page ops i l in ap (λ io. io.count) p.is ∙ count_is (op_in ops i) (first_page dix p.at))
-    (λ (l : length ops ≤ i). let a = get_or_past (requests_from dix page ops) i no_io (omega arith) in let b = get_or_past ops i Wait l in ap (λ io. io.count) a ∙ sym (ap fates_of b))
-    (cases_lt i (length ops))
+use Rattle.stack_core.proofs.AtUnits.{count_of, io_count}
 
 -- ---- which ops are shifted
 
@@ -67,24 +48,15 @@ not_shifted (line ∷ lines) at op h =
     let p = or_parts (shifts op line) (list_any (shifts op) lines) h in
     rw (unmoved line at op p.0) (not_shifted lines at op p.1)
 
-numbers_at : (from n i : ℕ) → i < n → get_or (numbers from n) i 0 ≡ from + i
-numbers_at from zero i h = absurd (omega arith)
-numbers_at from (suc n) zero h = omega arith
-numbers_at from (suc n) (suc i) h = let e = numbers_at (suc from) n i (omega arith) in omega arith
-
 map_at : {A B : Type 0} (f : A → B) (xs : List A) (i : ℕ) (d : A) (e : B) → i < length xs → get_or (map f xs) i e ≡ f (get_or xs i d)
 map_at f [] i d e h = absurd (omega arith)
 map_at f (x ∷ xs) zero d e h = refl
 map_at f (x ∷ xs) (suc i) d e h = map_at f xs i d e (omega arith)
 
-numbers_long : (from n : ℕ) → length (numbers from n) ≡ n
-numbers_long from zero = refl
-numbers_long from (suc n) = ap suc (numbers_long (suc from) n)
-
 shifted_at : (faults : List FaultLine) (n i : ℕ) → i < n → get_or (shifted_by faults n) i false ≡ list_any (shifts (i + 1)) faults
 shifted_at faults n i h =
-    let l = numbers_long 0 n in
-    let e = numbers_at 0 n i h in
+    let l = length-numbers 0 n in
+    let e = one-chain 0 n i h in
     map_at (λ i. list_any (shifts (i + 1)) faults) (numbers 0 n) i 0 false (omega arith) ∙ ap (λ x. list_any (shifts (x + 1)) faults) (e ∙ (let z : 0 + i ≡ i = omega arith in z))
 
 is_marked : (m : Setting) (n i : ℕ) → i < n → is_shifted m (suc i) ≡ true → get_or (shifted_by m.site.faults n) i false ≡ true
@@ -121,13 +93,13 @@ pub plan_is : (m : Setting) (dix : Bool) (page : ℕ) (ops : List Op) (shifted :
     IsPlanOf (plan_of ops shifted ios table limits devices) m ops
 plan_is m dix page ops shifted ios table limits devices a b = record {
   many = length-map ios request_in ∙ (ap length a ∙ length-requests dix page ops);
-  count = λ i. ap (λ r. r.count) (request-at ios i) ∙ (ap (λ x. (io_at x i).count) a ∙ count_at dix page ops i);
+  count = λ i. ap (λ r. r.count) (request-at ios i) ∙ (ap (λ x. (io_at x i).count) a ∙ io_count dix page ops i);
   apart = apart;
 }
   where
     apart : (j i : ℕ) → j < i → i < length ops → do_clash (get_or (prints_of ops shifted) j no_print) (get_or (prints_of ops shifted) i no_print) ≡ false → OpsConflict m (suc j) (op_in ops j) (suc i) (op_in ops i) → ⊥
     apart j i h l e c =
-        let n : length shifted ≡ length ops = ap length b ∙ (length-map (numbers 0 (length ops)) _ ∙ numbers_long 0 (length ops)) in
+        let n : length shifted ≡ length ops = ap length b ∙ (length-map (numbers 0 (length ops)) _ ∙ length-numbers 0 (length ops)) in
         let p = prints-at ops shifted j no_print n (omega arith) in
         let q = prints-at ops shifted i no_print n l in
         let f = footprint (op_in ops j) (get_or shifted j false) in
@@ -137,6 +109,6 @@ plan_is m dix page ops shifted ios table limits devices a b = record {
         (λ (t : is_shifted m (suc j) ≡ true). ap (λ x. get_or x j false) b ∙ is_marked m (length ops) j (omega arith) t)
         (λ (t : is_shifted m (suc i) ≡ true). ap (λ x. get_or x i false) b ∙ is_marked m (length ops) i l t)
         c in
-        let yes = (clash_means f g (layout_of f) (layout_of g) (laid f) (laid g)).1 more in
+        let yes = (clash_means f g (layout_of f) (layout_of g) (own_layout f) (own_layout g)).1 more in
         let z : true ≡ false = sym yes ∙ same in
         cc

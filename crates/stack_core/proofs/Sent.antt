@@ -1,5 +1,5 @@
 -- The group that a step sends: it can be carried, and room is left for what may still be sent.
-use Rattle.std.proofs.Common.{◌≡◌, ◌<◌, ◌≤◌, ℕ, zero, suc, ◌+◌, ◌-◌, Bool, true, List, [], ◌∷◌, length, replicate, get_or, refl, sym, ap, ◌∙◌, arith}
+use Rattle.std.proofs.Common.{◌≡◌, ◌<◌, ◌≤◌, ℕ, ◌+◌, ◌-◌, Bool, true, List, [], ◌∷◌, length, replicate, get_or, refl, sym, ap, ◌∙◌, arith}
 use Rattle.std.specs.Prelude.{nat_lt}
 use Rattle.std.proofs.lemmas.Bool.{ltb-true}
 use Rattle.std.proofs.lemmas.List.{length-replicate}
@@ -29,6 +29,7 @@ use Rattle.stack_view.specs.View.{View, group_at, queue_at}
 use Rattle.stack_view.proofs.Formed.{queue-groups}
 use Rattle.stack_view.proofs.Keeps.{queue-there}
 use Rattle.stack_view.proofs.Room.{exchanges-fall, frames-fall}
+use Rattle.stack_view.proofs.Runs.{all-settled-good}
 use Rattle.stack_steps.specs.declared.choice.Choice.TheVariants.{Send}
 use Rattle.stack_steps.specs.declared.machine.Machine.{Machine}
 use Rattle.stack_steps.specs.Does.{Flies, Holds, Ready, Sending, Takes, Works}
@@ -68,10 +69,6 @@ holds-group a pool bytes ios req most s g l h =
     let within = k.within in
     holds-fewer (Carry.block_len ios req) (Carry.block_len ios req) most (Carry.size req) s (omega arith) l (h ((Carry.first_of req).op - 1) (omega arith))
 
-all-good : (n : ℕ) → settled_count (replicate n Good) ≡ n
-all-good zero = refl
-all-good (suc n) = let e = all-good n in omega arith
-
 same-count : (fs : List Fate) → count_settled fs ≡ settled_count fs
 same-count [] = refl
 same-count (Good ∷ fs) = ap (λ n. 1 + n) (same-count fs)
@@ -79,7 +76,7 @@ same-count (Bad why ∷ fs) = ap (λ n. 1 + n) (same-count fs)
 same-count (Untouched ∷ fs) = ap (λ n. 0 + n) (same-count fs)
 
 good-settles : (g : Group) → HasBlocks g → Settles g (replicate (size g) Good)
-good-settles g h = let e = all-good (size g) in record { each = length-replicate (size g) Good; some = omega arith }
+good-settles g h = let e = all-settled-good (size g) in record { each = length-replicate (size g) Good; some = omega arith }
 
 room-before : (p : Plan) (m : Machine) (v : View) (d i most : ℕ) (r : Room) → Fine p → Holds p m v → can p v (StepSend d i) ≡ true → HasBlocks (group_at v d i) → HasRoom most (exchanges_left v) (frames_left p v) r → HasRoom most 1 (size (group_at v d i)) r
 room-before p m v d i most r f h c b room =
@@ -87,7 +84,7 @@ room-before p m v d i most r f h c b room =
     let a = good-settles (group_at v d i) b in
     let x : exchanges_left (step p v (StepSend d i) 0 fates) + 1 ≤ exchanges_left v = exchanges-fall p v (StepSend d i) 0 fates f.on_devices h.shows.sound h.shows.accounted c a in
     let y : frames_left p (step p v (StepSend d i) 0 fates) + settled_count fates ≡ frames_left p v = frames-fall p v (StepSend d i) 0 fates f.on_devices h.shows.sound c a in
-    let n = all-good (size (group_at v d i)) in
+    let n = all-settled-good (size (group_at v d i)) in
     fewer most (exchanges_left v) (frames_left p v) 1 (size (group_at v d i)) r room (omega arith) (omega arith)
 
 pub room-after : (p : Plan) (m : Machine) (v : View) (d i cut most : ℕ) (fates : List Fate) (r r₂ : Room) → Fine p → Holds p m v → can p v (StepSend d i) ≡ true → Settles (group_at v d i) fates → HasRoom most (exchanges_left v) (frames_left p v) r → Spends most fates r r₂ →

@@ -26,7 +26,7 @@ use Rattle.stack_walks.specs.Requests.{first_page, own_blocks, page_after, pages
 use Rattle.stack_walks.specs.Sheets.{io_at, op_in}
 use Rattle.stack_walks.specs.Settling.{AreAllWhole}
 use Rattle.stack_walks.proofs.BlockParts.{ArePartsOf, cut_of, made_of, parts_are}
-use Rattle.stack_core.proofs.Planning.{count_at}
+use Rattle.stack_core.proofs.AtUnits.{io_count}
 
 -- ---- moves of blocks in turn
 
@@ -114,7 +114,7 @@ module _ (m : Setting) (n logs : ℕ) (p : Plan) (ops : List Op) (ios : List Io)
   route_at k = route m (block_of (suc i) io.first k)
 
   pub count_is : io.count ≡ fates_of (op_in ops i)
-  count_is = ap (λ x. (io_at x i).count) g.requests ∙ count_at m.mode.dix g.pages ops i
+  count_is = ap (λ x. (io_at x i).count) g.requests ∙ io_count m.mode.dix g.pages ops i
 
   pub parts_there : (k : ℕ) → k < io.count → parts_at m n (spot_at m ops i k) ≡ parts_of m (own_at (n + rooms m (take i ops)) k) (fates (take i ops) + k) (step_in m ops i k)
   parts_there k h =

@@ -105,7 +105,7 @@ module _ (us : List Stored) (st : Standing) where
 none_some : (us : List Stored) → None ≡ Some us → ⊥
 none_some us e = cc
 
-is_told : (st : Standing) (image : Option (List ℕ)) (us : List Stored) → units_told st image ≡ Some us → is_some image ≡ true
+pub is_told : (st : Standing) (image : Option (List ℕ)) (us : List Stored) → units_told st image ≡ Some us → is_some image ≡ true
 is_told st None us e = absurd (none_some us e)
 is_told st (Some bytes) us e = refl
 

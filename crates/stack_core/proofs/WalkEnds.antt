@@ -1,11 +1,9 @@
 -- What a stack comes to that followed the walk of its script to the end.
-use Rattle.std.proofs.Common.{◌≡◌, ◌⊎◌, inl, inr, ◌<◌, ◌≤◌, ℕ, zero, suc, ◌+◌, Bool, true, false, List, [], ◌∷◌, length, drop, get_or, map, take, Option, refl, sym, ap, subst, ◌∙◌, arith}
+use Rattle.std.proofs.Common.{◌≡◌, ◌⊎◌, inl, inr, ◌<◌, ◌≤◌, ℕ, zero, suc, ◌+◌, Bool, true, List, [], ◌∷◌, length, drop, get_or, map, take, Option, refl, sym, ap, subst, ◌∙◌, arith}
 use Rattle.std.specs.Prelude.{if◌then◌else◌}
 use Rattle.page_pool.specs.Cells.{flat}
 use Rattle.bio_core.specs.declared.fate.Why.{Why}
-use Rattle.range_gate.specs.Gates.{has_ended, is_waiting}
-use Rattle.range_gate.specs.declared.phase.Phase.{Phase}
-use Rattle.range_gate.specs.declared.phase.Phase.TheVariants.{Admitted as OpAdmitted, Ended, Waiting}
+use Rattle.range_gate.specs.Gates.{has_ended}
 use Rattle.rig_api.specs.Log.{Entry}
 use Rattle.fault_schedule.specs.declared.fault.FaultLine.{FaultLine}
 use Rattle.target_answer.specs.Target.{Stored}
@@ -18,7 +16,7 @@ use Rattle.stack_ops.specs.declared.reply.Reply.TheVariants.{Medium, Shown, Sile
 use Rattle.stack_view.specs.Plan.{Plan, request_at}
 use Rattle.stack_view.specs.Steps.{enabled}
 use Rattle.stack_view.specs.View.{op_at}
-use Rattle.stack_view.proofs.Enabled.{stuck}
+use Rattle.stack_view.proofs.Enabled.{stuck, all-at}
 use Rattle.block_path.specs.Acts.{State}
 use Rattle.block_path.specs.Blocks.{Answer, Sent}
 use Rattle.block_path.specs.Moves.{hidden}
@@ -38,7 +36,7 @@ use Rattle.run_follows.specs.Takes.{AllTakeAny}
 use Rattle.run_falls.specs.AtTheEnd.{EndsAsFalling}
 use Rattle.run_falls.proofs.Ending.{ends_as_falling}
 use Rattle.stack_walks.specs.Statuses.{fate_in}
-use Rattle.stack_walks.proofs.Letting.{all_marked}
+use Rattle.stack_walks.proofs.Letting.{ended_waits}
 use Rattle.stack_walks.proofs.Standing.{is_done, is_settled}
 use Rattle.run_falls.specs.Flips.{with_flips}
 use Rattle.run_falls.proofs.Flipped.{FineByLength, bound_flip, ended_flip, replies_flip, takes_flip}
@@ -50,11 +48,6 @@ use Rattle.stack_walks.specs.Overwrites.{is_overwrite}
 use Rattle.stack_core.specs.Walking.{EndsFallen, EndsTold, HasFails, IsOver, IsReply, Walks, WalksBy, WalksTold, data_of, is_medium, shown_by, shown_in, status_of, why_in, WalksFalling}
 use Rattle.stack_core.proofs.Context.{over_told}
 use Rattle.stack_core.proofs.Walked.{sound, stand}
-
-pub ended_waits : (h : Phase) → has_ended h ≡ true → is_waiting h ≡ false
-ended_waits Waiting e = cc
-ended_waits OpAdmitted e = cc
-ended_waits Ended e = refl
 
 -- blocks of a request, of which each is settled so
 module _ (f : ℕ → Step) (status : ℕ → Status) (why : ℕ → Option Why) where
@@ -147,7 +140,7 @@ module _ {course : Course} (over : Setting) (n : ℕ) (opening : State) (es : Li
       let c = (stand over n opening es left s k o w).plan.count i in
       let e = ended i l in
       let g = x.lengths i in
-      is_settled (request_at plan i).count (op_at w.view i) (shown_in (data_of s).replies i q) (why i q) (fate_in i q w.view.commands) q (ended_waits (op_at w.view i).phase e) (omega arith) (all_marked (op_at w.view i).settled q (x.ended i e) (omega arith))
+      is_settled (request_at plan i).count (op_at w.view i) (shown_in (data_of s).replies i q) (why i q) (fate_in i q w.view.commands) q (ended_waits (op_at w.view i).phase e) (omega arith) (all-at (op_at w.view i).settled q (x.ended i e) (omega arith))
 
   done : (i q : ℕ) → i < length ops → fates_of (op_in ops i) ≡ 0 → status (suc i) q ≡ Done (shown_in (data_of s).replies i q)
   done i q l z =

@@ -15,9 +15,8 @@ use Rattle.bio_core.specs.declared.bio.Bio.{Bio}
 use Rattle.bio_core.specs.declared.request.Dir.{Dir}
 use Rattle.bio_core.specs.declared.request.Dir.TheVariants.{Read, Write as WriteDir}
 use Rattle.bio_core.specs.declared.request.Io.{Io}
-use Rattle.range_gate.specs.Gates.{has_ended, is_waiting}
-use Rattle.range_gate.specs.declared.phase.Phase.{Phase}
-use Rattle.range_gate.specs.declared.phase.Phase.TheVariants.{Admitted as OpAdmitted, Ended, Waiting}
+use Rattle.range_gate.specs.Gates.{is_waiting}
+use Rattle.range_gate.specs.declared.phase.Phase.TheVariants.{Admitted as OpAdmitted, Ended}
 use Rattle.stack_ops.specs.declared.op.Op.{Op}
 use Rattle.stack_ops.specs.declared.reply.Reply.{Reply}
 use Rattle.stack_view.specs.Formed.{Named}
@@ -54,11 +53,11 @@ use Rattle.stack_walks.specs.Sheets.{io_at, op_in}
 use Rattle.stack_core.specs.Stacks.{IsStack, Stays, plan_in, room_at}
 use Rattle.stack_core.specs.Walking.{Data, Follow, GoesOn, IsChosen, IsOver, WalksBy, data_of, is_medium, op_left, status_of}
 use Rattle.stack_core.proofs.Context.{places, stands}
-use Rattle.stack_walks.proofs.Facts.{op-ends, op-enters}
+use Rattle.stack_walks.proofs.Facts.{op-ends, op-enters, there as there_is}
 use Rattle.stack_core.proofs.FollowsEnd.{ends, joins}
-use Rattle.stack_core.proofs.FollowsGroup.{Places, there_is}
+use Rattle.stack_core.proofs.FollowsGroup.{Places}
 use Rattle.stack_core.proofs.FollowsOp.{QuietBy, alone, op_fails, op_goes}
-use Rattle.stack_core.proofs.FollowsStep.{admits, cuts}
+use Rattle.stack_core.proofs.FollowsStep.{admits, cuts, waiting_not_ended}
 use Rattle.stack_core.proofs.OpWhole.{is_wholly}
 use Rattle.stack_core.proofs.Spotted.{Stands}
 
@@ -76,11 +75,6 @@ pub mapped_whole : (dir : Dir) (o : Option Payload) (ty : PiType) (k n lba : ℕ
 mapped_whole Read o ty k n lba old new w h = subst AreWhole (sym h) w
 mapped_whole WriteDir None ty k n lba old new w h = subst AreWhole (sym h) w
 mapped_whole WriteDir (Some pi) ty k n lba old new w h = whole_stays old new (range_of pi.tuples (8 * k) (8 * n)) h.wrote.others w
-
-waiting_ended : (h : Phase) → is_waiting h ≡ true → has_ended h ≡ false
-waiting_ended Waiting e = refl
-waiting_ended OpAdmitted e = cc
-waiting_ended Ended e = cc
 
 some_not_zero : (c : ℕ) → 0 < c → eqb c 0 ≡ false
 some_not_zero c h = by (eqb c 0) refl where
@@ -219,7 +213,7 @@ module _ {course : Course} (over : Setting) (n : ℕ) (opening : State) (es : Li
         let empty : (request_at plan i).count ≡ 0 = cnt ∙ none in
         let e : after.ops ≡ set v.ops i (record (op_at v i) { phase = Ended }) = ap (λ c. set v.ops i (record (op_at v i) { phase = if eqb c 0 then Ended else OpAdmitted })) empty in
         let single = alone over n opening es plan ops (data_of s) v w.now stand.ground stand.plan sound w.follow i lo (omega arith) (omega arith) empty in
-        let wholly = is_wholly over (suc i) s.pool pool reply w.now w.follow.whole w.follow.bytes (op_in ops i) s.adapter.kind (room_at s.rooms.items i) single (k.rooms.can i l) (w.follow.suited i lo (waiting_ended (op_at v i).phase waits)) (o.seals i lo) (sym (ap (λ mode. mode.kind) o.mode)) done in
+        let wholly = is_wholly over (suc i) s.pool pool reply w.now w.follow.whole w.follow.bytes (op_in ops i) s.adapter.kind (room_at s.rooms.items i) single (k.rooms.can i l) (w.follow.suited i lo (waiting_not_ended (op_at v i).phase waits)) (o.seals i lo) (sym (ap (λ mode. mode.kind) o.mode)) done in
         let goes = op_goes over n opening es plan ops (data_of s) v w.now stand.ground stand.plan sound w.follow i lo (omega arith) (omega arith) empty after pool reply waits e refl holds_after.shows.sound wholly quiet in
         walked s' stays (record (data_of s) { pool = pool; rooms = set s.rooms.items i Nothing; replies = set s.replies.items i reply }) after (plain act (acts_of over (suc i) (op_in ops i)) w.now).blocks (op_left over (op_in ops i) left) same holds_after goes (wholly.blocks ∙ ap (op_left over (op_in ops i)) w.blocks)
 
@@ -285,7 +279,7 @@ module _ (flips : Flips) (over : Setting) (n : ℕ) (opening : State) (es : List
       let empty : (request_at p i).count ≡ 0 = cnt ∙ none in
       let e : next.ops ≡ set w.view.ops i (record (op_at w.view i) { phase = Ended }) = ap (λ c. set w.view.ops i (record (op_at w.view i) { phase = if eqb c 0 then Ended else OpAdmitted })) empty in
       let single = alone over n opening es p ops (data_of s) w.view w.now st.ground st.plan so w.follow i lo lv lr empty in
-      let wholly = is_wholly over (suc i) s.pool pool reply w.now w.follow.whole w.follow.bytes (op_in ops i) s.adapter.kind (room_at s.rooms.items i) single (k.rooms.can i l) (w.follow.suited i lo (waiting_ended (op_at w.view i).phase wt)) (o.seals i lo) (sym (ap (λ mode. mode.kind) o.mode)) done in
+      let wholly = is_wholly over (suc i) s.pool pool reply w.now w.follow.whole w.follow.bytes (op_in ops i) s.adapter.kind (room_at s.rooms.items i) single (k.rooms.can i l) (w.follow.suited i lo (waiting_not_ended (op_at w.view i).phase wt)) (o.seals i lo) (sym (ap (λ mode. mode.kind) o.mode)) done in
       let long' : length block ≡ length (get_or w.now.blocks (over.site.cell dev lba) []) = long ∙ ap (λ (x : List (List ℕ)). length (get_or x (over.site.cell dev lba) [])) (sym w.blocks) in
       let g = op_fails flips over n opening es p ops (data_of s) w.view w.now st.ground st.plan so w.follow i lo lv lr empty next pool reply wt e refl ha.shows.sound wholly dev lba change is medium block long' in
       let flips' = flip_at (suc (length (take i ops))) (between (get_or w.now.blocks (over.site.cell dev lba) []) block) flips in

@@ -23,6 +23,7 @@ use Rattle.stack_view.specs.Steps.{Complete as StepComplete, Send as StepSend, c
 use Rattle.stack_view.specs.View.{View, command_at, group_at, no_op, queue_at}
 use Rattle.stack_view.proofs.Formed.{queue-groups}
 use Rattle.stack_view.proofs.Keeps.{queue-there}
+use Rattle.stack_view.proofs.Enabled.{due-one}
 use Rattle.stack_steps.specs.declared.choice.Choice.TheVariants.{Complete, Send}
 use Rattle.stack_steps.specs.declared.machine.Machine.{Machine}
 use Rattle.stack_steps.specs.Does.{Does, Flies, Holds, Lands, Takes}
@@ -34,7 +35,6 @@ use Rattle.whole_run.specs.Settings.{Setting}
 use Rattle.run_follows.specs.Sending.{AllGoing, NoneBefore, with_fates}
 use Rattle.run_follows.specs.Slots.{Status}
 use Rattle.stack_walks.proofs.Sending.{in_its_queue}
-use Rattle.stack_walks.proofs.Standing.{due_one}
 use Rattle.stack_core.specs.Courses.{Course, FollowsBy}
 use Rattle.stack_core.specs.declared.sheet.Sheet.{Sheet}
 use Rattle.stack_core.specs.declared.stack.Stack.{Stack}
@@ -126,7 +126,7 @@ module _ {course : Course} (over : Setting) (n : ℕ) (opening : State) (es : Li
         let x = sound over n opening es left s k o w in
         let a = in_its_queue view d i op q place in
         let b = x.one_place op q in
-        let c = due_one (request_at design op) (get_or view.ops op no_op) q in
+        let c = due-one (request_at design op) (get_or view.ops op no_op) q in
         omega arith
 
     abbrev pub bs : List Block

@@ -44,6 +44,7 @@ use Rattle.stack_view.specs.Formed.{Named}
 use Rattle.stack_view.specs.Plan.{Plan, no_request, request_at}
 use Rattle.stack_view.specs.Sound.{HasBlocks, Settles}
 use Rattle.stack_view.specs.View.{View, group_at, op_at, queue_at}
+use Rattle.stack_view.proofs.Enabled.{all-at}
 use Rattle.stack_steps.specs.declared.choice.Choice.TheVariants.{Send}
 use Rattle.stack_steps.specs.declared.machine.Machine.{Machine}
 use Rattle.stack_steps.specs.Does.{Flies, Takes}
@@ -59,7 +60,6 @@ use Rattle.run_follows.specs.Sending.{AllGoing, AllSized, NoneBefore, with_fates
 use Rattle.run_follows.specs.Slots.{Status}
 use Rattle.run_follows.proofs.Recording.{none_in, none_out}
 use Rattle.stack_walks.specs.Units.{AreAtUnits, IsAtUnit, first_virt}
-use Rattle.stack_walks.proofs.Letting.{all_marked}
 use Rattle.stack_walks.proofs.Standing.{IsOut}
 use Rattle.stack_core.specs.Courses.{Course, Falling, FollowsBy, Straight}
 use Rattle.stack_core.specs.declared.sheet.Sheet.{Sheet}
@@ -180,7 +180,7 @@ module _ {course : Course} (m : Setting) (n : ℕ) (opening : State) (first : �
         let x = sound m n opening records told_blocks s k w.over w.walks in
         let l = x.lengths j in
         let b = o.within in
-        false≢true (sym o.unsettled ∙ all_marked (op_at view j).settled q (x.ended j e) (omega arith))
+        false≢true (sym o.unsettled ∙ all-at (op_at view j).settled q (x.ended j e) (omega arith))
 
     pair_still : (j p q r : ℕ) → j < p → IsOut design view j q → IsOut design view p r → (is_shifted m (suc j) ≡ false) × (is_shifted m (suc p) ≡ false)
     pair_still j p q r l a b =

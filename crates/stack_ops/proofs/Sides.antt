@@ -35,7 +35,7 @@ segs_that-append w [] us = refl
 segs_that-append w (t ∷ ts) us =
     ap (λ z. if is_same t.writes w then t.seg ∷ z else z) (segs_that-append w ts us) ∙ split_by (is_same t.writes w) t.seg (segs_that w ts) (segs_that w us)
 
-places-append : (xs ys : List Seg) → places_in (xs ++ ys) ≡ places_in xs ++ places_in ys
+pub places-append : (xs ys : List Seg) → places_in (xs ++ ys) ≡ places_in xs ++ places_in ys
 places-append [] ys = refl
 places-append (x ∷ xs) ys = ap (λ z. places_of x ++ z) (places-append xs ys) ∙ sym (append_assoc (places_of x) (places_in xs) (places_in ys))
 

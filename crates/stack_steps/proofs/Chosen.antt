@@ -20,6 +20,7 @@ use Rattle.stack_view.specs.Steps.{may_admit, Step, End as StepEnd, Complete as 
 use Rattle.stack_view.proofs.Lists.{by-lists}
 use Rattle.stack_view.proofs.Open.{shifted, completes-length}
 use Rattle.merge_queue.proofs.Joins.{numbers-split, between}
+use Rattle.merge_queue.proofs.Linking.{length-numbers}
 use Rattle.stack_view.proofs.Ops.{unmarked_in}
 use Rattle.stack_steps.specs.declared.state.OpState.{OpState}
 use Rattle.stack_steps.specs.declared.choice.OpStep.{OpStep}
@@ -29,7 +30,7 @@ use Rattle.stack_steps.specs.declared.choice.Choice.TheVariants.{End, Complete, 
 use Rattle.stack_steps.specs.State.{state_of, phase_of, no_state}
 use Rattle.stack_steps.specs.Choices.{can_at, places, no_choice, join_choice, joins_at, sends_at, choices, IsBelow}
 use Rattle.stack_steps.specs.Shows.{live_from, live_ops, groups_of, IsGateOf, Windowed, Means}
-use Rattle.stack_steps.proofs.Picks.{length-numbers, get-numbers}
+use Rattle.stack_steps.proofs.Picks.{get-numbers}
 
 -- ---- the ops that have not ended
 

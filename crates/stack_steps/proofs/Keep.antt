@@ -23,10 +23,10 @@ use Rattle.stack_view.specs.Runs.{blocks_of_requests}
 use Rattle.stack_view.specs.Sound.{Answered, Settles}
 use Rattle.stack_view.specs.Formed.{IsGroup}
 use Rattle.stack_view.specs.Room.{size_in}
-use Rattle.stack_view.proofs.Keeps.{keeps, set_keeps, queue-there, command-there, open-command, settle-room, piece-some, piece-within, cut-within}
+use Rattle.stack_view.proofs.Keeps.{keeps, set_keeps, queue-there, command-there, open-command, settle-room, piece-some, piece-within, cut-within, waits-ended}
 use Rattle.stack_view.proofs.Ops.{grows-settle, length-settle}
 use Rattle.stack_view.proofs.Open.{completes-at, sent-last}
-use Rattle.merge_queue.proofs.Lists.{total-one}
+use Rattle.merge_queue.proofs.Lists.{total-one, without-remove}
 use Rattle.stack_view.proofs.Capacity.{bios-few, few-unsettled}
 use Rattle.stack_view.proofs.Formed.{formed-keeps}
 use Rattle.stack_view.proofs.Room.{accounted-keeps}
@@ -43,11 +43,6 @@ use Rattle.stack_steps.proofs.Back.{bios-put}
 use Rattle.stack_steps.proofs.Sums.{sends-fit, all-divide, all-in, queue-ends, queue-small, one-put, all-put}
 use Rattle.stack_steps.proofs.Chosen.{state-there, phase-there, gate-same, lives}
 
-pub without-remove : {A : Type 0} (xs : List A) (i : ℕ) → i < length xs → without i xs ≡ remove xs i
-without-remove [] i h = absurd (omega arith)
-without-remove (x ∷ xs) zero h = refl
-without-remove (x ∷ xs) (suc i) h = ap (λ z. x ∷ z) (without-remove xs i (omega arith))
-
 -- ---- the window
 
 abbrev Moves : View → ℕ → OpView → Type 0
@@ -55,11 +50,6 @@ Moves v i o = (has_ended (op_at v i).phase ≡ true → has_ended o.phase ≡ tr
 
 stays-moved : (v : View) → Windowed v → (i : ℕ) → Moves v i (op_at v i)
 stays-moved v w i = ((λ e. e), w i)
-
-waits-ended : (h : Phase) → is_waiting h ≡ true → has_ended h ≡ true → ⊥
-waits-ended Waiting e f = cc
-waits-ended Admitted e f = cc
-waits-ended Ended e f = cc
 
 moves : (p : Plan) (v : View) (t : Step) (cut : ℕ) (fates : List Fate) → Windowed v → can p v t ≡ true → (i : ℕ) → Moves v i (op_at (step p v t cut fates) i)
 moves p v (End a) cut fates w h i = set_keeps (Moves v) v.ops a (record (op_at v a) { phase = Ended }) no_op (stays-moved v w) ((λ e. refl), (λ e. cc)) i

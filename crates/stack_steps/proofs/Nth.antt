@@ -4,6 +4,7 @@ use Rattle.std.proofs.lemmas.List.{length-map, get_or-map, get_or_append_left, g
 use Rattle.stack_view.specs.Plan.{Plan}
 use Rattle.merge_queue.specs.Groups.{numbers}
 use Rattle.merge_queue.specs.Index.{Queued}
+use Rattle.merge_queue.proofs.Linking.{length-numbers}
 use Rattle.range_gate.specs.Gates.{Gated}
 use Rattle.stack_view.specs.View.{Command}
 use Rattle.stack_steps.specs.declared.state.OpState.{OpState}
@@ -11,7 +12,7 @@ use Rattle.stack_steps.specs.declared.choice.OpStep.TheVariants.{Ending, Admissi
 use Rattle.stack_steps.specs.declared.choice.Choice.{Choice}
 use Rattle.stack_steps.specs.declared.choice.Choice.TheVariants.{End, Complete, Admit, Cut}
 use Rattle.stack_steps.specs.Choices.{places, no_choice, joins_at, sends_at, choices}
-use Rattle.stack_steps.proofs.Picks.{length-numbers, get-numbers}
+use Rattle.stack_steps.proofs.Picks.{get-numbers}
 
 abbrev pub second : Plan → Gated → List OpState → List ℕ → List Queued → List Command → List Choice
 second p gate ops live queues flight = map Complete (numbers 0 (length flight)) ++ (map Admit (places p gate ops live Admission) ++ (map Cut (places p gate ops live Cutting) ++ (joins_at p.limits 0 queues ++ sends_at 0 queues)))

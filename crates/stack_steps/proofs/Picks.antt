@@ -1,14 +1,11 @@
 -- Counting and finding what may be done.
-use Rattle.std.proofs.Common.{◌≡◌, ◌<◌, ◌≤◌, ℕ, zero, suc, ◌+◌, ◌-◌, List, ◌++◌, length, map, drop, get_or, refl, sym, ap, ◌∙◌, arith, drop-cons, length-append}
+use Rattle.std.proofs.Common.{◌≡◌, ◌<◌, ◌≤◌, ℕ, zero, suc, ◌+◌, ◌-◌, List, ◌++◌, length, map, drop, get_or, sym, ap, ◌∙◌, arith, drop-cons, length-append}
 use Rattle.std.proofs.lemmas.List.{length-map, get_or-map, get_or_append_left, get_or-append_right}
 use Rattle.merge_queue.specs.Groups.{numbers}
 use Rattle.merge_queue.specs.Index.{Queued}
+use Rattle.merge_queue.proofs.Linking.{length-numbers}
 use Rattle.stack_steps.specs.declared.choice.Choice.TheVariants.{Send}
 use Rattle.stack_steps.specs.Choices.{no_choice, sends_at}
-
-pub length-numbers : (k n : ℕ) → length (numbers k n) ≡ n
-length-numbers k zero = refl
-length-numbers k (suc n) = ap suc (length-numbers (suc k) n)
 
 pub get-numbers : (k n i d : ℕ) → i < n → get_or (numbers k n) i d ≡ k + i
 get-numbers k zero i d h = absurd (omega arith)

@@ -14,6 +14,7 @@ use Rattle.stack_view.specs.View.{View, OpView, no_op}
 use Rattle.stack_view.specs.Steps.{enabled, chosen}
 use Rattle.stack_view.specs.Sound.{HasBlocks}
 use Rattle.merge_queue.proofs.Joins.{pairs-more}
+use Rattle.merge_queue.proofs.Linking.{length-numbers}
 use Rattle.stack_view.proofs.Enabled.{none-enabled, stuck}
 use Rattle.stack_view.proofs.Capacity.{few-unsettled}
 use Rattle.stack_steps.specs.declared.state.OpState.{OpState}
@@ -27,7 +28,6 @@ use Rattle.stack_steps.specs.Shows.{live_from, groups_of, Shows, Means}
 use Rattle.range_gate.specs.Gates.{Gated, has_ended}
 use Rattle.stack_steps.specs.declared.choice.OpStep.{OpStep}
 use Rattle.stack_steps.specs.declared.choice.OpStep.TheVariants.{Ending, Admission, Cutting}
-use Rattle.stack_steps.proofs.Picks.{length-numbers}
 use Rattle.stack_steps.proofs.Nth.{length-choices}
 use Rattle.stack_steps.proofs.Sums.{flying}
 use Rattle.stack_steps.proofs.Chosen.{all-fit}

@@ -78,7 +78,7 @@ chosen-can p v w h = All-get_or (λ s. can p v s ≡ true) (enabled p v) (w % le
 
 -- ---- where all have ended
 
-all-at : (xs : List Bool) (k : ℕ) → all_true xs ≡ true → k < length xs → get_or xs k false ≡ true
+pub all-at : (xs : List Bool) (k : ℕ) → all_true xs ≡ true → k < length xs → get_or xs k false ≡ true
 all-at [] k h l = absurd (omega arith)
 all-at (x ∷ xs) zero h l = (and_parts x (all_true xs) h).0
 all-at (x ∷ xs) (suc k) h l = all-at xs k (and_parts x (all_true xs) h).1 (omega arith)

@@ -32,7 +32,7 @@ admitted-waits Waiting e = cc
 admitted-waits Admitted e = refl
 admitted-waits Ended e = refl
 
-waits-ended : (h : Phase) → is_waiting h ≡ true → has_ended h ≡ true → ⊥
+pub waits-ended : (h : Phase) → is_waiting h ≡ true → has_ended h ≡ true → ⊥
 waits-ended Waiting e f = cc
 waits-ended Admitted e f = cc
 waits-ended Ended e f = cc
@@ -75,7 +75,7 @@ op-there v i h =
     (λ (l : length v.ops ≤ i). let e = ap (λ o. has_ended o.phase) (get_or_past v.ops i no_op l) in let f : true ≡ false = sym e ∙ h in cc)
     (cases_lt i (length v.ops))
 
-admitted-ended : (h : Phase) → is_admitted h ≡ true → has_ended h ≡ false
+pub admitted-ended : (h : Phase) → is_admitted h ≡ true → has_ended h ≡ false
 admitted-ended Waiting e = cc
 admitted-ended Admitted e = refl
 admitted-ended Ended e = cc

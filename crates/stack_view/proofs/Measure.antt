@@ -24,7 +24,7 @@ use Rattle.stack_view.proofs.Counts.{total-set}
 use Rattle.stack_view.proofs.Queues.{total-put, total-put_all, total-joined}
 use Rattle.stack_view.proofs.Rests.{rests-size, rests-length, runs_few}
 use Rattle.stack_view.proofs.Ops.{Grows, grows-settle, length-settle}
-use Rattle.stack_view.proofs.Keeps.{queue-there, command-there, op-there, open-command, piece-some, piece-within, cut-some, cut-within}
+use Rattle.stack_view.proofs.Keeps.{queue-there, command-there, op-there, open-command, piece-some, piece-within, cut-some, cut-within, admitted-ended}
 use Rattle.stack_view.proofs.Enabled.{group-has}
 
 pub over-set : (f : Request → OpView → ℕ) (rs : List Request) (os : List OpView) (a : ℕ) (o : OpView) → length os ≡ length rs → a < length os →
@@ -60,11 +60,6 @@ waits-rank Waiting e = (refl, refl)
 waits-rank Admitted e = cc
 waits-rank Ended e = cc
 
-pub admitted-not : (h : Phase) → is_admitted h ≡ true → has_ended h ≡ false
-admitted-not Waiting e = cc
-admitted-not Admitted e = refl
-admitted-not Ended e = cc
-
 admit-rank : (b : Bool) → rank (if b then Ended else Admitted) ≤ 1
 admit-rank true = omega arith
 admit-rank false = omega arith
@@ -80,7 +75,7 @@ pub falls : (p : Plan) (v : View) (t : Step) (cut : ℕ) (fates : List Fate) →
     measure p (step p v t cut fates) + 1 ≤ measure p v
 falls p v (End a) cut fates s on h f =
     let b = and_parts (is_admitted (op_at v a).phase) (all_true (op_at v a).settled) h in
-    let l = op-there v a (admitted-not (op_at v a).phase b.0) in
+    let l = op-there v a (admitted-ended (op_at v a).phase b.0) in
     let r = admitted-rank (op_at v a).phase b.0 in
     let e = over-set op_weight p.requests v.ops a (record (op_at v a) { phase = Ended }) s.ops l in
     omega arith
@@ -108,7 +103,7 @@ falls p v (Admit a) cut fates s on h f =
     omega arith
 falls p v (Cut a) cut fates s on h f =
     let b = and_parts (is_admitted (op_at v a).phase) (nat_lt (op_at v a).cut (request_at p a).count) h in
-    let l = op-there v a (admitted-not (op_at v a).phase b.0) in
+    let l = op-there v a (admitted-ended (op_at v a).phase b.0) in
     let c = ltb-true (op_at v a).cut (request_at p a).count b.1 in
     let one = piece-some p a (op_at v a).cut in
     let most = piece-within p a (op_at v a).cut c in
@@ -140,7 +135,7 @@ pub fewer : (p : Plan) (v : View) (t : Step) (cut : ℕ) (fates : List Fate) →
     length (step p v t cut fates).commands + sends_left p (step p v t cut fates) ≤ length v.commands + sends_left p v
 fewer p v (End a) cut fates s on h f =
     let b = and_parts (is_admitted (op_at v a).phase) (all_true (op_at v a).settled) h in
-    let l = op-there v a (admitted-not (op_at v a).phase b.0) in
+    let l = op-there v a (admitted-ended (op_at v a).phase b.0) in
     let e = over-set blocks_left p.requests v.ops a (record (op_at v a) { phase = Ended }) s.ops l in
     omega arith
 fewer p v (Complete j) cut fates s on h f =
@@ -163,7 +158,7 @@ fewer p v (Admit a) cut fates s on h f =
     omega arith
 fewer p v (Cut a) cut fates s on h f =
     let b = and_parts (is_admitted (op_at v a).phase) (nat_lt (op_at v a).cut (request_at p a).count) h in
-    let l = op-there v a (admitted-not (op_at v a).phase b.0) in
+    let l = op-there v a (admitted-ended (op_at v a).phase b.0) in
     let c = ltb-true (op_at v a).cut (request_at p a).count b.1 in
     let one = piece-some p a (op_at v a).cut in
     let most = piece-within p a (op_at v a).cut c in

@@ -12,6 +12,7 @@ use Rattle.bio_core.specs.declared.fate.Fate.TheVariants.{Good, Bad, Untouched}
 use Rattle.stack_view.specs.Blocks.{place_of, BlockId, run_of, blocks, settled_of, settled_count}
 use Rattle.merge_queue.specs.Groups.{size, Group}
 use Rattle.merge_queue.specs.Index.{total}
+use Rattle.merge_queue.proofs.Counts.{total-each}
 use Rattle.stack_view.specs.Plan.{Plan}
 use Rattle.stack_view.specs.Rests.{Run, front, behind, with_place, untouched_runs, rests}
 use Rattle.stack_view.proofs.Counts.{length-run_of, length-blocks}
@@ -140,10 +141,6 @@ total-map : {A B : Type 0} (f : B → ℕ) (h : A → B) (xs : List A) → total
 total-map f h [] = refl
 total-map f h (x ∷ xs) = ap (λ n. f (h x) + n) (total-map f h xs)
 
-total-same : {A : Type 0} (f g : A → ℕ) (xs : List A) → ((x : A) → f x ≡ g x) → total f xs ≡ total g xs
-total-same f g [] e = refl
-total-same f g (x ∷ xs) e = let h = e x in let t = total-same f g xs e in omega arith
-
 abbrev rest : Plan → List Bio → Run → Group
 rest p bs r = front p r.count (behind p r.at bs)
 
@@ -153,7 +150,7 @@ blocks-rest p bs r = blocks-front p r.count (behind p r.at bs) ∙ ap (take r.co
 total-rests : (w : BlockId → ℕ) (p : Plan) (bs : List Bio) (fs : List Fate) → total (λ g. total w (blocks g)) (rests p bs fs) ≡ total (over_run w (blocks bs)) (untouched_runs 0 fs)
 total-rests w p bs fs =
     total-map (λ g. total w (blocks g)) (rest p bs) (untouched_runs 0 fs)
-    ∙ total-same (λ r. total w (blocks (rest p bs r))) (over_run w (blocks bs)) (untouched_runs 0 fs) (λ r. ap (total w) (blocks-rest p bs r))
+    ∙ total-each (λ r. total w (blocks (rest p bs r))) (over_run w (blocks bs)) (untouched_runs 0 fs) (λ r. ap (total w) (blocks-rest p bs r))
 
 -- a block of the command is settled or goes back
 pub rests-times : (w : BlockId → ℕ) (p : Plan) (bs : List Bio) (fs : List Fate) → length fs ≡ size bs →
@@ -179,14 +176,14 @@ length-settled (x ∷ xs) (Untouched ∷ fs) h = let e = length-settled xs fs (o
 pub rests-size : (p : Plan) (bs : List Bio) (fs : List Fate) → length fs ≡ size bs → total size (rests p bs fs) + settled_count fs ≡ size bs
 rests-size p bs fs h =
     let e = rests-times (λ b. 1) p bs fs h in
-    let a = total-same size (λ g. total (λ b. 1) (blocks g)) (rests p bs fs) (λ g. sym (total-ones (blocks g) ∙ length-blocks g)) in
+    let a = total-each size (λ g. total (λ b. 1) (blocks g)) (rests p bs fs) (λ g. sym (total-ones (blocks g) ∙ length-blocks g)) in
     let b = total-ones (settled_of (blocks bs) fs) in
     let c = total-ones (blocks bs) in
     let l = length-blocks bs in
     let d = length-settled (blocks bs) fs (omega arith) in
     omega arith
 
-length-map : {A B : Type 0} (f : A → B) (xs : List A) → length (map f xs) ≡ length xs
+pub length-map : {A B : Type 0} (f : A → B) (xs : List A) → length (map f xs) ≡ length xs
 length-map f [] = refl
 length-map f (x ∷ xs) = ap suc (length-map f xs)
 

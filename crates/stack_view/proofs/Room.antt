@@ -25,9 +25,9 @@ use Rattle.stack_view.proofs.Counts.{total-set, length-blocks}
 use Rattle.stack_view.proofs.Queues.{total-put, total-put_all, total-joined}
 use Rattle.stack_view.proofs.Rests.{rests-size, length-settled}
 use Rattle.stack_view.proofs.Ops.{grows-settle, length-settle, unsettled-settle}
-use Rattle.stack_view.proofs.Keeps.{queue-there, command-there, op-there, open-command, piece-some, piece-within, cut-within, settle-room, settled_blocks}
+use Rattle.stack_view.proofs.Keeps.{queue-there, command-there, op-there, open-command, piece-some, piece-within, cut-within, settle-room, settled_blocks, admitted-ended}
 use Rattle.stack_view.proofs.Enabled.{group-has, open-has, few-settled}
-use Rattle.stack_view.proofs.Measure.{over-set, over-same, left-grows, start-left, empty-queues, admitted-not, waits-rank}
+use Rattle.stack_view.proofs.Measure.{over-set, over-same, left-grows, start-left, empty-queues, waits-rank}
 
 -- both totals at once: of frames and of sizes
 record Kept (p : Plan) (v w : View) (fs n : ℕ) : Type 0 where
@@ -55,7 +55,7 @@ kept : (p : Plan) (v : View) (t : Step) (cut : ℕ) (fates : List Fate) → Soun
     Kept p v (step p v t cut fates) (frames_of t fates) (settles v t)
 kept p v (End a) cut fates s on h f =
     let b = and_parts (is_admitted (op_at v a).phase) (all_true (op_at v a).settled) h in
-    let l = op-there v a (admitted-not (op_at v a).phase b.0) in
+    let l = op-there v a (admitted-ended (op_at v a).phase b.0) in
     let e = over-set blocks_left p.requests v.ops a (record (op_at v a) { phase = Ended }) s.ops l in
     let m = same-marks v.ops a (record (op_at v a) { phase = Ended }) l refl in
     record { frames = omega arith; marks = omega arith; sizes = omega arith }
@@ -85,7 +85,7 @@ kept p v (Admit a) cut fates s on h f =
     record { frames = omega arith; marks = omega arith; sizes = omega arith }
 kept p v (Cut a) cut fates s on h f =
     let b = and_parts (is_admitted (op_at v a).phase) (nat_lt (op_at v a).cut (request_at p a).count) h in
-    let l = op-there v a (admitted-not (op_at v a).phase b.0) in
+    let l = op-there v a (admitted-ended (op_at v a).phase b.0) in
     let c = ltb-true (op_at v a).cut (request_at p a).count b.1 in
     let one = piece-some p a (op_at v a).cut in
     let most = piece-within p a (op_at v a).cut c in

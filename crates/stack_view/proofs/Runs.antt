@@ -1,5 +1,5 @@
 -- Whole runs by words.
-use Rattle.std.proofs.Common.{◌≡◌, ℕ, zero, suc, ◌+◌, ◌*◌, ◌<◌, ◌≤◌, true, false, List, [], ◌∷◌, length, map, drop, replicate, refl, sym, ap, subst, ⊎_elim, arith}
+use Rattle.std.proofs.Common.{◌≡◌, ℕ, zero, suc, ◌+◌, ◌*◌, ◌<◌, ◌≤◌, true, false, List, [], ◌∷◌, length, drop, replicate, refl, sym, subst, ⊎_elim, arith}
 use Rattle.std.specs.List.{All}
 use Rattle.std.proofs.lemmas.Bool.{cases_Bool, ltb-true}
 use Rattle.std.proofs.lemmas.List.{length-replicate}
@@ -18,6 +18,7 @@ use Rattle.stack_view.proofs.Starts.{starts}
 use Rattle.stack_view.proofs.Enabled.{chosen-can, group-has}
 use Rattle.stack_view.proofs.Measure.{falls, counted-start, counted-keeps}
 use Rattle.stack_view.proofs.Thrift.{thrifty-start, thrifty-keeps}
+use Rattle.stack_view.proofs.Rests.{length-map}
 
 pub answered : (p : Plan) (v : View) (rig : Rig) (n : ℕ) (t : Step) → Sound p v → RigSettles rig → can p v t ≡ true → Answered v t (rig n (taken v t))
 answered p v rig n (End i) s r h = tt
@@ -93,10 +94,6 @@ both p rig es on r =
     (λ e v q b h. record { sound = step-sound p rig e v on r b.sound h; counted = step-counted p rig e v on r b.sound h b.counted })
     tt (most_steps p) es (start p) (any es) (record { sound = starts p; counted = counted-start p })
 
-length-map' : {A B : Type 0} (f : A → B) (xs : List A) → length (map f xs) ≡ length xs
-length-map' f [] = refl
-length-map' f (x ∷ xs) = ap suc (length-map' f xs)
-
 pub run-sound : (p : Plan) (rig : Rig) (es : List Entry) → OnDevices p → RigSettles rig → Sound p (end_of p rig es)
 run-sound p rig es on r = (both p rig es on r).sound
 
@@ -104,12 +101,12 @@ pub run-steps : (p : Plan) (rig : Rig) (es : List Entry) → OnDevices p → Rig
 run-steps p rig es on r = let c = (both p rig es on r).counted.steps in omega arith
 
 pub run-sends : (p : Plan) (rig : Rig) (es : List Entry) → OnDevices p → RigSettles rig → length (sends_with p rig es) ≤ blocks_of_requests p.requests
-run-sends p rig es on r = let c = (both p rig es on r).counted.sends in let l = length-map' sent (end_of p rig es).commands in omega arith
+run-sends p rig es on r = let c = (both p rig es on r).counted.sends in let l = length-map sent (end_of p rig es).commands in omega arith
 
 pub run-ends : (p : Plan) (rig : Rig) (es : List Entry) → OnDevices p → RigSettles rig → enabled p (end_of p rig es) ≡ []
 run-ends p rig es on r = let c = (counted-start p).steps in run-stops p rig on r (most_steps p) es (start p) (starts p) (omega arith)
 
-all-settled-good : (n : ℕ) → settled_count (replicate n Good) ≡ n
+pub all-settled-good : (n : ℕ) → settled_count (replicate n Good) ≡ n
 all-settled-good zero = refl
 all-settled-good (suc n) = let e = all-settled-good n in omega arith
 
@@ -146,5 +143,5 @@ pub calm-sends : (p : Plan) (es : List Entry) → OnDevices p → All (λ e. e.c
 calm-sends p es on u =
     let c = run_keeps p all_good (Calm p) Uncut (λ e v q b h. calm-step p e v on q b h) refl (most_steps p) es (start p) u (record { sound = starts p; thrifty = thrifty-start p }) in
     let f = c.thrifty.few in
-    let l = length-map' sent (end_of p all_good es).commands in
+    let l = length-map sent (end_of p all_good es).commands in
     omega arith

@@ -23,8 +23,8 @@ use Rattle.stack_view.proofs.Counts.{total-set}
 use Rattle.stack_view.proofs.Queues.{total-put, total-put_all, total-joined}
 use Rattle.stack_view.proofs.Rests.{rests-length}
 use Rattle.stack_view.proofs.Ops.{grows-settle, length-settle}
-use Rattle.stack_view.proofs.Keeps.{queue-there, command-there, op-there, open-command, piece-some}
-use Rattle.stack_view.proofs.Measure.{admitted-not, waits-rank}
+use Rattle.stack_view.proofs.Keeps.{queue-there, command-there, op-there, open-command, piece-some, admitted-ended}
+use Rattle.stack_view.proofs.Measure.{waits-rank}
 
 -- ---- pieces
 
@@ -119,7 +119,7 @@ pub thrifty-keeps : (p : Plan) (v : View) (t : Step) (fates : List Fate) → Sou
     Thrifty p v → Thrifty p (step p v t 0 fates)
 thrifty-keeps p v (End a) fates s on h f w y =
     let b = and_parts (is_admitted (op_at v a).phase) (all_true (op_at v a).settled) h in
-    let l = op-there v a (admitted-not (op_at v a).phase b.0) in
+    let l = op-there v a (admitted-ended (op_at v a).phase b.0) in
     let e = left-set p 0 p.requests v.ops a (record (op_at v a) { phase = Ended }) s.ops l in
     let z = y.few in
     record { few = omega arith; whole = y.whole }
@@ -144,7 +144,7 @@ thrifty-keeps p v (Admit a) fates s on h f w y =
     record { few = omega arith; whole = y.whole }
 thrifty-keeps p v (Cut a) fates s on h f w y =
     let b = and_parts (is_admitted (op_at v a).phase) (nat_lt (op_at v a).cut (request_at p a).count) h in
-    let l = op-there v a (admitted-not (op_at v a).phase b.0) in
+    let l = op-there v a (admitted-ended (op_at v a).phase b.0) in
     let c = ltb-true (op_at v a).cut (request_at p a).count b.1 in
     let n = greatest_piece p a (op_at v a).cut in
     let e = left-set p 0 p.requests v.ops a (record (op_at v a) { cut = (op_at v a).cut + greatest_piece p a (op_at v a).cut }) s.ops l in

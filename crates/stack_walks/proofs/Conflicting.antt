@@ -21,7 +21,7 @@ print_at (op ∷ ops) [] (suc i) = print_at ops [] i
 print_at (op ∷ ops) (b ∷ bs) zero = refl
 print_at (op ∷ ops) (b ∷ bs) (suc i) = print_at ops bs i
 
-own_layout : (f : Footprint) → IsLayoutOf f (layout_of f)
+pub own_layout : (f : Footprint) → IsLayoutOf f (layout_of f)
 own_layout f = record { alone = refl; blocks = refl; reads = IsPermutation-refl (chosen false f.bytes); writes = IsPermutation-refl (chosen true f.bytes) }
 
 do_clash_means : (f g : Footprint) → (do_clash f g ≡ true) ↔ Conflict f g

@@ -1,26 +1,20 @@
 -- The gate for the ops keeps apart those that conflict in the plan.
 use Rattle.std.proofs.Common.{◌≡◌, ℕ, suc, Bool, true, false, List, [], ◌∷◌, length, get_or, refl, sym, ap, arith}
 use Rattle.std.proofs.lemmas.List.{length-map}
-use Rattle.std.proofs.lemmas.List.Sorted.{IsPermutation-refl}
 use Rattle.bio_core.specs.declared.request.Io.{Io}
 use Rattle.merge_queue.specs.declared.limits.Limits.{Limits}
-use Rattle.range_gate.specs.declared.footprint.Footprint.{Footprint}
 use Rattle.range_gate.specs.Gates.{Gated, IsGateFor, conflict_at}
-use Rattle.range_gate.specs.Layout.{IsLayoutOf}
-use Rattle.range_gate.specs.Prints.{chosen}
 use Rattle.range_gate.proofs.Layouts.{clash_means}
 use Rattle.volume_table.specs.Tables.{Table}
 use Rattle.stack_ops.specs.declared.op.Op.{Op}
 use Rattle.stack_steps.specs.Shows.{IsGateOf}
 use Rattle.stack_walks.specs.Sheets.{do_clash, layout_of, no_print, plan_of, prints_of, request_in}
+use Rattle.stack_walks.proofs.Conflicting.{own_layout}
 
 pub length-prints : (ops : List Op) (shifted : List Bool) → length (prints_of ops shifted) ≡ length ops
 length-prints [] bs = refl
 length-prints (op ∷ ops) [] = ap suc (length-prints ops [])
 length-prints (op ∷ ops) (b ∷ bs) = ap suc (length-prints ops bs)
-
-pub laid : (f : Footprint) → IsLayoutOf f (layout_of f)
-laid f = record { alone = refl; blocks = refl; reads = IsPermutation-refl (chosen false f.bytes); writes = IsPermutation-refl (chosen true f.bytes) }
 
 both-ways : (a b : Bool) → (a ≡ true → b ≡ true) → (b ≡ true → a ≡ true) → a ≡ b
 both-ways true b f g = sym (f refl)
@@ -35,5 +29,5 @@ gate-is ops shifted ios table limits devices g n h = λ j i l m.
     let f = get_or fs j no_print in
     let e = get_or fs i no_print in
     let k = h.conflicts j i no_print (omega arith) (omega arith) in
-    let c = clash_means f e (layout_of f) (layout_of e) (laid f) (laid e) in
+    let c = clash_means f e (layout_of f) (layout_of e) (own_layout f) (own_layout e) in
     both-ways (conflict_at g.conflicts j i) (do_clash f e) (λ t. c.1 (k.0 t)) (λ t. k.1 (c.0 t)))

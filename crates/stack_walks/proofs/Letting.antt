@@ -1,5 +1,5 @@
 -- What the gate lets in, by what is seen of a stack.
-use Rattle.std.proofs.Common.{◌≡◌, ◌⊎◌, inl, inr, ℕ, zero, suc, ◌+◌, ◌<◌, ◌≤◌, Bool, true, false, List, [], ◌∷◌, length, get_or, Option, refl, sym, ap, subst, ◌∙◌, arith, ⊎_elim}
+use Rattle.std.proofs.Common.{◌≡◌, ◌⊎◌, inl, inr, ℕ, suc, ◌+◌, ◌<◌, ◌≤◌, true, false, List, [], ◌∷◌, length, Option, refl, sym, ap, subst, ◌∙◌, arith, ⊎_elim}
 use Rattle.std.proofs.lemmas.Bool.{cases_Bool, cases_lt}
 use Rattle.bio_core.specs.declared.fate.Why.{Why}
 use Rattle.range_gate.specs.Gates.{has_ended, is_waiting}
@@ -8,7 +8,8 @@ use Rattle.range_gate.specs.declared.phase.Phase.TheVariants.{Waiting, Admitted 
 use Rattle.stack_ops.specs.declared.op.Op.{Op}
 use Rattle.stack_view.specs.Plan.{Plan, request_at}
 use Rattle.stack_view.specs.Sound.{Sound}
-use Rattle.stack_view.specs.View.{View, all_true, op_at}
+use Rattle.stack_view.specs.View.{View, op_at}
+use Rattle.stack_view.proofs.Enabled.{all-at}
 use Rattle.whole_run.specs.Settings.{Setting}
 use Rattle.whole_run.specs.Steps.{Step}
 use Rattle.run_moves.specs.OpsApart.{OpsConflict}
@@ -25,17 +26,10 @@ over_from : (k : ℕ) (steps : List Step) (status : ℕ → Status) → ((q : �
 over_from k [] status h = tt
 over_from k (step ∷ steps) status h = (h k (omega arith) (omega arith), over_from (suc k) steps status (λ q a b. h q (omega arith) (omega arith)))
 
-ended_waits : (h : Phase) → has_ended h ≡ true → is_waiting h ≡ false
+pub ended_waits : (h : Phase) → has_ended h ≡ true → is_waiting h ≡ false
 ended_waits Waiting e = cc
 ended_waits OpAdmitted e = cc
 ended_waits Ended e = refl
-
-pub all_marked : (xs : List Bool) (k : ℕ) → all_true xs ≡ true → k < length xs → get_or xs k false ≡ true
-all_marked [] k h l = absurd (omega arith)
-all_marked (true ∷ xs) zero h l = refl
-all_marked (false ∷ xs) zero h l = cc
-all_marked (true ∷ xs) (suc k) h l = all_marked xs k h (omega arith)
-all_marked (false ∷ xs) (suc k) h l = cc
 
 module _ (m : Setting) (n logs : ℕ) (p : Plan) (ops : List Op) (g : Ground m n logs ops) (f : IsPlanOf p m ops) (v : View) (s : Sound p v) (shown : ℕ → ℕ → List ℕ) (why : ℕ → ℕ → Option Why) where
   -- the blocks of an op that has ended are settled, or done
@@ -47,7 +41,7 @@ module _ (m : Setting) (n logs : ℕ) (p : Plan) (ops : List Op) (g : Ground m n
       (λ (z : 0 < fates_of (op_in ops j)).
       let k = steps_count m (suc j) (op_in ops j) z in
       over_from 0 (steps_in m ops j) (status_in p v shown why (suc j))
-      (λ q a b. (let n = s.lengths j in ap is_over (is_settled (request_at p j).count (op_at v j) (shown j q) (why j q) (fate_in j q v.commands) q w (omega arith) (all_marked (op_at v j).settled q (s.ended j e) (omega arith))))))
+      (λ q a b. (let n = s.lengths j in ap is_over (is_settled (request_at p j).count (op_at v j) (shown j q) (why j q) (fate_in j q v.commands) q w (omega arith) (all-at (op_at v j).settled q (s.ended j e) (omega arith))))))
       (λ (z : fates_of (op_in ops j) ≤ 0).
       over_from 0 (steps_in m ops j) (status_in p v shown why (suc j)) (λ q a b. ap is_over (is_done (request_at p j).count (op_at v j) (shown j q) (why j q) (fate_in j q v.commands) q w (omega arith))))
       (cases_lt 0 (fates_of (op_in ops j)))

@@ -6,18 +6,16 @@ use Rattle.stack_ops.specs.declared.op.Op.TheVariants.{Fetch, FetchPi, Fill, Ove
 use Rattle.stack_view.specs.Plan.{Plan}
 use Rattle.whole_run.specs.Settings.{Setting}
 use Rattle.whole_run.specs.Steps.{Step, each_from, steps_of}
+use Rattle.whole_run.proofs.InSteps.{each_length}
 use Rattle.run_moves.specs.OpsApart.{IsPlaced, IsSpread, OpsConflict}
 use Rattle.run_moves.specs.ScriptMoves.{fates_of}
 use Rattle.run_follows.specs.Gate.{AllPlaced, AreOver, IsAlone, LetsIn, MayMove, Spot, number, ops_of, place}
 use Rattle.run_follows.specs.Slots.{Status}
 use Rattle.stack_walks.specs.Ground.{Ground}
 use Rattle.stack_walks.specs.Spots.{no_step, op_in, spot_at, spots_from, step_in, steps_in}
+use Rattle.dix_adapter.proofs.GoingOut.{take-long}
 
 -- ---- steps of an op
-
-pub each_long : {X : Type 0} (k n : ℕ) (f : ℕ → X) → length (each_from k n f) ≡ n
-each_long k zero f = refl
-each_long k (suc n) f = ap suc (each_long (suc k) n f)
 
 pub each_at : {X : Type 0} (k n : ℕ) (f : ℕ → X) (j : ℕ) (d : X) → j < n → get_or (each_from k n f) j d ≡ f (k + j)
 each_at k zero f j d h = absurd (omega arith)
@@ -32,10 +30,10 @@ steps_count m i (Fill seg byte) h = absurd (omega arith)
 steps_count m i (Put page off bytes) h = absurd (omega arith)
 steps_count m i (Show seg) h = absurd (omega arith)
 steps_count m i (Seal n body tuples app rtag) h = absurd (omega arith)
-steps_count m i (Write v n body app) h = each_long 0 n _
-steps_count m i (Fetch v n body) h = each_long 0 n _
-steps_count m i (WritePi v n body tuples) h = each_long 0 n _
-steps_count m i (FetchPi v n body tuples) h = each_long 0 n _
+steps_count m i (Write v n body app) h = each_length 0 n _
+steps_count m i (Fetch v n body) h = each_length 0 n _
+steps_count m i (WritePi v n body tuples) h = each_length 0 n _
+steps_count m i (FetchPi v n body tuples) h = each_length 0 n _
 steps_count m i (Overwrite dev lba change) h = absurd (omega arith)
 steps_count m i Wait h = absurd (omega arith)
 
@@ -45,11 +43,6 @@ pub cut_at : {X : Type 0} (xs : List X) (i : ℕ) (d : X) → i < length xs → 
 cut_at [] i d h = absurd (omega arith)
 cut_at (x ∷ xs) zero d h = refl
 cut_at (x ∷ xs) (suc i) d h = ap (λ l. x ∷ l) (cut_at xs i d (omega arith))
-
-pub take_long : {X : Type 0} (i : ℕ) (xs : List X) → i ≤ length xs → length (take i xs) ≡ i
-take_long zero xs h = refl
-take_long (suc i) [] h = absurd (omega arith)
-take_long (suc i) (x ∷ xs) h = ap suc (take_long i xs (omega arith))
 
 pub placed_front : (m : Setting) (n i : ℕ) (ops : List Op) → AllPlaced m n ops → AllPlaced m n (take i ops)
 placed_front m n zero ops h = tt
@@ -86,10 +79,10 @@ lets_in m status ops i l h =
 -- ---- spots
 
 pub spot_number : (m : Setting) (ops : List Op) (i k : ℕ) → i < length ops → number (spot_at m ops i k) ≡ suc i
-spot_number m ops i k l = ap suc (take_long i ops (omega arith))
+spot_number m ops i k l = ap suc (take-long i ops (omega arith))
 
 pub spot_place : (m : Setting) (ops : List Op) (i k : ℕ) → k < length (steps_in m ops i) → place (spot_at m ops i k) ≡ k
-spot_place m ops i k l = take_long k (steps_in m ops i) (omega arith)
+spot_place m ops i k l = take-long k (steps_in m ops i) (omega arith)
 
 pub spot_ops : (m : Setting) (ops : List Op) (i k : ℕ) → i < length ops → ops_of (spot_at m ops i k) ≡ ops
 spot_ops m ops i k l = sym (cut_at ops i Wait l)

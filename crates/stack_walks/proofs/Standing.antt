@@ -1,6 +1,6 @@
 -- What a block's status is by what is seen of it.
 use Rattle.std.proofs.Common.{◌≡◌, ℕ, ◌+◌, ◌-◌, ◌<◌, ◌≤◌, Bool, true, false, List, get_or, Option, refl, arith, ⊎_elim}
-use Rattle.std.specs.Prelude.{if◌then◌else◌, eqb, nat_lt, nat_le}
+use Rattle.std.specs.Prelude.{if◌then◌else◌, eqb, nat_le}
 use Rattle.std.proofs.lemmas.Bool.{cases_Bool, cases_lt, eq-eqb, ne_eqb, lt-ltb, le-ltb, le-leb, lt-leb, ltb-true}
 use Rattle.bio_core.specs.declared.fate.Fate.{Fate}
 use Rattle.bio_core.specs.declared.fate.Why.{Why}
@@ -10,6 +10,7 @@ use Rattle.stack_view.specs.Plan.{Plan, Request, request_at}
 use Rattle.stack_view.specs.Sound.{Sound, due, in_commands, in_queues, is_marked, places, uncut}
 use Rattle.stack_view.specs.View.{OpView, View, op_at}
 use Rattle.stack_view.proofs.Counts.{times-within}
+use Rattle.stack_view.proofs.Enabled.{due-one}
 use Rattle.run_follows.specs.Slots.{Admitted, Done, Settled, Waits}
 use Rattle.stack_walks.specs.Statuses.{sent_as, standing}
 
@@ -49,12 +50,6 @@ due_some r o k h = ⊎_elim (λ (e : is_waiting o.phase ≡ true). let z : due r
 pub due_waits : (r : Request) (o : OpView) (k : ℕ) → is_waiting o.phase ≡ true → due r o k ≡ 0
 due_waits r o k e = rw e refl
 
-pub due_one : (r : Request) (o : OpView) (k : ℕ) → due r o k ≤ 1
-due_one r o k = ⊎_elim (λ (e : is_waiting o.phase ≡ true). let z = due_waits r o k e in omega arith) (λ (e : is_waiting o.phase ≡ false). by e) (cases_Bool (is_waiting o.phase))
-  where
-    by : is_waiting o.phase ≡ false → due r o k ≤ 1
-    by e = ⊎_elim (λ (t : nat_lt k r.count ≡ true). let z : due r o k ≡ 1 = rw (e, t) refl in omega arith) (λ (t : nat_lt k r.count ≡ false). let z : due r o k ≡ 0 = rw (e, t) refl in omega arith) (cases_Bool (nat_lt k r.count))
-
 uncut_there : (i : ℕ) (r : Request) (o : OpView) (k : ℕ) → is_waiting o.phase ≡ false → o.cut ≤ k → k < r.count → times i k (uncut i r o) ≡ 1
 uncut_there i r o k e c h = rw e (times-within i k o.cut (r.count - o.cut) c (omega arith))
 
@@ -68,7 +63,7 @@ pub record IsOut (p : Plan) (v : View) (i k : ℕ) : Type 0 where
 out : (p : Plan) (v : View) (i k : ℕ) → Sound p v → 1 ≤ in_queues i k v.queues + in_commands i k v.commands → IsOut p v i k
 out p v i k s h =
     let e = s.one_place i k in
-    let d = due_one (request_at p i) (op_at v i) k in
+    let d = due-one (request_at p i) (op_at v i) k in
     let w = due_some (request_at p i) (op_at v i) k (omega arith) in
     record {
       waits = w.0;
@@ -79,11 +74,11 @@ out p v i k s h =
 
 -- one in a queue is in no command in flight
 pub queued : (p : Plan) (v : View) (i k : ℕ) → Sound p v → 1 ≤ in_queues i k v.queues → IsOut p v i k × (in_commands i k v.commands ≡ 0)
-queued p v i k s h = let e = s.one_place i k in let d = due_one (request_at p i) (op_at v i) k in (out p v i k s (omega arith), omega arith)
+queued p v i k s h = let e = s.one_place i k in let d = due-one (request_at p i) (op_at v i) k in (out p v i k s (omega arith), omega arith)
 
 -- one in a command in flight is in just that
 pub flying : (p : Plan) (v : View) (i k : ℕ) → Sound p v → 1 ≤ in_commands i k v.commands → IsOut p v i k × (in_commands i k v.commands ≡ 1)
-flying p v i k s h = let e = s.one_place i k in let d = due_one (request_at p i) (op_at v i) k in (out p v i k s (omega arith), omega arith)
+flying p v i k s h = let e = s.one_place i k in let d = due-one (request_at p i) (op_at v i) k in (out p v i k s (omega arith), omega arith)
 
 -- one that waits is nowhere
 pub nowhere : (p : Plan) (v : View) (i k : ℕ) → Sound p v → is_waiting (op_at v i).phase ≡ true → (is_marked (op_at v i) k ≡ 0) × (in_commands i k v.commands ≡ 0)
@@ -93,6 +88,6 @@ nowhere p v i k s h = let e = s.one_place i k in let d = due_waits (request_at p
 pub not_cut : (p : Plan) (v : View) (i k : ℕ) → Sound p v → is_waiting (op_at v i).phase ≡ false → (op_at v i).cut ≤ k → k < (request_at p i).count → (is_marked (op_at v i) k ≡ 0) × (in_commands i k v.commands ≡ 0)
 not_cut p v i k s e c h =
     let q = s.one_place i k in
-    let d = due_one (request_at p i) (op_at v i) k in
+    let d = due-one (request_at p i) (op_at v i) k in
     let u = uncut_there i (request_at p i) (op_at v i) k e c h in
     (omega arith, omega arith)

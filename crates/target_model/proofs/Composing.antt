@@ -10,6 +10,7 @@ use Rattle.cdb_codec.specs.declared.command.CdbFault.{CdbFault}
 use Rattle.cdb_codec.specs.Decoded.{decoded}
 use Rattle.target_answer.specs.Requests.{request_of}
 use Rattle.std.proofs.lemmas.Bool.Decides.{nat_tests}
+use Rattle.std.proofs.lemmas.Bool.{ltb-true, eqb-true}
 use Rattle.fault_schedule.specs.declared.Label.{Label}
 use Rattle.fault_schedule.specs.declared.fault.FaultLine.{FaultLine}
 use Rattle.sense_codes.specs.declared.Sense.{Sense}
@@ -99,12 +100,9 @@ few_cut true k n left frames other done sense h l t =
     omega (arith, e)
 few_cut false k n left frames other done sense h l t = l
 
-below : (a b : ℕ) → ltb a b ≡ true → a < b
-below a b e = grind arith
-
 few_written : (lba : ℕ) (rs : List (Result (List ℕ) Check)) (stop : Option Stop) → length (write_end lba rs stop).frames ≤ length rs
 few_written lba rs None = few_passed rs
-few_written lba rs (Some s) = few_cut (ltb s.at (length (passed rs))) s.at (length rs) s.left (passed rs) (whole lba rs) s.at _ (few_passed rs) (few_passed rs) (below s.at (length (passed rs)))
+few_written lba rs (Some s) = few_cut (ltb s.at (length (passed rs))) s.at (length rs) s.left (passed rs) (whole lba rs) s.at _ (few_passed rs) (few_passed rs) (ltb-true s.at (length (passed rs)))
 
 pub many_written : (unit : UnitSpec) (c : Rw) (lba : ℕ) (faults : List FaultLine) (labels : List Label) (out : List ℕ) → length (written_by unit c lba faults labels out) ≡ c.n
 many_written unit c lba faults labels out = length_each _ 0 (frames_of (sent_size c.protect unit.size) c.n out) ∙ length_frames (sent_size c.protect unit.size) c.n out
@@ -267,9 +265,6 @@ pub served_request : (u : LogicalUnit) (bytes : List ℕ) (faults : List FaultLi
 served_request u bytes faults cdb labels out room o n command request now result before after e r s =
     served_as u _ _ o n bytes now result before after (request_answer (unit_in u bytes) faults cdb labels out room command request e r) s
 
-is_equal : (a b : ℕ) → eqb a b ≡ true → a ≡ b
-is_equal a b e = grind (arith, nat_tests)
-
 is_other : (a b : ℕ) → eqb a b ≡ false → a ≢ b
 is_other a b e = grind (arith, nat_tests)
 
@@ -287,7 +282,7 @@ capacity_by u bytes cdb len o faults labels out before after now result false h 
     let r = bad (is_other (length before) (min len 32) e) in
     rw r.1 (served_refused u _ o bytes now result (Some (illegal 0x24)) before h k r.0 (λ stop. rw e refl))
 capacity_by u bytes cdb len o faults labels out before after now result true h k bad good e =
-    let is = is_equal (length before) (min len 32) e in
+    let is = eqb-true (length before) (min len 32) e in
     let r = good is in
     let told : List ℕ = take (min len 32) (capacity_data (shape_in u)) in
     let long : length told ≡ min len 32 = simp length-take (omega arith) in

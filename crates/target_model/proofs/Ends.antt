@@ -1,5 +1,5 @@
-use Rattle.std.proofs.Common.{ℕ, zero, suc, ◌≡◌, ◌+◌, ◌-◌, ◌*◌, ◌<◌, Bool, true, ◌&&◌, ltb, List, [], ◌∷◌, ◌++◌, length, take, drop, Option, Some, None, Result, Ok, Err, refl, sym, ap, ◌∙◌, arith, append_assoc, append-nil, length-append, add-zero}
-use Rattle.std.proofs.lemmas.Bool.{lt-ltb}
+use Rattle.std.proofs.Common.{ℕ, zero, suc, ◌≡◌, ◌+◌, ◌-◌, ◌*◌, ◌<◌, true, ◌&&◌, ltb, List, [], ◌∷◌, ◌++◌, length, take, drop, Option, Some, None, Result, Ok, Err, refl, sym, ap, ◌∙◌, arith, append_assoc, append-nil, length-append, add-zero}
+use Rattle.std.proofs.lemmas.Bool.{lt-ltb, and_from}
 use Rattle.pi_tuple.specs.declared.checks.Check.{Check}
 use Rattle.sense_codes.specs.declared.Sense.{Sense}
 use Rattle.target_answer.specs.Frames.{frames_of, joined}
@@ -92,9 +92,6 @@ pub length_each : (judge : Judge) (k : ℕ) (fs : List (List ℕ)) → length (e
 length_each judge k [] = refl
 length_each judge k (f ∷ fs) = ap suc (length_each judge (k + 1) fs)
 
-both_tests : (x y : Bool) → x ≡ true → y ≡ true → (x && y) ≡ true
-both_tests x y e f = rw (e, f) refl
-
 -- the store call for the next one fails
 pub ends_unread : (judge : Judge) (lba len n size k : ℕ) (rest all left : List ℕ) (kept : List (List ℕ)) → k < n → length (frames_of len n all) ≡ n → Along judge lba len n size k rest all kept →
     read_end lba (each judge 0 (frames_of len n all)) (Some (record { at = k; left = left })) ≡ record { done = k; sense = Some (medium_sense 0x11 (lba + k)); frames = kept }
@@ -103,6 +100,6 @@ ends_unread judge lba len n size k rest all left kept h l a =
     let many : length (passed (each judge 0 (frames_of len n all))) ≡ k + length later = ap length a.frames ∙ length-append kept later ∙ ap (λ v. v + length later) a.many in
     let first : ltb k (length (passed (each judge 0 (frames_of len n all))) + 1) ≡ true = lt-ltb k _ (omega (arith, many)) in
     let second : ltb k (length (each judge 0 (frames_of len n all))) ≡ true = lt-ltb k _ (let e = length_each judge 0 (frames_of len n all) in omega (arith, e, l)) in
-    let test : (ltb k (length (passed (each judge 0 (frames_of len n all))) + 1) && ltb k (length (each judge 0 (frames_of len n all)))) ≡ true = both_tests _ _ first second in
+    let test : (ltb k (length (passed (each judge 0 (frames_of len n all))) + 1) && ltb k (length (each judge 0 (frames_of len n all)))) ≡ true = and_from _ _ first second in
     let part : take k (passed (each judge 0 (frames_of len n all))) ≡ kept = ap (take k) a.frames ∙ taken k kept later a.many in
     rw test (ap (λ v. ended k (Some (medium_sense 0x11 (lba + k))) v) part)

@@ -2,6 +2,7 @@
 use Rattle.std.proofs.Common.{◌≡◌, ℕ, ◌+◌, ◌<◌, ◌≤◌, Bool, true, false, not, eqb, if◌then◌else◌, List, [], ◌∷◌, ◌++◌, length, Option, Some, None, inl, inr, sum_by, refl, subst, arith}
 use Rattle.std.specs.List.{list_any}
 use Rattle.std.proofs.lemmas.Bool.Decides.{nat_tests}
+use Rattle.std.proofs.lemmas.Bool.{or_parts, not-false}
 use Rattle.pi_tuple.specs.declared.checks.PiType.{PiType}
 use Rattle.pi_tuple.specs.declared.checks.PiType.TheVariants.{Zero, One, Two, Three}
 use Rattle.volume_table.specs.declared.device.DeviceInfo.{DeviceInfo}
@@ -13,7 +14,7 @@ use Rattle.volume_table.specs.declared.fault.VolumeKind.TheVariants.{Gap, Unknow
 use Rattle.volume_table.specs.Entries.{entry_len, entry_start, extents}
 use Rattle.volume_table.specs.Faults.{device, do_any_meet, fault_from, fault_of, has_bad_chunk, have_shared_legs, is_before_start, is_gap, is_of_other_size, is_of_other_type, is_overlapping, is_past_end, is_type, is_unknown, or_later}
 use Rattle.volume_table.specs.Tables.{IsOn}
-use Rattle.volume_table.proofs.Lists.{In, in_front, in_last, neither, none_in, not_false}
+use Rattle.volume_table.proofs.Lists.{In, in_front, in_last, none_in}
 
 pub record IsFine (ty : PiType) (before : List Entry) (e : Entry) (devices : List DeviceInfo) (size : ℕ) : Type 0 where
   pub start : entry_start e ≡ sum_by entry_len before
@@ -30,7 +31,7 @@ pick : (b : Bool) (k : VolumeKind) (r : Option VolumeKind) → (if b then Some k
 pick true k r h = absurd (cc)
 pick false k r h = (refl, h)
 
-at_sum : (a b : ℕ) → not (eqb a b) ≡ false → a ≡ b
+pub at_sum : (a b : ℕ) → not (eqb a b) ≡ false → a ≡ b
 at_sum a b h = grind (arith, nat_tests)
 
 fine : (ty : PiType) (before : List Entry) (e : Entry) (devices : List DeviceInfo) (size : ℕ) → fault_of ty before e devices size ≡ None → IsFine ty before e devices size
@@ -43,7 +44,7 @@ fine ty before e devices size h =
     let p4 = pick (is_overlapping before e) Overlap _ p3.1 in
     let p5 = pick (list_any (is_of_other_type ty devices) (extents e)) MixedTypes _ p4.1 in
     let p8 = pick (list_any (is_of_other_size size devices) (extents e)) OtherSize _ p5.1 in
-    let over = neither (have_shared_legs e) (list_any (λ b. do_any_meet (extents e) (extents b)) before) p4.0 in
+    let over = or_parts (have_shared_legs e) (list_any (λ b. do_any_meet (extents e) (extents b)) before) p4.0 in
     record {
       start = at_sum (entry_start e) (sum_by entry_len before) p1.0;
       known = p2.0;
@@ -107,7 +108,7 @@ extent_on ty before e devices size f x i =
       known = one_known devices x (none_in (is_unknown devices) (extents e) x f.known i);
       begins = one_begins devices x (none_in (is_before_start devices) (extents e) x f.begins i);
       ends = one_ends devices x (none_in (is_past_end devices) (extents e) x f.ends i);
-      type_is = same_type (device devices x.dev).ty ty (not_false _ (none_in (is_of_other_type ty devices) (extents e) x f.types i));
+      type_is = same_type (device devices x.dev).ty ty (not-false _ (none_in (is_of_other_type ty devices) (extents e) x f.types i));
       size_is = one_size size devices x (none_in (is_of_other_size size devices) (extents e) x f.sizes i);
     }
 

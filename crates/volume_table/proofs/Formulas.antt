@@ -3,6 +3,7 @@ use Rattle.std.proofs.Common.{◌≡◌, ℕ, ◌+◌, ◌-◌, ◌*◌, ◌/◌
 use Rattle.std.proofs.lemmas.Bool.Decides.{nat_tests}
 use Rattle.std.proofs.lemmas.Nat.{div-add-mod', div_below, mod_below, row_fits}
 use Rattle.std.proofs.Math.Nat.{mul_assoc, mul_comm}
+use Rattle.std.proofs.lemmas.Bool.{not-false}
 use Rattle.stripe_volume.specs.declared.stripe.Stripe.{Stripe as Striped}
 use Rattle.stripe_volume.specs.Stripes.{AreApart, HasLegs, IsWhole, StripeHolds, is_apart, leg, leg_len, stripe_run}
 use Rattle.stripe_volume.proofs.Apart.{apart_by_test}
@@ -13,7 +14,7 @@ use Rattle.volume_table.specs.declared.extent.Extent.{Extent}
 use Rattle.volume_table.specs.Entries.{IsInRange, entry_place, entry_run, extents, is_held, leg_extent}
 use Rattle.volume_table.specs.Faults.{do_meet, has_bad_chunk, have_shared_legs}
 use Rattle.volume_table.proofs.Fine.{Clear}
-use Rattle.volume_table.proofs.Lists.{In, in_map, none_in, not_false}
+use Rattle.volume_table.proofs.Lists.{In, in_map, none_in}
 use Rattle.volume_table.proofs.Order.{in_is, is_in}
 
 -- a stripe is in its ranges, whole, and has its legs apart
@@ -21,12 +22,12 @@ abbrev pub IsSound : Entry → Type 0
 IsSound (Linear e) = 1 ≤ e.len
 IsSound (Stripe s) = HasLegs s × IsWhole s × AreApart s
 
-whole_by : (a : ℕ) → not (eqb a 0) ≡ false → a ≡ 0
+pub whole_by : (a : ℕ) → not (eqb a 0) ≡ false → a ≡ 0
 whole_by a h = grind (arith, nat_tests)
 
 pub sound : (e : Entry) → IsInRange e → has_bad_chunk e ≡ false → have_shared_legs e ≡ false → IsSound e
 sound (Linear e) r c l = r.0
-sound (Stripe s) r c l = ((r.1, r.2), whole_by (s.len % (s.chunk * length s.legs)) c, apart_by_test s (not_false (is_apart s) l))
+sound (Stripe s) r c l = ((r.1, r.2), whole_by (s.len % (s.chunk * length s.legs)) c, apart_by_test s (not-false (is_apart s) l))
 
 -- A block lies on an extent.
 pub record OnExtent (e : Entry) (v : ℕ) : Type 0 where

@@ -1,6 +1,7 @@
 -- Elements of lists, and tests that none of them passes.
-use Rattle.std.proofs.Common.{◌≡◌, ℕ, zero, suc, ◌<◌, Bool, true, false, not, ◌||◌, List, [], ◌∷◌, ◌++◌, length, get_or, map, ◌⊎◌, inl, inr, refl, subst, Contains, arith}
+use Rattle.std.proofs.Common.{◌≡◌, ℕ, zero, suc, ◌<◌, Bool, false, ◌||◌, List, [], ◌∷◌, ◌++◌, length, get_or, map, ◌⊎◌, inl, inr, refl, subst, Contains, arith}
 use Rattle.std.specs.List.{list_any}
+use Rattle.std.proofs.lemmas.Bool.{or_parts}
 
 abbrev pub In : {X : Type 0} → X → List X → Type 0
 In x [] = ⊥
@@ -35,18 +36,10 @@ in_map f d [] k w = absurd (omega arith)
 in_map f d (x ∷ xs) zero w = inl refl
 in_map f d (x ∷ xs) (suc k) w = inr (in_map f d xs k (omega arith))
 
-pub neither : (a b : Bool) → (a || b) ≡ false → (a ≡ false) × (b ≡ false)
-neither true b h = absurd (cc)
-neither false b h = (refl, h)
-
 pub none_in : {X : Type 0} (p : X → Bool) (xs : List X) (x : X) → list_any p xs ≡ false → In x xs → p x ≡ false
 none_in p [] x h i = absurd i
 none_in p (y ∷ ys) x h i =
     elim i [
-      | inl e ↦ subst (λ z. p z ≡ false) e (neither (p y) (list_any p ys) h).0
-      | inr later ↦ none_in p ys x (neither (p y) (list_any p ys) h).1 later
+      | inl e ↦ subst (λ z. p z ≡ false) e (or_parts (p y) (list_any p ys) h).0
+      | inr later ↦ none_in p ys x (or_parts (p y) (list_any p ys) h).1 later
     ]
-
-pub not_false : (b : Bool) → not b ≡ false → b ≡ true
-not_false true h = refl
-not_false false h = absurd (cc)

@@ -29,7 +29,7 @@ is_in v e h = grind (arith, nat_tests)
 pub in_is : (v : ℕ) (e : Entry) → entry_start e ≤ v → v < entry_start e + entry_len e → is_held v e ≡ true
 in_is v e p q = grind (arith, nat_tests)
 
-not_in : (v : ℕ) (e : Entry) → entry_start e + entry_len e ≤ v → is_held v e ≡ false
+pub not_in : (v : ℕ) (e : Entry) → entry_start e + entry_len e ≤ v → is_held v e ≡ false
 not_in v e p = grind (arith, nat_tests)
 
 -- each lies between the first start and the last end

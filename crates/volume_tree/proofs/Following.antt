@@ -11,7 +11,7 @@ extent_at a [] i d f h = absurd (omega arith)
 extent_at a (e ∷ t) zero d f h = f.0
 extent_at a (e ∷ t) (suc i) d f h = extent_at (a + e.len) t i d f.2 (omega arith)
 
-together : (a b c : ℕ) → a + b + c ≡ a + (b + c)
+pub together : (a b c : ℕ) → a + b + c ≡ a + (b + c)
 together a b c = omega arith
 
 -- the last extent ends where all blocks end

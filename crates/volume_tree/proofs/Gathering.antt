@@ -1,10 +1,12 @@
-use Rattle.std.proofs.Common.{ℕ, ◌≡◌, ◌+◌, ◌*◌, ◌/◌, ◌%◌, ◌<◌, ◌≤◌, ◌||◌, ◌⊎◌, inl, inr, not, ltb, eqb, cond, Bool, true, false, List, [], ◌∷◌, refl, ap, ◌∙◌, arith}
+use Rattle.std.proofs.Common.{ℕ, ◌≡◌, ◌+◌, ◌*◌, ◌/◌, ◌%◌, ◌<◌, ◌≤◌, ◌||◌, ◌⊎◌, inl, inr, ltb, eqb, cond, Bool, true, false, List, [], ◌∷◌, refl, ap, ◌∙◌, arith}
 use Rattle.std.specs.List.{list_any}
 use Rattle.std.proofs.lemmas.Bool.Decides.{nat_tests}
 use Rattle.std.proofs.Math.Nat.{add-mul-mod_self_right, mod-add-div', zero-mod}
 use Rattle.linear_volume.specs.declared.Linear.{Linear}
 use Rattle.volume_tree.specs.Tracks.{FollowsFrom, end_of, put, put_all, put_ends, track_len}
 use Rattle.volume_tree.specs.Trees.{AreTracks, is_other_length, is_ragged}
+use Rattle.volume_table.proofs.Fine.{at_sum}
+use Rattle.volume_table.proofs.Formulas.{whole_by}
 
 -- each number is above the one before, the first above this one
 abbrev pub Ascends : ℕ → List ℕ → Type 0
@@ -138,12 +140,6 @@ pub or_second : (a b : Bool) → a || b ≡ false → b ≡ false
 or_second true b h = absurd (cc)
 or_second false b h = h
 
-is_even : (n : ℕ) → not (eqb n 0) ≡ false → n ≡ 0
-is_even n h = grind (arith, nat_tests)
-
-pub has_length : (a b : ℕ) → not (eqb a b) ≡ false → a ≡ b
-has_length a b h = grind (arith, nat_tests)
-
 mod_sum : (c a b : ℕ) → a % c ≡ 0 → b % c ≡ 0 → (a + b) % c ≡ 0
 mod_sum c a b za zb =
     let whole : b ≡ b / c * c = omega (arith, mod-add-div' b c, zb) in
@@ -154,7 +150,7 @@ ends_are m chunk a [] f z w r = tt
 ends_are m chunk a (e ∷ t) f z w r =
     let s : e.start ≡ a = f.1 in
     let n = f.0.len.0 in
-    let whole : e.len % chunk ≡ 0 = is_even (e.len % chunk) (or_first (is_ragged chunk e) (list_any (is_ragged chunk) t) r) in
+    let whole : e.len % chunk ≡ 0 = whole_by (e.len % chunk) (or_first (is_ragged chunk e) (list_any (is_ragged chunk) t) r) in
     let sum : (a + e.len) % chunk ≡ 0 = mod_sum chunk a e.len z whole in (
       (omega (arith, s, n), (omega (arith, s, w), ap (λ x. (x + e.len) % chunk) s ∙ sum)),
       ends_are m chunk (a + e.len) t f.2 sum (omega (arith, w)) (or_second (is_ragged chunk e) (list_any (is_ragged chunk) t) r),
@@ -163,7 +159,7 @@ ends_are m chunk a (e ∷ t) f z w r =
 pub all_ends_are : (m chunk : ℕ) (ts : List (List Linear)) → AreTracks ts → list_any (is_other_length m) ts ≡ false → list_any (λ t. list_any (is_ragged chunk) t) ts ≡ false → AllEndsAre (Above (IsCut m chunk)) ts
 all_ends_are m chunk [] f l r = tt
 all_ends_are m chunk (t ∷ ts) f l r =
-    let here : track_len t ≡ m = has_length (track_len t) m (or_first (is_other_length m t) (list_any (is_other_length m) ts) l) in (
+    let here : track_len t ≡ m = at_sum (track_len t) m (or_first (is_other_length m t) (list_any (is_other_length m) ts) l) in (
       ends_are m chunk 0 t f.0 (zero-mod chunk) (omega (arith, here)) (or_first (list_any (is_ragged chunk) t) (list_any (λ u. list_any (is_ragged chunk) u) ts) r),
       all_ends_are m chunk ts f.1 (or_second (is_other_length m t) (list_any (is_other_length m) ts) l) (or_second (list_any (is_ragged chunk) t) (list_any (λ u. list_any (is_ragged chunk) u) ts) r),
     )

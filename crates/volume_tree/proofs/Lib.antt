@@ -1,6 +1,6 @@
-mod Putting
+pub mod Putting
 pub mod Following
-mod Gathering
+pub mod Gathering
 mod Spots
 mod Placing
 pub mod Stretches

@@ -9,14 +9,14 @@ use Rattle.volume_tree.specs.Tracks.{end_of, has_at, is_from, put, put_all, put_
 not_leb : (x y : ℕ) → not (leb x y) ≡ ltb y x
 not_leb x y = grind (arith, nat_tests)
 
-ltb_suc : (a b : ℕ) → ltb (suc a) (suc b) ≡ ltb a b
+pub ltb_suc : (a b : ℕ) → ltb (suc a) (suc b) ≡ ltb a b
 ltb_suc a b = grind (arith, nat_tests)
 
 cond_cons : (b : Bool) (y : ℕ) (xs ys : List ℕ) → cond b (y ∷ xs) (y ∷ ys) ≡ y ∷ cond b xs ys
 cond_cons true y xs ys = refl
 cond_cons false y xs ys = refl
 
-one_more : (n : ℕ) → 1 + n ≡ suc n
+pub one_more : (n : ℕ) → 1 + n ≡ suc n
 one_more n = omega arith
 
 place_more : (x y : ℕ) (ys : List ℕ) → ltb y x ≡ true → position_or_len (is_from x) (y ∷ ys) ≡ suc (position_or_len (is_from x) ys)

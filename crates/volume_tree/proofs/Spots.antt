@@ -1,5 +1,6 @@
 use Rattle.std.proofs.Common.{ℕ, ◌≡◌, ◌+◌, ◌-◌, ◌<◌, ◌≤◌, ◌⊎◌, inl, inr, ltb, cond, Bool, true, false, List, [], ◌∷◌, find, Some, refl, sym, ap, ◌∙◌, arith}
 use Rattle.std.proofs.lemmas.Bool.Decides.{nat_tests}
+use Rattle.std.proofs.lemmas.Bool.{ltb-true, ltb-false}
 use Rattle.linear_volume.specs.declared.Linear.{Linear}
 use Rattle.volume_tree.specs.Tracks.{FollowsFrom, end_of, is_held, place_by, track_len, track_place}
 use Rattle.volume_tree.proofs.Gathering.{AreIn, IsIn}
@@ -29,12 +30,6 @@ ends_behind : (x y e : ℕ) → x < e → (e ≤ x) ⊎ (y ≤ e) → y ≤ e
 ends_behind x y e h (inl k) = absurd (omega arith)
 ends_behind x y e h (inr k) = k
 
-below : (x y : ℕ) → ltb x y ≡ true → x < y
-below x y h = grind (arith, nat_tests)
-
-not_below : (x y : ℕ) → ltb x y ≡ false → y ≤ x
-not_below x y h = grind (arith, nat_tests)
-
 here : (x y o : ℕ) (e : Linear) (t : List Linear) → e.start ≤ x → x < end_of e → y ≤ end_of e → x ≤ o → o < y → Spot (e ∷ t) x o
 here x y o e t s h k l m = record { extent = e; at_x = held_yes x e t s h; at_o = held_yes o e t (omega arith) (omega arith); begins = s }
 
@@ -44,10 +39,10 @@ there x o e t h k r = record { extent = r.extent; at_x = held_no x e t h ∙ r.a
 held_by : (b : Bool) (a x y o : ℕ) (e : Linear) (t : List Linear) (xs : List ℕ) → ltb x (end_of e) ≡ b → FollowsFrom a (e ∷ t) → a ≤ x → x < a + track_len (e ∷ t) → AreIn (e ∷ t) xs → Gap x y xs → x ≤ o → o < y → (end_of e ≤ x → Spot t x o) → Spot (e ∷ t) x o
 held_by true a x y o e t xs b f lo hi i g l m r =
     let s : e.start ≡ a = f.1 in
-    let h : x < end_of e = below x (end_of e) b in
+    let h : x < end_of e = ltb-true x (end_of e) b in
     here x y o e t (omega (arith, s, lo)) h (ends_behind x y (end_of e) h (g (end_of e) i.0)) l m
 held_by false a x y o e t xs b f lo hi i g l m r =
-    let h : end_of e ≤ x = not_below x (end_of e) b in
+    let h : end_of e ≤ x = ltb-false x (end_of e) b in
     there x o e t h l (r h)
 
 pub held : (a x y o : ℕ) (t : List Linear) (xs : List ℕ) → FollowsFrom a t → a ≤ x → x < a + track_len t → AreIn t xs → Gap x y xs → x ≤ o → o < y → Spot t x o

@@ -6,17 +6,17 @@ use Rattle.std.proofs.lemmas.Nat.{mod-mul-add, div-add-mod', mul-le}
 use Rattle.std.proofs.lemmas.List.{length-map}
 use Rattle.std.proofs.lemmas.List.Elements.{All-cons, All-nil}
 use Rattle.std.proofs.lemmas.List.Sums.{sum_by-cons}
+use Rattle.std.proofs.lemmas.Bool.{ltb-true, ltb-false}
 use Rattle.linear_volume.specs.declared.Linear.{Linear}
 use Rattle.volume_table.specs.declared.entry.Entry.{Entry}
 use Rattle.volume_table.specs.Entries.{IsInRange, IsLength, entry_len, entry_place, entry_start, is_held}
 use Rattle.volume_table.specs.Places.{place_by, place_in, volume_len}
+use Rattle.volume_table.proofs.Fine.{at_sum}
 use Rattle.volume_tree.specs.Tracks.{FollowsFrom, ends, track_len}
 use Rattle.volume_tree.specs.Trees.{AreTracks, DoFit, EntriesFollow, expanded, has_bad_length, is_other_length, is_unaligned, leg_from, stripe_between, stripes, tree_place}
-use Rattle.volume_tree.proofs.Gathering.{AllIn, AreIn, Ascends, Each, Gathered, IsCut, IsIn, all_ends_are, all_gather, all_in, has_length, or_first, or_second}
+use Rattle.volume_tree.proofs.Gathering.{AllIn, AreIn, Ascends, Each, Gathered, IsCut, IsIn, all_ends_are, all_gather, all_in, or_first, or_second}
 use Rattle.volume_tree.proofs.Placing.{same_place}
-
-sum : (a b c : ℕ) → a + b + c ≡ a + (b + c)
-sum a b c = omega arith
+use Rattle.volume_tree.proofs.Following.{together as sum}
 
 -- the last end is the number of all blocks
 track_end : (a : ℕ) (t : List Linear) (xs : List ℕ) → FollowsFrom a t → 0 < track_len t → AreIn t xs → IsIn (a + track_len t) xs
@@ -79,12 +79,6 @@ entry_no v e es a =
     let p : is_held v e ≡ false = grind (arith, nat_tests) in
     ap (λ c. place_by (cond c (Some e) (find (is_held v) es)) v) p
 
-yes_below : (x y : ℕ) → ltb x y ≡ true → x < y
-yes_below x y h = grind (arith, nat_tests)
-
-no_below : (x y : ℕ) → ltb x y ≡ false → y ≤ x
-no_below x y h = grind (arith, nat_tests)
-
 -- the same inner volumes all along
 pub record Tree (c n m : ℕ) (ts : List (List Linear)) (all : List ℕ) : Type 0 where
   pub chunk : 0 < c
@@ -99,7 +93,7 @@ place_step : (b : Bool) (start c n m x y v : ℕ) (ts : List (List Linear)) (ys 
 place_step true start c n m x y v ts ys all t a lo hi b r =
     let up : x < y = a.ascends.0 in
     let few : y ≤ m = a.cut.0.0 in
-    let h : v < start + y * n = yes_below v (start + y * n) b in
+    let h : v < start + y * n = ltb-true v (start + y * n) b in
     let first : start + x * length ts ≡ start + x * n = ap (λ k. start + x * k) t.count in
     let second : (y - x) * length ts ≡ (y - x) * n = ap (λ k. (y - x) * k) t.count in
     let all_of = between x y n up in
@@ -109,7 +103,7 @@ place_step true start c n m x y v ts ys all t a lo hi b r =
     ∙ same_place start c n m x y v ts all t.chunk t.some t.count t.tracks t.among t.long a.whole a.cut.0.1 (λ z i. gap_by x y z ys a.ascends (a.others z i)) (omega (arith, up, few)) lo h
 place_step false start c n m x y v ts ys all t a lo hi b r =
     let up : x < y = a.ascends.0 in
-    let h : start + y * n ≤ v = no_below v (start + y * n) b in
+    let h : start + y * n ≤ v = ltb-false v (start + y * n) b in
     let first : start + x * length ts ≡ start + x * n = ap (λ k. start + x * k) t.count in
     let second : (y - x) * length ts ≡ (y - x) * n = ap (λ k. (y - x) * k) t.count in
     let all_of = between x y n up in
@@ -177,7 +171,7 @@ pub record Built (c len : ℕ) (ts : List (List Linear)) : Type 0 where
 
 whole_len : (len c n : ℕ) → 0 < n → not (eqb (len % (c * n)) 0) ≡ false → len / n * n ≡ len
 whole_len len c n hn h =
-    let z : len % (c * n) ≡ 0 = has_length (len % (c * n)) 0 h in
+    let z : len % (c * n) ≡ 0 = at_sum (len % (c * n)) 0 h in
     let e : len / (c * n) * (c * n) + len % (c * n) ≡ len = div-add-mod' len (c * n) in
     let f : len ≡ len / (c * n) * c * n + 0 = omega (arith, e, z) in
     let r : len % n ≡ 0 = ap (λ k. k % n) f ∙ mod-mul-add (len / (c * n) * c) n 0 hn in
@@ -191,7 +185,7 @@ some_blocks (suc m) n h = omega arith
 last_in : (m : ℕ) (ts : List (List Linear)) (xs : List ℕ) → 0 < length ts → 0 < m → AreTracks ts → AllIn ts xs → list_any (is_other_length m) ts ≡ false → IsIn m xs
 last_in m [] xs h p f i l = absurd (omega arith)
 last_in m (t ∷ ts) xs h p f i l =
-    let e : track_len t ≡ m = has_length (track_len t) m (or_first (is_other_length m t) (list_any (is_other_length m) ts) l) in
+    let e : track_len t ≡ m = at_sum (track_len t) m (or_first (is_other_length m t) (list_any (is_other_length m) ts) l) in
     subst (λ k. IsIn k xs) (omega (arith, e)) (track_end 0 t xs f.0 (omega (arith, e, p)) i.0)
 
 pub built : (c len : ℕ) (ts : List (List Linear)) → 1 ≤ c → 1 ≤ length ts → 1 ≤ len → AreTracks ts → has_bad_length len c ts ≡ false → is_unaligned c ts ≡ false → Built c len ts

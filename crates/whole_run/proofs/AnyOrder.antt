@@ -5,6 +5,7 @@ use Rattle.block_path.specs.Blocks.{Answer}
 use Rattle.block_path.specs.Serial.{Leads, all_done, none_done, plain, plain_tells}
 use Rattle.block_path.proofs.Acts.{commutes}
 use Rattle.block_path.proofs.Serial.{any_whole_order}
+use Rattle.block_path.proofs.InTurn.{plain_append}
 use Rattle.whole_run.specs.CalmRun.{IsCalmRun}
 use Rattle.whole_run.specs.PlainMap.{plain_map, plain_replies}
 use Rattle.whole_run.specs.ScriptWalk.{acts_from, acts_of, replies_by, replies_from, reply_of, script_replies, script_walk, walk_from}
@@ -13,10 +14,6 @@ use Rattle.whole_run.specs.UnderMap.{IsUnder, opened}
 use Rattle.whole_run.proofs.CalmRuns.{is_plain}
 
 -- The walk of ops is the walk of all their acts, in any order.
-
-pub plain_append : {S A : Type 0} (act : A → S → S) (xs ys : List A) (s : S) → plain act (xs ++ ys) s ≡ plain act ys (plain act xs s)
-plain_append act [] ys s = refl
-plain_append act (x ∷ xs) ys s = plain_append act xs ys (act x s)
 
 pub first_tells : {S A R : Type 0} (act : A → S → S) (tell : A → S → R) (xs ys : List A) (s : S) → take (length xs) (plain_tells act tell (xs ++ ys) s) ≡ plain_tells act tell xs s
 first_tells act tell [] ys s = refl

@@ -1,7 +1,7 @@
 use Rattle.std.proofs.Common.{◌≡◌, ◌<◌, ℕ, ◌+◌, ◌^◌, Bool, true, false, not, ◌&&◌, ◌||◌, eqb, if◌then◌else◌, List, [], ◌∷◌, ◌++◌, length, drop, Option, Some, None, refl, sym, ap, ◌∙◌, arith}
 use Rattle.std.specs.Prelude.{bit_and, Result, Ok, Err}
 use Rattle.std.specs.Int.{w16, to_be_bytes}
-use Rattle.std.proofs.lemmas.Bool.{eq-eqb, eqb-true, ne_eqb}
+use Rattle.std.proofs.lemmas.Bool.{eq-eqb, eqb-true, ne_eqb, not-false}
 use Rattle.std.proofs.lemmas.List.{drop-drop, take_all}
 use lib.Bits.{and_zero_r, xor_zero_r}
 use Rattle.pi_guard.specs.Guards.{crc, guard_of}
@@ -54,7 +54,7 @@ xored_none at label i (x ∷ xs) = let rest = xored_none at label (i + 1) xs in 
 pub altered_none : (at : Crossing) (label : Label) (frame : List ℕ) → altered [] at label frame ≡ frame
 altered_none at label frame = xored_none at label 0 frame
 
-crossed_none : (at : Crossing) (label : Label) (came : Result (List ℕ) Check) → then_crossed [] (Some label) at came ≡ came
+pub crossed_none : (at : Crossing) (label : Label) (came : Result (List ℕ) Check) → then_crossed [] (Some label) at came ≡ came
 crossed_none at label (Ok frame) = ap (λ f. Ok f) (altered_none at label frame)
 crossed_none at label (Err check) = refl
 
@@ -62,17 +62,17 @@ pub onto_wire : (r : Route) (frame : List ℕ) → to_wire [] r frame ≡ checke
 unfolding to_wire
 onto_wire r frame = ap (checked_out r) (altered_none HostToAdapter r.label frame)
 
-off_wire : (r : Route) (frame : List ℕ) → from_wire [] r frame ≡ unless (adapter_finds_in r frame) (received r frame)
+pub off_wire : (r : Route) (frame : List ℕ) → from_wire [] r frame ≡ unless (adapter_finds_in r frame) (received r frame)
 unfolding from_wire
 off_wire r frame = crossed_none AdapterToHost r.label (unless (adapter_finds_in r frame) (received r frame))
 
-onto_medium : (r : Route) (frame : List ℕ) → to_medium [] (passage [] r) frame ≡ accepted (passage [] r) frame
+pub onto_medium : (r : Route) (frame : List ℕ) → to_medium [] (passage [] r) frame ≡ accepted (passage [] r) frame
 unfolding to_medium
 onto_medium r frame =
     crossed_none TargetToMedium r.label (accepted (passage [] r) (altered [] AdapterToTarget r.label frame))
     ∙ ap (accepted (passage [] r)) (altered_none AdapterToTarget r.label frame)
 
-off_medium : (r : Route) (frame : List ℕ) → from_medium [] (passage [] r) frame ≡ released (passage [] r) frame
+pub off_medium : (r : Route) (frame : List ℕ) → from_medium [] (passage [] r) frame ≡ released (passage [] r) frame
 unfolding from_medium
 off_medium r frame =
     crossed_none TargetToAdapter r.label (released (passage [] r) (altered [] MediumToTarget r.label frame))
@@ -180,10 +180,6 @@ pub record Right (m : Setting) (b : Block) (body : List ℕ) (t : Tuple) : Type 
   pub app : as_expected m t.app ≡ true
   pub rtag : has_ref_tag (host_type m.ty) ≡ true → out_tag m b t.rtag ≡ ref_tag (route m b).lba
 
-of_not : (c : Bool) → not c ≡ false → c ≡ true
-of_not true h = refl
-of_not false h = grind (arith, h)
-
 nothing_found : (g a r : Bool) (c d e : Check) → first_of (record { check = c; differs = g } ∷ record { check = d; differs = a } ∷ record { check = e; differs = r } ∷ []) ≡ None →
     (g ≡ false) × ((a ≡ false) × (r ≡ false))
 nothing_found true a r c d e h = grind (arith, h)
@@ -195,20 +191,20 @@ tagged : (c : Bool) (v p r : ℕ) → (c && not (eqb r v || eqb r p)) ≡ false 
 tagged true v p r h k = by (eqb r v) h where
   by : (d : Bool) → not (d || eqb r p) ≡ false → (if d then p else r) ≡ p
   by true h = refl
-  by false h = eqb-true r p (of_not (eqb r p) h)
+  by false h = eqb-true r p (not-false (eqb r p) h)
 tagged false v p r h k = no k
 
 pub is_right : (m : Setting) (b : Block) (body : List ℕ) (t : Tuple) → finds_of_app m b body t ≡ None → Right m b body t
 is_right m b body t h =
     let k = nothing_found (not (eqb t.guard (guard_of m.mode.kind body))) (not (as_expected m t.app)) (has_ref_tag (host_type m.ty) && not (eqb t.rtag (ref_tag b.virt) || eqb t.rtag (ref_tag (route m b).lba))) Guard AppTag RefTag h in
     record {
-      guard = eqb-true t.guard (guard_of m.mode.kind body) (of_not (eqb t.guard (guard_of m.mode.kind body)) k.0);
-      app = of_not (as_expected m t.app) k.1.0;
+      guard = eqb-true t.guard (guard_of m.mode.kind body) (not-false (eqb t.guard (guard_of m.mode.kind body)) k.0);
+      app = not-false (as_expected m t.app) k.1.0;
       rtag = tagged (has_ref_tag (host_type m.ty)) (ref_tag b.virt) (ref_tag (route m b).lba) t.rtag k.1.1;
     }
 
 -- the guard of a frame is replaced
-new_guard : (size guard : ℕ) (body : List ℕ) (t : Tuple) → length body ≡ size → with_guard size guard (frame_of body t) ≡ frame_of body (record { guard = guard; app = t.app; rtag = t.rtag })
+pub new_guard : (size guard : ℕ) (body : List ℕ) (t : Tuple) → length body ≡ size → with_guard size guard (frame_of body t) ≡ frame_of body (record { guard = guard; app = t.app; rtag = t.rtag })
 new_guard size guard body t l =
     ap (λ d. d ++ (to_be_bytes w16 guard ++ drop (size + 2) (frame_of body t))) (data_is size body t l)
     ∙ ap (λ xs. body ++ (to_be_bytes w16 guard ++ xs)) (sym (drop-drop 2 size (frame_of body t)) ∙ ap (drop 2) (behind_is size body t l))

@@ -12,11 +12,11 @@ use Rattle.block_path.specs.Acts.{Act, State, act, effect, tell}
 use Rattle.block_path.specs.Blocks.{Answer, silent}
 use Rattle.block_path.specs.Serial.{plain, plain_tells}
 use Rattle.block_path.proofs.Cells.{gather_past}
+use Rattle.block_path.proofs.InTurn.{plain_append}
 use Rattle.whole_run.specs.Past.{steps_from}
 use Rattle.whole_run.specs.ScriptWalk.{bad_from, reply_of, request_reply, whole_or_bad}
 use Rattle.whole_run.specs.Settings.{Setting, block_of}
 use Rattle.whole_run.specs.Steps.{Reads, Step, each_from, steps_of}
-use Rattle.whole_run.proofs.AnyOrder.{plain_append}
 use Rattle.whole_run.specs.ReadsAs.{landing, listed_among, listed_in, read_op}
 
 -- Steps one after another, whatever their acts: what a reply lists, and what a read leaves in the pages.

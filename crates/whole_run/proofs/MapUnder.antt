@@ -1,5 +1,6 @@
-use Rattle.std.proofs.Common.{◌≡◌, ◌≢◌, ◌<◌, ℕ, zero, suc, ◌+◌, Bool, true, false, ◌&&◌, List, [], ◌∷◌, length, get_or, set, Option, Some, None, refl, sym, ap, ◌∙◌, arith}
+use Rattle.std.proofs.Common.{◌≡◌, ◌≢◌, ◌<◌, ℕ, zero, suc, ◌+◌, false, ◌&&◌, List, [], ◌∷◌, length, get_or, set, Option, Some, None, refl, sym, ap, ◌∙◌, arith}
 use Rattle.std.proofs.lemmas.List.{length-set, set-set, set_comm, set-get_or, get_or-set_same, get_or-set_other, length-take-le, take_all}
+use Rattle.std.proofs.lemmas.Bool.{and_right}
 use Rattle.pi_guard.specs.Guards.{crc}
 use Rattle.pi_tuple.specs.Finds.{is_zero}
 use Rattle.pi_tuple.specs.Tuples.{ref_tag}
@@ -103,10 +104,6 @@ stored_held Three m lba frame l h own =
     let t = tuple_of m.size frame in
     ap (frame_of (data_of m.size frame)) (tuple_parts t (crc (data_of m.size frame)) t.rtag (own refl).guard refl) ∙ frame_is m.size frame l h
 
-and_false : (c d : Bool) → d ≡ false → (c && d) ≡ false
-and_false true d e = e
-and_false false d e = refl
-
 -- and its entry is proper
 proper_held : (ty : PiType) (m : Setting) (lba : ℕ) (frame : List ℕ) → let q : Setting = record m { ty = ty } in
     length frame ≡ stored_size ty m.size → AllBelow 256 frame → (is_zero ty ≡ false → IsClean q lba frame) → (all_pass q ≡ false → m.mode.mask ≡ 0) → IsProper q (held q frame)
@@ -115,7 +112,7 @@ proper_held Zero m lba frame l h own free = record {
   bytes = below_take 256 m.size frame h;
   app = omega arith;
   own = omega arith;
-  expected = unmasked m 0 (free (and_false m.mode.dix (m.mode.dif && false) (and_false m.mode.dif false refl)));
+  expected = unmasked m 0 (free (and_right m.mode.dix (m.mode.dif && false) (and_right m.mode.dif false refl)));
 }
 proper_held One m lba frame l h own free = record {
   size = length-take-le m.size frame (omega (arith, l));

@@ -27,7 +27,7 @@ no h = absurd (grind (arith, h))
 
 -- a tuple is spelled and read back
 
-three : {g h a b r s : ℕ} → g ≡ h → a ≡ b → r ≡ s → ◌≡◌ {A = Tuple} (record { guard = g; app = a; rtag = r }) (record { guard = h; app = b; rtag = s })
+pub three : {g h a b r s : ℕ} → g ≡ h → a ≡ b → r ≡ s → ◌≡◌ {A = Tuple} (record { guard = g; app = a; rtag = r }) (record { guard = h; app = b; rtag = s })
 three p q u = cc
 
 pub slices : (g a r : ℕ) → g < 2 ^ 16 → a < 2 ^ 16 → r < 2 ^ 32 → tuple_in (tuple_bytes (record { guard = g; app = a; rtag = r })) ≡ record { guard = g; app = a; rtag = r }
@@ -182,7 +182,7 @@ pub below_replicate : (n k v : ℕ) → v < n → AllBelow n (replicate k v)
 below_replicate n zero v l = tt
 below_replicate n (suc k) v l = (l, below_replicate n k v l)
 
-two_below : (n : ℕ) → AllBelow 256 (to_be_bytes w16 n)
+pub two_below : (n : ℕ) → AllBelow 256 (to_be_bytes w16 n)
 two_below n = (mod_below _ 256 (omega arith), (mod_below _ 256 (omega arith), tt))
 
 pub four_below : (n : ℕ) → AllBelow 256 (to_be_bytes w32 n)

@@ -1,7 +1,8 @@
-use Rattle.report_text.proofs.Flow.{appended_both, on_err, part_first, part_second, then_err, then_ok}
+use Rattle.report_text.proofs.Flow.{appended_both, on_err, part_first, part_second}
 use Rattle.report_text.specs.Report.{report}
 use Rattle.mirror_verdict.specs.Texts.{repair_line}
 use Rattle.mirror_verdict.proofs.text.print_mirrored.Goals as goal
+use Rattle.std.proofs.lemmas.Result.{on_ok_weaker, on_err_weaker}
 
 pub returns-in_err-print_report-clause-part : goal.returns-in_err-print_report-clause-part
 returns-in_err-print_report-clause-part g c =
@@ -11,9 +12,9 @@ returns-in_err-print_report-clause-part g c =
 pub returns-clause-whole : goal.returns-clause-whole
 returns-clause-whole g c =
     let run = c.args.run.now in
-    then_ok c.write_out.result (appended_both (report run.mirror.replies.items) (repair_line run.repair.repaired run.repair.lost) _ _ _ (rw c.replies.ensures at c.in_ok-print_report.ensures.whole)) (rw (c.as_slice.ensures.value, c.repair_line.ensures) at c.write_out.ensures.whole)
+    on_ok_weaker c.write_out.result (appended_both (report run.mirror.replies.items) (repair_line run.repair.repaired run.repair.lost) _ _ _ (rw c.replies.ensures at c.in_ok-print_report.ensures.whole)) (rw (c.as_slice.ensures.value, c.repair_line.ensures) at c.write_out.ensures.whole)
 
 pub returns-clause-part : goal.returns-clause-part
 returns-clause-part g c =
     let run = c.args.run.now in
-    then_err c.write_out.result (part_second (report run.mirror.replies.items) (repair_line run.repair.repaired run.repair.lost) _ _ _ (rw c.replies.ensures at c.in_ok-print_report.ensures.whole)) (rw (c.as_slice.ensures.value, c.repair_line.ensures) at c.write_out.ensures.part)
+    on_err_weaker c.write_out.result (part_second (report run.mirror.replies.items) (repair_line run.repair.repaired run.repair.lost) _ _ _ (rw c.replies.ensures at c.in_ok-print_report.ensures.whole)) (rw (c.as_slice.ensures.value, c.repair_line.ensures) at c.write_out.ensures.part)

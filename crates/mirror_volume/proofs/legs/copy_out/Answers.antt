@@ -2,13 +2,14 @@ use Rattle.std.proofs.Common.{length, ap, ◌∙◌, arith}
 use Rattle.page_pool.specs.Pages.{bytes_in}
 use Rattle.page_pool.specs.Places.{total}
 use Rattle.mirror_legs.specs.Inner.{pages_for}
-use Rattle.leg_runs.proofs.OwnRuns.{landed, segs-total}
+use Rattle.mirror_legs.proofs.Suits.{segs_total}
+use Rattle.leg_runs.proofs.OwnRuns.{landed}
 use Rattle.mirror_volume.proofs.legs.copy_out.Goals as goal
 
 pub gather-requires-clause-range : goal.gather-requires-clause-range
 gather-requires-clause-range c =
     let n = length c.args.into.now in
-    let t = segs-total c.args.page (pages_for n) n (omega arith) in
+    let t = segs_total c.args.page (pages_for n) n (omega arith) in
     let e = ap total c.in_ok-segs.ensures in
     omega (arith, t, e)
 

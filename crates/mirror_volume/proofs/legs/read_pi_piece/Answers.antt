@@ -10,7 +10,8 @@ use Rattle.leg_runs.specs.LegRuns.{found_by}
 use Rattle.leg_runs.proofs.OwnRuns.{read-pi-fits, read-pi-lies}
 use Rattle.mirror_volume.proofs.Planned.{half-small, plan-asks, plan-tuples}
 use Rattle.leg_runs.proofs.Results.{if-not, if-ok}
-use Rattle.leg_runs.proofs.Runs.{all_own-map, ran-nothing}
+use Rattle.leg_runs.proofs.Runs.{ran-nothing}
+use Rattle.leg_runs.proofs.OwnEach.{all_own-so}
 use Rattle.mirror_volume.proofs.legs.read_pi_piece.Goals as goal
 
 pub read_pi_script-requires-clause-virt : goal.read_pi_script-requires-clause-virt
@@ -39,7 +40,7 @@ run_own-requires-clause-bound g c =
 pub returns-in_err-stack-clause-ran : goal.returns-in_err-stack-clause-ran
 returns-in_err-stack-clause-ran g c =
     let ran = c.in_err-stack.ensures.ran in
-    (ran.0, (ran.1.0, (ran.1.1.0, (all_own-map _ _ ran.0 (λ s e. e ∙ c.in_ok-own.ensures) ran.1.1.1.0, search rules))))
+    (ran.0, (ran.1.0, (ran.1.1.0, (all_own-so _ _ ran.0 (λ s e. e ∙ c.in_ok-own.ensures) ran.1.1.1.0, search rules))))
 
 pub found_last-requires : goal.found_last-requires
 found_last-requires g c =
@@ -56,7 +57,7 @@ copy_out-requires-clause-lie g c =
 pub returns-in_err-copy_out-clause-ran : goal.returns-in_err-copy_out-clause-ran
 returns-in_err-copy_out-clause-ran g c =
     let ran = c.in_ok-stack.ensures.ran in
-    (ran.0, (ran.1.0, (ran.1.1.0, (all_own-map _ _ ran.0 (λ s e. e ∙ c.in_ok-own.ensures) ran.1.1.1.0, if-not _ c.from_residual-in_err-copy_out.result c.from_residual-in_err-copy_out.ensures.0))))
+    (ran.0, (ran.1.0, (ran.1.1.0, (all_own-so _ _ ran.0 (λ s e. e ∙ c.in_ok-own.ensures) ran.1.1.1.0, if-not _ c.from_residual-in_err-copy_out.result c.from_residual-in_err-copy_out.ensures.0))))
 
 pub copy_out-requires-2-clause-lie : goal.copy_out-requires-2-clause-lie
 copy_out-requires-2-clause-lie g c =
@@ -79,7 +80,7 @@ returns-clause-ran g c =
         (
           ran.1.1.0,
           (
-            all_own-map _ _ ran.0 (λ s e. e ∙ c.in_ok-own.ensures) ran.1.1.1.0,
+            all_own-so _ _ ran.0 (λ s e. e ∙ c.in_ok-own.ensures) ran.1.1.1.0,
             if-ok _ _ c.copy_out-2.result (λ u tuples. (one.0, (one.1.0, (one.1.1.0 ∙ c.in_ok-own.ensures, (found, (bytes, tuples ∙ (λ i. take (c.requires.tuples i) (drop (4096 * c.pages_for-behind.ensures i) (flat (pool-2 i))))))))))
                 c.copy_out-2.ensures.bytes,
           ),

@@ -10,7 +10,8 @@ use Rattle.leg_runs.specs.LegRuns.{found_by}
 use Rattle.leg_runs.proofs.OwnRuns.{read-fits, read-lies}
 use Rattle.mirror_volume.proofs.Planned.{half-small, plan-asks, plan-piece}
 use Rattle.leg_runs.proofs.Results.{if-ok}
-use Rattle.leg_runs.proofs.Runs.{all_own-map, ran-nothing}
+use Rattle.leg_runs.proofs.Runs.{ran-nothing}
+use Rattle.leg_runs.proofs.OwnEach.{all_own-so}
 use Rattle.mirror_volume.proofs.legs.read_piece.Goals as goal
 
 pub read_script-requires-clause-virt : goal.read_script-requires-clause-virt
@@ -39,7 +40,7 @@ run_own-requires-clause-bound g c =
 pub returns-in_err-stack-clause-ran : goal.returns-in_err-stack-clause-ran
 returns-in_err-stack-clause-ran g c =
     let ran = c.in_err-stack.ensures.ran in
-    (ran.0, (ran.1.0, (ran.1.1.0, (all_own-map _ _ ran.0 (λ s e. e ∙ c.in_ok-own.ensures) ran.1.1.1.0, search rules))))
+    (ran.0, (ran.1.0, (ran.1.1.0, (all_own-so _ _ ran.0 (λ s e. e ∙ c.in_ok-own.ensures) ran.1.1.1.0, search rules))))
 
 pub found_last-requires : goal.found_last-requires
 found_last-requires g c =
@@ -66,7 +67,7 @@ returns-clause-ran g c =
         (
           ran.1.1.0,
           (
-            all_own-map _ _ ran.0 (λ s e. e ∙ c.in_ok-own.ensures) ran.1.1.1.0,
+            all_own-so _ _ ran.0 (λ s e. e ∙ c.in_ok-own.ensures) ran.1.1.1.0,
             if-ok _ _ c.copy_out.result (λ u bytes. (one.0, (one.1.0, (one.1.1.0 ∙ c.in_ok-own.ensures, (found, bytes ∙ (λ i. take (c.requires.long i) (flat (pool i)))))))) c.copy_out.ensures.bytes,
           ),
         ),

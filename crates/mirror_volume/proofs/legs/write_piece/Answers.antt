@@ -8,7 +8,8 @@ use Rattle.std.specs.Prelude.{None}
 use Rattle.leg_runs.specs.LegRuns.{found_by}
 use Rattle.leg_runs.proofs.OwnRuns.{write-fits}
 use Rattle.mirror_volume.proofs.Planned.{half-small, plan-asks, plan-piece}
-use Rattle.leg_runs.proofs.Runs.{all_own-map, ran-nothing}
+use Rattle.leg_runs.proofs.Runs.{ran-nothing}
+use Rattle.leg_runs.proofs.OwnEach.{all_own-so}
 use Rattle.mirror_volume.proofs.legs.write_piece.Goals as goal
 
 pub write_script-requires-clause-virt : goal.write_script-requires-clause-virt
@@ -39,7 +40,7 @@ run_own-requires-clause-bound g c =
 pub returns-in_err-stack-clause-ran : goal.returns-in_err-stack-clause-ran
 returns-in_err-stack-clause-ran g c =
     let ran = c.in_err-stack.ensures.ran in
-    (ran.0, (ran.1.0, (ran.1.1.0, (all_own-map _ _ ran.0 (λ s e. e ∙ c.in_ok-own.ensures) ran.1.1.1.0, search rules))))
+    (ran.0, (ran.1.0, (ran.1.1.0, (all_own-so _ _ ran.0 (λ s e. e ∙ c.in_ok-own.ensures) ran.1.1.1.0, search rules))))
 
 pub found_last-requires : goal.found_last-requires
 found_last-requires g c =
@@ -53,4 +54,4 @@ returns-clause-ran g c =
     let one = ran.1.1.1.1 in
     let replies = c.replies.ensures ∙ sym (ap (λ (x : Stack). x.replies.items) one.1.1.1) in
     let found = c.found_last.ensures ∙ ap (λ n. found_by n c.replies.result.now) c.requires.found ∙ ap (found_by c.args.piece.n) replies in
-    (ran.0, (ran.1.0, (ran.1.1.0, (all_own-map _ _ ran.0 (λ s e. e ∙ c.in_ok-own.ensures) ran.1.1.1.0, (one.0, (one.1.0, (one.1.1.0 ∙ c.in_ok-own.ensures, found)))))))
+    (ran.0, (ran.1.0, (ran.1.1.0, (all_own-so _ _ ran.0 (λ s e. e ∙ c.in_ok-own.ensures) ran.1.1.1.0, (one.0, (one.1.0, (one.1.1.0 ∙ c.in_ok-own.ensures, found)))))))

@@ -3,7 +3,8 @@ use Rattle.std.proofs.lemmas.List.{take_all, take_more}
 use Rattle.script_laws.specs.Keeping.{Each}
 use Rattle.mirror_legs.specs.Inner.{read_script}
 use Rattle.leg_runs.specs.Asked.{AreOf, IsInside, IsReadOf, bytes_after, found_after, stretches}
-use Rattle.leg_runs.proofs.Runs.{all_own-append, ran-nothing, ran-two}
+use Rattle.leg_runs.proofs.Runs.{ran-nothing, ran-two}
+use Rattle.leg_runs.proofs.OwnEach.{all_own-append}
 use Rattle.mirror_volume.proofs.Stretched.{all-inside, are-of-append, bytes-after-append, each-at, found-after-append}
 use Rattle.mirror_volume.proofs.reading.ask.Goals as goal
 

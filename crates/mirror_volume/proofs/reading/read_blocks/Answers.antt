@@ -4,8 +4,10 @@ use Rattle.mirror_legs.specs.declared.piece.Piece.{Piece}
 use Rattle.mirror_legs.specs.Inner.{read_script}
 use Rattle.leg_runs.specs.Asked.{IsReadOf, first_listed, fresh_on0, last_listed, rest_wanted}
 use Rattle.leg_runs.proofs.Borrowed.{written-back}
-use Rattle.leg_runs.proofs.Readings.{asked-same, first-long, on-other, read-by, rest-long}
-use Rattle.leg_runs.proofs.Runs.{all_own-append, ran-nothing, ran-two}
+use Rattle.leg_runs.proofs.Readings.{asked-same, first-long, on-other, read-by}
+use Rattle.leg_runs.proofs.Runs.{ran-nothing, ran-two}
+use Rattle.leg_runs.proofs.Fetched.{rest-long}
+use Rattle.leg_runs.proofs.OwnEach.{all_own-append}
 use Rattle.mirror_volume.proofs.reading.read_blocks.Goals as goal
 
 -- of no block anything is found, where what no finding is a clone of is none itself

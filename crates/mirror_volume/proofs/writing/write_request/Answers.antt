@@ -10,20 +10,21 @@ use Rattle.leg_runs.specs.LegRuns.{AllOwn, LegRun, found_by, replies_of}
 use Rattle.leg_runs.specs.OnOps.{IsWriteOf, whole_request}
 use Rattle.leg_runs.proofs.Borrowed.{written-back}
 use Rattle.leg_runs.proofs.Results.{if-ok}
-use Rattle.leg_runs.proofs.Runs.{all_own-append, all_own-map, ran-nothing, ran-two}
+use Rattle.leg_runs.proofs.Runs.{ran-nothing, ran-two}
+use Rattle.leg_runs.proofs.OwnEach.{all_own-append, all_own-so}
 use Rattle.mirror_volume.proofs.writing.write_request.Goals as goal
 
 -- a run on either leg is of the request
 of-first : (s : Script) (half : ℕ) (piece : Piece) (op v n app : ℕ) (bytes : List ℕ) (runs : List LegRun) → piece ≡ whole_request op v n
     → AllOwn (λ own. own ≡ write_script s half piece app bytes) runs → AllOwn (IsWriteOf s half op v n app bytes) runs
 of-first s half piece op v n app bytes runs e h =
-    all_own-map (λ own. own ≡ write_script s half piece app bytes) (IsWriteOf s half op v n app bytes) runs
+    all_own-so (λ own. own ≡ write_script s half piece app bytes) (IsWriteOf s half op v n app bytes) runs
     (λ own is. record { on1 = false; own_is = is ∙ ap (λ (q : Piece). write_script s half q app bytes) e }) h
 
 of-last : (s : Script) (half : ℕ) (piece : Piece) (op v n app : ℕ) (bytes : List ℕ) (runs : List LegRun) → piece ≡ whole_request op v n
     → AllOwn (λ own. own ≡ write_script s half (record piece { on1 = true }) app bytes) runs → AllOwn (IsWriteOf s half op v n app bytes) runs
 of-last s half piece op v n app bytes runs e h =
-    all_own-map (λ own. own ≡ write_script s half (record piece { on1 = true }) app bytes) (IsWriteOf s half op v n app bytes) runs
+    all_own-so (λ own. own ≡ write_script s half (record piece { on1 = true }) app bytes) (IsWriteOf s half op v n app bytes) runs
     (λ own is. record { on1 = true; own_is = is ∙ ap (λ (q : Piece). write_script s half (record q { on1 = true }) app bytes) e }) h
 
 pub returns-in_err-found0-clause-ran : goal.returns-in_err-found0-clause-ran

@@ -1,7 +1,8 @@
 use Rattle.std.proofs.Common.{◌++◌, codes, subst, ◌∙◌}
+use Rattle.std.proofs.lemmas.Result.{on_ok_weaker, on_err_weaker}
 use Rattle.hex.specs.Hex.{encode_lower}
 use Rattle.dix_base.specs.Told.{Appended, AppendedSome}
-use Rattle.report_text.proofs.Flow.{appended_both, on_err, part_first, part_second, then_err, then_ok}
+use Rattle.report_text.proofs.Flow.{appended_both, on_err, part_first, part_second}
 use Rattle.report_text.proofs.Lines.{shown}
 use Rattle.report_text.proofs.report.print_shown.Goals as goal
 
@@ -21,13 +22,13 @@ returns-in_err-write_hex-clause-part g c =
 pub returns-clause-whole : goal.returns-clause-whole
 returns-clause-whole g c =
     let text = shown c.as_slice.result.now c.args.number (encode_lower c.args.bytes.now) (c.as_slice.ensures.value ∙ c.op_front-front.ensures.items) in
-    then_ok c.write_all-2.result (λ w. subst (λ t. Appended t (g.O.Sink.taken c.args.out.now) (g.O.Sink.taken c.write_all-2.new.out)) text
+    on_ok_weaker c.write_all-2.result (λ w. subst (λ t. Appended t (g.O.Sink.taken c.args.out.now) (g.O.Sink.taken c.write_all-2.new.out)) text
     (appended_both c.as_slice.result.now (encode_lower c.args.bytes.now ++ codes "\n") _ _ _ c.in_ok-write_all.ensures.whole
     (appended_both (encode_lower c.args.bytes.now) (codes "\n") _ _ _ c.in_ok-write_hex.ensures.whole w))) c.write_all-2.ensures.whole
 
 pub returns-clause-part : goal.returns-clause-part
 returns-clause-part g c =
     let text = shown c.as_slice.result.now c.args.number (encode_lower c.args.bytes.now) (c.as_slice.ensures.value ∙ c.op_front-front.ensures.items) in
-    then_err c.write_all-2.result (λ w. subst (λ t. AppendedSome t (g.O.Sink.taken c.args.out.now) (g.O.Sink.taken c.write_all-2.new.out)) text
+    on_err_weaker c.write_all-2.result (λ w. subst (λ t. AppendedSome t (g.O.Sink.taken c.args.out.now) (g.O.Sink.taken c.write_all-2.new.out)) text
     (part_second c.as_slice.result.now (encode_lower c.args.bytes.now ++ codes "\n") _ _ _ c.in_ok-write_all.ensures.whole
     (part_second (encode_lower c.args.bytes.now) (codes "\n") _ _ _ c.in_ok-write_hex.ensures.whole w))) c.write_all-2.ensures.part

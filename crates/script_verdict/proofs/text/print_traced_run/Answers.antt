@@ -1,5 +1,6 @@
 use Rattle.std.proofs.Common.{drop}
-use Rattle.report_text.proofs.Flow.{appended_both, on_err, part_first, part_second, then_err, then_ok}
+use Rattle.std.proofs.lemmas.Result.{on_ok_weaker, on_err_weaker}
+use Rattle.report_text.proofs.Flow.{appended_both, on_err, part_first, part_second}
 use Rattle.report_text.specs.Report.{report}
 use Rattle.report_text.specs.Trace.{trace}
 use Rattle.script_verdict.proofs.text.print_traced_run.Goals as goal
@@ -10,8 +11,8 @@ returns-in_err-print_report-clause-part g c =
 
 pub returns-clause-whole : goal.returns-clause-whole
 returns-clause-whole g c =
-    then_ok c.print_trace.result (appended_both (report c.args.run.now.stack.replies.items) (trace (drop c.args.run.now.first (g.R.Rig.log c.args.rig.now))) _ _ _ (rw c.replies.ensures at c.in_ok-print_report.ensures.whole)) c.print_trace.ensures.whole
+    on_ok_weaker c.print_trace.result (appended_both (report c.args.run.now.stack.replies.items) (trace (drop c.args.run.now.first (g.R.Rig.log c.args.rig.now))) _ _ _ (rw c.replies.ensures at c.in_ok-print_report.ensures.whole)) c.print_trace.ensures.whole
 
 pub returns-clause-part : goal.returns-clause-part
 returns-clause-part g c =
-    then_err c.print_trace.result (part_second (report c.args.run.now.stack.replies.items) (trace (drop c.args.run.now.first (g.R.Rig.log c.args.rig.now))) _ _ _ (rw c.replies.ensures at c.in_ok-print_report.ensures.whole)) c.print_trace.ensures.part
+    on_err_weaker c.print_trace.result (part_second (report c.args.run.now.stack.replies.items) (trace (drop c.args.run.now.first (g.R.Rig.log c.args.rig.now))) _ _ _ (rw c.replies.ensures at c.in_ok-print_report.ensures.whole)) c.print_trace.ensures.part

@@ -3,7 +3,8 @@ use Rattle.std.specs.List.{list_any}
 use Rattle.std.proofs.lemmas.List.{get_or-map, get_or_default, length-map, same_lists, take_all}
 use Rattle.fault_schedule.specs.declared.fault.FaultLine.{FaultLine}
 use Rattle.merge_queue.specs.Groups.{numbers}
-use Rattle.stack_steps.proofs.Picks.{get-numbers, length-numbers}
+use Rattle.merge_queue.proofs.Linking.{length-numbers}
+use Rattle.stack_steps.proofs.Picks.{get-numbers}
 use Rattle.stack_walks.specs.Shifts.{shifted_by, shifts}
 use Rattle.stack_core.proofs.start.shifted_ops.Goals as goal
 
