@@ -1,3 +1,4 @@
+-- What a formatted unit holds, and where its blocks are found.
 use Rattle.std.proofs.Common.{ℕ, zero, suc, ◌≡◌, ◌+◌, ◌-◌, ◌*◌, ◌≤◌, ◌<◌, List, [], ◌∷◌, ◌++◌, length, drop, get_or, map, replicate, refl, sym, ap, ◌∙◌, arith}
 use Rattle.std.proofs.lemmas.List.{drop_at, length-append, length-replicate, get_or_append_left, get_or-append_right}
 use Rattle.pi_tuple.specs.Finds.{own_tag}
@@ -16,8 +17,6 @@ use Rattle.rig_discovery.specs.Discovery.{info_of}
 use Rattle.script_ground.specs.Bound.{IsAddress}
 use Rattle.whole_run.proofs.TupleFrames.{Small, data_is, tuple_is}
 use Rattle.big_run.specs.Plain.{fresh_unit}
-
--- What a formatted unit holds, and where its blocks are found.
 
 -- ---- their lengths
 

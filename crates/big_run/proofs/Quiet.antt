@@ -1,3 +1,4 @@
+-- A generated script over formatted blocks: they are clean, no write supplies an escape, and on the plain map no block fails.
 use Rattle.std.proofs.Common.{ℕ, zero, suc, ◌≡◌, ◌*◌, ◌||◌, ◌<◌, Bool, true, false, eqb, List, [], ◌∷◌, get_or, map, replicate, Some, None, refl, sym, ap, subst, ◌∙◌, arith}
 use Rattle.std.specs.Prelude.{if◌then◌else◌, bit_and}
 use Rattle.std.specs.Int.Bits.{and_zero_r}
@@ -36,8 +37,6 @@ use Rattle.whole_run.specs.Steps.{Reads, Step, Writes, body_of, each_from, steps
 use Rattle.whole_run.specs.UnderMap.{AreClean, IsClean, NoEscape, NoneEscapes}
 use Rattle.big_run.specs.Plain.{fresh_unit}
 use Rattle.big_run.proofs.Fresh.{AllOf, cell_is, data_found, tuple_found}
-
--- A generated script over formatted blocks: they are clean, no write supplies an escape, and on the plain map no block fails.
 
 abbrev big_mode : Mode
 big_mode = record { kind = Ip; dix = true; dif = true; protect = 1; app = 0; mask = 0 }

@@ -1,3 +1,4 @@
+-- The records of a run, and what is said of it.
 use Rattle.std.proofs.Common.{ℕ, zero, suc, false, ◌≡◌, ◌+◌, ◌-◌, ◌^◌, ◌≤◌, List, [], ◌∷◌, length, min, Some, refl, sym, ap, subst, ◌∙◌, arith, length-append}
 use Rattle.std.specs.Prelude.{codes}
 use Rattle.dix_base.specs.Told.{Calm}
@@ -26,8 +27,6 @@ use Rattle.big_run.specs.Ran.{RanBig}
 use Rattle.big_run.specs.declared.running.BigRun.{BigRun}
 use Rattle.big_run.proofs.Quiet.{AreQuiet, IsQuiet}
 use Rattle.big_run.proofs.Told.{plain_two, quiet_two, table_two, told_two, two}
-
--- The records of a run, and what is said of it.
 
 counted : (bad all m : ℕ) → min (bad + 0) m ≡ min all m → bad ≤ m → bad ≡ min all m
 counted bad all m e h = grind (arith, e, h)

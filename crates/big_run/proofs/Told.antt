@@ -1,3 +1,4 @@
+-- Over the formatted image of the two units a rig tells these units, and a generated script is one on a plain map.
 use Rattle.std.proofs.Common.{ℕ, ◌≡◌, List, [], ◌∷◌, ◌++◌, length, take, map, Some, refl, ap, subst, ◌∙◌}
 use Rattle.std.proofs.lemmas.List.{drop_at, take_at}
 use Rattle.pi_tuple.specs.declared.checks.PiType.TheVariants.{One}
@@ -21,8 +22,6 @@ use Rattle.volume_table.specs.declared.device.DeviceInfo.{DeviceInfo}
 use Rattle.big_run.specs.Plain.{big_replies, big_setting, big_table, big_unit, big_units, fresh_unit}
 use Rattle.big_run.proofs.Fresh.{infos_are, shapes_are, units_found}
 use Rattle.big_run.proofs.Quiet.{AreQuiet, are_clean, none_escapes, none_overwrites, replies_quiet}
-
--- Over the formatted image of the two units a rig tells these units, and a generated script is one on a plain map.
 
 abbrev pub two : List UnitSpec
 two = big_unit ∷ big_unit ∷ []

@@ -1,3 +1,4 @@
+-- The blocks of a bio: how many, and those of a part of it.
 use Rattle.std.proofs.Common.{◌≡◌, ℕ, zero, suc, ◌+◌, ◌-◌, ◌≤◌, List, ◌∷◌, ◌++◌, take, drop, length, refl, length-drop, arith, sym, ◌∙◌, ap}
 use Rattle.std.proofs.lemmas.List.{take_all, take-append-drop}
 use Rattle.bio_core.specs.declared.request.Dir.{Dir}

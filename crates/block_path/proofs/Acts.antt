@@ -1,3 +1,4 @@
+-- Acts without conflict commute.
 use Rattle.std.proofs.Common.{◌≡◌, ℕ, false, ◌||◌, List, [], Option, None, sym, ap, ◌∙◌}
 use Rattle.std.proofs.lemmas.Bool.{or_from, or_parts}
 use Rattle.bio_core.specs.declared.fate.Why.{Why}
@@ -6,8 +7,6 @@ use Rattle.range_gate.specs.Cells.{cells_clash}
 use Rattle.block_path.specs.Acts.{State, Act, seen, effect, act, tell, conflict}
 use Rattle.block_path.specs.Serial.{Commutes}
 use Rattle.block_path.proofs.Cells.{Apart, clash_back, gather_past, no_clash, scatter_past}
-
--- Acts without conflict commute.
 
 pub record AllApart {R : Type 0} (a b : Act R) : Type 0 where
   bytes : Apart a.bytes b.bytes

@@ -1,8 +1,7 @@
+-- An act that isn't done may become another that conflicts with no more: so a block's fate need not be known before it acts. What was done is final.
 use Rattle.std.proofs.Common.{◌≡◌, ℕ, zero, suc, Bool, false, List, [], ◌∷◌, get_or, set, Option, Some, None, refl, sym, subst, ◌∙◌}
 use Rattle.block_path.specs.Serial.{walk, Answered, AgreesWith, Commutes, FreeOfDone, InOrder, Serial, plain_tells}
 use Rattle.block_path.proofs.Serial.{push_answered}
-
--- An act that isn't done may become another that conflicts with no more: so a block's fate need not be known before it acts. What was done is final.
 
 module _ {S A R : Type 0} (act : A → S → S) (tell : A → S → R) (conflicts : A → A → Bool) (a a' : A) where
   same_walk : (acts : List A) (ds : List (Option R)) (i : ℕ) (s : S) → ((d : Option R) → get_or ds i d ≡ None) → walk act (set acts i a') ds s ≡ walk act acts ds s

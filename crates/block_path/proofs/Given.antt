@@ -1,7 +1,6 @@
+-- Acts with the same cells that do the same where they were done may stand for one another.
 use Rattle.std.proofs.Common.{◌≡◌, Bool, List, [], ◌∷◌, Option, Some, None, refl, sym, ap, ◌∙◌}
 use Rattle.block_path.specs.Serial.{Alike, StandFor, walk, Answered, FreeOfDone, InOrder, Serial}
-
--- Acts with the same cells that do the same where they were done may stand for one another.
 
 module _ {S A R : Type 0} (act : A → S → S) (tell : A → S → R) (conflicts : A → A → Bool) where
   same_walk : (acts bs : List A) (ds : List (Option R)) (s : S) → StandFor act tell conflicts acts bs ds s → walk act acts ds s ≡ walk act bs ds s

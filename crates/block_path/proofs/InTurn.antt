@@ -1,3 +1,4 @@
+-- One write of many tuples is a write of each in turn.
 use Rattle.std.proofs.Common.{◌≡◌, ◌<◌, ◌≤◌, ℕ, zero, suc, ◌+◌, ◌*◌, false, List, [], ◌∷◌, ◌++◌, length, map, refl, sym, ap, ◌∙◌, arith, length-append, zero-add}
 use Rattle.std.proofs.lemmas.List.{length-map}
 use Rattle.pi_guard.specs.Guards.{guard_of}
@@ -19,8 +20,6 @@ use Rattle.block_path.specs.Moves.{in_turn, on_bytes}
 use Rattle.block_path.specs.Serial.{plain}
 use Rattle.block_path.proofs.Cells.{gather_length, gather_past, share_back}
 use Rattle.block_path.proofs.Sizes.{tuple_length}
-
--- One write of many tuples is a write of each in turn.
 
 pub plain_append : {S A : Type 0} (act : A → S → S) (xs ys : List A) (s : S) → plain act (xs ++ ys) s ≡ plain act ys (plain act xs s)
 plain_append act [] ys s = refl

@@ -1,3 +1,4 @@
+-- A read's carry and settle are its act.
 use Rattle.std.proofs.Common.{◌≡◌, ◌<◌, ◌≤◌, ℕ, zero, suc, List, [], ◌∷◌, ◌++◌, length, take, drop, get_or, set, replicate, Option, Some, None, refl, ap, ◌∙◌, arith}
 use Rattle.std.specs.List.{All}
 use Rattle.std.proofs.lemmas.List.{get_or-set_same, length-append, length-replicate}
@@ -12,8 +13,6 @@ use Rattle.block_path.specs.Moves.{AreCells, Fills, IsOne, carried_in, carry_in,
 use Rattle.block_path.specs.WayIn.{Delivers, Spoils, Stops, WayIn, comes_in, delivered_unless, mapped_back, owner_finds, verified, way_in}
 use Rattle.block_path.proofs.Cells.{AllBelow, Distinct, below, distinct, gather_back, gather_length, scatter_append, scatter_none, scatter_twice}
 use Rattle.block_path.proofs.Behind.{AllFrom, from, scatter_behind}
-
--- A read's carry and settle are its act.
 
 -- The pages and the answers of the moves are those of the act.
 record Same (to pages : List ℕ) (first second whole : Effect Answer) : Type 0 where

@@ -1,8 +1,7 @@
+-- The relation on what was done is kept by one more act, and says all at last.
 use Rattle.std.proofs.Common.{◌≡◌, ℕ, zero, suc, ◌<◌, Bool, false, List, [], ◌∷◌, length, map, get_or, set, Option, Some, None, refl, sym, ap, ◌∙◌, arith}
 use Rattle.std.proofs.lemmas.List.{length-set}
 use Rattle.block_path.specs.Serial.{Commutes, plain, plain_tells, walk, Answered, FreeOfDone, FreeFrom, Clear, InOrder, MayAct, Serial, Leads, none_done, all_done, Apart, AllApart}
-
--- The relation on what was done is kept by one more act, and says all at last.
 
 module _ {S A R : Type 0} (act : A → S → S) (tell : A → S → R) (conflicts : A → A → Bool) (c : Commutes act tell conflicts) where
   push : (a : A) (acts : List A) (ds : List (Option R)) (s : S) → FreeOfDone conflicts a acts ds → walk act acts ds (act a s) ≡ act a (walk act acts ds s)

@@ -1,3 +1,4 @@
+-- The sizes of frames on their ways.
 use Rattle.std.proofs.Common.{◌≡◌, ℕ, ◌+◌, Bool, true, false, not, ◌&&◌, eqb, if◌then◌else◌, List, ◌∷◌, ◌++◌, length, take, drop, Option, Some, None, refl, sym, ◌∙◌, arith}
 use Rattle.std.specs.Prelude.{IfOk, Result, Ok, Err}
 use Rattle.std.specs.Int.{w16, w32, from_be_bytes, to_be_bytes}
@@ -24,8 +25,6 @@ use Rattle.block_path.specs.Moves.{Fills}
 use Rattle.block_path.specs.Routes.{converted, host_size, host_type, is_crc, passes_tuples, wire_size, with_guard}
 use Rattle.block_path.specs.WayIn.{adapter_finds_in, at_host, from_device, from_wire, mapped_back, received, received_by}
 use Rattle.block_path.specs.WayOut.{adapter_finds_out, mapped_out, sent, sent_by, to_wire}
-
--- The sizes of frames on their ways.
 
 pub altered_length : (faults : List FaultLine) (at : Crossing) (label : Label) (frame : List ℕ) → length (altered faults at label frame) ≡ length frame
 altered_length faults at label frame = length-xored (named faults at label) 0 frame

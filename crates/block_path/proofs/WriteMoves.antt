@@ -1,3 +1,4 @@
+-- A write's maps and its carry are its act.
 use Rattle.std.proofs.Common.{◌≡◌, ◌≤◌, ◌^◌, ℕ, zero, suc, ◌+◌, Bool, true, false, ◌&&◌, ◌||◌, eqb, if◌then◌else◌, List, [], ◌∷◌, ◌++◌, length, drop, take, get_or, refl, sym, ap, ◌∙◌, arith}
 use Rattle.std.specs.Int.{w32, to_be_bytes, from_be_bytes}
 use Rattle.std.specs.List.{All}
@@ -20,8 +21,6 @@ use Rattle.block_path.proofs.Acts.{same_cells}
 use Rattle.block_path.proofs.Behind.{AllFrom, from, scatter_behind}
 use Rattle.block_path.proofs.Cells.{below, distinct, gather_append, gather_back, gather_length, gather_past, scatter_twice}
 use Rattle.block_path.proofs.Sizes.{tag_length}
-
--- A write's maps and its carry are its act.
 
 drop_over : {X : Type 0} (xs ys : List X) (m n : ℕ) → m ≡ length xs + n → drop m (xs ++ ys) ≡ drop n ys
 drop_over [] ys m n e = ap (λ k. drop k ys) (omega (arith, e))

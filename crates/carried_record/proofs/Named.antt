@@ -1,11 +1,10 @@
+-- The adapter and the record name a sense alike.
 use Rattle.std.proofs.Common.{◌≡◌, Bool, true, false, eqb, if◌then◌else◌, Option, Some, None, refl}
 use Rattle.pi_tuple.specs.declared.checks.Check.{Check}
 use Rattle.sense_codes.specs.declared.Sense.{Sense}
 use Rattle.bio_core.specs.declared.fate.Why.TheVariants.{Adapter, Target}
 use Rattle.dix_adapter.specs.Outcomes.{by_key, check_of, refused, why_of}
 use Rattle.whole_run.specs.Senses.{finding_of, why_ended, why_of as why_by}
-
--- The adapter and the record name a sense alike.
 
 same_layer : (s : Sense) (check : Check) (five eleven : Bool) → (if five then Adapter check else (if eleven then Target check else refused s)) ≡ why_by (if five then Some (Adapter check) else (if eleven then Some (Target check) else None)) s
 same_layer s check true eleven = refl

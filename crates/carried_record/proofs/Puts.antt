@@ -1,3 +1,4 @@
+-- From a group's command to the entries and ends of its blocks.
 use Rattle.std.proofs.Common.{◌≡◌, ◌<◌, ◌≤◌, ◌+◌, ℕ, zero, suc, Bool, true, false, if◌then◌else◌, List, [], ◌∷◌, ◌++◌, length, map, take, drop, Option, refl, sym, ap, subst, ◌∙◌, arith, length-append, append-nil}
 use Rattle.std.specs.Prelude.{min, ltb, Result, Ok, Err}
 use Rattle.std.specs.List.{All}
@@ -32,8 +33,6 @@ use Rattle.dix_adapter.proofs.Blocks.{length-blocks, length-in}
 use Rattle.dix_adapter.proofs.Landing.{group-width}
 use Rattle.dix_adapter.proofs.Runs.{AllLong, cut-joined, group-wide, width-sent, width_for}
 use Rattle.carried_record.specs.OnRecord.{GoesOnRecord, put_each}
-
--- From a group's command to the entries and ends of its blocks.
 
 one_more : (m : Setting) (log : List Entry) (e : Entry) (es : List Sent) → put_entries m (log ++ (e ∷ [])) es ≡ put_decoded m (decoded e.what.cdb) e (put_entries m log es)
 one_more m [] e es = refl

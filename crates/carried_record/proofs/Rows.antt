@@ -1,3 +1,4 @@
+-- A group of two blocks that ended at its second, and one that came whole, in a log worked by hand.
 use Rattle.std.proofs.Common.{[], ◌∷◌, take, refl}
 use Rattle.bio_core.specs.declared.bio.Bio.{Bio}
 use Rattle.bio_core.specs.declared.request.Dir.TheVariants.{Read, Write}
@@ -6,8 +7,6 @@ use Rattle.dix_adapter.specs.Groups.{no_bio}
 use Rattle.whole_run.proofs.ScriptRows.{formatted}
 use Rattle.run_record.proofs.RecordRows.{log, m, sense}
 use Rattle.carried_record.specs.OnRecord.{GoesOnRecord}
-
--- A group of two blocks that ended at its second, and one that came whole, in a log worked by hand.
 
 abbrev written : Bio
 written = record no_bio { op = 1; k = 0; count = 2; dev = 0; lba = 2; dir = Write }

@@ -1,3 +1,4 @@
+-- A command that its form can carry is what that form is read as.
 use Rattle.std.proofs.Common.{◌≡◌, ℕ, ◌*◌, ◌/◌, Bool, true, false, not, List, Ok, refl, sym, ap, ◌∙◌, arith}
 use Rattle.std.specs.Prelude.{bytes_eq}
 use Rattle.std.proofs.lemmas.Slice.Eq.{bytes_eq-Decides}
@@ -7,8 +8,6 @@ use Rattle.cdb_codec.specs.declared.command.Cdb.{Cdb}
 use Rattle.cdb_codec.specs.declared.command.Cdb.TheVariants.{Read10, Write10, Verify10, Read16, Write16, Verify16, Read32, Write32, ReadCapacity16}
 use Rattle.cdb_codec.specs.Decoded.{decoded, protect_of, sixteen_at, ten_at, thirty_two_at, told}
 use Rattle.cdb_codec.specs.Forms.{Fits, FitsTen, FitsSixteen, FitsThirtyTwo, form, is_protect, sixteen, ten, thirty_two}
-
--- A command that its form can carry is what that form is read as.
 
 abbrev rw_with : ℕ → ℕ → ℕ → ℕ → ℕ → ℕ → Rw
 rw_with p a n r t m = record { protect = p; lba = a; n = n; rtag = r; app = t; mask = m }

@@ -18,10 +18,3 @@ holds-fewer bytes least most n s b l h =
     let w = h.few in
     let x = h.labels in
     record { frames = omega arith; few = omega arith; labels = omega arith }
-
--- room for the largest blocks is room for a group's
-pub holds-group : (a : Adapter) (pool : List (List ℕ)) (bytes : ℕ) (ios : List Io) (req : List Bio) (most : ℕ) (s : Scratch) → IsGroup a pool bytes ios req → size req ≤ most → HoldsBlocks 4096 most s → HoldsBlocks (block_len ios req) (size req) s
-holds-group a pool bytes ios req most s g l h =
-    let b = group-bytes a pool bytes ios req g in
-    let small = g.small.1 in
-    holds-fewer 4096 (block_len ios req) most (size req) s (omega arith) l h

@@ -1,3 +1,4 @@
+-- A read gives the front of what stands behind a place, as far as both reach.
 use Rattle.std.proofs.Common.{ℕ, ◌≡◌, ◌+◌, ◌-◌, ◌≤◌, List, ◌++◌, length, take, drop, arith, rules}
 use Rattle.std.proofs.lemmas.List.{places, same_lists}
 

@@ -1,3 +1,4 @@
+-- Stores of equal bytes are equal, whatever shows that they are bytes.
 use mathlib.Core.HLevel.{is_prop→PathP}
 use Rattle.std.specs.Prelude.{ℕ, ◌≡◌, ◌<◌, List, All}
 use Rattle.std.specs.Coded.{le_prop}

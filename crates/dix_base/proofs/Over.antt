@@ -1,3 +1,4 @@
+-- What is written over a place leaves all bytes beside it.
 use Rattle.std.proofs.Common.{ℕ, ◌+◌, ◌≤◌, List, length, arith, rules}
 use Rattle.std.proofs.lemmas.List.{places, same_lists}
 use Rattle.dix_base.specs.Told.{over, Apart}

@@ -1,3 +1,4 @@
+-- The commands come to their ends where nothing is at fault.
 use Rattle.std.proofs.Common.{ℕ, ◌≡◌, ◌⊎◌, inl, inr, Bool, true, false, List, Option, Some, None, refl, sym, ap, subst, ◌∙◌}
 use Rattle.dix_base.specs.Told.{Calm}
 use Rattle.rig_api.specs.Head.{head_fault, head_of}
@@ -29,8 +30,6 @@ use Rattle.dix_run.specs.declared.refusal.Refusal.TheVariants as refusal
 use Rattle.dix_run.specs.declared.status.Status.{Status}
 use Rattle.dix_run.specs.declared.status.Status.TheVariants as status
 use Rattle.dix_run.proofs.Opening.{opens_once}
-
--- The commands come to their ends where nothing is at fault.
 
 -- where the sink had no fault the status is the verdict's
 as_written : (v : Verdict) (old new : Option (List ℕ)) (o n : ℕ) (result : Status) → Calm o n → Written (verdict_status v) (verdict_text v) old new o n result → result ≡ verdict_status v

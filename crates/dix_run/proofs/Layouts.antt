@@ -1,3 +1,4 @@
+-- Words of `format` order an image that there may be.
 use Rattle.std.proofs.Common.{ℕ, ◌≡◌, ◌≤◌, Bool, true, false, leb, ltb, ◌^◌, ◌&&◌, List, [], ◌∷◌, length, Option, Some, None, refl, sym, ap, ◌∙◌, arith}
 use Rattle.std.specs.Prelude.{codes, if◌then◌else◌}
 use Rattle.std.specs.Str.{bytes_eq}
@@ -10,8 +11,6 @@ use Rattle.script_words.specs.Decimals.{number_in}
 use Rattle.dix_words.specs.Units.{type_in}
 use Rattle.dix_words.specs.declared.command.Command.{Command}
 use Rattle.dix_words.specs.declared.command.Command.TheVariants.{Run, Trace, Format, Migrate, Mirror, Scrub, Nvme, Big}
-
--- Words of `format` order an image that there may be.
 
 on_image_not : (c : Command) (words : List (List ℕ)) (us : List UnitSpec) → (c ≡ Format us → ⊥) → on_image c words ≡ Some (Format us) → ⊥
 on_image_not c words us n e = by (is_one_name words) e

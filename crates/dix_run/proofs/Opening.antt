@@ -1,3 +1,4 @@
+-- The rig is opened at most once in a call.
 use Rattle.std.proofs.Common.{ℕ, ◌≡◌, ◌⊎◌, inl, inr, List, Option, Some, None, ap, ◌∙◌}
 use Rattle.image_commands.specs.Causes.{CauseUnformatted, CauseUnmigrated, CauseUnscrubbed, CauseUntold, HasOpened}
 use Rattle.image_commands.specs.Views.{OpenedOnce, View}
@@ -21,8 +22,6 @@ use Rattle.dix_run.specs.Verdict.{ByFault, ByNvmFault, Cause, CauseByCommand, Ca
 use Rattle.dix_run.specs.declared.refusal.Refusal.{Refusal}
 use Rattle.dix_run.specs.declared.refusal.Refusal.TheVariants as refusal
 use Rattle.dix_run.specs.declared.status.Status.{Status}
-
--- The rig is opened at most once in a call.
 
 stayed : (a b : View) → b ≡ a → Stayed a.standing b.standing
 stayed a b e = (ap (λ (v : View). v.standing.openings) e, ap (λ (v : View). v.standing.name) e)

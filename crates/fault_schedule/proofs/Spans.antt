@@ -1,3 +1,4 @@
+-- A block is altered, and an op shifted, by the lines of its op alone, and these stand between the first and the last of them.
 use Rattle.std.proofs.Common.{◌≡◌, ℕ, suc, ◌+◌, ◌-◌, ◌%◌, ◌<◌, ◌≤◌, min, Bool, false, ◌&&◌, eqb, List, [], ◌∷◌, ◌++◌, length, get_or, set, take, drop, refl, sym, ap, ◌∙◌, arith, inl, inr, bit_xor, cond, unwrap_or, length-take, length-drop}
 use Rattle.std.proofs.lemmas.List.{append-nil, get_or-drop, get_or-take, get_or_default, get_or-set_other, get_or-set_same, take-append-drop}
 use Rattle.std.proofs.lemmas.List.Elements.{filter-append}

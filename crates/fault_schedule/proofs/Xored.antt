@@ -1,3 +1,4 @@
+-- Bytes that are xored one by one with those that are named for their places.
 use Rattle.std.proofs.Common.{ℕ, zero, suc, ◌≡◌, inl, inr, ◌+◌, ◌-◌, ◌<◌, ◌≤◌, List, [], ◌∷◌, length, get_or, set, take, refl, sym, arith, bit_xor, min, ap, ◌∙◌, true, false, ℤ, drop, drop-cons, add-one}
 use Rattle.std.proofs.lemmas.List.{same_lists, get_or_default, take_all, drop_all, get_or-set_other, get_or-set_same}
 use Rattle.std.proofs.lemmas.Bool.{cases_eq}

@@ -162,13 +162,6 @@ has_some us s len (Some was) h z l =
     let held = stretch_held us s h in
     (blocks_of us s bytes, record { many = length_frames (block_len us s.dev) s.count bytes; long = long_frames (block_len us s.dev) s.count bytes (omega arith); stored = sym (stretch_found us was s h) })
 
--- the addresses of a stretch have 64 bits
-pub stretch_end : (us : List UnitSpec) (s : Stretch) → is_layout us ≡ true → IsStretch us s → s.first + s.count < 2 ^ 64
-stretch_end us s l h = let e = spec_ends (spec_of us s.dev) (spec_here us s.dev l h.device) in let a = h.last in omega arith
-  where
-    spec_ends : (u : UnitSpec) → is_spec u ≡ true → u.first + u.blocks ≤ 2 ^ 63
-    spec_ends u h = grind arith
-
 -- ---- what a call of the store leaves
 
 pub were_read : {X E : Type 0} (r : Result X E) (us : List UnitSpec) (s : Stretch) (at n : ℕ) (xs : List ℕ) (image : Option (List ℕ)) → IsStretch us s → at ≡ block_place us s.dev s.first → n ≡ s.count * block_len us s.dev →

@@ -1,3 +1,4 @@
+-- The devices that a rig told.
 use Rattle.std.proofs.Common.{ℕ, suc, ◌≡◌, ◌+◌, ◌≤◌, Bool, true, false, leb, ◌&&◌, List, [], ◌∷◌, length, drop, Option, Some, None, refl, sym, ap, ◌∙◌, arith}
 use Rattle.std.specs.Prelude.{is_some, map}
 use Rattle.std.proofs.lemmas.Bool.{leb-true}
@@ -12,8 +13,6 @@ use Rattle.volume_table.specs.declared.device.DeviceInfo.{DeviceInfo}
 use Rattle.rig_discovery.specs.Discovery.{Answer, Ends, HasFound, all_told, info_of, told, with_info}
 use Rattle.rig_discovery.proofs.Telling.{right_layout, shape_is}
 use Rattle.pi_scrub.specs.Scrubbed.{HasDevices, device_of}
-
--- The devices that a rig told.
 
 second_true : (a b c : Bool) → (a && (b && c)) ≡ true → b ≡ true
 second_true a b c h = grind arith

@@ -1,3 +1,4 @@
+-- One more tuple made and written: what a payload holds after so many blocks.
 use Rattle.std.proofs.Common.{◌≡◌, ℕ, suc, ◌+◌, ◌-◌, ◌*◌, ◌/◌, ◌≤◌, ◌<◌, List, [], ◌∷◌, ◌++◌, length, take, drop, sym, ap, ◌∙◌, subst, inl, inr, add-one, arith}
 use Rattle.std.proofs.Math.Nat.{suc-mul, mul-div-le, mul-le-mul_right}
 use Rattle.std.proofs.lemmas.List.{map-append, take_at}

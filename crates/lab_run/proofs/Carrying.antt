@@ -1,3 +1,4 @@
+-- What follows from a verdict with its cause.
 use Rattle.std.proofs.Common.{ℕ, ◌≡◌, ◌≤◌, ◌⊎◌, inl, inr, Bool, true, false, ltb, List, length, Option, Some, None, Result, Ok, Err, refl, sym, ap, subst, ◌∙◌, arith}
 use Rattle.dix_base.specs.Told.{Calm, Rose}
 use Rattle.image_blocks.specs.declared.stretch.PlaceFault.{PlaceFault}
@@ -23,8 +24,6 @@ use Rattle.lab_run.specs.declared.refusal.Refusal.TheVariants as refusal
 use Rattle.lab_run.specs.declared.status.Status.{Status}
 use Rattle.lab_run.specs.declared.status.Status.TheVariants as status
 use Rattle.lab_run.proofs.Dumping.{long_other, short_other, whole_long}
-
--- What follows from a verdict with its cause.
 
 never_rose : (o n : ℕ) → Calm o n → Rose o n → ⊥
 never_rose o n c (inl r) = let a = c.0 in omega arith

@@ -1,3 +1,4 @@
+-- The verdicts of `export` and `import`.
 use Rattle.std.proofs.Common.{ℕ, suc, ◌≡◌, ◌+◌, ◌*◌, ◌<◌, ◌≤◌, inl, inr, Bool, true, false, List, [], ◌∷◌, ◌++◌, length, Option, Some, None, Result, Ok, Err, refl, sym, ap, subst, ◌∙◌, arith, length-append}
 use Rattle.std.proofs.Math.Nat.{mul-le-mul_left, mul_comm}
 use Rattle.dix_base.specs.Told.{Becomes, IsAtEnd, Rose, Took}
@@ -36,8 +37,6 @@ use Rattle.lab_run.specs.declared.refusal.Refusal.TheVariants as refusal
 use Rattle.lab_run.specs.declared.status.Status.{Status}
 use Rattle.lab_run.specs.declared.status.Status.TheVariants as status
 use Rattle.lab_run.proofs.Endings.{Goes, Tried, ended_refused, keeps_on, kept_on, on_opened, opened_on, rose_since}
-
--- The verdicts of `export` and `import`.
 
 -- a refusal that leaves the image and the source
 pub refused_still : (words : List (List ℕ)) (c : Command) (old new : Held) (left : Option (List ℕ)) (reads : ℕ) (rig : View) (second : Held) (r : Refusal) (taken taken' : Option (List ℕ)) (o n : ℕ) (result : Status) →

@@ -1,3 +1,4 @@
+-- The verdicts of `show`.
 use Rattle.std.proofs.Common.{ℕ, ◌≡◌, ◌≤◌, inl, inr, List, Option, Some, None, Result, Ok, Err, refl, sym, ap, subst, ◌∙◌, arith, ltb}
 use Rattle.std.specs.Prelude.{IsErrOf}
 use Rattle.dix_base.specs.Told.{Rose}
@@ -24,8 +25,6 @@ use Rattle.lab_run.specs.Verdict.{Cause, CauseByCommand, CauseNotListed, CauseNo
 use Rattle.lab_run.specs.declared.refusal.Refusal.{Refusal}
 use Rattle.lab_run.specs.declared.refusal.Refusal.TheVariants as refusal
 use Rattle.lab_run.specs.declared.status.Status.{Status}
-
--- The verdicts of `show`.
 
 -- what the opening of an image leaves
 pub record Tried (result : Result Image RigFault) (name : List ℕ) (old new : Held) : Type 0 where

@@ -96,12 +96,6 @@ pub record Sizes (es : List Entry) (gs : List Group) (room left : ℕ) : Type 0 
   pub few : length es + left ≤ room
   pub small : room < 2 ^ 32
 
--- no group has more bios than all of them
-pub one-group : (gs : List Group) (i : ℕ) → length (get_or gs i []) ≤ bios_in gs
-one-group [] i = omega arith
-one-group (g ∷ gs) zero = omega arith
-one-group (g ∷ gs) (suc i) = let e = one-group gs i in omega arith
-
 bios-shown : (bios : List Bio) (next : List ℕ) (es : List Entry) → bios_in (groups_of es bios next) ≡ total (λ e. e.bios) es
 bios-shown bios next [] = refl
 bios-shown bios next (e ∷ es) =

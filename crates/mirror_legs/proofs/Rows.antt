@@ -1,3 +1,4 @@
+-- Scripts of a piece, worked by hand.
 use Rattle.std.specs.Prelude.{◌≡◌, ℕ, true, [], ◌∷◌, refl, replicate}
 use Rattle.fault_schedule.specs.declared.fault.Crossing.TheVariants.{HostToAdapter}
 use Rattle.fault_schedule.specs.declared.fault.FaultKind.TheVariants.{Flip}
@@ -5,8 +6,6 @@ use Rattle.fault_schedule.specs.declared.fault.FaultLine.{FaultLine}
 use Rattle.stack_ops.specs.declared.op.Op.TheVariants.{Put}
 use Rattle.mirror_legs.specs.declared.piece.Piece.{Piece}
 use Rattle.mirror_legs.specs.Inner.{first_label, first_virt, own_faults, page_segs, pages_for, puts}
-
--- Scripts of a piece, worked by hand.
 
 -- the last two of three blocks of a request, on leg 1
 abbrev piece : Piece

@@ -1,3 +1,4 @@
+-- Faults on a mirror of four blocks on each side of the form's limits, worked by hand. Op 1 writes blocks 1 and 2, op 2 reads them, op 3 writes block 2 alone.
 use Rattle.std.proofs.Common.{◌≡◌, ℕ, true, false, List, [], ◌∷◌, refl}
 use Rattle.pi_guard.specs.Guards.{crc}
 use Rattle.pi_guard.specs.declared.GuardKind.TheVariants.{Crc, Ip}
@@ -12,8 +13,6 @@ use Rattle.std.specs.Prelude.{pos}
 use Rattle.whole_run.proofs.ScriptRows.{seg}
 use Rattle.run_premises.specs.Forms.{escapes_none}
 use Rattle.mirror_premises.specs.Forms.{leaves_a_leg, shows_on_legs, virt_on_legs}
-
--- Faults on a mirror of four blocks on each side of the form's limits, worked by hand. Op 1 writes blocks 1 and 2, op 2 reads them, op 3 writes block 2 alone.
 
 abbrev ops : List Op
 ops = Write 1 2 (seg 0 1024) 0 ∷ Fetch 1 2 (seg 0 1024) ∷ Write 2 1 (seg 0 512) 0 ∷ []

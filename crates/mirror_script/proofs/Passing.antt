@@ -1,3 +1,4 @@
+-- One line after another.
 use Rattle.std.proofs.Common.{ℕ, suc, ◌≡◌, ◌+◌, ◌<◌, ◌≤◌, true, false, List, ◌∷◌, length, get_or, drop, Some, None, sym, ap, ◌∙◌, arith, add-one, drop-cons}
 use Rattle.std.specs.Prelude.{if◌then◌else◌}
 use Rattle.std.proofs.Math.ListN.{drop_of_length-le}
@@ -9,8 +10,6 @@ use Rattle.volume_table.specs.declared.device.DeviceInfo.{DeviceInfo}
 use Rattle.volume_table.specs.Tables.{Table}
 use Rattle.script_text.specs.Bindings.{at_line}
 use Rattle.mirror_script.specs.MirrorFaults.{faults_fault, is_bad_line, op_fault, ops_fault}
-
--- One line after another.
 
 -- The fault line at i is the first of those that are left.
 left : (protect : ℕ) (ops : List Op) (faults : List FaultLine) (lines : List ℕ) (i : ℕ) (f : FaultLine) → i < length faults → i < length lines → get_or faults i f ≡ f

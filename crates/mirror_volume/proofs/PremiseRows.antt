@@ -1,3 +1,4 @@
+-- The script of the rows is bound as a mirror's, and meets the premises.
 use Rattle.std.proofs.Common.{◌≡◌, ◌<◌, ℕ, zero, suc, ◌+◌, true, List, [], ◌∷◌, get_or, refl, arith}
 use Rattle.std.specs.Prelude.{None, Some, nat_lt}
 use Rattle.script_lines.specs.declared.kind.ScriptKind.TheVariants.{BadFault}
@@ -24,8 +25,6 @@ use Rattle.mirror_walk.specs.OneGood.{HasGoodLeg, IsUnnamed}
 use Rattle.leg_runs.specs.Standing.{half_of, mirror_setting}
 use Rattle.mirror_volume.specs.Rows.{devices, script, still_script, us}
 use Rattle.mirror_volume.specs.Premises.{IsFormedMirror, IsOneGoodRun, IsStillMirror}
-
--- The script of the rows is bound as a mirror's, and meets the premises.
 
 no_fault : table_fault script.entries devices 512 ≡ None
 no_fault = refl

@@ -1,3 +1,4 @@
+-- A read of a mirror is delivered, with what was last accepted.
 use Rattle.std.proofs.Common.{◌≡◌, ◌<◌, ℕ, ◌+◌, Bool, true, false, ◌||◌, if◌then◌else◌, List, [], ◌∷◌, ◌++◌, length, map, get_or, Option, Some, None, refl, sym, ap, subst, ◌∙◌, arith}
 use Rattle.std.specs.Prelude.{pos}
 use Rattle.std.proofs.lemmas.Bool.{and_from, and_parts, false≢true}
@@ -30,8 +31,6 @@ use Rattle.run_laws.proofs.Along.{EndsAs, IsHanded, read_as}
 use Rattle.mirror_walk.proofs.Holds.{fetched_at, last_at, last_same, no_shift, second}
 use Rattle.run_laws.proofs.Layers.{checked}
 use Rattle.mirror_walk.proofs.Steps.{AllFitMirror, FitsMirror, HasIn, Held, asks_fit, held_after, marks_long, read_fits, step_has}
-
--- A read of a mirror is delivered, with what was last accepted.
 
 pub neither_none : (w : Option Why) → neither w None ≡ None
 neither_none None = refl

@@ -1,3 +1,4 @@
+-- What holds of one block of a mirror along a script: each fresh leg has its last accepted write, and its good leg is fresh and not hit.
 use Rattle.std.proofs.Common.{◌≡◌, ◌<◌, ◌≤◌, ℕ, ◌+◌, Bool, true, false, eqb, not, if◌then◌else◌, List, [], ◌∷◌, ◌++◌, Option, Some, None, refl, sym, ap, subst, ◌∙◌, arith}
 use Rattle.std.specs.Prelude.{pos, nat_abs, ◌+ℤ◌}
 use Rattle.std.proofs.lemmas.Bool.{eq-eqb, ne_eqb, false≢true}
@@ -20,8 +21,6 @@ use Rattle.mirror_walk.specs.Mirror.{marked, neither, twin}
 use Rattle.mirror_walk.specs.declared.marks.Marks.{Marks}
 use Rattle.mirror_walk.specs.OneGood.{on_leg}
 use Rattle.run_laws.proofs.Layers.{checked, unmoved}
-
--- What holds of one block of a mirror along a script: each fresh leg has its last accepted write, and its good leg is fresh and not hit.
 
 module _ (m' : Setting) (opening : State) (half : ℕ) (count : ℕ → ℕ) (still : (at : Crossing) (op : ℕ) → shift_of m'.site.faults at op ≡ pos 0) where
   abbrev pub m : Setting

@@ -1,3 +1,4 @@
+-- The mirror whose leg 0 refuses a write meets all that one good leg asks for.
 use Rattle.std.proofs.Common.{◌≡◌, ◌<◌, ℕ, zero, suc, ◌+◌, Bool, true, false, List, [], ◌∷◌, length, get_or, replicate, refl, sym, ap, subst, ◌∙◌, arith}
 use Rattle.std.specs.Option.{unwrap_or}
 use Rattle.std.specs.Prelude.{ℤ, pos, eqb, if◌then◌else◌, Option, None}
@@ -21,8 +22,6 @@ use Rattle.mirror_walk.specs.OneGood.{AreBytes, HasGoodLeg, IsMirrorRun, IsUnnam
 use Rattle.mirror_walk.specs.LegByLeg.{HasLegs}
 use Rattle.mirror_walk.specs.Sizes.{AllHavePlaces, HasSizes}
 use Rattle.mirror_walk.proofs.Rows.{opening, ops, stale}
-
--- The mirror whose leg 0 refuses a write meets all that one good leg asks for.
 
 abbrev devices : List DeviceInfo
 devices = record { ty = One; blocks = 1; size = 512; first = 0 } ∷ record { ty = One; blocks = 1; size = 512; first = 0 } ∷ []

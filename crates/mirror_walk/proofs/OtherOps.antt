@@ -1,3 +1,4 @@
+-- Ops that are no requests, and ops one after another.
 use Rattle.std.proofs.Common.{◌≡◌, ℕ, suc, ◌+◌, List, [], ◌∷◌, ◌++◌, length, refl, sym, ap, ◌∙◌, arith, append_assoc, append-nil}
 use Rattle.stack_ops.specs.declared.op.Op.{Op}
 use Rattle.stack_ops.specs.declared.op.Op.TheVariants.{Fetch, FetchPi, Fill, Overwrite, Put, Seal, Show, Wait, Write, WritePi}
@@ -9,8 +10,6 @@ use Rattle.whole_run.specs.Settings.{Setting}
 use Rattle.whole_run.specs.Steps.{Step, steps_of}
 use Rattle.mirror_walk.specs.Mirror.{Mirror, done, replies_from}
 use Rattle.mirror_walk.specs.LegByLeg.{NoRequest, OneMoreOp, answers_of}
-
--- Ops that are no requests, and ops one after another.
 
 pub no_request : (m : Setting) (half : ℕ) (count : ℕ → ℕ) (i : ℕ) (op : Op) (s : Mirror) → NoRequest m half count i op s
 no_request m half count i (Fill seg byte) s = record { next_is = refl; reply_is = λ fails. refl }

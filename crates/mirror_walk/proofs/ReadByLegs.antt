@@ -1,3 +1,4 @@
+-- A read leg by leg. It changes nothing that is stored, so what comes of a block on a leg doesn't depend on the others.
 use Rattle.std.proofs.Common.{◌≡◌, ◌<◌, ◌≤◌, ℕ, zero, suc, ◌+◌, ◌*◌, Bool, true, false, List, [], ◌∷◌, ◌++◌, length, map, get_or, replicate, take, drop, Option, Some, refl, sym, ap, subst, ◌∙◌, arith}
 use Rattle.std.specs.List.{IsDistinct}
 use Rattle.std.specs.Prelude.{nat_eq, Result, Ok, Err}
@@ -25,8 +26,6 @@ use Rattle.mirror_walk.specs.Repair.{reading}
 use Rattle.mirror_walk.specs.OnLegs.{all_landed, come, comes_from, landed_by, or_other, why_of}
 use Rattle.mirror_walk.specs.LegByLeg.{DeliversWhole, HasLegs, ReadsByLegs}
 use Rattle.mirror_walk.proofs.WriteByLegs.{each_same}
-
--- A read leg by leg. It changes nothing that is stored, so what comes of a block on a leg doesn't depend on the others.
 
 -- the bytes that a read of one block lands
 abbrev lands : (size : ℕ) → Result (List ℕ) Why → List ℕ

@@ -1,3 +1,4 @@
+-- Mirrors worked by hand: one block, on two units of one formatted block each.
 use Rattle.std.specs.Prelude.{◌≡◌, true, false, List, [], ◌∷◌, ◌++◌, get_or, map, replicate, take, Some, None, Ok, Err, refl}
 use Rattle.pi_guard.specs.Guards.{crc, ip}
 use Rattle.pi_guard.specs.declared.GuardKind.TheVariants.{Crc}
@@ -24,8 +25,6 @@ use Rattle.mirror_walk.specs.OnLegs.{all_landed, blocks_on, come, comes_from, li
 use Rattle.mirror_walk.specs.LegByLeg.{brought_of}
 use Rattle.mirror_walk.specs.Stretches.{On0, good0, good1, needs}
 use Rattle.mirror_walk.specs.Repair.{Repair, mirror_repair, steady}
-
--- Mirrors worked by hand: one block, on two units of one formatted block each.
 
 abbrev with_faults : List FaultLine → Setting
 with_faults faults = record {

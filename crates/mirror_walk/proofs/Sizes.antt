@@ -1,3 +1,4 @@
+-- The sizes of stored blocks along a script of a mirror, and of the frames that are read.
 use Rattle.std.proofs.Common.{◌≡◌, ◌<◌, ◌≤◌, ℕ, zero, suc, ◌+◌, ◌%◌, ◌^◌, Bool, true, false, eqb, if◌then◌else◌, List, [], ◌∷◌, length, map, get_or, set, take, Option, Some, None, refl, sym, ap, subst, ◌∙◌, arith, length-append}
 use Rattle.std.specs.Prelude.{IfOk, Result, Ok, Err}
 use Rattle.std.proofs.lemmas.Bool.{eqb-true, eqb-false}
@@ -40,8 +41,6 @@ use Rattle.mirror_walk.specs.LegByLeg.{DeliversWhole, HasLegs}
 use Rattle.mirror_walk.specs.Sizes.{AllHavePlaces, HasPlace, HasSizes, KeepsSizes}
 use Rattle.mirror_walk.proofs.Stretches.{steady_legs}
 use Rattle.mirror_walk.proofs.WriteByLegs.{fetched_home, stored_home, write_stores}
-
--- The sizes of stored blocks along a script of a mirror, and of the frames that are read.
 
 own_size : (r : Route) (app : ℕ) (body : List ℕ) → length body ≡ r.size → length (own_frame r app body) ≡ host_size r
 own_size r app body l = by r.mode.dix where

@@ -1,3 +1,4 @@
+-- No block has two stale marks.
 use Rattle.std.proofs.Common.{◌≡◌, ℕ, zero, suc, true, ◌||◌, List, [], ◌∷◌, set, replicate, Option, Some, None, refl}
 use Rattle.bio_core.specs.declared.fate.Why.{Why}
 use Rattle.stack_ops.specs.declared.op.Op.{Op}
@@ -8,8 +9,6 @@ use Rattle.whole_run.specs.Settings.{Setting}
 use Rattle.whole_run.specs.Steps.{Alters, Reads, Seals, Sets, Shows, Step, Writes, WritesPi}
 use Rattle.mirror_walk.specs.Mirror.{Mirror, count_of, done, findings, fresh, marked, marked_by, marks_after, marks_of, mirror_opened, mirror_walk}
 use Rattle.mirror_walk.specs.declared.marks.Marks.{Marks}
-
--- No block has two stale marks.
 
 abbrev pub OnOne : Marks → Type 0
 OnOne k = (k.leg0 || k.leg1) ≡ true

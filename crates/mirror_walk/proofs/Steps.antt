@@ -1,3 +1,4 @@
+-- One step of a mirror: what is stored, and what holds of one block.
 use Rattle.std.proofs.Common.{◌≡◌, ◌<◌, ◌^◌, ℕ, ◌+◌, Bool, true, false, eqb, ◌||◌, List, [], ◌∷◌, ◌++◌, length, set, map, Option, None, refl, sym, ap, subst, ◌∙◌, arith}
 use Rattle.std.specs.Prelude.{pos}
 use Rattle.std.proofs.lemmas.Bool.{and_parts, eqb-false, eqb-true, ne_eqb}
@@ -37,8 +38,6 @@ use Rattle.run_laws.proofs.Along.{AllFit, Fits, Marks as Stands, marks_after as 
 use Rattle.mirror_walk.proofs.Holds.{Follows, Has, elsewhere, here, near, on_medium, on_wire, place, second}
 use Rattle.run_laws.proofs.Layers.{checked}
 use Rattle.mirror_walk.proofs.Ways.{Expects, IsStored, accepted_expects, unnamed_stores}
-
--- One step of a mirror: what is stored, and what holds of one block.
 
 module _ (m' : Setting) (opening : State) (half : ℕ) (count : ℕ → ℕ) (still : (at : Crossing) (op : ℕ) → shift_of m'.site.faults at op ≡ pos 0) (devices : List DeviceInfo)
     (lies : LiesOn (checked m') devices) (cells : HasCells (checked m') devices opening.blocks) (long : volume_len m'.entries ≡ half + half) where

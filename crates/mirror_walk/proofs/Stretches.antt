@@ -1,3 +1,4 @@
+-- A repair stretch by stretch. What one block's repair writes is read of no other block.
 use Rattle.std.proofs.Common.{◌≡◌, ◌<◌, ◌≤◌, ℕ, zero, suc, ◌+◌, Bool, true, false, List, [], ◌∷◌, get_or, set, Option, Some, None, refl, sym, ap, ◌∙◌, arith}
 use Rattle.std.specs.Prelude.{Result, Ok, Err}
 use Rattle.std.proofs.lemmas.List.{get_or-set_other}
@@ -16,8 +17,6 @@ use Rattle.mirror_walk.specs.Repair.{Repair, good, mended, on_leg0, on_leg1, rea
 use Rattle.mirror_walk.specs.LegByLeg.{HasLegs}
 use Rattle.mirror_walk.specs.Stretches.{ByStretch, Need, accepted_of, after_due, due, due_data, good0, good1, lost_of, marks_mended, needs, repaired_each, stretch_repaired, whys_due}
 use Rattle.mirror_walk.proofs.WriteByLegs.{fetched_home, homes_apart, stored_home}
-
--- A repair stretch by stretch. What one block's repair writes is read of no other block.
 
 -- one stretch after another
 pub repair_join : (m : Setting) (half u n k : ℕ) (r : Repair) → repair_from m half u (n + k) r ≡ repair_from m half (u + n) k (repair_from m half u n r)

@@ -1,3 +1,4 @@
+-- One block of a write: what is accepted has the application tag that is expected, and where no fault names it, that suffices.
 use Rattle.std.proofs.Common.{◌≡◌, ℕ, Bool, true, false, eqb, ◌&&◌, ◌||◌, not, if◌then◌else◌, List, Option, Some, None, refl, sym, ap, subst, ◌∙◌}
 use Rattle.std.specs.Prelude.{Result, Ok, Err}
 use Rattle.std.proofs.lemmas.Bool.{and_from, and_parts, eq-eqb}
@@ -25,8 +26,6 @@ use Rattle.mirror_walk.specs.OneGood.{IsUnnamed}
 use Rattle.run_laws.proofs.Found.{Bears, expected, from_both, passed, passes_if, unless_rule, unmasked}
 use Rattle.run_laws.proofs.Framed.{mapped_body, mapped_length, mapped_tuple}
 use Rattle.run_laws.proofs.Layers.{IsBare, checked, found_is, no_flip, sent_under, unaltered}
-
--- One block of a write: what is accepted has the application tag that is expected, and where no fault names it, that suffices.
 
 pub record IsStored (w : WayOut) : Type 0 where
   pub carried : List ℕ

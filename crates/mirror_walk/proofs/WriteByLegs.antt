@@ -1,3 +1,4 @@
+-- A write leg by leg. What is found of a block doesn't depend on what is stored, and blocks that have cells of their own can be stored in any order.
 use Rattle.std.proofs.Common.{◌≡◌, ◌<◌, ◌≤◌, ℕ, zero, suc, ◌+◌, ◌*◌, List, [], ◌∷◌, map, get_or, set, take, drop, Option, refl, sym, ap, ◌∙◌, arith}
 use Rattle.std.specs.Prelude.{nat_abs, Result, Ok, Err}
 use Rattle.std.proofs.lemmas.List.{set_comm}
@@ -24,8 +25,6 @@ use Rattle.mirror_walk.specs.Mirror.{Mirror, answer, done, marked, marks_of, nei
 use Rattle.mirror_walk.specs.Repair.{writing}
 use Rattle.mirror_walk.specs.OnLegs.{blocks_on, listed_written, marks_written, stored_at, why_of, whys_written, written}
 use Rattle.mirror_walk.specs.LegByLeg.{HasLegs, WritesByLegs, brought_of}
-
--- A write leg by leg. What is found of a block doesn't depend on what is stored, and blocks that have cells of their own can be stored in any order.
 
 -- the same at each block
 pub each_same : {X : Type 0} (k n : ℕ) (f g : ℕ → X) → ((j : ℕ) → f j ≡ g j) → each_from k n f ≡ each_from k n g

@@ -37,9 +37,6 @@ told-size s dev a i e = by (is_fault (spec_at s dev).first (spec_at s dev).size 
     by false None e = absurd (cc)
     by false (Some ty) e = cc
 
-right-part : (a b : Bool) → (a && b) ≡ true → b ≡ true
-right-part a b h = grind arith
-
 all-sizes : (s : Standing) (dev : ℕ) (xs : List Answer) (found : List DeviceInfo) → all_told s dev xs ≡ Some found → ((k : ℕ) → k < dev + length xs → is_spec (spec_at s k) ≡ true) → list_all has_size found ≡ true
 all-sizes s dev [] found e good = let k : found ≡ [] = cc in ap (list_all has_size) k
 all-sizes s dev (x ∷ xs) found e good =

@@ -1,3 +1,4 @@
+-- The bytes of segments are those of their parts, one behind the other.
 use Rattle.std.proofs.Common.{◌≡◌, ℕ, List, [], ◌∷◌, ◌++◌, map, refl, sym, ap, ◌∙◌}
 use Rattle.std.proofs.lemmas.List.{map-append}
 use Rattle.page_pool.specs.declared.segs.Seg.{Seg}

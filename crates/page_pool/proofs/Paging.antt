@@ -1,3 +1,4 @@
+-- the bytes at a run of places are a part of the page
 use Rattle.std.proofs.Common.{◌≡◌, ℕ, ◌+◌, ◌-◌, ◌≤◌, ◌<◌, List, [], ◌++◌, length, take, drop, get_or, set, sym, ap, ◌∙◌, ◌⊎◌, ◌≢◌, inl, inr, arith}
 use Rattle.std.proofs.lemmas.List.{places, same_lists, length-take, length-drop, length-append, length-map, length-set, get_or-map, get_or-set_same, get_or-set_other, get_or_past, set_past, map-set, take-append-le}
 use Rattle.std.proofs.lemmas.Bool.{cases_lt}
@@ -9,8 +10,6 @@ use Rattle.page_pool.specs.declared.segs.Seg.{Seg}
 use Rattle.page_pool.specs.Places.{PageByte, run, places_of, IsAmong}
 use Rattle.page_pool.specs.Pages.{contents, page_of, byte_at, bytes_at, AreWhole, LiesIn, part, with_bytes, with_part, OthersStay, Wrote}
 use Rattle.page_pool.proofs.Placing.{length-run, get_or-run, at_place}
-
--- the bytes at a run of places are a part of the page
 
 pub bytes-run : (pool : List (List ℕ)) (page off n : ℕ) → off + n ≤ length (page_of pool page) → bytes_at pool (run page off n) ≡ take n (drop off (page_of pool page))
 bytes-run pool page off n h =

@@ -1,3 +1,4 @@
+-- The places of a range are among those of the segments; ranges that don't overlap share none.
 use Rattle.std.proofs.Common.{◌≡◌, ℕ, zero, suc, ◌+◌, ◌*◌, ◌≤◌, List, ◌++◌, take, drop, refl, sym, ap, ◌∙◌, subst, arith}
 use Rattle.std.proofs.lemmas.List.{take-append-drop, drop-drop, drop-take, take-take}
 use Rattle.page_pool.specs.declared.segs.Seg.{Seg}

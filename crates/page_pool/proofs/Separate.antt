@@ -1,3 +1,4 @@
+-- No place stands twice in a run, nor in two that share none.
 use Rattle.std.proofs.Common.{◌≡◌, ℕ, zero, suc, ◌+◌, ◌≤◌, ◌<◌, List, [], ◌∷◌, ◌++◌, refl, ap, inl, inr, arith}
 use Rattle.page_pool.specs.Places.{PageByte, run, IsAmong, NoneTwice, Apart}
 use Rattle.page_pool.proofs.Placing.{among-append}

@@ -1,3 +1,4 @@
+-- The test for a shared byte of two segments is exact.
 use Rattle.std.proofs.Common.{◌≡◌, ℕ, ◌+◌, ◌-◌, ◌<◌, Bool, true, max, eqb, ◌&&◌, sym, refl, ◌∙◌, ◌↔◌, arith}
 use Rattle.std.specs.Prelude.{IsTrue, nat_lt}
 use Rattle.std.proofs.lemmas.Bool.Decides.{nat_tests}

@@ -1,3 +1,4 @@
+-- bytes that stay
 use Rattle.std.proofs.Common.{◌≡◌, ℕ, ◌+◌, ◌-◌, ◌≤◌, List, [], ◌∷◌, ◌++◌, length, take, drop, replicate, refl, sym, ap, ◌∙◌, subst, inl, inr, arith, append_assoc}
 use Rattle.std.proofs.lemmas.List.{length-append, length-take, length-drop, map-append, append-nil, nil_from_length, take-append-drop, take_all, replicate-append-replicate}
 use Rattle.page_pool.specs.declared.segs.Seg.{Seg}
@@ -8,8 +9,6 @@ use Rattle.page_pool.proofs.Placing.{length-run, length-places_in, among-front, 
 use Rattle.page_pool.specs.Cuts.{past}
 use Rattle.page_pool.proofs.Cutting.{take-front, total-past, places-past}
 use Rattle.page_pool.proofs.Walks.{Passed, Walked, walked_none, walked_more, walked_all, took-lies}
-
--- bytes that stay
 
 pub same_bytes : (old new : List (List ℕ)) (ps : List PageByte) → ((p : PageByte) → IsAmong ps p → byte_at new p ≡ byte_at old p) → bytes_at new ps ≡ bytes_at old ps
 same_bytes old new [] h = refl

@@ -1,3 +1,4 @@
+-- Blocks whose data and tuples stand apart: where the next one begins, and what it leaves.
 use Rattle.std.proofs.Common.{◌≡◌, ℕ, ◌+◌, ◌-◌, ◌*◌, ◌≤◌, List, ◌++◌, length, take, drop, Option, refl, ap, ◌∙◌, sym, arith}
 use Rattle.std.proofs.lemmas.List.{drop-drop}
 use Rattle.pi_guard.specs.declared.GuardKind.{GuardKind}

@@ -1,3 +1,4 @@
+-- Bytes that are fed in pieces: what is left, and the guard of all so far.
 use Rattle.std.proofs.Common.{◌≡◌, ℕ, ◌+◌, ◌-◌, ◌≤◌, List, ◌++◌, length, take, drop, ap, ◌∙◌, sym, subst, arith}
 use Rattle.std.proofs.lemmas.List.{append_assoc, drop-drop, length-drop}
 use Rattle.std.proofs.Math.Seq.{take-add}

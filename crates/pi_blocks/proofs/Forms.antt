@@ -1,3 +1,4 @@
+-- Three fields beside a form: put there, they are read again, and taken out they leave the form.
 use Rattle.std.proofs.Common.{Ok, ◌≡◌, ℕ, ◌<◌, ◌≤◌, true, List, length, get_or, set, refl, sym, ap, subst, ◌∙◌, arith, rules}
 use Rattle.std.proofs.lemmas.List.{get_or-set_same, places, set-get_or, set-set, length-set}
 use Rattle.cdb_codec.specs.Forms.{Fits, form}
@@ -10,8 +11,6 @@ use Rattle.pi_blocks.specs.declared.marks.Bits.{Bits}
 use Rattle.pi_blocks.specs.declared.marks.Bits.TheVariants.{Absent, Dpo, DpoAndFua, Group, Control}
 use Rattle.pi_blocks.specs.declared.marks.Place.{Place}
 use Rattle.pi_blocks.specs.declared.marks.Places.{Places}
-
--- Three fields beside a form: put there, they are read again, and taken out they leave the form.
 
 cleared_part : (bits : Bits) (x v : ℕ) → part bits v ≡ v → put_part bits x 0 ≡ x → put_part bits (put_part bits x v) 0 ≡ x
 cleared_part Absent x v fits clear = refl

@@ -1,3 +1,4 @@
+-- Tuples that were made are alone in what was written, and are found to be fine.
 use Rattle.std.proofs.Common.{◌≡◌, ℕ, ◌+◌, ◌-◌, ◌*◌, ◌/◌, ◌%◌, ◌^◌, ◌<◌, ◌≤◌, ◌⊎◌, Bool, true, false, not, ◌&&◌, eqb, if◌then◌else◌, List, ◌++◌, length, take, drop, None, refl, ap, ◌∙◌, sym, subst, inl, inr, arith, lit<}
 use Rattle.std.specs.Prelude.{bit_and}
 use Rattle.std.proofs.lemmas.Bool.{and_right, cases_lt, eq-eqb, not_from_true}

@@ -1,3 +1,4 @@
+-- A reference tag has four bytes before and after it is mapped, and each block is within the buffer.
 use Rattle.std.proofs.Common.{◌≡◌, ◌≢◌, ℕ, ◌+◌, ◌*◌, ◌/◌, ◌^◌, ◌<◌, ◌≤◌, ◌⊎◌, Bool, true, false, ◌&&◌, eqb, if◌then◌else◌, List, length, take, drop, get_or, refl, ap, ◌∙◌, sym, subst, inl, inr, arith, lit<}
 use Rattle.std.specs.Int.{w32, from_be_bytes, to_be_bytes}
 use Rattle.std.proofs.lemmas.Bool.{and_parts, cases_lt, eqb-true, leb-true, ne_eqb, eq-eqb, cases_Bool}

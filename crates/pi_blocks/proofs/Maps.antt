@@ -1,3 +1,4 @@
+-- One more tag mapped in place; without reference tags nothing is.
 use Rattle.std.proofs.Common.{◌≡◌, ℕ, ◌+◌, ◌-◌, ◌*◌, ◌≤◌, Bool, true, false, ◌&&◌, eqb, if◌then◌else◌, List, length, take, drop, refl, ap, ◌∙◌, sym, arith}
 use Rattle.std.specs.Int.{w32, from_be_bytes, to_be_bytes}
 use Rattle.std.proofs.lemmas.List.{length-drop, length-take, length-take-le, take_min}

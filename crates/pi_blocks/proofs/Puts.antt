@@ -1,3 +1,4 @@
+-- Pieces put one after another into bytes: each stands at its place, all else stays.
 use Rattle.std.proofs.Common.{◌≡◌, ℕ, zero, suc, ◌+◌, ◌-◌, ◌*◌, ◌<◌, ◌≤◌, ◌⊎◌, List, ◌++◌, length, take, drop, refl, ap, ◌∙◌, sym, subst, inl, inr, add-one, arith, rules}
 use Rattle.std.proofs.lemmas.Bool.{cases_lt}
 use Rattle.std.proofs.lemmas.List.{drop-drop, drop_at, drop-append-le, length-append, length-drop, length-take-le, places, same_lists, take-append-drop, take-append-le, take_at, take-take, drop-take}

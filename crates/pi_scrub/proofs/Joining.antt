@@ -1,3 +1,4 @@
+-- Looks one after another.
 use Rattle.std.proofs.Common.{ℕ, zero, suc, ◌≡◌, ◌+◌, ◌-◌, ◌^◌, ◌<◌, ◌≤◌, inl, Bool, true, false, ltb, List, [], ◌∷◌, ◌++◌, length, take, drop, Option, Some, refl, sym, ap, ◌∙◌, arith, append-nil, append_assoc}
 use Rattle.std.specs.Prelude.{if◌then◌else◌, count_by, cond, map, min}
 use Rattle.std.proofs.lemmas.List.Sums.{sum_by-append}
@@ -17,8 +18,6 @@ use Rattle.pi_scrub.specs.Looks.{AreFit, Look, Place, all_entries, all_found, al
 use Rattle.pi_scrub.specs.Scrubbed.{Looked, RoseBy, device_of, is_medium}
 use Rattle.pi_scrub.specs.Steps.{Did}
 use Rattle.pi_scrub.specs.declared.found.Found.{Found}
-
--- Looks one after another.
 
 entries_append : (xs ys : List Look) → all_entries (xs ++ ys) ≡ all_entries xs ++ all_entries ys
 entries_append [] ys = refl

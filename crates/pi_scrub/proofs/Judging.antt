@@ -1,3 +1,4 @@
+-- What a unit answers to a VERIFY, and what a look finds by it.
 use Rattle.std.proofs.Common.{ℕ, zero, suc, ◌≡◌, ◌+◌, ◌-◌, ◌^◌, ◌≤◌, Bool, true, false, ltb, leb, List, [], ◌∷◌, ◌++◌, length, take, drop, Option, Some, None, refl, sym, ap, subst, ◌∙◌, arith, length-take-le, length-drop}
 use Rattle.std.specs.Prelude.{Result, Ok, Err, if◌then◌else◌, is_some}
 use Rattle.std.proofs.lemmas.Bool.{le-leb}
@@ -26,8 +27,6 @@ use Rattle.pi_scrub.specs.Looks.{found_at, protect_for, settled, verify_of}
 use Rattle.pi_scrub.specs.Steps.{IsWithin}
 use Rattle.pi_scrub.proofs.Joining.{settled_most}
 use Rattle.rig_discovery.proofs.Telling.{own_block, same_units}
-
--- What a unit answers to a VERIFY, and what a look finds by it.
 
 abbrev pub by_form : Bool → Rw → Cdb
 by_form b c = if b then Verify10 c else Verify16 c

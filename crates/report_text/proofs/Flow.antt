@@ -1,3 +1,4 @@
+-- A text that is written piece by piece: what is left of it, and a failure on the way.
 use Rattle.std.proofs.Common.{ℕ, ◌≡◌, ◌+◌, min, List, [], ◌++◌, length, take, drop, Option, Some, None, Result, Ok, Err, OnErr, refl, sym, ap, subst, ◌∙◌, arith, rules, append_assoc, append-nil}
 use Rattle.std.proofs.lemmas.List.{places, same_lists, take-append-drop}
 use Rattle.dix_base.specs.Told.{Appended, AppendedSome}

@@ -1,3 +1,4 @@
+-- The pieces of each line of a report or trace are the line.
 use Rattle.std.proofs.Common.{ℕ, zero, Bool, true, false, ◌&&◌, ◌≡◌, ◌+◌, ◌<◌, ◌≤◌, suc, List, [], ◌∷◌, ◌++◌, length, take, drop, get_or, codes, decimal, refl, sym, ap, ◌∙◌, arith, add-one, append_assoc, drop-cons}
 use Rattle.std.proofs.lemmas.List.{take-append-drop}
 use Rattle.hex.specs.Hex.{encode_lower, encode_with, lower_digits}

@@ -1,3 +1,4 @@
+-- The stored blocks that are found in an image of bytes are of bytes.
 use Rattle.std.specs.Prelude.{ℕ, zero, suc, ◌≡◌, ◌<◌, List, [], ◌∷◌, take, drop, All, Option, Some, None}
 use Rattle.std.proofs.Common.{subst}
 use Rattle.std.proofs.lemmas.Option.{same_Some}

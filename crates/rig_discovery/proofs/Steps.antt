@@ -1,3 +1,4 @@
+-- One look after another.
 use Rattle.std.proofs.Common.{ℕ, zero, suc, ◌≡◌, ◌+◌, ◌^◌, ◌-◌, ◌<◌, List, [], ◌∷◌, ◌++◌, length, take, Option, Some, None, refl, sym, ap, ◌∙◌, arith, append_assoc, length-append}
 use Rattle.std.specs.Prelude.{map, slice_index_or}
 use Rattle.target_answer.specs.declared.units.UnitSpec.{UnitSpec}
@@ -7,8 +8,6 @@ use Rattle.rig_api.specs.declared.rig.Outcome.{Outcome}
 use Rattle.volume_table.specs.declared.device.DeviceInfo.{DeviceInfo}
 use Rattle.rig_discovery.specs.Answers.{told_by}
 use Rattle.rig_discovery.specs.Discovery.{Answer, Ends, Spent, all_told, entry_of_look, info_of, looks, told, with_info}
-
--- One look after another.
 
 pub asked_is : (s s' : Standing) (dev first size : ℕ) (o : Outcome) (bytes : List ℕ) (result : Option DeviceInfo) → s' ≡ s → first ≡ (spec_at s' dev).first → size ≡ (spec_at s' dev).size → result ≡ told_by first size o bytes →
     result ≡ told_by (spec_at s dev).first (spec_at s dev).size o bytes

@@ -1,3 +1,4 @@
+-- What a rig that tells its blocks answers to a look.
 use Rattle.std.proofs.Common.{ℕ, zero, suc, ◌≡◌, ◌+◌, ◌-◌, ◌^◌, ◌<◌, ◌≤◌, inl, inr, Bool, true, false, ltb, eqb, ◌&&◌, ◌||◌, not, List, [], ◌∷◌, length, take, drop, Option, Some, None, refl, sym, ap, ◌∙◌, arith}
 use Rattle.std.specs.Prelude.{if◌then◌else◌, replicate, slice_index, slice_index_or, is_some}
 use Rattle.std.specs.List.{list_all}
@@ -20,8 +21,6 @@ use Rattle.rig_api.specs.declared.rig.Outcome.{Outcome}
 use Rattle.rig_discovery.specs.Answers.{info_with, is_fault, told_by, type_told}
 use Rattle.rig_discovery.specs.Discovery.{info_of, look}
 use Rattle.volume_table.specs.declared.device.DeviceInfo.{DeviceInfo}
-
--- What a rig that tells its blocks answers to a look.
 
 good_header : (short good : Bool) (has wants : ℕ) → (if short then Some BadLength else fault_of_header good has wants) ≡ None → good ≡ true
 good_header true good has wants e = absurd (cc)

@@ -1,3 +1,4 @@
+-- More store calls fail.
 use Rattle.std.proofs.Common.{◌≡◌, ℕ, true, List, sym, ap, ◌∙◌}
 use Rattle.stack_ops.specs.declared.op.Op.{Op}
 use Rattle.block_path.specs.declared.route.Route.{Route}
@@ -10,8 +11,6 @@ use Rattle.run_follows.specs.Sending.{is_carried}
 use Rattle.run_follows.specs.Slots.{Status}
 use Rattle.run_falls.specs.Falls.{Falls, falling, over_falls, sends_or, stores_or}
 use Rattle.run_falls.proofs.Switching.{SameFor, switch}
-
--- More store calls fail.
 
 pub fall_alike : (device : Device) (one two : Falls) (r : Route) → one r.label ≡ two r.label → SameFor (falling one device) (falling two device) r
 fall_alike device one two r e = record { stores = λ frame. ap (λ o. stores_or o (device.stores r frame)) e; sends = λ stored. ap (λ o. sends_or o (device.sends r stored)) e }

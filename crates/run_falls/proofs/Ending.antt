@@ -1,3 +1,4 @@
+-- Once all has ended.
 use Rattle.std.proofs.Common.{◌≡◌, ◌<◌, ◌≤◌, ℕ, suc, ◌+◌, Bool, true, false, ◌||◌, eqb, if◌then◌else◌, List, [], ◌∷◌, ◌++◌, length, map, take, get_or, Option, Some, None, refl, sym, ap, subst, ◌∙◌, arith}
 use Rattle.std.specs.Prelude.{Result, IfOk, IfSome}
 use Rattle.std.proofs.lemmas.Bool.{eq-eqb, eqb-true, false≢true}
@@ -34,8 +35,6 @@ use Rattle.run_falls.proofs.Forgiving.{AllOf, IsOf, op_of}
 use Rattle.run_falls.proofs.OverDevice.{same_rooms, same_steps}
 use Rattle.run_falls.proofs.Switching.{HasLabel, Labelled, op_labelled}
 use Rattle.run_falls.proofs.WalksAlike.{Forgives, Sees, step_alike}
-
--- Once all has ended.
 
 -- a list of bad blocks has one only where there is one
 

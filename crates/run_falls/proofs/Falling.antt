@@ -1,3 +1,4 @@
+-- One store call more fails.
 use Rattle.std.proofs.Common.{◌≡◌, ◌⊎◌, inl, inr, ℕ, zero, suc, Bool, true, false, ◌&&◌, eqb, if◌then◌else◌, List, [], ◌∷◌, ◌++◌, length, Option, Some, None, refl, sym, ap, ◌∙◌}
 use Rattle.std.specs.Prelude.{Result, IfSome, ltb}
 use Rattle.std.proofs.lemmas.Bool.{eq-eqb, eqb-true, false≢true}
@@ -16,8 +17,6 @@ use Rattle.block_path.specs.Routes.{Device}
 use Rattle.run_falls.specs.Falls.{Falls, forgive, forgiven, left_of, none_falls, put_really, really, writes_of}
 use Rattle.run_falls.specs.FollowsFalling.{LeavesSized}
 use Rattle.run_falls.proofs.Forgiving.{AreFresh}
-
--- One store call more fails.
 
 abbrev label_at : (i k : ℕ) → Label
 label_at i k = record { op = i; k = k }

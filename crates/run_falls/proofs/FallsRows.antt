@@ -1,3 +1,4 @@
+-- A write of one block whose store call fails, and a `put`, step by step from first to last, over a device that tells one frame of each block.
 use Rattle.std.proofs.Common.{◌≡◌, ◌<◌, ◌+◌, ℕ, zero, suc, Bool, true, false, ◌&&◌, eqb, if◌then◌else◌, List, [], ◌∷◌, get_or, Option, Some, None, refl, ap, subst, ◌∙◌, arith, inl}
 use Rattle.std.specs.Prelude.{IfSome, length, Ok, replicate, take}
 use Rattle.std.proofs.lemmas.List.{length-replicate}
@@ -46,8 +47,6 @@ use Rattle.run_falls.proofs.Ending.{ends_as_falling}
 use Rattle.run_falls.proofs.Falling.{or_left}
 use Rattle.run_falls.proofs.Outward.{forgiven_at, way_over}
 use Rattle.run_falls.proofs.Stepping.{settled_falling, whole_falling}
-
--- A write of one block whose store call fails, and a `put`, step by step from first to last, over a device that tells one frame of each block.
 
 abbrev m : Setting
 m = let calm = record (faulty []) { size = 4 } in record calm { site = record calm.site { device = told_by (λ label. Ok (replicate 12 0)) } }

@@ -1,3 +1,4 @@
+-- Ops of which some flip their blocks move as they did.
 use Rattle.std.proofs.Common.{◌≡◌, ◌⊎◌, inl, inr, ℕ, zero, suc, ◌+◌, ◌<◌, ◌≤◌, Bool, true, false, eqb, if◌then◌else◌, List, [], ◌∷◌, ◌++◌, length, map, take, get_or, Option, Some, None, refl, sym, ap, subst, ◌∙◌, arith}
 use Rattle.std.proofs.lemmas.Bool.{eq-eqb, eqb-true}
 use Rattle.rig_api.specs.declared.change.Change.{Change}
@@ -28,8 +29,6 @@ use Rattle.run_follows.specs.Pieces.{AllMayMove, IsNoneOf, all_cut, all_made, wi
 use Rattle.run_follows.specs.Sending.{AllGoing, carriage_of, with_status}
 use Rattle.run_follows.specs.Slots.{Status, parts_of}
 use Rattle.run_falls.specs.Flips.{Flips, flip_op, no_flips, with_flips}
-
--- Ops of which some flip their blocks move as they did.
 
 -- one flips where the other changes
 record Flipping (op op' : Op) : Type 0 where

@@ -1,3 +1,4 @@
+-- An overwrite that waits may be another one of its block: a flip of it.
 use Rattle.std.proofs.Common.{◌≡◌, ℕ, suc, ◌+◌, false, ◌||◌, List, [], ◌∷◌, ◌++◌, length, Option, Some, None, refl, sym, ap, subst, ◌∙◌, arith, length-append}
 use Rattle.std.proofs.lemmas.Bool.{or_from, or_parts}
 use Rattle.rig_api.specs.declared.change.Change.{Change}
@@ -16,8 +17,6 @@ use Rattle.run_moves.specs.ScriptMoves.{all_moves, blocks_from, blocks_of, by_mo
 use Rattle.run_follows.specs.Following.{AllStand, Follows, StandFrom}
 use Rattle.run_follows.specs.Slots.{Status, Waits, parts_of, so_far, done_by}
 use Rattle.run_falls.proofs.Switching.{far_length}
-
--- An overwrite that waits may be another one of its block: a flip of it.
 
 abbrev Done : Type 0
 Done = List (Option Answer)

@@ -1,3 +1,4 @@
+-- Statuses as they are told over a device whose store calls fail.
 use Rattle.std.proofs.Common.{◌≡◌, ◌⊎◌, inl, inr, ℕ, zero, suc, Bool, true, false, List, [], ◌∷◌, ◌++◌, length, get_or, Option, Some, None, refl, sym, ap, subst, ◌∙◌}
 use Rattle.std.specs.Prelude.{IfSome}
 use Rattle.std.proofs.lemmas.Bool.{false≢true}
@@ -19,8 +20,6 @@ use Rattle.run_follows.specs.Sending.{AllGoing, Carriage, IsElsewhere, IsGoing, 
 use Rattle.run_follows.specs.Slots.{Admitted, Carried, Cut, Done, Settled, Status, Waits}
 use Rattle.run_falls.specs.Falls.{Falls, forgive, forgiven, is_write, left_of, writes_of}
 use Rattle.run_falls.specs.FollowsFalling.{AllFallen, HasFallen}
-
--- Statuses as they are told over a device whose store calls fail.
 
 pub still_over : (o : Option (List ℕ)) (status : Status) → is_over (forgive o status) ≡ is_over status
 still_over None status = refl

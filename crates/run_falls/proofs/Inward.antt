@@ -1,3 +1,4 @@
+-- A group of a read over a rig whose store call may have failed at one of its blocks.
 use Rattle.std.proofs.Common.{◌≡◌, ◌<◌, ◌≤◌, ◌⊎◌, inl, inr, ℕ, zero, suc, ◌+◌, Bool, true, false, if◌then◌else◌, List, [], ◌∷◌, ◌++◌, length, map, get_or, set, Option, Some, None, refl, sym, ap, subst, ◌∙◌, arith}
 use Rattle.std.specs.Prelude.{Result, Ok, Err, IfOk, ltb}
 use Rattle.std.proofs.lemmas.Bool.{false≢true}
@@ -31,8 +32,6 @@ use Rattle.run_falls.specs.FollowsFalling.{AllFallen, HasFallen}
 use Rattle.run_falls.proofs.Falling.{NoneFall, all_really, decide, elsewhere_still, fall_at, fall_if, falls_by, here, none_fall, none_of_rest, rest_none, there, with_fall}
 use Rattle.run_falls.proofs.Forgiving.{AllDir, AreFresh}
 use Rattle.run_falls.proofs.Outward.{falls_here, forgiven_here, not_here, some_if}
-
--- A group of a read over a rig whose store call may have failed at one of its blocks.
 
 abbrev Came : Type 0
 Came = Result (List ℕ) Why

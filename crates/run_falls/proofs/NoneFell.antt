@@ -1,3 +1,4 @@
+-- Where no block is listed for the medium no store call failed, and the walk in which some fail is the walk.
 use Rattle.std.proofs.Common.{◌≡◌, ℕ, Bool, true, false, if◌then◌else◌, List, [], Option, Some, None, refl, sym, subst, ◌∙◌}
 use Rattle.std.specs.Prelude.{IfSome}
 use Rattle.stack_ops.specs.declared.op.Op.{Op}
@@ -9,8 +10,6 @@ use Rattle.run_follows.specs.Following.{Follows}
 use Rattle.run_follows.specs.Slots.{Status}
 use Rattle.run_falls.specs.Falls.{Falls, forgive, forgiven, none_falls, over_falls, put_really, writes_of}
 use Rattle.run_falls.specs.FollowsFalling.{AllFallen, FollowsFalling, HasFallen}
-
--- Where no block is listed for the medium no store call failed, and the walk in which some fail is the walk.
 
 none_of : (o : Option (List ℕ)) (status : Status) → (HasFallen status → ⊥) → IfSome o (λ left. HasFallen status) → o ≡ None
 none_of None status never h = refl

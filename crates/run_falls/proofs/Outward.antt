@@ -1,3 +1,4 @@
+-- A group of a write over a rig whose store call may have failed at one of its blocks.
 use Rattle.std.proofs.Common.{◌≡◌, ◌<◌, ◌≤◌, ◌⊎◌, inl, inr, ℕ, zero, suc, Bool, true, false, ◌&&◌, ◌||◌, eqb, if◌then◌else◌, List, [], ◌∷◌, ◌++◌, length, map, take, get_or, set, Option, Some, None, refl, sym, ap, subst, ◌∙◌, arith}
 use Rattle.std.specs.Prelude.{Result, Ok, Err, IfSome, ltb}
 use Rattle.std.proofs.lemmas.Bool.{eqb-true, false≢true, or_parts}
@@ -36,8 +37,6 @@ use Rattle.run_falls.proofs.Falling.{NoneFall, all_really, decide, elsewhere_sti
 use Rattle.run_falls.proofs.Forgiving.{AllDir, AreFresh}
 use Rattle.run_falls.proofs.Switching.{out_same}
 use Rattle.run_falls.proofs.Inward.{nothing_really}
-
--- A group of a write over a rig whose store call may have failed at one of its blocks.
 
 abbrev Came : Type 0
 Came = Result (List ℕ) Why

@@ -1,3 +1,4 @@
+-- What may move over one device may move over another.
 use Rattle.std.proofs.Common.{◌≡◌, ◌⊎◌, inl, inr, ℕ, zero, suc, ◌+◌, ◌%◌, ◌^◌, Bool, true, false, List, [], ◌∷◌, map, refl, sym, ap, subst, ◌∙◌}
 use Rattle.bio_core.specs.Bios.{Block}
 use Rattle.bio_core.specs.declared.request.Io.{Io}
@@ -18,8 +19,6 @@ use Rattle.run_follows.specs.Sending.{AllGoing, carriage_of}
 use Rattle.run_follows.specs.Slots.{Status, parts_of, write_parts}
 use Rattle.block_path.specs.Routes.{Device}
 use Rattle.run_falls.proofs.Switching.{over}
-
--- What may move over one device may move over another.
 
 module _ (m : Setting) (device : Device) where
   pub same_steps : (i : ℕ) (op : Op) → steps_of m i op ≡ steps_of (over m device) i op

@@ -1,3 +1,4 @@
+-- An overwrite whose store call fails leaves what some flip of its block leaves.
 use Rattle.std.proofs.Common.{◌≡◌, ◌<◌, ℕ, zero, suc, ◌+◌, ◌-◌, if◌then◌else◌, List, [], ◌∷◌, ◌++◌, length, get_or, bit_xor, Some, None, refl, sym, ap, subst, ◌∙◌, arith}
 use Rattle.std.proofs.lemmas.List.{ext_get_or}
 use Rattle.std.specs.Int.Bits.{xor_assoc, xor_self, xor_zero_l}
@@ -22,8 +23,6 @@ use Rattle.run_falls.specs.FollowsFalling.{FollowsFalling}
 use Rattle.run_falls.proofs.Flipped.{lets_flip, no_flip}
 use Rattle.run_falls.proofs.Flipping.{turn}
 use Rattle.run_falls.proofs.Stepping.{wait_still, whole_falling}
-
--- An overwrite whose store call fails leaves what some flip of its block leaves.
 
 -- what one block is to be xored with to become the other
 abbrev pub between : (old left : List ℕ) → List ℕ

@@ -1,3 +1,4 @@
+-- A command of a read over a rig that tells its blocks, whose store call may fail.
 use Rattle.std.proofs.Common.{◌≡◌, ◌≤◌, ◌+◌, ℕ, suc, List, [], ◌∷◌, ◌++◌, length, Option, refl, sym, ap, subst, ◌∙◌, arith, append-nil}
 use Rattle.std.specs.Prelude.{IfSome, ltb}
 use Rattle.page_pool.specs.Cells.{flat}
@@ -42,8 +43,6 @@ use Rattle.run_falls.proofs.Inward.{all_come, came_ins, ends_so, fell_by, has_fa
 use Rattle.run_falls.proofs.Outward.{if_some}
 use Rattle.run_falls.proofs.OverDevice.{going_over}
 use Rattle.run_falls.proofs.SentOut.{all_cut, none_stand, turn_dir}
-
--- A command of a read over a rig that tells its blocks, whose store call may fail.
 
 few : (ws : List WayIn) → length (frames_in ws) ≤ length ws
 few [] = omega arith

@@ -1,3 +1,4 @@
+-- A command of a write over a rig that tells its blocks, whose store call may fail.
 use Rattle.std.proofs.Common.{◌≡◌, ◌≤◌, ℕ, suc, true, false, List, [], ◌∷◌, ◌++◌, length, map, take, Option, refl, sym, ap, subst, ◌∙◌, arith}
 use Rattle.std.specs.Prelude.{IfSome, min, ltb}
 use Rattle.std.proofs.lemmas.List.{length-map, length-take}
@@ -41,8 +42,6 @@ use Rattle.run_falls.proofs.Falling.{AllCut, NoneStand, all_really, alike_by, be
 use Rattle.run_falls.proofs.Forgiving.{AllDir, are_fresh, still_carried, still_going}
 use Rattle.run_falls.proofs.Outward.{all_go, blocks_walk, came_ways, ends_so, fell_by, fill_is, frames_are, has_fallen, if_some, out_statuses, plain_ways, real_ways, really_walk, stopped_is, walk_cames, ways_plain}
 use Rattle.run_falls.proofs.OverDevice.{going_over}
-
--- A command of a write over a rig that tells its blocks, whose store call may fail.
 
 pub turn_dir : (dir : Dir) (dev lba : ℕ) (bs : List Block) → InTurn dir dev lba bs → AllDir dir bs
 turn_dir dir dev lba [] h = tt

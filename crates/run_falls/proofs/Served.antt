@@ -1,3 +1,4 @@
+-- What comes of a block, by the stack's replies.
 use Rattle.std.proofs.Common.{◌<◌, ℕ, List, ◌∷◌, ◌++◌, length, sym, subst}
 use Rattle.page_pool.specs.declared.segs.Seg.{Seg}
 use Rattle.integrity_payload.specs.declared.payload.Owner.{Owner}
@@ -13,8 +14,6 @@ use Rattle.run_laws.specs.StoreFaults.{IsFallingRun}
 use Rattle.run_laws.proofs.FallingOps.{reads_or_fails}
 use Rattle.run_falls.specs.AtTheEnd.{EndsAsFalling, ReadsOrFails}
 use Rattle.run_falls.specs.Falls.{of_blocks}
-
--- What comes of a block, by the stack's replies.
 
 pub reads : (m : Setting) (bytes : ℕ) (before after : List Op) (owner : Owner) (v n k : ℕ) (body tuples : List Seg) (opening : State) (pages : List ℕ) (blocks : List (List ℕ)) (replies : List Reply) (es : List Sent) →
     let ops = before ++ (read_op owner v n body tuples ∷ after) in IsFallingRun m ops (hidden bytes opening) → HasRoom m (length (hidden bytes opening).bytes) owner n body tuples → k < n →

@@ -1,3 +1,4 @@
+-- The steps of a stack whose store calls may have failed, but for the sending of a command.
 use Rattle.std.proofs.Common.{◌≡◌, ◌⊎◌, inl, inr, ℕ, suc, ◌+◌, Bool, true, false, if◌then◌else◌, List, [], ◌∷◌, ◌++◌, length, get_or, Option, Some, None, refl, sym, ap, subst, ◌∙◌}
 use Rattle.std.specs.Prelude.{IfSome}
 use Rattle.std.proofs.lemmas.Bool.{false≢true}
@@ -43,8 +44,6 @@ use Rattle.run_falls.proofs.Falling.{IsNone, NoneFall, decide}
 use Rattle.run_falls.proofs.Forgiving.{AllOf, IsOf, of_midst, op_of, op_there, still_going, still_lets, still_may, still_over, forgive_cut}
 use Rattle.run_falls.proofs.Outward.{forgiven_at, forgiven_here, if_some, left_none, not_here, some_if}
 use Rattle.run_falls.proofs.OverDevice.{acts_over, all_placed_over, going_over, lets_over, may_over, moves_over, placed_over}
-
--- The steps of a stack whose store calls may have failed, but for the sending of a command.
 
 abbrev label_at : (i k : ℕ) → Label
 label_at i k = record { op = i; k = k }

@@ -1,3 +1,4 @@
+-- What was not carried may come to another device.
 use Rattle.std.proofs.Common.{◌≡◌, ◌≤◌, ◌⊎◌, inl, inr, ℕ, zero, suc, ◌+◌, ◌%◌, ◌^◌, Bool, true, false, List, [], ◌∷◌, ◌++◌, length, drop, get_or, Option, Some, None, refl, sym, ap, subst, ◌∙◌, arith, length-append}
 use Rattle.std.specs.Prelude.{Result, Ok, Err}
 use Rattle.page_pool.specs.Cells.{gather, scatter}
@@ -22,8 +23,6 @@ use Rattle.run_follows.specs.Following.{AllStand, Follows, StandFrom}
 use Rattle.run_follows.specs.Sending.{is_carried}
 use Rattle.run_follows.specs.Slots.{Stands, Status, done_by, parts_of, so_far, write_parts}
 use Rattle.run_follows.proofs.Switch.{not_yet}
-
--- What was not carried may come to another device.
 
 abbrev Done : Type 0
 Done = List (Option Answer)

@@ -1,3 +1,4 @@
+-- The walk over the device whose store calls fail, and the walk in which these fail: they leave the same pages and stored blocks, and a write whose call fails is accepted in the one and listed for the medium in the other.
 use Rattle.std.proofs.Common.{◌≡◌, ℕ, Bool, true, false, List, [], ◌∷◌, length, drop, get_or, Option, Some, None, refl, sym, ap, subst, ◌∙◌}
 use Rattle.std.specs.Prelude.{Result, Ok, Err}
 use Rattle.std.proofs.lemmas.Bool.{false≢true}
@@ -20,8 +21,6 @@ use Rattle.whole_run.specs.Settings.{Block, Setting, route}
 use Rattle.whole_run.specs.Steps.{Alters, Reads, Seals, Sets, Shows, Step, Writes, WritesPi}
 use Rattle.run_laws.specs.StoreFaults.{failing, leaving, may_fall, or_fallen}
 use Rattle.run_falls.specs.Falls.{Falls, falling, of_blocks, over_falls, sends_or, stores_or}
-
--- The walk over the device whose store calls fail, and the walk in which these fail: they leave the same pages and stored blocks, and a write whose call fails is accepted in the one and listed for the medium in the other.
 
 -- the same pages and stored blocks
 pub record Sees (s t : State) : Type 0 where

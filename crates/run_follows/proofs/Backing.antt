@@ -1,3 +1,4 @@
+-- The record of a finished stack.
 use Rattle.std.proofs.Common.{◌≡◌, ℕ, suc, Bool, true, List, [], ◌∷◌, refl, sym, ap, subst, ◌∙◌}
 use Rattle.rig_api.specs.Log.{Entry}
 use Rattle.stack_ops.specs.declared.op.Op.{Op}
@@ -20,8 +21,6 @@ use Rattle.run_follows.specs.Finished.{AllEnded, HaveEnded, answers_of, replies_
 use Rattle.run_follows.specs.Following.{Follows}
 use Rattle.run_follows.specs.Slots.{Status}
 use Rattle.run_follows.proofs.Ends.{ends_as_walk}
-
--- The record of a finished stack.
 
 module _ (m : Setting) (es : List Sent) where
   ended_over : (i : ℕ) (ops : List Op) (status : ℕ → ℕ → Status) → AllEnded m i ops status → AllEnded (told m es) i ops status

@@ -1,3 +1,4 @@
+-- At first.
 use Rattle.std.proofs.Common.{◌≡◌, ℕ, suc, ◌+◌, List, [], ◌∷◌, ◌++◌, get_or, None, refl, sym, ap, ◌∙◌}
 use Rattle.stack_ops.specs.declared.op.Op.{Op}
 use Rattle.block_path.specs.Acts.{State, act, conflict, tell}
@@ -10,8 +11,6 @@ use Rattle.run_moves.specs.ScriptMoves.{all_moves, blocks_from, blocks_of, by_mo
 use Rattle.run_follows.specs.Following.{AllStand, Follows, StandFrom}
 use Rattle.run_follows.specs.Slots.{Status, Waits}
 use Rattle.run_follows.proofs.Runs.{Moves, none_far, sents_none}
-
--- At first.
 
 abbrev all_wait : ℕ → ℕ → Status
 all_wait i k = Waits

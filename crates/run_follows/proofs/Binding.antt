@@ -1,3 +1,4 @@
+-- A script that is bound, over what stands on record.
 use Rattle.std.proofs.Common.{◌≡◌, ◌≤◌, ℕ, suc, ◌+◌, Bool, true, List, [], ◌∷◌, length, refl, subst}
 use Rattle.stack_ops.specs.declared.op.Op.{Op}
 use Rattle.stack_ops.specs.declared.op.Op.TheVariants.{Fetch, FetchPi, Fill, Overwrite, Put, Seal, Show, Wait, Write, WritePi}
@@ -9,8 +10,6 @@ use Rattle.run_moves.specs.BoundRun.{AllBound, AllSuit, IsBound, IsBoundRun}
 use Rattle.run_moves.proofs.AtTarget.{fine_always}
 use Rattle.run_follows.specs.Finished.{FramesFit}
 use Rattle.run_follows.proofs.Over.{same_rooms}
-
--- A script that is bound, over what stands on record.
 
 module _ (m : Setting) (es : List Sent) (fit : FramesFit m es) where
   suit_over : (i v n : ℕ) → AllSuit (told m es) (λ c block. true) i v n

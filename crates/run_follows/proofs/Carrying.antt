@@ -1,3 +1,4 @@
+-- A block is carried.
 use Rattle.std.proofs.Common.{◌≡◌, ◌<◌, ℕ, zero, suc, ◌+◌, Bool, true, false, ◌&&◌, eqb, List, [], ◌∷◌, ◌++◌, length, get_or, set, Option, Some, None, refl, sym, ap, subst, ◌∙◌, arith, append-nil, length-append}
 use Rattle.std.specs.Prelude.{Result, Ok, Err}
 use Rattle.std.proofs.lemmas.Bool.{eqb-false, eqb-true}
@@ -23,8 +24,6 @@ use Rattle.run_follows.specs.Slots.{Carried, Cut, Status, before_carrying, parts
 use Rattle.run_follows.proofs.Runs.{Done, sents_after, sents_before, sents_both}
 use Rattle.run_follows.proofs.Standing.{BlockTurns}
 use Rattle.run_follows.proofs.Moving.{Stretch, block_turns, follow_turn, spot_turn}
-
--- A block is carried.
 
 -- one more on record, wherever it stands in script order
 

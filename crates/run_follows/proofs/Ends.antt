@@ -1,3 +1,4 @@
+-- Once all has ended.
 use Rattle.std.proofs.Common.{◌≡◌, ℕ, zero, suc, ◌+◌, Bool, true, false, List, [], ◌∷◌, ◌++◌, length, map, take, drop, get_or, Option, Some, None, refl, sym, ap, subst, ◌∙◌, arith, length-append}
 use Rattle.integrity_payload.specs.declared.payload.Owner.TheVariants.{Block as OfBlock, App as OfApp}
 use Rattle.bio_core.specs.declared.fate.Why.{Why}
@@ -20,8 +21,6 @@ use Rattle.run_follows.specs.Following.{AllStand, Follows, StandFrom, sents_so_f
 use Rattle.run_follows.specs.Slots.{Done as AllDone, Parts, Settled, Status, Tells, before_carrying, done_by, moves_in, parts_of, write_parts}
 use Rattle.run_follows.proofs.Runs.{Done, all_both, far_whole, sents_all, sents_both}
 use Rattle.run_follows.proofs.Standing.{moves_length, parts_are}
-
--- Once all has ended.
 
 take_first : (xs ys : List Answer) (n : ℕ) → length xs ≡ n → take n (xs ++ ys) ≡ xs
 take_first [] ys n e = rw (← e) refl

@@ -1,3 +1,4 @@
+-- Frames on record have the wire's size.
 use Rattle.std.proofs.Common.{◌≡◌, ◌≤◌, ℕ, ◌*◌, Bool, true, false, if◌then◌else◌, List, [], ◌∷◌, ◌++◌, length, map, take, Some, None, sym, subst, arith}
 use Rattle.std.specs.Prelude.{Result, Err, IfOk, ltb}
 use Rattle.page_pool.specs.Cells.{flat}
@@ -28,8 +29,6 @@ use Rattle.carried_record.specs.OnRecord.{put_each}
 use Rattle.carried_record.proofs.Puts.{goes_in, goes_out}
 use Rattle.run_follows.specs.Finished.{FramesFit}
 use Rattle.run_follows.proofs.Recording.{arrived}
-
--- Frames on record have the wire's size.
 
 abbrev Fits : ℕ → Result (List ℕ) Why → Type 0
 Fits w came = IfOk came (λ frame. length frame ≡ w)

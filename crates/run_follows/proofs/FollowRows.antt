@@ -1,3 +1,4 @@
+-- A write of one block and a `put`, step by step from first to last, over a device that tells one frame of each block.
 use Rattle.std.proofs.Common.{◌≡◌, ◌<◌, ◌+◌, ℕ, zero, suc, List, [], ◌∷◌, ◌++◌, get_or, Option, Some, None, refl, arith, inl, true}
 use Rattle.std.specs.Prelude.{replicate, Ok}
 use Rattle.std.proofs.lemmas.List.{length-replicate}
@@ -40,8 +41,6 @@ use Rattle.bio_core.specs.declared.request.Io.{Io}
 use Rattle.integrity_payload.specs.declared.payload.Owner.TheVariants.{Block as OfBlock}
 use Rattle.dix_adapter.specs.declared.adapter.Adapter.{Adapter}
 use Rattle.run_follows.specs.Sending.{IsGoing, NoneBefore}
-
--- A write of one block and a `put`, step by step from first to last, over a device that tells one frame of each block.
 
 abbrev m : Setting
 m = let calm = record (faulty []) { size = 4 } in record calm { site = record calm.site { device = told_by (λ label. Ok (replicate 12 0)) } }

@@ -1,3 +1,4 @@
+-- A group that the adapter holds back.
 use Rattle.std.proofs.Common.{◌≡◌, ℕ, suc, List, [], ◌∷◌, length, map, sym, ap, subst, ◌∙◌}
 use Rattle.page_pool.specs.Cells.{flat}
 use Rattle.bio_core.specs.Bios.{Block}
@@ -18,8 +19,6 @@ use Rattle.run_follows.specs.Gate.{Spot}
 use Rattle.run_follows.specs.Sending.{AllGoing, HeldBack, with_fates}
 use Rattle.run_follows.specs.Slots.{Status}
 use Rattle.run_follows.proofs.Sends.{AllWrites, held_all}
-
--- A group that the adapter holds back.
 
 pub held_back : (m : Setting) (n : ℕ) (ops : List Op) (a : Adapter) (ios : List Io) (req : List Bio) (pool pool' : List (List ℕ)) (fates : List Fate) (opening now : State) (status : ℕ → ℕ → Status) (es : List Sent) (spots : List Spot) →
     IsGroup a pool m.size ios req → (first_of req).dir ≡ Write → m.site.faults ≡ a.tamper → Unsent a ios req pool pool' fates → AllGoing m n ops a ios (length opening.logs) status (blocks_in req) spots → now.bytes ≡ flat pool →

@@ -1,3 +1,4 @@
+-- What may move over one device may move over another.
 use Rattle.std.proofs.Common.{◌≡◌, ◌⊎◌, inl, inr, ℕ, zero, suc, ◌+◌, ◌%◌, ◌^◌, Bool, true, false, List, [], ◌∷◌, map, refl, sym, ap, subst, ◌∙◌}
 use Rattle.bio_core.specs.Bios.{Block}
 use Rattle.bio_core.specs.declared.request.Io.{Io}
@@ -17,8 +18,6 @@ use Rattle.run_follows.specs.Gate.{AllPlaced, AreOver, IsAlone, LetsIn, MayMove,
 use Rattle.run_follows.specs.Sending.{AllGoing, carriage_of}
 use Rattle.run_follows.specs.Slots.{Status, parts_of, write_parts}
 use Rattle.run_follows.proofs.Switch.{Told, over}
-
--- What may move over one device may move over another.
 
 module _ (m : Setting) (came : Told) where
   pub same_steps : (i : ℕ) (op : Op) → steps_of m i op ≡ steps_of (over m came) i op

@@ -1,3 +1,4 @@
+-- Moves in pages alone leave the record as it is; what settling finds.
 use Rattle.std.proofs.Common.{◌≡◌, ◌<◌, ℕ, suc, Bool, true, false, List, [], ◌∷◌, ◌++◌, length, get_or, Option, Some, None, refl, sym, ap, ◌∙◌, arith}
 use Rattle.bio_core.specs.declared.fate.Why.{Why}
 use Rattle.integrity_payload.specs.declared.payload.Owner.{Owner}
@@ -14,8 +15,6 @@ use Rattle.run_moves.specs.ScriptMoves.{by_moves, carried_by, lands_in}
 use Rattle.run_follows.specs.Slots.{before_carrying, parts_of, write_parts}
 use Rattle.run_follows.proofs.Runs.{AllQuiet, IsQuiet}
 use Rattle.run_follows.proofs.Moving.{get_left}
-
--- Moves in pages alone leave the record as it is; what settling finds.
 
 settles_silent : (r : Route) (owner : Owner) (fate : Option Why) (frame : List ℕ) → (settled_by r owner fate frame).answer.sent ≡ None
 settles_silent r owner (Some why) frame = refl

@@ -1,3 +1,4 @@
+-- A command of a group over any rig, by what stands on record.
 use Rattle.std.proofs.Common.{◌≡◌, ◌<◌, ◌≤◌, ℕ, zero, suc, ◌-◌, Bool, true, false, ◌&&◌, ◌||◌, eqb, if◌then◌else◌, List, [], ◌∷◌, ◌++◌, length, map, take, drop, replicate, Option, Some, None, refl, sym, ap, subst, ◌∙◌, arith, length-append}
 use Rattle.std.specs.Prelude.{Result, Ok, Err, min, ltb}
 use Rattle.std.proofs.lemmas.Bool.{eq-eqb, eqb-true, false≢true}
@@ -41,8 +42,6 @@ use Rattle.run_follows.specs.Slots.{Carried, Status}
 use Rattle.run_follows.proofs.Over.{going_over}
 use Rattle.run_follows.proofs.Sends.{in_all, out_all, with_here, with_other}
 use Rattle.run_follows.proofs.Switch.{switch}
-
--- A command of a group over any rig, by what stands on record.
 
 abbrev Came : Type 0
 Came = Result (List ℕ) Why

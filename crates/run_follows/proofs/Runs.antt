@@ -1,3 +1,4 @@
+-- A run of moves in the midst of others: where it stands, and what is so once it is done.
 use Rattle.std.proofs.Common.{◌≡◌, suc, List, [], ◌∷◌, ◌++◌, length, Option, Some, None, refl, sym, ap, subst, ◌∙◌, arith, length-append}
 use Rattle.std.proofs.lemmas.List.{append_assoc}
 use Rattle.block_path.specs.Acts.{Act, State, act, conflict, tell}
@@ -11,8 +12,6 @@ use Rattle.block_path.specs.Serial.{Apart}
 use Rattle.run_follows.specs.Following.{sents_so_far}
 use Rattle.run_follows.specs.Slots.{so_far}
 use Rattle.run_follows.proofs.Begins.{none_join}
-
--- A run of moves in the midst of others: where it stands, and what is so once it is done.
 
 abbrev pub Done : Type 0
 Done = List (Option Answer)

@@ -1,3 +1,4 @@
+-- A group is sent, block by block.
 use Rattle.std.proofs.Common.{◌≡◌, ◌⊎◌, inl, inr, ℕ, suc, ◌+◌, Bool, true, false, ◌&&◌, eqb, if◌then◌else◌, List, [], ◌∷◌, ◌++◌, length, map, get_or, Option, Some, None, refl, sym, ap, subst, ◌∙◌, append-nil}
 use Rattle.std.specs.Prelude.{Result, Ok, Err}
 use Rattle.std.proofs.lemmas.Bool.{eq-eqb, eqb-true, false≢true}
@@ -32,8 +33,6 @@ use Rattle.run_follows.specs.Gate.{AreOver, LetsIn, Spot, is_over, number, ops_o
 use Rattle.run_follows.specs.Sending.{AllComeIn, AllGoOut, AllGoing, Carriage, HeldBack, IsElsewhere, IsGoing, NoneBefore, SentIn, SentOut, carriage_of, fate_in, in_fates, is_carried, out_fates, land_all, land_one, with_fate, with_fates, with_status}
 use Rattle.run_follows.specs.Slots.{Carried, Cut, Status, parts_of, write_parts}
 use Rattle.run_follows.proofs.Carrying.{carried}
-
--- A group is sent, block by block.
 
 -- statuses
 

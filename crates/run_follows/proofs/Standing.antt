@@ -1,3 +1,4 @@
+-- The next moves of a block, among all moves of a script.
 use Rattle.std.proofs.Common.{◌≡◌, ◌≤◌, ◌⊎◌, inl, inr, ℕ, suc, ◌+◌, Bool, true, false, List, [], ◌∷◌, ◌++◌, length, refl, sym, ap, subst, ◌∙◌, arith, length-append}
 use Rattle.std.proofs.lemmas.Bool.{false≢true}
 use Rattle.stack_ops.specs.declared.op.Op.{Op}
@@ -13,8 +14,6 @@ use Rattle.run_follows.specs.Following.{AllStand, StandFrom}
 use Rattle.run_follows.specs.Gate.{AllPlaced, AreOver, LetsIn, is_over}
 use Rattle.run_follows.specs.Slots.{Admitted, Carried, Cut, Done as AllDone, Parts, Settled, Stands, Status, Waits, before_carrying, done_by, moves_in, parts_of, so_far, write_parts}
 use Rattle.run_follows.proofs.Runs.{AllClear, Done, Moves, Turn, behind, clear_join, clear_nothing, clear_of_all, clear_over, far_length, in_front, midst_apart}
-
--- The next moves of a block, among all moves of a script.
 
 pub parts_are : (m : Setting) (own : List ℕ) (fate : ℕ) (step : Step) → (by_moves m own fate step).moves ≡ moves_in (parts_of m own fate step)
 parts_are m own fate (Sets at values) = refl

@@ -1,3 +1,4 @@
+-- What was not carried may be told otherwise.
 use Rattle.std.proofs.Common.{◌≡◌, ◌≤◌, ◌⊎◌, inl, inr, ℕ, zero, suc, ◌+◌, ◌%◌, ◌^◌, Bool, true, false, List, [], ◌∷◌, ◌++◌, length, drop, get_or, Some, None, refl, sym, ap, subst, ◌∙◌, arith, length-append}
 use Rattle.std.specs.Prelude.{Result, Ok, Err}
 use Rattle.std.proofs.lemmas.Bool.{false≢true}
@@ -25,8 +26,6 @@ use Rattle.run_follows.specs.Following.{AllStand, Follows, StandFrom}
 use Rattle.run_follows.specs.Sending.{is_carried}
 use Rattle.run_follows.specs.Slots.{Admitted, Carried, Cut, Done as AllDone, Parts, Settled, Stands, Status, Waits, before_carrying, done_by, parts_of, so_far, write_parts}
 use Rattle.run_follows.proofs.Runs.{Done, Moves, far_length}
-
--- What was not carried may be told otherwise.
 
 -- moves in pairs: those that are done do the same
 pub record SameAct (a b : Act Answer) : Type 0 where

@@ -1,3 +1,4 @@
+-- A command of a group over a rig that tells its blocks.
 use Rattle.std.proofs.Common.{◌≡◌, ◌<◌, ◌≤◌, ℕ, zero, suc, Bool, true, false, ◌||◌, if◌then◌else◌, List, [], ◌∷◌, ◌++◌, length, map, take, get_or, None, refl, sym, ap, subst, ◌∙◌, arith, append-nil}
 use Rattle.std.specs.Prelude.{Result, Ok, Err, IfOk, min, ltb}
 use Rattle.std.proofs.lemmas.Bool.{false≢true, or_parts}
@@ -42,8 +43,6 @@ use Rattle.run_follows.specs.Sending.{AllComeIn, AllGoOut, AllGoing, AllSized, F
 use Rattle.run_follows.specs.Slots.{Status}
 use Rattle.run_follows.proofs.Recording.{arrived, came_length, in_fates_are, lands, out_fates_are}
 use Rattle.run_follows.proofs.Sends.{in_all, out_all}
-
--- A command of a group over a rig that tells its blocks.
 
 abbrev head : Fate → List Fate → Fate
 head d [] = d

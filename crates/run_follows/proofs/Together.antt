@@ -1,3 +1,4 @@
+-- Blocks that move on one after another.
 use Rattle.std.proofs.Common.{◌≡◌, ℕ, ◌+◌, false, true, List, [], ◌∷◌, refl, sym, ap, subst, ◌∙◌}
 use Rattle.std.proofs.lemmas.Bool.{false≢true}
 use Rattle.stack_ops.specs.declared.op.Op.{Op}
@@ -16,8 +17,6 @@ use Rattle.run_follows.specs.Slots.{Admitted, Cut, Status, Waits}
 use Rattle.run_follows.proofs.Moving.{admitted, cut}
 use Rattle.run_follows.proofs.Quietly.{cut_quiet, made_quiet}
 use Rattle.run_follows.proofs.Sends.{lets_stay, with_here, with_other}
-
--- Blocks that move on one after another.
 
 becomes : (s : Spot) (next : Status) (old : ℕ → ℕ → Status) → Becomes (number s) (place s) next old (with_status (number s) (place s) next old)
 becomes s next old = record { here = with_here (number s) (place s) (number s) (place s) next old refl refl; elsewhere = λ j l h. with_other (number s) (place s) j l next old h }

@@ -1,3 +1,4 @@
+-- An op that is no request is done whole.
 use Rattle.std.proofs.Common.{◌≡◌, ℕ, zero, suc, ◌+◌, ◌%◌, ◌^◌, List, [], ◌∷◌, ◌++◌, length, map, get_or, None, refl, sym, ap, subst, ◌∙◌, arith, append-nil}
 use Rattle.stack_ops.specs.declared.op.Op.{Op}
 use Rattle.stack_ops.specs.declared.op.Op.TheVariants.{Fetch, FetchPi, Fill, Overwrite, Put, Seal, Show, Wait, Write, WritePi}
@@ -16,8 +17,6 @@ use Rattle.run_follows.specs.Slots.{Done as AllDone, Stands, Status, Waits, part
 use Rattle.run_follows.proofs.Runs.{AllQuiet, Done, IsQuiet, clear_nothing}
 use Rattle.run_follows.proofs.Standing.{OpTurns, gate_clears, op_turn}
 use Rattle.run_follows.proofs.Moving.{follow_quiet}
-
--- An op that is no request is done whole.
 
 abbrev pub IsAtOnce : Step → Type 0
 IsAtOnce (Sets at values) = Unit {0}

@@ -1,3 +1,4 @@
+-- Along the steps of a run: what each cell of the volume's devices holds, by what is past.
 use Rattle.std.proofs.Common.{◌≡◌, ◌<◌, ◌^◌, ℕ, ◌+◌, Bool, true, false, eqb, ◌||◌, not, List, [], ◌∷◌, ◌++◌, length, get_or, set, drop, Option, Some, None, refl, sym, ap, subst, ◌∙◌, arith, length-append}
 use Rattle.std.proofs.lemmas.Bool.{eqb-true, eqb-false, eq-eqb, ne_eqb, and_parts, or_parts, not-true, false≢true, cond-true, cond-false}
 use Rattle.std.proofs.lemmas.List.{length-set, get_or-set_same, get_or-set_other}
@@ -33,8 +34,6 @@ use Rattle.whole_run.proofs.TupleFrames.{Small, data_is, guard_below, tag_below,
 use Rattle.whole_run.specs.ReadsAs.{said_by}
 use Rattle.run_laws.specs.ShownRun.{DevicesAreClean, HasBlock, HasCells, LiesOn, StaysNear}
 use Rattle.run_laws.proofs.Layers.{After, Fetched, IsBare, Outcome, Reading, Sound, Spoilt, checked, goes_out, reads, same_brought, why_ended}
-
--- Along the steps of a run: what each cell of the volume's devices holds, by what is past.
 
 -- a cell after one was set
 pub set_cases : {X : Type 0} (P : X → Type 0) (cells : List X) (w c : ℕ) (x none : X) → (eqb w c ≡ true → (w < length cells) × P x) → (eqb w c ≡ false → P (get_or cells c none)) → P (get_or (set cells w x) c none)

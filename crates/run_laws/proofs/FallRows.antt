@@ -1,3 +1,4 @@
+-- A write whose store call fails half way, worked by hand: until the next accepted write its block is lost.
 use Rattle.std.proofs.Common.{◌≡◌, ◌<◌, ◌+◌, ℕ, zero, suc, Bool, true, false, eqb, if◌then◌else◌, List, [], ◌∷◌, ◌++◌, drop, map, Option, Some, None, refl, sym, arith, length, get_or}
 use Rattle.std.specs.Prelude.{replicate}
 use Rattle.std.specs.List.{All}
@@ -27,8 +28,6 @@ use Rattle.run_laws.specs.StoreFaults.{IsFallingRun, falling_past, is_lost, may_
 use Rattle.run_laws.proofs.FallingOps.{reads_or_fails}
 use Rattle.run_laws.proofs.FallingWrites.{app_write_fails, own_write_fails}
 use Rattle.run_laws.proofs.ShownRows.{one_list, two_lists}
-
--- A write whose store call fails half way, worked by hand: until the next accepted write its block is lost.
 
 abbrev m : Setting
 m = faulty []

@@ -1,3 +1,4 @@
+-- A walk in which store calls fail: what is stored for a block that isn't lost.
 use Rattle.std.proofs.Common.{◌≡◌, ◌<◌, ◌^◌, ℕ, suc, ◌+◌, Bool, true, false, eqb, if◌then◌else◌, List, [], ◌∷◌, ◌++◌, length, get_or, set, drop, Option, Some, None, refl, sym, ap, subst, ◌∙◌, ◌⊎◌, inl, inr, arith, length-append}
 use Rattle.std.specs.Prelude.{Result, Ok, Err}
 use Rattle.std.proofs.lemmas.Bool.{cond-false, cond-true, eqb-false, eqb-true, false≢true}
@@ -38,8 +39,6 @@ use Rattle.run_laws.specs.StoreFaults.{IsFallingRun, IsServed, LandsAs, events_w
 use Rattle.run_laws.proofs.Framed.{retag}
 use Rattle.run_laws.proofs.Passing.{Kept, Passes, retagged}
 use Rattle.run_laws.proofs.QuietWays.{Goes, comes_in, out_bare, out_tuple, out_with_tuple, sent_bare, sent_on}
-
--- A walk in which store calls fail: what is stored for a block that isn't lost.
 
 -- with a device whose store calls fail, a block fails at the adapter, or for the medium
 failing_rule : (P : WayOut → Type 0) (r : Route) (came : Result (List ℕ) Check) → ((c : Check) → P (Fails (Adapter c))) → P (Refuses Medium) → P (from_adapter failing r came)

@@ -1,3 +1,4 @@
+-- From blocks whose store calls fail to ops: what a reply lists, and what a read leaves in the pages.
 use Rattle.std.proofs.Common.{◌≡◌, ◌<◌, ◌≤◌, ℕ, zero, suc, ◌+◌, ◌-◌, Bool, true, false, if◌then◌else◌, List, [], ◌∷◌, ◌++◌, length, map, get_or, take, drop, Option, Some, None, refl, sym, ap, subst, ◌∙◌, inl, inr, arith}
 use Rattle.std.proofs.lemmas.Bool.{false≢true}
 use Rattle.std.proofs.lemmas.List.{append_assoc, append-nil, length-map, map-append, take-take, take_all}
@@ -27,8 +28,6 @@ use Rattle.run_laws.specs.StoreFaults.{IsFallingRun, IsServed, LandsAs, events_w
 use Rattle.run_laws.proofs.Falling.{each_is_served}
 use Rattle.whole_run.proofs.InSteps.{acts_stepped, block_says, each_split, later_blocks, read_reply, read_steps, same_pages, stepped, stepped_append, steps_split}
 use Rattle.run_laws.proofs.Parts.{block_below, block_distinct, blocks_apart, landed, lists_of}
-
--- From blocks whose store calls fail to ops: what a reply lists, and what a read leaves in the pages.
 
 module _ (m : Setting) (falls : Block → Option (List ℕ)) where
   abbrev a : Step → Act Answer

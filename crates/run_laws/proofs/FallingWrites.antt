@@ -1,3 +1,4 @@
+-- A block of a write that the plain map accepts, in the op's reply.
 use Rattle.std.proofs.Common.{◌≡◌, ◌<◌, ℕ, suc, false, List, ◌∷◌, ◌++◌, length, drop, Option, Some, None, refl, ap, ◌∙◌, inl, inr, arith}
 use Rattle.std.specs.Prelude.{◌⊎◌}
 use Rattle.page_pool.specs.declared.segs.Seg.{Seg}
@@ -21,8 +22,6 @@ use Rattle.run_laws.specs.StoreFaults.{IsFallingRun, may_fall, or_fallen}
 use Rattle.run_laws.proofs.FallingOps.{served, why_is}
 use Rattle.whole_run.proofs.InSteps.{later_blocks, stepped}
 use Rattle.run_laws.proofs.Parts.{blocks_apart, drop_within, share_within}
-
--- A block of a write that the plain map accepts, in the op's reply.
 
 either : (listed : Option Why) (why : Option Why) → listed ≡ why → (why ≡ Some Medium) ⊎ (why ≡ None) → (listed ≡ Some Medium) ⊎ (listed ≡ None)
 either listed why e h = elim h [ inl medium ↦ inl (e ∙ medium) | inr none ↦ inr (e ∙ none) ]

@@ -1,3 +1,4 @@
+-- What passes a check of guard, application tag and reference tag in type 1, and what doesn't.
 use Rattle.std.proofs.Common.{◌≡◌, ℕ, Bool, true, false, ◌&&◌, eqb, not, if◌then◌else◌, List, Option, Some, None, refl, sym, ◌∙◌}
 use Rattle.std.specs.Prelude.{bit_and, Result, Ok, Err}
 use Rattle.std.specs.Int.Bits.{and_zero_r}
@@ -10,8 +11,6 @@ use Rattle.pi_tuple.specs.declared.checks.Check.TheVariants.{AppTag, Guard, RefT
 use Rattle.integrity_payload.specs.Payloads.{all_asked}
 use Rattle.target_answer.specs.Passing.{unless}
 use Rattle.whole_run.specs.Detectable.{bears, if_passed}
-
--- What passes a check of guard, application tag and reference tag in type 1, and what doesn't.
 
 pub record IsFound (o : Option Check) : Type 0 where
   pub check : Check

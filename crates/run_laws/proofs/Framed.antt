@@ -1,3 +1,4 @@
+-- Data and tuple of a frame, after its guard or its tag was replaced, and after a crossing.
 use Rattle.std.proofs.Common.{◌≡◌, ◌<◌, ℕ, ◌+◌, ◌^◌, Bool, true, false, ◌&&◌, eqb, if◌then◌else◌, List, [], ◌∷◌, ◌++◌, length, take, drop, refl, sym, ap, ◌∙◌, arith, length-append}
 use Rattle.std.specs.Prelude.{bit_xor}
 use Rattle.std.specs.Int.{w16, w32, from_be_bytes, to_be_bytes}
@@ -21,8 +22,6 @@ use Rattle.block_path.specs.Routes.{with_guard}
 use Rattle.block_path.proofs.Sizes.{tuple_length}
 use Rattle.whole_run.specs.FirstLayer.{is_flip}
 use Rattle.whole_run.proofs.TupleFrames.{tag_below, three as same_tuple}
-
--- Data and tuple of a frame, after its guard or its tag was replaced, and after a crossing.
 
 -- the tuple's tag, from one address to another
 abbrev pub retag : PiType → (from to : ℕ) → ℕ → ℕ

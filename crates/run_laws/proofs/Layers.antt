@@ -1,3 +1,4 @@
+-- One block on its way under faults that can be shown.
 use Rattle.std.proofs.Common.{◌≡◌, ◌≤◌, ℕ, suc, ◌+◌, Bool, true, false, eqb, ◌&&◌, ◌||◌, not, if◌then◌else◌, List, length, Option, Some, None, refl, sym, ap, subst, ◌∙◌, arith}
 use Rattle.std.specs.Prelude.{ℤ, pos, negsuc, ◌+ℤ◌, nat_abs, Result}
 use Rattle.std.proofs.lemmas.Bool.{eqb-true, eqb-false, eq-eqb, and_parts, or_parts, not-true, not-false, false≢true, false_from_ne_true, and_left, and_right}
@@ -33,8 +34,6 @@ use Rattle.whole_run.specs.ReadsAs.{said_by}
 use Rattle.run_laws.specs.ShownRun.{StaysNear}
 use Rattle.run_laws.proofs.Found.{Bears, IsFound, asked_on, bears_both, expected, found_something, from_both, is_found, passed, passes_if, unless_rule, unmasked}
 use Rattle.run_laws.proofs.Framed.{IsUnderTuple, guarded, mapped_body, mapped_length, mapped_tuple, not_altered}
-
--- One block on its way under faults that can be shown.
 
 -- a setting with type 1, tuples passed, protect field 001b and a target of its own faults in place of its own
 abbrev pub checked : Setting → Setting

@@ -1,3 +1,4 @@
+-- The cells of a request's blocks are parts of its lists', and share none.
 use Rattle.std.proofs.Common.{◌≡◌, ◌<◌, ◌≤◌, ℕ, zero, suc, ◌+◌, ◌*◌, Bool, true, false, ◌||◌, eqb, List, [], ◌∷◌, ◌++◌, length, set, take, drop, map, refl, sym, ap, ◌∙◌, arith, length-append}
 use Rattle.std.specs.List.{take-map, drop-map}
 use Rattle.std.proofs.lemmas.Bool.{or_parts, or_from, false≢true, false_from_ne_true, or_from as neither, or_right}
@@ -13,8 +14,6 @@ use Rattle.whole_run.specs.Steps.{body_of, tuple_of}
 use Rattle.whole_run.specs.ReadsAs.{landing}
 use Rattle.whole_run.proofs.CalmRuns.{room as later}
 use Rattle.whole_run.proofs.TupleFrames.{below_take, below_drop, below_append}
-
--- The cells of a request's blocks are parts of its lists', and share none.
 
 -- each of these is one of those
 abbrev pub AllIn : List ℕ → List ℕ → Type 0

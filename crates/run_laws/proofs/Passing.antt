@@ -1,3 +1,4 @@
+-- Tuples that every check of a block passes, escapes among them, and what is stored under them.
 use Rattle.std.proofs.Common.{◌≡◌, ℕ, ◌+◌, Bool, true, false, eqb, ◌&&◌, ◌||◌, not, if◌then◌else◌, List, [], ◌∷◌, length, Option, None, refl, sym, ap, ◌∙◌, ◌⊎◌, inl, inr}
 use Rattle.std.specs.Prelude.{bit_and}
 use Rattle.std.proofs.lemmas.Bool.{eq-eqb, eqb-true, false≢true}
@@ -20,8 +21,6 @@ use Rattle.whole_run.specs.Settings.{Setting}
 use Rattle.whole_run.proofs.CalmWays.{quiet}
 use Rattle.whole_run.proofs.TupleFrames.{finds_none, guard_below}
 use Rattle.run_laws.proofs.Framed.{guarded, retag}
-
--- Tuples that every check of a block passes, escapes among them, and what is stored under them.
 
 abbrev pub unguarded : Tuple → (guard : ℕ) → Tuple
 unguarded t guard = record { guard = guard; app = t.app; rtag = t.rtag }

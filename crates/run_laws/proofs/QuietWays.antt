@@ -1,3 +1,4 @@
+-- One block on its way where nothing alters it, with any tuple: in every mode, for every type, and for escapes too.
 use Rattle.std.proofs.Common.{◌≡◌, ◌<◌, ◌≤◌, ◌^◌, ℕ, ◌+◌, Bool, true, false, eqb, ◌&&◌, not, if◌then◌else◌, List, [], length, Option, Some, None, refl, sym, ap, subst, ◌∙◌, inl, inr, arith, length-append}
 use Rattle.std.specs.Prelude.{bit_and, Result, Ok, Err}
 use Rattle.std.specs.Int.Bits.{and_zero_r}
@@ -28,8 +29,6 @@ use Rattle.whole_run.proofs.CalmWays.{altered_none, quiet, unmasked, wire_same}
 use Rattle.whole_run.proofs.TupleFrames.{Small, data_is, guard_below, tag_below, tuple_is}
 use Rattle.run_laws.proofs.Framed.{mapped_body, mapped_length, mapped_tuple, retag}
 use Rattle.run_laws.proofs.Passing.{Converted, Kept, Passes, asks_all, conversion, found_none, host_same, never_zero, passes, retagged, same_escape, still}
-
--- One block on its way where nothing alters it, with any tuple: in every mode, for every type, and for escapes too.
 
 -- either it ends, by what is found, or it goes on
 found_rule : {X : Type 0} (P : X → Type 0) (k : Result (List ℕ) Check → X) (o : Option Check) (frame : List ℕ) → ((c : Check) → o ≡ Some c → P (k (Err c))) → (o ≡ None → P (k (Ok frame))) → P (k (unless o frame))

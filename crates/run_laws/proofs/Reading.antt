@@ -1,3 +1,4 @@
+-- From blocks to ops: what a reply lists, and what a read leaves in the pages.
 use Rattle.std.proofs.Common.{◌≡◌, ◌<◌, ◌≤◌, ℕ, zero, suc, ◌+◌, ◌-◌, ◌*◌, ◌%◌, ◌^◌, true, List, [], ◌∷◌, ◌++◌, length, map, get_or, take, Option, Some, None, refl, sym, ap, subst, ◌∙◌, arith}
 use Rattle.std.proofs.lemmas.Bool.{false≢true}
 use Rattle.std.proofs.lemmas.List.{append_assoc, append-nil, take-take, take_all}
@@ -30,8 +31,6 @@ use Rattle.run_laws.proofs.Along.{AllFit, EndsAs, Fits, reads_after}
 use Rattle.run_laws.proofs.Layers.{checked}
 use Rattle.run_laws.proofs.Parts.{block_below, block_distinct, block_fits, blocks_apart, landed, lists_of}
 use Rattle.whole_run.proofs.InSteps.{acts_stepped, each_length, each_split, is_listed, later_blocks, read_reply, read_steps, same_pages, stepped, stepped_append, steps_split, tells_at}
-
--- From blocks to ops: what a reply lists, and what a read leaves in the pages.
 
 module _ (m : Setting) where
   -- the cells after these steps

@@ -1,3 +1,4 @@
+-- A run with faults on the medium, under a shift and by an overwrite, worked by hand; and that it meets all that detection asks for.
 use Rattle.std.proofs.Common.{◌≡◌, ◌<◌, ◌≤◌, ℕ, zero, suc, ◌+◌, ◌*◌, false, nat_eq, List, [], ◌∷◌, ◌++◌, length, get_or, map, refl, sym, ap, subst, ◌∙◌, arith}
 use Rattle.std.specs.Prelude.{pos, ◌+ℤ◌, nat_abs}
 use Rattle.std.specs.List.{All, AllByRecursion, IsDistinct}
@@ -30,8 +31,6 @@ use Rattle.whole_run.specs.Settings.{Setting}
 use Rattle.whole_run.specs.UnderMap.{IsClean}
 use Rattle.whole_run.proofs.ScriptRows.{faulty, flip, opening, seg, shift}
 use Rattle.run_laws.specs.ShownRun.{AllAreFetched, AllStayNear, DevicesAreClean, HasBlock, HasCells, IsShownRun, LiesOn}
-
--- A run with faults on the medium, under a shift and by an overwrite, worked by hand; and that it meets all that detection asks for.
 
 abbrev faults : List FaultLine
 faults = flip 1 0 TargetToMedium 5 0x80 ++ shift 3 MediumToTarget (pos 1)

@@ -1,3 +1,4 @@
+-- What a target stores and sends has its size.
 use Rattle.std.proofs.Common.{◌≡◌, ◌<◌, ◌≤◌, ◌+◌, ℕ, Bool, true, false, ◌&&◌, eqb, if◌then◌else◌, List, [], length, take, get_or, Option, Some, None, refl, sym, subst, ◌∙◌, arith, length-append}
 use Rattle.std.specs.Prelude.{not, IfOk, Result, Ok, Err}
 use Rattle.std.proofs.lemmas.Bool.{eq-eqb, eqb-true}
@@ -23,8 +24,6 @@ use Rattle.block_path.proofs.Sizes.{altered_length, unless_length}
 use Rattle.whole_run.specs.Settings.{Block, Setting, route}
 use Rattle.run_moves.specs.BoundRun.{Suits}
 use Rattle.run_moves.specs.Suited.{IsAtTarget, keeps_size}
-
--- What a target stores and sends has its size.
 
 crossed_length : (faults : List FaultLine) (label : Option Label) (at : Crossing) (frame : List ℕ) → length (crossed faults label at frame) ≡ length frame
 crossed_length faults None at frame = refl

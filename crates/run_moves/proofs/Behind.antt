@@ -1,3 +1,4 @@
+-- What lies behind the first n bytes is not seen.
 use Rattle.std.proofs.Common.{◌≡◌, ◌<◌, ◌≤◌, ℕ, zero, suc, false, nat_eq, List, [], ◌∷◌, take, get_or, set, None, refl, sym, ap, ◌∙◌, arith}
 use Rattle.std.specs.List.{All, AllByRecursion, IsDistinct}
 use Rattle.std.proofs.lemmas.List.Elements.{All-cons, All-nil}
@@ -8,8 +9,6 @@ use Rattle.block_path.specs.Moves.{AreCells, hidden}
 use Rattle.block_path.proofs.Acts.{same_cells}
 use Rattle.block_path.proofs.Cells.{AllBelow, Distinct}
 use Rattle.run_moves.proofs.Turns.{AllFrom}
-
--- What lies behind the first n bytes is not seen.
 
 take_set : {X : Type 0} (n : ℕ) (xs : List X) (i : ℕ) (v : X) → take n (set xs i v) ≡ set (take n xs) i v
 take_set zero xs i v = refl

@@ -1,3 +1,4 @@
+-- No two blocks of one request have moves that conflict.
 use Rattle.std.proofs.Common.{◌≡◌, ◌<◌, ◌≤◌, ℕ, zero, suc, ◌+◌, ◌*◌, Bool, true, false, ◌||◌, eqb, List, [], ◌∷◌, ◌++◌, length, drop, get_or, refl, sym, ap, ◌∙◌, arith}
 use Rattle.std.specs.Prelude.{ℤ, pos, negsuc, ◌+ℤ◌}
 use Rattle.std.proofs.lemmas.Bool.{ne_eqb, or_from}
@@ -27,8 +28,6 @@ use Rattle.run_moves.proofs.Inside.{landing_block, stored_home}
 use Rattle.run_moves.proofs.Meeting.{clear}
 use Rattle.run_moves.proofs.Reach.{AreClear, Reach, block_inside, block_reach, in_all, none_meet, read_reach, where_on, write_reach}
 use Rattle.run_moves.proofs.Turns.{AllFrom, from_less, share_bound, share_bound_back, turn_below, turn_from}
-
--- No two blocks of one request have moves that conflict.
 
 one_apart : (x y : ℕ) → (x ≡ y → ⊥) → share_a_cell (x ∷ []) (y ∷ []) ≡ false
 one_apart x y h = or_from (eqb x y || false) false (or_from (eqb x y) false (ne_eqb x y h) refl) refl

@@ -1,3 +1,4 @@
+-- The moves of one block do what its act does to what is seen.
 use Rattle.std.proofs.Common.{◌≡◌, ◌<◌, ◌≤◌, ℕ, zero, suc, ◌+◌, Bool, true, false, if◌then◌else◌, List, [], ◌∷◌, ◌++◌, length, take, drop, get_or, set, refl, sym, ap, subst, ◌∙◌, arith, length-append}
 use Rattle.std.specs.Prelude.{IfOk, Result, Ok, Err}
 use Rattle.std.proofs.lemmas.List.{drop_at, take_at}
@@ -29,8 +30,6 @@ use Rattle.run_moves.specs.BoundRun.{Suits}
 use Rattle.run_moves.specs.ScriptMoves.{by_moves, carried_by, lands_in, read_moves, write_moves, write_pi_moves}
 use Rattle.run_moves.proofs.Behind.{act_hidden, all_from, are_cells, below_more}
 use Rattle.run_moves.proofs.Turns.{AllFrom, share_bound}
-
--- The moves of one block do what its act does to what is seen.
 
 -- a stored block that is set
 pub set_fine : (fine : ℕ → List ℕ → Bool) (cell : ℕ) (x : List ℕ) (blocks : List (List ℕ)) → fine cell x ≡ true → ((c : ℕ) → fine c (get_or blocks c []) ≡ true) → (c : ℕ) → fine c (get_or (set blocks cell x) c []) ≡ true

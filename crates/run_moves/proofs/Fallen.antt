@@ -1,3 +1,4 @@
+-- Moves of blocks whose store calls fail, in any order.
 use Rattle.std.proofs.Common.{◌≡◌, ◌≤◌, ℕ, suc, ◌+◌, Bool, true, false, List, [], ◌∷◌, ◌++◌, length, map, drop, get_or, Option, Some, None, refl, sym, ap, ◌∙◌, arith}
 use Rattle.std.specs.Prelude.{IfSome, Result, Ok, Err}
 use Rattle.std.proofs.lemmas.List.{map-append}
@@ -28,8 +29,6 @@ use Rattle.run_moves.specs.FallingMoves.{AreTheFallingWalk, LeavesFine, falling_
 use Rattle.run_moves.specs.ScriptMoves.{carried_by, lands_in, write_moves, ByMoves, by_moves, fates_of, joins, own_at, room_of}
 use Rattle.run_moves.proofs.Does.{Does, FitsHost, IsOwn, IsReady, IsShaped, does_step, set_fine}
 use Rattle.run_moves.proofs.Ordered.{AllDo, AllReady, moves_are_blocks, op_ready, wholes}
-
--- Moves of blocks whose store calls fail, in any order.
 
 -- A failing store call changes nothing but what lies in the cell.
 left_rule : (P : Effect Answer → Type 0) (why : Option Why) (left : List ℕ) (e : Effect Answer) → P e → P (record { written = record e.written { blocks = left ∷ [] }; answer = e.answer }) → P (left_by why left e)

@@ -1,3 +1,4 @@
+-- A write whose store call fails half way, and a `put`, by their moves, the `put` done first.
 use Rattle.std.proofs.Common.{◌≡◌, ◌<◌, ℕ, zero, suc, Bool, true, false, ◌&&◌, eqb, if◌then◌else◌, List, [], ◌∷◌, ◌++◌, length, drop, get_or, Option, Some, None, refl, sym, subst, arith}
 use Rattle.std.specs.Prelude.{IfSome, replicate}
 use Rattle.std.proofs.lemmas.Bool.{eq-eqb, eqb-true}
@@ -23,8 +24,6 @@ use Rattle.run_moves.specs.FallingMoves.{LeavesFine, falling_blocks, falling_mov
 use Rattle.run_moves.specs.ScriptMoves.{joins}
 use Rattle.run_moves.specs.Suited.{keeps_size}
 use Rattle.run_moves.proofs.AtTarget.{suits_target}
-
--- A write whose store call fails half way, and a `put`, by their moves, the `put` done first.
 
 abbrev m : Setting
 m = faulty []

@@ -1,3 +1,4 @@
+-- Two writes of the same bytes to other blocks, and one of two blocks, which meet what the gate's laws ask for.
 use Rattle.std.proofs.Common.{◌≡◌, ◌<◌, ◌≤◌, ℕ, zero, suc, ◌+◌, Bool, true, false, List, [], ◌∷◌, ◌++◌, length, get_or, Option, Some, None, refl, sym, ap, ◌∙◌, arith, inl, inr}
 use Rattle.std.specs.Prelude.{pos, ◌+ℤ◌}
 use Rattle.std.specs.List.{Contains}
@@ -21,8 +22,6 @@ use Rattle.run_laws.proofs.ShownRows.{one_list}
 use Rattle.run_moves.specs.OpsApart.{IsPlaced, IsSpread, OneCellEach, OpsConflict}
 use Rattle.run_moves.specs.ScriptMoves.{ByMoves, blocks_of, fates_of, room_of}
 use Rattle.run_moves.proofs.BlocksApart.{still_apart}
-
--- Two writes of the same bytes to other blocks, and one of two blocks, which meet what the gate's laws ask for.
 
 -- blocks of four bytes of data
 abbrev m : Setting

@@ -1,3 +1,4 @@
+-- The moves of an op that isn't alone lie in what the op touches, its private pages and its cells of what is found.
 use Rattle.std.proofs.Common.{◌≡◌, ◌<◌, ◌≤◌, ◌%◌, ◌/◌, ◌^◌, ℕ, zero, suc, ◌+◌, ◌*◌, Bool, true, false, not, eqb, if◌then◌else◌, List, [], ◌∷◌, ◌++◌, map, drop, refl, sym, ap, ◌∙◌, arith}
 use Rattle.std.specs.Prelude.{pos, negsuc, ℤ, nat_abs}
 use Rattle.std.proofs.lemmas.Bool.{eqb-true, false≢true, not-false, or_parts}
@@ -22,8 +23,6 @@ use Rattle.run_moves.specs.OpsApart.{IsPlaced, is_shifted}
 use Rattle.run_moves.specs.ScriptMoves.{all_moves, blocks_from, blocks_of, by_moves, fates_of, lands_in, own_at, room_for, room_of}
 use Rattle.run_moves.proofs.Reach.{AllInside, Covers, Reach, Within, block_inside, block_reach, covered, in_both, in_joined, in_left, in_right, inside_both, read_reach, where_on, write_reach}
 use Rattle.run_moves.proofs.Turns.{in_map, in_one, in_turn_at, in_turn_part}
-
--- The moves of an op that isn't alone lie in what the op touches, its private pages and its cells of what is found.
 
 -- a request that no shift names
 pub still_by : (z : ℤ) → nat_abs z ≡ 0 → z ≡ pos 0

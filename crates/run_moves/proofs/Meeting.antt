@@ -1,3 +1,4 @@
+-- Two ops that don't conflict have no moves that do.
 use Rattle.std.proofs.Common.{◌≡◌, ◌≤◌, ℕ, ◌+◌, false, ◌||◌, List, ◌++◌, map, subst, arith}
 use Rattle.std.proofs.lemmas.Bool.{or_from}
 use Rattle.page_pool.specs.Cells.{share_a_cell}
@@ -18,8 +19,6 @@ use Rattle.run_moves.specs.ScriptMoves.{all_moves, blocks_of, fates_of, room_of}
 use Rattle.run_moves.proofs.Inside.{op_inside, op_reach, with_own}
 use Rattle.run_moves.proofs.Reach.{none_meet}
 use Rattle.run_moves.proofs.Turns.{AllFrom, from_less, homes_apart, share_bound, share_bound_back, turn_below, turn_from}
-
--- Two ops that don't conflict have no moves that do.
 
 pub clear : (f g : Cells) → share_a_cell f.reads g.writes ≡ false → share_a_cell g.reads f.writes ≡ false → share_a_cell f.writes g.writes ≡ false → cells_clash f g ≡ false
 clear f g a b c = or_from (share_a_cell f.reads g.writes) (share_a_cell g.reads f.writes || share_a_cell f.writes g.writes) a (or_from (share_a_cell g.reads f.writes) (share_a_cell f.writes g.writes) b c)

@@ -1,3 +1,4 @@
+-- A write and a `put` by their moves, the `put` done first.
 use Rattle.std.proofs.Common.{◌<◌, ℕ, zero, suc, List, [], ◌∷◌, length, get_or, None, refl, arith}
 use Rattle.std.specs.Prelude.{replicate}
 use Rattle.std.proofs.lemmas.Bool.{eq-eqb}
@@ -17,8 +18,6 @@ use Rattle.run_moves.specs.BoundRun.{IsBoundRun, Suits}
 use Rattle.run_moves.specs.ScriptMoves.{script_moves}
 use Rattle.run_moves.specs.Suited.{keeps_size}
 use Rattle.run_moves.proofs.AtTarget.{suits_target}
-
--- A write and a `put` by their moves, the `put` done first.
 
 abbrev m : Setting
 m = faulty (flip 1 0 TargetToMedium 5 0x80)

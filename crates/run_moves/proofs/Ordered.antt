@@ -1,3 +1,4 @@
+-- From blocks to ops, and to a script by moves in any order.
 use Rattle.std.proofs.Common.{◌≡◌, ◌<◌, ◌≤◌, ◌%◌, ◌/◌, ◌^◌, ℕ, zero, suc, ◌+◌, ◌*◌, Bool, true, if◌then◌else◌, List, [], ◌∷◌, ◌++◌, length, map, drop, refl, sym, ap, subst, ◌∙◌, arith}
 use Rattle.range_gate.specs.Cells.{cells_of}
 use Rattle.integrity_payload.specs.declared.payload.Owner.TheVariants.{Block as OfBlock, App as OfApp}
@@ -22,8 +23,6 @@ use Rattle.run_moves.specs.ScriptMoves.{ByMoves, all_moves, answers_from, blocks
 use Rattle.run_moves.proofs.Does.{Does, IsOwn, IsReady, IsShaped, does_step, keeps}
 use Rattle.run_moves.proofs.Turns.{from_less, turn_below, turn_distinct, turn_from, turn_length}
 use Rattle.run_moves.proofs.Inside.{room_enough}
-
--- From blocks to ops, and to a script by moves in any order.
 
 abbrev pub wholes : List ByMoves → List (Act Answer)
 wholes [] = []

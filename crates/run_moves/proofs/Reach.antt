@@ -1,3 +1,4 @@
+-- What the moves of a block reach, and that they lie in what their op reaches.
 use Rattle.std.proofs.Common.{◌≡◌, ℕ, Bool, true, false, ◌||◌, eqb, List, [], ◌∷◌, ◌++◌, drop, refl}
 use Rattle.std.proofs.lemmas.Bool.{false≢true, or_from, or_right}
 use Rattle.page_pool.specs.Cells.{is_in, share_a_cell}
@@ -12,8 +13,6 @@ use Rattle.whole_run.specs.ScriptWalk.{source_of}
 use Rattle.run_laws.proofs.Parts.{AllIn, drop_within, share_within, none_within}
 use Rattle.run_moves.specs.OpsApart.{NoneMeet}
 use Rattle.run_moves.specs.ScriptMoves.{by_moves, lands_in, write_moves}
-
--- What the moves of a block reach, and that they lie in what their op reaches.
 
 pub either_in : (c q r : Bool) → (q ≡ true → r ≡ true) → (c || q) ≡ true → (c || r) ≡ true
 either_in true q r h e = refl

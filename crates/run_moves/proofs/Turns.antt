@@ -1,11 +1,10 @@
+-- Cells in turn, below and from a bound on; the cells of virtual blocks.
 use Rattle.std.proofs.Common.{◌≡◌, ◌<◌, ◌≤◌, ℕ, zero, suc, ◌+◌, ◌-◌, Bool, true, false, ◌||◌, eqb, List, [], ◌∷◌, length, map, refl, ap, arith}
 use Rattle.std.proofs.lemmas.Bool.{eq-eqb, eqb-false, eqb-true, false≢true, ne_eqb, or_from, or_parts}
 use Rattle.page_pool.specs.Cells.{is_in, share_a_cell}
 use Rattle.range_gate.specs.Cells.{in_turn}
 use Rattle.block_path.proofs.Cells.{AllBelow, Distinct}
 use Rattle.run_laws.proofs.Parts.{AllIn, in_tail}
-
--- Cells in turn, below and from a bound on; the cells of virtual blocks.
 
 -- each is this one or behind it
 abbrev pub AllFrom : ℕ → List ℕ → Type 0

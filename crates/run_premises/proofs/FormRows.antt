@@ -1,3 +1,4 @@
+-- Faults that have the form, and faults on each side of its limits, worked by hand.
 use Rattle.std.proofs.Common.{◌≡◌, ◌<◌, ℕ, zero, suc, true, false, List, [], ◌∷◌, ◌++◌, get_or, refl, arith}
 use Rattle.std.specs.Prelude.{pos, All, replicate, drop}
 use Rattle.std.proofs.lemmas.List.Elements.{All-cons, All-nil}
@@ -22,8 +23,6 @@ use Rattle.whole_run.specs.UnderMap.{IsClean, address_of, home}
 use Rattle.whole_run.proofs.ScriptRows.{calm_run, opening, seg, with_faults}
 use Rattle.run_premises.specs.Forms.{escapes_none, shows_by_form}
 use Rattle.run_premises.specs.FormedRun.{HasFormedFaults, IsOfBytes}
-
--- Faults that have the form, and faults on each side of its limits, worked by hand.
 
 abbrev line : (op : ℕ) → Crossing → (off : ℕ) → List ℕ → FaultLine
 line op at off bytes = record { op = op; k = 0; at = at; kind = Flip off bytes }

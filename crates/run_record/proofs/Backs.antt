@@ -1,3 +1,4 @@
+-- A walk over what stands on record backs its replies.
 use Rattle.std.proofs.Common.{◌≡◌, ◌+◌, ◌%◌, ◌^◌, ℕ, zero, suc, Bool, List, [], ◌∷◌, ◌++◌, map, get_or, Option, Some, None, refl, sym, ap, subst, ◌∙◌, arith, inl, inr}
 use Rattle.std.specs.Prelude.{◌⊎◌, IfSome}
 use Rattle.std.specs.List.{AllByRecursion as Each}
@@ -22,8 +23,6 @@ use Rattle.run_record.specs.TakenWalk.{taken_act, taken_acts, taken_from, taken_
 use Rattle.run_record.specs.ToldRun.{IsRecordOf, told}
 use Rattle.run_record.proofs.Labelled.{Filed, Proper, each_first, each_other, filed_in, script_lined, tells_append}
 use Rattle.run_record.proofs.Mirrors.{Fine, Mirror, SaysOf, mirrored}
-
--- A walk over what stands on record backs its replies.
 
 -- answers side by side
 record Twin (m : Setting) (es : List Sent) (x t : Answer) : Type 0 where

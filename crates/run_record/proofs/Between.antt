@@ -1,3 +1,4 @@
+-- What is on record in another order has the same reads between two writes.
 use Rattle.std.proofs.Common.{◌≡◌, ℕ, Bool, true, false, ◌&&◌, eqb, List, [], ◌∷◌, ◌++◌, refl, sym, ap, subst, ◌∙◌}
 use Rattle.std.specs.Prelude.{not, Result, Ok, Err}
 use Rattle.bio_core.specs.declared.fate.Why.{Why}
@@ -10,8 +11,6 @@ use Rattle.whole_run.specs.Settings.{Setting}
 use Rattle.run_record.specs.CarriedRun.{IsCarried, reads_at}
 use Rattle.run_record.specs.Records.{Mixed, is_out, put_frame, sents}
 use Rattle.run_record.specs.ToldRun.{IsRecordOf}
-
--- What is on record in another order has the same reads between two writes.
 
 abbrev takes : Site → (c after : ℕ) → Sent → Bool
 takes s c after e = not (is_out e.dir) && (eqb (s.cell e.dev e.lba) c && eqb e.after after)

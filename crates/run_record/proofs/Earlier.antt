@@ -1,3 +1,4 @@
+-- Before a block of a read its place has as many frames as earlier ops have accepted blocks there.
 use Rattle.std.proofs.Common.{◌≡◌, ◌<◌, ◌+◌, ◌-◌, ◌%◌, ◌^◌, ℕ, zero, suc, Bool, true, false, ◌&&◌, eqb, List, [], ◌∷◌, ◌++◌, length, map, drop, get_or, set, take, Option, Some, None, refl, sym, ap, subst, ◌∙◌, arith}
 use Rattle.std.specs.Prelude.{IfSome, cond, is_none}
 use Rattle.std.specs.List.{AllByRecursion as Each, count_by}
@@ -28,8 +29,6 @@ use Rattle.run_record.specs.EarlierWrites.{HasLog, IsCounted, LogsAreEmpty, Stan
 use Rattle.run_record.specs.Records.{entry_for}
 use Rattle.run_record.specs.TakenWalk.{carried_of, frame_in, taken_act, taken_acts, taken_from, taken_in, taken_out}
 use Rattle.run_record.proofs.Labelled.{each_both, each_first, each_other, tells_append}
-
--- Before a block of a read its place has as many frames as earlier ops have accepted blocks there.
 
 one_longer : (logs : List (List (List ℕ))) (i c : ℕ) (f : List ℕ) → i < length logs → (same : Bool) → eqb i c ≡ same → length (get_or (set logs i (get_or logs i [] ++ (f ∷ []))) c []) ≡ cond same 1 0 + length (get_or logs c [])
 one_longer logs i c f l true e =

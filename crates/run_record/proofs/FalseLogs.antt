@@ -1,3 +1,4 @@
+-- False logs and replies, each by the number of the sentence that refuses it.
 use Rattle.std.proofs.Common.{◌≡◌, ℕ, List, [], ◌∷◌, get_or, Option, Some, None, refl, ap, ◌∙◌, arith, inl, inr}
 use Rattle.std.specs.Prelude.{drop, replicate}
 use Rattle.pi_guard.specs.Guards.{crc, ip}
@@ -24,8 +25,6 @@ use Rattle.whole_run.proofs.ScriptRows.{faulty, flip, formatted, opening, seg}
 use Rattle.run_record.specs.BackedRun.{Backed, host_finds}
 use Rattle.run_record.specs.TakenWalk.{frame_in}
 use Rattle.run_record.proofs.RecordRows.{entry, fields, labels, m, sense}
-
--- False logs and replies, each by the number of the sentence that refuses it.
 
 abbrev one_write : List Op
 one_write = Write 0 1 (seg 0 512) 0 ∷ []

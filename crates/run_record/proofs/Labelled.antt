@@ -1,3 +1,4 @@
+-- Every block of a script has a label of its own, so what stands on record of it is found by its label, in whatever order.
 use Rattle.std.proofs.Common.{◌≡◌, ◌<◌, ◌≤◌, ◌+◌, ◌%◌, ◌^◌, ℕ, zero, suc, Bool, true, false, ◌&&◌, eqb, if◌then◌else◌, List, [], ◌∷◌, ◌++◌, map, Option, Some, None, refl, sym, ap, subst, ◌∙◌, arith}
 use Rattle.std.specs.Prelude.{IfSome}
 use Rattle.std.specs.List.{AllByRecursion as Each}
@@ -18,8 +19,6 @@ use Rattle.whole_run.specs.Settings.{Setting, block_of, route}
 use Rattle.whole_run.specs.Steps.{Reads, Seals, Step, Writes, WritesPi, body_of, each_from, frame_at, tuple_of}
 use Rattle.run_record.specs.BackedRun.{Owns}
 use Rattle.run_record.specs.Records.{Mixed, NoTwo, find, is_labelled, put_sent, sents}
-
--- Every block of a script has a label of its own, so what stands on record of it is found by its label, in whatever order.
 
 pub tells_append : (xs ys : List (Act Answer)) (s : State) → plain_tells act tell (xs ++ ys) s ≡ plain_tells act tell xs s ++ plain_tells act tell ys (plain act xs s)
 tells_append [] ys s = refl

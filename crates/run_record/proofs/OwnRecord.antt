@@ -1,3 +1,4 @@
+-- A walk over what it put on record itself is that walk.
 use Rattle.std.proofs.Common.{◌≡◌, ℕ, suc, List, [], ◌∷◌, ◌++◌, length, map, take, drop, get_or, Option, Some, None, refl, sym, ap, subst, ◌∙◌}
 use Rattle.std.specs.Prelude.{Result, Ok, Err}
 use Rattle.std.specs.List.{AllByRecursion as Each}
@@ -27,8 +28,6 @@ use Rattle.run_record.specs.Records.{Mixed, sents}
 use Rattle.run_record.specs.ToldRun.{IsRecordOf, IsSameWalk, came_by, came_in, told}
 use Rattle.run_record.proofs.Backs.{backs, steps_same}
 use Rattle.run_record.proofs.Labelled.{Filed, filed_in, script_lined}
-
--- A walk over what it put on record itself is that walk.
 
 -- what two ways leave and answer, stored blocks aside
 record Alike (one other : Effect Answer) : Type 0 where

@@ -1,3 +1,4 @@
+-- A log worked by hand: a write that ends at its second block, and a read for which the rig hands out another block's frame.
 use Rattle.std.proofs.Common.{◌≡◌, ◌<◌, ℕ, zero, suc, false, eqb, List, [], ◌∷◌, get_or, Option, Some, None, refl, sym, subst, ◌∙◌, arith}
 use Rattle.std.specs.Prelude.{Ok, Err}
 use Rattle.std.proofs.lemmas.Bool.{ne_eqb}
@@ -34,8 +35,6 @@ use Rattle.run_record.specs.ToldRun.{IsRecordOf, IsSameWalk, told}
 use Rattle.run_record.proofs.Backs.{backs}
 use Rattle.run_record.proofs.Earlier.{stands_after}
 use Rattle.run_record.proofs.OwnRecord.{same_walk}
-
--- A log worked by hand: a write that ends at its second block, and a read for which the rig hands out another block's frame.
 
 abbrev pub m : Setting
 m = faulty []

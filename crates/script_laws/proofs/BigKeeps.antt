@@ -1,3 +1,4 @@
+-- each script that is made from a number keeps the rules
 use Rattle.std.proofs.Common.{ℕ, zero, suc, ◌≡◌, inl, ◌+◌, ◌-◌, ◌*◌, ◌%◌, ◌^◌, ◌<◌, ◌≤◌, ◌&&◌, Bool, true, false, not, eqb, ltb, leb, min, List, [], ◌∷◌, length, Some, None, Ok, refl, ap, ◌∙◌, arith}
 use Rattle.std.specs.Prelude.{if◌then◌else◌, unwrap_or}
 use Rattle.std.proofs.lemmas.Bool.Decides.{nat_tests}
@@ -14,8 +15,6 @@ use Rattle.script_text.specs.Segments.{are_few_each, few_from, is_inside}
 use Rattle.script_laws.specs.Keeping.{Each, IsChoice, IsEntry, IsOp, IsTag, blocks_of}
 use Rattle.script_laws.specs.Lines.{line_of, tag_of}
 use Rattle.script_laws.proofs.Keeping.{KeepsAll}
-
--- each script that is made from a number keeps the rules
 
 drawn_below : (m x : ℕ) → 1 ≤ m → drawn m x < m
 drawn_below m x h = omega arith

@@ -1,3 +1,4 @@
+-- The worked scripts are read, bound and drawn as they should be.
 use Rattle.std.proofs.Common.{refl}
 use Rattle.hex.specs.Hex.{decode_pairs}
 use Rattle.script_lines.specs.Forms.{app_form, block_form, change_form, fault_form, flip_form, inner_form, limits_form, linear_form, mode_form, over_form, overwrite_form, pages_form, place_form, read_form, readpi_form, shift_form, show_form, striped_form, write_form}

@@ -1,3 +1,4 @@
+-- each line's words are read as the line
 use Rattle.std.proofs.Common.{ℕ, ℤ, pos, negsuc, ◌≡◌, ◌⊎◌, inl, inr, ◌+◌, ◌^◌, ◌<◌, ◌≤◌, ◌||◌, Bool, true, false, eqb, ltb, List, [], ◌∷◌, ◌++◌, length, Option, Some, None, Result, Ok, refl, sym, ap, ◌∙◌, arith}
 use Rattle.std.specs.Prelude.{codes, decimal, if◌then◌else◌}
 use Rattle.std.specs.Fmt.{signed_decimal}
@@ -23,8 +24,6 @@ use Rattle.script_laws.specs.Keeping.{AreLegs, AreLimits, Each, IsChoice, IsFlip
 use Rattle.script_laws.specs.Lines.{choice_text, fault_words, flip_words, guard_word, leg_words, limits_words, linear_words, shift_words, spot_word, stripe_words, switch_word, expect_words}
 use Rattle.script_laws.proofs.Words.{hex_back, negative_back, positive_back, tag_back, within_back}
 use Rattle.script_laws.proofs.Places.{choice_alone, choice_both, leg_back, word32_back, word64_back}
-
--- each line's words are read as the line
 
 pub value_is : {A B : Type 0} (read : List ℕ → Option A) (w : List ℕ) (ws : List (List ℕ)) (a : A) (f : A × List (List ℕ) → Result B ScriptKind) (r : Result B ScriptKind) → read w ≡ Some a → f (a, ws) ≡ r → (value read (w ∷ ws) >>= f) ≡ r
 value_is read w ws a f r e g = ap (λ o. or_bad o ws >>= f) e ∙ g

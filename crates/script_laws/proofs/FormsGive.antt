@@ -1,3 +1,4 @@
+-- what a line is, where its words were read as one
 use Rattle.std.proofs.Common.{ℕ, ℤ, pos, negsuc, suc, ◌≡◌, ◌⊎◌, inl, inr, ◌+◌, ◌-◌, ◌^◌, ◌<◌, ◌≤◌, ◌||◌, Bool, true, false, eqb, List, [], ◌∷◌, length, Option, Some, None, Result, Ok, Err, refl, sym, subst, ap, ◌∙◌, arith}
 use Rattle.std.specs.Prelude.{codes, if◌then◌else◌}
 use Rattle.std.specs.Str.{bytes_eq}
@@ -23,8 +24,6 @@ use Rattle.script_lines.specs.Forms.{app_form, as_line, block_form, change_form,
 use Rattle.script_lines.specs.Reading.{all_of, either, fixed, or_bad, some_of, value}
 use Rattle.script_laws.specs.Keeping.{AreLimits, Each, IsChoice, IsLeg, IsProtect, IsShiftSpot, IsTag, IsWithin}
 use Rattle.script_laws.proofs.Inverse.{byte_ok, ended_ok, got32, got64, hex_got, long_tag_ok, ok_of, or_bad_ok, tag_got, tag_ok, value_ok, within_got, within_ok, word32_ok, word64_ok}
-
--- what a line is, where its words were read as one
 
 protect_by_ok : (n : ℕ) (o : Option ℕ) → protect_by o ≡ Some n → (o ≡ Some n) × (eqb n 2 ≡ false)
 protect_by_ok n None h = absurd (cc)

@@ -1,3 +1,4 @@
+-- the lines before the volume
 use Rattle.std.proofs.Common.{ℕ, ◌≡◌, ◌⊎◌, inl, inr, ◌^◌, ◌<◌, ◌||◌, Bool, true, false, not, eqb, List, [], ◌∷◌, ◌++◌, Some, None, refl, sym, ap, ◌∙◌, arith, append_assoc, append-nil}
 use Rattle.std.specs.Prelude.{codes, decimal, if◌then◌else◌}
 use Rattle.std.proofs.lemmas.Bool.{eqb-true}
@@ -22,8 +23,6 @@ use Rattle.script_laws.proofs.Forms.{block_back, expect_back, limits_back, mode_
 use Rattle.script_laws.proofs.Lined.{block_line, expect_line, limits_line, mode_line, pages_line}
 use Rattle.script_laws.proofs.Steps.{Step, behind, from_text, joined, line_step, to_draft, verb_step}
 use Rattle.script_laws.proofs.Words.{tag_word}
-
--- the lines before the volume
 
 pub within_word : (low high n : ℕ) → high < 2 ^ 64 → IsWithin low high n → IsWord (decimal n)
 within_word low high n s h = let m = h.high_is in decimal_word n (omega (arith, m, s))

@@ -1,3 +1,4 @@
+-- what holds of a draft
 use Rattle.std.proofs.Common.{ℕ, ℤ, pos, negsuc, ◌≡◌, ◌⊎◌, inl, ◌+◌, ◌^◌, ◌<◌, ◌≤◌, ◌&&◌, ◌||◌, Bool, true, false, not, eqb, leb, List, [], ◌∷◌, ◌++◌, length, Option, Some, None, Result, Ok, Err, refl, sym, subst, ap, ◌∙◌, arith}
 use Rattle.std.specs.Prelude.{if◌then◌else◌, unwrap_or, is_some}
 use Rattle.std.proofs.lemmas.Bool.Decides.{nat_tests}
@@ -32,8 +33,6 @@ use Rattle.script_laws.specs.Lines.{line_of, tag_of}
 use Rattle.script_laws.proofs.FormsGive.{IsSmall, Numbers}
 use Rattle.script_laws.proofs.Over.{IsInner}
 use Rattle.script_laws.proofs.BigKeeps.{tag_twice}
-
--- what holds of a draft
 
 pub record HoldsFront (mode : Moded) (app mask : ℕ) (limits : Limits) (pages block : ℕ) : Type 0 where
   pub protect_is : IsProtect mode.protect

@@ -1,3 +1,4 @@
+-- what a line's numbers are, where its words were read
 use Rattle.std.proofs.Common.{ℕ, ◌≡◌, ◌*◌, ◌^◌, ◌<◌, ◌≤◌, ◌&&◌, Bool, true, false, leb, List, [], ◌∷◌, length, Option, Some, None, Result, Ok, Err, refl, sym, subst, ap, ◌∙◌, arith}
 use Rattle.std.specs.Prelude.{if◌then◌else◌, slice_index}
 use Rattle.std.specs.Int.{Width, from_be_bytes, w16, w32, w8}
@@ -12,8 +13,6 @@ use Rattle.script_words.specs.Places.{word32, word64}
 use Rattle.script_lines.specs.declared.kind.ScriptKind.{ScriptKind}
 use Rattle.script_lines.specs.Reading.{◌>>=◌, ended, or_bad, value}
 use Rattle.script_laws.specs.Keeping.{IsWithin}
-
--- what a line's numbers are, where its words were read
 
 pub ok_of : {A B : Type 0} (r : Result A ScriptKind) (f : A → Result B ScriptKind) (b : B) → (r >>= f) ≡ Ok b → (a : A) × (r ≡ Ok a) × (f a ≡ Ok b)
 ok_of (Ok a) f b h = (a, refl, h)

@@ -1,3 +1,4 @@
+-- each script that is read keeps the rules
 use Rattle.std.proofs.Common.{ℕ, suc, ◌≡◌, ◌+◌, ◌≤◌, ◌&&◌, ◌||◌, Bool, true, false, not, ltb, List, [], ◌∷◌, length, map, Option, Some, None, Result, Ok, Err, refl, sym, subst, ap, arith}
 use Rattle.std.specs.Prelude.{if◌then◌else◌}
 use Rattle.script_words.specs.Cuts.{is_plain, lines_of, words_of}
@@ -24,8 +25,6 @@ use Rattle.script_laws.proofs.FormsGive.{Numbers, fill_gives, overwrite_gives, p
 use Rattle.script_laws.proofs.Held.{Goes, Held, InOrder, IsRaw, goes, length_both, nothing_held, number_of}
 use Rattle.script_laws.proofs.Inverse.{ended_ok, ok_of}
 use Rattle.script_laws.proofs.Kept.{Rules, begin_kept, block_kept, expect_kept, fault_kept, inner_kept, limits_kept, linear_kept, mode_kept, op_kept, over_kept, pages_kept, rules_of, schedule_kept, shift_kept, stripe_kept}
-
--- each script that is read keeps the rules
 
 -- a line of this verb that is taken
 pub verb_kept : (verb : Verb) (n : ℕ) (words : List (List ℕ)) (d e : Drafted) → Held d → Goes (number_of d.place) (place_number (place_of verb)) → (line : Line) → line_form verb d.block words ≡ Ok line → Rules d line → taken n line d ≡ Ok e

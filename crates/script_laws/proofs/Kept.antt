@@ -1,3 +1,4 @@
+-- each line that is taken leaves a draft of which all that holds still
 use Rattle.std.proofs.Common.{ℕ, ◌≡◌, ◌+◌, ◌<◌, ◌≤◌, ◌||◌, Bool, true, false, eqb, ltb, leb, List, [], ◌∷◌, ◌++◌, length, Option, Some, None, Result, Ok, Err, refl, sym, subst, ap, ◌∙◌, arith}
 use Rattle.std.specs.Prelude.{if◌then◌else◌}
 use Rattle.std.proofs.lemmas.Bool.Decides.{nat_tests}
@@ -24,8 +25,6 @@ use Rattle.script_laws.proofs.Over.{IsInner, over_entries}
 use Rattle.script_laws.proofs.Front.{parts_false}
 use Rattle.script_laws.proofs.Keeping.{ok_draft}
 use Rattle.volume_tree.proofs.Gathering.{or_first, or_second}
-
--- each line that is taken leaves a draft of which all that holds still
 
 pub unbroken : (b : Bool) (k : ScriptKind) (rest : Option ScriptKind) → (if b then Some k else rest) ≡ None → (b ≡ false) × (rest ≡ None)
 unbroken true k rest h = absurd (cc)

@@ -1,3 +1,4 @@
+-- the schedule, the beginning and the ops
 use Rattle.std.proofs.Common.{ℕ, suc, ◌≡◌, ◌+◌, ◌<◌, ◌≤◌, ◌||◌, Bool, true, false, eqb, ltb, leb, List, [], ◌∷◌, ◌++◌, length, Option, Some, None, Ok, refl, sym, ap, ◌∙◌, arith, append_assoc, append-nil}
 use Rattle.std.specs.Prelude.{codes, decimal, if◌then◌else◌}
 use Rattle.std.proofs.lemmas.Bool.{le-ltb, lt-leb}
@@ -27,8 +28,6 @@ use Rattle.script_laws.proofs.Places.{pair_word}
 use Rattle.script_laws.proofs.Stages.{length-snoc, next_number, numbered, placed}
 use Rattle.script_laws.proofs.Steps.{Step, behind, from_text, joined, line_step, stay, to_draft, to_number, verb_step}
 use Rattle.volume_tree.proofs.Following.{together as add_assoc}
-
--- the schedule, the beginning and the ops
 
 choice_word_by : (b : Bool) (e : ℕ × ℕ) → IsChoice e → IsWord (if b then decimal e.0 else decimal e.0 ++ (47 ∷ decimal e.1))
 choice_word_by true e h = let f = h.0 in decimal_word e.0 (omega (arith, f))

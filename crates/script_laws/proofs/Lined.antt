@@ -1,3 +1,4 @@
+-- a printed line is its words with a space between each two
 use Rattle.std.proofs.Common.{ℕ, ℤ, ◌≡◌, Bool, true, false, eqb, List, [], ◌∷◌, ◌++◌, Some, None, refl, sym, ap, ◌∙◌, append_assoc, append-nil}
 use Rattle.std.specs.Prelude.{codes, decimal, if◌then◌else◌}
 use Rattle.std.specs.Fmt.{signed_decimal}
@@ -22,8 +23,6 @@ use Rattle.script_text.specs.Printed.{app_text, block_text, cut_text, entry_text
 use Rattle.script_text.specs.Crossings.{spot_of}
 use Rattle.script_laws.specs.Lines.{app_words, choice_text, expect_words, fault_words, guard_word, leg_text, leg_words, limits_words, line_of, linear_words, mode_words, op_word, op_words_behind, shift_words, spot_word, stripe_words, switch_word, tag_of}
 use Rattle.script_laws.specs.Texts.{spaced}
-
--- a printed line is its words with a space between each two
 
 guarded : (kind : GuardKind) (more : List ℕ) → guard_text kind ++ more ≡ codes "mode" ++ (32 ∷ (guard_word kind ++ more))
 guarded Crc more = refl

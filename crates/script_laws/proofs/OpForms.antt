@@ -1,3 +1,4 @@
+-- each op's words are read as its line
 use Rattle.std.proofs.Common.{ℕ, zero, suc, ◌≡◌, ◌*◌, ◌^◌, ◌<◌, ◌≤◌, ◌&&◌, ◌||◌, Bool, true, false, not, eqb, ltb, leb, List, [], ◌∷◌, ◌++◌, length, Option, Some, None, Ok, refl, ap, arith}
 use Rattle.std.specs.Prelude.{codes, decimal, if◌then◌else◌}
 use Rattle.std.specs.Int.{to_be_bytes, w16, w32}
@@ -31,8 +32,6 @@ use Rattle.script_laws.proofs.Forms.{flip_back, some_byte, value_is}
 use Rattle.script_laws.proofs.Places.{AreSegs, IsSeg, pair_word, seg_back, seg_word, segs_back, segs_word, spot_back, word32_back, word64_back}
 use Rattle.script_laws.proofs.Words.{byte_back, byte_word, hex_back, hex_word, long_tag_back, long_tag_word, tag_back, tag_word}
 use Rattle.script_laws.proofs.Kept.{unbroken}
-
--- each op's words are read as its line
 
 abbrev pub AreListed : List Seg → Type 0
 AreListed segs = AreSegs segs × (1 ≤ length segs)

@@ -1,3 +1,4 @@
+-- the entries of an `over` line are in their ranges
 use Rattle.std.proofs.Common.{ℕ, suc, ◌≡◌, ◌+◌, ◌*◌, ◌^◌, ◌<◌, ◌≤◌, ◌||◌, Bool, true, false, eqb, ltb, leb, cond, All, List, [], ◌∷◌, length, map, find, Option, Some, None, Ok, refl, sym, subst, ap, ◌∙◌, arith}
 use Rattle.std.specs.Prelude.{if◌then◌else◌}
 use Rattle.std.specs.List.{list_any}
@@ -17,8 +18,6 @@ use Rattle.script_lines.specs.declared.kind.ScriptKind.{ScriptKind}
 use Rattle.script_text.specs.Trees.{InnerExtent, as_kind, entries_over, is_bad_volume, is_none, is_past, over_fault, track_from, tracks_in, unless_fault}
 use Rattle.script_laws.specs.Keeping.{Each, IsEntry, IsLeg, IsWithin}
 use Rattle.script_laws.proofs.Kept.{unbroken, not_full, not_more}
-
--- the entries of an `over` line are in their ranges
 
 pub record IsInner (i : InnerExtent) : Type 0 where
   pub len_is : IsWithin 1 1048576 i.len

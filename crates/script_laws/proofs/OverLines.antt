@@ -1,3 +1,4 @@
+-- Where the blocks of an `over` line lie.
 use Rattle.std.proofs.Common.{ℕ, ◌≡◌, ◌+◌, ◌<◌, ◌≤◌, Bool, true, false, not, ltb, cond, List, [], ◌∷◌, ◌++◌, length, find, Option, Some, None, Result, Ok, Err, refl, sym, subst, ap, ◌∙◌, arith, append_assoc}
 use Rattle.std.specs.Prelude.{if◌then◌else◌, codes}
 use Rattle.std.specs.List.{Contains}
@@ -36,8 +37,6 @@ use Rattle.script_laws.proofs.Held.{Held, nothing_held}
 use Rattle.script_laws.proofs.Inverse.{ok_of}
 use Rattle.script_laws.proofs.Keeping.{go_keeps, no_rule, ok_draft, ok_script, text_kept}
 use Rattle.script_laws.proofs.Over.{OverSays, over_says}
-
--- Where the blocks of an `over` line lie.
 
 -- ---- reading on adds entries, and takes none away
 

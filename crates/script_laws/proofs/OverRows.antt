@@ -1,3 +1,4 @@
+-- The text with an `over` line of the small texts, over two devices: it meets what the law on such lines asks.
 use Rattle.std.proofs.Common.{◌≡◌, ℕ, List, [], ◌∷◌, refl, arith}
 use Rattle.std.specs.Prelude.{All, codes}
 use Rattle.std.proofs.lemmas.List.Elements.{All-cons, All-nil}
@@ -13,8 +14,6 @@ use Rattle.script_laws.specs.Examples.{over_text, over_two, two_units}
 use Rattle.script_laws.specs.OverLines.{LiesInTree}
 use Rattle.script_laws.proofs.Examples.{read_examples}
 use Rattle.script_laws.proofs.OverLines.{over_places}
-
--- The text with an `over` line of the small texts, over two devices: it meets what the law on such lines asks.
 
 abbrev devices : List DeviceInfo
 devices = two_units One

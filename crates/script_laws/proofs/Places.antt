@@ -1,3 +1,4 @@
+-- what printed pairs, segments and lists are read as
 use Rattle.std.proofs.Common.{ℕ, ◌≡◌, ◌^◌, ◌<◌, ◌≤◌, true, List, [], ◌∷◌, ◌++◌, length, map, Some, refl, ap, ◌∙◌, arith, append-nil}
 use Rattle.std.specs.Prelude.{decimal}
 use Rattle.page_pool.specs.declared.segs.Seg.{Seg}
@@ -9,8 +10,6 @@ use Rattle.script_laws.specs.Clean.{IsWord, avoids, clean}
 use Rattle.script_laws.proofs.Clean.{avoids_both, clean_both, decimal_digits, decimal_word, digits_avoid, digits_avoid_above, digits_clean, word_more}
 use Rattle.script_laws.proofs.Texts.{cut_at, no_cut, parts_at, parts_end}
 use Rattle.script_laws.proofs.Words.{within_back}
-
--- what printed pairs, segments and lists are read as
 
 pub word32_back : (n : ℕ) → n < 2 ^ 32 → word32 (decimal n) ≡ Some n
 word32_back n h = within_back 0 4294967295 n (omega arith) (omega arith) (omega arith)

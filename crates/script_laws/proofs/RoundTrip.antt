@@ -1,3 +1,4 @@
+-- what is printed is read back
 use Rattle.std.proofs.Common.{ℕ, ◌≡◌, ◌⊎◌, inl, inr, ◌+◌, ◌≤◌, Bool, true, false, ltb, List, [], ◌∷◌, ◌++◌, length, map, Some, Result, Ok, Err, refl, sym, subst, ap, ◌∙◌, arith, append-nil}
 use Rattle.std.specs.Prelude.{MatchResult, codes, if◌then◌else◌}
 use Rattle.std.proofs.lemmas.Bool.Decides.{nat_tests}
@@ -20,8 +21,6 @@ use Rattle.script_laws.proofs.Front.{Fronted, front_stage, fronted}
 use Rattle.script_laws.proofs.LastStages.{begin_stage, ends, ops_stage, schedule_stage}
 use Rattle.script_laws.proofs.Stages.{entries_stage, faults_stage, numbered, placed}
 use Rattle.script_laws.proofs.Steps.{Step, behind, from_text, joined}
-
--- what is printed is read back
 
 crossed_back : (size : ℕ) (ops : List Op) (fs : List FaultLine) → Each (IsFault size ops) fs → map (crossed ops) (map raw_of fs) ≡ fs
 crossed_back size ops [] h = refl

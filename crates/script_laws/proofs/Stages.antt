@@ -1,3 +1,4 @@
+-- the lines of a stage, one after another
 use Rattle.std.proofs.Common.{ℕ, ℤ, pos, negsuc, zero, suc, ◌≡◌, ◌+◌, ◌^◌, ◌<◌, ◌≤◌, ◌||◌, Bool, true, false, ltb, List, [], ◌∷◌, ◌++◌, length, map, Option, Some, None, refl, sym, subst, ap, ◌∙◌, arith, append_assoc, append-nil}
 use Rattle.std.specs.Prelude.{codes, if◌then◌else◌}
 use Rattle.std.specs.Fmt.{signed_decimal}
@@ -34,8 +35,6 @@ use Rattle.script_laws.proofs.Steps.{Step, behind, from_text, joined, line_step,
 use Rattle.script_laws.proofs.Words.{hex_word, minus_word}
 use Rattle.script_laws.proofs.Front.{within_word}
 use Rattle.script_laws.proofs.OpForms.{number32 as word32}
-
--- the lines of a stage, one after another
 
 -- entries
 

@@ -1,3 +1,4 @@
+-- a text is cut where it was joined
 use Rattle.std.proofs.Common.{ℕ, suc, ◌≡◌, ◌+◌, Bool, true, false, not, eqb, ltb, cond, List, [], ◌∷◌, ◌++◌, length, take, drop, Option, Some, None, refl, sym, ap, ◌∙◌, arith}
 use Rattle.std.specs.List.{position_or_len}
 use Rattle.std.proofs.lemmas.Bool.Decides.{nat_tests}
@@ -10,8 +11,6 @@ use Rattle.script_laws.specs.Texts.{spaced}
 use Rattle.script_laws.proofs.Clean.{clean_avoids}
 use Rattle.volume_tree.proofs.Putting.{ltb_suc, one_more}
 use Rattle.script_text.proofs.Filled.{and_first, and_second}
-
--- a text is cut where it was joined
 
 same_mark : (mark : ℕ) → eqb mark mark ≡ true
 same_mark mark = grind (arith, nat_tests)

@@ -1,3 +1,4 @@
+-- what a printed number is read as
 use Rattle.std.proofs.Common.{ℕ, pos, negsuc, zero, suc, ◌≡◌, ◌+◌, ◌-◌, ◌*◌, ◌/◌, ◌%◌, ◌^◌, ◌<◌, ◌≤◌, ◌&&◌, Bool, true, false, not, eqb, ltb, leb, List, [], ◌∷◌, ◌++◌, length, Some, None, refl, ap, ◌∙◌, arith, lt-ltb}
 use Rattle.std.specs.Prelude.{decimal, if◌then◌else◌, slice_index}
 use Rattle.std.specs.Fmt.{signed_decimal}
@@ -15,8 +16,6 @@ use Rattle.script_words.specs.Numbers.{as_negative, as_positive, in_range, numbe
 use Rattle.script_laws.specs.Clean.{IsWord, avoids, clean, is_filled, is_visible}
 use Rattle.script_laws.proofs.Clean.{are_digits, decimal_digits, decimal_filled, digits_avoid, digits_clean}
 use Rattle.script_text.proofs.Filled.{and_first, and_second}
-
--- what a printed number is read as
 
 value_more : (m : ℕ) (ds : List ℕ) (d : ℕ) → value_from m (ds ++ (d ∷ [])) ≡ value_from m ds * 10 + (d - 48)
 value_more m [] d = refl

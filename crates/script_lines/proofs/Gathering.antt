@@ -1,3 +1,4 @@
+-- One more entry of a list that is gathered from a line.
 use Rattle.std.proofs.Common.{List, ◌++◌, Result, Ok, Err}
 use Rattle.script_lines.specs.declared.kind.ScriptKind.{ScriptKind}
 

@@ -1,3 +1,4 @@
+-- A number that is in range isn't below it.
 use Rattle.std.proofs.Common.{ℕ, ◌≡◌, ◌≤◌, Bool, true, false, ◌&&◌, leb, cond, refl, Option, Some, None, arith}
 use Rattle.std.proofs.lemmas.Bool.Decides.{nat_tests}
 use Rattle.script_words.specs.Numbers.{in_range}

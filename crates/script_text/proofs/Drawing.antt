@@ -1,3 +1,4 @@
+-- One more op, word or number of a script that is made from a number.
 use Rattle.std.proofs.Common.{ℕ, suc, ◌≡◌, ◌+◌, ◌-◌, ◌<◌, List, [], ◌∷◌, ◌++◌, sym, ap, ◌∙◌, arith, append_assoc}
 use Rattle.stack_ops.specs.declared.op.Op.{Op}
 use Rattle.script_text.specs.Generator.{after_op, after_ops, drawn, next_state, numbers_from, op_from, ops_from, schedule_from}

@@ -1,3 +1,4 @@
+-- the marks of the ops that fault lines shift
 use Rattle.std.proofs.Common.{ℕ, zero, suc, ◌≡◌, ◌+◌, ◌<◌, ◌≤◌, ◌||◌, ◌&&◌, Bool, true, false, eqb, List, [], ◌∷◌, ◌++◌, length, get_or, take, drop, set, replicate, Some, None, refl, sym, subst, ap, ◌∙◌, arith, add-one, ⊎_elim, drop-cons, length-set}
 use Rattle.std.specs.List.{list_any}
 use Rattle.std.specs.Prelude.{if◌then◌else◌}
@@ -14,8 +15,6 @@ use Rattle.stack_ops.specs.declared.op.Op.{Op}
 use Rattle.volume_table.specs.declared.device.DeviceInfo.{DeviceInfo}
 use Rattle.volume_table.specs.Tables.{Table}
 use Rattle.script_text.specs.Bindings.{faults_fault, is_bad_on, is_shift, at_line, marked, op_fault, ops_fault, request_at, request_by, shifts}
-
--- the marks of the ops that fault lines shift
 
 pub record AreMarked (marks : List Bool) (earlier : List FaultLine) : Type 0 where
   pub room : length marks ≡ 1025

@@ -1,3 +1,4 @@
+-- whether any two of a list share doesn't depend on the list's order: it is told by the number of pairs that do
 use Rattle.std.proofs.Common.{ℕ, suc, ◌≡◌, ◌+◌, ◌*◌, ◌≤◌, ◌||◌, Bool, true, false, ltb, List, [], ◌∷◌, length, get_or, drop, subst, sum_by, refl, sym, ap, ◌∙◌, arith, zero-add}
 use Rattle.std.specs.List.{All, list_any}
 use Rattle.std.specs.List.Sorted.{IsPermutation}
@@ -10,8 +11,6 @@ use Rattle.page_pool.proofs.Sharing.{exact}
 use Rattle.range_gate.specs.Prints.{IsSound, Rises}
 use Rattle.range_gate.proofs.Sweep.{skip_left}
 use Rattle.script_text.specs.Segments.{any_share}
-
--- whether any two of a list share doesn't depend on the list's order: it is told by the number of pairs that do
 
 abbrev one : Bool → ℕ
 one true = 1

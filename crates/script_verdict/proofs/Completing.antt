@@ -1,3 +1,4 @@
+-- Where nothing is at fault in text and image, what is refused comes from outside.
 use Rattle.std.proofs.Common.{ℕ, ◌≡◌, inl, inr, ◌<◌, ◌≤◌, true, false, List, length, Option, Some, None, Result, Ok, Err, refl, sym, ap, subst, ◌∙◌, arith, length-append}
 use Rattle.std.specs.Prelude.{IfErr, MatchResult, is_some, nat_lt}
 use Rattle.std.proofs.lemmas.Bool.{lt-ltb}
@@ -26,8 +27,6 @@ use Rattle.script_verdict.specs.Verdict.{CauseRefused, CauseStopped, CauseUntake
 use Rattle.script_verdict.specs.declared.verdict.Finished.{Finished}
 use Rattle.script_verdict.specs.declared.refusal.Refusal.{Refusal}
 use Rattle.script_verdict.specs.declared.refusal.Refusal.TheVariants as refusal
-
--- Where nothing is at fault in text and image, what is refused comes from outside.
 
 pub never_rose : (o n : ℕ) → Calm o n → Rose o n → ⊥
 never_rose o n c (inl r) = omega (arith, c.0, r)

@@ -1,3 +1,4 @@
+-- The devices that a rig told, where it tells its image.
 use Rattle.std.proofs.Common.{ℕ, ◌≡◌, ◌<◌, true, List, [], ◌∷◌, ◌++◌, length, take, drop, Option, Some, None, refl, sym, ap, ◌∙◌, arith}
 use Rattle.std.specs.Prelude.{is_some, map}
 use Rattle.std.proofs.Math.Seq.{take-length}
@@ -15,8 +16,6 @@ use Rattle.target_answer.specs.Target.{Stored}
 use Rattle.volume_table.specs.declared.device.DeviceInfo.{DeviceInfo}
 use Rattle.script_verdict.specs.Verdict.{HoldsBlocks, WasAsked, devices_of}
 use Rattle.script_verdict.proofs.Completing.{headed}
-
--- The devices that a rig told, where it tells its image.
 
 -- devices that are a told rig's are as its head tells them
 as_head : (s : Standing) (devices : List DeviceInfo) (units : Option (List Stored)) (image : List ℕ) → HasDevices devices s units → units ≡ units_told s (Some image) → devices ≡ map info_of (specs_of s)

@@ -1,3 +1,4 @@
+-- What comes of the blocks of a run in which store calls may have failed, by the laws of a stack at its end.
 use Rattle.std.proofs.Common.{◌≡◌, ◌<◌, ℕ, ◌*◌, List, ◌∷◌, ◌++◌, length, take, replicate, None, sym, ap, subst}
 use Rattle.std.specs.Prelude.{All}
 use Rattle.std.proofs.Math.Seq.{take-length}
@@ -31,8 +32,6 @@ use Rattle.script_ground.proofs.Landing.{room-of-read, room-of-write}
 use Rattle.script_ground.proofs.OverUnits.{IsBoundOver}
 use Rattle.script_verdict.specs.Fallen.{AllReadOrFail, AllWriteOrFail, HasServed}
 use Rattle.script_verdict.specs.Premises.{IsQuietRun, opening_told, setting_told}
-
--- What comes of the blocks of a run in which store calls may have failed, by the laws of a stack at its end.
 
 -- the law of reads
 abbrev pub ReadsFallLaw : Type 0

@@ -1,3 +1,4 @@
+-- What a walk's replies list where a target is behind the adapter: what a layer found, where no overwrite and no store call fails; else that, or the medium.
 use Rattle.std.proofs.Common.{◌≡◌, ℕ, zero, suc, false, true, get_or, List, [], ◌∷◌, map, Option, Some, None, refl, sym, ap, subst, arith}
 use Rattle.std.specs.Prelude.{Bool, All, Result, Ok, Err}
 use Rattle.std.specs.List.{list_any}
@@ -29,8 +30,6 @@ use Rattle.whole_run.specs.Steps.{Alters, Reads, Seals, Sets, Shows, Step, Write
 use Rattle.run_laws.specs.FallingReads.{falling_replies}
 use Rattle.run_laws.specs.StoreFaults.{failing, fallen, falling_walk, left_by, may_fall, or_fallen, over_failing}
 use Rattle.script_verdict.specs.Layers.{NamesFaults, NamesLayers, is_fault, is_finding}
-
--- What a walk's replies list where a target is behind the adapter: what a layer found, where no overwrite and no store call fails; else that, or the medium.
 
 -- Findings of the host's layers are among these answers.
 record HasChecks (ok : Why → Bool) : Type 0 where

@@ -1,3 +1,4 @@
+-- A text with a write and a read of one block, and the same with a flip on the wire, over a formatted image of one block: each meets the premises of its half.
 use Rattle.std.proofs.Common.{◌≡◌, ℕ, zero, suc, true, List, [], ◌∷◌, ◌++◌, None, refl, arith}
 use Rattle.std.specs.Prelude.{Ok, codes}
 use Rattle.hex.specs.Hex.{decode_pairs}
@@ -31,8 +32,6 @@ use Rattle.script_lines.specs.Forms.{app_form, fault_form, flip_form, limits_for
 use Rattle.script_text.specs.declared.script.Script.{Script}
 use Rattle.script_verdict.specs.Premises.{IsDetectableRun, IsFormedRun, IsPlainRun, setting_told}
 use Rattle.script_verdict.specs.Verdict.{devices_of, table_over}
-
--- A text with a write and a read of one block, and the same with a flip on the wire, over a formatted image of one block: each meets the premises of its half.
 
 -- ---- the image
 

@@ -1,3 +1,4 @@
+-- What the laws of a run ask, from the premises and from what reading and binding have seen to.
 use Rattle.std.proofs.Common.{◌≡◌, ◌<◌, List, map, sym, subst}
 use Rattle.std.specs.Prelude.{All}
 use Rattle.target_answer.specs.Target.{Stored}
@@ -12,8 +13,6 @@ use Rattle.script_ground.proofs.Calm.{calm-run}
 use Rattle.script_ground.proofs.OverUnits.{IsBoundOver}
 use Rattle.script_ground.proofs.Shown.{shown-run}
 use Rattle.script_verdict.specs.Premises.{IsDetectableRun, IsPlainRun, opening_told, setting_told}
-
--- What the laws of a run ask, from the premises and from what reading and binding have seen to.
 
 pub plain_run : (s : Script) (t : Table) (us : List Stored) → IsBoundOver s t us → All (All (λ x. x < 256)) (blocks_told us) → IsPlainRun s t us → IsCalmRun (setting_told s t us) s.ops (opening_told s us)
 plain_run s t us b bytes p = calm-run s t us b p.quiet.faults p.quiet.overwrites bytes p.quiet.clean p.no_escape

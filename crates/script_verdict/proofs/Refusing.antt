@@ -1,3 +1,4 @@
+-- From the refusal of a part to that of the call.
 use Rattle.std.proofs.Common.{ℕ, ◌≡◌, ◌⊎◌, inl, inr, ◌+◌, List, Option, Result, Ok, Err, sym, subst, arith}
 use Rattle.std.specs.Prelude.{IfErr, IfOk, MatchResult}
 use Rattle.image_commands.specs.Causes.{CauseUntold}
@@ -15,8 +16,6 @@ use Rattle.script_verdict.specs.Working.{CauseUnbound, CauseUnread, refusal_of}
 use Rattle.script_verdict.specs.declared.verdict.Finished.{Finished}
 use Rattle.script_verdict.specs.declared.refusal.Refusal.{Refusal}
 use Rattle.script_verdict.specs.declared.refusal.Refusal.TheVariants as refusal
-
--- From the refusal of a part to that of the call.
 
 pub unread : (bad : ScriptFault) (r : Refusal) (want : Result Script ScriptFault) → (bad.kind ≡ MemoryKind) ⊎ (want ≡ Err bad) → (bad.kind ≡ MemoryKind → r ≡ refusal.Memory) → (r ≡ refusal.Memory) ⊎ (r ≡ refusal.Script bad) → CauseUnread r want
 unread bad r want (inl k) memory either = inl (memory k)

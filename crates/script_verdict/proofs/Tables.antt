@@ -1,10 +1,9 @@
+-- What a table asks of the devices.
 use Rattle.std.proofs.Common.{All, List, [], ◌∷◌}
 use Rattle.std.proofs.lemmas.List.Elements.{All-cons, All-nil}
 use Rattle.rig_discovery.specs.Discovery.{Ends}
 use Rattle.volume_table.specs.Tables.{EndFits}
 use Rattle.volume_table.specs.declared.device.DeviceInfo.{DeviceInfo}
-
--- What a table asks of the devices.
 
 pub all_end : (ds : List DeviceInfo) → Ends ds → All EndFits ds
 all_end [] h = All-nil EndFits

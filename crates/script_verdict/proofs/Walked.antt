@@ -1,3 +1,4 @@
+-- What the steps of a stack come to, by the laws of a script that was run to its end.
 use Rattle.std.proofs.Common.{ℕ, zero, suc, ◌≡◌, ◌<◌, ◌*◌, Bool, true, false, List, [], ◌∷◌, ◌++◌, get_or, map, take, Option, None, Some, refl, sym, ap, subst, ◌∙◌}
 use Rattle.std.specs.Prelude.{All}
 use Rattle.std.specs.List.{list_any}
@@ -57,8 +58,6 @@ use Rattle.whole_run.specs.PlainMap.{plain_map, plain_replies}
 use Rattle.whole_run.specs.ScriptWalk.{script_replies, script_walk}
 use Rattle.whole_run.specs.Settings.{Setting}
 use Rattle.whole_run.specs.UnderMap.{IsUnder, NoEscape, address_of, opened}
-
--- What the steps of a stack come to, by the laws of a script that was run to its end.
 
 -- as it is seen by a stack's walk
 abbrev pub outside : View → List FaultLine → Outside

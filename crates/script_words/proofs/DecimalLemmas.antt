@@ -1,3 +1,4 @@
+-- The value of digits so far, and whether it passes 64 bits.
 use Rattle.std.proofs.Common.{ℕ, ◌≡◌, ◌+◌, ◌-◌, ◌*◌, ◌^◌, ◌<◌, ◌≤◌, suc, true, false, ltb, List, [], ◌∷◌, length, drop, get_or, Some, None, refl, ap, arith, drop-cons, lt-ltb}
 use Rattle.std.proofs.lemmas.Bool.{le-ltb}
 use Rattle.script_words.specs.Decimals.{is_number, number_in, value_from}

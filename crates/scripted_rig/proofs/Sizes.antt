@@ -1,3 +1,4 @@
+-- The block sizes of a rig's devices.
 use Rattle.std.proofs.Common.{ℕ, ◌≡◌, ◌<◌, ◌≤◌, inl, inr, true, List, [], length, take, Option, refl, ap, ◌∙◌, arith}
 use Rattle.std.specs.Prelude.{OnOk, Result, Ok, Err}
 use Rattle.std.proofs.Math.Seq.{take-length}
@@ -8,8 +9,6 @@ use Rattle.rig_api.specs.Log.{HasRoom, Room}
 use Rattle.rig_api.specs.Telling.{IsStanding, Standing, greatest, greatest_size, spec_at, specs_of}
 use Rattle.image_rig.proofs.Devices.{greatest_small, room_for, size_here, size_least, size_most}
 use Rattle.image_layout.proofs.Heads.{right_layout}
-
--- The block sizes of a rig's devices.
 
 all_units : (s : Standing) → s.devices ≡ length (units_of s.head) → specs_of s ≡ units_of s.head
 all_units s e = ap (λ n. take n (units_of s.head)) e ∙ take-length (units_of s.head)

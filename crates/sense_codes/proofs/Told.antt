@@ -1,9 +1,8 @@
+-- What the first byte says of the format that a sense is written in.
 use Rattle.std.proofs.Common.{◌≡◌, ℕ, ◌<◌, ◌^◌, Bool, true, false, if◌then◌else◌, ltb, List, ◌∷◌, get_or, Option, Some, None, IfSome, refl, sym, ap, ◌∙◌, arith}
 use Rattle.std.proofs.lemmas.Bool.Decides.{nat_tests}
 use Rattle.sense_codes.specs.declared.Sense.{Sense}
 use Rattle.sense_codes.specs.Written.{Fits, descriptor, fixed, written, written_with}
-
--- What the first byte says of the format that a sense is written in.
 
 other_code : (bs xs : List ℕ) (x y : ℕ) → get_or bs 0 0 ≡ x → bs ≡ y ∷ xs → (x ≡ y → ⊥) → ⊥
 other_code bs xs x y at e differs = differs (sym at ∙ ap (λ v. get_or v 0 0) e)

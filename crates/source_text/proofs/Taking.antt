@@ -1,9 +1,8 @@
+-- What was taken from a source, piece by piece.
 use Rattle.std.proofs.Common.{ℕ, ◌≡◌, ◌+◌, ◌≤◌, List, [], ◌++◌, length, take, Option, Some, None, refl, sym, ap, ◌∙◌, arith, append_assoc, append-nil, length-append}
 use Rattle.std.proofs.lemmas.List.{length-take}
 use Rattle.dix_base.specs.Told.{Took}
 use Rattle.source_text.specs.Reading.{IsWhole, TookAtMost, most_bytes}
-
--- What was taken from a source, piece by piece.
 
 pub most_is : most_bytes ≡ 4194304
 unfolding most_bytes

@@ -79,9 +79,3 @@ alone s v w dev lba legs whole apart at_v at_w =
     let b = is_on s w dev lba legs whole at_w in
     let same = apart (turn s v) (turn s w) dev lba a.has b.has in
     sym a.back ∙ ap (λ i. found s i lba) same ∙ b.back
-
--- Where the legs' ends fit 64 bits, so does each address.
-pub place_fits : (s : Stripe) (v : ℕ) → HasLegs s → IsWhole s → EndsFit s → StripeHolds s v → (stripe_place s v).1 < 2 ^ 64
-place_fits s v legs whole fits holds =
-    let on = is_on s v _ _ legs whole (holds, refl) in
-    omega (arith, fits (turn s v) on.has.0, on.has.3)

@@ -1,3 +1,4 @@
+-- Worked answers: commands that are none, and long ones to types that have none.
 use Rattle.std.proofs.Common.{◌≡◌, ℕ, ◌*◌, true, false, List, [], ◌∷◌, ◌++◌, length, refl}
 use Rattle.std.specs.Prelude.{replicate, take, ℤ, pos, negsuc, Option, Some, None}
 use Rattle.std.specs.Int.{w32, w64, to_be_bytes}

@@ -1,3 +1,4 @@
+-- Bytes of a store, and blocks that lie in it.
 use Rattle.std.proofs.Common.{ℕ, zero, suc, ◌≡◌, ◌+◌, ◌-◌, ◌*◌, ◌<◌, ◌≤◌, List, [], ◌∷◌, ◌++◌, length, take, drop, Option, Some, None, refl, sym, ap, ◌∙◌, arith, rules, zero-add, append_assoc, length-append}
 use Rattle.std.proofs.lemmas.List.{places, same_lists, length-take, length-drop}
 use Rattle.std.proofs.Math.Nat.{mul-le-mul_left}
@@ -6,8 +7,6 @@ use Rattle.dix_base.specs.Told.{over, Apart, Becomes, HasLength, Rose}
 use Rattle.target_answer.specs.Frames.{frames_of, joined, placed}
 use Rattle.rig_api.specs.Telling.{at_front}
 use Rattle.target_model.specs.Served.{AllLong, IsSize}
-
--- Bytes of a store, and blocks that lie in it.
 
 pub told_length : (x : Option (List ℕ)) (n : ℕ) (bytes : List ℕ) → x ≡ Some bytes → HasLength n x → n ≡ length bytes
 told_length None n bytes e h = absurd (cc)

@@ -1,3 +1,4 @@
+-- From the blocks of a command to the answer of the unit.
 use Rattle.std.proofs.Common.{ℕ, zero, suc, ◌≡◌, ◌+◌, ◌*◌, ◌-◌, ◌<◌, ◌≤◌, Bool, true, false, ltb, if◌then◌else◌, List, [], ◌∷◌, ◌++◌, length, take, drop, Option, Some, None, Result, Ok, Err, refl, sym, ap, subst, ◌^◌, ◌∙◌, arith, length-append, append-nil}
 use Rattle.std.specs.Prelude.{ℤ, pos, nat_abs, eqb, min, ◌≢◌}
 use Rattle.std.proofs.lemmas.List.{length-take, length-drop}
@@ -25,8 +26,6 @@ use Rattle.target_model.specs.declared.unit.LogicalUnit.{LogicalUnit}
 use Rattle.target_model.specs.Served.{AllLong, AllRead, AllWritten, HasBlocks, Served, StandsBack, answer_after, answer_to, block_bytes, shape_in, unit_in, with_unit}
 use Rattle.target_model.proofs.Bytes.{drop_all, drop_both, frames_part, frames_back, length_frames, long_both, long_drop, long_frames, long_joined, long_take, over_apart, over_behind, placed_length, room_for, unit_over, unit_same}
 use Rattle.target_model.proofs.Ends.{length_each}
-
--- From the blocks of a command to the answer of the unit.
 
 abbrev wide : LogicalUnit → ℕ
 wide u = stored_size u.ty u.size

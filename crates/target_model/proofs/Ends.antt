@@ -1,3 +1,4 @@
+-- Blocks of a command that are judged one after another.
 use Rattle.std.proofs.Common.{ℕ, zero, suc, ◌≡◌, ◌+◌, ◌-◌, ◌*◌, ◌<◌, true, ◌&&◌, ltb, List, [], ◌∷◌, ◌++◌, length, take, drop, Option, Some, None, Result, Ok, Err, refl, sym, ap, ◌∙◌, arith, append_assoc, append-nil, length-append, add-zero}
 use Rattle.std.proofs.lemmas.Bool.{lt-ltb, and_from}
 use Rattle.pi_tuple.specs.declared.checks.Check.{Check}
@@ -6,8 +7,6 @@ use Rattle.target_answer.specs.Frames.{frames_of, joined}
 use Rattle.target_answer.specs.Target.{Ended, passed, first_sense, each, whole, write_end, read_end, check_sense, medium_sense}
 use Rattle.target_model.specs.Served.{AllLong}
 use Rattle.target_model.proofs.Bytes.{joined_append, long_one}
-
--- Blocks of a command that are judged one after another.
 
 abbrev pub Judge : Type 0
 Judge = ℕ → List ℕ → Result (List ℕ) Check

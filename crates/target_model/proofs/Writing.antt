@@ -1,3 +1,4 @@
+-- One more block stored by a write, and where it ends.
 use Rattle.std.proofs.Common.{ℕ, ◌≡◌, ◌+◌, ◌*◌, ◌<◌, ◌≤◌, List, [], ◌∷◌, ◌++◌, length, take, drop, Option, Some, None, Result, Ok, Err, refl, sym, ap, subst, ◌∙◌, arith, append-nil, length-append}
 use Rattle.dix_base.specs.Told.{over}
 use Rattle.pi_tuple.specs.declared.checks.Check.{Check}

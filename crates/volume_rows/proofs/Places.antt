@@ -1,1 +1,2 @@
+-- What the rows ask of places holds.
 use Rattle.std.specs.Prelude.{◌^◌, ◌<◌}

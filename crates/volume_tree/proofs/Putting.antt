@@ -1,3 +1,4 @@
+-- A number put into an ordered list, once.
 use Rattle.std.proofs.Common.{ℕ, suc, ◌≡◌, ◌+◌, ◌<◌, ◌≤◌, ◌&&◌, ltb, leb, eqb, not, cond, Bool, true, false, Some, None, subst, List, [], ◌∷◌, length, get_or, drop, drop-cons, refl, sym, ap, ◌∙◌, arith}
 use Rattle.std.specs.List.{position_or_len, insert}
 use Rattle.std.proofs.lemmas.Bool.Decides.{nat_tests}

@@ -1,3 +1,4 @@
+-- The walk of ops is the walk of all their acts, in any order.
 use Rattle.std.proofs.Common.{◌≡◌, ℕ, suc, List, [], ◌∷◌, ◌++◌, length, take, drop, refl, sym, ap, ◌∙◌, subst}
 use Rattle.stack_ops.specs.declared.op.Op.{Op}
 use Rattle.block_path.specs.Acts.{State, act, conflict, tell}
@@ -12,8 +13,6 @@ use Rattle.whole_run.specs.ScriptWalk.{acts_from, acts_of, replies_by, replies_f
 use Rattle.whole_run.specs.Settings.{Setting}
 use Rattle.whole_run.specs.UnderMap.{IsUnder, opened}
 use Rattle.whole_run.proofs.CalmRuns.{is_plain}
-
--- The walk of ops is the walk of all their acts, in any order.
 
 pub first_tells : {S A R : Type 0} (act : A → S → S) (tell : A → S → R) (xs ys : List A) (s : S) → take (length xs) (plain_tells act tell (xs ++ ys) s) ≡ plain_tells act tell xs s
 first_tells act tell [] ys s = refl

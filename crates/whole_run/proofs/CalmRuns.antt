@@ -1,3 +1,4 @@
+-- From steps to ops, and from a setting without faults to its own form.
 use Rattle.std.proofs.Common.{◌≡◌, ◌<◌, ◌≤◌, ℕ, zero, suc, ◌+◌, ◌*◌, ◌%◌, ◌^◌, false, List, [], ◌∷◌, length, map, refl, sym, ap, ◌∙◌, subst, arith, length-append}
 use Rattle.std.proofs.lemmas.List.{length-map}
 use Rattle.std.proofs.Math.Nat.{mul-le-mul_right, suc-mul}
@@ -23,8 +24,6 @@ use Rattle.whole_run.proofs.CalmWays.{quiet}
 use Rattle.whole_run.proofs.MapUnder.{map_length, proper_opened, under_opened}
 use Rattle.whole_run.proofs.PlainSteps.{AllMeet, Meets, Stands, all_steps, reply_same}
 use Rattle.whole_run.proofs.TupleFrames.{below_replicate}
-
--- From steps to ops, and from a setting without faults to its own form.
 
 pub room : (size k n : ℕ) → k < n → k * size + size ≤ n * size
 room size k n l = let up : suc k * size ≤ n * size = mul-le-mul_right size l in let e = suc-mul k size in omega (arith, up, e)

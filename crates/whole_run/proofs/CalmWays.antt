@@ -1,3 +1,4 @@
+-- One block's way out and in where nothing alters it: in every mode, for every type.
 use Rattle.std.proofs.Common.{◌≡◌, ◌<◌, ℕ, ◌+◌, ◌^◌, Bool, true, false, not, ◌&&◌, ◌||◌, eqb, if◌then◌else◌, List, [], ◌∷◌, ◌++◌, length, drop, Option, Some, None, refl, sym, ap, ◌∙◌, arith}
 use Rattle.std.specs.Prelude.{bit_and, Result, Ok, Err}
 use Rattle.std.specs.Int.{w16, to_be_bytes}
@@ -34,8 +35,6 @@ use Rattle.whole_run.specs.Settings.{Block, Setting, route}
 use Rattle.whole_run.specs.PlainMap.{Entry, all_pass, as_expected, entry_of, finds_of_app, handed, own_in, passed, tag_of}
 use Rattle.whole_run.specs.UnderMap.{stored_as}
 use Rattle.whole_run.proofs.TupleFrames.{Small, behind_is, data_is, finds_in_frame, finds_none, guard_below, mapped_is, no, tag_below}
-
--- One block's way out and in where nothing alters it: in every mode, for every type.
 
 -- a setting without faults, over a target, with these in place of its own
 abbrev pub quiet : Setting → Bool → Bool → PiType → Setting

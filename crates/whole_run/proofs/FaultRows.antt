@@ -1,3 +1,4 @@
+-- Scripts with faults, worked by hand: whether each fault can be shown, and which layer is the first after it.
 use Rattle.std.proofs.Common.{◌≡◌, ℕ, Bool, true, false, List, [], ◌∷◌, ◌++◌, refl}
 use Rattle.std.specs.Prelude.{replicate, pos, Option, Some, None}
 use Rattle.pi_guard.specs.Guards.{crc, ip}
@@ -17,8 +18,6 @@ use Rattle.whole_run.specs.FirstLayer.{AtAdapter, AtOwner, AtTarget, Layer, firs
 use Rattle.whole_run.specs.Past.{Brought, past_after, steps_from}
 use Rattle.whole_run.specs.Settings.{Setting, block_of}
 use Rattle.whole_run.proofs.ScriptRows.{faulty, flip, formatted, opening, seg, shift, with_faults, write_and_read}
-
--- Scripts with faults, worked by hand: whether each fault can be shown, and which layer is the first after it.
 
 abbrev may_ask : Setting → List Op → Bool
 may_ask m ops = detectable m (steps_from m 1 ops) opening

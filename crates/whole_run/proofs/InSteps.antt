@@ -1,3 +1,4 @@
+-- Steps one after another, whatever their acts: what a reply lists, and what a read leaves in the pages.
 use Rattle.std.proofs.Common.{◌≡◌, ◌<◌, ◌≤◌, ℕ, zero, suc, ◌+◌, ◌-◌, true, false, eqb, if◌then◌else◌, List, [], ◌∷◌, ◌++◌, length, map, get_or, set, Option, Some, None, refl, sym, ap, ◌∙◌, arith}
 use Rattle.std.proofs.lemmas.Bool.{eq-eqb, ne_eqb}
 use Rattle.std.proofs.lemmas.List.{append_assoc, length-set}
@@ -18,8 +19,6 @@ use Rattle.whole_run.specs.ScriptWalk.{bad_from, reply_of, request_reply, whole_
 use Rattle.whole_run.specs.Settings.{Setting, block_of}
 use Rattle.whole_run.specs.Steps.{Reads, Step, each_from, steps_of}
 use Rattle.whole_run.specs.ReadsAs.{landing, listed_among, listed_in, read_op}
-
--- Steps one after another, whatever their acts: what a reply lists, and what a read leaves in the pages.
 
 -- what is listed of a block is what its act answers
 off_head : (j k : ℕ) (why : Why) (bad : List BadBlock) → k < j → listed_among (record { k = j; why = why } ∷ bad) k ≡ listed_among bad k

@@ -1,3 +1,4 @@
+-- The image under a map.
 use Rattle.std.proofs.Common.{◌≡◌, ◌≢◌, ◌<◌, ℕ, zero, suc, ◌+◌, false, ◌&&◌, List, [], ◌∷◌, length, get_or, set, Option, Some, None, refl, sym, ap, ◌∙◌, arith}
 use Rattle.std.proofs.lemmas.List.{length-set, set-set, set_comm, set-get_or, get_or-set_same, get_or-set_other, length-take-le, take_all}
 use Rattle.std.proofs.lemmas.Bool.{and_right}
@@ -16,8 +17,6 @@ use Rattle.whole_run.specs.Settings.{Setting}
 use Rattle.whole_run.specs.UnderMap.{IsClean, address_of, held, home, map_from, stored_as, under}
 use Rattle.whole_run.proofs.CalmWays.{IsProper, unmasked}
 use Rattle.whole_run.proofs.TupleFrames.{below_take, frame_is, frame_small}
-
--- The image under a map.
 
 abbrev pub AllProper : Setting → List Entry → Type 0
 AllProper m [] = Unit {0}

@@ -1,3 +1,4 @@
+-- What is listed for the medium has a sense of the medium.
 use Rattle.std.proofs.Common.{ℕ, ◌≡◌, Bool, true, false, eqb, if◌then◌else◌, Option, Some, None, refl}
 use Rattle.std.proofs.lemmas.Bool.{and_parts, eqb-true}
 use Rattle.pi_tuple.specs.declared.checks.Check.{Check}
@@ -5,8 +6,6 @@ use Rattle.sense_codes.specs.declared.Sense.{Sense}
 use Rattle.bio_core.specs.declared.fate.Why.TheVariants.{Adapter, Medium, Refused, Target}
 use Rattle.rig_api.specs.Log.{IsMediumSense}
 use Rattle.whole_run.specs.Senses.{check_of, finding_of, is_medium, is_medium_why, why_ended, why_of}
-
--- What is listed for the medium has a sense of the medium.
 
 medium_or : (t : Bool) (key asc ascq : ℕ) → is_medium_why (if t then Medium else Refused key asc ascq) ≡ true → t ≡ true
 medium_or true key asc ascq h = refl

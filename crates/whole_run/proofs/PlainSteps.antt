@@ -1,3 +1,4 @@
+-- A walk without faults is that of a plain map: block by block, then step by step.
 use Rattle.std.proofs.Common.{◌≡◌, ◌<◌, ℕ, ◌+◌, ◌^◌, Bool, true, false, not, ◌&&◌, ◌||◌, eqb, if◌then◌else◌, List, [], ◌∷◌, length, map, drop, take, get_or, set, Option, Some, None, refl, sym, ap, ◌∙◌, subst, arith}
 use Rattle.std.specs.Int.{w32, to_be_bytes, from_be_bytes}
 use Rattle.std.proofs.lemmas.Bool.{eq-eqb}
@@ -31,8 +32,6 @@ use Rattle.whole_run.specs.UnderMap.{IsUnder, NoneEscapes, SuppliesNoEscape, add
 use Rattle.whole_run.proofs.CalmWays.{IsProper, comes_home, goes, goes_bare, goes_on, is_right, loud, proper_entry, quiet, read_same, unmasked, wire_same}
 use Rattle.whole_run.proofs.MapUnder.{AllProper, proper_at, proper_set, put_unless, under_accepted, under_at}
 use Rattle.whole_run.proofs.TupleFrames.{below_append, below_drop, below_gather, below_scatter, below_take, four_below, frame_is, frame_small, guard_below, no, tag_below, tuple_below}
-
--- A walk without faults is that of a plain map: block by block, then step by step.
 
 -- answers that a reply can't tell apart
 pub record Same (a b : Answer) : Type 0 where

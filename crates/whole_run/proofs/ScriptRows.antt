@@ -1,3 +1,4 @@
+-- Scripts worked by hand, on pages of 1,100 bytes and a unit of five formatted blocks. Virtual block 0 lies at address 2.
 use Rattle.std.proofs.Common.{◌≡◌, ◌<◌, ℕ, zero, suc, Bool, true, false, List, [], ◌∷◌, ◌++◌, length, drop, get_or, refl, sym, arith}
 use Rattle.std.specs.List.{All}
 use Rattle.std.proofs.lemmas.List.Elements.{All-append, All-cons, All-nil, All-replicate}
@@ -34,8 +35,6 @@ use Rattle.whole_run.specs.PlainMap.{plain_map, plain_replies}
 use Rattle.whole_run.specs.ScriptWalk.{script_replies, script_walk}
 use Rattle.whole_run.specs.UnderMap.{IsClean, address_of, home, opened, under}
 use Rattle.whole_run.proofs.TupleFrames.{no}
-
--- Scripts worked by hand, on pages of 1,100 bytes and a unit of five formatted blocks. Virtual block 0 lies at address 2.
 
 abbrev pub with_faults : GuardKind → Bool → Bool → PiType → (app mask : ℕ) → List FaultLine → Setting
 with_faults kind dix dif ty app mask faults = record {

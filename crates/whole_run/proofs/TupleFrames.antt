@@ -1,3 +1,4 @@
+-- A frame is its data and its tuple; what is found in it, field by field.
 use Rattle.std.proofs.Common.{◌≡◌, ◌<◌, ℕ, zero, suc, ◌+◌, ◌-◌, ◌%◌, ◌^◌, Bool, true, false, not, ◌&&◌, ◌||◌, eqb, if◌then◌else◌, List, [], ◌∷◌, ◌++◌, length, take, drop, get_or, set, replicate, None, refl, sym, ap, ◌∙◌, arith, lit<}
 use Rattle.std.specs.Prelude.{bit_and}
 use Rattle.std.specs.Int.{w16, w32, from_be_bytes, to_be_bytes}
@@ -19,8 +20,6 @@ use Rattle.ref_remap.specs.Remapped.{remapped, remapped_bytes}
 use Rattle.ref_remap.proofs.Tags.{mapped-bytes}
 use Rattle.target_answer.specs.Frames.{data_of, frame_of, tuple_of}
 use Rattle.block_path.proofs.Cells.{AllBelow}
-
--- A frame is its data and its tuple; what is found in it, field by field.
 
 pub no : {A : Type 0} → false ≡ true → A
 no h = absurd (grind (arith, h))
