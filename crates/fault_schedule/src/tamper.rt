@@ -7,8 +7,8 @@ ghost use Rattle.fault_schedule.specs.Spans.{AreWithin, lines_of_op};
 use crate::{Crossing, FaultKind, FaultLine, FaultList, Label};
 use std::marker::Model;
 
-/// From which line of a schedule to which those of an op stand. Two bytes do, as a place past 255 counts as 255: behind a
-/// last line at 255 there may be more.
+/// From which line of a schedule to which those of an op stand. Two bytes do, as a place past 255 counts as 255:
+/// behind a last line at 255 there may be more.
 #[derive(Clone, Copy)]
 struct Span {
     first: u8,
