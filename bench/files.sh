@@ -51,4 +51,7 @@ median() { sort -n | awk '{ x[NR] = $1 } END { print x[int((NR + 1) / 2)] }'; }
 # The median in a file of rounds of what stands behind this name.
 median_of() { awk -F '\t' -v name="$1" '$1 == name { print $2 }' "$place/rounds" | median; }
 
+# The least of the same.
+least_of() { awk -F '\t' -v name="$1" '$1 == name { print $2 }' "$place/rounds" | sort -n | head -1; }
+
 ratio() { awk -v a="$1" -v b="$2" 'BEGIN { printf "%.2f", a / b }'; }
