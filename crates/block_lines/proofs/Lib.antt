@@ -1,3 +1,4 @@
 mod Sights
 mod Showing
+mod Differing
 mod Listing

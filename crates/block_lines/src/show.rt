@@ -13,7 +13,7 @@ use report_text::write_all;
 use target_answer::UnitSpec;
 
 /// The bytes of a stored block.
-fn stored_len(unit: UnitSpec) -> usize
+pub(crate) fn stored_len(unit: UnitSpec) -> usize
     ensures { result ≡ stored_size unit.ty unit.size }
 {
     match unit.ty {
@@ -22,8 +22,8 @@ fn stored_len(unit: UnitSpec) -> usize
     }
 }
 
-/// The number of blocks at fault, with this one.
-fn counted(bad: u32, is_bad: bool) -> u32
+/// The number of blocks at fault or that differ, with this one.
+pub(crate) fn counted(bad: u32, is_bad: bool) -> u32
     requires { bad + 1 < 2 ^ 32 }
     ensures { result ≡ bad + one_if is_bad }
 {

@@ -45,7 +45,7 @@ fn is_one(ty: PiType) -> bool
     }
 }
 
-fn is_zero(ty: PiType) -> bool
+pub(crate) fn is_zero(ty: PiType) -> bool
     ensures { result ≡ is_zero ty }
 {
     match ty {
@@ -54,7 +54,7 @@ fn is_zero(ty: PiType) -> bool
     }
 }
 
-fn tuple_in(eight: &[u8]) -> Tuple
+pub(crate) fn tuple_in(eight: &[u8]) -> Tuple
     requires { length eight.now ≡ 8 }
     ensures { result ≡ tuple_in eight.now }
 {
