@@ -1,0 +1,32 @@
+use Rattle.std.proofs.Common.{refl, arith}
+use Rattle.image_blocks.specs.Images.{units_open}
+use Rattle.image_diff.specs.Compared.{counts, lines_of, places, diff_of}
+use Rattle.image_diff.proofs.Comparing.{first_some, last_some, lines_some, passed_on}
+use Rattle.target_model.proofs.Bytes.{rise}
+use Rattle.image_diff.proofs.blocks.diff_all.Goals as goal
+
+pub returns-in-Err-clause-compared : goal.returns-in-Err-clause-compared
+returns-in-Err-clause-compared g c =
+    let p = places (units_open c.args.image.now) c.args.place (units_open c.args.other_image.now) c.args.to in (
+      c.in-Err.ensures.cause,
+      first_some p (g.S.Store.len c.args.store.now) (g.T.Store.len c.args.other.now) _ _ _ _ c.requires.place c.requires.other_place
+          (record { held = c.requires.held; told = g.met.S.Store.told c.args.store.now; other_held = c.requires.other_held; other_told = g.met.T.Store.told c.args.other.now }) c.in-Err.ensures.part,
+    )
+
+pub returns-in-Err-diff_lines-clause-compared : goal.returns-in-Err-diff_lines-clause-compared
+returns-in-Err-diff_lines-clause-compared g c =
+    let p = places (units_open c.args.image.now) c.args.place (units_open c.args.other_image.now) c.args.to in
+    passed_on c.in-Err-diff_lines.fault (lines_of p) (diff_of p) p p (g.S.Store.bytes c.args.store.now) (g.T.Store.bytes c.args.other.now) (g.S.Store.bytes c.args.store.now) (g.T.Store.bytes c.args.other.now)
+    (counts (g.S.Store.faults c.args.store.now) (g.S.Store.faults c.diff_lines.new.store) (g.T.Store.faults c.args.other.now) (g.T.Store.faults c.diff_lines.new.other) (g.O.Sink.faults c.write_diff_first.new.out) (g.O.Sink.faults c.diff_lines.new.out))
+    (counts (g.S.Store.faults c.args.store.now) (g.S.Store.faults c.diff_lines.new.store) (g.T.Store.faults c.args.other.now) (g.T.Store.faults c.diff_lines.new.other) (g.O.Sink.faults c.args.out.now) (g.O.Sink.faults c.diff_lines.new.out))
+    (g.O.Sink.taken c.write_diff_first.new.out) (g.O.Sink.taken c.args.out.now) (g.O.Sink.taken c.diff_lines.new.out) refl refl (omega arith) (omega arith) c.write_diff_first.ensures.count refl refl refl
+    (λ h. lines_some p (g.S.Store.bytes c.args.store.now) (g.T.Store.bytes c.args.other.now) (g.O.Sink.taken c.args.out.now) (g.O.Sink.taken c.write_diff_first.new.out) (g.O.Sink.taken c.diff_lines.new.out) c.in-Ok.ensures.whole h)
+    c.in-Err-diff_lines.ensures.compared
+
+pub returns-in-Err-write_compared-clause-compared : goal.returns-in-Err-write_compared-clause-compared
+returns-in-Err-write_compared-clause-compared g c =
+    let p = places (units_open c.args.image.now) c.args.place (units_open c.args.other_image.now) c.args.to in (
+      rise _ _ _ (omega (arith, c.write_diff_first.ensures.count, c.diff_lines.ensures.sinks)) c.in-Err-write_compared.ensures.cause,
+      last_some p c.in-Ok-diff_lines.differ (g.S.Store.bytes c.args.store.now) (g.T.Store.bytes c.args.other.now) (g.O.Sink.taken c.args.out.now) (g.O.Sink.taken c.write_diff_first.new.out) (g.O.Sink.taken c.diff_lines.new.out) (g.O.Sink.taken c.write_compared.new.out)
+          c.in-Ok.ensures.whole c.in-Ok-diff_lines.ensures.compared c.in-Err-write_compared.ensures.part,
+    )
