@@ -1,4 +1,4 @@
-//! The program `dixlab`: shows the stored blocks of disk images, and takes dumps of them out and in.
+//! The program `dixlab`: shows the stored blocks of disk images, compares them, and takes dumps of them out and in.
 #![tactic(auto)]
 
 use dix_base::{FileStore, StdinSource, StdoutSink};

@@ -1,6 +1,6 @@
 //! One call of the top call, and what comes of it.
 
-use crate::images::{image_after, image_in};
+use crate::images::{Images, image_after, image_in, second_in};
 use crate::lines::{behind, bytes, numbers};
 use dix_base::{MemSink, MemSource, MemStore, Sink, Source, Store};
 use image_rig::ImageRig;
@@ -16,7 +16,7 @@ const ROOM: u32 = 1_000_000;
 pub(crate) struct Came {
     pub(crate) status: u8,
     pub(crate) text: Vec<u8>,
-    /// Whether each byte of the image is as the row says.
+    /// Whether each byte of the images is as the row says.
     pub(crate) is_left: bool,
 }
 
@@ -71,17 +71,22 @@ fn sink_in(alloc: Global, lines: &[String]) -> Result<MemSink, AllocError> {
     MemSink::new(alloc, room, numbers(alloc, lines, "sink-fails")?)
 }
 
-/// Calls the top call with the words of a row over its image.
-pub(crate) fn came_over(alloc: Global, lines: &[String], table: &[u8]) -> Result<Came, AllocError> {
+/// Calls the top call with the words of a row over its images.
+pub(crate) fn came_over(
+    alloc: Global,
+    lines: &[String],
+    table: &Images,
+) -> Result<Came, AllocError> {
     let words = words_in(alloc, lines)?;
-    let before = image_in(alloc, lines, table)?;
+    let before = image_in(alloc, lines, &table.first)?;
+    let beside = second_in(alloc, lines, &table.second)?;
     let mut input = MemSource::new(
         bytes(alloc, lines, "in")?,
         numbers(alloc, lines, "source-fails")?,
     );
     let mut rig = ImageRig::new(alloc, no_store(alloc));
     let mut first = MemStore::new(before.clone()?, numbers(alloc, lines, "store-fails")?);
-    let mut second = no_store(alloc);
+    let mut second = MemStore::new(beside.clone()?, numbers(alloc, lines, "second-fails")?);
     let mut sink = sink_in(alloc, lines)?;
     let status = exit(
         alloc,
@@ -95,6 +100,7 @@ pub(crate) fn came_over(alloc: Global, lines: &[String], table: &[u8]) -> Result
     Ok(Came {
         status,
         text: Vec::from_slice(alloc, sink.bytes())?,
-        is_left: first.bytes() == image_after(alloc, lines, &before)?.as_slice(),
+        is_left: first.bytes() == image_after(alloc, lines, &before)?.as_slice()
+            && second.bytes() == beside.as_slice(),
     })
 }

@@ -5,6 +5,13 @@ use row_table::{bytes_of, cut, number};
 use scripted_rig::formatted;
 use std::alloc::{AllocError, Global};
 
+/// The images that rows go over: the first, and the second of a `diff`.
+#[derive(Drop)]
+pub(crate) struct Images {
+    pub(crate) first: Vec<u8>,
+    pub(crate) second: Vec<u8>,
+}
+
 /// The bytes of the freshly formatted image of the units that these words name; none where an image can't have them.
 pub(crate) fn image_of(alloc: Global, words: &str) -> Result<Vec<u8>, AllocError> {
     let mut units = Vec::new(alloc);
@@ -46,6 +53,22 @@ pub(crate) fn image_in(
     for line in lines {
         let (word, rest) = cut(line.as_str());
         change(alloc, &mut image, word, rest)?;
+    }
+    Ok(image)
+}
+
+/// The second image that a row's call is over, made of the table's.
+pub(crate) fn second_in(
+    alloc: Global,
+    lines: &[String],
+    table: &[u8],
+) -> Result<Vec<u8>, AllocError> {
+    let mut image = Vec::from_slice(alloc, table)?;
+    for line in lines {
+        let (word, rest) = cut(line.as_str());
+        if let Some(word) = word.strip_prefix("second-") {
+            change(alloc, &mut image, word, rest)?;
+        }
     }
     Ok(image)
 }

@@ -3,18 +3,25 @@
 use row_table::{bytes_of, cut};
 use std::alloc::{AllocError, Global};
 
-/// The marks that a line may have.
-const MARKS: &str =
-    "$ put cut more in then source-fails store-fails sink-fails room each status > >/ out";
+/// The marks of lines of images.
+const IMAGE_MARKS: &str = "put cut more second-put second-cut second-more then";
 
-/// Whether a line may have this mark.
-pub(crate) fn is_mark(word: &str) -> bool {
-    for mark in MARKS.split(' ') {
+/// The marks of other lines.
+const CALL_MARKS: &str =
+    "$ in source-fails store-fails second-fails sink-fails room each status > >/ out";
+
+fn is_one_of(word: &str, marks: &str) -> bool {
+    for mark in marks.split(' ') {
         if mark == word {
             return true;
         }
     }
     false
+}
+
+/// Whether a line may have this mark.
+pub(crate) fn is_mark(word: &str) -> bool {
+    is_one_of(word, IMAGE_MARKS) || is_one_of(word, CALL_MARKS)
 }
 
 /// What stands behind the mark in the first line that has it.

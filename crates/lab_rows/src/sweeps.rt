@@ -1,6 +1,7 @@
-//! Calls whose source, store or sink fails at each of its calls in turn, or whose sink has a byte more room each time.
+//! Calls whose source, one of whose stores or whose sink fails at each of its calls in turn, or whose sink has a byte more room each time.
 
 use crate::calls::{Came, came_over};
+use crate::images::Images;
 use crate::lines::{add_line, behind, text};
 use crate::wanted::add_call;
 use std::alloc::{AllocError, Global};
@@ -10,7 +11,7 @@ fn came_with(
     alloc: Global,
     lines: &[String],
     line: String,
-    table: &[u8],
+    table: &Images,
 ) -> Result<Came, AllocError> {
     let mut all = Vec::new(alloc);
     all.push(line)?;
@@ -28,7 +29,7 @@ fn is_beginning(came: &Came, whole: &[u8]) -> bool {
 /// Whether the call came to what it comes to where this fails: a beginning of the text, of `at` bytes where room is
 /// counted, or the line that says that the source failed, or the store as the image was opened or written.
 fn is_cut(came: &Came, whole: &[u8], mark: &str, at: usize) -> bool {
-    if mark == "store-fails" {
+    if mark == "store-fails" || mark == "second-fails" {
         return came.status == 5
             && (came.text.as_slice() == b"rig fault\n".as_slice() || is_beginning(came, whole));
     }
@@ -43,7 +44,7 @@ pub(crate) fn add_sweep(
     alloc: Global,
     others: &mut Vec<u8>,
     lines: &[String],
-    table: &[u8],
+    table: &Images,
 ) -> Result<(), AllocError> {
     let mark = behind(lines, "each");
     let whole = text(alloc, lines)?;

@@ -1,24 +1,27 @@
 //! The lines of the table.
 
 use crate::calls::came_over;
-use crate::images::image_of;
+use crate::images::{Images, image_of};
 use crate::lines::{has, is_mark};
 use crate::sweeps::add_sweep;
 use crate::wanted::add_call;
 use row_table::{Judge, cut};
 use std::alloc::{AllocError, Global};
 
-/// The image that rows go over, and the lines of the row that is read.
+/// The images that rows go over, and the lines of the row that is read.
 #[derive(Drop)]
 pub(crate) struct Table {
-    image: Vec<u8>,
+    images: Images,
     lines: Vec<String>,
 }
 
 impl Table {
     pub(crate) fn new(alloc: Global) -> Table {
         Table {
-            image: Vec::new(alloc),
+            images: Images {
+                first: Vec::new(alloc),
+                second: Vec::new(alloc),
+            },
             lines: Vec::new(alloc),
         }
     }
@@ -28,7 +31,12 @@ impl Judge for Table {
     fn set(&mut self, alloc: Global, line: &str) -> Result<bool, AllocError> {
         let (word, rest) = cut(line);
         if word == "image" {
-            self.image = image_of(alloc, rest)?;
+            self.images.first = image_of(alloc, rest)?;
+            self.images.second = self.images.first.clone()?;
+            return Ok(true);
+        }
+        if word == "second" {
+            self.images.second = image_of(alloc, rest)?;
             return Ok(true);
         }
         self.lines.push(String::from_str(alloc, line)?)?;
@@ -40,13 +48,13 @@ impl Judge for Table {
         let lines = std::mem::replace(&mut self.lines, Vec::new(alloc));
         let mut others = Vec::new(alloc);
         if has(&lines, "each") {
-            add_sweep(alloc, &mut others, &lines, &self.image)?;
+            add_sweep(alloc, &mut others, &lines, &self.images)?;
         } else {
             add_call(
                 alloc,
                 &mut others,
                 &lines,
-                &came_over(alloc, &lines, &self.image)?,
+                &came_over(alloc, &lines, &self.images)?,
             )?;
         }
         if others.is_empty() {

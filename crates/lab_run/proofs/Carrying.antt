@@ -7,6 +7,8 @@ use Rattle.image_blocks.specs.Places.{spec_of}
 use Rattle.image_dumps.specs.Dumps.{fits}
 use Rattle.image_dumps.specs.declared.fault.ImportFault.{ImportFault}
 use Rattle.image_dumps.specs.declared.fault.ImportFault.TheVariants as halt
+use Rattle.dix_words.specs.Grammar.{image_in}
+use Rattle.image_diff.specs.Compared.{Places, differ_of}
 use Rattle.image_show.specs.Shown.{bad_of}
 use Rattle.lab_words.specs.declared.command.Command.{Command}
 use Rattle.lab_words.specs.declared.command.Command.TheVariants.{Help, Version, ShowUnits, ShowBlocks, Diff, Export, Import, Vectors, Judge, Explain, Sweep}
@@ -15,10 +17,10 @@ use Rattle.lab_words.specs.declared.place.Place.{Place}
 use Rattle.rig_api.specs.Head.{Head, IsHeadOf, head_fault, head_of, units_of}
 use Rattle.rig_api.specs.declared.rig.RigFault.{RigFault}
 use Rattle.target_answer.specs.declared.units.UnitSpec.{UnitSpec}
-use Rattle.lab_run.specs.Calls.{Facts, laid_as, served_in, stretch_in}
-use Rattle.lab_run.specs.Headline.{Carries, Causes, DoneBy, IsAtFault, IsBadHead, IsComplete, IsDone, IsDumpAtFault, IsNoPlace, IsNoTuples, IsOtherLength, IsReady, IsRight, IsWrong, IsWrongDump, Wrote, dump_len, layout_named, place_named}
+use Rattle.lab_run.specs.Calls.{Facts, Held, laid_as, second_in, served_in, stretch_in, uses_second}
+use Rattle.lab_run.specs.Headline.{AreCalm, AreComparable, AreOtherPlaces, Carries, Causes, DoneBy, IsAtFault, IsBadHead, IsComplete, IsDone, IsDumpAtFault, IsNoPlace, IsNoTuples, IsOtherLength, IsReady, IsRight, IsSecondWrong, IsWrong, IsWrongDump, StoreRose, Wrote, dump_len, layout_named, place_named}
 use Rattle.lab_run.specs.Texts.{status_of}
-use Rattle.lab_run.specs.Verdict.{BrokeOff, Cause, CauseByCommand, DumpTaken, Ended, Exported, HasBadHead, HasBrokenOff, HasExported, HasFound, HasImported, HasNoPlace, HasNoTuples, HasOpened, Helped, Imported, Listed, Refused, Shown, Verdict, Versioned, Written, done_status, verdict_status, verdict_text}
+use Rattle.lab_run.specs.Verdict.{AreOneSize, BadHeadOf, BrokeOff, Cause, CauseByCommand, CauseNotCompared, Compared, DumpTaken, Ended, Exported, HasBadHead, HasBadSecond, HasBrokenOff, HasExported, HasFound, HasImported, HasNoPlace, HasNoSecondPlace, HasNoTuples, HasOpened, HasOtherCount, HasOtherSize, HaveBoth, Helped, OpenedAs, Imported, Listed, Refused, Shown, Verdict, Versioned, Written, done_status, verdict_status, verdict_text}
 use Rattle.lab_run.specs.declared.refusal.Refusal.{Refusal}
 use Rattle.lab_run.specs.declared.refusal.Refusal.TheVariants as refusal
 use Rattle.lab_run.specs.declared.status.Status.{Status}
@@ -44,6 +46,10 @@ refused_never refusal.Words e = cc
 refused_never (refusal.Image x) e = cc
 refused_never (refusal.Place x) e = cc
 refused_never refusal.NoTuples e = cc
+refused_never (refusal.SecondImage x) e = cc
+refused_never (refusal.SecondPlace x) e = cc
+refused_never refusal.OtherSize e = cc
+refused_never refusal.OtherCount e = cc
 refused_never (refusal.Short x) e = cc
 refused_never refusal.Long e = cc
 refused_never refusal.RigFault e = cc
@@ -57,6 +63,7 @@ never Helped e = done_never false e
 never Versioned e = done_never false e
 never (Listed us) e = done_never false e
 never (Shown us at blocks) e = done_never (ltb 0 (bad_of us at blocks)) e
+never (Compared p ones twos) e = done_never (ltb 0 (differ_of p ones twos)) e
 never (Exported us at layout blocks) e = done_never false e
 never (Imported us at count layout) e = done_never false e
 
@@ -71,6 +78,7 @@ done_or_refused Helped = inl (inl refl)
 done_or_refused Versioned = inl (inl refl)
 done_or_refused (Listed us) = inl (inl refl)
 done_or_refused (Shown us at blocks) = inl (done_is (ltb 0 (bad_of us at blocks)))
+done_or_refused (Compared p ones twos) = inl (done_is (ltb 0 (differ_of p ones twos)))
 done_or_refused (Exported us at layout blocks) = inl (inl refl)
 done_or_refused (Imported us at count layout) = inl (inl refl)
 
@@ -83,6 +91,14 @@ refused_not_done (refusal.Place x) (inl e) = cc
 refused_not_done (refusal.Place x) (inr e) = cc
 refused_not_done refusal.NoTuples (inl e) = cc
 refused_not_done refusal.NoTuples (inr e) = cc
+refused_not_done (refusal.SecondImage x) (inl e) = cc
+refused_not_done (refusal.SecondImage x) (inr e) = cc
+refused_not_done (refusal.SecondPlace x) (inl e) = cc
+refused_not_done (refusal.SecondPlace x) (inr e) = cc
+refused_not_done refusal.OtherSize (inl e) = cc
+refused_not_done refusal.OtherSize (inr e) = cc
+refused_not_done refusal.OtherCount (inl e) = cc
+refused_not_done refusal.OtherCount (inr e) = cc
 refused_not_done (refusal.Short x) (inl e) = cc
 refused_not_done (refusal.Short x) (inr e) = cc
 refused_not_done refusal.Long (inl e) = cc
@@ -94,14 +110,33 @@ refused_not_done refusal.ReadFault (inr e) = cc
 refused_not_done refusal.Memory (inl e) = cc
 refused_not_done refusal.Memory (inr e) = cc
 
-broke_at : (v : Verdict) (f : Facts) (old new : Option (List ℕ)) (result : Status) → BrokeOff v f old new result → (result ≡ status.RigFault) × Rose f.first.faults f.first_after.faults
+broke_at : (v : Verdict) (f : Facts) (old new : Option (List ℕ)) (result : Status) → BrokeOff v f old new result → result ≡ status.RigFault
 broke_at (Refused r) f old new result b = absurd b
 broke_at Helped f old new result b = absurd b
 broke_at Versioned f old new result b = absurd b
 broke_at (Listed us) f old new result b = absurd b
-broke_at (Shown us at blocks) f old new result b = (b.0, b.1)
-broke_at (Exported us at layout blocks) f old new result b = (b.0, b.1)
+broke_at (Shown us at blocks) f old new result b = b.0
+broke_at (Compared p ones twos) f old new result b = b.0
+broke_at (Exported us at layout blocks) f old new result b = b.0
 broke_at (Imported us at count layout) f old new result b = absurd b
+
+one_rose : (c : Option Command) (f : Facts) → uses_second c ≡ true → Rose f.first.faults f.first_after.faults ⊎ Rose f.second.faults f.second_after.faults → StoreRose c f
+one_rose c f u (inl r) = inl r
+one_rose c f u (inr r) = inr (u, r)
+
+broke_by : (v : Verdict) (f : Facts) (old new : Option (List ℕ)) (result : Status) → Cause v f → BrokeOff v f old new result → StoreRose (served_in f.words) f
+broke_by (Refused r) f old new result c b = absurd b
+broke_by Helped f old new result c b = absurd b
+broke_by Versioned f old new result c b = absurd b
+broke_by (Listed us) f old new result c b = absurd b
+broke_by (Shown us at blocks) f old new result c b = inl b.1
+broke_by (Compared p ones twos) f old new result c b = one_rose (served_in f.words) f (ap uses_second c.named) b.1
+broke_by (Exported us at layout blocks) f old new result c b = inl b.1
+broke_by (Imported us at count layout) f old new result c b = absurd b
+
+no_store_rose : (c : Option Command) (f : Facts) → AreCalm c f → StoreRose c f → ⊥
+no_store_rose c f calm (inl r) = never_rose f.first.faults f.first_after.faults calm.0 r
+no_store_rose c f calm (inr r) = never_rose f.second.faults f.second_after.faults (calm.1 r.0) r.1
 
 not_write_fault : IsDone status.WriteFault → ⊥
 not_write_fault (inl e) = cc
@@ -116,7 +151,7 @@ not_rig_fault (inr e) = cc
 whole : (v : Verdict) (f : Facts) (old new : Option (List ℕ)) (o n : ℕ) (result : Status) → Written (verdict_status v) (verdict_text v) old new o n result ⊎ BrokeOff v f old new result → IsDone result → Wrote (verdict_status v) (verdict_text v) old new result
 whole v f old new o n result (inl (inl w)) d = w
 whole v f old new o n result (inl (inr w)) d = absurd (not_write_fault (subst IsDone w.0 d))
-whole v f old new o n result (inr b) d = absurd (not_rig_fault (subst IsDone (broke_at v f old new result b).0 d))
+whole v f old new o n result (inr b) d = absurd (not_rig_fault (subst IsDone (broke_at v f old new result b) d))
 
 done_by : (f : Facts) (old new : Option (List ℕ)) (o n : ℕ) (result : Status) (v : Verdict) → Cause v f → Written (verdict_status v) (verdict_text v) old new o n result ⊎ BrokeOff v f old new result → IsDone result → DoneBy (served_in f.words) f old new result
 done_by f old new o n result (Refused r) c w d = absurd (refused_not_done r (subst IsDone (whole (Refused r) f old new o n result w d).0 d))
@@ -126,6 +161,9 @@ done_by f old new o n result (Listed us) c w d =
     subst (λ (x : Option Command). DoneBy x f old new result) (sym c.named) (record { units = us; listed = c; wrote = whole (Listed us) f old new o n result w d })
 done_by f old new o n result (Shown us at blocks) c w d =
     subst (λ (x : Option Command). DoneBy x f old new result) (sym c.named) (record { units = us; at = at; blocks = blocks; shown = c; there = c.there; wrote = whole (Shown us at blocks) f old new o n result w d })
+done_by f old new o n result (Compared p ones twos) c w d =
+    subst (λ (x : Option Command). DoneBy x f old new result) (sym c.named)
+    (record { places = p; ones = ones; twos = twos; compared = c; there = c.both.first.there; other_there = c.both.there; wrote = whole (Compared p ones twos) f old new o n result w d })
 done_by f old new o n result (Exported us at layout blocks) c w d =
     subst (λ (x : Option Command). DoneBy x f old new result) (sym c.named)
     (record { units = us; at = at; blocks = blocks; exported = c; there = c.found.there; wrote = whole (Exported us at layout blocks) f old new o n result w d })
@@ -155,7 +193,7 @@ bad_head (Some Help) x f e = absurd e
 bad_head (Some Version) x f e = absurd e
 bad_head (Some ShowUnits) x f e = e
 bad_head (Some (ShowBlocks place)) x f e = e
-bad_head (Some (Diff one two)) x f e = absurd e
+bad_head (Some (Diff one two)) x f e = e
 bad_head (Some (Export place layout)) x f e = e
 bad_head (Some (Import place layout)) x f e = e.0
 bad_head (Some Vectors) x f e = absurd e
@@ -169,7 +207,7 @@ no_place (Some Help) x f e = absurd e
 no_place (Some Version) x f e = absurd e
 no_place (Some ShowUnits) x f e = absurd e
 no_place (Some (ShowBlocks place)) x f e = (place, refl, e)
-no_place (Some (Diff one two)) x f e = absurd e
+no_place (Some (Diff one two)) x f e = (one, refl, e)
 no_place (Some (Export place layout)) x f e = (place, refl, e)
 no_place (Some (Import place layout)) x f e = (place, refl, e.0)
 no_place (Some Vectors) x f e = absurd e
@@ -190,6 +228,63 @@ no_tuples (Some Vectors) f e = absurd e
 no_tuples (Some Judge) f e = absurd e
 no_tuples (Some Explain) f e = absurd e
 no_tuples (Some (Sweep byte units)) f e = absurd e
+
+-- the refusals of the second image of a `diff`
+second_head : (c : Option Command) (x : RigFault) (f : Facts) → CauseByCommand c (refusal.SecondImage x) f → (one : Place) × (other : Place) × (c ≡ Some (Diff one other)) × HasBadSecond one x f
+second_head None x f e = absurd (cc)
+second_head (Some Help) x f e = absurd e
+second_head (Some Version) x f e = absurd e
+second_head (Some ShowUnits) x f e = absurd e
+second_head (Some (ShowBlocks place)) x f e = absurd e
+second_head (Some (Diff one two)) x f e = (one, two, refl, e)
+second_head (Some (Export place layout)) x f e = absurd e
+second_head (Some (Import place layout)) x f e = absurd e
+second_head (Some Vectors) x f e = absurd e
+second_head (Some Judge) x f e = absurd e
+second_head (Some Explain) x f e = absurd e
+second_head (Some (Sweep byte units)) x f e = absurd e
+
+second_place : (c : Option Command) (x : PlaceFault) (f : Facts) → CauseByCommand c (refusal.SecondPlace x) f → (one : Place) × (other : Place) × (c ≡ Some (Diff one other)) × HasNoSecondPlace one other x f
+second_place None x f e = absurd (cc)
+second_place (Some Help) x f e = absurd e
+second_place (Some Version) x f e = absurd e
+second_place (Some ShowUnits) x f e = absurd e
+second_place (Some (ShowBlocks place)) x f e = absurd e
+second_place (Some (Diff one two)) x f e = (one, two, refl, e)
+second_place (Some (Export place layout)) x f e = absurd e
+second_place (Some (Import place layout)) x f e = absurd e
+second_place (Some Vectors) x f e = absurd e
+second_place (Some Judge) x f e = absurd e
+second_place (Some Explain) x f e = absurd e
+second_place (Some (Sweep byte units)) x f e = absurd e
+
+other_size : (c : Option Command) (f : Facts) → CauseByCommand c refusal.OtherSize f → (one : Place) × (other : Place) × (c ≡ Some (Diff one other)) × HasOtherSize one other f
+other_size None f e = absurd (cc)
+other_size (Some Help) f e = absurd e
+other_size (Some Version) f e = absurd e
+other_size (Some ShowUnits) f e = absurd e
+other_size (Some (ShowBlocks place)) f e = absurd e
+other_size (Some (Diff one two)) f e = (one, two, refl, e)
+other_size (Some (Export place layout)) f e = absurd e
+other_size (Some (Import place layout)) f e = absurd e
+other_size (Some Vectors) f e = absurd e
+other_size (Some Judge) f e = absurd e
+other_size (Some Explain) f e = absurd e
+other_size (Some (Sweep byte units)) f e = absurd e
+
+other_count : (c : Option Command) (f : Facts) → CauseByCommand c refusal.OtherCount f → (one : Place) × (other : Place) × (c ≡ Some (Diff one other)) × HasOtherCount one other f
+other_count None f e = absurd (cc)
+other_count (Some Help) f e = absurd e
+other_count (Some Version) f e = absurd e
+other_count (Some ShowUnits) f e = absurd e
+other_count (Some (ShowBlocks place)) f e = absurd e
+other_count (Some (Diff one two)) f e = (one, two, refl, e)
+other_count (Some (Export place layout)) f e = absurd e
+other_count (Some (Import place layout)) f e = absurd e
+other_count (Some Vectors) f e = absurd e
+other_count (Some Judge) f e = absurd e
+other_count (Some Explain) f e = absurd e
+other_count (Some (Sweep byte units)) f e = absurd e
 
 short_dump : (c : Option Command) (x : ℕ) (f : Facts) → CauseByCommand c (refusal.Short x) f → (place : Place) × (layout : Layout) × (c ≡ Some (Import place layout)) × HasBrokenOff (halt.Short x) place layout f
 short_dump None x f e = absurd (cc)
@@ -240,16 +335,17 @@ broken_store place layout f b = rose_from f.first.faults b.taken.opened_faults f
 broken_source : (place : Place) (layout : Layout) (f : Facts) → HasBrokenOff halt.Source place layout f → Rose f.reads f.reads_after
 broken_source place layout f b = b.taken.ends.0
 
-store_rose : (c : Option Command) (f : Facts) → CauseByCommand c refusal.RigFault f → Rose f.first.faults f.first_after.faults
+store_rose : (c : Option Command) (f : Facts) → CauseByCommand c refusal.RigFault f → StoreRose c f
 store_rose None f e = absurd (cc)
 store_rose (Some Help) f e = absurd e
 store_rose (Some Version) f e = absurd e
-store_rose (Some ShowUnits) f e = e
-store_rose (Some (ShowBlocks place)) f e = e
-store_rose (Some (Diff one two)) f e = absurd e
-store_rose (Some (Export place layout)) f e = e
-store_rose (Some (Import place layout)) f (inl e) = e.0
-store_rose (Some (Import place layout)) f (inr e) = broken_store place layout f e
+store_rose (Some ShowUnits) f e = inl e
+store_rose (Some (ShowBlocks place)) f e = inl e
+store_rose (Some (Diff one two)) f (inl e) = inl e
+store_rose (Some (Diff one two)) f (inr e) = inr (refl, e)
+store_rose (Some (Export place layout)) f e = inl e
+store_rose (Some (Import place layout)) f (inl e) = inl e.0
+store_rose (Some (Import place layout)) f (inr e) = inl (broken_store place layout f e)
 store_rose (Some Vectors) f e = absurd e
 store_rose (Some Judge) f e = absurd e
 store_rose (Some Explain) f e = absurd e
@@ -260,6 +356,10 @@ refused_words f refusal.Words c e = words_alone (served_in f.words) f c
 refused_words f (refusal.Image x) c e = absurd (cc)
 refused_words f (refusal.Place x) c e = absurd (cc)
 refused_words f refusal.NoTuples c e = absurd (cc)
+refused_words f (refusal.SecondImage x) c e = absurd (cc)
+refused_words f (refusal.SecondPlace x) c e = absurd (cc)
+refused_words f refusal.OtherSize c e = absurd (cc)
+refused_words f refusal.OtherCount c e = absurd (cc)
 refused_words f (refusal.Short x) c e = absurd (cc)
 refused_words f refusal.Long c e = absurd (cc)
 refused_words f refusal.RigFault c e = absurd (cc)
@@ -270,18 +370,26 @@ refused_image : (f : Facts) (r : Refusal) → CauseByCommand (served_in f.words)
 refused_image f refusal.Words c e = absurd (cc)
 refused_image f (refusal.Image x) c e = inl (x, bad_head (served_in f.words) x f c)
 refused_image f (refusal.Place x) c e = let k = no_place (served_in f.words) x f c in inr (inl (k.0, x, k.1, k.2))
-refused_image f refusal.NoTuples c e = let k = no_tuples (served_in f.words) f c in inr (inr (k.0, k.1, k.2, k.3))
+refused_image f refusal.NoTuples c e = let k = no_tuples (served_in f.words) f c in inr (inr (inl (k.0, k.1, k.2, k.3)))
+refused_image f (refusal.SecondImage x) c e = let k = second_head (served_in f.words) x f c in inr (inr (inr (k.0, k.1, k.2, inl (x, k.3))))
+refused_image f (refusal.SecondPlace x) c e = let k = second_place (served_in f.words) x f c in inr (inr (inr (k.0, k.1, k.2, inr (inl (x, k.3)))))
+refused_image f refusal.OtherSize c e = let k = other_size (served_in f.words) f c in inr (inr (inr (k.0, k.1, k.2, inr (inr (inl k.3)))))
+refused_image f refusal.OtherCount c e = let k = other_count (served_in f.words) f c in inr (inr (inr (k.0, k.1, k.2, inr (inr (inr k.3)))))
 refused_image f (refusal.Short x) c e = absurd (cc)
 refused_image f refusal.Long c e = absurd (cc)
 refused_image f refusal.RigFault c e = absurd (cc)
 refused_image f refusal.ReadFault c e = absurd (cc)
 refused_image f refusal.Memory c e = absurd (cc)
 
-refused_rig : (f : Facts) (r : Refusal) → CauseByCommand (served_in f.words) r f → status_of r ≡ status.RigFault → Rose f.first.faults f.first_after.faults
+refused_rig : (f : Facts) (r : Refusal) → CauseByCommand (served_in f.words) r f → status_of r ≡ status.RigFault → StoreRose (served_in f.words) f
 refused_rig f refusal.Words c e = absurd (cc)
 refused_rig f (refusal.Image x) c e = absurd (cc)
 refused_rig f (refusal.Place x) c e = absurd (cc)
 refused_rig f refusal.NoTuples c e = absurd (cc)
+refused_rig f (refusal.SecondImage x) c e = absurd (cc)
+refused_rig f (refusal.SecondPlace x) c e = absurd (cc)
+refused_rig f refusal.OtherSize c e = absurd (cc)
+refused_rig f refusal.OtherCount c e = absurd (cc)
 refused_rig f (refusal.Short x) c e = absurd (cc)
 refused_rig f refusal.Long c e = absurd (cc)
 refused_rig f refusal.RigFault c e = store_rose (served_in f.words) f c
@@ -293,6 +401,10 @@ refused_input f refusal.Words c e = absurd (cc)
 refused_input f (refusal.Image x) c e = absurd (cc)
 refused_input f (refusal.Place x) c e = absurd (cc)
 refused_input f refusal.NoTuples c e = absurd (cc)
+refused_input f (refusal.SecondImage x) c e = absurd (cc)
+refused_input f (refusal.SecondPlace x) c e = absurd (cc)
+refused_input f refusal.OtherSize c e = absurd (cc)
+refused_input f refusal.OtherCount c e = absurd (cc)
 refused_input f (refusal.Short x) c e = let k = short_dump (served_in f.words) x f c in let b = k.3 in
     (k.0, k.1, b.units, b.at, k.2, b.taken.found, short_other k.1 b.units b.at x f.first.bytes f.first_after.bytes f.left f.left_after b.taken.ends)
 refused_input f refusal.Long c e = let k = long_dump (served_in f.words) f c in let b = k.3 in
@@ -306,6 +418,10 @@ refused_reads f refusal.Words c e = absurd (cc)
 refused_reads f (refusal.Image x) c e = absurd (cc)
 refused_reads f (refusal.Place x) c e = absurd (cc)
 refused_reads f refusal.NoTuples c e = absurd (cc)
+refused_reads f (refusal.SecondImage x) c e = absurd (cc)
+refused_reads f (refusal.SecondPlace x) c e = absurd (cc)
+refused_reads f refusal.OtherSize c e = absurd (cc)
+refused_reads f refusal.OtherCount c e = absurd (cc)
 refused_reads f (refusal.Short x) c e = absurd (cc)
 refused_reads f refusal.Long c e = absurd (cc)
 refused_reads f refusal.RigFault c e = absurd (cc)
@@ -319,6 +435,7 @@ by_status f P s Helped c refused other e = absurd (other (subst IsDone e (done_i
 by_status f P s Versioned c refused other e = absurd (other (subst IsDone e (done_is false)))
 by_status f P s (Listed us) c refused other e = absurd (other (subst IsDone e (done_is false)))
 by_status f P s (Shown us at blocks) c refused other e = absurd (other (subst IsDone e (done_is (ltb 0 (bad_of us at blocks)))))
+by_status f P s (Compared p ones twos) c refused other e = absurd (other (subst IsDone e (done_is (ltb 0 (differ_of p ones twos)))))
 by_status f P s (Exported us at layout blocks) c refused other e = absurd (other (subst IsDone e (done_is false)))
 by_status f P s (Imported us at count layout) c refused other e = absurd (other (subst IsDone e (done_is false)))
 
@@ -326,7 +443,7 @@ by_status f P s (Imported us at count layout) c refused other e = absurd (other 
 of_verdict : (f : Facts) (old new : Option (List ℕ)) (o n : ℕ) (result s : Status) (v : Verdict) → Written (verdict_status v) (verdict_text v) old new o n result ⊎ BrokeOff v f old new result → result ≡ s → (s ≡ status.WriteFault → ⊥) → (s ≡ status.RigFault → ⊥) → verdict_status v ≡ s
 of_verdict f old new o n result s v (inl (inl w)) e a b = sym w.0 ∙ e
 of_verdict f old new o n result s v (inl (inr w)) e a b = absurd (a (sym e ∙ w.0))
-of_verdict f old new o n result s v (inr w) e a b = absurd (b (sym e ∙ (broke_at v f old new result w).0))
+of_verdict f old new o n result s v (inr w) e a b = absurd (b (sym e ∙ broke_at v f old new result w))
 
 words_done : IsDone status.Words → ⊥
 words_done (inl e) = cc
@@ -344,15 +461,15 @@ reads_done : IsDone status.ReadFault → ⊥
 reads_done (inl e) = cc
 reads_done (inr e) = cc
 
-rig_rose : (f : Facts) (old new : Option (List ℕ)) (o n : ℕ) (result : Status) (v : Verdict) → Cause v f → Written (verdict_status v) (verdict_text v) old new o n result ⊎ BrokeOff v f old new result → result ≡ status.RigFault → Rose f.first.faults f.first_after.faults
-rig_rose f old new o n result v c (inl (inl w)) e = by_status f (Rose f.first.faults f.first_after.faults) status.RigFault v c (λ r cause k. refused_rig f r cause k) not_rig_fault (sym w.0 ∙ e)
+rig_rose : (f : Facts) (old new : Option (List ℕ)) (o n : ℕ) (result : Status) (v : Verdict) → Cause v f → Written (verdict_status v) (verdict_text v) old new o n result ⊎ BrokeOff v f old new result → result ≡ status.RigFault → StoreRose (served_in f.words) f
+rig_rose f old new o n result v c (inl (inl w)) e = by_status f (StoreRose (served_in f.words) f) status.RigFault v c (λ r cause k. refused_rig f r cause k) not_rig_fault (sym w.0 ∙ e)
 rig_rose f old new o n result v c (inl (inr w)) e = let k : status.WriteFault ≡ status.RigFault = sym w.0 ∙ e in absurd (cc)
-rig_rose f old new o n result v c (inr w) e = (broke_at v f old new result w).1
+rig_rose f old new o n result v c (inr w) e = broke_by v f old new result c w
 
 sink_rose : (f : Facts) (old new : Option (List ℕ)) (o n : ℕ) (result : Status) (v : Verdict) → Written (verdict_status v) (verdict_text v) old new o n result ⊎ BrokeOff v f old new result → result ≡ status.WriteFault → Rose o n
 sink_rose f old new o n result v (inl (inl w)) e = absurd (never v (sym w.0 ∙ e))
 sink_rose f old new o n result v (inl (inr w)) e = w.1
-sink_rose f old new o n result v (inr w) e = let k : status.RigFault ≡ status.WriteFault = sym (broke_at v f old new result w).0 ∙ e in absurd (cc)
+sink_rose f old new o n result v (inr w) e = let k : status.RigFault ≡ status.WriteFault = sym (broke_at v f old new result w) ∙ e in absurd (cc)
 
 -- words that are no command are refused
 no_command : (f : Facts) (old new : Option (List ℕ)) (o n : ℕ) (result : Status) (v : Verdict) → Cause v f → Written (verdict_status v) (verdict_text v) old new o n result ⊎ BrokeOff v f old new result → served_in f.words ≡ None → (result ≡ status.Words) ⊎ (result ≡ status.WriteFault)
@@ -363,6 +480,7 @@ no_command f old new o n result Helped c w e = let k = sym c ∙ e in absurd (cc
 no_command f old new o n result Versioned c w e = let k = sym c ∙ e in absurd (cc)
 no_command f old new o n result (Listed us) c w e = let k = sym c.named ∙ e in absurd (cc)
 no_command f old new o n result (Shown us at blocks) c w e = let k = sym c.named ∙ e in absurd (cc)
+no_command f old new o n result (Compared p ones twos) c w e = let k = sym c.named ∙ e in absurd (cc)
 no_command f old new o n result (Exported us at layout blocks) c w e = let k = sym c.named ∙ e in absurd (cc)
 no_command f old new o n result (Imported us at count layout) c w e = let k = sym c.named ∙ e in absurd (cc)
 
@@ -377,7 +495,7 @@ right_head (Some Help) image x f i e = absurd e
 right_head (Some Version) image x f i e = absurd e
 right_head (Some ShowUnits) image x f i e = i
 right_head (Some (ShowBlocks place)) image x f i e = i.0
-right_head (Some (Diff one two)) image x f i e = absurd i
+right_head (Some (Diff one two)) image x f i e = i.right
 right_head (Some (Export place layout)) image x f i e = i.0
 right_head (Some (Import place layout)) image x f i e = i.0.right
 right_head (Some Vectors) image x f i e = absurd i
@@ -386,8 +504,11 @@ right_head (Some Explain) image x f i e = absurd i
 right_head (Some (Sweep byte units)) image x f i e = absurd i
 
 -- the units that were opened are those of the image that is told
+units_told : (name : List ℕ) (old new : Held) (image : List ℕ) (us : List UnitSpec) → old.bytes ≡ Some image → OpenedAs us name old new → us ≡ units_of (head_of image)
+units_told name old new image us b o = o.units ∙ ap units_of (head_is o.head image old.bytes b o.told)
+
 told_units : (f : Facts) (image : List ℕ) (us : List UnitSpec) → f.first.bytes ≡ Some image → HasOpened us f → us ≡ units_of (head_of image)
-told_units f image us b o = o.units ∙ ap units_of (head_is o.head image f.first.bytes b o.told)
+told_units f image us b o = units_told (image_in f.words) f.first f.first_after image us b o
 
 -- an image that has a place has no fault there
 two_places : (f : Facts) (image : List ℕ) (place : Place) (x : PlaceFault) (at : Stretch) → f.first.bytes ≡ Some image → stretch_in (units_of (head_of image)) place ≡ Ok at → HasNoPlace place x f → ⊥
@@ -418,7 +539,7 @@ right_place (Some Help) image x f i b e = e
 right_place (Some Version) image x f i b e = e
 right_place (Some ShowUnits) image x f i b e = e
 right_place (Some (ShowBlocks place)) image x f i b e = two_places f image place x i.1.0 b i.1.1 e
-right_place (Some (Diff one two)) image x f i b e = i
+right_place (Some (Diff one two)) image x f i b e = two_places f image one x i.places.at b (ap (λ (u : List UnitSpec). stretch_in u one) (sym i.units) ∙ i.there) e
 right_place (Some (Export place layout)) image x f i b e = two_places f image place x i.1.0 b i.1.1 e
 right_place (Some (Import place layout)) image x f i b e = two_places f image place x i.0.at b i.0.there e.0
 right_place (Some Vectors) image x f i b e = i
@@ -432,7 +553,7 @@ right_layout (Some Help) image f i b e = e
 right_layout (Some Version) image f i b e = e
 right_layout (Some ShowUnits) image f i b e = e
 right_layout (Some (ShowBlocks place)) image f i b e = e
-right_layout (Some (Diff one two)) image f i b e = i
+right_layout (Some (Diff one two)) image f i b e = e
 right_layout (Some (Export place layout)) image f i b e = two_fits f image place layout i.1.0 b i.1.1 i.1.2 e
 right_layout (Some (Import place layout)) image f i b e = two_fits f image place layout i.0.at b i.0.there i.0.fits e.0
 right_layout (Some Vectors) image f i b e = i
@@ -454,7 +575,7 @@ right_short (Some Help) image x f i b e = e
 right_short (Some Version) image x f i b e = e
 right_short (Some ShowUnits) image x f i b e = e
 right_short (Some (ShowBlocks place)) image x f i b e = e
-right_short (Some (Diff one two)) image x f i b e = i
+right_short (Some (Diff one two)) image x f i b e = e
 right_short (Some (Export place layout)) image x f i b e = e
 right_short (Some (Import place layout)) image x f i b e = right_length f image e.units e.at place layout b i.0 i.1 e.taken.found (short_other layout e.units e.at x f.first.bytes f.first_after.bytes f.left f.left_after e.taken.ends)
 right_short (Some Vectors) image x f i b e = i
@@ -468,7 +589,7 @@ right_long (Some Help) image f i b e = e
 right_long (Some Version) image f i b e = e
 right_long (Some ShowUnits) image f i b e = e
 right_long (Some (ShowBlocks place)) image f i b e = e
-right_long (Some (Diff one two)) image f i b e = i
+right_long (Some (Diff one two)) image f i b e = e
 right_long (Some (Export place layout)) image f i b e = e
 right_long (Some (Import place layout)) image f i b e = right_length f image e.units e.at place layout b i.0 i.1 e.taken.found (long_other layout e.units e.at e.taken.ends.0 f.first.bytes f.first_after.bytes f.left f.left_after e.taken.ends.1)
 right_long (Some Vectors) image f i b e = i
@@ -482,7 +603,7 @@ right_reads (Some Help) image f i e = e
 right_reads (Some Version) image f i e = e
 right_reads (Some ShowUnits) image f i e = e
 right_reads (Some (ShowBlocks place)) image f i e = e
-right_reads (Some (Diff one two)) image f i e = i
+right_reads (Some (Diff one two)) image f i e = e
 right_reads (Some (Export place layout)) image f i e = e
 right_reads (Some (Import place layout)) image f i e = never_rose f.reads f.reads_after i.0.calm (broken_source place layout f e)
 right_reads (Some Vectors) image f i e = i
@@ -490,7 +611,95 @@ right_reads (Some Judge) image f i e = i
 right_reads (Some Explain) image f i e = i
 right_reads (Some (Sweep byte units)) image f i e = i
 
-refused_for_memory : (f : Facts) (image : List ℕ) (r : Refusal) → f.first.bytes ≡ Some image → IsRight (served_in f.words) f image → Calm f.first.faults f.first_after.faults → CauseByCommand (served_in f.words) r f → status_of r ≡ status.Memory
+-- ---- two images that can be compared
+
+bad_none : (name : List ℕ) (old new : Held) (image : List ℕ) (x : RigFault) → old.bytes ≡ Some image → BadHeadOf x name old new → head_fault (head_of image) ≡ None → ⊥
+bad_none name old new image x b h r = let e : ◌≡◌ {A = Option RigFault} (Some x) None = sym h.judged ∙ ap head_fault (head_is h.head image old.bytes b h.told) ∙ r in absurd (cc)
+
+-- a place that was found in both is the same
+one_place : (us vs : List UnitSpec) (place : Place) (at to : Stretch) → us ≡ vs → stretch_in us place ≡ Ok at → stretch_in vs place ≡ Ok to → at ≡ to
+one_place us vs place at to e a b = let both : ◌≡◌ {A = Result Stretch PlaceFault} (Ok at) (Ok to) = sym a ∙ ap (λ (u : List UnitSpec). stretch_in u place) e ∙ b in cc
+
+-- the places that were opened are those of the images that are told
+pub record ArePlaces (p q : Places) : Type 0 where
+  pub units : p.units ≡ q.units
+  pub others : p.others ≡ q.others
+  pub at : p.at ≡ q.at
+  pub to : p.to ≡ q.to
+
+told_places : (f : Facts) (image second : List ℕ) (one other : Place) (p q : Places) → f.first.bytes ≡ Some image → f.second.bytes ≡ Some second → HaveBoth one other p f → q.units ≡ units_of (head_of image) → q.others ≡ units_of (head_of second) →
+    stretch_in q.units one ≡ Ok q.at → stretch_in q.others other ≡ Ok q.to → ArePlaces p q
+told_places f image second one other p q b d h u v a t =
+    let x : p.units ≡ q.units = told_units f image p.units b h.first.opened ∙ sym u in
+    let y : p.others ≡ q.others = units_told (second_in f.words) f.second f.second_after second p.others d h.opened ∙ sym v in
+    record { units = x; others = y; at = one_place p.units q.units one p.at q.at x h.first.there a; to = one_place p.others q.others other p.to q.to y h.there t }
+
+one_size : (p q : Places) → ArePlaces p q → AreOneSize q → AreOneSize p
+one_size p q s h = rw (s.units, s.others, s.at, s.to) h
+
+one_number : (p q : Places) → ArePlaces p q → q.at.count ≡ q.to.count → p.at.count ≡ p.to.count
+one_number p q s h = rw (s.at, s.to) h
+
+right_second_head : (c : Option Command) (image : List ℕ) (x : RigFault) (f : Facts) → IsRight c f image → CauseByCommand c (refusal.SecondImage x) f → ⊥
+right_second_head None image x f i e = i
+right_second_head (Some Help) image x f i e = e
+right_second_head (Some Version) image x f i e = e
+right_second_head (Some ShowUnits) image x f i e = e
+right_second_head (Some (ShowBlocks place)) image x f i e = e
+right_second_head (Some (Diff one two)) image x f i e = bad_none (second_in f.words) f.second f.second_after i.second x i.told e.second i.second_right
+right_second_head (Some (Export place layout)) image x f i e = e
+right_second_head (Some (Import place layout)) image x f i e = e
+right_second_head (Some Vectors) image x f i e = e
+right_second_head (Some Judge) image x f i e = e
+right_second_head (Some Explain) image x f i e = e
+right_second_head (Some (Sweep byte units)) image x f i e = e
+
+right_second_place : (c : Option Command) (image : List ℕ) (x : PlaceFault) (f : Facts) → IsRight c f image → CauseByCommand c (refusal.SecondPlace x) f → ⊥
+right_second_place None image x f i e = i
+right_second_place (Some Help) image x f i e = e
+right_second_place (Some Version) image x f i e = e
+right_second_place (Some ShowUnits) image x f i e = e
+right_second_place (Some (ShowBlocks place)) image x f i e = e
+right_second_place (Some (Diff one two)) image x f i e = (
+    let u = units_told (second_in f.words) f.second f.second_after i.second e.others i.told e.opened ∙ sym i.others in
+    let both : ◌≡◌ {A = Result Stretch PlaceFault} (Ok i.places.to) (Err x) = sym i.other_there ∙ ap (λ (u : List UnitSpec). stretch_in u two) (sym u) ∙ e.judged in
+    absurd (cc))
+right_second_place (Some (Export place layout)) image x f i e = e
+right_second_place (Some (Import place layout)) image x f i e = e
+right_second_place (Some Vectors) image x f i e = e
+right_second_place (Some Judge) image x f i e = e
+right_second_place (Some Explain) image x f i e = e
+right_second_place (Some (Sweep byte units)) image x f i e = e
+
+right_size : (c : Option Command) (image : List ℕ) (f : Facts) → IsRight c f image → f.first.bytes ≡ Some image → CauseByCommand c refusal.OtherSize f → ⊥
+right_size None image f i b e = i
+right_size (Some Help) image f i b e = e
+right_size (Some Version) image f i b e = e
+right_size (Some ShowUnits) image f i b e = e
+right_size (Some (ShowBlocks place)) image f i b e = e
+right_size (Some (Diff one two)) image f i b e = e.judged (one_size e.places i.places (told_places f image i.second one two e.places i.places b i.told e.both i.units i.others i.there i.other_there) i.size)
+right_size (Some (Export place layout)) image f i b e = e
+right_size (Some (Import place layout)) image f i b e = e
+right_size (Some Vectors) image f i b e = e
+right_size (Some Judge) image f i b e = e
+right_size (Some Explain) image f i b e = e
+right_size (Some (Sweep byte units)) image f i b e = e
+
+right_count : (c : Option Command) (image : List ℕ) (f : Facts) → IsRight c f image → f.first.bytes ≡ Some image → CauseByCommand c refusal.OtherCount f → ⊥
+right_count None image f i b e = i
+right_count (Some Help) image f i b e = e
+right_count (Some Version) image f i b e = e
+right_count (Some ShowUnits) image f i b e = e
+right_count (Some (ShowBlocks place)) image f i b e = e
+right_count (Some (Diff one two)) image f i b e = e.judged (one_number e.places i.places (told_places f image i.second one two e.places i.places b i.told e.both i.units i.others i.there i.other_there) i.many)
+right_count (Some (Export place layout)) image f i b e = e
+right_count (Some (Import place layout)) image f i b e = e
+right_count (Some Vectors) image f i b e = e
+right_count (Some Judge) image f i b e = e
+right_count (Some Explain) image f i b e = e
+right_count (Some (Sweep byte units)) image f i b e = e
+
+refused_for_memory : (f : Facts) (image : List ℕ) (r : Refusal) → f.first.bytes ≡ Some image → IsRight (served_in f.words) f image → AreCalm (served_in f.words) f → CauseByCommand (served_in f.words) r f → status_of r ≡ status.Memory
 refused_for_memory f image refusal.Words b i calm c = absurd (subst (λ (x : Option Command). IsRight x f image) (words_alone (served_in f.words) f c) i)
 refused_for_memory f image (refusal.Image x) b i calm c =
     let bad = bad_head (served_in f.words) x f c in
@@ -498,25 +707,30 @@ refused_for_memory f image (refusal.Image x) b i calm c =
     absurd (cc)
 refused_for_memory f image (refusal.Place x) b i calm c = absurd (right_place (served_in f.words) image x f i b c)
 refused_for_memory f image refusal.NoTuples b i calm c = absurd (right_layout (served_in f.words) image f i b c)
+refused_for_memory f image (refusal.SecondImage x) b i calm c = absurd (right_second_head (served_in f.words) image x f i c)
+refused_for_memory f image (refusal.SecondPlace x) b i calm c = absurd (right_second_place (served_in f.words) image x f i c)
+refused_for_memory f image refusal.OtherSize b i calm c = absurd (right_size (served_in f.words) image f i b c)
+refused_for_memory f image refusal.OtherCount b i calm c = absurd (right_count (served_in f.words) image f i b c)
 refused_for_memory f image (refusal.Short x) b i calm c = absurd (right_short (served_in f.words) image x f i b c)
 refused_for_memory f image refusal.Long b i calm c = absurd (right_long (served_in f.words) image f i b c)
-refused_for_memory f image refusal.RigFault b i calm c = absurd (never_rose f.first.faults f.first_after.faults calm (store_rose (served_in f.words) f c))
+refused_for_memory f image refusal.RigFault b i calm c = absurd (no_store_rose (served_in f.words) f calm (store_rose (served_in f.words) f c))
 refused_for_memory f image refusal.ReadFault b i calm c = absurd (right_reads (served_in f.words) image f i c)
 refused_for_memory f image refusal.Memory b i calm c = refl
 
-completes : (f : Facts) (image : List ℕ) (v : Verdict) → f.first.bytes ≡ Some image → IsRight (served_in f.words) f image → Calm f.first.faults f.first_after.faults → Cause v f → IsDone (verdict_status v) ⊎ (verdict_status v ≡ status.Memory)
+completes : (f : Facts) (image : List ℕ) (v : Verdict) → f.first.bytes ≡ Some image → IsRight (served_in f.words) f image → AreCalm (served_in f.words) f → Cause v f → IsDone (verdict_status v) ⊎ (verdict_status v ≡ status.Memory)
 completes f image (Refused r) b i calm c = inr (refused_for_memory f image r b i calm c)
 completes f image Helped b i calm c = inl (done_is false)
 completes f image Versioned b i calm c = inl (done_is false)
 completes f image (Listed us) b i calm c = inl (done_is false)
 completes f image (Shown us at blocks) b i calm c = inl (done_is (ltb 0 (bad_of us at blocks)))
+completes f image (Compared p ones twos) b i calm c = inl (done_is (ltb 0 (differ_of p ones twos)))
 completes f image (Exported us at layout blocks) b i calm c = inl (done_is false)
 completes f image (Imported us at count layout) b i calm c = inl (done_is false)
 
-as_written : (f : Facts) (old new : Option (List ℕ)) (o n : ℕ) (result : Status) (v : Verdict) → Written (verdict_status v) (verdict_text v) old new o n result ⊎ BrokeOff v f old new result → Calm f.first.faults f.first_after.faults → Calm o n → result ≡ verdict_status v
-as_written f old new o n result v (inl (inl w)) cs co = w.0
-as_written f old new o n result v (inl (inr w)) cs co = absurd (never_rose o n co w.1)
-as_written f old new o n result v (inr w) cs co = absurd (never_rose f.first.faults f.first_after.faults cs (broke_at v f old new result w).1)
+as_written : (f : Facts) (old new : Option (List ℕ)) (o n : ℕ) (result : Status) (v : Verdict) → Cause v f → Written (verdict_status v) (verdict_text v) old new o n result ⊎ BrokeOff v f old new result → AreCalm (served_in f.words) f → Calm o n → result ≡ verdict_status v
+as_written f old new o n result v c (inl (inl w)) cs co = w.0
+as_written f old new o n result v c (inl (inr w)) cs co = absurd (never_rose o n co w.1)
+as_written f old new o n result v c (inr w) cs co = absurd (no_store_rose (served_in f.words) f cs (broke_by v f old new result c w))
 
 -- ---- an image at fault is refused
 
@@ -529,8 +743,15 @@ wrong_place f image us at place b o t w =
     let k : ◌≡◌ {A = Result Stretch PlaceFault} (Ok at) (Err w.0) = sym t ∙ ap (λ (u : List UnitSpec). stretch_in u place) units ∙ w.1 in
     absurd (cc)
 
+back : (p q : Places) → ArePlaces p q → ArePlaces q p
+back p q s = record { units = sym s.units; others = sym s.others; at = sym s.at; to = sym s.to }
+
+no_other : (p q : Places) → ArePlaces p q → AreOneSize p → p.at.count ≡ p.to.count → (AreOneSize q → ⊥) ⊎ (q.at.count ≡ q.to.count → ⊥) → ⊥
+no_other p q s h m (inl n) = n (one_size q p (back p q s) h)
+no_other p q s h m (inr n) = n (one_number q p (back p q s) m)
+
 -- an image that was opened and has the place isn't at fault for a command that shows the place
-wrong_shown : (f : Facts) (image : List ℕ) (us : List UnitSpec) (at : Stretch) (place : Place) → f.first.bytes ≡ Some image → HasOpened us f → stretch_in us place ≡ Ok at → IsWrong (Some (ShowBlocks place)) image → ⊥
+wrong_shown : (f : Facts) (image : List ℕ) (us : List UnitSpec) (at : Stretch) (place : Place) → f.first.bytes ≡ Some image → HasOpened us f → stretch_in us place ≡ Ok at → IsWrong (Some (ShowBlocks place)) f image → ⊥
 wrong_shown f image us at place b o t (inl w) = wrong_head f image us w.0 b o w.1
 wrong_shown f image us at place b o t (inr w) = wrong_place f image us at place b o t w
 
@@ -545,34 +766,88 @@ wrong_found f image us at place layout b h (inr (inr w)) =
     let both : true ≡ false = sym e ∙ w.2 in
     absurd (cc)
 
--- an image at fault isn't one that a dump was taken for
-wrong_dump : (c : Option Command) (f : Facts) (image : List ℕ) (place : Place) (layout : Layout) (us : List UnitSpec) (at : Stretch) → f.first.bytes ≡ Some image → c ≡ Some (Import place layout) → HasFound us at place layout f → IsWrong c image → ⊥
-wrong_dump c f image place layout us at b e h i = wrong_found f image us at place layout b h (subst (λ (x : Option Command). IsWrong x image) e i)
+-- nor for one that compares it
+wrong_compared : (f : Facts) (image : List ℕ) (one other : Place) (p : Places) (ones twos : List (List ℕ)) → f.first.bytes ≡ Some image → HaveBoth one other p f → AreOneSize p → p.at.count ≡ p.to.count → IsWrong (Some (Diff one other)) f image → ⊥
+wrong_compared f image one other p ones twos b h s m (inl w) = wrong_head f image p.units w.0 b h.first.opened w.1
+wrong_compared f image one other p ones twos b h s m (inr (inl w)) = wrong_place f image p.units p.at one b h.first.opened h.first.there w
+wrong_compared f image one other p ones twos b h s m (inr (inr w)) = no_other p w.1 (told_places f image w.0 one other p w.1 b w.2 h w.3 w.4 w.5 w.6) s m w.7
 
-refused_wrong : (f : Facts) (image : List ℕ) (r : Refusal) → f.first.bytes ≡ Some image → IsWrong (served_in f.words) image → Calm f.first.faults f.first_after.faults → CauseByCommand (served_in f.words) r f → (status_of r ≡ status.Image) ⊎ (status_of r ≡ status.Memory)
-refused_wrong f image refusal.Words b i calm c = absurd (subst (λ (x : Option Command). IsWrong x image) (words_alone (served_in f.words) f c) i)
+-- an image at fault isn't one that a dump was taken for
+wrong_dump : (c : Option Command) (f : Facts) (image : List ℕ) (place : Place) (layout : Layout) (us : List UnitSpec) (at : Stretch) → f.first.bytes ≡ Some image → c ≡ Some (Import place layout) → HasFound us at place layout f → IsWrong c f image → ⊥
+wrong_dump c f image place layout us at b e h i = wrong_found f image us at place layout b h (subst (λ (x : Option Command). IsWrong x f image) e i)
+
+refused_wrong : (f : Facts) (image : List ℕ) (r : Refusal) → f.first.bytes ≡ Some image → IsWrong (served_in f.words) f image → AreCalm (served_in f.words) f → CauseByCommand (served_in f.words) r f → (status_of r ≡ status.Image) ⊎ (status_of r ≡ status.Memory)
+refused_wrong f image refusal.Words b i calm c = absurd (subst (λ (x : Option Command). IsWrong x f image) (words_alone (served_in f.words) f c) i)
 refused_wrong f image (refusal.Image x) b i calm c = inl refl
 refused_wrong f image (refusal.Place x) b i calm c = inl refl
 refused_wrong f image refusal.NoTuples b i calm c = inl refl
+refused_wrong f image (refusal.SecondImage x) b i calm c = inl refl
+refused_wrong f image (refusal.SecondPlace x) b i calm c = inl refl
+refused_wrong f image refusal.OtherSize b i calm c = inl refl
+refused_wrong f image refusal.OtherCount b i calm c = inl refl
 refused_wrong f image (refusal.Short x) b i calm c = let k = short_dump (served_in f.words) x f c in let d = k.3 in absurd (wrong_dump (served_in f.words) f image k.0 k.1 d.units d.at b k.2 d.taken.found i)
 refused_wrong f image refusal.Long b i calm c = let k = long_dump (served_in f.words) f c in let d = k.3 in absurd (wrong_dump (served_in f.words) f image k.0 k.1 d.units d.at b k.2 d.taken.found i)
-refused_wrong f image refusal.RigFault b i calm c = absurd (never_rose f.first.faults f.first_after.faults calm (store_rose (served_in f.words) f c))
+refused_wrong f image refusal.RigFault b i calm c = absurd (no_store_rose (served_in f.words) f calm (store_rose (served_in f.words) f c))
 refused_wrong f image refusal.ReadFault b i calm c = let k = unread_dump (served_in f.words) f c in let d = k.3 in absurd (wrong_dump (served_in f.words) f image k.0 k.1 d.units d.at b k.2 d.taken.found i)
 refused_wrong f image refusal.Memory b i calm c = inr refl
 
-wrongs : (f : Facts) (image : List ℕ) (v : Verdict) → f.first.bytes ≡ Some image → IsWrong (served_in f.words) image → Calm f.first.faults f.first_after.faults → Cause v f → (verdict_status v ≡ status.Image) ⊎ (verdict_status v ≡ status.Memory)
+wrongs : (f : Facts) (image : List ℕ) (v : Verdict) → f.first.bytes ≡ Some image → IsWrong (served_in f.words) f image → AreCalm (served_in f.words) f → Cause v f → (verdict_status v ≡ status.Image) ⊎ (verdict_status v ≡ status.Memory)
 wrongs f image (Refused r) b i calm c = refused_wrong f image r b i calm c
-wrongs f image Helped b i calm c = absurd (subst (λ (x : Option Command). IsWrong x image) c i)
-wrongs f image Versioned b i calm c = absurd (subst (λ (x : Option Command). IsWrong x image) c i)
-wrongs f image (Listed us) b i calm c = let w = subst (λ (x : Option Command). IsWrong x image) c.named i in absurd (wrong_head f image us w.0 b c.opened w.1)
-wrongs f image (Shown us at blocks) b i calm c = absurd (wrong_shown f image us at c.place b c.opened c.there (subst (λ (x : Option Command). IsWrong x image) c.named i))
-wrongs f image (Exported us at layout blocks) b i calm c = absurd (wrong_found f image us at c.place layout b c.found (subst (λ (x : Option Command). IsWrong x image) c.named i))
-wrongs f image (Imported us at count layout) b i calm c = absurd (wrong_found f image us at c.place layout b c.taken.found (subst (λ (x : Option Command). IsWrong x image) c.named i))
+wrongs f image Helped b i calm c = absurd (subst (λ (x : Option Command). IsWrong x f image) c i)
+wrongs f image Versioned b i calm c = absurd (subst (λ (x : Option Command). IsWrong x f image) c i)
+wrongs f image (Listed us) b i calm c = let w = subst (λ (x : Option Command). IsWrong x f image) c.named i in absurd (wrong_head f image us w.0 b c.opened w.1)
+wrongs f image (Shown us at blocks) b i calm c = absurd (wrong_shown f image us at c.place b c.opened c.there (subst (λ (x : Option Command). IsWrong x f image) c.named i))
+wrongs f image (Compared p ones twos) b i calm c = absurd (wrong_compared f image c.one c.other p ones twos b c.both c.size c.many (subst (λ (x : Option Command). IsWrong x f image) c.named i))
+wrongs f image (Exported us at layout blocks) b i calm c = absurd (wrong_found f image us at c.place layout b c.found (subst (λ (x : Option Command). IsWrong x f image) c.named i))
+wrongs f image (Imported us at count layout) b i calm c = absurd (wrong_found f image us at c.place layout b c.taken.found (subst (λ (x : Option Command). IsWrong x f image) c.named i))
 
 refused_as : (f : Facts) (old new : Option (List ℕ)) (o n : ℕ) (result : Status) → Ended f old new o n result →
-    (image : List ℕ) → f.first.bytes ≡ Some image → IsWrong (served_in f.words) image → Calm f.first.faults f.first_after.faults → Calm o n → (result ≡ status.Image) ⊎ (result ≡ status.Memory)
+    (image : List ℕ) → f.first.bytes ≡ Some image → IsWrong (served_in f.words) f image → AreCalm (served_in f.words) f → Calm o n → (result ≡ status.Image) ⊎ (result ≡ status.Memory)
 refused_as f old new o n result ended = λ image b i cs co.
-    subst (λ (s : Status). (s ≡ status.Image) ⊎ (s ≡ status.Memory)) (sym (as_written f old new o n result ended.verdict ended.written cs co)) (wrongs f image ended.verdict b i cs ended.cause)
+    subst (λ (s : Status). (s ≡ status.Image) ⊎ (s ≡ status.Memory)) (sym (as_written f old new o n result ended.verdict ended.cause ended.written cs co)) (wrongs f image ended.verdict b i cs ended.cause)
+
+-- ---- a second image at fault is refused
+
+opened_second : (f : Facts) (image : List ℕ) (one other : Place) (p : Places) → f.second.bytes ≡ Some image → HaveBoth one other p f → IsBadHead image ⊎ IsNoPlace other image → ⊥
+opened_second f image one other p b h (inl w) = let k : ◌≡◌ {A = Option RigFault} None (Some w.0) = sym h.opened.right ∙ ap head_fault (head_is h.opened.head image f.second.bytes b h.opened.told) ∙ w.1 in absurd (cc)
+opened_second f image one other p b h (inr w) =
+    let units = units_told (second_in f.words) f.second f.second_after image p.others b h.opened in
+    let k : ◌≡◌ {A = Result Stretch PlaceFault} (Ok p.to) (Err w.0) = sym h.there ∙ ap (λ (u : List UnitSpec). stretch_in u other) units ∙ w.1 in
+    absurd (cc)
+
+-- what is refused of a `diff` but an image is want of memory
+second_refused : (one other : Place) (f : Facts) (r : Refusal) → served_in f.words ≡ Some (Diff one other) → AreCalm (served_in f.words) f → CauseNotCompared one other r f → (status_of r ≡ status.Image) ⊎ (status_of r ≡ status.Memory)
+second_refused one other f refusal.Words e calm c = absurd c
+second_refused one other f (refusal.Image x) e calm c = inl refl
+second_refused one other f (refusal.Place x) e calm c = inl refl
+second_refused one other f refusal.NoTuples e calm c = absurd c
+second_refused one other f (refusal.SecondImage x) e calm c = inl refl
+second_refused one other f (refusal.SecondPlace x) e calm c = inl refl
+second_refused one other f refusal.OtherSize e calm c = inl refl
+second_refused one other f refusal.OtherCount e calm c = inl refl
+second_refused one other f (refusal.Short x) e calm c = absurd c
+second_refused one other f refusal.Long e calm c = absurd c
+second_refused one other f refusal.RigFault e calm c = absurd (no_store_rose (served_in f.words) f calm (one_rose (served_in f.words) f (ap uses_second e) c))
+second_refused one other f refusal.ReadFault e calm c = absurd c
+second_refused one other f refusal.Memory e calm c = inr refl
+
+seconds : (f : Facts) (image : List ℕ) (v : Verdict) → f.second.bytes ≡ Some image → IsSecondWrong (served_in f.words) image → AreCalm (served_in f.words) f → Cause v f → (verdict_status v ≡ status.Image) ⊎ (verdict_status v ≡ status.Memory)
+seconds f image (Refused r) b i calm c = second_refused i.0 i.1 f r i.2 calm (subst (λ (x : Option Command). CauseByCommand x r f) i.2 c)
+seconds f image Helped b i calm c = let k = sym c ∙ i.2 in absurd (cc)
+seconds f image Versioned b i calm c = let k = sym c ∙ i.2 in absurd (cc)
+seconds f image (Listed us) b i calm c = let k = sym c.named ∙ i.2 in absurd (cc)
+seconds f image (Shown us at blocks) b i calm c = let k = sym c.named ∙ i.2 in absurd (cc)
+seconds f image (Compared p ones twos) b i calm c =
+    let both : ◌≡◌ {A = Option Command} (Some (Diff c.one c.other)) (Some (Diff i.0 i.1)) = sym c.named ∙ i.2 in
+    let same : c.other ≡ i.1 = cc in
+    absurd (opened_second f image c.one c.other p b c.both (subst (λ (x : Place). IsBadHead image ⊎ IsNoPlace x image) (sym same) i.3))
+seconds f image (Exported us at layout blocks) b i calm c = let k = sym c.named ∙ i.2 in absurd (cc)
+seconds f image (Imported us at count layout) b i calm c = let k = sym c.named ∙ i.2 in absurd (cc)
+
+second_refused_as : (f : Facts) (old new : Option (List ℕ)) (o n : ℕ) (result : Status) → Ended f old new o n result →
+    (image : List ℕ) → f.second.bytes ≡ Some image → IsSecondWrong (served_in f.words) image → AreCalm (served_in f.words) f → Calm o n → (result ≡ status.Image) ⊎ (result ≡ status.Memory)
+second_refused_as f old new o n result ended = λ image b i cs co.
+    subst (λ (s : Status). (s ≡ status.Image) ⊎ (s ≡ status.Memory)) (sym (as_written f old new o n result ended.verdict ended.cause ended.written cs co)) (seconds f image ended.verdict b i cs ended.cause)
 
 -- ---- a dump at fault is refused
 
@@ -635,14 +910,18 @@ dump_no_reads (Some (Sweep byte units)) image f i b e = i
 no_dump : (f : Facts) (image : List ℕ) (c : Option Command) → c ≡ None → IsWrongDump c f image → ⊥
 no_dump f image c e i = subst (λ (x : Option Command). IsWrongDump x f image) e i
 
-refused_dump : (f : Facts) (image : List ℕ) (r : Refusal) → f.first.bytes ≡ Some image → IsWrongDump (served_in f.words) f image → Calm f.first.faults f.first_after.faults → CauseByCommand (served_in f.words) r f → (status_of r ≡ status.Input) ⊎ (status_of r ≡ status.Memory)
+refused_dump : (f : Facts) (image : List ℕ) (r : Refusal) → f.first.bytes ≡ Some image → IsWrongDump (served_in f.words) f image → AreCalm (served_in f.words) f → CauseByCommand (served_in f.words) r f → (status_of r ≡ status.Input) ⊎ (status_of r ≡ status.Memory)
 refused_dump f image refusal.Words b i calm c = absurd (no_dump f image (served_in f.words) (words_alone (served_in f.words) f c) i)
 refused_dump f image (refusal.Image x) b i calm c = absurd (dump_no_head (served_in f.words) x image f i b c)
 refused_dump f image (refusal.Place x) b i calm c = absurd (dump_no_place (served_in f.words) x image f i b c)
 refused_dump f image refusal.NoTuples b i calm c = absurd (dump_no_tuples (served_in f.words) image f i b c)
+refused_dump f image (refusal.SecondImage x) b i calm c = (let k = second_head (served_in f.words) x f c in absurd (subst (λ (x : Option Command). IsWrongDump x f image) k.2 i))
+refused_dump f image (refusal.SecondPlace x) b i calm c = (let k = second_place (served_in f.words) x f c in absurd (subst (λ (x : Option Command). IsWrongDump x f image) k.2 i))
+refused_dump f image refusal.OtherSize b i calm c = (let k = other_size (served_in f.words) f c in absurd (subst (λ (x : Option Command). IsWrongDump x f image) k.2 i))
+refused_dump f image refusal.OtherCount b i calm c = (let k = other_count (served_in f.words) f c in absurd (subst (λ (x : Option Command). IsWrongDump x f image) k.2 i))
 refused_dump f image (refusal.Short x) b i calm c = inl refl
 refused_dump f image refusal.Long b i calm c = inl refl
-refused_dump f image refusal.RigFault b i calm c = absurd (never_rose f.first.faults f.first_after.faults calm (store_rose (served_in f.words) f c))
+refused_dump f image refusal.RigFault b i calm c = absurd (no_store_rose (served_in f.words) f calm (store_rose (served_in f.words) f c))
 refused_dump f image refusal.ReadFault b i calm c = absurd (dump_no_reads (served_in f.words) image f i b c)
 refused_dump f image refusal.Memory b i calm c = inr refl
 
@@ -655,19 +934,20 @@ not_whole f image us at count layout b c i =
     let l : length w.0.dump ≡ dump_len us at layout = whole_long (laid_as layout) us at count 65536 c.taken.opened_faults f.first_after.faults f.reads f.reads_after f.first.bytes f.first_after.bytes f.left f.left_after w.0.dump w.0.told c.taken.ends in
     w.1 (l ∙ ap (λ (s : Stretch). dump_len us s layout) here ∙ ap (λ (u : List UnitSpec). dump_len u w.0.at layout) units)
 
-dumps : (f : Facts) (image : List ℕ) (v : Verdict) → f.first.bytes ≡ Some image → IsWrongDump (served_in f.words) f image → Calm f.first.faults f.first_after.faults → Cause v f → (verdict_status v ≡ status.Input) ⊎ (verdict_status v ≡ status.Memory)
+dumps : (f : Facts) (image : List ℕ) (v : Verdict) → f.first.bytes ≡ Some image → IsWrongDump (served_in f.words) f image → AreCalm (served_in f.words) f → Cause v f → (verdict_status v ≡ status.Input) ⊎ (verdict_status v ≡ status.Memory)
 dumps f image (Refused r) b i calm c = refused_dump f image r b i calm c
 dumps f image Helped b i calm c = absurd (subst (λ (x : Option Command). IsWrongDump x f image) c i)
 dumps f image Versioned b i calm c = absurd (subst (λ (x : Option Command). IsWrongDump x f image) c i)
 dumps f image (Listed us) b i calm c = absurd (subst (λ (x : Option Command). IsWrongDump x f image) c.named i)
 dumps f image (Shown us at blocks) b i calm c = absurd (subst (λ (x : Option Command). IsWrongDump x f image) c.named i)
+dumps f image (Compared p ones twos) b i calm c = absurd (subst (λ (x : Option Command). IsWrongDump x f image) c.named i)
 dumps f image (Exported us at layout blocks) b i calm c = absurd (subst (λ (x : Option Command). IsWrongDump x f image) c.named i)
 dumps f image (Imported us at count layout) b i calm c = absurd (not_whole f image us at count layout b c i)
 
 dump_refused : (f : Facts) (old new : Option (List ℕ)) (o n : ℕ) (result : Status) → Ended f old new o n result →
-    (image : List ℕ) → f.first.bytes ≡ Some image → IsWrongDump (served_in f.words) f image → Calm f.first.faults f.first_after.faults → Calm o n → (result ≡ status.Input) ⊎ (result ≡ status.Memory)
+    (image : List ℕ) → f.first.bytes ≡ Some image → IsWrongDump (served_in f.words) f image → AreCalm (served_in f.words) f → Calm o n → (result ≡ status.Input) ⊎ (result ≡ status.Memory)
 dump_refused f old new o n result ended = λ image b i cs co.
-    subst (λ (s : Status). (s ≡ status.Input) ⊎ (s ≡ status.Memory)) (sym (as_written f old new o n result ended.verdict ended.written cs co)) (dumps f image ended.verdict b i cs ended.cause)
+    subst (λ (s : Status). (s ≡ status.Input) ⊎ (s ≡ status.Memory)) (sym (as_written f old new o n result ended.verdict ended.cause ended.written cs co)) (dumps f image ended.verdict b i cs ended.cause)
 
 why : (f : Facts) (old new : Option (List ℕ)) (o n : ℕ) (result : Status) → Ended f old new o n result → Causes f o n result
 why f old new o n result ended = record {
@@ -675,6 +955,7 @@ why f old new o n result ended = record {
   no_words = λ e. no_command f old new o n result ended.verdict ended.cause ended.written e;
   image = λ e. by_status f (IsAtFault f) status.Image ended.verdict ended.cause (λ r cause k. refused_image f r cause k) image_done (of_verdict f old new o n result status.Image ended.verdict ended.written e (λ k. cc) (λ k. cc));
   wrong = λ image b i cs co. refused_as f old new o n result ended image b i cs co;
+  second = λ image b i cs co. second_refused_as f old new o n result ended image b i cs co;
   rig = λ e. rig_rose f old new o n result ended.verdict ended.cause ended.written e;
   sink = λ e. sink_rose f old new o n result ended.verdict ended.written e;
   input = λ e. by_status f (IsDumpAtFault f) status.Input ended.verdict ended.cause (λ r cause k. refused_input f r cause k) input_done (of_verdict f old new o n result status.Input ended.verdict ended.written e (λ k. cc) (λ k. cc));
@@ -684,7 +965,7 @@ why f old new o n result ended = record {
 
 complete : (f : Facts) (old new : Option (List ℕ)) (o n : ℕ) (result : Status) → Ended f old new o n result → IsComplete f o n result
 complete f old new o n result ended = λ image b i cs co.
-    subst (λ (s : Status). IsDone s ⊎ (s ≡ status.Memory)) (sym (as_written f old new o n result ended.verdict ended.written cs co)) (completes f image ended.verdict b i cs ended.cause)
+    subst (λ (s : Status). IsDone s ⊎ (s ≡ status.Memory)) (sym (as_written f old new o n result ended.verdict ended.cause ended.written cs co)) (completes f image ended.verdict b i cs ended.cause)
 
 pub carried : (f : Facts) (old new : Option (List ℕ)) (o n : ℕ) (result : Status) → Ended f old new o n result → Carries f old new o n result
 carried f old new o n result ended = record {

@@ -231,7 +231,7 @@ keeps_by words place layout old mid new left left_after reads reads_after rig se
     record {
       source = subst (λ (c : Option Command). KeepsSource c f) (sym e) g.sources;
       rig = refl;
-      second = refl;
+      second = inl refl;
       image = subst (λ (c : Option Command). KeepsImage c f) (sym e) (inr (us, at, d.found.opened, d.found.there, kept_by r (laid_as layout) us at 65536 d.opened_faults new.faults reads reads_after old.bytes new.bytes left left_after d.ends));
       openings = rw (g.named, g.openings) t.opening;
       count = (let a = t.count in let b = g.count in omega arith);

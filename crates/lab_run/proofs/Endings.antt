@@ -65,7 +65,7 @@ not_shown place head.BadLength f t = record { opened = t.opened; head = t.judged
 not_shown place head.Failed f t = t.failed refl
 not_shown place head.Memory f t = tt
 
-keeps_source : (c : Option Command) (f : Facts) → f.left_after ≡ f.left → f.reads_after ≡ f.reads → KeepsSource c f
+pub keeps_source : (c : Option Command) (f : Facts) → f.left_after ≡ f.left → f.reads_after ≡ f.reads → KeepsSource c f
 keeps_source None f l r = (l, r)
 keeps_source (Some Help) f l r = (l, r)
 keeps_source (Some Version) f l r = (l, r)
@@ -79,7 +79,7 @@ keeps_source (Some Judge) f l r = (l, r)
 keeps_source (Some Explain) f l r = (l, r)
 keeps_source (Some (Sweep byte units)) f l r = (l, r)
 
-keeps_image : (c : Option Command) (f : Facts) → f.first_after.bytes ≡ f.first.bytes → KeepsImage c f
+pub keeps_image : (c : Option Command) (f : Facts) → f.first_after.bytes ≡ f.first.bytes → KeepsImage c f
 keeps_image None f b = b
 keeps_image (Some Help) f b = b
 keeps_image (Some Version) f b = b
@@ -96,7 +96,7 @@ keeps_image (Some (Sweep byte units)) f b = b
 pub kept_on : (words : List (List ℕ)) (old new : Held) (left : Option (List ℕ)) (reads : ℕ) (rig : View) (second : Held) → new.bytes ≡ old.bytes → OpenedOnce (image_in words) old new → old.faults ≤ new.faults → Keeps (on_first words old new left reads rig second)
 kept_on words old new left reads rig second b o c =
     let f = on_first words old new left reads rig second in
-    record { source = keeps_source (served_in words) f refl refl; rig = refl; second = refl; image = keeps_image (served_in words) f b; openings = o; count = c }
+    record { source = keeps_source (served_in words) f refl refl; rig = refl; second = inl refl; image = keeps_image (served_in words) f b; openings = o; count = c }
 
 pub unlisted : (words : List (List ℕ)) (old new : Held) (left : Option (List ℕ)) (reads : ℕ) (rig : View) (second : Held) (x : RigFault) (r : Refusal) (taken taken' : Option (List ℕ)) (o n : ℕ) (result : Status) →
     served_in words ≡ Some ShowUnits → r ≡ refusal_of x → Tried (Err x) (image_in words) old new → Written (status_of r) (refusal_text r) taken taken' o n result → Ended (on_first words old new left reads rig second) taken taken' o n result
@@ -206,15 +206,15 @@ no_command words h left reads rig second taken taken' o n result e w =
     without_image words h left reads rig second (Refused refusal.Words) taken taken' o n result (subst (λ (c : Option Command). CauseByCommand c refusal.Words (on_first words h h left reads rig second)) (sym e) refl) w
 
 -- the other commands aren't done yet
-pub not_served : (c : Command) → (c ≡ Help → ⊥) → (c ≡ Version → ⊥) → (c ≡ ShowUnits → ⊥) → ((place : Place) → c ≡ ShowBlocks place → ⊥) → ((place : Place) (layout : Layout) → c ≡ Export place layout → ⊥) → ((place : Place) (layout : Layout) → c ≡ Import place layout → ⊥) → served_by (Some c) ≡ None
-not_served Help a b d e x i = absurd (a refl)
-not_served Version a b d e x i = absurd (b refl)
-not_served ShowUnits a b d e x i = absurd (d refl)
-not_served (ShowBlocks place) a b d e x i = absurd (e place refl)
-not_served (Diff one two) a b d e x i = refl
-not_served (Export place layout) a b d e x i = absurd (x place layout refl)
-not_served (Import place layout) a b d e x i = absurd (i place layout refl)
-not_served Vectors a b d e x i = refl
-not_served Judge a b d e x i = refl
-not_served Explain a b d e x i = refl
-not_served (Sweep byte units) a b d e x i = refl
+pub not_served : (c : Command) → (c ≡ Help → ⊥) → (c ≡ Version → ⊥) → (c ≡ ShowUnits → ⊥) → ((place : Place) → c ≡ ShowBlocks place → ⊥) → ((one other : Place) → c ≡ Diff one other → ⊥) → ((place : Place) (layout : Layout) → c ≡ Export place layout → ⊥) → ((place : Place) (layout : Layout) → c ≡ Import place layout → ⊥) → served_by (Some c) ≡ None
+not_served Help a b d e y x i = absurd (a refl)
+not_served Version a b d e y x i = absurd (b refl)
+not_served ShowUnits a b d e y x i = absurd (d refl)
+not_served (ShowBlocks place) a b d e y x i = absurd (e place refl)
+not_served (Diff one two) a b d e y x i = absurd (y one two refl)
+not_served (Export place layout) a b d e y x i = absurd (x place layout refl)
+not_served (Import place layout) a b d e y x i = absurd (i place layout refl)
+not_served Vectors a b d e y x i = refl
+not_served Judge a b d e y x i = refl
+not_served Explain a b d e y x i = refl
+not_served (Sweep byte units) a b d e y x i = refl

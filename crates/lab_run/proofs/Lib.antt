@@ -1,3 +1,5 @@
 mod Carrying
 mod Endings
 mod Dumping
+mod Differing
+mod FewWords

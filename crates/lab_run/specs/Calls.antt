@@ -1,4 +1,4 @@
-use Rattle.std.specs.Prelude.{ℕ, ◌⊎◌, List, Option, Some, None, Result}
+use Rattle.std.specs.Prelude.{ℕ, ◌⊎◌, Bool, true, false, List, [], ◌∷◌, Option, Some, None, Result}
 use Rattle.image_blocks.specs.Places.{part_in, whole_in}
 use Rattle.image_blocks.specs.declared.stretch.PlaceFault.{PlaceFault}
 use Rattle.image_blocks.specs.declared.stretch.Stretch.{Stretch}
@@ -25,7 +25,7 @@ served_by (Some Help) = Some Help
 served_by (Some Version) = Some Version
 served_by (Some ShowUnits) = Some ShowUnits
 served_by (Some (ShowBlocks place)) = Some (ShowBlocks place)
-served_by (Some (Diff one other)) = None
+served_by (Some (Diff one other)) = Some (Diff one other)
 served_by (Some (Export place layout)) = Some (Export place layout)
 served_by (Some (Import place layout)) = Some (Import place layout)
 served_by (Some Vectors) = None
@@ -36,6 +36,29 @@ served_by (Some (Sweep byte units)) = None
 -- the command of the words, where they are in the grammar and the program does it
 abbrev pub served_in : List (List ℕ) → Option Command
 served_in words = served_by (command_in words)
+
+-- Whether a command uses the second store: `diff` alone does.
+abbrev pub uses_second : Option Command → Bool
+uses_second None = false
+uses_second (Some Help) = false
+uses_second (Some Version) = false
+uses_second (Some ShowUnits) = false
+uses_second (Some (ShowBlocks place)) = false
+uses_second (Some (Diff one other)) = true
+uses_second (Some (Export place layout)) = false
+uses_second (Some (Import place layout)) = false
+uses_second (Some Vectors) = false
+uses_second (Some Judge) = false
+uses_second (Some Explain) = false
+uses_second (Some (Sweep byte units)) = false
+
+-- the second image that the words of a `diff` name
+abbrev pub second_in : List (List ℕ) → List ℕ
+second_in [] = []
+second_in (verb ∷ []) = []
+second_in (verb ∷ image ∷ []) = []
+second_in (verb ∷ image ∷ place ∷ []) = []
+second_in (verb ∷ image ∷ place ∷ second ∷ words) = second
 
 -- the blocks of a place, where the units have them, or why they haven't
 abbrev pub stretch_in : List UnitSpec → Place → Result Stretch PlaceFault
@@ -100,3 +123,19 @@ on_input words old new left left_after reads reads_after rig second = record {
 -- a call that works on its first store alone
 abbrev pub on_first : List (List ℕ) → (old new : Held) → Option (List ℕ) → ℕ → View → Held → Facts
 on_first words old new left reads rig second = on_input words old new left left reads reads rig second
+
+-- a call that works on its two stores alone
+abbrev pub on_both : List (List ℕ) → (old new old_second new_second : Held) → Option (List ℕ) → ℕ → View → Facts
+on_both words old new old_second new_second left reads rig = record {
+  words = words;
+  left = left;
+  left_after = left;
+  reads = reads;
+  reads_after = reads;
+  rig = rig;
+  rig_after = rig;
+  first = old;
+  first_after = new;
+  second = old_second;
+  second_after = new_second;
+}

@@ -1,6 +1,7 @@
 use Rattle.std.specs.Prelude.{ℕ, ◌≡◌, ◌*◌, ◌⊎◌, Bool, false, true, ltb, List, length, Option, Some, None, Ok, Err}
 use Rattle.dix_base.specs.Told.{Appended, Calm, Rose}
 use Rattle.block_lines.specs.UnitText.{units_text}
+use Rattle.image_diff.specs.Compared.{Places, diff_of, differ_of}
 use Rattle.image_show.specs.Shown.{bad_of, text_of}
 use Rattle.image_blocks.specs.Places.{spec_of}
 use Rattle.image_dumps.specs.Dumps.{fits, piece_len}
@@ -14,9 +15,9 @@ use Rattle.lab_words.specs.declared.place.Place.{Place}
 use Rattle.rig_api.specs.Head.{head_fault, head_of, units_of}
 use Rattle.rig_api.specs.declared.rig.RigFault.{RigFault}
 use Rattle.target_answer.specs.declared.units.UnitSpec.{UnitSpec}
-use Rattle.lab_run.specs.Calls.{Facts, laid_as, served_in, stretch_in}
+use Rattle.lab_run.specs.Calls.{Facts, laid_as, served_in, stretch_in, uses_second}
 use Rattle.lab_run.specs.Texts.{help_text, imported_text, version_text}
-use Rattle.lab_run.specs.Verdict.{Ended, HasBadHead, HasExported, HasFound, HasImported, HasListed, HasNoPlace, HasNoTuples, HasOpened, HasShown, Keeps, done_status}
+use Rattle.lab_run.specs.Verdict.{AreOneSize, Ended, HasBadHead, HasBadSecond, HasCompared, HasExported, HasFound, HasImported, HasListed, HasNoPlace, HasNoSecondPlace, HasNoTuples, HasOpened, HasOtherCount, HasOtherSize, HasShown, Keeps, done_status}
 use Rattle.lab_run.specs.declared.status.Status.{Status}
 use Rattle.lab_run.specs.declared.status.Status.TheVariants as status
 
@@ -43,6 +44,16 @@ pub record WroteBlocks (place : Place) (f : Facts) (old new : Option (List ℕ))
   pub there : stretch_in units place ≡ Ok at
   pub wrote : Wrote (done_status (ltb 0 (bad_of units at blocks))) (text_of units at blocks) old new result
 
+-- Each two blocks of the places that differ were told, and the status is 1 exactly where there are such.
+pub record WroteDifferences (one other : Place) (f : Facts) (old new : Option (List ℕ)) (result : Status) : Type 0 where
+  pub places : Places
+  pub ones : List (List ℕ)
+  pub twos : List (List ℕ)
+  pub compared : HasCompared places ones twos f
+  pub there : stretch_in places.units one ≡ Ok places.at
+  pub other_there : stretch_in places.others other ≡ Ok places.to
+  pub wrote : Wrote (done_status (ltb 0 (differ_of places ones twos))) (diff_of places ones twos) old new result
+
 -- Each block of the place was written in the layout, and nothing else.
 pub record WroteDump (place : Place) (layout : Layout) (f : Facts) (old new : Option (List ℕ)) (result : Status) : Type 0 where
   pub units : List UnitSpec
@@ -68,7 +79,7 @@ DoneBy (Some Help) f old new result = Wrote status.Whole help_text old new resul
 DoneBy (Some Version) f old new result = Wrote status.Whole version_text old new result
 DoneBy (Some ShowUnits) f old new result = WroteUnits f old new result
 DoneBy (Some (ShowBlocks place)) f old new result = WroteBlocks place f old new result
-DoneBy (Some (Diff one other)) f old new result = ⊥
+DoneBy (Some (Diff one other)) f old new result = WroteDifferences one other f old new result
 DoneBy (Some (Export place layout)) f old new result = WroteDump place layout f old new result
 DoneBy (Some (Import place layout)) f old new result = TookDump place layout f old new result
 DoneBy (Some Vectors) f old new result = ⊥
@@ -76,14 +87,14 @@ DoneBy (Some Judge) f old new result = ⊥
 DoneBy (Some Explain) f old new result = ⊥
 DoneBy (Some (Sweep byte units)) f old new result = ⊥
 
--- the place that a command names
+-- the place that a command names, and `diff` first
 abbrev pub place_named : Option Command → Option Place
 place_named None = None
 place_named (Some Help) = None
 place_named (Some Version) = None
 place_named (Some ShowUnits) = None
 place_named (Some (ShowBlocks place)) = Some place
-place_named (Some (Diff one other)) = None
+place_named (Some (Diff one other)) = Some one
 place_named (Some (Export place layout)) = Some place
 place_named (Some (Import place layout)) = Some place
 place_named (Some Vectors) = None
@@ -106,10 +117,17 @@ layout_named (Some Judge) = None
 layout_named (Some Explain) = None
 layout_named (Some (Sweep byte units)) = None
 
--- The image is at fault: its head, or it hasn't the place of the words, or no tuples there, where the words ask for them.
+-- The first image of a `diff` isn't at fault, but its second is: its head, or it hasn't its place; or the places have other sizes of block, or other numbers of them.
+abbrev pub IsSecondAtFault : (one other : Place) → Facts → Type 0
+IsSecondAtFault one other f = ((fault : RigFault) × HasBadSecond one fault f) ⊎ (((fault : PlaceFault) × HasNoSecondPlace one other fault f) ⊎ (HasOtherSize one other f ⊎ HasOtherCount one other f))
+
+-- An image is at fault: its head, or it hasn't the place of the words, or no tuples there, where the words ask for them; or for `diff` it is the second.
 abbrev pub IsAtFault : Facts → Type 0
 IsAtFault f =
-    ((fault : RigFault) × HasBadHead fault f) ⊎ (((place : Place) × (fault : PlaceFault) × (place_named (served_in f.words) ≡ Some place) × HasNoPlace place fault f) ⊎ ((place : Place) × (layout : Layout) × (layout_named (served_in f.words) ≡ Some (place, layout)) × HasNoTuples place layout f))
+    ((fault : RigFault) × HasBadHead fault f)
+    ⊎ (((place : Place) × (fault : PlaceFault) × (place_named (served_in f.words) ≡ Some place) × HasNoPlace place fault f)
+    ⊎ (((place : Place) × (layout : Layout) × (layout_named (served_in f.words) ≡ Some (place, layout)) × HasNoTuples place layout f)
+    ⊎ ((one : Place) × (other : Place) × (served_in f.words ≡ Some (Diff one other)) × IsSecondAtFault one other f)))
 
 -- The head of an image that is told has a fault.
 abbrev pub IsBadHead : List ℕ → Type 0
@@ -123,20 +141,29 @@ IsNoPlace place image = (fault : PlaceFault) × (stretch_in (units_of (head_of i
 abbrev pub IsNoTuples : Place → Layout → List ℕ → Type 0
 IsNoTuples place layout image = (at : Stretch) × (stretch_in (units_of (head_of image)) place ≡ Ok at) × (fits (laid_as layout) (spec_of (units_of (head_of image)) at.dev).ty ≡ false)
 
--- The image that is told is at fault for the command: its head, or it hasn't the place of the words, or no tuples there.
-abbrev pub IsWrong : Option Command → List ℕ → Type 0
-IsWrong None image = ⊥
-IsWrong (Some Help) image = ⊥
-IsWrong (Some Version) image = ⊥
-IsWrong (Some ShowUnits) image = IsBadHead image
-IsWrong (Some (ShowBlocks place)) image = IsBadHead image ⊎ IsNoPlace place image
-IsWrong (Some (Diff one other)) image = ⊥
-IsWrong (Some (Export place layout)) image = IsBadHead image ⊎ (IsNoPlace place image ⊎ IsNoTuples place layout image)
-IsWrong (Some (Import place layout)) image = IsBadHead image ⊎ (IsNoPlace place image ⊎ IsNoTuples place layout image)
-IsWrong (Some Vectors) image = ⊥
-IsWrong (Some Judge) image = ⊥
-IsWrong (Some Explain) image = ⊥
-IsWrong (Some (Sweep byte units)) image = ⊥
+-- Two images that are told have their places, but of other sizes or numbers of blocks.
+abbrev pub AreOtherPlaces : (one other : Place) → List ℕ → Option (List ℕ) → Type 0
+AreOtherPlaces one other image beside =
+    (second : List ℕ) × (p : Places) × (beside ≡ Some second) × (p.units ≡ units_of (head_of image)) × (p.others ≡ units_of (head_of second)) × (stretch_in p.units one ≡ Ok p.at) × (stretch_in p.others other ≡ Ok p.to) × ((AreOneSize p → ⊥) ⊎ (p.at.count ≡ p.to.count → ⊥))
+
+-- The second image of a `diff` that is told is at fault: its head, or it hasn't its place.
+abbrev pub IsSecondWrong : Option Command → List ℕ → Type 0
+IsSecondWrong c image = (one : Place) × (other : Place) × (c ≡ Some (Diff one other)) × (IsBadHead image ⊎ IsNoPlace other image)
+
+-- The image that is told is at fault for the command: its head, or it hasn't the place of the words, or no tuples there, or for `diff` its place can't be compared with the other.
+abbrev pub IsWrong : Option Command → Facts → List ℕ → Type 0
+IsWrong None f image = ⊥
+IsWrong (Some Help) f image = ⊥
+IsWrong (Some Version) f image = ⊥
+IsWrong (Some ShowUnits) f image = IsBadHead image
+IsWrong (Some (ShowBlocks place)) f image = IsBadHead image ⊎ IsNoPlace place image
+IsWrong (Some (Diff one other)) f image = IsBadHead image ⊎ (IsNoPlace one image ⊎ AreOtherPlaces one other image f.second.bytes)
+IsWrong (Some (Export place layout)) f image = IsBadHead image ⊎ (IsNoPlace place image ⊎ IsNoTuples place layout image)
+IsWrong (Some (Import place layout)) f image = IsBadHead image ⊎ (IsNoPlace place image ⊎ IsNoTuples place layout image)
+IsWrong (Some Vectors) f image = ⊥
+IsWrong (Some Judge) f image = ⊥
+IsWrong (Some Explain) f image = ⊥
+IsWrong (Some (Sweep byte units)) f image = ⊥
 
 -- the bytes of a dump of a place
 abbrev pub dump_len : List UnitSpec → Stretch → Layout → ℕ
@@ -176,26 +203,49 @@ IsWrongDump (Some Judge) f image = ⊥
 IsWrongDump (Some Explain) f image = ⊥
 IsWrongDump (Some (Sweep byte units)) f image = ⊥
 
--- Each status but 6 has its cause: 2 comes exactly where the words are no command; 4 only where the image is at fault, and 3 only where the dump is, and where an image or a dump that is told is so it comes, or want of memory, if no count rose; 5, 7 and 8 only where the count of faults of the store, of the source, of the sink, rose.
+-- The count of faults of a store that the command uses rose.
+abbrev pub StoreRose : Option Command → Facts → Type 0
+StoreRose c f = Rose f.first.faults f.first_after.faults ⊎ ((uses_second c ≡ true) × Rose f.second.faults f.second_after.faults)
+
+-- No fault was counted of a store that the command uses.
+abbrev pub AreCalm : Option Command → Facts → Type 0
+AreCalm c f = Calm f.first.faults f.first_after.faults × (uses_second c ≡ true → Calm f.second.faults f.second_after.faults)
+
+-- Each status but 6 has its cause: 2 comes exactly where the words are no command; 4 only where an image is at fault, and 3 only where the dump is, and where an image or a dump that is told is so it comes, or want of memory, if no count rose; 5, 7 and 8 only where the count of faults of a store that the command uses, of the source, of the sink, rose.
 pub record Causes (f : Facts) (o n : ℕ) (result : Status) : Type 0 where
   pub words : result ≡ status.Words → served_in f.words ≡ None
   pub no_words : served_in f.words ≡ None → (result ≡ status.Words) ⊎ (result ≡ status.WriteFault)
   pub image : result ≡ status.Image → IsAtFault f
-  pub wrong : (image : List ℕ) → f.first.bytes ≡ Some image → IsWrong (served_in f.words) image → Calm f.first.faults f.first_after.faults → Calm o n → (result ≡ status.Image) ⊎ (result ≡ status.Memory)
-  pub rig : result ≡ status.RigFault → Rose f.first.faults f.first_after.faults
+  pub wrong : (image : List ℕ) → f.first.bytes ≡ Some image → IsWrong (served_in f.words) f image → AreCalm (served_in f.words) f → Calm o n → (result ≡ status.Image) ⊎ (result ≡ status.Memory)
+  pub second : (image : List ℕ) → f.second.bytes ≡ Some image → IsSecondWrong (served_in f.words) image → AreCalm (served_in f.words) f → Calm o n → (result ≡ status.Image) ⊎ (result ≡ status.Memory)
+  pub rig : result ≡ status.RigFault → StoreRose (served_in f.words) f
   pub sink : result ≡ status.WriteFault → Rose o n
   pub input : result ≡ status.Input → IsDumpAtFault f
-  pub dump : (image : List ℕ) → f.first.bytes ≡ Some image → IsWrongDump (served_in f.words) f image → Calm f.first.faults f.first_after.faults → Calm o n → (result ≡ status.Input) ⊎ (result ≡ status.Memory)
+  pub dump : (image : List ℕ) → f.first.bytes ≡ Some image → IsWrongDump (served_in f.words) f image → AreCalm (served_in f.words) f → Calm o n → (result ≡ status.Input) ⊎ (result ≡ status.Memory)
   pub reads : result ≡ status.ReadFault → Rose f.reads f.reads_after
 
--- The image that is told, and the dump, have all that the command asks of them: a right head and, where the words have a place, that place; what the layout asks for; and for `import` a dump of the place's length, of a source that doesn't fail.
+-- Two images that are told are right and have the places of a `diff`, of one size of block and one number of blocks.
+pub record AreComparable (one other : Place) (image : List ℕ) (beside : Option (List ℕ)) : Type 0 where
+  pub right : head_fault (head_of image) ≡ None
+  pub second : List ℕ
+  pub told : beside ≡ Some second
+  pub second_right : head_fault (head_of second) ≡ None
+  pub places : Places
+  pub units : places.units ≡ units_of (head_of image)
+  pub others : places.others ≡ units_of (head_of second)
+  pub there : stretch_in places.units one ≡ Ok places.at
+  pub other_there : stretch_in places.others other ≡ Ok places.to
+  pub size : AreOneSize places
+  pub many : places.at.count ≡ places.to.count
+
+-- The image that is told, and the dump, have all that the command asks of them: a right head and, where the words have a place, that place; what the layout asks for; for `diff` another image that is told and a place that can be compared; and for `import` a dump of the place's length, of a source that doesn't fail.
 abbrev pub IsRight : Option Command → Facts → List ℕ → Type 0
 IsRight None f image = ⊥
 IsRight (Some Help) f image = Unit {0}
 IsRight (Some Version) f image = Unit {0}
 IsRight (Some ShowUnits) f image = head_fault (head_of image) ≡ None
 IsRight (Some (ShowBlocks place)) f image = (head_fault (head_of image) ≡ None) × ((at : Stretch) × (stretch_in (units_of (head_of image)) place ≡ Ok at))
-IsRight (Some (Diff one other)) f image = ⊥
+IsRight (Some (Diff one other)) f image = AreComparable one other image f.second.bytes
 IsRight (Some (Export place layout)) f image = (head_fault (head_of image) ≡ None) × ((at : Stretch) × (stretch_in (units_of (head_of image)) place ≡ Ok at) × (fits (laid_as layout) (spec_of (units_of (head_of image)) at.dev).ty ≡ true))
 IsRight (Some (Import place layout)) f image = (r : IsReady place layout f image) × (length r.dump ≡ dump_len (units_of (head_of image)) r.at layout)
 IsRight (Some Vectors) f image = ⊥
@@ -203,10 +253,10 @@ IsRight (Some Judge) f image = ⊥
 IsRight (Some Explain) f image = ⊥
 IsRight (Some (Sweep byte units)) f image = ⊥
 
--- Words of a command, an image and a dump that are right, and no fault of store and sink give status 0 or 1, or want of memory.
+-- Words of a command, images and a dump that are right, and no fault of a store in use and of the sink give status 0 or 1, or want of memory.
 abbrev pub IsComplete : Facts → ℕ → ℕ → Status → Type 0
 IsComplete f o n result =
-    (image : List ℕ) → f.first.bytes ≡ Some image → IsRight (served_in f.words) f image → Calm f.first.faults f.first_after.faults → Calm o n → IsDone result ⊎ (result ≡ status.Memory)
+    (image : List ℕ) → f.first.bytes ≡ Some image → IsRight (served_in f.words) f image → AreCalm (served_in f.words) f → Calm o n → IsDone result ⊎ (result ≡ status.Memory)
 
 -- What a call carries, whatever its source, rig, stores and sink are: its verdict with the cause and its text, what was done, why it ended otherwise, what is as before, and that nothing that is right is refused.
 pub record Carries (f : Facts) (taken taken' : Option (List ℕ)) (o n : ℕ) (result : Status) : Type 0 where

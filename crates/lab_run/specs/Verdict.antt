@@ -12,6 +12,9 @@ use Rattle.image_dumps.specs.declared.fault.DumpFault.{DumpFault}
 use Rattle.image_dumps.specs.declared.fault.DumpFault.TheVariants as dumping
 use Rattle.image_dumps.specs.declared.fault.ImportFault.{ImportFault}
 use Rattle.image_dumps.specs.declared.fault.ImportFault.TheVariants as halt
+use Rattle.image_diff.specs.Compared.{HaveBlocks, Places, diff_of, differ_of}
+use Rattle.image_diff.specs.declared.fault.DiffFault.{DiffFault}
+use Rattle.image_diff.specs.declared.fault.DiffFault.TheVariants as compare
 use Rattle.image_show.specs.Shown.{bad_of, text_of}
 use Rattle.image_show.specs.declared.fault.ShowFault.{ShowFault}
 use Rattle.image_show.specs.declared.fault.ShowFault.TheVariants as show
@@ -24,7 +27,7 @@ use Rattle.rig_api.specs.Telling.{Opened}
 use Rattle.rig_api.specs.declared.rig.RigFault.{RigFault}
 use Rattle.target_answer.specs.Image.{units_in}
 use Rattle.target_answer.specs.declared.units.UnitSpec.{UnitSpec}
-use Rattle.lab_run.specs.Calls.{Facts, OpenedOnce, called_of, laid_as, served_in, stretch_in}
+use Rattle.lab_run.specs.Calls.{Facts, Held, OpenedOnce, called_of, laid_as, second_in, served_in, stretch_in, uses_second}
 use Rattle.lab_run.specs.Texts.{help_text, imported_text, refusal_text, status_of, version_text}
 use Rattle.lab_run.specs.declared.refusal.Refusal.{Refusal}
 use Rattle.lab_run.specs.declared.refusal.Refusal.TheVariants as refusal
@@ -33,13 +36,21 @@ use Rattle.lab_run.specs.declared.status.Status.TheVariants as status
 
 -- ---- what was done
 
--- The image of the words was opened, its head is right, and these are its units.
-pub record HasOpened (us : List UnitSpec) (f : Facts) : Type 0 where
-  pub opened : Opened (image_in f.words) (called_of f.first) (called_of f.first_after)
+-- The image of this name was opened in a store, its head is right, and these are its units.
+pub record OpenedAs (us : List UnitSpec) (name : List ℕ) (old new : Held) : Type 0 where
+  pub opened : Opened name (called_of old) (called_of new)
   pub head : Head
   pub right : head_fault head ≡ None
-  pub told : IsHeadOf head f.first.bytes
+  pub told : IsHeadOf head old.bytes
   pub units : us ≡ units_of head
+
+-- The image of the words was opened, its head is right, and these are its units.
+abbrev pub HasOpened : List UnitSpec → Facts → Type 0
+HasOpened us f = OpenedAs us (image_in f.words) f.first f.first_after
+
+-- The second image of the words was.
+abbrev pub HasOpenedSecond : List UnitSpec → Facts → Type 0
+HasOpenedSecond us f = OpenedAs us (second_in f.words) f.second f.second_after
 
 -- The image was opened, it has the place of the words, and these are its blocks: as many as the place has, each of the length that is stored. Where the image is told they are the stored ones.
 pub record HasShown (us : List UnitSpec) (at : Stretch) (blocks : List (List ℕ)) (f : Facts) : Type 0 where
@@ -48,6 +59,31 @@ pub record HasShown (us : List UnitSpec) (at : Stretch) (blocks : List (List ℕ
   pub opened : HasOpened us f
   pub there : stretch_in us place ≡ Ok at
   pub has : HasBlocks us at blocks f.first.bytes
+
+-- The first image was opened, and has its place.
+pub record HasFirst (us : List UnitSpec) (at : Stretch) (place : Place) (f : Facts) : Type 0 where
+  pub opened : HasOpened us f
+  pub there : stretch_in us place ≡ Ok at
+
+-- Both images were opened, and have their places.
+pub record HaveBoth (one other : Place) (p : Places) (f : Facts) : Type 0 where
+  pub first : HasFirst p.units p.at one f
+  pub opened : HasOpenedSecond p.others f
+  pub there : stretch_in p.others other ≡ Ok p.to
+
+-- The blocks of two places have the same size.
+abbrev pub AreOneSize : Places → Type 0
+AreOneSize p = (spec_of p.units p.at.dev).size ≡ (spec_of p.others p.to.dev).size
+
+-- Both images were opened and have the places of the words, of one size of block and one number of blocks, and these are their blocks: each of the length that is stored. Where an image is told they are the stored ones.
+pub record HasCompared (p : Places) (ones twos : List (List ℕ)) (f : Facts) : Type 0 where
+  pub one : Place
+  pub other : Place
+  pub named : served_in f.words ≡ Some (Diff one other)
+  pub both : HaveBoth one other p f
+  pub size : AreOneSize p
+  pub many : p.at.count ≡ p.to.count
+  pub has : HaveBlocks p ones twos f.first.bytes f.second.bytes
 
 -- The units of the image were listed.
 pub record HasListed (us : List UnitSpec) (f : Facts) : Type 0 where
@@ -82,12 +118,16 @@ pub record HasImported (us : List UnitSpec) (at : Stretch) (count : ℕ) (layout
 
 -- ---- refusals
 
--- The image of the words was opened, and this is the first fault of its head.
-pub record HasBadHead (fault : RigFault) (f : Facts) : Type 0 where
-  pub opened : Opened (image_in f.words) (called_of f.first) (called_of f.first_after)
+-- The image of this name was opened in a store, and this is the first fault of its head.
+pub record BadHeadOf (fault : RigFault) (name : List ℕ) (old new : Held) : Type 0 where
+  pub opened : Opened name (called_of old) (called_of new)
   pub head : Head
   pub judged : head_fault head ≡ Some fault
-  pub told : IsHeadOf head f.first.bytes
+  pub told : IsHeadOf head old.bytes
+
+-- The image of the words was opened, and this is the first fault of its head.
+abbrev pub HasBadHead : RigFault → Facts → Type 0
+HasBadHead fault f = BadHeadOf fault (image_in f.words) f.first f.first_after
 
 -- Why the units of an image aren't listed.
 abbrev pub CauseNotListed : Refusal → Facts → Type 0
@@ -95,6 +135,10 @@ CauseNotListed refusal.Words f = ⊥
 CauseNotListed (refusal.Image fault) f = HasBadHead fault f
 CauseNotListed (refusal.Place fault) f = ⊥
 CauseNotListed refusal.NoTuples f = ⊥
+CauseNotListed (refusal.SecondImage fault) f = ⊥
+CauseNotListed (refusal.SecondPlace fault) f = ⊥
+CauseNotListed refusal.OtherSize f = ⊥
+CauseNotListed refusal.OtherCount f = ⊥
 CauseNotListed (refusal.Short pieces) f = ⊥
 CauseNotListed refusal.Long f = ⊥
 CauseNotListed refusal.ReadFault f = ⊥
@@ -113,6 +157,10 @@ CauseNotShown place refusal.Words f = ⊥
 CauseNotShown place (refusal.Image fault) f = HasBadHead fault f
 CauseNotShown place (refusal.Place fault) f = HasNoPlace place fault f
 CauseNotShown place refusal.NoTuples f = ⊥
+CauseNotShown place (refusal.SecondImage fault) f = ⊥
+CauseNotShown place (refusal.SecondPlace fault) f = ⊥
+CauseNotShown place refusal.OtherSize f = ⊥
+CauseNotShown place refusal.OtherCount f = ⊥
 CauseNotShown place (refusal.Short pieces) f = ⊥
 CauseNotShown place refusal.Long f = ⊥
 CauseNotShown place refusal.ReadFault f = ⊥
@@ -133,6 +181,10 @@ CauseNotExported place layout refusal.Words f = ⊥
 CauseNotExported place layout (refusal.Image fault) f = HasBadHead fault f
 CauseNotExported place layout (refusal.Place fault) f = HasNoPlace place fault f
 CauseNotExported place layout refusal.NoTuples f = HasNoTuples place layout f
+CauseNotExported place layout (refusal.SecondImage fault) f = ⊥
+CauseNotExported place layout (refusal.SecondPlace fault) f = ⊥
+CauseNotExported place layout refusal.OtherSize f = ⊥
+CauseNotExported place layout refusal.OtherCount f = ⊥
 CauseNotExported place layout (refusal.Short pieces) f = ⊥
 CauseNotExported place layout refusal.Long f = ⊥
 CauseNotExported place layout refusal.RigFault f = Rose f.first.faults f.first_after.faults
@@ -157,11 +209,60 @@ CauseNotImported place layout refusal.Words f = ⊥
 CauseNotImported place layout (refusal.Image fault) f = HasBadHead fault f × IsUntouched f
 CauseNotImported place layout (refusal.Place fault) f = HasNoPlace place fault f × IsUntouched f
 CauseNotImported place layout refusal.NoTuples f = HasNoTuples place layout f × IsUntouched f
+CauseNotImported place layout (refusal.SecondImage fault) f = ⊥
+CauseNotImported place layout (refusal.SecondPlace fault) f = ⊥
+CauseNotImported place layout refusal.OtherSize f = ⊥
+CauseNotImported place layout refusal.OtherCount f = ⊥
 CauseNotImported place layout (refusal.Short pieces) f = HasBrokenOff (halt.Short pieces) place layout f
 CauseNotImported place layout refusal.Long f = HasBrokenOff halt.Long place layout f
 CauseNotImported place layout refusal.RigFault f = (Rose f.first.faults f.first_after.faults × IsUntouched f) ⊎ HasBrokenOff halt.Store place layout f
 CauseNotImported place layout refusal.ReadFault f = HasBrokenOff halt.Source place layout f
 CauseNotImported place layout refusal.Memory f = IsUntouched f
+
+-- The first image was opened and has its place, the second was opened, and this is the first fault of its head.
+pub record HasBadSecond (one : Place) (fault : RigFault) (f : Facts) : Type 0 where
+  pub units : List UnitSpec
+  pub at : Stretch
+  pub first : HasFirst units at one f
+  pub second : BadHeadOf fault (second_in f.words) f.second f.second_after
+
+-- The first image was opened and has its place, and the second was opened and hasn't its own, for this reason.
+pub record HasNoSecondPlace (one other : Place) (fault : PlaceFault) (f : Facts) : Type 0 where
+  pub units : List UnitSpec
+  pub at : Stretch
+  pub first : HasFirst units at one f
+  pub others : List UnitSpec
+  pub opened : HasOpenedSecond others f
+  pub judged : stretch_in others other ≡ Err fault
+
+-- Both images have their places, of other sizes of blocks.
+pub record HasOtherSize (one other : Place) (f : Facts) : Type 0 where
+  pub places : Places
+  pub both : HaveBoth one other places f
+  pub judged : AreOneSize places → ⊥
+
+-- Both images have their places, of one size of block, but of other numbers of blocks.
+pub record HasOtherCount (one other : Place) (f : Facts) : Type 0 where
+  pub places : Places
+  pub both : HaveBoth one other places f
+  pub size : AreOneSize places
+  pub judged : places.at.count ≡ places.to.count → ⊥
+
+-- Why two places aren't compared.
+abbrev pub CauseNotCompared : (one other : Place) → Refusal → Facts → Type 0
+CauseNotCompared one other refusal.Words f = ⊥
+CauseNotCompared one other (refusal.Image fault) f = HasBadHead fault f
+CauseNotCompared one other (refusal.Place fault) f = HasNoPlace one fault f
+CauseNotCompared one other refusal.NoTuples f = ⊥
+CauseNotCompared one other (refusal.SecondImage fault) f = HasBadSecond one fault f
+CauseNotCompared one other (refusal.SecondPlace fault) f = HasNoSecondPlace one other fault f
+CauseNotCompared one other refusal.OtherSize f = HasOtherSize one other f
+CauseNotCompared one other refusal.OtherCount f = HasOtherCount one other f
+CauseNotCompared one other (refusal.Short pieces) f = ⊥
+CauseNotCompared one other refusal.Long f = ⊥
+CauseNotCompared one other refusal.RigFault f = Rose f.first.faults f.first_after.faults ⊎ Rose f.second.faults f.second_after.faults
+CauseNotCompared one other refusal.ReadFault f = ⊥
+CauseNotCompared one other refusal.Memory f = Unit {0}
 
 -- why a call is refused, by its command
 abbrev pub CauseByCommand : Option Command → Refusal → Facts → Type 0
@@ -170,7 +271,7 @@ CauseByCommand (Some Help) r f = ⊥
 CauseByCommand (Some Version) r f = ⊥
 CauseByCommand (Some ShowUnits) r f = CauseNotListed r f
 CauseByCommand (Some (ShowBlocks place)) r f = CauseNotShown place r f
-CauseByCommand (Some (Diff one other)) r f = ⊥
+CauseByCommand (Some (Diff one other)) r f = CauseNotCompared one other r f
 CauseByCommand (Some (Export place layout)) r f = CauseNotExported place layout r f
 CauseByCommand (Some (Import place layout)) r f = CauseNotImported place layout r f
 CauseByCommand (Some Vectors) r f = ⊥
@@ -187,6 +288,7 @@ pub data Verdict : Type 0 where
   Versioned : Verdict
   Listed : List UnitSpec → Verdict
   Shown : List UnitSpec → Stretch → List (List ℕ) → Verdict
+  Compared : Places → (ones twos : List (List ℕ)) → Verdict
   Exported : List UnitSpec → Stretch → Layout → List (List ℕ) → Verdict
   Imported : List UnitSpec → Stretch → (count : ℕ) → Layout → Verdict
 
@@ -199,6 +301,13 @@ abbrev pub shown_status : Result ℕ ShowFault → Status
 shown_status (Ok bad) = done_status (ltb 0 bad)
 shown_status (Err show.Store) = status.RigFault
 shown_status (Err show.Sink) = status.WriteFault
+
+-- the status of places that were compared, or weren't
+abbrev pub compared_status : Result ℕ DiffFault → Status
+compared_status (Ok differ) = done_status (ltb 0 differ)
+compared_status (Err compare.First) = status.RigFault
+compared_status (Err compare.Second) = status.RigFault
+compared_status (Err compare.Sink) = status.WriteFault
 
 -- the status of a dump that was written, or wasn't
 abbrev pub dumped_status : Result (Unit {0}) DumpFault → Status
@@ -219,6 +328,7 @@ verdict_status Helped = status.Whole
 verdict_status Versioned = status.Whole
 verdict_status (Listed us) = status.Whole
 verdict_status (Shown us at blocks) = done_status (ltb 0 (bad_of us at blocks))
+verdict_status (Compared p ones twos) = done_status (ltb 0 (differ_of p ones twos))
 verdict_status (Exported us at layout blocks) = status.Whole
 verdict_status (Imported us at count layout) = status.Whole
 
@@ -228,6 +338,7 @@ verdict_text Helped = help_text
 verdict_text Versioned = version_text
 verdict_text (Listed us) = units_text us
 verdict_text (Shown us at blocks) = text_of us at blocks
+verdict_text (Compared p ones twos) = diff_of p ones twos
 verdict_text (Exported us at layout blocks) = dump_in (laid_as layout) us at blocks
 verdict_text (Imported us at count layout) = imported_text count
 
@@ -237,6 +348,7 @@ Cause Helped f = served_in f.words ≡ Some Help
 Cause Versioned f = served_in f.words ≡ Some Version
 Cause (Listed us) f = HasListed us f
 Cause (Shown us at blocks) f = HasShown us at blocks f
+Cause (Compared p ones twos) f = HasCompared p ones twos f
 Cause (Exported us at layout blocks) f = HasExported us at layout blocks f
 Cause (Imported us at count layout) f = HasImported us at count layout f
 
@@ -245,13 +357,14 @@ abbrev pub Written : Status → List ℕ → Option (List ℕ) → Option (List 
 Written verdict text old new o n result =
     ((result ≡ verdict) × Appended text old new) ⊎ ((result ≡ status.WriteFault) × Rose o n × AppendedSome text old new)
 
--- The store of the image failed as blocks of a place were read, and the beginning of their text was written.
+-- A store failed as blocks of its place were read, and the beginning of their text was written.
 abbrev pub BrokeOff : Verdict → Facts → Option (List ℕ) → Option (List ℕ) → Status → Type 0
 BrokeOff (Refused r) f old new result = ⊥
 BrokeOff Helped f old new result = ⊥
 BrokeOff Versioned f old new result = ⊥
 BrokeOff (Listed us) f old new result = ⊥
 BrokeOff (Shown us at blocks) f old new result = (result ≡ status.RigFault) × Rose f.first.faults f.first_after.faults × AppendedSome (text_of us at blocks) old new
+BrokeOff (Compared p ones twos) f old new result = (result ≡ status.RigFault) × (Rose f.first.faults f.first_after.faults ⊎ Rose f.second.faults f.second_after.faults) × AppendedSome (diff_of p ones twos) old new
 BrokeOff (Exported us at layout blocks) f old new result = (result ≡ status.RigFault) × Rose f.first.faults f.first_after.faults × AppendedSome (dump_in (laid_as layout) us at blocks) old new
 BrokeOff (Imported us at count layout) f old new result = ⊥
 
@@ -294,11 +407,16 @@ KeepsImage (Some Judge) f = f.first_after.bytes ≡ f.first.bytes
 KeepsImage (Some Explain) f = f.first_after.bytes ≡ f.first.bytes
 KeepsImage (Some (Sweep byte units)) f = f.first_after.bytes ≡ f.first.bytes
 
--- Each object that the command doesn't use is as before: the rig, the second store and, but for `import`, the source. So is each byte that the first store tells; after an `import`, each block outside of its place. It is opened at most once, by the image's name.
+-- The second store is as before; or, where the command uses it, its bytes are, and it is opened at most once, by the second image's name.
+abbrev pub KeepsSecond : Facts → Type 0
+KeepsSecond f =
+    (f.second_after ≡ f.second) ⊎ ((uses_second (served_in f.words) ≡ true) × (f.second_after.bytes ≡ f.second.bytes) × OpenedOnce (second_in f.words) f.second f.second_after × (f.second.faults ≤ f.second_after.faults))
+
+-- Each object that the command doesn't use is as before: the rig, but for `diff` the second store and, but for `import`, the source. So is each byte that a store tells; after an `import`, each block outside of its place. Each store is opened at most once, by its image's name.
 pub record Keeps (f : Facts) : Type 0 where
   pub source : KeepsSource (served_in f.words) f
   pub rig : f.rig_after ≡ f.rig
-  pub second : f.second_after ≡ f.second
+  pub second : KeepsSecond f
   pub image : KeepsImage (served_in f.words) f
   pub openings : OpenedOnce (image_in f.words) f.first f.first_after
   pub count : f.first.faults ≤ f.first_after.faults

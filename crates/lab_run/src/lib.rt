@@ -1,7 +1,8 @@
-//! The top call of the program `dixlab`: shows the stored blocks of disk images, and takes dumps
-//! of them out and in.
+//! The top call of the program `dixlab`: shows the stored blocks of disk images, compares
+//! them, and takes dumps of them out and in.
 #![tactic(auto)]
 
+mod comparing;
 mod dumps;
 mod exporting;
 mod importing;

@@ -1,7 +1,7 @@
 //! Why a call of the program comes to nothing.
 
 ghost use Rattle.std.specs.Prelude.{◌≡◌, ◌+◌, ◌≤◌, ◌++◌, codes, length};
-ghost use Rattle.lab_run.specs.Texts.{refusal_of, refusal_text, status_of};
+ghost use Rattle.lab_run.specs.Texts.{refusal_of, refusal_text, second_refusal_of, status_of};
 
 use crate::status::Status;
 use block_lines::{Line, add, add_number};
@@ -19,6 +19,14 @@ pub enum Refusal {
     Place(PlaceFault),
     /// A dump of tuples alone, of a unit that has none.
     NoTuples,
+    /// The second image's head has this fault.
+    SecondImage(RigFault),
+    /// The second image hasn't its place of the words.
+    SecondPlace(PlaceFault),
+    /// The blocks of the two places have other sizes.
+    OtherSize,
+    /// The two places have other numbers of blocks.
+    OtherCount,
     /// The dump ends behind so many whole pieces, before the place is full.
     Short(u32),
     /// The dump goes on behind its last piece.
@@ -45,6 +53,19 @@ impl Refusal {
         }
     }
 
+    /// The refusal of a second image that isn't opened.
+    pub(crate) fn of_second(fault: RigFault) -> Refusal
+        ensures { result ≡ second_refusal_of fault }
+    {
+        match fault {
+            RigFault::BadMagic => Refusal::SecondImage(RigFault::BadMagic),
+            RigFault::BadHeader => Refusal::SecondImage(RigFault::BadHeader),
+            RigFault::BadLength => Refusal::SecondImage(RigFault::BadLength),
+            RigFault::Failed => Refusal::RigFault,
+            RigFault::Memory => Refusal::Memory,
+        }
+    }
+
     /// The status of the refusal.
     pub(crate) fn status(self) -> Status
         ensures { result ≡ status_of self }
@@ -54,6 +75,10 @@ impl Refusal {
             Refusal::Image(_) => Status::Image,
             Refusal::Place(_) => Status::Image,
             Refusal::NoTuples => Status::Image,
+            Refusal::SecondImage(_) => Status::Image,
+            Refusal::SecondPlace(_) => Status::Image,
+            Refusal::OtherSize => Status::Image,
+            Refusal::OtherCount => Status::Image,
             Refusal::Short(_) => Status::Input,
             Refusal::Long => Status::Input,
             Refusal::RigFault => Status::RigFault,
@@ -71,6 +96,10 @@ impl Refusal {
             Refusal::Image(fault) => image_line(fault),
             Refusal::Place(fault) => place_line(fault),
             Refusal::NoTuples => plain_line(b"layout NoTuples\n"),
+            Refusal::SecondImage(fault) => second_image_line(fault),
+            Refusal::SecondPlace(fault) => second_place_line(fault),
+            Refusal::OtherSize => plain_line(b"places OtherSize\n"),
+            Refusal::OtherCount => plain_line(b"places OtherCount\n"),
             Refusal::Short(pieces) => short_line(pieces),
             Refusal::Long => plain_line(b"dump long\n"),
             Refusal::RigFault => plain_line(b"rig fault\n"),
@@ -82,10 +111,10 @@ impl Refusal {
 
 /// The line of words that are not in the grammar.
 const USAGE: &[u8] =
-    b"usage: dixlab show IMAGE [PLACE], export IMAGE PLACE LAYOUT, import IMAGE PLACE LAYOUT, --help, --version\n";
+    b"usage: dixlab show IMAGE [PLACE], diff IMAGE PLACE IMAGE PLACE, export IMAGE PLACE LAYOUT, import IMAGE PLACE LAYOUT, --help, --version\n";
 
 fn plain_line(text: &[u8]) -> Line
-    requires { length text.now ≤ 128 }
+    requires { length text.now ≤ 256 }
     ensures { result.items ≡ text.now }
 {
     let mut line = Line::new();
@@ -108,6 +137,26 @@ fn place_line(fault: PlaceFault) -> Line
 {
     let mut line = Line::new();
     add(&mut line, b"place ");
+    add(&mut line, fault.name().as_bytes());
+    add(&mut line, b"\n");
+    line
+}
+
+fn second_image_line(fault: RigFault) -> Line
+    ensures { result.items ≡ refusal_text (Refusal.SecondImage fault) }
+{
+    let mut line = Line::new();
+    add(&mut line, b"second image ");
+    add(&mut line, fault.name().as_bytes());
+    add(&mut line, b"\n");
+    line
+}
+
+fn second_place_line(fault: PlaceFault) -> Line
+    ensures { result.items ≡ refusal_text (Refusal.SecondPlace fault) }
+{
+    let mut line = Line::new();
+    add(&mut line, b"second place ");
     add(&mut line, fault.name().as_bytes());
     add(&mut line, b"\n");
     line

@@ -14,9 +14,10 @@ pub enum Status {
     Words,
     /// What standard input gives is at fault.
     Input,
-    /// The image's head is at fault, it hasn't the place of the words, or no tuples there.
+    /// An image's head is at fault, it hasn't its place of the words, or no tuples there; or two places
+    /// can't be compared.
     Image,
-    /// The store of the image failed.
+    /// The store of an image failed.
     RigFault,
     /// Want of memory.
     Memory,

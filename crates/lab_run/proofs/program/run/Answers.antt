@@ -23,6 +23,9 @@ returns-in-ShowUnits g c = carried _ _ _ _ _ c.show_units.result (c.show_units.e
 pub returns-in-ShowBlocks : goal.returns-in-ShowBlocks
 returns-in-ShowBlocks g c = carried _ _ _ _ _ c.show_blocks.result (c.show_blocks.ensures _ _ _ _)
 
+pub returns-in-Diff : goal.returns-in-Diff
+returns-in-Diff g c = carried _ _ _ _ _ c.diff.result (c.diff.ensures _ _ _)
+
 pub returns-in-Export : goal.returns-in-Export
 returns-in-Export g c = carried _ _ _ _ _ c.export.result (c.export.ensures _ _ _ _)
 
@@ -31,6 +34,6 @@ returns-in-Import g c = carried _ _ _ _ _ c.import.result (c.import.ensures _ _)
 
 pub returns-in_default-command : goal.returns-in_default-command
 returns-in_default-command g c =
-    let other = not_served c.in-Some.command c.in_default-command.not-Help c.in_default-command.not-Version c.in_default-command.not-ShowUnits c.in_default-command.not-ShowBlocks c.in_default-command.not-Export c.in_default-command.not-Import in
+    let other = not_served c.in-Some.command c.in_default-command.not-Help c.in_default-command.not-Version c.in_default-command.not-ShowUnits c.in_default-command.not-ShowBlocks c.in_default-command.not-Diff c.in_default-command.not-Export c.in_default-command.not-Import in
     carried _ _ _ _ _ c.refuse-in_default-command.result
     (no_command _ _ _ _ _ _ _ _ _ _ c.refuse-in_default-command.result (ap served_by (sym c.command_of.ensures ∙ c.in-Some.is) ∙ other) c.refuse-in_default-command.ensures)

@@ -1,0 +1,101 @@
+//! Comparing places of two images.
+
+ghost use Rattle.std.specs.Prelude.{◌≡◌, ℕ, Bool, List, Option, Some, eqb};
+ghost use Rattle.dix_words.specs.Grammar.{word_bytes};
+ghost use Rattle.image_blocks.specs.Images.{units_open};
+ghost use Rattle.image_blocks.specs.Places.{IsStretch, spec_of};
+ghost use Rattle.image_commands.specs.Views.{View};
+ghost use Rattle.lab_words.specs.declared.command.Command.{Command};
+ghost use Rattle.lab_run.specs.Calls.{held, on_both, second_in, served_in};
+ghost use Rattle.lab_run.specs.Verdict.{Ended, compared_status};
+
+use crate::program::{refuse, status_for};
+use crate::refusal::Refusal;
+use crate::showing::{ROOM, stretch_of};
+use crate::status::Status;
+use dix_base::{Sink, Store};
+use dix_words::image_of;
+use image_blocks::{Image, Stretch, open_image};
+use image_diff::{DiffFault, diff_blocks};
+use lab_words::Place;
+use std::alloc::Global;
+
+/// The second image that the words of a command name: the fourth of them, or nothing where they are fewer.
+fn second_of(words: &[String]) -> &str
+    ensures { result.now ≡ second_in (word_bytes words.now) }
+{
+    if words.len() < 4 {
+        return "";
+    }
+    words[3].as_str()
+}
+
+/// Whether the blocks of two places have the same size.
+fn are_one_size(image: &Image, at: Stretch, other: &Image, to: Stretch) -> bool
+    requires place { IsStretch (units_open image.now) at }
+    requires other { IsStretch (units_open other.now) to }
+    ensures { result ≡ eqb (spec_of (units_open image.now) at.dev).size (spec_of (units_open other.now) to.dev).size }
+{
+    let unit = image.units()[at.dev as usize];
+    let other_unit = other.units()[to.dev as usize];
+    unit.size == other_unit.size
+}
+
+/// The status of places that were compared.
+fn status_of(ended: Result<u32, DiffFault>) -> Status
+    ensures { result ≡ compared_status ended }
+{
+    match ended {
+        Ok(differ) => status_for(differ > 0),
+        Err(DiffFault::First) => Status::RigFault,
+        Err(DiffFault::Second) => Status::RigFault,
+        Err(DiffFault::Sink) => Status::WriteFault,
+    }
+}
+
+/// `diff IMAGE PLACE IMAGE PLACE`: writes in which blocks the places differ.
+pub(crate) fn diff<A: Store, B: Store, O: Sink>(
+    alloc: Global,
+    words: &[String],
+    one: Place,
+    other: Place,
+    first: &mut A,
+    second: &mut B,
+    out: &mut O,
+) -> Status
+    requires { served_in (word_bytes words.now) ≡ Some (Command.Diff one other) }
+    ensures { (left : Option (List ℕ)) (reads : ℕ) (rig : View) → Ended (on_both (word_bytes words.now)
+        (held (A.bytes first.old) (A.len first.old) (A.faults first.old) (A.handed first.old) (A.openings first.old))
+        (held (A.bytes first.new) (A.len first.new) (A.faults first.new) (A.handed first.new) (A.openings first.new))
+        (held (B.bytes second.old) (B.len second.old) (B.faults second.old) (B.handed second.old) (B.openings second.old))
+        (held (B.bytes second.new) (B.len second.new) (B.faults second.new) (B.handed second.new) (B.openings second.new))
+        left reads rig) (O.taken out.old) (O.taken out.new) (O.faults out.old) (O.faults out.new) result }
+{
+    let mut room = match vec![in alloc; 0u8; 2 * ROOM] {
+        Ok(room) => room,
+        Err(_) => return refuse(out, Refusal::Memory),
+    };
+    let image = match open_image(alloc, first, image_of(words)) {
+        Ok(image) => image,
+        Err(fault) => return refuse(out, Refusal::of(fault)),
+    };
+    let at = match stretch_of(&image, one) {
+        Ok(at) => at,
+        Err(fault) => return refuse(out, Refusal::Place(fault)),
+    };
+    let beside = match open_image(alloc, second, second_of(words)) {
+        Ok(beside) => beside,
+        Err(fault) => return refuse(out, Refusal::of_second(fault)),
+    };
+    let to = match stretch_of(&beside, other) {
+        Ok(to) => to,
+        Err(fault) => return refuse(out, Refusal::SecondPlace(fault)),
+    };
+    if !are_one_size(&image, at, &beside, to) {
+        return refuse(out, Refusal::OtherSize);
+    }
+    if at.count != to.count {
+        return refuse(out, Refusal::OtherCount);
+    }
+    status_of(diff_blocks(first, &image, at, second, &beside, to, &mut room, out))
+}
