@@ -1,0 +1,13 @@
+//! What judging a script says: where in its text the first fault is and what is wrong there, or what
+//! a right script holds.
+#![tactic(auto)]
+
+mod lines;
+mod marks;
+mod right;
+mod sentences;
+mod texts;
+mod words;
+
+pub use marks::marked_text;
+pub use right::right_text;
