@@ -1,4 +1,5 @@
-//! The program `dixlab`: shows the stored blocks of disk images, compares them, and takes dumps of them out and in.
+//! The program `dixlab`: shows the stored blocks of disk images, compares them, takes dumps of them out and in, and
+//! judges scripts.
 #![tactic(auto)]
 
 use dix_base::{FileStore, StdinSource, StdoutSink};

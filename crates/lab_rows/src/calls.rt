@@ -1,7 +1,7 @@
 //! One call of the top call, and what comes of it.
 
 use crate::images::{Images, image_after, image_in, second_in};
-use crate::lines::{behind, bytes, numbers};
+use crate::lines::{behind, numbers, source};
 use dix_base::{MemSink, MemSource, MemStore, Sink, Source, Store};
 use image_rig::ImageRig;
 use lab_run::run;
@@ -81,7 +81,7 @@ pub(crate) fn came_over(
     let before = image_in(alloc, lines, &table.first)?;
     let beside = second_in(alloc, lines, &table.second)?;
     let mut input = MemSource::new(
-        bytes(alloc, lines, "in")?,
+        source(alloc, lines)?,
         numbers(alloc, lines, "source-fails")?,
     );
     let mut rig = ImageRig::new(alloc, no_store(alloc));

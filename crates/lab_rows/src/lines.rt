@@ -61,12 +61,18 @@ pub(crate) fn add_line(text: &mut Vec<u8>, line: &str) -> Result<(), AllocError>
     Ok(())
 }
 
-/// The bytes behind a mark, where a line has it.
-pub(crate) fn bytes(alloc: Global, lines: &[String], mark: &str) -> Result<Vec<u8>, AllocError> {
-    match found(lines, mark) {
-        None => Ok(Vec::new(alloc)),
-        Some(digits) => bytes_of(alloc, digits),
+/// What the source gives: the lines and the bytes that a row says, in their order.
+pub(crate) fn source(alloc: Global, lines: &[String]) -> Result<Vec<u8>, AllocError> {
+    let mut text = Vec::new(alloc);
+    for line in lines {
+        let (word, rest) = cut(line.as_str());
+        if word == "<" {
+            add_line(&mut text, rest)?;
+        } else if word == "in" {
+            text.extend_from_slice(&bytes_of(alloc, rest)?)?;
+        }
     }
+    Ok(text)
 }
 
 /// The text that a row wants: the lines with one mark, one with the other, which has no end of a line, and the bytes of

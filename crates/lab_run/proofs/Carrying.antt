@@ -20,12 +20,16 @@ use Rattle.target_answer.specs.declared.units.UnitSpec.{UnitSpec}
 use Rattle.lab_run.specs.Calls.{Facts, Held, laid_as, second_in, served_in, stretch_in, uses_second}
 use Rattle.lab_run.specs.Headline.{AreCalm, AreComparable, AreOtherPlaces, Carries, Causes, DoneBy, IsAtFault, IsBadHead, IsComplete, IsDone, IsDumpAtFault, IsNoPlace, IsNoTuples, IsOtherLength, IsReady, IsRight, IsSecondWrong, IsWrong, IsWrongDump, StoreRose, Wrote, dump_len, layout_named, place_named}
 use Rattle.lab_run.specs.Texts.{status_of}
-use Rattle.lab_run.specs.Verdict.{AreOneSize, BadHeadOf, BrokeOff, Cause, CauseByCommand, CauseNotCompared, Compared, DumpTaken, Ended, Exported, HasBadHead, HasBadSecond, HasBrokenOff, HasExported, HasFound, HasImported, HasNoPlace, HasNoSecondPlace, HasNoTuples, HasOpened, HasOtherCount, HasOtherSize, HaveBoth, Helped, OpenedAs, Imported, Listed, Refused, Shown, Verdict, Versioned, Written, done_status, verdict_status, verdict_text}
+use Rattle.lab_run.specs.Verdict.{AreOneSize, BadHeadOf, BrokeOff, Cause, CauseByCommand, CauseNotCompared, Compared, DumpTaken, Ended, Exported, HasBadHead, HasBadSecond, HasBrokenOff, HasExported, HasFound, HasImported, HasNoPlace, HasNoSecondPlace, HasNoTuples, HasOpened, HasOtherCount, HasOtherSize, HaveBoth, Helped, Imported, Judged, Listed, Marked, OpenedAs, Refused, Shown, Verdict, Versioned, Written, done_status, verdict_status, verdict_text}
+use Rattle.script_text.specs.declared.fault.ScriptFault.{ScriptFault}
+use Rattle.script_text.specs.declared.script.Script.{Script}
+use Rattle.lab_run.specs.Judging.{HasScriptFault, IsScriptAtFault, JudgesText}
 use Rattle.lab_run.specs.declared.refusal.Refusal.{Refusal}
 use Rattle.lab_run.specs.declared.refusal.Refusal.TheVariants as refusal
 use Rattle.lab_run.specs.declared.status.Status.{Status}
 use Rattle.lab_run.specs.declared.status.Status.TheVariants as status
 use Rattle.lab_run.proofs.Dumping.{long_other, short_other, whole_long}
+use Rattle.lab_run.proofs.Judges.{judges_text}
 
 never_rose : (o n : ℕ) → Calm o n → Rose o n → ⊥
 never_rose o n c (inl r) = let a = c.0 in omega arith
@@ -66,21 +70,12 @@ never (Shown us at blocks) e = done_never (ltb 0 (bad_of us at blocks)) e
 never (Compared p ones twos) e = done_never (ltb 0 (differ_of p ones twos)) e
 never (Exported us at layout blocks) e = done_never false e
 never (Imported us at count layout) e = done_never false e
+never (Judged script) e = done_never false e
+never (Marked text bad) e = cc
 
 done_is : (b : Bool) → IsDone (done_status b)
 done_is true = inr refl
 done_is false = inl refl
-
--- a verdict that is no refusal
-done_or_refused : (v : Verdict) → IsDone (verdict_status v) ⊎ ((r : Refusal) × (v ≡ Refused r))
-done_or_refused (Refused r) = inr (r, refl)
-done_or_refused Helped = inl (inl refl)
-done_or_refused Versioned = inl (inl refl)
-done_or_refused (Listed us) = inl (inl refl)
-done_or_refused (Shown us at blocks) = inl (done_is (ltb 0 (bad_of us at blocks)))
-done_or_refused (Compared p ones twos) = inl (done_is (ltb 0 (differ_of p ones twos)))
-done_or_refused (Exported us at layout blocks) = inl (inl refl)
-done_or_refused (Imported us at count layout) = inl (inl refl)
 
 refused_not_done : (r : Refusal) → IsDone (status_of r) → ⊥
 refused_not_done refusal.Words (inl e) = cc
@@ -119,6 +114,8 @@ broke_at (Shown us at blocks) f old new result b = b.0
 broke_at (Compared p ones twos) f old new result b = b.0
 broke_at (Exported us at layout blocks) f old new result b = b.0
 broke_at (Imported us at count layout) f old new result b = absurd b
+broke_at (Judged script) f old new result b = absurd b
+broke_at (Marked text bad) f old new result b = absurd b
 
 one_rose : (c : Option Command) (f : Facts) → uses_second c ≡ true → Rose f.first.faults f.first_after.faults ⊎ Rose f.second.faults f.second_after.faults → StoreRose c f
 one_rose c f u (inl r) = inl r
@@ -141,6 +138,10 @@ no_store_rose c f calm (inr r) = never_rose f.second.faults f.second_after.fault
 not_write_fault : IsDone status.WriteFault → ⊥
 not_write_fault (inl e) = cc
 not_write_fault (inr e) = cc
+
+not_input : IsDone status.Input → ⊥
+not_input (inl e) = cc
+not_input (inr e) = cc
 
 not_rig_fault : IsDone status.RigFault → ⊥
 not_rig_fault (inl e) = cc
@@ -170,6 +171,9 @@ done_by f old new o n result (Exported us at layout blocks) c w d =
 done_by f old new o n result (Imported us at count layout) c w d =
     subst (λ (x : Option Command). DoneBy x f old new result) (sym c.named)
     (record { units = us; at = at; count = count; imported = c; there = c.taken.found.there; wrote = whole (Imported us at count layout) f old new o n result w d })
+done_by f old new o n result (Judged script) c w d =
+    subst (λ (x : Option Command). DoneBy x f old new result) (sym c.named) (record { script = script; judged = c; wrote = whole (Judged script) f old new o n result w d })
+done_by f old new o n result (Marked text bad) c w d = absurd (not_input (subst IsDone (whole (Marked text bad) f old new o n result w d).0 d))
 
 -- ---- why it ended
 
@@ -314,19 +318,19 @@ long_dump (Some Judge) f e = absurd e
 long_dump (Some Explain) f e = absurd e
 long_dump (Some (Sweep byte units)) f e = absurd e
 
-unread_dump : (c : Option Command) (f : Facts) → CauseByCommand c refusal.ReadFault f → (place : Place) × (layout : Layout) × (c ≡ Some (Import place layout)) × HasBrokenOff halt.Source place layout f
-unread_dump None f e = absurd (cc)
-unread_dump (Some Help) f e = absurd e
-unread_dump (Some Version) f e = absurd e
-unread_dump (Some ShowUnits) f e = absurd e
-unread_dump (Some (ShowBlocks place)) f e = absurd e
-unread_dump (Some (Diff one two)) f e = absurd e
-unread_dump (Some (Export place layout)) f e = absurd e
-unread_dump (Some (Import place layout)) f e = (place, layout, refl, e)
-unread_dump (Some Vectors) f e = absurd e
-unread_dump (Some Judge) f e = absurd e
-unread_dump (Some Explain) f e = absurd e
-unread_dump (Some (Sweep byte units)) f e = absurd e
+unread_dump : (c : Option Command) (f : Facts) → (c ≡ Some Judge → ⊥) → CauseByCommand c refusal.ReadFault f → (place : Place) × (layout : Layout) × (c ≡ Some (Import place layout)) × HasBrokenOff halt.Source place layout f
+unread_dump None f j e = absurd (cc)
+unread_dump (Some Help) f j e = absurd e
+unread_dump (Some Version) f j e = absurd e
+unread_dump (Some ShowUnits) f j e = absurd e
+unread_dump (Some (ShowBlocks place)) f j e = absurd e
+unread_dump (Some (Diff one two)) f j e = absurd e
+unread_dump (Some (Export place layout)) f j e = absurd e
+unread_dump (Some (Import place layout)) f j e = (place, layout, refl, e)
+unread_dump (Some Vectors) f j e = absurd e
+unread_dump (Some Judge) f j e = absurd (j refl)
+unread_dump (Some Explain) f j e = absurd e
+unread_dump (Some (Sweep byte units)) f j e = absurd e
 
 -- the store failed as the image was opened, or as blocks were written
 broken_store : (place : Place) (layout : Layout) (f : Facts) → HasBrokenOff halt.Store place layout f → Rose f.first.faults f.first_after.faults
@@ -334,6 +338,20 @@ broken_store place layout f b = rose_from f.first.faults b.taken.opened_faults f
 
 broken_source : (place : Place) (layout : Layout) (f : Facts) → HasBrokenOff halt.Source place layout f → Rose f.reads f.reads_after
 broken_source place layout f b = b.taken.ends.0
+
+source_rose : (c : Option Command) (f : Facts) → CauseByCommand c refusal.ReadFault f → Rose f.reads f.reads_after
+source_rose None f e = absurd (cc)
+source_rose (Some Help) f e = absurd e
+source_rose (Some Version) f e = absurd e
+source_rose (Some ShowUnits) f e = absurd e
+source_rose (Some (ShowBlocks place)) f e = absurd e
+source_rose (Some (Diff one two)) f e = absurd e
+source_rose (Some (Export place layout)) f e = absurd e
+source_rose (Some (Import place layout)) f e = broken_source place layout f e
+source_rose (Some Vectors) f e = absurd e
+source_rose (Some Judge) f e = e.0
+source_rose (Some Explain) f e = absurd e
+source_rose (Some (Sweep byte units)) f e = absurd e
 
 store_rose : (c : Option Command) (f : Facts) → CauseByCommand c refusal.RigFault f → StoreRose c f
 store_rose None f e = absurd (cc)
@@ -425,19 +443,21 @@ refused_reads f refusal.OtherCount c e = absurd (cc)
 refused_reads f (refusal.Short x) c e = absurd (cc)
 refused_reads f refusal.Long c e = absurd (cc)
 refused_reads f refusal.RigFault c e = absurd (cc)
-refused_reads f refusal.ReadFault c e = let k = unread_dump (served_in f.words) f c in broken_source k.0 k.1 f k.3
+refused_reads f refusal.ReadFault c e = source_rose (served_in f.words) f c
 refused_reads f refusal.Memory c e = absurd (cc)
 
 -- of a verdict that is no refusal the status is 0 or 1
-by_status : (f : Facts) (P : Type 0) (s : Status) (v : Verdict) → Cause v f → ((r : Refusal) → CauseByCommand (served_in f.words) r f → status_of r ≡ s → P) → (IsDone s → ⊥) → verdict_status v ≡ s → P
-by_status f P s (Refused r) c refused other e = refused r c e
-by_status f P s Helped c refused other e = absurd (other (subst IsDone e (done_is false)))
-by_status f P s Versioned c refused other e = absurd (other (subst IsDone e (done_is false)))
-by_status f P s (Listed us) c refused other e = absurd (other (subst IsDone e (done_is false)))
-by_status f P s (Shown us at blocks) c refused other e = absurd (other (subst IsDone e (done_is (ltb 0 (bad_of us at blocks)))))
-by_status f P s (Compared p ones twos) c refused other e = absurd (other (subst IsDone e (done_is (ltb 0 (differ_of p ones twos)))))
-by_status f P s (Exported us at layout blocks) c refused other e = absurd (other (subst IsDone e (done_is false)))
-by_status f P s (Imported us at count layout) c refused other e = absurd (other (subst IsDone e (done_is false)))
+by_status : (f : Facts) (P : Type 0) (s : Status) (v : Verdict) → Cause v f → ((r : Refusal) → CauseByCommand (served_in f.words) r f → status_of r ≡ s → P) → (IsScriptAtFault f → status.Input ≡ s → P) → (IsDone s → ⊥) → verdict_status v ≡ s → P
+by_status f P s (Refused r) c refused marked other e = refused r c e
+by_status f P s Helped c refused marked other e = absurd (other (subst IsDone e (done_is false)))
+by_status f P s Versioned c refused marked other e = absurd (other (subst IsDone e (done_is false)))
+by_status f P s (Listed us) c refused marked other e = absurd (other (subst IsDone e (done_is false)))
+by_status f P s (Shown us at blocks) c refused marked other e = absurd (other (subst IsDone e (done_is (ltb 0 (bad_of us at blocks)))))
+by_status f P s (Compared p ones twos) c refused marked other e = absurd (other (subst IsDone e (done_is (ltb 0 (differ_of p ones twos)))))
+by_status f P s (Exported us at layout blocks) c refused marked other e = absurd (other (subst IsDone e (done_is false)))
+by_status f P s (Imported us at count layout) c refused marked other e = absurd (other (subst IsDone e (done_is false)))
+by_status f P s (Judged script) c refused marked other e = absurd (other (subst IsDone e (done_is false)))
+by_status f P s (Marked text bad) c refused marked other e = marked (text, bad, c) e
 
 -- a status that is neither that of a failed store nor that of a failed sink is the verdict's
 of_verdict : (f : Facts) (old new : Option (List ℕ)) (o n : ℕ) (result s : Status) (v : Verdict) → Written (verdict_status v) (verdict_text v) old new o n result ⊎ BrokeOff v f old new result → result ≡ s → (s ≡ status.WriteFault → ⊥) → (s ≡ status.RigFault → ⊥) → verdict_status v ≡ s
@@ -462,7 +482,7 @@ reads_done (inl e) = cc
 reads_done (inr e) = cc
 
 rig_rose : (f : Facts) (old new : Option (List ℕ)) (o n : ℕ) (result : Status) (v : Verdict) → Cause v f → Written (verdict_status v) (verdict_text v) old new o n result ⊎ BrokeOff v f old new result → result ≡ status.RigFault → StoreRose (served_in f.words) f
-rig_rose f old new o n result v c (inl (inl w)) e = by_status f (StoreRose (served_in f.words) f) status.RigFault v c (λ r cause k. refused_rig f r cause k) not_rig_fault (sym w.0 ∙ e)
+rig_rose f old new o n result v c (inl (inl w)) e = by_status f (StoreRose (served_in f.words) f) status.RigFault v c (λ r cause k. refused_rig f r cause k) (λ m k. absurd (cc)) not_rig_fault (sym w.0 ∙ e)
 rig_rose f old new o n result v c (inl (inr w)) e = let k : status.WriteFault ≡ status.RigFault = sym w.0 ∙ e in absurd (cc)
 rig_rose f old new o n result v c (inr w) e = broke_by v f old new result c w
 
@@ -483,6 +503,8 @@ no_command f old new o n result (Shown us at blocks) c w e = let k = sym c.named
 no_command f old new o n result (Compared p ones twos) c w e = let k = sym c.named ∙ e in absurd (cc)
 no_command f old new o n result (Exported us at layout blocks) c w e = let k = sym c.named ∙ e in absurd (cc)
 no_command f old new o n result (Imported us at count layout) c w e = let k = sym c.named ∙ e in absurd (cc)
+no_command f old new o n result (Judged script) c w e = let k = sym c.named ∙ e in absurd (cc)
+no_command f old new o n result (Marked text bad) c w e = let k = sym c.named ∙ e in absurd (cc)
 
 -- ---- nothing that is right is refused
 
@@ -726,6 +748,8 @@ completes f image (Shown us at blocks) b i calm c = inl (done_is (ltb 0 (bad_of 
 completes f image (Compared p ones twos) b i calm c = inl (done_is (ltb 0 (differ_of p ones twos)))
 completes f image (Exported us at layout blocks) b i calm c = inl (done_is false)
 completes f image (Imported us at count layout) b i calm c = inl (done_is false)
+completes f image (Judged script) b i calm c = inl (done_is false)
+completes f image (Marked text bad) b i calm c = absurd (subst (λ (x : Option Command). IsRight x f image) c.named i)
 
 as_written : (f : Facts) (old new : Option (List ℕ)) (o n : ℕ) (result : Status) (v : Verdict) → Cause v f → Written (verdict_status v) (verdict_text v) old new o n result ⊎ BrokeOff v f old new result → AreCalm (served_in f.words) f → Calm o n → result ≡ verdict_status v
 as_written f old new o n result v c (inl (inl w)) cs co = w.0
@@ -788,7 +812,7 @@ refused_wrong f image refusal.OtherCount b i calm c = inl refl
 refused_wrong f image (refusal.Short x) b i calm c = let k = short_dump (served_in f.words) x f c in let d = k.3 in absurd (wrong_dump (served_in f.words) f image k.0 k.1 d.units d.at b k.2 d.taken.found i)
 refused_wrong f image refusal.Long b i calm c = let k = long_dump (served_in f.words) f c in let d = k.3 in absurd (wrong_dump (served_in f.words) f image k.0 k.1 d.units d.at b k.2 d.taken.found i)
 refused_wrong f image refusal.RigFault b i calm c = absurd (no_store_rose (served_in f.words) f calm (store_rose (served_in f.words) f c))
-refused_wrong f image refusal.ReadFault b i calm c = let k = unread_dump (served_in f.words) f c in let d = k.3 in absurd (wrong_dump (served_in f.words) f image k.0 k.1 d.units d.at b k.2 d.taken.found i)
+refused_wrong f image refusal.ReadFault b i calm c = let k = unread_dump (served_in f.words) f (λ j. subst (λ (x : Option Command). IsWrong x f image) j i) c in let d = k.3 in absurd (wrong_dump (served_in f.words) f image k.0 k.1 d.units d.at b k.2 d.taken.found i)
 refused_wrong f image refusal.Memory b i calm c = inr refl
 
 wrongs : (f : Facts) (image : List ℕ) (v : Verdict) → f.first.bytes ≡ Some image → IsWrong (served_in f.words) f image → AreCalm (served_in f.words) f → Cause v f → (verdict_status v ≡ status.Image) ⊎ (verdict_status v ≡ status.Memory)
@@ -800,6 +824,8 @@ wrongs f image (Shown us at blocks) b i calm c = absurd (wrong_shown f image us 
 wrongs f image (Compared p ones twos) b i calm c = absurd (wrong_compared f image c.one c.other p ones twos b c.both c.size c.many (subst (λ (x : Option Command). IsWrong x f image) c.named i))
 wrongs f image (Exported us at layout blocks) b i calm c = absurd (wrong_found f image us at c.place layout b c.found (subst (λ (x : Option Command). IsWrong x f image) c.named i))
 wrongs f image (Imported us at count layout) b i calm c = absurd (wrong_found f image us at c.place layout b c.taken.found (subst (λ (x : Option Command). IsWrong x f image) c.named i))
+wrongs f image (Judged script) b i calm c = absurd (subst (λ (x : Option Command). IsWrong x f image) c.named i)
+wrongs f image (Marked text bad) b i calm c = absurd (subst (λ (x : Option Command). IsWrong x f image) c.named i)
 
 refused_as : (f : Facts) (old new : Option (List ℕ)) (o n : ℕ) (result : Status) → Ended f old new o n result →
     (image : List ℕ) → f.first.bytes ≡ Some image → IsWrong (served_in f.words) f image → AreCalm (served_in f.words) f → Calm o n → (result ≡ status.Image) ⊎ (result ≡ status.Memory)
@@ -943,6 +969,8 @@ dumps f image (Shown us at blocks) b i calm c = absurd (subst (λ (x : Option Co
 dumps f image (Compared p ones twos) b i calm c = absurd (subst (λ (x : Option Command). IsWrongDump x f image) c.named i)
 dumps f image (Exported us at layout blocks) b i calm c = absurd (subst (λ (x : Option Command). IsWrongDump x f image) c.named i)
 dumps f image (Imported us at count layout) b i calm c = absurd (not_whole f image us at count layout b c i)
+dumps f image (Judged script) b i calm c = absurd (subst (λ (x : Option Command). IsWrongDump x f image) c.named i)
+dumps f image (Marked text bad) b i calm c = inl refl
 
 dump_refused : (f : Facts) (old new : Option (List ℕ)) (o n : ℕ) (result : Status) → Ended f old new o n result →
     (image : List ℕ) → f.first.bytes ≡ Some image → IsWrongDump (served_in f.words) f image → AreCalm (served_in f.words) f → Calm o n → (result ≡ status.Input) ⊎ (result ≡ status.Memory)
@@ -951,16 +979,16 @@ dump_refused f old new o n result ended = λ image b i cs co.
 
 why : (f : Facts) (old new : Option (List ℕ)) (o n : ℕ) (result : Status) → Ended f old new o n result → Causes f o n result
 why f old new o n result ended = record {
-  words = λ e. by_status f (served_in f.words ≡ None) status.Words ended.verdict ended.cause (λ r cause k. refused_words f r cause k) words_done (of_verdict f old new o n result status.Words ended.verdict ended.written e (λ k. cc) (λ k. cc));
+  words = λ e. by_status f (served_in f.words ≡ None) status.Words ended.verdict ended.cause (λ r cause k. refused_words f r cause k) (λ m k. absurd (cc)) words_done (of_verdict f old new o n result status.Words ended.verdict ended.written e (λ k. cc) (λ k. cc));
   no_words = λ e. no_command f old new o n result ended.verdict ended.cause ended.written e;
-  image = λ e. by_status f (IsAtFault f) status.Image ended.verdict ended.cause (λ r cause k. refused_image f r cause k) image_done (of_verdict f old new o n result status.Image ended.verdict ended.written e (λ k. cc) (λ k. cc));
+  image = λ e. by_status f (IsAtFault f) status.Image ended.verdict ended.cause (λ r cause k. refused_image f r cause k) (λ m k. absurd (cc)) image_done (of_verdict f old new o n result status.Image ended.verdict ended.written e (λ k. cc) (λ k. cc));
   wrong = λ image b i cs co. refused_as f old new o n result ended image b i cs co;
   second = λ image b i cs co. second_refused_as f old new o n result ended image b i cs co;
   rig = λ e. rig_rose f old new o n result ended.verdict ended.cause ended.written e;
   sink = λ e. sink_rose f old new o n result ended.verdict ended.written e;
-  input = λ e. by_status f (IsDumpAtFault f) status.Input ended.verdict ended.cause (λ r cause k. refused_input f r cause k) input_done (of_verdict f old new o n result status.Input ended.verdict ended.written e (λ k. cc) (λ k. cc));
+  input = λ e. by_status f (IsDumpAtFault f ⊎ IsScriptAtFault f) status.Input ended.verdict ended.cause (λ r cause k. inl (refused_input f r cause k)) (λ m k. inr m) input_done (of_verdict f old new o n result status.Input ended.verdict ended.written e (λ k. cc) (λ k. cc));
   dump = λ image b i cs co. dump_refused f old new o n result ended image b i cs co;
-  reads = λ e. by_status f (Rose f.reads f.reads_after) status.ReadFault ended.verdict ended.cause (λ r cause k. refused_reads f r cause k) reads_done (of_verdict f old new o n result status.ReadFault ended.verdict ended.written e (λ k. cc) (λ k. cc));
+  reads = λ e. by_status f (Rose f.reads f.reads_after) status.ReadFault ended.verdict ended.cause (λ r cause k. refused_reads f r cause k) (λ m k. absurd (cc)) reads_done (of_verdict f old new o n result status.ReadFault ended.verdict ended.written e (λ k. cc) (λ k. cc));
 }
 
 complete : (f : Facts) (old new : Option (List ℕ)) (o n : ℕ) (result : Status) → Ended f old new o n result → IsComplete f o n result
@@ -974,4 +1002,5 @@ carried f old new o n result ended = record {
   causes = why f old new o n result ended;
   kept = ended.kept;
   complete = complete f old new o n result ended;
+  judges = λ e. judges_text f old new o n result ended e;
 }

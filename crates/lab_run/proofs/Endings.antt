@@ -75,7 +75,7 @@ keeps_source (Some (Diff one two)) f l r = (l, r)
 keeps_source (Some (Export place layout)) f l r = (l, r)
 keeps_source (Some (Import place layout)) f l r = omega (arith, r)
 keeps_source (Some Vectors) f l r = (l, r)
-keeps_source (Some Judge) f l r = (l, r)
+keeps_source (Some Judge) f l r = omega (arith, r)
 keeps_source (Some Explain) f l r = (l, r)
 keeps_source (Some (Sweep byte units)) f l r = (l, r)
 
@@ -206,15 +206,15 @@ no_command words h left reads rig second taken taken' o n result e w =
     without_image words h left reads rig second (Refused refusal.Words) taken taken' o n result (subst (λ (c : Option Command). CauseByCommand c refusal.Words (on_first words h h left reads rig second)) (sym e) refl) w
 
 -- the other commands aren't done yet
-pub not_served : (c : Command) → (c ≡ Help → ⊥) → (c ≡ Version → ⊥) → (c ≡ ShowUnits → ⊥) → ((place : Place) → c ≡ ShowBlocks place → ⊥) → ((one other : Place) → c ≡ Diff one other → ⊥) → ((place : Place) (layout : Layout) → c ≡ Export place layout → ⊥) → ((place : Place) (layout : Layout) → c ≡ Import place layout → ⊥) → served_by (Some c) ≡ None
-not_served Help a b d e y x i = absurd (a refl)
-not_served Version a b d e y x i = absurd (b refl)
-not_served ShowUnits a b d e y x i = absurd (d refl)
-not_served (ShowBlocks place) a b d e y x i = absurd (e place refl)
-not_served (Diff one two) a b d e y x i = absurd (y one two refl)
-not_served (Export place layout) a b d e y x i = absurd (x place layout refl)
-not_served (Import place layout) a b d e y x i = absurd (i place layout refl)
-not_served Vectors a b d e y x i = refl
-not_served Judge a b d e y x i = refl
-not_served Explain a b d e y x i = refl
-not_served (Sweep byte units) a b d e y x i = refl
+pub not_served : (c : Command) → (c ≡ Help → ⊥) → (c ≡ Version → ⊥) → (c ≡ ShowUnits → ⊥) → ((place : Place) → c ≡ ShowBlocks place → ⊥) → ((one other : Place) → c ≡ Diff one other → ⊥) → ((place : Place) (layout : Layout) → c ≡ Export place layout → ⊥) → ((place : Place) (layout : Layout) → c ≡ Import place layout → ⊥) → (c ≡ Judge → ⊥) → served_by (Some c) ≡ None
+not_served Help a b d e y x i j = absurd (a refl)
+not_served Version a b d e y x i j = absurd (b refl)
+not_served ShowUnits a b d e y x i j = absurd (d refl)
+not_served (ShowBlocks place) a b d e y x i j = absurd (e place refl)
+not_served (Diff one two) a b d e y x i j = absurd (y one two refl)
+not_served (Export place layout) a b d e y x i j = absurd (x place layout refl)
+not_served (Import place layout) a b d e y x i j = absurd (i place layout refl)
+not_served Vectors a b d e y x i j = refl
+not_served Judge a b d e y x i j = absurd (j refl)
+not_served Explain a b d e y x i j = refl
+not_served (Sweep byte units) a b d e y x i j = refl

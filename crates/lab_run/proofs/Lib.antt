@@ -3,3 +3,4 @@ mod Endings
 mod Dumping
 mod Differing
 mod FewWords
+mod Judges

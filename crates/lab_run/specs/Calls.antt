@@ -29,7 +29,7 @@ served_by (Some (Diff one other)) = Some (Diff one other)
 served_by (Some (Export place layout)) = Some (Export place layout)
 served_by (Some (Import place layout)) = Some (Import place layout)
 served_by (Some Vectors) = None
-served_by (Some Judge) = None
+served_by (Some Judge) = Some Judge
 served_by (Some Explain) = None
 served_by (Some (Sweep byte units)) = None
 

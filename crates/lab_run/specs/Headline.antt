@@ -16,6 +16,9 @@ use Rattle.rig_api.specs.Head.{head_fault, head_of, units_of}
 use Rattle.rig_api.specs.declared.rig.RigFault.{RigFault}
 use Rattle.target_answer.specs.declared.units.UnitSpec.{UnitSpec}
 use Rattle.lab_run.specs.Calls.{Facts, laid_as, served_in, stretch_in, uses_second}
+use Rattle.fault_marks.specs.Texts.{right_text}
+use Rattle.script_text.specs.declared.script.Script.{Script}
+use Rattle.lab_run.specs.Judging.{HasJudged, IsScriptAtFault, JudgesText}
 use Rattle.lab_run.specs.Texts.{help_text, imported_text, version_text}
 use Rattle.lab_run.specs.Verdict.{AreOneSize, Ended, HasBadHead, HasBadSecond, HasCompared, HasExported, HasFound, HasImported, HasListed, HasNoPlace, HasNoSecondPlace, HasNoTuples, HasOpened, HasOtherCount, HasOtherSize, HasShown, Keeps, done_status}
 use Rattle.lab_run.specs.declared.status.Status.{Status}
@@ -72,6 +75,12 @@ pub record TookDump (place : Place) (layout : Layout) (f : Facts) (old new : Opt
   pub there : stretch_in units place ≡ Ok at
   pub wrote : Wrote status.Whole (imported_text count) old new result
 
+-- The script is right, and what it holds was counted.
+pub record WroteRight (f : Facts) (old new : Option (List ℕ)) (result : Status) : Type 0 where
+  pub script : Script
+  pub judged : HasJudged script f
+  pub wrote : Wrote status.Whole (right_text script) old new result
+
 -- what a command wrote that was done
 abbrev pub DoneBy : Option Command → Facts → Option (List ℕ) → Option (List ℕ) → Status → Type 0
 DoneBy None f old new result = ⊥
@@ -83,7 +92,7 @@ DoneBy (Some (Diff one other)) f old new result = WroteDifferences one other f o
 DoneBy (Some (Export place layout)) f old new result = WroteDump place layout f old new result
 DoneBy (Some (Import place layout)) f old new result = TookDump place layout f old new result
 DoneBy (Some Vectors) f old new result = ⊥
-DoneBy (Some Judge) f old new result = ⊥
+DoneBy (Some Judge) f old new result = WroteRight f old new result
 DoneBy (Some Explain) f old new result = ⊥
 DoneBy (Some (Sweep byte units)) f old new result = ⊥
 
@@ -211,7 +220,7 @@ StoreRose c f = Rose f.first.faults f.first_after.faults ⊎ ((uses_second c ≡
 abbrev pub AreCalm : Option Command → Facts → Type 0
 AreCalm c f = Calm f.first.faults f.first_after.faults × (uses_second c ≡ true → Calm f.second.faults f.second_after.faults)
 
--- Each status but 6 has its cause: 2 comes exactly where the words are no command; 4 only where an image is at fault, and 3 only where the dump is, and where an image or a dump that is told is so it comes, or want of memory, if no count rose; 5, 7 and 8 only where the count of faults of a store that the command uses, of the source, of the sink, rose.
+-- Each status but 6 has its cause: 2 comes exactly where the words are no command; 4 only where an image is at fault, and 3 only where the dump or the script is, and where an image or a dump that is told is so it comes, or want of memory, if no count rose; 5, 7 and 8 only where the count of faults of a store that the command uses, of the source, of the sink, rose.
 pub record Causes (f : Facts) (o n : ℕ) (result : Status) : Type 0 where
   pub words : result ≡ status.Words → served_in f.words ≡ None
   pub no_words : served_in f.words ≡ None → (result ≡ status.Words) ⊎ (result ≡ status.WriteFault)
@@ -220,7 +229,7 @@ pub record Causes (f : Facts) (o n : ℕ) (result : Status) : Type 0 where
   pub second : (image : List ℕ) → f.second.bytes ≡ Some image → IsSecondWrong (served_in f.words) image → AreCalm (served_in f.words) f → Calm o n → (result ≡ status.Image) ⊎ (result ≡ status.Memory)
   pub rig : result ≡ status.RigFault → StoreRose (served_in f.words) f
   pub sink : result ≡ status.WriteFault → Rose o n
-  pub input : result ≡ status.Input → IsDumpAtFault f
+  pub input : result ≡ status.Input → IsDumpAtFault f ⊎ IsScriptAtFault f
   pub dump : (image : List ℕ) → f.first.bytes ≡ Some image → IsWrongDump (served_in f.words) f image → AreCalm (served_in f.words) f → Calm o n → (result ≡ status.Input) ⊎ (result ≡ status.Memory)
   pub reads : result ≡ status.ReadFault → Rose f.reads f.reads_after
 
@@ -258,10 +267,11 @@ abbrev pub IsComplete : Facts → ℕ → ℕ → Status → Type 0
 IsComplete f o n result =
     (image : List ℕ) → f.first.bytes ≡ Some image → IsRight (served_in f.words) f image → AreCalm (served_in f.words) f → Calm o n → IsDone result ⊎ (result ≡ status.Memory)
 
--- What a call carries, whatever its source, rig, stores and sink are: its verdict with the cause and its text, what was done, why it ended otherwise, what is as before, and that nothing that is right is refused.
+-- What a call carries, whatever its source, rig, stores and sink are: its verdict with the cause and its text, what was done, why it ended otherwise, what is as before, that nothing that is right is refused, and that a script is judged right.
 pub record Carries (f : Facts) (taken taken' : Option (List ℕ)) (o n : ℕ) (result : Status) : Type 0 where
   pub ended : Ended f taken taken' o n result
   pub done : IsDone result → DoneBy (served_in f.words) f taken taken' result
   pub causes : Causes f o n result
   pub kept : Keeps f
   pub complete : IsComplete f o n result
+  pub judges : served_in f.words ≡ Some Judge → JudgesText f o n result

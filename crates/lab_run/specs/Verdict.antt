@@ -28,6 +28,10 @@ use Rattle.rig_api.specs.declared.rig.RigFault.{RigFault}
 use Rattle.target_answer.specs.Image.{units_in}
 use Rattle.target_answer.specs.declared.units.UnitSpec.{UnitSpec}
 use Rattle.lab_run.specs.Calls.{Facts, Held, OpenedOnce, called_of, laid_as, second_in, served_in, stretch_in, uses_second}
+use Rattle.fault_marks.specs.Texts.{marked_text, right_text}
+use Rattle.script_text.specs.declared.fault.ScriptFault.{ScriptFault}
+use Rattle.script_text.specs.declared.script.Script.{Script}
+use Rattle.lab_run.specs.Judging.{CauseNotJudged, HasJudged, HasScriptFault}
 use Rattle.lab_run.specs.Texts.{help_text, imported_text, refusal_text, status_of, version_text}
 use Rattle.lab_run.specs.declared.refusal.Refusal.{Refusal}
 use Rattle.lab_run.specs.declared.refusal.Refusal.TheVariants as refusal
@@ -275,7 +279,7 @@ CauseByCommand (Some (Diff one other)) r f = CauseNotCompared one other r f
 CauseByCommand (Some (Export place layout)) r f = CauseNotExported place layout r f
 CauseByCommand (Some (Import place layout)) r f = CauseNotImported place layout r f
 CauseByCommand (Some Vectors) r f = ⊥
-CauseByCommand (Some Judge) r f = ⊥
+CauseByCommand (Some Judge) r f = CauseNotJudged r f
 CauseByCommand (Some Explain) r f = ⊥
 CauseByCommand (Some (Sweep byte units)) r f = ⊥
 
@@ -291,6 +295,8 @@ pub data Verdict : Type 0 where
   Compared : Places → (ones twos : List (List ℕ)) → Verdict
   Exported : List UnitSpec → Stretch → Layout → List (List ℕ) → Verdict
   Imported : List UnitSpec → Stretch → (count : ℕ) → Layout → Verdict
+  Judged : Script → Verdict
+  Marked : (text : List ℕ) → ScriptFault → Verdict
 
 -- the status of a command that was done, by whether something was found
 abbrev pub done_status : Bool → Status
@@ -331,6 +337,8 @@ verdict_status (Shown us at blocks) = done_status (ltb 0 (bad_of us at blocks))
 verdict_status (Compared p ones twos) = done_status (ltb 0 (differ_of p ones twos))
 verdict_status (Exported us at layout blocks) = status.Whole
 verdict_status (Imported us at count layout) = status.Whole
+verdict_status (Judged script) = status.Whole
+verdict_status (Marked text bad) = status.Input
 
 abbrev pub verdict_text : Verdict → List ℕ
 verdict_text (Refused r) = refusal_text r
@@ -341,6 +349,8 @@ verdict_text (Shown us at blocks) = text_of us at blocks
 verdict_text (Compared p ones twos) = diff_of p ones twos
 verdict_text (Exported us at layout blocks) = dump_in (laid_as layout) us at blocks
 verdict_text (Imported us at count layout) = imported_text count
+verdict_text (Judged script) = right_text script
+verdict_text (Marked text bad) = marked_text text bad
 
 abbrev pub Cause : Verdict → Facts → Type 0
 Cause (Refused r) f = CauseByCommand (served_in f.words) r f
@@ -351,6 +361,8 @@ Cause (Shown us at blocks) f = HasShown us at blocks f
 Cause (Compared p ones twos) f = HasCompared p ones twos f
 Cause (Exported us at layout blocks) f = HasExported us at layout blocks f
 Cause (Imported us at count layout) f = HasImported us at count layout f
+Cause (Judged script) f = HasJudged script f
+Cause (Marked text bad) f = HasScriptFault text bad f
 
 -- The text was written whole, and the status is the verdict's; or the sink failed, and a prefix of the text was written.
 abbrev pub Written : Status → List ℕ → Option (List ℕ) → Option (List ℕ) → ℕ → ℕ → Status → Type 0
@@ -367,8 +379,10 @@ BrokeOff (Shown us at blocks) f old new result = (result ≡ status.RigFault) ×
 BrokeOff (Compared p ones twos) f old new result = (result ≡ status.RigFault) × (Rose f.first.faults f.first_after.faults ⊎ Rose f.second.faults f.second_after.faults) × AppendedSome (diff_of p ones twos) old new
 BrokeOff (Exported us at layout blocks) f old new result = (result ≡ status.RigFault) × Rose f.first.faults f.first_after.faults × AppendedSome (dump_in (laid_as layout) us at blocks) old new
 BrokeOff (Imported us at count layout) f old new result = ⊥
+BrokeOff (Judged script) f old new result = ⊥
+BrokeOff (Marked text bad) f old new result = ⊥
 
--- The source is as before, but where the command reads it: `import` alone does.
+-- The source is as before, but where the command reads it, as `import` and `explain` do.
 abbrev pub KeepsSource : Option Command → Facts → Type 0
 KeepsSource None f = (f.left_after ≡ f.left) × (f.reads_after ≡ f.reads)
 KeepsSource (Some Help) f = (f.left_after ≡ f.left) × (f.reads_after ≡ f.reads)
@@ -379,7 +393,7 @@ KeepsSource (Some (Diff one other)) f = (f.left_after ≡ f.left) × (f.reads_af
 KeepsSource (Some (Export place layout)) f = (f.left_after ≡ f.left) × (f.reads_after ≡ f.reads)
 KeepsSource (Some (Import place layout)) f = f.reads ≤ f.reads_after
 KeepsSource (Some Vectors) f = (f.left_after ≡ f.left) × (f.reads_after ≡ f.reads)
-KeepsSource (Some Judge) f = (f.left_after ≡ f.left) × (f.reads_after ≡ f.reads)
+KeepsSource (Some Judge) f = f.reads ≤ f.reads_after
 KeepsSource (Some Explain) f = (f.left_after ≡ f.left) × (f.reads_after ≡ f.reads)
 KeepsSource (Some (Sweep byte units)) f = (f.left_after ≡ f.left) × (f.reads_after ≡ f.reads)
 
@@ -412,7 +426,7 @@ abbrev pub KeepsSecond : Facts → Type 0
 KeepsSecond f =
     (f.second_after ≡ f.second) ⊎ ((uses_second (served_in f.words) ≡ true) × (f.second_after.bytes ≡ f.second.bytes) × OpenedOnce (second_in f.words) f.second f.second_after × (f.second.faults ≤ f.second_after.faults))
 
--- Each object that the command doesn't use is as before: the rig, but for `diff` the second store and, but for `import`, the source. So is each byte that a store tells; after an `import`, each block outside of its place. Each store is opened at most once, by its image's name.
+-- Each object that the command doesn't use is as before: the rig, but for `diff` the second store and, but for `import` and `explain`, the source. So is each byte that a store tells; after an `import`, each block outside of its place. Each store is opened at most once, by its image's name.
 pub record Keeps (f : Facts) : Type 0 where
   pub source : KeepsSource (served_in f.words) f
   pub rig : f.rig_after ≡ f.rig

@@ -1,11 +1,12 @@
 //! The top call of the program `dixlab`: shows the stored blocks of disk images, compares
-//! them, and takes dumps of them out and in.
+//! them, takes dumps of them out and in, and judges scripts.
 #![tactic(auto)]
 
 mod comparing;
 mod dumps;
 mod exporting;
 mod importing;
+mod judging;
 mod program;
 mod refusal;
 mod showing;

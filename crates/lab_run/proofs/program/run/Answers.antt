@@ -32,8 +32,11 @@ returns-in-Export g c = carried _ _ _ _ _ c.export.result (c.export.ensures _ _ 
 pub returns-in-Import : goal.returns-in-Import
 returns-in-Import g c = carried _ _ _ _ _ c.import.result (c.import.ensures _ _)
 
+pub returns-in-Judge : goal.returns-in-Judge
+returns-in-Judge g c = carried _ _ _ _ _ c.judge.result (c.judge.ensures _ _ _)
+
 pub returns-in_default-command : goal.returns-in_default-command
 returns-in_default-command g c =
-    let other = not_served c.in-Some.command c.in_default-command.not-Help c.in_default-command.not-Version c.in_default-command.not-ShowUnits c.in_default-command.not-ShowBlocks c.in_default-command.not-Diff c.in_default-command.not-Export c.in_default-command.not-Import in
+    let other = not_served c.in-Some.command c.in_default-command.not-Help c.in_default-command.not-Version c.in_default-command.not-ShowUnits c.in_default-command.not-ShowBlocks c.in_default-command.not-Diff c.in_default-command.not-Export c.in_default-command.not-Import c.in_default-command.not-Judge in
     carried _ _ _ _ _ c.refuse-in_default-command.result
     (no_command _ _ _ _ _ _ _ _ _ _ c.refuse-in_default-command.result (ap served_by (sym c.command_of.ensures ∙ c.in-Some.is) ∙ other) c.refuse-in_default-command.ensures)
