@@ -7,21 +7,21 @@ use Rattle.image_commands.specs.declared.fault.Fault.TheVariants as fault
 use Rattle.nvme_command.proofs.Completes.{done_opens, not_done_opens}
 use Rattle.nvme_command.specs.declared.fault.NvmFault.{NvmFault}
 use Rattle.rig_api.specs.Telling.{Standing, Stayed}
-use Rattle.dix_words.specs.Grammar.{command_in, image_in}
+use Rattle.dix_words.specs.Grammar.{image_in}
 use Rattle.dix_words.specs.declared.command.Command.{Command}
 use Rattle.dix_words.specs.declared.command.Command.TheVariants.{Run, Trace, Format, Migrate, Mirror, Scrub, Nvme, Modes, Big}
 use Rattle.script_text.specs.declared.script.Script.{Script}
-use Rattle.mirror_verdict.specs.Verdict.{CauseRefused as CauseUnmirrored, CauseStopped as CauseMidway, HasMirroredSource, StoppedMidway}
+use Rattle.mirror_verdict.specs.Verdict.{CauseStopped as CauseMidway, HasMirroredSource, StoppedMidway}
 use Rattle.mirror_verdict.specs.declared.mirrored.Mirrored.{Mirrored}
 use Rattle.script_verdict.specs.Verdict.{CauseRefused, CauseStopped, HasRunSource, StoppedShort}
 use Rattle.script_verdict.specs.declared.refusal.Refusal.{Refusal as Stop}
 use Rattle.script_verdict.specs.declared.refusal.Refusal.TheVariants as stop
 use Rattle.script_verdict.specs.declared.verdict.Finished.{Finished}
+use Rattle.dix_run.specs.Commands.{work_of}
 use Rattle.dix_run.specs.Headline.{OpensOnce}
-use Rattle.dix_run.specs.Verdict.{ByFault, ByNvmFault, Cause, CauseByCommand, CauseNotMirrored, CauseNotRun, Commanded, Ended, Facts, Formatted, Generated, HasNoCommand, Mapped, Migrated, Refused, Reported, Scrubbed, Served, Traced, Verdict, WantsMemory, call_of, fault_of, nvm_fault_of}
+use Rattle.dix_run.specs.Verdict.{ByFault, ByNvmFault, Cause, CauseNotMirrored, CauseNotRun, Done, Facts, HasNoCommand, Refused, Verdict, WantsMemory, call_of, fault_of, nvm_fault_of}
 use Rattle.dix_run.specs.declared.refusal.Refusal.{Refusal}
 use Rattle.dix_run.specs.declared.refusal.Refusal.TheVariants as refusal
-use Rattle.dix_run.specs.declared.status.Status.{Status}
 
 stayed : (a b : View) → b ≡ a → Stayed a.standing b.standing
 stayed a b e = (ap (λ (v : View). v.standing.openings) e, ap (λ (v : View). v.standing.name) e)
@@ -121,29 +121,25 @@ none_opens f r c = inl (stayed f.rig f.rig_after c.1)
 wanting_opens : (f : Facts) (r : Refusal) → WantsMemory r f → OpensOnce f
 wanting_opens f r c = inl (stayed f.rig f.rig_after c.1)
 
-command_opens : (f : Facts) (c : Option Command) (r : Refusal) → CauseByCommand c r f → OpensOnce f
-command_opens f None r cause = none_opens f r cause
-command_opens f (Some Run) r cause = not_run_opens f r cause
-command_opens f (Some Trace) r cause = not_run_opens f r cause
-command_opens f (Some (Format us)) r cause = format_opens (fault_of r) (image_in f.words) f.rig f.rig_after cause.0
-command_opens f (Some Migrate) r cause = migrate_opens (fault_of r) (image_in f.words) f.rig f.rig_after cause.0
-command_opens f (Some Mirror) r cause = not_mirrored_opens f r cause
-command_opens f (Some Scrub) r cause = scrub_opens (fault_of r) (image_in f.words) f.rig f.rig_after cause.0
-command_opens f (Some Nvme) r cause = nvme_opens (nvm_fault_of r) f cause
-command_opens f (Some (Modes ty)) r cause = wanting_opens f r cause
-command_opens f (Some (Big n seed)) r cause = wanting_opens f r cause
-
-opens : (f : Facts) (v : Verdict) → Cause v f → OpensOnce f
-opens f (Refused r) c = command_opens f (command_in f.words) r c
-opens f (Reported replies) c = run_opens f c.run c.ran
-opens f (Traced replies log) c = run_opens f c.run c.ran
-opens f (Formatted n) c = inr c.done.opened
-opens f (Migrated n) c = inr c.done.opened
-opens f (Served replies repaired lost) c = mirror_opens f c.run c.ran
-opens f (Scrubbed ds found) c = opened_on (image_in f.words) f.rig c.done.discovered.between c.done.told f.rig_after c.done.discovered.since c.done.standing
-opens f (Commanded bad text) c = done_opens (image_in f.words) text bad f.left f.left_after f.rig f.rig_after c.done
-opens f (Mapped ty) c = inl (stayed f.rig f.rig_after c.rig_is)
-opens f (Generated n seed b) c = inl (stayed f.rig f.rig_after c.rig_is)
-
-pub opens_once : (f : Facts) (taken taken' : Option (List ℕ)) (o n : ℕ) (result : Status) → Ended f taken taken' o n result → OpensOnce f
-opens_once f taken taken' o n result ended = opens f ended.verdict ended.cause
+-- by what the words say
+pub opens : (c : Option Command) (f : Facts) (v : Verdict (work_of c).Yield) → Cause (work_of c) v f → OpensOnce f
+opens None f (Refused r) c = none_opens f r c
+opens None f (Done x) c = absurd x
+opens (Some Run) f (Refused r) c = not_run_opens f r c
+opens (Some Run) f (Done run) c = run_opens f run c
+opens (Some Trace) f (Refused r) c = not_run_opens f r c
+opens (Some Trace) f (Done x) c = run_opens f x.0 c.ran
+opens (Some (Format us)) f (Refused r) c = format_opens (fault_of r) (image_in f.words) f.rig f.rig_after c.0
+opens (Some (Format us)) f (Done x) c = inr c.0.opened
+opens (Some Migrate) f (Refused r) c = migrate_opens (fault_of r) (image_in f.words) f.rig f.rig_after c.0
+opens (Some Migrate) f (Done n) c = inr c.0.opened
+opens (Some Mirror) f (Refused r) c = not_mirrored_opens f r c
+opens (Some Mirror) f (Done run) c = mirror_opens f run c
+opens (Some Scrub) f (Refused r) c = scrub_opens (fault_of r) (image_in f.words) f.rig f.rig_after c.0
+opens (Some Scrub) f (Done x) c = opened_on (image_in f.words) f.rig c.0.discovered.between c.0.told f.rig_after c.0.discovered.since c.0.standing
+opens (Some Nvme) f (Refused r) c = nvme_opens (nvm_fault_of r) f c
+opens (Some Nvme) f (Done x) c = done_opens (image_in f.words) x.1 x.0 f.left f.left_after f.rig f.rig_after c
+opens (Some (Modes ty)) f (Refused r) c = wanting_opens f r c
+opens (Some (Modes ty)) f (Done x) c = inl (stayed f.rig f.rig_after c.0)
+opens (Some (Big n seed)) f (Refused r) c = wanting_opens f r c
+opens (Some (Big n seed)) f (Done b) c = inl (stayed f.rig f.rig_after c.1)

@@ -1,4 +1,5 @@
 pub mod ScrubText
 pub mod Verdict
 pub mod Statuses
+pub mod Commands
 pub mod Headline

@@ -1,9 +1,8 @@
 //! The run of a script that numbers make.
 
-ghost use Rattle.std.specs.Prelude.{◌≡◌, ◌≤◌, Some};
-ghost use Rattle.dix_words.specs.Grammar.{command_in};
-ghost use Rattle.dix_words.specs.declared.command.Command.{Command};
-ghost use Rattle.dix_run.specs.Verdict.{Ended, Facts, LeavesSource};
+ghost use Rattle.std.specs.Prelude.{◌≡◌, ◌≤◌};
+ghost use Rattle.dix_run.specs.Commands.{big_work};
+ghost use Rattle.dix_run.specs.Verdict.{EndedAs, Facts, LeavesSource};
 
 use crate::program::{finish, refuse, status_for};
 use crate::refusal::Refusal;
@@ -16,8 +15,8 @@ use std::alloc::Global;
 /// lines on it. Neither source nor rig is touched.
 pub(crate) fn big<O: Sink>(alloc: Global, n: u32, seed: u32, out: &mut O) -> Status
     requires { n ≤ 1024 }
-    ensures { (f : Facts) → command_in f.words ≡ Some (Command.Big n seed) → f.rig_after ≡ f.rig → LeavesSource f
-        → Ended f (O.taken out.old) (O.taken out.new) (O.faults out.old) (O.faults out.new) result }
+    ensures { (f : Facts) → f.rig_after ≡ f.rig → LeavesSource f
+        → EndedAs (big_work n seed) f (O.taken out.old) (O.taken out.new) (O.faults out.old) (O.faults out.new) result }
 {
     match run_big(alloc, n, seed) {
         Ok(run) => finish(

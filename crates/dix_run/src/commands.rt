@@ -1,10 +1,11 @@
 //! The commands that make images and look after them. None of them reads the source.
 
-ghost use Rattle.std.specs.Prelude.{◌≡◌, ◌≤◌, ◌++◌, ℕ, List, Option, Some, codes, decimal, length};
-ghost use Rattle.dix_words.specs.Grammar.{command_in, word_bytes};
-ghost use Rattle.dix_words.specs.declared.command.Command.{Command};
+ghost use Rattle.std.specs.Prelude.{◌≡◌, ◌≤◌, ◌++◌, ℕ, List, Option, codes, decimal, length, true};
+ghost use Rattle.target_answer.specs.Headers.{is_layout};
+ghost use Rattle.dix_words.specs.Grammar.{word_bytes};
 ghost use Rattle.image_commands.specs.Views.{seen, view};
-ghost use Rattle.dix_run.specs.Verdict.{Ended};
+ghost use Rattle.dix_run.specs.Commands.{format_work, migrate_work, scrub_work};
+ghost use Rattle.dix_run.specs.Verdict.{EndedAs};
 
 use crate::program::{finish, refuse, status_for};
 use crate::refusal::Refusal;
@@ -37,8 +38,8 @@ pub(crate) fn format<R: Rig, O: Sink>(
     rig: &mut R,
     out: &mut O,
 ) -> Status
-    requires { command_in (word_bytes words.now) ≡ Some (Command.Format units.now) }
-    ensures { (left : Option (List ℕ)) (reads : ℕ) → Ended (record {
+    requires { is_layout units.now ≡ true }
+    ensures { (left : Option (List ℕ)) (reads : ℕ) → EndedAs (format_work units.now) (record {
       words = word_bytes words.now;
       left = left;
       left_after = left;
@@ -66,8 +67,7 @@ pub(crate) fn migrate<R: Rig, O: Sink>(
     rig: &mut R,
     out: &mut O,
 ) -> Status
-    requires { command_in (word_bytes words.now) ≡ Some Command.Migrate }
-    ensures { (left : Option (List ℕ)) (reads : ℕ) → Ended (record {
+    ensures { (left : Option (List ℕ)) (reads : ℕ) → EndedAs migrate_work (record {
       words = word_bytes words.now;
       left = left;
       left_after = left;
@@ -94,8 +94,7 @@ pub(crate) fn scrub<R: Rig, O: Sink>(
     rig: &mut R,
     out: &mut O,
 ) -> Status
-    requires { command_in (word_bytes words.now) ≡ Some Command.Scrub }
-    ensures { (left : Option (List ℕ)) (reads : ℕ) → Ended (record {
+    ensures { (left : Option (List ℕ)) (reads : ℕ) → EndedAs scrub_work (record {
       words = word_bytes words.now;
       left = left;
       left_after = left;

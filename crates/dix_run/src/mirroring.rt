@@ -1,11 +1,10 @@
 //! Running a script on a mirror.
 
-ghost use Rattle.std.specs.Prelude.{◌≡◌, Some};
-ghost use Rattle.dix_words.specs.Grammar.{command_in, word_bytes};
-ghost use Rattle.dix_words.specs.declared.command.Command.{Command};
+ghost use Rattle.dix_words.specs.Grammar.{word_bytes};
 ghost use Rattle.image_commands.specs.Views.{seen, view};
 ghost use Rattle.mirror_verdict.specs.Texts.{is_any_lost, mirror_text};
-ghost use Rattle.dix_run.specs.Verdict.{Ended, Facts, Written, done_status};
+ghost use Rattle.dix_run.specs.Commands.{mirror_work};
+ghost use Rattle.dix_run.specs.Verdict.{EndedAs, Facts, Written, done_status};
 
 use crate::program::{refuse, status_for};
 use crate::refusal::Refusal;
@@ -34,7 +33,6 @@ pub(crate) fn mirror_image<S: Source, R: Rig, O: Sink>(
     rig: &mut R,
     out: &mut O,
 ) -> Status
-    requires { command_in (word_bytes words.now) ≡ Some Command.Mirror }
     ensures { let f : Facts = record {
       words = word_bytes words.now;
       left = S.left source.old;
@@ -44,7 +42,7 @@ pub(crate) fn mirror_image<S: Source, R: Rig, O: Sink>(
       rig = view (R.image rig.old) (R.standing rig.old) (seen (R.units rig.old) (R.armed rig.old) (R.log rig.old) (R.faults rig.old));
       rig_after = view (R.image rig.new) (R.standing rig.new) (seen (R.units rig.new) (R.armed rig.new) (R.log rig.new) (R.faults rig.new));
     } in
-        Ended f (O.taken out.old) (O.taken out.new) (O.faults out.old) (O.faults out.new) result }
+        EndedAs mirror_work f (O.taken out.old) (O.taken out.new) (O.faults out.old) (O.faults out.new) result }
 {
     match mirror_source(alloc, image_of(words), source, rig) {
         Ok(run) => report_mirrored(out, &run),

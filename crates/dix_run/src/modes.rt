@@ -1,9 +1,8 @@
 //! The map of finders.
 
-ghost use Rattle.std.specs.Prelude.{◌≡◌, Some};
-ghost use Rattle.dix_words.specs.Grammar.{command_in};
-ghost use Rattle.dix_words.specs.declared.command.Command.{Command};
-ghost use Rattle.dix_run.specs.Verdict.{Ended, Facts, LeavesSource};
+ghost use Rattle.std.specs.Prelude.{◌≡◌};
+ghost use Rattle.dix_run.specs.Commands.{modes_work};
+ghost use Rattle.dix_run.specs.Verdict.{EndedAs, Facts, LeavesSource};
 
 use crate::program::{finish, refuse};
 use crate::refusal::Refusal;
@@ -16,8 +15,8 @@ use std::alloc::Global;
 /// `modes T`: writes which layer finds a block altered, for each mode of units of this type. Neither
 /// source nor rig is touched.
 pub(crate) fn modes<O: Sink>(alloc: Global, ty: PiType, out: &mut O) -> Status
-    ensures { (f : Facts) → command_in f.words ≡ Some (Command.Modes ty) → f.rig_after ≡ f.rig → LeavesSource f
-        → Ended f (O.taken out.old) (O.taken out.new) (O.faults out.old) (O.faults out.new) result }
+    ensures { (f : Facts) → f.rig_after ≡ f.rig → LeavesSource f
+        → EndedAs (modes_work ty) f (O.taken out.old) (O.taken out.new) (O.faults out.old) (O.faults out.new) result }
 {
     match modes_text(alloc, ty) {
         Ok(text) => finish(out, &text, Status::Whole),

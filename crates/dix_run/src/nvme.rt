@@ -1,10 +1,9 @@
 //! NVM commands on an image.
 
-ghost use Rattle.std.specs.Prelude.{◌≡◌, Some};
-ghost use Rattle.dix_words.specs.Grammar.{command_in, word_bytes};
-ghost use Rattle.dix_words.specs.declared.command.Command.{Command};
+ghost use Rattle.dix_words.specs.Grammar.{word_bytes};
 ghost use Rattle.image_commands.specs.Views.{seen, view};
-ghost use Rattle.dix_run.specs.Verdict.{Ended, Facts};
+ghost use Rattle.dix_run.specs.Commands.{nvme_work};
+ghost use Rattle.dix_run.specs.Verdict.{EndedAs, Facts};
 
 use crate::program::{finish, refuse, status_for};
 use crate::refusal::Refusal;
@@ -23,7 +22,6 @@ pub(crate) fn nvme<S: Source, R: Rig, O: Sink>(
     rig: &mut R,
     out: &mut O,
 ) -> Status
-    requires { command_in (word_bytes words.now) ≡ Some Command.Nvme }
     ensures { let f : Facts = record {
       words = word_bytes words.now;
       left = S.left source.old;
@@ -33,7 +31,7 @@ pub(crate) fn nvme<S: Source, R: Rig, O: Sink>(
       rig = view (R.image rig.old) (R.standing rig.old) (seen (R.units rig.old) (R.armed rig.old) (R.log rig.old) (R.faults rig.old));
       rig_after = view (R.image rig.new) (R.standing rig.new) (seen (R.units rig.new) (R.armed rig.new) (R.log rig.new) (R.faults rig.new));
     } in
-        Ended f (O.taken out.old) (O.taken out.new) (O.faults out.old) (O.faults out.new) result }
+        EndedAs nvme_work f (O.taken out.old) (O.taken out.new) (O.faults out.old) (O.faults out.new) result }
 {
     match do_commands(alloc, image_of(words), source, rig) {
         Ok(done) => finish(out, &done.text, status_for(done.bad)),

@@ -1,7 +1,7 @@
 //! Why a call of the program comes to nothing.
 
 ghost use Rattle.std.specs.Prelude.{◌≡◌, Some};
-ghost use Rattle.dix_run.specs.Verdict.{fault_of, nvm_fault_of, refusal_text, status_of};
+ghost use Rattle.dix_run.specs.Verdict.{fault_of, nvm_fault_of, refusal_text, status_of, usage_text};
 
 use crate::status::Status;
 use image_commands::Fault;
@@ -76,7 +76,7 @@ impl Refusal {
 }
 
 fn usage_line() -> Line
-    ensures { result.items ≡ refusal_text Refusal.Words }
+    ensures { result.items ≡ usage_text }
 {
     let mut line = Line::new();
     add(&mut line, USAGE);

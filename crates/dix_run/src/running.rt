@@ -1,13 +1,13 @@
 //! Running a script on an image.
 
-ghost use Rattle.std.specs.Prelude.{◌≡◌, ◌≤◌, ◌++◌, drop, length, Some};
-ghost use Rattle.dix_words.specs.Grammar.{command_in, word_bytes};
-ghost use Rattle.dix_words.specs.declared.command.Command.{Command};
+ghost use Rattle.std.specs.Prelude.{◌≤◌, ◌++◌, drop, length};
+ghost use Rattle.dix_words.specs.Grammar.{word_bytes};
 ghost use Rattle.image_commands.specs.Views.{seen, view};
 ghost use Rattle.report_text.specs.Report.{report};
 ghost use Rattle.report_text.specs.Trace.{trace};
 ghost use Rattle.script_verdict.specs.Texts.{has_bad};
-ghost use Rattle.dix_run.specs.Verdict.{Ended, Facts, Written, done_status};
+ghost use Rattle.dix_run.specs.Commands.{run_work, trace_work};
+ghost use Rattle.dix_run.specs.Verdict.{EndedAs, Facts, Written, done_status};
 
 use crate::program::{refuse, status_for};
 use crate::refusal::Refusal;
@@ -47,7 +47,6 @@ pub(crate) fn run_image<S: Source, R: Rig, O: Sink>(
     rig: &mut R,
     out: &mut O,
 ) -> Status
-    requires { command_in (word_bytes words.now) ≡ Some Command.Run }
     ensures { let f : Facts = record {
       words = word_bytes words.now;
       left = S.left source.old;
@@ -57,7 +56,7 @@ pub(crate) fn run_image<S: Source, R: Rig, O: Sink>(
       rig = view (R.image rig.old) (R.standing rig.old) (seen (R.units rig.old) (R.armed rig.old) (R.log rig.old) (R.faults rig.old));
       rig_after = view (R.image rig.new) (R.standing rig.new) (seen (R.units rig.new) (R.armed rig.new) (R.log rig.new) (R.faults rig.new));
     } in
-        Ended f (O.taken out.old) (O.taken out.new) (O.faults out.old) (O.faults out.new) result }
+        EndedAs run_work f (O.taken out.old) (O.taken out.new) (O.faults out.old) (O.faults out.new) result }
 {
     match run_source(alloc, image_of(words), source, rig) {
         Ok(run) => report_run(out, &run),
@@ -73,7 +72,6 @@ pub(crate) fn trace_image<S: Source, R: Rig, O: Sink>(
     rig: &mut R,
     out: &mut O,
 ) -> Status
-    requires { command_in (word_bytes words.now) ≡ Some Command.Trace }
     ensures { let f : Facts = record {
       words = word_bytes words.now;
       left = S.left source.old;
@@ -83,7 +81,7 @@ pub(crate) fn trace_image<S: Source, R: Rig, O: Sink>(
       rig = view (R.image rig.old) (R.standing rig.old) (seen (R.units rig.old) (R.armed rig.old) (R.log rig.old) (R.faults rig.old));
       rig_after = view (R.image rig.new) (R.standing rig.new) (seen (R.units rig.new) (R.armed rig.new) (R.log rig.new) (R.faults rig.new));
     } in
-        Ended f (O.taken out.old) (O.taken out.new) (O.faults out.old) (O.faults out.new) result }
+        EndedAs trace_work f (O.taken out.old) (O.taken out.new) (O.faults out.old) (O.faults out.new) result }
 {
     match run_source(alloc, image_of(words), source, rig) {
         Ok(run) => trace_run(out, &run, rig),

@@ -1,24 +1,26 @@
 use Rattle.std.proofs.Common.{length, refl, ap, ◌∙◌, arith}
 use Rattle.target_answer.specs.Headers.{is_layout}
-use Rattle.dix_words.specs.Grammar.{word_bytes}
-use Rattle.dix_run.proofs.Endings.{ended_format, unformatted}
-use Rattle.dix_run.proofs.Layouts.{few_units, layout_in}
+use Rattle.image_commands.specs.Causes.{CauseUnformatted}
+use Rattle.dix_run.specs.Commands.{format_work}
+use Rattle.dix_run.proofs.Endings.{by_fault, formatted, refused}
+use Rattle.dix_run.proofs.Layouts.{few_units}
 use Rattle.dix_run.proofs.commands.format.Goals as goal
 
 pub format_image-requires : goal.format_image-requires
-format_image-requires g c = ap is_layout c.as_slice-units.ensures ∙ layout_in (word_bytes c.args.words.now) c.args.units.now c.requires
+format_image-requires g c = ap is_layout c.as_slice-units.ensures ∙ c.requires
 
 pub overflow_cast-units : goal.overflow_cast-units
 overflow_cast-units g c =
-    let few = few_units c.args.units.now (layout_in (word_bytes c.args.words.now) c.args.units.now c.requires) in
+    let few = few_units c.args.units.now c.requires in
     let same = ap length c.as_slice-units.ensures in
     omega (arith, few, same)
 
 pub returns-in-Ok : goal.returns-in-Ok
 returns-in-Ok g c = λ left reads.
-    ended_format _ c.args.units.now (length c.as_slice-units.result.now) _ _ _ _ c.finish.result c.requires (ap length c.as_slice-units.ensures)
+    formatted _ c.args.units.now (length c.as_slice-units.result.now) _ _ _ _ c.finish.result (ap length c.as_slice-units.ensures)
     (rw (c.image_of.ensures, c.as_slice-units.ensures) at c.in-Ok.ensures) (refl, refl) (rw (c.as_slice.ensures.value, c.count_line.ensures) at c.finish.ensures)
 
 pub returns-in-Err : goal.returns-in-Err
 returns-in-Err g c = λ left reads.
-    unformatted _ c.args.units.now c.of.result c.in-Err.fault _ _ _ _ c.refuse.result c.requires c.of.ensures (rw c.image_of.ensures at c.in-Err.ensures) (refl, refl) c.refuse.ensures
+    refused (format_work c.args.units.now) c.of.result _ _ _ _ _ c.refuse.result
+    (by_fault CauseUnformatted c.of.result c.in-Err.fault _ _ _ c.of.ensures (rw c.image_of.ensures at c.in-Err.ensures), (refl, refl)) c.refuse.ensures
