@@ -20,6 +20,7 @@ use Rattle.target_answer.specs.Requests.{blocks_of}
 use Rattle.rig_api.specs.Log.{entry_of, moved_by, moved_under}
 use Rattle.rig_api.specs.Telling.{spec_at}
 use Rattle.rig_api.specs.declared.rig.Outcome.{Outcome}
+use Rattle.dix_adapter.proofs.Units.{frames-count}
 use Rattle.dix_adapter.specs.declared.adapter.Adapter.{Adapter}
 use Rattle.dix_adapter.specs.Carried.{Fetched, Sent, Shown, any_bad, arrives, carried, command_for, command_of, fates_in, frame_len, landed, out_of, sends, unsent, way_of}
 use Rattle.dix_adapter.specs.Groups.{IsGroup, IsProtect, blocks_in, first_of, label_of, request_of, size}
@@ -144,10 +145,6 @@ settled-came a ios (b ∷ bs) (f ∷ fs) n o h l m = by (arrives a ios b f)
     by : (r : Result (List ℕ) Check) → any_settled (carried r ∷ (fates_in a ios bs fs ++ rest_of n o)) ≡ true
     by (Ok x) = refl
     by (Err c) = refl
-
-pub frames-count : (w n : ℕ) (X : List ℕ) → length (frames_of w n X) ≡ n
-frames-count w zero X = refl
-frames-count w (suc n) X = ap suc (frames-count w n (drop w X))
 
 pub settles-out : (a : Adapter) (pool pool' : List (List ℕ)) (bytes : ℕ) (ios : List Io) (req : List Bio) (fates : List Fate) (old new : Shown) → IsGroup a pool bytes ios req → Sent a ios req pool pool' fates old new → any_settled fates ≡ true
 settles-out a pool pool' bytes ios req fates old new g got = ap any_settled got.fates_are ∙ settled-sent (size req) got.outcome (some-blocks a pool bytes ios req g)

@@ -21,6 +21,7 @@ use Rattle.target_answer.specs.declared.units.UnitSpec.{UnitSpec}
 use Rattle.rig_api.specs.Log.{Room, labels_len, moved_by, moved_under}
 use Rattle.rig_api.specs.Telling.{greatest, greatest_size, no_spec, spec_at, specs_of}
 use Rattle.rig_api.specs.declared.rig.Outcome.{Outcome}
+use Rattle.dix_adapter.proofs.Units.{frames-count}
 use Rattle.dix_adapter.specs.declared.adapter.Adapter.{Adapter}
 use Rattle.dix_adapter.specs.Carried.{Exchanged, Fetched, Sent, Shown, arrives, carried, command_for, fates_in, frame_len, sends, unsent, way_of}
 use Rattle.dix_adapter.specs.Groups.{blocks_in, first_of, label_of, size}
@@ -29,7 +30,6 @@ use Rattle.dix_adapter.specs.Ways.{Spends, settled_count}
 use Rattle.dix_adapter.proofs.Asking.{asked-for, count-is, fields_of}
 use Rattle.dix_adapter.proofs.Blocks.{length-in}
 use Rattle.dix_adapter.proofs.Commands.{command-blocks}
-use Rattle.dix_adapter.proofs.OnRecord.{frames-count}
 
 -- no unit's blocks are greater than the greatest
 no-greater : (us : List UnitSpec) (i : ℕ) → (slice_index_or us i no_spec).size ≤ greatest us

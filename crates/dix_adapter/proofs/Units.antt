@@ -14,7 +14,6 @@ use Rattle.rig_api.specs.declared.rig.RigFault.TheVariants.{BadLength}
 use Rattle.rig_api.specs.Telling.{IsStanding, Standing, StandsOn, no_spec, spec_at, specs_of, unit_at, units_told}
 use Rattle.dix_adapter.specs.Ways.{shapes_of}
 use Rattle.dix_adapter.proofs.Runs.{AllLong}
-use Rattle.dix_adapter.proofs.OnRecord.{frames-count}
 
 -- the length of an image with a right head
 right-length : (h : Head) (v : Option Version) → fault_under v h ≡ None → h.size ≡ image_size (specs_under v h.first)
@@ -33,6 +32,10 @@ right-length h (Some v) e = by (ltb (length h.first) 512) (is_header v h.first) 
 pub image-long : (h : Head) (image : List ℕ) → head_fault h ≡ None → h ≡ head_of image → length image ≡ image_size (units_of h)
 unfolding head_fault
 image-long h image e t = sym (ap (λ x. x.size) t) ∙ right-length h (version_in h) e
+
+pub frames-count : (w n : ℕ) (bytes : List ℕ) → length (frames_of w n bytes) ≡ n
+frames-count w zero bytes = refl
+frames-count w (suc n) bytes = ap suc (frames-count w n (drop w bytes))
 
 pub frames-long : (w n : ℕ) (bytes : List ℕ) → n * w ≤ length bytes → AllLong w (frames_of w n bytes)
 frames-long w zero bytes h = tt

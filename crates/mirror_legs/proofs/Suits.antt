@@ -27,7 +27,6 @@ use Rattle.script_text.specs.Segments.{any_share, are_few_each, are_inside, are_
 use Rattle.script_text.specs.declared.fault.ScriptFault.{ScriptFault}
 use Rattle.script_text.specs.declared.script.Script.{Script}
 use Rattle.script_laws.specs.Keeping.{Each, IsWithin, blocks_of}
-use Rattle.script_laws.proofs.BigKeeps.{tag_twice}
 use Rattle.script_ground.specs.SuitsStack.{IsStackOp}
 use Rattle.mirror_script.specs.MirrorFaults.{names_blocks}
 use Rattle.mirror_legs.specs.declared.piece.Piece.{Piece}
@@ -37,6 +36,7 @@ use Rattle.mirror_legs.specs.MirrorScript.{IsMirrorScript, IsPiece, IsPieceWithT
 use Rattle.mirror_legs.proofs.OnLeg.{pages_least, pages_room}
 use Rattle.mirror_legs.proofs.Puts.{puts_length}
 use Rattle.mirror_legs.proofs.Renumbered.{is_own, own_line}
+use Rattle.script_laws.proofs.Held.{tag_twice}
 
 -- ---- a limit
 

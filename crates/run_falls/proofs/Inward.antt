@@ -31,7 +31,7 @@ use Rattle.run_falls.specs.Falls.{Falls, forgive, forgiven, left_of, over_falls,
 use Rattle.run_falls.specs.FollowsFalling.{AllFallen, HasFallen}
 use Rattle.run_falls.proofs.Falling.{NoneFall, all_really, decide, elsewhere_still, fall_at, fall_if, falls_by, here, none_fall, none_of_rest, rest_none, there, with_fall}
 use Rattle.run_falls.proofs.Forgiving.{AllDir, AreFresh}
-use Rattle.run_falls.proofs.Outward.{falls_here, forgiven_here, not_here, some_if}
+use Rattle.run_falls.proofs.Outward.{falls_here, forgiven_here, not_here, some_if, nothing_really}
 
 abbrev Came : Type 0
 Came = Result (List ℕ) Why
@@ -40,10 +40,6 @@ Came = Result (List ℕ) Why
 abbrev pub next_in : Came → List Came → List Came
 next_in (Ok frame) more = Ok frame ∷ more
 next_in (Err why) more = Err why ∷ []
-
-pub nothing_really : (falls : Falls) (bs : List Block) → all_really falls bs [] ≡ []
-nothing_really falls [] = refl
-nothing_really falls (b ∷ bs) = refl
 
 abbrev head : Fate → List Fate → Fate
 head d [] = d

@@ -5,6 +5,7 @@ use Rattle.page_pool.specs.Cells.{flat}
 use Rattle.target_answer.specs.Frames.{frames_of, joined, stored_size}
 use Rattle.target_answer.specs.Target.{Stop, Stored}
 use Rattle.rig_api.specs.Log.{Entry}
+use Rattle.dix_adapter.proofs.Units.{frames-count}
 use Rattle.bio_core.specs.Bios.{Block}
 use Rattle.bio_core.specs.declared.bio.Bio.{Bio}
 use Rattle.bio_core.specs.declared.fate.Fate.{Fate}
@@ -24,7 +25,6 @@ use Rattle.dix_adapter.specs.Outcomes.{done_of}
 use Rattle.dix_adapter.specs.Ways.{CameIn, RecordedIn, blocks_told, fates_of_in, frames_in, shapes_of, site_of, stopped_in, ways_in}
 use Rattle.dix_adapter.proofs.Blocks.{length-in}
 use Rattle.dix_adapter.proofs.Runs.{cut-joined}
-use Rattle.dix_adapter.proofs.OnRecord.{frames-count}
 use Rattle.carried_record.specs.OnRecord.{put_each}
 use Rattle.carried_record.proofs.Puts.{InTurn, goes_in, turn}
 use Rattle.run_follows.specs.Following.{Follows}

@@ -10,14 +10,10 @@ use Rattle.whole_run.specs.Steps.{Step, steps_of}
 use Rattle.run_moves.specs.ScriptMoves.{all_moves, blocks_from, blocks_of, by_moves, fates_of, moves_from, own_at, room_of, script_moves}
 use Rattle.run_follows.specs.Following.{AllStand, Follows, StandFrom}
 use Rattle.run_follows.specs.Slots.{Status, Waits}
-use Rattle.run_follows.proofs.Runs.{Moves, none_far, sents_none}
+use Rattle.run_follows.proofs.Runs.{Moves, none_far, sents_none, none_both as none_join}
 
 abbrev all_wait : ℕ → ℕ → Status
 all_wait i k = Waits
-
-pub none_join : (xs ys : Moves) → none_done {R = Answer} (xs ++ ys) ≡ none_done xs ++ none_done ys
-none_join [] ys = refl
-none_join (x ∷ xs) ys = ap (λ rest. None ∷ rest) (none_join xs ys)
 
 module _ (m : Setting) where
   steps_wait : (from fate k : ℕ) (steps : List Step) → StandFrom m from fate k steps (λ k. Waits) (none_done (all_moves (blocks_from m from fate k steps)))

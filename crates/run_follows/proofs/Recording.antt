@@ -8,6 +8,7 @@ use Rattle.pi_tuple.specs.declared.checks.Check.{Check}
 use Rattle.fault_schedule.specs.declared.Label.{Label}
 use Rattle.target_answer.specs.Frames.{frames_of}
 use Rattle.rig_api.specs.declared.rig.Outcome.{Outcome}
+use Rattle.dix_adapter.proofs.Units.{frames-count}
 use Rattle.bio_core.specs.Bios.{Block}
 use Rattle.bio_core.specs.declared.bio.Bio.{Bio}
 use Rattle.bio_core.specs.declared.fate.Fate.{Fate}
@@ -31,7 +32,6 @@ use Rattle.dix_adapter.specs.Groups.{IsGroup, IsProtect, blocks_in, first_of, fr
 use Rattle.dix_adapter.specs.Outcomes.{done_of, rest_of, why_of}
 use Rattle.dix_adapter.specs.Ways.{RecordedIn, RecordedOut}
 use Rattle.dix_adapter.proofs.Blocks.{length-in}
-use Rattle.dix_adapter.proofs.OnRecord.{frames-count}
 use Rattle.carried_record.specs.OnRecord.{put_each}
 use Rattle.carried_record.proofs.Named.{named_alike}
 use Rattle.carried_record.proofs.Puts.{InTurn, goes_in, goes_out as went_out, turn}

@@ -11,7 +11,6 @@ use Rattle.run_moves.specs.OpsApart.{NoneMeet}
 use Rattle.block_path.specs.Serial.{Apart}
 use Rattle.run_follows.specs.Following.{sents_so_far}
 use Rattle.run_follows.specs.Slots.{so_far}
-use Rattle.run_follows.proofs.Begins.{none_join}
 
 abbrev pub Done : Type 0
 Done = List (Option Answer)
@@ -33,12 +32,16 @@ pub none_far : (moves : Moves) → so_far moves [] ≡ none_done moves
 none_far [] = refl
 none_far (a ∷ moves) = ap (λ rest. None ∷ rest) (none_far moves)
 
+pub none_both : (xs ys : Moves) → none_done {R = Answer} (xs ++ ys) ≡ none_done xs ++ none_done ys
+none_both [] ys = refl
+none_both (x ∷ xs) ys = ap (λ rest. None ∷ rest) (none_both xs ys)
+
 pub all_both : (xs ys : List Answer) → all_done (xs ++ ys) ≡ all_done xs ++ all_done ys
 all_both [] ys = refl
 all_both (x ∷ xs) ys = ap (λ rest. Some x ∷ rest) (all_both xs ys)
 
 pub far_done : (front run back : Moves) (answers : List Answer) → length answers ≡ length front → so_far (front ++ (run ++ back)) answers ≡ all_done answers ++ (none_done run ++ none_done back)
-far_done [] run back [] e = none_far (run ++ back) ∙ none_join run back
+far_done [] run back [] e = none_far (run ++ back) ∙ none_both run back
 far_done [] run back (r ∷ answers) e = absurd (omega (arith, e))
 far_done (a ∷ front) run back [] e = absurd (omega (arith, e))
 far_done (a ∷ front) run back (r ∷ answers) e = ap (λ rest. Some r ∷ rest) (far_done front run back answers (omega (arith, e)))

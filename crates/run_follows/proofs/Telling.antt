@@ -8,6 +8,7 @@ use Rattle.pi_tuple.specs.declared.checks.Check.{Check}
 use Rattle.target_answer.specs.Frames.{frames_of, joined}
 use Rattle.target_answer.specs.Target.{Stored}
 use Rattle.rig_api.specs.Log.{Entry}
+use Rattle.dix_adapter.proofs.Units.{frames-count}
 use Rattle.bio_core.specs.Bios.{Block}
 use Rattle.bio_core.specs.declared.bio.Bio.{Bio}
 use Rattle.bio_core.specs.declared.fate.Fate.{Fate}
@@ -33,7 +34,6 @@ use Rattle.dix_adapter.specs.Outcomes.{done_of}
 use Rattle.dix_adapter.specs.Ways.{CameIn, RecordedIn, RecordedOut, WentOut, acts_out, blocks_told, fates_of_in, fates_out, frames_in, frames_out, shapes_of, site_of, ways_in, ways_out}
 use Rattle.dix_adapter.proofs.Blocks.{length-in}
 use Rattle.dix_adapter.proofs.Runs.{AllLong, cut-joined}
-use Rattle.dix_adapter.proofs.OnRecord.{frames-count}
 use Rattle.target_answer.specs.declared.units.UnitSpec.{UnitSpec}
 use Rattle.carried_record.specs.OnRecord.{put_each}
 use Rattle.carried_record.proofs.Puts.{InTurn, goes_in, goes_out as went_out, turn}

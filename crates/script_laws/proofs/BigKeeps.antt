@@ -15,6 +15,7 @@ use Rattle.script_text.specs.Segments.{are_few_each, few_from, is_inside}
 use Rattle.script_laws.specs.Keeping.{Each, IsChoice, IsEntry, IsOp, IsTag, blocks_of}
 use Rattle.script_laws.specs.Lines.{line_of, tag_of}
 use Rattle.script_laws.proofs.Keeping.{KeepsAll}
+use Rattle.script_laws.proofs.Held.{tag_twice}
 
 drawn_below : (m x : ℕ) → 1 ≤ m → drawn m x < m
 drawn_below m x h = omega arith
@@ -66,13 +67,6 @@ no_data_fault page n p l m =
 
 same_zero : (a : ℕ) → eqb a 0 ≡ true → 0 ≡ a
 same_zero a h = grind (arith, nat_tests)
-
-pub tag_twice : (app : ℕ) → unwrap_or (tag_of app) 0 ≡ app
-tag_twice app = by (eqb app 0) refl
-  where
-    by : (b : Bool) → eqb app 0 ≡ b → unwrap_or (if b then None else Some app) 0 ≡ app
-    by true e = same_zero app e
-    by false e = refl
 
 tag_fits : (app : ℕ) → app < 2 ^ 16 → (b : Bool) → IsTag (if b then None else Some app)
 tag_fits app h true = tt

@@ -24,7 +24,7 @@ use Rattle.script_laws.specs.Keeping.{Each, IsFault, Keeps}
 use Rattle.script_laws.proofs.FormsGive.{Numbers, fill_gives, overwrite_gives, put_gives, read_gives, readpi_gives, seal_gives, show_gives, write_gives, writepi_gives}
 use Rattle.script_laws.proofs.Held.{Goes, Held, InOrder, IsRaw, goes, length_both, nothing_held, number_of}
 use Rattle.script_laws.proofs.Inverse.{ended_ok, ok_of}
-use Rattle.script_laws.proofs.Kept.{Rules, begin_kept, block_kept, expect_kept, fault_kept, inner_kept, limits_kept, linear_kept, mode_kept, op_kept, over_kept, pages_kept, rules_of, schedule_kept, shift_kept, stripe_kept}
+use Rattle.script_laws.proofs.Kept.{Rules, begin_kept, block_kept, expect_kept, fault_kept, inner_kept, limits_kept, linear_kept, mode_kept, op_kept, over_kept, pages_kept, rules_of, schedule_kept, shift_kept, stripe_kept, ok_draft}
 
 -- a line of this verb that is taken
 pub verb_kept : (verb : Verb) (n : ℕ) (words : List (List ℕ)) (d e : Drafted) → Held d → Goes (number_of d.place) (place_number (place_of verb)) → (line : Line) → line_form verb d.block words ≡ Ok line → Rules d line → taken n line d ≡ Ok e
@@ -53,9 +53,6 @@ verb_kept WritePiVerb n words d e h g line f r t = op_kept n d e h g (op_form Wr
 verb_kept ReadPiVerb n words d e h g line f r t = op_kept n d e h g (op_form ReadPiVerb d.block words) line f (λ op i. readpi_gives d.block words op i) r t
 verb_kept OverwriteVerb n words d e h g line f r t = op_kept n d e h g (op_form OverwriteVerb d.block words) line f (λ op i. overwrite_gives d.block words op i) r t
 verb_kept WaitVerb n words d e h g line f r t = op_kept n d e h g (op_form WaitVerb d.block words) line f (λ op i. subst (Numbers d.block) (sym (ended_ok Wait words op i)) tt) r t
-
-pub ok_draft : (a b : Drafted) → ◌≡◌ {A = Result Drafted ScriptKind} (Ok a) (Ok b) → b ≡ a
-ok_draft a b h = cc
 
 pub no_rule : (f : Option ScriptKind) (r : Result Drafted ScriptKind) (e : Drafted) → unless_broken f r ≡ Ok e → (f ≡ None) × (r ≡ Ok e)
 no_rule None r e h = (refl, h)

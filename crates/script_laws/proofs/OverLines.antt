@@ -35,8 +35,9 @@ use Rattle.script_laws.specs.OverLines.{LiesInTree, read_on}
 use Rattle.script_laws.proofs.FormsGive.{over_gives}
 use Rattle.script_laws.proofs.Held.{Held, nothing_held}
 use Rattle.script_laws.proofs.Inverse.{ok_of}
-use Rattle.script_laws.proofs.Keeping.{go_keeps, no_rule, ok_draft, ok_script, text_kept}
+use Rattle.script_laws.proofs.Keeping.{go_keeps, no_rule, ok_script, text_kept}
 use Rattle.script_laws.proofs.Over.{OverSays, over_says}
+use Rattle.script_laws.proofs.Kept.{ok_draft}
 
 -- ---- reading on adds entries, and takes none away
 

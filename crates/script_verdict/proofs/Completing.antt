@@ -20,7 +20,7 @@ use Rattle.volume_table.specs.declared.entry.Entry.{Entry}
 use Rattle.volume_table.specs.declared.fault.VolumeFault.{VolumeFault}
 use Rattle.volume_table.specs.declared.fault.VolumeFault.TheVariants.{At}
 use Rattle.volume_table.specs.declared.fault.VolumeKind.{VolumeKind}
-use Rattle.script_verdict.proofs.Devices.{image_devices}
+use Rattle.script_verdict.proofs.Devices.{image_devices, headed}
 use Rattle.source_text.proofs.Taking.{most_is, whole_text}
 use Rattle.source_text.specs.Reading.{IsOver}
 use Rattle.script_verdict.specs.Verdict.{CauseRefused, CauseStopped, CauseUntaken, Facts, HasBadVolume, HasRead, HasRunSource, HasTable, HoldsFault, IsComplete, IsUnbound, StopsFromOutside, devices_of, table_over}
@@ -76,9 +76,6 @@ not_bad image script entry kind name old new i t u =
     let d : u.devices ≡ devices_of image = image_devices name u.devices old new image u.asked i in
     let k : ◌≡◌ {A = Option VolumeFault} None (Some (At entry kind)) = sym t ∙ ap (λ v. table_fault script.entries v script.block) (sym d) ∙ u.bad in
     absurd (cc)
-
-pub headed : (h : Head) (image : List ℕ) (told : Option (List ℕ)) → told ≡ Some image → IsHeadOf h told → h ≡ head_of image
-headed h image told e i = rw e at i
 
 pub no_head_fault : (image : List ℕ) (x : RigFault) (name : List ℕ) (old new : View) → old.image ≡ Some image → new.image ≡ old.image → head_fault (head_of image) ≡ None → WasOpened name (Some x) old new → ⊥
 no_head_fault image x name old new i same h opened =
