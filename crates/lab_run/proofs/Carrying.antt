@@ -130,6 +130,8 @@ broke_by (Shown us at blocks) f old new result c b = inl b.1
 broke_by (Compared p ones twos) f old new result c b = one_rose (served_in f.words) f (ap uses_second c.named) b.1
 broke_by (Exported us at layout blocks) f old new result c b = inl b.1
 broke_by (Imported us at count layout) f old new result c b = absurd b
+broke_by (Judged script) f old new result c b = absurd b
+broke_by (Marked text bad) f old new result c b = absurd b
 
 no_store_rose : (c : Option Command) (f : Facts) → AreCalm c f → StoreRose c f → ⊥
 no_store_rose c f calm (inl r) = never_rose f.first.faults f.first_after.faults calm.0 r
@@ -869,6 +871,8 @@ seconds f image (Compared p ones twos) b i calm c =
     absurd (opened_second f image c.one c.other p b c.both (subst (λ (x : Place). IsBadHead image ⊎ IsNoPlace x image) (sym same) i.3))
 seconds f image (Exported us at layout blocks) b i calm c = let k = sym c.named ∙ i.2 in absurd (cc)
 seconds f image (Imported us at count layout) b i calm c = let k = sym c.named ∙ i.2 in absurd (cc)
+seconds f image (Judged script) b i calm c = let k = sym c.named ∙ i.2 in absurd (cc)
+seconds f image (Marked text bad) b i calm c = let k = sym c.named ∙ i.2 in absurd (cc)
 
 second_refused_as : (f : Facts) (old new : Option (List ℕ)) (o n : ℕ) (result : Status) → Ended f old new o n result →
     (image : List ℕ) → f.second.bytes ≡ Some image → IsSecondWrong (served_in f.words) image → AreCalm (served_in f.words) f → Calm o n → (result ≡ status.Image) ⊎ (result ≡ status.Memory)

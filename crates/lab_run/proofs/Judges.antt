@@ -19,7 +19,7 @@ use Rattle.lab_run.specs.Calls.{Facts, Held, on_input, served_in}
 use Rattle.lab_run.specs.Judging.{CauseNotJudged, HasJudged, HasScriptFault, JudgesText}
 use Rattle.lab_run.specs.Saying.{IsTold, Says}
 use Rattle.lab_run.specs.Texts.{refusal_text, status_of}
-use Rattle.lab_run.specs.Verdict.{BrokeOff, Cause, CauseByCommand, Ended, Exported, Helped, Imported, Judged, Keeps, KeepsImage, KeepsSource, Listed, Marked, Refused, Shown, Verdict, Versioned, Written, verdict_status, verdict_text}
+use Rattle.lab_run.specs.Verdict.{BrokeOff, Cause, CauseByCommand, Compared, Ended, Exported, Helped, Imported, Judged, Keeps, KeepsImage, KeepsSource, Listed, Marked, Refused, Shown, Verdict, Versioned, Written, verdict_status, verdict_text}
 use Rattle.lab_run.specs.declared.judging.Said.{Said}
 use Rattle.lab_run.specs.declared.refusal.Refusal.{Refusal}
 use Rattle.lab_run.specs.declared.refusal.Refusal.TheVariants as refusal
@@ -35,7 +35,7 @@ kept words h left left' reads reads' rig second e r =
     record {
       source = subst (λ (c : Option Command). KeepsSource c f) (sym e) r;
       rig = refl;
-      second = refl;
+      second = inl refl;
       image = subst (λ (c : Option Command). KeepsImage c f) (sym e) refl;
       openings = inl (refl, refl);
       count = omega arith;
@@ -112,6 +112,10 @@ untouched_refused refusal.Words f c = absurd c
 untouched_refused (refusal.Image x) f c = absurd c
 untouched_refused (refusal.Place x) f c = absurd c
 untouched_refused refusal.NoTuples f c = absurd c
+untouched_refused (refusal.SecondImage x) f c = absurd c
+untouched_refused (refusal.SecondPlace x) f c = absurd c
+untouched_refused refusal.OtherSize f c = absurd c
+untouched_refused refusal.OtherCount f c = absurd c
 untouched_refused (refusal.Short x) f c = absurd c
 untouched_refused refusal.Long f c = absurd c
 untouched_refused refusal.RigFault f c = absurd c
@@ -123,6 +127,10 @@ memory_refused refusal.Words f c k = absurd c
 memory_refused (refusal.Image x) f c k = absurd c
 memory_refused (refusal.Place x) f c k = absurd c
 memory_refused refusal.NoTuples f c k = absurd c
+memory_refused (refusal.SecondImage x) f c k = absurd c
+memory_refused (refusal.SecondPlace x) f c k = absurd c
+memory_refused refusal.OtherSize f c k = absurd c
+memory_refused refusal.OtherCount f c k = absurd c
 memory_refused (refusal.Short x) f c k = absurd c
 memory_refused refusal.Long f c k = absurd c
 memory_refused refusal.RigFault f c k = absurd c
@@ -138,6 +146,7 @@ untouched_by f Helped e c = let k = sym c ∙ e in absurd (cc)
 untouched_by f Versioned e c = let k = sym c ∙ e in absurd (cc)
 untouched_by f (Listed us) e c = let k = sym c.named ∙ e in absurd (cc)
 untouched_by f (Shown us at blocks) e c = let k = sym c.named ∙ e in absurd (cc)
+untouched_by f (Compared p ones twos) e c = let k = sym c.named ∙ e in absurd (cc)
 untouched_by f (Exported us at layout blocks) e c = let k = sym c.named ∙ e in absurd (cc)
 untouched_by f (Imported us at count layout) e c = let k = sym c.named ∙ e in absurd (cc)
 untouched_by f (Judged script) e c = c.untouched
@@ -186,6 +195,7 @@ as_said f old new o n result Helped e c (inr w) k = absurd w
 as_said f old new o n result Versioned e c (inr w) k = absurd w
 as_said f old new o n result (Listed us) e c (inr w) k = absurd w
 as_said f old new o n result (Shown us at blocks) e c (inr w) k = let z = sym c.named ∙ e in absurd (cc)
+as_said f old new o n result (Compared p ones twos) e c (inr w) k = let z = sym c.named ∙ e in absurd (cc)
 as_said f old new o n result (Exported us at layout blocks) e c (inr w) k = let z = sym c.named ∙ e in absurd (cc)
 as_said f old new o n result (Imported us at count layout) e c (inr w) k = absurd w
 as_said f old new o n result (Judged script) e c (inr w) k = absurd w
@@ -197,6 +207,7 @@ wrong_by f Helped all bad e c l s k = let z = sym c ∙ e in absurd (cc)
 wrong_by f Versioned all bad e c l s k = let z = sym c ∙ e in absurd (cc)
 wrong_by f (Listed us) all bad e c l s k = let z = sym c.named ∙ e in absurd (cc)
 wrong_by f (Shown us at blocks) all bad e c l s k = let z = sym c.named ∙ e in absurd (cc)
+wrong_by f (Compared p ones twos) all bad e c l s k = let z = sym c.named ∙ e in absurd (cc)
 wrong_by f (Exported us at layout blocks) all bad e c l s k = let z = sym c.named ∙ e in absurd (cc)
 wrong_by f (Imported us at count layout) all bad e c l s k = let z = sym c.named ∙ e in absurd (cc)
 wrong_by f (Judged script) all bad e c l s k = absurd (not_judged f all bad script c l s)
@@ -208,6 +219,7 @@ right_by f Helped all script e c l s k = let z = sym c ∙ e in absurd (cc)
 right_by f Versioned all script e c l s k = let z = sym c ∙ e in absurd (cc)
 right_by f (Listed us) all script e c l s k = let z = sym c.named ∙ e in absurd (cc)
 right_by f (Shown us at blocks) all script e c l s k = let z = sym c.named ∙ e in absurd (cc)
+right_by f (Compared p ones twos) all script e c l s k = let z = sym c.named ∙ e in absurd (cc)
 right_by f (Exported us at layout blocks) all script e c l s k = let z = sym c.named ∙ e in absurd (cc)
 right_by f (Imported us at count layout) all script e c l s k = let z = sym c.named ∙ e in absurd (cc)
 right_by f (Judged other) all script e c l s k = inl refl

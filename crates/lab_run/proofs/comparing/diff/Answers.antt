@@ -61,14 +61,14 @@ returns-then-not-are_one_size g c = λ left reads rig.
     other_size _ c.args.one c.args.other _ _ _ _ left reads rig c.in-Ok-open_image.image c.in-Ok-open_image-2.beside c.in-Ok-stretch_of.at c.in-Ok-stretch_of-2.to c.are_one_size.result _ _ _ _ c.refuse-then-not-are_one_size.result c.requires
     (record { first = t; there = c.in-Ok-stretch_of.ensures.value; second = u; other_there = c.in-Ok-stretch_of-2.ensures.value }) c.are_one_size.ensures c.if-not-are_one_size.true c.refuse-then-not-are_one_size.ensures
 
-pub returns-then-count-ne-count : goal.returns-then-count-ne-count
-returns-then-count-ne-count g c = λ left reads rig.
+pub returns-then-at-to : goal.returns-then-at-to
+returns-then-at-to g c = λ left reads rig.
     let e = c.in-Ok-open_image.ensures in
     let t = tried _ _ c.image_of.result.now _ _ c.image_of.ensures e.judged e.failed e.opening e.opened e.same e.count in
     let d = c.in-Ok-open_image-2.ensures in
     let u = tried _ _ c.second_of.result.now _ _ c.second_of.ensures d.judged d.failed d.opening d.opened d.same d.count in
-    other_count _ c.args.one c.args.other _ _ _ _ left reads rig c.in-Ok-open_image.image c.in-Ok-open_image-2.beside c.in-Ok-stretch_of.at c.in-Ok-stretch_of-2.to c.are_one_size.result _ _ _ _ c.refuse-then-count-ne-count.result c.requires
-    (record { first = t; there = c.in-Ok-stretch_of.ensures.value; second = u; other_there = c.in-Ok-stretch_of-2.ensures.value }) c.are_one_size.ensures c.if-not-are_one_size.false c.if-count-ne-count.true c.refuse-then-count-ne-count.ensures
+    other_count _ c.args.one c.args.other _ _ _ _ left reads rig c.in-Ok-open_image.image c.in-Ok-open_image-2.beside c.in-Ok-stretch_of.at c.in-Ok-stretch_of-2.to c.are_one_size.result _ _ _ _ c.refuse-then-at-to.result c.requires
+    (record { first = t; there = c.in-Ok-stretch_of.ensures.value; second = u; other_there = c.in-Ok-stretch_of-2.ensures.value }) c.are_one_size.ensures c.if-not-are_one_size.false c.if-at-to.true c.refuse-then-at-to.ensures
 
 pub returns : goal.returns
 returns g c = λ left reads rig.
@@ -96,4 +96,4 @@ returns g c = λ left reads rig.
       second = tried _ _ c.second_of.result.now beside_was beside_mid c.second_of.ensures d.judged d.failed d.opening d.opened d.same d.count;
       other_there = c.in-Ok-stretch_of-2.ensures.value;
     }) walked
-    (eqb-true _ _ (sym c.are_one_size.ensures ∙ c.if-not-are_one_size.false)) c.if-count-ne-count.false s.compared c.status_of.ensures
+    (eqb-true _ _ (sym c.are_one_size.ensures ∙ c.if-not-are_one_size.false)) c.if-at-to.false s.compared c.status_of.ensures
