@@ -32,11 +32,6 @@ pub to-wire : (faults : List FaultLine) (r : Route) (frame : List ℕ) → to_wi
 unfolding to_wire
 to-wire faults r frame = ap (checked_out r) (sym (altered_none HostToAdapter r.label (altered faults HostToAdapter r.label frame)))
 
-unfolding to_medium
-onto_medium r frame =
-    crossed_none TargetToMedium r.label (accepted (passage [] r) (altered [] AdapterToTarget r.label frame))
-    ∙ ap (accepted (passage [] r)) (altered_none AdapterToTarget r.label frame)
-
 accepted-by : (faults : List FaultLine) (r : Route) (frame : List ℕ) → to_medium faults (passage [] r) frame ≡ then_crossed faults (Some r.label) TargetToMedium (accepted (passage [] r) (altered faults AdapterToTarget r.label frame))
 unfolding to_medium
 accepted-by faults r frame = refl
@@ -44,20 +39,12 @@ accepted-by faults r frame = refl
 pub to-medium : (faults : List FaultLine) (r : Route) (frame : List ℕ) → to_medium faults (passage [] r) frame ≡ then_crossed faults (Some r.label) TargetToMedium (to_medium [] (passage [] r) (altered faults AdapterToTarget r.label frame))
 to-medium faults r frame = accepted-by faults r frame ∙ ap (then_crossed faults (Some r.label) TargetToMedium) (sym (onto_medium r (altered faults AdapterToTarget r.label frame)))
 
-unfolding from_medium
-off_medium r frame =
-    crossed_none TargetToAdapter r.label (released (passage [] r) (altered [] MediumToTarget r.label frame))
-    ∙ ap (released (passage [] r)) (altered_none MediumToTarget r.label frame)
-
 released-by : (faults : List FaultLine) (r : Route) (frame : List ℕ) → from_medium faults (passage [] r) frame ≡ then_crossed faults (Some r.label) TargetToAdapter (released (passage [] r) (altered faults MediumToTarget r.label frame))
 unfolding from_medium
 released-by faults r frame = refl
 
 pub from-medium : (faults : List FaultLine) (r : Route) (frame : List ℕ) → from_medium faults (passage [] r) frame ≡ then_crossed faults (Some r.label) TargetToAdapter (from_medium [] (passage [] r) (altered faults MediumToTarget r.label frame))
 from-medium faults r frame = released-by faults r frame ∙ ap (then_crossed faults (Some r.label) TargetToAdapter) (sym (off_medium r (altered faults MediumToTarget r.label frame)))
-
-unfolding from_wire
-off_wire r frame = crossed_none AdapterToHost r.label (unless (adapter_finds_in r frame) (received r frame))
 
 handed-by : (faults : List FaultLine) (r : Route) (frame : List ℕ) → from_wire faults r frame ≡ then_crossed faults (Some r.label) AdapterToHost (unless (adapter_finds_in r frame) (received r frame))
 unfolding from_wire
