@@ -8,7 +8,7 @@ const IMAGE_MARKS: &str = "put cut more second-put second-cut second-more then";
 
 /// The marks of other lines.
 const CALL_MARKS: &str =
-    "$ in source-fails store-fails second-fails sink-fails room each status > >/ out";
+    "$ in < source-fails store-fails second-fails sink-fails room each status > >/ out";
 
 fn is_one_of(word: &str, marks: &str) -> bool {
     for mark in marks.split(' ') {
