@@ -1,11 +1,11 @@
 use Rattle.std.specs.Prelude.{ℕ, ◌≡◌, ◌+◌, ◌*◌, ◌<◌, ◌≤◌, List, [], ◌∷◌, ◌++◌, length, Option, Result, Ok, Err}
-use Rattle.dix_base.specs.Told.{Appended, AppendedSome, Becomes, IsAtEnd, Rose, Took}
+use Rattle.dix_base.specs.Told.{Apart, Appended, AppendedSome, Becomes, IsAtEnd, Rose, Took}
 use Rattle.target_answer.specs.Frames.{joined}
 use Rattle.target_answer.specs.Image.{units_in}
 use Rattle.target_answer.specs.Target.{Stored}
 use Rattle.target_answer.specs.declared.units.UnitSpec.{UnitSpec}
 use Rattle.target_model.specs.Served.{AllLong}
-use Rattle.image_layout.specs.Places.{block_len}
+use Rattle.image_layout.specs.Places.{block_len, block_place}
 use Rattle.image_blocks.specs.declared.stretch.Stretch.{Stretch}
 use Rattle.image_blocks.specs.Blocks.{HasBlocks, blocks_at, blocks_of, with_stretch}
 use Rattle.image_blocks.specs.Places.{spec_of}
@@ -62,6 +62,10 @@ ArePieces layout us s pieces others image image_after =
 abbrev pub AreSome : List UnitSpec → Stretch → (image image_after : Option (List ℕ)) → Type 0
 AreSome us s image image_after =
     Becomes (λ was is. (left : List (List ℕ)) × AllLong (block_len us s.dev) left × (length left ≤ s.count) × (units_in us is ≡ with_stretch (units_in us was) s left)) image image_after
+
+-- Where the image is told, its length and each byte outside of the stretch are as before.
+abbrev pub KeepsOutside : List UnitSpec → Stretch → (image image_after : Option (List ℕ)) → Type 0
+KeepsOutside us s image image_after = Becomes (Apart (block_place us s.dev s.first) (s.count * block_len us s.dev)) image image_after
 
 -- So many pieces came, and behind them more bytes. At the front of the stretch stands what is stored of them, behind it these blocks, and all else is as before.
 pub record HasTaken (layout : Layout) (us : List UnitSpec) (s : Stretch) (n : ℕ) (more : List ℕ) (others : List (List ℕ)) (image image_after left left_after : Option (List ℕ)) : Type 0 where

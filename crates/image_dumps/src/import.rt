@@ -8,7 +8,7 @@ ghost use Rattle.image_layout.specs.Places.{block_len};
 ghost use Rattle.image_blocks.specs.Images.{units_open};
 ghost use Rattle.image_blocks.specs.Places.{IsStretch, spec_of};
 ghost use Rattle.image_dumps.specs.Dumps.{fits, piece_len};
-ghost use Rattle.image_dumps.specs.Ends.{ArePieces, AreSome, HasOwn, ImportEnds, TakingEnds, behind_pieces, pieces_of};
+ghost use Rattle.image_dumps.specs.Ends.{ArePieces, AreSome, HasOwn, ImportEnds, KeepsOutside, TakingEnds, behind_pieces, pieces_of};
 
 use crate::fault::ImportFault;
 use crate::layout::{Layout, piece_len};
@@ -59,6 +59,7 @@ fn put_stretch<S: Store>(
     requires held { S.len store.old ≡ image_size (units_open image.now) }
     ensures put { OnOk result (ArePieces layout (units_open image.now) at (frames_of (piece_len layout (spec_of (units_open image.now) at.dev).ty (spec_of (units_open image.now) at.dev).size) at.count pieces.now) [] (S.bytes store.old) (S.bytes store.new)) }
     ensures left { OnErr result (AreSome (units_open image.now) at (S.bytes store.old) (S.bytes store.new)) }
+    ensures apart { KeepsOutside (units_open image.now) at (S.bytes store.old) (S.bytes store.new) }
     ensures cause { OnErr result (Rose (S.faults store.old) (S.faults store.new)) }
     ensures long { length frames.new ≡ length frames.old }
     ensures length { S.len store.new ≡ S.len store.old }
@@ -95,6 +96,7 @@ fn take_stretch<S: Store, R: Source>(
     requires room { length frames.old ≡ at.count * block_len (units_open image.now) at.dev }
     requires held { S.len store.old ≡ image_size (units_open image.now) }
     ensures taken { TakingEnds result layout (units_open image.now) at (length frames.old) (S.faults store.old) (S.faults store.new) (R.faults source.old) (R.faults source.new) (S.bytes store.old) (S.bytes store.new) (R.left source.old) (R.left source.new) }
+    ensures apart { KeepsOutside (units_open image.now) at (S.bytes store.old) (S.bytes store.new) }
     ensures length { S.len store.new ≡ S.len store.old }
     ensures stores { S.faults store.old ≤ S.faults store.new }
     ensures sources { R.faults source.old ≤ R.faults source.new }
@@ -156,6 +158,7 @@ fn take_all<S: Store, R: Source>(
     requires frames { 4104 ≤ length frames.old }
     requires held { S.len store.old ≡ image_size (units_open image.now) }
     ensures taken { TakingEnds result layout (units_open image.now) place (length frames.old) (S.faults store.old) (S.faults store.new) (R.faults source.old) (R.faults source.new) (S.bytes store.old) (S.bytes store.new) (R.left source.old) (R.left source.new) }
+    ensures apart { KeepsOutside (units_open image.now) place (S.bytes store.old) (S.bytes store.new) }
     ensures room { length pieces.new ≡ length pieces.old }
     ensures length { S.len store.new ≡ S.len store.old }
     ensures stores { S.faults store.old ≤ S.faults store.new }
@@ -196,7 +199,8 @@ fn take_all<S: Store, R: Source>(
 /// others as before. `Long` comes where a byte follows the pieces: it is taken, and all blocks are stored.
 /// `Source` and `Store` come only where their count of faults rose; then the first blocks are those of some
 /// pieces, and all others as before, but where the store failed some behind them may be anything: not more
-/// than the room holds.
+/// than the room holds. However it ends, the length of the image and each byte outside of the place are as
+/// before.
 pub fn import_blocks<S: Store, R: Source>(
     store: &mut S,
     image: &Image,
@@ -210,6 +214,7 @@ pub fn import_blocks<S: Store, R: Source>(
     requires least { 8208 ≤ length room.old }
     requires held { S.len store.old ≡ image_size (units_open image.now) }
     ensures imported { ImportEnds result layout (units_open image.now) place (length room.old) (S.faults store.old) (S.faults store.new) (R.faults source.old) (R.faults source.new) (S.bytes store.old) (S.bytes store.new) (R.left source.old) (R.left source.new) }
+    ensures apart { KeepsOutside (units_open image.now) place (S.bytes store.old) (S.bytes store.new) }
     ensures length { S.len store.new ≡ S.len store.old }
     ensures stores { S.faults store.old ≤ S.faults store.new }
     ensures sources { R.faults source.old ≤ R.faults source.new }

@@ -1,6 +1,7 @@
-use Rattle.std.proofs.Common.{◌∙◌, subst}
+use Rattle.std.proofs.Common.{◌∙◌, length, subst}
 use Rattle.image_blocks.specs.Blocks.{AreLeft, ArePut, blocks_of}
 use Rattle.image_blocks.specs.Images.{units_open}
+use Rattle.image_dumps.proofs.Keeping.{keeps_all, keeps_written}
 use Rattle.image_dumps.proofs.Storing.{left_some, none_some, pieces_put}
 use Rattle.image_dumps.proofs.import.put_stretch.Goals as goal
 
@@ -19,3 +20,16 @@ returns-in-Err-write_blocks-clause-left g c =
     let us = units_open c.args.image.now in
     left_some us c.args.at (g.S.Store.bytes c.args.store.now) (g.S.Store.bytes c.write_blocks.new.store)
     (subst (λ v. AreLeft us c.args.at v (g.S.Store.bytes c.write_blocks.new.store)) c.read_own.ensures.same c.write_blocks.ensures.left)
+
+pub returns-in-Err-clause-apart : goal.returns-in-Err-clause-apart
+returns-in-Err-clause-apart g c = keeps_all (units_open c.args.image.now) c.args.at (g.S.Store.bytes c.args.store.now) (g.S.Store.bytes c.read_own.new.store) c.read_own.ensures.same
+
+pub returns-in-Ok-write_blocks-clause-apart : goal.returns-in-Ok-write_blocks-clause-apart
+returns-in-Ok-write_blocks-clause-apart g c =
+    keeps_written (units_open c.args.image.now) c.args.at (length c.put_pieces.new.blocks) (g.S.Store.bytes c.args.store.now) (g.S.Store.bytes c.read_own.new.store) (g.S.Store.bytes c.write_blocks.new.store)
+    (c.put_pieces.auto.blocks ∙ c.read_own.ensures.long ∙ c.requires.room) c.read_own.ensures.same c.write_blocks.ensures.apart
+
+pub returns-in-Err-write_blocks-clause-apart : goal.returns-in-Err-write_blocks-clause-apart
+returns-in-Err-write_blocks-clause-apart g c =
+    keeps_written (units_open c.args.image.now) c.args.at (length c.put_pieces.new.blocks) (g.S.Store.bytes c.args.store.now) (g.S.Store.bytes c.read_own.new.store) (g.S.Store.bytes c.write_blocks.new.store)
+    (c.put_pieces.auto.blocks ∙ c.read_own.ensures.long ∙ c.requires.room) c.read_own.ensures.same c.write_blocks.ensures.apart

@@ -5,12 +5,14 @@ use Rattle.image_blocks.specs.Images.{units_open}
 use Rattle.image_dumps.specs.Ends.{TakingEnds}
 use Rattle.image_dumps.proofs.Dumping.{in_room}
 use Rattle.image_dumps.proofs.Importing.{at_first, breaks_off, goes_on}
+use Rattle.image_dumps.proofs.Keeping.{keeps_all, keeps_on, keeps_piece}
 use Rattle.image_dumps.proofs.Storing.{cut_few, cut_is, piece_room, pieces_held}
 use Rattle.image_dumps.proofs.import.take_all.Goals as goal
 
 pub loop-left-init : goal.loop-left-init
 loop-left-init g c = record {
   there = c.requires.place;
+  apart = keeps_all (units_open c.args.image.now) c.args.place (g.S.Store.bytes c.args.store.now) (g.S.Store.bytes c.args.store.now) refl;
   taken = at_first c.args.layout (units_open c.args.image.now) c.args.place (g.S.Store.bytes c.args.store.now) (g.R.Source.left c.args.source.now);
   pieces = refl;
   frames = refl;
@@ -52,6 +54,14 @@ returns-in-Err-clause-taken g c =
     (g.R.Source.faults c.args.source.now) (g.R.Source.faults c.loop-left.source) (g.R.Source.faults c.take_stretch.new.source) (g.S.Store.bytes c.args.store.now) (g.S.Store.bytes c.loop-left.store) (g.S.Store.bytes c.take_stretch.new.store)
     (g.R.Source.left c.args.source.now) (g.R.Source.left c.loop-left.source) (g.R.Source.left c.take_stretch.new.source) c.requires.place c.front_of-piece.ensures.value (cut_few _ (length c.args.frames.now) c.loop-left.frames inv.frames) inv.stores inv.sources inv.taken c.in-Err.ensures.taken)
 
+pub returns-in-Err-clause-apart : goal.returns-in-Err-clause-apart
+returns-in-Err-clause-apart g c =
+    let us = units_open c.args.image.now in
+    let inv = c.loop-left.invariant in
+    keeps_on us c.args.place (g.S.Store.bytes c.args.store.now) (g.S.Store.bytes c.loop-left.store) (g.S.Store.bytes c.take_stretch.new.store) inv.apart
+    (keeps_piece us c.args.place c.loop-left.left c.front_of-piece.result c.min-most.result c.loop-left.done (g.S.Store.bytes c.loop-left.store) (g.S.Store.bytes c.take_stretch.new.store) c.requires.place c.front_of-piece.ensures.value
+    inv.taken.behind inv.taken.few c.take_stretch.ensures.apart)
+
 pub loop-left-preserved : goal.loop-left-preserved
 loop-left-preserved g c =
     let us = units_open c.args.image.now in
@@ -61,6 +71,9 @@ loop-left-preserved g c =
     c.block_bytes-len.ensures.least (omega (arith, room, c.min.ensures, c.loop-left.invariant.pieces)) in
     record {
       there = c.behind_of-left.ensures.there;
+      apart = keeps_on us c.args.place (g.S.Store.bytes c.args.store.now) (g.S.Store.bytes c.loop-left.store) (g.S.Store.bytes c.take_stretch.new.store) inv.apart
+          (keeps_piece us c.args.place c.loop-left.left c.front_of-piece.result c.min-most.result c.loop-left.done (g.S.Store.bytes c.loop-left.store) (g.S.Store.bytes c.take_stretch.new.store) c.requires.place c.front_of-piece.ensures.value
+          inv.taken.behind inv.taken.few c.take_stretch.ensures.apart);
       taken = goes_on c.args.layout us c.args.place c.loop-left.left c.front_of-piece.result c.behind_of-left.result c.min-most.result c.loop-left.done c.in-Ok.more (g.S.Store.bytes c.args.store.now) (g.S.Store.bytes c.loop-left.store) (g.S.Store.bytes c.take_stretch.new.store)
           (g.R.Source.left c.args.source.now) (g.R.Source.left c.loop-left.source) (g.R.Source.left c.take_stretch.new.source) c.requires.place c.front_of-piece.ensures.value c.behind_of-left.ensures.value c.in-Ok.ensures.taken.0 inv.taken c.in-Ok.ensures.taken.1;
       pieces = refilled _ _ _ c.take_stretch.auto.pieces held ∙ inv.pieces;

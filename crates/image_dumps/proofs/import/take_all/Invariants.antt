@@ -1,12 +1,14 @@
 use Rattle.std.proofs.Common.{◌≡◌, ◌≤◌, length}
 use Rattle.image_blocks.specs.Images.{units_open}
 use Rattle.image_blocks.specs.Places.{IsStretch}
+use Rattle.image_dumps.specs.Ends.{KeepsOutside}
 use Rattle.image_dumps.proofs.Importing.{SoFar}
 use Rattle.image_dumps.proofs.import.take_all.Given as goal
 
 abbrev pub invariant-loop-left : goal.invariant-loop-left
 invariant-loop-left g l = record {
   there : IsStretch (units_open l.image) l.left;
+  apart : KeepsOutside (units_open l.image) l.fn.place (g.S.Store.bytes l.initial.store) (g.S.Store.bytes l.store);
   taken : SoFar l.layout (units_open l.image) l.fn.place l.left l.done (g.S.Store.bytes l.initial.store) (g.S.Store.bytes l.store) (g.R.Source.left l.initial.source) (g.R.Source.left l.source);
   pieces : length l.pieces ≡ length l.initial.pieces;
   frames : length l.frames ≡ length l.initial.frames;

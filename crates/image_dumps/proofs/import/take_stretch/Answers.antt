@@ -1,6 +1,7 @@
 use Rattle.std.proofs.Common.{◌∙◌, length, refl, take, arith}
 use Rattle.image_blocks.specs.Images.{units_open}
 use Rattle.image_dumps.proofs.Importing.{taken_bytes}
+use Rattle.image_dumps.proofs.Keeping.{keeps_all, keeps_front}
 use Rattle.image_dumps.proofs.Storing.{ends_short, ends_whole, frames_fit, pieces_fit, room_is, some_bytes, still_fits, unstored}
 use Rattle.image_dumps.proofs.import.take_stretch.Goals as goal
 
@@ -48,3 +49,18 @@ returns-clause-taken g c =
     c.units.ensures c.piece_len-each.ensures c.front_of-front.ensures.value c.min-whole.ensures (omega (arith, c.if-front-at.false))
     (c.fill.ensures.long ∙ room_is c.args.layout (units_open c.args.image.now) c.units.result.now c.args.at c.piece_len-each.result (length c.args.pieces.now) c.units.ensures c.piece_len-each.ensures c.requires.pieces)
     (omega (arith, c.in-Ok.ensures.bound, c.fill.ensures.long)) c.in-Ok.ensures.taken c.in-Ok-put_stretch.ensures.put
+
+pub returns-in-Err-clause-apart : goal.returns-in-Err-clause-apart
+returns-in-Err-clause-apart g c = keeps_all (units_open c.args.image.now) c.args.at (g.S.Store.bytes c.args.store.now) (g.S.Store.bytes c.args.store.now) refl
+
+pub returns-in-Err-put_stretch-clause-apart : goal.returns-in-Err-put_stretch-clause-apart
+returns-in-Err-put_stretch-clause-apart g c =
+    keeps_front (units_open c.args.image.now) c.args.at c.front_of-front.result c.min-whole.result (g.S.Store.bytes c.args.store.now) (g.S.Store.bytes c.put_stretch.new.store) c.requires.place c.front_of-front.ensures.value c.put_stretch.ensures.apart
+
+pub returns-then-front-at-clause-apart : goal.returns-then-front-at-clause-apart
+returns-then-front-at-clause-apart g c =
+    keeps_front (units_open c.args.image.now) c.args.at c.front_of-front.result c.min-whole.result (g.S.Store.bytes c.args.store.now) (g.S.Store.bytes c.put_stretch.new.store) c.requires.place c.front_of-front.ensures.value c.put_stretch.ensures.apart
+
+pub returns-clause-apart : goal.returns-clause-apart
+returns-clause-apart g c =
+    keeps_front (units_open c.args.image.now) c.args.at c.front_of-front.result c.min-whole.result (g.S.Store.bytes c.args.store.now) (g.S.Store.bytes c.put_stretch.new.store) c.requires.place c.front_of-front.ensures.value c.put_stretch.ensures.apart
