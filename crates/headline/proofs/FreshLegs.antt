@@ -23,7 +23,7 @@ use Rattle.script_premises.proofs.Fresh.{blocks_are, fresh_unit, shapes_are}
 use Rattle.script_text.specs.declared.script.Script.{Script}
 use Rattle.script_verdict.specs.Verdict.{devices_of}
 use Rattle.headline.specs.Headline.{blocks_in, half_over, mirror_over, volume_over}
-use Rattle.headline.proofs.FreshHead.{units_back}
+use Rattle.image_scripts.proofs.FreshHead.{units_back}
 
 -- ---- the block of an address
 

@@ -45,10 +45,11 @@ use Rattle.headline.specs.Words.{IsTold, wants_memory, words_for}
 use Rattle.headline.specs.declared.way.Way.{Way}
 use Rattle.headline.specs.declared.way.Way.TheVariants.{Mirror, Run}
 use Rattle.headline.proofs.Coming.{CameToMirror, CameToRun, IsCalled, came_to_mirror, came_to_run}
-use Rattle.headline.proofs.FreshHead.{right_head, units_back}
+use Rattle.image_scripts.proofs.FreshHead.{right_head, units_back}
 use Rattle.headline.proofs.FreshLegs.{equal_legs}
-use Rattle.headline.proofs.Got.{got_enough, got_formed, got_plain, got_served, got_walked}
-use Rattle.headline.proofs.Told.{IsAfter, after, head_asked, image_after, units_asked}
+use Rattle.image_scripts.proofs.Got.{got_formed, got_plain, got_walked}
+use Rattle.headline.proofs.GotMirrored.{got_enough, got_served}
+use Rattle.image_scripts.proofs.Told.{IsAfter, after, head_asked, image_after, units_asked}
 
 -- ---- over the image
 

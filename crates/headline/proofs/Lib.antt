@@ -1,7 +1,4 @@
-mod Cut
-mod FreshHead
 mod FreshLegs
-mod Told
-mod Got
+mod GotMirrored
 mod Coming
 mod Headlined

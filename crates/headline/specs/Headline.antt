@@ -1,17 +1,14 @@
 -- What a script does to an image, from bytes to bytes. The schedule, which says in what order commands are sent, merged and answered, is part of the script's text; no sentence here hangs on it, nor on the script's limits.
-use Rattle.std.specs.Prelude.{ℕ, ◌≡◌, ◌+◌, ◌<◌, true, false, List, [], ◌++◌, get_or, take, None, Ok}
+use Rattle.std.specs.Prelude.{ℕ, ◌≡◌, ◌+◌, ◌<◌, true, false, List, [], get_or, None, Ok}
 use Rattle.std.specs.List.{list_any}
 use Rattle.pi_tuple.specs.declared.checks.PiType.TheVariants.{One}
-use Rattle.target_answer.specs.Frames.{joined}
 use Rattle.target_answer.specs.Headers.{is_layout}
 use Rattle.target_answer.specs.Image.{formatted}
 use Rattle.target_answer.specs.declared.units.UnitSpec.{UnitSpec}
 use Rattle.rig_api.specs.Head.{head_fault, head_of}
 use Rattle.rig_api.specs.Telling.{own_units}
-use Rattle.dix_adapter.specs.Ways.{blocks_told}
 use Rattle.stack_ops.specs.declared.reply.Reply.{Reply}
 use Rattle.volume_table.specs.Faults.{table_fault}
-use Rattle.volume_table.specs.Tables.{Table}
 use Rattle.block_path.specs.Acts.{State}
 use Rattle.whole_run.specs.Detectable.{detectable}
 use Rattle.whole_run.specs.Past.{brought_by}
@@ -39,37 +36,11 @@ use Rattle.mirror_volume.specs.Enough.{AllReadLast, BothHoldLast}
 use Rattle.report_text.specs.Report.{report}
 use Rattle.dix_run.specs.Verdict.{done_status}
 use Rattle.dix_run.specs.declared.status.Status.{Status}
+pub use Rattle.image_scripts.specs.Over.{Fits, IsClean, blocks_in, image_with, left_by, opening_over, replied, setting_over, volume_over}
 use Rattle.headline.specs.declared.way.Way.{Way}
 use Rattle.headline.specs.declared.way.Way.TheVariants.{Mirror, Run}
 
 -- ---- a script over an image
-
--- the stored blocks of an image, one unit's behind another's
-abbrev pub blocks_in : List ℕ → List (List ℕ)
-blocks_in image = blocks_told (own_units image)
-
--- the image with these stored blocks behind its header
-abbrev pub image_with : List ℕ → List (List ℕ) → List ℕ
-image_with image blocks = take 512 image ++ joined blocks
-
--- the script's volume over the image's units
-abbrev pub volume_over : Script → List ℕ → Table
-volume_over script image = table_over script.entries (devices_of image)
-
--- what the script runs with over the image: its mode, its volume, its faults, and a target behind each unit
-abbrev pub setting_over : Script → List ℕ → Setting
-setting_over script image = setting_told script (volume_over script image) (own_units image)
-
--- with what it begins: pages of zeros, and the image's blocks
-abbrev pub opening_over : Script → List ℕ → State
-opening_over script image = opening_told script (own_units image)
-
--- what its ops reply, and what they leave in pages and blocks, done one after another at the target
-abbrev pub replied : Script → List ℕ → List Reply
-replied script image = script_replies (setting_over script image) script.ops (opening_over script image)
-
-abbrev pub left_by : Script → List ℕ → State
-left_by script image = script_walk (setting_over script image) script.ops (opening_over script image)
 
 -- the plain map of virtual blocks that the image holds, with which the ops begin
 abbrev pub map_over : Script → List ℕ → Plain
@@ -91,13 +62,7 @@ replied_on_mirror script image = mirror_replies (mirror_over script image) (half
 abbrev pub mended_over : Script → List ℕ → Repair
 mended_over script image = repair_over script (devices_of image) (own_units image)
 
--- The text is this script of the language, and neither its volume nor one of its lines is at fault over the image's units.
-pub record Fits (script : Script) (image text : List ℕ) : Type 0 where
-  pub language : script_in text ≡ Ok script
-  pub volume : table_fault script.entries (devices_of image) script.block ≡ None
-  pub lines : binding_fault script (volume_over script image) (devices_of image) ≡ None
-
--- So it is of a script that is run on a mirror over them.
+-- The text is this script of the language, and neither its volume nor one of its lines is at fault over the image's units where it is run on a mirror over them.
 pub record FitsMirror (script : Script) (image text : List ℕ) : Type 0 where
   pub language : script_in text ≡ Ok script
   pub volume : table_fault script.entries (devices_of image) script.block ≡ None
@@ -126,10 +91,6 @@ pub record IsFormed (script : Script) (image : List ℕ) : Type 0 where
   pub protect : script.mode.protect ≡ 1
   pub form : shows_by_form script.mode.kind script.block script.faults script.ops ≡ true
   pub escapes : escapes_none script.ops ≡ true
-
--- Each block of each unit on which the volume lies is clean.
-abbrev pub IsClean : Script → List ℕ → Type 0
-IsClean script image = DevicesAreClean (setting_over script image) (devices_of image) (blocks_in image)
 
 -- The volume is of type 1, and commands have protect field 001b. No write supplies an escape, each alteration can be shown, and each block has a leg on which no fault line alters it on its way, and no overwrite in its place.
 pub record HasGoodLegs (script : Script) (image : List ℕ) : Type 0 where

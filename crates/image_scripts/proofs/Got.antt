@@ -1,6 +1,5 @@
 -- What a call's records say where no store call failed, one lemma for each. The count of faults of a store in memory stays at 0.
 use Rattle.std.proofs.Common.{◌≡◌, ◌⊎◌, inl, inr, ℕ, List, Some, arith}
-use Rattle.dix_base.specs.Told.{Calm}
 use Rattle.target_answer.specs.Target.{Stored}
 use Rattle.volume_table.specs.Tables.{Table}
 use Rattle.volume_table.specs.declared.device.DeviceInfo.{DeviceInfo}
@@ -10,16 +9,7 @@ use Rattle.script_text.specs.declared.script.Script.{Script}
 use Rattle.script_stack.specs.Followed.{HasWalked}
 use Rattle.script_verdict.specs.Premises.{IsFormedRun, IsPlainRun, opening_told, setting_told}
 use Rattle.script_verdict.specs.Verdict.{AllReadRightly, Followed, HasPlain}
-use Rattle.mirror_volume.specs.Enough.{WasEnough}
-use Rattle.mirror_volume.specs.Premises.{IsOneGoodRun}
 use Rattle.stack_core.specs.Mediums.{RoseBy, medium_lines}
-use Rattle.mirror_verdict.specs.Stages.{HasServed}
-use Rattle.mirror_verdict.specs.Verdict.{HasMirrored}
-use Rattle.mirror_verdict.proofs.Mirroring.{calm-names-none}
-use Rattle.mirror_verdict.specs.declared.mirrored.Mirrored.{Mirrored}
-
-calm : (old new : ℕ) → new ≡ 0 → Calm old new
-calm old new e = (omega (arith, e), omega (arith, e))
 
 -- so no line names the medium
 unnamed : (n old new : ℕ) → RoseBy n old new → new ≡ 0 → n ≡ 0
@@ -37,11 +27,3 @@ got_plain script table devices old new pool replies us f e none p = f.plain us e
 pub got_formed : (script : Script) (table : Table) (devices : List DeviceInfo) (old new : View) (pool : List (List ℕ)) (replies : List Reply) (us : List Stored) → Followed script table devices old new pool replies → old.seen.units ≡ Some us → new.seen.faults ≡ 0 → IsFormedRun script table devices us
     → AllReadRightly (setting_told script table us) script.ops (opening_told script us) replies
 got_formed script table devices old new pool replies us f e none p = f.formed us e (unnamed (medium_lines replies) old.seen.faults new.seen.faults f.medium none) p
-
-pub got_served : (run : Mirrored) (script : Script) (name : List ℕ) (old new : View) (us : List Stored) (m : HasMirrored run script name old new) → m.told.seen.units ≡ Some us → new.seen.faults ≡ 0
-    → (left : List Stored) × ((new.seen.units ≡ Some left) × HasServed script m.devices us left run.mirror.state.pool run.mirror.replies.items run.mirror.state.marks.items run.repair.repaired run.repair.lost)
-got_served run script name old new us m e none = m.ended.told us e (calm-names-none run script name old new m (calm m.told.seen.faults new.seen.faults none))
-
-pub got_enough : (run : Mirrored) (script : Script) (name : List ℕ) (old new : View) (us : List Stored) (m : HasMirrored run script name old new) → m.told.seen.units ≡ Some us → new.seen.faults ≡ 0 → IsOneGoodRun script m.devices us
-    → (left : List Stored) × ((new.seen.units ≡ Some left) × WasEnough script m.devices us left run.repair.lost)
-got_enough run script name old new us m e none p = m.enough us e (calm-names-none run script name old new m (calm m.told.seen.faults new.seen.faults none)) p

@@ -10,7 +10,7 @@ use Rattle.rig_api.specs.Head.{head_fault, head_of, units_of}
 use Rattle.dix_adapter.specs.Ways.{blocks_told}
 use Rattle.dix_adapter.proofs.Gathering.{joined-append}
 use Rattle.image_layout.proofs.Heads.{right_head, right_units}
-use Rattle.headline.specs.Headline.{blocks_in, image_with}
+use Rattle.image_scripts.specs.Over.{blocks_in, image_with}
 
 joined_frames : (w n : ℕ) (bytes : List ℕ) → joined (frames_of w n bytes) ≡ take (n * w) bytes
 joined_frames w zero bytes = let z : 0 * w ≡ 0 = omega arith in ap (λ k. take k bytes) (sym z)

@@ -22,9 +22,9 @@ use Rattle.image_commands.specs.Views.{View}
 use Rattle.image_layout.proofs.Heads.{layout_parts, right_layout}
 use Rattle.script_verdict.specs.Verdict.{WasAsked, devices_of}
 use Rattle.script_verdict.proofs.Devices.{image_devices}
-use Rattle.headline.specs.Headline.{blocks_in, image_with}
-use Rattle.headline.proofs.Cut.{image_is_cut}
-use Rattle.headline.proofs.FreshHead.{units_back}
+use Rattle.image_scripts.specs.Over.{blocks_in, image_with}
+use Rattle.image_scripts.proofs.Cut.{image_is_cut}
+use Rattle.image_scripts.proofs.FreshHead.{units_back}
 
 -- ---- after it was opened
 

@@ -1,0 +1,4 @@
+pub mod Cut
+pub mod FreshHead
+pub mod Told
+pub mod Got
