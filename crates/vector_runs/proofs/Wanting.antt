@@ -1,0 +1,53 @@
+-- What a text holds, as the source held it.
+use Rattle.std.proofs.Common.{ℕ, ◌≡◌, ◌⊎◌, inl, inr, ◌+◌, true, false, if◌then◌else◌, List, Option, Some, None, Result, Ok, Err, refl, sym, ap, subst, ◌∙◌, arith}
+use Rattle.std.specs.Prelude.{IfErr, IfOk, MatchResult}
+use Rattle.script_lines.specs.declared.kind.ScriptKind.TheVariants.{Memory}
+use Rattle.script_text.specs.Language.{script_in}
+use Rattle.script_text.specs.declared.fault.ScriptFault.{ScriptFault}
+use Rattle.script_text.specs.declared.script.Script.{Script}
+use Rattle.script_verdict.specs.declared.refusal.Refusal.{Refusal}
+use Rattle.script_verdict.specs.declared.refusal.Refusal.TheVariants as refusal
+use Rattle.script_words.specs.Cuts.{lines_of}
+use Rattle.source_text.specs.Reading.{IsWhole, TookAtMost, most_bytes}
+use Rattle.vector_lines.specs.Texts.{is_list, list_in}
+use Rattle.vector_lines.specs.declared.read.VectorFault.{VectorFault}
+use Rattle.vector_runs.specs.Taken.{CauseNotHeld, CauseNotTaken, HasTaken, Holds, as_script, list_fault, script_fault, text_fault}
+use Rattle.vector_runs.specs.Unplayed.{unplayed}
+use Rattle.vector_runs.specs.declared.wanted.Wanted.{Wanted}
+use Rattle.vector_runs.specs.declared.wanted.Wanted.TheVariants as wanted
+
+pub list_at_fault : (text : List ℕ) (f : VectorFault) → is_list (lines_of text) ≡ true → list_in text ≡ Err f → text_fault text ≡ Some (as_script f)
+list_at_fault text f l e = ap (λ b. if b then list_fault (list_in text) else script_fault (script_in text)) l ∙ ap list_fault e
+
+pub script_at_fault : (text : List ℕ) (f : ScriptFault) → is_list (lines_of text) ≡ false → script_in text ≡ Err f → text_fault text ≡ Some f
+script_at_fault text f l e = ap (λ b. if b then list_fault (list_in text) else script_fault (script_in text)) l ∙ ap script_fault e
+
+pub script_unplayed : (text : List ℕ) (s : Script) (f : ScriptFault) → is_list (lines_of text) ≡ false → script_in text ≡ Ok s → unplayed s ≡ Some f → text_fault text ≡ Some f
+script_unplayed text s f l e u = ap (λ b. if b then list_fault (list_in text) else script_fault (script_in text)) l ∙ ap script_fault e ∙ u
+
+-- a fault of another kind than want of memory is the text's
+pub list_bad : (text : List ℕ) (f : VectorFault) → is_list (lines_of text) ≡ true → (f.kind ≡ Memory → ⊥) → (f.kind ≡ Memory) ⊎ (list_in text ≡ Err f) → CauseNotHeld (refusal.Script (as_script f)) text
+list_bad text f l other (inl m) = absurd (other m)
+list_bad text f l other (inr e) = inr (as_script f, refl, list_at_fault text f l e)
+
+pub script_bad : (text : List ℕ) (f : ScriptFault) → is_list (lines_of text) ≡ false → (f.kind ≡ Memory → ⊥) → (f.kind ≡ Memory) ⊎ (script_in text ≡ Err f) → CauseNotHeld (refusal.Script f) text
+script_bad text f l other (inl m) = absurd (other m)
+script_bad text f l other (inr e) = inr (f, refl, script_at_fault text f l e)
+
+-- ---- over a source
+
+pub taken_so : (r : Result Wanted Refusal) (text : List ℕ) (a b : Option (List ℕ)) → IsWhole text a b → MatchResult r (λ w. Holds w text) (λ x. CauseNotHeld x text) → IfOk r (λ w. HasTaken w a b)
+taken_so (Ok (wanted.Lines lines)) text a b w h = record { text = text; whole = w; list = h.0; reads = h.1 }
+taken_so (Ok (wanted.Script s)) text a b w h = record { text = text; whole = w; script_is = h.0; reads = h.1; plays = h.2 }
+taken_so (Err r) text a b w h = tt
+
+within : (text : List ℕ) (a b : Option (List ℕ)) → IsWhole text a b → TookAtMost (most_bytes + 1) a b
+within text a b w = let l = w.2 in (text, w.0, omega (arith, l))
+
+not_taken : (r : Refusal) (text : List ℕ) (a b : Option (List ℕ)) (o n : ℕ) → IsWhole text a b → CauseNotHeld r text → CauseNotTaken r a b o n
+not_taken r text a b o n w (inl m) = subst (λ x. CauseNotTaken x a b o n) (sym m) (within text a b w)
+not_taken r text a b o n w (inr s) = subst (λ x. CauseNotTaken x a b o n) (sym s.1) (inl (text, w, s.2))
+
+pub not_taken_so : (r : Result Wanted Refusal) (text : List ℕ) (a b : Option (List ℕ)) (o n : ℕ) → IsWhole text a b → MatchResult r (λ w. Holds w text) (λ x. CauseNotHeld x text) → IfErr r (λ x. CauseNotTaken x a b o n)
+not_taken_so (Ok w) text a b o n whole h = tt
+not_taken_so (Err r) text a b o n whole h = not_taken r text a b o n whole h

@@ -1,0 +1,115 @@
+use Rattle.std.specs.Prelude.{ℕ, ◌≡◌, ◌+◌, ◌*◌, ◌≤◌, min, List, [], ◌∷◌, ◌++◌, length, replicate, Option, Some, None, is_some, Result, Ok, Err}
+use Rattle.dix_base.specs.Told.{Calm}
+use Rattle.cdb_codec.specs.Decoded.{decoded}
+use Rattle.cdb_codec.specs.declared.command.Cdb.{Cdb}
+use Rattle.cdb_codec.specs.declared.command.CdbFault.{CdbFault}
+use Rattle.target_answer.specs.Frames.{joined, sent_size}
+use Rattle.target_answer.specs.Requests.{request_of}
+use Rattle.target_answer.specs.declared.request.Request.{Request}
+use Rattle.target_answer.specs.declared.request.Request.TheVariants.{Read, Write, Verify, ReadCapacity}
+use Rattle.target_answer.specs.Target.{Answer, Stored}
+use Rattle.rig_api.specs.Log.{Entry, entry_of}
+use Rattle.rig_api.specs.Telling.{Standing, answer_of, at_front, spec_at, with_blocks}
+use Rattle.rig_api.specs.declared.rig.Outcome.{Outcome}
+use Rattle.image_commands.specs.Views.{View}
+use Rattle.vector_lines.specs.declared.line.VectorLine.{VectorLine}
+
+-- The commands of a list, each done on its device as it stands, without labels.
+
+abbrev pub room_by : (size : ℕ) → Request → ℕ
+room_by size (Read c) = c.n * sent_size c.protect size
+room_by size (Write c) = 0
+room_by size (Verify c) = 0
+room_by size (ReadCapacity len) = min len 32
+
+abbrev pub room_under : (size : ℕ) → Result Cdb CdbFault → ℕ
+room_under size (Ok cdb) = room_by size (request_of cdb)
+room_under size (Err fault) = 0
+
+-- the bytes that a command reads from a unit of this block size, for which it gets room
+abbrev pub room_of : (size : ℕ) → List ℕ → ℕ
+room_of size cdb = room_under size (decoded cdb)
+
+-- the block size of a line's device
+abbrev pub size_of : Standing → VectorLine → ℕ
+size_of s l = (spec_at s l.dev).size
+
+-- The record is that of the line's command on the line's device, with this outcome and these bytes in the room for what it reads.
+pub record IsRecord (s : Standing) (l : VectorLine) (e : Entry) : Type 0 where
+  pub outcome : Outcome
+  pub into : List ℕ
+  pub room : length into ≡ room_of (size_of s l) l.cdb
+  pub entry : e ≡ entry_of (size_of s l) l.dev l.cdb [] outcome l.out into
+
+-- Each line has one record, in their order.
+abbrev pub AreRecords : Standing → List VectorLine → List Entry → Type 0
+AreRecords s [] [] = Unit {0}
+AreRecords s [] (e ∷ es) = ⊥
+AreRecords s (l ∷ ls) [] = ⊥
+AreRecords s (l ∷ ls) (e ∷ es) = IsRecord s l e × AreRecords s ls es
+
+-- ---- what they come to over units that are told, where no store call fails
+
+-- what the unit answers to the command of a line
+abbrev pub answer_to : Standing → List Stored → VectorLine → Answer
+answer_to s us l = answer_of us [] l.dev l.cdb [] l.out (room_of (size_of s l) l.cdb) None
+
+abbrev pub entry_by : Standing → VectorLine → Answer → Entry
+entry_by s l a = entry_of (size_of s l) l.dev l.cdb [] (record { done = a.done; sense = a.sense }) l.out (at_front (joined a.sent) (replicate (room_of (size_of s l) l.cdb) 0))
+
+-- its record, and the units after it
+abbrev pub entry_to : Standing → List Stored → VectorLine → Entry
+entry_to s us l = entry_by s l (answer_to s us l)
+
+abbrev pub units_to : Standing → List Stored → VectorLine → List Stored
+units_to s us l = with_blocks us l.dev (answer_to s us l).blocks
+
+-- the records of all lines, one after another, and the units after the last
+abbrev pub answers_over : Standing → List Stored → List VectorLine → List Entry
+answers_over s us [] = []
+answers_over s us (l ∷ ls) = entry_to s us l ∷ answers_over s (units_to s us l) ls
+
+abbrev pub units_over : Standing → List Stored → List VectorLine → List Stored
+units_over s us [] = us
+units_over s us (l ∷ ls) = units_over s (units_to s us l) ls
+
+-- ---- over a rig
+
+-- The commands of these lines were done, and nothing else. Over any rig each has one record, in order; where the blocks are told and the count of faults didn't rise, records and blocks are the units' answers, one after another.
+pub record HaveDone (lines : List VectorLine) (old new : View) : Type 0 where
+  pub entries : List Entry
+  pub log : new.seen.log ≡ old.seen.log ++ entries
+  pub records : AreRecords old.standing lines entries
+  pub told : (us : List Stored) → old.seen.units ≡ Some us → Calm old.seen.faults new.seen.faults
+      → (entries ≡ answers_over old.standing us lines) × (new.seen.units ≡ Some (units_over old.standing us lines))
+  pub tells : is_some new.image ≡ is_some old.image
+  pub armed : new.seen.armed ≡ old.seen.armed
+  pub standing : new.standing ≡ old.standing
+  pub count : old.seen.faults ≤ new.seen.faults
+
+-- The commands of some lines, from the first on, were done, and nothing else.
+pub record HaveDoneSome (lines : List VectorLine) (old new : View) : Type 0 where
+  pub first : List VectorLine
+  pub left : List VectorLine
+  pub lines_are : lines ≡ first ++ left
+  pub done : HaveDone first old new
+
+-- The command of a line was done, or, where there was no memory, not.
+pub record WasDone (l : VectorLine) (old new : View) : Type 0 where
+  pub entry : Entry
+  pub log : new.seen.log ≡ old.seen.log ++ (entry ∷ [])
+  pub is : IsRecord old.standing l entry
+  pub told : (us : List Stored) → old.seen.units ≡ Some us → Calm old.seen.faults new.seen.faults
+      → (entry ≡ entry_to old.standing us l) × (new.seen.units ≡ Some (units_to old.standing us l))
+  pub tells : is_some new.image ≡ is_some old.image
+  pub armed : new.seen.armed ≡ old.seen.armed
+  pub standing : new.standing ≡ old.standing
+  pub count : old.seen.faults ≤ new.seen.faults
+
+pub record Stays (old new : View) : Type 0 where
+  pub log : new.seen.log ≡ old.seen.log
+  pub units : new.seen.units ≡ old.seen.units
+  pub image : new.image ≡ old.image
+  pub armed : new.seen.armed ≡ old.seen.armed
+  pub standing : new.standing ≡ old.standing
+  pub count : old.seen.faults ≤ new.seen.faults

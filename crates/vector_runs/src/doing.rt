@@ -1,0 +1,95 @@
+//! The commands of a list, one after another.
+
+ghost use Rattle.std.specs.Prelude.{◌≡◌, ◌*◌, ◌≤◌, [], true, IfOk, MatchResult, None, replicate};
+ghost use Rattle.target_answer.specs.Frames.{sent_size};
+ghost use Rattle.image_commands.specs.Views.{seen, view};
+ghost use Rattle.target_answer.specs.Requests.{blocks_of, transferred};
+ghost use Rattle.vector_runs.specs.Done.{HaveDone, HaveDoneSome, Stays, WasDone, room_by, room_of};
+ghost use Rattle.vector_runs.specs.Ranges.{is_inside, out_of_range};
+
+use cdb_codec::Cdb;
+use rig_api::{Rig, blocks_of};
+use std::alloc::{AllocError, Global};
+use target_answer::{Request, request_of};
+use vector_lines::VectorLine;
+
+/// The bytes that so many frames have.
+#[tactic(auto, using(crate::proofs::Bounds::within))]
+fn frames_len(n: u32, protect: u8, size: u32) -> usize
+    requires { n ≤ 1024 }
+    ensures { result ≡ n * sent_size protect size }
+{
+    let size = size as usize;
+    let len = if protect == 0 { size } else { size + 8 };
+    n as usize * len
+}
+
+fn room_by(size: u32, request: Request) -> usize
+    requires { transferred request ≤ 1024 }
+    ensures { result ≡ room_by size request }
+{
+    match request {
+        Request::Read(c) => frames_len(c.n, c.protect, size),
+        Request::Write(_) => 0,
+        Request::Verify(_) => 0,
+        Request::ReadCapacity(len) => len.min(32) as usize,
+    }
+}
+
+/// The bytes that a command reads.
+fn room_of(size: u32, cdb: &[u8]) -> usize
+    requires { blocks_of cdb.now ≤ 1024 }
+    ensures { result ≡ room_of size cdb.now }
+{
+    match Cdb::decode(cdb) {
+        Ok(command) => room_by(size, request_of(command)),
+        Err(_) => 0,
+    }
+}
+
+fn zeros(alloc: Global, count: usize) -> Result<Vec<u8>, AllocError>
+    ensures { IfOk result (λ v. v.items ≡ replicate count 0) }
+{
+    Ok(vec![in alloc; 0u8; count]?)
+}
+
+/// Does the command of a line.
+fn do_line<R: Rig>(alloc: Global, line: &VectorLine, rig: &mut R) -> Result<(), AllocError>
+    requires inside { is_inside (R.standing rig.old).devices line.now ≡ true }
+    requires calm { R.armed rig.old ≡ [] }
+    ensures { let old = view (R.image rig.old) (R.standing rig.old) (seen (R.units rig.old) (R.armed rig.old) (R.log rig.old) (R.faults rig.old)) in
+        let new = view (R.image rig.new) (R.standing rig.new) (seen (R.units rig.new) (R.armed rig.new) (R.log rig.new) (R.faults rig.new)) in
+        MatchResult result (λ _. WasDone line.now old new) (λ _. Stays old new) }
+{
+    let cdb = line.cdb.as_slice();
+    let sent = line.out.as_slice();
+    match rig.reserve(alloc, 1, blocks_of(cdb)) {
+        Ok(()) => {}
+        Err(error) => return Err(error),
+    }
+    let mut held = match zeros(alloc, room_of(rig.size(line.dev), cdb)) {
+        Ok(held) => held,
+        Err(error) => return Err(error),
+    };
+    let into = held.as_mut_slice();
+    rig.exchange(line.dev, cdb, &[], sent, into);
+    Ok(())
+}
+
+/// Does the commands of the lines, in order, each on its device as it stands: with room for what it reads, and
+/// without labels. No fault is armed. Want of memory may come between two commands; then those before it are done.
+pub fn do_list<R: Rig>(alloc: Global, lines: &[VectorLine], rig: &mut R) -> Result<(), AllocError>
+    requires inside { out_of_range (R.standing rig.old).devices lines.now ≡ None }
+    requires calm { R.armed rig.old ≡ [] }
+    ensures { let old = view (R.image rig.old) (R.standing rig.old) (seen (R.units rig.old) (R.armed rig.old) (R.log rig.old) (R.faults rig.old)) in
+        let new = view (R.image rig.new) (R.standing rig.new) (seen (R.units rig.new) (R.armed rig.new) (R.log rig.new) (R.faults rig.new)) in
+        MatchResult result (λ _. HaveDone lines.now old new) (λ _. HaveDoneSome lines.now old new) }
+{
+    for line in lines {
+        match do_line(alloc, line, rig) {
+            Ok(()) => {}
+            Err(error) => return Err(error),
+        }
+    }
+    Ok(())
+}

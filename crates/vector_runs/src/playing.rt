@@ -1,0 +1,150 @@
+//! The commands of a text done: those of a list, or those of a script's run.
+
+ghost use Rattle.std.specs.Prelude.{◌≡◌, ◌≤◌, IfErr, IfOk, MatchResult, OnErr, OnOk, None, drop, length};
+ghost use Rattle.dix_base.specs.Told.{Appended, AppendedSome, Rose};
+ghost use Rattle.image_commands.specs.Views.{seen, view};
+ghost use Rattle.script_verdict.specs.Verdict.{CauseStopped, Facts};
+ghost use Rattle.script_verdict.specs.Working.{IsSound};
+ghost use Rattle.vector_runs.specs.ListText.{has_sense};
+ghost use Rattle.vector_runs.specs.Played.{AreLogged, CauseNotListed, HasCome, ListPlayed, ScriptPlayed, first_of, played_text, refused};
+
+use crate::answering::{ListFault, answer_list};
+use crate::printing::{has_sense, print_list};
+use crate::records::print_records;
+use crate::wanted::{Wanted, take_wanted};
+use dix_base::{Failed, Sink, Source};
+use rig_api::Rig;
+use script_text::{Script, ScriptFault};
+use script_verdict::{Finished, Refusal, run_script};
+use std::alloc::Global;
+use vector_lines::VectorLine;
+
+/// A text whose commands were done.
+#[derive(Drop)]
+pub enum Played {
+    /// A list.
+    Listed {
+        /// Its lines.
+        lines: Vec<VectorLine>,
+        /// The number of its first record, from 0.
+        first: u32,
+    },
+    /// A script, which was run to its end.
+    Ran(Finished),
+}
+
+/// The refusal of a list that isn't done.
+fn refused(fault: ListFault) -> Refusal
+    ensures { result ≡ refused fault }
+{
+    match fault {
+        ListFault::Line(fault) => Refusal::Script(ScriptFault {
+            line: fault.line,
+            kind: fault.kind,
+        }),
+        ListFault::Image(fault) => Refusal::of(fault),
+    }
+}
+
+/// Does the commands of a list.
+fn play_list<R: Rig>(
+    alloc: Global,
+    image: &str,
+    lines: Vec<VectorLine>,
+    rig: &mut R,
+) -> Result<Played, Refusal>
+    ensures { let old = view (R.image rig.old) (R.standing rig.old) (seen (R.units rig.old) (R.armed rig.old) (R.log rig.old) (R.faults rig.old)) in
+        let new = view (R.image rig.new) (R.standing rig.new) (seen (R.units rig.new) (R.armed rig.new) (R.log rig.new) (R.faults rig.new)) in
+        MatchResult result (λ p. ListPlayed p lines.items image.now old new) (λ r. CauseNotListed r lines.items image.now old new) }
+{
+    let first = rig.records();
+    match answer_list(alloc, image, &lines, rig) {
+        Ok(()) => Ok(Played::Listed { lines, first }),
+        Err(fault) => Err(refused(fault)),
+    }
+}
+
+/// Does the commands of a script.
+fn play_script<R: Rig>(
+    alloc: Global,
+    image: &str,
+    script: Script,
+    rig: &mut R,
+) -> Result<Played, Refusal>
+    requires { IsSound script }
+    ensures { let old = view (R.image rig.old) (R.standing rig.old) (seen (R.units rig.old) (R.armed rig.old) (R.log rig.old) (R.faults rig.old)) in
+        let new = view (R.image rig.new) (R.standing rig.new) (seen (R.units rig.new) (R.armed rig.new) (R.log rig.new) (R.faults rig.new)) in
+        MatchResult result (λ p. ScriptPlayed p script image.now old new) (λ r. CauseStopped r script image.now old new) }
+{
+    match run_script(alloc, image, script, rig) {
+        Ok(run) => Ok(Played::Ran(run)),
+        Err(refusal) => Err(refusal),
+    }
+}
+
+/// Reads what the source holds, to its end, and does its commands over the image of this name. A list has commands
+/// itself, each of which goes to its device as it stands; those of a script are those of its run: one READ CAPACITY(16)
+/// for each device, and then those of its ops.
+///
+/// A text at fault is refused before the image is opened, and so is a script with a fault, a shift or an overwrite,
+/// which have no vectors.
+pub fn play_source<S: Source, R: Rig>(
+    alloc: Global,
+    image: &str,
+    source: &mut S,
+    rig: &mut R,
+) -> Result<Played, Refusal>
+    ensures { let f : Facts = record {
+      name = image.now;
+      left = S.left source.old;
+      left_after = S.left source.new;
+      reads = S.faults source.old;
+      reads_after = S.faults source.new;
+      rig = view (R.image rig.old) (R.standing rig.old) (seen (R.units rig.old) (R.armed rig.old) (R.log rig.old) (R.faults rig.old));
+      rig_after = view (R.image rig.new) (R.standing rig.new) (seen (R.units rig.new) (R.armed rig.new) (R.log rig.new) (R.faults rig.new));
+    } in
+        HasCome result f }
+{
+    match take_wanted(alloc, source) {
+        Ok(Wanted::Lines(lines)) => play_list(alloc, image, lines, rig),
+        Ok(Wanted::Script(script)) => play_script(alloc, image, script, rig),
+        Err(refusal) => Err(refusal),
+    }
+}
+
+/// Writes the vectors of a text whose commands were done on this rig. The sink passes on all that it holds.
+///
+/// `Failed` comes only where the sink's count of faults rose; then a prefix of the text was written. It takes
+/// no memory.
+pub fn print_played<O: Sink, R: Rig>(out: &mut O, rig: &R, played: &Played) -> Result<(), Failed>
+    requires { AreLogged played.now (R.log rig.now) }
+    ensures whole { OnOk result (Appended (played_text played.now (drop (first_of played.now) (R.log rig.now))) (O.taken out.old) (O.taken out.new)) }
+    ensures part { OnErr result (AppendedSome (played_text played.now (drop (first_of played.now) (R.log rig.now))) (O.taken out.old) (O.taken out.new)) }
+    ensures cause { OnErr result (Rose (O.faults out.old) (O.faults out.new)) }
+    ensures count { O.faults out.old ≤ O.faults out.new }
+{
+    match played {
+        Played::Listed { lines, first } => print_list(out, rig, *first, lines),
+        Played::Ran(run) => print_records(out, rig, run.first),
+    }
+}
+
+impl Played {
+    /// The number of the first record of the call.
+    fn first(&self) -> u32
+        ensures { result ≡ first_of self.now }
+    {
+        match self {
+            Played::Listed { lines: _, first } => *first,
+            Played::Ran(run) => run.first,
+        }
+    }
+
+    /// Whether some of the commands, which were done on this rig, has a sense.
+    pub fn has_sense<R: Rig>(&self, rig: &R) -> bool
+        requires { AreLogged self.now (R.log rig.now) }
+        ensures { result ≡ has_sense (drop (first_of self.now) (R.log rig.now)) }
+    {
+        has_sense(rig, self.first())
+    }
+}
