@@ -1,0 +1,4 @@
+mod Inside
+mod Lines
+pub mod Marking
+mod Places

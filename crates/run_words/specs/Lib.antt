@@ -1,0 +1,4 @@
+pub mod Commands
+pub mod Explained
+pub mod Sites
+pub mod Texts

@@ -1,0 +1,176 @@
+//! The run of a script that is explained.
+
+ghost use Rattle.std.specs.Prelude.{◌≡◌, ◌≤◌, Err, IfErr, IfOk, List, MatchResult, length, ℕ};
+ghost use Rattle.fault_marks.specs.Texts.{marked_text};
+ghost use Rattle.image_commands.specs.Views.{seen, view};
+ghost use Rattle.script_lines.specs.declared.kind.ScriptKind.{ScriptKind};
+ghost use Rattle.script_text.specs.Language.{script_in};
+ghost use Rattle.script_verdict.specs.Verdict.{Facts};
+ghost use Rattle.script_verdict.specs.Working.{IsSound};
+ghost use Rattle.run_words.specs.Explained.{CauseUnexplained, CauseUnrun, ExplainsText, HasExplained, IsComplete, IsHaltOf, IsSaid, WasExplained};
+
+use crate::guide::Guide;
+use dix_base::Source;
+use fault_marks::marked_text;
+use rig_api::Rig;
+use script_laws::a_read_script_keeps_the_rules;
+use script_text::{Script, ScriptFault, ScriptKind, read_script};
+use script_verdict::{Finished, Refusal, run_script};
+use source_text::{Unread, read_all};
+use std::alloc::Global;
+
+/// A script that was run to its end, with what tells where its blocks stand and lie.
+#[derive(Drop)]
+pub struct Explained {
+    /// The run.
+    pub run: Finished,
+    /// The guide of the script.
+    pub guide: Guide,
+}
+
+/// Why nothing is explained.
+#[derive(Drop)]
+pub enum Unexplained {
+    /// The script is at fault, in its text or over its volume: what is said of it.
+    Marked(Vec<u8>),
+    /// It comes to no run for another reason.
+    Refused(Refusal),
+}
+
+/// The fault of a text that is too long.
+const TOO_LONG: ScriptFault = ScriptFault {
+    line: 0,
+    kind: ScriptKind::TooMany,
+};
+
+/// What is said of a text with this fault, or that there is no memory.
+fn marked(alloc: Global, text: &[u8], fault: ScriptFault) -> Unexplained
+    ensures { IsSaid result (marked_text text.now fault) }
+{
+    match marked_text(alloc, text, fault) {
+        Ok(said) => Unexplained::Marked(said),
+        Err(_) => Unexplained::Refused(Refusal::Memory),
+    }
+}
+
+/// What is said of a text that has this fault, or that there is no memory.
+fn marked_fault(alloc: Global, text: &[u8], fault: ScriptFault) -> Unexplained
+    requires { script_in text.now ≡ Err fault }
+    ensures said { IsSaid result (marked_text text.now fault) }
+    ensures reads { script_in text.now ≡ Err fault }
+{
+    marked(alloc, text, fault)
+}
+
+/// What is said of a text that is too long, which isn't kept, or that there is no memory.
+fn marked_long(alloc: Global) -> Unexplained
+    ensures { (text : List ℕ) → IsSaid result (marked_text text (record { line = 0; kind = ScriptKind.TooMany })) }
+{
+    marked(alloc, &[], TOO_LONG)
+}
+
+/// Why a script that comes to no run isn't explained: its fault is marked.
+fn halted(alloc: Global, text: &[u8], refusal: Refusal) -> Unexplained
+    ensures { IsHaltOf refusal result text.now }
+{
+    match refusal {
+        Refusal::Script(fault) => marked(alloc, text, fault),
+        Refusal::Image(fault) => Unexplained::Refused(Refusal::Image(fault)),
+        Refusal::BadCapacity { dev } => Unexplained::Refused(Refusal::BadCapacity { dev }),
+        Refusal::Volume { entry, kind } => Unexplained::Refused(Refusal::Volume { entry, kind }),
+        Refusal::RigFault => Unexplained::Refused(Refusal::RigFault),
+        Refusal::Memory => Unexplained::Refused(Refusal::Memory),
+        Refusal::ReadFault => Unexplained::Refused(Refusal::ReadFault),
+    }
+}
+
+/// Runs the script of a text over the image of this name.
+fn explain_script<R: Rig>(
+    alloc: Global,
+    image: &str,
+    text: &[u8],
+    script: Script,
+    rig: &mut R,
+) -> Result<Explained, Unexplained>
+    requires { IsSound script }
+    ensures verdict { let old = view (R.image rig.old) (R.standing rig.old) (seen (R.units rig.old) (R.armed rig.old) (R.log rig.old) (R.faults rig.old)) in
+        let new = view (R.image rig.new) (R.standing rig.new) (seen (R.units rig.new) (R.armed rig.new) (R.log rig.new) (R.faults rig.new)) in
+        MatchResult result (λ e. WasExplained e script image.now old new) (λ u. CauseUnrun u text.now script image.now old new) }
+    ensures traced { IfOk result (λ e. e.run.first ≤ length (R.log rig.new)) }
+{
+    let guide = match Guide::of(alloc, &script) {
+        Ok(guide) => guide,
+        Err(_) => return Err(Unexplained::Refused(Refusal::Memory)),
+    };
+    match run_script(alloc, image, script, rig) {
+        Ok(run) => Ok(Explained { run, guide }),
+        Err(refusal) => Err(halted(alloc, text, refusal)),
+    }
+}
+
+/// Runs the script of a text, where it is one, over the image of this name.
+fn explain_text<R: Rig>(
+    alloc: Global,
+    image: &str,
+    text: &[u8],
+    rig: &mut R,
+) -> Result<Explained, Unexplained>
+    ensures verdict { let old = view (R.image rig.old) (R.standing rig.old) (seen (R.units rig.old) (R.armed rig.old) (R.log rig.old) (R.faults rig.old)) in
+        let new = view (R.image rig.new) (R.standing rig.new) (seen (R.units rig.new) (R.armed rig.new) (R.log rig.new) (R.faults rig.new)) in
+        ExplainsText result text.now image.now old new }
+    ensures traced { IfOk result (λ e. e.run.first ≤ length (R.log rig.new)) }
+{
+    match read_script(alloc, text) {
+        Ok(script) => {
+            a_read_script_keeps_the_rules(text, &script);
+            explain_script(alloc, image, text, script, rig)
+        }
+        Err(
+            ScriptFault {
+                line: _,
+                kind: ScriptKind::Memory,
+            },
+        ) => Err(Unexplained::Refused(Refusal::Memory)),
+        Err(fault) => Err(marked_fault(alloc, text, fault)),
+    }
+}
+
+/// Reads the script that the source holds, to its end but no further than one byte more than a script
+/// may have, and then runs it over the image of this name. Where the script is at fault, in its text
+/// or over its volume, it says what is wrong, and where.
+pub fn explain_source<S: Source, R: Rig>(
+    alloc: Global,
+    image: &str,
+    source: &mut S,
+    rig: &mut R,
+) -> Result<Explained, Unexplained>
+    ensures verdict { let f : Facts = record {
+      name = image.now;
+      left = S.left source.old;
+      left_after = S.left source.new;
+      reads = S.faults source.old;
+      reads_after = S.faults source.new;
+      rig = view (R.image rig.old) (R.standing rig.old) (seen (R.units rig.old) (R.armed rig.old) (R.log rig.old) (R.faults rig.old));
+      rig_after = view (R.image rig.new) (R.standing rig.new) (seen (R.units rig.new) (R.armed rig.new) (R.log rig.new) (R.faults rig.new));
+    } in
+        MatchResult result (λ e. HasExplained e f) (λ u. CauseUnexplained u f) }
+    ensures complete { let f : Facts = record {
+      name = image.now;
+      left = S.left source.old;
+      left_after = S.left source.new;
+      reads = S.faults source.old;
+      reads_after = S.faults source.new;
+      rig = view (R.image rig.old) (R.standing rig.old) (seen (R.units rig.old) (R.armed rig.old) (R.log rig.old) (R.faults rig.old));
+      rig_after = view (R.image rig.new) (R.standing rig.new) (seen (R.units rig.new) (R.armed rig.new) (R.log rig.new) (R.faults rig.new));
+    } in
+        IfErr result (λ u. IsComplete u f) }
+    ensures traced { IfOk result (λ e. e.run.first ≤ length (R.log rig.new)) }
+    ensures count { S.faults source.old ≤ S.faults source.new }
+{
+    match read_all(alloc, source) {
+        Ok(text) => explain_text(alloc, image, &text, rig),
+        Err(Unread::TooMany) => Err(marked_long(alloc)),
+        Err(Unread::Failed) => Err(Unexplained::Refused(Refusal::ReadFault)),
+        Err(Unread::Memory) => Err(Unexplained::Refused(Refusal::Memory)),
+    }
+}

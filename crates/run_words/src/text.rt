@@ -1,0 +1,86 @@
+//! The text of a run that is explained.
+
+ghost use Rattle.std.specs.Prelude.{◌≡◌, ◌≤◌, ◌++◌, OnErr, OnOk, drop, length};
+ghost use Rattle.dix_base.specs.Told.{Appended, AppendedSome, Rose};
+ghost use Rattle.volume_table.specs.Places.{volume_len};
+ghost use Rattle.volume_table.specs.Tables.{IsTable, Table};
+ghost use Rattle.run_words.specs.Sites.{AreInside, Guides};
+ghost use Rattle.run_words.specs.Texts.{all_listed, explained_by, record_lines, words_text};
+
+use crate::explain::Explained;
+use crate::guide::{Guide, OpSite};
+use crate::listed::print_all_listed;
+use crate::records::print_records;
+use dix_base::{Failed, Sink};
+use rig_api::Rig;
+use script_verdict::print_run;
+use stack_ops::Reply;
+use volume_table::Entry;
+
+/// Writes the records from this one on, and behind them the listed blocks.
+fn print_parts<O: Sink, R: Rig>(
+    out: &mut O,
+    sites: &[OpSite],
+    entries: &[Entry],
+    replies: &[Reply],
+    rig: &R,
+    from: u32,
+) -> Result<(), Failed>
+    requires records { from ≤ length (R.log rig.now) }
+    requires table { (t : Table) × (t.entries ≡ entries.now) × IsTable t }
+    requires inside { AreInside (volume_len entries.now) sites.now replies.now }
+    ensures whole { OnOk result (Appended (record_lines 0 sites.now (drop from (R.log rig.now)) ++ all_listed entries.now 1 sites.now replies.now) (O.taken out.old) (O.taken out.new)) }
+    ensures part { OnErr result (AppendedSome (record_lines 0 sites.now (drop from (R.log rig.now)) ++ all_listed entries.now 1 sites.now replies.now) (O.taken out.old) (O.taken out.new)) }
+    ensures cause { OnErr result (Rose (O.faults out.old) (O.faults out.new)) }
+    ensures count { O.faults out.old ≤ O.faults out.new }
+{
+    print_records(out, sites, rig, from)?;
+    print_all_listed(out, entries, sites, replies)
+}
+
+/// Writes what stands behind the report of these replies: each of the rig's records from number `from` on, which is
+/// numbered 0 here, with a line for each longest run of neighbouring blocks of one op that it carried; and where each
+/// listed block stands in the script and lies on the devices. The sink passes on all that it holds.
+///
+/// `Failed` comes only where the sink's count of faults rose; then a prefix of the text was written. It takes no memory.
+pub fn print_words<O: Sink, R: Rig>(
+    out: &mut O,
+    guide: &Guide,
+    replies: &[Reply],
+    rig: &R,
+    from: u32,
+) -> Result<(), Failed>
+    requires records { from ≤ length (R.log rig.now) }
+    requires guides { Guides guide.now replies.now }
+    ensures whole { OnOk result (Appended (words_text guide.now.sites.items guide.now.entries (drop from (R.log rig.now)) replies.now) (O.taken out.old) (O.taken out.new)) }
+    ensures part { OnErr result (AppendedSome (words_text guide.now.sites.items guide.now.entries (drop from (R.log rig.now)) replies.now) (O.taken out.old) (O.taken out.new)) }
+    ensures cause { OnErr result (Rose (O.faults out.old) (O.faults out.new)) }
+    ensures count { O.faults out.old ≤ O.faults out.new }
+{
+    let (sites, entries) = (guide.sites.as_slice(), guide.entries.as_slice());
+    print_parts(out, sites, entries, replies, rig, from)?;
+    out.flush()
+}
+
+/// Writes the report of a run, and behind it what it means.
+pub fn print_explained<O: Sink, R: Rig>(
+    out: &mut O,
+    told: &Explained,
+    rig: &R,
+) -> Result<(), Failed>
+    requires records { told.now.run.first ≤ length (R.log rig.now) }
+    requires guides { Guides told.now.guide told.now.run.stack.replies.items }
+    ensures whole { OnOk result (Appended (explained_by told.now.guide.sites.items told.now.guide.entries (drop told.now.run.first (R.log rig.now)) told.now.run.stack.replies.items) (O.taken out.old) (O.taken out.new)) }
+    ensures part { OnErr result (AppendedSome (explained_by told.now.guide.sites.items told.now.guide.entries (drop told.now.run.first (R.log rig.now)) told.now.run.stack.replies.items) (O.taken out.old) (O.taken out.new)) }
+    ensures cause { OnErr result (Rose (O.faults out.old) (O.faults out.new)) }
+    ensures count { O.faults out.old ≤ O.faults out.new }
+{
+    print_run(out, &told.run)?;
+    print_words(
+        out,
+        &told.guide,
+        told.run.stack.replies(),
+        rig,
+        told.run.first,
+    )
+}

@@ -1,0 +1,62 @@
+//! Why a block failed, in words.
+
+ghost use Rattle.std.specs.Prelude.{◌≡◌, ◌+◌, ◌≤◌, ◌++◌, length};
+ghost use Rattle.bio_core.specs.declared.fate.Why.{Why};
+ghost use Rattle.report_text.specs.Report.{check_text, why_text};
+
+use crate::line::add_hex;
+use bio_core::Why;
+use pi_tuple::Check;
+use script_verdict::{Line, add};
+
+fn check_name(check: Check) -> &'static [u8]
+    ensures name { result.now ≡ check_text check }
+    ensures short { length result.now ≤ 7 }
+{
+    match check {
+        Check::Guard => b"guard",
+        Check::AppTag => b"apptag",
+        Check::RefTag => b"ref",
+    }
+}
+
+fn add_refused(line: &mut Line, key: u8, asc: u8, ascq: u8)
+    requires { length line.old.items ≤ 384 }
+    ensures items { line.new.items ≡ line.old.items ++ why_text (Why.Refused key asc ascq) }
+    ensures bound { length line.new.items ≤ length line.old.items + 32 }
+{
+    add(line, b"refused ");
+    add_hex(line, &[key]);
+    add(line, b" ");
+    add_hex(line, &[asc]);
+    add(line, b" ");
+    add_hex(line, &[ascq]);
+}
+
+pub(crate) fn add_why(line: &mut Line, why: Why)
+    requires { length line.old.items ≤ 384 }
+    ensures items { line.new.items ≡ line.old.items ++ why_text why }
+    ensures bound { length line.new.items ≤ length line.old.items + 32 }
+{
+    match why {
+        Why::Adapter(check) => {
+            add(line, b"adapter ");
+            add(line, check_name(check));
+        }
+        Why::Target(check) => {
+            add(line, b"target ");
+            add(line, check_name(check));
+        }
+        Why::Block(check) => {
+            add(line, b"block ");
+            add(line, check_name(check));
+        }
+        Why::App(check) => {
+            add(line, b"app ");
+            add(line, check_name(check));
+        }
+        Why::Medium => add(line, b"medium"),
+        Why::Refused { key, asc, ascq } => add_refused(line, key, asc, ascq),
+        Why::Short => add(line, b"short"),
+    }
+}
