@@ -17,10 +17,11 @@ use Rattle.lab_words.specs.declared.place.Place.{Place}
 use Rattle.rig_api.specs.Head.{Head, IsHeadOf, head_fault, head_of, units_of}
 use Rattle.rig_api.specs.declared.rig.RigFault.{RigFault}
 use Rattle.target_answer.specs.declared.units.UnitSpec.{UnitSpec}
-use Rattle.lab_run.specs.Calls.{Facts, Held, laid_as, second_in, served_in, stretch_in, uses_second}
-use Rattle.lab_run.specs.Headline.{AreCalm, AreComparable, AreOtherPlaces, Carries, Causes, DoneBy, IsAtFault, IsBadHead, IsComplete, IsDone, IsDumpAtFault, IsNoPlace, IsNoTuples, IsOtherLength, IsReady, IsRight, IsSecondWrong, IsWrong, IsWrongDump, StoreRose, Wrote, dump_len, layout_named, place_named}
+use Rattle.lab_run.specs.Calls.{Facts, Held, laid_as, second_in, served_in, stretch_in, uses_rig, uses_second}
+use Rattle.lab_run.specs.Headline.{AreCalm, AreComparable, AreOtherPlaces, CameTo, Carries, Causes, DoneBy, IsAtFault, IsBadHead, IsComplete, IsDone, IsDumpAtFault, IsNoPlace, IsNoTuples, IsOtherLength, IsReady, IsRight, IsSecondWrong, IsWrong, IsWrongDump, StoreRose, Wrote, dump_len, layout_named, place_named}
+use Rattle.lab_run.specs.Outcomes.{BadImage, BadInput, Done, Ending, Found, NoMemory, Outcome, RigFailed, SourceFailed, ending_status}
 use Rattle.lab_run.specs.Texts.{status_of}
-use Rattle.lab_run.specs.Verdict.{AreOneSize, BadHeadOf, BrokeOff, Cause, CauseByCommand, CauseNotCompared, Compared, DumpTaken, Ended, Exported, HasBadHead, HasBadSecond, HasBrokenOff, HasExported, HasFound, HasImported, HasNoPlace, HasNoSecondPlace, HasNoTuples, HasOpened, HasOtherCount, HasOtherSize, HaveBoth, Helped, Imported, Judged, Listed, Marked, OpenedAs, Refused, Shown, Verdict, Versioned, Written, done_status, verdict_status, verdict_text}
+use Rattle.lab_run.specs.Verdict.{AreOneSize, BadHeadOf, BrokeOff, Cause, CauseByCommand, CauseNotCompared, CauseRan, Compared, DumpTaken, Ended, Exported, HasBadHead, HasBadSecond, HasBrokenOff, HasExported, HasFound, HasImported, HasNoPlace, HasNoSecondPlace, HasNoTuples, HasOpened, HasOtherCount, HasOtherSize, HaveBoth, Helped, Imported, Judged, Listed, Marked, OpenedAs, Ran, Refused, Shown, Verdict, Versioned, Written, done_status, verdict_status, verdict_text}
 use Rattle.script_text.specs.declared.fault.ScriptFault.{ScriptFault}
 use Rattle.script_text.specs.declared.script.Script.{Script}
 use Rattle.lab_run.specs.Judging.{HasScriptFault, IsScriptAtFault, JudgesText}
@@ -29,6 +30,8 @@ use Rattle.lab_run.specs.declared.refusal.Refusal.TheVariants as refusal
 use Rattle.lab_run.specs.declared.status.Status.{Status}
 use Rattle.lab_run.specs.declared.status.Status.TheVariants as status
 use Rattle.lab_run.proofs.Dumping.{long_other, short_other, whole_long}
+use Rattle.lab_run.proofs.Vectoring.{plays, vectors_reads, vectors_rig}
+use Rattle.lab_run.proofs.Explains.{explained_reads, explained_rig, explains_run}
 use Rattle.lab_run.proofs.Judges.{judges_text}
 
 never_rose : (o n : ℕ) → Calm o n → Rose o n → ⊥
@@ -60,6 +63,24 @@ refused_never refusal.RigFault e = cc
 refused_never refusal.ReadFault e = cc
 refused_never refusal.Memory e = cc
 
+ending_never : (x : Ending) → ending_status x ≡ status.WriteFault → ⊥
+ending_never Done e = cc
+ending_never Found e = cc
+ending_never BadInput e = cc
+ending_never BadImage e = cc
+ending_never RigFailed e = cc
+ending_never NoMemory e = cc
+ending_never SourceFailed e = cc
+
+ending_no_words : (x : Ending) → ending_status x ≡ status.Words → ⊥
+ending_no_words Done e = cc
+ending_no_words Found e = cc
+ending_no_words BadInput e = cc
+ending_no_words BadImage e = cc
+ending_no_words RigFailed e = cc
+ending_no_words NoMemory e = cc
+ending_no_words SourceFailed e = cc
+
 -- no verdict has the status of a sink that failed
 never : (v : Verdict) → verdict_status v ≡ status.WriteFault → ⊥
 never (Refused r) e = refused_never r e
@@ -72,6 +93,7 @@ never (Exported us at layout blocks) e = done_never false e
 never (Imported us at count layout) e = done_never false e
 never (Judged script) e = done_never false e
 never (Marked text bad) e = cc
+never (Ran w) e = ending_never w.ending e
 
 done_is : (b : Bool) → IsDone (done_status b)
 done_is true = inr refl
@@ -116,6 +138,7 @@ broke_at (Exported us at layout blocks) f old new result b = b.0
 broke_at (Imported us at count layout) f old new result b = absurd b
 broke_at (Judged script) f old new result b = absurd b
 broke_at (Marked text bad) f old new result b = absurd b
+broke_at (Ran w) f old new result b = absurd b
 
 one_rose : (c : Option Command) (f : Facts) → uses_second c ≡ true → Rose f.first.faults f.first_after.faults ⊎ Rose f.second.faults f.second_after.faults → StoreRose c f
 one_rose c f u (inl r) = inl r
@@ -132,6 +155,7 @@ broke_by (Exported us at layout blocks) f old new result c b = inl b.1
 broke_by (Imported us at count layout) f old new result c b = absurd b
 broke_by (Judged script) f old new result c b = absurd b
 broke_by (Marked text bad) f old new result c b = absurd b
+broke_by (Ran w) f old new result c b = absurd b
 
 no_store_rose : (c : Option Command) (f : Facts) → AreCalm c f → StoreRose c f → ⊥
 no_store_rose c f calm (inl r) = never_rose f.first.faults f.first_after.faults calm.0 r
@@ -156,6 +180,20 @@ whole v f old new o n result (inl (inl w)) d = w
 whole v f old new o n result (inl (inr w)) d = absurd (not_write_fault (subst IsDone w.0 d))
 whole v f old new o n result (inr b) d = absurd (not_rig_fault (subst IsDone (broke_at v f old new result b) d))
 
+ran_done : (c : Option Command) (w : Outcome) (f : Facts) (old new : Option (List ℕ)) (result : Status) → CauseRan c w f → Wrote (ending_status w.ending) w.text old new result → DoneBy c f old new result
+ran_done None w f old new result h t = absurd h
+ran_done (Some Help) w f old new result h t = absurd h
+ran_done (Some Version) w f old new result h t = absurd h
+ran_done (Some ShowUnits) w f old new result h t = absurd h
+ran_done (Some (ShowBlocks place)) w f old new result h t = absurd h
+ran_done (Some (Diff one two)) w f old new result h t = absurd h
+ran_done (Some (Export place layout)) w f old new result h t = absurd h
+ran_done (Some (Import place layout)) w f old new result h t = absurd h
+ran_done (Some Vectors) w f old new result h t = record { outcome = w; ran = h; wrote = t }
+ran_done (Some Judge) w f old new result h t = absurd h
+ran_done (Some Explain) w f old new result h t = record { outcome = w; ran = h; wrote = t }
+ran_done (Some (Sweep byte units)) w f old new result h t = absurd h
+
 done_by : (f : Facts) (old new : Option (List ℕ)) (o n : ℕ) (result : Status) (v : Verdict) → Cause v f → Written (verdict_status v) (verdict_text v) old new o n result ⊎ BrokeOff v f old new result → IsDone result → DoneBy (served_in f.words) f old new result
 done_by f old new o n result (Refused r) c w d = absurd (refused_not_done r (subst IsDone (whole (Refused r) f old new o n result w d).0 d))
 done_by f old new o n result Helped c w d = subst (λ (x : Option Command). DoneBy x f old new result) (sym c) (whole Helped f old new o n result w d)
@@ -176,6 +214,7 @@ done_by f old new o n result (Imported us at count layout) c w d =
 done_by f old new o n result (Judged script) c w d =
     subst (λ (x : Option Command). DoneBy x f old new result) (sym c.named) (record { script = script; judged = c; wrote = whole (Judged script) f old new o n result w d })
 done_by f old new o n result (Marked text bad) c w d = absurd (not_input (subst IsDone (whole (Marked text bad) f old new o n result w d).0 d))
+done_by f old new o n result (Ran x) c w d = ran_done (served_in f.words) x f old new result c (whole (Ran x) f old new o n result w d)
 
 -- ---- why it ended
 
@@ -391,10 +430,10 @@ refused_image f refusal.Words c e = absurd (cc)
 refused_image f (refusal.Image x) c e = inl (x, bad_head (served_in f.words) x f c)
 refused_image f (refusal.Place x) c e = let k = no_place (served_in f.words) x f c in inr (inl (k.0, x, k.1, k.2))
 refused_image f refusal.NoTuples c e = let k = no_tuples (served_in f.words) f c in inr (inr (inl (k.0, k.1, k.2, k.3)))
-refused_image f (refusal.SecondImage x) c e = let k = second_head (served_in f.words) x f c in inr (inr (inr (k.0, k.1, k.2, inl (x, k.3))))
-refused_image f (refusal.SecondPlace x) c e = let k = second_place (served_in f.words) x f c in inr (inr (inr (k.0, k.1, k.2, inr (inl (x, k.3)))))
-refused_image f refusal.OtherSize c e = let k = other_size (served_in f.words) f c in inr (inr (inr (k.0, k.1, k.2, inr (inr (inl k.3)))))
-refused_image f refusal.OtherCount c e = let k = other_count (served_in f.words) f c in inr (inr (inr (k.0, k.1, k.2, inr (inr (inr k.3)))))
+refused_image f (refusal.SecondImage x) c e = let k = second_head (served_in f.words) x f c in inr (inr (inr (inl (k.0, k.1, k.2, inl (x, k.3)))))
+refused_image f (refusal.SecondPlace x) c e = let k = second_place (served_in f.words) x f c in inr (inr (inr (inl (k.0, k.1, k.2, inr (inl (x, k.3))))))
+refused_image f refusal.OtherSize c e = let k = other_size (served_in f.words) f c in inr (inr (inr (inl (k.0, k.1, k.2, inr (inr (inl k.3))))))
+refused_image f refusal.OtherCount c e = let k = other_count (served_in f.words) f c in inr (inr (inr (inl (k.0, k.1, k.2, inr (inr (inr k.3))))))
 refused_image f (refusal.Short x) c e = absurd (cc)
 refused_image f refusal.Long c e = absurd (cc)
 refused_image f refusal.RigFault c e = absurd (cc)
@@ -449,17 +488,65 @@ refused_reads f refusal.ReadFault c e = source_rose (served_in f.words) f c
 refused_reads f refusal.Memory c e = absurd (cc)
 
 -- of a verdict that is no refusal the status is 0 or 1
-by_status : (f : Facts) (P : Type 0) (s : Status) (v : Verdict) → Cause v f → ((r : Refusal) → CauseByCommand (served_in f.words) r f → status_of r ≡ s → P) → (IsScriptAtFault f → status.Input ≡ s → P) → (IsDone s → ⊥) → verdict_status v ≡ s → P
-by_status f P s (Refused r) c refused marked other e = refused r c e
-by_status f P s Helped c refused marked other e = absurd (other (subst IsDone e (done_is false)))
-by_status f P s Versioned c refused marked other e = absurd (other (subst IsDone e (done_is false)))
-by_status f P s (Listed us) c refused marked other e = absurd (other (subst IsDone e (done_is false)))
-by_status f P s (Shown us at blocks) c refused marked other e = absurd (other (subst IsDone e (done_is (ltb 0 (bad_of us at blocks)))))
-by_status f P s (Compared p ones twos) c refused marked other e = absurd (other (subst IsDone e (done_is (ltb 0 (differ_of p ones twos)))))
-by_status f P s (Exported us at layout blocks) c refused marked other e = absurd (other (subst IsDone e (done_is false)))
-by_status f P s (Imported us at count layout) c refused marked other e = absurd (other (subst IsDone e (done_is false)))
-by_status f P s (Judged script) c refused marked other e = absurd (other (subst IsDone e (done_is false)))
-by_status f P s (Marked text bad) c refused marked other e = marked (text, bad, c) e
+by_status : (f : Facts) (P : Type 0) (s : Status) (v : Verdict) → Cause v f → ((r : Refusal) → CauseByCommand (served_in f.words) r f → status_of r ≡ s → P) → (IsScriptAtFault f → status.Input ≡ s → P) → ((w : Outcome) → CauseRan (served_in f.words) w f → ending_status w.ending ≡ s → P) → (IsDone s → ⊥) → verdict_status v ≡ s → P
+by_status f P s (Refused r) c refused marked ran other e = refused r c e
+by_status f P s Helped c refused marked ran other e = absurd (other (subst IsDone e (done_is false)))
+by_status f P s Versioned c refused marked ran other e = absurd (other (subst IsDone e (done_is false)))
+by_status f P s (Listed us) c refused marked ran other e = absurd (other (subst IsDone e (done_is false)))
+by_status f P s (Shown us at blocks) c refused marked ran other e = absurd (other (subst IsDone e (done_is (ltb 0 (bad_of us at blocks)))))
+by_status f P s (Compared p ones twos) c refused marked ran other e = absurd (other (subst IsDone e (done_is (ltb 0 (differ_of p ones twos)))))
+by_status f P s (Exported us at layout blocks) c refused marked ran other e = absurd (other (subst IsDone e (done_is false)))
+by_status f P s (Imported us at count layout) c refused marked ran other e = absurd (other (subst IsDone e (done_is false)))
+by_status f P s (Judged script) c refused marked ran other e = absurd (other (subst IsDone e (done_is false)))
+by_status f P s (Marked text bad) c refused marked ran other e = marked (text, bad, c) e
+by_status f P s (Ran w) c refused marked ran other e = ran w c e
+
+-- a rig that failed, and a source, were counted
+ran_rig : (c : Option Command) (w : Outcome) (f : Facts) → CauseRan c w f → w.ending ≡ RigFailed → (uses_rig c ≡ true) × Rose f.rig.seen.faults f.rig_after.seen.faults
+ran_rig None w f h e = absurd h
+ran_rig (Some Help) w f h e = absurd h
+ran_rig (Some Version) w f h e = absurd h
+ran_rig (Some ShowUnits) w f h e = absurd h
+ran_rig (Some (ShowBlocks place)) w f h e = absurd h
+ran_rig (Some (Diff one two)) w f h e = absurd h
+ran_rig (Some (Export place layout)) w f h e = absurd h
+ran_rig (Some (Import place layout)) w f h e = absurd h
+ran_rig (Some Vectors) w f h e = (refl, vectors_rig w f h e)
+ran_rig (Some Judge) w f h e = absurd h
+ran_rig (Some Explain) w f h e = (refl, explained_rig w f h e)
+ran_rig (Some (Sweep byte units)) w f h e = absurd h
+
+ran_reads : (c : Option Command) (w : Outcome) (f : Facts) → CauseRan c w f → w.ending ≡ SourceFailed → Rose f.reads f.reads_after
+ran_reads None w f h e = absurd h
+ran_reads (Some Help) w f h e = absurd h
+ran_reads (Some Version) w f h e = absurd h
+ran_reads (Some ShowUnits) w f h e = absurd h
+ran_reads (Some (ShowBlocks place)) w f h e = absurd h
+ran_reads (Some (Diff one two)) w f h e = absurd h
+ran_reads (Some (Export place layout)) w f h e = absurd h
+ran_reads (Some (Import place layout)) w f h e = absurd h
+ran_reads (Some Vectors) w f h e = vectors_reads w f h e
+ran_reads (Some Judge) w f h e = absurd h
+ran_reads (Some Explain) w f h e = explained_reads w f h e
+ran_reads (Some (Sweep byte units)) w f h e = absurd h
+
+rig_ending : (x : Ending) → ending_status x ≡ status.RigFault → x ≡ RigFailed
+rig_ending Done e = cc
+rig_ending Found e = cc
+rig_ending BadInput e = cc
+rig_ending BadImage e = cc
+rig_ending RigFailed e = refl
+rig_ending NoMemory e = cc
+rig_ending SourceFailed e = cc
+
+source_ending : (x : Ending) → ending_status x ≡ status.ReadFault → x ≡ SourceFailed
+source_ending Done e = cc
+source_ending Found e = cc
+source_ending BadInput e = cc
+source_ending BadImage e = cc
+source_ending RigFailed e = cc
+source_ending NoMemory e = cc
+source_ending SourceFailed e = refl
 
 -- a status that is neither that of a failed store nor that of a failed sink is the verdict's
 of_verdict : (f : Facts) (old new : Option (List ℕ)) (o n : ℕ) (result s : Status) (v : Verdict) → Written (verdict_status v) (verdict_text v) old new o n result ⊎ BrokeOff v f old new result → result ≡ s → (s ≡ status.WriteFault → ⊥) → (s ≡ status.RigFault → ⊥) → verdict_status v ≡ s
@@ -483,10 +570,10 @@ reads_done : IsDone status.ReadFault → ⊥
 reads_done (inl e) = cc
 reads_done (inr e) = cc
 
-rig_rose : (f : Facts) (old new : Option (List ℕ)) (o n : ℕ) (result : Status) (v : Verdict) → Cause v f → Written (verdict_status v) (verdict_text v) old new o n result ⊎ BrokeOff v f old new result → result ≡ status.RigFault → StoreRose (served_in f.words) f
-rig_rose f old new o n result v c (inl (inl w)) e = by_status f (StoreRose (served_in f.words) f) status.RigFault v c (λ r cause k. refused_rig f r cause k) (λ m k. absurd (cc)) not_rig_fault (sym w.0 ∙ e)
+rig_rose : (f : Facts) (old new : Option (List ℕ)) (o n : ℕ) (result : Status) (v : Verdict) → Cause v f → Written (verdict_status v) (verdict_text v) old new o n result ⊎ BrokeOff v f old new result → result ≡ status.RigFault → StoreRose (served_in f.words) f ⊎ ((uses_rig (served_in f.words) ≡ true) × Rose f.rig.seen.faults f.rig_after.seen.faults)
+rig_rose f old new o n result v c (inl (inl w)) e = by_status f (StoreRose (served_in f.words) f ⊎ ((uses_rig (served_in f.words) ≡ true) × Rose f.rig.seen.faults f.rig_after.seen.faults)) status.RigFault v c (λ r cause k. inl (refused_rig f r cause k)) (λ m k. absurd (cc)) (λ x h k. inr (ran_rig (served_in f.words) x f h (rig_ending x.ending k))) not_rig_fault (sym w.0 ∙ e)
 rig_rose f old new o n result v c (inl (inr w)) e = let k : status.WriteFault ≡ status.RigFault = sym w.0 ∙ e in absurd (cc)
-rig_rose f old new o n result v c (inr w) e = broke_by v f old new result c w
+rig_rose f old new o n result v c (inr w) e = inl (broke_by v f old new result c w)
 
 sink_rose : (f : Facts) (old new : Option (List ℕ)) (o n : ℕ) (result : Status) (v : Verdict) → Written (verdict_status v) (verdict_text v) old new o n result ⊎ BrokeOff v f old new result → result ≡ status.WriteFault → Rose o n
 sink_rose f old new o n result v (inl (inl w)) e = absurd (never v (sym w.0 ∙ e))
@@ -507,6 +594,7 @@ no_command f old new o n result (Exported us at layout blocks) c w e = let k = s
 no_command f old new o n result (Imported us at count layout) c w e = let k = sym c.named ∙ e in absurd (cc)
 no_command f old new o n result (Judged script) c w e = let k = sym c.named ∙ e in absurd (cc)
 no_command f old new o n result (Marked text bad) c w e = let k = sym c.named ∙ e in absurd (cc)
+no_command f old new o n result (Ran x) c w e = absurd (subst (λ (y : Option Command). CauseRan y x f) e c)
 
 -- ---- nothing that is right is refused
 
@@ -741,6 +829,27 @@ refused_for_memory f image refusal.RigFault b i calm c = absurd (no_store_rose (
 refused_for_memory f image refusal.ReadFault b i calm c = absurd (right_reads (served_in f.words) image f i c)
 refused_for_memory f image refusal.Memory b i calm c = refl
 
+-- what the clauses say of the stores says nothing of a command that runs a script
+ran_of_no_store : (c : Option Command) (w : Outcome) (f : Facts) (image : List ℕ) → CauseRan c w f → IsRight c f image ⊎ (IsWrong c f image ⊎ (IsSecondWrong c image ⊎ IsWrongDump c f image)) → ⊥
+ran_of_no_store None w f image h i = h
+ran_of_no_store (Some Help) w f image h i = h
+ran_of_no_store (Some Version) w f image h i = h
+ran_of_no_store (Some ShowUnits) w f image h i = h
+ran_of_no_store (Some (ShowBlocks place)) w f image h i = h
+ran_of_no_store (Some (Diff one two)) w f image h i = h
+ran_of_no_store (Some (Export place layout)) w f image h i = h
+ran_of_no_store (Some (Import place layout)) w f image h i = h
+ran_of_no_store (Some Judge) w f image h i = h
+ran_of_no_store (Some Vectors) w f image h (inl i) = i
+ran_of_no_store (Some Vectors) w f image h (inr (inl i)) = i
+ran_of_no_store (Some Vectors) w f image h (inr (inr (inl i))) = let k : ◌≡◌ {A = Option Command} (Some Vectors) (Some (Diff i.0 i.1)) = i.2 in absurd (cc)
+ran_of_no_store (Some Vectors) w f image h (inr (inr (inr i))) = i
+ran_of_no_store (Some Explain) w f image h (inl i) = i
+ran_of_no_store (Some Explain) w f image h (inr (inl i)) = i
+ran_of_no_store (Some Explain) w f image h (inr (inr (inl i))) = let k : ◌≡◌ {A = Option Command} (Some Explain) (Some (Diff i.0 i.1)) = i.2 in absurd (cc)
+ran_of_no_store (Some Explain) w f image h (inr (inr (inr i))) = i
+ran_of_no_store (Some (Sweep byte units)) w f image h i = h
+
 completes : (f : Facts) (image : List ℕ) (v : Verdict) → f.first.bytes ≡ Some image → IsRight (served_in f.words) f image → AreCalm (served_in f.words) f → Cause v f → IsDone (verdict_status v) ⊎ (verdict_status v ≡ status.Memory)
 completes f image (Refused r) b i calm c = inr (refused_for_memory f image r b i calm c)
 completes f image Helped b i calm c = inl (done_is false)
@@ -752,6 +861,7 @@ completes f image (Exported us at layout blocks) b i calm c = inl (done_is false
 completes f image (Imported us at count layout) b i calm c = inl (done_is false)
 completes f image (Judged script) b i calm c = inl (done_is false)
 completes f image (Marked text bad) b i calm c = absurd (subst (λ (x : Option Command). IsRight x f image) c.named i)
+completes f image (Ran w) b i calm c = absurd (ran_of_no_store (served_in f.words) w f image c (inl i))
 
 as_written : (f : Facts) (old new : Option (List ℕ)) (o n : ℕ) (result : Status) (v : Verdict) → Cause v f → Written (verdict_status v) (verdict_text v) old new o n result ⊎ BrokeOff v f old new result → AreCalm (served_in f.words) f → Calm o n → result ≡ verdict_status v
 as_written f old new o n result v c (inl (inl w)) cs co = w.0
@@ -828,6 +938,7 @@ wrongs f image (Exported us at layout blocks) b i calm c = absurd (wrong_found f
 wrongs f image (Imported us at count layout) b i calm c = absurd (wrong_found f image us at c.place layout b c.taken.found (subst (λ (x : Option Command). IsWrong x f image) c.named i))
 wrongs f image (Judged script) b i calm c = absurd (subst (λ (x : Option Command). IsWrong x f image) c.named i)
 wrongs f image (Marked text bad) b i calm c = absurd (subst (λ (x : Option Command). IsWrong x f image) c.named i)
+wrongs f image (Ran w) b i calm c = absurd (ran_of_no_store (served_in f.words) w f image c (inr (inl i)))
 
 refused_as : (f : Facts) (old new : Option (List ℕ)) (o n : ℕ) (result : Status) → Ended f old new o n result →
     (image : List ℕ) → f.first.bytes ≡ Some image → IsWrong (served_in f.words) f image → AreCalm (served_in f.words) f → Calm o n → (result ≡ status.Image) ⊎ (result ≡ status.Memory)
@@ -873,6 +984,7 @@ seconds f image (Exported us at layout blocks) b i calm c = let k = sym c.named 
 seconds f image (Imported us at count layout) b i calm c = let k = sym c.named ∙ i.2 in absurd (cc)
 seconds f image (Judged script) b i calm c = let k = sym c.named ∙ i.2 in absurd (cc)
 seconds f image (Marked text bad) b i calm c = let k = sym c.named ∙ i.2 in absurd (cc)
+seconds f image (Ran w) b i calm c = absurd (ran_of_no_store (served_in f.words) w f image c (inr (inr (inl i))))
 
 second_refused_as : (f : Facts) (old new : Option (List ℕ)) (o n : ℕ) (result : Status) → Ended f old new o n result →
     (image : List ℕ) → f.second.bytes ≡ Some image → IsSecondWrong (served_in f.words) image → AreCalm (served_in f.words) f → Calm o n → (result ≡ status.Image) ⊎ (result ≡ status.Memory)
@@ -975,6 +1087,7 @@ dumps f image (Exported us at layout blocks) b i calm c = absurd (subst (λ (x :
 dumps f image (Imported us at count layout) b i calm c = absurd (not_whole f image us at count layout b c i)
 dumps f image (Judged script) b i calm c = absurd (subst (λ (x : Option Command). IsWrongDump x f image) c.named i)
 dumps f image (Marked text bad) b i calm c = inl refl
+dumps f image (Ran w) b i calm c = absurd (ran_of_no_store (served_in f.words) w f image c (inr (inr (inr i))))
 
 dump_refused : (f : Facts) (old new : Option (List ℕ)) (o n : ℕ) (result : Status) → Ended f old new o n result →
     (image : List ℕ) → f.first.bytes ≡ Some image → IsWrongDump (served_in f.words) f image → AreCalm (served_in f.words) f → Calm o n → (result ≡ status.Input) ⊎ (result ≡ status.Memory)
@@ -983,16 +1096,16 @@ dump_refused f old new o n result ended = λ image b i cs co.
 
 why : (f : Facts) (old new : Option (List ℕ)) (o n : ℕ) (result : Status) → Ended f old new o n result → Causes f o n result
 why f old new o n result ended = record {
-  words = λ e. by_status f (served_in f.words ≡ None) status.Words ended.verdict ended.cause (λ r cause k. refused_words f r cause k) (λ m k. absurd (cc)) words_done (of_verdict f old new o n result status.Words ended.verdict ended.written e (λ k. cc) (λ k. cc));
+  words = λ e. by_status f (served_in f.words ≡ None) status.Words ended.verdict ended.cause (λ r cause k. refused_words f r cause k) (λ m k. absurd (cc)) (λ x h k. absurd (ending_no_words x.ending k)) words_done (of_verdict f old new o n result status.Words ended.verdict ended.written e (λ k. cc) (λ k. cc));
   no_words = λ e. no_command f old new o n result ended.verdict ended.cause ended.written e;
-  image = λ e. by_status f (IsAtFault f) status.Image ended.verdict ended.cause (λ r cause k. refused_image f r cause k) (λ m k. absurd (cc)) image_done (of_verdict f old new o n result status.Image ended.verdict ended.written e (λ k. cc) (λ k. cc));
+  image = λ e. by_status f (IsAtFault f) status.Image ended.verdict ended.cause (λ r cause k. refused_image f r cause k) (λ m k. absurd (cc)) (λ x h k. inr (inr (inr (inr (x, k, h))))) image_done (of_verdict f old new o n result status.Image ended.verdict ended.written e (λ k. cc) (λ k. cc));
   wrong = λ image b i cs co. refused_as f old new o n result ended image b i cs co;
   second = λ image b i cs co. second_refused_as f old new o n result ended image b i cs co;
   rig = λ e. rig_rose f old new o n result ended.verdict ended.cause ended.written e;
   sink = λ e. sink_rose f old new o n result ended.verdict ended.written e;
-  input = λ e. by_status f (IsDumpAtFault f ⊎ IsScriptAtFault f) status.Input ended.verdict ended.cause (λ r cause k. inl (refused_input f r cause k)) (λ m k. inr m) input_done (of_verdict f old new o n result status.Input ended.verdict ended.written e (λ k. cc) (λ k. cc));
+  input = λ e. by_status f (IsDumpAtFault f ⊎ (IsScriptAtFault f ⊎ CameTo status.Input f)) status.Input ended.verdict ended.cause (λ r cause k. inl (refused_input f r cause k)) (λ m k. inr (inl m)) (λ x h k. inr (inr (x, k, h))) input_done (of_verdict f old new o n result status.Input ended.verdict ended.written e (λ k. cc) (λ k. cc));
   dump = λ image b i cs co. dump_refused f old new o n result ended image b i cs co;
-  reads = λ e. by_status f (Rose f.reads f.reads_after) status.ReadFault ended.verdict ended.cause (λ r cause k. refused_reads f r cause k) (λ m k. absurd (cc)) reads_done (of_verdict f old new o n result status.ReadFault ended.verdict ended.written e (λ k. cc) (λ k. cc));
+  reads = λ e. by_status f (Rose f.reads f.reads_after) status.ReadFault ended.verdict ended.cause (λ r cause k. refused_reads f r cause k) (λ m k. absurd (cc)) (λ x h k. ran_reads (served_in f.words) x f h (source_ending x.ending k)) reads_done (of_verdict f old new o n result status.ReadFault ended.verdict ended.written e (λ k. cc) (λ k. cc));
 }
 
 complete : (f : Facts) (old new : Option (List ℕ)) (o n : ℕ) (result : Status) → Ended f old new o n result → IsComplete f o n result
@@ -1007,4 +1120,6 @@ carried f old new o n result ended = record {
   kept = ended.kept;
   complete = complete f old new o n result ended;
   judges = λ e. judges_text f old new o n result ended e;
+  plays = λ e. plays f old new o n result ended e;
+  explains = λ e. explains_run f old new o n result ended e;
 }

@@ -24,7 +24,7 @@ use Rattle.lab_run.specs.Verdict.{AreOneSize, CauseByCommand, CauseNotCompared, 
 use Rattle.lab_run.specs.declared.refusal.Refusal.{Refusal}
 use Rattle.lab_run.specs.declared.refusal.Refusal.TheVariants as refusal
 use Rattle.lab_run.specs.declared.status.Status.{Status}
-use Rattle.lab_run.proofs.Endings.{Goes, Tried, ended_refused, keeps_image, keeps_source, rose_since}
+use Rattle.lab_run.proofs.Endings.{Goes, Tried, ended_refused, keeps_image, keeps_rig, keeps_source, rose_since}
 
 -- The verdicts of `diff`.
 
@@ -56,7 +56,7 @@ keeps_both words one other old new old_second new_second left reads rig e k s =
     let f = on_both words old new old_second new_second left reads rig in
     record {
       source = keeps_source (served_in words) f refl refl;
-      rig = refl;
+      rig = keeps_rig (served_in words) f refl;
       second = inr (ap uses_second e, s.same, s.opening, s.count);
       image = keeps_image (served_in words) f k.same;
       openings = k.opening;

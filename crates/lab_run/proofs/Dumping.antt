@@ -1,5 +1,6 @@
 -- The verdicts of `export` and `import`.
-use Rattle.std.proofs.Common.{ℕ, suc, ◌≡◌, ◌+◌, ◌*◌, ◌<◌, ◌≤◌, inl, inr, Bool, true, false, List, [], ◌∷◌, ◌++◌, length, Option, Some, None, Result, Ok, Err, refl, sym, ap, subst, ◌∙◌, arith, length-append}
+use Rattle.std.proofs.Common.{ℕ, suc, ◌≡◌, ◌+◌, ◌*◌, ◌<◌, ◌≤◌, inl, inr, Bool, true, false, List, [], ◌∷◌, ◌++◌, length, Option, Some, None, Result, Ok, Err, refl, sym, ap, subst, ◌∙◌, arith, length-append, take}
+use Rattle.std.proofs.lemmas.List.{take-take}
 use Rattle.std.proofs.Math.Nat.{mul-le-mul_left, mul_comm}
 use Rattle.dix_base.specs.Told.{Becomes, IsAtEnd, Rose, Took}
 use Rattle.dix_words.specs.Grammar.{image_in}
@@ -10,8 +11,9 @@ use Rattle.image_blocks.specs.declared.image.Image.{Image}
 use Rattle.image_blocks.specs.declared.stretch.PlaceFault.{PlaceFault}
 use Rattle.image_blocks.specs.declared.stretch.Stretch.{Stretch}
 use Rattle.image_commands.specs.Views.{View}
+use Rattle.image_layout.specs.Places.{block_place}
 use Rattle.image_dumps.specs.Dumps.{fits, imported, piece_len}
-use Rattle.image_dumps.specs.Ends.{DumpEnds, HasTaken, ImportEnds, IsShort, dump_in, imported_in}
+use Rattle.image_dumps.specs.Ends.{DumpEnds, HasTaken, ImportEnds, IsShort, KeepsOutside, dump_in, imported_in}
 use Rattle.image_dumps.specs.declared.fault.DumpFault.{DumpFault}
 use Rattle.image_dumps.specs.declared.fault.DumpFault.TheVariants as dumping
 use Rattle.image_dumps.specs.declared.fault.ImportFault.{ImportFault}
@@ -31,12 +33,12 @@ use Rattle.target_model.specs.Served.{AllLong}
 use Rattle.lab_run.specs.Calls.{Facts, Held, OpenedOnce, called_of, laid_as, on_first, on_input, served_in, stretch_in}
 use Rattle.lab_run.specs.Headline.{IsOtherLength, dump_len}
 use Rattle.lab_run.specs.Texts.{imported_text, refusal_of, refusal_text, status_of}
-use Rattle.lab_run.specs.Verdict.{AreOthersKept, Cause, CauseByCommand, CauseNotExported, CauseNotImported, DumpTaken, Ended, Exported, HasBrokenOff, HasFound, HasOpened, Imported, IsUntouched, Keeps, KeepsImage, KeepsOthers, KeepsSource, Refused, Verdict, Written, dumped_status, halted, verdict_status, verdict_text}
+use Rattle.lab_run.specs.Verdict.{AreOthersKept, Cause, CauseByCommand, CauseNotExported, CauseNotImported, DumpTaken, Ended, Exported, HasBrokenOff, HasFound, HasOpened, Imported, IsUntouched, Keeps, KeepsAround, KeepsHead, KeepsImage, KeepsOthers, KeepsSource, Refused, Verdict, Written, dumped_status, halted, verdict_status, verdict_text}
 use Rattle.lab_run.specs.declared.refusal.Refusal.{Refusal}
 use Rattle.lab_run.specs.declared.refusal.Refusal.TheVariants as refusal
 use Rattle.lab_run.specs.declared.status.Status.{Status}
 use Rattle.lab_run.specs.declared.status.Status.TheVariants as status
-use Rattle.lab_run.proofs.Endings.{Goes, Tried, ended_refused, keeps_on, kept_on, on_opened, opened_on, rose_since}
+use Rattle.lab_run.proofs.Endings.{Goes, Tried, ended_refused, keeps_on, keeps_rig, kept_on, on_opened, opened_on, rose_since}
 
 -- a refusal that leaves the image and the source
 pub refused_still : (words : List (List ℕ)) (c : Command) (old new : Held) (left : Option (List ℕ)) (reads : ℕ) (rig : View) (second : Held) (r : Refusal) (taken taken' : Option (List ℕ)) (o n : ℕ) (result : Status) →
@@ -169,8 +171,10 @@ exported words place layout form old mid new left reads rig second image at r ta
 
 -- ---- blocks that are imported
 
--- the store as the image was opened, and after its blocks were written, and the source before and after
-pub record Writes (mid new : Held) (reads reads_after : ℕ) : Type 0 where
+-- the store as the image was opened, and after blocks of a stretch were written, and the source before and after
+pub record Writes (us : List UnitSpec) (at : Stretch) (mid new : Held) (reads reads_after : ℕ) : Type 0 where
+  pub apart : KeepsOutside us at mid.bytes new.bytes
+  pub len : new.len ≡ mid.len
   pub named : new.name ≡ mid.name
   pub openings : new.openings ≡ mid.openings
   pub count : mid.faults ≤ new.faults
@@ -206,9 +210,16 @@ kept_by (Err halt.Long) layout us at most o m p q image image_after left left_af
 kept_by (Err halt.Store) layout us at most o m p q image image_after left left_after e = others_kept layout us at e.1.n e.1.more e.1.others image image_after left left_after e.1.few e.1.has
 kept_by (Err halt.Source) layout us at most o m p q image image_after left left_after e = others_kept layout us at e.1.n e.1.more [] image image_after left left_after (omega (arith, e.1.few)) e.1.has
 
+-- the head lies outside of each place
+head_kept : (us : List UnitSpec) (at : Stretch) (image image_after : Option (List ℕ)) → KeepsOutside us at image image_after → KeepsHead image image_after
+head_kept us at image image_after p =
+    let place : ℕ = block_place us at.dev at.first in
+    let low : 512 ≤ place = omega arith in
+    becomes image image_after (λ was is q. sym (take-take 512 place is low) ∙ ap (take 512) q.1 ∙ take-take 512 place was low) p
+
 -- what an import leaves
 taken_by : (words : List (List ℕ)) (place : Place) (layout : Layout) (form : DumpLayout) (most : ℕ) (old mid new : Held) (left left_after : Option (List ℕ)) (reads reads_after : ℕ) (rig : View) (second : Held) (image : Image) (at : Stretch) (r : Result ℕ ImportFault) →
-    form ≡ laid_as layout → most ≡ 65536 → Tried (Ok image) (image_in words) old mid → Writes mid new reads reads_after → Ok at ≡ stretch_in (units_open image) place → fits (laid_as layout) (spec_of (units_open image) at.dev).ty ≡ true →
+    form ≡ laid_as layout → most ≡ 65536 → Tried (Ok image) (image_in words) old mid → Writes (units_open image) at mid new reads reads_after → Ok at ≡ stretch_in (units_open image) place → fits (laid_as layout) (spec_of (units_open image) at.dev).ty ≡ true →
     ImportEnds r form (units_open image) at most mid.faults new.faults reads reads_after mid.bytes new.bytes left left_after → DumpTaken r (units_open image) at place layout (on_input words old new left left_after reads reads_after rig second)
 taken_by words place layout form most old mid new left left_after reads reads_after rig second image at r fe me t g p z s = record {
   found = record {
@@ -216,6 +227,7 @@ taken_by words place layout form most old mid new left left_after reads reads_af
     there = sym p;
     fits = z;
   };
+  len = g.len ∙ t.judged.held;
   opened_faults = mid.faults;
   since = t.count;
   ends =
@@ -225,20 +237,30 @@ taken_by words place layout form most old mid new left left_after reads reads_af
 }
 
 keeps_by : (words : List (List ℕ)) (place : Place) (layout : Layout) (old mid new : Held) (left left_after : Option (List ℕ)) (reads reads_after : ℕ) (rig : View) (second : Held) (us : List UnitSpec) (at : Stretch) (image : Image) (r : Result ℕ ImportFault) →
-    served_in words ≡ Some (Import place layout) → Tried (Ok image) (image_in words) old mid → Writes mid new reads reads_after → DumpTaken r us at place layout (on_input words old new left left_after reads reads_after rig second) → Keeps (on_input words old new left left_after reads reads_after rig second)
+    served_in words ≡ Some (Import place layout) → Tried (Ok image) (image_in words) old mid → Writes us at mid new reads reads_after → DumpTaken r us at place layout (on_input words old new left left_after reads reads_after rig second) → Keeps (on_input words old new left left_after reads reads_after rig second)
 keeps_by words place layout old mid new left left_after reads reads_after rig second us at image r e t g d =
     let f = on_input words old new left left_after reads reads_after rig second in
+    let outside : KeepsOutside us at old.bytes new.bytes = subst (λ (x : Option (List ℕ)). KeepsOutside us at x new.bytes) t.same g.apart in
+    let around : KeepsAround place f = record {
+      units = us;
+      at = at;
+      opened = d.found.opened;
+      there = d.found.there;
+      others = kept_by r (laid_as layout) us at 65536 d.opened_faults new.faults reads reads_after old.bytes new.bytes left left_after d.ends;
+      outside = outside;
+      head = head_kept us at old.bytes new.bytes outside;
+    } in
     record {
       source = subst (λ (c : Option Command). KeepsSource c f) (sym e) g.sources;
-      rig = refl;
+      rig = keeps_rig (served_in words) f refl;
       second = inl refl;
-      image = subst (λ (c : Option Command). KeepsImage c f) (sym e) (inr (us, at, d.found.opened, d.found.there, kept_by r (laid_as layout) us at 65536 d.opened_faults new.faults reads reads_after old.bytes new.bytes left left_after d.ends));
+      image = subst (λ (c : Option Command). KeepsImage c f) (sym e) (inr around);
       openings = rw (g.named, g.openings) t.opening;
       count = (let a = t.count in let b = g.count in omega arith);
     }
 
 pub imports : (words : List (List ℕ)) (place : Place) (layout : Layout) (form : DumpLayout) (most : ℕ) (old mid new : Held) (left left_after : Option (List ℕ)) (reads reads_after : ℕ) (rig : View) (second : Held) (image : Image) (at : Stretch) (count : ℕ) (text : List ℕ) (taken taken' : Option (List ℕ)) (o n : ℕ) (result : Status) →
-    form ≡ laid_as layout → most ≡ 65536 → served_in words ≡ Some (Import place layout) → Tried (Ok image) (image_in words) old mid → Writes mid new reads reads_after → Ok at ≡ stretch_in (units_open image) place → fits (laid_as layout) (spec_of (units_open image) at.dev).ty ≡ true →
+    form ≡ laid_as layout → most ≡ 65536 → served_in words ≡ Some (Import place layout) → Tried (Ok image) (image_in words) old mid → Writes (units_open image) at mid new reads reads_after → Ok at ≡ stretch_in (units_open image) place → fits (laid_as layout) (spec_of (units_open image) at.dev).ty ≡ true →
     ImportEnds (Ok count) form (units_open image) at most mid.faults new.faults reads reads_after mid.bytes new.bytes left left_after → text ≡ imported_text count → Written status.Whole text taken taken' o n result →
     Ended (on_input words old new left left_after reads reads_after rig second) taken taken' o n result
 imports words place layout form most old mid new left left_after reads reads_after rig second image at count text taken taken' o n result fe me e t g p z s x w =
@@ -257,7 +279,7 @@ broken halt.Store place layout f b = inr b
 broken halt.Source place layout f b = b
 
 pub halts : (words : List (List ℕ)) (place : Place) (layout : Layout) (form : DumpLayout) (most : ℕ) (old mid new : Held) (left left_after : Option (List ℕ)) (reads reads_after : ℕ) (rig : View) (second : Held) (image : Image) (at : Stretch) (x : ImportFault) (r : Refusal) (taken taken' : Option (List ℕ)) (o n : ℕ) (result : Status) →
-    form ≡ laid_as layout → most ≡ 65536 → served_in words ≡ Some (Import place layout) → Tried (Ok image) (image_in words) old mid → Writes mid new reads reads_after → Ok at ≡ stretch_in (units_open image) place → fits (laid_as layout) (spec_of (units_open image) at.dev).ty ≡ true →
+    form ≡ laid_as layout → most ≡ 65536 → served_in words ≡ Some (Import place layout) → Tried (Ok image) (image_in words) old mid → Writes (units_open image) at mid new reads reads_after → Ok at ≡ stretch_in (units_open image) place → fits (laid_as layout) (spec_of (units_open image) at.dev).ty ≡ true →
     ImportEnds (Err x) form (units_open image) at most mid.faults new.faults reads reads_after mid.bytes new.bytes left left_after → r ≡ halted x → Written (status_of r) (refusal_text r) taken taken' o n result →
     Ended (on_input words old new left left_after reads reads_after rig second) taken taken' o n result
 halts words place layout form most old mid new left left_after reads reads_after rig second image at x r taken taken' o n result fe me e t g p z s y w =

@@ -8,7 +8,7 @@ use Rattle.image_blocks.specs.Images.{IsJudged, units_open}
 use Rattle.image_blocks.specs.declared.image.Image.{Image}
 use Rattle.image_blocks.specs.declared.stretch.PlaceFault.{PlaceFault}
 use Rattle.image_blocks.specs.declared.stretch.Stretch.{Stretch}
-use Rattle.image_commands.specs.Views.{View}
+use Rattle.image_commands.specs.Views.{OpenedOnce as RigOpenedOnce, View}
 use Rattle.image_show.specs.Shown.{ShowEnds, text_of}
 use Rattle.image_show.specs.declared.fault.ShowFault.{ShowFault}
 use Rattle.image_show.specs.declared.fault.ShowFault.TheVariants as show
@@ -19,9 +19,10 @@ use Rattle.lab_words.specs.declared.place.Place.{Place}
 use Rattle.rig_api.specs.Telling.{OpenedBy}
 use Rattle.rig_api.specs.declared.rig.RigFault.{RigFault}
 use Rattle.rig_api.specs.declared.rig.RigFault.TheVariants as head
-use Rattle.lab_run.specs.Calls.{Facts, Held, OpenedOnce, called_of, on_first, served_by, served_in, stretch_in}
+use Rattle.target_answer.specs.declared.units.UnitSpec.{UnitSpec}
+use Rattle.lab_run.specs.Calls.{Facts, Held, OpenedOnce, called_of, on_first, served_in, stretch_in}
 use Rattle.lab_run.specs.Texts.{refusal_of, refusal_text, status_of}
-use Rattle.lab_run.specs.Verdict.{Cause, CauseByCommand, CauseNotListed, CauseNotShown, Ended, HasOpened, Keeps, KeepsImage, KeepsSource, Listed, Refused, Shown, Verdict, Written, done_status, shown_status, verdict_status, verdict_text}
+use Rattle.lab_run.specs.Verdict.{Cause, CauseByCommand, CauseNotListed, CauseNotShown, Ended, HasOpened, Keeps, KeepsImage, KeepsRig, KeepsSource, Listed, OpensRig, Refused, Shown, Verdict, Written, done_status, shown_status, verdict_status, verdict_text}
 use Rattle.lab_run.specs.declared.refusal.Refusal.{Refusal}
 use Rattle.lab_run.specs.declared.refusal.Refusal.TheVariants as refusal
 use Rattle.lab_run.specs.declared.status.Status.{Status}
@@ -74,10 +75,27 @@ keeps_source (Some (ShowBlocks place)) f l r = (l, r)
 keeps_source (Some (Diff one two)) f l r = (l, r)
 keeps_source (Some (Export place layout)) f l r = (l, r)
 keeps_source (Some (Import place layout)) f l r = omega (arith, r)
-keeps_source (Some Vectors) f l r = (l, r)
+keeps_source (Some Vectors) f l r = omega (arith, r)
 keeps_source (Some Judge) f l r = omega (arith, r)
-keeps_source (Some Explain) f l r = (l, r)
+keeps_source (Some Explain) f l r = omega (arith, r)
 keeps_source (Some (Sweep byte units)) f l r = (l, r)
+
+opens_none : (f : Facts) → f.rig_after ≡ f.rig → OpensRig f
+opens_none f e = subst (λ (v : View). RigOpenedOnce (image_in f.words) f.rig.standing v.standing × (f.rig.seen.faults ≤ v.seen.faults)) (sym e) (inl (refl, refl), omega arith)
+
+pub keeps_rig : (c : Option Command) (f : Facts) → f.rig_after ≡ f.rig → KeepsRig c f
+keeps_rig None f e = e
+keeps_rig (Some Help) f e = e
+keeps_rig (Some Version) f e = e
+keeps_rig (Some ShowUnits) f e = e
+keeps_rig (Some (ShowBlocks place)) f e = e
+keeps_rig (Some (Diff one two)) f e = e
+keeps_rig (Some (Export place layout)) f e = e
+keeps_rig (Some (Import place layout)) f e = e
+keeps_rig (Some Vectors) f e = opens_none f e
+keeps_rig (Some Judge) f e = e
+keeps_rig (Some Explain) f e = opens_none f e
+keeps_rig (Some (Sweep byte units)) f e = e
 
 pub keeps_image : (c : Option Command) (f : Facts) → f.first_after.bytes ≡ f.first.bytes → KeepsImage c f
 keeps_image None f b = b
@@ -96,7 +114,7 @@ keeps_image (Some (Sweep byte units)) f b = b
 pub kept_on : (words : List (List ℕ)) (old new : Held) (left : Option (List ℕ)) (reads : ℕ) (rig : View) (second : Held) → new.bytes ≡ old.bytes → OpenedOnce (image_in words) old new → old.faults ≤ new.faults → Keeps (on_first words old new left reads rig second)
 kept_on words old new left reads rig second b o c =
     let f = on_first words old new left reads rig second in
-    record { source = keeps_source (served_in words) f refl refl; rig = refl; second = inl refl; image = keeps_image (served_in words) f b; openings = o; count = c }
+    record { source = keeps_source (served_in words) f refl refl; rig = keeps_rig (served_in words) f refl; second = inl refl; image = keeps_image (served_in words) f b; openings = o; count = c }
 
 pub unlisted : (words : List (List ℕ)) (old new : Held) (left : Option (List ℕ)) (reads : ℕ) (rig : View) (second : Held) (x : RigFault) (r : Refusal) (taken taken' : Option (List ℕ)) (o n : ℕ) (result : Status) →
     served_in words ≡ Some ShowUnits → r ≡ refusal_of x → Tried (Err x) (image_in words) old new → Written (status_of r) (refusal_text r) taken taken' o n result → Ended (on_first words old new left reads rig second) taken taken' o n result
@@ -204,17 +222,3 @@ pub no_command : (words : List (List ℕ)) (h : Held) (left : Option (List ℕ))
     served_in words ≡ None → Written (status_of refusal.Words) (refusal_text refusal.Words) taken taken' o n result → Ended (on_first words h h left reads rig second) taken taken' o n result
 no_command words h left reads rig second taken taken' o n result e w =
     without_image words h left reads rig second (Refused refusal.Words) taken taken' o n result (subst (λ (c : Option Command). CauseByCommand c refusal.Words (on_first words h h left reads rig second)) (sym e) refl) w
-
--- the other commands aren't done yet
-pub not_served : (c : Command) → (c ≡ Help → ⊥) → (c ≡ Version → ⊥) → (c ≡ ShowUnits → ⊥) → ((place : Place) → c ≡ ShowBlocks place → ⊥) → ((one other : Place) → c ≡ Diff one other → ⊥) → ((place : Place) (layout : Layout) → c ≡ Export place layout → ⊥) → ((place : Place) (layout : Layout) → c ≡ Import place layout → ⊥) → (c ≡ Judge → ⊥) → served_by (Some c) ≡ None
-not_served Help a b d e y x i j = absurd (a refl)
-not_served Version a b d e y x i j = absurd (b refl)
-not_served ShowUnits a b d e y x i j = absurd (d refl)
-not_served (ShowBlocks place) a b d e y x i j = absurd (e place refl)
-not_served (Diff one two) a b d e y x i j = absurd (y one two refl)
-not_served (Export place layout) a b d e y x i j = absurd (x place layout refl)
-not_served (Import place layout) a b d e y x i j = absurd (i place layout refl)
-not_served Vectors a b d e y x i j = refl
-not_served Judge a b d e y x i j = absurd (j refl)
-not_served Explain a b d e y x i j = refl
-not_served (Sweep byte units) a b d e y x i j = refl

@@ -19,13 +19,13 @@ use Rattle.lab_run.specs.Calls.{Facts, Held, on_input, served_in}
 use Rattle.lab_run.specs.Judging.{CauseNotJudged, HasJudged, HasScriptFault, JudgesText}
 use Rattle.lab_run.specs.Saying.{IsTold, Says}
 use Rattle.lab_run.specs.Texts.{refusal_text, status_of}
-use Rattle.lab_run.specs.Verdict.{BrokeOff, Cause, CauseByCommand, Compared, Ended, Exported, Helped, Imported, Judged, Keeps, KeepsImage, KeepsSource, Listed, Marked, Refused, Shown, Verdict, Versioned, Written, verdict_status, verdict_text}
+use Rattle.lab_run.specs.Verdict.{BrokeOff, Cause, CauseByCommand, CauseRan, Compared, Ended, Exported, Helped, Imported, Judged, Keeps, KeepsImage, KeepsSource, Listed, Marked, Ran, Refused, Shown, Verdict, Versioned, Written, verdict_status, verdict_text}
 use Rattle.lab_run.specs.declared.judging.Said.{Said}
 use Rattle.lab_run.specs.declared.refusal.Refusal.{Refusal}
 use Rattle.lab_run.specs.declared.refusal.Refusal.TheVariants as refusal
 use Rattle.lab_run.specs.declared.status.Status.{Status}
 use Rattle.lab_run.specs.declared.status.Status.TheVariants as status
-use Rattle.lab_run.proofs.Endings.{ended_refused}
+use Rattle.lab_run.proofs.Endings.{ended_refused, keeps_rig}
 
 -- The verdicts of `explain` without an image.
 
@@ -34,7 +34,7 @@ kept words h left left' reads reads' rig second e r =
     let f = on_input words h h left left' reads reads' rig second in
     record {
       source = subst (λ (c : Option Command). KeepsSource c f) (sym e) r;
-      rig = refl;
+      rig = keeps_rig (served_in words) f refl;
       second = inl refl;
       image = subst (λ (c : Option Command). KeepsImage c f) (sym e) refl;
       openings = inl (refl, refl);
@@ -151,6 +151,7 @@ untouched_by f (Exported us at layout blocks) e c = let k = sym c.named ∙ e in
 untouched_by f (Imported us at count layout) e c = let k = sym c.named ∙ e in absurd (cc)
 untouched_by f (Judged script) e c = c.untouched
 untouched_by f (Marked text bad) e c = c.untouched
+untouched_by f (Ran w) e c = absurd (subst (λ (y : Option Command). CauseRan y w f) e c)
 
 -- what was taken of a told source that is at its end is all that it told
 all_taken : (text all : List ℕ) (old new : Option (List ℕ)) → old ≡ Some all → Took text old new → IsAtEnd new → text ≡ all
@@ -200,6 +201,7 @@ as_said f old new o n result (Exported us at layout blocks) e c (inr w) k = let 
 as_said f old new o n result (Imported us at count layout) e c (inr w) k = absurd w
 as_said f old new o n result (Judged script) e c (inr w) k = absurd w
 as_said f old new o n result (Marked text bad) e c (inr w) k = absurd w
+as_said f old new o n result (Ran x) e c (inr w) k = absurd w
 
 wrong_by : (f : Facts) (v : Verdict) (all : List ℕ) (bad : ScriptFault) → served_in f.words ≡ Some Judge → Cause v f → f.left ≡ Some all → script_in all ≡ Err bad → Calm f.reads f.reads_after → (verdict_status v ≡ status.Input) ⊎ (verdict_status v ≡ status.Memory)
 wrong_by f (Refused r) all bad e c l s k = inr (memory_refused r f (as_judge f r e c) k)
@@ -212,6 +214,7 @@ wrong_by f (Exported us at layout blocks) all bad e c l s k = let z = sym c.name
 wrong_by f (Imported us at count layout) all bad e c l s k = let z = sym c.named ∙ e in absurd (cc)
 wrong_by f (Judged script) all bad e c l s k = absurd (not_judged f all bad script c l s)
 wrong_by f (Marked text other) all bad e c l s k = inl refl
+wrong_by f (Ran w) all bad e c l s k = absurd (subst (λ (y : Option Command). CauseRan y w f) e c)
 
 right_by : (f : Facts) (v : Verdict) (all : List ℕ) (script : Script) → served_in f.words ≡ Some Judge → Cause v f → f.left ≡ Some all → script_in all ≡ Ok script → Calm f.reads f.reads_after → (verdict_status v ≡ status.Whole) ⊎ (verdict_status v ≡ status.Memory)
 right_by f (Refused r) all script e c l s k = inr (memory_refused r f (as_judge f r e c) k)
@@ -224,6 +227,7 @@ right_by f (Exported us at layout blocks) all script e c l s k = let z = sym c.n
 right_by f (Imported us at count layout) all script e c l s k = let z = sym c.named ∙ e in absurd (cc)
 right_by f (Judged other) all script e c l s k = inl refl
 right_by f (Marked text bad) all script e c l s k = absurd (not_marked f text all bad script c l s c.stopped)
+right_by f (Ran w) all script e c l s k = absurd (subst (λ (y : Option Command). CauseRan y w f) e c)
 
 pub judges_text : (f : Facts) (old new : Option (List ℕ)) (o n : ℕ) (result : Status) → Ended f old new o n result → served_in f.words ≡ Some Judge → JudgesText f o n result
 judges_text f old new o n result ended e = record {

@@ -4,3 +4,5 @@ mod Dumping
 mod Differing
 mod FewWords
 mod Judges
+mod Vectoring
+mod Explains

@@ -28,9 +28,9 @@ served_by (Some (ShowBlocks place)) = Some (ShowBlocks place)
 served_by (Some (Diff one other)) = Some (Diff one other)
 served_by (Some (Export place layout)) = Some (Export place layout)
 served_by (Some (Import place layout)) = Some (Import place layout)
-served_by (Some Vectors) = None
+served_by (Some Vectors) = Some Vectors
 served_by (Some Judge) = Some Judge
-served_by (Some Explain) = None
+served_by (Some Explain) = Some Explain
 served_by (Some (Sweep byte units)) = None
 
 -- the command of the words, where they are in the grammar and the program does it
@@ -51,6 +51,21 @@ uses_second (Some Vectors) = false
 uses_second (Some Judge) = false
 uses_second (Some Explain) = false
 uses_second (Some (Sweep byte units)) = false
+
+-- Whether a command uses the rig: `vectors` and `explain IMAGE` do.
+abbrev pub uses_rig : Option Command → Bool
+uses_rig None = false
+uses_rig (Some Help) = false
+uses_rig (Some Version) = false
+uses_rig (Some ShowUnits) = false
+uses_rig (Some (ShowBlocks place)) = false
+uses_rig (Some (Diff one other)) = false
+uses_rig (Some (Export place layout)) = false
+uses_rig (Some (Import place layout)) = false
+uses_rig (Some Vectors) = true
+uses_rig (Some Judge) = false
+uses_rig (Some Explain) = true
+uses_rig (Some (Sweep byte units)) = false
 
 -- the second image that the words of a `diff` name
 abbrev pub second_in : List (List ℕ) → List ℕ
@@ -138,4 +153,20 @@ on_both words old new old_second new_second left reads rig = record {
   first_after = new;
   second = old_second;
   second_after = new_second;
+}
+
+-- a call that works on its source and its rig alone
+abbrev pub on_rig : List (List ℕ) → (left left_after : Option (List ℕ)) → (reads reads_after : ℕ) → (rig rig_after : View) → (first second : Held) → Facts
+on_rig words left left_after reads reads_after rig rig_after first second = record {
+  words = words;
+  left = left;
+  left_after = left_after;
+  reads = reads;
+  reads_after = reads_after;
+  rig = rig;
+  rig_after = rig_after;
+  first = first;
+  first_after = first;
+  second = second;
+  second_after = second;
 }

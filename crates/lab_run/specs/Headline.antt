@@ -15,12 +15,15 @@ use Rattle.lab_words.specs.declared.place.Place.{Place}
 use Rattle.rig_api.specs.Head.{head_fault, head_of, units_of}
 use Rattle.rig_api.specs.declared.rig.RigFault.{RigFault}
 use Rattle.target_answer.specs.declared.units.UnitSpec.{UnitSpec}
-use Rattle.lab_run.specs.Calls.{Facts, laid_as, served_in, stretch_in, uses_second}
+use Rattle.lab_run.specs.Calls.{Facts, laid_as, served_in, stretch_in, uses_rig, uses_second}
 use Rattle.fault_marks.specs.Texts.{right_text}
 use Rattle.script_text.specs.declared.script.Script.{Script}
+use Rattle.lab_run.specs.Explained.{ExplainsRun}
 use Rattle.lab_run.specs.Judging.{HasJudged, IsScriptAtFault, JudgesText}
 use Rattle.lab_run.specs.Texts.{help_text, imported_text, version_text}
-use Rattle.lab_run.specs.Verdict.{AreOneSize, Ended, HasBadHead, HasBadSecond, HasCompared, HasExported, HasFound, HasImported, HasListed, HasNoPlace, HasNoSecondPlace, HasNoTuples, HasOpened, HasOtherCount, HasOtherSize, HasShown, Keeps, done_status}
+use Rattle.lab_run.specs.Outcomes.{Outcome, ending_status}
+use Rattle.lab_run.specs.Vectors.{PlaysTexts}
+use Rattle.lab_run.specs.Verdict.{AreOneSize, CauseRan, Ended, HasBadHead, HasBadSecond, HasCompared, HasExported, HasFound, HasImported, HasListed, HasNoPlace, HasNoSecondPlace, HasNoTuples, HasOpened, HasOtherCount, HasOtherSize, HasShown, Keeps, done_status}
 use Rattle.lab_run.specs.declared.status.Status.{Status}
 use Rattle.lab_run.specs.declared.status.Status.TheVariants as status
 
@@ -81,6 +84,12 @@ pub record WroteRight (f : Facts) (old new : Option (List ℕ)) (result : Status
   pub judged : HasJudged script f
   pub wrote : Wrote status.Whole (right_text script) old new result
 
+-- A script was run, or a list of commands, and what that came to was written.
+pub record WroteOutcome (c : Option Command) (f : Facts) (old new : Option (List ℕ)) (result : Status) : Type 0 where
+  pub outcome : Outcome
+  pub ran : CauseRan c outcome f
+  pub wrote : Wrote (ending_status outcome.ending) outcome.text old new result
+
 -- what a command wrote that was done
 abbrev pub DoneBy : Option Command → Facts → Option (List ℕ) → Option (List ℕ) → Status → Type 0
 DoneBy None f old new result = ⊥
@@ -91,10 +100,14 @@ DoneBy (Some (ShowBlocks place)) f old new result = WroteBlocks place f old new 
 DoneBy (Some (Diff one other)) f old new result = WroteDifferences one other f old new result
 DoneBy (Some (Export place layout)) f old new result = WroteDump place layout f old new result
 DoneBy (Some (Import place layout)) f old new result = TookDump place layout f old new result
-DoneBy (Some Vectors) f old new result = ⊥
+DoneBy (Some Vectors) f old new result = WroteOutcome (Some Vectors) f old new result
 DoneBy (Some Judge) f old new result = WroteRight f old new result
-DoneBy (Some Explain) f old new result = ⊥
+DoneBy (Some Explain) f old new result = WroteOutcome (Some Explain) f old new result
 DoneBy (Some (Sweep byte units)) f old new result = ⊥
+
+-- A command that runs a script came to this status.
+abbrev pub CameTo : Status → Facts → Type 0
+CameTo s f = (w : Outcome) × (ending_status w.ending ≡ s) × CauseRan (served_in f.words) w f
 
 -- the place that a command names, and `diff` first
 abbrev pub place_named : Option Command → Option Place
@@ -130,13 +143,14 @@ layout_named (Some (Sweep byte units)) = None
 abbrev pub IsSecondAtFault : (one other : Place) → Facts → Type 0
 IsSecondAtFault one other f = ((fault : RigFault) × HasBadSecond one fault f) ⊎ (((fault : PlaceFault) × HasNoSecondPlace one other fault f) ⊎ (HasOtherSize one other f ⊎ HasOtherCount one other f))
 
--- An image is at fault: its head, or it hasn't the place of the words, or no tuples there, where the words ask for them; or for `diff` it is the second.
+-- An image is at fault: its head, or it hasn't the place of the words, or no tuples there, where the words ask for them; or for `diff` it is the second; or a command that runs a script came to that.
 abbrev pub IsAtFault : Facts → Type 0
 IsAtFault f =
     ((fault : RigFault) × HasBadHead fault f)
     ⊎ (((place : Place) × (fault : PlaceFault) × (place_named (served_in f.words) ≡ Some place) × HasNoPlace place fault f)
     ⊎ (((place : Place) × (layout : Layout) × (layout_named (served_in f.words) ≡ Some (place, layout)) × HasNoTuples place layout f)
-    ⊎ ((one : Place) × (other : Place) × (served_in f.words ≡ Some (Diff one other)) × IsSecondAtFault one other f)))
+    ⊎ (((one : Place) × (other : Place) × (served_in f.words ≡ Some (Diff one other)) × IsSecondAtFault one other f)
+    ⊎ CameTo status.Image f)))
 
 -- The head of an image that is told has a fault.
 abbrev pub IsBadHead : List ℕ → Type 0
@@ -220,16 +234,16 @@ StoreRose c f = Rose f.first.faults f.first_after.faults ⊎ ((uses_second c ≡
 abbrev pub AreCalm : Option Command → Facts → Type 0
 AreCalm c f = Calm f.first.faults f.first_after.faults × (uses_second c ≡ true → Calm f.second.faults f.second_after.faults)
 
--- Each status but 6 has its cause: 2 comes exactly where the words are no command; 4 only where an image is at fault, and 3 only where the dump or the script is, and where an image or a dump that is told is so it comes, or want of memory, if no count rose; 5, 7 and 8 only where the count of faults of a store that the command uses, of the source, of the sink, rose.
+-- Each status but 6 has its cause: 2 comes exactly where the words are no command; 4 only where an image is at fault, and 3 only where the dump or the script is, and where an image or a dump that is told is so it comes, or want of memory, if no count rose; 5, 7 and 8 only where the count of faults of a store or a rig that the command uses, of the source, of the sink, rose.
 pub record Causes (f : Facts) (o n : ℕ) (result : Status) : Type 0 where
   pub words : result ≡ status.Words → served_in f.words ≡ None
   pub no_words : served_in f.words ≡ None → (result ≡ status.Words) ⊎ (result ≡ status.WriteFault)
   pub image : result ≡ status.Image → IsAtFault f
   pub wrong : (image : List ℕ) → f.first.bytes ≡ Some image → IsWrong (served_in f.words) f image → AreCalm (served_in f.words) f → Calm o n → (result ≡ status.Image) ⊎ (result ≡ status.Memory)
   pub second : (image : List ℕ) → f.second.bytes ≡ Some image → IsSecondWrong (served_in f.words) image → AreCalm (served_in f.words) f → Calm o n → (result ≡ status.Image) ⊎ (result ≡ status.Memory)
-  pub rig : result ≡ status.RigFault → StoreRose (served_in f.words) f
+  pub rig : result ≡ status.RigFault → StoreRose (served_in f.words) f ⊎ ((uses_rig (served_in f.words) ≡ true) × Rose f.rig.seen.faults f.rig_after.seen.faults)
   pub sink : result ≡ status.WriteFault → Rose o n
-  pub input : result ≡ status.Input → IsDumpAtFault f ⊎ IsScriptAtFault f
+  pub input : result ≡ status.Input → IsDumpAtFault f ⊎ (IsScriptAtFault f ⊎ CameTo status.Input f)
   pub dump : (image : List ℕ) → f.first.bytes ≡ Some image → IsWrongDump (served_in f.words) f image → AreCalm (served_in f.words) f → Calm o n → (result ≡ status.Input) ⊎ (result ≡ status.Memory)
   pub reads : result ≡ status.ReadFault → Rose f.reads f.reads_after
 
@@ -267,7 +281,7 @@ abbrev pub IsComplete : Facts → ℕ → ℕ → Status → Type 0
 IsComplete f o n result =
     (image : List ℕ) → f.first.bytes ≡ Some image → IsRight (served_in f.words) f image → AreCalm (served_in f.words) f → Calm o n → IsDone result ⊎ (result ≡ status.Memory)
 
--- What a call carries, whatever its source, rig, stores and sink are: its verdict with the cause and its text, what was done, why it ended otherwise, what is as before, that nothing that is right is refused, and that a script is judged right.
+-- What a call carries, whatever its source, rig, stores and sink are: its verdict with the cause and its text, what was done, why it ended otherwise, what is as before, that nothing that is right is refused, that a script is judged right, what `vectors` answers to texts that are told, and that a right script that is run is explained.
 pub record Carries (f : Facts) (taken taken' : Option (List ℕ)) (o n : ℕ) (result : Status) : Type 0 where
   pub ended : Ended f taken taken' o n result
   pub done : IsDone result → DoneBy (served_in f.words) f taken taken' result
@@ -275,3 +289,5 @@ pub record Carries (f : Facts) (taken taken' : Option (List ℕ)) (o n : ℕ) (r
   pub kept : Keeps f
   pub complete : IsComplete f o n result
   pub judges : served_in f.words ≡ Some Judge → JudgesText f o n result
+  pub plays : served_in f.words ≡ Some Vectors → PlaysTexts f o n result
+  pub explains : served_in f.words ≡ Some Explain → ExplainsRun f o n result

@@ -1,7 +1,10 @@
 pub mod Statuses
 pub mod Calls
 pub mod Texts
+pub mod Outcomes
 pub mod Judging
+pub mod Vectors
+pub mod Explained
 pub mod Verdict
 pub mod Saying
 pub mod Headline

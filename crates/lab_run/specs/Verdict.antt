@@ -1,4 +1,4 @@
-use Rattle.std.specs.Prelude.{ℕ, ◌≡◌, ◌≤◌, ◌⊎◌, Bool, false, true, ltb, if◌then◌else◌, List, length, Option, Some, None, Result, Ok, Err}
+use Rattle.std.specs.Prelude.{ℕ, ◌≡◌, ◌≤◌, ◌⊎◌, Bool, false, true, ltb, if◌then◌else◌, List, length, take, Option, Some, None, Result, Ok, Err}
 use Rattle.dix_base.specs.Told.{Appended, AppendedSome, Becomes, Rose}
 use Rattle.dix_words.specs.Grammar.{image_in}
 use Rattle.block_lines.specs.UnitText.{units_text}
@@ -7,7 +7,7 @@ use Rattle.image_blocks.specs.Places.{spec_of}
 use Rattle.image_blocks.specs.declared.stretch.PlaceFault.{PlaceFault}
 use Rattle.image_blocks.specs.declared.stretch.Stretch.{Stretch}
 use Rattle.image_dumps.specs.Dumps.{fits}
-use Rattle.image_dumps.specs.Ends.{ImportEnds, dump_in}
+use Rattle.image_dumps.specs.Ends.{ImportEnds, KeepsOutside, dump_in}
 use Rattle.image_dumps.specs.declared.fault.DumpFault.{DumpFault}
 use Rattle.image_dumps.specs.declared.fault.DumpFault.TheVariants as dumping
 use Rattle.image_dumps.specs.declared.fault.ImportFault.{ImportFault}
@@ -25,13 +25,18 @@ use Rattle.lab_words.specs.declared.place.Place.{Place}
 use Rattle.rig_api.specs.Head.{Head, IsHeadOf, head_fault, units_of}
 use Rattle.rig_api.specs.Telling.{Opened}
 use Rattle.rig_api.specs.declared.rig.RigFault.{RigFault}
+use Rattle.target_answer.specs.Headers.{image_size}
 use Rattle.target_answer.specs.Image.{units_in}
 use Rattle.target_answer.specs.declared.units.UnitSpec.{UnitSpec}
 use Rattle.lab_run.specs.Calls.{Facts, Held, OpenedOnce, called_of, laid_as, second_in, served_in, stretch_in, uses_second}
 use Rattle.fault_marks.specs.Texts.{marked_text, right_text}
 use Rattle.script_text.specs.declared.fault.ScriptFault.{ScriptFault}
 use Rattle.script_text.specs.declared.script.Script.{Script}
+use Rattle.image_commands.specs.Views.{OpenedOnce as RigOpenedOnce}
+use Rattle.lab_run.specs.Explained.{HasExplained}
 use Rattle.lab_run.specs.Judging.{CauseNotJudged, HasJudged, HasScriptFault}
+use Rattle.lab_run.specs.Outcomes.{Outcome, ending_status}
+use Rattle.lab_run.specs.Vectors.{HasVectors}
 use Rattle.lab_run.specs.Texts.{help_text, imported_text, refusal_text, status_of, version_text}
 use Rattle.lab_run.specs.declared.refusal.Refusal.{Refusal}
 use Rattle.lab_run.specs.declared.refusal.Refusal.TheVariants as refusal
@@ -107,12 +112,13 @@ pub record HasExported (us : List UnitSpec) (at : Stretch) (layout : Layout) (bl
   pub found : HasFound us at place layout f
   pub has : HasBlocks us at blocks f.first.bytes
 
--- The dump of an `import` was taken so: what came of it, and what stands in the place and is left in the source.
+-- The dump of an `import` was taken so: what came of it, and what stands in the place and is left in the source. The store has the length of the units.
 pub record DumpTaken (result : Result ℕ ImportFault) (us : List UnitSpec) (at : Stretch) (place : Place) (layout : Layout) (f : Facts) : Type 0 where
   pub found : HasFound us at place layout f
   pub opened_faults : ℕ
   pub since : f.first.faults ≤ opened_faults
   pub ends : ImportEnds result (laid_as layout) us at 65536 opened_faults f.first_after.faults f.reads f.reads_after f.first.bytes f.first_after.bytes f.left f.left_after
+  pub len : f.first_after.len ≡ image_size us
 
 -- The dump is in the place: so many blocks of it, which are all that the place has.
 pub record HasImported (us : List UnitSpec) (at : Stretch) (count : ℕ) (layout : Layout) (f : Facts) : Type 0 where
@@ -283,6 +289,21 @@ CauseByCommand (Some Judge) r f = CauseNotJudged r f
 CauseByCommand (Some Explain) r f = ⊥
 CauseByCommand (Some (Sweep byte units)) r f = ⊥
 
+-- what a command came to that runs a script, by the command
+abbrev pub CauseRan : Option Command → Outcome → Facts → Type 0
+CauseRan None w f = ⊥
+CauseRan (Some Help) w f = ⊥
+CauseRan (Some Version) w f = ⊥
+CauseRan (Some ShowUnits) w f = ⊥
+CauseRan (Some (ShowBlocks place)) w f = ⊥
+CauseRan (Some (Diff one other)) w f = ⊥
+CauseRan (Some (Export place layout)) w f = ⊥
+CauseRan (Some (Import place layout)) w f = ⊥
+CauseRan (Some Vectors) w f = HasVectors w f
+CauseRan (Some Judge) w f = ⊥
+CauseRan (Some Explain) w f = HasExplained w f
+CauseRan (Some (Sweep byte units)) w f = ⊥
+
 -- ---- the call
 
 -- what a call comes to
@@ -297,6 +318,7 @@ pub data Verdict : Type 0 where
   Imported : List UnitSpec → Stretch → (count : ℕ) → Layout → Verdict
   Judged : Script → Verdict
   Marked : (text : List ℕ) → ScriptFault → Verdict
+  Ran : Outcome → Verdict
 
 -- the status of a command that was done, by whether something was found
 abbrev pub done_status : Bool → Status
@@ -339,6 +361,7 @@ verdict_status (Exported us at layout blocks) = status.Whole
 verdict_status (Imported us at count layout) = status.Whole
 verdict_status (Judged script) = status.Whole
 verdict_status (Marked text bad) = status.Input
+verdict_status (Ran w) = ending_status w.ending
 
 abbrev pub verdict_text : Verdict → List ℕ
 verdict_text (Refused r) = refusal_text r
@@ -351,6 +374,7 @@ verdict_text (Exported us at layout blocks) = dump_in (laid_as layout) us at blo
 verdict_text (Imported us at count layout) = imported_text count
 verdict_text (Judged script) = right_text script
 verdict_text (Marked text bad) = marked_text text bad
+verdict_text (Ran w) = w.text
 
 abbrev pub Cause : Verdict → Facts → Type 0
 Cause (Refused r) f = CauseByCommand (served_in f.words) r f
@@ -363,6 +387,7 @@ Cause (Exported us at layout blocks) f = HasExported us at layout blocks f
 Cause (Imported us at count layout) f = HasImported us at count layout f
 Cause (Judged script) f = HasJudged script f
 Cause (Marked text bad) f = HasScriptFault text bad f
+Cause (Ran w) f = CauseRan (served_in f.words) w f
 
 -- The text was written whole, and the status is the verdict's; or the sink failed, and a prefix of the text was written.
 abbrev pub Written : Status → List ℕ → Option (List ℕ) → Option (List ℕ) → ℕ → ℕ → Status → Type 0
@@ -381,8 +406,9 @@ BrokeOff (Exported us at layout blocks) f old new result = (result ≡ status.Ri
 BrokeOff (Imported us at count layout) f old new result = ⊥
 BrokeOff (Judged script) f old new result = ⊥
 BrokeOff (Marked text bad) f old new result = ⊥
+BrokeOff (Ran w) f old new result = ⊥
 
--- The source is as before, but where the command reads it, as `import` and `explain` do.
+-- The source is as before, but where the command reads it, as `import` does and what takes a script.
 abbrev pub KeepsSource : Option Command → Facts → Type 0
 KeepsSource None f = (f.left_after ≡ f.left) × (f.reads_after ≡ f.reads)
 KeepsSource (Some Help) f = (f.left_after ≡ f.left) × (f.reads_after ≡ f.reads)
@@ -392,21 +418,53 @@ KeepsSource (Some (ShowBlocks place)) f = (f.left_after ≡ f.left) × (f.reads_
 KeepsSource (Some (Diff one other)) f = (f.left_after ≡ f.left) × (f.reads_after ≡ f.reads)
 KeepsSource (Some (Export place layout)) f = (f.left_after ≡ f.left) × (f.reads_after ≡ f.reads)
 KeepsSource (Some (Import place layout)) f = f.reads ≤ f.reads_after
-KeepsSource (Some Vectors) f = (f.left_after ≡ f.left) × (f.reads_after ≡ f.reads)
+KeepsSource (Some Vectors) f = f.reads ≤ f.reads_after
 KeepsSource (Some Judge) f = f.reads ≤ f.reads_after
-KeepsSource (Some Explain) f = (f.left_after ≡ f.left) × (f.reads_after ≡ f.reads)
+KeepsSource (Some Explain) f = f.reads ≤ f.reads_after
 KeepsSource (Some (Sweep byte units)) f = (f.left_after ≡ f.left) × (f.reads_after ≡ f.reads)
+
+-- The rig's image was opened at most once, by the name of the words.
+abbrev pub OpensRig : Facts → Type 0
+OpensRig f = RigOpenedOnce (image_in f.words) f.rig.standing f.rig_after.standing × (f.rig.seen.faults ≤ f.rig_after.seen.faults)
+
+-- The rig is as before, but where the command uses it.
+abbrev pub KeepsRig : Option Command → Facts → Type 0
+KeepsRig None f = f.rig_after ≡ f.rig
+KeepsRig (Some Help) f = f.rig_after ≡ f.rig
+KeepsRig (Some Version) f = f.rig_after ≡ f.rig
+KeepsRig (Some ShowUnits) f = f.rig_after ≡ f.rig
+KeepsRig (Some (ShowBlocks place)) f = f.rig_after ≡ f.rig
+KeepsRig (Some (Diff one other)) f = f.rig_after ≡ f.rig
+KeepsRig (Some (Export place layout)) f = f.rig_after ≡ f.rig
+KeepsRig (Some (Import place layout)) f = f.rig_after ≡ f.rig
+KeepsRig (Some Vectors) f = OpensRig f
+KeepsRig (Some Judge) f = f.rig_after ≡ f.rig
+KeepsRig (Some Explain) f = OpensRig f
+KeepsRig (Some (Sweep byte units)) f = f.rig_after ≡ f.rig
 
 -- All blocks outside of the stretch are as before: the units are those of before, with some blocks of their length at its front.
 abbrev pub AreOthersKept : List UnitSpec → Stretch → (image image_after : Option (List ℕ)) → Type 0
 AreOthersKept us at image image_after = Becomes (λ was is. (left : List (List ℕ)) × (length left ≤ at.count) × (units_in us is ≡ with_stretch (units_in us was) at left)) image image_after
 
--- Each byte that the image tells is as before, or the image has the place, and each block outside of it is as before.
-abbrev pub KeepsOthers : Place → Facts → Type 0
-KeepsOthers place f =
-    (f.first_after.bytes ≡ f.first.bytes) ⊎ ((us : List UnitSpec) × (at : Stretch) × HasOpened us f × (stretch_in us place ≡ Ok at) × AreOthersKept us at f.first.bytes f.first_after.bytes)
+-- The first 512 bytes, in which the head stands, are as before.
+abbrev pub KeepsHead : (image image_after : Option (List ℕ)) → Type 0
+KeepsHead image image_after = Becomes (λ was is. take 512 is ≡ take 512 was) image image_after
 
--- Each byte that the image tells is as before; `import` keeps the blocks outside of its place.
+-- The image has the place, and is as before around it: each block, each byte and the length; and its head.
+pub record KeepsAround (place : Place) (f : Facts) : Type 0 where
+  pub units : List UnitSpec
+  pub at : Stretch
+  pub opened : HasOpened units f
+  pub there : stretch_in units place ≡ Ok at
+  pub others : AreOthersKept units at f.first.bytes f.first_after.bytes
+  pub outside : KeepsOutside units at f.first.bytes f.first_after.bytes
+  pub head : KeepsHead f.first.bytes f.first_after.bytes
+
+-- Each byte that the image tells is as before, or each outside of the place.
+abbrev pub KeepsOthers : Place → Facts → Type 0
+KeepsOthers place f = (f.first_after.bytes ≡ f.first.bytes) ⊎ KeepsAround place f
+
+-- Each byte that the image tells is as before; `import` keeps those outside of its place.
 abbrev pub KeepsImage : Option Command → Facts → Type 0
 KeepsImage None f = f.first_after.bytes ≡ f.first.bytes
 KeepsImage (Some Help) f = f.first_after.bytes ≡ f.first.bytes
@@ -426,10 +484,10 @@ abbrev pub KeepsSecond : Facts → Type 0
 KeepsSecond f =
     (f.second_after ≡ f.second) ⊎ ((uses_second (served_in f.words) ≡ true) × (f.second_after.bytes ≡ f.second.bytes) × OpenedOnce (second_in f.words) f.second f.second_after × (f.second.faults ≤ f.second_after.faults))
 
--- Each object that the command doesn't use is as before: the rig, but for `diff` the second store and, but for `import` and `explain`, the source. So is each byte that a store tells; after an `import`, each block outside of its place. Each store is opened at most once, by its image's name.
+-- Each object that the command doesn't use is as before: but for `vectors` and `explain IMAGE` the rig, but for `diff` the second store and, but for `import` and what takes a script, the source. So is each byte that a store tells; after an `import`, each block outside of its place. Each image is opened at most once, by its name.
 pub record Keeps (f : Facts) : Type 0 where
   pub source : KeepsSource (served_in f.words) f
-  pub rig : f.rig_after ≡ f.rig
+  pub rig : KeepsRig (served_in f.words) f
   pub second : KeepsSecond f
   pub image : KeepsImage (served_in f.words) f
   pub openings : OpenedOnce (image_in f.words) f.first f.first_after

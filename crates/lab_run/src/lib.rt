@@ -1,12 +1,15 @@
 //! The top call of the program `dixlab`: shows the stored blocks of disk images, compares
-//! them, takes dumps of them out and in, and judges scripts.
+//! them, takes dumps of them out and in, does commands and writes their vectors, judges scripts and explains
+//! their runs.
 #![tactic(auto)]
 
 mod comparing;
 mod dumps;
+mod explaining;
 mod exporting;
 mod importing;
 mod judging;
+mod playing;
 mod program;
 mod refusal;
 mod showing;

@@ -9,9 +9,11 @@ ghost use Rattle.lab_run.specs.Texts.{help_text, refusal_text, status_of};
 ghost use Rattle.lab_run.specs.Verdict.{Written, done_status};
 
 use crate::comparing::diff;
+use crate::explaining::explain;
 use crate::exporting::export;
 use crate::importing::import;
 use crate::judging::judge;
+use crate::playing::vectors;
 use crate::refusal::Refusal;
 use crate::showing::{show_blocks, show_units};
 use crate::status::Status;
@@ -47,11 +49,12 @@ pub(crate) fn status_for(bad: bool) -> Status
 
 /// The text of `--help`.
 const HELP: &[u8] =
-    b"usage: dixlab show IMAGE [PLACE]\n       dixlab diff IMAGE PLACE IMAGE PLACE\n       dixlab export IMAGE PLACE LAYOUT > DUMP\n       dixlab import IMAGE PLACE LAYOUT < DUMP\n       dixlab explain < SCRIPT\nPLACE is DEV or DEV:FIRST:COUNT. LAYOUT is interleaved, plain or tuples.\nStatus: 0 good, 1 something found, 2 words, 3 input at fault, 4 image at fault,\n5 image failed, 6 no memory, 7 input failed, 8 output failed.\n";
+    b"usage: dixlab show IMAGE [PLACE]\n       dixlab diff IMAGE PLACE IMAGE PLACE\n       dixlab export IMAGE PLACE LAYOUT > DUMP\n       dixlab import IMAGE PLACE LAYOUT < DUMP\n       dixlab vectors IMAGE < SCRIPT or VECTORS\n       dixlab explain [IMAGE] < SCRIPT\nPLACE is DEV or DEV:FIRST:COUNT. LAYOUT is interleaved, plain or tuples.\nStatus: 0 good, 1 something found, 2 words, 3 input at fault, 4 image at fault,\n5 image failed, 6 no memory, 7 input failed, 8 output failed.\n";
 
 /// Runs the program on its words, without its own name: does the command that they are, and writes its
 /// text. `show` and `export` work on the first store, `diff` on both, `import` on the source and the first
-/// store, `explain` on the source. No command of this version uses another object.
+/// store, `vectors` on the source and the rig, `explain` on the source and, where it has an image, on the
+/// rig. `sweep` isn't done in this version.
 pub fn run<S: Source, R: Rig, A: Store, B: Store, O: Sink>(
     alloc: Global,
     words: &[String],
@@ -89,7 +92,9 @@ pub fn run<S: Source, R: Rig, A: Store, B: Store, O: Sink>(
         Command::Import { place, layout } => {
             import(alloc, words, place, layout, input, first, out)
         }
+        Command::Vectors => vectors(alloc, words, input, rig, out),
         Command::Judge => judge(alloc, words, input, out),
-        _ => refuse(out, Refusal::Words),
+        Command::Explain => explain(alloc, words, input, rig, out),
+        Command::Sweep { byte: _, units: _ } => refuse(out, Refusal::Words),
     }
 }

@@ -111,7 +111,7 @@ impl Refusal {
 
 /// The line of words that are not in the grammar.
 const USAGE: &[u8] =
-    b"usage: dixlab show IMAGE [PLACE], diff IMAGE PLACE IMAGE PLACE, export IMAGE PLACE LAYOUT, import IMAGE PLACE LAYOUT, explain, --help, --version\n";
+    b"usage: dixlab show IMAGE [PLACE], diff IMAGE PLACE IMAGE PLACE, export IMAGE PLACE LAYOUT, import IMAGE PLACE LAYOUT, vectors IMAGE, explain [IMAGE], --help, --version\n";
 
 fn plain_line(text: &[u8]) -> Line
     requires { length text.now ≤ 256 }

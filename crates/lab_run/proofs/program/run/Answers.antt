@@ -3,7 +3,7 @@ use Rattle.lab_words.specs.declared.command.Command.{Command}
 use Rattle.lab_run.specs.Calls.{served_by}
 use Rattle.lab_run.specs.Verdict.{Helped, Versioned}
 use Rattle.lab_run.proofs.Carrying.{carried}
-use Rattle.lab_run.proofs.Endings.{no_command, not_served, without_image}
+use Rattle.lab_run.proofs.Endings.{no_command, without_image}
 use Rattle.lab_run.proofs.program.run.Goals as goal
 
 pub returns-in_default : goal.returns-in_default
@@ -32,11 +32,16 @@ returns-in-Export g c = carried _ _ _ _ _ c.export.result (c.export.ensures _ _ 
 pub returns-in-Import : goal.returns-in-Import
 returns-in-Import g c = carried _ _ _ _ _ c.import.result (c.import.ensures _ _)
 
+pub returns-in-Vectors : goal.returns-in-Vectors
+returns-in-Vectors g c = carried _ _ _ _ _ c.vectors.result (c.vectors.ensures _ _)
+
 pub returns-in-Judge : goal.returns-in-Judge
 returns-in-Judge g c = carried _ _ _ _ _ c.judge.result (c.judge.ensures _ _ _)
 
-pub returns-in_default-command : goal.returns-in_default-command
-returns-in_default-command g c =
-    let other = not_served c.in-Some.command c.in_default-command.not-Help c.in_default-command.not-Version c.in_default-command.not-ShowUnits c.in_default-command.not-ShowBlocks c.in_default-command.not-Diff c.in_default-command.not-Export c.in_default-command.not-Import c.in_default-command.not-Judge in
-    carried _ _ _ _ _ c.refuse-in_default-command.result
-    (no_command _ _ _ _ _ _ _ _ _ _ c.refuse-in_default-command.result (ap served_by (sym c.command_of.ensures ∙ c.in-Some.is) ∙ other) c.refuse-in_default-command.ensures)
+pub returns-in-Explain : goal.returns-in-Explain
+returns-in-Explain g c = carried _ _ _ _ _ c.explain.result (c.explain.ensures _ _)
+
+pub returns-in-Sweep : goal.returns-in-Sweep
+returns-in-Sweep g c =
+    carried _ _ _ _ _ c.refuse-in-Sweep.result
+    (no_command _ _ _ _ _ _ _ _ _ _ c.refuse-in-Sweep.result (ap served_by (sym c.command_of.ensures ∙ c.in-Some.is ∙ ap (λ (x : Command). Some x) c.in-Sweep.is)) c.refuse-in-Sweep.ensures)
