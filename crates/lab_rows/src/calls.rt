@@ -61,8 +61,14 @@ fn exit<S: Source, R: Rig, A: Store, B: Store, O: Sink>(
     run(alloc, words, input, rig, first, second, out).number()
 }
 
-fn no_store(alloc: Global) -> MemStore {
-    MemStore::new(Vec::new(alloc), Vec::new(alloc))
+/// A store with these bytes, which fails as the line with this mark says.
+fn store_of(
+    alloc: Global,
+    lines: &[String],
+    image: &Vec<u8>,
+    mark: &str,
+) -> Result<MemStore, AllocError> {
+    Ok(MemStore::new(image.clone()?, numbers(alloc, lines, mark)?))
 }
 
 /// A sink with the room that a row says, which fails as it says.
@@ -84,9 +90,9 @@ pub(crate) fn came_over(
         source(alloc, lines)?,
         numbers(alloc, lines, "source-fails")?,
     );
-    let mut rig = ImageRig::new(alloc, no_store(alloc));
-    let mut first = MemStore::new(before.clone()?, numbers(alloc, lines, "store-fails")?);
-    let mut second = MemStore::new(beside.clone()?, numbers(alloc, lines, "second-fails")?);
+    let mut rig = ImageRig::new(alloc, store_of(alloc, lines, &before, "rig-fails")?);
+    let mut first = store_of(alloc, lines, &before, "store-fails")?;
+    let mut second = store_of(alloc, lines, &beside, "second-fails")?;
     let mut sink = sink_in(alloc, lines)?;
     let status = exit(
         alloc,
@@ -100,7 +106,8 @@ pub(crate) fn came_over(
     Ok(Came {
         status,
         text: Vec::from_slice(alloc, sink.bytes())?,
-        is_left: first.bytes() == image_after(alloc, lines, &before)?.as_slice()
+        is_left: first.bytes() == image_after(alloc, lines, &before, "then")?.as_slice()
+            && rig.store().bytes() == image_after(alloc, lines, &before, "rig")?.as_slice()
             && second.bytes() == beside.as_slice(),
     })
 }

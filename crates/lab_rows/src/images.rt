@@ -73,16 +73,18 @@ pub(crate) fn second_in(
     Ok(image)
 }
 
-/// The image that a row's call leaves: that of before, with the bytes that the row says in their places.
+/// The image that a row's call leaves in a store or in the rig: that of before, with the bytes that the lines with this
+/// mark say in their places.
 pub(crate) fn image_after(
     alloc: Global,
     lines: &[String],
     before: &[u8],
+    mark: &str,
 ) -> Result<Vec<u8>, AllocError> {
     let mut image = Vec::from_slice(alloc, before)?;
     for line in lines {
         let (word, rest) = cut(line.as_str());
-        if word == "then" {
+        if word == mark {
             change(alloc, &mut image, "put", rest)?;
         }
     }

@@ -1,14 +1,14 @@
 //! The lines of a row by their first words, their marks.
 
-use row_table::{bytes_of, cut};
+use row_table::{bytes_of, cut, hex_of};
 use std::alloc::{AllocError, Global};
 
 /// The marks of lines of images.
-const IMAGE_MARKS: &str = "put cut more second-put second-cut second-more then";
+const IMAGE_MARKS: &str = "put cut more second-put second-cut second-more then rig";
 
 /// The marks of other lines.
 const CALL_MARKS: &str =
-    "$ in < source-fails store-fails second-fails sink-fails room each status > >/ out";
+    "$ in < <* source-fails store-fails second-fails rig-fails sink-fails room each status > >* >/ out";
 
 fn is_one_of(word: &str, marks: &str) -> bool {
     for mark in marks.split(' ') {
@@ -61,6 +61,22 @@ pub(crate) fn add_line(text: &mut Vec<u8>, line: &str) -> Result<(), AllocError>
     Ok(())
 }
 
+/// One more line of a text, which has the digits of the bytes for each word with a `*`.
+fn add_long_line(alloc: Global, text: &mut Vec<u8>, line: &str) -> Result<(), AllocError> {
+    for (i, word) in line.split(' ').enumerate() {
+        if i > 0 {
+            text.push(b' ')?;
+        }
+        if word.contains('*') {
+            text.extend_from_slice(hex_of(alloc, &bytes_of(alloc, word)?)?.as_bytes())?;
+        } else {
+            text.extend_from_slice(word.as_bytes())?;
+        }
+    }
+    text.push(b'\n')?;
+    Ok(())
+}
+
 /// What the source gives: the lines and the bytes that a row says, in their order.
 pub(crate) fn source(alloc: Global, lines: &[String]) -> Result<Vec<u8>, AllocError> {
     let mut text = Vec::new(alloc);
@@ -68,6 +84,8 @@ pub(crate) fn source(alloc: Global, lines: &[String]) -> Result<Vec<u8>, AllocEr
         let (word, rest) = cut(line.as_str());
         if word == "<" {
             add_line(&mut text, rest)?;
+        } else if word == "<*" {
+            add_long_line(alloc, &mut text, rest)?;
         } else if word == "in" {
             text.extend_from_slice(&bytes_of(alloc, rest)?)?;
         }
@@ -83,6 +101,8 @@ pub(crate) fn text(alloc: Global, lines: &[String]) -> Result<Vec<u8>, AllocErro
         let (word, rest) = cut(line.as_str());
         if word == ">" {
             add_line(&mut text, rest)?;
+        } else if word == ">*" {
+            add_long_line(alloc, &mut text, rest)?;
         } else if word == ">/" {
             text.extend_from_slice(rest.as_bytes())?;
         } else if word == "out" {
