@@ -55,3 +55,17 @@ median_of() { awk -F '\t' -v name="$1" '$1 == name { print $2 }' "$place/rounds"
 least_of() { awk -F '\t' -v name="$1" '$1 == name { print $2 }' "$place/rounds" | sort -n | head -1; }
 
 ratio() { awk -v a="$1" -v b="$2" 'BEGIN { printf "%.2f", a / b }'; }
+
+# A script of so many writes and then as many reads, each of so many blocks, over whole pages of its own as far as there are pages.
+spread() {
+    awk -v requests="$1" -v blocks="$2" 'BEGIN {
+        pages = blocks / 8
+        print "dix 1\nmode crc on on 1\nlimits 1024 1024 16\npages 256\nlinear 0 8192 dev 0 at 0\nbegin"
+        for (way = 0; way < 2; way++)
+            for (i = 0; i < requests; i++) {
+                list = ""
+                for (p = 0; p < pages; p++) list = list (p ? "," : "") (i * pages + p) % 256 ":0:4096"
+                print (way ? "read " : "write ") i * blocks " " blocks " " list
+            }
+    }'
+}

@@ -15,19 +15,6 @@ script() {
     }'
 }
 
-# The same where each request has pages of its own, as far as there are pages.
-spread() {
-    awk -v requests="$1" -v blocks="$2" 'BEGIN {
-        pages = blocks / 8
-        print "dix 1\nmode crc on on 1\nlimits 1024 1024 16\npages 256\nlinear 0 8192 dev 0 at 0\nbegin"
-        for (way = 0; way < 2; way++)
-            for (i = 0; i < requests; i++) {
-                list = ""
-                for (p = 0; p < pages; p++) list = list (p ? "," : "") (i * pages + p) % 256 ":0:4096"
-                print (way ? "read " : "write ") i * blocks " " blocks " " list
-            }
-    }'
-}
 run() { "$DIX" run "$image" <"$1"; }
 moved() {
     dd if="$image" of="$place/blocks" bs=520 count="$1"
