@@ -1,0 +1,106 @@
+use Rattle.std.proofs.Common.{◌≡◌, ℕ, ◌+◌, ◌-◌, ◌<◌, [], refl, ap, subst, arith}
+use Rattle.report_text.proofs.Flow.{Left, at_end, at_start, breaks_off, goes_on, on_err, stops}
+use Rattle.flip_sweep.specs.Ground.{swept_in}
+use Rattle.flip_sweep.specs.Rows.{next_open, row, row_before}
+use Rattle.flip_sweep.specs.Swept.{rows_at}
+use Rattle.flip_sweep.specs.declared.stretch.Stretch.{Stretch}
+use Rattle.flip_sweep.proofs.Rowing.{small_less}
+use Rattle.flip_sweep.proofs.Sweeping.{counted_first, counted_last, counted_next, last_on, open_rows, rows_first, rows_last, rows_next, small_first, small_on}
+use Rattle.flip_sweep.proofs.sweep.sweep_site.Goals as goal
+
+pub frame_len-len-requires : goal.frame_len-len-requires
+frame_len-len-requires g c = c.requires.base.sound
+
+pub returns-in_default-clause-part : goal.returns-in_default-clause-part
+returns-in_default-clause-part g c =
+    let all = rows_at (swept_in c.args.base.now) c.args.site in
+    stops all all _ _ _ (at_start all (g.O.Sink.taken c.args.out.now)) refl
+
+pub with-counted-requires : goal.with-counted-requires
+with-counted-requires g c = small_less c.args.counts (c.args.base.now.script.now.block + 8) 1 (omega arith) c.requires.small
+
+pub loop-current-init : goal.loop-current-init
+loop-current-init g c =
+    let w = swept_in c.args.base.now in
+    let at = c.args.site in
+    let s = c.in-Ok.opened in
+    let taken = g.O.Sink.taken c.args.out.now in
+    let none : s.last ≡ 0 = ap (λ (x : Stretch). x.last) c.in-Ok.ensures in
+    record {
+      rows = subst (λ t. Left (rows_at w at) t taken taken) (rows_first w at s c.in-Ok.ensures) (at_start (rows_at w at) taken);
+      counted = counted_first w at s c.args.counts c.with-counted.result c.in-Ok.ensures c.with-counted.ensures;
+      small = small_first w at s c.args.counts c.with-counted.result c.in-Ok.ensures c.with-counted.ensures c.requires.small;
+      within = omega (arith, none);
+      count = omega arith;
+    }
+
+pub returns-in_default-verdict_at-clause-part : goal.returns-in_default-verdict_at-clause-part
+returns-in_default-verdict_at-clause-part g c =
+    let w = swept_in c.args.base.now in
+    stops (rows_at w c.args.site) (open_rows w c.args.site c.loop-current.current) _ _ _ c.loop-current.invariant.rows refl
+
+pub returns-in_err-next-clause-part : goal.returns-in_err-next-clause-part
+returns-in_err-next-clause-part g c =
+    let w = swept_in c.args.base.now in
+    let at = c.args.site in
+    let s = c.loop-current.current in
+    let v = c.in-Ok-verdict_at.verdict in
+    on_err c.from_residual.result (breaks_off (rows_at w at) (row_before at s v) (open_rows w at (next_open s v)) _ _ _
+    (subst (λ t. Left (rows_at w at) t (g.O.Sink.taken c.args.out.now) (g.O.Sink.taken c.loop-current.out)) (rows_next w at s (next_open s v) v c.in-Ok-verdict_at.ensures (omega (arith, c.loop-current-test.true, c.frame_len-len.ensures.len)) refl) c.loop-current.invariant.rows)
+    c.in_err-next.ensures.part)
+
+pub with-more-requires : goal.with-more-requires
+with-more-requires g c =
+    small_less c.loop-current.counted (c.args.base.now.script.now.block + 8 - (c.loop-current.current.last + 1)) 1 (omega (arith, c.loop-current-test.true, c.frame_len-len.ensures.len)) c.loop-current.invariant.small
+
+pub loop-current-preserved : goal.loop-current-preserved
+loop-current-preserved g c =
+    let w = swept_in c.args.base.now in
+    let at = c.args.site in
+    let s = c.loop-current.current in
+    let next = c.in_ok-next.next in
+    let v = c.in-Ok-verdict_at.verdict in
+    let inv = c.loop-current.invariant in
+    let l : s.last + 1 < w.script.block + 8 = omega (arith, c.loop-current-test.true, c.frame_len-len.ensures.len) in
+    record {
+      rows = goes_on (rows_at w at) (row_before at s v) (open_rows w at next) _ _ _
+          (subst (λ t. Left (rows_at w at) t (g.O.Sink.taken c.args.out.now) (g.O.Sink.taken c.loop-current.out)) (rows_next w at s next v c.in-Ok-verdict_at.ensures l c.in_ok-next.ensures.current) inv.rows) c.in_ok-next.ensures.whole;
+      counted = counted_next w at s next v c.loop-current.counted c.with-more.result _ c.in-Ok-verdict_at.ensures l c.in_ok-next.ensures.current c.with-more.ensures inv.counted;
+      small = small_on w s next v c.loop-current.counted c.with-more.result l c.in_ok-next.ensures.current c.with-more.ensures inv.small;
+      within = omega (arith, last_on w s next v l c.in_ok-next.ensures.current, l);
+      count = omega (arith, c.go_on.ensures.count, inv.count);
+    }
+
+less_left : (len last next : ℕ) → next ≡ last + 1 → last + 1 < len → len - next < len - last
+less_left len last next e l = omega (arith, e, l)
+
+pub loop-current-smaller : goal.loop-current-smaller
+loop-current-smaller g c =
+    let w = swept_in c.args.base.now in
+    let s = c.loop-current.current in
+    let next = c.in_ok-next.next in
+    let l : s.last + 1 < w.script.block + 8 = omega (arith, c.loop-current-test.true, c.frame_len-len.ensures.len) in
+    less_left (w.script.block + 8) s.last next.last (last_on w s next c.in-Ok-verdict_at.verdict l c.in_ok-next.ensures.current) l
+
+pub returns-in_err-write_row-clause-part : goal.returns-in_err-write_row-clause-part
+returns-in_err-write_row-clause-part g c =
+    let w = swept_in c.args.base.now in
+    let at = c.args.site in
+    let s = c.loop-current.current in
+    on_err c.from_residual-in_err-write_row.result (breaks_off (rows_at w at) (row at s) [] _ _ _
+    (subst (λ t. Left (rows_at w at) t (g.O.Sink.taken c.args.out.now) (g.O.Sink.taken c.loop-current.out)) (rows_last w at s (omega (arith, c.loop-current-test.false, c.frame_len-len.ensures.len))) c.loop-current.invariant.rows)
+    c.in_err-write_row.ensures.part)
+
+pub returns-clause-counts : goal.returns-clause-counts
+returns-clause-counts g c =
+    let w = swept_in c.args.base.now in
+    counted_last w c.args.site c.loop-current.current c.loop-current.counted _ (omega (arith, c.loop-current-test.false, c.frame_len-len.ensures.len)) c.loop-current.invariant.counted
+
+pub returns-clause-whole : goal.returns-clause-whole
+returns-clause-whole g c =
+    let w = swept_in c.args.base.now in
+    let at = c.args.site in
+    let s = c.loop-current.current in
+    at_end (rows_at w at) [] _ _ (goes_on (rows_at w at) (row at s) [] _ _ _
+    (subst (λ t. Left (rows_at w at) t (g.O.Sink.taken c.args.out.now) (g.O.Sink.taken c.loop-current.out)) (rows_last w at s (omega (arith, c.loop-current-test.false, c.frame_len-len.ensures.len))) c.loop-current.invariant.rows)
+    c.in_ok-write_row.ensures.whole) refl
