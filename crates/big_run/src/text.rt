@@ -7,7 +7,7 @@ ghost use Rattle.big_run.specs.Text.{big_text, counts_text, end_text};
 
 use crate::counting::OpCounts;
 use crate::running::BigRun;
-use script_verdict::{Line, add, add_number};
+use report_text::{Line, add, add_number};
 
 /// A space and the decimal digits of a number.
 fn add_count(text: &mut Line, number: u64)

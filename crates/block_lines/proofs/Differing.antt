@@ -1,3 +1,4 @@
+-- The lines of the blocks that differ are taken apart block by block, and each tells what differs.
 use Rattle.std.proofs.Common.{ℕ, ◌⊎◌, inl, inr, suc, zero, ◌≡◌, ◌+◌, ◌-◌, ◌<◌, Bool, true, false, not, if◌then◌else◌, ◌||◌, ◌&&◌, eqb, List, [], ◌∷◌, ◌++◌, take, drop, refl, sym, ap, ◌∙◌, arith}
 use Rattle.std.proofs.lemmas.Bool.{eq-eqb}
 use Rattle.std.proofs.lemmas.Bool.Decides.{eqb_tells}

@@ -1,3 +1,4 @@
+-- The lines of `show` tell a fault exactly where a scrub lists the block.
 use Rattle.std.proofs.Common.{ℕ, ◌≡◌, ◌+◌, Bool, true, false, if◌then◌else◌, List, [], ◌∷◌, Option, Some, None, refl}
 use Rattle.pi_guard.specs.Guards.{crc}
 use Rattle.pi_tuple.specs.Finds.{asked_of, first_of, is_escaped}

@@ -1,3 +1,4 @@
+-- The lines of blocks are taken apart block by block, and so is the number of those at fault.
 use Rattle.std.proofs.Common.{ℕ, suc, zero, ◌≡◌, ◌+◌, ◌-◌, ◌*◌, ◌<◌, ◌≤◌, Bool, true, false, List, ◌∷◌, ◌++◌, length, take, drop, get_or, is_some, Option, Some, None, refl, sym, ap, ◌∙◌, arith, add-one, drop-cons}
 use Rattle.std.proofs.lemmas.List.{length-append, length-drop}
 use Rattle.pi_scrub.specs.Faults.{faults_from, listed, stored_finding}

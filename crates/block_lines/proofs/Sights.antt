@@ -1,3 +1,4 @@
+-- The pieces that are written of a block, one behind another, are its line.
 use Rattle.std.proofs.Common.{ℕ, ◌≡◌, Bool, true, false, if◌then◌else◌, List, ◌++◌, codes, is_some, Option, Some, None, refl, ap, ◌∙◌, append_assoc}
 use Rattle.pi_guard.specs.Guards.{crc}
 use Rattle.pi_tuple.specs.Finds.{asked_of, first_of, is_escaped, is_zero}

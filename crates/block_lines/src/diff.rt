@@ -1,17 +1,16 @@
 //! The text that tells in which blocks two places differ.
 
-ghost use Rattle.std.specs.Prelude.{◌≡◌, ◌+◌, ◌*◌, ◌^◌, ◌<◌, ◌≤◌, ◌++◌, IfOk, OnErr, OnOk, length};
+ghost use Rattle.std.specs.Prelude.{◌≡◌, ◌+◌, ◌*◌, ◌^◌, ◌<◌, ◌≤◌, ◌++◌, true, IfOk, OnErr, OnOk, length};
 ghost use Rattle.pi_tuple.specs.Tuples.{tuple_in};
 ghost use Rattle.dix_base.specs.Told.{Appended, AppendedSome, Rose};
 ghost use Rattle.target_answer.specs.Frames.{frames_of, stored_size};
 ghost use Rattle.block_lines.specs.DiffText.{compared_line, count_differ, counted_tag, diff_first, diff_line, diff_lines, differences, differs, have_tuples, line_of, side_text, tuples_differ, what_text, word_if};
 
-use crate::line::{Line, add, add_number};
 use crate::show::{counted, stored_len};
 use crate::sight::{is_zero, tuple_in};
 use dix_base::{Failed, Sink};
 use pi_tuple::{PiType, Tuple, has_ref_tag, ref_tag};
-use report_text::write_all;
+use report_text::{Line, add, add_number, write_all};
 use target_answer::UnitSpec;
 
 /// Two units whose blocks are compared, with their numbers.
@@ -153,39 +152,18 @@ fn add_side(line: &mut Line, dev: u32, lba: u64)
     add_number(line, lba);
 }
 
-/// The line of two blocks that differ; none where nothing does.
-fn add_line(line: &mut Line, pair: Pair, lba: u64, other: u64, found: WhatDiffers)
-    requires { length line.old.items ≤ 16 }
-    ensures { line.new.items ≡ line.old.items ++ line_of pair lba other found }
+/// The line of two blocks that differ.
+fn difference_line(pair: Pair, lba: u64, other: u64, found: WhatDiffers) -> Line
+    requires { differs found ≡ true }
+    ensures { result.items ≡ line_of pair lba other found }
 {
-    if !differs(found) {
-        return;
-    }
-    add_side(line, pair.dev, lba);
-    add(line, b" ");
-    add_side(line, pair.other_dev, other);
-    add_what(line, found);
-    add(line, b"\n");
-}
-
-/// Puts the line of two stored blocks that differ behind the line, and says whether they do.
-pub fn add_difference(
-    line: &mut Line,
-    pair: Pair,
-    lba: u64,
-    other: u64,
-    one: &[u8],
-    two: &[u8],
-) -> bool
-    requires room { length line.old.items ≤ 16 }
-    requires one { length one.now ≡ stored_size pair.unit.ty pair.unit.size }
-    requires two { length two.now ≡ stored_size pair.other_unit.ty pair.other_unit.size }
-    ensures items { line.new.items ≡ line.old.items ++ diff_line pair lba other one.now two.now }
-    ensures differ { result ≡ differs (differences pair lba other one.now two.now) }
-{
-    let found = differences(pair, lba, other, one, two);
-    add_line(line, pair, lba, other, found);
-    differs(found)
+    let mut line = Line::new();
+    add_side(&mut line, pair.dev, lba);
+    add(&mut line, b" ");
+    add_side(&mut line, pair.other_dev, other);
+    add_what(&mut line, found);
+    add(&mut line, b"\n");
+    line
 }
 
 /// Writes the first line.
@@ -196,6 +174,32 @@ pub fn write_diff_first<O: Sink>(out: &mut O) -> Result<(), Failed>
     ensures count { O.faults out.old ≤ O.faults out.new }
 {
     write_all(out, b"dix diff 1\n")
+}
+
+/// Writes the line of two stored blocks where they differ, and says whether they do.
+fn write_difference<O: Sink>(
+    out: &mut O,
+    pair: Pair,
+    lba: u64,
+    other: u64,
+    one: &[u8],
+    two: &[u8],
+) -> Result<bool, Failed>
+    requires one { length one.now ≡ stored_size pair.unit.ty pair.unit.size }
+    requires two { length two.now ≡ stored_size pair.other_unit.ty pair.other_unit.size }
+    ensures differ { IfOk result (λ is_other. is_other ≡ differs (differences pair lba other one.now two.now)) }
+    ensures whole { OnOk result (Appended (diff_line pair lba other one.now two.now) (O.taken out.old) (O.taken out.new)) }
+    ensures part { OnErr result (AppendedSome (diff_line pair lba other one.now two.now) (O.taken out.old) (O.taken out.new)) }
+    ensures cause { OnErr result (Rose (O.faults out.old) (O.faults out.new)) }
+    ensures count { O.faults out.old ≤ O.faults out.new }
+{
+    let found = differences(pair, lba, other, one, two);
+    if !differs(found) {
+        return Ok(false);
+    }
+    let line = difference_line(pair, lba, other, found);
+    write_all(out, line.as_slice())?;
+    Ok(true)
 }
 
 /// Writes a line for each of so many pairs of stored blocks that differ, the first of which have these
@@ -230,9 +234,7 @@ pub fn write_differences<O: Sink>(
     while left > 0 {
         let (one, more) = rest.split_at(len);
         let (two, other_more) = other_rest.split_at(other_len);
-        let mut line = Line::new();
-        let is_other = add_difference(&mut line, pair, lba, other, one, two);
-        write_all(out, line.as_slice())?;
+        let is_other = write_difference(out, pair, lba, other, one, two)?;
         differ = counted(differ, is_other);
         rest = more;
         other_rest = other_more;

@@ -8,11 +8,8 @@ mod show;
 mod sight;
 mod unit;
 
-pub use diff::{
-    Pair, WhatDiffers, add_difference, write_compared, write_diff_first, write_differences,
-};
+pub use diff::{Pair, WhatDiffers, write_compared, write_diff_first, write_differences};
 pub use laws::{nothing_differs, show_lists_what_a_scrub_lists};
-pub use line::{Line, add, add_number};
 pub use show::{write_blocks, write_first, write_last};
 pub use sight::{Verdict, add_block};
 pub use unit::write_units;

@@ -1,35 +1,12 @@
-//! Short pieces of text.
+//! Hexadecimal digits of a few bytes.
 
-ghost use Rattle.std.specs.Prelude.{◌≡◌, ◌+◌, ◌*◌, ◌≤◌, ◌++◌, length, decimal};
+ghost use Rattle.std.specs.Prelude.{◌≡◌, ◌+◌, ◌*◌, ◌≤◌, ◌++◌, length};
 ghost use Rattle.hex.specs.Hex.{encode_lower};
 
-use arrayvec::ArrayVec;
+use report_text::{Line, add};
 
-/// A piece of text of at most 512 bytes, on the stack.
-pub type Line = ArrayVec<u8, 512>;
-
-/// Puts a piece behind the line.
-pub fn add(line: &mut Line, piece: &[u8])
-    requires { length line.old.items + length piece.now ≤ 512 }
-    ensures { line.new.items ≡ line.old.items ++ piece.now }
-{
-    match line.try_extend_from_slice(piece) {
-        Ok(()) => {}
-        Err(_) => unreachable!(),
-    }
-}
-
-/// Puts a number behind the line.
-pub fn add_number(line: &mut Line, number: u64)
-    requires { length line.old.items + 40 ≤ 512 }
-    ensures items { line.new.items ≡ line.old.items ++ decimal number }
-    ensures bound { length line.new.items ≤ length line.old.items + 40 }
-{
-    let mut buffer = itoa::Buffer::new();
-    add(line, buffer.format(number).as_bytes());
-}
-
-/// Puts the bytes behind the line, as hexadecimal digits in lower case.
+/// Puts at most four bytes behind the line, as hexadecimal digits in lower case. Of a line for each block the room of more
+/// would cost what the line does.
 pub(crate) fn add_hex(line: &mut Line, bytes: &[u8])
     requires few { length bytes.now ≤ 4 }
     requires room { length line.old.items + 8 ≤ 512 }

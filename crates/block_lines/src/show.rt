@@ -5,11 +5,10 @@ ghost use Rattle.dix_base.specs.Told.{Appended, AppendedSome, Rose};
 ghost use Rattle.target_answer.specs.Frames.{frames_of, stored_size};
 ghost use Rattle.block_lines.specs.ShowText.{block_lines, count_bad, first_line, last_line, one_if};
 
-use crate::line::{Line, add, add_number};
 use crate::sight::add_block;
 use dix_base::{Failed, Sink};
 use pi_tuple::PiType;
-use report_text::write_all;
+use report_text::{Line, add, add_number, write_all};
 use target_answer::UnitSpec;
 
 /// The bytes of a stored block.

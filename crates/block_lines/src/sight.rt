@@ -9,9 +9,10 @@ ghost use Rattle.target_answer.specs.Frames.{data_of, stored_size, tuple_of};
 ghost use Rattle.target_answer.specs.Passing.{is_one};
 ghost use Rattle.block_lines.specs.Sights.{block_line, have_text, is_at_fault, ref_text, sight_text, tuple_text, verdict_by, verdict_of, verdict_text, want_text};
 
-use crate::line::{Line, add, add_hex, add_number};
+use crate::line::add_hex;
 use pi_guard::crc16;
 use pi_tuple::{Check, Checks, PiType, Tuple, finds, is_escape, ref_tag};
+use report_text::{Line, add, add_number};
 use target_answer::UnitSpec;
 
 /// What is found of a stored block.

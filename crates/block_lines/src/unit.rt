@@ -5,11 +5,10 @@ ghost use Rattle.dix_base.specs.Told.{Appended, AppendedSome, Rose};
 ghost use Rattle.target_answer.specs.Headers.{number_of};
 ghost use Rattle.block_lines.specs.UnitText.{unit_line, unit_lines, unit_word, units_text};
 
-use crate::line::{Line, add, add_number};
 use crate::show::write_first;
 use dix_base::{Failed, Sink};
 use pi_tuple::PiType;
-use report_text::write_all;
+use report_text::{Line, add, add_number, write_all};
 use target_answer::UnitSpec;
 
 fn number_of(ty: PiType) -> u64

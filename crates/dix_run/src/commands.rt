@@ -14,8 +14,8 @@ use crate::status::Status;
 use dix_base::Sink;
 use dix_words::{UnitList, image_of};
 use image_commands::{format_image, migrate_image, scrub_image};
+use report_text::{Line, add, add_number};
 use rig_api::Rig;
-use script_verdict::{Line, add, add_number};
 use std::alloc::Global;
 
 /// The line that says how many units were formatted or migrated.

@@ -12,7 +12,6 @@ mod refusal;
 mod running;
 mod scrub_text;
 mod status;
-mod why;
 
 pub use program::{refuse, run};
 pub use refusal::Refusal;

@@ -6,8 +6,9 @@ ghost use Rattle.dix_run.specs.Verdict.{fault_of, nvm_fault_of, refusal_text, st
 use crate::status::Status;
 use image_commands::Fault;
 use nvme_command::NvmFault;
+use report_text::{Line, add};
 use script_text::ScriptFault;
-use script_verdict::{Line, Refusal as Stop, add};
+use script_verdict::Refusal as Stop;
 
 /// Why a call of the program comes to nothing.
 #[derive(Clone, Copy, Debug, PartialEq, Eq)]

@@ -1,11 +1,10 @@
 //! The text of a scrub.
 
 ghost use Rattle.std.specs.Prelude.{◌≡◌, ◌+◌, ◌≤◌, ◌++◌, IfOk, decimal, length};
-ghost use Rattle.dix_run.specs.ScrubText.{all_blocks, found_line, found_lines, has_some, last_line, scrub_text};
+ghost use Rattle.dix_run.specs.ScrubText.{all_blocks, found_line, has_some, last_line, scrub_text};
 
-use crate::why::add_why;
 use pi_scrub::Found;
-use script_verdict::{Line, add, add_number};
+use report_text::{Line, add, add_number, add_why};
 use std::alloc::{AllocError, Global};
 use volume_table::DeviceInfo;
 

@@ -1,14 +1,12 @@
 -- Pages of two pools are the same exactly where their bytes are, one page after another.
 use Rattle.std.proofs.Common.{◌≡◌, ℕ, zero, suc, ◌+◌, ◌*◌, ◌-◌, ◌<◌, Bool, true, false, min, List, [], ◌∷◌, ◌++◌, length, take, drop, refl, sym, ap, ◌∙◌, arith}
 use Rattle.std.proofs.Math.Seq.{take-add}
-use Rattle.std.proofs.lemmas.List.{drop-drop, drop-take, drop_at, length-append, length-take, take-take, take_all, take_at}
+use Rattle.std.proofs.lemmas.List.{drop-drop, drop-take, drop_at, length-take, take-take, take_all, take_at}
 use Rattle.std.proofs.lemmas.Slice.Eq.{bytes_eq-Decides}
 use Rattle.std.specs.Str.{bytes_eq}
 use Rattle.page_pool.specs.Cells.{flat}
 use Rattle.page_pool.specs.Pages.{AreWhole, page_of}
-
-behind : (page : List ℕ) (pages : List (List ℕ)) → AreWhole (page ∷ pages) → AreWhole pages
-behind page pages w = record { size = λ i l. w.size (suc i) (omega (arith, l)) }
+use Rattle.page_pool.proofs.Celled.{whole-rest, length-flat}
 
 first_long : (page : List ℕ) (pages : List (List ℕ)) → AreWhole (page ∷ pages) → length page ≡ 4096
 first_long page pages w = w.size 0 (omega arith)
@@ -20,11 +18,7 @@ page_there (page ∷ pages) zero w l = take_at page (flat pages) 4096 (first_lon
 page_there (page ∷ pages) (suc i) w l =
     let f = first_long page pages w in
     let e : drop (4096 * suc i) (page ++ flat pages) ≡ drop (4096 * i) (flat pages) = (let n : 4096 * suc i ≡ 4096 + 4096 * i = omega arith in ap (λ k. drop k (page ++ flat pages)) n ∙ sym (drop-drop (4096 * i) 4096 (page ++ flat pages)) ∙ ap (drop (4096 * i)) (drop_at page (flat pages) 4096 f)) in
-    ap (take 4096) e ∙ page_there pages i (behind page pages w) (omega (arith, l))
-
-long : (pool : List (List ℕ)) → AreWhole pool → length (flat pool) ≡ 4096 * length pool
-long [] w = omega arith
-long (page ∷ pages) w = let a = length-append page (flat pages) in let f = first_long page pages w in let r = long pages (behind page pages w) in omega arith
+    ap (take 4096) e ∙ page_there pages i (whole-rest page pages w) (omega (arith, l))
 
 same_take : (a b : ℕ) (xs : List ℕ) → min a (length xs) ≡ min b (length xs) → take a xs ≡ take b xs
 same_take zero zero xs h = refl
@@ -37,7 +31,7 @@ same_take (suc a) (suc b) (x ∷ xs) h = ap (λ ys. x ∷ ys) (same_take a b xs 
 
 -- no more pages than there are
 no_more : (pool : List (List ℕ)) (pages : ℕ) → AreWhole pool → take (4096 * pages) (flat pool) ≡ take (4096 * min (length pool) pages) (flat pool)
-no_more pool pages w = let l = long pool w in same_take (4096 * pages) (4096 * min (length pool) pages) (flat pool) (omega (arith, l))
+no_more pool pages w = let l = length-flat pool w in same_take (4096 * pages) (4096 * min (length pool) pages) (flat pool) (omega (arith, l))
 
 -- one page more
 pub one_more : (a b : List (List ℕ)) (i : ℕ) → AreWhole a → AreWhole b → i < length a → i < length b → page_of a i ≡ page_of b i → take (4096 * i) (flat a) ≡ take (4096 * i) (flat b) → take (4096 * (i + 1)) (flat a) ≡ take (4096 * (i + 1)) (flat b)
@@ -70,7 +64,7 @@ page_differs a b i pages v w l m p h =
 pub count_differs : (a b : List (List ℕ)) (pages : ℕ) → AreWhole a → AreWhole b → (min (length a) pages ≡ min (length b) pages → ⊥) → false ≡ bytes_eq (take (4096 * pages) (flat a)) (take (4096 * pages) (flat b))
 count_differs a b pages v w h =
     are_other (take (4096 * pages) (flat a)) (take (4096 * pages) (flat b))
-    (λ e. h (let l = long a v in let m = long b w in let x = length-take (4096 * pages) (flat a) in let y = length-take (4096 * pages) (flat b) in let z = ap length e in omega arith))
+    (λ e. h (let l = length-flat a v in let m = length-flat b w in let x = length-take (4096 * pages) (flat a) in let y = length-take (4096 * pages) (flat b) in let z = ap length e in omega arith))
 
 pub all_same : (a b : List (List ℕ)) (pages count : ℕ) → AreWhole a → AreWhole b → count ≡ min (length a) pages → count ≡ min (length b) pages → take (4096 * count) (flat a) ≡ take (4096 * count) (flat b) → true ≡ bytes_eq (take (4096 * pages) (flat a)) (take (4096 * pages) (flat b))
 all_same a b pages count v w n m e =

@@ -5,12 +5,11 @@ use Rattle.std.proofs.lemmas.Bool.{and_parts}
 use Rattle.std.proofs.lemmas.List.{drop-take, length-drop, take-take}
 use Rattle.pi_tuple.specs.declared.checks.Check.{Check}
 use Rattle.pi_tuple.specs.declared.checks.PiType.{PiType}
-use Rattle.pi_scrub.specs.Faults.{stored_finding}
 use Rattle.target_answer.specs.Frames.{frames_of, stored_size}
 use Rattle.target_answer.specs.Headers.{all_bytes, bytes_of, is_spec}
 use Rattle.target_answer.specs.Image.{units_from}
 use Rattle.target_answer.specs.declared.units.UnitSpec.{UnitSpec}
-use Rattle.flip_sweep.specs.Verdicts.{first_spoilt, first_spoilt_from, new_finding, or_else, spoilt_of, unless}
+use Rattle.flip_sweep.specs.Verdicts.{first_spoilt, first_spoilt_from, new_finding, or_else, spoilt_of}
 use Rattle.flip_sweep.specs.declared.verdict.Verdict.{Verdict}
 use Rattle.flip_sweep.specs.declared.verdict.Verdict.TheVariants.{Scrub}
 
@@ -25,14 +24,6 @@ less_one (suc n) len h = let e : suc n - 1 ≡ n = omega arith in rw e (grind ar
 -- the bytes behind the first frame
 pub shorter : (n len m : ℕ) (bytes more : List ℕ) → 0 < n → length bytes ≡ n * len → m ≡ len → more ≡ drop m bytes → length more ≡ (n - 1) * len
 shorter n len m bytes more h l e r = let k = less_one n len h in let d = ap length r ∙ length-drop m bytes in omega (arith, k, d, l, e)
-
-itself : (c : Option Check) → None ≡ unless c c
-itself None = refl
-itself (Some c) = refl
-
--- a block that is the same is as much at fault as otherwise
-pub nothing_new : (ty : PiType) (size lba : ℕ) (was now : List ℕ) → was ≡ now → None ≡ new_finding ty size lba was now
-nothing_new ty size lba was now e = itself (stored_finding ty size lba now) ∙ ap (λ b. unless (stored_finding ty size lba b) (stored_finding ty size lba now)) (sym e)
 
 -- the first of some blocks, and those behind it
 pub next_block : (ty : PiType) (size dev lba len n : ℕ) (was now : List ℕ) → 0 < n

@@ -1,9 +1,6 @@
 //! The lines of a sweep.
 
-ghost use Rattle.std.specs.Prelude.{◌≡◌, ◌+◌, ◌≤◌, ◌++◌, [], ◌∷◌, codes, decimal, length};
-ghost use Rattle.bio_core.specs.declared.fate.Why.{Why as AnyWhy};
-ghost use Rattle.hex.specs.Hex.{encode_lower};
-ghost use Rattle.report_text.specs.Report.{check_text, why_text};
+ghost use Rattle.std.specs.Prelude.{◌≡◌, ◌+◌, ◌≤◌, ◌++◌, codes, decimal, length};
 ghost use Rattle.script_laws.specs.Lines.{spot_word};
 ghost use Rattle.flip_sweep.specs.Rows.{last_line, row, verdict_text};
 ghost use Rattle.flip_sweep.specs.declared.verdict.Verdict.{Verdict as AnyVerdict};
@@ -13,8 +10,8 @@ use crate::flips::Site;
 use crate::stretch::Stretch;
 use crate::verdict::Verdict;
 use bio_core::Why;
-use block_lines::{Line, add, add_number};
 use pi_tuple::Check;
+use report_text::{Line, add, add_check, add_number, add_why};
 use script_lines::Spot;
 
 fn spot_word(spot: Spot) -> &'static [u8]
@@ -25,68 +22,6 @@ fn spot_word(spot: Spot) -> &'static [u8]
         Spot::Host => b"host",
         Spot::Wire => b"wire",
         Spot::Medium => b"medium",
-    }
-}
-
-fn check_name(check: Check) -> &'static [u8]
-    ensures name { result.now ≡ check_text check }
-    ensures short { length result.now ≤ 6 }
-{
-    match check {
-        Check::Guard => b"guard",
-        Check::AppTag => b"apptag",
-        Check::RefTag => b"ref",
-    }
-}
-
-fn add_hex(line: &mut Line, byte: u8)
-    requires { length line.old.items + 2 ≤ 512 }
-    ensures items { line.new.items ≡ line.old.items ++ encode_lower (byte ∷ []) }
-    ensures len { length line.new.items ≡ length line.old.items + 2 }
-{
-    let mut digits = [0u8; 2];
-    match hex::encode_to_slice(&[byte], &mut digits) {
-        Ok(()) => add(line, &digits),
-        Err(_) => unreachable!(),
-    }
-}
-
-fn add_refused(line: &mut Line, key: u8, asc: u8, ascq: u8)
-    requires { length line.old.items ≤ 448 }
-    ensures items { line.new.items ≡ line.old.items ++ why_text (AnyWhy.Refused key asc ascq) }
-    ensures bound { length line.new.items ≤ length line.old.items + 32 }
-{
-    add(line, b"refused ");
-    add_hex(line, key);
-    add(line, b" ");
-    add_hex(line, asc);
-    add(line, b" ");
-    add_hex(line, ascq);
-}
-
-fn add_check(line: &mut Line, layer: &[u8], check: Check)
-    requires room { length line.old.items ≤ 448 }
-    requires short { length layer.now ≤ 8 }
-    ensures items { line.new.items ≡ line.old.items ++ (layer.now ++ check_text check) }
-    ensures bound { length line.new.items ≤ length line.old.items + 32 }
-{
-    add(line, layer);
-    add(line, check_name(check));
-}
-
-fn add_why(line: &mut Line, why: Why)
-    requires { length line.old.items ≤ 448 }
-    ensures items { line.new.items ≡ line.old.items ++ why_text why }
-    ensures bound { length line.new.items ≤ length line.old.items + 32 }
-{
-    match why {
-        Why::Adapter(check) => add_check(line, b"adapter ", check),
-        Why::Target(check) => add_check(line, b"target ", check),
-        Why::Block(check) => add_check(line, b"block ", check),
-        Why::App(check) => add_check(line, b"app ", check),
-        Why::Medium => add(line, b"medium"),
-        Why::Refused { key, asc, ascq } => add_refused(line, key, asc, ascq),
-        Why::Short => add(line, b"short"),
     }
 }
 

@@ -1,6 +1,6 @@
 //! Faults that a script has itself.
 
-ghost use Rattle.std.specs.Prelude.{◌≡◌, ◌+◌, length};
+ghost use Rattle.std.specs.Prelude.{◌≡◌};
 ghost use Rattle.stack_walks.specs.Overwrites.{is_overwrite};
 ghost use Rattle.flip_sweep.specs.Flips.{bad_at, overwrite_fault, own_fault};
 

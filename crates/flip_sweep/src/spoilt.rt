@@ -1,6 +1,6 @@
 //! Stored blocks that are at fault, and wouldn't be otherwise.
 
-ghost use Rattle.std.specs.Prelude.{◌≡◌, ◌+◌, ◌*◌, ◌≤◌, ◌<◌, ◌^◌, Some, None, length, option_map, true};
+ghost use Rattle.std.specs.Prelude.{◌≡◌, ◌+◌, ◌*◌, ◌<◌, ◌^◌, Some, None, length, true};
 ghost use Rattle.pi_scrub.specs.Faults.{stored_finding};
 ghost use Rattle.target_answer.specs.Frames.{frames_of, stored_size};
 ghost use Rattle.target_answer.specs.Headers.{all_bytes, bytes_of, is_layout, is_spec};

@@ -7,8 +7,7 @@ ghost use Rattle.mirror_verdict.specs.Texts.{mirror_text, repair_line};
 use crate::mirrored::Mirrored;
 use dix_base::{Failed, Sink};
 use mirror_volume::Repair;
-use report_text::{print_report, write_out};
-use script_verdict::{Line, add, add_number};
+use report_text::{Line, add, add_number, print_report, write_out};
 
 /// The line that says what a repair did.
 fn repair_line(repair: Repair) -> Line

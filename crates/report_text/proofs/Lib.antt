@@ -1,2 +1,2 @@
 pub mod Flow
-mod Lines
+pub mod Lines

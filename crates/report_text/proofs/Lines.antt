@@ -47,7 +47,7 @@ and_second : (a b : Bool) → a && b ≡ true → b ≡ true
 and_second true b h = h
 and_second false b h = absurd (cc)
 
-keyed_at : (es : List Entry) (i : ℕ) → have_keys es ≡ true → has_key (entry_at es i).what.outcome.sense ≡ true
+pub keyed_at : (es : List Entry) (i : ℕ) → have_keys es ≡ true → has_key (entry_at es i).what.outcome.sense ≡ true
 keyed_at [] i k = refl
 keyed_at (e ∷ es) zero k = and_first (has_key e.what.outcome.sense) (have_keys es) k
 keyed_at (e ∷ es) (suc i) k = keyed_at es i (and_second (has_key e.what.outcome.sense) (have_keys es) k)

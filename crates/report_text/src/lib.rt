@@ -8,6 +8,8 @@ mod trace;
 mod why;
 mod writing;
 
+pub use line::{Line, add, add_hex, add_number};
 pub use report::print_report;
 pub use trace::print_trace;
-pub use writing::{write_all, write_out};
+pub use why::{add_check, add_why};
+pub use writing::{write_all, write_hex, write_out};

@@ -39,7 +39,7 @@ pub fn write_out<O: Sink>(out: &mut O, text: &[u8]) -> Result<(), Failed>
 }
 
 /// Writes the bytes as hexadecimal digits in lower case.
-pub(crate) fn write_hex<O: Sink>(out: &mut O, bytes: &[u8]) -> Result<(), Failed>
+pub fn write_hex<O: Sink>(out: &mut O, bytes: &[u8]) -> Result<(), Failed>
     ensures whole { OnOk result (Appended (encode_lower bytes.now) (O.taken out.old) (O.taken out.new)) }
     ensures part { OnErr result (AppendedSome (encode_lower bytes.now) (O.taken out.old) (O.taken out.new)) }
     ensures cause { OnErr result (Rose (O.faults out.old) (O.faults out.new)) }

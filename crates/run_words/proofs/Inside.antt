@@ -9,25 +9,23 @@ use Rattle.block_path.specs.Serial.{plain, plain_tells}
 use Rattle.run_record.specs.Records.{recorded}
 use Rattle.run_record.specs.ToldRun.{told}
 use Rattle.rig_api.specs.Log.{Entry}
-use Rattle.script_ground.proofs.Ops.{in-range}
+use Rattle.script_ground.proofs.Ops.{in-range, line-none}
 use Rattle.script_ground.proofs.Standing.{bound}
-use Rattle.script_lines.specs.declared.kind.ScriptKind.{ScriptKind}
 use Rattle.script_stack.specs.Followed.{IsBackedBy, failed_in, opening_of, setting_of, unit_of}
-use Rattle.script_text.specs.Bindings.{at_line, binding_fault, op_fault, ops_fault}
-use Rattle.script_text.specs.declared.fault.ScriptFault.{ScriptFault}
+use Rattle.script_text.specs.Bindings.{binding_fault, op_fault, ops_fault}
 use Rattle.script_text.specs.declared.script.Script.{Script}
 use Rattle.stack_ops.specs.declared.op.Op.{Op}
 use Rattle.stack_ops.specs.declared.op.Op.TheVariants.{Fetch, FetchPi, Fill, Overwrite, Put, Seal, Show, Wait, Write, WritePi}
 use Rattle.stack_ops.specs.declared.reply.BadBlock.{BadBlock}
 use Rattle.stack_ops.specs.declared.reply.Reply.{Reply}
 use Rattle.volume_table.specs.Places.{volume_len}
-use Rattle.volume_table.specs.Tables.{MadeFor, Table}
+use Rattle.volume_table.specs.Tables.{Table}
 use Rattle.volume_table.specs.declared.device.DeviceInfo.{DeviceInfo}
-use Rattle.whole_run.specs.ScriptWalk.{acts_of, bad_from, replies_from, reply_of, request_reply, script_replies, shown_reply, whole_or_bad}
+use Rattle.whole_run.specs.ScriptWalk.{acts_of, bad_from, replies_from, reply_of, request_reply, shown_reply, whole_or_bad}
 use Rattle.whole_run.specs.Settings.{Setting}
 use Rattle.whole_run.specs.Steps.{Step, each_from, steps_of}
 use Rattle.whole_run.proofs.InSteps.{each_length}
-use Rattle.script_verdict.specs.Verdict.{HasRun, HasTable}
+use Rattle.script_verdict.specs.Verdict.{HasRun}
 use Rattle.image_commands.specs.Views.{View}
 use Rattle.run_words.specs.Explained.{WasExplained}
 use Rattle.run_words.specs.Sites.{AreInside, Guides, IsGuideOf, IsInside, first_block, sites_from, sites_of}
@@ -83,16 +81,12 @@ one_inside m t devices size i (Overwrite dev lba change) s h = by_fails (m.fails
     by_fails false = tt
 one_inside m t devices size i Wait s h = tt
 
-at_none : (line : ℕ) (o : Option ScriptKind) (rest : Option ScriptFault) → at_line line o rest ≡ None → (o ≡ None) × (rest ≡ None)
-at_none line None rest h = (refl, h)
-at_none line (Some kind) rest h = absurd (cc)
-
 pub all_inside : (m : Setting) (t : Table) (devices : List DeviceInfo) (size i : ℕ) (ops : List Op) (lines : List ℕ) (s : State) → ops_fault t devices size ops lines ≡ None → AreInside (volume_len t.entries) (sites_from lines ops) (replies_from m i ops s)
 all_inside m t devices size i [] [] s h = tt
 all_inside m t devices size i [] (line ∷ lines) s h = tt
 all_inside m t devices size i (op ∷ ops) [] s h = tt
 all_inside m t devices size i (op ∷ ops) (line ∷ lines) s h =
-    let n = at_none line (op_fault t devices size op) (ops_fault t devices size ops lines) h in
+    let n = line-none line (op_fault t devices size op) (ops_fault t devices size ops lines) h in
     (one_inside m t devices size i op s n.0, all_inside m t devices size (suc i) ops lines (plain act (acts_of m i op) s) n.1)
 
 -- the replies of a run that backs them

@@ -1,7 +1,6 @@
 -- The pieces of each line and of each list of lines are the text.
-use Rattle.std.proofs.Common.{ℕ, suc, ◌≡◌, ◌+◌, ◌<◌, ◌≤◌, Bool, true, false, eqb, cond, List, [], ◌∷◌, ◌++◌, length, drop, get_or, codes, decimal, Result, Ok, Err, OnOk, refl, sym, ap, subst, ◌∙◌, add-one, append_assoc, append-nil, drop-cons}
+use Rattle.std.proofs.Common.{ℕ, suc, ◌≡◌, ◌+◌, ◌<◌, ◌≤◌, Bool, true, false, cond, List, [], ◌∷◌, ◌++◌, length, drop, get_or, codes, decimal, Result, Ok, Err, OnOk, refl, sym, ap, subst, ◌∙◌, add-one, append_assoc, drop-cons}
 use Rattle.std.proofs.lemmas.List.{drop_all}
-use Rattle.hex.specs.Hex.{encode_lower, encode_with, lower_digits}
 use Rattle.fault_schedule.specs.declared.Label.{Label}
 use Rattle.rig_api.specs.Log.{Entry, entry_at, no_entry}
 use Rattle.rig_api.specs.declared.rig.Record.{Record}
@@ -66,15 +65,6 @@ pub last_run : (sites : List OpSite) (r : Run) (i : ℕ) (ls : List Label) (line
 last_run sites r i ls line h e = ap (λ x. run_lines sites (runs_from r x)) (drop_all i ls h) ∙ ap (λ x. x ++ []) (sym e)
 
 -- ---- digits
-
-pub next_digits : (i : ℕ) (xs : List ℕ) (x : ℕ) (line : List ℕ) → i < length xs → line ≡ encode_lower (get_or xs i x ∷ []) → encode_lower (drop i xs) ≡ line ++ encode_lower (drop (i + 1) xs)
-unfolding encode_with
-next_digits i xs x line h e =
-    ap encode_lower (drop-cons xs i x h) ∙ ap (λ k. encode_lower (get_or xs i x ∷ []) ++ encode_lower (drop k xs)) (sym (add-one i)) ∙ ap (λ l. l ++ encode_lower (drop (i + 1) xs)) (sym e)
-
-pub no_digits : (n : ℕ) (xs : List ℕ) → length xs ≤ n → encode_lower (drop n xs) ≡ []
-unfolding encode_with
-no_digits n xs h = ap encode_lower (drop_all n xs h)
 
 pub on_ok : {T E P : Type 0} (r : Result T E) → P → OnOk r P
 on_ok (Ok x) p = p

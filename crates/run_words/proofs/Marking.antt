@@ -1,5 +1,5 @@
 -- From what a text and its run come to, to what the call comes to.
-use Rattle.std.proofs.Common.{ℕ, ◌≡◌, ◌⊎◌, inl, inr, ◌+◌, ◌≤◌, Bool, true, cond, List, [], length, Option, Some, None, Result, Ok, Err, refl, sym, ap, subst, ◌∙◌, arith}
+use Rattle.std.proofs.Common.{ℕ, ◌≡◌, ◌⊎◌, inl, inr, ◌+◌, Bool, true, cond, List, [], length, Option, Some, None, Result, Ok, Err, refl, sym, ap, subst, ◌∙◌, arith}
 use Rattle.std.specs.Prelude.{IfErr, MatchResult, nat_lt}
 use Rattle.std.proofs.lemmas.Bool.{lt-ltb}
 use Rattle.dix_base.specs.Told.{Calm, Took}
@@ -10,45 +10,30 @@ use Rattle.script_text.specs.Language.{lines_read, nothing_read, script_in}
 use Rattle.script_text.specs.declared.fault.ScriptFault.{ScriptFault}
 use Rattle.script_text.specs.declared.script.Script.{Script}
 use Rattle.script_verdict.proofs.Completing.{complete}
-use Rattle.script_verdict.specs.Verdict.{CauseRefused, CauseStopped, Facts, HasRead, HasRun, HoldsFault, IsFromOutside, devices_of, table_over}
+use Rattle.script_verdict.specs.Verdict.{CauseRefused, Facts, HasRead, HoldsFault, IsFromOutside, devices_of, table_over}
 use Rattle.script_verdict.specs.declared.refusal.Refusal.{Refusal}
 use Rattle.script_verdict.specs.declared.refusal.Refusal.TheVariants as refusal
+use Rattle.script_verdict.proofs.Refusing.{within}
 use Rattle.rig_api.specs.Head.{head_fault, head_of}
 use Rattle.script_text.specs.Bindings.{binding_fault}
 use Rattle.script_words.specs.Cuts.{lines_of}
 use Rattle.volume_table.specs.Faults.{table_fault}
 use Rattle.source_text.proofs.Taking.{most_is}
 use Rattle.source_text.specs.Reading.{IsOver, IsWhole, TookAtMost, most_bytes}
-use Rattle.run_words.specs.Explained.{CauseHalted, CauseNotRun, CauseUnexplained, CauseUnrun, ExplainsRead, ExplainsText, HasExplained, HasFaultyText, HasMarked, HasUnboundText, IsAtFault, IsComplete, IsHaltOf, IsSaid, WasExplained}
+use Rattle.run_words.specs.Explained.{CauseHalted, CauseNotRun, CauseUnexplained, CauseUnrun, ExplainsRead, ExplainsText, HasExplained, HasFaultyText, HasMarked, IsAtFault, IsComplete, IsSaid, WasExplained}
 use Rattle.run_words.specs.declared.explain.Explained.{Explained}
 use Rattle.run_words.specs.declared.explain.Unexplained.{Unexplained}
 use Rattle.run_words.specs.declared.explain.Unexplained.TheVariants.{Marked, Refused}
 
-within : (text : List ℕ) (a b : Option (List ℕ)) → IsWhole text a b → TookAtMost (most_bytes + 1) a b
-within text a b w = let l = w.2 in (text, w.0, omega (arith, l))
-
-over : (a b : Option (List ℕ)) → IsOver a b → TookAtMost (most_bytes + 1) a b
+pub over : (a b : Option (List ℕ)) → IsOver a b → TookAtMost (most_bytes + 1) a b
 over a b w = let l = w.2 in (w.0, w.1, omega (arith, l))
 
 -- ---- a script that comes to no run
-
-pub unrun : (r : Refusal) (u : Unexplained) (text : List ℕ) (script : Script) (name : List ℕ) (old new : View) → IsHaltOf r u text → CauseStopped r script name old new → CauseUnrun u text script name old new
-unrun (refusal.Script bad) (Marked said) text script name old new h c = record { bad = bad; unbound = c; marks = h }
-unrun (refusal.Script bad) (Refused r) text script name old new h c = subst (λ (x : Refusal). CauseHalted x script name old new) (sym h) (inr (c.devices, c.asked))
-unrun (refusal.Image x) u text script name old new h c = subst (λ (y : Unexplained). CauseUnrun y text script name old new) (sym h) c
-unrun (refusal.BadCapacity dev) u text script name old new h c = subst (λ (y : Unexplained). CauseUnrun y text script name old new) (sym h) c
-unrun (refusal.Volume entry kind) u text script name old new h c = subst (λ (y : Unexplained). CauseUnrun y text script name old new) (sym h) c
-unrun refusal.RigFault u text script name old new h c = subst (λ (y : Unexplained). CauseUnrun y text script name old new) (sym h) c
-unrun refusal.Memory u text script name old new h c = subst (λ (y : Unexplained). CauseUnrun y text script name old new) (sym h) c
-unrun refusal.ReadFault u text script name old new h c = absurd c
 
 -- ---- a text
 
 pub as_read : (want : Result Script ScriptFault) (script : Script) (r : Result Explained Unexplained) (text name : List ℕ) (old new : View) → want ≡ Ok script → MatchResult r (λ e. WasExplained e script name old new) (λ u. CauseUnrun u text script name old new) → ExplainsRead want r text name old new
 as_read want script r text name old new e h = subst (λ (w : Result Script ScriptFault). ExplainsRead w r text name old new) (sym e) h
-
-pub as_marked : (want : Result Script ScriptFault) (bad : ScriptFault) (u : Unexplained) (text name : List ℕ) (old : View) → want ≡ Err bad → IsSaid u (marked_text text bad) → ExplainsRead want (Err u) text name old old
-as_marked want bad u text name old e h = subst (λ (w : Result Script ScriptFault). ExplainsRead w (Err u) text name old old) (sym e) (refl, h)
 
 -- ---- a source
 
@@ -78,7 +63,7 @@ by_text r text f w (inl m) =
     subst (λ (x : Result Explained Unexplained). MatchResult x (λ e. HasExplained e f) (λ u. CauseUnexplained u f)) (sym m.0) (inl (within text f.left f.left_after w, m.1))
 by_text r text f w (inr h) = by_read (script_in text) r text f w refl h
 
-too_long : (text : List ℕ) → length text ≡ most_bytes + 1 → script_in text ≡ Err (record { line = 0; kind = TooMany })
+pub too_long : (text : List ℕ) → length text ≡ most_bytes + 1 → script_in text ≡ Err (record { line = 0; kind = TooMany })
 too_long text l =
     let m = most_is in
     let t : nat_lt 4194304 (length text) ≡ true = lt-ltb 4194304 (length text) (omega (arith, l, m)) in

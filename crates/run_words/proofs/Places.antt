@@ -1,5 +1,5 @@
 -- The entry of a virtual block has all that its place asks for.
-use Rattle.std.proofs.Common.{ℕ, ◌≡◌, ◌++◌, ◌<◌, List, [], ◌∷◌, Option, Some, refl, sym, ap, subst, ◌∙◌, append-nil}
+use Rattle.std.proofs.Common.{ℕ, ◌≡◌, ◌++◌, ◌<◌, List, [], ◌∷◌, Some, refl, sym, ap, subst, ◌∙◌, append-nil}
 use Rattle.volume_table.proofs.Chosen.{IsChosen, chosen}
 use Rattle.volume_table.specs.Places.{holder, volume_len}
 use Rattle.volume_table.specs.Tables.{IsTable, Table}

@@ -106,12 +106,7 @@ IsSaid (Refused r) text = r ≡ refusal.Memory
 -- what is made of a refusal: a script's fault is marked
 abbrev pub IsHaltOf : Refusal → Unexplained → (text : List ℕ) → Type 0
 IsHaltOf (refusal.Script bad) u text = IsSaid u (marked_text text bad)
-IsHaltOf (refusal.Image x) u text = u ≡ Refused (refusal.Image x)
-IsHaltOf (refusal.BadCapacity dev) u text = u ≡ Refused (refusal.BadCapacity dev)
-IsHaltOf (refusal.Volume entry kind) u text = u ≡ Refused (refusal.Volume entry kind)
-IsHaltOf refusal.RigFault u text = u ≡ Refused refusal.RigFault
-IsHaltOf refusal.Memory u text = u ≡ Refused refusal.Memory
-IsHaltOf refusal.ReadFault u text = u ≡ Refused refusal.ReadFault
+IsHaltOf r u text = u ≡ Refused r
 
 -- Of a text that reads so: its script was run or comes to no run, or its fault is marked; then the rig is as before, and so it is for want of memory at the text.
 abbrev pub ExplainsRead : Result Script ScriptFault → Result Explained Unexplained → (text name : List ℕ) → View → View → Type 0

@@ -5,11 +5,9 @@ ghost use Rattle.dix_base.specs.Told.{Appended, AppendedSome, Rose};
 ghost use Rattle.cdb_codec.specs.declared.command.Cdb.{Cdb};
 ghost use Rattle.run_words.specs.Commands.{cdb_words, command_words, rw_words, tag_words};
 
-use crate::line::{add_hex, write_hex};
 use cdb_codec::{Cdb, Rw};
 use dix_base::{Failed, Sink};
-use report_text::write_all;
-use script_verdict::{Line, add, add_number};
+use report_text::{Line, add, add_hex, add_number, write_all, write_hex};
 
 /// The fields of a read, write or verify behind its name.
 fn rw_line(name: &[u8], c: &Rw) -> Line

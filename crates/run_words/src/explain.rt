@@ -15,7 +15,7 @@ use fault_marks::marked_text;
 use rig_api::Rig;
 use script_laws::a_read_script_keeps_the_rules;
 use script_text::{Script, ScriptFault, ScriptKind, read_script};
-use script_verdict::{Finished, Refusal, run_script};
+use script_verdict::{Finished, Refusal, TOO_LONG, run_script};
 use source_text::{Unread, read_all};
 use std::alloc::Global;
 
@@ -36,12 +36,6 @@ pub enum Unexplained {
     /// It comes to no run for another reason.
     Refused(Refusal),
 }
-
-/// The fault of a text that is too long.
-const TOO_LONG: ScriptFault = ScriptFault {
-    line: 0,
-    kind: ScriptKind::TooMany,
-};
 
 /// What is said of a text with this fault, or that there is no memory.
 fn marked(alloc: Global, text: &[u8], fault: ScriptFault) -> Unexplained
@@ -75,12 +69,7 @@ fn halted(alloc: Global, text: &[u8], refusal: Refusal) -> Unexplained
 {
     match refusal {
         Refusal::Script(fault) => marked(alloc, text, fault),
-        Refusal::Image(fault) => Unexplained::Refused(Refusal::Image(fault)),
-        Refusal::BadCapacity { dev } => Unexplained::Refused(Refusal::BadCapacity { dev }),
-        Refusal::Volume { entry, kind } => Unexplained::Refused(Refusal::Volume { entry, kind }),
-        Refusal::RigFault => Unexplained::Refused(Refusal::RigFault),
-        Refusal::Memory => Unexplained::Refused(Refusal::Memory),
-        Refusal::ReadFault => Unexplained::Refused(Refusal::ReadFault),
+        _ => Unexplained::Refused(refusal),
     }
 }
 

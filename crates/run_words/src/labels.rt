@@ -1,14 +1,13 @@
 //! Whose blocks a command carried.
 
-ghost use Rattle.std.specs.Prelude.{◌≡◌, ◌≤◌, ◌++◌, IfOk, OnErr, OnOk};
+ghost use Rattle.std.specs.Prelude.{◌≡◌, ◌≤◌, IfOk, OnErr, OnOk};
 ghost use Rattle.dix_base.specs.Told.{Appended, AppendedSome, Rose};
 ghost use Rattle.run_words.specs.Texts.{begun, ended_lines, goes_on, longer, next_run, run_line, run_lines, runs_of};
 
 use crate::guide::{OpSite, site_of};
 use dix_base::{Failed, Sink};
 use fault_schedule::Label;
-use report_text::write_all;
-use script_verdict::{Line, add, add_number};
+use report_text::{Line, add, add_number, write_all};
 
 /// Neighbouring blocks of one op.
 #[derive(Clone, Copy, Debug, PartialEq, Eq)]

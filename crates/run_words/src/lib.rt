@@ -7,13 +7,11 @@ mod command;
 mod explain;
 mod guide;
 mod labels;
-mod line;
 mod listed;
 mod place;
 mod records;
 mod sense;
 mod text;
-mod why;
 
 pub use explain::{Explained, Unexplained, explain_source};
 pub use guide::{Guide, OpSite};

@@ -1,6 +1,6 @@
 //! The blocks that a report lists.
 
-ghost use Rattle.std.specs.Prelude.{◌≡◌, ◌+◌, ◌≤◌, ◌<◌, ◌++◌, All, OnErr, OnOk, length};
+ghost use Rattle.std.specs.Prelude.{◌≡◌, ◌+◌, ◌≤◌, ◌<◌, All, OnErr, OnOk, length};
 ghost use Rattle.dix_base.specs.Told.{Appended, AppendedSome, Rose};
 ghost use Rattle.stack_ops.specs.declared.reply.BadBlock.{BadBlock as AnyBlock};
 ghost use Rattle.volume_table.specs.Places.{volume_len};
@@ -10,10 +10,8 @@ ghost use Rattle.run_words.specs.Texts.{all_listed, listed_front, listed_line, l
 
 use crate::guide::OpSite;
 use crate::place::place_in;
-use crate::why::add_why;
 use dix_base::{Failed, Sink};
-use report_text::write_all;
-use script_verdict::{Line, add, add_number};
+use report_text::{Line, add, add_number, add_why, write_all};
 use stack_ops::{BadBlock, Reply};
 use volume_table::Entry;
 

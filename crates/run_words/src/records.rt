@@ -11,9 +11,8 @@ use crate::labels::print_runs;
 use crate::sense::outcome_line;
 use dix_base::{Failed, Sink};
 use fault_schedule::Label;
-use report_text::write_all;
+use report_text::{Line, add, add_number, write_all};
 use rig_api::{Record, Rig};
-use script_verdict::{Line, add, add_number};
 
 /// The number of a record and its device.
 fn front_of(number: u64, dev: u32) -> Line

@@ -3,9 +3,8 @@
 ghost use Rattle.std.specs.Prelude.{◌≡◌, ◌+◌, ◌≤◌, ◌++◌, length};
 ghost use Rattle.run_words.specs.Commands.{check_words, code_words, info_words, key_words, other_words, outcome_words, plain_words, sense_words};
 
-use crate::line::add_hex;
+use report_text::{Line, add, add_hex, add_number};
 use rig_api::Outcome;
-use script_verdict::{Line, add, add_number};
 use sense_codes::Sense;
 
 /// Adds the name of a sense key.

@@ -1,5 +1,5 @@
 -- The devices that a rig told, where it tells its image.
-use Rattle.std.proofs.Common.{ℕ, ◌≡◌, ◌<◌, true, List, [], ◌∷◌, ◌++◌, length, take, drop, Option, Some, None, refl, sym, ap, ◌∙◌, append_assoc, arith}
+use Rattle.std.proofs.Common.{ℕ, ◌≡◌, ◌<◌, true, List, [], ◌∷◌, ◌++◌, length, take, drop, Option, Some, None, refl, sym, ap, ◌∙◌, arith}
 use Rattle.std.specs.Prelude.{is_some, map}
 use Rattle.std.proofs.Math.Seq.{take-length}
 use Rattle.image_commands.proofs.Bytes.{bytes_told, holds_blocks, some_unit}
@@ -10,6 +10,7 @@ use Rattle.rig_api.specs.Head.{Head, IsHeadOf, head_of, units_of}
 use Rattle.rig_api.specs.Telling.{IsStanding, Standing, specs_of, units_told}
 use Rattle.rig_discovery.specs.Discovery.{info_of}
 use Rattle.dix_adapter.specs.Ways.{blocks_told}
+use Rattle.dix_adapter.proofs.Gathering.{joined-append}
 use Rattle.target_answer.specs.Frames.{joined}
 use Rattle.target_answer.specs.Target.{Stored}
 use Rattle.volume_table.specs.declared.device.DeviceInfo.{DeviceInfo}
@@ -27,7 +28,7 @@ known s devices units (Some image) has laid told = as_head s devices units image
 pub known_infos : (name : List ℕ) (devices : List DeviceInfo) (old new : View) → WasAsked name devices old new → new.seen.units ≡ units_told new.standing new.image → is_some new.image ≡ true → devices ≡ map info_of (specs_of new.standing)
 known_infos name devices old new asked laid told = known new.standing devices new.seen.units new.image asked.told.devices_are laid told
 
-all_specs : (s : Standing) → s.devices ≡ length (units_of s.head) → specs_of s ≡ units_of s.head
+pub all_specs : (s : Standing) → s.devices ≡ length (units_of s.head) → specs_of s ≡ units_of s.head
 all_specs s e = ap (λ n. take n (units_of s.head)) e ∙ take-length (units_of s.head)
 
 pub headed : (h : Head) (image : List ℕ) (told : Option (List ℕ)) → told ≡ Some image → IsHeadOf h told → h ≡ head_of image
@@ -50,13 +51,9 @@ has_device name devices old new asked =
     let same = ap (λ (s : Standing). length (units_of s.head)) asked.told.since.standing in
     omega (arith, some, same, asked.all)
 
-joined_append : (xs ys : List (List ℕ)) → joined (xs ++ ys) ≡ joined xs ++ joined ys
-joined_append [] ys = refl
-joined_append (x ∷ xs) ys = ap (λ v. x ++ v) (joined_append xs ys) ∙ sym (append_assoc x (joined xs) (joined ys))
-
 bytes_are : (us : List Stored) → bytes_told us ≡ joined (blocks_told us)
 bytes_are [] = refl
-bytes_are (u ∷ us) = ap (λ v. joined u.blocks ++ v) (bytes_are us) ∙ sym (joined_append u.blocks (blocks_told us))
+bytes_are (u ∷ us) = ap (λ v. joined u.blocks ++ v) (bytes_are us) ∙ sym (joined-append u.blocks (blocks_told us))
 
 -- the image of a rig that was told before and after, and stands on devices
 pub image_holds : (old new : View) → new.standing ≡ old.standing → 0 < old.standing.devices → IsStanding old.standing old.image → IsStanding new.standing new.image → new.seen.units ≡ units_told new.standing new.image → is_some new.image ≡ is_some old.image → HoldsBlocks old new

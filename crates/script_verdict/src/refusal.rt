@@ -8,8 +8,8 @@ ghost use Rattle.volume_table.specs.Faults.{kind_name as volume_kind_name, kind_
 ghost use Rattle.script_verdict.specs.Texts.{fault_line, refusal_text};
 ghost use Rattle.script_verdict.specs.Working.{refusal_of};
 
-use crate::line::{Line, add, add_number};
 use image_commands::Fault;
+use report_text::{Line, add, add_number};
 use rig_api::RigFault;
 use script_text::{ScriptFault, ScriptKind};
 use volume_table::VolumeKind;

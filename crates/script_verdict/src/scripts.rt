@@ -1,6 +1,6 @@
 //! The script of a source.
 
-ghost use Rattle.std.specs.Prelude.{◌≡◌, IfErr, IfOk, Ok};
+ghost use Rattle.std.specs.Prelude.{◌≡◌, ◌≤◌, IfErr, IfOk, Ok};
 ghost use Rattle.script_text.specs.Language.{script_in};
 ghost use Rattle.script_verdict.specs.Verdict.{CauseUntaken, HasRead};
 ghost use Rattle.script_verdict.specs.Working.{CauseUnread, IsSound};
@@ -13,7 +13,7 @@ use source_text::{Unread, read_all};
 use std::alloc::Global;
 
 /// The fault of a text that is too long.
-const TOO_LONG: ScriptFault = ScriptFault {
+pub const TOO_LONG: ScriptFault = ScriptFault {
     line: 0,
     kind: ScriptKind::TooMany,
 };
@@ -38,6 +38,7 @@ pub fn take_script<S: Source>(alloc: Global, source: &mut S) -> Result<Script, R
     ensures reads { IfOk result (λ s. HasRead s (S.left source.old) (S.left source.new)) }
     ensures sound { IfOk result (λ s. IsSound s) }
     ensures cause { IfErr result (λ r. CauseUntaken r (S.left source.old) (S.left source.new) (S.faults source.old) (S.faults source.new)) }
+    ensures count { S.faults source.old ≤ S.faults source.new }
 {
     match read_all(alloc, source) {
         Ok(text) => script_of(alloc, &text),

@@ -1,4 +1,4 @@
-use Rattle.std.specs.Prelude.{ℕ, if◌then◌else◌, List, [], ◌∷◌, codes, Option, Some, None, Result, Ok, Err}
+use Rattle.std.specs.Prelude.{ℕ, if◌then◌else◌, List, [], codes, Option, Some, Result, Ok}
 use Rattle.std.specs.Str.{bytes_eq}
 use Rattle.script_words.specs.Hexes.{hex_in}
 use Rattle.script_words.specs.Places.{word32}

@@ -1,54 +1,16 @@
 //! The lines that tell what came of commands.
 
-ghost use Rattle.std.specs.Prelude.{◌≡◌, ◌+◌, ◌*◌, ◌≤◌, ◌++◌, true, codes, decimal, length, OnErr, OnOk};
+ghost use Rattle.std.specs.Prelude.{◌≡◌, ◌+◌, ◌≤◌, ◌++◌, true, codes, decimal, OnErr, OnOk};
 ghost use Rattle.hex.specs.Hex.{encode_lower};
 ghost use Rattle.dix_base.specs.Told.{Appended, AppendedSome, Rose};
 ghost use Rattle.rig_api.specs.Log.{has_key};
 ghost use Rattle.vector_lines.specs.Printed.{first_line, head_text, in_of, is_write, out_of, outcome_text, tail_text, vector_line, word_text};
 
-use arrayvec::ArrayVec;
 use cdb_codec::Cdb;
 use dix_base::{Failed, Sink};
-use report_text::write_all;
+use report_text::{Line, add, add_hex, add_number, write_all, write_hex};
 use rig_api::{Outcome, Record};
 use target_answer::{Request, request_of};
-
-/// A piece of text of at most 256 bytes, on the stack.
-type Line = ArrayVec<u8, 256>;
-
-fn add(line: &mut Line, piece: &[u8])
-    requires { length line.old.items + length piece.now ≤ 256 }
-    ensures { line.new.items ≡ line.old.items ++ piece.now }
-{
-    match line.try_extend_from_slice(piece) {
-        Ok(()) => {}
-        Err(_) => unreachable!(),
-    }
-}
-
-fn add_number(line: &mut Line, number: u64)
-    requires { length line.old.items + 40 ≤ 256 }
-    ensures items { line.new.items ≡ line.old.items ++ decimal number }
-    ensures bound { length line.new.items ≤ length line.old.items + 40 }
-{
-    let mut buffer = itoa::Buffer::new();
-    add(line, buffer.format(number).as_bytes());
-}
-
-/// Puts the bytes behind the line, as hexadecimal digits in lower case.
-fn add_hex(line: &mut Line, bytes: &[u8])
-    requires few { length bytes.now ≤ 64 }
-    requires room { length line.old.items + 2 * length bytes.now ≤ 256 }
-    ensures items { line.new.items ≡ line.old.items ++ encode_lower bytes.now }
-    ensures len { length line.new.items ≡ length line.old.items + 2 * length bytes.now }
-{
-    let mut digits = [0u8; 128];
-    let (part, _) = digits.split_at_mut(2 * bytes.len());
-    match hex::encode_to_slice(bytes, part) {
-        Ok(()) => add(line, part),
-        Err(_) => unreachable!(),
-    }
-}
 
 /// Whether the command block is that of a write.
 fn is_write(cdb: &[u8]) -> bool
@@ -75,24 +37,6 @@ pub fn in_of<'a>(cdb: &[u8], moved: &'a [u8]) -> &'a [u8]
     ensures { result.now ≡ in_of cdb.now moved.now }
 {
     if is_write(cdb) { &[] } else { moved }
-}
-
-/// Writes the bytes as hexadecimal digits in lower case.
-fn write_hex<O: Sink>(out: &mut O, bytes: &[u8]) -> Result<(), Failed>
-    ensures whole { OnOk result (Appended (encode_lower bytes.now) (O.taken out.old) (O.taken out.new)) }
-    ensures part { OnErr result (AppendedSome (encode_lower bytes.now) (O.taken out.old) (O.taken out.new)) }
-    ensures cause { OnErr result (Rose (O.faults out.old) (O.faults out.new)) }
-    ensures count { O.faults out.old ≤ O.faults out.new }
-{
-    let mut rest = bytes;
-    while rest.len() > 0 {
-        let (part, more) = rest.split_at(rest.len().min(64));
-        let mut digits = Line::new();
-        add_hex(&mut digits, part);
-        write_all(out, digits.as_slice())?;
-        rest = more;
-    }
-    Ok(())
 }
 
 /// Writes a space and the digits of the bytes.

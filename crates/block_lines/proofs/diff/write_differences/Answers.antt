@@ -1,4 +1,5 @@
-use Rattle.std.proofs.Common.{ℕ, List, ◌≡◌, ◌+◌, ◌-◌, ◌++◌, ap, subst, ◌∙◌, arith}
+-- Lines go on, one for each two blocks that differ.
+use Rattle.std.proofs.Common.{ℕ, List, ◌+◌, ◌-◌, refl, subst, arith}
 use Rattle.target_answer.specs.Frames.{frames_of, stored_size}
 use Rattle.block_lines.specs.DiffText.{count_differ, diff_line, diff_lines}
 use Rattle.report_text.proofs.Flow.{Left, breaks_off, goes_on, on_err}
@@ -6,19 +7,18 @@ use Rattle.block_lines.proofs.Differing.{diff_at, differ_at}
 use Rattle.block_lines.proofs.Showing.{at_most_one, shorter}
 use Rattle.block_lines.proofs.diff.write_differences.Goals as goal
 
-pub returns-in_err-write_all-clause-part : goal.returns-in_err-write_all-clause-part
-returns-in_err-write_all-clause-part g c =
+pub returns-in_err-is_other-clause-part : goal.returns-in_err-is_other-clause-part
+returns-in_err-is_other-clause-part g c =
     let p = c.args.pair in
     let len = stored_size p.unit.ty p.unit.size in
     let other_len = stored_size p.other_unit.ty p.other_unit.size in
     let all = diff_lines p c.args.first c.args.other_first (frames_of len c.args.count c.args.frames.now) (frames_of other_len c.args.count c.args.others.now) in
     let rest = diff_lines p (c.loop-left.lba + 1) (c.loop-left.other + 1) (frames_of len (c.loop-left.left - 1) c.split_at.result.1.now) (frames_of other_len (c.loop-left.left - 1) c.split_at-in-loop-left.result.1.now) in
-    let shown = diff_line p c.loop-left.lba c.loop-left.other c.split_at.result.0.now c.split_at-in-loop-left.result.0.now in
-    let line : c.as_slice.result.now ≡ shown = c.as_slice.ensures.value ∙ c.add_difference-is_other.ensures.items ∙ ap (λ (x : List ℕ). x ++ shown) c.new-line.ensures in
+    let line = diff_line p c.loop-left.lba c.loop-left.other c.split_at.result.0.now c.split_at-in-loop-left.result.0.now in
     let next = diff_at p c.loop-left.lba c.loop-left.other len other_len c.stored_len-len.result c.stored_len-other_len.result c.loop-left.left c.loop-left.rest.now c.loop-left.other_rest.now c.split_at.result.0.now c.split_at-in-loop-left.result.0.now c.split_at.result.1.now c.split_at-in-loop-left.result.1.now
-    c.as_slice.result.now c.stored_len-len.ensures c.stored_len-other_len.ensures c.split_at.ensures.front c.split_at-in-loop-left.ensures.front c.split_at.ensures.back c.split_at-in-loop-left.ensures.back line c.loop-left-test.true in
-    on_err c.from_residual.result (breaks_off all c.as_slice.result.now rest _ _ _
-    (subst (λ (t : List ℕ). Left all t (g.O.Sink.taken c.args.out.now) (g.O.Sink.taken c.loop-left.out)) next c.loop-left.invariant.lines) c.in_err-write_all.ensures.part)
+    line c.stored_len-len.ensures c.stored_len-other_len.ensures c.split_at.ensures.front c.split_at-in-loop-left.ensures.front c.split_at.ensures.back c.split_at-in-loop-left.ensures.back refl c.loop-left-test.true in
+    on_err c.from_residual.result (breaks_off all line rest _ _ _
+    (subst (λ (t : List ℕ). Left all t (g.O.Sink.taken c.args.out.now) (g.O.Sink.taken c.loop-left.out)) next c.loop-left.invariant.lines) c.in_err-is_other.ensures.part)
 
 pub loop-left-preserved : goal.loop-left-preserved
 loop-left-preserved g c =
@@ -27,20 +27,19 @@ loop-left-preserved g c =
     let other_len = stored_size p.other_unit.ty p.other_unit.size in
     let all = diff_lines p c.args.first c.args.other_first (frames_of len c.args.count c.args.frames.now) (frames_of other_len c.args.count c.args.others.now) in
     let rest = diff_lines p (c.loop-left.lba + 1) (c.loop-left.other + 1) (frames_of len (c.loop-left.left - 1) c.split_at.result.1.now) (frames_of other_len (c.loop-left.left - 1) c.split_at-in-loop-left.result.1.now) in
-    let shown = diff_line p c.loop-left.lba c.loop-left.other c.split_at.result.0.now c.split_at-in-loop-left.result.0.now in
-    let line : c.as_slice.result.now ≡ shown = c.as_slice.ensures.value ∙ c.add_difference-is_other.ensures.items ∙ ap (λ (x : List ℕ). x ++ shown) c.new-line.ensures in
+    let line = diff_line p c.loop-left.lba c.loop-left.other c.split_at.result.0.now c.split_at-in-loop-left.result.0.now in
     let next = diff_at p c.loop-left.lba c.loop-left.other len other_len c.stored_len-len.result c.stored_len-other_len.result c.loop-left.left c.loop-left.rest.now c.loop-left.other_rest.now c.split_at.result.0.now c.split_at-in-loop-left.result.0.now c.split_at.result.1.now c.split_at-in-loop-left.result.1.now
-    c.as_slice.result.now c.stored_len-len.ensures c.stored_len-other_len.ensures c.split_at.ensures.front c.split_at-in-loop-left.ensures.front c.split_at.ensures.back c.split_at-in-loop-left.ensures.back line c.loop-left-test.true in
+    line c.stored_len-len.ensures c.stored_len-other_len.ensures c.split_at.ensures.front c.split_at-in-loop-left.ensures.front c.split_at.ensures.back c.split_at-in-loop-left.ensures.back refl c.loop-left-test.true in
     record {
-      lines = goes_on all c.as_slice.result.now rest _ _ _ (subst (λ (t : List ℕ). Left all t (g.O.Sink.taken c.args.out.now) (g.O.Sink.taken c.loop-left.out)) next c.loop-left.invariant.lines) c.in_ok-write_all.ensures.whole;
+      lines = goes_on all line rest _ _ _ (subst (λ (t : List ℕ). Left all t (g.O.Sink.taken c.args.out.now) (g.O.Sink.taken c.loop-left.out)) next c.loop-left.invariant.lines) c.in_ok-is_other.ensures.whole;
       differ = differ_at p c.loop-left.lba c.loop-left.other len other_len c.stored_len-len.result c.stored_len-other_len.result c.loop-left.left c.loop-left.differ c.counted-differ.result
-          (count_differ p c.args.first c.args.other_first (frames_of len c.args.count c.args.frames.now) (frames_of other_len c.args.count c.args.others.now)) c.add_difference-is_other.result
+          (count_differ p c.args.first c.args.other_first (frames_of len c.args.count c.args.frames.now) (frames_of other_len c.args.count c.args.others.now)) c.in_ok-is_other.is_other
           c.loop-left.rest.now c.loop-left.other_rest.now c.split_at.result.0.now c.split_at-in-loop-left.result.0.now c.split_at.result.1.now c.split_at-in-loop-left.result.1.now
-          c.stored_len-len.ensures c.stored_len-other_len.ensures c.split_at.ensures.front c.split_at-in-loop-left.ensures.front c.split_at.ensures.back c.split_at-in-loop-left.ensures.back c.add_difference-is_other.ensures.differ c.loop-left-test.true c.loop-left.invariant.differ c.counted-differ.ensures;
-      few = at_most_one c.add_difference-is_other.result c.loop-left.differ c.counted-differ.result c.loop-left.left c.args.count c.counted-differ.ensures c.loop-left.invariant.few c.loop-left-test.true;
+          c.stored_len-len.ensures c.stored_len-other_len.ensures c.split_at.ensures.front c.split_at-in-loop-left.ensures.front c.split_at.ensures.back c.split_at-in-loop-left.ensures.back c.in_ok-is_other.ensures.differ c.loop-left-test.true c.loop-left.invariant.differ c.counted-differ.ensures;
+      few = at_most_one c.in_ok-is_other.is_other c.loop-left.differ c.counted-differ.result c.loop-left.left c.args.count c.counted-differ.ensures c.loop-left.invariant.few c.loop-left-test.true;
       long = shorter c.loop-left.left len c.stored_len-len.result c.loop-left.rest.now c.split_at.result.1.now c.loop-left-test.true c.loop-left.invariant.long c.stored_len-len.ensures c.split_at.ensures.back;
       other_long = shorter c.loop-left.left other_len c.stored_len-other_len.result c.loop-left.other_rest.now c.split_at-in-loop-left.result.1.now c.loop-left-test.true c.loop-left.invariant.other_long c.stored_len-other_len.ensures c.split_at-in-loop-left.ensures.back;
       end = omega (arith, c.loop-left.invariant.end, c.loop-left-test.true);
       other_end = omega (arith, c.loop-left.invariant.other_end, c.loop-left-test.true);
-      count = omega (arith, c.write_all.ensures.count, c.loop-left.invariant.count);
+      count = omega (arith, c.write_difference.ensures.count, c.loop-left.invariant.count);
     }

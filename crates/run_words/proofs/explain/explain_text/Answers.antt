@@ -1,6 +1,6 @@
-use Rattle.std.proofs.Common.{inl, inr, refl}
+use Rattle.std.proofs.Common.{inr}
 use Rattle.script_text.specs.Language.{script_in}
-use Rattle.run_words.proofs.Marking.{as_marked, as_read}
+use Rattle.run_words.proofs.Marking.{as_read}
 use Rattle.run_words.proofs.explain.explain_text.Goals as goal
 
 pub returns-in-Ok-clause-verdict : goal.returns-in-Ok-clause-verdict

@@ -1,4 +1,3 @@
-use Rattle.std.proofs.Common.{◌++◌}
 use Rattle.std.proofs.lemmas.Result.{on_ok_weaker, on_err_weaker}
 use Rattle.report_text.proofs.Flow.{appended_both, on_err, part_first, part_second}
 use Rattle.run_words.specs.Commands.{command_line}

@@ -1,4 +1,4 @@
-use Rattle.std.proofs.Common.{◌≡◌, ◌++◌, List, drop, ap, sym, subst, ◌∙◌}
+use Rattle.std.proofs.Common.{List, drop, ap, sym, subst, ◌∙◌}
 use Rattle.dix_base.specs.Told.{Appended}
 use Rattle.report_text.proofs.Flow.{on_err, whole_is_part}
 use Rattle.volume_table.specs.Places.{volume_len}

@@ -1,6 +1,6 @@
 use Rattle.std.proofs.Common.{◌≡◌, ◌++◌, codes, ap, subst, ◌∙◌}
 use Rattle.dix_base.specs.Told.{Appended, AppendedSome}
-use Rattle.vector_lines.specs.Printed.{outcome_text, tail_text, word_text}
+use Rattle.vector_lines.specs.Printed.{tail_text, word_text}
 use Rattle.std.proofs.lemmas.Result.{on_ok_weaker, on_err_weaker}
 use Rattle.report_text.proofs.Flow.{appended_both, on_err, part_first, part_second}
 use Rattle.vector_lines.proofs.text.write_tail.Goals as goal
