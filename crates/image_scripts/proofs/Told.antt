@@ -1,14 +1,13 @@
 -- What a rig that tells its image tells of its units: after it was opened, and after a run.
 use Rattle.std.proofs.Common.{◌≡◌, ℕ, ◌≤◌, ◌<◌, inl, inr, true, false, List, length, map, take, Some, None, sym, ap, subst, ◌∙◌, arith}
 use Rattle.std.specs.Prelude.{All, Option, ◌++◌}
-use Rattle.std.proofs.lemmas.List.{take_all}
 use Rattle.pi_tuple.specs.Finds.{is_zero}
 use Rattle.target_answer.specs.Frames.{joined}
 use Rattle.target_answer.specs.Headers.{is_layout}
 use Rattle.target_answer.specs.Image.{formatted, units_in}
 use Rattle.target_answer.specs.Target.{Stored}
 use Rattle.target_answer.specs.declared.units.UnitSpec.{UnitSpec}
-use Rattle.rig_api.specs.Head.{Head, IsHeadOf, head_fault, head_of, units_of}
+use Rattle.rig_api.specs.Head.{Head, head_fault, head_of, units_of}
 use Rattle.rig_api.specs.Telling.{IsStanding, Standing, own_units, specs_of, units_told}
 use Rattle.rig_discovery.specs.Discovery.{info_of}
 use Rattle.volume_table.specs.declared.device.DeviceInfo.{DeviceInfo}
@@ -21,18 +20,12 @@ use Rattle.image_commands.specs.Causes.{WasFormatted}
 use Rattle.image_commands.specs.Views.{View}
 use Rattle.image_layout.proofs.Heads.{layout_parts, right_layout}
 use Rattle.script_verdict.specs.Verdict.{WasAsked, devices_of}
-use Rattle.script_verdict.proofs.Devices.{image_devices}
+use Rattle.script_verdict.proofs.Devices.{image_devices, headed as head_told, all_specs}
 use Rattle.image_scripts.specs.Over.{blocks_in, image_with}
 use Rattle.image_scripts.proofs.Cut.{image_is_cut}
 use Rattle.image_scripts.proofs.FreshHead.{units_back}
 
 -- ---- after it was opened
-
-head_told : (h : Head) (image : List ℕ) (told : Option (List ℕ)) → told ≡ Some image → IsHeadOf h told → h ≡ head_of image
-head_told h image told e i = rw e at i
-
-all_specs : (s : Standing) → s.devices ≡ length (units_of s.head) → specs_of s ≡ units_of s.head
-all_specs s e = take_all s.devices (units_of s.head) (omega (arith, e))
 
 -- a rig stands on the image's head
 pub head_asked : (name : List ℕ) (devices : List DeviceInfo) (old told : View) (image : List ℕ) → old.image ≡ Some image → WasAsked name devices old told → told.standing.head ≡ head_of image

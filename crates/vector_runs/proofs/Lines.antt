@@ -1,8 +1,8 @@
 -- The text of records, line by line.
-use Rattle.std.proofs.Common.{ℕ, zero, suc, Bool, true, false, ◌&&◌, ◌||◌, ◌≡◌, ◌+◌, ◌<◌, ◌≤◌, List, [], ◌∷◌, ◌++◌, length, get_or, drop, refl, sym, ap, ◌∙◌, arith, add-one, drop-cons}
+use Rattle.std.proofs.Common.{ℕ, suc, ◌||◌, ◌≡◌, ◌+◌, ◌<◌, ◌≤◌, List, [], ◌∷◌, ◌++◌, length, get_or, drop, sym, ap, ◌∙◌, add-one, drop-cons}
 use Rattle.std.specs.Prelude.{is_some}
 use Rattle.std.proofs.lemmas.List.{drop_all}
-use Rattle.rig_api.specs.Log.{Entry, entry_at, has_key, have_keys, no_entry}
+use Rattle.rig_api.specs.Log.{Entry, entry_at, no_entry}
 use Rattle.rig_api.specs.declared.rig.Record.{Record}
 use Rattle.vector_lines.specs.Printed.{in_of, vector_line}
 use Rattle.vector_lines.specs.declared.line.VectorLine.{VectorLine}
@@ -21,22 +21,6 @@ next_line i k ls es l is h g =
 -- whether some record has a sense, from one on
 pub next_sense : (k : ℕ) (es : List Entry) → k < length es → has_sense (drop k es) ≡ (is_some (entry_at es k).what.outcome.sense || has_sense (drop (k + 1) es))
 next_sense k es g = ap has_sense (drop-cons es k no_entry g) ∙ ap (λ n. is_some (entry_at es k).what.outcome.sense || has_sense (drop n es)) (sym (add-one k))
-
-and_first : (a b : Bool) → a && b ≡ true → a ≡ true
-and_first true b h = refl
-and_first false b h = h
-
-and_second : (a b : Bool) → a && b ≡ true → b ≡ true
-and_second true b h = h
-and_second false b h = absurd (cc)
-
-key_at : (es : List Entry) (i : ℕ) → have_keys es ≡ true → has_key (entry_at es i).what.outcome.sense ≡ true
-key_at [] i k = refl
-key_at (e ∷ es) zero k = and_first (has_key e.what.outcome.sense) (have_keys es) k
-key_at (e ∷ es) (suc i) k = key_at es i (and_second (has_key e.what.outcome.sense) (have_keys es) k)
-
-pub key_of : (es : List Entry) (i : ℕ) (r : Record) → have_keys es ≡ true → r ≡ (entry_at es i).what → has_key r.outcome.sense ≡ true
-key_of es i r k e = ap (λ x. has_key x.outcome.sense) e ∙ key_at es i k
 
 -- the line of a record, told by its parts
 pub told_line : (es : List Entry) (i : ℕ) (l : VectorLine) (r : Record) (cdb moved sent came : List ℕ) → r ≡ (entry_at es i).what → cdb ≡ r.cdb → moved ≡ (entry_at es i).moved → sent ≡ l.out → came ≡ in_of cdb moved →

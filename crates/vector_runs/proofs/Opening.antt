@@ -1,5 +1,5 @@
 -- An image that was opened for a list.
-use Rattle.std.proofs.Common.{ℕ, ◌≡◌, ◌≤◌, inl, List, [], length, Some, None, refl, sym, ap, subst, ◌∙◌, arith}
+use Rattle.std.proofs.Common.{ℕ, ◌≡◌, inl, List, [], length, None, sym, ap, subst, ◌∙◌, arith}
 use Rattle.rig_api.specs.Head.{IsHeadOf, head_fault, units_of}
 use Rattle.rig_api.specs.Telling.{Opened, Standing, units_told}
 use Rattle.image_commands.specs.Causes.{CauseUnopened}

@@ -1,18 +1,17 @@
 -- The rig is opened at most once, and its count of faults doesn't fall.
-use Rattle.std.proofs.Common.{ℕ, ◌≡◌, ◌⊎◌, inl, inr, ◌≤◌, ◌+◌, List, ap, subst, ◌∙◌, arith, refl}
-use Rattle.dix_base.specs.Told.{Rose}
+use Rattle.std.proofs.Common.{ℕ, ◌≡◌, ◌⊎◌, inl, inr, ◌≤◌, List, ap, ◌∙◌, arith, refl}
 use Rattle.image_commands.specs.Causes.{CauseUntold, HasOpened}
 use Rattle.image_commands.specs.Views.{HasKept, OpenedOnce, View}
 use Rattle.image_commands.specs.declared.fault.Fault.{Fault}
 use Rattle.image_commands.specs.declared.fault.Fault.TheVariants as fault
-use Rattle.rig_api.specs.Telling.{Opened, Standing, Stayed}
+use Rattle.rig_api.specs.Telling.{Opened, Standing}
 use Rattle.script_text.specs.declared.script.Script.{Script}
 use Rattle.script_verdict.specs.Verdict.{CauseStopped, Facts, HasRun, StoppedShort}
 use Rattle.script_verdict.specs.declared.refusal.Refusal.{Refusal}
 use Rattle.script_verdict.specs.declared.refusal.Refusal.TheVariants as refusal
 use Rattle.script_verdict.specs.declared.verdict.Finished.{Finished}
 use Rattle.vector_lines.specs.declared.line.VectorLine.{VectorLine}
-use Rattle.vector_runs.specs.Answered.{BrokeOff, HasAnswered, IsReady}
+use Rattle.vector_runs.specs.Answered.{BrokeOff, IsReady}
 use Rattle.vector_runs.specs.Played.{CauseNotListed, CauseNotPlayed, HasPlayed}
 use Rattle.vector_runs.specs.declared.playing.Played.{Played}
 use Rattle.vector_runs.specs.declared.playing.Played.TheVariants as played

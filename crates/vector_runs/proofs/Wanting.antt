@@ -1,5 +1,5 @@
 -- What a text holds, as the source held it.
-use Rattle.std.proofs.Common.{ℕ, ◌≡◌, ◌⊎◌, inl, inr, ◌+◌, true, false, if◌then◌else◌, List, Option, Some, None, Result, Ok, Err, refl, sym, ap, subst, ◌∙◌, arith}
+use Rattle.std.proofs.Common.{ℕ, ◌≡◌, ◌⊎◌, inl, inr, true, false, if◌then◌else◌, List, Option, Some, Result, Ok, Err, refl, sym, ap, subst, ◌∙◌}
 use Rattle.std.specs.Prelude.{IfErr, IfOk, MatchResult}
 use Rattle.script_lines.specs.declared.kind.ScriptKind.TheVariants.{Memory}
 use Rattle.script_text.specs.Language.{script_in}
@@ -7,8 +7,9 @@ use Rattle.script_text.specs.declared.fault.ScriptFault.{ScriptFault}
 use Rattle.script_text.specs.declared.script.Script.{Script}
 use Rattle.script_verdict.specs.declared.refusal.Refusal.{Refusal}
 use Rattle.script_verdict.specs.declared.refusal.Refusal.TheVariants as refusal
+use Rattle.script_verdict.proofs.Refusing.{within}
 use Rattle.script_words.specs.Cuts.{lines_of}
-use Rattle.source_text.specs.Reading.{IsWhole, TookAtMost, most_bytes}
+use Rattle.source_text.specs.Reading.{IsWhole}
 use Rattle.vector_lines.specs.Texts.{is_list, list_in}
 use Rattle.vector_lines.specs.declared.read.VectorFault.{VectorFault}
 use Rattle.vector_runs.specs.Taken.{CauseNotHeld, CauseNotTaken, HasTaken, Holds, as_script, list_fault, script_fault, text_fault}
@@ -40,9 +41,6 @@ pub taken_so : (r : Result Wanted Refusal) (text : List ℕ) (a b : Option (List
 taken_so (Ok (wanted.Lines lines)) text a b w h = record { text = text; whole = w; list = h.0; reads = h.1 }
 taken_so (Ok (wanted.Script s)) text a b w h = record { text = text; whole = w; script_is = h.0; reads = h.1; plays = h.2 }
 taken_so (Err r) text a b w h = tt
-
-within : (text : List ℕ) (a b : Option (List ℕ)) → IsWhole text a b → TookAtMost (most_bytes + 1) a b
-within text a b w = let l = w.2 in (text, w.0, omega (arith, l))
 
 not_taken : (r : Refusal) (text : List ℕ) (a b : Option (List ℕ)) (o n : ℕ) → IsWhole text a b → CauseNotHeld r text → CauseNotTaken r a b o n
 not_taken r text a b o n w (inl m) = subst (λ x. CauseNotTaken x a b o n) (sym m) (within text a b w)

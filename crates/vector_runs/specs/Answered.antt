@@ -3,7 +3,6 @@ use Rattle.rig_api.specs.Head.{units_of}
 use Rattle.rig_api.specs.Telling.{units_told}
 use Rattle.image_commands.specs.Causes.{CauseUnopened}
 use Rattle.image_commands.specs.Views.{HasKept, OpenedOnce, View, WasOpened}
-use Rattle.image_commands.specs.declared.fault.Fault.{Fault}
 use Rattle.image_commands.specs.declared.fault.Fault.TheVariants as fault
 use Rattle.vector_lines.specs.declared.line.VectorLine.{VectorLine}
 use Rattle.vector_runs.specs.declared.answering.ListFault.{ListFault}

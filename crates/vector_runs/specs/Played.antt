@@ -1,4 +1,4 @@
-use Rattle.std.specs.Prelude.{ℕ, ◌≡◌, ◌+◌, ◌≤◌, ◌⊎◌, true, false, Bool, List, ◌++◌, length, drop, Option, Some, None, Result, Ok, IfErr, IfOk, MatchResult}
+use Rattle.std.specs.Prelude.{ℕ, ◌≡◌, ◌+◌, ◌≤◌, ◌⊎◌, true, false, List, ◌++◌, length, drop, Some, None, Result, Ok, IfErr, IfOk, MatchResult}
 use Rattle.dix_base.specs.Told.{Calm}
 use Rattle.image_commands.specs.Views.{OpenedOnce, View}
 use Rattle.image_commands.specs.declared.fault.Fault.TheVariants as fault
@@ -15,7 +15,7 @@ use Rattle.script_words.specs.Cuts.{lines_of}
 use Rattle.vector_lines.specs.Texts.{is_list, list_in}
 use Rattle.vector_lines.specs.declared.line.VectorLine.{VectorLine}
 use Rattle.vector_runs.specs.Answered.{CauseUnanswered, HasAnswered}
-use Rattle.vector_runs.specs.ListText.{has_sense, list_text}
+use Rattle.vector_runs.specs.ListText.{list_text}
 use Rattle.vector_runs.specs.Ranges.{out_of_range}
 use Rattle.vector_runs.specs.RecordText.{vectors_text}
 use Rattle.vector_runs.specs.Taken.{CauseNotTaken, as_script, HoldsList, HoldsScript}

@@ -1,6 +1,6 @@
 //! A list done on an image.
 
-ghost use Rattle.std.specs.Prelude.{◌≡◌, MatchResult, length};
+ghost use Rattle.std.specs.Prelude.{MatchResult};
 ghost use Rattle.image_commands.specs.Views.{seen, view};
 ghost use Rattle.vector_runs.specs.Answered.{CauseUnanswered, HasAnswered};
 

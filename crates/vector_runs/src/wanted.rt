@@ -9,16 +9,10 @@ use crate::scripts::unplayed;
 use dix_base::Source;
 use script_laws::a_read_script_keeps_the_rules;
 use script_text::{Script, ScriptFault, ScriptKind, read_script};
-use script_verdict::Refusal;
+use script_verdict::{Refusal, TOO_LONG};
 use source_text::{Unread, read_all};
 use std::alloc::Global;
 use vector_lines::{VectorFault, VectorLine, is_list, read_list};
-
-/// The fault of a text that is too long.
-const TOO_LONG: ScriptFault = ScriptFault {
-    line: 0,
-    kind: ScriptKind::TooMany,
-};
 
 /// What a text without a fault holds.
 #[derive(Drop)]

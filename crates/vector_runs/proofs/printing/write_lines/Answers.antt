@@ -1,4 +1,4 @@
-use Rattle.std.proofs.Common.{◌≡◌, ◌<◌, ◌+◌, ◌++◌, [], length, drop, subst, ap, sym, ◌∙◌, arith}
+use Rattle.std.proofs.Common.{◌<◌, ◌+◌, length, drop, subst, arith}
 use Rattle.report_text.proofs.Flow.{Left, at_end, breaks_off, goes_on, on_err}
 use Rattle.rig_api.specs.Log.{entry_at}
 use Rattle.vector_runs.specs.ListText.{line_text, lines_text}

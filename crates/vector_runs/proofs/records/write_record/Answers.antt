@@ -1,9 +1,9 @@
 use Rattle.std.proofs.Common.{subst}
 use Rattle.dix_base.specs.Told.{Appended, AppendedSome}
 use Rattle.std.proofs.lemmas.Result.{on_ok_weaker, on_err_weaker}
-use Rattle.vector_runs.proofs.Lines.{key_of}
 use Rattle.vector_runs.proofs.RecordLines.{told_record}
 use Rattle.vector_runs.proofs.records.write_record.Goals as goal
+use Rattle.report_text.proofs.Lines.{keyed as key_of}
 
 pub write_vector-requires : goal.write_vector-requires
 write_vector-requires g c = key_of (g.R.Rig.log c.args.rig.now) c.args.i c.logged-what.result.now (g.met.R.Rig.keyed c.args.rig.now) c.logged-what.ensures
