@@ -1,6 +1,6 @@
 -- How the dump of a stretch's blocks grows, piece by piece.
 use Rattle.std.proofs.Common.{◌≡◌, ℕ, zero, suc, ◌+◌, ◌-◌, ◌*◌, ◌/◌, ◌<◌, ◌≤◌, List, [], ◌∷◌, ◌++◌, length, take, drop, Option, Some, None, refl, sym, ap, subst, ◌∙◌, arith, append_assoc, append-nil}
-use Rattle.std.proofs.lemmas.List.{length-drop}
+use Rattle.std.proofs.lemmas.List.{length-drop, take-append-drop}
 use Rattle.std.proofs.Math.Nat.{mul-div-le, mul-le-mul_left, mul_comm}
 use Rattle.std.specs.Prelude.{min, Result, Ok, Err}
 use Rattle.dix_base.specs.Told.{Appended, AppendedSome, HasLength}
@@ -16,6 +16,7 @@ use Rattle.image_blocks.proofs.Stretches.{has_both, has_none, has_some}
 use Rattle.image_dumps.specs.declared.fault.DumpFault.{DumpFault}
 use Rattle.image_dumps.specs.declared.fault.DumpFault.TheVariants.{Store, Sink}
 use Rattle.image_dumps.specs.declared.layout.Layout.{Layout}
+use Rattle.image_dumps.specs.declared.layout.Layout.TheVariants.{Interleaved}
 use Rattle.image_dumps.specs.Dumps.{dump_of, piece_of}
 use Rattle.image_dumps.specs.Ends.{DumpEnds, HasDumped, HasDumpedSome, dump_in}
 
@@ -40,6 +41,18 @@ shorter n len m rest more h l e r = let k = less_one n len h in let d = ap lengt
 
 pub first_fits : (n len m : ℕ) (rest : List ℕ) → 0 < n → length rest ≡ n * len → m ≡ len → m ≤ length rest
 first_fits n len m rest h l e = let k = less_one n len h in omega (arith, k, l, e)
+
+pieces_whole : (size len n : ℕ) (bytes : List ℕ) → length bytes ≡ n * len → dump_of Interleaved size (frames_of len n bytes) ≡ bytes
+pieces_whole size len zero [] l = refl
+pieces_whole size len zero (b ∷ bytes) l = absurd (omega (arith, l))
+pieces_whole size len (suc n) bytes l =
+    let e : suc n - 1 ≡ n = omega arith in
+    let k : length (drop len bytes) ≡ n * len = shorter (suc n) len len bytes (drop len bytes) (omega arith) l refl refl ∙ ap (λ m. m * len) e in
+    ap (λ v. take len bytes ++ v) (pieces_whole size len n (drop len bytes) k) ∙ take-append-drop len bytes
+
+-- where each piece is all of its block, the dump is the blocks as they lie
+pub as_they_lie : (layout : Layout) (size len n : ℕ) (bytes : List ℕ) → layout ≡ Interleaved → length bytes ≡ n * len → dump_of layout size (frames_of len n bytes) ≡ bytes
+as_they_lie layout size len n bytes e l = ap (λ v. dump_of v size (frames_of len n bytes)) e ∙ pieces_whole size len n bytes l
 
 -- as many blocks as a room holds lie in it
 pub in_room : (piece left : Stretch) (most room len : ℕ) → piece ≡ front_in left most → most ≡ min (room / len) 65536 → piece.count * len ≤ room

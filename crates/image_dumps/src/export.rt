@@ -30,7 +30,7 @@ fn piece_of(layout: Layout, unit: UnitSpec, block: &[u8]) -> &[u8]
     }
 }
 
-/// Writes the pieces of so many stored blocks.
+/// Writes the pieces of so many stored blocks, one by one.
 fn write_pieces<O: Sink>(
     out: &mut O,
     layout: Layout,
@@ -55,7 +55,27 @@ fn write_pieces<O: Sink>(
     Ok(())
 }
 
-/// Reads the blocks of a stretch into `into`, which has just their length, and writes their pieces.
+/// Writes the dump of so many stored blocks. Where a piece is all of its block, they are written as they lie.
+fn write_dump<O: Sink>(
+    out: &mut O,
+    layout: Layout,
+    unit: UnitSpec,
+    count: u32,
+    frames: &[u8],
+) -> Result<(), Failed>
+    requires { length frames.now ≡ count * stored_size unit.ty unit.size }
+    ensures whole { OnOk result (Appended (dump_of layout unit.size (frames_of (stored_size unit.ty unit.size) count frames.now)) (O.taken out.old) (O.taken out.new)) }
+    ensures part { OnErr result (AppendedSome (dump_of layout unit.size (frames_of (stored_size unit.ty unit.size) count frames.now)) (O.taken out.old) (O.taken out.new)) }
+    ensures cause { OnErr result (Rose (O.faults out.old) (O.faults out.new)) }
+    ensures count { O.faults out.old ≤ O.faults out.new }
+{
+    match layout {
+        Layout::Interleaved => write_all(out, frames),
+        Layout::Plain | Layout::Tuples => write_pieces(out, layout, unit, count, frames),
+    }
+}
+
+/// Reads the blocks of a stretch into `into`, which has just their length, and writes their dump.
 fn export_piece<S: Store, O: Sink>(
     store: &mut S,
     image: &Image,
@@ -80,13 +100,13 @@ fn export_piece<S: Store, O: Sink>(
         Err(Failed) => return Err(DumpFault::Store),
     }
     let unit = image.units()[at.dev as usize];
-    match write_pieces(out, layout, unit, at.count, into) {
+    match write_dump(out, layout, unit, at.count, into) {
         Ok(()) => Ok(()),
         Err(Failed) => Err(DumpFault::Sink),
     }
 }
 
-/// Writes the pieces of the blocks of a place. They are read into `room` by stretches of as many blocks as
+/// Writes the dump of the blocks of a place. They are read into `room` by stretches of as many blocks as
 /// it holds.
 fn export_all<S: Store, O: Sink>(
     store: &mut S,
