@@ -1,11 +1,10 @@
 -- What follows from a verdict with its cause.
-use Rattle.std.proofs.Common.{ℕ, ◌≡◌, ◌≤◌, ◌⊎◌, inl, inr, Bool, true, false, ltb, List, length, Option, Some, None, Result, Ok, Err, refl, sym, ap, subst, ◌∙◌, arith}
+use Rattle.std.proofs.Common.{ℕ, ◌≡◌, ◌⊎◌, inl, inr, Bool, true, false, ltb, List, length, Option, Some, None, Result, Ok, Err, refl, sym, ap, subst, ◌∙◌}
 use Rattle.dix_base.specs.Told.{Calm, Rose}
 use Rattle.image_blocks.specs.declared.stretch.PlaceFault.{PlaceFault}
 use Rattle.image_blocks.specs.declared.stretch.Stretch.{Stretch}
 use Rattle.image_blocks.specs.Places.{spec_of}
 use Rattle.image_dumps.specs.Dumps.{fits}
-use Rattle.image_dumps.specs.declared.fault.ImportFault.{ImportFault}
 use Rattle.image_dumps.specs.declared.fault.ImportFault.TheVariants as halt
 use Rattle.dix_words.specs.Grammar.{image_in}
 use Rattle.image_diff.specs.Compared.{Places, differ_of}
@@ -14,33 +13,28 @@ use Rattle.lab_words.specs.declared.command.Command.{Command}
 use Rattle.lab_words.specs.declared.command.Command.TheVariants.{Help, Version, ShowUnits, ShowBlocks, Diff, Export, Import, Vectors, Judge, Explain, Sweep}
 use Rattle.lab_words.specs.declared.layout.Layout.{Layout}
 use Rattle.lab_words.specs.declared.place.Place.{Place}
-use Rattle.rig_api.specs.Head.{Head, IsHeadOf, head_fault, head_of, units_of}
+use Rattle.rig_api.specs.Head.{head_fault, head_of, units_of}
 use Rattle.rig_api.specs.declared.rig.RigFault.{RigFault}
 use Rattle.target_answer.specs.declared.units.UnitSpec.{UnitSpec}
-use Rattle.lab_run.specs.Calls.{Facts, Held, laid_as, second_in, served_in, stretch_in, uses_rig, uses_second}
-use Rattle.lab_run.specs.Headline.{AreCalm, AreComparable, AreOtherPlaces, CameTo, Carries, Causes, DoneBy, IsAtFault, IsBadHead, IsComplete, IsDone, IsDumpAtFault, IsNoPlace, IsNoTuples, IsOtherLength, IsReady, IsRight, IsSecondWrong, IsWrong, IsWrongDump, StoreRose, Wrote, dump_len, layout_named, place_named}
+use Rattle.lab_words.specs.Grammar.{command_in}
+use Rattle.lab_run.specs.Calls.{Facts, Held, laid_as, second_in, stretch_in, uses_rig, uses_second}
+use Rattle.lab_run.specs.Headline.{AreCalm, CameTo, Carries, Causes, DoneBy, IsAtFault, IsBadHead, IsComplete, IsDone, IsDumpAtFault, IsNoPlace, IsNoTuples, IsOtherLength, IsReady, IsRight, IsSecondWrong, IsWrong, IsWrongDump, StoreRose, Wrote, dump_len, layout_named, place_named}
 use Rattle.lab_run.specs.Outcomes.{BadImage, BadInput, Done, Ending, Found, NoMemory, Outcome, RigFailed, SourceFailed, ending_status}
 use Rattle.lab_run.specs.Texts.{status_of}
-use Rattle.lab_run.specs.Verdict.{AreOneSize, BadHeadOf, BrokeOff, Cause, CauseByCommand, CauseNotCompared, CauseRan, Compared, DumpTaken, Ended, Exported, HasBadHead, HasBadSecond, HasBrokenOff, HasExported, HasFound, HasImported, HasNoPlace, HasNoSecondPlace, HasNoTuples, HasOpened, HasOtherCount, HasOtherSize, HaveBoth, Helped, Imported, Judged, Listed, Marked, OpenedAs, Ran, Refused, Shown, Verdict, Versioned, Written, done_status, verdict_status, verdict_text}
-use Rattle.script_text.specs.declared.fault.ScriptFault.{ScriptFault}
-use Rattle.script_text.specs.declared.script.Script.{Script}
-use Rattle.lab_run.specs.Judging.{HasScriptFault, IsScriptAtFault, JudgesText}
+use Rattle.lab_run.specs.Verdict.{AreOneSize, BadHeadOf, BrokeOff, Cause, CauseByCommand, CauseNotCompared, CauseRan, Compared, Ended, Exported, HasBadHead, HasBadSecond, HasBrokenOff, HasFound, HasImported, HasNoPlace, HasNoSecondPlace, HasNoTuples, HasOpened, HasOtherCount, HasOtherSize, HaveBoth, Helped, Imported, Judged, Listed, Marked, OpenedAs, Ran, Refused, Shown, Verdict, Versioned, Written, done_status, verdict_status, verdict_text}
+use Rattle.lab_run.specs.Judging.{IsScriptAtFault}
 use Rattle.lab_run.specs.declared.refusal.Refusal.{Refusal}
 use Rattle.lab_run.specs.declared.refusal.Refusal.TheVariants as refusal
 use Rattle.lab_run.specs.declared.status.Status.{Status}
 use Rattle.lab_run.specs.declared.status.Status.TheVariants as status
+use Rattle.lab_run.proofs.Sweeps.{no_rig_failed, sweeps_texts, swept_reads}
 use Rattle.lab_run.proofs.Dumping.{long_other, short_other, whole_long}
 use Rattle.lab_run.proofs.Vectoring.{plays, vectors_reads, vectors_rig}
 use Rattle.lab_run.proofs.Explains.{explained_reads, explained_rig, explains_run}
 use Rattle.lab_run.proofs.Judges.{judges_text}
-
-never_rose : (o n : ℕ) → Calm o n → Rose o n → ⊥
-never_rose o n c (inl r) = let a = c.0 in omega arith
-never_rose o n c (inr r) = let a = c.1 in omega arith
-
-rose_from : (a b c : ℕ) → a ≤ b → Rose b c → Rose a c
-rose_from a b c h (inl r) = inl (omega (arith, h, r))
-rose_from a b c h (inr r) = inr r
+use Rattle.target_model.proofs.Bytes.{rise as rose_from}
+use Rattle.script_verdict.proofs.Completing.{never_rose}
+use Rattle.script_verdict.proofs.Devices.{headed as head_is}
 
 -- ---- statuses
 
@@ -144,13 +138,13 @@ one_rose : (c : Option Command) (f : Facts) → uses_second c ≡ true → Rose 
 one_rose c f u (inl r) = inl r
 one_rose c f u (inr r) = inr (u, r)
 
-broke_by : (v : Verdict) (f : Facts) (old new : Option (List ℕ)) (result : Status) → Cause v f → BrokeOff v f old new result → StoreRose (served_in f.words) f
+broke_by : (v : Verdict) (f : Facts) (old new : Option (List ℕ)) (result : Status) → Cause v f → BrokeOff v f old new result → StoreRose (command_in f.words) f
 broke_by (Refused r) f old new result c b = absurd b
 broke_by Helped f old new result c b = absurd b
 broke_by Versioned f old new result c b = absurd b
 broke_by (Listed us) f old new result c b = absurd b
 broke_by (Shown us at blocks) f old new result c b = inl b.1
-broke_by (Compared p ones twos) f old new result c b = one_rose (served_in f.words) f (ap uses_second c.named) b.1
+broke_by (Compared p ones twos) f old new result c b = one_rose (command_in f.words) f (ap uses_second c.named) b.1
 broke_by (Exported us at layout blocks) f old new result c b = inl b.1
 broke_by (Imported us at count layout) f old new result c b = absurd b
 broke_by (Judged script) f old new result c b = absurd b
@@ -192,9 +186,9 @@ ran_done (Some (Import place layout)) w f old new result h t = absurd h
 ran_done (Some Vectors) w f old new result h t = record { outcome = w; ran = h; wrote = t }
 ran_done (Some Judge) w f old new result h t = absurd h
 ran_done (Some Explain) w f old new result h t = record { outcome = w; ran = h; wrote = t }
-ran_done (Some (Sweep byte units)) w f old new result h t = absurd h
+ran_done (Some (Sweep byte units)) w f old new result h t = record { outcome = w; ran = h; wrote = t }
 
-done_by : (f : Facts) (old new : Option (List ℕ)) (o n : ℕ) (result : Status) (v : Verdict) → Cause v f → Written (verdict_status v) (verdict_text v) old new o n result ⊎ BrokeOff v f old new result → IsDone result → DoneBy (served_in f.words) f old new result
+done_by : (f : Facts) (old new : Option (List ℕ)) (o n : ℕ) (result : Status) (v : Verdict) → Cause v f → Written (verdict_status v) (verdict_text v) old new o n result ⊎ BrokeOff v f old new result → IsDone result → DoneBy (command_in f.words) f old new result
 done_by f old new o n result (Refused r) c w d = absurd (refused_not_done r (subst IsDone (whole (Refused r) f old new o n result w d).0 d))
 done_by f old new o n result Helped c w d = subst (λ (x : Option Command). DoneBy x f old new result) (sym c) (whole Helped f old new o n result w d)
 done_by f old new o n result Versioned c w d = subst (λ (x : Option Command). DoneBy x f old new result) (sym c) (whole Versioned f old new o n result w d)
@@ -214,7 +208,7 @@ done_by f old new o n result (Imported us at count layout) c w d =
 done_by f old new o n result (Judged script) c w d =
     subst (λ (x : Option Command). DoneBy x f old new result) (sym c.named) (record { script = script; judged = c; wrote = whole (Judged script) f old new o n result w d })
 done_by f old new o n result (Marked text bad) c w d = absurd (not_input (subst IsDone (whole (Marked text bad) f old new o n result w d).0 d))
-done_by f old new o n result (Ran x) c w d = ran_done (served_in f.words) x f old new result c (whole (Ran x) f old new o n result w d)
+done_by f old new o n result (Ran x) c w d = ran_done (command_in f.words) x f old new result c (whole (Ran x) f old new o n result w d)
 
 -- ---- why it ended
 
@@ -410,8 +404,8 @@ store_rose (Some Judge) f e = absurd e
 store_rose (Some Explain) f e = absurd e
 store_rose (Some (Sweep byte units)) f e = absurd e
 
-refused_words : (f : Facts) (r : Refusal) → CauseByCommand (served_in f.words) r f → status_of r ≡ status.Words → served_in f.words ≡ None
-refused_words f refusal.Words c e = words_alone (served_in f.words) f c
+refused_words : (f : Facts) (r : Refusal) → CauseByCommand (command_in f.words) r f → status_of r ≡ status.Words → command_in f.words ≡ None
+refused_words f refusal.Words c e = words_alone (command_in f.words) f c
 refused_words f (refusal.Image x) c e = absurd (cc)
 refused_words f (refusal.Place x) c e = absurd (cc)
 refused_words f refusal.NoTuples c e = absurd (cc)
@@ -425,22 +419,22 @@ refused_words f refusal.RigFault c e = absurd (cc)
 refused_words f refusal.ReadFault c e = absurd (cc)
 refused_words f refusal.Memory c e = absurd (cc)
 
-refused_image : (f : Facts) (r : Refusal) → CauseByCommand (served_in f.words) r f → status_of r ≡ status.Image → IsAtFault f
+refused_image : (f : Facts) (r : Refusal) → CauseByCommand (command_in f.words) r f → status_of r ≡ status.Image → IsAtFault f
 refused_image f refusal.Words c e = absurd (cc)
-refused_image f (refusal.Image x) c e = inl (x, bad_head (served_in f.words) x f c)
-refused_image f (refusal.Place x) c e = let k = no_place (served_in f.words) x f c in inr (inl (k.0, x, k.1, k.2))
-refused_image f refusal.NoTuples c e = let k = no_tuples (served_in f.words) f c in inr (inr (inl (k.0, k.1, k.2, k.3)))
-refused_image f (refusal.SecondImage x) c e = let k = second_head (served_in f.words) x f c in inr (inr (inr (inl (k.0, k.1, k.2, inl (x, k.3)))))
-refused_image f (refusal.SecondPlace x) c e = let k = second_place (served_in f.words) x f c in inr (inr (inr (inl (k.0, k.1, k.2, inr (inl (x, k.3))))))
-refused_image f refusal.OtherSize c e = let k = other_size (served_in f.words) f c in inr (inr (inr (inl (k.0, k.1, k.2, inr (inr (inl k.3))))))
-refused_image f refusal.OtherCount c e = let k = other_count (served_in f.words) f c in inr (inr (inr (inl (k.0, k.1, k.2, inr (inr (inr k.3))))))
+refused_image f (refusal.Image x) c e = inl (x, bad_head (command_in f.words) x f c)
+refused_image f (refusal.Place x) c e = let k = no_place (command_in f.words) x f c in inr (inl (k.0, x, k.1, k.2))
+refused_image f refusal.NoTuples c e = let k = no_tuples (command_in f.words) f c in inr (inr (inl (k.0, k.1, k.2, k.3)))
+refused_image f (refusal.SecondImage x) c e = let k = second_head (command_in f.words) x f c in inr (inr (inr (inl (k.0, k.1, k.2, inl (x, k.3)))))
+refused_image f (refusal.SecondPlace x) c e = let k = second_place (command_in f.words) x f c in inr (inr (inr (inl (k.0, k.1, k.2, inr (inl (x, k.3))))))
+refused_image f refusal.OtherSize c e = let k = other_size (command_in f.words) f c in inr (inr (inr (inl (k.0, k.1, k.2, inr (inr (inl k.3))))))
+refused_image f refusal.OtherCount c e = let k = other_count (command_in f.words) f c in inr (inr (inr (inl (k.0, k.1, k.2, inr (inr (inr k.3))))))
 refused_image f (refusal.Short x) c e = absurd (cc)
 refused_image f refusal.Long c e = absurd (cc)
 refused_image f refusal.RigFault c e = absurd (cc)
 refused_image f refusal.ReadFault c e = absurd (cc)
 refused_image f refusal.Memory c e = absurd (cc)
 
-refused_rig : (f : Facts) (r : Refusal) → CauseByCommand (served_in f.words) r f → status_of r ≡ status.RigFault → StoreRose (served_in f.words) f
+refused_rig : (f : Facts) (r : Refusal) → CauseByCommand (command_in f.words) r f → status_of r ≡ status.RigFault → StoreRose (command_in f.words) f
 refused_rig f refusal.Words c e = absurd (cc)
 refused_rig f (refusal.Image x) c e = absurd (cc)
 refused_rig f (refusal.Place x) c e = absurd (cc)
@@ -451,11 +445,11 @@ refused_rig f refusal.OtherSize c e = absurd (cc)
 refused_rig f refusal.OtherCount c e = absurd (cc)
 refused_rig f (refusal.Short x) c e = absurd (cc)
 refused_rig f refusal.Long c e = absurd (cc)
-refused_rig f refusal.RigFault c e = store_rose (served_in f.words) f c
+refused_rig f refusal.RigFault c e = store_rose (command_in f.words) f c
 refused_rig f refusal.ReadFault c e = absurd (cc)
 refused_rig f refusal.Memory c e = absurd (cc)
 
-refused_input : (f : Facts) (r : Refusal) → CauseByCommand (served_in f.words) r f → status_of r ≡ status.Input → IsDumpAtFault f
+refused_input : (f : Facts) (r : Refusal) → CauseByCommand (command_in f.words) r f → status_of r ≡ status.Input → IsDumpAtFault f
 refused_input f refusal.Words c e = absurd (cc)
 refused_input f (refusal.Image x) c e = absurd (cc)
 refused_input f (refusal.Place x) c e = absurd (cc)
@@ -464,15 +458,15 @@ refused_input f (refusal.SecondImage x) c e = absurd (cc)
 refused_input f (refusal.SecondPlace x) c e = absurd (cc)
 refused_input f refusal.OtherSize c e = absurd (cc)
 refused_input f refusal.OtherCount c e = absurd (cc)
-refused_input f (refusal.Short x) c e = let k = short_dump (served_in f.words) x f c in let b = k.3 in
+refused_input f (refusal.Short x) c e = let k = short_dump (command_in f.words) x f c in let b = k.3 in
     (k.0, k.1, b.units, b.at, k.2, b.taken.found, short_other k.1 b.units b.at x f.first.bytes f.first_after.bytes f.left f.left_after b.taken.ends)
-refused_input f refusal.Long c e = let k = long_dump (served_in f.words) f c in let b = k.3 in
+refused_input f refusal.Long c e = let k = long_dump (command_in f.words) f c in let b = k.3 in
     (k.0, k.1, b.units, b.at, k.2, b.taken.found, long_other k.1 b.units b.at b.taken.ends.0 f.first.bytes f.first_after.bytes f.left f.left_after b.taken.ends.1)
 refused_input f refusal.RigFault c e = absurd (cc)
 refused_input f refusal.ReadFault c e = absurd (cc)
 refused_input f refusal.Memory c e = absurd (cc)
 
-refused_reads : (f : Facts) (r : Refusal) → CauseByCommand (served_in f.words) r f → status_of r ≡ status.ReadFault → Rose f.reads f.reads_after
+refused_reads : (f : Facts) (r : Refusal) → CauseByCommand (command_in f.words) r f → status_of r ≡ status.ReadFault → Rose f.reads f.reads_after
 refused_reads f refusal.Words c e = absurd (cc)
 refused_reads f (refusal.Image x) c e = absurd (cc)
 refused_reads f (refusal.Place x) c e = absurd (cc)
@@ -484,11 +478,11 @@ refused_reads f refusal.OtherCount c e = absurd (cc)
 refused_reads f (refusal.Short x) c e = absurd (cc)
 refused_reads f refusal.Long c e = absurd (cc)
 refused_reads f refusal.RigFault c e = absurd (cc)
-refused_reads f refusal.ReadFault c e = source_rose (served_in f.words) f c
+refused_reads f refusal.ReadFault c e = source_rose (command_in f.words) f c
 refused_reads f refusal.Memory c e = absurd (cc)
 
 -- of a verdict that is no refusal the status is 0 or 1
-by_status : (f : Facts) (P : Type 0) (s : Status) (v : Verdict) → Cause v f → ((r : Refusal) → CauseByCommand (served_in f.words) r f → status_of r ≡ s → P) → (IsScriptAtFault f → status.Input ≡ s → P) → ((w : Outcome) → CauseRan (served_in f.words) w f → ending_status w.ending ≡ s → P) → (IsDone s → ⊥) → verdict_status v ≡ s → P
+by_status : (f : Facts) (P : Type 0) (s : Status) (v : Verdict) → Cause v f → ((r : Refusal) → CauseByCommand (command_in f.words) r f → status_of r ≡ s → P) → (IsScriptAtFault f → status.Input ≡ s → P) → ((w : Outcome) → CauseRan (command_in f.words) w f → ending_status w.ending ≡ s → P) → (IsDone s → ⊥) → verdict_status v ≡ s → P
 by_status f P s (Refused r) c refused marked ran other e = refused r c e
 by_status f P s Helped c refused marked ran other e = absurd (other (subst IsDone e (done_is false)))
 by_status f P s Versioned c refused marked ran other e = absurd (other (subst IsDone e (done_is false)))
@@ -514,7 +508,7 @@ ran_rig (Some (Import place layout)) w f h e = absurd h
 ran_rig (Some Vectors) w f h e = (refl, vectors_rig w f h e)
 ran_rig (Some Judge) w f h e = absurd h
 ran_rig (Some Explain) w f h e = (refl, explained_rig w f h e)
-ran_rig (Some (Sweep byte units)) w f h e = absurd h
+ran_rig (Some (Sweep byte units)) w f h e = absurd (no_rig_failed w f h e)
 
 ran_reads : (c : Option Command) (w : Outcome) (f : Facts) → CauseRan c w f → w.ending ≡ SourceFailed → Rose f.reads f.reads_after
 ran_reads None w f h e = absurd h
@@ -528,7 +522,7 @@ ran_reads (Some (Import place layout)) w f h e = absurd h
 ran_reads (Some Vectors) w f h e = vectors_reads w f h e
 ran_reads (Some Judge) w f h e = absurd h
 ran_reads (Some Explain) w f h e = explained_reads w f h e
-ran_reads (Some (Sweep byte units)) w f h e = absurd h
+ran_reads (Some (Sweep byte units)) w f h e = swept_reads w f h e
 
 rig_ending : (x : Ending) → ending_status x ≡ status.RigFault → x ≡ RigFailed
 rig_ending Done e = cc
@@ -570,8 +564,8 @@ reads_done : IsDone status.ReadFault → ⊥
 reads_done (inl e) = cc
 reads_done (inr e) = cc
 
-rig_rose : (f : Facts) (old new : Option (List ℕ)) (o n : ℕ) (result : Status) (v : Verdict) → Cause v f → Written (verdict_status v) (verdict_text v) old new o n result ⊎ BrokeOff v f old new result → result ≡ status.RigFault → StoreRose (served_in f.words) f ⊎ ((uses_rig (served_in f.words) ≡ true) × Rose f.rig.seen.faults f.rig_after.seen.faults)
-rig_rose f old new o n result v c (inl (inl w)) e = by_status f (StoreRose (served_in f.words) f ⊎ ((uses_rig (served_in f.words) ≡ true) × Rose f.rig.seen.faults f.rig_after.seen.faults)) status.RigFault v c (λ r cause k. inl (refused_rig f r cause k)) (λ m k. absurd (cc)) (λ x h k. inr (ran_rig (served_in f.words) x f h (rig_ending x.ending k))) not_rig_fault (sym w.0 ∙ e)
+rig_rose : (f : Facts) (old new : Option (List ℕ)) (o n : ℕ) (result : Status) (v : Verdict) → Cause v f → Written (verdict_status v) (verdict_text v) old new o n result ⊎ BrokeOff v f old new result → result ≡ status.RigFault → StoreRose (command_in f.words) f ⊎ ((uses_rig (command_in f.words) ≡ true) × Rose f.rig.seen.faults f.rig_after.seen.faults)
+rig_rose f old new o n result v c (inl (inl w)) e = by_status f (StoreRose (command_in f.words) f ⊎ ((uses_rig (command_in f.words) ≡ true) × Rose f.rig.seen.faults f.rig_after.seen.faults)) status.RigFault v c (λ r cause k. inl (refused_rig f r cause k)) (λ m k. absurd (cc)) (λ x h k. inr (ran_rig (command_in f.words) x f h (rig_ending x.ending k))) not_rig_fault (sym w.0 ∙ e)
 rig_rose f old new o n result v c (inl (inr w)) e = let k : status.WriteFault ≡ status.RigFault = sym w.0 ∙ e in absurd (cc)
 rig_rose f old new o n result v c (inr w) e = inl (broke_by v f old new result c w)
 
@@ -581,7 +575,7 @@ sink_rose f old new o n result v (inl (inr w)) e = w.1
 sink_rose f old new o n result v (inr w) e = let k : status.RigFault ≡ status.WriteFault = sym (broke_at v f old new result w) ∙ e in absurd (cc)
 
 -- words that are no command are refused
-no_command : (f : Facts) (old new : Option (List ℕ)) (o n : ℕ) (result : Status) (v : Verdict) → Cause v f → Written (verdict_status v) (verdict_text v) old new o n result ⊎ BrokeOff v f old new result → served_in f.words ≡ None → (result ≡ status.Words) ⊎ (result ≡ status.WriteFault)
+no_command : (f : Facts) (old new : Option (List ℕ)) (o n : ℕ) (result : Status) (v : Verdict) → Cause v f → Written (verdict_status v) (verdict_text v) old new o n result ⊎ BrokeOff v f old new result → command_in f.words ≡ None → (result ≡ status.Words) ⊎ (result ≡ status.WriteFault)
 no_command f old new o n result (Refused r) c (inl (inl w)) e = let k : r ≡ refusal.Words = subst (λ (x : Option Command). CauseByCommand x r f) e c in inl (w.0 ∙ ap status_of k)
 no_command f old new o n result (Refused r) c (inl (inr w)) e = inr w.0
 no_command f old new o n result (Refused r) c (inr w) e = absurd w
@@ -597,9 +591,6 @@ no_command f old new o n result (Marked text bad) c w e = let k = sym c.named �
 no_command f old new o n result (Ran x) c w e = absurd (subst (λ (y : Option Command). CauseRan y x f) e c)
 
 -- ---- nothing that is right is refused
-
-head_is : (head : Head) (image : List ℕ) (bytes : Option (List ℕ)) → bytes ≡ Some image → IsHeadOf head bytes → head ≡ head_of image
-head_is head image bytes e h = subst (λ (x : Option (List ℕ)). IsHeadOf head x) e h
 
 right_head : (c : Option Command) (image : List ℕ) (x : RigFault) (f : Facts) → IsRight c f image → CauseByCommand c (refusal.Image x) f → head_fault (head_of image) ≡ None
 right_head None image x f i e = absurd i
@@ -811,22 +802,22 @@ right_count (Some Judge) image f i b e = e
 right_count (Some Explain) image f i b e = e
 right_count (Some (Sweep byte units)) image f i b e = e
 
-refused_for_memory : (f : Facts) (image : List ℕ) (r : Refusal) → f.first.bytes ≡ Some image → IsRight (served_in f.words) f image → AreCalm (served_in f.words) f → CauseByCommand (served_in f.words) r f → status_of r ≡ status.Memory
-refused_for_memory f image refusal.Words b i calm c = absurd (subst (λ (x : Option Command). IsRight x f image) (words_alone (served_in f.words) f c) i)
+refused_for_memory : (f : Facts) (image : List ℕ) (r : Refusal) → f.first.bytes ≡ Some image → IsRight (command_in f.words) f image → AreCalm (command_in f.words) f → CauseByCommand (command_in f.words) r f → status_of r ≡ status.Memory
+refused_for_memory f image refusal.Words b i calm c = absurd (subst (λ (x : Option Command). IsRight x f image) (words_alone (command_in f.words) f c) i)
 refused_for_memory f image (refusal.Image x) b i calm c =
-    let bad = bad_head (served_in f.words) x f c in
-    let e : ◌≡◌ {A = Option RigFault} (Some x) None = sym bad.judged ∙ ap head_fault (head_is bad.head image f.first.bytes b bad.told) ∙ right_head (served_in f.words) image x f i c in
+    let bad = bad_head (command_in f.words) x f c in
+    let e : ◌≡◌ {A = Option RigFault} (Some x) None = sym bad.judged ∙ ap head_fault (head_is bad.head image f.first.bytes b bad.told) ∙ right_head (command_in f.words) image x f i c in
     absurd (cc)
-refused_for_memory f image (refusal.Place x) b i calm c = absurd (right_place (served_in f.words) image x f i b c)
-refused_for_memory f image refusal.NoTuples b i calm c = absurd (right_layout (served_in f.words) image f i b c)
-refused_for_memory f image (refusal.SecondImage x) b i calm c = absurd (right_second_head (served_in f.words) image x f i c)
-refused_for_memory f image (refusal.SecondPlace x) b i calm c = absurd (right_second_place (served_in f.words) image x f i c)
-refused_for_memory f image refusal.OtherSize b i calm c = absurd (right_size (served_in f.words) image f i b c)
-refused_for_memory f image refusal.OtherCount b i calm c = absurd (right_count (served_in f.words) image f i b c)
-refused_for_memory f image (refusal.Short x) b i calm c = absurd (right_short (served_in f.words) image x f i b c)
-refused_for_memory f image refusal.Long b i calm c = absurd (right_long (served_in f.words) image f i b c)
-refused_for_memory f image refusal.RigFault b i calm c = absurd (no_store_rose (served_in f.words) f calm (store_rose (served_in f.words) f c))
-refused_for_memory f image refusal.ReadFault b i calm c = absurd (right_reads (served_in f.words) image f i c)
+refused_for_memory f image (refusal.Place x) b i calm c = absurd (right_place (command_in f.words) image x f i b c)
+refused_for_memory f image refusal.NoTuples b i calm c = absurd (right_layout (command_in f.words) image f i b c)
+refused_for_memory f image (refusal.SecondImage x) b i calm c = absurd (right_second_head (command_in f.words) image x f i c)
+refused_for_memory f image (refusal.SecondPlace x) b i calm c = absurd (right_second_place (command_in f.words) image x f i c)
+refused_for_memory f image refusal.OtherSize b i calm c = absurd (right_size (command_in f.words) image f i b c)
+refused_for_memory f image refusal.OtherCount b i calm c = absurd (right_count (command_in f.words) image f i b c)
+refused_for_memory f image (refusal.Short x) b i calm c = absurd (right_short (command_in f.words) image x f i b c)
+refused_for_memory f image refusal.Long b i calm c = absurd (right_long (command_in f.words) image f i b c)
+refused_for_memory f image refusal.RigFault b i calm c = absurd (no_store_rose (command_in f.words) f calm (store_rose (command_in f.words) f c))
+refused_for_memory f image refusal.ReadFault b i calm c = absurd (right_reads (command_in f.words) image f i c)
 refused_for_memory f image refusal.Memory b i calm c = refl
 
 -- what the clauses say of the stores says nothing of a command that runs a script
@@ -848,9 +839,12 @@ ran_of_no_store (Some Explain) w f image h (inl i) = i
 ran_of_no_store (Some Explain) w f image h (inr (inl i)) = i
 ran_of_no_store (Some Explain) w f image h (inr (inr (inl i))) = let k : ◌≡◌ {A = Option Command} (Some Explain) (Some (Diff i.0 i.1)) = i.2 in absurd (cc)
 ran_of_no_store (Some Explain) w f image h (inr (inr (inr i))) = i
-ran_of_no_store (Some (Sweep byte units)) w f image h i = h
+ran_of_no_store (Some (Sweep byte units)) w f image h (inl i) = i
+ran_of_no_store (Some (Sweep byte units)) w f image h (inr (inl i)) = i
+ran_of_no_store (Some (Sweep byte units)) w f image h (inr (inr (inl i))) = let k : ◌≡◌ {A = Option Command} (Some (Sweep byte units)) (Some (Diff i.0 i.1)) = i.2 in absurd (cc)
+ran_of_no_store (Some (Sweep byte units)) w f image h (inr (inr (inr i))) = i
 
-completes : (f : Facts) (image : List ℕ) (v : Verdict) → f.first.bytes ≡ Some image → IsRight (served_in f.words) f image → AreCalm (served_in f.words) f → Cause v f → IsDone (verdict_status v) ⊎ (verdict_status v ≡ status.Memory)
+completes : (f : Facts) (image : List ℕ) (v : Verdict) → f.first.bytes ≡ Some image → IsRight (command_in f.words) f image → AreCalm (command_in f.words) f → Cause v f → IsDone (verdict_status v) ⊎ (verdict_status v ≡ status.Memory)
 completes f image (Refused r) b i calm c = inr (refused_for_memory f image r b i calm c)
 completes f image Helped b i calm c = inl (done_is false)
 completes f image Versioned b i calm c = inl (done_is false)
@@ -861,12 +855,12 @@ completes f image (Exported us at layout blocks) b i calm c = inl (done_is false
 completes f image (Imported us at count layout) b i calm c = inl (done_is false)
 completes f image (Judged script) b i calm c = inl (done_is false)
 completes f image (Marked text bad) b i calm c = absurd (subst (λ (x : Option Command). IsRight x f image) c.named i)
-completes f image (Ran w) b i calm c = absurd (ran_of_no_store (served_in f.words) w f image c (inl i))
+completes f image (Ran w) b i calm c = absurd (ran_of_no_store (command_in f.words) w f image c (inl i))
 
-as_written : (f : Facts) (old new : Option (List ℕ)) (o n : ℕ) (result : Status) (v : Verdict) → Cause v f → Written (verdict_status v) (verdict_text v) old new o n result ⊎ BrokeOff v f old new result → AreCalm (served_in f.words) f → Calm o n → result ≡ verdict_status v
+as_written : (f : Facts) (old new : Option (List ℕ)) (o n : ℕ) (result : Status) (v : Verdict) → Cause v f → Written (verdict_status v) (verdict_text v) old new o n result ⊎ BrokeOff v f old new result → AreCalm (command_in f.words) f → Calm o n → result ≡ verdict_status v
 as_written f old new o n result v c (inl (inl w)) cs co = w.0
 as_written f old new o n result v c (inl (inr w)) cs co = absurd (never_rose o n co w.1)
-as_written f old new o n result v c (inr w) cs co = absurd (no_store_rose (served_in f.words) f cs (broke_by v f old new result c w))
+as_written f old new o n result v c (inr w) cs co = absurd (no_store_rose (command_in f.words) f cs (broke_by v f old new result c w))
 
 -- ---- an image at fault is refused
 
@@ -912,8 +906,8 @@ wrong_compared f image one other p ones twos b h s m (inr (inr w)) = no_other p 
 wrong_dump : (c : Option Command) (f : Facts) (image : List ℕ) (place : Place) (layout : Layout) (us : List UnitSpec) (at : Stretch) → f.first.bytes ≡ Some image → c ≡ Some (Import place layout) → HasFound us at place layout f → IsWrong c f image → ⊥
 wrong_dump c f image place layout us at b e h i = wrong_found f image us at place layout b h (subst (λ (x : Option Command). IsWrong x f image) e i)
 
-refused_wrong : (f : Facts) (image : List ℕ) (r : Refusal) → f.first.bytes ≡ Some image → IsWrong (served_in f.words) f image → AreCalm (served_in f.words) f → CauseByCommand (served_in f.words) r f → (status_of r ≡ status.Image) ⊎ (status_of r ≡ status.Memory)
-refused_wrong f image refusal.Words b i calm c = absurd (subst (λ (x : Option Command). IsWrong x f image) (words_alone (served_in f.words) f c) i)
+refused_wrong : (f : Facts) (image : List ℕ) (r : Refusal) → f.first.bytes ≡ Some image → IsWrong (command_in f.words) f image → AreCalm (command_in f.words) f → CauseByCommand (command_in f.words) r f → (status_of r ≡ status.Image) ⊎ (status_of r ≡ status.Memory)
+refused_wrong f image refusal.Words b i calm c = absurd (subst (λ (x : Option Command). IsWrong x f image) (words_alone (command_in f.words) f c) i)
 refused_wrong f image (refusal.Image x) b i calm c = inl refl
 refused_wrong f image (refusal.Place x) b i calm c = inl refl
 refused_wrong f image refusal.NoTuples b i calm c = inl refl
@@ -921,13 +915,13 @@ refused_wrong f image (refusal.SecondImage x) b i calm c = inl refl
 refused_wrong f image (refusal.SecondPlace x) b i calm c = inl refl
 refused_wrong f image refusal.OtherSize b i calm c = inl refl
 refused_wrong f image refusal.OtherCount b i calm c = inl refl
-refused_wrong f image (refusal.Short x) b i calm c = let k = short_dump (served_in f.words) x f c in let d = k.3 in absurd (wrong_dump (served_in f.words) f image k.0 k.1 d.units d.at b k.2 d.taken.found i)
-refused_wrong f image refusal.Long b i calm c = let k = long_dump (served_in f.words) f c in let d = k.3 in absurd (wrong_dump (served_in f.words) f image k.0 k.1 d.units d.at b k.2 d.taken.found i)
-refused_wrong f image refusal.RigFault b i calm c = absurd (no_store_rose (served_in f.words) f calm (store_rose (served_in f.words) f c))
-refused_wrong f image refusal.ReadFault b i calm c = let k = unread_dump (served_in f.words) f (λ j. subst (λ (x : Option Command). IsWrong x f image) j i) c in let d = k.3 in absurd (wrong_dump (served_in f.words) f image k.0 k.1 d.units d.at b k.2 d.taken.found i)
+refused_wrong f image (refusal.Short x) b i calm c = let k = short_dump (command_in f.words) x f c in let d = k.3 in absurd (wrong_dump (command_in f.words) f image k.0 k.1 d.units d.at b k.2 d.taken.found i)
+refused_wrong f image refusal.Long b i calm c = let k = long_dump (command_in f.words) f c in let d = k.3 in absurd (wrong_dump (command_in f.words) f image k.0 k.1 d.units d.at b k.2 d.taken.found i)
+refused_wrong f image refusal.RigFault b i calm c = absurd (no_store_rose (command_in f.words) f calm (store_rose (command_in f.words) f c))
+refused_wrong f image refusal.ReadFault b i calm c = let k = unread_dump (command_in f.words) f (λ j. subst (λ (x : Option Command). IsWrong x f image) j i) c in let d = k.3 in absurd (wrong_dump (command_in f.words) f image k.0 k.1 d.units d.at b k.2 d.taken.found i)
 refused_wrong f image refusal.Memory b i calm c = inr refl
 
-wrongs : (f : Facts) (image : List ℕ) (v : Verdict) → f.first.bytes ≡ Some image → IsWrong (served_in f.words) f image → AreCalm (served_in f.words) f → Cause v f → (verdict_status v ≡ status.Image) ⊎ (verdict_status v ≡ status.Memory)
+wrongs : (f : Facts) (image : List ℕ) (v : Verdict) → f.first.bytes ≡ Some image → IsWrong (command_in f.words) f image → AreCalm (command_in f.words) f → Cause v f → (verdict_status v ≡ status.Image) ⊎ (verdict_status v ≡ status.Memory)
 wrongs f image (Refused r) b i calm c = refused_wrong f image r b i calm c
 wrongs f image Helped b i calm c = absurd (subst (λ (x : Option Command). IsWrong x f image) c i)
 wrongs f image Versioned b i calm c = absurd (subst (λ (x : Option Command). IsWrong x f image) c i)
@@ -938,10 +932,10 @@ wrongs f image (Exported us at layout blocks) b i calm c = absurd (wrong_found f
 wrongs f image (Imported us at count layout) b i calm c = absurd (wrong_found f image us at c.place layout b c.taken.found (subst (λ (x : Option Command). IsWrong x f image) c.named i))
 wrongs f image (Judged script) b i calm c = absurd (subst (λ (x : Option Command). IsWrong x f image) c.named i)
 wrongs f image (Marked text bad) b i calm c = absurd (subst (λ (x : Option Command). IsWrong x f image) c.named i)
-wrongs f image (Ran w) b i calm c = absurd (ran_of_no_store (served_in f.words) w f image c (inr (inl i)))
+wrongs f image (Ran w) b i calm c = absurd (ran_of_no_store (command_in f.words) w f image c (inr (inl i)))
 
 refused_as : (f : Facts) (old new : Option (List ℕ)) (o n : ℕ) (result : Status) → Ended f old new o n result →
-    (image : List ℕ) → f.first.bytes ≡ Some image → IsWrong (served_in f.words) f image → AreCalm (served_in f.words) f → Calm o n → (result ≡ status.Image) ⊎ (result ≡ status.Memory)
+    (image : List ℕ) → f.first.bytes ≡ Some image → IsWrong (command_in f.words) f image → AreCalm (command_in f.words) f → Calm o n → (result ≡ status.Image) ⊎ (result ≡ status.Memory)
 refused_as f old new o n result ended = λ image b i cs co.
     subst (λ (s : Status). (s ≡ status.Image) ⊎ (s ≡ status.Memory)) (sym (as_written f old new o n result ended.verdict ended.cause ended.written cs co)) (wrongs f image ended.verdict b i cs ended.cause)
 
@@ -955,7 +949,7 @@ opened_second f image one other p b h (inr w) =
     absurd (cc)
 
 -- what is refused of a `diff` but an image is want of memory
-second_refused : (one other : Place) (f : Facts) (r : Refusal) → served_in f.words ≡ Some (Diff one other) → AreCalm (served_in f.words) f → CauseNotCompared one other r f → (status_of r ≡ status.Image) ⊎ (status_of r ≡ status.Memory)
+second_refused : (one other : Place) (f : Facts) (r : Refusal) → command_in f.words ≡ Some (Diff one other) → AreCalm (command_in f.words) f → CauseNotCompared one other r f → (status_of r ≡ status.Image) ⊎ (status_of r ≡ status.Memory)
 second_refused one other f refusal.Words e calm c = absurd c
 second_refused one other f (refusal.Image x) e calm c = inl refl
 second_refused one other f (refusal.Place x) e calm c = inl refl
@@ -966,11 +960,11 @@ second_refused one other f refusal.OtherSize e calm c = inl refl
 second_refused one other f refusal.OtherCount e calm c = inl refl
 second_refused one other f (refusal.Short x) e calm c = absurd c
 second_refused one other f refusal.Long e calm c = absurd c
-second_refused one other f refusal.RigFault e calm c = absurd (no_store_rose (served_in f.words) f calm (one_rose (served_in f.words) f (ap uses_second e) c))
+second_refused one other f refusal.RigFault e calm c = absurd (no_store_rose (command_in f.words) f calm (one_rose (command_in f.words) f (ap uses_second e) c))
 second_refused one other f refusal.ReadFault e calm c = absurd c
 second_refused one other f refusal.Memory e calm c = inr refl
 
-seconds : (f : Facts) (image : List ℕ) (v : Verdict) → f.second.bytes ≡ Some image → IsSecondWrong (served_in f.words) image → AreCalm (served_in f.words) f → Cause v f → (verdict_status v ≡ status.Image) ⊎ (verdict_status v ≡ status.Memory)
+seconds : (f : Facts) (image : List ℕ) (v : Verdict) → f.second.bytes ≡ Some image → IsSecondWrong (command_in f.words) image → AreCalm (command_in f.words) f → Cause v f → (verdict_status v ≡ status.Image) ⊎ (verdict_status v ≡ status.Memory)
 seconds f image (Refused r) b i calm c = second_refused i.0 i.1 f r i.2 calm (subst (λ (x : Option Command). CauseByCommand x r f) i.2 c)
 seconds f image Helped b i calm c = let k = sym c ∙ i.2 in absurd (cc)
 seconds f image Versioned b i calm c = let k = sym c ∙ i.2 in absurd (cc)
@@ -984,10 +978,10 @@ seconds f image (Exported us at layout blocks) b i calm c = let k = sym c.named 
 seconds f image (Imported us at count layout) b i calm c = let k = sym c.named ∙ i.2 in absurd (cc)
 seconds f image (Judged script) b i calm c = let k = sym c.named ∙ i.2 in absurd (cc)
 seconds f image (Marked text bad) b i calm c = let k = sym c.named ∙ i.2 in absurd (cc)
-seconds f image (Ran w) b i calm c = absurd (ran_of_no_store (served_in f.words) w f image c (inr (inr (inl i))))
+seconds f image (Ran w) b i calm c = absurd (ran_of_no_store (command_in f.words) w f image c (inr (inr (inl i))))
 
 second_refused_as : (f : Facts) (old new : Option (List ℕ)) (o n : ℕ) (result : Status) → Ended f old new o n result →
-    (image : List ℕ) → f.second.bytes ≡ Some image → IsSecondWrong (served_in f.words) image → AreCalm (served_in f.words) f → Calm o n → (result ≡ status.Image) ⊎ (result ≡ status.Memory)
+    (image : List ℕ) → f.second.bytes ≡ Some image → IsSecondWrong (command_in f.words) image → AreCalm (command_in f.words) f → Calm o n → (result ≡ status.Image) ⊎ (result ≡ status.Memory)
 second_refused_as f old new o n result ended = λ image b i cs co.
     subst (λ (s : Status). (s ≡ status.Image) ⊎ (s ≡ status.Memory)) (sym (as_written f old new o n result ended.verdict ended.cause ended.written cs co)) (seconds f image ended.verdict b i cs ended.cause)
 
@@ -1052,23 +1046,23 @@ dump_no_reads (Some (Sweep byte units)) image f i b e = i
 no_dump : (f : Facts) (image : List ℕ) (c : Option Command) → c ≡ None → IsWrongDump c f image → ⊥
 no_dump f image c e i = subst (λ (x : Option Command). IsWrongDump x f image) e i
 
-refused_dump : (f : Facts) (image : List ℕ) (r : Refusal) → f.first.bytes ≡ Some image → IsWrongDump (served_in f.words) f image → AreCalm (served_in f.words) f → CauseByCommand (served_in f.words) r f → (status_of r ≡ status.Input) ⊎ (status_of r ≡ status.Memory)
-refused_dump f image refusal.Words b i calm c = absurd (no_dump f image (served_in f.words) (words_alone (served_in f.words) f c) i)
-refused_dump f image (refusal.Image x) b i calm c = absurd (dump_no_head (served_in f.words) x image f i b c)
-refused_dump f image (refusal.Place x) b i calm c = absurd (dump_no_place (served_in f.words) x image f i b c)
-refused_dump f image refusal.NoTuples b i calm c = absurd (dump_no_tuples (served_in f.words) image f i b c)
-refused_dump f image (refusal.SecondImage x) b i calm c = (let k = second_head (served_in f.words) x f c in absurd (subst (λ (x : Option Command). IsWrongDump x f image) k.2 i))
-refused_dump f image (refusal.SecondPlace x) b i calm c = (let k = second_place (served_in f.words) x f c in absurd (subst (λ (x : Option Command). IsWrongDump x f image) k.2 i))
-refused_dump f image refusal.OtherSize b i calm c = (let k = other_size (served_in f.words) f c in absurd (subst (λ (x : Option Command). IsWrongDump x f image) k.2 i))
-refused_dump f image refusal.OtherCount b i calm c = (let k = other_count (served_in f.words) f c in absurd (subst (λ (x : Option Command). IsWrongDump x f image) k.2 i))
+refused_dump : (f : Facts) (image : List ℕ) (r : Refusal) → f.first.bytes ≡ Some image → IsWrongDump (command_in f.words) f image → AreCalm (command_in f.words) f → CauseByCommand (command_in f.words) r f → (status_of r ≡ status.Input) ⊎ (status_of r ≡ status.Memory)
+refused_dump f image refusal.Words b i calm c = absurd (no_dump f image (command_in f.words) (words_alone (command_in f.words) f c) i)
+refused_dump f image (refusal.Image x) b i calm c = absurd (dump_no_head (command_in f.words) x image f i b c)
+refused_dump f image (refusal.Place x) b i calm c = absurd (dump_no_place (command_in f.words) x image f i b c)
+refused_dump f image refusal.NoTuples b i calm c = absurd (dump_no_tuples (command_in f.words) image f i b c)
+refused_dump f image (refusal.SecondImage x) b i calm c = (let k = second_head (command_in f.words) x f c in absurd (subst (λ (x : Option Command). IsWrongDump x f image) k.2 i))
+refused_dump f image (refusal.SecondPlace x) b i calm c = (let k = second_place (command_in f.words) x f c in absurd (subst (λ (x : Option Command). IsWrongDump x f image) k.2 i))
+refused_dump f image refusal.OtherSize b i calm c = (let k = other_size (command_in f.words) f c in absurd (subst (λ (x : Option Command). IsWrongDump x f image) k.2 i))
+refused_dump f image refusal.OtherCount b i calm c = (let k = other_count (command_in f.words) f c in absurd (subst (λ (x : Option Command). IsWrongDump x f image) k.2 i))
 refused_dump f image (refusal.Short x) b i calm c = inl refl
 refused_dump f image refusal.Long b i calm c = inl refl
-refused_dump f image refusal.RigFault b i calm c = absurd (no_store_rose (served_in f.words) f calm (store_rose (served_in f.words) f c))
-refused_dump f image refusal.ReadFault b i calm c = absurd (dump_no_reads (served_in f.words) image f i b c)
+refused_dump f image refusal.RigFault b i calm c = absurd (no_store_rose (command_in f.words) f calm (store_rose (command_in f.words) f c))
+refused_dump f image refusal.ReadFault b i calm c = absurd (dump_no_reads (command_in f.words) image f i b c)
 refused_dump f image refusal.Memory b i calm c = inr refl
 
 -- a dump that was taken whole has the right length
-not_whole : (f : Facts) (image : List ℕ) (us : List UnitSpec) (at : Stretch) (count : ℕ) (layout : Layout) → f.first.bytes ≡ Some image → HasImported us at count layout f → IsWrongDump (served_in f.words) f image → ⊥
+not_whole : (f : Facts) (image : List ℕ) (us : List UnitSpec) (at : Stretch) (count : ℕ) (layout : Layout) → f.first.bytes ≡ Some image → HasImported us at count layout f → IsWrongDump (command_in f.words) f image → ⊥
 not_whole f image us at count layout b c i =
     let w = subst (λ (x : Option Command). IsWrongDump x f image) c.named i in
     let units = told_units f image us b c.taken.found.opened in
@@ -1076,7 +1070,7 @@ not_whole f image us at count layout b c i =
     let l : length w.0.dump ≡ dump_len us at layout = whole_long (laid_as layout) us at count 65536 c.taken.opened_faults f.first_after.faults f.reads f.reads_after f.first.bytes f.first_after.bytes f.left f.left_after w.0.dump w.0.told c.taken.ends in
     w.1 (l ∙ ap (λ (s : Stretch). dump_len us s layout) here ∙ ap (λ (u : List UnitSpec). dump_len u w.0.at layout) units)
 
-dumps : (f : Facts) (image : List ℕ) (v : Verdict) → f.first.bytes ≡ Some image → IsWrongDump (served_in f.words) f image → AreCalm (served_in f.words) f → Cause v f → (verdict_status v ≡ status.Input) ⊎ (verdict_status v ≡ status.Memory)
+dumps : (f : Facts) (image : List ℕ) (v : Verdict) → f.first.bytes ≡ Some image → IsWrongDump (command_in f.words) f image → AreCalm (command_in f.words) f → Cause v f → (verdict_status v ≡ status.Input) ⊎ (verdict_status v ≡ status.Memory)
 dumps f image (Refused r) b i calm c = refused_dump f image r b i calm c
 dumps f image Helped b i calm c = absurd (subst (λ (x : Option Command). IsWrongDump x f image) c i)
 dumps f image Versioned b i calm c = absurd (subst (λ (x : Option Command). IsWrongDump x f image) c i)
@@ -1087,16 +1081,16 @@ dumps f image (Exported us at layout blocks) b i calm c = absurd (subst (λ (x :
 dumps f image (Imported us at count layout) b i calm c = absurd (not_whole f image us at count layout b c i)
 dumps f image (Judged script) b i calm c = absurd (subst (λ (x : Option Command). IsWrongDump x f image) c.named i)
 dumps f image (Marked text bad) b i calm c = inl refl
-dumps f image (Ran w) b i calm c = absurd (ran_of_no_store (served_in f.words) w f image c (inr (inr (inr i))))
+dumps f image (Ran w) b i calm c = absurd (ran_of_no_store (command_in f.words) w f image c (inr (inr (inr i))))
 
 dump_refused : (f : Facts) (old new : Option (List ℕ)) (o n : ℕ) (result : Status) → Ended f old new o n result →
-    (image : List ℕ) → f.first.bytes ≡ Some image → IsWrongDump (served_in f.words) f image → AreCalm (served_in f.words) f → Calm o n → (result ≡ status.Input) ⊎ (result ≡ status.Memory)
+    (image : List ℕ) → f.first.bytes ≡ Some image → IsWrongDump (command_in f.words) f image → AreCalm (command_in f.words) f → Calm o n → (result ≡ status.Input) ⊎ (result ≡ status.Memory)
 dump_refused f old new o n result ended = λ image b i cs co.
     subst (λ (s : Status). (s ≡ status.Input) ⊎ (s ≡ status.Memory)) (sym (as_written f old new o n result ended.verdict ended.cause ended.written cs co)) (dumps f image ended.verdict b i cs ended.cause)
 
 why : (f : Facts) (old new : Option (List ℕ)) (o n : ℕ) (result : Status) → Ended f old new o n result → Causes f o n result
 why f old new o n result ended = record {
-  words = λ e. by_status f (served_in f.words ≡ None) status.Words ended.verdict ended.cause (λ r cause k. refused_words f r cause k) (λ m k. absurd (cc)) (λ x h k. absurd (ending_no_words x.ending k)) words_done (of_verdict f old new o n result status.Words ended.verdict ended.written e (λ k. cc) (λ k. cc));
+  words = λ e. by_status f (command_in f.words ≡ None) status.Words ended.verdict ended.cause (λ r cause k. refused_words f r cause k) (λ m k. absurd (cc)) (λ x h k. absurd (ending_no_words x.ending k)) words_done (of_verdict f old new o n result status.Words ended.verdict ended.written e (λ k. cc) (λ k. cc));
   no_words = λ e. no_command f old new o n result ended.verdict ended.cause ended.written e;
   image = λ e. by_status f (IsAtFault f) status.Image ended.verdict ended.cause (λ r cause k. refused_image f r cause k) (λ m k. absurd (cc)) (λ x h k. inr (inr (inr (inr (x, k, h))))) image_done (of_verdict f old new o n result status.Image ended.verdict ended.written e (λ k. cc) (λ k. cc));
   wrong = λ image b i cs co. refused_as f old new o n result ended image b i cs co;
@@ -1105,7 +1099,7 @@ why f old new o n result ended = record {
   sink = λ e. sink_rose f old new o n result ended.verdict ended.written e;
   input = λ e. by_status f (IsDumpAtFault f ⊎ (IsScriptAtFault f ⊎ CameTo status.Input f)) status.Input ended.verdict ended.cause (λ r cause k. inl (refused_input f r cause k)) (λ m k. inr (inl m)) (λ x h k. inr (inr (x, k, h))) input_done (of_verdict f old new o n result status.Input ended.verdict ended.written e (λ k. cc) (λ k. cc));
   dump = λ image b i cs co. dump_refused f old new o n result ended image b i cs co;
-  reads = λ e. by_status f (Rose f.reads f.reads_after) status.ReadFault ended.verdict ended.cause (λ r cause k. refused_reads f r cause k) (λ m k. absurd (cc)) (λ x h k. ran_reads (served_in f.words) x f h (source_ending x.ending k)) reads_done (of_verdict f old new o n result status.ReadFault ended.verdict ended.written e (λ k. cc) (λ k. cc));
+  reads = λ e. by_status f (Rose f.reads f.reads_after) status.ReadFault ended.verdict ended.cause (λ r cause k. refused_reads f r cause k) (λ m k. absurd (cc)) (λ x h k. ran_reads (command_in f.words) x f h (source_ending x.ending k)) reads_done (of_verdict f old new o n result status.ReadFault ended.verdict ended.written e (λ k. cc) (λ k. cc));
 }
 
 complete : (f : Facts) (old new : Option (List ℕ)) (o n : ℕ) (result : Status) → Ended f old new o n result → IsComplete f o n result
@@ -1122,4 +1116,5 @@ carried f old new o n result ended = record {
   judges = λ e. judges_text f old new o n result ended e;
   plays = λ e. plays f old new o n result ended e;
   explains = λ e. explains_run f old new o n result ended e;
+  sweeps = λ byte units e. sweeps_texts f old new o n result ended byte units e;
 }

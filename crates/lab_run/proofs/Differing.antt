@@ -1,15 +1,14 @@
-use Rattle.std.proofs.Common.{ℕ, ◌≡◌, ◌≤◌, ◌⊎◌, inl, inr, Bool, true, false, eqb, ltb, List, Option, Some, None, Result, Ok, Err, refl, sym, ap, subst, ◌∙◌, arith}
+-- The verdicts of `diff`.
+use Rattle.std.proofs.Common.{ℕ, ◌≡◌, ◌≤◌, inl, inr, Bool, true, false, eqb, ltb, List, Option, Some, Result, Ok, Err, refl, sym, ap, subst, ◌∙◌, arith}
 use Rattle.std.proofs.lemmas.Bool.{eq-eqb, eqb-true}
-use Rattle.dix_base.specs.Told.{Rose}
 use Rattle.dix_words.specs.Grammar.{image_in}
 use Rattle.image_blocks.specs.Blocks.{HasBlocks}
 use Rattle.image_blocks.specs.Images.{units_open}
 use Rattle.image_blocks.specs.Places.{spec_of}
 use Rattle.image_blocks.specs.declared.image.Image.{Image}
-use Rattle.image_blocks.specs.declared.stretch.PlaceFault.{PlaceFault}
 use Rattle.image_blocks.specs.declared.stretch.Stretch.{Stretch}
 use Rattle.image_commands.specs.Views.{View}
-use Rattle.image_diff.specs.Compared.{DiffEnds, HaveBlocks, Places, counts, diff_of, places}
+use Rattle.image_diff.specs.Compared.{DiffEnds, HaveBlocks, counts, diff_of, places}
 use Rattle.image_diff.specs.declared.fault.DiffFault.{DiffFault}
 use Rattle.image_diff.specs.declared.fault.DiffFault.TheVariants as compare
 use Rattle.lab_words.specs.declared.command.Command.{Command}
@@ -18,15 +17,15 @@ use Rattle.lab_words.specs.declared.place.Place.{Place}
 use Rattle.rig_api.specs.declared.rig.RigFault.{RigFault}
 use Rattle.rig_api.specs.declared.rig.RigFault.TheVariants as head
 use Rattle.target_answer.specs.declared.units.UnitSpec.{UnitSpec}
-use Rattle.lab_run.specs.Calls.{Facts, Held, OpenedOnce, on_both, second_in, served_in, stretch_in, uses_second}
+use Rattle.lab_words.specs.Grammar.{command_in}
+use Rattle.lab_run.specs.Calls.{Facts, Held, OpenedOnce, on_both, second_in, stretch_in, uses_second}
 use Rattle.lab_run.specs.Texts.{refusal_of, refusal_text, second_refusal_of, status_of}
-use Rattle.lab_run.specs.Verdict.{AreOneSize, CauseByCommand, CauseNotCompared, Compared, Ended, HasCompared, HasFirst, HaveBoth, Keeps, OpenedAs, Written, compared_status, done_status}
+use Rattle.lab_run.specs.Verdict.{CauseByCommand, CauseNotCompared, Compared, Ended, HasCompared, HasFirst, HaveBoth, Keeps, OpenedAs, Written, compared_status, done_status}
 use Rattle.lab_run.specs.declared.refusal.Refusal.{Refusal}
 use Rattle.lab_run.specs.declared.refusal.Refusal.TheVariants as refusal
 use Rattle.lab_run.specs.declared.status.Status.{Status}
-use Rattle.lab_run.proofs.Endings.{Goes, Tried, ended_refused, keeps_image, keeps_rig, keeps_source, rose_since}
-
--- The verdicts of `diff`.
+use Rattle.lab_run.proofs.Endings.{Goes, Tried, ended_refused, keeps_image, keeps_rig, keeps_source}
+use Rattle.target_model.proofs.Bytes.{rise as rose_since}
 
 -- what a store is like that was opened, or wasn't
 pub record Kept (name : List ℕ) (old new : Held) : Type 0 where
@@ -50,21 +49,21 @@ opened_since image name old mid new t g = record { opened = rw (g.named, g.openi
 pub opened_in : (image : Image) (name : List ℕ) (old new : Held) → Tried (Ok image) name old new → OpenedAs (units_open image) name old new
 opened_in image name old new t = record { opened = t.opened; head = t.judged.head; right = t.judged.judged; told = t.judged.told; units = t.judged.units }
 
-keeps_both : (words : List (List ℕ)) (one other : Place) (old new old_second new_second : Held) (left : Option (List ℕ)) (reads : ℕ) (rig : View) → served_in words ≡ Some (Diff one other) → Kept (image_in words) old new → Kept (second_in words) old_second new_second →
+keeps_both : (words : List (List ℕ)) (one other : Place) (old new old_second new_second : Held) (left : Option (List ℕ)) (reads : ℕ) (rig : View) → command_in words ≡ Some (Diff one other) → Kept (image_in words) old new → Kept (second_in words) old_second new_second →
     Keeps (on_both words old new old_second new_second left reads rig)
 keeps_both words one other old new old_second new_second left reads rig e k s =
     let f = on_both words old new old_second new_second left reads rig in
     record {
-      source = keeps_source (served_in words) f refl refl;
-      rig = keeps_rig (served_in words) f refl;
+      source = keeps_source (command_in words) f refl refl;
+      rig = keeps_rig (command_in words) f refl;
       second = inr (ap uses_second e, s.same, s.opening, s.count);
-      image = keeps_image (served_in words) f k.same;
+      image = keeps_image (command_in words) f k.same;
       openings = k.opening;
       count = k.count;
     }
 
 pub uncompared : (words : List (List ℕ)) (one other : Place) (old new old_second new_second : Held) (left : Option (List ℕ)) (reads : ℕ) (rig : View) (r : Refusal) (taken taken' : Option (List ℕ)) (o n : ℕ) (result : Status) →
-    served_in words ≡ Some (Diff one other) → CauseNotCompared one other r (on_both words old new old_second new_second left reads rig) → Kept (image_in words) old new → Kept (second_in words) old_second new_second →
+    command_in words ≡ Some (Diff one other) → CauseNotCompared one other r (on_both words old new old_second new_second left reads rig) → Kept (image_in words) old new → Kept (second_in words) old_second new_second →
     Written (status_of r) (refusal_text r) taken taken' o n result → Ended (on_both words old new old_second new_second left reads rig) taken taken' o n result
 uncompared words one other old new old_second new_second left reads rig r taken taken' o n result e cause k s w =
     let f = on_both words old new old_second new_second left reads rig in
@@ -87,13 +86,13 @@ second_refused one other us at head.Failed f h t = inr (t.failed refl)
 second_refused one other us at head.Memory f h t = tt
 
 pub no_first : (words : List (List ℕ)) (one other : Place) (old new second : Held) (left : Option (List ℕ)) (reads : ℕ) (rig : View) (x : RigFault) (r : Refusal) (taken taken' : Option (List ℕ)) (o n : ℕ) (result : Status) →
-    served_in words ≡ Some (Diff one other) → r ≡ refusal_of x → Tried (Err x) (image_in words) old new → Written (status_of r) (refusal_text r) taken taken' o n result → Ended (on_both words old new second second left reads rig) taken taken' o n result
+    command_in words ≡ Some (Diff one other) → r ≡ refusal_of x → Tried (Err x) (image_in words) old new → Written (status_of r) (refusal_text r) taken taken' o n result → Ended (on_both words old new second second left reads rig) taken taken' o n result
 no_first words one other old new second left reads rig x r taken taken' o n result e s t w =
     let f = on_both words old new second second left reads rig in
     uncompared words one other old new second second left reads rig r taken taken' o n result e (subst (λ (y : Refusal). CauseNotCompared one other y f) (sym s) (first_refused one other x f t)) (since_tried (Err x) (image_in words) old new t) (still (second_in words) second) w
 
 pub no_second : (words : List (List ℕ)) (one other : Place) (old new old_second new_second : Held) (left : Option (List ℕ)) (reads : ℕ) (rig : View) (image : Image) (at : Stretch) (x : RigFault) (r : Refusal) (taken taken' : Option (List ℕ)) (o n : ℕ) (result : Status) →
-    served_in words ≡ Some (Diff one other) → Tried (Ok image) (image_in words) old new → Ok at ≡ stretch_in (units_open image) one → r ≡ second_refusal_of x → Tried (Err x) (second_in words) old_second new_second →
+    command_in words ≡ Some (Diff one other) → Tried (Ok image) (image_in words) old new → Ok at ≡ stretch_in (units_open image) one → r ≡ second_refusal_of x → Tried (Err x) (second_in words) old_second new_second →
     Written (status_of r) (refusal_text r) taken taken' o n result → Ended (on_both words old new old_second new_second left reads rig) taken taken' o n result
 no_second words one other old new old_second new_second left reads rig image at x r taken taken' o n result e i p s t w =
     let f = on_both words old new old_second new_second left reads rig in
@@ -119,7 +118,7 @@ both_found words one other old new old_second new_second left reads rig image be
 }
 
 pub other_size : (words : List (List ℕ)) (one other : Place) (old new old_second new_second : Held) (left : Option (List ℕ)) (reads : ℕ) (rig : View) (image beside : Image) (at to : Stretch) (b : Bool) (taken taken' : Option (List ℕ)) (o n : ℕ) (result : Status) →
-    served_in words ≡ Some (Diff one other) → Found words one other old new old_second new_second image beside at to → b ≡ eqb (spec_of (units_open image) at.dev).size (spec_of (units_open beside) to.dev).size → b ≡ false →
+    command_in words ≡ Some (Diff one other) → Found words one other old new old_second new_second image beside at to → b ≡ eqb (spec_of (units_open image) at.dev).size (spec_of (units_open beside) to.dev).size → b ≡ false →
     Written (status_of refusal.OtherSize) (refusal_text refusal.OtherSize) taken taken' o n result → Ended (on_both words old new old_second new_second left reads rig) taken taken' o n result
 other_size words one other old new old_second new_second left reads rig image beside at to b taken taken' o n result e h q z w =
     uncompared words one other old new old_second new_second left reads rig refusal.OtherSize taken taken' o n result e
@@ -131,7 +130,7 @@ other_size words one other old new old_second new_second left reads rig image be
     (since_tried (Ok image) (image_in words) old new h.first) (since_tried (Ok beside) (second_in words) old_second new_second h.second) w
 
 pub other_count : (words : List (List ℕ)) (one other : Place) (old new old_second new_second : Held) (left : Option (List ℕ)) (reads : ℕ) (rig : View) (image beside : Image) (at to : Stretch) (b : Bool) (taken taken' : Option (List ℕ)) (o n : ℕ) (result : Status) →
-    served_in words ≡ Some (Diff one other) → Found words one other old new old_second new_second image beside at to → b ≡ eqb (spec_of (units_open image) at.dev).size (spec_of (units_open beside) to.dev).size → b ≡ true → (at.count ≡ to.count → ⊥) →
+    command_in words ≡ Some (Diff one other) → Found words one other old new old_second new_second image beside at to → b ≡ eqb (spec_of (units_open image) at.dev).size (spec_of (units_open beside) to.dev).size → b ≡ true → (at.count ≡ to.count → ⊥) →
     Written (status_of refusal.OtherCount) (refusal_text refusal.OtherCount) taken taken' o n result → Ended (on_both words old new old_second new_second left reads rig) taken taken' o n result
 other_count words one other old new old_second new_second left reads rig image beside at to b taken taken' o n result e h q z m w =
     uncompared words one other old new old_second new_second left reads rig refusal.OtherCount taken taken' o n result e
@@ -151,7 +150,7 @@ pub record Walked (words : List (List ℕ)) (old mid new old_second mid_second n
   pub second : Goes (second_in words) old_second mid_second new_second
 
 has_compared : (words : List (List ℕ)) (one other : Place) (old mid new old_second mid_second new_second : Held) (left : Option (List ℕ)) (reads : ℕ) (rig : View) (image beside : Image) (at to : Stretch) (ones twos : List (List ℕ)) →
-    served_in words ≡ Some (Diff one other) → Found words one other old mid old_second mid_second image beside at to → Walked words old mid new old_second mid_second new_second →
+    command_in words ≡ Some (Diff one other) → Found words one other old mid old_second mid_second image beside at to → Walked words old mid new old_second mid_second new_second →
     (spec_of (units_open image) at.dev).size ≡ (spec_of (units_open beside) to.dev).size → at.count ≡ to.count → HaveBlocks (places (units_open image) at (units_open beside) to) ones twos mid.bytes mid_second.bytes →
     HasCompared (places (units_open image) at (units_open beside) to) ones twos (on_both words old new old_second new_second left reads rig)
 has_compared words one other old mid new old_second mid_second new_second left reads rig image beside at to ones twos e h g z m b = record {
@@ -172,7 +171,7 @@ has_compared words one other old mid new old_second mid_second new_second left r
 }
 
 pub compared : (words : List (List ℕ)) (one other : Place) (old mid new old_second mid_second new_second : Held) (left : Option (List ℕ)) (reads : ℕ) (rig : View) (image beside : Image) (at to : Stretch) (r : Result ℕ DiffFault) (taken taken' : Option (List ℕ)) (o n : ℕ) (result : Status) →
-    served_in words ≡ Some (Diff one other) → Found words one other old mid old_second mid_second image beside at to → Walked words old mid new old_second mid_second new_second →
+    command_in words ≡ Some (Diff one other) → Found words one other old mid old_second mid_second image beside at to → Walked words old mid new old_second mid_second new_second →
     (spec_of (units_open image) at.dev).size ≡ (spec_of (units_open beside) to.dev).size → at.count ≡ to.count →
     DiffEnds r (diff_of (places (units_open image) at (units_open beside) to)) (places (units_open image) at (units_open beside) to) mid.bytes mid_second.bytes (counts mid.faults new.faults mid_second.faults new_second.faults o n) taken taken' → result ≡ compared_status r →
     Ended (on_both words old new old_second new_second left reads rig) taken taken' o n result

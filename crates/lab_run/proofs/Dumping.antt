@@ -1,10 +1,10 @@
 -- The verdicts of `export` and `import`.
-use Rattle.std.proofs.Common.{ℕ, suc, ◌≡◌, ◌+◌, ◌*◌, ◌<◌, ◌≤◌, inl, inr, Bool, true, false, List, [], ◌∷◌, ◌++◌, length, Option, Some, None, Result, Ok, Err, refl, sym, ap, subst, ◌∙◌, arith, length-append, take}
+use Rattle.std.proofs.Common.{ℕ, ◌≡◌, ◌+◌, ◌*◌, ◌<◌, ◌≤◌, inl, inr, Bool, true, false, List, [], ◌∷◌, ◌++◌, length, Option, Some, None, Result, Ok, Err, refl, sym, ap, subst, ◌∙◌, arith, length-append, take}
 use Rattle.std.proofs.lemmas.List.{take-take}
 use Rattle.std.proofs.Math.Nat.{mul-le-mul_left, mul_comm}
-use Rattle.dix_base.specs.Told.{Becomes, IsAtEnd, Rose, Took}
+use Rattle.dix_base.specs.Told.{Becomes, IsAtEnd}
 use Rattle.dix_words.specs.Grammar.{image_in}
-use Rattle.image_blocks.specs.Blocks.{HasBlocks, blocks_at, with_stretch}
+use Rattle.image_blocks.specs.Blocks.{HasBlocks, blocks_at}
 use Rattle.image_blocks.specs.Images.{units_open}
 use Rattle.image_blocks.specs.Places.{spec_of}
 use Rattle.image_blocks.specs.declared.image.Image.{Image}
@@ -13,7 +13,7 @@ use Rattle.image_blocks.specs.declared.stretch.Stretch.{Stretch}
 use Rattle.image_commands.specs.Views.{View}
 use Rattle.image_layout.specs.Places.{block_place}
 use Rattle.image_dumps.specs.Dumps.{fits, imported, piece_len}
-use Rattle.image_dumps.specs.Ends.{DumpEnds, HasTaken, ImportEnds, IsShort, KeepsOutside, dump_in, imported_in}
+use Rattle.image_dumps.specs.Ends.{DumpEnds, HasTaken, ImportEnds, IsShort, KeepsOutside, imported_in}
 use Rattle.image_dumps.specs.declared.fault.DumpFault.{DumpFault}
 use Rattle.image_dumps.specs.declared.fault.DumpFault.TheVariants as dumping
 use Rattle.image_dumps.specs.declared.fault.ImportFault.{ImportFault}
@@ -30,19 +30,21 @@ use Rattle.target_answer.specs.Frames.{joined}
 use Rattle.target_answer.specs.Image.{units_in}
 use Rattle.target_answer.specs.declared.units.UnitSpec.{UnitSpec}
 use Rattle.target_model.specs.Served.{AllLong}
-use Rattle.lab_run.specs.Calls.{Facts, Held, OpenedOnce, called_of, laid_as, on_first, on_input, served_in, stretch_in}
-use Rattle.lab_run.specs.Headline.{IsOtherLength, dump_len}
+use Rattle.target_model.proofs.Bytes.{rise as rose_since}
+use Rattle.lab_words.specs.Grammar.{command_in}
+use Rattle.lab_run.specs.Calls.{Facts, Held, OpenedOnce, laid_as, on_first, on_input, stretch_in}
+use Rattle.lab_run.specs.Headline.{IsOtherLength}
 use Rattle.lab_run.specs.Texts.{imported_text, refusal_of, refusal_text, status_of}
-use Rattle.lab_run.specs.Verdict.{AreOthersKept, Cause, CauseByCommand, CauseNotExported, CauseNotImported, DumpTaken, Ended, Exported, HasBrokenOff, HasFound, HasOpened, Imported, IsUntouched, Keeps, KeepsAround, KeepsHead, KeepsImage, KeepsOthers, KeepsSource, Refused, Verdict, Written, dumped_status, halted, verdict_status, verdict_text}
+use Rattle.lab_run.specs.Verdict.{AreOthersKept, CauseByCommand, CauseNotExported, CauseNotImported, DumpTaken, Ended, Exported, HasBrokenOff, Imported, IsUntouched, Keeps, KeepsAround, KeepsHead, KeepsImage, KeepsSource, Written, dumped_status, halted}
 use Rattle.lab_run.specs.declared.refusal.Refusal.{Refusal}
 use Rattle.lab_run.specs.declared.refusal.Refusal.TheVariants as refusal
 use Rattle.lab_run.specs.declared.status.Status.{Status}
 use Rattle.lab_run.specs.declared.status.Status.TheVariants as status
-use Rattle.lab_run.proofs.Endings.{Goes, Tried, ended_refused, keeps_on, keeps_rig, kept_on, on_opened, opened_on, rose_since}
+use Rattle.lab_run.proofs.Endings.{Goes, Tried, ended_refused, keeps_on, keeps_rig, kept_on, on_opened, opened_on}
 
 -- a refusal that leaves the image and the source
 pub refused_still : (words : List (List ℕ)) (c : Command) (old new : Held) (left : Option (List ℕ)) (reads : ℕ) (rig : View) (second : Held) (r : Refusal) (taken taken' : Option (List ℕ)) (o n : ℕ) (result : Status) →
-    served_in words ≡ Some c → CauseByCommand (Some c) r (on_first words old new left reads rig second) → new.bytes ≡ old.bytes → OpenedOnce (image_in words) old new → old.faults ≤ new.faults → Written (status_of r) (refusal_text r) taken taken' o n result →
+    command_in words ≡ Some c → CauseByCommand (Some c) r (on_first words old new left reads rig second) → new.bytes ≡ old.bytes → OpenedOnce (image_in words) old new → old.faults ≤ new.faults → Written (status_of r) (refusal_text r) taken taken' o n result →
     Ended (on_first words old new left reads rig second) taken taken' o n result
 refused_still words c old new left reads rig second r taken taken' o n result e cause b p k w =
     let f = on_first words old new left reads rig second in
@@ -68,13 +70,13 @@ not_imported place layout head.Failed f u t = inl (t.failed refl, u)
 not_imported place layout head.Memory f u t = u
 
 pub unexported : (words : List (List ℕ)) (place : Place) (layout : Layout) (old new : Held) (left : Option (List ℕ)) (reads : ℕ) (rig : View) (second : Held) (x : RigFault) (r : Refusal) (taken taken' : Option (List ℕ)) (o n : ℕ) (result : Status) →
-    served_in words ≡ Some (Export place layout) → r ≡ refusal_of x → Tried (Err x) (image_in words) old new → Written (status_of r) (refusal_text r) taken taken' o n result → Ended (on_first words old new left reads rig second) taken taken' o n result
+    command_in words ≡ Some (Export place layout) → r ≡ refusal_of x → Tried (Err x) (image_in words) old new → Written (status_of r) (refusal_text r) taken taken' o n result → Ended (on_first words old new left reads rig second) taken taken' o n result
 unexported words place layout old new left reads rig second x r taken taken' o n result e s t w =
     let f = on_first words old new left reads rig second in
     refused_still words (Export place layout) old new left reads rig second r taken taken' o n result e (subst (λ (y : Refusal). CauseNotExported place layout y f) (sym s) (not_exported place layout x f t)) t.same t.opening t.count w
 
 pub unimported : (words : List (List ℕ)) (place : Place) (layout : Layout) (old new : Held) (left : Option (List ℕ)) (reads : ℕ) (rig : View) (second : Held) (x : RigFault) (r : Refusal) (taken taken' : Option (List ℕ)) (o n : ℕ) (result : Status) →
-    served_in words ≡ Some (Import place layout) → r ≡ refusal_of x → Tried (Err x) (image_in words) old new → Written (status_of r) (refusal_text r) taken taken' o n result → Ended (on_first words old new left reads rig second) taken taken' o n result
+    command_in words ≡ Some (Import place layout) → r ≡ refusal_of x → Tried (Err x) (image_in words) old new → Written (status_of r) (refusal_text r) taken taken' o n result → Ended (on_first words old new left reads rig second) taken taken' o n result
 unimported words place layout old new left reads rig second x r taken taken' o n result e s t w =
     let f = on_first words old new left reads rig second in
     refused_still words (Import place layout) old new left reads rig second r taken taken' o n result e
@@ -82,25 +84,25 @@ unimported words place layout old new left reads rig second x r taken taken' o n
 
 -- want of memory for the blocks
 pub spared_export : (words : List (List ℕ)) (place : Place) (layout : Layout) (old : Held) (left : Option (List ℕ)) (reads : ℕ) (rig : View) (second : Held) (taken taken' : Option (List ℕ)) (o n : ℕ) (result : Status) →
-    served_in words ≡ Some (Export place layout) → Written (status_of refusal.Memory) (refusal_text refusal.Memory) taken taken' o n result → Ended (on_first words old old left reads rig second) taken taken' o n result
+    command_in words ≡ Some (Export place layout) → Written (status_of refusal.Memory) (refusal_text refusal.Memory) taken taken' o n result → Ended (on_first words old old left reads rig second) taken taken' o n result
 spared_export words place layout old left reads rig second taken taken' o n result e w =
     refused_still words (Export place layout) old old left reads rig second refusal.Memory taken taken' o n result e tt refl (inl (refl, refl)) (omega arith) w
 
 pub spared_import : (words : List (List ℕ)) (place : Place) (layout : Layout) (old : Held) (left : Option (List ℕ)) (reads : ℕ) (rig : View) (second : Held) (taken taken' : Option (List ℕ)) (o n : ℕ) (result : Status) →
-    served_in words ≡ Some (Import place layout) → Written (status_of refusal.Memory) (refusal_text refusal.Memory) taken taken' o n result → Ended (on_first words old old left reads rig second) taken taken' o n result
+    command_in words ≡ Some (Import place layout) → Written (status_of refusal.Memory) (refusal_text refusal.Memory) taken taken' o n result → Ended (on_first words old old left reads rig second) taken taken' o n result
 spared_import words place layout old left reads rig second taken taken' o n result e w =
     refused_still words (Import place layout) old old left reads rig second refusal.Memory taken taken' o n result e (untouched words old old left reads rig second refl) refl (inl (refl, refl)) (omega arith) w
 
 -- an image without the place
 pub unplaced_export : (words : List (List ℕ)) (place : Place) (layout : Layout) (old new : Held) (left : Option (List ℕ)) (reads : ℕ) (rig : View) (second : Held) (image : Image) (x : PlaceFault) (taken taken' : Option (List ℕ)) (o n : ℕ) (result : Status) →
-    served_in words ≡ Some (Export place layout) → Tried (Ok image) (image_in words) old new → Err x ≡ stretch_in (units_open image) place → Written (status_of (refusal.Place x)) (refusal_text (refusal.Place x)) taken taken' o n result →
+    command_in words ≡ Some (Export place layout) → Tried (Ok image) (image_in words) old new → Err x ≡ stretch_in (units_open image) place → Written (status_of (refusal.Place x)) (refusal_text (refusal.Place x)) taken taken' o n result →
     Ended (on_first words old new left reads rig second) taken taken' o n result
 unplaced_export words place layout old new left reads rig second image x taken taken' o n result e t p w =
     let f = on_first words old new left reads rig second in
     refused_still words (Export place layout) old new left reads rig second (refusal.Place x) taken taken' o n result e (record { units = units_open image; opened = opened_on image f t; judged = sym p }) t.same t.opening t.count w
 
 pub unplaced_import : (words : List (List ℕ)) (place : Place) (layout : Layout) (old new : Held) (left : Option (List ℕ)) (reads : ℕ) (rig : View) (second : Held) (image : Image) (x : PlaceFault) (taken taken' : Option (List ℕ)) (o n : ℕ) (result : Status) →
-    served_in words ≡ Some (Import place layout) → Tried (Ok image) (image_in words) old new → Err x ≡ stretch_in (units_open image) place → Written (status_of (refusal.Place x)) (refusal_text (refusal.Place x)) taken taken' o n result →
+    command_in words ≡ Some (Import place layout) → Tried (Ok image) (image_in words) old new → Err x ≡ stretch_in (units_open image) place → Written (status_of (refusal.Place x)) (refusal_text (refusal.Place x)) taken taken' o n result →
     Ended (on_first words old new left reads rig second) taken taken' o n result
 unplaced_import words place layout old new left reads rig second image x taken taken' o n result e t p w =
     let f = on_first words old new left reads rig second in
@@ -109,14 +111,14 @@ unplaced_import words place layout old new left reads rig second image x taken t
 
 -- a place without what the layout holds
 pub unfit_export : (words : List (List ℕ)) (place : Place) (layout : Layout) (old new : Held) (left : Option (List ℕ)) (reads : ℕ) (rig : View) (second : Held) (image : Image) (at : Stretch) (b : Bool) (taken taken' : Option (List ℕ)) (o n : ℕ) (result : Status) →
-    served_in words ≡ Some (Export place layout) → Tried (Ok image) (image_in words) old new → Ok at ≡ stretch_in (units_open image) place → b ≡ fits (laid_as layout) (spec_of (units_open image) at.dev).ty → b ≡ false →
+    command_in words ≡ Some (Export place layout) → Tried (Ok image) (image_in words) old new → Ok at ≡ stretch_in (units_open image) place → b ≡ fits (laid_as layout) (spec_of (units_open image) at.dev).ty → b ≡ false →
     Written (status_of refusal.NoTuples) (refusal_text refusal.NoTuples) taken taken' o n result → Ended (on_first words old new left reads rig second) taken taken' o n result
 unfit_export words place layout old new left reads rig second image at b taken taken' o n result e t p q z w =
     let f = on_first words old new left reads rig second in
     refused_still words (Export place layout) old new left reads rig second refusal.NoTuples taken taken' o n result e (record { units = units_open image; opened = opened_on image f t; at = at; there = sym p; judged = sym q ∙ z }) t.same t.opening t.count w
 
 pub unfit_import : (words : List (List ℕ)) (place : Place) (layout : Layout) (old new : Held) (left : Option (List ℕ)) (reads : ℕ) (rig : View) (second : Held) (image : Image) (at : Stretch) (b : Bool) (taken taken' : Option (List ℕ)) (o n : ℕ) (result : Status) →
-    served_in words ≡ Some (Import place layout) → Tried (Ok image) (image_in words) old new → Ok at ≡ stretch_in (units_open image) place → b ≡ fits (laid_as layout) (spec_of (units_open image) at.dev).ty → b ≡ false →
+    command_in words ≡ Some (Import place layout) → Tried (Ok image) (image_in words) old new → Ok at ≡ stretch_in (units_open image) place → b ≡ fits (laid_as layout) (spec_of (units_open image) at.dev).ty → b ≡ false →
     Written (status_of refusal.NoTuples) (refusal_text refusal.NoTuples) taken taken' o n result → Ended (on_first words old new left reads rig second) taken taken' o n result
 unfit_import words place layout old new left reads rig second image at b taken taken' o n result e t p q z w =
     let f = on_first words old new left reads rig second in
@@ -126,7 +128,7 @@ unfit_import words place layout old new left reads rig second image at b taken t
 -- ---- blocks that are exported
 
 shown_dump : (words : List (List ℕ)) (place : Place) (layout : Layout) (old mid new : Held) (left : Option (List ℕ)) (reads : ℕ) (rig : View) (second : Held) (image : Image) (at : Stretch) (r : Result (Unit {0}) DumpFault) (taken taken' : Option (List ℕ)) (o n : ℕ) (result : Status) →
-    served_in words ≡ Some (Export place layout) → Tried (Ok image) (image_in words) old mid → Goes (image_in words) old mid new → Ok at ≡ stretch_in (units_open image) place → fits (laid_as layout) (spec_of (units_open image) at.dev).ty ≡ true →
+    command_in words ≡ Some (Export place layout) → Tried (Ok image) (image_in words) old mid → Goes (image_in words) old mid new → Ok at ≡ stretch_in (units_open image) place → fits (laid_as layout) (spec_of (units_open image) at.dev).ty ≡ true →
     DumpEnds r (laid_as layout) (units_open image) at mid.bytes mid.faults new.faults o n taken taken' → result ≡ dumped_status r → Ended (on_first words old new left reads rig second) taken taken' o n result
 shown_dump words place layout old mid new left reads rig second image at (Ok x) taken taken' o n result e t g p z s w = record {
   verdict = Exported (units_open image) at layout s.blocks;
@@ -163,7 +165,7 @@ shown_dump words place layout old mid new left reads rig second image at (Err du
 }
 
 pub exported : (words : List (List ℕ)) (place : Place) (layout : Layout) (form : DumpLayout) (old mid new : Held) (left : Option (List ℕ)) (reads : ℕ) (rig : View) (second : Held) (image : Image) (at : Stretch) (r : Result (Unit {0}) DumpFault) (taken taken' : Option (List ℕ)) (o n : ℕ) (result : Status) →
-    form ≡ laid_as layout → served_in words ≡ Some (Export place layout) → Tried (Ok image) (image_in words) old mid → Goes (image_in words) old mid new → Ok at ≡ stretch_in (units_open image) place → fits (laid_as layout) (spec_of (units_open image) at.dev).ty ≡ true →
+    form ≡ laid_as layout → command_in words ≡ Some (Export place layout) → Tried (Ok image) (image_in words) old mid → Goes (image_in words) old mid new → Ok at ≡ stretch_in (units_open image) place → fits (laid_as layout) (spec_of (units_open image) at.dev).ty ≡ true →
     DumpEnds r form (units_open image) at mid.bytes mid.faults new.faults o n taken taken' → result ≡ dumped_status r → Ended (on_first words old new left reads rig second) taken taken' o n result
 exported words place layout form old mid new left reads rig second image at r taken taken' o n result fe e t g p z s w =
     shown_dump words place layout old mid new left reads rig second image at r taken taken' o n result e t g p z
@@ -237,7 +239,7 @@ taken_by words place layout form most old mid new left left_after reads reads_af
 }
 
 keeps_by : (words : List (List ℕ)) (place : Place) (layout : Layout) (old mid new : Held) (left left_after : Option (List ℕ)) (reads reads_after : ℕ) (rig : View) (second : Held) (us : List UnitSpec) (at : Stretch) (image : Image) (r : Result ℕ ImportFault) →
-    served_in words ≡ Some (Import place layout) → Tried (Ok image) (image_in words) old mid → Writes us at mid new reads reads_after → DumpTaken r us at place layout (on_input words old new left left_after reads reads_after rig second) → Keeps (on_input words old new left left_after reads reads_after rig second)
+    command_in words ≡ Some (Import place layout) → Tried (Ok image) (image_in words) old mid → Writes us at mid new reads reads_after → DumpTaken r us at place layout (on_input words old new left left_after reads reads_after rig second) → Keeps (on_input words old new left left_after reads reads_after rig second)
 keeps_by words place layout old mid new left left_after reads reads_after rig second us at image r e t g d =
     let f = on_input words old new left left_after reads reads_after rig second in
     let outside : KeepsOutside us at old.bytes new.bytes = subst (λ (x : Option (List ℕ)). KeepsOutside us at x new.bytes) t.same g.apart in
@@ -252,7 +254,7 @@ keeps_by words place layout old mid new left left_after reads reads_after rig se
     } in
     record {
       source = subst (λ (c : Option Command). KeepsSource c f) (sym e) g.sources;
-      rig = keeps_rig (served_in words) f refl;
+      rig = keeps_rig (command_in words) f refl;
       second = inl refl;
       image = subst (λ (c : Option Command). KeepsImage c f) (sym e) (inr around);
       openings = rw (g.named, g.openings) t.opening;
@@ -260,7 +262,7 @@ keeps_by words place layout old mid new left left_after reads reads_after rig se
     }
 
 pub imports : (words : List (List ℕ)) (place : Place) (layout : Layout) (form : DumpLayout) (most : ℕ) (old mid new : Held) (left left_after : Option (List ℕ)) (reads reads_after : ℕ) (rig : View) (second : Held) (image : Image) (at : Stretch) (count : ℕ) (text : List ℕ) (taken taken' : Option (List ℕ)) (o n : ℕ) (result : Status) →
-    form ≡ laid_as layout → most ≡ 65536 → served_in words ≡ Some (Import place layout) → Tried (Ok image) (image_in words) old mid → Writes (units_open image) at mid new reads reads_after → Ok at ≡ stretch_in (units_open image) place → fits (laid_as layout) (spec_of (units_open image) at.dev).ty ≡ true →
+    form ≡ laid_as layout → most ≡ 65536 → command_in words ≡ Some (Import place layout) → Tried (Ok image) (image_in words) old mid → Writes (units_open image) at mid new reads reads_after → Ok at ≡ stretch_in (units_open image) place → fits (laid_as layout) (spec_of (units_open image) at.dev).ty ≡ true →
     ImportEnds (Ok count) form (units_open image) at most mid.faults new.faults reads reads_after mid.bytes new.bytes left left_after → text ≡ imported_text count → Written status.Whole text taken taken' o n result →
     Ended (on_input words old new left left_after reads reads_after rig second) taken taken' o n result
 imports words place layout form most old mid new left left_after reads reads_after rig second image at count text taken taken' o n result fe me e t g p z s x w =
@@ -279,7 +281,7 @@ broken halt.Store place layout f b = inr b
 broken halt.Source place layout f b = b
 
 pub halts : (words : List (List ℕ)) (place : Place) (layout : Layout) (form : DumpLayout) (most : ℕ) (old mid new : Held) (left left_after : Option (List ℕ)) (reads reads_after : ℕ) (rig : View) (second : Held) (image : Image) (at : Stretch) (x : ImportFault) (r : Refusal) (taken taken' : Option (List ℕ)) (o n : ℕ) (result : Status) →
-    form ≡ laid_as layout → most ≡ 65536 → served_in words ≡ Some (Import place layout) → Tried (Ok image) (image_in words) old mid → Writes (units_open image) at mid new reads reads_after → Ok at ≡ stretch_in (units_open image) place → fits (laid_as layout) (spec_of (units_open image) at.dev).ty ≡ true →
+    form ≡ laid_as layout → most ≡ 65536 → command_in words ≡ Some (Import place layout) → Tried (Ok image) (image_in words) old mid → Writes (units_open image) at mid new reads reads_after → Ok at ≡ stretch_in (units_open image) place → fits (laid_as layout) (spec_of (units_open image) at.dev).ty ≡ true →
     ImportEnds (Err x) form (units_open image) at most mid.faults new.faults reads reads_after mid.bytes new.bytes left left_after → r ≡ halted x → Written (status_of r) (refusal_text r) taken taken' o n result →
     Ended (on_input words old new left left_after reads reads_after rig second) taken taken' o n result
 halts words place layout form most old mid new left left_after reads reads_after rig second image at x r taken taken' o n result fe me e t g p z s y w =

@@ -14,18 +14,18 @@ use Rattle.image_show.specs.declared.fault.ShowFault.{ShowFault}
 use Rattle.image_show.specs.declared.fault.ShowFault.TheVariants as show
 use Rattle.lab_words.specs.declared.command.Command.{Command}
 use Rattle.lab_words.specs.declared.command.Command.TheVariants.{Help, Version, ShowUnits, ShowBlocks, Diff, Export, Import, Vectors, Judge, Explain, Sweep}
-use Rattle.lab_words.specs.declared.layout.Layout.{Layout}
 use Rattle.lab_words.specs.declared.place.Place.{Place}
 use Rattle.rig_api.specs.Telling.{OpenedBy}
 use Rattle.rig_api.specs.declared.rig.RigFault.{RigFault}
 use Rattle.rig_api.specs.declared.rig.RigFault.TheVariants as head
-use Rattle.target_answer.specs.declared.units.UnitSpec.{UnitSpec}
-use Rattle.lab_run.specs.Calls.{Facts, Held, OpenedOnce, called_of, on_first, served_in, stretch_in}
+use Rattle.lab_words.specs.Grammar.{command_in}
+use Rattle.lab_run.specs.Calls.{Facts, Held, OpenedOnce, called_of, on_first, stretch_in}
 use Rattle.lab_run.specs.Texts.{refusal_of, refusal_text, status_of}
 use Rattle.lab_run.specs.Verdict.{Cause, CauseByCommand, CauseNotListed, CauseNotShown, Ended, HasOpened, Keeps, KeepsImage, KeepsRig, KeepsSource, Listed, OpensRig, Refused, Shown, Verdict, Written, done_status, shown_status, verdict_status, verdict_text}
 use Rattle.lab_run.specs.declared.refusal.Refusal.{Refusal}
 use Rattle.lab_run.specs.declared.refusal.Refusal.TheVariants as refusal
 use Rattle.lab_run.specs.declared.status.Status.{Status}
+use Rattle.target_model.proofs.Bytes.{rise as rose_since}
 
 -- what the opening of an image leaves
 pub record Tried (result : Result Image RigFault) (name : List ℕ) (old new : Held) : Type 0 where
@@ -47,7 +47,7 @@ tried result name handed old new e j f o p s k = record {
   count = k;
 }
 
-pub ended_refused : (f : Facts) (r : Refusal) (taken taken' : Option (List ℕ)) (o n : ℕ) (result : Status) → CauseByCommand (served_in f.words) r f → Keeps f → Written (status_of r) (refusal_text r) taken taken' o n result → Ended f taken taken' o n result
+pub ended_refused : (f : Facts) (r : Refusal) (taken taken' : Option (List ℕ)) (o n : ℕ) (result : Status) → CauseByCommand (command_in f.words) r f → Keeps f → Written (status_of r) (refusal_text r) taken taken' o n result → Ended f taken taken' o n result
 ended_refused f r taken taken' o n result cause kept w = record { verdict = Refused r; cause = cause; written = inl w; kept = kept }
 
 -- ---- an image that isn't opened
@@ -78,7 +78,7 @@ keeps_source (Some (Import place layout)) f l r = omega (arith, r)
 keeps_source (Some Vectors) f l r = omega (arith, r)
 keeps_source (Some Judge) f l r = omega (arith, r)
 keeps_source (Some Explain) f l r = omega (arith, r)
-keeps_source (Some (Sweep byte units)) f l r = (l, r)
+keeps_source (Some (Sweep byte units)) f l r = omega (arith, r)
 
 opens_none : (f : Facts) → f.rig_after ≡ f.rig → OpensRig f
 opens_none f e = subst (λ (v : View). RigOpenedOnce (image_in f.words) f.rig.standing v.standing × (f.rig.seen.faults ≤ v.seen.faults)) (sym e) (inl (refl, refl), omega arith)
@@ -114,10 +114,10 @@ keeps_image (Some (Sweep byte units)) f b = b
 pub kept_on : (words : List (List ℕ)) (old new : Held) (left : Option (List ℕ)) (reads : ℕ) (rig : View) (second : Held) → new.bytes ≡ old.bytes → OpenedOnce (image_in words) old new → old.faults ≤ new.faults → Keeps (on_first words old new left reads rig second)
 kept_on words old new left reads rig second b o c =
     let f = on_first words old new left reads rig second in
-    record { source = keeps_source (served_in words) f refl refl; rig = keeps_rig (served_in words) f refl; second = inl refl; image = keeps_image (served_in words) f b; openings = o; count = c }
+    record { source = keeps_source (command_in words) f refl refl; rig = keeps_rig (command_in words) f refl; second = inl refl; image = keeps_image (command_in words) f b; openings = o; count = c }
 
 pub unlisted : (words : List (List ℕ)) (old new : Held) (left : Option (List ℕ)) (reads : ℕ) (rig : View) (second : Held) (x : RigFault) (r : Refusal) (taken taken' : Option (List ℕ)) (o n : ℕ) (result : Status) →
-    served_in words ≡ Some ShowUnits → r ≡ refusal_of x → Tried (Err x) (image_in words) old new → Written (status_of r) (refusal_text r) taken taken' o n result → Ended (on_first words old new left reads rig second) taken taken' o n result
+    command_in words ≡ Some ShowUnits → r ≡ refusal_of x → Tried (Err x) (image_in words) old new → Written (status_of r) (refusal_text r) taken taken' o n result → Ended (on_first words old new left reads rig second) taken taken' o n result
 unlisted words old new left reads rig second x r taken taken' o n result e s t w =
     let f = on_first words old new left reads rig second in
     ended_refused f r taken taken' o n result
@@ -125,7 +125,7 @@ unlisted words old new left reads rig second x r taken taken' o n result e s t w
     (kept_on words old new left reads rig second t.same t.opening t.count) w
 
 pub unshown : (words : List (List ℕ)) (place : Place) (old new : Held) (left : Option (List ℕ)) (reads : ℕ) (rig : View) (second : Held) (x : RigFault) (r : Refusal) (taken taken' : Option (List ℕ)) (o n : ℕ) (result : Status) →
-    served_in words ≡ Some (ShowBlocks place) → r ≡ refusal_of x → Tried (Err x) (image_in words) old new → Written (status_of r) (refusal_text r) taken taken' o n result → Ended (on_first words old new left reads rig second) taken taken' o n result
+    command_in words ≡ Some (ShowBlocks place) → r ≡ refusal_of x → Tried (Err x) (image_in words) old new → Written (status_of r) (refusal_text r) taken taken' o n result → Ended (on_first words old new left reads rig second) taken taken' o n result
 unshown words place old new left reads rig second x r taken taken' o n result e s t w =
     let f = on_first words old new left reads rig second in
     ended_refused f r taken taken' o n result
@@ -134,7 +134,7 @@ unshown words place old new left reads rig second x r taken taken' o n result e 
 
 -- want of memory for the blocks
 pub spared : (words : List (List ℕ)) (place : Place) (old : Held) (left : Option (List ℕ)) (reads : ℕ) (rig : View) (second : Held) (taken taken' : Option (List ℕ)) (o n : ℕ) (result : Status) →
-    served_in words ≡ Some (ShowBlocks place) → Written (status_of refusal.Memory) (refusal_text refusal.Memory) taken taken' o n result → Ended (on_first words old old left reads rig second) taken taken' o n result
+    command_in words ≡ Some (ShowBlocks place) → Written (status_of refusal.Memory) (refusal_text refusal.Memory) taken taken' o n result → Ended (on_first words old old left reads rig second) taken taken' o n result
 spared words place old left reads rig second taken taken' o n result e w =
     let f = on_first words old old left reads rig second in
     ended_refused f refusal.Memory taken taken' o n result (subst (λ (c : Option Command). CauseByCommand c refusal.Memory f) (sym e) tt)
@@ -146,7 +146,7 @@ pub opened_on : (image : Image) (f : Facts) → Tried (Ok image) (image_in f.wor
 opened_on image f t = record { opened = t.opened; head = t.judged.head; right = t.judged.judged; told = t.judged.told; units = t.judged.units }
 
 pub listed : (words : List (List ℕ)) (old new : Held) (left : Option (List ℕ)) (reads : ℕ) (rig : View) (second : Held) (image : Image) (taken taken' : Option (List ℕ)) (o n : ℕ) (result : Status) →
-    served_in words ≡ Some ShowUnits → Tried (Ok image) (image_in words) old new → Written (verdict_status (Listed (units_open image))) (verdict_text (Listed (units_open image))) taken taken' o n result → Ended (on_first words old new left reads rig second) taken taken' o n result
+    command_in words ≡ Some ShowUnits → Tried (Ok image) (image_in words) old new → Written (verdict_status (Listed (units_open image))) (verdict_text (Listed (units_open image))) taken taken' o n result → Ended (on_first words old new left reads rig second) taken taken' o n result
 listed words old new left reads rig second image taken taken' o n result e t w = record {
   verdict = Listed (units_open image);
   cause = record { named = e; opened = opened_on image (on_first words old new left reads rig second) t };
@@ -156,7 +156,7 @@ listed words old new left reads rig second image taken taken' o n result e t w =
 
 -- an image without the place
 pub unplaced : (words : List (List ℕ)) (place : Place) (old new : Held) (left : Option (List ℕ)) (reads : ℕ) (rig : View) (second : Held) (image : Image) (x : PlaceFault) (taken taken' : Option (List ℕ)) (o n : ℕ) (result : Status) →
-    served_in words ≡ Some (ShowBlocks place) → Tried (Ok image) (image_in words) old new → Err x ≡ stretch_in (units_open image) place → Written (status_of (refusal.Place x)) (refusal_text (refusal.Place x)) taken taken' o n result →
+    command_in words ≡ Some (ShowBlocks place) → Tried (Ok image) (image_in words) old new → Err x ≡ stretch_in (units_open image) place → Written (status_of (refusal.Place x)) (refusal_text (refusal.Place x)) taken taken' o n result →
     Ended (on_first words old new left reads rig second) taken taken' o n result
 unplaced words place old new left reads rig second image x taken taken' o n result e t p w =
     let f = on_first words old new left reads rig second in
@@ -165,10 +165,6 @@ unplaced words place old new left reads rig second image x taken taken' o n resu
     (kept_on words old new left reads rig second t.same t.opening t.count) w
 
 -- ---- blocks that are shown
-
-pub rose_since : (a b c : ℕ) → a ≤ b → Rose b c → Rose a c
-rose_since a b c h (inl r) = inl (omega (arith, h, r))
-rose_since a b c h (inr r) = inr r
 
 -- the store as the image was opened, and after its blocks were read
 pub record Goes (name : List ℕ) (old mid new : Held) : Type 0 where
@@ -191,7 +187,7 @@ keeps_on image words old mid new left reads rig second t g =
     kept_on words old new left reads rig second (g.same ∙ t.same) (rw (g.named, g.openings) t.opening) (let a = t.count in let b = g.count in omega arith)
 
 pub shown : (words : List (List ℕ)) (place : Place) (old mid new : Held) (left : Option (List ℕ)) (reads : ℕ) (rig : View) (second : Held) (image : Image) (at : Stretch) (r : Result ℕ ShowFault) (taken taken' : Option (List ℕ)) (o n : ℕ) (result : Status) →
-    served_in words ≡ Some (ShowBlocks place) → Tried (Ok image) (image_in words) old mid → Goes (image_in words) old mid new → Ok at ≡ stretch_in (units_open image) place →
+    command_in words ≡ Some (ShowBlocks place) → Tried (Ok image) (image_in words) old mid → Goes (image_in words) old mid new → Ok at ≡ stretch_in (units_open image) place →
     ShowEnds r (text_of (units_open image) at) (units_open image) at mid.bytes mid.faults new.faults o n taken taken' → result ≡ shown_status r → Ended (on_first words old new left reads rig second) taken taken' o n result
 shown words place old mid new left reads rig second image at (Ok bad) taken taken' o n result e t g p s w = record {
   verdict = Shown (units_open image) at s.blocks;
@@ -219,6 +215,6 @@ pub without_image : (words : List (List ℕ)) (h : Held) (left : Option (List �
 without_image words h left reads rig second v taken taken' o n result c w = record { verdict = v; cause = c; written = inl w; kept = kept_on words h h left reads rig second refl (inl (refl, refl)) (omega arith) }
 
 pub no_command : (words : List (List ℕ)) (h : Held) (left : Option (List ℕ)) (reads : ℕ) (rig : View) (second : Held) (taken taken' : Option (List ℕ)) (o n : ℕ) (result : Status) →
-    served_in words ≡ None → Written (status_of refusal.Words) (refusal_text refusal.Words) taken taken' o n result → Ended (on_first words h h left reads rig second) taken taken' o n result
+    command_in words ≡ None → Written (status_of refusal.Words) (refusal_text refusal.Words) taken taken' o n result → Ended (on_first words h h left reads rig second) taken taken' o n result
 no_command words h left reads rig second taken taken' o n result e w =
     without_image words h left reads rig second (Refused refusal.Words) taken taken' o n result (subst (λ (c : Option Command). CauseByCommand c refusal.Words (on_first words h h left reads rig second)) (sym e) refl) w

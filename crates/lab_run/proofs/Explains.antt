@@ -1,13 +1,13 @@
 -- The verdicts of `explain` with an image.
-use Rattle.std.proofs.Common.{ℕ, ◌≡◌, ◌≤◌, ◌⊎◌, inl, inr, Bool, true, false, List, drop, Option, Some, None, Result, Ok, Err, refl, sym, ap, subst, ◌∙◌, arith}
+use Rattle.std.proofs.Common.{ℕ, ◌≡◌, ◌≤◌, ◌⊎◌, inl, inr, Bool, true, false, List, drop, Option, Some, None, Ok, refl, sym, ap, subst, ◌∙◌, arith}
 use Rattle.dix_base.specs.Told.{Calm, Rose}
 use Rattle.dix_words.specs.Grammar.{image_in}
-use Rattle.image_commands.specs.Causes.{CauseUntold, HasOpened, WasTold}
+use Rattle.image_commands.specs.Causes.{CauseUntold, HasOpened}
 use Rattle.image_commands.specs.Views.{OpenedOnce, View}
 use Rattle.image_commands.specs.declared.fault.Fault.{Fault}
 use Rattle.image_commands.specs.declared.fault.Fault.TheVariants as fault
 use Rattle.lab_words.specs.declared.command.Command.{Command}
-use Rattle.lab_words.specs.declared.command.Command.TheVariants.{Help, Version, ShowUnits, ShowBlocks, Diff, Export, Import, Vectors, Judge, Explain, Sweep}
+use Rattle.lab_words.specs.declared.command.Command.TheVariants.{Explain}
 use Rattle.rig_api.specs.Head.{head_fault, head_of}
 use Rattle.rig_api.specs.Telling.{Standing}
 use Rattle.run_words.proofs.Marking.{marked_complete, refused_complete}
@@ -20,16 +20,17 @@ use Rattle.script_text.specs.Bindings.{binding_fault}
 use Rattle.script_text.specs.Language.{script_in}
 use Rattle.script_text.specs.declared.script.Script.{Script}
 use Rattle.script_verdict.specs.Texts.{has_bad, refusal_text as stop_text}
-use Rattle.script_verdict.specs.Verdict.{CauseRefused, CauseStopped, Facts as Call, HasRun, StoppedShort, WasAsked, devices_of, table_over}
+use Rattle.script_verdict.specs.Verdict.{CauseRefused, CauseStopped, Facts as Call, HasRun, StoppedShort, devices_of, table_over}
 use Rattle.script_verdict.specs.declared.refusal.Refusal.{Refusal as Stop}
 use Rattle.script_verdict.specs.declared.refusal.Refusal.TheVariants as stop
 use Rattle.script_verdict.specs.declared.verdict.Finished.{Finished}
+use Rattle.script_verdict.proofs.Completing.{never_rose}
 use Rattle.volume_table.specs.Faults.{table_fault}
-use Rattle.lab_run.specs.Calls.{Facts, Held, on_rig, served_in}
-use Rattle.lab_run.specs.Explained.{ExplainsRun, HasExplained, HasToldFault, HasToldRun, HasToldStop, explain_call, run_ending, stop_ending}
-use Rattle.lab_run.specs.Outcomes.{BadImage, BadInput, Done, Ending, Found, NoMemory, Outcome, RigFailed, SourceFailed, ending_status}
-use Rattle.lab_run.specs.Verdict.{BrokeOff, Cause, CauseByCommand, CauseRan, Compared, Ended, Exported, Helped, Imported, Judged, Keeps, KeepsImage, KeepsRig, KeepsSource, Listed, Marked, OpensRig, Ran, Refused, Shown, Verdict, Versioned, Written, done_status, verdict_status, verdict_text}
-use Rattle.lab_run.specs.declared.refusal.Refusal.{Refusal}
+use Rattle.lab_words.specs.Grammar.{command_in}
+use Rattle.lab_run.specs.Calls.{Facts, Held, on_rig}
+use Rattle.lab_run.specs.Explained.{ExplainsRun, HasExplained, HasToldFault, HasToldRun, HasToldStop, explain_call}
+use Rattle.lab_run.specs.Outcomes.{BadInput, Ending, Outcome, RigFailed, SourceFailed, ending_status, found_ending, stop_ending}
+use Rattle.lab_run.specs.Verdict.{BrokeOff, Cause, CauseByCommand, CauseRan, Compared, Ended, Exported, Helped, Imported, Judged, Keeps, KeepsImage, KeepsRig, KeepsSource, Listed, Marked, Ran, Refused, Shown, Verdict, Versioned, Written, done_status, verdict_status, verdict_text}
 use Rattle.lab_run.specs.declared.status.Status.{Status}
 use Rattle.lab_run.specs.declared.status.Status.TheVariants as status
 
@@ -94,7 +95,7 @@ goes_not_run stop.RigFault f c = goes_refused stop.RigFault f c
 goes_not_run stop.Memory f c = goes_refused stop.Memory f c
 goes_not_run stop.ReadFault f c = goes_refused stop.ReadFault f c
 
-kept : (words : List (List ℕ)) (left left' : Option (List ℕ)) (reads reads' : ℕ) (rig rig' : View) (first second : Held) → served_in words ≡ Some Explain → reads ≤ reads' → Goes (image_in words) rig rig' → Keeps (on_rig words left left' reads reads' rig rig' first second)
+kept : (words : List (List ℕ)) (left left' : Option (List ℕ)) (reads reads' : ℕ) (rig rig' : View) (first second : Held) → command_in words ≡ Some Explain → reads ≤ reads' → Goes (image_in words) rig rig' → Keeps (on_rig words left left' reads reads' rig rig' first second)
 kept words left left' reads reads' rig rig' first second e k g =
     let f = on_rig words left left' reads reads' rig rig' first second in
     record {
@@ -109,7 +110,7 @@ kept words left left' reads reads' rig rig' first second e k g =
 -- ---- a call
 
 came : (words : List (List ℕ)) (left left' : Option (List ℕ)) (reads reads' : ℕ) (rig rig' : View) (first second : Held) (w : Outcome) (taken taken' : Option (List ℕ)) (o n : ℕ) (result : Status) →
-    served_in words ≡ Some Explain → reads ≤ reads' → Goes (image_in words) rig rig' → HasExplained w (on_rig words left left' reads reads' rig rig' first second) → Written (ending_status w.ending) w.text taken taken' o n result →
+    command_in words ≡ Some Explain → reads ≤ reads' → Goes (image_in words) rig rig' → HasExplained w (on_rig words left left' reads reads' rig rig' first second) → Written (ending_status w.ending) w.text taken taken' o n result →
     Ended (on_rig words left left' reads reads' rig rig' first second) taken taken' o n result
 came words left left' reads reads' rig rig' first second w taken taken' o n result e k g h t =
     let f = on_rig words left left' reads reads' rig rig' first second in
@@ -120,7 +121,7 @@ came words left left' reads reads' rig rig' first second w taken taken' o n resu
       kept = kept words left left' reads reads' rig rig' first second e k g;
     }
 
-run_status : (b : Bool) → done_status b ≡ ending_status (run_ending b)
+pub run_status : (b : Bool) → done_status b ≡ ending_status (found_ending b)
 run_status true = refl
 run_status false = refl
 
@@ -131,43 +132,36 @@ guided_text told f h =
     ∙ ap (λ x. explained_by (sites_of h.script) x log told.run.stack.replies.items) h.explained.guided.entries
 
 pub told : (words : List (List ℕ)) (left left' : Option (List ℕ)) (reads reads' : ℕ) (rig rig' : View) (first second : Held) (x : Explained) (taken taken' : Option (List ℕ)) (o n : ℕ) (result : Status) →
-    served_in words ≡ Some Explain → reads ≤ reads' → HasRunExplained x (explain_call (on_rig words left left' reads reads' rig rig' first second)) →
+    command_in words ≡ Some Explain → reads ≤ reads' → HasRunExplained x (explain_call (on_rig words left left' reads reads' rig rig' first second)) →
     Written (done_status (has_bad x.run.stack.replies.items)) (explained_by x.guide.sites.items x.guide.entries (drop x.run.first rig'.seen.log) x.run.stack.replies.items) taken taken' o n result →
     Ended (on_rig words left left' reads reads' rig rig' first second) taken taken' o n result
 told words left left' reads reads' rig rig' first second x taken taken' o n result e k h t =
     let f = on_rig words left left' reads reads' rig rig' first second in
     let bad = has_bad x.run.stack.replies.items in
     let text = explained_text h.script (drop x.run.first rig'.seen.log) x.run.stack.replies.items in
-    let w : Outcome = record { ending = run_ending bad; text = text } in
+    let w : Outcome = record { ending = found_ending bad; text = text } in
     came words left left' reads reads' rig rig' first second w taken taken' o n result e k (goes_run x.run h.script (image_in words) rig rig' h.explained.ran)
     (record { named = e; untouched = refl; came = inl (record { run = x.run; script = h.script; read = h.read; ran = h.explained.ran; text = refl; ending = refl }) })
     (subst (λ (s : Status). Written s text taken taken' o n result) (run_status bad) (subst (λ (z : List ℕ). Written (done_status bad) z taken taken' o n result) (guided_text x (explain_call f) h) t))
 
 marked : (words : List (List ℕ)) (left left' : Option (List ℕ)) (reads reads' : ℕ) (rig rig' : View) (first second : Held) (said : List ℕ) (taken taken' : Option (List ℕ)) (o n : ℕ) (result : Status) →
-    served_in words ≡ Some Explain → reads ≤ reads' → HasMarked said (explain_call (on_rig words left left' reads reads' rig rig' first second)) → Written status.Input said taken taken' o n result →
+    command_in words ≡ Some Explain → reads ≤ reads' → HasMarked said (explain_call (on_rig words left left' reads reads' rig rig' first second)) → Written status.Input said taken taken' o n result →
     Ended (on_rig words left left' reads reads' rig rig' first second) taken taken' o n result
 marked words left left' reads reads' rig rig' first second said taken taken' o n result e k m t =
     let f = on_rig words left left' reads reads' rig rig' first second in
     came words left left' reads reads' rig rig' first second (record { ending = BadInput; text = said }) taken taken' o n result e k (goes_marked said (explain_call f) m)
     (record { named = e; untouched = refl; came = inr (inl (record { marked = m; ending = refl })) }) t
 
-stopped : (words : List (List ℕ)) (left left' : Option (List ℕ)) (reads reads' : ℕ) (rig rig' : View) (first second : Held) (r : Stop) (taken taken' : Option (List ℕ)) (o n : ℕ) (result : Status) →
-    served_in words ≡ Some Explain → reads ≤ reads' → CauseNotRun r (explain_call (on_rig words left left' reads reads' rig rig' first second)) → Written (ending_status (stop_ending r)) (stop_text r) taken taken' o n result →
+pub stopped : (words : List (List ℕ)) (left left' : Option (List ℕ)) (reads reads' : ℕ) (rig rig' : View) (first second : Held) (r : Stop) (taken taken' : Option (List ℕ)) (o n : ℕ) (result : Status) →
+    command_in words ≡ Some Explain → reads ≤ reads' → CauseNotRun r (explain_call (on_rig words left left' reads reads' rig rig' first second)) → Written (ending_status (stop_ending r)) (stop_text r) taken taken' o n result →
     Ended (on_rig words left left' reads reads' rig rig' first second) taken taken' o n result
 stopped words left left' reads reads' rig rig' first second r taken taken' o n result e k c t =
     let f = on_rig words left left' reads reads' rig rig' first second in
     came words left left' reads reads' rig rig' first second (record { ending = stop_ending r; text = stop_text r }) taken taken' o n result e k (goes_not_run r (explain_call f) c)
     (record { named = e; untouched = refl; came = inr (inr (record { reason = r; cause = c; text = refl; ending = refl })) }) t
 
-pub stopped_by : (words : List (List ℕ)) (left left' : Option (List ℕ)) (reads reads' : ℕ) (rig rig' : View) (first second : Held) (r : Stop) (line : List ℕ) (s : Status) (taken taken' : Option (List ℕ)) (o n : ℕ) (result : Status) →
-    served_in words ≡ Some Explain → reads ≤ reads' → CauseNotRun r (explain_call (on_rig words left left' reads reads' rig rig' first second)) → line ≡ stop_text r → s ≡ ending_status (stop_ending r) → Written s line taken taken' o n result →
-    Ended (on_rig words left left' reads reads' rig rig' first second) taken taken' o n result
-stopped_by words left left' reads reads' rig rig' first second r line s taken taken' o n result e k c l d t =
-    stopped words left left' reads reads' rig rig' first second r taken taken' o n result e k c
-    (subst (λ (x : Status). Written x (stop_text r) taken taken' o n result) d (subst (λ (x : List ℕ). Written s x taken taken' o n result) l t))
-
 pub marked_by : (words : List (List ℕ)) (left left' : Option (List ℕ)) (reads reads' : ℕ) (rig rig' : View) (first second : Held) (said line : List ℕ) (taken taken' : Option (List ℕ)) (o n : ℕ) (result : Status) →
-    served_in words ≡ Some Explain → reads ≤ reads' → HasMarked said (explain_call (on_rig words left left' reads reads' rig rig' first second)) → line ≡ said → Written status.Input line taken taken' o n result →
+    command_in words ≡ Some Explain → reads ≤ reads' → HasMarked said (explain_call (on_rig words left left' reads reads' rig rig' first second)) → line ≡ said → Written status.Input line taken taken' o n result →
     Ended (on_rig words left left' reads reads' rig rig' first second) taken taken' o n result
 marked_by words left left' reads reads' rig rig' first second said line taken taken' o n result e k m l t =
     marked words left left' reads reads' rig rig' first second said taken taken' o n result e k m (subst (λ (x : List ℕ). Written status.Input x taken taken' o n result) l t)
@@ -177,11 +171,11 @@ as_cause u v f e c = subst (λ (x : Unexplained). CauseUnexplained x f) e c
 
 -- ---- what follows from what it came to
 
-run_no_rig : (b : Bool) → run_ending b ≡ RigFailed → ⊥
+pub run_no_rig : (b : Bool) → found_ending b ≡ RigFailed → ⊥
 run_no_rig true e = cc
 run_no_rig false e = cc
 
-run_no_source : (b : Bool) → run_ending b ≡ SourceFailed → ⊥
+pub run_no_source : (b : Bool) → found_ending b ≡ SourceFailed → ⊥
 run_no_source true e = cc
 run_no_source false e = cc
 
@@ -229,10 +223,6 @@ explained_reads w f h e = came_source w f h.came e
 
 -- ---- where nothing is at fault
 
-never_rose : (o n : ℕ) → Calm o n → Rose o n → ⊥
-never_rose o n c (inl r) = let a = c.0 in omega arith
-never_rose o n c (inr r) = let a = c.1 in omega arith
-
 -- the text, the image and the script are right
 pub record IsRightRun (f : Facts) : Type 0 where
   pub text : List ℕ
@@ -250,7 +240,7 @@ pub record IsRightRun (f : Facts) : Type 0 where
 abbrev IsGood : Status → Type 0
 IsGood s = ((s ≡ status.Whole) ⊎ (s ≡ status.SomeBad)) ⊎ (s ≡ status.Memory)
 
-run_good : (b : Bool) → IsGood (ending_status (run_ending b))
+run_good : (b : Bool) → IsGood (ending_status (found_ending b))
 run_good true = inl (inr refl)
 run_good false = inl (inl refl)
 
@@ -272,12 +262,12 @@ came_good w f i (inr (inr h)) = subst (λ (x : Ending). IsGood (ending_status x)
 
 -- ---- the field of the top call
 
-status_is : (f : Facts) (old new : Option (List ℕ)) (o n : ℕ) (result : Status) (w : Outcome) → Written (ending_status w.ending) w.text old new o n result ⊎ BrokeOff (Ran w) f old new result → Calm o n → result ≡ ending_status w.ending
+pub status_is : (f : Facts) (old new : Option (List ℕ)) (o n : ℕ) (result : Status) (w : Outcome) → Written (ending_status w.ending) w.text old new o n result ⊎ BrokeOff (Ran w) f old new result → Calm o n → result ≡ ending_status w.ending
 status_is f old new o n result w (inl (inl t)) k = t.0
 status_is f old new o n result w (inl (inr t)) k = absurd (never_rose o n k t.1)
 status_is f old new o n result w (inr t) k = absurd t
 
-as_ran : (f : Facts) (w : Outcome) → served_in f.words ≡ Some Explain → CauseRan (served_in f.words) w f → HasExplained w f
+as_ran : (f : Facts) (w : Outcome) → command_in f.words ≡ Some Explain → CauseRan (command_in f.words) w f → HasExplained w f
 as_ran f w e c = subst (λ (x : Option Command). CauseRan x w f) e c
 
 ran_explains : (f : Facts) (old new : Option (List ℕ)) (o n : ℕ) (result : Status) (w : Outcome) → HasExplained w f → Written (ending_status w.ending) w.text old new o n result ⊎ BrokeOff (Ran w) f old new result → ExplainsRun f o n result
@@ -288,7 +278,7 @@ ran_explains f old new o n result w h t = record {
       (came_good w f (record { text = text; image = image; script = script; left = l; reads = s; told = i; head = hd; table = tb; bound = bd; source = cr; rig = cg }) h.came);
 }
 
-by_verdict : (f : Facts) (old new : Option (List ℕ)) (o n : ℕ) (result : Status) (v : Verdict) → served_in f.words ≡ Some Explain → Cause v f → Written (verdict_status v) (verdict_text v) old new o n result ⊎ BrokeOff v f old new result → ExplainsRun f o n result
+by_verdict : (f : Facts) (old new : Option (List ℕ)) (o n : ℕ) (result : Status) (v : Verdict) → command_in f.words ≡ Some Explain → Cause v f → Written (verdict_status v) (verdict_text v) old new o n result ⊎ BrokeOff v f old new result → ExplainsRun f o n result
 by_verdict f old new o n result (Refused r) e c t = absurd (subst (λ (x : Option Command). CauseByCommand x r f) e c)
 by_verdict f old new o n result Helped e c t = let k = sym c ∙ e in absurd (cc)
 by_verdict f old new o n result Versioned e c t = let k = sym c ∙ e in absurd (cc)
@@ -301,5 +291,5 @@ by_verdict f old new o n result (Judged script) e c t = let k = sym c.named ∙ 
 by_verdict f old new o n result (Marked text bad) e c t = let k = sym c.named ∙ e in absurd (cc)
 by_verdict f old new o n result (Ran w) e c t = ran_explains f old new o n result w (as_ran f w e c) t
 
-pub explains_run : (f : Facts) (old new : Option (List ℕ)) (o n : ℕ) (result : Status) → Ended f old new o n result → served_in f.words ≡ Some Explain → ExplainsRun f o n result
+pub explains_run : (f : Facts) (old new : Option (List ℕ)) (o n : ℕ) (result : Status) → Ended f old new o n result → command_in f.words ≡ Some Explain → ExplainsRun f o n result
 explains_run f old new o n result ended e = by_verdict f old new o n result ended.verdict e ended.cause ended.written

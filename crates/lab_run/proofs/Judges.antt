@@ -1,9 +1,9 @@
-use Rattle.std.proofs.Common.{ℕ, suc, ◌≡◌, ◌+◌, ◌<◌, ◌≤◌, ◌⊎◌, inl, inr, Bool, true, false, ltb, cond, List, [], ◌∷◌, ◌++◌, length, Option, Some, None, Result, Ok, Err, refl, sym, ap, subst, ◌∙◌, arith, append-nil, length-append}
+-- The verdicts of `explain` without an image.
+use Rattle.std.proofs.Common.{ℕ, ◌≡◌, ◌+◌, ◌≤◌, ◌⊎◌, inl, inr, Bool, true, cond, List, [], ◌++◌, length, Option, Some, None, Result, Ok, Err, refl, sym, ap, subst, ◌∙◌, arith, append-nil, length-append}
 use Rattle.std.specs.Prelude.{IfOk, nat_lt}
 use Rattle.std.specs.declared.alloc.AllocError.{AllocError}
 use Rattle.std.proofs.lemmas.Bool.Decides.{nat_tests}
-use Rattle.dix_base.specs.Told.{Calm, IsAtEnd, Rose, Took}
-use Rattle.dix_words.specs.Grammar.{image_in}
+use Rattle.dix_base.specs.Told.{Calm, IsAtEnd, Took}
 use Rattle.fault_marks.specs.Texts.{marked_text, right_text}
 use Rattle.image_commands.specs.Views.{View}
 use Rattle.lab_words.specs.declared.command.Command.{Command}
@@ -13,9 +13,10 @@ use Rattle.script_text.specs.Language.{lines_read, nothing_read, script_in}
 use Rattle.script_text.specs.declared.fault.ScriptFault.{ScriptFault}
 use Rattle.script_text.specs.declared.script.Script.{Script}
 use Rattle.script_words.specs.Cuts.{lines_of}
-use Rattle.source_text.specs.Reading.{IsOver, IsWhole, TookAtMost, most_bytes}
+use Rattle.source_text.specs.Reading.{IsOver, IsWhole, most_bytes}
 use Rattle.source_text.proofs.Taking.{most_is}
-use Rattle.lab_run.specs.Calls.{Facts, Held, on_input, served_in}
+use Rattle.lab_words.specs.Grammar.{command_in}
+use Rattle.lab_run.specs.Calls.{Facts, Held, on_input}
 use Rattle.lab_run.specs.Judging.{CauseNotJudged, HasJudged, HasScriptFault, JudgesText}
 use Rattle.lab_run.specs.Saying.{IsTold, Says}
 use Rattle.lab_run.specs.Texts.{refusal_text, status_of}
@@ -26,15 +27,16 @@ use Rattle.lab_run.specs.declared.refusal.Refusal.TheVariants as refusal
 use Rattle.lab_run.specs.declared.status.Status.{Status}
 use Rattle.lab_run.specs.declared.status.Status.TheVariants as status
 use Rattle.lab_run.proofs.Endings.{ended_refused, keeps_rig}
+use Rattle.script_verdict.proofs.Completing.{never_rose}
+use Rattle.script_verdict.proofs.Refusing.{within}
+use Rattle.run_words.proofs.Marking.{over, too_long}
 
--- The verdicts of `explain` without an image.
-
-kept : (words : List (List ℕ)) (h : Held) (left left' : Option (List ℕ)) (reads reads' : ℕ) (rig : View) (second : Held) → served_in words ≡ Some Judge → reads ≤ reads' → Keeps (on_input words h h left left' reads reads' rig second)
+kept : (words : List (List ℕ)) (h : Held) (left left' : Option (List ℕ)) (reads reads' : ℕ) (rig : View) (second : Held) → command_in words ≡ Some Judge → reads ≤ reads' → Keeps (on_input words h h left left' reads reads' rig second)
 kept words h left left' reads reads' rig second e r =
     let f = on_input words h h left left' reads reads' rig second in
     record {
       source = subst (λ (c : Option Command). KeepsSource c f) (sym e) r;
-      rig = keeps_rig (served_in words) f refl;
+      rig = keeps_rig (command_in words) f refl;
       second = inl refl;
       image = subst (λ (c : Option Command). KeepsImage c f) (sym e) refl;
       openings = inl (refl, refl);
@@ -44,19 +46,13 @@ kept words h left left' reads reads' rig second e r =
 -- ---- a call
 
 pub unjudged : (words : List (List ℕ)) (h : Held) (left left' : Option (List ℕ)) (reads reads' : ℕ) (rig : View) (second : Held) (r : Refusal) (taken taken' : Option (List ℕ)) (o n : ℕ) (result : Status) →
-    served_in words ≡ Some Judge → reads ≤ reads' → CauseNotJudged r (on_input words h h left left' reads reads' rig second) → Written (status_of r) (refusal_text r) taken taken' o n result → Ended (on_input words h h left left' reads reads' rig second) taken taken' o n result
+    command_in words ≡ Some Judge → reads ≤ reads' → CauseNotJudged r (on_input words h h left left' reads reads' rig second) → Written (status_of r) (refusal_text r) taken taken' o n result → Ended (on_input words h h left left' reads reads' rig second) taken taken' o n result
 unjudged words h left left' reads reads' rig second r taken taken' o n result e k cause w =
     let f = on_input words h h left left' reads reads' rig second in
     ended_refused f r taken taken' o n result (subst (λ (c : Option Command). CauseByCommand c r f) (sym e) cause) (kept words h left left' reads reads' rig second e k) w
 
-within : (text : List ℕ) (a b : Option (List ℕ)) → IsWhole text a b → TookAtMost (most_bytes + 1) a b
-within text a b w = let l = w.2 in (text, w.0, omega (arith, l))
-
-over : (a b : Option (List ℕ)) → IsOver a b → TookAtMost (most_bytes + 1) a b
-over a b w = let l = w.2 in (w.0, w.1, omega (arith, l))
-
 said_right : (words : List (List ℕ)) (h : Held) (left left' : Option (List ℕ)) (reads reads' : ℕ) (rig : View) (second : Held) (taken taken' : Option (List ℕ)) (o n : ℕ) (result : Status) (text : List ℕ) (want : Result Script ScriptFault) (s : Status) (said : List ℕ) →
-    served_in words ≡ Some Judge → reads ≤ reads' → IsWhole text left left' → script_in text ≡ want → Says want s said text → Written s said taken taken' o n result → Ended (on_input words h h left left' reads reads' rig second) taken taken' o n result
+    command_in words ≡ Some Judge → reads ≤ reads' → IsWhole text left left' → script_in text ≡ want → Says want s said text → Written s said taken taken' o n result → Ended (on_input words h h left left' reads reads' rig second) taken taken' o n result
 said_right words h left left' reads reads' rig second taken taken' o n result text (Ok script) s said e k whole reads_so says w = record {
   verdict = Judged script;
   cause = record { named = e; text = text; whole = whole; reads = reads_so; untouched = refl };
@@ -72,21 +68,15 @@ said_right words h left left' reads reads' rig second taken taken' o n result te
 
 -- a text that was read to its end
 pub told_whole : (words : List (List ℕ)) (h : Held) (left left' : Option (List ℕ)) (reads reads' : ℕ) (rig : View) (second : Held) (taken taken' : Option (List ℕ)) (o n : ℕ) (result : Status) (text : List ℕ) (said : Result Said AllocError) →
-    served_in words ≡ Some Judge → reads ≤ reads' → IsWhole text left left' → IfOk said (λ x. Says (script_in text) x.status x.text.items text) → IsTold said taken taken' o n result → Ended (on_input words h h left left' reads reads' rig second) taken taken' o n result
+    command_in words ≡ Some Judge → reads ≤ reads' → IsWhole text left left' → IfOk said (λ x. Says (script_in text) x.status x.text.items text) → IsTold said taken taken' o n result → Ended (on_input words h h left left' reads reads' rig second) taken taken' o n result
 told_whole words h left left' reads reads' rig second taken taken' o n result text (Ok x) e k whole says w =
     said_right words h left left' reads reads' rig second taken taken' o n result text (script_in text) x.status x.text.items e k whole refl says w
 told_whole words h left left' reads reads' rig second taken taken' o n result text (Err x) e k whole says w =
     unjudged words h left left' reads reads' rig second refusal.Memory taken taken' o n result e k (within text left left' whole, refl) w
 
-too_long : (text : List ℕ) → length text ≡ most_bytes + 1 → script_in text ≡ Err (record { line = 0; kind = TooMany })
-too_long text l =
-    let m = most_is in
-    let t : nat_lt 4194304 (length text) ≡ true = grind (arith, nat_tests, l, m) in
-    ap (λ (b : Bool). cond b (Err (record { line = 0; kind = TooMany })) (lines_read 1 (lines_of text) nothing_read)) t
-
 -- a text that is too long, which isn't kept
 pub told_over : (words : List (List ℕ)) (h : Held) (left left' : Option (List ℕ)) (reads reads' : ℕ) (rig : View) (second : Held) (taken taken' : Option (List ℕ)) (o n : ℕ) (result : Status) (said : Result Said AllocError) →
-    served_in words ≡ Some Judge → reads ≤ reads' → IsOver left left' → ((text : List ℕ) → IfOk said (λ x. Says (Err (record { line = 0; kind = TooMany })) x.status x.text.items text)) → IsTold said taken taken' o n result →
+    command_in words ≡ Some Judge → reads ≤ reads' → IsOver left left' → ((text : List ℕ) → IfOk said (λ x. Says (Err (record { line = 0; kind = TooMany })) x.status x.text.items text)) → IsTold said taken taken' o n result →
     Ended (on_input words h h left left' reads reads' rig second) taken taken' o n result
 told_over words h left left' reads reads' rig second taken taken' o n result (Ok x) e k long says w =
     let text = long.0 in
@@ -102,10 +92,6 @@ told_over words h left left' reads reads' rig second taken taken' o n result (Er
     unjudged words h left left' reads reads' rig second refusal.Memory taken taken' o n result e k (over left left' long, refl) w
 
 -- ---- what follows from a verdict with its cause
-
-no_rise : (o n : ℕ) → Calm o n → Rose o n → ⊥
-no_rise o n c (inl r) = let a = c.0 in omega arith
-no_rise o n c (inr r) = let a = c.1 in omega arith
 
 untouched_refused : (r : Refusal) (f : Facts) → CauseNotJudged r f → f.first_after ≡ f.first
 untouched_refused refusal.Words f c = absurd c
@@ -134,13 +120,13 @@ memory_refused refusal.OtherCount f c k = absurd c
 memory_refused (refusal.Short x) f c k = absurd c
 memory_refused refusal.Long f c k = absurd c
 memory_refused refusal.RigFault f c k = absurd c
-memory_refused refusal.ReadFault f c k = absurd (no_rise f.reads f.reads_after k c.0)
+memory_refused refusal.ReadFault f c k = absurd (never_rose f.reads f.reads_after k c.0)
 memory_refused refusal.Memory f c k = refl
 
-as_judge : (f : Facts) (r : Refusal) → served_in f.words ≡ Some Judge → CauseByCommand (served_in f.words) r f → CauseNotJudged r f
+as_judge : (f : Facts) (r : Refusal) → command_in f.words ≡ Some Judge → CauseByCommand (command_in f.words) r f → CauseNotJudged r f
 as_judge f r e c = subst (λ (x : Option Command). CauseByCommand x r f) e c
 
-untouched_by : (f : Facts) (v : Verdict) → served_in f.words ≡ Some Judge → Cause v f → f.first_after ≡ f.first
+untouched_by : (f : Facts) (v : Verdict) → command_in f.words ≡ Some Judge → Cause v f → f.first_after ≡ f.first
 untouched_by f (Refused r) e c = untouched_refused r f (as_judge f r e c)
 untouched_by f Helped e c = let k = sym c ∙ e in absurd (cc)
 untouched_by f Versioned e c = let k = sym c ∙ e in absurd (cc)
@@ -188,9 +174,9 @@ not_judged f all bad script c l s =
     not_both (script_in all) script bad (ap script_in (sym (all_taken c.text all f.left f.left_after l c.whole.0 c.whole.1)) ∙ c.reads) s
 
 -- the status is the verdict's
-as_said : (f : Facts) (old new : Option (List ℕ)) (o n : ℕ) (result : Status) (v : Verdict) → served_in f.words ≡ Some Judge → Cause v f → Written (verdict_status v) (verdict_text v) old new o n result ⊎ BrokeOff v f old new result → Calm o n → result ≡ verdict_status v
+as_said : (f : Facts) (old new : Option (List ℕ)) (o n : ℕ) (result : Status) (v : Verdict) → command_in f.words ≡ Some Judge → Cause v f → Written (verdict_status v) (verdict_text v) old new o n result ⊎ BrokeOff v f old new result → Calm o n → result ≡ verdict_status v
 as_said f old new o n result v e c (inl (inl w)) k = w.0
-as_said f old new o n result v e c (inl (inr w)) k = absurd (no_rise o n k w.1)
+as_said f old new o n result v e c (inl (inr w)) k = absurd (never_rose o n k w.1)
 as_said f old new o n result (Refused r) e c (inr w) k = absurd w
 as_said f old new o n result Helped e c (inr w) k = absurd w
 as_said f old new o n result Versioned e c (inr w) k = absurd w
@@ -203,7 +189,7 @@ as_said f old new o n result (Judged script) e c (inr w) k = absurd w
 as_said f old new o n result (Marked text bad) e c (inr w) k = absurd w
 as_said f old new o n result (Ran x) e c (inr w) k = absurd w
 
-wrong_by : (f : Facts) (v : Verdict) (all : List ℕ) (bad : ScriptFault) → served_in f.words ≡ Some Judge → Cause v f → f.left ≡ Some all → script_in all ≡ Err bad → Calm f.reads f.reads_after → (verdict_status v ≡ status.Input) ⊎ (verdict_status v ≡ status.Memory)
+wrong_by : (f : Facts) (v : Verdict) (all : List ℕ) (bad : ScriptFault) → command_in f.words ≡ Some Judge → Cause v f → f.left ≡ Some all → script_in all ≡ Err bad → Calm f.reads f.reads_after → (verdict_status v ≡ status.Input) ⊎ (verdict_status v ≡ status.Memory)
 wrong_by f (Refused r) all bad e c l s k = inr (memory_refused r f (as_judge f r e c) k)
 wrong_by f Helped all bad e c l s k = let z = sym c ∙ e in absurd (cc)
 wrong_by f Versioned all bad e c l s k = let z = sym c ∙ e in absurd (cc)
@@ -216,7 +202,7 @@ wrong_by f (Judged script) all bad e c l s k = absurd (not_judged f all bad scri
 wrong_by f (Marked text other) all bad e c l s k = inl refl
 wrong_by f (Ran w) all bad e c l s k = absurd (subst (λ (y : Option Command). CauseRan y w f) e c)
 
-right_by : (f : Facts) (v : Verdict) (all : List ℕ) (script : Script) → served_in f.words ≡ Some Judge → Cause v f → f.left ≡ Some all → script_in all ≡ Ok script → Calm f.reads f.reads_after → (verdict_status v ≡ status.Whole) ⊎ (verdict_status v ≡ status.Memory)
+right_by : (f : Facts) (v : Verdict) (all : List ℕ) (script : Script) → command_in f.words ≡ Some Judge → Cause v f → f.left ≡ Some all → script_in all ≡ Ok script → Calm f.reads f.reads_after → (verdict_status v ≡ status.Whole) ⊎ (verdict_status v ≡ status.Memory)
 right_by f (Refused r) all script e c l s k = inr (memory_refused r f (as_judge f r e c) k)
 right_by f Helped all script e c l s k = let z = sym c ∙ e in absurd (cc)
 right_by f Versioned all script e c l s k = let z = sym c ∙ e in absurd (cc)
@@ -229,7 +215,7 @@ right_by f (Judged other) all script e c l s k = inl refl
 right_by f (Marked text bad) all script e c l s k = absurd (not_marked f text all bad script c l s c.stopped)
 right_by f (Ran w) all script e c l s k = absurd (subst (λ (y : Option Command). CauseRan y w f) e c)
 
-pub judges_text : (f : Facts) (old new : Option (List ℕ)) (o n : ℕ) (result : Status) → Ended f old new o n result → served_in f.words ≡ Some Judge → JudgesText f o n result
+pub judges_text : (f : Facts) (old new : Option (List ℕ)) (o n : ℕ) (result : Status) → Ended f old new o n result → command_in f.words ≡ Some Judge → JudgesText f o n result
 judges_text f old new o n result ended e = record {
   untouched = untouched_by f ended.verdict e ended.cause;
   wrong = λ text bad l s k w. subst (λ (x : Status). (x ≡ status.Input) ⊎ (x ≡ status.Memory)) (sym (as_said f old new o n result ended.verdict e ended.cause ended.written w)) (wrong_by f ended.verdict text bad e ended.cause l s k);

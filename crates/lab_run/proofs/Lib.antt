@@ -5,4 +5,6 @@ mod Differing
 mod FewWords
 mod Judges
 mod Vectoring
+mod Named
+mod Sweeps
 mod Explains

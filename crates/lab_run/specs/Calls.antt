@@ -6,7 +6,6 @@ use Rattle.image_commands.specs.Views.{View}
 use Rattle.image_dumps.specs.declared.layout.Layout.{Layout as DumpLayout}
 use Rattle.image_dumps.specs.declared.layout.Layout.TheVariants as dump
 use Rattle.image_layout.specs.Heads.{called}
-use Rattle.lab_words.specs.Grammar.{command_in}
 use Rattle.lab_words.specs.declared.command.Command.{Command}
 use Rattle.lab_words.specs.declared.command.Command.TheVariants.{Help, Version, ShowUnits, ShowBlocks, Diff, Export, Import, Vectors, Judge, Explain, Sweep}
 use Rattle.lab_words.specs.declared.layout.Layout.{Layout}
@@ -17,25 +16,6 @@ use Rattle.rig_api.specs.Telling.{Opened, Standing, Stayed}
 use Rattle.target_answer.specs.declared.units.UnitSpec.{UnitSpec}
 
 -- What a call of the program speaks of.
-
--- the commands that the program does
-abbrev pub served_by : Option Command → Option Command
-served_by None = None
-served_by (Some Help) = Some Help
-served_by (Some Version) = Some Version
-served_by (Some ShowUnits) = Some ShowUnits
-served_by (Some (ShowBlocks place)) = Some (ShowBlocks place)
-served_by (Some (Diff one other)) = Some (Diff one other)
-served_by (Some (Export place layout)) = Some (Export place layout)
-served_by (Some (Import place layout)) = Some (Import place layout)
-served_by (Some Vectors) = Some Vectors
-served_by (Some Judge) = Some Judge
-served_by (Some Explain) = Some Explain
-served_by (Some (Sweep byte units)) = None
-
--- the command of the words, where they are in the grammar and the program does it
-abbrev pub served_in : List (List ℕ) → Option Command
-served_in words = served_by (command_in words)
 
 -- Whether a command uses the second store: `diff` alone does.
 abbrev pub uses_second : Option Command → Bool

@@ -1,4 +1,4 @@
-use Rattle.std.specs.Prelude.{ℕ, ◌≡◌, ◌⊎◌, Bool, if◌then◌else◌, List, drop, Some, None, Ok}
+use Rattle.std.specs.Prelude.{ℕ, ◌≡◌, ◌⊎◌, List, drop, Some, None, Ok}
 use Rattle.dix_base.specs.Told.{Calm}
 use Rattle.dix_words.specs.Grammar.{image_in}
 use Rattle.lab_words.specs.declared.command.Command.TheVariants.{Explain}
@@ -11,11 +11,11 @@ use Rattle.script_text.specs.declared.script.Script.{Script}
 use Rattle.script_verdict.specs.Texts.{has_bad, refusal_text}
 use Rattle.script_verdict.specs.Verdict.{Facts as Call, HasRead, HasRun, devices_of, table_over}
 use Rattle.script_verdict.specs.declared.refusal.Refusal.{Refusal as Stop}
-use Rattle.script_verdict.specs.declared.refusal.Refusal.TheVariants as stop
 use Rattle.script_verdict.specs.declared.verdict.Finished.{Finished}
 use Rattle.volume_table.specs.Faults.{table_fault}
-use Rattle.lab_run.specs.Calls.{Facts, served_in}
-use Rattle.lab_run.specs.Outcomes.{BadImage, BadInput, Done, Ending, Found, NoMemory, Outcome, RigFailed, SourceFailed}
+use Rattle.lab_words.specs.Grammar.{command_in}
+use Rattle.lab_run.specs.Calls.{Facts}
+use Rattle.lab_run.specs.Outcomes.{BadInput, Outcome, found_ending, stop_ending}
 use Rattle.lab_run.specs.declared.status.Status.{Status}
 use Rattle.lab_run.specs.declared.status.Status.TheVariants as status
 
@@ -25,20 +25,6 @@ use Rattle.lab_run.specs.declared.status.Status.TheVariants as status
 abbrev pub explain_call : Facts → Call
 explain_call f = record { name = image_in f.words; left = f.left; left_after = f.left_after; reads = f.reads; reads_after = f.reads_after; rig = f.rig; rig_after = f.rig_after }
 
--- how a run ends, by whether some block is listed or an overwrite failed
-abbrev pub run_ending : Bool → Ending
-run_ending bad = if bad then Found else Done
-
--- how it ends where the script comes to no run
-abbrev pub stop_ending : Stop → Ending
-stop_ending (stop.Script bad) = BadInput
-stop_ending (stop.Image x) = BadImage
-stop_ending (stop.BadCapacity dev) = BadImage
-stop_ending (stop.Volume entry kind) = BadImage
-stop_ending stop.RigFault = RigFailed
-stop_ending stop.Memory = NoMemory
-stop_ending stop.ReadFault = SourceFailed
-
 -- The script of the source was run over the image. The text is its report, the records of the call in words, and where the listed blocks stand and lie.
 pub record HasToldRun (w : Outcome) (f : Facts) : Type 0 where
   pub run : Finished
@@ -46,7 +32,7 @@ pub record HasToldRun (w : Outcome) (f : Facts) : Type 0 where
   pub read : HasRead script f.left f.left_after
   pub ran : HasRun run script (image_in f.words) f.rig f.rig_after
   pub text : w.text ≡ explained_text script (drop run.first f.rig_after.seen.log) run.stack.replies.items
-  pub ending : w.ending ≡ run_ending (has_bad run.stack.replies.items)
+  pub ending : w.ending ≡ found_ending (has_bad run.stack.replies.items)
 
 -- The script is at fault, in its text or over its volume, and the text marks it there.
 pub record HasToldFault (w : Outcome) (f : Facts) : Type 0 where
@@ -62,7 +48,7 @@ pub record HasToldStop (w : Outcome) (f : Facts) : Type 0 where
 
 -- It came to one of these. No store was touched.
 pub record HasExplained (w : Outcome) (f : Facts) : Type 0 where
-  pub named : served_in f.words ≡ Some Explain
+  pub named : command_in f.words ≡ Some Explain
   pub untouched : f.first_after ≡ f.first
   pub came : HasToldRun w f ⊎ (HasToldFault w f ⊎ HasToldStop w f)
 

@@ -1,4 +1,4 @@
-use Rattle.std.specs.Prelude.{ℕ, ◌≡◌, ◌*◌, ◌⊎◌, Bool, false, true, ltb, List, length, Option, Some, None, Ok, Err}
+use Rattle.std.specs.Prelude.{ℕ, ◌≡◌, ◌*◌, ◌⊎◌, false, true, ltb, List, length, Option, Some, None, Ok, Err}
 use Rattle.dix_base.specs.Told.{Appended, Calm, Rose}
 use Rattle.block_lines.specs.UnitText.{units_text}
 use Rattle.image_diff.specs.Compared.{Places, diff_of, differ_of}
@@ -15,15 +15,17 @@ use Rattle.lab_words.specs.declared.place.Place.{Place}
 use Rattle.rig_api.specs.Head.{head_fault, head_of, units_of}
 use Rattle.rig_api.specs.declared.rig.RigFault.{RigFault}
 use Rattle.target_answer.specs.declared.units.UnitSpec.{UnitSpec}
-use Rattle.lab_run.specs.Calls.{Facts, laid_as, served_in, stretch_in, uses_rig, uses_second}
+use Rattle.lab_words.specs.Grammar.{command_in}
+use Rattle.lab_run.specs.Calls.{Facts, laid_as, stretch_in, uses_rig, uses_second}
 use Rattle.fault_marks.specs.Texts.{right_text}
 use Rattle.script_text.specs.declared.script.Script.{Script}
 use Rattle.lab_run.specs.Explained.{ExplainsRun}
 use Rattle.lab_run.specs.Judging.{HasJudged, IsScriptAtFault, JudgesText}
 use Rattle.lab_run.specs.Texts.{help_text, imported_text, version_text}
 use Rattle.lab_run.specs.Outcomes.{Outcome, ending_status}
+use Rattle.lab_run.specs.Swept.{SweepsTexts}
 use Rattle.lab_run.specs.Vectors.{PlaysTexts}
-use Rattle.lab_run.specs.Verdict.{AreOneSize, CauseRan, Ended, HasBadHead, HasBadSecond, HasCompared, HasExported, HasFound, HasImported, HasListed, HasNoPlace, HasNoSecondPlace, HasNoTuples, HasOpened, HasOtherCount, HasOtherSize, HasShown, Keeps, done_status}
+use Rattle.lab_run.specs.Verdict.{AreOneSize, CauseRan, Ended, HasBadHead, HasBadSecond, HasCompared, HasExported, HasFound, HasImported, HasListed, HasNoPlace, HasNoSecondPlace, HasNoTuples, HasOtherCount, HasOtherSize, HasShown, Keeps, done_status}
 use Rattle.lab_run.specs.declared.status.Status.{Status}
 use Rattle.lab_run.specs.declared.status.Status.TheVariants as status
 
@@ -103,11 +105,11 @@ DoneBy (Some (Import place layout)) f old new result = TookDump place layout f o
 DoneBy (Some Vectors) f old new result = WroteOutcome (Some Vectors) f old new result
 DoneBy (Some Judge) f old new result = WroteRight f old new result
 DoneBy (Some Explain) f old new result = WroteOutcome (Some Explain) f old new result
-DoneBy (Some (Sweep byte units)) f old new result = ⊥
+DoneBy (Some (Sweep byte units)) f old new result = WroteOutcome (Some (Sweep byte units)) f old new result
 
 -- A command that runs a script came to this status.
 abbrev pub CameTo : Status → Facts → Type 0
-CameTo s f = (w : Outcome) × (ending_status w.ending ≡ s) × CauseRan (served_in f.words) w f
+CameTo s f = (w : Outcome) × (ending_status w.ending ≡ s) × CauseRan (command_in f.words) w f
 
 -- the place that a command names, and `diff` first
 abbrev pub place_named : Option Command → Option Place
@@ -147,9 +149,9 @@ IsSecondAtFault one other f = ((fault : RigFault) × HasBadSecond one fault f) �
 abbrev pub IsAtFault : Facts → Type 0
 IsAtFault f =
     ((fault : RigFault) × HasBadHead fault f)
-    ⊎ (((place : Place) × (fault : PlaceFault) × (place_named (served_in f.words) ≡ Some place) × HasNoPlace place fault f)
-    ⊎ (((place : Place) × (layout : Layout) × (layout_named (served_in f.words) ≡ Some (place, layout)) × HasNoTuples place layout f)
-    ⊎ (((one : Place) × (other : Place) × (served_in f.words ≡ Some (Diff one other)) × IsSecondAtFault one other f)
+    ⊎ (((place : Place) × (fault : PlaceFault) × (place_named (command_in f.words) ≡ Some place) × HasNoPlace place fault f)
+    ⊎ (((place : Place) × (layout : Layout) × (layout_named (command_in f.words) ≡ Some (place, layout)) × HasNoTuples place layout f)
+    ⊎ (((one : Place) × (other : Place) × (command_in f.words ≡ Some (Diff one other)) × IsSecondAtFault one other f)
     ⊎ CameTo status.Image f)))
 
 -- The head of an image that is told has a fault.
@@ -199,7 +201,7 @@ IsOtherLength us at layout (Some dump) = length dump ≡ dump_len us at layout �
 
 -- The dump of an `import` is at fault: it is too short or too long.
 abbrev pub IsDumpAtFault : Facts → Type 0
-IsDumpAtFault f = (place : Place) × (layout : Layout) × (us : List UnitSpec) × (at : Stretch) × (served_in f.words ≡ Some (Import place layout)) × HasFound us at place layout f × IsOtherLength us at layout f.left
+IsDumpAtFault f = (place : Place) × (layout : Layout) × (us : List UnitSpec) × (at : Stretch) × (command_in f.words ≡ Some (Import place layout)) × HasFound us at place layout f × IsOtherLength us at layout f.left
 
 -- The image that is told has the place, and what the layout asks for; and the source tells a dump, and doesn't fail.
 pub record IsReady (place : Place) (layout : Layout) (f : Facts) (image : List ℕ) : Type 0 where
@@ -236,15 +238,15 @@ AreCalm c f = Calm f.first.faults f.first_after.faults × (uses_second c ≡ tru
 
 -- Each status but 6 has its cause: 2 comes exactly where the words are no command; 4 only where an image is at fault, and 3 only where the dump or the script is, and where an image or a dump that is told is so it comes, or want of memory, if no count rose; 5, 7 and 8 only where the count of faults of a store or a rig that the command uses, of the source, of the sink, rose.
 pub record Causes (f : Facts) (o n : ℕ) (result : Status) : Type 0 where
-  pub words : result ≡ status.Words → served_in f.words ≡ None
-  pub no_words : served_in f.words ≡ None → (result ≡ status.Words) ⊎ (result ≡ status.WriteFault)
+  pub words : result ≡ status.Words → command_in f.words ≡ None
+  pub no_words : command_in f.words ≡ None → (result ≡ status.Words) ⊎ (result ≡ status.WriteFault)
   pub image : result ≡ status.Image → IsAtFault f
-  pub wrong : (image : List ℕ) → f.first.bytes ≡ Some image → IsWrong (served_in f.words) f image → AreCalm (served_in f.words) f → Calm o n → (result ≡ status.Image) ⊎ (result ≡ status.Memory)
-  pub second : (image : List ℕ) → f.second.bytes ≡ Some image → IsSecondWrong (served_in f.words) image → AreCalm (served_in f.words) f → Calm o n → (result ≡ status.Image) ⊎ (result ≡ status.Memory)
-  pub rig : result ≡ status.RigFault → StoreRose (served_in f.words) f ⊎ ((uses_rig (served_in f.words) ≡ true) × Rose f.rig.seen.faults f.rig_after.seen.faults)
+  pub wrong : (image : List ℕ) → f.first.bytes ≡ Some image → IsWrong (command_in f.words) f image → AreCalm (command_in f.words) f → Calm o n → (result ≡ status.Image) ⊎ (result ≡ status.Memory)
+  pub second : (image : List ℕ) → f.second.bytes ≡ Some image → IsSecondWrong (command_in f.words) image → AreCalm (command_in f.words) f → Calm o n → (result ≡ status.Image) ⊎ (result ≡ status.Memory)
+  pub rig : result ≡ status.RigFault → StoreRose (command_in f.words) f ⊎ ((uses_rig (command_in f.words) ≡ true) × Rose f.rig.seen.faults f.rig_after.seen.faults)
   pub sink : result ≡ status.WriteFault → Rose o n
   pub input : result ≡ status.Input → IsDumpAtFault f ⊎ (IsScriptAtFault f ⊎ CameTo status.Input f)
-  pub dump : (image : List ℕ) → f.first.bytes ≡ Some image → IsWrongDump (served_in f.words) f image → AreCalm (served_in f.words) f → Calm o n → (result ≡ status.Input) ⊎ (result ≡ status.Memory)
+  pub dump : (image : List ℕ) → f.first.bytes ≡ Some image → IsWrongDump (command_in f.words) f image → AreCalm (command_in f.words) f → Calm o n → (result ≡ status.Input) ⊎ (result ≡ status.Memory)
   pub reads : result ≡ status.ReadFault → Rose f.reads f.reads_after
 
 -- Two images that are told are right and have the places of a `diff`, of one size of block and one number of blocks.
@@ -279,15 +281,16 @@ IsRight (Some (Sweep byte units)) f image = ⊥
 -- Words of a command, images and a dump that are right, and no fault of a store in use and of the sink give status 0 or 1, or want of memory.
 abbrev pub IsComplete : Facts → ℕ → ℕ → Status → Type 0
 IsComplete f o n result =
-    (image : List ℕ) → f.first.bytes ≡ Some image → IsRight (served_in f.words) f image → AreCalm (served_in f.words) f → Calm o n → IsDone result ⊎ (result ≡ status.Memory)
+    (image : List ℕ) → f.first.bytes ≡ Some image → IsRight (command_in f.words) f image → AreCalm (command_in f.words) f → Calm o n → IsDone result ⊎ (result ≡ status.Memory)
 
--- What a call carries, whatever its source, rig, stores and sink are: its verdict with the cause and its text, what was done, why it ended otherwise, what is as before, that nothing that is right is refused, that a script is judged right, what `vectors` answers to texts that are told, and that a right script that is run is explained.
+-- What a call carries, whatever its source, rig, stores and sink are: its verdict with the cause and its text, what was done, why it ended otherwise, what is as before, that nothing that is right is refused, that a script is judged right, what `vectors` answers to texts that are told, that a right script that is run is explained, and what `sweep` answers to a text that is told.
 pub record Carries (f : Facts) (taken taken' : Option (List ℕ)) (o n : ℕ) (result : Status) : Type 0 where
   pub ended : Ended f taken taken' o n result
-  pub done : IsDone result → DoneBy (served_in f.words) f taken taken' result
+  pub done : IsDone result → DoneBy (command_in f.words) f taken taken' result
   pub causes : Causes f o n result
   pub kept : Keeps f
   pub complete : IsComplete f o n result
-  pub judges : served_in f.words ≡ Some Judge → JudgesText f o n result
-  pub plays : served_in f.words ≡ Some Vectors → PlaysTexts f o n result
-  pub explains : served_in f.words ≡ Some Explain → ExplainsRun f o n result
+  pub judges : command_in f.words ≡ Some Judge → JudgesText f o n result
+  pub plays : command_in f.words ≡ Some Vectors → PlaysTexts f o n result
+  pub explains : command_in f.words ≡ Some Explain → ExplainsRun f o n result
+  pub sweeps : (byte : ℕ) (units : List UnitSpec) → command_in f.words ≡ Some (Sweep byte units) → SweepsTexts units f o n result

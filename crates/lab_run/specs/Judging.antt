@@ -1,12 +1,12 @@
-use Rattle.std.specs.Prelude.{ℕ, ◌≡◌, ◌≤◌, ◌⊎◌, ◌+◌, List, length, Option, Some, Ok, Err}
+use Rattle.std.specs.Prelude.{ℕ, ◌≡◌, ◌⊎◌, ◌+◌, List, length, Some, Ok, Err}
 use Rattle.dix_base.specs.Told.{Calm, IsAtEnd, Rose, Took}
-use Rattle.fault_marks.specs.Texts.{marked_text, right_text}
 use Rattle.lab_words.specs.declared.command.Command.TheVariants.{Judge}
 use Rattle.script_text.specs.Language.{script_in}
 use Rattle.script_text.specs.declared.fault.ScriptFault.{ScriptFault}
 use Rattle.script_text.specs.declared.script.Script.{Script}
 use Rattle.source_text.specs.Reading.{IsWhole, TookAtMost, most_bytes}
-use Rattle.lab_run.specs.Calls.{Facts, served_in}
+use Rattle.lab_words.specs.Grammar.{command_in}
+use Rattle.lab_run.specs.Calls.{Facts}
 use Rattle.lab_run.specs.declared.refusal.Refusal.{Refusal}
 use Rattle.lab_run.specs.declared.refusal.Refusal.TheVariants as refusal
 use Rattle.lab_run.specs.declared.status.Status.{Status}
@@ -16,7 +16,7 @@ use Rattle.lab_run.specs.declared.status.Status.TheVariants as status
 
 -- The source gave the text of this script, and was then at its end. No image was touched.
 pub record HasJudged (script : Script) (f : Facts) : Type 0 where
-  pub named : served_in f.words ≡ Some Judge
+  pub named : command_in f.words ≡ Some Judge
   pub text : List ℕ
   pub whole : IsWhole text f.left f.left_after
   pub reads : script_in text ≡ Ok script
@@ -24,7 +24,7 @@ pub record HasJudged (script : Script) (f : Facts) : Type 0 where
 
 -- The source gave this text, whose first fault this is, and was then at its end, or gave one byte more than a script may have. No image was touched.
 pub record HasScriptFault (text : List ℕ) (bad : ScriptFault) (f : Facts) : Type 0 where
-  pub named : served_in f.words ≡ Some Judge
+  pub named : command_in f.words ≡ Some Judge
   pub taken : Took text f.left f.left_after
   pub stopped : IsAtEnd f.left_after ⊎ (length text ≡ most_bytes + 1)
   pub reads : script_in text ≡ Err bad

@@ -5,6 +5,7 @@ pub mod Outcomes
 pub mod Judging
 pub mod Vectors
 pub mod Explained
+pub mod Swept
 pub mod Verdict
 pub mod Saying
 pub mod Headline

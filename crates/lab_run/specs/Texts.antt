@@ -10,7 +10,7 @@ use Rattle.lab_run.specs.declared.status.Status.TheVariants as status
 
 abbrev pub help_text : List ℕ
 help_text =
-    codes "usage: dixlab show IMAGE [PLACE]\n       dixlab diff IMAGE PLACE IMAGE PLACE\n       dixlab export IMAGE PLACE LAYOUT > DUMP\n       dixlab import IMAGE PLACE LAYOUT < DUMP\n       dixlab vectors IMAGE < SCRIPT or VECTORS\n       dixlab explain [IMAGE] < SCRIPT\nPLACE is DEV or DEV:FIRST:COUNT. LAYOUT is interleaved, plain or tuples.\nStatus: 0 good, 1 something found, 2 words, 3 input at fault, 4 image at fault,\n5 image failed, 6 no memory, 7 input failed, 8 output failed.\n"
+    codes "usage: dixlab show IMAGE [PLACE]\n       dixlab diff IMAGE PLACE IMAGE PLACE\n       dixlab export IMAGE PLACE LAYOUT > DUMP\n       dixlab import IMAGE PLACE LAYOUT < DUMP\n       dixlab vectors IMAGE < SCRIPT or VECTORS\n       dixlab explain [IMAGE] < SCRIPT\n       dixlab sweep BYTE T:BLOCKS[:SIZE:FIRST].. < SCRIPT\nPLACE is DEV or DEV:FIRST:COUNT. LAYOUT is interleaved, plain or tuples.\nStatus: 0 good, 1 something found, 2 words, 3 input at fault, 4 image at fault,\n5 image failed, 6 no memory, 7 input failed, 8 output failed.\n"
 
 abbrev pub version_text : List ℕ
 version_text = codes "dixlab 1\n"
@@ -52,7 +52,7 @@ status_of refusal.Memory = status.Memory
 
 -- the text of a refusal
 abbrev pub refusal_text : Refusal → List ℕ
-refusal_text refusal.Words = codes "usage: dixlab show IMAGE [PLACE], diff IMAGE PLACE IMAGE PLACE, export IMAGE PLACE LAYOUT, import IMAGE PLACE LAYOUT, vectors IMAGE, explain [IMAGE], --help, --version\n"
+refusal_text refusal.Words = codes "usage: dixlab show IMAGE [PLACE], diff IMAGE PLACE IMAGE PLACE, export IMAGE PLACE LAYOUT, import IMAGE PLACE LAYOUT, vectors IMAGE, explain [IMAGE], sweep BYTE T:BLOCKS.., --help, --version\n"
 refusal_text (refusal.Image fault) = codes "image " ++ (fault_name fault ++ codes "\n")
 refusal_text (refusal.Place fault) = codes "place " ++ (place_fault_name fault ++ codes "\n")
 refusal_text refusal.NoTuples = codes "layout NoTuples\n"

@@ -1,4 +1,4 @@
-use Rattle.std.specs.Prelude.{ℕ, ◌≡◌, ◌⊎◌, Bool, true, false, if◌then◌else◌, List, ◌++◌, length, Option, Some, None, Ok}
+use Rattle.std.specs.Prelude.{ℕ, ◌≡◌, ◌⊎◌, true, false, List, ◌++◌, length, Some, None, Ok}
 use Rattle.dix_base.specs.Told.{Calm}
 use Rattle.dix_words.specs.Grammar.{image_in}
 use Rattle.rig_api.specs.Head.{head_fault, head_of, units_of}
@@ -11,7 +11,6 @@ use Rattle.script_text.specs.declared.script.Script.{Script}
 use Rattle.script_verdict.specs.Texts.{refusal_text as stop_text}
 use Rattle.script_verdict.specs.Verdict.{Facts as PlayFacts, devices_of, table_over}
 use Rattle.script_verdict.specs.declared.refusal.Refusal.{Refusal as Stop}
-use Rattle.script_verdict.specs.declared.refusal.Refusal.TheVariants as stop
 use Rattle.script_words.specs.Cuts.{lines_of}
 use Rattle.vector_lines.specs.Texts.{is_list, list_in}
 use Rattle.vector_lines.specs.declared.line.VectorLine.{VectorLine}
@@ -24,7 +23,7 @@ use Rattle.vector_runs.specs.Unplayed.{unplayed}
 use Rattle.vector_runs.specs.declared.playing.Played.{Played}
 use Rattle.volume_table.specs.Faults.{table_fault}
 use Rattle.lab_run.specs.Calls.{Facts}
-use Rattle.lab_run.specs.Outcomes.{BadImage, BadInput, Done, Ending, Found, NoMemory, Outcome, RigFailed, SourceFailed}
+use Rattle.lab_run.specs.Outcomes.{Outcome, found_ending, stop_ending}
 use Rattle.lab_run.specs.declared.status.Status.{Status}
 use Rattle.lab_run.specs.declared.status.Status.TheVariants as status
 
@@ -34,31 +33,17 @@ use Rattle.lab_run.specs.declared.status.Status.TheVariants as status
 abbrev pub played_by : Facts → PlayFacts
 played_by f = record { name = image_in f.words; left = f.left; left_after = f.left_after; reads = f.reads; reads_after = f.reads_after; rig = f.rig; rig_after = f.rig_after }
 
--- how it ends where all commands were done, by whether some has a sense
-abbrev pub played_ending : Bool → Ending
-played_ending sense = if sense then Found else Done
-
--- how it ends where they weren't
-abbrev pub stopped_ending : Stop → Ending
-stopped_ending (stop.Script fault) = BadInput
-stopped_ending (stop.Image fault) = BadImage
-stopped_ending (stop.BadCapacity dev) = BadImage
-stopped_ending (stop.Volume entry kind) = BadImage
-stopped_ending stop.RigFault = RigFailed
-stopped_ending stop.Memory = NoMemory
-stopped_ending stop.ReadFault = SourceFailed
-
 -- The commands of the text were done, and these are all records of the call: their vectors are written.
 pub record WerePlayed (p : Played) (entries : List Entry) (w : Outcome) (f : Facts) : Type 0 where
   pub played : HasPlayed p (played_by f)
   pub all : f.rig_after.seen.log ≡ f.rig.seen.log ++ entries
-  pub ending : w.ending ≡ played_ending (has_sense entries)
+  pub ending : w.ending ≡ found_ending (has_sense entries)
   pub text : w.text ≡ played_text p entries
 
 -- They weren't, for this reason, which is written.
 pub record WereNotPlayed (r : Stop) (w : Outcome) (f : Facts) : Type 0 where
   pub cause : CauseNotPlayed r (played_by f)
-  pub ending : w.ending ≡ stopped_ending r
+  pub ending : w.ending ≡ stop_ending r
   pub text : w.text ≡ stop_text r
 
 -- It came to this: the vectors of the source's text, or why there are none.

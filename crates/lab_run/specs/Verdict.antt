@@ -28,7 +28,8 @@ use Rattle.rig_api.specs.declared.rig.RigFault.{RigFault}
 use Rattle.target_answer.specs.Headers.{image_size}
 use Rattle.target_answer.specs.Image.{units_in}
 use Rattle.target_answer.specs.declared.units.UnitSpec.{UnitSpec}
-use Rattle.lab_run.specs.Calls.{Facts, Held, OpenedOnce, called_of, laid_as, second_in, served_in, stretch_in, uses_second}
+use Rattle.lab_words.specs.Grammar.{command_in}
+use Rattle.lab_run.specs.Calls.{Facts, Held, OpenedOnce, called_of, laid_as, second_in, stretch_in, uses_second}
 use Rattle.fault_marks.specs.Texts.{marked_text, right_text}
 use Rattle.script_text.specs.declared.fault.ScriptFault.{ScriptFault}
 use Rattle.script_text.specs.declared.script.Script.{Script}
@@ -36,6 +37,7 @@ use Rattle.image_commands.specs.Views.{OpenedOnce as RigOpenedOnce}
 use Rattle.lab_run.specs.Explained.{HasExplained}
 use Rattle.lab_run.specs.Judging.{CauseNotJudged, HasJudged, HasScriptFault}
 use Rattle.lab_run.specs.Outcomes.{Outcome, ending_status}
+use Rattle.lab_run.specs.Swept.{HasSwept}
 use Rattle.lab_run.specs.Vectors.{HasVectors}
 use Rattle.lab_run.specs.Texts.{help_text, imported_text, refusal_text, status_of, version_text}
 use Rattle.lab_run.specs.declared.refusal.Refusal.{Refusal}
@@ -64,7 +66,7 @@ HasOpenedSecond us f = OpenedAs us (second_in f.words) f.second f.second_after
 -- The image was opened, it has the place of the words, and these are its blocks: as many as the place has, each of the length that is stored. Where the image is told they are the stored ones.
 pub record HasShown (us : List UnitSpec) (at : Stretch) (blocks : List (List ℕ)) (f : Facts) : Type 0 where
   pub place : Place
-  pub named : served_in f.words ≡ Some (ShowBlocks place)
+  pub named : command_in f.words ≡ Some (ShowBlocks place)
   pub opened : HasOpened us f
   pub there : stretch_in us place ≡ Ok at
   pub has : HasBlocks us at blocks f.first.bytes
@@ -88,7 +90,7 @@ AreOneSize p = (spec_of p.units p.at.dev).size ≡ (spec_of p.others p.to.dev).s
 pub record HasCompared (p : Places) (ones twos : List (List ℕ)) (f : Facts) : Type 0 where
   pub one : Place
   pub other : Place
-  pub named : served_in f.words ≡ Some (Diff one other)
+  pub named : command_in f.words ≡ Some (Diff one other)
   pub both : HaveBoth one other p f
   pub size : AreOneSize p
   pub many : p.at.count ≡ p.to.count
@@ -96,7 +98,7 @@ pub record HasCompared (p : Places) (ones twos : List (List ℕ)) (f : Facts) : 
 
 -- The units of the image were listed.
 pub record HasListed (us : List UnitSpec) (f : Facts) : Type 0 where
-  pub named : served_in f.words ≡ Some ShowUnits
+  pub named : command_in f.words ≡ Some ShowUnits
   pub opened : HasOpened us f
 
 -- The image was opened, it has the place, and what the words name has the layout.
@@ -108,7 +110,7 @@ pub record HasFound (us : List UnitSpec) (at : Stretch) (place : Place) (layout 
 -- These are the blocks of the place of an `export`, whose layout this is: as many as the place has, each of the length that is stored. Where the image is told they are the stored ones.
 pub record HasExported (us : List UnitSpec) (at : Stretch) (layout : Layout) (blocks : List (List ℕ)) (f : Facts) : Type 0 where
   pub place : Place
-  pub named : served_in f.words ≡ Some (Export place layout)
+  pub named : command_in f.words ≡ Some (Export place layout)
   pub found : HasFound us at place layout f
   pub has : HasBlocks us at blocks f.first.bytes
 
@@ -123,7 +125,7 @@ pub record DumpTaken (result : Result ℕ ImportFault) (us : List UnitSpec) (at 
 -- The dump is in the place: so many blocks of it, which are all that the place has.
 pub record HasImported (us : List UnitSpec) (at : Stretch) (count : ℕ) (layout : Layout) (f : Facts) : Type 0 where
   pub place : Place
-  pub named : served_in f.words ≡ Some (Import place layout)
+  pub named : command_in f.words ≡ Some (Import place layout)
   pub taken : DumpTaken (Ok count) us at place layout f
 
 -- ---- refusals
@@ -302,7 +304,7 @@ CauseRan (Some (Import place layout)) w f = ⊥
 CauseRan (Some Vectors) w f = HasVectors w f
 CauseRan (Some Judge) w f = ⊥
 CauseRan (Some Explain) w f = HasExplained w f
-CauseRan (Some (Sweep byte units)) w f = ⊥
+CauseRan (Some (Sweep byte units)) w f = HasSwept w f
 
 -- ---- the call
 
@@ -377,9 +379,9 @@ verdict_text (Marked text bad) = marked_text text bad
 verdict_text (Ran w) = w.text
 
 abbrev pub Cause : Verdict → Facts → Type 0
-Cause (Refused r) f = CauseByCommand (served_in f.words) r f
-Cause Helped f = served_in f.words ≡ Some Help
-Cause Versioned f = served_in f.words ≡ Some Version
+Cause (Refused r) f = CauseByCommand (command_in f.words) r f
+Cause Helped f = command_in f.words ≡ Some Help
+Cause Versioned f = command_in f.words ≡ Some Version
 Cause (Listed us) f = HasListed us f
 Cause (Shown us at blocks) f = HasShown us at blocks f
 Cause (Compared p ones twos) f = HasCompared p ones twos f
@@ -387,7 +389,7 @@ Cause (Exported us at layout blocks) f = HasExported us at layout blocks f
 Cause (Imported us at count layout) f = HasImported us at count layout f
 Cause (Judged script) f = HasJudged script f
 Cause (Marked text bad) f = HasScriptFault text bad f
-Cause (Ran w) f = CauseRan (served_in f.words) w f
+Cause (Ran w) f = CauseRan (command_in f.words) w f
 
 -- The text was written whole, and the status is the verdict's; or the sink failed, and a prefix of the text was written.
 abbrev pub Written : Status → List ℕ → Option (List ℕ) → Option (List ℕ) → ℕ → ℕ → Status → Type 0
@@ -421,7 +423,7 @@ KeepsSource (Some (Import place layout)) f = f.reads ≤ f.reads_after
 KeepsSource (Some Vectors) f = f.reads ≤ f.reads_after
 KeepsSource (Some Judge) f = f.reads ≤ f.reads_after
 KeepsSource (Some Explain) f = f.reads ≤ f.reads_after
-KeepsSource (Some (Sweep byte units)) f = (f.left_after ≡ f.left) × (f.reads_after ≡ f.reads)
+KeepsSource (Some (Sweep byte units)) f = f.reads ≤ f.reads_after
 
 -- The rig's image was opened at most once, by the name of the words.
 abbrev pub OpensRig : Facts → Type 0
@@ -482,14 +484,14 @@ KeepsImage (Some (Sweep byte units)) f = f.first_after.bytes ≡ f.first.bytes
 -- The second store is as before; or, where the command uses it, its bytes are, and it is opened at most once, by the second image's name.
 abbrev pub KeepsSecond : Facts → Type 0
 KeepsSecond f =
-    (f.second_after ≡ f.second) ⊎ ((uses_second (served_in f.words) ≡ true) × (f.second_after.bytes ≡ f.second.bytes) × OpenedOnce (second_in f.words) f.second f.second_after × (f.second.faults ≤ f.second_after.faults))
+    (f.second_after ≡ f.second) ⊎ ((uses_second (command_in f.words) ≡ true) × (f.second_after.bytes ≡ f.second.bytes) × OpenedOnce (second_in f.words) f.second f.second_after × (f.second.faults ≤ f.second_after.faults))
 
 -- Each object that the command doesn't use is as before: but for `vectors` and `explain IMAGE` the rig, but for `diff` the second store and, but for `import` and what takes a script, the source. So is each byte that a store tells; after an `import`, each block outside of its place. Each image is opened at most once, by its name.
 pub record Keeps (f : Facts) : Type 0 where
-  pub source : KeepsSource (served_in f.words) f
-  pub rig : KeepsRig (served_in f.words) f
+  pub source : KeepsSource (command_in f.words) f
+  pub rig : KeepsRig (command_in f.words) f
   pub second : KeepsSecond f
-  pub image : KeepsImage (served_in f.words) f
+  pub image : KeepsImage (command_in f.words) f
   pub openings : OpenedOnce (image_in f.words) f.first f.first_after
   pub count : f.first.faults ≤ f.first_after.faults
 

@@ -1,17 +1,18 @@
 //! Comparing places of two images.
 
-ghost use Rattle.std.specs.Prelude.{◌≡◌, ℕ, Bool, List, Option, Some, eqb};
+ghost use Rattle.std.specs.Prelude.{◌≡◌, ℕ, List, Option, Some, eqb};
 ghost use Rattle.dix_words.specs.Grammar.{word_bytes};
 ghost use Rattle.image_blocks.specs.Images.{units_open};
 ghost use Rattle.image_blocks.specs.Places.{IsStretch, spec_of};
 ghost use Rattle.image_commands.specs.Views.{View};
 ghost use Rattle.lab_words.specs.declared.command.Command.{Command};
-ghost use Rattle.lab_run.specs.Calls.{held, on_both, second_in, served_in};
+ghost use Rattle.lab_words.specs.Grammar.{command_in};
+ghost use Rattle.lab_run.specs.Calls.{held, on_both, second_in};
 ghost use Rattle.lab_run.specs.Verdict.{Ended, compared_status};
 
 use crate::program::{refuse, status_for};
 use crate::refusal::Refusal;
-use crate::showing::{ROOM, stretch_of};
+use crate::showing::stretch_of;
 use crate::status::Status;
 use dix_base::{Sink, Store};
 use dix_words::image_of;
@@ -63,7 +64,7 @@ pub(crate) fn diff<A: Store, B: Store, O: Sink>(
     second: &mut B,
     out: &mut O,
 ) -> Status
-    requires { served_in (word_bytes words.now) ≡ Some (Command.Diff one other) }
+    requires { command_in (word_bytes words.now) ≡ Some (Command.Diff one other) }
     ensures { (left : Option (List ℕ)) (reads : ℕ) (rig : View) → Ended (on_both (word_bytes words.now)
         (held (A.bytes first.old) (A.len first.old) (A.faults first.old) (A.handed first.old) (A.openings first.old))
         (held (A.bytes first.new) (A.len first.new) (A.faults first.new) (A.handed first.new) (A.openings first.new))
@@ -71,7 +72,7 @@ pub(crate) fn diff<A: Store, B: Store, O: Sink>(
         (held (B.bytes second.new) (B.len second.new) (B.faults second.new) (B.handed second.new) (B.openings second.new))
         left reads rig) (O.taken out.old) (O.taken out.new) (O.faults out.old) (O.faults out.new) result }
 {
-    let mut room = match vec![in alloc; 0u8; 2 * ROOM] {
+    let mut room = match vec![in alloc; 0u8; 2 * SIDE] {
         Ok(room) => room,
         Err(_) => return refuse(out, Refusal::Memory),
     };
@@ -99,3 +100,7 @@ pub(crate) fn diff<A: Store, B: Store, O: Sink>(
     }
     status_of(diff_blocks(first, &image, at, second, &beside, to, &mut room, out))
 }
+
+/// So many bytes of blocks are read at once of each side, at most. Two rooms as long as `ROOM` would take a megabyte, with
+/// what two files read ahead.
+const SIDE: usize = 65536;

@@ -1,6 +1,6 @@
 //! Layouts of dumps, and how dumps end.
 
-ghost use Rattle.std.specs.Prelude.{◌≡◌, ◌+◌, ◌++◌, codes, decimal};
+ghost use Rattle.std.specs.Prelude.{◌≡◌};
 ghost use Rattle.image_blocks.specs.Images.{units_open};
 ghost use Rattle.image_blocks.specs.Places.{IsStretch, spec_of};
 ghost use Rattle.image_dumps.specs.Dumps.{fits};
@@ -10,10 +10,10 @@ ghost use Rattle.lab_run.specs.Verdict.{dumped_status, halted};
 
 use crate::refusal::Refusal;
 use crate::status::Status;
-use block_lines::{Line, add, add_number};
 use image_blocks::{Image, Stretch};
 use image_dumps::{DumpFault, ImportFault, fits};
 use lab_words::Layout;
+use report_text::{Line, add, add_number};
 
 /// The layout of the words, as that of a dump.
 pub(crate) fn laid(layout: Layout) -> image_dumps::Layout

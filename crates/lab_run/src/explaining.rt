@@ -7,33 +7,18 @@ ghost use Rattle.lab_words.specs.declared.command.Command.{Command};
 ghost use Rattle.run_words.specs.Sites.{Guides};
 ghost use Rattle.run_words.specs.Texts.{explained_by};
 ghost use Rattle.script_verdict.specs.Texts.{has_bad};
-ghost use Rattle.lab_run.specs.Calls.{Held, on_rig, served_in};
-ghost use Rattle.lab_run.specs.Explained.{stop_ending};
-ghost use Rattle.lab_run.specs.Outcomes.{ending_status};
+ghost use Rattle.lab_words.specs.Grammar.{command_in};
+ghost use Rattle.lab_run.specs.Calls.{Held, on_rig};
 ghost use Rattle.lab_run.specs.Verdict.{Ended, Written, done_status};
 
 use crate::program::{finish, status_for};
 use crate::status::Status;
+use crate::stopping::stop;
 use dix_base::{Failed, Sink, Source};
 use dix_words::image_of;
 use rig_api::Rig;
 use run_words::{Explained, Unexplained, explain_source, print_explained};
 use std::alloc::Global;
-
-/// The status of a script that comes to no run.
-fn stop_status(reason: script_verdict::Refusal) -> Status
-    ensures { result ≡ ending_status (stop_ending reason) }
-{
-    match reason {
-        script_verdict::Refusal::Script(_) => Status::Input,
-        script_verdict::Refusal::Image(_) => Status::Image,
-        script_verdict::Refusal::BadCapacity { .. } => Status::Image,
-        script_verdict::Refusal::Volume { .. } => Status::Image,
-        script_verdict::Refusal::RigFault => Status::RigFault,
-        script_verdict::Refusal::Memory => Status::Memory,
-        script_verdict::Refusal::ReadFault => Status::ReadFault,
-    }
-}
 
 /// Writes the report of a run and what it means.
 fn tell_run<R: Rig, O: Sink>(out: &mut O, told: &Explained, rig: &R) -> Status
@@ -55,7 +40,7 @@ pub(crate) fn explain<S: Source, R: Rig, O: Sink>(
     rig: &mut R,
     out: &mut O,
 ) -> Status
-    requires { served_in (word_bytes words.now) ≡ Some Command.Explain }
+    requires { command_in (word_bytes words.now) ≡ Some Command.Explain }
     ensures { let old = view (R.image rig.old) (R.standing rig.old) (seen (R.units rig.old) (R.armed rig.old) (R.log rig.old) (R.faults rig.old)) in
         let new = view (R.image rig.new) (R.standing rig.new) (seen (R.units rig.new) (R.armed rig.new) (R.log rig.new) (R.faults rig.new)) in
         (first second : Held) → Ended (on_rig (word_bytes words.now) (S.left input.old) (S.left input.new) (S.faults input.old) (S.faults input.new) old new first second)
@@ -64,8 +49,6 @@ pub(crate) fn explain<S: Source, R: Rig, O: Sink>(
     match explain_source(alloc, image_of(words), input, rig) {
         Ok(told) => tell_run(out, &told, rig),
         Err(Unexplained::Marked(said)) => finish(out, &said, Status::Input),
-        Err(Unexplained::Refused(reason)) => {
-            finish(out, reason.line().as_slice(), stop_status(reason))
-        }
+        Err(Unexplained::Refused(reason)) => stop(out, reason),
     }
 }

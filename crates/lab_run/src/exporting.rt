@@ -4,7 +4,8 @@ ghost use Rattle.std.specs.Prelude.{◌≡◌, ℕ, List, Option, Some};
 ghost use Rattle.dix_words.specs.Grammar.{word_bytes};
 ghost use Rattle.image_commands.specs.Views.{View};
 ghost use Rattle.lab_words.specs.declared.command.Command.{Command};
-ghost use Rattle.lab_run.specs.Calls.{Held, held, on_first, served_in};
+ghost use Rattle.lab_words.specs.Grammar.{command_in};
+ghost use Rattle.lab_run.specs.Calls.{Held, held, on_first};
 ghost use Rattle.lab_run.specs.Verdict.{Ended};
 
 use crate::dumps::{dumped, fits_there, laid};
@@ -28,7 +29,7 @@ pub(crate) fn export<A: Store, O: Sink>(
     store: &mut A,
     out: &mut O,
 ) -> Status
-    requires { served_in (word_bytes words.now) ≡ Some (Command.Export place layout) }
+    requires { command_in (word_bytes words.now) ≡ Some (Command.Export place layout) }
     ensures { (left : Option (List ℕ)) (reads : ℕ) (rig : View) (second : Held) → Ended (on_first (word_bytes words.now)
         (held (A.bytes store.old) (A.len store.old) (A.faults store.old) (A.handed store.old) (A.openings store.old))
         (held (A.bytes store.new) (A.len store.new) (A.faults store.new) (A.handed store.new) (A.openings store.new))

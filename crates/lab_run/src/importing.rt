@@ -1,16 +1,17 @@
 //! Importing blocks into an image.
 
-ghost use Rattle.std.specs.Prelude.{◌≡◌, ℕ, List, Option, Some};
+ghost use Rattle.std.specs.Prelude.{◌≡◌, Some};
 ghost use Rattle.dix_words.specs.Grammar.{word_bytes};
 ghost use Rattle.image_commands.specs.Views.{View};
 ghost use Rattle.lab_words.specs.declared.command.Command.{Command};
-ghost use Rattle.lab_run.specs.Calls.{Held, held, on_input, served_in};
+ghost use Rattle.lab_words.specs.Grammar.{command_in};
+ghost use Rattle.lab_run.specs.Calls.{Held, held, on_input};
 ghost use Rattle.lab_run.specs.Verdict.{Ended};
 
 use crate::dumps::{fits_there, halted, imported_line, laid};
 use crate::program::{finish, refuse};
 use crate::refusal::Refusal;
-use crate::showing::{ROOM, stretch_of};
+use crate::showing::stretch_of;
 use crate::status::Status;
 use dix_base::{Sink, Source, Store};
 use dix_words::image_of;
@@ -29,14 +30,14 @@ pub(crate) fn import<S: Source, A: Store, O: Sink>(
     store: &mut A,
     out: &mut O,
 ) -> Status
-    requires { served_in (word_bytes words.now) ≡ Some (Command.Import place layout) }
+    requires { command_in (word_bytes words.now) ≡ Some (Command.Import place layout) }
     ensures { (rig : View) (second : Held) → Ended (on_input (word_bytes words.now)
         (held (A.bytes store.old) (A.len store.old) (A.faults store.old) (A.handed store.old) (A.openings store.old))
         (held (A.bytes store.new) (A.len store.new) (A.faults store.new) (A.handed store.new) (A.openings store.new))
         (S.left input.old) (S.left input.new) (S.faults input.old) (S.faults input.new)
         rig second) (O.taken out.old) (O.taken out.new) (O.faults out.old) (O.faults out.new) result }
 {
-    let mut room = match vec![in alloc; 0u8; ROOM] {
+    let mut room = match vec![in alloc; 0u8; STRETCH] {
         Ok(room) => room,
         Err(_) => return refuse(out, Refusal::Memory),
     };
@@ -56,3 +57,6 @@ pub(crate) fn import<S: Source, A: Store, O: Sink>(
         Err(fault) => refuse(out, halted(fault)),
     }
 }
+
+/// So many bytes of blocks are written at once, at most: a write that fails may leave anything in as many.
+const STRETCH: usize = 65536;

@@ -6,7 +6,8 @@ ghost use Rattle.dix_words.specs.Grammar.{word_bytes};
 ghost use Rattle.image_commands.specs.Views.{View};
 ghost use Rattle.lab_words.specs.declared.command.Command.{Command};
 ghost use Rattle.script_text.specs.Language.{script_in};
-ghost use Rattle.lab_run.specs.Calls.{Held, on_input, served_in};
+ghost use Rattle.lab_words.specs.Grammar.{command_in};
+ghost use Rattle.lab_run.specs.Calls.{Held, on_input};
 ghost use Rattle.fault_marks.specs.Texts.{marked_text};
 ghost use Rattle.lab_run.specs.Saying.{IsTold, Says};
 ghost use Rattle.lab_run.specs.Verdict.{Ended};
@@ -18,14 +19,9 @@ use dix_base::{Sink, Source};
 use fault_marks::{marked_text, right_text};
 use script_laws::a_read_script_keeps_the_rules;
 use script_text::{Script, ScriptFault, ScriptKind, read_script};
+use script_verdict::TOO_LONG;
 use source_text::{Unread, read_all};
 use std::alloc::{AllocError, Global};
-
-/// The fault of a text that is too long.
-const TOO_LONG: ScriptFault = ScriptFault {
-    line: 0,
-    kind: ScriptKind::TooMany,
-};
 
 /// What is said of a text, and the status that goes with it.
 #[derive(Drop)]
@@ -100,7 +96,7 @@ pub(crate) fn judge<S: Source, O: Sink>(
     input: &mut S,
     out: &mut O,
 ) -> Status
-    requires { served_in (word_bytes words.now) ≡ Some Command.Judge }
+    requires { command_in (word_bytes words.now) ≡ Some Command.Judge }
     ensures { (h : Held) (rig : View) (second : Held) → Ended (on_input (word_bytes words.now) h h (S.left input.old) (S.left input.new) (S.faults input.old) (S.faults input.new) rig second)
         (O.taken out.old) (O.taken out.new) (O.faults out.old) (O.faults out.new) result }
 {

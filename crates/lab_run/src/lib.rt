@@ -1,6 +1,6 @@
 //! The top call of the program `dixlab`: shows the stored blocks of disk images, compares
 //! them, takes dumps of them out and in, does commands and writes their vectors, judges scripts and explains
-//! their runs.
+//! their runs, and sweeps flips.
 #![tactic(auto)]
 
 mod comparing;
@@ -14,6 +14,8 @@ mod program;
 mod refusal;
 mod showing;
 mod status;
+mod stopping;
+mod sweeping;
 
 pub use program::{refuse, run};
 pub use refusal::Refusal;

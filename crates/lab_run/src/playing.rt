@@ -1,45 +1,30 @@
 //! The vectors of a text.
 
-ghost use Rattle.std.specs.Prelude.{◌≡◌, List, Option, Some, drop, ℕ};
+ghost use Rattle.std.specs.Prelude.{◌≡◌, Some, drop};
 ghost use Rattle.dix_words.specs.Grammar.{word_bytes};
-ghost use Rattle.image_commands.specs.Views.{View, seen, view};
+ghost use Rattle.image_commands.specs.Views.{seen, view};
 ghost use Rattle.lab_words.specs.declared.command.Command.{Command};
 ghost use Rattle.vector_runs.specs.ListText.{has_sense};
 ghost use Rattle.vector_runs.specs.Played.{AreLogged, first_of, played_text};
-ghost use Rattle.lab_run.specs.Calls.{Held, on_rig, served_in};
-ghost use Rattle.lab_run.specs.Outcomes.{ending_status};
-ghost use Rattle.lab_run.specs.Vectors.{played_ending, stopped_ending};
+ghost use Rattle.lab_words.specs.Grammar.{command_in};
+ghost use Rattle.lab_run.specs.Calls.{Held, on_rig};
+ghost use Rattle.lab_run.specs.Outcomes.{ending_status, found_ending};
 ghost use Rattle.lab_run.specs.Verdict.{Ended, Written};
 
-use crate::program::{finish, status_for};
+use crate::program::status_for;
 use crate::status::Status;
+use crate::stopping::stop;
 use dix_base::{Failed, Sink, Source};
 use dix_words::image_of;
 use rig_api::Rig;
-use script_verdict::Refusal;
 use std::alloc::Global;
 use vector_runs::{Played, play_source, print_played};
-
-/// The status of a text whose commands weren't done.
-fn status_of(refusal: &Refusal) -> Status
-    ensures { result ≡ ending_status (stopped_ending refusal.now) }
-{
-    match refusal {
-        Refusal::Script(_) => Status::Input,
-        Refusal::Image(_) => Status::Image,
-        Refusal::BadCapacity { .. } => Status::Image,
-        Refusal::Volume { .. } => Status::Image,
-        Refusal::RigFault => Status::RigFault,
-        Refusal::Memory => Status::Memory,
-        Refusal::ReadFault => Status::ReadFault,
-    }
-}
 
 /// Writes the vectors of a text whose commands were done.
 fn print<R: Rig, O: Sink>(out: &mut O, rig: &R, played: &Played) -> Status
     requires { AreLogged played.now (R.log rig.now) }
     ensures { let entries = drop (first_of played.now) (R.log rig.now) in
-        Written (ending_status (played_ending (has_sense entries))) (played_text played.now entries) (O.taken out.old) (O.taken out.new) (O.faults out.old) (O.faults out.new) result }
+        Written (ending_status (found_ending (has_sense entries))) (played_text played.now entries) (O.taken out.old) (O.taken out.new) (O.faults out.old) (O.faults out.new) result }
 {
     let status = status_for(played.has_sense(rig));
     match print_played(out, rig, played) {
@@ -56,7 +41,7 @@ pub(crate) fn vectors<S: Source, R: Rig, O: Sink>(
     rig: &mut R,
     out: &mut O,
 ) -> Status
-    requires { served_in (word_bytes words.now) ≡ Some Command.Vectors }
+    requires { command_in (word_bytes words.now) ≡ Some Command.Vectors }
     ensures { (first : Held) (second : Held) → Ended (on_rig (word_bytes words.now) (S.left input.old) (S.left input.new) (S.faults input.old) (S.faults input.new)
         (view (R.image rig.old) (R.standing rig.old) (seen (R.units rig.old) (R.armed rig.old) (R.log rig.old) (R.faults rig.old)))
         (view (R.image rig.new) (R.standing rig.new) (seen (R.units rig.new) (R.armed rig.new) (R.log rig.new) (R.faults rig.new)))
@@ -64,6 +49,6 @@ pub(crate) fn vectors<S: Source, R: Rig, O: Sink>(
 {
     match play_source(alloc, image_of(words), input, rig) {
         Ok(played) => print(out, rig, &played),
-        Err(refusal) => finish(out, refusal.line().as_slice(), status_of(&refusal)),
+        Err(refusal) => stop(out, refusal),
     }
 }

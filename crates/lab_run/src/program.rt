@@ -5,7 +5,7 @@ ghost use Rattle.dix_words.specs.Grammar.{word_bytes};
 ghost use Rattle.image_commands.specs.Views.{seen, view};
 ghost use Rattle.lab_run.specs.Calls.{Facts, held};
 ghost use Rattle.lab_run.specs.Headline.{Carries};
-ghost use Rattle.lab_run.specs.Texts.{help_text, refusal_text, status_of};
+ghost use Rattle.lab_run.specs.Texts.{refusal_text, status_of};
 ghost use Rattle.lab_run.specs.Verdict.{Written, done_status};
 
 use crate::comparing::diff;
@@ -17,6 +17,7 @@ use crate::playing::vectors;
 use crate::refusal::Refusal;
 use crate::showing::{show_blocks, show_units};
 use crate::status::Status;
+use crate::sweeping::sweep;
 use dix_base::{Failed, Sink, Source, Store};
 use lab_words::{Command, command_of};
 use report_text::write_out;
@@ -49,12 +50,12 @@ pub(crate) fn status_for(bad: bool) -> Status
 
 /// The text of `--help`.
 const HELP: &[u8] =
-    b"usage: dixlab show IMAGE [PLACE]\n       dixlab diff IMAGE PLACE IMAGE PLACE\n       dixlab export IMAGE PLACE LAYOUT > DUMP\n       dixlab import IMAGE PLACE LAYOUT < DUMP\n       dixlab vectors IMAGE < SCRIPT or VECTORS\n       dixlab explain [IMAGE] < SCRIPT\nPLACE is DEV or DEV:FIRST:COUNT. LAYOUT is interleaved, plain or tuples.\nStatus: 0 good, 1 something found, 2 words, 3 input at fault, 4 image at fault,\n5 image failed, 6 no memory, 7 input failed, 8 output failed.\n";
+    b"usage: dixlab show IMAGE [PLACE]\n       dixlab diff IMAGE PLACE IMAGE PLACE\n       dixlab export IMAGE PLACE LAYOUT > DUMP\n       dixlab import IMAGE PLACE LAYOUT < DUMP\n       dixlab vectors IMAGE < SCRIPT or VECTORS\n       dixlab explain [IMAGE] < SCRIPT\n       dixlab sweep BYTE T:BLOCKS[:SIZE:FIRST].. < SCRIPT\nPLACE is DEV or DEV:FIRST:COUNT. LAYOUT is interleaved, plain or tuples.\nStatus: 0 good, 1 something found, 2 words, 3 input at fault, 4 image at fault,\n5 image failed, 6 no memory, 7 input failed, 8 output failed.\n";
 
 /// Runs the program on its words, without its own name: does the command that they are, and writes its
 /// text. `show` and `export` work on the first store, `diff` on both, `import` on the source and the first
-/// store, `vectors` on the source and the rig, `explain` on the source and, where it has an image, on the
-/// rig. `sweep` isn't done in this version.
+/// store, `vectors` on the source and the rig, `explain` on the source and, where it has an image, on the rig,
+/// `sweep` on the source.
 pub fn run<S: Source, R: Rig, A: Store, B: Store, O: Sink>(
     alloc: Global,
     words: &[String],
@@ -95,6 +96,6 @@ pub fn run<S: Source, R: Rig, A: Store, B: Store, O: Sink>(
         Command::Vectors => vectors(alloc, words, input, rig, out),
         Command::Judge => judge(alloc, words, input, out),
         Command::Explain => explain(alloc, words, input, rig, out),
-        Command::Sweep { byte: _, units: _ } => refuse(out, Refusal::Words),
+        Command::Sweep { byte, units } => sweep(alloc, words, byte, &units, input, out),
     }
 }

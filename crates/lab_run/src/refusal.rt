@@ -1,11 +1,11 @@
 //! Why a call of the program comes to nothing.
 
-ghost use Rattle.std.specs.Prelude.{◌≡◌, ◌+◌, ◌≤◌, ◌++◌, codes, length};
+ghost use Rattle.std.specs.Prelude.{◌≡◌, ◌≤◌, length};
 ghost use Rattle.lab_run.specs.Texts.{refusal_of, refusal_text, second_refusal_of, status_of};
 
 use crate::status::Status;
-use block_lines::{Line, add, add_number};
 use image_blocks::PlaceFault;
+use report_text::{Line, add, add_number};
 use rig_api::RigFault;
 
 /// Why a call of the program comes to nothing.
@@ -111,7 +111,7 @@ impl Refusal {
 
 /// The line of words that are not in the grammar.
 const USAGE: &[u8] =
-    b"usage: dixlab show IMAGE [PLACE], diff IMAGE PLACE IMAGE PLACE, export IMAGE PLACE LAYOUT, import IMAGE PLACE LAYOUT, vectors IMAGE, explain [IMAGE], --help, --version\n";
+    b"usage: dixlab show IMAGE [PLACE], diff IMAGE PLACE IMAGE PLACE, export IMAGE PLACE LAYOUT, import IMAGE PLACE LAYOUT, vectors IMAGE, explain [IMAGE], sweep BYTE T:BLOCKS.., --help, --version\n";
 
 fn plain_line(text: &[u8]) -> Line
     requires { length text.now ≤ 256 }

@@ -7,7 +7,8 @@ ghost use Rattle.image_blocks.specs.Images.{units_open};
 ghost use Rattle.image_blocks.specs.Places.{IsStretch};
 ghost use Rattle.image_commands.specs.Views.{View};
 ghost use Rattle.lab_words.specs.declared.command.Command.{Command};
-ghost use Rattle.lab_run.specs.Calls.{Held, held, on_first, served_in, stretch_in};
+ghost use Rattle.lab_words.specs.Grammar.{command_in};
+ghost use Rattle.lab_run.specs.Calls.{Held, held, on_first, stretch_in};
 ghost use Rattle.lab_run.specs.Verdict.{Ended, Written, shown_status};
 
 use crate::program::{refuse, status_for};
@@ -59,7 +60,7 @@ pub(crate) fn show_units<A: Store, O: Sink>(
     store: &mut A,
     out: &mut O,
 ) -> Status
-    requires { served_in (word_bytes words.now) ≡ Some Command.ShowUnits }
+    requires { command_in (word_bytes words.now) ≡ Some Command.ShowUnits }
     ensures { (left : Option (List ℕ)) (reads : ℕ) (rig : View) (second : Held) → Ended (on_first (word_bytes words.now)
         (held (A.bytes store.old) (A.len store.old) (A.faults store.old) (A.handed store.old) (A.openings store.old))
         (held (A.bytes store.new) (A.len store.new) (A.faults store.new) (A.handed store.new) (A.openings store.new))
@@ -79,7 +80,7 @@ pub(crate) fn show_blocks<A: Store, O: Sink>(
     store: &mut A,
     out: &mut O,
 ) -> Status
-    requires { served_in (word_bytes words.now) ≡ Some (Command.ShowBlocks place) }
+    requires { command_in (word_bytes words.now) ≡ Some (Command.ShowBlocks place) }
     ensures { (left : Option (List ℕ)) (reads : ℕ) (rig : View) (second : Held) → Ended (on_first (word_bytes words.now)
         (held (A.bytes store.old) (A.len store.old) (A.faults store.old) (A.handed store.old) (A.openings store.old))
         (held (A.bytes store.new) (A.len store.new) (A.faults store.new) (A.handed store.new) (A.openings store.new))
@@ -100,5 +101,6 @@ pub(crate) fn show_blocks<A: Store, O: Sink>(
     status_of(image_show::show_blocks(store, &image, at, &mut room, out))
 }
 
-/// So many bytes of blocks are read at once, at most.
-pub(crate) const ROOM: usize = 65536;
+/// So many bytes of blocks are read at once, at most: 64 of the longest blocks. A file is read ahead by 262,144 bytes,
+/// and reads of as many come straight into their place.
+pub(crate) const ROOM: usize = 64 * 4104;

@@ -1,12 +1,12 @@
 use Rattle.std.proofs.Common.{sym, ◌∙◌}
 use Rattle.std.proofs.lemmas.Bool.{eqb-true}
-use Rattle.dix_words.specs.Grammar.{image_in, word_bytes}
+use Rattle.dix_words.specs.Grammar.{word_bytes}
 use Rattle.image_blocks.specs.Images.{units_open}
-use Rattle.lab_run.specs.Calls.{Held, held, second_in}
-use Rattle.lab_run.specs.Texts.{refusal_text, status_of}
+use Rattle.lab_run.specs.Calls.{Held, held}
+use Rattle.lab_run.specs.Texts.{status_of}
 use Rattle.lab_run.specs.declared.refusal.Refusal.TheVariants as refusal
-use Rattle.lab_run.proofs.Differing.{Found, Walked, compared, no_first, no_second, opened_in, other_count, other_size, since_tried, still, uncompared}
-use Rattle.lab_run.proofs.Endings.{Goes, tried}
+use Rattle.lab_run.proofs.Differing.{Walked, compared, no_first, no_second, opened_in, other_count, other_size, since_tried, still, uncompared}
+use Rattle.lab_run.proofs.Endings.{tried}
 use Rattle.lab_run.proofs.comparing.diff.Goals as goal
 
 pub returns-in-Err : goal.returns-in-Err

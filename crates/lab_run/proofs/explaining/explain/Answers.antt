@@ -1,5 +1,4 @@
-use Rattle.std.proofs.Common.{◌∙◌}
-use Rattle.lab_run.proofs.Explains.{as_cause, marked_by, stopped_by, told}
+use Rattle.lab_run.proofs.Explains.{as_cause, marked_by, stopped, told}
 use Rattle.lab_run.proofs.explaining.explain.Goals as goal
 
 pub returns-in-Ok : goal.returns-in-Ok
@@ -9,4 +8,4 @@ pub returns-in-Err-Marked : goal.returns-in-Err-Marked
 returns-in-Err-Marked g c = λ first second. marked_by _ _ _ _ _ _ _ first second c.in-Err-Marked.said.items c.deref.result.now _ _ _ _ c.finish.result c.requires c.explain_source.ensures.count (as_cause _ _ _ c.in-Err-Marked.field-0-is (rw c.image_of.ensures at c.in-Err-Marked.ensures.verdict)) c.deref.ensures.value c.finish.ensures
 
 pub returns-in-Err-Refused : goal.returns-in-Err-Refused
-returns-in-Err-Refused g c = λ first second. stopped_by _ _ _ _ _ _ _ first second c.in-Err-Refused.reason c.as_slice.result.now c.stop_status.result _ _ _ _ c.finish-in-Err-Refused.result c.requires c.explain_source.ensures.count (as_cause _ _ _ c.in-Err-Refused.field-0-is (rw c.image_of.ensures at c.in-Err-Refused.ensures.verdict)) (c.as_slice.ensures.value ∙ c.line.ensures) c.stop_status.ensures c.finish-in-Err-Refused.ensures
+returns-in-Err-Refused g c = λ first second. stopped _ _ _ _ _ _ _ first second c.in-Err-Refused.reason _ _ _ _ c.stop.result c.requires c.explain_source.ensures.count (as_cause _ _ _ c.in-Err-Refused.field-0-is (rw c.image_of.ensures at c.in-Err-Refused.ensures.verdict)) c.stop.ensures
