@@ -204,7 +204,7 @@ runs_clean script table us has mask made =
     let all : is_zero table.ty ≡ false → DevicesAreClean m (map info_of (shapes_of us)) (blocks_told us) = λ z. holds_clean m us z (expected m mask) refl made in
     (λ v l z. all z v (address_of m v) l (has.made.inside v l), all)
 
-all_ends : (us : List UnitSpec) → list_all is_spec us ≡ true → Ends (map info_of us)
+pub all_ends : (us : List UnitSpec) → list_all is_spec us ≡ true → Ends (map info_of us)
 all_ends [] h = tt
 all_ends (u ∷ us) h = grind (arith, all_ends us)
 

@@ -1,1 +1,4 @@
 pub mod Clean
+pub mod Passing
+pub mod Again
+pub mod Flips
