@@ -1,6 +1,6 @@
 -- Room for the one record.
-use Rattle.std.proofs.Common.{◌≡◌, ◌<◌, ◌≤◌, ℕ, ◌+◌, ◌-◌, ◌*◌, true, length, refl, sym, ap, ◌∙◌, arith, inl, inr, false, Option, Some, None}
-use Rattle.std.specs.Prelude.{is_some, Bool, Result, Ok, Err, ◌⊎◌, vec_len, vec_capacity}
+use Rattle.std.proofs.Common.{◌≡◌, ◌<◌, ◌≤◌, ℕ, ◌+◌, ◌*◌, true, refl, ap, arith, false, Option, Some, None}
+use Rattle.std.specs.Prelude.{is_some, Result, Ok, Err}
 use Rattle.std.specs.Global.{Vec}
 use Rattle.std.proofs.Math.Nat.{mul-le-mul_right}
 use Rattle.cdb_codec.specs.Decoded.{decoded}
@@ -13,7 +13,7 @@ use Rattle.target_answer.specs.declared.request.Request.TheVariants.{Read, Write
 use Rattle.rig_api.specs.Log.{HasRoom, capacity_by, capacity_len, capacity_under}
 use Rattle.rig_api.specs.Telling.{greatest_size}
 use Rattle.rig_api.specs.declared.rig.Record.{Record}
-use Rattle.answer_rig.specs.Answering.{device_count, greatest_is, greatest_most, is_count, records_left, room_of, size_of, spare, standing_of}
+use Rattle.answer_rig.specs.Answering.{device_count, greatest_is, greatest_most, is_count, records_left, room_of, spare, standing_of}
 
 -- A command transfers blocks, or the data of READ CAPACITY.
 of-request : (r : Request) (w room most : ℕ) → w * transferred r ≤ most → capacity_by r room ≤ most → w * transferred r + capacity_by r room ≤ most

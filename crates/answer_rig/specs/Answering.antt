@@ -1,5 +1,5 @@
 -- What the rig shows of itself.
-use Rattle.std.specs.Prelude.{◌≡◌, ◌⊎◌, ℕ, ◌+◌, ◌-◌, ◌*◌, ◌<◌, ◌≤◌, ◌^◌, Bool, true, false, eqb, ltb, ◌||◌, zero, suc, if◌then◌else◌, slice_index_or, ◌&&◌, List, [], ◌∷◌, ◌++◌, length, take, vec_len, vec_capacity, refl, Option, Some, None}
+use Rattle.std.specs.Prelude.{◌≡◌, ◌⊎◌, ℕ, ◌+◌, ◌-◌, ◌<◌, ◌≤◌, ◌^◌, Bool, true, false, eqb, ltb, ◌||◌, zero, suc, if◌then◌else◌, slice_index_or, ◌&&◌, List, [], ◌∷◌, length, take, vec_len, vec_capacity, refl, Option, Some, None}
 use Rattle.std.proofs.Common.{arith, inl, inr, ap, sym, ◌∙◌, ⊎_elim}
 use Rattle.std.proofs.lemmas.Bool.{cases_Bool, eqb-true}
 use Rattle.std.specs.Global.{Vec}
@@ -11,7 +11,7 @@ use Rattle.target_answer.specs.declared.units.UnitSpec.{UnitSpec}
 use Rattle.target_answer.specs.declared.units.Version.TheVariants.{Second}
 use Rattle.rig_api.specs.Head.{Head, head_fault, units_of}
 use Rattle.rig_api.specs.Log.{Entry, Room, has_key, have_keys}
-use Rattle.rig_api.specs.Telling.{IsStanding, Standing, StandsOn, greatest, greatest_size, no_spec, spec_at, specs_of}
+use Rattle.rig_api.specs.Telling.{IsStanding, Standing, greatest, greatest_size, no_spec, spec_at, specs_of}
 use Rattle.rig_api.specs.declared.rig.Record.{Record}
 
 abbrev pub unit_with : PiType → ℕ → UnitSpec

@@ -1,6 +1,6 @@
 //! The rig.
 
-ghost use Rattle.std.specs.Prelude.{◌≡◌, ◌⊎◌, ◌+◌, ◌*◌, ◌-◌, ◌≤◌, ◌<◌, ◌^◌, ◌++◌, [], IfOk, None, Some, length, min, true, refl, take, drop};
+ghost use Rattle.std.specs.Prelude.{◌≡◌, ◌+◌, ◌*◌, ◌-◌, ◌≤◌, ◌<◌, ◌^◌, ◌++◌, IfOk, None, Some, length, min, true, refl};
 ghost use Rattle.std.specs.Vec.{vec_capacity};
 ghost use Rattle.rig_api.specs.Log.{HasRoom, has_key};
 ghost use Rattle.rig_api.specs.Telling.{greatest_size};
@@ -39,8 +39,8 @@ impl AnswerRig {
     /// A rig that answers a command so. A read gets these frames, as far as they reach.
     pub fn new(alloc: Global, outcome: Outcome, frames: Vec<u8>) -> Result<AnswerRig, AllocError>
         requires { has_key outcome.sense ≡ true }
-        ensures room { IfOk result (λ r. HasRoom (greatest_size (⟦<AnswerRig as Rig>⟧.standing r)) 1 1024 (⟦<AnswerRig as Rig>⟧.room r)) }
-        ensures devices { IfOk result (λ r. (⟦<AnswerRig as Rig>⟧.standing r).devices ≡ 8) }
+        ensures room { IfOk result (λ r. HasRoom (greatest_size (⟦<AnswerRig as Rig>⟧.state r).standing) 1 1024 (⟦<AnswerRig as Rig>⟧.state r).room) }
+        ensures devices { IfOk result (λ r. (⟦<AnswerRig as Rig>⟧.state r).standing.devices ≡ 8) }
     {
         Ok(AnswerRig {
             devices: 8,
@@ -56,8 +56,8 @@ impl AnswerRig {
     /// Drops the record, so that there is room for another, of a command of so many blocks.
     pub fn forget(&mut self, _blocks: u32)
         requires { _blocks ≤ 1024 }
-        ensures room { HasRoom (greatest_size (⟦<AnswerRig as Rig>⟧.standing self.new)) 1 _blocks (⟦<AnswerRig as Rig>⟧.room self.new) }
-        ensures standing { ⟦<AnswerRig as Rig>⟧.standing self.new ≡ ⟦<AnswerRig as Rig>⟧.standing self.old }
+        ensures room { HasRoom (greatest_size (⟦<AnswerRig as Rig>⟧.state self.new).standing) 1 _blocks (⟦<AnswerRig as Rig>⟧.state self.new).room }
+        ensures standing { (⟦<AnswerRig as Rig>⟧.state self.new).standing ≡ (⟦<AnswerRig as Rig>⟧.state self.old).standing }
     {
         self.what = None;
         self.labels.clear();
@@ -66,8 +66,8 @@ impl AnswerRig {
 
     /// From now on a read gets the frames that were moved last.
     pub fn keep_moved(&mut self) -> Result<(), AllocError>
-        ensures standing { ⟦<AnswerRig as Rig>⟧.standing self.new ≡ ⟦<AnswerRig as Rig>⟧.standing self.old }
-        ensures room { ⟦<AnswerRig as Rig>⟧.room self.new ≡ ⟦<AnswerRig as Rig>⟧.room self.old }
+        ensures standing { (⟦<AnswerRig as Rig>⟧.state self.new).standing ≡ (⟦<AnswerRig as Rig>⟧.state self.old).standing }
+        ensures room { (⟦<AnswerRig as Rig>⟧.state self.new).room ≡ (⟦<AnswerRig as Rig>⟧.state self.old).room }
     {
         self.frames.clear();
         self.frames.extend_from_slice(&self.moved)
@@ -122,19 +122,15 @@ fn put_all<T: Copy>(held: &mut Vec<T>, more: &[T])
 }
 
 impl Rig for AnswerRig {
-    ghost image = { λ s. None };
-
-    ghost units = { λ s. None };
-
-    ghost standing = { λ s. standing_of s.devices };
-
-    ghost log = { λ s. entries s.what s.labels.items s.moved.items };
-
-    ghost room = { λ s. room_of s.what s.labels s.moved };
-
-    ghost armed = { λ s. s.tamper };
-
-    ghost faults = { λ s. 2 ^ 64 - 1 };
+    ghost state = { λ s. record {
+      image = None;
+      units = None;
+      standing = standing_of s.devices;
+      log = entries s.what s.labels.items s.moved.items;
+      room = room_of s.what s.labels s.moved;
+      armed = s.tamper;
+      faults = 2 ^ 64 - 1;
+    } };
 
     ghost laid = { λ s. refl };
 

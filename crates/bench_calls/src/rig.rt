@@ -24,7 +24,7 @@ pub(crate) struct PlainRig {
 impl PlainRig {
     /// A rig with nothing on record.
     pub(crate) fn new(alloc: Global) -> PlainRig
-        ensures { (⟦<PlainRig as Rig>⟧.standing result).devices ≡ 8 }
+        ensures { (⟦<PlainRig as Rig>⟧.state result).standing.devices ≡ 8 }
     {
         PlainRig {
             devices: 8,
@@ -42,19 +42,15 @@ fn size_of(dev: u32) -> u32
 }
 
 impl Rig for PlainRig {
-    ghost image = { λ s. None };
-
-    ghost units = { λ s. None };
-
-    ghost standing = { λ s. standing_of s.devices };
-
-    ghost log = { λ s. logged s.log };
-
-    ghost room = { λ s. room_in s.log };
-
-    ghost armed = { λ s. s.tamper };
-
-    ghost faults = { λ s. 2 ^ 64 - 1 };
+    ghost state = { λ s. record {
+      image = None;
+      units = None;
+      standing = standing_of s.devices;
+      log = logged s.log;
+      room = room_in s.log;
+      armed = s.tamper;
+      faults = 2 ^ 64 - 1;
+    } };
 
     ghost laid = { λ s. refl };
 

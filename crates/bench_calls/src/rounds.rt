@@ -1,6 +1,6 @@
 //! A group carried again and again.
 
-ghost use Rattle.std.specs.Prelude.{◌≡◌, ◌≤◌, ◌<◌, ℕ, IfOk, IfSome, length};
+ghost use Rattle.std.specs.Prelude.{◌≡◌, ◌≤◌, ◌<◌, ℕ};
 ghost use Rattle.std.specs.Vec.{vec_capacity};
 ghost use Rattle.dix_adapter.specs.Groups.{IsGroup, IsProtect, block_len, first_of, size};
 ghost use Rattle.dix_adapter.specs.Room.{HoldsBlocks};
@@ -103,11 +103,11 @@ fn carry(
     requires few { count ≤ 1024 }
     requires scratch { HoldsBlocks (block_len ios.now req.now) (size req.now) scratch.old }
     requires fates { size req.now ≤ vec_capacity fates.old }
-    requires device { (first_of req.now).dev < (⟦<AnswerRig as Rig>⟧.standing rig.old).devices }
+    requires device { (first_of req.now).dev < (⟦<AnswerRig as Rig>⟧.state rig.old).standing.devices }
     ensures group { (bytes : ℕ) × IsGroup adapter.now pool.new bytes ios.now req.now }
     ensures scratch { HoldsBlocks (block_len ios.now req.now) (size req.now) scratch.new }
     ensures capacity { vec_capacity fates.new ≡ vec_capacity fates.old }
-    ensures standing { ⟦<AnswerRig as Rig>⟧.standing rig.new ≡ ⟦<AnswerRig as Rig>⟧.standing rig.old }
+    ensures standing { (⟦<AnswerRig as Rig>⟧.state rig.new).standing ≡ (⟦<AnswerRig as Rig>⟧.state rig.old).standing }
 {
     rig.forget(count);
     adapter.carry(pool, ios, req, rig, scratch, fates);

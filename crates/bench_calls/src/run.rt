@@ -5,7 +5,7 @@ ghost use Rattle.rig_api.specs.Log.{HasRoom, Room};
 ghost use Rattle.rig_api.specs.Telling.{Standing, greatest_size};
 ghost use Rattle.script_laws.specs.Keeping.{Keeps};
 ghost use Rattle.script_text.specs.Bindings.{binding_fault};
-ghost use Rattle.stack_core.specs.Stacks.{HasSpare, IsStack, Reaches, Stays, plan_in};
+ghost use Rattle.stack_core.specs.Stacks.{HasSpare, IsStack, Reaches, plan_in};
 ghost use Rattle.stack_view.specs.Runs.{blocks_of_requests};
 ghost use Rattle.volume_table.specs.Tables.{EndFits, MadeFor};
 
@@ -89,8 +89,8 @@ fn drawn_after(drawn: u32) -> u32 {
 /// Takes steps until all ops have ended.
 fn run_words<R: Rig>(stack: &mut Stack, words: Words, rig: &mut R)
     requires stack { IsStack stack.old }
-    requires rig { Reaches stack.old (is_some (R.image rig.old)) (R.standing rig.old) }
-    requires spare { HasSpare stack.old (R.standing rig.old) (R.room rig.old) }
+    requires rig { Reaches stack.old (is_some (R.state rig.old).image) (R.state rig.old).standing }
+    requires spare { HasSpare stack.old (R.state rig.old).standing (R.state rig.old).room }
     ensures stack { IsStack stack.new }
 {
     let mut drawn = 1;

@@ -2,10 +2,10 @@
 use Rattle.std.proofs.Common.{ℕ, zero, suc, false, ◌≡◌, ◌+◌, ◌-◌, ◌^◌, ◌≤◌, List, [], ◌∷◌, length, min, Some, refl, sym, ap, subst, ◌∙◌, arith, length-append}
 use Rattle.std.specs.Prelude.{codes}
 use Rattle.dix_base.specs.Told.{Calm}
-use Rattle.image_commands.specs.Views.{View}
 use Rattle.pi_guard.specs.Guards.{crc}
 use Rattle.report_text.specs.Report.{report}
 use Rattle.rig_api.specs.Telling.{Standing}
+use Rattle.rig_api.specs.State.{RigState}
 use Rattle.rig_discovery.specs.Discovery.{Answer, looks}
 use Rattle.stack_ops.specs.declared.reply.Reply.{Reply}
 use Rattle.stack_ops.specs.declared.reply.Reply.TheVariants.{Silent, Whole, Bad, Shown, Medium}
@@ -40,26 +40,26 @@ looks_count s dev [] = refl
 looks_count s dev (a ∷ answers) = ap suc (looks_count s (dev + 1) answers)
 
 -- each device has a record
-pub devices_recorded : (run : Finished) (script : Script) (name : List ℕ) (old new : View) → HasRun run script name old new → new.standing.devices ≤ length new.seen.log
+pub devices_recorded : (run : Finished) (script : Script) (name : List ℕ) (old new : RigState) → HasRun run script name old new → new.standing.devices ≤ length new.log
 devices_recorded run script name old new r =
     let asked = r.asked.told in
     let devices : new.standing.devices ≡ asked.between.standing.devices = ap (λ (s : Standing). s.devices) (r.followed.goes.standing ∙ asked.since.standing) in
     let each = asked.found.each in
     let looked = looks_count asked.between.standing 0 asked.found.answers in
-    let first = ap length asked.found.log ∙ length-append asked.between.seen.log (looks asked.between.standing 0 asked.found.answers) in
-    let all = ap length r.followed.goes.records ∙ length-append r.told.seen.log r.followed.goes.more in
+    let first = ap length asked.found.log ∙ length-append asked.between.log (looks asked.between.standing 0 asked.found.answers) in
+    let all = ap length r.followed.goes.records ∙ length-append r.told.log r.followed.goes.more in
     omega (arith, devices, each, looked, first, all)
 
 -- those behind discovery are the run's
-exchanged : (run : Finished) (script : Script) (name : List ℕ) (old new : View) (exchanges : ℕ) (r : HasRun run script name old new) → old.seen.log ≡ [] → new.standing.devices + exchanges ≡ length new.seen.log → exchanges ≡ length r.followed.goes.more
+exchanged : (run : Finished) (script : Script) (name : List ℕ) (old new : RigState) (exchanges : ℕ) (r : HasRun run script name old new) → old.log ≡ [] → new.standing.devices + exchanges ≡ length new.log → exchanges ≡ length r.followed.goes.more
 exchanged run script name old new exchanges r none e =
     let asked = r.asked.told in
     let devices : new.standing.devices ≡ asked.between.standing.devices = ap (λ (s : Standing). s.devices) (r.followed.goes.standing ∙ asked.since.standing) in
     let each = asked.found.each in
     let looked = looks_count asked.between.standing 0 asked.found.answers in
-    let opened : length asked.between.seen.log ≡ 0 = ap length (asked.since.kept.log ∙ none) in
-    let first = ap length asked.found.log ∙ length-append asked.between.seen.log (looks asked.between.standing 0 asked.found.answers) in
-    let all = ap length r.followed.goes.records ∙ length-append r.told.seen.log r.followed.goes.more in
+    let opened : length asked.between.log ≡ 0 = ap length (asked.since.kept.log ∙ none) in
+    let first = ap length asked.found.log ∙ length-append asked.between.log (looks asked.between.standing 0 asked.found.answers) in
+    let all = ap length r.followed.goes.records ∙ length-append r.told.log r.followed.goes.more in
     omega (arith, devices, each, looked, opened, first, all)
 
 -- ---- no block fails
@@ -97,7 +97,7 @@ no_bad : (bad all : ℕ) → bad ≡ min all (2 ^ 64 - 1) → all ≡ 0 → bad 
 no_bad bad all e z = grind (arith, e, z)
 
 -- no fault was counted since the devices had answered
-since_told : (run : Finished) (script : Script) (name : List ℕ) (old new : View) (r : HasRun run script name old new) → Calm old.seen.faults new.seen.faults → Calm r.told.seen.faults new.seen.faults
+since_told : (run : Finished) (script : Script) (name : List ℕ) (old new : RigState) (r : HasRun run script name old new) → Calm old.faults new.faults → Calm r.told.faults new.faults
 since_told run script name old new r calm =
     let a = r.asked.told.since.kept.count in
     let b = r.asked.told.since.count in
@@ -107,21 +107,21 @@ since_told run script name old new r calm =
 
 -- ---- the run
 
-table_is : (n seed : ℕ) (run : Finished) (old new : View) → old.image ≡ Some (formatted two) → (r : HasRun run (big n seed) (codes "big") old new) → r.table ≡ big_table
+table_is : (n seed : ℕ) (run : Finished) (old new : RigState) → old.image ≡ Some (formatted two) → (r : HasRun run (big n seed) (codes "big") old new) → r.table ≡ big_table
 table_is n seed run old new image r = table_two n seed (codes "big") r.devices r.table old r.told image r.asked r.made
 
-replies_big : (n seed : ℕ) (run : Finished) (old new : View) → old.image ≡ Some (formatted two) → Calm old.seen.faults new.seen.faults → HasRun run (big n seed) (codes "big") old new → run.stack.replies.items ≡ big_replies n seed
+replies_big : (n seed : ℕ) (run : Finished) (old new : RigState) → old.image ≡ Some (formatted two) → Calm old.faults new.faults → HasRun run (big n seed) (codes "big") old new → run.stack.replies.items ≡ big_replies n seed
 replies_big n seed run old new image calm r =
     let followed : Followed (big n seed) big_table r.devices r.told new run.stack.pool run.stack.replies.items =
     subst (λ t. Followed (big n seed) t r.devices r.told new run.stack.pool run.stack.replies.items) (table_is n seed run old new image r) r.followed in
     let units = told_two (codes "big") r.devices old r.told image r.asked in
     let plain = plain_two n seed (codes "big") r.devices r.table old r.told image r.asked r.made in
-    let none = none_named (medium_lines run.stack.replies.items) r.told.seen.faults new.seen.faults followed.medium (since_told run (big n seed) (codes "big") old new r calm) in
+    let none = none_named (medium_lines run.stack.replies.items) r.told.faults new.faults followed.medium (since_told run (big n seed) (codes "big") old new r calm) in
     (followed.plain big_units units none plain).2.replies_are
 
-pub ran_big : (n seed : ℕ) (b : BigRun) (old new : View) (run : Finished) (script : Script) → script ≡ big n seed → old.image ≡ Some (formatted two) → old.seen.log ≡ [] → Calm old.seen.faults new.seen.faults →
+pub ran_big : (n seed : ℕ) (b : BigRun) (old new : RigState) (run : Finished) (script : Script) → script ≡ big n seed → old.image ≡ Some (formatted two) → old.log ≡ [] → Calm old.faults new.faults →
     HasRun run script (codes "big") old new → b.counts ≡ counts_with no_ops script.ops → b.bad ≡ min (all_bad run.stack.replies.items) (2 ^ 64 - 1) → b.has_bad ≡ has_bad run.stack.replies.items →
-    new.standing.devices + b.exchanges ≡ length new.seen.log → b.sum ≡ crc (report run.stack.replies.items) → RanBig n seed b
+    new.standing.devices + b.exchanges ≡ length new.log → b.sum ≡ crc (report run.stack.replies.items) → RanBig n seed b
 ran_big n seed b old new run script e image log calm ran counts bad has exchanges sum =
     let made : HasRun run (big n seed) (codes "big") old new = subst (λ (s : Script). HasRun run s (codes "big") old new) e ran in
     let own = exchanged run (big n seed) (codes "big") old new b.exchanges made log exchanges in

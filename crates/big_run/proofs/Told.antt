@@ -3,10 +3,10 @@ use Rattle.std.proofs.Common.{ℕ, ◌≡◌, List, [], ◌∷◌, ◌++◌, len
 use Rattle.std.proofs.lemmas.List.{drop_at, take_at}
 use Rattle.pi_tuple.specs.declared.checks.PiType.TheVariants.{One}
 use Rattle.dix_adapter.specs.Ways.{cell_in, shapes_of}
-use Rattle.image_commands.specs.Views.{View}
 use Rattle.pi_scrub.specs.Scrubbed.{device_of}
 use Rattle.rig_api.specs.Head.{IsHeadOf, head_of, specs_under, units_of}
 use Rattle.rig_api.specs.Telling.{Standing, specs_of, units_told}
+use Rattle.rig_api.specs.State.{RigState}
 use Rattle.rig_discovery.specs.Discovery.{info_of}
 use Rattle.script_stack.specs.Followed.{none_fails}
 use Rattle.script_text.specs.Generator.{big, big_entries}
@@ -64,7 +64,7 @@ infos_two = infos_are two
 specs_two : (s : Standing) → s.devices ≡ length (units_of s.head) → units_of s.head ≡ two → specs_of s ≡ two
 specs_two s n e = ap (λ k. take k (units_of s.head)) n ∙ ap (λ (us : List UnitSpec). take (length us) us) e
 
-pub told_two : (name : List ℕ) (devices : List DeviceInfo) (old told : View) → old.image ≡ Some (formatted two) → WasAsked name devices old told → told.seen.units ≡ Some big_units
+pub told_two : (name : List ℕ) (devices : List DeviceInfo) (old told : RigState) → old.image ≡ Some (formatted two) → WasAsked name devices old told → told.units ≡ Some big_units
 told_two name devices old told e asked =
     let between = asked.told.between in
     let since = asked.told.since in
@@ -73,7 +73,7 @@ told_two name devices old told e asked =
     let all : between.standing.devices ≡ length (units_of between.standing.head) = subst (λ (s : Standing). s.devices ≡ length (units_of s.head)) since.standing asked.all in
     since.units ∙ since.laid ∙ ap (units_told between.standing) image ∙ ap (λ specs. Some (units_in specs (formatted two))) (specs_two between.standing all (ap units_of head ∙ units_are)) ∙ ap Some (blocks_are ∙ fresh_two)
 
-devices_two : (name : List ℕ) (devices : List DeviceInfo) (old told : View) → old.image ≡ Some (formatted two) → WasAsked name devices old told → devices ≡ map info_of two
+devices_two : (name : List ℕ) (devices : List DeviceInfo) (old told : RigState) → old.image ≡ Some (formatted two) → WasAsked name devices old told → devices ≡ map info_of two
 devices_two name devices old told e asked = asked.told.devices_are.told big_units (told_two name devices old told e asked) ∙ infos_two
 
 -- ---- the volume
@@ -81,10 +81,10 @@ devices_two name devices old told e asked = asked.told.devices_are.told big_unit
 same_table : (t : Table) → t.entries ≡ big_entries → t.ty ≡ One → t ≡ big_table
 same_table t a b = ap (λ es. record { entries = es; ty = t.ty }) a ∙ ap (λ ty. record { entries = big_entries; ty = ty }) b
 
-pub table_two : (n seed : ℕ) (name : List ℕ) (devices : List DeviceInfo) (table : Table) (old told : View) → old.image ≡ Some (formatted two) → WasAsked name devices old told → HasTable (big n seed) devices table → table ≡ big_table
+pub table_two : (n seed : ℕ) (name : List ℕ) (devices : List DeviceInfo) (table : Table) (old told : RigState) → old.image ≡ Some (formatted two) → WasAsked name devices old told → HasTable (big n seed) devices table → table ≡ big_table
 table_two n seed name devices table old told e asked has = same_table table has.entries (has.ty ∙ ap (volume_type big_entries) (devices_two name devices old told e asked))
 
-made_two : (n seed : ℕ) (name : List ℕ) (devices : List DeviceInfo) (table : Table) (old told : View) → old.image ≡ Some (formatted two) → WasAsked name devices old told → HasTable (big n seed) devices table → MadeFor big_table (map info_of two) 512
+made_two : (n seed : ℕ) (name : List ℕ) (devices : List DeviceInfo) (table : Table) (old told : RigState) → old.image ≡ Some (formatted two) → WasAsked name devices old told → HasTable (big n seed) devices table → MadeFor big_table (map info_of two) 512
 made_two n seed name devices table old told e asked has =
     subst (λ t. MadeFor t (map info_of two) 512) (table_two n seed name devices table old told e asked has) (subst (λ ds. MadeFor table ds 512) (devices_two name devices old told e asked) has.made)
 
@@ -101,7 +101,7 @@ plain_over n seed made = record {
   no_escape = none_escapes (big_setting n seed).site none_fails 1 n seed (opening_told (big n seed) big_units);
 }
 
-pub plain_two : (n seed : ℕ) (name : List ℕ) (devices : List DeviceInfo) (table : Table) (old told : View) → old.image ≡ Some (formatted two) → WasAsked name devices old told → HasTable (big n seed) devices table → IsPlainRun (big n seed) big_table big_units
+pub plain_two : (n seed : ℕ) (name : List ℕ) (devices : List DeviceInfo) (table : Table) (old told : RigState) → old.image ≡ Some (formatted two) → WasAsked name devices old told → HasTable (big n seed) devices table → IsPlainRun (big n seed) big_table big_units
 plain_two n seed name devices table old told e asked has = plain_over n seed (made_two n seed name devices table old told e asked has)
 
 pub quiet_two : (n seed : ℕ) → AreQuiet (big_replies n seed)

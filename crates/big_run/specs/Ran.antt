@@ -1,6 +1,5 @@
 use Rattle.std.specs.Prelude.{ℕ, ◌≡◌, ◌≤◌, ◌+◌, ◌-◌, ◌^◌, false, [], ◌∷◌, codes, length, min, Some}
 use Rattle.dix_base.specs.Told.{Calm}
-use Rattle.image_commands.specs.Views.{View}
 use Rattle.pi_guard.specs.Guards.{crc}
 use Rattle.report_text.specs.Report.{report}
 use Rattle.script_text.specs.Generator.{big, ops_from}
@@ -14,21 +13,22 @@ use Rattle.target_answer.specs.Image.{formatted}
 use Rattle.big_run.specs.Counting.{all_bad, counts_with, no_ops}
 use Rattle.big_run.specs.Plain.{big_replies, big_table, big_unit}
 use Rattle.big_run.specs.declared.running.BigRun.{BigRun}
+use Rattle.rig_api.specs.State.{RigState}
 
 -- The script of n ops from a seed was run over the formatted image of the two units, by a rig that tells it and without a fault; and what is said of the run is so. No block fails, and the replies are those of the plain map; so counts, sum and exchanges are known by the two numbers.
 pub record RanBig (n seed : ℕ) (b : BigRun) : Type 0 where
-  pub old : View
-  pub new : View
+  pub old : RigState
+  pub new : RigState
   pub run : Finished
   pub image : old.image ≡ Some (formatted (big_unit ∷ big_unit ∷ []))
-  pub none : old.seen.log ≡ []
-  pub calm : Calm old.seen.faults new.seen.faults
+  pub none : old.log ≡ []
+  pub calm : Calm old.faults new.faults
   pub ran : HasRun run (big n seed) (codes "big") old new
   pub counts_are : b.counts ≡ counts_with no_ops (ops_from n seed)
   pub bad_is : b.bad ≡ min (all_bad run.stack.replies.items) (2 ^ 64 - 1)
   pub has_bad_is : b.has_bad ≡ has_bad run.stack.replies.items
   -- the records but for one of each device
-  pub exchanges_are : new.standing.devices + b.exchanges ≡ length new.seen.log
+  pub exchanges_are : new.standing.devices + b.exchanges ≡ length new.log
   pub sum_is : b.sum ≡ crc (report run.stack.replies.items)
   -- The replies are those of the plain map, none of which lists a block.
   pub replies_are : run.stack.replies.items ≡ big_replies n seed

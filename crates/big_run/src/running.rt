@@ -44,8 +44,8 @@ const UNIT: UnitSpec = UnitSpec {
 
 /// A rig over the formatted image of the two units, in memory.
 fn formatted(alloc: Global) -> Result<ImageRig<CalmStore>, AllocError>
-    ensures image { IfOk result (λ r. ⟦<ImageRig<CalmStore> as Rig>⟧.image r ≡ Some (formatted (big_unit ∷ big_unit ∷ []))) }
-    ensures log { IfOk result (λ r. ⟦<ImageRig<CalmStore> as Rig>⟧.log r ≡ []) }
+    ensures image { IfOk result (λ r. (⟦<ImageRig<CalmStore> as Rig>⟧.state r).image ≡ Some (formatted (big_unit ∷ big_unit ∷ []))) }
+    ensures log { IfOk result (λ r. (⟦<ImageRig<CalmStore> as Rig>⟧.state r).log ≡ []) }
 {
     let mut rig = ImageRig::new(alloc, CalmStore::new(Vec::new(alloc)));
     match rig.format(alloc, "big", &[UNIT, UNIT]) {

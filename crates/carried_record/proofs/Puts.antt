@@ -19,12 +19,13 @@ use Rattle.cdb_codec.specs.declared.command.Rw.{Rw}
 use Rattle.cdb_codec.proofs.Inverse.{decoded_form}
 use Rattle.target_answer.specs.Frames.{frames_of, joined, sent_size}
 use Rattle.rig_api.specs.Log.{Entry}
+use Rattle.rig_api.specs.State.{RigState}
 use Rattle.block_path.specs.Blocks.{Sent, Site}
 use Rattle.whole_run.specs.Senses.{why_ended}
 use Rattle.whole_run.specs.Settings.{Setting}
 use Rattle.run_record.specs.Records.{came_of, put_blocks, put_decoded, put_entries, put_request, put_rw, recorded, stamped}
 use Rattle.dix_adapter.specs.declared.adapter.Adapter.{Adapter}
-use Rattle.dix_adapter.specs.Carried.{Shown, any_bad, command_for, command_of, frame_len, frame_sent, sends, way_of}
+use Rattle.dix_adapter.specs.Carried.{any_bad, command_for, command_of, frame_len, frame_sent, sends, way_of}
 use Rattle.dix_adapter.specs.Groups.{Chain, IsBio, IsGroup, IsProtect, blocks_in, first_of, label_of, size}
 use Rattle.dix_adapter.specs.Outcomes.{done_of}
 use Rattle.dix_adapter.specs.Ways.{IsRecord, RecordedIn, RecordedOut}
@@ -127,7 +128,7 @@ module _ (m : Setting) (a : Adapter) (ios : List Io) (req : List Bio) (pool : Li
   turn = bios_turn a pool m.size ios first.dev first.dir first.lba req g.bios g.chain
 
   -- the record of a read, and of a write
-  in_decoded : (old new : Shown) (e : Entry) → IsRecord a req old new e → first.dir ≡ Read → recorded m new.log ≡ put_rw m Read c e (recorded m old.log)
+  in_decoded : (old new : RigState) (e : Entry) → IsRecord a req old new e → first.dir ≡ Read → recorded m new.log ≡ put_rw m Read c e (recorded m old.log)
   in_decoded old new e r w =
       let cmd = command_for a In first.lba n in
       let d : command_of a req ≡ cmd = ap (λ y. command_for a (way_of y) first.lba n) w in
@@ -136,7 +137,7 @@ module _ (m : Setting) (a : Adapter) (ios : List Io) (req : List Bio) (pool : Li
       ∙ ap (λ x. put_decoded m x e (recorded m old.log)) (decoded_form cmd (subst Fits d r.fits))
       ∙ ap (λ x. put_request m x e (recorded m old.log)) (asked-for a In first.lba n)
 
-  out_decoded : (old new : Shown) (e : Entry) → IsRecord a req old new e → first.dir ≡ Write → recorded m new.log ≡ put_rw m Write c e (recorded m old.log)
+  out_decoded : (old new : RigState) (e : Entry) → IsRecord a req old new e → first.dir ≡ Write → recorded m new.log ≡ put_rw m Write c e (recorded m old.log)
   out_decoded old new e r w =
       let cmd = command_for a Out first.lba n in
       let d : command_of a req ≡ cmd = ap (λ y. command_for a (way_of y) first.lba n) w in
@@ -149,7 +150,7 @@ module _ (m : Setting) (a : Adapter) (ios : List Io) (req : List Bio) (pool : Li
   frames_many w zero bytes = refl
   frames_many w (suc k) bytes = ap suc (frames_many w k (drop w bytes))
 
-  pub goes_in : (pool' : List (List ℕ)) (fates : List Fate) (old new : Shown) → first.dir ≡ Read → (r : RecordedIn a ios req pool pool' fates old new) →
+  pub goes_in : (pool' : List (List ℕ)) (fates : List Fate) (old new : RigState) → first.dir ≡ Read → (r : RecordedIn a ios req pool pool' fates old new) →
       GoesOnRecord m req r.entry.what.outcome (frames_of (frame_len a ios req) (done_of n r.entry.what.outcome) r.entry.moved) old.log new.log
   goes_in pool' fates old new w r =
       let done = min r.entry.what.outcome.done n in
@@ -163,7 +164,7 @@ module _ (m : Setting) (a : Adapter) (ios : List Io) (req : List Bio) (pool : Li
   long_front w (suc k) [] h = tt
   long_front w (suc k) (f ∷ fs) h = (h.0, long_front w k fs h.1)
 
-  pub goes_out : (fates : List Fate) (old new : Shown) → first.dir ≡ Write → any_bad (map (sends a ios (flat pool)) (blocks_in req)) ≡ false → (r : RecordedOut a ios req (flat pool) fates old new) →
+  pub goes_out : (fates : List Fate) (old new : RigState) → first.dir ≡ Write → any_bad (map (sends a ios (flat pool)) (blocks_in req)) ≡ false → (r : RecordedOut a ios req (flat pool) fates old new) →
       GoesOnRecord m req r.entry.what.outcome (take (done_of n r.entry.what.outcome) (map frame_sent (map (sends a ios (flat pool)) (blocks_in req)))) old.log new.log
   goes_out fates old new w good r =
       let done = min r.entry.what.outcome.done n in

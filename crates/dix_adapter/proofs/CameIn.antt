@@ -25,12 +25,13 @@ use Rattle.target_answer.specs.Target.{Stop, Stored, answer_unless, carried_out,
 use Rattle.rig_api.specs.Log.{entry_of, moved_by, moved_under}
 use Rattle.rig_api.specs.Telling.{IsAnswer, answer_of, at_front, unit_at}
 use Rattle.rig_api.specs.declared.rig.Outcome.{Outcome}
+use Rattle.rig_api.specs.State.{RigState}
 use Rattle.block_path.specs.Acts.{act}
 use Rattle.block_path.specs.Blocks.{fetched_cell}
 use Rattle.block_path.specs.Routes.{medium_lba, moved, passage, wire_lba}
 use Rattle.block_path.specs.Serial.{plain}
 use Rattle.dix_adapter.specs.declared.adapter.Adapter.{Adapter}
-use Rattle.dix_adapter.specs.Carried.{Shown, command_for, fates_in, landed}
+use Rattle.dix_adapter.specs.Carried.{command_for, fates_in, landed}
 use Rattle.dix_adapter.specs.Groups.{IsProtect, blocks_in, first_of, label_of, route_of, size}
 use Rattle.dix_adapter.specs.Outcomes.{done_of, rest_of}
 use Rattle.dix_adapter.specs.Ways.{CameIn, acts_in, blocks_told, cell_in, fates_of_in, frames_in, shapes_of, site_of, stopped_in, ways_in}
@@ -188,7 +189,7 @@ moved-in a bytes width address n d fs rest f p w m l e =
 
 -- ---- all of it
 
-pub came-by : (a : Adapter) (ios : List Io) (req : List Bio) (pool pool' : List (List ℕ)) (us : List Stored) (stop : Option Stop) (fates : List Fate) (old new : Shown) (bytes at from width : ℕ) (s t : ℤ) (o : Outcome) (was came : List ℕ) →
+pub came-by : (a : Adapter) (ios : List Io) (req : List Bio) (pool pool' : List (List ℕ)) (us : List Stored) (stop : Option Stop) (fates : List Fate) (old new : RigState) (bytes at from width : ℕ) (s t : ℤ) (o : Outcome) (was came : List ℕ) →
     BeforeIn a ios us (first_of req).dev bytes (first_of req).lba (size req) at from s t (blocks_in req) → width ≡ bytes → length was ≡ size req * width_for a bytes →
     IsAnswer (answer_of us a.tamper (first_of req).dev (form (command_for a In (first_of req).lba (size req))) (map label_of (blocks_in req)) [] (length was) stop) us (first_of req).dev o new.units was came →
     new.log ≡ old.log ++ (entry_of width (first_of req).dev (form (command_for a In (first_of req).lba (size req))) (map label_of (blocks_in req)) o [] came ∷ []) →

@@ -5,7 +5,8 @@ use Rattle.bio_core.specs.declared.fate.Fate.{Fate}
 use Rattle.pi_tuple.specs.declared.checks.Check.{Check}
 use Rattle.fault_schedule.specs.declared.Label.{Label}
 use Rattle.rig_api.specs.declared.rig.Outcome.{Outcome}
-use Rattle.dix_adapter.specs.Carried.{Exchanged, Shown, any_bad, any_fails, fails, unsent}
+use Rattle.rig_api.specs.State.{RigState, Exchanged}
+use Rattle.dix_adapter.specs.Carried.{any_bad, any_fails, fails, unsent}
 
 pub fails-more : (fs : List Fate) (i : ℕ) (d : Fate) → i < length fs → any_fails (take (i + 1) fs) ≡ (any_fails (take i fs) || fails (get_or fs i d))
 fails-more [] i d h = absurd (omega arith)
@@ -34,10 +35,10 @@ judged [] = refl
 judged (Ok f ∷ rs) = judged rs
 judged (Err c ∷ rs) = refl
 
-pub exchanged-as : (old new : Shown) (dev : ℕ) (cdb cdb' : List ℕ) (labels labels' : List Label) (out out' before came : List ℕ) (o : Outcome) → cdb ≡ cdb' → labels ≡ labels' → out ≡ out' →
+pub exchanged-as : (old new : RigState) (dev : ℕ) (cdb cdb' : List ℕ) (labels labels' : List Label) (out out' before came : List ℕ) (o : Outcome) → cdb ≡ cdb' → labels ≡ labels' → out ≡ out' →
     Exchanged old new dev cdb labels out before came o → Exchanged old new dev cdb' labels' out' before came o
 exchanged-as old new dev cdb cdb' labels labels' out out' before came o c l f e = rw (c, l, f) at e
 
-pub exchanged-into : (old new : Shown) (dev : ℕ) (cdb cdb' : List ℕ) (labels : List Label) (out before before' came came' : List ℕ) (o : Outcome) → cdb ≡ cdb' → before ≡ before' → came ≡ came' →
+pub exchanged-into : (old new : RigState) (dev : ℕ) (cdb cdb' : List ℕ) (labels : List Label) (out before before' came came' : List ℕ) (o : Outcome) → cdb ≡ cdb' → before ≡ before' → came ≡ came' →
     Exchanged old new dev cdb labels out before came o → Exchanged old new dev cdb' labels out before' came' o
 exchanged-into old new dev cdb cdb' labels out before before' came came' o c b f e = rw (c, b, f) at e

@@ -21,9 +21,10 @@ use Rattle.target_answer.specs.declared.units.UnitSpec.{UnitSpec}
 use Rattle.rig_api.specs.Log.{Room, labels_len, moved_by, moved_under}
 use Rattle.rig_api.specs.Telling.{greatest, greatest_size, no_spec, spec_at, specs_of}
 use Rattle.rig_api.specs.declared.rig.Outcome.{Outcome}
+use Rattle.rig_api.specs.State.{RigState, Exchanged}
 use Rattle.dix_adapter.proofs.Units.{frames-count}
 use Rattle.dix_adapter.specs.declared.adapter.Adapter.{Adapter}
-use Rattle.dix_adapter.specs.Carried.{Exchanged, Fetched, Sent, Shown, arrives, carried, command_for, fates_in, frame_len, sends, unsent, way_of}
+use Rattle.dix_adapter.specs.Carried.{Fetched, Sent, arrives, carried, command_for, fates_in, frame_len, sends, unsent, way_of}
 use Rattle.dix_adapter.specs.Groups.{blocks_in, first_of, label_of, size}
 use Rattle.dix_adapter.specs.Outcomes.{done_of, rest_of, why_of}
 use Rattle.dix_adapter.specs.Ways.{Spends, settled_count}
@@ -110,7 +111,7 @@ labels-most a dir lba n o labels f =
     let l = length-take (min (o.done + 1) n) labels in
     omega arith
 
-spends : (a : Adapter) (dir : Dir2) (lba n dev : ℕ) (old new : Shown) (labels : List Label) (out before came : List ℕ) (o : Outcome) (fates : List Fate) →
+spends : (a : Adapter) (dir : Dir2) (lba n dev : ℕ) (old new : RigState) (labels : List Label) (out before came : List ℕ) (o : Outcome) (fates : List Fate) →
     Fits (command_for a dir lba n) → Exchanged old new dev (form (command_for a dir lba n)) labels out before came o → settled_count fates ≡ min (o.done + 1) n → Spends (greatest_size old.standing) fates old.room new.room
 spends a dir lba n dev old new labels out before came o fates f x s e b h =
     let size = (spec_at old.standing dev).size in
@@ -141,14 +142,14 @@ spends-none size fates room e b h =
     let hl = h.labels in
     record { records = omega arith; labels = omega arith; moved = omega arith }
 
-pub spends-out : (a : Adapter) (pool pool' : List (List ℕ)) (ios : List Io) (req : List Bio) (fates : List Fate) (old new : Shown) → Sent a ios req pool pool' fates old new → Spends (greatest_size old.standing) fates old.room new.room
+pub spends-out : (a : Adapter) (pool pool' : List (List ℕ)) (ios : List Io) (req : List Bio) (fates : List Fate) (old new : RigState) → Sent a ios req pool pool' fates old new → Spends (greatest_size old.standing) fates old.room new.room
 spends-out a pool pool' ios req fates old new got =
     let n = size req in
     let s = ap settled_count got.fates_are ∙ sent-settled (done_of n got.outcome) (rest_of n got.outcome) in
     let r = rest-count n got.outcome in
     spends a (way_of (first_of req).dir) (first_of req).lba n (first_of req).dev old new (map label_of (blocks_in req)) _ [] [] got.outcome fates got.fits got.exchanged (omega (arith, s, r))
 
-pub spends-in : (a : Adapter) (pool pool' : List (List ℕ)) (ios : List Io) (req : List Bio) (fates : List Fate) (old new : Shown) → Fetched a ios req pool pool' fates old new → Spends (greatest_size old.standing) fates old.room new.room
+pub spends-in : (a : Adapter) (pool pool' : List (List ℕ)) (ios : List Io) (req : List Bio) (fates : List Fate) (old new : RigState) → Fetched a ios req pool pool' fates old new → Spends (greatest_size old.standing) fates old.room new.room
 spends-in a pool pool' ios req fates old new got =
     let n = size req in
     let frames = frames_of (frame_len a ios req) (done_of n got.outcome) got.came in
@@ -159,7 +160,7 @@ spends-in a pool pool' ios req fates old new got =
     spends a (way_of (first_of req).dir) (first_of req).lba n (first_of req).dev old new (map label_of (blocks_in req)) [] got.before got.came got.outcome fates got.fits got.exchanged (omega (arith, s, r, k))
 
 -- each block has a fate
-pub each-out : (a : Adapter) (pool pool' : List (List ℕ)) (ios : List Io) (req : List Bio) (fates : List Fate) (old new : Shown) → Sent a ios req pool pool' fates old new → length fates ≡ size req
+pub each-out : (a : Adapter) (pool pool' : List (List ℕ)) (ios : List Io) (req : List Bio) (fates : List Fate) (old new : RigState) → Sent a ios req pool pool' fates old new → length fates ≡ size req
 each-out a pool pool' ios req fates old new got =
     let n = size req in
     let r = rest-length n got.outcome in
@@ -173,7 +174,7 @@ came-length a ios [] (x ∷ xs) h = absurd (omega arith)
 came-length a ios (b ∷ bs) [] h = refl
 came-length a ios (b ∷ bs) (x ∷ xs) h = ap suc (came-length a ios bs xs (omega arith))
 
-pub each-in : (a : Adapter) (pool pool' : List (List ℕ)) (ios : List Io) (req : List Bio) (fates : List Fate) (old new : Shown) → Fetched a ios req pool pool' fates old new → length fates ≡ size req
+pub each-in : (a : Adapter) (pool pool' : List (List ℕ)) (ios : List Io) (req : List Bio) (fates : List Fate) (old new : RigState) → Fetched a ios req pool pool' fates old new → length fates ≡ size req
 each-in a pool pool' ios req fates old new got =
     let n = size req in
     let frames = frames_of (frame_len a ios req) (done_of n got.outcome) got.came in

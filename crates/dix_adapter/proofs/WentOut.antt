@@ -28,11 +28,12 @@ use Rattle.target_answer.specs.Target.{Stop, Stored, answer_unless, bytes_of, ca
 use Rattle.rig_api.specs.Log.{entry_of, moved_by, moved_under}
 use Rattle.rig_api.specs.Telling.{IsAnswer, answer_of, unit_at, with_blocks}
 use Rattle.rig_api.specs.declared.rig.Outcome.{Outcome}
+use Rattle.rig_api.specs.State.{RigState}
 use Rattle.block_path.specs.Acts.{act}
 use Rattle.block_path.specs.Routes.{moved, wire_lba}
 use Rattle.block_path.specs.Serial.{plain}
 use Rattle.dix_adapter.specs.declared.adapter.Adapter.{Adapter}
-use Rattle.dix_adapter.specs.Carried.{Shown, any_bad, command_for, out_of, sends}
+use Rattle.dix_adapter.specs.Carried.{any_bad, command_for, out_of, sends}
 use Rattle.dix_adapter.specs.Groups.{IsBio, IsGroup, IsProtect, blocks_in, first_of, label_of, route_of, size}
 use Rattle.dix_adapter.specs.Outcomes.{done_of, rest_of}
 use Rattle.dix_adapter.specs.Ways.{WentOut, acts_out, blocks_told, cell_in, cells_out, fates_out, frames_out, left_at, shapes_of, stopped_out, ways_out}
@@ -150,7 +151,7 @@ moved-out a bytes width address n d fs came f p w m l e =
 
 -- ---- all of it
 
-pub went-by : (a : Adapter) (ios : List Io) (req : List Bio) (pool : List (List ℕ)) (us : List Stored) (stop : Option Stop) (fates : List Fate) (old new : Shown) (bytes at width : ℕ) (s t : ℤ) (o : Outcome) →
+pub went-by : (a : Adapter) (ios : List Io) (req : List Bio) (pool : List (List ℕ)) (us : List Stored) (stop : Option Stop) (fates : List Fate) (old new : RigState) (bytes at width : ℕ) (s t : ℤ) (o : Outcome) →
     Before a ios (unit_at us (first_of req).dev) (first_of req).dev bytes (first_of req).lba (size req) at s t (blocks_in req) → any_bad (map (sends a ios (flat pool)) (blocks_in req)) ≡ false → (first_of req).dev < length us →
     (unit_at us (first_of req).dev).first ≤ at → at + size req ≤ (unit_at us (first_of req).dev).first + length (unit_at us (first_of req).dev).blocks → width ≡ bytes →
     IsAnswer (answer_of us a.tamper (first_of req).dev (form (command_for a Out (first_of req).lba (size req))) (map label_of (blocks_in req)) (out_of a ios req pool) 0 stop) us (first_of req).dev o new.units [] [] →

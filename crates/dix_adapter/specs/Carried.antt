@@ -1,6 +1,5 @@
 -- What a group's way through the adapter leaves.
-use Rattle.std.specs.Prelude.{◌≡◌, ℕ, zero, suc, ◌+◌, ◌*◌, ◌≤◌, Bool, true, false, not, ◌&&◌, ◌||◌, if◌then◌else◌, List, [], ◌∷◌, ◌++◌, length, map, take, drop, replicate, Option, Some, None, Result, Ok, Err}
-use Rattle.dix_base.specs.Told.{Calm, Rose}
+use Rattle.std.specs.Prelude.{◌≡◌, ℕ, zero, suc, ◌+◌, ◌*◌, Bool, true, false, not, ◌&&◌, ◌||◌, if◌then◌else◌, List, [], ◌∷◌, ◌++◌, length, map, take, drop, replicate, Result, Ok, Err}
 use Rattle.page_pool.specs.Cells.{flat, gather, scatter}
 use Rattle.page_pool.specs.Pages.{AreWhole}
 use Rattle.pi_tuple.specs.Finds.{is_zero}
@@ -10,8 +9,6 @@ use Rattle.cdb_codec.specs.Rule.{chosen}
 use Rattle.cdb_codec.specs.declared.command.Cdb.{Cdb}
 use Rattle.cdb_codec.specs.declared.choice.Dir2.{Dir2}
 use Rattle.cdb_codec.specs.declared.choice.Dir2.TheVariants.{In, Out}
-use Rattle.fault_schedule.specs.declared.Label.{Label}
-use Rattle.fault_schedule.specs.declared.fault.FaultLine.{FaultLine}
 use Rattle.bio_core.specs.declared.bio.Bio.{Bio}
 use Rattle.bio_core.specs.declared.fate.Fate.{Fate}
 use Rattle.bio_core.specs.declared.fate.Fate.TheVariants.{Good, Bad, Untouched}
@@ -21,10 +18,8 @@ use Rattle.bio_core.specs.declared.request.Dir.TheVariants.{Read, Write}
 use Rattle.bio_core.specs.declared.request.Io.{Io}
 use Rattle.bio_core.specs.Bios.{Block}
 use Rattle.target_answer.specs.Frames.{frames_of, joined}
-use Rattle.target_answer.specs.Target.{Stop, Stored}
 use Rattle.rig_api.specs.declared.rig.Outcome.{Outcome}
-use Rattle.rig_api.specs.Log.{Entry, IsMedium, Room, entry_of, has_key, labels_len, moved_len}
-use Rattle.rig_api.specs.Telling.{HasCause, IsAnswer, Standing, answer_of, frame_size, spec_at, unit_at}
+use Rattle.rig_api.specs.State.{Exchanged, RigState}
 use Rattle.block_path.specs.Routes.{wire_size}
 use Rattle.block_path.specs.WayIn.{from_wire}
 use Rattle.block_path.specs.WayOut.{to_wire}
@@ -134,32 +129,6 @@ command_for a dir lba n = chosen a.ty dir lba n (if a.dif && not (is_zero a.ty) 
 abbrev pub command_of : Adapter → List Bio → Cdb
 command_of a req = command_for a (way_of (first_of req).dir) (first_of req).lba (size req)
 
--- what a rig shows of itself
-pub record Shown : Type 0 where
-  pub told : Bool
-  pub units : Option (List Stored)
-  pub standing : Standing
-  pub log : List Entry
-  pub room : Room
-  pub armed : List FaultLine
-  pub faults : ℕ
-
--- a rig did one exchange: all that it promises of one
-pub record Exchanged (old new : Shown) (dev : ℕ) (cdb : List ℕ) (labels : List Label) (out before came : List ℕ) (o : Outcome) : Type 0 where
-  pub recorded : new.log ≡ old.log ++ (entry_of (spec_at old.standing dev).size dev cdb labels o out came ∷ [])
-  pub calm : (us : List Stored) → old.units ≡ Some us → Calm old.faults new.faults → IsAnswer (answer_of us old.armed dev cdb labels out (length before) None) us dev o new.units before came
-  pub stopped : (us : List Stored) → old.units ≡ Some us
-      → (stop : Option Stop) × HasCause stop (frame_size (unit_at us dev)) old.faults new.faults × IsAnswer (answer_of us old.armed dev cdb labels out (length before) stop) us dev o new.units before came
-  pub medium : IsMedium o → Rose old.faults new.faults
-  pub key : has_key o.sense ≡ true
-  pub tells : new.told ≡ old.told
-  pub standing : new.standing ≡ old.standing
-  pub armed : new.armed ≡ old.armed
-  pub records : old.room.records ≤ new.room.records + 1
-  pub moved : old.room.moved ≤ new.room.moved + moved_len (spec_at old.standing dev).size cdb o out came
-  pub labelled : old.room.labels ≤ new.room.labels + labels_len cdb o labels
-  pub count : old.faults ≤ new.faults
-
 -- what is told of a carried group
 
 -- A write of which the adapter found a block bad: nothing is sent, and nothing changes.
@@ -175,7 +144,7 @@ abbrev pub out_of : Adapter → List Io → List Bio → (pool : List (List ℕ)
 out_of a ios req pool = joined (map frame_sent (map (sends a ios (flat pool)) (blocks_in req)))
 
 -- A write whose blocks are all good was sent.
-pub record Sent (a : Adapter) (ios : List Io) (req : List Bio) (pool pool' : List (List ℕ)) (fates : List Fate) (old new : Shown) : Type 0 where
+pub record Sent (a : Adapter) (ios : List Io) (req : List Bio) (pool pool' : List (List ℕ)) (fates : List Fate) (old new : RigState) : Type 0 where
   pub outcome : Outcome
   pub fits : Fits (command_of a req)
   pub exchanged : Exchanged old new (first_of req).dev (form (command_of a req)) (map label_of (blocks_in req)) (out_of a ios req pool) [] [] outcome
@@ -187,7 +156,7 @@ abbrev pub frames_came : Adapter → List Io → List Bio → Outcome → List �
 frames_came a ios req o came = frames_of (frame_len a ios req) (done_of (size req) o) came
 
 -- A read was fetched.
-pub record Fetched (a : Adapter) (ios : List Io) (req : List Bio) (pool pool' : List (List ℕ)) (fates : List Fate) (old new : Shown) : Type 0 where
+pub record Fetched (a : Adapter) (ios : List Io) (req : List Bio) (pool pool' : List (List ℕ)) (fates : List Fate) (old new : RigState) : Type 0 where
   pub outcome : Outcome
   pub fits : Fits (command_of a req)
   pub before : List ℕ

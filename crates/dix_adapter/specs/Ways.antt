@@ -19,6 +19,7 @@ use Rattle.target_answer.specs.Target.{Stop, Stored, has_blocks, shape_of}
 use Rattle.target_answer.specs.declared.units.UnitSpec.{UnitSpec}
 use Rattle.rig_api.specs.Log.{Entry, HasRoom, Room}
 use Rattle.rig_api.specs.Telling.{HasCause, unit_at}
+use Rattle.rig_api.specs.State.{RigState}
 use Rattle.block_path.specs.Acts.{Act, State, act}
 use Rattle.block_path.specs.Blocks.{Answer, Site, fetched_cell, stored_cell}
 use Rattle.block_path.specs.Moves.{carry_in, carry_out}
@@ -27,7 +28,7 @@ use Rattle.block_path.specs.Serial.{plain}
 use Rattle.block_path.specs.WayIn.{Delivers, Spoils, Stops, WayIn, comes_in}
 use Rattle.block_path.specs.WayOut.{Fails, Refuses, Stores, WayOut, goes_out}
 use Rattle.dix_adapter.specs.declared.adapter.Adapter.{Adapter}
-use Rattle.dix_adapter.specs.Carried.{Shown, command_of, fates_in, frame_len, frame_sent, landed, sends}
+use Rattle.dix_adapter.specs.Carried.{command_of, fates_in, frame_len, frame_sent, landed, sends}
 use Rattle.dix_adapter.specs.Groups.{blocks_in, first_of, frame_cells, frame_in, label_of, request_of, route_of, size}
 use Rattle.dix_adapter.specs.Outcomes.{done_of, rest_of}
 
@@ -52,7 +53,7 @@ abbrev pub Spends : (size : ℕ) → List Fate → (old new : Room) → Type 0
 Spends size fates old new = (exchanges blocks : ℕ) → HasRoom size (exchanges + 1) (blocks + settled_count fates) old → HasRoom size exchanges blocks new
 
 -- One record was appended: of the group's command to its device, with the labels of its blocks in their order.
-pub record IsRecord (a : Adapter) (req : List Bio) (old new : Shown) (e : Entry) : Type 0 where
+pub record IsRecord (a : Adapter) (req : List Bio) (old new : RigState) (e : Entry) : Type 0 where
   pub recorded : new.log ≡ old.log ++ (e ∷ [])
   pub dev : e.what.dev ≡ (first_of req).dev
   pub cdb : e.what.cdb ≡ form (command_of a req)
@@ -60,14 +61,14 @@ pub record IsRecord (a : Adapter) (req : List Bio) (old new : Shown) (e : Entry)
   pub labels : e.labels ≡ take (min (e.what.outcome.done + 1) (size req)) (map label_of (blocks_in req))
 
 -- The record of a write has the frames that were sent of the blocks that are done.
-pub record RecordedOut (a : Adapter) (ios : List Io) (req : List Bio) (cells : List ℕ) (fates : List Fate) (old new : Shown) : Type 0 where
+pub record RecordedOut (a : Adapter) (ios : List Io) (req : List Bio) (cells : List ℕ) (fates : List Fate) (old new : RigState) : Type 0 where
   pub entry : Entry
   pub what : IsRecord a req old new entry
   pub moved : entry.moved ≡ joined (take (done_of (size req) entry.what.outcome) (map frame_sent (map (sends a ios cells) (blocks_in req))))
   pub fates_are : fates ≡ replicate (done_of (size req) entry.what.outcome) Good ++ rest_of (size req) entry.what.outcome
 
 -- The record of a read has a whole frame of each block that is done. What becomes of the blocks, and of the cells, is what these frames come to.
-pub record RecordedIn (a : Adapter) (ios : List Io) (req : List Bio) (pool pool' : List (List ℕ)) (fates : List Fate) (old new : Shown) : Type 0 where
+pub record RecordedIn (a : Adapter) (ios : List Io) (req : List Bio) (pool pool' : List (List ℕ)) (fates : List Fate) (old new : RigState) : Type 0 where
   pub entry : Entry
   pub what : IsRecord a req old new entry
   pub long : length entry.moved ≡ done_of (size req) entry.what.outcome * frame_len a ios req
@@ -148,7 +149,7 @@ left_at None accepted at blocks = blocks
 left_at (Some s) accepted at blocks = if ltb s.at accepted then set blocks (get_or at s.at 0) s.left else blocks
 
 -- The blocks of a write went their ways; a store call failed, or none.
-pub record WentOut (a : Adapter) (ios : List Io) (req : List Bio) (cells : List ℕ) (us : List Stored) (stop : Option Stop) (fates : List Fate) (old new : Shown) : Type 0 where
+pub record WentOut (a : Adapter) (ios : List Io) (req : List Bio) (cells : List ℕ) (us : List Stored) (stop : Option Stop) (fates : List Fate) (old new : RigState) : Type 0 where
   pub fates_are : fates ≡ fates_out (stopped_out stop (ways_out a ios cells (blocks_in req)))
   pub units : List Stored
   pub told : new.units ≡ Some units
@@ -192,7 +193,7 @@ stopped_in None ws = ws
 stopped_in (Some s) ws = if ltb s.at (length (frames_in ws) + 1) then set ws s.at (Stops Medium) else ws
 
 -- The blocks of a read came their ways; a store call failed, or none.
-pub record CameIn (a : Adapter) (ios : List Io) (req : List Bio) (pool pool' : List (List ℕ)) (us : List Stored) (stop : Option Stop) (fates : List Fate) (old new : Shown) : Type 0 where
+pub record CameIn (a : Adapter) (ios : List Io) (req : List Bio) (pool pool' : List (List ℕ)) (us : List Stored) (stop : Option Stop) (fates : List Fate) (old new : RigState) : Type 0 where
   pub fates_are : fates ≡ fates_of_in (stopped_in stop (ways_in a ios (shapes_of us) (blocks_told us) (blocks_in req)))
   pub told : new.units ≡ Some us
   pub cells : (kept : Block → ℕ) (now : State) → now.bytes ≡ flat pool → now.blocks ≡ blocks_told us →

@@ -1,11 +1,12 @@
 //! The adapter.
 
-ghost use Rattle.std.specs.Prelude.{◌≡◌, ◌<◌, ◌≤◌, ◌+◌, ◌^◌, ℕ, List, true, false, Some, is_some, length, map};
+ghost use Rattle.std.specs.Prelude.{◌≡◌, ◌<◌, ◌≤◌, ◌+◌, ◌^◌, ℕ, List, true, false, Some, length, map};
 ghost use Rattle.std.specs.Vec.{vec_capacity};
 ghost use Rattle.page_pool.specs.Cells.{flat};
 ghost use Rattle.bio_core.specs.declared.request.Dir.TheVariants.{Read, Write};
 ghost use Rattle.rig_api.specs.Log.{HasRoom};
 ghost use Rattle.bio_core.specs.Bios.{block_size};
+ghost use Rattle.rig_api.specs.State.{Stays};
 ghost use Rattle.rig_api.specs.Telling.{frame_size, greatest_size, spec_at, unit_at};
 ghost use Rattle.target_answer.specs.Target.{Stored};
 ghost use Rattle.dix_adapter.specs.Ways.{CameIn, IsBehind, RecordedIn, RecordedOut, Spends, UpTo, WentOut, any_settled};
@@ -99,49 +100,35 @@ impl Adapter {
         requires group { (bytes : ℕ) × IsGroup self.now pool.old bytes ios.now req.now }
         requires scratch { HoldsBlocks (block_len ios.now req.now) (size req.now) scratch.old }
         requires fates { size req.now ≤ vec_capacity fates.old }
-        requires device { (first_of req.now).dev < (R.standing rig.old).devices }
-        requires spare { HasRoom (greatest_size (R.standing rig.old)) 1 (size req.now) (R.room rig.old) }
+        requires device { (first_of req.now).dev < (R.state rig.old).standing.devices }
+        requires spare { HasRoom (greatest_size (R.state rig.old).standing) 1 (size req.now) (R.state rig.old).room }
         ensures unsent { (first_of req.now).dir ≡ Write → any_bad (map (sends self.now ios.now (flat pool.old)) (blocks_in req.now)) ≡ true
             → Unsent self.now ios.now req.now pool.old pool.new fates.new.items × (rig.new ≡ rig.old) }
         ensures sent { (first_of req.now).dir ≡ Write → any_bad (map (sends self.now ios.now (flat pool.old)) (blocks_in req.now)) ≡ false
-            → Sent self.now ios.now req.now pool.old pool.new fates.new.items
-            (record { told = is_some (R.image rig.old); units = R.units rig.old; standing = R.standing rig.old; log = R.log rig.old; room = R.room rig.old; armed = R.armed rig.old; faults = R.faults rig.old })
-            (record { told = is_some (R.image rig.new); units = R.units rig.new; standing = R.standing rig.new; log = R.log rig.new; room = R.room rig.new; armed = R.armed rig.new; faults = R.faults rig.new }) }
+            → Sent self.now ios.now req.now pool.old pool.new fates.new.items (R.state rig.old) (R.state rig.new) }
         ensures fetched { (first_of req.now).dir ≡ Read
-            → Fetched self.now ios.now req.now pool.old pool.new fates.new.items
-            (record { told = is_some (R.image rig.old); units = R.units rig.old; standing = R.standing rig.old; log = R.log rig.old; room = R.room rig.old; armed = R.armed rig.old; faults = R.faults rig.old })
-            (record { told = is_some (R.image rig.new); units = R.units rig.new; standing = R.standing rig.new; log = R.log rig.new; room = R.room rig.new; armed = R.armed rig.new; faults = R.faults rig.new }) }
-        ensures recorded_out { (spec_at (R.standing rig.old) (first_of req.now).dev).size ≡ block_size (request_of ios.now (first_of req.now).op)
+            → Fetched self.now ios.now req.now pool.old pool.new fates.new.items (R.state rig.old) (R.state rig.new) }
+        ensures recorded_out { (spec_at (R.state rig.old).standing (first_of req.now).dev).size ≡ block_size (request_of ios.now (first_of req.now).op)
             → (first_of req.now).dir ≡ Write → any_bad (map (sends self.now ios.now (flat pool.old)) (blocks_in req.now)) ≡ false
-            → RecordedOut self.now ios.now req.now (flat pool.old) fates.new.items
-            (record { told = is_some (R.image rig.old); units = R.units rig.old; standing = R.standing rig.old; log = R.log rig.old; room = R.room rig.old; armed = R.armed rig.old; faults = R.faults rig.old })
-            (record { told = is_some (R.image rig.new); units = R.units rig.new; standing = R.standing rig.new; log = R.log rig.new; room = R.room rig.new; armed = R.armed rig.new; faults = R.faults rig.new }) }
-        ensures recorded_in { (spec_at (R.standing rig.old) (first_of req.now).dev).size ≡ block_size (request_of ios.now (first_of req.now).op)
+            → RecordedOut self.now ios.now req.now (flat pool.old) fates.new.items (R.state rig.old) (R.state rig.new) }
+        ensures recorded_in { (spec_at (R.state rig.old).standing (first_of req.now).dev).size ≡ block_size (request_of ios.now (first_of req.now).op)
             → (first_of req.now).dir ≡ Read
-            → RecordedIn self.now ios.now req.now pool.old pool.new fates.new.items
-            (record { told = is_some (R.image rig.old); units = R.units rig.old; standing = R.standing rig.old; log = R.log rig.old; room = R.room rig.old; armed = R.armed rig.old; faults = R.faults rig.old })
-            (record { told = is_some (R.image rig.new); units = R.units rig.new; standing = R.standing rig.new; log = R.log rig.new; room = R.room rig.new; armed = R.armed rig.new; faults = R.faults rig.new }) }
+            → RecordedIn self.now ios.now req.now pool.old pool.new fates.new.items (R.state rig.old) (R.state rig.new) }
         ensures settles { any_settled fates.new.items ≡ true }
         ensures count { length fates.new.items ≡ size req.now }
-        ensures went_out { (us : List Stored) → R.units rig.old ≡ Some us → IsBehind self.now ios.now req.now us (R.armed rig.old)
+        ensures went_out { (us : List Stored) → (R.state rig.old).units ≡ Some us → IsBehind self.now ios.now req.now us (R.state rig.old).armed
             → (first_of req.now).dir ≡ Write → any_bad (map (sends self.now ios.now (flat pool.old)) (blocks_in req.now)) ≡ false
-            → UpTo (λ stop. WentOut self.now ios.now req.now (flat pool.old) us stop fates.new.items
-            (record { told = is_some (R.image rig.old); units = R.units rig.old; standing = R.standing rig.old; log = R.log rig.old; room = R.room rig.old; armed = R.armed rig.old; faults = R.faults rig.old })
-            (record { told = is_some (R.image rig.new); units = R.units rig.new; standing = R.standing rig.new; log = R.log rig.new; room = R.room rig.new; armed = R.armed rig.new; faults = R.faults rig.new }))
-            (frame_size (unit_at us (first_of req.now).dev)) (R.faults rig.old) (R.faults rig.new) }
-        ensures came_in { (us : List Stored) → R.units rig.old ≡ Some us → IsBehind self.now ios.now req.now us (R.armed rig.old)
+            → UpTo (λ stop. WentOut self.now ios.now req.now (flat pool.old) us stop fates.new.items (R.state rig.old) (R.state rig.new))
+            (frame_size (unit_at us (first_of req.now).dev)) (R.state rig.old).faults (R.state rig.new).faults }
+        ensures came_in { (us : List Stored) → (R.state rig.old).units ≡ Some us → IsBehind self.now ios.now req.now us (R.state rig.old).armed
             → (first_of req.now).dir ≡ Read
-            → UpTo (λ stop. CameIn self.now ios.now req.now pool.old pool.new us stop fates.new.items
-            (record { told = is_some (R.image rig.old); units = R.units rig.old; standing = R.standing rig.old; log = R.log rig.old; room = R.room rig.old; armed = R.armed rig.old; faults = R.faults rig.old })
-            (record { told = is_some (R.image rig.new); units = R.units rig.new; standing = R.standing rig.new; log = R.log rig.new; room = R.room rig.new; armed = R.armed rig.new; faults = R.faults rig.new }))
-            (frame_size (unit_at us (first_of req.now).dev)) (R.faults rig.old) (R.faults rig.new) }
+            → UpTo (λ stop. CameIn self.now ios.now req.now pool.old pool.new us stop fates.new.items (R.state rig.old) (R.state rig.new))
+            (frame_size (unit_at us (first_of req.now).dev)) (R.state rig.old).faults (R.state rig.new).faults }
         ensures pages { length pool.new ≡ length pool.old }
-        ensures tells { is_some (R.image rig.new) ≡ is_some (R.image rig.old) }
-        ensures standing { R.standing rig.new ≡ R.standing rig.old }
-        ensures armed { R.armed rig.new ≡ R.armed rig.old }
+        ensures stays { Stays (R.state rig.old) (R.state rig.new) }
         ensures scratch { HoldsBlocks (block_len ios.now req.now) (size req.now) scratch.new }
         ensures keeps_room { KeepsRoom scratch.old scratch.new }
-        ensures spent { Spends (greatest_size (R.standing rig.old)) fates.new.items (R.room rig.old) (R.room rig.new) }
+        ensures spent { Spends (greatest_size (R.state rig.old).standing) fates.new.items (R.state rig.old).room (R.state rig.new).room }
         ensures capacity { vec_capacity fates.new ≡ vec_capacity fates.old }
     {
         fates.clear();

@@ -1,6 +1,6 @@
 //! Blocks on their way in.
 
-ghost use Rattle.std.specs.Prelude.{◌≡◌, ℕ, ◌+◌, ◌-◌, ◌*◌, ◌<◌, ◌≤◌, ◌^◌, ◌++◌, List, [], is_some, length, map, take, drop};
+ghost use Rattle.std.specs.Prelude.{◌≡◌, ℕ, ◌+◌, ◌-◌, ◌*◌, ◌<◌, ◌≤◌, ◌^◌, ◌++◌, List, [], length, map, take, drop};
 ghost use Rattle.std.specs.Vec.{vec_capacity};
 ghost use Rattle.page_pool.specs.Cells.{flat};
 ghost use Rattle.page_pool.specs.Pages.{AreWhole};
@@ -12,9 +12,10 @@ ghost use Rattle.cdb_codec.specs.Forms.{Fits, form};
 ghost use Rattle.cdb_codec.specs.declared.choice.Dir2.TheVariants.{In};
 ghost use Rattle.rig_api.specs.Log.{HasRoom};
 ghost use Rattle.rig_api.specs.Telling.{greatest_size};
+ghost use Rattle.rig_api.specs.State.{Exchanged};
 ghost use Rattle.dix_adapter.specs.Room.{HoldsBlocks, KeepsRoom};
 ghost use Rattle.block_path.specs.Routes.{wire_size};
-ghost use Rattle.dix_adapter.specs.Carried.{Exchanged, Fetched, carried, command_for, comes_by, comes_first, fates_in, frame_len, land, landed, lands_first};
+ghost use Rattle.dix_adapter.specs.Carried.{Fetched, carried, command_for, comes_by, comes_first, fates_in, frame_len, land, landed, lands_first};
 ghost use Rattle.dix_adapter.specs.Groups.{EndsInTime, IsGroup, IsProtect, block_len, blocks_in, data_cells, first_of, route_by, size, tuple_cells};
 ghost use Rattle.dix_adapter.specs.Walking.{HasHost, IsBefore, IsOnce, Walkable};
 
@@ -47,11 +48,9 @@ impl Adapter {
         requires scratch { HoldsBlocks (block_len ios.now req.now) (size req.now) scratch.old }
         requires none { fates.old.items ≡ [] }
         requires fates { size req.now ≤ vec_capacity fates.old }
-        requires device { (first_of req.now).dev < (R.standing rig.old).devices }
-        requires spare { HasRoom (greatest_size (R.standing rig.old)) 1 (size req.now) (R.room rig.old) }
-        ensures fetched { Fetched self.now ios.now req.now pool.old pool.new fates.new.items
-            (record { told = is_some (R.image rig.old); units = R.units rig.old; standing = R.standing rig.old; log = R.log rig.old; room = R.room rig.old; armed = R.armed rig.old; faults = R.faults rig.old })
-            (record { told = is_some (R.image rig.new); units = R.units rig.new; standing = R.standing rig.new; log = R.log rig.new; room = R.room rig.new; armed = R.armed rig.new; faults = R.faults rig.new }) }
+        requires device { (first_of req.now).dev < (R.state rig.old).standing.devices }
+        requires spare { HasRoom (greatest_size (R.state rig.old).standing) 1 (size req.now) (R.state rig.old).room }
+        ensures fetched { Fetched self.now ios.now req.now pool.old pool.new fates.new.items (R.state rig.old) (R.state rig.new) }
         ensures scratch { HoldsBlocks (block_len ios.now req.now) (size req.now) scratch.new }
         ensures keeps_room { KeepsRoom scratch.old scratch.new }
         ensures capacity { vec_capacity fates.new ≡ vec_capacity fates.old }
@@ -85,13 +84,11 @@ impl Adapter {
         requires some { 1 ≤ length req.now }
         requires count { 1 ≤ count }
         requires ends { (first_of req.now).lba + count < 2 ^ 64 }
-        requires device { (first_of req.now).dev < (R.standing rig.old).devices }
+        requires device { (first_of req.now).dev < (R.state rig.old).standing.devices }
         requires long { len ≤ length frames.old }
-        requires spare { HasRoom (greatest_size (R.standing rig.old)) 1 count (R.room rig.old) }
+        requires spare { HasRoom (greatest_size (R.state rig.old).standing) 1 count (R.state rig.old).room }
         ensures fits { Fits (command_for self.now In (first_of req.now).lba count) }
-        ensures exchanged { Exchanged
-            (record { told = is_some (R.image rig.old); units = R.units rig.old; standing = R.standing rig.old; log = R.log rig.old; room = R.room rig.old; armed = R.armed rig.old; faults = R.faults rig.old })
-            (record { told = is_some (R.image rig.new); units = R.units rig.new; standing = R.standing rig.new; log = R.log rig.new; room = R.room rig.new; armed = R.armed rig.new; faults = R.faults rig.new })
+        ensures exchanged { Exchanged (R.state rig.old) (R.state rig.new)
             (first_of req.now).dev (form (command_for self.now In (first_of req.now).lba count)) labels.now [] (take len frames.old) (take len frames.new) result }
         ensures long { length frames.new ≡ length frames.old }
     {

@@ -1,6 +1,6 @@
 //! Blocks on their way out.
 
-ghost use Rattle.std.specs.Prelude.{◌≡◌, true, false, ℕ, List, ◌&&◌, not, if◌then◌else◌, is_some, [], ◌+◌, ◌*◌, ◌<◌, ◌≤◌, ◌^◌, ◌++◌, length, map, replicate, take, drop};
+ghost use Rattle.std.specs.Prelude.{◌≡◌, true, false, ℕ, List, ◌&&◌, not, if◌then◌else◌, [], ◌+◌, ◌*◌, ◌<◌, ◌≤◌, ◌^◌, ◌++◌, length, map, replicate, take, drop};
 ghost use Rattle.std.specs.List.{All};
 ghost use Rattle.std.specs.Vec.{vec_capacity};
 ghost use Rattle.bio_core.specs.Bios.{block_size, blocks_of};
@@ -14,7 +14,8 @@ ghost use Rattle.cdb_codec.specs.declared.choice.Dir2.TheVariants.{Out};
 ghost use Rattle.pi_tuple.specs.Finds.{is_zero};
 ghost use Rattle.rig_api.specs.Log.{HasRoom};
 ghost use Rattle.rig_api.specs.Telling.{greatest_size};
-ghost use Rattle.dix_adapter.specs.Carried.{Exchanged, Gathers, Sent, Unsent, any_bad, any_fails, fails, command_for, frame_sent, sends, sends_by, sends_first, unsent};
+ghost use Rattle.rig_api.specs.State.{Exchanged};
+ghost use Rattle.dix_adapter.specs.Carried.{Gathers, Sent, Unsent, any_bad, any_fails, fails, command_for, frame_sent, sends, sends_by, sends_first, unsent};
 ghost use Rattle.dix_adapter.specs.Walking.{HasHost, IsBefore, Walkable};
 ghost use Rattle.dix_adapter.specs.Outcomes.{done_of as spec_done, rest_of};
 ghost use Rattle.dix_adapter.specs.Room.{HoldsBlocks, KeepsRoom};
@@ -49,14 +50,12 @@ impl Adapter {
         requires scratch { HoldsBlocks (block_len ios.now req.now) (size req.now) scratch.old }
         requires none { fates.old.items ≡ [] }
         requires fates { size req.now ≤ vec_capacity fates.old }
-        requires device { (first_of req.now).dev < (R.standing rig.old).devices }
-        requires spare { HasRoom (greatest_size (R.standing rig.old)) 1 (size req.now) (R.room rig.old) }
+        requires device { (first_of req.now).dev < (R.state rig.old).standing.devices }
+        requires spare { HasRoom (greatest_size (R.state rig.old).standing) 1 (size req.now) (R.state rig.old).room }
         ensures unsent { any_bad (map (sends self.now ios.now (flat pool.now)) (blocks_in req.now)) ≡ true
             → Unsent self.now ios.now req.now pool.now pool.now fates.new.items × (rig.new ≡ rig.old) }
         ensures sent { any_bad (map (sends self.now ios.now (flat pool.now)) (blocks_in req.now)) ≡ false
-            → Sent self.now ios.now req.now pool.now pool.now fates.new.items
-            (record { told = is_some (R.image rig.old); units = R.units rig.old; standing = R.standing rig.old; log = R.log rig.old; room = R.room rig.old; armed = R.armed rig.old; faults = R.faults rig.old })
-            (record { told = is_some (R.image rig.new); units = R.units rig.new; standing = R.standing rig.new; log = R.log rig.new; room = R.room rig.new; armed = R.armed rig.new; faults = R.faults rig.new }) }
+            → Sent self.now ios.now req.now pool.now pool.now fates.new.items (R.state rig.old) (R.state rig.new) }
         ensures scratch { HoldsBlocks (block_len ios.now req.now) (size req.now) scratch.new }
         ensures keeps_room { KeepsRoom scratch.old scratch.new }
         ensures capacity { vec_capacity fates.new ≡ vec_capacity fates.old }
@@ -244,12 +243,10 @@ impl Adapter {
         requires some { 1 ≤ length req.now }
         requires count { 1 ≤ count }
         requires ends { (first_of req.now).lba + count < 2 ^ 64 }
-        requires device { (first_of req.now).dev < (R.standing rig.old).devices }
-        requires spare { HasRoom (greatest_size (R.standing rig.old)) 1 count (R.room rig.old) }
+        requires device { (first_of req.now).dev < (R.state rig.old).standing.devices }
+        requires spare { HasRoom (greatest_size (R.state rig.old).standing) 1 count (R.state rig.old).room }
         ensures fits { Fits (command_for self.now Out (first_of req.now).lba count) }
-        ensures exchanged { Exchanged
-            (record { told = is_some (R.image rig.old); units = R.units rig.old; standing = R.standing rig.old; log = R.log rig.old; room = R.room rig.old; armed = R.armed rig.old; faults = R.faults rig.old })
-            (record { told = is_some (R.image rig.new); units = R.units rig.new; standing = R.standing rig.new; log = R.log rig.new; room = R.room rig.new; armed = R.armed rig.new; faults = R.faults rig.new })
+        ensures exchanged { Exchanged (R.state rig.old) (R.state rig.new)
             (first_of req.now).dev (form (command_for self.now Out (first_of req.now).lba count)) labels.now frames.now [] [] result }
     {
         let cdb = self.command(req, Dir2::Out, count);

@@ -2,8 +2,8 @@
 use Rattle.std.proofs.Common.{ℕ, ◌≡◌, ◌⊎◌, inl, inr, Bool, true, false, List, Option, Some, None, refl, sym, ap, subst}
 use Rattle.dix_base.specs.Told.{Calm}
 use Rattle.rig_api.specs.Head.{head_fault, head_of}
+use Rattle.rig_api.specs.State.{RigState}
 use Rattle.image_commands.specs.Causes.{CauseUnformatted, CauseUnmigrated, CauseUnscrubbed}
-use Rattle.image_commands.specs.Views.{View}
 use Rattle.image_commands.specs.declared.fault.Fault.TheVariants as fault
 use Rattle.nvme_command.specs.Causes.{CauseNotDone}
 use Rattle.nvme_command.specs.declared.fault.NvmFault.{NvmFault}
@@ -58,33 +58,33 @@ mirror_from_outside f (refusal.Stopped s) c alone = stopped_from_outside s (alon
 
 -- ---- the commands on images
 
-unformatted_for_memory : (r : Refusal) (name : List ℕ) (old new : View) → Calm old.seen.faults new.seen.faults → ByFault CauseUnformatted (fault_of r) name old new → status_of r ≡ status.Memory
+unformatted_for_memory : (r : Refusal) (name : List ℕ) (old new : RigState) → Calm old.faults new.faults → ByFault CauseUnformatted (fault_of r) name old new → status_of r ≡ status.Memory
 unformatted_for_memory refusal.Words name old new calm c = absurd c
 unformatted_for_memory (refusal.Stopped (stop.Script x)) name old new calm c = absurd c
 unformatted_for_memory (refusal.Stopped (stop.Image x)) name old new calm c = absurd c
 unformatted_for_memory (refusal.Stopped (stop.BadCapacity dev)) name old new calm c = absurd c
 unformatted_for_memory (refusal.Stopped (stop.Volume entry kind)) name old new calm c = absurd c
-unformatted_for_memory (refusal.Stopped stop.RigFault) name old new calm c = absurd (never_rose old.seen.faults new.seen.faults calm c.0)
+unformatted_for_memory (refusal.Stopped stop.RigFault) name old new calm c = absurd (never_rose old.faults new.faults calm c.0)
 unformatted_for_memory (refusal.Stopped stop.Memory) name old new calm c = refl
 unformatted_for_memory (refusal.Stopped stop.ReadFault) name old new calm c = absurd c
 
-unmigrated_for_memory : (r : Refusal) (image name : List ℕ) (old new : View) → old.image ≡ Some image → head_fault (head_of image) ≡ None → Calm old.seen.faults new.seen.faults → ByFault CauseUnmigrated (fault_of r) name old new → status_of r ≡ status.Memory
+unmigrated_for_memory : (r : Refusal) (image name : List ℕ) (old new : RigState) → old.image ≡ Some image → head_fault (head_of image) ≡ None → Calm old.faults new.faults → ByFault CauseUnmigrated (fault_of r) name old new → status_of r ≡ status.Memory
 unmigrated_for_memory refusal.Words image name old new i h calm c = absurd c
 unmigrated_for_memory (refusal.Stopped (stop.Script x)) image name old new i h calm c = absurd c
 unmigrated_for_memory (refusal.Stopped (stop.Image x)) image name old new i h calm c = absurd (no_head_fault image x name old new i c.1.image h c.0)
 unmigrated_for_memory (refusal.Stopped (stop.BadCapacity dev)) image name old new i h calm c = absurd c
 unmigrated_for_memory (refusal.Stopped (stop.Volume entry kind)) image name old new i h calm c = absurd c
-unmigrated_for_memory (refusal.Stopped stop.RigFault) image name old new i h calm c = absurd (never_rose old.seen.faults new.seen.faults calm c.0)
+unmigrated_for_memory (refusal.Stopped stop.RigFault) image name old new i h calm c = absurd (never_rose old.faults new.faults calm c.0)
 unmigrated_for_memory (refusal.Stopped stop.Memory) image name old new i h calm c = refl
 unmigrated_for_memory (refusal.Stopped stop.ReadFault) image name old new i h calm c = absurd c
 
-unscrubbed_for_memory : (r : Refusal) (image name : List ℕ) (old new : View) → old.image ≡ Some image → head_fault (head_of image) ≡ None → Calm old.seen.faults new.seen.faults → ByFault CauseUnscrubbed (fault_of r) name old new → status_of r ≡ status.Memory
+unscrubbed_for_memory : (r : Refusal) (image name : List ℕ) (old new : RigState) → old.image ≡ Some image → head_fault (head_of image) ≡ None → Calm old.faults new.faults → ByFault CauseUnscrubbed (fault_of r) name old new → status_of r ≡ status.Memory
 unscrubbed_for_memory refusal.Words image name old new i h calm c = absurd c
 unscrubbed_for_memory (refusal.Stopped (stop.Script x)) image name old new i h calm c = absurd c
 unscrubbed_for_memory (refusal.Stopped (stop.Image x)) image name old new i h calm c = absurd (no_head_fault image x name old new i c.1.image h c.0)
 unscrubbed_for_memory (refusal.Stopped (stop.BadCapacity dev)) image name old new i h calm c = absurd (told_is_good image name dev old new i c)
 unscrubbed_for_memory (refusal.Stopped (stop.Volume entry kind)) image name old new i h calm c = absurd c
-unscrubbed_for_memory (refusal.Stopped stop.RigFault) image name old new i h calm c = absurd (never_rose old.seen.faults new.seen.faults calm c.0)
+unscrubbed_for_memory (refusal.Stopped stop.RigFault) image name old new i h calm c = absurd (never_rose old.faults new.faults calm c.0)
 unscrubbed_for_memory (refusal.Stopped stop.Memory) image name old new i h calm c = refl
 unscrubbed_for_memory (refusal.Stopped stop.ReadFault) image name old new i h calm c = absurd c
 

@@ -4,10 +4,10 @@ use Rattle.std.specs.Prelude.{codes, decimal}
 use Rattle.target_answer.specs.declared.units.UnitSpec.{UnitSpec}
 use Rattle.volume_table.specs.declared.device.DeviceInfo.{DeviceInfo}
 use Rattle.rig_api.specs.Log.{Entry}
+use Rattle.rig_api.specs.State.{RigState}
 use Rattle.rig_discovery.specs.Discovery.{looks}
 use Rattle.pi_scrub.specs.declared.found.Found.{Found}
 use Rattle.image_commands.specs.Causes.{CauseUnscrubbed, WasFormatted, WasScrubbed}
-use Rattle.image_commands.specs.Views.{View}
 use Rattle.image_commands.specs.declared.fault.Fault.{Fault}
 use Rattle.image_commands.specs.declared.fault.Fault.TheVariants as fault
 use Rattle.report_text.specs.Report.{report}
@@ -35,14 +35,14 @@ refused w r f old new o n result cause written = record { verdict = Refused r; c
 
 -- ---- refusals by faults
 
-pub by_fault : (P : Fault → List ℕ → View → View → Type 0) (r : Refusal) (x : Fault) (name : List ℕ) (old new : View) → fault_of r ≡ Some x → P x name old new → ByFault P (fault_of r) name old new
+pub by_fault : (P : Fault → List ℕ → RigState → RigState → Type 0) (r : Refusal) (x : Fault) (name : List ℕ) (old new : RigState) → fault_of r ≡ Some x → P x name old new → ByFault P (fault_of r) name old new
 by_fault P r x name old new e cause = subst (λ (y : Option Fault). ByFault P y name old new) (sym e) cause
 
 pub by_nvm_fault : (r : Refusal) (x : NvmFault) (f : Facts) → nvm_fault_of r ≡ Some x → CauseNotDone x (image_in f.words) f.left f.left_after f.reads f.reads_after f.rig f.rig_after → ByNvmFault (nvm_fault_of r) f
 by_nvm_fault r x f e cause = subst (λ (y : Option NvmFault). ByNvmFault y f) (sym e) cause
 
 -- a scrub without the memory for its text looked at every block
-pub scrub_spared : (name : List ℕ) (devices : List DeviceInfo) (found : List Found) (old new : View) → WasScrubbed name devices found old new → CauseUnscrubbed fault.Memory name old new
+pub scrub_spared : (name : List ℕ) (devices : List DeviceInfo) (found : List Found) (old new : RigState) → WasScrubbed name devices found old new → CauseUnscrubbed fault.Memory name old new
 scrub_spared name devices found old new d =
     inr (record { devices = devices; told = d.told; discovered = d.discovered; left = []; found = found; looked = d.looked; units = d.units; armed = d.armed; standing = d.standing; count = d.count })
 
@@ -59,16 +59,16 @@ dropped [] ys = refl
 dropped (x ∷ xs) ys = dropped xs ys
 
 -- the records of a call that ran a script
-records_since : (run : Finished) (script : Script) (name : List ℕ) (old new : View) → HasRun run script name old new → new.seen.log ≡ old.seen.log ++ drop run.first new.seen.log
+records_since : (run : Finished) (script : Script) (name : List ℕ) (old new : RigState) → HasRun run script name old new → new.log ≡ old.log ++ drop run.first new.log
 records_since run script name old new r =
     let told = r.asked.told in
     let asks : List Entry = looks told.between.standing 0 told.found.answers in
-    let asked : r.told.seen.log ≡ old.seen.log ++ asks = told.found.log ∙ ap (λ v. v ++ asks) told.since.kept.log in
-    let more : new.seen.log ≡ old.seen.log ++ (asks ++ r.followed.goes.more) = r.followed.goes.records ∙ ap (λ v. v ++ r.followed.goes.more) asked ∙ append_assoc old.seen.log asks r.followed.goes.more in
-    let rest : drop run.first new.seen.log ≡ asks ++ r.followed.goes.more = ap (λ k. drop k new.seen.log) r.first ∙ ap (drop (length old.seen.log)) more ∙ dropped old.seen.log (asks ++ r.followed.goes.more) in
-    more ∙ ap (λ v. old.seen.log ++ v) (sym rest)
+    let asked : r.told.log ≡ old.log ++ asks = told.found.log ∙ ap (λ v. v ++ asks) told.since.kept.log in
+    let more : new.log ≡ old.log ++ (asks ++ r.followed.goes.more) = r.followed.goes.records ∙ ap (λ v. v ++ r.followed.goes.more) asked ∙ append_assoc old.log asks r.followed.goes.more in
+    let rest : drop run.first new.log ≡ asks ++ r.followed.goes.more = ap (λ k. drop k new.log) r.first ∙ ap (drop (length old.log)) more ∙ dropped old.log (asks ++ r.followed.goes.more) in
+    more ∙ ap (λ v. old.log ++ v) (sym rest)
 
 pub traced : (f : Facts) (run : Finished) (old new : Option (List ℕ)) (o n : ℕ) (result : Status) → HasRunSource run (call_of f) →
-    Written (done_status (has_bad run.stack.replies.items)) (report run.stack.replies.items ++ trace (drop run.first f.rig_after.seen.log)) old new o n result → EndedAs trace_work f old new o n result
+    Written (done_status (has_bad run.stack.replies.items)) (report run.stack.replies.items ++ trace (drop run.first f.rig_after.log)) old new o n result → EndedAs trace_work f old new o n result
 traced f run old new o n result ran written =
-    done trace_work (run, drop run.first f.rig_after.seen.log) f old new o n result (record { ran = ran; log_is = records_since run ran.script (image_in f.words) f.rig f.rig_after ran.ran }) written
+    done trace_work (run, drop run.first f.rig_after.log) f old new o n result (record { ran = ran; log_is = records_since run ran.script (image_in f.words) f.rig f.rig_after ran.ran }) written

@@ -1,12 +1,13 @@
 -- The rig is opened at most once in a call.
 use Rattle.std.proofs.Common.{ℕ, ◌≡◌, ◌⊎◌, inl, inr, List, Option, Some, None, ap, ◌∙◌}
 use Rattle.image_commands.specs.Causes.{CauseUnformatted, CauseUnmigrated, CauseUnscrubbed, CauseUntold, HasOpened}
-use Rattle.image_commands.specs.Views.{OpenedOnce, View}
+use Rattle.image_commands.specs.Views.{OpenedOnce}
 use Rattle.image_commands.specs.declared.fault.Fault.{Fault}
 use Rattle.image_commands.specs.declared.fault.Fault.TheVariants as fault
 use Rattle.nvme_command.proofs.Completes.{done_opens, not_done_opens}
 use Rattle.nvme_command.specs.declared.fault.NvmFault.{NvmFault}
 use Rattle.rig_api.specs.Telling.{Standing, Stayed}
+use Rattle.rig_api.specs.State.{RigState}
 use Rattle.dix_words.specs.Grammar.{image_in}
 use Rattle.dix_words.specs.declared.command.Command.{Command}
 use Rattle.dix_words.specs.declared.command.Command.TheVariants.{Run, Trace, Format, Migrate, Mirror, Scrub, Nvme, Modes, Big}
@@ -23,28 +24,28 @@ use Rattle.dix_run.specs.Verdict.{ByFault, ByNvmFault, Cause, CauseNotMirrored, 
 use Rattle.dix_run.specs.declared.refusal.Refusal.{Refusal}
 use Rattle.dix_run.specs.declared.refusal.Refusal.TheVariants as refusal
 
-stayed : (a b : View) → b ≡ a → Stayed a.standing b.standing
-stayed a b e = (ap (λ (v : View). v.standing.openings) e, ap (λ (v : View). v.standing.name) e)
+stayed : (a b : RigState) → b ≡ a → Stayed a.standing b.standing
+stayed a b e = (ap (λ (v : RigState). v.standing.openings) e, ap (λ (v : RigState). v.standing.name) e)
 
-opened_on : (name : List ℕ) (old between told new : View) → HasOpened name old between told → new.standing ≡ told.standing → OpenedOnce name old.standing new.standing
+opened_on : (name : List ℕ) (old between told new : RigState) → HasOpened name old between told → new.standing ≡ told.standing → OpenedOnce name old.standing new.standing
 opened_on name old between told new o same =
     let to : new.standing ≡ between.standing = same ∙ o.standing in
     inr (ap (λ (s : Standing). s.openings) to ∙ o.opened.opened.0, ap (λ (s : Standing). s.name) to ∙ o.opened.opened.1)
 
-opened_still : (name : List ℕ) (old between new : View) → HasOpened name old between new → OpenedOnce name old.standing new.standing
+opened_still : (name : List ℕ) (old between new : RigState) → HasOpened name old between new → OpenedOnce name old.standing new.standing
 opened_still name old between new o = inr (ap (λ (s : Standing). s.openings) o.standing ∙ o.opened.opened.0, ap (λ (s : Standing). s.name) o.standing ∙ o.opened.opened.1)
 
-untold_opens : (x : Fault) (name : List ℕ) (old new : View) → CauseUntold x name old new → OpenedOnce name old.standing new.standing
+untold_opens : (x : Fault) (name : List ℕ) (old new : RigState) → CauseUntold x name old new → OpenedOnce name old.standing new.standing
 untold_opens (fault.Image f) name old new c = inr c.0.opened
 untold_opens (fault.BadCapacity dev) name old new c = opened_still name old c.between new c.since
 untold_opens fault.RigFault name old new c = inr c.1
 untold_opens fault.Memory name old new c = c.1
 
-short_opens : (name : List ℕ) (old new : View) → StoppedShort name old new → OpenedOnce name old.standing new.standing
+short_opens : (name : List ℕ) (old new : RigState) → StoppedShort name old new → OpenedOnce name old.standing new.standing
 short_opens name old new (inl c) = c.1
 short_opens name old new (inr c) = opened_still name old c.1.told.between new c.1.told.since
 
-stopped_opens : (s : Stop) (script : Script) (name : List ℕ) (old new : View) → CauseStopped s script name old new → OpenedOnce name old.standing new.standing
+stopped_opens : (s : Stop) (script : Script) (name : List ℕ) (old new : RigState) → CauseStopped s script name old new → OpenedOnce name old.standing new.standing
 stopped_opens (stop.Script bad) script name old new c = opened_still name old c.asked.told.between new c.asked.told.since
 stopped_opens (stop.Image x) script name old new c = untold_opens (fault.Image x) name old new c
 stopped_opens (stop.BadCapacity dev) script name old new c = untold_opens (fault.BadCapacity dev) name old new c
@@ -65,11 +66,11 @@ run_opens : (f : Facts) (run : Finished) → HasRunSource run (call_of f) → Op
 run_opens f run r = opened_on (image_in f.words) f.rig r.ran.asked.told.between r.ran.told f.rig_after r.ran.asked.told.since r.ran.followed.goes.standing
 
 -- a script on a mirror that stopped, maybe in its middle
-midway_opens : (s : Script) (name : List ℕ) (old new : View) → StoppedShort name old new ⊎ StoppedMidway s name old new → OpenedOnce name old.standing new.standing
+midway_opens : (s : Script) (name : List ℕ) (old new : RigState) → StoppedShort name old new ⊎ StoppedMidway s name old new → OpenedOnce name old.standing new.standing
 midway_opens s name old new (inl c) = short_opens name old new c
 midway_opens s name old new (inr c) = opened_on name old c.asked.told.between c.told new c.asked.told.since (c.broke.under_way.standing ∙ c.broke.served.stretches.standing)
 
-unmirrored_opens : (s : Stop) (script : Script) (name : List ℕ) (old new : View) → CauseMidway s script name old new → OpenedOnce name old.standing new.standing
+unmirrored_opens : (s : Stop) (script : Script) (name : List ℕ) (old new : RigState) → CauseMidway s script name old new → OpenedOnce name old.standing new.standing
 unmirrored_opens (stop.Script bad) script name old new c = opened_still name old c.asked.told.between new c.asked.told.since
 unmirrored_opens (stop.Image x) script name old new c = untold_opens (fault.Image x) name old new c
 unmirrored_opens (stop.BadCapacity dev) script name old new c = untold_opens (fault.BadCapacity dev) name old new c
@@ -86,25 +87,25 @@ not_mirrored_opens f (refusal.Stopped s) (inr c) = unmirrored_opens s c.0 (image
 mirror_opens : (f : Facts) (run : Mirrored) → HasMirroredSource run (call_of f) → OpensOnce f
 mirror_opens f run r = opened_on (image_in f.words) f.rig r.ran.asked.told.between r.ran.told f.rig_after r.ran.asked.told.since r.ran.ended.stretches.standing
 
-format_opens : (x : Option Fault) (name : List ℕ) (old new : View) → ByFault CauseUnformatted x name old new → OpenedOnce name old.standing new.standing
+format_opens : (x : Option Fault) (name : List ℕ) (old new : RigState) → ByFault CauseUnformatted x name old new → OpenedOnce name old.standing new.standing
 format_opens None name old new c = absurd c
 format_opens (Some (fault.Image f)) name old new c = absurd c
 format_opens (Some (fault.BadCapacity dev)) name old new c = absurd c
 format_opens (Some fault.RigFault) name old new c = inr c.1
 format_opens (Some fault.Memory) name old new c = c.0
 
-migrate_opens : (x : Option Fault) (name : List ℕ) (old new : View) → ByFault CauseUnmigrated x name old new → OpenedOnce name old.standing new.standing
+migrate_opens : (x : Option Fault) (name : List ℕ) (old new : RigState) → ByFault CauseUnmigrated x name old new → OpenedOnce name old.standing new.standing
 migrate_opens None name old new c = absurd c
 migrate_opens (Some (fault.Image f)) name old new c = inr c.0.opened
 migrate_opens (Some (fault.BadCapacity dev)) name old new c = absurd c
 migrate_opens (Some fault.RigFault) name old new c = inr c.1
 migrate_opens (Some fault.Memory) name old new c = c.1
 
-spared_opens : (name : List ℕ) (old new : View) → CauseUnscrubbed fault.Memory name old new → OpenedOnce name old.standing new.standing
+spared_opens : (name : List ℕ) (old new : RigState) → CauseUnscrubbed fault.Memory name old new → OpenedOnce name old.standing new.standing
 spared_opens name old new (inl c) = c.1
 spared_opens name old new (inr c) = opened_on name old c.discovered.between c.told new c.discovered.since c.standing
 
-scrub_opens : (x : Option Fault) (name : List ℕ) (old new : View) → ByFault CauseUnscrubbed x name old new → OpenedOnce name old.standing new.standing
+scrub_opens : (x : Option Fault) (name : List ℕ) (old new : RigState) → ByFault CauseUnscrubbed x name old new → OpenedOnce name old.standing new.standing
 scrub_opens None name old new c = absurd c
 scrub_opens (Some (fault.Image f)) name old new c = untold_opens (fault.Image f) name old new c
 scrub_opens (Some (fault.BadCapacity dev)) name old new c = untold_opens (fault.BadCapacity dev) name old new c

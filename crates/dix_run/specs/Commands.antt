@@ -59,7 +59,7 @@ pub record IsRightImage (f : Facts) : Type 0 where
   pub image : List ℕ
   pub image_is : f.rig.image ≡ Some image
   pub head : head_fault (head_of image) ≡ None
-  pub calm : Calm f.rig.seen.faults f.rig_after.seen.faults
+  pub calm : Calm f.rig.faults f.rig_after.faults
 
 -- ---- words that are no command
 
@@ -105,7 +105,7 @@ run_work = record {
 -- The script of the source was run, and these are the records of the call.
 pub record HasTraced (run : Finished) (log : List Entry) (f : Facts) : Type 0 where
   pub ran : HasRunSource run (call_of f)
-  pub log_is : f.rig_after.seen.log ≡ f.rig.seen.log ++ log
+  pub log_is : f.rig_after.log ≡ f.rig.log ++ log
 
 abbrev pub trace_work : Work
 trace_work = record {
@@ -127,7 +127,7 @@ format_work us = record {
   status = λ x. status.Whole;
   text = λ x. codes "formatted " ++ (decimal (length us) ++ codes "\n");
   WasRefused = λ r f. ByFault CauseUnformatted (fault_of r) (image_in f.words) f.rig f.rig_after × LeavesSource f;
-  IsRight = λ f. Calm f.rig.seen.faults f.rig_after.seen.faults;
+  IsRight = λ f. Calm f.rig.faults f.rig_after.faults;
   Ends = WholeOrWants;
 }
 
@@ -196,7 +196,7 @@ pub record IsRightNvme (f : Facts) : Type 0 where
   pub head : head_fault (head_of image) ≡ None
   pub fit : misfit (map info_of (units_of (head_of image))) lines ≡ None
   pub reads : Calm f.reads f.reads_after
-  pub calm : Calm f.rig.seen.faults f.rig_after.seen.faults
+  pub calm : Calm f.rig.faults f.rig_after.faults
 
 -- whether a command failed, and the completions as text
 abbrev pub nvme_work : Work

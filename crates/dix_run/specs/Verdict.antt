@@ -1,6 +1,5 @@
 use Rattle.std.specs.Prelude.{ℕ, ◌≡◌, ◌⊎◌, Bool, if◌then◌else◌, List, codes, Option, Some, None}
 use Rattle.dix_base.specs.Told.{Appended, AppendedSome, Calm, Rose}
-use Rattle.image_commands.specs.Views.{View}
 use Rattle.image_commands.specs.declared.fault.Fault.{Fault}
 use Rattle.image_commands.specs.declared.fault.Fault.TheVariants as fault
 use Rattle.nvme_command.specs.Causes.{CauseNotDone}
@@ -16,6 +15,7 @@ use Rattle.dix_run.specs.declared.status.Status.{Status}
 use Rattle.dix_run.specs.declared.status.Status.TheVariants as status
 use Rattle.dix_run.specs.declared.refusal.Refusal.{Refusal}
 use Rattle.dix_run.specs.declared.refusal.Refusal.TheVariants as refusal
+use Rattle.rig_api.specs.State.{RigState}
 
 -- what a call of the program speaks of: its words, the source and the rig, before and after
 pub record Facts : Type 0 where
@@ -24,8 +24,8 @@ pub record Facts : Type 0 where
   pub left_after : Option (List ℕ)
   pub reads : ℕ
   pub reads_after : ℕ
-  pub rig : View
-  pub rig_after : View
+  pub rig : RigState
+  pub rig_after : RigState
 
 -- the same of a call that runs a script, which knows of the words the image's name
 abbrev pub call_of : Facts → Call
@@ -88,7 +88,7 @@ fault_of refusal.Words = None
 fault_of (refusal.Stopped s) = stop_fault s
 
 -- The refusal is by a fault that has its cause.
-abbrev pub ByFault : (Fault → List ℕ → View → View → Type 0) → Option Fault → List ℕ → View → View → Type 0
+abbrev pub ByFault : (Fault → List ℕ → RigState → RigState → Type 0) → Option Fault → List ℕ → RigState → RigState → Type 0
 ByFault Cause None name old new = ⊥
 ByFault Cause (Some x) name old new = Cause x name old new
 

@@ -3,7 +3,6 @@
 ghost use Rattle.std.specs.Prelude.{◌≡◌, ◌≤◌, ◌++◌, ℕ, List, Option, codes, decimal, length, true};
 ghost use Rattle.target_answer.specs.Headers.{is_layout};
 ghost use Rattle.dix_words.specs.Grammar.{word_bytes};
-ghost use Rattle.image_commands.specs.Views.{seen, view};
 ghost use Rattle.dix_run.specs.Commands.{format_work, migrate_work, scrub_work};
 ghost use Rattle.dix_run.specs.Verdict.{EndedAs};
 
@@ -45,8 +44,8 @@ pub(crate) fn format<R: Rig, O: Sink>(
       left_after = left;
       reads = reads;
       reads_after = reads;
-      rig = view (R.image rig.old) (R.standing rig.old) (seen (R.units rig.old) (R.armed rig.old) (R.log rig.old) (R.faults rig.old));
-      rig_after = view (R.image rig.new) (R.standing rig.new) (seen (R.units rig.new) (R.armed rig.new) (R.log rig.new) (R.faults rig.new));
+      rig = R.state rig.old;
+      rig_after = R.state rig.new;
     }) (O.taken out.old) (O.taken out.new) (O.faults out.old) (O.faults out.new) result }
 {
     let units = units.as_slice();
@@ -73,8 +72,8 @@ pub(crate) fn migrate<R: Rig, O: Sink>(
       left_after = left;
       reads = reads;
       reads_after = reads;
-      rig = view (R.image rig.old) (R.standing rig.old) (seen (R.units rig.old) (R.armed rig.old) (R.log rig.old) (R.faults rig.old));
-      rig_after = view (R.image rig.new) (R.standing rig.new) (seen (R.units rig.new) (R.armed rig.new) (R.log rig.new) (R.faults rig.new));
+      rig = R.state rig.old;
+      rig_after = R.state rig.new;
     }) (O.taken out.old) (O.taken out.new) (O.faults out.old) (O.faults out.new) result }
 {
     match migrate_image(alloc, image_of(words), rig) {
@@ -100,8 +99,8 @@ pub(crate) fn scrub<R: Rig, O: Sink>(
       left_after = left;
       reads = reads;
       reads_after = reads;
-      rig = view (R.image rig.old) (R.standing rig.old) (seen (R.units rig.old) (R.armed rig.old) (R.log rig.old) (R.faults rig.old));
-      rig_after = view (R.image rig.new) (R.standing rig.new) (seen (R.units rig.new) (R.armed rig.new) (R.log rig.new) (R.faults rig.new));
+      rig = R.state rig.old;
+      rig_after = R.state rig.new;
     }) (O.taken out.old) (O.taken out.new) (O.faults out.old) (O.faults out.new) result }
 {
     let mut found = Vec::new(alloc);

@@ -1,7 +1,6 @@
 //! Running a script on a mirror.
 
 ghost use Rattle.dix_words.specs.Grammar.{word_bytes};
-ghost use Rattle.image_commands.specs.Views.{seen, view};
 ghost use Rattle.mirror_verdict.specs.Texts.{is_any_lost, mirror_text};
 ghost use Rattle.dix_run.specs.Commands.{mirror_work};
 ghost use Rattle.dix_run.specs.Verdict.{EndedAs, Facts, Written, done_status};
@@ -39,8 +38,8 @@ pub(crate) fn mirror_image<S: Source, R: Rig, O: Sink>(
       left_after = S.left source.new;
       reads = S.faults source.old;
       reads_after = S.faults source.new;
-      rig = view (R.image rig.old) (R.standing rig.old) (seen (R.units rig.old) (R.armed rig.old) (R.log rig.old) (R.faults rig.old));
-      rig_after = view (R.image rig.new) (R.standing rig.new) (seen (R.units rig.new) (R.armed rig.new) (R.log rig.new) (R.faults rig.new));
+      rig = R.state rig.old;
+      rig_after = R.state rig.new;
     } in
         EndedAs mirror_work f (O.taken out.old) (O.taken out.new) (O.faults out.old) (O.faults out.new) result }
 {

@@ -1,7 +1,6 @@
 //! NVM commands on an image.
 
 ghost use Rattle.dix_words.specs.Grammar.{word_bytes};
-ghost use Rattle.image_commands.specs.Views.{seen, view};
 ghost use Rattle.dix_run.specs.Commands.{nvme_work};
 ghost use Rattle.dix_run.specs.Verdict.{EndedAs, Facts};
 
@@ -28,8 +27,8 @@ pub(crate) fn nvme<S: Source, R: Rig, O: Sink>(
       left_after = S.left source.new;
       reads = S.faults source.old;
       reads_after = S.faults source.new;
-      rig = view (R.image rig.old) (R.standing rig.old) (seen (R.units rig.old) (R.armed rig.old) (R.log rig.old) (R.faults rig.old));
-      rig_after = view (R.image rig.new) (R.standing rig.new) (seen (R.units rig.new) (R.armed rig.new) (R.log rig.new) (R.faults rig.new));
+      rig = R.state rig.old;
+      rig_after = R.state rig.new;
     } in
         EndedAs nvme_work f (O.taken out.old) (O.taken out.new) (O.faults out.old) (O.faults out.new) result }
 {

@@ -2,7 +2,6 @@
 
 ghost use Rattle.std.specs.Prelude.{◌≡◌};
 ghost use Rattle.dix_words.specs.Grammar.{word_bytes};
-ghost use Rattle.image_commands.specs.Views.{seen, view};
 ghost use Rattle.dix_run.specs.Headline.{Carries};
 ghost use Rattle.dix_run.specs.Verdict.{Facts, Written, done_status, refusal_text, status_of};
 
@@ -59,8 +58,8 @@ pub fn run<S: Source, R: Rig, O: Sink>(
       left_after = S.left script.new;
       reads = S.faults script.old;
       reads_after = S.faults script.new;
-      rig = view (R.image rig.old) (R.standing rig.old) (seen (R.units rig.old) (R.armed rig.old) (R.log rig.old) (R.faults rig.old));
-      rig_after = view (R.image rig.new) (R.standing rig.new) (seen (R.units rig.new) (R.armed rig.new) (R.log rig.new) (R.faults rig.new));
+      rig = R.state rig.old;
+      rig_after = R.state rig.new;
     } in
         Carries f (O.taken out.old) (O.taken out.new) (O.faults out.old) (O.faults out.new) result }
 {

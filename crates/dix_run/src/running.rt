@@ -2,7 +2,6 @@
 
 ghost use Rattle.std.specs.Prelude.{◌≤◌, ◌++◌, drop, length};
 ghost use Rattle.dix_words.specs.Grammar.{word_bytes};
-ghost use Rattle.image_commands.specs.Views.{seen, view};
 ghost use Rattle.report_text.specs.Report.{report};
 ghost use Rattle.report_text.specs.Trace.{trace};
 ghost use Rattle.script_verdict.specs.Texts.{has_bad};
@@ -30,8 +29,8 @@ fn report_run<O: Sink>(out: &mut O, run: &Finished) -> Status
 
 /// Writes the report of a run, and behind it the trace of the records of its call.
 fn trace_run<O: Sink, R: Rig>(out: &mut O, run: &Finished, rig: &R) -> Status
-    requires { run.now.first ≤ length (R.log rig.now) }
-    ensures { Written (done_status (has_bad run.now.stack.replies.items)) (report run.now.stack.replies.items ++ trace (drop run.now.first (R.log rig.now))) (O.taken out.old) (O.taken out.new) (O.faults out.old) (O.faults out.new) result }
+    requires { run.now.first ≤ length (R.state rig.now).log }
+    ensures { Written (done_status (has_bad run.now.stack.replies.items)) (report run.now.stack.replies.items ++ trace (drop run.now.first (R.state rig.now).log)) (O.taken out.old) (O.taken out.new) (O.faults out.old) (O.faults out.new) result }
 {
     match print_traced_run(out, run, rig) {
         Ok(()) => status_for(run.has_bad()),
@@ -53,8 +52,8 @@ pub(crate) fn run_image<S: Source, R: Rig, O: Sink>(
       left_after = S.left source.new;
       reads = S.faults source.old;
       reads_after = S.faults source.new;
-      rig = view (R.image rig.old) (R.standing rig.old) (seen (R.units rig.old) (R.armed rig.old) (R.log rig.old) (R.faults rig.old));
-      rig_after = view (R.image rig.new) (R.standing rig.new) (seen (R.units rig.new) (R.armed rig.new) (R.log rig.new) (R.faults rig.new));
+      rig = R.state rig.old;
+      rig_after = R.state rig.new;
     } in
         EndedAs run_work f (O.taken out.old) (O.taken out.new) (O.faults out.old) (O.faults out.new) result }
 {
@@ -78,8 +77,8 @@ pub(crate) fn trace_image<S: Source, R: Rig, O: Sink>(
       left_after = S.left source.new;
       reads = S.faults source.old;
       reads_after = S.faults source.new;
-      rig = view (R.image rig.old) (R.standing rig.old) (seen (R.units rig.old) (R.armed rig.old) (R.log rig.old) (R.faults rig.old));
-      rig_after = view (R.image rig.new) (R.standing rig.new) (seen (R.units rig.new) (R.armed rig.new) (R.log rig.new) (R.faults rig.new));
+      rig = R.state rig.old;
+      rig_after = R.state rig.new;
     } in
         EndedAs trace_work f (O.taken out.old) (O.taken out.new) (O.faults out.old) (O.faults out.new) result }
 {

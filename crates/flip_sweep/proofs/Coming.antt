@@ -5,11 +5,11 @@ use Rattle.image_scripts.specs.Over.{image_with, left_by, opening_over, replied,
 use Rattle.image_scripts.proofs.FreshHead.{right_head, units_back}
 use Rattle.image_scripts.proofs.Got.{got_walked}
 use Rattle.image_scripts.proofs.Told.{IsAfter, after, head_asked, image_after, units_asked}
-use Rattle.image_commands.specs.Views.{View}
 use Rattle.image_layout.proofs.Heads.{right_units, right_head as right_parts}
 use Rattle.page_pool.specs.Cells.{flat}
 use Rattle.rig_api.specs.Head.{Head, head_fault, head_of}
 use Rattle.rig_api.specs.Telling.{IsStanding, Standing, own_units, units_told}
+use Rattle.rig_api.specs.State.{RigState}
 use Rattle.script_text.specs.Bindings.{binding_fault}
 use Rattle.script_text.specs.declared.script.Script.{Script}
 use Rattle.script_verdict.specs.Verdict.{CauseStopped, Followed, HasRun, WasAsked, devices_of}
@@ -44,15 +44,15 @@ fresh_long us h =
 
 -- ---- what a rig over a store in memory tells afterwards
 
-pub record IsTold (image image' : List ℕ) (old new : View) : Type 0 where
+pub record IsTold (image image' : List ℕ) (old new : RigState) : Type 0 where
   pub image_is : old.image ≡ Some image
   pub left_is : new.image ≡ Some image'
-  pub laid : new.seen.units ≡ units_told new.standing new.image
+  pub laid : new.units ≡ units_told new.standing new.image
   pub stands : IsStanding new.standing new.image
-  pub calm : new.seen.faults ≡ 0
+  pub calm : new.faults ≡ 0
 
-stays : (image image' name : List ℕ) (devices : List DeviceInfo) (old told new : View) → IsTold image image' old new → head_fault (head_of image) ≡ None → WasAsked name devices old told → new.standing ≡ told.standing
-    → (left : List Stored) → new.seen.units ≡ Some left → IsAfter image image' left
+stays : (image image' name : List ℕ) (devices : List DeviceInfo) (old told new : RigState) → IsTold image image' old new → head_fault (head_of image) ≡ None → WasAsked name devices old told → new.standing ≡ told.standing
+    → (left : List Stored) → new.units ≡ Some left → IsAfter image image' left
 stays image image' name devices old told new t right asked same left e =
     let s = new.standing in
     after s image image' left right
@@ -73,7 +73,7 @@ pub record Came (script : Script) (image image' : List ℕ) (run : Finished) : T
 behind_head : (image : List ℕ) (blocks : List (List ℕ)) → 512 ≤ length image → drop 512 (image_with image blocks) ≡ joined blocks
 behind_head image blocks l = drop_at (take 512 image) (joined blocks) 512 (let e = length-take 512 image in omega (arith, e, l))
 
-pub came : (script : Script) (image image' name : List ℕ) (run : Finished) (old new : View) → head_fault (head_of image) ≡ None → 512 ≤ length image → IsTold image image' old new → HasRun run script name old new → Came script image image' run
+pub came : (script : Script) (image image' name : List ℕ) (run : Finished) (old new : RigState) → head_fault (head_of image) ≡ None → 512 ≤ length image → IsTold image image' old new → HasRun run script name old new → Came script image image' run
 came script image image' name run old new right long t r =
     let ds : r.devices ≡ devices_of image = image_devices name r.devices old r.told image r.asked t.image_is in
     let same : r.table ≡ volume_over script image = table_is script r.devices (devices_of image) r.table ds r.made in
@@ -101,7 +101,7 @@ pub record IsSeen (script : Script) (us : List UnitSpec) (c : CameRun) : Type 0 
   pub comes : seen_of c script.pages ≡ came_to script us
   pub long : length c.rig.store.bytes ≡ image_size us
 
-pub seen : (script : Script) (us : List UnitSpec) (c : CameRun) (name : List ℕ) (old new : View) → is_layout us ≡ true → IsTold (formatted us) c.rig.store.bytes old new → HasRun c.run script name old new → IsSeen script us c
+pub seen : (script : Script) (us : List UnitSpec) (c : CameRun) (name : List ℕ) (old new : RigState) → is_layout us ≡ true → IsTold (formatted us) c.rig.store.bytes old new → HasRun c.run script name old new → IsSeen script us c
 seen script us c name old new h t r =
     let l = fresh_long us h in
     let k = long_enough us in
@@ -113,7 +113,7 @@ seen script us c name old new h t r =
 
 -- ---- or none
 
-pub no_run : (r : Refusal) (script : Script) (image image' name : List ℕ) (old new : View) → head_fault (head_of image) ≡ None → IsTold image image' old new → CauseStopped r script name old new → CauseNoRun r script image
+pub no_run : (r : Refusal) (script : Script) (image image' name : List ℕ) (old new : RigState) → head_fault (head_of image) ≡ None → IsTold image image' old new → CauseStopped r script name old new → CauseNoRun r script image
 no_run (refusal.Script bad) script image image' name old new right t u =
     let ds : u.devices ≡ devices_of image = image_devices name u.devices old new image u.asked t.image_is in
     let same : u.table ≡ volume_over script image = table_is script u.devices (devices_of image) u.table ds u.made in (
@@ -125,7 +125,7 @@ no_run (refusal.BadCapacity dev) script image image' name old new right t c = ab
 no_run (refusal.Volume entry kind) script image image' name old new right t u =
     let ds : u.devices ≡ devices_of image = image_devices name u.devices old new image u.asked t.image_is in
     ap (λ (x : List DeviceInfo). table_fault script.entries x script.block) (sym ds) ∙ u.bad
-no_run refusal.RigFault script image image' name old new right t c = absurd (never_rose old.seen.faults new.seen.faults (let e = t.calm in (omega (arith, e), omega (arith, e))) c.0)
+no_run refusal.RigFault script image image' name old new right t c = absurd (never_rose old.faults new.faults (let e = t.calm in (omega (arith, e), omega (arith, e))) c.0)
 no_run refusal.Memory script image image' name old new right t c = tt
 no_run refusal.ReadFault script image image' name old new right t c = absurd c
 

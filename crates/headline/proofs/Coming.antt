@@ -38,8 +38,8 @@ pub record IsCalled (way : Way) (image text image' : List ℕ) (f : Facts) : Typ
   pub reads : Calm f.reads f.reads_after
   pub image_is : f.rig.image ≡ Some image
   pub left_is : f.rig_after.image ≡ Some image'
-  pub faults : f.rig_after.seen.faults ≡ 0
-  pub laid : f.rig_after.seen.units ≡ units_told f.rig_after.standing f.rig_after.image
+  pub faults : f.rig_after.faults ≡ 0
+  pub laid : f.rig_after.units ≡ units_told f.rig_after.standing f.rig_after.image
   pub standing : IsStanding f.rig_after.standing f.rig_after.image
   pub bytes : All (λ x. x < 256) image
 
@@ -59,27 +59,27 @@ wrote w v text' o n result good (inr e) = absurd (good e.0)
 no_rise : (o n : ℕ) → n ≡ 0 → Rose o n → ⊥
 no_rise o n e r = never_rose o n (omega (arith, e), omega (arith, e)) r
 
-no_rig_fault : (f : Facts) → f.rig_after.seen.faults ≡ 0 → CauseRefused stop.RigFault (call_of f) → ⊥
+no_rig_fault : (f : Facts) → f.rig_after.faults ≡ 0 → CauseRefused stop.RigFault (call_of f) → ⊥
 no_rig_fault f e (inl c) = c.0
-no_rig_fault f e (inr c) = no_rise f.rig.seen.faults f.rig_after.seen.faults e c.2.0
+no_rig_fault f e (inr c) = no_rise f.rig.faults f.rig_after.faults e c.2.0
 
-for_memory : (f : Facts) (s : Stop) → f.rig_after.seen.faults ≡ 0 → CauseRefused s (call_of f) → (s ≡ stop.Memory) ⊎ (s ≡ stop.RigFault) → status_of (refusal.Stopped s) ≡ status.Memory
+for_memory : (f : Facts) (s : Stop) → f.rig_after.faults ≡ 0 → CauseRefused s (call_of f) → (s ≡ stop.Memory) ⊎ (s ≡ stop.RigFault) → status_of (refusal.Stopped s) ≡ status.Memory
 for_memory f s e c (inl m) = ap (λ (x : Stop). status_of (refusal.Stopped x)) m
 for_memory f s e c (inr m) = absurd (no_rig_fault f e (subst (λ (x : Stop). CauseRefused x (call_of f)) m c))
 
-refused_for_memory : (f : Facts) (r : Refusal) → f.rig_after.seen.faults ≡ 0 → CauseNotRun r f → ((s : Stop) → CauseRefused s (call_of f) → (s ≡ stop.Memory) ⊎ (s ≡ stop.RigFault)) → status_of r ≡ status.Memory
+refused_for_memory : (f : Facts) (r : Refusal) → f.rig_after.faults ≡ 0 → CauseNotRun r f → ((s : Stop) → CauseRefused s (call_of f) → (s ≡ stop.Memory) ⊎ (s ≡ stop.RigFault)) → status_of r ≡ status.Memory
 refused_for_memory f refusal.Words e c alone = absurd c
 refused_for_memory f (refusal.Stopped s) e c alone = for_memory f s e c (alone s c)
 
-no_rig_fault_mirrored : (f : Facts) → f.rig_after.seen.faults ≡ 0 → CauseUnmirrored stop.RigFault (call_of f) → ⊥
+no_rig_fault_mirrored : (f : Facts) → f.rig_after.faults ≡ 0 → CauseUnmirrored stop.RigFault (call_of f) → ⊥
 no_rig_fault_mirrored f e (inl c) = c.0
-no_rig_fault_mirrored f e (inr c) = no_rise f.rig.seen.faults f.rig_after.seen.faults e c.2.0
+no_rig_fault_mirrored f e (inr c) = no_rise f.rig.faults f.rig_after.faults e c.2.0
 
-for_memory_mirrored : (f : Facts) (s : Stop) → f.rig_after.seen.faults ≡ 0 → CauseUnmirrored s (call_of f) → (s ≡ stop.Memory) ⊎ (s ≡ stop.RigFault) → status_of (refusal.Stopped s) ≡ status.Memory
+for_memory_mirrored : (f : Facts) (s : Stop) → f.rig_after.faults ≡ 0 → CauseUnmirrored s (call_of f) → (s ≡ stop.Memory) ⊎ (s ≡ stop.RigFault) → status_of (refusal.Stopped s) ≡ status.Memory
 for_memory_mirrored f s e c (inl m) = ap (λ (x : Stop). status_of (refusal.Stopped x)) m
 for_memory_mirrored f s e c (inr m) = absurd (no_rig_fault_mirrored f e (subst (λ (x : Stop). CauseUnmirrored x (call_of f)) m c))
 
-unmirrored_for_memory : (f : Facts) (r : Refusal) → f.rig_after.seen.faults ≡ 0 → CauseNotMirrored r f → ((s : Stop) → CauseUnmirrored s (call_of f) → (s ≡ stop.Memory) ⊎ (s ≡ stop.RigFault)) → status_of r ≡ status.Memory
+unmirrored_for_memory : (f : Facts) (r : Refusal) → f.rig_after.faults ≡ 0 → CauseNotMirrored r f → ((s : Stop) → CauseUnmirrored s (call_of f) → (s ≡ stop.Memory) ⊎ (s ≡ stop.RigFault)) → status_of r ≡ status.Memory
 unmirrored_for_memory f refusal.Words e c alone = absurd c
 unmirrored_for_memory f (refusal.Stopped s) e c alone = for_memory_mirrored f s e c (alone s c)
 

@@ -2,7 +2,6 @@
 use Rattle.std.proofs.Common.{◌≡◌, ℕ, List, Some, arith}
 use Rattle.dix_base.specs.Told.{Calm}
 use Rattle.target_answer.specs.Target.{Stored}
-use Rattle.image_commands.specs.Views.{View}
 use Rattle.script_text.specs.declared.script.Script.{Script}
 use Rattle.mirror_volume.specs.Enough.{WasEnough}
 use Rattle.mirror_volume.specs.Premises.{IsOneGoodRun}
@@ -10,14 +9,15 @@ use Rattle.mirror_verdict.specs.Stages.{HasServed}
 use Rattle.mirror_verdict.specs.Verdict.{HasMirrored}
 use Rattle.mirror_verdict.proofs.Mirroring.{calm-names-none}
 use Rattle.mirror_verdict.specs.declared.mirrored.Mirrored.{Mirrored}
+use Rattle.rig_api.specs.State.{RigState}
 
 calm : (old new : ℕ) → new ≡ 0 → Calm old new
 calm old new e = (omega (arith, e), omega (arith, e))
 
-pub got_served : (run : Mirrored) (script : Script) (name : List ℕ) (old new : View) (us : List Stored) (m : HasMirrored run script name old new) → m.told.seen.units ≡ Some us → new.seen.faults ≡ 0
-    → (left : List Stored) × ((new.seen.units ≡ Some left) × HasServed script m.devices us left run.mirror.state.pool run.mirror.replies.items run.mirror.state.marks.items run.repair.repaired run.repair.lost)
-got_served run script name old new us m e none = m.ended.told us e (calm-names-none run script name old new m (calm m.told.seen.faults new.seen.faults none))
+pub got_served : (run : Mirrored) (script : Script) (name : List ℕ) (old new : RigState) (us : List Stored) (m : HasMirrored run script name old new) → m.told.units ≡ Some us → new.faults ≡ 0
+    → (left : List Stored) × ((new.units ≡ Some left) × HasServed script m.devices us left run.mirror.state.pool run.mirror.replies.items run.mirror.state.marks.items run.repair.repaired run.repair.lost)
+got_served run script name old new us m e none = m.ended.told us e (calm-names-none run script name old new m (calm m.told.faults new.faults none))
 
-pub got_enough : (run : Mirrored) (script : Script) (name : List ℕ) (old new : View) (us : List Stored) (m : HasMirrored run script name old new) → m.told.seen.units ≡ Some us → new.seen.faults ≡ 0 → IsOneGoodRun script m.devices us
-    → (left : List Stored) × ((new.seen.units ≡ Some left) × WasEnough script m.devices us left run.repair.lost)
-got_enough run script name old new us m e none p = m.enough us e (calm-names-none run script name old new m (calm m.told.seen.faults new.seen.faults none)) p
+pub got_enough : (run : Mirrored) (script : Script) (name : List ℕ) (old new : RigState) (us : List Stored) (m : HasMirrored run script name old new) → m.told.units ≡ Some us → new.faults ≡ 0 → IsOneGoodRun script m.devices us
+    → (left : List Stored) × ((new.units ≡ Some left) × WasEnough script m.devices us left run.repair.lost)
+got_enough run script name old new us m e none p = m.enough us e (calm-names-none run script name old new m (calm m.told.faults new.faults none)) p

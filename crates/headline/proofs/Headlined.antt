@@ -10,15 +10,15 @@ use Rattle.target_answer.specs.Target.{Stored}
 use Rattle.target_answer.specs.declared.units.UnitSpec.{UnitSpec}
 use Rattle.rig_api.specs.Head.{head_fault, head_of}
 use Rattle.rig_api.specs.Telling.{IsStanding, Standing, own_units, units_told}
+use Rattle.rig_api.specs.State.{RigState}
 use Rattle.rig_discovery.specs.Discovery.{info_of}
 use Rattle.volume_table.specs.Tables.{MadeFor, Table}
 use Rattle.volume_table.specs.declared.device.DeviceInfo.{DeviceInfo}
 use Rattle.dix_adapter.specs.Ways.{blocks_told, cell_in, shapes_of}
 use Rattle.whole_run.specs.PlainMap.{as_expected}
 use Rattle.whole_run.specs.Settings.{Setting}
-use Rattle.whole_run.specs.UnderMap.{address_of, home}
+use Rattle.whole_run.specs.UnderMap.{address_of}
 use Rattle.run_laws.specs.ShownRun.{DevicesAreClean}
-use Rattle.image_commands.specs.Views.{View}
 use Rattle.image_layout.proofs.Heads.{layout_parts}
 use Rattle.run_premises.proofs.Escapes.{none_supplied}
 use Rattle.script_premises.proofs.Fresh.{formatted_clean, shapes_are}
@@ -55,17 +55,17 @@ use Rattle.image_scripts.proofs.Told.{IsAfter, after, head_asked, image_after, u
 
 -- what a run did, said of the image's own devices, units and volume
 pub record RanOver (script : Script) (image image' : List ℕ) (run : Finished) : Type 0 where
-  pub old : View
-  pub new : View
-  pub units : old.seen.units ≡ Some (own_units image)
-  pub none : new.seen.faults ≡ 0
+  pub old : RigState
+  pub new : RigState
+  pub units : old.units ≡ Some (own_units image)
+  pub none : new.faults ≡ 0
   pub made : MadeFor (volume_over script image) (devices_of image) script.block
   pub followed : Followed script (volume_over script image) (devices_of image) old new run.stack.pool run.stack.replies.items
-  pub after : (left : List Stored) → new.seen.units ≡ Some left → IsAfter image image' left
+  pub after : (left : List Stored) → new.units ≡ Some left → IsAfter image image' left
 
 -- what the rig tells at the end, where it stands as it did when its devices had answered
-told_after : (way : Way) (image text image' : List ℕ) (f : Facts) (name : List ℕ) (devices : List DeviceInfo) (told : View) → IsCalled way image text image' f → head_fault (head_of image) ≡ None → WasAsked name devices f.rig told → f.rig_after.standing ≡ told.standing
-    → (left : List Stored) → f.rig_after.seen.units ≡ Some left → IsAfter image image' left
+told_after : (way : Way) (image text image' : List ℕ) (f : Facts) (name : List ℕ) (devices : List DeviceInfo) (told : RigState) → IsCalled way image text image' f → head_fault (head_of image) ≡ None → WasAsked name devices f.rig told → f.rig_after.standing ≡ told.standing
+    → (left : List Stored) → f.rig_after.units ≡ Some left → IsAfter image image' left
 told_after way image text image' f name devices told called right asked same left e =
     let s = f.rig_after.standing in
     after s image image' left right
@@ -167,7 +167,7 @@ mirrored_over : (script : Script) (image text image' : List ℕ) (f : Facts) (na
 mirrored_over script image text image' f name run called right r =
     let ds : r.devices ≡ devices_of image = image_devices name r.devices f.rig r.told image r.asked called.image_is in
     let us = own_units image in
-    let units : r.told.seen.units ≡ Some us = units_asked name r.devices f.rig r.told image called.image_is r.asked in
+    let units : r.told.units ≡ Some us = units_asked name r.devices f.rig r.told image called.image_is r.asked in
     let s = got_served run script name f.rig f.rig_after us r units called.faults in
     record {
       left = s.0;
@@ -275,7 +275,7 @@ spared : (s : Status) → wants_memory s ≡ false → (s ≡ status.Memory → 
 spared s h = (λ e. let k : true ≡ false = ap wants_memory (sym e) ∙ h in absurd (cc), λ e. let k : true ≡ false = ap wants_memory (sym e) ∙ h in absurd (cc))
 
 -- the headline of a call, by what its parts tell
-pub headlined_by : (way : Way) (image text image' text' : List ℕ) (f : Facts) (taken taken' : Option (List ℕ)) (o n : ℕ) (result answer : Status) → Carries f taken taken' o n result → IsTold f.rig_after.standing f.rig_after.image f.rig_after.seen.units f.rig_after.seen.faults →
+pub headlined_by : (way : Way) (image text image' text' : List ℕ) (f : Facts) (taken taken' : Option (List ℕ)) (o n : ℕ) (result answer : Status) → Carries f taken taken' o n result → IsTold f.rig_after.standing f.rig_after.image f.rig_after.units f.rig_after.faults →
     f.words ≡ words_for way → f.left ≡ Some text → Calm f.reads f.reads_after → f.rig.image ≡ Some image → All (λ x. x < 256) image → f.rig_after.image ≡ Some image' → answer ≡ result → taken ≡ Some [] → taken' ≡ Some text' → wants_memory result ≡ false →
     Headline way image text answer text' image'
 headlined_by way image text image' text' f taken taken' o n result answer carries told words left reads held bytes after_is same began ended spare =

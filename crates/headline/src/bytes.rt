@@ -40,7 +40,7 @@ fn are_bytes(items: &[u8])
 
 /// A rig over these bytes.
 fn rig_over(alloc: Global, image: Vec<u8>) -> ImageRig<CalmStore>
-    ensures image { ⟦<ImageRig<CalmStore> as Rig>⟧.image result ≡ Some image.items }
+    ensures image { (⟦<ImageRig<CalmStore> as Rig>⟧.state result).image ≡ Some image.items }
     ensures bytes { All (λ x. x < 256) image.items }
 {
     are_bytes(&image);
@@ -56,8 +56,8 @@ fn ran_by(
 ) -> Result<Ran, AllocError>
     ensures status { IfOk result (λ ran. ran.status ≡ status) }
     ensures report { IfOk result (λ ran. ran.report.items ≡ sink.bytes) }
-    ensures image { IfOk result (λ ran. ⟦<ImageRig<CalmStore> as Rig>⟧.image rig.now ≡ Some ran.image.items) }
-    ensures told { IsTold (⟦<ImageRig<CalmStore> as Rig>⟧.standing rig.now) (⟦<ImageRig<CalmStore> as Rig>⟧.image rig.now) (⟦<ImageRig<CalmStore> as Rig>⟧.units rig.now) (⟦<ImageRig<CalmStore> as Rig>⟧.faults rig.now) }
+    ensures image { IfOk result (λ ran. (⟦<ImageRig<CalmStore> as Rig>⟧.state rig.now).image ≡ Some ran.image.items) }
+    ensures told { IsTold (⟦<ImageRig<CalmStore> as Rig>⟧.state rig.now).standing (⟦<ImageRig<CalmStore> as Rig>⟧.state rig.now).image (⟦<ImageRig<CalmStore> as Rig>⟧.state rig.now).units (⟦<ImageRig<CalmStore> as Rig>⟧.state rig.now).faults }
 {
     Ok(Ran {
         status,

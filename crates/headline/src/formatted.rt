@@ -3,9 +3,9 @@
 ghost use Rattle.std.specs.Prelude.{List, ℕ, ◌≡◌, ◌<◌, true, false, map, None, Some, All};
 ghost use Rattle.dix_adapter.specs.Ways.{blocks_told, cell_in};
 ghost use Rattle.image_commands.specs.Causes.{WasFormatted};
-ghost use Rattle.image_commands.specs.Views.{View as AnyView};
 ghost use Rattle.pi_tuple.specs.Finds.{is_zero};
 ghost use Rattle.rig_api.specs.Head.{head_fault, head_of, units_of};
+ghost use Rattle.rig_api.specs.State.{RigState};
 ghost use Rattle.rig_discovery.specs.Discovery.{info_of};
 ghost use Rattle.run_laws.specs.ShownRun.{DevicesAreClean};
 ghost use Rattle.script_verdict.specs.Verdict.{WasAsked, devices_of};
@@ -23,12 +23,12 @@ use script_premises::a_formatted_image_is_clean;
 /// which tells these units. Once its devices were asked, the rig tells these units and their blocks; and these are bytes,
 /// and clean for every volume over them of a type with tuples under which the application tag 0 is the expected one.
 pub fn a_formatted_image_tells_its_units()
-    ensures left { (units : List AnyUnit) (name image : List ℕ) (old new : AnyView) → WasFormatted name units old new → new.image ≡ Some image → image ≡ formatted units }
+    ensures left { (units : List AnyUnit) (name image : List ℕ) (old new : RigState) → WasFormatted name units old new → new.image ≡ Some image → image ≡ formatted units }
     ensures head { (units : List AnyUnit) → is_layout units ≡ true → head_fault (head_of (formatted units)) ≡ None }
     ensures units { (units : List AnyUnit) → is_layout units ≡ true → units_of (head_of (formatted units)) ≡ units }
     ensures devices { (units : List AnyUnit) → is_layout units ≡ true → devices_of (formatted units) ≡ map info_of units }
-    ensures told { (units : List AnyUnit) (name : List ℕ) (devices : List AnyDevice) (old told : AnyView) → is_layout units ≡ true → old.image ≡ Some (formatted units) → WasAsked name devices old told
-        → (us : List Stored) × (told.seen.units ≡ Some us) × (devices ≡ map info_of units) × All (All (λ x. x < 256)) (blocks_told us)
+    ensures told { (units : List AnyUnit) (name : List ℕ) (devices : List AnyDevice) (old told : RigState) → is_layout units ≡ true → old.image ≡ Some (formatted units) → WasAsked name devices old told
+        → (us : List Stored) × (told.units ≡ Some us) × (devices ≡ map info_of units) × All (All (λ x. x < 256)) (blocks_told us)
         × ((m : Setting) → is_zero m.ty ≡ false → as_expected m 0 ≡ true → m.site.cell ≡ cell_in units → DevicesAreClean m devices (blocks_told us)) }
 {
     a_formatted_image_is_clean();

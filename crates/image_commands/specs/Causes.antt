@@ -5,114 +5,115 @@ use Rattle.target_answer.specs.Target.{Stored}
 use Rattle.target_answer.specs.declared.units.UnitSpec.{UnitSpec}
 use Rattle.rig_api.specs.Head.{IsHeadOf, head_fault, units_of, version_in}
 use Rattle.rig_api.specs.Telling.{IsMigrated, KeepsBlocks, KeepsUnits, Opened, migrated_count, units_told}
+use Rattle.rig_api.specs.State.{RigState}
 use Rattle.volume_table.specs.declared.device.DeviceInfo.{DeviceInfo}
 use Rattle.rig_discovery.specs.Discovery.{HasFault, HasFound}
 use Rattle.pi_scrub.specs.Faults.{all_faults}
 use Rattle.pi_scrub.specs.Looks.{Place, all_places}
 use Rattle.pi_scrub.specs.Scrubbed.{HasDevices, Looked}
 use Rattle.pi_scrub.specs.declared.found.Found.{Found}
-use Rattle.image_commands.specs.Views.{HasKept, OpenedOnce, View, WasOpened}
+use Rattle.image_commands.specs.Views.{HasKept, OpenedOnce, WasOpened}
 use Rattle.image_commands.specs.declared.fault.Fault.{Fault}
 use Rattle.image_commands.specs.declared.fault.Fault.TheVariants as fault
 
 -- Why an image isn't opened: its head is at fault, the rig failed, or there is no memory.
-abbrev pub CauseUnopened : Fault → List ℕ → View → View → Type 0
+abbrev pub CauseUnopened : Fault → List ℕ → RigState → RigState → Type 0
 CauseUnopened (fault.Image f) name old new = WasOpened name (Some f) old new
 CauseUnopened (fault.BadCapacity dev) name old new = ⊥
-CauseUnopened fault.RigFault name old new = Rose old.seen.faults new.seen.faults × Opened name old.standing new.standing
+CauseUnopened fault.RigFault name old new = Rose old.faults new.faults × Opened name old.standing new.standing
 CauseUnopened fault.Memory name old new = Unit {0}
 
 -- The image of this name was opened once more, and where it is told it is the formatted one of these units. The armed faults are as before, and there is no further record.
-pub record WasFormatted (name : List ℕ) (us : List UnitSpec) (old new : View) : Type 0 where
+pub record WasFormatted (name : List ℕ) (us : List UnitSpec) (old new : RigState) : Type 0 where
   pub opened : Opened name old.standing new.standing
   pub image : Becomes (λ was is. is ≡ formatted us) old.image new.image
-  pub armed : new.seen.armed ≡ old.seen.armed
-  pub log : new.seen.log ≡ old.seen.log
+  pub armed : new.armed ≡ old.armed
+  pub log : new.log ≡ old.log
 
 -- Why an image isn't formatted: the rig failed, or there is no memory. The armed faults are as before, and there is no further record.
-abbrev pub CauseUnformatted : Fault → List ℕ → View → View → Type 0
+abbrev pub CauseUnformatted : Fault → List ℕ → RigState → RigState → Type 0
 CauseUnformatted (fault.Image f) name old new = ⊥
 CauseUnformatted (fault.BadCapacity dev) name old new = ⊥
-CauseUnformatted fault.RigFault name old new = Rose old.seen.faults new.seen.faults × Opened name old.standing new.standing × (new.seen.log ≡ old.seen.log) × (new.seen.armed ≡ old.seen.armed)
-CauseUnformatted fault.Memory name old new = OpenedOnce name old.standing new.standing × (new.seen.log ≡ old.seen.log) × (new.seen.armed ≡ old.seen.armed)
+CauseUnformatted fault.RigFault name old new = Rose old.faults new.faults × Opened name old.standing new.standing × (new.log ≡ old.log) × (new.armed ≡ old.armed)
+CauseUnformatted fault.Memory name old new = OpenedOnce name old.standing new.standing × (new.log ≡ old.log) × (new.armed ≡ old.armed)
 
 -- The image of this name was opened once more. Where its head, which is right, was of version 1, it has the equal head of version 2, and n is the number of its units; else it is as it was, and n is 0. Every stored block is as before, so are the armed faults, and there is no further record.
-pub record WasMigrated (name : List ℕ) (n : ℕ) (old new : View) : Type 0 where
+pub record WasMigrated (name : List ℕ) (n : ℕ) (old new : RigState) : Type 0 where
   pub opened : Opened name old.standing new.standing
   pub judged : head_fault new.standing.head ≡ None
   pub head : IsHeadOf new.standing.head old.image
   pub number : n ≡ migrated_count (version_in new.standing.head) (units_of new.standing.head)
   pub image : IsMigrated new.standing.head old.image new.image
   pub stored : KeepsUnits old.image new.image
-  pub armed : new.seen.armed ≡ old.seen.armed
-  pub log : new.seen.log ≡ old.seen.log
+  pub armed : new.armed ≡ old.armed
+  pub log : new.log ≡ old.log
 
 -- Why an image isn't migrated: its head is at fault, the rig failed, or there is no memory. Only where the rig failed may the first 512 bytes be others. The armed faults are as before.
-abbrev pub CauseUnmigrated : Fault → List ℕ → View → View → Type 0
+abbrev pub CauseUnmigrated : Fault → List ℕ → RigState → RigState → Type 0
 CauseUnmigrated (fault.Image f) name old new = WasOpened name (Some f) old new × HasKept old new
 CauseUnmigrated (fault.BadCapacity dev) name old new = ⊥
-CauseUnmigrated fault.RigFault name old new = Rose old.seen.faults new.seen.faults × Opened name old.standing new.standing × KeepsBlocks old.image new.image × (new.seen.log ≡ old.seen.log) × (new.seen.armed ≡ old.seen.armed)
+CauseUnmigrated fault.RigFault name old new = Rose old.faults new.faults × Opened name old.standing new.standing × KeepsBlocks old.image new.image × (new.log ≡ old.log) × (new.armed ≡ old.armed)
 CauseUnmigrated fault.Memory name old new = HasKept old new × OpenedOnce name old.standing new.standing
 
 -- The image of this name was opened, and its head is right. Neither this nor what came since changed a byte of it.
-pub record HasOpened (name : List ℕ) (old between new : View) : Type 0 where
+pub record HasOpened (name : List ℕ) (old between new : RigState) : Type 0 where
   pub opened : WasOpened name None old between
   pub kept : HasKept old between
-  pub laid : between.seen.units ≡ units_told between.standing between.image
+  pub laid : between.units ≡ units_told between.standing between.image
   pub image : new.image ≡ between.image
-  pub units : new.seen.units ≡ between.seen.units
+  pub units : new.units ≡ between.units
   pub standing : new.standing ≡ between.standing
-  pub count : between.seen.faults ≤ new.seen.faults
+  pub count : between.faults ≤ new.faults
 
 -- Then each device was asked once what it is. The armed faults are those that were before it was opened.
-pub record WasTold (name : List ℕ) (devices : List DeviceInfo) (old new : View) : Type 0 where
-  pub between : View
+pub record WasTold (name : List ℕ) (devices : List DeviceInfo) (old new : RigState) : Type 0 where
+  pub between : RigState
   pub since : HasOpened name old between new
-  pub armed : new.seen.armed ≡ old.seen.armed
-  pub found : HasFound between.standing devices between.seen.log new.seen.log
-  pub devices_are : HasDevices devices new.standing new.seen.units
+  pub armed : new.armed ≡ old.armed
+  pub found : HasFound between.standing devices between.log new.log
+  pub devices_are : HasDevices devices new.standing new.units
 
 -- The device of this number gave an answer at fault, the first. The blocks aren't told then, and the armed faults are those that were before the image was opened.
-pub record IsBad (name : List ℕ) (dev : ℕ) (old new : View) : Type 0 where
-  pub between : View
+pub record IsBad (name : List ℕ) (dev : ℕ) (old new : RigState) : Type 0 where
+  pub between : RigState
   pub since : HasOpened name old between new
-  pub armed : new.seen.armed ≡ old.seen.armed
-  pub fault : HasFault between.standing dev between.seen.log new.seen.log
-  pub untold : is_some between.seen.units ≡ false
+  pub armed : new.armed ≡ old.armed
+  pub fault : HasFault between.standing dev between.log new.log
+  pub untold : is_some between.units ≡ false
 
 -- Why it isn't known what the devices of an image are: it isn't opened, a device's answer is at fault, or there is no memory.
-abbrev pub CauseUntold : Fault → List ℕ → View → View → Type 0
+abbrev pub CauseUntold : Fault → List ℕ → RigState → RigState → Type 0
 CauseUntold (fault.Image f) name old new = WasOpened name (Some f) old new × HasKept old new
 CauseUntold (fault.BadCapacity dev) name old new = IsBad name dev old new
-CauseUntold fault.RigFault name old new = Rose old.seen.faults new.seen.faults × Opened name old.standing new.standing × HasKept old new
+CauseUntold fault.RigFault name old new = Rose old.faults new.faults × Opened name old.standing new.standing × HasKept old new
 CauseUntold fault.Memory name old new = HasKept old new × OpenedOnce name old.standing new.standing
 
 -- The image was opened, its devices told what they are, and then every stored block was looked at. What was found is what the records say; where the blocks are told and the count of faults didn't rise, it is exactly the blocks at fault. The armed faults are as before.
-pub record WasScrubbed (name : List ℕ) (devices : List DeviceInfo) (found : List Found) (old new : View) : Type 0 where
-  pub told : View
+pub record WasScrubbed (name : List ℕ) (devices : List DeviceInfo) (found : List Found) (old new : RigState) : Type 0 where
+  pub told : RigState
   pub discovered : WasTold name devices old told
-  pub looked : Looked devices (all_places 0 devices) [] [] found told.seen.log new.seen.log told.seen.faults new.seen.faults
-  pub exact : (us : List Stored) → told.seen.units ≡ Some us → Calm told.seen.faults new.seen.faults → found ≡ all_faults 0 us
-  pub units : new.seen.units ≡ told.seen.units
-  pub armed : new.seen.armed ≡ told.seen.armed
+  pub looked : Looked devices (all_places 0 devices) [] [] found told.log new.log told.faults new.faults
+  pub exact : (us : List Stored) → told.units ≡ Some us → Calm told.faults new.faults → found ≡ all_faults 0 us
+  pub units : new.units ≡ told.units
+  pub armed : new.armed ≡ told.armed
   pub standing : new.standing ≡ told.standing
-  pub count : told.seen.faults ≤ new.seen.faults
+  pub count : told.faults ≤ new.faults
 
 -- The devices of the image told what they are, and then blocks were looked at, each once and in order, up to those that are left. No stored block changed, and no armed fault.
-pub record WasScrubbedInPart (name : List ℕ) (old new : View) : Type 0 where
+pub record WasScrubbedInPart (name : List ℕ) (old new : RigState) : Type 0 where
   pub devices : List DeviceInfo
-  pub told : View
+  pub told : RigState
   pub discovered : WasTold name devices old told
   pub left : List Place
   pub found : List Found
-  pub looked : Looked devices (all_places 0 devices) left [] found told.seen.log new.seen.log told.seen.faults new.seen.faults
-  pub units : new.seen.units ≡ told.seen.units
-  pub armed : new.seen.armed ≡ told.seen.armed
+  pub looked : Looked devices (all_places 0 devices) left [] found told.log new.log told.faults new.faults
+  pub units : new.units ≡ told.units
+  pub armed : new.armed ≡ told.armed
   pub standing : new.standing ≡ told.standing
-  pub count : told.seen.faults ≤ new.seen.faults
+  pub count : told.faults ≤ new.faults
 
 -- Why an image isn't scrubbed: it isn't known what its devices are, or there is no memory, before the first block or behind any.
-abbrev pub CauseUnscrubbed : Fault → List ℕ → View → View → Type 0
+abbrev pub CauseUnscrubbed : Fault → List ℕ → RigState → RigState → Type 0
 CauseUnscrubbed (fault.Image f) name old new = CauseUntold (fault.Image f) name old new
 CauseUnscrubbed (fault.BadCapacity dev) name old new = CauseUntold (fault.BadCapacity dev) name old new
 CauseUnscrubbed fault.RigFault name old new = CauseUntold fault.RigFault name old new

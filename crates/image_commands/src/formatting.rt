@@ -2,7 +2,6 @@
 
 ghost use Rattle.std.specs.Prelude.{◌≡◌, MatchResult, true};
 ghost use Rattle.target_answer.specs.Headers.{is_layout};
-ghost use Rattle.image_commands.specs.Views.{seen, view};
 ghost use Rattle.image_commands.specs.Causes.{CauseUnformatted, WasFormatted};
 
 use crate::fault::Fault;
@@ -19,8 +18,8 @@ pub fn format_image<R: Rig>(
     rig: &mut R,
 ) -> Result<(), Fault>
     requires { is_layout units.now ≡ true }
-    ensures { let old = view (R.image rig.old) (R.standing rig.old) (seen (R.units rig.old) (R.armed rig.old) (R.log rig.old) (R.faults rig.old)) in
-        let new = view (R.image rig.new) (R.standing rig.new) (seen (R.units rig.new) (R.armed rig.new) (R.log rig.new) (R.faults rig.new)) in
+    ensures { let old = R.state rig.old in
+        let new = R.state rig.new in
         MatchResult result (λ _. WasFormatted name.now units.now old new) (λ r. CauseUnformatted r name.now old new) }
 {
     match rig.format(alloc, name, units) {

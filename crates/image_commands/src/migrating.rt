@@ -1,7 +1,6 @@
 //! Migrating an image to version 2.
 
-ghost use Rattle.std.specs.Prelude.{◌≡◌, MatchResult};
-ghost use Rattle.image_commands.specs.Views.{seen, view};
+ghost use Rattle.std.specs.Prelude.{MatchResult};
 ghost use Rattle.image_commands.specs.Causes.{CauseUnmigrated, WasMigrated};
 
 use crate::fault::Fault;
@@ -11,8 +10,8 @@ use std::alloc::Global;
 /// Replaces a header of version 1 by that of version 2 that tells the same units, and answers their
 /// number; 0 where the header is of version 2. No stored block changes, also after a fault.
 pub fn migrate_image<R: Rig>(alloc: Global, name: &str, rig: &mut R) -> Result<u32, Fault>
-    ensures { let old = view (R.image rig.old) (R.standing rig.old) (seen (R.units rig.old) (R.armed rig.old) (R.log rig.old) (R.faults rig.old)) in
-        let new = view (R.image rig.new) (R.standing rig.new) (seen (R.units rig.new) (R.armed rig.new) (R.log rig.new) (R.faults rig.new)) in
+    ensures { let old = R.state rig.old in
+        let new = R.state rig.new in
         MatchResult result (λ n. WasMigrated name.now n old new) (λ r. CauseUnmigrated r name.now old new) }
 {
     match rig.migrate(alloc, name) {

@@ -2,7 +2,7 @@
 
 ghost use Rattle.std.specs.Prelude.{◌≡◌, length, MatchResult, OnOk};
 ghost use Rattle.rig_api.specs.Head.{units_of};
-ghost use Rattle.image_commands.specs.Views.{HasKept, OpenedOnce, WasOpened, seen, view};
+ghost use Rattle.image_commands.specs.Views.{HasKept, OpenedOnce, WasOpened};
 ghost use Rattle.image_commands.specs.Causes.{CauseUnopened};
 
 use crate::fault::Fault;
@@ -12,12 +12,12 @@ use std::alloc::Global;
 /// Opens the image of this name. `Image` comes exactly where its head has that fault, `RigFault` only
 /// where the rig's count of faults rose.
 pub fn open_image<R: Rig>(alloc: Global, name: &str, rig: &mut R) -> Result<(), Fault>
-    ensures opened { let old = view (R.image rig.old) (R.standing rig.old) (seen (R.units rig.old) (R.armed rig.old) (R.log rig.old) (R.faults rig.old)) in
-        let new = view (R.image rig.new) (R.standing rig.new) (seen (R.units rig.new) (R.armed rig.new) (R.log rig.new) (R.faults rig.new)) in
+    ensures opened { let old = R.state rig.old in
+        let new = R.state rig.new in
         MatchResult result (λ _. WasOpened name.now None old new) (λ r. CauseUnopened r name.now old new) }
-    ensures devices { OnOk result ((R.standing rig.new).devices ≡ length (units_of (R.standing rig.new).head)) }
-    ensures kept { HasKept (view (R.image rig.old) (R.standing rig.old) (seen (R.units rig.old) (R.armed rig.old) (R.log rig.old) (R.faults rig.old))) (view (R.image rig.new) (R.standing rig.new) (seen (R.units rig.new) (R.armed rig.new) (R.log rig.new) (R.faults rig.new))) }
-    ensures opening { OpenedOnce name.now (R.standing rig.old) (R.standing rig.new) }
+    ensures devices { OnOk result ((R.state rig.new).standing.devices ≡ length (units_of (R.state rig.new).standing.head)) }
+    ensures kept { HasKept (R.state rig.old) (R.state rig.new) }
+    ensures opening { OpenedOnce name.now (R.state rig.old).standing (R.state rig.new).standing }
 {
     match rig.open(alloc, name) {
         Ok(()) => Ok(()),

@@ -2,7 +2,6 @@
 
 ghost use Rattle.std.specs.Prelude.{◌≡◌, [], MatchResult, OnOk, length};
 ghost use Rattle.rig_api.specs.Head.{units_of};
-ghost use Rattle.image_commands.specs.Views.{seen, view};
 ghost use Rattle.image_commands.specs.Causes.{CauseUnscrubbed, CauseUntold, WasScrubbed, WasTold};
 
 use crate::fault::Fault;
@@ -20,10 +19,10 @@ pub fn told_devices<R: Rig>(
     name: &str,
     rig: &mut R,
 ) -> Result<ArrayVec<DeviceInfo, 8>, Fault>
-    ensures told { let old = view (R.image rig.old) (R.standing rig.old) (seen (R.units rig.old) (R.armed rig.old) (R.log rig.old) (R.faults rig.old)) in
-        let new = view (R.image rig.new) (R.standing rig.new) (seen (R.units rig.new) (R.armed rig.new) (R.log rig.new) (R.faults rig.new)) in
+    ensures told { let old = R.state rig.old in
+        let new = R.state rig.new in
         MatchResult result (λ v. WasTold name.now v.items old new) (λ r. CauseUntold r name.now old new) }
-    ensures all { OnOk result ((R.standing rig.new).devices ≡ length (units_of (R.standing rig.new).head)) }
+    ensures all { OnOk result ((R.state rig.new).standing.devices ≡ length (units_of (R.state rig.new).standing.head)) }
 {
     match open_image(alloc, name, rig) {
         Ok(()) => {}
@@ -49,8 +48,8 @@ pub fn scrub_image<R: Rig>(
     found: &mut Vec<Found>,
 ) -> Result<ArrayVec<DeviceInfo, 8>, Fault>
     requires { found.old.items ≡ [] }
-    ensures { let old = view (R.image rig.old) (R.standing rig.old) (seen (R.units rig.old) (R.armed rig.old) (R.log rig.old) (R.faults rig.old)) in
-        let new = view (R.image rig.new) (R.standing rig.new) (seen (R.units rig.new) (R.armed rig.new) (R.log rig.new) (R.faults rig.new)) in
+    ensures { let old = R.state rig.old in
+        let new = R.state rig.new in
         MatchResult result (λ v. WasScrubbed name.now v.items found.new.items old new) (λ r. CauseUnscrubbed r name.now old new) }
 {
     let devices = match told_devices(alloc, name, rig) {

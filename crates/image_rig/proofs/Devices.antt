@@ -1,6 +1,6 @@
 -- The units behind the devices of an image that is open, and the answers that are theirs.
 use Rattle.std.proofs.Common.{◌≡◌, ℕ, zero, suc, ◌+◌, ◌*◌, ◌^◌, ◌<◌, ◌≤◌, true, List, [], ◌∷◌, length, get_or, take, drop, Option, Some, None, refl, sym, ap, subst, ◌∙◌, arith, inl, inr}
-use Rattle.std.specs.Prelude.{is_some, max, ◌&&◌}
+use Rattle.std.specs.Prelude.{is_some, max}
 use Rattle.std.specs.List.{list_all}
 use Rattle.std.proofs.lemmas.List.{take-take, drop-take, drop-drop, take_all}
 use Rattle.std.proofs.lemmas.Bool.{and_parts}

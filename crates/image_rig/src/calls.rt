@@ -1,7 +1,6 @@
 //! The calls of the rig.
 
-ghost use Rattle.std.specs.Prelude.{◌≡◌, ◌≤◌, ◌+◌, ◌*◌, [], length, refl};
-ghost use Rattle.rig_api.specs.Head.{Head};
+ghost use Rattle.std.specs.Prelude.{◌≡◌, [], length, refl};
 ghost use Rattle.rig_log.specs.Entries.{few_of, keyed_of};
 ghost use Rattle.rig_log.specs.Logs.{logged, room_in};
 ghost use Rattle.image_layout.specs.Heads.{head_in};
@@ -24,11 +23,11 @@ use target_model::serve;
 impl<S: Store> ImageRig<S> {
     /// A rig over this store, with no image opened, no fault armed and nothing in its log.
     pub fn new(alloc: Global, store: S) -> ImageRig<S>
-        ensures image { ⟦<ImageRig<S> as Rig>⟧.image result ≡ S.bytes store }
-        ensures faults { ⟦<ImageRig<S> as Rig>⟧.faults result ≡ S.faults store }
-        ensures log { ⟦<ImageRig<S> as Rig>⟧.log result ≡ [] }
-        ensures armed { ⟦<ImageRig<S> as Rig>⟧.armed result ≡ [] }
-        ensures standing { ⟦<ImageRig<S> as Rig>⟧.standing result
+        ensures image { (⟦<ImageRig<S> as Rig>⟧.state result).image ≡ S.bytes store }
+        ensures faults { (⟦<ImageRig<S> as Rig>⟧.state result).faults ≡ S.faults store }
+        ensures log { (⟦<ImageRig<S> as Rig>⟧.state result).log ≡ [] }
+        ensures armed { (⟦<ImageRig<S> as Rig>⟧.state result).armed ≡ [] }
+        ensures standing { (⟦<ImageRig<S> as Rig>⟧.state result).standing
             ≡ record { devices = 0; head = record { size = 0; first = [] }; name = S.handed store; openings = S.openings store } }
     {
         ImageRig {
@@ -42,29 +41,25 @@ impl<S: Store> ImageRig<S> {
 
     /// The store, which holds the image.
     pub fn store(&self) -> &S
-        ensures image { S.bytes result.now ≡ ⟦<ImageRig<S> as Rig>⟧.image self.now }
-        ensures faults { S.faults result.now ≡ ⟦<ImageRig<S> as Rig>⟧.faults self.now }
-        ensures name { S.handed result.now ≡ (⟦<ImageRig<S> as Rig>⟧.standing self.now).name }
-        ensures openings { S.openings result.now ≡ (⟦<ImageRig<S> as Rig>⟧.standing self.now).openings }
+        ensures image { S.bytes result.now ≡ (⟦<ImageRig<S> as Rig>⟧.state self.now).image }
+        ensures faults { S.faults result.now ≡ (⟦<ImageRig<S> as Rig>⟧.state self.now).faults }
+        ensures name { S.handed result.now ≡ (⟦<ImageRig<S> as Rig>⟧.state self.now).standing.name }
+        ensures openings { S.openings result.now ≡ (⟦<ImageRig<S> as Rig>⟧.state self.now).standing.openings }
     {
         &self.store
     }
 }
 
 impl<S: Store> Rig for ImageRig<S> {
-    ghost image = { λ s. S.bytes s.store };
-
-    ghost units = { λ s. units_of_image (length s.units.items) (head_in s.head) (S.bytes s.store) };
-
-    ghost standing = { λ s. standing_of (length s.units.items) (head_in s.head) (S.handed s.store) (S.openings s.store) };
-
-    ghost log = { λ s. logged s.log };
-
-    ghost room = { λ s. room_in s.log };
-
-    ghost armed = { λ s. s.tamper };
-
-    ghost faults = { λ s. S.faults s.store };
+    ghost state = { λ s. record {
+      image = S.bytes s.store;
+      units = units_of_image (length s.units.items) (head_in s.head) (S.bytes s.store);
+      standing = standing_of (length s.units.items) (head_in s.head) (S.handed s.store) (S.openings s.store);
+      log = logged s.log;
+      room = room_in s.log;
+      armed = s.tamper;
+      faults = S.faults s.store;
+    } };
 
     ghost laid = { λ s. laid_of (length s.units.items) (head_in s.head) (S.handed s.store) (S.openings s.store) (S.bytes s.store) };
 

@@ -1,29 +1,29 @@
 -- What a call's records say where no store call failed, one lemma for each. The count of faults of a store in memory stays at 0.
-use Rattle.std.proofs.Common.{◌≡◌, ◌⊎◌, inl, inr, ℕ, List, Some, arith}
+use Rattle.std.proofs.Common.{◌≡◌, inl, inr, ℕ, List, Some, arith}
 use Rattle.target_answer.specs.Target.{Stored}
 use Rattle.volume_table.specs.Tables.{Table}
 use Rattle.volume_table.specs.declared.device.DeviceInfo.{DeviceInfo}
 use Rattle.stack_ops.specs.declared.reply.Reply.{Reply}
-use Rattle.image_commands.specs.Views.{View}
 use Rattle.script_text.specs.declared.script.Script.{Script}
 use Rattle.script_stack.specs.Followed.{HasWalked}
 use Rattle.script_verdict.specs.Premises.{IsFormedRun, IsPlainRun, opening_told, setting_told}
 use Rattle.script_verdict.specs.Verdict.{AllReadRightly, Followed, HasPlain}
 use Rattle.stack_core.specs.Mediums.{RoseBy, medium_lines}
+use Rattle.rig_api.specs.State.{RigState}
 
 -- so no line names the medium
 unnamed : (n old new : ℕ) → RoseBy n old new → new ≡ 0 → n ≡ 0
 unnamed n old new (inl p) e = omega (arith, p, e)
 unnamed n old new (inr p) e = absurd (omega (arith, p, e))
 
-pub got_walked : (script : Script) (table : Table) (devices : List DeviceInfo) (old new : View) (pool : List (List ℕ)) (replies : List Reply) (us : List Stored) (f : Followed script table devices old new pool replies) → old.seen.units ≡ Some us → new.seen.faults ≡ 0
-    → (left : List Stored) × (new.seen.units ≡ Some left) × HasWalked script table us left pool f.goes.more replies
-got_walked script table devices old new pool replies us f e none = f.walked us e (unnamed (medium_lines replies) old.seen.faults new.seen.faults f.medium none)
+pub got_walked : (script : Script) (table : Table) (devices : List DeviceInfo) (old new : RigState) (pool : List (List ℕ)) (replies : List Reply) (us : List Stored) (f : Followed script table devices old new pool replies) → old.units ≡ Some us → new.faults ≡ 0
+    → (left : List Stored) × (new.units ≡ Some left) × HasWalked script table us left pool f.goes.more replies
+got_walked script table devices old new pool replies us f e none = f.walked us e (unnamed (medium_lines replies) old.faults new.faults f.medium none)
 
-pub got_plain : (script : Script) (table : Table) (devices : List DeviceInfo) (old new : View) (pool : List (List ℕ)) (replies : List Reply) (us : List Stored) → Followed script table devices old new pool replies → old.seen.units ≡ Some us → new.seen.faults ≡ 0 → IsPlainRun script table us
-    → (left : List Stored) × (new.seen.units ≡ Some left) × HasPlain script table us left pool replies
-got_plain script table devices old new pool replies us f e none p = f.plain us e (unnamed (medium_lines replies) old.seen.faults new.seen.faults f.medium none) p
+pub got_plain : (script : Script) (table : Table) (devices : List DeviceInfo) (old new : RigState) (pool : List (List ℕ)) (replies : List Reply) (us : List Stored) → Followed script table devices old new pool replies → old.units ≡ Some us → new.faults ≡ 0 → IsPlainRun script table us
+    → (left : List Stored) × (new.units ≡ Some left) × HasPlain script table us left pool replies
+got_plain script table devices old new pool replies us f e none p = f.plain us e (unnamed (medium_lines replies) old.faults new.faults f.medium none) p
 
-pub got_formed : (script : Script) (table : Table) (devices : List DeviceInfo) (old new : View) (pool : List (List ℕ)) (replies : List Reply) (us : List Stored) → Followed script table devices old new pool replies → old.seen.units ≡ Some us → new.seen.faults ≡ 0 → IsFormedRun script table devices us
+pub got_formed : (script : Script) (table : Table) (devices : List DeviceInfo) (old new : RigState) (pool : List (List ℕ)) (replies : List Reply) (us : List Stored) → Followed script table devices old new pool replies → old.units ≡ Some us → new.faults ≡ 0 → IsFormedRun script table devices us
     → AllReadRightly (setting_told script table us) script.ops (opening_told script us) replies
-got_formed script table devices old new pool replies us f e none p = f.formed us e (unnamed (medium_lines replies) old.seen.faults new.seen.faults f.medium none) p
+got_formed script table devices old new pool replies us f e none p = f.formed us e (unnamed (medium_lines replies) old.faults new.faults f.medium none) p

@@ -9,6 +9,7 @@ use Rattle.target_answer.specs.Target.{Stored}
 use Rattle.target_answer.specs.declared.units.UnitSpec.{UnitSpec}
 use Rattle.rig_api.specs.Head.{Head, head_fault, head_of, units_of}
 use Rattle.rig_api.specs.Telling.{IsStanding, Standing, own_units, specs_of, units_told}
+use Rattle.rig_api.specs.State.{RigState}
 use Rattle.rig_discovery.specs.Discovery.{info_of}
 use Rattle.volume_table.specs.declared.device.DeviceInfo.{DeviceInfo}
 use Rattle.dix_adapter.specs.Ways.{blocks_told, cell_in}
@@ -17,7 +18,6 @@ use Rattle.whole_run.specs.Settings.{Setting}
 use Rattle.run_laws.specs.ShownRun.{DevicesAreClean}
 use Rattle.dix_base.specs.Told.{Becomes}
 use Rattle.image_commands.specs.Causes.{WasFormatted}
-use Rattle.image_commands.specs.Views.{View}
 use Rattle.image_layout.proofs.Heads.{layout_parts, right_layout}
 use Rattle.script_verdict.specs.Verdict.{WasAsked, devices_of}
 use Rattle.script_verdict.proofs.Devices.{image_devices, headed as head_told, all_specs}
@@ -28,13 +28,13 @@ use Rattle.image_scripts.proofs.FreshHead.{units_back}
 -- ---- after it was opened
 
 -- a rig stands on the image's head
-pub head_asked : (name : List ℕ) (devices : List DeviceInfo) (old told : View) (image : List ℕ) → old.image ≡ Some image → WasAsked name devices old told → told.standing.head ≡ head_of image
+pub head_asked : (name : List ℕ) (devices : List DeviceInfo) (old told : RigState) (image : List ℕ) → old.image ≡ Some image → WasAsked name devices old told → told.standing.head ≡ head_of image
 head_asked name devices old told image e asked =
     let since = asked.told.since in
     ap (λ (s : Standing). s.head) since.standing ∙ head_told asked.told.between.standing.head image asked.told.between.image (since.kept.image ∙ e) since.opened.head
 
 -- and tells the image's units
-pub units_asked : (name : List ℕ) (devices : List DeviceInfo) (old told : View) (image : List ℕ) → old.image ≡ Some image → WasAsked name devices old told → told.seen.units ≡ Some (own_units image)
+pub units_asked : (name : List ℕ) (devices : List DeviceInfo) (old told : RigState) (image : List ℕ) → old.image ≡ Some image → WasAsked name devices old told → told.units ≡ Some (own_units image)
 units_asked name devices old told image e asked =
     let since = asked.told.since in
     let between = asked.told.between in
@@ -82,7 +82,7 @@ left_by units image None (Some is) b e = absurd b
 left_by units image (Some was) None b e = absurd b
 left_by units image (Some was) (Some is) b e = let same : image ≡ is = cc in same ∙ b
 
-pub formatted_left : (units : List UnitSpec) (name image : List ℕ) (old new : View) → WasFormatted name units old new → new.image ≡ Some image → image ≡ formatted units
+pub formatted_left : (units : List UnitSpec) (name image : List ℕ) (old new : RigState) → WasFormatted name units old new → new.image ≡ Some image → image ≡ formatted units
 formatted_left units name image old new f e = left_by units image old.image new.image f.image e
 
 pub devices_back : (units : List UnitSpec) → is_layout units ≡ true → devices_of (formatted units) ≡ map info_of units
@@ -97,8 +97,8 @@ CleanLaw = (m : Setting) (units : List UnitSpec) → length units ≤ 8 → is_z
 abbrev pub BytesLaw : Type 0
 BytesLaw = (units : List UnitSpec) → length units ≤ 8 → All (All (λ x. x < 256)) (blocks_told (units_in units (formatted units)))
 
-pub told_formatted : CleanLaw → BytesLaw → (units : List UnitSpec) (name : List ℕ) (devices : List DeviceInfo) (old told : View) → is_layout units ≡ true → old.image ≡ Some (formatted units) → WasAsked name devices old told
-    → (us : List Stored) × (told.seen.units ≡ Some us) × (devices ≡ map info_of units) × All (All (λ x. x < 256)) (blocks_told us)
+pub told_formatted : CleanLaw → BytesLaw → (units : List UnitSpec) (name : List ℕ) (devices : List DeviceInfo) (old told : RigState) → is_layout units ≡ true → old.image ≡ Some (formatted units) → WasAsked name devices old told
+    → (us : List Stored) × (told.units ≡ Some us) × (devices ≡ map info_of units) × All (All (λ x. x < 256)) (blocks_told us)
     × ((m : Setting) → is_zero m.ty ≡ false → as_expected m 0 ≡ true → m.site.cell ≡ cell_in units → DevicesAreClean m devices (blocks_told us))
 told_formatted clean bytes units name devices old told h e asked =
     let few = (layout_parts units h).1 in

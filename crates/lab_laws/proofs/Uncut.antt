@@ -48,7 +48,7 @@ use Rattle.script_ground.proofs.Calm.{all-fit, calm-of}
 use Rattle.script_ground.proofs.OverUnits.{IsBoundOver, over}
 use Rattle.script_stack.specs.Followed.{HasFallen, failed_in, opening_of, setting_of, unit_of}
 use Rattle.script_stack.proofs.Following.{behind, told-stored}
-use Rattle.image_commands.specs.Views.{View}
+use Rattle.rig_api.specs.State.{RigState}
 use Rattle.script_verdict.specs.Verdict.{HasRun}
 use Rattle.script_verdict.specs.declared.verdict.Finished.{Finished}
 use Rattle.vector_runs.specs.Unplayed.{first_overwrite, named, unplayed, unplayed_line}
@@ -187,7 +187,7 @@ units_back : (us : List Stored) → map unit_of (map device_of us) ≡ shapes_of
 units_back [] = refl
 units_back (u ∷ us) = ap (λ xs. unit_of (device_of u) ∷ xs) (units_back us)
 
-module _ (run : Finished) (script : Script) (name text image : List ℕ) (old new : View) (reads : script_in text ≡ Ok script) (told_is : old.image ≡ Some image) (h : HasRun run script name old new) where
+module _ (run : Finished) (script : Script) (name text image : List ℕ) (old new : RigState) (reads : script_in text ≡ Ok script) (told_is : old.image ≡ Some image) (h : HasRun run script name old new) where
   abbrev at : Standing
   at = h.asked.told.between.standing
 
@@ -197,7 +197,7 @@ module _ (run : Finished) (script : Script) (name text image : List ℕ) (old ne
   between_is : h.asked.told.between.image ≡ Some image
   between_is = h.asked.told.since.kept.image ∙ told_is
 
-  units_are : h.told.seen.units ≡ Some us
+  units_are : h.told.units ≡ Some us
   units_are = h.asked.told.since.units ∙ h.asked.told.since.laid ∙ ap (units_told at) between_is
 
   stands : IsStanding at (Some image)
@@ -222,13 +222,13 @@ module _ (run : Finished) (script : Script) (name text image : List ℕ) (old ne
         stored = told-stored at (Some image) us refl stands;
       }
 
-  none_listed : Calm old.seen.faults new.seen.faults → medium_lines run.stack.replies.items ≡ 0
+  none_listed : Calm old.faults new.faults → medium_lines run.stack.replies.items ≡ 0
   none_listed c =
       let a = h.asked.told.since.kept.count in
       let b = h.asked.told.since.count in
-      ⊎_elim (λ (x : h.told.seen.faults + medium_lines run.stack.replies.items ≤ new.seen.faults). omega (arith, a, b, c.0, x)) (λ (y : 2 ^ 64 ≤ new.seen.faults + 1). absurd (omega (arith, c.1, y))) h.followed.medium
+      ⊎_elim (λ (x : h.told.faults + medium_lines run.stack.replies.items ≤ new.faults). omega (arith, a, b, c.0, x)) (λ (y : 2 ^ 64 ≤ new.faults + 1). absurd (omega (arith, c.1, y))) h.followed.medium
 
-  cut_none : unplayed script ≡ None → Calm old.seen.faults new.seen.faults → Each (IsNotCut script.block) h.followed.goes.more
+  cut_none : unplayed script ≡ None → Calm old.faults new.faults → Each (IsNotCut script.block) h.followed.goes.more
   cut_none plays c =
       let k = read_keeps text script reads in
       let faults = no_faults script.lines script.faults script.ops k.lined plays in
@@ -254,8 +254,8 @@ vectors_pass run f image told_is c (script, held, h) =
     let found = h.asked.told.found in
     let first = looks h.asked.told.between.standing 0 found.answers in
     let more = h.followed.goes.more in
-    let log : f.rig_after.seen.log ≡ f.rig.seen.log ++ (first ++ more) =
-    h.followed.goes.records ∙ ap (λ l. l ++ more) (found.log ∙ ap (λ l. l ++ first) h.asked.told.since.kept.log) ∙ append_assoc f.rig.seen.log first more in
-    let rest : drop run.first f.rig_after.seen.log ≡ first ++ more = ap (λ n. drop n f.rig_after.seen.log) h.first ∙ ap (drop (length f.rig.seen.log)) log ∙ behind f.rig.seen.log (first ++ more) in
+    let log : f.rig_after.log ≡ f.rig.log ++ (first ++ more) =
+    h.followed.goes.records ∙ ap (λ l. l ++ more) (found.log ∙ ap (λ l. l ++ first) h.asked.told.since.kept.log) ∙ append_assoc f.rig.log first more in
+    let rest : drop run.first f.rig_after.log ≡ first ++ more = ap (λ n. drop n f.rig_after.log) h.first ∙ ap (drop (length f.rig.log)) log ∙ behind f.rig.log (first ++ more) in
     subst (Each (IsNotCut script.block)) (sym rest)
     (each_both (IsNotCut script.block) first more (looks_uncut script.block h.asked.told.between.standing 0 found.answers) (run_passes run script f.name held.text image f.rig f.rig_after held.reads held.plays told_is c h))

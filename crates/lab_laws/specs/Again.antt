@@ -12,10 +12,11 @@ use Rattle.sense_codes.specs.Written.{written}
 use Rattle.target_answer.specs.Frames.{joined, stored_size}
 use Rattle.target_answer.specs.Target.{Answer, Stored}
 use Rattle.rig_api.specs.Log.{Entry, entry_of, moved_of}
+use Rattle.rig_api.specs.State.{Exchanged, RigState}
 use Rattle.rig_api.specs.Telling.{Standing, answer_of, at_front, spec_at, unit_at, with_blocks}
 use Rattle.rig_api.specs.declared.rig.Outcome.{Outcome}
 use Rattle.dix_adapter.specs.declared.adapter.Adapter.{Adapter}
-use Rattle.dix_adapter.specs.Carried.{Exchanged, Fetched, Sent, Shown, any_bad, sends}
+use Rattle.dix_adapter.specs.Carried.{Fetched, Sent, any_bad, sends}
 use Rattle.dix_adapter.specs.Groups.{IsGroup, IsProtect, blocks_in, first_of}
 use Rattle.dix_adapter.specs.Ways.{WentOut}
 use Rattle.vector_lines.specs.Printed.{out_of}
@@ -48,13 +49,13 @@ AreAnswered s us (e ∷ es) left = (a : IsAnswered s us e) × AreAnswered s (wit
 
 -- What a rig that tells its blocks puts on record of one exchange, without faults and where no store call failed, is so: with room for just what the command reads, and where all that was sent was moved. Whatever stood in the buffer, and where blocks have their sizes.
 abbrev pub ExchangeAnswers : Type 0
-ExchangeAnswers = (old new : Shown) (dev : ℕ) (cdb : List ℕ) (labels : List Label) (out before came : List ℕ) (o : Outcome) (us : List Stored) → Exchanged old new dev cdb labels out before came o → old.units ≡ Some us → old.armed ≡ [] → Calm old.faults new.faults →
+ExchangeAnswers = (old new : RigState) (dev : ℕ) (cdb : List ℕ) (labels : List Label) (out before came : List ℕ) (o : Outcome) (us : List Stored) → Exchanged old new dev cdb labels out before came o → old.units ≡ Some us → old.armed ≡ [] → Calm old.faults new.faults →
     All (λ block. length {A = ℕ} block ≡ stored_size (unit_at us dev).ty (unit_at us dev).size) (unit_at us dev).blocks → (spec_at old.standing dev).size ≡ (unit_at us dev).size → length before ≡ room_of (spec_at old.standing dev).size cdb →
     let e = entry_of (spec_at old.standing dev).size dev cdb labels o out came in out_of cdb e.moved ≡ out →
     (new.log ≡ old.log ++ (e ∷ [])) × ((a : IsAnswered old.standing us e) × (new.units ≡ Some (with_blocks us dev (answer_for old.standing us a.labels e).blocks)))
 
 -- A group of a stack over such a rig, before and after its command: no fault is armed, an application tag is expected only where the host has tuples, no store call failed, and the unit behind it has the group's size of block.
-pub record IsToldGroup (a : Adapter) (ios : List Io) (req : List Bio) (pool : List (List ℕ)) (us : List Stored) (old new : Shown) : Type 0 where
+pub record IsToldGroup (a : Adapter) (ios : List Io) (req : List Bio) (pool : List (List ℕ)) (us : List Stored) (old new : RigState) : Type 0 where
   pub protect : IsProtect a.protect
   pub faults : a.tamper ≡ []
   pub mask : a.dix ≡ false → a.mask ≡ 0
@@ -66,17 +67,17 @@ pub record IsToldGroup (a : Adapter) (ios : List Io) (req : List Bio) (pool : Li
   pub stored : All (λ block. length {A = ℕ} block ≡ stored_size (unit_at us (first_of req).dev).ty (unit_at us (first_of req).dev).size) (unit_at us (first_of req).dev).blocks
 
 -- One record came to the log, of an answer, and the units are as it leaves them.
-abbrev pub PutsAnswer : List Stored → (old new : Shown) → Type 0
+abbrev pub PutsAnswer : List Stored → (old new : RigState) → Type 0
 PutsAnswer us old new = (e : Entry) × ((new.log ≡ old.log ++ (e ∷ [])) × ((a : IsAnswered old.standing us e) × (new.units ≡ Some (with_blocks us e.what.dev (answer_for old.standing us a.labels e).blocks))))
 
 -- So it is of each write that the adapter passes and sends,
 abbrev pub WriteAnswers : Type 0
-WriteAnswers = (a : Adapter) (ios : List Io) (req : List Bio) (pool pool' : List (List ℕ)) (us : List Stored) (fates : List Fate) (old new : Shown) → IsToldGroup a ios req pool us old new → (first_of req).dir ≡ Write →
+WriteAnswers = (a : Adapter) (ios : List Io) (req : List Bio) (pool pool' : List (List ℕ)) (us : List Stored) (fates : List Fate) (old new : RigState) → IsToldGroup a ios req pool us old new → (first_of req).dir ≡ Write →
     any_bad (map (sends a ios (flat pool)) (blocks_in req)) ≡ false → Sent a ios req pool pool' fates old new → WentOut a ios req (flat pool) us None fates old new → PutsAnswer us old new
 
 -- and of each read.
 abbrev pub ReadAnswers : Type 0
-ReadAnswers = (a : Adapter) (ios : List Io) (req : List Bio) (pool pool' : List (List ℕ)) (us : List Stored) (fates : List Fate) (old new : Shown) → IsToldGroup a ios req pool us old new → (first_of req).dir ≡ Read →
+ReadAnswers = (a : Adapter) (ios : List Io) (req : List Bio) (pool pool' : List (List ℕ)) (us : List Stored) (fates : List Fate) (old new : RigState) → IsToldGroup a ios req pool us old new → (first_of req).dir ≡ Read →
     Fetched a ios req pool pool' fates old new → PutsAnswer us old new
 
 -- the lines of a list that their vectors are, from this number on

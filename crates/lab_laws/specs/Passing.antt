@@ -24,7 +24,7 @@ use Rattle.block_path.specs.Routes.{host_size, passage}
 use Rattle.block_path.specs.Serial.{plain_tells}
 use Rattle.block_path.specs.WayOut.{to_wire}
 use Rattle.dix_adapter.specs.declared.adapter.Adapter.{Adapter}
-use Rattle.dix_adapter.specs.Carried.{Shown, any_bad, frame_sent, sends}
+use Rattle.dix_adapter.specs.Carried.{any_bad, frame_sent, sends}
 use Rattle.dix_adapter.specs.Groups.{IsGroup, blocks_in, size}
 use Rattle.dix_adapter.specs.Ways.{WentOut}
 use Rattle.stack_ops.specs.declared.op.Op.{Op}
@@ -32,7 +32,7 @@ use Rattle.whole_run.specs.CalmRun.{AllFit, IsCalm}
 use Rattle.whole_run.specs.ScriptWalk.{acts_from}
 use Rattle.whole_run.specs.Settings.{Setting}
 use Rattle.run_record.specs.Records.{sents}
-use Rattle.image_commands.specs.Views.{View}
+use Rattle.rig_api.specs.State.{RigState}
 use Rattle.script_text.specs.Language.{script_in}
 use Rattle.script_text.specs.declared.script.Script.{Script}
 use Rattle.script_verdict.specs.Verdict.{Facts, HasRun}
@@ -49,7 +49,7 @@ BlockPasses = (r : Route) (frame : List ℕ) → length frame ≡ host_size r �
 
 -- A write whose blocks the adapter passes, over units that are told and where no store call failed, is done whole, and the moved bytes of its record are all its frames.
 abbrev pub CommandPasses : Type 0
-CommandPasses = (a : Adapter) (ios : List Io) (req : List Bio) (pool : List (List ℕ)) (bytes : ℕ) (us : List Stored) (fates : List Fate) (old new : Shown) → a.tamper ≡ [] → (a.dix ≡ false → a.mask ≡ 0) → IsGroup a pool bytes ios req →
+CommandPasses = (a : Adapter) (ios : List Io) (req : List Bio) (pool : List (List ℕ)) (bytes : ℕ) (us : List Stored) (fates : List Fate) (old new : RigState) → a.tamper ≡ [] → (a.dix ≡ false → a.mask ≡ 0) → IsGroup a pool bytes ios req →
     let sent = map (sends a ios (flat pool)) (blocks_in req) in
     any_bad sent ≡ false → (w : WentOut a ios req (flat pool) us None fates old new) → (w.entry.what.outcome.done ≡ size req) × (w.entry.moved ≡ joined (map frame_sent sent))
 
@@ -84,9 +84,9 @@ IsNotCut size e = IfOk (decoded e.what.cdb) (λ cdb. AreDone size (request_of cd
 
 -- In a run of a script without `fault`, `shift` and `overwrite` lines, over an image that is told and without a store call that failed, no write ends early.
 abbrev pub RunPasses : Type 0
-RunPasses = (run : Finished) (script : Script) (name text image : List ℕ) (old new : View) → script_in text ≡ Ok script → unplayed script ≡ None → old.image ≡ Some image → Calm old.seen.faults new.seen.faults → (h : HasRun run script name old new) →
+RunPasses = (run : Finished) (script : Script) (name text image : List ℕ) (old new : RigState) → script_in text ≡ Ok script → unplayed script ≡ None → old.image ≡ Some image → Calm old.faults new.faults → (h : HasRun run script name old new) →
     Each (IsNotCut script.block) h.followed.goes.more
 
 -- So it is of all records whose vectors are written.
 abbrev pub VectorsPass : Type 0
-VectorsPass = (run : Finished) (f : Facts) (image : List ℕ) → f.rig.image ≡ Some image → Calm f.rig.seen.faults f.rig_after.seen.faults → (h : HasPlayed (played.Ran run) f) → Each (IsNotCut h.0.block) (drop run.first f.rig_after.seen.log)
+VectorsPass = (run : Finished) (f : Facts) (image : List ℕ) → f.rig.image ≡ Some image → Calm f.rig.faults f.rig_after.faults → (h : HasPlayed (played.Ran run) f) → Each (IsNotCut h.0.block) (drop run.first f.rig_after.log)

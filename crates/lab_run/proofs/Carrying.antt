@@ -496,7 +496,7 @@ by_status f P s (Marked text bad) c refused marked ran other e = marked (text, b
 by_status f P s (Ran w) c refused marked ran other e = ran w c e
 
 -- a rig that failed, and a source, were counted
-ran_rig : (c : Option Command) (w : Outcome) (f : Facts) → CauseRan c w f → w.ending ≡ RigFailed → (uses_rig c ≡ true) × Rose f.rig.seen.faults f.rig_after.seen.faults
+ran_rig : (c : Option Command) (w : Outcome) (f : Facts) → CauseRan c w f → w.ending ≡ RigFailed → (uses_rig c ≡ true) × Rose f.rig.faults f.rig_after.faults
 ran_rig None w f h e = absurd h
 ran_rig (Some Help) w f h e = absurd h
 ran_rig (Some Version) w f h e = absurd h
@@ -564,8 +564,8 @@ reads_done : IsDone status.ReadFault → ⊥
 reads_done (inl e) = cc
 reads_done (inr e) = cc
 
-rig_rose : (f : Facts) (old new : Option (List ℕ)) (o n : ℕ) (result : Status) (v : Verdict) → Cause v f → Written (verdict_status v) (verdict_text v) old new o n result ⊎ BrokeOff v f old new result → result ≡ status.RigFault → StoreRose (command_in f.words) f ⊎ ((uses_rig (command_in f.words) ≡ true) × Rose f.rig.seen.faults f.rig_after.seen.faults)
-rig_rose f old new o n result v c (inl (inl w)) e = by_status f (StoreRose (command_in f.words) f ⊎ ((uses_rig (command_in f.words) ≡ true) × Rose f.rig.seen.faults f.rig_after.seen.faults)) status.RigFault v c (λ r cause k. inl (refused_rig f r cause k)) (λ m k. absurd (cc)) (λ x h k. inr (ran_rig (command_in f.words) x f h (rig_ending x.ending k))) not_rig_fault (sym w.0 ∙ e)
+rig_rose : (f : Facts) (old new : Option (List ℕ)) (o n : ℕ) (result : Status) (v : Verdict) → Cause v f → Written (verdict_status v) (verdict_text v) old new o n result ⊎ BrokeOff v f old new result → result ≡ status.RigFault → StoreRose (command_in f.words) f ⊎ ((uses_rig (command_in f.words) ≡ true) × Rose f.rig.faults f.rig_after.faults)
+rig_rose f old new o n result v c (inl (inl w)) e = by_status f (StoreRose (command_in f.words) f ⊎ ((uses_rig (command_in f.words) ≡ true) × Rose f.rig.faults f.rig_after.faults)) status.RigFault v c (λ r cause k. inl (refused_rig f r cause k)) (λ m k. absurd (cc)) (λ x h k. inr (ran_rig (command_in f.words) x f h (rig_ending x.ending k))) not_rig_fault (sym w.0 ∙ e)
 rig_rose f old new o n result v c (inl (inr w)) e = let k : status.WriteFault ≡ status.RigFault = sym w.0 ∙ e in absurd (cc)
 rig_rose f old new o n result v c (inr w) e = inl (broke_by v f old new result c w)
 

@@ -8,7 +8,7 @@ use Rattle.image_blocks.specs.Images.{IsJudged, units_open}
 use Rattle.image_blocks.specs.declared.image.Image.{Image}
 use Rattle.image_blocks.specs.declared.stretch.PlaceFault.{PlaceFault}
 use Rattle.image_blocks.specs.declared.stretch.Stretch.{Stretch}
-use Rattle.image_commands.specs.Views.{OpenedOnce as RigOpenedOnce, View}
+use Rattle.image_commands.specs.Views.{OpenedOnce as RigOpenedOnce}
 use Rattle.image_show.specs.Shown.{ShowEnds, text_of}
 use Rattle.image_show.specs.declared.fault.ShowFault.{ShowFault}
 use Rattle.image_show.specs.declared.fault.ShowFault.TheVariants as show
@@ -18,6 +18,7 @@ use Rattle.lab_words.specs.declared.place.Place.{Place}
 use Rattle.rig_api.specs.Telling.{OpenedBy}
 use Rattle.rig_api.specs.declared.rig.RigFault.{RigFault}
 use Rattle.rig_api.specs.declared.rig.RigFault.TheVariants as head
+use Rattle.rig_api.specs.State.{RigState}
 use Rattle.lab_words.specs.Grammar.{command_in}
 use Rattle.lab_run.specs.Calls.{Facts, Held, OpenedOnce, called_of, on_first, stretch_in}
 use Rattle.lab_run.specs.Texts.{refusal_of, refusal_text, status_of}
@@ -81,7 +82,7 @@ keeps_source (Some Explain) f l r = omega (arith, r)
 keeps_source (Some (Sweep byte units)) f l r = omega (arith, r)
 
 opens_none : (f : Facts) → f.rig_after ≡ f.rig → OpensRig f
-opens_none f e = subst (λ (v : View). RigOpenedOnce (image_in f.words) f.rig.standing v.standing × (f.rig.seen.faults ≤ v.seen.faults)) (sym e) (inl (refl, refl), omega arith)
+opens_none f e = subst (λ (v : RigState). RigOpenedOnce (image_in f.words) f.rig.standing v.standing × (f.rig.faults ≤ v.faults)) (sym e) (inl (refl, refl), omega arith)
 
 pub keeps_rig : (c : Option Command) (f : Facts) → f.rig_after ≡ f.rig → KeepsRig c f
 keeps_rig None f e = e
@@ -111,12 +112,12 @@ keeps_image (Some Judge) f b = b
 keeps_image (Some Explain) f b = b
 keeps_image (Some (Sweep byte units)) f b = b
 
-pub kept_on : (words : List (List ℕ)) (old new : Held) (left : Option (List ℕ)) (reads : ℕ) (rig : View) (second : Held) → new.bytes ≡ old.bytes → OpenedOnce (image_in words) old new → old.faults ≤ new.faults → Keeps (on_first words old new left reads rig second)
+pub kept_on : (words : List (List ℕ)) (old new : Held) (left : Option (List ℕ)) (reads : ℕ) (rig : RigState) (second : Held) → new.bytes ≡ old.bytes → OpenedOnce (image_in words) old new → old.faults ≤ new.faults → Keeps (on_first words old new left reads rig second)
 kept_on words old new left reads rig second b o c =
     let f = on_first words old new left reads rig second in
     record { source = keeps_source (command_in words) f refl refl; rig = keeps_rig (command_in words) f refl; second = inl refl; image = keeps_image (command_in words) f b; openings = o; count = c }
 
-pub unlisted : (words : List (List ℕ)) (old new : Held) (left : Option (List ℕ)) (reads : ℕ) (rig : View) (second : Held) (x : RigFault) (r : Refusal) (taken taken' : Option (List ℕ)) (o n : ℕ) (result : Status) →
+pub unlisted : (words : List (List ℕ)) (old new : Held) (left : Option (List ℕ)) (reads : ℕ) (rig : RigState) (second : Held) (x : RigFault) (r : Refusal) (taken taken' : Option (List ℕ)) (o n : ℕ) (result : Status) →
     command_in words ≡ Some ShowUnits → r ≡ refusal_of x → Tried (Err x) (image_in words) old new → Written (status_of r) (refusal_text r) taken taken' o n result → Ended (on_first words old new left reads rig second) taken taken' o n result
 unlisted words old new left reads rig second x r taken taken' o n result e s t w =
     let f = on_first words old new left reads rig second in
@@ -124,7 +125,7 @@ unlisted words old new left reads rig second x r taken taken' o n result e s t w
     (subst (λ (c : Option Command). CauseByCommand c r f) (sym e) (subst (λ (y : Refusal). CauseNotListed y f) (sym s) (not_listed x f t)))
     (kept_on words old new left reads rig second t.same t.opening t.count) w
 
-pub unshown : (words : List (List ℕ)) (place : Place) (old new : Held) (left : Option (List ℕ)) (reads : ℕ) (rig : View) (second : Held) (x : RigFault) (r : Refusal) (taken taken' : Option (List ℕ)) (o n : ℕ) (result : Status) →
+pub unshown : (words : List (List ℕ)) (place : Place) (old new : Held) (left : Option (List ℕ)) (reads : ℕ) (rig : RigState) (second : Held) (x : RigFault) (r : Refusal) (taken taken' : Option (List ℕ)) (o n : ℕ) (result : Status) →
     command_in words ≡ Some (ShowBlocks place) → r ≡ refusal_of x → Tried (Err x) (image_in words) old new → Written (status_of r) (refusal_text r) taken taken' o n result → Ended (on_first words old new left reads rig second) taken taken' o n result
 unshown words place old new left reads rig second x r taken taken' o n result e s t w =
     let f = on_first words old new left reads rig second in
@@ -133,7 +134,7 @@ unshown words place old new left reads rig second x r taken taken' o n result e 
     (kept_on words old new left reads rig second t.same t.opening t.count) w
 
 -- want of memory for the blocks
-pub spared : (words : List (List ℕ)) (place : Place) (old : Held) (left : Option (List ℕ)) (reads : ℕ) (rig : View) (second : Held) (taken taken' : Option (List ℕ)) (o n : ℕ) (result : Status) →
+pub spared : (words : List (List ℕ)) (place : Place) (old : Held) (left : Option (List ℕ)) (reads : ℕ) (rig : RigState) (second : Held) (taken taken' : Option (List ℕ)) (o n : ℕ) (result : Status) →
     command_in words ≡ Some (ShowBlocks place) → Written (status_of refusal.Memory) (refusal_text refusal.Memory) taken taken' o n result → Ended (on_first words old old left reads rig second) taken taken' o n result
 spared words place old left reads rig second taken taken' o n result e w =
     let f = on_first words old old left reads rig second in
@@ -145,7 +146,7 @@ spared words place old left reads rig second taken taken' o n result e w =
 pub opened_on : (image : Image) (f : Facts) → Tried (Ok image) (image_in f.words) f.first f.first_after → HasOpened (units_open image) f
 opened_on image f t = record { opened = t.opened; head = t.judged.head; right = t.judged.judged; told = t.judged.told; units = t.judged.units }
 
-pub listed : (words : List (List ℕ)) (old new : Held) (left : Option (List ℕ)) (reads : ℕ) (rig : View) (second : Held) (image : Image) (taken taken' : Option (List ℕ)) (o n : ℕ) (result : Status) →
+pub listed : (words : List (List ℕ)) (old new : Held) (left : Option (List ℕ)) (reads : ℕ) (rig : RigState) (second : Held) (image : Image) (taken taken' : Option (List ℕ)) (o n : ℕ) (result : Status) →
     command_in words ≡ Some ShowUnits → Tried (Ok image) (image_in words) old new → Written (verdict_status (Listed (units_open image))) (verdict_text (Listed (units_open image))) taken taken' o n result → Ended (on_first words old new left reads rig second) taken taken' o n result
 listed words old new left reads rig second image taken taken' o n result e t w = record {
   verdict = Listed (units_open image);
@@ -155,7 +156,7 @@ listed words old new left reads rig second image taken taken' o n result e t w =
 }
 
 -- an image without the place
-pub unplaced : (words : List (List ℕ)) (place : Place) (old new : Held) (left : Option (List ℕ)) (reads : ℕ) (rig : View) (second : Held) (image : Image) (x : PlaceFault) (taken taken' : Option (List ℕ)) (o n : ℕ) (result : Status) →
+pub unplaced : (words : List (List ℕ)) (place : Place) (old new : Held) (left : Option (List ℕ)) (reads : ℕ) (rig : RigState) (second : Held) (image : Image) (x : PlaceFault) (taken taken' : Option (List ℕ)) (o n : ℕ) (result : Status) →
     command_in words ≡ Some (ShowBlocks place) → Tried (Ok image) (image_in words) old new → Err x ≡ stretch_in (units_open image) place → Written (status_of (refusal.Place x)) (refusal_text (refusal.Place x)) taken taken' o n result →
     Ended (on_first words old new left reads rig second) taken taken' o n result
 unplaced words place old new left reads rig second image x taken taken' o n result e t p w =
@@ -173,7 +174,7 @@ pub record Goes (name : List ℕ) (old mid new : Held) : Type 0 where
   pub openings : new.openings ≡ mid.openings
   pub count : mid.faults ≤ new.faults
 
-pub on_opened : (image : Image) (words : List (List ℕ)) (old mid new : Held) (left : Option (List ℕ)) (reads : ℕ) (rig : View) (second : Held) → Tried (Ok image) (image_in words) old mid → Goes (image_in words) old mid new → HasOpened (units_open image) (on_first words old new left reads rig second)
+pub on_opened : (image : Image) (words : List (List ℕ)) (old mid new : Held) (left : Option (List ℕ)) (reads : ℕ) (rig : RigState) (second : Held) → Tried (Ok image) (image_in words) old mid → Goes (image_in words) old mid new → HasOpened (units_open image) (on_first words old new left reads rig second)
 on_opened image words old mid new left reads rig second t g = record {
   opened = rw (g.named, g.openings) t.opened;
   head = t.judged.head;
@@ -182,11 +183,11 @@ on_opened image words old mid new left reads rig second t g = record {
   units = t.judged.units;
 }
 
-pub keeps_on : (image : Image) (words : List (List ℕ)) (old mid new : Held) (left : Option (List ℕ)) (reads : ℕ) (rig : View) (second : Held) → Tried (Ok image) (image_in words) old mid → Goes (image_in words) old mid new → Keeps (on_first words old new left reads rig second)
+pub keeps_on : (image : Image) (words : List (List ℕ)) (old mid new : Held) (left : Option (List ℕ)) (reads : ℕ) (rig : RigState) (second : Held) → Tried (Ok image) (image_in words) old mid → Goes (image_in words) old mid new → Keeps (on_first words old new left reads rig second)
 keeps_on image words old mid new left reads rig second t g =
     kept_on words old new left reads rig second (g.same ∙ t.same) (rw (g.named, g.openings) t.opening) (let a = t.count in let b = g.count in omega arith)
 
-pub shown : (words : List (List ℕ)) (place : Place) (old mid new : Held) (left : Option (List ℕ)) (reads : ℕ) (rig : View) (second : Held) (image : Image) (at : Stretch) (r : Result ℕ ShowFault) (taken taken' : Option (List ℕ)) (o n : ℕ) (result : Status) →
+pub shown : (words : List (List ℕ)) (place : Place) (old mid new : Held) (left : Option (List ℕ)) (reads : ℕ) (rig : RigState) (second : Held) (image : Image) (at : Stretch) (r : Result ℕ ShowFault) (taken taken' : Option (List ℕ)) (o n : ℕ) (result : Status) →
     command_in words ≡ Some (ShowBlocks place) → Tried (Ok image) (image_in words) old mid → Goes (image_in words) old mid new → Ok at ≡ stretch_in (units_open image) place →
     ShowEnds r (text_of (units_open image) at) (units_open image) at mid.bytes mid.faults new.faults o n taken taken' → result ≡ shown_status r → Ended (on_first words old new left reads rig second) taken taken' o n result
 shown words place old mid new left reads rig second image at (Ok bad) taken taken' o n result e t g p s w = record {
@@ -210,11 +211,11 @@ shown words place old mid new left reads rig second image at (Err show.Sink) tak
 
 -- ---- calls that touch no image
 
-pub without_image : (words : List (List ℕ)) (h : Held) (left : Option (List ℕ)) (reads : ℕ) (rig : View) (second : Held) (v : Verdict) (taken taken' : Option (List ℕ)) (o n : ℕ) (result : Status) →
+pub without_image : (words : List (List ℕ)) (h : Held) (left : Option (List ℕ)) (reads : ℕ) (rig : RigState) (second : Held) (v : Verdict) (taken taken' : Option (List ℕ)) (o n : ℕ) (result : Status) →
     Cause v (on_first words h h left reads rig second) → Written (verdict_status v) (verdict_text v) taken taken' o n result → Ended (on_first words h h left reads rig second) taken taken' o n result
 without_image words h left reads rig second v taken taken' o n result c w = record { verdict = v; cause = c; written = inl w; kept = kept_on words h h left reads rig second refl (inl (refl, refl)) (omega arith) }
 
-pub no_command : (words : List (List ℕ)) (h : Held) (left : Option (List ℕ)) (reads : ℕ) (rig : View) (second : Held) (taken taken' : Option (List ℕ)) (o n : ℕ) (result : Status) →
+pub no_command : (words : List (List ℕ)) (h : Held) (left : Option (List ℕ)) (reads : ℕ) (rig : RigState) (second : Held) (taken taken' : Option (List ℕ)) (o n : ℕ) (result : Status) →
     command_in words ≡ None → Written (status_of refusal.Words) (refusal_text refusal.Words) taken taken' o n result → Ended (on_first words h h left reads rig second) taken taken' o n result
 no_command words h left reads rig second taken taken' o n result e w =
     without_image words h left reads rig second (Refused refusal.Words) taken taken' o n result (subst (λ (c : Option Command). CauseByCommand c refusal.Words (on_first words h h left reads rig second)) (sym e) refl) w

@@ -3,13 +3,14 @@ use Rattle.std.proofs.Common.{ℕ, ◌≡◌, ◌≤◌, ◌⊎◌, inl, inr, Bo
 use Rattle.dix_base.specs.Told.{Calm, Rose}
 use Rattle.dix_words.specs.Grammar.{image_in}
 use Rattle.image_commands.specs.Causes.{CauseUntold, HasOpened}
-use Rattle.image_commands.specs.Views.{OpenedOnce, View}
+use Rattle.image_commands.specs.Views.{OpenedOnce}
 use Rattle.image_commands.specs.declared.fault.Fault.{Fault}
 use Rattle.image_commands.specs.declared.fault.Fault.TheVariants as fault
 use Rattle.lab_words.specs.declared.command.Command.{Command}
 use Rattle.lab_words.specs.declared.command.Command.TheVariants.{Explain}
 use Rattle.rig_api.specs.Head.{head_fault, head_of}
 use Rattle.rig_api.specs.Telling.{Standing}
+use Rattle.rig_api.specs.State.{RigState}
 use Rattle.run_words.proofs.Marking.{marked_complete, refused_complete}
 use Rattle.run_words.specs.Explained.{CauseNotRun, CauseUnexplained, HasExplained as HasRunExplained, HasMarked, IsAtFault}
 use Rattle.run_words.specs.Sites.{sites_of}
@@ -37,26 +38,26 @@ use Rattle.lab_run.specs.declared.status.Status.TheVariants as status
 -- ---- the rig is opened at most once, and its count doesn't fall
 
 -- so it is from one view to another
-abbrev Goes : List ℕ → View → View → Type 0
-Goes name old new = OpenedOnce name old.standing new.standing × (old.seen.faults ≤ new.seen.faults)
+abbrev Goes : List ℕ → RigState → RigState → Type 0
+Goes name old new = OpenedOnce name old.standing new.standing × (old.faults ≤ new.faults)
 
-goes_open : (name : List ℕ) (old between new : View) → HasOpened name old between new → Goes name old new
+goes_open : (name : List ℕ) (old between new : RigState) → HasOpened name old between new → Goes name old new
 goes_open name old between new o =
     let a = o.kept.count in
     let b = o.count in
     (inr (ap (λ (s : Standing). s.openings) o.standing ∙ o.opened.opened.0, ap (λ (s : Standing). s.name) o.standing ∙ o.opened.opened.1), omega (arith, a, b))
 
-goes_untold : (x : Fault) (name : List ℕ) (old new : View) → CauseUntold x name old new → Goes name old new
+goes_untold : (x : Fault) (name : List ℕ) (old new : RigState) → CauseUntold x name old new → Goes name old new
 goes_untold (fault.Image f) name old new c = (inr c.0.opened, c.1.count)
 goes_untold (fault.BadCapacity dev) name old new c = goes_open name old c.between new c.since
 goes_untold fault.RigFault name old new c = (inr c.1, c.2.count)
 goes_untold fault.Memory name old new c = (c.1, c.0.count)
 
-goes_short : (name : List ℕ) (old new : View) → StoppedShort name old new → Goes name old new
+goes_short : (name : List ℕ) (old new : RigState) → StoppedShort name old new → Goes name old new
 goes_short name old new (inl c) = (c.1, c.0.count)
 goes_short name old new (inr c) = goes_open name old c.1.told.between new c.1.told.since
 
-goes_stopped : (r : Stop) (script : Script) (name : List ℕ) (old new : View) → CauseStopped r script name old new → Goes name old new
+goes_stopped : (r : Stop) (script : Script) (name : List ℕ) (old new : RigState) → CauseStopped r script name old new → Goes name old new
 goes_stopped (stop.Script bad) script name old new c = goes_open name old c.asked.told.between new c.asked.told.since
 goes_stopped (stop.Image x) script name old new c = goes_untold (fault.Image x) name old new c
 goes_stopped (stop.BadCapacity dev) script name old new c = goes_untold (fault.BadCapacity dev) name old new c
@@ -65,17 +66,17 @@ goes_stopped stop.RigFault script name old new c = goes_untold fault.RigFault na
 goes_stopped stop.Memory script name old new c = goes_short name old new c
 goes_stopped stop.ReadFault script name old new c = absurd c
 
-still : (name : List ℕ) (old new : View) → new ≡ old → Goes name old new
-still name old new e = subst (λ (v : View). Goes name old v) (sym e) (inl (refl, refl), omega arith)
+still : (name : List ℕ) (old new : RigState) → new ≡ old → Goes name old new
+still name old new e = subst (λ (v : RigState). Goes name old v) (sym e) (inl (refl, refl), omega arith)
 
 goes_refused : (r : Stop) (f : Call) → CauseRefused r f → Goes f.name f.rig f.rig_after
 goes_refused r f (inl c) = still f.name f.rig f.rig_after c.1
 goes_refused r f (inr c) = goes_stopped r c.0 f.name f.rig f.rig_after c.2
 
-goes_on_from : (name : List ℕ) (old told new : View) → Goes name old told → new.standing ≡ told.standing → told.seen.faults ≤ new.seen.faults → Goes name old new
+goes_on_from : (name : List ℕ) (old told new : RigState) → Goes name old told → new.standing ≡ told.standing → told.faults ≤ new.faults → Goes name old new
 goes_on_from name old told new g e k = let a = g.1 in (subst (λ (s : Standing). OpenedOnce name old.standing s) (sym e) g.0, omega (arith, a, k))
 
-goes_run : (run : Finished) (script : Script) (name : List ℕ) (old new : View) → HasRun run script name old new → Goes name old new
+goes_run : (run : Finished) (script : Script) (name : List ℕ) (old new : RigState) → HasRun run script name old new → Goes name old new
 goes_run run script name old new h =
     goes_on_from name old h.told new (goes_open name old h.asked.told.between h.told h.asked.told.since) h.followed.goes.standing h.followed.goes.faults
 
@@ -95,7 +96,7 @@ goes_not_run stop.RigFault f c = goes_refused stop.RigFault f c
 goes_not_run stop.Memory f c = goes_refused stop.Memory f c
 goes_not_run stop.ReadFault f c = goes_refused stop.ReadFault f c
 
-kept : (words : List (List ℕ)) (left left' : Option (List ℕ)) (reads reads' : ℕ) (rig rig' : View) (first second : Held) → command_in words ≡ Some Explain → reads ≤ reads' → Goes (image_in words) rig rig' → Keeps (on_rig words left left' reads reads' rig rig' first second)
+kept : (words : List (List ℕ)) (left left' : Option (List ℕ)) (reads reads' : ℕ) (rig rig' : RigState) (first second : Held) → command_in words ≡ Some Explain → reads ≤ reads' → Goes (image_in words) rig rig' → Keeps (on_rig words left left' reads reads' rig rig' first second)
 kept words left left' reads reads' rig rig' first second e k g =
     let f = on_rig words left left' reads reads' rig rig' first second in
     record {
@@ -109,7 +110,7 @@ kept words left left' reads reads' rig rig' first second e k g =
 
 -- ---- a call
 
-came : (words : List (List ℕ)) (left left' : Option (List ℕ)) (reads reads' : ℕ) (rig rig' : View) (first second : Held) (w : Outcome) (taken taken' : Option (List ℕ)) (o n : ℕ) (result : Status) →
+came : (words : List (List ℕ)) (left left' : Option (List ℕ)) (reads reads' : ℕ) (rig rig' : RigState) (first second : Held) (w : Outcome) (taken taken' : Option (List ℕ)) (o n : ℕ) (result : Status) →
     command_in words ≡ Some Explain → reads ≤ reads' → Goes (image_in words) rig rig' → HasExplained w (on_rig words left left' reads reads' rig rig' first second) → Written (ending_status w.ending) w.text taken taken' o n result →
     Ended (on_rig words left left' reads reads' rig rig' first second) taken taken' o n result
 came words left left' reads reads' rig rig' first second w taken taken' o n result e k g h t =
@@ -125,26 +126,26 @@ pub run_status : (b : Bool) → done_status b ≡ ending_status (found_ending b)
 run_status true = refl
 run_status false = refl
 
-guided_text : (told : Explained) (f : Call) (h : HasRunExplained told f) → explained_by told.guide.sites.items told.guide.entries (drop told.run.first f.rig_after.seen.log) told.run.stack.replies.items ≡ explained_text h.script (drop told.run.first f.rig_after.seen.log) told.run.stack.replies.items
+guided_text : (told : Explained) (f : Call) (h : HasRunExplained told f) → explained_by told.guide.sites.items told.guide.entries (drop told.run.first f.rig_after.log) told.run.stack.replies.items ≡ explained_text h.script (drop told.run.first f.rig_after.log) told.run.stack.replies.items
 guided_text told f h =
-    let log = drop told.run.first f.rig_after.seen.log in
+    let log = drop told.run.first f.rig_after.log in
     ap (λ x. explained_by x told.guide.entries log told.run.stack.replies.items) h.explained.guided.sites
     ∙ ap (λ x. explained_by (sites_of h.script) x log told.run.stack.replies.items) h.explained.guided.entries
 
-pub told : (words : List (List ℕ)) (left left' : Option (List ℕ)) (reads reads' : ℕ) (rig rig' : View) (first second : Held) (x : Explained) (taken taken' : Option (List ℕ)) (o n : ℕ) (result : Status) →
+pub told : (words : List (List ℕ)) (left left' : Option (List ℕ)) (reads reads' : ℕ) (rig rig' : RigState) (first second : Held) (x : Explained) (taken taken' : Option (List ℕ)) (o n : ℕ) (result : Status) →
     command_in words ≡ Some Explain → reads ≤ reads' → HasRunExplained x (explain_call (on_rig words left left' reads reads' rig rig' first second)) →
-    Written (done_status (has_bad x.run.stack.replies.items)) (explained_by x.guide.sites.items x.guide.entries (drop x.run.first rig'.seen.log) x.run.stack.replies.items) taken taken' o n result →
+    Written (done_status (has_bad x.run.stack.replies.items)) (explained_by x.guide.sites.items x.guide.entries (drop x.run.first rig'.log) x.run.stack.replies.items) taken taken' o n result →
     Ended (on_rig words left left' reads reads' rig rig' first second) taken taken' o n result
 told words left left' reads reads' rig rig' first second x taken taken' o n result e k h t =
     let f = on_rig words left left' reads reads' rig rig' first second in
     let bad = has_bad x.run.stack.replies.items in
-    let text = explained_text h.script (drop x.run.first rig'.seen.log) x.run.stack.replies.items in
+    let text = explained_text h.script (drop x.run.first rig'.log) x.run.stack.replies.items in
     let w : Outcome = record { ending = found_ending bad; text = text } in
     came words left left' reads reads' rig rig' first second w taken taken' o n result e k (goes_run x.run h.script (image_in words) rig rig' h.explained.ran)
     (record { named = e; untouched = refl; came = inl (record { run = x.run; script = h.script; read = h.read; ran = h.explained.ran; text = refl; ending = refl }) })
     (subst (λ (s : Status). Written s text taken taken' o n result) (run_status bad) (subst (λ (z : List ℕ). Written (done_status bad) z taken taken' o n result) (guided_text x (explain_call f) h) t))
 
-marked : (words : List (List ℕ)) (left left' : Option (List ℕ)) (reads reads' : ℕ) (rig rig' : View) (first second : Held) (said : List ℕ) (taken taken' : Option (List ℕ)) (o n : ℕ) (result : Status) →
+marked : (words : List (List ℕ)) (left left' : Option (List ℕ)) (reads reads' : ℕ) (rig rig' : RigState) (first second : Held) (said : List ℕ) (taken taken' : Option (List ℕ)) (o n : ℕ) (result : Status) →
     command_in words ≡ Some Explain → reads ≤ reads' → HasMarked said (explain_call (on_rig words left left' reads reads' rig rig' first second)) → Written status.Input said taken taken' o n result →
     Ended (on_rig words left left' reads reads' rig rig' first second) taken taken' o n result
 marked words left left' reads reads' rig rig' first second said taken taken' o n result e k m t =
@@ -152,7 +153,7 @@ marked words left left' reads reads' rig rig' first second said taken taken' o n
     came words left left' reads reads' rig rig' first second (record { ending = BadInput; text = said }) taken taken' o n result e k (goes_marked said (explain_call f) m)
     (record { named = e; untouched = refl; came = inr (inl (record { marked = m; ending = refl })) }) t
 
-pub stopped : (words : List (List ℕ)) (left left' : Option (List ℕ)) (reads reads' : ℕ) (rig rig' : View) (first second : Held) (r : Stop) (taken taken' : Option (List ℕ)) (o n : ℕ) (result : Status) →
+pub stopped : (words : List (List ℕ)) (left left' : Option (List ℕ)) (reads reads' : ℕ) (rig rig' : RigState) (first second : Held) (r : Stop) (taken taken' : Option (List ℕ)) (o n : ℕ) (result : Status) →
     command_in words ≡ Some Explain → reads ≤ reads' → CauseNotRun r (explain_call (on_rig words left left' reads reads' rig rig' first second)) → Written (ending_status (stop_ending r)) (stop_text r) taken taken' o n result →
     Ended (on_rig words left left' reads reads' rig rig' first second) taken taken' o n result
 stopped words left left' reads reads' rig rig' first second r taken taken' o n result e k c t =
@@ -160,7 +161,7 @@ stopped words left left' reads reads' rig rig' first second r taken taken' o n r
     came words left left' reads reads' rig rig' first second (record { ending = stop_ending r; text = stop_text r }) taken taken' o n result e k (goes_not_run r (explain_call f) c)
     (record { named = e; untouched = refl; came = inr (inr (record { reason = r; cause = c; text = refl; ending = refl })) }) t
 
-pub marked_by : (words : List (List ℕ)) (left left' : Option (List ℕ)) (reads reads' : ℕ) (rig rig' : View) (first second : Held) (said line : List ℕ) (taken taken' : Option (List ℕ)) (o n : ℕ) (result : Status) →
+pub marked_by : (words : List (List ℕ)) (left left' : Option (List ℕ)) (reads reads' : ℕ) (rig rig' : RigState) (first second : Held) (said line : List ℕ) (taken taken' : Option (List ℕ)) (o n : ℕ) (result : Status) →
     command_in words ≡ Some Explain → reads ≤ reads' → HasMarked said (explain_call (on_rig words left left' reads reads' rig rig' first second)) → line ≡ said → Written status.Input line taken taken' o n result →
     Ended (on_rig words left left' reads reads' rig rig' first second) taken taken' o n result
 marked_by words left left' reads reads' rig rig' first second said line taken taken' o n result e k m l t =
@@ -179,7 +180,7 @@ pub run_no_source : (b : Bool) → found_ending b ≡ SourceFailed → ⊥
 run_no_source true e = cc
 run_no_source false e = cc
 
-refused_rig : (f : Call) → CauseRefused stop.RigFault f → Rose f.rig.seen.faults f.rig_after.seen.faults
+refused_rig : (f : Call) → CauseRefused stop.RigFault f → Rose f.rig.faults f.rig_after.faults
 refused_rig f (inl c) = absurd c.0
 refused_rig f (inr c) = c.2.0
 
@@ -187,7 +188,7 @@ refused_source : (f : Call) → CauseRefused stop.ReadFault f → Rose f.reads f
 refused_source f (inl c) = c.0.0
 refused_source f (inr c) = absurd c.2
 
-stop_rig : (r : Stop) (f : Facts) → CauseNotRun r (explain_call f) → stop_ending r ≡ RigFailed → Rose f.rig.seen.faults f.rig_after.seen.faults
+stop_rig : (r : Stop) (f : Facts) → CauseNotRun r (explain_call f) → stop_ending r ≡ RigFailed → Rose f.rig.faults f.rig_after.faults
 stop_rig (stop.Script bad) f c e = absurd c
 stop_rig (stop.Image x) f c e = cc
 stop_rig (stop.BadCapacity dev) f c e = cc
@@ -205,7 +206,7 @@ stop_source stop.RigFault f c e = cc
 stop_source stop.Memory f c e = cc
 stop_source stop.ReadFault f c e = refused_source (explain_call f) c
 
-came_rig : (w : Outcome) (f : Facts) → HasToldRun w f ⊎ (HasToldFault w f ⊎ HasToldStop w f) → w.ending ≡ RigFailed → Rose f.rig.seen.faults f.rig_after.seen.faults
+came_rig : (w : Outcome) (f : Facts) → HasToldRun w f ⊎ (HasToldFault w f ⊎ HasToldStop w f) → w.ending ≡ RigFailed → Rose f.rig.faults f.rig_after.faults
 came_rig w f (inl h) e = absurd (run_no_rig (has_bad h.run.stack.replies.items) (sym h.ending ∙ e))
 came_rig w f (inr (inl h)) e = let k = sym h.ending ∙ e in absurd (cc)
 came_rig w f (inr (inr h)) e = stop_rig h.reason f h.cause (sym h.ending ∙ e)
@@ -215,7 +216,7 @@ came_source w f (inl h) e = absurd (run_no_source (has_bad h.run.stack.replies.i
 came_source w f (inr (inl h)) e = let k = sym h.ending ∙ e in absurd (cc)
 came_source w f (inr (inr h)) e = stop_source h.reason f h.cause (sym h.ending ∙ e)
 
-pub explained_rig : (w : Outcome) (f : Facts) → HasExplained w f → w.ending ≡ RigFailed → Rose f.rig.seen.faults f.rig_after.seen.faults
+pub explained_rig : (w : Outcome) (f : Facts) → HasExplained w f → w.ending ≡ RigFailed → Rose f.rig.faults f.rig_after.faults
 explained_rig w f h e = came_rig w f h.came e
 
 pub explained_reads : (w : Outcome) (f : Facts) → HasExplained w f → w.ending ≡ SourceFailed → Rose f.reads f.reads_after
@@ -235,7 +236,7 @@ pub record IsRightRun (f : Facts) : Type 0 where
   pub table : table_fault script.entries (devices_of image) script.block ≡ None
   pub bound : binding_fault script (table_over script.entries (devices_of image)) (devices_of image) ≡ None
   pub source : Calm f.reads f.reads_after
-  pub rig : Calm f.rig.seen.faults f.rig_after.seen.faults
+  pub rig : Calm f.rig.faults f.rig_after.faults
 
 abbrev IsGood : Status → Type 0
 IsGood s = ((s ≡ status.Whole) ⊎ (s ≡ status.SomeBad)) ⊎ (s ≡ status.Memory)
@@ -246,7 +247,7 @@ run_good false = inl (inl refl)
 
 stop_good : (r : Stop) (f : Facts) → IsRightRun f → CauseNotRun r (explain_call f) → (r ≡ stop.Memory) ⊎ (r ≡ stop.RigFault) → IsGood (ending_status (stop_ending r))
 stop_good r f i c (inl e) = subst (λ (x : Stop). IsGood (ending_status (stop_ending x))) (sym e) (inr refl)
-stop_good r f i c (inr e) = absurd (never_rose f.rig.seen.faults f.rig_after.seen.faults i.rig (stop_rig r f c (ap stop_ending e)))
+stop_good r f i c (inr e) = absurd (never_rose f.rig.faults f.rig_after.faults i.rig (stop_rig r f c (ap stop_ending e)))
 
 -- nothing is marked, and what stops the run comes from outside
 marks_none : (said : List ℕ) (f : Facts) → IsRightRun f → HasMarked said (explain_call f) → ⊥

@@ -7,7 +7,7 @@ use Rattle.flip_sweep.specs.declared.sweep.Halt.{Halt}
 use Rattle.flip_sweep.specs.declared.sweep.Halt.TheVariants as halt
 use Rattle.flip_sweep.specs.declared.sweep.Unswept.{Unswept}
 use Rattle.flip_sweep.specs.declared.sweep.Unswept.TheVariants as unswept
-use Rattle.image_commands.specs.Views.{View}
+use Rattle.rig_api.specs.State.{RigState}
 use Rattle.lab_words.specs.declared.command.Command.{Command}
 use Rattle.lab_words.specs.declared.command.Command.TheVariants.{Sweep}
 use Rattle.rig_api.specs.declared.rig.RigFault.{RigFault}
@@ -37,7 +37,7 @@ use Rattle.lab_run.specs.declared.status.Status.TheVariants as status
 use Rattle.lab_run.proofs.Endings.{keeps_rig}
 use Rattle.lab_run.proofs.Explains.{status_is}
 
-pub kept : (words : List (List ℕ)) (h : Held) (left left' : Option (List ℕ)) (reads reads' : ℕ) (rig : View) (second : Held) (byte : ℕ) (units : List UnitSpec) → command_in words ≡ Some (Sweep byte units) → reads ≤ reads' → Keeps (on_input words h h left left' reads reads' rig second)
+pub kept : (words : List (List ℕ)) (h : Held) (left left' : Option (List ℕ)) (reads reads' : ℕ) (rig : RigState) (second : Held) (byte : ℕ) (units : List UnitSpec) → command_in words ≡ Some (Sweep byte units) → reads ≤ reads' → Keeps (on_input words h h left left' reads reads' rig second)
 kept words h left left' reads reads' rig second byte units e r =
     let f = on_input words h h left left' reads reads' rig second in
     record {
@@ -57,7 +57,7 @@ pub record Comes (f : Facts) : Type 0 where
   pub untouched : f.first_after ≡ f.first
   pub kept_is : Keeps f
 
-abbrev pub comes : (words : List (List ℕ)) (h : Held) (left left' : Option (List ℕ)) (reads reads' : ℕ) (rig : View) (second : Held) (byte : ℕ) (units : List UnitSpec) → command_in words ≡ Some (Sweep byte units) → reads ≤ reads' → Comes (on_input words h h left left' reads reads' rig second)
+abbrev pub comes : (words : List (List ℕ)) (h : Held) (left left' : Option (List ℕ)) (reads reads' : ℕ) (rig : RigState) (second : Held) (byte : ℕ) (units : List UnitSpec) → command_in words ≡ Some (Sweep byte units) → reads ≤ reads' → Comes (on_input words h h left left' reads reads' rig second)
 comes words h left left' reads reads' rig second byte units e r = record { byte = byte; units = units; named = e; untouched = refl; kept_is = kept words h left left' reads reads' rig second byte units e r }
 
 ended : (f : Facts) (c : Comes f) (w : Outcome) (taken taken' : Option (List ℕ)) (o n : ℕ) (result : Status) → SweepCameTo w.ending c.byte c.units f w.text → Written (ending_status w.ending) w.text taken taken' o n result → Ended f taken taken' o n result

@@ -2,10 +2,11 @@
 use Rattle.std.proofs.Common.{ℕ, ◌≡◌, ◌≤◌, ◌⊎◌, inl, inr, Bool, true, false, List, drop, Option, Some, Ok, Err, refl, sym, ap, subst, ◌∙◌, arith}
 use Rattle.dix_base.specs.Told.{Calm, Rose}
 use Rattle.dix_words.specs.Grammar.{image_in}
-use Rattle.image_commands.specs.Views.{OpenedOnce as RigOpenedOnce, View}
+use Rattle.image_commands.specs.Views.{OpenedOnce as RigOpenedOnce}
 use Rattle.lab_words.specs.declared.command.Command.{Command}
 use Rattle.lab_words.specs.declared.command.Command.TheVariants.{Vectors}
 use Rattle.rig_api.specs.declared.rig.RigFault.{RigFault}
+use Rattle.rig_api.specs.State.{RigState}
 use Rattle.script_text.specs.declared.fault.ScriptFault.{ScriptFault}
 use Rattle.script_verdict.specs.Texts.{refusal_text as stop_text}
 use Rattle.script_verdict.specs.Verdict.{Facts as PlayFacts, IsFromOutside}
@@ -33,7 +34,7 @@ use Rattle.lab_run.proofs.Explains.{run_no_rig, run_no_source}
 abbrev pub named : List ℕ → Facts → PlayFacts
 named name f = record { name = name; left = f.left; left_after = f.left_after; reads = f.reads; reads_after = f.reads_after; rig = f.rig; rig_after = f.rig_after }
 
-kept : (words : List (List ℕ)) (left left' : Option (List ℕ)) (reads reads' : ℕ) (rig rig' : View) (first second : Held) → command_in words ≡ Some Vectors → reads ≤ reads' → RigOpenedOnce (image_in words) rig.standing rig'.standing → rig.seen.faults ≤ rig'.seen.faults →
+kept : (words : List (List ℕ)) (left left' : Option (List ℕ)) (reads reads' : ℕ) (rig rig' : RigState) (first second : Held) → command_in words ≡ Some Vectors → reads ≤ reads' → RigOpenedOnce (image_in words) rig.standing rig'.standing → rig.faults ≤ rig'.faults →
     Keeps (on_rig words left left' reads reads' rig rig' first second)
 kept words left left' reads reads' rig rig' first second e r o n =
     let f = on_rig words left left' reads reads' rig rig' first second in
@@ -49,18 +50,18 @@ kept words left left' reads reads' rig rig' first second e r o n =
 ran : (f : Facts) (w : Outcome) (taken taken' : Option (List ℕ)) (o n : ℕ) (result : Status) → command_in f.words ≡ Some Vectors → HasVectors w f → Keeps f → Written (ending_status w.ending) w.text taken taken' o n result → Ended f taken taken' o n result
 ran f w taken taken' o n result e h k t = record { verdict = Ran w; cause = subst (λ (c : Option Command). CauseRan c w f) (sym e) h; written = inl t; kept = k }
 
-pub played : (words : List (List ℕ)) (left left' : Option (List ℕ)) (reads reads' : ℕ) (rig rig' : View) (first second : Held) (name : List ℕ) (p : Played) (taken taken' : Option (List ℕ)) (o n : ℕ) (result : Status) → command_in words ≡ Some Vectors → name ≡ image_in words →
+pub played : (words : List (List ℕ)) (left left' : Option (List ℕ)) (reads reads' : ℕ) (rig rig' : RigState) (first second : Held) (name : List ℕ) (p : Played) (taken taken' : Option (List ℕ)) (o n : ℕ) (result : Status) → command_in words ≡ Some Vectors → name ≡ image_in words →
     HasCome (Ok p) (named name (on_rig words left left' reads reads' rig rig' first second)) →
-    Written (ending_status (found_ending (has_sense (drop (first_of p) rig'.seen.log)))) (played_text p (drop (first_of p) rig'.seen.log)) taken taken' o n result →
+    Written (ending_status (found_ending (has_sense (drop (first_of p) rig'.log)))) (played_text p (drop (first_of p) rig'.log)) taken taken' o n result →
     Ended (on_rig words left left' reads reads' rig rig' first second) taken taken' o n result
 played words left left' reads reads' rig rig' first second name p taken taken' o n result e i h t =
     let f = on_rig words left left' reads reads' rig rig' first second in
     let come : HasCome (Ok p) (played_by f) = subst (λ (x : List ℕ). HasCome (Ok p) (named x f)) i h in
-    let entries = drop (first_of p) rig'.seen.log in
+    let entries = drop (first_of p) rig'.log in
     ran f (record { ending = found_ending (has_sense entries); text = played_text p entries }) taken taken' o n result e (inl (p, entries, record { played = come.verdict; all = come.since; ending = refl; text = refl }))
     (kept words left left' reads reads' rig rig' first second e come.reads come.opens come.count) t
 
-pub stopped : (words : List (List ℕ)) (left left' : Option (List ℕ)) (reads reads' : ℕ) (rig rig' : View) (first second : Held) (name : List ℕ) (r : Stop) (taken taken' : Option (List ℕ)) (o n : ℕ) (result : Status) → command_in words ≡ Some Vectors → name ≡ image_in words →
+pub stopped : (words : List (List ℕ)) (left left' : Option (List ℕ)) (reads reads' : ℕ) (rig rig' : RigState) (first second : Held) (name : List ℕ) (r : Stop) (taken taken' : Option (List ℕ)) (o n : ℕ) (result : Status) → command_in words ≡ Some Vectors → name ≡ image_in words →
     HasCome (Err r) (named name (on_rig words left left' reads reads' rig rig' first second)) → Written (ending_status (stop_ending r)) (stop_text r) taken taken' o n result → Ended (on_rig words left left' reads reads' rig rig' first second) taken taken' o n result
 stopped words left left' reads reads' rig rig' first second name r taken taken' o n result e i h t =
     let f = on_rig words left left' reads reads' rig rig' first second in
@@ -88,7 +89,7 @@ stop_source stop.RigFault e = absurd (cc)
 stop_source stop.Memory e = absurd (cc)
 stop_source stop.ReadFault e = refl
 
-pub vectors_rig : (w : Outcome) (f : Facts) → HasVectors w f → w.ending ≡ RigFailed → Rose f.rig.seen.faults f.rig_after.seen.faults
+pub vectors_rig : (w : Outcome) (f : Facts) → HasVectors w f → w.ending ≡ RigFailed → Rose f.rig.faults f.rig_after.faults
 vectors_rig w f (inl h) e = absurd (run_no_rig (has_sense h.1) (sym h.2.ending ∙ e))
 vectors_rig w f (inr h) e = rig_failed h.0 (played_by f) (stop_rig h.0 (sym h.1.ending ∙ e)) h.1.cause
 
@@ -157,9 +158,9 @@ outside f result r w a b c (inl m) = inr (inr (stopped_as f result r stop.Memory
 outside f result r w a b c (inr m) = absurd (c m)
 
 -- where nothing in a text that is told and its image is at fault
-right : (f : Facts) (result : Status) (w : Outcome) → HasVectors w f → result ≡ ending_status w.ending → Calm f.rig.seen.faults f.rig_after.seen.faults → ((h : (r : Stop) × WereNotPlayed r w f) → IsFromOutside h.0) → IsDoneOrShort result
+right : (f : Facts) (result : Status) (w : Outcome) → HasVectors w f → result ≡ ending_status w.ending → Calm f.rig.faults f.rig_after.faults → ((h : (r : Stop) × WereNotPlayed r w f) → IsFromOutside h.0) → IsDoneOrShort result
 right f result w (inl h) s k c = done_or result (has_sense h.1) (s ∙ ap ending_status h.2.ending)
-right f result w (inr h) s k c = outside f result h.0 w s h.1.ending (λ m. never_rose f.rig.seen.faults f.rig_after.seen.faults k (rig_failed h.0 (played_by f) m h.1.cause)) (c h)
+right f result w (inr h) s k c = outside f result h.0 w s h.1.ending (λ m. never_rose f.rig.faults f.rig_after.faults k (rig_failed h.0 (played_by f) m h.1.cause)) (c h)
 
 pub plays : (f : Facts) (old new : Option (List ℕ)) (o n : ℕ) (result : Status) → Ended f old new o n result → command_in f.words ≡ Some Vectors → PlaysTexts f o n result
 plays f old new o n result ended e = record {

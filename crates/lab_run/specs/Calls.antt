@@ -2,7 +2,6 @@ use Rattle.std.specs.Prelude.{ℕ, ◌⊎◌, Bool, true, false, List, [], ◌�
 use Rattle.image_blocks.specs.Places.{part_in, whole_in}
 use Rattle.image_blocks.specs.declared.stretch.PlaceFault.{PlaceFault}
 use Rattle.image_blocks.specs.declared.stretch.Stretch.{Stretch}
-use Rattle.image_commands.specs.Views.{View}
 use Rattle.image_dumps.specs.declared.layout.Layout.{Layout as DumpLayout}
 use Rattle.image_dumps.specs.declared.layout.Layout.TheVariants as dump
 use Rattle.image_layout.specs.Heads.{called}
@@ -13,6 +12,7 @@ use Rattle.lab_words.specs.declared.layout.Layout.TheVariants as word
 use Rattle.lab_words.specs.declared.place.Place.{Place}
 use Rattle.lab_words.specs.declared.place.Place.TheVariants.{Device, Blocks}
 use Rattle.rig_api.specs.Telling.{Opened, Standing, Stayed}
+use Rattle.rig_api.specs.State.{RigState}
 use Rattle.target_answer.specs.declared.units.UnitSpec.{UnitSpec}
 
 -- What a call of the program speaks of.
@@ -92,15 +92,15 @@ pub record Facts : Type 0 where
   pub left_after : Option (List ℕ)
   pub reads : ℕ
   pub reads_after : ℕ
-  pub rig : View
-  pub rig_after : View
+  pub rig : RigState
+  pub rig_after : RigState
   pub first : Held
   pub first_after : Held
   pub second : Held
   pub second_after : Held
 
 -- a call that works on its source and its first store alone
-abbrev pub on_input : List (List ℕ) → (old new : Held) → (left left_after : Option (List ℕ)) → (reads reads_after : ℕ) → View → Held → Facts
+abbrev pub on_input : List (List ℕ) → (old new : Held) → (left left_after : Option (List ℕ)) → (reads reads_after : ℕ) → RigState → Held → Facts
 on_input words old new left left_after reads reads_after rig second = record {
   words = words;
   left = left;
@@ -116,11 +116,11 @@ on_input words old new left left_after reads reads_after rig second = record {
 }
 
 -- a call that works on its first store alone
-abbrev pub on_first : List (List ℕ) → (old new : Held) → Option (List ℕ) → ℕ → View → Held → Facts
+abbrev pub on_first : List (List ℕ) → (old new : Held) → Option (List ℕ) → ℕ → RigState → Held → Facts
 on_first words old new left reads rig second = on_input words old new left left reads reads rig second
 
 -- a call that works on its two stores alone
-abbrev pub on_both : List (List ℕ) → (old new old_second new_second : Held) → Option (List ℕ) → ℕ → View → Facts
+abbrev pub on_both : List (List ℕ) → (old new old_second new_second : Held) → Option (List ℕ) → ℕ → RigState → Facts
 on_both words old new old_second new_second left reads rig = record {
   words = words;
   left = left;
@@ -136,7 +136,7 @@ on_both words old new old_second new_second left reads rig = record {
 }
 
 -- a call that works on its source and its rig alone
-abbrev pub on_rig : List (List ℕ) → (left left_after : Option (List ℕ)) → (reads reads_after : ℕ) → (rig rig_after : View) → (first second : Held) → Facts
+abbrev pub on_rig : List (List ℕ) → (left left_after : Option (List ℕ)) → (reads reads_after : ℕ) → (rig rig_after : RigState) → (first second : Held) → Facts
 on_rig words left left_after reads reads_after rig rig_after first second = record {
   words = words;
   left = left;

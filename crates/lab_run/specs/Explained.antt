@@ -31,7 +31,7 @@ pub record HasToldRun (w : Outcome) (f : Facts) : Type 0 where
   pub script : Script
   pub read : HasRead script f.left f.left_after
   pub ran : HasRun run script (image_in f.words) f.rig f.rig_after
-  pub text : w.text ≡ explained_text script (drop run.first f.rig_after.seen.log) run.stack.replies.items
+  pub text : w.text ≡ explained_text script (drop run.first f.rig_after.log) run.stack.replies.items
   pub ending : w.ending ≡ found_ending (has_bad run.stack.replies.items)
 
 -- The script is at fault, in its text or over its volume, and the text marks it there.
@@ -56,5 +56,5 @@ pub record HasExplained (w : Outcome) (f : Facts) : Type 0 where
 pub record ExplainsRun (f : Facts) (o n : ℕ) (result : Status) : Type 0 where
   pub untouched : f.first_after ≡ f.first
   pub right : (text image : List ℕ) (script : Script) → f.left ≡ Some text → script_in text ≡ Ok script → f.rig.image ≡ Some image → head_fault (head_of image) ≡ None → table_fault script.entries (devices_of image) script.block ≡ None →
-      binding_fault script (table_over script.entries (devices_of image)) (devices_of image) ≡ None → Calm f.reads f.reads_after → Calm f.rig.seen.faults f.rig_after.seen.faults → Calm o n →
+      binding_fault script (table_over script.entries (devices_of image)) (devices_of image) ≡ None → Calm f.reads f.reads_after → Calm f.rig.faults f.rig_after.faults → Calm o n →
       ((result ≡ status.Whole) ⊎ (result ≡ status.SomeBad)) ⊎ (result ≡ status.Memory)

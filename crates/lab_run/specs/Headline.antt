@@ -243,7 +243,7 @@ pub record Causes (f : Facts) (o n : ℕ) (result : Status) : Type 0 where
   pub image : result ≡ status.Image → IsAtFault f
   pub wrong : (image : List ℕ) → f.first.bytes ≡ Some image → IsWrong (command_in f.words) f image → AreCalm (command_in f.words) f → Calm o n → (result ≡ status.Image) ⊎ (result ≡ status.Memory)
   pub second : (image : List ℕ) → f.second.bytes ≡ Some image → IsSecondWrong (command_in f.words) image → AreCalm (command_in f.words) f → Calm o n → (result ≡ status.Image) ⊎ (result ≡ status.Memory)
-  pub rig : result ≡ status.RigFault → StoreRose (command_in f.words) f ⊎ ((uses_rig (command_in f.words) ≡ true) × Rose f.rig.seen.faults f.rig_after.seen.faults)
+  pub rig : result ≡ status.RigFault → StoreRose (command_in f.words) f ⊎ ((uses_rig (command_in f.words) ≡ true) × Rose f.rig.faults f.rig_after.faults)
   pub sink : result ≡ status.WriteFault → Rose o n
   pub input : result ≡ status.Input → IsDumpAtFault f ⊎ (IsScriptAtFault f ⊎ CameTo status.Input f)
   pub dump : (image : List ℕ) → f.first.bytes ≡ Some image → IsWrongDump (command_in f.words) f image → AreCalm (command_in f.words) f → Calm o n → (result ≡ status.Input) ⊎ (result ≡ status.Memory)

@@ -36,7 +36,7 @@ played_by f = record { name = image_in f.words; left = f.left; left_after = f.le
 -- The commands of the text were done, and these are all records of the call: their vectors are written.
 pub record WerePlayed (p : Played) (entries : List Entry) (w : Outcome) (f : Facts) : Type 0 where
   pub played : HasPlayed p (played_by f)
-  pub all : f.rig_after.seen.log ≡ f.rig.seen.log ++ entries
+  pub all : f.rig_after.log ≡ f.rig.log ++ entries
   pub ending : w.ending ≡ found_ending (has_sense entries)
   pub text : w.text ≡ played_text p entries
 
@@ -52,7 +52,7 @@ HasVectors w f = ((p : Played) × (entries : List Entry) × WerePlayed p entries
 
 -- Neither source nor rig nor sink failed.
 abbrev pub AreCalmAll : Facts → ℕ → ℕ → Type 0
-AreCalmAll f o n = Calm f.reads f.reads_after × Calm f.rig.seen.faults f.rig_after.seen.faults × Calm o n
+AreCalmAll f o n = Calm f.reads f.reads_after × Calm f.rig.faults f.rig_after.faults × Calm o n
 
 -- All was done, or memory lacked.
 abbrev pub IsDoneOrShort : Status → Type 0

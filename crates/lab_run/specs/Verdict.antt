@@ -427,7 +427,7 @@ KeepsSource (Some (Sweep byte units)) f = f.reads ≤ f.reads_after
 
 -- The rig's image was opened at most once, by the name of the words.
 abbrev pub OpensRig : Facts → Type 0
-OpensRig f = RigOpenedOnce (image_in f.words) f.rig.standing f.rig_after.standing × (f.rig.seen.faults ≤ f.rig_after.seen.faults)
+OpensRig f = RigOpenedOnce (image_in f.words) f.rig.standing f.rig_after.standing × (f.rig.faults ≤ f.rig_after.faults)
 
 -- The rig is as before, but where the command uses it.
 abbrev pub KeepsRig : Option Command → Facts → Type 0

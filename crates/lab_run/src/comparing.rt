@@ -4,11 +4,11 @@ ghost use Rattle.std.specs.Prelude.{◌≡◌, ℕ, List, Option, Some, eqb};
 ghost use Rattle.dix_words.specs.Grammar.{word_bytes};
 ghost use Rattle.image_blocks.specs.Images.{units_open};
 ghost use Rattle.image_blocks.specs.Places.{IsStretch, spec_of};
-ghost use Rattle.image_commands.specs.Views.{View};
 ghost use Rattle.lab_words.specs.declared.command.Command.{Command};
 ghost use Rattle.lab_words.specs.Grammar.{command_in};
 ghost use Rattle.lab_run.specs.Calls.{held, on_both, second_in};
 ghost use Rattle.lab_run.specs.Verdict.{Ended, compared_status};
+ghost use Rattle.rig_api.specs.State.{RigState};
 
 use crate::program::{refuse, status_for};
 use crate::refusal::Refusal;
@@ -65,7 +65,7 @@ pub(crate) fn diff<A: Store, B: Store, O: Sink>(
     out: &mut O,
 ) -> Status
     requires { command_in (word_bytes words.now) ≡ Some (Command.Diff one other) }
-    ensures { (left : Option (List ℕ)) (reads : ℕ) (rig : View) → Ended (on_both (word_bytes words.now)
+    ensures { (left : Option (List ℕ)) (reads : ℕ) (rig : RigState) → Ended (on_both (word_bytes words.now)
         (held (A.bytes first.old) (A.len first.old) (A.faults first.old) (A.handed first.old) (A.openings first.old))
         (held (A.bytes first.new) (A.len first.new) (A.faults first.new) (A.handed first.new) (A.openings first.new))
         (held (B.bytes second.old) (B.len second.old) (B.faults second.old) (B.handed second.old) (B.openings second.old))

@@ -2,11 +2,11 @@
 
 ghost use Rattle.std.specs.Prelude.{◌≡◌, Some};
 ghost use Rattle.dix_words.specs.Grammar.{word_bytes};
-ghost use Rattle.image_commands.specs.Views.{View};
 ghost use Rattle.lab_words.specs.declared.command.Command.{Command};
 ghost use Rattle.lab_words.specs.Grammar.{command_in};
 ghost use Rattle.lab_run.specs.Calls.{Held, held, on_input};
 ghost use Rattle.lab_run.specs.Verdict.{Ended};
+ghost use Rattle.rig_api.specs.State.{RigState};
 
 use crate::dumps::{fits_there, halted, imported_line, laid};
 use crate::program::{finish, refuse};
@@ -31,7 +31,7 @@ pub(crate) fn import<S: Source, A: Store, O: Sink>(
     out: &mut O,
 ) -> Status
     requires { command_in (word_bytes words.now) ≡ Some (Command.Import place layout) }
-    ensures { (rig : View) (second : Held) → Ended (on_input (word_bytes words.now)
+    ensures { (rig : RigState) (second : Held) → Ended (on_input (word_bytes words.now)
         (held (A.bytes store.old) (A.len store.old) (A.faults store.old) (A.handed store.old) (A.openings store.old))
         (held (A.bytes store.new) (A.len store.new) (A.faults store.new) (A.handed store.new) (A.openings store.new))
         (S.left input.old) (S.left input.new) (S.faults input.old) (S.faults input.new)

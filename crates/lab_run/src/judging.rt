@@ -3,7 +3,6 @@
 ghost use Rattle.std.specs.Prelude.{◌≡◌, ℕ, Err, IfOk, List, Ok, Some};
 ghost use Rattle.script_lines.specs.declared.kind.ScriptKind.{ScriptKind};
 ghost use Rattle.dix_words.specs.Grammar.{word_bytes};
-ghost use Rattle.image_commands.specs.Views.{View};
 ghost use Rattle.lab_words.specs.declared.command.Command.{Command};
 ghost use Rattle.script_text.specs.Language.{script_in};
 ghost use Rattle.lab_words.specs.Grammar.{command_in};
@@ -11,6 +10,7 @@ ghost use Rattle.lab_run.specs.Calls.{Held, on_input};
 ghost use Rattle.fault_marks.specs.Texts.{marked_text};
 ghost use Rattle.lab_run.specs.Saying.{IsTold, Says};
 ghost use Rattle.lab_run.specs.Verdict.{Ended};
+ghost use Rattle.rig_api.specs.State.{RigState};
 
 use crate::program::{finish, refuse};
 use crate::refusal::Refusal;
@@ -97,7 +97,7 @@ pub(crate) fn judge<S: Source, O: Sink>(
     out: &mut O,
 ) -> Status
     requires { command_in (word_bytes words.now) ≡ Some Command.Judge }
-    ensures { (h : Held) (rig : View) (second : Held) → Ended (on_input (word_bytes words.now) h h (S.left input.old) (S.left input.new) (S.faults input.old) (S.faults input.new) rig second)
+    ensures { (h : Held) (rig : RigState) (second : Held) → Ended (on_input (word_bytes words.now) h h (S.left input.old) (S.left input.new) (S.faults input.old) (S.faults input.new) rig second)
         (O.taken out.old) (O.taken out.new) (O.faults out.old) (O.faults out.new) result }
 {
     let _words = words;

@@ -2,7 +2,6 @@
 
 ghost use Rattle.std.specs.Prelude.{◌≡◌, Some, drop};
 ghost use Rattle.dix_words.specs.Grammar.{word_bytes};
-ghost use Rattle.image_commands.specs.Views.{seen, view};
 ghost use Rattle.lab_words.specs.declared.command.Command.{Command};
 ghost use Rattle.vector_runs.specs.ListText.{has_sense};
 ghost use Rattle.vector_runs.specs.Played.{AreLogged, first_of, played_text};
@@ -22,8 +21,8 @@ use vector_runs::{Played, play_source, print_played};
 
 /// Writes the vectors of a text whose commands were done.
 fn print<R: Rig, O: Sink>(out: &mut O, rig: &R, played: &Played) -> Status
-    requires { AreLogged played.now (R.log rig.now) }
-    ensures { let entries = drop (first_of played.now) (R.log rig.now) in
+    requires { AreLogged played.now (R.state rig.now).log }
+    ensures { let entries = drop (first_of played.now) (R.state rig.now).log in
         Written (ending_status (found_ending (has_sense entries))) (played_text played.now entries) (O.taken out.old) (O.taken out.new) (O.faults out.old) (O.faults out.new) result }
 {
     let status = status_for(played.has_sense(rig));
@@ -43,9 +42,7 @@ pub(crate) fn vectors<S: Source, R: Rig, O: Sink>(
 ) -> Status
     requires { command_in (word_bytes words.now) ≡ Some Command.Vectors }
     ensures { (first : Held) (second : Held) → Ended (on_rig (word_bytes words.now) (S.left input.old) (S.left input.new) (S.faults input.old) (S.faults input.new)
-        (view (R.image rig.old) (R.standing rig.old) (seen (R.units rig.old) (R.armed rig.old) (R.log rig.old) (R.faults rig.old)))
-        (view (R.image rig.new) (R.standing rig.new) (seen (R.units rig.new) (R.armed rig.new) (R.log rig.new) (R.faults rig.new)))
-        first second) (O.taken out.old) (O.taken out.new) (O.faults out.old) (O.faults out.new) result }
+        (R.state rig.old) (R.state rig.new) first second) (O.taken out.old) (O.taken out.new) (O.faults out.old) (O.faults out.new) result }
 {
     match play_source(alloc, image_of(words), input, rig) {
         Ok(played) => print(out, rig, &played),

@@ -2,7 +2,6 @@
 
 ghost use Rattle.std.specs.Prelude.{◌≡◌};
 ghost use Rattle.dix_words.specs.Grammar.{word_bytes};
-ghost use Rattle.image_commands.specs.Views.{seen, view};
 ghost use Rattle.lab_run.specs.Calls.{Facts, held};
 ghost use Rattle.lab_run.specs.Headline.{Carries};
 ghost use Rattle.lab_run.specs.Texts.{refusal_text, status_of};
@@ -71,8 +70,8 @@ pub fn run<S: Source, R: Rig, A: Store, B: Store, O: Sink>(
       left_after = S.left input.new;
       reads = S.faults input.old;
       reads_after = S.faults input.new;
-      rig = view (R.image rig.old) (R.standing rig.old) (seen (R.units rig.old) (R.armed rig.old) (R.log rig.old) (R.faults rig.old));
-      rig_after = view (R.image rig.new) (R.standing rig.new) (seen (R.units rig.new) (R.armed rig.new) (R.log rig.new) (R.faults rig.new));
+      rig = R.state rig.old;
+      rig_after = R.state rig.new;
       first = held (A.bytes first.old) (A.len first.old) (A.faults first.old) (A.handed first.old) (A.openings first.old);
       first_after = held (A.bytes first.new) (A.len first.new) (A.faults first.new) (A.handed first.new) (A.openings first.new);
       second = held (B.bytes second.old) (B.len second.old) (B.faults second.old) (B.handed second.old) (B.openings second.old);

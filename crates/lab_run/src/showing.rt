@@ -5,11 +5,11 @@ ghost use Rattle.block_lines.specs.UnitText.{units_text};
 ghost use Rattle.dix_words.specs.Grammar.{word_bytes};
 ghost use Rattle.image_blocks.specs.Images.{units_open};
 ghost use Rattle.image_blocks.specs.Places.{IsStretch};
-ghost use Rattle.image_commands.specs.Views.{View};
 ghost use Rattle.lab_words.specs.declared.command.Command.{Command};
 ghost use Rattle.lab_words.specs.Grammar.{command_in};
 ghost use Rattle.lab_run.specs.Calls.{Held, held, on_first, stretch_in};
 ghost use Rattle.lab_run.specs.Verdict.{Ended, Written, shown_status};
+ghost use Rattle.rig_api.specs.State.{RigState};
 
 use crate::program::{refuse, status_for};
 use crate::refusal::Refusal;
@@ -61,7 +61,7 @@ pub(crate) fn show_units<A: Store, O: Sink>(
     out: &mut O,
 ) -> Status
     requires { command_in (word_bytes words.now) ≡ Some Command.ShowUnits }
-    ensures { (left : Option (List ℕ)) (reads : ℕ) (rig : View) (second : Held) → Ended (on_first (word_bytes words.now)
+    ensures { (left : Option (List ℕ)) (reads : ℕ) (rig : RigState) (second : Held) → Ended (on_first (word_bytes words.now)
         (held (A.bytes store.old) (A.len store.old) (A.faults store.old) (A.handed store.old) (A.openings store.old))
         (held (A.bytes store.new) (A.len store.new) (A.faults store.new) (A.handed store.new) (A.openings store.new))
         left reads rig second) (O.taken out.old) (O.taken out.new) (O.faults out.old) (O.faults out.new) result }
@@ -81,7 +81,7 @@ pub(crate) fn show_blocks<A: Store, O: Sink>(
     out: &mut O,
 ) -> Status
     requires { command_in (word_bytes words.now) ≡ Some (Command.ShowBlocks place) }
-    ensures { (left : Option (List ℕ)) (reads : ℕ) (rig : View) (second : Held) → Ended (on_first (word_bytes words.now)
+    ensures { (left : Option (List ℕ)) (reads : ℕ) (rig : RigState) (second : Held) → Ended (on_first (word_bytes words.now)
         (held (A.bytes store.old) (A.len store.old) (A.faults store.old) (A.handed store.old) (A.openings store.old))
         (held (A.bytes store.new) (A.len store.new) (A.faults store.new) (A.handed store.new) (A.openings store.new))
         left reads rig second) (O.taken out.old) (O.taken out.new) (O.faults out.old) (O.faults out.new) result }

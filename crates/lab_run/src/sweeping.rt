@@ -2,7 +2,7 @@
 
 ghost use Rattle.std.specs.Prelude.{◌≡◌, Some};
 ghost use Rattle.dix_words.specs.Grammar.{word_bytes};
-ghost use Rattle.image_commands.specs.Views.{View};
+ghost use Rattle.rig_api.specs.State.{RigState};
 ghost use Rattle.lab_words.specs.declared.command.Command.{Command};
 ghost use Rattle.lab_words.specs.Grammar.{command_in};
 ghost use Rattle.lab_run.specs.Calls.{Held, on_input};
@@ -39,7 +39,7 @@ pub(crate) fn sweep<S: Source, O: Sink>(
     out: &mut O,
 ) -> Status
     requires { command_in (word_bytes words.now) ≡ Some (Command.Sweep byte units.now) }
-    ensures { (h : Held) (rig : View) (second : Held) → Ended (on_input (word_bytes words.now) h h (S.left input.old) (S.left input.new) (S.faults input.old) (S.faults input.new) rig second)
+    ensures { (h : Held) (rig : RigState) (second : Held) → Ended (on_input (word_bytes words.now) h h (S.left input.old) (S.left input.new) (S.faults input.old) (S.faults input.new) rig second)
         (O.taken out.old) (O.taken out.new) (O.faults out.old) (O.faults out.new) result }
 {
     let _words = words;

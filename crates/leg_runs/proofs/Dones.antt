@@ -12,19 +12,19 @@ use Rattle.stack_ops.specs.declared.op.Op.TheVariants.{Fetch, Write}
 use Rattle.stack_ops.specs.declared.reply.Reply.{Reply}
 use Rattle.whole_run.specs.ScriptWalk.{bad_from, whole_or_bad}
 use Rattle.script_text.specs.declared.script.Script.{Script}
-use Rattle.script_stack.specs.Going.{Outside}
 use Rattle.mirror_walk.specs.declared.marks.Marks.{Marks}
 use Rattle.mirror_legs.specs.declared.piece.Piece.{Piece}
 use Rattle.leg_runs.specs.Asked.{IsReadOf, ReadBy}
 use Rattle.leg_runs.specs.LegRuns.{AllOwn, LegRun}
 use Rattle.leg_runs.specs.OnOps.{DidOp, IsWriteOf, OpAsks, Sides, WroteBy, whole_request}
 use Rattle.leg_runs.proofs.Results.{if-ok}
+use Rattle.rig_api.specs.State.{RigState}
 
 -- as many bytes as the data have
 pub data-long : (pool : List (List ℕ)) (body : List Seg) → length (bytes_in pool body 0 (total body)) ≡ total body
 data-long pool body = length-map (range_of body 0 (total body)) (byte_at pool) ∙ ap length (range-all body) ∙ length-places_in body
 
-module _ {E : Type 0} (s : Script) (half number v n : ℕ) (body : List Seg) (old new : Sides) (before after : Outside) (runs : List LegRun) (result : Result Reply E) (q : Piece) (whole : q ≡ whole_request number v n) (bytes : List ℕ) where
+module _ {E : Type 0} (s : Script) (half number v n : ℕ) (body : List Seg) (old new : Sides) (before after : RigState) (runs : List LegRun) (result : Result Reply E) (q : Piece) (whole : q ≡ whole_request number v n) (bytes : List ℕ) where
   pub did-write : (app : ℕ) → bytes ≡ bytes_in old.pool body 0 (total body) → new.pool ≡ old.pool → AllOwn (IsWriteOf s half q.op q.v q.n app bytes) runs → IfOk result (WroteBy s half q.op q.v q.n app bytes old.marks new.marks runs)
       → AllOwn (OpAsks s half number (Write v n body app) old.pool) runs × IfOk result (DidOp s half number (Write v n body app) old new before after runs)
   did-write app copied same own by =

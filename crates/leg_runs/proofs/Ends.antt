@@ -5,6 +5,7 @@ use Rattle.page_pool.specs.declared.segs.Seg.{Seg}
 use Rattle.page_pool.specs.Pages.{Wrote, part}
 use Rattle.page_pool.specs.Places.{places_of}
 use Rattle.rig_api.specs.declared.change.Change.{Change}
+use Rattle.rig_api.specs.State.{RigState}
 use Rattle.stack_ops.specs.Footprints.{put_seg}
 use Rattle.stack_ops.specs.declared.op.Op.{Op}
 use Rattle.stack_ops.specs.declared.op.Op.TheVariants.{FetchPi, Fill, Overwrite, Put, Seal, Show, Wait, WritePi}
@@ -13,7 +14,6 @@ use Rattle.stack_ops.specs.declared.reply.Reply.TheVariants.{Medium, Shown, Sile
 use Rattle.volume_table.specs.declared.device.DeviceInfo.{DeviceInfo}
 use Rattle.script_text.specs.declared.script.Script.{Script}
 use Rattle.script_stack.specs.Causes.{table_of}
-use Rattle.script_stack.specs.Going.{Outside}
 use Rattle.leg_runs.specs.LegRuns.{AllOwn, LegRun}
 use Rattle.leg_runs.specs.OnOps.{Altered, DidOp, OpAsks, OverwriteTells, RanOp, Sides}
 use Rattle.leg_runs.specs.Standing.{op_at}
@@ -37,7 +37,7 @@ none-left (op ∷ ops) (suc i) e = none-left ops i (omega (arith, e))
 
 -- ---- its end
 
-module _ (s : Script) (devices : List DeviceInfo) (half number used : ℕ) (old new : Sides) (now : Outside) (op : Op) where
+module _ (s : Script) (devices : List DeviceInfo) (half number used : ℕ) (old new : Sides) (now : RigState) (op : Op) where
   -- what such an op does, where it runs nothing
   abbrev Did : Reply → Type 0
   Did reply = RanOp s devices half number op old.pool used used now now (λ runs. DidOp s half number op old new now now runs reply)
@@ -54,7 +54,7 @@ module _ (s : Script) (devices : List DeviceInfo) (half number used : ℕ) (old 
       (ran-nothing (table_of s devices) devices s.schedule now used (λ (runs : List LegRun). AllOwn (OpAsks s half number (Put page off bytes) old.pool) runs × DidOp s half number (Put page off bytes) old new now now runs Silent)
       (tt, ((record { pages = wrote; marks = kept; none = refl }, refl), tt)))
 
-module _ (s : Script) (devices : List DeviceInfo) (half number used : ℕ) (old : Sides) (now : Outside) (op : Op) where
+module _ (s : Script) (devices : List DeviceInfo) (half number used : ℕ) (old : Sides) (now : RigState) (op : Op) where
   pub did-show : {E : Type 0} (seg : Seg) (result : Result Reply E) → op ≡ Show seg → IfOk result (λ (reply : Reply). reply ≡ Shown (part old.pool seg))
       → RanOp s devices half number op old.pool used used now now (λ runs. IfOk result (DidOp s half number op old old now now runs))
   did-show {E} seg result is said =
@@ -62,7 +62,7 @@ module _ (s : Script) (devices : List DeviceInfo) (half number used : ℕ) (old 
       (ran-nothing (table_of s devices) devices s.schedule now used (λ (runs : List LegRun). AllOwn (OpAsks s half number (Show seg) old.pool) runs × IfOk result (DidOp s half number (Show seg) old old now now runs))
       (tt, if-ok (λ (reply : Reply). reply ≡ Shown (part old.pool seg)) (DidOp s half number (Show seg) old old now now []) result (λ reply e. ((record { same = refl; none = refl }, e), tt)) said))
 
-module _ (s : Script) (devices : List DeviceInfo) (half number used : ℕ) (old : Sides) (before after : Outside) (op : Op) where
+module _ (s : Script) (devices : List DeviceInfo) (half number used : ℕ) (old : Sides) (before after : RigState) (op : Op) where
   pub did-overwrite : (dev lba : ℕ) (change : Change) (reply : Reply) → op ≡ Overwrite dev lba change → (reply ≡ Silent) ⊎ (reply ≡ Medium) → Altered dev lba change [] before after → OverwriteTells dev lba change reply before after
       → RanOp s devices half number op old.pool used used before after (λ runs. DidOp s half number op old old before after runs reply)
   did-overwrite dev lba change reply is said altered tells =
@@ -74,7 +74,7 @@ abbrev pub IsIdle : Op → Type 0
 IsIdle op = ((n : ℕ) × (body : List Seg) × (tuples : List Seg) × (app : ℕ) × (rtag : ℕ) × (op ≡ Seal n body tuples app rtag))
     ⊎ ((v : ℕ) × (n : ℕ) × (body : List Seg) × (tuples : List Seg) × (op ≡ WritePi v n body tuples)) ⊎ ((v : ℕ) × (n : ℕ) × (body : List Seg) × (tuples : List Seg) × (op ≡ FetchPi v n body tuples)) ⊎ (op ≡ Wait)
 
-module _ (s : Script) (devices : List DeviceInfo) (half number used : ℕ) (old : Sides) (now : Outside) where
+module _ (s : Script) (devices : List DeviceInfo) (half number used : ℕ) (old : Sides) (now : RigState) where
   -- what it does
   abbrev Idles : Op → Type 0
   Idles op = RanOp s devices half number op old.pool used used now now (λ runs. DidOp s half number op old old now now runs Silent)
@@ -90,7 +90,7 @@ module _ (s : Script) (devices : List DeviceInfo) (half number used : ℕ) (old 
       subst Idles (sym (is ∙ h)) (ran-nothing (table_of s devices) devices s.schedule now used _ (tt, ((record { same = refl; none = refl }, refl), tt)))
 
 -- Where no op is left, nothing is run.
-pub ran-none-left : (s : Script) (devices : List DeviceInfo) (half number i used : ℕ) (pool : List (List ℕ)) (now : Outside) (P : List LegRun → Type 0) → i ≡ length s.ops → P [] → RanOp s devices half number (op_at s.ops i) pool used used now now P
+pub ran-none-left : (s : Script) (devices : List DeviceInfo) (half number i used : ℕ) (pool : List (List ℕ)) (now : RigState) (P : List LegRun → Type 0) → i ≡ length s.ops → P [] → RanOp s devices half number (op_at s.ops i) pool used used now now P
 ran-none-left s devices half number i used pool now P e h =
     subst (λ (op : Op). RanOp s devices half number op pool used used now now P) (sym (none-left s.ops i e))
     (ran-nothing (table_of s devices) devices s.schedule now used (λ (runs : List LegRun). AllOwn (OpAsks s half number Wait pool) runs × P runs) (tt, h))

@@ -17,7 +17,6 @@ use Rattle.volume_table.specs.Tables.{Table}
 use Rattle.whole_run.specs.ScriptWalk.{bad_from, whole_or_bad}
 use Rattle.whole_run.specs.Senses.{is_medium_why}
 use Rattle.script_text.specs.declared.script.Script.{Script}
-use Rattle.script_stack.specs.Going.{Outside}
 use Rattle.mirror_walk.specs.Mirror.{neither}
 use Rattle.mirror_walk.specs.OnLegs.{listed_written}
 use Rattle.mirror_walk.specs.declared.marks.Marks.{Marks}
@@ -25,6 +24,7 @@ use Rattle.leg_runs.specs.Asked.{first_listed, found_after, fresh_on0, last_list
 use Rattle.leg_runs.specs.LegRuns.{LegRun, RanLegs, all_mediums, found_by, found_in, noted, replies_of}
 use Rattle.leg_runs.specs.OnOps.{FetchedBy, OpBy, OpRan, OpTells, Sides, WroteBy}
 use Rattle.leg_runs.proofs.Runs.{all_mediums-append}
+use Rattle.rig_api.specs.State.{RigState}
 
 -- 1 for a block that is listed with the medium
 abbrev one : Option Why → ℕ
@@ -241,20 +241,20 @@ rose-by-one : (o n : ℕ) → o ≤ n → Rose o n → RoseBy 1 o n
 rose-by-one o n l h = grind (arith, l, h)
 
 -- as many lines of the reply as the count rose
-abbrev Told : Reply → (before after : Outside) → Type 0
+abbrev Told : Reply → (before after : RigState) → Type 0
 Told reply before after = RoseBy (medium_lines (reply ∷ [])) before.faults after.faults
 
-silent : (t : Table) (devices : List DeviceInfo) (runs : List LegRun) (reply : Reply) (before after : Outside) → RanLegs t devices runs before after → medium_lines (reply ∷ []) ≡ 0 → Told reply before after
+silent : (t : Table) (devices : List DeviceInfo) (runs : List LegRun) (reply : Reply) (before after : RigState) → RanLegs t devices runs before after → medium_lines (reply ∷ []) ≡ 0 → Told reply before after
 silent t devices runs reply before after ran e = subst (λ n. RoseBy n before.faults after.faults) (sym e) (rose-none before.faults after.faults ran.faults)
 
 as-silent : (reply : Reply) → reply ≡ Silent → medium_lines (reply ∷ []) ≡ 0
 as-silent reply e = ap (λ (r : Reply). medium_lines (r ∷ [])) e
 
-overwritten : (reply : Reply) (before after : Outside) → before.faults ≤ after.faults → (reply ≡ Silent) ⊎ (reply ≡ Medium) → (reply ≡ Medium → Rose before.faults after.faults) → Told reply before after
+overwritten : (reply : Reply) (before after : RigState) → before.faults ≤ after.faults → (reply ≡ Silent) ⊎ (reply ≡ Medium) → (reply ≡ Medium → Rose before.faults after.faults) → Told reply before after
 overwritten reply before after l (inl e) h = subst (λ n. RoseBy n before.faults after.faults) (sym (as-silent reply e)) (rose-none before.faults after.faults l)
 overwritten reply before after l (inr e) h = subst (λ n. RoseBy n before.faults after.faults) (sym (ap (λ (r : Reply). medium_lines (r ∷ [])) e)) (rose-by-one before.faults after.faults l (h e))
 
-pub op-lines : (s : Script) (t : Table) (devices : List DeviceInfo) (half number : ℕ) (op : Op) (old new : Sides) (runs : List LegRun) (reply : Reply) (before after : Outside)
+pub op-lines : (s : Script) (t : Table) (devices : List DeviceInfo) (half number : ℕ) (op : Op) (old new : Sides) (runs : List LegRun) (reply : Reply) (before after : RigState)
     → OpBy s half number op old new runs reply → OpRan op t devices runs before after → OpTells op reply before after → RoseBy (medium_lines (reply ∷ [])) before.faults after.faults
 op-lines s t devices half number (Fill seg byte) old new runs reply before after by ran told = silent t devices runs reply before after ran (as-silent reply by.1)
 op-lines s t devices half number (Put page off bytes) old new runs reply before after by ran told = silent t devices runs reply before after ran (as-silent reply by.1)

@@ -3,6 +3,7 @@ use Rattle.std.proofs.Common.{◌≡◌, ◌<◌, ℕ, ◌+◌, ◌⊎◌, inl, 
 use Rattle.std.specs.Prelude.{is_some}
 use Rattle.page_pool.specs.Pages.{AreWhole}
 use Rattle.rig_api.specs.Telling.{IsStanding, block_at, changed, units_told, with_block}
+use Rattle.rig_api.specs.State.{RigState}
 use Rattle.rig_discovery.specs.Discovery.{info_of}
 use Rattle.target_answer.specs.Target.{Stored}
 use Rattle.target_answer.specs.declared.units.UnitSpec.{UnitSpec}
@@ -18,7 +19,6 @@ use Rattle.stack_core.proofs.ToldOps.{is_told}
 use Rattle.script_text.specs.declared.script.Script.{Script}
 use Rattle.script_ground.specs.Units.{AreStored}
 use Rattle.script_stack.specs.Causes.{table_of}
-use Rattle.script_stack.specs.Going.{Outside}
 use Rattle.script_stack.proofs.Following.{told-shapes, told-stored}
 use Rattle.leg_runs.specs.LegRuns.{LegRun, NamesNoMedium}
 use Rattle.leg_runs.specs.OnOps.{DidOp, OpBy, OpRan, OpWalked, Sides}
@@ -30,7 +30,7 @@ silent reply none (inl e) = e
 silent reply none (inr e) = let one : medium_lines (reply ∷ []) ≡ 1 = ap (λ (r : Reply). medium_lines (r ∷ [])) e in absurd (omega (arith, none, one))
 
 -- where no line names the medium
-pub op-walked : (s : Script) (t : Table) (devices : List DeviceInfo) (half number : ℕ) (op : Op) (old new : Sides) (before after : Outside) (runs : List LegRun) (reply : Reply) (us : List Stored)
+pub op-walked : (s : Script) (t : Table) (devices : List DeviceInfo) (half number : ℕ) (op : Op) (old new : Sides) (before after : RigState) (runs : List LegRun) (reply : Reply) (us : List Stored)
     → OpRan op t devices runs before after → DidOp s half number op old new before after runs reply → before.units ≡ Some us → NamesNoMedium runs (reply ∷ []) → (left : List Stored) × ((after.units ≡ Some left) × OpWalked op t us runs reply left)
 op-walked s t devices half number (Fill seg byte) old new before after runs reply us ran did e none = ran.told us e none.legs
 op-walked s t devices half number (Put page off bytes) old new before after runs reply us ran did e none = ran.told us e none.legs
@@ -53,7 +53,7 @@ OpLaw = (s : Script) (devices : List DeviceInfo) (us now left : List Stored) (ol
     → StandsAt s devices us new (replies ++ (reply ∷ [])) left
 
 -- a mirror between two ops, over a rig with this image
-pub record IsBetween (s : Script) (devices : List DeviceInfo) (half : ℕ) (old : Sides) (replies : List Reply) (image : Option (List ℕ)) (before : Outside) : Type 0 where
+pub record IsBetween (s : Script) (devices : List DeviceInfo) (half : ℕ) (old : Sides) (replies : List Reply) (image : Option (List ℕ)) (before : RigState) : Type 0 where
   pub bound : IsBoundMirror s devices
   pub half_is : half ≡ half_of s devices
   pub rig : HasDevices devices (is_some image) before.standing
@@ -64,7 +64,7 @@ pub record IsBetween (s : Script) (devices : List DeviceInfo) (half : ℕ) (old 
   pub marks : length old.marks ≡ half
   pub more : length replies < length s.ops
 
-pub op-stands : OpLaw → (s : Script) (devices : List DeviceInfo) (half : ℕ) (old new : Sides) (runs : List LegRun) (replies : List Reply) (reply : Reply) (image : Option (List ℕ)) (before after : Outside)
+pub op-stands : OpLaw → (s : Script) (devices : List DeviceInfo) (half : ℕ) (old new : Sides) (runs : List LegRun) (replies : List Reply) (reply : Reply) (image : Option (List ℕ)) (before after : RigState)
     → IsBetween s devices half old replies image before → OpRan (op_at s.ops (length replies)) (table_of s devices) devices runs before after
     → DidOp s half (length replies + 1) (op_at s.ops (length replies)) old new before after runs reply → KeepsToWalk s devices old new before after replies reply runs
 op-stands law s devices half old new runs replies reply image before after is ran did us now e none stands =

@@ -9,6 +9,7 @@ use Rattle.page_pool.proofs.Spreads.{range-all, range_stands}
 use Rattle.range_gate.specs.Cells.{in_turn}
 use Rattle.integrity_payload.specs.declared.payload.Owner.TheVariants.{App as OfApp, Block as OfBlock}
 use Rattle.rig_api.specs.Log.{Entry}
+use Rattle.rig_api.specs.State.{RigState}
 use Rattle.block_path.specs.Acts.{State, act, tell}
 use Rattle.block_path.specs.Blocks.{Sent}
 use Rattle.block_path.specs.Serial.{plain_tells}
@@ -27,7 +28,6 @@ use Rattle.stack_core.specs.Stacks.{IsStack}
 use Rattle.stack_core.specs.declared.stack.Stack.{Stack}
 use Rattle.script_text.specs.declared.script.Script.{Script}
 use Rattle.script_stack.specs.Followed.{IsBackedBy, failed_in, opening_of, setting_of, unit_of}
-use Rattle.script_stack.specs.Going.{Outside}
 use Rattle.mirror_legs.specs.declared.piece.Piece.{Piece}
 use Rattle.mirror_legs.specs.Inner.{first_virt, page_segs, pages_for, puts, read_pi_script, read_script, write_script}
 use Rattle.mirror_legs.proofs.Turns.{gathered, segs_cells}
@@ -55,7 +55,7 @@ backed-fits own t devices log replies before op n e f h =
 abbrev pub IsRunOf : Script → Stack → List LegRun → Type 0
 IsRunOf own stack runs = AllOwn (λ (s : Script). s ≡ own) runs × ((r : LegRun) × ((runs ≡ r ∷ []) × ((r.own ≡ own) × (r.stack ≡ stack))))
 
-run-fits : (t : Table) (devices : List DeviceInfo) (schedule : List (ℕ × ℕ)) (before after : Outside) (used used' : ℕ) (own : Script) (stack : Stack) (ops : List Op) (op : Op) (n : ℕ)
+run-fits : (t : Table) (devices : List DeviceInfo) (schedule : List (ℕ × ℕ)) (before after : RigState) (used used' : ℕ) (own : Script) (stack : Stack) (ops : List Op) (op : Op) (n : ℕ)
     → own.ops ≡ ops ++ (op ∷ []) → ListsOf n op → RanBy t devices schedule before after used used' (IsRunOf own stack) → LastFits stack.replies.items n
 run-fits t devices schedule before after used used' own stack ops op n e f h =
     let one = h.1.1.1.1 in
@@ -73,7 +73,7 @@ lists-fetch v n body m es j reply now = asks-steps m es n reply now (λ k. Reads
 lists-fetch-pi : (v n : ℕ) (body tuples : List Seg) → ListsOf n (FetchPi v n body tuples)
 lists-fetch-pi v n body tuples m es j reply now = asks-steps m es n reply now (λ k. Reads (block_of j v k) OfApp (frame_at m.size body tuples k))
 
-module _ (t : Table) (devices : List DeviceInfo) (schedule : List (ℕ × ℕ)) (before after : Outside) (used used' : ℕ) (stack : Stack) (s : Script) (half : ℕ) (p : Piece) where
+module _ (t : Table) (devices : List DeviceInfo) (schedule : List (ℕ × ℕ)) (before after : RigState) (used used' : ℕ) (stack : Stack) (s : Script) (half : ℕ) (p : Piece) where
   pub write-fits : (own : Script) (app : ℕ) (bytes : List ℕ) → own ≡ write_script s half p app bytes → RanBy t devices schedule before after used used' (IsRunOf own stack) → LastFits stack.replies.items p.n
   write-fits own app bytes e h =
       let pages = pages_for (p.n * s.block) in

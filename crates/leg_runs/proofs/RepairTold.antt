@@ -4,6 +4,7 @@ use Rattle.std.specs.Prelude.{is_some}
 use Rattle.target_answer.specs.Target.{Stored}
 use Rattle.target_answer.specs.declared.units.UnitSpec.{UnitSpec}
 use Rattle.rig_api.specs.Telling.{IsStanding, Standing, units_told}
+use Rattle.rig_api.specs.State.{RigState}
 use Rattle.rig_discovery.specs.Discovery.{info_of}
 use Rattle.dix_adapter.specs.Ways.{shapes_of}
 use Rattle.stack_ops.specs.declared.reply.Reply.{Reply}
@@ -11,7 +12,6 @@ use Rattle.volume_table.specs.declared.device.DeviceInfo.{DeviceInfo}
 use Rattle.script_text.specs.declared.script.Script.{Script}
 use Rattle.script_ground.specs.Units.{AreStored}
 use Rattle.script_stack.specs.Causes.{table_of}
-use Rattle.script_stack.specs.Going.{Outside}
 use Rattle.script_stack.proofs.Following.{told-shapes, told-stored}
 use Rattle.leg_runs.specs.LegRuns.{AllWalked, LegRun, RanLegs}
 use Rattle.leg_runs.specs.Mending.{Mended, RepairBy, stretches_in}
@@ -28,7 +28,7 @@ RepairLaw = (s : Script) (devices : List DeviceInfo) (us now left : List Stored)
 
 module _ (law : RepairLaw) (s : Script) (devices : List DeviceInfo) (half : ℕ) (bound : IsBoundMirror s devices) (is-half : half ≡ half_of s devices) (st : Standing) (image : Option (List ℕ))
     (has : HasDevices devices (is_some image) st) (ready : IsStanding st image) where
-  pub repair-told : (before after : Outside) (sides : Sides) (replies : List Reply) (new : Mended) (runs : List LegRun) → before.units ≡ units_told st image → length sides.marks ≡ half
+  pub repair-told : (before after : RigState) (sides : Sides) (replies : List Reply) (new : Mended) (runs : List LegRun) → before.units ≡ units_told st image → length sides.marks ≡ half
       → RanLegs (table_of s devices) devices runs before after → RepairBy s half 0 (stretches_in half) (record { marks = sides.marks; repaired = 0; lost = 0 }) new runs
       → RepairsAsWalk s devices sides before after replies new.marks new.repaired new.lost runs
   repair-told before after sides replies new runs laid marked ran by us now told none stands =

@@ -3,12 +3,12 @@ use Rattle.std.proofs.Common.{ℕ, ◌≡◌, ◌+◌, ◌≤◌, List, [], ◌�
 use Rattle.target_answer.specs.Target.{Stored}
 use Rattle.script_text.specs.declared.script.Script.{Script}
 use Rattle.script_stack.specs.Followed.{Ran}
-use Rattle.script_stack.specs.Going.{Outside}
 use Rattle.stack_core.specs.Mediums.{RoseBy, medium_lines}
 use Rattle.stack_core.specs.declared.stack.Stack.{Stack}
 use Rattle.volume_table.specs.declared.device.DeviceInfo.{DeviceInfo}
 use Rattle.volume_table.specs.Tables.{Table}
 use Rattle.leg_runs.specs.LegRuns.{AllBacked, AllFallen, AllWalked, GoOn, LegRun, RanLegs, all_mediums, all_records}
+use Rattle.rig_api.specs.State.{RigState}
 
 pub all_records-append : (xs ys : List LegRun) → all_records (xs ++ ys) ≡ all_records xs ++ all_records ys
 all_records-append [] ys = refl
@@ -43,7 +43,7 @@ rose-one a o n x = grind arith
 none-one : (a : ℕ) → a + 0 ≡ 0 → a ≡ 0
 none-one a e = omega (arith, e)
 
-pub ran-append : (t : Table) (devices : List DeviceInfo) (xs ys : List LegRun) (before between after : Outside) → RanLegs t devices xs before between → RanLegs t devices ys between after → RanLegs t devices (xs ++ ys) before after
+pub ran-append : (t : Table) (devices : List DeviceInfo) (xs ys : List LegRun) (before between after : RigState) → RanLegs t devices xs before between → RanLegs t devices ys between after → RanLegs t devices (xs ++ ys) before after
 ran-append t devices xs ys before between after h k = record {
   standing = k.standing ∙ h.standing;
   faults = (let a = h.faults in let b = k.faults in omega (arith, a, b));
@@ -62,13 +62,13 @@ ran-append t devices xs ys before between after h k = record {
 }
 
 -- Nothing was run, and nothing changed that is seen.
-pub record AreSame (before after : Outside) : Type 0 where
+pub record AreSame (before after : RigState) : Type 0 where
   pub units : after.units ≡ before.units
   pub standing : after.standing ≡ before.standing
   pub log : after.log ≡ before.log
   pub faults : after.faults ≡ before.faults
 
-pub ran-none : (t : Table) (devices : List DeviceInfo) (before after : Outside) → AreSame before after → RanLegs t devices [] before after
+pub ran-none : (t : Table) (devices : List DeviceInfo) (before after : RigState) → AreSame before after → RanLegs t devices [] before after
 ran-none t devices before after h = record {
   standing = h.standing;
   faults = (let e = h.faults in omega (arith, e));
@@ -79,7 +79,7 @@ ran-none t devices before after h = record {
   fallen = λ us e. (us, (h.units ∙ e, refl));
 }
 
-pub ran-one : (s : Script) (t : Table) (devices : List DeviceInfo) (words : List (ℕ × ℕ)) (before after : Outside) (r : Stack) (h : Ran s t devices words before after r)
+pub ran-one : (s : Script) (t : Table) (devices : List DeviceInfo) (words : List (ℕ × ℕ)) (before after : RigState) (r : Stack) (h : Ran s t devices words before after r)
     → RanLegs t devices (record { own = s; words = words; records = h.more; stack = r } ∷ []) before after
 ran-one s t devices words before after r h = record {
   standing = h.standing;
@@ -94,13 +94,13 @@ ran-one s t devices words before after r h = record {
 -- ---- runs of which something is said
 
 -- what the functions of a mirror say of their runs
-abbrev pub RanBy : Table → List DeviceInfo → (schedule : List (ℕ × ℕ)) → (before after : Outside) → (used used' : ℕ) → (List LegRun → Type 0) → Type 0
+abbrev pub RanBy : Table → List DeviceInfo → (schedule : List (ℕ × ℕ)) → (before after : RigState) → (used used' : ℕ) → (List LegRun → Type 0) → Type 0
 RanBy t devices schedule before after used used' P = (runs : List LegRun) × (RanLegs t devices runs before after × (GoOn schedule used runs used' × P runs))
 
-pub ran-nothing : (t : Table) (devices : List DeviceInfo) (schedule : List (ℕ × ℕ)) (now : Outside) (used : ℕ) (P : List LegRun → Type 0) → P [] → RanBy t devices schedule now now used used P
+pub ran-nothing : (t : Table) (devices : List DeviceInfo) (schedule : List (ℕ × ℕ)) (now : RigState) (used : ℕ) (P : List LegRun → Type 0) → P [] → RanBy t devices schedule now now used used P
 ran-nothing t devices schedule now used P h = ([], (ran-none t devices now now (record { units = refl; standing = refl; log = refl; faults = refl }), (refl, h)))
 
 -- some runs, and then others
-pub ran-two : (t : Table) (devices : List DeviceInfo) (schedule : List (ℕ × ℕ)) (before between after : Outside) (used then used' : ℕ) (xs ys : List LegRun)
+pub ran-two : (t : Table) (devices : List DeviceInfo) (schedule : List (ℕ × ℕ)) (before between after : RigState) (used then used' : ℕ) (xs ys : List LegRun)
     → RanLegs t devices xs before between → GoOn schedule used xs then → RanLegs t devices ys between after → GoOn schedule then ys used' → RanLegs t devices (xs ++ ys) before after × GoOn schedule used (xs ++ ys) used'
 ran-two t devices schedule before between after used then used' xs ys h g k f = (ran-append t devices xs ys before between after h k, go_on-append schedule used then used' xs ys g f)

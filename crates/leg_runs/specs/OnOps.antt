@@ -17,16 +17,16 @@ use Rattle.mirror_legs.specs.Inner.{write_script}
 use Rattle.dix_base.specs.Told.{Calm, Rose}
 use Rattle.rig_api.specs.declared.change.Change.{Change}
 use Rattle.rig_api.specs.Telling.{block_at, changed, with_block}
+use Rattle.rig_api.specs.State.{RigState}
 use Rattle.target_answer.specs.Target.{Stored}
 use Rattle.volume_table.specs.declared.device.DeviceInfo.{DeviceInfo}
 use Rattle.volume_table.specs.Tables.{Table}
 use Rattle.script_stack.specs.Causes.{table_of}
-use Rattle.script_stack.specs.Going.{Outside}
 use Rattle.leg_runs.specs.LegRuns.{AllOwn, AllWalked, GoOn, LegRun, RanLegs, found_by, replies_of}
 use Rattle.leg_runs.specs.Asked.{IsReadOf, ReadBy}
 
 -- One stored block is changed, where the rig tells its blocks and its count of faults doesn't rise.
-pub record Altered (dev lba : ℕ) (change : Change) (runs : List LegRun) (before after : Outside) : Type 0 where
+pub record Altered (dev lba : ℕ) (change : Change) (runs : List LegRun) (before after : RigState) : Type 0 where
   pub none : runs ≡ []
   pub standing : after.standing ≡ before.standing
   pub faults : before.faults ≤ after.faults
@@ -109,13 +109,13 @@ OpAsks s half op (Overwrite dev lba change) pool own = ⊥
 OpAsks s half op Wait pool own = ⊥
 
 -- What the reply of an overwrite tells, whatever the count of faults did: where it is silent its change was made; else its call failed, the count of faults rose, and its block alone may hold anything.
-pub record OverwriteTells (dev lba : ℕ) (change : Change) (reply : Reply) (before after : Outside) : Type 0 where
+pub record OverwriteTells (dev lba : ℕ) (change : Change) (reply : Reply) (before after : RigState) : Type 0 where
   pub silent : reply ≡ Silent → (us : List Stored) → before.units ≡ Some us → after.units ≡ Some (with_block us dev lba (changed us change (block_at us dev lba)))
   pub medium : reply ≡ Medium → Rose before.faults after.faults
   pub left : reply ≡ Medium → (us : List Stored) → before.units ≡ Some us → (block : List ℕ) × (after.units ≡ Some (with_block us dev lba block))
 
 -- What a reply tells of the rig: an overwrite's, whether its change was made.
-abbrev pub OpTells : Op → Reply → (before after : Outside) → Type 0
+abbrev pub OpTells : Op → Reply → (before after : RigState) → Type 0
 OpTells (Fill seg byte) reply before after = Unit {0}
 OpTells (Put page off bytes) reply before after = Unit {0}
 OpTells (Show seg) reply before after = Unit {0}
@@ -128,7 +128,7 @@ OpTells (Overwrite dev lba change) reply before after = OverwriteTells dev lba c
 OpTells Wait reply before after = Unit {0}
 
 -- What an op leaves at the rig: that of its runs. An overwrite has none, and alters one stored block.
-abbrev pub OpRan : Op → Table → List DeviceInfo → List LegRun → (before after : Outside) → Type 0
+abbrev pub OpRan : Op → Table → List DeviceInfo → List LegRun → (before after : RigState) → Type 0
 OpRan (Fill seg byte) t devices runs before after = RanLegs t devices runs before after
 OpRan (Put page off bytes) t devices runs before after = RanLegs t devices runs before after
 OpRan (Show seg) t devices runs before after = RanLegs t devices runs before after
@@ -156,10 +156,10 @@ OpWalked Wait t us runs reply left = AllWalked t us runs left
 -- ---- an op, as far as memory goes
 
 -- Op number `number`, over these pages: what its runs leave at the rig, the entries of the schedule that they use, and something of them.
-abbrev pub RanOp : Script → List DeviceInfo → (half number : ℕ) → Op → (pool : List (List ℕ)) → (used used' : ℕ) → (before after : Outside) → (List LegRun → Type 0) → Type 0
+abbrev pub RanOp : Script → List DeviceInfo → (half number : ℕ) → Op → (pool : List (List ℕ)) → (used used' : ℕ) → (before after : RigState) → (List LegRun → Type 0) → Type 0
 RanOp s devices half number op pool used used' before after P =
     (runs : List LegRun) × (OpRan op (table_of s devices) devices runs before after × (GoOn s.schedule used runs used' × (AllOwn (OpAsks s half number op pool) runs × P runs)))
 
 -- It was done to its end.
-abbrev pub DidOp : Script → (half number : ℕ) → Op → (old new : Sides) → (before after : Outside) → List LegRun → Reply → Type 0
+abbrev pub DidOp : Script → (half number : ℕ) → Op → (old new : Sides) → (before after : RigState) → List LegRun → Reply → Type 0
 DidOp s half number op old new before after runs reply = OpBy s half number op old new runs reply × OpTells op reply before after

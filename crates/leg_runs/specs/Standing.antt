@@ -2,6 +2,7 @@ use Rattle.std.specs.Prelude.{ℕ, ◌≡◌, ◌+◌, ◌/◌, ◌≤◌, Bool,
 use Rattle.page_pool.specs.Cells.{flat}
 use Rattle.target_answer.specs.Target.{Stored}
 use Rattle.rig_api.specs.Telling.{Standing, specs_of}
+use Rattle.rig_api.specs.State.{RigState}
 use Rattle.rig_discovery.specs.Discovery.{info_of}
 use Rattle.volume_table.specs.declared.device.DeviceInfo.{DeviceInfo}
 use Rattle.volume_table.specs.Tables.{MadeFor}
@@ -16,7 +17,6 @@ use Rattle.script_laws.specs.Keeping.{Keeps}
 use Rattle.script_ground.specs.Units.{AreStored}
 use Rattle.script_stack.specs.Causes.{table_of}
 use Rattle.script_stack.specs.Followed.{SizesAre, none_fails, opening_of, setting_of}
-use Rattle.script_stack.specs.Going.{Outside}
 use Rattle.mirror_script.specs.MirrorFaults.{mirror_fault}
 use Rattle.mirror_walk.specs.Mirror.{Mirror, count_of, done, mirror_opened, replies_from}
 use Rattle.mirror_walk.specs.Repair.{mirror_repair}
@@ -84,11 +84,11 @@ pub record IsRepairedAs (s : Script) (devices : List DeviceInfo) (us : List Stor
 -- ---- over a rig that tells its blocks
 
 -- A mirror that stood at its walk still does after one more op, where neither a request of the op names the medium nor its reply.
-abbrev pub KeepsToWalk : Script → List DeviceInfo → (old new : Sides) → (before after : Outside) → (replies : List Reply) → (reply : Reply) → List LegRun → Type 0
+abbrev pub KeepsToWalk : Script → List DeviceInfo → (old new : Sides) → (before after : RigState) → (replies : List Reply) → (reply : Reply) → List LegRun → Type 0
 KeepsToWalk s devices old new before after replies reply runs = (us now : List Stored) → before.units ≡ Some now → NamesNoMedium runs (reply ∷ []) → StandsAt s devices us old replies now
     → (left : List Stored) × ((after.units ≡ Some left) × StandsAt s devices us new (replies ++ (reply ∷ [])) left)
 
 -- The repair of one that stood at its walk is the walk's, where no request of the repair names the medium.
-abbrev pub RepairsAsWalk : Script → List DeviceInfo → Sides → (before after : Outside) → List Reply → List Marks → (repaired lost : ℕ) → List LegRun → Type 0
+abbrev pub RepairsAsWalk : Script → List DeviceInfo → Sides → (before after : RigState) → List Reply → List Marks → (repaired lost : ℕ) → List LegRun → Type 0
 RepairsAsWalk s devices sides before after replies marks repaired lost runs = (us now : List Stored) → before.units ≡ Some now → all_mediums runs ≡ 0 → StandsAt s devices us sides replies now
     → (left : List Stored) × ((after.units ≡ Some left) × IsRepairedAs s devices us (length replies) marks repaired lost left)

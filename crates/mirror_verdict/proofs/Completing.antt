@@ -1,8 +1,8 @@
 -- Where nothing is at fault in text and image, what is refused comes from outside.
 use Rattle.std.proofs.Common.{ℕ, ◌≡◌, inl, inr, List, Option, Some, None, Result, Ok, Err, refl, sym, ap, subst, ◌∙◌}
 use Rattle.std.specs.Prelude.{IfErr, MatchResult}
-use Rattle.image_commands.specs.Views.{View}
 use Rattle.rig_api.specs.Head.{head_fault, head_of}
+use Rattle.rig_api.specs.State.{RigState}
 use Rattle.script_text.specs.declared.fault.ScriptFault.{ScriptFault}
 use Rattle.script_text.specs.declared.script.Script.{Script}
 use Rattle.volume_table.specs.Faults.{table_fault}
@@ -15,7 +15,7 @@ use Rattle.script_verdict.specs.declared.refusal.Refusal.TheVariants as refusal
 use Rattle.mirror_verdict.specs.Verdict.{CauseRefused, CauseStopped, HasMirroredSource, IsComplete, IsUnbound}
 use Rattle.mirror_verdict.specs.declared.mirrored.Mirrored.{Mirrored}
 
-not_unbound : (image : List ℕ) (s : Script) (bad : ScriptFault) (name : List ℕ) (old new : View) → old.image ≡ Some image → mirror_fault s (table_over s.entries (devices_of image)) (devices_of image) ≡ None → IsUnbound bad s name old new → ⊥
+not_unbound : (image : List ℕ) (s : Script) (bad : ScriptFault) (name : List ℕ) (old new : RigState) → old.image ≡ Some image → mirror_fault s (table_over s.entries (devices_of image)) (devices_of image) ≡ None → IsUnbound bad s name old new → ⊥
 not_unbound image s bad name old new i b u =
     let d : u.devices ≡ devices_of image = image_devices name u.devices old new image u.asked i in
     let t : u.table ≡ table_over s.entries (devices_of image) = table_is s u.devices (devices_of image) u.table d u.made in
@@ -23,7 +23,7 @@ not_unbound image s bad name old new i b u =
     absurd (cc)
 
 -- over an image whose head is right, and devices over which nothing in the script is at fault
-stops_from_outside : (r : Refusal) (s : Script) (name : List ℕ) (old new : View) (image : List ℕ) → CauseStopped r s name old new → old.image ≡ Some image → head_fault (head_of image) ≡ None → table_fault s.entries (devices_of image) s.block ≡ None
+stops_from_outside : (r : Refusal) (s : Script) (name : List ℕ) (old new : RigState) (image : List ℕ) → CauseStopped r s name old new → old.image ≡ Some image → head_fault (head_of image) ≡ None → table_fault s.entries (devices_of image) s.block ≡ None
     → mirror_fault s (table_over s.entries (devices_of image)) (devices_of image) ≡ None → IsFromOutside r
 stops_from_outside (refusal.Script bad) s name old new image c i h t b = absurd (not_unbound image s bad name old new i b c)
 stops_from_outside (refusal.Image x) s name old new image c i h t b = absurd (no_head_fault image x name old new i c.1.image h c.0)

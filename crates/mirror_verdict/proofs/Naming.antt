@@ -5,6 +5,7 @@ use Rattle.target_answer.specs.Target.{Stored}
 use Rattle.rig_api.specs.Log.{Entry}
 use Rattle.rig_api.specs.Telling.{block_at, changed, with_block}
 use Rattle.rig_api.specs.declared.change.Change.{Change}
+use Rattle.rig_api.specs.State.{RigState}
 use Rattle.volume_table.specs.declared.device.DeviceInfo.{DeviceInfo}
 use Rattle.volume_table.specs.Tables.{Table}
 use Rattle.dix_adapter.specs.Ways.{blocks_told, shapes_of}
@@ -17,7 +18,6 @@ use Rattle.stack_ops.specs.declared.reply.Reply.{Reply}
 use Rattle.stack_ops.specs.declared.reply.Reply.TheVariants.{Bad, Medium, Shown, Silent, Whole}
 use Rattle.script_text.specs.declared.script.Script.{Script}
 use Rattle.script_stack.specs.Followed.{HasFallen, failed_in, opening_of, setting_of}
-use Rattle.script_stack.specs.Going.{Outside}
 use Rattle.script_verdict.specs.Layers.{NamesFaults, is_fault}
 use Rattle.script_verdict.proofs.Layers.{names-faults}
 use Rattle.leg_runs.specs.LegRuns.{AllFallen, LegRun, RanLegs, replies_of}
@@ -56,22 +56,22 @@ each-lists t us left (r ∷ runs) h = (fallen-lists r.own t us h.0 r.stack.pool 
 -- ---- an op
 
 -- What is told behind it, and how its reply names.
-abbrev Named : (after : Outside) → Reply → Type 0
+abbrev Named : (after : RigState) → Reply → Type 0
 Named after reply = (left : List Stored) × ((after.units ≡ Some left) × NamesFaults reply)
 
-by-runs : (s : Script) (t : Table) (devices : List DeviceInfo) (half number : ℕ) (op : Op) (old new : Sides) (runs : List LegRun) (reply : Reply) (before after : Outside) (us : List Stored)
+by-runs : (s : Script) (t : Table) (devices : List DeviceInfo) (half number : ℕ) (op : Op) (old new : Sides) (runs : List LegRun) (reply : Reply) (before after : RigState) (us : List Stored)
     → OpBy s half number op old new runs reply → RanLegs t devices runs before after → before.units ≡ Some us → Named after reply
 by-runs s t devices half number op old new runs reply before after us by ran e =
     let x = ran.fallen us e in
     (x.0, (x.1.0, names-listed reply (op-lists is_fault s half number op old new runs reply by (each-lists t us x.0 runs x.1.1))))
 
-by-overwrite : (dev lba : ℕ) (change : Change) (reply : Reply) (before after : Outside) (us : List Stored) → (reply ≡ Silent) ⊎ (reply ≡ Medium) → OverwriteTells dev lba change reply before after → before.units ≡ Some us → Named after reply
+by-overwrite : (dev lba : ℕ) (change : Change) (reply : Reply) (before after : RigState) (us : List Stored) → (reply ≡ Silent) ⊎ (reply ≡ Medium) → OverwriteTells dev lba change reply before after → before.units ≡ Some us → Named after reply
 by-overwrite dev lba change reply before after us (inl made) tells e = (with_block us dev lba (changed us change (block_at us dev lba)), (tells.silent made us e, subst NamesFaults (sym made) tt))
 by-overwrite dev lba change reply before after us (inr failed) tells e =
     let x = tells.left failed us e in
     (with_block us dev lba x.0, (x.1, subst NamesFaults (sym failed) tt))
 
-pub op-named : (s : Script) (t : Table) (devices : List DeviceInfo) (half number : ℕ) (op : Op) (old new : Sides) (runs : List LegRun) (reply : Reply) (before after : Outside) (us : List Stored)
+pub op-named : (s : Script) (t : Table) (devices : List DeviceInfo) (half number : ℕ) (op : Op) (old new : Sides) (runs : List LegRun) (reply : Reply) (before after : RigState) (us : List Stored)
     → OpBy s half number op old new runs reply → OpRan op t devices runs before after → OpTells op reply before after → before.units ≡ Some us → (left : List Stored) × ((after.units ≡ Some left) × NamesFaults reply)
 op-named s t devices half number (Fill seg byte) old new runs reply before after us by ran tells e = by-runs s t devices half number (Fill seg byte) old new runs reply before after us by ran e
 op-named s t devices half number (Put page off bytes) old new runs reply before after us by ran tells e = by-runs s t devices half number (Put page off bytes) old new runs reply before after us by ran e

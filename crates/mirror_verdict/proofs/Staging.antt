@@ -1,5 +1,5 @@
 -- A script on a mirror, stage by stage.
-use Rattle.std.proofs.Common.{◌≡◌, ◌<◌, ◌≤◌, ℕ, suc, ◌+◌, inl, inr, true, List, [], ◌∷◌, ◌++◌, length, take, Some, refl, sym, ap, ◌∙◌, subst, arith, append-nil, append_assoc}
+use Rattle.std.proofs.Common.{◌≡◌, ◌<◌, ◌≤◌, ℕ, suc, ◌+◌, inl, inr, true, List, [], ◌∷◌, ◌++◌, length, take, refl, sym, ap, ◌∙◌, subst, arith, append-nil, append_assoc}
 use Rattle.std.specs.Prelude.{All, Err, IfOk, MatchResult, Ok, Result, is_err}
 use Rattle.std.proofs.Math.Seq.{take-length}
 use Rattle.std.proofs.lemmas.List.{length_push}
@@ -16,7 +16,6 @@ use Rattle.whole_run.specs.Past.{steps_from}
 use Rattle.stack_core.specs.Mediums.{RoseBy, medium_lines}
 use Rattle.script_text.specs.declared.script.Script.{Script}
 use Rattle.script_stack.specs.Causes.{table_of}
-use Rattle.script_stack.specs.Going.{Outside}
 use Rattle.script_verdict.specs.Layers.{NamesFaults}
 use Rattle.mirror_walk.specs.Mirror.{Mirror as Walk, count_of, done, mirror_opened, replies_from}
 use Rattle.mirror_walk.specs.Repair.{Repair, mirror_repair}
@@ -34,6 +33,7 @@ use Rattle.leg_runs.proofs.Unnamed.{unnamed-first, unnamed-last}
 use Rattle.leg_runs.proofs.Runs.{all_backed-append, all_mediums-append, all_records-append, go_on-append, rose-add}
 use Rattle.mirror_verdict.proofs.Naming.{op-named}
 use Rattle.mirror_verdict.specs.Stages.{Broke, Finished, HasServed, InStretches, OneMore, Served, Stage, repair_over, walk_over}
+use Rattle.rig_api.specs.State.{RigState}
 
 -- an error of which this holds
 pub on-err : {A E : Type 0} (r : Result A E) (P : A → Type 0) (Q : Type 0) → is_err r ≡ true → Q → MatchResult r P (λ e. Q)
@@ -43,21 +43,21 @@ on-err (Err x) P Q e q = q
 -- ---- what runs leave
 
 -- over any rig
-pub record Fell (t : Table) (devices : List DeviceInfo) (runs : List LegRun) (before after : Outside) : Type 0 where
+pub record Fell (t : Table) (devices : List DeviceInfo) (runs : List LegRun) (before after : RigState) : Type 0 where
   pub standing : after.standing ≡ before.standing
   pub faults : before.faults ≤ after.faults
   pub records : after.log ≡ before.log ++ all_records runs
   pub backed : AllBacked t devices runs
   pub medium : RoseBy (all_mediums runs) before.faults after.faults
 
-ran-fell : (t : Table) (devices : List DeviceInfo) (runs : List LegRun) (before after : Outside) → RanLegs t devices runs before after → Fell t devices runs before after
+ran-fell : (t : Table) (devices : List DeviceInfo) (runs : List LegRun) (before after : RigState) → RanLegs t devices runs before after → Fell t devices runs before after
 ran-fell t devices runs before after h = record { standing = h.standing; faults = h.faults; records = h.records; backed = h.backed; medium = h.medium }
 
-altered-fell : (t : Table) (devices : List DeviceInfo) (runs : List LegRun) (before after : Outside) → runs ≡ [] → after.standing ≡ before.standing → before.faults ≤ after.faults → after.log ≡ before.log → Fell t devices runs before after
+altered-fell : (t : Table) (devices : List DeviceInfo) (runs : List LegRun) (before after : RigState) → runs ≡ [] → after.standing ≡ before.standing → before.faults ≤ after.faults → after.log ≡ before.log → Fell t devices runs before after
 altered-fell t devices runs before after none standing faults log = subst (λ (rs : List LegRun). Fell t devices rs before after) (sym none)
     (record { standing = standing; faults = faults; records = log ∙ sym (append-nil before.log); backed = tt; medium = inl (omega (arith, faults)) })
 
-op-fell : (op : Op) (t : Table) (devices : List DeviceInfo) (runs : List LegRun) (before after : Outside) → OpRan op t devices runs before after → Fell t devices runs before after
+op-fell : (op : Op) (t : Table) (devices : List DeviceInfo) (runs : List LegRun) (before after : RigState) → OpRan op t devices runs before after → Fell t devices runs before after
 op-fell (Fill seg byte) t devices runs before after h = ran-fell t devices runs before after h
 op-fell (Put page off bytes) t devices runs before after h = ran-fell t devices runs before after h
 op-fell (Show seg) t devices runs before after h = ran-fell t devices runs before after h
@@ -69,7 +69,7 @@ op-fell (FetchPi v n body tuples) t devices runs before after h = ran-fell t dev
 op-fell (Overwrite dev lba change) t devices runs before after h = altered-fell t devices runs before after h.none h.standing h.faults h.records
 op-fell Wait t devices runs before after h = ran-fell t devices runs before after h
 
-stretches-more : (s : Script) (devices : List DeviceInfo) (runs more : List LegRun) (used used' : ℕ) (before between after : Outside) → InStretches s devices runs used before between → Fell (table_of s devices) devices more between after
+stretches-more : (s : Script) (devices : List DeviceInfo) (runs more : List LegRun) (used used' : ℕ) (before between after : RigState) → InStretches s devices runs used before between → Fell (table_of s devices) devices more between after
     → GoOn s.schedule used more used' → InStretches s devices (runs ++ more) used' before after
 stretches-more s devices runs more used used' before between after h k g = record {
   standing = k.standing ∙ h.standing;
@@ -133,7 +133,7 @@ module _ (s : Script) (devices : List DeviceInfo) (begun : Stage) where
 
   -- ---- where memory is wanting
 
-  pub breaks-in-op : (k : ℕ) (old : Stage) (after : Outside) (runs : List LegRun) (used : ℕ) → Served s devices begun k old → k < length s.ops → OpRan (op_at s.ops (length old.replies)) t devices runs old.outside after
+  pub breaks-in-op : (k : ℕ) (old : Stage) (after : RigState) (runs : List LegRun) (used : ℕ) → Served s devices begun k old → k < length s.ops → OpRan (op_at s.ops (length old.replies)) t devices runs old.outside after
       → GoOn s.schedule old.used runs used → AllOwn (OpAsks s (half_of s devices) (length old.replies + 1) (op_at s.ops (length old.replies)) old.sides.pool) runs → Broke s devices begun after
   breaks-in-op k old after runs used served more ran goes own =
       let e = served.count in
@@ -146,7 +146,7 @@ module _ (s : Script) (devices : List DeviceInfo) (begun : Stage) where
         under_way = record { standing = (op-fell (op_at s.ops (length old.replies)) t devices runs old.outside after ran).standing; goes = goes; asks = inl (omega (arith, e, more), (ran, own)) };
       }
 
-  pub breaks-in-repair : (old : Stage) (after : Outside) (runs : List LegRun) (used : ℕ) → Served s devices begun (length s.ops) old → RanLegs t devices runs old.outside after → GoOn s.schedule old.used runs used
+  pub breaks-in-repair : (old : Stage) (after : RigState) (runs : List LegRun) (used : ℕ) → Served s devices begun (length s.ops) old → RanLegs t devices runs old.outside after → GoOn s.schedule old.used runs used
       → AllOwn (IsRepairOf s (half_of s devices)) runs → Broke s devices begun after
   breaks-in-repair old after runs used served ran goes own = record {
     k = length s.ops;
@@ -182,7 +182,7 @@ module _ (s : Script) (devices : List DeviceInfo) (us : List Stored) (replies : 
     lost_is = mended.lost_is ∙ ap (λ (r : Repair). r.lost) repaired-all;
   }
 
-pub finishes : (s : Script) (devices : List DeviceInfo) (begun old : Stage) (new : Mirror) (repaired lost : ℕ) (after : Outside) (runs : List LegRun) → Served s devices begun (length s.ops) old → RanLegs (table_of s devices) devices runs old.outside after
+pub finishes : (s : Script) (devices : List DeviceInfo) (begun old : Stage) (new : Mirror) (repaired lost : ℕ) (after : RigState) (runs : List LegRun) → Served s devices begun (length s.ops) old → RanLegs (table_of s devices) devices runs old.outside after
     → GoOn s.schedule old.used runs new.state.used
     → RepairBy s (half_of s devices) 0 (stretches_in (half_of s devices)) (record { marks = old.sides.marks; repaired = 0; lost = 0 }) (record { marks = new.state.marks.items; repaired = repaired; lost = lost }) runs
     → new.state.pool ≡ old.sides.pool → new.replies.items ≡ old.replies
@@ -210,7 +210,7 @@ finishes s devices begun old new repaired lost after runs served ran goes mended
     }
 
 -- the repair came to its end, or was broken off
-pub ends-repair : (s : Script) (devices : List DeviceInfo) (begun old : Stage) (new : Mirror) (r : Result Done AllocError) (after : Outside) (runs : List LegRun) → Served s devices begun (length s.ops) old → RanLegs (table_of s devices) devices runs old.outside after
+pub ends-repair : (s : Script) (devices : List DeviceInfo) (begun old : Stage) (new : Mirror) (r : Result Done AllocError) (after : RigState) (runs : List LegRun) → Served s devices begun (length s.ops) old → RanLegs (table_of s devices) devices runs old.outside after
     → GoOn s.schedule old.used runs new.state.used → AllOwn (IsRepairOf s (half_of s devices)) runs
     → IfOk r (λ done. RepairBy s (half_of s devices) 0 (stretches_in (half_of s devices)) (record { marks = old.sides.marks; repaired = 0; lost = 0 }) (record { marks = new.state.marks.items; repaired = done.repaired; lost = done.lost }) runs
     × RepairsAsWalk s devices old.sides old.outside after old.replies new.state.marks.items done.repaired done.lost runs)

@@ -8,7 +8,6 @@ use Rattle.stack_ops.specs.declared.reply.Reply.{Reply}
 use Rattle.stack_core.specs.Mediums.{RoseBy, medium_lines}
 use Rattle.script_text.specs.declared.script.Script.{Script}
 use Rattle.script_stack.specs.Causes.{table_of}
-use Rattle.script_stack.specs.Going.{Outside}
 use Rattle.script_verdict.specs.Layers.{NamesFaults}
 use Rattle.mirror_walk.specs.declared.marks.Marks.{Marks}
 use Rattle.mirror_walk.specs.Mirror.{Mirror as Walk, mirror_replies, mirror_walk}
@@ -20,6 +19,7 @@ use Rattle.leg_runs.specs.OnOps.{OpAsks, OpBy, OpRan, OpTells, Sides}
 use Rattle.mirror_volume.specs.Enough.{opening_over}
 use Rattle.mirror_volume.specs.Plans.{sides_of}
 use Rattle.leg_runs.specs.Standing.{StandsAt, half_of, mirror_setting, op_at}
+use Rattle.rig_api.specs.State.{RigState}
 
 -- Between two ops: pages and marks, how many entries of the schedule are used, the replies so far, the runs on the legs so far, and what the rig shows of itself.
 pub record Stage : Type 0 where
@@ -27,9 +27,9 @@ pub record Stage : Type 0 where
   pub used : ℕ
   pub replies : List Reply
   pub runs : List LegRun
-  pub outside : Outside
+  pub outside : RigState
 
-abbrev pub stage_of : Mirror → List LegRun → Outside → Stage
+abbrev pub stage_of : Mirror → List LegRun → RigState → Stage
 stage_of r runs outside = record { sides = sides_of r; used = r.state.used; replies = r.replies.items; runs = runs; outside = outside }
 
 -- Op k, counted from 0, was done: by its runs, which go on in the schedule.
@@ -49,7 +49,7 @@ Stood s devices begun zero now = now ≡ begun
 Stood s devices begun (suc k) now = (old : Stage) × (Stood s devices begun k old × OneMore s devices k old now)
 
 -- The records between these moments are those of the runs, a stretch for each and in their order, and each stretch backs its run's replies, whose lines that name the medium are at most as many as the count of faults rose. The runs go on in the schedule, one where the one before it ended.
-pub record InStretches (s : Script) (devices : List DeviceInfo) (runs : List LegRun) (used : ℕ) (before after : Outside) : Type 0 where
+pub record InStretches (s : Script) (devices : List DeviceInfo) (runs : List LegRun) (used : ℕ) (before after : RigState) : Type 0 where
   pub standing : after.standing ≡ before.standing
   pub faults : before.faults ≤ after.faults
   pub records : after.log ≡ before.log ++ all_records runs
@@ -70,14 +70,14 @@ pub record Served (s : Script) (devices : List DeviceInfo) (begun : Stage) (k : 
 -- ---- where memory is wanting
 
 -- Op k, or the repair behind all ops, is under way: requests of it were run on the legs.
-pub record IsUnderWay (s : Script) (devices : List DeviceInfo) (k : ℕ) (stage : Stage) (after : Outside) (runs : List LegRun) (used : ℕ) : Type 0 where
+pub record IsUnderWay (s : Script) (devices : List DeviceInfo) (k : ℕ) (stage : Stage) (after : RigState) (runs : List LegRun) (used : ℕ) : Type 0 where
   pub standing : after.standing ≡ stage.outside.standing
   pub goes : GoOn s.schedule stage.used runs used
   pub asks : ((k < length s.ops) × (OpRan (op_at s.ops k) (table_of s devices) devices runs stage.outside after × AllOwn (OpAsks s (half_of s devices) (k + 1) (op_at s.ops k) stage.sides.pool) runs))
       ⊎ ((k ≡ length s.ops) × (RanLegs (table_of s devices) devices runs stage.outside after × AllOwn (IsRepairOf s (half_of s devices)) runs))
 
 -- The first k ops were done, and what comes behind them was broken off.
-pub record Broke (s : Script) (devices : List DeviceInfo) (begun : Stage) (after : Outside) : Type 0 where
+pub record Broke (s : Script) (devices : List DeviceInfo) (begun : Stage) (after : RigState) : Type 0 where
   pub k : ℕ
   pub stage : Stage
   pub served : Served s devices begun k stage
@@ -105,7 +105,7 @@ pub record HasServed (s : Script) (devices : List DeviceInfo) (us left : List St
   pub lost_is : lost ≡ (repair_over s devices us).lost
 
 -- All ops were done, and then the repair. Over any rig the lines of the replies that name the medium are at most as many as the count of faults rose. Over one that tells its blocks: where no line names the medium, of the report or of a request on a leg, it is the mirror's walk and its repair; and whatever lines name it, no block is listed as refused or short.
-pub record Finished (s : Script) (devices : List DeviceInfo) (begun : Stage) (r : Mirror) (repaired lost : ℕ) (after : Outside) : Type 0 where
+pub record Finished (s : Script) (devices : List DeviceInfo) (begun : Stage) (r : Mirror) (repaired lost : ℕ) (after : RigState) : Type 0 where
   pub stage : Stage
   pub served : Served s devices begun (length s.ops) stage
   pub pool : r.state.pool ≡ stage.sides.pool

@@ -2,8 +2,8 @@ use Rattle.std.specs.Prelude.{All, ℕ, ◌≡◌, ◌*◌, ◌⊎◌, replicate
 use Rattle.dix_base.specs.Told.{Calm}
 use Rattle.page_pool.specs.Cells.{flat}
 use Rattle.rig_api.specs.Head.{head_fault, head_of}
+use Rattle.rig_api.specs.State.{RigState}
 use Rattle.image_commands.specs.Causes.{CauseUntold}
-use Rattle.image_commands.specs.Views.{View}
 use Rattle.image_commands.specs.declared.fault.Fault.TheVariants as fault
 use Rattle.target_answer.specs.Target.{Stored}
 use Rattle.volume_table.specs.Faults.{table_fault}
@@ -12,7 +12,6 @@ use Rattle.volume_table.specs.declared.device.DeviceInfo.{DeviceInfo}
 use Rattle.script_text.specs.Language.{script_in}
 use Rattle.script_text.specs.declared.fault.ScriptFault.{ScriptFault}
 use Rattle.script_text.specs.declared.script.Script.{Script}
-use Rattle.script_stack.specs.Going.{Outside}
 use Rattle.script_verdict.specs.Layers.{NamesFaults}
 use Rattle.script_verdict.specs.Verdict.{CauseUntaken, Facts, HasBadVolume, HasRead, HasTable, HoldsBlocks, IsFromOutside, StoppedShort, WasAsked, devices_of, table_over}
 use Rattle.script_verdict.specs.declared.refusal.Refusal.{Refusal}
@@ -28,10 +27,6 @@ use Rattle.mirror_volume.specs.Premises.{IsFormedMirror, IsOneGoodRun, IsStillMi
 use Rattle.mirror_verdict.specs.Stages.{Broke, Finished, stage_of}
 use Rattle.mirror_verdict.specs.declared.mirrored.Mirrored.{Mirrored}
 
--- what a rig shows of itself to the runs on the legs
-abbrev pub outside : View → Outside
-outside v = record { units = v.seen.units; armed = v.seen.armed; standing = v.standing; log = v.seen.log; faults = v.seen.faults }
-
 -- The mirror of a script over these devices, none of whose ops is done: all blocks are fresh on both legs, its pages are zeros, and no entry of the schedule is used.
 pub record IsBegun (s : Script) (devices : List DeviceInfo) (begun : Mirror) : Type 0 where
   pub mirror : IsMirror begun
@@ -45,23 +40,23 @@ pub record IsBegun (s : Script) (devices : List DeviceInfo) (begun : Mirror) : T
 -- ---- a script that was run on a mirror
 
 -- The image was opened, its devices told what they are, the script was bound to a mirror over them, its ops were done, and then the repair. `ended` says by which runs on the legs, and what these left; over any rig the lines of the report that name the medium are at most as many as the count of faults rose; over one that tells its blocks, where no line names the medium, of the report or of a request on a leg, it is the mirror's walk and its repair. Of such a run `enough` says when one good leg was enough, `formed` says it by what a reader of the script sees, and `still` says it of a script without faults under any protect field. Over a rig that tells its blocks, whatever lines name the medium, no block of the report is listed as refused or short.
-pub record HasMirrored (run : Mirrored) (s : Script) (name : List ℕ) (old new : View) : Type 0 where
+pub record HasMirrored (run : Mirrored) (s : Script) (name : List ℕ) (old new : RigState) : Type 0 where
   pub devices : List DeviceInfo
-  pub told : View
+  pub told : RigState
   pub asked : WasAsked name devices old told
   pub bound : IsBoundMirror s devices
   pub begun : Mirror
   pub starts : IsBegun s devices begun
-  pub ended : Finished s devices (stage_of begun [] (outside told)) run.mirror run.repair.repaired run.repair.lost (outside new)
+  pub ended : Finished s devices (stage_of begun [] told) run.mirror run.repair.repaired run.repair.lost new
   pub tells : is_some new.image ≡ is_some told.image
   pub holds : HoldsBlocks told new
-  pub faults : (us : List Stored) → told.seen.units ≡ Some us → All NamesFaults run.mirror.replies.items
-  pub enough : (us : List Stored) → told.seen.units ≡ Some us → NamesNoMedium (ended.stage.runs ++ ended.runs) run.mirror.replies.items → IsOneGoodRun s devices us
-      → (left : List Stored) × ((new.seen.units ≡ Some left) × WasEnough s devices us left run.repair.lost)
-  pub formed : (us : List Stored) → told.seen.units ≡ Some us → NamesNoMedium (ended.stage.runs ++ ended.runs) run.mirror.replies.items → IsFormedMirror s devices us
-      → (left : List Stored) × ((new.seen.units ≡ Some left) × WasEnough s devices us left run.repair.lost)
-  pub still : (us : List Stored) → told.seen.units ≡ Some us → NamesNoMedium (ended.stage.runs ++ ended.runs) run.mirror.replies.items → IsStillMirror s devices us
-      → (left : List Stored) × ((new.seen.units ≡ Some left) × WasEnough s devices us left run.repair.lost)
+  pub faults : (us : List Stored) → told.units ≡ Some us → All NamesFaults run.mirror.replies.items
+  pub enough : (us : List Stored) → told.units ≡ Some us → NamesNoMedium (ended.stage.runs ++ ended.runs) run.mirror.replies.items → IsOneGoodRun s devices us
+      → (left : List Stored) × ((new.units ≡ Some left) × WasEnough s devices us left run.repair.lost)
+  pub formed : (us : List Stored) → told.units ≡ Some us → NamesNoMedium (ended.stage.runs ++ ended.runs) run.mirror.replies.items → IsFormedMirror s devices us
+      → (left : List Stored) × ((new.units ≡ Some left) × WasEnough s devices us left run.repair.lost)
+  pub still : (us : List Stored) → told.units ≡ Some us → NamesNoMedium (ended.stage.runs ++ ended.runs) run.mirror.replies.items → IsStillMirror s devices us
+      → (left : List Stored) × ((new.units ≡ Some left) × WasEnough s devices us left run.repair.lost)
 
 -- The source was read to its end, and its script was run on a mirror.
 pub record HasMirroredSource (run : Mirrored) (f : Facts) : Type 0 where
@@ -72,7 +67,7 @@ pub record HasMirroredSource (run : Mirrored) (f : Facts) : Type 0 where
 -- ---- and one that wasn't
 
 -- No entry is at fault, and the script has a fault on a mirror over its volume, the first.
-pub record IsUnbound (bad : ScriptFault) (s : Script) (name : List ℕ) (old new : View) : Type 0 where
+pub record IsUnbound (bad : ScriptFault) (s : Script) (name : List ℕ) (old new : RigState) : Type 0 where
   pub devices : List DeviceInfo
   pub asked : WasAsked name devices old new
   pub table : Table
@@ -80,19 +75,19 @@ pub record IsUnbound (bad : ScriptFault) (s : Script) (name : List ℕ) (old new
   pub bound : mirror_fault s table devices ≡ Some bad
 
 -- Memory was wanting in the middle: some ops were done, and the next one, or the repair, was broken off.
-pub record StoppedMidway (s : Script) (name : List ℕ) (old new : View) : Type 0 where
+pub record StoppedMidway (s : Script) (name : List ℕ) (old new : RigState) : Type 0 where
   pub devices : List DeviceInfo
-  pub told : View
+  pub told : RigState
   pub asked : WasAsked name devices old told
   pub bound : IsBoundMirror s devices
   pub begun : Mirror
   pub starts : IsBegun s devices begun
-  pub broke : Broke s devices (stage_of begun [] (outside told)) (outside new)
+  pub broke : Broke s devices (stage_of begun [] told) new
   pub tells : is_some new.image ≡ is_some told.image
   pub holds : HoldsBlocks told new
 
 -- Why a script wasn't run on a mirror to its end, and what that leaves.
-abbrev pub CauseStopped : Refusal → Script → List ℕ → View → View → Type 0
+abbrev pub CauseStopped : Refusal → Script → List ℕ → RigState → RigState → Type 0
 CauseStopped (refusal.Script bad) s name old new = IsUnbound bad s name old new
 CauseStopped (refusal.Image x) s name old new = CauseUntold (fault.Image x) name old new
 CauseStopped (refusal.BadCapacity dev) s name old new = CauseUntold (fault.BadCapacity dev) name old new

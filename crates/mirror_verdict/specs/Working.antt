@@ -1,6 +1,5 @@
 -- What the parts of a call give each other.
 use Rattle.std.specs.Prelude.{ℕ, ◌≡◌, List, None, Some}
-use Rattle.image_commands.specs.Views.{View}
 use Rattle.script_text.specs.declared.script.Script.{Script}
 use Rattle.volume_table.specs.Faults.{table_fault}
 use Rattle.volume_table.specs.Tables.{Table}
@@ -10,6 +9,7 @@ use Rattle.mirror_script.specs.MirrorFaults.{mirror_fault}
 use Rattle.script_verdict.specs.Verdict.{HasTable, WasAsked}
 use Rattle.script_verdict.specs.declared.refusal.Refusal.{Refusal}
 use Rattle.script_verdict.specs.declared.refusal.Refusal.TheVariants as refusal
+use Rattle.rig_api.specs.State.{RigState}
 
 -- The script may run on a mirror over the volume of these devices.
 pub record IsFree (s : Script) (devices : List DeviceInfo) : Type 0 where
@@ -28,6 +28,6 @@ CauseUnbound refusal.Memory s devices = Unit {0}
 CauseUnbound refusal.ReadFault s devices = ⊥
 
 -- The image was opened, its devices told what they are, and the script is bound to a mirror over them.
-pub record IsBound (s : Script) (devices : List DeviceInfo) (name : List ℕ) (old new : View) : Type 0 where
+pub record IsBound (s : Script) (devices : List DeviceInfo) (name : List ℕ) (old new : RigState) : Type 0 where
   pub asked : WasAsked name devices old new
   pub free : IsFree s devices

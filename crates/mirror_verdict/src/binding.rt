@@ -1,7 +1,6 @@
 //! A script and the devices of its mirror.
 
 ghost use Rattle.std.specs.Prelude.{MatchResult};
-ghost use Rattle.image_commands.specs.Views.{seen, view};
 ghost use Rattle.rig_discovery.specs.Discovery.{Ends};
 ghost use Rattle.script_verdict.specs.Working.{IsSound};
 ghost use Rattle.mirror_verdict.specs.Verdict.{CauseStopped};
@@ -39,8 +38,8 @@ pub(crate) fn bind<R: Rig>(
     rig: &mut R,
 ) -> Result<Vec<DeviceInfo>, Refusal>
     requires { IsSound script.now }
-    ensures { let old = view (R.image rig.old) (R.standing rig.old) (seen (R.units rig.old) (R.armed rig.old) (R.log rig.old) (R.faults rig.old)) in
-        let new = view (R.image rig.new) (R.standing rig.new) (seen (R.units rig.new) (R.armed rig.new) (R.log rig.new) (R.faults rig.new)) in
+    ensures { let old = R.state rig.old in
+        let new = R.state rig.new in
         MatchResult result (λ v. IsBound script.now v.items image.now old new) (λ r. CauseStopped r script.now image.now old new) }
 {
     let found = match told_devices(alloc, image, rig) {

@@ -1,7 +1,6 @@
 //! The run of a script on a mirror.
 
 ghost use Rattle.std.specs.Prelude.{◌≡◌, IfErr, MatchResult};
-ghost use Rattle.image_commands.specs.Views.{seen, view};
 ghost use Rattle.script_verdict.specs.Verdict.{Facts};
 ghost use Rattle.script_verdict.specs.Working.{IsSound};
 ghost use Rattle.mirror_verdict.specs.Texts.{is_any_lost};
@@ -40,8 +39,8 @@ pub fn run_mirror<R: Rig>(
     rig: &mut R,
 ) -> Result<Mirrored, Refusal>
     requires { IsSound script }
-    ensures { let old = view (R.image rig.old) (R.standing rig.old) (seen (R.units rig.old) (R.armed rig.old) (R.log rig.old) (R.faults rig.old)) in
-        let new = view (R.image rig.new) (R.standing rig.new) (seen (R.units rig.new) (R.armed rig.new) (R.log rig.new) (R.faults rig.new)) in
+    ensures { let old = R.state rig.old in
+        let new = R.state rig.new in
         MatchResult result (λ r. HasMirrored r script image.now old new) (λ r. CauseStopped r script image.now old new) }
 {
     let devices = match bind(alloc, image, &script, rig) {
@@ -76,8 +75,8 @@ pub fn mirror_source<S: Source, R: Rig>(
       left_after = S.left source.new;
       reads = S.faults source.old;
       reads_after = S.faults source.new;
-      rig = view (R.image rig.old) (R.standing rig.old) (seen (R.units rig.old) (R.armed rig.old) (R.log rig.old) (R.faults rig.old));
-      rig_after = view (R.image rig.new) (R.standing rig.new) (seen (R.units rig.new) (R.armed rig.new) (R.log rig.new) (R.faults rig.new));
+      rig = R.state rig.old;
+      rig_after = R.state rig.new;
     } in
         MatchResult result (λ r. HasMirroredSource r f) (λ r. CauseRefused r f) }
     ensures complete { let f : Facts = record {
@@ -86,8 +85,8 @@ pub fn mirror_source<S: Source, R: Rig>(
       left_after = S.left source.new;
       reads = S.faults source.old;
       reads_after = S.faults source.new;
-      rig = view (R.image rig.old) (R.standing rig.old) (seen (R.units rig.old) (R.armed rig.old) (R.log rig.old) (R.faults rig.old));
-      rig_after = view (R.image rig.new) (R.standing rig.new) (seen (R.units rig.new) (R.armed rig.new) (R.log rig.new) (R.faults rig.new));
+      rig = R.state rig.old;
+      rig_after = R.state rig.new;
     } in
         IfErr result (λ r. IsComplete r f) }
 {

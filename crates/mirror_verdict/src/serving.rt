@@ -1,12 +1,12 @@
 //! The ops of a mirror, and its repair.
 
-ghost use Rattle.std.specs.Prelude.{ℕ, ◌≡◌, List, [], false, MatchResult, OnOk, is_some, length};
-ghost use Rattle.script_stack.specs.Going.{Outside};
+ghost use Rattle.std.specs.Prelude.{◌≡◌, List, [], false, MatchResult, OnOk, is_some, length};
 ghost use Rattle.target_answer.specs.Target.{Stored};
 ghost use Rattle.leg_runs.specs.LegRuns.{LegRun};
 ghost use Rattle.mirror_volume.specs.Plans.{IsMirror, sides_of};
 ghost use Rattle.leg_runs.specs.Standing.{HasDevices, StandsAt};
 ghost use Rattle.mirror_verdict.specs.Stages.{Broke, Finished, Served, stage_of};
+ghost use Rattle.rig_api.specs.State.{RigState};
 
 use mirror_volume::{Mirror, Repair};
 use rig_api::Rig;
@@ -25,17 +25,17 @@ fn do_ops<R: Rig>(
     requires unused { mirror.old.state.used ≡ 0 }
     requires stands { (us : List Stored) → StandsAt mirror.old.plan.script mirror.old.plan.devices.items us (sides_of mirror.old) [] us }
     requires count { count ≡ length mirror.old.plan.script.ops }
-    requires rig { HasDevices mirror.old.plan.devices.items (is_some (R.image rig.old)) (R.standing rig.old) }
+    requires rig { HasDevices mirror.old.plan.devices.items (is_some (R.state rig.old).image) (R.state rig.old).standing }
     ensures mirror { IsMirror mirror.new }
     ensures plan { mirror.new.plan ≡ mirror.old.plan }
     ensures going { OnOk result (mirror.new.failed ≡ false) }
-    ensures done { let before : Outside = record { units = R.units rig.old; armed = R.armed rig.old; standing = R.standing rig.old; log = R.log rig.old; faults = R.faults rig.old } in
-        let after : Outside = record { units = R.units rig.new; armed = R.armed rig.new; standing = R.standing rig.new; log = R.log rig.new; faults = R.faults rig.new } in
+    ensures done { let before : RigState = R.state rig.old in
+        let after : RigState = R.state rig.new in
         MatchResult result
         (λ u. (runs : List LegRun) × Served mirror.old.plan.script mirror.old.plan.devices.items (stage_of mirror.old [] before) count (stage_of mirror.new runs after))
         (λ e. Broke mirror.old.plan.script mirror.old.plan.devices.items (stage_of mirror.old [] before) after) }
-    ensures tells { is_some (R.image rig.new) ≡ is_some (R.image rig.old) }
-    ensures standing { R.standing rig.new ≡ R.standing rig.old }
+    ensures tells { is_some (R.state rig.new).image ≡ is_some (R.state rig.old).image }
+    ensures standing { (R.state rig.new).standing ≡ (R.state rig.old).standing }
 {
     for _ in 0..count {
         mirror.next(alloc, rig)?;
@@ -56,14 +56,14 @@ pub(crate) fn serve<R: Rig>(
     requires unused { mirror.old.state.used ≡ 0 }
     requires stands { (us : List Stored) → StandsAt mirror.old.plan.script mirror.old.plan.devices.items us (sides_of mirror.old) [] us }
     requires count { count ≡ length mirror.old.plan.script.ops }
-    requires rig { HasDevices mirror.old.plan.devices.items (is_some (R.image rig.old)) (R.standing rig.old) }
-    ensures done { let before : Outside = record { units = R.units rig.old; armed = R.armed rig.old; standing = R.standing rig.old; log = R.log rig.old; faults = R.faults rig.old } in
-        let after : Outside = record { units = R.units rig.new; armed = R.armed rig.new; standing = R.standing rig.new; log = R.log rig.new; faults = R.faults rig.new } in
+    requires rig { HasDevices mirror.old.plan.devices.items (is_some (R.state rig.old).image) (R.state rig.old).standing }
+    ensures done { let before : RigState = R.state rig.old in
+        let after : RigState = R.state rig.new in
         MatchResult result
         (λ done. Finished mirror.old.plan.script mirror.old.plan.devices.items (stage_of mirror.old [] before) mirror.new done.repaired done.lost after)
         (λ e. Broke mirror.old.plan.script mirror.old.plan.devices.items (stage_of mirror.old [] before) after) }
-    ensures tells { is_some (R.image rig.new) ≡ is_some (R.image rig.old) }
-    ensures standing { R.standing rig.new ≡ R.standing rig.old }
+    ensures tells { is_some (R.state rig.new).image ≡ is_some (R.state rig.old).image }
+    ensures standing { (R.state rig.new).standing ≡ (R.state rig.old).standing }
 {
     do_ops(alloc, mirror, count, rig)?;
     mirror.repair(alloc, rig)

@@ -1,15 +1,15 @@
 //! A script on a mirror, op by op.
 
-ghost use Rattle.std.specs.Prelude.{Bool, IfErr, IfOk, IsTrue, List, Ok, OnErr, Some, [], drop, false, is_err, is_none, is_some, length, take, true, ℕ, ◌*◌, ◌++◌, ◌+◌, ◌<◌, ◌^◌, ◌↔◌, ◌∷◌, ◌≡◌, ◌≤◌};
+ghost use Rattle.std.specs.Prelude.{IfErr, IfOk, IsTrue, List, Ok, [], false, is_err, is_some, length, true, ◌*◌, ◌++◌, ◌+◌, ◌<◌, ◌↔◌, ◌∷◌, ◌≡◌, ◌≤◌};
 ghost use Rattle.script_stack.specs.Causes.{table_of};
 ghost use Rattle.leg_runs.specs.LegRuns.{AllOwn, GoOn, LegRun, RanLegs};
-ghost use Rattle.mirror_volume.specs.Plans.{IsMirror, IsPieceOf, IsPlan, sides_of};
+ghost use Rattle.mirror_volume.specs.Plans.{IsMirror, IsPlan, sides_of};
 ghost use Rattle.leg_runs.specs.Standing.{HasDevices};
 ghost use Rattle.target_answer.specs.Target.{Stored};
 ghost use Rattle.stack_ops.specs.declared.reply.Reply.{Reply};
 ghost use Rattle.leg_runs.specs.OnOps.{DidOp, RanOp, whole_request};
 ghost use Rattle.leg_runs.specs.Mending.{IsRepairOf, RepairBy, stretches_in};
-ghost use Rattle.leg_runs.specs.Standing.{IsBoundMirror, KeepsToWalk, RepairsAsWalk, StandsAt, half_of, op_at};
+ghost use Rattle.leg_runs.specs.Standing.{IsBoundMirror, KeepsToWalk, RepairsAsWalk, StandsAt, op_at};
 
 use crate::legs::{Plan, table_of};
 use crate::marks::FRESH;
@@ -100,27 +100,20 @@ impl Mirror {
     pub fn next<R: Rig>(&mut self, alloc: Global, rig: &mut R) -> Result<bool, AllocError>
         requires mirror { IsMirror self.old }
         requires going { self.old.failed ≡ false }
-        requires rig { HasDevices self.old.plan.devices.items (is_some (R.image rig.old)) (R.standing rig.old) }
+        requires rig { HasDevices self.old.plan.devices.items (is_some (R.state rig.old).image) (R.state rig.old).standing }
         ensures mirror { IsMirror self.new }
         ensures plan { self.new.plan ≡ self.old.plan }
         ensures more { IfOk result (λ more. IsTrue more ↔ length self.old.replies.items < length self.old.plan.script.ops) }
-        ensures ended { result ≡ Ok false → (self.new ≡ self.old) × ((R.units rig.new ≡ R.units rig.old) × ((R.armed rig.new ≡ R.armed rig.old)
-            × ((R.standing rig.new ≡ R.standing rig.old) × ((R.log rig.new ≡ R.log rig.old) × (R.faults rig.new ≡ R.faults rig.old))))) }
+        ensures ended { result ≡ Ok false → (self.new ≡ self.old) × (R.state rig.new ≡ R.state rig.old) }
         ensures failed { self.new.failed ≡ is_err result }
         ensures wanting { IfErr result (λ e. self.new.replies.items ≡ self.old.replies.items) }
         ensures op { RanOp self.old.plan.script self.old.plan.devices.items self.old.plan.half (length self.old.replies.items + 1) (op_at self.old.plan.script.ops (length self.old.replies.items)) self.old.state.pool
-            self.old.state.used self.new.state.used
-            (record { units = R.units rig.old; armed = R.armed rig.old; standing = R.standing rig.old; log = R.log rig.old; faults = R.faults rig.old })
-            (record { units = R.units rig.new; armed = R.armed rig.new; standing = R.standing rig.new; log = R.log rig.new; faults = R.faults rig.new })
+            self.old.state.used self.new.state.used (R.state rig.old) (R.state rig.new)
             (λ runs. result ≡ Ok true → (reply : Reply) × ((self.new.replies.items ≡ self.old.replies.items ++ (reply ∷ []))
-            × (DidOp self.old.plan.script self.old.plan.half (length self.old.replies.items + 1) (op_at self.old.plan.script.ops (length self.old.replies.items)) (sides_of self.old) (sides_of self.new)
-            (record { units = R.units rig.old; armed = R.armed rig.old; standing = R.standing rig.old; log = R.log rig.old; faults = R.faults rig.old })
-            (record { units = R.units rig.new; armed = R.armed rig.new; standing = R.standing rig.new; log = R.log rig.new; faults = R.faults rig.new }) runs reply
-            × KeepsToWalk self.old.plan.script self.old.plan.devices.items (sides_of self.old) (sides_of self.new)
-            (record { units = R.units rig.old; armed = R.armed rig.old; standing = R.standing rig.old; log = R.log rig.old; faults = R.faults rig.old })
-            (record { units = R.units rig.new; armed = R.armed rig.new; standing = R.standing rig.new; log = R.log rig.new; faults = R.faults rig.new }) self.old.replies.items reply runs))) }
-        ensures tells { is_some (R.image rig.new) ≡ is_some (R.image rig.old) }
-        ensures standing { R.standing rig.new ≡ R.standing rig.old }
+            × (DidOp self.old.plan.script self.old.plan.half (length self.old.replies.items + 1) (op_at self.old.plan.script.ops (length self.old.replies.items)) (sides_of self.old) (sides_of self.new) (R.state rig.old) (R.state rig.new) runs reply
+            × KeepsToWalk self.old.plan.script self.old.plan.devices.items (sides_of self.old) (sides_of self.new) (R.state rig.old) (R.state rig.new) self.old.replies.items reply runs))) }
+        ensures tells { is_some (R.state rig.new).image ≡ is_some (R.state rig.old).image }
+        ensures standing { (R.state rig.new).standing ≡ (R.state rig.old).standing }
     {
         an_op_of_a_mirror_goes_on_in_its_walk();
         // The pages are whole, which the law asks.
@@ -145,24 +138,20 @@ impl Mirror {
     pub fn repair<R: Rig>(&mut self, alloc: Global, rig: &mut R) -> Result<Repair, AllocError>
         requires mirror { IsMirror self.old }
         requires going { self.old.failed ≡ false }
-        requires rig { HasDevices self.old.plan.devices.items (is_some (R.image rig.old)) (R.standing rig.old) }
+        requires rig { HasDevices self.old.plan.devices.items (is_some (R.state rig.old).image) (R.state rig.old).standing }
         ensures mirror { IsMirror self.new }
         ensures plan { self.new.plan ≡ self.old.plan }
         ensures replies { self.new.replies.items ≡ self.old.replies.items }
         ensures pages { self.new.state.pool ≡ self.old.state.pool }
         ensures failed { self.new.failed ≡ is_err result }
-        ensures ran { (runs : List LegRun) × (RanLegs (table_of self.old.plan.script self.old.plan.devices.items) self.old.plan.devices.items runs
-            (record { units = R.units rig.old; armed = R.armed rig.old; standing = R.standing rig.old; log = R.log rig.old; faults = R.faults rig.old })
-            (record { units = R.units rig.new; armed = R.armed rig.new; standing = R.standing rig.new; log = R.log rig.new; faults = R.faults rig.new })
+        ensures ran { (runs : List LegRun) × (RanLegs (table_of self.old.plan.script self.old.plan.devices.items) self.old.plan.devices.items runs (R.state rig.old) (R.state rig.new)
             × (GoOn self.old.plan.script.schedule self.old.state.used runs self.new.state.used
             × (AllOwn (IsRepairOf self.old.plan.script self.old.plan.half) runs
             × IfOk result (λ done. RepairBy self.old.plan.script self.old.plan.half 0 (stretches_in self.old.plan.half)
             (record { marks = self.old.state.marks.items; repaired = 0; lost = 0 }) (record { marks = self.new.state.marks.items; repaired = done.repaired; lost = done.lost }) runs
-            × RepairsAsWalk self.old.plan.script self.old.plan.devices.items (sides_of self.old)
-            (record { units = R.units rig.old; armed = R.armed rig.old; standing = R.standing rig.old; log = R.log rig.old; faults = R.faults rig.old })
-            (record { units = R.units rig.new; armed = R.armed rig.new; standing = R.standing rig.new; log = R.log rig.new; faults = R.faults rig.new }) self.old.replies.items self.new.state.marks.items done.repaired done.lost runs)))) }
-        ensures tells { is_some (R.image rig.new) ≡ is_some (R.image rig.old) }
-        ensures standing { R.standing rig.new ≡ R.standing rig.old }
+            × RepairsAsWalk self.old.plan.script self.old.plan.devices.items (sides_of self.old) (R.state rig.old) (R.state rig.new) self.old.replies.items self.new.state.marks.items done.repaired done.lost runs)))) }
+        ensures tells { is_some (R.state rig.new).image ≡ is_some (R.state rig.old).image }
+        ensures standing { (R.state rig.new).standing ≡ (R.state rig.old).standing }
     {
         a_repair_of_a_mirror_is_that_of_its_walk();
         match repair_all(alloc, &self.plan, &mut self.state, rig) {
@@ -205,17 +194,15 @@ fn repair_all<R: Rig>(
     rig: &mut R,
 ) -> Result<Repair, AllocError>
     requires plan { IsPlan plan.now }
-    requires rig { HasDevices plan.now.devices.items (is_some (R.image rig.old)) (R.standing rig.old) }
+    requires rig { HasDevices plan.now.devices.items (is_some (R.state rig.old).image) (R.state rig.old).standing }
     requires used { state.old.used ≤ length plan.now.script.schedule }
     requires marks { length state.old.marks.items ≡ plan.now.half }
-    ensures ran { (runs : List LegRun) × (RanLegs (table_of plan.now.script plan.now.devices.items) plan.now.devices.items runs
-        (record { units = R.units rig.old; armed = R.armed rig.old; standing = R.standing rig.old; log = R.log rig.old; faults = R.faults rig.old })
-        (record { units = R.units rig.new; armed = R.armed rig.new; standing = R.standing rig.new; log = R.log rig.new; faults = R.faults rig.new })
+    ensures ran { (runs : List LegRun) × (RanLegs (table_of plan.now.script plan.now.devices.items) plan.now.devices.items runs (R.state rig.old) (R.state rig.new)
         × (GoOn plan.now.script.schedule state.old.used runs state.new.used × (AllOwn (IsRepairOf plan.now.script plan.now.half) runs
         × IfOk result (λ done. RepairBy plan.now.script plan.now.half 0 (stretches_in plan.now.half)
         (record { marks = state.old.marks.items; repaired = 0; lost = 0 }) (record { marks = state.new.marks.items; repaired = done.repaired; lost = done.lost }) runs)))) }
-    ensures tells { is_some (R.image rig.new) ≡ is_some (R.image rig.old) }
-    ensures standing { R.standing rig.new ≡ R.standing rig.old }
+    ensures tells { is_some (R.state rig.new).image ≡ is_some (R.state rig.old).image }
+    ensures standing { (R.state rig.new).standing ≡ (R.state rig.old).standing }
     ensures used { state.new.used ≤ length plan.now.script.schedule }
     ensures pages { state.new.pool ≡ state.old.pool }
     ensures marks { length state.new.marks.items ≡ length state.old.marks.items }

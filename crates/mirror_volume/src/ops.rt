@@ -1,6 +1,6 @@
 //! The ops of a mirror's script.
 
-ghost use Rattle.std.specs.Prelude.{ℕ, ◌≡◌, ◌<◌, ◌≤◌, ◌+◌, ◌*◌, ◌⊎◌, List, [], ◌∷◌, IfOk, is_some, length};
+ghost use Rattle.std.specs.Prelude.{◌≡◌, ◌<◌, ◌≤◌, ◌+◌, ◌*◌, ◌⊎◌, [], IfOk, is_some, length};
 ghost use Rattle.page_pool.specs.Pages.{AllLieIn};
 ghost use Rattle.page_pool.specs.Places.{NoneTwice, range_of, total};
 ghost use Rattle.stack_ops.specs.declared.op.Op.TheVariants.{Fetch, Write};
@@ -34,21 +34,17 @@ fn write_blocks<R: Rig>(
     rig: &mut R,
 ) -> Result<Reply, AllocError>
     requires plan { IsPlan plan.now }
-    requires rig { HasDevices plan.now.devices.items (is_some (R.image rig.old)) (R.standing rig.old) }
+    requires rig { HasDevices plan.now.devices.items (is_some (R.state rig.old).image) (R.state rig.old).standing }
     requires used { state.old.used ≤ length plan.now.script.schedule }
     requires piece { IsPieceOf plan.now (whole_request number v n) }
     requires long { total body.now ≡ n * plan.now.script.block }
     requires lie { AllLieIn state.old.pool body.now }
     requires marks { length state.old.marks.items ≡ plan.now.half }
-    ensures ran { RanOp plan.now.script plan.now.devices.items plan.now.half number (Write v n body.now app) state.old.pool state.old.used state.new.used
-        (record { units = R.units rig.old; armed = R.armed rig.old; standing = R.standing rig.old; log = R.log rig.old; faults = R.faults rig.old })
-        (record { units = R.units rig.new; armed = R.armed rig.new; standing = R.standing rig.new; log = R.log rig.new; faults = R.faults rig.new })
+    ensures ran { RanOp plan.now.script plan.now.devices.items plan.now.half number (Write v n body.now app) state.old.pool state.old.used state.new.used (R.state rig.old) (R.state rig.new)
         (λ runs. IfOk result (DidOp plan.now.script plan.now.half number (Write v n body.now app)
-        (record { pool = state.old.pool; marks = state.old.marks.items }) (record { pool = state.new.pool; marks = state.new.marks.items })
-        (record { units = R.units rig.old; armed = R.armed rig.old; standing = R.standing rig.old; log = R.log rig.old; faults = R.faults rig.old })
-        (record { units = R.units rig.new; armed = R.armed rig.new; standing = R.standing rig.new; log = R.log rig.new; faults = R.faults rig.new }) runs)) }
-    ensures tells { is_some (R.image rig.new) ≡ is_some (R.image rig.old) }
-    ensures standing { R.standing rig.new ≡ R.standing rig.old }
+        (record { pool = state.old.pool; marks = state.old.marks.items }) (record { pool = state.new.pool; marks = state.new.marks.items }) (R.state rig.old) (R.state rig.new) runs)) }
+    ensures tells { is_some (R.state rig.new).image ≡ is_some (R.state rig.old).image }
+    ensures standing { (R.state rig.new).standing ≡ (R.state rig.old).standing }
     ensures used { state.new.used ≤ length plan.now.script.schedule }
     ensures pages { length state.new.pool ≡ length state.old.pool }
     ensures marks { length state.new.marks.items ≡ length state.old.marks.items }
@@ -71,22 +67,18 @@ fn fetch_blocks<R: Rig>(
     rig: &mut R,
 ) -> Result<Reply, AllocError>
     requires plan { IsPlan plan.now }
-    requires rig { HasDevices plan.now.devices.items (is_some (R.image rig.old)) (R.standing rig.old) }
+    requires rig { HasDevices plan.now.devices.items (is_some (R.state rig.old).image) (R.state rig.old).standing }
     requires used { state.old.used ≤ length plan.now.script.schedule }
     requires piece { IsPieceOf plan.now (whole_request number v n) }
     requires long { total body.now ≡ n * plan.now.script.block }
     requires lie { AllLieIn state.old.pool body.now }
     requires once { NoneTwice (range_of body.now 0 (total body.now)) }
     requires marks { length state.old.marks.items ≡ plan.now.half }
-    ensures ran { RanOp plan.now.script plan.now.devices.items plan.now.half number (Fetch v n body.now) state.old.pool state.old.used state.new.used
-        (record { units = R.units rig.old; armed = R.armed rig.old; standing = R.standing rig.old; log = R.log rig.old; faults = R.faults rig.old })
-        (record { units = R.units rig.new; armed = R.armed rig.new; standing = R.standing rig.new; log = R.log rig.new; faults = R.faults rig.new })
+    ensures ran { RanOp plan.now.script plan.now.devices.items plan.now.half number (Fetch v n body.now) state.old.pool state.old.used state.new.used (R.state rig.old) (R.state rig.new)
         (λ runs. IfOk result (DidOp plan.now.script plan.now.half number (Fetch v n body.now)
-        (record { pool = state.old.pool; marks = state.old.marks.items }) (record { pool = state.new.pool; marks = state.new.marks.items })
-        (record { units = R.units rig.old; armed = R.armed rig.old; standing = R.standing rig.old; log = R.log rig.old; faults = R.faults rig.old })
-        (record { units = R.units rig.new; armed = R.armed rig.new; standing = R.standing rig.new; log = R.log rig.new; faults = R.faults rig.new }) runs)) }
-    ensures tells { is_some (R.image rig.new) ≡ is_some (R.image rig.old) }
-    ensures standing { R.standing rig.new ≡ R.standing rig.old }
+        (record { pool = state.old.pool; marks = state.old.marks.items }) (record { pool = state.new.pool; marks = state.new.marks.items }) (R.state rig.old) (R.state rig.new) runs)) }
+    ensures tells { is_some (R.state rig.new).image ≡ is_some (R.state rig.old).image }
+    ensures standing { (R.state rig.new).standing ≡ (R.state rig.old).standing }
     ensures used { state.new.used ≤ length plan.now.script.schedule }
     ensures pages { length state.new.pool ≡ length state.old.pool }
     ensures marks { length state.new.marks.items ≡ length state.old.marks.items }
@@ -101,16 +93,12 @@ fn fetch_blocks<R: Rig>(
 
 /// Changes a stored block.
 fn overwrite<R: Rig>(dev: u32, lba: u64, change: &Change, rig: &mut R) -> Reply
-    requires { HasBlocks (is_some (R.image rig.old)) (R.standing rig.old) dev lba change.now }
+    requires { HasBlocks (is_some (R.state rig.old).image) (R.state rig.old).standing dev lba change.now }
     ensures reply { (result ≡ Silent) ⊎ (result ≡ Medium) }
-    ensures altered { Altered dev lba change.now []
-        (record { units = R.units rig.old; armed = R.armed rig.old; standing = R.standing rig.old; log = R.log rig.old; faults = R.faults rig.old })
-        (record { units = R.units rig.new; armed = R.armed rig.new; standing = R.standing rig.new; log = R.log rig.new; faults = R.faults rig.new }) }
-    ensures made { OverwriteTells dev lba change.now result
-        (record { units = R.units rig.old; armed = R.armed rig.old; standing = R.standing rig.old; log = R.log rig.old; faults = R.faults rig.old })
-        (record { units = R.units rig.new; armed = R.armed rig.new; standing = R.standing rig.new; log = R.log rig.new; faults = R.faults rig.new }) }
-    ensures tells { is_some (R.image rig.new) ≡ is_some (R.image rig.old) }
-    ensures standing { R.standing rig.new ≡ R.standing rig.old }
+    ensures altered { Altered dev lba change.now [] (R.state rig.old) (R.state rig.new) }
+    ensures made { OverwriteTells dev lba change.now result (R.state rig.old) (R.state rig.new) }
+    ensures tells { is_some (R.state rig.new).image ≡ is_some (R.state rig.old).image }
+    ensures standing { (R.state rig.new).standing ≡ (R.state rig.old).standing }
 {
     match rig.overwrite(dev, lba, change) {
         Ok(()) => Reply::Silent,
@@ -127,20 +115,16 @@ pub(crate) fn do_op<R: Rig>(
     rig: &mut R,
 ) -> Result<Reply, AllocError>
     requires plan { IsPlan plan.now }
-    requires rig { HasDevices plan.now.devices.items (is_some (R.image rig.old)) (R.standing rig.old) }
+    requires rig { HasDevices plan.now.devices.items (is_some (R.state rig.old).image) (R.state rig.old).standing }
     requires used { state.old.used ≤ length plan.now.script.schedule }
     requires op { at < length plan.now.script.ops }
     requires pages { length state.old.pool ≡ plan.now.script.pages }
     requires marks { length state.old.marks.items ≡ plan.now.half }
-    ensures ran { RanOp plan.now.script plan.now.devices.items plan.now.half (at + 1) (op_at plan.now.script.ops at) state.old.pool state.old.used state.new.used
-        (record { units = R.units rig.old; armed = R.armed rig.old; standing = R.standing rig.old; log = R.log rig.old; faults = R.faults rig.old })
-        (record { units = R.units rig.new; armed = R.armed rig.new; standing = R.standing rig.new; log = R.log rig.new; faults = R.faults rig.new })
+    ensures ran { RanOp plan.now.script plan.now.devices.items plan.now.half (at + 1) (op_at plan.now.script.ops at) state.old.pool state.old.used state.new.used (R.state rig.old) (R.state rig.new)
         (λ runs. IfOk result (DidOp plan.now.script plan.now.half (at + 1) (op_at plan.now.script.ops at)
-        (record { pool = state.old.pool; marks = state.old.marks.items }) (record { pool = state.new.pool; marks = state.new.marks.items })
-        (record { units = R.units rig.old; armed = R.armed rig.old; standing = R.standing rig.old; log = R.log rig.old; faults = R.faults rig.old })
-        (record { units = R.units rig.new; armed = R.armed rig.new; standing = R.standing rig.new; log = R.log rig.new; faults = R.faults rig.new }) runs)) }
-    ensures tells { is_some (R.image rig.new) ≡ is_some (R.image rig.old) }
-    ensures standing { R.standing rig.new ≡ R.standing rig.old }
+        (record { pool = state.old.pool; marks = state.old.marks.items }) (record { pool = state.new.pool; marks = state.new.marks.items }) (R.state rig.old) (R.state rig.new) runs)) }
+    ensures tells { is_some (R.state rig.new).image ≡ is_some (R.state rig.old).image }
+    ensures standing { (R.state rig.new).standing ≡ (R.state rig.old).standing }
     ensures used { state.new.used ≤ length plan.now.script.schedule }
     ensures pages { length state.new.pool ≡ length state.old.pool }
     ensures marks { length state.new.marks.items ≡ length state.old.marks.items }

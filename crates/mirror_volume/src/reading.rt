@@ -1,7 +1,7 @@
 //! A read: each block is asked on leg 0 if it is fresh there; if it isn't, or isn't delivered, on leg 1 if it is fresh
 //! there.
 
-ghost use Rattle.std.specs.Prelude.{ℕ, ◌≡◌, ◌<◌, ◌≤◌, ◌+◌, ◌*◌, ◌++◌, List, [], ◌∷◌, IfOk, None, not, ◌&&◌, ◌||◌, if◌then◌else◌, drop, is_none, is_some, length, take};
+ghost use Rattle.std.specs.Prelude.{◌≡◌, ◌<◌, ◌≤◌, ◌+◌, ◌*◌, ◌++◌, List, [], ◌∷◌, IfOk, None, not, ◌&&◌, ◌||◌, if◌then◌else◌, is_none, is_some, length};
 ghost use Rattle.script_stack.specs.Causes.{table_of};
 ghost use Rattle.leg_runs.specs.LegRuns.{AllOwn, GoOn, LegRun, RanLegs};
 ghost use Rattle.mirror_volume.specs.Plans.{IsPieceOf, IsPlan};
@@ -37,20 +37,18 @@ fn ask_stretch<R: Rig>(
     rig: &mut R,
 ) -> Result<(), AllocError>
     requires plan { IsPlan plan.now }
-    requires rig { HasDevices plan.now.devices.items (is_some (R.image rig.old)) (R.standing rig.old) }
+    requires rig { HasDevices plan.now.devices.items (is_some (R.state rig.old).image) (R.state rig.old).standing }
     requires used { used.old ≤ length plan.now.script.schedule }
     requires piece { IsPieceOf plan.now whole }
     requires stretch { IsInside whole.n stretch }
     requires found { length came.old.found.items ≡ whole.n }
     requires bytes { length came.old.bytes.items ≡ whole.n * plan.now.script.block }
-    ensures ran { (runs : List LegRun) × (RanLegs (table_of plan.now.script plan.now.devices.items) plan.now.devices.items runs
-        (record { units = R.units rig.old; armed = R.armed rig.old; standing = R.standing rig.old; log = R.log rig.old; faults = R.faults rig.old })
-        (record { units = R.units rig.new; armed = R.armed rig.new; standing = R.standing rig.new; log = R.log rig.new; faults = R.faults rig.new })
+    ensures ran { (runs : List LegRun) × (RanLegs (table_of plan.now.script plan.now.devices.items) plan.now.devices.items runs (R.state rig.old) (R.state rig.new)
         × (GoOn plan.now.script.schedule used.old runs used.new × (AllOwn (IsReadOf plan.now.script plan.now.half whole) runs
         × IfOk result (λ u. AreOf (read_script plan.now.script plan.now.half) whole (stretch ∷ []) runs
         × ((came.new.found.items ≡ found_after (stretch ∷ []) runs came.old.found.items) × (came.new.bytes.items ≡ bytes_after plan.now.script.block (stretch ∷ []) runs came.old.bytes.items)))))) }
-    ensures tells { is_some (R.image rig.new) ≡ is_some (R.image rig.old) }
-    ensures standing { R.standing rig.new ≡ R.standing rig.old }
+    ensures tells { is_some (R.state rig.new).image ≡ is_some (R.state rig.old).image }
+    ensures standing { (R.state rig.new).standing ≡ (R.state rig.old).standing }
     ensures used { used.new ≤ length plan.now.script.schedule }
     ensures found { length came.new.found.items ≡ length came.old.found.items }
     ensures bytes { length came.new.bytes.items ≡ length came.old.bytes.items }
@@ -81,20 +79,18 @@ fn ask<R: Rig>(
     rig: &mut R,
 ) -> Result<(), AllocError>
     requires plan { IsPlan plan.now }
-    requires rig { HasDevices plan.now.devices.items (is_some (R.image rig.old)) (R.standing rig.old) }
+    requires rig { HasDevices plan.now.devices.items (is_some (R.state rig.old).image) (R.state rig.old).standing }
     requires used { used.old ≤ length plan.now.script.schedule }
     requires piece { IsPieceOf plan.now whole }
     requires wanted { length wanted.now ≡ whole.n }
     requires found { length came.old.found.items ≡ whole.n }
     requires bytes { length came.old.bytes.items ≡ whole.n * plan.now.script.block }
-    ensures ran { (runs : List LegRun) × (RanLegs (table_of plan.now.script plan.now.devices.items) plan.now.devices.items runs
-        (record { units = R.units rig.old; armed = R.armed rig.old; standing = R.standing rig.old; log = R.log rig.old; faults = R.faults rig.old })
-        (record { units = R.units rig.new; armed = R.armed rig.new; standing = R.standing rig.new; log = R.log rig.new; faults = R.faults rig.new })
+    ensures ran { (runs : List LegRun) × (RanLegs (table_of plan.now.script plan.now.devices.items) plan.now.devices.items runs (R.state rig.old) (R.state rig.new)
         × (GoOn plan.now.script.schedule used.old runs used.new × (AllOwn (IsReadOf plan.now.script plan.now.half whole) runs
         × IfOk result (λ u. AreOf (read_script plan.now.script plan.now.half) whole (stretches wanted.now) runs
         × ((came.new.found.items ≡ found_after (stretches wanted.now) runs came.old.found.items) × (came.new.bytes.items ≡ bytes_after plan.now.script.block (stretches wanted.now) runs came.old.bytes.items)))))) }
-    ensures tells { is_some (R.image rig.new) ≡ is_some (R.image rig.old) }
-    ensures standing { R.standing rig.new ≡ R.standing rig.old }
+    ensures tells { is_some (R.state rig.new).image ≡ is_some (R.state rig.old).image }
+    ensures standing { (R.state rig.new).standing ≡ (R.state rig.old).standing }
     ensures used { used.new ≤ length plan.now.script.schedule }
     ensures found { length came.new.found.items ≡ length came.old.found.items }
     ensures bytes { length came.new.bytes.items ≡ length came.old.bytes.items }
@@ -190,17 +186,15 @@ pub(crate) fn read_blocks<R: Rig>(
     rig: &mut R,
 ) -> Result<(Vec<Option<Why>>, Vec<u8>), AllocError>
     requires plan { IsPlan plan.now }
-    requires rig { HasDevices plan.now.devices.items (is_some (R.image rig.old)) (R.standing rig.old) }
+    requires rig { HasDevices plan.now.devices.items (is_some (R.state rig.old).image) (R.state rig.old).standing }
     requires used { used.old ≤ length plan.now.script.schedule }
     requires piece { IsPieceOf plan.now on0 }
     requires marks { length marks.now ≡ on0.n }
-    ensures ran { (runs : List LegRun) × (RanLegs (table_of plan.now.script plan.now.devices.items) plan.now.devices.items runs
-        (record { units = R.units rig.old; armed = R.armed rig.old; standing = R.standing rig.old; log = R.log rig.old; faults = R.faults rig.old })
-        (record { units = R.units rig.new; armed = R.armed rig.new; standing = R.standing rig.new; log = R.log rig.new; faults = R.faults rig.new })
+    ensures ran { (runs : List LegRun) × (RanLegs (table_of plan.now.script plan.now.devices.items) plan.now.devices.items runs (R.state rig.old) (R.state rig.new)
         × (GoOn plan.now.script.schedule used.old runs used.new × (AllOwn (IsReadOf plan.now.script plan.now.half on0) runs
         × IfOk result (λ v. (runs0 runs1 : List LegRun) × ((runs ≡ runs0 ++ runs1) × ReadBy plan.now.script plan.now.half on0 marks.now runs0 runs1 v.0.items v.1.items))))) }
-    ensures tells { is_some (R.image rig.new) ≡ is_some (R.image rig.old) }
-    ensures standing { R.standing rig.new ≡ R.standing rig.old }
+    ensures tells { is_some (R.state rig.new).image ≡ is_some (R.state rig.old).image }
+    ensures standing { (R.state rig.new).standing ≡ (R.state rig.old).standing }
     ensures used { used.new ≤ length plan.now.script.schedule }
     ensures listed { IfOk result (λ v. length v.0.items ≡ on0.n) }
     ensures bytes { IfOk result (λ v. length v.1.items ≡ on0.n * plan.now.script.block) }

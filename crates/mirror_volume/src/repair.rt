@@ -1,7 +1,7 @@
 //! The repair of a mirror, after its script: where just one leg of a block is good, its data and its application tag
 //! are written to the other one.
 
-ghost use Rattle.std.specs.Prelude.{ℕ, ◌≡◌, ◌<◌, ◌≤◌, ◌+◌, ◌*◌, ◌^◌, ◌++◌, true, ◌&&◌, List, [], ◌∷◌, IfOk, drop, get_or, None, is_none, is_some, length, take};
+ghost use Rattle.std.specs.Prelude.{◌≡◌, ◌<◌, ◌≤◌, ◌+◌, ◌*◌, ◌^◌, true, ◌&&◌, List, [], ◌∷◌, IfOk, drop, get_or, None, is_none, is_some, length, take};
 ghost use Rattle.script_stack.specs.Causes.{table_of};
 ghost use Rattle.leg_runs.specs.LegRuns.{AllOwn, GoOn, LegRun, RanLegs, found_by, replies_of};
 ghost use Rattle.mirror_volume.specs.Plans.{IsPieceOf, IsPlan};
@@ -92,21 +92,19 @@ fn look_at_part<R: Rig>(
     rig: &mut R,
 ) -> Result<(), AllocError>
     requires plan { IsPlan plan.now }
-    requires rig { HasDevices plan.now.devices.items (is_some (R.image rig.old)) (R.standing rig.old) }
+    requires rig { HasDevices plan.now.devices.items (is_some (R.state rig.old).image) (R.state rig.old).standing }
     requires used { used.old ≤ length plan.now.script.schedule }
     requires piece { IsPieceOf plan.now whole }
     requires short { whole.n ≤ 128 }
     requires repair { whole.op ≡ 0 }
     requires part { IsInside whole.n part }
     requires seen { IsSeen plan.now.script.block whole.n seen.old }
-    ensures ran { (runs : List LegRun) × (RanLegs (table_of plan.now.script plan.now.devices.items) plan.now.devices.items runs
-        (record { units = R.units rig.old; armed = R.armed rig.old; standing = R.standing rig.old; log = R.log rig.old; faults = R.faults rig.old })
-        (record { units = R.units rig.new; armed = R.armed rig.new; standing = R.standing rig.new; log = R.log rig.new; faults = R.faults rig.new })
+    ensures ran { (runs : List LegRun) × (RanLegs (table_of plan.now.script plan.now.devices.items) plan.now.devices.items runs (R.state rig.old) (R.state rig.new)
         × (GoOn plan.now.script.schedule used.old runs used.new × (AllOwn (IsRepairOf plan.now.script plan.now.half) runs
         × IfOk result (λ u. AreOf (read_pi_script plan.now.script plan.now.half) whole (part ∷ []) runs
         × IsAfter plan.now.script.block (part ∷ []) runs seen.old seen.new)))) }
-    ensures tells { is_some (R.image rig.new) ≡ is_some (R.image rig.old) }
-    ensures standing { R.standing rig.new ≡ R.standing rig.old }
+    ensures tells { is_some (R.state rig.new).image ≡ is_some (R.state rig.old).image }
+    ensures standing { (R.state rig.new).standing ≡ (R.state rig.old).standing }
     ensures used { used.new ≤ length plan.now.script.schedule }
     ensures seen { IsSeen plan.now.script.block whole.n seen.new }
 {
@@ -137,21 +135,19 @@ fn look_at_parts<R: Rig>(
     rig: &mut R,
 ) -> Result<(), AllocError>
     requires plan { IsPlan plan.now }
-    requires rig { HasDevices plan.now.devices.items (is_some (R.image rig.old)) (R.standing rig.old) }
+    requires rig { HasDevices plan.now.devices.items (is_some (R.state rig.old).image) (R.state rig.old).standing }
     requires used { used.old ≤ length plan.now.script.schedule }
     requires piece { IsPieceOf plan.now whole }
     requires short { whole.n ≤ 128 }
     requires repair { whole.op ≡ 0 }
     requires wanted { length wanted.now ≡ whole.n }
     requires seen { IsSeen plan.now.script.block whole.n seen.old }
-    ensures ran { (runs : List LegRun) × (RanLegs (table_of plan.now.script plan.now.devices.items) plan.now.devices.items runs
-        (record { units = R.units rig.old; armed = R.armed rig.old; standing = R.standing rig.old; log = R.log rig.old; faults = R.faults rig.old })
-        (record { units = R.units rig.new; armed = R.armed rig.new; standing = R.standing rig.new; log = R.log rig.new; faults = R.faults rig.new })
+    ensures ran { (runs : List LegRun) × (RanLegs (table_of plan.now.script plan.now.devices.items) plan.now.devices.items runs (R.state rig.old) (R.state rig.new)
         × (GoOn plan.now.script.schedule used.old runs used.new × (AllOwn (IsRepairOf plan.now.script plan.now.half) runs
         × IfOk result (λ u. AreOf (read_pi_script plan.now.script plan.now.half) whole (stretches wanted.now) runs
         × IsAfter plan.now.script.block (stretches wanted.now) runs seen.old seen.new)))) }
-    ensures tells { is_some (R.image rig.new) ≡ is_some (R.image rig.old) }
-    ensures standing { R.standing rig.new ≡ R.standing rig.old }
+    ensures tells { is_some (R.state rig.new).image ≡ is_some (R.state rig.old).image }
+    ensures standing { (R.state rig.new).standing ≡ (R.state rig.old).standing }
     ensures used { used.new ≤ length plan.now.script.schedule }
     ensures seen { IsSeen plan.now.script.block whole.n seen.new }
 {
@@ -172,20 +168,18 @@ fn look<R: Rig>(
     rig: &mut R,
 ) -> Result<Held, AllocError>
     requires plan { IsPlan plan.now }
-    requires rig { HasDevices plan.now.devices.items (is_some (R.image rig.old)) (R.standing rig.old) }
+    requires rig { HasDevices plan.now.devices.items (is_some (R.state rig.old).image) (R.state rig.old).standing }
     requires used { used.old ≤ length plan.now.script.schedule }
     requires piece { IsPieceOf plan.now whole }
     requires short { whole.n ≤ 128 }
     requires repair { whole.op ≡ 0 }
     requires wanted { length wanted.now ≡ whole.n }
-    ensures ran { (runs : List LegRun) × (RanLegs (table_of plan.now.script plan.now.devices.items) plan.now.devices.items runs
-        (record { units = R.units rig.old; armed = R.armed rig.old; standing = R.standing rig.old; log = R.log rig.old; faults = R.faults rig.old })
-        (record { units = R.units rig.new; armed = R.armed rig.new; standing = R.standing rig.new; log = R.log rig.new; faults = R.faults rig.new })
+    ensures ran { (runs : List LegRun) × (RanLegs (table_of plan.now.script plan.now.devices.items) plan.now.devices.items runs (R.state rig.old) (R.state rig.new)
         × (GoOn plan.now.script.schedule used.old runs used.new × (AllOwn (IsRepairOf plan.now.script plan.now.half) runs
         × IfOk result (λ h. AreOf (read_pi_script plan.now.script plan.now.half) whole (stretches wanted.now) runs
         × (goods_in plan.now.script.block h ≡ looked plan.now.script.block whole.n wanted.now runs))))) }
-    ensures tells { is_some (R.image rig.new) ≡ is_some (R.image rig.old) }
-    ensures standing { R.standing rig.new ≡ R.standing rig.old }
+    ensures tells { is_some (R.state rig.new).image ≡ is_some (R.state rig.old).image }
+    ensures standing { (R.state rig.new).standing ≡ (R.state rig.old).standing }
     ensures used { used.new ≤ length plan.now.script.schedule }
     ensures held { IfOk result (λ h. IsHeld plan.now.script.block whole.n h) }
 {
@@ -215,21 +209,19 @@ fn mend<R: Rig>(
     rig: &mut R,
 ) -> Result<bool, AllocError>
     requires plan { IsPlan plan.now }
-    requires rig { HasDevices plan.now.devices.items (is_some (R.image rig.old)) (R.standing rig.old) }
+    requires rig { HasDevices plan.now.devices.items (is_some (R.state rig.old).image) (R.state rig.old).standing }
     requires used { used.old ≤ length plan.now.script.schedule }
     requires piece { IsPieceOf plan.now whole }
     requires repair { whole.op ≡ 0 }
     requires block { i < whole.n }
     requires held { IsHeld plan.now.script.block whole.n from.now }
-    ensures ran { (runs : List LegRun) × (RanLegs (table_of plan.now.script plan.now.devices.items) plan.now.devices.items runs
-        (record { units = R.units rig.old; armed = R.armed rig.old; standing = R.standing rig.old; log = R.log rig.old; faults = R.faults rig.old })
-        (record { units = R.units rig.new; armed = R.armed rig.new; standing = R.standing rig.new; log = R.log rig.new; faults = R.faults rig.new })
+    ensures ran { (runs : List LegRun) × (RanLegs (table_of plan.now.script plan.now.devices.items) plan.now.devices.items runs (R.state rig.old) (R.state rig.new)
         × (GoOn plan.now.script.schedule used.old runs used.new × (AllOwn (IsRepairOf plan.now.script plan.now.half) runs
         × IfOk result (λ is_accepted. (r : LegRun) × ((runs ≡ r ∷ []) × ((r.own ≡ write_script plan.now.script plan.now.half (record whole { n = 1; v = whole.v + i })
         (tuple_in (drop (8 * i) from.now.tuples.items)).app (take plan.now.script.block (drop (i * plan.now.script.block) from.now.bytes.items)))
         × (is_accepted ≡ is_none (get_or (found_by 1 (replies_of r)) 0 None)))))))) }
-    ensures tells { is_some (R.image rig.new) ≡ is_some (R.image rig.old) }
-    ensures standing { R.standing rig.new ≡ R.standing rig.old }
+    ensures tells { is_some (R.state rig.new).image ≡ is_some (R.state rig.old).image }
+    ensures standing { (R.state rig.new).standing ≡ (R.state rig.old).standing }
     ensures used { used.new ≤ length plan.now.script.schedule }
 {
     let size = plan.script.block as usize;
@@ -259,7 +251,7 @@ fn mend_block<R: Rig>(
     rig: &mut R,
 ) -> Result<(), AllocError>
     requires plan { IsPlan plan.now }
-    requires rig { HasDevices plan.now.devices.items (is_some (R.image rig.old)) (R.standing rig.old) }
+    requires rig { HasDevices plan.now.devices.items (is_some (R.state rig.old).image) (R.state rig.old).standing }
     requires used { used.old ≤ length plan.now.script.schedule }
     requires piece { IsPieceOf plan.now whole }
     requires whole { whole ≡ whole_stretch whole.v whole.n }
@@ -268,14 +260,12 @@ fn mend_block<R: Rig>(
     requires held0 { IsHeld plan.now.script.block whole.n held0.now }
     requires held1 { IsHeld plan.now.script.block whole.n held1.now }
     requires few { done.old.repaired + (done.old.lost + 1) < 2 ^ 32 }
-    ensures ran { (runs : List LegRun) × (RanLegs (table_of plan.now.script plan.now.devices.items) plan.now.devices.items runs
-        (record { units = R.units rig.old; armed = R.armed rig.old; standing = R.standing rig.old; log = R.log rig.old; faults = R.faults rig.old })
-        (record { units = R.units rig.new; armed = R.armed rig.new; standing = R.standing rig.new; log = R.log rig.new; faults = R.faults rig.new })
+    ensures ran { (runs : List LegRun) × (RanLegs (table_of plan.now.script plan.now.devices.items) plan.now.devices.items runs (R.state rig.old) (R.state rig.new)
         × (GoOn plan.now.script.schedule used.old runs used.new × (AllOwn (IsRepairOf plan.now.script plan.now.half) runs
         × IfOk result (λ u. MendsBy plan.now.script plan.now.half whole.n (whole.v + i) (need_by (get_or (goods_in plan.now.script.block held0.now) i None) (get_or (goods_in plan.now.script.block held1.now) i None) ∷ [])
         (record { marks = marks.old; repaired = done.old.repaired; lost = done.old.lost }) (record { marks = marks.new; repaired = done.new.repaired; lost = done.new.lost }) runs)))) }
-    ensures tells { is_some (R.image rig.new) ≡ is_some (R.image rig.old) }
-    ensures standing { R.standing rig.new ≡ R.standing rig.old }
+    ensures tells { is_some (R.state rig.new).image ≡ is_some (R.state rig.old).image }
+    ensures standing { (R.state rig.new).standing ≡ (R.state rig.old).standing }
     ensures used { used.new ≤ length plan.now.script.schedule }
     ensures marks { length marks.new ≡ length marks.old }
     ensures few { IfOk result (λ u. done.new.repaired + done.new.lost ≤ done.old.repaired + (done.old.lost + 1)) }
@@ -316,7 +306,7 @@ fn mend_all<R: Rig>(
     rig: &mut R,
 ) -> Result<(), AllocError>
     requires plan { IsPlan plan.now }
-    requires rig { HasDevices plan.now.devices.items (is_some (R.image rig.old)) (R.standing rig.old) }
+    requires rig { HasDevices plan.now.devices.items (is_some (R.state rig.old).image) (R.state rig.old).standing }
     requires used { used.old ≤ length plan.now.script.schedule }
     requires piece { IsPieceOf plan.now whole }
     requires whole { whole ≡ whole_stretch whole.v whole.n }
@@ -324,14 +314,12 @@ fn mend_all<R: Rig>(
     requires held0 { IsHeld plan.now.script.block whole.n held0.now }
     requires held1 { IsHeld plan.now.script.block whole.n held1.now }
     requires few { done.old.repaired + (done.old.lost + whole.n) < 2 ^ 32 }
-    ensures ran { (runs : List LegRun) × (RanLegs (table_of plan.now.script plan.now.devices.items) plan.now.devices.items runs
-        (record { units = R.units rig.old; armed = R.armed rig.old; standing = R.standing rig.old; log = R.log rig.old; faults = R.faults rig.old })
-        (record { units = R.units rig.new; armed = R.armed rig.new; standing = R.standing rig.new; log = R.log rig.new; faults = R.faults rig.new })
+    ensures ran { (runs : List LegRun) × (RanLegs (table_of plan.now.script plan.now.devices.items) plan.now.devices.items runs (R.state rig.old) (R.state rig.new)
         × (GoOn plan.now.script.schedule used.old runs used.new × (AllOwn (IsRepairOf plan.now.script plan.now.half) runs
         × IfOk result (λ u. MendsBy plan.now.script plan.now.half whole.n whole.v (needs_by (goods_in plan.now.script.block held0.now) (goods_in plan.now.script.block held1.now))
         (record { marks = marks.old; repaired = done.old.repaired; lost = done.old.lost }) (record { marks = marks.new; repaired = done.new.repaired; lost = done.new.lost }) runs)))) }
-    ensures tells { is_some (R.image rig.new) ≡ is_some (R.image rig.old) }
-    ensures standing { R.standing rig.new ≡ R.standing rig.old }
+    ensures tells { is_some (R.state rig.new).image ≡ is_some (R.state rig.old).image }
+    ensures standing { (R.state rig.new).standing ≡ (R.state rig.old).standing }
     ensures used { used.new ≤ length plan.now.script.schedule }
     ensures marks { length marks.new ≡ length marks.old }
     ensures few { IfOk result (λ u. done.new.repaired + done.new.lost ≤ done.old.repaired + (done.old.lost + whole.n)) }
@@ -360,21 +348,19 @@ pub(crate) fn repair_stretch<R: Rig>(
     rig: &mut R,
 ) -> Result<(), AllocError>
     requires plan { IsPlan plan.now }
-    requires rig { HasDevices plan.now.devices.items (is_some (R.image rig.old)) (R.standing rig.old) }
+    requires rig { HasDevices plan.now.devices.items (is_some (R.state rig.old).image) (R.state rig.old).standing }
     requires used { used.old ≤ length plan.now.script.schedule }
     requires piece { IsPieceOf plan.now whole }
     requires short { whole.n ≤ 128 }
     requires whole { whole ≡ whole_stretch whole.v whole.n }
     requires marks { length marks.old ≡ plan.now.half }
     requires few { done.old.repaired + (done.old.lost + whole.n) < 2 ^ 32 }
-    ensures ran { (runs : List LegRun) × (RanLegs (table_of plan.now.script plan.now.devices.items) plan.now.devices.items runs
-        (record { units = R.units rig.old; armed = R.armed rig.old; standing = R.standing rig.old; log = R.log rig.old; faults = R.faults rig.old })
-        (record { units = R.units rig.new; armed = R.armed rig.new; standing = R.standing rig.new; log = R.log rig.new; faults = R.faults rig.new })
+    ensures ran { (runs : List LegRun) × (RanLegs (table_of plan.now.script plan.now.devices.items) plan.now.devices.items runs (R.state rig.old) (R.state rig.new)
         × (GoOn plan.now.script.schedule used.old runs used.new × (AllOwn (IsRepairOf plan.now.script plan.now.half) runs
         × IfOk result (λ u. StretchBy plan.now.script plan.now.half whole.v whole.n
         (record { marks = marks.old; repaired = done.old.repaired; lost = done.old.lost }) (record { marks = marks.new; repaired = done.new.repaired; lost = done.new.lost }) runs)))) }
-    ensures tells { is_some (R.image rig.new) ≡ is_some (R.image rig.old) }
-    ensures standing { R.standing rig.new ≡ R.standing rig.old }
+    ensures tells { is_some (R.state rig.new).image ≡ is_some (R.state rig.old).image }
+    ensures standing { (R.state rig.new).standing ≡ (R.state rig.old).standing }
     ensures used { used.new ≤ length plan.now.script.schedule }
     ensures marks { length marks.new ≡ length marks.old }
     ensures few { IfOk result (λ u. done.new.repaired + done.new.lost ≤ done.old.repaired + (done.old.lost + whole.n)) }

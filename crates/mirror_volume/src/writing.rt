@@ -1,6 +1,6 @@
 //! A write: all its blocks go to leg 0, then all to leg 1.
 
-ghost use Rattle.std.specs.Prelude.{ℕ, ◌≡◌, ◌<◌, ◌≤◌, ◌+◌, ◌*◌, ◌++◌, List, [], ◌∷◌, IfOk, drop, is_some, length, take};
+ghost use Rattle.std.specs.Prelude.{◌≡◌, ◌<◌, ◌≤◌, ◌*◌, List, IfOk, is_some, length};
 ghost use Rattle.script_stack.specs.Causes.{table_of};
 ghost use Rattle.leg_runs.specs.LegRuns.{AllOwn, GoOn, LegRun, RanLegs};
 ghost use Rattle.mirror_volume.specs.Plans.{IsPieceOf, IsPlan};
@@ -28,19 +28,17 @@ pub(crate) fn write_request<R: Rig>(
     rig: &mut R,
 ) -> Result<Reply, AllocError>
     requires plan { IsPlan plan.now }
-    requires rig { HasDevices plan.now.devices.items (is_some (R.image rig.old)) (R.standing rig.old) }
+    requires rig { HasDevices plan.now.devices.items (is_some (R.state rig.old).image) (R.state rig.old).standing }
     requires used { used.old ≤ length plan.now.script.schedule }
     requires piece { IsPieceOf plan.now on0 }
     requires whole { on0 ≡ whole_request on0.op on0.v on0.n }
     requires long { length bytes.now ≡ on0.n * plan.now.script.block }
     requires marks { length marks.old ≡ plan.now.half }
-    ensures ran { (runs : List LegRun) × (RanLegs (table_of plan.now.script plan.now.devices.items) plan.now.devices.items runs
-        (record { units = R.units rig.old; armed = R.armed rig.old; standing = R.standing rig.old; log = R.log rig.old; faults = R.faults rig.old })
-        (record { units = R.units rig.new; armed = R.armed rig.new; standing = R.standing rig.new; log = R.log rig.new; faults = R.faults rig.new })
+    ensures ran { (runs : List LegRun) × (RanLegs (table_of plan.now.script plan.now.devices.items) plan.now.devices.items runs (R.state rig.old) (R.state rig.new)
         × (GoOn plan.now.script.schedule used.old runs used.new × (AllOwn (IsWriteOf plan.now.script plan.now.half on0.op on0.v on0.n app bytes.now) runs
         × IfOk result (WroteBy plan.now.script plan.now.half on0.op on0.v on0.n app bytes.now marks.old marks.new runs)))) }
-    ensures tells { is_some (R.image rig.new) ≡ is_some (R.image rig.old) }
-    ensures standing { R.standing rig.new ≡ R.standing rig.old }
+    ensures tells { is_some (R.state rig.new).image ≡ is_some (R.state rig.old).image }
+    ensures standing { (R.state rig.new).standing ≡ (R.state rig.old).standing }
     ensures used { used.new ≤ length plan.now.script.schedule }
     ensures marks { length marks.new ≡ length marks.old }
 {

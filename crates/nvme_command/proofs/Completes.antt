@@ -10,9 +10,10 @@ use Rattle.rig_api.specs.Head.{Head, IsHeadOf, head_fault, head_of, units_of}
 use Rattle.target_answer.specs.Image.{units_in}
 use Rattle.rig_api.specs.Telling.{Standing, specs_of, units_told}
 use Rattle.rig_api.specs.declared.rig.RigFault.{RigFault}
+use Rattle.rig_api.specs.State.{RigState}
 use Rattle.volume_table.specs.declared.device.DeviceInfo.{DeviceInfo}
 use Rattle.rig_discovery.specs.Discovery.{info_of}
-use Rattle.image_commands.specs.Views.{OpenedOnce, View, WasOpened}
+use Rattle.image_commands.specs.Views.{OpenedOnce, WasOpened}
 use Rattle.image_commands.specs.Causes.{IsBad}
 use Rattle.image_commands.specs.declared.fault.Fault.TheVariants as fault
 use Rattle.nvme_session.proofs.Kept.{told-is}
@@ -51,39 +52,39 @@ same_lines text lines lines' left left' e t h = let both = sym h.lines_are ∙ a
 headed : (h : Head) (image : List ℕ) (told : Option (List ℕ)) → told ≡ Some image → IsHeadOf h told → h ≡ head_of image
 headed h image told e i = rw e at i
 
-right_head : (image : List ℕ) (x : RigFault) (name : List ℕ) (old new : View) → old.image ≡ Some image → new.image ≡ old.image → head_fault (head_of image) ≡ None → WasOpened name (Some x) old new → ⊥
+right_head : (image : List ℕ) (x : RigFault) (name : List ℕ) (old new : RigState) → old.image ≡ Some image → new.image ≡ old.image → head_fault (head_of image) ≡ None → WasOpened name (Some x) old new → ⊥
 right_head image x name old new e k good opened =
     let head : new.standing.head ≡ head_of image = headed new.standing.head image new.image (k ∙ e) opened.head in
     let both : ◌≡◌ {A = Option RigFault} (Some x) None = sym opened.judged ∙ ap head_fault head ∙ good in
     cc
 
-told_is_good : (image name : List ℕ) (dev : ℕ) (old new : View) → old.image ≡ Some image → IsBad name dev old new → ⊥
+told_is_good : (image name : List ℕ) (dev : ℕ) (old new : RigState) → old.image ≡ Some image → IsBad name dev old new → ⊥
 told_is_good image name dev old new e b =
-    let told : is_some b.between.seen.units ≡ true = ap is_some (b.since.laid ∙ ap (units_told b.between.standing) (b.since.kept.image ∙ e)) in
-    let untold : is_some b.between.seen.units ≡ false = b.untold in
+    let told : is_some b.between.units ≡ true = ap is_some (b.since.laid ∙ ap (units_told b.between.standing) (b.since.kept.image ∙ e)) in
+    let untold : is_some b.between.units ≡ false = b.untold in
     cc
 
 -- the devices that a told image's rig told are those of its head
-devices_told : (image name : List ℕ) (devices : List DeviceInfo) (old new : View) → old.image ≡ Some image → HasTold name devices old new → devices ≡ map info_of (units_of (head_of image))
+devices_told : (image name : List ℕ) (devices : List DeviceInfo) (old new : RigState) → old.image ≡ Some image → HasTold name devices old new → devices ≡ map info_of (units_of (head_of image))
 devices_told image name devices old new e t =
     let b = t.asked.between in
     let since = t.asked.since in
     let told : b.image ≡ Some image = since.kept.image ∙ e in
     let head : b.standing.head ≡ head_of image = headed b.standing.head image b.image told since.opened.head in
-    let units : new.seen.units ≡ Some (units_in (specs_of b.standing) image) = since.units ∙ since.laid ∙ ap (units_told b.standing) told in
+    let units : new.units ≡ Some (units_in (specs_of b.standing) image) = since.units ∙ since.laid ∙ ap (units_told b.standing) told in
     let shape = told-is b.standing (Some image) (units_in (specs_of b.standing) image) refl in
     let all : specs_of b.standing ≡ units_of b.standing.head = take_all b.standing.devices (units_of b.standing.head) (omega (arith, t.asked.counted)) in
     t.devices_are.told (units_in (specs_of b.standing) image) units ∙ shape.1 ∙ ap (map info_of) (all ∙ ap units_of head)
 
-no_misfit : (f : LineFault) (name : List ℕ) (lines' lines : List NvmLine) (old new : View) (image : List ℕ) → lines' ≡ lines → old.image ≡ Some image → misfit (map info_of (units_of (head_of image))) lines ≡ None → HasMisfit f name lines' old new → ⊥
+no_misfit : (f : LineFault) (name : List ℕ) (lines' lines : List NvmLine) (old new : RigState) (image : List ℕ) → lines' ≡ lines → old.image ≡ Some image → misfit (map info_of (units_of (head_of image))) lines ≡ None → HasMisfit f name lines' old new → ⊥
 no_misfit f name lines' lines old new image same i m h =
     let devices = devices_told image name h.devices old new i h.told in
     let both : ◌≡◌ {A = Option LineFault} (Some f) None = sym h.line_is ∙ ap (λ (v : List DeviceInfo). misfit v lines') devices ∙ ap (misfit (map info_of (units_of (head_of image)))) same ∙ m in
     cc
 
 -- why no command of such lines is done
-pub spared_alone : (f : NvmFault) (name : List ℕ) (left left' : Option (List ℕ)) (reads reads' : ℕ) (old new : View) (text image : List ℕ) (lines : List NvmLine) → left ≡ Some text → text_in text ≡ Ok lines → old.image ≡ Some image → head_fault (head_of image) ≡ None →
-    misfit (map info_of (units_of (head_of image))) lines ≡ None → Calm reads reads' → Calm old.seen.faults new.seen.faults → CauseNotDone f name left left' reads reads' old new → f ≡ Image fault.Memory
+pub spared_alone : (f : NvmFault) (name : List ℕ) (left left' : Option (List ℕ)) (reads reads' : ℕ) (old new : RigState) (text image : List ℕ) (lines : List NvmLine) → left ≡ Some text → text_in text ≡ Ok lines → old.image ≡ Some image → head_fault (head_of image) ≡ None →
+    misfit (map info_of (units_of (head_of image))) lines ≡ None → Calm reads reads' → Calm old.faults new.faults → CauseNotDone f name left left' reads reads' old new → f ≡ Image fault.Memory
 spared_alone (Line f) name left left' reads reads' old new text image lines l t i h m cr cf (inl c) = absurd (no_lines f left left' text lines l t c.0)
 spared_alone (Line f) name left left' reads reads' old new text image lines l t i h m cr cf (inr c) = absurd (no_misfit f name c.0 lines old new image (same_lines text lines c.0 left left' l t c.1) i m c.2)
 spared_alone (Image (fault.Image x)) name left left' reads reads' old new text image lines l t i h m cr cf (inl c) = absurd c.0
@@ -91,14 +92,14 @@ spared_alone (Image (fault.Image x)) name left left' reads reads' old new text i
 spared_alone (Image (fault.BadCapacity dev)) name left left' reads reads' old new text image lines l t i h m cr cf (inl c) = absurd c.0
 spared_alone (Image (fault.BadCapacity dev)) name left left' reads reads' old new text image lines l t i h m cr cf (inr c) = absurd (told_is_good image name dev old new i c.2)
 spared_alone (Image fault.RigFault) name left left' reads reads' old new text image lines l t i h m cr cf (inl c) = absurd c.0
-spared_alone (Image fault.RigFault) name left left' reads reads' old new text image lines l t i h m cr cf (inr c) = absurd (never_rose old.seen.faults new.seen.faults cf c.2.0)
+spared_alone (Image fault.RigFault) name left left' reads reads' old new text image lines l t i h m cr cf (inr c) = absurd (never_rose old.faults new.faults cf c.2.0)
 spared_alone (Image fault.Memory) name left left' reads reads' old new text image lines l t i h m cr cf c = refl
 spared_alone Source name left left' reads reads' old new text image lines l t i h m cr cf (inl c) = absurd (never_rose reads reads' cr c.0)
 spared_alone Source name left left' reads reads' old new text image lines l t i h m cr cf (inr c) = absurd c.2
 
 -- ---- the rig is opened at most once
 
-asked_opens : (name : List ℕ) (devices : List DeviceInfo) (old new : View) → HasAsked name devices old new → OpenedOnce name old.standing new.standing
+asked_opens : (name : List ℕ) (devices : List DeviceInfo) (old new : RigState) → HasAsked name devices old new → OpenedOnce name old.standing new.standing
 asked_opens name devices old new a =
     let to = a.since.standing in
     inr (ap (λ (s : Standing). s.openings) to ∙ a.since.opened.opened.0, ap (λ (s : Standing). s.name) to ∙ a.since.opened.opened.1)
@@ -106,17 +107,17 @@ asked_opens name devices old new a =
 opens_on : (name : List ℕ) (old between new : Standing) → new ≡ between → OpenedOnce name old between → OpenedOnce name old new
 opens_on name old between new e o = subst (λ (s : Standing). OpenedOnce name old s) (sym e) o
 
-stands_all : (ds : List DeviceInfo) (ls : List NvmLine) (rs : List Reply) (a b : View) → AllDone ds ls rs a b → b.standing ≡ a.standing
-stands_all ds [] [] a b d = ap (λ (v : View). v.standing) d
+stands_all : (ds : List DeviceInfo) (ls : List NvmLine) (rs : List Reply) (a b : RigState) → AllDone ds ls rs a b → b.standing ≡ a.standing
+stands_all ds [] [] a b d = ap (λ (v : RigState). v.standing) d
 stands_all ds [] (x ∷ rs) a b d = absurd d
 stands_all ds (x ∷ ls) [] a b d = absurd d
 stands_all ds (x ∷ ls) (y ∷ rs) a b d = stands_all ds ls rs d.0 b d.2 ∙ d.1.standing
 
-in_part_opens : (name : List ℕ) (lines : List NvmLine) (old new : View) → HasDoneInPart name lines old new → OpenedOnce name old.standing new.standing
+in_part_opens : (name : List ℕ) (lines : List NvmLine) (old new : RigState) → HasDoneInPart name lines old new → OpenedOnce name old.standing new.standing
 in_part_opens name lines old new d =
     opens_on name old.standing d.between.standing new.standing (d.came.stays.standing ∙ stands_all d.devices d.came.first d.came.replies d.between d.came.last d.came.done) (asked_opens name d.devices old d.between d.told.asked)
 
-undone_opens : (f : NvmFault) (name : List ℕ) (lines : List NvmLine) (old new : View) → CauseUndone f name lines old new → OpenedOnce name old.standing new.standing
+undone_opens : (f : NvmFault) (name : List ℕ) (lines : List NvmLine) (old new : RigState) → CauseUndone f name lines old new → OpenedOnce name old.standing new.standing
 undone_opens (Line f) name lines old new c = asked_opens name c.devices old new c.told.asked
 undone_opens (Image (fault.Image x)) name lines old new c = inr c.0.opened
 undone_opens (Image (fault.BadCapacity dev)) name lines old new c =
@@ -127,10 +128,10 @@ undone_opens (Image fault.Memory) name lines old new (inl (inr c)) = asked_opens
 undone_opens (Image fault.Memory) name lines old new (inr c) = in_part_opens name lines old new c
 undone_opens Source name lines old new c = absurd c
 
-pub not_done_opens : (f : NvmFault) (name : List ℕ) (left left' : Option (List ℕ)) (reads reads' : ℕ) (old new : View) → CauseNotDone f name left left' reads reads' old new → OpenedOnce name old.standing new.standing
-not_done_opens f name left left' reads reads' old new (inl c) = inl (ap (λ (v : View). v.standing.openings) c.1, ap (λ (v : View). v.standing.name) c.1)
+pub not_done_opens : (f : NvmFault) (name : List ℕ) (left left' : Option (List ℕ)) (reads reads' : ℕ) (old new : RigState) → CauseNotDone f name left left' reads reads' old new → OpenedOnce name old.standing new.standing
+not_done_opens f name left left' reads reads' old new (inl c) = inl (ap (λ (v : RigState). v.standing.openings) c.1, ap (λ (v : RigState). v.standing.name) c.1)
 not_done_opens f name left left' reads reads' old new (inr c) = undone_opens f name c.0 old new c.2
 
-pub done_opens : (name text : List ℕ) (bad : Bool) (left left' : Option (List ℕ)) (old new : View) → WereDone name text bad left left' old new → OpenedOnce name old.standing new.standing
+pub done_opens : (name text : List ℕ) (bad : Bool) (left left' : Option (List ℕ)) (old new : RigState) → WereDone name text bad left left' old new → OpenedOnce name old.standing new.standing
 done_opens name text bad left left' old new w =
     opens_on name old.standing w.done.between.standing new.standing (stands_all w.done.devices w.lines w.done.came.replies w.done.between new w.done.came.done) (asked_opens name w.done.devices old w.done.between w.done.told.asked)

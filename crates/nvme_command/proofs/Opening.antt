@@ -2,7 +2,7 @@
 use Rattle.std.proofs.Common.{ℕ, ◌≡◌, inl, inr, List, length, ap, ◌∙◌, arith}
 use Rattle.rig_api.specs.Head.{units_of}
 use Rattle.rig_api.specs.Telling.{Standing}
-use Rattle.image_commands.specs.Views.{View}
+use Rattle.rig_api.specs.State.{RigState}
 use Rattle.image_commands.specs.Causes.{HasOpened}
 use Rattle.image_commands.specs.declared.fault.Fault.{Fault}
 use Rattle.image_commands.specs.declared.fault.Fault.TheVariants as fault
@@ -10,8 +10,8 @@ use Rattle.nvme_session.specs.Sessions.{CauseNoFront}
 use Rattle.nvme_command.specs.Causes.{CauseClosed}
 
 -- why an opened image has no front is why it is closed
-pub closed_by : (x : Fault) (name : List ℕ) (old between new : View) → HasOpened name old between new → between.standing.devices ≡ length (units_of between.standing.head) → new.seen.armed ≡ between.seen.armed →
-    CauseNoFront x between.standing between.seen.units between.seen.log new.seen.log between.image new.image → CauseClosed x name old new
+pub closed_by : (x : Fault) (name : List ℕ) (old between new : RigState) → HasOpened name old between new → between.standing.devices ≡ length (units_of between.standing.head) → new.armed ≡ between.armed →
+    CauseNoFront x between.standing between.units between.log new.log between.image new.image → CauseClosed x name old new
 closed_by (fault.Image f) name old between new since counted armed c = absurd c
 closed_by (fault.BadCapacity dev) name old between new since counted armed c = record { between = between; since = since; armed = armed ∙ since.kept.armed; fault = c.0; untold = c.1 }
 closed_by fault.RigFault name old between new since counted armed c = absurd c

@@ -4,10 +4,10 @@ use Rattle.source_text.specs.Reading.{IsOver, IsWhole}
 use Rattle.target_answer.specs.Target.{Stored}
 use Rattle.rig_api.specs.Head.{units_of}
 use Rattle.rig_api.specs.Telling.{units_told}
+use Rattle.rig_api.specs.State.{RigState}
 use Rattle.script_lines.specs.declared.kind.ScriptKind.TheVariants.{TooMany}
 use Rattle.volume_table.specs.declared.device.DeviceInfo.{DeviceInfo}
 use Rattle.rig_discovery.specs.Discovery.{HasFound}
-use Rattle.image_commands.specs.Views.{View}
 use Rattle.image_commands.specs.Causes.{CauseUntold, HasOpened}
 use Rattle.image_commands.specs.declared.fault.Fault.{Fault}
 use Rattle.image_commands.specs.declared.fault.Fault.TheVariants as fault
@@ -34,52 +34,52 @@ abbrev pub HasNoLines : LineFault → Option (List ℕ) → Option (List ℕ) �
 HasNoLines f left left' = ((text : List ℕ) × IsWhole text left left' × (text_in text ≡ Err f)) ⊎ ((f ≡ record { line = 0; kind = TooMany }) × IsOver left left')
 
 -- The image of this name was opened, and its devices told what they are.
-pub record HasAsked (name : List ℕ) (devices : List DeviceInfo) (old new : View) : Type 0 where
-  pub between : View
+pub record HasAsked (name : List ℕ) (devices : List DeviceInfo) (old new : RigState) : Type 0 where
+  pub between : RigState
   pub since : HasOpened name old between new
   pub counted : between.standing.devices ≡ length (units_of between.standing.head)
-  pub found : HasFound between.standing devices between.seen.log new.seen.log
+  pub found : HasFound between.standing devices between.log new.log
 
 -- They are the rig's, and where the blocks are told they are its units. No fault is armed.
-pub record HasTold (name : List ℕ) (devices : List DeviceInfo) (old new : View) : Type 0 where
+pub record HasTold (name : List ℕ) (devices : List DeviceInfo) (old new : RigState) : Type 0 where
   pub asked : HasAsked name devices old new
-  pub armed : new.seen.armed ≡ []
-  pub devices_are : HasDevices devices new.standing new.seen.units
+  pub armed : new.armed ≡ []
+  pub devices_are : HasDevices devices new.standing new.units
 
 -- The metadata of this line don't fit its command, and no command was done.
-pub record HasMisfit (f : LineFault) (name : List ℕ) (lines : List NvmLine) (old new : View) : Type 0 where
+pub record HasMisfit (f : LineFault) (name : List ℕ) (lines : List NvmLine) (old new : RigState) : Type 0 where
   pub devices : List DeviceInfo
   pub told : HasTold name devices old new
   pub line_is : misfit devices lines ≡ Some f
 
 -- The commands of the first lines were done, whose metadata all fit.
-pub record HasDoneInPart (name : List ℕ) (lines : List NvmLine) (old new : View) : Type 0 where
+pub record HasDoneInPart (name : List ℕ) (lines : List NvmLine) (old new : RigState) : Type 0 where
   pub devices : List DeviceInfo
-  pub between : View
+  pub between : RigState
   pub told : HasTold name devices old between
   pub fit : misfit devices lines ≡ None
   pub came : CameInPart devices lines between new
 
 -- The image was opened, its devices told what they are, and the metadata of all lines fit; then the command of each was done. Where the blocks are told and the count of faults didn't rise the replies are exactly the answers of its units.
-pub record HasDone (name : List ℕ) (lines : List NvmLine) (text : List ℕ) (bad : Bool) (old new : View) : Type 0 where
+pub record HasDone (name : List ℕ) (lines : List NvmLine) (text : List ℕ) (bad : Bool) (old new : RigState) : Type 0 where
   pub devices : List DeviceInfo
-  pub between : View
+  pub between : RigState
   pub told : HasTold name devices old between
   pub fit : misfit devices lines ≡ None
   pub came : Came devices lines text bad between new
-  pub exact : (us : List Stored) → between.seen.units ≡ Some us → Calm between.seen.faults new.seen.faults
-      → (text ≡ replies_text (replies_over us lines)) × (bad ≡ has_failed (replies_over us lines)) × (new.seen.units ≡ Some (units_over us lines))
-  pub laid : new.seen.units ≡ units_told new.standing new.image
+  pub exact : (us : List Stored) → between.units ≡ Some us → Calm between.faults new.faults
+      → (text ≡ replies_text (replies_over us lines)) × (bad ≡ has_failed (replies_over us lines)) × (new.units ≡ Some (units_over us lines))
+  pub laid : new.units ≡ units_told new.standing new.image
 
 -- Why it isn't known what the devices of an image are: it isn't opened, a device's answer is at fault, or there is no memory, also behind the last answer. The armed faults are as before.
-abbrev pub CauseClosed : Fault → (name : List ℕ) → View → View → Type 0
+abbrev pub CauseClosed : Fault → (name : List ℕ) → RigState → RigState → Type 0
 CauseClosed (fault.Image f) name old new = CauseUntold (fault.Image f) name old new
 CauseClosed (fault.BadCapacity dev) name old new = CauseUntold (fault.BadCapacity dev) name old new
 CauseClosed fault.RigFault name old new = CauseUntold fault.RigFault name old new
-CauseClosed fault.Memory name old new = CauseUntold fault.Memory name old new ⊎ ((devices : List DeviceInfo) × HasAsked name devices old new × (new.seen.armed ≡ old.seen.armed))
+CauseClosed fault.Memory name old new = CauseUntold fault.Memory name old new ⊎ ((devices : List DeviceInfo) × HasAsked name devices old new × (new.armed ≡ old.armed))
 
 -- Why no command of an opened image is done, or not all are. What was found of the lines comes before.
-abbrev pub CauseUndone : NvmFault → (name : List ℕ) → List NvmLine → View → View → Type 0
+abbrev pub CauseUndone : NvmFault → (name : List ℕ) → List NvmLine → RigState → RigState → Type 0
 CauseUndone (Line f) name lines old new = HasMisfit f name lines old new
 CauseUndone (Image (fault.Image f)) name lines old new = CauseClosed (fault.Image f) name old new
 CauseUndone (Image (fault.BadCapacity dev)) name lines old new = CauseClosed (fault.BadCapacity dev) name old new
@@ -97,12 +97,12 @@ CauseUnread (Image fault.Memory) left left' reads reads' = Unit {0}
 CauseUnread Source left left' reads reads' = Rose reads reads'
 
 -- The commands of the source's lines were done on the image of this name.
-pub record WereDone (name text : List ℕ) (bad : Bool) (left left' : Option (List ℕ)) (old new : View) : Type 0 where
+pub record WereDone (name text : List ℕ) (bad : Bool) (left left' : Option (List ℕ)) (old new : RigState) : Type 0 where
   pub lines : List NvmLine
   pub read : HasLines lines left left'
   pub done : HasDone name lines text bad old new
 
 -- Why not: the lines aren't read, and the rig is as it was; or they are, and what comes behind is at fault.
-abbrev pub CauseNotDone : NvmFault → (name : List ℕ) → (left left' : Option (List ℕ)) → (reads reads' : ℕ) → View → View → Type 0
+abbrev pub CauseNotDone : NvmFault → (name : List ℕ) → (left left' : Option (List ℕ)) → (reads reads' : ℕ) → RigState → RigState → Type 0
 CauseNotDone f name left left' reads reads' old new =
     (CauseUnread f left left' reads reads' × (new ≡ old)) ⊎ ((lines : List NvmLine) × HasLines lines left left' × CauseUndone f name lines old new)

@@ -1,7 +1,6 @@
 //! The whole: source, image, commands.
 
 ghost use Rattle.std.specs.Prelude.{◌≡◌, ◌⊎◌, [], MatchResult, OnOk};
-ghost use Rattle.image_commands.specs.Views.{seen, view};
 ghost use Rattle.nvme_command.specs.Causes.{CauseClosed, CauseNotDone, CauseUndone, CauseUnread, HasDone, HasLines, HasTold, WereDone};
 
 use crate::fault::NvmFault;
@@ -53,10 +52,10 @@ fn unread(fault: LineFault) -> NvmFault
 /// Opens the image of this name and asks its devices what they are. No fault is armed then; after a fault
 /// those are that were.
 fn open<R: Rig>(alloc: Global, name: &str, rig: &mut R) -> Result<NvmFront, Fault>
-    ensures told { let old = view (R.image rig.old) (R.standing rig.old) (seen (R.units rig.old) (R.armed rig.old) (R.log rig.old) (R.faults rig.old)) in
-        let new = view (R.image rig.new) (R.standing rig.new) (seen (R.units rig.new) (R.armed rig.new) (R.log rig.new) (R.faults rig.new)) in
+    ensures told { let old = R.state rig.old in
+        let new = R.state rig.new in
         MatchResult result (λ f. HasTold name.now f old new) (λ f. CauseClosed f name.now old new) }
-    ensures calm { OnOk result (R.armed rig.new ≡ []) }
+    ensures calm { OnOk result ((R.state rig.new).armed ≡ []) }
 {
     match open_image(alloc, name, rig) {
         Ok(()) => {}
@@ -78,8 +77,8 @@ fn do_opened<R: Rig>(
     lines: &[NvmLine],
     rig: &mut R,
 ) -> Result<Done, NvmFault>
-    ensures { let old = view (R.image rig.old) (R.standing rig.old) (seen (R.units rig.old) (R.armed rig.old) (R.log rig.old) (R.faults rig.old)) in
-        let new = view (R.image rig.new) (R.standing rig.new) (seen (R.units rig.new) (R.armed rig.new) (R.log rig.new) (R.faults rig.new)) in
+    ensures { let old = R.state rig.old in
+        let new = R.state rig.new in
         MatchResult result (λ d. HasDone name.now lines.now d.text.items d.bad old new) (λ f. CauseUndone f name.now lines.now old new) }
 {
     let mut front = match open(alloc, name, rig) {
@@ -107,8 +106,8 @@ pub fn do_commands<S: Source, R: Rig>(
     source: &mut S,
     rig: &mut R,
 ) -> Result<Done, NvmFault>
-    ensures { let old = view (R.image rig.old) (R.standing rig.old) (seen (R.units rig.old) (R.armed rig.old) (R.log rig.old) (R.faults rig.old)) in
-        let new = view (R.image rig.new) (R.standing rig.new) (seen (R.units rig.new) (R.armed rig.new) (R.log rig.new) (R.faults rig.new)) in
+    ensures { let old = R.state rig.old in
+        let new = R.state rig.new in
         MatchResult result (λ d. WereDone name.now d.text.items d.bad (S.left source.old) (S.left source.new) old new)
         (λ f. CauseNotDone f name.now (S.left source.old) (S.left source.new) (S.faults source.old) (S.faults source.new) old new) }
 {

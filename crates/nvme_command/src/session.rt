@@ -1,7 +1,6 @@
 //! The commands of lines, one after another.
 
 ghost use Rattle.std.specs.Prelude.{◌≡◌, ◌||◌, [], MatchResult, not};
-ghost use Rattle.image_commands.specs.Views.{seen, view};
 ghost use Rattle.nvme_front.specs.Answers.{HasDevices};
 ghost use Rattle.nvme_front.specs.Completions.{is_success};
 ghost use Rattle.nvme_command.specs.Done.{Adds, Came, CameInPart, Lacks, Stays, WasDone};
@@ -31,13 +30,13 @@ fn answered<R: Rig>(
     line: &NvmLine,
     rig: &mut R,
 ) -> Result<NvmReply, AllocError>
-    requires devices { HasDevices front.old (R.standing rig.old) (R.units rig.old) }
-    requires calm { R.armed rig.old ≡ [] }
-    ensures done { let old = view (R.image rig.old) (R.standing rig.old) (seen (R.units rig.old) (R.armed rig.old) (R.log rig.old) (R.faults rig.old)) in
-        let new = view (R.image rig.new) (R.standing rig.new) (seen (R.units rig.new) (R.armed rig.new) (R.log rig.new) (R.faults rig.new)) in
+    requires devices { HasDevices front.old (R.state rig.old).standing (R.state rig.old).units }
+    requires calm { (R.state rig.old).armed ≡ [] }
+    ensures done { let old = R.state rig.old in
+        let new = R.state rig.new in
         MatchResult result (λ r. WasDone front.old line.now (reply_of (command_of line.now) r) old new) (λ _. Stays old new) }
-    ensures devices { HasDevices front.new (R.standing rig.new) (R.units rig.new) }
-    ensures armed { R.armed rig.new ≡ R.armed rig.old }
+    ensures devices { HasDevices front.new (R.state rig.new).standing (R.state rig.new).units }
+    ensures armed { (R.state rig.new).armed ≡ (R.state rig.old).armed }
     ensures front { front.new ≡ front.old }
 {
     match do_command(
@@ -68,13 +67,13 @@ fn do_line<R: Rig>(
     rig: &mut R,
     done: &mut Done,
 ) -> Result<(), AllocError>
-    requires devices { HasDevices front.old (R.standing rig.old) (R.units rig.old) }
-    requires calm { R.armed rig.old ≡ [] }
-    ensures done { let old = view (R.image rig.old) (R.standing rig.old) (seen (R.units rig.old) (R.armed rig.old) (R.log rig.old) (R.faults rig.old)) in
-        let new = view (R.image rig.new) (R.standing rig.new) (seen (R.units rig.new) (R.armed rig.new) (R.log rig.new) (R.faults rig.new)) in
+    requires devices { HasDevices front.old (R.state rig.old).standing (R.state rig.old).units }
+    requires calm { (R.state rig.old).armed ≡ [] }
+    ensures done { let old = R.state rig.old in
+        let new = R.state rig.new in
         MatchResult result (λ _. Adds front.old line.now done.old.text.items done.new.text.items done.old.bad done.new.bad old new) (λ _. Lacks front.old line.now old new) }
-    ensures devices { HasDevices front.new (R.standing rig.new) (R.units rig.new) }
-    ensures armed { R.armed rig.new ≡ R.armed rig.old }
+    ensures devices { HasDevices front.new (R.state rig.new).standing (R.state rig.new).units }
+    ensures armed { (R.state rig.new).armed ≡ (R.state rig.old).armed }
     ensures front { front.new ≡ front.old }
 {
     let reply = match answered(alloc, front, line, rig) {
@@ -97,10 +96,10 @@ pub(crate) fn do_lines<R: Rig>(
     lines: &[NvmLine],
     rig: &mut R,
 ) -> Result<Done, AllocError>
-    requires devices { HasDevices front.old (R.standing rig.old) (R.units rig.old) }
-    requires calm { R.armed rig.old ≡ [] }
-    ensures { let old = view (R.image rig.old) (R.standing rig.old) (seen (R.units rig.old) (R.armed rig.old) (R.log rig.old) (R.faults rig.old)) in
-        let new = view (R.image rig.new) (R.standing rig.new) (seen (R.units rig.new) (R.armed rig.new) (R.log rig.new) (R.faults rig.new)) in
+    requires devices { HasDevices front.old (R.state rig.old).standing (R.state rig.old).units }
+    requires calm { (R.state rig.old).armed ≡ [] }
+    ensures { let old = R.state rig.old in
+        let new = R.state rig.new in
         MatchResult result (λ d. Came front.old lines.now d.text.items d.bad old new) (λ _. CameInPart front.old lines.now old new) }
 {
     let mut done = Done {

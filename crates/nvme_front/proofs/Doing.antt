@@ -9,11 +9,12 @@ use Rattle.target_answer.specs.Target.{Stop, Stored}
 use Rattle.rig_api.specs.Log.{IsMedium, IsMediumSense, entry_of}
 use Rattle.rig_api.specs.Telling.{HasCause, IsAnswer, IsStanding, answer_of, frame_size, spec_at, unit_at, units_told}
 use Rattle.rig_api.specs.declared.rig.Outcome.{Outcome}
+use Rattle.rig_api.specs.State.{Exchanged, RigState}
 use Rattle.volume_table.specs.declared.device.DeviceInfo.{DeviceInfo}
 use Rattle.nvme_front.specs.Answers.{HasDevices, IsNvmAnswer, Submitted, device_of, nvm_answer}
 use Rattle.nvme_front.specs.Buffers.{sent_by}
 use Rattle.nvme_front.specs.Completions.{by_end, completed, is_internal, is_of_medium, says, success}
-use Rattle.nvme_front.specs.Exchanges.{Done, Exchanged, Shown}
+use Rattle.nvme_front.specs.Exchanges.{Done}
 use Rattle.nvme_front.specs.Refusals.{device_at, has_namespace}
 use Rattle.nvme_front.specs.Translation.{scsi_command}
 use Rattle.nvme_front.specs.declared.command.NvmCommand.{NvmCommand}
@@ -22,11 +23,11 @@ use Rattle.nvme_front.proofs.Answering.{Told, namespace-in, namespace-told, of-d
 use Rattle.nvme_front.proofs.Standing.{unit-whole}
 
 -- the exchange, with the bytes as they stand in a buffer
-pub with-bytes : (dev : ℕ) (cdb cdb' out out' before came : List ℕ) (o : Outcome) (old new : Shown) → cdb ≡ cdb' → out ≡ out' → Exchanged dev cdb out before came o old new → Exchanged dev cdb' out' before came o old new
+pub with-bytes : (dev : ℕ) (cdb cdb' out out' before came : List ℕ) (o : Outcome) (old new : RigState) → cdb ≡ cdb' → out ≡ out' → Exchanged old new dev cdb [] out before came o → Exchanged old new dev cdb' [] out' before came o
 with-bytes dev cdb cdb' out out' before came o old new e f x =
-    subst (λ z. Exchanged dev cdb' z before came o old new) f (subst (λ z. Exchanged dev z out before came o old new) e x)
+    subst (λ z. Exchanged old new dev cdb' [] z before came o) f (subst (λ z. Exchanged old new dev z [] out before came o) e x)
 
-pub submitted : (dev : ℕ) (d : DeviceInfo) (c : NvmCommand) (body meta body' meta' : List ℕ) (result : Completion) (old new : Shown) → dev ≡ c.nsid - 1 → Done dev d c body meta body' meta' result old new → Submitted d c old.standing body meta body' meta' result old.log new.log
+pub submitted : (dev : ℕ) (d : DeviceInfo) (c : NvmCommand) (body meta body' meta' : List ℕ) (result : Completion) (old new : RigState) → dev ≡ c.nsid - 1 → Done dev d c body meta body' meta' result old new → Submitted d c old.standing body meta body' meta' result old.log new.log
 submitted dev d c body meta body' meta' result old new e r = record {
   outcome = r.outcome;
   came = r.came;
@@ -37,7 +38,7 @@ submitted dev d c body meta body' meta' result old new e r = record {
   meta_is = r.meta_is;
 }
 
-pub told-of : (devices : List DeviceInfo) (d : DeviceInfo) (c : NvmCommand) (body meta body' meta' : List ℕ) (result : Completion) (old new : Shown) (image : Option (List ℕ)) (us : List Stored) (stop : Option Stop) →
+pub told-of : (devices : List DeviceInfo) (d : DeviceInfo) (c : NvmCommand) (body meta body' meta' : List ℕ) (result : Completion) (old new : RigState) (image : Option (List ℕ)) (us : List Stored) (stop : Option Stop) →
     (r : Done (c.nsid - 1) d c body meta body' meta' result old new) → d ≡ device_at devices c.nsid → has_namespace devices c.nsid ≡ true → 1 ≤ c.count →
     HasDevices devices old.standing old.units → old.units ≡ units_told old.standing image → IsStanding old.standing image → old.units ≡ Some us →
     IsAnswer (answer_of us old.armed (c.nsid - 1) (form (scsi_command d.ty c)) [] (sent_by d.ty c d.size body meta) (length r.before) stop) us (c.nsid - 1) r.outcome new.units r.before r.came →
@@ -49,7 +50,7 @@ told-of devices d c body meta body' meta' result old new image us stop r device 
     let whole = unit-whole old.standing image us (c.nsid - 1) (sym laid ∙ u) ready l in
     of-device us (c.nsid - 1) d c old.armed body meta body' meta' r.before r.came stop r.outcome new.units result e r.fits some whole r.out_long r.before_long r.result_is r.body_is r.meta_is said
 
-pub never-of : (devices : List DeviceInfo) (d : DeviceInfo) (c : NvmCommand) (body meta body' meta' : List ℕ) (result : Completion) (old new : Shown) (image : Option (List ℕ)) →
+pub never-of : (devices : List DeviceInfo) (d : DeviceInfo) (c : NvmCommand) (body meta body' meta' : List ℕ) (result : Completion) (old new : RigState) (image : Option (List ℕ)) →
     Done (c.nsid - 1) d c body meta body' meta' result old new → d ≡ device_at devices c.nsid → has_namespace devices c.nsid ≡ true → 1 ≤ c.count →
     HasDevices devices old.standing old.units → old.units ≡ units_told old.standing image → IsStanding old.standing image → is_some old.units ≡ true → is_internal result ≡ false
 never-of devices d c body meta body' meta' result old new image r device there some has laid ready t = by old.units refl t
@@ -94,7 +95,7 @@ pub medium-of : (n : ℕ) (o : Outcome) (result : Completion) (f f' : ℕ) → r
 medium-of n o result f f' e rose h = rose (of-completed n o (ap is_of_medium (sym e) ∙ h))
 
 -- what a command that was done keeps
-pub record Clauses (devices : List DeviceInfo) (c : NvmCommand) (body meta body' meta' : List ℕ) (result : Completion) (old new : Shown) : Type 0 where
+pub record Clauses (devices : List DeviceInfo) (c : NvmCommand) (body meta body' meta' : List ℕ) (result : Completion) (old new : RigState) : Type 0 where
   pub submitted : Submitted (device_at devices c.nsid) c old.standing body meta body' meta' result old.log new.log
   pub calm : (us : List Stored) → old.units ≡ Some us → Calm old.faults new.faults → IsNvmAnswer (nvm_answer (unit_at us (c.nsid - 1)) old.armed c body meta None) us (c.nsid - 1) result new.units body' meta'
   pub told : (us : List Stored) → old.units ≡ Some us → (stop : Option Stop) × HasCause stop (frame_size (unit_at us (c.nsid - 1))) old.faults new.faults
@@ -102,7 +103,7 @@ pub record Clauses (devices : List DeviceInfo) (c : NvmCommand) (body meta body'
   pub never : is_some old.units ≡ true → is_internal result ≡ false
   pub medium : is_of_medium result ≡ true → Rose old.faults new.faults
 
-pub all-clauses : (devices : List DeviceInfo) (d : DeviceInfo) (c : NvmCommand) (body meta body' meta' : List ℕ) (result : Completion) (old new : Shown) (image : Option (List ℕ)) →
+pub all-clauses : (devices : List DeviceInfo) (d : DeviceInfo) (c : NvmCommand) (body meta body' meta' : List ℕ) (result : Completion) (old new : RigState) (image : Option (List ℕ)) →
     Done (c.nsid - 1) d c body meta body' meta' result old new → d ≡ device_at devices c.nsid → has_namespace devices c.nsid ≡ true → 1 ≤ c.count →
     HasDevices devices old.standing old.units → old.units ≡ units_told old.standing image → IsStanding old.standing image → Clauses devices c body meta body' meta' result old new
 all-clauses devices d c body meta body' meta' result old new image r device there some has laid ready = record {

@@ -2,7 +2,7 @@
 use Rattle.std.proofs.Common.{◌≡◌, ℕ, zero, suc, ◌+◌, ◌≤◌, Bool, true, false, List, [], ◌∷◌, ◌++◌, length, take, drop, refl, ap, subst, arith}
 use Rattle.std.proofs.lemmas.List.{length-drop, length-take-le}
 use Rattle.rig_api.specs.declared.rig.Outcome.{Outcome}
-use Rattle.nvme_front.specs.Exchanges.{Exchanged, Shown}
+use Rattle.rig_api.specs.State.{Exchanged, RigState}
 
 pub cut-front : (n : ℕ) (xs ys : List ℕ) → length xs ≡ n → take n (xs ++ ys) ≡ xs
 cut-front zero [] ys e = refl
@@ -16,9 +16,9 @@ cut-back zero (x ∷ xs) ys e = absurd (omega arith)
 cut-back (suc n) [] ys e = absurd (omega arith)
 cut-back (suc n) (x ∷ xs) ys e = cut-back n xs ys (omega arith)
 
-pub with-lists : (dev : ℕ) (cdb out out' before before' came came' : List ℕ) (o : Outcome) (old new : Shown) → out ≡ out' → before ≡ before' → came ≡ came' → Exchanged dev cdb out before came o old new → Exchanged dev cdb out' before' came' o old new
+pub with-lists : (dev : ℕ) (cdb out out' before before' came came' : List ℕ) (o : Outcome) (old new : RigState) → out ≡ out' → before ≡ before' → came ≡ came' → Exchanged old new dev cdb [] out before came o → Exchanged old new dev cdb [] out' before' came' o
 with-lists dev cdb out out' before before' came came' o old new e f h x =
-    subst (λ z. Exchanged dev cdb out' before' z o old new) h (subst (λ z. Exchanged dev cdb out' z came o old new) f (subst (λ z. Exchanged dev cdb z before came o old new) e x))
+    subst (λ z. Exchanged old new dev cdb [] out' before' z o) h (subst (λ z. Exchanged old new dev cdb [] out' z came o) f (subst (λ z. Exchanged old new dev cdb [] z before came o) e x))
 
 -- a part of a buffer
 pub part-long : (at n : ℕ) (xs : List ℕ) → at + n ≤ length xs → length (take n (drop at xs)) ≡ n

@@ -1,18 +1,17 @@
 //! The front: the lengths of a command's buffers, and the command done.
 
-ghost use Rattle.std.specs.Prelude.{◌≡◌, ◌-◌, ◌≤◌, ◌<◌, ◌+◌, ◌*◌, ◌^◌, ◌++◌, ◌∷◌, [], true, false, List, Option, Some, None, IfErr, IfOk, length, is_some, drop, take};
+ghost use Rattle.std.specs.Prelude.{◌≡◌, ◌-◌, ◌≤◌, ◌<◌, ◌+◌, ◌*◌, ◌^◌, [], true, false, List, Option, Some, None, IfErr, IfOk, length, is_some, drop, take};
 ghost use Rattle.std.specs.List.{list_all};
 ghost use Rattle.dix_base.specs.Told.{Calm, Rose};
-ghost use Rattle.cdb_codec.specs.Forms.{form};
-ghost use Rattle.target_answer.specs.Frames.{stored_size};
 ghost use Rattle.target_answer.specs.Target.{Stop, Stored};
 ghost use Rattle.rig_api.specs.Log.{HasRoom, capacity_len};
-ghost use Rattle.rig_api.specs.Telling.{HasCause, IsAnswer, answer_of, frame_size, greatest_size, spec_at, unit_at};
+ghost use Rattle.rig_api.specs.Telling.{HasCause, frame_size, greatest_size, unit_at};
+ghost use Rattle.rig_api.specs.State.{Exchanged, Stays};
 ghost use Rattle.target_answer.specs.Requests.{blocks_of};
 ghost use Rattle.nvme_front.specs.Answers.{HasDevices, IsNvmAnswer, Submitted, nvm_answer};
-ghost use Rattle.nvme_front.specs.Exchanges.{Done, Exchanged};
-ghost use Rattle.nvme_front.specs.Buffers.{room_for, sent_by};
-ghost use Rattle.nvme_front.specs.Commands.{command_in, is_write};
+ghost use Rattle.nvme_front.specs.Exchanges.{Done};
+ghost use Rattle.nvme_front.specs.Buffers.{room_for};
+ghost use Rattle.nvme_front.specs.Commands.{command_in};
 ghost use Rattle.nvme_front.specs.Completions.{is_internal, is_of_medium};
 ghost use Rattle.nvme_front.specs.Refusals.{body_len, device_at, has_meta, has_namespace, has_size, meta_len, refusal};
 ghost use Rattle.nvme_front.specs.Translation.{scsi_command};
@@ -130,20 +129,17 @@ impl NvmFront {
         requires granted { refusal self.old (command_in sqe.now) ≡ None }
         requires body { length body.old ≡ body_len (device_at self.old (command_in sqe.now).nsid) (command_in sqe.now) }
         requires meta { length meta.old ≡ meta_len (device_at self.old (command_in sqe.now).nsid).ty (command_in sqe.now) }
-        requires devices { HasDevices self.old (R.standing rig.old) (R.units rig.old) }
-        requires room { HasRoom (greatest_size (R.standing rig.old)) 1 (command_in sqe.now).count (R.room rig.old) }
-        ensures submitted { Submitted (device_at self.old (command_in sqe.now).nsid) (command_in sqe.now) (R.standing rig.old) body.old meta.old body.new meta.new result (R.log rig.old) (R.log rig.new) }
-        ensures calm { (us : List Stored) → R.units rig.old ≡ Some us → Calm (R.faults rig.old) (R.faults rig.new)
-            → IsNvmAnswer (nvm_answer (unit_at us ((command_in sqe.now).nsid - 1)) (R.armed rig.old) (command_in sqe.now) body.old meta.old None) us ((command_in sqe.now).nsid - 1) result (R.units rig.new) body.new meta.new }
-        ensures told { (us : List Stored) → R.units rig.old ≡ Some us
-            → (stop : Option Stop) × HasCause stop (frame_size (unit_at us ((command_in sqe.now).nsid - 1))) (R.faults rig.old) (R.faults rig.new)
-            × IsNvmAnswer (nvm_answer (unit_at us ((command_in sqe.now).nsid - 1)) (R.armed rig.old) (command_in sqe.now) body.old meta.old stop) us ((command_in sqe.now).nsid - 1) result (R.units rig.new) body.new meta.new }
-        ensures never { is_some (R.units rig.old) ≡ true → is_internal result ≡ false }
-        ensures medium { is_of_medium result ≡ true → Rose (R.faults rig.old) (R.faults rig.new) }
-        ensures tells { is_some (R.image rig.new) ≡ is_some (R.image rig.old) }
-        ensures standing { R.standing rig.new ≡ R.standing rig.old }
-        ensures armed { R.armed rig.new ≡ R.armed rig.old }
-        ensures count { R.faults rig.old ≤ R.faults rig.new }
+        requires devices { HasDevices self.old (R.state rig.old).standing (R.state rig.old).units }
+        requires room { HasRoom (greatest_size (R.state rig.old).standing) 1 (command_in sqe.now).count (R.state rig.old).room }
+        ensures submitted { Submitted (device_at self.old (command_in sqe.now).nsid) (command_in sqe.now) (R.state rig.old).standing body.old meta.old body.new meta.new result (R.state rig.old).log (R.state rig.new).log }
+        ensures calm { (us : List Stored) → (R.state rig.old).units ≡ Some us → Calm (R.state rig.old).faults (R.state rig.new).faults
+            → IsNvmAnswer (nvm_answer (unit_at us ((command_in sqe.now).nsid - 1)) (R.state rig.old).armed (command_in sqe.now) body.old meta.old None) us ((command_in sqe.now).nsid - 1) result (R.state rig.new).units body.new meta.new }
+        ensures told { (us : List Stored) → (R.state rig.old).units ≡ Some us
+            → (stop : Option Stop) × HasCause stop (frame_size (unit_at us ((command_in sqe.now).nsid - 1))) (R.state rig.old).faults (R.state rig.new).faults
+            × IsNvmAnswer (nvm_answer (unit_at us ((command_in sqe.now).nsid - 1)) (R.state rig.old).armed (command_in sqe.now) body.old meta.old stop) us ((command_in sqe.now).nsid - 1) result (R.state rig.new).units body.new meta.new }
+        ensures never { is_some (R.state rig.old).units ≡ true → is_internal result ≡ false }
+        ensures medium { is_of_medium result ≡ true → Rose (R.state rig.old).faults (R.state rig.new).faults }
+        ensures stays { Stays (R.state rig.old) (R.state rig.new) }
         ensures front { self.new ≡ self.old }
     {
         let command = NvmCommand::of(sqe);
@@ -170,7 +166,7 @@ fn run<R: Rig>(
     frames: &mut [u8],
     rig: &mut R,
 ) -> Completion
-    requires there { dev < (R.standing rig.old).devices }
+    requires there { dev < (R.state rig.old).standing.devices }
     requires size { device.size ≤ 4096 }
     requires some { 1 ≤ command.now.count }
     requires few { command.now.count ≤ 1024 }
@@ -178,10 +174,8 @@ fn run<R: Rig>(
     requires body { length body.old ≡ body_len device command.now }
     requires meta { length meta.old ≡ meta_len device.ty command.now }
     requires frames { length frames.old ≡ 4202496 }
-    requires room { HasRoom (greatest_size (R.standing rig.old)) 1 command.now.count (R.room rig.old) }
-    ensures done { Done dev device command.now body.old meta.old body.new meta.new result
-        (record { told = is_some (R.image rig.old); units = R.units rig.old; standing = R.standing rig.old; log = R.log rig.old; armed = R.armed rig.old; faults = R.faults rig.old })
-        (record { told = is_some (R.image rig.new); units = R.units rig.new; standing = R.standing rig.new; log = R.log rig.new; armed = R.armed rig.new; faults = R.faults rig.new }) }
+    requires room { HasRoom (greatest_size (R.state rig.old).standing) 1 command.now.count (R.state rig.old).room }
+    ensures done { Done dev device command.now body.old meta.old body.new meta.new result (R.state rig.old) (R.state rig.new) }
     ensures long { length frames.new ≡ length frames.old }
 {
     let size = device.size as usize;
@@ -206,14 +200,12 @@ fn send<R: Rig>(
     frames: &mut [u8],
     rig: &mut R,
 ) -> Outcome
-    requires device { dev < (R.standing rig.old).devices }
+    requires device { dev < (R.state rig.old).standing.devices }
     requires short { length cdb.now ≤ 32 }
     requires space { sent + room ≤ length frames.old }
-    requires room { HasRoom (greatest_size (R.standing rig.old)) 1 (blocks_of cdb.now) (R.room rig.old) }
+    requires room { HasRoom (greatest_size (R.state rig.old).standing) 1 (blocks_of cdb.now) (R.state rig.old).room }
     requires capacity { capacity_len cdb.now room ≡ 0 }
-    ensures exchanged { Exchanged dev cdb.now (take sent frames.old) (take room (drop sent frames.old)) (take room (drop sent frames.new)) result
-        (record { told = is_some (R.image rig.old); units = R.units rig.old; standing = R.standing rig.old; log = R.log rig.old; armed = R.armed rig.old; faults = R.faults rig.old })
-        (record { told = is_some (R.image rig.new); units = R.units rig.new; standing = R.standing rig.new; log = R.log rig.new; armed = R.armed rig.new; faults = R.faults rig.new }) }
+    ensures exchanged { Exchanged (R.state rig.old) (R.state rig.new) dev cdb.now [] (take sent frames.old) (take room (drop sent frames.old)) (take room (drop sent frames.new)) result }
     ensures long { length frames.new ≡ length frames.old }
 {
     let (out, behind) = frames.split_at_mut(sent);

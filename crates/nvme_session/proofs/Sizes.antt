@@ -15,7 +15,7 @@ use Rattle.rig_api.specs.Telling.{Standing, no_spec, spec_at, specs_of}
 use Rattle.volume_table.specs.declared.device.DeviceInfo.{DeviceInfo}
 use Rattle.rig_discovery.specs.Answers.{info_with, is_fault, type_told}
 use Rattle.rig_discovery.specs.Discovery.{Answer, HasFound, all_told, told, with_info}
-use Rattle.rig_discovery.proofs.Telling.{right_layout, left_true, all_at, last_true}
+use Rattle.rig_discovery.proofs.Telling.{right_layout, all_at, last_true}
 use Rattle.target_answer.specs.Target.{Stored}
 use Rattle.pi_scrub.specs.Scrubbed.{HasDevices as Discovered}
 use Rattle.nvme_front.specs.Answers.{HasDevices}

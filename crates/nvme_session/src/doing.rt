@@ -1,9 +1,10 @@
 //! One command of a session.
 
-ghost use Rattle.std.specs.Prelude.{◌≡◌, ◌-◌, ◌≤◌, ◌+◌, ◌*◌, ◌^◌, [], true, false, List, Option, Some, None, IfOk, OnErr, is_some, length, replicate};
-ghost use Rattle.dix_base.specs.Told.{Calm, Rose};
+ghost use Rattle.std.specs.Prelude.{◌≡◌, ◌-◌, [], true, false, List, Option, Some, None, IfOk, OnErr, is_some, length, replicate};
+ghost use Rattle.dix_base.specs.Told.{Rose};
 ghost use Rattle.target_answer.specs.Target.{Stop, Stored};
 ghost use Rattle.rig_api.specs.Telling.{HasCause, frame_size, unit_at};
+ghost use Rattle.rig_api.specs.State.{Stays};
 ghost use Rattle.nvme_front.specs.Answers.{HasDevices, IsNvmAnswer, Submitted, nvm_answer};
 ghost use Rattle.nvme_front.specs.Commands.{command_in};
 ghost use Rattle.nvme_front.specs.Completions.{is_internal, is_of_medium};
@@ -56,19 +57,16 @@ fn do_granted<R: Rig>(
     requires granted { refusal front.old (command_in sqe.now) ≡ None }
     requires body { length body.items ≡ body_len (device_at front.old (command_in sqe.now).nsid) (command_in sqe.now) }
     requires meta { length meta.items ≡ meta_len (device_at front.old (command_in sqe.now).nsid).ty (command_in sqe.now) }
-    requires devices { HasDevices front.old (R.standing rig.old) (R.units rig.old) }
-    ensures submitted { IfOk result (λ r. Submitted (device_at front.old (command_in sqe.now).nsid) (command_in sqe.now) (R.standing rig.old) body.items meta.items r.body.items r.meta.items r.completion (R.log rig.old) (R.log rig.new)) }
-    ensures told { IfOk result (λ r. (us : List Stored) → R.units rig.old ≡ Some us
-        → (stop : Option Stop) × HasCause stop (frame_size (unit_at us ((command_in sqe.now).nsid - 1))) (R.faults rig.old) (R.faults rig.new)
-        × IsNvmAnswer (nvm_answer (unit_at us ((command_in sqe.now).nsid - 1)) (R.armed rig.old) (command_in sqe.now) body.items meta.items stop) us ((command_in sqe.now).nsid - 1) r.completion (R.units rig.new) r.body.items r.meta.items) }
-    ensures never { IfOk result (λ r. is_some (R.units rig.old) ≡ true → is_internal r.completion ≡ false) }
-    ensures medium { IfOk result (λ r. is_of_medium r.completion ≡ true → Rose (R.faults rig.old) (R.faults rig.new)) }
-    ensures none { OnErr result (R.units rig.new ≡ R.units rig.old) }
-    ensures unlogged { OnErr result (R.log rig.new ≡ R.log rig.old) }
-    ensures tells { is_some (R.image rig.new) ≡ is_some (R.image rig.old) }
-    ensures standing { R.standing rig.new ≡ R.standing rig.old }
-    ensures armed { R.armed rig.new ≡ R.armed rig.old }
-    ensures count { R.faults rig.old ≤ R.faults rig.new }
+    requires devices { HasDevices front.old (R.state rig.old).standing (R.state rig.old).units }
+    ensures submitted { IfOk result (λ r. Submitted (device_at front.old (command_in sqe.now).nsid) (command_in sqe.now) (R.state rig.old).standing body.items meta.items r.body.items r.meta.items r.completion (R.state rig.old).log (R.state rig.new).log) }
+    ensures told { IfOk result (λ r. (us : List Stored) → (R.state rig.old).units ≡ Some us
+        → (stop : Option Stop) × HasCause stop (frame_size (unit_at us ((command_in sqe.now).nsid - 1))) (R.state rig.old).faults (R.state rig.new).faults
+        × IsNvmAnswer (nvm_answer (unit_at us ((command_in sqe.now).nsid - 1)) (R.state rig.old).armed (command_in sqe.now) body.items meta.items stop) us ((command_in sqe.now).nsid - 1) r.completion (R.state rig.new).units r.body.items r.meta.items) }
+    ensures never { IfOk result (λ r. is_some (R.state rig.old).units ≡ true → is_internal r.completion ≡ false) }
+    ensures medium { IfOk result (λ r. is_of_medium r.completion ≡ true → Rose (R.state rig.old).faults (R.state rig.new).faults) }
+    ensures none { OnErr result ((R.state rig.new).units ≡ (R.state rig.old).units) }
+    ensures unlogged { OnErr result ((R.state rig.new).log ≡ (R.state rig.old).log) }
+    ensures stays { Stays (R.state rig.old) (R.state rig.new) }
     ensures front { front.new ≡ front.old }
 {
     rig.reserve(alloc, 1, NvmCommand::of(sqe).count)?;
@@ -92,25 +90,22 @@ pub fn do_command<R: Rig>(
     meta: &[u8],
     rig: &mut R,
 ) -> Result<NvmReply, AllocError>
-    requires devices { HasDevices front.old (R.standing rig.old) (R.units rig.old) }
-    ensures refused { IfOk result (λ r. (x : AnyCompletion) → refusal front.old (command_in sqe.now) ≡ Some x → (r.completion ≡ x) × (R.log rig.new ≡ R.log rig.old) × (R.units rig.new ≡ R.units rig.old)) }
+    requires devices { HasDevices front.old (R.state rig.old).standing (R.state rig.old).units }
+    ensures refused { IfOk result (λ r. (x : AnyCompletion) → refusal front.old (command_in sqe.now) ≡ Some x → (r.completion ≡ x) × ((R.state rig.new).log ≡ (R.state rig.old).log) × ((R.state rig.new).units ≡ (R.state rig.old).units)) }
     ensures empty { IfOk result (λ r. (x : AnyCompletion) → refusal front.old (command_in sqe.now) ≡ Some x → (r.body.items ≡ []) × (r.meta.items ≡ [])) }
     ensures submitted { IfOk result (λ r. refusal front.old (command_in sqe.now) ≡ None
-        → Submitted (device_at front.old (command_in sqe.now).nsid) (command_in sqe.now) (R.standing rig.old) (replicate (body_len (device_at front.old (command_in sqe.now).nsid) (command_in sqe.now)) fill)
-        (given (meta_len (device_at front.old (command_in sqe.now).nsid).ty (command_in sqe.now)) meta.now) r.body.items r.meta.items r.completion (R.log rig.old) (R.log rig.new)) }
-    ensures told { IfOk result (λ r. refusal front.old (command_in sqe.now) ≡ None → (us : List Stored) → R.units rig.old ≡ Some us
-        → (stop : Option Stop) × HasCause stop (frame_size (unit_at us ((command_in sqe.now).nsid - 1))) (R.faults rig.old) (R.faults rig.new)
-        × IsNvmAnswer (nvm_answer (unit_at us ((command_in sqe.now).nsid - 1)) (R.armed rig.old) (command_in sqe.now) (replicate (body_len (device_at front.old (command_in sqe.now).nsid) (command_in sqe.now)) fill)
-        (given (meta_len (device_at front.old (command_in sqe.now).nsid).ty (command_in sqe.now)) meta.now) stop) us ((command_in sqe.now).nsid - 1) r.completion (R.units rig.new) r.body.items r.meta.items) }
-    ensures never { IfOk result (λ r. is_some (R.units rig.old) ≡ true → is_internal r.completion ≡ false) }
-    ensures medium { IfOk result (λ r. is_of_medium r.completion ≡ true → Rose (R.faults rig.old) (R.faults rig.new)) }
-    ensures none { OnErr result (R.units rig.new ≡ R.units rig.old) }
-    ensures unlogged { OnErr result (R.log rig.new ≡ R.log rig.old) }
-    ensures devices { HasDevices front.new (R.standing rig.new) (R.units rig.new) }
-    ensures tells { is_some (R.image rig.new) ≡ is_some (R.image rig.old) }
-    ensures standing { R.standing rig.new ≡ R.standing rig.old }
-    ensures armed { R.armed rig.new ≡ R.armed rig.old }
-    ensures count { R.faults rig.old ≤ R.faults rig.new }
+        → Submitted (device_at front.old (command_in sqe.now).nsid) (command_in sqe.now) (R.state rig.old).standing (replicate (body_len (device_at front.old (command_in sqe.now).nsid) (command_in sqe.now)) fill)
+        (given (meta_len (device_at front.old (command_in sqe.now).nsid).ty (command_in sqe.now)) meta.now) r.body.items r.meta.items r.completion (R.state rig.old).log (R.state rig.new).log) }
+    ensures told { IfOk result (λ r. refusal front.old (command_in sqe.now) ≡ None → (us : List Stored) → (R.state rig.old).units ≡ Some us
+        → (stop : Option Stop) × HasCause stop (frame_size (unit_at us ((command_in sqe.now).nsid - 1))) (R.state rig.old).faults (R.state rig.new).faults
+        × IsNvmAnswer (nvm_answer (unit_at us ((command_in sqe.now).nsid - 1)) (R.state rig.old).armed (command_in sqe.now) (replicate (body_len (device_at front.old (command_in sqe.now).nsid) (command_in sqe.now)) fill)
+        (given (meta_len (device_at front.old (command_in sqe.now).nsid).ty (command_in sqe.now)) meta.now) stop) us ((command_in sqe.now).nsid - 1) r.completion (R.state rig.new).units r.body.items r.meta.items) }
+    ensures never { IfOk result (λ r. is_some (R.state rig.old).units ≡ true → is_internal r.completion ≡ false) }
+    ensures medium { IfOk result (λ r. is_of_medium r.completion ≡ true → Rose (R.state rig.old).faults (R.state rig.new).faults) }
+    ensures none { OnErr result ((R.state rig.new).units ≡ (R.state rig.old).units) }
+    ensures unlogged { OnErr result ((R.state rig.new).log ≡ (R.state rig.old).log) }
+    ensures devices { HasDevices front.new (R.state rig.new).standing (R.state rig.new).units }
+    ensures stays { Stays (R.state rig.old) (R.state rig.new) }
     ensures front { front.new ≡ front.old }
 {
     let (body_len, meta_len) = match front.lengths(sqe) {

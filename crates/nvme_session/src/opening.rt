@@ -1,7 +1,8 @@
 //! A front of the devices that a rig has.
 
-ghost use Rattle.std.specs.Prelude.{◌≡◌, ◌≤◌, None, IfErr, IfOk, is_some, length};
+ghost use Rattle.std.specs.Prelude.{◌≡◌, None, IfErr, IfOk, length};
 ghost use Rattle.rig_api.specs.Head.{head_fault, units_of};
+ghost use Rattle.rig_api.specs.State.{Stays};
 ghost use Rattle.rig_discovery.specs.Discovery.{HasFound};
 ghost use Rattle.nvme_front.specs.Answers.{HasDevices};
 ghost use Rattle.nvme_session.specs.Sessions.{CauseNoFront};
@@ -16,16 +17,13 @@ use std::alloc::Global;
 /// `BadCapacity` comes exactly where an answer is at fault, and names the first such device; a rig
 /// that tells its blocks never causes it. No stored block changes.
 pub fn front_of<R: Rig>(alloc: Global, rig: &mut R) -> Result<NvmFront, Fault>
-    requires right { head_fault (R.standing rig.old).head ≡ None }
-    requires devices { (R.standing rig.old).devices ≡ length (units_of (R.standing rig.old).head) }
-    ensures devices { IfOk result (λ f. HasDevices f (R.standing rig.new) (R.units rig.new)) }
-    ensures found { IfOk result (λ f. HasFound (R.standing rig.old) f (R.log rig.old) (R.log rig.new)) }
-    ensures cause { IfErr result (λ e. CauseNoFront e (R.standing rig.old) (R.units rig.old) (R.log rig.old) (R.log rig.new) (R.image rig.old) (R.image rig.new)) }
-    ensures units { R.units rig.new ≡ R.units rig.old }
-    ensures tells { is_some (R.image rig.new) ≡ is_some (R.image rig.old) }
-    ensures standing { R.standing rig.new ≡ R.standing rig.old }
-    ensures armed { R.armed rig.new ≡ R.armed rig.old }
-    ensures count { R.faults rig.old ≤ R.faults rig.new }
+    requires right { head_fault (R.state rig.old).standing.head ≡ None }
+    requires devices { (R.state rig.old).standing.devices ≡ length (units_of (R.state rig.old).standing.head) }
+    ensures devices { IfOk result (λ f. HasDevices f (R.state rig.new).standing (R.state rig.new).units) }
+    ensures found { IfOk result (λ f. HasFound (R.state rig.old).standing f (R.state rig.old).log (R.state rig.new).log) }
+    ensures cause { IfErr result (λ e. CauseNoFront e (R.state rig.old).standing (R.state rig.old).units (R.state rig.old).log (R.state rig.new).log (R.state rig.old).image (R.state rig.new).image) }
+    ensures units { (R.state rig.new).units ≡ (R.state rig.old).units }
+    ensures stays { Stays (R.state rig.old) (R.state rig.new) }
 {
     let count = rig.devices();
     match rig.reserve(alloc, count, 0) {

@@ -1,9 +1,10 @@
 //! One look at some blocks of a device.
 
-ghost use Rattle.std.specs.Prelude.{◌≡◌, ◌+◌, ◌<◌, ◌≤◌, ◌^◌, ◌++◌, [], ◌∷◌, IfOk, OnErr, is_some};
+ghost use Rattle.std.specs.Prelude.{◌≡◌, ◌+◌, ◌<◌, ◌≤◌, ◌^◌, ◌++◌, [], ◌∷◌, IfOk, OnErr};
 ghost use Rattle.dix_base.specs.Told.{Rose};
 ghost use Rattle.rig_api.specs.Log.{HasRoom, IsMedium};
 ghost use Rattle.rig_api.specs.Telling.{greatest_size};
+ghost use Rattle.rig_api.specs.State.{Stays};
 ghost use Rattle.pi_scrub.specs.Looks.{entry_of};
 ghost use Rattle.pi_scrub.specs.Steps.{Did, Finds, room_for};
 
@@ -16,19 +17,16 @@ use whole_run::why_by;
 
 /// Sends a VERIFY of these blocks, and answers how it ended.
 fn verify<R: Rig>(rig: &mut R, dev: u32, ty: PiType, lba: u64, n: u32) -> Outcome
-    requires device { dev < (R.standing rig.old).devices }
+    requires device { dev < (R.state rig.old).standing.devices }
     requires some { 1 ≤ n }
     requires most { n ≤ 1024 }
     requires end { lba + n < 2 ^ 64 }
-    requires room { HasRoom (greatest_size (R.standing rig.old)) 1 0 (R.room rig.old) }
-    ensures recorded { R.log rig.new ≡ R.log rig.old ++ (entry_of (record { dev = dev; ty = ty; lba = lba; n = n; outcome = result }) ∷ []) }
-    ensures told { Finds dev ty lba n result (R.units rig.old) (R.faults rig.old) (R.faults rig.new) }
-    ensures medium { IsMedium result → Rose (R.faults rig.old) (R.faults rig.new) }
-    ensures units { R.units rig.new ≡ R.units rig.old }
-    ensures tells { is_some (R.image rig.new) ≡ is_some (R.image rig.old) }
-    ensures standing { R.standing rig.new ≡ R.standing rig.old }
-    ensures armed { R.armed rig.new ≡ R.armed rig.old }
-    ensures count { R.faults rig.old ≤ R.faults rig.new }
+    requires room { HasRoom (greatest_size (R.state rig.old).standing) 1 0 (R.state rig.old).room }
+    ensures recorded { (R.state rig.new).log ≡ (R.state rig.old).log ++ (entry_of (record { dev = dev; ty = ty; lba = lba; n = n; outcome = result }) ∷ []) }
+    ensures told { Finds dev ty lba n result (R.state rig.old).units (R.state rig.old).faults (R.state rig.new).faults }
+    ensures medium { IsMedium result → Rose (R.state rig.old).faults (R.state rig.new).faults }
+    ensures units { (R.state rig.new).units ≡ (R.state rig.old).units }
+    ensures stays { Stays (R.state rig.old) (R.state rig.new) }
 {
     let cdb = verify_of(ty, lba, n).encode();
     let mut nothing = [0u8; 0];
@@ -56,18 +54,15 @@ pub(crate) fn look<R: Rig>(
     rig: &mut R,
     found: &mut Vec<Found>,
 ) -> Result<u32, AllocError>
-    requires device { dev < (R.standing rig.old).devices }
+    requires device { dev < (R.state rig.old).standing.devices }
     requires some { 1 ≤ n }
     requires most { n ≤ 1024 }
     requires end { lba + n < 2 ^ 64 }
-    ensures did { IfOk result (λ k. Did dev ty lba n k found.old.items found.new.items (R.log rig.old) (R.log rig.new) (R.units rig.old) (R.faults rig.old) (R.faults rig.new)) }
+    ensures did { IfOk result (λ k. Did dev ty lba n k found.old.items found.new.items (R.state rig.old).log (R.state rig.new).log (R.state rig.old).units (R.state rig.old).faults (R.state rig.new).faults) }
     ensures no_found { OnErr result (found.new.items ≡ found.old.items) }
-    ensures no_log { OnErr result (R.log rig.new ≡ R.log rig.old) }
-    ensures units { R.units rig.new ≡ R.units rig.old }
-    ensures tells { is_some (R.image rig.new) ≡ is_some (R.image rig.old) }
-    ensures standing { R.standing rig.new ≡ R.standing rig.old }
-    ensures armed { R.armed rig.new ≡ R.armed rig.old }
-    ensures count { R.faults rig.old ≤ R.faults rig.new }
+    ensures no_log { OnErr result ((R.state rig.new).log ≡ (R.state rig.old).log) }
+    ensures units { (R.state rig.new).units ≡ (R.state rig.old).units }
+    ensures stays { Stays (R.state rig.old) (R.state rig.new) }
 {
     found.reserve(1)?;
     rig.reserve(alloc, 1, 0)?;

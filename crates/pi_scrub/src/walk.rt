@@ -1,8 +1,9 @@
 //! The scrub of all devices.
 
-ghost use Rattle.std.specs.Prelude.{◌≡◌, ◌+◌, ◌<◌, ◌≤◌, ◌++◌, [], IfErr, List, OnErr, OnOk, Some, is_some, length};
+ghost use Rattle.std.specs.Prelude.{◌≡◌, ◌+◌, ◌<◌, ◌++◌, [], List, OnErr, OnOk, Some, length};
 ghost use Rattle.dix_base.specs.Told.{Calm};
 ghost use Rattle.rig_api.specs.Telling.{unit_at};
+ghost use Rattle.rig_api.specs.State.{Stays};
 ghost use Rattle.target_answer.specs.Target.{Stored};
 ghost use Rattle.pi_scrub.specs.Faults.{all_faults, faults_of};
 ghost use Rattle.pi_scrub.specs.Looks.{Place, all_places, info_at, places};
@@ -25,19 +26,16 @@ fn scrub_device<R: Rig>(
     rig: &mut R,
     found: &mut Vec<Found>,
 ) -> Result<(), AllocError>
-    requires devices { HasDevices devices.now (R.standing rig.old) (R.units rig.old) }
+    requires devices { HasDevices devices.now (R.state rig.old).standing (R.state rig.old).units }
     requires device { dev < length devices.now }
     ensures whole { OnOk result (Looked devices.now (places dev (info_at devices.now dev).first (info_at devices.now dev).blocks) [] found.old.items found.new.items
-        (R.log rig.old) (R.log rig.new) (R.faults rig.old) (R.faults rig.new)) }
+        (R.state rig.old).log (R.state rig.new).log (R.state rig.old).faults (R.state rig.new).faults) }
     ensures part { OnErr result ((left : List Place) × Looked devices.now (places dev (info_at devices.now dev).first (info_at devices.now dev).blocks) left found.old.items found.new.items
-        (R.log rig.old) (R.log rig.new) (R.faults rig.old) (R.faults rig.new)) }
-    ensures told { OnOk result ((us : List Stored) → R.units rig.old ≡ Some us → Calm (R.faults rig.old) (R.faults rig.new)
+        (R.state rig.old).log (R.state rig.new).log (R.state rig.old).faults (R.state rig.new).faults) }
+    ensures told { OnOk result ((us : List Stored) → (R.state rig.old).units ≡ Some us → Calm (R.state rig.old).faults (R.state rig.new).faults
         → found.new.items ≡ found.old.items ++ faults_of dev (unit_at us dev)) }
-    ensures units { R.units rig.new ≡ R.units rig.old }
-    ensures tells { is_some (R.image rig.new) ≡ is_some (R.image rig.old) }
-    ensures standing { R.standing rig.new ≡ R.standing rig.old }
-    ensures armed { R.armed rig.new ≡ R.armed rig.old }
-    ensures count { R.faults rig.old ≤ R.faults rig.new }
+    ensures units { (R.state rig.new).units ≡ (R.state rig.old).units }
+    ensures stays { Stays (R.state rig.old) (R.state rig.new) }
 {
     let info = devices[dev as usize];
     let mut lba = info.first;
@@ -65,17 +63,14 @@ pub fn scrub<R: Rig>(
     rig: &mut R,
     found: &mut Vec<Found>,
 ) -> Result<(), AllocError>
-    requires devices { HasDevices devices.now (R.standing rig.old) (R.units rig.old) }
+    requires devices { HasDevices devices.now (R.state rig.old).standing (R.state rig.old).units }
     requires empty { found.old.items ≡ [] }
-    ensures whole { OnOk result (Looked devices.now (all_places 0 devices.now) [] [] found.new.items (R.log rig.old) (R.log rig.new) (R.faults rig.old) (R.faults rig.new)) }
+    ensures whole { OnOk result (Looked devices.now (all_places 0 devices.now) [] [] found.new.items (R.state rig.old).log (R.state rig.new).log (R.state rig.old).faults (R.state rig.new).faults) }
     ensures part { OnErr result ((left : List Place) × Looked devices.now (all_places 0 devices.now) left [] found.new.items
-        (R.log rig.old) (R.log rig.new) (R.faults rig.old) (R.faults rig.new)) }
-    ensures told { OnOk result ((us : List Stored) → R.units rig.old ≡ Some us → Calm (R.faults rig.old) (R.faults rig.new) → found.new.items ≡ all_faults 0 us) }
-    ensures units { R.units rig.new ≡ R.units rig.old }
-    ensures tells { is_some (R.image rig.new) ≡ is_some (R.image rig.old) }
-    ensures standing { R.standing rig.new ≡ R.standing rig.old }
-    ensures armed { R.armed rig.new ≡ R.armed rig.old }
-    ensures count { R.faults rig.old ≤ R.faults rig.new }
+        (R.state rig.old).log (R.state rig.new).log (R.state rig.old).faults (R.state rig.new).faults) }
+    ensures told { OnOk result ((us : List Stored) → (R.state rig.old).units ≡ Some us → Calm (R.state rig.old).faults (R.state rig.new).faults → found.new.items ≡ all_faults 0 us) }
+    ensures units { (R.state rig.new).units ≡ (R.state rig.old).units }
+    ensures stays { Stays (R.state rig.old) (R.state rig.new) }
 {
     for dev in 0..devices.len() as u32 {
         match scrub_device(alloc, devices, dev, rig, found) {

@@ -49,9 +49,9 @@ pub(crate) fn print_record<O: Sink>(out: &mut O, what: &Record) -> Result<(), Fa
 }
 
 fn write_trace<O: Sink, R: Rig>(out: &mut O, rig: &R, from: u32) -> Result<(), Failed>
-    requires { from ≤ length (R.log rig.now) }
-    ensures whole { OnOk result (Appended (trace (drop from (R.log rig.now))) (O.taken out.old) (O.taken out.new)) }
-    ensures part { OnErr result (AppendedSome (trace (drop from (R.log rig.now))) (O.taken out.old) (O.taken out.new)) }
+    requires { from ≤ length (R.state rig.now).log }
+    ensures whole { OnOk result (Appended (trace (drop from (R.state rig.now).log)) (O.taken out.old) (O.taken out.new)) }
+    ensures part { OnErr result (AppendedSome (trace (drop from (R.state rig.now).log)) (O.taken out.old) (O.taken out.new)) }
     ensures cause { OnErr result (Rose (O.faults out.old) (O.faults out.new)) }
     ensures count { O.faults out.old ≤ O.faults out.new }
 {
@@ -69,9 +69,9 @@ fn write_trace<O: Sink, R: Rig>(out: &mut O, rig: &R, from: u32) -> Result<(), F
 /// `Failed` comes only where the sink's count of faults rose; then a prefix of the trace was
 /// written. It takes no memory.
 pub fn print_trace<O: Sink, R: Rig>(out: &mut O, rig: &R, from: u32) -> Result<(), Failed>
-    requires { from ≤ length (R.log rig.now) }
-    ensures whole { OnOk result (Appended (trace (drop from (R.log rig.now))) (O.taken out.old) (O.taken out.new)) }
-    ensures part { OnErr result (AppendedSome (trace (drop from (R.log rig.now))) (O.taken out.old) (O.taken out.new)) }
+    requires { from ≤ length (R.state rig.now).log }
+    ensures whole { OnOk result (Appended (trace (drop from (R.state rig.now).log)) (O.taken out.old) (O.taken out.new)) }
+    ensures part { OnErr result (AppendedSome (trace (drop from (R.state rig.now).log)) (O.taken out.old) (O.taken out.new)) }
     ensures cause { OnErr result (Rose (O.faults out.old) (O.faults out.new)) }
     ensures count { O.faults out.old ≤ O.faults out.new }
 {

@@ -1,15 +1,15 @@
 //! The trait, and what its calls speak of.
 
-ghost use Rattle.std.specs.Prelude.{◌≡◌, ◌⊎◌, ◌+◌, ◌^◌, ◌<◌, ◌≤◌, ◌++◌, [], ◌∷◌, ℕ, List, length, is_some, true, false, Option, OnOk, OnErr, IfOk, IsOk, IsErrOf, Some, None};
-ghost use Rattle.dix_base.specs.Told.{AreOctets, Becomes, Calm, Rose};
-ghost use Rattle.fault_schedule.specs.declared.fault.FaultLine.{FaultLine};
+ghost use Rattle.std.specs.Prelude.{◌≡◌, ◌⊎◌, ◌+◌, ◌^◌, ◌<◌, ◌≤◌, ℕ, List, length, is_some, true, false, OnOk, OnErr, IfOk, IsOk, IsErrOf, Some};
+ghost use Rattle.dix_base.specs.Told.{AreOctets, Becomes, Rose};
 ghost use Rattle.rig_api.specs.Head.{HasJudged, IsFaultOf, fault_name, units_of, version_in};
-ghost use Rattle.rig_api.specs.Log.{Entry, HasRoom, IsMedium, Room, capacity_len, entry_at, entry_of, has_key, have_keys, labels_len, moved_len};
-ghost use Rattle.rig_api.specs.Telling.{HasCause, IsAnswer, IsMigrated, IsStanding, JudgesNone, KeepsBlocks, KeepsUnits, LeavesImage, Opened, OpenedBy, Standing, Stayed, answer_of, block_at, can_change, changed, frame_size, greatest_size, migrated_count, source_of, spec_at, unit_at, units_told, with_block};
+ghost use Rattle.rig_api.specs.Log.{HasRoom, capacity_len, entry_at, have_keys};
+ghost use Rattle.rig_api.specs.State.{Exchanged, KeepsRecords, RigState, Stays};
+ghost use Rattle.rig_api.specs.Telling.{IsMigrated, IsStanding, JudgesNone, KeepsBlocks, KeepsUnits, LeavesImage, Opened, OpenedBy, Stayed, block_at, can_change, changed, frame_size, greatest_size, migrated_count, source_of, spec_at, unit_at, units_told, with_block};
 ghost use Rattle.target_answer.specs.Headers.{is_layout};
 ghost use Rattle.target_answer.specs.Image.{formatted};
 ghost use Rattle.target_answer.specs.Requests.{blocks_of};
-ghost use Rattle.target_answer.specs.Target.{Stop, Stored};
+ghost use Rattle.target_answer.specs.Target.{Stored};
 
 use crate::Change;
 use dix_base::Failed;
@@ -72,44 +72,22 @@ impl RigFault {
 ///
 /// A rig that tells its blocks goes on telling them, and one that doesn't never will.
 pub trait Rig {
-    /// The image's bytes, where told.
-    ghost image: { Self → Option (List ℕ) };
-
-    /// The stored blocks of each unit, where told.
-    ghost units: { Self → Option (List Stored) };
-
-    /// What no exchange changes: the number of devices, the head, the name that was handed in
-    /// last and the number of openings.
-    ghost standing: { Self → Standing };
-
-    /// The records, with their labels and moved bytes.
-    ghost log: { Self → List Entry };
-
-    /// The spare room: further records, labels and moved bytes.
-    ghost room: { Self → Room };
-
-    /// The faults that act on what crosses.
-    ghost armed: { Self → List FaultLine };
-
-    /// The count of faults. It never falls, and a count at its last value counts as risen.
-    ghost faults: { Self → ℕ };
+    /// All that a rig shows of itself.
+    ghost state: { Self → RigState };
 
     /// Opens the image of this name. `BadMagic`, `BadHeader` and `BadLength` come exactly where
     /// its head says so, `Failed` only where the count of faults rose, `Memory` for want of it.
     /// After a refusal the rig has no device.
     fn open(&mut self, alloc: Global, name: &str) -> Result<(), RigFault>
-        ensures judged { IsFaultOf result (standing self.new).head }
-        ensures head { HasJudged result (standing self.old).head (standing self.new).head (image self.old) }
-        ensures failed { IsErrOf result RigFault.Failed → Rose (faults self.old) (faults self.new) }
-        ensures devices { OnOk result ((standing self.new).devices ≡ length (units_of (standing self.new).head)) }
-        ensures none { OnErr result ((standing self.new).devices ≡ 0) }
-        ensures opening { Stayed (standing self.old) (standing self.new) ⊎ Opened name.now (standing self.old) (standing self.new) }
-        ensures opened { OpenedBy result name.now (standing self.old) (standing self.new) }
-        ensures image { image self.new ≡ image self.old }
-        ensures log { log self.new ≡ log self.old }
-        ensures room { room self.new ≡ room self.old }
-        ensures armed { armed self.new ≡ armed self.old }
-        ensures count { faults self.old ≤ faults self.new };
+        ensures judged { IsFaultOf result (state self.new).standing.head }
+        ensures head { HasJudged result (state self.old).standing.head (state self.new).standing.head (state self.old).image }
+        ensures failed { IsErrOf result RigFault.Failed → Rose (state self.old).faults (state self.new).faults }
+        ensures devices { OnOk result ((state self.new).standing.devices ≡ length (units_of (state self.new).standing.head)) }
+        ensures none { OnErr result ((state self.new).standing.devices ≡ 0) }
+        ensures opening { Stayed (state self.old).standing (state self.new).standing ⊎ Opened name.now (state self.old).standing (state self.new).standing }
+        ensures opened { OpenedBy result name.now (state self.old).standing (state self.new).standing }
+        ensures image { (state self.new).image ≡ (state self.old).image }
+        ensures keeps { KeepsRecords (state self.old) (state self.new) };
 
     /// Makes the image of this name the formatted one of these units: a header of version 1 where
     /// every unit has blocks of 512 bytes and the first address 0, else of version 2, and blocks
@@ -120,91 +98,76 @@ pub trait Rig {
     /// may be anything. Afterwards the rig has no device.
     fn format(&mut self, alloc: Global, name: &str, spec: &[UnitSpec]) -> Result<(), RigFault>
         requires layout { is_layout spec.now ≡ true }
-        ensures formatted { OnOk result (Becomes (λ was is. is ≡ formatted spec.now) (image self.old) (image self.new)) }
+        ensures formatted { OnOk result (Becomes (λ was is. is ≡ formatted spec.now) (state self.old).image (state self.new).image) }
         ensures answers { JudgesNone result }
-        ensures failed { IsErrOf result RigFault.Failed → Rose (faults self.old) (faults self.new) }
-        ensures tells { is_some (image self.new) ≡ is_some (image self.old) }
-        ensures none { (standing self.new).devices ≡ 0 }
-        ensures head { (standing self.new).head ≡ (standing self.old).head }
-        ensures opening { Stayed (standing self.old) (standing self.new) ⊎ Opened name.now (standing self.old) (standing self.new) }
-        ensures opened { OpenedBy result name.now (standing self.old) (standing self.new) }
-        ensures log { log self.new ≡ log self.old }
-        ensures room { room self.new ≡ room self.old }
-        ensures armed { armed self.new ≡ armed self.old }
-        ensures count { faults self.old ≤ faults self.new };
+        ensures failed { IsErrOf result RigFault.Failed → Rose (state self.old).faults (state self.new).faults }
+        ensures tells { is_some (state self.new).image ≡ is_some (state self.old).image }
+        ensures none { (state self.new).standing.devices ≡ 0 }
+        ensures head { (state self.new).standing.head ≡ (state self.old).standing.head }
+        ensures opening { Stayed (state self.old).standing (state self.new).standing ⊎ Opened name.now (state self.old).standing (state self.new).standing }
+        ensures opened { OpenedBy result name.now (state self.old).standing (state self.new).standing }
+        ensures keeps { KeepsRecords (state self.old) (state self.new) };
 
     /// Replaces a head of version 1 by the head of version 2 that tells the same units, and
     /// answers their number; 0 exactly where the head is of version 2. The refusals are those of
     /// `open`. The head that stands afterwards is the one that was read, before the write. Every
     /// stored block stays as it was, also after `Failed`, and the rig has no device.
     fn migrate(&mut self, alloc: Global, name: &str) -> Result<u32, RigFault>
-        ensures judged { IsFaultOf result (standing self.new).head }
-        ensures head { HasJudged result (standing self.old).head (standing self.new).head (image self.old) }
-        ensures failed { IsErrOf result RigFault.Failed → Rose (faults self.old) (faults self.new) }
-        ensures number { IfOk result (λ n. n ≡ migrated_count (version_in (standing self.new).head) (units_of (standing self.new).head)) }
-        ensures migrated { OnOk result (IsMigrated (standing self.new).head (image self.old) (image self.new)) }
-        ensures stored { OnOk result (KeepsUnits (image self.old) (image self.new)) }
-        ensures blocks { KeepsBlocks (image self.old) (image self.new) }
-        ensures image { LeavesImage result (image self.old) (image self.new) }
-        ensures none { (standing self.new).devices ≡ 0 }
-        ensures opening { Stayed (standing self.old) (standing self.new) ⊎ Opened name.now (standing self.old) (standing self.new) }
-        ensures opened { OpenedBy result name.now (standing self.old) (standing self.new) }
-        ensures log { log self.new ≡ log self.old }
-        ensures room { room self.new ≡ room self.old }
-        ensures armed { armed self.new ≡ armed self.old }
-        ensures count { faults self.old ≤ faults self.new };
+        ensures judged { IsFaultOf result (state self.new).standing.head }
+        ensures head { HasJudged result (state self.old).standing.head (state self.new).standing.head (state self.old).image }
+        ensures failed { IsErrOf result RigFault.Failed → Rose (state self.old).faults (state self.new).faults }
+        ensures number { IfOk result (λ n. n ≡ migrated_count (version_in (state self.new).standing.head) (units_of (state self.new).standing.head)) }
+        ensures migrated { OnOk result (IsMigrated (state self.new).standing.head (state self.old).image (state self.new).image) }
+        ensures stored { OnOk result (KeepsUnits (state self.old).image (state self.new).image) }
+        ensures blocks { KeepsBlocks (state self.old).image (state self.new).image }
+        ensures image { LeavesImage result (state self.old).image (state self.new).image }
+        ensures none { (state self.new).standing.devices ≡ 0 }
+        ensures opening { Stayed (state self.old).standing (state self.new).standing ⊎ Opened name.now (state self.old).standing (state self.new).standing }
+        ensures opened { OpenedBy result name.now (state self.old).standing (state self.new).standing }
+        ensures keeps { KeepsRecords (state self.old) (state self.new) };
 
     /// The number of devices: 0 before an image is opened.
     fn devices(&self) -> u32
-        ensures { result ≡ (standing self.now).devices };
+        ensures { result ≡ (state self.now).standing.devices };
 
     /// The LBA of the first block of a device.
     fn first(&self, dev: u32) -> u64
-        requires { dev < (standing self.now).devices }
-        ensures { result ≡ (spec_at (standing self.now) dev).first };
+        requires { dev < (state self.now).standing.devices }
+        ensures { result ≡ (spec_at (state self.now).standing dev).first };
 
     /// The bytes of data in a block of a device.
     fn size(&self, dev: u32) -> u32
-        requires { dev < (standing self.now).devices }
-        ensures { result ≡ (spec_at (standing self.now) dev).size };
+        requires { dev < (state self.now).standing.devices }
+        ensures { result ≡ (spec_at (state self.now).standing dev).size };
 
     /// The number of records.
     fn records(&self) -> u32
-        ensures { result ≡ length (log self.now) };
+        ensures { result ≡ length (state self.now).log };
 
     /// Record `i`, from 0.
     fn logged(&self, i: u32) -> &Record
-        requires { i < length (log self.now) }
-        ensures { result.now ≡ (entry_at (log self.now) i).what };
+        requires { i < length (state self.now).log }
+        ensures { result.now ≡ (entry_at (state self.now).log i).what };
 
     /// The moved bytes of record `i`: the frames of the blocks that were done, or what READ
     /// CAPACITY(16) left in its buffer.
     fn moved(&self, i: u32) -> &[u8]
-        requires { i < length (log self.now) }
-        ensures { result.now ≡ (entry_at (log self.now) i).moved };
+        requires { i < length (state self.now).log }
+        ensures { result.now ≡ (entry_at (state self.now).log i).moved };
 
     /// The labels of record `i`: those of the blocks that were done and of the one where it ended.
     fn labels(&self, i: u32) -> &[Label]
-        requires { i < length (log self.now) }
-        ensures { result.now ≡ (entry_at (log self.now) i).labels };
+        requires { i < length (state self.now).log }
+        ensures { result.now ≡ (entry_at (state self.now).log i).labels };
 
     /// Takes the memory for so many further exchanges of together so many blocks.
     fn reserve(&mut self, alloc: Global, exchanges: u32, blocks: u32) -> Result<(), AllocError>
-        ensures room { OnOk result (HasRoom (greatest_size (standing self.old)) exchanges blocks (room self.new)) }
-        ensures image { image self.new ≡ image self.old }
-        ensures standing { standing self.new ≡ standing self.old }
-        ensures log { log self.new ≡ log self.old }
-        ensures armed { armed self.new ≡ armed self.old }
-        ensures count { faults self.new ≡ faults self.old };
+        ensures room { OnOk result (HasRoom (greatest_size (state self.old).standing) exchanges blocks (state self.new).room) }
+        ensures keeps { state self.new ≡ record (state self.old) { room = (state self.new).room } };
 
     /// Puts these faults in place of those that were armed.
     fn arm(&mut self, lines: FaultList)
-        ensures armed { armed self.new ≡ lines }
-        ensures image { image self.new ≡ image self.old }
-        ensures standing { standing self.new ≡ standing self.old }
-        ensures log { log self.new ≡ log self.old }
-        ensures room { room self.new ≡ room self.old }
-        ensures count { faults self.new ≡ faults self.old };
+        ensures { state self.new ≡ record (state self.old) { armed = lines } };
 
     /// Changes the stored block at an LBA of a device, without a command and without a record. A
     /// rig that tells its blocks has the addresses, and blocks of one length there; one that
@@ -212,21 +175,17 @@ pub trait Rig {
     ///
     /// `Failed` comes only where the count of faults rose; then the block may hold anything.
     fn overwrite(&mut self, dev: u32, lba: u64, change: &Change) -> Result<(), Failed>
-        requires device { dev < (standing self.old).devices }
-        requires source { source_of change.now dev < (standing self.old).devices }
-        requires place { is_some (image self.old) ≡ true → can_change (standing self.old) dev lba change.now ≡ true }
-        ensures changed { OnOk result ((us : List Stored) → units self.old ≡ Some us
-            → units self.new ≡ Some (with_block us dev lba (changed us change.now (block_at us dev lba)))) }
-        ensures left { OnErr result ((us : List Stored) → units self.old ≡ Some us
-            → (block : List ℕ) × (length block ≡ frame_size (unit_at us dev)) × (units self.new ≡ Some (with_block us dev lba block))) }
-        ensures cause { OnErr result (Rose (faults self.old) (faults self.new)) }
-        ensures nowhere { can_change (standing self.old) dev lba change.now ≡ false → IsOk result × (faults self.new ≡ faults self.old) }
-        ensures tells { is_some (image self.new) ≡ is_some (image self.old) }
-        ensures standing { standing self.new ≡ standing self.old }
-        ensures log { log self.new ≡ log self.old }
-        ensures room { room self.new ≡ room self.old }
-        ensures armed { armed self.new ≡ armed self.old }
-        ensures count { faults self.old ≤ faults self.new };
+        requires device { dev < (state self.old).standing.devices }
+        requires source { source_of change.now dev < (state self.old).standing.devices }
+        requires place { is_some (state self.old).image ≡ true → can_change (state self.old).standing dev lba change.now ≡ true }
+        ensures changed { OnOk result ((us : List Stored) → (state self.old).units ≡ Some us
+            → (state self.new).units ≡ Some (with_block us dev lba (changed us change.now (block_at us dev lba)))) }
+        ensures left { OnErr result ((us : List Stored) → (state self.old).units ≡ Some us
+            → (block : List ℕ) × (length block ≡ frame_size (unit_at us dev)) × ((state self.new).units ≡ Some (with_block us dev lba block))) }
+        ensures cause { OnErr result (Rose (state self.old).faults (state self.new).faults) }
+        ensures nowhere { can_change (state self.old).standing dev lba change.now ≡ false → IsOk result × ((state self.new).faults ≡ (state self.old).faults) }
+        ensures stays { Stays (state self.old) (state self.new) }
+        ensures keeps { KeepsRecords (state self.old) (state self.new) };
 
     /// Hands a command block to a device, with the frames to write or the room for what is read,
     /// and appends the record. Label `j` belongs to block `j` of the command.
@@ -241,40 +200,24 @@ pub trait Rig {
         out: &[u8],
         into: &mut [u8],
     ) -> Outcome
-        requires device { dev < (standing self.old).devices }
+        requires device { dev < (state self.old).standing.devices }
         requires short { length cdb.now ≤ 32 }
-        requires room { HasRoom (greatest_size (standing self.old)) 1 (blocks_of cdb.now) (room self.old) }
-        requires capacity { capacity_len cdb.now (length into.old) ≤ (room self.old).moved }
-        ensures recorded { log self.new
-            ≡ log self.old ++ (entry_of (spec_at (standing self.old) dev).size dev cdb.now labels.now result out.now into.new ∷ []) }
-        ensures calm { (us : List Stored) → units self.old ≡ Some us → Calm (faults self.old) (faults self.new)
-            → IsAnswer (answer_of us (armed self.old) dev cdb.now labels.now out.now (length into.old) None) us dev result (units self.new) into.old into.new }
-        ensures told { (us : List Stored) → units self.old ≡ Some us
-            → (stop : Option Stop) × HasCause stop (frame_size (unit_at us dev)) (faults self.old) (faults self.new)
-            × IsAnswer (answer_of us (armed self.old) dev cdb.now labels.now out.now (length into.old) stop) us dev result (units self.new) into.old into.new }
-        ensures medium { IsMedium result → Rose (faults self.old) (faults self.new) }
-        ensures key { has_key result.sense ≡ true }
-        ensures tells { is_some (image self.new) ≡ is_some (image self.old) }
-        ensures standing { standing self.new ≡ standing self.old }
-        ensures armed { armed self.new ≡ armed self.old }
-        ensures records { (room self.old).records ≤ (room self.new).records + 1 }
-        ensures moved { (room self.old).moved
-            ≤ (room self.new).moved + moved_len (spec_at (standing self.old) dev).size cdb.now result out.now into.new }
-        ensures labelled { (room self.old).labels ≤ (room self.new).labels + labels_len cdb.now result labels.now }
-        ensures count { faults self.old ≤ faults self.new };
+        requires room { HasRoom (greatest_size (state self.old).standing) 1 (blocks_of cdb.now) (state self.old).room }
+        requires capacity { capacity_len cdb.now (length into.old) ≤ (state self.old).room.moved }
+        ensures exchanged { Exchanged (state self.old) (state self.new) dev cdb.now labels.now out.now into.old into.new result };
 
     /// The stored blocks are those that are found in the image, where it is told.
-    ghost laid: { (s : Self) → units s ≡ units_told (standing s) (image s) };
+    ghost laid: { (s : Self) → (state s).units ≡ units_told (state s).standing (state s).image };
 
     /// Devices stand on a right head, which is the image's where that is told.
-    ghost ready: { (s : Self) → IsStanding (standing s) (image s) };
+    ghost ready: { (s : Self) → IsStanding (state s).standing (state s).image };
 
     /// Where the image is told, each of its bytes is below 256, and so is each of the stored blocks, which are found in it.
-    ghost octets: { (s : Self) → AreOctets (image s) };
+    ghost octets: { (s : Self) → AreOctets (state s).image };
 
     /// The records and their spare room together never pass 4,294,967,295.
-    ghost few: { (s : Self) → length (log s) + (room s).records < 2 ^ 32 };
+    ghost few: { (s : Self) → length (state s).log + (state s).room.records < 2 ^ 32 };
 
     /// In every record the key of a sense is below 16.
-    ghost keyed: { (s : Self) → have_keys (log s) ≡ true };
+    ghost keyed: { (s : Self) → have_keys (state s).log ≡ true };
 }

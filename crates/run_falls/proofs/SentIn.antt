@@ -5,6 +5,7 @@ use Rattle.page_pool.specs.Cells.{flat}
 use Rattle.target_answer.specs.Frames.{frames_of, joined, stored_size}
 use Rattle.target_answer.specs.Target.{Stop, Stored}
 use Rattle.rig_api.specs.Log.{Entry}
+use Rattle.rig_api.specs.State.{RigState}
 use Rattle.dix_adapter.proofs.Units.{frames-count}
 use Rattle.bio_core.specs.Bios.{Block}
 use Rattle.bio_core.specs.declared.bio.Bio.{Bio}
@@ -19,7 +20,7 @@ use Rattle.whole_run.specs.Senses.{why_ended}
 use Rattle.whole_run.specs.Settings.{Setting}
 use Rattle.run_record.specs.Records.{came_of, recorded}
 use Rattle.dix_adapter.specs.declared.adapter.Adapter.{Adapter}
-use Rattle.dix_adapter.specs.Carried.{Shown, frame_len}
+use Rattle.dix_adapter.specs.Carried.{frame_len}
 use Rattle.dix_adapter.specs.Groups.{IsGroup, IsProtect, blocks_in, first_of, size}
 use Rattle.dix_adapter.specs.Outcomes.{done_of}
 use Rattle.dix_adapter.specs.Ways.{CameIn, RecordedIn, blocks_told, fates_of_in, frames_in, shapes_of, site_of, stopped_in, ways_in}
@@ -58,7 +59,7 @@ module _ (m : Setting) (n : ℕ) (ops : List Op) (a : Adapter) (ios : List Io) (
   ways_length falls [] = refl
   ways_length falls (x ∷ xs) = ap suc (ways_length falls xs)
 
-  pub fallen_in : (stop : Option Stop) (pool' : List (List ℕ)) (fates : List Fate) (old new : Shown) (opening : State) (status : ℕ → ℕ → Status) (spots : List Spot) → (first_of req).dir ≡ Read → AllSized m a ios (blocks_told us) (frame_len a ios req) bs →
+  pub fallen_in : (stop : Option Stop) (pool' : List (List ℕ)) (fates : List Fate) (old new : RigState) (opening : State) (status : ℕ → ℕ → Status) (spots : List Spot) → (first_of req).dir ≡ Read → AllSized m a ios (blocks_told us) (frame_len a ios req) bs →
       RecordedIn a ios req pool pool' fates old new → CameIn a ios req pool pool' us stop fates old new → IfSome stop (λ s. length s.left ≡ stored_size m.ty m.size) →
       AllGoing m n ops a ios (length opening.logs) status bs spots → NoneBefore status (recorded m old.log) → FollowsFalling m n ops opening status (flat pool) (blocks_told us) (recorded m old.log) →
       FollowsFalling m n ops opening (with_fates bs fates status) (flat pool') (blocks_told us) (recorded m new.log)

@@ -1,11 +1,12 @@
 -- A command of a write over a rig that tells its blocks, whose store call may fail.
-use Rattle.std.proofs.Common.{◌≡◌, ◌≤◌, ℕ, suc, true, false, List, [], ◌∷◌, ◌++◌, length, map, take, Option, refl, sym, ap, subst, ◌∙◌, arith}
+use Rattle.std.proofs.Common.{◌≡◌, ◌≤◌, ℕ, suc, true, false, List, [], ◌∷◌, length, map, take, Option, refl, sym, ap, subst, ◌∙◌, arith}
 use Rattle.std.specs.Prelude.{IfSome, min, ltb}
 use Rattle.std.proofs.lemmas.List.{length-map, length-take}
 use Rattle.page_pool.specs.Cells.{flat}
 use Rattle.target_answer.specs.Frames.{stored_size}
 use Rattle.target_answer.specs.Target.{Stop, Stored}
 use Rattle.rig_api.specs.Log.{Entry}
+use Rattle.rig_api.specs.State.{RigState}
 use Rattle.bio_core.specs.Bios.{Block}
 use Rattle.bio_core.specs.declared.bio.Bio.{Bio}
 use Rattle.bio_core.specs.declared.fate.Fate.{Fate}
@@ -21,7 +22,7 @@ use Rattle.whole_run.specs.Senses.{why_ended}
 use Rattle.whole_run.specs.Settings.{Setting}
 use Rattle.run_record.specs.Records.{came_of, recorded}
 use Rattle.dix_adapter.specs.declared.adapter.Adapter.{Adapter}
-use Rattle.dix_adapter.specs.Carried.{Shown, any_bad, frame_sent, sends}
+use Rattle.dix_adapter.specs.Carried.{any_bad, frame_sent, sends}
 use Rattle.dix_adapter.specs.Groups.{IsGroup, IsProtect, blocks_in, first_of, size}
 use Rattle.dix_adapter.specs.Outcomes.{done_of}
 use Rattle.dix_adapter.specs.Ways.{RecordedOut, WentOut, acts_out, blocks_told, cells_out, fates_out, frames_out, left_at, shapes_of, site_of, stopped_out, ways_out}
@@ -70,7 +71,7 @@ module _ (m : Setting) (n : ℕ) (ops : List Op) (a : Adapter) (ios : List Io) (
   ways_length falls [] = refl
   ways_length falls (x ∷ xs) = ap suc (ways_length falls xs)
 
-  pub fallen_out : (stop : Option Stop) (fates : List Fate) (old new : Shown) (opening : State) (status : ℕ → ℕ → Status) (spots : List Spot) → (first_of req).dir ≡ Write → any_bad (map (sends a ios (flat pool)) bs) ≡ false →
+  pub fallen_out : (stop : Option Stop) (fates : List Fate) (old new : RigState) (opening : State) (status : ℕ → ℕ → Status) (spots : List Spot) → (first_of req).dir ≡ Write → any_bad (map (sends a ios (flat pool)) bs) ≡ false →
       RecordedOut a ios req (flat pool) fates old new → (told : WentOut a ios req (flat pool) us stop fates old new) → IfSome stop (λ s. length s.left ≡ stored_size m.ty m.size) →
       AllGoing m n ops a ios (length opening.logs) status bs spots → NoneBefore status (recorded m old.log) → FollowsFalling m n ops opening status (flat pool) (blocks_told us) (recorded m old.log) →
       FollowsFalling m n ops opening (with_fates bs fates status) (flat pool) (blocks_told told.units) (recorded m new.log)

@@ -17,7 +17,7 @@ use Rattle.whole_run.specs.Settings.{Block as ScriptBlock, Setting, route}
 use Rattle.run_record.specs.Records.{came_of, find, is_labelled, recorded, stamped}
 use Rattle.run_record.specs.ToldRun.{came_in}
 use Rattle.dix_adapter.specs.declared.adapter.Adapter.{Adapter}
-use Rattle.dix_adapter.specs.Carried.{Shown, any_bad, frame_len, frame_sent, sends}
+use Rattle.dix_adapter.specs.Carried.{any_bad, frame_len, frame_sent, sends}
 use Rattle.dix_adapter.specs.Groups.{IsGroup, IsProtect, blocks_in, first_of, label_of, size}
 use Rattle.dix_adapter.specs.Outcomes.{done_of}
 use Rattle.dix_adapter.specs.Ways.{RecordedIn, RecordedOut}
@@ -29,6 +29,7 @@ use Rattle.carried_record.specs.OnRecord.{put_each}
 use Rattle.carried_record.proofs.Puts.{goes_in, goes_out}
 use Rattle.run_follows.specs.Finished.{FramesFit}
 use Rattle.run_follows.proofs.Recording.{arrived}
+use Rattle.rig_api.specs.State.{RigState}
 
 abbrev Fits : ℕ → Result (List ℕ) Why → Type 0
 Fits w came = IfOk came (λ frame. length frame ≡ w)
@@ -64,7 +65,7 @@ module _ (m : Setting) (a : Adapter) (ios : List Io) (req : List Bio) (pool : Li
   put_fits cames w es wide f fit = λ b. subst (λ k. Fits k (came_in (find (route m b).label (put_each m.site (blocks_in req) cames es)))) (sym (wide b))
       (fit_put m.site w (route m b).label (blocks_in req) cames es f (subst (λ k. Fits k (came_in (find (route m b).label es))) (wide b) (fit b)))
 
-  pub fit_out : (fates : List Fate) (old new : Shown) → (first_of req).dir ≡ Write → any_bad (map (sends a ios (flat pool)) (blocks_in req)) ≡ false → ((b : ScriptBlock) → wire_size (route m b) ≡ frame_len a ios req) →
+  pub fit_out : (fates : List Fate) (old new : RigState) → (first_of req).dir ≡ Write → any_bad (map (sends a ios (flat pool)) (blocks_in req)) ≡ false → ((b : ScriptBlock) → wire_size (route m b) ≡ frame_len a ios req) →
       RecordedOut a ios req (flat pool) fates old new → FramesFit m (recorded m old.log) → FramesFit m (recorded m new.log)
   fit_out fates old new w good wide r fit =
       let o = r.entry.what.outcome in
@@ -75,7 +76,7 @@ module _ (m : Setting) (a : Adapter) (ios : List Io) (req : List Bio) (pool : Li
       subst (FramesFit m) (sym (goes_out m a ios req pool protect g fates old new w good r))
       (put_fits (came_of (size req) o.done o.sense frames) len (recorded m old.log) wide (came_fit len frames (ltb o.done (size req)) (why_ended o.sense) (part-long len (done_of (size req) o) all long)) fit)
 
-  pub fit_in : (pool' : List (List ℕ)) (fates : List Fate) (old new : Shown) → (first_of req).dir ≡ Read → ((b : ScriptBlock) → wire_size (route m b) ≡ frame_len a ios req) →
+  pub fit_in : (pool' : List (List ℕ)) (fates : List Fate) (old new : RigState) → (first_of req).dir ≡ Read → ((b : ScriptBlock) → wire_size (route m b) ≡ frame_len a ios req) →
       RecordedIn a ios req pool pool' fates old new → FramesFit m (recorded m old.log) → FramesFit m (recorded m new.log)
   fit_in pool' fates old new w wide r fit =
       let o = r.entry.what.outcome in

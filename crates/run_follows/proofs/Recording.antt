@@ -8,6 +8,7 @@ use Rattle.pi_tuple.specs.declared.checks.Check.{Check}
 use Rattle.fault_schedule.specs.declared.Label.{Label}
 use Rattle.target_answer.specs.Frames.{frames_of}
 use Rattle.rig_api.specs.declared.rig.Outcome.{Outcome}
+use Rattle.rig_api.specs.State.{RigState}
 use Rattle.dix_adapter.proofs.Units.{frames-count}
 use Rattle.bio_core.specs.Bios.{Block}
 use Rattle.bio_core.specs.declared.bio.Bio.{Bio}
@@ -27,7 +28,7 @@ use Rattle.whole_run.specs.Settings.{Setting}
 use Rattle.run_record.specs.Records.{came_of, find, is_labelled, recorded, stamped}
 use Rattle.run_record.specs.ToldRun.{came_by, came_in, told}
 use Rattle.dix_adapter.specs.declared.adapter.Adapter.{Adapter}
-use Rattle.dix_adapter.specs.Carried.{Shown, any_bad, arrives, carried, fates_in, frame_len, frame_sent, is_bad, land, landed, sends}
+use Rattle.dix_adapter.specs.Carried.{any_bad, arrives, carried, fates_in, frame_len, frame_sent, is_bad, land, landed, sends}
 use Rattle.dix_adapter.specs.Groups.{IsGroup, IsProtect, blocks_in, first_of, frame_cells, frame_in, label_of, route_of, size}
 use Rattle.dix_adapter.specs.Outcomes.{done_of, rest_of, why_of}
 use Rattle.dix_adapter.specs.Ways.{RecordedIn, RecordedOut}
@@ -314,7 +315,7 @@ module _ (m : Setting) (n : ℕ) (ops : List Op) (a : Adapter) (ios : List Io) (
     by false q = let x = length-append (map arrived frames) [] in let y = length-map frames arrived in let z = length-in req in omega (arith, x, y, z, e)
 
   -- nothing stands on record of a block that wasn't carried, also once a command was sent
-  pub none_in : (pool' : List (List ℕ)) (fates : List Fate) (old new : Shown) (status : ℕ → ℕ → Status) → (first_of req).dir ≡ Read → RecordedIn a ios req pool pool' fates old new →
+  pub none_in : (pool' : List (List ℕ)) (fates : List Fate) (old new : RigState) (status : ℕ → ℕ → Status) → (first_of req).dir ≡ Read → RecordedIn a ios req pool pool' fates old new →
       NoneBefore status (recorded m old.log) → NoneBefore (with_fates bs fates status) (recorded m new.log)
   none_in pool' fates old new status w r none =
       let o = r.entry.what.outcome in
@@ -327,7 +328,7 @@ module _ (m : Setting) (n : ℕ) (ops : List Op) (a : Adapter) (ios : List Io) (
       subst (λ x. NoneBefore (with_fates bs fates status) x) (sym put) (subst (λ f. NoneBefore (with_fates bs f status) (put_each m.site bs cames es)) fate
       (none_after m n ops a ios 0 bs cames (in_fates a ios bs cames) status es (in_are m n ops a ios 0 bs cames) none))
 
-  pub none_out : (fates : List Fate) (old new : Shown) (status : ℕ → ℕ → Status) → (first_of req).dir ≡ Write → any_bad (map (sends a ios (flat pool)) bs) ≡ false → RecordedOut a ios req (flat pool) fates old new →
+  pub none_out : (fates : List Fate) (old new : RigState) (status : ℕ → ℕ → Status) → (first_of req).dir ≡ Write → any_bad (map (sends a ios (flat pool)) bs) ≡ false → RecordedOut a ios req (flat pool) fates old new →
       NoneBefore status (recorded m old.log) → NoneBefore (with_fates bs fates status) (recorded m new.log)
   none_out fates old new status w good r none =
       let o = r.entry.what.outcome in
@@ -343,7 +344,7 @@ module _ (m : Setting) (n : ℕ) (ops : List Op) (a : Adapter) (ios : List Io) (
       subst (λ x. NoneBefore (with_fates bs fates status) x) (sym put) (subst (λ f. NoneBefore (with_fates bs f status) (put_each m.site bs cames es)) fate
       (none_after m n ops a ios 0 bs cames (out_fates bs cames) status es (out_are m n ops a ios 0 bs cames) none))
 
-  pub sent_in : (pool' : List (List ℕ)) (fates : List Fate) (old new : Shown) (opening now : State) (status : ℕ → ℕ → Status) (spots : List Spot) → (first_of req).dir ≡ Read → RecordedIn a ios req pool pool' fates old new →
+  pub sent_in : (pool' : List (List ℕ)) (fates : List Fate) (old new : RigState) (opening now : State) (status : ℕ → ℕ → Status) (spots : List Spot) → (first_of req).dir ≡ Read → RecordedIn a ios req pool pool' fates old new →
       AllGoing m n ops a ios (length opening.logs) status bs spots → now.bytes ≡ flat pool → NoneBefore status (recorded m old.log) → Follows (told m (recorded m old.log)) n ops opening status now (recorded m old.log) →
       FollowsOn m n ops opening (with_fates bs fates status) (flat pool') new.log
   sent_in pool' fates old new opening now status spots w r going pages none h =
@@ -368,7 +369,7 @@ module _ (m : Setting) (n : ℕ) (ops : List Op) (a : Adapter) (ios : List Io) (
         none_before = none_in pool' fates old new status w r none;
       }
 
-  pub sent_out : (fates : List Fate) (old new : Shown) (opening now : State) (status : ℕ → ℕ → Status) (spots : List Spot) → (first_of req).dir ≡ Write → any_bad (map (sends a ios (flat pool)) bs) ≡ false → RecordedOut a ios req (flat pool) fates old new →
+  pub sent_out : (fates : List Fate) (old new : RigState) (opening now : State) (status : ℕ → ℕ → Status) (spots : List Spot) → (first_of req).dir ≡ Write → any_bad (map (sends a ios (flat pool)) bs) ≡ false → RecordedOut a ios req (flat pool) fates old new →
       AllGoing m n ops a ios (length opening.logs) status bs spots → now.bytes ≡ flat pool → NoneBefore status (recorded m old.log) → Follows (told m (recorded m old.log)) n ops opening status now (recorded m old.log) →
       FollowsOn m n ops opening (with_fates bs fates status) (flat pool) new.log
   sent_out fates old new opening now status spots w good r going pages none h =

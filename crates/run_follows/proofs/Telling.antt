@@ -1,5 +1,5 @@
 -- A command of a group over a rig that tells its blocks.
-use Rattle.std.proofs.Common.{◌≡◌, ◌<◌, ◌≤◌, ℕ, zero, suc, Bool, true, false, ◌||◌, if◌then◌else◌, List, [], ◌∷◌, ◌++◌, length, map, take, get_or, None, refl, sym, ap, subst, ◌∙◌, arith, append-nil}
+use Rattle.std.proofs.Common.{◌≡◌, ◌<◌, ◌≤◌, ℕ, zero, suc, Bool, true, false, if◌then◌else◌, List, [], ◌∷◌, ◌++◌, length, map, take, get_or, None, refl, sym, ap, subst, ◌∙◌, arith, append-nil}
 use Rattle.std.specs.Prelude.{Result, Ok, Err, IfOk, min, ltb}
 use Rattle.std.proofs.lemmas.Bool.{false≢true, or_parts}
 use Rattle.std.proofs.lemmas.List.{length-map, length-take}
@@ -8,6 +8,7 @@ use Rattle.pi_tuple.specs.declared.checks.Check.{Check}
 use Rattle.target_answer.specs.Frames.{frames_of, joined}
 use Rattle.target_answer.specs.Target.{Stored}
 use Rattle.rig_api.specs.Log.{Entry}
+use Rattle.rig_api.specs.State.{RigState}
 use Rattle.dix_adapter.proofs.Units.{frames-count}
 use Rattle.bio_core.specs.Bios.{Block}
 use Rattle.bio_core.specs.declared.bio.Bio.{Bio}
@@ -28,7 +29,7 @@ use Rattle.whole_run.specs.Senses.{why_ended}
 use Rattle.whole_run.specs.Settings.{Setting}
 use Rattle.run_record.specs.Records.{came_of, recorded}
 use Rattle.dix_adapter.specs.declared.adapter.Adapter.{Adapter}
-use Rattle.dix_adapter.specs.Carried.{Shown, any_bad, frame_len, frame_sent, is_bad, sends}
+use Rattle.dix_adapter.specs.Carried.{any_bad, frame_len, frame_sent, is_bad, sends}
 use Rattle.dix_adapter.specs.Groups.{IsGroup, IsProtect, blocks_in, first_of, frame_cells, frame_in, route_of, size}
 use Rattle.dix_adapter.specs.Outcomes.{done_of}
 use Rattle.dix_adapter.specs.Ways.{CameIn, RecordedIn, RecordedOut, WentOut, acts_out, blocks_told, fates_of_in, fates_out, frames_in, frames_out, shapes_of, site_of, ways_in, ways_out}
@@ -184,7 +185,7 @@ module _ (m : Setting) (n : ℕ) (ops : List Op) (a : Adapter) (ios : List Io) (
   abbrev bs : List Block
   bs = blocks_in req
 
-  pub told_out : (fates : List Fate) (old new : Shown) (opening now : State) (status : ℕ → ℕ → Status) (spots : List Spot) → (first_of req).dir ≡ Write → any_bad (map (sends a ios (flat pool)) bs) ≡ false → RecordedOut a ios req (flat pool) fates old new →
+  pub told_out : (fates : List Fate) (old new : RigState) (opening now : State) (status : ℕ → ℕ → Status) (spots : List Spot) → (first_of req).dir ≡ Write → any_bad (map (sends a ios (flat pool)) bs) ≡ false → RecordedOut a ios req (flat pool) fates old new →
       (told : WentOut a ios req (flat pool) us None fates old new) → AllGoing m n ops a ios (length opening.logs) status bs spots → now.bytes ≡ flat pool → now.blocks ≡ blocks_told us → Follows m n ops opening status now (recorded m old.log) →
       FollowsTold m n ops opening (with_fates bs fates status) (flat pool) (blocks_told told.units) new.log
   told_out fates old new opening now status spots w good r told going pages blocks h =
@@ -211,7 +212,7 @@ module _ (m : Setting) (n : ℕ) (ops : List Op) (a : Adapter) (ios : List Io) (
         blocks_are = sent.blocks ∙ ap (λ acts. (plain act acts now).blocks) goes.acts ∙ sym (told.blocks now pages blocks);
       }
 
-  pub told_in : (pool' : List (List ℕ)) (fates : List Fate) (old new : Shown) (opening now : State) (status : ℕ → ℕ → Status) (spots : List Spot) → (first_of req).dir ≡ Read → AllSized m a ios (blocks_told us) (frame_len a ios req) bs →
+  pub told_in : (pool' : List (List ℕ)) (fates : List Fate) (old new : RigState) (opening now : State) (status : ℕ → ℕ → Status) (spots : List Spot) → (first_of req).dir ≡ Read → AllSized m a ios (blocks_told us) (frame_len a ios req) bs →
       RecordedIn a ios req pool pool' fates old new → CameIn a ios req pool pool' us None fates old new → AllGoing m n ops a ios (length opening.logs) status bs spots → now.bytes ≡ flat pool → now.blocks ≡ blocks_told us →
       Follows m n ops opening status now (recorded m old.log) → FollowsTold m n ops opening (with_fates bs fates status) (flat pool') (blocks_told us) new.log
   told_in pool' fates old new opening now status spots w sized r told going pages blocks h =

@@ -1,7 +1,6 @@
 //! A command is sent.
 
 ghost use Rattle.std.specs.Prelude.{ℕ, ◌≡◌, true, false, List, [], length, map, None, Result};
-ghost use Rattle.fault_schedule.specs.declared.Label.{Label as AnyLabel};
 ghost use Rattle.bio_core.specs.declared.fate.Why.{Why as AnyWhy};
 ghost use Rattle.bio_core.specs.Bios.{Block};
 ghost use Rattle.bio_core.specs.declared.request.Io.{Io as AnyIo};
@@ -11,7 +10,7 @@ ghost use Rattle.bio_core.specs.declared.fate.Fate.{Fate as AnyFate};
 ghost use Rattle.bio_core.specs.declared.request.Dir.TheVariants.{Read, Write};
 ghost use Rattle.page_pool.specs.Cells.{flat};
 ghost use Rattle.run_record.specs.Records.{recorded};
-ghost use Rattle.dix_adapter.specs.Carried.{Shown, Unsent, any_bad, frame_len, sends};
+ghost use Rattle.dix_adapter.specs.Carried.{Unsent, any_bad, frame_len, sends};
 ghost use Rattle.dix_adapter.specs.Groups.{IsGroup, IsProtect, blocks_in, first_of, size};
 ghost use Rattle.dix_adapter.specs.Ways.{CameIn, RecordedIn, RecordedOut, WentOut, blocks_told, shapes_of, site_of};
 ghost use Rattle.target_answer.specs.Target.{Stored};
@@ -27,6 +26,7 @@ ghost use Rattle.run_follows.specs.Following.{Follows};
 ghost use Rattle.run_follows.specs.Sending.{AllComeIn, AllGoOut, AllGoing, AllSized, FollowsOn, FollowsTold, HeldBack, NoneBefore, SentIn, SentOut, is_carried, with_fates};
 ghost use Rattle.run_follows.specs.Gate.{Spot};
 ghost use Rattle.run_follows.specs.Slots.{Status, Waits};
+ghost use Rattle.rig_api.specs.State.{RigState};
 
 /// What stands on record may grow: a stack follows what is told by it as long as of each block that was carried it
 /// tells the same.
@@ -61,14 +61,14 @@ pub fn a_write_is_held_back()
 /// A command is sent over any rig, as the adapter says: what came of its blocks stands on record, and the stack follows
 /// it on.
 pub fn a_command_is_sent()
-    ensures out { (m : Setting) (n : ℕ) (ops : List AnyOp) (a : AnyAdapter) (ios : List AnyIo) (req : List AnyBio) (pool : List (List ℕ)) (fates : List AnyFate) (old new : Shown)
+    ensures out { (m : Setting) (n : ℕ) (ops : List AnyOp) (a : AnyAdapter) (ios : List AnyIo) (req : List AnyBio) (pool : List (List ℕ)) (fates : List AnyFate) (old new : RigState)
         (opening now : State) (status : ℕ → ℕ → Status) (spots : List Spot)
         → IsProtect a.protect → IsGroup a pool m.size ios req → (first_of req).dir ≡ Write → any_bad (map (sends a ios (flat pool)) (blocks_in req)) ≡ false → m.site.faults ≡ a.tamper
         → RecordedOut a ios req (flat pool) fates old new
         → AllGoing m n ops a ios (length opening.logs) status (blocks_in req) spots → now.bytes ≡ flat pool → NoneBefore status (recorded m old.log)
         → Follows (told m (recorded m old.log)) n ops opening status now (recorded m old.log)
         → FollowsOn m n ops opening (with_fates (blocks_in req) fates status) (flat pool) new.log }
-    ensures inward { (m : Setting) (n : ℕ) (ops : List AnyOp) (a : AnyAdapter) (ios : List AnyIo) (req : List AnyBio) (pool pool' : List (List ℕ)) (fates : List AnyFate) (old new : Shown)
+    ensures inward { (m : Setting) (n : ℕ) (ops : List AnyOp) (a : AnyAdapter) (ios : List AnyIo) (req : List AnyBio) (pool pool' : List (List ℕ)) (fates : List AnyFate) (old new : RigState)
         (opening now : State) (status : ℕ → ℕ → Status) (spots : List Spot)
         → IsProtect a.protect → IsGroup a pool m.size ios req → (first_of req).dir ≡ Read → m.site.faults ≡ a.tamper
         → RecordedIn a ios req pool pool' fates old new
@@ -80,14 +80,14 @@ pub fn a_command_is_sent()
 /// So over a rig that tells its blocks, while no store call failed: besides, each block goes its way over the target, and
 /// the stored blocks are those that the rig tells.
 pub fn a_told_command_is_sent()
-    ensures out { (m : Setting) (n : ℕ) (ops : List AnyOp) (a : AnyAdapter) (ios : List AnyIo) (req : List AnyBio) (pool : List (List ℕ)) (us : List Stored) (fates : List AnyFate) (old new : Shown)
+    ensures out { (m : Setting) (n : ℕ) (ops : List AnyOp) (a : AnyAdapter) (ios : List AnyIo) (req : List AnyBio) (pool : List (List ℕ)) (us : List Stored) (fates : List AnyFate) (old new : RigState)
         (opening now : State) (status : ℕ → ℕ → Status) (spots : List Spot)
         → IsProtect a.protect → IsGroup a pool m.size ios req → (first_of req).dir ≡ Write → any_bad (map (sends a ios (flat pool)) (blocks_in req)) ≡ false → m.site ≡ site_of a (shapes_of us)
         → RecordedOut a ios req (flat pool) fates old new → (w : WentOut a ios req (flat pool) us None fates old new)
         → AllGoing m n ops a ios (length opening.logs) status (blocks_in req) spots → now.bytes ≡ flat pool → now.blocks ≡ blocks_told us
         → Follows m n ops opening status now (recorded m old.log)
         → FollowsTold m n ops opening (with_fates (blocks_in req) fates status) (flat pool) (blocks_told w.units) new.log }
-    ensures inward { (m : Setting) (n : ℕ) (ops : List AnyOp) (a : AnyAdapter) (ios : List AnyIo) (req : List AnyBio) (pool pool' : List (List ℕ)) (us : List Stored) (fates : List AnyFate) (old new : Shown)
+    ensures inward { (m : Setting) (n : ℕ) (ops : List AnyOp) (a : AnyAdapter) (ios : List AnyIo) (req : List AnyBio) (pool pool' : List (List ℕ)) (us : List Stored) (fates : List AnyFate) (old new : RigState)
         (opening now : State) (status : ℕ → ℕ → Status) (spots : List Spot)
         → IsProtect a.protect → IsGroup a pool m.size ios req → (first_of req).dir ≡ Read → m.site ≡ site_of a (shapes_of us)
         → AllSized m a ios (blocks_told us) (frame_len a ios req) (blocks_in req)
@@ -106,11 +106,11 @@ pub fn what_was_not_carried_is_not_on_record()
 
 /// The frames on record keep the wire's size: those that are sent, and those that come.
 pub fn frames_on_record_fit()
-    ensures out { (m : Setting) (a : AnyAdapter) (ios : List AnyIo) (req : List AnyBio) (pool : List (List ℕ)) (fates : List AnyFate) (old new : Shown)
+    ensures out { (m : Setting) (a : AnyAdapter) (ios : List AnyIo) (req : List AnyBio) (pool : List (List ℕ)) (fates : List AnyFate) (old new : RigState)
         → IsProtect a.protect → IsGroup a pool m.size ios req → (first_of req).dir ≡ Write → any_bad (map (sends a ios (flat pool)) (blocks_in req)) ≡ false
         → ((b : AnyBlock) → wire_size (route m b) ≡ frame_len a ios req) → RecordedOut a ios req (flat pool) fates old new
         → FramesFit m (recorded m old.log) → FramesFit m (recorded m new.log) }
-    ensures inward { (m : Setting) (a : AnyAdapter) (ios : List AnyIo) (req : List AnyBio) (pool pool' : List (List ℕ)) (fates : List AnyFate) (old new : Shown)
+    ensures inward { (m : Setting) (a : AnyAdapter) (ios : List AnyIo) (req : List AnyBio) (pool pool' : List (List ℕ)) (fates : List AnyFate) (old new : RigState)
         → IsProtect a.protect → IsGroup a pool m.size ios req → (first_of req).dir ≡ Read → ((b : AnyBlock) → wire_size (route m b) ≡ frame_len a ios req)
         → RecordedIn a ios req pool pool' fates old new
         → FramesFit m (recorded m old.log) → FramesFit m (recorded m new.log) }

@@ -9,6 +9,7 @@ use Rattle.block_path.specs.Serial.{plain, plain_tells}
 use Rattle.run_record.specs.Records.{recorded}
 use Rattle.run_record.specs.ToldRun.{told}
 use Rattle.rig_api.specs.Log.{Entry}
+use Rattle.rig_api.specs.State.{RigState}
 use Rattle.script_ground.proofs.Ops.{in-range, line-none}
 use Rattle.script_ground.proofs.Standing.{bound}
 use Rattle.script_stack.specs.Followed.{IsBackedBy, failed_in, opening_of, setting_of, unit_of}
@@ -26,7 +27,6 @@ use Rattle.whole_run.specs.Settings.{Setting}
 use Rattle.whole_run.specs.Steps.{Step, each_from, steps_of}
 use Rattle.whole_run.proofs.InSteps.{each_length}
 use Rattle.script_verdict.specs.Verdict.{HasRun}
-use Rattle.image_commands.specs.Views.{View}
 use Rattle.run_words.specs.Explained.{WasExplained}
 use Rattle.run_words.specs.Sites.{AreInside, Guides, IsGuideOf, IsInside, first_block, sites_from, sites_of}
 use Rattle.run_words.specs.declared.guide.Guide.{Guide}
@@ -96,7 +96,7 @@ inside_run s t devices log replies b backed =
     subst (λ (rs : List Reply). AreInside (volume_len t.entries) (sites_of s) rs) (sym (backed []).checked)
     (all_inside (told m (recorded m log)) t devices s.block 1 s.ops (drop (length s.faults) s.lines) (opening_of s (map unit_of devices) []) (bound s t devices b).ops)
 
-guides_run : (run : Finished) (s : Script) (name : List ℕ) (old new : View) (g : Guide) → HasRun run s name old new → IsGuideOf s g → Guides g run.stack.replies.items
+guides_run : (run : Finished) (s : Script) (name : List ℕ) (old new : RigState) (g : Guide) → HasRun run s name old new → IsGuideOf s g → Guides g run.stack.replies.items
 guides_run run s name old new g h is =
     let same : h.table.entries ≡ g.entries = h.made.entries ∙ sym is.entries in
     let r = run.stack.replies.items in
@@ -108,5 +108,5 @@ guides_run run s name old new g h is =
       inside = subst (λ x. AreInside (volume_len x) g.sites.items r) same (subst (λ (x : List OpSite). AreInside (volume_len h.table.entries) x r) (sym is.sites) inside);
     }
 
-pub explained_so : (run : Finished) (guide : Guide) (s : Script) (name : List ℕ) (old new : View) → HasRun run s name old new → IsGuideOf s guide → WasExplained (record { run = run; guide = guide }) s name old new
+pub explained_so : (run : Finished) (guide : Guide) (s : Script) (name : List ℕ) (old new : RigState) → HasRun run s name old new → IsGuideOf s guide → WasExplained (record { run = run; guide = guide }) s name old new
 explained_so run guide s name old new h is = record { ran = h; guided = is; guides = guides_run run s name old new guide h is }

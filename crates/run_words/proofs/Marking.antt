@@ -4,7 +4,6 @@ use Rattle.std.specs.Prelude.{IfErr, MatchResult, nat_lt}
 use Rattle.std.proofs.lemmas.Bool.{lt-ltb}
 use Rattle.dix_base.specs.Told.{Calm, Took}
 use Rattle.fault_marks.specs.Texts.{marked_text}
-use Rattle.image_commands.specs.Views.{View}
 use Rattle.script_lines.specs.declared.kind.ScriptKind.TheVariants.{TooMany}
 use Rattle.script_text.specs.Language.{lines_read, nothing_read, script_in}
 use Rattle.script_text.specs.declared.fault.ScriptFault.{ScriptFault}
@@ -15,6 +14,7 @@ use Rattle.script_verdict.specs.declared.refusal.Refusal.{Refusal}
 use Rattle.script_verdict.specs.declared.refusal.Refusal.TheVariants as refusal
 use Rattle.script_verdict.proofs.Refusing.{within}
 use Rattle.rig_api.specs.Head.{head_fault, head_of}
+use Rattle.rig_api.specs.State.{RigState}
 use Rattle.script_text.specs.Bindings.{binding_fault}
 use Rattle.script_words.specs.Cuts.{lines_of}
 use Rattle.volume_table.specs.Faults.{table_fault}
@@ -32,7 +32,7 @@ over a b w = let l = w.2 in (w.0, w.1, omega (arith, l))
 
 -- ---- a text
 
-pub as_read : (want : Result Script ScriptFault) (script : Script) (r : Result Explained Unexplained) (text name : List ℕ) (old new : View) → want ≡ Ok script → MatchResult r (λ e. WasExplained e script name old new) (λ u. CauseUnrun u text script name old new) → ExplainsRead want r text name old new
+pub as_read : (want : Result Script ScriptFault) (script : Script) (r : Result Explained Unexplained) (text name : List ℕ) (old new : RigState) → want ≡ Ok script → MatchResult r (λ e. WasExplained e script name old new) (λ u. CauseUnrun u text script name old new) → ExplainsRead want r text name old new
 as_read want script r text name old new e h = subst (λ (w : Result Script ScriptFault). ExplainsRead w r text name old new) (sym e) h
 
 -- ---- a source

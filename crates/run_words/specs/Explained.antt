@@ -1,8 +1,8 @@
 use Rattle.std.specs.Prelude.{ℕ, ◌≡◌, ◌+◌, ◌⊎◌, List, length, None, Some, Result, Ok, Err, IsErrAnd, MatchResult}
 use Rattle.dix_base.specs.Told.{Calm, Took}
 use Rattle.fault_marks.specs.Texts.{marked_text}
-use Rattle.image_commands.specs.Views.{View}
 use Rattle.rig_api.specs.Head.{head_fault, head_of}
+use Rattle.rig_api.specs.State.{RigState}
 use Rattle.script_text.specs.Bindings.{binding_fault}
 use Rattle.script_text.specs.Language.{script_in}
 use Rattle.script_text.specs.declared.fault.ScriptFault.{ScriptFault}
@@ -20,7 +20,7 @@ use Rattle.run_words.specs.declared.explain.Unexplained.TheVariants.{Marked, Ref
 -- What a call comes to that runs a script to explain it.
 
 -- The script was run over the image of this name, and the guide is that of the script.
-pub record WasExplained (e : Explained) (script : Script) (name : List ℕ) (old new : View) : Type 0 where
+pub record WasExplained (e : Explained) (script : Script) (name : List ℕ) (old new : RigState) : Type 0 where
   pub ran : HasRun e.run script name old new
   pub guided : IsGuideOf script e.guide
   pub guides : Guides e.guide e.run.stack.replies.items
@@ -70,12 +70,12 @@ CauseUnexplained (Marked said) f = HasMarked said.items f
 CauseUnexplained (Refused r) f = CauseNotRun r f
 
 -- Of a text and its script over an image: the script's fault over its volume is marked, or it comes to no run otherwise.
-pub record MarksUnbound (said : List ℕ) (text : List ℕ) (script : Script) (name : List ℕ) (old new : View) : Type 0 where
+pub record MarksUnbound (said : List ℕ) (text : List ℕ) (script : Script) (name : List ℕ) (old new : RigState) : Type 0 where
   pub bad : ScriptFault
   pub unbound : IsUnbound bad script name old new
   pub marks : said ≡ marked_text text bad
 
-abbrev pub CauseHalted : Refusal → Script → List ℕ → View → View → Type 0
+abbrev pub CauseHalted : Refusal → Script → List ℕ → RigState → RigState → Type 0
 CauseHalted (refusal.Script bad) script name old new = ⊥
 CauseHalted (refusal.Image x) script name old new = CauseStopped (refusal.Image x) script name old new
 CauseHalted (refusal.BadCapacity dev) script name old new = CauseStopped (refusal.BadCapacity dev) script name old new
@@ -84,7 +84,7 @@ CauseHalted refusal.RigFault script name old new = CauseStopped refusal.RigFault
 CauseHalted refusal.Memory script name old new = StoppedShort name old new
 CauseHalted refusal.ReadFault script name old new = ⊥
 
-abbrev pub CauseUnrun : Unexplained → (text : List ℕ) → Script → List ℕ → View → View → Type 0
+abbrev pub CauseUnrun : Unexplained → (text : List ℕ) → Script → List ℕ → RigState → RigState → Type 0
 CauseUnrun (Marked said) text script name old new = MarksUnbound said.items text script name old new
 CauseUnrun (Refused r) text script name old new = CauseHalted r script name old new
 
@@ -109,9 +109,9 @@ IsHaltOf (refusal.Script bad) u text = IsSaid u (marked_text text bad)
 IsHaltOf r u text = u ≡ Refused r
 
 -- Of a text that reads so: its script was run or comes to no run, or its fault is marked; then the rig is as before, and so it is for want of memory at the text.
-abbrev pub ExplainsRead : Result Script ScriptFault → Result Explained Unexplained → (text name : List ℕ) → View → View → Type 0
+abbrev pub ExplainsRead : Result Script ScriptFault → Result Explained Unexplained → (text name : List ℕ) → RigState → RigState → Type 0
 ExplainsRead (Ok script) result text name old new = MatchResult result (λ e. WasExplained e script name old new) (λ u. CauseUnrun u text script name old new)
 ExplainsRead (Err bad) result text name old new = (new ≡ old) × IsErrAnd result (λ u. IsSaid u (marked_text text bad))
 
-abbrev pub ExplainsText : Result Explained Unexplained → (text name : List ℕ) → View → View → Type 0
+abbrev pub ExplainsText : Result Explained Unexplained → (text name : List ℕ) → RigState → RigState → Type 0
 ExplainsText result text name old new = ((result ≡ Err (Refused refusal.Memory)) × (new ≡ old)) ⊎ ExplainsRead (script_in text) result text name old new

@@ -2,7 +2,6 @@
 
 ghost use Rattle.std.specs.Prelude.{◌≡◌, ◌≤◌, Err, IfErr, IfOk, List, MatchResult, length, ℕ};
 ghost use Rattle.fault_marks.specs.Texts.{marked_text};
-ghost use Rattle.image_commands.specs.Views.{seen, view};
 ghost use Rattle.script_lines.specs.declared.kind.ScriptKind.{ScriptKind};
 ghost use Rattle.script_text.specs.Language.{script_in};
 ghost use Rattle.script_verdict.specs.Verdict.{Facts};
@@ -82,10 +81,10 @@ fn explain_script<R: Rig>(
     rig: &mut R,
 ) -> Result<Explained, Unexplained>
     requires { IsSound script }
-    ensures verdict { let old = view (R.image rig.old) (R.standing rig.old) (seen (R.units rig.old) (R.armed rig.old) (R.log rig.old) (R.faults rig.old)) in
-        let new = view (R.image rig.new) (R.standing rig.new) (seen (R.units rig.new) (R.armed rig.new) (R.log rig.new) (R.faults rig.new)) in
+    ensures verdict { let old = R.state rig.old in
+        let new = R.state rig.new in
         MatchResult result (λ e. WasExplained e script image.now old new) (λ u. CauseUnrun u text.now script image.now old new) }
-    ensures traced { IfOk result (λ e. e.run.first ≤ length (R.log rig.new)) }
+    ensures traced { IfOk result (λ e. e.run.first ≤ length (R.state rig.new).log) }
 {
     let guide = match Guide::of(alloc, &script) {
         Ok(guide) => guide,
@@ -104,10 +103,10 @@ fn explain_text<R: Rig>(
     text: &[u8],
     rig: &mut R,
 ) -> Result<Explained, Unexplained>
-    ensures verdict { let old = view (R.image rig.old) (R.standing rig.old) (seen (R.units rig.old) (R.armed rig.old) (R.log rig.old) (R.faults rig.old)) in
-        let new = view (R.image rig.new) (R.standing rig.new) (seen (R.units rig.new) (R.armed rig.new) (R.log rig.new) (R.faults rig.new)) in
+    ensures verdict { let old = R.state rig.old in
+        let new = R.state rig.new in
         ExplainsText result text.now image.now old new }
-    ensures traced { IfOk result (λ e. e.run.first ≤ length (R.log rig.new)) }
+    ensures traced { IfOk result (λ e. e.run.first ≤ length (R.state rig.new).log) }
 {
     match read_script(alloc, text) {
         Ok(script) => {
@@ -139,8 +138,8 @@ pub fn explain_source<S: Source, R: Rig>(
       left_after = S.left source.new;
       reads = S.faults source.old;
       reads_after = S.faults source.new;
-      rig = view (R.image rig.old) (R.standing rig.old) (seen (R.units rig.old) (R.armed rig.old) (R.log rig.old) (R.faults rig.old));
-      rig_after = view (R.image rig.new) (R.standing rig.new) (seen (R.units rig.new) (R.armed rig.new) (R.log rig.new) (R.faults rig.new));
+      rig = R.state rig.old;
+      rig_after = R.state rig.new;
     } in
         MatchResult result (λ e. HasExplained e f) (λ u. CauseUnexplained u f) }
     ensures complete { let f : Facts = record {
@@ -149,11 +148,11 @@ pub fn explain_source<S: Source, R: Rig>(
       left_after = S.left source.new;
       reads = S.faults source.old;
       reads_after = S.faults source.new;
-      rig = view (R.image rig.old) (R.standing rig.old) (seen (R.units rig.old) (R.armed rig.old) (R.log rig.old) (R.faults rig.old));
-      rig_after = view (R.image rig.new) (R.standing rig.new) (seen (R.units rig.new) (R.armed rig.new) (R.log rig.new) (R.faults rig.new));
+      rig = R.state rig.old;
+      rig_after = R.state rig.new;
     } in
         IfErr result (λ u. IsComplete u f) }
-    ensures traced { IfOk result (λ e. e.run.first ≤ length (R.log rig.new)) }
+    ensures traced { IfOk result (λ e. e.run.first ≤ length (R.state rig.new).log) }
     ensures count { S.faults source.old ≤ S.faults source.new }
 {
     match read_all(alloc, source) {

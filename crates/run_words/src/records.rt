@@ -63,9 +63,9 @@ pub(crate) fn print_records<O: Sink, R: Rig>(
     rig: &R,
     from: u32,
 ) -> Result<(), Failed>
-    requires { from ≤ length (R.log rig.now) }
-    ensures whole { OnOk result (Appended (record_lines 0 sites.now (drop from (R.log rig.now))) (O.taken out.old) (O.taken out.new)) }
-    ensures part { OnErr result (AppendedSome (record_lines 0 sites.now (drop from (R.log rig.now))) (O.taken out.old) (O.taken out.new)) }
+    requires { from ≤ length (R.state rig.now).log }
+    ensures whole { OnOk result (Appended (record_lines 0 sites.now (drop from (R.state rig.now).log)) (O.taken out.old) (O.taken out.new)) }
+    ensures part { OnErr result (AppendedSome (record_lines 0 sites.now (drop from (R.state rig.now).log)) (O.taken out.old) (O.taken out.new)) }
     ensures cause { OnErr result (Rose (O.faults out.old) (O.faults out.new)) }
     ensures count { O.faults out.old ≤ O.faults out.new }
 {

@@ -26,11 +26,11 @@ fn print_parts<O: Sink, R: Rig>(
     rig: &R,
     from: u32,
 ) -> Result<(), Failed>
-    requires records { from ≤ length (R.log rig.now) }
+    requires records { from ≤ length (R.state rig.now).log }
     requires table { (t : Table) × (t.entries ≡ entries.now) × IsTable t }
     requires inside { AreInside (volume_len entries.now) sites.now replies.now }
-    ensures whole { OnOk result (Appended (record_lines 0 sites.now (drop from (R.log rig.now)) ++ all_listed entries.now 1 sites.now replies.now) (O.taken out.old) (O.taken out.new)) }
-    ensures part { OnErr result (AppendedSome (record_lines 0 sites.now (drop from (R.log rig.now)) ++ all_listed entries.now 1 sites.now replies.now) (O.taken out.old) (O.taken out.new)) }
+    ensures whole { OnOk result (Appended (record_lines 0 sites.now (drop from (R.state rig.now).log) ++ all_listed entries.now 1 sites.now replies.now) (O.taken out.old) (O.taken out.new)) }
+    ensures part { OnErr result (AppendedSome (record_lines 0 sites.now (drop from (R.state rig.now).log) ++ all_listed entries.now 1 sites.now replies.now) (O.taken out.old) (O.taken out.new)) }
     ensures cause { OnErr result (Rose (O.faults out.old) (O.faults out.new)) }
     ensures count { O.faults out.old ≤ O.faults out.new }
 {
@@ -50,10 +50,10 @@ pub fn print_words<O: Sink, R: Rig>(
     rig: &R,
     from: u32,
 ) -> Result<(), Failed>
-    requires records { from ≤ length (R.log rig.now) }
+    requires records { from ≤ length (R.state rig.now).log }
     requires guides { Guides guide.now replies.now }
-    ensures whole { OnOk result (Appended (words_text guide.now.sites.items guide.now.entries (drop from (R.log rig.now)) replies.now) (O.taken out.old) (O.taken out.new)) }
-    ensures part { OnErr result (AppendedSome (words_text guide.now.sites.items guide.now.entries (drop from (R.log rig.now)) replies.now) (O.taken out.old) (O.taken out.new)) }
+    ensures whole { OnOk result (Appended (words_text guide.now.sites.items guide.now.entries (drop from (R.state rig.now).log) replies.now) (O.taken out.old) (O.taken out.new)) }
+    ensures part { OnErr result (AppendedSome (words_text guide.now.sites.items guide.now.entries (drop from (R.state rig.now).log) replies.now) (O.taken out.old) (O.taken out.new)) }
     ensures cause { OnErr result (Rose (O.faults out.old) (O.faults out.new)) }
     ensures count { O.faults out.old ≤ O.faults out.new }
 {
@@ -68,10 +68,10 @@ pub fn print_explained<O: Sink, R: Rig>(
     told: &Explained,
     rig: &R,
 ) -> Result<(), Failed>
-    requires records { told.now.run.first ≤ length (R.log rig.now) }
+    requires records { told.now.run.first ≤ length (R.state rig.now).log }
     requires guides { Guides told.now.guide told.now.run.stack.replies.items }
-    ensures whole { OnOk result (Appended (explained_by told.now.guide.sites.items told.now.guide.entries (drop told.now.run.first (R.log rig.now)) told.now.run.stack.replies.items) (O.taken out.old) (O.taken out.new)) }
-    ensures part { OnErr result (AppendedSome (explained_by told.now.guide.sites.items told.now.guide.entries (drop told.now.run.first (R.log rig.now)) told.now.run.stack.replies.items) (O.taken out.old) (O.taken out.new)) }
+    ensures whole { OnOk result (Appended (explained_by told.now.guide.sites.items told.now.guide.entries (drop told.now.run.first (R.state rig.now).log) told.now.run.stack.replies.items) (O.taken out.old) (O.taken out.new)) }
+    ensures part { OnErr result (AppendedSome (explained_by told.now.guide.sites.items told.now.guide.entries (drop told.now.run.first (R.state rig.now).log) told.now.run.stack.replies.items) (O.taken out.old) (O.taken out.new)) }
     ensures cause { OnErr result (Rose (O.faults out.old) (O.faults out.new)) }
     ensures count { O.faults out.old ≤ O.faults out.new }
 {

@@ -7,6 +7,7 @@ use Rattle.target_answer.specs.Image.{units_in}
 use Rattle.target_answer.specs.Target.{Stored}
 use Rattle.rig_api.specs.Log.{Entry}
 use Rattle.rig_api.specs.Telling.{IsStanding, Standing, specs_of, units_told}
+use Rattle.rig_api.specs.State.{RigState}
 use Rattle.rig_discovery.specs.Discovery.{info_of}
 use Rattle.volume_table.specs.declared.device.DeviceInfo.{DeviceInfo}
 use Rattle.volume_table.specs.Tables.{MadeFor, Table}
@@ -26,7 +27,7 @@ use Rattle.stack_steps.specs.Does.{Holds}
 use Rattle.stack_view.specs.Steps.{enabled}
 use Rattle.stack_view.specs.View.{View, start}
 use Rattle.script_stack.specs.Followed.{BeginsTold, BeginsWalks, HasWalked, IsBackedBy, SizesAre, begun_of, failed_in, none_fails, setting_of, unit_of, BeginsFalling, HasFallen}
-use Rattle.script_stack.specs.Going.{Outside, Went}
+use Rattle.script_stack.specs.Going.{Went}
 use Rattle.script_stack.specs.Sends.{IsPlanFor, SendsBy, SendsFor, by_words, entries_of}
 use Rattle.script_stack.proofs.Following.{behind, told-shapes, told-stored}
 use Rattle.script_stack.proofs.SendsBy.{AllLaw, FewLaw, sends_for}
@@ -52,7 +53,7 @@ FallenLaw = (s : Script) (t : Table) (us left : List Stored) (first : ℕ) (r : 
     → ((v : View) → Holds (plan_in r.sheet) r.machine v → enabled (plan_in r.sheet) v ≡ []) → HasFallen s t us left r.pool (drop first log) r.replies.items
 
 -- A script that was made ready over a rig and run by these words, with what the rig tells of its image then and afterwards, and its stack that went to its end.
-pub record IsOver (s : Script) (t : Table) (devices : List DeviceInfo) (words : List (ℕ × ℕ)) (begun r : Stack) (image image' : Option (List ℕ)) (old new : Outside) : Type 0 where
+pub record IsOver (s : Script) (t : Table) (devices : List DeviceInfo) (words : List (ℕ × ℕ)) (begun r : Stack) (image image' : Option (List ℕ)) (old new : RigState) : Type 0 where
   pub suits : SuitsStack s
   pub lines : length s.lines ≡ length s.faults + length s.ops
   pub made : MadeFor t devices s.block
@@ -71,7 +72,7 @@ pub record IsOver (s : Script) (t : Table) (devices : List DeviceInfo) (words : 
   pub told : BeginsTold s t devices begun
   pub falling : BeginsFalling s t devices begun
   pub silent : NoneFailed begun.replies.items
-  pub goes : GoesOn old.standing new.standing old.log new.log old.faults new.faults
+  pub goes : GoesOn old new
   pub tells : is_some image' ≡ is_some image
   pub went : Went begun old r new
   pub plan : IsPlanFor s t (plan_in begun.sheet)
@@ -80,16 +81,16 @@ pub record IsOver (s : Script) (t : Table) (devices : List DeviceInfo) (words : 
   pub counted : HasCounted old.faults r new.faults
   pub sent : begun.machine.steps ≡ 0 → SendsBy (entries_of words) begun r old.log new.log
 
-pub rest_is : (s : Script) (t : Table) (devices : List DeviceInfo) (words : List (ℕ × ℕ)) (begun r : Stack) (image image' : Option (List ℕ)) (old new : Outside) (o : IsOver s t devices words begun r image image' old new) → drop (length old.log) new.log ≡ o.goes.more
+pub rest_is : (s : Script) (t : Table) (devices : List DeviceInfo) (words : List (ℕ × ℕ)) (begun r : Stack) (image image' : Option (List ℕ)) (old new : RigState) (o : IsOver s t devices words begun r image image' old new) → drop (length old.log) new.log ≡ o.goes.more
 rest_is s t devices words begun r image image' old new o = ap (drop (length old.log)) o.goes.records ∙ behind old.log o.goes.more
 
-pub backed_by : (s : Script) (t : Table) (devices : List DeviceInfo) (words : List (ℕ × ℕ)) (begun r : Stack) (image image' : Option (List ℕ)) (old new : Outside) → BackedLaw → (o : IsOver s t devices words begun r image image' old new) → IsBackedBy s t devices o.goes.more r.replies.items
+pub backed_by : (s : Script) (t : Table) (devices : List DeviceInfo) (words : List (ℕ × ℕ)) (begun r : Stack) (image image' : Option (List ℕ)) (old new : RigState) → BackedLaw → (o : IsOver s t devices words begun r image image' old new) → IsBackedBy s t devices o.goes.more r.replies.items
 backed_by s t devices words begun r image image' old new law o =
     subst (λ (more : List Entry). IsBackedBy s t devices more r.replies.items) (rest_is s t devices words begun r image image' old new o)
     (law s t devices (length old.log) r new.standing new.log o.suits o.stack o.ops
     (λ blocks. o.went.walks (setting_of s t (map unit_of devices) (failed_in r.replies.items)) (4096 * s.pages) (begun_of s (map unit_of devices) blocks) (length old.log) (o.walks (failed_in r.replies.items) blocks old.standing old.log o.sizes)) o.ended)
 
-pub sent_by : (s : Script) (t : Table) (devices : List DeviceInfo) (words : List (ℕ × ℕ)) (begun r : Stack) (image image' : Option (List ℕ)) (old new : Outside) → FewLaw → AllLaw → (o : IsOver s t devices words begun r image image' old new) → SendsFor (by_words s words) t o.goes.more r.replies.items
+pub sent_by : (s : Script) (t : Table) (devices : List DeviceInfo) (words : List (ℕ × ℕ)) (begun r : Stack) (image image' : Option (List ℕ)) (old new : RigState) → FewLaw → AllLaw → (o : IsOver s t devices words begun r image image' old new) → SendsFor (by_words s words) t o.goes.more r.replies.items
 sent_by s t devices words begun r image image' old new few all o =
     let m = setting_of s t (map unit_of devices) (failed_in r.replies.items) in
     let opening = begun_of s (map unit_of devices) [] in
@@ -102,7 +103,7 @@ abbrev pub MediumLaw : Type 0
 MediumLaw = (m : Setting) (n : ℕ) (opening : State) (begun first : ℕ) (s : Stack) (st : Standing) (log : List Entry) (count : ℕ) → IsStack s → Walks m n opening begun s st log
     → ((v : View) → Holds (plan_in s.sheet) s.machine v → enabled (plan_in s.sheet) v ≡ []) → HasCounted first s count → RoseBy (medium_lines s.replies.items) first count
 
-pub few_lines : (s : Script) (t : Table) (devices : List DeviceInfo) (words : List (ℕ × ℕ)) (begun r : Stack) (image image' : Option (List ℕ)) (old new : Outside) → MediumLaw → (o : IsOver s t devices words begun r image image' old new) → RoseBy (medium_lines r.replies.items) old.faults new.faults
+pub few_lines : (s : Script) (t : Table) (devices : List DeviceInfo) (words : List (ℕ × ℕ)) (begun r : Stack) (image image' : Option (List ℕ)) (old new : RigState) → MediumLaw → (o : IsOver s t devices words begun r image image' old new) → RoseBy (medium_lines r.replies.items) old.faults new.faults
 few_lines s t devices words begun r image image' old new law o =
     let m = setting_of s t (map unit_of devices) (failed_in r.replies.items) in
     let opening = begun_of s (map unit_of devices) [] in
@@ -119,7 +120,7 @@ left_told (Some bytes) None st st' units units' us e l l' t = absurd (cc)
 left_told (Some bytes) (Some bytes') st st' units units' us e l l' t = (units_in (specs_of st') bytes', l')
 
 -- What is known where the rig told these units: the script is bound to its volume over their shapes, and its stack begins with their blocks.
-pub record IsTold (s : Script) (t : Table) (devices : List DeviceInfo) (us : List Stored) (begun : Stack) (old new : Outside) : Type 0 where
+pub record IsTold (s : Script) (t : Table) (devices : List DeviceInfo) (us : List Stored) (begun : Stack) (old new : RigState) : Type 0 where
   pub infos : devices ≡ map info_of (shapes_of us)
   pub made : MadeFor t (map info_of (shapes_of us)) s.block
   pub bound : binding_fault s t (map info_of (shapes_of us)) ≡ None
@@ -129,7 +130,7 @@ pub record IsTold (s : Script) (t : Table) (devices : List DeviceInfo) (us : Lis
   pub left_are : new.units ≡ Some left
   pub same : shapes_of left ≡ shapes_of us
 
-pub told_at : (s : Script) (t : Table) (devices : List DeviceInfo) (words : List (ℕ × ℕ)) (begun r : Stack) (image image' : Option (List ℕ)) (old new : Outside) → IsOver s t devices words begun r image image' old new → (us : List Stored) → old.units ≡ Some us → IsTold s t devices us begun old new
+pub told_at : (s : Script) (t : Table) (devices : List DeviceInfo) (words : List (ℕ × ℕ)) (begun r : Stack) (image image' : Option (List ℕ)) (old new : RigState) → IsOver s t devices words begun r image image' old new → (us : List Stored) → old.units ≡ Some us → IsTold s t devices us begun old new
 told_at s t devices words begun r image image' old new o us e =
     let after = left_told image image' old.standing new.standing old.units new.units us e o.laid o.laid_after o.tells in
     let told : units_told old.standing image ≡ Some us = sym o.laid ∙ e in
@@ -149,7 +150,7 @@ told_at s t devices words begun r image image' old new o us e =
       same = shapes' ∙ ap specs_of o.goes.standing ∙ sym shapes;
     }
 
-pub walked_at : (s : Script) (t : Table) (devices : List DeviceInfo) (words : List (ℕ × ℕ)) (begun r : Stack) (image image' : Option (List ℕ)) (old new : Outside) → ToldLaw → (o : IsOver s t devices words begun r image image' old new) → (us : List Stored) → old.units ≡ Some us → medium_lines r.replies.items ≡ 0 →
+pub walked_at : (s : Script) (t : Table) (devices : List DeviceInfo) (words : List (ℕ × ℕ)) (begun r : Stack) (image image' : Option (List ℕ)) (old new : RigState) → ToldLaw → (o : IsOver s t devices words begun r image image' old new) → (us : List Stored) → old.units ≡ Some us → medium_lines r.replies.items ≡ 0 →
     (left : List Stored) × ((new.units ≡ Some left) × HasWalked s t us left r.pool o.goes.more r.replies.items)
 walked_at s t devices words begun r image image' old new law o us e none =
     let told = told_at s t devices words begun r image image' old new o us e in
@@ -159,7 +160,7 @@ walked_at s t devices words begun r image image' old new law o us e none =
     law s t us told.left (length old.log) r new.armed new.standing new.log o.suits o.lines told.made told.bound told.stored told.same o.stack o.ops none ends' o.ended in
     (told.left, (told.left_are, subst (λ (more : List Entry). HasWalked s t us told.left r.pool more r.replies.items) (rest_is s t devices words begun r image image' old new o) walked))
 
-pub fallen_at : (s : Script) (t : Table) (devices : List DeviceInfo) (words : List (ℕ × ℕ)) (begun r : Stack) (image image' : Option (List ℕ)) (old new : Outside) → FallenLaw → (o : IsOver s t devices words begun r image image' old new) → (us : List Stored) → old.units ≡ Some us →
+pub fallen_at : (s : Script) (t : Table) (devices : List DeviceInfo) (words : List (ℕ × ℕ)) (begun r : Stack) (image image' : Option (List ℕ)) (old new : RigState) → FallenLaw → (o : IsOver s t devices words begun r image image' old new) → (us : List Stored) → old.units ≡ Some us →
     (left : List Stored) × ((new.units ≡ Some left) × HasFallen s t us left r.pool o.goes.more r.replies.items)
 fallen_at s t devices words begun r image image' old new law o us e =
     let told = told_at s t devices words begun r image image' old new o us e in

@@ -1,14 +1,13 @@
 -- Steps one after another.
-use Rattle.std.proofs.Common.{◌≤◌, ◌++◌, ◌∙◌, ℕ, List, ap, arith}
+use Rattle.std.proofs.Common.{◌≤◌, ◌++◌, ◌∙◌, ℕ, ap, arith}
 use Rattle.std.proofs.lemmas.List.{append_assoc}
-use Rattle.rig_api.specs.Log.{Entry}
-use Rattle.rig_api.specs.Telling.{Standing}
+use Rattle.rig_api.specs.State.{RigState}
 use Rattle.stack_core.specs.Stacks.{GoesOn, Stays}
 use Rattle.dix_base.specs.Told.{Calm}
 use Rattle.stack_core.specs.declared.stack.Stack.{Stack}
-use Rattle.script_stack.specs.Going.{Outside, Went}
+use Rattle.script_stack.specs.Going.{Went}
 
-pub went_nowhere : (s : Stack) (o : Outside) → Went s o s o
+pub went_nowhere : (s : Stack) (o : RigState) → Went s o s o
 went_nowhere s o = record { walks = λ m n opening first w. w; told = λ m n opening first w calm. w; falling = λ m n opening first w. w; silent = λ calm h. h; faults = omega arith }
 
 calm-first : (a b c : ℕ) → a ≤ b → b ≤ c → Calm a c → Calm a b
@@ -17,7 +16,7 @@ calm-first a b c l k h = let x = h.0 in let y = h.1 in (omega arith, omega arith
 calm-then : (a b c : ℕ) → a ≤ b → b ≤ c → Calm a c → Calm b c
 calm-then a b c l k h = let x = h.0 in let y = h.1 in (omega arith, omega arith)
 
-pub went_on : (s : Stack) (o : Outside) (s' : Stack) (o' : Outside) (s'' : Stack) (o'' : Outside) → Went s o s' o' → Went s' o' s'' o'' → Went s o s'' o''
+pub went_on : (s : Stack) (o : RigState) (s' : Stack) (o' : RigState) (s'' : Stack) (o'' : RigState) → Went s o s' o' → Went s' o' s'' o'' → Went s o s'' o''
 went_on s o s' o' s'' o'' a b = record {
   walks = λ m n opening first w. b.walks m n opening first (a.walks m n opening first w);
   told = λ m n opening first w calm. b.told m n opening first (a.told m n opening first w (calm-first o.faults o'.faults o''.faults a.faults b.faults calm)) (calm-then o.faults o'.faults o''.faults a.faults b.faults calm);
@@ -27,11 +26,11 @@ went_on s o s' o' s'' o'' a b = record {
 }
 
 -- the rig goes on from one to the next
-pub goes_then : (st st' st'' : Standing) (log log' log'' : List Entry) (count count' count'' : ℕ) → GoesOn st st' log log' count count' → GoesOn st' st'' log' log'' count' count'' → GoesOn st st'' log log'' count count''
-goes_then st st' st'' log log' log'' count count' count'' a b = record {
+pub goes_then : (s s' s'' : RigState) → GoesOn s s' → GoesOn s' s'' → GoesOn s s''
+goes_then s s' s'' a b = record {
   standing = b.standing ∙ a.standing;
   more = a.more ++ b.more;
-  records = b.records ∙ (ap (λ l. l ++ b.more) a.records ∙ append_assoc log a.more b.more);
+  records = b.records ∙ (ap (λ l. l ++ b.more) a.records ∙ append_assoc s.log a.more b.more);
   faults = (let x = a.faults in let y = b.faults in omega arith);
 }
 

@@ -5,6 +5,7 @@ use Rattle.target_answer.specs.Target.{Stored}
 use Rattle.target_answer.specs.declared.units.UnitSpec.{UnitSpec}
 use Rattle.rig_api.specs.Log.{Entry}
 use Rattle.rig_api.specs.Telling.{Standing, spec_at, specs_of}
+use Rattle.rig_api.specs.State.{RigState}
 use Rattle.rig_discovery.specs.Discovery.{info_of}
 use Rattle.stack_ops.specs.declared.reply.Reply.{Reply}
 use Rattle.stack_ops.specs.declared.reply.Reply.TheVariants.{Silent}
@@ -31,7 +32,6 @@ use Rattle.stack_core.specs.Walking.{EndsFallen, Walks, WalksFalling, WalksTold,
 use Rattle.stack_steps.specs.Does.{Holds}
 use Rattle.stack_view.specs.Steps.{enabled}
 use Rattle.stack_view.specs.View.{View}
-use Rattle.script_stack.specs.Going.{Outside}
 use Rattle.script_stack.specs.Sends.{SendsFor, by_words}
 
 -- which overwrites failed, by the replies; ops are numbered from 1
@@ -107,7 +107,7 @@ BeginsFalling s t devices r = (fails : ℕ → Bool) (us : List Stored) (st : St
 -- ---- at the end
 
 -- A script was run by these words over a rig, to a volume of whose devices it was bound: all ops of its stack have ended. The rig stands as it did, and its count of faults didn't fall. The records from then on back the replies, and are those that its steps send by these words; lines that name the medium are at most as many as the count rose. Where the rig tells its blocks, and no line names the medium, the script's ops were done one after another at the target; and whatever lines name it, so they were but for what the store calls that failed left.
-pub record Ran (s : Script) (t : Table) (devices : List DeviceInfo) (words : List (ℕ × ℕ)) (before after : Outside) (r : Stack) : Type 0 where
+pub record Ran (s : Script) (t : Table) (devices : List DeviceInfo) (words : List (ℕ × ℕ)) (before after : RigState) (r : Stack) : Type 0 where
   pub stack : IsStack r
   pub ops : r.sheet.ops ≡ s.ops
   pub ios : r.sheet.ios.items ≡ requests_from s.mode.dix s.pages s.ops

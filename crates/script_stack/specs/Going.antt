@@ -1,25 +1,14 @@
 -- What some steps of a stack keep, over any rig and over one that tells its blocks.
-use Rattle.std.specs.Prelude.{ℕ, ◌≤◌, List, Option}
+use Rattle.std.specs.Prelude.{ℕ, ◌≤◌}
 use Rattle.dix_base.specs.Told.{Calm}
-use Rattle.fault_schedule.specs.declared.fault.FaultLine.{FaultLine}
-use Rattle.target_answer.specs.Target.{Stored}
-use Rattle.rig_api.specs.Log.{Entry}
-use Rattle.rig_api.specs.Telling.{Standing}
+use Rattle.rig_api.specs.State.{RigState}
 use Rattle.block_path.specs.Acts.{State}
 use Rattle.whole_run.specs.Settings.{Setting}
 use Rattle.stack_core.specs.declared.stack.Stack.{Stack}
 use Rattle.stack_core.specs.Walking.{NoneFailed, Walks, WalksFalling, WalksTold}
 
--- what a rig shows of itself to a stack's walk
-pub record Outside : Type 0 where
-  pub units : Option (List Stored)
-  pub armed : List FaultLine
-  pub standing : Standing
-  pub log : List Entry
-  pub faults : ℕ
-
 -- A stack that follows the walk by what stands on record still does. So does one that follows it at the target while the count of faults doesn't rise; and then no overwrite fails. Whether or not it rises, so does one that follows it where store calls may fail.
-pub record Went (old : Stack) (before : Outside) (new : Stack) (after : Outside) : Type 0 where
+pub record Went (old : Stack) (before : RigState) (new : Stack) (after : RigState) : Type 0 where
   pub walks : (m : Setting) (n : ℕ) (opening : State) (first : ℕ) → Walks m n opening first old before.standing before.log → Walks m n opening first new after.standing after.log
   pub told : (m : Setting) (n : ℕ) (opening : State) (first : ℕ) → WalksTold m n opening first old before.units before.armed before.standing before.log → Calm before.faults after.faults
       → WalksTold m n opening first new after.units after.armed after.standing after.log

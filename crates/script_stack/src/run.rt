@@ -16,20 +16,19 @@ use stack_core::Stack;
 /// Does the steps of these words and cuts, as far as steps are left.
 fn run_schedule<R: Rig>(stack: &mut Stack, schedule: &[(u32, u32)], rig: &mut R)
     requires stack { IsStack stack.old }
-    requires rig { Reaches stack.old (is_some (R.image rig.old)) (R.standing rig.old) }
-    requires spare { HasSpare stack.old (R.standing rig.old) (R.room rig.old) }
+    requires rig { Reaches stack.old (is_some (R.state rig.old).image) (R.state rig.old).standing }
+    requires spare { HasSpare stack.old (R.state rig.old).standing (R.state rig.old).room }
     ensures stack { IsStack stack.new }
     ensures stays { Stays stack.old stack.new }
-    ensures tells { is_some (R.image rig.new) ≡ is_some (R.image rig.old) }
-    ensures rig { Reaches stack.new (is_some (R.image rig.new)) (R.standing rig.new) }
-    ensures goes { GoesOn (R.standing rig.old) (R.standing rig.new) (R.log rig.old) (R.log rig.new) (R.faults rig.old) (R.faults rig.new) }
-    ensures armed { R.armed rig.new ≡ R.armed rig.old }
-    ensures spare { HasSpare stack.new (R.standing rig.new) (R.room rig.new) }
-    ensures went { Went stack.old (record { units = R.units rig.old; armed = R.armed rig.old; standing = R.standing rig.old; log = R.log rig.old; faults = R.faults rig.old })
-        stack.new (record { units = R.units rig.new; armed = R.armed rig.new; standing = R.standing rig.new; log = R.log rig.new; faults = R.faults rig.new }) }
-    ensures sends { stack.old.machine.steps ≡ 0 → SendsBy (entries_of schedule.now) stack.old stack.new (R.log rig.old) (R.log rig.new) }
+    ensures tells { is_some (R.state rig.new).image ≡ is_some (R.state rig.old).image }
+    ensures rig { Reaches stack.new (is_some (R.state rig.new).image) (R.state rig.new).standing }
+    ensures goes { GoesOn (R.state rig.old) (R.state rig.new) }
+    ensures armed { (R.state rig.new).armed ≡ (R.state rig.old).armed }
+    ensures spare { HasSpare stack.new (R.state rig.new).standing (R.state rig.new).room }
+    ensures went { Went stack.old (R.state rig.old) stack.new (R.state rig.new) }
+    ensures sends { stack.old.machine.steps ≡ 0 → SendsBy (entries_of schedule.now) stack.old stack.new (R.state rig.old).log (R.state rig.new).log }
     ensures long { stack.old.machine.steps ≡ 0 → HasStep (plan_in stack.new.sheet) stack.new.machine → length schedule.now ≤ stack.new.machine.steps }
-    ensures counts { (first : ℕ) → HasCounted first stack.old (R.faults rig.old) → HasCounted first stack.new (R.faults rig.new) }
+    ensures counts { (first : ℕ) → HasCounted first stack.old (R.state rig.old).faults → HasCounted first stack.new (R.state rig.new).faults }
 {
     for (word, cut) in schedule {
         if stack.finished() {
@@ -42,19 +41,18 @@ fn run_schedule<R: Rig>(stack: &mut Stack, schedule: &[(u32, u32)], rig: &mut R)
 /// Does the first step that may be taken, until all ops have ended.
 fn run_rest<R: Rig>(stack: &mut Stack, rig: &mut R)
     requires stack { IsStack stack.old }
-    requires rig { Reaches stack.old (is_some (R.image rig.old)) (R.standing rig.old) }
-    requires spare { HasSpare stack.old (R.standing rig.old) (R.room rig.old) }
+    requires rig { Reaches stack.old (is_some (R.state rig.old).image) (R.state rig.old).standing }
+    requires spare { HasSpare stack.old (R.state rig.old).standing (R.state rig.old).room }
     ensures stack { IsStack stack.new }
     ensures stays { Stays stack.old stack.new }
     ensures ended { (v : View) → Holds (plan_in stack.new.sheet) stack.new.machine v → enabled (plan_in stack.new.sheet) v ≡ [] }
-    ensures tells { is_some (R.image rig.new) ≡ is_some (R.image rig.old) }
-    ensures rig { Reaches stack.new (is_some (R.image rig.new)) (R.standing rig.new) }
-    ensures went { Went stack.old (record { units = R.units rig.old; armed = R.armed rig.old; standing = R.standing rig.old; log = R.log rig.old; faults = R.faults rig.old })
-        stack.new (record { units = R.units rig.new; armed = R.armed rig.new; standing = R.standing rig.new; log = R.log rig.new; faults = R.faults rig.new }) }
-    ensures goes { GoesOn (R.standing rig.old) (R.standing rig.new) (R.log rig.old) (R.log rig.new) (R.faults rig.old) (R.faults rig.new) }
-    ensures armed { R.armed rig.new ≡ R.armed rig.old }
-    ensures sends { (es : List Entry) → (HasStep (plan_in stack.old.sheet) stack.old.machine → length es ≤ stack.old.machine.steps) → SendsBy es stack.old stack.new (R.log rig.old) (R.log rig.new) }
-    ensures counts { (first : ℕ) → HasCounted first stack.old (R.faults rig.old) → HasCounted first stack.new (R.faults rig.new) }
+    ensures tells { is_some (R.state rig.new).image ≡ is_some (R.state rig.old).image }
+    ensures rig { Reaches stack.new (is_some (R.state rig.new).image) (R.state rig.new).standing }
+    ensures went { Went stack.old (R.state rig.old) stack.new (R.state rig.new) }
+    ensures goes { GoesOn (R.state rig.old) (R.state rig.new) }
+    ensures armed { (R.state rig.new).armed ≡ (R.state rig.old).armed }
+    ensures sends { (es : List Entry) → (HasStep (plan_in stack.old.sheet) stack.old.machine → length es ≤ stack.old.machine.steps) → SendsBy es stack.old stack.new (R.state rig.old).log (R.state rig.new).log }
+    ensures counts { (first : ℕ) → HasCounted first stack.old (R.state rig.old).faults → HasCounted first stack.new (R.state rig.new).faults }
 {
     while !stack.finished() {
         stack.step(0, 0, rig);
@@ -65,19 +63,18 @@ fn run_rest<R: Rig>(stack: &mut Stack, rig: &mut R)
 /// may be taken.
 pub fn run_all<R: Rig>(stack: &mut Stack, schedule: &[(u32, u32)], rig: &mut R)
     requires stack { IsStack stack.old }
-    requires rig { Reaches stack.old (is_some (R.image rig.old)) (R.standing rig.old) }
-    requires spare { HasSpare stack.old (R.standing rig.old) (R.room rig.old) }
+    requires rig { Reaches stack.old (is_some (R.state rig.old).image) (R.state rig.old).standing }
+    requires spare { HasSpare stack.old (R.state rig.old).standing (R.state rig.old).room }
     ensures stack { IsStack stack.new }
     ensures stays { Stays stack.old stack.new }
     ensures ended { (v : View) → Holds (plan_in stack.new.sheet) stack.new.machine v → enabled (plan_in stack.new.sheet) v ≡ [] }
-    ensures tells { is_some (R.image rig.new) ≡ is_some (R.image rig.old) }
-    ensures rig { Reaches stack.new (is_some (R.image rig.new)) (R.standing rig.new) }
-    ensures went { Went stack.old (record { units = R.units rig.old; armed = R.armed rig.old; standing = R.standing rig.old; log = R.log rig.old; faults = R.faults rig.old })
-        stack.new (record { units = R.units rig.new; armed = R.armed rig.new; standing = R.standing rig.new; log = R.log rig.new; faults = R.faults rig.new }) }
-    ensures goes { GoesOn (R.standing rig.old) (R.standing rig.new) (R.log rig.old) (R.log rig.new) (R.faults rig.old) (R.faults rig.new) }
-    ensures armed { R.armed rig.new ≡ R.armed rig.old }
-    ensures sends { stack.old.machine.steps ≡ 0 → SendsBy (entries_of schedule.now) stack.old stack.new (R.log rig.old) (R.log rig.new) }
-    ensures counts { (first : ℕ) → HasCounted first stack.old (R.faults rig.old) → HasCounted first stack.new (R.faults rig.new) }
+    ensures tells { is_some (R.state rig.new).image ≡ is_some (R.state rig.old).image }
+    ensures rig { Reaches stack.new (is_some (R.state rig.new).image) (R.state rig.new).standing }
+    ensures went { Went stack.old (R.state rig.old) stack.new (R.state rig.new) }
+    ensures goes { GoesOn (R.state rig.old) (R.state rig.new) }
+    ensures armed { (R.state rig.new).armed ≡ (R.state rig.old).armed }
+    ensures sends { stack.old.machine.steps ≡ 0 → SendsBy (entries_of schedule.now) stack.old stack.new (R.state rig.old).log (R.state rig.new).log }
+    ensures counts { (first : ℕ) → HasCounted first stack.old (R.state rig.old).faults → HasCounted first stack.new (R.state rig.new).faults }
 {
     run_schedule(stack, schedule, rig);
     run_rest(stack, rig);

@@ -42,8 +42,8 @@ pub fn ready_script<R: Rig>(
     requires few { length devices.now ≤ 8 }
     requires made { MadeFor table devices.now script.block }
     requires bound { binding_fault script table devices.now ≡ None }
-    requires count { length devices.now ≡ (R.standing rig.old).devices }
-    requires told { is_some (R.image rig.old) ≡ true → devices.now ≡ map info_of (specs_of (R.standing rig.old)) }
+    requires count { length devices.now ≡ (R.state rig.old).standing.devices }
+    requires told { is_some (R.state rig.old).image ≡ true → devices.now ≡ map info_of (specs_of (R.state rig.old).standing) }
     ensures stack { IfOk result (λ r. IsStack r.stack) }
     ensures first { IfOk result (λ r. Holds (plan_in r.stack.sheet) r.stack.machine (start (plan_in r.stack.sheet))) }
     ensures ops { IfOk result (λ r. r.stack.sheet.ops ≡ script.ops) }
@@ -60,14 +60,10 @@ pub fn ready_script<R: Rig>(
     ensures told { IfOk result (λ r. BeginsTold script table devices.now r.stack) }
     ensures falling { IfOk result (λ r. BeginsFalling script table devices.now r.stack) }
     ensures silent { IfOk result (λ r. NoneFailed r.stack.replies.items) }
-    ensures reaches { IfOk result (λ r. Reaches r.stack (is_some (R.image rig.new)) (R.standing rig.new)) }
-    ensures spare { IfOk result (λ r. HasSpare r.stack (R.standing rig.new) (R.room rig.new)) }
-    ensures armed { OnOk result (R.armed rig.new ≡ script.faults) }
-    ensures unarmed { OnErr result (R.armed rig.new ≡ R.armed rig.old) }
-    ensures image { R.image rig.new ≡ R.image rig.old }
-    ensures standing { R.standing rig.new ≡ R.standing rig.old }
-    ensures log { R.log rig.new ≡ R.log rig.old }
-    ensures count { R.faults rig.new ≡ R.faults rig.old }
+    ensures reaches { IfOk result (λ r. Reaches r.stack (is_some (R.state rig.new).image) (R.state rig.new).standing) }
+    ensures spare { IfOk result (λ r. HasSpare r.stack (R.state rig.new).standing (R.state rig.new).room) }
+    ensures armed { OnOk result (R.state rig.new ≡ record (R.state rig.old) { room = (R.state rig.new).room; armed = script.faults }) }
+    ensures unarmed { OnErr result (R.state rig.new ≡ record (R.state rig.old) { room = (R.state rig.new).room }) }
 {
     let faults = script.faults.copy(alloc)?;
     let run = start_script(alloc, script, table, devices)?;
@@ -96,18 +92,13 @@ pub fn run_bound<R: Rig>(
     requires few { length devices.now ≤ 8 }
     requires made { MadeFor table devices.now script.block }
     requires bound { binding_fault script table devices.now ≡ None }
-    requires count { length devices.now ≡ (R.standing rig.old).devices }
-    requires sizes { SizesAre devices.now (R.standing rig.old) }
-    requires told { is_some (R.image rig.old) ≡ true → devices.now ≡ map info_of (specs_of (R.standing rig.old)) }
-    ensures ran { IfOk result (Ran script table devices.now schedule.now
-        (record { units = R.units rig.old; armed = R.armed rig.old; standing = R.standing rig.old; log = R.log rig.old; faults = R.faults rig.old })
-        (record { units = R.units rig.new; armed = R.armed rig.new; standing = R.standing rig.new; log = R.log rig.new; faults = R.faults rig.new })) }
-    ensures tells { is_some (R.image rig.new) ≡ is_some (R.image rig.old) }
-    ensures standing { R.standing rig.new ≡ R.standing rig.old }
-    ensures log { OnErr result (R.log rig.new ≡ R.log rig.old) }
-    ensures units { OnErr result (R.units rig.new ≡ R.units rig.old) }
-    ensures armed { OnErr result (R.armed rig.new ≡ R.armed rig.old) }
-    ensures faults { OnErr result (R.faults rig.new ≡ R.faults rig.old) }
+    requires count { length devices.now ≡ (R.state rig.old).standing.devices }
+    requires sizes { SizesAre devices.now (R.state rig.old).standing }
+    requires told { is_some (R.state rig.old).image ≡ true → devices.now ≡ map info_of (specs_of (R.state rig.old).standing) }
+    ensures ran { IfOk result (Ran script table devices.now schedule.now (R.state rig.old) (R.state rig.new)) }
+    ensures tells { is_some (R.state rig.new).image ≡ is_some (R.state rig.old).image }
+    ensures standing { (R.state rig.new).standing ≡ (R.state rig.old).standing }
+    ensures unarmed { OnErr result (R.state rig.new ≡ record (R.state rig.old) { room = (R.state rig.new).room }) }
 {
     let Run { mut stack, .. } = ready_script(alloc, script, table, devices, rig)?;
     run_all(&mut stack, schedule, rig);

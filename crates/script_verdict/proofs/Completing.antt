@@ -4,11 +4,12 @@ use Rattle.std.specs.Prelude.{IfErr, MatchResult, is_some, nat_lt}
 use Rattle.std.proofs.lemmas.Bool.{lt-ltb}
 use Rattle.dix_base.specs.Told.{Calm, Rose, Took}
 use Rattle.image_commands.specs.Causes.{IsBad}
-use Rattle.image_commands.specs.Views.{View, WasOpened}
+use Rattle.image_commands.specs.Views.{WasOpened}
 use Rattle.pi_tuple.specs.declared.checks.PiType.{PiType}
-use Rattle.rig_api.specs.Head.{Head, IsHeadOf, head_fault, head_of}
+use Rattle.rig_api.specs.Head.{head_fault, head_of}
 use Rattle.rig_api.specs.Telling.{units_told}
 use Rattle.rig_api.specs.declared.rig.RigFault.{RigFault}
+use Rattle.rig_api.specs.State.{RigState}
 use Rattle.script_text.specs.Bindings.{binding_fault}
 use Rattle.script_text.specs.Language.{script_in}
 use Rattle.script_text.specs.declared.fault.ScriptFault.{ScriptFault}
@@ -64,34 +65,34 @@ same_parts a b x y e k = rw (e, k) refl
 pub table_is : (script : Script) (devices ds : List DeviceInfo) (table : Table) → devices ≡ ds → HasTable script devices table → table ≡ table_over script.entries ds
 table_is script devices ds table d h = same_parts table.entries script.entries table.ty (volume_type script.entries ds) h.entries (h.ty ∙ ap (volume_type script.entries) d)
 
-not_unbound : (image : List ℕ) (script : Script) (bad : ScriptFault) (name : List ℕ) (old new : View) → old.image ≡ Some image → binding_fault script (table_over script.entries (devices_of image)) (devices_of image) ≡ None → IsUnbound bad script name old new → ⊥
+not_unbound : (image : List ℕ) (script : Script) (bad : ScriptFault) (name : List ℕ) (old new : RigState) → old.image ≡ Some image → binding_fault script (table_over script.entries (devices_of image)) (devices_of image) ≡ None → IsUnbound bad script name old new → ⊥
 not_unbound image script bad name old new i b u =
     let d : u.devices ≡ devices_of image = image_devices name u.devices old new image u.asked i in
     let t : u.table ≡ table_over script.entries (devices_of image) = table_is script u.devices (devices_of image) u.table d u.made in
     let k : ◌≡◌ {A = Option ScriptFault} None (Some bad) = sym b ∙ ap (λ v. binding_fault script (table_over script.entries (devices_of image)) v) (sym d) ∙ ap (λ v. binding_fault script v u.devices) (sym t) ∙ u.bound in
     absurd (cc)
 
-pub not_bad : (image : List ℕ) (script : Script) (entry : ℕ) (kind : VolumeKind) (name : List ℕ) (old new : View) → old.image ≡ Some image → table_fault script.entries (devices_of image) script.block ≡ None → HasBadVolume entry kind script name old new → ⊥
+pub not_bad : (image : List ℕ) (script : Script) (entry : ℕ) (kind : VolumeKind) (name : List ℕ) (old new : RigState) → old.image ≡ Some image → table_fault script.entries (devices_of image) script.block ≡ None → HasBadVolume entry kind script name old new → ⊥
 not_bad image script entry kind name old new i t u =
     let d : u.devices ≡ devices_of image = image_devices name u.devices old new image u.asked i in
     let k : ◌≡◌ {A = Option VolumeFault} None (Some (At entry kind)) = sym t ∙ ap (λ v. table_fault script.entries v script.block) (sym d) ∙ u.bad in
     absurd (cc)
 
-pub no_head_fault : (image : List ℕ) (x : RigFault) (name : List ℕ) (old new : View) → old.image ≡ Some image → new.image ≡ old.image → head_fault (head_of image) ≡ None → WasOpened name (Some x) old new → ⊥
+pub no_head_fault : (image : List ℕ) (x : RigFault) (name : List ℕ) (old new : RigState) → old.image ≡ Some image → new.image ≡ old.image → head_fault (head_of image) ≡ None → WasOpened name (Some x) old new → ⊥
 no_head_fault image x name old new i same h opened =
     let e : new.standing.head ≡ head_of image = headed new.standing.head image new.image (same ∙ i) opened.head in
     let k : ◌≡◌ {A = Option RigFault} None (Some x) = sym h ∙ ap head_fault (sym e) ∙ opened.judged in
     absurd (cc)
 
 -- a rig that tells its image answers rightly for its capacities
-pub told_is_good : (image name : List ℕ) (dev : ℕ) (old new : View) → old.image ≡ Some image → IsBad name dev old new → ⊥
+pub told_is_good : (image name : List ℕ) (dev : ℕ) (old new : RigState) → old.image ≡ Some image → IsBad name dev old new → ⊥
 told_is_good image name dev old new e b =
-    let told : is_some b.between.seen.units ≡ true = ap is_some (b.since.laid ∙ ap (units_told b.between.standing) (b.since.kept.image ∙ e)) in
-    let untold : is_some b.between.seen.units ≡ false = b.untold in
+    let told : is_some b.between.units ≡ true = ap is_some (b.since.laid ∙ ap (units_told b.between.standing) (b.since.kept.image ∙ e)) in
+    let untold : is_some b.between.units ≡ false = b.untold in
     let k : true ≡ false = sym told ∙ untold in
     absurd (cc)
 
-pub stops_from_outside : (r : Refusal) (script : Script) (name : List ℕ) (old new : View) → CauseStopped r script name old new → StopsFromOutside r script old
+pub stops_from_outside : (r : Refusal) (script : Script) (name : List ℕ) (old new : RigState) → CauseStopped r script name old new → StopsFromOutside r script old
 stops_from_outside (refusal.Script bad) script name old new c = λ image i h t b. absurd (not_unbound image script bad name old new i b c)
 stops_from_outside (refusal.Image x) script name old new c = λ image i h t b. absurd (no_head_fault image x name old new i c.1.image h c.0)
 stops_from_outside (refusal.BadCapacity dev) script name old new c = λ image i h t b. absurd (told_is_good image name dev old new i c)

@@ -2,7 +2,6 @@
 use Rattle.std.proofs.Common.{ℕ, ◌≡◌, ◌⊎◌, inl, inr, ◌+◌, List, Option, Result, Ok, Err, sym, subst, arith}
 use Rattle.std.specs.Prelude.{IfErr, IfOk, MatchResult}
 use Rattle.image_commands.specs.Causes.{CauseUntold}
-use Rattle.image_commands.specs.Views.{View}
 use Rattle.image_commands.specs.declared.fault.Fault.{Fault}
 use Rattle.image_commands.specs.declared.fault.Fault.TheVariants as fault
 use Rattle.script_lines.specs.declared.kind.ScriptKind.TheVariants.{Memory as MemoryKind}
@@ -16,6 +15,8 @@ use Rattle.script_verdict.specs.Working.{CauseUnbound, CauseUnread, refusal_of}
 use Rattle.script_verdict.specs.declared.verdict.Finished.{Finished}
 use Rattle.script_verdict.specs.declared.refusal.Refusal.{Refusal}
 use Rattle.script_verdict.specs.declared.refusal.Refusal.TheVariants as refusal
+use Rattle.rig_api.specs.Log.{Room}
+use Rattle.rig_api.specs.State.{RigState}
 
 pub unread : (bad : ScriptFault) (r : Refusal) (want : Result Script ScriptFault) → (bad.kind ≡ MemoryKind) ⊎ (want ≡ Err bad) → (bad.kind ≡ MemoryKind → r ≡ refusal.Memory) → (r ≡ refusal.Memory) ⊎ (r ≡ refusal.Script bad) → CauseUnread r want
 unread bad r want (inl k) memory either = inl (memory k)
@@ -38,14 +39,14 @@ untaken_so (Ok s) text a b o n w h = tt
 untaken_so (Err r) text a b o n w h = untaken_text r text a b o n w h
 
 -- the devices aren't known
-pub untold : (x : Fault) (script : Script) (name : List ℕ) (old new : View) → CauseUntold x name old new → CauseStopped (refusal_of x) script name old new
+pub untold : (x : Fault) (script : Script) (name : List ℕ) (old new : RigState) → CauseUntold x name old new → CauseStopped (refusal_of x) script name old new
 untold (fault.Image x) script name old new c = c
 untold (fault.BadCapacity dev) script name old new c = c
 untold fault.RigFault script name old new c = c
 untold fault.Memory script name old new c = inl c
 
 -- there is no table over which the script may run
-pub unbound : (r : Refusal) (script : Script) (name : List ℕ) (devices : List DeviceInfo) (old new : View) → WasAsked name devices old new → CauseUnbound r script devices → CauseStopped r script name old new
+pub unbound : (r : Refusal) (script : Script) (name : List ℕ) (devices : List DeviceInfo) (old new : RigState) → WasAsked name devices old new → CauseUnbound r script devices → CauseStopped r script name old new
 unbound (refusal.Script bad) script name devices old new asked c = record { devices = devices; asked = asked; table = c.0; made = c.1; bound = c.2 }
 unbound (refusal.Image x) script name devices old new asked c = absurd c
 unbound (refusal.BadCapacity dev) script name devices old new asked c = absurd c
@@ -61,5 +62,17 @@ source_run (Ok run) f script read h = record { script = script; read = read; ran
 source_run (Err r) f script read h = inr (script, read, h)
 
 -- the images' devices told what they are before the call gave up
-pub asked_still : (name : List ℕ) (devices : List DeviceInfo) (old a b : View) → a.image ≡ b.image → a.standing ≡ b.standing → a.seen.units ≡ b.seen.units → a.seen.armed ≡ b.seen.armed → a.seen.log ≡ b.seen.log → a.seen.faults ≡ b.seen.faults → WasAsked name devices old b → WasAsked name devices old a
-asked_still name devices old a b i s u f l n asked = rw (i, s, u, f, l, n) asked
+pub asked_still : (name : List ℕ) (devices : List DeviceInfo) (old a b : RigState) (spare : Room) → a ≡ record b { room = spare } → WasAsked name devices old b → WasAsked name devices old a
+asked_still name devices old a b spare same asked =
+    let since = asked.told.since in
+    subst (λ (s : RigState). WasAsked name devices old s) (sym same)
+    (record {
+      told = record {
+        between = asked.told.between;
+        since = record { opened = since.opened; kept = since.kept; laid = since.laid; image = since.image; units = since.units; standing = since.standing; count = since.count };
+        armed = asked.told.armed;
+        found = asked.told.found;
+        devices_are = asked.told.devices_are;
+      };
+      all = asked.all;
+    })

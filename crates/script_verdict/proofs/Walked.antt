@@ -5,15 +5,16 @@ use Rattle.std.specs.List.{list_any}
 use Rattle.std.proofs.lemmas.Bool.{false≢true, or_parts}
 use Rattle.page_pool.specs.Cells.{flat}
 use Rattle.dix_base.specs.Told.{AreOctets}
-use Rattle.fault_schedule.specs.declared.fault.FaultLine.{FaultLine}
 use Rattle.target_answer.specs.Target.{Stored}
-use Rattle.rig_api.specs.Log.{Entry}
+use Rattle.rig_api.specs.Log.{Entry, Room}
+use Rattle.rig_api.specs.State.{RigState}
 use Rattle.volume_table.specs.declared.device.DeviceInfo.{DeviceInfo}
 use Rattle.volume_table.specs.Tables.{Table}
 use Rattle.script_text.specs.declared.script.Script.{Script}
 use Rattle.stack_core.specs.declared.stack.Stack.{Stack}
 use Rattle.stack_ops.specs.declared.reply.Reply.{Reply}
 use Rattle.stack_core.specs.Mediums.{medium_lines}
+use Rattle.stack_core.specs.Stacks.{GoesOn}
 use Rattle.stack_core.specs.Walking.{NoneFailed, is_medium}
 use Rattle.run_record.specs.Records.{recorded}
 use Rattle.run_record.specs.ToldRun.{told}
@@ -21,7 +22,7 @@ use Rattle.stack_ops.specs.declared.reply.Reply.TheVariants.{Silent}
 use Rattle.script_stack.specs.Followed.{HasFallen, HasWalked, IsBackedBy, failed_in, none_fails, opening_of, setting_of, unit_of}
 use Rattle.stack_walks.specs.Overwrites.{is_overwrite}
 use Rattle.run_falls.specs.Falls.{of_blocks}
-use Rattle.script_stack.specs.Going.{Outside}
+use Rattle.script_stack.specs.Going.{Went}
 use Rattle.script_stack.proofs.Ended.{BackedLaw, FallenLaw, IsOver, MediumLaw, ToldLaw, backed_by, fallen_at, few_lines, sent_by, told_at, walked_at}
 use Rattle.script_stack.proofs.SendsBy.{AllLaw, FewLaw}
 use Rattle.script_stack.proofs.Words.{sends_own}
@@ -37,7 +38,6 @@ use Rattle.script_verdict.proofs.Devices.{image_holds}
 use Rattle.script_verdict.proofs.Fallen.{BroughtFallLaw, Ends, OwnFallLaw, ReadsFallLaw, served}
 use Rattle.script_verdict.proofs.Layers.{names-faults, names-layers, none-medium}
 use Rattle.script_verdict.proofs.Premises.{detectable_run, plain_run}
-use Rattle.image_commands.specs.Views.{View}
 use Rattle.page_pool.specs.declared.segs.Seg.{Seg}
 use Rattle.integrity_payload.specs.declared.payload.Owner.{Owner}
 use Rattle.whole_run.specs.ReadsAs.{ReadsRightly, read_op}
@@ -59,41 +59,52 @@ use Rattle.whole_run.specs.ScriptWalk.{script_replies, script_walk}
 use Rattle.whole_run.specs.Settings.{Setting}
 use Rattle.whole_run.specs.UnderMap.{IsUnder, NoEscape, address_of, opened}
 
--- as it is seen by a stack's walk
-abbrev pub outside : View → List FaultLine → Outside
-outside v armed = record { units = v.seen.units; armed = armed; standing = v.standing; log = v.seen.log; faults = v.seen.faults }
+-- as a stack's walk begins on it
+abbrev pub armed_for : Script → RigState → RigState
+armed_for s v = record v { armed = s.faults }
+
+-- what goes on from the rig made ready goes on from it
+pub goes_from : (s : Script) (told ready end : RigState) (spare : Room) → ready ≡ record told { room = spare; armed = s.faults } → GoesOn ready end → GoesOn (armed_for s told) end
+goes_from s told ready end spare same goes =
+    let g : GoesOn (record told { room = spare; armed = s.faults }) end = subst (λ (v : RigState). GoesOn v end) same goes in
+    record { standing = g.standing; more = g.more; records = g.records; faults = g.faults }
+
+pub went_from : (s : Script) (begun r : Stack) (told ready end : RigState) (spare : Room) → ready ≡ record told { room = spare; armed = s.faults } → Went begun ready r end → Went begun (armed_for s told) r end
+went_from s begun r told ready end spare same went =
+    let w : Went begun (record told { room = spare; armed = s.faults }) r end = subst (λ (v : RigState). Went begun v r end) same went in
+    record { walks = w.walks; told = w.told; falling = w.falling; silent = w.silent; faults = w.faults }
 
 -- a script that keeps the rules of its language and was made ready, from which the stack went to its end, over a rig as a call sees it
-pub record IsDone (s : Script) (t : Table) (devices : List DeviceInfo) (begun r : Stack) (old new : View) (armed : List FaultLine) : Type 0 where
+pub record IsDone (s : Script) (t : Table) (devices : List DeviceInfo) (begun r : Stack) (old new : RigState) : Type 0 where
   pub keeps : Keeps s
   pub some : 0 < old.standing.devices
   pub octets : AreOctets old.image
-  pub faults : new.seen.armed ≡ s.faults
-  pub over : IsOver s t devices s.schedule begun r old.image new.image (outside old s.faults) (outside new armed)
+  pub faults : new.armed ≡ s.faults
+  pub over : IsOver s t devices s.schedule begun r old.image new.image (armed_for s old) new
 
 -- where the rig told these units, the script is bound to its volume over them
-bound_at : (s : Script) (t : Table) (devices : List DeviceInfo) (begun r : Stack) (old new : View) (armed : List FaultLine) (o : IsDone s t devices begun r old new armed) → (us : List Stored) → old.seen.units ≡ Some us → IsBoundOver s t us
-bound_at s t devices begun r old new armed o us e =
-    let told = told_at s t devices s.schedule begun r old.image new.image (outside old s.faults) (outside new armed) o.over us e in
+bound_at : (s : Script) (t : Table) (devices : List DeviceInfo) (begun r : Stack) (old new : RigState) (o : IsDone s t devices begun r old new) → (us : List Stored) → old.units ≡ Some us → IsBoundOver s t us
+bound_at s t devices begun r old new o us e =
+    let told = told_at s t devices s.schedule begun r old.image new.image (armed_for s old) new o.over us e in
     record { keeps = o.keeps; lines = o.over.lines; made = told.made; bound = told.bound; stored = told.stored }
 
-devices_at : (s : Script) (t : Table) (devices : List DeviceInfo) (begun r : Stack) (old new : View) (armed : List FaultLine) (o : IsDone s t devices begun r old new armed) → (us : List Stored) → old.seen.units ≡ Some us → devices ≡ map info_of (shapes_of us)
-devices_at s t devices begun r old new armed o us e = (told_at s t devices s.schedule begun r old.image new.image (outside old s.faults) (outside new armed) o.over us e).infos
+devices_at : (s : Script) (t : Table) (devices : List DeviceInfo) (begun r : Stack) (old new : RigState) (o : IsDone s t devices begun r old new) → (us : List Stored) → old.units ≡ Some us → devices ≡ map info_of (shapes_of us)
+devices_at s t devices begun r old new o us e = (told_at s t devices s.schedule begun r old.image new.image (armed_for s old) new o.over us e).infos
 
-bytes_at : (s : Script) (t : Table) (devices : List DeviceInfo) (begun r : Stack) (old new : View) (armed : List FaultLine) (o : IsDone s t devices begun r old new armed) → (us : List Stored) → old.seen.units ≡ Some us → All (All (λ x. x < 256)) (blocks_told us)
-bytes_at s t devices begun r old new armed o us e = blocks_octets old.standing old.image us o.octets (sym o.over.laid ∙ e)
+bytes_at : (s : Script) (t : Table) (devices : List DeviceInfo) (begun r : Stack) (old new : RigState) (o : IsDone s t devices begun r old new) → (us : List Stored) → old.units ≡ Some us → All (All (λ x. x < 256)) (blocks_told us)
+bytes_at s t devices begun r old new o us e = blocks_octets old.standing old.image us o.octets (sym o.over.laid ∙ e)
 
-walked : (s : Script) (t : Table) (devices : List DeviceInfo) (begun r : Stack) (old new : View) (armed : List FaultLine) → ToldLaw → (o : IsDone s t devices begun r old new armed) → (us : List Stored) → old.seen.units ≡ Some us → medium_lines r.replies.items ≡ 0 →
-    (left : List Stored) × (new.seen.units ≡ Some left) × HasWalked s t us left r.pool o.over.goes.more r.replies.items
-walked s t devices begun r old new armed law o us e unnamed =
-    let w = walked_at s t devices s.schedule begun r old.image new.image (outside old s.faults) (outside new armed) law o.over us e unnamed in
+walked : (s : Script) (t : Table) (devices : List DeviceInfo) (begun r : Stack) (old new : RigState) → ToldLaw → (o : IsDone s t devices begun r old new) → (us : List Stored) → old.units ≡ Some us → medium_lines r.replies.items ≡ 0 →
+    (left : List Stored) × (new.units ≡ Some left) × HasWalked s t us left r.pool o.over.goes.more r.replies.items
+walked s t devices begun r old new law o us e unnamed =
+    let w = walked_at s t devices s.schedule begun r old.image new.image (armed_for s old) new law o.over us e unnamed in
     (w.0, w.1.0, w.1.1)
 
 -- behind the adapter of a script's setting is a target, and none of its overwrites fails
-named : (s : Script) (t : Table) (devices : List DeviceInfo) (begun r : Stack) (old new : View) (armed : List FaultLine) → ToldLaw → (o : IsDone s t devices begun r old new armed) → (us : List Stored) → old.seen.units ≡ Some us → medium_lines r.replies.items ≡ 0 →
+named : (s : Script) (t : Table) (devices : List DeviceInfo) (begun r : Stack) (old new : RigState) → ToldLaw → (o : IsDone s t devices begun r old new) → (us : List Stored) → old.units ≡ Some us → medium_lines r.replies.items ≡ 0 →
     All NamesLayers r.replies.items
-named s t devices begun r old new armed law o us e unnamed =
-    let w = walked s t devices begun r old new armed law o us e unnamed in
+named s t devices begun r old new law o us e unnamed =
+    let w = walked s t devices begun r old new law o us e unnamed in
     subst (λ (replies : List Reply). All NamesLayers replies) (sym w.2.replies_are) (names-layers (setting_told s t us) s.faults refl (λ i. refl) s.ops (opening_told s us))
 
 -- the laws of a calm walk
@@ -113,11 +124,11 @@ plain_of s t us left pool log replies same under calm w =
       blocks = w.blocks ∙ u.blocks;
     }
 
-plain_at : (s : Script) (t : Table) (devices : List DeviceInfo) (begun r : Stack) (old new : View) (armed : List FaultLine) → ToldLaw → RepliesLaw → UnderLaw → (o : IsDone s t devices begun r old new armed) → (us : List Stored) → old.seen.units ≡ Some us → medium_lines r.replies.items ≡ 0 →
-    IsPlainRun s t us → (left : List Stored) × (new.seen.units ≡ Some left) × HasPlain s t us left r.pool r.replies.items
-plain_at s t devices begun r old new armed law same under o us e unnamed run =
-    let w = walked s t devices begun r old new armed law o us e unnamed in
-    (w.0, w.1, plain_of s t us w.0 r.pool o.over.goes.more r.replies.items same under (plain_run s t us (bound_at s t devices begun r old new armed o us e) (bytes_at s t devices begun r old new armed o us e) run) w.2)
+plain_at : (s : Script) (t : Table) (devices : List DeviceInfo) (begun r : Stack) (old new : RigState) → ToldLaw → RepliesLaw → UnderLaw → (o : IsDone s t devices begun r old new) → (us : List Stored) → old.units ≡ Some us → medium_lines r.replies.items ≡ 0 →
+    IsPlainRun s t us → (left : List Stored) × (new.units ≡ Some left) × HasPlain s t us left r.pool r.replies.items
+plain_at s t devices begun r old new law same under o us e unnamed run =
+    let w = walked s t devices begun r old new law o us e unnamed in
+    (w.0, w.1, plain_of s t us w.0 r.pool o.over.goes.more r.replies.items same under (plain_run s t us (bound_at s t devices begun r old new o us e) (bytes_at s t devices begun r old new o us e) run) w.2)
 
 -- the law of reads under scheduled faults
 abbrev pub DetectionLaw : Type 0
@@ -129,24 +140,24 @@ reads_rightly m devices ops opening replies law run same before after owner v n 
     subst (λ (r : List Reply). HasReadRightly m before owner v n body tuples opening r k) (sym (same ∙ ap (λ (all : List Op). script_replies m all opening) is))
     (law m devices before after owner v n k body tuples opening (subst (λ (all : List Op). IsShownRun m devices all opening) is run) l)
 
-shown_at : (s : Script) (t : Table) (devices : List DeviceInfo) (begun r : Stack) (old new : View) (armed : List FaultLine) → ToldLaw → DetectionLaw → (o : IsDone s t devices begun r old new armed) → (us : List Stored) → old.seen.units ≡ Some us → medium_lines r.replies.items ≡ 0 →
+shown_at : (s : Script) (t : Table) (devices : List DeviceInfo) (begun r : Stack) (old new : RigState) → ToldLaw → DetectionLaw → (o : IsDone s t devices begun r old new) → (us : List Stored) → old.units ≡ Some us → medium_lines r.replies.items ≡ 0 →
     IsDetectableRun s t devices us → AllReadRightly (setting_told s t us) s.ops (opening_told s us) r.replies.items
-shown_at s t devices begun r old new armed law detects o us e unnamed run =
-    let w = walked s t devices begun r old new armed law o us e unnamed in
+shown_at s t devices begun r old new law detects o us e unnamed run =
+    let w = walked s t devices begun r old new law o us e unnamed in
     reads_rightly (setting_told s t us) devices s.ops (opening_told s us) r.replies.items detects
-    (detectable_run s t devices us (devices_at s t devices begun r old new armed o us e) (bound_at s t devices begun r old new armed o us e) run) w.2.replies_are
+    (detectable_run s t devices us (devices_at s t devices begun r old new o us e) (bound_at s t devices begun r old new o us e) run) w.2.replies_are
 
-fell : (s : Script) (t : Table) (devices : List DeviceInfo) (begun r : Stack) (old new : View) (armed : List FaultLine) → FallenLaw → (o : IsDone s t devices begun r old new armed) → (us : List Stored) → old.seen.units ≡ Some us →
-    (left : List Stored) × (new.seen.units ≡ Some left) × HasFallen s t us left r.pool o.over.goes.more r.replies.items
-fell s t devices begun r old new armed law o us e =
-    let w = fallen_at s t devices s.schedule begun r old.image new.image (outside old s.faults) (outside new armed) law o.over us e in
+fell : (s : Script) (t : Table) (devices : List DeviceInfo) (begun r : Stack) (old new : RigState) → FallenLaw → (o : IsDone s t devices begun r old new) → (us : List Stored) → old.units ≡ Some us →
+    (left : List Stored) × (new.units ≡ Some left) × HasFallen s t us left r.pool o.over.goes.more r.replies.items
+fell s t devices begun r old new law o us e =
+    let w = fallen_at s t devices s.schedule begun r old.image new.image (armed_for s old) new law o.over us e in
     (w.0, w.1.0, w.1.1)
 
 -- behind the adapter is a target, whose store calls may fail
-names_faults : (s : Script) (t : Table) (devices : List DeviceInfo) (begun r : Stack) (old new : View) (armed : List FaultLine) → FallenLaw → (o : IsDone s t devices begun r old new armed) → (us : List Stored) → old.seen.units ≡ Some us →
+names_faults : (s : Script) (t : Table) (devices : List DeviceInfo) (begun r : Stack) (old new : RigState) → FallenLaw → (o : IsDone s t devices begun r old new) → (us : List Stored) → old.units ≡ Some us →
     All NamesFaults r.replies.items
-names_faults s t devices begun r old new armed law o us e =
-    let w = fell s t devices begun r old new armed law o us e in
+names_faults s t devices begun r old new law o us e =
+    let w = fell s t devices begun r old new law o us e in
     let f = w.2.fallen in
     subst (λ (replies : List Reply). All NamesFaults replies) (sym f.ends.replies_are)
     (names-faults (setting_of s t (shapes_of us) (failed_in r.replies.items)) s.faults refl (of_blocks f.ends.falls) 1 (with_flips f.flips 1 s.ops) (hidden (4096 * s.pages) (opening_told s us)))
@@ -219,34 +230,34 @@ by_form s t devices us form escape same b bytes p =
           });
     }
 
-formed_at : (s : Script) (t : Table) (devices : List DeviceInfo) (begun r : Stack) (old new : View) (armed : List FaultLine) → ToldLaw → DetectionLaw → FormLaw → EscapeLaw → (o : IsDone s t devices begun r old new armed) → (us : List Stored) → old.seen.units ≡ Some us →
+formed_at : (s : Script) (t : Table) (devices : List DeviceInfo) (begun r : Stack) (old new : RigState) → ToldLaw → DetectionLaw → FormLaw → EscapeLaw → (o : IsDone s t devices begun r old new) → (us : List Stored) → old.units ≡ Some us →
     medium_lines r.replies.items ≡ 0 → IsFormedRun s t devices us → AllReadRightly (setting_told s t us) s.ops (opening_told s us) r.replies.items
-formed_at s t devices begun r old new armed law detects form escape o us e unnamed run =
-    shown_at s t devices begun r old new armed law detects o us e unnamed
-    (by_form s t devices us form escape (devices_at s t devices begun r old new armed o us e) (bound_at s t devices begun r old new armed o us e) (bytes_at s t devices begun r old new armed o us e) run)
+formed_at s t devices begun r old new law detects form escape o us e unnamed run =
+    shown_at s t devices begun r old new law detects o us e unnamed
+    (by_form s t devices us form escape (devices_at s t devices begun r old new o us e) (bound_at s t devices begun r old new o us e) (bytes_at s t devices begun r old new o us e) run)
 
-fallen_view : (s : Script) (t : Table) (devices : List DeviceInfo) (begun r : Stack) (old new : View) (armed : List FaultLine) → BackedLaw → FallenLaw → ReadsFallLaw → OwnFallLaw → BroughtFallLaw → (o : IsDone s t devices begun r old new armed) → (us : List Stored) → old.seen.units ≡ Some us → IsQuietRun s t us →
-    (left : List Stored) × (new.seen.units ≡ Some left) × HasServed s t us left r.pool o.over.goes.more r.replies.items
-fallen_view s t devices begun r old new armed backed law reads own brought o us e quiet =
-    let none = none_failed s t devices o.over.goes.more r.replies.items quiet.overwrites (backed_by s t devices s.schedule begun r old.image new.image (outside old s.faults) (outside new armed) backed o.over) in
-    let w = fell s t devices begun r old new armed law o us e in
-    (w.0, w.1, served s t us w.0 r.pool o.over.goes.more r.replies.items reads own brought (bound_at s t devices begun r old new armed o us e) (bytes_at s t devices begun r old new armed o us e) quiet (quiet_ends s t us w.0 r.pool o.over.goes.more r.replies.items quiet.overwrites none w.2))
+fallen_view : (s : Script) (t : Table) (devices : List DeviceInfo) (begun r : Stack) (old new : RigState) → BackedLaw → FallenLaw → ReadsFallLaw → OwnFallLaw → BroughtFallLaw → (o : IsDone s t devices begun r old new) → (us : List Stored) → old.units ≡ Some us → IsQuietRun s t us →
+    (left : List Stored) × (new.units ≡ Some left) × HasServed s t us left r.pool o.over.goes.more r.replies.items
+fallen_view s t devices begun r old new backed law reads own brought o us e quiet =
+    let none = none_failed s t devices o.over.goes.more r.replies.items quiet.overwrites (backed_by s t devices s.schedule begun r old.image new.image (armed_for s old) new backed o.over) in
+    let w = fell s t devices begun r old new law o us e in
+    (w.0, w.1, served s t us w.0 r.pool o.over.goes.more r.replies.items reads own brought (bound_at s t devices begun r old new o us e) (bytes_at s t devices begun r old new o us e) quiet (quiet_ends s t us w.0 r.pool o.over.goes.more r.replies.items quiet.overwrites none w.2))
 
-pub followed : (s : Script) (t : Table) (devices : List DeviceInfo) (begun r : Stack) (old new : View) (armed : List FaultLine) → BackedLaw → FewLaw → AllLaw → MediumLaw → ToldLaw → RepliesLaw → UnderLaw → DetectionLaw → FormLaw → EscapeLaw → FallenLaw → ReadsFallLaw → OwnFallLaw → BroughtFallLaw → IsDone s t devices begun r old new armed → Followed s t devices old new r.pool r.replies.items
-followed s t devices begun r old new armed backed few all medium told same under detects form escape fallen reads own brought o = record {
+pub followed : (s : Script) (t : Table) (devices : List DeviceInfo) (begun r : Stack) (old new : RigState) → BackedLaw → FewLaw → AllLaw → MediumLaw → ToldLaw → RepliesLaw → UnderLaw → DetectionLaw → FormLaw → EscapeLaw → FallenLaw → ReadsFallLaw → OwnFallLaw → BroughtFallLaw → IsDone s t devices begun r old new → Followed s t devices old new r.pool r.replies.items
+followed s t devices begun r old new backed few all medium told same under detects form escape fallen reads own brought o = record {
   tells = o.over.tells;
   holds = image_holds old new o.over.goes.standing o.some o.over.ready o.over.ready_after o.over.laid_after o.over.tells;
   armed = o.faults;
-  goes = o.over.goes;
-  backed = backed_by s t devices s.schedule begun r old.image new.image (outside old s.faults) (outside new armed) backed o.over;
-  sends = sends_own s [] t o.over.goes.more r.replies.items (sent_by s t devices s.schedule begun r old.image new.image (outside old s.faults) (outside new armed) few all o.over);
-  medium = few_lines s t devices s.schedule begun r old.image new.image (outside old s.faults) (outside new armed) medium o.over;
-  plain = plain_at s t devices begun r old new armed told same under o;
-  shown = shown_at s t devices begun r old new armed told detects o;
-  formed = formed_at s t devices begun r old new armed told detects form escape o;
-  walked = walked s t devices begun r old new armed told o;
-  named = named s t devices begun r old new armed told o;
-  fell = fell s t devices begun r old new armed fallen o;
-  faults = names_faults s t devices begun r old new armed fallen o;
-  fallen = fallen_view s t devices begun r old new armed backed fallen reads own brought o;
+  goes = record { standing = o.over.goes.standing; more = o.over.goes.more; records = o.over.goes.records; faults = o.over.goes.faults };
+  backed = backed_by s t devices s.schedule begun r old.image new.image (armed_for s old) new backed o.over;
+  sends = sends_own s [] t o.over.goes.more r.replies.items (sent_by s t devices s.schedule begun r old.image new.image (armed_for s old) new few all o.over);
+  medium = few_lines s t devices s.schedule begun r old.image new.image (armed_for s old) new medium o.over;
+  plain = plain_at s t devices begun r old new told same under o;
+  shown = shown_at s t devices begun r old new told detects o;
+  formed = formed_at s t devices begun r old new told detects form escape o;
+  walked = walked s t devices begun r old new told o;
+  named = named s t devices begun r old new told o;
+  fell = fell s t devices begun r old new fallen o;
+  faults = names_faults s t devices begun r old new fallen o;
+  fallen = fallen_view s t devices begun r old new backed fallen reads own brought o;
 }

@@ -3,9 +3,10 @@ use Rattle.dix_base.specs.Told.{Calm, Rose}
 use Rattle.page_pool.specs.Pages.{IsBlank}
 use Rattle.dix_adapter.specs.Groups.{mode_of}
 use Rattle.image_commands.specs.Causes.{CauseUntold, WasTold}
-use Rattle.image_commands.specs.Views.{HasKept, OpenedOnce, View}
+use Rattle.image_commands.specs.Views.{HasKept, OpenedOnce}
 use Rattle.image_commands.specs.declared.fault.Fault.TheVariants as fault
 use Rattle.rig_api.specs.Head.{head_fault, head_of, units_of}
+use Rattle.rig_api.specs.State.{RigState}
 use Rattle.rig_discovery.specs.Discovery.{info_of}
 use Rattle.script_lines.specs.declared.kind.ScriptKind.TheVariants.{TooMany}
 use Rattle.script_text.specs.Bindings.{binding_fault}
@@ -60,8 +61,8 @@ pub record Facts : Type 0 where
   pub left_after : Option (List ℕ)
   pub reads : ℕ
   pub reads_after : ℕ
-  pub rig : View
-  pub rig_after : View
+  pub rig : RigState
+  pub rig_after : RigState
 
 -- The source was read to its end; what it held is the text of this script.
 pub record HasRead (script : Script) (old new : Option (List ℕ)) : Type 0 where
@@ -80,18 +81,18 @@ pub record HasTable (script : Script) (devices : List DeviceInfo) (table : Table
   pub made : MadeFor table devices script.block
 
 -- The image of this name was opened, and all of its devices told what they are. Nothing else was done.
-pub record WasAsked (name : List ℕ) (devices : List DeviceInfo) (old new : View) : Type 0 where
+pub record WasAsked (name : List ℕ) (devices : List DeviceInfo) (old new : RigState) : Type 0 where
   pub told : WasTold name devices old new
   pub all : new.standing.devices ≡ length (units_of new.standing.head)
 
 -- The image was opened, its devices told what they are, and an entry of the script's volume is at fault over them, the first.
-pub record HasBadVolume (entry : ℕ) (kind : VolumeKind) (script : Script) (name : List ℕ) (old new : View) : Type 0 where
+pub record HasBadVolume (entry : ℕ) (kind : VolumeKind) (script : Script) (name : List ℕ) (old new : RigState) : Type 0 where
   pub devices : List DeviceInfo
   pub asked : WasAsked name devices old new
   pub bad : table_fault script.entries devices script.block ≡ Some (At entry kind)
 
 -- No entry is at fault, and the script has a fault over its volume, the first.
-pub record IsUnbound (bad : ScriptFault) (script : Script) (name : List ℕ) (old new : View) : Type 0 where
+pub record IsUnbound (bad : ScriptFault) (script : Script) (name : List ℕ) (old new : RigState) : Type 0 where
   pub devices : List DeviceInfo
   pub asked : WasAsked name devices old new
   pub table : Table
@@ -99,11 +100,11 @@ pub record IsUnbound (bad : ScriptFault) (script : Script) (name : List ℕ) (ol
   pub bound : binding_fault script table devices ≡ Some bad
 
 -- The image was opened at most once, its bytes, the armed faults and the records are as before; or it was opened, and no more was done than asking its devices what they are.
-abbrev pub StoppedShort : List ℕ → View → View → Type 0
+abbrev pub StoppedShort : List ℕ → RigState → RigState → Type 0
 StoppedShort name old new = (HasKept old new × OpenedOnce name old.standing new.standing) ⊎ ((devices : List DeviceInfo) × WasAsked name devices old new)
 
 -- Why a script comes to no run over the image of this name, and what that leaves.
-abbrev pub CauseStopped : Refusal → Script → List ℕ → View → View → Type 0
+abbrev pub CauseStopped : Refusal → Script → List ℕ → RigState → RigState → Type 0
 CauseStopped (refusal.Script bad) script name old new = IsUnbound bad script name old new
 CauseStopped (refusal.Image x) script name old new = CauseUntold (fault.Image x) name old new
 CauseStopped (refusal.BadCapacity dev) script name old new = CauseUntold (fault.BadCapacity dev) name old new
@@ -166,34 +167,34 @@ AllReadRightly m ops opening replies = (before after : List Op) (owner : Owner) 
     → HasReadRightly m before owner v n body tuples opening replies k
 
 -- Where the image was told, its bytes are the first 512 that it had, and then the stored blocks, one after another.
-abbrev pub HoldsBlocks : (old new : View) → Type 0
-HoldsBlocks old new = (image : List ℕ) → old.image ≡ Some image → (left : List Stored) × (new.seen.units ≡ Some left) × (new.image ≡ Some (take 512 image ++ joined (blocks_told left)))
+abbrev pub HoldsBlocks : (old new : RigState) → Type 0
+HoldsBlocks old new = (image : List ℕ) → old.image ≡ Some image → (left : List Stored) × (new.units ≡ Some left) × (new.image ≡ Some (take 512 image ++ joined (blocks_told left)))
 
 -- What the steps of a script over its volume did, from the rig that told what its devices are to the rig as it is afterwards, with these pages and replies. The faults that are armed afterwards are the script's. Where the rig tells its image, it has its first 512 bytes as before, and then the blocks that the rig tells. Over any rig, honest or not, the records of the steps back the replies, and are those that its steps send; lines that name the medium are at most as many as the count of faults rose. Over a rig that tells its blocks, where no line of the report names the medium (of a block, or of an overwrite), replies, pages and stored blocks are those of the script's ops done one after another at the target, and the records hold what these carry; and where no fault is scheduled, the blocks are clean and no write supplies an escape, they are those of the plain map. Of such a run each block that is listed was found bad by the check of a layer. In type 1, with tuples passed all the way and protect field 001b, over clean devices, with no escape and with scheduled faults that can be shown, each block of a read is the last accepted write's or names the first layer that checks after the fault; so it is where the script's form says that its faults are shown and that it supplies no escape. Over a rig that tells its blocks, whatever lines name the medium, replies, pages and stored blocks are those of the ops done one after another but for the store calls that failed: what a write's call left stands in its block, and where an overwrite replied `Medium` some flip of its block stands in its place; each block that is listed was found bad by a layer or failed at the medium; and where no fault is scheduled and the blocks are clean, a block of a read that isn't lost fails at the medium or is the last accepted write's, and one of a write that the plain map accepts fails at the medium or not at all.
-pub record Followed (script : Script) (table : Table) (devices : List DeviceInfo) (old new : View) (pool : List (List ℕ)) (replies : List Reply) : Type 0 where
+pub record Followed (script : Script) (table : Table) (devices : List DeviceInfo) (old new : RigState) (pool : List (List ℕ)) (replies : List Reply) : Type 0 where
   pub tells : is_some new.image ≡ is_some old.image
   pub holds : HoldsBlocks old new
-  pub armed : new.seen.armed ≡ script.faults
-  pub goes : GoesOn old.standing new.standing old.seen.log new.seen.log old.seen.faults new.seen.faults
+  pub armed : new.armed ≡ script.faults
+  pub goes : GoesOn old new
   pub backed : IsBackedBy script table devices goes.more replies
   pub sends : SendsFor script table goes.more replies
-  pub medium : RoseBy (medium_lines replies) old.seen.faults new.seen.faults
-  pub plain : (us : List Stored) → old.seen.units ≡ Some us → medium_lines replies ≡ 0 → IsPlainRun script table us
-      → (left : List Stored) × (new.seen.units ≡ Some left) × HasPlain script table us left pool replies
-  pub shown : (us : List Stored) → old.seen.units ≡ Some us → medium_lines replies ≡ 0 → IsDetectableRun script table devices us
+  pub medium : RoseBy (medium_lines replies) old.faults new.faults
+  pub plain : (us : List Stored) → old.units ≡ Some us → medium_lines replies ≡ 0 → IsPlainRun script table us
+      → (left : List Stored) × (new.units ≡ Some left) × HasPlain script table us left pool replies
+  pub shown : (us : List Stored) → old.units ≡ Some us → medium_lines replies ≡ 0 → IsDetectableRun script table devices us
       → AllReadRightly (setting_told script table us) script.ops (opening_told script us) replies
-  pub formed : (us : List Stored) → old.seen.units ≡ Some us → medium_lines replies ≡ 0 → IsFormedRun script table devices us
+  pub formed : (us : List Stored) → old.units ≡ Some us → medium_lines replies ≡ 0 → IsFormedRun script table devices us
       → AllReadRightly (setting_told script table us) script.ops (opening_told script us) replies
-  pub walked : (us : List Stored) → old.seen.units ≡ Some us → medium_lines replies ≡ 0 → (left : List Stored) × (new.seen.units ≡ Some left) × HasWalked script table us left pool goes.more replies
-  pub named : (us : List Stored) → old.seen.units ≡ Some us → medium_lines replies ≡ 0 → All NamesLayers replies
-  pub fell : (us : List Stored) → old.seen.units ≡ Some us → (left : List Stored) × (new.seen.units ≡ Some left) × HasFallen script table us left pool goes.more replies
-  pub faults : (us : List Stored) → old.seen.units ≡ Some us → All NamesFaults replies
-  pub fallen : (us : List Stored) → old.seen.units ≡ Some us → IsQuietRun script table us → (left : List Stored) × (new.seen.units ≡ Some left) × HasServed script table us left pool goes.more replies
+  pub walked : (us : List Stored) → old.units ≡ Some us → medium_lines replies ≡ 0 → (left : List Stored) × (new.units ≡ Some left) × HasWalked script table us left pool goes.more replies
+  pub named : (us : List Stored) → old.units ≡ Some us → medium_lines replies ≡ 0 → All NamesLayers replies
+  pub fell : (us : List Stored) → old.units ≡ Some us → (left : List Stored) × (new.units ≡ Some left) × HasFallen script table us left pool goes.more replies
+  pub faults : (us : List Stored) → old.units ≡ Some us → All NamesFaults replies
+  pub fallen : (us : List Stored) → old.units ≡ Some us → IsQuietRun script table us → (left : List Stored) × (new.units ≡ Some left) × HasServed script table us left pool goes.more replies
 
 -- The image was opened, its devices told what they are, the script is bound to its volume, and the stack of its ops was run to its end.
-pub record HasRun (run : Finished) (script : Script) (name : List ℕ) (old new : View) : Type 0 where
+pub record HasRun (run : Finished) (script : Script) (name : List ℕ) (old new : RigState) : Type 0 where
   pub devices : List DeviceInfo
-  pub told : View
+  pub told : RigState
   pub asked : WasAsked name devices old told
   pub table : Table
   pub made : HasTable script devices table
@@ -202,7 +203,7 @@ pub record HasRun (run : Finished) (script : Script) (name : List ℕ) (old new 
   pub starts : IsBegun script table begun
   pub ends : IsEnded begun run.stack
   pub followed : Followed script table devices told new run.stack.pool run.stack.replies.items
-  pub first : run.first ≡ length old.seen.log
+  pub first : run.first ≡ length old.log
 
 -- The source was read to its end, and its script was run.
 pub record HasRunSource (run : Finished) (f : Facts) : Type 0 where
@@ -222,7 +223,7 @@ abbrev pub IsFromOutside : Refusal → Type 0
 IsFromOutside r = (r ≡ refusal.Memory) ⊎ (r ≡ refusal.RigFault)
 
 -- An image whose head is right, over whose devices the script and its volume have no fault: then nothing in them is refused.
-abbrev pub StopsFromOutside : Refusal → Script → View → Type 0
+abbrev pub StopsFromOutside : Refusal → Script → RigState → Type 0
 StopsFromOutside r script old =
     (image : List ℕ) → old.image ≡ Some image → head_fault (head_of image) ≡ None → table_fault script.entries (devices_of image) script.block ≡ None →
     binding_fault script (table_over script.entries (devices_of image)) (devices_of image) ≡ None → IsFromOutside r

@@ -1,6 +1,5 @@
 -- What the parts of a call give each other.
 use Rattle.std.specs.Prelude.{ℕ, ◌≡◌, ◌+◌, ◌⊎◌, List, length, None, Err, Result}
-use Rattle.image_commands.specs.Views.{View}
 use Rattle.image_commands.specs.declared.fault.Fault.{Fault}
 use Rattle.image_commands.specs.declared.fault.Fault.TheVariants as fault
 use Rattle.script_laws.specs.Keeping.{Keeps}
@@ -16,6 +15,7 @@ use Rattle.script_verdict.specs.Verdict.{HasTable, WasAsked}
 use Rattle.script_verdict.specs.declared.refusal.Refusal.{Refusal}
 use Rattle.script_verdict.specs.declared.refusal.Refusal.TheVariants as refusal
 use Rattle.script_verdict.specs.declared.verdict.Bound.{Bound}
+use Rattle.rig_api.specs.State.{RigState}
 
 -- the refusal of an image that isn't opened, or whose devices aren't known
 abbrev pub refusal_of : Fault → Refusal
@@ -54,7 +54,7 @@ CauseUnbound refusal.Memory script devices = Unit {0}
 CauseUnbound refusal.ReadFault script devices = ⊥
 
 -- The image was opened, its devices told what they are, and the script is bound to its volume.
-pub record IsBound (b : Bound) (script : Script) (name : List ℕ) (old new : View) : Type 0 where
+pub record IsBound (b : Bound) (script : Script) (name : List ℕ) (old new : RigState) : Type 0 where
   pub asked : WasAsked name b.devices.items old new
   pub made : HasTable script b.devices.items b.table
   pub bound : binding_fault script b.table b.devices.items ≡ None

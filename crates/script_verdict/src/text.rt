@@ -22,9 +22,9 @@ pub fn print_run<O: Sink>(out: &mut O, run: &Finished) -> Result<(), Failed>
 
 /// Writes the report of a run, and behind it the trace of all records of its call.
 pub fn print_traced_run<O: Sink, R: Rig>(out: &mut O, run: &Finished, rig: &R) -> Result<(), Failed>
-    requires { run.now.first ≤ length (R.log rig.now) }
-    ensures whole { OnOk result (Appended (report run.now.stack.replies.items ++ trace (drop run.now.first (R.log rig.now))) (O.taken out.old) (O.taken out.new)) }
-    ensures part { OnErr result (AppendedSome (report run.now.stack.replies.items ++ trace (drop run.now.first (R.log rig.now))) (O.taken out.old) (O.taken out.new)) }
+    requires { run.now.first ≤ length (R.state rig.now).log }
+    ensures whole { OnOk result (Appended (report run.now.stack.replies.items ++ trace (drop run.now.first (R.state rig.now).log)) (O.taken out.old) (O.taken out.new)) }
+    ensures part { OnErr result (AppendedSome (report run.now.stack.replies.items ++ trace (drop run.now.first (R.state rig.now).log)) (O.taken out.old) (O.taken out.new)) }
     ensures cause { OnErr result (Rose (O.faults out.old) (O.faults out.new)) }
     ensures count { O.faults out.old ≤ O.faults out.new }
 {

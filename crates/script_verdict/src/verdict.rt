@@ -1,7 +1,6 @@
 //! The run of a script.
 
 ghost use Rattle.std.specs.Prelude.{◌≡◌, ◌≤◌, IfErr, IfOk, MatchResult, OnOk, length};
-ghost use Rattle.image_commands.specs.Views.{seen, view};
 ghost use Rattle.script_verdict.specs.Texts.{has_bad, is_bad};
 ghost use Rattle.script_verdict.specs.Verdict.{CauseRefused, CauseStopped, Facts, HasRun, HasRunSource, IsComplete, StopsFromOutside};
 ghost use Rattle.script_verdict.specs.Working.{IsBound, IsSound};
@@ -48,8 +47,8 @@ struct Bound {
 /// Opens the image, asks its devices what they are, and binds the script to its volume over them.
 fn bind<R: Rig>(alloc: Global, image: &str, script: &Script, rig: &mut R) -> Result<Bound, Refusal>
     requires { IsSound script.now }
-    ensures { let old = view (R.image rig.old) (R.standing rig.old) (seen (R.units rig.old) (R.armed rig.old) (R.log rig.old) (R.faults rig.old)) in
-        let new = view (R.image rig.new) (R.standing rig.new) (seen (R.units rig.new) (R.armed rig.new) (R.log rig.new) (R.faults rig.new)) in
+    ensures { let old = R.state rig.old in
+        let new = R.state rig.new in
         MatchResult result (λ b. IsBound b script.now image.now old new) (λ r. CauseStopped r script.now image.now old new) }
 {
     let devices = match told_devices(alloc, image, rig) {
@@ -73,13 +72,13 @@ pub fn run_script<R: Rig>(
     rig: &mut R,
 ) -> Result<Finished, Refusal>
     requires { IsSound script }
-    ensures verdict { let old = view (R.image rig.old) (R.standing rig.old) (seen (R.units rig.old) (R.armed rig.old) (R.log rig.old) (R.faults rig.old)) in
-        let new = view (R.image rig.new) (R.standing rig.new) (seen (R.units rig.new) (R.armed rig.new) (R.log rig.new) (R.faults rig.new)) in
+    ensures verdict { let old = R.state rig.old in
+        let new = R.state rig.new in
         MatchResult result (λ r. HasRun r script image.now old new) (λ r. CauseStopped r script image.now old new) }
-    ensures complete { let old = view (R.image rig.old) (R.standing rig.old) (seen (R.units rig.old) (R.armed rig.old) (R.log rig.old) (R.faults rig.old)) in
+    ensures complete { let old = R.state rig.old in
         IfErr result (λ r. StopsFromOutside r script old) }
-    ensures traced { IfOk result (λ r. r.first ≤ length (R.log rig.new)) }
-    ensures armed { OnOk result (R.armed rig.new ≡ script.faults) }
+    ensures traced { IfOk result (λ r. r.first ≤ length (R.state rig.new).log) }
+    ensures armed { OnOk result ((R.state rig.new).armed ≡ script.faults) }
 {
     let first = rig.records();
     let bound = match bind(alloc, image, &script, rig) {
@@ -124,8 +123,8 @@ pub fn run_source<S: Source, R: Rig>(
       left_after = S.left source.new;
       reads = S.faults source.old;
       reads_after = S.faults source.new;
-      rig = view (R.image rig.old) (R.standing rig.old) (seen (R.units rig.old) (R.armed rig.old) (R.log rig.old) (R.faults rig.old));
-      rig_after = view (R.image rig.new) (R.standing rig.new) (seen (R.units rig.new) (R.armed rig.new) (R.log rig.new) (R.faults rig.new));
+      rig = R.state rig.old;
+      rig_after = R.state rig.new;
     } in
         MatchResult result (λ r. HasRunSource r f) (λ r. CauseRefused r f) }
     ensures complete { let f : Facts = record {
@@ -134,11 +133,11 @@ pub fn run_source<S: Source, R: Rig>(
       left_after = S.left source.new;
       reads = S.faults source.old;
       reads_after = S.faults source.new;
-      rig = view (R.image rig.old) (R.standing rig.old) (seen (R.units rig.old) (R.armed rig.old) (R.log rig.old) (R.faults rig.old));
-      rig_after = view (R.image rig.new) (R.standing rig.new) (seen (R.units rig.new) (R.armed rig.new) (R.log rig.new) (R.faults rig.new));
+      rig = R.state rig.old;
+      rig_after = R.state rig.new;
     } in
         IfErr result (λ r. IsComplete r f) }
-    ensures traced { IfOk result (λ r. r.first ≤ length (R.log rig.new)) }
+    ensures traced { IfOk result (λ r. r.first ≤ length (R.state rig.new).log) }
 {
     match take_script(alloc, source) {
         Ok(script) => run_script(alloc, image, script, rig),

@@ -28,9 +28,9 @@ const SILENT: Outcome = Outcome {
 impl<R: Rig> ScriptedRig<R> {
     /// A rig that answers so, with nothing in its log.
     pub fn new(alloc: Global, inner: R, answers: Vec<Answer>) -> ScriptedRig<R>
-        ensures log { ⟦<ScriptedRig<R> as Rig>⟧.log result ≡ [] }
-        ensures untold { ⟦<ScriptedRig<R> as Rig>⟧.image result ≡ None }
-        ensures standing { ⟦<ScriptedRig<R> as Rig>⟧.standing result ≡ R.standing inner }
+        ensures log { (⟦<ScriptedRig<R> as Rig>⟧.state result).log ≡ [] }
+        ensures untold { (⟦<ScriptedRig<R> as Rig>⟧.state result).image ≡ None }
+        ensures standing { (⟦<ScriptedRig<R> as Rig>⟧.state result).standing ≡ (R.state inner).standing }
     {
         ScriptedRig {
             inner,
@@ -44,30 +44,26 @@ impl<R: Rig> ScriptedRig<R> {
 
     /// The rig inside.
     pub fn inner(&self) -> &R
-        ensures { R.standing result.now ≡ ⟦<ScriptedRig<R> as Rig>⟧.standing self.now }
+        ensures { (R.state result.now).standing ≡ (⟦<ScriptedRig<R> as Rig>⟧.state self.now).standing }
     {
         &self.inner
     }
 }
 
 impl<R: Rig> Rig for ScriptedRig<R> {
-    ghost image = { λ s. None };
-
-    ghost units = { λ s. None };
-
-    ghost standing = { λ s. R.standing s.inner };
-
-    ghost log = { λ s. logged s.log };
-
-    ghost room = { λ s. room_in s.log };
-
-    ghost armed = { λ s. s.armed };
-
-    ghost faults = { λ s. s.faults };
+    ghost state = { λ s. record {
+      image = None;
+      units = None;
+      standing = (R.state s.inner).standing;
+      log = logged s.log;
+      room = room_in s.log;
+      armed = s.armed;
+      faults = s.faults;
+    } };
 
     ghost laid = { λ s. refl };
 
-    ghost ready = { λ s. untold_stands (R.standing s.inner) (R.image s.inner) (R.ready s.inner) };
+    ghost ready = { λ s. untold_stands (R.state s.inner).standing (R.state s.inner).image (R.ready s.inner) };
 
     ghost octets = { λ s. tt };
 

@@ -1,5 +1,5 @@
 -- A group before the units of a rig that tells its blocks: its ops are shifted alike, and the unit behind it has its addresses, where the shifts lead them.
-use Rattle.std.proofs.Common.{◌≡◌, inl, inr, ◌<◌, ◌≤◌, ℕ, zero, suc, ◌+◌, Bool, true, false, eqb, not, ◌||◌, List, [], ◌∷◌, ◌++◌, length, Option, refl, sym, ap, subst, ◌∙◌, arith}
+use Rattle.std.proofs.Common.{◌≡◌, inl, inr, ◌<◌, ◌≤◌, ℕ, zero, suc, ◌+◌, Bool, true, false, eqb, not, List, [], ◌∷◌, ◌++◌, length, Option, refl, sym, ap, subst, ◌∙◌, arith}
 use Rattle.std.specs.Prelude.{ℤ, pos, ◌+ℤ◌, nat_abs}
 use Rattle.std.proofs.Math.IntN.{+ℤ_assoc, +ℤ_comm}
 use Rattle.std.proofs.lemmas.Bool.{or_parts, false_from_ne_true}
@@ -24,7 +24,7 @@ use Rattle.stack_walks.specs.Sheets.{io_at, no_io, op_in}
 use Rattle.whole_run.specs.Settings.{Setting}
 use Rattle.run_moves.specs.OpsApart.{OpsConflict, is_shifted}
 use Rattle.run_moves.specs.ScriptMoves.{fates_of}
-use Rattle.run_moves.proofs.Inside.{still_by, still_is}
+use Rattle.run_moves.proofs.Inside.{still_is}
 
 -- ---- shifts
 

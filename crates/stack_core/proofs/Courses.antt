@@ -26,7 +26,7 @@ use Rattle.run_moves.specs.OpsApart.{IsPlaced, OneCellEach}
 use Rattle.run_moves.specs.ScriptMoves.{fates_of, own_at}
 use Rattle.run_record.specs.Records.{recorded}
 use Rattle.dix_adapter.specs.declared.adapter.Adapter.{Adapter}
-use Rattle.dix_adapter.specs.Carried.{Shown, Unsent, any_bad, frame_len, sends}
+use Rattle.dix_adapter.specs.Carried.{Unsent, any_bad, frame_len, sends}
 use Rattle.dix_adapter.specs.Groups.{IsGroup, IsProtect, blocks_in, first_of}
 use Rattle.dix_adapter.specs.Ways.{CameIn, RecordedIn, RecordedOut, WentOut, blocks_told, shapes_of, site_of}
 use Rattle.run_follows.specs.Following.{Becomes, Follows}
@@ -58,6 +58,7 @@ use Rattle.run_falls.proofs.Overwriting.{between, flips_to, overwrite_falling}
 use Rattle.run_follows.specs.Slots.{Parts}
 use Rattle.rig_api.specs.declared.change.Change.{Change}
 use Rattle.rig_api.specs.declared.change.Change.TheVariants.{Flip}
+use Rattle.rig_api.specs.State.{RigState}
 use Rattle.stack_ops.specs.declared.op.Op.TheVariants.{Overwrite}
 use Rattle.whole_run.specs.ScriptWalk.{changed}
 use Rattle.whole_run.specs.Steps.{steps_of}
@@ -379,7 +380,7 @@ module _ (m : Setting) (n : ℕ) (ops : List Op) (a : Adapter) (ios : List Io) (
   of_pool flips opening now status es same h =
       subst (λ bytes. FollowsFalling m n (with_flips flips 1 ops) opening status bytes (blocks_told us) es) same.0 (subst (λ blocks. FollowsFalling m n (with_flips flips 1 ops) opening status now.bytes blocks es) same.1 h.0)
 
-  pub out_by : (c : Course) (stop : Option Stop) (fates : List Fate) (old new : Shown) (opening now : State) (status : ℕ → ℕ → Status) (spots : List Spot) → StopsBy c (stored_size m.ty m.size) stop → (first_of req).dir ≡ WriteDir → any_bad (map (sends a ios (flat pool)) (blocks_in req)) ≡ false →
+  pub out_by : (c : Course) (stop : Option Stop) (fates : List Fate) (old new : RigState) (opening now : State) (status : ℕ → ℕ → Status) (spots : List Spot) → StopsBy c (stored_size m.ty m.size) stop → (first_of req).dir ≡ WriteDir → any_bad (map (sends a ios (flat pool)) (blocks_in req)) ≡ false →
       RecordedOut a ios req (flat pool) fates old new → (told : WentOut a ios req (flat pool) us stop fates old new) → AllGoing m n ops a ios (length opening.logs) status (blocks_in req) spots → NoneBefore status (recorded m old.log) → AreShown now →
       FollowsBy c m n ops opening status now (recorded m old.log) → GoesTo c m n ops opening (with_fates (blocks_in req) fates status) (recorded m new.log) (flat pool) (blocks_told told.units)
   out_by Straight None fates old new opening now status spots stops w good r told going none same h =
@@ -391,7 +392,7 @@ module _ (m : Setting) (n : ℕ) (ops : List Op) (a : Adapter) (ios : List Io) (
       (fallen_out m n (with_flips flips 1 ops) a ios req pool us protect g site stop fates old new opening status (map (flip_spot flips) spots) w good r told stops
       (going_flip m n flips ops a ios (length opening.logs) status (blocks_in req) spots going) none (of_pool flips opening now status (recorded m old.log) same h))
 
-  pub in_by : (c : Course) (stop : Option Stop) (pool' : List (List ℕ)) (fates : List Fate) (old new : Shown) (opening now : State) (status : ℕ → ℕ → Status) (spots : List Spot) → StopsBy c (stored_size m.ty m.size) stop → (first_of req).dir ≡ Read →
+  pub in_by : (c : Course) (stop : Option Stop) (pool' : List (List ℕ)) (fates : List Fate) (old new : RigState) (opening now : State) (status : ℕ → ℕ → Status) (spots : List Spot) → StopsBy c (stored_size m.ty m.size) stop → (first_of req).dir ≡ Read →
       AllSized m a ios (blocks_told us) (frame_len a ios req) (blocks_in req) → RecordedIn a ios req pool pool' fates old new → CameIn a ios req pool pool' us stop fates old new → AllGoing m n ops a ios (length opening.logs) status (blocks_in req) spots →
       NoneBefore status (recorded m old.log) → AreShown now → FollowsBy c m n ops opening status now (recorded m old.log) → GoesTo c m n ops opening (with_fates (blocks_in req) fates status) (recorded m new.log) (flat pool') (blocks_told us)
   in_by Straight None pool' fates old new opening now status spots stops w sized r told going none same h =

@@ -9,13 +9,14 @@ use Rattle.bio_core.specs.declared.request.Dir.TheVariants.{Read, Write}
 use Rattle.bio_core.specs.declared.request.Io.{Io}
 use Rattle.dix_base.specs.Told.{Calm, Rose}
 use Rattle.dix_adapter.specs.declared.adapter.Adapter.{Adapter}
-use Rattle.dix_adapter.specs.Carried.{Fetched, Sent, Shown, Unsent, any_bad, fates_in, frames_came, sends}
+use Rattle.dix_adapter.specs.Carried.{Fetched, Sent, Unsent, any_bad, fates_in, frames_came, sends}
 use Rattle.dix_adapter.specs.Groups as Carry
 use Rattle.dix_adapter.specs.Groups.{blocks_in, first_of}
 use Rattle.dix_adapter.specs.Outcomes.{done_of, rest_of}
 use Rattle.bio_core.specs.declared.fate.Fate.TheVariants.{Good}
 use Rattle.rig_api.specs.Log.{IsMedium}
 use Rattle.rig_api.specs.declared.rig.Outcome.{Outcome}
+use Rattle.rig_api.specs.State.{RigState}
 use Rattle.stack_ops.specs.declared.reply.Reply.{Reply}
 use Rattle.stack_view.specs.Plan.{Plan}
 use Rattle.stack_view.specs.Sound.{Settles}
@@ -147,7 +148,7 @@ rest_rises fates front n count count' o e z c r m first h =
     (cases_lt 0 (mediums (rest_of n o)))
 
 module _ (p : Plan) (m : Machine) (d i : ℕ) (m' taken : Machine) (group : List Bio) (fates : List Fate) (takes : Takes p m d i group taken) (flies : Flies p taken d group fates m') (settles : Settles group fates)
-    (a : Adapter) (ios : List Io) (pool pool' : List (List ℕ)) (old new : Shown) where
+    (a : Adapter) (ios : List Io) (pool pool' : List (List ℕ)) (old new : RigState) where
   spoiled : ((n first : ℕ) → RoseBy n first old.faults → RoseBy (n + mediums fates) first new.faults) → Spoils p m d i m' old.faults new.faults
   spoiled r = record { taken = taken; group = group; fates = fates; takes = takes; flies = flies; settles = settles; rose = r }
 

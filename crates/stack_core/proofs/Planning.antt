@@ -1,5 +1,5 @@
 -- The plan of a stack is that of its script.
-use Rattle.std.proofs.Common.{◌≡◌, inl, inr, ◌<◌, ◌≤◌, ℕ, zero, suc, ◌+◌, Bool, true, false, ◌&&◌, eqb, List, [], ◌∷◌, length, map, get_or, None, refl, sym, ap, ◌∙◌, arith, ⊎_elim}
+use Rattle.std.proofs.Common.{◌≡◌, inl, inr, ◌<◌, ℕ, zero, suc, ◌+◌, Bool, true, false, ◌&&◌, eqb, List, [], ◌∷◌, length, map, get_or, None, refl, sym, ap, ◌∙◌, arith, ⊎_elim}
 use Rattle.std.specs.Prelude.{pos}
 use Rattle.std.specs.List.{list_any}
 use Rattle.std.proofs.lemmas.Bool.{and_right, cases_Bool, or_parts, true_from_ne_false}
@@ -30,7 +30,7 @@ use Rattle.stack_walks.proofs.Begin.{length-requests}
 use Rattle.stack_walks.proofs.Facts.{request-at}
 use Rattle.stack_walks.proofs.Conflicting.{own_layout}
 use Rattle.stack_core.proofs.Listing.{prints-at}
-use Rattle.stack_core.proofs.AtUnits.{count_of, io_count}
+use Rattle.stack_core.proofs.AtUnits.{io_count}
 
 -- ---- which ops are shifted
 

@@ -7,12 +7,13 @@ use Rattle.bio_core.specs.declared.fate.Fate.TheVariants.{Good}
 use Rattle.bio_core.specs.declared.request.Dir.TheVariants.{Read, Write}
 use Rattle.bio_core.specs.declared.request.Io.{Io}
 use Rattle.dix_adapter.specs.declared.adapter.Adapter.{Adapter}
-use Rattle.dix_adapter.specs.Carried.{Fetched, Sent, Shown, Unsent, any_bad, any_fails, sends}
+use Rattle.dix_adapter.specs.Carried.{Fetched, Sent, Unsent, any_bad, any_fails, sends}
 use Rattle.dix_adapter.specs.Groups as Carry
 use Rattle.dix_adapter.specs.Groups.{blocks_in, first_of, mode_of}
 use Rattle.dix_adapter.specs.Outcomes.{done_of}
 use Rattle.merge_queue.specs.Groups.{size}
 use Rattle.rig_api.specs.Log.{Entry as Record}
+use Rattle.rig_api.specs.State.{RigState}
 use Rattle.stack_view.specs.Formed.{IsGroup}
 use Rattle.stack_view.specs.Plan.{Plan}
 use Rattle.stack_view.specs.Runs.{Entry, sent}
@@ -82,7 +83,7 @@ group_sends s s' word cut d i log log' stays h has x kept = by x.records
 -- ---- how a group is carried
 
 module _ (p : Plan) (m : Machine) (d i : ℕ) (m' taken : Machine) (group : List Bio) (fates : List Fate) (takes : Takes p m d i group taken) (flies : Flies p taken d group fates m') (settles : Settles group fates)
-    (a : Adapter) (ios : List Io) (pool pool' : List (List ℕ)) (old new : Shown) (on : (first_of group).dev ≡ d) (long : length fates ≡ size group) (some : HasBlocks group) (of_plan : IsGroup p d group) where
+    (a : Adapter) (ios : List Io) (pool pool' : List (List ℕ)) (old new : RigState) (on : (first_of group).dev ≡ d) (long : length fates ≡ size group) (some : HasBlocks group) (of_plan : IsGroup p d group) where
   all_good : fates ≡ replicate (length fates) Good → fates ≡ replicate (size group) Good
   all_good e = e ∙ ap (λ (n : ℕ). replicate n Good) long
 

@@ -8,12 +8,13 @@ use Rattle.bio_core.specs.declared.bio.Bio.{Bio}
 use Rattle.bio_core.specs.declared.fate.Fate.{Fate}
 use Rattle.bio_core.specs.declared.request.Dir.{Dir}
 use Rattle.bio_core.specs.declared.request.Dir.TheVariants.{Read, Write as WriteDir}
-use Rattle.dix_adapter.specs.Carried.{Shown, Unsent, any_bad, frame_len, sends}
+use Rattle.dix_adapter.specs.Carried.{Unsent, any_bad, frame_len, sends}
 use Rattle.dix_adapter.specs.Groups as Carry
 use Rattle.dix_adapter.specs.Groups.{blocks_in, first_of, mode_of}
 use Rattle.dix_adapter.specs.Ways.{IsRecord, RecordedIn, RecordedOut}
 use Rattle.rig_api.specs.Log.{Entry}
 use Rattle.rig_api.specs.Telling.{Standing, spec_at}
+use Rattle.rig_api.specs.State.{RigState}
 use Rattle.stack_view.specs.Plan.{Plan}
 use Rattle.stack_view.specs.Sound.{Settles}
 use Rattle.stack_view.specs.View.{View, group_at}
@@ -100,10 +101,10 @@ module _ (m : Setting) (n : ℕ) (opening : State) (first : ℕ) (s : Stack) (st
         ∙ ap (λ x. wire_size (record r { mode = mode_of a; ty = a.ty; size = x })) (sym (w.over.size ((first_of (group_at view d i)).op - 1) head)))
 
     -- records from the first on
-    abbrev pub from_first : Shown → Shown
+    abbrev pub from_first : RigState → RigState
     from_first x = record x { log = drop first x.log }
 
-    dropped : (old new : Shown) (e : Entry) → old.log ≡ log → IsRecord s.adapter (group_at view d i) old new e → IsRecord s.adapter (group_at view d i) (from_first old) (from_first new) e
+    dropped : (old new : RigState) (e : Entry) → old.log ≡ log → IsRecord s.adapter (group_at view d i) old new e → IsRecord s.adapter (group_at view d i) (from_first old) (from_first new) e
     dropped old new e l r = record {
       recorded = ap (drop first) r.recorded ∙ drop_end first old.log e (subst (λ x. first ≤ length x) (sym l) w.recorded_from);
       dev = r.dev;
@@ -117,7 +118,7 @@ module _ (m : Setting) (n : ℕ) (opening : State) (first : ℕ) (s : Stack) (st
         drop_end (suc f) [] e h = absurd (omega arith)
         drop_end (suc f) (y ∷ x) e h = drop_end f x e (omega arith)
 
-    grows : (old new : Shown) (e : Entry) → old.log ≡ log → IsRecord s.adapter (group_at view d i) old new e → first ≤ length new.log
+    grows : (old new : RigState) (e : Entry) → old.log ≡ log → IsRecord s.adapter (group_at view d i) old new e → first ≤ length new.log
     grows old new e l r =
         let a = ap length r.recorded in
         let b = length-append old.log (e ∷ []) in
@@ -136,7 +137,7 @@ module _ (m : Setting) (n : ℕ) (opening : State) (first : ℕ) (s : Stack) (st
           (told m (recorded m (drop first log'))) (recorded m (drop first log')) on.after on.after.blocks whole on.bytes on.follows on.none_before refl;
     }
 
-    walk_out : (old new : Shown) → old.log ≡ log → (first_of group).dir ≡ WriteDir → any_bad (map (sends s.adapter s.sheet.ios.items (flat s.pool)) (blocks_in group)) ≡ false → s'.pool ≡ s.pool → RecordedOut s.adapter s.sheet.ios.items group (flat s.pool) fates old new → Walks m n opening first s' st new.log
+    walk_out : (old new : RigState) → old.log ≡ log → (first_of group).dir ≡ WriteDir → any_bad (map (sends s.adapter s.sheet.ios.items (flat s.pool)) (blocks_in group)) ≡ false → s'.pool ≡ s.pool → RecordedOut s.adapter s.sheet.ios.items group (flat s.pool) fates old new → Walks m n opening first s' st new.log
     walk_out old new l dir good stay r =
         let r' : RecordedOut s.adapter s.sheet.ios.items (group_at view d i) (flat s.pool) fates old new = subst (λ g. RecordedOut s.adapter s.sheet.ios.items g (flat s.pool) fates old new) is_group r in
         let dir' : (first_of (group_at view d i)).dir ≡ WriteDir = ap (λ g. (first_of g).dir) (sym is_group) ∙ dir in
@@ -148,7 +149,7 @@ module _ (m : Setting) (n : ℕ) (opening : State) (first : ℕ) (s : Stack) (st
         let fitting = fit_out m s.adapter s.sheet.ios.items (group_at view d i) s.pool k.fixed.protect fit fates (from_first old) (from_first new) dir' good' wide r'' (subst (FramesFit m) (sym logs) w.fit) in
         went new.log (subst AreWhole (sym stay) w.walks.follow.whole) (grows old new r'.entry l r'.what) fitting (subst (λ x. FollowsOn m n s.sheet.ops opening (with_fates bs fates status) (flat x) (drop first new.log)) (sym stay) on)
 
-    walk_in : (old new : Shown) → old.log ≡ log → (first_of group).dir ≡ Read → AreWhole s'.pool → RecordedIn s.adapter s.sheet.ios.items group s.pool s'.pool fates old new → Walks m n opening first s' st new.log
+    walk_in : (old new : RigState) → old.log ≡ log → (first_of group).dir ≡ Read → AreWhole s'.pool → RecordedIn s.adapter s.sheet.ios.items group s.pool s'.pool fates old new → Walks m n opening first s' st new.log
     walk_in old new l dir whole r =
         let r' : RecordedIn s.adapter s.sheet.ios.items (group_at view d i) s.pool s'.pool fates old new = subst (λ g. RecordedIn s.adapter s.sheet.ios.items g s.pool s'.pool fates old new) is_group r in
         let dir' : (first_of (group_at view d i)).dir ≡ Read = ap (λ g. (first_of g).dir) (sym is_group) ∙ dir in
@@ -163,7 +164,7 @@ module _ (m : Setting) (n : ℕ) (opening : State) (first : ℕ) (s : Stack) (st
     size_is = size_known device n opening records w.left s k over_record w.walks s' d i group fates between stays ch takes flies settles same st w.sizes
 
     -- whatever the adapter did
-    pub walk_sends : (old new : Shown) → old.log ≡ log
+    pub walk_sends : (old new : RigState) → old.log ≡ log
         → ((first_of group).dir ≡ WriteDir → any_bad (map (sends s.adapter s.sheet.ios.items (flat s.pool)) (blocks_in group)) ≡ true → Unsent s.adapter s.sheet.ios.items group s.pool s'.pool fates × (new.log ≡ log))
         → ((first_of group).dir ≡ WriteDir → any_bad (map (sends s.adapter s.sheet.ios.items (flat s.pool)) (blocks_in group)) ≡ false → s'.pool ≡ s.pool)
         → ((first_of group).dir ≡ Read → AreWhole s'.pool)

@@ -22,7 +22,7 @@ use Rattle.pi_tuple.specs.declared.checks.Check.{Check}
 use Rattle.target_answer.specs.Frames.{stored_size}
 use Rattle.target_answer.specs.Passing.{from_medium}
 use Rattle.target_answer.specs.Target.{Stop, Stored, has_blocks}
-use Rattle.dix_adapter.specs.Carried.{Shown, Unsent, any_bad, frame_len, sends}
+use Rattle.dix_adapter.specs.Carried.{Unsent, any_bad, frame_len, sends}
 use Rattle.dix_adapter.specs.Groups as Carry
 use Rattle.dix_adapter.specs.Groups.{blocks_in, first_of, route_of}
 use Rattle.dix_adapter.specs.Ways.{CameIn, IsBehind, IsRecord, RecordedIn, RecordedOut, UpTo, WentOut, blocks_told, shapes_of, site_of}
@@ -37,6 +37,7 @@ use Rattle.carried_record.proofs.Puts.{InTurn, bios_turn}
 use Rattle.range_gate.specs.Gates.{has_ended}
 use Rattle.rig_api.specs.Log.{Entry}
 use Rattle.rig_api.specs.Telling.{HasCause, IsStanding, Standing, frame_size, spec_at, specs_of, unit_at, units_told}
+use Rattle.rig_api.specs.State.{RigState}
 use Rattle.merge_queue.specs.Groups.{size}
 use Rattle.stack_ops.specs.declared.op.Op.{Op}
 use Rattle.stack_view.specs.Blocks.{blocks, place_of, times}
@@ -386,7 +387,7 @@ module _ {course : Course} (m : Setting) (n : ℕ) (opening : State) (first : �
 
       -- ---- what was sent
 
-      abbrev from_first : Shown → Shown
+      abbrev from_first : RigState → RigState
       from_first x = record x { log = drop first x.log }
 
       drop_end : (f : ℕ) (x : List Entry) (e : Entry) → f ≤ length x → drop f (x ++ (e ∷ [])) ≡ drop f x ++ (e ∷ [])
@@ -394,13 +395,13 @@ module _ {course : Course} (m : Setting) (n : ℕ) (opening : State) (first : �
       drop_end (suc f) [] e h = absurd (omega arith)
       drop_end (suc f) (y ∷ x) e h = drop_end f x e (omega arith)
 
-      from_then : (old new : Shown) (e : Entry) → old.log ≡ log → new.log ≡ old.log ++ (e ∷ []) → drop first new.log ≡ drop first old.log ++ (e ∷ [])
+      from_then : (old new : RigState) (e : Entry) → old.log ≡ log → new.log ≡ old.log ++ (e ∷ []) → drop first new.log ≡ drop first old.log ++ (e ∷ [])
       from_then old new e l r = ap (drop first) r ∙ drop_end first old.log e (subst (λ x. first ≤ length x) (sym l) w.recorded_from)
 
-      dropped : (old new : Shown) (e : Entry) → old.log ≡ log → IsRecord s.adapter g old new e → IsRecord s.adapter g (from_first old) (from_first new) e
+      dropped : (old new : RigState) (e : Entry) → old.log ≡ log → IsRecord s.adapter g old new e → IsRecord s.adapter g (from_first old) (from_first new) e
       dropped old new e l r = record { recorded = from_then old new e l r.recorded; dev = r.dev; cdb = r.cdb; fits = r.fits; labels = r.labels }
 
-      grows : (old new : Shown) (e : Entry) → old.log ≡ log → new.log ≡ old.log ++ (e ∷ []) → first ≤ length new.log
+      grows : (old new : RigState) (e : Entry) → old.log ≡ log → new.log ≡ old.log ++ (e ∷ []) → first ≤ length new.log
       grows old new e l r =
           let a = ap length r in
           let b = length-append old.log (e ∷ []) in
@@ -415,7 +416,7 @@ module _ {course : Course} (m : Setting) (n : ℕ) (opening : State) (first : �
           told_stay s' stays units' us' armed' log' l e a
           (goes_on m n opening records told_blocks s k w.over w.walks s' d i group fates between stays ch takes flies settles same m (recorded m (drop first log')) now' (blocks_told us') whole bytes follows none blocks)
 
-      went_out : (stop : Option Stop) (old new : Shown) → StopsBy course (stored_size m.ty m.size) stop → old.log ≡ log → new.armed ≡ armed → (first_of g).dir ≡ WriteDir → any_bad (map (sends s.adapter ios (flat s.pool)) bs) ≡ false → s'.pool ≡ s.pool →
+      went_out : (stop : Option Stop) (old new : RigState) → StopsBy course (stored_size m.ty m.size) stop → old.log ≡ log → new.armed ≡ armed → (first_of g).dir ≡ WriteDir → any_bad (map (sends s.adapter ios (flat s.pool)) bs) ≡ false → s'.pool ≡ s.pool →
           RecordedOut s.adapter ios g (flat s.pool) fates old new → WentOut s.adapter ios g (flat s.pool) w.us stop fates old new → WalksAtTarget course m n opening first s' new.units new.armed st new.log
       went_out stop old new stops l a dir good stay r t =
           let r' : RecordedOut s.adapter ios g (flat s.pool) fates (from_first old) (from_first new) = record { entry = r.entry; what = dropped old new r.entry l r.what; moved = r.moved; fates_are = r.fates_are } in
@@ -427,7 +428,7 @@ module _ {course : Course} (m : Setting) (n : ℕ) (opening : State) (first : �
           let none = none_out m n ops s.adapter ios g s.pool k.fixed.protect fit w.over.faults fates (from_first old) (from_first new) status dir good r' before in
           on_told new.units t.units new.armed new.log on.after t.told a (grows old new r.entry l r.what.recorded) (subst AreWhole (sym stay) w.walks.follow.whole) (on.bytes_are ∙ ap flat (sym stay)) on.blocks_are on.follows none
 
-      came_in : (stop : Option Stop) (old new : Shown) → StopsBy course (stored_size m.ty m.size) stop → old.log ≡ log → new.armed ≡ armed → (first_of g).dir ≡ Read → AreWhole s'.pool → RecordedIn s.adapter ios g s.pool s'.pool fates old new →
+      came_in : (stop : Option Stop) (old new : RigState) → StopsBy course (stored_size m.ty m.size) stop → old.log ≡ log → new.armed ≡ armed → (first_of g).dir ≡ Read → AreWhole s'.pool → RecordedIn s.adapter ios g s.pool s'.pool fates old new →
           CameIn s.adapter ios g s.pool s'.pool w.us stop fates old new → WalksAtTarget course m n opening first s' new.units new.armed st new.log
       came_in stop old new stops l a dir whole r t =
           let r' : RecordedIn s.adapter ios g s.pool s'.pool fates (from_first old) (from_first new) = record { entry = r.entry; what = dropped old new r.entry l r.what; long = r.long; fates_are = r.fates_are; cells = r.cells } in
@@ -447,7 +448,7 @@ module _ {course : Course} (m : Setting) (n : ℕ) (opening : State) (first : �
           ap (λ x. stored_size x (unit_at w.us dev).size) ty ∙ ap (stored_size m.ty) bytes
 
     -- whatever the adapter did
-    module _ (old new : Shown) (image : Option (List ℕ)) (same_log : old.log ≡ log) (same_units : old.units ≡ units) (same_armed : old.armed ≡ armed) (still_armed : new.armed ≡ old.armed) (calm : CalmBy course old.faults new.faults)
+    module _ (old new : RigState) (image : Option (List ℕ)) (same_log : old.log ≡ log) (same_units : old.units ≡ units) (same_armed : old.armed ≡ armed) (still_armed : new.armed ≡ old.armed) (calm : CalmBy course old.faults new.faults)
         (laid : units ≡ units_told st image) (ready : IsStanding st image) (reach : s.sheet.devices ≤ st.devices) where
       behind_here : UnitStands st w.us dev
       behind_here =

@@ -13,6 +13,7 @@ use Rattle.dix_adapter.specs.Groups.{IsProtect}
 use Rattle.dix_adapter.specs.Room.{HoldsBlocks}
 use Rattle.dix_adapter.specs.Walking.{HasHost}
 use Rattle.rig_api.specs.Log.{Entry, HasRoom, Room as Spare}
+use Rattle.rig_api.specs.State.{RigState}
 use Rattle.rig_api.specs.Telling.{Standing, greatest_size}
 use Rattle.stack_ops.specs.declared.op.Op.{Op}
 use Rattle.stack_view.specs.Plan.{Plan}
@@ -114,8 +115,8 @@ pub record Stays (old new : Stack) : Type 0 where
   pub host : new.host ≡ old.host
 
 -- The rig goes on as it stands: its records are followed by others or by none, and its count of faults doesn't fall.
-pub record GoesOn (st st' : Standing) (log log' : List Entry) (count count' : ℕ) : Type 0 where
-  pub standing : st' ≡ st
+pub record GoesOn (old new : RigState) : Type 0 where
+  pub standing : new.standing ≡ old.standing
   pub more : List Entry
-  pub records : log' ≡ log ++ more
-  pub faults : count ≤ count'
+  pub records : new.log ≡ old.log ++ more
+  pub faults : old.faults ≤ new.faults

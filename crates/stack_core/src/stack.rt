@@ -15,6 +15,7 @@ ghost use Rattle.stack_core.specs.Doing.{CanDo, CanReach, HasBlocks};
 ghost use Rattle.stack_core.specs.Walking.{Enters, IsChosen, IsKnown, LeavesOwn, NoneFailed, Walks, WalksFalling, WalksOn, WalksTold, is_medium, units_left};
 ghost use Rattle.dix_base.specs.Told.{Calm};
 ghost use Rattle.rig_api.specs.Telling.{block_at, changed, frame_size, unit_at, with_block};
+ghost use Rattle.rig_api.specs.State.{Stays as RigStays};
 ghost use Rattle.target_answer.specs.Target.{Stored};
 ghost use Rattle.block_path.specs.Acts.{State};
 ghost use Rattle.whole_run.specs.Settings.{Setting};
@@ -109,24 +110,24 @@ impl Stack {
     pub fn step<R: Rig>(&mut self, word: u32, cut: u32, rig: &mut R)
         requires stack { IsStack self.old }
         requires some { HasStep (plan_in self.old.sheet) self.old.machine }
-        requires rig { Reaches self.old (is_some (R.image rig.old)) (R.standing rig.old) }
-        requires spare { HasSpare self.old (R.standing rig.old) (R.room rig.old) }
+        requires rig { Reaches self.old (is_some (R.state rig.old).image) (R.state rig.old).standing }
+        requires spare { HasSpare self.old (R.state rig.old).standing (R.state rig.old).room }
         ensures stack { IsStack self.new }
         ensures stays { Stays self.old self.new }
         ensures step { Steps (plan_in self.old.sheet) self.old.machine word cut self.new.machine }
-        ensures tells { is_some (R.image rig.new) ≡ is_some (R.image rig.old) }
-        ensures rig { Reaches self.new (is_some (R.image rig.new)) (R.standing rig.new) }
-        ensures goes { GoesOn (R.standing rig.old) (R.standing rig.new) (R.log rig.old) (R.log rig.new) (R.faults rig.old) (R.faults rig.new) }
-        ensures armed { R.armed rig.new ≡ R.armed rig.old }
-        ensures spare { HasSpare self.new (R.standing rig.new) (R.room rig.new) }
-        ensures walks { (m : Setting) (n : ℕ) (opening : State) (first : ℕ) → Walks m n opening first self.old (R.standing rig.old) (R.log rig.old) → Walks m n opening first self.new (R.standing rig.new) (R.log rig.new) }
-        ensures told { (m : Setting) (n : ℕ) (opening : State) (first : ℕ) → WalksTold m n opening first self.old (R.units rig.old) (R.armed rig.old) (R.standing rig.old) (R.log rig.old)
-            → Calm (R.faults rig.old) (R.faults rig.new) → WalksTold m n opening first self.new (R.units rig.new) (R.armed rig.new) (R.standing rig.new) (R.log rig.new) }
-        ensures falling { (m : Setting) (n : ℕ) (opening : State) (first : ℕ) → WalksFalling m n opening first self.old (R.units rig.old) (R.armed rig.old) (R.standing rig.old) (R.log rig.old)
-            → WalksFalling m n opening first self.new (R.units rig.new) (R.armed rig.new) (R.standing rig.new) (R.log rig.new) }
-        ensures silent { Calm (R.faults rig.old) (R.faults rig.new) → NoneFailed self.old.replies.items → NoneFailed self.new.replies.items }
-        ensures sends { SendsOn word cut self.old self.new (R.log rig.old) (R.log rig.new) }
-        ensures counts { (first : ℕ) → HasCounted first self.old (R.faults rig.old) → HasCounted first self.new (R.faults rig.new) }
+        ensures tells { is_some (R.state rig.new).image ≡ is_some (R.state rig.old).image }
+        ensures rig { Reaches self.new (is_some (R.state rig.new).image) (R.state rig.new).standing }
+        ensures goes { GoesOn (R.state rig.old) (R.state rig.new) }
+        ensures armed { (R.state rig.new).armed ≡ (R.state rig.old).armed }
+        ensures spare { HasSpare self.new (R.state rig.new).standing (R.state rig.new).room }
+        ensures walks { (m : Setting) (n : ℕ) (opening : State) (first : ℕ) → Walks m n opening first self.old (R.state rig.old).standing (R.state rig.old).log → Walks m n opening first self.new (R.state rig.new).standing (R.state rig.new).log }
+        ensures told { (m : Setting) (n : ℕ) (opening : State) (first : ℕ) → WalksTold m n opening first self.old (R.state rig.old).units (R.state rig.old).armed (R.state rig.old).standing (R.state rig.old).log
+            → Calm (R.state rig.old).faults (R.state rig.new).faults → WalksTold m n opening first self.new (R.state rig.new).units (R.state rig.new).armed (R.state rig.new).standing (R.state rig.new).log }
+        ensures falling { (m : Setting) (n : ℕ) (opening : State) (first : ℕ) → WalksFalling m n opening first self.old (R.state rig.old).units (R.state rig.old).armed (R.state rig.old).standing (R.state rig.old).log
+            → WalksFalling m n opening first self.new (R.state rig.new).units (R.state rig.new).armed (R.state rig.new).standing (R.state rig.new).log }
+        ensures silent { Calm (R.state rig.old).faults (R.state rig.new).faults → NoneFailed self.old.replies.items → NoneFailed self.new.replies.items }
+        ensures sends { SendsOn word cut self.old self.new (R.state rig.old).log (R.state rig.new).log }
+        ensures counts { (first : ℕ) → HasCounted first self.old (R.state rig.old).faults → HasCounted first self.new (R.state rig.new).faults }
     {
         let choice = self.machine.choose(&self.sheet, word);
         match choice {
@@ -183,20 +184,20 @@ impl Stack {
     fn admit<R: Rig>(&mut self, q: usize, rig: &mut R)
         requires stack { IsStack self.old }
         requires ready { Ready (plan_in self.old.sheet) self.old.machine (Admit q) }
-        requires rig { Reaches self.old (is_some (R.image rig.old)) (R.standing rig.old) }
+        requires rig { Reaches self.old (is_some (R.state rig.old).image) (R.state rig.old).standing }
         ensures stack { IsStack self.new }
         ensures stays { Stays self.old self.new }
         ensures step { (cut : ℕ) → Does (plan_in self.old.sheet) self.old.machine (Admit q) cut self.new.machine }
-        ensures walks { IsChosen self.old (Admit q) → Enters (is_some (R.image rig.old)) (R.standing rig.old) (R.units rig.old) (R.units rig.new) (R.faults rig.old) (R.faults rig.new) self.old self.new }
-        ensures silent { Calm (R.faults rig.old) (R.faults rig.new) → NoneFailed self.old.replies.items → NoneFailed self.new.replies.items }
-        ensures tells { is_some (R.image rig.new) ≡ is_some (R.image rig.old) }
-        ensures standing { R.standing rig.new ≡ R.standing rig.old }
-        ensures room { R.room rig.new ≡ R.room rig.old }
-        ensures log { R.log rig.new ≡ R.log rig.old }
-        ensures goes { GoesOn (R.standing rig.old) (R.standing rig.new) (R.log rig.old) (R.log rig.new) (R.faults rig.old) (R.faults rig.new) }
-        ensures armed { R.armed rig.new ≡ R.armed rig.old }
+        ensures walks { IsChosen self.old (Admit q) → Enters (is_some (R.state rig.old).image) (R.state rig.old).standing (R.state rig.old).units (R.state rig.new).units (R.state rig.old).faults (R.state rig.new).faults self.old self.new }
+        ensures silent { Calm (R.state rig.old).faults (R.state rig.new).faults → NoneFailed self.old.replies.items → NoneFailed self.new.replies.items }
+        ensures tells { is_some (R.state rig.new).image ≡ is_some (R.state rig.old).image }
+        ensures standing { (R.state rig.new).standing ≡ (R.state rig.old).standing }
+        ensures room { (R.state rig.new).room ≡ (R.state rig.old).room }
+        ensures log { (R.state rig.new).log ≡ (R.state rig.old).log }
+        ensures goes { GoesOn (R.state rig.old) (R.state rig.new) }
+        ensures armed { (R.state rig.new).armed ≡ (R.state rig.old).armed }
         ensures kept { self.new.kept ≡ self.old.kept }
-        ensures counts { (n first : ℕ) → RoseBy (n + medium_replies self.old.replies.items) first (R.faults rig.old) → RoseBy (n + medium_replies self.new.replies.items) first (R.faults rig.new) }
+        ensures counts { (n first : ℕ) → RoseBy (n + medium_replies self.old.replies.items) first (R.state rig.old).faults → RoseBy (n + medium_replies self.new.replies.items) first (R.state rig.new).faults }
     {
         let op = self.machine.admit(&self.sheet, q) as usize;
         if self.sheet.io(op).count > 0 {
@@ -254,25 +255,25 @@ impl Stack {
     fn send<R: Rig>(&mut self, d: u32, i: u32, rig: &mut R)
         requires stack { IsStack self.old }
         requires ready { Ready (plan_in self.old.sheet) self.old.machine (Send d i) }
-        requires rig { Reaches self.old (is_some (R.image rig.old)) (R.standing rig.old) }
-        requires spare { HasSpare self.old (R.standing rig.old) (R.room rig.old) }
+        requires rig { Reaches self.old (is_some (R.state rig.old).image) (R.state rig.old).standing }
+        requires spare { HasSpare self.old (R.state rig.old).standing (R.state rig.old).room }
         ensures stack { IsStack self.new }
         ensures stays { Stays self.old self.new }
         ensures sends { Sends (plan_in self.old.sheet) self.old.machine d i self.new.machine }
-        ensures walks { IsChosen self.old (Send d i) → (m : Setting) (n : ℕ) (opening : State) (first : ℕ) → Walks m n opening first self.old (R.standing rig.old) (R.log rig.old) → Walks m n opening first self.new (R.standing rig.new) (R.log rig.new) }
-        ensures told { IsChosen self.old (Send d i) → (m : Setting) (n : ℕ) (opening : State) (first : ℕ) → WalksTold m n opening first self.old (R.units rig.old) (R.armed rig.old) (R.standing rig.old) (R.log rig.old)
-            → Calm (R.faults rig.old) (R.faults rig.new) → WalksTold m n opening first self.new (R.units rig.new) (R.armed rig.new) (R.standing rig.new) (R.log rig.new) }
-        ensures falling { IsChosen self.old (Send d i) → (m : Setting) (n : ℕ) (opening : State) (first : ℕ) → WalksFalling m n opening first self.old (R.units rig.old) (R.armed rig.old) (R.standing rig.old) (R.log rig.old)
-            → WalksFalling m n opening first self.new (R.units rig.new) (R.armed rig.new) (R.standing rig.new) (R.log rig.new) }
+        ensures walks { IsChosen self.old (Send d i) → (m : Setting) (n : ℕ) (opening : State) (first : ℕ) → Walks m n opening first self.old (R.state rig.old).standing (R.state rig.old).log → Walks m n opening first self.new (R.state rig.new).standing (R.state rig.new).log }
+        ensures told { IsChosen self.old (Send d i) → (m : Setting) (n : ℕ) (opening : State) (first : ℕ) → WalksTold m n opening first self.old (R.state rig.old).units (R.state rig.old).armed (R.state rig.old).standing (R.state rig.old).log
+            → Calm (R.state rig.old).faults (R.state rig.new).faults → WalksTold m n opening first self.new (R.state rig.new).units (R.state rig.new).armed (R.state rig.new).standing (R.state rig.new).log }
+        ensures falling { IsChosen self.old (Send d i) → (m : Setting) (n : ℕ) (opening : State) (first : ℕ) → WalksFalling m n opening first self.old (R.state rig.old).units (R.state rig.old).armed (R.state rig.old).standing (R.state rig.old).log
+            → WalksFalling m n opening first self.new (R.state rig.new).units (R.state rig.new).armed (R.state rig.new).standing (R.state rig.new).log }
         ensures replies { self.new.replies.items ≡ self.old.replies.items }
-        ensures tells { is_some (R.image rig.new) ≡ is_some (R.image rig.old) }
-        ensures standing { R.standing rig.new ≡ R.standing rig.old }
-        ensures spare { HasSpare self.new (R.standing rig.new) (R.room rig.new) }
-        ensures goes { GoesOn (R.standing rig.old) (R.standing rig.new) (R.log rig.old) (R.log rig.new) (R.faults rig.old) (R.faults rig.new) }
-        ensures armed { R.armed rig.new ≡ R.armed rig.old }
+        ensures tells { is_some (R.state rig.new).image ≡ is_some (R.state rig.old).image }
+        ensures standing { (R.state rig.new).standing ≡ (R.state rig.old).standing }
+        ensures spare { HasSpare self.new (R.state rig.new).standing (R.state rig.new).room }
+        ensures goes { GoesOn (R.state rig.old) (R.state rig.new) }
+        ensures armed { (R.state rig.new).armed ≡ (R.state rig.old).armed }
         ensures kept { self.new.kept ≡ self.old.kept }
-        ensures carries { Carries self.old.adapter (plan_in self.old.sheet) self.old.machine d i self.new.machine (R.log rig.old) (R.log rig.new) }
-        ensures spoils { Spoils (plan_in self.old.sheet) self.old.machine d i self.new.machine (R.faults rig.old) (R.faults rig.new) }
+        ensures carries { Carries self.old.adapter (plan_in self.old.sheet) self.old.machine d i self.new.machine (R.state rig.old).log (R.state rig.new).log }
+        ensures spoils { Spoils (plan_in self.old.sheet) self.old.machine d i self.new.machine (R.state rig.old).faults (R.state rig.new).faults }
     {
         self.machine.take(&self.sheet, d, i, &mut self.group);
         self.adapter.carry(
@@ -352,17 +353,14 @@ fn seal(pool: &mut PagePool, body: &SgList, kind: GuardKind, room: Room)
 }
 
 fn overwrite<R: Rig>(rig: &mut R, dev: u32, lba: u64, change: &Change) -> Reply
-    requires { HasBlocks (is_some (R.image rig.old)) (R.standing rig.old) dev lba change.now }
+    requires { HasBlocks (is_some (R.state rig.old).image) (R.state rig.old).standing dev lba change.now }
     ensures reply { (result ≡ Silent) ⊎ (result ≡ Medium) }
-    ensures tells { is_some (R.image rig.new) ≡ is_some (R.image rig.old) }
-    ensures standing { R.standing rig.new ≡ R.standing rig.old }
-    ensures room { R.room rig.new ≡ R.room rig.old }
-    ensures armed { R.armed rig.new ≡ R.armed rig.old }
-    ensures log { R.log rig.new ≡ R.log rig.old }
-    ensures count { R.faults rig.old ≤ R.faults rig.new }
-    ensures left { (us : List Stored) → R.units rig.old ≡ Some us → result ≡ Silent → R.units rig.new ≡ Some (with_block us dev lba (changed us change.now (block_at us dev lba))) }
-    ensures failed { (us : List Stored) → R.units rig.old ≡ Some us → is_medium result ≡ true → (block : List ℕ) × ((length block ≡ frame_size (unit_at us dev)) × (R.units rig.new ≡ Some (with_block us dev lba block))) }
-    ensures silent { Calm (R.faults rig.old) (R.faults rig.new) → is_medium result ≡ false }
+    ensures stays { RigStays (R.state rig.old) (R.state rig.new) }
+    ensures room { (R.state rig.new).room ≡ (R.state rig.old).room }
+    ensures log { (R.state rig.new).log ≡ (R.state rig.old).log }
+    ensures left { (us : List Stored) → (R.state rig.old).units ≡ Some us → result ≡ Silent → (R.state rig.new).units ≡ Some (with_block us dev lba (changed us change.now (block_at us dev lba))) }
+    ensures failed { (us : List Stored) → (R.state rig.old).units ≡ Some us → is_medium result ≡ true → (block : List ℕ) × ((length block ≡ frame_size (unit_at us dev)) × ((R.state rig.new).units ≡ Some (with_block us dev lba block))) }
+    ensures silent { Calm (R.state rig.old).faults (R.state rig.new).faults → is_medium result ≡ false }
 {
     match rig.overwrite(dev, lba, change) {
         Ok(()) => Reply::Silent,
@@ -373,18 +371,15 @@ fn overwrite<R: Rig>(rig: &mut R, dev: u32, lba: u64, change: &Change) -> Reply
 /// Does an op that is no request, and says what it replies.
 fn do_op<R: Rig>(pool: &mut PagePool, op: &Op, kind: GuardKind, room: Room, rig: &mut R) -> Reply
     requires can { CanDo pool.old room op.now }
-    requires reach { CanReach (is_some (R.image rig.old)) (R.standing rig.old) op.now }
+    requires reach { CanReach (is_some (R.state rig.old).image) (R.state rig.old).standing op.now }
     ensures pages { length pool.new ≡ length pool.old }
     ensures done { OpDone op.now kind room pool.old pool.new result }
-    ensures tells { is_some (R.image rig.new) ≡ is_some (R.image rig.old) }
-    ensures standing { R.standing rig.new ≡ R.standing rig.old }
-    ensures room { R.room rig.new ≡ R.room rig.old }
-    ensures armed { R.armed rig.new ≡ R.armed rig.old }
-    ensures log { R.log rig.new ≡ R.log rig.old }
-    ensures count { R.faults rig.old ≤ R.faults rig.new }
-    ensures left { (us : List Stored) → R.units rig.old ≡ Some us → IsKnown op.now result → R.units rig.new ≡ Some (units_left op.now us) }
-    ensures failed { (us : List Stored) → R.units rig.old ≡ Some us → is_medium result ≡ true → LeavesOwn op.now us (R.units rig.new) }
-    ensures silent { Calm (R.faults rig.old) (R.faults rig.new) → is_medium result ≡ false }
+    ensures stays { RigStays (R.state rig.old) (R.state rig.new) }
+    ensures room { (R.state rig.new).room ≡ (R.state rig.old).room }
+    ensures log { (R.state rig.new).log ≡ (R.state rig.old).log }
+    ensures left { (us : List Stored) → (R.state rig.old).units ≡ Some us → IsKnown op.now result → (R.state rig.new).units ≡ Some (units_left op.now us) }
+    ensures failed { (us : List Stored) → (R.state rig.old).units ≡ Some us → is_medium result ≡ true → LeavesOwn op.now us (R.state rig.new).units }
+    ensures silent { Calm (R.state rig.old).faults (R.state rig.new).faults → is_medium result ≡ false }
 {
     match op {
         Op::Fill { seg, byte } => {

@@ -3,8 +3,8 @@ use Rattle.std.proofs.Common.{ℕ, suc, ◌≡◌, inl, inr, ◌+◌, ◌≤◌,
 use Rattle.std.specs.Prelude.{MatchResult}
 use Rattle.rig_api.specs.Log.{Entry}
 use Rattle.rig_api.specs.Telling.{Standing}
+use Rattle.rig_api.specs.State.{RigState}
 use Rattle.rig_discovery.specs.Discovery.{looks}
-use Rattle.image_commands.specs.Views.{View}
 use Rattle.script_text.specs.declared.script.Script.{Script}
 use Rattle.script_verdict.specs.Verdict.{CauseStopped, Facts, HasRun}
 use Rattle.script_verdict.specs.declared.refusal.Refusal.{Refusal}
@@ -41,27 +41,27 @@ enough : (old new more : List Entry) (first n : ℕ) → first ≡ length old �
 enough old new more first n e h m = let l = ap length h ∙ length-append old more in omega (arith, e, m, l)
 
 -- those of a run
-abbrev run_more : (run : Finished) (script : Script) (name : List ℕ) (old new : View) → HasRun run script name old new → List Entry
+abbrev run_more : (run : Finished) (script : Script) (name : List ℕ) (old new : RigState) → HasRun run script name old new → List Entry
 run_more run script name old new r = looks r.asked.told.between.standing 0 r.asked.told.found.answers ++ r.followed.goes.more
 
-run_log : (run : Finished) (script : Script) (name : List ℕ) (old new : View) (r : HasRun run script name old new) → new.seen.log ≡ old.seen.log ++ run_more run script name old new r
+run_log : (run : Finished) (script : Script) (name : List ℕ) (old new : RigState) (r : HasRun run script name old new) → new.log ≡ old.log ++ run_more run script name old new r
 run_log run script name old new r =
     let told = r.asked.told in
     let asks : List Entry = looks told.between.standing 0 told.found.answers in
-    let asked : r.told.seen.log ≡ old.seen.log ++ asks = told.found.log ∙ ap (λ v. v ++ asks) told.since.kept.log in
-    r.followed.goes.records ∙ ap (λ v. v ++ r.followed.goes.more) asked ∙ append_assoc old.seen.log asks r.followed.goes.more
+    let asked : r.told.log ≡ old.log ++ asks = told.found.log ∙ ap (λ v. v ++ asks) told.since.kept.log in
+    r.followed.goes.records ∙ ap (λ v. v ++ r.followed.goes.more) asked ∙ append_assoc old.log asks r.followed.goes.more
 
-logged : (p : Played) (f : Facts) → HasPlayed p f → AreLogged p f.rig_after.seen.log
+logged : (p : Played) (f : Facts) → HasPlayed p f → AreLogged p f.rig_after.log
 logged (played.Listed lines first) f h =
     let done = h.answered.done in
-    enough f.rig.seen.log f.rig_after.seen.log done.entries first (length lines.items) h.first_is (done.log ∙ ap (λ v. v ++ done.entries) h.answered.ready.log) (same_length h.answered.between.standing lines.items done.entries done.records)
+    enough f.rig.log f.rig_after.log done.entries first (length lines.items) h.first_is (done.log ∙ ap (λ v. v ++ done.entries) h.answered.ready.log) (same_length h.answered.between.standing lines.items done.entries done.records)
 logged (played.Ran run) f h =
-    let l = enough f.rig.seen.log f.rig_after.seen.log (run_more run h.0 f.name f.rig f.rig_after h.2) run.first (length (run_more run h.0 f.name f.rig f.rig_after h.2)) h.2.first (run_log run h.0 f.name f.rig f.rig_after h.2) refl in
+    let l = enough f.rig.log f.rig_after.log (run_more run h.0 f.name f.rig f.rig_after h.2) run.first (length (run_more run h.0 f.name f.rig f.rig_after h.2)) h.2.first (run_log run h.0 f.name f.rig f.rig_after h.2) refl in
     omega (arith, l)
 
-since : (p : Played) (f : Facts) → HasPlayed p f → f.rig_after.seen.log ≡ f.rig.seen.log ++ drop (first_of p) f.rig_after.seen.log
-since (played.Listed lines first) f h = rest_is f.rig.seen.log f.rig_after.seen.log h.answered.done.entries first h.first_is (h.answered.done.log ∙ ap (λ v. v ++ h.answered.done.entries) h.answered.ready.log)
-since (played.Ran run) f h = rest_is f.rig.seen.log f.rig_after.seen.log (run_more run h.0 f.name f.rig f.rig_after h.2) run.first h.2.first (run_log run h.0 f.name f.rig f.rig_after h.2)
+since : (p : Played) (f : Facts) → HasPlayed p f → f.rig_after.log ≡ f.rig.log ++ drop (first_of p) f.rig_after.log
+since (played.Listed lines first) f h = rest_is f.rig.log f.rig_after.log h.answered.done.entries first h.first_is (h.answered.done.log ∙ ap (λ v. v ++ h.answered.done.entries) h.answered.ready.log)
+since (played.Ran run) f h = rest_is f.rig.log f.rig_after.log (run_more run h.0 f.name f.rig f.rig_after h.2) run.first h.2.first (run_log run h.0 f.name f.rig f.rig_after h.2)
 
 come : (r : Result Played Refusal) (f : Facts) → f.reads ≤ f.reads_after → MatchResult r (λ p. HasPlayed p f) (λ x. CauseNotPlayed x f) → HasCome r f
 come (Ok p) f k h = record {
@@ -85,7 +85,7 @@ come (Err r) f k h = record {
   script_complete = script_complete r f h;
 }
 
-pub not_listed : (x : ListFault) (lines : List VectorLine) (name : List ℕ) (old new : View) → CauseUnanswered x name lines old new → CauseNotListed (refused x) lines name old new
+pub not_listed : (x : ListFault) (lines : List VectorLine) (name : List ℕ) (old new : RigState) → CauseUnanswered x name lines old new → CauseNotListed (refused x) lines name old new
 not_listed (Line f) lines name old new c = c
 not_listed (Image (fault.Image x)) lines name old new c = c
 not_listed (Image (fault.BadCapacity dev)) lines name old new c = c

@@ -9,9 +9,10 @@ use Rattle.vector_lines.specs.Texts.{head_read, is_list, list_in}
 use Rattle.source_text.proofs.Taking.{whole_text}
 use Rattle.dix_base.specs.Told.{Calm}
 use Rattle.image_commands.specs.Causes.{HasOpened}
-use Rattle.image_commands.specs.Views.{View, WasOpened}
+use Rattle.image_commands.specs.Views.{WasOpened}
 use Rattle.rig_api.specs.Head.{head_fault, head_of, units_of}
 use Rattle.rig_api.specs.declared.rig.RigFault.{RigFault}
+use Rattle.rig_api.specs.State.{RigState}
 use Rattle.script_text.specs.declared.fault.ScriptFault.{ScriptFault}
 use Rattle.script_text.specs.declared.script.Script.{Script}
 use Rattle.script_verdict.proofs.Completing.{never_rose, no_head_fault}
@@ -46,16 +47,16 @@ untaken_right : (r : Refusal) (f : Facts) (text : List ℕ) → f.left ≡ Some 
 untaken_right r f text l t k c = untaken_for_memory r f text l t (short_right text t) k c
 
 -- an image that was opened has no fault in its head
-no_fault : (name image : List ℕ) (old new : View) (x : RigFault) → old.image ≡ Some image → new.image ≡ old.image → head_fault (head_of image) ≡ Some x → WasOpened name None old new → ⊥
+no_fault : (name image : List ℕ) (old new : RigState) (x : RigFault) → old.image ≡ Some image → new.image ≡ old.image → head_fault (head_of image) ≡ Some x → WasOpened name None old new → ⊥
 no_fault name image old new x i same h w =
     let e = headed new.standing.head image new.image (same ∙ i) w.head in
     let k : ◌≡◌ {A = Option RigFault} None (Some x) = sym w.judged ∙ ap head_fault e ∙ h in
     absurd (cc)
 
-not_opened : (name image : List ℕ) (old between new : View) (x : RigFault) → old.image ≡ Some image → head_fault (head_of image) ≡ Some x → HasOpened name old between new → ⊥
+not_opened : (name image : List ℕ) (old between new : RigState) (x : RigFault) → old.image ≡ Some image → head_fault (head_of image) ≡ Some x → HasOpened name old between new → ⊥
 not_opened name image old between new x i h o = no_fault name image old between x i o.kept.image h o.opened
 
-not_ready : (name image : List ℕ) (old new : View) (x : RigFault) → old.image ≡ Some image → head_fault (head_of image) ≡ Some x → IsReady name old new → ⊥
+not_ready : (name image : List ℕ) (old new : RigState) (x : RigFault) → old.image ≡ Some image → head_fault (head_of image) ≡ Some x → IsReady name old new → ⊥
 not_ready name image old new x i h r = no_fault name image old new x i r.image h r.opened
 
 pub not_played_over : (p : Played) (f : Facts) (image : List ℕ) (x : RigFault) → f.rig.image ≡ Some image → head_fault (head_of image) ≡ Some x → HasPlayed p f → ⊥
@@ -65,25 +66,25 @@ not_played_over (played.Ran run) f image x i h c = not_opened f.name image f.rig
 abbrev pub IsHead : Refusal → Type 0
 IsHead r = ((y : RigFault) × (r ≡ refusal.Image y)) ⊎ (r ≡ refusal.Memory)
 
-stopped_at : (r : Refusal) (script : Script) (name image : List ℕ) (old new : View) (x : RigFault) → old.image ≡ Some image → head_fault (head_of image) ≡ Some x → Calm old.seen.faults new.seen.faults → CauseStopped r script name old new → IsHead r
+stopped_at : (r : Refusal) (script : Script) (name image : List ℕ) (old new : RigState) (x : RigFault) → old.image ≡ Some image → head_fault (head_of image) ≡ Some x → Calm old.faults new.faults → CauseStopped r script name old new → IsHead r
 stopped_at (refusal.Script bad) script name image old new x i h k c = absurd (not_opened name image old c.asked.told.between new x i h c.asked.told.since)
 stopped_at (refusal.Image y) script name image old new x i h k c = inl (y, refl)
 stopped_at (refusal.BadCapacity dev) script name image old new x i h k c = absurd (not_opened name image old c.between new x i h c.since)
 stopped_at (refusal.Volume entry kind) script name image old new x i h k c = absurd (not_opened name image old c.asked.told.between new x i h c.asked.told.since)
-stopped_at refusal.RigFault script name image old new x i h k c = absurd (never_rose old.seen.faults new.seen.faults k c.0)
+stopped_at refusal.RigFault script name image old new x i h k c = absurd (never_rose old.faults new.faults k c.0)
 stopped_at refusal.Memory script name image old new x i h k c = inr refl
 stopped_at refusal.ReadFault script name image old new x i h k c = absurd c
 
-not_listed_at : (r : Refusal) (lines : List VectorLine) (name image : List ℕ) (old new : View) (x : RigFault) → old.image ≡ Some image → head_fault (head_of image) ≡ Some x → Calm old.seen.faults new.seen.faults → CauseNotListed r lines name old new → IsHead r
+not_listed_at : (r : Refusal) (lines : List VectorLine) (name image : List ℕ) (old new : RigState) (x : RigFault) → old.image ≡ Some image → head_fault (head_of image) ≡ Some x → Calm old.faults new.faults → CauseNotListed r lines name old new → IsHead r
 not_listed_at (refusal.Script bad) lines name image old new x i h k c = absurd (not_ready name image old new x i h c.0)
 not_listed_at (refusal.Image y) lines name image old new x i h k c = inl (y, refl)
 not_listed_at (refusal.BadCapacity dev) lines name image old new x i h k c = absurd c
 not_listed_at (refusal.Volume entry kind) lines name image old new x i h k c = absurd c
-not_listed_at refusal.RigFault lines name image old new x i h k c = absurd (never_rose old.seen.faults new.seen.faults k c.0.0)
+not_listed_at refusal.RigFault lines name image old new x i h k c = absurd (never_rose old.faults new.faults k c.0.0)
 not_listed_at refusal.Memory lines name image old new x i h k c = inr refl
 not_listed_at refusal.ReadFault lines name image old new x i h k c = absurd c
 
-pub head_refused : (r : Refusal) (f : Facts) (text image : List ℕ) (x : RigFault) → f.left ≡ Some text → text_fault text ≡ None → f.rig.image ≡ Some image → head_fault (head_of image) ≡ Some x → Calm f.reads f.reads_after → Calm f.rig.seen.faults f.rig_after.seen.faults → CauseNotPlayed r f → IsHead r
+pub head_refused : (r : Refusal) (f : Facts) (text image : List ℕ) (x : RigFault) → f.left ≡ Some text → text_fault text ≡ None → f.rig.image ≡ Some image → head_fault (head_of image) ≡ Some x → Calm f.reads f.reads_after → Calm f.rig.faults f.rig_after.faults → CauseNotPlayed r f → IsHead r
 head_refused r f text image x l t i h k m (inl c) = inr (untaken_right r f text l t k c.0)
 head_refused r f text image x l t i h k m (inr (inl c)) = stopped_at r c.0 f.name image f.rig f.rig_after x i h m c.2
 head_refused r f text image x l t i h k m (inr (inr c)) = not_listed_at r c.0 f.name image f.rig f.rig_after x i h m c.2
@@ -103,16 +104,16 @@ not_played_out (played.Ran run) f text image lines bad l n s i o c = absurd (not
 abbrev pub IsLine : Refusal → Type 0
 IsLine r = ((y : ScriptFault) × (r ≡ refusal.Script y)) ⊎ (r ≡ refusal.Memory)
 
-not_listed_out : (r : Refusal) (lines : List VectorLine) (name image : List ℕ) (old new : View) → old.image ≡ Some image → head_fault (head_of image) ≡ None → Calm old.seen.faults new.seen.faults → CauseNotListed r lines name old new → IsLine r
+not_listed_out : (r : Refusal) (lines : List VectorLine) (name image : List ℕ) (old new : RigState) → old.image ≡ Some image → head_fault (head_of image) ≡ None → Calm old.faults new.faults → CauseNotListed r lines name old new → IsLine r
 not_listed_out (refusal.Script bad) lines name image old new i h k c = inl (bad, refl)
 not_listed_out (refusal.Image y) lines name image old new i h k c = absurd (no_head_fault image y name old new i c.1.image h c.0)
 not_listed_out (refusal.BadCapacity dev) lines name image old new i h k c = absurd c
 not_listed_out (refusal.Volume entry kind) lines name image old new i h k c = absurd c
-not_listed_out refusal.RigFault lines name image old new i h k c = absurd (never_rose old.seen.faults new.seen.faults k c.0.0)
+not_listed_out refusal.RigFault lines name image old new i h k c = absurd (never_rose old.faults new.faults k c.0.0)
 not_listed_out refusal.Memory lines name image old new i h k c = inr refl
 not_listed_out refusal.ReadFault lines name image old new i h k c = absurd c
 
-pub range_refused : (r : Refusal) (f : Facts) (text image : List ℕ) (lines : List VectorLine) → f.left ≡ Some text → is_list (lines_of text) ≡ true → list_in text ≡ Ok lines → f.rig.image ≡ Some image → head_fault (head_of image) ≡ None → Calm f.reads f.reads_after → Calm f.rig.seen.faults f.rig_after.seen.faults → CauseNotPlayed r f → IsLine r
+pub range_refused : (r : Refusal) (f : Facts) (text image : List ℕ) (lines : List VectorLine) → f.left ≡ Some text → is_list (lines_of text) ≡ true → list_in text ≡ Ok lines → f.rig.image ≡ Some image → head_fault (head_of image) ≡ None → Calm f.reads f.reads_after → Calm f.rig.faults f.rig_after.faults → CauseNotPlayed r f → IsLine r
 range_refused r f text image lines l n s i h k m (inl c) = inr (untaken_right r f text l (list_right text lines n s) k c.0)
 range_refused r f text image lines l n s i h k m (inr (inl c)) = absurd (not_both text c.1.text (sym (whole_text c.1.text text f.left f.left_after l c.1.whole)) n c.1.script_is)
 range_refused r f text image lines l n s i h k m (inr (inr c)) = not_listed_out r c.0 f.name image f.rig f.rig_after i h m c.2

@@ -3,8 +3,8 @@ use Rattle.std.proofs.Common.{ℕ, ◌≡◌, ◌⊎◌, inl, inr, ◌≤◌, Bo
 use Rattle.std.specs.Prelude.{nat_lt}
 use Rattle.std.proofs.lemmas.Bool.{ltb-false}
 use Rattle.dix_base.specs.Told.{Calm, Rose}
-use Rattle.image_commands.specs.Views.{View}
 use Rattle.rig_api.specs.Head.{Head, head_fault, head_of, units_of}
+use Rattle.rig_api.specs.State.{RigState}
 use Rattle.script_text.specs.Language.{script_in}
 use Rattle.script_text.specs.declared.fault.ScriptFault.{ScriptFault}
 use Rattle.script_text.specs.declared.script.Script.{Script}
@@ -81,13 +81,13 @@ script_complete r f (inr (inl c)) = λ text image script l n s u i h t b calm.
 script_complete r f (inr (inr c)) = λ text image script l n s u i h t b calm. absurd (not_both c.1.text text (whole_text c.1.text text f.left f.left_after l c.1.whole) c.1.list n)
 
 -- an image that is told has the devices of its head
-pub devices_are : (name image : List ℕ) (old new : View) → old.image ≡ Some image → IsReady name old new → new.standing.devices ≡ length (units_of (head_of image))
+pub devices_are : (name image : List ℕ) (old new : RigState) → old.image ≡ Some image → IsReady name old new → new.standing.devices ≡ length (units_of (head_of image))
 devices_are name image old new i r = r.counted ∙ ap (λ (h : Head). length (units_of h)) (headed new.standing.head image new.image (r.image ∙ i) r.opened.head)
 
 in_range : (lines : List VectorLine) (bad : VectorFault) (n m : ℕ) → n ≡ m → out_of_range m lines ≡ None → out_of_range n lines ≡ Some bad → ⊥
 in_range lines bad n m e a b = let k : ◌≡◌ {A = Option VectorFault} None (Some bad) = sym a ∙ ap (λ v. out_of_range v lines) (sym e) ∙ b in absurd (cc)
 
-list_from_outside : (r : Refusal) (lines : List VectorLine) (name image : List ℕ) (old new : View) → old.image ≡ Some image → head_fault (head_of image) ≡ None → out_of_range (length (units_of (head_of image))) lines ≡ None → CauseNotListed r lines name old new → IsFromOutside r
+list_from_outside : (r : Refusal) (lines : List VectorLine) (name image : List ℕ) (old new : RigState) → old.image ≡ Some image → head_fault (head_of image) ≡ None → out_of_range (length (units_of (head_of image))) lines ≡ None → CauseNotListed r lines name old new → IsFromOutside r
 list_from_outside (refusal.Script bad) lines name image old new i h o c = absurd (in_range lines _ new.standing.devices (length (units_of (head_of image))) (devices_are name image old new i c.0) o c.1)
 list_from_outside (refusal.Image x) lines name image old new i h o c = absurd (no_head_fault image x name old new i c.1.image h c.0)
 list_from_outside (refusal.BadCapacity dev) lines name image old new i h o c = absurd c
@@ -134,7 +134,7 @@ faulty_refused r f text bad l t calm (inr (inr c)) = absurd (one_fault (text_fau
 
 -- ---- what failed was counted
 
-rig_rose : (f : Facts) → CauseNotPlayed refusal.RigFault f → Rose f.rig.seen.faults f.rig_after.seen.faults
+rig_rose : (f : Facts) → CauseNotPlayed refusal.RigFault f → Rose f.rig.faults f.rig_after.faults
 rig_rose f (inl c) = absurd c.0
 rig_rose f (inr (inl c)) = c.2.0
 rig_rose f (inr (inr c)) = c.2.0.0
@@ -144,7 +144,7 @@ reads_rose f (inl c) = c.0.0
 reads_rose f (inr (inl c)) = absurd c.2
 reads_rose f (inr (inr c)) = absurd c.2
 
-pub rig_failed : (r : Refusal) (f : Facts) → r ≡ refusal.RigFault → CauseNotPlayed r f → Rose f.rig.seen.faults f.rig_after.seen.faults
+pub rig_failed : (r : Refusal) (f : Facts) → r ≡ refusal.RigFault → CauseNotPlayed r f → Rose f.rig.faults f.rig_after.faults
 rig_failed r f e c = rig_rose f (subst (λ (x : Refusal). CauseNotPlayed x f) e c)
 
 pub source_failed : (r : Refusal) (f : Facts) → r ≡ refusal.ReadFault → CauseNotPlayed r f → Rose f.reads f.reads_after

@@ -1,8 +1,9 @@
 use Rattle.std.specs.Prelude.{ℕ, ◌≡◌, ◌≤◌, ◌⊎◌, List, [], Some, None, length}
 use Rattle.rig_api.specs.Head.{units_of}
 use Rattle.rig_api.specs.Telling.{units_told}
+use Rattle.rig_api.specs.State.{RigState}
 use Rattle.image_commands.specs.Causes.{CauseUnopened}
-use Rattle.image_commands.specs.Views.{HasKept, OpenedOnce, View, WasOpened}
+use Rattle.image_commands.specs.Views.{HasKept, OpenedOnce, WasOpened}
 use Rattle.image_commands.specs.declared.fault.Fault.TheVariants as fault
 use Rattle.vector_lines.specs.declared.line.VectorLine.{VectorLine}
 use Rattle.vector_runs.specs.declared.answering.ListFault.{ListFault}
@@ -13,31 +14,31 @@ use Rattle.vector_runs.specs.Ranges.{out_of_range}
 -- A list done on an image.
 
 -- The image of this name was opened, its head is right, and its units are the devices. Its bytes and the records are as before, and no fault is armed.
-pub record IsReady (name : List ℕ) (old new : View) : Type 0 where
+pub record IsReady (name : List ℕ) (old new : RigState) : Type 0 where
   pub opened : WasOpened name None old new
   pub counted : new.standing.devices ≡ length (units_of new.standing.head)
-  pub laid : new.seen.units ≡ units_told new.standing new.image
+  pub laid : new.units ≡ units_told new.standing new.image
   pub image : new.image ≡ old.image
-  pub log : new.seen.log ≡ old.seen.log
-  pub armed : new.seen.armed ≡ []
-  pub count : old.seen.faults ≤ new.seen.faults
+  pub log : new.log ≡ old.log
+  pub armed : new.armed ≡ []
+  pub count : old.faults ≤ new.faults
 
 -- It was opened so, it can do the commands of all lines, and they were done.
-pub record HasAnswered (name : List ℕ) (lines : List VectorLine) (old new : View) : Type 0 where
-  pub between : View
+pub record HasAnswered (name : List ℕ) (lines : List VectorLine) (old new : RigState) : Type 0 where
+  pub between : RigState
   pub ready : IsReady name old between
   pub inside : out_of_range between.standing.devices lines ≡ None
   pub done : HaveDone lines between new
 
 -- It was opened so, and then memory lacked, where some of the commands were done.
-pub record BrokeOff (name : List ℕ) (lines : List VectorLine) (old new : View) : Type 0 where
-  pub between : View
+pub record BrokeOff (name : List ℕ) (lines : List VectorLine) (old new : RigState) : Type 0 where
+  pub between : RigState
   pub ready : IsReady name old between
   pub inside : out_of_range between.standing.devices lines ≡ None
   pub done : HaveDoneSome lines between new
 
 -- Why a list isn't done: its first line that can't be done, the image that isn't opened, or no memory, before the image is opened or between two commands. Only in the last case was a command done.
-abbrev pub CauseUnanswered : ListFault → List ℕ → List VectorLine → View → View → Type 0
+abbrev pub CauseUnanswered : ListFault → List ℕ → List VectorLine → RigState → RigState → Type 0
 CauseUnanswered (Line f) name lines old new = IsReady name old new × (out_of_range new.standing.devices lines ≡ Some f)
 CauseUnanswered (Image (fault.Image f)) name lines old new = CauseUnopened (fault.Image f) name old new × HasKept old new
 CauseUnanswered (Image (fault.BadCapacity dev)) name lines old new = ⊥

@@ -1,4 +1,4 @@
-use Rattle.std.specs.Prelude.{ℕ, ◌≡◌, ◌+◌, ◌*◌, ◌≤◌, min, List, [], ◌∷◌, ◌++◌, length, replicate, Some, None, is_some, Result, Ok, Err}
+use Rattle.std.specs.Prelude.{ℕ, ◌≡◌, ◌*◌, ◌≤◌, min, List, [], ◌∷◌, ◌++◌, length, replicate, Some, None, is_some, Result, Ok, Err}
 use Rattle.dix_base.specs.Told.{Calm}
 use Rattle.cdb_codec.specs.Decoded.{decoded}
 use Rattle.cdb_codec.specs.declared.command.Cdb.{Cdb}
@@ -11,7 +11,7 @@ use Rattle.target_answer.specs.Target.{Answer, Stored}
 use Rattle.rig_api.specs.Log.{Entry, entry_of}
 use Rattle.rig_api.specs.Telling.{Standing, answer_of, at_front, spec_at, with_blocks}
 use Rattle.rig_api.specs.declared.rig.Outcome.{Outcome}
-use Rattle.image_commands.specs.Views.{View}
+use Rattle.rig_api.specs.State.{RigState}
 use Rattle.vector_lines.specs.declared.line.VectorLine.{VectorLine}
 
 -- The commands of a list, each done on its device as it stands, without labels.
@@ -76,40 +76,40 @@ units_over s us (l ∷ ls) = units_over s (units_to s us l) ls
 -- ---- over a rig
 
 -- The commands of these lines were done, and nothing else. Over any rig each has one record, in order; where the blocks are told and the count of faults didn't rise, records and blocks are the units' answers, one after another.
-pub record HaveDone (lines : List VectorLine) (old new : View) : Type 0 where
+pub record HaveDone (lines : List VectorLine) (old new : RigState) : Type 0 where
   pub entries : List Entry
-  pub log : new.seen.log ≡ old.seen.log ++ entries
+  pub log : new.log ≡ old.log ++ entries
   pub records : AreRecords old.standing lines entries
-  pub told : (us : List Stored) → old.seen.units ≡ Some us → Calm old.seen.faults new.seen.faults
-      → (entries ≡ answers_over old.standing us lines) × (new.seen.units ≡ Some (units_over old.standing us lines))
+  pub told : (us : List Stored) → old.units ≡ Some us → Calm old.faults new.faults
+      → (entries ≡ answers_over old.standing us lines) × (new.units ≡ Some (units_over old.standing us lines))
   pub tells : is_some new.image ≡ is_some old.image
-  pub armed : new.seen.armed ≡ old.seen.armed
+  pub armed : new.armed ≡ old.armed
   pub standing : new.standing ≡ old.standing
-  pub count : old.seen.faults ≤ new.seen.faults
+  pub count : old.faults ≤ new.faults
 
 -- The commands of some lines, from the first on, were done, and nothing else.
-pub record HaveDoneSome (lines : List VectorLine) (old new : View) : Type 0 where
+pub record HaveDoneSome (lines : List VectorLine) (old new : RigState) : Type 0 where
   pub first : List VectorLine
   pub left : List VectorLine
   pub lines_are : lines ≡ first ++ left
   pub done : HaveDone first old new
 
 -- The command of a line was done, or, where there was no memory, not.
-pub record WasDone (l : VectorLine) (old new : View) : Type 0 where
+pub record WasDone (l : VectorLine) (old new : RigState) : Type 0 where
   pub entry : Entry
-  pub log : new.seen.log ≡ old.seen.log ++ (entry ∷ [])
+  pub log : new.log ≡ old.log ++ (entry ∷ [])
   pub is : IsRecord old.standing l entry
-  pub told : (us : List Stored) → old.seen.units ≡ Some us → Calm old.seen.faults new.seen.faults
-      → (entry ≡ entry_to old.standing us l) × (new.seen.units ≡ Some (units_to old.standing us l))
+  pub told : (us : List Stored) → old.units ≡ Some us → Calm old.faults new.faults
+      → (entry ≡ entry_to old.standing us l) × (new.units ≡ Some (units_to old.standing us l))
   pub tells : is_some new.image ≡ is_some old.image
-  pub armed : new.seen.armed ≡ old.seen.armed
+  pub armed : new.armed ≡ old.armed
   pub standing : new.standing ≡ old.standing
-  pub count : old.seen.faults ≤ new.seen.faults
+  pub count : old.faults ≤ new.faults
 
-pub record Stays (old new : View) : Type 0 where
-  pub log : new.seen.log ≡ old.seen.log
-  pub units : new.seen.units ≡ old.seen.units
+pub record Stays (old new : RigState) : Type 0 where
+  pub log : new.log ≡ old.log
+  pub units : new.units ≡ old.units
   pub image : new.image ≡ old.image
-  pub armed : new.seen.armed ≡ old.seen.armed
+  pub armed : new.armed ≡ old.armed
   pub standing : new.standing ≡ old.standing
-  pub count : old.seen.faults ≤ new.seen.faults
+  pub count : old.faults ≤ new.faults

@@ -1,9 +1,10 @@
 use Rattle.std.specs.Prelude.{ℕ, ◌≡◌, ◌+◌, ◌≤◌, ◌⊎◌, true, false, List, ◌++◌, length, drop, Some, None, Result, Ok, IfErr, IfOk, MatchResult}
 use Rattle.dix_base.specs.Told.{Calm}
-use Rattle.image_commands.specs.Views.{OpenedOnce, View}
+use Rattle.image_commands.specs.Views.{OpenedOnce}
 use Rattle.image_commands.specs.declared.fault.Fault.TheVariants as fault
 use Rattle.rig_api.specs.Head.{head_fault, head_of, units_of}
 use Rattle.rig_api.specs.Log.{Entry}
+use Rattle.rig_api.specs.State.{RigState}
 use Rattle.script_text.specs.Bindings.{binding_fault}
 use Rattle.script_text.specs.Language.{script_in}
 use Rattle.script_text.specs.declared.script.Script.{Script}
@@ -42,7 +43,7 @@ played_text (played.Ran run) entries = vectors_text entries
 pub record HasListed (lines : List VectorLine) (first : ℕ) (f : Facts) : Type 0 where
   pub held : HoldsList lines f.left f.left_after
   pub answered : HasAnswered f.name lines f.rig f.rig_after
-  pub first_is : first ≡ length f.rig.seen.log
+  pub first_is : first ≡ length f.rig.log
 
 abbrev pub HasPlayed : Played → Facts → Type 0
 HasPlayed (played.Listed lines first) f = HasListed lines.items first f
@@ -54,7 +55,7 @@ refused (Line f) = refusal.Script (as_script f)
 refused (Image f) = refusal_of f
 
 -- Why a list that was taken isn't done.
-abbrev pub CauseNotListed : Refusal → List VectorLine → List ℕ → View → View → Type 0
+abbrev pub CauseNotListed : Refusal → List VectorLine → List ℕ → RigState → RigState → Type 0
 CauseNotListed (refusal.Script bad) lines name old new = CauseUnanswered (Line (record { line = bad.line; kind = bad.kind })) name lines old new
 CauseNotListed (refusal.Image x) lines name old new = CauseUnanswered (Image (fault.Image x)) name lines old new
 CauseNotListed (refusal.BadCapacity dev) lines name old new = ⊥
@@ -71,11 +72,11 @@ CauseNotPlayed r f =
     ⊎ ((lines : List VectorLine) × HoldsList lines f.left f.left_after × CauseNotListed r lines f.name f.rig f.rig_after))
 
 -- what a list's done call shows of the list itself, over views alone
-abbrev pub ListPlayed : Played → List VectorLine → List ℕ → View → View → Type 0
-ListPlayed (played.Listed ls first) lines name old new = (ls.items ≡ lines) × HasAnswered name lines old new × (first ≡ length old.seen.log)
+abbrev pub ListPlayed : Played → List VectorLine → List ℕ → RigState → RigState → Type 0
+ListPlayed (played.Listed ls first) lines name old new = (ls.items ≡ lines) × HasAnswered name lines old new × (first ≡ length old.log)
 ListPlayed (played.Ran run) lines name old new = ⊥
 
-abbrev pub ScriptPlayed : Played → Script → List ℕ → View → View → Type 0
+abbrev pub ScriptPlayed : Played → Script → List ℕ → RigState → RigState → Type 0
 ScriptPlayed (played.Listed ls first) script name old new = ⊥
 ScriptPlayed (played.Ran run) script name old new = HasRun run script name old new
 
@@ -99,10 +100,10 @@ ScriptIsComplete r f =
 -- What a call comes to: the commands of its text were done, with the number of the first of their records; or why not. The records that the rig had are there still, and those behind them are the call's. The rig is opened at most once, by the name, and no count falls. Where nothing is at fault in text and image, want of memory alone refuses, or a fault of the rig as the image is opened.
 pub record HasCome (result : Result Played Refusal) (f : Facts) : Type 0 where
   pub verdict : MatchResult result (λ p. HasPlayed p f) (λ r. CauseNotPlayed r f)
-  pub logged : IfOk result (λ p. AreLogged p f.rig_after.seen.log)
-  pub since : IfOk result (λ p. f.rig_after.seen.log ≡ f.rig.seen.log ++ drop (first_of p) f.rig_after.seen.log)
+  pub logged : IfOk result (λ p. AreLogged p f.rig_after.log)
+  pub since : IfOk result (λ p. f.rig_after.log ≡ f.rig.log ++ drop (first_of p) f.rig_after.log)
   pub opens : OpenedOnce f.name f.rig.standing f.rig_after.standing
-  pub count : f.rig.seen.faults ≤ f.rig_after.seen.faults
+  pub count : f.rig.faults ≤ f.rig_after.faults
   pub reads : f.reads ≤ f.reads_after
   pub list_complete : IfErr result (λ r. ListIsComplete r f)
   pub script_complete : IfErr result (λ r. ScriptIsComplete r f)

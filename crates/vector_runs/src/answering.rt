@@ -1,7 +1,6 @@
 //! A list done on an image.
 
 ghost use Rattle.std.specs.Prelude.{MatchResult};
-ghost use Rattle.image_commands.specs.Views.{seen, view};
 ghost use Rattle.vector_runs.specs.Answered.{CauseUnanswered, HasAnswered};
 
 use crate::doing::do_list;
@@ -30,8 +29,8 @@ pub fn answer_list<R: Rig>(
     lines: &[VectorLine],
     rig: &mut R,
 ) -> Result<(), ListFault>
-    ensures { let old = view (R.image rig.old) (R.standing rig.old) (seen (R.units rig.old) (R.armed rig.old) (R.log rig.old) (R.faults rig.old)) in
-        let new = view (R.image rig.new) (R.standing rig.new) (seen (R.units rig.new) (R.armed rig.new) (R.log rig.new) (R.faults rig.new)) in
+    ensures { let old = R.state rig.old in
+        let new = R.state rig.new in
         MatchResult result (λ _. HasAnswered name.now lines.now old new) (λ f. CauseUnanswered f name.now lines.now old new) }
 {
     match open_image(alloc, name, rig) {

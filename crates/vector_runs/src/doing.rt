@@ -2,7 +2,6 @@
 
 ghost use Rattle.std.specs.Prelude.{◌≡◌, ◌*◌, ◌≤◌, [], true, IfOk, MatchResult, None, replicate};
 ghost use Rattle.target_answer.specs.Frames.{sent_size};
-ghost use Rattle.image_commands.specs.Views.{seen, view};
 ghost use Rattle.target_answer.specs.Requests.{blocks_of, transferred};
 ghost use Rattle.vector_runs.specs.Done.{HaveDone, HaveDoneSome, Stays, WasDone, room_by, room_of};
 ghost use Rattle.vector_runs.specs.Ranges.{is_inside, out_of_range};
@@ -55,10 +54,10 @@ fn zeros(alloc: Global, count: usize) -> Result<Vec<u8>, AllocError>
 
 /// Does the command of a line.
 fn do_line<R: Rig>(alloc: Global, line: &VectorLine, rig: &mut R) -> Result<(), AllocError>
-    requires inside { is_inside (R.standing rig.old).devices line.now ≡ true }
-    requires calm { R.armed rig.old ≡ [] }
-    ensures { let old = view (R.image rig.old) (R.standing rig.old) (seen (R.units rig.old) (R.armed rig.old) (R.log rig.old) (R.faults rig.old)) in
-        let new = view (R.image rig.new) (R.standing rig.new) (seen (R.units rig.new) (R.armed rig.new) (R.log rig.new) (R.faults rig.new)) in
+    requires inside { is_inside (R.state rig.old).standing.devices line.now ≡ true }
+    requires calm { (R.state rig.old).armed ≡ [] }
+    ensures { let old = R.state rig.old in
+        let new = R.state rig.new in
         MatchResult result (λ _. WasDone line.now old new) (λ _. Stays old new) }
 {
     let cdb = line.cdb.as_slice();
@@ -79,10 +78,10 @@ fn do_line<R: Rig>(alloc: Global, line: &VectorLine, rig: &mut R) -> Result<(), 
 /// Does the commands of the lines, in order, each on its device as it stands: with room for what it reads, and
 /// without labels. No fault is armed. Want of memory may come between two commands; then those before it are done.
 pub fn do_list<R: Rig>(alloc: Global, lines: &[VectorLine], rig: &mut R) -> Result<(), AllocError>
-    requires inside { out_of_range (R.standing rig.old).devices lines.now ≡ None }
-    requires calm { R.armed rig.old ≡ [] }
-    ensures { let old = view (R.image rig.old) (R.standing rig.old) (seen (R.units rig.old) (R.armed rig.old) (R.log rig.old) (R.faults rig.old)) in
-        let new = view (R.image rig.new) (R.standing rig.new) (seen (R.units rig.new) (R.armed rig.new) (R.log rig.new) (R.faults rig.new)) in
+    requires inside { out_of_range (R.state rig.old).standing.devices lines.now ≡ None }
+    requires calm { (R.state rig.old).armed ≡ [] }
+    ensures { let old = R.state rig.old in
+        let new = R.state rig.new in
         MatchResult result (λ _. HaveDone lines.now old new) (λ _. HaveDoneSome lines.now old new) }
 {
     for line in lines {

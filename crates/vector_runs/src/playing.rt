@@ -2,7 +2,6 @@
 
 ghost use Rattle.std.specs.Prelude.{◌≡◌, ◌≤◌, MatchResult, OnErr, OnOk, drop};
 ghost use Rattle.dix_base.specs.Told.{Appended, AppendedSome, Rose};
-ghost use Rattle.image_commands.specs.Views.{seen, view};
 ghost use Rattle.script_verdict.specs.Verdict.{CauseStopped, Facts};
 ghost use Rattle.script_verdict.specs.Working.{IsSound};
 ghost use Rattle.vector_runs.specs.ListText.{has_sense};
@@ -53,8 +52,8 @@ fn play_list<R: Rig>(
     lines: Vec<VectorLine>,
     rig: &mut R,
 ) -> Result<Played, Refusal>
-    ensures { let old = view (R.image rig.old) (R.standing rig.old) (seen (R.units rig.old) (R.armed rig.old) (R.log rig.old) (R.faults rig.old)) in
-        let new = view (R.image rig.new) (R.standing rig.new) (seen (R.units rig.new) (R.armed rig.new) (R.log rig.new) (R.faults rig.new)) in
+    ensures { let old = R.state rig.old in
+        let new = R.state rig.new in
         MatchResult result (λ p. ListPlayed p lines.items image.now old new) (λ r. CauseNotListed r lines.items image.now old new) }
 {
     let first = rig.records();
@@ -72,8 +71,8 @@ fn play_script<R: Rig>(
     rig: &mut R,
 ) -> Result<Played, Refusal>
     requires { IsSound script }
-    ensures { let old = view (R.image rig.old) (R.standing rig.old) (seen (R.units rig.old) (R.armed rig.old) (R.log rig.old) (R.faults rig.old)) in
-        let new = view (R.image rig.new) (R.standing rig.new) (seen (R.units rig.new) (R.armed rig.new) (R.log rig.new) (R.faults rig.new)) in
+    ensures { let old = R.state rig.old in
+        let new = R.state rig.new in
         MatchResult result (λ p. ScriptPlayed p script image.now old new) (λ r. CauseStopped r script image.now old new) }
 {
     match run_script(alloc, image, script, rig) {
@@ -100,8 +99,8 @@ pub fn play_source<S: Source, R: Rig>(
       left_after = S.left source.new;
       reads = S.faults source.old;
       reads_after = S.faults source.new;
-      rig = view (R.image rig.old) (R.standing rig.old) (seen (R.units rig.old) (R.armed rig.old) (R.log rig.old) (R.faults rig.old));
-      rig_after = view (R.image rig.new) (R.standing rig.new) (seen (R.units rig.new) (R.armed rig.new) (R.log rig.new) (R.faults rig.new));
+      rig = R.state rig.old;
+      rig_after = R.state rig.new;
     } in
         HasCome result f }
 {
@@ -117,9 +116,9 @@ pub fn play_source<S: Source, R: Rig>(
 /// `Failed` comes only where the sink's count of faults rose; then a prefix of the text was written. It takes
 /// no memory.
 pub fn print_played<O: Sink, R: Rig>(out: &mut O, rig: &R, played: &Played) -> Result<(), Failed>
-    requires { AreLogged played.now (R.log rig.now) }
-    ensures whole { OnOk result (Appended (played_text played.now (drop (first_of played.now) (R.log rig.now))) (O.taken out.old) (O.taken out.new)) }
-    ensures part { OnErr result (AppendedSome (played_text played.now (drop (first_of played.now) (R.log rig.now))) (O.taken out.old) (O.taken out.new)) }
+    requires { AreLogged played.now (R.state rig.now).log }
+    ensures whole { OnOk result (Appended (played_text played.now (drop (first_of played.now) (R.state rig.now).log)) (O.taken out.old) (O.taken out.new)) }
+    ensures part { OnErr result (AppendedSome (played_text played.now (drop (first_of played.now) (R.state rig.now).log)) (O.taken out.old) (O.taken out.new)) }
     ensures cause { OnErr result (Rose (O.faults out.old) (O.faults out.new)) }
     ensures count { O.faults out.old ≤ O.faults out.new }
 {
@@ -142,8 +141,8 @@ impl Played {
 
     /// Whether some of the commands, which were done on this rig, has a sense.
     pub fn has_sense<R: Rig>(&self, rig: &R) -> bool
-        requires { AreLogged self.now (R.log rig.now) }
-        ensures { result ≡ has_sense (drop (first_of self.now) (R.log rig.now)) }
+        requires { AreLogged self.now (R.state rig.now).log }
+        ensures { result ≡ has_sense (drop (first_of self.now) (R.state rig.now).log) }
     {
         has_sense(rig, self.first())
     }

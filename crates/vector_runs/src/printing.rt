@@ -16,9 +16,9 @@ fn write_line<O: Sink, R: Rig>(
     i: u32,
     line: &VectorLine,
 ) -> Result<(), Failed>
-    requires { i < length (R.log rig.now) }
-    ensures whole { OnOk result (Appended (line_text line.now (entry_at (R.log rig.now) i)) (O.taken out.old) (O.taken out.new)) }
-    ensures part { OnErr result (AppendedSome (line_text line.now (entry_at (R.log rig.now) i)) (O.taken out.old) (O.taken out.new)) }
+    requires { i < length (R.state rig.now).log }
+    ensures whole { OnOk result (Appended (line_text line.now (entry_at (R.state rig.now).log i)) (O.taken out.old) (O.taken out.new)) }
+    ensures part { OnErr result (AppendedSome (line_text line.now (entry_at (R.state rig.now).log i)) (O.taken out.old) (O.taken out.new)) }
     ensures cause { OnErr result (Rose (O.faults out.old) (O.faults out.new)) }
     ensures count { O.faults out.old ≤ O.faults out.new }
 {
@@ -33,9 +33,9 @@ fn write_lines<O: Sink, R: Rig>(
     from: u32,
     lines: &[VectorLine],
 ) -> Result<(), Failed>
-    requires { from + length lines.now ≤ length (R.log rig.now) }
-    ensures whole { OnOk result (Appended (lines_text lines.now (drop from (R.log rig.now))) (O.taken out.old) (O.taken out.new)) }
-    ensures part { OnErr result (AppendedSome (lines_text lines.now (drop from (R.log rig.now))) (O.taken out.old) (O.taken out.new)) }
+    requires { from + length lines.now ≤ length (R.state rig.now).log }
+    ensures whole { OnOk result (Appended (lines_text lines.now (drop from (R.state rig.now).log)) (O.taken out.old) (O.taken out.new)) }
+    ensures part { OnErr result (AppendedSome (lines_text lines.now (drop from (R.state rig.now).log)) (O.taken out.old) (O.taken out.new)) }
     ensures cause { OnErr result (Rose (O.faults out.old) (O.faults out.new)) }
     ensures count { O.faults out.old ≤ O.faults out.new }
 {
@@ -58,9 +58,9 @@ pub fn print_list<O: Sink, R: Rig>(
     from: u32,
     lines: &[VectorLine],
 ) -> Result<(), Failed>
-    requires { from + length lines.now ≤ length (R.log rig.now) }
-    ensures whole { OnOk result (Appended (list_text lines.now (drop from (R.log rig.now))) (O.taken out.old) (O.taken out.new)) }
-    ensures part { OnErr result (AppendedSome (list_text lines.now (drop from (R.log rig.now))) (O.taken out.old) (O.taken out.new)) }
+    requires { from + length lines.now ≤ length (R.state rig.now).log }
+    ensures whole { OnOk result (Appended (list_text lines.now (drop from (R.state rig.now).log)) (O.taken out.old) (O.taken out.new)) }
+    ensures part { OnErr result (AppendedSome (list_text lines.now (drop from (R.state rig.now).log)) (O.taken out.old) (O.taken out.new)) }
     ensures cause { OnErr result (Rose (O.faults out.old) (O.faults out.new)) }
     ensures count { O.faults out.old ≤ O.faults out.new }
 {
@@ -71,8 +71,8 @@ pub fn print_list<O: Sink, R: Rig>(
 
 /// Whether some record, from number `from` on, has a sense.
 pub fn has_sense<R: Rig>(rig: &R, from: u32) -> bool
-    requires { from ≤ length (R.log rig.now) }
-    ensures { result ≡ has_sense (drop from (R.log rig.now)) }
+    requires { from ≤ length (R.state rig.now).log }
+    ensures { result ≡ has_sense (drop from (R.state rig.now).log) }
 {
     for i in from..rig.records() {
         if rig.logged(i).outcome.sense.is_some() {

@@ -46,7 +46,7 @@ fn is_inside(devices: u32, line: &VectorLine) -> bool
 /// The first line whose device the rig hasn't, or whose command has more than 1,024 blocks (or 32 bytes, which no line
 /// that was read has).
 pub fn out_of_range<R: Rig>(rig: &R, lines: &[VectorLine]) -> Option<VectorFault>
-    ensures { result ≡ out_of_range (R.standing rig.now).devices lines.now }
+    ensures { result ≡ out_of_range (R.state rig.now).standing.devices lines.now }
 {
     for line in lines {
         if !is_inside(rig.devices(), line) {

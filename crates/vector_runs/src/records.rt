@@ -11,9 +11,9 @@ use vector_lines::{in_of, out_of, write_first, write_vector};
 
 /// Writes the line of record `i`.
 fn write_record<O: Sink, R: Rig>(out: &mut O, rig: &R, i: u32) -> Result<(), Failed>
-    requires { i < length (R.log rig.now) }
-    ensures whole { OnOk result (Appended (record_text (entry_at (R.log rig.now) i)) (O.taken out.old) (O.taken out.new)) }
-    ensures part { OnErr result (AppendedSome (record_text (entry_at (R.log rig.now) i)) (O.taken out.old) (O.taken out.new)) }
+    requires { i < length (R.state rig.now).log }
+    ensures whole { OnOk result (Appended (record_text (entry_at (R.state rig.now).log i)) (O.taken out.old) (O.taken out.new)) }
+    ensures part { OnErr result (AppendedSome (record_text (entry_at (R.state rig.now).log i)) (O.taken out.old) (O.taken out.new)) }
     ensures cause { OnErr result (Rose (O.faults out.old) (O.faults out.new)) }
     ensures count { O.faults out.old ≤ O.faults out.new }
 {
@@ -26,9 +26,9 @@ fn write_record<O: Sink, R: Rig>(out: &mut O, rig: &R, i: u32) -> Result<(), Fai
 }
 
 fn write_records<O: Sink, R: Rig>(out: &mut O, rig: &R, from: u32) -> Result<(), Failed>
-    requires { from ≤ length (R.log rig.now) }
-    ensures whole { OnOk result (Appended (records_text (drop from (R.log rig.now))) (O.taken out.old) (O.taken out.new)) }
-    ensures part { OnErr result (AppendedSome (records_text (drop from (R.log rig.now))) (O.taken out.old) (O.taken out.new)) }
+    requires { from ≤ length (R.state rig.now).log }
+    ensures whole { OnOk result (Appended (records_text (drop from (R.state rig.now).log)) (O.taken out.old) (O.taken out.new)) }
+    ensures part { OnErr result (AppendedSome (records_text (drop from (R.state rig.now).log)) (O.taken out.old) (O.taken out.new)) }
     ensures cause { OnErr result (Rose (O.faults out.old) (O.faults out.new)) }
     ensures count { O.faults out.old ≤ O.faults out.new }
 {
@@ -44,9 +44,9 @@ fn write_records<O: Sink, R: Rig>(out: &mut O, rig: &R, from: u32) -> Result<(),
 /// `Failed` comes only where the sink's count of faults rose; then a prefix of the text was written. It takes
 /// no memory.
 pub fn print_records<O: Sink, R: Rig>(out: &mut O, rig: &R, from: u32) -> Result<(), Failed>
-    requires { from ≤ length (R.log rig.now) }
-    ensures whole { OnOk result (Appended (vectors_text (drop from (R.log rig.now))) (O.taken out.old) (O.taken out.new)) }
-    ensures part { OnErr result (AppendedSome (vectors_text (drop from (R.log rig.now))) (O.taken out.old) (O.taken out.new)) }
+    requires { from ≤ length (R.state rig.now).log }
+    ensures whole { OnOk result (Appended (vectors_text (drop from (R.state rig.now).log)) (O.taken out.old) (O.taken out.new)) }
+    ensures part { OnErr result (AppendedSome (vectors_text (drop from (R.state rig.now).log)) (O.taken out.old) (O.taken out.new)) }
     ensures cause { OnErr result (Rose (O.faults out.old) (O.faults out.new)) }
     ensures count { O.faults out.old ≤ O.faults out.new }
 {

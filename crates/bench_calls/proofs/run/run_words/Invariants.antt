@@ -5,6 +5,6 @@ use Rattle.bench_calls.proofs.run.run_words.Given as goal
 abbrev pub invariant-loop-step : goal.invariant-loop-step
 invariant-loop-step g l = record {
   is : IsStack l.stack;
-  reaches : Reaches l.stack (is_some (g.R.Rig.image l.rig)) (g.R.Rig.standing l.rig);
-  spare : HasSpare l.stack (g.R.Rig.standing l.rig) (g.R.Rig.room l.rig);
+  reaches : Reaches l.stack (is_some (g.R.Rig.state l.rig).image) (g.R.Rig.state l.rig).standing;
+  spare : HasSpare l.stack (g.R.Rig.state l.rig).standing (g.R.Rig.state l.rig).room;
 }

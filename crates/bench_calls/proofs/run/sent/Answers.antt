@@ -1,6 +1,7 @@
 use Rattle.std.proofs.Common.{◌≡◌, ℕ, ◌+◌, ◌*◌, ap, ◌∙◌, arith}
 use Rattle.rig_api.specs.Log.{HasRoom, Room}
 use Rattle.rig_api.specs.Telling.{Standing, greatest_size}
+use Rattle.rig_api.specs.State.{RigState}
 use Rattle.rig_log.specs.Logs.{room_in}
 use Rattle.stack_view.specs.Runs.{blocks_of_requests}
 use Rattle.stack_core.specs.Stacks.{plan_in}
@@ -18,10 +19,10 @@ room-of a b n k r e p h =
 
 pub run_words-requires-clause-rig : goal.run_words-requires-clause-rig
 run_words-requires-clause-rig c =
-    c.requires.reaches (standing_of c.reserve.new.self.devices) (ap (λ (s : Standing). s.devices) c.reserve.ensures.standing ∙ c.new-rig.ensures)
+    c.requires.reaches (standing_of c.reserve.new.self.devices) (ap (λ (s : Standing). s.devices) (ap (λ (s : RigState). s.standing) c.reserve.ensures.keeps) ∙ c.new-rig.ensures)
 
 pub run_words-requires-clause-spare : goal.run_words-requires-clause-spare
 run_words-requires-clause-spare c =
     c.requires.spare (standing_of c.reserve.new.self.devices) (room_in c.reserve.new.self.log)
     (room-of (standing_of c.new-rig.result.devices) (standing_of c.reserve.new.self.devices) c.blocks-blocks.result (blocks_of_requests (plan_in c.args.stack.sheet).requests) (room_in c.reserve.new.self.log)
-    c.reserve.ensures.standing c.blocks-blocks.ensures.all c.in_ok-reserve.ensures.room)
+    (ap (λ (s : RigState). s.standing) c.reserve.ensures.keeps) c.blocks-blocks.ensures.all c.in_ok-reserve.ensures.room)

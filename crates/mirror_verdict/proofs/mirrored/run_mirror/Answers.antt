@@ -1,5 +1,4 @@
-use Rattle.std.proofs.Common.{◌≡◌, [], inr}
-use Rattle.image_commands.specs.Views.{seen, view}
+use Rattle.std.proofs.Common.{[], inr}
 use Rattle.mirror_verdict.proofs.Mirroring.{IsUp, has-devices, midway, mirrored}
 use Rattle.mirror_verdict.proofs.Refusing.{bound_mirror}
 use Rattle.mirror_verdict.proofs.mirrored.run_mirror.Goals as goal
@@ -15,9 +14,9 @@ serve-requires-clause-rig g c = rw c.in-Ok-new.ensures.devices (has-devices c.ar
 
 pub returns-in-Ok-serve : goal.returns-in-Ok-serve
 returns-in-Ok-serve g c =
-    let old = view (g.R.Rig.image c.args.rig.now) (g.R.Rig.standing c.args.rig.now) (seen (g.R.Rig.units c.args.rig.now) (g.R.Rig.armed c.args.rig.now) (g.R.Rig.log c.args.rig.now) (g.R.Rig.faults c.args.rig.now)) in
-    let told = view (g.R.Rig.image c.bind.new.rig) (g.R.Rig.standing c.bind.new.rig) (seen (g.R.Rig.units c.bind.new.rig) (g.R.Rig.armed c.bind.new.rig) (g.R.Rig.log c.bind.new.rig) (g.R.Rig.faults c.bind.new.rig)) in
-    let new = view (g.R.Rig.image c.serve.new.rig) (g.R.Rig.standing c.serve.new.rig) (seen (g.R.Rig.units c.serve.new.rig) (g.R.Rig.armed c.serve.new.rig) (g.R.Rig.log c.serve.new.rig) (g.R.Rig.faults c.serve.new.rig)) in
+    let old = g.R.Rig.state c.args.rig.now in
+    let told = g.R.Rig.state c.bind.new.rig in
+    let new = g.R.Rig.state c.serve.new.rig in
     let devices = c.in-Ok.devices.items in
     let begun = c.in-Ok-new.mirror in
     let asked = c.in-Ok.ensures.asked in
@@ -34,9 +33,9 @@ returns-in-Ok-serve g c =
 
 pub returns-in-Err-serve : goal.returns-in-Err-serve
 returns-in-Err-serve g c =
-    let old = view (g.R.Rig.image c.args.rig.now) (g.R.Rig.standing c.args.rig.now) (seen (g.R.Rig.units c.args.rig.now) (g.R.Rig.armed c.args.rig.now) (g.R.Rig.log c.args.rig.now) (g.R.Rig.faults c.args.rig.now)) in
-    let told = view (g.R.Rig.image c.bind.new.rig) (g.R.Rig.standing c.bind.new.rig) (seen (g.R.Rig.units c.bind.new.rig) (g.R.Rig.armed c.bind.new.rig) (g.R.Rig.log c.bind.new.rig) (g.R.Rig.faults c.bind.new.rig)) in
-    let new = view (g.R.Rig.image c.serve.new.rig) (g.R.Rig.standing c.serve.new.rig) (seen (g.R.Rig.units c.serve.new.rig) (g.R.Rig.armed c.serve.new.rig) (g.R.Rig.log c.serve.new.rig) (g.R.Rig.faults c.serve.new.rig)) in
+    let old = g.R.Rig.state c.args.rig.now in
+    let told = g.R.Rig.state c.bind.new.rig in
+    let new = g.R.Rig.state c.serve.new.rig in
     let devices = c.in-Ok.devices.items in
     let begun = c.in-Ok-new.mirror in
     let asked = c.in-Ok.ensures.asked in

@@ -1,15 +1,15 @@
-use Rattle.std.proofs.Common.{◌≡◌, ℕ, suc, ◌+◌, ◌<◌, Bool, true, List, [], ◌++◌, length, refl, sym, ap, ◌∙◌, subst, arith}
+use Rattle.std.proofs.Common.{◌≡◌, suc, ◌+◌, Bool, true, [], ◌++◌, length, refl, ap, ◌∙◌, subst, arith}
 use Rattle.std.specs.Prelude.{Ok, Result}
 use Rattle.std.specs.declared.alloc.AllocError.{AllocError}
-use Rattle.script_stack.specs.Going.{Outside}
 use Rattle.mirror_volume.specs.declared.legs.Plan.{Plan}
 use Rattle.mirror_verdict.specs.Stages.{Broke, Served, stage_of}
 use Rattle.mirror_verdict.proofs.Staging.{breaks-in-op, next-served, none-yet, on-err}
 use Rattle.mirror_verdict.proofs.serving.do_ops.Goals as goal
+use Rattle.rig_api.specs.State.{RigState}
 
 pub loop-init : goal.loop-init
 loop-init g c =
-    let begun = stage_of c.args.mirror.now [] (record { units = g.R.Rig.units c.args.rig.now; armed = g.R.Rig.armed c.args.rig.now; standing = g.R.Rig.standing c.args.rig.now; log = g.R.Rig.log c.args.rig.now; faults = g.R.Rig.faults c.args.rig.now }) in
+    let begun = stage_of c.args.mirror.now [] (g.R.Rig.state c.args.rig.now) in
     record {
       mirror = c.requires.mirror;
       plan = refl;
@@ -23,9 +23,9 @@ pub loop-preserved : goal.loop-preserved
 loop-preserved g c =
     let s = c.args.mirror.now.plan.script in
     let devices = c.args.mirror.now.plan.devices.items in
-    let before : Outside = record { units = g.R.Rig.units c.args.rig.now; armed = g.R.Rig.armed c.args.rig.now; standing = g.R.Rig.standing c.args.rig.now; log = g.R.Rig.log c.args.rig.now; faults = g.R.Rig.faults c.args.rig.now } in
-    let between : Outside = record { units = g.R.Rig.units c.loop.rig; armed = g.R.Rig.armed c.loop.rig; standing = g.R.Rig.standing c.loop.rig; log = g.R.Rig.log c.loop.rig; faults = g.R.Rig.faults c.loop.rig } in
-    let after : Outside = record { units = g.R.Rig.units c.next.new.rig; armed = g.R.Rig.armed c.next.new.rig; standing = g.R.Rig.standing c.next.new.rig; log = g.R.Rig.log c.next.new.rig; faults = g.R.Rig.faults c.next.new.rig } in
+    let before : RigState = g.R.Rig.state c.args.rig.now in
+    let between : RigState = g.R.Rig.state c.loop.rig in
+    let after : RigState = g.R.Rig.state c.next.new.rig in
     let inv = c.loop.invariant in
     let begun = stage_of c.args.mirror.now [] before in
     let old = stage_of c.loop.mirror inv.served.0 between in
@@ -53,9 +53,9 @@ pub returns-in_err-next-clause-done : goal.returns-in_err-next-clause-done
 returns-in_err-next-clause-done g c =
     let s = c.args.mirror.now.plan.script in
     let devices = c.args.mirror.now.plan.devices.items in
-    let before : Outside = record { units = g.R.Rig.units c.args.rig.now; armed = g.R.Rig.armed c.args.rig.now; standing = g.R.Rig.standing c.args.rig.now; log = g.R.Rig.log c.args.rig.now; faults = g.R.Rig.faults c.args.rig.now } in
-    let between : Outside = record { units = g.R.Rig.units c.loop.rig; armed = g.R.Rig.armed c.loop.rig; standing = g.R.Rig.standing c.loop.rig; log = g.R.Rig.log c.loop.rig; faults = g.R.Rig.faults c.loop.rig } in
-    let after : Outside = record { units = g.R.Rig.units c.next.new.rig; armed = g.R.Rig.armed c.next.new.rig; standing = g.R.Rig.standing c.next.new.rig; log = g.R.Rig.log c.next.new.rig; faults = g.R.Rig.faults c.next.new.rig } in
+    let before : RigState = g.R.Rig.state c.args.rig.now in
+    let between : RigState = g.R.Rig.state c.loop.rig in
+    let after : RigState = g.R.Rig.state c.next.new.rig in
     let inv = c.loop.invariant in
     let begun = stage_of c.args.mirror.now [] before in
     let old = stage_of c.loop.mirror inv.served.0 between in

@@ -1,4 +1,4 @@
-use Rattle.std.proofs.Common.{◌≡◌, ℕ, false, List, [], is_some}
+use Rattle.std.proofs.Common.{◌≡◌, false, List, [], is_some}
 use Rattle.leg_runs.specs.LegRuns.{LegRun}
 use Rattle.mirror_volume.specs.Plans.{IsMirror}
 use Rattle.mirror_verdict.specs.Stages.{Served, stage_of}
@@ -10,8 +10,8 @@ invariant-loop g l = record {
   plan : l.mirror.plan ≡ l.fn.mirror.plan;
   going : l.mirror.failed ≡ false;
   served : (runs : List LegRun) × Served l.fn.mirror.plan.script l.fn.mirror.plan.devices.items
-      (stage_of l.fn.mirror [] (record { units = g.R.Rig.units l.fn.rig; armed = g.R.Rig.armed l.fn.rig; standing = g.R.Rig.standing l.fn.rig; log = g.R.Rig.log l.fn.rig; faults = g.R.Rig.faults l.fn.rig })) l.counter
-      (stage_of l.mirror runs (record { units = g.R.Rig.units l.rig; armed = g.R.Rig.armed l.rig; standing = g.R.Rig.standing l.rig; log = g.R.Rig.log l.rig; faults = g.R.Rig.faults l.rig }));
-  tells : is_some (g.R.Rig.image l.rig) ≡ is_some (g.R.Rig.image l.fn.rig);
-  standing : g.R.Rig.standing l.rig ≡ g.R.Rig.standing l.fn.rig;
+      (stage_of l.fn.mirror [] (g.R.Rig.state l.fn.rig)) l.counter
+      (stage_of l.mirror runs (g.R.Rig.state l.rig));
+  tells : is_some (g.R.Rig.state l.rig).image ≡ is_some (g.R.Rig.state l.fn.rig).image;
+  standing : (g.R.Rig.state l.rig).standing ≡ (g.R.Rig.state l.fn.rig).standing;
 }

@@ -1,17 +1,17 @@
-use Rattle.std.proofs.Common.{◌≡◌, [], length, subst}
-use Rattle.script_stack.specs.Going.{Outside}
+use Rattle.std.proofs.Common.{[], length, subst}
 use Rattle.mirror_verdict.specs.Stages.{Served, stage_of}
 use Rattle.mirror_verdict.proofs.Staging.{ends-repair}
 use Rattle.mirror_verdict.proofs.serving.serve.Goals as goal
+use Rattle.rig_api.specs.State.{RigState}
 
 pub returns-clause-done : goal.returns-clause-done
 returns-clause-done g c =
     let s = c.args.mirror.now.plan.script in
     let devices = c.args.mirror.now.plan.devices.items in
     let mid = c.do_ops.new.mirror in
-    let before : Outside = record { units = g.R.Rig.units c.args.rig.now; armed = g.R.Rig.armed c.args.rig.now; standing = g.R.Rig.standing c.args.rig.now; log = g.R.Rig.log c.args.rig.now; faults = g.R.Rig.faults c.args.rig.now } in
-    let between : Outside = record { units = g.R.Rig.units c.do_ops.new.rig; armed = g.R.Rig.armed c.do_ops.new.rig; standing = g.R.Rig.standing c.do_ops.new.rig; log = g.R.Rig.log c.do_ops.new.rig; faults = g.R.Rig.faults c.do_ops.new.rig } in
-    let after : Outside = record { units = g.R.Rig.units c.repair.new.rig; armed = g.R.Rig.armed c.repair.new.rig; standing = g.R.Rig.standing c.repair.new.rig; log = g.R.Rig.log c.repair.new.rig; faults = g.R.Rig.faults c.repair.new.rig } in
+    let before : RigState = g.R.Rig.state c.args.rig.now in
+    let between : RigState = g.R.Rig.state c.do_ops.new.rig in
+    let after : RigState = g.R.Rig.state c.repair.new.rig in
     let begun = stage_of c.args.mirror.now [] before in
     let served = c.in_ok-do_ops.ensures.done in
     let old = stage_of mid served.0 between in

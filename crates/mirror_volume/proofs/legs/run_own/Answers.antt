@@ -2,10 +2,10 @@ use Rattle.std.proofs.Common.{ℕ, ◌≡◌, ◌-◌, ◌≤◌, [], ◌∷◌,
 use Rattle.std.proofs.lemmas.List.{take_all}
 use Rattle.script_stack.specs.Causes.{table_of}
 use Rattle.script_stack.specs.Followed.{Ran}
-use Rattle.script_stack.specs.Going.{Outside}
 use Rattle.leg_runs.specs.LegRuns.{LegRun}
 use Rattle.leg_runs.proofs.Runs.{ran-none, ran-one}
 use Rattle.mirror_volume.proofs.legs.run_own.Goals as goal
+use Rattle.rig_api.specs.State.{RigState}
 
 pub returns-in_err-table-clause-ran : goal.returns-in_err-table-clause-ran
 returns-in_err-table-clause-ran g c =
@@ -23,14 +23,15 @@ slice_bounds-rest-start g c =
     search rules
 
 pub returns-in_err-stack-clause-ran : goal.returns-in_err-stack-clause-ran
-returns-in_err-stack-clause-ran g c = (
-  [],
-  (
-    ran-none (table_of c.args.plan.now.script c.args.plan.now.devices.items) c.args.plan.now.devices.items _ _
-        (record { units = c.in_err-stack.ensures.units; standing = c.run_bound.ensures.standing; log = c.in_err-stack.ensures.log; faults = c.in_err-stack.ensures.faults }),
-    (refl, (tt, search rules)),
-  ),
-)
+returns-in_err-stack-clause-ran g c =
+    let same = c.in_err-stack.ensures.unarmed in (
+      [],
+      (
+        ran-none (table_of c.args.plan.now.script c.args.plan.now.devices.items) c.args.plan.now.devices.items _ _
+            (record { units = ap (λ (s : RigState). s.units) same; standing = ap (λ (s : RigState). s.standing) same; log = ap (λ (s : RigState). s.log) same; faults = ap (λ (s : RigState). s.faults) same }),
+        (refl, (tt, search rules)),
+      ),
+    )
 
 pub returns-clause-ran : goal.returns-clause-ran
 returns-clause-ran g c =
@@ -42,8 +43,8 @@ returns-clause-ran g c =
     let r = c.in_ok-stack.stack in
     let old = c.args.rig.now in
     let new = c.run_bound.new.rig in
-    let before : Outside = record { units = g.R.Rig.units old; armed = g.R.Rig.armed old; standing = g.R.Rig.standing old; log = g.R.Rig.log old; faults = g.R.Rig.faults old } in
-    let after : Outside = record { units = g.R.Rig.units new; armed = g.R.Rig.armed new; standing = g.R.Rig.standing new; log = g.R.Rig.log new; faults = g.R.Rig.faults new } in
+    let before : RigState = g.R.Rig.state old in
+    let after : RigState = g.R.Rig.state new in
     let table : c.in_ok-table.table ≡ t = c.in_ok-table.ensures ∙ ap (table_of plan.script) c.as_slice.ensures.value in
     let all = c.as_slice-2.result.now in
     let rest = take (length all - c.args.used.now) (drop c.args.used.now all) in

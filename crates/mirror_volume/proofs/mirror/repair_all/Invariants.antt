@@ -7,14 +7,12 @@ use Rattle.mirror_volume.proofs.mirror.repair_all.Given as goal
 
 abbrev pub invariant-loop-i : goal.invariant-loop-i
 invariant-loop-i g l = record {
-  ran : RanBy (table_of l.plan.script l.plan.devices.items) l.plan.devices.items l.plan.script.schedule
-      (record { units = g.R.Rig.units l.fn.rig; armed = g.R.Rig.armed l.fn.rig; standing = g.R.Rig.standing l.fn.rig; log = g.R.Rig.log l.fn.rig; faults = g.R.Rig.faults l.fn.rig })
-      (record { units = g.R.Rig.units l.rig; armed = g.R.Rig.armed l.rig; standing = g.R.Rig.standing l.rig; log = g.R.Rig.log l.rig; faults = g.R.Rig.faults l.rig })
+  ran : RanBy (table_of l.plan.script l.plan.devices.items) l.plan.devices.items l.plan.script.schedule (g.R.Rig.state l.fn.rig) (g.R.Rig.state l.rig)
       l.fn.state.used l.state.used
       (λ (runs : List LegRun). AllOwn (IsRepairOf l.plan.script l.plan.half) runs
       × RepairBy l.plan.script l.plan.half 0 l.i (record { marks = l.fn.state.marks.items; repaired = 0; lost = 0 }) (record { marks = l.state.marks.items; repaired = l.done.repaired; lost = l.done.lost }) runs);
-  tells : is_some (g.R.Rig.image l.rig) ≡ is_some (g.R.Rig.image l.fn.rig);
-  standing : g.R.Rig.standing l.rig ≡ g.R.Rig.standing l.fn.rig;
+  tells : is_some (g.R.Rig.state l.rig).image ≡ is_some (g.R.Rig.state l.fn.rig).image;
+  standing : (g.R.Rig.state l.rig).standing ≡ (g.R.Rig.state l.fn.rig).standing;
   used : l.state.used ≤ length l.plan.script.schedule;
   pages : l.state.pool ≡ l.fn.state.pool;
   marks : length l.state.marks.items ≡ length l.fn.state.marks.items;

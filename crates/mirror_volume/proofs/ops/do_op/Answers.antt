@@ -6,7 +6,6 @@ use Rattle.stack_ops.specs.Footprints.{put_seg}
 use Rattle.stack_ops.specs.declared.op.Op.{Op}
 use Rattle.stack_ops.specs.declared.op.Op.TheVariants.{Fetch, Fill, Overwrite, Put, Show, Write}
 use Rattle.script_stack.specs.Causes.{table_of}
-use Rattle.script_stack.specs.Going.{Outside}
 use Rattle.mirror_script.specs.MirrorFaults.{op_fault}
 use Rattle.leg_runs.specs.OnOps.{DidOp, RanOp, Sides}
 use Rattle.leg_runs.specs.Standing.{op_at}
@@ -15,6 +14,7 @@ use Rattle.mirror_volume.proofs.Pieces.{fetch-suits, write-suits}
 use Rattle.leg_runs.proofs.Reached.{has-blocks}
 use Rattle.leg_runs.proofs.Requests.{op-fits, overwrite-fits}
 use Rattle.mirror_volume.proofs.ops.do_op.Goals as goal
+use Rattle.rig_api.specs.State.{RigState}
 
 pub write_blocks-requires-clause-piece : goal.write_blocks-requires-clause-piece
 write_blocks-requires-clause-piece g c =
@@ -73,7 +73,7 @@ pub returns-in-Fill-clause-ran : goal.returns-in-Fill-clause-ran
 returns-in-Fill-clause-ran g c =
     let p = c.args.plan.now in
     let old : Sides = record { pool = c.args.state.now.pool; marks = c.args.state.now.marks.items } in
-    let now : Outside = record { units = g.R.Rig.units c.args.rig.now; armed = g.R.Rig.armed c.args.rig.now; standing = g.R.Rig.standing c.args.rig.now; log = g.R.Rig.log c.args.rig.now; faults = g.R.Rig.faults c.args.rig.now } in
+    let now : RigState = g.R.Rig.state c.args.rig.now in
     let is = op-is p.script.ops c.as_slice.result.now c.args.at c.index-as_slice-at.result (Fill c.in-Fill.seg c.in-Fill.byte) c.as_slice.ensures c.requires.op c.index-as_slice-at.is c.in-Fill.is in
     did-fill p.script p.devices.items p.half (c.args.at + 1) c.args.state.now.used old (record { pool = c.fill.new.pool; marks = old.marks }) now (op_at p.script.ops c.args.at) c.in-Fill.seg c.in-Fill.byte is c.fill.ensures refl
 
@@ -81,7 +81,7 @@ pub returns-in-Put-clause-ran : goal.returns-in-Put-clause-ran
 returns-in-Put-clause-ran g c =
     let p = c.args.plan.now in
     let old : Sides = record { pool = c.args.state.now.pool; marks = c.args.state.now.marks.items } in
-    let now : Outside = record { units = g.R.Rig.units c.args.rig.now; armed = g.R.Rig.armed c.args.rig.now; standing = g.R.Rig.standing c.args.rig.now; log = g.R.Rig.log c.args.rig.now; faults = g.R.Rig.faults c.args.rig.now } in
+    let now : RigState = g.R.Rig.state c.args.rig.now in
     let is = op-is p.script.ops c.as_slice.result.now c.args.at c.index-as_slice-at.result (Put c.in-Put.page c.in-Put.off c.in-Put.bytes) c.as_slice.ensures c.requires.op c.index-as_slice-at.is c.in-Put.is in
     let wrote = subst (λ (bs : List ℕ). Wrote old.pool c.put.new.pool (places_of (put_seg c.in-Put.page c.in-Put.off bs)) bs) c.as_slice-in-Put.ensures c.put.ensures in
     did-put p.script p.devices.items p.half (c.args.at + 1) c.args.state.now.used old (record { pool = c.put.new.pool; marks = old.marks }) now (op_at p.script.ops c.args.at) c.in-Put.page c.in-Put.off c.in-Put.bytes is wrote refl
@@ -90,7 +90,7 @@ pub returns-in-Show-clause-ran : goal.returns-in-Show-clause-ran
 returns-in-Show-clause-ran g c =
     let p = c.args.plan.now in
     let old : Sides = record { pool = c.args.state.now.pool; marks = c.args.state.now.marks.items } in
-    let now : Outside = record { units = g.R.Rig.units c.args.rig.now; armed = g.R.Rig.armed c.args.rig.now; standing = g.R.Rig.standing c.args.rig.now; log = g.R.Rig.log c.args.rig.now; faults = g.R.Rig.faults c.args.rig.now } in
+    let now : RigState = g.R.Rig.state c.args.rig.now in
     let is = op-is p.script.ops c.as_slice.result.now c.args.at c.index-as_slice-at.result (Show c.in-Show.seg) c.as_slice.ensures c.requires.op c.index-as_slice-at.is c.in-Show.is in
     did-show p.script p.devices.items p.half (c.args.at + 1) c.args.state.now.used old now (op_at p.script.ops c.args.at) c.in-Show.seg c.shown.result is c.shown.ensures
 
@@ -98,35 +98,35 @@ pub returns-in-Write-clause-ran : goal.returns-in-Write-clause-ran
 returns-in-Write-clause-ran g c =
     let p = c.args.plan.now in
     let old : Sides = record { pool = c.args.state.now.pool; marks = c.args.state.now.marks.items } in
-    let now : Outside = record { units = g.R.Rig.units c.args.rig.now; armed = g.R.Rig.armed c.args.rig.now; standing = g.R.Rig.standing c.args.rig.now; log = g.R.Rig.log c.args.rig.now; faults = g.R.Rig.faults c.args.rig.now } in
+    let now : RigState = g.R.Rig.state c.args.rig.now in
     let is = op-is p.script.ops c.as_slice.result.now c.args.at c.index-as_slice-at.result (Write c.in-Write.v c.in-Write.n c.in-Write.body c.in-Write.app) c.as_slice.ensures c.requires.op c.index-as_slice-at.is c.in-Write.is in
     let new : Sides = record { pool = c.write_blocks.new.state.pool; marks = c.write_blocks.new.state.marks.items } in
-    let after : Outside = record { units = g.R.Rig.units c.write_blocks.new.rig; armed = g.R.Rig.armed c.write_blocks.new.rig; standing = g.R.Rig.standing c.write_blocks.new.rig; log = g.R.Rig.log c.write_blocks.new.rig; faults = g.R.Rig.faults c.write_blocks.new.rig } in
+    let after : RigState = g.R.Rig.state c.write_blocks.new.rig in
     subst (λ (op : Op). RanOp p.script p.devices.items p.half (c.args.at + 1) op old.pool c.args.state.now.used c.write_blocks.new.state.used now after (λ runs. IfOk c.write_blocks.result (DidOp p.script p.half (c.args.at + 1) op old new now after runs))) (sym is) c.write_blocks.ensures.ran
 
 pub returns-in-Fetch-clause-ran : goal.returns-in-Fetch-clause-ran
 returns-in-Fetch-clause-ran g c =
     let p = c.args.plan.now in
     let old : Sides = record { pool = c.args.state.now.pool; marks = c.args.state.now.marks.items } in
-    let now : Outside = record { units = g.R.Rig.units c.args.rig.now; armed = g.R.Rig.armed c.args.rig.now; standing = g.R.Rig.standing c.args.rig.now; log = g.R.Rig.log c.args.rig.now; faults = g.R.Rig.faults c.args.rig.now } in
+    let now : RigState = g.R.Rig.state c.args.rig.now in
     let is = op-is p.script.ops c.as_slice.result.now c.args.at c.index-as_slice-at.result (Fetch c.in-Fetch.v c.in-Fetch.n c.in-Fetch.body) c.as_slice.ensures c.requires.op c.index-as_slice-at.is c.in-Fetch.is in
     let new : Sides = record { pool = c.fetch_blocks.new.state.pool; marks = c.fetch_blocks.new.state.marks.items } in
-    let after : Outside = record { units = g.R.Rig.units c.fetch_blocks.new.rig; armed = g.R.Rig.armed c.fetch_blocks.new.rig; standing = g.R.Rig.standing c.fetch_blocks.new.rig; log = g.R.Rig.log c.fetch_blocks.new.rig; faults = g.R.Rig.faults c.fetch_blocks.new.rig } in
+    let after : RigState = g.R.Rig.state c.fetch_blocks.new.rig in
     subst (λ (op : Op). RanOp p.script p.devices.items p.half (c.args.at + 1) op old.pool c.args.state.now.used c.fetch_blocks.new.state.used now after (λ runs. IfOk c.fetch_blocks.result (DidOp p.script p.half (c.args.at + 1) op old new now after runs))) (sym is) c.fetch_blocks.ensures.ran
 
 pub returns-in-Overwrite-clause-ran : goal.returns-in-Overwrite-clause-ran
 returns-in-Overwrite-clause-ran g c =
     let p = c.args.plan.now in
     let old : Sides = record { pool = c.args.state.now.pool; marks = c.args.state.now.marks.items } in
-    let now : Outside = record { units = g.R.Rig.units c.args.rig.now; armed = g.R.Rig.armed c.args.rig.now; standing = g.R.Rig.standing c.args.rig.now; log = g.R.Rig.log c.args.rig.now; faults = g.R.Rig.faults c.args.rig.now } in
+    let now : RigState = g.R.Rig.state c.args.rig.now in
     let is = op-is p.script.ops c.as_slice.result.now c.args.at c.index-as_slice-at.result (Overwrite c.in-Overwrite.dev c.in-Overwrite.lba c.in-Overwrite.change) c.as_slice.ensures c.requires.op c.index-as_slice-at.is c.in-Overwrite.is in
-    let after : Outside = record { units = g.R.Rig.units c.overwrite.new.rig; armed = g.R.Rig.armed c.overwrite.new.rig; standing = g.R.Rig.standing c.overwrite.new.rig; log = g.R.Rig.log c.overwrite.new.rig; faults = g.R.Rig.faults c.overwrite.new.rig } in
+    let after : RigState = g.R.Rig.state c.overwrite.new.rig in
     did-overwrite p.script p.devices.items p.half (c.args.at + 1) c.args.state.now.used old now after (op_at p.script.ops c.args.at) c.in-Overwrite.dev c.in-Overwrite.lba c.in-Overwrite.change c.overwrite.result is c.overwrite.ensures.reply c.overwrite.ensures.altered c.overwrite.ensures.made
 
 pub returns-in-Seal-clause-ran : goal.returns-in-Seal-clause-ran
 returns-in-Seal-clause-ran g c =
     let p = c.args.plan.now in
     let old : Sides = record { pool = c.args.state.now.pool; marks = c.args.state.now.marks.items } in
-    let now : Outside = record { units = g.R.Rig.units c.args.rig.now; armed = g.R.Rig.armed c.args.rig.now; standing = g.R.Rig.standing c.args.rig.now; log = g.R.Rig.log c.args.rig.now; faults = g.R.Rig.faults c.args.rig.now } in
+    let now : RigState = g.R.Rig.state c.args.rig.now in
     let is = op-is p.script.ops c.as_slice.result.now c.args.at c.index-as_slice-at.result c.index-as_slice-at.result c.as_slice.ensures c.requires.op c.index-as_slice-at.is refl in
     did-idle p.script p.devices.items p.half (c.args.at + 1) c.args.state.now.used old now (op_at p.script.ops c.args.at) c.index-as_slice-at.result is c.in-Seal.is

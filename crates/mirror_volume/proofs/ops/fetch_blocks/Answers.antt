@@ -6,13 +6,13 @@ use Rattle.page_pool.specs.Places.{range_of, total}
 use Rattle.stack_ops.specs.declared.reply.Reply.{Reply}
 use Rattle.whole_run.specs.ScriptWalk.{bad_from, whole_or_bad}
 use Rattle.mirror_walk.specs.declared.marks.Marks.{Marks}
-use Rattle.script_stack.specs.Going.{Outside}
 use Rattle.leg_runs.specs.OnOps.{Sides}
 use Rattle.mirror_legs.specs.declared.piece.Piece.{Piece}
 use Rattle.leg_runs.specs.Asked.{IsReadOf}
 use Rattle.leg_runs.specs.LegRuns.{AllOwn}
 use Rattle.leg_runs.proofs.Dones.{did-fetch, reads}
 use Rattle.mirror_volume.proofs.ops.fetch_blocks.Goals as goal
+use Rattle.rig_api.specs.State.{RigState}
 
 pub returns-in_err-listed-clause-ran : goal.returns-in_err-listed-clause-ran
 returns-in_err-listed-clause-ran g c =
@@ -28,8 +28,8 @@ returns-clause-ran g c =
     let new : Sides = record { pool = c.scatter.new.self; marks = c.args.state.now.marks.items } in
     let asked = c.args.rig.now in
     let end = c.read_blocks.new.rig in
-    let before : Outside = record { units = g.R.Rig.units asked; armed = g.R.Rig.armed asked; standing = g.R.Rig.standing asked; log = g.R.Rig.log asked; faults = g.R.Rig.faults asked } in
-    let after : Outside = record { units = g.R.Rig.units end; armed = g.R.Rig.armed end; standing = g.R.Rig.standing end; log = g.R.Rig.log end; faults = g.R.Rig.faults end } in
+    let before : RigState = g.R.Rig.state asked in
+    let after : RigState = g.R.Rig.state end in
     let q = c.whole_request-on0.result in
     let whole = c.whole_request-on0.ensures in
     let m = c.args.state.now.marks.items in

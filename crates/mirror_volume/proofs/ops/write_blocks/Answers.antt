@@ -1,12 +1,12 @@
 use Rattle.std.proofs.Common.{◌≡◌, take, drop, ◌++◌, take_at, ◌*◌, ap, length, refl, rules, subst, sym, ◌∙◌, List}
 use Rattle.std.specs.Prelude.{IfOk}
 use Rattle.mirror_walk.specs.declared.marks.Marks.{Marks}
-use Rattle.script_stack.specs.Going.{Outside}
 use Rattle.mirror_legs.specs.declared.piece.Piece.{Piece}
 use Rattle.leg_runs.specs.OnOps.{Sides, WroteBy}
 use Rattle.leg_runs.proofs.Dones.{data-long, did-write}
 use Rattle.leg_runs.proofs.Runs.{ran-nothing}
 use Rattle.mirror_volume.proofs.ops.write_blocks.Goals as goal
+use Rattle.rig_api.specs.State.{RigState}
 
 pub returns-in_err-bytes-clause-ran : goal.returns-in_err-bytes-clause-ran
 returns-in_err-bytes-clause-ran g c = ran-nothing _ _ _ _ _ _ (search rules)
@@ -23,8 +23,8 @@ returns-clause-ran g c =
     let new : Sides = record { pool = c.args.state.now.pool; marks = take c.args.state.now.marks.len (c.write_request.new.marks ++ drop (length c.write_request.new.marks) c.args.state.now.marks.items) } in
     let asked = c.args.rig.now in
     let end = c.write_request.new.rig in
-    let before : Outside = record { units = g.R.Rig.units asked; armed = g.R.Rig.armed asked; standing = g.R.Rig.standing asked; log = g.R.Rig.log asked; faults = g.R.Rig.faults asked } in
-    let after : Outside = record { units = g.R.Rig.units end; armed = g.R.Rig.armed end; standing = g.R.Rig.standing end; log = g.R.Rig.log end; faults = g.R.Rig.faults end } in
+    let before : RigState = g.R.Rig.state asked in
+    let after : RigState = g.R.Rig.state end in
     let q = c.whole_request-on0.result in
     let copied = c.deref.ensures.value ∙ c.in_ok-bytes.ensures in
     let long = c.write_request.ensures.marks ∙ c.deref_mut.ensures.len in

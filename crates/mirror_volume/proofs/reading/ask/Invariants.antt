@@ -8,14 +8,12 @@ use Rattle.mirror_volume.proofs.reading.ask.Given as goal
 
 abbrev pub invariant-loop-i : goal.invariant-loop-i
 invariant-loop-i g l = record {
-  ran : RanBy (table_of l.plan.script l.plan.devices.items) l.plan.devices.items l.plan.script.schedule
-      (record { units = g.R.Rig.units l.fn.rig; armed = g.R.Rig.armed l.fn.rig; standing = g.R.Rig.standing l.fn.rig; log = g.R.Rig.log l.fn.rig; faults = g.R.Rig.faults l.fn.rig })
-      (record { units = g.R.Rig.units l.rig; armed = g.R.Rig.armed l.rig; standing = g.R.Rig.standing l.rig; log = g.R.Rig.log l.rig; faults = g.R.Rig.faults l.rig })
+  ran : RanBy (table_of l.plan.script l.plan.devices.items) l.plan.devices.items l.plan.script.schedule (g.R.Rig.state l.fn.rig) (g.R.Rig.state l.rig)
       l.fn.used l.used
       (λ (runs : List LegRun). AllOwn (IsReadOf l.plan.script l.plan.half l.whole) runs × (AreOf (read_script l.plan.script l.plan.half) l.whole (take l.i l.parts.items) runs
       × ((l.came.found.items ≡ found_after (take l.i l.parts.items) runs l.fn.came.found.items) × (l.came.bytes.items ≡ bytes_after l.plan.script.block (take l.i l.parts.items) runs l.fn.came.bytes.items))));
-  tells : is_some (g.R.Rig.image l.rig) ≡ is_some (g.R.Rig.image l.fn.rig);
-  standing : g.R.Rig.standing l.rig ≡ g.R.Rig.standing l.fn.rig;
+  tells : is_some (g.R.Rig.state l.rig).image ≡ is_some (g.R.Rig.state l.fn.rig).image;
+  standing : (g.R.Rig.state l.rig).standing ≡ (g.R.Rig.state l.fn.rig).standing;
   used : l.used ≤ length l.plan.script.schedule;
   found : length l.came.found.items ≡ length l.fn.came.found.items;
   bytes : length l.came.bytes.items ≡ length l.fn.came.bytes.items;

@@ -8,15 +8,13 @@ use Rattle.mirror_volume.proofs.repair.mend_all.Given as goal
 
 abbrev pub invariant-loop-i : goal.invariant-loop-i
 invariant-loop-i g l = record {
-  ran : RanBy (table_of l.plan.script l.plan.devices.items) l.plan.devices.items l.plan.script.schedule
-      (record { units = g.R.Rig.units l.fn.rig; armed = g.R.Rig.armed l.fn.rig; standing = g.R.Rig.standing l.fn.rig; log = g.R.Rig.log l.fn.rig; faults = g.R.Rig.faults l.fn.rig })
-      (record { units = g.R.Rig.units l.rig; armed = g.R.Rig.armed l.rig; standing = g.R.Rig.standing l.rig; log = g.R.Rig.log l.rig; faults = g.R.Rig.faults l.rig })
+  ran : RanBy (table_of l.plan.script l.plan.devices.items) l.plan.devices.items l.plan.script.schedule (g.R.Rig.state l.fn.rig) (g.R.Rig.state l.rig)
       l.fn.used l.used
       (λ (runs : List LegRun). AllOwn (IsRepairOf l.plan.script l.plan.half) runs
       × MendsBy l.plan.script l.plan.half l.whole.n l.whole.v (take l.i (needs_by (goods_in l.plan.script.block l.held0) (goods_in l.plan.script.block l.held1)))
       (record { marks = l.fn.marks; repaired = l.fn.done.repaired; lost = l.fn.done.lost }) (record { marks = l.marks; repaired = l.done.repaired; lost = l.done.lost }) runs);
-  tells : is_some (g.R.Rig.image l.rig) ≡ is_some (g.R.Rig.image l.fn.rig);
-  standing : g.R.Rig.standing l.rig ≡ g.R.Rig.standing l.fn.rig;
+  tells : is_some (g.R.Rig.state l.rig).image ≡ is_some (g.R.Rig.state l.fn.rig).image;
+  standing : (g.R.Rig.state l.rig).standing ≡ (g.R.Rig.state l.fn.rig).standing;
   used : l.used ≤ length l.plan.script.schedule;
   marks : length l.marks ≡ length l.fn.marks;
   few : l.done.repaired + l.done.lost ≤ l.fn.done.repaired + (l.fn.done.lost + l.i);

@@ -1,12 +1,11 @@
 use Rattle.std.proofs.Common.{sym, ◌∙◌}
-use Rattle.image_commands.specs.Views.{seen, view}
 use Rattle.nvme_command.proofs.Steps.{exact_came}
 use Rattle.nvme_command.proofs.doing.do_opened.Goals as goal
 
 pub returns-in-Ok-do_lines : goal.returns-in-Ok-do_lines
 returns-in-Ok-do_lines g c = record {
   devices = c.in-Ok.front;
-  between = view (g.R.Rig.image c.open.new.rig) (g.R.Rig.standing c.open.new.rig) (seen (g.R.Rig.units c.open.new.rig) (g.R.Rig.armed c.open.new.rig) (g.R.Rig.log c.open.new.rig) (g.R.Rig.faults c.open.new.rig));
+  between = g.R.Rig.state c.open.new.rig;
   told = c.in-Ok.ensures.told;
   fit = sym c.misfit.ensures ∙ c.in-None.is;
   came = c.in-Ok-do_lines.ensures;

@@ -18,8 +18,8 @@ returns-in-Ok-clause-done g c =
       never = c.in-Ok.ensures.never;
       medium = c.in-Ok.ensures.medium;
       devices_are = rw c.do_command.ensures.front at c.do_command.ensures.devices;
-      tells = c.do_command.ensures.tells;
-      armed = c.do_command.ensures.armed;
-      standing = c.do_command.ensures.standing;
-      count = c.do_command.ensures.count;
+      tells = c.do_command.ensures.stays.tells;
+      armed = c.do_command.ensures.stays.armed;
+      standing = c.do_command.ensures.stays.standing;
+      count = c.do_command.ensures.stays.count;
     }

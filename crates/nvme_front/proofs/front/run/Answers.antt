@@ -16,7 +16,7 @@ pub send-outcome-requires-clause-room : goal.send-outcome-requires-clause-room
 send-outcome-requires-clause-room g c =
     let cdb : c.deref.result.now ≡ form (scsi_command c.args.device.ty c.args.command.now) = c.deref.ensures.0 ∙ c.encode-cdb.ensures ∙ ap form c.scsi_command.ensures.value in
     let fits : Fits (scsi_command c.args.device.ty c.args.command.now) = rw c.scsi_command.ensures.value at c.scsi_command.ensures.fits in
-    subst (λ m. HasRoom (greatest_size (g.R.Rig.standing c.args.rig.now)) 1 m (g.R.Rig.room c.args.rig.now)) (sym (ap blocks_of cdb ∙ blocks-are c.args.device.ty c.args.command.now fits)) c.requires.room
+    subst (λ m. HasRoom (greatest_size (g.R.Rig.state c.args.rig.now).standing) 1 m (g.R.Rig.state c.args.rig.now).room) (sym (ap blocks_of cdb ∙ blocks-are c.args.device.ty c.args.command.now fits)) c.requires.room
 
 pub send-outcome-requires-clause-capacity : goal.send-outcome-requires-clause-capacity
 send-outcome-requires-clause-capacity g c =

@@ -8,13 +8,4 @@ returns-clause-exchanged g c =
     c.split_at_mut-out.ensures.front
     (c.split_at_mut-into.ensures.front ∙ ap (take c.args.room) c.split_at_mut-out.ensures.back)
     (sym (ap (take c.args.room) (cut-back c.args.sent c.split_at_mut-out.result.0.now _ c.split_at_mut-out.ensures.front_len) ∙ cut-front c.args.room c.exchange.new.into _ (c.exchange.auto.into ∙ c.split_at_mut-into.ensures.front_len)))
-    (record {
-      recorded = c.exchange.ensures.recorded;
-      calm = c.exchange.ensures.calm;
-      stopped = c.exchange.ensures.told;
-      medium = c.exchange.ensures.medium;
-      told = c.exchange.ensures.tells;
-      standing = c.exchange.ensures.standing;
-      armed = c.exchange.ensures.armed;
-      count = c.exchange.ensures.count;
-    })
+    c.exchange.ensures.exchanged

@@ -20,5 +20,5 @@ returns-clause-told g c =
 
 pub returns-clause-devices : goal.returns-clause-devices
 returns-clause-devices g c =
-    subst (λ ds. HasDevices ds (g.R.Rig.standing c.do_granted.new.rig) (g.R.Rig.units c.do_granted.new.rig)) (sym c.do_granted.ensures.front)
-    (devices-kept c.args.front.now _ _ _ _ _ _ c.requires.devices (g.met.R.Rig.laid c.args.rig.now) (g.met.R.Rig.laid c.do_granted.new.rig) c.do_granted.ensures.standing c.do_granted.ensures.tells)
+    subst (λ ds. HasDevices ds (g.R.Rig.state c.do_granted.new.rig).standing (g.R.Rig.state c.do_granted.new.rig).units) (sym c.do_granted.ensures.front)
+    (devices-kept c.args.front.now _ _ _ _ _ _ c.requires.devices (g.met.R.Rig.laid c.args.rig.now) (g.met.R.Rig.laid c.do_granted.new.rig) c.do_granted.ensures.stays.standing c.do_granted.ensures.stays.tells)

@@ -2,34 +2,35 @@ use Rattle.std.proofs.Common.{ap, ◌∙◌, arith}
 use Rattle.std.specs.Prelude.{is_some}
 use Rattle.std.specs.List.{list_all}
 use Rattle.rig_api.specs.Telling.{Standing}
+use Rattle.rig_api.specs.State.{RigState}
 use Rattle.nvme_front.specs.Refusals.{has_size}
-use Rattle.image_commands.proofs.Devices.{devices_are, few_units, units_through, untold}
+use Rattle.image_commands.proofs.Devices.{devices_are, few_units, untold}
 use Rattle.nvme_session.proofs.Sizes.{for-front, sizes-found}
 use Rattle.nvme_session.proofs.opening.front_of.Goals as goal
 
 pub discover-requires-clause-few : goal.discover-requires-clause-few
 discover-requires-clause-few g c =
     let few = few_units _ c.requires.right in
-    let same = ap (λ (s : Standing). s.devices) c.reserve.ensures.standing in
+    let same = ap (λ (s : Standing). s.devices) (ap (λ (s : RigState). s.standing) c.reserve.ensures.keeps) in
     omega (arith, few, same, c.requires.devices)
 
 pub new-requires-clause-sizes : goal.new-requires-clause-sizes
 new-requires-clause-sizes g c =
-    let found = rw (c.reserve.ensures.standing) at c.in-Ok-discover.ensures.found in
-    ap (list_all has_size) c.deref.ensures.0 ∙ sizes-found (g.R.Rig.standing c.args.rig.now) c.in-Ok-discover.devices.items _ _ c.requires.right c.requires.devices found
+    let found = rw (ap (λ (s : RigState). s.standing) c.reserve.ensures.keeps) at c.in-Ok-discover.ensures.found in
+    ap (list_all has_size) c.deref.ensures.0 ∙ sizes-found (g.R.Rig.state c.args.rig.now).standing c.in-Ok-discover.devices.items _ _ c.requires.right c.requires.devices found
 
 pub returns-in-Err-discover-clause-cause : goal.returns-in-Err-discover-clause-cause
 returns-in-Err-discover-clause-cause g c =
-    let same = units_through _ _ _ _ _ _ (g.met.R.Rig.laid c.args.rig.now) (g.met.R.Rig.laid c.reserve.new.self) c.reserve.ensures.standing c.reserve.ensures.image in
-    (rw (c.reserve.ensures.standing, c.reserve.ensures.log) at c.in-Err-discover.ensures.fault, untold _ (λ t. (let told = ap is_some same ∙ t in let ok = c.in-Err-discover.ensures.never told in cc)))
+    let same = ap (λ (s : RigState). s.units) c.reserve.ensures.keeps in
+    (rw (ap (λ (s : RigState). s.standing) c.reserve.ensures.keeps, ap (λ (s : RigState). s.log) c.reserve.ensures.keeps) at c.in-Err-discover.ensures.fault, untold _ (λ t. (let told = ap is_some same ∙ t in let ok = c.in-Err-discover.ensures.never told in cc)))
 
 pub returns-in-Err-discover-clause-units : goal.returns-in-Err-discover-clause-units
-returns-in-Err-discover-clause-units g c = c.discover.ensures.units ∙ units_through _ _ _ _ _ _ (g.met.R.Rig.laid c.args.rig.now) (g.met.R.Rig.laid c.reserve.new.self) c.reserve.ensures.standing c.reserve.ensures.image
+returns-in-Err-discover-clause-units g c = c.discover.ensures.units ∙ ap (λ (s : RigState). s.units) c.reserve.ensures.keeps
 
 pub returns-in-Ok-new-clause-devices : goal.returns-in-Ok-new-clause-devices
 returns-in-Ok-new-clause-devices g c =
     let few = few_units _ c.requires.right in
-    let same = ap (λ (s : Standing). s.devices) c.reserve.ensures.standing in
+    let same = ap (λ (s : Standing). s.devices) (ap (λ (s : RigState). s.standing) c.reserve.ensures.keeps) in
     for-front _ _ _ _ (c.in-Ok-new.ensures ∙ c.deref.ensures.0)
-    (devices_are _ _ c.in-Ok-discover.devices.items _ _ _ c.in-Ok-discover.ensures.found (omega (arith, few, same, c.requires.devices)) c.in-Ok-discover.ensures.ends c.discover.ensures.standing c.discover.ensures.units
+    (devices_are _ _ c.in-Ok-discover.devices.items _ _ _ c.in-Ok-discover.ensures.found (omega (arith, few, same, c.requires.devices)) c.in-Ok-discover.ensures.ends c.discover.ensures.stays.standing c.discover.ensures.units
     (g.met.R.Rig.laid c.reserve.new.self) c.in-Ok-discover.ensures.told)

@@ -1,5 +1,6 @@
 use Rattle.std.proofs.Common.{◌≡◌, ◌≤◌, length, refl, ap, ◌∙◌, arith}
 use Rattle.rig_api.specs.Telling.{unit_at}
+use Rattle.rig_api.proofs.State.{stays-on, stays-still}
 use Rattle.volume_table.specs.declared.device.DeviceInfo.{DeviceInfo}
 use Rattle.pi_scrub.specs.Looks.{info_at}
 use Rattle.pi_scrub.proofs.Joining.{device_is, did_bound, end_of, looked_none, looked_then, one_look, rest_at_end, rest_at_first, told_step}
@@ -12,10 +13,7 @@ loop-left-init g c = record {
   looked = looked_none _ _ _ _ _ _ (omega arith);
   told = λ us e calm. rest_at_first _ c.args.dev (unit_at us c.args.dev) _ (ap (λ (i : DeviceInfo). i.first) (device_is c.args.devices.now us c.args.dev (c.requires.devices.told us e) c.requires.device));
   units = refl;
-  tells = refl;
-  standing = refl;
-  armed = refl;
-  count = omega arith;
+  stays = stays-still _;
 }
 
 pub look-requires-clause-end : goal.look-requires-clause-end
@@ -38,16 +36,13 @@ loop-left-preserved g c =
     record {
       span = omega (arith, c.loop-left.invariant.span, bound.1, within);
       above = omega (arith, c.loop-left.invariant.above);
-      looked = looked_then c.args.devices.now _ _ _ _ _ _ _ _ _ _ _ _ c.loop-left.invariant.count c.look.ensures.count c.loop-left.invariant.looked
-          (one_look c.args.devices.now c.args.dev _ c.loop-left.lba c.min-n.result c.in_ok-settled.field-0 c.loop-left.left _ _ _ _ _ _ _ c.look.ensures.count some most refl within c.in_ok-settled.ensures.did);
+      looked = looked_then c.args.devices.now _ _ _ _ _ _ _ _ _ _ _ _ c.loop-left.invariant.stays.count c.look.ensures.stays.count c.loop-left.invariant.looked
+          (one_look c.args.devices.now c.args.dev _ c.loop-left.lba c.min-n.result c.in_ok-settled.field-0 c.loop-left.left _ _ _ _ _ _ _ c.look.ensures.stays.count some most refl within c.in_ok-settled.ensures.did);
       told = λ us e calm.
           told_step c.args.devices.now us _ c.args.dev c.loop-left.lba c.min-n.result c.in_ok-settled.field-0 c.loop-left.left _ _ _ _ _ _ _ _ _ (device_is c.args.devices.now us c.args.dev (c.requires.devices.told us e) c.requires.device) refl
-          c.loop-left.invariant.above c.loop-left.invariant.span within c.loop-left.invariant.count c.look.ensures.count (c.loop-left.invariant.units ∙ e) calm (λ first. c.loop-left.invariant.told us e first) c.in_ok-settled.ensures.did;
+          c.loop-left.invariant.above c.loop-left.invariant.span within c.loop-left.invariant.stays.count c.look.ensures.stays.count (c.loop-left.invariant.units ∙ e) calm (λ first. c.loop-left.invariant.told us e first) c.in_ok-settled.ensures.did;
       units = c.look.ensures.units ∙ c.loop-left.invariant.units;
-      tells = c.look.ensures.tells ∙ c.loop-left.invariant.tells;
-      standing = c.look.ensures.standing ∙ c.loop-left.invariant.standing;
-      armed = c.look.ensures.armed ∙ c.loop-left.invariant.armed;
-      count = omega (arith, c.look.ensures.count, c.loop-left.invariant.count);
+      stays = stays-on c.loop-left.invariant.stays c.look.ensures.stays;
     }
 
 pub returns-clause-told : goal.returns-clause-told

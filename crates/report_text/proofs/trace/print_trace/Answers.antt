@@ -4,4 +4,4 @@ use Rattle.report_text.proofs.Flow.{on_err, whole_is_part}
 use Rattle.report_text.proofs.trace.print_trace.Goals as goal
 
 pub returns-clause-part : goal.returns-clause-part
-returns-clause-part g c = on_err c.flush.result (whole_is_part (trace (drop c.args.from (g.R.Rig.log c.args.rig.now))) _ _ _ c.in_ok-write_trace.ensures.whole c.flush.ensures.same)
+returns-clause-part g c = on_err c.flush.result (whole_is_part (trace (drop c.args.from (g.R.Rig.state c.args.rig.now).log)) _ _ _ c.in_ok-write_trace.ensures.whole c.flush.ensures.same)

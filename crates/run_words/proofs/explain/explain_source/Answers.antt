@@ -1,5 +1,4 @@
 use Rattle.std.proofs.Common.{List, ℕ, Err, refl, sym, ap, subst}
-use Rattle.image_commands.specs.Views.{seen, view}
 use Rattle.script_verdict.specs.Verdict.{Facts}
 use Rattle.source_text.specs.Reading.{IsWhole}
 use Rattle.run_words.proofs.Marking.{all_complete, by_long, by_text}
@@ -20,7 +19,7 @@ returns-in-Err-TooMany-clause-verdict g c = by_long c.marked_long.result _ (c.in
 
 pub returns-in-Err-TooMany-clause-complete : goal.returns-in-Err-TooMany-clause-complete
 returns-in-Err-TooMany-clause-complete g c =
-    let before = view (g.R.Rig.image c.args.rig.now) (g.R.Rig.standing c.args.rig.now) (seen (g.R.Rig.units c.args.rig.now) (g.R.Rig.armed c.args.rig.now) (g.R.Rig.log c.args.rig.now) (g.R.Rig.faults c.args.rig.now)) in
+    let before = g.R.Rig.state c.args.rig.now in
     let f : Facts = record {
       name = c.args.image.now;
       left = g.S.Source.left c.args.source.now;

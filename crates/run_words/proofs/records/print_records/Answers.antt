@@ -6,7 +6,7 @@ use Rattle.run_words.proofs.records.print_records.Goals as goal
 
 pub returns-in_err-print_entry-clause-part : goal.returns-in_err-print_entry-clause-part
 returns-in_err-print_entry-clause-part g c =
-    let log = g.R.Rig.log c.args.rig.now in
+    let log = (g.R.Rig.state c.args.rig.now).log in
     let text = record_lines 0 c.args.sites.now (drop c.args.from log) in
     let here : c.loop-i.i < length log = omega (arith, c.loop-i-test.true, c.records-i-end.ensures) in
     let next = next_record (c.loop-i.i - c.args.from) c.from.result c.loop-i.i c.args.sites.now log c.logged.result.now c.labels.result.now here c.from.ensures c.logged.ensures c.labels.ensures in
@@ -14,7 +14,7 @@ returns-in_err-print_entry-clause-part g c =
 
 pub loop-i-preserved : goal.loop-i-preserved
 loop-i-preserved g c =
-    let log = g.R.Rig.log c.args.rig.now in
+    let log = (g.R.Rig.state c.args.rig.now).log in
     let text = record_lines 0 c.args.sites.now (drop c.args.from log) in
     let here : c.loop-i.i < length log = omega (arith, c.loop-i-test.true, c.records-i-end.ensures) in
     let next = next_record (c.loop-i.i - c.args.from) c.from.result c.loop-i.i c.args.sites.now log c.logged.result.now c.labels.result.now here c.from.ensures c.logged.ensures c.labels.ensures in

@@ -8,14 +8,14 @@ use Rattle.run_words.proofs.text.print_explained.Goals as goal
 pub returns-in_err-print_run-clause-part : goal.returns-in_err-print_run-clause-part
 returns-in_err-print_run-clause-part g c =
     let t = c.args.told.now in
-    on_err c.from_residual.result (part_first (report t.run.stack.replies.items) (words_text t.guide.sites.items t.guide.entries (drop t.run.first (g.R.Rig.log c.args.rig.now)) t.run.stack.replies.items) _ _ c.in_err-print_run.ensures.part)
+    on_err c.from_residual.result (part_first (report t.run.stack.replies.items) (words_text t.guide.sites.items t.guide.entries (drop t.run.first (g.R.Rig.state c.args.rig.now).log) t.run.stack.replies.items) _ _ c.in_err-print_run.ensures.part)
 
 pub returns-clause-whole : goal.returns-clause-whole
 returns-clause-whole g c =
     let t = c.args.told.now in
-    on_ok_weaker c.print_words.result (appended_both (report t.run.stack.replies.items) (words_text t.guide.sites.items t.guide.entries (drop t.run.first (g.R.Rig.log c.args.rig.now)) t.run.stack.replies.items) _ _ _ c.in_ok-print_run.ensures.whole) (rw c.replies.ensures at c.print_words.ensures.whole)
+    on_ok_weaker c.print_words.result (appended_both (report t.run.stack.replies.items) (words_text t.guide.sites.items t.guide.entries (drop t.run.first (g.R.Rig.state c.args.rig.now).log) t.run.stack.replies.items) _ _ _ c.in_ok-print_run.ensures.whole) (rw c.replies.ensures at c.print_words.ensures.whole)
 
 pub returns-clause-part : goal.returns-clause-part
 returns-clause-part g c =
     let t = c.args.told.now in
-    on_err_weaker c.print_words.result (part_second (report t.run.stack.replies.items) (words_text t.guide.sites.items t.guide.entries (drop t.run.first (g.R.Rig.log c.args.rig.now)) t.run.stack.replies.items) _ _ _ c.in_ok-print_run.ensures.whole) (rw c.replies.ensures at c.print_words.ensures.part)
+    on_err_weaker c.print_words.result (part_second (report t.run.stack.replies.items) (words_text t.guide.sites.items t.guide.entries (drop t.run.first (g.R.Rig.state c.args.rig.now).log) t.run.stack.replies.items) _ _ _ c.in_ok-print_run.ensures.whole) (rw c.replies.ensures at c.print_words.ensures.part)

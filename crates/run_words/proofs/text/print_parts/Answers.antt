@@ -6,12 +6,12 @@ use Rattle.run_words.proofs.text.print_parts.Goals as goal
 
 pub returns-in_err-print_records-clause-part : goal.returns-in_err-print_records-clause-part
 returns-in_err-print_records-clause-part g c =
-    on_err c.from_residual.result (part_first (record_lines 0 c.args.sites.now (drop c.args.from (g.R.Rig.log c.args.rig.now))) (all_listed c.args.entries.now 1 c.args.sites.now c.args.replies.now) _ _ c.in_err-print_records.ensures.part)
+    on_err c.from_residual.result (part_first (record_lines 0 c.args.sites.now (drop c.args.from (g.R.Rig.state c.args.rig.now).log)) (all_listed c.args.entries.now 1 c.args.sites.now c.args.replies.now) _ _ c.in_err-print_records.ensures.part)
 
 pub returns-clause-whole : goal.returns-clause-whole
 returns-clause-whole g c =
-    on_ok_weaker c.print_all_listed.result (appended_both (record_lines 0 c.args.sites.now (drop c.args.from (g.R.Rig.log c.args.rig.now))) (all_listed c.args.entries.now 1 c.args.sites.now c.args.replies.now) _ _ _ c.in_ok-print_records.ensures.whole) c.print_all_listed.ensures.whole
+    on_ok_weaker c.print_all_listed.result (appended_both (record_lines 0 c.args.sites.now (drop c.args.from (g.R.Rig.state c.args.rig.now).log)) (all_listed c.args.entries.now 1 c.args.sites.now c.args.replies.now) _ _ _ c.in_ok-print_records.ensures.whole) c.print_all_listed.ensures.whole
 
 pub returns-clause-part : goal.returns-clause-part
 returns-clause-part g c =
-    on_err_weaker c.print_all_listed.result (part_second (record_lines 0 c.args.sites.now (drop c.args.from (g.R.Rig.log c.args.rig.now))) (all_listed c.args.entries.now 1 c.args.sites.now c.args.replies.now) _ _ _ c.in_ok-print_records.ensures.whole) c.print_all_listed.ensures.part
+    on_err_weaker c.print_all_listed.result (part_second (record_lines 0 c.args.sites.now (drop c.args.from (g.R.Rig.state c.args.rig.now).log)) (all_listed c.args.entries.now 1 c.args.sites.now c.args.replies.now) _ _ _ c.in_ok-print_records.ensures.whole) c.print_all_listed.ensures.part

@@ -19,7 +19,7 @@ print_parts-requires-clause-inside g c =
 
 pub returns-clause-whole : goal.returns-clause-whole
 returns-clause-whole g c =
-    let log = drop c.args.from (g.R.Rig.log c.args.rig.now) in
+    let log = drop c.args.from (g.R.Rig.state c.args.rig.now).log in
     let guide = c.args.guide.now in
     let text = ap (λ s. words_text s c.as_slice-entries.result.now log c.args.replies.now) c.as_slice-sites.ensures.value ∙ ap (λ e. words_text guide.sites.items e log c.args.replies.now) c.as_slice-entries.ensures in
     on_ok c.flush.result (subst (λ x. Appended (words_text guide.sites.items guide.entries log c.args.replies.now) (g.O.Sink.taken c.args.out.now) x) (sym c.flush.ensures.same)
@@ -27,7 +27,7 @@ returns-clause-whole g c =
 
 pub returns-clause-part : goal.returns-clause-part
 returns-clause-part g c =
-    let log = drop c.args.from (g.R.Rig.log c.args.rig.now) in
+    let log = drop c.args.from (g.R.Rig.state c.args.rig.now).log in
     let guide = c.args.guide.now in
     let text = ap (λ s. words_text s c.as_slice-entries.result.now log c.args.replies.now) c.as_slice-sites.ensures.value ∙ ap (λ e. words_text guide.sites.items e log c.args.replies.now) c.as_slice-entries.ensures in
     on_err c.flush.result (whole_is_part (words_text guide.sites.items guide.entries log c.args.replies.now) _ _ _

@@ -25,7 +25,7 @@ loop-stack-init g c = record {
   reaches = c.requires.rig;
   spare = c.requires.spare;
   went = went_nowhere _ _;
-  goes = goes-nowhere _ _ _;
+  goes = goes-nowhere _;
   armed = refl;
   sends = λ es h. sends_nowhere es _ _;
   counts = λ first h. h;
@@ -40,7 +40,7 @@ loop-stack-preserved g c = record {
   reaches = c.step.ensures.rig;
   spare = c.step.ensures.spare;
   went = went_on _ _ _ _ _ _ c.loop-stack.invariant.went (record { walks = c.step.ensures.walks; told = c.step.ensures.told; falling = c.step.ensures.falling; silent = c.step.ensures.silent; faults = c.step.ensures.goes.faults });
-  goes = goes_then _ _ _ _ _ _ _ _ _ c.loop-stack.invariant.goes c.step.ensures.goes;
+  goes = goes_then _ _ _ c.loop-stack.invariant.goes c.step.ensures.goes;
   armed = c.step.ensures.armed ∙ c.loop-stack.invariant.armed;
   sends = λ es h.
       (let s = c.loop-stack.stack in

@@ -14,7 +14,7 @@ loop-word-preserved g c = record {
   reaches = c.step.ensures.rig;
   spare = c.step.ensures.spare;
   went = went_on _ _ _ _ _ _ c.loop-word.invariant.went (record { walks = c.step.ensures.walks; told = c.step.ensures.told; falling = c.step.ensures.falling; silent = c.step.ensures.silent; faults = c.step.ensures.goes.faults });
-  goes = goes_then _ _ _ _ _ _ _ _ _ c.loop-word.invariant.goes c.step.ensures.goes;
+  goes = goes_then _ _ _ c.loop-word.invariant.goes c.step.ensures.goes;
   armed = c.step.ensures.armed ∙ c.loop-word.invariant.armed;
   sends = λ z. sends_then _ _ _ _ _ _ _ c.loop-word.invariant.stays (c.loop-word.invariant.sends z) (sends_once _ _ _ _ _ _ _ (entry_here c.args.schedule.now c.loop-word.word-index c.loop-word.stack.machine.steps (c.loop-word.invariant.steps z)) c.step.ensures.sends);
   counts = λ first h. c.step.ensures.counts first (c.loop-word.invariant.counts first h);
@@ -35,7 +35,7 @@ loop-word-init g c = record {
   reaches = c.requires.rig;
   spare = c.requires.spare;
   went = went_nowhere _ _;
-  goes = goes-nowhere _ _ _;
+  goes = goes-nowhere _;
   armed = refl;
   sends = λ z. sends_nowhere _ _ _;
   counts = λ first h. h;

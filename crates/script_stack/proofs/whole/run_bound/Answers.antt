@@ -1,6 +1,7 @@
 use Rattle.std.proofs.Common.{◌≡◌, ◌≤◌, ◌++◌, List, Some, ap, map, subst, sym, ◌∙◌}
 use Rattle.std.specs.Prelude.{is_some}
 use Rattle.rig_api.specs.Telling.{Standing, specs_of}
+use Rattle.rig_api.specs.State.{RigState}
 use Rattle.rig_discovery.specs.Discovery.{info_of}
 use Rattle.target_answer.specs.Target.{Stored}
 use Rattle.dix_adapter.specs.Groups.{mode_of}
@@ -8,9 +9,7 @@ use Rattle.dix_adapter.specs.declared.adapter.Adapter.{Adapter}
 use Rattle.stack_core.specs.Mediums.{RoseBy, medium_lines}
 use Rattle.stack_core.specs.declared.sheet.Sheet.{Sheet}
 use Rattle.script_stack.specs.Followed.{SizesAre}
-use Rattle.script_stack.specs.Going.{Outside}
 use Rattle.script_stack.proofs.Ended.{IsOver, backed_by, fallen_at, few_lines, sent_by, walked_at}
-use Rattle.script_stack.proofs.Following.{units-through}
 use Rattle.script_stack.proofs.whole.run_bound.Goals as goal
 
 pub returns-clause-ran : goal.returns-clause-ran
@@ -25,20 +24,23 @@ returns-clause-ran g c =
     let ready = c.ready_script.new.rig in
     let end = c.run_all.new.rig in
     let made_ready = c.in_ok-stack.ensures in
-    let before : Outside = record { units = g.R.Rig.units ready; armed = g.R.Rig.armed ready; standing = g.R.Rig.standing ready; log = g.R.Rig.log ready; faults = g.R.Rig.faults ready } in
-    let after : Outside = record { units = g.R.Rig.units end; armed = g.R.Rig.armed end; standing = g.R.Rig.standing end; log = g.R.Rig.log end; faults = g.R.Rig.faults end } in
-    let o : IsOver s t devices words begun r (g.R.Rig.image ready) (g.R.Rig.image end) before after = record {
+    let armed = made_ready.armed in
+    let standing = ap (λ (x : RigState). x.standing) armed in
+    let count = ap (λ (x : RigState). x.faults) armed in
+    let before : RigState = g.R.Rig.state ready in
+    let after : RigState = g.R.Rig.state end in
+    let o : IsOver s t devices words begun r (g.R.Rig.state ready).image (g.R.Rig.state end).image before after = record {
       suits = c.requires.suits;
       lines = c.requires.lines;
       made = c.requires.made;
       bound = c.requires.bound;
-      sizes = subst (SizesAre devices) (sym made_ready.standing) c.requires.sizes;
-      known = λ tells. c.requires.told (sym (ap is_some made_ready.image) ∙ tells) ∙ ap (λ (x : Standing). map info_of (specs_of x)) (sym made_ready.standing);
+      sizes = subst (SizesAre devices) (sym standing) c.requires.sizes;
+      known = λ tells. c.requires.told (sym (ap (λ (x : RigState). is_some x.image) armed) ∙ tells) ∙ ap (λ (x : Standing). map info_of (specs_of x)) (sym standing);
       laid = g.met.R.Rig.laid ready;
       ready = g.met.R.Rig.ready ready;
       laid_after = g.met.R.Rig.laid end;
       ready_after = g.met.R.Rig.ready end;
-      armed = made_ready.armed;
+      armed = ap (λ (x : RigState). x.armed) armed;
       stack = c.run_all.ensures.stack;
       ops = ap (λ (x : Sheet). x.ops) c.run_all.ensures.stays.sheet ∙ made_ready.ops;
       ended = c.run_all.ensures.ended;
@@ -52,12 +54,10 @@ returns-clause-ran g c =
       plan = made_ready.plan;
       first = made_ready.first;
       stays = c.run_all.ensures.stays;
-      counted = c.run_all.ensures.counts (g.R.Rig.faults ready) (made_ready.counted (g.R.Rig.faults ready));
+      counted = c.run_all.ensures.counts (g.R.Rig.state ready).faults (made_ready.counted (g.R.Rig.state ready).faults);
       sent = c.run_all.ensures.sends;
     } in
-    let units-ready = λ (us : List Stored) (e : g.R.Rig.units asked ≡ Some us).
-    (units-through (g.R.Rig.standing asked) (g.R.Rig.standing ready) (g.R.Rig.image asked) (g.R.Rig.image ready) (g.R.Rig.units asked) (g.R.Rig.units ready) (g.met.R.Rig.laid asked) (g.met.R.Rig.laid ready)
-    made_ready.standing made_ready.image ∙ e) in
+    let units-ready = λ (us : List Stored) (e : (g.R.Rig.state asked).units ≡ Some us). (ap (λ (x : RigState). x.units) armed ∙ e) in
     record {
       stack = o.stack;
       ops = o.ops;
@@ -65,13 +65,13 @@ returns-clause-ran g c =
       mode = ap mode_of o.stays.adapter ∙ made_ready.mode;
       armed = ap (λ (a : Adapter). a.tamper) o.stays.adapter ∙ made_ready.faults;
       ended = o.ended;
-      standing = o.goes.standing ∙ made_ready.standing;
-      faults = subst (λ n. n ≤ g.R.Rig.faults end) made_ready.count o.goes.faults;
+      standing = o.goes.standing ∙ standing;
+      faults = subst (λ n. n ≤ (g.R.Rig.state end).faults) count o.goes.faults;
       more = o.goes.more;
-      records = o.goes.records ∙ ap (λ log. log ++ o.goes.more) made_ready.log;
-      backed = backed_by s t devices words begun r (g.R.Rig.image ready) (g.R.Rig.image end) before after c.a_script_run_is_backed.ensures o;
-      sends = sent_by s t devices words begun r (g.R.Rig.image ready) (g.R.Rig.image end) before after c.a_finished_stack_has_sent.ensures.few c.a_finished_stack_has_sent.ensures.all o;
-      medium = subst (λ n. RoseBy (medium_lines r.replies.items) n (g.R.Rig.faults end)) made_ready.count (few_lines s t devices words begun r (g.R.Rig.image ready) (g.R.Rig.image end) before after c.a_finished_stack_names_the_medium_seldom.ensures o);
-      told = λ us e none. walked_at s t devices words begun r (g.R.Rig.image ready) (g.R.Rig.image end) before after c.a_told_script_run_has_walked.ensures o us (units-ready us e) none;
-      fallen = λ us e. fallen_at s t devices words begun r (g.R.Rig.image ready) (g.R.Rig.image end) before after c.a_told_script_run_has_fallen.ensures o us (units-ready us e);
+      records = o.goes.records ∙ ap (λ (x : RigState). x.log ++ o.goes.more) armed;
+      backed = backed_by s t devices words begun r (g.R.Rig.state ready).image (g.R.Rig.state end).image before after c.a_script_run_is_backed.ensures o;
+      sends = sent_by s t devices words begun r (g.R.Rig.state ready).image (g.R.Rig.state end).image before after c.a_finished_stack_has_sent.ensures.few c.a_finished_stack_has_sent.ensures.all o;
+      medium = subst (λ n. RoseBy (medium_lines r.replies.items) n (g.R.Rig.state end).faults) count (few_lines s t devices words begun r (g.R.Rig.state ready).image (g.R.Rig.state end).image before after c.a_finished_stack_names_the_medium_seldom.ensures o);
+      told = λ us e none. walked_at s t devices words begun r (g.R.Rig.state ready).image (g.R.Rig.state end).image before after c.a_told_script_run_has_walked.ensures o us (units-ready us e) none;
+      fallen = λ us e. fallen_at s t devices words begun r (g.R.Rig.state ready).image (g.R.Rig.state end).image before after c.a_told_script_run_has_fallen.ensures o us (units-ready us e);
     }

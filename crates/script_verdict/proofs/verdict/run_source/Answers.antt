@@ -1,5 +1,4 @@
 use Rattle.std.proofs.Common.{inl, refl}
-use Rattle.image_commands.specs.Views.{seen, view}
 use Rattle.script_verdict.proofs.Completing.{all_complete, complete}
 use Rattle.script_verdict.proofs.Refusing.{source_run}
 use Rattle.script_verdict.specs.Verdict.{Facts}
@@ -13,7 +12,7 @@ returns-in-Ok-clause-complete g c = all_complete c.run_script.result _ (source_r
 
 pub returns-in-Err-clause-complete : goal.returns-in-Err-clause-complete
 returns-in-Err-clause-complete g c =
-    let before = view (g.R.Rig.image c.args.rig.now) (g.R.Rig.standing c.args.rig.now) (seen (g.R.Rig.units c.args.rig.now) (g.R.Rig.armed c.args.rig.now) (g.R.Rig.log c.args.rig.now) (g.R.Rig.faults c.args.rig.now)) in
+    let before = g.R.Rig.state c.args.rig.now in
     let f : Facts = record {
       name = c.args.image.now;
       left = g.S.Source.left c.args.source.now;

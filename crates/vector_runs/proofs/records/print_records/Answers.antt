@@ -5,14 +5,14 @@ use Rattle.vector_runs.specs.RecordText.{records_text, vectors_text}
 use Rattle.vector_runs.proofs.records.print_records.Goals as goal
 
 pub returns-in_err-write_first-clause-part : goal.returns-in_err-write_first-clause-part
-returns-in_err-write_first-clause-part g c = on_err c.from_residual.result (part_first first_line (records_text (drop c.args.from (g.R.Rig.log c.args.rig.now))) _ _ c.in_err-write_first.ensures.part)
+returns-in_err-write_first-clause-part g c = on_err c.from_residual.result (part_first first_line (records_text (drop c.args.from (g.R.Rig.state c.args.rig.now).log)) _ _ c.in_err-write_first.ensures.part)
 
 pub returns-in_err-write_records-clause-part : goal.returns-in_err-write_records-clause-part
 returns-in_err-write_records-clause-part g c =
-    on_err c.from_residual-in_err-write_records.result (part_second first_line (records_text (drop c.args.from (g.R.Rig.log c.args.rig.now))) _ _ _ c.in_ok-write_first.ensures.whole c.in_err-write_records.ensures.part)
+    on_err c.from_residual-in_err-write_records.result (part_second first_line (records_text (drop c.args.from (g.R.Rig.state c.args.rig.now).log)) _ _ _ c.in_ok-write_first.ensures.whole c.in_err-write_records.ensures.part)
 
 pub returns-clause-part : goal.returns-clause-part
 returns-clause-part g c =
-    let log = g.R.Rig.log c.args.rig.now in
+    let log = (g.R.Rig.state c.args.rig.now).log in
     on_err c.flush.result (whole_is_part (vectors_text (drop c.args.from log)) _ _ _
     (appended_both first_line (records_text (drop c.args.from log)) _ _ _ c.in_ok-write_first.ensures.whole c.in_ok-write_records.ensures.whole) c.flush.ensures.same)

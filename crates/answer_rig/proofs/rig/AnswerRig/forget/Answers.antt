@@ -1,5 +1,4 @@
-use Rattle.std.proofs.Common.{refl, ap, ◌∙◌, None, arith}
-use Rattle.answer_rig.specs.Answering.{is_count}
+use Rattle.std.proofs.Common.{refl, None, arith}
 use Rattle.answer_rig.proofs.Rooms.{has-room}
 use Rattle.answer_rig.proofs.rig.AnswerRig.forget.Goals as goal
 

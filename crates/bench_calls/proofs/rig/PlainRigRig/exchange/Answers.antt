@@ -1,4 +1,4 @@
-use Rattle.std.proofs.Common.{◌≡◌, sym, ◌∙◌, arith}
+use Rattle.std.proofs.Common.{◌≡◌, sym, ◌∙◌, arith, rules}
 use Rattle.target_answer.specs.Requests.{blocks_of}
 use Rattle.rig_api.specs.Telling.{greatest_size, spec_at}
 use Rattle.rig_log.specs.Logs.{room_in}
@@ -11,12 +11,22 @@ note-requires-clause-room c =
     let g = greatest_is c.args.self.now.devices (device_count c.args.self.now.devices c.args.dev c.args.self.now.open c.requires.device) in
     room-for c.size_of.result (greatest_size (standing_of c.args.self.now.devices)) 1 (blocks_of c.args.cdb.now) (room_in c.args.self.now.log) (omega (arith, g, c.size_of.ensures.bound)) c.requires.room
 
-pub returns-clause-recorded : goal.returns-clause-recorded
-returns-clause-recorded c =
+pub returns : goal.returns
+returns c =
     let z : (spec_at (standing_of c.args.self.now.devices) c.args.dev).size ≡ c.size_of.result = (device_is c.args.self.now.devices c.args.dev c.args.self.now.open c.requires.device).0 ∙ sym c.size_of.ensures.value in
-    rw z c.note.ensures.recorded
-
-pub returns-clause-moved : goal.returns-clause-moved
-returns-clause-moved c =
-    let z : (spec_at (standing_of c.args.self.now.devices) c.args.dev).size ≡ c.size_of.result = (device_is c.args.self.now.devices c.args.dev c.args.self.now.open c.requires.device).0 ∙ sym c.size_of.ensures.value in
-    rw z c.note.ensures.moved
+    record {
+      exchanged = record {
+        recorded = rw z c.note.ensures.recorded;
+        calm = search rules;
+        stopped = search rules;
+        medium = search rules;
+        key = search rules;
+        tells = search rules;
+        standing = search rules;
+        armed = search rules;
+        records = search rules;
+        moved = rw z c.note.ensures.moved;
+        labelled = search rules;
+        count = search rules;
+      };
+    }

@@ -1,5 +1,5 @@
 use Rattle.std.proofs.Common.{◌≡◌, ◌+◌, ◌-◌, ◌*◌, ◌≤◌, ◌++◌, length, map, take, drop, refl, ap, sym, ◌∙◌, arith}
-use Rattle.std.specs.Prelude.{is_some, if◌then◌else◌, ◌&&◌, not}
+use Rattle.std.specs.Prelude.{if◌then◌else◌, ◌&&◌, not}
 use Rattle.std.proofs.lemmas.List.{get_or_default, take_at}
 use Rattle.std.proofs.Math.Nat.{mul-le-mul_right}
 use Rattle.std.proofs.lemmas.List.Elements.{All-get_or}
@@ -48,9 +48,7 @@ returns-clause-fetched g c =
       fits = rw cmd at c.fetch-outcome.ensures.fits;
       before = take (c.fill_labels-count.result * c.wire_size.result) c.deref_mut.result.now;
       came = take (c.fill_labels-count.result * c.wire_size.result) c.fetch-outcome.new.frames;
-      exchanged = exchanged-as
-          (record { told = is_some (g.R.Rig.image c.args.rig.now); units = g.R.Rig.units c.args.rig.now; standing = g.R.Rig.standing c.args.rig.now; log = g.R.Rig.log c.args.rig.now; room = g.R.Rig.room c.args.rig.now; armed = g.R.Rig.armed c.args.rig.now; faults = g.R.Rig.faults c.args.rig.now })
-          (record { told = is_some (g.R.Rig.image c.fetch-outcome.new.rig); units = g.R.Rig.units c.fetch-outcome.new.rig; standing = g.R.Rig.standing c.fetch-outcome.new.rig; log = g.R.Rig.log c.fetch-outcome.new.rig; room = g.R.Rig.room c.fetch-outcome.new.rig; armed = g.R.Rig.armed c.fetch-outcome.new.rig; faults = g.R.Rig.faults c.fetch-outcome.new.rig })
+      exchanged = exchanged-as (g.R.Rig.state c.args.rig.now) (g.R.Rig.state c.fetch-outcome.new.rig)
           (first_of c.args.req.now).dev _ _ _ _ _ _ (take (c.fill_labels-count.result * c.wire_size.result) c.deref_mut.result.now) (take (c.fill_labels-count.result * c.wire_size.result) c.fetch-outcome.new.frames) c.fetch-outcome.result d l refl c.fetch-outcome.ensures.exchanged;
       room = r;
       long = taken-long (c.fill_labels-count.result * c.wire_size.result) c.fetch-outcome.new.frames (omega (arith, y, c.fetch-outcome.ensures.long)) ∙ z;

@@ -1,5 +1,4 @@
 use Rattle.std.proofs.Common.{◌≡◌, ◌++◌, [], replicate, true, false, refl, ap, sym, ◌∙◌, take, drop, map, length, arith}
-use Rattle.std.specs.Prelude.{is_some}
 use Rattle.std.proofs.lemmas.List.{take_at}
 use Rattle.page_pool.specs.Cells.{flat}
 use Rattle.bio_core.specs.declared.fate.Fate.TheVariants.{Good}
@@ -29,9 +28,7 @@ returns-clause-sent g c n =
     record {
       outcome = c.send-outcome.result;
       fits = rw m at c.send-outcome.ensures.fits;
-      exchanged = exchanged-as
-          (record { told = is_some (g.R.Rig.image c.args.rig.now); units = g.R.Rig.units c.args.rig.now; standing = g.R.Rig.standing c.args.rig.now; log = g.R.Rig.log c.args.rig.now; room = g.R.Rig.room c.args.rig.now; armed = g.R.Rig.armed c.args.rig.now; faults = g.R.Rig.faults c.args.rig.now })
-          (record { told = is_some (g.R.Rig.image c.send-outcome.new.rig); units = g.R.Rig.units c.send-outcome.new.rig; standing = g.R.Rig.standing c.send-outcome.new.rig; log = g.R.Rig.log c.send-outcome.new.rig; room = g.R.Rig.room c.send-outcome.new.rig; armed = g.R.Rig.armed c.send-outcome.new.rig; faults = g.R.Rig.faults c.send-outcome.new.rig })
+      exchanged = exchanged-as (g.R.Rig.state c.args.rig.now) (g.R.Rig.state c.send-outcome.new.rig)
           (first_of c.args.req.now).dev _ _ _ _ _ _ [] [] c.send-outcome.result d l f c.send-outcome.ensures.exchanged;
       fates_are = c.set_fates.ensures.items ∙ ap (λ k. replicate (done_of k c.send-outcome.result) Good ++ rest_of k c.send-outcome.result) c.fill_labels-count.ensures.count;
       pool_is = refl;

@@ -1,4 +1,4 @@
-use Rattle.std.proofs.Common.{◌∙◌, ap, length}
+use Rattle.std.proofs.Common.{◌∙◌, ap, length, rules}
 use Rattle.target_answer.specs.Target.{target_answer}
 use Rattle.target_model.specs.Served.{unit_in}
 use Rattle.image_layout.specs.Heads.{head_in}
@@ -32,25 +32,27 @@ invariant_of-self-clause-told g c = λ some.
     head_after c.args.self.now.units.items (head_in c.args.self.now.head) c.logical-unit.result (λ bytes. target_answer (unit_in c.logical-unit.result bytes) c.args.self.now.tamper c.args.cdb.now c.args.labels.now c.args.out.now (length c.args.into.now)) (g.S.Store.bytes c.args.self.now.store) (g.S.Store.bytes c.serve-outcome.new.store) c.args.dev _ _ _ _ _
     (c.logical-unit.ensures ∙ ap (λ v. logical_of v c.args.dev) c.deref.ensures.0) c.serve-outcome.ensures.tells c.serve-outcome.ensures.told (c.args.self.now.told some)
 
-pub returns-clause-told : goal.returns-clause-told
-returns-clause-told g c = λ us e.
+pub returns : goal.returns
+returns g c =
     let o = is_open c.args.self.now.units.items (head_in c.args.self.now.head) (g.S.Store.len c.args.self.now.store) c.args.dev c.requires.device c.args.self.now.right c.args.self.now.devices c.args.self.now.held in
-    told_by c.args.self.now.units.items (head_in c.args.self.now.head) c.logical-unit.result (g.S.Store.bytes c.args.self.now.store) (g.S.Store.bytes c.serve-outcome.new.store) c.args.dev _ _ _ _ _ _ _ _ _ _ us c.requires.device o.named (c.logical-unit.ensures ∙ ap (λ v. logical_of v c.args.dev) c.deref.ensures.0) e c.serve-outcome.ensures.told
-
-pub returns-clause-calm : goal.returns-clause-calm
-returns-clause-calm g c = λ us e quiet.
-    let o = is_open c.args.self.now.units.items (head_in c.args.self.now.head) (g.S.Store.len c.args.self.now.store) c.args.dev c.requires.device c.args.self.now.right c.args.self.now.devices c.args.self.now.held in
-    calm us c.args.dev _ _ _ _ _ _ _ _ _ _ _ quiet
-    (told_by c.args.self.now.units.items (head_in c.args.self.now.head) c.logical-unit.result (g.S.Store.bytes c.args.self.now.store) (g.S.Store.bytes c.serve-outcome.new.store) c.args.dev _ _ _ _ _ _ _ _ _ _ us c.requires.device o.named (c.logical-unit.ensures ∙ ap (λ v. logical_of v c.args.dev) c.deref.ensures.0) e c.serve-outcome.ensures.told)
-
-pub returns-clause-recorded : goal.returns-clause-recorded
-returns-clause-recorded g c =
-    let o = is_open c.args.self.now.units.items (head_in c.args.self.now.head) (g.S.Store.len c.args.self.now.store) c.args.dev c.requires.device c.args.self.now.right c.args.self.now.devices c.args.self.now.held in
-    let z = is_sized c.args.self.now.units.items (head_in c.args.self.now.head) c.logical-unit.result (g.S.Store.len c.args.self.now.store) c.args.dev o c.requires.device (c.logical-unit.ensures ∙ ap (λ v. logical_of v c.args.dev) c.deref.ensures.0) in
-    rw z.own c.note.ensures.recorded
-
-pub returns-clause-moved : goal.returns-clause-moved
-returns-clause-moved g c =
-    let o = is_open c.args.self.now.units.items (head_in c.args.self.now.head) (g.S.Store.len c.args.self.now.store) c.args.dev c.requires.device c.args.self.now.right c.args.self.now.devices c.args.self.now.held in
-    let z = is_sized c.args.self.now.units.items (head_in c.args.self.now.head) c.logical-unit.result (g.S.Store.len c.args.self.now.store) c.args.dev o c.requires.device (c.logical-unit.ensures ∙ ap (λ v. logical_of v c.args.dev) c.deref.ensures.0) in
-    rw z.own c.note.ensures.moved
+    let unit = c.logical-unit.ensures ∙ ap (λ v. logical_of v c.args.dev) c.deref.ensures.0 in
+    let z = is_sized c.args.self.now.units.items (head_in c.args.self.now.head) c.logical-unit.result (g.S.Store.len c.args.self.now.store) c.args.dev o c.requires.device unit in
+    record {
+      exchanged = record {
+        recorded = rw z.own c.note.ensures.recorded;
+        calm = λ us e quiet.
+            calm us c.args.dev _ _ _ _ _ _ _ _ _ _ _ quiet
+            (told_by c.args.self.now.units.items (head_in c.args.self.now.head) c.logical-unit.result (g.S.Store.bytes c.args.self.now.store) (g.S.Store.bytes c.serve-outcome.new.store) c.args.dev _ _ _ _ _ _ _ _ _ _ us c.requires.device o.named unit e c.serve-outcome.ensures.told);
+        stopped = λ us e.
+            told_by c.args.self.now.units.items (head_in c.args.self.now.head) c.logical-unit.result (g.S.Store.bytes c.args.self.now.store) (g.S.Store.bytes c.serve-outcome.new.store) c.args.dev _ _ _ _ _ _ _ _ _ _ us c.requires.device o.named unit e c.serve-outcome.ensures.told;
+        medium = search rules;
+        key = search rules;
+        tells = search rules;
+        standing = search rules;
+        armed = search rules;
+        records = search rules;
+        moved = rw z.own c.note.ensures.moved;
+        labelled = search rules;
+        count = search rules;
+      };
+    }

@@ -1,18 +1,18 @@
 use Rattle.std.proofs.Common.{◌≡◌, ◌+◌, ap, arith, length, subst, sym, ◌∙◌}
-use Rattle.script_stack.specs.Going.{Outside}
 use Rattle.leg_runs.specs.OnOps.{DidOp, RanOp, Sides}
 use Rattle.mirror_volume.specs.Plans.{sides_of}
 use Rattle.leg_runs.specs.Standing.{op_at}
 use Rattle.leg_runs.proofs.Ends.{ran-none-left}
 use Rattle.leg_runs.proofs.Nexts.{IsBetween, op-stands}
 use Rattle.mirror_volume.proofs.mirror.Mirror.next.Goals as goal
+use Rattle.rig_api.specs.State.{RigState}
 
 pub returns-then-at-as_slice-clause-op : goal.returns-then-at-as_slice-clause-op
 returns-then-at-as_slice-clause-op g c =
     let self = c.args.self.now in
     let p = self.plan in
     let k = length self.replies.items in
-    let before : Outside = record { units = g.R.Rig.units c.args.rig.now; armed = g.R.Rig.armed c.args.rig.now; standing = g.R.Rig.standing c.args.rig.now; log = g.R.Rig.log c.args.rig.now; faults = g.R.Rig.faults c.args.rig.now } in
+    let before : RigState = g.R.Rig.state c.args.rig.now in
     let at : c.len-at.result ≡ k = c.len-at.ensures ∙ self.replies.ok.0 in
     let last : k ≡ length p.script.ops = sym at ∙ c.if-at-as_slice.true ∙ ap length c.as_slice.ensures in
     ran-none-left p.script p.devices.items p.half (k + 1) k self.state.used self.state.pool before _ last (λ e. cc)
@@ -22,15 +22,15 @@ returns-in-Ok-clause-op g c =
     let self = c.args.self.now in
     let p = self.plan in
     let k = length self.replies.items in
-    let before : Outside = record { units = g.R.Rig.units c.args.rig.now; armed = g.R.Rig.armed c.args.rig.now; standing = g.R.Rig.standing c.args.rig.now; log = g.R.Rig.log c.args.rig.now; faults = g.R.Rig.faults c.args.rig.now } in
-    let after : Outside = record { units = g.R.Rig.units c.do_op.new.rig; armed = g.R.Rig.armed c.do_op.new.rig; standing = g.R.Rig.standing c.do_op.new.rig; log = g.R.Rig.log c.do_op.new.rig; faults = g.R.Rig.faults c.do_op.new.rig } in
+    let before : RigState = g.R.Rig.state c.args.rig.now in
+    let after : RigState = g.R.Rig.state c.do_op.new.rig in
     let at : c.len-at.result ≡ k = c.len-at.ensures ∙ self.replies.ok.0 in
     let new : Sides = record { pool = c.do_op.new.state.pool; marks = c.do_op.new.state.marks.items } in
     let x = subst (λ i. RanOp p.script p.devices.items p.half (i + 1) (op_at p.script.ops i) self.state.pool self.state.used c.do_op.new.state.used before after (λ runs. DidOp p.script p.half (i + 1) (op_at p.script.ops i) (sides_of self) new before after runs c.in-Ok.reply)) at c.in-Ok.ensures.ran in
     let first = c.requires.mirror.done in
     let left = c.if-at-as_slice.false in
     let ops = ap length c.as_slice.ensures in
-    let between : IsBetween p.script p.devices.items p.half (sides_of self) self.replies.items (g.R.Rig.image c.args.rig.now) before = record {
+    let between : IsBetween p.script p.devices.items p.half (sides_of self) self.replies.items (g.R.Rig.state c.args.rig.now).image before = record {
       bound = c.requires.mirror.plan.bound;
       half_is = c.requires.mirror.plan.half;
       rig = c.requires.rig;
@@ -41,7 +41,7 @@ returns-in-Ok-clause-op g c =
       marks = c.requires.mirror.marks;
       more = omega (arith, at, first, left, ops);
     } in
-    let keeps = op-stands c.an_op_of_a_mirror_goes_on_in_its_walk.ensures p.script p.devices.items p.half (sides_of self) new x.0 self.replies.items c.in-Ok.reply (g.R.Rig.image c.args.rig.now) before after between x.1.0 x.1.1.1.1 in
+    let keeps = op-stands c.an_op_of_a_mirror_goes_on_in_its_walk.ensures p.script p.devices.items p.half (sides_of self) new x.0 self.replies.items c.in-Ok.reply (g.R.Rig.state c.args.rig.now).image before after between x.1.0 x.1.1.1.1 in
     (x.0, (x.1.0, (x.1.1.0, (x.1.1.1.0, λ e. (c.in-Ok.reply, (c.push_reserved.ensures.items, (x.1.1.1.1, keeps)))))))
 
 pub returns-in-Err-clause-op : goal.returns-in-Err-clause-op
@@ -49,8 +49,8 @@ returns-in-Err-clause-op g c =
     let self = c.args.self.now in
     let p = self.plan in
     let k = length self.replies.items in
-    let before : Outside = record { units = g.R.Rig.units c.args.rig.now; armed = g.R.Rig.armed c.args.rig.now; standing = g.R.Rig.standing c.args.rig.now; log = g.R.Rig.log c.args.rig.now; faults = g.R.Rig.faults c.args.rig.now } in
-    let after : Outside = record { units = g.R.Rig.units c.do_op.new.rig; armed = g.R.Rig.armed c.do_op.new.rig; standing = g.R.Rig.standing c.do_op.new.rig; log = g.R.Rig.log c.do_op.new.rig; faults = g.R.Rig.faults c.do_op.new.rig } in
+    let before : RigState = g.R.Rig.state c.args.rig.now in
+    let after : RigState = g.R.Rig.state c.do_op.new.rig in
     let at : c.len-at.result ≡ k = c.len-at.ensures ∙ self.replies.ok.0 in
     let x = subst (λ i. RanOp p.script p.devices.items p.half (i + 1) (op_at p.script.ops i) self.state.pool self.state.used c.do_op.new.state.used before after (λ runs. Unit {0})) at c.in-Err.ensures.ran in
     (x.0, (x.1.0, (x.1.1.0, (x.1.1.1.0, λ e. cc))))

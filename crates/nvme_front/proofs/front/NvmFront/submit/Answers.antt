@@ -1,12 +1,12 @@
 use Rattle.std.proofs.Common.{◌≡◌, ◌≤◌, None, arith, subst, sym}
-use Rattle.std.specs.Prelude.{is_some}
 use Rattle.nvme_front.specs.Commands.{command_in}
-use Rattle.nvme_front.specs.Exchanges.{Shown}
 use Rattle.nvme_front.specs.Refusals.{refusal}
 use Rattle.nvme_front.specs.declared.command.NvmCommand.{NvmCommand}
 use Rattle.nvme_front.proofs.Answering.{Granted, granted, namespace-in, some-blocks}
 use Rattle.nvme_front.proofs.Doing.{Clauses, all-clauses}
 use Rattle.nvme_front.proofs.front.NvmFront.submit.Goals as goal
+use Rattle.rig_api.specs.State.{RigState}
+use Rattle.rig_api.proofs.State.{stays-exchanged}
 
 pub run-requires-clause-there : goal.run-requires-clause-there
 run-requires-clause-there g c =
@@ -26,11 +26,11 @@ pub returns : goal.returns
 returns g c =
     let gr : Granted c.args.self.now c.of-command.result = granted c.args.self.now c.of-command.result (subst (λ (x : NvmCommand). refusal c.args.self.now x ≡ None) (sym c.of-command.ensures) c.requires.granted) in
     let some : 1 ≤ c.of-command.result.count = subst (λ (x : NvmCommand). 1 ≤ x.count) (sym c.of-command.ensures) (some-blocks c.args.sqe.now) in
-    let old : Shown = record { told = is_some (g.R.Rig.image c.args.rig.now); units = g.R.Rig.units c.args.rig.now; standing = g.R.Rig.standing c.args.rig.now; log = g.R.Rig.log c.args.rig.now; armed = g.R.Rig.armed c.args.rig.now; faults = g.R.Rig.faults c.args.rig.now } in
-    let new : Shown = record { told = is_some (g.R.Rig.image c.run.new.rig); units = g.R.Rig.units c.run.new.rig; standing = g.R.Rig.standing c.run.new.rig; log = g.R.Rig.log c.run.new.rig; armed = g.R.Rig.armed c.run.new.rig; faults = g.R.Rig.faults c.run.new.rig } in
+    let old : RigState = g.R.Rig.state c.args.rig.now in
+    let new : RigState = g.R.Rig.state c.run.new.rig in
     let all : Clauses c.args.self.now (command_in c.args.sqe.now) c.args.body.now c.args.meta.now c.run.new.body c.run.new.meta c.run.result old new =
     subst (λ (x : NvmCommand). Clauses c.args.self.now x c.args.body.now c.args.meta.now c.run.new.body c.run.new.meta c.run.result old new) c.of-command.ensures
-    (all-clauses c.args.self.now c.device-device.result c.of-command.result c.args.body.now c.args.meta.now c.run.new.body c.run.new.meta c.run.result old new (g.R.Rig.image c.args.rig.now)
+    (all-clauses c.args.self.now c.device-device.result c.of-command.result c.args.body.now c.args.meta.now c.run.new.body c.run.new.meta c.run.result old new (g.R.Rig.state c.args.rig.now).image
     c.run.ensures.done c.device-device.ensures.value gr.there some c.requires.devices (g.met.R.Rig.laid c.args.rig.now) (g.met.R.Rig.ready c.args.rig.now)) in
     record {
       submitted = all.submitted;
@@ -38,9 +38,6 @@ returns g c =
       told = all.told;
       never = all.never;
       medium = all.medium;
-      tells = c.run.ensures.done.exchanged.told;
-      standing = c.run.ensures.done.exchanged.standing;
-      armed = c.run.ensures.done.exchanged.armed;
-      count = c.run.ensures.done.exchanged.count;
+      stays = stays-exchanged c.run.ensures.done.exchanged;
       front = c.self.view_is;
     }

@@ -135,7 +135,7 @@ returns-clause-walks g c = λ ch.
           is = x.is;
           walks = λ flips over n opening es left o w block long. walk_fails flips over n opening es left s c.requires.stack o w _ c.args.q i (record { sheet = refl; adapter = refl; host = refl }) ch (c.admit-op.ensures.step 0) c.admit-op.ensures.op empty c.do_op-done.new.pool c.do_op-done.result done'
               x.dev x.lba x.change x.is m block long same;
-          tells = λ us e. subst (λ op. LeavesOwn op us (g.R.Rig.units c.do_op-done.new.rig)) (c.op.ensures ∙ x.is) (c.do_op-done.ensures.failed us e m);
+          tells = λ us e. subst (λ op. LeavesOwn op us (g.R.Rig.state c.do_op-done.new.rig).units) (c.op.ensures ∙ x.is) (c.do_op-done.ensures.failed us e m);
         }))
       ];
       calm = λ calm. known_calm (op_in s.sheet.ops i) s.adapter.kind (room_at s.rooms.items i) s.pool c.do_op-done.new.pool c.do_op-done.result done' (c.do_op-done.ensures.silent calm);
@@ -145,17 +145,17 @@ returns-clause-walks g c = λ ch.
     })
 
 pub returns-then-io-gt0-clause-goes : goal.returns-then-io-gt0-clause-goes
-returns-then-io-gt0-clause-goes g c = goes-nowhere (g.R.Rig.standing c.args.rig.now) (g.R.Rig.log c.args.rig.now) (g.R.Rig.faults c.args.rig.now)
+returns-then-io-gt0-clause-goes g c = goes-nowhere (g.R.Rig.state c.args.rig.now)
 
 pub returns-clause-goes : goal.returns-clause-goes
 returns-clause-goes g c =
-    goes-as-before (g.R.Rig.standing c.args.rig.now) (g.R.Rig.standing c.do_op-done.new.rig) (g.R.Rig.log c.args.rig.now) (g.R.Rig.log c.do_op-done.new.rig) (g.R.Rig.faults c.args.rig.now) (g.R.Rig.faults c.do_op-done.new.rig)
-    c.do_op-done.ensures.standing c.do_op-done.ensures.log c.do_op-done.ensures.count
+    goes-as-before (g.R.Rig.state c.args.rig.now) (g.R.Rig.state c.do_op-done.new.rig)
+    c.do_op-done.ensures.stays.standing c.do_op-done.ensures.log c.do_op-done.ensures.stays.count
 
 pub returns-clause-silent : goal.returns-clause-silent
 returns-clause-silent g c = λ calm h. subst NoneFailed (sym c.set_reply.ensures) (one-more c.args.self.now.replies.items c.admit-op.result c.do_op-done.result (c.do_op-done.ensures.silent calm) h)
 
 pub returns-clause-counts : goal.returns-clause-counts
 returns-clause-counts g c = λ n first h.
-    subst (λ rs. RoseBy (n + medium_replies rs) first (g.R.Rig.faults c.do_op-done.new.rig)) (sym c.set_reply.ensures)
-    (set_rises c.args.self.now.replies.items c.admit-op.result c.do_op-done.result (g.R.Rig.faults c.args.rig.now) (g.R.Rig.faults c.do_op-done.new.rig) c.do_op-done.ensures.count (λ calm e. false≢true (sym (c.do_op-done.ensures.silent calm) ∙ ap is_medium e)) n first h)
+    subst (λ rs. RoseBy (n + medium_replies rs) first (g.R.Rig.state c.do_op-done.new.rig).faults) (sym c.set_reply.ensures)
+    (set_rises c.args.self.now.replies.items c.admit-op.result c.do_op-done.result (g.R.Rig.state c.args.rig.now).faults (g.R.Rig.state c.do_op-done.new.rig).faults c.do_op-done.ensures.stays.count (λ calm e. false≢true (sym (c.do_op-done.ensures.silent calm) ∙ ap is_medium e)) n first h)

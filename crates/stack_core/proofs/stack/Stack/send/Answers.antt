@@ -7,39 +7,39 @@ use Rattle.stack_core.proofs.Keeps.{is-stack}
 use Rattle.stack_core.proofs.Sending.{same-size, settles-of}
 use Rattle.stack_core.proofs.StackSends.{carried_by}
 use Rattle.stack_core.proofs.Sent.{can-carry, holds-group, holds-still, sending, sent-works, spare-sent}
-use Rattle.dix_adapter.specs.Carried.{Shown}
 use Rattle.stack_core.specs.declared.stack.Stack.{Stack}
 use Rattle.stack_core.specs.Walking.{Walks, WalksFalling, WalksTold}
 use Rattle.stack_core.proofs.WalkedRecord.{walk_sends}
 use Rattle.stack_core.proofs.WalkedTold.{told_sends}
 use Rattle.stack_core.proofs.Mediums.{spoiled_by}
 use Rattle.stack_core.proofs.stack.Stack.send.Goals as goal
+use Rattle.rig_api.specs.State.{RigState}
 
 pub carry-requires-clause-group : goal.carry-requires-clause-group
 carry-requires-clause-group g c =
-    let k = can-carry c.args.self.now c.args.d c.args.i c.take.new.group.items c.take.new.self (is_some (g.R.Rig.image c.args.rig.now)) (g.R.Rig.standing c.args.rig.now) (g.R.Rig.room c.args.rig.now) c.requires.stack c.requires.spare c.requires.rig c.requires.ready c.take.ensures.takes in
+    let k = can-carry c.args.self.now c.args.d c.args.i c.take.new.group.items c.take.new.self (is_some (g.R.Rig.state c.args.rig.now).image) (g.R.Rig.state c.args.rig.now).standing (g.R.Rig.state c.args.rig.now).room c.requires.stack c.requires.spare c.requires.rig c.requires.ready c.take.ensures.takes in
     (k.bytes, rw (c.ios.ensures, c.deref.ensures.value) k.fits)
 
 pub carry-requires-clause-scratch : goal.carry-requires-clause-scratch
 carry-requires-clause-scratch g c =
-    let k = can-carry c.args.self.now c.args.d c.args.i c.take.new.group.items c.take.new.self (is_some (g.R.Rig.image c.args.rig.now)) (g.R.Rig.standing c.args.rig.now) (g.R.Rig.room c.args.rig.now) c.requires.stack c.requires.spare c.requires.rig c.requires.ready c.take.ensures.takes in
+    let k = can-carry c.args.self.now c.args.d c.args.i c.take.new.group.items c.take.new.self (is_some (g.R.Rig.state c.args.rig.now).image) (g.R.Rig.state c.args.rig.now).standing (g.R.Rig.state c.args.rig.now).room c.requires.stack c.requires.spare c.requires.rig c.requires.ready c.take.ensures.takes in
     rw (c.ios.ensures, c.deref.ensures.value) (holds-group _ _ k.bytes _ _ c.args.self.now.sheet.limits.max_blocks c.args.self.now.scratch k.fits k.most c.requires.stack.lists.scratch_room)
 
 pub carry-requires-clause-fates : goal.carry-requires-clause-fates
 carry-requires-clause-fates g c =
-    let k = can-carry c.args.self.now c.args.d c.args.i c.take.new.group.items c.take.new.self (is_some (g.R.Rig.image c.args.rig.now)) (g.R.Rig.standing c.args.rig.now) (g.R.Rig.room c.args.rig.now) c.requires.stack c.requires.spare c.requires.rig c.requires.ready c.take.ensures.takes in
+    let k = can-carry c.args.self.now c.args.d c.args.i c.take.new.group.items c.take.new.self (is_some (g.R.Rig.state c.args.rig.now).image) (g.R.Rig.state c.args.rig.now).standing (g.R.Rig.state c.args.rig.now).room c.requires.stack c.requires.spare c.requires.rig c.requires.ready c.take.ensures.takes in
     let f = k.few in
     let r = c.requires.stack.lists.fates_room in
     rw c.deref.ensures.value (omega arith)
 
 pub carry-requires-clause-device : goal.carry-requires-clause-device
 carry-requires-clause-device g c =
-    let k = can-carry c.args.self.now c.args.d c.args.i c.take.new.group.items c.take.new.self (is_some (g.R.Rig.image c.args.rig.now)) (g.R.Rig.standing c.args.rig.now) (g.R.Rig.room c.args.rig.now) c.requires.stack c.requires.spare c.requires.rig c.requires.ready c.take.ensures.takes in
+    let k = can-carry c.args.self.now c.args.d c.args.i c.take.new.group.items c.take.new.self (is_some (g.R.Rig.state c.args.rig.now).image) (g.R.Rig.state c.args.rig.now).standing (g.R.Rig.state c.args.rig.now).room c.requires.stack c.requires.spare c.requires.rig c.requires.ready c.take.ensures.takes in
     rw c.deref.ensures.value k.device
 
 pub carry-requires-clause-spare : goal.carry-requires-clause-spare
 carry-requires-clause-spare g c =
-    let k = can-carry c.args.self.now c.args.d c.args.i c.take.new.group.items c.take.new.self (is_some (g.R.Rig.image c.args.rig.now)) (g.R.Rig.standing c.args.rig.now) (g.R.Rig.room c.args.rig.now) c.requires.stack c.requires.spare c.requires.rig c.requires.ready c.take.ensures.takes in
+    let k = can-carry c.args.self.now c.args.d c.args.i c.take.new.group.items c.take.new.self (is_some (g.R.Rig.state c.args.rig.now).image) (g.R.Rig.state c.args.rig.now).standing (g.R.Rig.state c.args.rig.now).room c.requires.stack c.requires.spare c.requires.rig c.requires.ready c.take.ensures.takes in
     rw c.deref.ensures.value k.spare
 
 pub fly-requires : goal.fly-requires
@@ -80,16 +80,16 @@ returns-clause-sends g c =
 pub returns-clause-spare : goal.returns-clause-spare
 returns-clause-spare g c =
     let s = settles-of c.take.new.group.items c.carry.new.fates.items (c.carry.ensures.count ∙ ap size c.deref.ensures.value) c.carry.ensures.settles in
-    spare-sent c.args.self.now _ c.take.new.self c.args.d c.args.i c.take.new.group.items c.carry.new.fates.items (g.R.Rig.standing c.args.rig.now) (g.R.Rig.standing c.carry.new.rig) (g.R.Rig.room c.args.rig.now) (g.R.Rig.room c.carry.new.rig)
-    c.requires.spare c.requires.ready c.take.ensures.takes s (rw (c.deref-2.ensures.value, c.deref-3.ensures.value) at c.fly.ensures) c.carry.ensures.spent refl c.carry.ensures.standing
+    spare-sent c.args.self.now _ c.take.new.self c.args.d c.args.i c.take.new.group.items c.carry.new.fates.items (g.R.Rig.state c.args.rig.now).standing (g.R.Rig.state c.carry.new.rig).standing (g.R.Rig.state c.args.rig.now).room (g.R.Rig.state c.carry.new.rig).room
+    c.requires.spare c.requires.ready c.take.ensures.takes s (rw (c.deref-2.ensures.value, c.deref-3.ensures.value) at c.fly.ensures) c.carry.ensures.spent refl c.carry.ensures.stays.standing
 
 pub returns-clause-walks : goal.returns-clause-walks
 returns-clause-walks g c = λ ch m n opening first w.
     (let s = c.args.self.now in
     let a = c.args.rig.now in
     let b = c.carry.new.rig in
-    let old : Shown = record { told = is_some (g.R.Rig.image a); units = g.R.Rig.units a; standing = g.R.Rig.standing a; log = g.R.Rig.log a; room = g.R.Rig.room a; armed = g.R.Rig.armed a; faults = g.R.Rig.faults a } in
-    let new : Shown = record { told = is_some (g.R.Rig.image b); units = g.R.Rig.units b; standing = g.R.Rig.standing b; log = g.R.Rig.log b; room = g.R.Rig.room b; armed = g.R.Rig.armed b; faults = g.R.Rig.faults b } in
+    let old : RigState = g.R.Rig.state a in
+    let new : RigState = g.R.Rig.state b in
     let after : Stack = record s { machine = c.fly.new.self; pool = c.carry.new.pool; scratch = c.carry.new.scratch; group = c.take.new.group; fates = c.carry.new.fates } in
     let settles = settles-of c.take.new.group.items c.carry.new.fates.items (c.carry.ensures.count ∙ ap size c.deref.ensures.value) c.carry.ensures.settles in
     let unsent = rw (c.ios.ensures, c.deref.ensures.value) at c.carry.ensures.unsent in
@@ -97,17 +97,17 @@ returns-clause-walks g c = λ ch m n opening first w.
     let fetched = rw (c.ios.ensures, c.deref.ensures.value) at c.carry.ensures.fetched in
     let out = rw (c.ios.ensures, c.deref.ensures.value) at c.carry.ensures.recorded_out in
     let came = rw (c.ios.ensures, c.deref.ensures.value) at c.carry.ensures.recorded_in in
-    subst (λ st. Walks m n opening first after st (g.R.Rig.log b)) (sym c.carry.ensures.standing)
-    (walk_sends m n opening first s (g.R.Rig.standing a) (g.R.Rig.log a) c.requires.stack w after c.args.d c.args.i c.take.new.group.items c.carry.new.fates.items c.take.new.self (record { sheet = refl; adapter = refl; host = refl }) ch c.take.ensures.takes (rw (c.deref-2.ensures.value, c.deref-3.ensures.value) at c.fly.ensures) settles refl
-    old new refl (λ e q. ((unsent e q).0, ap g.R.Rig.log (unsent e q).1)) (λ e q. (sent e q).pool_is) (λ e. (fetched e).whole) out came))
+    subst (λ st. Walks m n opening first after st (g.R.Rig.state b).log) (sym c.carry.ensures.stays.standing)
+    (walk_sends m n opening first s (g.R.Rig.state a).standing (g.R.Rig.state a).log c.requires.stack w after c.args.d c.args.i c.take.new.group.items c.carry.new.fates.items c.take.new.self (record { sheet = refl; adapter = refl; host = refl }) ch c.take.ensures.takes (rw (c.deref-2.ensures.value, c.deref-3.ensures.value) at c.fly.ensures) settles refl
+    old new refl (λ e q. ((unsent e q).0, ap (λ (s : RigState). s.log) (ap g.R.Rig.state (unsent e q).1))) (λ e q. (sent e q).pool_is) (λ e. (fetched e).whole) out came))
 
 pub returns-clause-told : goal.returns-clause-told
 returns-clause-told g c = λ ch m n opening first w calm.
     (let s = c.args.self.now in
     let a = c.args.rig.now in
     let b = c.carry.new.rig in
-    let old : Shown = record { told = is_some (g.R.Rig.image a); units = g.R.Rig.units a; standing = g.R.Rig.standing a; log = g.R.Rig.log a; room = g.R.Rig.room a; armed = g.R.Rig.armed a; faults = g.R.Rig.faults a } in
-    let new : Shown = record { told = is_some (g.R.Rig.image b); units = g.R.Rig.units b; standing = g.R.Rig.standing b; log = g.R.Rig.log b; room = g.R.Rig.room b; armed = g.R.Rig.armed b; faults = g.R.Rig.faults b } in
+    let old : RigState = g.R.Rig.state a in
+    let new : RigState = g.R.Rig.state b in
     let after : Stack = record s { machine = c.fly.new.self; pool = c.carry.new.pool; scratch = c.carry.new.scratch; group = c.take.new.group; fates = c.carry.new.fates } in
     let settles = settles-of c.take.new.group.items c.carry.new.fates.items (c.carry.ensures.count ∙ ap size c.deref.ensures.value) c.carry.ensures.settles in
     let unsent = rw (c.ios.ensures, c.deref.ensures.value) at c.carry.ensures.unsent in
@@ -117,18 +117,18 @@ returns-clause-told g c = λ ch m n opening first w calm.
     let came = rw (c.ios.ensures, c.deref.ensures.value) at c.carry.ensures.recorded_in in
     let went_out = rw (c.ios.ensures, c.deref.ensures.value) at c.carry.ensures.went_out in
     let came_in = rw (c.ios.ensures, c.deref.ensures.value) at c.carry.ensures.came_in in
-    subst (λ st. WalksTold m n opening first after (g.R.Rig.units b) (g.R.Rig.armed b) st (g.R.Rig.log b)) (sym c.carry.ensures.standing)
-    (told_sends m n opening first s (g.R.Rig.units a) (g.R.Rig.armed a) (g.R.Rig.standing a) (g.R.Rig.log a) c.requires.stack w after c.args.d c.args.i c.take.new.group.items c.carry.new.fates.items c.take.new.self (record { sheet = refl; adapter = refl; host = refl }) ch c.take.ensures.takes (rw (c.deref-2.ensures.value, c.deref-3.ensures.value) at c.fly.ensures) settles refl
-    old new (g.R.Rig.image a) refl refl refl c.carry.ensures.armed calm (g.met.R.Rig.laid a) (g.met.R.Rig.ready a) c.requires.rig.devices
-    (λ e q. ((unsent e q).0, (ap g.R.Rig.log (unsent e q).1, ap g.R.Rig.units (unsent e q).1))) (λ e q. (sent e q).pool_is) (λ e. (fetched e).whole) out came went_out came_in))
+    subst (λ st. WalksTold m n opening first after (g.R.Rig.state b).units (g.R.Rig.state b).armed st (g.R.Rig.state b).log) (sym c.carry.ensures.stays.standing)
+    (told_sends m n opening first s (g.R.Rig.state a).units (g.R.Rig.state a).armed (g.R.Rig.state a).standing (g.R.Rig.state a).log c.requires.stack w after c.args.d c.args.i c.take.new.group.items c.carry.new.fates.items c.take.new.self (record { sheet = refl; adapter = refl; host = refl }) ch c.take.ensures.takes (rw (c.deref-2.ensures.value, c.deref-3.ensures.value) at c.fly.ensures) settles refl
+    old new (g.R.Rig.state a).image refl refl refl c.carry.ensures.stays.armed calm (g.met.R.Rig.laid a) (g.met.R.Rig.ready a) c.requires.rig.devices
+    (λ e q. ((unsent e q).0, (ap (λ (s : RigState). s.log) (ap g.R.Rig.state (unsent e q).1), ap (λ (s : RigState). s.units) (ap g.R.Rig.state (unsent e q).1)))) (λ e q. (sent e q).pool_is) (λ e. (fetched e).whole) out came went_out came_in))
 
 pub returns-clause-falling : goal.returns-clause-falling
 returns-clause-falling g c = λ ch m n opening first w.
     (let s = c.args.self.now in
     let a = c.args.rig.now in
     let b = c.carry.new.rig in
-    let old : Shown = record { told = is_some (g.R.Rig.image a); units = g.R.Rig.units a; standing = g.R.Rig.standing a; log = g.R.Rig.log a; room = g.R.Rig.room a; armed = g.R.Rig.armed a; faults = g.R.Rig.faults a } in
-    let new : Shown = record { told = is_some (g.R.Rig.image b); units = g.R.Rig.units b; standing = g.R.Rig.standing b; log = g.R.Rig.log b; room = g.R.Rig.room b; armed = g.R.Rig.armed b; faults = g.R.Rig.faults b } in
+    let old : RigState = g.R.Rig.state a in
+    let new : RigState = g.R.Rig.state b in
     let after : Stack = record s { machine = c.fly.new.self; pool = c.carry.new.pool; scratch = c.carry.new.scratch; group = c.take.new.group; fates = c.carry.new.fates } in
     let settles = settles-of c.take.new.group.items c.carry.new.fates.items (c.carry.ensures.count ∙ ap size c.deref.ensures.value) c.carry.ensures.settles in
     let unsent = rw (c.ios.ensures, c.deref.ensures.value) at c.carry.ensures.unsent in
@@ -140,30 +140,30 @@ returns-clause-falling g c = λ ch m n opening first w.
     let came_in = rw (c.ios.ensures, c.deref.ensures.value) at c.carry.ensures.came_in in
     let stays : Stays s after = record { sheet = refl; adapter = refl; host = refl } in
     let flies = rw (c.deref-2.ensures.value, c.deref-3.ensures.value) at c.fly.ensures in
-    subst (λ st. WalksFalling m n opening first after (g.R.Rig.units b) (g.R.Rig.armed b) st (g.R.Rig.log b)) (sym c.carry.ensures.standing) (
+    subst (λ st. WalksFalling m n opening first after (g.R.Rig.state b).units (g.R.Rig.state b).armed st (g.R.Rig.state b).log) (sym c.carry.ensures.stays.standing) (
       w.0,
-      (told_sends m n opening first s (g.R.Rig.units a) (g.R.Rig.armed a) (g.R.Rig.standing a) (g.R.Rig.log a) c.requires.stack w.1 after c.args.d c.args.i c.take.new.group.items c.carry.new.fates.items c.take.new.self stays ch c.take.ensures.takes (rw (c.deref-2.ensures.value, c.deref-3.ensures.value) at c.fly.ensures) settles refl
-          old new (g.R.Rig.image a) refl refl refl c.carry.ensures.armed tt (g.met.R.Rig.laid a) (g.met.R.Rig.ready a) c.requires.rig.devices
-          (λ e q. ((unsent e q).0, (ap g.R.Rig.log (unsent e q).1, ap g.R.Rig.units (unsent e q).1))) (λ e q. (sent e q).pool_is) (λ e. (fetched e).whole) out came went_out came_in),
+      (told_sends m n opening first s (g.R.Rig.state a).units (g.R.Rig.state a).armed (g.R.Rig.state a).standing (g.R.Rig.state a).log c.requires.stack w.1 after c.args.d c.args.i c.take.new.group.items c.carry.new.fates.items c.take.new.self stays ch c.take.ensures.takes (rw (c.deref-2.ensures.value, c.deref-3.ensures.value) at c.fly.ensures) settles refl
+          old new (g.R.Rig.state a).image refl refl refl c.carry.ensures.stays.armed tt (g.met.R.Rig.laid a) (g.met.R.Rig.ready a) c.requires.rig.devices
+          (λ e q. ((unsent e q).0, (ap (λ (s : RigState). s.log) (ap g.R.Rig.state (unsent e q).1), ap (λ (s : RigState). s.units) (ap g.R.Rig.state (unsent e q).1)))) (λ e q. (sent e q).pool_is) (λ e. (fetched e).whole) out came went_out came_in),
     ))
 
 pub returns-clause-goes : goal.returns-clause-goes
 returns-clause-goes g c =
     either-way _ _ _
     (λ w b. (let e = (c.carry.ensures.unsent w b).1 in
-    goes-as-before (g.R.Rig.standing c.args.rig.now) (g.R.Rig.standing c.carry.new.rig) (g.R.Rig.log c.args.rig.now) (g.R.Rig.log c.carry.new.rig) (g.R.Rig.faults c.args.rig.now) (g.R.Rig.faults c.carry.new.rig)
-    c.carry.ensures.standing (ap g.R.Rig.log e) (let k = ap g.R.Rig.faults e in omega (arith, k))))
-    (λ w b. (let x = (c.carry.ensures.sent w b).exchanged in record { standing = c.carry.ensures.standing; more = _; records = x.recorded; faults = x.count }))
-    (λ r. (let x = (c.carry.ensures.fetched r).exchanged in record { standing = c.carry.ensures.standing; more = _; records = x.recorded; faults = x.count }))
+    goes-as-before (g.R.Rig.state c.args.rig.now) (g.R.Rig.state c.carry.new.rig)
+    c.carry.ensures.stays.standing (ap (λ (s : RigState). s.log) (ap g.R.Rig.state e)) (let k = ap (λ (s : RigState). s.faults) (ap g.R.Rig.state e) in omega (arith, k))))
+    (λ w b. (let x = (c.carry.ensures.sent w b).exchanged in record { standing = c.carry.ensures.stays.standing; more = _; records = x.recorded; faults = x.count }))
+    (λ r. (let x = (c.carry.ensures.fetched r).exchanged in record { standing = c.carry.ensures.stays.standing; more = _; records = x.recorded; faults = x.count }))
 
 pub returns-clause-carries : goal.returns-clause-carries
 returns-clause-carries g c =
     let s = c.args.self.now in
     let a = c.args.rig.now in
     let b = c.carry.new.rig in
-    let old : Shown = record { told = is_some (g.R.Rig.image a); units = g.R.Rig.units a; standing = g.R.Rig.standing a; log = g.R.Rig.log a; room = g.R.Rig.room a; armed = g.R.Rig.armed a; faults = g.R.Rig.faults a } in
-    let new : Shown = record { told = is_some (g.R.Rig.image b); units = g.R.Rig.units b; standing = g.R.Rig.standing b; log = g.R.Rig.log b; room = g.R.Rig.room b; armed = g.R.Rig.armed b; faults = g.R.Rig.faults b } in
-    let k = can-carry s c.args.d c.args.i c.take.new.group.items c.take.new.self (is_some (g.R.Rig.image a)) (g.R.Rig.standing a) (g.R.Rig.room a) c.requires.stack c.requires.spare c.requires.rig c.requires.ready c.take.ensures.takes in
+    let old : RigState = g.R.Rig.state a in
+    let new : RigState = g.R.Rig.state b in
+    let k = can-carry s c.args.d c.args.i c.take.new.group.items c.take.new.self (is_some (g.R.Rig.state a).image) (g.R.Rig.state a).standing (g.R.Rig.state a).room c.requires.stack c.requires.spare c.requires.rig c.requires.ready c.take.ensures.takes in
     let long = c.carry.ensures.count ∙ ap size c.deref.ensures.value in
     let settles = settles-of c.take.new.group.items c.carry.new.fates.items long c.carry.ensures.settles in
     let unsent = rw (c.ios.ensures, c.deref.ensures.value) at c.carry.ensures.unsent in
@@ -171,19 +171,19 @@ returns-clause-carries g c =
     let fetched = rw (c.ios.ensures, c.deref.ensures.value) at c.carry.ensures.fetched in
     carried_by (plan_in s.sheet) s.machine c.args.d c.args.i c.fly.new.self c.take.new.self c.take.new.group.items c.carry.new.fates.items c.take.ensures.takes (rw (c.deref-2.ensures.value, c.deref-3.ensures.value) at c.fly.ensures) settles
     s.adapter s.sheet.ios.items s.pool c.carry.new.pool old new k.on (long ∙ same-size c.take.new.group.items) k.some k.of_plan
-    (λ e q. ((unsent e q).0, ap g.R.Rig.log (unsent e q).1)) sent fetched
+    (λ e q. ((unsent e q).0, ap (λ (s : RigState). s.log) (ap g.R.Rig.state (unsent e q).1))) sent fetched
 
 pub returns-clause-spoils : goal.returns-clause-spoils
 returns-clause-spoils g c =
     let s = c.args.self.now in
     let a = c.args.rig.now in
     let b = c.carry.new.rig in
-    let old : Shown = record { told = is_some (g.R.Rig.image a); units = g.R.Rig.units a; standing = g.R.Rig.standing a; log = g.R.Rig.log a; room = g.R.Rig.room a; armed = g.R.Rig.armed a; faults = g.R.Rig.faults a } in
-    let new : Shown = record { told = is_some (g.R.Rig.image b); units = g.R.Rig.units b; standing = g.R.Rig.standing b; log = g.R.Rig.log b; room = g.R.Rig.room b; armed = g.R.Rig.armed b; faults = g.R.Rig.faults b } in
+    let old : RigState = g.R.Rig.state a in
+    let new : RigState = g.R.Rig.state b in
     let settles = settles-of c.take.new.group.items c.carry.new.fates.items (c.carry.ensures.count ∙ ap size c.deref.ensures.value) c.carry.ensures.settles in
     let unsent = rw (c.ios.ensures, c.deref.ensures.value) at c.carry.ensures.unsent in
     let sent = rw (c.ios.ensures, c.deref.ensures.value) at c.carry.ensures.sent in
     let fetched = rw (c.ios.ensures, c.deref.ensures.value) at c.carry.ensures.fetched in
     spoiled_by (plan_in s.sheet) s.machine c.args.d c.args.i c.fly.new.self c.take.new.self c.take.new.group.items c.carry.new.fates.items c.take.ensures.takes (rw (c.deref-2.ensures.value, c.deref-3.ensures.value) at c.fly.ensures) settles
     s.adapter s.sheet.ios.items s.pool c.carry.new.pool old new
-    (λ e q. ((unsent e q).0, ap g.R.Rig.faults (unsent e q).1)) sent fetched
+    (λ e q. ((unsent e q).0, ap (λ (s : RigState). s.faults) (ap g.R.Rig.state (unsent e q).1))) sent fetched
