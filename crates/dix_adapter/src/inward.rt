@@ -294,7 +294,7 @@ fn deliver(
     ensures long { length frame.new ≡ length frame.old }
 {
     match found {
-        Some(_) => walks.read(pool, io, k, frame),
+        Some(_) => walks.skip(pool, io, k, frame),
         None => walks.write(pool, io, k, frame),
     }
 }

@@ -61,6 +61,19 @@ impl<'a> Walks<'a> {
         read_tuple(pool, &io.pi, k, &mut self.tuples, tuple);
     }
 
+    /// Goes past the next block. What lies in its pages comes into the spare frame, where nobody looks at it.
+    pub(crate) fn skip(&mut self, pool: &PagePool, io: &Io, k: u32, spare: &mut [u8])
+        requires walks { Walkable pool.now io.now }
+        requires before { IsBefore io.now k self.old }
+        requires within { k < io.now.count }
+        requires long { length spare.old ≡ block_size io.now + 8 }
+        ensures whole { AreWhole pool.now }
+        ensures before { IsBefore io.now (k + 1) self.new }
+        ensures long { length spare.new ≡ length spare.old }
+    {
+        self.read(pool, io, k, spare);
+    }
+
     /// Writes the frame of the next block: its data, and its tuple where it has one.
     pub(crate) fn write(&mut self, pool: &mut PagePool, io: &Io, k: u32, frame: &[u8])
         requires walks { Walkable pool.old io.now }
