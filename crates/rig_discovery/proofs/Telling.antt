@@ -118,7 +118,7 @@ data_told u o h n =
     ∙ ap (λ (i : DeviceInfo). Some i) (info_is u.first u.blocks u.size u.ty k.0)
 
 -- what the unit answers to a look, whatever its store does and whatever faults are armed
-answered : (unit : Stored) (armed : List FaultLine) (stop : Option Stop) → target_answer unit armed look [] [] 32 stop ≡ record { done = 0; sense = None; blocks = unit.blocks; sent = take 32 (capacity_data (shape_of unit)) ∷ [] }
+pub answered : (unit : Stored) (armed : List FaultLine) (stop : Option Stop) → target_answer unit armed look [] [] 32 stop ≡ record { done = 0; sense = None; blocks = unit.blocks; sent = take 32 (capacity_data (shape_of unit)) ∷ [] }
 unfolding target_answer refusal
 answered unit armed stop = refl
 

@@ -1,9 +1,11 @@
 //! Asking each device of a rig for its capacity.
 
-ghost use Rattle.std.specs.Prelude.{◌≡◌, ◌+◌, ◌^◌, IfSome, ◌≤◌, ◌<◌, ◌++◌, ◌∷◌, [], IfErr, IfOk, IsOk, Some, is_some, length, map, true};
+ghost use Rattle.std.specs.Prelude.{◌≡◌, ◌+◌, ◌^◌, List, IfSome, ◌≤◌, ◌<◌, ◌++◌, ◌∷◌, [], IfErr, IfOk, IsOk, Some, is_some, length, map, true};
 ghost use Rattle.rig_api.specs.Log.{HasRoom};
 ghost use Rattle.rig_api.specs.Telling.{greatest_size, spec_at, specs_of};
 ghost use Rattle.rig_api.specs.State.{Stays};
+ghost use Rattle.answered_record.specs.Answered.{Answers};
+ghost use Rattle.target_answer.specs.Target.{Stored};
 ghost use Rattle.rig_discovery.specs.Discovery.{Answer, Ends, HasFault, HasFound, Spent, entry_of_look, info_of, told};
 
 use crate::answer::told_by;
@@ -28,6 +30,7 @@ fn ask<R: Rig>(rig: &mut R, dev: u32) -> Option<DeviceInfo>
     ensures asked { (a : Answer) × (result ≡ told (R.state rig.old).standing dev a) × ((R.state rig.new).log ≡ (R.state rig.old).log ++ (entry_of_look (R.state rig.old).standing dev a ∷ [])) }
     ensures told { is_some (R.state rig.old).units ≡ true → result ≡ Some (info_of (spec_at (R.state rig.old).standing dev)) }
     ensures end { IfSome result (λ i. i.first + i.blocks < 2 ^ 64) }
+    ensures answered { (us : List Stored) → (R.state rig.old).units ≡ Some us → Answers us (R.state rig.old) (R.state rig.new) }
     ensures units { (R.state rig.new).units ≡ (R.state rig.old).units }
     ensures stays { Stays (R.state rig.old) (R.state rig.new) }
     ensures spent { Spent 1 (R.state rig.old).room (R.state rig.new).room }
@@ -51,6 +54,7 @@ pub fn discover<R: Rig>(rig: &mut R) -> Result<ArrayVec<DeviceInfo, 8>, BadCapac
     ensures never { is_some (R.state rig.old).units ≡ true → IsOk result }
     ensures told { is_some (R.state rig.old).units ≡ true → IfOk result (λ v. v.items ≡ map info_of (specs_of (R.state rig.old).standing)) }
     ensures ends { IfOk result (λ v. Ends v.items) }
+    ensures answered { (us : List Stored) → (R.state rig.old).units ≡ Some us → Answers us (R.state rig.old) (R.state rig.new) }
     ensures units { (R.state rig.new).units ≡ (R.state rig.old).units }
     ensures stays { Stays (R.state rig.old) (R.state rig.new) }
     ensures spent { Spent (R.state rig.old).standing.devices (R.state rig.old).room (R.state rig.new).room }

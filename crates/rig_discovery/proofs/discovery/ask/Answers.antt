@@ -1,4 +1,5 @@
 use Rattle.std.proofs.Common.{◌∙◌}
+use Rattle.rig_discovery.proofs.Answering.{look_answers}
 use Rattle.rig_discovery.proofs.Steps.{asked_is}
 use Rattle.rig_discovery.proofs.Telling.{told_is, units_stay}
 use Rattle.rig_discovery.proofs.discovery.ask.Goals as goal
@@ -18,3 +19,6 @@ returns-clause-told g c = λ t.
 pub returns-clause-units : goal.returns-clause-units
 returns-clause-units g c =
     units_stay _ _ _ c.args.dev _ _ _ _ c.exchange-outcome.result c.exchange-outcome.new.into _ _ c.exchange-outcome.ensures.exchanged.standing (g.met.R.Rig.laid c.args.rig.now) (g.met.R.Rig.laid c.exchange-outcome.new.self) c.exchange-outcome.ensures.exchanged.tells c.exchange-outcome.ensures.exchanged.stopped
+
+pub returns-clause-answered : goal.returns-clause-answered
+returns-clause-answered g c = λ us told. look_answers us _ _ c.args.dev c.exchange-outcome.result c.exchange-outcome.new.into told c.exchange-outcome.ensures.exchanged

@@ -2,6 +2,7 @@ use Rattle.std.proofs.Common.{◌≡◌, ◌<◌, [], ◌∷◌, ◌++◌, lengt
 use Rattle.std.specs.Prelude.{is_some}
 use Rattle.rig_api.specs.Telling.{specs_of}
 use Rattle.rig_api.proofs.State.{stays-on}
+use Rattle.rig_discovery.proofs.Answering.{answers_more}
 use Rattle.rig_discovery.proofs.Steps.{ends_more, infos_more, one_more, room_more, spent_more, told_last}
 use Rattle.rig_discovery.proofs.Telling.{enough}
 use Rattle.rig_discovery.proofs.discovery.discover.Goals as goal
@@ -18,6 +19,7 @@ loop-dev-preserved g c =
       told = λ t. rw pushed (infos_more (specs_of (g.R.Rig.state c.args.rig.now).standing) c.loop-dev.dev c.loop-dev.found.items c.in-Some.info last (c.loop-dev.invariant.told t)
           (told_last _ _ c.loop-dev.dev c.ask.result c.in-Some.info c.loop-dev.invariant.stays.standing c.in-Some.is (c.ask.ensures.told (ap is_some c.loop-dev.invariant.units ∙ t))));
       ends = rw pushed (ends_more c.loop-dev.found.items c.in-Some.info c.loop-dev.invariant.ends c.in-Some.ensures.end);
+      answered = answers_more _ _ _ c.loop-dev.invariant.stays c.loop-dev.invariant.answered c.ask.ensures.answered;
       units = c.ask.ensures.units ∙ c.loop-dev.invariant.units;
       stays = stays-on c.loop-dev.invariant.stays c.ask.ensures.stays;
       room = room_more _ _ c.loop-dev.dev _ _ within c.loop-dev.invariant.room c.ask.ensures.spent;
