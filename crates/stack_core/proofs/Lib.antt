@@ -49,3 +49,4 @@ pub mod Mediums
 pub mod StackCounts
 pub mod MediumLines
 pub mod NoMedium
+pub mod Answering

@@ -160,7 +160,7 @@ module _ (m : Setting) (n : ℕ) (opening : State) (first : ℕ) (s : Stack) (st
         let fitting = fit_in m s.adapter s.sheet.ios.items (group_at view d i) s.pool k.fixed.protect fit s'.pool fates (from_first old) (from_first new) dir' wide r'' (subst (FramesFit m) (sym logs) w.fit) in
         went new.log whole (grows old new r'.entry l r'.what) fitting on
 
-    size_is : (spec_at st (first_of group).dev).size ≡ block_size (Carry.request_of s.sheet.ios.items (first_of group).op)
+    pub size_is : (spec_at st (first_of group).dev).size ≡ block_size (Carry.request_of s.sheet.ios.items (first_of group).op)
     size_is = size_known device n opening records w.left s k over_record w.walks s' d i group fates between stays ch takes flies settles same st w.sizes
 
     -- whatever the adapter did

@@ -20,6 +20,9 @@ ghost use Rattle.target_answer.specs.Target.{Stored};
 ghost use Rattle.block_path.specs.Acts.{State};
 ghost use Rattle.whole_run.specs.Settings.{Setting};
 ghost use Rattle.stack_core.specs.Mediums.{Counts, HasCounted, RoseBy, Spoils, medium_replies};
+ghost use Rattle.std.specs.List.{list_any};
+ghost use Rattle.answered_record.specs.Answered.{PutsAnswers};
+ghost use Rattle.stack_walks.specs.Overwrites.{is_overwrite};
 ghost use Rattle.stack_core.specs.OnRecord.{Carries, SendsOn, Traces};
 ghost use Rattle.stack_core.specs.Stacks.{GoesOn, HasSpare, HasStep, IsStack, Reaches, Sends, Stays, Steps, plan_in};
 
@@ -118,6 +121,7 @@ impl Stack {
         ensures tells { is_some (R.state rig.new).image ≡ is_some (R.state rig.old).image }
         ensures rig { Reaches self.new (is_some (R.state rig.new).image) (R.state rig.new).standing }
         ensures goes { GoesOn (R.state rig.old) (R.state rig.new) }
+        ensures answered { (m : Setting) (n : ℕ) (opening : State) (first : ℕ) → Walks m n opening first self.old (R.state rig.old).standing (R.state rig.old).log → list_any is_overwrite self.old.sheet.ops ≡ false → PutsAnswers (R.state rig.old) (R.state rig.new) }
         ensures armed { (R.state rig.new).armed ≡ (R.state rig.old).armed }
         ensures spare { HasSpare self.new (R.state rig.new).standing (R.state rig.new).room }
         ensures walks { (m : Setting) (n : ℕ) (opening : State) (first : ℕ) → Walks m n opening first self.old (R.state rig.old).standing (R.state rig.old).log → Walks m n opening first self.new (R.state rig.new).standing (R.state rig.new).log }
@@ -195,6 +199,7 @@ impl Stack {
         ensures room { (R.state rig.new).room ≡ (R.state rig.old).room }
         ensures log { (R.state rig.new).log ≡ (R.state rig.old).log }
         ensures goes { GoesOn (R.state rig.old) (R.state rig.new) }
+        ensures answered { list_any is_overwrite self.old.sheet.ops ≡ false → PutsAnswers (R.state rig.old) (R.state rig.new) }
         ensures armed { (R.state rig.new).armed ≡ (R.state rig.old).armed }
         ensures kept { self.new.kept ≡ self.old.kept }
         ensures counts { (n first : ℕ) → RoseBy (n + medium_replies self.old.replies.items) first (R.state rig.old).faults → RoseBy (n + medium_replies self.new.replies.items) first (R.state rig.new).faults }
@@ -270,6 +275,7 @@ impl Stack {
         ensures standing { (R.state rig.new).standing ≡ (R.state rig.old).standing }
         ensures spare { HasSpare self.new (R.state rig.new).standing (R.state rig.new).room }
         ensures goes { GoesOn (R.state rig.old) (R.state rig.new) }
+        ensures answered { IsChosen self.old (Send d i) → (m : Setting) (n : ℕ) (opening : State) (first : ℕ) → Walks m n opening first self.old (R.state rig.old).standing (R.state rig.old).log → PutsAnswers (R.state rig.old) (R.state rig.new) }
         ensures armed { (R.state rig.new).armed ≡ (R.state rig.old).armed }
         ensures kept { self.new.kept ≡ self.old.kept }
         ensures carries { Carries self.old.adapter (plan_in self.old.sheet) self.old.machine d i self.new.machine (R.state rig.old).log (R.state rig.new).log }

@@ -3,6 +3,8 @@ use Rattle.std.proofs.lemmas.Bool.{false≢true}
 use Rattle.std.proofs.lemmas.List.{length-set}
 use Rattle.stack_steps.specs.declared.choice.Choice.TheVariants.{Admit}
 use Rattle.stack_core.specs.Stacks.{plan_in}
+use Rattle.answered_record.proofs.Going.{answers_nothing, puts_nothing}
+use Rattle.stack_core.proofs.Answering.{op_leaves}
 use Rattle.stack_core.proofs.Goes.{goes-as-before, goes-nowhere}
 use Rattle.stack_walks.proofs.Facts.{op-enters}
 use Rattle.stack_core.proofs.Keeps.{is-stack}
@@ -159,3 +161,16 @@ pub returns-clause-counts : goal.returns-clause-counts
 returns-clause-counts g c = λ n first h.
     subst (λ rs. RoseBy (n + medium_replies rs) first (g.R.Rig.state c.do_op-done.new.rig).faults) (sym c.set_reply.ensures)
     (set_rises c.args.self.now.replies.items c.admit-op.result c.do_op-done.result (g.R.Rig.state c.args.rig.now).faults (g.R.Rig.state c.do_op-done.new.rig).faults c.do_op-done.ensures.stays.count (λ calm e. false≢true (sym (c.do_op-done.ensures.silent calm) ∙ ap is_medium e)) n first h)
+
+pub returns-then-io-gt0-clause-answered : goal.returns-then-io-gt0-clause-answered
+returns-then-io-gt0-clause-answered g c = λ none. puts_nothing (g.R.Rig.state c.args.rig.now) (g.R.Rig.state c.args.rig.now) refl refl refl refl
+
+pub returns-clause-answered : goal.returns-clause-answered
+returns-clause-answered g c = λ none us told armed calm.
+    (let old = g.R.Rig.state c.args.rig.now in
+    let new = g.R.Rig.state c.do_op-done.new.rig in (
+      answers_nothing us old new c.do_op-done.ensures.log
+          (op_leaves c.args.self.now.sheet.ops c.admit-op.result _ us c.do_op-done.result new.units none c.op.ensures (c.do_op-done.ensures.left us told)),
+      c.do_op-done.ensures.stays.standing,
+      c.do_op-done.ensures.stays.armed,
+    ))

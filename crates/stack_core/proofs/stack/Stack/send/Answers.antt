@@ -1,7 +1,14 @@
-use Rattle.std.proofs.Common.{ap, refl, subst, sym, ◌∙◌, arith}
+use Rattle.std.proofs.Common.{◌≡◌, ap, map, refl, subst, sym, ◌∙◌, arith}
 use Rattle.std.specs.Prelude.{is_some}
-use Rattle.dix_adapter.specs.Groups.{size}
+use Rattle.answered_record.proofs.Going.{puts_nothing}
+use Rattle.dix_adapter.proofs.Landing.{group-bytes}
+use Rattle.dix_adapter.proofs.Units.{unit-stands}
+use Rattle.page_pool.specs.Cells.{flat}
+use Rattle.dix_adapter.specs.Carried.{any_bad, sends}
+use Rattle.dix_adapter.specs.Groups.{blocks_in, first_of, size}
+use Rattle.answered_record.specs.Answered.{Answers}
 use Rattle.stack_core.specs.Stacks.{Stays, plan_in}
+use Rattle.stack_core.proofs.Answering.{fetched_puts, sent_puts}
 use Rattle.stack_core.proofs.Goes.{either-way, goes-as-before}
 use Rattle.stack_core.proofs.Keeps.{is-stack}
 use Rattle.stack_core.proofs.Sending.{same-size, settles-of}
@@ -9,7 +16,7 @@ use Rattle.stack_core.proofs.StackSends.{carried_by}
 use Rattle.stack_core.proofs.Sent.{can-carry, holds-group, holds-still, sending, sent-works, spare-sent}
 use Rattle.stack_core.specs.declared.stack.Stack.{Stack}
 use Rattle.stack_core.specs.Walking.{Walks, WalksFalling, WalksTold}
-use Rattle.stack_core.proofs.WalkedRecord.{walk_sends}
+use Rattle.stack_core.proofs.WalkedRecord.{size_is, walk_sends}
 use Rattle.stack_core.proofs.WalkedTold.{told_sends}
 use Rattle.stack_core.proofs.Mediums.{spoiled_by}
 use Rattle.stack_core.proofs.stack.Stack.send.Goals as goal
@@ -187,3 +194,26 @@ returns-clause-spoils g c =
     spoiled_by (plan_in s.sheet) s.machine c.args.d c.args.i c.fly.new.self c.take.new.self c.take.new.group.items c.carry.new.fates.items c.take.ensures.takes (rw (c.deref-2.ensures.value, c.deref-3.ensures.value) at c.fly.ensures) settles
     s.adapter s.sheet.ios.items s.pool c.carry.new.pool old new
     (λ e q. ((unsent e q).0, ap (λ (s : RigState). s.faults) (ap g.R.Rig.state (unsent e q).1))) sent fetched
+
+pub returns-clause-answered : goal.returns-clause-answered
+returns-clause-answered g c = λ ch m n opening first w us told armed calm.
+    (let s = c.args.self.now in
+    let a = c.args.rig.now in
+    let b = c.carry.new.rig in
+    let old : RigState = g.R.Rig.state a in
+    let new : RigState = g.R.Rig.state b in
+    let req = c.take.new.group.items in
+    let ios = s.sheet.ios.items in
+    let after : Stack = record s { machine = c.fly.new.self; pool = c.carry.new.pool; scratch = c.carry.new.scratch; group = c.take.new.group; fates = c.carry.new.fates } in
+    let settles = settles-of req c.carry.new.fates.items (c.carry.ensures.count ∙ ap size c.deref.ensures.value) c.carry.ensures.settles in
+    let flies = rw (c.deref-2.ensures.value, c.deref-3.ensures.value) at c.fly.ensures in
+    let k = can-carry s c.args.d c.args.i req c.take.new.self (is_some old.image) old.standing old.room c.requires.stack c.requires.spare c.requires.rig c.requires.ready c.take.ensures.takes in
+    let known = size_is m n opening first s old.standing old.log c.requires.stack w after c.args.d c.args.i req c.carry.new.fates.items c.take.new.self (record { sheet = refl; adapter = refl; host = refl }) ch c.take.ensures.takes flies settles refl ∙ group-bytes s.adapter s.pool k.bytes ios req k.fits in
+    let stands = unit-stands old.standing old.image us (first_of req).dev (sym (g.met.R.Rig.laid a) ∙ told) (g.met.R.Rig.ready a) k.device in
+    let unsent = rw (c.ios.ensures, c.deref.ensures.value) at c.carry.ensures.unsent in
+    let sent = rw (c.ios.ensures, c.deref.ensures.value) at c.carry.ensures.sent in
+    let fetched = rw (c.ios.ensures, c.deref.ensures.value) at c.carry.ensures.fetched in
+    either-way (Answers us old new × (new.standing ≡ old.standing) × (new.armed ≡ old.armed)) (first_of req).dir (any_bad (map (sends s.adapter ios (flat s.pool)) (blocks_in req)))
+    (λ d q. (let e = ap g.R.Rig.state (unsent d q).1 in puts_nothing old new (ap (λ (s : RigState). s.log) e) (ap (λ (s : RigState). s.standing) e) (ap (λ (s : RigState). s.armed) e) (ap (λ (s : RigState). s.units) e) us told armed calm))
+    (λ d q. (sent_puts s.adapter ios req s.pool c.carry.new.pool k.bytes us c.carry.new.fates.items old new c.requires.stack.fixed.protect k.fits known stands told armed calm d q (sent d q), c.carry.ensures.stays.standing, c.carry.ensures.stays.armed))
+    (λ d. (fetched_puts s.adapter ios req s.pool c.carry.new.pool k.bytes us c.carry.new.fates.items old new c.requires.stack.fixed.protect k.fits known stands told armed calm d (fetched d), c.carry.ensures.stays.standing, c.carry.ensures.stays.armed)))

@@ -3,6 +3,7 @@ use Rattle.std.specs.Prelude.{is_some}
 use Rattle.stack_steps.specs.declared.choice.Choice.TheVariants.{Admit, Complete, Cut, End, Join, Send}
 use Rattle.stack_steps.specs.Does.{Chooses}
 use Rattle.stack_core.specs.Stacks.{plan_in}
+use Rattle.answered_record.proofs.Going.{puts_nothing}
 use Rattle.stack_core.proofs.Goes.{goes-nowhere}
 use Rattle.stack_core.proofs.Going.{can-step, spare-left}
 use Rattle.stack_core.proofs.StackCounts.{few_counts, same_counts, sent_counts, step_counts, still_counts}
@@ -298,3 +299,23 @@ pub returns-in-Send-clause-counts : goal.returns-in-Send-clause-counts
 returns-in-Send-clause-counts g c =
     let h : Chooses (plan_in c.args.self.now.sheet) c.args.self.now.machine c.args.word (Send c.in-Send.d c.in-Send.i) = rw c.in-Send.is at c.choose-choice.ensures in
     sent_counts c.args.self.now c.send.new.self c.args.word c.in-Send.d c.in-Send.i (g.R.Rig.state c.args.rig.now).faults (g.R.Rig.state c.send.new.rig).faults c.send.ensures.stays h c.requires.some c.send.ensures.spoils c.send.ensures.kept c.send.ensures.replies
+
+pub returns-in-End-clause-answered : goal.returns-in-End-clause-answered
+returns-in-End-clause-answered g c = λ m n opening first w none. puts_nothing (g.R.Rig.state c.args.rig.now) (g.R.Rig.state c.args.rig.now) refl refl refl refl
+
+pub returns-in-Complete-clause-answered : goal.returns-in-Complete-clause-answered
+returns-in-Complete-clause-answered g c = λ m n opening first w none. puts_nothing (g.R.Rig.state c.args.rig.now) (g.R.Rig.state c.args.rig.now) refl refl refl refl
+
+pub returns-in-Cut-clause-answered : goal.returns-in-Cut-clause-answered
+returns-in-Cut-clause-answered g c = λ m n opening first w none. puts_nothing (g.R.Rig.state c.args.rig.now) (g.R.Rig.state c.args.rig.now) refl refl refl refl
+
+pub returns-in-Join-clause-answered : goal.returns-in-Join-clause-answered
+returns-in-Join-clause-answered g c = λ m n opening first w none. puts_nothing (g.R.Rig.state c.args.rig.now) (g.R.Rig.state c.args.rig.now) refl refl refl refl
+
+pub returns-in-Admit-clause-answered : goal.returns-in-Admit-clause-answered
+returns-in-Admit-clause-answered g c = λ m n opening first w none. c.admit.ensures.answered none
+
+pub returns-in-Send-clause-answered : goal.returns-in-Send-clause-answered
+returns-in-Send-clause-answered g c = λ m n opening first w none.
+    (let h : Chooses (plan_in c.args.self.now.sheet) c.args.self.now.machine c.args.word (Send c.in-Send.d c.in-Send.i) = rw c.in-Send.is at c.choose-choice.ensures in
+    c.send.ensures.answered (c.args.word, h, c.requires.some) m n opening first w)
