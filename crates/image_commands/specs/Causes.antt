@@ -6,6 +6,7 @@ use Rattle.target_answer.specs.declared.units.UnitSpec.{UnitSpec}
 use Rattle.rig_api.specs.Head.{IsHeadOf, head_fault, units_of, version_in}
 use Rattle.rig_api.specs.Telling.{IsMigrated, KeepsBlocks, KeepsUnits, Opened, migrated_count, units_told}
 use Rattle.rig_api.specs.State.{RigState}
+use Rattle.answered_record.specs.Answered.{Answers}
 use Rattle.volume_table.specs.declared.device.DeviceInfo.{DeviceInfo}
 use Rattle.rig_discovery.specs.Discovery.{HasFault, HasFound}
 use Rattle.pi_scrub.specs.Faults.{all_faults}
@@ -65,13 +66,14 @@ pub record HasOpened (name : List ℕ) (old between new : RigState) : Type 0 whe
   pub standing : new.standing ≡ between.standing
   pub count : between.faults ≤ new.faults
 
--- Then each device was asked once what it is. The armed faults are those that were before it was opened.
+-- Then each device was asked once what it is. The armed faults are those that were before it was opened. Where the rig tells its blocks, the records are its units' answers.
 pub record WasTold (name : List ℕ) (devices : List DeviceInfo) (old new : RigState) : Type 0 where
   pub between : RigState
   pub since : HasOpened name old between new
   pub armed : new.armed ≡ old.armed
   pub found : HasFound between.standing devices between.log new.log
   pub devices_are : HasDevices devices new.standing new.units
+  pub answered : (us : List Stored) → between.units ≡ Some us → Answers us between new
 
 -- The device of this number gave an answer at fault, the first. The blocks aren't told then, and the armed faults are those that were before the image was opened.
 pub record IsBad (name : List ℕ) (dev : ℕ) (old new : RigState) : Type 0 where

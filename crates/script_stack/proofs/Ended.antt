@@ -1,6 +1,11 @@
 -- What the steps of a script's stack come to at its end, by the laws of a run over any rig and over one that tells its blocks.
 use Rattle.std.proofs.Common.{ℕ, Bool, ◌≡◌, ◌+◌, ◌*◌, true, List, [], length, drop, map, Option, Some, None, refl, sym, ap, subst, ◌∙◌}
-use Rattle.std.specs.Prelude.{is_some}
+use Rattle.std.specs.Prelude.{false, is_some}
+use Rattle.std.specs.List.{list_any}
+use Rattle.dix_base.specs.Told.{Calm}
+use Rattle.answered_record.specs.Answered.{AreAnswersTo}
+use Rattle.stack_walks.specs.Overwrites.{is_overwrite}
+use Rattle.stack_core.specs.declared.sheet.Sheet.{Sheet}
 use Rattle.std.proofs.lemmas.Option.{none-some}
 use Rattle.fault_schedule.specs.declared.fault.FaultLine.{FaultLine}
 use Rattle.target_answer.specs.Image.{units_in}
@@ -97,6 +102,16 @@ sent_by s t devices words begun r image image' old new few all o =
     sends_for (by_words s words) t begun r old.log new.log o.goes.more few all
     (record { plan = record { is = o.plan.is; queues = o.plan.queues }; first = o.first; stays = o.stays; sent = o.sent; records = o.goes.records; stack = o.stack; ended = o.ended }) m (4096 * s.pages) opening (length old.log) new.standing new.log
     (o.went.walks m (4096 * s.pages) opening (length old.log) (o.walks (failed_in r.replies.items) [] old.standing old.log o.sizes)) refl refl
+
+-- Over a rig that tells its units, without faults and overwrites, and where no store call failed, the records are what they answer.
+pub answered_by : (s : Script) (t : Table) (devices : List DeviceInfo) (words : List (ℕ × ℕ)) (begun r : Stack) (image image' : Option (List ℕ)) (old new : RigState) → (o : IsOver s t devices words begun r image image' old new) → (us : List Stored) → old.units ≡ Some us →
+    s.faults ≡ [] → list_any is_overwrite s.ops ≡ false → Calm old.faults new.faults → (left : List Stored) × (new.units ≡ Some left) × AreAnswersTo old.standing us o.goes.more left
+answered_by s t devices words begun r image image' old new o us told quiet none calm =
+    let m = setting_of s t (map unit_of devices) (failed_in r.replies.items) in
+    let ops : begun.sheet.ops ≡ s.ops = ap (λ (x : Sheet). x.ops) (sym o.stays.sheet) ∙ o.ops in
+    let x = (o.went.answered m (4096 * s.pages) (begun_of s (map unit_of devices) []) (length old.log) (o.walks (failed_in r.replies.items) [] old.standing old.log o.sizes) (ap (list_any is_overwrite) ops ∙ none) us told (o.armed ∙ quiet) calm).0 in
+    let same : x.records ≡ o.goes.more = sym (behind old.log x.records) ∙ (ap (drop (length old.log)) (sym x.log) ∙ rest_is s t devices words begun r image image' old new o) in
+    (x.left, x.units, subst (λ es. AreAnswersTo old.standing us es x.left) same x.answered)
 
 -- the law of lines that name the medium
 abbrev pub MediumLaw : Type 0

@@ -1,6 +1,7 @@
 -- From the refusal of a part to that of the call.
 use Rattle.std.proofs.Common.{ℕ, ◌≡◌, ◌⊎◌, inl, inr, ◌+◌, List, Option, Result, Ok, Err, sym, subst, arith}
 use Rattle.std.specs.Prelude.{IfErr, IfOk, MatchResult}
+use Rattle.answered_record.proofs.Going.{answers_room}
 use Rattle.image_commands.specs.Causes.{CauseUntold}
 use Rattle.image_commands.specs.declared.fault.Fault.{Fault}
 use Rattle.image_commands.specs.declared.fault.Fault.TheVariants as fault
@@ -73,6 +74,7 @@ asked_still name devices old a b spare same asked =
         armed = asked.told.armed;
         found = asked.told.found;
         devices_are = asked.told.devices_are;
+        answered = λ us e. answers_room us asked.told.between b spare (asked.told.answered us e);
       };
       all = asked.all;
     })

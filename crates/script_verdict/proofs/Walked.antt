@@ -8,6 +8,7 @@ use Rattle.dix_base.specs.Told.{AreOctets}
 use Rattle.target_answer.specs.Target.{Stored}
 use Rattle.rig_api.specs.Log.{Entry, Room}
 use Rattle.rig_api.specs.State.{RigState}
+use Rattle.answered_record.specs.Answered.{Answers}
 use Rattle.volume_table.specs.declared.device.DeviceInfo.{DeviceInfo}
 use Rattle.volume_table.specs.Tables.{Table}
 use Rattle.script_text.specs.declared.script.Script.{Script}
@@ -23,7 +24,7 @@ use Rattle.script_stack.specs.Followed.{HasFallen, HasWalked, IsBackedBy, failed
 use Rattle.stack_walks.specs.Overwrites.{is_overwrite}
 use Rattle.run_falls.specs.Falls.{of_blocks}
 use Rattle.script_stack.specs.Going.{Went}
-use Rattle.script_stack.proofs.Ended.{BackedLaw, FallenLaw, IsOver, MediumLaw, ToldLaw, backed_by, fallen_at, few_lines, sent_by, told_at, walked_at}
+use Rattle.script_stack.proofs.Ended.{BackedLaw, FallenLaw, IsOver, MediumLaw, ToldLaw, answered_by, backed_by, fallen_at, few_lines, sent_by, told_at, walked_at}
 use Rattle.script_stack.proofs.SendsBy.{AllLaw, FewLaw}
 use Rattle.script_stack.proofs.Words.{sends_own}
 use Rattle.script_laws.specs.Keeping.{Keeps}
@@ -72,7 +73,10 @@ goes_from s told ready end spare same goes =
 pub went_from : (s : Script) (begun r : Stack) (told ready end : RigState) (spare : Room) → ready ≡ record told { room = spare; armed = s.faults } → Went begun ready r end → Went begun (armed_for s told) r end
 went_from s begun r told ready end spare same went =
     let w : Went begun (record told { room = spare; armed = s.faults }) r end = subst (λ (v : RigState). Went begun v r end) same went in
-    record { walks = w.walks; told = w.told; falling = w.falling; silent = w.silent; faults = w.faults }
+    record { walks = w.walks; told = w.told; falling = w.falling; silent = w.silent; faults = w.faults; sheet = w.sheet; answered = λ m n opening first k none us units armed calm. answers_armed us (w.answered m n opening first k none us units armed calm) }
+  where
+    answers_armed : (us : List Stored) → Answers us (record told { room = spare; armed = s.faults }) end × (end.standing ≡ told.standing) × (end.armed ≡ s.faults) → Answers us (armed_for s told) end × (end.standing ≡ told.standing) × (end.armed ≡ s.faults)
+    answers_armed us x = let a = x.0 in (record { records = a.records; log = a.log; left = a.left; answered = a.answered; units = a.units }, x.1, x.2)
 
 -- a script that keeps the rules of its language and was made ready, from which the stack went to its end, over a rig as a call sees it
 pub record IsDone (s : Script) (t : Table) (devices : List DeviceInfo) (begun r : Stack) (old new : RigState) : Type 0 where
@@ -259,5 +263,6 @@ followed s t devices begun r old new backed few all medium told same under detec
   named = named s t devices begun r old new told o;
   fell = fell s t devices begun r old new fallen o;
   faults = names_faults s t devices begun r old new fallen o;
+  answered = λ us e quiet none calm. answered_by s t devices s.schedule begun r old.image new.image (armed_for s old) new o.over us e quiet none calm;
   fallen = fallen_view s t devices begun r old new backed fallen reads own brought o;
 }

@@ -1,5 +1,8 @@
-use Rattle.std.specs.Prelude.{ℕ, suc, ◌≡◌, ◌+◌, ◌*◌, ◌<◌, ◌⊎◌, List, [], ◌∷◌, ◌++◌, length, get_or, map, take, is_some, Option, Some, None, Err, Ok, All}
+use Rattle.std.specs.Prelude.{ℕ, suc, ◌≡◌, ◌+◌, ◌*◌, ◌<◌, ◌⊎◌, List, [], ◌∷◌, ◌++◌, length, get_or, map, take, is_some, Option, Some, None, Err, Ok, All, false}
+use Rattle.std.specs.List.{list_any}
 use Rattle.dix_base.specs.Told.{Calm, Rose}
+use Rattle.answered_record.specs.Answered.{AreAnswersTo}
+use Rattle.stack_walks.specs.Overwrites.{is_overwrite}
 use Rattle.page_pool.specs.Pages.{IsBlank}
 use Rattle.dix_adapter.specs.Groups.{mode_of}
 use Rattle.image_commands.specs.Causes.{CauseUntold, WasTold}
@@ -170,7 +173,7 @@ AllReadRightly m ops opening replies = (before after : List Op) (owner : Owner) 
 abbrev pub HoldsBlocks : (old new : RigState) → Type 0
 HoldsBlocks old new = (image : List ℕ) → old.image ≡ Some image → (left : List Stored) × (new.units ≡ Some left) × (new.image ≡ Some (take 512 image ++ joined (blocks_told left)))
 
--- What the steps of a script over its volume did, from the rig that told what its devices are to the rig as it is afterwards, with these pages and replies. The faults that are armed afterwards are the script's. Where the rig tells its image, it has its first 512 bytes as before, and then the blocks that the rig tells. Over any rig, honest or not, the records of the steps back the replies, and are those that its steps send; lines that name the medium are at most as many as the count of faults rose. Over a rig that tells its blocks, where no line of the report names the medium (of a block, or of an overwrite), replies, pages and stored blocks are those of the script's ops done one after another at the target, and the records hold what these carry; and where no fault is scheduled, the blocks are clean and no write supplies an escape, they are those of the plain map. Of such a run each block that is listed was found bad by the check of a layer. In type 1, with tuples passed all the way and protect field 001b, over clean devices, with no escape and with scheduled faults that can be shown, each block of a read is the last accepted write's or names the first layer that checks after the fault; so it is where the script's form says that its faults are shown and that it supplies no escape. Over a rig that tells its blocks, whatever lines name the medium, replies, pages and stored blocks are those of the ops done one after another but for the store calls that failed: what a write's call left stands in its block, and where an overwrite replied `Medium` some flip of its block stands in its place; each block that is listed was found bad by a layer or failed at the medium; and where no fault is scheduled and the blocks are clean, a block of a read that isn't lost fails at the medium or is the last accepted write's, and one of a write that the plain map accepts fails at the medium or not at all.
+-- What the steps of a script over its volume did, from the rig that told what its devices are to the rig as it is afterwards, with these pages and replies. The faults that are armed afterwards are the script's. Where the rig tells its image, it has its first 512 bytes as before, and then the blocks that the rig tells. Over any rig, honest or not, the records of the steps back the replies, and are those that its steps send; lines that name the medium are at most as many as the count of faults rose. Over a rig that tells its blocks, where no line of the report names the medium (of a block, or of an overwrite), replies, pages and stored blocks are those of the script's ops done one after another at the target, and the records hold what these carry; and where no fault is scheduled, the blocks are clean and no write supplies an escape, they are those of the plain map. Of such a run each block that is listed was found bad by the check of a layer. In type 1, with tuples passed all the way and protect field 001b, over clean devices, with no escape and with scheduled faults that can be shown, each block of a read is the last accepted write's or names the first layer that checks after the fault; so it is where the script's form says that its faults are shown and that it supplies no escape. Over a rig that tells its blocks, whatever lines name the medium, replies, pages and stored blocks are those of the ops done one after another but for the store calls that failed: what a write's call left stands in its block, and where an overwrite replied `Medium` some flip of its block stands in its place; each block that is listed was found bad by a layer or failed at the medium; and where no fault is scheduled and the blocks are clean, a block of a read that isn't lost fails at the medium or is the last accepted write's, and one of a write that the plain map accepts fails at the medium or not at all. Where no fault is scheduled, no op overwrites a stored block and no store call failed, the records are what the units answer, one after another.
 pub record Followed (script : Script) (table : Table) (devices : List DeviceInfo) (old new : RigState) (pool : List (List ℕ)) (replies : List Reply) : Type 0 where
   pub tells : is_some new.image ≡ is_some old.image
   pub holds : HoldsBlocks old new
@@ -190,6 +193,7 @@ pub record Followed (script : Script) (table : Table) (devices : List DeviceInfo
   pub fell : (us : List Stored) → old.units ≡ Some us → (left : List Stored) × (new.units ≡ Some left) × HasFallen script table us left pool goes.more replies
   pub faults : (us : List Stored) → old.units ≡ Some us → All NamesFaults replies
   pub fallen : (us : List Stored) → old.units ≡ Some us → IsQuietRun script table us → (left : List Stored) × (new.units ≡ Some left) × HasServed script table us left pool goes.more replies
+  pub answered : (us : List Stored) → old.units ≡ Some us → script.faults ≡ [] → list_any is_overwrite script.ops ≡ false → Calm old.faults new.faults → (left : List Stored) × (new.units ≡ Some left) × AreAnswersTo old.standing us goes.more left
 
 -- The image was opened, its devices told what they are, the script is bound to its volume, and the stack of its ops was run to its end.
 pub record HasRun (run : Finished) (script : Script) (name : List ℕ) (old new : RigState) : Type 0 where

@@ -2,6 +2,7 @@ use Rattle.std.proofs.Common.{ap, ◌∙◌, arith}
 use Rattle.std.specs.Prelude.{is_some}
 use Rattle.rig_api.specs.Telling.{Standing}
 use Rattle.rig_api.specs.State.{RigState}
+use Rattle.answered_record.proofs.Going.{answers_from}
 use Rattle.image_commands.proofs.Devices.{devices_are, few_units, untold}
 use Rattle.image_commands.proofs.Bytes.{image_kept, some_unit}
 use Rattle.image_commands.proofs.scrubbing.told_devices.Goals as goal
@@ -33,6 +34,7 @@ returns-in-Ok-discover-clause-told g c =
       found = rw (ap (λ (s : RigState). s.standing) c.reserve.ensures.keeps, ap (λ (s : RigState). s.log) c.reserve.ensures.keeps) at c.in-Ok-discover.ensures.found;
       devices_are = devices_are _ _ c.in-Ok-discover.devices.items _ _ _ c.in-Ok-discover.ensures.found (omega (arith, few, same, c.in-Ok.ensures.devices)) c.in-Ok-discover.ensures.ends c.discover.ensures.stays.standing c.discover.ensures.units
           (g.met.R.Rig.laid c.reserve.new.self) c.in-Ok-discover.ensures.told;
+      answered = λ us e. answers_from us _ _ _ _ c.reserve.ensures.keeps (c.discover.ensures.answered us (ap (λ (s : RigState). s.units) c.reserve.ensures.keeps ∙ e));
     }
 
 pub returns-in-Err-discover-clause-told : goal.returns-in-Err-discover-clause-told

@@ -39,7 +39,7 @@ loop-stack-preserved g c = record {
   tells = c.step.ensures.tells ∙ c.loop-stack.invariant.tells;
   reaches = c.step.ensures.rig;
   spare = c.step.ensures.spare;
-  went = went_on _ _ _ _ _ _ c.loop-stack.invariant.went (record { walks = c.step.ensures.walks; told = c.step.ensures.told; falling = c.step.ensures.falling; silent = c.step.ensures.silent; faults = c.step.ensures.goes.faults });
+  went = went_on _ _ _ _ _ _ c.loop-stack.invariant.went (record { walks = c.step.ensures.walks; told = c.step.ensures.told; falling = c.step.ensures.falling; silent = c.step.ensures.silent; faults = c.step.ensures.goes.faults; sheet = c.step.ensures.stays.sheet; answered = c.step.ensures.answered });
   goes = goes_then _ _ _ c.loop-stack.invariant.goes c.step.ensures.goes;
   armed = c.step.ensures.armed ∙ c.loop-stack.invariant.armed;
   sends = λ es h.

@@ -13,7 +13,7 @@ loop-word-preserved g c = record {
   tells = c.step.ensures.tells ∙ c.loop-word.invariant.tells;
   reaches = c.step.ensures.rig;
   spare = c.step.ensures.spare;
-  went = went_on _ _ _ _ _ _ c.loop-word.invariant.went (record { walks = c.step.ensures.walks; told = c.step.ensures.told; falling = c.step.ensures.falling; silent = c.step.ensures.silent; faults = c.step.ensures.goes.faults });
+  went = went_on _ _ _ _ _ _ c.loop-word.invariant.went (record { walks = c.step.ensures.walks; told = c.step.ensures.told; falling = c.step.ensures.falling; silent = c.step.ensures.silent; faults = c.step.ensures.goes.faults; sheet = c.step.ensures.stays.sheet; answered = c.step.ensures.answered });
   goes = goes_then _ _ _ c.loop-word.invariant.goes c.step.ensures.goes;
   armed = c.step.ensures.armed ∙ c.loop-word.invariant.armed;
   sends = λ z. sends_then _ _ _ _ _ _ _ c.loop-word.invariant.stays (c.loop-word.invariant.sends z) (sends_once _ _ _ _ _ _ _ (entry_here c.args.schedule.now c.loop-word.word-index c.loop-word.stack.machine.steps (c.loop-word.invariant.steps z)) c.step.ensures.sends);
