@@ -1,25 +1,21 @@
 -- What the adapter's command puts on record is its unit's answer.
-use Rattle.std.proofs.Common.{◌≡◌, ℕ, ◌+◌, ◌*◌, not, ◌&&◌, if◌then◌else◌, List, [], ◌∷◌, ◌++◌, length, map, drop, get_or, sym, ap, ◌∙◌}
-use Rattle.std.specs.Prelude.{Ok}
-use Rattle.pi_tuple.specs.Finds.{is_zero}
+use Rattle.std.proofs.Common.{◌≡◌, ℕ, ◌*◌, if◌then◌else◌, List, [], ◌∷◌, ◌++◌, length, map, drop, get_or, sym, ap, ◌∙◌}
 use Rattle.bio_core.specs.declared.bio.Bio.{Bio}
-use Rattle.cdb_codec.specs.Decoded.{decoded}
 use Rattle.cdb_codec.specs.Forms.{Fits, form}
 use Rattle.cdb_codec.specs.declared.choice.Dir2.{Dir2}
 use Rattle.cdb_codec.specs.declared.choice.Dir2.TheVariants.{In, Out}
-use Rattle.cdb_codec.proofs.Inverse.{decoded_form}
-use Rattle.target_answer.specs.Frames.{sent_size}
 use Rattle.rig_api.specs.Log.{Entry, entry_of, no_entry}
 use Rattle.rig_api.specs.Telling.{spec_at}
 use Rattle.dix_adapter.specs.declared.adapter.Adapter.{Adapter}
-use Rattle.dix_adapter.specs.Carried.{command_for, command_of, out_of as sent_by, way_of}
+use Rattle.dix_adapter.specs.Carried.{command_of, out_of as sent_by, way_of}
 use Rattle.dix_adapter.specs.Groups.{blocks_in, first_of, label_of, size}
-use Rattle.dix_adapter.proofs.Asking.{asked-for, count-is, fields_of, protect-is, request_by}
+use Rattle.dix_adapter.proofs.Asking.{asked-for, fields_of, request_by}
 use Rattle.dix_adapter.proofs.Landing.{group-width}
-use Rattle.dix_adapter.proofs.Runs.{width-sent}
+use Rattle.dix_adapter.proofs.Runs.{width_for}
 use Rattle.script_stack.proofs.Following.{behind}
 use Rattle.vector_lines.specs.Printed.{is_sender, is_write, out_of, sends as goes}
-use Rattle.vector_runs.specs.Done.{room_by, room_of, room_under}
+use Rattle.vector_runs.specs.Done.{room_of}
+use Rattle.stack_core.proofs.Answering.{all_wide, decodes, room_as}
 use Rattle.lab_laws.specs.Again.{ReadAnswers, WriteAnswers}
 use Rattle.lab_laws.proofs.Exchange.{exchange_answers}
 use Rattle.lab_laws.proofs.Group.{command_passes}
@@ -29,14 +25,8 @@ module _ (a : Adapter) (req : List Bio) (dir : Dir2) (way : way_of (first_of req
   abbrev cdb : List ℕ
   cdb = form (command_of a req)
 
-  decodes : decoded (form (command_of a req)) ≡ Ok (command_for a dir (first_of req).lba (size req))
-  decodes = decoded_form (command_of a req) fits ∙ ap (λ d. Ok (command_for a d (first_of req).lba (size req))) way
-
   writes_as : is_write (form (command_of a req)) ≡ goes (request_by dir (fields_of a (first_of req).lba (size req)))
-  writes_as = ap is_sender decodes ∙ ap goes (asked-for a dir (first_of req).lba (size req))
-
-  room_as : (k : ℕ) → room_of k (form (command_of a req)) ≡ room_by k (request_by dir (fields_of a (first_of req).lba (size req)))
-  room_as k = ap (room_under k) decodes ∙ ap (room_by k) (asked-for a dir (first_of req).lba (size req))
+  writes_as = ap is_sender (decodes a req dir way fits) ∙ ap goes (asked-for a dir (first_of req).lba (size req))
 
 same_last : (log : List Entry) (one other : Entry) → log ++ (one ∷ []) ≡ log ++ (other ∷ []) → one ≡ other
 same_last log one other e = ap (λ xs. get_or xs 0 no_entry) (sym (behind log (one ∷ [])) ∙ ap (drop (length log)) e ∙ behind log (other ∷ []))
@@ -60,12 +50,10 @@ read_answers a ios req pool pool' us fates old new h dir x =
     let dev = (first_of req).dev in
     let k = (spec_at old.standing dev).size in
     let n = size req in
-    let c = fields_of a (first_of req).lba n in
     let cdb = form (command_of a req) in
     let labels = map label_of (blocks_in req) in
     let way : way_of (first_of req).dir ≡ In = ap way_of dir in
     let e = entry_of k dev cdb labels x.outcome [] x.came in
-    let wide : sent_size c.protect k ≡ (if a.dif && not (is_zero a.ty) then k + 8 else k) = ap (λ p. sent_size p k) (protect-is a (first_of req).lba n) ∙ width-sent a k h.protect in
-    let room : room_of k cdb ≡ n * (if a.dif && not (is_zero a.ty) then k + 8 else k) = room_as a req In way x.fits k ∙ ap (λ m. m * sent_size c.protect k) (count-is a (first_of req).lba n) ∙ ap (λ m. n * m) wide in
+    let room : room_of k cdb ≡ n * width_for a k = room_as a req In way x.fits k ∙ all_wide a k (first_of req).lba n h.protect in
     let all : out_of cdb e.moved ≡ [] = ap (λ b. if b then e.moved else []) (writes_as a req In way x.fits) in
     (e, exchange_answers old new dev cdb labels [] x.before x.came x.outcome us x.exchanged h.units h.armed h.calm h.stored h.size (x.room ∙ ap (λ m. n * m) (group-width a pool k ios req h.group) ∙ sym room) all)

@@ -32,3 +32,4 @@ pub mod Bound
 pub mod Swept
 pub mod NoneListed
 pub mod FlipRows
+pub mod RanAgain

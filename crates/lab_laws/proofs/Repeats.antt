@@ -4,13 +4,12 @@ use Rattle.std.specs.Prelude.{nat_abs, slice_get, Result, Ok, Err}
 use Rattle.pi_tuple.specs.declared.checks.Check.{Check}
 use Rattle.sense_codes.specs.declared.Sense.{Sense}
 use Rattle.fault_schedule.specs.declared.Label.{Label}
-use Rattle.fault_schedule.specs.declared.fault.Crossing.{Crossing}
 use Rattle.fault_schedule.specs.declared.fault.Crossing.TheVariants.{AdapterToTarget, MediumToTarget, TargetToAdapter, TargetToMedium}
 use Rattle.cdb_codec.specs.Decoded.{decoded}
 use Rattle.cdb_codec.specs.declared.command.Cdb.{Cdb}
 use Rattle.cdb_codec.specs.declared.command.CdbFault.{CdbFault}
 use Rattle.target_answer.specs.Frames.{frames_of, joined, sent_size}
-use Rattle.target_answer.specs.Passing.{accepted, crossed, found_in, from_medium, released, then_crossed, to_medium}
+use Rattle.target_answer.specs.Passing.{accepted, crossed, found_in, from_medium, released, to_medium}
 use Rattle.target_answer.specs.Requests.{request_of}
 use Rattle.target_answer.specs.declared.passage.Passage.{Passage}
 use Rattle.target_answer.specs.declared.request.Request.{Request}
@@ -19,7 +18,7 @@ use Rattle.target_answer.specs.Target.{Answer, Stored, answer_unless, carried_ou
 use Rattle.rig_api.specs.Log.{Entry, moved_of}
 use Rattle.rig_api.specs.Telling.{Standing, at_front, spec_at, unit_at, with_blocks}
 use Rattle.rig_api.specs.declared.rig.Outcome.{Outcome}
-use Rattle.whole_run.proofs.CalmWays.{altered_none, crossed_none}
+use Rattle.answered_record.proofs.Quiet.{comes_through, crosses}
 use Rattle.vector_lines.specs.Printed.{first_line, in_of, out_of, vector_line}
 use Rattle.vector_runs.specs.Done.{answers_over, units_over}
 use Rattle.vector_runs.specs.ListText.{lines_text}
@@ -27,15 +26,6 @@ use Rattle.vector_runs.specs.RecordText.{records_text}
 use Rattle.lab_laws.specs.Again.{AreAnswered, SameAgain, answer_for, lines_of, room_for}
 
 -- ---- a block
-
-pub crosses : (label : Option Label) (at : Crossing) (frame : List ℕ) → crossed [] label at frame ≡ frame
-crosses None at frame = refl
-crosses (Some label) at frame = altered_none at label frame
-
-pub comes_through : (label : Option Label) (at : Crossing) (came : Result (List ℕ) Check) → then_crossed [] label at came ≡ came
-comes_through None at (Ok frame) = refl
-comes_through None at (Err check) = refl
-comes_through (Some label) at came = crossed_none at label came
 
 out_alike : (p : Passage) (label : Option Label) (frame : List ℕ) → to_medium [] (record p { label = label }) frame ≡ to_medium [] (record p { label = None }) frame
 unfolding to_medium found_in

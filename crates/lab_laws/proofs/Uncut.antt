@@ -59,7 +59,7 @@ use Rattle.lab_laws.proofs.Walks.{Takes, freed, sents_taken}
 
 -- ---- what has no vectors isn't there
 
-no_faults : (lines : List ℕ) (faults : List FaultLine) (ops : List Op) → length lines ≡ length faults + length ops → named (unplayed_line lines faults ops) ≡ None → faults ≡ []
+pub no_faults : (lines : List ℕ) (faults : List FaultLine) (ops : List Op) → length lines ≡ length faults + length ops → named (unplayed_line lines faults ops) ≡ None → faults ≡ []
 no_faults lines [] ops l h = refl
 no_faults [] (f ∷ faults) ops l h = absurd (omega (arith, l))
 no_faults (n ∷ lines) (f ∷ faults) ops l h = absurd (cc)
@@ -78,7 +78,7 @@ no_overwrites (n ∷ lines) (FetchPi v k body tuples ∷ ops) l h = no_overwrite
 no_overwrites (n ∷ lines) (Overwrite dev lba change ∷ ops) l h = absurd (cc)
 no_overwrites (n ∷ lines) (Wait ∷ ops) l h = no_overwrites lines ops (omega (arith, l)) h
 
-played_whole : (lines : List ℕ) (faults : List FaultLine) (ops : List Op) → faults ≡ [] → length lines ≡ length faults + length ops → named (unplayed_line lines faults ops) ≡ None → list_any is_overwrite ops ≡ false
+pub played_whole : (lines : List ℕ) (faults : List FaultLine) (ops : List Op) → faults ≡ [] → length lines ≡ length faults + length ops → named (unplayed_line lines faults ops) ≡ None → list_any is_overwrite ops ≡ false
 played_whole lines [] ops e l h = no_overwrites lines ops (omega (arith, l)) h
 played_whole lines (f ∷ faults) ops e l h = absurd (cc)
 

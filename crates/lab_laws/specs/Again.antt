@@ -1,4 +1,4 @@
-use Rattle.std.specs.Prelude.{ℕ, ◌≡◌, ◌+◌, ◌<◌, ◌≤◌, ◌^◌, IfSome, Ok, false, List, [], ◌∷◌, ◌++◌, length, map, replicate, Some, None}
+use Rattle.std.specs.Prelude.{ℕ, ◌≡◌, ◌+◌, ◌<◌, ◌≤◌, ◌^◌, IfSome, Ok, false, List, [], ◌∷◌, ◌++◌, length, map, drop, replicate, Some, None}
 use Rattle.std.specs.List.{All, AllByRecursion as Each}
 use Rattle.hex.specs.Hex.{IsBytes}
 use Rattle.dix_base.specs.Told.{Calm}
@@ -10,10 +10,11 @@ use Rattle.bio_core.specs.declared.request.Dir.TheVariants.{Read, Write}
 use Rattle.bio_core.specs.declared.request.Io.{Io}
 use Rattle.sense_codes.specs.Written.{written}
 use Rattle.target_answer.specs.Frames.{joined, stored_size}
+use Rattle.target_answer.specs.Image.{units_in}
 use Rattle.target_answer.specs.Target.{Answer, Stored}
 use Rattle.rig_api.specs.Log.{Entry, entry_of, moved_of}
 use Rattle.rig_api.specs.State.{Exchanged, RigState}
-use Rattle.rig_api.specs.Telling.{Standing, answer_of, at_front, spec_at, unit_at, with_blocks}
+use Rattle.rig_api.specs.Telling.{Standing, answer_of, at_front, spec_at, specs_of, unit_at, with_blocks}
 use Rattle.rig_api.specs.declared.rig.Outcome.{Outcome}
 use Rattle.dix_adapter.specs.declared.adapter.Adapter.{Adapter}
 use Rattle.dix_adapter.specs.Carried.{Fetched, Sent, any_bad, sends}
@@ -22,9 +23,14 @@ use Rattle.dix_adapter.specs.Ways.{WentOut}
 use Rattle.vector_lines.specs.Printed.{out_of}
 use Rattle.vector_lines.specs.Texts.{list_in}
 use Rattle.vector_lines.specs.declared.line.VectorLine.{VectorLine}
+use Rattle.script_verdict.specs.Verdict.{Facts}
+use Rattle.script_verdict.specs.declared.verdict.Finished.{Finished}
+use Rattle.vector_runs.specs.Answered.{HasAnswered}
 use Rattle.vector_runs.specs.Done.{answers_over, room_of, units_over}
 use Rattle.vector_runs.specs.ListText.{list_text}
+use Rattle.vector_runs.specs.Played.{HasListed, HasPlayed}
 use Rattle.vector_runs.specs.RecordText.{vectors_text}
+use Rattle.vector_runs.specs.declared.playing.Played.TheVariants as played
 
 -- Vectors that are done again as a list.
 
@@ -104,3 +110,23 @@ TextReads = (es : List Entry) → Each IsWritten es → length (vectors_text es)
 abbrev pub SameAgain : Type 0
 SameAgain = (s : Standing) (us left : List Stored) (es : List Entry) → AreAnswered s us es left →
     let lines = lines_of 2 es in (list_text lines (answers_over s us lines) ≡ vectors_text es) × (units_over s us lines ≡ left)
+
+-- So it is of the records of a script that was run, whose vectors are written, over an image that is told and where no store call failed: their vectors, done as a list over the units of that image, are the same text, and leave the units that the run left.
+abbrev pub RunAgain : Type 0
+RunAgain = (run : Finished) (f : Facts) (image : List ℕ) → f.rig.image ≡ Some image → Calm f.rig.faults f.rig_after.faults → HasPlayed (played.Ran run) f →
+    let s = f.rig_after.standing in let us = units_in (specs_of s) image in let records = drop run.first f.rig_after.log in let lines = lines_of 2 records in
+    (list_text lines (answers_over s us lines) ≡ vectors_text records) × (f.rig_after.units ≡ Some (units_over s us lines))
+
+-- And where that list was done over a rig whose image is the same, and no store call failed either, its text is the same and the rig tells the same units.
+abbrev pub ListAgain : Type 0
+ListAgain = (run : Finished) (f : Facts) (image : List ℕ) → f.rig.image ≡ Some image → Calm f.rig.faults f.rig_after.faults → HasPlayed (played.Ran run) f →
+    let records = drop run.first f.rig_after.log in let lines = lines_of 2 records in
+    (name : List ℕ) (old new : RigState) → old.image ≡ Some image → Calm old.faults new.faults → (a : HasAnswered name lines old new) →
+    (list_text lines a.done.entries ≡ vectors_text records) × (new.units ≡ f.rig_after.units)
+
+-- So it is of two calls of which the second takes the text that the first wrote, and does it over a rig whose image is as the first one's was: it writes the same text, and the rig tells the same units. The records have the widths of a list's lines.
+abbrev pub TextAgain : Type 0
+TextAgain = (run : Finished) (f : Facts) (image : List ℕ) → f.rig.image ≡ Some image → Calm f.rig.faults f.rig_after.faults → HasPlayed (played.Ran run) f →
+    let records = drop run.first f.rig_after.log in Each IsWritten records →
+    (lines : List VectorLine) (first : ℕ) (g : Facts) → g.rig.image ≡ Some image → Calm g.rig.faults g.rig_after.faults → (k : HasListed lines first g) → k.held.text ≡ vectors_text records →
+    (list_text lines (drop first g.rig_after.log) ≡ vectors_text records) × (g.rig_after.units ≡ f.rig_after.units)

@@ -1,34 +1,15 @@
-use Rattle.std.specs.Prelude.{ℕ, ◌≡◌, ◌*◌, ◌≤◌, min, List, [], ◌∷◌, ◌++◌, length, replicate, Some, None, is_some, Result, Ok, Err}
+use Rattle.std.specs.Prelude.{ℕ, ◌≡◌, ◌≤◌, List, [], ◌∷◌, ◌++◌, length, replicate, Some, None, is_some}
 use Rattle.dix_base.specs.Told.{Calm}
-use Rattle.cdb_codec.specs.Decoded.{decoded}
-use Rattle.cdb_codec.specs.declared.command.Cdb.{Cdb}
-use Rattle.cdb_codec.specs.declared.command.CdbFault.{CdbFault}
-use Rattle.target_answer.specs.Frames.{joined, sent_size}
-use Rattle.target_answer.specs.Requests.{request_of}
-use Rattle.target_answer.specs.declared.request.Request.{Request}
-use Rattle.target_answer.specs.declared.request.Request.TheVariants.{Read, Write, Verify, ReadCapacity}
+use Rattle.target_answer.specs.Frames.{joined}
 use Rattle.target_answer.specs.Target.{Answer, Stored}
 use Rattle.rig_api.specs.Log.{Entry, entry_of}
 use Rattle.rig_api.specs.Telling.{Standing, answer_of, at_front, spec_at, with_blocks}
 use Rattle.rig_api.specs.declared.rig.Outcome.{Outcome}
 use Rattle.rig_api.specs.State.{RigState}
 use Rattle.vector_lines.specs.declared.line.VectorLine.{VectorLine}
+pub use Rattle.answered_record.specs.Answered.{room_by, room_of, room_under}
 
 -- The commands of a list, each done on its device as it stands, without labels.
-
-abbrev pub room_by : (size : ℕ) → Request → ℕ
-room_by size (Read c) = c.n * sent_size c.protect size
-room_by size (Write c) = 0
-room_by size (Verify c) = 0
-room_by size (ReadCapacity len) = min len 32
-
-abbrev pub room_under : (size : ℕ) → Result Cdb CdbFault → ℕ
-room_under size (Ok cdb) = room_by size (request_of cdb)
-room_under size (Err fault) = 0
-
--- the bytes that a command reads from a unit of this block size, for which it gets room
-abbrev pub room_of : (size : ℕ) → List ℕ → ℕ
-room_of size cdb = room_under size (decoded cdb)
 
 -- the block size of a line's device
 abbrev pub size_of : Standing → VectorLine → ℕ
