@@ -1,16 +1,15 @@
 -- The lines of the blocks that differ are taken apart block by block, and each tells what differs.
-use Rattle.std.proofs.Common.{ℕ, ◌⊎◌, inl, inr, suc, zero, ◌≡◌, ◌+◌, ◌-◌, ◌<◌, Bool, true, false, not, if◌then◌else◌, ◌||◌, ◌&&◌, eqb, List, [], ◌∷◌, ◌++◌, take, drop, refl, sym, ap, ◌∙◌, arith}
+use Rattle.std.proofs.Common.{ℕ, ◌⊎◌, inl, inr, ◌≡◌, ◌+◌, ◌-◌, ◌<◌, Bool, true, false, not, if◌then◌else◌, ◌||◌, eqb, List, [], ◌∷◌, ◌++◌, take, drop, refl, sym, ap, ◌∙◌, arith}
 use Rattle.std.proofs.lemmas.Bool.{eq-eqb}
 use Rattle.std.proofs.lemmas.Bool.Decides.{eqb_tells}
 use Rattle.std.proofs.lemmas.Slice.Eq.{bytes_eq-Decides}
 use Rattle.std.specs.Str.{bytes_eq}
-use Rattle.pi_tuple.specs.declared.tuple.Tuple.{Tuple}
-use Rattle.target_answer.specs.Frames.{data_of, frames_of, tuple_of}
-use Rattle.block_lines.specs.DiffText.{count_differ, counted_tag, data_alone, data_differ, diff_line, diff_lines, differences, differs, have_tuples, tuples_differ}
+use Rattle.target_answer.specs.Frames.{frames_of, tuple_of}
+use Rattle.block_lines.specs.DiffText.{count_differ, data_alone, data_differ, diff_line, diff_lines, differences, differs, have_tuples, tuples_differ}
 use Rattle.block_lines.specs.Laws.{AllAgree, BlocksAgree, NothingDiffers}
 use Rattle.block_lines.specs.ShowText.{one_if}
 use Rattle.block_lines.specs.declared.diff.Pair.{Pair}
-use Rattle.block_lines.proofs.Showing.{next_frame}
+use Rattle.block_lines.proofs.Frames.{next_frame}
 
 -- the line of the next two blocks, and the lines behind it
 pub diff_at : (p : Pair) (lba other len other_len m k n : ℕ) (rest others one two more other_more line : List ℕ) → m ≡ len → k ≡ other_len → one ≡ take m rest → two ≡ take k others → more ≡ drop m rest → other_more ≡ drop k others →

@@ -1,4 +1,5 @@
-mod Sights
-mod Showing
 mod Differing
 mod Listing
+mod Showing
+mod Sights
+pub mod Frames

@@ -1,19 +1,15 @@
 -- The lines of blocks are taken apart block by block, and so is the number of those at fault.
-use Rattle.std.proofs.Common.{ℕ, suc, zero, ◌≡◌, ◌+◌, ◌-◌, ◌*◌, ◌<◌, ◌≤◌, Bool, true, false, List, ◌∷◌, ◌++◌, length, take, drop, get_or, is_some, Option, Some, None, refl, sym, ap, ◌∙◌, arith, add-one, drop-cons}
-use Rattle.std.proofs.lemmas.List.{length-append, length-drop}
+use Rattle.std.proofs.Common.{ℕ, ◌≡◌, ◌+◌, ◌-◌, ◌<◌, ◌≤◌, Bool, true, false, List, ◌∷◌, ◌++◌, length, take, drop, get_or, is_some, Option, Some, None, refl, sym, ap, ◌∙◌, arith, add-one, drop-cons}
+use Rattle.std.proofs.lemmas.List.{length-append}
 use Rattle.pi_scrub.specs.Faults.{faults_from, listed, stored_finding}
 use Rattle.pi_tuple.specs.declared.checks.Check.{Check}
 use Rattle.pi_tuple.specs.declared.checks.PiType.{PiType}
 use Rattle.target_answer.specs.Frames.{frames_of}
+use Rattle.block_lines.proofs.Frames.{next_frame}
 use Rattle.block_lines.specs.Sights.{block_line}
 use Rattle.block_lines.specs.UnitText.{unit_line, unit_lines}
 use Rattle.target_answer.specs.declared.units.UnitSpec.{UnitSpec}
 use Rattle.block_lines.specs.ShowText.{block_lines, count_bad, one_if}
-
--- the first of some frames, and the others
-pub next_frame : (len n : ℕ) (bytes : List ℕ) → 0 < n → frames_of len n bytes ≡ take len bytes ∷ frames_of len (n - 1) (drop len bytes)
-next_frame len zero bytes h = absurd (omega arith)
-next_frame len (suc n) bytes h = let e : suc n - 1 ≡ n = omega arith in rw e refl
 
 pub next_lines : (dev : ℕ) (ty : PiType) (size lba len n : ℕ) (bytes : List ℕ) → 0 < n →
     block_lines dev ty size lba (frames_of len n bytes) ≡ block_line dev ty size lba (take len bytes) ++ block_lines dev ty size (lba + 1) (frames_of len (n - 1) (drop len bytes))
@@ -54,10 +50,3 @@ bad_at dev ty size lba len m n bad next total is_bad rest block more e b r f h s
 pub at_most_one : (is_bad : Bool) (bad next n count : ℕ) → next ≡ bad + one_if is_bad → bad + n ≤ count → 0 < n → next + (n - 1) ≤ count
 at_most_one true bad next n count e f h = omega (arith, e, f, h)
 at_most_one false bad next n count e f h = omega (arith, e, f, h)
-
-less_one : (n len : ℕ) → 0 < n → n * len ≡ len + (n - 1) * len
-less_one zero len h = absurd (omega arith)
-less_one (suc n) len h = let e : suc n - 1 ≡ n = omega arith in rw e (grind arith)
-
-pub shorter : (n len m : ℕ) (rest more : List ℕ) → 0 < n → length rest ≡ n * len → m ≡ len → more ≡ drop m rest → length more ≡ (n - 1) * len
-shorter n len m rest more h l e r = let k = less_one n len h in let d = ap length r ∙ length-drop m rest in omega (arith, k, d, l, e)

@@ -217,9 +217,17 @@ pub fn write_differences<O: Sink>(
     requires others { length others.now ≡ count * stored_size pair.other_unit.ty pair.other_unit.size }
     requires end { first + count < 2 ^ 64 }
     requires other_end { other_first + count < 2 ^ 64 }
-    ensures differ { IfOk result (λ n. n ≡ count_differ pair first other_first (frames_of (stored_size pair.unit.ty pair.unit.size) count frames.now) (frames_of (stored_size pair.other_unit.ty pair.other_unit.size) count others.now)) }
-    ensures whole { OnOk result (Appended (diff_lines pair first other_first (frames_of (stored_size pair.unit.ty pair.unit.size) count frames.now) (frames_of (stored_size pair.other_unit.ty pair.other_unit.size) count others.now)) (O.taken out.old) (O.taken out.new)) }
-    ensures part { OnErr result (AppendedSome (diff_lines pair first other_first (frames_of (stored_size pair.unit.ty pair.unit.size) count frames.now) (frames_of (stored_size pair.other_unit.ty pair.other_unit.size) count others.now)) (O.taken out.old) (O.taken out.new)) }
+    ensures differ { IfOk result (λ n. n ≡ count_differ pair first other_first
+        (frames_of (stored_size pair.unit.ty pair.unit.size) count frames.now)
+        (frames_of (stored_size pair.other_unit.ty pair.other_unit.size) count others.now)) }
+    ensures whole { OnOk result (Appended (diff_lines pair first other_first
+        (frames_of (stored_size pair.unit.ty pair.unit.size) count frames.now)
+        (frames_of (stored_size pair.other_unit.ty pair.other_unit.size) count others.now))
+        (O.taken out.old) (O.taken out.new)) }
+    ensures part { OnErr result (AppendedSome (diff_lines pair first other_first
+        (frames_of (stored_size pair.unit.ty pair.unit.size) count frames.now)
+        (frames_of (stored_size pair.other_unit.ty pair.other_unit.size) count others.now))
+        (O.taken out.old) (O.taken out.new)) }
     ensures cause { OnErr result (Rose (O.faults out.old) (O.faults out.new)) }
     ensures count { O.faults out.old ≤ O.faults out.new }
 {

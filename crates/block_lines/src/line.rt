@@ -5,8 +5,8 @@ ghost use Rattle.hex.specs.Hex.{encode_lower};
 
 use report_text::{Line, add};
 
-/// Puts at most four bytes behind the line, as hexadecimal digits in lower case. Of a line for each block the room of more
-/// would cost what the line does.
+/// Puts at most four bytes behind the line, as hexadecimal digits in lower case. Of a line for each block the room of
+/// more would cost what the line does.
 pub(crate) fn add_hex(line: &mut Line, bytes: &[u8])
     requires few { length bytes.now ≤ 4 }
     requires room { length line.old.items + 8 ≤ 512 }
