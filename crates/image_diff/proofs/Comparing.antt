@@ -1,5 +1,5 @@
 -- How the text of two stretches' blocks grows, piece by piece.
-use Rattle.std.proofs.Common.{◌≡◌, ℕ, Bool, true, false, suc, ◌+◌, ◌*◌, ◌/◌, ◌≤◌, List, [], ◌∷◌, ◌++◌, length, take, Option, Some, None, refl, sym, ap, subst, ◌∙◌, arith, append_assoc, append-nil, length-append}
+use Rattle.std.proofs.Common.{◌≡◌, ℕ, Bool, true, false, suc, ◌+◌, ◌*◌, ◌/◌, ◌≤◌, List, [], ◌∷◌, ◌++◌, length, take, Option, refl, sym, ap, subst, ◌∙◌, arith, append_assoc, append-nil, length-append}
 use Rattle.std.proofs.lemmas.List.{length-take}
 use Rattle.std.proofs.Math.Nat.{mul-div-le, mul-le-mul_left, mul_comm}
 use Rattle.std.specs.Prelude.{min, Result, Ok, Err}
@@ -13,12 +13,13 @@ use Rattle.block_lines.specs.declared.diff.Pair.{Pair}
 use Rattle.image_layout.specs.Places.{block_len}
 use Rattle.image_blocks.specs.declared.stretch.Stretch.{Stretch}
 use Rattle.image_blocks.specs.Blocks.{HasBlocks}
-use Rattle.image_blocks.specs.Places.{IsStretch, behind_in, front_in, spec_of}
+use Rattle.image_blocks.specs.Places.{IsStretch, behind_in, front_in}
 use Rattle.image_blocks.proofs.Stretches.{has_both, has_none, has_some}
+use Rattle.image_walk.proofs.Walks.{behind_is, front_is, nothing}
 use Rattle.target_model.proofs.Bytes.{rise}
 use Rattle.image_diff.specs.declared.fault.DiffFault.{DiffFault}
 use Rattle.image_diff.specs.declared.fault.DiffFault.TheVariants.{First, Second, Sink}
-use Rattle.image_diff.specs.Compared.{Counts, DiffEnds, HasCompared, HasComparedSome, HaveBlocks, Places, counts, differ_of, lines_of, pair_of, places, diff_of}
+use Rattle.image_diff.specs.Compared.{CanCompare, Counts, DiffEnds, HasCompared, HasComparedSome, HaveBlocks, Places, counts, differ_of, lines_of, pair_of, places, diff_of}
 
 -- ---- lines and counts of blocks behind others
 
@@ -82,9 +83,6 @@ front_more us s left most image blocks more h l p =
       few = omega (arith, n, a, k);
     }
 
-behind_is : (us : List UnitSpec) (s : Stretch) (n : ℕ) → IsStretch us s → n ≤ s.count → IsStretch us (behind_in s n)
-behind_is us s n h c = let a = h.first in let b = h.last in record { device = h.device; first = omega (arith, a); last = omega (arith, b, c) }
-
 -- the first blocks and a piece, with whatever is behind them
 pub record Ahead (us : List UnitSpec) (s : Stretch) (image : Option (List ℕ)) (blocks more : List (List ℕ)) : Type 0 where
   pub rest : List (List ℕ)
@@ -124,10 +122,6 @@ pub record SoFar (p : Places) (left other : Stretch) (first second : Option (Lis
   pub counted : differ ≡ differ_of p ones twos
   pub written : Appended (lines_of p ones twos) old now
 
-nothing : (x : Option (List ℕ)) → Appended [] x x
-nothing None = tt
-nothing (Some xs) = sym (append-nil xs)
-
 pub at_first : (p : Places) (first second x : Option (List ℕ)) → SoFar p p.at p.to first second 0 x x
 at_first p first second x = record {
   ones = [];
@@ -142,6 +136,19 @@ at_first p first second x = record {
 -- as many blocks are left of both
 pub many_left : (p : Places) (left other : Stretch) (first second : Option (List ℕ)) (differ : ℕ) (old now : Option (List ℕ)) → p.at.count ≡ p.to.count → SoFar p left other first second differ old now → left.count ≡ other.count
 many_left p left other first second differ old now e l = let a = l.front.few in let b = l.other_front.few in let c = l.same in omega (arith, a, b, c, e)
+
+-- the first blocks of both that are left can be compared
+pub pieces_compare : (p : Places) (left other piece other_piece : Stretch) (most differ len other_len now other_now : ℕ) (first second old mid : Option (List ℕ)) → CanCompare p len other_len → now ≡ len → other_now ≡ other_len →
+    IsStretch p.units left → IsStretch p.others other → SoFar p left other first second differ old mid → piece ≡ front_in left most → other_piece ≡ front_in other most → CanCompare (places p.units piece p.others other_piece) now other_now
+pieces_compare p left other piece other_piece most differ len other_len now other_now first second old mid r m n h k l e f =
+    let c = many_left p left other first second differ old mid r.many l in
+    record {
+      place = subst (λ (v : Stretch). IsStretch p.units v) (sym e) (front_is p.units left most h);
+      other_place = subst (λ (v : Stretch). IsStretch p.others v) (sym f) (front_is p.others other most k);
+      many = ap (λ (v : Stretch). v.count) e ∙ ap (λ k. min k most) c ∙ sym (ap (λ (v : Stretch). v.count) f);
+      held = m ∙ r.held;
+      other_held = n ∙ r.other_held;
+    }
 
 -- the lines of what is left stand behind those of the first blocks
 lines_behind : (p : Places) (left other : Stretch) (first second : Option (List ℕ)) (xs ys us vs : List (List ℕ)) → Front p.units p.at left first xs → Front p.others p.to other second us → length xs ≡ length us →
@@ -295,15 +302,6 @@ last_some p differ first second x y w v a q l = record {
   twos = q.twos;
   has = q.has;
   written = part_second diff_first _ x y v a (part_second (lines_of p q.ones q.twos) _ y w v q.written (subst (λ t. AppendedSome t w v) (last_of p differ first second y w q) l));
-}
-
-pub all_compared : (p : Places) (differ : ℕ) (first second x y w v : Option (List ℕ)) → Appended diff_first x y → HasCompared (lines_of p) p first second differ y w → Appended (compared_line p.at.count differ) w v → HasCompared (diff_of p) p first second differ x v
-all_compared p differ first second x y w v a q l = record {
-  ones = q.ones;
-  twos = q.twos;
-  has = q.has;
-  counted = q.counted;
-  written = appended_both diff_first _ x y v a (appended_both (lines_of p q.ones q.twos) _ y w v q.written (subst (λ t. Appended t w v) (last_of p differ first second y w q) l));
 }
 
 -- a text that was written whole is its beginning too

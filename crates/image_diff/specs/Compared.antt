@@ -1,11 +1,12 @@
 use Rattle.std.specs.Prelude.{ℕ, ◌≡◌, List, Option, Result, Ok, Err}
 use Rattle.dix_base.specs.Told.{Appended, AppendedSome, Rose}
+use Rattle.target_answer.specs.Headers.{image_size}
 use Rattle.target_answer.specs.declared.units.UnitSpec.{UnitSpec}
 use Rattle.block_lines.specs.DiffText.{count_differ, diff_lines, diff_text}
 use Rattle.block_lines.specs.declared.diff.Pair.{Pair}
 use Rattle.image_blocks.specs.declared.stretch.Stretch.{Stretch}
 use Rattle.image_blocks.specs.Blocks.{HasBlocks}
-use Rattle.image_blocks.specs.Places.{spec_of}
+use Rattle.image_blocks.specs.Places.{IsStretch, spec_of}
 use Rattle.image_diff.specs.declared.fault.DiffFault.{DiffFault}
 use Rattle.image_diff.specs.declared.fault.DiffFault.TheVariants as fault
 
@@ -20,6 +21,14 @@ pub record Places : Type 0 where
 
 abbrev pub places : List UnitSpec → Stretch → List UnitSpec → Stretch → Places
 places us at vs to = record { units = us; at = at; others = vs; to = to }
+
+-- Both images have their stretch, these are as long, and the stores have just the lengths of the images.
+pub record CanCompare (p : Places) (len other_len : ℕ) : Type 0 where
+  pub place : IsStretch p.units p.at
+  pub other_place : IsStretch p.others p.to
+  pub many : p.at.count ≡ p.to.count
+  pub held : len ≡ image_size p.units
+  pub other_held : other_len ≡ image_size p.others
 
 -- the units in which the stretches lie
 abbrev pub pair_of : Places → Pair

@@ -1,16 +1,17 @@
 //! The stored blocks of two places, compared.
 
 ghost use Rattle.std.specs.Prelude.{◌≡◌, ◌*◌, ◌≤◌, length};
-ghost use Rattle.target_answer.specs.Headers.{image_size};
 ghost use Rattle.image_layout.specs.Places.{block_len};
 ghost use Rattle.image_blocks.specs.Images.{units_open};
-ghost use Rattle.image_blocks.specs.Places.{IsStretch, spec_of};
-ghost use Rattle.image_diff.specs.Compared.{DiffEnds, counts, lines_of, pair_of, places, diff_of};
+ghost use Rattle.image_blocks.specs.Places.{IsStretch};
+ghost use Rattle.image_walk.specs.Stores.{WasRead, held};
+ghost use Rattle.image_diff.specs.Compared.{CanCompare, DiffEnds, counts, lines_of, pair_of, places, diff_of};
 
 use crate::fault::DiffFault;
 use block_lines::{Pair, write_compared, write_diff_first, write_differences};
 use dix_base::{Failed, Sink, Store};
 use image_blocks::{Image, Stretch, behind_of, block_bytes, front_of, read_blocks};
+use image_walk::blocks_in;
 
 /// The units in which two places lie.
 fn pair_of(image: &Image, at: Stretch, other_image: &Image, to: Stretch) -> Pair
@@ -39,25 +40,20 @@ fn diff_piece<S: Store, T: Store, O: Sink>(
     other_into: &mut [u8],
     out: &mut O,
 ) -> Result<u32, DiffFault>
-    requires place { IsStretch (units_open image.now) at }
-    requires other_place { IsStretch (units_open other_image.now) to }
-    requires many { at.count ≡ to.count }
+    requires places { CanCompare (places (units_open image.now) at (units_open other_image.now) to) (S.len store.old) (T.len other.old) }
     requires room { length into.old ≡ at.count * block_len (units_open image.now) at.dev }
     requires other_room { length other_into.old ≡ to.count * block_len (units_open other_image.now) to.dev }
-    requires held { S.len store.old ≡ image_size (units_open image.now) }
-    requires other_held { T.len other.old ≡ image_size (units_open other_image.now) }
-    ensures compared { DiffEnds result (lines_of (places (units_open image.now) at (units_open other_image.now) to)) (places (units_open image.now) at (units_open other_image.now) to) (S.bytes store.old) (T.bytes other.old) (counts (S.faults store.old) (S.faults store.new) (T.faults other.old) (T.faults other.new) (O.faults out.old) (O.faults out.new)) (O.taken out.old) (O.taken out.new) }
-    ensures same { S.bytes store.new ≡ S.bytes store.old }
-    ensures other_same { T.bytes other.new ≡ T.bytes other.old }
-    ensures length { S.len store.new ≡ S.len store.old }
-    ensures other_length { T.len other.new ≡ T.len other.old }
-    ensures stores { S.faults store.old ≤ S.faults store.new }
-    ensures others { T.faults other.old ≤ T.faults other.new }
+    ensures compared { DiffEnds result (lines_of (places (units_open image.now) at (units_open other_image.now) to)) (places (units_open image.now) at (units_open other_image.now) to)
+        (S.bytes store.old) (T.bytes other.old)
+        (counts (S.faults store.old) (S.faults store.new) (T.faults other.old) (T.faults other.new) (O.faults out.old) (O.faults out.new))
+        (O.taken out.old) (O.taken out.new) }
+    ensures first { WasRead
+        (held (S.bytes store.old) (S.len store.old) (S.faults store.old) (S.handed store.old) (S.openings store.old))
+        (held (S.bytes store.new) (S.len store.new) (S.faults store.new) (S.handed store.new) (S.openings store.new)) }
+    ensures second { WasRead
+        (held (T.bytes other.old) (T.len other.old) (T.faults other.old) (T.handed other.old) (T.openings other.old))
+        (held (T.bytes other.new) (T.len other.new) (T.faults other.new) (T.handed other.new) (T.openings other.new)) }
     ensures sinks { O.faults out.old ≤ O.faults out.new }
-    ensures named { S.handed store.new ≡ S.handed store.old }
-    ensures other_named { T.handed other.new ≡ T.handed other.old }
-    ensures opened { S.openings store.new ≡ S.openings store.old }
-    ensures other_opened { T.openings other.new ≡ T.openings other.old }
 {
     match read_blocks(store, image, at, into) {
         Ok(()) => {}
@@ -87,31 +83,26 @@ fn diff_lines<S: Store, T: Store, O: Sink>(
     other_room: &mut [u8],
     out: &mut O,
 ) -> Result<u32, DiffFault>
-    requires place { IsStretch (units_open image.now) place }
-    requires other_place { IsStretch (units_open other_image.now) to }
-    requires many { place.count ≡ to.count }
+    requires places { CanCompare (places (units_open image.now) place (units_open other_image.now) to) (S.len store.old) (T.len other.old) }
     requires least { 4104 ≤ length room.old }
     requires other_least { 4104 ≤ length other_room.old }
-    requires held { S.len store.old ≡ image_size (units_open image.now) }
-    requires other_held { T.len other.old ≡ image_size (units_open other_image.now) }
-    ensures compared { DiffEnds result (lines_of (places (units_open image.now) place (units_open other_image.now) to)) (places (units_open image.now) place (units_open other_image.now) to) (S.bytes store.old) (T.bytes other.old) (counts (S.faults store.old) (S.faults store.new) (T.faults other.old) (T.faults other.new) (O.faults out.old) (O.faults out.new)) (O.taken out.old) (O.taken out.new) }
-    ensures same { S.bytes store.new ≡ S.bytes store.old }
-    ensures other_same { T.bytes other.new ≡ T.bytes other.old }
-    ensures length { S.len store.new ≡ S.len store.old }
-    ensures other_length { T.len other.new ≡ T.len other.old }
-    ensures stores { S.faults store.old ≤ S.faults store.new }
-    ensures others { T.faults other.old ≤ T.faults other.new }
+    ensures compared { DiffEnds result (lines_of (places (units_open image.now) place (units_open other_image.now) to)) (places (units_open image.now) place (units_open other_image.now) to)
+        (S.bytes store.old) (T.bytes other.old)
+        (counts (S.faults store.old) (S.faults store.new) (T.faults other.old) (T.faults other.new) (O.faults out.old) (O.faults out.new))
+        (O.taken out.old) (O.taken out.new) }
+    ensures first { WasRead
+        (held (S.bytes store.old) (S.len store.old) (S.faults store.old) (S.handed store.old) (S.openings store.old))
+        (held (S.bytes store.new) (S.len store.new) (S.faults store.new) (S.handed store.new) (S.openings store.new)) }
+    ensures second { WasRead
+        (held (T.bytes other.old) (T.len other.old) (T.faults other.old) (T.handed other.old) (T.openings other.old))
+        (held (T.bytes other.new) (T.len other.new) (T.faults other.new) (T.handed other.new) (T.openings other.new)) }
     ensures sinks { O.faults out.old ≤ O.faults out.new }
-    ensures named { S.handed store.new ≡ S.handed store.old }
-    ensures other_named { T.handed other.new ≡ T.handed other.old }
-    ensures opened { S.openings store.new ≡ S.openings store.old }
-    ensures other_opened { T.openings other.new ≡ T.openings other.old }
 {
     let len = block_bytes(image, place.dev);
     let other_len = block_bytes(other_image, to.dev);
-    let most = (room.len() / len)
-        .min(other_room.len() / other_len)
-        .min(65536) as u32;
+    let fit = blocks_in(room.len(), len);
+    let other_fit = blocks_in(other_room.len(), other_len);
+    let most = fit.min(other_fit);
     let mut left = place;
     let mut other_left = to;
     let mut differ = 0u32;
@@ -153,25 +144,20 @@ fn diff_all<S: Store, T: Store, O: Sink>(
     other_room: &mut [u8],
     out: &mut O,
 ) -> Result<u32, DiffFault>
-    requires place { IsStretch (units_open image.now) place }
-    requires other_place { IsStretch (units_open other_image.now) to }
-    requires many { place.count ≡ to.count }
+    requires places { CanCompare (places (units_open image.now) place (units_open other_image.now) to) (S.len store.old) (T.len other.old) }
     requires least { 4104 ≤ length room.old }
     requires other_least { 4104 ≤ length other_room.old }
-    requires held { S.len store.old ≡ image_size (units_open image.now) }
-    requires other_held { T.len other.old ≡ image_size (units_open other_image.now) }
-    ensures compared { DiffEnds result (diff_of (places (units_open image.now) place (units_open other_image.now) to)) (places (units_open image.now) place (units_open other_image.now) to) (S.bytes store.old) (T.bytes other.old) (counts (S.faults store.old) (S.faults store.new) (T.faults other.old) (T.faults other.new) (O.faults out.old) (O.faults out.new)) (O.taken out.old) (O.taken out.new) }
-    ensures same { S.bytes store.new ≡ S.bytes store.old }
-    ensures other_same { T.bytes other.new ≡ T.bytes other.old }
-    ensures length { S.len store.new ≡ S.len store.old }
-    ensures other_length { T.len other.new ≡ T.len other.old }
-    ensures stores { S.faults store.old ≤ S.faults store.new }
-    ensures others { T.faults other.old ≤ T.faults other.new }
+    ensures compared { DiffEnds result (diff_of (places (units_open image.now) place (units_open other_image.now) to)) (places (units_open image.now) place (units_open other_image.now) to)
+        (S.bytes store.old) (T.bytes other.old)
+        (counts (S.faults store.old) (S.faults store.new) (T.faults other.old) (T.faults other.new) (O.faults out.old) (O.faults out.new))
+        (O.taken out.old) (O.taken out.new) }
+    ensures first { WasRead
+        (held (S.bytes store.old) (S.len store.old) (S.faults store.old) (S.handed store.old) (S.openings store.old))
+        (held (S.bytes store.new) (S.len store.new) (S.faults store.new) (S.handed store.new) (S.openings store.new)) }
+    ensures second { WasRead
+        (held (T.bytes other.old) (T.len other.old) (T.faults other.old) (T.handed other.old) (T.openings other.old))
+        (held (T.bytes other.new) (T.len other.new) (T.faults other.new) (T.handed other.new) (T.openings other.new)) }
     ensures sinks { O.faults out.old ≤ O.faults out.new }
-    ensures named { S.handed store.new ≡ S.handed store.old }
-    ensures other_named { T.handed other.new ≡ T.handed other.old }
-    ensures opened { S.openings store.new ≡ S.openings store.old }
-    ensures other_opened { T.openings other.new ≡ T.openings other.old }
 {
     match write_diff_first(out) {
         Ok(()) => {}
@@ -213,24 +199,19 @@ pub fn diff_blocks<S: Store, T: Store, O: Sink>(
     room: &mut [u8],
     out: &mut O,
 ) -> Result<u32, DiffFault>
-    requires place { IsStretch (units_open image.now) place }
-    requires other_place { IsStretch (units_open other_image.now) to }
-    requires many { place.count ≡ to.count }
+    requires places { CanCompare (places (units_open image.now) place (units_open other_image.now) to) (S.len store.old) (T.len other.old) }
     requires least { 8208 ≤ length room.old }
-    requires held { S.len store.old ≡ image_size (units_open image.now) }
-    requires other_held { T.len other.old ≡ image_size (units_open other_image.now) }
-    ensures compared { DiffEnds result (diff_of (places (units_open image.now) place (units_open other_image.now) to)) (places (units_open image.now) place (units_open other_image.now) to) (S.bytes store.old) (T.bytes other.old) (counts (S.faults store.old) (S.faults store.new) (T.faults other.old) (T.faults other.new) (O.faults out.old) (O.faults out.new)) (O.taken out.old) (O.taken out.new) }
-    ensures same { S.bytes store.new ≡ S.bytes store.old }
-    ensures other_same { T.bytes other.new ≡ T.bytes other.old }
-    ensures length { S.len store.new ≡ S.len store.old }
-    ensures other_length { T.len other.new ≡ T.len other.old }
-    ensures stores { S.faults store.old ≤ S.faults store.new }
-    ensures others { T.faults other.old ≤ T.faults other.new }
+    ensures compared { DiffEnds result (diff_of (places (units_open image.now) place (units_open other_image.now) to)) (places (units_open image.now) place (units_open other_image.now) to)
+        (S.bytes store.old) (T.bytes other.old)
+        (counts (S.faults store.old) (S.faults store.new) (T.faults other.old) (T.faults other.new) (O.faults out.old) (O.faults out.new))
+        (O.taken out.old) (O.taken out.new) }
+    ensures first { WasRead
+        (held (S.bytes store.old) (S.len store.old) (S.faults store.old) (S.handed store.old) (S.openings store.old))
+        (held (S.bytes store.new) (S.len store.new) (S.faults store.new) (S.handed store.new) (S.openings store.new)) }
+    ensures second { WasRead
+        (held (T.bytes other.old) (T.len other.old) (T.faults other.old) (T.handed other.old) (T.openings other.old))
+        (held (T.bytes other.new) (T.len other.new) (T.faults other.new) (T.handed other.new) (T.openings other.new)) }
     ensures sinks { O.faults out.old ≤ O.faults out.new }
-    ensures named { S.handed store.new ≡ S.handed store.old }
-    ensures other_named { T.handed other.new ≡ T.handed other.old }
-    ensures opened { S.openings store.new ≡ S.openings store.old }
-    ensures other_opened { T.openings other.new ≡ T.openings other.old }
 {
     let half = room.len() / 2;
     let (front, back) = room.split_at_mut(half);

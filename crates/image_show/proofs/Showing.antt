@@ -1,6 +1,5 @@
 -- How the text of a stretch's blocks grows, piece by piece.
-use Rattle.std.proofs.Common.{◌≡◌, ℕ, suc, ◌+◌, ◌*◌, ◌/◌, ◌≤◌, List, [], ◌∷◌, ◌++◌, length, Option, Some, None, refl, sym, ap, subst, ◌∙◌, arith, append_assoc, append-nil, length-append}
-use Rattle.std.proofs.Math.Nat.{mul-div-le, mul-le-mul_left, mul_comm}
+use Rattle.std.proofs.Common.{◌≡◌, ℕ, suc, ◌+◌, ◌≤◌, List, [], ◌∷◌, ◌++◌, length, Option, Some, None, refl, sym, ap, subst, ◌∙◌, arith, append_assoc, append-nil, length-append}
 use Rattle.std.specs.Prelude.{min, Result, Ok, Err}
 use Rattle.dix_base.specs.Told.{Appended, AppendedSome, HasLength}
 use Rattle.pi_tuple.specs.declared.checks.Check.{Check}
@@ -15,6 +14,7 @@ use Rattle.image_blocks.specs.declared.stretch.Stretch.{Stretch}
 use Rattle.image_blocks.specs.Blocks.{HasBlocks}
 use Rattle.image_blocks.specs.Places.{IsStretch, behind_in, front_in, spec_of}
 use Rattle.image_blocks.proofs.Stretches.{has_both, has_none, has_some}
+use Rattle.image_walk.proofs.Walks.{behind_is, nothing}
 use Rattle.target_model.proofs.Bytes.{rise}
 use Rattle.image_show.specs.declared.fault.ShowFault.{ShowFault}
 use Rattle.image_show.specs.declared.fault.ShowFault.TheVariants.{Store, Sink}
@@ -53,15 +53,6 @@ few_bad ty size dev lba (x ∷ xs) =
     let c = few_bad ty size dev (lba + 1) xs in
     omega arith
 
--- as many blocks as a room holds lie in it
-pub in_room : (piece left : Stretch) (most room len : ℕ) → piece ≡ front_in left most → most ≡ min (room / len) 65536 → piece.count * len ≤ room
-in_room piece left most room len e m =
-    let c : piece.count ≡ min left.count most = ap (λ (v : Stretch). v.count) e in
-    let a : len * piece.count ≤ len * (room / len) = mul-le-mul_left len (omega arith) in
-    let b = mul-div-le room len in
-    let d = mul_comm len piece.count in
-    omega arith
-
 -- ---- a walk along a stretch
 
 -- The lines of the first blocks were written, and these are left.
@@ -73,10 +64,6 @@ pub record SoFar (us : List UnitSpec) (s left : Stretch) (image : Option (List �
   pub few : length blocks + left.count ≡ s.count
   pub counted : bad ≡ bad_of us s blocks
   pub written : Appended (lines_of us s blocks) old now
-
-nothing : (x : Option (List ℕ)) → Appended [] x x
-nothing None = tt
-nothing (Some xs) = sym (append-nil xs)
 
 pub at_first : (us : List UnitSpec) (s : Stretch) (image x : Option (List ℕ)) → SoFar us s s image 0 x x
 at_first us s image x = record { blocks = []; whole = λ rest h. h; dev = refl; first = omega arith; few = omega arith; counted = refl; written = nothing x }
@@ -147,9 +134,6 @@ broken us s left most bad len image old mid new h g z t l p =
           (part_second (lines_of us s l.blocks) _ old mid new l.written (part_first (lines_of us left p.blocks) _ mid new p.written));
     }
 
-behind_is : (us : List UnitSpec) (s : Stretch) (n : ℕ) → IsStretch us s → n ≤ s.count → IsStretch us (behind_in s n)
-behind_is us s n h c = let a = h.first in let b = h.last in record { device = h.device; first = omega arith; last = omega arith }
-
 pub breaks_off : (us : List UnitSpec) (s left piece : Stretch) (most bad len : ℕ) (image old mid new : Option (List ℕ)) → IsStretch us left → len ≡ image_size us → HasLength len image → SoFar us s left image bad old mid →
     piece ≡ front_in left most → HasShownSome (lines_of us piece) us piece image mid new → HasShownSome (lines_of us s) us s image old new
 breaks_off us s left piece most bad len image old mid new h z t l e p =
@@ -192,14 +176,6 @@ last_some us s bad image x y w v a p l = record {
   written = part_second first_line _ x y v a (part_second (lines_of us s p.blocks) _ y w v p.written (subst (λ t. AppendedSome t w v) (ap (λ n. last_line n bad) (sym p.has.many) ∙ ap (last_line (length p.blocks)) p.counted) l));
 }
 
-pub all_shown : (us : List UnitSpec) (s : Stretch) (bad : ℕ) (image x y w v : Option (List ℕ)) → Appended first_line x y → HasShown (lines_of us s) us s image bad y w → Appended (last_line s.count bad) w v → HasShown (text_of us s) us s image bad x v
-all_shown us s bad image x y w v a p l = record {
-  blocks = p.blocks;
-  has = p.has;
-  counted = p.counted;
-  written = appended_both first_line _ x y v a (appended_both (lines_of us s p.blocks) _ y w v p.written (subst (λ t. Appended t w v) (ap (λ n. last_line n bad) (sym p.has.many) ∙ ap (last_line (length p.blocks)) p.counted) l));
-}
-
 -- a text that was written whole is its beginning too
 pub whole_some : (text : List (List ℕ) → List ℕ) (us : List UnitSpec) (s : Stretch) (bad : ℕ) (image x y z : Option (List ℕ)) → z ≡ y → HasShown text us s image bad x y → HasShownSome text us s image x z
 whole_some text us s bad image x y z e p = record { blocks = p.blocks; has = p.has; written = whole_is_part (text p.blocks) x y z p.written e }
@@ -209,7 +185,3 @@ pub some_ended : (r : Result ℕ ShowFault) (text : List (List ℕ) → List ℕ
 some_ended (Ok bad) text us s image o n p q x y z e h = whole_some text us s bad image x y z e h
 some_ended (Err Store) text us s image o n p q x y z e h = subst (λ v. HasShownSome text us s image x v) (sym e) h.1
 some_ended (Err Sink) text us s image o n p q x y z e h = subst (λ v. HasShownSome text us s image x v) (sym e) h.1
-
--- nothing more was written, and counts may have risen
-pub ended_so : (r : Result ℕ ShowFault) (text : List (List ℕ) → List ℕ) (us : List UnitSpec) (s : Stretch) (image : Option (List ℕ)) (o n p q q' : ℕ) (x y z : Option (List ℕ)) → z ≡ y → q' ≡ q → ShowEnds r text us s image o n p q x y → ShowEnds r text us s image o n p q' x z
-ended_so r text us s image o n p q q' x y z e f h = subst (λ v. ShowEnds r text us s image o n p q' x v) (sym e) (subst (λ v. ShowEnds r text us s image o n p v x y) (sym f) h)

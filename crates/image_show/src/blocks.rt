@@ -1,16 +1,18 @@
 //! The stored blocks of a place, line by line.
 
-ghost use Rattle.std.specs.Prelude.{◌≡◌, ◌*◌, ◌≤◌, IfOk, length};
+ghost use Rattle.std.specs.Prelude.{◌≡◌, ◌*◌, ◌≤◌, length};
 ghost use Rattle.target_answer.specs.Headers.{image_size};
 ghost use Rattle.image_layout.specs.Places.{block_len};
 ghost use Rattle.image_blocks.specs.Images.{units_open};
-ghost use Rattle.image_blocks.specs.Places.{IsStretch, spec_of};
+ghost use Rattle.image_blocks.specs.Places.{IsStretch};
+ghost use Rattle.image_walk.specs.Stores.{WasRead, held};
 ghost use Rattle.image_show.specs.Shown.{ShowEnds, lines_of, text_of};
 
 use crate::fault::ShowFault;
 use block_lines::{write_blocks, write_first, write_last};
 use dix_base::{Failed, Sink, Store};
 use image_blocks::{Image, Stretch, behind_of, block_bytes, front_of, read_blocks};
+use image_walk::blocks_in;
 
 /// Reads the blocks of a stretch into `into`, which has just their length, and writes their lines.
 fn show_piece<S: Store, O: Sink>(
@@ -23,13 +25,12 @@ fn show_piece<S: Store, O: Sink>(
     requires place { IsStretch (units_open image.now) at }
     requires room { length into.old ≡ at.count * block_len (units_open image.now) at.dev }
     requires held { S.len store.old ≡ image_size (units_open image.now) }
-    ensures shown { ShowEnds result (lines_of (units_open image.now) at) (units_open image.now) at (S.bytes store.old) (S.faults store.old) (S.faults store.new) (O.faults out.old) (O.faults out.new) (O.taken out.old) (O.taken out.new) }
-    ensures same { S.bytes store.new ≡ S.bytes store.old }
-    ensures length { S.len store.new ≡ S.len store.old }
-    ensures stores { S.faults store.old ≤ S.faults store.new }
+    ensures shown { ShowEnds result (lines_of (units_open image.now) at) (units_open image.now) at (S.bytes store.old)
+        (S.faults store.old) (S.faults store.new) (O.faults out.old) (O.faults out.new) (O.taken out.old) (O.taken out.new) }
+    ensures store { WasRead
+        (held (S.bytes store.old) (S.len store.old) (S.faults store.old) (S.handed store.old) (S.openings store.old))
+        (held (S.bytes store.new) (S.len store.new) (S.faults store.new) (S.handed store.new) (S.openings store.new)) }
     ensures sinks { O.faults out.old ≤ O.faults out.new }
-    ensures named { S.handed store.new ≡ S.handed store.old }
-    ensures opened { S.openings store.new ≡ S.openings store.old }
 {
     match read_blocks(store, image, at, into) {
         Ok(()) => {}
@@ -54,16 +55,15 @@ fn show_lines<S: Store, O: Sink>(
     requires place { IsStretch (units_open image.now) place }
     requires least { 4104 ≤ length room.old }
     requires held { S.len store.old ≡ image_size (units_open image.now) }
-    ensures shown { ShowEnds result (lines_of (units_open image.now) place) (units_open image.now) place (S.bytes store.old) (S.faults store.old) (S.faults store.new) (O.faults out.old) (O.faults out.new) (O.taken out.old) (O.taken out.new) }
-    ensures same { S.bytes store.new ≡ S.bytes store.old }
-    ensures length { S.len store.new ≡ S.len store.old }
-    ensures stores { S.faults store.old ≤ S.faults store.new }
+    ensures shown { ShowEnds result (lines_of (units_open image.now) place) (units_open image.now) place (S.bytes store.old)
+        (S.faults store.old) (S.faults store.new) (O.faults out.old) (O.faults out.new) (O.taken out.old) (O.taken out.new) }
+    ensures store { WasRead
+        (held (S.bytes store.old) (S.len store.old) (S.faults store.old) (S.handed store.old) (S.openings store.old))
+        (held (S.bytes store.new) (S.len store.new) (S.faults store.new) (S.handed store.new) (S.openings store.new)) }
     ensures sinks { O.faults out.old ≤ O.faults out.new }
-    ensures named { S.handed store.new ≡ S.handed store.old }
-    ensures opened { S.openings store.new ≡ S.openings store.old }
 {
     let len = block_bytes(image, place.dev);
-    let most = (room.len() / len).min(65536) as u32;
+    let most = blocks_in(room.len(), len);
     let mut left = place;
     let mut bad = 0u32;
     while left.count > 0 {
@@ -90,13 +90,12 @@ fn show_all<S: Store, O: Sink>(
     requires place { IsStretch (units_open image.now) place }
     requires least { 4104 ≤ length room.old }
     requires held { S.len store.old ≡ image_size (units_open image.now) }
-    ensures shown { ShowEnds result (text_of (units_open image.now) place) (units_open image.now) place (S.bytes store.old) (S.faults store.old) (S.faults store.new) (O.faults out.old) (O.faults out.new) (O.taken out.old) (O.taken out.new) }
-    ensures same { S.bytes store.new ≡ S.bytes store.old }
-    ensures length { S.len store.new ≡ S.len store.old }
-    ensures stores { S.faults store.old ≤ S.faults store.new }
+    ensures shown { ShowEnds result (text_of (units_open image.now) place) (units_open image.now) place (S.bytes store.old)
+        (S.faults store.old) (S.faults store.new) (O.faults out.old) (O.faults out.new) (O.taken out.old) (O.taken out.new) }
+    ensures store { WasRead
+        (held (S.bytes store.old) (S.len store.old) (S.faults store.old) (S.handed store.old) (S.openings store.old))
+        (held (S.bytes store.new) (S.len store.new) (S.faults store.new) (S.handed store.new) (S.openings store.new)) }
     ensures sinks { O.faults out.old ≤ O.faults out.new }
-    ensures named { S.handed store.new ≡ S.handed store.old }
-    ensures opened { S.openings store.new ≡ S.openings store.old }
 {
     match write_first(out) {
         Ok(()) => {}
@@ -128,13 +127,12 @@ pub fn show_blocks<S: Store, O: Sink>(
     requires place { IsStretch (units_open image.now) place }
     requires least { 4104 ≤ length room.old }
     requires held { S.len store.old ≡ image_size (units_open image.now) }
-    ensures shown { ShowEnds result (text_of (units_open image.now) place) (units_open image.now) place (S.bytes store.old) (S.faults store.old) (S.faults store.new) (O.faults out.old) (O.faults out.new) (O.taken out.old) (O.taken out.new) }
-    ensures same { S.bytes store.new ≡ S.bytes store.old }
-    ensures length { S.len store.new ≡ S.len store.old }
-    ensures stores { S.faults store.old ≤ S.faults store.new }
+    ensures shown { ShowEnds result (text_of (units_open image.now) place) (units_open image.now) place (S.bytes store.old)
+        (S.faults store.old) (S.faults store.new) (O.faults out.old) (O.faults out.new) (O.taken out.old) (O.taken out.new) }
+    ensures store { WasRead
+        (held (S.bytes store.old) (S.len store.old) (S.faults store.old) (S.handed store.old) (S.openings store.old))
+        (held (S.bytes store.new) (S.len store.new) (S.faults store.new) (S.handed store.new) (S.openings store.new)) }
     ensures sinks { O.faults out.old ≤ O.faults out.new }
-    ensures named { S.handed store.new ≡ S.handed store.old }
-    ensures opened { S.openings store.new ≡ S.openings store.old }
 {
     let ended = show_all(store, image, place, room, out);
     match out.flush() {

@@ -9,8 +9,8 @@ pub returns-in-Err-clause-compared : goal.returns-in-Err-clause-compared
 returns-in-Err-clause-compared g c =
     let p = places (units_open c.args.image.now) c.args.place (units_open c.args.other_image.now) c.args.to in (
       c.in-Err.ensures.cause,
-      first_some p (g.S.Store.len c.args.store.now) (g.T.Store.len c.args.other.now) _ _ _ _ c.requires.place c.requires.other_place
-          (record { held = c.requires.held; told = g.met.S.Store.told c.args.store.now; other_held = c.requires.other_held; other_told = g.met.T.Store.told c.args.other.now }) c.in-Err.ensures.part,
+      first_some p (g.S.Store.len c.args.store.now) (g.T.Store.len c.args.other.now) _ _ _ _ c.requires.places.place c.requires.places.other_place
+          (record { held = c.requires.places.held; told = g.met.S.Store.told c.args.store.now; other_held = c.requires.places.other_held; other_told = g.met.T.Store.told c.args.other.now }) c.in-Err.ensures.part,
     )
 
 pub returns-in-Err-diff_lines-clause-compared : goal.returns-in-Err-diff_lines-clause-compared

@@ -1,5 +1,5 @@
 use Rattle.image_blocks.specs.Images.{units_open}
-use Rattle.image_diff.specs.Compared.{counts, places, diff_of}
+use Rattle.image_diff.specs.Compared.{places, diff_of}
 use Rattle.image_diff.proofs.Comparing.{some_ended}
 use Rattle.target_model.proofs.Bytes.{rise}
 use Rattle.image_diff.proofs.blocks.diff_blocks.Goals as goal

@@ -2,7 +2,8 @@ use Rattle.std.proofs.Common.{◌∙◌, length, refl, subst, arith}
 use Rattle.target_model.proofs.Bytes.{refilled}
 use Rattle.image_blocks.specs.Images.{units_open}
 use Rattle.image_show.specs.Shown.{HasShown, lines_of}
-use Rattle.image_show.proofs.Showing.{at_first, at_last, breaks_off, few_counted, goes_on, in_room, passed_on}
+use Rattle.image_show.proofs.Showing.{at_first, at_last, breaks_off, few_counted, goes_on, passed_on}
+use Rattle.image_walk.proofs.Walks.{in_room, not_read, read_on}
 use Rattle.image_show.proofs.blocks.show_lines.Goals as goal
 
 pub returns-in-Err-clause-shown : goal.returns-in-Err-clause-shown
@@ -12,7 +13,7 @@ returns-in-Err-clause-shown g c =
     let inv = c.loop-left.invariant in
     passed_on c.in-Err.fault (lines_of us piece) (lines_of us c.args.place) us piece c.args.place (g.S.Store.bytes c.loop-left.store) (g.S.Store.bytes c.args.store.now)
     (g.S.Store.faults c.args.store.now) (g.S.Store.faults c.loop-left.store) (g.S.Store.faults c.show_piece.new.store) (g.O.Sink.faults c.args.out.now) (g.O.Sink.faults c.loop-left.out) (g.O.Sink.faults c.show_piece.new.out)
-    (g.O.Sink.taken c.loop-left.out) (g.O.Sink.taken c.args.out.now) (g.O.Sink.taken c.show_piece.new.out) inv.same inv.stores inv.sinks
+    (g.O.Sink.taken c.loop-left.out) (g.O.Sink.taken c.args.out.now) (g.O.Sink.taken c.show_piece.new.out) inv.store.same inv.store.count inv.sinks
     (λ h. breaks_off us c.args.place c.loop-left.left piece _ c.loop-left.bad (g.S.Store.len c.args.store.now) (g.S.Store.bytes c.args.store.now) (g.O.Sink.taken c.args.out.now) (g.O.Sink.taken c.loop-left.out) (g.O.Sink.taken c.show_piece.new.out)
     inv.there c.requires.held (g.met.S.Store.told c.args.store.now) inv.lines c.front_of-piece.ensures.value h)
     c.in-Err.ensures.shown
@@ -22,12 +23,8 @@ loop-left-init g c = record {
   there = c.requires.place;
   lines = at_first (units_open c.args.image.now) c.args.place (g.S.Store.bytes c.args.store.now) (g.O.Sink.taken c.args.out.now);
   room = refl;
-  same = refl;
-  length = refl;
-  stores = omega arith;
+  store = not_read _;
   sinks = omega arith;
-  named = refl;
-  opened = refl;
 }
 
 pub overflow_add-bad : goal.overflow_add-bad
@@ -45,14 +42,10 @@ loop-left-preserved g c =
       there = c.behind_of-left.ensures.there;
       lines = goes_on us c.args.place c.loop-left.left piece c.behind_of-left.result _ c.loop-left.bad c.in-Ok.more (g.S.Store.bytes c.args.store.now) (g.O.Sink.taken c.args.out.now) (g.O.Sink.taken c.loop-left.out) (g.O.Sink.taken c.show_piece.new.out)
           inv.there inv.lines c.front_of-piece.ensures.value c.behind_of-left.ensures.value
-          (subst (λ i. HasShown (lines_of us piece) us piece i c.in-Ok.more (g.O.Sink.taken c.loop-left.out) (g.O.Sink.taken c.show_piece.new.out)) inv.same c.in-Ok.ensures.shown);
-      room = refilled _ _ _ c.show_piece.auto.into (omega (arith, in_room piece c.loop-left.left c.min-most.result (length c.args.room.now) c.block_bytes-len.result c.front_of-piece.ensures.value c.min-most.ensures, inv.room)) ∙ inv.room;
-      same = c.show_piece.ensures.same ∙ inv.same;
-      length = c.show_piece.ensures.length ∙ inv.length;
-      stores = omega (arith, c.show_piece.ensures.stores, inv.stores);
+          (subst (λ i. HasShown (lines_of us piece) us piece i c.in-Ok.more (g.O.Sink.taken c.loop-left.out) (g.O.Sink.taken c.show_piece.new.out)) inv.store.same c.in-Ok.ensures.shown);
+      room = refilled _ _ _ c.show_piece.auto.into (omega (arith, in_room piece c.loop-left.left c.blocks_in-most.result (length c.args.room.now) c.block_bytes-len.result c.front_of-piece.ensures.value c.blocks_in-most.ensures, inv.room)) ∙ inv.room;
+      store = read_on _ _ _ inv.store c.show_piece.ensures.store;
       sinks = omega (arith, c.show_piece.ensures.sinks, inv.sinks);
-      named = c.show_piece.ensures.named ∙ inv.named;
-      opened = c.show_piece.ensures.opened ∙ inv.opened;
     }
 
 pub returns-clause-shown : goal.returns-clause-shown
