@@ -8,14 +8,15 @@ use Rattle.target_model.specs.Served.{AllLong}
 use Rattle.image_dumps.specs.declared.layout.Layout.{Layout}
 use Rattle.image_dumps.specs.declared.layout.Layout.TheVariants.{Interleaved, Plain, Tuples}
 use Rattle.image_dumps.specs.Dumps.{dump_of, fits, imported, imported_block, piece_len, piece_of}
-use Rattle.image_dumps.proofs.Making.{front_off, front_on}
+use Rattle.target_model.proofs.Bytes.{front_is}
+use Rattle.image_dumps.proofs.Making.{front_off}
 
 piece_back : (layout : Layout) (ty : PiType) (size lba : ℕ) (block piece : List ℕ) → fits layout ty ≡ true → length block ≡ stored_size ty size → length piece ≡ piece_len layout ty size → piece_of layout size (imported_block layout ty size lba block piece) ≡ piece
 piece_back Interleaved ty size lba block piece f b p = refl
 piece_back Plain Zero size lba block piece f b p = take_all size piece (omega arith)
-piece_back Plain One size lba block piece f b p = front_on size piece _ p
-piece_back Plain Two size lba block piece f b p = front_on size piece _ p
-piece_back Plain Three size lba block piece f b p = front_on size piece _ p
+piece_back Plain One size lba block piece f b p = front_is size piece _ piece refl p
+piece_back Plain Two size lba block piece f b p = front_is size piece _ piece refl p
+piece_back Plain Three size lba block piece f b p = front_is size piece _ piece refl p
 piece_back Tuples Zero size lba block piece f b p = absurd (cc)
 piece_back Tuples One size lba block piece f b p = let t = length-take size block in front_off size (take size block) piece (omega arith)
 piece_back Tuples Two size lba block piece f b p = let t = length-take size block in front_off size (take size block) piece (omega arith)

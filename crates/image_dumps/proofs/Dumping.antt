@@ -1,7 +1,6 @@
 -- How the dump of a stretch's blocks grows, piece by piece.
-use Rattle.std.proofs.Common.{◌≡◌, ℕ, zero, suc, ◌+◌, ◌-◌, ◌*◌, ◌/◌, ◌<◌, ◌≤◌, List, [], ◌∷◌, ◌++◌, length, take, drop, Option, Some, None, refl, sym, ap, subst, ◌∙◌, arith, append_assoc, append-nil}
-use Rattle.std.proofs.lemmas.List.{length-drop, take-append-drop}
-use Rattle.std.proofs.Math.Nat.{mul-div-le, mul-le-mul_left, mul_comm}
+use Rattle.std.proofs.Common.{◌≡◌, ℕ, zero, suc, ◌+◌, ◌-◌, ◌*◌, ◌<◌, ◌≤◌, List, [], ◌∷◌, ◌++◌, length, take, drop, Option, refl, sym, ap, subst, ◌∙◌, arith, append_assoc, append-nil}
+use Rattle.std.proofs.lemmas.List.{take-append-drop}
 use Rattle.std.specs.Prelude.{min, Result, Ok, Err}
 use Rattle.dix_base.specs.Told.{Appended, AppendedSome, HasLength}
 use Rattle.report_text.proofs.Flow.{appended_both, part_first, part_second, whole_is_part}
@@ -9,9 +8,11 @@ use Rattle.target_answer.specs.Frames.{frames_of}
 use Rattle.target_answer.specs.Headers.{image_size}
 use Rattle.target_answer.specs.declared.units.UnitSpec.{UnitSpec}
 use Rattle.target_model.proofs.Bytes.{rise}
+use Rattle.block_lines.proofs.Frames.{next_frame, shorter}
 use Rattle.image_blocks.specs.declared.stretch.Stretch.{Stretch}
 use Rattle.image_blocks.specs.Blocks.{HasBlocks, blocks_of}
 use Rattle.image_blocks.specs.Places.{IsStretch, behind_in, front_in, spec_of}
+use Rattle.image_walk.proofs.Walks.{behind_is, nothing}
 use Rattle.image_blocks.proofs.Stretches.{has_both, has_none, has_some}
 use Rattle.image_dumps.specs.declared.fault.DumpFault.{DumpFault}
 use Rattle.image_dumps.specs.declared.fault.DumpFault.TheVariants.{Store, Sink}
@@ -22,25 +23,10 @@ use Rattle.image_dumps.specs.Ends.{DumpEnds, HasDumped, HasDumpedSome, dump_in}
 
 -- ---- the pieces of so many blocks
 
--- the first of some frames, and the others
-pub next_frame : (len n : ℕ) (bytes : List ℕ) → 0 < n → frames_of len n bytes ≡ take len bytes ∷ frames_of len (n - 1) (drop len bytes)
-next_frame len zero bytes h = absurd (omega arith)
-next_frame len (suc n) bytes h = let e : suc n - 1 ≡ n = omega arith in rw e refl
-
 -- the piece of the next block, and the dump of those behind it
 pub dump_at : (layout : Layout) (size len m n : ℕ) (rest block more piece : List ℕ) → m ≡ len → block ≡ take m rest → more ≡ drop m rest → piece ≡ piece_of layout size block → 0 < n →
     dump_of layout size (frames_of len n rest) ≡ piece ++ dump_of layout size (frames_of len (n - 1) more)
 dump_at layout size len m n rest block more piece e b r p h = rw (p, b, r, e) (ap (dump_of layout size) (next_frame len n rest h))
-
-less_one : (n len : ℕ) → 0 < n → n * len ≡ len + (n - 1) * len
-less_one zero len h = absurd (omega arith)
-less_one (suc n) len h = let e : suc n - 1 ≡ n = omega arith in rw e (grind arith)
-
-pub shorter : (n len m : ℕ) (rest more : List ℕ) → 0 < n → length rest ≡ n * len → m ≡ len → more ≡ drop m rest → length more ≡ (n - 1) * len
-shorter n len m rest more h l e r = let k = less_one n len h in let d = ap length r ∙ length-drop m rest in omega (arith, k, d, l, e)
-
-pub first_fits : (n len m : ℕ) (rest : List ℕ) → 0 < n → length rest ≡ n * len → m ≡ len → m ≤ length rest
-first_fits n len m rest h l e = let k = less_one n len h in omega (arith, k, l, e)
 
 pieces_whole : (size len n : ℕ) (bytes : List ℕ) → length bytes ≡ n * len → dump_of Interleaved size (frames_of len n bytes) ≡ bytes
 pieces_whole size len zero [] l = refl
@@ -54,15 +40,6 @@ pieces_whole size len (suc n) bytes l =
 pub as_they_lie : (layout : Layout) (size len n : ℕ) (bytes : List ℕ) → layout ≡ Interleaved → length bytes ≡ n * len → dump_of layout size (frames_of len n bytes) ≡ bytes
 as_they_lie layout size len n bytes e l = ap (λ v. dump_of v size (frames_of len n bytes)) e ∙ pieces_whole size len n bytes l
 
--- as many blocks as a room holds lie in it
-pub in_room : (piece left : Stretch) (most room len : ℕ) → piece ≡ front_in left most → most ≡ min (room / len) 65536 → piece.count * len ≤ room
-in_room piece left most room len e m =
-    let c : piece.count ≡ min left.count most = ap (λ (v : Stretch). v.count) e in
-    let a : len * piece.count ≤ len * (room / len) = mul-le-mul_left len (omega arith) in
-    let b = mul-div-le room len in
-    let d = mul_comm len piece.count in
-    omega arith
-
 -- ---- a walk along a stretch
 
 dump_more : (layout : Layout) (size : ℕ) (xs ys : List (List ℕ)) → dump_of layout size (xs ++ ys) ≡ dump_of layout size xs ++ dump_of layout size ys
@@ -75,10 +52,6 @@ pub record SoFar (layout : Layout) (us : List UnitSpec) (s left : Stretch) (imag
   pub whole : (rest : List (List ℕ)) → HasBlocks us left rest image → HasBlocks us s (blocks ++ rest) image
   pub dev : left.dev ≡ s.dev
   pub written : Appended (dump_in layout us s blocks) old now
-
-nothing : (x : Option (List ℕ)) → Appended [] x x
-nothing None = tt
-nothing (Some xs) = sym (append-nil xs)
 
 pub at_first : (layout : Layout) (us : List UnitSpec) (s : Stretch) (image x : Option (List ℕ)) → SoFar layout us s s image x x
 at_first layout us s image x = record { blocks = []; whole = λ rest h. h; dev = refl; written = nothing x }
@@ -116,9 +89,6 @@ broken layout us s left most len image old mid new h g z t l p =
           ∙ ap (λ v. dump_in layout us s l.blocks ++ v) (dump_behind layout us left (behind_in left (min left.count most)) p.blocks r.0 refl)))
           (part_second (dump_in layout us s l.blocks) _ old mid new l.written (part_first (dump_in layout us left p.blocks) _ mid new p.written));
     }
-
-pub behind_is : (us : List UnitSpec) (s : Stretch) (n : ℕ) → IsStretch us s → n ≤ s.count → IsStretch us (behind_in s n)
-behind_is us s n h c = let a = h.first in let b = h.last in record { device = h.device; first = omega arith; last = omega arith }
 
 pub breaks_off : (layout : Layout) (us : List UnitSpec) (s left piece : Stretch) (most len : ℕ) (image old mid new : Option (List ℕ)) → IsStretch us left → len ≡ image_size us → HasLength len image → SoFar layout us s left image old mid →
     piece ≡ front_in left most → HasDumpedSome layout us piece image mid new → HasDumpedSome layout us s image old new

@@ -1,29 +1,8 @@
 -- Bytes that come from a source, part by part.
-use Rattle.std.proofs.Common.{◌≡◌, ℕ, ◌+◌, ◌-◌, ◌≤◌, List, [], ◌++◌, length, take, drop, Option, Some, None, refl, sym, ap, subst, ◌∙◌, arith, rules, append_assoc, length-append}
+use Rattle.std.proofs.Common.{◌≡◌, ℕ, ◌+◌, ◌-◌, ◌≤◌, List, ◌++◌, length, take, drop, Option, sym, subst, arith, rules, length-append}
 use Rattle.std.proofs.lemmas.List.{length-drop, length-take, places, same_lists}
-use Rattle.dix_base.specs.Told.{IsAtEnd, Took}
-
-pub took_none : (x : Option (List ℕ)) → Took [] x x
-took_none None = tt
-took_none (Some xs) = refl
-
-pub took_more : (all xs : List ℕ) (a b c : Option (List ℕ)) → Took all a b → Took xs b c → Took (all ++ xs) a c
-took_more all xs None None None p q = tt
-took_more all xs (Some a) (Some b) (Some c) p q = p ∙ ap (λ v. all ++ v) q ∙ sym (append_assoc all xs c)
-took_more all xs None None (Some c) p q = q
-took_more all xs None (Some b) c p q = absurd p
-took_more all xs (Some a) None c p q = absurd p
-took_more all xs (Some a) (Some b) None p q = q
-
--- a source of which nothing was taken, at its end, is at its end afterwards
-still_at_end : (b c : Option (List ℕ)) → Took [] b c → IsAtEnd b → IsAtEnd c
-still_at_end None None p e = tt
-still_at_end (Some b) (Some c) p e = sym p ∙ e
-still_at_end None (Some c) p e = absurd p
-still_at_end (Some b) None p e = tt
-
-pub at_end : (n : ℕ) (xs : List ℕ) (b c : Option (List ℕ)) → n ≡ 0 → Took (take n xs) b c → IsAtEnd b → IsAtEnd c
-at_end n xs b c e t h = still_at_end b c (subst (λ k. Took (take k xs) b c) e t) h
+use Rattle.dix_base.specs.Told.{Took}
+use Rattle.source_text.proofs.Taking.{took_more}
 
 -- a part of a buffer, as long as it is
 part_long : (got : ℕ) (into : List ℕ) → got ≤ length into → length (take (length into - got) (drop got into)) ≡ length into - got
@@ -51,6 +30,3 @@ pub took_on : (got n : ℕ) (into buf : List ℕ) (a b c : Option (List ℕ)) �
     Took (take got into) a b → Took (take n buf) b c → Took (take (got + n) (take got into ++ (buf ++ drop (length into - got) (drop got into)))) a c
 took_on got n into buf a b c h m e p q =
     subst (λ v. Took v a c) (sym (filled got n into buf (drop (length into - got) (drop got into)) h (omega arith))) (took_more (take got into) (take n buf) a b c p q)
-
-pub took_still : (xs : List ℕ) (a b c : Option (List ℕ)) → c ≡ b → Took xs a b → Took xs a c
-took_still xs a b c e p = subst (λ v. Took xs a v) (sym e) p

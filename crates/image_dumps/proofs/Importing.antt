@@ -1,7 +1,7 @@
 -- How an import goes on, stretch by stretch, and how it ends.
 use Rattle.std.proofs.Common.{◌≡◌, ℕ, zero, suc, ◌+◌, ◌-◌, ◌*◌, ◌<◌, ◌≤◌, List, [], ◌∷◌, ◌++◌, length, take, drop, Option, Some, None, refl, sym, ap, subst, ◌∙◌, arith, append_assoc, append-nil, length-append}
 use Rattle.std.specs.Prelude.{min, Err}
-use Rattle.dix_base.specs.Told.{IsAtEnd, Took}
+use Rattle.dix_base.specs.Told.{Took}
 use Rattle.rig_api.specs.Telling.{unit_at}
 use Rattle.target_answer.specs.Frames.{joined, stored_size}
 use Rattle.target_answer.specs.Headers.{all_bytes, bytes_of}
@@ -19,11 +19,11 @@ use Rattle.image_dumps.specs.declared.layout.Layout.{Layout}
 use Rattle.image_dumps.specs.declared.fault.ImportFault.{ImportFault}
 use Rattle.image_dumps.specs.declared.fault.ImportFault.TheVariants.{Short, Long, Store, Source}
 use Rattle.image_dumps.specs.Dumps.{imported, piece_len}
-use Rattle.image_dumps.specs.Ends.{ArePieces, HasTaken, IsShort, IsUnread, IsUnstored, ImportEnds, TakingEnds, behind_pieces, imported_in, pieces_of}
-use Rattle.image_dumps.proofs.Filling.{at_end, took_more, took_none}
+use Rattle.image_dumps.specs.Ends.{ArePieces, HasTaken, IsShort, IsUnread, IsUnstored, TakingEnds, behind_pieces, imported_in}
+use Rattle.source_text.proofs.Taking.{took_more, took_none}
 use Rattle.image_dumps.proofs.Putting.{put_twice, with_none}
 
-length_units : (us : List UnitSpec) (b : List ℕ) → length (units_from us b) ≡ length us
+pub length_units : (us : List UnitSpec) (b : List ℕ) → length (units_from us b) ≡ length us
 length_units [] b = refl
 length_units (u ∷ us) b = ap suc (length_units us (drop (bytes_of u) b))
 
@@ -108,9 +108,6 @@ at_first layout us s x l =
     let b : s.count - 0 ≡ s.count = omega arith in
     record { behind = rw (a, b) refl; few = omega arith; has = taken_none layout us s x l }
 
-pub at_last : (layout : Layout) (us : List UnitSpec) (s left : Stretch) (n : ℕ) (a b l m : Option (List ℕ)) → SoFar layout us s left n a b l m → left.count ≡ 0 → (n ≡ s.count) × HasTaken layout us s n [] [] a b l m
-at_last layout us s left n a b l m p e = let f = p.few in (omega arith, p.has)
-
 part_taken : (layout : Layout) (us : List UnitSpec) (s left piece : Stretch) (most n k : ℕ) (more : List ℕ) (others : List (List ℕ)) (a b c l m r : Option (List ℕ)) → IsStretch us s → piece ≡ front_in left most → k ≤ piece.count →
     SoFar layout us s left n a b l m → HasTaken layout us piece k more others b c m r → HasTaken layout us s (n + k) more others a c l r
 part_taken layout us s left piece most n k more others a b c l m r h e f p q =
@@ -182,27 +179,7 @@ breaks_off Long layout us s left piece most n room all o o' x p p' y a b c l m r
 breaks_off Store layout us s left piece most n room all o o' x p p' y a b c l m r h e f i j t q = (rise o o' x i q.0, unstored_on layout us s left piece most n room all a b c l m r h e f t q.1)
 breaks_off Source layout us s left piece most n room all o o' x p p' y a b c l m r h e f i j t q = (rise p p' y j q.0, unread_on layout us s left piece most n a b c l m r h e t q.1)
 
-pub few_behind : (fault : ImportFault) (layout : Layout) (us : List UnitSpec) (s left piece : Stretch) (most n room o x p y : ℕ) (a b c l m r : Option (List ℕ)) → piece ≡ front_in left most → SoFar layout us s left n a b l m →
-    TakingEnds (Err fault) layout us piece room o x p y b c m r → n + pieces_of fault ≤ s.count
-few_behind (Short k) layout us s left piece most n room o x p y a b c l m r e t q = let few = t.few in let less = q.few in let count : piece.count ≡ min left.count most = ap (λ (v : Stretch). v.count) e in omega arith
-few_behind Long layout us s left piece most n room o x p y a b c l m r e t q = absurd q
-few_behind Store layout us s left piece most n room o x p y a b c l m r e t q = let few = t.few in omega arith
-few_behind Source layout us s left piece most n room o x p y a b c l m r e t q = let few = t.few in omega arith
-
 -- ---- the end of the dump
-
-unstored_in : (layout : Layout) (us : List UnitSpec) (s : Stretch) (most all : ℕ) (a b l m : Option (List ℕ)) → most ≤ all → IsUnstored layout us s most a b l m → IsUnstored layout us s all a b l m
-unstored_in layout us s most all a b l m h q = let held = q.held in record { n = q.n; more = q.more; others = q.others; few = q.few; held = omega arith; long = q.long; has = q.has }
-
-pub ended_early : (fault : ImportFault) (layout : Layout) (us : List UnitSpec) (s : Stretch) (most all o x p y : ℕ) (a b l m : Option (List ℕ)) → most ≤ all → TakingEnds (Err fault) layout us s most o x p y a b l m → ImportEnds (Err fault) layout us s all o x p y a b l m
-ended_early (Short k) layout us s most all o x p y a b l m h q = q
-ended_early Long layout us s most all o x p y a b l m h q = absurd q
-ended_early Store layout us s most all o x p y a b l m h q = (q.0, unstored_in layout us s most all a b l m h q.1)
-ended_early Source layout us s most all o x p y a b l m h q = q
-
-pub ended_whole : (layout : Layout) (us : List UnitSpec) (s : Stretch) (n k : ℕ) (buf : List ℕ) (a b l m r : Option (List ℕ)) → (n ≡ s.count) × HasTaken layout us s n [] [] a b l m → k ≡ 0 → Took (take k buf) m r → IsAtEnd m →
-    (n ≡ s.count) × HasTaken layout us s n [] [] a b l r × IsAtEnd r
-ended_whole layout us s n k buf a b l m r h z t e = (h.0, taken_more layout us s n [] a b l m r h.1 (subst (λ i. Took (take i buf) m r) z t), at_end k buf m r z t e)
 
 one_byte : (k : ℕ) (buf : List ℕ) → 0 < k → k ≤ 1 → length buf ≡ 1 → (byte : ℕ) × (take k buf ≡ byte ∷ [])
 one_byte k [] z h l = absurd (omega arith)

@@ -1,11 +1,12 @@
 -- How blocks are made of pieces, one after another.
-use Rattle.std.proofs.Common.{◌≡◌, ℕ, zero, suc, ◌+◌, ◌-◌, ◌*◌, ◌<◌, List, [], ◌∷◌, ◌++◌, length, take, drop, refl, sym, ap, ◌∙◌, arith, rules, append_assoc, length-append}
+use Rattle.std.proofs.Common.{◌≡◌, ℕ, ◌+◌, ◌-◌, ◌*◌, ◌<◌, List, ◌∷◌, ◌++◌, length, take, drop, refl, sym, ap, ◌∙◌, arith, rules, append_assoc, length-append}
 use Rattle.std.proofs.lemmas.List.{drop-drop, length-drop, places, same_lists}
 use Rattle.pi_tuple.specs.declared.checks.PiType.{PiType}
 use Rattle.target_answer.specs.Frames.{frames_of, joined, stored_size}
+use Rattle.target_model.proofs.Bytes.{front_is}
 use Rattle.image_dumps.specs.declared.layout.Layout.{Layout}
 use Rattle.image_dumps.specs.Dumps.{imported, imported_block, piece_len}
-use Rattle.image_dumps.proofs.Dumping.{next_frame}
+use Rattle.block_lines.proofs.Frames.{less_one, next_frame}
 
 -- what stands in the room: blocks that are made, and behind them those that are left as they were; and the pieces that are left
 pub record Made (layout : Layout) (ty : PiType) (size first count i : ℕ) (pieces rest blocks now : List ℕ) : Type 0 where
@@ -19,28 +20,8 @@ pub record Made (layout : Layout) (ty : PiType) (size first count i : ℕ) (piec
 pub front_off : (n : ℕ) (x b : List ℕ) → length x ≡ n → drop n (x ++ b) ≡ b
 front_off n x b h = same_lists _ _ (search (rules, places)) (λ i d l. grind (arith, places))
 
-pub front_on : (n : ℕ) (x b : List ℕ) → length x ≡ n → take n (x ++ b) ≡ x
-front_on n x b h = same_lists _ _ (search (rules, places)) (λ i d l. grind (arith, places))
-
 one_more : (i len : ℕ) → (i + 1) * len ≡ i * len + len
 one_more i len = grind arith
-
-one_less : (n len : ℕ) → 0 < n → n * len ≡ len + (n - 1) * len
-one_less zero len h = absurd (omega arith)
-one_less (suc n) len h = let e : suc n - 1 ≡ n = omega arith in rw e (grind arith)
-
-pub made_first : (layout : Layout) (ty : PiType) (size first count : ℕ) (pieces blocks : List ℕ) → length pieces ≡ count * piece_len layout ty size → Made layout ty size first count 0 pieces pieces blocks blocks
-made_first layout ty size first count pieces blocks p =
-    let z : 0 * stored_size ty size ≡ 0 = omega arith in
-    let c : count - 0 ≡ count = omega arith in
-    let f : first + 0 ≡ first = omega arith in
-    record {
-      done = [];
-      split = rw z refl;
-      long = sym z;
-      held = rw c p;
-      all = rw (z, c, f) refl;
-    }
 
 -- the next block, and the others
 next_joined : (layout : Layout) (ty : PiType) (size lba len each n : ℕ) (bs ps : List ℕ) → 0 < n →
@@ -58,9 +39,9 @@ made_next layout ty size first count i pieces rest blocks now new h m e l =
     let each = piece_len layout ty size in
     let d : List ℕ = drop (i * len) blocks in
     let off : drop (i * len) now ≡ d = ap (drop (i * len)) m.split ∙ front_off (i * len) m.done d m.long in
-    let on : take (i * len) now ≡ m.done = ap (take (i * len)) m.split ∙ front_on (i * len) m.done d m.long in
+    let on : take (i * len) now ≡ m.done = ap (take (i * len)) m.split ∙ front_is (i * len) m.done d m.done refl m.long in
     let more = one_more i len in
-    let less = one_less (count - i) each (omega arith) in
+    let less = less_one (count - i) each (omega arith) in
     let left : count - i - 1 ≡ count - (i + 1) = omega arith in
     let behind : drop len d ≡ drop ((i + 1) * len) blocks = drop-drop len (i * len) blocks ∙ ap (λ n. drop n blocks) (sym more) in
     let is : new ≡ imported_block layout ty size (first + i) (take len d) (take each rest) = e ∙ ap (λ v. imported_block layout ty size (first + i) (take len v) (take each rest)) off in
@@ -92,17 +73,3 @@ made_on layout ty size first count i m e pieces rest piece more blocks now head 
     rw (d, a, b, r, lm, le)
     (made_next layout ty size first count i pieces rest blocks now new h made
     (is ∙ ap (λ v. imported_block layout ty size (first + i) v piece) own ∙ ap (λ v. imported_block layout ty size (first + i) (take (stored_size ty size) (drop (i * stored_size ty size) now)) v) its) (ln ∙ lb ∙ lm))
-
-pub made_last : (layout : Layout) (ty : PiType) (size first count i : ℕ) (pieces rest blocks now : List ℕ) → i ≡ count → length blocks ≡ count * stored_size ty size → Made layout ty size first count i pieces rest blocks now →
-    now ≡ joined (imported layout ty size first (frames_of (stored_size ty size) count blocks) (frames_of (piece_len layout ty size) count pieces))
-made_last layout ty size first count i pieces rest blocks now e l m =
-    let len = stored_size ty size in
-    let z : count - i ≡ 0 = omega arith in
-    let none : drop (i * len) blocks ≡ [] = ap (λ n. drop (n * len) blocks) e ∙ ap (λ n. drop n blocks) (sym l) ∙ drop_whole blocks in
-    m.split ∙ ap (λ v. m.done ++ v) none
-    ∙ ap (λ n. m.done ++ joined (imported layout ty size (first + i) (frames_of len n (drop (i * len) blocks)) (frames_of (piece_len layout ty size) n rest))) (sym z)
-    ∙ m.all
-  where
-    drop_whole : (xs : List ℕ) → drop (length xs) xs ≡ []
-    drop_whole [] = refl
-    drop_whole (x ∷ xs) = drop_whole xs

@@ -16,10 +16,11 @@ use Rattle.image_blocks.specs.declared.stretch.Stretch.{Stretch}
 use Rattle.image_blocks.specs.Blocks.{AreLeft, ArePut, blocks_at, blocks_of, with_stretch}
 use Rattle.image_blocks.specs.Places.{IsStretch, behind_in, front_in, spec_of}
 use Rattle.image_blocks.proofs.Stretches.{stretch_found}
+use Rattle.image_walk.proofs.Walks.{front_is}
 use Rattle.image_dumps.specs.declared.layout.Layout.{Layout}
 use Rattle.image_dumps.specs.declared.layout.Layout.TheVariants.{Interleaved, Plain, Tuples}
 use Rattle.image_dumps.specs.Dumps.{fits, imported, imported_block, piece_len}
-use Rattle.image_dumps.specs.Ends.{ArePieces, AreSome, HasOwn, HasTaken, IsShort, IsUnstored, imported_in}
+use Rattle.image_dumps.specs.Ends.{ArePieces, AreSome, CanTake, HasOwn, HasTaken, IsShort, IsUnstored, imported_in}
 use Rattle.image_dumps.proofs.Importing.{imported_nothing}
 use Rattle.image_dumps.proofs.Putting.{imported_length, run_in, with_none}
 
@@ -99,14 +100,14 @@ pub left_some : (us : List UnitSpec) (s : Stretch) (old new : Option (List ℕ))
 left_some us s None None p = tt
 left_some us s None (Some new) p = p
 left_some us s (Some old) None p = p
-left_some us s (Some old) (Some new) p = let n = p.2 in (p.0, p.1, omega arith, p.3)
+left_some us s (Some old) (Some new) p = let n = p.2 in record { left = p.0; long = p.1; few = omega arith; put = p.3 }
 
 pub none_some : (us : List UnitSpec) (s : Stretch) (x y : Option (List ℕ)) → y ≡ x → AreSome us s x y
 none_some us s x y e = subst (λ v. AreSome us s x v) (sym e) (none x)
   where
     none : (x : Option (List ℕ)) → AreSome us s x x
     none None = tt
-    none (Some x) = ([], tt, omega arith, sym (with_none (units_in us x) s))
+    none (Some x) = record { left = []; long = tt; few = omega arith; put = sym (with_none (units_in us x) s) }
 
 -- ---- a stretch of which so many pieces came
 
@@ -214,18 +215,18 @@ unstored layout us s front whole room bytes None (Some b) l m e w r p t = absurd
 unstored layout us s front whole room bytes (Some a) None l m e w r p t = absurd p
 unstored layout us s front whole room bytes (Some a) (Some b) l m e w r p t =
     let q = subst (λ (x : Stretch). AreSome us x (Some a) (Some b)) e p in
-    let few = q.2 in
-    let bytes_few : block_len us s.dev * length q.0 ≤ block_len us s.dev * s.count = mul-le-mul_left (block_len us s.dev) (omega arith) in
-    let c1 = mul_comm (block_len us s.dev) (length q.0) in
+    let few = q.few in
+    let bytes_few : block_len us s.dev * length q.left ≤ block_len us s.dev * s.count = mul-le-mul_left (block_len us s.dev) (omega arith) in
+    let c1 = mul_comm (block_len us s.dev) (length q.left) in
     let c2 = mul_comm (block_len us s.dev) s.count in
     record {
       n = 0;
       more = bytes;
-      others = q.0;
+      others = q.left;
       few = omega arith;
       held = omega arith;
-      long = q.1;
-      has = record { pieces = []; many = refl; long = tt; taken = t; put = q.3 ∙ sym (ap (λ x. with_stretch (units_in us a) s (x ++ q.0)) (imported_nothing layout us s (units_in us a))) };
+      long = q.long;
+      has = record { pieces = []; many = refl; long = tt; taken = t; put = q.put ∙ sym (ap (λ x. with_stretch (units_in us a) s (x ++ q.left)) (imported_nothing layout us s (units_in us a))) };
     }
 
 -- ---- the rooms of a stretch
@@ -250,8 +251,15 @@ frames_fit us s front whole len frames e f w g =
     ap (λ n. length (take (whole * n) frames)) e ∙ length-take (whole * block_len us s.dev) frames ∙ (omega arith) ∙ ap (λ n. n * block_len us s.dev) (sym all)
     ∙ sym (ap (λ (x : Stretch). x.count * block_len us x.dev) f)
 
-pub still_fits : (layout : Layout) (us : List UnitSpec) (s front : Stretch) (whole : ℕ) → front ≡ front_in s whole → fits layout (spec_of us s.dev).ty ≡ true → fits layout (spec_of us front.dev).ty ≡ true
-still_fits layout us s front whole f h = ap (λ (x : Stretch). fits layout (spec_of us x.dev).ty) f ∙ h
+-- pieces of the first blocks can be taken too
+pub still_taken : (layout : Layout) (us : List UnitSpec) (s front : Stretch) (whole len : ℕ) → CanTake layout us s len → front ≡ front_in s whole → CanTake layout us front len
+still_taken layout us s front whole len r f =
+    subst (λ (x : Stretch). CanTake layout us x len) (sym f) (record { there = front_is us s whole r.there; fits = r.fits; held = r.held })
+
+-- and of the first blocks that are left
+pub piece_taken : (layout : Layout) (us : List UnitSpec) (s left piece : Stretch) (most n len now : ℕ) → CanTake layout us s len → now ≡ len → IsStretch us left → left ≡ behind_in s n → piece ≡ front_in left most → CanTake layout us piece now
+piece_taken layout us s left piece most n len now r k h b e =
+    still_taken layout us left piece most now (record { there = h; fits = ap (λ (x : Stretch). fits layout (spec_of us x.dev).ty) b ∙ r.fits; held = k ∙ r.held }) e
 
 pub room_is : (layout : Layout) (us vs : List UnitSpec) (s : Stretch) (each n : ℕ) → vs ≡ us → each ≡ piece_len layout (spec_of vs s.dev).ty (spec_of vs s.dev).size → n ≡ s.count * piece_len layout (spec_of us s.dev).ty (spec_of us s.dev).size → n ≡ s.count * each
 room_is layout us vs s each n v e r = r ∙ ap (λ k. s.count * k) (sym (e ∙ ap (λ (x : List UnitSpec). piece_len layout (spec_of x s.dev).ty (spec_of x s.dev).size) v))

@@ -1,6 +1,7 @@
-use Rattle.std.specs.Prelude.{ℕ, ◌≡◌, ◌+◌, ◌*◌, ◌<◌, ◌≤◌, List, [], ◌∷◌, ◌++◌, length, Option, Result, Ok, Err}
+use Rattle.std.specs.Prelude.{ℕ, ◌≡◌, ◌+◌, ◌*◌, ◌<◌, ◌≤◌, true, List, [], ◌∷◌, ◌++◌, length, Option, Result, Ok, Err}
 use Rattle.dix_base.specs.Told.{Apart, Appended, AppendedSome, Becomes, IsAtEnd, Rose, Took}
 use Rattle.target_answer.specs.Frames.{joined}
+use Rattle.target_answer.specs.Headers.{image_size}
 use Rattle.target_answer.specs.Image.{units_in}
 use Rattle.target_answer.specs.Target.{Stored}
 use Rattle.target_answer.specs.declared.units.UnitSpec.{UnitSpec}
@@ -8,14 +9,14 @@ use Rattle.target_model.specs.Served.{AllLong}
 use Rattle.image_layout.specs.Places.{block_len, block_place}
 use Rattle.image_blocks.specs.declared.stretch.Stretch.{Stretch}
 use Rattle.image_blocks.specs.Blocks.{HasBlocks, blocks_at, blocks_of, with_stretch}
-use Rattle.image_blocks.specs.Places.{spec_of}
+use Rattle.image_blocks.specs.Places.{IsStretch, spec_of}
 use Rattle.image_dumps.specs.declared.layout.Layout.{Layout}
 use Rattle.image_dumps.specs.declared.layout.Layout.TheVariants.{Interleaved, Plain, Tuples}
 use Rattle.image_dumps.specs.declared.fault.DumpFault.{DumpFault}
 use Rattle.image_dumps.specs.declared.fault.DumpFault.TheVariants as dump
 use Rattle.image_dumps.specs.declared.fault.ImportFault.{ImportFault}
 use Rattle.image_dumps.specs.declared.fault.ImportFault.TheVariants as import
-use Rattle.image_dumps.specs.Dumps.{dump_of, imported, piece_len}
+use Rattle.image_dumps.specs.Dumps.{dump_of, fits, imported, piece_len}
 
 -- ---- out
 
@@ -43,6 +44,16 @@ DumpEnds (Err dump.Sink) layout us s image o n p q old new = Rose p q × HasDump
 
 -- ---- in
 
+-- The image has the stretch, whose blocks have what the layout holds, and the store has just the length of the image.
+pub record CanTake (layout : Layout) (us : List UnitSpec) (s : Stretch) (len : ℕ) : Type 0 where
+  pub there : IsStretch us s
+  pub fits : fits layout (spec_of us s.dev).ty ≡ true
+  pub held : len ≡ image_size us
+
+-- the bytes of the piece of a stretch's block
+abbrev pub each_len : Layout → List UnitSpec → Stretch → ℕ
+each_len layout us s = piece_len layout (spec_of us s.dev).ty (spec_of us s.dev).size
+
 -- what is stored of pieces in a stretch of these units, from its first block on
 abbrev pub imported_in : Layout → List UnitSpec → Stretch → List Stored → List (List ℕ) → List (List ℕ)
 imported_in layout us s found pieces = imported layout (spec_of us s.dev).ty (spec_of us s.dev).size s.first (blocks_at found s) pieces
@@ -58,10 +69,16 @@ abbrev pub ArePieces : Layout → List UnitSpec → Stretch → (pieces others :
 ArePieces layout us s pieces others image image_after =
     Becomes (λ was is. units_in us is ≡ with_stretch (units_in us was) s (imported_in layout us s (units_in us was) pieces ++ others)) image image_after
 
--- Where the image is told, its units are as before, with some blocks of their length at the front of the stretch.
+-- The units are as before, with some blocks of their length at the front of the stretch.
+pub record HasSome (us : List UnitSpec) (s : Stretch) (was is : List ℕ) : Type 0 where
+  pub left : List (List ℕ)
+  pub long : AllLong (block_len us s.dev) left
+  pub few : length left ≤ s.count
+  pub put : units_in us is ≡ with_stretch (units_in us was) s left
+
+-- So it is where the image is told.
 abbrev pub AreSome : List UnitSpec → Stretch → (image image_after : Option (List ℕ)) → Type 0
-AreSome us s image image_after =
-    Becomes (λ was is. (left : List (List ℕ)) × AllLong (block_len us s.dev) left × (length left ≤ s.count) × (units_in us is ≡ with_stretch (units_in us was) s left)) image image_after
+AreSome us s image image_after = Becomes (HasSome us s) image image_after
 
 -- Where the image is told, its length and each byte outside of the stretch are as before.
 abbrev pub KeepsOutside : List UnitSpec → Stretch → (image image_after : Option (List ℕ)) → Type 0

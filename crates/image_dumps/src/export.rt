@@ -7,6 +7,7 @@ ghost use Rattle.target_answer.specs.Headers.{image_size};
 ghost use Rattle.image_layout.specs.Places.{block_len};
 ghost use Rattle.image_blocks.specs.Images.{units_open};
 ghost use Rattle.image_blocks.specs.Places.{IsStretch};
+ghost use Rattle.image_walk.specs.Stores.{WasRead, held};
 ghost use Rattle.image_dumps.specs.Dumps.{dump_of, piece_of};
 ghost use Rattle.image_dumps.specs.Ends.{DumpEnds};
 
@@ -14,6 +15,7 @@ use crate::fault::DumpFault;
 use crate::layout::{Layout, stored_len};
 use dix_base::{Failed, Sink, Store};
 use image_blocks::{Image, Stretch, behind_of, block_bytes, front_of, read_blocks};
+use image_walk::blocks_in;
 use report_text::write_all;
 use target_answer::UnitSpec;
 
@@ -39,8 +41,10 @@ fn write_pieces<O: Sink>(
     frames: &[u8],
 ) -> Result<(), Failed>
     requires { length frames.now ≡ count * stored_size unit.ty unit.size }
-    ensures whole { OnOk result (Appended (dump_of layout unit.size (frames_of (stored_size unit.ty unit.size) count frames.now)) (O.taken out.old) (O.taken out.new)) }
-    ensures part { OnErr result (AppendedSome (dump_of layout unit.size (frames_of (stored_size unit.ty unit.size) count frames.now)) (O.taken out.old) (O.taken out.new)) }
+    ensures whole { OnOk result (Appended (dump_of layout unit.size (frames_of (stored_size unit.ty unit.size) count frames.now))
+        (O.taken out.old) (O.taken out.new)) }
+    ensures part { OnErr result (AppendedSome (dump_of layout unit.size (frames_of (stored_size unit.ty unit.size) count frames.now))
+        (O.taken out.old) (O.taken out.new)) }
     ensures cause { OnErr result (Rose (O.faults out.old) (O.faults out.new)) }
     ensures count { O.faults out.old ≤ O.faults out.new }
 {
@@ -64,8 +68,10 @@ fn write_dump<O: Sink>(
     frames: &[u8],
 ) -> Result<(), Failed>
     requires { length frames.now ≡ count * stored_size unit.ty unit.size }
-    ensures whole { OnOk result (Appended (dump_of layout unit.size (frames_of (stored_size unit.ty unit.size) count frames.now)) (O.taken out.old) (O.taken out.new)) }
-    ensures part { OnErr result (AppendedSome (dump_of layout unit.size (frames_of (stored_size unit.ty unit.size) count frames.now)) (O.taken out.old) (O.taken out.new)) }
+    ensures whole { OnOk result (Appended (dump_of layout unit.size (frames_of (stored_size unit.ty unit.size) count frames.now))
+        (O.taken out.old) (O.taken out.new)) }
+    ensures part { OnErr result (AppendedSome (dump_of layout unit.size (frames_of (stored_size unit.ty unit.size) count frames.now))
+        (O.taken out.old) (O.taken out.new)) }
     ensures cause { OnErr result (Rose (O.faults out.old) (O.faults out.new)) }
     ensures count { O.faults out.old ≤ O.faults out.new }
 {
@@ -87,13 +93,12 @@ fn export_piece<S: Store, O: Sink>(
     requires place { IsStretch (units_open image.now) at }
     requires room { length into.old ≡ at.count * block_len (units_open image.now) at.dev }
     requires held { S.len store.old ≡ image_size (units_open image.now) }
-    ensures dumped { DumpEnds result layout (units_open image.now) at (S.bytes store.old) (S.faults store.old) (S.faults store.new) (O.faults out.old) (O.faults out.new) (O.taken out.old) (O.taken out.new) }
-    ensures same { S.bytes store.new ≡ S.bytes store.old }
-    ensures length { S.len store.new ≡ S.len store.old }
-    ensures stores { S.faults store.old ≤ S.faults store.new }
+    ensures dumped { DumpEnds result layout (units_open image.now) at (S.bytes store.old)
+        (S.faults store.old) (S.faults store.new) (O.faults out.old) (O.faults out.new) (O.taken out.old) (O.taken out.new) }
+    ensures store { WasRead
+        (held (S.bytes store.old) (S.len store.old) (S.faults store.old) (S.handed store.old) (S.openings store.old))
+        (held (S.bytes store.new) (S.len store.new) (S.faults store.new) (S.handed store.new) (S.openings store.new)) }
     ensures sinks { O.faults out.old ≤ O.faults out.new }
-    ensures named { S.handed store.new ≡ S.handed store.old }
-    ensures opened { S.openings store.new ≡ S.openings store.old }
 {
     match read_blocks(store, image, at, into) {
         Ok(()) => {}
@@ -119,16 +124,15 @@ fn export_all<S: Store, O: Sink>(
     requires place { IsStretch (units_open image.now) place }
     requires least { 4104 ≤ length room.old }
     requires held { S.len store.old ≡ image_size (units_open image.now) }
-    ensures dumped { DumpEnds result layout (units_open image.now) place (S.bytes store.old) (S.faults store.old) (S.faults store.new) (O.faults out.old) (O.faults out.new) (O.taken out.old) (O.taken out.new) }
-    ensures same { S.bytes store.new ≡ S.bytes store.old }
-    ensures length { S.len store.new ≡ S.len store.old }
-    ensures stores { S.faults store.old ≤ S.faults store.new }
+    ensures dumped { DumpEnds result layout (units_open image.now) place (S.bytes store.old)
+        (S.faults store.old) (S.faults store.new) (O.faults out.old) (O.faults out.new) (O.taken out.old) (O.taken out.new) }
+    ensures store { WasRead
+        (held (S.bytes store.old) (S.len store.old) (S.faults store.old) (S.handed store.old) (S.openings store.old))
+        (held (S.bytes store.new) (S.len store.new) (S.faults store.new) (S.handed store.new) (S.openings store.new)) }
     ensures sinks { O.faults out.old ≤ O.faults out.new }
-    ensures named { S.handed store.new ≡ S.handed store.old }
-    ensures opened { S.openings store.new ≡ S.openings store.old }
 {
     let len = block_bytes(image, place.dev);
-    let most = (room.len() / len).min(65536) as u32;
+    let most = blocks_in(room.len(), len);
     let mut left = place;
     while left.count > 0 {
         let piece = front_of(left, most);
@@ -158,13 +162,12 @@ pub fn export_blocks<S: Store, O: Sink>(
     requires place { IsStretch (units_open image.now) place }
     requires least { 4104 ≤ length room.old }
     requires held { S.len store.old ≡ image_size (units_open image.now) }
-    ensures dumped { DumpEnds result layout (units_open image.now) place (S.bytes store.old) (S.faults store.old) (S.faults store.new) (O.faults out.old) (O.faults out.new) (O.taken out.old) (O.taken out.new) }
-    ensures same { S.bytes store.new ≡ S.bytes store.old }
-    ensures length { S.len store.new ≡ S.len store.old }
-    ensures stores { S.faults store.old ≤ S.faults store.new }
+    ensures dumped { DumpEnds result layout (units_open image.now) place (S.bytes store.old)
+        (S.faults store.old) (S.faults store.new) (O.faults out.old) (O.faults out.new) (O.taken out.old) (O.taken out.new) }
+    ensures store { WasRead
+        (held (S.bytes store.old) (S.len store.old) (S.faults store.old) (S.handed store.old) (S.openings store.old))
+        (held (S.bytes store.new) (S.len store.new) (S.faults store.new) (S.handed store.new) (S.openings store.new)) }
     ensures sinks { O.faults out.old ≤ O.faults out.new }
-    ensures named { S.handed store.new ≡ S.handed store.old }
-    ensures opened { S.openings store.new ≡ S.openings store.old }
 {
     let ended = export_all(store, image, place, layout, room, out);
     match out.flush() {

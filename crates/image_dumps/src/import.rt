@@ -1,20 +1,21 @@
 //! A dump to blocks.
 
-ghost use Rattle.std.specs.Prelude.{◌≡◌, ◌+◌, ◌*◌, ◌^◌, ◌<◌, ◌≤◌, OnErr, OnOk, [], length, true};
+ghost use Rattle.std.specs.Prelude.{◌≡◌, ◌+◌, ◌*◌, ◌^◌, ◌<◌, ◌≤◌, OnErr, OnOk, [], length};
 ghost use Rattle.dix_base.specs.Told.{Rose};
 ghost use Rattle.target_answer.specs.Frames.{frames_of};
 ghost use Rattle.target_answer.specs.Headers.{image_size};
 ghost use Rattle.image_layout.specs.Places.{block_len};
 ghost use Rattle.image_blocks.specs.Images.{units_open};
-ghost use Rattle.image_blocks.specs.Places.{IsStretch, spec_of};
-ghost use Rattle.image_dumps.specs.Dumps.{fits, piece_len};
-ghost use Rattle.image_dumps.specs.Ends.{ArePieces, AreSome, HasOwn, ImportEnds, KeepsOutside, TakingEnds, behind_pieces, pieces_of};
+ghost use Rattle.image_blocks.specs.Places.{IsStretch};
+ghost use Rattle.image_walk.specs.Stores.{WasRead, WasWritten, held};
+ghost use Rattle.image_dumps.specs.Ends.{ArePieces, AreSome, CanTake, HasOwn, ImportEnds, KeepsOutside, TakingEnds, behind_pieces, each_len, pieces_of};
 
 use crate::fault::ImportFault;
 use crate::layout::{Layout, piece_len};
 use crate::pieces::{fill, put_pieces};
 use dix_base::{Failed, Source, Store};
 use image_blocks::{Image, Stretch, behind_of, block_bytes, front_of, read_blocks, write_blocks};
+use image_walk::blocks_in;
 
 /// Reads the blocks of a stretch into `frames`, which has just their length, where the pieces are tuples.
 fn read_own<S: Store>(
@@ -30,11 +31,9 @@ fn read_own<S: Store>(
     ensures own { OnOk result (HasOwn layout (units_open image.now) at frames.new (S.bytes store.old)) }
     ensures long { length frames.new ≡ length frames.old }
     ensures cause { OnErr result (Rose (S.faults store.old) (S.faults store.new)) }
-    ensures same { S.bytes store.new ≡ S.bytes store.old }
-    ensures length { S.len store.new ≡ S.len store.old }
-    ensures count { S.faults store.old ≤ S.faults store.new }
-    ensures named { S.handed store.new ≡ S.handed store.old }
-    ensures opened { S.openings store.new ≡ S.openings store.old }
+    ensures store { WasRead
+        (held (S.bytes store.old) (S.len store.old) (S.faults store.old) (S.handed store.old) (S.openings store.old))
+        (held (S.bytes store.new) (S.len store.new) (S.faults store.new) (S.handed store.new) (S.openings store.new)) }
 {
     match layout {
         Layout::Tuples => read_blocks(store, image, at, frames),
@@ -52,20 +51,18 @@ fn put_stretch<S: Store>(
     pieces: &[u8],
     frames: &mut [u8],
 ) -> Result<(), Failed>
-    requires place { IsStretch (units_open image.now) at }
-    requires fits { fits layout (spec_of (units_open image.now) at.dev).ty ≡ true }
-    requires pieces { length pieces.now ≡ at.count * piece_len layout (spec_of (units_open image.now) at.dev).ty (spec_of (units_open image.now) at.dev).size }
+    requires place { CanTake layout (units_open image.now) at (S.len store.old) }
+    requires pieces { length pieces.now ≡ at.count * each_len layout (units_open image.now) at }
     requires room { length frames.old ≡ at.count * block_len (units_open image.now) at.dev }
-    requires held { S.len store.old ≡ image_size (units_open image.now) }
-    ensures put { OnOk result (ArePieces layout (units_open image.now) at (frames_of (piece_len layout (spec_of (units_open image.now) at.dev).ty (spec_of (units_open image.now) at.dev).size) at.count pieces.now) [] (S.bytes store.old) (S.bytes store.new)) }
+    ensures put { OnOk result (ArePieces layout (units_open image.now) at
+        (frames_of (each_len layout (units_open image.now) at) at.count pieces.now) [] (S.bytes store.old) (S.bytes store.new)) }
     ensures left { OnErr result (AreSome (units_open image.now) at (S.bytes store.old) (S.bytes store.new)) }
     ensures apart { KeepsOutside (units_open image.now) at (S.bytes store.old) (S.bytes store.new) }
     ensures cause { OnErr result (Rose (S.faults store.old) (S.faults store.new)) }
     ensures long { length frames.new ≡ length frames.old }
-    ensures length { S.len store.new ≡ S.len store.old }
-    ensures count { S.faults store.old ≤ S.faults store.new }
-    ensures named { S.handed store.new ≡ S.handed store.old }
-    ensures opened { S.openings store.new ≡ S.openings store.old }
+    ensures store { WasWritten
+        (held (S.bytes store.old) (S.len store.old) (S.faults store.old) (S.handed store.old) (S.openings store.old))
+        (held (S.bytes store.new) (S.len store.new) (S.faults store.new) (S.handed store.new) (S.openings store.new)) }
 {
     match read_own(store, image, at, layout, frames) {
         Ok(()) => {}
@@ -90,18 +87,17 @@ fn take_stretch<S: Store, R: Source>(
     pieces: &mut [u8],
     frames: &mut [u8],
 ) -> Result<u32, ImportFault>
-    requires place { IsStretch (units_open image.now) at }
-    requires fits { fits layout (spec_of (units_open image.now) at.dev).ty ≡ true }
-    requires pieces { length pieces.old ≡ at.count * piece_len layout (spec_of (units_open image.now) at.dev).ty (spec_of (units_open image.now) at.dev).size }
+    requires place { CanTake layout (units_open image.now) at (S.len store.old) }
+    requires pieces { length pieces.old ≡ at.count * each_len layout (units_open image.now) at }
     requires room { length frames.old ≡ at.count * block_len (units_open image.now) at.dev }
-    requires held { S.len store.old ≡ image_size (units_open image.now) }
-    ensures taken { TakingEnds result layout (units_open image.now) at (length frames.old) (S.faults store.old) (S.faults store.new) (R.faults source.old) (R.faults source.new) (S.bytes store.old) (S.bytes store.new) (R.left source.old) (R.left source.new) }
+    ensures taken { TakingEnds result layout (units_open image.now) at (length frames.old)
+        (S.faults store.old) (S.faults store.new) (R.faults source.old) (R.faults source.new)
+        (S.bytes store.old) (S.bytes store.new) (R.left source.old) (R.left source.new) }
     ensures apart { KeepsOutside (units_open image.now) at (S.bytes store.old) (S.bytes store.new) }
-    ensures length { S.len store.new ≡ S.len store.old }
-    ensures stores { S.faults store.old ≤ S.faults store.new }
+    ensures store { WasWritten
+        (held (S.bytes store.old) (S.len store.old) (S.faults store.old) (S.handed store.old) (S.openings store.old))
+        (held (S.bytes store.new) (S.len store.new) (S.faults store.new) (S.handed store.new) (S.openings store.new)) }
     ensures sources { R.faults source.old ≤ R.faults source.new }
-    ensures named { S.handed store.new ≡ S.handed store.old }
-    ensures opened { S.openings store.new ≡ S.openings store.old }
 {
     let got = match fill(source, pieces) {
         Ok(got) => got,
@@ -152,24 +148,23 @@ fn take_all<S: Store, R: Source>(
     pieces: &mut [u8],
     frames: &mut [u8],
 ) -> Result<u32, ImportFault>
-    requires place { IsStretch (units_open image.now) place }
-    requires fits { fits layout (spec_of (units_open image.now) place.dev).ty ≡ true }
+    requires place { CanTake layout (units_open image.now) place (S.len store.old) }
     requires pieces { 4104 ≤ length pieces.old }
     requires frames { 4104 ≤ length frames.old }
-    requires held { S.len store.old ≡ image_size (units_open image.now) }
-    ensures taken { TakingEnds result layout (units_open image.now) place (length frames.old) (S.faults store.old) (S.faults store.new) (R.faults source.old) (R.faults source.new) (S.bytes store.old) (S.bytes store.new) (R.left source.old) (R.left source.new) }
+    ensures taken { TakingEnds result layout (units_open image.now) place (length frames.old)
+        (S.faults store.old) (S.faults store.new) (R.faults source.old) (R.faults source.new)
+        (S.bytes store.old) (S.bytes store.new) (R.left source.old) (R.left source.new) }
     ensures apart { KeepsOutside (units_open image.now) place (S.bytes store.old) (S.bytes store.new) }
     ensures room { length pieces.new ≡ length pieces.old }
-    ensures length { S.len store.new ≡ S.len store.old }
-    ensures stores { S.faults store.old ≤ S.faults store.new }
+    ensures store { WasWritten
+        (held (S.bytes store.old) (S.len store.old) (S.faults store.old) (S.handed store.old) (S.openings store.old))
+        (held (S.bytes store.new) (S.len store.new) (S.faults store.new) (S.handed store.new) (S.openings store.new)) }
     ensures sources { R.faults source.old ≤ R.faults source.new }
-    ensures named { S.handed store.new ≡ S.handed store.old }
-    ensures opened { S.openings store.new ≡ S.openings store.old }
 {
     let len = block_bytes(image, place.dev);
     let unit = image.units()[place.dev as usize];
     let each = piece_len(layout, unit);
-    let most = (pieces.len().min(frames.len()) / len).min(65536) as u32;
+    let most = blocks_in(pieces.len().min(frames.len()), len);
     let mut left = place;
     let mut done = 0u32;
     while left.count > 0 {
@@ -209,17 +204,16 @@ pub fn import_blocks<S: Store, R: Source>(
     source: &mut R,
     room: &mut [u8],
 ) -> Result<u32, ImportFault>
-    requires place { IsStretch (units_open image.now) place }
-    requires fits { fits layout (spec_of (units_open image.now) place.dev).ty ≡ true }
+    requires place { CanTake layout (units_open image.now) place (S.len store.old) }
     requires least { 8208 ≤ length room.old }
-    requires held { S.len store.old ≡ image_size (units_open image.now) }
-    ensures imported { ImportEnds result layout (units_open image.now) place (length room.old) (S.faults store.old) (S.faults store.new) (R.faults source.old) (R.faults source.new) (S.bytes store.old) (S.bytes store.new) (R.left source.old) (R.left source.new) }
+    ensures imported { ImportEnds result layout (units_open image.now) place (length room.old)
+        (S.faults store.old) (S.faults store.new) (R.faults source.old) (R.faults source.new)
+        (S.bytes store.old) (S.bytes store.new) (R.left source.old) (R.left source.new) }
     ensures apart { KeepsOutside (units_open image.now) place (S.bytes store.old) (S.bytes store.new) }
-    ensures length { S.len store.new ≡ S.len store.old }
-    ensures stores { S.faults store.old ≤ S.faults store.new }
+    ensures store { WasWritten
+        (held (S.bytes store.old) (S.len store.old) (S.faults store.old) (S.handed store.old) (S.openings store.old))
+        (held (S.bytes store.new) (S.len store.new) (S.faults store.new) (S.handed store.new) (S.openings store.new)) }
     ensures sources { R.faults source.old ≤ R.faults source.new }
-    ensures named { S.handed store.new ≡ S.handed store.old }
-    ensures opened { S.openings store.new ≡ S.openings store.old }
 {
     let half = room.len() / 2;
     let (pieces, frames) = room.split_at_mut(half);

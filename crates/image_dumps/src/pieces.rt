@@ -87,7 +87,8 @@ pub(crate) fn put_pieces(
     requires end { first + count < 2 ^ 64 }
     requires pieces { length pieces.now ≡ count * piece_len layout unit.ty unit.size }
     requires blocks { length blocks.old ≡ count * stored_size unit.ty unit.size }
-    ensures { blocks.new ≡ joined (imported layout unit.ty unit.size first (frames_of (stored_size unit.ty unit.size) count blocks.old) (frames_of (piece_len layout unit.ty unit.size) count pieces.now)) }
+    ensures { blocks.new ≡ joined (imported layout unit.ty unit.size first
+        (frames_of (stored_size unit.ty unit.size) count blocks.old) (frames_of (piece_len layout unit.ty unit.size) count pieces.now)) }
 {
     let len = stored_len(unit);
     let each = piece_len(layout, unit);

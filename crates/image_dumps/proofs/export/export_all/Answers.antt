@@ -2,7 +2,8 @@ use Rattle.std.proofs.Common.{◌∙◌, length, refl, subst, arith}
 use Rattle.target_model.proofs.Bytes.{refilled}
 use Rattle.image_blocks.specs.Images.{units_open}
 use Rattle.image_dumps.specs.Ends.{HasDumped}
-use Rattle.image_dumps.proofs.Dumping.{at_first, at_last, breaks_off, goes_on, in_room, passed_on}
+use Rattle.image_dumps.proofs.Dumping.{at_first, at_last, breaks_off, goes_on, passed_on}
+use Rattle.image_walk.proofs.Walks.{in_room, not_read, read_on}
 use Rattle.image_dumps.proofs.export.export_all.Goals as goal
 
 pub returns-in-Err-clause-dumped : goal.returns-in-Err-clause-dumped
@@ -12,7 +13,7 @@ returns-in-Err-clause-dumped g c =
     let inv = c.loop-left.invariant in
     passed_on (Unit {0}) (Unit {0}) c.in-Err.fault c.args.layout us piece c.args.place (g.S.Store.bytes c.loop-left.store) (g.S.Store.bytes c.args.store.now)
     (g.S.Store.faults c.args.store.now) (g.S.Store.faults c.loop-left.store) (g.S.Store.faults c.export_piece.new.store) (g.O.Sink.faults c.args.out.now) (g.O.Sink.faults c.loop-left.out) (g.O.Sink.faults c.export_piece.new.out)
-    (g.O.Sink.taken c.loop-left.out) (g.O.Sink.taken c.args.out.now) (g.O.Sink.taken c.export_piece.new.out) inv.same inv.stores inv.sinks
+    (g.O.Sink.taken c.loop-left.out) (g.O.Sink.taken c.args.out.now) (g.O.Sink.taken c.export_piece.new.out) inv.store.same inv.store.count inv.sinks
     (λ h. breaks_off c.args.layout us c.args.place c.loop-left.left piece _ (g.S.Store.len c.args.store.now) (g.S.Store.bytes c.args.store.now) (g.O.Sink.taken c.args.out.now) (g.O.Sink.taken c.loop-left.out) (g.O.Sink.taken c.export_piece.new.out)
     inv.there c.requires.held (g.met.S.Store.told c.args.store.now) inv.pieces c.front_of-piece.ensures.value h)
     c.in-Err.ensures.dumped
@@ -22,12 +23,8 @@ loop-left-init g c = record {
   there = c.requires.place;
   pieces = at_first c.args.layout (units_open c.args.image.now) c.args.place (g.S.Store.bytes c.args.store.now) (g.O.Sink.taken c.args.out.now);
   room = refl;
-  same = refl;
-  length = refl;
-  stores = omega arith;
+  store = not_read _;
   sinks = omega arith;
-  named = refl;
-  opened = refl;
 }
 
 pub loop-left-preserved : goal.loop-left-preserved
@@ -39,14 +36,10 @@ loop-left-preserved g c =
       there = c.behind_of-left.ensures.there;
       pieces = goes_on c.args.layout us c.args.place c.loop-left.left piece c.behind_of-left.result _ (g.S.Store.bytes c.args.store.now) (g.O.Sink.taken c.args.out.now) (g.O.Sink.taken c.loop-left.out) (g.O.Sink.taken c.export_piece.new.out)
           inv.there inv.pieces c.front_of-piece.ensures.value c.behind_of-left.ensures.value
-          (subst (λ i. HasDumped c.args.layout us piece i (g.O.Sink.taken c.loop-left.out) (g.O.Sink.taken c.export_piece.new.out)) inv.same c.in-Ok.ensures.dumped);
-      room = refilled _ _ _ c.export_piece.auto.into (omega (arith, in_room piece c.loop-left.left c.min-most.result (length c.args.room.now) c.block_bytes-len.result c.front_of-piece.ensures.value c.min-most.ensures, inv.room)) ∙ inv.room;
-      same = c.export_piece.ensures.same ∙ inv.same;
-      length = c.export_piece.ensures.length ∙ inv.length;
-      stores = omega (arith, c.export_piece.ensures.stores, inv.stores);
+          (subst (λ i. HasDumped c.args.layout us piece i (g.O.Sink.taken c.loop-left.out) (g.O.Sink.taken c.export_piece.new.out)) inv.store.same c.in-Ok.ensures.dumped);
+      room = refilled _ _ _ c.export_piece.auto.into (omega (arith, in_room piece c.loop-left.left c.blocks_in-most.result (length c.args.room.now) c.block_bytes-len.result c.front_of-piece.ensures.value c.blocks_in-most.ensures, inv.room)) ∙ inv.room;
+      store = read_on _ _ _ inv.store c.export_piece.ensures.store;
       sinks = omega (arith, c.export_piece.ensures.sinks, inv.sinks);
-      named = c.export_piece.ensures.named ∙ inv.named;
-      opened = c.export_piece.ensures.opened ∙ inv.opened;
     }
 
 pub returns-clause-dumped : goal.returns-clause-dumped

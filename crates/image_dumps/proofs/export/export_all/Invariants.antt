@@ -1,6 +1,7 @@
 use Rattle.std.proofs.Common.{◌≡◌, ◌≤◌, length}
 use Rattle.image_blocks.specs.Images.{units_open}
 use Rattle.image_blocks.specs.Places.{IsStretch}
+use Rattle.image_walk.specs.Stores.{WasRead, held}
 use Rattle.image_dumps.proofs.Dumping.{SoFar}
 use Rattle.image_dumps.proofs.export.export_all.Given as goal
 
@@ -9,12 +10,9 @@ invariant-loop-left g l = record {
   there : IsStretch (units_open l.image) l.left;
   pieces : SoFar l.layout (units_open l.image) l.fn.place l.left (g.S.Store.bytes l.initial.store) (g.O.Sink.taken l.initial.out) (g.O.Sink.taken l.out);
   room : length l.room ≡ length l.initial.room;
-  same : g.S.Store.bytes l.store ≡ g.S.Store.bytes l.initial.store;
-  length : g.S.Store.len l.store ≡ g.S.Store.len l.initial.store;
-  stores : g.S.Store.faults l.initial.store ≤ g.S.Store.faults l.store;
+  store : WasRead (held (g.S.Store.bytes l.initial.store) (g.S.Store.len l.initial.store) (g.S.Store.faults l.initial.store) (g.S.Store.handed l.initial.store) (g.S.Store.openings l.initial.store))
+      (held (g.S.Store.bytes l.store) (g.S.Store.len l.store) (g.S.Store.faults l.store) (g.S.Store.handed l.store) (g.S.Store.openings l.store));
   sinks : g.O.Sink.faults l.initial.out ≤ g.O.Sink.faults l.out;
-  named : g.S.Store.handed l.store ≡ g.S.Store.handed l.initial.store;
-  opened : g.S.Store.openings l.store ≡ g.S.Store.openings l.initial.store;
 }
 
 abbrev pub decreases-loop-left : goal.decreases-loop-left

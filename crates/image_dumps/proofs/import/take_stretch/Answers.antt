@@ -2,7 +2,7 @@ use Rattle.std.proofs.Common.{◌∙◌, length, refl, take, arith}
 use Rattle.image_blocks.specs.Images.{units_open}
 use Rattle.image_dumps.proofs.Importing.{taken_bytes}
 use Rattle.image_dumps.proofs.Keeping.{keeps_all, keeps_front}
-use Rattle.image_dumps.proofs.Storing.{ends_short, ends_whole, frames_fit, pieces_fit, room_is, some_bytes, still_fits, unstored}
+use Rattle.image_dumps.proofs.Storing.{ends_short, ends_whole, frames_fit, pieces_fit, room_is, some_bytes, still_taken, unstored}
 use Rattle.image_dumps.proofs.import.take_stretch.Goals as goal
 
 pub returns-in-Err-clause-taken : goal.returns-in-Err-clause-taken
@@ -16,8 +16,8 @@ returns-in-Err-clause-taken g c = (
   },
 )
 
-pub put_stretch-requires-clause-fits : goal.put_stretch-requires-clause-fits
-put_stretch-requires-clause-fits g c = still_fits c.args.layout (units_open c.args.image.now) c.args.at c.front_of-front.result c.min-whole.result c.front_of-front.ensures.value c.requires.fits
+pub put_stretch-requires-clause-place : goal.put_stretch-requires-clause-place
+put_stretch-requires-clause-place g c = still_taken c.args.layout (units_open c.args.image.now) c.args.at c.front_of-front.result c.min-whole.result (g.S.Store.len c.args.store.now) c.requires.place c.front_of-front.ensures.value
 
 pub put_stretch-requires-clause-pieces : goal.put_stretch-requires-clause-pieces
 put_stretch-requires-clause-pieces g c =
@@ -55,12 +55,12 @@ returns-in-Err-clause-apart g c = keeps_all (units_open c.args.image.now) c.args
 
 pub returns-in-Err-put_stretch-clause-apart : goal.returns-in-Err-put_stretch-clause-apart
 returns-in-Err-put_stretch-clause-apart g c =
-    keeps_front (units_open c.args.image.now) c.args.at c.front_of-front.result c.min-whole.result (g.S.Store.bytes c.args.store.now) (g.S.Store.bytes c.put_stretch.new.store) c.requires.place c.front_of-front.ensures.value c.put_stretch.ensures.apart
+    keeps_front (units_open c.args.image.now) c.args.at c.front_of-front.result c.min-whole.result (g.S.Store.bytes c.args.store.now) (g.S.Store.bytes c.put_stretch.new.store) c.requires.place.there c.front_of-front.ensures.value c.put_stretch.ensures.apart
 
 pub returns-then-front-at-clause-apart : goal.returns-then-front-at-clause-apart
 returns-then-front-at-clause-apart g c =
-    keeps_front (units_open c.args.image.now) c.args.at c.front_of-front.result c.min-whole.result (g.S.Store.bytes c.args.store.now) (g.S.Store.bytes c.put_stretch.new.store) c.requires.place c.front_of-front.ensures.value c.put_stretch.ensures.apart
+    keeps_front (units_open c.args.image.now) c.args.at c.front_of-front.result c.min-whole.result (g.S.Store.bytes c.args.store.now) (g.S.Store.bytes c.put_stretch.new.store) c.requires.place.there c.front_of-front.ensures.value c.put_stretch.ensures.apart
 
 pub returns-clause-apart : goal.returns-clause-apart
 returns-clause-apart g c =
-    keeps_front (units_open c.args.image.now) c.args.at c.front_of-front.result c.min-whole.result (g.S.Store.bytes c.args.store.now) (g.S.Store.bytes c.put_stretch.new.store) c.requires.place c.front_of-front.ensures.value c.put_stretch.ensures.apart
+    keeps_front (units_open c.args.image.now) c.args.at c.front_of-front.result c.min-whole.result (g.S.Store.bytes c.args.store.now) (g.S.Store.bytes c.put_stretch.new.store) c.requires.place.there c.front_of-front.ensures.value c.put_stretch.ensures.apart
