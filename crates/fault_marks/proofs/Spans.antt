@@ -1,7 +1,8 @@
-use Rattle.std.proofs.Common.{ℕ, zero, suc, ◌≡◌, ◌+◌, ◌-◌, ◌<◌, ◌≤◌, Bool, true, false, eqb, cond, List, [], ◌∷◌, ◌++◌, length, Option, Some, None, refl, sym, ap, ◌∙◌, arith, append_assoc}
-use Rattle.script_words.specs.Cuts.{cut, lines_of}
+-- Where the words of a text begin and end, byte by byte.
+use Rattle.std.proofs.Common.{ℕ, zero, suc, ◌≡◌, ◌+◌, ◌-◌, ◌<◌, ◌≤◌, Bool, true, false, eqb, cond, List, [], ◌∷◌, ◌++◌, length, Option, Some, None, sym, ap, ◌∙◌, arith, append_assoc}
+use Rattle.script_words.specs.Cuts.{cut}
 use Rattle.fault_marks.specs.Marks.{last_end, last_end_from}
-use Rattle.fault_marks.specs.Words.{behind_newline, first_of, line_at, spans_from, spans_of, text_behind}
+use Rattle.fault_marks.specs.Words.{behind_newline, spans_from, spans_of, text_behind}
 use Rattle.fault_marks.specs.declared.words.Span.{Span}
 
 -- a space ends the word that has begun
@@ -42,8 +43,3 @@ one_behind (suc n) m text rest p e h = let k : m ≡ n = omega (arith, e) in ap 
 pub none_behind : (n : ℕ) (rest all : List ℕ) → n ≤ 0 → text_behind n rest ≡ all → rest ≡ all
 none_behind zero rest all p e = e
 none_behind (suc n) rest all p e = absurd (omega (arith, p))
-
--- a number of a line from 1
-pub line_there : (n m : ℕ) (text : List ℕ) (lines : List (List ℕ)) → (n ≡ 0 → ⊥) → m ≡ n - 1 → lines_of (text_behind m text) ≡ lines → line_at n text ≡ first_of lines
-line_there zero m text lines p e h = absurd (p refl)
-line_there (suc n) m text lines p e h = let k : n ≡ m = omega (arith, e) in ap (λ x. first_of (lines_of (text_behind x text))) k ∙ ap first_of h

@@ -7,7 +7,7 @@ use Rattle.script_lines.specs.declared.kind.ScriptKind.TheVariants.{NotAscii, Un
 use Rattle.script_text.specs.Language.{script_in}
 use Rattle.script_text.specs.declared.fault.ScriptFault.{ScriptFault}
 use Rattle.script_text.specs.declared.script.Script.{Script}
-use Rattle.fault_marks.specs.Words.{line_at, spans_of, text_behind}
+use Rattle.fault_marks.specs.Words.{spans_of, text_behind}
 use Rattle.fault_marks.specs.declared.words.Span.{Span}
 
 -- Where in its line a fault is.

@@ -6,6 +6,7 @@ use Rattle.std.specs.List.{list_all}
 use Rattle.std.specs.Str.{bytes_eq}
 use Rattle.std.proofs.lemmas.Nat.{from_be_bytes-to_be_bytes_2, from_be_bytes-to_be_bytes_8}
 use Rattle.std.proofs.lemmas.List.{drop_at, length-replicate, take_at}
+use Rattle.std.proofs.lemmas.Bool.{eqb-true}
 use Rattle.std.proofs.lemmas.Slice.Eq.{bytes_eq-Decides}
 use Rattle.pi_tuple.specs.Finds.{own_tag}
 use Rattle.pi_tuple.specs.Tuples.{tuple_bytes}
@@ -27,9 +28,6 @@ use Rattle.image_rig.proofs.Migrates.{header_back as second_back, header_long as
 parts : (a b : Bool) → (a && b) ≡ true → (a ≡ true) × (b ≡ true)
 parts true b h = (refl, h)
 parts false b h = absurd (cc)
-
-same_number : (a b : ℕ) → eqb a b ≡ true → a ≡ b
-same_number a b h = grind arith
 
 same_spec : (u : UnitSpec) (t : PiType) (b s f : ℕ) → t ≡ u.ty → b ≡ u.blocks → s ≡ u.size → f ≡ u.first → record { ty = t; blocks = b; size = s; first = f } ≡ u
 same_spec u t b s f et eb es ef = rw (et, eb, es, ef) refl
@@ -54,7 +52,7 @@ entries_back (u ∷ us) rest h k =
     let d : drop 16 ((entry_of First u ++ joined (map (entry_of First) us)) ++ rest) ≡ joined (map (entry_of First) us) ++ rest =
     ap (drop 16) assoc ∙ drop_at (entry_of First u) (joined (map (entry_of First) us) ++ rest) 16 one in
     ap (λ b. spec_of First b ∷ specs_from First (length us) (drop 16 ((entry_of First u ++ joined (map (entry_of First) us)) ++ rest))) assoc
-    ∙ ap (λ v. v ∷ specs_from First (length us) (drop 16 ((entry_of First u ++ joined (map (entry_of First) us)) ++ rest))) (entry_back u (joined (map (entry_of First) us) ++ rest) s.0 (same_number u.size 512 a.0) (same_number u.first 0 b.0))
+    ∙ ap (λ v. v ∷ specs_from First (length us) (drop 16 ((entry_of First u ++ joined (map (entry_of First) us)) ++ rest))) (entry_back u (joined (map (entry_of First) us) ++ rest) s.0 (eqb-true u.size 512 a.0) (eqb-true u.first 0 b.0))
     ∙ ap (λ b. u ∷ specs_from First (length us) b) d
     ∙ ap (λ vs. u ∷ vs) (entries_back us rest s.1 b.1)
 
@@ -108,7 +106,7 @@ written us h = by_size us (is_first us) refl h
 
 -- ---- the length
 
-fresh_long : (ty : PiType) (size lba : ℕ) → length (fresh ty size lba) ≡ stored_size ty size
+pub fresh_long : (ty : PiType) (size lba : ℕ) → length (fresh ty size lba) ≡ stored_size ty size
 fresh_long Zero size lba = length-replicate size 0
 fresh_long One size lba = length-append (replicate size 0) (tuple_bytes (record { guard = 0; app = 0; rtag = own_tag One lba })) ∙ ap (λ n. n + 8) (length-replicate size 0)
 fresh_long Two size lba = length-append (replicate size 0) (tuple_bytes (record { guard = 0; app = 0; rtag = own_tag Two lba })) ∙ ap (λ n. n + 8) (length-replicate size 0)
@@ -141,7 +139,7 @@ units_back us h =
     let w = written us h in
     ap units_of (head_is us h) ∙ ap (λ v. specs_under v (header (version_for us) us)) w.text ∙ w.back
 
-same_bytes : (xs : List ℕ) → bytes_eq xs xs ≡ true
+pub same_bytes : (xs : List ℕ) → bytes_eq xs xs ≡ true
 same_bytes xs = (bytes_eq-Decides xs xs).1 refl
 
 is_right : (us : List UnitSpec) (v : Version) → IsWritten us v → is_layout us ≡ true → is_header v (header v us) ≡ true

@@ -42,7 +42,8 @@ fn print_parts<O: Sink, R: Rig>(
 /// numbered 0 here, with a line for each longest run of neighbouring blocks of one op that it carried; and where each
 /// listed block stands in the script and lies on the devices. The sink passes on all that it holds.
 ///
-/// `Failed` comes only where the sink's count of faults rose; then a prefix of the text was written. It takes no memory.
+/// `Failed` comes only where the sink's count of faults rose; then a prefix of the text was written. It takes no
+/// memory.
 pub fn print_words<O: Sink, R: Rig>(
     out: &mut O,
     guide: &Guide,
@@ -70,8 +71,12 @@ pub fn print_explained<O: Sink, R: Rig>(
 ) -> Result<(), Failed>
     requires records { told.now.run.first ≤ length (R.state rig.now).log }
     requires guides { Guides told.now.guide told.now.run.stack.replies.items }
-    ensures whole { OnOk result (Appended (explained_by told.now.guide.sites.items told.now.guide.entries (drop told.now.run.first (R.state rig.now).log) told.now.run.stack.replies.items) (O.taken out.old) (O.taken out.new)) }
-    ensures part { OnErr result (AppendedSome (explained_by told.now.guide.sites.items told.now.guide.entries (drop told.now.run.first (R.state rig.now).log) told.now.run.stack.replies.items) (O.taken out.old) (O.taken out.new)) }
+    ensures whole { OnOk result (Appended
+        (explained_by told.now.guide.sites.items told.now.guide.entries (drop told.now.run.first (R.state rig.now).log) told.now.run.stack.replies.items)
+        (O.taken out.old) (O.taken out.new)) }
+    ensures part { OnErr result (AppendedSome
+        (explained_by told.now.guide.sites.items told.now.guide.entries (drop told.now.run.first (R.state rig.now).log) told.now.run.stack.replies.items)
+        (O.taken out.old) (O.taken out.new)) }
     ensures cause { OnErr result (Rose (O.faults out.old) (O.faults out.new)) }
     ensures count { O.faults out.old ≤ O.faults out.new }
 {

@@ -1,6 +1,7 @@
 -- What a call that wants the commands of a text comes to.
 use Rattle.std.proofs.Common.{ℕ, suc, ◌≡◌, inl, inr, ◌+◌, ◌≤◌, List, [], ◌∷◌, ◌++◌, length, drop, Result, Ok, Err, refl, sym, ap, subst, ◌∙◌, arith, append_assoc, length-append}
 use Rattle.std.specs.Prelude.{MatchResult}
+use Rattle.std.proofs.Math.Seq.{drop-append_seam}
 use Rattle.rig_api.specs.Log.{Entry}
 use Rattle.rig_api.specs.Telling.{Standing}
 use Rattle.rig_api.specs.State.{RigState}
@@ -10,12 +11,9 @@ use Rattle.script_verdict.specs.Verdict.{CauseStopped, Facts, HasRun}
 use Rattle.script_verdict.specs.declared.refusal.Refusal.{Refusal}
 use Rattle.script_verdict.specs.declared.verdict.Finished.{Finished}
 use Rattle.vector_lines.specs.declared.line.VectorLine.{VectorLine}
-use Rattle.vector_runs.specs.Answered.{CauseUnanswered}
 use Rattle.vector_runs.specs.Done.{AreRecords}
-use Rattle.vector_runs.specs.Played.{AreLogged, CauseNotListed, CauseNotPlayed, HasCome, HasPlayed, ListPlayed, ScriptPlayed, first_of, refused}
+use Rattle.vector_runs.specs.Played.{AreLogged, CauseNotListed, CauseNotPlayed, HasCome, HasPlayed, ListPlayed, ScriptPlayed, first_of}
 use Rattle.vector_runs.specs.Taken.{CauseNotTaken, HoldsList, HoldsScript}
-use Rattle.vector_runs.specs.declared.answering.ListFault.{ListFault}
-use Rattle.vector_runs.specs.declared.answering.ListFault.TheVariants.{Image, Line}
 use Rattle.image_commands.specs.declared.fault.Fault.TheVariants as fault
 use Rattle.vector_runs.specs.declared.playing.Played.{Played}
 use Rattle.vector_runs.specs.declared.playing.Played.TheVariants as played
@@ -29,13 +27,9 @@ same_length s [] (e ∷ es) d = absurd d
 same_length s (l ∷ ls) [] d = absurd d
 same_length s (l ∷ ls) (e ∷ es) d = ap suc (same_length s ls es d.1)
 
-dropped : (xs ys : List Entry) → drop (length xs) (xs ++ ys) ≡ ys
-dropped [] ys = refl
-dropped (x ∷ xs) ys = dropped xs ys
-
 -- the records behind those of before
 rest_is : (old new more : List Entry) (first : ℕ) → first ≡ length old → new ≡ old ++ more → new ≡ old ++ drop first new
-rest_is old new more first e h = h ∙ ap (λ v. old ++ v) (sym (ap (λ k. drop k new) e ∙ ap (drop (length old)) h ∙ dropped old more))
+rest_is old new more first e h = h ∙ ap (λ v. old ++ v) (sym (ap (λ k. drop k new) e ∙ ap (drop (length old)) h ∙ drop-append_seam old more))
 
 enough : (old new more : List Entry) (first n : ℕ) → first ≡ length old → new ≡ old ++ more → length more ≡ n → first + n ≤ length new
 enough old new more first n e h m = let l = ap length h ∙ length-append old more in omega (arith, e, m, l)
@@ -84,13 +78,6 @@ come (Err r) f k h = record {
   list_complete = list_complete r f h;
   script_complete = script_complete r f h;
 }
-
-pub not_listed : (x : ListFault) (lines : List VectorLine) (name : List ℕ) (old new : RigState) → CauseUnanswered x name lines old new → CauseNotListed (refused x) lines name old new
-not_listed (Line f) lines name old new c = c
-not_listed (Image (fault.Image x)) lines name old new c = c
-not_listed (Image (fault.BadCapacity dev)) lines name old new c = c
-not_listed (Image fault.RigFault) lines name old new c = c
-not_listed (Image fault.Memory) lines name old new c = c
 
 listed : (r : Result Played Refusal) (f : Facts) (lines : List VectorLine) → HoldsList lines f.left f.left_after → MatchResult r (λ p. ListPlayed p lines f.name f.rig f.rig_after) (λ x. CauseNotListed x lines f.name f.rig f.rig_after) →
     MatchResult r (λ p. HasPlayed p f) (λ x. CauseNotPlayed x f)

@@ -1,12 +1,11 @@
 -- The text of records, line by line.
-use Rattle.std.proofs.Common.{ℕ, suc, ◌||◌, ◌≡◌, ◌+◌, ◌<◌, ◌≤◌, List, [], ◌∷◌, ◌++◌, length, get_or, drop, sym, ap, ◌∙◌, add-one, drop-cons}
-use Rattle.std.specs.Prelude.{is_some}
+use Rattle.std.proofs.Common.{ℕ, suc, ◌≡◌, ◌+◌, ◌<◌, ◌≤◌, List, [], ◌∷◌, ◌++◌, length, get_or, drop, sym, ap, ◌∙◌, add-one, drop-cons}
 use Rattle.std.proofs.lemmas.List.{drop_all}
 use Rattle.rig_api.specs.Log.{Entry, entry_at, no_entry}
 use Rattle.rig_api.specs.declared.rig.Record.{Record}
 use Rattle.vector_lines.specs.Printed.{in_of, vector_line}
 use Rattle.vector_lines.specs.declared.line.VectorLine.{VectorLine}
-use Rattle.vector_runs.specs.ListText.{has_sense, line_text, lines_text}
+use Rattle.vector_runs.specs.ListText.{line_text, lines_text}
 
 -- the text from a line and its record on
 pub next_line : (i k : ℕ) (ls : List VectorLine) (es : List Entry) (l : VectorLine) → l ≡ get_or ls i l → i < length ls → k < length es →
@@ -17,10 +16,6 @@ next_line i k ls es l is h g =
     ∙ ap (λ (v : VectorLine). line_text v (entry_at es k) ++ lines_text (drop (suc i) ls) (drop (suc k) es)) (sym is)
     ∙ ap (λ n. line_text l (entry_at es k) ++ lines_text (drop n ls) (drop (suc k) es)) (sym (add-one i))
     ∙ ap (λ n. line_text l (entry_at es k) ++ lines_text (drop (i + 1) ls) (drop n es)) (sym (add-one k))
-
--- whether some record has a sense, from one on
-pub next_sense : (k : ℕ) (es : List Entry) → k < length es → has_sense (drop k es) ≡ (is_some (entry_at es k).what.outcome.sense || has_sense (drop (k + 1) es))
-next_sense k es g = ap has_sense (drop-cons es k no_entry g) ∙ ap (λ n. is_some (entry_at es k).what.outcome.sense || has_sense (drop n es)) (sym (add-one k))
 
 -- the line of a record, told by its parts
 pub told_line : (es : List Entry) (i : ℕ) (l : VectorLine) (r : Record) (cdb moved sent came : List ℕ) → r ≡ (entry_at es i).what → cdb ≡ r.cdb → moved ≡ (entry_at es i).moved → sent ≡ l.out → came ≡ in_of cdb moved →

@@ -1,7 +1,6 @@
 -- What a text holds, as the source held it.
-use Rattle.std.proofs.Common.{ℕ, ◌≡◌, ◌⊎◌, inl, inr, true, false, if◌then◌else◌, List, Option, Some, Result, Ok, Err, refl, sym, ap, subst, ◌∙◌}
+use Rattle.std.proofs.Common.{ℕ, ◌≡◌, inl, inr, true, false, if◌then◌else◌, List, Option, Some, Result, Ok, Err, sym, ap, subst, ◌∙◌}
 use Rattle.std.specs.Prelude.{IfErr, IfOk, MatchResult}
-use Rattle.script_lines.specs.declared.kind.ScriptKind.TheVariants.{Memory}
 use Rattle.script_text.specs.Language.{script_in}
 use Rattle.script_text.specs.declared.fault.ScriptFault.{ScriptFault}
 use Rattle.script_text.specs.declared.script.Script.{Script}
@@ -13,7 +12,6 @@ use Rattle.source_text.specs.Reading.{IsWhole}
 use Rattle.vector_lines.specs.Texts.{is_list, list_in}
 use Rattle.vector_lines.specs.declared.read.VectorFault.{VectorFault}
 use Rattle.vector_runs.specs.Taken.{CauseNotHeld, CauseNotTaken, HasTaken, Holds, as_script, list_fault, script_fault, text_fault}
-use Rattle.vector_runs.specs.Unplayed.{unplayed}
 use Rattle.vector_runs.specs.declared.wanted.Wanted.{Wanted}
 use Rattle.vector_runs.specs.declared.wanted.Wanted.TheVariants as wanted
 
@@ -22,18 +20,6 @@ list_at_fault text f l e = ap (λ b. if b then list_fault (list_in text) else sc
 
 pub script_at_fault : (text : List ℕ) (f : ScriptFault) → is_list (lines_of text) ≡ false → script_in text ≡ Err f → text_fault text ≡ Some f
 script_at_fault text f l e = ap (λ b. if b then list_fault (list_in text) else script_fault (script_in text)) l ∙ ap script_fault e
-
-pub script_unplayed : (text : List ℕ) (s : Script) (f : ScriptFault) → is_list (lines_of text) ≡ false → script_in text ≡ Ok s → unplayed s ≡ Some f → text_fault text ≡ Some f
-script_unplayed text s f l e u = ap (λ b. if b then list_fault (list_in text) else script_fault (script_in text)) l ∙ ap script_fault e ∙ u
-
--- a fault of another kind than want of memory is the text's
-pub list_bad : (text : List ℕ) (f : VectorFault) → is_list (lines_of text) ≡ true → (f.kind ≡ Memory → ⊥) → (f.kind ≡ Memory) ⊎ (list_in text ≡ Err f) → CauseNotHeld (refusal.Script (as_script f)) text
-list_bad text f l other (inl m) = absurd (other m)
-list_bad text f l other (inr e) = inr (as_script f, refl, list_at_fault text f l e)
-
-pub script_bad : (text : List ℕ) (f : ScriptFault) → is_list (lines_of text) ≡ false → (f.kind ≡ Memory → ⊥) → (f.kind ≡ Memory) ⊎ (script_in text ≡ Err f) → CauseNotHeld (refusal.Script f) text
-script_bad text f l other (inl m) = absurd (other m)
-script_bad text f l other (inr e) = inr (f, refl, script_at_fault text f l e)
 
 -- ---- over a source
 
