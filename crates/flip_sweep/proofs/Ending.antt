@@ -1,8 +1,9 @@
 -- How the parts of a sweep's text follow one another, and what a sweep comes to.
-use Rattle.std.proofs.Common.{◌≡◌, ℕ, ◌≤◌, inl, inr, Bool, ltb, List, ◌++◌, Option, Result, Ok, Err, OnErr, refl, sym, ap, subst, ◌∙◌, arith}
+use Rattle.std.proofs.Common.{◌≡◌, ℕ, ◌≤◌, Bool, ltb, List, ◌++◌, Option, Result, Ok, Err, OnErr, refl, sym, ap, subst, ◌∙◌}
 use Rattle.std.specs.Prelude.{IfOk, IsErrOf, OnOk}
 use Rattle.dix_base.specs.Told.{Appended, AppendedSome, Rose}
 use Rattle.report_text.proofs.Flow.{appended_both, part_first, part_second, whole_is_part}
+use Rattle.target_model.proofs.Bytes.{rise}
 use Rattle.flip_sweep.specs.Flips.{sites_of}
 use Rattle.flip_sweep.specs.Rows.{first_line, last_line, none_yet}
 use Rattle.flip_sweep.specs.Swept.{IsFree, Sweep, SweepEnds, all_rows, counts_of, counts_with, sweep_text, unseen_in}
@@ -14,10 +15,6 @@ use Rattle.flip_sweep.specs.declared.sweep.Unswept.{Unswept}
 use Rattle.flip_sweep.specs.declared.sweep.Unswept.TheVariants as unswept
 
 -- ---- counts of faults
-
-pub rose_since : (o p q : ℕ) → o ≤ p → Rose p q → Rose o q
-rose_since o p q l (inl r) = inl (omega (arith, l, r))
-rose_since o p q l (inr r) = inr r
 
 -- ---- the parts of the text
 
@@ -75,7 +72,7 @@ part_of (Err x) w o p a b c h e = subst (λ t. AppendedSome (sweep_text w) a t) 
 
 -- it didn't
 pub fails : (r : Result Counts Halt) (w : Sweep) (o p q : ℕ) (a b c : Option (List ℕ)) → IsWritten r w o p a b → Rose p q → c ≡ b → SweepEnds (Err (unswept.Halted halt.Sink)) w o q a c
-fails r w o p q a b c h k e = (h.free, rose_since o p q h.count k, part_of r w o p a b c h e)
+fails r w o p q a b c h k e = (h.free, rise o p q h.count k, part_of r w o p a b c h e)
 
 -- the script that is swept is the one that was handed in
 pub ended_by : (result : Result Bool Unswept) (r : Result Counts Halt) (w v : Sweep) (o p q : ℕ) (a b c : Option (List ℕ)) → w ≡ v → result ≡ unseen_in r → IsWritten r w o p a b → q ≡ p → c ≡ b → SweepEnds result v o q a c

@@ -9,21 +9,10 @@ use Rattle.target_answer.specs.Frames.{frames_of, stored_size}
 use Rattle.target_answer.specs.Headers.{all_bytes, bytes_of, is_spec}
 use Rattle.target_answer.specs.Image.{units_from}
 use Rattle.target_answer.specs.declared.units.UnitSpec.{UnitSpec}
+use Rattle.block_lines.proofs.Frames.{next_frame}
 use Rattle.flip_sweep.specs.Verdicts.{first_spoilt, first_spoilt_from, new_finding, or_else, spoilt_of}
 use Rattle.flip_sweep.specs.declared.verdict.Verdict.{Verdict}
 use Rattle.flip_sweep.specs.declared.verdict.Verdict.TheVariants.{Scrub}
-
-next_frame : (len n : ℕ) (bytes : List ℕ) → 0 < n → frames_of len n bytes ≡ take len bytes ∷ frames_of len (n - 1) (drop len bytes)
-next_frame len zero bytes h = absurd (omega arith)
-next_frame len (suc n) bytes h = let e : suc n - 1 ≡ n = omega arith in rw e refl
-
-less_one : (n len : ℕ) → 0 < n → n * len ≡ len + (n - 1) * len
-less_one zero len h = absurd (omega arith)
-less_one (suc n) len h = let e : suc n - 1 ≡ n = omega arith in rw e (grind arith)
-
--- the bytes behind the first frame
-pub shorter : (n len m : ℕ) (bytes more : List ℕ) → 0 < n → length bytes ≡ n * len → m ≡ len → more ≡ drop m bytes → length more ≡ (n - 1) * len
-shorter n len m bytes more h l e r = let k = less_one n len h in let d = ap length r ∙ length-drop m bytes in omega (arith, k, d, l, e)
 
 -- the first of some blocks, and those behind it
 pub next_block : (ty : PiType) (size dev lba len n : ℕ) (was now : List ℕ) → 0 < n

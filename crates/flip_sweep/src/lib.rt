@@ -1,5 +1,5 @@
-//! A script run in memory over freshly formatted units, once for each byte of a frame and each crossing at which it may be
-//! altered: who finds it, and what nobody finds.
+//! A script run in memory over freshly formatted units, once for each byte of a frame and each crossing at which it may
+//! be altered: who finds it, and what nobody finds.
 #![tactic(auto)]
 
 mod copying;

@@ -78,7 +78,8 @@ fn first_in(dev: u32, unit: UnitSpec, was: &[u8], now: &[u8]) -> Option<Verdict>
     requires was { length was.now ≡ unit.blocks * stored_size unit.ty unit.size }
     requires now { length now.now ≡ unit.blocks * stored_size unit.ty unit.size }
     requires end { unit.first + unit.blocks < 2 ^ 64 }
-    ensures { result ≡ first_spoilt_from unit.ty unit.size dev unit.first (frames_of (stored_size unit.ty unit.size) unit.blocks was.now) (frames_of (stored_size unit.ty unit.size) unit.blocks now.now) }
+    ensures { result ≡ first_spoilt_from unit.ty unit.size dev unit.first
+        (frames_of (stored_size unit.ty unit.size) unit.blocks was.now) (frames_of (stored_size unit.ty unit.size) unit.blocks now.now) }
 {
     let len = stored_size(unit.ty, unit.size) as usize;
     let mut lba = unit.first;

@@ -44,8 +44,8 @@ pub enum Unswept {
     Halted(Halt),
 }
 
-/// What stays from run to run: the units, a rig over their formatted image, the script, what its run as it is came to, and
-/// the byte by which others are altered.
+/// What stays from run to run: the units, a rig over their formatted image, the script, what its run as it is came to,
+/// and the byte by which others are altered.
 #[derive(Drop)]
 pub(crate) struct Ground<'a> {
     units: &'a [UnitSpec],
@@ -305,13 +305,14 @@ fn has_unseen(ended: Result<Counts, Halt>) -> Result<bool, Unswept>
     }
 }
 
-/// Runs the script over these units, freshly formatted in memory, once as it is and then once for each byte of a frame at
-/// each crossing of each block of its reads and writes, with this byte, which isn't 0, as the bits that are flipped there;
-/// writes what each of these flips comes to, and says whether some are seen by nobody. The sink passes on all that it holds.
+/// Runs the script over these units, freshly formatted in memory, once as it is and then once for each byte of a frame
+/// at each crossing of each block of its reads and writes, with this byte, which isn't 0, as the bits that are flipped
+/// there; writes what each of these flips comes to, and says whether some are seen by nobody. The sink passes on all
+/// that it holds.
 ///
-/// `Stopped` comes where the script comes to no run, or has a `fault`, `shift` or `overwrite` line of its own; then nothing
-/// was written. After `Halted` the beginning of the text was written; `Sink` comes only where the sink's count of faults
-/// rose.
+/// `Stopped` comes where the script comes to no run, or has a `fault`, `shift` or `overwrite` line of its own; then
+/// nothing was written. After `Halted` the beginning of the text was written; `Sink` comes only where the sink's count
+/// of faults rose.
 pub fn sweep_script<O: Sink>(
     alloc: Global,
     byte: u8,
