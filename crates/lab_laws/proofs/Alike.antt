@@ -3,7 +3,6 @@ use Rattle.std.proofs.Common.{◌≡◌, ℕ, true, eqb, ◌&&◌, List, [], ◌
 use Rattle.std.specs.Prelude.{if◌then◌else◌, unwrap_or}
 use Rattle.std.specs.Str.{bytes_eq}
 use Rattle.std.proofs.lemmas.Bool.{and_from, eq-eqb}
-use Rattle.std.proofs.lemmas.Slice.Eq.{bytes_eq-Decides}
 use Rattle.pi_tuple.specs.declared.checks.Check.{Check}
 use Rattle.pi_tuple.specs.declared.checks.Check.TheVariants.{Guard, AppTag, RefTag}
 use Rattle.bio_core.specs.declared.fate.Why.{Why}
@@ -17,6 +16,7 @@ use Rattle.script_laws.specs.Keeping.{Each}
 use Rattle.flip_sweep.specs.Comes.{CameTo}
 use Rattle.flip_sweep.specs.Verdicts.{are_same_blocks, are_same_replies, first_spoilt, is_same, is_same_block, is_same_check, is_same_reply, is_same_why, verdict_of}
 use Rattle.flip_sweep.specs.declared.verdict.Verdict.TheVariants.{Same, Unseen}
+use Rattle.image_scripts.proofs.FreshHead.{same_bytes}
 use Rattle.lab_laws.proofs.Listing.{IsQuiet, found_nowhere}
 use Rattle.lab_laws.proofs.Scrubbed.{same_units}
 
@@ -40,9 +40,6 @@ same_why why.Short = refl
 same_blocks : (bs : List BadBlock) → are_same_blocks bs bs ≡ true
 same_blocks [] = refl
 same_blocks (b ∷ bs) = and_from (is_same_block b b) (are_same_blocks bs bs) (and_from (eqb b.k b.k) (is_same_why b.why b.why) (itself b.k) (same_why b.why)) (same_blocks bs)
-
-same_bytes : (xs : List ℕ) → bytes_eq xs xs ≡ true
-same_bytes xs = (bytes_eq-Decides xs xs).1 refl
 
 same_reply : (r : Reply) → is_same_reply r r ≡ true
 same_reply reply.Silent = refl

@@ -20,7 +20,6 @@ use Rattle.volume_table.specs.Tables.{IsOn, MadeFor, Table}
 use Rattle.volume_table.specs.declared.device.DeviceInfo.{DeviceInfo}
 use Rattle.volume_table.proofs.Laws.{made}
 use Rattle.dix_adapter.specs.Ways.{blocks_told, cell_in, shapes_of}
-use Rattle.block_path.specs.Acts.{State}
 use Rattle.block_path.specs.Routes.{target}
 use Rattle.whole_run.specs.CalmRun.{LiesIn}
 use Rattle.whole_run.specs.Settings.{Setting}
@@ -39,7 +38,7 @@ use Rattle.script_text.specs.declared.script.Script.{Script}
 use Rattle.script_verdict.specs.Verdict.{devices_of}
 use Rattle.script_verdict.proofs.Tables.{all_end}
 use Rattle.image_layout.proofs.Heads.{layout_parts}
-use Rattle.image_scripts.specs.Over.{opening_over, setting_over, volume_over}
+use Rattle.image_scripts.specs.Over.{setting_over, volume_over}
 use Rattle.image_scripts.proofs.Told.{devices_back, stored_back}
 use Rattle.flip_sweep.specs.Flips.{bad_if, fault_before, overwrite_fault, with_flip}
 use Rattle.flip_sweep.specs.Swept.{Sweep}
@@ -88,9 +87,6 @@ module _ (w : Sweep) (h : IsGuarded w) where
   -- the setting of the run as it is
   abbrev pub own : Setting
   own = setting_over s image
-
-  abbrev pub opening : State
-  opening = opening_over s image
 
   pub few : length w.units ≤ 8
   few = (layout_parts w.units h.layout).1

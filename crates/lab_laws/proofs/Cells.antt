@@ -47,7 +47,3 @@ shapes_back [] b = refl
 shapes_back (u ∷ us) b =
     ap (λ n. record { ty = u.ty; blocks = n; size = u.size; first = u.first } ∷ shapes_of (units_from us (drop (bytes_of u) b))) (length_frames (stored_size u.ty u.size) u.blocks b)
     ∙ ap (λ rest. u ∷ rest) (shapes_back us (drop (bytes_of u) b))
-
-pub length_units : (us : List UnitSpec) (b : List ℕ) → length (units_from us b) ≡ length us
-length_units [] b = refl
-length_units (u ∷ us) b = ap suc (length_units us (drop (bytes_of u) b))

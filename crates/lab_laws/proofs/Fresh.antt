@@ -1,14 +1,12 @@
 -- The blocks of a formatted image: their sizes, and that none is an escape.
-use Rattle.std.proofs.Common.{◌≡◌, ◌<◌, ◌≤◌, ℕ, zero, suc, ◌+◌, false, List, [], ◌∷◌, ◌++◌, length, get_or, map, replicate, refl, sym, ap, ◌∙◌, length-append}
+use Rattle.std.proofs.Common.{◌≡◌, ◌<◌, ◌≤◌, ℕ, zero, suc, ◌+◌, false, List, [], ◌∷◌, ◌++◌, length, get_or, map, replicate, refl, sym, ap, ◌∙◌}
 use Rattle.std.specs.Prelude.{All, bit_and}
 use Rattle.std.specs.Int.Bits.{and_zero_r}
 use Rattle.std.proofs.lemmas.Bool.{eq-eqb}
-use Rattle.std.proofs.lemmas.List.{length-replicate, map-append}
+use Rattle.std.proofs.lemmas.List.{map-append}
 use Rattle.std.proofs.lemmas.List.Elements.{All-cons, All-nil}
-use Rattle.pi_tuple.specs.Finds.{is_escaped, is_zero, own_tag}
-use Rattle.pi_tuple.specs.Tuples.{tuple_bytes}
+use Rattle.pi_tuple.specs.Finds.{is_escaped, is_zero}
 use Rattle.pi_tuple.specs.declared.checks.PiType.{PiType}
-use Rattle.pi_tuple.specs.declared.checks.PiType.TheVariants.{Zero, One, Two, Three}
 use Rattle.target_answer.specs.Frames.{stored_size, tuple_of}
 use Rattle.target_answer.specs.Image.{formatted, fresh, fresh_from, units_in}
 use Rattle.target_answer.specs.Target.{Stored}
@@ -21,13 +19,8 @@ use Rattle.whole_run.specs.Settings.{Setting}
 use Rattle.whole_run.specs.UnderMap.{home}
 use Rattle.script_ground.specs.Units.{AreStored}
 use Rattle.script_premises.proofs.Fresh.{fresh_unit, formatted_clean}
+use Rattle.image_scripts.proofs.FreshHead.{fresh_long}
 use Rattle.lab_laws.proofs.Scrubbed.{sizes_of}
-
-fresh_long : (ty : PiType) (size lba : ℕ) → length (fresh ty size lba) ≡ stored_size ty size
-fresh_long Zero size lba = length-replicate size 0
-fresh_long One size lba = length-append (replicate size 0) (tuple_bytes (record { guard = 0; app = 0; rtag = own_tag One lba })) ∙ ap (λ n. n + 8) (length-replicate size 0)
-fresh_long Two size lba = length-append (replicate size 0) (tuple_bytes (record { guard = 0; app = 0; rtag = own_tag Two lba })) ∙ ap (λ n. n + 8) (length-replicate size 0)
-fresh_long Three size lba = length-append (replicate size 0) (tuple_bytes (record { guard = 0; app = 0; rtag = own_tag Three lba })) ∙ ap (λ n. n + 8) (length-replicate size 0)
 
 run_stored : (ty : PiType) (size lba n : ℕ) → All (λ (b : List ℕ). length b ≡ stored_size ty size) (fresh_from ty size lba n)
 run_stored ty size lba zero = All-nil (λ (b : List ℕ). length b ≡ stored_size ty size)

@@ -80,9 +80,6 @@ module _ (m' : Setting) (even : m'.size % 2 ≡ 0) (image : List (List ℕ)) (li
   abbrev StepOther : Step → Type 0
   StepOther step = IsOther m' even image lies at op k off byte check step
 
-  abbrev gone : List Step → State → State
-  gone steps s = left m' even image lies at op k off byte check was steps s
-
   abbrev pub OpsFit : (i : ℕ) → List Op → Type 0
   OpsFit i [] = Unit {0}
   OpsFit i (o ∷ ops) = StepsFit (steps_of was i o) × OpsFit (suc i) ops

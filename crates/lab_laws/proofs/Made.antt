@@ -49,7 +49,8 @@ use Rattle.image_dumps.proofs.Putting.{imported_length}
 use Rattle.image_scripts.specs.Over.{blocks_in, setting_over, volume_over}
 use Rattle.lab_laws.specs.Clean.{ClaimsOnClean, FormatMakes, HoldsClean, ImportMakes, IsImported, IsMade, KeepsHead, RunsOnClean}
 use Rattle.lab_laws.proofs.Blocks.{made_clean}
-use Rattle.lab_laws.proofs.Cells.{length_units, shapes_back, there}
+use Rattle.lab_laws.proofs.Cells.{shapes_back, there}
+use Rattle.image_dumps.proofs.Importing.{length_units}
 
 -- ---- a block of such a unit
 

@@ -98,23 +98,11 @@ module _ (m' : Setting) (even : m'.size % 2 ≡ 0) where
   pub received_is_right : (b : Block) (x : List ℕ) → Whole n x → Right n Crc x → Right n kind (received (route plain b) x)
   received_is_right b x h r = received_right bare [] even no_bytes refl b x (to_fine x h) r
 
-  -- the frame of a write that nobody finds at fault is right at the host, and on the wire
-  host_right : (b : Block) (x : List ℕ) → Whole n x → adapter_finds_out (route plain b) x ≡ None → Right n kind x
-  host_right b x h none = guard_right n m'.mode.app m'.mode.mask (ref_tag (route plain b).lba) kind x h.escape none
-
+  -- the frame of a write that nobody finds at fault is right on the wire
   pub target_right : (b : Block) (x : List ℕ) → Whole n x → target_finds m' [] none_shifted b x ≡ None → Right n Crc x
   target_right b x h none = guard_right n m'.mode.app 0 (ref_tag (route plain b).lba) Crc x h.escape none
 
-  -- a frame with another guard is found at fault by each
-  adapter_finds : (b : Block) (x : List ℕ) → Whole n x → IsWrong n kind x → adapter_finds_out (route plain b) x ≡ Some Guard
-  adapter_finds b x h w = guard_found m'.mode.app m'.mode.mask (ref_tag (route plain b).lba) (guard_of kind (data_of n x)) (tuple_of n x) h.escape w
-
-  pub wrong_at_target : (b : Block) (x : List ℕ) → Whole n x → IsWrong n Crc x → target_finds m' [] none_shifted b x ≡ Some Guard
-  wrong_at_target b x h w = guard_found m'.mode.app 0 (ref_tag (route plain b).lba) (guard_of Crc (data_of n x)) (tuple_of n x) h.escape w
-
-  adapter_finds_back : (b : Block) (x : List ℕ) → Whole n x → IsWrong n Crc x → adapter_finds_in (route plain b) x ≡ Some Guard
-  adapter_finds_back b x h w = guard_found m'.mode.app m'.mode.mask (ref_tag (route plain b).lba) (guard_of Crc (data_of n x)) (tuple_of n x) h.escape w
-
+  -- a frame with another guard is found at fault
   pub owner_finds_it : (b : Block) (x : List ℕ) → Whole n x → IsWrong n kind x → owner_finds (route plain b) (mapped_back (route plain b) x) ≡ Some Guard
   owner_finds_it b x h w =
       let y = mapped_back (route plain b) x in

@@ -1,9 +1,7 @@
 -- Over a formatted image the run of a script without `expect` and `writepi` lines lists nothing.
 use Rattle.std.proofs.Common.{◌≡◌, ◌<◌, ℕ, zero, suc, true, false, List, [], ◌∷◌, get_or, map, None, refl, sym, ap, subst, ◌∙◌}
-use Rattle.std.specs.Prelude.{bit_and}
-use Rattle.std.specs.Int.Bits.{and_zero_r}
 use Rattle.std.specs.List.{list_all}
-use Rattle.std.proofs.lemmas.Bool.{and_parts, eq-eqb, false≢true}
+use Rattle.std.proofs.lemmas.Bool.{and_parts, false≢true}
 use Rattle.integrity_payload.specs.declared.payload.Owner.TheVariants.{Block as OfBlock, App as OfApp}
 use Rattle.stack_ops.specs.declared.op.Op.{Op}
 use Rattle.stack_ops.specs.declared.op.Op.TheVariants.{Fetch, FetchPi, Fill, Overwrite, Put, Seal, Show, Wait, Write, WritePi}
@@ -17,7 +15,7 @@ use Rattle.dix_adapter.specs.Ways.{blocks_told}
 use Rattle.block_path.specs.Acts.{State}
 use Rattle.block_path.specs.Blocks.{Answer}
 use Rattle.block_path.specs.Serial.{plain_tells}
-use Rattle.whole_run.specs.PlainMap.{Plain, as_expected, finds_plainly, listed_by, plain_answer, plain_replies_from, plain_step}
+use Rattle.whole_run.specs.PlainMap.{Plain, finds_plainly, listed_by, plain_answer, plain_replies_from, plain_step}
 use Rattle.whole_run.specs.ScriptWalk.{bad_from, replies_from, reply_of}
 use Rattle.whole_run.specs.Settings.{Setting, block_of}
 use Rattle.whole_run.specs.Steps.{Reads, Step, Writes, body_of, each_from, frame_at, steps_of}
@@ -32,13 +30,10 @@ use Rattle.script_text.specs.declared.script.Script.{Script}
 use Rattle.image_scripts.specs.Over.{opening_over, setting_over, volume_over}
 use Rattle.image_scripts.proofs.Told.{stored_back}
 use Rattle.flip_sweep.specs.Swept.{Sweep}
+use Rattle.whole_run.proofs.CalmWays.{unmasked}
 use Rattle.lab_laws.specs.Flips.{IsGuarded, IsPlainSweep, PlainIsQuiet}
 use Rattle.lab_laws.proofs.Bound.{blocks_below, bound, cells, few, no_overwrite, on, unfaulted}
 use Rattle.lab_laws.proofs.Listing.{IsQuiet, lists_request}
-
--- where none is expected every application tag is
-any_expected : (m : Setting) (app : ℕ) → m.mode.mask ≡ 0 → as_expected m app ≡ true
-any_expected m app e = eq-eqb (bit_and app m.mode.mask) (bit_and m.mode.app m.mode.mask) (ap (bit_and app) e ∙ and_zero_r app ∙ sym (ap (bit_and m.mode.app) e ∙ and_zero_r m.mode.app))
 
 module _ (m : Setting) (mask : m.mode.mask ≡ 0) where
   abbrev answers : List Step → Plain → List Answer
@@ -53,7 +48,7 @@ module _ (m : Setting) (mask : m.mode.mask ≡ 0) where
       ap (λ w. bad_from i (w ∷ map (λ (a : Answer). a.why) (answers (each_from (suc j) c f) (plain_step m (f j) s)))) (h j s) ∙ none_bad (suc j) c (suc i) f (plain_step m (f j) s) h
 
   write_silent : (app : ℕ) → (listed_by (finds_plainly m app)).why ≡ None
-  write_silent app = let e = any_expected m app mask in rw e refl
+  write_silent app = let e = unmasked m app mask in rw e refl
 
   op_quiet : (i : ℕ) (o : Op) (s : Plain) → supplies_none o ≡ true → IsQuiet (reply_of false o (answers (steps_of m i o) s))
   op_quiet i (Fill seg value) s h = refl
@@ -106,7 +101,7 @@ module _ (w : Sweep) (h : IsPlainSweep w) where
   clean : AreClean own (blocks_told us)
   clean v l z =
       subst (λ (us : List Stored). IsClean own (address_of own v) (get_or (blocks_told us) (home own v) [])) (sym (stored_back w.units g.layout))
-      (formatted_clean own w.units (few w g) z (any_expected own 0 h.expect) (cells w g) v (address_of own v) l (there v l))
+      (formatted_clean own w.units (few w g) z (unmasked own 0 h.expect) (cells w g) v (address_of own v) l (there v l))
 
   quiet : Each IsQuiet (replies_from own 1 s.ops opening)
   quiet =

@@ -1,4 +1,5 @@
-//! Calls whose source, one of whose stores or whose sink fails at each of its calls in turn, or whose sink has a byte more room each time.
+//! Calls whose source, one of whose stores or whose sink fails at each of its calls in turn, or whose sink has a byte
+//! more room each time.
 
 use crate::calls::{Came, came_over};
 use crate::images::Images;

@@ -422,12 +422,12 @@ refused_words f refusal.Memory c e = absurd (cc)
 refused_image : (f : Facts) (r : Refusal) → CauseByCommand (command_in f.words) r f → status_of r ≡ status.Image → IsAtFault f
 refused_image f refusal.Words c e = absurd (cc)
 refused_image f (refusal.Image x) c e = inl (x, bad_head (command_in f.words) x f c)
-refused_image f (refusal.Place x) c e = let k = no_place (command_in f.words) x f c in inr (inl (k.0, x, k.1, k.2))
-refused_image f refusal.NoTuples c e = let k = no_tuples (command_in f.words) f c in inr (inr (inl (k.0, k.1, k.2, k.3)))
-refused_image f (refusal.SecondImage x) c e = let k = second_head (command_in f.words) x f c in inr (inr (inr (inl (k.0, k.1, k.2, inl (x, k.3)))))
-refused_image f (refusal.SecondPlace x) c e = let k = second_place (command_in f.words) x f c in inr (inr (inr (inl (k.0, k.1, k.2, inr (inl (x, k.3))))))
-refused_image f refusal.OtherSize c e = let k = other_size (command_in f.words) f c in inr (inr (inr (inl (k.0, k.1, k.2, inr (inr (inl k.3))))))
-refused_image f refusal.OtherCount c e = let k = other_count (command_in f.words) f c in inr (inr (inr (inl (k.0, k.1, k.2, inr (inr (inr k.3))))))
+refused_image f (refusal.Place x) c e = let k = no_place (command_in f.words) x f c in inr (inl (record { place = k.0; fault = x; named = k.1; none = k.2 }))
+refused_image f refusal.NoTuples c e = let k = no_tuples (command_in f.words) f c in inr (inr (inl (record { place = k.0; layout = k.1; named = k.2; none = k.3 })))
+refused_image f (refusal.SecondImage x) c e = let k = second_head (command_in f.words) x f c in inr (inr (inr (inl (record { one = k.0; other = k.1; named = k.2; second = inl (x, k.3) }))))
+refused_image f (refusal.SecondPlace x) c e = let k = second_place (command_in f.words) x f c in inr (inr (inr (inl (record { one = k.0; other = k.1; named = k.2; second = inr (inl (x, k.3)) }))))
+refused_image f refusal.OtherSize c e = let k = other_size (command_in f.words) f c in inr (inr (inr (inl (record { one = k.0; other = k.1; named = k.2; second = inr (inr (inl k.3)) }))))
+refused_image f refusal.OtherCount c e = let k = other_count (command_in f.words) f c in inr (inr (inr (inl (record { one = k.0; other = k.1; named = k.2; second = inr (inr (inr k.3)) }))))
 refused_image f (refusal.Short x) c e = absurd (cc)
 refused_image f refusal.Long c e = absurd (cc)
 refused_image f refusal.RigFault c e = absurd (cc)
@@ -459,9 +459,9 @@ refused_input f (refusal.SecondPlace x) c e = absurd (cc)
 refused_input f refusal.OtherSize c e = absurd (cc)
 refused_input f refusal.OtherCount c e = absurd (cc)
 refused_input f (refusal.Short x) c e = let k = short_dump (command_in f.words) x f c in let b = k.3 in
-    (k.0, k.1, b.units, b.at, k.2, b.taken.found, short_other k.1 b.units b.at x f.first.bytes f.first_after.bytes f.left f.left_after b.taken.ends)
+    record { place = k.0; layout = k.1; units = b.units; at = b.at; named = k.2; found = b.taken.found; other = short_other k.1 b.units b.at x f.first.bytes f.first_after.bytes f.left f.left_after b.taken.ends }
 refused_input f refusal.Long c e = let k = long_dump (command_in f.words) f c in let b = k.3 in
-    (k.0, k.1, b.units, b.at, k.2, b.taken.found, long_other k.1 b.units b.at b.taken.ends.0 f.first.bytes f.first_after.bytes f.left f.left_after b.taken.ends.1)
+    record { place = k.0; layout = k.1; units = b.units; at = b.at; named = k.2; found = b.taken.found; other = long_other k.1 b.units b.at b.taken.ends.0 f.first.bytes f.first_after.bytes f.left f.left_after b.taken.ends.1 }
 refused_input f refusal.RigFault c e = absurd (cc)
 refused_input f refusal.ReadFault c e = absurd (cc)
 refused_input f refusal.Memory c e = absurd (cc)
@@ -555,10 +555,6 @@ words_done (inr e) = cc
 image_done : IsDone status.Image → ⊥
 image_done (inl e) = cc
 image_done (inr e) = cc
-
-input_done : IsDone status.Input → ⊥
-input_done (inl e) = cc
-input_done (inr e) = cc
 
 reads_done : IsDone status.ReadFault → ⊥
 reads_done (inl e) = cc
@@ -833,15 +829,15 @@ ran_of_no_store (Some (Import place layout)) w f image h i = h
 ran_of_no_store (Some Judge) w f image h i = h
 ran_of_no_store (Some Vectors) w f image h (inl i) = i
 ran_of_no_store (Some Vectors) w f image h (inr (inl i)) = i
-ran_of_no_store (Some Vectors) w f image h (inr (inr (inl i))) = let k : ◌≡◌ {A = Option Command} (Some Vectors) (Some (Diff i.0 i.1)) = i.2 in absurd (cc)
+ran_of_no_store (Some Vectors) w f image h (inr (inr (inl i))) = let k : ◌≡◌ {A = Option Command} (Some Vectors) (Some (Diff i.one i.other)) = i.named in absurd (cc)
 ran_of_no_store (Some Vectors) w f image h (inr (inr (inr i))) = i
 ran_of_no_store (Some Explain) w f image h (inl i) = i
 ran_of_no_store (Some Explain) w f image h (inr (inl i)) = i
-ran_of_no_store (Some Explain) w f image h (inr (inr (inl i))) = let k : ◌≡◌ {A = Option Command} (Some Explain) (Some (Diff i.0 i.1)) = i.2 in absurd (cc)
+ran_of_no_store (Some Explain) w f image h (inr (inr (inl i))) = let k : ◌≡◌ {A = Option Command} (Some Explain) (Some (Diff i.one i.other)) = i.named in absurd (cc)
 ran_of_no_store (Some Explain) w f image h (inr (inr (inr i))) = i
 ran_of_no_store (Some (Sweep byte units)) w f image h (inl i) = i
 ran_of_no_store (Some (Sweep byte units)) w f image h (inr (inl i)) = i
-ran_of_no_store (Some (Sweep byte units)) w f image h (inr (inr (inl i))) = let k : ◌≡◌ {A = Option Command} (Some (Sweep byte units)) (Some (Diff i.0 i.1)) = i.2 in absurd (cc)
+ran_of_no_store (Some (Sweep byte units)) w f image h (inr (inr (inl i))) = let k : ◌≡◌ {A = Option Command} (Some (Sweep byte units)) (Some (Diff i.one i.other)) = i.named in absurd (cc)
 ran_of_no_store (Some (Sweep byte units)) w f image h (inr (inr (inr i))) = i
 
 completes : (f : Facts) (image : List ℕ) (v : Verdict) → f.first.bytes ≡ Some image → IsRight (command_in f.words) f image → AreCalm (command_in f.words) f → Cause v f → IsDone (verdict_status v) ⊎ (verdict_status v ≡ status.Memory)
@@ -900,7 +896,7 @@ wrong_found f image us at place layout b h (inr (inr w)) =
 wrong_compared : (f : Facts) (image : List ℕ) (one other : Place) (p : Places) (ones twos : List (List ℕ)) → f.first.bytes ≡ Some image → HaveBoth one other p f → AreOneSize p → p.at.count ≡ p.to.count → IsWrong (Some (Diff one other)) f image → ⊥
 wrong_compared f image one other p ones twos b h s m (inl w) = wrong_head f image p.units w.0 b h.first.opened w.1
 wrong_compared f image one other p ones twos b h s m (inr (inl w)) = wrong_place f image p.units p.at one b h.first.opened h.first.there w
-wrong_compared f image one other p ones twos b h s m (inr (inr w)) = no_other p w.1 (told_places f image w.0 one other p w.1 b w.2 h w.3 w.4 w.5 w.6) s m w.7
+wrong_compared f image one other p ones twos b h s m (inr (inr w)) = no_other p w.places (told_places f image w.second one other p w.places b w.told h w.units w.others w.there w.other_there) s m w.differ
 
 -- an image at fault isn't one that a dump was taken for
 wrong_dump : (c : Option Command) (f : Facts) (image : List ℕ) (place : Place) (layout : Layout) (us : List UnitSpec) (at : Stretch) → f.first.bytes ≡ Some image → c ≡ Some (Import place layout) → HasFound us at place layout f → IsWrong c f image → ⊥
@@ -965,19 +961,19 @@ second_refused one other f refusal.ReadFault e calm c = absurd c
 second_refused one other f refusal.Memory e calm c = inr refl
 
 seconds : (f : Facts) (image : List ℕ) (v : Verdict) → f.second.bytes ≡ Some image → IsSecondWrong (command_in f.words) image → AreCalm (command_in f.words) f → Cause v f → (verdict_status v ≡ status.Image) ⊎ (verdict_status v ≡ status.Memory)
-seconds f image (Refused r) b i calm c = second_refused i.0 i.1 f r i.2 calm (subst (λ (x : Option Command). CauseByCommand x r f) i.2 c)
-seconds f image Helped b i calm c = let k = sym c ∙ i.2 in absurd (cc)
-seconds f image Versioned b i calm c = let k = sym c ∙ i.2 in absurd (cc)
-seconds f image (Listed us) b i calm c = let k = sym c.named ∙ i.2 in absurd (cc)
-seconds f image (Shown us at blocks) b i calm c = let k = sym c.named ∙ i.2 in absurd (cc)
+seconds f image (Refused r) b i calm c = second_refused i.one i.other f r i.named calm (subst (λ (x : Option Command). CauseByCommand x r f) i.named c)
+seconds f image Helped b i calm c = let k = sym c ∙ i.named in absurd (cc)
+seconds f image Versioned b i calm c = let k = sym c ∙ i.named in absurd (cc)
+seconds f image (Listed us) b i calm c = let k = sym c.named ∙ i.named in absurd (cc)
+seconds f image (Shown us at blocks) b i calm c = let k = sym c.named ∙ i.named in absurd (cc)
 seconds f image (Compared p ones twos) b i calm c =
-    let both : ◌≡◌ {A = Option Command} (Some (Diff c.one c.other)) (Some (Diff i.0 i.1)) = sym c.named ∙ i.2 in
-    let same : c.other ≡ i.1 = cc in
-    absurd (opened_second f image c.one c.other p b c.both (subst (λ (x : Place). IsBadHead image ⊎ IsNoPlace x image) (sym same) i.3))
-seconds f image (Exported us at layout blocks) b i calm c = let k = sym c.named ∙ i.2 in absurd (cc)
-seconds f image (Imported us at count layout) b i calm c = let k = sym c.named ∙ i.2 in absurd (cc)
-seconds f image (Judged script) b i calm c = let k = sym c.named ∙ i.2 in absurd (cc)
-seconds f image (Marked text bad) b i calm c = let k = sym c.named ∙ i.2 in absurd (cc)
+    let both : ◌≡◌ {A = Option Command} (Some (Diff c.one c.other)) (Some (Diff i.one i.other)) = sym c.named ∙ i.named in
+    let same : c.other ≡ i.other = cc in
+    absurd (opened_second f image c.one c.other p b c.both (subst (λ (x : Place). IsBadHead image ⊎ IsNoPlace x image) (sym same) i.wrong))
+seconds f image (Exported us at layout blocks) b i calm c = let k = sym c.named ∙ i.named in absurd (cc)
+seconds f image (Imported us at count layout) b i calm c = let k = sym c.named ∙ i.named in absurd (cc)
+seconds f image (Judged script) b i calm c = let k = sym c.named ∙ i.named in absurd (cc)
+seconds f image (Marked text bad) b i calm c = let k = sym c.named ∙ i.named in absurd (cc)
 seconds f image (Ran w) b i calm c = absurd (ran_of_no_store (command_in f.words) w f image c (inr (inr (inl i))))
 
 second_refused_as : (f : Facts) (old new : Option (List ℕ)) (o n : ℕ) (result : Status) → Ended f old new o n result →
@@ -1097,7 +1093,7 @@ why f old new o n result ended = record {
   second = λ image b i cs co. second_refused_as f old new o n result ended image b i cs co;
   rig = λ e. rig_rose f old new o n result ended.verdict ended.cause ended.written e;
   sink = λ e. sink_rose f old new o n result ended.verdict ended.written e;
-  input = λ e. by_status f (IsDumpAtFault f ⊎ (IsScriptAtFault f ⊎ CameTo status.Input f)) status.Input ended.verdict ended.cause (λ r cause k. inl (refused_input f r cause k)) (λ m k. inr (inl m)) (λ x h k. inr (inr (x, k, h))) input_done (of_verdict f old new o n result status.Input ended.verdict ended.written e (λ k. cc) (λ k. cc));
+  input = λ e. by_status f (IsDumpAtFault f ⊎ (IsScriptAtFault f ⊎ CameTo status.Input f)) status.Input ended.verdict ended.cause (λ r cause k. inl (refused_input f r cause k)) (λ m k. inr (inl m)) (λ x h k. inr (inr (x, k, h))) not_input (of_verdict f old new o n result status.Input ended.verdict ended.written e (λ k. cc) (λ k. cc));
   dump = λ image b i cs co. dump_refused f old new o n result ended image b i cs co;
   reads = λ e. by_status f (Rose f.reads f.reads_after) status.ReadFault ended.verdict ended.cause (λ r cause k. refused_reads f r cause k) (λ m k. absurd (cc)) (λ x h k. ran_reads (command_in f.words) x f h (source_ending x.ending k)) reads_done (of_verdict f old new o n result status.ReadFault ended.verdict ended.written e (λ k. cc) (λ k. cc));
 }

@@ -2,6 +2,7 @@
 use Rattle.std.proofs.Common.{ℕ, ◌≡◌, ◌≤◌, inl, inr, Bool, true, false, eqb, ltb, List, Option, Some, Result, Ok, Err, refl, sym, ap, subst, ◌∙◌, arith}
 use Rattle.std.proofs.lemmas.Bool.{eq-eqb, eqb-true}
 use Rattle.dix_words.specs.Grammar.{image_in}
+use Rattle.image_walk.specs.Stores.{WasRead}
 use Rattle.image_blocks.specs.Blocks.{HasBlocks}
 use Rattle.image_blocks.specs.Images.{units_open}
 use Rattle.image_blocks.specs.Places.{spec_of}
@@ -24,7 +25,7 @@ use Rattle.lab_run.specs.Verdict.{CauseByCommand, CauseNotCompared, Compared, En
 use Rattle.lab_run.specs.declared.refusal.Refusal.{Refusal}
 use Rattle.lab_run.specs.declared.refusal.Refusal.TheVariants as refusal
 use Rattle.lab_run.specs.declared.status.Status.{Status}
-use Rattle.lab_run.proofs.Endings.{Goes, Tried, ended_refused, keeps_image, keeps_rig, keeps_source}
+use Rattle.lab_run.proofs.Endings.{Tried, ended_refused, keeps_image, keeps_rig, keeps_source}
 use Rattle.target_model.proofs.Bytes.{rise as rose_since}
 
 -- what a store is like that was opened, or wasn't
@@ -39,12 +40,12 @@ still name h = record { same = refl; opening = inl (refl, refl); count = omega a
 pub since_tried : (r : Result Image RigFault) (name : List ℕ) (old new : Held) → Tried r name old new → Kept name old new
 since_tried r name old new t = record { same = t.same; opening = t.opening; count = t.count }
 
-since_read : (image : Image) (name : List ℕ) (old mid new : Held) → Tried (Ok image) name old mid → Goes name old mid new → Kept name old new
-since_read image name old mid new t g = record { same = g.same ∙ t.same; opening = rw (g.named, g.openings) t.opening; count = (let a = t.count in let b = g.count in omega (arith, a, b)) }
+since_read : (image : Image) (name : List ℕ) (old mid new : Held) → Tried (Ok image) name old mid → WasRead mid new → Kept name old new
+since_read image name old mid new t g = record { same = g.same ∙ t.same; opening = rw (g.named, g.opened) t.opening; count = (let a = t.count in let b = g.count in omega (arith, a, b)) }
 
 -- the image that was opened, after its blocks were read
-opened_since : (image : Image) (name : List ℕ) (old mid new : Held) → Tried (Ok image) name old mid → Goes name old mid new → OpenedAs (units_open image) name old new
-opened_since image name old mid new t g = record { opened = rw (g.named, g.openings) t.opened; head = t.judged.head; right = t.judged.judged; told = t.judged.told; units = t.judged.units }
+opened_since : (image : Image) (name : List ℕ) (old mid new : Held) → Tried (Ok image) name old mid → WasRead mid new → OpenedAs (units_open image) name old new
+opened_since image name old mid new t g = record { opened = rw (g.named, g.opened) t.opened; head = t.judged.head; right = t.judged.judged; told = t.judged.told; units = t.judged.units }
 
 pub opened_in : (image : Image) (name : List ℕ) (old new : Held) → Tried (Ok image) name old new → OpenedAs (units_open image) name old new
 opened_in image name old new t = record { opened = t.opened; head = t.judged.head; right = t.judged.judged; told = t.judged.told; units = t.judged.units }
@@ -56,7 +57,7 @@ keeps_both words one other old new old_second new_second left reads rig e k s =
     record {
       source = keeps_source (command_in words) f refl refl;
       rig = keeps_rig (command_in words) f refl;
-      second = inr (ap uses_second e, s.same, s.opening, s.count);
+      second = inr (record { used = ap uses_second e; same = s.same; opening = s.opening; count = s.count });
       image = keeps_image (command_in words) f k.same;
       openings = k.opening;
       count = k.count;
@@ -145,12 +146,12 @@ other_count words one other old new old_second new_second left reads rig image b
 -- ---- places that are compared
 
 -- both stores as the images were opened, and after their blocks were read
-pub record Walked (words : List (List ℕ)) (old mid new old_second mid_second new_second : Held) : Type 0 where
-  pub first : Goes (image_in words) old mid new
-  pub second : Goes (second_in words) old_second mid_second new_second
+pub record Walked (mid new mid_second new_second : Held) : Type 0 where
+  pub first : WasRead mid new
+  pub second : WasRead mid_second new_second
 
 has_compared : (words : List (List ℕ)) (one other : Place) (old mid new old_second mid_second new_second : Held) (left : Option (List ℕ)) (reads : ℕ) (rig : RigState) (image beside : Image) (at to : Stretch) (ones twos : List (List ℕ)) →
-    command_in words ≡ Some (Diff one other) → Found words one other old mid old_second mid_second image beside at to → Walked words old mid new old_second mid_second new_second →
+    command_in words ≡ Some (Diff one other) → Found words one other old mid old_second mid_second image beside at to → Walked mid new mid_second new_second →
     (spec_of (units_open image) at.dev).size ≡ (spec_of (units_open beside) to.dev).size → at.count ≡ to.count → HaveBlocks (places (units_open image) at (units_open beside) to) ones twos mid.bytes mid_second.bytes →
     HasCompared (places (units_open image) at (units_open beside) to) ones twos (on_both words old new old_second new_second left reads rig)
 has_compared words one other old mid new old_second mid_second new_second left reads rig image beside at to ones twos e h g z m b = record {
@@ -171,7 +172,7 @@ has_compared words one other old mid new old_second mid_second new_second left r
 }
 
 pub compared : (words : List (List ℕ)) (one other : Place) (old mid new old_second mid_second new_second : Held) (left : Option (List ℕ)) (reads : ℕ) (rig : RigState) (image beside : Image) (at to : Stretch) (r : Result ℕ DiffFault) (taken taken' : Option (List ℕ)) (o n : ℕ) (result : Status) →
-    command_in words ≡ Some (Diff one other) → Found words one other old mid old_second mid_second image beside at to → Walked words old mid new old_second mid_second new_second →
+    command_in words ≡ Some (Diff one other) → Found words one other old mid old_second mid_second image beside at to → Walked mid new mid_second new_second →
     (spec_of (units_open image) at.dev).size ≡ (spec_of (units_open beside) to.dev).size → at.count ≡ to.count →
     DiffEnds r (diff_of (places (units_open image) at (units_open beside) to)) (places (units_open image) at (units_open beside) to) mid.bytes mid_second.bytes (counts mid.faults new.faults mid_second.faults new_second.faults o n) taken taken' → result ≡ compared_status r →
     Ended (on_both words old new old_second new_second left reads rig) taken taken' o n result

@@ -4,6 +4,7 @@ use Rattle.std.proofs.lemmas.List.{take-take}
 use Rattle.std.proofs.Math.Nat.{mul-le-mul_left, mul_comm}
 use Rattle.dix_base.specs.Told.{Becomes, IsAtEnd}
 use Rattle.dix_words.specs.Grammar.{image_in}
+use Rattle.image_walk.specs.Stores.{WasRead, WasWritten}
 use Rattle.image_blocks.specs.Blocks.{HasBlocks, blocks_at}
 use Rattle.image_blocks.specs.Images.{units_open}
 use Rattle.image_blocks.specs.Places.{spec_of}
@@ -40,7 +41,7 @@ use Rattle.lab_run.specs.declared.refusal.Refusal.{Refusal}
 use Rattle.lab_run.specs.declared.refusal.Refusal.TheVariants as refusal
 use Rattle.lab_run.specs.declared.status.Status.{Status}
 use Rattle.lab_run.specs.declared.status.Status.TheVariants as status
-use Rattle.lab_run.proofs.Endings.{Goes, Tried, ended_refused, keeps_on, keeps_rig, kept_on, on_opened, opened_on}
+use Rattle.lab_run.proofs.Endings.{Tried, ended_refused, keeps_on, keeps_rig, kept_on, on_opened, opened_on}
 
 -- a refusal that leaves the image and the source
 pub refused_still : (words : List (List ℕ)) (c : Command) (old new : Held) (left : Option (List ℕ)) (reads : ℕ) (rig : RigState) (second : Held) (r : Refusal) (taken taken' : Option (List ℕ)) (o n : ℕ) (result : Status) →
@@ -128,7 +129,7 @@ unfit_import words place layout old new left reads rig second image at b taken t
 -- ---- blocks that are exported
 
 shown_dump : (words : List (List ℕ)) (place : Place) (layout : Layout) (old mid new : Held) (left : Option (List ℕ)) (reads : ℕ) (rig : RigState) (second : Held) (image : Image) (at : Stretch) (r : Result (Unit {0}) DumpFault) (taken taken' : Option (List ℕ)) (o n : ℕ) (result : Status) →
-    command_in words ≡ Some (Export place layout) → Tried (Ok image) (image_in words) old mid → Goes (image_in words) old mid new → Ok at ≡ stretch_in (units_open image) place → fits (laid_as layout) (spec_of (units_open image) at.dev).ty ≡ true →
+    command_in words ≡ Some (Export place layout) → Tried (Ok image) (image_in words) old mid → WasRead mid new → Ok at ≡ stretch_in (units_open image) place → fits (laid_as layout) (spec_of (units_open image) at.dev).ty ≡ true →
     DumpEnds r (laid_as layout) (units_open image) at mid.bytes mid.faults new.faults o n taken taken' → result ≡ dumped_status r → Ended (on_first words old new left reads rig second) taken taken' o n result
 shown_dump words place layout old mid new left reads rig second image at (Ok x) taken taken' o n result e t g p z s w = record {
   verdict = Exported (units_open image) at layout s.blocks;
@@ -165,7 +166,7 @@ shown_dump words place layout old mid new left reads rig second image at (Err du
 }
 
 pub exported : (words : List (List ℕ)) (place : Place) (layout : Layout) (form : DumpLayout) (old mid new : Held) (left : Option (List ℕ)) (reads : ℕ) (rig : RigState) (second : Held) (image : Image) (at : Stretch) (r : Result (Unit {0}) DumpFault) (taken taken' : Option (List ℕ)) (o n : ℕ) (result : Status) →
-    form ≡ laid_as layout → command_in words ≡ Some (Export place layout) → Tried (Ok image) (image_in words) old mid → Goes (image_in words) old mid new → Ok at ≡ stretch_in (units_open image) place → fits (laid_as layout) (spec_of (units_open image) at.dev).ty ≡ true →
+    form ≡ laid_as layout → command_in words ≡ Some (Export place layout) → Tried (Ok image) (image_in words) old mid → WasRead mid new → Ok at ≡ stretch_in (units_open image) place → fits (laid_as layout) (spec_of (units_open image) at.dev).ty ≡ true →
     DumpEnds r form (units_open image) at mid.bytes mid.faults new.faults o n taken taken' → result ≡ dumped_status r → Ended (on_first words old new left reads rig second) taken taken' o n result
 exported words place layout form old mid new left reads rig second image at r taken taken' o n result fe e t g p z s w =
     shown_dump words place layout old mid new left reads rig second image at r taken taken' o n result e t g p z
@@ -176,10 +177,7 @@ exported words place layout form old mid new left reads rig second image at r ta
 -- the store as the image was opened, and after blocks of a stretch were written, and the source before and after
 pub record Writes (us : List UnitSpec) (at : Stretch) (mid new : Held) (reads reads_after : ℕ) : Type 0 where
   pub apart : KeepsOutside us at mid.bytes new.bytes
-  pub len : new.len ≡ mid.len
-  pub named : new.name ≡ mid.name
-  pub openings : new.openings ≡ mid.openings
-  pub count : mid.faults ≤ new.faults
+  pub store : WasWritten mid new
   pub sources : reads ≤ reads_after
 
 becomes : {P Q : List ℕ → List ℕ → Type 0} (a b : Option (List ℕ)) → ((x y : List ℕ) → P x y → Q x y) → Becomes P a b → Becomes Q a b
@@ -225,11 +223,11 @@ taken_by : (words : List (List ℕ)) (place : Place) (layout : Layout) (form : D
     ImportEnds r form (units_open image) at most mid.faults new.faults reads reads_after mid.bytes new.bytes left left_after → DumpTaken r (units_open image) at place layout (on_input words old new left left_after reads reads_after rig second)
 taken_by words place layout form most old mid new left left_after reads reads_after rig second image at r fe me t g p z s = record {
   found = record {
-    opened = record { opened = rw (g.named, g.openings) t.opened; head = t.judged.head; right = t.judged.judged; told = t.judged.told; units = t.judged.units };
+    opened = record { opened = rw (g.store.named, g.store.opened) t.opened; head = t.judged.head; right = t.judged.judged; told = t.judged.told; units = t.judged.units };
     there = sym p;
     fits = z;
   };
-  len = g.len ∙ t.judged.held;
+  len = g.store.len ∙ t.judged.held;
   opened_faults = mid.faults;
   since = t.count;
   ends =
@@ -257,8 +255,8 @@ keeps_by words place layout old mid new left left_after reads reads_after rig se
       rig = keeps_rig (command_in words) f refl;
       second = inl refl;
       image = subst (λ (c : Option Command). KeepsImage c f) (sym e) (inr around);
-      openings = rw (g.named, g.openings) t.opening;
-      count = (let a = t.count in let b = g.count in omega arith);
+      openings = rw (g.store.named, g.store.opened) t.opening;
+      count = (let a = t.count in let b = g.store.count in omega arith);
     }
 
 pub imports : (words : List (List ℕ)) (place : Place) (layout : Layout) (form : DumpLayout) (most : ℕ) (old mid new : Held) (left left_after : Option (List ℕ)) (reads reads_after : ℕ) (rig : RigState) (second : Held) (image : Image) (at : Stretch) (count : ℕ) (text : List ℕ) (taken taken' : Option (List ℕ)) (o n : ℕ) (result : Status) →

@@ -3,6 +3,7 @@ use Rattle.std.proofs.Common.{ℕ, ◌≡◌, ◌≤◌, inl, inr, List, Option,
 use Rattle.std.specs.Prelude.{IsErrOf}
 use Rattle.dix_base.specs.Told.{Rose}
 use Rattle.dix_words.specs.Grammar.{image_in}
+use Rattle.image_walk.specs.Stores.{WasRead}
 use Rattle.image_blocks.specs.Blocks.{HasBlocks}
 use Rattle.image_blocks.specs.Images.{IsJudged, units_open}
 use Rattle.image_blocks.specs.declared.image.Image.{Image}
@@ -167,28 +168,21 @@ unplaced words place old new left reads rig second image x taken taken' o n resu
 
 -- ---- blocks that are shown
 
--- the store as the image was opened, and after its blocks were read
-pub record Goes (name : List ℕ) (old mid new : Held) : Type 0 where
-  pub same : new.bytes ≡ mid.bytes
-  pub named : new.name ≡ mid.name
-  pub openings : new.openings ≡ mid.openings
-  pub count : mid.faults ≤ new.faults
-
-pub on_opened : (image : Image) (words : List (List ℕ)) (old mid new : Held) (left : Option (List ℕ)) (reads : ℕ) (rig : RigState) (second : Held) → Tried (Ok image) (image_in words) old mid → Goes (image_in words) old mid new → HasOpened (units_open image) (on_first words old new left reads rig second)
+pub on_opened : (image : Image) (words : List (List ℕ)) (old mid new : Held) (left : Option (List ℕ)) (reads : ℕ) (rig : RigState) (second : Held) → Tried (Ok image) (image_in words) old mid → WasRead mid new → HasOpened (units_open image) (on_first words old new left reads rig second)
 on_opened image words old mid new left reads rig second t g = record {
-  opened = rw (g.named, g.openings) t.opened;
+  opened = rw (g.named, g.opened) t.opened;
   head = t.judged.head;
   right = t.judged.judged;
   told = t.judged.told;
   units = t.judged.units;
 }
 
-pub keeps_on : (image : Image) (words : List (List ℕ)) (old mid new : Held) (left : Option (List ℕ)) (reads : ℕ) (rig : RigState) (second : Held) → Tried (Ok image) (image_in words) old mid → Goes (image_in words) old mid new → Keeps (on_first words old new left reads rig second)
+pub keeps_on : (image : Image) (words : List (List ℕ)) (old mid new : Held) (left : Option (List ℕ)) (reads : ℕ) (rig : RigState) (second : Held) → Tried (Ok image) (image_in words) old mid → WasRead mid new → Keeps (on_first words old new left reads rig second)
 keeps_on image words old mid new left reads rig second t g =
-    kept_on words old new left reads rig second (g.same ∙ t.same) (rw (g.named, g.openings) t.opening) (let a = t.count in let b = g.count in omega arith)
+    kept_on words old new left reads rig second (g.same ∙ t.same) (rw (g.named, g.opened) t.opening) (let a = t.count in let b = g.count in omega arith)
 
 pub shown : (words : List (List ℕ)) (place : Place) (old mid new : Held) (left : Option (List ℕ)) (reads : ℕ) (rig : RigState) (second : Held) (image : Image) (at : Stretch) (r : Result ℕ ShowFault) (taken taken' : Option (List ℕ)) (o n : ℕ) (result : Status) →
-    command_in words ≡ Some (ShowBlocks place) → Tried (Ok image) (image_in words) old mid → Goes (image_in words) old mid new → Ok at ≡ stretch_in (units_open image) place →
+    command_in words ≡ Some (ShowBlocks place) → Tried (Ok image) (image_in words) old mid → WasRead mid new → Ok at ≡ stretch_in (units_open image) place →
     ShowEnds r (text_of (units_open image) at) (units_open image) at mid.bytes mid.faults new.faults o n taken taken' → result ≡ shown_status r → Ended (on_first words old new left reads rig second) taken taken' o n result
 shown words place old mid new left reads rig second image at (Ok bad) taken taken' o n result e t g p s w = record {
   verdict = Shown (units_open image) at s.blocks;

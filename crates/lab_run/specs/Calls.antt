@@ -5,6 +5,7 @@ use Rattle.image_blocks.specs.declared.stretch.Stretch.{Stretch}
 use Rattle.image_dumps.specs.declared.layout.Layout.{Layout as DumpLayout}
 use Rattle.image_dumps.specs.declared.layout.Layout.TheVariants as dump
 use Rattle.image_layout.specs.Heads.{called}
+pub use Rattle.image_walk.specs.Stores.{Held, held}
 use Rattle.lab_words.specs.declared.command.Command.{Command}
 use Rattle.lab_words.specs.declared.command.Command.TheVariants.{Help, Version, ShowUnits, ShowBlocks, Diff, Export, Import, Vectors, Judge, Explain, Sweep}
 use Rattle.lab_words.specs.declared.layout.Layout.{Layout}
@@ -66,18 +67,7 @@ laid_as word.Interleaved = dump.Interleaved
 laid_as word.Plain = dump.Plain
 laid_as word.Tuples = dump.Tuples
 
--- a store at a moment: the bytes that it tells, their number, its count of faults, its name, and how often it was opened
-pub record Held : Type 0 where
-  pub bytes : Option (List ℕ)
-  pub len : ℕ
-  pub faults : ℕ
-  pub name : List ℕ
-  pub openings : ℕ
-
-abbrev pub held : Option (List ℕ) → (len faults : ℕ) → List ℕ → ℕ → Held
-held bytes len faults name openings = record { bytes = bytes; len = len; faults = faults; name = name; openings = openings }
-
--- its name and its openings
+-- the name and the openings of a store
 abbrev pub called_of : Held → Standing
 called_of h = called h.name h.openings
 

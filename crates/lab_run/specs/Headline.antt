@@ -145,14 +145,30 @@ layout_named (Some (Sweep byte units)) = None
 abbrev pub IsSecondAtFault : (one other : Place) → Facts → Type 0
 IsSecondAtFault one other f = ((fault : RigFault) × HasBadSecond one fault f) ⊎ (((fault : PlaceFault) × HasNoSecondPlace one other fault f) ⊎ (HasOtherSize one other f ⊎ HasOtherCount one other f))
 
+-- The image hasn't the place of the words.
+pub record IsUnplaced (f : Facts) : Type 0 where
+  pub place : Place
+  pub fault : PlaceFault
+  pub named : place_named (command_in f.words) ≡ Some place
+  pub none : HasNoPlace place fault f
+
+-- It has no tuples there, which the layout of the words asks for.
+pub record IsUnfit (f : Facts) : Type 0 where
+  pub place : Place
+  pub layout : Layout
+  pub named : layout_named (command_in f.words) ≡ Some (place, layout)
+  pub none : HasNoTuples place layout f
+
+-- The second image of a `diff` is at fault.
+pub record IsUncompared (f : Facts) : Type 0 where
+  pub one : Place
+  pub other : Place
+  pub named : command_in f.words ≡ Some (Diff one other)
+  pub second : IsSecondAtFault one other f
+
 -- An image is at fault: its head, or it hasn't the place of the words, or no tuples there, where the words ask for them; or for `diff` it is the second; or a command that runs a script came to that.
 abbrev pub IsAtFault : Facts → Type 0
-IsAtFault f =
-    ((fault : RigFault) × HasBadHead fault f)
-    ⊎ (((place : Place) × (fault : PlaceFault) × (place_named (command_in f.words) ≡ Some place) × HasNoPlace place fault f)
-    ⊎ (((place : Place) × (layout : Layout) × (layout_named (command_in f.words) ≡ Some (place, layout)) × HasNoTuples place layout f)
-    ⊎ (((one : Place) × (other : Place) × (command_in f.words ≡ Some (Diff one other)) × IsSecondAtFault one other f)
-    ⊎ CameTo status.Image f)))
+IsAtFault f = ((fault : RigFault) × HasBadHead fault f) ⊎ (IsUnplaced f ⊎ (IsUnfit f ⊎ (IsUncompared f ⊎ CameTo status.Image f)))
 
 -- The head of an image that is told has a fault.
 abbrev pub IsBadHead : List ℕ → Type 0
@@ -167,13 +183,22 @@ abbrev pub IsNoTuples : Place → Layout → List ℕ → Type 0
 IsNoTuples place layout image = (at : Stretch) × (stretch_in (units_of (head_of image)) place ≡ Ok at) × (fits (laid_as layout) (spec_of (units_of (head_of image)) at.dev).ty ≡ false)
 
 -- Two images that are told have their places, but of other sizes or numbers of blocks.
-abbrev pub AreOtherPlaces : (one other : Place) → List ℕ → Option (List ℕ) → Type 0
-AreOtherPlaces one other image beside =
-    (second : List ℕ) × (p : Places) × (beside ≡ Some second) × (p.units ≡ units_of (head_of image)) × (p.others ≡ units_of (head_of second)) × (stretch_in p.units one ≡ Ok p.at) × (stretch_in p.others other ≡ Ok p.to) × ((AreOneSize p → ⊥) ⊎ (p.at.count ≡ p.to.count → ⊥))
+pub record AreOtherPlaces (one other : Place) (image : List ℕ) (beside : Option (List ℕ)) : Type 0 where
+  pub second : List ℕ
+  pub places : Places
+  pub told : beside ≡ Some second
+  pub units : places.units ≡ units_of (head_of image)
+  pub others : places.others ≡ units_of (head_of second)
+  pub there : stretch_in places.units one ≡ Ok places.at
+  pub other_there : stretch_in places.others other ≡ Ok places.to
+  pub differ : (AreOneSize places → ⊥) ⊎ (places.at.count ≡ places.to.count → ⊥)
 
 -- The second image of a `diff` that is told is at fault: its head, or it hasn't its place.
-abbrev pub IsSecondWrong : Option Command → List ℕ → Type 0
-IsSecondWrong c image = (one : Place) × (other : Place) × (c ≡ Some (Diff one other)) × (IsBadHead image ⊎ IsNoPlace other image)
+pub record IsSecondWrong (c : Option Command) (image : List ℕ) : Type 0 where
+  pub one : Place
+  pub other : Place
+  pub named : c ≡ Some (Diff one other)
+  pub wrong : IsBadHead image ⊎ IsNoPlace other image
 
 -- The image that is told is at fault for the command: its head, or it hasn't the place of the words, or no tuples there, or for `diff` its place can't be compared with the other.
 abbrev pub IsWrong : Option Command → Facts → List ℕ → Type 0
@@ -200,8 +225,14 @@ IsOtherLength us at layout None = Unit {0}
 IsOtherLength us at layout (Some dump) = length dump ≡ dump_len us at layout → ⊥
 
 -- The dump of an `import` is at fault: it is too short or too long.
-abbrev pub IsDumpAtFault : Facts → Type 0
-IsDumpAtFault f = (place : Place) × (layout : Layout) × (us : List UnitSpec) × (at : Stretch) × (command_in f.words ≡ Some (Import place layout)) × HasFound us at place layout f × IsOtherLength us at layout f.left
+pub record IsDumpAtFault (f : Facts) : Type 0 where
+  pub place : Place
+  pub layout : Layout
+  pub units : List UnitSpec
+  pub at : Stretch
+  pub named : command_in f.words ≡ Some (Import place layout)
+  pub found : HasFound units at place layout f
+  pub other : IsOtherLength units at layout f.left
 
 -- The image that is told has the place, and what the layout asks for; and the source tells a dump, and doesn't fail.
 pub record IsReady (place : Place) (layout : Layout) (f : Facts) (image : List ℕ) : Type 0 where

@@ -481,10 +481,16 @@ KeepsImage (Some Judge) f = f.first_after.bytes ≡ f.first.bytes
 KeepsImage (Some Explain) f = f.first_after.bytes ≡ f.first.bytes
 KeepsImage (Some (Sweep byte units)) f = f.first_after.bytes ≡ f.first.bytes
 
--- The second store is as before; or, where the command uses it, its bytes are, and it is opened at most once, by the second image's name.
+-- The command uses the second store: its bytes are as before, and it is opened at most once, by the second image's name.
+pub record ReadsSecond (f : Facts) : Type 0 where
+  pub used : uses_second (command_in f.words) ≡ true
+  pub same : f.second_after.bytes ≡ f.second.bytes
+  pub opening : OpenedOnce (second_in f.words) f.second f.second_after
+  pub count : f.second.faults ≤ f.second_after.faults
+
+-- The second store is as before; or the command uses it.
 abbrev pub KeepsSecond : Facts → Type 0
-KeepsSecond f =
-    (f.second_after ≡ f.second) ⊎ ((uses_second (command_in f.words) ≡ true) × (f.second_after.bytes ≡ f.second.bytes) × OpenedOnce (second_in f.words) f.second f.second_after × (f.second.faults ≤ f.second_after.faults))
+KeepsSecond f = (f.second_after ≡ f.second) ⊎ ReadsSecond f
 
 -- Each object that the command doesn't use is as before: but for `vectors` and `explain IMAGE` the rig, but for `diff` the second store and, but for `import` and what takes a script, the source. So is each byte that a store tells; after an `import`, each block outside of its place. Each image is opened at most once, by its name.
 pub record Keeps (f : Facts) : Type 0 where

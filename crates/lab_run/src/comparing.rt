@@ -101,6 +101,6 @@ pub(crate) fn diff<A: Store, B: Store, O: Sink>(
     status_of(diff_blocks(first, &image, at, second, &beside, to, &mut room, out))
 }
 
-/// So many bytes of blocks are read at once of each side, at most. Two rooms as long as `ROOM` would take a megabyte, with
-/// what two files read ahead.
+/// So many bytes of blocks are read at once of each side, at most. Two rooms as long as `ROOM` would take a megabyte,
+/// with what two files read ahead.
 const SIDE: usize = 65536;

@@ -23,7 +23,9 @@ use std::alloc::Global;
 fn tell_run<R: Rig, O: Sink>(out: &mut O, told: &Explained, rig: &R) -> Status
     requires records { told.now.run.first ≤ length (R.state rig.now).log }
     requires guides { Guides told.now.guide told.now.run.stack.replies.items }
-    ensures { Written (done_status (has_bad told.now.run.stack.replies.items)) (explained_by told.now.guide.sites.items told.now.guide.entries (drop told.now.run.first (R.state rig.now).log) told.now.run.stack.replies.items) (O.taken out.old) (O.taken out.new) (O.faults out.old) (O.faults out.new) result }
+    ensures { Written (done_status (has_bad told.now.run.stack.replies.items))
+        (explained_by told.now.guide.sites.items told.now.guide.entries (drop told.now.run.first (R.state rig.now).log) told.now.run.stack.replies.items)
+        (O.taken out.old) (O.taken out.new) (O.faults out.old) (O.faults out.new) result }
 {
     match print_explained(out, told, rig) {
         Ok(()) => status_for(told.run.has_bad()),

@@ -28,8 +28,8 @@ fn halt_status(halt: Halt) -> Status
     }
 }
 
-/// `sweep BYTE T:BLOCKS ..`: runs the script that the source gives in memory, once as it is and once for each byte that may be
-/// altered, and writes who finds it.
+/// `sweep BYTE T:BLOCKS ..`: runs the script that the source gives in memory, once as it is and once for each byte that
+/// may be altered, and writes who finds it.
 pub(crate) fn sweep<S: Source, O: Sink>(
     alloc: Global,
     words: &[String],

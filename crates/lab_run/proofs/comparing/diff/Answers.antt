@@ -1,11 +1,10 @@
 use Rattle.std.proofs.Common.{sym, ◌∙◌}
 use Rattle.std.proofs.lemmas.Bool.{eqb-true}
-use Rattle.dix_words.specs.Grammar.{word_bytes}
 use Rattle.image_blocks.specs.Images.{units_open}
 use Rattle.lab_run.specs.Calls.{Held, held}
 use Rattle.lab_run.specs.Texts.{status_of}
 use Rattle.lab_run.specs.declared.refusal.Refusal.TheVariants as refusal
-use Rattle.lab_run.proofs.Differing.{Walked, compared, no_first, no_second, opened_in, other_count, other_size, since_tried, still, uncompared}
+use Rattle.lab_run.proofs.Differing.{compared, no_first, no_second, opened_in, other_count, other_size, since_tried, still, uncompared}
 use Rattle.lab_run.proofs.Endings.{tried}
 use Rattle.lab_run.proofs.comparing.diff.Goals as goal
 
@@ -85,15 +84,11 @@ returns g c = λ left reads rig.
     let beside_is : Held =
     held (g.B.Store.bytes c.diff_blocks.new.other) (g.B.Store.len c.diff_blocks.new.other) (g.B.Store.faults c.diff_blocks.new.other) (g.B.Store.handed c.diff_blocks.new.other) (g.B.Store.openings c.diff_blocks.new.other) in
     let s = c.diff_blocks.ensures in
-    let walked : Walked (word_bytes c.args.words.now) was mid is beside_was beside_mid beside_is = record {
-      first = record { same = s.same; named = s.named; openings = s.opened; count = s.stores };
-      second = record { same = s.other_same; named = s.other_named; openings = s.other_opened; count = s.others };
-    } in
     compared _ c.args.one c.args.other was mid is beside_was beside_mid beside_is left reads rig c.in-Ok-open_image.image c.in-Ok-open_image-2.beside c.in-Ok-stretch_of.at c.in-Ok-stretch_of-2.to c.diff_blocks.result _ _ _ _ c.status_of.result c.requires
     (record {
       first = tried _ _ c.image_of.result.now was mid c.image_of.ensures e.judged e.failed e.opening e.opened e.same e.count;
       there = c.in-Ok-stretch_of.ensures.value;
       second = tried _ _ c.second_of.result.now beside_was beside_mid c.second_of.ensures d.judged d.failed d.opening d.opened d.same d.count;
       other_there = c.in-Ok-stretch_of-2.ensures.value;
-    }) walked
+    }) (record { first = s.first; second = s.second })
     (eqb-true _ _ (sym c.are_one_size.ensures ∙ c.if-not-are_one_size.false)) c.if-at-to.false s.compared c.status_of.ensures

@@ -1,8 +1,7 @@
 use Rattle.std.proofs.Common.{sym, ◌∙◌}
-use Rattle.dix_words.specs.Grammar.{image_in, word_bytes}
 use Rattle.lab_run.specs.Calls.{Held, held}
 use Rattle.lab_run.proofs.Dumping.{exported, spared_export, unexported, unfit_export, unplaced_export}
-use Rattle.lab_run.proofs.Endings.{Goes, tried}
+use Rattle.lab_run.proofs.Endings.{tried}
 use Rattle.lab_run.proofs.exporting.export.Goals as goal
 
 pub returns-in-Err : goal.returns-in-Err
@@ -35,7 +34,6 @@ returns g c = λ left reads rig second.
     let is : Held =
     held (g.A.Store.bytes c.export_blocks.new.store) (g.A.Store.len c.export_blocks.new.store) (g.A.Store.faults c.export_blocks.new.store) (g.A.Store.handed c.export_blocks.new.store) (g.A.Store.openings c.export_blocks.new.store) in
     let s = c.export_blocks.ensures in
-    let since : Goes (image_in (word_bytes c.args.words.now)) was mid is = record { same = s.same; named = s.named; openings = s.opened; count = s.stores } in
     exported _ c.args.place c.args.layout c.laid.result was mid is left reads rig second c.in-Ok-open_image.image c.in-Ok-stretch_of.at c.export_blocks.result _ _ _ _ c.dumped.result c.laid.ensures c.requires
-    (tried _ _ c.image_of.result.now was mid c.image_of.ensures e.judged e.failed e.opening e.opened e.same e.count) since c.in-Ok-stretch_of.ensures.value (sym c.fits_there.ensures ∙ c.if-not-fits_there.false)
+    (tried _ _ c.image_of.result.now was mid c.image_of.ensures e.judged e.failed e.opening e.opened e.same e.count) s.store c.in-Ok-stretch_of.ensures.value (sym c.fits_there.ensures ∙ c.if-not-fits_there.false)
     s.dumped c.dumped.ensures

@@ -32,7 +32,7 @@ returns-in-Ok-import_blocks g c = λ rig second.
     held (g.A.Store.bytes c.open_image.new.store) (g.A.Store.len c.open_image.new.store) (g.A.Store.faults c.open_image.new.store) (g.A.Store.handed c.open_image.new.store) (g.A.Store.openings c.open_image.new.store) in
     let s = c.in-Ok-import_blocks.ensures in
     imports _ c.args.place c.args.layout c.laid.result _ _ mid _ _ _ _ _ rig second c.in-Ok-open_image.image c.in-Ok-stretch_of.at c.in-Ok-import_blocks.count _ _ _ _ _ c.finish.result c.laid.ensures (c.deref_mut.ensures.len ∙ c.in-Ok.ensures.len) c.requires
-    (tried _ _ c.image_of.result.now _ mid c.image_of.ensures e.judged e.failed e.opening e.opened e.same e.count) (record { apart = s.apart; len = s.length; named = s.named; openings = s.opened; count = s.stores; sources = s.sources }) c.in-Ok-stretch_of.ensures.value (sym c.fits_there.ensures ∙ c.if-not-fits_there.false)
+    (tried _ _ c.image_of.result.now _ mid c.image_of.ensures e.judged e.failed e.opening e.opened e.same e.count) (record { apart = s.apart; store = s.store; sources = s.sources }) c.in-Ok-stretch_of.ensures.value (sym c.fits_there.ensures ∙ c.if-not-fits_there.false)
     s.imported (c.as_slice.ensures.value ∙ c.imported_line.ensures) c.finish.ensures
 
 pub returns : goal.returns
@@ -42,5 +42,5 @@ returns g c = λ rig second.
     held (g.A.Store.bytes c.open_image.new.store) (g.A.Store.len c.open_image.new.store) (g.A.Store.faults c.open_image.new.store) (g.A.Store.handed c.open_image.new.store) (g.A.Store.openings c.open_image.new.store) in
     let s = c.in-Err-import_blocks.ensures in
     halts _ c.args.place c.args.layout c.laid.result _ _ mid _ _ _ _ _ rig second c.in-Ok-open_image.image c.in-Ok-stretch_of.at c.in-Err-import_blocks.fault c.halted.result _ _ _ _ c.refuse-in-Err-import_blocks.result c.laid.ensures (c.deref_mut.ensures.len ∙ c.in-Ok.ensures.len) c.requires
-    (tried _ _ c.image_of.result.now _ mid c.image_of.ensures e.judged e.failed e.opening e.opened e.same e.count) (record { apart = s.apart; len = s.length; named = s.named; openings = s.opened; count = s.stores; sources = s.sources }) c.in-Ok-stretch_of.ensures.value (sym c.fits_there.ensures ∙ c.if-not-fits_there.false)
+    (tried _ _ c.image_of.result.now _ mid c.image_of.ensures e.judged e.failed e.opening e.opened e.same e.count) (record { apart = s.apart; store = s.store; sources = s.sources }) c.in-Ok-stretch_of.ensures.value (sym c.fits_there.ensures ∙ c.if-not-fits_there.false)
     s.imported c.halted.ensures c.refuse-in-Err-import_blocks.ensures

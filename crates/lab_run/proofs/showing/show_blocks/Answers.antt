@@ -1,6 +1,5 @@
-use Rattle.dix_words.specs.Grammar.{image_in, word_bytes}
 use Rattle.lab_run.specs.Calls.{Held, held}
-use Rattle.lab_run.proofs.Endings.{Goes, shown, spared, tried, unplaced, unshown}
+use Rattle.lab_run.proofs.Endings.{shown, spared, tried, unplaced, unshown}
 use Rattle.lab_run.proofs.showing.show_blocks.Goals as goal
 
 pub returns-in-Err : goal.returns-in-Err
@@ -27,6 +26,5 @@ returns g c = λ left reads rig second.
     let is : Held =
     held (g.A.Store.bytes c.show_blocks.new.store) (g.A.Store.len c.show_blocks.new.store) (g.A.Store.faults c.show_blocks.new.store) (g.A.Store.handed c.show_blocks.new.store) (g.A.Store.openings c.show_blocks.new.store) in
     let s = c.show_blocks.ensures in
-    let since : Goes (image_in (word_bytes c.args.words.now)) was mid is = record { same = s.same; named = s.named; openings = s.opened; count = s.stores } in
     shown _ c.args.place was mid is left reads rig second c.in-Ok-open_image.image c.in-Ok-stretch_of.at c.show_blocks.result _ _ _ _ c.status_of.result c.requires
-    (tried _ _ c.image_of.result.now was mid c.image_of.ensures e.judged e.failed e.opening e.opened e.same e.count) since c.in-Ok-stretch_of.ensures.value s.shown c.status_of.ensures
+    (tried _ _ c.image_of.result.now was mid c.image_of.ensures e.judged e.failed e.opening e.opened e.same e.count) s.store c.in-Ok-stretch_of.ensures.value s.shown c.status_of.ensures
