@@ -1,12 +1,12 @@
 //! Stacks run to their ends.
 
-ghost use Rattle.std.specs.Prelude.{◌≡◌, ◌+◌, All, IfOk, IfSome, None, false, is_some, length};
-ghost use Rattle.rig_api.specs.Log.{HasRoom, Room};
-ghost use Rattle.rig_api.specs.Telling.{Standing, greatest_size};
+ghost use Rattle.std.specs.Prelude.{◌≡◌, ◌+◌, All, IfOk, IfSome, None, false, length};
+ghost use Rattle.rig_api.specs.Telling.{Standing};
 ghost use Rattle.script_laws.specs.Keeping.{Keeps};
 ghost use Rattle.script_text.specs.Bindings.{binding_fault};
-ghost use Rattle.stack_core.specs.Stacks.{HasSpare, IsStack, Reaches, plan_in};
-ghost use Rattle.stack_view.specs.Runs.{blocks_of_requests};
+ghost use Rattle.script_stack.specs.Beginning.{BlocksAreEnough};
+ghost use Rattle.stack_core.specs.Going.{StandsOver};
+ghost use Rattle.stack_core.specs.Stacks.{IsStack, Reaches};
 ghost use Rattle.volume_table.specs.Tables.{EndFits, MadeFor};
 
 use crate::rig::PlainRig;
@@ -88,10 +88,8 @@ fn drawn_after(drawn: u32) -> u32 {
 
 /// Takes steps until all ops have ended.
 fn run_words<R: Rig>(stack: &mut Stack, words: Words, rig: &mut R)
-    requires stack { IsStack stack.old }
-    requires rig { Reaches stack.old (is_some (R.state rig.old).image) (R.state rig.old).standing }
-    requires spare { HasSpare stack.old (R.state rig.old).standing (R.state rig.old).room }
-    ensures stack { IsStack stack.new }
+    requires { StandsOver stack.old (R.state rig.old) }
+    ensures { IsStack stack.new }
 {
     let mut drawn = 1;
     for step in 0..MOST_STEPS {
@@ -144,9 +142,7 @@ fn started(
     requires bound { binding_fault script table devices.now ≡ None }
     ensures stack { IfOk result IsStack }
     ensures reaches { IfOk result (λ s. (st : Standing) → st.devices ≡ 8 → Reaches s false st) }
-    ensures spare { IfOk result (λ s. (st : Standing) (room : Room)
-        → HasRoom (greatest_size st) (blocks_of_requests (plan_in s.sheet).requests) (blocks_of_requests (plan_in s.sheet).requests) room
-        → HasSpare s st room) }
+    ensures spare { IfOk result BlocksAreEnough }
 {
     let Run { stack, .. } = start_script(alloc, script, table, devices)?;
     Ok(stack)
@@ -156,9 +152,7 @@ fn started(
 fn sent(alloc: Global, mut stack: Stack, words: Words) -> Result<Option<u32>, AllocError>
     requires stack { IsStack stack }
     requires reaches { (st : Standing) → st.devices ≡ 8 → Reaches stack false st }
-    requires spare { (st : Standing) (room : Room)
-        → HasRoom (greatest_size st) (blocks_of_requests (plan_in stack.sheet).requests) (blocks_of_requests (plan_in stack.sheet).requests) room
-        → HasSpare stack st room }
+    requires spare { BlocksAreEnough stack }
 {
     let mut rig = PlainRig::new(alloc);
     let blocks = stack.blocks();

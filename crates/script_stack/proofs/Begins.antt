@@ -6,7 +6,6 @@ use Rattle.page_pool.specs.Cells.{flat}
 use Rattle.page_pool.specs.Pages.{IsBlank}
 use Rattle.page_pool.proofs.Celled.{cell-holds, length-flat}
 use Rattle.bio_core.specs.Bios.{block_size}
-use Rattle.dix_adapter.specs.Groups.{mode_of}
 use Rattle.dix_adapter.specs.Ways.{blocks_told, cell_in, shapes_of, site_of}
 use Rattle.fault_schedule.specs.declared.fault.FaultLine.{FaultLine}
 use Rattle.rig_api.specs.Telling.{Standing, no_spec, specs_of}
@@ -21,7 +20,7 @@ use Rattle.stack_ops.specs.declared.op.Op.{Op}
 use Rattle.stack_ops.specs.declared.reply.Reply.TheVariants.{Silent}
 use Rattle.volume_table.specs.declared.device.DeviceInfo.{DeviceInfo}
 use Rattle.volume_table.specs.Tables.{MadeFor, Table}
-use Rattle.block_path.specs.Routes.{host_type, target}
+use Rattle.block_path.specs.Routes.{target}
 use Rattle.whole_run.specs.Settings.{Setting}
 use Rattle.run_moves.specs.BoundRun.{fates}
 use Rattle.script_text.specs.declared.script.Script.{Script}
@@ -37,7 +36,9 @@ use Rattle.stack_core.specs.declared.stack.Stack.{Stack}
 use Rattle.stack_walks.specs.Requests.{pages_from, requests_from}
 use Rattle.stack_walks.specs.Sheets.{io_at, op_in}
 use Rattle.stack_walks.specs.Shifts.{shifted_by}
+use Rattle.stack_core.specs.NewStacks.{IsSetUp}
 use Rattle.stack_core.specs.Walking.{IsOver, NoneFailed, Opens, SizesFit, WalksAtFirst, WalksFallingAtFirst, WalksToldAtFirst}
+use Rattle.script_stack.specs.Beginning.{setup_of}
 use Rattle.script_stack.specs.Followed.{BeginsFalling, BeginsTold, BeginsWalks, SizesAre, begun_of, none_fails, setting_of, unit_of}
 use Rattle.script_stack.proofs.Runs.{own-infos}
 use Rattle.script_stack.proofs.Ready.{sizes-of}
@@ -70,17 +71,6 @@ opens s units blocks r b = record { bytes = sym (blank-cells (pages_from s.mode.
 
 -- ---- the stack is over its script
 
--- what is known of a stack of a script
-pub record IsStackOf (s : Script) (t : Table) (r : Stack) : Type 0 where
-  pub ops : r.sheet.ops ≡ s.ops
-  pub ios : r.sheet.ios.items ≡ requests_from s.mode.dix s.pages s.ops
-  pub shifted : r.sheet.shifted.items ≡ shifted_by s.faults (length s.ops)
-  pub table : r.sheet.table ≡ t
-  pub mode : mode_of r.adapter ≡ s.mode
-  pub ty : r.adapter.ty ≡ t.ty
-  pub host : r.host ≡ host_type t.ty
-  pub faults : r.adapter.tamper ≡ s.faults
-
 module _ (s : Script) (t : Table) (units : List UnitSpec) (fails : ℕ → Bool) (blocks : List (List ℕ)) (suits : SuitsStack s) (lines : length s.lines ≡ length s.faults + length s.ops) (few : length (map info_of units) ≤ 8) (made : MadeFor t (map info_of units) s.block) (bound : binding_fault s t (map info_of units) ≡ None) where
   abbrev m : Setting
   m = setting_of s t units fails
@@ -88,7 +78,7 @@ module _ (s : Script) (t : Table) (units : List UnitSpec) (fails : ℕ → Bool)
   pub own_setting : IsSettingOf m s t (map info_of units) (all_blocks units)
   own_setting = over-units m s t units refl refl refl refl refl refl
 
-  pub is_over : (r : Stack) → IsStackOf s t r → IsOver m (4096 * s.pages) (begun_of s units blocks) r.sheet r.adapter r.host
+  pub is_over : (r : Stack) → IsSetUp (setup_of s t) s.ops r → IsOver m (4096 * s.pages) (begun_of s units blocks) r.sheet r.adapter r.host
   is_over r h =
       let logs : length (begun_of s units blocks).logs ≡ all_blocks units = length-replicate (all_blocks units) [] in
       let ground = subst (λ k. Ground m (4096 * s.pages) k s.ops) (sym logs) (stands-on-ground m s t (map info_of units) (all_blocks units) suits lines made bound own_setting) in
@@ -118,7 +108,7 @@ fits-found s t devices st fails made sizes v l =
     let on = made.inside v l in
     sizes (place_in t.entries v).0 on.known ∙ on.size_is
 
-pub begins-walks : (s : Script) (t : Table) (devices : List DeviceInfo) (r : Stack) → SuitsStack s → length s.lines ≡ length s.faults + length s.ops → length devices ≤ 8 → MadeFor t devices s.block → binding_fault s t devices ≡ None → IsStackOf s t r →
+pub begins-walks : (s : Script) (t : Table) (devices : List DeviceInfo) (r : Stack) → SuitsStack s → length s.lines ≡ length s.faults + length s.ops → length devices ≤ 8 → MadeFor t devices s.block → binding_fault s t devices ≡ None → IsSetUp (setup_of s t) s.ops r →
     IsBlank (pages_from s.mode.dix s.pages s.ops) r.pool → WalksAtFirst r → BeginsWalks s t devices r
 begins-walks s t devices r suits lines few made bound is blank first fails blocks st log sizes =
     let units = map unit_of devices in
@@ -141,7 +131,7 @@ record BeginsAt (s : Script) (t : Table) (fails : ℕ → Bool) (us : List Store
   units : AreAtUnits (setting_of s t (shapes_of us) fails) (specs_of st) r.sheet.ops
   armed : s.faults ≡ r.adapter.tamper
 
-module _ (s : Script) (t : Table) (devices : List DeviceInfo) (r : Stack) (suits : SuitsStack s) (lines : length s.lines ≡ length s.faults + length s.ops) (few : length devices ≤ 8) (made : MadeFor t devices s.block) (bound : binding_fault s t devices ≡ None) (is : IsStackOf s t r) (blank : IsBlank (pages_from s.mode.dix s.pages s.ops) r.pool) where
+module _ (s : Script) (t : Table) (devices : List DeviceInfo) (r : Stack) (suits : SuitsStack s) (lines : length s.lines ≡ length s.faults + length s.ops) (few : length devices ≤ 8) (made : MadeFor t devices s.block) (bound : binding_fault s t devices ≡ None) (is : IsSetUp (setup_of s t) s.ops r) (blank : IsBlank (pages_from s.mode.dix s.pages s.ops) r.pool) where
   begins-at : (fails : ℕ → Bool) (us : List Stored) (st : Standing) → devices ≡ map info_of (specs_of st) → shapes_of us ≡ specs_of st → BeginsAt s t fails us r st
   begins-at fails us st found shapes =
       let units = shapes_of us in

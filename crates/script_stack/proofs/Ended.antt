@@ -24,15 +24,14 @@ use Rattle.script_text.specs.declared.script.Script.{Script}
 use Rattle.script_ground.specs.SuitsStack.{SuitsStack}
 use Rattle.script_ground.specs.Units.{AreStored}
 use Rattle.stack_core.specs.Mediums.{HasCounted, RoseBy, medium_lines}
-use Rattle.stack_core.specs.Stacks.{GoesOn, IsStack, Stays, plan_in}
+use Rattle.stack_core.specs.Stacks.{GoesOn, IsFinished, IsStack, Stays, plan_in}
 use Rattle.stack_core.specs.Walking.{NoneFailed, Walks, WalksFalling}
 use Rattle.stack_core.specs.declared.stack.Stack.{Stack}
 use Rattle.stack_core.proofs.ToldOps.{is_told}
 use Rattle.stack_steps.specs.Does.{Holds}
-use Rattle.stack_view.specs.Steps.{enabled}
-use Rattle.stack_view.specs.View.{View, start}
+use Rattle.stack_view.specs.View.{start}
 use Rattle.script_stack.specs.Followed.{BeginsTold, BeginsWalks, HasWalked, IsBackedBy, SizesAre, begun_of, failed_in, none_fails, setting_of, unit_of, BeginsFalling, HasFallen}
-use Rattle.script_stack.specs.Going.{Went}
+use Rattle.stack_core.specs.Going.{Went}
 use Rattle.script_stack.specs.Sends.{IsPlanFor, SendsBy, SendsFor, by_words, entries_of}
 use Rattle.script_stack.proofs.Following.{behind, told-shapes, told-stored}
 use Rattle.script_stack.proofs.SendsBy.{AllLaw, FewLaw, sends_for}
@@ -41,21 +40,21 @@ use Rattle.script_stack.proofs.SendsBy.{AllLaw, FewLaw, sends_for}
 abbrev pub BackedLaw : Type 0
 BackedLaw = (s : Script) (t : Table) (devices : List DeviceInfo) (first : ℕ) (r : Stack) (st : Standing) (log : List Entry) → SuitsStack s → IsStack r → r.sheet.ops ≡ s.ops
     → ((blocks : List (List ℕ)) → Walks (setting_of s t (map unit_of devices) (failed_in r.replies.items)) (4096 * s.pages) (begun_of s (map unit_of devices) blocks) first r st log)
-    → ((v : View) → Holds (plan_in r.sheet) r.machine v → enabled (plan_in r.sheet) v ≡ []) → IsBackedBy s t devices (drop first log) r.replies.items
+    → IsFinished r → IsBackedBy s t devices (drop first log) r.replies.items
 
 -- the law over a rig that tells its blocks
 abbrev pub ToldLaw : Type 0
 ToldLaw = (s : Script) (t : Table) (us left : List Stored) (first : ℕ) (r : Stack) (armed : List FaultLine) (st : Standing) (log : List Entry) → SuitsStack s → length s.lines ≡ length s.faults + length s.ops
     → MadeFor t (map info_of (shapes_of us)) s.block → binding_fault s t (map info_of (shapes_of us)) ≡ None → AreStored us → shapes_of left ≡ shapes_of us → IsStack r → r.sheet.ops ≡ s.ops
     → medium_lines r.replies.items ≡ 0 → WalksFalling (setting_of s t (shapes_of us) none_fails) (4096 * s.pages) (begun_of s (shapes_of us) (blocks_told us)) first r (Some left) armed st log
-    → ((v : View) → Holds (plan_in r.sheet) r.machine v → enabled (plan_in r.sheet) v ≡ []) → HasWalked s t us left r.pool (drop first log) r.replies.items
+    → IsFinished r → HasWalked s t us left r.pool (drop first log) r.replies.items
 
 -- and where its store calls may fail
 abbrev pub FallenLaw : Type 0
 FallenLaw = (s : Script) (t : Table) (us left : List Stored) (first : ℕ) (r : Stack) (armed : List FaultLine) (st : Standing) (log : List Entry) → SuitsStack s → length s.lines ≡ length s.faults + length s.ops
     → MadeFor t (map info_of (shapes_of us)) s.block → binding_fault s t (map info_of (shapes_of us)) ≡ None → AreStored us → shapes_of left ≡ shapes_of us → IsStack r → r.sheet.ops ≡ s.ops
     → WalksFalling (setting_of s t (shapes_of us) (failed_in r.replies.items)) (4096 * s.pages) (begun_of s (shapes_of us) (blocks_told us)) first r (Some left) armed st log
-    → ((v : View) → Holds (plan_in r.sheet) r.machine v → enabled (plan_in r.sheet) v ≡ []) → HasFallen s t us left r.pool (drop first log) r.replies.items
+    → IsFinished r → HasFallen s t us left r.pool (drop first log) r.replies.items
 
 -- A script that was made ready over a rig and run by these words, with what the rig tells of its image then and afterwards, and its stack that went to its end.
 pub record IsOver (s : Script) (t : Table) (devices : List DeviceInfo) (words : List (ℕ × ℕ)) (begun r : Stack) (image image' : Option (List ℕ)) (old new : RigState) : Type 0 where
@@ -72,7 +71,7 @@ pub record IsOver (s : Script) (t : Table) (devices : List DeviceInfo) (words : 
   pub armed : old.armed ≡ s.faults
   pub stack : IsStack r
   pub ops : r.sheet.ops ≡ s.ops
-  pub ended : (v : View) → Holds (plan_in r.sheet) r.machine v → enabled (plan_in r.sheet) v ≡ []
+  pub ended : IsFinished r
   pub walks : BeginsWalks s t devices begun
   pub told : BeginsTold s t devices begun
   pub falling : BeginsFalling s t devices begun
@@ -116,7 +115,7 @@ answered_by s t devices words begun r image image' old new o us told quiet none 
 -- the law of lines that name the medium
 abbrev pub MediumLaw : Type 0
 MediumLaw = (m : Setting) (n : ℕ) (opening : State) (begun first : ℕ) (s : Stack) (st : Standing) (log : List Entry) (count : ℕ) → IsStack s → Walks m n opening begun s st log
-    → ((v : View) → Holds (plan_in s.sheet) s.machine v → enabled (plan_in s.sheet) v ≡ []) → HasCounted first s count → RoseBy (medium_lines s.replies.items) first count
+    → IsFinished s → HasCounted first s count → RoseBy (medium_lines s.replies.items) first count
 
 pub few_lines : (s : Script) (t : Table) (devices : List DeviceInfo) (words : List (ℕ × ℕ)) (begun r : Stack) (image image' : Option (List ℕ)) (old new : RigState) → MediumLaw → (o : IsOver s t devices words begun r image image' old new) → RoseBy (medium_lines r.replies.items) old.faults new.faults
 few_lines s t devices words begun r image image' old new law o =

@@ -2,17 +2,17 @@
 use Rattle.std.proofs.Common.{◌≤◌, ◌++◌, ◌∙◌, ℕ, ap, refl, arith}
 use Rattle.std.specs.List.{list_any}
 use Rattle.std.proofs.lemmas.List.{append_assoc}
-use Rattle.rig_api.specs.State.{RigState}
+use Rattle.rig_api.specs.State.{RigState, Stays as RigStays}
 use Rattle.answered_record.proofs.Going.{puts_nothing, puts_then}
 use Rattle.stack_walks.specs.Overwrites.{is_overwrite}
 use Rattle.stack_core.specs.declared.sheet.Sheet.{Sheet}
 use Rattle.stack_core.specs.Stacks.{GoesOn, Stays}
 use Rattle.dix_base.specs.Told.{Calm}
 use Rattle.stack_core.specs.declared.stack.Stack.{Stack}
-use Rattle.script_stack.specs.Going.{Went}
+use Rattle.stack_core.specs.Going.{Went}
 
 pub went_nowhere : (s : Stack) (o : RigState) → Went s o s o
-went_nowhere s o = record { walks = λ m n opening first w. w; told = λ m n opening first w calm. w; falling = λ m n opening first w. w; silent = λ calm h. h; faults = omega arith; sheet = refl; answered = λ m n opening first w none. puts_nothing o o refl refl refl refl }
+went_nowhere s o = record { walks = λ m n opening first w. w; told = λ m n opening first w calm. w; falling = λ m n opening first w. w; silent = λ calm h. h; faults = omega arith; counts = λ first h. h; sheet = refl; answered = λ m n opening first w none. puts_nothing o o refl refl refl refl }
 
 calm-first : (a b c : ℕ) → a ≤ b → b ≤ c → Calm a c → Calm a b
 calm-first a b c l k h = let x = h.0 in let y = h.1 in (omega arith, omega arith)
@@ -27,12 +27,20 @@ went_on s o s' o' s'' o'' a b = record {
   falling = λ m n opening first w. b.falling m n opening first (a.falling m n opening first w);
   silent = λ calm h. b.silent (calm-then o.faults o'.faults o''.faults a.faults b.faults calm) (a.silent (calm-first o.faults o'.faults o''.faults a.faults b.faults calm) h);
   faults = (let x = a.faults in let y = b.faults in omega arith);
+  counts = λ first h. b.counts first (a.counts first h);
   sheet = b.sheet ∙ a.sheet;
   answered = λ m n opening first w none.
       puts_then o o' o'' a.faults b.faults (a.answered m n opening first w none) (b.answered m n opening first (a.walks m n opening first w) (ap (λ (x : Sheet). list_any is_overwrite x.ops) a.sheet ∙ none));
 }
 
--- the rig goes on from one to the next
+-- the rig stays from one to the next
+pub rig_then : (s s' s'' : RigState) → RigStays s s' → RigStays s' s'' → RigStays s s''
+rig_then s s' s'' a b = record { tells = b.tells ∙ a.tells; standing = b.standing ∙ a.standing; armed = b.armed ∙ a.armed; count = (let x = a.count in let y = b.count in omega arith) }
+
+pub rig_nowhere : (s : RigState) → RigStays s s
+rig_nowhere s = record { tells = refl; standing = refl; armed = refl; count = omega arith }
+
+-- and goes on from one to the next
 pub goes_then : (s s' s'' : RigState) → GoesOn s s' → GoesOn s' s'' → GoesOn s s''
 goes_then s s' s'' a b = record {
   standing = b.standing ∙ a.standing;

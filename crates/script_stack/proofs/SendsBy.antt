@@ -17,8 +17,7 @@ use Rattle.stack_view.specs.Comes.{entry_at}
 use Rattle.stack_view.specs.Measure.{greatest_pieces}
 use Rattle.stack_view.specs.Plan.{Plan}
 use Rattle.stack_view.specs.Runs.{Entry, Sent, blocks_of_requests, sends_of}
-use Rattle.stack_view.specs.Steps.{enabled}
-use Rattle.stack_view.specs.View.{View, start}
+use Rattle.stack_view.specs.View.{start}
 use Rattle.stack_view.proofs.Runs.{calm-sends}
 use Rattle.stack_steps.specs.Does.{Holds}
 use Rattle.volume_table.specs.Tables.{Table}
@@ -29,7 +28,7 @@ use Rattle.stack_core.specs.OnRecord.{AreRecords, HasQueues, HasSent, IsFormed, 
 use Rattle.stack_walks.specs.Requests.{requests_from}
 use Rattle.stack_walks.specs.Sheets.{plan_of}
 use Rattle.stack_walks.specs.Shifts.{shifted_by}
-use Rattle.stack_core.specs.Stacks.{IsStack, Stays, plan_in}
+use Rattle.stack_core.specs.Stacks.{IsFinished, IsStack, Stays, plan_in}
 use Rattle.stack_core.specs.Walking.{Walks}
 use Rattle.script_stack.specs.Sends.{IsPlanFor, SendsBy, SendsFor, entries_of}
 
@@ -111,7 +110,7 @@ FewLaw = (es : List Entry) (s : Stack) (log : List Record) → IsStack s → Has
 
 abbrev pub AllLaw : Type 0
 AllLaw = (es : List Entry) (s : Stack) (log : List Record) (m : Setting) (n : ℕ) (opening : State) (first : ℕ) (st : Standing) (whole : List Record) → IsStack s → HasSent es s log → Walks m n opening first s st whole
-    → ((v : View) → Holds (plan_in s.sheet) s.machine v → enabled (plan_in s.sheet) v ≡ []) → ListsNone s.replies.items → AreRecords (sends_of (plan_in s.sheet) es) log
+    → IsFinished s → ListsNone s.replies.items → AreRecords (sends_of (plan_in s.sheet) es) log
 
 -- from a new stack to a finished one
 pub record IsWhole (s : Script) (t : Table) (begun r : Stack) (log log' more : List Record) : Type 0 where
@@ -121,7 +120,7 @@ pub record IsWhole (s : Script) (t : Table) (begun r : Stack) (log log' more : L
   pub sent : begun.machine.steps ≡ 0 → SendsBy (entries_of s.schedule) begun r log log'
   pub records : log' ≡ log ++ more
   pub stack : IsStack r
-  pub ended : (v : View) → Holds (plan_in r.sheet) r.machine v → enabled (plan_in r.sheet) v ≡ []
+  pub ended : IsFinished r
 
 pub sends_for : (s : Script) (t : Table) (begun r : Stack) (log log' more : List Record) → FewLaw → AllLaw → IsWhole s t begun r log log' more → (m : Setting) (n : ℕ) (opening : State) (first : ℕ) (st : Standing) (whole : List Record) → Walks m n opening first r st whole → m.mode ≡ s.mode → m.ty ≡ t.ty → SendsFor s t more r.replies.items
 sends_for s t begun r log log' more few all w m n opening first st whole walks e f =

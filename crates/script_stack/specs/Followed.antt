@@ -27,11 +27,8 @@ use Rattle.script_ground.specs.Units.{all_blocks}
 use Rattle.stack_core.specs.Mediums.{RoseBy, medium_lines}
 use Rattle.stack_walks.specs.Requests.{pages_from, requests_from}
 use Rattle.stack_core.specs.declared.stack.Stack.{Stack}
-use Rattle.stack_core.specs.Stacks.{IsStack, plan_in}
+use Rattle.stack_core.specs.Stacks.{IsFinished, IsStack}
 use Rattle.stack_core.specs.Walking.{EndsFallen, Walks, WalksFalling, WalksTold, is_medium}
-use Rattle.stack_steps.specs.Does.{Holds}
-use Rattle.stack_view.specs.Steps.{enabled}
-use Rattle.stack_view.specs.View.{View}
 use Rattle.script_stack.specs.Sends.{SendsFor, by_words}
 
 -- which overwrites failed, by the replies; ops are numbered from 1
@@ -113,7 +110,7 @@ pub record Ran (s : Script) (t : Table) (devices : List DeviceInfo) (words : Lis
   pub ios : r.sheet.ios.items ≡ requests_from s.mode.dix s.pages s.ops
   pub mode : mode_of r.adapter ≡ s.mode
   pub armed : r.adapter.tamper ≡ s.faults
-  pub ended : (v : View) → Holds (plan_in r.sheet) r.machine v → enabled (plan_in r.sheet) v ≡ []
+  pub ended : IsFinished r
   pub standing : after.standing ≡ before.standing
   pub faults : before.faults ≤ after.faults
   pub more : List Entry

@@ -1,4 +1,4 @@
 pub mod Causes
 pub mod Sends
 pub mod Followed
-pub mod Going
+pub mod Beginning

@@ -1,6 +1,6 @@
 //! What the stack of a script comes to, once it has been run to its end.
 
-ghost use Rattle.std.specs.Prelude.{◌≡◌, ◌*◌, ◌+◌, ℕ, List, [], Some, None, drop, length, map};
+ghost use Rattle.std.specs.Prelude.{◌≡◌, ◌*◌, ◌+◌, ℕ, List, Some, None, drop, length, map};
 ghost use Rattle.fault_schedule.specs.declared.fault.FaultLine.{FaultLine};
 ghost use Rattle.target_answer.specs.Target.{Stored};
 ghost use Rattle.rig_api.specs.Log.{Entry};
@@ -13,11 +13,8 @@ ghost use Rattle.script_text.specs.declared.script.Script.{Script as AnyScript};
 ghost use Rattle.script_text.specs.Bindings.{binding_fault};
 ghost use Rattle.script_ground.specs.SuitsStack.{SuitsStack};
 ghost use Rattle.script_ground.specs.Units.{AreStored};
-ghost use Rattle.stack_view.specs.Steps.{enabled};
-ghost use Rattle.stack_view.specs.View.{View};
-ghost use Rattle.stack_steps.specs.Does.{Holds};
 ghost use Rattle.stack_core.specs.declared.stack.Stack.{Stack as AnyStack};
-ghost use Rattle.stack_core.specs.Stacks.{IsStack, plan_in};
+ghost use Rattle.stack_core.specs.Stacks.{IsFinished, IsStack};
 ghost use Rattle.stack_core.specs.Mediums.{medium_lines};
 ghost use Rattle.stack_core.specs.Walking.{Walks, WalksFalling};
 ghost use Rattle.script_stack.specs.Followed.{HasFallen, HasWalked, IsBackedBy, begun_of, failed_in, none_fails, setting_of, unit_of};
@@ -35,7 +32,7 @@ use stack_core::{
 pub fn a_script_run_is_backed()
     ensures { (s : AnyScript) (t : Table) (devices : List AnyDevice) (first : ℕ) (r : AnyStack) (st : Standing) (log : List Entry) → SuitsStack s → IsStack r → r.sheet.ops ≡ s.ops
         → ((blocks : List (List ℕ)) → Walks (setting_of s t (map unit_of devices) (failed_in r.replies.items)) (4096 * s.pages) (begun_of s (map unit_of devices) blocks) first r st log)
-        → ((v : View) → Holds (plan_in r.sheet) r.machine v → enabled (plan_in r.sheet) v ≡ []) → IsBackedBy s t devices (drop first log) r.replies.items }
+        → IsFinished r → IsBackedBy s t devices (drop first log) r.replies.items }
 {
     a_bound_script_is_bound_over_its_record();
     a_finished_stack_is_backed();
@@ -44,10 +41,11 @@ pub fn a_script_run_is_backed()
 /// Over a rig that tells its blocks, where no line of the replies names the medium, the script's ops were done one after
 /// another at the target.
 pub fn a_told_script_run_has_walked()
-    ensures { (s : AnyScript) (t : Table) (us left : List Stored) (first : ℕ) (r : AnyStack) (armed : List FaultLine) (st : Standing) (log : List Entry) → SuitsStack s → length s.lines ≡ length s.faults + length s.ops
-        → MadeFor t (map info_of (shapes_of us)) s.block → binding_fault s t (map info_of (shapes_of us)) ≡ None → AreStored us → shapes_of left ≡ shapes_of us → IsStack r → r.sheet.ops ≡ s.ops
+    ensures { (s : AnyScript) (t : Table) (us left : List Stored) (first : ℕ) (r : AnyStack) (armed : List FaultLine) (st : Standing) (log : List Entry)
+        → SuitsStack s → length s.lines ≡ length s.faults + length s.ops → MadeFor t (map info_of (shapes_of us)) s.block → binding_fault s t (map info_of (shapes_of us)) ≡ None
+        → AreStored us → shapes_of left ≡ shapes_of us → IsStack r → r.sheet.ops ≡ s.ops
         → medium_lines r.replies.items ≡ 0 → WalksFalling (setting_of s t (shapes_of us) none_fails) (4096 * s.pages) (begun_of s (shapes_of us) (blocks_told us)) first r (Some left) armed st log
-        → ((v : View) → Holds (plan_in r.sheet) r.machine v → enabled (plan_in r.sheet) v ≡ []) → HasWalked s t us left r.pool (drop first log) r.replies.items }
+        → IsFinished r → HasWalked s t us left r.pool (drop first log) r.replies.items }
 {
     a_bound_script_is_bound_at_its_target();
     a_finished_stack_that_names_no_medium_has_followed_the_walk();
@@ -56,10 +54,11 @@ pub fn a_told_script_run_has_walked()
 
 /// And whatever lines name it, so they were but for what the store calls that failed left.
 pub fn a_told_script_run_has_fallen()
-    ensures { (s : AnyScript) (t : Table) (us left : List Stored) (first : ℕ) (r : AnyStack) (armed : List FaultLine) (st : Standing) (log : List Entry) → SuitsStack s → length s.lines ≡ length s.faults + length s.ops
-        → MadeFor t (map info_of (shapes_of us)) s.block → binding_fault s t (map info_of (shapes_of us)) ≡ None → AreStored us → shapes_of left ≡ shapes_of us → IsStack r → r.sheet.ops ≡ s.ops
+    ensures { (s : AnyScript) (t : Table) (us left : List Stored) (first : ℕ) (r : AnyStack) (armed : List FaultLine) (st : Standing) (log : List Entry)
+        → SuitsStack s → length s.lines ≡ length s.faults + length s.ops → MadeFor t (map info_of (shapes_of us)) s.block → binding_fault s t (map info_of (shapes_of us)) ≡ None
+        → AreStored us → shapes_of left ≡ shapes_of us → IsStack r → r.sheet.ops ≡ s.ops
         → WalksFalling (setting_of s t (shapes_of us) (failed_in r.replies.items)) (4096 * s.pages) (begun_of s (shapes_of us) (blocks_told us)) first r (Some left) armed st log
-        → ((v : View) → Holds (plan_in r.sheet) r.machine v → enabled (plan_in r.sheet) v ≡ []) → HasFallen s t us left r.pool (drop first log) r.replies.items }
+        → IsFinished r → HasFallen s t us left r.pool (drop first log) r.replies.items }
 {
     a_bound_script_is_bound_at_its_target();
     a_bound_script_takes_any_block_at_its_target();

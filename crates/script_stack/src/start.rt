@@ -1,24 +1,7 @@
 //! The stack of a script.
 
-ghost use Rattle.std.specs.Prelude.{◌≡◌, ◌<◌, ◌≤◌, ◌+◌, ℕ, Bool, true, IfOk, None, length, map};
-ghost use Rattle.rig_api.specs.Telling.{Standing, specs_of};
-ghost use Rattle.rig_api.specs.Log.{HasRoom, Room};
-ghost use Rattle.rig_api.specs.Telling.{greatest_size};
-ghost use Rattle.rig_discovery.specs.Discovery.{info_of};
-ghost use Rattle.dix_adapter.specs.Groups.{mode_of};
-ghost use Rattle.page_pool.specs.Pages.{IsBlank};
-ghost use Rattle.volume_table.specs.Tables.{MadeFor};
-ghost use Rattle.stack_view.specs.Runs.{blocks_of_requests};
-ghost use Rattle.stack_view.specs.View.{start};
-ghost use Rattle.stack_steps.specs.Does.{Holds};
-ghost use Rattle.stack_walks.specs.Requests.{pages_from, requests_from};
-ghost use Rattle.stack_core.specs.Stacks.{HasSpare, IsStack, Reaches, plan_in};
-ghost use Rattle.script_text.specs.Bindings.{binding_fault};
-ghost use Rattle.script_ground.specs.SuitsStack.{SuitsStack};
-ghost use Rattle.stack_core.specs.Walking.{NoneFailed};
-ghost use Rattle.script_stack.specs.Followed.{BeginsTold, BeginsWalks, BeginsFalling};
-ghost use Rattle.stack_core.specs.Mediums.{HasCounted};
-ghost use Rattle.script_stack.specs.Sends.{IsPlanFor};
+ghost use Rattle.std.specs.Prelude.{IfOk};
+ghost use Rattle.script_stack.specs.Beginning.{Begins, BlocksAreEnough, IsBoundTo, ReachesTheirs};
 
 use script_lines::WordList;
 use script_text::Script;
@@ -44,29 +27,10 @@ pub fn start_script(
     table: VolumeTable,
     _devices: &[DeviceInfo],
 ) -> Result<Run, AllocError>
-    requires suits { SuitsStack script }
-    requires lines { length script.lines ≡ length script.faults + length script.ops }
-    requires few { length _devices.now ≤ 8 }
-    requires made { MadeFor table _devices.now script.block }
-    requires bound { binding_fault script table _devices.now ≡ None }
-    ensures stack { IfOk result (λ r. IsStack r.stack) }
-    ensures first { IfOk result (λ r. Holds (plan_in r.stack.sheet) r.stack.machine (start (plan_in r.stack.sheet))) }
-    ensures ops { IfOk result (λ r. r.stack.sheet.ops ≡ script.ops) }
-    ensures ios { IfOk result (λ r. r.stack.sheet.ios.items ≡ requests_from script.mode.dix script.pages script.ops) }
-    ensures table { IfOk result (λ r. r.stack.sheet.table ≡ table) }
-    ensures limits { IfOk result (λ r. r.stack.sheet.limits ≡ script.limits) }
-    ensures mode { IfOk result (λ r. mode_of r.stack.adapter ≡ script.mode) }
-    ensures faults { IfOk result (λ r. r.stack.adapter.tamper ≡ script.faults) }
-    ensures pool { IfOk result (λ r. IsBlank (pages_from script.mode.dix script.pages script.ops) r.stack.pool) }
-    ensures schedule { IfOk result (λ r. r.schedule ≡ script.schedule) }
-    ensures counted { IfOk result (λ r. (first : ℕ) → HasCounted first r.stack first) }
-    ensures plan { IfOk result (λ r. IsPlanFor script table (plan_in r.stack.sheet)) }
-    ensures walks { IfOk result (λ r. BeginsWalks script table _devices.now r.stack) }
-    ensures told { IfOk result (λ r. BeginsTold script table _devices.now r.stack) }
-    ensures falling { IfOk result (λ r. BeginsFalling script table _devices.now r.stack) }
-    ensures silent { IfOk result (λ r. NoneFailed r.stack.replies.items) }
-    ensures reaches { IfOk result (λ r. (told : Bool) (st : Standing) → st.devices ≡ length _devices.now → (told ≡ true → _devices.now ≡ map info_of (specs_of st)) → Reaches r.stack told st) }
-    ensures spare { IfOk result (λ r. (st : Standing) (room : Room) → HasRoom (greatest_size st) (blocks_of_requests (plan_in r.stack.sheet).requests) (blocks_of_requests (plan_in r.stack.sheet).requests) room → HasSpare r.stack st room) }
+    requires { IsBoundTo script table _devices.now }
+    ensures begins { IfOk result (Begins script table _devices.now) }
+    ensures reaches { IfOk result (λ r. ReachesTheirs _devices.now r.stack) }
+    ensures spare { IfOk result (λ r. BlocksAreEnough r.stack) }
 {
     let Script {
         mode,

@@ -1,21 +1,11 @@
 //! A script over an opened rig, to its end.
 
-ghost use Rattle.std.specs.Prelude.{ℕ, ◌≡◌, ◌+◌, ◌≤◌, IfOk, None, OnErr, OnOk, is_some, length, map, true};
+ghost use Rattle.std.specs.Prelude.{◌≡◌, IfOk, OnErr, OnOk, is_some, length, map, true};
 ghost use Rattle.rig_api.specs.Telling.{specs_of};
 ghost use Rattle.rig_discovery.specs.Discovery.{info_of};
-ghost use Rattle.volume_table.specs.Tables.{MadeFor};
-ghost use Rattle.page_pool.specs.Pages.{IsBlank};
-ghost use Rattle.dix_adapter.specs.Groups.{mode_of};
-ghost use Rattle.stack_view.specs.View.{start};
-ghost use Rattle.stack_steps.specs.Does.{Holds};
-ghost use Rattle.stack_walks.specs.Requests.{pages_from, requests_from};
-ghost use Rattle.stack_core.specs.Stacks.{HasSpare, IsStack, Reaches, plan_in};
-ghost use Rattle.script_text.specs.Bindings.{binding_fault};
-ghost use Rattle.script_ground.specs.SuitsStack.{SuitsStack};
-ghost use Rattle.stack_core.specs.Walking.{NoneFailed};
-ghost use Rattle.script_stack.specs.Followed.{BeginsTold, BeginsWalks, BeginsFalling, Ran, SizesAre};
-ghost use Rattle.stack_core.specs.Mediums.{HasCounted};
-ghost use Rattle.script_stack.specs.Sends.{IsPlanFor};
+ghost use Rattle.stack_core.specs.Going.{StandsOver};
+ghost use Rattle.script_stack.specs.Followed.{Ran, SizesAre};
+ghost use Rattle.script_stack.specs.Beginning.{Begins, IsBoundTo};
 
 use crate::laws::{
     a_script_run_is_backed, a_told_script_run_has_fallen, a_told_script_run_has_walked,
@@ -37,31 +27,11 @@ pub fn ready_script<R: Rig>(
     devices: &[DeviceInfo],
     rig: &mut R,
 ) -> Result<Run, AllocError>
-    requires suits { SuitsStack script }
-    requires lines { length script.lines ≡ length script.faults + length script.ops }
-    requires few { length devices.now ≤ 8 }
-    requires made { MadeFor table devices.now script.block }
-    requires bound { binding_fault script table devices.now ≡ None }
+    requires bound { IsBoundTo script table devices.now }
     requires count { length devices.now ≡ (R.state rig.old).standing.devices }
     requires told { is_some (R.state rig.old).image ≡ true → devices.now ≡ map info_of (specs_of (R.state rig.old).standing) }
-    ensures stack { IfOk result (λ r. IsStack r.stack) }
-    ensures first { IfOk result (λ r. Holds (plan_in r.stack.sheet) r.stack.machine (start (plan_in r.stack.sheet))) }
-    ensures ops { IfOk result (λ r. r.stack.sheet.ops ≡ script.ops) }
-    ensures ios { IfOk result (λ r. r.stack.sheet.ios.items ≡ requests_from script.mode.dix script.pages script.ops) }
-    ensures table { IfOk result (λ r. r.stack.sheet.table ≡ table) }
-    ensures limits { IfOk result (λ r. r.stack.sheet.limits ≡ script.limits) }
-    ensures mode { IfOk result (λ r. mode_of r.stack.adapter ≡ script.mode) }
-    ensures faults { IfOk result (λ r. r.stack.adapter.tamper ≡ script.faults) }
-    ensures pool { IfOk result (λ r. IsBlank (pages_from script.mode.dix script.pages script.ops) r.stack.pool) }
-    ensures schedule { IfOk result (λ r. r.schedule ≡ script.schedule) }
-    ensures counted { IfOk result (λ r. (first : ℕ) → HasCounted first r.stack first) }
-    ensures plan { IfOk result (λ r. IsPlanFor script table (plan_in r.stack.sheet)) }
-    ensures walks { IfOk result (λ r. BeginsWalks script table devices.now r.stack) }
-    ensures told { IfOk result (λ r. BeginsTold script table devices.now r.stack) }
-    ensures falling { IfOk result (λ r. BeginsFalling script table devices.now r.stack) }
-    ensures silent { IfOk result (λ r. NoneFailed r.stack.replies.items) }
-    ensures reaches { IfOk result (λ r. Reaches r.stack (is_some (R.state rig.new).image) (R.state rig.new).standing) }
-    ensures spare { IfOk result (λ r. HasSpare r.stack (R.state rig.new).standing (R.state rig.new).room) }
+    ensures begins { IfOk result (Begins script table devices.now) }
+    ensures stands { IfOk result (λ r. StandsOver r.stack (R.state rig.new)) }
     ensures armed { OnOk result (R.state rig.new ≡ record (R.state rig.old) { room = (R.state rig.new).room; armed = script.faults }) }
     ensures unarmed { OnErr result (R.state rig.new ≡ record (R.state rig.old) { room = (R.state rig.new).room }) }
 {
@@ -87,11 +57,7 @@ pub fn run_bound<R: Rig>(
     schedule: &[(u32, u32)],
     rig: &mut R,
 ) -> Result<Stack, AllocError>
-    requires suits { SuitsStack script }
-    requires lines { length script.lines ≡ length script.faults + length script.ops }
-    requires few { length devices.now ≤ 8 }
-    requires made { MadeFor table devices.now script.block }
-    requires bound { binding_fault script table devices.now ≡ None }
+    requires bound { IsBoundTo script table devices.now }
     requires count { length devices.now ≡ (R.state rig.old).standing.devices }
     requires sizes { SizesAre devices.now (R.state rig.old).standing }
     requires told { is_some (R.state rig.old).image ≡ true → devices.now ≡ map info_of (specs_of (R.state rig.old).standing) }

@@ -34,14 +34,13 @@ use Rattle.whole_run.specs.Settings.{Setting, block_of}
 use Rattle.whole_run.specs.UnderMap.{opened, under}
 use Rattle.stack_core.specs.Mediums.{RoseBy, medium_lines}
 use Rattle.stack_walks.specs.Requests.{pages_from, requests_from}
-use Rattle.stack_core.specs.Stacks.{GoesOn, IsStack, Stays, plan_in}
+use Rattle.stack_core.specs.Stacks.{GoesOn, IsFinished, IsStack, Stays, plan_in}
 use Rattle.stack_core.specs.declared.stack.Stack.{Stack}
 use Rattle.stack_ops.specs.declared.reply.Reply.{Reply}
 use Rattle.stack_steps.specs.Does.{Holds}
-use Rattle.stack_view.specs.Steps.{enabled}
 use Rattle.target_answer.specs.Frames.{joined}
 use Rattle.target_answer.specs.Target.{Stored}
-use Rattle.stack_view.specs.View.{View as StackView, start}
+use Rattle.stack_view.specs.View.{start}
 use Rattle.volume_table.specs.Faults.{table_fault, volume_type}
 use Rattle.volume_table.specs.Tables.{MadeFor, Table}
 use Rattle.volume_table.specs.declared.device.DeviceInfo.{DeviceInfo}
@@ -148,7 +147,7 @@ pub record IsBegun (script : Script) (table : Table) (s : Stack) : Type 0 where
 pub record IsEnded (begun s : Stack) : Type 0 where
   pub stack : IsStack s
   pub stays : Stays begun s
-  pub ended : (v : StackView) → Holds (plan_in s.sheet) s.machine v → enabled (plan_in s.sheet) v ≡ []
+  pub ended : IsFinished s
 
 -- Replies, pages and stored blocks are those of the script's ops on a plain map of virtual blocks, which knows no adapter, no target and no address; the stored blocks are the image under that map.
 pub record HasPlain (script : Script) (table : Table) (us left : List Stored) (pool : List (List ℕ)) (replies : List Reply) : Type 0 where

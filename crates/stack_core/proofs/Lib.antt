@@ -50,3 +50,5 @@ pub mod StackCounts
 pub mod MediumLines
 pub mod NoMedium
 pub mod Answering
+pub mod Stepping
+pub mod NewStacks

@@ -11,7 +11,6 @@ use Rattle.stack_ops.specs.declared.reply.BadBlock.{BadBlock}
 use Rattle.stack_ops.specs.declared.reply.Reply.{Reply}
 use Rattle.stack_ops.specs.declared.reply.Reply.TheVariants.{Silent}
 use Rattle.stack_view.specs.Plan.{request_at}
-use Rattle.stack_view.specs.Steps.{enabled}
 use Rattle.stack_view.specs.View.{View, op_at}
 use Rattle.stack_view.proofs.Enabled.{stuck}
 use Rattle.stack_steps.specs.Does.{Holds}
@@ -26,7 +25,7 @@ use Rattle.stack_core.specs.declared.stack.Stack.{Stack}
 use Rattle.stack_walks.specs.Moved.{why_of}
 use Rattle.stack_core.specs.OnRecord.{IsKeptBad, ListsNone, bad_blocks}
 use Rattle.stack_walks.specs.Sheets.{op_in}
-use Rattle.stack_core.specs.Stacks.{IsStack, plan_in}
+use Rattle.stack_core.specs.Stacks.{IsFinished, IsStack, plan_in}
 use Rattle.stack_core.specs.Walking.{IsReply, Walks, why_in}
 use Rattle.stack_core.proofs.Context.{over_told}
 use Rattle.stack_core.proofs.Walked.{sound, stand}
@@ -73,7 +72,7 @@ op_there ops i h =
     (λ (l : length ops ≤ i). let e = ap fates_of (get_or_past ops i Wait l) in absurd (omega arith))
     (cases_lt i (length ops))
 
-pub lists_all : (m : Setting) (n : ℕ) (opening : State) (first : ℕ) (s : Stack) (st : Standing) (log : List Entry) → IsStack s → Walks m n opening first s st log → ((v : View) → Holds (plan_in s.sheet) s.machine v → enabled (plan_in s.sheet) v ≡ []) →
+pub lists_all : (m : Setting) (n : ℕ) (opening : State) (first : ℕ) (s : Stack) (st : Standing) (log : List Entry) → IsStack s → Walks m n opening first s st log → IsFinished s →
     ListsNone s.replies.items → (v : View) → Holds (plan_in s.sheet) s.machine v → IsKeptBad v.ops s.kept.starts.items s.kept.held.items → ⊥
 lists_all m n opening first s st log k w none lists v x b =
     let p = plan_in s.sheet in

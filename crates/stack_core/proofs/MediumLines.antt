@@ -9,10 +9,7 @@ use Rattle.stack_ops.specs.declared.op.Op.{Op}
 use Rattle.stack_ops.specs.declared.op.Op.TheVariants.{Fetch, FetchPi, Fill, Overwrite, Put, Seal, Show, Wait, Write, WritePi}
 use Rattle.stack_ops.specs.declared.reply.Reply.{Reply}
 use Rattle.stack_ops.specs.declared.reply.Reply.TheVariants.{Silent, Medium as MediumReply}
-use Rattle.stack_view.specs.Steps.{enabled}
-use Rattle.stack_view.specs.View.{View}
 use Rattle.stack_view.proofs.Enabled.{stuck}
-use Rattle.stack_steps.specs.Does.{Holds}
 use Rattle.block_path.specs.Acts.{State}
 use Rattle.whole_run.specs.ScriptWalk.{bad_from, whole_or_bad}
 use Rattle.whole_run.specs.Settings.{Setting}
@@ -26,7 +23,7 @@ use Rattle.stack_walks.specs.Moved.{why_of}
 use Rattle.stack_core.specs.OnRecord.{bad_blocks}
 use Rattle.stack_walks.specs.Settling.{blocks_before}
 use Rattle.stack_walks.specs.Sheets.{op_in}
-use Rattle.stack_core.specs.Stacks.{IsStack, plan_in}
+use Rattle.stack_core.specs.Stacks.{IsFinished, IsStack, plan_in}
 use Rattle.stack_core.specs.Walking.{IsReply, Walks}
 use Rattle.stack_core.proofs.Context.{over_told}
 use Rattle.stack_walks.proofs.Counts.{blocks-more}
@@ -120,7 +117,7 @@ dropped (h ∷ held) zero = omega arith
 dropped (h ∷ held) (suc x) = let r = dropped held x in omega (arith, r)
 
 -- by the count of faults
-pub lines_rose : (m : Setting) (n : ℕ) (opening : State) (begun : ℕ) (first : ℕ) (s : Stack) (st : Standing) (log : List Entry) (count : ℕ) → IsStack s → Walks m n opening begun s st log → ((v : View) → Holds (plan_in s.sheet) s.machine v → enabled (plan_in s.sheet) v ≡ []) →
+pub lines_rose : (m : Setting) (n : ℕ) (opening : State) (begun : ℕ) (first : ℕ) (s : Stack) (st : Standing) (log : List Entry) (count : ℕ) → IsStack s → Walks m n opening begun s st log → IsFinished s →
     HasCounted first s count → RoseBy (medium_lines s.replies.items) first count
 lines_rose m n opening begun first s st log count k w none x =
     let p = plan_in s.sheet in

@@ -16,9 +16,8 @@ use Rattle.stack_ops.specs.declared.reply.Reply.{Reply}
 use Rattle.stack_ops.specs.declared.reply.Reply.TheVariants.{Bad, Medium as MediumReply, Shown, Silent, Whole}
 use Rattle.stack_view.specs.Plan.{request_at}
 use Rattle.stack_view.specs.Steps.{enabled}
-use Rattle.stack_view.specs.View.{OpView, View, no_op, op_at}
+use Rattle.stack_view.specs.View.{OpView, no_op, op_at}
 use Rattle.stack_view.proofs.Enabled.{stuck, all-at}
-use Rattle.stack_steps.specs.Does.{Holds}
 use Rattle.block_path.specs.Acts.{State}
 use Rattle.block_path.specs.Blocks.{Sent}
 use Rattle.whole_run.specs.ScriptWalk.{bad_from, whole_or_bad}
@@ -41,7 +40,7 @@ use Rattle.stack_core.specs.declared.stack.Stack.{Stack}
 use Rattle.dix_base.specs.Told.{Calm}
 use Rattle.stack_core.specs.Mediums.{RoseBy, listed_mediums, medium_lines, one_reply}
 use Rattle.stack_core.specs.OnRecord.{bad_blocks}
-use Rattle.stack_core.specs.Stacks.{IsStack, plan_in}
+use Rattle.stack_core.specs.Stacks.{IsFinished, IsStack, plan_in}
 use Rattle.stack_core.specs.Walking.{IsOver, IsReply, NoneFailed, WalksBy, WalksFalling, WalksTold, data_of, is_medium, shown_in, status_of, why_in}
 use Rattle.stack_core.proofs.Walked.{sound, stand}
 use Rattle.stack_core.proofs.ListsAll.{lists_bad}
@@ -195,7 +194,7 @@ as_is flips i k (op ∷ ops) h e =
 -- ---- so it followed the walk
 
 pub walks_straight : (m : Setting) (n : ℕ) (opening : State) (first : ℕ) (s : Stack) (units : Option (List Stored)) (armed : List FaultLine) (st : Standing) (log : List Entry) → IsStack s → WalksFalling m n opening first s units armed st log →
-    ((v : View) → Holds (plan_in s.sheet) s.machine v → enabled (plan_in s.sheet) v ≡ []) → medium_lines s.replies.items ≡ 0 → WalksTold m n opening first s units armed st log
+    IsFinished s → medium_lines s.replies.items ≡ 0 → WalksTold m n opening first s units armed st log
 walks_straight m n opening first s units armed st log k walks none e =
     let flips = walks.0 in
     let t = walks.1 in

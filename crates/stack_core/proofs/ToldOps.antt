@@ -1,5 +1,5 @@
 -- A stack that follows the walk of its script over a rig that tells its blocks does so after an op is admitted, and after each step that leaves the rig alone.
-use Rattle.std.proofs.Common.{◌≡◌, ◌⊎◌, inl, inr, ◌<◌, ◌≤◌, ℕ, ◌+◌, ◌-◌, Bool, true, leb, ltb, List, [], ◌∷◌, length, drop, get_or, set, Option, Some, None, refl, sym, ap, subst, ◌∙◌, arith}
+use Rattle.std.proofs.Common.{◌≡◌, ◌⊎◌, inl, inr, ◌<◌, ◌≤◌, ℕ, ◌+◌, ◌-◌, true, leb, ltb, List, [], ◌∷◌, length, drop, get_or, set, Option, Some, None, refl, sym, ap, subst, ◌∙◌, arith}
 use Rattle.std.specs.Prelude.{is_some}
 use Rattle.std.proofs.lemmas.Bool.{and_parts}
 use Rattle.dix_base.specs.Told.{Calm}
@@ -10,6 +10,7 @@ use Rattle.target_answer.specs.declared.units.UnitSpec.{UnitSpec}
 use Rattle.rig_api.specs.Log.{Entry}
 use Rattle.rig_api.specs.declared.change.Change.{Change}
 use Rattle.rig_api.specs.declared.change.Change.TheVariants.{Copy, Flip}
+use Rattle.rig_api.specs.State.{RigState}
 use Rattle.rig_api.specs.Telling.{IsStanding, Standing, block_at, can_change, changed as changed_told, frame_size, has_address, source_of as source_device, spec_at, specs_of, unit_at, units_told, with_block}
 use Rattle.target_answer.specs.Frames.{stored_size}
 use Rattle.dix_adapter.specs.Ways.{blocks_told, cell_in, shapes_of, site_of}
@@ -127,56 +128,56 @@ falling_on m n opening first s s' units armed st log k stays on w = (w.0, at_tar
 
 -- ---- an op is admitted
 
-pub walks_entered : (m : Setting) (n : ℕ) (opening : State) (first : ℕ) (s s' : Stack) (tells : Bool) (st : Standing) (units units' : Option (List Stored)) (count count' : ℕ) (log : List Entry) → IsStack s → Stays s s' → Enters tells st units units' count count' s s' →
-    Walks m n opening first s st log → Walks m n opening first s' st log
-walks_entered m n opening first s s' tells st units units' count count' log k stays enters w =
-    records_stay m n opening first s st log k w s' stays _ (enters.walks Straight tt _ n opening _ w.left (over_record m n opening first s st log k w) w.walks)
+pub walks_entered : (m : Setting) (n : ℕ) (opening : State) (first : ℕ) (s s' : Stack) (o o' : RigState) → IsStack s → Stays s s' → Enters o o' s s' →
+    Walks m n opening first s o.standing o.log → Walks m n opening first s' o.standing o.log
+walks_entered m n opening first s s' o o' k stays enters w =
+    records_stay m n opening first s o.standing o.log k w s' stays _ (enters.walks Straight tt _ n opening _ w.left (over_record m n opening first s o.standing o.log k w) w.walks)
 
-at_target_entered : (course : Course) (m : Setting) (n : ℕ) (opening : State) (first : ℕ) (s s' : Stack) (image : Option (List ℕ)) (st : Standing) (units units' : Option (List Stored)) (armed armed' : List FaultLine) (count count' : ℕ) (log : List Entry) → IsStack s → Stays s s' →
-    (enters : Enters (is_some image) st units units' count count' s s') → units ≡ units_told st image → IsStanding st image → armed' ≡ armed → IsKnown enters.op enters.reply → KnownBy course enters.op enters.reply → WalksAtTarget course m n opening first s units armed st log → WalksAtTarget course m n opening first s' units' armed' st log
-at_target_entered course m n opening first s s' image st units units' armed armed' count count' log k stays enters laid ready still known by_course w =
-    let us : units_told st image ≡ Some w.us = sym laid ∙ w.told_are in
-    let told : is_some image ≡ true = is_told st image w.us us in
-    let cell : m.site.cell ≡ cell_in (specs_of st) = ap (λ (x : Site). x.cell) w.site in
-    let left = left_is w.us st m image enters.op cell us ready (subst (λ t. CanReach t st enters.op) told enters.reach) in
-    told_stay m n opening first s units armed st log k w s' stays units' (units_left enters.op w.us) armed' log w.recorded_from (enters.tells w.us w.told_are known) still
-    (subst (λ x. WalksBy course m n opening (recorded m (drop first log)) x s') (sym left) (enters.walks course by_course m n opening (recorded m (drop first log)) (blocks_told w.us) w.over w.walks))
+at_target_entered : (course : Course) (m : Setting) (n : ℕ) (opening : State) (first : ℕ) (s s' : Stack) (o o' : RigState) → IsStack s → Stays s s' →
+    (enters : Enters o o' s s') → o.units ≡ units_told o.standing o.image → IsStanding o.standing o.image → o'.armed ≡ o.armed → IsKnown enters.op enters.reply → KnownBy course enters.op enters.reply → WalksAtTarget course m n opening first s o.units o.armed o.standing o.log → WalksAtTarget course m n opening first s' o'.units o'.armed o.standing o.log
+at_target_entered course m n opening first s s' o o' k stays enters laid ready still known by_course w =
+    let us : units_told o.standing o.image ≡ Some w.us = sym laid ∙ w.told_are in
+    let told : is_some o.image ≡ true = is_told o.standing o.image w.us us in
+    let cell : m.site.cell ≡ cell_in (specs_of o.standing) = ap (λ (x : Site). x.cell) w.site in
+    let left = left_is w.us o.standing m o.image enters.op cell us ready (subst (λ t. CanReach t o.standing enters.op) told enters.reach) in
+    told_stay m n opening first s o.units o.armed o.standing o.log k w s' stays o'.units (units_left enters.op w.us) o'.armed o.log w.recorded_from (enters.tells w.us w.told_are known) still
+    (subst (λ x. WalksBy course m n opening (recorded m (drop first o.log)) x s') (sym left) (enters.walks course by_course m n opening (recorded m (drop first o.log)) (blocks_told w.us) w.over w.walks))
 
-pub told_entered : (m : Setting) (n : ℕ) (opening : State) (first : ℕ) (s s' : Stack) (image : Option (List ℕ)) (st : Standing) (units units' : Option (List Stored)) (armed armed' : List FaultLine) (count count' : ℕ) (log : List Entry) → IsStack s → Stays s s' → Enters (is_some image) st units units' count count' s s' →
-    units ≡ units_told st image → IsStanding st image → armed' ≡ armed → Calm count count' → WalksTold m n opening first s units armed st log → WalksTold m n opening first s' units' armed' st log
-told_entered m n opening first s s' image st units units' armed armed' count count' log k stays enters laid ready still calm w =
-    at_target_entered Straight m n opening first s s' image st units units' armed armed' count count' log k stays enters laid ready still (enters.calm calm) tt w
+pub told_entered : (m : Setting) (n : ℕ) (opening : State) (first : ℕ) (s s' : Stack) (o o' : RigState) → IsStack s → Stays s s' → Enters o o' s s' →
+    o.units ≡ units_told o.standing o.image → IsStanding o.standing o.image → o'.armed ≡ o.armed → Calm o.faults o'.faults → WalksTold m n opening first s o.units o.armed o.standing o.log → WalksTold m n opening first s' o'.units o'.armed o.standing o.log
+told_entered m n opening first s s' o o' k stays enters laid ready still calm w =
+    at_target_entered Straight m n opening first s s' o o' k stays enters laid ready still (enters.calm calm) tt w
 
-pub falling_entered : (m : Setting) (n : ℕ) (opening : State) (first : ℕ) (s s' : Stack) (image : Option (List ℕ)) (st : Standing) (units units' : Option (List Stored)) (armed armed' : List FaultLine) (count count' : ℕ) (log : List Entry) → IsStack s → Stays s s' →
-    (enters : Enters (is_some image) st units units' count count' s s') → units ≡ units_told st image → IsStanding st image → armed' ≡ armed → WalksFalling m n opening first s units armed st log → WalksFalling m n opening first s' units' armed' st log
-falling_entered m n opening first s s' image st units units' armed armed' count count' log k stays enters laid ready still w = by enters.known where
-  by : IsKnown enters.op enters.reply ⊎ Fails units units' enters.op s s' → WalksFalling m n opening first s' units' armed' st log
-  by (inl known) = (w.0, at_target_entered (Falling w.0) m n opening first s s' image st units units' armed armed' count count' log k stays enters laid ready still known known w.1)
+pub falling_entered : (m : Setting) (n : ℕ) (opening : State) (first : ℕ) (s s' : Stack) (o o' : RigState) → IsStack s → Stays s s' →
+    (enters : Enters o o' s s') → o.units ≡ units_told o.standing o.image → IsStanding o.standing o.image → o'.armed ≡ o.armed → WalksFalling m n opening first s o.units o.armed o.standing o.log → WalksFalling m n opening first s' o'.units o'.armed o.standing o.log
+falling_entered m n opening first s s' o o' k stays enters laid ready still w = by enters.known where
+  by : IsKnown enters.op enters.reply ⊎ Fails o o' enters.op s s' → WalksFalling m n opening first s' o'.units o'.armed o.standing o.log
+  by (inl known) = (w.0, at_target_entered (Falling w.0) m n opening first s s' o o' k stays enters laid ready still known known w.1)
   by (inr f) =
       let t = w.1 in
-      let us : units_told st image ≡ Some t.us = sym laid ∙ t.told_are in
-      let told : is_some image ≡ true = is_told st image t.us us in
-      let reach : CanReach true st (Overwrite f.dev f.lba f.change) = subst (CanReach true st) f.is (subst (λ x. CanReach x st enters.op) told enters.reach) in
-      let here = unit-stands st image t.us f.dev us ready reach.device in
-      let place = has_place t.us st f.dev f.lba f.change (reach.place refl) in
+      let us : units_told o.standing o.image ≡ Some t.us = sym laid ∙ t.told_are in
+      let told : is_some o.image ≡ true = is_told o.standing o.image t.us us in
+      let reach : CanReach true o.standing (Overwrite f.dev f.lba f.change) = subst (CanReach true o.standing) f.is (subst (λ x. CanReach x o.standing enters.op) told enters.reach) in
+      let here = unit-stands o.standing o.image t.us f.dev us ready reach.device in
+      let place = has_place t.us o.standing f.dev f.lba f.change (reach.place refl) in
       let cell : m.site.cell f.dev f.lba ≡ cell_in (shapes_of t.us) f.dev f.lba = ap (λ (x : Site). x.cell f.dev f.lba) t.site ∙ ap (λ x. cell_in x f.dev f.lba) (sym here.shapes) in
       let left = f.tells t.us t.told_are in
-      let was = here_is t.us st f.dev f.lba here place in
+      let was = here_is t.us o.standing f.dev f.lba here place in
       let long : length left.0 ≡ length (get_or (blocks_told t.us) (m.site.cell f.dev f.lba) [])
-      = left.1.0 ∙ (sym (long_here t.us st f.dev f.lba here place) ∙ (ap length (sym was) ∙ ap (λ c. length (get_or (blocks_told t.us) c [])) (sym cell))) in
-      let on = f.walks w.0 m n opening (recorded m (drop first log)) (blocks_told t.us) t.over t.walks left.0 long in
+      = left.1.0 ∙ (sym (long_here t.us o.standing f.dev f.lba here place) ∙ (ap length (sym was) ∙ ap (λ c. length (get_or (blocks_told t.us) c [])) (sym cell))) in
+      let on = f.walks w.0 m n opening (recorded m (drop first o.log)) (blocks_told t.us) t.over t.walks left.0 long in
       let blocks : set (blocks_told t.us) (m.site.cell f.dev f.lba) left.0 ≡ blocks_told (with_block t.us f.dev f.lba left.0)
-      = ap (λ c. set (blocks_told t.us) c left.0) cell ∙ sym (put_here t.us st f.dev f.lba left.0 here place) in (
+      = ap (λ c. set (blocks_told t.us) c left.0) cell ∙ sym (put_here t.us o.standing f.dev f.lba left.0 here place) in (
         on.0,
         record {
           over = over_stays m n opening s s' stays t.over;
           sizes = t.sizes;
-          site = t.site ∙ ap (λ x. site_of x (specs_of st)) (sym stays.adapter);
-          behind = subst (λ (x : Sheet). AreAtUnits m (specs_of st) x.ops) (sym stays.sheet) t.behind;
+          site = t.site ∙ ap (λ x. site_of x (specs_of o.standing)) (sym stays.adapter);
+          behind = subst (λ (x : Sheet). AreAtUnits m (specs_of o.standing) x.ops) (sym stays.sheet) t.behind;
           armed_are = still ∙ (t.armed_are ∙ ap (λ x. x.tamper) (sym stays.adapter));
           recorded_from = t.recorded_from;
           us = with_block t.us f.dev f.lba left.0;
           told_are = left.1.1;
-          walks = subst (λ x. WalksBy (Falling on.0) m n opening (recorded m (drop first log)) x s') blocks on.1;
+          walks = subst (λ x. WalksBy (Falling on.0) m n opening (recorded m (drop first o.log)) x s') blocks on.1;
         },
       )

@@ -7,3 +7,5 @@ pub mod Mediums
 pub mod Rooms
 pub mod Courses
 pub mod Walking
+pub mod NewStacks
+pub mod Going

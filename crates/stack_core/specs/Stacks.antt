@@ -1,5 +1,5 @@
 -- A stack whose steps can be done, and the rigs over which they can.
-use Rattle.std.specs.Prelude.{◌≡◌, ℕ, ◌<◌, ◌≤◌, Bool, List, ◌++◌, length, get_or}
+use Rattle.std.specs.Prelude.{◌≡◌, ℕ, ◌<◌, ◌≤◌, Bool, List, [], ◌++◌, length, get_or}
 use Rattle.std.specs.Vec.{vec_capacity}
 use Rattle.std.specs.declared.alloc.Global.{Global}
 use Rattle.std.specs.declared.vec.Vec.{Vec}
@@ -19,11 +19,11 @@ use Rattle.stack_ops.specs.declared.op.Op.{Op}
 use Rattle.stack_view.specs.Plan.{Plan}
 use Rattle.stack_view.specs.Room.{exchanges_left, frames_left}
 use Rattle.stack_view.specs.Runs.{blocks_of_requests}
-use Rattle.stack_view.specs.Sound.{Answered, Settles}
+use Rattle.stack_view.specs.Sound.{Answered}
 use Rattle.stack_view.specs.Steps.{chosen, enabled, step}
 use Rattle.stack_view.specs.View.{View}
 use Rattle.stack_steps.specs.declared.machine.Machine.{Machine}
-use Rattle.stack_steps.specs.Does.{Flies, Holds, Takes, Works}
+use Rattle.stack_steps.specs.Does.{Holds, Works}
 use Rattle.stack_core.specs.declared.kept.Room.{Room}
 use Rattle.stack_core.specs.declared.kept.Room.TheVariants.{Nothing}
 use Rattle.stack_core.specs.declared.sheet.Sheet.{Sheet}
@@ -94,14 +94,9 @@ pub record HasSpare (s : Stack) (st : Standing) (room : Spare) : Type 0 where
 abbrev pub HasStep : Plan → Machine → Type 0
 HasStep p m = (v : View) → Holds p m v → 0 < length (enabled p v)
 
--- a group was taken and sent, and some of its blocks are settled
-pub record Sends (p : Plan) (m : Machine) (d i : ℕ) (m' : Machine) : Type 0 where
-  pub taken : Machine
-  pub group : List Bio
-  pub fates : List Fate
-  pub takes : Takes p m d i group taken
-  pub flies : Flies p taken d group fates m'
-  pub settles : Settles group fates
+-- all ops have ended: no step is enabled
+abbrev pub IsFinished : Stack → Type 0
+IsFinished s = (v : View) → Holds (plan_in s.sheet) s.machine v → enabled (plan_in s.sheet) v ≡ []
 
 -- the step of the word is done, with some fates where it sends, whichever view the machine showed
 abbrev pub Steps : Plan → Machine → ℕ → ℕ → Machine → Type 0

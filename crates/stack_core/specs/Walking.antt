@@ -11,6 +11,7 @@ use Rattle.fault_schedule.specs.declared.fault.FaultLine.{FaultLine}
 use Rattle.target_answer.specs.Target.{Stored}
 use Rattle.range_gate.specs.Gates.{has_ended}
 use Rattle.rig_api.specs.Log.{Entry}
+use Rattle.rig_api.specs.State.{RigState}
 use Rattle.rig_api.specs.Telling.{Standing, block_at, changed as changed_told, frame_size, spec_at, specs_of, unit_at, with_block}
 use Rattle.stack_ops.specs.declared.op.Op.{Op}
 use Rattle.stack_ops.specs.declared.op.Op.TheVariants.{Fill, Put, Show, Seal, Write, Fetch, WritePi, FetchPi, Overwrite, Wait}
@@ -303,25 +304,25 @@ KnownBy Straight op reply = Unit {0}
 KnownBy (Falling flips) op reply = IsKnown op reply
 
 -- An overwrite is admitted whose store call fails. Whatever it leaves in its block, of its size, the stack follows the walk with that; and a rig that tells its blocks tells what it left there.
-pub record Fails (units units' : Option (List Stored)) (op : Op) (old new : Stack) : Type 0 where
+pub record Fails (before after : RigState) (op : Op) (old new : Stack) : Type 0 where
   pub dev : ℕ
   pub lba : ℕ
   pub change : Change
   pub is : op ≡ Overwrite dev lba change
   pub walks : (flips : Flips) (over : Setting) (n : ℕ) (opening : State) (es : List Sent) (left : List (List ℕ)) → IsOver over n opening old.sheet old.adapter old.host → WalksBy (Falling flips) over n opening es left old
       → (block : List ℕ) → length block ≡ length (get_or left (over.site.cell dev lba) []) → (flips' : Flips) × WalksBy (Falling flips') over n opening es (set left (over.site.cell dev lba) block) new
-  pub tells : (us : List Stored) → units ≡ Some us → (block : List ℕ) × ((length block ≡ frame_size (unit_at us dev)) × (units' ≡ Some (with_block us dev lba block)))
+  pub tells : (us : List Stored) → before.units ≡ Some us → (block : List ℕ) × ((length block ≡ frame_size (unit_at us dev)) × (after.units ≡ Some (with_block us dev lba block)))
 
 -- An op is admitted. Where a rig tells its blocks, it tells afterwards what the op leaves; or the op is an overwrite that failed, and the count of faults rose.
-pub record Enters (told_is : Bool) (st : Standing) (units units' : Option (List Stored)) (count count' : ℕ) (old new : Stack) : Type 0 where
+pub record Enters (before after : RigState) (old new : Stack) : Type 0 where
   pub op : Op
   pub reply : Reply
-  pub reach : CanReach told_is st op
-  pub known : IsKnown op reply ⊎ Fails units units' op old new
-  pub calm : Calm count count' → IsKnown op reply
+  pub reach : CanReach (is_some before.image) before.standing op
+  pub known : IsKnown op reply ⊎ Fails before after op old new
+  pub calm : Calm before.faults after.faults → IsKnown op reply
   pub walks : (course : Course) → KnownBy course op reply → (over : Setting) (n : ℕ) (opening : State) (es : List Sent) (left : List (List ℕ)) → IsOver over n opening old.sheet old.adapter old.host → WalksBy course over n opening es left old
       → WalksBy course over n opening es (op_left over op left) new
-  pub tells : (us : List Stored) → units ≡ Some us → IsKnown op reply → units' ≡ Some (units_left op us)
+  pub tells : (us : List Stored) → before.units ≡ Some us → IsKnown op reply → after.units ≡ Some (units_left op us)
 
 -- ---- at the end
 

@@ -1,15 +1,12 @@
 //! What the layers above build on: what the stack does to blocks are moves on cells.
 
-ghost use Rattle.std.specs.Prelude.{◌≡◌, ◌<◌, ◌≤◌, ℕ, List, [], ◌+◌, ◌++◌, Bool, true, false, Option, None, Some, drop, get_or, length, take};
+ghost use Rattle.std.specs.Prelude.{◌≡◌, ◌<◌, ◌≤◌, ℕ, List, ◌+◌, ◌++◌, Bool, true, false, None, Some, drop, get_or, length, take};
 ghost use Rattle.fault_schedule.specs.declared.Label.{Label as AnyLabel};
 ghost use Rattle.fault_schedule.specs.declared.fault.FaultLine.{FaultLine};
 ghost use Rattle.target_answer.specs.Target.{Stored};
 ghost use Rattle.rig_api.specs.Log.{Entry};
 ghost use Rattle.rig_api.specs.Telling.{Standing};
 ghost use Rattle.stack_view.specs.Runs.{Entry as AnyEntry, blocks_of_requests, sends_of};
-ghost use Rattle.stack_view.specs.Steps.{enabled};
-ghost use Rattle.stack_view.specs.View.{View};
-ghost use Rattle.stack_steps.specs.Does.{Holds};
 ghost use Rattle.whole_run.specs.Settings.{Setting};
 ghost use Rattle.run_moves.specs.BoundRun.{IsBoundRun};
 ghost use Rattle.run_record.specs.BackedRun.{Backed};
@@ -20,7 +17,7 @@ ghost use Rattle.dix_adapter.specs.Ways.{blocks_told};
 ghost use Rattle.stack_core.specs.declared.stack.Stack.{Stack as AnyStack};
 ghost use Rattle.stack_core.specs.Mediums.{HasCounted, RoseBy, medium_lines};
 ghost use Rattle.stack_core.specs.OnRecord.{AreRecords, HasSent, ListsNone};
-ghost use Rattle.stack_core.specs.Stacks.{IsStack, plan_in};
+ghost use Rattle.stack_core.specs.Stacks.{IsFinished, IsStack, plan_in};
 ghost use Rattle.stack_core.specs.Walking.{EndsFallen, EndsTold, HasFails, Walks, WalksFalling, WalksTold};
 ghost use Rattle.page_pool.specs.Cells.{flat};
 ghost use Rattle.page_pool.specs.Pages.{AllLieIn, AreWhole};
@@ -72,7 +69,7 @@ pub fn a_read_is_settled_by_a_move()
 /// A stack that followed the walk of its script to the end, over any rig, honest or not: the rig's log backs its replies.
 pub fn a_finished_stack_is_backed()
     ensures { (m : Setting) (n : ℕ) (opening : State) (first : ℕ) (s : AnyStack) (st : Standing) (log : List Entry) → IsStack s → Walks m n opening first s st log
-        → ((v : View) → Holds (plan_in s.sheet) s.machine v → enabled (plan_in s.sheet) v ≡ []) → HasFails m s.replies.items
+        → IsFinished s → HasFails m s.replies.items
         → IsBoundRun (told m (recorded m (drop first log))) (λ c block. true) n s.sheet.ops opening → Backed m s.sheet.ops (hidden n opening) (drop first log) s.replies.items }
 {}
 
@@ -80,7 +77,7 @@ pub fn a_finished_stack_is_backed()
 /// of the script's walk at the target, and the log holds what the walk carries.
 pub fn a_finished_stack_has_done_the_walk()
     ensures { (m : Setting) (fine : ℕ → List ℕ → Bool) (n : ℕ) (opening : State) (first : ℕ) (s : AnyStack) (us : List Stored) (armed : List FaultLine) (st : Standing) (log : List Entry) → IsStack s
-        → WalksTold m n opening first s (Some us) armed st log → ((v : View) → Holds (plan_in s.sheet) s.machine v → enabled (plan_in s.sheet) v ≡ []) → HasFails m s.replies.items
+        → WalksTold m n opening first s (Some us) armed st log → IsFinished s → HasFails m s.replies.items
         → IsBoundRun m fine n s.sheet.ops opening → EndsTold m n opening s.sheet.ops s us (drop first log) }
 {}
 
@@ -89,7 +86,7 @@ pub fn a_finished_stack_has_done_the_walk()
 /// block is fine in its place.
 pub fn a_finished_stack_has_done_the_falling_walk()
     ensures { (m : Setting) (fine : ℕ → List ℕ → Bool) (n : ℕ) (opening : State) (first : ℕ) (s : AnyStack) (us : List Stored) (armed : List FaultLine) (st : Standing) (log : List Entry) → IsStack s
-        → WalksFalling m n opening first s (Some us) armed st log → ((v : View) → Holds (plan_in s.sheet) s.machine v → enabled (plan_in s.sheet) v ≡ []) → HasFails m s.replies.items
+        → WalksFalling m n opening first s (Some us) armed st log → IsFinished s → HasFails m s.replies.items
         → ((c : ℕ) (old new : List ℕ) → length new ≡ length old → fine c old ≡ true → fine c new ≡ true) → IsBoundRun m fine n s.sheet.ops opening → AllTakeAny m fine 1 s.sheet.ops
         → EndsFallen m n opening s.sheet.ops (take n (flat s.pool)) (blocks_told us) s.replies.items (recorded m (drop first log)) }
 {}
@@ -99,20 +96,20 @@ pub fn a_finished_stack_has_done_the_falling_walk()
 /// blocks are good, in order and one for one.
 pub fn a_finished_stack_has_sent()
     ensures few { (es : List AnyEntry) (s : AnyStack) (log : List Entry) → IsStack s → HasSent es s log → length log ≤ blocks_of_requests (plan_in s.sheet).requests }
-    ensures all { (es : List AnyEntry) (s : AnyStack) (log : List Entry) (m : Setting) (n : ℕ) (opening : State) (first : ℕ) (st : Standing) (whole : List Entry) → IsStack s → HasSent es s log → Walks m n opening first s st whole
-        → ((v : View) → Holds (plan_in s.sheet) s.machine v → enabled (plan_in s.sheet) v ≡ []) → ListsNone s.replies.items → AreRecords (sends_of (plan_in s.sheet) es) log }
+    ensures all { (es : List AnyEntry) (s : AnyStack) (log : List Entry) (m : Setting) (n : ℕ) (opening : State) (first : ℕ) (st : Standing) (whole : List Entry)
+        → IsStack s → HasSent es s log → Walks m n opening first s st whole → IsFinished s → ListsNone s.replies.items → AreRecords (sends_of (plan_in s.sheet) es) log }
 {}
 
 /// And the lines of its replies that name the medium, of blocks and of overwrites, are at most as many as the count of
 /// faults rose, where each step kept `HasCounted`.
 pub fn a_finished_stack_names_the_medium_seldom()
     ensures { (m : Setting) (n : ℕ) (opening : State) (begun first : ℕ) (s : AnyStack) (st : Standing) (log : List Entry) (count : ℕ) → IsStack s → Walks m n opening begun s st log
-        → ((v : View) → Holds (plan_in s.sheet) s.machine v → enabled (plan_in s.sheet) v ≡ []) → HasCounted first s count → RoseBy (medium_lines s.replies.items) first count }
+        → IsFinished s → HasCounted first s count → RoseBy (medium_lines s.replies.items) first count }
 {}
 
 /// Where no line of its replies names the medium no store call failed: over a rig that tells its blocks it followed the
 /// walk at the target, whatever the count of faults did.
 pub fn a_finished_stack_that_names_no_medium_has_followed_the_walk()
-    ensures { (m : Setting) (n : ℕ) (opening : State) (first : ℕ) (s : AnyStack) (us : List Stored) (armed : List FaultLine) (st : Standing) (log : List Entry) → IsStack s → WalksFalling m n opening first s (Some us) armed st log
-        → ((v : View) → Holds (plan_in s.sheet) s.machine v → enabled (plan_in s.sheet) v ≡ []) → medium_lines s.replies.items ≡ 0 → WalksTold m n opening first s (Some us) armed st log }
+    ensures { (m : Setting) (n : ℕ) (opening : State) (first : ℕ) (s : AnyStack) (us : List Stored) (armed : List FaultLine) (st : Standing) (log : List Entry)
+        → IsStack s → WalksFalling m n opening first s (Some us) armed st log → IsFinished s → medium_lines s.replies.items ≡ 0 → WalksTold m n opening first s (Some us) armed st log }
 {}

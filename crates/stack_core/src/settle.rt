@@ -232,7 +232,8 @@ fn settle_one(
     ensures pages { length pool.new ≡ length pool.old }
     ensures starts { kept.new.starts.items ≡ kept.old.starts.items }
     ensures held { length kept.new.held.items ≡ length kept.old.held.items }
-    ensures settled { OneSettled mode ty io.now (slice_index_or kept.old.starts.items (bio.now.op - 1) 0) (bio.now.k + i) (bio.now.lba + i) fate (record { pages = pool.old; held = kept.old.held.items }) (record { pages = pool.new; held = kept.new.held.items }) }
+    ensures settled { OneSettled mode ty io.now (slice_index_or kept.old.starts.items (bio.now.op - 1) 0) (bio.now.k + i) (bio.now.lba + i) fate
+        (record { pages = pool.old; held = kept.old.held.items }) (record { pages = pool.new; held = kept.new.held.items }) }
 {
     // That the request has few blocks is known once their number was looked at.
     let _blocks = io.count;
@@ -265,7 +266,8 @@ fn settle_bio(
     ensures pages { length pool.new ≡ length pool.old }
     ensures starts { kept.new.starts.items ≡ kept.old.starts.items }
     ensures held { length kept.new.held.items ≡ length kept.old.held.items }
-    ensures settled { BioSettled mode ty io.now (slice_index_or kept.old.starts.items (bio.now.op - 1) 0) bio.now fates.now at bio.now.count (record { pages = pool.old; held = kept.old.held.items }) (record { pages = pool.new; held = kept.new.held.items }) }
+    ensures settled { BioSettled mode ty io.now (slice_index_or kept.old.starts.items (bio.now.op - 1) 0) bio.now fates.now at bio.now.count
+        (record { pages = pool.old; held = kept.old.held.items }) (record { pages = pool.new; held = kept.new.held.items }) }
 {
     for i in 0..bio.count {
         settle_one(pool, io, mode, ty, bio, i, fates[at + i as usize], kept);
@@ -288,7 +290,8 @@ pub(crate) fn settle_all(
     requires kept { AreFates ios.now kept.old.starts.items kept.old.held.items }
     ensures pages { length pool.new ≡ length pool.old }
     ensures kept { AreFates ios.now kept.new.starts.items kept.new.held.items }
-    ensures settled { AllSettled mode ty ios.now kept.old.starts.items bios.now fates.now (length bios.now) (record { pages = pool.old; held = kept.old.held.items }) (record { pages = pool.new; held = kept.new.held.items }) }
+    ensures settled { AllSettled mode ty ios.now kept.old.starts.items bios.now fates.now (length bios.now)
+        (record { pages = pool.old; held = kept.old.held.items }) (record { pages = pool.new; held = kept.new.held.items }) }
 {
     let mut at = 0usize;
     for bio in bios {

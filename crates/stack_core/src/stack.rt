@@ -12,19 +12,18 @@ ghost use Rattle.stack_core.specs.Replies.{HoldsSeal};
 ghost use Rattle.stack_ops.specs.declared.reply.Reply.TheVariants.{Medium, Silent};
 ghost use Rattle.stack_core.specs.Done.{MadeBy, OpDone, Sealed, WriteMade, WriteMapped};
 ghost use Rattle.stack_core.specs.Doing.{CanDo, CanReach, HasBlocks};
-ghost use Rattle.stack_core.specs.Walking.{Enters, IsChosen, IsKnown, LeavesOwn, NoneFailed, Walks, WalksFalling, WalksOn, WalksTold, is_medium, units_left};
+ghost use Rattle.stack_core.specs.Walking.{Enters, IsChosen, IsKnown, LeavesOwn, NoneFailed, WalksOn, is_medium, units_left};
 ghost use Rattle.dix_base.specs.Told.{Calm};
 ghost use Rattle.rig_api.specs.Telling.{block_at, changed, frame_size, unit_at, with_block};
-ghost use Rattle.rig_api.specs.State.{Stays as RigStays};
+ghost use Rattle.rig_api.specs.State.{KeepsRecords, Stays as RigStays};
 ghost use Rattle.target_answer.specs.Target.{Stored};
-ghost use Rattle.block_path.specs.Acts.{State};
-ghost use Rattle.whole_run.specs.Settings.{Setting};
-ghost use Rattle.stack_core.specs.Mediums.{Counts, HasCounted, RoseBy, Spoils, medium_replies};
+ghost use Rattle.stack_core.specs.Mediums.{Counts, Spoils, medium_replies};
 ghost use Rattle.std.specs.List.{list_any};
 ghost use Rattle.answered_record.specs.Answered.{PutsAnswers};
 ghost use Rattle.stack_walks.specs.Overwrites.{is_overwrite};
 ghost use Rattle.stack_core.specs.OnRecord.{Carries, SendsOn, Traces};
-ghost use Rattle.stack_core.specs.Stacks.{GoesOn, HasSpare, HasStep, IsStack, Reaches, Sends, Stays, Steps, plan_in};
+ghost use Rattle.stack_core.specs.Stacks.{GoesOn, HasStep, IsStack, Stays, Steps, plan_in};
+ghost use Rattle.stack_core.specs.Going.{FailsCounted, SettlesNone, StandsOver, Went};
 
 use crate::kept::{Fates, Room, reply_of, shown};
 use crate::pages::{fill, put};
@@ -111,27 +110,15 @@ impl Stack {
     /// Does the step of a word: number `word` modulo the number of steps that may be taken, of which there is one. A
     /// piece is the greatest one for a cut of 0, else `1 + (cut - 1) mod n` blocks of the greatest one's `n`.
     pub fn step<R: Rig>(&mut self, word: u32, cut: u32, rig: &mut R)
-        requires stack { IsStack self.old }
+        requires stands { StandsOver self.old (R.state rig.old) }
         requires some { HasStep (plan_in self.old.sheet) self.old.machine }
-        requires rig { Reaches self.old (is_some (R.state rig.old).image) (R.state rig.old).standing }
-        requires spare { HasSpare self.old (R.state rig.old).standing (R.state rig.old).room }
-        ensures stack { IsStack self.new }
+        ensures stands { StandsOver self.new (R.state rig.new) }
         ensures stays { Stays self.old self.new }
         ensures step { Steps (plan_in self.old.sheet) self.old.machine word cut self.new.machine }
-        ensures tells { is_some (R.state rig.new).image ≡ is_some (R.state rig.old).image }
-        ensures rig { Reaches self.new (is_some (R.state rig.new).image) (R.state rig.new).standing }
+        ensures rig { RigStays (R.state rig.old) (R.state rig.new) }
         ensures goes { GoesOn (R.state rig.old) (R.state rig.new) }
-        ensures answered { (m : Setting) (n : ℕ) (opening : State) (first : ℕ) → Walks m n opening first self.old (R.state rig.old).standing (R.state rig.old).log → list_any is_overwrite self.old.sheet.ops ≡ false → PutsAnswers (R.state rig.old) (R.state rig.new) }
-        ensures armed { (R.state rig.new).armed ≡ (R.state rig.old).armed }
-        ensures spare { HasSpare self.new (R.state rig.new).standing (R.state rig.new).room }
-        ensures walks { (m : Setting) (n : ℕ) (opening : State) (first : ℕ) → Walks m n opening first self.old (R.state rig.old).standing (R.state rig.old).log → Walks m n opening first self.new (R.state rig.new).standing (R.state rig.new).log }
-        ensures told { (m : Setting) (n : ℕ) (opening : State) (first : ℕ) → WalksTold m n opening first self.old (R.state rig.old).units (R.state rig.old).armed (R.state rig.old).standing (R.state rig.old).log
-            → Calm (R.state rig.old).faults (R.state rig.new).faults → WalksTold m n opening first self.new (R.state rig.new).units (R.state rig.new).armed (R.state rig.new).standing (R.state rig.new).log }
-        ensures falling { (m : Setting) (n : ℕ) (opening : State) (first : ℕ) → WalksFalling m n opening first self.old (R.state rig.old).units (R.state rig.old).armed (R.state rig.old).standing (R.state rig.old).log
-            → WalksFalling m n opening first self.new (R.state rig.new).units (R.state rig.new).armed (R.state rig.new).standing (R.state rig.new).log }
-        ensures silent { Calm (R.state rig.old).faults (R.state rig.new).faults → NoneFailed self.old.replies.items → NoneFailed self.new.replies.items }
+        ensures went { Went self.old (R.state rig.old) self.new (R.state rig.new) }
         ensures sends { SendsOn word cut self.old self.new (R.state rig.old).log (R.state rig.new).log }
-        ensures counts { (first : ℕ) → HasCounted first self.old (R.state rig.old).faults → HasCounted first self.new (R.state rig.new).faults }
     {
         let choice = self.machine.choose(&self.sheet, word);
         match choice {
@@ -186,23 +173,17 @@ impl Stack {
     }
 
     fn admit<R: Rig>(&mut self, q: usize, rig: &mut R)
-        requires stack { IsStack self.old }
+        requires stands { StandsOver self.old (R.state rig.old) }
         requires ready { Ready (plan_in self.old.sheet) self.old.machine (Admit q) }
-        requires rig { Reaches self.old (is_some (R.state rig.old).image) (R.state rig.old).standing }
         ensures stack { IsStack self.new }
         ensures stays { Stays self.old self.new }
         ensures step { (cut : ℕ) → Does (plan_in self.old.sheet) self.old.machine (Admit q) cut self.new.machine }
-        ensures walks { IsChosen self.old (Admit q) → Enters (is_some (R.state rig.old).image) (R.state rig.old).standing (R.state rig.old).units (R.state rig.new).units (R.state rig.old).faults (R.state rig.new).faults self.old self.new }
-        ensures silent { Calm (R.state rig.old).faults (R.state rig.new).faults → NoneFailed self.old.replies.items → NoneFailed self.new.replies.items }
-        ensures tells { is_some (R.state rig.new).image ≡ is_some (R.state rig.old).image }
-        ensures standing { (R.state rig.new).standing ≡ (R.state rig.old).standing }
-        ensures room { (R.state rig.new).room ≡ (R.state rig.old).room }
-        ensures log { (R.state rig.new).log ≡ (R.state rig.old).log }
-        ensures goes { GoesOn (R.state rig.old) (R.state rig.new) }
+        ensures walks { IsChosen self.old (Admit q) → Enters (R.state rig.old) (R.state rig.new) self.old self.new }
+        ensures fails { FailsCounted self.old.replies.items self.new.replies.items (R.state rig.old).faults (R.state rig.new).faults }
+        ensures rig { RigStays (R.state rig.old) (R.state rig.new) }
+        ensures keeps { KeepsRecords (R.state rig.old) (R.state rig.new) }
         ensures answered { list_any is_overwrite self.old.sheet.ops ≡ false → PutsAnswers (R.state rig.old) (R.state rig.new) }
-        ensures armed { (R.state rig.new).armed ≡ (R.state rig.old).armed }
         ensures kept { self.new.kept ≡ self.old.kept }
-        ensures counts { (n first : ℕ) → RoseBy (n + medium_replies self.old.replies.items) first (R.state rig.old).faults → RoseBy (n + medium_replies self.new.replies.items) first (R.state rig.new).faults }
     {
         let op = self.machine.admit(&self.sheet, q) as usize;
         if self.sheet.io(op).count > 0 {
@@ -232,8 +213,7 @@ impl Stack {
         ensures stays { Stays self.old self.new }
         ensures step { Does (plan_in self.old.sheet) self.old.machine (Cut q) size self.new.machine }
         ensures walks { IsChosen self.old (Cut q) → WalksOn self.old self.new }
-        ensures replies { self.new.replies.items ≡ self.old.replies.items }
-        ensures kept { self.new.kept ≡ self.old.kept }
+        ensures settles { SettlesNone self.old self.new }
     {
         let bio = self.machine.cut(&self.sheet, q, size);
         map_piece(
@@ -251,33 +231,20 @@ impl Stack {
         ensures stays { Stays self.old self.new }
         ensures step { (cut : ℕ) → Does (plan_in self.old.sheet) self.old.machine (Join d i j) cut self.new.machine }
         ensures walks { IsChosen self.old (Join d i j) → WalksOn self.old self.new }
-        ensures replies { self.new.replies.items ≡ self.old.replies.items }
-        ensures kept { self.new.kept ≡ self.old.kept }
+        ensures settles { SettlesNone self.old self.new }
     {
         self.machine.join(&self.sheet, d, i, j);
     }
 
     fn send<R: Rig>(&mut self, d: u32, i: u32, rig: &mut R)
-        requires stack { IsStack self.old }
+        requires stands { StandsOver self.old (R.state rig.old) }
         requires ready { Ready (plan_in self.old.sheet) self.old.machine (Send d i) }
-        requires rig { Reaches self.old (is_some (R.state rig.old).image) (R.state rig.old).standing }
-        requires spare { HasSpare self.old (R.state rig.old).standing (R.state rig.old).room }
-        ensures stack { IsStack self.new }
+        ensures stands { StandsOver self.new (R.state rig.new) }
         ensures stays { Stays self.old self.new }
-        ensures sends { Sends (plan_in self.old.sheet) self.old.machine d i self.new.machine }
-        ensures walks { IsChosen self.old (Send d i) → (m : Setting) (n : ℕ) (opening : State) (first : ℕ) → Walks m n opening first self.old (R.state rig.old).standing (R.state rig.old).log → Walks m n opening first self.new (R.state rig.new).standing (R.state rig.new).log }
-        ensures told { IsChosen self.old (Send d i) → (m : Setting) (n : ℕ) (opening : State) (first : ℕ) → WalksTold m n opening first self.old (R.state rig.old).units (R.state rig.old).armed (R.state rig.old).standing (R.state rig.old).log
-            → Calm (R.state rig.old).faults (R.state rig.new).faults → WalksTold m n opening first self.new (R.state rig.new).units (R.state rig.new).armed (R.state rig.new).standing (R.state rig.new).log }
-        ensures falling { IsChosen self.old (Send d i) → (m : Setting) (n : ℕ) (opening : State) (first : ℕ) → WalksFalling m n opening first self.old (R.state rig.old).units (R.state rig.old).armed (R.state rig.old).standing (R.state rig.old).log
-            → WalksFalling m n opening first self.new (R.state rig.new).units (R.state rig.new).armed (R.state rig.new).standing (R.state rig.new).log }
-        ensures replies { self.new.replies.items ≡ self.old.replies.items }
-        ensures tells { is_some (R.state rig.new).image ≡ is_some (R.state rig.old).image }
-        ensures standing { (R.state rig.new).standing ≡ (R.state rig.old).standing }
-        ensures spare { HasSpare self.new (R.state rig.new).standing (R.state rig.new).room }
+        ensures went { IsChosen self.old (Send d i) → Went self.old (R.state rig.old) self.new (R.state rig.new) }
+        ensures settles { SettlesNone self.old self.new }
+        ensures rig { RigStays (R.state rig.old) (R.state rig.new) }
         ensures goes { GoesOn (R.state rig.old) (R.state rig.new) }
-        ensures answered { IsChosen self.old (Send d i) → (m : Setting) (n : ℕ) (opening : State) (first : ℕ) → Walks m n opening first self.old (R.state rig.old).standing (R.state rig.old).log → PutsAnswers (R.state rig.old) (R.state rig.new) }
-        ensures armed { (R.state rig.new).armed ≡ (R.state rig.old).armed }
-        ensures kept { self.new.kept ≡ self.old.kept }
         ensures carries { Carries self.old.adapter (plan_in self.old.sheet) self.old.machine d i self.new.machine (R.state rig.old).log (R.state rig.new).log }
         ensures spoils { Spoils (plan_in self.old.sheet) self.old.machine d i self.new.machine (R.state rig.old).faults (R.state rig.new).faults }
     {
@@ -365,7 +332,8 @@ fn overwrite<R: Rig>(rig: &mut R, dev: u32, lba: u64, change: &Change) -> Reply
     ensures room { (R.state rig.new).room ≡ (R.state rig.old).room }
     ensures log { (R.state rig.new).log ≡ (R.state rig.old).log }
     ensures left { (us : List Stored) → (R.state rig.old).units ≡ Some us → result ≡ Silent → (R.state rig.new).units ≡ Some (with_block us dev lba (changed us change.now (block_at us dev lba))) }
-    ensures failed { (us : List Stored) → (R.state rig.old).units ≡ Some us → is_medium result ≡ true → (block : List ℕ) × ((length block ≡ frame_size (unit_at us dev)) × ((R.state rig.new).units ≡ Some (with_block us dev lba block))) }
+    ensures failed { (us : List Stored) → (R.state rig.old).units ≡ Some us → is_medium result ≡ true
+        → (block : List ℕ) × ((length block ≡ frame_size (unit_at us dev)) × ((R.state rig.new).units ≡ Some (with_block us dev lba block))) }
     ensures silent { Calm (R.state rig.old).faults (R.state rig.new).faults → is_medium result ≡ false }
 {
     match rig.overwrite(dev, lba, change) {

@@ -1,24 +1,15 @@
 //! A stack before its first step.
 
-ghost use Rattle.std.specs.Prelude.{◌≡◌, ◌<◌, ◌≤◌, ◌+◌, ◌||◌, ℕ, false, List, IfOk, length, map, replicate, slice_index_or};
-ghost use Rattle.bio_core.specs.declared.fate.Fate.TheVariants.{Untouched};
+ghost use Rattle.std.specs.Prelude.{◌≡◌, ◌<◌, ◌≤◌, ◌+◌, ◌||◌, ℕ, false, List, IfOk, length, replicate, slice_index_or};
 ghost use Rattle.stack_ops.specs.declared.reply.Reply.TheVariants.{Silent};
-ghost use Rattle.stack_view.specs.Runs.{blocks_of_requests};
-ghost use Rattle.page_pool.specs.Pages.{IsBlank};
-ghost use Rattle.dix_adapter.specs.Groups.{mode_of};
 ghost use Rattle.stack_ops.specs.Footprints.{IsShortPut};
-ghost use Rattle.volume_table.specs.Places.{place_in, volume_len};
-ghost use Rattle.stack_view.specs.View.{start};
-ghost use Rattle.stack_steps.specs.Does.{Holds};
-ghost use Rattle.block_path.specs.Routes.{host_type};
-ghost use Rattle.stack_core.specs.Walking.{WalksAtFirst, WalksFallingAtFirst, WalksToldAtFirst};
-ghost use Rattle.stack_walks.specs.Sheets.{IsSheet, op_in, plan_of, prints_of, request_in};
+ghost use Rattle.stack_walks.specs.Sheets.{IsSheet, op_in, plan_of, prints_of};
 ghost use Rattle.stack_walks.specs.Shifts.{is_shift, shifted_by, shifts};
 ghost use Rattle.stack_walks.specs.Requests.{first_page, own_blocks, page_after, pages_from, requests_from};
 ghost use Rattle.stack_core.specs.Replies.{HoldsBad};
 ghost use Rattle.stack_core.specs.Rooms.{Suits, blocks_in};
-ghost use Rattle.stack_core.specs.OnRecord.{HasQueues};
 ghost use Rattle.stack_core.specs.Stacks.{IsStack, plan_in, room_at};
+ghost use Rattle.stack_core.specs.NewStacks.{FollowsAtFirst, IsNewStack, IsSetUp};
 ghost use Rattle.stack_walks.specs.Starting.{CanStart};
 
 use crate::kept::{Fates, Room, room_for};
@@ -188,24 +179,9 @@ impl Stack {
     pub fn new(alloc: Global, setup: Setup, ops: OpList) -> Result<Stack, AllocError>
         requires { (pool : List (List ℕ)) × CanStart setup.table setup.mode.dix setup.mode.protect setup.limits setup.pages pool ops }
         ensures stack { IfOk result IsStack }
-        ensures first { IfOk result (λ s. Holds (plan_in s.sheet) s.machine (start (plan_in s.sheet))) }
-        ensures ops { IfOk result (λ s. s.sheet.ops ≡ ops) }
-        ensures ios { IfOk result (λ s. s.sheet.ios.items ≡ requests_from setup.mode.dix setup.pages ops) }
-        ensures table { IfOk result (λ s. s.sheet.table ≡ setup.table) }
-        ensures limits { IfOk result (λ s. s.sheet.limits ≡ setup.limits) }
-        ensures devices { IfOk result (λ s. (n : ℕ) → ((v : ℕ) → v < volume_len setup.table.entries → (place_in setup.table.entries v).0 < n) → s.sheet.devices ≤ n) }
-        ensures mode { IfOk result (λ s. mode_of s.adapter ≡ setup.mode) }
-        ensures faults { IfOk result (λ s. s.adapter.tamper ≡ setup.faults) }
-        ensures shifted { IfOk result (λ s. s.sheet.shifted.items ≡ shifted_by setup.faults (length ops)) }
-        ensures kept { IfOk result (λ s. s.kept.held.items ≡ replicate (blocks_of_requests (map request_in (requests_from setup.mode.dix setup.pages ops))) Untouched) }
-        ensures replies { IfOk result (λ s. s.replies.items ≡ replicate (length ops) Silent) }
-        ensures pool { IfOk result (λ s. IsBlank (pages_from setup.mode.dix setup.pages ops) s.pool) }
-        ensures walks { IfOk result WalksAtFirst }
-        ensures told { IfOk result WalksToldAtFirst }
-        ensures falling { IfOk result WalksFallingAtFirst }
-        ensures ty { IfOk result (λ s. s.adapter.ty ≡ setup.table.ty) }
-        ensures host { IfOk result (λ s. s.host ≡ host_type setup.table.ty) }
-        ensures queues { IfOk result (λ s. HasQueues (plan_in s.sheet)) }
+        ensures is { IfOk result (IsSetUp setup ops) }
+        ensures new { IfOk result (IsNewStack setup ops) }
+        ensures follows { IfOk result FollowsAtFirst }
     {
         let Setup {
             table,

@@ -17,12 +17,11 @@ room-of a b n k r e p h =
     let z = h.moved in
     rw e (record { records = omega (arith, x, p); labels = omega (arith, y, p); moved = omega (arith, z, w) })
 
-pub run_words-requires-clause-rig : goal.run_words-requires-clause-rig
-run_words-requires-clause-rig c =
-    c.requires.reaches (standing_of c.reserve.new.self.devices) (ap (λ (s : Standing). s.devices) (ap (λ (s : RigState). s.standing) c.reserve.ensures.keeps) ∙ c.new-rig.ensures)
-
-pub run_words-requires-clause-spare : goal.run_words-requires-clause-spare
-run_words-requires-clause-spare c =
-    c.requires.spare (standing_of c.reserve.new.self.devices) (room_in c.reserve.new.self.log)
-    (room-of (standing_of c.new-rig.result.devices) (standing_of c.reserve.new.self.devices) c.blocks-blocks.result (blocks_of_requests (plan_in c.args.stack.sheet).requests) (room_in c.reserve.new.self.log)
-    (ap (λ (s : RigState). s.standing) c.reserve.ensures.keeps) c.blocks-blocks.ensures.all c.in_ok-reserve.ensures.room)
+pub run_words-requires : goal.run_words-requires
+run_words-requires c = record {
+  stack = c.requires.stack;
+  reaches = c.requires.reaches (standing_of c.reserve.new.self.devices) (ap (λ (s : Standing). s.devices) (ap (λ (s : RigState). s.standing) c.reserve.ensures.keeps) ∙ c.new-rig.ensures);
+  spare = c.requires.spare (standing_of c.reserve.new.self.devices) (room_in c.reserve.new.self.log)
+      (room-of (standing_of c.new-rig.result.devices) (standing_of c.reserve.new.self.devices) c.blocks-blocks.result (blocks_of_requests (plan_in c.args.stack.sheet).requests) (room_in c.reserve.new.self.log)
+      (ap (λ (s : RigState). s.standing) c.reserve.ensures.keeps) c.blocks-blocks.ensures.all c.in_ok-reserve.ensures.room);
+}

@@ -2,7 +2,7 @@ use Rattle.std.proofs.Common.{◌≡◌, true, false, refl, ap, sym, ◌∙◌, 
 use Rattle.stack_view.specs.Runs.{most_steps}
 use Rattle.stack_core.specs.Stacks.{plan_in}
 use Rattle.stack_core.proofs.Goes.{goes-nowhere}
-use Rattle.script_stack.proofs.Going.{goes_then, stays_then, went_nowhere, went_on}
+use Rattle.script_stack.proofs.Going.{goes_then, rig_nowhere, rig_then, stays_then, went_nowhere, went_on}
 use Rattle.script_stack.proofs.SendsBy.{entry_behind, sends_nowhere, sends_once, sends_then}
 use Rattle.script_stack.proofs.Steps.{has-step, one-more}
 use Rattle.script_stack.proofs.run.run_rest.Goals as goal
@@ -11,7 +11,7 @@ pub loop-stack-smaller : goal.loop-stack-smaller
 loop-stack-smaller g c =
     let s = c.loop-stack.stack in
     let h = has-step (plan_in s.sheet) s.machine (λ v x e. (let t : true ≡ false = sym ((c.finished.ensures v x).1 e) ∙ c.loop-stack-test.true in absurd cc)) in
-    let k = one-more (plan_in s.sheet) s.machine c.step.new.self.machine 0 0 c.loop-stack.invariant.is.works h c.step.ensures.step in
+    let k = one-more (plan_in s.sheet) s.machine c.step.new.self.machine 0 0 c.loop-stack.invariant.stands.stack.works h c.step.ensures.step in
     let a = k.one in
     let b = k.most in
     let e = ap (λ z. most_steps (plan_in z)) c.step.ensures.stays.sheet in
@@ -19,38 +19,30 @@ loop-stack-smaller g c =
 
 pub loop-stack-init : goal.loop-stack-init
 loop-stack-init g c = record {
-  is = c.requires.stack;
+  stands = c.requires;
   stays = record { sheet = refl; adapter = refl; host = refl };
-  tells = refl;
-  reaches = c.requires.rig;
-  spare = c.requires.spare;
+  rig = rig_nowhere _;
   went = went_nowhere _ _;
   goes = goes-nowhere _;
-  armed = refl;
   sends = λ es h. sends_nowhere es _ _;
-  counts = λ first h. h;
   long = λ es h. h;
 }
 
 pub loop-stack-preserved : goal.loop-stack-preserved
 loop-stack-preserved g c = record {
-  is = c.step.ensures.stack;
+  stands = c.step.ensures.stands;
   stays = stays_then _ _ _ c.loop-stack.invariant.stays c.step.ensures.stays;
-  tells = c.step.ensures.tells ∙ c.loop-stack.invariant.tells;
-  reaches = c.step.ensures.rig;
-  spare = c.step.ensures.spare;
-  went = went_on _ _ _ _ _ _ c.loop-stack.invariant.went (record { walks = c.step.ensures.walks; told = c.step.ensures.told; falling = c.step.ensures.falling; silent = c.step.ensures.silent; faults = c.step.ensures.goes.faults; sheet = c.step.ensures.stays.sheet; answered = c.step.ensures.answered });
+  rig = rig_then _ _ _ c.loop-stack.invariant.rig c.step.ensures.rig;
+  went = went_on _ _ _ _ _ _ c.loop-stack.invariant.went c.step.ensures.went;
   goes = goes_then _ _ _ c.loop-stack.invariant.goes c.step.ensures.goes;
-  armed = c.step.ensures.armed ∙ c.loop-stack.invariant.armed;
   sends = λ es h.
       (let s = c.loop-stack.stack in
       let some = has-step (plan_in s.sheet) s.machine (λ v x e. (let t : true ≡ false = sym ((c.finished.ensures v x).1 e) ∙ c.loop-stack-test.true in absurd cc)) in
       sends_then es _ _ _ _ _ _ c.loop-stack.invariant.stays (c.loop-stack.invariant.sends es h) (sends_once es 0 0 _ _ _ _ (entry_behind es s.machine.steps (c.loop-stack.invariant.long es h some)) c.step.ensures.sends));
-  counts = λ first h. c.step.ensures.counts first (c.loop-stack.invariant.counts first h);
   long = λ es h next.
       (let s = c.loop-stack.stack in
       let some = has-step (plan_in s.sheet) s.machine (λ v x e. (let t : true ≡ false = sym ((c.finished.ensures v x).1 e) ∙ c.loop-stack-test.true in absurd cc)) in
-      let k = one-more (plan_in s.sheet) s.machine c.step.new.self.machine 0 0 c.loop-stack.invariant.is.works some c.step.ensures.step in
+      let k = one-more (plan_in s.sheet) s.machine c.step.new.self.machine 0 0 c.loop-stack.invariant.stands.stack.works some c.step.ensures.step in
       let a = k.one in
       let b = c.loop-stack.invariant.long es h some in
       omega arith);

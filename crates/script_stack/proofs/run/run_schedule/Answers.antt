@@ -1,27 +1,23 @@
 use Rattle.std.proofs.Common.{◌≡◌, true, false, refl, sym, ◌∙◌, arith}
 use Rattle.stack_core.specs.Stacks.{plan_in}
 use Rattle.stack_core.proofs.Goes.{goes-nowhere}
-use Rattle.script_stack.proofs.Going.{goes_then, stays_then, went_nowhere, went_on}
+use Rattle.script_stack.proofs.Going.{goes_then, rig_nowhere, rig_then, stays_then, went_nowhere, went_on}
 use Rattle.script_stack.proofs.SendsBy.{entry_here, sends_nowhere, sends_once, sends_then}
 use Rattle.script_stack.proofs.Steps.{has-step, one-more}
 use Rattle.script_stack.proofs.run.run_schedule.Goals as goal
 
 pub loop-word-preserved : goal.loop-word-preserved
 loop-word-preserved g c = record {
-  is = c.step.ensures.stack;
+  stands = c.step.ensures.stands;
   stays = stays_then _ _ _ c.loop-word.invariant.stays c.step.ensures.stays;
-  tells = c.step.ensures.tells ∙ c.loop-word.invariant.tells;
-  reaches = c.step.ensures.rig;
-  spare = c.step.ensures.spare;
-  went = went_on _ _ _ _ _ _ c.loop-word.invariant.went (record { walks = c.step.ensures.walks; told = c.step.ensures.told; falling = c.step.ensures.falling; silent = c.step.ensures.silent; faults = c.step.ensures.goes.faults; sheet = c.step.ensures.stays.sheet; answered = c.step.ensures.answered });
+  rig = rig_then _ _ _ c.loop-word.invariant.rig c.step.ensures.rig;
+  went = went_on _ _ _ _ _ _ c.loop-word.invariant.went c.step.ensures.went;
   goes = goes_then _ _ _ c.loop-word.invariant.goes c.step.ensures.goes;
-  armed = c.step.ensures.armed ∙ c.loop-word.invariant.armed;
   sends = λ z. sends_then _ _ _ _ _ _ _ c.loop-word.invariant.stays (c.loop-word.invariant.sends z) (sends_once _ _ _ _ _ _ _ (entry_here c.args.schedule.now c.loop-word.word-index c.loop-word.stack.machine.steps (c.loop-word.invariant.steps z)) c.step.ensures.sends);
-  counts = λ first h. c.step.ensures.counts first (c.loop-word.invariant.counts first h);
   steps = λ z.
       (let s = c.loop-word.stack in
       let h = has-step (plan_in s.sheet) s.machine (λ v x e. (let t : true ≡ false = sym ((c.finished.ensures v x).1 e) ∙ c.if-finished.false in absurd cc)) in
-      let k = one-more (plan_in s.sheet) s.machine c.step.new.self.machine _ _ c.loop-word.invariant.is.works h c.step.ensures.step in
+      let k = one-more (plan_in s.sheet) s.machine c.step.new.self.machine _ _ c.loop-word.invariant.stands.stack.works h c.step.ensures.step in
       let a = k.one in
       let b = c.loop-word.invariant.steps z in
       omega arith);
@@ -29,15 +25,11 @@ loop-word-preserved g c = record {
 
 pub loop-word-init : goal.loop-word-init
 loop-word-init g c = record {
-  is = c.requires.stack;
+  stands = c.requires;
   stays = record { sheet = refl; adapter = refl; host = refl };
-  tells = refl;
-  reaches = c.requires.rig;
-  spare = c.requires.spare;
+  rig = rig_nowhere _;
   went = went_nowhere _ _;
   goes = goes-nowhere _;
-  armed = refl;
   sends = λ z. sends_nowhere _ _ _;
-  counts = λ first h. h;
   steps = λ z. z;
 }

@@ -23,17 +23,17 @@ returns-clause-ran g c =
     let asked = c.args.rig.now in
     let ready = c.ready_script.new.rig in
     let end = c.run_all.new.rig in
-    let made_ready = c.in_ok-stack.ensures in
-    let armed = made_ready.armed in
+    let begins = c.in_ok-stack.ensures.begins in
+    let armed = c.in_ok-stack.ensures.armed in
     let standing = ap (λ (x : RigState). x.standing) armed in
     let count = ap (λ (x : RigState). x.faults) armed in
     let before : RigState = g.R.Rig.state ready in
     let after : RigState = g.R.Rig.state end in
     let o : IsOver s t devices words begun r (g.R.Rig.state ready).image (g.R.Rig.state end).image before after = record {
-      suits = c.requires.suits;
-      lines = c.requires.lines;
-      made = c.requires.made;
-      bound = c.requires.bound;
+      suits = c.requires.bound.suits;
+      lines = c.requires.bound.lines;
+      made = c.requires.bound.made;
+      bound = c.requires.bound.bound;
       sizes = subst (SizesAre devices) (sym standing) c.requires.sizes;
       known = λ tells. c.requires.told (sym (ap (λ (x : RigState). is_some x.image) armed) ∙ tells) ∙ ap (λ (x : Standing). map info_of (specs_of x)) (sym standing);
       laid = g.met.R.Rig.laid ready;
@@ -41,29 +41,29 @@ returns-clause-ran g c =
       laid_after = g.met.R.Rig.laid end;
       ready_after = g.met.R.Rig.ready end;
       armed = ap (λ (x : RigState). x.armed) armed;
-      stack = c.run_all.ensures.stack;
-      ops = ap (λ (x : Sheet). x.ops) c.run_all.ensures.stays.sheet ∙ made_ready.ops;
+      stack = c.run_all.ensures.stands.stack;
+      ops = ap (λ (x : Sheet). x.ops) c.run_all.ensures.stays.sheet ∙ begins.is.ops;
       ended = c.run_all.ensures.ended;
-      walks = made_ready.walks;
-      told = made_ready.told;
-      falling = made_ready.falling;
-      silent = made_ready.silent;
+      walks = begins.walks;
+      told = begins.told;
+      falling = begins.falling;
+      silent = begins.silent;
       goes = c.run_all.ensures.goes;
-      tells = c.run_all.ensures.tells;
+      tells = c.run_all.ensures.rig.tells;
       went = c.run_all.ensures.went;
-      plan = made_ready.plan;
-      first = made_ready.first;
+      plan = begins.plan;
+      first = begins.new.first;
       stays = c.run_all.ensures.stays;
-      counted = c.run_all.ensures.counts (g.R.Rig.state ready).faults (made_ready.counted (g.R.Rig.state ready).faults);
+      counted = c.run_all.ensures.went.counts (g.R.Rig.state ready).faults (begins.counted (g.R.Rig.state ready).faults);
       sent = c.run_all.ensures.sends;
     } in
     let units-ready = λ (us : List Stored) (e : (g.R.Rig.state asked).units ≡ Some us). (ap (λ (x : RigState). x.units) armed ∙ e) in
     record {
       stack = o.stack;
       ops = o.ops;
-      ios = ap (λ (x : Sheet). x.ios.items) o.stays.sheet ∙ made_ready.ios;
-      mode = ap mode_of o.stays.adapter ∙ made_ready.mode;
-      armed = ap (λ (a : Adapter). a.tamper) o.stays.adapter ∙ made_ready.faults;
+      ios = ap (λ (x : Sheet). x.ios.items) o.stays.sheet ∙ begins.is.ios;
+      mode = ap mode_of o.stays.adapter ∙ begins.is.mode;
+      armed = ap (λ (a : Adapter). a.tamper) o.stays.adapter ∙ begins.is.faults;
       ended = o.ended;
       standing = o.goes.standing ∙ standing;
       faults = subst (λ n. n ≤ (g.R.Rig.state end).faults) count o.goes.faults;
@@ -75,3 +75,9 @@ returns-clause-ran g c =
       told = λ us e none. walked_at s t devices words begun r (g.R.Rig.state ready).image (g.R.Rig.state end).image before after c.a_told_script_run_has_walked.ensures o us (units-ready us e) none;
       fallen = λ us e. fallen_at s t devices words begun r (g.R.Rig.state ready).image (g.R.Rig.state end).image before after c.a_told_script_run_has_fallen.ensures o us (units-ready us e);
     }
+
+pub returns-clause-tells : goal.returns-clause-tells
+returns-clause-tells g c = c.run_all.ensures.rig.tells ∙ ap (λ (x : RigState). is_some x.image) c.in_ok-stack.ensures.armed
+
+pub returns-clause-standing : goal.returns-clause-standing
+returns-clause-standing g c = c.run_all.ensures.rig.standing ∙ ap (λ (x : RigState). x.standing) c.in_ok-stack.ensures.armed

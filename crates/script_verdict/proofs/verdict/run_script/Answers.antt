@@ -12,17 +12,14 @@ use Rattle.stack_core.specs.Mediums.{HasCounted}
 use Rattle.stack_core.specs.declared.sheet.Sheet.{Sheet}
 use Rattle.script_verdict.proofs.verdict.run_script.Goals as goal
 
-pub ready_script-requires-clause-suits : goal.ready_script-requires-clause-suits
-ready_script-requires-clause-suits g c = suits c.args.script c.requires.keeps
-
-pub ready_script-requires-clause-few : goal.ready_script-requires-clause-few
-ready_script-requires-clause-few g c = rw c.deref.ensures.0 c.in-Ok.ensures.asked.told.devices_are.few
-
-pub ready_script-requires-clause-made : goal.ready_script-requires-clause-made
-ready_script-requires-clause-made g c = rw c.deref.ensures.0 c.in-Ok.ensures.made.made
-
 pub ready_script-requires-clause-bound : goal.ready_script-requires-clause-bound
-ready_script-requires-clause-bound g c = rw c.deref.ensures.0 c.in-Ok.ensures.bound
+ready_script-requires-clause-bound g c = record {
+  suits = suits c.args.script c.requires.keeps;
+  lines = c.requires.lines;
+  few = rw c.deref.ensures.0 c.in-Ok.ensures.asked.told.devices_are.few;
+  made = rw c.deref.ensures.0 c.in-Ok.ensures.made.made;
+  bound = rw c.deref.ensures.0 c.in-Ok.ensures.bound;
+}
 
 pub ready_script-requires-clause-count : goal.ready_script-requires-clause-count
 ready_script-requires-clause-count g c = rw c.deref.ensures.0 c.in-Ok.ensures.asked.told.devices_are.count
@@ -46,6 +43,7 @@ returns-clause-verdict g c =
     let begun = c.in-Ok-ready_script.run'.stack in
     let r = c.run_all.new.stack in
     let ready = c.in-Ok-ready_script.ensures in
+    let begins = ready.begins in
     let asked = c.in-Ok.ensures.asked in
     record {
       devices = devices;
@@ -56,17 +54,17 @@ returns-clause-verdict g c =
       bound = c.in-Ok.ensures.bound;
       begun = begun;
       starts = record {
-        stack = ready.stack;
-        first = ready.first;
-        ops = ready.ops;
-        ios = ready.ios;
-        table_is = ready.table;
-        limits = ready.limits;
-        mode = ready.mode;
-        faults = ready.faults;
-        pool = ready.pool;
+        stack = begins.stack;
+        first = begins.new.first;
+        ops = begins.is.ops;
+        ios = begins.is.ios;
+        table_is = begins.is.table;
+        limits = begins.is.limits;
+        mode = begins.is.mode;
+        faults = begins.is.faults;
+        pool = begins.new.pool;
       };
-      ends = record { stack = c.run_all.ensures.stack; stays = c.run_all.ensures.stays; ended = c.run_all.ensures.ended };
+      ends = record { stack = c.run_all.ensures.stands.stack; stays = c.run_all.ensures.stays; ended = c.run_all.ensures.ended };
       followed = followed c.args.script c.in-Ok.bound.table devices begun r told end c.a_script_run_is_backed.ensures c.a_finished_stack_has_sent.ensures.few c.a_finished_stack_has_sent.ensures.all c.a_finished_stack_names_the_medium_seldom.ensures c.a_told_script_run_has_walked.ensures c.a_calm_walk_is_a_plain_map.ensures.replies c.a_calm_walk_is_a_plain_map.ensures.under c.a_read_is_the_last_write_or_names_the_first_layer.ensures
           c.a_script_is_shown_by_its_form.ensures c.a_script_supplies_no_escape_by_its_form.ensures
           c.a_told_script_run_has_fallen.ensures c.a_stack_reads_the_last_write_or_fails_at_the_medium.ensures c.a_stack_writes_or_fails_at_the_medium.ensures.own c.a_stack_writes_or_fails_at_the_medium.ensures.brought
@@ -74,7 +72,7 @@ returns-clause-verdict g c =
             keeps = c.requires.keeps;
             some = has_device c.args.image.now devices _ _ asked;
             octets = g.met.R.Rig.octets c.bind.new.rig;
-            faults = c.run_all.ensures.armed ∙ ap (λ (s : RigState). s.armed) ready.armed;
+            faults = c.run_all.ensures.rig.armed ∙ ap (λ (s : RigState). s.armed) ready.armed;
             over = record {
               suits = suits c.args.script c.requires.keeps;
               lines = c.requires.lines;
@@ -87,23 +85,26 @@ returns-clause-verdict g c =
               laid_after = g.met.R.Rig.laid c.run_all.new.rig;
               ready_after = g.met.R.Rig.ready c.run_all.new.rig;
               armed = refl;
-              stack = c.run_all.ensures.stack;
-              ops = ap (λ (x : Sheet). x.ops) c.run_all.ensures.stays.sheet ∙ ready.ops;
+              stack = c.run_all.ensures.stands.stack;
+              ops = ap (λ (x : Sheet). x.ops) c.run_all.ensures.stays.sheet ∙ begins.is.ops;
               ended = c.run_all.ensures.ended;
-              walks = rw c.deref.ensures.0 at ready.walks;
-              told = rw c.deref.ensures.0 at ready.told;
-              falling = rw c.deref.ensures.0 at ready.falling;
-              silent = ready.silent;
+              walks = rw c.deref.ensures.0 at begins.walks;
+              told = rw c.deref.ensures.0 at begins.told;
+              falling = rw c.deref.ensures.0 at begins.falling;
+              silent = begins.silent;
               goes = goes_from c.args.script told _ end _ ready.armed c.run_all.ensures.goes;
-              tells = c.run_all.ensures.tells ∙ ap (λ (s : RigState). is_some s.image) ready.armed;
+              tells = c.run_all.ensures.rig.tells ∙ ap (λ (s : RigState). is_some s.image) ready.armed;
               went = went_from c.args.script begun r told _ end _ ready.armed c.run_all.ensures.went;
-              plan = ready.plan;
-              first = ready.first;
+              plan = begins.plan;
+              first = begins.new.first;
               stays = c.run_all.ensures.stays;
-              counted = c.run_all.ensures.counts told.faults (subst (HasCounted told.faults begun) (sym (ap (λ (s : RigState). s.faults) ready.armed)) (ready.counted told.faults));
+              counted = c.run_all.ensures.went.counts told.faults (subst (HasCounted told.faults begun) (sym (ap (λ (s : RigState). s.faults) ready.armed)) (begins.counted told.faults));
               sent = λ z. subst (λ (s : RigState). SendsBy (entries_of c.args.script.schedule) begun r s.log end.log) ready.armed
-                  (subst (λ ws. SendsBy (entries_of ws) begun r (g.R.Rig.state c.ready_script.new.rig).log end.log) (c.as_slice.ensures ∙ ready.schedule) (c.run_all.ensures.sends z));
+                  (subst (λ ws. SendsBy (entries_of ws) begun r (g.R.Rig.state c.ready_script.new.rig).log end.log) (c.as_slice.ensures ∙ begins.schedule) (c.run_all.ensures.sends z));
             };
           });
       first = c.records-first.ensures;
     }
+
+pub returns-clause-armed : goal.returns-clause-armed
+returns-clause-armed g c = c.run_all.ensures.rig.armed ∙ ap (λ (s : RigState). s.armed) c.in-Ok-ready_script.ensures.armed

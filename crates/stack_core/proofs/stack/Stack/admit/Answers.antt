@@ -5,7 +5,6 @@ use Rattle.stack_steps.specs.declared.choice.Choice.TheVariants.{Admit}
 use Rattle.stack_core.specs.Stacks.{plan_in}
 use Rattle.answered_record.proofs.Going.{answers_nothing, puts_nothing}
 use Rattle.stack_core.proofs.Answering.{op_leaves}
-use Rattle.stack_core.proofs.Goes.{goes-as-before, goes-nowhere}
 use Rattle.stack_walks.proofs.Facts.{op-enters}
 use Rattle.stack_core.proofs.Keeps.{is-stack}
 use Rattle.stack_core.proofs.Rooms.{taken}
@@ -38,7 +37,7 @@ io-requires-then-io-gt0 g c =
 pub make_tuples-requires-clause-whole : goal.make_tuples-requires-clause-whole
 make_tuples-requires-clause-whole g c =
     let s = c.args.self.now.sheet in
-    rw c.io-then-io-gt0.ensures (c.requires.stack.whole c.admit-op.result (op-enters s.ops s.shifted.items s.ios.items s.table s.limits s.devices c.args.self.now.machine c.args.q c.admit-op.result s.right.fine c.requires.ready c.admit-op.ensures.op))
+    rw c.io-then-io-gt0.ensures (c.requires.stands.stack.whole c.admit-op.result (op-enters s.ops s.shifted.items s.ios.items s.table s.limits s.devices c.args.self.now.machine c.args.q c.admit-op.result s.right.fine c.requires.ready c.admit-op.ensures.op))
 
 pub make_tuples-requires-clause-some : goal.make_tuples-requires-clause-some
 make_tuples-requires-clause-some g c =
@@ -50,51 +49,51 @@ pub take_room-room-requires : goal.take_room-room-requires
 take_room-room-requires g c =
     let s = c.args.self.now.sheet in
     let l = op-enters s.ops s.shifted.items s.ios.items s.table s.limits s.devices c.args.self.now.machine c.args.q c.admit-op.result s.right.fine c.requires.ready c.admit-op.ensures.op in
-    let n = c.requires.stack.rooms.count in
+    let n = c.requires.stands.stack.rooms.count in
     omega arith
 
 pub op-requires : goal.op-requires
 op-requires g c =
     let s = c.args.self.now.sheet in
     let l = op-enters s.ops s.shifted.items s.ios.items s.table s.limits s.devices c.args.self.now.machine c.args.q c.admit-op.result s.right.fine c.requires.ready c.admit-op.ensures.op in
-    let n = c.requires.stack.fixed.ops in
+    let n = c.requires.stands.stack.fixed.ops in
     omega arith
 
 pub set_reply-requires : goal.set_reply-requires
 set_reply-requires g c =
     let s = c.args.self.now.sheet in
     let l = op-enters s.ops s.shifted.items s.ios.items s.table s.limits s.devices c.args.self.now.machine c.args.q c.admit-op.result s.right.fine c.requires.ready c.admit-op.ensures.op in
-    let n = c.requires.stack.replies in
+    let n = c.requires.stands.stack.replies in
     omega arith
 
 pub returns-then-io-gt0-clause-stack : goal.returns-then-io-gt0-clause-stack
-returns-then-io-gt0-clause-stack g c = is-stack c.args.self.now _ c.requires.stack (record {
+returns-then-io-gt0-clause-stack g c = is-stack c.args.self.now _ c.requires.stands.stack (record {
   sheet = refl;
   adapter = refl;
   works = works (plan_in c.args.self.now.sheet) c.args.self.now.machine c.admit-op.new.self (Admit c.args.q) 0 c.requires.ready (c.admit-op.ensures.step 0);
   pages = c.make_tuples.ensures.pages;
-  rooms = c.requires.stack.rooms;
-  kept = c.requires.stack.kept;
+  rooms = c.requires.stands.stack.rooms;
+  kept = c.requires.stands.stack.kept;
   replies = refl;
   group = refl;
   fates = refl;
-  scratch = c.requires.stack.lists.scratch_room;
+  scratch = c.requires.stands.stack.lists.scratch_room;
 })
 
 pub returns-clause-stack : goal.returns-clause-stack
 returns-clause-stack g c =
     let s = c.args.self.now in
-    is-stack s _ c.requires.stack (record {
+    is-stack s _ c.requires.stands.stack (record {
       sheet = refl;
       adapter = refl;
       works = works (plan_in c.args.self.now.sheet) s.machine c.admit-op.new.self (Admit c.args.q) 0 c.requires.ready (c.admit-op.ensures.step 0);
       pages = c.do_op-done.ensures.pages;
-      rooms = taken s.pool s.sheet.ops s.sheet.ios.items s.rooms.items c.take_room-room.new.rooms.items c.admit-op.result c.requires.stack.rooms c.take_room-room.ensures.rooms;
-      kept = c.requires.stack.kept;
+      rooms = taken s.pool s.sheet.ops s.sheet.ios.items s.rooms.items c.take_room-room.new.rooms.items c.admit-op.result c.requires.stands.stack.rooms c.take_room-room.ensures.rooms;
+      kept = c.requires.stands.stack.kept;
       replies = ap length c.set_reply.ensures ∙ length-set _ _ _;
       group = refl;
       fates = refl;
-      scratch = c.requires.stack.lists.scratch_room;
+      scratch = c.requires.stands.stack.lists.scratch_room;
     })
 
 pub returns-then-io-gt0-clause-walks : goal.returns-then-io-gt0-clause-walks
@@ -108,7 +107,7 @@ returns-then-io-gt0-clause-walks g c = λ ch.
       reach = tt;
       known = inl tt;
       calm = λ calm. tt;
-      walks = λ course known over n opening es left o w. walk_admits over n opening es left s c.requires.stack o w _ c.args.q c.admit-op.result (record { sheet = refl; adapter = refl; host = refl }) ch (c.admit-op.ensures.step 0) c.admit-op.ensures.op some c.make_tuples.new.pool made refl;
+      walks = λ course known over n opening es left o w. walk_admits over n opening es left s c.requires.stands.stack o w _ c.args.q c.admit-op.result (record { sheet = refl; adapter = refl; host = refl }) ch (c.admit-op.ensures.step 0) c.admit-op.ensures.op some c.make_tuples.new.pool made refl;
       tells = λ us e known. e;
     })
 
@@ -122,12 +121,12 @@ returns-clause-walks g c = λ ch.
     let done = subst (λ op. OpDone op s.adapter.kind c.take_room-room.result s.pool c.do_op-done.new.pool c.do_op-done.result) c.op.ensures c.do_op-done.ensures.done in
     let done' = subst (λ room. OpDone (op_in s.sheet.ops i) s.adapter.kind room s.pool c.do_op-done.new.pool c.do_op-done.result) c.take_room-room.ensures.room done in
     let li = op-enters s.sheet.ops s.sheet.shifted.items s.sheet.ios.items s.sheet.table s.sheet.limits s.sheet.devices s.machine c.args.q i s.sheet.right.fine c.requires.ready c.admit-op.ensures.op in
-    let f = c.requires.stack.fixed.ops in
+    let f = c.requires.stands.stack.fixed.ops in
     let same = ap (λ x. record d { pool = c.do_op-done.new.pool; rooms = x; replies = c.set_reply.new.replies.items }) c.take_room-room.ensures.rooms ∙ ap (λ x. record d { pool = c.do_op-done.new.pool; rooms = set s.rooms.items i Nothing; replies = x }) c.set_reply.ensures in
     record {
       op = op_in s.sheet.ops i;
       reply = c.do_op-done.result;
-      reach = c.requires.rig.blocks i (omega arith);
+      reach = c.requires.stands.reaches.blocks i (omega arith);
       known = elim (known_done (op_in s.sheet.ops i) s.adapter.kind (room_at s.rooms.items i) s.pool c.do_op-done.new.pool c.do_op-done.result done') [
         | inl k ↦ inl k
         | inr m ↦ (let x = is_overwrite_done (op_in s.sheet.ops i) s.adapter.kind (room_at s.rooms.items i) s.pool c.do_op-done.new.pool c.do_op-done.result done' m in inr (record {
@@ -135,32 +134,34 @@ returns-clause-walks g c = λ ch.
           lba = x.lba;
           change = x.change;
           is = x.is;
-          walks = λ flips over n opening es left o w block long. walk_fails flips over n opening es left s c.requires.stack o w _ c.args.q i (record { sheet = refl; adapter = refl; host = refl }) ch (c.admit-op.ensures.step 0) c.admit-op.ensures.op empty c.do_op-done.new.pool c.do_op-done.result done'
+          walks = λ flips over n opening es left o w block long. walk_fails flips over n opening es left s c.requires.stands.stack o w _ c.args.q i (record { sheet = refl; adapter = refl; host = refl }) ch (c.admit-op.ensures.step 0) c.admit-op.ensures.op empty c.do_op-done.new.pool c.do_op-done.result done'
               x.dev x.lba x.change x.is m block long same;
           tells = λ us e. subst (λ op. LeavesOwn op us (g.R.Rig.state c.do_op-done.new.rig).units) (c.op.ensures ∙ x.is) (c.do_op-done.ensures.failed us e m);
         }))
       ];
       calm = λ calm. known_calm (op_in s.sheet.ops i) s.adapter.kind (room_at s.rooms.items i) s.pool c.do_op-done.new.pool c.do_op-done.result done' (c.do_op-done.ensures.silent calm);
-      walks = λ course known over n opening es left o w. walk_op over n opening es left s c.requires.stack o w _ c.args.q i (record { sheet = refl; adapter = refl; host = refl }) ch (c.admit-op.ensures.step 0) c.admit-op.ensures.op empty c.do_op-done.new.pool c.do_op-done.result
+      walks = λ course known over n opening es left o w. walk_op over n opening es left s c.requires.stands.stack o w _ c.args.q i (record { sheet = refl; adapter = refl; host = refl }) ch (c.admit-op.ensures.step 0) c.admit-op.ensures.op empty c.do_op-done.new.pool c.do_op-done.result
           (quiet_by course (op_in s.sheet.ops i) s.adapter.kind (room_at s.rooms.items i) s.pool c.do_op-done.new.pool c.do_op-done.result done' known) done' same;
       tells = λ us e known. c.do_op-done.ensures.left us e (subst (λ op. IsKnown op c.do_op-done.result) (sym c.op.ensures) known) ∙ ap (λ op. Some (units_left op us)) c.op.ensures;
     })
 
-pub returns-then-io-gt0-clause-goes : goal.returns-then-io-gt0-clause-goes
-returns-then-io-gt0-clause-goes g c = goes-nowhere (g.R.Rig.state c.args.rig.now)
+pub returns-then-io-gt0-clause-fails : goal.returns-then-io-gt0-clause-fails
+returns-then-io-gt0-clause-fails g c = record { silent = λ calm h. h; counts = λ n first h. h }
 
-pub returns-clause-goes : goal.returns-clause-goes
-returns-clause-goes g c =
-    goes-as-before (g.R.Rig.state c.args.rig.now) (g.R.Rig.state c.do_op-done.new.rig)
-    c.do_op-done.ensures.stays.standing c.do_op-done.ensures.log c.do_op-done.ensures.stays.count
+pub returns-clause-fails : goal.returns-clause-fails
+returns-clause-fails g c =
+    let replies = c.args.self.now.replies.items in
+    let o = g.R.Rig.state c.args.rig.now in
+    let o' = g.R.Rig.state c.do_op-done.new.rig in
+    record {
+      silent = λ calm h. subst NoneFailed (sym c.set_reply.ensures) (one-more replies c.admit-op.result c.do_op-done.result (c.do_op-done.ensures.silent calm) h);
+      counts = λ n first h.
+          subst (λ rs. RoseBy (n + medium_replies rs) first o'.faults) (sym c.set_reply.ensures)
+          (set_rises replies c.admit-op.result c.do_op-done.result o.faults o'.faults c.do_op-done.ensures.stays.count (λ calm e. false≢true (sym (c.do_op-done.ensures.silent calm) ∙ ap is_medium e)) n first h);
+    }
 
-pub returns-clause-silent : goal.returns-clause-silent
-returns-clause-silent g c = λ calm h. subst NoneFailed (sym c.set_reply.ensures) (one-more c.args.self.now.replies.items c.admit-op.result c.do_op-done.result (c.do_op-done.ensures.silent calm) h)
-
-pub returns-clause-counts : goal.returns-clause-counts
-returns-clause-counts g c = λ n first h.
-    subst (λ rs. RoseBy (n + medium_replies rs) first (g.R.Rig.state c.do_op-done.new.rig).faults) (sym c.set_reply.ensures)
-    (set_rises c.args.self.now.replies.items c.admit-op.result c.do_op-done.result (g.R.Rig.state c.args.rig.now).faults (g.R.Rig.state c.do_op-done.new.rig).faults c.do_op-done.ensures.stays.count (λ calm e. false≢true (sym (c.do_op-done.ensures.silent calm) ∙ ap is_medium e)) n first h)
+pub returns-clause-keeps : goal.returns-clause-keeps
+returns-clause-keeps g c = record { log = c.do_op-done.ensures.log; room = c.do_op-done.ensures.room; armed = c.do_op-done.ensures.stays.armed; count = c.do_op-done.ensures.stays.count }
 
 pub returns-then-io-gt0-clause-answered : goal.returns-then-io-gt0-clause-answered
 returns-then-io-gt0-clause-answered g c = λ none. puts_nothing (g.R.Rig.state c.args.rig.now) (g.R.Rig.state c.args.rig.now) refl refl refl refl

@@ -57,3 +57,6 @@ returns-clause-walks c = λ ch course over n opening es left o w.
     (let s = c.args.self.now in
     let mapped = subst (λ (io : Io). WriteMapped io.dir io.pi s.host c.cut-bio.result.k c.cut-bio.result.count c.cut-bio.result.lba s.pool c.map_piece.new.pool) c.io.ensures c.map_piece.ensures.mapped in
     walk_cuts over n opening es left s c.requires.stack o w _ c.args.q c.args.size c.cut-bio.result c.map_piece.new.pool (record { sheet = refl; adapter = refl; host = refl }) ch c.cut-bio.ensures.step c.cut-bio.ensures.piece mapped refl)
+
+pub returns-clause-settles : goal.returns-clause-settles
+returns-clause-settles c = record { kept = refl; replies = refl }

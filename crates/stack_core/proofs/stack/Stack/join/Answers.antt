@@ -25,3 +25,6 @@ returns-clause-stays c = record { sheet = refl; adapter = refl; host = refl }
 
 pub returns-clause-walks : goal.returns-clause-walks
 returns-clause-walks c = λ ch course over n opening es left o w. walk_joins over n opening es left c.args.self.now c.requires.stack o w _ c.args.d c.args.i c.args.j (record { sheet = refl; adapter = refl; host = refl }) ch (c.join.ensures 0) refl
+
+pub returns-clause-settles : goal.returns-clause-settles
+returns-clause-settles c = record { kept = refl; replies = refl }

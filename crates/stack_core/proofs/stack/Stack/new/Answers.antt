@@ -20,7 +20,7 @@ use Rattle.stack_core.proofs.Sent.{holds-all}
 use Rattle.stack_walks.proofs.Gates.{gate-is, length-prints}
 use Rattle.stack_core.proofs.Opening.{have-numbers, inside-each, own-few, sheet-is, small-blocks}
 use Rattle.stack_core.proofs.Queues.{has-queues}
-use Rattle.stack_core.proofs.WalkBegins.{told_begins, walk_begins, falling_begins}
+use Rattle.stack_core.proofs.NewStacks.{follows-at-first}
 use Rattle.stack_core.proofs.stack.Stack.new.Goals as goal
 
 pub new-requires : goal.new-requires
@@ -114,26 +114,6 @@ returns-clause-stack c =
       scratch = holds-all _ c.largest_block-most_bytes.result s.limits.max_blocks _ (rw h at c.largest_block-most_bytes.ensures.all) c.in_ok-for_size.ensures;
     })
 
-pub returns-clause-devices : goal.returns-clause-devices
-returns-clause-devices c n h =
-    let l = c.count_devices-devices.ensures.least n h in
-    let e = c.sheet_of-sheet.ensures.devices in
-    omega arith
-
-pub returns-clause-kept : goal.returns-clause-kept
-returns-clause-kept c =
-    let s = c.args.setup in
-    let k : c.deref-3.result.now ≡ requests_from s.mode.dix s.pages c.args.ops = c.deref-3.ensures.value ∙ c.in_ok-ios.ensures.ios ∙ ap (requests_from s.mode.dix s.pages) c.as_slice-4.ensures in
-    c.in_ok-kept.ensures.held ∙ ap (λ ios. replicate (blocks_of_requests (map request_in ios)) Untouched) k
-
-pub returns-clause-replies : goal.returns-clause-replies
-returns-clause-replies c =
-    let s = c.args.setup in
-    let i = c.in_ok-ios.ensures.ios ∙ ap (requests_from s.mode.dix s.pages) c.as_slice-4.ensures in
-    let l = ap length i ∙ length-requests s.mode.dix s.pages c.args.ops in
-    let n : c.len.result ≡ length c.args.ops = omega (arith, c.in_ok-ios.ios.ok.0, c.len.ensures) in
-    c.in_ok-replies.ensures ∙ ap (λ n. replicate n Silent) n
-
 pub footprints-requires-clause-count : goal.footprints-requires-clause-count
 footprints-requires-clause-count c =
     let n = length c.as_slice.result.now in
@@ -142,28 +122,32 @@ footprints-requires-clause-count c =
     let l = length-numbers 0 n in
     omega (arith, ap length c.deref.ensures.value, ap length c.as_slice.ensures, ap length c.as_slice-3.ensures)
 
-pub returns-clause-walks : goal.returns-clause-walks
-returns-clause-walks c = λ m n opening st log o over sizes.
-    (let suits = rw (c.as_slice-5.ensures) at c.in_ok-rooms.ensures.suits in
-    walk_begins m n opening _ st log (returns-clause-stack c) c.in_ok-machine.ensures c.in_ok-new.ensures.whole
-    (subst (λ ops. (i : ℕ) → i < length ops → Suits (op_in ops i) (room_at c.in_ok-rooms.rooms.items i)) (sym c.sheet_of-sheet.ensures.ops) suits) o over sizes)
-
-pub returns-clause-told : goal.returns-clause-told
-returns-clause-told c = λ m n opening us armed st log o over sizes site behind armed_are blocks.
-    (let suits = rw (c.as_slice-5.ensures) at c.in_ok-rooms.ensures.suits in
-    told_begins m n opening _ us armed st log (returns-clause-stack c) c.in_ok-machine.ensures c.in_ok-new.ensures.whole
-    (subst (λ ops. (i : ℕ) → i < length ops → Suits (op_in ops i) (room_at c.in_ok-rooms.rooms.items i)) (sym c.sheet_of-sheet.ensures.ops) suits) o over sizes site behind armed_are blocks)
-
-pub returns-clause-queues : goal.returns-clause-queues
-returns-clause-queues c =
+pub returns-clause-new : goal.returns-clause-new
+returns-clause-new c =
+    let s = c.args.setup in
     let sh = c.sheet_of-sheet.result in
+    let i = c.in_ok-ios.ensures.ios ∙ ap (requests_from s.mode.dix s.pages) c.as_slice-4.ensures in
+    let k : c.deref-3.result.now ≡ requests_from s.mode.dix s.pages c.args.ops = c.deref-3.ensures.value ∙ i in
+    let l = ap length i ∙ length-requests s.mode.dix s.pages c.args.ops in
+    let n : c.len.result ≡ length c.args.ops = omega (arith, c.in_ok-ios.ios.ok.0, c.len.ensures) in
     let ios : sh.ios.items ≡ c.deref-2.result.now = c.sheet_of-sheet.ensures.ios ∙ sym c.deref-2.ensures.value in
     let table = c.sheet_of-sheet.ensures.table in
-    has-queues sh.ops sh.shifted.items sh.ios.items sh.table sh.limits sh.devices sh.right.fine.on_devices
-    (λ n h. (let l = c.count_devices-devices.ensures.tight n (rw (ios, table) at h) in let e = c.sheet_of-sheet.ensures.devices in omega arith))
+    record {
+      first = c.in_ok-machine.ensures;
+      devices = λ n h. (let l = c.count_devices-devices.ensures.least n h in let e = c.sheet_of-sheet.ensures.devices in omega arith);
+      queues = has-queues sh.ops sh.shifted.items sh.ios.items sh.table sh.limits sh.devices sh.right.fine.on_devices
+          (λ n h. (let l = c.count_devices-devices.ensures.tight n (rw (ios, table) at h) in let e = c.sheet_of-sheet.ensures.devices in omega arith));
+      kept = c.in_ok-kept.ensures.held ∙ ap (λ ios. replicate (blocks_of_requests (map request_in ios)) Untouched) k;
+      replies = c.in_ok-replies.ensures ∙ ap (λ n. replicate n Silent) n;
+      pool = record {
+        pages = c.in_ok-new.ensures.pages ∙ c.in_ok-ios.ensures.pages ∙ ap (pages_from s.mode.dix s.pages) c.as_slice-4.ensures;
+        whole = c.in_ok-new.ensures.whole;
+        zeros = c.in_ok-new.ensures.zeros;
+      };
+    }
 
-pub returns-clause-falling : goal.returns-clause-falling
-returns-clause-falling c = λ m n opening us armed st log o over sizes site behind armed_are blocks.
-    (let suits = rw (c.as_slice-5.ensures) at c.in_ok-rooms.ensures.suits in
-    falling_begins m n opening _ us armed st log (returns-clause-stack c) c.in_ok-machine.ensures c.in_ok-new.ensures.whole
-    (subst (λ ops. (i : ℕ) → i < length ops → Suits (op_in ops i) (room_at c.in_ok-rooms.rooms.items i)) (sym c.sheet_of-sheet.ensures.ops) suits) o over sizes site behind armed_are blocks)
+pub returns-clause-follows : goal.returns-clause-follows
+returns-clause-follows c =
+    let suits = rw (c.as_slice-5.ensures) at c.in_ok-rooms.ensures.suits in
+    follows-at-first _ (returns-clause-stack c) c.in_ok-machine.ensures c.in_ok-new.ensures.whole
+    (subst (λ ops. (i : ℕ) → i < length ops → Suits (op_in ops i) (room_at c.in_ok-rooms.rooms.items i)) (sym c.sheet_of-sheet.ensures.ops) suits)

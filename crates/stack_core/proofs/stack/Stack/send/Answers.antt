@@ -13,6 +13,8 @@ use Rattle.stack_core.proofs.Goes.{either-way, goes-as-before}
 use Rattle.stack_core.proofs.Keeps.{is-stack}
 use Rattle.stack_core.proofs.Sending.{same-size, settles-of}
 use Rattle.stack_core.proofs.StackSends.{carried_by}
+use Rattle.stack_core.proofs.StackCounts.{sent_counts}
+use Rattle.stack_core.proofs.Stepping.{reaches-on}
 use Rattle.stack_core.proofs.Sent.{can-carry, holds-group, holds-still, sending, sent-works, spare-sent}
 use Rattle.stack_core.specs.declared.stack.Stack.{Stack}
 use Rattle.stack_core.specs.Walking.{Walks, WalksFalling, WalksTold}
@@ -24,29 +26,29 @@ use Rattle.rig_api.specs.State.{RigState}
 
 pub carry-requires-clause-group : goal.carry-requires-clause-group
 carry-requires-clause-group g c =
-    let k = can-carry c.args.self.now c.args.d c.args.i c.take.new.group.items c.take.new.self (is_some (g.R.Rig.state c.args.rig.now).image) (g.R.Rig.state c.args.rig.now).standing (g.R.Rig.state c.args.rig.now).room c.requires.stack c.requires.spare c.requires.rig c.requires.ready c.take.ensures.takes in
+    let k = can-carry c.args.self.now c.args.d c.args.i c.take.new.group.items c.take.new.self (is_some (g.R.Rig.state c.args.rig.now).image) (g.R.Rig.state c.args.rig.now).standing (g.R.Rig.state c.args.rig.now).room c.requires.stands.stack c.requires.stands.spare c.requires.stands.reaches c.requires.ready c.take.ensures.takes in
     (k.bytes, rw (c.ios.ensures, c.deref.ensures.value) k.fits)
 
 pub carry-requires-clause-scratch : goal.carry-requires-clause-scratch
 carry-requires-clause-scratch g c =
-    let k = can-carry c.args.self.now c.args.d c.args.i c.take.new.group.items c.take.new.self (is_some (g.R.Rig.state c.args.rig.now).image) (g.R.Rig.state c.args.rig.now).standing (g.R.Rig.state c.args.rig.now).room c.requires.stack c.requires.spare c.requires.rig c.requires.ready c.take.ensures.takes in
-    rw (c.ios.ensures, c.deref.ensures.value) (holds-group _ _ k.bytes _ _ c.args.self.now.sheet.limits.max_blocks c.args.self.now.scratch k.fits k.most c.requires.stack.lists.scratch_room)
+    let k = can-carry c.args.self.now c.args.d c.args.i c.take.new.group.items c.take.new.self (is_some (g.R.Rig.state c.args.rig.now).image) (g.R.Rig.state c.args.rig.now).standing (g.R.Rig.state c.args.rig.now).room c.requires.stands.stack c.requires.stands.spare c.requires.stands.reaches c.requires.ready c.take.ensures.takes in
+    rw (c.ios.ensures, c.deref.ensures.value) (holds-group _ _ k.bytes _ _ c.args.self.now.sheet.limits.max_blocks c.args.self.now.scratch k.fits k.most c.requires.stands.stack.lists.scratch_room)
 
 pub carry-requires-clause-fates : goal.carry-requires-clause-fates
 carry-requires-clause-fates g c =
-    let k = can-carry c.args.self.now c.args.d c.args.i c.take.new.group.items c.take.new.self (is_some (g.R.Rig.state c.args.rig.now).image) (g.R.Rig.state c.args.rig.now).standing (g.R.Rig.state c.args.rig.now).room c.requires.stack c.requires.spare c.requires.rig c.requires.ready c.take.ensures.takes in
+    let k = can-carry c.args.self.now c.args.d c.args.i c.take.new.group.items c.take.new.self (is_some (g.R.Rig.state c.args.rig.now).image) (g.R.Rig.state c.args.rig.now).standing (g.R.Rig.state c.args.rig.now).room c.requires.stands.stack c.requires.stands.spare c.requires.stands.reaches c.requires.ready c.take.ensures.takes in
     let f = k.few in
-    let r = c.requires.stack.lists.fates_room in
+    let r = c.requires.stands.stack.lists.fates_room in
     rw c.deref.ensures.value (omega arith)
 
 pub carry-requires-clause-device : goal.carry-requires-clause-device
 carry-requires-clause-device g c =
-    let k = can-carry c.args.self.now c.args.d c.args.i c.take.new.group.items c.take.new.self (is_some (g.R.Rig.state c.args.rig.now).image) (g.R.Rig.state c.args.rig.now).standing (g.R.Rig.state c.args.rig.now).room c.requires.stack c.requires.spare c.requires.rig c.requires.ready c.take.ensures.takes in
+    let k = can-carry c.args.self.now c.args.d c.args.i c.take.new.group.items c.take.new.self (is_some (g.R.Rig.state c.args.rig.now).image) (g.R.Rig.state c.args.rig.now).standing (g.R.Rig.state c.args.rig.now).room c.requires.stands.stack c.requires.stands.spare c.requires.stands.reaches c.requires.ready c.take.ensures.takes in
     rw c.deref.ensures.value k.device
 
 pub carry-requires-clause-spare : goal.carry-requires-clause-spare
 carry-requires-clause-spare g c =
-    let k = can-carry c.args.self.now c.args.d c.args.i c.take.new.group.items c.take.new.self (is_some (g.R.Rig.state c.args.rig.now).image) (g.R.Rig.state c.args.rig.now).standing (g.R.Rig.state c.args.rig.now).room c.requires.stack c.requires.spare c.requires.rig c.requires.ready c.take.ensures.takes in
+    let k = can-carry c.args.self.now c.args.d c.args.i c.take.new.group.items c.take.new.self (is_some (g.R.Rig.state c.args.rig.now).image) (g.R.Rig.state c.args.rig.now).standing (g.R.Rig.state c.args.rig.now).room c.requires.stands.stack c.requires.stands.spare c.requires.stands.reaches c.requires.ready c.take.ensures.takes in
     rw c.deref.ensures.value k.spare
 
 pub fly-requires : goal.fly-requires
@@ -54,105 +56,32 @@ fly-requires g c =
     let s = settles-of c.take.new.group.items c.carry.new.fates.items (c.carry.ensures.count ∙ ap size c.deref.ensures.value) c.carry.ensures.settles in
     rw (c.deref-2.ensures.value, c.deref-3.ensures.value) (sending (plan_in c.args.self.now.sheet) c.args.self.now.machine c.take.new.self c.args.d c.args.i c.take.new.group.items c.carry.new.fates.items c.requires.ready c.take.ensures.takes s)
 
-pub returns-clause-stack : goal.returns-clause-stack
-returns-clause-stack g c =
+pub returns-clause-stands : goal.returns-clause-stands
+returns-clause-stands g c =
+    let o = g.R.Rig.state c.args.rig.now in
+    let o' = g.R.Rig.state c.carry.new.rig in
     let s = settles-of c.take.new.group.items c.carry.new.fates.items (c.carry.ensures.count ∙ ap size c.deref.ensures.value) c.carry.ensures.settles in
-    is-stack c.args.self.now _ c.requires.stack (record {
-      sheet = refl;
-      adapter = refl;
-      works = sent-works (plan_in c.args.self.now.sheet) c.args.self.now.machine c.take.new.self c.fly.new.self c.args.d c.args.i c.take.new.group.items c.carry.new.fates.items c.requires.ready c.take.ensures.takes s (rw (c.deref-2.ensures.value, c.deref-3.ensures.value) at c.fly.ensures);
-      pages = c.carry.ensures.pages;
-      rooms = c.requires.stack.rooms;
-      kept = c.requires.stack.kept;
-      replies = refl;
-      group = c.take.ensures.capacity;
-      fates = c.carry.ensures.capacity;
-      scratch = holds-still c.args.self.now.sheet.ios.items c.args.self.now.sheet.limits.max_blocks c.args.self.now.scratch c.carry.new.scratch c.carry.ensures.keeps_room c.requires.stack.lists.scratch_room;
-    })
+    let flies = rw (c.deref-2.ensures.value, c.deref-3.ensures.value) at c.fly.ensures in
+    record {
+      stack = is-stack c.args.self.now _ c.requires.stands.stack (record {
+        sheet = refl;
+        adapter = refl;
+        works = sent-works (plan_in c.args.self.now.sheet) c.args.self.now.machine c.take.new.self c.fly.new.self c.args.d c.args.i c.take.new.group.items c.carry.new.fates.items c.requires.ready c.take.ensures.takes s flies;
+        pages = c.carry.ensures.pages;
+        rooms = c.requires.stands.stack.rooms;
+        kept = c.requires.stands.stack.kept;
+        replies = refl;
+        group = c.take.ensures.capacity;
+        fates = c.carry.ensures.capacity;
+        scratch = holds-still c.args.self.now.sheet.ios.items c.args.self.now.sheet.limits.max_blocks c.args.self.now.scratch c.carry.new.scratch c.carry.ensures.keeps_room c.requires.stands.stack.lists.scratch_room;
+      });
+      reaches = reaches-on c.args.self.now _ o o' refl c.carry.ensures.stays.standing c.carry.ensures.stays.tells c.requires.stands.reaches;
+      spare = spare-sent c.args.self.now _ c.take.new.self c.args.d c.args.i c.take.new.group.items c.carry.new.fates.items o.standing o'.standing o.room o'.room
+          c.requires.stands.spare c.requires.ready c.take.ensures.takes s flies c.carry.ensures.spent refl c.carry.ensures.stays.standing;
+    }
 
 pub returns-clause-stays : goal.returns-clause-stays
 returns-clause-stays g c = record { sheet = refl; adapter = refl; host = refl }
-
-pub returns-clause-sends : goal.returns-clause-sends
-returns-clause-sends g c =
-    record {
-      taken = c.take.new.self;
-      group = c.take.new.group.items;
-      fates = c.carry.new.fates.items;
-      takes = c.take.ensures.takes;
-      flies = rw (c.deref-2.ensures.value, c.deref-3.ensures.value) at c.fly.ensures;
-      settles = settles-of c.take.new.group.items c.carry.new.fates.items (c.carry.ensures.count ∙ ap size c.deref.ensures.value) c.carry.ensures.settles;
-    }
-
-pub returns-clause-spare : goal.returns-clause-spare
-returns-clause-spare g c =
-    let s = settles-of c.take.new.group.items c.carry.new.fates.items (c.carry.ensures.count ∙ ap size c.deref.ensures.value) c.carry.ensures.settles in
-    spare-sent c.args.self.now _ c.take.new.self c.args.d c.args.i c.take.new.group.items c.carry.new.fates.items (g.R.Rig.state c.args.rig.now).standing (g.R.Rig.state c.carry.new.rig).standing (g.R.Rig.state c.args.rig.now).room (g.R.Rig.state c.carry.new.rig).room
-    c.requires.spare c.requires.ready c.take.ensures.takes s (rw (c.deref-2.ensures.value, c.deref-3.ensures.value) at c.fly.ensures) c.carry.ensures.spent refl c.carry.ensures.stays.standing
-
-pub returns-clause-walks : goal.returns-clause-walks
-returns-clause-walks g c = λ ch m n opening first w.
-    (let s = c.args.self.now in
-    let a = c.args.rig.now in
-    let b = c.carry.new.rig in
-    let old : RigState = g.R.Rig.state a in
-    let new : RigState = g.R.Rig.state b in
-    let after : Stack = record s { machine = c.fly.new.self; pool = c.carry.new.pool; scratch = c.carry.new.scratch; group = c.take.new.group; fates = c.carry.new.fates } in
-    let settles = settles-of c.take.new.group.items c.carry.new.fates.items (c.carry.ensures.count ∙ ap size c.deref.ensures.value) c.carry.ensures.settles in
-    let unsent = rw (c.ios.ensures, c.deref.ensures.value) at c.carry.ensures.unsent in
-    let sent = rw (c.ios.ensures, c.deref.ensures.value) at c.carry.ensures.sent in
-    let fetched = rw (c.ios.ensures, c.deref.ensures.value) at c.carry.ensures.fetched in
-    let out = rw (c.ios.ensures, c.deref.ensures.value) at c.carry.ensures.recorded_out in
-    let came = rw (c.ios.ensures, c.deref.ensures.value) at c.carry.ensures.recorded_in in
-    subst (λ st. Walks m n opening first after st (g.R.Rig.state b).log) (sym c.carry.ensures.stays.standing)
-    (walk_sends m n opening first s (g.R.Rig.state a).standing (g.R.Rig.state a).log c.requires.stack w after c.args.d c.args.i c.take.new.group.items c.carry.new.fates.items c.take.new.self (record { sheet = refl; adapter = refl; host = refl }) ch c.take.ensures.takes (rw (c.deref-2.ensures.value, c.deref-3.ensures.value) at c.fly.ensures) settles refl
-    old new refl (λ e q. ((unsent e q).0, ap (λ (s : RigState). s.log) (ap g.R.Rig.state (unsent e q).1))) (λ e q. (sent e q).pool_is) (λ e. (fetched e).whole) out came))
-
-pub returns-clause-told : goal.returns-clause-told
-returns-clause-told g c = λ ch m n opening first w calm.
-    (let s = c.args.self.now in
-    let a = c.args.rig.now in
-    let b = c.carry.new.rig in
-    let old : RigState = g.R.Rig.state a in
-    let new : RigState = g.R.Rig.state b in
-    let after : Stack = record s { machine = c.fly.new.self; pool = c.carry.new.pool; scratch = c.carry.new.scratch; group = c.take.new.group; fates = c.carry.new.fates } in
-    let settles = settles-of c.take.new.group.items c.carry.new.fates.items (c.carry.ensures.count ∙ ap size c.deref.ensures.value) c.carry.ensures.settles in
-    let unsent = rw (c.ios.ensures, c.deref.ensures.value) at c.carry.ensures.unsent in
-    let sent = rw (c.ios.ensures, c.deref.ensures.value) at c.carry.ensures.sent in
-    let fetched = rw (c.ios.ensures, c.deref.ensures.value) at c.carry.ensures.fetched in
-    let out = rw (c.ios.ensures, c.deref.ensures.value) at c.carry.ensures.recorded_out in
-    let came = rw (c.ios.ensures, c.deref.ensures.value) at c.carry.ensures.recorded_in in
-    let went_out = rw (c.ios.ensures, c.deref.ensures.value) at c.carry.ensures.went_out in
-    let came_in = rw (c.ios.ensures, c.deref.ensures.value) at c.carry.ensures.came_in in
-    subst (λ st. WalksTold m n opening first after (g.R.Rig.state b).units (g.R.Rig.state b).armed st (g.R.Rig.state b).log) (sym c.carry.ensures.stays.standing)
-    (told_sends m n opening first s (g.R.Rig.state a).units (g.R.Rig.state a).armed (g.R.Rig.state a).standing (g.R.Rig.state a).log c.requires.stack w after c.args.d c.args.i c.take.new.group.items c.carry.new.fates.items c.take.new.self (record { sheet = refl; adapter = refl; host = refl }) ch c.take.ensures.takes (rw (c.deref-2.ensures.value, c.deref-3.ensures.value) at c.fly.ensures) settles refl
-    old new (g.R.Rig.state a).image refl refl refl c.carry.ensures.stays.armed calm (g.met.R.Rig.laid a) (g.met.R.Rig.ready a) c.requires.rig.devices
-    (λ e q. ((unsent e q).0, (ap (λ (s : RigState). s.log) (ap g.R.Rig.state (unsent e q).1), ap (λ (s : RigState). s.units) (ap g.R.Rig.state (unsent e q).1)))) (λ e q. (sent e q).pool_is) (λ e. (fetched e).whole) out came went_out came_in))
-
-pub returns-clause-falling : goal.returns-clause-falling
-returns-clause-falling g c = λ ch m n opening first w.
-    (let s = c.args.self.now in
-    let a = c.args.rig.now in
-    let b = c.carry.new.rig in
-    let old : RigState = g.R.Rig.state a in
-    let new : RigState = g.R.Rig.state b in
-    let after : Stack = record s { machine = c.fly.new.self; pool = c.carry.new.pool; scratch = c.carry.new.scratch; group = c.take.new.group; fates = c.carry.new.fates } in
-    let settles = settles-of c.take.new.group.items c.carry.new.fates.items (c.carry.ensures.count ∙ ap size c.deref.ensures.value) c.carry.ensures.settles in
-    let unsent = rw (c.ios.ensures, c.deref.ensures.value) at c.carry.ensures.unsent in
-    let sent = rw (c.ios.ensures, c.deref.ensures.value) at c.carry.ensures.sent in
-    let fetched = rw (c.ios.ensures, c.deref.ensures.value) at c.carry.ensures.fetched in
-    let out = rw (c.ios.ensures, c.deref.ensures.value) at c.carry.ensures.recorded_out in
-    let came = rw (c.ios.ensures, c.deref.ensures.value) at c.carry.ensures.recorded_in in
-    let went_out = rw (c.ios.ensures, c.deref.ensures.value) at c.carry.ensures.went_out in
-    let came_in = rw (c.ios.ensures, c.deref.ensures.value) at c.carry.ensures.came_in in
-    let stays : Stays s after = record { sheet = refl; adapter = refl; host = refl } in
-    let flies = rw (c.deref-2.ensures.value, c.deref-3.ensures.value) at c.fly.ensures in
-    subst (λ st. WalksFalling m n opening first after (g.R.Rig.state b).units (g.R.Rig.state b).armed st (g.R.Rig.state b).log) (sym c.carry.ensures.stays.standing) (
-      w.0,
-      (told_sends m n opening first s (g.R.Rig.state a).units (g.R.Rig.state a).armed (g.R.Rig.state a).standing (g.R.Rig.state a).log c.requires.stack w.1 after c.args.d c.args.i c.take.new.group.items c.carry.new.fates.items c.take.new.self stays ch c.take.ensures.takes (rw (c.deref-2.ensures.value, c.deref-3.ensures.value) at c.fly.ensures) settles refl
-          old new (g.R.Rig.state a).image refl refl refl c.carry.ensures.stays.armed tt (g.met.R.Rig.laid a) (g.met.R.Rig.ready a) c.requires.rig.devices
-          (λ e q. ((unsent e q).0, (ap (λ (s : RigState). s.log) (ap g.R.Rig.state (unsent e q).1), ap (λ (s : RigState). s.units) (ap g.R.Rig.state (unsent e q).1)))) (λ e q. (sent e q).pool_is) (λ e. (fetched e).whole) out came went_out came_in),
-    ))
 
 pub returns-clause-goes : goal.returns-clause-goes
 returns-clause-goes g c =
@@ -170,7 +99,7 @@ returns-clause-carries g c =
     let b = c.carry.new.rig in
     let old : RigState = g.R.Rig.state a in
     let new : RigState = g.R.Rig.state b in
-    let k = can-carry s c.args.d c.args.i c.take.new.group.items c.take.new.self (is_some (g.R.Rig.state a).image) (g.R.Rig.state a).standing (g.R.Rig.state a).room c.requires.stack c.requires.spare c.requires.rig c.requires.ready c.take.ensures.takes in
+    let k = can-carry s c.args.d c.args.i c.take.new.group.items c.take.new.self (is_some (g.R.Rig.state a).image) (g.R.Rig.state a).standing (g.R.Rig.state a).room c.requires.stands.stack c.requires.stands.spare c.requires.stands.reaches c.requires.ready c.take.ensures.takes in
     let long = c.carry.ensures.count ∙ ap size c.deref.ensures.value in
     let settles = settles-of c.take.new.group.items c.carry.new.fates.items long c.carry.ensures.settles in
     let unsent = rw (c.ios.ensures, c.deref.ensures.value) at c.carry.ensures.unsent in
@@ -195,25 +124,69 @@ returns-clause-spoils g c =
     s.adapter s.sheet.ios.items s.pool c.carry.new.pool old new
     (λ e q. ((unsent e q).0, ap (λ (s : RigState). s.faults) (ap g.R.Rig.state (unsent e q).1))) sent fetched
 
-pub returns-clause-answered : goal.returns-clause-answered
-returns-clause-answered g c = λ ch m n opening first w us told armed calm.
+pub returns-clause-went : goal.returns-clause-went
+returns-clause-went g c = λ ch.
     (let s = c.args.self.now in
     let a = c.args.rig.now in
-    let b = c.carry.new.rig in
     let old : RigState = g.R.Rig.state a in
-    let new : RigState = g.R.Rig.state b in
-    let req = c.take.new.group.items in
-    let ios = s.sheet.ios.items in
+    let new : RigState = g.R.Rig.state c.carry.new.rig in
     let after : Stack = record s { machine = c.fly.new.self; pool = c.carry.new.pool; scratch = c.carry.new.scratch; group = c.take.new.group; fates = c.carry.new.fates } in
-    let settles = settles-of req c.carry.new.fates.items (c.carry.ensures.count ∙ ap size c.deref.ensures.value) c.carry.ensures.settles in
+    let stays : Stays s after = record { sheet = refl; adapter = refl; host = refl } in
+    let settles = settles-of c.take.new.group.items c.carry.new.fates.items (c.carry.ensures.count ∙ ap size c.deref.ensures.value) c.carry.ensures.settles in
     let flies = rw (c.deref-2.ensures.value, c.deref-3.ensures.value) at c.fly.ensures in
-    let k = can-carry s c.args.d c.args.i req c.take.new.self (is_some old.image) old.standing old.room c.requires.stack c.requires.spare c.requires.rig c.requires.ready c.take.ensures.takes in
-    let known = size_is m n opening first s old.standing old.log c.requires.stack w after c.args.d c.args.i req c.carry.new.fates.items c.take.new.self (record { sheet = refl; adapter = refl; host = refl }) ch c.take.ensures.takes flies settles refl ∙ group-bytes s.adapter s.pool k.bytes ios req k.fits in
-    let stands = unit-stands old.standing old.image us (first_of req).dev (sym (g.met.R.Rig.laid a) ∙ told) (g.met.R.Rig.ready a) k.device in
     let unsent = rw (c.ios.ensures, c.deref.ensures.value) at c.carry.ensures.unsent in
     let sent = rw (c.ios.ensures, c.deref.ensures.value) at c.carry.ensures.sent in
     let fetched = rw (c.ios.ensures, c.deref.ensures.value) at c.carry.ensures.fetched in
-    either-way (Answers us old new × (new.standing ≡ old.standing) × (new.armed ≡ old.armed)) (first_of req).dir (any_bad (map (sends s.adapter ios (flat s.pool)) (blocks_in req)))
-    (λ d q. (let e = ap g.R.Rig.state (unsent d q).1 in puts_nothing old new (ap (λ (s : RigState). s.log) e) (ap (λ (s : RigState). s.standing) e) (ap (λ (s : RigState). s.armed) e) (ap (λ (s : RigState). s.units) e) us told armed calm))
-    (λ d q. (sent_puts s.adapter ios req s.pool c.carry.new.pool k.bytes us c.carry.new.fates.items old new c.requires.stack.fixed.protect k.fits known stands told armed calm d q (sent d q), c.carry.ensures.stays.standing, c.carry.ensures.stays.armed))
-    (λ d. (fetched_puts s.adapter ios req s.pool c.carry.new.pool k.bytes us c.carry.new.fates.items old new c.requires.stack.fixed.protect k.fits known stands told armed calm d (fetched d), c.carry.ensures.stays.standing, c.carry.ensures.stays.armed)))
+    let out = rw (c.ios.ensures, c.deref.ensures.value) at c.carry.ensures.recorded_out in
+    let came = rw (c.ios.ensures, c.deref.ensures.value) at c.carry.ensures.recorded_in in
+    let went_out = rw (c.ios.ensures, c.deref.ensures.value) at c.carry.ensures.went_out in
+    let came_in = rw (c.ios.ensures, c.deref.ensures.value) at c.carry.ensures.came_in in
+    record {
+      walks = λ m n opening first w.
+          subst (λ st. Walks m n opening first after st new.log) (sym c.carry.ensures.stays.standing)
+          (walk_sends m n opening first s old.standing old.log c.requires.stands.stack w after c.args.d c.args.i c.take.new.group.items c.carry.new.fates.items c.take.new.self stays ch c.take.ensures.takes flies settles refl
+          old new refl (λ e q. ((unsent e q).0, ap (λ (s : RigState). s.log) (ap g.R.Rig.state (unsent e q).1))) (λ e q. (sent e q).pool_is) (λ e. (fetched e).whole) out came);
+      told = λ m n opening first w calm.
+          subst (λ st. WalksTold m n opening first after new.units new.armed st new.log) (sym c.carry.ensures.stays.standing)
+          (told_sends m n opening first s old.units old.armed old.standing old.log c.requires.stands.stack w after c.args.d c.args.i c.take.new.group.items c.carry.new.fates.items c.take.new.self stays ch c.take.ensures.takes flies settles refl
+          old new old.image refl refl refl c.carry.ensures.stays.armed calm (g.met.R.Rig.laid a) (g.met.R.Rig.ready a) c.requires.stands.reaches.devices
+          (λ e q. ((unsent e q).0, (ap (λ (s : RigState). s.log) (ap g.R.Rig.state (unsent e q).1), ap (λ (s : RigState). s.units) (ap g.R.Rig.state (unsent e q).1)))) (λ e q. (sent e q).pool_is) (λ e. (fetched e).whole) out came went_out came_in);
+      falling = λ m n opening first w.
+          subst (λ st. WalksFalling m n opening first after new.units new.armed st new.log) (sym c.carry.ensures.stays.standing) (
+            w.0,
+            (told_sends m n opening first s old.units old.armed old.standing old.log c.requires.stands.stack w.1 after c.args.d c.args.i c.take.new.group.items c.carry.new.fates.items c.take.new.self stays ch c.take.ensures.takes flies settles refl
+                old new old.image refl refl refl c.carry.ensures.stays.armed tt (g.met.R.Rig.laid a) (g.met.R.Rig.ready a) c.requires.stands.reaches.devices
+                (λ e q. ((unsent e q).0, (ap (λ (s : RigState). s.log) (ap g.R.Rig.state (unsent e q).1), ap (λ (s : RigState). s.units) (ap g.R.Rig.state (unsent e q).1)))) (λ e q. (sent e q).pool_is) (λ e. (fetched e).whole) out came went_out came_in),
+          );
+      silent = λ calm h. h;
+      faults = c.carry.ensures.stays.count;
+      counts = sent_counts s after ch.0 c.args.d c.args.i old.faults new.faults stays ch.1 ch.2 (returns-clause-spoils g c) refl refl;
+      sheet = refl;
+      answered = λ m n opening first w none us told armed calm.
+      (let s = c.args.self.now in
+      let a = c.args.rig.now in
+      let b = c.carry.new.rig in
+      let old : RigState = g.R.Rig.state a in
+      let new : RigState = g.R.Rig.state b in
+      let req = c.take.new.group.items in
+      let ios = s.sheet.ios.items in
+      let after : Stack = record s { machine = c.fly.new.self; pool = c.carry.new.pool; scratch = c.carry.new.scratch; group = c.take.new.group; fates = c.carry.new.fates } in
+      let settles = settles-of req c.carry.new.fates.items (c.carry.ensures.count ∙ ap size c.deref.ensures.value) c.carry.ensures.settles in
+      let flies = rw (c.deref-2.ensures.value, c.deref-3.ensures.value) at c.fly.ensures in
+      let k = can-carry s c.args.d c.args.i req c.take.new.self (is_some old.image) old.standing old.room c.requires.stands.stack c.requires.stands.spare c.requires.stands.reaches c.requires.ready c.take.ensures.takes in
+      let known = size_is m n opening first s old.standing old.log c.requires.stands.stack w after c.args.d c.args.i req c.carry.new.fates.items c.take.new.self (record { sheet = refl; adapter = refl; host = refl }) ch c.take.ensures.takes flies settles refl ∙ group-bytes s.adapter s.pool k.bytes ios req k.fits in
+      let stands = unit-stands old.standing old.image us (first_of req).dev (sym (g.met.R.Rig.laid a) ∙ told) (g.met.R.Rig.ready a) k.device in
+      let unsent = rw (c.ios.ensures, c.deref.ensures.value) at c.carry.ensures.unsent in
+      let sent = rw (c.ios.ensures, c.deref.ensures.value) at c.carry.ensures.sent in
+      let fetched = rw (c.ios.ensures, c.deref.ensures.value) at c.carry.ensures.fetched in
+      either-way (Answers us old new × (new.standing ≡ old.standing) × (new.armed ≡ old.armed)) (first_of req).dir (any_bad (map (sends s.adapter ios (flat s.pool)) (blocks_in req)))
+      (λ d q. (let e = ap g.R.Rig.state (unsent d q).1 in puts_nothing old new (ap (λ (s : RigState). s.log) e) (ap (λ (s : RigState). s.standing) e) (ap (λ (s : RigState). s.armed) e) (ap (λ (s : RigState). s.units) e) us told armed calm))
+      (λ d q. (sent_puts s.adapter ios req s.pool c.carry.new.pool k.bytes us c.carry.new.fates.items old new c.requires.stands.stack.fixed.protect k.fits known stands told armed calm d q (sent d q), c.carry.ensures.stays.standing, c.carry.ensures.stays.armed))
+      (λ d. (fetched_puts s.adapter ios req s.pool c.carry.new.pool k.bytes us c.carry.new.fates.items old new c.requires.stands.stack.fixed.protect k.fits known stands told armed calm d (fetched d), c.carry.ensures.stays.standing, c.carry.ensures.stays.armed)));
+    })
+
+pub returns-clause-settles : goal.returns-clause-settles
+returns-clause-settles g c = record { kept = refl; replies = refl }
+
+pub returns-clause-rig : goal.returns-clause-rig
+returns-clause-rig g c = c.carry.ensures.stays
