@@ -25,7 +25,8 @@ const TOO_LONG: LineFault = LineFault {
 
 /// Reads the source to its end, and its lines.
 fn lines_of<S: Source>(alloc: Global, source: &mut S) -> Result<Vec<NvmLine>, NvmFault>
-    ensures { MatchResult result (λ v. HasLines v.items (S.left source.old) (S.left source.new)) (λ f. CauseUnread f (S.left source.old) (S.left source.new) (S.faults source.old) (S.faults source.new)) }
+    ensures { MatchResult result (λ v. HasLines v.items (S.left source.old) (S.left source.new))
+        (λ f. CauseUnread f (S.left source.old) (S.left source.new) (S.faults source.old) (S.faults source.new)) }
 {
     let text = match read_all(alloc, source) {
         Ok(text) => text,

@@ -2,19 +2,20 @@
 use Rattle.std.proofs.Common.{◌≡◌, ◌≤◌, ◌<◌, ℕ, ◌-◌, Bool, true, false, ◌&&◌, ◌||◌, eqb, List, [], ◌∷◌, ◌++◌, length, refl, ap, sym, subst, ◌∙◌, arith, Option, Some, None}
 use Rattle.std.specs.Prelude.{if◌then◌else◌, is_some}
 use Rattle.std.proofs.lemmas.Bool.{eqb-true}
-use Rattle.dix_base.specs.Told.{Calm, Rose}
+use Rattle.dix_base.specs.Told.{Rose}
 use Rattle.cdb_codec.specs.Forms.{form}
 use Rattle.sense_codes.specs.declared.Sense.{Sense}
 use Rattle.target_answer.specs.Target.{Stop, Stored}
 use Rattle.rig_api.specs.Log.{IsMedium, IsMediumSense, entry_of}
-use Rattle.rig_api.specs.Telling.{HasCause, IsAnswer, IsStanding, answer_of, frame_size, spec_at, unit_at, units_told}
+use Rattle.rig_api.specs.Telling.{IsAnswer, IsStanding, answer_of, spec_at, unit_at, units_told}
 use Rattle.rig_api.specs.declared.rig.Outcome.{Outcome}
 use Rattle.rig_api.specs.State.{Exchanged, RigState}
 use Rattle.volume_table.specs.declared.device.DeviceInfo.{DeviceInfo}
-use Rattle.nvme_front.specs.Answers.{HasDevices, IsNvmAnswer, Submitted, device_of, nvm_answer}
+use Rattle.nvme_front.specs.Answers.{HasDevices, Submitted, device_of}
 use Rattle.nvme_front.specs.Buffers.{sent_by}
 use Rattle.nvme_front.specs.Completions.{by_end, completed, is_internal, is_of_medium, says, success}
 use Rattle.nvme_front.specs.Exchanges.{Done}
+use Rattle.nvme_front.specs.Results.{AnswersCalm, IsAnswered}
 use Rattle.nvme_front.specs.Refusals.{device_at, has_namespace}
 use Rattle.nvme_front.specs.Translation.{scsi_command}
 use Rattle.nvme_front.specs.declared.command.NvmCommand.{NvmCommand}
@@ -96,20 +97,18 @@ medium-of n o result f f' e rose h = rose (of-completed n o (ap is_of_medium (sy
 
 -- what a command that was done keeps
 pub record Clauses (devices : List DeviceInfo) (c : NvmCommand) (body meta body' meta' : List ℕ) (result : Completion) (old new : RigState) : Type 0 where
-  pub submitted : Submitted (device_at devices c.nsid) c old.standing body meta body' meta' result old.log new.log
-  pub calm : (us : List Stored) → old.units ≡ Some us → Calm old.faults new.faults → IsNvmAnswer (nvm_answer (unit_at us (c.nsid - 1)) old.armed c body meta None) us (c.nsid - 1) result new.units body' meta'
-  pub told : (us : List Stored) → old.units ≡ Some us → (stop : Option Stop) × HasCause stop (frame_size (unit_at us (c.nsid - 1))) old.faults new.faults
-      × IsNvmAnswer (nvm_answer (unit_at us (c.nsid - 1)) old.armed c body meta stop) us (c.nsid - 1) result new.units body' meta'
-  pub never : is_some old.units ≡ true → is_internal result ≡ false
-  pub medium : is_of_medium result ≡ true → Rose old.faults new.faults
+  pub answered : IsAnswered devices c body meta body' meta' result old new
+  pub calm : AnswersCalm c body meta body' meta' result old new
 
 pub all-clauses : (devices : List DeviceInfo) (d : DeviceInfo) (c : NvmCommand) (body meta body' meta' : List ℕ) (result : Completion) (old new : RigState) (image : Option (List ℕ)) →
     Done (c.nsid - 1) d c body meta body' meta' result old new → d ≡ device_at devices c.nsid → has_namespace devices c.nsid ≡ true → 1 ≤ c.count →
     HasDevices devices old.standing old.units → old.units ≡ units_told old.standing image → IsStanding old.standing image → Clauses devices c body meta body' meta' result old new
 all-clauses devices d c body meta body' meta' result old new image r device there some has laid ready = record {
-  submitted = subst (λ (x : DeviceInfo). Submitted x c old.standing body meta body' meta' result old.log new.log) device (submitted (c.nsid - 1) d c body meta body' meta' result old new refl r);
+  answered = record {
+    submitted = subst (λ (x : DeviceInfo). Submitted x c old.standing body meta body' meta' result old.log new.log) device (submitted (c.nsid - 1) d c body meta body' meta' result old new refl r);
+    told = λ us u. (let k = r.exchanged.stopped us u in (k.0, k.1, (told-of devices d c body meta body' meta' result old new image us k.0 r device there some has laid ready u k.2).answer));
+    never = never-of devices d c body meta body' meta' result old new image r device there some has laid ready;
+    medium = medium-of c.count r.outcome result old.faults new.faults r.result_is r.exchanged.medium;
+  };
   calm = λ us u calm. (told-of devices d c body meta body' meta' result old new image us None r device there some has laid ready u (r.exchanged.calm us u calm)).answer;
-  told = λ us u. (let k = r.exchanged.stopped us u in (k.0, k.1, (told-of devices d c body meta body' meta' result old new image us k.0 r device there some has laid ready u k.2).answer));
-  never = never-of devices d c body meta body' meta' result old new image r device there some has laid ready;
-  medium = medium-of c.count r.outcome result old.faults new.faults r.result_is r.exchanged.medium;
 }

@@ -5,3 +5,4 @@ pub mod Translation
 pub mod Buffers
 pub mod Answers
 pub mod Exchanges
+pub mod Results

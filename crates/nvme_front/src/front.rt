@@ -1,18 +1,16 @@
 //! The front: the lengths of a command's buffers, and the command done.
 
-ghost use Rattle.std.specs.Prelude.{◌≡◌, ◌-◌, ◌≤◌, ◌<◌, ◌+◌, ◌*◌, ◌^◌, [], true, false, List, Option, Some, None, IfErr, IfOk, length, is_some, drop, take};
+ghost use Rattle.std.specs.Prelude.{◌≡◌, ◌-◌, ◌≤◌, ◌<◌, ◌+◌, ◌*◌, ◌^◌, [], true, List, Some, None, IfErr, IfOk, length, drop, take};
 ghost use Rattle.std.specs.List.{list_all};
-ghost use Rattle.dix_base.specs.Told.{Calm, Rose};
-ghost use Rattle.target_answer.specs.Target.{Stop, Stored};
 ghost use Rattle.rig_api.specs.Log.{HasRoom, capacity_len};
-ghost use Rattle.rig_api.specs.Telling.{HasCause, frame_size, greatest_size, unit_at};
+ghost use Rattle.rig_api.specs.Telling.{greatest_size};
 ghost use Rattle.rig_api.specs.State.{Exchanged, Stays};
 ghost use Rattle.target_answer.specs.Requests.{blocks_of};
-ghost use Rattle.nvme_front.specs.Answers.{HasDevices, IsNvmAnswer, Submitted, nvm_answer};
+ghost use Rattle.nvme_front.specs.Answers.{HasDevices};
+ghost use Rattle.nvme_front.specs.Results.{AnswersCalm, IsAnswered};
 ghost use Rattle.nvme_front.specs.Exchanges.{Done};
 ghost use Rattle.nvme_front.specs.Buffers.{room_for};
 ghost use Rattle.nvme_front.specs.Commands.{command_in};
-ghost use Rattle.nvme_front.specs.Completions.{is_internal, is_of_medium};
 ghost use Rattle.nvme_front.specs.Refusals.{body_len, device_at, has_meta, has_namespace, has_size, meta_len, refusal};
 ghost use Rattle.nvme_front.specs.Translation.{scsi_command};
 
@@ -131,14 +129,8 @@ impl NvmFront {
         requires meta { length meta.old ≡ meta_len (device_at self.old (command_in sqe.now).nsid).ty (command_in sqe.now) }
         requires devices { HasDevices self.old (R.state rig.old).standing (R.state rig.old).units }
         requires room { HasRoom (greatest_size (R.state rig.old).standing) 1 (command_in sqe.now).count (R.state rig.old).room }
-        ensures submitted { Submitted (device_at self.old (command_in sqe.now).nsid) (command_in sqe.now) (R.state rig.old).standing body.old meta.old body.new meta.new result (R.state rig.old).log (R.state rig.new).log }
-        ensures calm { (us : List Stored) → (R.state rig.old).units ≡ Some us → Calm (R.state rig.old).faults (R.state rig.new).faults
-            → IsNvmAnswer (nvm_answer (unit_at us ((command_in sqe.now).nsid - 1)) (R.state rig.old).armed (command_in sqe.now) body.old meta.old None) us ((command_in sqe.now).nsid - 1) result (R.state rig.new).units body.new meta.new }
-        ensures told { (us : List Stored) → (R.state rig.old).units ≡ Some us
-            → (stop : Option Stop) × HasCause stop (frame_size (unit_at us ((command_in sqe.now).nsid - 1))) (R.state rig.old).faults (R.state rig.new).faults
-            × IsNvmAnswer (nvm_answer (unit_at us ((command_in sqe.now).nsid - 1)) (R.state rig.old).armed (command_in sqe.now) body.old meta.old stop) us ((command_in sqe.now).nsid - 1) result (R.state rig.new).units body.new meta.new }
-        ensures never { is_some (R.state rig.old).units ≡ true → is_internal result ≡ false }
-        ensures medium { is_of_medium result ≡ true → Rose (R.state rig.old).faults (R.state rig.new).faults }
+        ensures answered { IsAnswered self.old (command_in sqe.now) body.old meta.old body.new meta.new result (R.state rig.old) (R.state rig.new) }
+        ensures calm { AnswersCalm (command_in sqe.now) body.old meta.old body.new meta.new result (R.state rig.old) (R.state rig.new) }
         ensures stays { Stays (R.state rig.old) (R.state rig.new) }
         ensures front { self.new ≡ self.old }
     {

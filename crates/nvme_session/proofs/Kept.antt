@@ -3,17 +3,18 @@ use Rattle.std.proofs.Common.{◌≡◌, ℕ, eqb, true, false, List, [], ◌∷
 use Rattle.std.specs.Prelude.{Result, Ok, Err, IfOk, is_some, map}
 use Rattle.std.proofs.lemmas.Bool.{cases_Bool, eqb-true}
 use Rattle.std.proofs.lemmas.List.{length-replicate}
-use Rattle.fault_schedule.specs.declared.fault.FaultLine.{FaultLine}
-use Rattle.target_answer.specs.Target.{Stop, Stored}
-use Rattle.rig_api.specs.Log.{Entry}
+use Rattle.target_answer.specs.Target.{Stored}
+use Rattle.rig_api.specs.Log.{Room}
+use Rattle.rig_api.specs.State.{RigState}
 use Rattle.target_answer.specs.Headers.{bytes_of}
 use Rattle.target_answer.specs.Image.{unit_from, units_from, units_in}
 use Rattle.target_answer.specs.declared.units.UnitSpec.{UnitSpec}
-use Rattle.rig_api.specs.Telling.{HasCause, Standing, frame_size, specs_of, unit_at, units_told}
+use Rattle.rig_api.specs.Telling.{Standing, specs_of, units_told}
 use Rattle.rig_discovery.specs.Discovery.{info_of}
 use Rattle.rig_discovery.proofs.Telling.{shape_is}
 use Rattle.volume_table.specs.declared.device.DeviceInfo.{DeviceInfo}
-use Rattle.nvme_front.specs.Answers.{HasDevices, IsNvmAnswer, Submitted, device_of, nvm_answer}
+use Rattle.nvme_front.specs.Answers.{HasDevices, device_of}
+use Rattle.nvme_front.specs.Results.{IsAnswered}
 use Rattle.nvme_front.specs.declared.command.NvmCommand.{NvmCommand}
 use Rattle.nvme_front.specs.declared.completion.Completion.{Completion}
 use Rattle.nvme_front.proofs.Sending.{cut-front}
@@ -22,29 +23,17 @@ use Rattle.nvme_session.specs.Sessions.{given}
 pub kept-front : (n : ℕ) (xs ys : List ℕ) → length xs ≡ n → xs ≡ take n (xs ++ ys)
 kept-front n xs ys e = sym (cut-front n xs ys e)
 
-pub submitted-with : (d : DeviceInfo) (c : NvmCommand) (s s' : Standing) (b b' m m' nb nb' nm nm' : List ℕ) (result : Completion) (old old' new : List Entry) → s ≡ s' → b ≡ b' → m ≡ m' → nb ≡ nb' → nm ≡ nm' → old ≡ old' →
-    Submitted d c s b m nb nm result old new → Submitted d c s' b' m' nb' nm' result old' new
-submitted-with d c s s' b b' m m' nb nb' nm nm' result old old' new es eb em enb enm eo x =
-    subst (λ z. Submitted d c s' b' m' nb' nm' result z new) eo
-    (subst (λ z. Submitted d c s' b' m' nb' z result old new) enm
-    (subst (λ z. Submitted d c s' b' m' z nm result old new) enb
-    (subst (λ z. Submitted d c s' b' z nb nm result old new) em
-    (subst (λ z. Submitted d c s' z m nb nm result old new) eb
-    (subst (λ (z : Standing). Submitted d c z b m nb nm result old new) es x)))))
-
--- the answer of a told unit, up to a store call that fails
-abbrev pub Answered : List Stored → (dev : ℕ) → NvmCommand → List FaultLine → (b m nb nm : List ℕ) → Completion → Option (List Stored) → (f f' : ℕ) → Type 0
-Answered us dev c armed b m nb nm result told f f' = (stop : Option Stop) × HasCause stop (frame_size (unit_at us dev)) f f' × IsNvmAnswer (nvm_answer (unit_at us dev) armed c b m stop) us dev result told nb nm
-
-pub answered-with : (us : List Stored) (dev : ℕ) (c : NvmCommand) (armed armed' : List FaultLine) (b b' m m' nb nb' nm nm' : List ℕ) (result : Completion) (told : Option (List Stored)) (f g f' : ℕ) → armed ≡ armed' → b ≡ b' → m ≡ m' → nb ≡ nb' → nm ≡ nm' → f ≡ g →
-    Answered us dev c armed b m nb nm result told f f' → Answered us dev c armed' b' m' nb' nm' result told g f'
-answered-with us dev c armed armed' b b' m m' nb nb' nm nm' result told f g f' ea eb em enb enm ef x =
-    subst (λ z. Answered us dev c armed' b' m' nb' nm' result told z f') ef
-    (subst (λ z. Answered us dev c armed' b' m' nb' z result told f f') enm
-    (subst (λ z. Answered us dev c armed' b' m' z nm result told f f') enb
-    (subst (λ z. Answered us dev c armed' b' z nb nm result told f f') em
-    (subst (λ z. Answered us dev c armed' z m nb nm result told f f') eb
-    (subst (λ z. Answered us dev c z b m nb nm result told f f') ea x)))))
+-- the answer with the same buffers, over a rig that has got more room
+pub answered-as : (ds : List DeviceInfo) (c : NvmCommand) (b b' m m' nb nb' nm nm' : List ℕ) (result : Completion) (old old' new : RigState) (room : Room) → b ≡ b' → m ≡ m' → nb ≡ nb' → nm ≡ nm' → old ≡ record old' { room = room } →
+    IsAnswered ds c b m nb nm result old new → IsAnswered ds c b' m' nb' nm' result old' new
+answered-as ds c b b' m m' nb nb' nm nm' result old old' new room eb em enb enm eo x =
+    let y : IsAnswered ds c b' m' nb' nm' result (record old' { room = room }) new =
+    subst (λ (z : RigState). IsAnswered ds c b' m' nb' nm' result z new) eo
+    (subst (λ z. IsAnswered ds c b' m' nb' z result old new) enm
+    (subst (λ z. IsAnswered ds c b' m' z nm result old new) enb
+    (subst (λ z. IsAnswered ds c b' z nb nm result old new) em
+    (subst (λ z. IsAnswered ds c z m nb nm result old new) eb x)))) in
+    record { submitted = y.submitted; told = y.told; never = y.never; medium = y.medium }
 
 pub given-long : (n : ℕ) (meta : List ℕ) → length (given n meta) ≡ n
 given-long n meta =

@@ -1,16 +1,14 @@
 //! One command of a session.
 
-ghost use Rattle.std.specs.Prelude.{◌≡◌, ◌-◌, [], true, false, List, Option, Some, None, IfOk, OnErr, is_some, length, replicate};
+ghost use Rattle.std.specs.Prelude.{◌≡◌, ◌-◌, true, false, None, IfOk, OnErr, is_some, length, replicate};
 ghost use Rattle.dix_base.specs.Told.{Rose};
-ghost use Rattle.target_answer.specs.Target.{Stop, Stored};
-ghost use Rattle.rig_api.specs.Telling.{HasCause, frame_size, unit_at};
 ghost use Rattle.rig_api.specs.State.{Stays};
-ghost use Rattle.nvme_front.specs.Answers.{HasDevices, IsNvmAnswer, Submitted, nvm_answer};
+ghost use Rattle.nvme_front.specs.Answers.{HasDevices};
+ghost use Rattle.nvme_front.specs.Results.{IsAnswered};
 ghost use Rattle.nvme_front.specs.Commands.{command_in};
 ghost use Rattle.nvme_front.specs.Completions.{is_internal, is_of_medium};
 ghost use Rattle.nvme_front.specs.Refusals.{body_len, device_at, meta_len, refusal};
-ghost use Rattle.nvme_session.specs.Sessions.{given};
-ghost use Rattle.nvme_front.specs.declared.completion.Completion.{Completion as AnyCompletion};
+ghost use Rattle.nvme_session.specs.Sessions.{HasReplied, given};
 
 use nvme_front::{Completion, NvmCommand, NvmFront};
 use rig_api::Rig;
@@ -58,14 +56,8 @@ fn do_granted<R: Rig>(
     requires body { length body.items ≡ body_len (device_at front.old (command_in sqe.now).nsid) (command_in sqe.now) }
     requires meta { length meta.items ≡ meta_len (device_at front.old (command_in sqe.now).nsid).ty (command_in sqe.now) }
     requires devices { HasDevices front.old (R.state rig.old).standing (R.state rig.old).units }
-    ensures submitted { IfOk result (λ r. Submitted (device_at front.old (command_in sqe.now).nsid) (command_in sqe.now) (R.state rig.old).standing body.items meta.items r.body.items r.meta.items r.completion (R.state rig.old).log (R.state rig.new).log) }
-    ensures told { IfOk result (λ r. (us : List Stored) → (R.state rig.old).units ≡ Some us
-        → (stop : Option Stop) × HasCause stop (frame_size (unit_at us ((command_in sqe.now).nsid - 1))) (R.state rig.old).faults (R.state rig.new).faults
-        × IsNvmAnswer (nvm_answer (unit_at us ((command_in sqe.now).nsid - 1)) (R.state rig.old).armed (command_in sqe.now) body.items meta.items stop) us ((command_in sqe.now).nsid - 1) r.completion (R.state rig.new).units r.body.items r.meta.items) }
-    ensures never { IfOk result (λ r. is_some (R.state rig.old).units ≡ true → is_internal r.completion ≡ false) }
-    ensures medium { IfOk result (λ r. is_of_medium r.completion ≡ true → Rose (R.state rig.old).faults (R.state rig.new).faults) }
-    ensures none { OnErr result ((R.state rig.new).units ≡ (R.state rig.old).units) }
-    ensures unlogged { OnErr result ((R.state rig.new).log ≡ (R.state rig.old).log) }
+    ensures answered { IfOk result (λ r. IsAnswered front.old (command_in sqe.now) body.items meta.items r.body.items r.meta.items r.completion (R.state rig.old) (R.state rig.new)) }
+    ensures unsent { OnErr result (R.state rig.new ≡ record (R.state rig.old) { room = (R.state rig.new).room }) }
     ensures stays { Stays (R.state rig.old) (R.state rig.new) }
     ensures front { front.new ≡ front.old }
 {
@@ -91,19 +83,10 @@ pub fn do_command<R: Rig>(
     rig: &mut R,
 ) -> Result<NvmReply, AllocError>
     requires devices { HasDevices front.old (R.state rig.old).standing (R.state rig.old).units }
-    ensures refused { IfOk result (λ r. (x : AnyCompletion) → refusal front.old (command_in sqe.now) ≡ Some x → (r.completion ≡ x) × ((R.state rig.new).log ≡ (R.state rig.old).log) × ((R.state rig.new).units ≡ (R.state rig.old).units)) }
-    ensures empty { IfOk result (λ r. (x : AnyCompletion) → refusal front.old (command_in sqe.now) ≡ Some x → (r.body.items ≡ []) × (r.meta.items ≡ [])) }
-    ensures submitted { IfOk result (λ r. refusal front.old (command_in sqe.now) ≡ None
-        → Submitted (device_at front.old (command_in sqe.now).nsid) (command_in sqe.now) (R.state rig.old).standing (replicate (body_len (device_at front.old (command_in sqe.now).nsid) (command_in sqe.now)) fill)
-        (given (meta_len (device_at front.old (command_in sqe.now).nsid).ty (command_in sqe.now)) meta.now) r.body.items r.meta.items r.completion (R.state rig.old).log (R.state rig.new).log) }
-    ensures told { IfOk result (λ r. refusal front.old (command_in sqe.now) ≡ None → (us : List Stored) → (R.state rig.old).units ≡ Some us
-        → (stop : Option Stop) × HasCause stop (frame_size (unit_at us ((command_in sqe.now).nsid - 1))) (R.state rig.old).faults (R.state rig.new).faults
-        × IsNvmAnswer (nvm_answer (unit_at us ((command_in sqe.now).nsid - 1)) (R.state rig.old).armed (command_in sqe.now) (replicate (body_len (device_at front.old (command_in sqe.now).nsid) (command_in sqe.now)) fill)
-        (given (meta_len (device_at front.old (command_in sqe.now).nsid).ty (command_in sqe.now)) meta.now) stop) us ((command_in sqe.now).nsid - 1) r.completion (R.state rig.new).units r.body.items r.meta.items) }
+    ensures replied { IfOk result (HasReplied front.old (command_in sqe.now) fill meta.now (R.state rig.old) (R.state rig.new)) }
     ensures never { IfOk result (λ r. is_some (R.state rig.old).units ≡ true → is_internal r.completion ≡ false) }
     ensures medium { IfOk result (λ r. is_of_medium r.completion ≡ true → Rose (R.state rig.old).faults (R.state rig.new).faults) }
-    ensures none { OnErr result ((R.state rig.new).units ≡ (R.state rig.old).units) }
-    ensures unlogged { OnErr result ((R.state rig.new).log ≡ (R.state rig.old).log) }
+    ensures unsent { OnErr result (R.state rig.new ≡ record (R.state rig.old) { room = (R.state rig.new).room }) }
     ensures devices { HasDevices front.new (R.state rig.new).standing (R.state rig.new).units }
     ensures stays { Stays (R.state rig.old) (R.state rig.new) }
     ensures front { front.new ≡ front.old }

@@ -33,11 +33,8 @@ returns g c =
     (all-clauses c.args.self.now c.device-device.result c.of-command.result c.args.body.now c.args.meta.now c.run.new.body c.run.new.meta c.run.result old new (g.R.Rig.state c.args.rig.now).image
     c.run.ensures.done c.device-device.ensures.value gr.there some c.requires.devices (g.met.R.Rig.laid c.args.rig.now) (g.met.R.Rig.ready c.args.rig.now)) in
     record {
-      submitted = all.submitted;
+      answered = all.answered;
       calm = all.calm;
-      told = all.told;
-      never = all.never;
-      medium = all.medium;
       stays = stays-exchanged c.run.ensures.done.exchanged;
       front = c.self.view_is;
     }
