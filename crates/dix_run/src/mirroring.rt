@@ -16,7 +16,8 @@ use std::alloc::Global;
 
 /// Writes the report of a script on a mirror, and what its repair did.
 fn report_mirrored<O: Sink>(out: &mut O, run: &Mirrored) -> Status
-    ensures { Written (done_status (is_any_lost run.now.mirror.replies.items run.now.repair.lost)) (mirror_text run.now.mirror.replies.items run.now.repair.repaired run.now.repair.lost) (O.taken out.old) (O.taken out.new) (O.faults out.old) (O.faults out.new) result }
+    ensures { Written (done_status (is_any_lost run.now.mirror.replies.items run.now.repair.lost))
+        (mirror_text run.now.mirror.replies.items run.now.repair.repaired run.now.repair.lost) (O.taken out.old) (O.taken out.new) (O.faults out.old) (O.faults out.new) result }
 {
     match print_mirrored(out, run) {
         Ok(()) => status_for(run.has_bad()),

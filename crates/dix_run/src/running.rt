@@ -30,7 +30,8 @@ fn report_run<O: Sink>(out: &mut O, run: &Finished) -> Status
 /// Writes the report of a run, and behind it the trace of the records of its call.
 fn trace_run<O: Sink, R: Rig>(out: &mut O, run: &Finished, rig: &R) -> Status
     requires { run.now.first ≤ length (R.state rig.now).log }
-    ensures { Written (done_status (has_bad run.now.stack.replies.items)) (report run.now.stack.replies.items ++ trace (drop run.now.first (R.state rig.now).log)) (O.taken out.old) (O.taken out.new) (O.faults out.old) (O.faults out.new) result }
+    ensures { Written (done_status (has_bad run.now.stack.replies.items))
+        (report run.now.stack.replies.items ++ trace (drop run.now.first (R.state rig.now).log)) (O.taken out.old) (O.taken out.new) (O.faults out.old) (O.faults out.new) result }
 {
     match print_traced_run(out, run, rig) {
         Ok(()) => status_for(run.has_bad()),

@@ -148,7 +148,8 @@ pub(crate) fn read_piece<R: Rig>(
     requires found { length found.old ≡ piece.n }
     ensures ran { (runs : List LegRun) × (RanLegs (table_of plan.now.script plan.now.devices.items) plan.now.devices.items runs (R.state rig.old) (R.state rig.new)
         × (GoOn plan.now.script.schedule used.old runs used.new × (AllOwn (λ own. own ≡ read_script plan.now.script plan.now.half piece) runs
-        × IfOk result (λ u. (r : LegRun) × ((runs ≡ r ∷ []) × ((r.own ≡ read_script plan.now.script plan.now.half piece) × ((found.new ≡ found_by piece.n (replies_of r)) × (bytes.new ≡ take (piece.n * plan.now.script.block) (flat (pool_of r)))))))))) }
+        × IfOk result (λ u. (r : LegRun) × ((runs ≡ r ∷ []) × ((r.own ≡ read_script plan.now.script plan.now.half piece)
+        × ((found.new ≡ found_by piece.n (replies_of r)) × (bytes.new ≡ take (piece.n * plan.now.script.block) (flat (pool_of r)))))))))) }
     ensures found { length found.new ≡ length found.old }
     ensures long { length bytes.new ≡ length bytes.old }
     ensures tells { is_some (R.state rig.new).image ≡ is_some (R.state rig.old).image }
@@ -185,7 +186,8 @@ pub(crate) fn read_pi_piece<R: Rig>(
     ensures ran { (runs : List LegRun) × (RanLegs (table_of plan.now.script plan.now.devices.items) plan.now.devices.items runs (R.state rig.old) (R.state rig.new)
         × (GoOn plan.now.script.schedule used.old runs used.new × (AllOwn (λ own. own ≡ read_pi_script plan.now.script plan.now.half piece) runs
         × IfOk result (λ u. (r : LegRun) × ((runs ≡ r ∷ []) × ((r.own ≡ read_pi_script plan.now.script plan.now.half piece) × ((found.new ≡ found_by piece.n (replies_of r))
-        × ((bytes.new ≡ take (piece.n * plan.now.script.block) (flat (pool_of r))) × (tuples.new ≡ take (piece.n * 8) (drop (4096 * pages_for (piece.n * plan.now.script.block)) (flat (pool_of r)))))))))))) }
+        × ((bytes.new ≡ take (piece.n * plan.now.script.block) (flat (pool_of r)))
+        × (tuples.new ≡ take (piece.n * 8) (drop (4096 * pages_for (piece.n * plan.now.script.block)) (flat (pool_of r)))))))))))) }
     ensures found { length found.new ≡ length found.old }
     ensures long { length bytes.new ≡ length bytes.old }
     ensures tuples { length tuples.new ≡ length tuples.old }

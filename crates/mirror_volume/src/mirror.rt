@@ -107,11 +107,13 @@ impl Mirror {
         ensures ended { result ≡ Ok false → (self.new ≡ self.old) × (R.state rig.new ≡ R.state rig.old) }
         ensures failed { self.new.failed ≡ is_err result }
         ensures wanting { IfErr result (λ e. self.new.replies.items ≡ self.old.replies.items) }
-        ensures op { RanOp self.old.plan.script self.old.plan.devices.items self.old.plan.half (length self.old.replies.items + 1) (op_at self.old.plan.script.ops (length self.old.replies.items)) self.old.state.pool
-            self.old.state.used self.new.state.used (R.state rig.old) (R.state rig.new)
+        ensures op { RanOp self.old.plan.script self.old.plan.devices.items self.old.plan.half (length self.old.replies.items + 1)
+            (op_at self.old.plan.script.ops (length self.old.replies.items)) self.old.state.pool self.old.state.used self.new.state.used (R.state rig.old) (R.state rig.new)
             (λ runs. result ≡ Ok true → (reply : Reply) × ((self.new.replies.items ≡ self.old.replies.items ++ (reply ∷ []))
-            × (DidOp self.old.plan.script self.old.plan.half (length self.old.replies.items + 1) (op_at self.old.plan.script.ops (length self.old.replies.items)) (sides_of self.old) (sides_of self.new) (R.state rig.old) (R.state rig.new) runs reply
-            × KeepsToWalk self.old.plan.script self.old.plan.devices.items (sides_of self.old) (sides_of self.new) (R.state rig.old) (R.state rig.new) self.old.replies.items reply runs))) }
+            × (DidOp self.old.plan.script self.old.plan.half (length self.old.replies.items + 1) (op_at self.old.plan.script.ops (length self.old.replies.items))
+            (sides_of self.old) (sides_of self.new) (R.state rig.old) (R.state rig.new) runs reply
+            × KeepsToWalk self.old.plan.script self.old.plan.devices.items (sides_of self.old) (sides_of self.new) (R.state rig.old) (R.state rig.new)
+            self.old.replies.items reply runs))) }
         ensures tells { is_some (R.state rig.new).image ≡ is_some (R.state rig.old).image }
         ensures standing { (R.state rig.new).standing ≡ (R.state rig.old).standing }
     {
@@ -149,7 +151,8 @@ impl Mirror {
             × (AllOwn (IsRepairOf self.old.plan.script self.old.plan.half) runs
             × IfOk result (λ done. RepairBy self.old.plan.script self.old.plan.half 0 (stretches_in self.old.plan.half)
             (record { marks = self.old.state.marks.items; repaired = 0; lost = 0 }) (record { marks = self.new.state.marks.items; repaired = done.repaired; lost = done.lost }) runs
-            × RepairsAsWalk self.old.plan.script self.old.plan.devices.items (sides_of self.old) (R.state rig.old) (R.state rig.new) self.old.replies.items self.new.state.marks.items done.repaired done.lost runs)))) }
+            × RepairsAsWalk self.old.plan.script self.old.plan.devices.items (sides_of self.old) (R.state rig.old) (R.state rig.new)
+            self.old.replies.items self.new.state.marks.items done.repaired done.lost runs)))) }
         ensures tells { is_some (R.state rig.new).image ≡ is_some (R.state rig.old).image }
         ensures standing { (R.state rig.new).standing ≡ (R.state rig.old).standing }
     {

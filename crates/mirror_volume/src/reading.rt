@@ -88,7 +88,8 @@ fn ask<R: Rig>(
     ensures ran { (runs : List LegRun) × (RanLegs (table_of plan.now.script plan.now.devices.items) plan.now.devices.items runs (R.state rig.old) (R.state rig.new)
         × (GoOn plan.now.script.schedule used.old runs used.new × (AllOwn (IsReadOf plan.now.script plan.now.half whole) runs
         × IfOk result (λ u. AreOf (read_script plan.now.script plan.now.half) whole (stretches wanted.now) runs
-        × ((came.new.found.items ≡ found_after (stretches wanted.now) runs came.old.found.items) × (came.new.bytes.items ≡ bytes_after plan.now.script.block (stretches wanted.now) runs came.old.bytes.items)))))) }
+        × ((came.new.found.items ≡ found_after (stretches wanted.now) runs came.old.found.items)
+        × (came.new.bytes.items ≡ bytes_after plan.now.script.block (stretches wanted.now) runs came.old.bytes.items)))))) }
     ensures tells { is_some (R.state rig.new).image ≡ is_some (R.state rig.old).image }
     ensures standing { (R.state rig.new).standing ≡ (R.state rig.old).standing }
     ensures used { used.new ≤ length plan.now.script.schedule }

@@ -262,7 +262,8 @@ fn mend_block<R: Rig>(
     requires few { done.old.repaired + (done.old.lost + 1) < 2 ^ 32 }
     ensures ran { (runs : List LegRun) × (RanLegs (table_of plan.now.script plan.now.devices.items) plan.now.devices.items runs (R.state rig.old) (R.state rig.new)
         × (GoOn plan.now.script.schedule used.old runs used.new × (AllOwn (IsRepairOf plan.now.script plan.now.half) runs
-        × IfOk result (λ u. MendsBy plan.now.script plan.now.half whole.n (whole.v + i) (need_by (get_or (goods_in plan.now.script.block held0.now) i None) (get_or (goods_in plan.now.script.block held1.now) i None) ∷ [])
+        × IfOk result (λ u. MendsBy plan.now.script plan.now.half whole.n (whole.v + i)
+        (need_by (get_or (goods_in plan.now.script.block held0.now) i None) (get_or (goods_in plan.now.script.block held1.now) i None) ∷ [])
         (record { marks = marks.old; repaired = done.old.repaired; lost = done.old.lost }) (record { marks = marks.new; repaired = done.new.repaired; lost = done.new.lost }) runs)))) }
     ensures tells { is_some (R.state rig.new).image ≡ is_some (R.state rig.old).image }
     ensures standing { (R.state rig.new).standing ≡ (R.state rig.old).standing }

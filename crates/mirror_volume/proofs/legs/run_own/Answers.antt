@@ -22,6 +22,9 @@ slice_bounds-rest-start g c =
     let h : c.args.used.now ≤ length c.as_slice-2.result.now = omega (arith, e, c.requires.used) in
     search rules
 
+pub run_bound-requires-clause-bound : goal.run_bound-requires-clause-bound
+run_bound-requires-clause-bound g c = record { suits = c.requires.suits; lines = c.requires.lines; few = search rules; made = search rules; bound = search rules }
+
 pub returns-in_err-stack-clause-ran : goal.returns-in_err-stack-clause-ran
 returns-in_err-stack-clause-ran g c =
     let same = c.in_err-stack.ensures.unarmed in (
