@@ -4,10 +4,7 @@ use Rattle.dix_base.specs.Told.{Calm}
 use Rattle.rig_api.specs.Head.{head_fault, head_of}
 use Rattle.rig_api.specs.State.{RigState}
 use Rattle.image_commands.specs.Causes.{CauseUnformatted, CauseUnmigrated, CauseUnscrubbed}
-use Rattle.image_commands.specs.declared.fault.Fault.TheVariants as fault
 use Rattle.nvme_command.specs.Causes.{CauseNotDone}
-use Rattle.nvme_command.specs.declared.fault.NvmFault.{NvmFault}
-use Rattle.nvme_command.specs.declared.fault.NvmFault.TheVariants as nvm
 use Rattle.nvme_command.proofs.Completes.{spared_alone}
 use Rattle.dix_words.specs.Grammar.{command_in, image_in}
 use Rattle.dix_words.specs.declared.command.Command.{Command}
@@ -18,12 +15,12 @@ use Rattle.mirror_verdict.specs.Verdict.{IsComplete as MirrorComplete}
 use Rattle.script_verdict.proofs.Completing.{complete, never_rose, no_head_fault, told_is_good}
 use Rattle.script_verdict.specs.Texts.{has_bad}
 use Rattle.script_verdict.specs.Verdict.{IsComplete as RunComplete}
-use Rattle.script_verdict.specs.declared.refusal.Refusal.{Refusal as Stop}
-use Rattle.script_verdict.specs.declared.refusal.Refusal.TheVariants as stop
+use Rattle.call_refusal.specs.declared.refusal.Refusal.{Refusal as Stop}
+use Rattle.call_refusal.specs.declared.refusal.Refusal.TheVariants as stop
 use Rattle.dix_run.specs.Commands.{Ended, IsRightRun, IsRun, RunsOrFails, work_of}
 use Rattle.dix_run.specs.Headline.{Carries}
 use Rattle.dix_run.specs.ScrubText.{has_some}
-use Rattle.dix_run.specs.Verdict.{ByFault, ByNvmFault, Cause, CauseNotMirrored, CauseNotRun, Done, EndedAs, Facts, Refused, Verdict, Work, Written, call_of, done_status, fault_of, nvm_fault_of, status_of, verdict_status, verdict_text}
+use Rattle.dix_run.specs.Verdict.{ByCause, Cause, CauseNotCommanded, CauseNotMirrored, CauseNotRun, Done, EndedAs, Facts, Refused, Verdict, Work, Written, call_of, done_status, status_of, verdict_status, verdict_text}
 use Rattle.dix_run.specs.declared.refusal.Refusal.{Refusal}
 use Rattle.dix_run.specs.declared.refusal.Refusal.TheVariants as refusal
 use Rattle.dix_run.specs.declared.status.Status.{Status}
@@ -58,46 +55,36 @@ mirror_from_outside f (refusal.Stopped s) c alone = stopped_from_outside s (alon
 
 -- ---- the commands on images
 
-unformatted_for_memory : (r : Refusal) (name : List ℕ) (old new : RigState) → Calm old.faults new.faults → ByFault CauseUnformatted (fault_of r) name old new → status_of r ≡ status.Memory
-unformatted_for_memory refusal.Words name old new calm c = absurd c
-unformatted_for_memory (refusal.Stopped (stop.Script x)) name old new calm c = absurd c
-unformatted_for_memory (refusal.Stopped (stop.Image x)) name old new calm c = absurd c
-unformatted_for_memory (refusal.Stopped (stop.BadCapacity dev)) name old new calm c = absurd c
-unformatted_for_memory (refusal.Stopped (stop.Volume entry kind)) name old new calm c = absurd c
-unformatted_for_memory (refusal.Stopped stop.RigFault) name old new calm c = absurd (never_rose old.faults new.faults calm c.0)
-unformatted_for_memory (refusal.Stopped stop.Memory) name old new calm c = refl
-unformatted_for_memory (refusal.Stopped stop.ReadFault) name old new calm c = absurd c
+unformatted_for_memory : (s : Stop) (name : List ℕ) (old new : RigState) → Calm old.faults new.faults → CauseUnformatted s name old new → s ≡ stop.Memory
+unformatted_for_memory stop.RigFault name old new calm c = absurd (never_rose old.faults new.faults calm c.0)
+unformatted_for_memory stop.Memory name old new calm c = refl
+unformatted_for_memory _ name old new calm c = absurd c
 
-unmigrated_for_memory : (r : Refusal) (image name : List ℕ) (old new : RigState) → old.image ≡ Some image → head_fault (head_of image) ≡ None → Calm old.faults new.faults → ByFault CauseUnmigrated (fault_of r) name old new → status_of r ≡ status.Memory
-unmigrated_for_memory refusal.Words image name old new i h calm c = absurd c
-unmigrated_for_memory (refusal.Stopped (stop.Script x)) image name old new i h calm c = absurd c
-unmigrated_for_memory (refusal.Stopped (stop.Image x)) image name old new i h calm c = absurd (no_head_fault image x name old new i c.1.image h c.0)
-unmigrated_for_memory (refusal.Stopped (stop.BadCapacity dev)) image name old new i h calm c = absurd c
-unmigrated_for_memory (refusal.Stopped (stop.Volume entry kind)) image name old new i h calm c = absurd c
-unmigrated_for_memory (refusal.Stopped stop.RigFault) image name old new i h calm c = absurd (never_rose old.faults new.faults calm c.0)
-unmigrated_for_memory (refusal.Stopped stop.Memory) image name old new i h calm c = refl
-unmigrated_for_memory (refusal.Stopped stop.ReadFault) image name old new i h calm c = absurd c
+unmigrated_for_memory : (s : Stop) (image name : List ℕ) (old new : RigState) → old.image ≡ Some image → head_fault (head_of image) ≡ None → Calm old.faults new.faults → CauseUnmigrated s name old new → s ≡ stop.Memory
+unmigrated_for_memory (stop.Image x) image name old new i h calm c = absurd (no_head_fault image x name old new i c.1.image h c.0)
+unmigrated_for_memory stop.RigFault image name old new i h calm c = absurd (never_rose old.faults new.faults calm c.0)
+unmigrated_for_memory stop.Memory image name old new i h calm c = refl
+unmigrated_for_memory _ image name old new i h calm c = absurd c
 
-unscrubbed_for_memory : (r : Refusal) (image name : List ℕ) (old new : RigState) → old.image ≡ Some image → head_fault (head_of image) ≡ None → Calm old.faults new.faults → ByFault CauseUnscrubbed (fault_of r) name old new → status_of r ≡ status.Memory
-unscrubbed_for_memory refusal.Words image name old new i h calm c = absurd c
-unscrubbed_for_memory (refusal.Stopped (stop.Script x)) image name old new i h calm c = absurd c
-unscrubbed_for_memory (refusal.Stopped (stop.Image x)) image name old new i h calm c = absurd (no_head_fault image x name old new i c.1.image h c.0)
-unscrubbed_for_memory (refusal.Stopped (stop.BadCapacity dev)) image name old new i h calm c = absurd (told_is_good image name dev old new i c)
-unscrubbed_for_memory (refusal.Stopped (stop.Volume entry kind)) image name old new i h calm c = absurd c
-unscrubbed_for_memory (refusal.Stopped stop.RigFault) image name old new i h calm c = absurd (never_rose old.faults new.faults calm c.0)
-unscrubbed_for_memory (refusal.Stopped stop.Memory) image name old new i h calm c = refl
-unscrubbed_for_memory (refusal.Stopped stop.ReadFault) image name old new i h calm c = absurd c
+unscrubbed_for_memory : (s : Stop) (image name : List ℕ) (old new : RigState) → old.image ≡ Some image → head_fault (head_of image) ≡ None → Calm old.faults new.faults → CauseUnscrubbed s name old new → s ≡ stop.Memory
+unscrubbed_for_memory (stop.Image x) image name old new i h calm c = absurd (no_head_fault image x name old new i c.1.image h c.0)
+unscrubbed_for_memory (stop.BadCapacity dev) image name old new i h calm c = absurd (told_is_good image name dev old new i c)
+unscrubbed_for_memory stop.RigFault image name old new i h calm c = absurd (never_rose old.faults new.faults calm c.0)
+unscrubbed_for_memory stop.Memory image name old new i h calm c = refl
+unscrubbed_for_memory _ image name old new i h calm c = absurd c
+
+wants_memory : (s : Stop) → s ≡ stop.Memory → status_of (refusal.Stopped s) ≡ status.Memory
+wants_memory s e = ap (λ (x : Stop). status_of (refusal.Stopped x)) e
+
+-- a refusal by a cause that nothing but want of memory has
+by_memory : (P : Stop → List ℕ → RigState → RigState → Type 0) (r : Refusal) (f : Facts) → ((s : Stop) → P s (image_in f.words) f.rig f.rig_after → s ≡ stop.Memory) → ByCause P r f → status_of r ≡ status.Memory
+by_memory P refusal.Words f alone c = absurd c
+by_memory P (refusal.Stopped s) f alone c = wants_memory s (alone s c.0)
 
 -- words of `nvme`, lines that fit and a right image are refused for want of memory alone
-uncommanded_for_memory : (r : Refusal) (f : Facts) → ((x : NvmFault) → CauseNotDone x (image_in f.words) f.left f.left_after f.reads f.reads_after f.rig f.rig_after → x ≡ nvm.Image fault.Memory) → ByNvmFault (nvm_fault_of r) f → status_of r ≡ status.Memory
+uncommanded_for_memory : (r : Refusal) (f : Facts) → ((s : Stop) → CauseNotDone s (image_in f.words) f.left f.left_after f.reads f.reads_after f.rig f.rig_after → s ≡ stop.Memory) → CauseNotCommanded r f → status_of r ≡ status.Memory
 uncommanded_for_memory refusal.Words f alone c = absurd c
-uncommanded_for_memory (refusal.Stopped (stop.Script x)) f alone c = let e = alone (nvm.Line (record { line = x.line; kind = x.kind })) c in absurd (cc)
-uncommanded_for_memory (refusal.Stopped (stop.Image x)) f alone c = let e = alone (nvm.Image (fault.Image x)) c in absurd (cc)
-uncommanded_for_memory (refusal.Stopped (stop.BadCapacity dev)) f alone c = let e = alone (nvm.Image (fault.BadCapacity dev)) c in absurd (cc)
-uncommanded_for_memory (refusal.Stopped (stop.Volume entry kind)) f alone c = absurd c
-uncommanded_for_memory (refusal.Stopped stop.RigFault) f alone c = let e = alone (nvm.Image fault.RigFault) c in absurd (cc)
-uncommanded_for_memory (refusal.Stopped stop.Memory) f alone c = refl
-uncommanded_for_memory (refusal.Stopped stop.ReadFault) f alone c = let e = alone nvm.Source c in absurd (cc)
+uncommanded_for_memory (refusal.Stopped s) f alone c = wants_memory s (alone s c)
 
 -- ---- all commands
 
@@ -108,13 +95,13 @@ completes (Some Run) f (Refused r) c h = not_run f r c h
 completes (Some Run) f (Done run) c h = inl (done_is (has_bad run.stack.replies.items))
 completes (Some Trace) f (Refused r) c h = not_run f r c h
 completes (Some Trace) f (Done x) c h = inl (done_is (has_bad x.0.stack.replies.items))
-completes (Some (Format us)) f (Refused r) c h = inr (unformatted_for_memory r (image_in f.words) f.rig f.rig_after h c.0)
+completes (Some (Format us)) f (Refused r) c h = inr (by_memory CauseUnformatted r f (λ s d. unformatted_for_memory s (image_in f.words) f.rig f.rig_after h d) c)
 completes (Some (Format us)) f (Done x) c h = inl refl
-completes (Some Migrate) f (Refused r) c h = inr (unmigrated_for_memory r h.image (image_in f.words) f.rig f.rig_after h.image_is h.head h.calm c.0)
+completes (Some Migrate) f (Refused r) c h = inr (by_memory CauseUnmigrated r f (λ s d. unmigrated_for_memory s h.image (image_in f.words) f.rig f.rig_after h.image_is h.head h.calm d) c)
 completes (Some Migrate) f (Done n) c h = inl refl
 completes (Some Mirror) f (Refused r) c h = inr (mirror_from_outside f r c (λ s whole. whole h.text h.image h.script h.text_is h.language h.image_is h.head h.volume h.lines h.calm))
 completes (Some Mirror) f (Done run) c h = inl (done_is (is_any_lost run.mirror.replies.items run.repair.lost))
-completes (Some Scrub) f (Refused r) c h = inr (unscrubbed_for_memory r h.image (image_in f.words) f.rig f.rig_after h.image_is h.head h.calm c.0)
+completes (Some Scrub) f (Refused r) c h = inr (by_memory CauseUnscrubbed r f (λ s d. unscrubbed_for_memory s h.image (image_in f.words) f.rig f.rig_after h.image_is h.head h.calm d) c)
 completes (Some Scrub) f (Done x) c h = inl (done_is (has_some x.1))
 completes (Some Nvme) f (Refused r) c h =
     inr (uncommanded_for_memory r f (λ x d. spared_alone x (image_in f.words) f.left f.left_after f.reads f.reads_after f.rig f.rig_after h.text h.image h.lines h.text_is h.language h.image_is h.head h.fit h.reads h.calm d) c)

@@ -1,5 +1,5 @@
 -- A call came to its end.
-use Rattle.std.proofs.Common.{ℕ, ◌≡◌, inr, List, [], ◌∷◌, ◌++◌, length, drop, Option, Some, refl, sym, ap, subst, ◌∙◌, append_assoc}
+use Rattle.std.proofs.Common.{ℕ, ◌≡◌, inr, List, [], ◌∷◌, ◌++◌, length, drop, Option, refl, sym, ap, subst, ◌∙◌, append_assoc}
 use Rattle.std.specs.Prelude.{codes, decimal}
 use Rattle.target_answer.specs.declared.units.UnitSpec.{UnitSpec}
 use Rattle.volume_table.specs.declared.device.DeviceInfo.{DeviceInfo}
@@ -8,19 +8,16 @@ use Rattle.rig_api.specs.State.{RigState}
 use Rattle.rig_discovery.specs.Discovery.{looks}
 use Rattle.pi_scrub.specs.declared.found.Found.{Found}
 use Rattle.image_commands.specs.Causes.{CauseUnscrubbed, WasFormatted, WasScrubbed}
-use Rattle.image_commands.specs.declared.fault.Fault.{Fault}
-use Rattle.image_commands.specs.declared.fault.Fault.TheVariants as fault
+use Rattle.call_refusal.specs.declared.refusal.Refusal.TheVariants as stop
 use Rattle.report_text.specs.Report.{report}
 use Rattle.report_text.specs.Trace.{trace}
-use Rattle.nvme_command.specs.Causes.{CauseNotDone}
-use Rattle.nvme_command.specs.declared.fault.NvmFault.{NvmFault}
 use Rattle.dix_words.specs.Grammar.{image_in}
 use Rattle.script_text.specs.declared.script.Script.{Script}
 use Rattle.script_verdict.specs.Texts.{has_bad}
 use Rattle.script_verdict.specs.Verdict.{HasRun, HasRunSource}
 use Rattle.script_verdict.specs.declared.verdict.Finished.{Finished}
 use Rattle.dix_run.specs.Commands.{format_work, trace_work}
-use Rattle.dix_run.specs.Verdict.{ByFault, ByNvmFault, Done, EndedAs, Facts, LeavesSource, Refused, Work, Written, call_of, done_status, fault_of, nvm_fault_of, refusal_text, status_of}
+use Rattle.dix_run.specs.Verdict.{Done, EndedAs, Facts, LeavesSource, Refused, Work, Written, call_of, done_status, refusal_text, status_of}
 use Rattle.dix_run.specs.declared.refusal.Refusal.{Refusal}
 use Rattle.dix_run.specs.declared.status.Status.{Status}
 use Rattle.dix_run.specs.declared.status.Status.TheVariants as status
@@ -33,16 +30,8 @@ done w x f old new o n result cause written = record { verdict = Done x; cause =
 pub refused : (w : Work) (r : Refusal) (f : Facts) (old new : Option (List ℕ)) (o n : ℕ) (result : Status) → w.WasRefused r f → Written (status_of r) (refusal_text r) old new o n result → EndedAs w f old new o n result
 refused w r f old new o n result cause written = record { verdict = Refused r; cause = cause; written = written }
 
--- ---- refusals by faults
-
-pub by_fault : (P : Fault → List ℕ → RigState → RigState → Type 0) (r : Refusal) (x : Fault) (name : List ℕ) (old new : RigState) → fault_of r ≡ Some x → P x name old new → ByFault P (fault_of r) name old new
-by_fault P r x name old new e cause = subst (λ (y : Option Fault). ByFault P y name old new) (sym e) cause
-
-pub by_nvm_fault : (r : Refusal) (x : NvmFault) (f : Facts) → nvm_fault_of r ≡ Some x → CauseNotDone x (image_in f.words) f.left f.left_after f.reads f.reads_after f.rig f.rig_after → ByNvmFault (nvm_fault_of r) f
-by_nvm_fault r x f e cause = subst (λ (y : Option NvmFault). ByNvmFault y f) (sym e) cause
-
 -- a scrub without the memory for its text looked at every block
-pub scrub_spared : (name : List ℕ) (devices : List DeviceInfo) (found : List Found) (old new : RigState) → WasScrubbed name devices found old new → CauseUnscrubbed fault.Memory name old new
+pub scrub_spared : (name : List ℕ) (devices : List DeviceInfo) (found : List Found) (old new : RigState) → WasScrubbed name devices found old new → CauseUnscrubbed stop.Memory name old new
 scrub_spared name devices found old new d =
     inr (record { devices = devices; told = d.told; discovered = d.discovered; left = []; found = found; looked = d.looked; units = d.units; armed = d.armed; standing = d.standing; count = d.count })
 

@@ -2,10 +2,7 @@
 use Rattle.std.proofs.Common.{ℕ, ◌≡◌, ◌⊎◌, inl, inr, List, Option, Some, None, ap, ◌∙◌}
 use Rattle.image_commands.specs.Causes.{CauseUnformatted, CauseUnmigrated, CauseUnscrubbed, CauseUntold, HasOpened}
 use Rattle.image_commands.specs.Views.{OpenedOnce}
-use Rattle.image_commands.specs.declared.fault.Fault.{Fault}
-use Rattle.image_commands.specs.declared.fault.Fault.TheVariants as fault
 use Rattle.nvme_command.proofs.Completes.{done_opens, not_done_opens}
-use Rattle.nvme_command.specs.declared.fault.NvmFault.{NvmFault}
 use Rattle.rig_api.specs.Telling.{Standing, Stayed}
 use Rattle.rig_api.specs.State.{RigState}
 use Rattle.dix_words.specs.Grammar.{image_in}
@@ -15,12 +12,12 @@ use Rattle.script_text.specs.declared.script.Script.{Script}
 use Rattle.mirror_verdict.specs.Verdict.{CauseStopped as CauseMidway, HasMirroredSource, StoppedMidway}
 use Rattle.mirror_verdict.specs.declared.mirrored.Mirrored.{Mirrored}
 use Rattle.script_verdict.specs.Verdict.{CauseRefused, CauseStopped, HasRunSource, StoppedShort}
-use Rattle.script_verdict.specs.declared.refusal.Refusal.{Refusal as Stop}
-use Rattle.script_verdict.specs.declared.refusal.Refusal.TheVariants as stop
+use Rattle.call_refusal.specs.declared.refusal.Refusal.{Refusal as Stop}
+use Rattle.call_refusal.specs.declared.refusal.Refusal.TheVariants as stop
 use Rattle.script_verdict.specs.declared.verdict.Finished.{Finished}
 use Rattle.dix_run.specs.Commands.{work_of}
 use Rattle.dix_run.specs.Headline.{OpensOnce}
-use Rattle.dix_run.specs.Verdict.{ByFault, ByNvmFault, Cause, CauseNotMirrored, CauseNotRun, Done, Facts, HasNoCommand, Refused, Verdict, WantsMemory, call_of, fault_of, nvm_fault_of}
+use Rattle.dix_run.specs.Verdict.{ByCause, Cause, CauseNotCommanded, CauseNotMirrored, CauseNotRun, Done, Facts, HasNoCommand, Refused, Verdict, WantsMemory, call_of}
 use Rattle.dix_run.specs.declared.refusal.Refusal.{Refusal}
 use Rattle.dix_run.specs.declared.refusal.Refusal.TheVariants as refusal
 
@@ -35,11 +32,12 @@ opened_on name old between told new o same =
 opened_still : (name : List ℕ) (old between new : RigState) → HasOpened name old between new → OpenedOnce name old.standing new.standing
 opened_still name old between new o = inr (ap (λ (s : Standing). s.openings) o.standing ∙ o.opened.opened.0, ap (λ (s : Standing). s.name) o.standing ∙ o.opened.opened.1)
 
-untold_opens : (x : Fault) (name : List ℕ) (old new : RigState) → CauseUntold x name old new → OpenedOnce name old.standing new.standing
-untold_opens (fault.Image f) name old new c = inr c.0.opened
-untold_opens (fault.BadCapacity dev) name old new c = opened_still name old c.between new c.since
-untold_opens fault.RigFault name old new c = inr c.1
-untold_opens fault.Memory name old new c = c.1
+untold_opens : (s : Stop) (name : List ℕ) (old new : RigState) → CauseUntold s name old new → OpenedOnce name old.standing new.standing
+untold_opens (stop.Image f) name old new c = inr c.0.opened
+untold_opens (stop.BadCapacity dev) name old new c = opened_still name old c.between new c.since
+untold_opens stop.RigFault name old new c = inr c.1
+untold_opens stop.Memory name old new c = c.1
+untold_opens _ name old new c = absurd c
 
 short_opens : (name : List ℕ) (old new : RigState) → StoppedShort name old new → OpenedOnce name old.standing new.standing
 short_opens name old new (inl c) = c.1
@@ -47,12 +45,9 @@ short_opens name old new (inr c) = opened_still name old c.1.told.between new c.
 
 stopped_opens : (s : Stop) (script : Script) (name : List ℕ) (old new : RigState) → CauseStopped s script name old new → OpenedOnce name old.standing new.standing
 stopped_opens (stop.Script bad) script name old new c = opened_still name old c.asked.told.between new c.asked.told.since
-stopped_opens (stop.Image x) script name old new c = untold_opens (fault.Image x) name old new c
-stopped_opens (stop.BadCapacity dev) script name old new c = untold_opens (fault.BadCapacity dev) name old new c
 stopped_opens (stop.Volume entry kind) script name old new c = opened_still name old c.asked.told.between new c.asked.told.since
-stopped_opens stop.RigFault script name old new c = untold_opens fault.RigFault name old new c
 stopped_opens stop.Memory script name old new c = short_opens name old new c
-stopped_opens stop.ReadFault script name old new c = absurd c
+stopped_opens s script name old new c = untold_opens s name old new c
 
 refused_opens : (f : Facts) (s : Stop) → CauseRefused s (call_of f) → OpensOnce f
 refused_opens f s (inl c) = inl (stayed f.rig f.rig_after c.1)
@@ -72,12 +67,9 @@ midway_opens s name old new (inr c) = opened_on name old c.asked.told.between c.
 
 unmirrored_opens : (s : Stop) (script : Script) (name : List ℕ) (old new : RigState) → CauseMidway s script name old new → OpenedOnce name old.standing new.standing
 unmirrored_opens (stop.Script bad) script name old new c = opened_still name old c.asked.told.between new c.asked.told.since
-unmirrored_opens (stop.Image x) script name old new c = untold_opens (fault.Image x) name old new c
-unmirrored_opens (stop.BadCapacity dev) script name old new c = untold_opens (fault.BadCapacity dev) name old new c
 unmirrored_opens (stop.Volume entry kind) script name old new c = opened_still name old c.asked.told.between new c.asked.told.since
-unmirrored_opens stop.RigFault script name old new c = untold_opens fault.RigFault name old new c
 unmirrored_opens stop.Memory script name old new c = midway_opens script name old new c
-unmirrored_opens stop.ReadFault script name old new c = absurd c
+unmirrored_opens s script name old new c = untold_opens s name old new c
 
 not_mirrored_opens : (f : Facts) (r : Refusal) → CauseNotMirrored r f → OpensOnce f
 not_mirrored_opens f refusal.Words c = absurd c
@@ -87,34 +79,32 @@ not_mirrored_opens f (refusal.Stopped s) (inr c) = unmirrored_opens s c.0 (image
 mirror_opens : (f : Facts) (run : Mirrored) → HasMirroredSource run (call_of f) → OpensOnce f
 mirror_opens f run r = opened_on (image_in f.words) f.rig r.ran.asked.told.between r.ran.told f.rig_after r.ran.asked.told.since r.ran.ended.stretches.standing
 
-format_opens : (x : Option Fault) (name : List ℕ) (old new : RigState) → ByFault CauseUnformatted x name old new → OpenedOnce name old.standing new.standing
-format_opens None name old new c = absurd c
-format_opens (Some (fault.Image f)) name old new c = absurd c
-format_opens (Some (fault.BadCapacity dev)) name old new c = absurd c
-format_opens (Some fault.RigFault) name old new c = inr c.1
-format_opens (Some fault.Memory) name old new c = c.0
+format_opens : (s : Stop) (name : List ℕ) (old new : RigState) → CauseUnformatted s name old new → OpenedOnce name old.standing new.standing
+format_opens stop.RigFault name old new c = inr c.1
+format_opens stop.Memory name old new c = c.0
+format_opens _ name old new c = absurd c
 
-migrate_opens : (x : Option Fault) (name : List ℕ) (old new : RigState) → ByFault CauseUnmigrated x name old new → OpenedOnce name old.standing new.standing
-migrate_opens None name old new c = absurd c
-migrate_opens (Some (fault.Image f)) name old new c = inr c.0.opened
-migrate_opens (Some (fault.BadCapacity dev)) name old new c = absurd c
-migrate_opens (Some fault.RigFault) name old new c = inr c.1
-migrate_opens (Some fault.Memory) name old new c = c.1
+migrate_opens : (s : Stop) (name : List ℕ) (old new : RigState) → CauseUnmigrated s name old new → OpenedOnce name old.standing new.standing
+migrate_opens (stop.Image f) name old new c = inr c.0.opened
+migrate_opens stop.RigFault name old new c = inr c.1
+migrate_opens stop.Memory name old new c = c.1
+migrate_opens _ name old new c = absurd c
 
-spared_opens : (name : List ℕ) (old new : RigState) → CauseUnscrubbed fault.Memory name old new → OpenedOnce name old.standing new.standing
+spared_opens : (name : List ℕ) (old new : RigState) → CauseUnscrubbed stop.Memory name old new → OpenedOnce name old.standing new.standing
 spared_opens name old new (inl c) = c.1
 spared_opens name old new (inr c) = opened_on name old c.discovered.between c.told new c.discovered.since c.standing
 
-scrub_opens : (x : Option Fault) (name : List ℕ) (old new : RigState) → ByFault CauseUnscrubbed x name old new → OpenedOnce name old.standing new.standing
-scrub_opens None name old new c = absurd c
-scrub_opens (Some (fault.Image f)) name old new c = untold_opens (fault.Image f) name old new c
-scrub_opens (Some (fault.BadCapacity dev)) name old new c = untold_opens (fault.BadCapacity dev) name old new c
-scrub_opens (Some fault.RigFault) name old new c = untold_opens fault.RigFault name old new c
-scrub_opens (Some fault.Memory) name old new c = spared_opens name old new c
+scrub_opens : (s : Stop) (name : List ℕ) (old new : RigState) → CauseUnscrubbed s name old new → OpenedOnce name old.standing new.standing
+scrub_opens stop.Memory name old new c = spared_opens name old new c
+scrub_opens s name old new c = untold_opens s name old new c
 
-nvme_opens : (x : Option NvmFault) (f : Facts) → ByNvmFault x f → OpensOnce f
-nvme_opens None f c = absurd c
-nvme_opens (Some x) f c = not_done_opens x (image_in f.words) f.left f.left_after f.reads f.reads_after f.rig f.rig_after c
+by_opens : (P : Stop → List ℕ → RigState → RigState → Type 0) (r : Refusal) (f : Facts) → ((s : Stop) → P s (image_in f.words) f.rig f.rig_after → OpensOnce f) → ByCause P r f → OpensOnce f
+by_opens P refusal.Words f each c = absurd c
+by_opens P (refusal.Stopped s) f each c = each s c.0
+
+nvme_opens : (r : Refusal) (f : Facts) → CauseNotCommanded r f → OpensOnce f
+nvme_opens refusal.Words f c = absurd c
+nvme_opens (refusal.Stopped s) f c = not_done_opens s (image_in f.words) f.left f.left_after f.reads f.reads_after f.rig f.rig_after c
 
 none_opens : (f : Facts) (r : Refusal) → HasNoCommand r f → OpensOnce f
 none_opens f r c = inl (stayed f.rig f.rig_after c.1)
@@ -130,15 +120,15 @@ opens (Some Run) f (Refused r) c = not_run_opens f r c
 opens (Some Run) f (Done run) c = run_opens f run c
 opens (Some Trace) f (Refused r) c = not_run_opens f r c
 opens (Some Trace) f (Done x) c = run_opens f x.0 c.ran
-opens (Some (Format us)) f (Refused r) c = format_opens (fault_of r) (image_in f.words) f.rig f.rig_after c.0
+opens (Some (Format us)) f (Refused r) c = by_opens CauseUnformatted r f (λ s d. format_opens s (image_in f.words) f.rig f.rig_after d) c
 opens (Some (Format us)) f (Done x) c = inr c.0.opened
-opens (Some Migrate) f (Refused r) c = migrate_opens (fault_of r) (image_in f.words) f.rig f.rig_after c.0
+opens (Some Migrate) f (Refused r) c = by_opens CauseUnmigrated r f (λ s d. migrate_opens s (image_in f.words) f.rig f.rig_after d) c
 opens (Some Migrate) f (Done n) c = inr c.0.opened
 opens (Some Mirror) f (Refused r) c = not_mirrored_opens f r c
 opens (Some Mirror) f (Done run) c = mirror_opens f run c
-opens (Some Scrub) f (Refused r) c = scrub_opens (fault_of r) (image_in f.words) f.rig f.rig_after c.0
+opens (Some Scrub) f (Refused r) c = by_opens CauseUnscrubbed r f (λ s d. scrub_opens s (image_in f.words) f.rig f.rig_after d) c
 opens (Some Scrub) f (Done x) c = opened_on (image_in f.words) f.rig c.0.discovered.between c.0.told f.rig_after c.0.discovered.since c.0.standing
-opens (Some Nvme) f (Refused r) c = nvme_opens (nvm_fault_of r) f c
+opens (Some Nvme) f (Refused r) c = nvme_opens r f c
 opens (Some Nvme) f (Done x) c = done_opens (image_in f.words) x.1 x.0 f.left f.left_after f.rig f.rig_after c
 opens (Some (Modes ty)) f (Refused r) c = wanting_opens f r c
 opens (Some (Modes ty)) f (Done x) c = inl (stayed f.rig f.rig_after c.0)

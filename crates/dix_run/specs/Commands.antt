@@ -34,7 +34,7 @@ use Rattle.dix_words.specs.Grammar.{command_in, image_in}
 use Rattle.dix_words.specs.declared.command.Command.{Command}
 use Rattle.dix_words.specs.declared.command.Command.TheVariants.{Run, Trace, Format, Migrate, Mirror, Scrub, Nvme, Modes, Big}
 use Rattle.dix_run.specs.ScrubText.{has_some, scrub_text}
-use Rattle.dix_run.specs.Verdict.{ByFault, ByNvmFault, CauseNotMirrored, CauseNotRun, EndedAs, Facts, HasNoCommand, LeavesSource, WantsMemory, Work, call_of, done_status, fault_of, nvm_fault_of, usage_text}
+use Rattle.dix_run.specs.Verdict.{ByCause, CauseNotCommanded, CauseNotMirrored, CauseNotRun, EndedAs, Facts, HasNoCommand, LeavesSource, WantsMemory, Work, call_of, done_status, usage_text}
 use Rattle.dix_run.specs.declared.status.Status.{Status}
 use Rattle.dix_run.specs.declared.status.Status.TheVariants as status
 
@@ -126,7 +126,7 @@ format_work us = record {
   WasDone = λ x f. WasFormatted (image_in f.words) us f.rig f.rig_after × LeavesSource f;
   status = λ x. status.Whole;
   text = λ x. codes "formatted " ++ (decimal (length us) ++ codes "\n");
-  WasRefused = λ r f. ByFault CauseUnformatted (fault_of r) (image_in f.words) f.rig f.rig_after × LeavesSource f;
+  WasRefused = ByCause CauseUnformatted;
   IsRight = λ f. Calm f.rig.faults f.rig_after.faults;
   Ends = WholeOrWants;
 }
@@ -139,7 +139,7 @@ migrate_work = record {
   WasDone = λ n f. WasMigrated (image_in f.words) n f.rig f.rig_after × LeavesSource f;
   status = λ n. status.Whole;
   text = λ n. codes "migrated " ++ (decimal n ++ codes "\n");
-  WasRefused = λ r f. ByFault CauseUnmigrated (fault_of r) (image_in f.words) f.rig f.rig_after × LeavesSource f;
+  WasRefused = ByCause CauseUnmigrated;
   IsRight = IsRightImage;
   Ends = WholeOrWants;
 }
@@ -178,7 +178,7 @@ scrub_work = record {
   WasDone = λ x f. WasScrubbed (image_in f.words) x.0 x.1 f.rig f.rig_after × LeavesSource f;
   status = λ x. done_status (has_some x.1);
   text = λ x. scrub_text x.0 x.1;
-  WasRefused = λ r f. ByFault CauseUnscrubbed (fault_of r) (image_in f.words) f.rig f.rig_after × LeavesSource f;
+  WasRefused = ByCause CauseUnscrubbed;
   IsRight = IsRightImage;
   Ends = RunsOrWants;
 }
@@ -205,7 +205,7 @@ nvme_work = record {
   WasDone = λ x f. WereDone (image_in f.words) x.1 x.0 f.left f.left_after f.rig f.rig_after;
   status = λ x. done_status x.0;
   text = λ x. x.1;
-  WasRefused = λ r f. ByNvmFault (nvm_fault_of r) f;
+  WasRefused = CauseNotCommanded;
   IsRight = IsRightNvme;
   Ends = RunsOrWants;
 }

@@ -1,15 +1,11 @@
-use Rattle.std.specs.Prelude.{ℕ, ◌≡◌, ◌⊎◌, Bool, if◌then◌else◌, List, codes, Option, Some, None}
+use Rattle.std.specs.Prelude.{ℕ, ◌≡◌, ◌⊎◌, Bool, if◌then◌else◌, List, codes, Option}
 use Rattle.dix_base.specs.Told.{Appended, AppendedSome, Calm, Rose}
-use Rattle.image_commands.specs.declared.fault.Fault.{Fault}
-use Rattle.image_commands.specs.declared.fault.Fault.TheVariants as fault
 use Rattle.nvme_command.specs.Causes.{CauseNotDone}
-use Rattle.nvme_command.specs.declared.fault.NvmFault.{NvmFault}
-use Rattle.nvme_command.specs.declared.fault.NvmFault.TheVariants as nvm
 use Rattle.dix_words.specs.Grammar.{image_in}
-use Rattle.script_verdict.specs.Texts.{refusal_text as stop_text}
+use Rattle.call_refusal.specs.Texts.{refusal_text as stop_text}
 use Rattle.script_verdict.specs.Verdict.{CauseRefused, Facts as Call}
-use Rattle.script_verdict.specs.declared.refusal.Refusal.{Refusal as Stop}
-use Rattle.script_verdict.specs.declared.refusal.Refusal.TheVariants as stop
+use Rattle.call_refusal.specs.declared.refusal.Refusal.{Refusal as Stop}
+use Rattle.call_refusal.specs.declared.refusal.Refusal.TheVariants as stop
 use Rattle.mirror_verdict.specs.Verdict.{CauseRefused as CauseUnmirrored}
 use Rattle.dix_run.specs.declared.status.Status.{Status}
 use Rattle.dix_run.specs.declared.status.Status.TheVariants as status
@@ -73,43 +69,15 @@ abbrev pub CauseNotMirrored : Refusal → Facts → Type 0
 CauseNotMirrored refusal.Words f = ⊥
 CauseNotMirrored (refusal.Stopped s) f = CauseUnmirrored s (call_of f)
 
-abbrev pub stop_fault : Stop → Option Fault
-stop_fault (stop.Script x) = None
-stop_fault (stop.Image x) = Some (fault.Image x)
-stop_fault (stop.BadCapacity dev) = Some (fault.BadCapacity dev)
-stop_fault (stop.Volume entry kind) = None
-stop_fault stop.RigFault = Some fault.RigFault
-stop_fault stop.Memory = Some fault.Memory
-stop_fault stop.ReadFault = None
+-- Why a command on the image of the words isn't done, which doesn't read the source.
+abbrev pub ByCause : (Stop → List ℕ → RigState → RigState → Type 0) → Refusal → Facts → Type 0
+ByCause Cause refusal.Words f = ⊥
+ByCause Cause (refusal.Stopped s) f = Cause s (image_in f.words) f.rig f.rig_after × LeavesSource f
 
--- the fault by which a command on an image is refused
-abbrev pub fault_of : Refusal → Option Fault
-fault_of refusal.Words = None
-fault_of (refusal.Stopped s) = stop_fault s
-
--- The refusal is by a fault that has its cause.
-abbrev pub ByFault : (Fault → List ℕ → RigState → RigState → Type 0) → Option Fault → List ℕ → RigState → RigState → Type 0
-ByFault Cause None name old new = ⊥
-ByFault Cause (Some x) name old new = Cause x name old new
-
-abbrev pub stop_nvm_fault : Stop → Option NvmFault
-stop_nvm_fault (stop.Script x) = Some (nvm.Line (record { line = x.line; kind = x.kind }))
-stop_nvm_fault (stop.Image x) = Some (nvm.Image (fault.Image x))
-stop_nvm_fault (stop.BadCapacity dev) = Some (nvm.Image (fault.BadCapacity dev))
-stop_nvm_fault (stop.Volume entry kind) = None
-stop_nvm_fault stop.RigFault = Some (nvm.Image fault.RigFault)
-stop_nvm_fault stop.Memory = Some (nvm.Image fault.Memory)
-stop_nvm_fault stop.ReadFault = Some nvm.Source
-
--- the fault by which NVM commands are refused
-abbrev pub nvm_fault_of : Refusal → Option NvmFault
-nvm_fault_of refusal.Words = None
-nvm_fault_of (refusal.Stopped s) = stop_nvm_fault s
-
--- The NVM commands are refused by a fault that has its cause.
-abbrev pub ByNvmFault : Option NvmFault → Facts → Type 0
-ByNvmFault None f = ⊥
-ByNvmFault (Some x) f = CauseNotDone x (image_in f.words) f.left f.left_after f.reads f.reads_after f.rig f.rig_after
+-- Why NVM commands aren't done, or not all.
+abbrev pub CauseNotCommanded : Refusal → Facts → Type 0
+CauseNotCommanded refusal.Words f = ⊥
+CauseNotCommanded (refusal.Stopped s) f = CauseNotDone s (image_in f.words) f.left f.left_after f.reads f.reads_after f.rig f.rig_after
 
 -- The words are not in the grammar; the rig and the source are as before.
 abbrev pub HasNoCommand : Refusal → Facts → Type 0

@@ -55,7 +55,7 @@ pub(crate) fn format<R: Rig, O: Sink>(
             count_line(b"formatted ", units.len() as u32).as_slice(),
             Status::Whole,
         ),
-        Err(fault) => refuse(out, Refusal::of(fault)),
+        Err(stop) => refuse(out, Refusal::Stopped(stop)),
     }
 }
 
@@ -82,7 +82,7 @@ pub(crate) fn migrate<R: Rig, O: Sink>(
             count_line(b"migrated ", count).as_slice(),
             Status::Whole,
         ),
-        Err(fault) => refuse(out, Refusal::of(fault)),
+        Err(stop) => refuse(out, Refusal::Stopped(stop)),
     }
 }
 
@@ -106,7 +106,7 @@ pub(crate) fn scrub<R: Rig, O: Sink>(
     let mut found = Vec::new(alloc);
     let devices = match scrub_image(alloc, image_of(words), rig, &mut found) {
         Ok(devices) => devices,
-        Err(fault) => return refuse(out, Refusal::of(fault)),
+        Err(stop) => return refuse(out, Refusal::Stopped(stop)),
     };
     match scrub_text(alloc, &devices, &found) {
         Ok(text) => finish(out, &text, status_for(has_some(&found))),

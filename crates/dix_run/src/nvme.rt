@@ -34,6 +34,6 @@ pub(crate) fn nvme<S: Source, R: Rig, O: Sink>(
 {
     match do_commands(alloc, image_of(words), source, rig) {
         Ok(done) => finish(out, &done.text, status_for(done.bad)),
-        Err(fault) => refuse(out, Refusal::of_commands(fault)),
+        Err(stop) => refuse(out, Refusal::Stopped(stop)),
     }
 }

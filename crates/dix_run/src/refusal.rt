@@ -1,14 +1,11 @@
 //! Why a call of the program comes to nothing.
 
-ghost use Rattle.std.specs.Prelude.{◌≡◌, Some};
-ghost use Rattle.dix_run.specs.Verdict.{fault_of, nvm_fault_of, refusal_text, status_of, usage_text};
+ghost use Rattle.std.specs.Prelude.{◌≡◌};
+ghost use Rattle.dix_run.specs.Verdict.{refusal_text, status_of, usage_text};
 
 use crate::status::Status;
-use image_commands::Fault;
-use nvme_command::NvmFault;
+use call_refusal::Refusal as Stop;
 use report_text::{Line, add};
-use script_text::ScriptFault;
-use script_verdict::Refusal as Stop;
 
 /// Why a call of the program comes to nothing.
 #[derive(Clone, Copy, Debug, PartialEq, Eq)]
@@ -22,32 +19,6 @@ pub enum Refusal {
 impl Refusal {
     /// Want of memory.
     pub const MEMORY: Refusal = Refusal::Stopped(Stop::Memory);
-
-    /// The refusal that a fault of an image's command is.
-    pub(crate) fn of(fault: Fault) -> Refusal
-        ensures { fault_of result ≡ Some fault }
-    {
-        match fault {
-            Fault::Image(fault) => Refusal::Stopped(Stop::Image(fault)),
-            Fault::BadCapacity { dev } => Refusal::Stopped(Stop::BadCapacity { dev }),
-            Fault::RigFault => Refusal::Stopped(Stop::RigFault),
-            Fault::Memory => Refusal::Stopped(Stop::Memory),
-        }
-    }
-
-    /// The refusal that a fault of NVM commands is.
-    pub(crate) fn of_commands(fault: NvmFault) -> Refusal
-        ensures { nvm_fault_of result ≡ Some fault }
-    {
-        match fault {
-            NvmFault::Line(fault) => Refusal::Stopped(Stop::Script(ScriptFault {
-                line: fault.line,
-                kind: fault.kind,
-            })),
-            NvmFault::Image(fault) => Refusal::of(fault),
-            NvmFault::Source => Refusal::Stopped(Stop::ReadFault),
-        }
-    }
 
     /// The status of the refusal.
     pub(crate) fn status(self) -> Status

@@ -6,8 +6,8 @@ use Rattle.script_text.specs.Bindings.{binding_fault}
 use Rattle.script_text.specs.declared.fault.ScriptFault.{ScriptFault}
 use Rattle.script_text.specs.declared.script.Script.{Script}
 use Rattle.script_verdict.specs.Verdict.{devices_of}
-use Rattle.script_verdict.specs.declared.refusal.Refusal.{Refusal}
-use Rattle.script_verdict.specs.declared.refusal.Refusal.TheVariants as refusal
+use Rattle.call_refusal.specs.declared.refusal.Refusal.{Refusal}
+use Rattle.call_refusal.specs.declared.refusal.Refusal.TheVariants as refusal
 use Rattle.target_answer.specs.Image.{formatted}
 use Rattle.target_answer.specs.declared.units.UnitSpec.{UnitSpec}
 use Rattle.volume_table.specs.Faults.{table_fault}
@@ -75,12 +75,9 @@ unseen_in (Err h) = Err (unswept.Halted h)
 -- Why a script comes to no run over an image that is right: an entry of its volume is at fault over it, the first; none is, and a line of the script has a fault over the volume, the first; or there is no memory.
 abbrev pub CauseNoRun : Refusal → Script → (image : List ℕ) → Type 0
 CauseNoRun (refusal.Script bad) s image = MadeFor (volume_over s image) (devices_of image) s.block × (binding_fault s (volume_over s image) (devices_of image) ≡ Some bad)
-CauseNoRun (refusal.Image x) s image = ⊥
-CauseNoRun (refusal.BadCapacity dev) s image = ⊥
 CauseNoRun (refusal.Volume entry kind) s image = table_fault s.entries (devices_of image) s.block ≡ Some (At entry kind)
-CauseNoRun refusal.RigFault s image = ⊥
 CauseNoRun refusal.Memory s image = Unit {0}
-CauseNoRun refusal.ReadFault s image = ⊥
+CauseNoRun _ s image = ⊥
 
 -- Why a script isn't swept: it has a `fault`, `shift` or `overwrite` line of its own; or it comes to no run over the formatted units.
 abbrev pub CauseUnswept : Refusal → Sweep → Type 0

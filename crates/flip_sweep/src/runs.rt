@@ -8,12 +8,13 @@ ghost use Rattle.target_answer.specs.declared.units.UnitSpec.{UnitSpec as AnyUni
 ghost use Rattle.flip_sweep.specs.Comes.{came_to, seen_of};
 ghost use Rattle.flip_sweep.specs.Swept.{CauseNoRun};
 
+use call_refusal::Refusal;
 use dix_base::CalmStore;
 use image_rig::ImageRig;
 use page_pool::PagePool;
 use rig_api::Rig;
 use script_text::Script;
-use script_verdict::{Finished, Refusal, run_script};
+use script_verdict::{Finished, run_script};
 use stack_ops::Reply;
 use std::alloc::{AllocError, Global};
 use target_answer::UnitSpec;
@@ -74,8 +75,6 @@ pub(crate) fn run_over(alloc: Global, image: &[u8], script: Script) -> Result<Ca
         return Err(Refusal::Memory);
     };
     let mut rig = ImageRig::new(alloc, CalmStore::new(bytes));
-    match run_script(alloc, "sweep", script, &mut rig) {
-        Ok(run) => Ok(Came { run, rig }),
-        Err(refusal) => Err(refusal),
-    }
+    let run = run_script(alloc, "sweep", script, &mut rig)?;
+    Ok(Came { run, rig })
 }

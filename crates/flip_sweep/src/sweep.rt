@@ -17,12 +17,12 @@ use crate::own_lines::own_fault;
 use crate::runs::{Came, fresh_rig, run_over};
 use crate::stretch::Stretch;
 use crate::verdict::{Verdict, is_same_verdict, verdict_of};
+use call_refusal::Refusal;
 use dix_base::{CalmStore, Failed, Sink};
 use fault_schedule::FaultList;
 use image_rig::ImageRig;
 use report_text::write_all;
 use script_text::{LineList, Script};
-use script_verdict::Refusal;
 use std::alloc::{AllocError, Global};
 use target_answer::UnitSpec;
 

@@ -12,8 +12,8 @@ use Rattle.script_text.specs.declared.script.Script.{Script}
 use Rattle.script_verdict.proofs.Completing.{complete, never_rose, same_script}
 use Rattle.script_verdict.specs.Texts.{has_bad}
 use Rattle.script_verdict.specs.Verdict.{CauseRefused, HasRun}
-use Rattle.script_verdict.specs.declared.refusal.Refusal.{Refusal as Stop}
-use Rattle.script_verdict.specs.declared.refusal.Refusal.TheVariants as stop
+use Rattle.call_refusal.specs.declared.refusal.Refusal.{Refusal as Stop}
+use Rattle.call_refusal.specs.declared.refusal.Refusal.TheVariants as stop
 use Rattle.script_verdict.specs.declared.verdict.Finished.{Finished}
 use Rattle.mirror_verdict.proofs.Completing.{complete as mirror_complete}
 use Rattle.mirror_verdict.specs.Texts.{is_any_lost, mirror_text}

@@ -59,7 +59,7 @@ devices_are s s' devices units units' image found few ends same kept laid told =
 pub units_through : (s s' : Standing) (image image' : Option (List ℕ)) (units units' : Option (List Stored)) → units ≡ units_told s image → units' ≡ units_told s' image' → s' ≡ s → image' ≡ image → units' ≡ units
 units_through s s' image image' units units' p q e f = q ∙ ap (λ (v : Standing). units_told v image') e ∙ ap (units_told s) f ∙ sym p
 
--- what can't be told isn't
-pub untold : (units : Option (List Stored)) → (is_some units ≡ true → ⊥) → is_some units ≡ false
-untold None never = refl
-untold (Some us) never = absurd (never refl)
+-- a rig that tells its blocks has no device at fault
+pub silent : (units : Option (List Stored)) → (is_some units ≡ true → false ≡ true) → is_some units ≡ false
+silent None never = refl
+silent (Some us) never = sym (never refl)

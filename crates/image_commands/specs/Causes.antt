@@ -14,15 +14,15 @@ use Rattle.pi_scrub.specs.Looks.{Place, all_places}
 use Rattle.pi_scrub.specs.Scrubbed.{HasDevices, Looked}
 use Rattle.pi_scrub.specs.declared.found.Found.{Found}
 use Rattle.image_commands.specs.Views.{HasKept, OpenedOnce, WasOpened}
-use Rattle.image_commands.specs.declared.fault.Fault.{Fault}
-use Rattle.image_commands.specs.declared.fault.Fault.TheVariants as fault
+use Rattle.call_refusal.specs.declared.refusal.Refusal.{Refusal}
+use Rattle.call_refusal.specs.declared.refusal.Refusal.TheVariants as refusal
 
 -- Why an image isn't opened: its head is at fault, the rig failed, or there is no memory.
-abbrev pub CauseUnopened : Fault → List ℕ → RigState → RigState → Type 0
-CauseUnopened (fault.Image f) name old new = WasOpened name (Some f) old new
-CauseUnopened (fault.BadCapacity dev) name old new = ⊥
-CauseUnopened fault.RigFault name old new = Rose old.faults new.faults × Opened name old.standing new.standing
-CauseUnopened fault.Memory name old new = Unit {0}
+abbrev pub CauseUnopened : Refusal → List ℕ → RigState → RigState → Type 0
+CauseUnopened (refusal.Image f) name old new = WasOpened name (Some f) old new
+CauseUnopened refusal.RigFault name old new = Rose old.faults new.faults × Opened name old.standing new.standing
+CauseUnopened refusal.Memory name old new = Unit {0}
+CauseUnopened _ name old new = ⊥
 
 -- The image of this name was opened once more, and where it is told it is the formatted one of these units. The armed faults are as before, and there is no further record.
 pub record WasFormatted (name : List ℕ) (us : List UnitSpec) (old new : RigState) : Type 0 where
@@ -32,11 +32,10 @@ pub record WasFormatted (name : List ℕ) (us : List UnitSpec) (old new : RigSta
   pub log : new.log ≡ old.log
 
 -- Why an image isn't formatted: the rig failed, or there is no memory. The armed faults are as before, and there is no further record.
-abbrev pub CauseUnformatted : Fault → List ℕ → RigState → RigState → Type 0
-CauseUnformatted (fault.Image f) name old new = ⊥
-CauseUnformatted (fault.BadCapacity dev) name old new = ⊥
-CauseUnformatted fault.RigFault name old new = Rose old.faults new.faults × Opened name old.standing new.standing × (new.log ≡ old.log) × (new.armed ≡ old.armed)
-CauseUnformatted fault.Memory name old new = OpenedOnce name old.standing new.standing × (new.log ≡ old.log) × (new.armed ≡ old.armed)
+abbrev pub CauseUnformatted : Refusal → List ℕ → RigState → RigState → Type 0
+CauseUnformatted refusal.RigFault name old new = Rose old.faults new.faults × Opened name old.standing new.standing × (new.log ≡ old.log) × (new.armed ≡ old.armed)
+CauseUnformatted refusal.Memory name old new = OpenedOnce name old.standing new.standing × (new.log ≡ old.log) × (new.armed ≡ old.armed)
+CauseUnformatted _ name old new = ⊥
 
 -- The image of this name was opened once more. Where its head, which is right, was of version 1, it has the equal head of version 2, and n is the number of its units; else it is as it was, and n is 0. Every stored block is as before, so are the armed faults, and there is no further record.
 pub record WasMigrated (name : List ℕ) (n : ℕ) (old new : RigState) : Type 0 where
@@ -50,11 +49,11 @@ pub record WasMigrated (name : List ℕ) (n : ℕ) (old new : RigState) : Type 0
   pub log : new.log ≡ old.log
 
 -- Why an image isn't migrated: its head is at fault, the rig failed, or there is no memory. Only where the rig failed may the first 512 bytes be others. The armed faults are as before.
-abbrev pub CauseUnmigrated : Fault → List ℕ → RigState → RigState → Type 0
-CauseUnmigrated (fault.Image f) name old new = WasOpened name (Some f) old new × HasKept old new
-CauseUnmigrated (fault.BadCapacity dev) name old new = ⊥
-CauseUnmigrated fault.RigFault name old new = Rose old.faults new.faults × Opened name old.standing new.standing × KeepsBlocks old.image new.image × (new.log ≡ old.log) × (new.armed ≡ old.armed)
-CauseUnmigrated fault.Memory name old new = HasKept old new × OpenedOnce name old.standing new.standing
+abbrev pub CauseUnmigrated : Refusal → List ℕ → RigState → RigState → Type 0
+CauseUnmigrated (refusal.Image f) name old new = WasOpened name (Some f) old new × HasKept old new
+CauseUnmigrated refusal.RigFault name old new = Rose old.faults new.faults × Opened name old.standing new.standing × KeepsBlocks old.image new.image × (new.log ≡ old.log) × (new.armed ≡ old.armed)
+CauseUnmigrated refusal.Memory name old new = HasKept old new × OpenedOnce name old.standing new.standing
+CauseUnmigrated _ name old new = ⊥
 
 -- The image of this name was opened, and its head is right. Neither this nor what came since changed a byte of it.
 pub record HasOpened (name : List ℕ) (old between new : RigState) : Type 0 where
@@ -84,11 +83,12 @@ pub record IsBad (name : List ℕ) (dev : ℕ) (old new : RigState) : Type 0 whe
   pub untold : is_some between.units ≡ false
 
 -- Why it isn't known what the devices of an image are: it isn't opened, a device's answer is at fault, or there is no memory.
-abbrev pub CauseUntold : Fault → List ℕ → RigState → RigState → Type 0
-CauseUntold (fault.Image f) name old new = WasOpened name (Some f) old new × HasKept old new
-CauseUntold (fault.BadCapacity dev) name old new = IsBad name dev old new
-CauseUntold fault.RigFault name old new = Rose old.faults new.faults × Opened name old.standing new.standing × HasKept old new
-CauseUntold fault.Memory name old new = HasKept old new × OpenedOnce name old.standing new.standing
+abbrev pub CauseUntold : Refusal → List ℕ → RigState → RigState → Type 0
+CauseUntold (refusal.Image f) name old new = WasOpened name (Some f) old new × HasKept old new
+CauseUntold (refusal.BadCapacity dev) name old new = IsBad name dev old new
+CauseUntold refusal.RigFault name old new = Rose old.faults new.faults × Opened name old.standing new.standing × HasKept old new
+CauseUntold refusal.Memory name old new = HasKept old new × OpenedOnce name old.standing new.standing
+CauseUntold _ name old new = ⊥
 
 -- The image was opened, its devices told what they are, and then every stored block was looked at. What was found is what the records say; where the blocks are told and the count of faults didn't rise, it is exactly the blocks at fault. The armed faults are as before.
 pub record WasScrubbed (name : List ℕ) (devices : List DeviceInfo) (found : List Found) (old new : RigState) : Type 0 where
@@ -115,8 +115,6 @@ pub record WasScrubbedInPart (name : List ℕ) (old new : RigState) : Type 0 whe
   pub count : told.faults ≤ new.faults
 
 -- Why an image isn't scrubbed: it isn't known what its devices are, or there is no memory, before the first block or behind any.
-abbrev pub CauseUnscrubbed : Fault → List ℕ → RigState → RigState → Type 0
-CauseUnscrubbed (fault.Image f) name old new = CauseUntold (fault.Image f) name old new
-CauseUnscrubbed (fault.BadCapacity dev) name old new = CauseUntold (fault.BadCapacity dev) name old new
-CauseUnscrubbed fault.RigFault name old new = CauseUntold fault.RigFault name old new
-CauseUnscrubbed fault.Memory name old new = CauseUntold fault.Memory name old new ⊎ WasScrubbedInPart name old new
+abbrev pub CauseUnscrubbed : Refusal → List ℕ → RigState → RigState → Type 0
+CauseUnscrubbed refusal.Memory name old new = CauseUntold refusal.Memory name old new ⊎ WasScrubbedInPart name old new
+CauseUnscrubbed why name old new = CauseUntold why name old new

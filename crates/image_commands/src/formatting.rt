@@ -4,8 +4,8 @@ ghost use Rattle.std.specs.Prelude.{◌≡◌, MatchResult, true};
 ghost use Rattle.target_answer.specs.Headers.{is_layout};
 ghost use Rattle.image_commands.specs.Causes.{CauseUnformatted, WasFormatted};
 
-use crate::fault::Fault;
-use rig_api::{Rig, RigFault};
+use call_refusal::Refusal;
+use rig_api::Rig;
 use std::alloc::Global;
 use target_answer::UnitSpec;
 
@@ -16,18 +16,12 @@ pub fn format_image<R: Rig>(
     name: &str,
     units: &[UnitSpec],
     rig: &mut R,
-) -> Result<(), Fault>
+) -> Result<(), Refusal>
     requires { is_layout units.now ≡ true }
     ensures { let old = R.state rig.old in
         let new = R.state rig.new in
         MatchResult result (λ _. WasFormatted name.now units.now old new) (λ r. CauseUnformatted r name.now old new) }
 {
-    match rig.format(alloc, name, units) {
-        Ok(()) => Ok(()),
-        Err(RigFault::Failed) => Err(Fault::RigFault),
-        Err(RigFault::Memory) => Err(Fault::Memory),
-        Err(RigFault::BadMagic) => unreachable!(),
-        Err(RigFault::BadHeader) => unreachable!(),
-        Err(RigFault::BadLength) => unreachable!(),
-    }
+    rig.format(alloc, name, units)?;
+    Ok(())
 }

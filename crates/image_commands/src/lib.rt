@@ -1,13 +1,11 @@
 //! What the program does with whole images: opens, formats, migrates and scrubs them, over any rig.
 #![tactic(auto)]
 
-mod fault;
 mod formatting;
 mod migrating;
 mod opening;
 mod scrubbing;
 
-pub use fault::Fault;
 pub use formatting::format_image;
 pub use migrating::migrate_image;
 pub use opening::open_image;

@@ -5,13 +5,13 @@ ghost use Rattle.rig_api.specs.Head.{units_of};
 ghost use Rattle.image_commands.specs.Views.{HasKept, OpenedOnce, WasOpened};
 ghost use Rattle.image_commands.specs.Causes.{CauseUnopened};
 
-use crate::fault::Fault;
-use rig_api::{Rig, RigFault};
+use call_refusal::Refusal;
+use rig_api::Rig;
 use std::alloc::Global;
 
 /// Opens the image of this name. `Image` comes exactly where its head has that fault, `RigFault` only
 /// where the rig's count of faults rose.
-pub fn open_image<R: Rig>(alloc: Global, name: &str, rig: &mut R) -> Result<(), Fault>
+pub fn open_image<R: Rig>(alloc: Global, name: &str, rig: &mut R) -> Result<(), Refusal>
     ensures opened { let old = R.state rig.old in
         let new = R.state rig.new in
         MatchResult result (λ _. WasOpened name.now None old new) (λ r. CauseUnopened r name.now old new) }
@@ -19,12 +19,6 @@ pub fn open_image<R: Rig>(alloc: Global, name: &str, rig: &mut R) -> Result<(), 
     ensures kept { HasKept (R.state rig.old) (R.state rig.new) }
     ensures opening { OpenedOnce name.now (R.state rig.old).standing (R.state rig.new).standing }
 {
-    match rig.open(alloc, name) {
-        Ok(()) => Ok(()),
-        Err(RigFault::Failed) => Err(Fault::RigFault),
-        Err(RigFault::Memory) => Err(Fault::Memory),
-        Err(RigFault::BadMagic) => Err(Fault::Image(RigFault::BadMagic)),
-        Err(RigFault::BadHeader) => Err(Fault::Image(RigFault::BadHeader)),
-        Err(RigFault::BadLength) => Err(Fault::Image(RigFault::BadLength)),
-    }
+    rig.open(alloc, name)?;
+    Ok(())
 }

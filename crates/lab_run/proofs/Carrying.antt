@@ -43,19 +43,7 @@ done_never true e = cc
 done_never false e = cc
 
 refused_never : (r : Refusal) → status_of r ≡ status.WriteFault → ⊥
-refused_never refusal.Words e = cc
-refused_never (refusal.Image x) e = cc
-refused_never (refusal.Place x) e = cc
-refused_never refusal.NoTuples e = cc
-refused_never (refusal.SecondImage x) e = cc
-refused_never (refusal.SecondPlace x) e = cc
-refused_never refusal.OtherSize e = cc
-refused_never refusal.OtherCount e = cc
-refused_never (refusal.Short x) e = cc
-refused_never refusal.Long e = cc
-refused_never refusal.RigFault e = cc
-refused_never refusal.ReadFault e = cc
-refused_never refusal.Memory e = cc
+refused_never _ e = cc
 
 ending_never : (x : Ending) → ending_status x ≡ status.WriteFault → ⊥
 ending_never Done e = cc
@@ -406,21 +394,9 @@ store_rose (Some (Sweep byte units)) f e = absurd e
 
 refused_words : (f : Facts) (r : Refusal) → CauseByCommand (command_in f.words) r f → status_of r ≡ status.Words → command_in f.words ≡ None
 refused_words f refusal.Words c e = words_alone (command_in f.words) f c
-refused_words f (refusal.Image x) c e = absurd (cc)
-refused_words f (refusal.Place x) c e = absurd (cc)
-refused_words f refusal.NoTuples c e = absurd (cc)
-refused_words f (refusal.SecondImage x) c e = absurd (cc)
-refused_words f (refusal.SecondPlace x) c e = absurd (cc)
-refused_words f refusal.OtherSize c e = absurd (cc)
-refused_words f refusal.OtherCount c e = absurd (cc)
-refused_words f (refusal.Short x) c e = absurd (cc)
-refused_words f refusal.Long c e = absurd (cc)
-refused_words f refusal.RigFault c e = absurd (cc)
-refused_words f refusal.ReadFault c e = absurd (cc)
-refused_words f refusal.Memory c e = absurd (cc)
+refused_words f _ c e = absurd (cc)
 
 refused_image : (f : Facts) (r : Refusal) → CauseByCommand (command_in f.words) r f → status_of r ≡ status.Image → IsAtFault f
-refused_image f refusal.Words c e = absurd (cc)
 refused_image f (refusal.Image x) c e = inl (x, bad_head (command_in f.words) x f c)
 refused_image f (refusal.Place x) c e = let k = no_place (command_in f.words) x f c in inr (inl (record { place = k.0; fault = x; named = k.1; none = k.2 }))
 refused_image f refusal.NoTuples c e = let k = no_tuples (command_in f.words) f c in inr (inr (inl (record { place = k.0; layout = k.1; named = k.2; none = k.3 })))
@@ -428,26 +404,11 @@ refused_image f (refusal.SecondImage x) c e = let k = second_head (command_in f.
 refused_image f (refusal.SecondPlace x) c e = let k = second_place (command_in f.words) x f c in inr (inr (inr (inl (record { one = k.0; other = k.1; named = k.2; second = inr (inl (x, k.3)) }))))
 refused_image f refusal.OtherSize c e = let k = other_size (command_in f.words) f c in inr (inr (inr (inl (record { one = k.0; other = k.1; named = k.2; second = inr (inr (inl k.3)) }))))
 refused_image f refusal.OtherCount c e = let k = other_count (command_in f.words) f c in inr (inr (inr (inl (record { one = k.0; other = k.1; named = k.2; second = inr (inr (inr k.3)) }))))
-refused_image f (refusal.Short x) c e = absurd (cc)
-refused_image f refusal.Long c e = absurd (cc)
-refused_image f refusal.RigFault c e = absurd (cc)
-refused_image f refusal.ReadFault c e = absurd (cc)
-refused_image f refusal.Memory c e = absurd (cc)
+refused_image f _ c e = absurd (cc)
 
 refused_rig : (f : Facts) (r : Refusal) → CauseByCommand (command_in f.words) r f → status_of r ≡ status.RigFault → StoreRose (command_in f.words) f
-refused_rig f refusal.Words c e = absurd (cc)
-refused_rig f (refusal.Image x) c e = absurd (cc)
-refused_rig f (refusal.Place x) c e = absurd (cc)
-refused_rig f refusal.NoTuples c e = absurd (cc)
-refused_rig f (refusal.SecondImage x) c e = absurd (cc)
-refused_rig f (refusal.SecondPlace x) c e = absurd (cc)
-refused_rig f refusal.OtherSize c e = absurd (cc)
-refused_rig f refusal.OtherCount c e = absurd (cc)
-refused_rig f (refusal.Short x) c e = absurd (cc)
-refused_rig f refusal.Long c e = absurd (cc)
 refused_rig f refusal.RigFault c e = store_rose (command_in f.words) f c
-refused_rig f refusal.ReadFault c e = absurd (cc)
-refused_rig f refusal.Memory c e = absurd (cc)
+refused_rig f _ c e = absurd (cc)
 
 refused_input : (f : Facts) (r : Refusal) → CauseByCommand (command_in f.words) r f → status_of r ≡ status.Input → IsDumpAtFault f
 refused_input f refusal.Words c e = absurd (cc)
@@ -467,19 +428,8 @@ refused_input f refusal.ReadFault c e = absurd (cc)
 refused_input f refusal.Memory c e = absurd (cc)
 
 refused_reads : (f : Facts) (r : Refusal) → CauseByCommand (command_in f.words) r f → status_of r ≡ status.ReadFault → Rose f.reads f.reads_after
-refused_reads f refusal.Words c e = absurd (cc)
-refused_reads f (refusal.Image x) c e = absurd (cc)
-refused_reads f (refusal.Place x) c e = absurd (cc)
-refused_reads f refusal.NoTuples c e = absurd (cc)
-refused_reads f (refusal.SecondImage x) c e = absurd (cc)
-refused_reads f (refusal.SecondPlace x) c e = absurd (cc)
-refused_reads f refusal.OtherSize c e = absurd (cc)
-refused_reads f refusal.OtherCount c e = absurd (cc)
-refused_reads f (refusal.Short x) c e = absurd (cc)
-refused_reads f refusal.Long c e = absurd (cc)
-refused_reads f refusal.RigFault c e = absurd (cc)
 refused_reads f refusal.ReadFault c e = source_rose (command_in f.words) f c
-refused_reads f refusal.Memory c e = absurd (cc)
+refused_reads f _ c e = absurd (cc)
 
 -- of a verdict that is no refusal the status is 0 or 1
 by_status : (f : Facts) (P : Type 0) (s : Status) (v : Verdict) → Cause v f → ((r : Refusal) → CauseByCommand (command_in f.words) r f → status_of r ≡ s → P) → (IsScriptAtFault f → status.Input ≡ s → P) → ((w : Outcome) → CauseRan (command_in f.words) w f → ending_status w.ending ≡ s → P) → (IsDone s → ⊥) → verdict_status v ≡ s → P
@@ -904,18 +854,12 @@ wrong_dump c f image place layout us at b e h i = wrong_found f image us at plac
 
 refused_wrong : (f : Facts) (image : List ℕ) (r : Refusal) → f.first.bytes ≡ Some image → IsWrong (command_in f.words) f image → AreCalm (command_in f.words) f → CauseByCommand (command_in f.words) r f → (status_of r ≡ status.Image) ⊎ (status_of r ≡ status.Memory)
 refused_wrong f image refusal.Words b i calm c = absurd (subst (λ (x : Option Command). IsWrong x f image) (words_alone (command_in f.words) f c) i)
-refused_wrong f image (refusal.Image x) b i calm c = inl refl
-refused_wrong f image (refusal.Place x) b i calm c = inl refl
-refused_wrong f image refusal.NoTuples b i calm c = inl refl
-refused_wrong f image (refusal.SecondImage x) b i calm c = inl refl
-refused_wrong f image (refusal.SecondPlace x) b i calm c = inl refl
-refused_wrong f image refusal.OtherSize b i calm c = inl refl
-refused_wrong f image refusal.OtherCount b i calm c = inl refl
 refused_wrong f image (refusal.Short x) b i calm c = let k = short_dump (command_in f.words) x f c in let d = k.3 in absurd (wrong_dump (command_in f.words) f image k.0 k.1 d.units d.at b k.2 d.taken.found i)
 refused_wrong f image refusal.Long b i calm c = let k = long_dump (command_in f.words) f c in let d = k.3 in absurd (wrong_dump (command_in f.words) f image k.0 k.1 d.units d.at b k.2 d.taken.found i)
 refused_wrong f image refusal.RigFault b i calm c = absurd (no_store_rose (command_in f.words) f calm (store_rose (command_in f.words) f c))
 refused_wrong f image refusal.ReadFault b i calm c = let k = unread_dump (command_in f.words) f (λ j. subst (λ (x : Option Command). IsWrong x f image) j i) c in let d = k.3 in absurd (wrong_dump (command_in f.words) f image k.0 k.1 d.units d.at b k.2 d.taken.found i)
 refused_wrong f image refusal.Memory b i calm c = inr refl
+refused_wrong f image _ b i calm c = inl refl
 
 wrongs : (f : Facts) (image : List ℕ) (v : Verdict) → f.first.bytes ≡ Some image → IsWrong (command_in f.words) f image → AreCalm (command_in f.words) f → Cause v f → (verdict_status v ≡ status.Image) ⊎ (verdict_status v ≡ status.Memory)
 wrongs f image (Refused r) b i calm c = refused_wrong f image r b i calm c
@@ -947,18 +891,13 @@ opened_second f image one other p b h (inr w) =
 -- what is refused of a `diff` but an image is want of memory
 second_refused : (one other : Place) (f : Facts) (r : Refusal) → command_in f.words ≡ Some (Diff one other) → AreCalm (command_in f.words) f → CauseNotCompared one other r f → (status_of r ≡ status.Image) ⊎ (status_of r ≡ status.Memory)
 second_refused one other f refusal.Words e calm c = absurd c
-second_refused one other f (refusal.Image x) e calm c = inl refl
-second_refused one other f (refusal.Place x) e calm c = inl refl
 second_refused one other f refusal.NoTuples e calm c = absurd c
-second_refused one other f (refusal.SecondImage x) e calm c = inl refl
-second_refused one other f (refusal.SecondPlace x) e calm c = inl refl
-second_refused one other f refusal.OtherSize e calm c = inl refl
-second_refused one other f refusal.OtherCount e calm c = inl refl
 second_refused one other f (refusal.Short x) e calm c = absurd c
 second_refused one other f refusal.Long e calm c = absurd c
 second_refused one other f refusal.RigFault e calm c = absurd (no_store_rose (command_in f.words) f calm (one_rose (command_in f.words) f (ap uses_second e) c))
 second_refused one other f refusal.ReadFault e calm c = absurd c
 second_refused one other f refusal.Memory e calm c = inr refl
+second_refused one other f _ e calm c = inl refl
 
 seconds : (f : Facts) (image : List ℕ) (v : Verdict) → f.second.bytes ≡ Some image → IsSecondWrong (command_in f.words) image → AreCalm (command_in f.words) f → Cause v f → (verdict_status v ≡ status.Image) ⊎ (verdict_status v ≡ status.Memory)
 seconds f image (Refused r) b i calm c = second_refused i.one i.other f r i.named calm (subst (λ (x : Option Command). CauseByCommand x r f) i.named c)
@@ -1051,11 +990,10 @@ refused_dump f image (refusal.SecondImage x) b i calm c = (let k = second_head (
 refused_dump f image (refusal.SecondPlace x) b i calm c = (let k = second_place (command_in f.words) x f c in absurd (subst (λ (x : Option Command). IsWrongDump x f image) k.2 i))
 refused_dump f image refusal.OtherSize b i calm c = (let k = other_size (command_in f.words) f c in absurd (subst (λ (x : Option Command). IsWrongDump x f image) k.2 i))
 refused_dump f image refusal.OtherCount b i calm c = (let k = other_count (command_in f.words) f c in absurd (subst (λ (x : Option Command). IsWrongDump x f image) k.2 i))
-refused_dump f image (refusal.Short x) b i calm c = inl refl
-refused_dump f image refusal.Long b i calm c = inl refl
 refused_dump f image refusal.RigFault b i calm c = absurd (no_store_rose (command_in f.words) f calm (store_rose (command_in f.words) f c))
 refused_dump f image refusal.ReadFault b i calm c = absurd (dump_no_reads (command_in f.words) image f i b c)
 refused_dump f image refusal.Memory b i calm c = inr refl
+refused_dump f image _ b i calm c = inl refl
 
 -- a dump that was taken whole has the right length
 not_whole : (f : Facts) (image : List ℕ) (us : List UnitSpec) (at : Stretch) (count : ℕ) (layout : Layout) → f.first.bytes ≡ Some image → HasImported us at count layout f → IsWrongDump (command_in f.words) f image → ⊥

@@ -4,8 +4,6 @@ use Rattle.dix_base.specs.Told.{Calm, Rose}
 use Rattle.dix_words.specs.Grammar.{image_in}
 use Rattle.image_commands.specs.Causes.{CauseUntold, HasOpened}
 use Rattle.image_commands.specs.Views.{OpenedOnce}
-use Rattle.image_commands.specs.declared.fault.Fault.{Fault}
-use Rattle.image_commands.specs.declared.fault.Fault.TheVariants as fault
 use Rattle.lab_words.specs.declared.command.Command.{Command}
 use Rattle.lab_words.specs.declared.command.Command.TheVariants.{Explain}
 use Rattle.rig_api.specs.Head.{head_fault, head_of}
@@ -20,10 +18,11 @@ use Rattle.run_words.specs.declared.explain.Unexplained.{Unexplained}
 use Rattle.script_text.specs.Bindings.{binding_fault}
 use Rattle.script_text.specs.Language.{script_in}
 use Rattle.script_text.specs.declared.script.Script.{Script}
-use Rattle.script_verdict.specs.Texts.{has_bad, refusal_text as stop_text}
+use Rattle.call_refusal.specs.Texts.{refusal_text as stop_text}
+use Rattle.script_verdict.specs.Texts.{has_bad}
 use Rattle.script_verdict.specs.Verdict.{CauseRefused, CauseStopped, Facts as Call, HasRun, StoppedShort, devices_of, table_over}
-use Rattle.script_verdict.specs.declared.refusal.Refusal.{Refusal as Stop}
-use Rattle.script_verdict.specs.declared.refusal.Refusal.TheVariants as stop
+use Rattle.call_refusal.specs.declared.refusal.Refusal.{Refusal as Stop}
+use Rattle.call_refusal.specs.declared.refusal.Refusal.TheVariants as stop
 use Rattle.script_verdict.specs.declared.verdict.Finished.{Finished}
 use Rattle.script_verdict.proofs.Completing.{never_rose}
 use Rattle.volume_table.specs.Faults.{table_fault}
@@ -47,11 +46,12 @@ goes_open name old between new o =
     let b = o.count in
     (inr (ap (λ (s : Standing). s.openings) o.standing ∙ o.opened.opened.0, ap (λ (s : Standing). s.name) o.standing ∙ o.opened.opened.1), omega (arith, a, b))
 
-goes_untold : (x : Fault) (name : List ℕ) (old new : RigState) → CauseUntold x name old new → Goes name old new
-goes_untold (fault.Image f) name old new c = (inr c.0.opened, c.1.count)
-goes_untold (fault.BadCapacity dev) name old new c = goes_open name old c.between new c.since
-goes_untold fault.RigFault name old new c = (inr c.1, c.2.count)
-goes_untold fault.Memory name old new c = (c.1, c.0.count)
+goes_untold : (r : Stop) (name : List ℕ) (old new : RigState) → CauseUntold r name old new → Goes name old new
+goes_untold (stop.Image f) name old new c = (inr c.0.opened, c.1.count)
+goes_untold (stop.BadCapacity dev) name old new c = goes_open name old c.between new c.since
+goes_untold stop.RigFault name old new c = (inr c.1, c.2.count)
+goes_untold stop.Memory name old new c = (c.1, c.0.count)
+goes_untold _ name old new c = absurd c
 
 goes_short : (name : List ℕ) (old new : RigState) → StoppedShort name old new → Goes name old new
 goes_short name old new (inl c) = (c.1, c.0.count)
@@ -59,12 +59,9 @@ goes_short name old new (inr c) = goes_open name old c.1.told.between new c.1.to
 
 goes_stopped : (r : Stop) (script : Script) (name : List ℕ) (old new : RigState) → CauseStopped r script name old new → Goes name old new
 goes_stopped (stop.Script bad) script name old new c = goes_open name old c.asked.told.between new c.asked.told.since
-goes_stopped (stop.Image x) script name old new c = goes_untold (fault.Image x) name old new c
-goes_stopped (stop.BadCapacity dev) script name old new c = goes_untold (fault.BadCapacity dev) name old new c
 goes_stopped (stop.Volume entry kind) script name old new c = goes_open name old c.asked.told.between new c.asked.told.since
-goes_stopped stop.RigFault script name old new c = goes_untold fault.RigFault name old new c
 goes_stopped stop.Memory script name old new c = goes_short name old new c
-goes_stopped stop.ReadFault script name old new c = absurd c
+goes_stopped r script name old new c = goes_untold r name old new c
 
 still : (name : List ℕ) (old new : RigState) → new ≡ old → Goes name old new
 still name old new e = subst (λ (v : RigState). Goes name old v) (sym e) (inl (refl, refl), omega arith)

@@ -94,34 +94,14 @@ told_over words h left left' reads reads' rig second taken taken' o n result (Er
 -- ---- what follows from a verdict with its cause
 
 untouched_refused : (r : Refusal) (f : Facts) → CauseNotJudged r f → f.first_after ≡ f.first
-untouched_refused refusal.Words f c = absurd c
-untouched_refused (refusal.Image x) f c = absurd c
-untouched_refused (refusal.Place x) f c = absurd c
-untouched_refused refusal.NoTuples f c = absurd c
-untouched_refused (refusal.SecondImage x) f c = absurd c
-untouched_refused (refusal.SecondPlace x) f c = absurd c
-untouched_refused refusal.OtherSize f c = absurd c
-untouched_refused refusal.OtherCount f c = absurd c
-untouched_refused (refusal.Short x) f c = absurd c
-untouched_refused refusal.Long f c = absurd c
-untouched_refused refusal.RigFault f c = absurd c
 untouched_refused refusal.ReadFault f c = c.2
 untouched_refused refusal.Memory f c = c.1
+untouched_refused _ f c = absurd c
 
 memory_refused : (r : Refusal) (f : Facts) → CauseNotJudged r f → Calm f.reads f.reads_after → status_of r ≡ status.Memory
-memory_refused refusal.Words f c k = absurd c
-memory_refused (refusal.Image x) f c k = absurd c
-memory_refused (refusal.Place x) f c k = absurd c
-memory_refused refusal.NoTuples f c k = absurd c
-memory_refused (refusal.SecondImage x) f c k = absurd c
-memory_refused (refusal.SecondPlace x) f c k = absurd c
-memory_refused refusal.OtherSize f c k = absurd c
-memory_refused refusal.OtherCount f c k = absurd c
-memory_refused (refusal.Short x) f c k = absurd c
-memory_refused refusal.Long f c k = absurd c
-memory_refused refusal.RigFault f c k = absurd c
 memory_refused refusal.ReadFault f c k = absurd (never_rose f.reads f.reads_after k c.0)
 memory_refused refusal.Memory f c k = refl
+memory_refused _ f c k = absurd c
 
 as_judge : (f : Facts) (r : Refusal) → command_in f.words ≡ Some Judge → CauseByCommand (command_in f.words) r f → CauseNotJudged r f
 as_judge f r e c = subst (λ (x : Option Command). CauseByCommand x r f) e c

@@ -8,10 +8,10 @@ use Rattle.lab_words.specs.declared.command.Command.TheVariants.{Vectors}
 use Rattle.rig_api.specs.declared.rig.RigFault.{RigFault}
 use Rattle.rig_api.specs.State.{RigState}
 use Rattle.script_text.specs.declared.fault.ScriptFault.{ScriptFault}
-use Rattle.script_verdict.specs.Texts.{refusal_text as stop_text}
+use Rattle.call_refusal.specs.Texts.{refusal_text as stop_text}
 use Rattle.script_verdict.specs.Verdict.{Facts as PlayFacts, IsFromOutside}
-use Rattle.script_verdict.specs.declared.refusal.Refusal.{Refusal as Stop}
-use Rattle.script_verdict.specs.declared.refusal.Refusal.TheVariants as stop
+use Rattle.call_refusal.specs.declared.refusal.Refusal.{Refusal as Stop}
+use Rattle.call_refusal.specs.declared.refusal.Refusal.TheVariants as stop
 use Rattle.script_verdict.proofs.Completing.{never_rose}
 use Rattle.vector_runs.specs.ListText.{has_sense}
 use Rattle.vector_runs.specs.Played.{HasCome, HasPlayed, first_of, played_text}

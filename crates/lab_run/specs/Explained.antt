@@ -8,9 +8,10 @@ use Rattle.run_words.specs.Texts.{explained_text}
 use Rattle.script_text.specs.Bindings.{binding_fault}
 use Rattle.script_text.specs.Language.{script_in}
 use Rattle.script_text.specs.declared.script.Script.{Script}
-use Rattle.script_verdict.specs.Texts.{has_bad, refusal_text}
+use Rattle.call_refusal.specs.Texts.{refusal_text}
+use Rattle.script_verdict.specs.Texts.{has_bad}
 use Rattle.script_verdict.specs.Verdict.{Facts as Call, HasRead, HasRun, devices_of, table_over}
-use Rattle.script_verdict.specs.declared.refusal.Refusal.{Refusal as Stop}
+use Rattle.call_refusal.specs.declared.refusal.Refusal.{Refusal as Stop}
 use Rattle.script_verdict.specs.declared.verdict.Finished.{Finished}
 use Rattle.volume_table.specs.Faults.{table_fault}
 use Rattle.lab_words.specs.Grammar.{command_in}

@@ -32,19 +32,9 @@ pub record HasScriptFault (text : List ℕ) (bad : ScriptFault) (f : Facts) : Ty
 
 -- Why a source gives no text to be judged, and what is left then. No image was touched.
 abbrev pub CauseNotJudged : Refusal → Facts → Type 0
-CauseNotJudged refusal.Words f = ⊥
-CauseNotJudged (refusal.Image fault) f = ⊥
-CauseNotJudged (refusal.Place fault) f = ⊥
-CauseNotJudged refusal.NoTuples f = ⊥
-CauseNotJudged (refusal.SecondImage fault) f = ⊥
-CauseNotJudged (refusal.SecondPlace fault) f = ⊥
-CauseNotJudged refusal.OtherSize f = ⊥
-CauseNotJudged refusal.OtherCount f = ⊥
-CauseNotJudged (refusal.Short pieces) f = ⊥
-CauseNotJudged refusal.Long f = ⊥
-CauseNotJudged refusal.RigFault f = ⊥
 CauseNotJudged refusal.ReadFault f = Rose f.reads f.reads_after × TookAtMost most_bytes f.left f.left_after × (f.first_after ≡ f.first)
 CauseNotJudged refusal.Memory f = TookAtMost (most_bytes + 1) f.left f.left_after × (f.first_after ≡ f.first)
+CauseNotJudged _ f = ⊥
 
 -- The script of the source has a fault, the first.
 abbrev pub IsScriptAtFault : Facts → Type 0

@@ -9,10 +9,10 @@ use Rattle.script_text.specs.Bindings.{binding_fault}
 use Rattle.script_text.specs.Language.{script_in}
 use Rattle.script_text.specs.declared.fault.ScriptFault.{ScriptFault}
 use Rattle.script_text.specs.declared.script.Script.{Script}
-use Rattle.script_verdict.specs.Texts.{refusal_text}
+use Rattle.call_refusal.specs.Texts.{refusal_text}
 use Rattle.script_verdict.specs.Verdict.{CauseUntaken, HasRead, devices_of, table_over}
-use Rattle.script_verdict.specs.declared.refusal.Refusal.{Refusal}
-use Rattle.script_verdict.specs.declared.refusal.Refusal.TheVariants as refusal
+use Rattle.call_refusal.specs.declared.refusal.Refusal.{Refusal}
+use Rattle.call_refusal.specs.declared.refusal.Refusal.TheVariants as refusal
 use Rattle.target_answer.specs.Image.{formatted}
 use Rattle.target_answer.specs.declared.units.UnitSpec.{UnitSpec}
 use Rattle.volume_table.specs.Faults.{table_fault}

@@ -8,13 +8,12 @@ use Rattle.script_text.specs.Bindings.{binding_fault}
 use Rattle.script_text.specs.Language.{script_in}
 use Rattle.script_text.specs.declared.fault.ScriptFault.{ScriptFault}
 use Rattle.script_text.specs.declared.script.Script.{Script}
-use Rattle.script_verdict.specs.Texts.{refusal_text as stop_text}
+use Rattle.call_refusal.specs.Texts.{refusal_text as stop_text}
 use Rattle.script_verdict.specs.Verdict.{Facts as PlayFacts, devices_of, table_over}
-use Rattle.script_verdict.specs.declared.refusal.Refusal.{Refusal as Stop}
+use Rattle.call_refusal.specs.declared.refusal.Refusal.{Refusal as Stop}
 use Rattle.script_words.specs.Cuts.{lines_of}
 use Rattle.vector_lines.specs.Texts.{is_list, list_in}
 use Rattle.vector_lines.specs.declared.line.VectorLine.{VectorLine}
-use Rattle.vector_lines.specs.declared.read.VectorFault.{VectorFault}
 use Rattle.vector_runs.specs.ListText.{has_sense}
 use Rattle.vector_runs.specs.Played.{CauseNotPlayed, HasPlayed, played_text}
 use Rattle.vector_runs.specs.Ranges.{out_of_range}
@@ -62,7 +61,7 @@ IsDoneOrShort result = (result ≡ status.Whole) ⊎ ((result ≡ status.SomeBad
 pub record PlaysTexts (f : Facts) (o n : ℕ) (result : Status) : Type 0 where
   pub wrong : (text : List ℕ) (bad : ScriptFault) → f.left ≡ Some text → text_fault text ≡ Some bad → AreCalmAll f o n → (result ≡ status.Input) ⊎ (result ≡ status.Memory)
   pub head : (text image : List ℕ) (x : RigFault) → f.left ≡ Some text → text_fault text ≡ None → f.rig.image ≡ Some image → head_fault (head_of image) ≡ Some x → AreCalmAll f o n → (result ≡ status.Image) ⊎ (result ≡ status.Memory)
-  pub range : (text image : List ℕ) (lines : List VectorLine) (bad : VectorFault) → f.left ≡ Some text → is_list (lines_of text) ≡ true → list_in text ≡ Ok lines → f.rig.image ≡ Some image → head_fault (head_of image) ≡ None →
+  pub range : (text image : List ℕ) (lines : List VectorLine) (bad : ScriptFault) → f.left ≡ Some text → is_list (lines_of text) ≡ true → list_in text ≡ Ok lines → f.rig.image ≡ Some image → head_fault (head_of image) ≡ None →
       out_of_range (length (units_of (head_of image))) lines ≡ Some bad → AreCalmAll f o n → (result ≡ status.Input) ⊎ (result ≡ status.Memory)
   pub list : (text image : List ℕ) (lines : List VectorLine) → f.left ≡ Some text → is_list (lines_of text) ≡ true → list_in text ≡ Ok lines → f.rig.image ≡ Some image → head_fault (head_of image) ≡ None →
       out_of_range (length (units_of (head_of image))) lines ≡ None → AreCalmAll f o n → IsDoneOrShort result

@@ -143,19 +143,10 @@ HasBadHead fault f = BadHeadOf fault (image_in f.words) f.first f.first_after
 
 -- Why the units of an image aren't listed.
 abbrev pub CauseNotListed : Refusal → Facts → Type 0
-CauseNotListed refusal.Words f = ⊥
 CauseNotListed (refusal.Image fault) f = HasBadHead fault f
-CauseNotListed (refusal.Place fault) f = ⊥
-CauseNotListed refusal.NoTuples f = ⊥
-CauseNotListed (refusal.SecondImage fault) f = ⊥
-CauseNotListed (refusal.SecondPlace fault) f = ⊥
-CauseNotListed refusal.OtherSize f = ⊥
-CauseNotListed refusal.OtherCount f = ⊥
-CauseNotListed (refusal.Short pieces) f = ⊥
-CauseNotListed refusal.Long f = ⊥
-CauseNotListed refusal.ReadFault f = ⊥
 CauseNotListed refusal.RigFault f = Rose f.first.faults f.first_after.faults
 CauseNotListed refusal.Memory f = Unit {0}
+CauseNotListed _ f = ⊥
 
 -- The image was opened, and hasn't the place, for this reason.
 pub record HasNoPlace (place : Place) (fault : PlaceFault) (f : Facts) : Type 0 where
@@ -165,19 +156,11 @@ pub record HasNoPlace (place : Place) (fault : PlaceFault) (f : Facts) : Type 0 
 
 -- Why the blocks of a place aren't told.
 abbrev pub CauseNotShown : Place → Refusal → Facts → Type 0
-CauseNotShown place refusal.Words f = ⊥
 CauseNotShown place (refusal.Image fault) f = HasBadHead fault f
 CauseNotShown place (refusal.Place fault) f = HasNoPlace place fault f
-CauseNotShown place refusal.NoTuples f = ⊥
-CauseNotShown place (refusal.SecondImage fault) f = ⊥
-CauseNotShown place (refusal.SecondPlace fault) f = ⊥
-CauseNotShown place refusal.OtherSize f = ⊥
-CauseNotShown place refusal.OtherCount f = ⊥
-CauseNotShown place (refusal.Short pieces) f = ⊥
-CauseNotShown place refusal.Long f = ⊥
-CauseNotShown place refusal.ReadFault f = ⊥
 CauseNotShown place refusal.RigFault f = Rose f.first.faults f.first_after.faults
 CauseNotShown place refusal.Memory f = Unit {0}
+CauseNotShown place _ f = ⊥
 
 -- The image was opened and has the place, but no tuples there, which the words ask for.
 pub record HasNoTuples (place : Place) (layout : Layout) (f : Facts) : Type 0 where
@@ -189,19 +172,12 @@ pub record HasNoTuples (place : Place) (layout : Layout) (f : Facts) : Type 0 wh
 
 -- Why no block of a place is exported.
 abbrev pub CauseNotExported : Place → Layout → Refusal → Facts → Type 0
-CauseNotExported place layout refusal.Words f = ⊥
 CauseNotExported place layout (refusal.Image fault) f = HasBadHead fault f
 CauseNotExported place layout (refusal.Place fault) f = HasNoPlace place fault f
 CauseNotExported place layout refusal.NoTuples f = HasNoTuples place layout f
-CauseNotExported place layout (refusal.SecondImage fault) f = ⊥
-CauseNotExported place layout (refusal.SecondPlace fault) f = ⊥
-CauseNotExported place layout refusal.OtherSize f = ⊥
-CauseNotExported place layout refusal.OtherCount f = ⊥
-CauseNotExported place layout (refusal.Short pieces) f = ⊥
-CauseNotExported place layout refusal.Long f = ⊥
 CauseNotExported place layout refusal.RigFault f = Rose f.first.faults f.first_after.faults
-CauseNotExported place layout refusal.ReadFault f = ⊥
 CauseNotExported place layout refusal.Memory f = Unit {0}
+CauseNotExported place layout _ f = ⊥
 
 -- The image and the source are as before.
 pub record IsUntouched (f : Facts) : Type 0 where
@@ -217,19 +193,15 @@ pub record HasBrokenOff (fault : ImportFault) (place : Place) (layout : Layout) 
 
 -- Why a dump isn't imported whole, and what is left then.
 abbrev pub CauseNotImported : Place → Layout → Refusal → Facts → Type 0
-CauseNotImported place layout refusal.Words f = ⊥
 CauseNotImported place layout (refusal.Image fault) f = HasBadHead fault f × IsUntouched f
 CauseNotImported place layout (refusal.Place fault) f = HasNoPlace place fault f × IsUntouched f
 CauseNotImported place layout refusal.NoTuples f = HasNoTuples place layout f × IsUntouched f
-CauseNotImported place layout (refusal.SecondImage fault) f = ⊥
-CauseNotImported place layout (refusal.SecondPlace fault) f = ⊥
-CauseNotImported place layout refusal.OtherSize f = ⊥
-CauseNotImported place layout refusal.OtherCount f = ⊥
 CauseNotImported place layout (refusal.Short pieces) f = HasBrokenOff (halt.Short pieces) place layout f
 CauseNotImported place layout refusal.Long f = HasBrokenOff halt.Long place layout f
 CauseNotImported place layout refusal.RigFault f = (Rose f.first.faults f.first_after.faults × IsUntouched f) ⊎ HasBrokenOff halt.Store place layout f
 CauseNotImported place layout refusal.ReadFault f = HasBrokenOff halt.Source place layout f
 CauseNotImported place layout refusal.Memory f = IsUntouched f
+CauseNotImported place layout _ f = ⊥
 
 -- The first image was opened and has its place, the second was opened, and this is the first fault of its head.
 pub record HasBadSecond (one : Place) (fault : RigFault) (f : Facts) : Type 0 where
@@ -262,19 +234,15 @@ pub record HasOtherCount (one other : Place) (f : Facts) : Type 0 where
 
 -- Why two places aren't compared.
 abbrev pub CauseNotCompared : (one other : Place) → Refusal → Facts → Type 0
-CauseNotCompared one other refusal.Words f = ⊥
 CauseNotCompared one other (refusal.Image fault) f = HasBadHead fault f
 CauseNotCompared one other (refusal.Place fault) f = HasNoPlace one fault f
-CauseNotCompared one other refusal.NoTuples f = ⊥
 CauseNotCompared one other (refusal.SecondImage fault) f = HasBadSecond one fault f
 CauseNotCompared one other (refusal.SecondPlace fault) f = HasNoSecondPlace one other fault f
 CauseNotCompared one other refusal.OtherSize f = HasOtherSize one other f
 CauseNotCompared one other refusal.OtherCount f = HasOtherCount one other f
-CauseNotCompared one other (refusal.Short pieces) f = ⊥
-CauseNotCompared one other refusal.Long f = ⊥
 CauseNotCompared one other refusal.RigFault f = Rose f.first.faults f.first_after.faults ⊎ Rose f.second.faults f.second_after.faults
-CauseNotCompared one other refusal.ReadFault f = ⊥
 CauseNotCompared one other refusal.Memory f = Unit {0}
+CauseNotCompared one other _ f = ⊥
 
 -- why a call is refused, by its command
 abbrev pub CauseByCommand : Option Command → Refusal → Facts → Type 0

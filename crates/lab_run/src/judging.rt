@@ -15,11 +15,11 @@ ghost use Rattle.rig_api.specs.State.{RigState};
 use crate::program::{finish, refuse};
 use crate::refusal::Refusal;
 use crate::status::Status;
+use call_refusal::TOO_LONG;
 use dix_base::{Sink, Source};
 use fault_marks::{marked_text, right_text};
 use script_laws::a_read_script_keeps_the_rules;
 use script_text::{Script, ScriptFault, ScriptKind, read_script};
-use script_verdict::TOO_LONG;
 use source_text::{Unread, read_all};
 use std::alloc::{AllocError, Global};
 

@@ -1,14 +1,14 @@
 //! Texts that come to no run: what is written of them.
 
 ghost use Rattle.std.specs.Prelude.{◌≡◌};
-ghost use Rattle.script_verdict.specs.Texts.{refusal_text};
+ghost use Rattle.call_refusal.specs.Texts.{refusal_text};
 ghost use Rattle.lab_run.specs.Outcomes.{ending_status, stop_ending};
 ghost use Rattle.lab_run.specs.Verdict.{Written};
 
 use crate::program::finish;
 use crate::status::Status;
+use call_refusal::Refusal;
 use dix_base::Sink;
-use script_verdict::Refusal;
 
 /// The status of a text that comes to no run for this reason.
 fn stop_status(reason: Refusal) -> Status

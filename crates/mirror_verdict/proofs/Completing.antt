@@ -10,8 +10,8 @@ use Rattle.mirror_script.specs.MirrorFaults.{mirror_fault}
 use Rattle.script_verdict.proofs.Completing.{no_head_fault, not_bad, same_script, table_is, told_is_good, untaken_for_memory}
 use Rattle.script_verdict.proofs.Devices.{image_devices}
 use Rattle.script_verdict.specs.Verdict.{Facts, IsFromOutside, devices_of, table_over}
-use Rattle.script_verdict.specs.declared.refusal.Refusal.{Refusal}
-use Rattle.script_verdict.specs.declared.refusal.Refusal.TheVariants as refusal
+use Rattle.call_refusal.specs.declared.refusal.Refusal.{Refusal}
+use Rattle.call_refusal.specs.declared.refusal.Refusal.TheVariants as refusal
 use Rattle.mirror_verdict.specs.Verdict.{CauseRefused, CauseStopped, HasMirroredSource, IsComplete, IsUnbound}
 use Rattle.mirror_verdict.specs.declared.mirrored.Mirrored.{Mirrored}
 

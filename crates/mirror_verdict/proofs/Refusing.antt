@@ -1,21 +1,52 @@
 -- From the refusal of a part to that of the call.
-use Rattle.std.proofs.Common.{◌≡◌, ◌≤◌, inr, List, length, None, Result, Ok, Err, refl, subst}
+use Rattle.std.proofs.Common.{ℕ, ◌≡◌, ◌⊎◌, ◌≤◌, inl, inr, List, length, Some, None, Result, Ok, Err, refl, sym, subst}
 use Rattle.std.specs.Prelude.{MatchResult}
-use Rattle.image_commands.specs.declared.fault.Fault.TheVariants as fault
+use Rattle.rig_api.specs.State.{RigState}
+use Rattle.image_commands.specs.Causes.{CauseUntold}
+use Rattle.call_refusal.specs.Refusals.{of_script}
+use Rattle.call_refusal.proofs.WantOfMemory.{of_either}
+use Rattle.script_text.specs.declared.fault.ScriptFault.{ScriptFault}
 use Rattle.script_text.specs.declared.script.Script.{Script}
 use Rattle.script_stack.specs.Causes.{table_of}
 use Rattle.volume_table.specs.Tables.{MadeFor, Table}
 use Rattle.volume_table.specs.declared.device.DeviceInfo.{DeviceInfo}
 use Rattle.mirror_script.specs.MirrorFaults.{mirror_fault}
 use Rattle.script_verdict.proofs.Completing.{table_is}
-use Rattle.script_verdict.specs.Verdict.{Facts, HasRead}
-use Rattle.script_verdict.specs.Working.{IsSound}
-use Rattle.script_verdict.specs.declared.refusal.Refusal.{Refusal}
-use Rattle.script_verdict.specs.declared.refusal.Refusal.TheVariants as refusal
+use Rattle.script_verdict.specs.Verdict.{Facts, HasRead, HasTable, WasAsked}
+use Rattle.script_verdict.specs.Working.{CauseNoTable, IsSound}
+use Rattle.call_refusal.specs.declared.refusal.Refusal.{Refusal}
+use Rattle.call_refusal.specs.declared.refusal.Refusal.TheVariants as refusal
 use Rattle.leg_runs.specs.Standing.{IsBoundMirror}
 use Rattle.mirror_verdict.specs.Verdict.{CauseRefused, CauseStopped, HasMirrored, HasMirroredSource}
-use Rattle.mirror_verdict.specs.Working.{IsFree}
+use Rattle.mirror_verdict.specs.Working.{CauseUnbound, IsFree}
 use Rattle.mirror_verdict.specs.declared.mirrored.Mirrored.{Mirrored}
+
+-- the devices aren't known
+pub untold : (r : Refusal) (s : Script) (name : List ℕ) (old new : RigState) → CauseUntold r name old new → CauseStopped r s name old new
+untold (refusal.Script bad) s name old new c = absurd c
+untold (refusal.Volume entry kind) s name old new c = absurd c
+untold refusal.Memory s name old new c = inl (inl c)
+untold _ s name old new c = c
+
+unfit_by : (r : Refusal) (bad : ScriptFault) (s : Script) (devices : List DeviceInfo) (table : Table) → HasTable s devices table → mirror_fault s table devices ≡ Some bad → (r ≡ refusal.Memory) ⊎ (r ≡ refusal.Script bad) → CauseUnbound r s devices
+unfit_by r bad s devices table made e (inl m) = subst (λ x. CauseUnbound x s devices) (sym m) tt
+unfit_by r bad s devices table made e (inr k) = subst (λ x. CauseUnbound x s devices) (sym k) (table, made, e)
+
+-- a script with a fault on a mirror, the first
+pub unfit : (bad : ScriptFault) (s : Script) (devices : List DeviceInfo) (table : Table) → HasTable s devices table → mirror_fault s table devices ≡ Some bad → CauseUnbound (of_script bad) s devices
+unfit bad s devices table made e = unfit_by (of_script bad) bad s devices table made e (of_either bad.kind bad)
+
+-- there is no table
+pub tableless : (r : Refusal) (s : Script) (devices : List DeviceInfo) → CauseNoTable r s devices → CauseUnbound r s devices
+tableless (refusal.Script bad) s devices c = absurd c
+tableless _ s devices c = c
+
+-- the script may not run on a mirror over the devices
+pub unbound : (r : Refusal) (s : Script) (name : List ℕ) (devices : List DeviceInfo) (old new : RigState) → WasAsked name devices old new → CauseUnbound r s devices → CauseStopped r s name old new
+unbound (refusal.Script bad) s name devices old new asked c = record { devices = devices; asked = asked; table = c.0; made = c.1; bound = c.2 }
+unbound (refusal.Volume entry kind) s name devices old new asked c = record { devices = devices; asked = asked; bad = c }
+unbound refusal.Memory s name devices old new asked c = inl (inr (devices, asked))
+unbound _ s name devices old new asked c = absurd c
 
 -- the script of a source was run on a mirror, or wasn't
 pub source_run : (r : Result Mirrored Refusal) (f : Facts) (s : Script) → HasRead s f.left f.left_after → MatchResult r (λ x. HasMirrored x s f.name f.rig f.rig_after) (λ x. CauseStopped x s f.name f.rig f.rig_after) →

@@ -4,7 +4,6 @@ use Rattle.page_pool.specs.Cells.{flat}
 use Rattle.rig_api.specs.Head.{head_fault, head_of}
 use Rattle.rig_api.specs.State.{RigState}
 use Rattle.image_commands.specs.Causes.{CauseUntold}
-use Rattle.image_commands.specs.declared.fault.Fault.TheVariants as fault
 use Rattle.target_answer.specs.Target.{Stored}
 use Rattle.volume_table.specs.Faults.{table_fault}
 use Rattle.volume_table.specs.Tables.{Table}
@@ -14,8 +13,8 @@ use Rattle.script_text.specs.declared.fault.ScriptFault.{ScriptFault}
 use Rattle.script_text.specs.declared.script.Script.{Script}
 use Rattle.script_verdict.specs.Layers.{NamesFaults}
 use Rattle.script_verdict.specs.Verdict.{CauseUntaken, Facts, HasBadVolume, HasRead, HasTable, HoldsBlocks, IsFromOutside, StoppedShort, WasAsked, devices_of, table_over}
-use Rattle.script_verdict.specs.declared.refusal.Refusal.{Refusal}
-use Rattle.script_verdict.specs.declared.refusal.Refusal.TheVariants as refusal
+use Rattle.call_refusal.specs.declared.refusal.Refusal.{Refusal}
+use Rattle.call_refusal.specs.declared.refusal.Refusal.TheVariants as refusal
 use Rattle.mirror_script.specs.MirrorFaults.{mirror_fault}
 use Rattle.mirror_walk.specs.Mirror.{fresh}
 use Rattle.mirror_volume.specs.Plans.{IsMirror}
@@ -89,12 +88,9 @@ pub record StoppedMidway (s : Script) (name : List ℕ) (old new : RigState) : T
 -- Why a script wasn't run on a mirror to its end, and what that leaves.
 abbrev pub CauseStopped : Refusal → Script → List ℕ → RigState → RigState → Type 0
 CauseStopped (refusal.Script bad) s name old new = IsUnbound bad s name old new
-CauseStopped (refusal.Image x) s name old new = CauseUntold (fault.Image x) name old new
-CauseStopped (refusal.BadCapacity dev) s name old new = CauseUntold (fault.BadCapacity dev) name old new
 CauseStopped (refusal.Volume entry kind) s name old new = HasBadVolume entry kind s name old new
-CauseStopped refusal.RigFault s name old new = CauseUntold fault.RigFault name old new
 CauseStopped refusal.Memory s name old new = StoppedShort name old new ⊎ StoppedMidway s name old new
-CauseStopped refusal.ReadFault s name old new = ⊥
+CauseStopped why s name old new = CauseUntold why name old new
 
 -- Why a call doesn't come to its end: the source gives no script, and the rig is as before; or it was read to its end, and its script stopped.
 abbrev pub CauseRefused : Refusal → Facts → Type 0

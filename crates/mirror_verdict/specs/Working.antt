@@ -1,14 +1,13 @@
 -- What the parts of a call give each other.
 use Rattle.std.specs.Prelude.{ℕ, ◌≡◌, List, None, Some}
 use Rattle.script_text.specs.declared.script.Script.{Script}
-use Rattle.volume_table.specs.Faults.{table_fault}
 use Rattle.volume_table.specs.Tables.{Table}
 use Rattle.volume_table.specs.declared.device.DeviceInfo.{DeviceInfo}
-use Rattle.volume_table.specs.declared.fault.VolumeFault.TheVariants.{At}
 use Rattle.mirror_script.specs.MirrorFaults.{mirror_fault}
 use Rattle.script_verdict.specs.Verdict.{HasTable, WasAsked}
-use Rattle.script_verdict.specs.declared.refusal.Refusal.{Refusal}
-use Rattle.script_verdict.specs.declared.refusal.Refusal.TheVariants as refusal
+use Rattle.script_verdict.specs.Working.{CauseNoTable}
+use Rattle.call_refusal.specs.declared.refusal.Refusal.{Refusal}
+use Rattle.call_refusal.specs.declared.refusal.Refusal.TheVariants as refusal
 use Rattle.rig_api.specs.State.{RigState}
 
 -- The script may run on a mirror over the volume of these devices.
@@ -20,12 +19,7 @@ pub record IsFree (s : Script) (devices : List DeviceInfo) : Type 0 where
 -- Why it may not.
 abbrev pub CauseUnbound : Refusal → Script → List DeviceInfo → Type 0
 CauseUnbound (refusal.Script bad) s devices = (table : Table) × HasTable s devices table × (mirror_fault s table devices ≡ Some bad)
-CauseUnbound (refusal.Image x) s devices = ⊥
-CauseUnbound (refusal.BadCapacity dev) s devices = ⊥
-CauseUnbound (refusal.Volume entry kind) s devices = table_fault s.entries devices s.block ≡ Some (At entry kind)
-CauseUnbound refusal.RigFault s devices = ⊥
-CauseUnbound refusal.Memory s devices = Unit {0}
-CauseUnbound refusal.ReadFault s devices = ⊥
+CauseUnbound why s devices = CauseNoTable why s devices
 
 -- The image was opened, its devices told what they are, and the script is bound to a mirror over them.
 pub record IsBound (s : Script) (devices : List DeviceInfo) (name : List ℕ) (old new : RigState) : Type 0 where

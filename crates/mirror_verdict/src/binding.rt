@@ -6,11 +6,12 @@ ghost use Rattle.script_verdict.specs.Working.{IsSound};
 ghost use Rattle.mirror_verdict.specs.Verdict.{CauseStopped};
 ghost use Rattle.mirror_verdict.specs.Working.{CauseUnbound, IsBound, IsFree};
 
+use call_refusal::Refusal;
 use image_commands::told_devices;
 use mirror_script::bind_mirror;
 use rig_api::Rig;
 use script_text::Script;
-use script_verdict::{Refusal, table_of};
+use script_verdict::table_of;
 use std::alloc::Global;
 use volume_table::DeviceInfo;
 
@@ -20,14 +21,9 @@ fn bind_over(alloc: Global, script: &Script, devices: &[DeviceInfo]) -> Result<(
     requires ends { Ends devices.now }
     ensures { MatchResult result (λ u. IsFree script.now devices.now) (λ r. CauseUnbound r script.now devices.now) }
 {
-    let table = match table_of(alloc, script, devices) {
-        Ok(table) => table,
-        Err(refusal) => return Err(refusal),
-    };
-    match bind_mirror(script, &table, devices) {
-        Ok(()) => Ok(()),
-        Err(fault) => Err(Refusal::Script(fault)),
-    }
+    let table = table_of(alloc, script, devices)?;
+    bind_mirror(script, &table, devices)?;
+    Ok(())
 }
 
 /// Opens the image, asks its devices what they are, and binds the script to a mirror over them.
@@ -42,16 +38,7 @@ pub(crate) fn bind<R: Rig>(
         let new = R.state rig.new in
         MatchResult result (λ v. IsBound script.now v.items image.now old new) (λ r. CauseStopped r script.now image.now old new) }
 {
-    let found = match told_devices(alloc, image, rig) {
-        Ok(found) => found,
-        Err(fault) => return Err(Refusal::of(fault)),
-    };
-    match bind_over(alloc, script, &found) {
-        Ok(()) => {}
-        Err(refusal) => return Err(refusal),
-    }
-    match Vec::from_slice(alloc, &found) {
-        Ok(devices) => Ok(devices),
-        Err(_) => Err(Refusal::Memory),
-    }
+    let found = told_devices(alloc, image, rig)?;
+    bind_over(alloc, script, &found)?;
+    Ok(Vec::from_slice(alloc, &found)?)
 }

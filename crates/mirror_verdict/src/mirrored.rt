@@ -8,6 +8,7 @@ ghost use Rattle.mirror_verdict.specs.Verdict.{CauseRefused, CauseStopped, HasMi
 
 use crate::binding::bind;
 use crate::serving::serve;
+use call_refusal::Refusal;
 use dix_base::Source;
 use mirror_volume::{
     Mirror, Repair, a_formed_mirror_has_one_good_leg, no_fault_is_enough_under_any_protect_field,
@@ -15,7 +16,7 @@ use mirror_volume::{
 };
 use rig_api::Rig;
 use script_text::Script;
-use script_verdict::{Refusal, is_any_bad, take_script};
+use script_verdict::{is_any_bad, take_script};
 use std::alloc::Global;
 
 /// A script that was run on a mirror to its end, and repaired.
@@ -43,22 +44,14 @@ pub fn run_mirror<R: Rig>(
         let new = R.state rig.new in
         MatchResult result (λ r. HasMirrored r script image.now old new) (λ r. CauseStopped r script image.now old new) }
 {
-    let devices = match bind(alloc, image, &script, rig) {
-        Ok(devices) => devices,
-        Err(refusal) => return Err(refusal),
-    };
+    let devices = bind(alloc, image, &script, rig)?;
     let count = script.ops.as_slice().len();
-    let mut mirror = match Mirror::new(alloc, script, devices) {
-        Ok(mirror) => mirror,
-        Err(_) => return Err(Refusal::Memory),
-    };
+    let mut mirror = Mirror::new(alloc, script, devices)?;
     one_good_leg_is_enough();
     a_formed_mirror_has_one_good_leg();
     no_fault_is_enough_under_any_protect_field();
-    match serve(alloc, &mut mirror, count, rig) {
-        Ok(repair) => Ok(Mirrored { mirror, repair }),
-        Err(_) => Err(Refusal::Memory),
-    }
+    let repair = serve(alloc, &mut mirror, count, rig)?;
+    Ok(Mirrored { mirror, repair })
 }
 
 /// Reads the script that the source holds, to its end but no further than one byte more than a script may have, and then
@@ -90,10 +83,8 @@ pub fn mirror_source<S: Source, R: Rig>(
     } in
         IfErr result (λ r. IsComplete r f) }
 {
-    match take_script(alloc, source) {
-        Ok(script) => run_mirror(alloc, image, script, rig),
-        Err(refusal) => Err(refusal),
-    }
+    let script = take_script(alloc, source)?;
+    run_mirror(alloc, image, script, rig)
 }
 
 impl Mirrored {

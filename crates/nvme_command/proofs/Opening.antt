@@ -4,22 +4,21 @@ use Rattle.rig_api.specs.Head.{units_of}
 use Rattle.rig_api.specs.Telling.{Standing}
 use Rattle.rig_api.specs.State.{RigState}
 use Rattle.image_commands.specs.Causes.{HasOpened}
-use Rattle.image_commands.specs.declared.fault.Fault.{Fault}
-use Rattle.image_commands.specs.declared.fault.Fault.TheVariants as fault
+use Rattle.call_refusal.specs.declared.refusal.Refusal.{Refusal}
+use Rattle.call_refusal.specs.declared.refusal.Refusal.TheVariants as refusal
 use Rattle.nvme_session.specs.Sessions.{CauseNoFront}
 use Rattle.nvme_command.specs.Causes.{CauseClosed}
 
 -- why an opened image has no front is why it is closed
-pub closed_by : (x : Fault) (name : List ℕ) (old between new : RigState) → HasOpened name old between new → between.standing.devices ≡ length (units_of between.standing.head) → new.armed ≡ between.armed →
+pub closed_by : (x : Refusal) (name : List ℕ) (old between new : RigState) → HasOpened name old between new → between.standing.devices ≡ length (units_of between.standing.head) → new.armed ≡ between.armed →
     CauseNoFront x between.standing between.units between.log new.log between.image new.image → CauseClosed x name old new
-closed_by (fault.Image f) name old between new since counted armed c = absurd c
-closed_by (fault.BadCapacity dev) name old between new since counted armed c = record { between = between; since = since; armed = armed ∙ since.kept.armed; fault = c.0; untold = c.1 }
-closed_by fault.RigFault name old between new since counted armed c = absurd c
-closed_by fault.Memory name old between new since counted armed (inl c) =
+closed_by (refusal.BadCapacity dev) name old between new since counted armed c = record { between = between; since = since; armed = armed ∙ since.kept.armed; fault = c.0; untold = c.1 }
+closed_by refusal.Memory name old between new since counted armed (inl c) =
     let first = since.kept.count in
     let more = since.count in
     inl (
       record { image = c.1 ∙ since.kept.image; armed = armed ∙ since.kept.armed; log = c.0 ∙ since.kept.log; count = omega (arith, first, more) },
       inr (ap (λ (s : Standing). s.openings) since.standing ∙ since.opened.opened.0, ap (λ (s : Standing). s.name) since.standing ∙ since.opened.opened.1),
     )
-closed_by fault.Memory name old between new since counted armed (inr c) = inr (c.0, record { between = between; since = since; counted = counted; found = c.1 }, armed ∙ since.kept.armed)
+closed_by refusal.Memory name old between new since counted armed (inr c) = inr (c.0, record { between = between; since = since; counted = counted; found = c.1 }, armed ∙ since.kept.armed)
+closed_by _ name old between new since counted armed c = absurd c

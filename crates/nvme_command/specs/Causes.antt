@@ -9,17 +9,15 @@ use Rattle.script_lines.specs.declared.kind.ScriptKind.TheVariants.{TooMany}
 use Rattle.volume_table.specs.declared.device.DeviceInfo.{DeviceInfo}
 use Rattle.rig_discovery.specs.Discovery.{HasFound}
 use Rattle.image_commands.specs.Causes.{CauseUntold, HasOpened}
-use Rattle.image_commands.specs.declared.fault.Fault.{Fault}
-use Rattle.image_commands.specs.declared.fault.Fault.TheVariants as fault
+use Rattle.call_refusal.specs.declared.refusal.Refusal.{Refusal}
+use Rattle.call_refusal.specs.declared.refusal.Refusal.TheVariants as refusal
 use Rattle.nvme_front.specs.Answers.{HasDevices}
 use Rattle.nvme_lines.specs.Texts.{text_in}
 use Rattle.nvme_lines.specs.declared.line.NvmLine.{NvmLine}
-use Rattle.nvme_lines.specs.declared.read.LineFault.{LineFault}
+use Rattle.script_text.specs.declared.fault.ScriptFault.{ScriptFault}
 use Rattle.nvme_command.specs.Done.{Came, CameInPart, replies_over, units_over}
 use Rattle.nvme_command.specs.Fits.{misfit}
 use Rattle.nvme_command.specs.Replies.{has_failed, replies_text}
-use Rattle.nvme_command.specs.declared.fault.NvmFault.{NvmFault}
-use Rattle.nvme_command.specs.declared.fault.NvmFault.TheVariants.{Line, Image, Source}
 
 -- What a call comes to: the commands done, or why not.
 
@@ -30,7 +28,7 @@ pub record HasLines (lines : List NvmLine) (left left' : Option (List ℕ)) : Ty
   pub lines_are : text_in text ≡ Ok lines
 
 -- The source was read to its end and held a text with this first fault, or more than a text may have.
-abbrev pub HasNoLines : LineFault → Option (List ℕ) → Option (List ℕ) → Type 0
+abbrev pub HasNoLines : ScriptFault → Option (List ℕ) → Option (List ℕ) → Type 0
 HasNoLines f left left' = ((text : List ℕ) × IsWhole text left left' × (text_in text ≡ Err f)) ⊎ ((f ≡ record { line = 0; kind = TooMany }) × IsOver left left')
 
 -- The image of this name was opened, and its devices told what they are.
@@ -47,7 +45,7 @@ pub record HasTold (name : List ℕ) (devices : List DeviceInfo) (old new : RigS
   pub devices_are : HasDevices devices new.standing new.units
 
 -- The metadata of this line don't fit its command, and no command was done.
-pub record HasMisfit (f : LineFault) (name : List ℕ) (lines : List NvmLine) (old new : RigState) : Type 0 where
+pub record HasMisfit (f : ScriptFault) (name : List ℕ) (lines : List NvmLine) (old new : RigState) : Type 0 where
   pub devices : List DeviceInfo
   pub told : HasTold name devices old new
   pub line_is : misfit devices lines ≡ Some f
@@ -72,29 +70,22 @@ pub record HasDone (name : List ℕ) (lines : List NvmLine) (text : List ℕ) (b
   pub laid : new.units ≡ units_told new.standing new.image
 
 -- Why it isn't known what the devices of an image are: it isn't opened, a device's answer is at fault, or there is no memory, also behind the last answer. The armed faults are as before.
-abbrev pub CauseClosed : Fault → (name : List ℕ) → RigState → RigState → Type 0
-CauseClosed (fault.Image f) name old new = CauseUntold (fault.Image f) name old new
-CauseClosed (fault.BadCapacity dev) name old new = CauseUntold (fault.BadCapacity dev) name old new
-CauseClosed fault.RigFault name old new = CauseUntold fault.RigFault name old new
-CauseClosed fault.Memory name old new = CauseUntold fault.Memory name old new ⊎ ((devices : List DeviceInfo) × HasAsked name devices old new × (new.armed ≡ old.armed))
+abbrev pub CauseClosed : Refusal → (name : List ℕ) → RigState → RigState → Type 0
+CauseClosed refusal.Memory name old new = CauseUntold refusal.Memory name old new ⊎ ((devices : List DeviceInfo) × HasAsked name devices old new × (new.armed ≡ old.armed))
+CauseClosed why name old new = CauseUntold why name old new
 
 -- Why no command of an opened image is done, or not all are. What was found of the lines comes before.
-abbrev pub CauseUndone : NvmFault → (name : List ℕ) → List NvmLine → RigState → RigState → Type 0
-CauseUndone (Line f) name lines old new = HasMisfit f name lines old new
-CauseUndone (Image (fault.Image f)) name lines old new = CauseClosed (fault.Image f) name old new
-CauseUndone (Image (fault.BadCapacity dev)) name lines old new = CauseClosed (fault.BadCapacity dev) name old new
-CauseUndone (Image fault.RigFault) name lines old new = CauseClosed fault.RigFault name old new
-CauseUndone (Image fault.Memory) name lines old new = CauseClosed fault.Memory name old new ⊎ HasDoneInPart name lines old new
-CauseUndone Source name lines old new = ⊥
+abbrev pub CauseUndone : Refusal → (name : List ℕ) → List NvmLine → RigState → RigState → Type 0
+CauseUndone (refusal.Script f) name lines old new = HasMisfit f name lines old new
+CauseUndone refusal.Memory name lines old new = CauseClosed refusal.Memory name old new ⊎ HasDoneInPart name lines old new
+CauseUndone why name lines old new = CauseClosed why name old new
 
 -- Why the source's lines aren't read.
-abbrev pub CauseUnread : NvmFault → (left left' : Option (List ℕ)) → (reads reads' : ℕ) → Type 0
-CauseUnread (Line f) left left' reads reads' = HasNoLines f left left'
-CauseUnread (Image (fault.Image f)) left left' reads reads' = ⊥
-CauseUnread (Image (fault.BadCapacity dev)) left left' reads reads' = ⊥
-CauseUnread (Image fault.RigFault) left left' reads reads' = ⊥
-CauseUnread (Image fault.Memory) left left' reads reads' = Unit {0}
-CauseUnread Source left left' reads reads' = Rose reads reads'
+abbrev pub CauseUnread : Refusal → (left left' : Option (List ℕ)) → (reads reads' : ℕ) → Type 0
+CauseUnread (refusal.Script f) left left' reads reads' = HasNoLines f left left'
+CauseUnread refusal.Memory left left' reads reads' = Unit {0}
+CauseUnread refusal.ReadFault left left' reads reads' = Rose reads reads'
+CauseUnread _ left left' reads reads' = ⊥
 
 -- The commands of the source's lines were done on the image of this name.
 pub record WereDone (name text : List ℕ) (bad : Bool) (left left' : Option (List ℕ)) (old new : RigState) : Type 0 where
@@ -103,6 +94,6 @@ pub record WereDone (name text : List ℕ) (bad : Bool) (left left' : Option (Li
   pub done : HasDone name lines text bad old new
 
 -- Why not: the lines aren't read, and the rig is as it was; or they are, and what comes behind is at fault.
-abbrev pub CauseNotDone : NvmFault → (name : List ℕ) → (left left' : Option (List ℕ)) → (reads reads' : ℕ) → RigState → RigState → Type 0
+abbrev pub CauseNotDone : Refusal → (name : List ℕ) → (left left' : Option (List ℕ)) → (reads reads' : ℕ) → RigState → RigState → Type 0
 CauseNotDone f name left left' reads reads' old new =
     (CauseUnread f left left' reads reads' × (new ≡ old)) ⊎ ((lines : List NvmLine) × HasLines lines left left' × CauseUndone f name lines old new)

@@ -6,7 +6,7 @@ use Rattle.nvme_front.specs.Refusals.{device_at, meta_len, refusal}
 use Rattle.nvme_front.specs.declared.command.NvmCommand.{NvmCommand}
 use Rattle.nvme_front.specs.declared.completion.Completion.{Completion}
 use Rattle.nvme_lines.specs.declared.line.NvmLine.{NvmLine}
-use Rattle.nvme_lines.specs.declared.read.LineFault.{LineFault}
+use Rattle.script_text.specs.declared.fault.ScriptFault.{ScriptFault}
 
 -- Which metadata fit a line's command.
 
@@ -30,6 +30,6 @@ abbrev pub fits : List DeviceInfo → NvmLine → Bool
 fits devices l = fits_by (refusal devices (command_of l)) (eqb (length l.meta) (meta_wanted (command_of l) (meta_len (device_of_line devices l).ty (command_of l))))
 
 -- the first line that has others
-abbrev pub misfit : List DeviceInfo → List NvmLine → Option LineFault
+abbrev pub misfit : List DeviceInfo → List NvmLine → Option ScriptFault
 misfit devices [] = None
 misfit devices (l ∷ ls) = if fits devices l then misfit devices ls else Some (record { line = l.number; kind = BadRange })

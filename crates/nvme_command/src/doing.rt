@@ -1,74 +1,42 @@
 //! The whole: source, image, commands.
 
-ghost use Rattle.std.specs.Prelude.{◌≡◌, ◌⊎◌, [], MatchResult, OnOk};
+ghost use Rattle.std.specs.Prelude.{◌≡◌, [], MatchResult, OnOk};
 ghost use Rattle.nvme_command.specs.Causes.{CauseClosed, CauseNotDone, CauseUndone, CauseUnread, HasDone, HasLines, HasTold, WereDone};
 
-use crate::fault::NvmFault;
 use crate::fitting::misfit;
 use crate::session::{Done, do_lines};
+use call_refusal::Refusal;
 use dix_base::Source;
 use fault_schedule::FaultList;
-use image_commands::{Fault, open_image};
+use image_commands::open_image;
 use nvme_front::NvmFront;
-use nvme_lines::{LineFault, NvmLine, read_lines};
+use nvme_lines::{NvmLine, read_lines};
 use nvme_session::front_of;
 use rig_api::Rig;
-use script_lines::ScriptKind;
-use source_text::{Unread, read_all};
+use source_text::read_all;
 use std::alloc::Global;
 
-/// The fault of a text that is too long.
-const TOO_LONG: LineFault = LineFault {
-    line: 0,
-    kind: ScriptKind::TooMany,
-};
-
 /// Reads the source to its end, and its lines.
-fn lines_of<S: Source>(alloc: Global, source: &mut S) -> Result<Vec<NvmLine>, NvmFault>
+fn lines_of<S: Source>(alloc: Global, source: &mut S) -> Result<Vec<NvmLine>, Refusal>
     ensures { MatchResult result (λ v. HasLines v.items (S.left source.old) (S.left source.new))
         (λ f. CauseUnread f (S.left source.old) (S.left source.new) (S.faults source.old) (S.faults source.new)) }
 {
-    let text = match read_all(alloc, source) {
-        Ok(text) => text,
-        Err(Unread::Failed) => return Err(NvmFault::Source),
-        Err(Unread::Memory) => return Err(NvmFault::Image(Fault::Memory)),
-        Err(Unread::TooMany) => return Err(NvmFault::Line(TOO_LONG)),
-    };
-    match read_lines(alloc, &text) {
-        Ok(lines) => Ok(lines),
-        Err(fault) => Err(unread(fault)),
-    }
-}
-
-/// Want of memory is no fault of a line.
-fn unread(fault: LineFault) -> NvmFault
-    ensures { (result ≡ NvmFault.Image Fault.Memory) ⊎ ((result ≡ NvmFault.Line fault) × (fault.kind ≡ ScriptKind.Memory → ⊥)) }
-{
-    match fault.kind {
-        ScriptKind::Memory => NvmFault::Image(Fault::Memory),
-        _ => NvmFault::Line(fault),
-    }
+    let text = read_all(alloc, source)?;
+    Ok(read_lines(alloc, &text)?)
 }
 
 /// Opens the image of this name and asks its devices what they are. No fault is armed then; after a fault
 /// those are that were.
-fn open<R: Rig>(alloc: Global, name: &str, rig: &mut R) -> Result<NvmFront, Fault>
+fn open<R: Rig>(alloc: Global, name: &str, rig: &mut R) -> Result<NvmFront, Refusal>
     ensures told { let old = R.state rig.old in
         let new = R.state rig.new in
         MatchResult result (λ f. HasTold name.now f old new) (λ f. CauseClosed f name.now old new) }
     ensures calm { OnOk result ((R.state rig.new).armed ≡ []) }
 {
-    match open_image(alloc, name, rig) {
-        Ok(()) => {}
-        Err(fault) => return Err(fault),
-    }
-    match front_of(alloc, rig) {
-        Ok(front) => {
-            rig.arm(FaultList::from_vec(Vec::new(alloc)));
-            Ok(front)
-        }
-        Err(fault) => Err(fault),
-    }
+    open_image(alloc, name, rig)?;
+    let front = front_of(alloc, rig)?;
+    rig.arm(FaultList::from_vec(Vec::new(alloc)));
+    Ok(front)
 }
 
 /// Does the commands of these lines on the image of this name.
@@ -77,23 +45,17 @@ fn do_opened<R: Rig>(
     name: &str,
     lines: &[NvmLine],
     rig: &mut R,
-) -> Result<Done, NvmFault>
+) -> Result<Done, Refusal>
     ensures { let old = R.state rig.old in
         let new = R.state rig.new in
         MatchResult result (λ d. HasDone name.now lines.now d.text.items d.bad old new) (λ f. CauseUndone f name.now lines.now old new) }
 {
-    let mut front = match open(alloc, name, rig) {
-        Ok(front) => front,
-        Err(fault) => return Err(NvmFault::Image(fault)),
-    };
+    let mut front = open(alloc, name, rig)?;
     match misfit(&front, lines) {
         None => {}
-        Some(fault) => return Err(NvmFault::Line(fault)),
+        Some(fault) => return Err(Refusal::Script(fault)),
     }
-    match do_lines(alloc, &mut front, lines, rig) {
-        Ok(done) => Ok(done),
-        Err(_) => Err(NvmFault::Image(Fault::Memory)),
-    }
+    Ok(do_lines(alloc, &mut front, lines, rig)?)
 }
 
 /// Reads the source to its end, opens the image of this name, asks its devices what they are, and does
@@ -106,15 +68,12 @@ pub fn do_commands<S: Source, R: Rig>(
     name: &str,
     source: &mut S,
     rig: &mut R,
-) -> Result<Done, NvmFault>
+) -> Result<Done, Refusal>
     ensures { let old = R.state rig.old in
         let new = R.state rig.new in
         MatchResult result (λ d. WereDone name.now d.text.items d.bad (S.left source.old) (S.left source.new) old new)
         (λ f. CauseNotDone f name.now (S.left source.old) (S.left source.new) (S.faults source.old) (S.faults source.new) old new) }
 {
-    let lines = match lines_of(alloc, source) {
-        Ok(lines) => lines,
-        Err(fault) => return Err(fault),
-    };
+    let lines = lines_of(alloc, source)?;
     do_opened(alloc, name, &lines, rig)
 }

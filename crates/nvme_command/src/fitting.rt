@@ -4,8 +4,9 @@ ghost use Rattle.std.specs.Prelude.{◌≡◌};
 ghost use Rattle.nvme_command.specs.Fits.{fits, meta_wanted, misfit};
 
 use nvme_front::{NvmCommand, NvmFront};
-use nvme_lines::{LineFault, NvmLine};
+use nvme_lines::NvmLine;
 use script_lines::ScriptKind;
+use script_text::ScriptFault;
 
 /// The bytes of metadata that a line needs: those of a write; a read takes none.
 fn meta_wanted(command: &NvmCommand, meta: u32) -> u32
@@ -28,12 +29,12 @@ fn fits(front: &NvmFront, line: &NvmLine) -> bool
 }
 
 /// The first line whose metadata don't fit.
-pub(crate) fn misfit(front: &NvmFront, lines: &[NvmLine]) -> Option<LineFault>
+pub(crate) fn misfit(front: &NvmFront, lines: &[NvmLine]) -> Option<ScriptFault>
     ensures { result ≡ misfit front.now lines.now }
 {
     for line in lines {
         if !fits(front, line) {
-            return Some(LineFault {
+            return Some(ScriptFault {
                 line: line.number,
                 kind: ScriptKind::BadRange,
             });

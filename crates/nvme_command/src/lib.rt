@@ -3,11 +3,9 @@
 #![tactic(auto)]
 
 mod doing;
-mod fault;
 mod fitting;
 mod session;
 mod text;
 
 pub use doing::do_commands;
-pub use fault::NvmFault;
 pub use session::Done;

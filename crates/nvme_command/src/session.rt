@@ -76,17 +76,10 @@ fn do_line<R: Rig>(
     ensures armed { (R.state rig.new).armed ≡ (R.state rig.old).armed }
     ensures front { front.new ≡ front.old }
 {
-    let reply = match answered(alloc, front, line, rig) {
-        Ok(reply) => reply,
-        Err(error) => return Err(error),
-    };
-    match add_reply(alloc, &mut done.text, &NvmCommand::of(&line.sqe), &reply) {
-        Ok(()) => {
-            done.bad = worse(done.bad, reply.completion);
-            Ok(())
-        }
-        Err(error) => Err(error),
-    }
+    let reply = answered(alloc, front, line, rig)?;
+    add_reply(alloc, &mut done.text, &NvmCommand::of(&line.sqe), &reply)?;
+    done.bad = worse(done.bad, reply.completion);
+    Ok(())
 }
 
 /// Does the commands of the lines, in order.
@@ -107,10 +100,7 @@ pub(crate) fn do_lines<R: Rig>(
         bad: false,
     };
     for line in lines {
-        match do_line(alloc, front, line, rig, &mut done) {
-            Ok(()) => {}
-            Err(error) => return Err(error),
-        }
+        do_line(alloc, front, line, rig, &mut done)?;
     }
     Ok(done)
 }

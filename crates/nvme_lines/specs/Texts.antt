@@ -4,7 +4,7 @@ use Rattle.script_lines.specs.declared.kind.ScriptKind.{ScriptKind}
 use Rattle.script_lines.specs.declared.kind.ScriptKind.TheVariants.{LongLine, Memory, NotAscii, TooMany}
 use Rattle.nvme_lines.specs.Lines.{line_form}
 use Rattle.nvme_lines.specs.declared.line.NvmLine.{NvmLine}
-use Rattle.nvme_lines.specs.declared.read.LineFault.{LineFault}
+use Rattle.script_text.specs.declared.fault.ScriptFault.{ScriptFault}
 
 -- A text of NVM commands, line by line. A line without words, or whose first word begins with #, is skipped.
 
@@ -27,17 +27,17 @@ text_taken number line so_far =
     if not (is_plain line) then Err NotAscii
     else (if nat_lt 4096 (length line) then Err LongLine else words_taken number (words_of line) so_far)
 
-abbrev pub go_on : (number : ℕ) → Result (List NvmLine) ScriptKind → (List NvmLine → Result (List NvmLine) LineFault) → Result (List NvmLine) LineFault
+abbrev pub go_on : (number : ℕ) → Result (List NvmLine) ScriptKind → (List NvmLine → Result (List NvmLine) ScriptFault) → Result (List NvmLine) ScriptFault
 go_on number (Err k) more = Err (record { line = number; kind = k })
 go_on number (Ok so_far) more = more so_far
 
 -- the lines from this number on, behind those that were read, or the first fault with its line
-abbrev pub lines_read : (number : ℕ) → List (List ℕ) → List NvmLine → Result (List NvmLine) LineFault
+abbrev pub lines_read : (number : ℕ) → List (List ℕ) → List NvmLine → Result (List NvmLine) ScriptFault
 lines_read number [] so_far = Ok so_far
 lines_read number (line ∷ lines) so_far = go_on number (text_taken number line so_far) (λ next. lines_read (number + 1) lines next)
 
 -- the lines of a text, which has at most 4,194,304 bytes, or its first fault
-abbrev pub text_in : List ℕ → Result (List NvmLine) LineFault
+abbrev pub text_in : List ℕ → Result (List NvmLine) ScriptFault
 text_in text = if nat_lt 4194304 (length text) then Err (record { line = 0; kind = TooMany }) else lines_read 1 (lines_of text) []
 
 -- A reader gave this and now has so many lines, or wanted memory.
@@ -46,6 +46,6 @@ Takes want (Ok u) after = want ≡ Ok after
 Takes want (Err k) after = (k ≡ Memory) ⊎ (want ≡ Err k)
 
 -- The answer is that of the text, or want of memory.
-abbrev pub Answers : Result (List NvmLine) LineFault → Result (List NvmLine) LineFault → Type 0
+abbrev pub Answers : Result (List NvmLine) ScriptFault → Result (List NvmLine) ScriptFault → Type 0
 Answers want (Ok lines) = want ≡ Ok lines
 Answers want (Err fault) = (fault.kind ≡ Memory) ⊎ (want ≡ Err fault)

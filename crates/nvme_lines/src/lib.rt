@@ -6,4 +6,4 @@ mod line;
 mod read;
 
 pub use line::NvmLine;
-pub use read::{LineFault, read_lines};
+pub use read::read_lines;

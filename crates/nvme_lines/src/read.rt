@@ -7,6 +7,7 @@ ghost use Rattle.nvme_lines.specs.Texts.{Takes, is_comment, lines_read, text_in,
 
 use crate::line::{NvmLine, line_of};
 use script_lines::{ScriptKind, Words};
+use script_text::ScriptFault;
 use script_words::{is_plain, next_line, next_word};
 use std::alloc::Global;
 
@@ -16,16 +17,6 @@ const MOST_BYTES: usize = 4_194_304;
 const LONGEST: usize = 4096;
 /// A text has at most this many lines with words.
 const MOST_LINES: usize = 1024;
-
-/// The first fault of a text.
-#[derive(Clone, Copy, Debug, PartialEq, Eq)]
-pub struct LineFault {
-    /// The number of the line, from 1; 0 where the text as a whole is too long.
-    pub line: u32,
-    /// What is wrong with it: `NotAscii`, `LongLine`, `BadNumber`, `MissingWord`, `ExtraWord` or
-    /// `TooMany`; or want of memory.
-    pub kind: ScriptKind,
-}
 
 /// Whether a line with this first word is skipped.
 fn is_comment(first: &[u8]) -> bool
@@ -88,12 +79,12 @@ fn take_text(
 /// that is skipped; then the words from left to right are `MissingWord`, `BadNumber` or, behind the
 /// third, `ExtraWord`; and the 1,025th line with words is `TooMany`. A text of more than 4,194,304
 /// bytes is `TooMany` at line 0. `Memory`, at any line, is want of memory.
-pub fn read_lines(alloc: Global, text: &[u8]) -> Result<Vec<NvmLine>, LineFault>
+pub fn read_lines(alloc: Global, text: &[u8]) -> Result<Vec<NvmLine>, ScriptFault>
     ensures lines { IfOk result (λ v. text_in text.now ≡ Ok v.items) }
     ensures fault { IfErr result (λ f. (f.kind ≡ ScriptKind.Memory) ⊎ (text_in text.now ≡ Err f)) }
 {
     if text.len() > MOST_BYTES {
-        return Err(LineFault {
+        return Err(ScriptFault {
             line: 0,
             kind: ScriptKind::TooMany,
         });
@@ -103,7 +94,7 @@ pub fn read_lines(alloc: Global, text: &[u8]) -> Result<Vec<NvmLine>, LineFault>
     let mut rest = text;
     while let Some((first, behind)) = next_line(rest) {
         if let Err(kind) = take_text(alloc, &mut lines, number, first) {
-            return Err(LineFault { line: number, kind });
+            return Err(ScriptFault { line: number, kind });
         }
         number += 1;
         rest = behind;

@@ -5,20 +5,19 @@ use Rattle.rig_api.specs.State.{RigState}
 use Rattle.rig_api.specs.Telling.{Standing}
 use Rattle.volume_table.specs.declared.device.DeviceInfo.{DeviceInfo}
 use Rattle.rig_discovery.specs.Discovery.{HasFault, HasFound}
-use Rattle.image_commands.specs.declared.fault.Fault.{Fault}
 use Rattle.nvme_front.specs.Refusals.{body_len, device_at, meta_len, refusal}
 use Rattle.nvme_front.specs.Results.{IsAnswered}
 use Rattle.nvme_front.specs.declared.command.NvmCommand.{NvmCommand}
 use Rattle.nvme_front.specs.declared.completion.Completion.{Completion}
 use Rattle.nvme_session.specs.declared.doing.NvmReply.{NvmReply}
-use Rattle.image_commands.specs.declared.fault.Fault.TheVariants as fault
+use Rattle.call_refusal.specs.declared.refusal.Refusal.{Refusal}
+use Rattle.call_refusal.specs.declared.refusal.Refusal.TheVariants as stop
 
 -- Why there is no front of a rig's devices: a device's answer is at fault, and then the blocks aren't told; or there is no memory, before the first device was asked or behind the last.
-abbrev pub CauseNoFront : Fault → Standing → Option (List Stored) → (old new : List Entry) → (image image' : Option (List ℕ)) → Type 0
-CauseNoFront (fault.Image f) s units old new image image' = ⊥
-CauseNoFront (fault.BadCapacity dev) s units old new image image' = HasFault s dev old new × (is_some units ≡ false)
-CauseNoFront fault.RigFault s units old new image image' = ⊥
-CauseNoFront fault.Memory s units old new image image' = ((new ≡ old) × (image' ≡ image)) ⊎ ((devices : List DeviceInfo) × HasFound s devices old new)
+abbrev pub CauseNoFront : Refusal → Standing → Option (List Stored) → (old new : List Entry) → (image image' : Option (List ℕ)) → Type 0
+CauseNoFront (stop.BadCapacity dev) s units old new image image' = HasFault s dev old new × (is_some units ≡ false)
+CauseNoFront stop.Memory s units old new image image' = ((new ≡ old) × (image' ≡ image)) ⊎ ((devices : List DeviceInfo) × HasFound s devices old new)
+CauseNoFront _ s units old new image image' = ⊥
 
 -- the metadata that a command gets: those that are given, where they are as many as it takes, else zeros
 abbrev pub given : (n : ℕ) → List ℕ → List ℕ

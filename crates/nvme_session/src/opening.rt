@@ -7,7 +7,7 @@ ghost use Rattle.rig_discovery.specs.Discovery.{HasFound};
 ghost use Rattle.nvme_front.specs.Answers.{HasDevices};
 ghost use Rattle.nvme_session.specs.Sessions.{CauseNoFront};
 
-use image_commands::Fault;
+use call_refusal::Refusal;
 use nvme_front::NvmFront;
 use rig_api::Rig;
 use rig_discovery::discover;
@@ -16,7 +16,7 @@ use std::alloc::Global;
 /// Asks each device of a rig, whose image is open, what it is, and makes a front of them.
 /// `BadCapacity` comes exactly where an answer is at fault, and names the first such device; a rig
 /// that tells its blocks never causes it. No stored block changes.
-pub fn front_of<R: Rig>(alloc: Global, rig: &mut R) -> Result<NvmFront, Fault>
+pub fn front_of<R: Rig>(alloc: Global, rig: &mut R) -> Result<NvmFront, Refusal>
     requires right { head_fault (R.state rig.old).standing.head ≡ None }
     requires devices { (R.state rig.old).standing.devices ≡ length (units_of (R.state rig.old).standing.head) }
     ensures devices { IfOk result (λ f. HasDevices f (R.state rig.new).standing (R.state rig.new).units) }
@@ -26,16 +26,7 @@ pub fn front_of<R: Rig>(alloc: Global, rig: &mut R) -> Result<NvmFront, Fault>
     ensures stays { Stays (R.state rig.old) (R.state rig.new) }
 {
     let count = rig.devices();
-    match rig.reserve(alloc, count, 0) {
-        Ok(()) => {}
-        Err(_) => return Err(Fault::Memory),
-    }
-    let devices = match discover(rig) {
-        Ok(devices) => devices,
-        Err(bad) => return Err(Fault::BadCapacity { dev: bad.dev }),
-    };
-    match NvmFront::new(alloc, &devices) {
-        Ok(front) => Ok(front),
-        Err(_) => Err(Fault::Memory),
-    }
+    rig.reserve(alloc, count, 0)?;
+    let devices = discover(rig)?;
+    Ok(NvmFront::new(alloc, &devices)?)
 }

@@ -10,8 +10,8 @@ use Rattle.script_text.specs.declared.fault.ScriptFault.{ScriptFault}
 use Rattle.script_text.specs.declared.script.Script.{Script}
 use Rattle.script_verdict.proofs.Completing.{complete}
 use Rattle.script_verdict.specs.Verdict.{CauseRefused, Facts, HasRead, HoldsFault, IsFromOutside, devices_of, table_over}
-use Rattle.script_verdict.specs.declared.refusal.Refusal.{Refusal}
-use Rattle.script_verdict.specs.declared.refusal.Refusal.TheVariants as refusal
+use Rattle.call_refusal.specs.declared.refusal.Refusal.{Refusal}
+use Rattle.call_refusal.specs.declared.refusal.Refusal.TheVariants as refusal
 use Rattle.script_verdict.proofs.Refusing.{within}
 use Rattle.rig_api.specs.Head.{head_fault, head_of}
 use Rattle.rig_api.specs.State.{RigState}

@@ -7,9 +7,9 @@ use Rattle.script_text.specs.Bindings.{binding_fault}
 use Rattle.script_text.specs.Language.{script_in}
 use Rattle.script_text.specs.declared.fault.ScriptFault.{ScriptFault}
 use Rattle.script_text.specs.declared.script.Script.{Script}
-use Rattle.script_verdict.specs.Verdict.{CauseRefused, CauseStopped, Facts, HasRead, HasRun, IsFromOutside, IsUnbound, StoppedShort, devices_of, table_over}
-use Rattle.script_verdict.specs.declared.refusal.Refusal.{Refusal}
-use Rattle.script_verdict.specs.declared.refusal.Refusal.TheVariants as refusal
+use Rattle.script_verdict.specs.Verdict.{CauseRefused, CauseStopped, Facts, HasRead, HasRun, IsFromOutside, IsUnbound, devices_of, table_over}
+use Rattle.call_refusal.specs.declared.refusal.Refusal.{Refusal}
+use Rattle.call_refusal.specs.declared.refusal.Refusal.TheVariants as refusal
 use Rattle.source_text.specs.Reading.{IsWhole, most_bytes}
 use Rattle.volume_table.specs.Faults.{table_fault}
 use Rattle.run_words.specs.Sites.{Guides, IsGuideOf}
@@ -57,12 +57,7 @@ pub record HasMarked (said : List ℕ) (f : Facts) : Type 0 where
 -- why a call comes to no run, but for a script at fault
 abbrev pub CauseNotRun : Refusal → Facts → Type 0
 CauseNotRun (refusal.Script bad) f = ⊥
-CauseNotRun (refusal.Image x) f = CauseRefused (refusal.Image x) f
-CauseNotRun (refusal.BadCapacity dev) f = CauseRefused (refusal.BadCapacity dev) f
-CauseNotRun (refusal.Volume entry kind) f = CauseRefused (refusal.Volume entry kind) f
-CauseNotRun refusal.RigFault f = CauseRefused refusal.RigFault f
-CauseNotRun refusal.Memory f = CauseRefused refusal.Memory f
-CauseNotRun refusal.ReadFault f = CauseRefused refusal.ReadFault f
+CauseNotRun why f = CauseRefused why f
 
 -- why nothing is explained
 abbrev pub CauseUnexplained : Unexplained → Facts → Type 0
@@ -77,12 +72,7 @@ pub record MarksUnbound (said : List ℕ) (text : List ℕ) (script : Script) (n
 
 abbrev pub CauseHalted : Refusal → Script → List ℕ → RigState → RigState → Type 0
 CauseHalted (refusal.Script bad) script name old new = ⊥
-CauseHalted (refusal.Image x) script name old new = CauseStopped (refusal.Image x) script name old new
-CauseHalted (refusal.BadCapacity dev) script name old new = CauseStopped (refusal.BadCapacity dev) script name old new
-CauseHalted (refusal.Volume entry kind) script name old new = CauseStopped (refusal.Volume entry kind) script name old new
-CauseHalted refusal.RigFault script name old new = CauseStopped refusal.RigFault script name old new
-CauseHalted refusal.Memory script name old new = StoppedShort name old new
-CauseHalted refusal.ReadFault script name old new = ⊥
+CauseHalted why script name old new = CauseStopped why script name old new
 
 abbrev pub CauseUnrun : Unexplained → (text : List ℕ) → Script → List ℕ → RigState → RigState → Type 0
 CauseUnrun (Marked said) text script name old new = MarksUnbound said.items text script name old new

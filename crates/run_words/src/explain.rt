@@ -9,12 +9,13 @@ ghost use Rattle.script_verdict.specs.Working.{IsSound};
 ghost use Rattle.run_words.specs.Explained.{CauseUnexplained, CauseUnrun, ExplainsText, HasExplained, IsComplete, IsHaltOf, IsSaid, WasExplained};
 
 use crate::guide::Guide;
+use call_refusal::{Refusal, TOO_LONG};
 use dix_base::Source;
 use fault_marks::marked_text;
 use rig_api::Rig;
 use script_laws::a_read_script_keeps_the_rules;
 use script_text::{Script, ScriptFault, ScriptKind, read_script};
-use script_verdict::{Finished, Refusal, TOO_LONG, run_script};
+use script_verdict::{Finished, run_script};
 use source_text::{Unread, read_all};
 use std::alloc::Global;
 

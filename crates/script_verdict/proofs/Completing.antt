@@ -26,8 +26,8 @@ use Rattle.source_text.proofs.Taking.{most_is, whole_text}
 use Rattle.source_text.specs.Reading.{IsOver}
 use Rattle.script_verdict.specs.Verdict.{CauseRefused, CauseStopped, CauseUntaken, Facts, HasBadVolume, HasRead, HasRunSource, HasTable, HoldsFault, IsComplete, IsUnbound, StopsFromOutside, devices_of, table_over}
 use Rattle.script_verdict.specs.declared.verdict.Finished.{Finished}
-use Rattle.script_verdict.specs.declared.refusal.Refusal.{Refusal}
-use Rattle.script_verdict.specs.declared.refusal.Refusal.TheVariants as refusal
+use Rattle.call_refusal.specs.declared.refusal.Refusal.{Refusal}
+use Rattle.call_refusal.specs.declared.refusal.Refusal.TheVariants as refusal
 
 pub never_rose : (o n : ℕ) → Calm o n → Rose o n → ⊥
 never_rose o n c (inl r) = omega (arith, c.0, r)
@@ -104,12 +104,9 @@ stops_from_outside refusal.ReadFault script name old new c = absurd c
 -- a source without a fault gives its script
 pub untaken_for_memory : (r : Refusal) (f : Facts) (text : List ℕ) (script : Script) → f.left ≡ Some text → script_in text ≡ Ok script → Calm f.reads f.reads_after → CauseUntaken r f.left f.left_after f.reads f.reads_after → r ≡ refusal.Memory
 untaken_for_memory (refusal.Script bad) f text script l s calm c = absurd (not_faulty f text script bad l s c)
-untaken_for_memory (refusal.Image x) f text script l s calm c = absurd c
-untaken_for_memory (refusal.BadCapacity dev) f text script l s calm c = absurd c
-untaken_for_memory (refusal.Volume entry kind) f text script l s calm c = absurd c
-untaken_for_memory refusal.RigFault f text script l s calm c = absurd c
 untaken_for_memory refusal.Memory f text script l s calm c = refl
 untaken_for_memory refusal.ReadFault f text script l s calm c = absurd (never_rose f.reads f.reads_after calm c.0)
+untaken_for_memory _ f text script l s calm c = absurd c
 
 pub complete : (r : Refusal) (f : Facts) → CauseRefused r f → IsComplete r f
 complete r f (inl c) = λ text image script l s i h t b cr. inl (untaken_for_memory r f text script l s cr c.0)

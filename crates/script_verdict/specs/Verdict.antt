@@ -7,7 +7,6 @@ use Rattle.page_pool.specs.Pages.{IsBlank}
 use Rattle.dix_adapter.specs.Groups.{mode_of}
 use Rattle.image_commands.specs.Causes.{CauseUntold, WasTold}
 use Rattle.image_commands.specs.Views.{HasKept, OpenedOnce}
-use Rattle.image_commands.specs.declared.fault.Fault.TheVariants as fault
 use Rattle.rig_api.specs.Head.{head_fault, head_of, units_of}
 use Rattle.rig_api.specs.State.{RigState}
 use Rattle.rig_discovery.specs.Discovery.{info_of}
@@ -52,8 +51,8 @@ pub use Rattle.script_verdict.specs.Premises.{opening_told, setting_told}
 use Rattle.script_verdict.specs.Fallen.{HasServed}
 use Rattle.script_verdict.specs.Layers.{NamesFaults, NamesLayers}
 use Rattle.script_verdict.specs.Premises.{IsDetectableRun, IsFormedRun, IsPlainRun, IsQuietRun}
-use Rattle.script_verdict.specs.declared.refusal.Refusal.{Refusal}
-use Rattle.script_verdict.specs.declared.refusal.Refusal.TheVariants as refusal
+use Rattle.call_refusal.specs.declared.refusal.Refusal.{Refusal}
+use Rattle.call_refusal.specs.declared.refusal.Refusal.TheVariants as refusal
 use Rattle.script_verdict.specs.declared.verdict.Finished.{Finished}
 
 -- what a call speaks of: the name of the image, and the source and the rig, before and after
@@ -108,22 +107,16 @@ StoppedShort name old new = (HasKept old new × OpenedOnce name old.standing new
 -- Why a script comes to no run over the image of this name, and what that leaves.
 abbrev pub CauseStopped : Refusal → Script → List ℕ → RigState → RigState → Type 0
 CauseStopped (refusal.Script bad) script name old new = IsUnbound bad script name old new
-CauseStopped (refusal.Image x) script name old new = CauseUntold (fault.Image x) name old new
-CauseStopped (refusal.BadCapacity dev) script name old new = CauseUntold (fault.BadCapacity dev) name old new
 CauseStopped (refusal.Volume entry kind) script name old new = HasBadVolume entry kind script name old new
-CauseStopped refusal.RigFault script name old new = CauseUntold fault.RigFault name old new
 CauseStopped refusal.Memory script name old new = StoppedShort name old new
-CauseStopped refusal.ReadFault script name old new = ⊥
+CauseStopped why script name old new = CauseUntold why name old new
 
 -- Why a source gives no script: its text has a fault, there is no memory, or the source failed.
 abbrev pub CauseUntaken : Refusal → Option (List ℕ) → Option (List ℕ) → ℕ → ℕ → Type 0
 CauseUntaken (refusal.Script bad) old new o n = HoldsFault bad old new
-CauseUntaken (refusal.Image x) old new o n = ⊥
-CauseUntaken (refusal.BadCapacity dev) old new o n = ⊥
-CauseUntaken (refusal.Volume entry kind) old new o n = ⊥
-CauseUntaken refusal.RigFault old new o n = ⊥
 CauseUntaken refusal.Memory old new o n = TookAtMost (most_bytes + 1) old new
 CauseUntaken refusal.ReadFault old new o n = Rose o n × TookAtMost most_bytes old new
+CauseUntaken _ old new o n = ⊥
 
 -- Why a call comes to no run: the source gives no script, and the rig is as before; or it was read to its end, and its script comes to no run.
 abbrev pub CauseRefused : Refusal → Facts → Type 0

@@ -1,7 +1,5 @@
 -- What the parts of a call give each other.
 use Rattle.std.specs.Prelude.{ℕ, ◌≡◌, ◌+◌, ◌⊎◌, List, length, None, Err, Result}
-use Rattle.image_commands.specs.declared.fault.Fault.{Fault}
-use Rattle.image_commands.specs.declared.fault.Fault.TheVariants as fault
 use Rattle.script_laws.specs.Keeping.{Keeps}
 use Rattle.script_text.specs.Bindings.{binding_fault}
 use Rattle.script_text.specs.declared.fault.ScriptFault.{ScriptFault}
@@ -12,17 +10,10 @@ use Rattle.volume_table.specs.declared.device.DeviceInfo.{DeviceInfo}
 use Rattle.volume_table.specs.declared.fault.VolumeFault.TheVariants.{At}
 use Rattle.std.specs.Prelude.{Some}
 use Rattle.script_verdict.specs.Verdict.{HasTable, WasAsked}
-use Rattle.script_verdict.specs.declared.refusal.Refusal.{Refusal}
-use Rattle.script_verdict.specs.declared.refusal.Refusal.TheVariants as refusal
+use Rattle.call_refusal.specs.declared.refusal.Refusal.{Refusal}
+use Rattle.call_refusal.specs.declared.refusal.Refusal.TheVariants as refusal
 use Rattle.script_verdict.specs.declared.verdict.Bound.{Bound}
 use Rattle.rig_api.specs.State.{RigState}
-
--- the refusal of an image that isn't opened, or whose devices aren't known
-abbrev pub refusal_of : Fault → Refusal
-refusal_of (fault.Image x) = refusal.Image x
-refusal_of (fault.BadCapacity dev) = refusal.BadCapacity dev
-refusal_of fault.RigFault = refusal.RigFault
-refusal_of fault.Memory = refusal.Memory
 
 -- Why a text is no script.
 abbrev pub CauseUnread : Refusal → Result Script ScriptFault → Type 0
@@ -35,23 +26,14 @@ pub record IsSound (script : Script) : Type 0 where
 
 -- Why there is no table of a script's volume.
 abbrev pub CauseNoTable : Refusal → Script → List DeviceInfo → Type 0
-CauseNoTable (refusal.Script bad) script devices = ⊥
-CauseNoTable (refusal.Image x) script devices = ⊥
-CauseNoTable (refusal.BadCapacity dev) script devices = ⊥
 CauseNoTable (refusal.Volume entry kind) script devices = table_fault script.entries devices script.block ≡ Some (At entry kind)
-CauseNoTable refusal.RigFault script devices = ⊥
 CauseNoTable refusal.Memory script devices = Unit {0}
-CauseNoTable refusal.ReadFault script devices = ⊥
+CauseNoTable _ script devices = ⊥
 
 -- Why there is no table over which a script may run.
 abbrev pub CauseUnbound : Refusal → Script → List DeviceInfo → Type 0
 CauseUnbound (refusal.Script bad) script devices = (table : Table) × HasTable script devices table × (binding_fault script table devices ≡ Some bad)
-CauseUnbound (refusal.Image x) script devices = ⊥
-CauseUnbound (refusal.BadCapacity dev) script devices = ⊥
-CauseUnbound (refusal.Volume entry kind) script devices = table_fault script.entries devices script.block ≡ Some (At entry kind)
-CauseUnbound refusal.RigFault script devices = ⊥
-CauseUnbound refusal.Memory script devices = Unit {0}
-CauseUnbound refusal.ReadFault script devices = ⊥
+CauseUnbound why script devices = CauseNoTable why script devices
 
 -- The image was opened, its devices told what they are, and the script is bound to its volume.
 pub record IsBound (b : Bound) (script : Script) (name : List ℕ) (old new : RigState) : Type 0 where

@@ -6,10 +6,10 @@ ghost use Rattle.script_text.specs.Bindings.{binding_fault};
 ghost use Rattle.script_verdict.specs.Verdict.{HasTable};
 ghost use Rattle.script_verdict.specs.Working.{CauseNoTable, CauseUnbound, IsSound};
 
-use crate::refusal::Refusal;
+use call_refusal::Refusal;
 use script_text::{Script, bind_script};
 use std::alloc::Global;
-use volume_table::{DeviceInfo, VolumeFault, VolumeTable};
+use volume_table::{DeviceInfo, VolumeTable};
 
 /// The table of a script's volume over these devices, which are what an image's devices told of themselves. It refuses the
 /// first entry that is at fault over them, or there is no memory.
@@ -23,11 +23,7 @@ pub fn table_of(
     ensures table { IfOk result (λ t. HasTable script.now devices.now t) }
     ensures cause { IfErr result (λ r. CauseNoTable r script.now devices.now) }
 {
-    match VolumeTable::new(alloc, &script.entries, devices, script.block) {
-        Ok(table) => Ok(table),
-        Err(VolumeFault::At { entry, kind }) => Err(Refusal::Volume { entry, kind }),
-        Err(VolumeFault::Memory) => Err(Refusal::Memory),
-    }
+    Ok(VolumeTable::new(alloc, &script.entries, devices, script.block)?)
 }
 
 /// The table of a script's volume over these devices, over which the script may run.
@@ -43,8 +39,6 @@ pub(crate) fn bound_table(
     ensures cause { IfErr result (λ r. CauseUnbound r script.now devices.now) }
 {
     let table = table_of(alloc, script, devices)?;
-    match bind_script(script, &table, devices) {
-        Ok(()) => Ok(table),
-        Err(fault) => Err(Refusal::Script(fault)),
-    }
+    bind_script(script, &table, devices)?;
+    Ok(table)
 }

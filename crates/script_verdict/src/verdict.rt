@@ -6,9 +6,9 @@ ghost use Rattle.script_verdict.specs.Verdict.{CauseRefused, CauseStopped, Facts
 ghost use Rattle.script_verdict.specs.Working.{IsBound, IsSound};
 
 use crate::binding::bound_table;
-use crate::refusal::Refusal;
 use crate::scripts::take_script;
 use arrayvec::ArrayVec;
+use call_refusal::Refusal;
 use dix_base::Source;
 use image_commands::told_devices;
 use rig_api::Rig;
@@ -51,14 +51,9 @@ fn bind<R: Rig>(alloc: Global, image: &str, script: &Script, rig: &mut R) -> Res
         let new = R.state rig.new in
         MatchResult result (λ b. IsBound b script.now image.now old new) (λ r. CauseStopped r script.now image.now old new) }
 {
-    let devices = match told_devices(alloc, image, rig) {
-        Ok(devices) => devices,
-        Err(fault) => return Err(Refusal::of(fault)),
-    };
-    match bound_table(alloc, script, &devices) {
-        Ok(table) => Ok(Bound { devices, table }),
-        Err(refusal) => Err(refusal),
-    }
+    let devices = told_devices(alloc, image, rig)?;
+    let table = bound_table(alloc, script, &devices)?;
+    Ok(Bound { devices, table })
 }
 
 /// Runs a script over the image of this name: opens the image, asks all of its devices what they are,
@@ -81,15 +76,9 @@ pub fn run_script<R: Rig>(
     ensures armed { OnOk result ((R.state rig.new).armed ≡ script.faults) }
 {
     let first = rig.records();
-    let bound = match bind(alloc, image, &script, rig) {
-        Ok(bound) => bound,
-        Err(refusal) => return Err(refusal),
-    };
+    let bound = bind(alloc, image, &script, rig)?;
     let Bound { devices, table } = bound;
-    let run = match ready_script(alloc, script, table, &devices, rig) {
-        Ok(run) => run,
-        Err(_) => return Err(Refusal::Memory),
-    };
+    let run = ready_script(alloc, script, table, &devices, rig)?;
     let Run {
         mut stack,
         schedule,
@@ -139,10 +128,8 @@ pub fn run_source<S: Source, R: Rig>(
         IfErr result (λ r. IsComplete r f) }
     ensures traced { IfOk result (λ r. r.first ≤ length (R.state rig.new).log) }
 {
-    match take_script(alloc, source) {
-        Ok(script) => run_script(alloc, image, script, rig),
-        Err(refusal) => Err(refusal),
-    }
+    let script = take_script(alloc, source)?;
+    run_script(alloc, image, script, rig)
 }
 
 /// Whether this is the reply of an op of which something failed.

@@ -5,7 +5,7 @@ use Rattle.script_lines.specs.declared.kind.ScriptKind.{ScriptKind}
 use Rattle.script_lines.specs.declared.kind.ScriptKind.TheVariants.{Memory, NoHeader, NotAscii, TooMany}
 use Rattle.vector_lines.specs.Lines.{line_form}
 use Rattle.vector_lines.specs.declared.line.VectorLine.{VectorLine}
-use Rattle.vector_lines.specs.declared.read.VectorFault.{VectorFault}
+use Rattle.script_text.specs.declared.fault.ScriptFault.{ScriptFault}
 
 -- A list of commands: a text whose first line that isn't skipped is dix vectors 1, and lines of commands behind it.
 
@@ -42,17 +42,17 @@ words_taken number words so_far = if is_skipped words then Ok so_far else added 
 abbrev pub text_taken : (number : ℕ) → List ℕ → List VectorLine → Result (List VectorLine) ScriptKind
 text_taken number line so_far = if not (is_plain line) then Err NotAscii else words_taken number (words_of line) so_far
 
-abbrev pub go_on : (number : ℕ) → Result (List VectorLine) ScriptKind → (List VectorLine → Result (List VectorLine) VectorFault) → Result (List VectorLine) VectorFault
+abbrev pub go_on : (number : ℕ) → Result (List VectorLine) ScriptKind → (List VectorLine → Result (List VectorLine) ScriptFault) → Result (List VectorLine) ScriptFault
 go_on number (Err k) more = Err (record { line = number; kind = k })
 go_on number (Ok so_far) more = more so_far
 
 -- the commands of the lines from this number on, behind those that were read, or the first fault with its line
-abbrev pub lines_read : (number : ℕ) → List (List ℕ) → List VectorLine → Result (List VectorLine) VectorFault
+abbrev pub lines_read : (number : ℕ) → List (List ℕ) → List VectorLine → Result (List VectorLine) ScriptFault
 lines_read number [] so_far = Ok so_far
 lines_read number (line ∷ lines) so_far = go_on number (text_taken number line so_far) (λ next. lines_read (number + 1) lines next)
 
 -- the same of lines of which the first that isn't skipped has to be the first line of a list
-abbrev pub head_read : (number : ℕ) → List (List ℕ) → Result (List VectorLine) VectorFault
+abbrev pub head_read : (number : ℕ) → List (List ℕ) → Result (List VectorLine) ScriptFault
 head_read number [] = Ok []
 head_read number (line ∷ lines) =
     if not (is_plain line) then Err (record { line = number; kind = NotAscii })
@@ -60,7 +60,7 @@ head_read number (line ∷ lines) =
     else (if is_head (words_of line) then lines_read (number + 1) lines [] else Err (record { line = number; kind = NoHeader })))
 
 -- the commands of a text, which has at most 4,194,304 bytes, or its first fault
-abbrev pub list_in : List ℕ → Result (List VectorLine) VectorFault
+abbrev pub list_in : List ℕ → Result (List VectorLine) ScriptFault
 list_in text = if nat_lt 4194304 (length text) then Err (record { line = 0; kind = TooMany }) else head_read 1 (lines_of text)
 
 -- A reader gave this and now has so many lines, or wanted memory.

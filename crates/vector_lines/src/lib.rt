@@ -7,5 +7,5 @@ mod read;
 mod text;
 
 pub use line::VectorLine;
-pub use read::{VectorFault, is_list, read_list};
+pub use read::{is_list, read_list};
 pub use text::{in_of, out_of, write_first, write_vector};

@@ -7,21 +7,12 @@ ghost use Rattle.vector_lines.specs.Texts.{Takes, head_read, is_head, is_list, i
 
 use crate::line::{VectorLine, is_same, line_of};
 use script_lines::{ScriptKind, Words};
+use script_text::ScriptFault;
 use script_words::{is_plain, next_line, next_word};
 use std::alloc::Global;
 
 /// A text has at most this many bytes.
 const MOST_BYTES: usize = 4_194_304;
-
-/// The first fault of a text.
-#[derive(Clone, Copy, Debug, PartialEq, Eq)]
-pub struct VectorFault {
-    /// The number of the line, from 1; 0 where the text as a whole is too long.
-    pub line: u32,
-    /// What is wrong with it: `NotAscii`, `UnknownWord`, `BadNumber`, `MissingWord`, `TooMany` or
-    /// `NoHeader`; or want of memory.
-    pub kind: ScriptKind,
-}
 
 /// Whether a line is skipped: it has no words, or its first begins with `#`.
 fn is_skipped(line: &[u8]) -> bool
@@ -70,7 +61,7 @@ pub fn is_list(text: &[u8]) -> bool
 }
 
 /// The number of the line behind the first line of a list, and what stands from there on.
-fn skip_head(text: &[u8]) -> Result<(u32, &[u8]), VectorFault>
+fn skip_head(text: &[u8]) -> Result<(u32, &[u8]), ScriptFault>
     requires { length text.now ≤ 4194304 }
     ensures head { IfOk result (λ p. lines_read p.0 (lines_of p.1.now) [] ≡ head_read 1 (lines_of text.now)) }
     ensures few { IfOk result (λ p. p.0 + length p.1.now ≤ 4194305) }
@@ -80,7 +71,7 @@ fn skip_head(text: &[u8]) -> Result<(u32, &[u8]), VectorFault>
     let mut rest = text;
     while let Some((line, behind)) = next_line(rest) {
         if !is_plain(line) {
-            return Err(VectorFault {
+            return Err(ScriptFault {
                 line: number,
                 kind: ScriptKind::NotAscii,
             });
@@ -89,7 +80,7 @@ fn skip_head(text: &[u8]) -> Result<(u32, &[u8]), VectorFault>
             if is_head(line) {
                 return Ok((number + 1, behind));
             }
-            return Err(VectorFault {
+            return Err(ScriptFault {
                 line: number,
                 kind: ScriptKind::NoHeader,
             });
@@ -134,7 +125,7 @@ fn take_text(
 }
 
 /// The commands of the lines from this number on.
-fn take_lines(alloc: Global, first: u32, text: &[u8]) -> Result<Vec<VectorLine>, VectorFault>
+fn take_lines(alloc: Global, first: u32, text: &[u8]) -> Result<Vec<VectorLine>, ScriptFault>
     requires { first + length text.now ≤ 4194305 }
     ensures lines { IfOk result (λ v. lines_read first (lines_of text.now) [] ≡ Ok v.items) }
     ensures fault { IfErr result (λ f. (f.kind ≡ ScriptKind.Memory) ⊎ (lines_read first (lines_of text.now) [] ≡ Err f)) }
@@ -144,7 +135,7 @@ fn take_lines(alloc: Global, first: u32, text: &[u8]) -> Result<Vec<VectorLine>,
     let mut rest = text;
     while let Some((line, behind)) = next_line(rest) {
         if let Err(kind) = take_text(alloc, &mut lines, number, line) {
-            return Err(VectorFault { line: number, kind });
+            return Err(ScriptFault { line: number, kind });
         }
         number += 1;
         rest = behind;
@@ -159,18 +150,16 @@ fn take_lines(alloc: Global, first: u32, text: &[u8]) -> Result<Vec<VectorLine>,
 /// `dix vectors 1`; behind it `UnknownWord` is a line that doesn't begin with `v`, and then the words from left
 /// to right are `MissingWord` or `BadNumber`. A text of more than 4,194,304 bytes is `TooMany` at line 0. A line
 /// may be as long as the text. `Memory`, at any line, is want of memory.
-pub fn read_list(alloc: Global, text: &[u8]) -> Result<Vec<VectorLine>, VectorFault>
+pub fn read_list(alloc: Global, text: &[u8]) -> Result<Vec<VectorLine>, ScriptFault>
     ensures lines { IfOk result (λ v. list_in text.now ≡ Ok v.items) }
     ensures fault { IfErr result (λ f. (f.kind ≡ ScriptKind.Memory) ⊎ (list_in text.now ≡ Err f)) }
 {
     if text.len() > MOST_BYTES {
-        return Err(VectorFault {
+        return Err(ScriptFault {
             line: 0,
             kind: ScriptKind::TooMany,
         });
     }
-    match skip_head(text) {
-        Ok((number, rest)) => take_lines(alloc, number, rest),
-        Err(fault) => Err(fault),
-    }
+    let (number, rest) = skip_head(text)?;
+    take_lines(alloc, number, rest)
 }

@@ -8,13 +8,13 @@ use Rattle.rig_api.specs.State.{RigState}
 use Rattle.rig_discovery.specs.Discovery.{looks}
 use Rattle.script_text.specs.declared.script.Script.{Script}
 use Rattle.script_verdict.specs.Verdict.{CauseStopped, Facts, HasRun}
-use Rattle.script_verdict.specs.declared.refusal.Refusal.{Refusal}
+use Rattle.call_refusal.specs.declared.refusal.Refusal.{Refusal}
 use Rattle.script_verdict.specs.declared.verdict.Finished.{Finished}
 use Rattle.vector_lines.specs.declared.line.VectorLine.{VectorLine}
 use Rattle.vector_runs.specs.Done.{AreRecords}
-use Rattle.vector_runs.specs.Played.{AreLogged, CauseNotListed, CauseNotPlayed, HasCome, HasPlayed, ListPlayed, ScriptPlayed, first_of}
+use Rattle.vector_runs.specs.Played.{AreLogged, CauseNotPlayed, HasCome, HasPlayed, ListPlayed, ScriptPlayed, first_of}
+use Rattle.vector_runs.specs.Answered.{CauseUnanswered}
 use Rattle.vector_runs.specs.Taken.{CauseNotTaken, HoldsList, HoldsScript}
-use Rattle.image_commands.specs.declared.fault.Fault.TheVariants as fault
 use Rattle.vector_runs.specs.declared.playing.Played.{Played}
 use Rattle.vector_runs.specs.declared.playing.Played.TheVariants as played
 use Rattle.vector_runs.proofs.Opens.{played_goes, refused_goes}
@@ -79,7 +79,7 @@ come (Err r) f k h = record {
   script_complete = script_complete r f h;
 }
 
-listed : (r : Result Played Refusal) (f : Facts) (lines : List VectorLine) → HoldsList lines f.left f.left_after → MatchResult r (λ p. ListPlayed p lines f.name f.rig f.rig_after) (λ x. CauseNotListed x lines f.name f.rig f.rig_after) →
+listed : (r : Result Played Refusal) (f : Facts) (lines : List VectorLine) → HoldsList lines f.left f.left_after → MatchResult r (λ p. ListPlayed p lines f.name f.rig f.rig_after) (λ x. CauseUnanswered x f.name lines f.rig f.rig_after) →
     MatchResult r (λ p. HasPlayed p f) (λ x. CauseNotPlayed x f)
 listed (Ok (played.Listed ls first)) f lines held h =
     record { held = subst (λ (v : List VectorLine). HoldsList v f.left f.left_after) (sym h.0) held; answered = rw h.0 h.1; first_is = h.2 }
@@ -94,7 +94,7 @@ ran (Err r) f script held h = inr (inl (script, held, h))
 
 -- ---- the call
 
-pub come_listed : (r : Result Played Refusal) (f : Facts) (lines : List VectorLine) → f.reads ≤ f.reads_after → HoldsList lines f.left f.left_after → MatchResult r (λ p. ListPlayed p lines f.name f.rig f.rig_after) (λ x. CauseNotListed x lines f.name f.rig f.rig_after) → HasCome r f
+pub come_listed : (r : Result Played Refusal) (f : Facts) (lines : List VectorLine) → f.reads ≤ f.reads_after → HoldsList lines f.left f.left_after → MatchResult r (λ p. ListPlayed p lines f.name f.rig f.rig_after) (λ x. CauseUnanswered x f.name lines f.rig f.rig_after) → HasCome r f
 come_listed r f lines k held h = come r f k (listed r f lines held h)
 
 pub come_ran : (r : Result Played Refusal) (f : Facts) (script : Script) → f.reads ≤ f.reads_after → HoldsScript script f.left f.left_after → MatchResult r (λ p. ScriptPlayed p script f.name f.rig f.rig_after) (λ x. CauseStopped x script f.name f.rig f.rig_after) → HasCome r f

@@ -18,12 +18,11 @@ use Rattle.script_text.specs.declared.script.Script.{Script}
 use Rattle.script_verdict.proofs.Completing.{never_rose, no_head_fault}
 use Rattle.script_verdict.proofs.Devices.{headed}
 use Rattle.script_verdict.specs.Verdict.{CauseStopped, Facts}
-use Rattle.script_verdict.specs.declared.refusal.Refusal.{Refusal}
-use Rattle.script_verdict.specs.declared.refusal.Refusal.TheVariants as refusal
+use Rattle.call_refusal.specs.declared.refusal.Refusal.{Refusal}
+use Rattle.call_refusal.specs.declared.refusal.Refusal.TheVariants as refusal
 use Rattle.vector_lines.specs.declared.line.VectorLine.{VectorLine}
-use Rattle.vector_lines.specs.declared.read.VectorFault.{VectorFault}
-use Rattle.vector_runs.specs.Answered.{IsReady}
-use Rattle.vector_runs.specs.Played.{CauseNotListed, CauseNotPlayed, HasPlayed}
+use Rattle.vector_runs.specs.Answered.{CauseUnanswered, IsReady}
+use Rattle.vector_runs.specs.Played.{CauseNotPlayed, HasPlayed}
 use Rattle.vector_runs.specs.Ranges.{out_of_range}
 use Rattle.vector_runs.specs.Taken.{CauseNotTaken, text_fault}
 use Rattle.vector_runs.specs.declared.playing.Played.{Played}
@@ -75,26 +74,24 @@ stopped_at refusal.RigFault script name image old new x i h k c = absurd (never_
 stopped_at refusal.Memory script name image old new x i h k c = inr refl
 stopped_at refusal.ReadFault script name image old new x i h k c = absurd c
 
-not_listed_at : (r : Refusal) (lines : List VectorLine) (name image : List ℕ) (old new : RigState) (x : RigFault) → old.image ≡ Some image → head_fault (head_of image) ≡ Some x → Calm old.faults new.faults → CauseNotListed r lines name old new → IsHead r
-not_listed_at (refusal.Script bad) lines name image old new x i h k c = absurd (not_ready name image old new x i h c.0)
-not_listed_at (refusal.Image y) lines name image old new x i h k c = inl (y, refl)
-not_listed_at (refusal.BadCapacity dev) lines name image old new x i h k c = absurd c
-not_listed_at (refusal.Volume entry kind) lines name image old new x i h k c = absurd c
-not_listed_at refusal.RigFault lines name image old new x i h k c = absurd (never_rose old.faults new.faults k c.0.0)
-not_listed_at refusal.Memory lines name image old new x i h k c = inr refl
-not_listed_at refusal.ReadFault lines name image old new x i h k c = absurd c
+unanswered_at : (r : Refusal) (lines : List VectorLine) (name image : List ℕ) (old new : RigState) (x : RigFault) → old.image ≡ Some image → head_fault (head_of image) ≡ Some x → Calm old.faults new.faults → CauseUnanswered r name lines old new → IsHead r
+unanswered_at (refusal.Script bad) lines name image old new x i h k c = absurd (not_ready name image old new x i h c.0)
+unanswered_at (refusal.Image y) lines name image old new x i h k c = inl (y, refl)
+unanswered_at refusal.RigFault lines name image old new x i h k c = absurd (never_rose old.faults new.faults k c.0.0)
+unanswered_at refusal.Memory lines name image old new x i h k c = inr refl
+unanswered_at _ lines name image old new x i h k c = absurd c.0
 
 pub head_refused : (r : Refusal) (f : Facts) (text image : List ℕ) (x : RigFault) → f.left ≡ Some text → text_fault text ≡ None → f.rig.image ≡ Some image → head_fault (head_of image) ≡ Some x → Calm f.reads f.reads_after → Calm f.rig.faults f.rig_after.faults → CauseNotPlayed r f → IsHead r
 head_refused r f text image x l t i h k m (inl c) = inr (untaken_right r f text l t k c.0)
 head_refused r f text image x l t i h k m (inr (inl c)) = stopped_at r c.0 f.name image f.rig f.rig_after x i h m c.2
-head_refused r f text image x l t i h k m (inr (inr c)) = not_listed_at r c.0 f.name image f.rig f.rig_after x i h m c.2
+head_refused r f text image x l t i h k m (inr (inr c)) = unanswered_at r c.0 f.name image f.rig f.rig_after x i h m c.2
 
 -- ---- a list out of range
 
-range_twice : (lines : List VectorLine) (bad : VectorFault) (n m : ℕ) → n ≡ m → out_of_range m lines ≡ Some bad → out_of_range n lines ≡ None → ⊥
-range_twice lines bad n m e a b = let k : ◌≡◌ {A = Option VectorFault} (Some bad) None = sym a ∙ ap (λ v. out_of_range v lines) (sym e) ∙ b in absurd (cc)
+range_twice : (lines : List VectorLine) (bad : ScriptFault) (n m : ℕ) → n ≡ m → out_of_range m lines ≡ Some bad → out_of_range n lines ≡ None → ⊥
+range_twice lines bad n m e a b = let k : ◌≡◌ {A = Option ScriptFault} (Some bad) None = sym a ∙ ap (λ v. out_of_range v lines) (sym e) ∙ b in absurd (cc)
 
-pub not_played_out : (p : Played) (f : Facts) (text image : List ℕ) (lines : List VectorLine) (bad : VectorFault) → f.left ≡ Some text → is_list (lines_of text) ≡ true → list_in text ≡ Ok lines → f.rig.image ≡ Some image → out_of_range (length (units_of (head_of image))) lines ≡ Some bad → HasPlayed p f → ⊥
+pub not_played_out : (p : Played) (f : Facts) (text image : List ℕ) (lines : List VectorLine) (bad : ScriptFault) → f.left ≡ Some text → is_list (lines_of text) ≡ true → list_in text ≡ Ok lines → f.rig.image ≡ Some image → out_of_range (length (units_of (head_of image))) lines ≡ Some bad → HasPlayed p f → ⊥
 not_played_out (played.Listed ls first) f text image lines bad l n s i o c =
     let e : ls.items ≡ lines = same_lines ls.items lines c.held.text text (whole_text c.held.text text f.left f.left_after l c.held.whole) c.held.reads s in
     range_twice lines bad c.answered.between.standing.devices (length (units_of (head_of image))) (devices_are f.name image f.rig c.answered.between i c.answered.ready) o
@@ -104,16 +101,14 @@ not_played_out (played.Ran run) f text image lines bad l n s i o c = absurd (not
 abbrev pub IsLine : Refusal → Type 0
 IsLine r = ((y : ScriptFault) × (r ≡ refusal.Script y)) ⊎ (r ≡ refusal.Memory)
 
-not_listed_out : (r : Refusal) (lines : List VectorLine) (name image : List ℕ) (old new : RigState) → old.image ≡ Some image → head_fault (head_of image) ≡ None → Calm old.faults new.faults → CauseNotListed r lines name old new → IsLine r
-not_listed_out (refusal.Script bad) lines name image old new i h k c = inl (bad, refl)
-not_listed_out (refusal.Image y) lines name image old new i h k c = absurd (no_head_fault image y name old new i c.1.image h c.0)
-not_listed_out (refusal.BadCapacity dev) lines name image old new i h k c = absurd c
-not_listed_out (refusal.Volume entry kind) lines name image old new i h k c = absurd c
-not_listed_out refusal.RigFault lines name image old new i h k c = absurd (never_rose old.faults new.faults k c.0.0)
-not_listed_out refusal.Memory lines name image old new i h k c = inr refl
-not_listed_out refusal.ReadFault lines name image old new i h k c = absurd c
+unanswered_out : (r : Refusal) (lines : List VectorLine) (name image : List ℕ) (old new : RigState) → old.image ≡ Some image → head_fault (head_of image) ≡ None → Calm old.faults new.faults → CauseUnanswered r name lines old new → IsLine r
+unanswered_out (refusal.Script bad) lines name image old new i h k c = inl (bad, refl)
+unanswered_out (refusal.Image y) lines name image old new i h k c = absurd (no_head_fault image y name old new i c.1.image h c.0)
+unanswered_out refusal.RigFault lines name image old new i h k c = absurd (never_rose old.faults new.faults k c.0.0)
+unanswered_out refusal.Memory lines name image old new i h k c = inr refl
+unanswered_out _ lines name image old new i h k c = absurd c.0
 
 pub range_refused : (r : Refusal) (f : Facts) (text image : List ℕ) (lines : List VectorLine) → f.left ≡ Some text → is_list (lines_of text) ≡ true → list_in text ≡ Ok lines → f.rig.image ≡ Some image → head_fault (head_of image) ≡ None → Calm f.reads f.reads_after → Calm f.rig.faults f.rig_after.faults → CauseNotPlayed r f → IsLine r
 range_refused r f text image lines l n s i h k m (inl c) = inr (untaken_right r f text l (list_right text lines n s) k c.0)
 range_refused r f text image lines l n s i h k m (inr (inl c)) = absurd (not_both text c.1.text (sym (whole_text c.1.text text f.left f.left_after l c.1.whole)) n c.1.script_is)
-range_refused r f text image lines l n s i h k m (inr (inr c)) = not_listed_out r c.0 f.name image f.rig f.rig_after i h m c.2
+range_refused r f text image lines l n s i h k m (inr (inr c)) = unanswered_out r c.0 f.name image f.rig f.rig_after i h m c.2

@@ -6,17 +6,15 @@ use Rattle.rig_api.specs.Telling.{units_told}
 use Rattle.rig_api.specs.State.{RigState}
 use Rattle.image_commands.specs.Causes.{CauseUnopened}
 use Rattle.image_commands.specs.Views.{HasKept, OpenedOnce, WasOpened}
-use Rattle.image_commands.specs.declared.fault.Fault.{Fault}
-use Rattle.image_commands.specs.declared.fault.Fault.TheVariants as fault
+use Rattle.call_refusal.specs.declared.refusal.Refusal.{Refusal}
+use Rattle.call_refusal.specs.declared.refusal.Refusal.TheVariants as refusal
 use Rattle.vector_lines.specs.declared.line.VectorLine.{VectorLine}
-use Rattle.vector_runs.specs.declared.answering.ListFault.TheVariants.{Image}
 use Rattle.vector_runs.specs.Answered.{CauseUnanswered, IsReady}
 
-pub unopened : (f : Fault) (name : List ℕ) (lines : List VectorLine) (a b : RigState) → CauseUnopened f name a b → HasKept a b → OpenedOnce name a.standing b.standing → CauseUnanswered (Image f) name lines a b
-unopened (fault.Image x) name lines a b c k o = (c, k)
-unopened (fault.BadCapacity dev) name lines a b c k o = absurd c
-unopened fault.RigFault name lines a b c k o = (c, k)
-unopened fault.Memory name lines a b c k o = inl (k, o)
+pub unopened : (r : Refusal) (name : List ℕ) (lines : List VectorLine) (a b : RigState) → CauseUnopened r name a b → HasKept a b → OpenedOnce name a.standing b.standing → CauseUnanswered r name lines a b
+unopened (refusal.Script f) name lines a b c k o = absurd c
+unopened refusal.Memory name lines a b c k o = inl (k, o)
+unopened _ name lines a b c k o = (c, k)
 
 -- the image was opened, and then no fault was armed
 pub ready_by : (name : List ℕ) (a b c : RigState) (lines : List FaultLine) → WasOpened name None a b → b.standing.devices ≡ length (units_of b.standing.head) → HasKept a b → c ≡ record b { armed = lines } → lines ≡ [] → c.units ≡ units_told c.standing c.image →

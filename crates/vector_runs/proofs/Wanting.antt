@@ -1,25 +1,45 @@
 -- What a text holds, as the source held it.
-use Rattle.std.proofs.Common.{ℕ, ◌≡◌, inl, inr, true, false, if◌then◌else◌, List, Option, Some, Result, Ok, Err, sym, ap, subst, ◌∙◌}
+use Rattle.std.proofs.Common.{ℕ, ◌≡◌, ◌⊎◌, inl, inr, true, false, if◌then◌else◌, List, Option, Some, Result, Ok, Err, sym, ap, subst, ◌∙◌}
 use Rattle.std.specs.Prelude.{IfErr, IfOk, MatchResult}
+use Rattle.script_lines.specs.declared.kind.ScriptKind.{ScriptKind}
+use Rattle.script_lines.specs.declared.kind.ScriptKind.TheVariants.{Memory}
+use Rattle.call_refusal.specs.Refusals.{of_kind, of_script}
+use Rattle.call_refusal.proofs.WantOfMemory.{of_either}
 use Rattle.script_text.specs.Language.{script_in}
 use Rattle.script_text.specs.declared.fault.ScriptFault.{ScriptFault}
 use Rattle.script_text.specs.declared.script.Script.{Script}
-use Rattle.script_verdict.specs.declared.refusal.Refusal.{Refusal}
-use Rattle.script_verdict.specs.declared.refusal.Refusal.TheVariants as refusal
+use Rattle.call_refusal.specs.declared.refusal.Refusal.{Refusal}
+use Rattle.call_refusal.specs.declared.refusal.Refusal.TheVariants as refusal
 use Rattle.script_verdict.proofs.Refusing.{within}
 use Rattle.script_words.specs.Cuts.{lines_of}
 use Rattle.source_text.specs.Reading.{IsWhole}
 use Rattle.vector_lines.specs.Texts.{is_list, list_in}
-use Rattle.vector_lines.specs.declared.read.VectorFault.{VectorFault}
-use Rattle.vector_runs.specs.Taken.{CauseNotHeld, CauseNotTaken, HasTaken, Holds, as_script, list_fault, script_fault, text_fault}
+use Rattle.vector_runs.specs.Taken.{CauseNotHeld, CauseNotTaken, HasTaken, Holds, list_fault, script_fault, text_fault}
+use Rattle.vector_runs.specs.Unplayed.{unplayed}
 use Rattle.vector_runs.specs.declared.wanted.Wanted.{Wanted}
 use Rattle.vector_runs.specs.declared.wanted.Wanted.TheVariants as wanted
 
-pub list_at_fault : (text : List ℕ) (f : VectorFault) → is_list (lines_of text) ≡ true → list_in text ≡ Err f → text_fault text ≡ Some (as_script f)
+pub list_at_fault : (text : List ℕ) (f : ScriptFault) → is_list (lines_of text) ≡ true → list_in text ≡ Err f → text_fault text ≡ Some f
 list_at_fault text f l e = ap (λ b. if b then list_fault (list_in text) else script_fault (script_in text)) l ∙ ap list_fault e
 
 pub script_at_fault : (text : List ℕ) (f : ScriptFault) → is_list (lines_of text) ≡ false → script_in text ≡ Err f → text_fault text ≡ Some f
 script_at_fault text f l e = ap (λ b. if b then list_fault (list_in text) else script_fault (script_in text)) l ∙ ap script_fault e
+
+pub script_unplayed : (text : List ℕ) (s : Script) (f : ScriptFault) → is_list (lines_of text) ≡ false → script_in text ≡ Ok s → unplayed s ≡ Some f → text_fault text ≡ Some f
+script_unplayed text s f l e u = ap (λ b. if b then list_fault (list_in text) else script_fault (script_in text)) l ∙ ap script_fault e ∙ u
+
+held_by : (text : List ℕ) (f : ScriptFault) (r : Refusal) → text_fault text ≡ Some f → (r ≡ refusal.Memory) ⊎ (r ≡ refusal.Script f) → CauseNotHeld r text
+held_by text f r e (inl m) = inl m
+held_by text f r e (inr s) = inr (f, s, e)
+
+-- a fault of another kind than want of memory is the text's
+pub list_bad : (text : List ℕ) (f : ScriptFault) → is_list (lines_of text) ≡ true → (f.kind ≡ Memory) ⊎ (list_in text ≡ Err f) → CauseNotHeld (of_script f) text
+list_bad text f l (inl k) = inl (ap (λ (v : ScriptKind). of_kind v f) k)
+list_bad text f l (inr e) = held_by text f (of_script f) (list_at_fault text f l e) (of_either f.kind f)
+
+pub script_bad : (text : List ℕ) (f : ScriptFault) → is_list (lines_of text) ≡ false → (f.kind ≡ Memory) ⊎ (script_in text ≡ Err f) → CauseNotHeld (of_script f) text
+script_bad text f l (inl k) = inl (ap (λ (v : ScriptKind). of_kind v f) k)
+script_bad text f l (inr e) = held_by text f (of_script f) (script_at_fault text f l e) (of_either f.kind f)
 
 -- ---- over a source
 

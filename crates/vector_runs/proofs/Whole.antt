@@ -11,15 +11,14 @@ use Rattle.script_text.specs.declared.script.Script.{Script}
 use Rattle.script_verdict.proofs.Completing.{never_rose, no_head_fault, stops_from_outside}
 use Rattle.script_verdict.proofs.Devices.{headed}
 use Rattle.script_verdict.specs.Verdict.{CauseStopped, Facts, IsFromOutside}
-use Rattle.script_verdict.specs.declared.refusal.Refusal.{Refusal}
-use Rattle.script_verdict.specs.declared.refusal.Refusal.TheVariants as refusal
+use Rattle.call_refusal.specs.declared.refusal.Refusal.{Refusal}
+use Rattle.call_refusal.specs.declared.refusal.Refusal.TheVariants as refusal
 use Rattle.script_words.specs.Cuts.{lines_of}
 use Rattle.source_text.proofs.Taking.{most_is, over_long, whole_text}
 use Rattle.vector_lines.specs.Texts.{is_list, list_in}
 use Rattle.vector_lines.specs.declared.line.VectorLine.{VectorLine}
-use Rattle.vector_lines.specs.declared.read.VectorFault.{VectorFault}
-use Rattle.vector_runs.specs.Answered.{IsReady}
-use Rattle.vector_runs.specs.Played.{CauseNotListed, CauseNotPlayed, HasPlayed, ListIsComplete, ScriptIsComplete}
+use Rattle.vector_runs.specs.Answered.{CauseUnanswered, IsReady}
+use Rattle.vector_runs.specs.Played.{CauseNotPlayed, HasPlayed, ListIsComplete, ScriptIsComplete}
 use Rattle.vector_runs.specs.Ranges.{out_of_range}
 use Rattle.vector_runs.specs.Taken.{CauseNotTaken, HoldsFault, HoldsList, HoldsScript, list_fault, script_fault, text_fault}
 use Rattle.vector_runs.specs.Unplayed.{unplayed}
@@ -56,12 +55,9 @@ not_faulty f text bad l none s (inr h) = let m = most_is in over_long text h.0.0
 
 pub untaken_for_memory : (r : Refusal) (f : Facts) (text : List ℕ) → f.left ≡ Some text → text_fault text ≡ None → length text ≤ 4194304 → Calm f.reads f.reads_after → CauseNotTaken r f.left f.left_after f.reads f.reads_after → r ≡ refusal.Memory
 untaken_for_memory (refusal.Script bad) f text l none s calm c = absurd (not_faulty f text bad l none s c)
-untaken_for_memory (refusal.Image x) f text l none s calm c = absurd c
-untaken_for_memory (refusal.BadCapacity dev) f text l none s calm c = absurd c
-untaken_for_memory (refusal.Volume entry kind) f text l none s calm c = absurd c
-untaken_for_memory refusal.RigFault f text l none s calm c = absurd c
 untaken_for_memory refusal.Memory f text l none s calm c = refl
 untaken_for_memory refusal.ReadFault f text l none s calm c = absurd (never_rose f.reads f.reads_after calm c.0)
+untaken_for_memory _ f text l none s calm c = absurd c
 
 -- a text is either a list or a script
 pub not_both : (a b : List ℕ) → a ≡ b → is_list (lines_of a) ≡ true → is_list (lines_of b) ≡ false → ⊥
@@ -71,7 +67,7 @@ same_script : (a b : Script) (x y : List ℕ) → x ≡ y → script_in x ≡ Ok
 same_script a b x y e p q = let k : ◌≡◌ {A = Result Script ScriptFault} (Ok a) (Ok b) = sym p ∙ ap script_in e ∙ q in cc
 
 pub same_lines : (a b : List VectorLine) (x y : List ℕ) → x ≡ y → list_in x ≡ Ok a → list_in y ≡ Ok b → a ≡ b
-same_lines a b x y e p q = let k : ◌≡◌ {A = Result (List VectorLine) VectorFault} (Ok a) (Ok b) = sym p ∙ ap list_in e ∙ q in cc
+same_lines a b x y e p q = let k : ◌≡◌ {A = Result (List VectorLine) ScriptFault} (Ok a) (Ok b) = sym p ∙ ap list_in e ∙ q in cc
 
 pub script_complete : (r : Refusal) (f : Facts) → CauseNotPlayed r f → ScriptIsComplete r f
 script_complete r f (inl c) = λ text image script l n s u i h t b calm. inl (untaken_for_memory r f text l (script_right text script n s u) (script_short text script s) calm c.0)
@@ -84,24 +80,22 @@ script_complete r f (inr (inr c)) = λ text image script l n s u i h t b calm. a
 pub devices_are : (name image : List ℕ) (old new : RigState) → old.image ≡ Some image → IsReady name old new → new.standing.devices ≡ length (units_of (head_of image))
 devices_are name image old new i r = r.counted ∙ ap (λ (h : Head). length (units_of h)) (headed new.standing.head image new.image (r.image ∙ i) r.opened.head)
 
-in_range : (lines : List VectorLine) (bad : VectorFault) (n m : ℕ) → n ≡ m → out_of_range m lines ≡ None → out_of_range n lines ≡ Some bad → ⊥
-in_range lines bad n m e a b = let k : ◌≡◌ {A = Option VectorFault} None (Some bad) = sym a ∙ ap (λ v. out_of_range v lines) (sym e) ∙ b in absurd (cc)
+in_range : (lines : List VectorLine) (bad : ScriptFault) (n m : ℕ) → n ≡ m → out_of_range m lines ≡ None → out_of_range n lines ≡ Some bad → ⊥
+in_range lines bad n m e a b = let k : ◌≡◌ {A = Option ScriptFault} None (Some bad) = sym a ∙ ap (λ v. out_of_range v lines) (sym e) ∙ b in absurd (cc)
 
-list_from_outside : (r : Refusal) (lines : List VectorLine) (name image : List ℕ) (old new : RigState) → old.image ≡ Some image → head_fault (head_of image) ≡ None → out_of_range (length (units_of (head_of image))) lines ≡ None → CauseNotListed r lines name old new → IsFromOutside r
-list_from_outside (refusal.Script bad) lines name image old new i h o c = absurd (in_range lines _ new.standing.devices (length (units_of (head_of image))) (devices_are name image old new i c.0) o c.1)
+list_from_outside : (r : Refusal) (lines : List VectorLine) (name image : List ℕ) (old new : RigState) → old.image ≡ Some image → head_fault (head_of image) ≡ None → out_of_range (length (units_of (head_of image))) lines ≡ None → CauseUnanswered r name lines old new → IsFromOutside r
+list_from_outside (refusal.Script bad) lines name image old new i h o c = absurd (in_range lines bad new.standing.devices (length (units_of (head_of image))) (devices_are name image old new i c.0) o c.1)
 list_from_outside (refusal.Image x) lines name image old new i h o c = absurd (no_head_fault image x name old new i c.1.image h c.0)
-list_from_outside (refusal.BadCapacity dev) lines name image old new i h o c = absurd c
-list_from_outside (refusal.Volume entry kind) lines name image old new i h o c = absurd c
 list_from_outside refusal.RigFault lines name image old new i h o c = inr refl
 list_from_outside refusal.Memory lines name image old new i h o c = inl refl
-list_from_outside refusal.ReadFault lines name image old new i h o c = absurd c
+list_from_outside _ lines name image old new i h o c = absurd c.0
 
 pub list_complete : (r : Refusal) (f : Facts) → CauseNotPlayed r f → ListIsComplete r f
 list_complete r f (inl c) = λ text image lines l n s i h o calm. inl (untaken_for_memory r f text l (list_right text lines n s) (list_short text lines s) calm c.0)
 list_complete r f (inr (inl c)) = λ text image lines l n s i h o calm. absurd (not_both text c.1.text (sym (whole_text c.1.text text f.left f.left_after l c.1.whole)) n c.1.script_is)
 list_complete r f (inr (inr c)) = λ text image lines l n s i h o calm.
     let e : c.0 ≡ lines = same_lines c.0 lines c.1.text text (whole_text c.1.text text f.left f.left_after l c.1.whole) c.1.reads s in
-    list_from_outside r lines f.name image f.rig f.rig_after i h o (subst (λ (v : List VectorLine). CauseNotListed r v f.name f.rig f.rig_after) e c.2)
+    list_from_outside r lines f.name image f.rig f.rig_after i h o (subst (λ (v : List VectorLine). CauseUnanswered r f.name v f.rig f.rig_after) e c.2)
 
 -- ---- what a text at fault comes to
 
@@ -120,12 +114,9 @@ not_played_faulty (played.Ran run) f text bad l t h = one_fault (text_fault text
 
 untaken : (r : Refusal) (f : Facts) → Calm f.reads f.reads_after → CauseNotTaken r f.left f.left_after f.reads f.reads_after → ((x : ScriptFault) × (r ≡ refusal.Script x)) ⊎ (r ≡ refusal.Memory)
 untaken (refusal.Script x) f calm c = inl (x, refl)
-untaken (refusal.Image x) f calm c = absurd c
-untaken (refusal.BadCapacity dev) f calm c = absurd c
-untaken (refusal.Volume entry kind) f calm c = absurd c
-untaken refusal.RigFault f calm c = absurd c
 untaken refusal.Memory f calm c = inr refl
 untaken refusal.ReadFault f calm c = absurd (never_rose f.reads f.reads_after calm c.0)
+untaken _ f calm c = absurd c
 
 pub faulty_refused : (r : Refusal) (f : Facts) (text : List ℕ) (bad : ScriptFault) → f.left ≡ Some text → text_fault text ≡ Some bad → Calm f.reads f.reads_after → CauseNotPlayed r f → ((x : ScriptFault) × (r ≡ refusal.Script x)) ⊎ (r ≡ refusal.Memory)
 faulty_refused r f text bad l t calm (inl c) = untaken r f calm c.0
@@ -142,7 +133,7 @@ rig_rose f (inr (inr c)) = c.2.0.0
 reads_rose : (f : Facts) → CauseNotPlayed refusal.ReadFault f → Rose f.reads f.reads_after
 reads_rose f (inl c) = c.0.0
 reads_rose f (inr (inl c)) = absurd c.2
-reads_rose f (inr (inr c)) = absurd c.2
+reads_rose f (inr (inr c)) = absurd c.2.0
 
 pub rig_failed : (r : Refusal) (f : Facts) → r ≡ refusal.RigFault → CauseNotPlayed r f → Rose f.rig.faults f.rig_after.faults
 rig_failed r f e c = rig_rose f (subst (λ (x : Refusal). CauseNotPlayed x f) e c)

@@ -4,10 +4,9 @@ use Rattle.rig_api.specs.Telling.{units_told}
 use Rattle.rig_api.specs.State.{RigState}
 use Rattle.image_commands.specs.Causes.{CauseUnopened}
 use Rattle.image_commands.specs.Views.{HasKept, OpenedOnce, WasOpened}
-use Rattle.image_commands.specs.declared.fault.Fault.TheVariants as fault
+use Rattle.call_refusal.specs.declared.refusal.Refusal.{Refusal}
+use Rattle.call_refusal.specs.declared.refusal.Refusal.TheVariants as refusal
 use Rattle.vector_lines.specs.declared.line.VectorLine.{VectorLine}
-use Rattle.vector_runs.specs.declared.answering.ListFault.{ListFault}
-use Rattle.vector_runs.specs.declared.answering.ListFault.TheVariants.{Image, Line}
 use Rattle.vector_runs.specs.Done.{HaveDone, HaveDoneSome}
 use Rattle.vector_runs.specs.Ranges.{out_of_range}
 
@@ -38,9 +37,7 @@ pub record BrokeOff (name : List ℕ) (lines : List VectorLine) (old new : RigSt
   pub done : HaveDoneSome lines between new
 
 -- Why a list isn't done: its first line that can't be done, the image that isn't opened, or no memory, before the image is opened or between two commands. Only in the last case was a command done.
-abbrev pub CauseUnanswered : ListFault → List ℕ → List VectorLine → RigState → RigState → Type 0
-CauseUnanswered (Line f) name lines old new = IsReady name old new × (out_of_range new.standing.devices lines ≡ Some f)
-CauseUnanswered (Image (fault.Image f)) name lines old new = CauseUnopened (fault.Image f) name old new × HasKept old new
-CauseUnanswered (Image (fault.BadCapacity dev)) name lines old new = ⊥
-CauseUnanswered (Image fault.RigFault) name lines old new = CauseUnopened fault.RigFault name old new × HasKept old new
-CauseUnanswered (Image fault.Memory) name lines old new = (HasKept old new × OpenedOnce name old.standing new.standing) ⊎ BrokeOff name lines old new
+abbrev pub CauseUnanswered : Refusal → List ℕ → List VectorLine → RigState → RigState → Type 0
+CauseUnanswered (refusal.Script f) name lines old new = IsReady name old new × (out_of_range new.standing.devices lines ≡ Some f)
+CauseUnanswered refusal.Memory name lines old new = (HasKept old new × OpenedOnce name old.standing new.standing) ⊎ BrokeOff name lines old new
+CauseUnanswered why name lines old new = CauseUnopened why name old new × HasKept old new

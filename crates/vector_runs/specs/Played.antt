@@ -1,7 +1,6 @@
 use Rattle.std.specs.Prelude.{ℕ, ◌≡◌, ◌+◌, ◌≤◌, ◌⊎◌, true, false, List, ◌++◌, length, drop, Some, None, Result, Ok, IfErr, IfOk, MatchResult}
 use Rattle.dix_base.specs.Told.{Calm}
 use Rattle.image_commands.specs.Views.{OpenedOnce}
-use Rattle.image_commands.specs.declared.fault.Fault.TheVariants as fault
 use Rattle.rig_api.specs.Head.{head_fault, head_of, units_of}
 use Rattle.rig_api.specs.Log.{Entry}
 use Rattle.rig_api.specs.State.{RigState}
@@ -9,9 +8,7 @@ use Rattle.script_text.specs.Bindings.{binding_fault}
 use Rattle.script_text.specs.Language.{script_in}
 use Rattle.script_text.specs.declared.script.Script.{Script}
 use Rattle.script_verdict.specs.Verdict.{CauseStopped, Facts, HasRun, IsFromOutside, devices_of, table_over}
-use Rattle.script_verdict.specs.Working.{refusal_of}
-use Rattle.script_verdict.specs.declared.refusal.Refusal.{Refusal}
-use Rattle.script_verdict.specs.declared.refusal.Refusal.TheVariants as refusal
+use Rattle.call_refusal.specs.declared.refusal.Refusal.{Refusal}
 use Rattle.script_words.specs.Cuts.{lines_of}
 use Rattle.vector_lines.specs.Texts.{is_list, list_in}
 use Rattle.vector_lines.specs.declared.line.VectorLine.{VectorLine}
@@ -19,10 +16,8 @@ use Rattle.vector_runs.specs.Answered.{CauseUnanswered, HasAnswered}
 use Rattle.vector_runs.specs.ListText.{list_text}
 use Rattle.vector_runs.specs.Ranges.{out_of_range}
 use Rattle.vector_runs.specs.RecordText.{vectors_text}
-use Rattle.vector_runs.specs.Taken.{CauseNotTaken, as_script, HoldsList, HoldsScript}
+use Rattle.vector_runs.specs.Taken.{CauseNotTaken, HoldsList, HoldsScript}
 use Rattle.vector_runs.specs.Unplayed.{unplayed}
-use Rattle.vector_runs.specs.declared.answering.ListFault.{ListFault}
-use Rattle.vector_runs.specs.declared.answering.ListFault.TheVariants.{Image, Line}
 use Rattle.vector_runs.specs.declared.playing.Played.{Played}
 use Rattle.vector_runs.specs.declared.playing.Played.TheVariants as played
 use Rattle.volume_table.specs.Faults.{table_fault}
@@ -49,27 +44,12 @@ abbrev pub HasPlayed : Played → Facts → Type 0
 HasPlayed (played.Listed lines first) f = HasListed lines.items first f
 HasPlayed (played.Ran run) f = (script : Script) × HoldsScript script f.left f.left_after × HasRun run script f.name f.rig f.rig_after
 
--- the refusal of a list that isn't done
-abbrev pub refused : ListFault → Refusal
-refused (Line f) = refusal.Script (as_script f)
-refused (Image f) = refusal_of f
-
--- Why a list that was taken isn't done.
-abbrev pub CauseNotListed : Refusal → List VectorLine → List ℕ → RigState → RigState → Type 0
-CauseNotListed (refusal.Script bad) lines name old new = CauseUnanswered (Line (record { line = bad.line; kind = bad.kind })) name lines old new
-CauseNotListed (refusal.Image x) lines name old new = CauseUnanswered (Image (fault.Image x)) name lines old new
-CauseNotListed (refusal.BadCapacity dev) lines name old new = ⊥
-CauseNotListed (refusal.Volume entry kind) lines name old new = ⊥
-CauseNotListed refusal.RigFault lines name old new = CauseUnanswered (Image fault.RigFault) name lines old new
-CauseNotListed refusal.Memory lines name old new = CauseUnanswered (Image fault.Memory) name lines old new
-CauseNotListed refusal.ReadFault lines name old new = ⊥
-
 -- Why no vectors come: the source gives nothing, and the rig is as before; or the script that was taken doesn't run; or the list that was taken isn't done.
 abbrev pub CauseNotPlayed : Refusal → Facts → Type 0
 CauseNotPlayed r f =
     (CauseNotTaken r f.left f.left_after f.reads f.reads_after × (f.rig_after ≡ f.rig))
     ⊎ (((script : Script) × HoldsScript script f.left f.left_after × CauseStopped r script f.name f.rig f.rig_after)
-    ⊎ ((lines : List VectorLine) × HoldsList lines f.left f.left_after × CauseNotListed r lines f.name f.rig f.rig_after))
+    ⊎ ((lines : List VectorLine) × HoldsList lines f.left f.left_after × CauseUnanswered r f.name lines f.rig f.rig_after))
 
 -- what a list's done call shows of the list itself, over views alone
 abbrev pub ListPlayed : Played → List VectorLine → List ℕ → RigState → RigState → Type 0

@@ -8,7 +8,7 @@ use Rattle.target_answer.specs.declared.request.Request.{Request}
 use Rattle.target_answer.specs.declared.request.Request.TheVariants.{Read, Write, Verify, ReadCapacity}
 use Rattle.script_lines.specs.declared.kind.ScriptKind.TheVariants.{BadRange}
 use Rattle.vector_lines.specs.declared.line.VectorLine.{VectorLine}
-use Rattle.vector_lines.specs.declared.read.VectorFault.{VectorFault}
+use Rattle.script_text.specs.declared.fault.ScriptFault.{ScriptFault}
 
 -- Whether a rig can do the commands of a list.
 
@@ -31,6 +31,6 @@ abbrev pub is_inside : (devices : ℕ) → VectorLine → Bool
 is_inside devices l = ltb l.dev devices && (leb (asked_of l.cdb) 1024 && leb (length l.cdb) 32)
 
 -- the first line of which this isn't so
-abbrev pub out_of_range : (devices : ℕ) → List VectorLine → Option VectorFault
+abbrev pub out_of_range : (devices : ℕ) → List VectorLine → Option ScriptFault
 out_of_range devices [] = None
 out_of_range devices (l ∷ ls) = if is_inside devices l then out_of_range devices ls else Some (record { line = l.number; kind = BadRange })

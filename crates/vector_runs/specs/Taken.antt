@@ -5,26 +5,21 @@ use Rattle.script_text.specs.Language.{script_in}
 use Rattle.script_text.specs.declared.fault.ScriptFault.{ScriptFault}
 use Rattle.script_text.specs.declared.script.Script.{Script}
 use Rattle.script_verdict.specs.Working.{IsSound}
-use Rattle.script_verdict.specs.declared.refusal.Refusal.{Refusal}
-use Rattle.script_verdict.specs.declared.refusal.Refusal.TheVariants as refusal
+use Rattle.call_refusal.specs.declared.refusal.Refusal.{Refusal}
+use Rattle.call_refusal.specs.declared.refusal.Refusal.TheVariants as refusal
 use Rattle.script_words.specs.Cuts.{lines_of}
 use Rattle.source_text.specs.Reading.{IsOver, IsWhole, TookAtMost, most_bytes}
 use Rattle.vector_lines.specs.Texts.{is_list, list_in}
 use Rattle.vector_lines.specs.declared.line.VectorLine.{VectorLine}
-use Rattle.vector_lines.specs.declared.read.VectorFault.{VectorFault}
 use Rattle.vector_runs.specs.Unplayed.{unplayed}
 use Rattle.vector_runs.specs.declared.wanted.Wanted.{Wanted}
 use Rattle.vector_runs.specs.declared.wanted.Wanted.TheVariants as wanted
 
 -- A text whose commands are wanted: a list where its first line that isn't skipped is dix vectors 1, else a script.
 
--- a list's fault, as one of a script
-abbrev pub as_script : VectorFault → ScriptFault
-as_script f = record { line = f.line; kind = f.kind }
-
-abbrev pub list_fault : Result (List VectorLine) VectorFault → Option ScriptFault
+abbrev pub list_fault : Result (List VectorLine) ScriptFault → Option ScriptFault
 list_fault (Ok lines) = None
-list_fault (Err f) = Some (as_script f)
+list_fault (Err f) = Some f
 
 abbrev pub script_fault : Result Script ScriptFault → Option ScriptFault
 script_fault (Ok script) = unplayed script
@@ -74,9 +69,6 @@ HoldsFault f old new = ((text : List ℕ) × IsWhole text old new × (text_fault
 -- Why a source gives nothing: what it held has a fault, there is no memory, or the source failed.
 abbrev pub CauseNotTaken : Refusal → Option (List ℕ) → Option (List ℕ) → ℕ → ℕ → Type 0
 CauseNotTaken (refusal.Script bad) old new o n = HoldsFault bad old new
-CauseNotTaken (refusal.Image x) old new o n = ⊥
-CauseNotTaken (refusal.BadCapacity dev) old new o n = ⊥
-CauseNotTaken (refusal.Volume entry kind) old new o n = ⊥
-CauseNotTaken refusal.RigFault old new o n = ⊥
 CauseNotTaken refusal.Memory old new o n = TookAtMost (most_bytes + 1) old new
 CauseNotTaken refusal.ReadFault old new o n = Rose o n × TookAtMost most_bytes old new
+CauseNotTaken _ old new o n = ⊥

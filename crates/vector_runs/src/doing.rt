@@ -62,14 +62,8 @@ fn do_line<R: Rig>(alloc: Global, line: &VectorLine, rig: &mut R) -> Result<(), 
 {
     let cdb = line.cdb.as_slice();
     let sent = line.out.as_slice();
-    match rig.reserve(alloc, 1, blocks_of(cdb)) {
-        Ok(()) => {}
-        Err(error) => return Err(error),
-    }
-    let mut held = match zeros(alloc, room_of(rig.size(line.dev), cdb)) {
-        Ok(held) => held,
-        Err(error) => return Err(error),
-    };
+    rig.reserve(alloc, 1, blocks_of(cdb))?;
+    let mut held = zeros(alloc, room_of(rig.size(line.dev), cdb))?;
     let into = held.as_mut_slice();
     rig.exchange(line.dev, cdb, &[], sent, into);
     Ok(())
@@ -85,10 +79,7 @@ pub fn do_list<R: Rig>(alloc: Global, lines: &[VectorLine], rig: &mut R) -> Resu
         MatchResult result (λ _. HaveDone lines.now old new) (λ _. HaveDoneSome lines.now old new) }
 {
     for line in lines {
-        match do_line(alloc, line, rig) {
-            Ok(()) => {}
-            Err(error) => return Err(error),
-        }
+        do_line(alloc, line, rig)?;
     }
     Ok(())
 }

@@ -10,7 +10,7 @@ mod records;
 mod scripts;
 mod wanted;
 
-pub use answering::{ListFault, answer_list};
+pub use answering::answer_list;
 pub use doing::do_list;
 pub use playing::{Played, play_source, print_played};
 pub use printing::{has_sense, print_list};

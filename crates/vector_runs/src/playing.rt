@@ -4,17 +4,19 @@ ghost use Rattle.std.specs.Prelude.{◌≡◌, ◌≤◌, MatchResult, OnErr, On
 ghost use Rattle.dix_base.specs.Told.{Appended, AppendedSome, Rose};
 ghost use Rattle.script_verdict.specs.Verdict.{CauseStopped, Facts};
 ghost use Rattle.script_verdict.specs.Working.{IsSound};
+ghost use Rattle.vector_runs.specs.Answered.{CauseUnanswered};
 ghost use Rattle.vector_runs.specs.ListText.{has_sense};
-ghost use Rattle.vector_runs.specs.Played.{AreLogged, CauseNotListed, HasCome, ListPlayed, ScriptPlayed, first_of, played_text, refused};
+ghost use Rattle.vector_runs.specs.Played.{AreLogged, HasCome, ListPlayed, ScriptPlayed, first_of, played_text};
 
-use crate::answering::{ListFault, answer_list};
+use crate::answering::answer_list;
 use crate::printing::{has_sense, print_list};
 use crate::records::print_records;
 use crate::wanted::{Wanted, take_wanted};
+use call_refusal::Refusal;
 use dix_base::{Failed, Sink, Source};
 use rig_api::Rig;
-use script_text::{Script, ScriptFault};
-use script_verdict::{Finished, Refusal, run_script};
+use script_text::Script;
+use script_verdict::{Finished, run_script};
 use std::alloc::Global;
 use vector_lines::VectorLine;
 
@@ -32,19 +34,6 @@ pub enum Played {
     Ran(Finished),
 }
 
-/// The refusal of a list that isn't done.
-fn refused(fault: ListFault) -> Refusal
-    ensures { result ≡ refused fault }
-{
-    match fault {
-        ListFault::Line(fault) => Refusal::Script(ScriptFault {
-            line: fault.line,
-            kind: fault.kind,
-        }),
-        ListFault::Image(fault) => Refusal::of(fault),
-    }
-}
-
 /// Does the commands of a list.
 fn play_list<R: Rig>(
     alloc: Global,
@@ -54,13 +43,11 @@ fn play_list<R: Rig>(
 ) -> Result<Played, Refusal>
     ensures { let old = R.state rig.old in
         let new = R.state rig.new in
-        MatchResult result (λ p. ListPlayed p lines.items image.now old new) (λ r. CauseNotListed r lines.items image.now old new) }
+        MatchResult result (λ p. ListPlayed p lines.items image.now old new) (λ r. CauseUnanswered r image.now lines.items old new) }
 {
     let first = rig.records();
-    match answer_list(alloc, image, &lines, rig) {
-        Ok(()) => Ok(Played::Listed { lines, first }),
-        Err(fault) => Err(refused(fault)),
-    }
+    answer_list(alloc, image, &lines, rig)?;
+    Ok(Played::Listed { lines, first })
 }
 
 /// Does the commands of a script.
@@ -75,10 +62,7 @@ fn play_script<R: Rig>(
         let new = R.state rig.new in
         MatchResult result (λ p. ScriptPlayed p script image.now old new) (λ r. CauseStopped r script image.now old new) }
 {
-    match run_script(alloc, image, script, rig) {
-        Ok(run) => Ok(Played::Ran(run)),
-        Err(refusal) => Err(refusal),
-    }
+    Ok(Played::Ran(run_script(alloc, image, script, rig)?))
 }
 
 /// Reads what the source holds, to its end, and does its commands over the image of this name. A list has commands
@@ -104,10 +88,10 @@ pub fn play_source<S: Source, R: Rig>(
     } in
         HasCome result f }
 {
-    match take_wanted(alloc, source) {
-        Ok(Wanted::Lines(lines)) => play_list(alloc, image, lines, rig),
-        Ok(Wanted::Script(script)) => play_script(alloc, image, script, rig),
-        Err(refusal) => Err(refusal),
+    let wanted = take_wanted(alloc, source)?;
+    match wanted {
+        Wanted::Lines(lines) => play_list(alloc, image, lines, rig),
+        Wanted::Script(script) => play_script(alloc, image, script, rig),
     }
 }
 

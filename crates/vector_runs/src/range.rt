@@ -6,8 +6,9 @@ ghost use Rattle.vector_runs.specs.Ranges.{asked, asked_of, is_inside, out_of_ra
 use cdb_codec::Cdb;
 use rig_api::Rig;
 use script_lines::ScriptKind;
+use script_text::ScriptFault;
 use target_answer::{Request, request_of};
-use vector_lines::{VectorFault, VectorLine};
+use vector_lines::VectorLine;
 
 /// A command of a list has at most this many blocks.
 const MOST_BLOCKS: u32 = 1024;
@@ -45,12 +46,12 @@ fn is_inside(devices: u32, line: &VectorLine) -> bool
 
 /// The first line whose device the rig hasn't, or whose command has more than 1,024 blocks (or 32 bytes, which no line
 /// that was read has).
-pub fn out_of_range<R: Rig>(rig: &R, lines: &[VectorLine]) -> Option<VectorFault>
+pub fn out_of_range<R: Rig>(rig: &R, lines: &[VectorLine]) -> Option<ScriptFault>
     ensures { result ≡ out_of_range (R.state rig.now).standing.devices lines.now }
 {
     for line in lines {
         if !is_inside(rig.devices(), line) {
-            return Some(VectorFault {
+            return Some(ScriptFault {
                 line: line.number,
                 kind: ScriptKind::BadRange,
             });

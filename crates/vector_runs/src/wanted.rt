@@ -6,13 +6,13 @@ ghost use Rattle.vector_lines.specs.Texts.{is_list};
 ghost use Rattle.vector_runs.specs.Taken.{CauseNotHeld, CauseNotTaken, HasTaken, Holds, KeepsRules};
 
 use crate::scripts::unplayed;
+use call_refusal::Refusal;
 use dix_base::Source;
 use script_laws::a_read_script_keeps_the_rules;
-use script_text::{Script, ScriptFault, ScriptKind, read_script};
-use script_verdict::{Refusal, TOO_LONG};
-use source_text::{Unread, read_all};
+use script_text::{Script, read_script};
+use source_text::read_all;
 use std::alloc::Global;
-use vector_lines::{VectorFault, VectorLine, is_list, read_list};
+use vector_lines::{VectorLine, is_list, read_list};
 
 /// What a text without a fault holds.
 #[derive(Drop)]
@@ -29,16 +29,7 @@ fn list_of(alloc: Global, text: &[u8]) -> Result<Wanted, Refusal>
     ensures held { MatchResult result (λ w. Holds w text.now) (λ r. CauseNotHeld r text.now) }
     ensures rules { IfOk result (λ w. KeepsRules w) }
 {
-    match read_list(alloc, text) {
-        Ok(lines) => Ok(Wanted::Lines(lines)),
-        Err(
-            VectorFault {
-                line: _,
-                kind: ScriptKind::Memory,
-            },
-        ) => Err(Refusal::Memory),
-        Err(VectorFault { line, kind }) => Err(Refusal::Script(ScriptFault { line, kind })),
-    }
+    Ok(Wanted::Lines(read_list(alloc, text)?))
 }
 
 /// What a text holds that is no list.
@@ -47,21 +38,11 @@ fn script_of(alloc: Global, text: &[u8]) -> Result<Wanted, Refusal>
     ensures held { MatchResult result (λ w. Holds w text.now) (λ r. CauseNotHeld r text.now) }
     ensures rules { IfOk result (λ w. KeepsRules w) }
 {
-    match read_script(alloc, text) {
-        Ok(script) => {
-            a_read_script_keeps_the_rules(text, &script);
-            match unplayed(&script) {
-                None => Ok(Wanted::Script(script)),
-                Some(fault) => Err(Refusal::Script(fault)),
-            }
-        }
-        Err(
-            ScriptFault {
-                line: _,
-                kind: ScriptKind::Memory,
-            },
-        ) => Err(Refusal::Memory),
-        Err(fault) => Err(Refusal::Script(fault)),
+    let script = read_script(alloc, text)?;
+    a_read_script_keeps_the_rules(text, &script);
+    match unplayed(&script) {
+        None => Ok(Wanted::Script(script)),
+        Some(fault) => Err(Refusal::Script(fault)),
     }
 }
 
@@ -84,10 +65,6 @@ pub(crate) fn take_wanted<S: Source>(alloc: Global, source: &mut S) -> Result<Wa
     ensures cause { IfErr result (λ r. CauseNotTaken r (S.left source.old) (S.left source.new) (S.faults source.old) (S.faults source.new)) }
     ensures count { S.faults source.old ≤ S.faults source.new }
 {
-    match read_all(alloc, source) {
-        Ok(text) => wanted_of(alloc, &text),
-        Err(Unread::Failed) => Err(Refusal::ReadFault),
-        Err(Unread::Memory) => Err(Refusal::Memory),
-        Err(Unread::TooMany) => Err(Refusal::Script(TOO_LONG)),
-    }
+    let text = read_all(alloc, source)?;
+    wanted_of(alloc, &text)
 }

@@ -1,8 +1,8 @@
 use Rattle.std.proofs.Common.{length, refl, ap, ◌∙◌, arith}
 use Rattle.target_answer.specs.Headers.{is_layout}
-use Rattle.image_commands.specs.Causes.{CauseUnformatted}
 use Rattle.dix_run.specs.Commands.{format_work}
-use Rattle.dix_run.proofs.Endings.{by_fault, formatted, refused}
+use Rattle.dix_run.specs.declared.refusal.Refusal.TheVariants as refusal
+use Rattle.dix_run.proofs.Endings.{formatted, refused}
 use Rattle.dix_run.proofs.Layouts.{few_units}
 use Rattle.dix_run.proofs.commands.format.Goals as goal
 
@@ -22,5 +22,4 @@ returns-in-Ok g c = λ left reads.
 
 pub returns-in-Err : goal.returns-in-Err
 returns-in-Err g c = λ left reads.
-    refused (format_work c.args.units.now) c.of.result _ _ _ _ _ c.refuse.result
-    (by_fault CauseUnformatted c.of.result c.in-Err.fault _ _ _ c.of.ensures (rw c.image_of.ensures at c.in-Err.ensures), (refl, refl)) c.refuse.ensures
+    refused (format_work c.args.units.now) (refusal.Stopped c.in-Err.stop) _ _ _ _ _ c.refuse.result (rw c.image_of.ensures at c.in-Err.ensures, (refl, refl)) c.refuse.ensures

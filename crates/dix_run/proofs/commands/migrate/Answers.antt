@@ -1,7 +1,7 @@
 use Rattle.std.proofs.Common.{refl}
-use Rattle.image_commands.specs.Causes.{CauseUnmigrated}
 use Rattle.dix_run.specs.Commands.{migrate_work}
-use Rattle.dix_run.proofs.Endings.{by_fault, done, refused}
+use Rattle.dix_run.specs.declared.refusal.Refusal.TheVariants as refusal
+use Rattle.dix_run.proofs.Endings.{done, refused}
 use Rattle.dix_run.proofs.commands.migrate.Goals as goal
 
 pub returns-in-Ok : goal.returns-in-Ok
@@ -10,5 +10,4 @@ returns-in-Ok g c = λ left reads.
 
 pub returns-in-Err : goal.returns-in-Err
 returns-in-Err g c = λ left reads.
-    refused migrate_work c.of.result _ _ _ _ _ c.refuse.result
-    (by_fault CauseUnmigrated c.of.result c.in-Err.fault _ _ _ c.of.ensures (rw c.image_of.ensures at c.in-Err.ensures), (refl, refl)) c.refuse.ensures
+    refused migrate_work (refusal.Stopped c.in-Err.stop) _ _ _ _ _ c.refuse.result (rw c.image_of.ensures at c.in-Err.ensures, (refl, refl)) c.refuse.ensures

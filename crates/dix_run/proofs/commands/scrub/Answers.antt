@@ -1,15 +1,13 @@
 use Rattle.std.proofs.Common.{refl}
-use Rattle.image_commands.specs.Causes.{CauseUnscrubbed}
-use Rattle.image_commands.specs.declared.fault.Fault.TheVariants as fault
 use Rattle.dix_run.specs.Commands.{scrub_work}
 use Rattle.dix_run.specs.Verdict.{no_memory}
-use Rattle.dix_run.proofs.Endings.{by_fault, done, refused, scrub_spared}
+use Rattle.dix_run.specs.declared.refusal.Refusal.TheVariants as refusal
+use Rattle.dix_run.proofs.Endings.{done, refused, scrub_spared}
 use Rattle.dix_run.proofs.commands.scrub.Goals as goal
 
 pub returns-in-Err : goal.returns-in-Err
 returns-in-Err g c = λ left reads.
-    refused scrub_work c.of.result _ _ _ _ _ c.refuse.result
-    (by_fault CauseUnscrubbed c.of.result c.in-Err.fault _ _ _ c.of.ensures (rw c.image_of.ensures at c.in-Err.ensures), (refl, refl)) c.refuse.ensures
+    refused scrub_work (refusal.Stopped c.in-Err.stop) _ _ _ _ _ c.refuse.result (rw c.image_of.ensures at c.in-Err.ensures, (refl, refl)) c.refuse.ensures
 
 pub returns-in-Ok-scrub_text : goal.returns-in-Ok-scrub_text
 returns-in-Ok-scrub_text g c = λ left reads.
@@ -19,4 +17,4 @@ returns-in-Ok-scrub_text g c = λ left reads.
 pub returns : goal.returns
 returns g c = λ left reads.
     refused scrub_work no_memory _ _ _ _ _ c.refuse-in-Err-scrub_text.result
-    (by_fault CauseUnscrubbed no_memory fault.Memory _ _ _ refl (scrub_spared _ _ _ _ _ (rw c.image_of.ensures at c.in-Ok.ensures)), (refl, refl)) c.refuse-in-Err-scrub_text.ensures
+    (scrub_spared _ _ _ _ _ (rw c.image_of.ensures at c.in-Ok.ensures), (refl, refl)) c.refuse-in-Err-scrub_text.ensures

@@ -1,5 +1,6 @@
 use Rattle.dix_run.specs.Commands.{nvme_work}
-use Rattle.dix_run.proofs.Endings.{by_nvm_fault, done, refused}
+use Rattle.dix_run.specs.declared.refusal.Refusal.TheVariants as refusal
+use Rattle.dix_run.proofs.Endings.{done, refused}
 use Rattle.dix_run.proofs.nvme.nvme.Goals as goal
 
 pub returns-in-Ok : goal.returns-in-Ok
@@ -8,4 +9,4 @@ returns-in-Ok g c =
 
 pub returns-in-Err : goal.returns-in-Err
 returns-in-Err g c =
-    refused nvme_work c.of_commands.result _ _ _ _ _ c.refuse.result (by_nvm_fault c.of_commands.result c.in-Err.fault _ c.of_commands.ensures (rw c.image_of.ensures at c.in-Err.ensures)) c.refuse.ensures
+    refused nvme_work (refusal.Stopped c.in-Err.stop) _ _ _ _ _ c.refuse.result (rw c.image_of.ensures at c.in-Err.ensures) c.refuse.ensures

@@ -1,60 +1,60 @@
 use Rattle.std.proofs.Common.{ap, ◌∙◌, arith}
 use Rattle.std.specs.Prelude.{is_some}
+use Rattle.std.proofs.lemmas.Result.{err_from_is_err_and}
 use Rattle.rig_api.specs.Telling.{Standing}
 use Rattle.rig_api.specs.State.{RigState}
 use Rattle.answered_record.proofs.Going.{answers_from}
-use Rattle.image_commands.proofs.Devices.{devices_are, few_units, untold}
+use Rattle.image_commands.proofs.Devices.{devices_are, few_units, silent}
 use Rattle.image_commands.proofs.Bytes.{image_kept, some_unit}
 use Rattle.image_commands.proofs.scrubbing.told_devices.Goals as goal
 
 pub discover-requires-clause-few : goal.discover-requires-clause-few
 discover-requires-clause-few g c =
-    let few = few_units _ c.in-Ok.ensures.opened.judged in
+    let few = few_units _ c.in_ok-open_image.ensures.opened.judged in
     let same = ap (λ (s : Standing). s.devices) (ap (λ (s : RigState). s.standing) c.reserve.ensures.keeps) in
-    omega (arith, few, same, c.in-Ok.ensures.devices)
+    omega (arith, few, same, c.in_ok-open_image.ensures.devices)
 
-pub returns-in-Ok-discover-clause-told : goal.returns-in-Ok-discover-clause-told
-returns-in-Ok-discover-clause-told g c =
-    let few = few_units _ c.in-Ok.ensures.opened.judged in
+pub returns-clause-told : goal.returns-clause-told
+returns-clause-told g c =
+    let few = few_units _ c.in_ok-open_image.ensures.opened.judged in
     let same = ap (λ (s : Standing). s.devices) (ap (λ (s : RigState). s.standing) c.reserve.ensures.keeps) in
     record {
       between = g.R.Rig.state c.open_image.new.rig;
       since = record {
-        opened = c.in-Ok.ensures.opened;
-        kept = c.in-Ok.ensures.kept;
+        opened = c.in_ok-open_image.ensures.opened;
+        kept = c.in_ok-open_image.ensures.kept;
         laid = g.met.R.Rig.laid c.open_image.new.rig;
         image = image_kept (g.R.Rig.state c.reserve.new.self).standing (g.R.Rig.state c.discover.new.rig).standing (g.R.Rig.state c.reserve.new.self).image (g.R.Rig.state c.discover.new.rig).image (g.R.Rig.state c.reserve.new.self).units (g.R.Rig.state c.discover.new.rig).units c.discover.ensures.stays.standing
-            (let some = some_unit _ c.in-Ok.ensures.opened.judged in let stood = ap (λ (s : Standing). s.devices) (ap (λ (s : RigState). s.standing) c.reserve.ensures.keeps) in omega (arith, some, stood, c.in-Ok.ensures.devices))
+            (let some = some_unit _ c.in_ok-open_image.ensures.opened.judged in let stood = ap (λ (s : Standing). s.devices) (ap (λ (s : RigState). s.standing) c.reserve.ensures.keeps) in omega (arith, some, stood, c.in_ok-open_image.ensures.devices))
             (g.met.R.Rig.ready c.reserve.new.self) (g.met.R.Rig.ready c.discover.new.rig) (g.met.R.Rig.laid c.reserve.new.self) (g.met.R.Rig.laid c.discover.new.rig) c.discover.ensures.units c.discover.ensures.stays.tells ∙ ap (λ (s : RigState). s.image) c.reserve.ensures.keeps;
         units = c.discover.ensures.units ∙ ap (λ (s : RigState). s.units) c.reserve.ensures.keeps;
         standing = c.discover.ensures.stays.standing ∙ ap (λ (s : RigState). s.standing) c.reserve.ensures.keeps;
         count = omega (arith, c.discover.ensures.stays.count, ap (λ (s : RigState). s.faults) c.reserve.ensures.keeps);
       };
-      armed = c.discover.ensures.stays.armed ∙ ap (λ (s : RigState). s.armed) c.reserve.ensures.keeps ∙ c.in-Ok.ensures.kept.armed;
-      found = rw (ap (λ (s : RigState). s.standing) c.reserve.ensures.keeps, ap (λ (s : RigState). s.log) c.reserve.ensures.keeps) at c.in-Ok-discover.ensures.found;
-      devices_are = devices_are _ _ c.in-Ok-discover.devices.items _ _ _ c.in-Ok-discover.ensures.found (omega (arith, few, same, c.in-Ok.ensures.devices)) c.in-Ok-discover.ensures.ends c.discover.ensures.stays.standing c.discover.ensures.units
-          (g.met.R.Rig.laid c.reserve.new.self) c.in-Ok-discover.ensures.told;
+      armed = c.discover.ensures.stays.armed ∙ ap (λ (s : RigState). s.armed) c.reserve.ensures.keeps ∙ c.in_ok-open_image.ensures.kept.armed;
+      found = rw (ap (λ (s : RigState). s.standing) c.reserve.ensures.keeps, ap (λ (s : RigState). s.log) c.reserve.ensures.keeps) at c.in_ok-discover.ensures.found;
+      devices_are = devices_are _ _ c.in_ok-discover.field-0.items _ _ _ c.in_ok-discover.ensures.found (omega (arith, few, same, c.in_ok-open_image.ensures.devices)) c.in_ok-discover.ensures.ends c.discover.ensures.stays.standing c.discover.ensures.units
+          (g.met.R.Rig.laid c.reserve.new.self) c.in_ok-discover.ensures.told;
       answered = λ us e. answers_from us _ _ _ _ c.reserve.ensures.keeps (c.discover.ensures.answered us (ap (λ (s : RigState). s.units) c.reserve.ensures.keeps ∙ e));
     }
 
-pub returns-in-Err-discover-clause-told : goal.returns-in-Err-discover-clause-told
-returns-in-Err-discover-clause-told g c = record {
-  between = g.R.Rig.state c.open_image.new.rig;
-  since = record {
-    opened = c.in-Ok.ensures.opened;
-    kept = c.in-Ok.ensures.kept;
-    laid = g.met.R.Rig.laid c.open_image.new.rig;
-    image = image_kept (g.R.Rig.state c.reserve.new.self).standing (g.R.Rig.state c.discover.new.rig).standing (g.R.Rig.state c.reserve.new.self).image (g.R.Rig.state c.discover.new.rig).image (g.R.Rig.state c.reserve.new.self).units (g.R.Rig.state c.discover.new.rig).units c.discover.ensures.stays.standing
-        (let some = some_unit _ c.in-Ok.ensures.opened.judged in let stood = ap (λ (s : Standing). s.devices) (ap (λ (s : RigState). s.standing) c.reserve.ensures.keeps) in omega (arith, some, stood, c.in-Ok.ensures.devices))
-        (g.met.R.Rig.ready c.reserve.new.self) (g.met.R.Rig.ready c.discover.new.rig) (g.met.R.Rig.laid c.reserve.new.self) (g.met.R.Rig.laid c.discover.new.rig) c.discover.ensures.units c.discover.ensures.stays.tells ∙ ap (λ (s : RigState). s.image) c.reserve.ensures.keeps;
-    units = c.discover.ensures.units ∙ ap (λ (s : RigState). s.units) c.reserve.ensures.keeps;
-    standing = c.discover.ensures.stays.standing ∙ ap (λ (s : RigState). s.standing) c.reserve.ensures.keeps;
-    count = omega (arith, c.discover.ensures.stays.count, ap (λ (s : RigState). s.faults) c.reserve.ensures.keeps);
-  };
-  armed = c.discover.ensures.stays.armed ∙ ap (λ (s : RigState). s.armed) c.reserve.ensures.keeps ∙ c.in-Ok.ensures.kept.armed;
-  fault = rw (ap (λ (s : RigState). s.standing) c.reserve.ensures.keeps, ap (λ (s : RigState). s.log) c.reserve.ensures.keeps) at c.in-Err-discover.ensures.fault;
-  untold = untold _ (λ t.
-      let told = ap is_some (ap (λ (s : RigState). s.units) c.reserve.ensures.keeps) ∙ t in
-      let ok = c.in-Err-discover.ensures.never told in
-      cc);
-}
+pub returns-in_err-discover-clause-told : goal.returns-in_err-discover-clause-told
+returns-in_err-discover-clause-told g c =
+    let p = err_from_is_err_and c.from_residual-in_err-discover.result c.from_residual-in_err-discover.ensures.1 in
+    rw (p.1, p.2) (record {
+      between = g.R.Rig.state c.open_image.new.rig;
+      since = record {
+        opened = c.in_ok-open_image.ensures.opened;
+        kept = c.in_ok-open_image.ensures.kept;
+        laid = g.met.R.Rig.laid c.open_image.new.rig;
+        image = image_kept (g.R.Rig.state c.reserve.new.self).standing (g.R.Rig.state c.discover.new.rig).standing (g.R.Rig.state c.reserve.new.self).image (g.R.Rig.state c.discover.new.rig).image (g.R.Rig.state c.reserve.new.self).units (g.R.Rig.state c.discover.new.rig).units c.discover.ensures.stays.standing
+            (let some = some_unit _ c.in_ok-open_image.ensures.opened.judged in let stood = ap (λ (s : Standing). s.devices) (ap (λ (s : RigState). s.standing) c.reserve.ensures.keeps) in omega (arith, some, stood, c.in_ok-open_image.ensures.devices))
+            (g.met.R.Rig.ready c.reserve.new.self) (g.met.R.Rig.ready c.discover.new.rig) (g.met.R.Rig.laid c.reserve.new.self) (g.met.R.Rig.laid c.discover.new.rig) c.discover.ensures.units c.discover.ensures.stays.tells ∙ ap (λ (s : RigState). s.image) c.reserve.ensures.keeps;
+        units = c.discover.ensures.units ∙ ap (λ (s : RigState). s.units) c.reserve.ensures.keeps;
+        standing = c.discover.ensures.stays.standing ∙ ap (λ (s : RigState). s.standing) c.reserve.ensures.keeps;
+        count = omega (arith, c.discover.ensures.stays.count, ap (λ (s : RigState). s.faults) c.reserve.ensures.keeps);
+      };
+      armed = c.discover.ensures.stays.armed ∙ ap (λ (s : RigState). s.armed) c.reserve.ensures.keeps ∙ c.in_ok-open_image.ensures.kept.armed;
+      fault = rw (ap (λ (s : RigState). s.standing) c.reserve.ensures.keeps, ap (λ (s : RigState). s.log) c.reserve.ensures.keeps) at c.in_err-discover.ensures.fault;
+      untold = silent _ (λ t. c.in_err-discover.ensures.never (ap is_some (ap (λ (s : RigState). s.units) c.reserve.ensures.keeps) ∙ t));
+    })

@@ -1,10 +1,11 @@
 use Rattle.std.proofs.Common.{ap, ◌∙◌, arith}
 use Rattle.std.specs.Prelude.{is_some}
 use Rattle.std.specs.List.{list_all}
+use Rattle.std.proofs.lemmas.Result.{err_from_is_err_and}
 use Rattle.rig_api.specs.Telling.{Standing}
 use Rattle.rig_api.specs.State.{RigState}
 use Rattle.nvme_front.specs.Refusals.{has_size}
-use Rattle.image_commands.proofs.Devices.{devices_are, few_units, untold}
+use Rattle.image_commands.proofs.Devices.{devices_are, few_units, silent}
 use Rattle.nvme_session.proofs.Sizes.{for-front, sizes-found}
 use Rattle.nvme_session.proofs.opening.front_of.Goals as goal
 
@@ -16,21 +17,22 @@ discover-requires-clause-few g c =
 
 pub new-requires-clause-sizes : goal.new-requires-clause-sizes
 new-requires-clause-sizes g c =
-    let found = rw (ap (λ (s : RigState). s.standing) c.reserve.ensures.keeps) at c.in-Ok-discover.ensures.found in
-    ap (list_all has_size) c.deref.ensures.0 ∙ sizes-found (g.R.Rig.state c.args.rig.now).standing c.in-Ok-discover.devices.items _ _ c.requires.right c.requires.devices found
+    let found = rw (ap (λ (s : RigState). s.standing) c.reserve.ensures.keeps) at c.in_ok-devices.ensures.found in
+    ap (list_all has_size) c.deref.ensures.0 ∙ sizes-found (g.R.Rig.state c.args.rig.now).standing c.in_ok-devices.devices.items _ _ c.requires.right c.requires.devices found
 
-pub returns-in-Err-discover-clause-cause : goal.returns-in-Err-discover-clause-cause
-returns-in-Err-discover-clause-cause g c =
+pub returns-in_err-devices-clause-cause : goal.returns-in_err-devices-clause-cause
+returns-in_err-devices-clause-cause g c =
     let same = ap (λ (s : RigState). s.units) c.reserve.ensures.keeps in
-    (rw (ap (λ (s : RigState). s.standing) c.reserve.ensures.keeps, ap (λ (s : RigState). s.log) c.reserve.ensures.keeps) at c.in-Err-discover.ensures.fault, untold _ (λ t. (let told = ap is_some same ∙ t in let ok = c.in-Err-discover.ensures.never told in cc)))
+    let p = err_from_is_err_and c.from_residual-in_err-devices.result c.from_residual-in_err-devices.ensures.1 in
+    rw (p.1, p.2) (rw (ap (λ (s : RigState). s.standing) c.reserve.ensures.keeps, ap (λ (s : RigState). s.log) c.reserve.ensures.keeps) at c.in_err-devices.ensures.fault, silent _ (λ t. c.in_err-devices.ensures.never (ap is_some same ∙ t)))
 
-pub returns-in-Err-discover-clause-units : goal.returns-in-Err-discover-clause-units
-returns-in-Err-discover-clause-units g c = c.discover.ensures.units ∙ ap (λ (s : RigState). s.units) c.reserve.ensures.keeps
+pub returns-in_err-devices-clause-units : goal.returns-in_err-devices-clause-units
+returns-in_err-devices-clause-units g c = c.discover.ensures.units ∙ ap (λ (s : RigState). s.units) c.reserve.ensures.keeps
 
-pub returns-in-Ok-new-clause-devices : goal.returns-in-Ok-new-clause-devices
-returns-in-Ok-new-clause-devices g c =
+pub returns-clause-devices : goal.returns-clause-devices
+returns-clause-devices g c =
     let few = few_units _ c.requires.right in
     let same = ap (λ (s : Standing). s.devices) (ap (λ (s : RigState). s.standing) c.reserve.ensures.keeps) in
-    for-front _ _ _ _ (c.in-Ok-new.ensures ∙ c.deref.ensures.0)
-    (devices_are _ _ c.in-Ok-discover.devices.items _ _ _ c.in-Ok-discover.ensures.found (omega (arith, few, same, c.requires.devices)) c.in-Ok-discover.ensures.ends c.discover.ensures.stays.standing c.discover.ensures.units
-    (g.met.R.Rig.laid c.reserve.new.self) c.in-Ok-discover.ensures.told)
+    for-front _ _ _ _ (c.in_ok-new.ensures ∙ c.deref.ensures.0)
+    (devices_are _ _ c.in_ok-devices.devices.items _ _ _ c.in_ok-devices.ensures.found (omega (arith, few, same, c.requires.devices)) c.in_ok-devices.ensures.ends c.discover.ensures.stays.standing c.discover.ensures.units
+    (g.met.R.Rig.laid c.reserve.new.self) c.in_ok-devices.ensures.told)

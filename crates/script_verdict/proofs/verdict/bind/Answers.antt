@@ -1,19 +1,23 @@
+use Rattle.std.proofs.lemmas.Result.{err_from_is_err_and}
 use Rattle.script_verdict.proofs.Refusing.{unbound, untold}
 use Rattle.script_verdict.proofs.verdict.bind.Goals as goal
 
 pub bound_table-requires-clause-ends : goal.bound_table-requires-clause-ends
-bound_table-requires-clause-ends g c = rw c.deref.ensures.0 c.in-Ok.ensures.told.devices_are.ends
+bound_table-requires-clause-ends g c = rw c.deref.ensures.0 c.in_ok-devices.ensures.told.devices_are.ends
 
-pub returns-in-Ok-bound_table : goal.returns-in-Ok-bound_table
-returns-in-Ok-bound_table g c = record {
-  asked = record { told = c.in-Ok.ensures.told; all = c.in-Ok.ensures.all };
-  made = rw c.deref.ensures.0 at c.in-Ok-bound_table.ensures.table;
-  bound = rw c.deref.ensures.0 at c.in-Ok-bound_table.ensures.bound;
+pub returns : goal.returns
+returns g c = record {
+  asked = record { told = c.in_ok-devices.ensures.told; all = c.in_ok-devices.ensures.all };
+  made = rw c.deref.ensures.0 at c.in_ok-table.ensures.table;
+  bound = rw c.deref.ensures.0 at c.in_ok-table.ensures.bound;
 }
 
-pub returns-in-Err-bound_table : goal.returns-in-Err-bound_table
-returns-in-Err-bound_table g c =
-    unbound c.in-Err-bound_table.refusal c.args.script.now c.args.image.now c.in-Ok.devices.items _ _ (record { told = c.in-Ok.ensures.told; all = c.in-Ok.ensures.all }) (rw c.deref.ensures.0 at c.in-Err-bound_table.ensures.cause)
+pub returns-in_err-table : goal.returns-in_err-table
+returns-in_err-table g c =
+    let p = err_from_is_err_and c.from_residual-in_err-table.result c.from_residual-in_err-table.ensures.1 in
+    rw (p.1, p.2) (unbound c.in_err-table.field-0.0 c.args.script.now c.args.image.now c.in_ok-devices.devices.items _ _ (record { told = c.in_ok-devices.ensures.told; all = c.in_ok-devices.ensures.all }) (rw c.deref.ensures.0 at c.in_err-table.ensures.cause))
 
-pub returns-in-Err : goal.returns-in-Err
-returns-in-Err g c = rw c.of.ensures (untold c.in-Err.fault c.args.script.now c.args.image.now _ _ c.in-Err.ensures.told)
+pub returns-in_err-devices : goal.returns-in_err-devices
+returns-in_err-devices g c =
+    let p = err_from_is_err_and c.from_residual.result c.from_residual.ensures.1 in
+    rw (p.1, p.2) (untold c.in_err-devices.field-0.0 c.args.script.now c.args.image.now _ _ c.in_err-devices.ensures.told)

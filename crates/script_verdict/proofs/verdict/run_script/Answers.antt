@@ -1,5 +1,6 @@
 use Rattle.std.proofs.Common.{inr, refl, sym, ap, subst, ◌∙◌}
 use Rattle.std.specs.Prelude.{is_some}
+use Rattle.std.proofs.lemmas.Result.{err_from_is_err_and}
 use Rattle.rig_api.specs.State.{RigState}
 use Rattle.script_verdict.proofs.Completing.{stops_from_outside}
 use Rattle.script_verdict.proofs.Devices.{has_device, known_infos}
@@ -16,42 +17,44 @@ pub ready_script-requires-clause-bound : goal.ready_script-requires-clause-bound
 ready_script-requires-clause-bound g c = record {
   suits = suits c.args.script c.requires.keeps;
   lines = c.requires.lines;
-  few = rw c.deref.ensures.0 c.in-Ok.ensures.asked.told.devices_are.few;
-  made = rw c.deref.ensures.0 c.in-Ok.ensures.made.made;
-  bound = rw c.deref.ensures.0 c.in-Ok.ensures.bound;
+  few = rw c.deref.ensures.0 c.in_ok-bound.ensures.asked.told.devices_are.few;
+  made = rw c.deref.ensures.0 c.in_ok-bound.ensures.made.made;
+  bound = rw c.deref.ensures.0 c.in_ok-bound.ensures.bound;
 }
 
 pub ready_script-requires-clause-count : goal.ready_script-requires-clause-count
-ready_script-requires-clause-count g c = rw c.deref.ensures.0 c.in-Ok.ensures.asked.told.devices_are.count
+ready_script-requires-clause-count g c = rw c.deref.ensures.0 c.in_ok-bound.ensures.asked.told.devices_are.count
 
 pub ready_script-requires-clause-told : goal.ready_script-requires-clause-told
-ready_script-requires-clause-told g c = rw c.deref.ensures.0 (known_infos c.args.image.now c.in-Ok.bound.devices.items _ _ c.in-Ok.ensures.asked (g.met.R.Rig.laid c.bind.new.rig))
+ready_script-requires-clause-told g c = rw c.deref.ensures.0 (known_infos c.args.image.now c.in_ok-bound.bound.devices.items _ _ c.in_ok-bound.ensures.asked (g.met.R.Rig.laid c.bind.new.rig))
 
-pub returns-in-Err-clause-complete : goal.returns-in-Err-clause-complete
-returns-in-Err-clause-complete g c =
-    stops_from_outside c.in-Err.refusal c.args.script c.args.image.now (g.R.Rig.state c.args.rig.now) (g.R.Rig.state c.bind.new.rig) c.in-Err.ensures
+pub returns-in_err-bound-clause-complete : goal.returns-in_err-bound-clause-complete
+returns-in_err-bound-clause-complete g c =
+    let p = err_from_is_err_and c.from_residual.result c.from_residual.ensures.1 in
+    rw (p.1, p.2) (stops_from_outside c.in_err-bound.field-0.0 c.args.script c.args.image.now (g.R.Rig.state c.args.rig.now) (g.R.Rig.state c.bind.new.rig) c.in_err-bound.ensures)
 
-pub returns-in-Err-ready_script-clause-verdict : goal.returns-in-Err-ready_script-clause-verdict
-returns-in-Err-ready_script-clause-verdict g c =
-    inr (c.in-Ok.bound.devices.items, asked_still c.args.image.now c.in-Ok.bound.devices.items (g.R.Rig.state c.args.rig.now) (g.R.Rig.state c.ready_script.new.rig) (g.R.Rig.state c.bind.new.rig) _ c.in-Err-ready_script.ensures.unarmed c.in-Ok.ensures.asked)
+pub returns-in_err-run-clause-verdict : goal.returns-in_err-run-clause-verdict
+returns-in_err-run-clause-verdict g c =
+    let p = err_from_is_err_and c.from_residual-in_err-run.result c.from_residual-in_err-run.ensures.1 in
+    rw (p.1, p.2) (inr (c.in_ok-bound.bound.devices.items, asked_still c.args.image.now c.in_ok-bound.bound.devices.items (g.R.Rig.state c.args.rig.now) (g.R.Rig.state c.ready_script.new.rig) (g.R.Rig.state c.bind.new.rig) _ c.in_err-run.ensures.unarmed c.in_ok-bound.ensures.asked))
 
 pub returns-clause-verdict : goal.returns-clause-verdict
 returns-clause-verdict g c =
-    let devices = c.in-Ok.bound.devices.items in
+    let devices = c.in_ok-bound.bound.devices.items in
     let told = g.R.Rig.state c.bind.new.rig in
     let end = g.R.Rig.state c.run_all.new.rig in
-    let begun = c.in-Ok-ready_script.run'.stack in
+    let begun = c.in_ok-run.run'.stack in
     let r = c.run_all.new.stack in
-    let ready = c.in-Ok-ready_script.ensures in
+    let ready = c.in_ok-run.ensures in
     let begins = ready.begins in
-    let asked = c.in-Ok.ensures.asked in
+    let asked = c.in_ok-bound.ensures.asked in
     record {
       devices = devices;
       told = told;
       asked = asked;
-      table = c.in-Ok.bound.table;
-      made = c.in-Ok.ensures.made;
-      bound = c.in-Ok.ensures.bound;
+      table = c.in_ok-bound.bound.table;
+      made = c.in_ok-bound.ensures.made;
+      bound = c.in_ok-bound.ensures.bound;
       begun = begun;
       starts = record {
         stack = begins.stack;
@@ -65,7 +68,7 @@ returns-clause-verdict g c =
         pool = begins.new.pool;
       };
       ends = record { stack = c.run_all.ensures.stands.stack; stays = c.run_all.ensures.stays; ended = c.run_all.ensures.ended };
-      followed = followed c.args.script c.in-Ok.bound.table devices begun r told end c.a_script_run_is_backed.ensures c.a_finished_stack_has_sent.ensures.few c.a_finished_stack_has_sent.ensures.all c.a_finished_stack_names_the_medium_seldom.ensures c.a_told_script_run_has_walked.ensures c.a_calm_walk_is_a_plain_map.ensures.replies c.a_calm_walk_is_a_plain_map.ensures.under c.a_read_is_the_last_write_or_names_the_first_layer.ensures
+      followed = followed c.args.script c.in_ok-bound.bound.table devices begun r told end c.a_script_run_is_backed.ensures c.a_finished_stack_has_sent.ensures.few c.a_finished_stack_has_sent.ensures.all c.a_finished_stack_names_the_medium_seldom.ensures c.a_told_script_run_has_walked.ensures c.a_calm_walk_is_a_plain_map.ensures.replies c.a_calm_walk_is_a_plain_map.ensures.under c.a_read_is_the_last_write_or_names_the_first_layer.ensures
           c.a_script_is_shown_by_its_form.ensures c.a_script_supplies_no_escape_by_its_form.ensures
           c.a_told_script_run_has_fallen.ensures c.a_stack_reads_the_last_write_or_fails_at_the_medium.ensures c.a_stack_writes_or_fails_at_the_medium.ensures.own c.a_stack_writes_or_fails_at_the_medium.ensures.brought
           (record {
@@ -76,8 +79,8 @@ returns-clause-verdict g c =
             over = record {
               suits = suits c.args.script c.requires.keeps;
               lines = c.requires.lines;
-              made = c.in-Ok.ensures.made.made;
-              bound = c.in-Ok.ensures.bound;
+              made = c.in_ok-bound.ensures.made.made;
+              bound = c.in_ok-bound.ensures.bound;
               sizes = rw asked.told.since.standing (sizes-found asked.told.between.standing devices _ _ asked.told.found);
               known = known_infos c.args.image.now devices _ _ asked (g.met.R.Rig.laid c.bind.new.rig);
               laid = g.met.R.Rig.laid c.bind.new.rig;
@@ -107,4 +110,4 @@ returns-clause-verdict g c =
     }
 
 pub returns-clause-armed : goal.returns-clause-armed
-returns-clause-armed g c = c.run_all.ensures.rig.armed ∙ ap (λ (s : RigState). s.armed) c.in-Ok-ready_script.ensures.armed
+returns-clause-armed g c = c.run_all.ensures.rig.armed ∙ ap (λ (s : RigState). s.armed) c.in_ok-run.ensures.armed

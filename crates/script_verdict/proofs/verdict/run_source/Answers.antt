@@ -1,17 +1,18 @@
 use Rattle.std.proofs.Common.{inl, refl}
+use Rattle.std.proofs.lemmas.Result.{err_from_is_err_and}
 use Rattle.script_verdict.proofs.Completing.{all_complete, complete}
 use Rattle.script_verdict.proofs.Refusing.{source_run}
 use Rattle.script_verdict.specs.Verdict.{Facts}
 use Rattle.script_verdict.proofs.verdict.run_source.Goals as goal
 
-pub returns-in-Ok-clause-verdict : goal.returns-in-Ok-clause-verdict
-returns-in-Ok-clause-verdict g c = source_run c.run_script.result _ c.in-Ok.script c.in-Ok.ensures.reads c.run_script.ensures.verdict
+pub returns-clause-verdict : goal.returns-clause-verdict
+returns-clause-verdict g c = source_run c.run_script.result _ c.in_ok-script.script c.in_ok-script.ensures.reads c.run_script.ensures.verdict
 
-pub returns-in-Ok-clause-complete : goal.returns-in-Ok-clause-complete
-returns-in-Ok-clause-complete g c = all_complete c.run_script.result _ (source_run c.run_script.result _ c.in-Ok.script c.in-Ok.ensures.reads c.run_script.ensures.verdict)
+pub returns-clause-complete : goal.returns-clause-complete
+returns-clause-complete g c = all_complete c.run_script.result _ (source_run c.run_script.result _ c.in_ok-script.script c.in_ok-script.ensures.reads c.run_script.ensures.verdict)
 
-pub returns-in-Err-clause-complete : goal.returns-in-Err-clause-complete
-returns-in-Err-clause-complete g c =
+pub returns-in_err-script-clause-complete : goal.returns-in_err-script-clause-complete
+returns-in_err-script-clause-complete g c =
     let before = g.R.Rig.state c.args.rig.now in
     let f : Facts = record {
       name = c.args.image.now;
@@ -22,4 +23,5 @@ returns-in-Err-clause-complete g c =
       rig = before;
       rig_after = before;
     } in
-    complete c.in-Err.refusal f (inl (c.in-Err.ensures.cause, refl))
+    let p = err_from_is_err_and c.from_residual.result c.from_residual.ensures.1 in
+    rw (p.1, p.2) (complete c.in_err-script.field-0.0 f (inl (c.in_err-script.ensures.cause, refl)))

@@ -10,9 +10,9 @@ use Rattle.vector_runs.proofs.doing.do_line.Goals as goal
 
 pub exchange-requires-clause-capacity : goal.exchange-requires-clause-capacity
 exchange-requires-clause-capacity g c =
-    let long : length c.as_mut_slice-into.result.now ≡ room_of c.size.result c.as_slice-cdb.result.now = ap length (c.as_mut_slice-into.ensures.value ∙ c.in-Ok-zeros.ensures) ∙ length-replicate c.room_of.result 0 ∙ c.room_of.ensures in
+    let long : length c.as_mut_slice-into.result.now ≡ room_of c.size.result c.as_slice-cdb.result.now = ap length (c.as_mut_slice-into.ensures.value ∙ c.in_ok-held.ensures) ∙ length-replicate c.room_of.result 0 ∙ c.room_of.ensures in
     let few : capacity_len c.as_slice-cdb.result.now (length c.as_mut_slice-into.result.now) ≤ 32 = rw long (few_told c.size.result c.as_slice-cdb.result.now) in
-    let room = c.in-Ok.ensures.room in
+    let room = c.in_ok-reserve.ensures.room in
     omega (arith, few, room.moved)
 
 pub returns : goal.returns
@@ -21,5 +21,5 @@ returns g c =
     let size : c.size.result ≡ size_of standing c.args.line.now = c.size.ensures ∙ ap (λ (s : RigState). size_of s.standing c.args.line.now) c.reserve.ensures.keeps in
     let room : c.room_of.result ≡ room_of (size_of standing c.args.line.now) c.args.line.now.cdb = c.room_of.ensures ∙ ap (λ n. room_of n c.as_slice-cdb.result.now) size ∙ ap (room_of (size_of standing c.args.line.now)) c.as_slice-cdb.ensures in
     was_done c.args.line.now _ (g.R.Rig.state c.reserve.new.self) _ _ c.exchange.result c.as_slice-cdb.result.now c.as_slice-sent.result.now c.as_mut_slice-into.result.now c.exchange.new.into
-    c.reserve.ensures.keeps c.requires.calm c.as_slice-cdb.ensures c.as_slice-sent.ensures (c.as_mut_slice-into.ensures.value ∙ c.in-Ok-zeros.ensures ∙ ap (λ n. replicate n 0) room) c.exchange.auto.into
+    c.reserve.ensures.keeps c.requires.calm c.as_slice-cdb.ensures c.as_slice-sent.ensures (c.as_mut_slice-into.ensures.value ∙ c.in_ok-held.ensures ∙ ap (λ n. replicate n 0) room) c.exchange.auto.into
     c.exchange.ensures.exchanged

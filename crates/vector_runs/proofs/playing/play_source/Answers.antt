@@ -1,16 +1,19 @@
 use Rattle.std.proofs.Common.{refl}
+use Rattle.std.proofs.lemmas.Result.{err_from_is_err_and}
 use Rattle.vector_runs.proofs.Coming.{come_listed, come_ran, come_untaken}
 use Rattle.vector_runs.proofs.playing.play_source.Goals as goal
 
-pub returns-in-Ok-Lines : goal.returns-in-Ok-Lines
-returns-in-Ok-Lines g c =
-    let taken = rw c.in-Ok-Lines.field-0-is at c.in-Ok-Lines.ensures.taken in
-    come_listed c.play_list.result _ c.in-Ok-Lines.lines.items c.in-Ok-Lines.ensures.count taken c.play_list.ensures
+pub returns-in-Lines : goal.returns-in-Lines
+returns-in-Lines g c =
+    let taken = rw c.in-Lines.is at c.in_ok-wanted.ensures.taken in
+    come_listed c.play_list.result _ c.in-Lines.lines.items c.take_wanted.ensures.count taken c.play_list.ensures
 
-pub returns-in-Ok-Script : goal.returns-in-Ok-Script
-returns-in-Ok-Script g c =
-    let taken = rw c.in-Ok-Script.field-0-is at c.in-Ok-Script.ensures.taken in
-    come_ran c.play_script.result _ c.in-Ok-Script.script c.in-Ok-Script.ensures.count taken c.play_script.ensures
+pub returns-in-Script : goal.returns-in-Script
+returns-in-Script g c =
+    let taken = rw c.in-Script.is at c.in_ok-wanted.ensures.taken in
+    come_ran c.play_script.result _ c.in-Script.script c.take_wanted.ensures.count taken c.play_script.ensures
 
-pub returns-in-Err : goal.returns-in-Err
-returns-in-Err g c = come_untaken c.in-Err.refusal _ c.in-Err.ensures.count c.in-Err.ensures.cause refl
+pub returns-in_err-wanted : goal.returns-in_err-wanted
+returns-in_err-wanted g c =
+    let p = err_from_is_err_and c.from_residual.result c.from_residual.ensures.1 in
+    rw (p.1, p.2) (come_untaken c.in_err-wanted.field-0.0 _ c.take_wanted.ensures.count c.in_err-wanted.ensures.cause refl)

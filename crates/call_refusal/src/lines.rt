@@ -1,71 +1,18 @@
-//! Why a call comes to no run.
+//! The line of a refusal.
 
-ghost use Rattle.std.specs.Prelude.{◌≡◌, ◌⊎◌, ◌≤◌, ◌++◌, codes, decimal, length};
+ghost use Rattle.std.specs.Prelude.{◌≡◌, ◌≤◌, ◌++◌, codes, decimal, length};
 ghost use Rattle.rig_api.specs.Head.{fault_name};
 ghost use Rattle.script_lines.specs.Kinds.{kind_name, kind_number};
-ghost use Rattle.script_lines.specs.declared.kind.ScriptKind.{ScriptKind};
 ghost use Rattle.volume_table.specs.Faults.{kind_name as volume_kind_name, kind_number as volume_kind_number};
-ghost use Rattle.script_verdict.specs.Texts.{fault_line, refusal_text};
-ghost use Rattle.script_verdict.specs.Working.{refusal_of};
+ghost use Rattle.call_refusal.specs.Texts.{fault_line, refusal_text};
 
-use image_commands::Fault;
+use crate::refusal::Refusal;
 use report_text::{Line, add, add_number};
 use rig_api::RigFault;
-use script_text::{ScriptFault, ScriptKind};
+use script_text::ScriptFault;
 use volume_table::VolumeKind;
 
-/// Why a call comes to no run.
-#[derive(Clone, Copy, Debug, PartialEq, Eq)]
-pub enum Refusal {
-    /// The script is not in the language, or may not run over the volume; its first fault.
-    Script(ScriptFault),
-    /// The image's head has this fault: `BadMagic`, `BadHeader` or `BadLength`.
-    Image(RigFault),
-    /// This device's answer to READ CAPACITY(16) is at fault.
-    BadCapacity {
-        /// The number of the device, from 0.
-        dev: u32,
-    },
-    /// An entry of the volume is at fault.
-    Volume {
-        /// The number of the entry, from 1.
-        entry: u32,
-        /// Its first fault.
-        kind: VolumeKind,
-    },
-    /// The rig failed as the image was opened.
-    RigFault,
-    /// Want of memory.
-    Memory,
-    /// The source of the script failed.
-    ReadFault,
-}
-
 impl Refusal {
-    /// The refusal of an image that isn't opened, or whose devices aren't known.
-    pub fn of(fault: Fault) -> Refusal
-        ensures { result ≡ refusal_of fault }
-    {
-        match fault {
-            Fault::Image(fault) => Refusal::Image(fault),
-            Fault::BadCapacity { dev } => Refusal::BadCapacity { dev },
-            Fault::RigFault => Refusal::RigFault,
-            Fault::Memory => Refusal::Memory,
-        }
-    }
-
-    /// The refusal of a script that isn't read.
-    pub(crate) fn of_script(fault: ScriptFault) -> Refusal
-        ensures memory { fault.kind ≡ ScriptKind.Memory → result ≡ Refusal.Memory }
-        ensures other { (fault.kind ≡ ScriptKind.Memory → ⊥) → result ≡ Refusal.Script fault }
-        ensures either { (result ≡ Refusal.Memory) ⊎ (result ≡ Refusal.Script fault) }
-    {
-        if fault.kind == ScriptKind::Memory {
-            return Refusal::Memory;
-        }
-        Refusal::Script(fault)
-    }
-
     /// The line that says it.
     pub fn line(self) -> Line
         ensures { result.items ≡ refusal_text self }
