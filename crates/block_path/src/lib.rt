@@ -6,6 +6,7 @@ mod adapter;
 mod laws;
 mod mode;
 mod route;
+mod senses;
 mod ways;
 
 pub use adapter::host_type;
@@ -16,3 +17,4 @@ pub use laws::{
 };
 pub use mode::Mode;
 pub use route::Route;
+pub use senses::why_by;

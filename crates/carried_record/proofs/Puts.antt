@@ -21,7 +21,7 @@ use Rattle.target_answer.specs.Frames.{frames_of, joined, sent_size}
 use Rattle.rig_api.specs.Log.{Entry}
 use Rattle.rig_api.specs.State.{RigState}
 use Rattle.block_path.specs.Blocks.{Sent, Site}
-use Rattle.whole_run.specs.Senses.{why_ended}
+use Rattle.block_path.specs.Senses.{why_ended}
 use Rattle.whole_run.specs.Settings.{Setting}
 use Rattle.run_record.specs.Records.{came_of, put_blocks, put_decoded, put_entries, put_request, put_rw, recorded, stamped}
 use Rattle.dix_adapter.specs.declared.adapter.Adapter.{Adapter}

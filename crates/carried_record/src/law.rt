@@ -8,12 +8,12 @@ ghost use Rattle.bio_core.specs.declared.request.Io.{Io as AnyIo};
 ghost use Rattle.page_pool.specs.Cells.{flat};
 ghost use Rattle.sense_codes.specs.declared.Sense.{Sense as AnySense};
 ghost use Rattle.target_answer.specs.Frames.{frames_of};
-ghost use Rattle.whole_run.specs.Senses.{why_ended};
+ghost use Rattle.block_path.specs.Senses.{why_ended};
 ghost use Rattle.whole_run.specs.Settings.{Setting};
 ghost use Rattle.dix_adapter.specs.declared.adapter.Adapter.{Adapter as AnyAdapter};
 ghost use Rattle.dix_adapter.specs.Carried.{any_bad, frame_len, frame_sent, sends};
 ghost use Rattle.dix_adapter.specs.Groups.{IsGroup, IsProtect, blocks_in, first_of, size};
-ghost use Rattle.dix_adapter.specs.Outcomes.{done_of, why_of};
+ghost use Rattle.dix_adapter.specs.Outcomes.{done_of};
 ghost use Rattle.dix_adapter.specs.Ways.{RecordedIn, RecordedOut};
 ghost use Rattle.carried_record.specs.OnRecord.{GoesOnRecord};
 ghost use Rattle.rig_api.specs.State.{RigState};
@@ -30,5 +30,4 @@ pub fn a_carried_group_goes_on_record()
         → IsProtect a.protect → IsGroup a pool m.size ios req → (first_of req).dir ≡ Read
         → (r : RecordedIn a ios req pool pool' fates old new)
         → GoesOnRecord m req r.entry.what.outcome (frames_of (frame_len a ios req) (done_of (size req) r.entry.what.outcome) r.entry.moved) old.log new.log }
-    ensures listed { (sense : Option AnySense) → why_of sense ≡ why_ended sense }
 {}

@@ -32,7 +32,8 @@ use Rattle.block_path.proofs.Sizes.{altered_length, is_protected}
 use Rattle.dix_adapter.specs.declared.adapter.Adapter.{Adapter}
 use Rattle.dix_adapter.specs.Carried.{arrives, carried, fates_in, land, landed}
 use Rattle.dix_adapter.specs.Groups.{IsProtect, frame_cells, label_of, request_of, route_of}
-use Rattle.dix_adapter.specs.Outcomes.{rest_of, why_of}
+use Rattle.dix_adapter.specs.Outcomes.{rest_of}
+use Rattle.block_path.specs.Senses.{why_ended}
 use Rattle.dix_adapter.specs.Ways.{acts_in, fates_of_in, frames_in, site_of, stopped_in, ways_in}
 use Rattle.dix_adapter.proofs.GoingOut.{check-why, rest-shift}
 use Rattle.dix_adapter.proofs.Runs.{AllLong, width_for}
@@ -83,12 +84,12 @@ ways-long a ios (b ∷ bs) (j ∷ js) e = ap suc (ways-long a ios bs js (omega a
 
 -- ---- fates
 
-rest-end : (n : ℕ) (s : _) → rest_of (suc n) (record { done = 0; sense = s }) ≡ Bad (why_of s) ∷ replicate n Untouched
+rest-end : (n : ℕ) (s : _) → rest_of (suc n) (record { done = 0; sense = s }) ≡ Bad (why_ended s) ∷ replicate n Untouched
 rest-end n s =
     let t : ltb 0 (suc n) ≡ true = grind arith in
     let k : suc n - 1 ≡ n = omega arith in
-    ap (λ b. if b then Bad (why_of s) ∷ replicate (suc n - 1) Untouched else []) t
-    ∙ ap (λ j. Bad (why_of s) ∷ replicate j Untouched) k
+    ap (λ b. if b then Bad (why_ended s) ∷ replicate (suc n - 1) Untouched else []) t
+    ∙ ap (λ j. Bad (why_ended s) ∷ replicate j Untouched) k
 
 fates-from : (a : Adapter) (ios : List Io) (lba : ℕ) (bs : List Block) (js : List Judged) → length bs ≡ length js →
     fates_of_in (ways_from a ios bs js) ≡ fates_in a ios bs (passed js) ++ rest_of (length js) (record { done = length (passed js); sense = first_sense lba js })
@@ -114,7 +115,7 @@ set-frames a ios (suc i) (b ∷ bs) (Err c ∷ js) h l e = absurd (omega arith)
 set-frames a ios (suc i) (b ∷ bs) (Ok f ∷ js) h l e =
     came f (from_wire a.tamper (route_of a ios b) f) (set (ways_from a ios bs js) i (Stops Medium)) ∙ ap (λ z. f ∷ z) (set-frames a ios i bs js (omega arith) (omega arith) (omega arith))
 
-set-fates : (a : Adapter) (ios : List Io) (s : _) (i : ℕ) (bs : List Block) (js : List Judged) → why_of s ≡ Medium → i ≤ length (passed js) → i < length js → length bs ≡ length js →
+set-fates : (a : Adapter) (ios : List Io) (s : _) (i : ℕ) (bs : List Block) (js : List Judged) → why_ended s ≡ Medium → i ≤ length (passed js) → i < length js → length bs ≡ length js →
     fates_of_in (set (ways_from a ios bs js) i (Stops Medium)) ≡ fates_in a ios bs (take i (passed js)) ++ rest_of (length js) (record { done = i; sense = s })
 set-fates a ios s i [] [] w h l e = absurd (omega arith)
 set-fates a ios s i [] (j ∷ js) w h l e = absurd (omega arith)

@@ -24,7 +24,8 @@ use Rattle.block_path.specs.declared.route.Route.{Route}
 use Rattle.dix_adapter.specs.declared.adapter.Adapter.{Adapter}
 use Rattle.dix_adapter.specs.Carried.{any_bad, frame_sent, is_bad, sends}
 use Rattle.dix_adapter.specs.Groups.{frame_cells, route_of}
-use Rattle.dix_adapter.specs.Outcomes.{done_of, rest_of, why_of}
+use Rattle.dix_adapter.specs.Outcomes.{done_of, rest_of}
+use Rattle.block_path.specs.Senses.{why_ended}
 use Rattle.dix_adapter.specs.Ways.{acts_out, cells_out, fates_out, frames_out, left_at, site_of, stopped_out, ways_out}
 use Rattle.dix_adapter.proofs.Puts.{puts, puts-more}
 
@@ -93,7 +94,7 @@ ways-long (f ∷ fs) (j ∷ js) e = ap suc (ways-long fs js (omega arith))
 
 -- ---- fates
 
-pub check-why : (c : Check) (l : ℕ) → why_of (Some (check_sense c l)) ≡ Target c
+pub check-why : (c : Check) (l : ℕ) → why_ended (Some (check_sense c l)) ≡ Target c
 check-why Guard l = refl
 check-why AppTag l = refl
 check-why RefTag l = refl
@@ -107,10 +108,10 @@ shift-test d m = grind arith
 pub rest-shift : (n : ℕ) (o o' : Outcome) → o'.done ≡ suc o.done → o'.sense ≡ o.sense → rest_of (suc n) o' ≡ rest_of n o
 rest-shift n o o' d s =
     let m : suc n - suc (suc o.done) ≡ n - suc o.done = omega arith in
-    ap (λ k. if ltb k (suc n) then Bad (why_of o'.sense) ∷ replicate (suc n - suc k) Untouched else []) d
-    ∙ ap (λ k. if ltb (suc o.done) (suc n) then Bad (why_of k) ∷ replicate (suc n - suc (suc o.done)) Untouched else []) s
-    ∙ ap (λ b. if b then Bad (why_of o.sense) ∷ replicate (suc n - suc (suc o.done)) Untouched else []) (shift-test o.done n)
-    ∙ ap (λ k. if ltb o.done n then Bad (why_of o.sense) ∷ replicate k Untouched else []) m
+    ap (λ k. if ltb k (suc n) then Bad (why_ended o'.sense) ∷ replicate (suc n - suc k) Untouched else []) d
+    ∙ ap (λ k. if ltb (suc o.done) (suc n) then Bad (why_ended k) ∷ replicate (suc n - suc (suc o.done)) Untouched else []) s
+    ∙ ap (λ b. if b then Bad (why_ended o.sense) ∷ replicate (suc n - suc (suc o.done)) Untouched else []) (shift-test o.done n)
+    ∙ ap (λ k. if ltb o.done n then Bad (why_ended o.sense) ∷ replicate k Untouched else []) m
 
 told-more : (n d : ℕ) (s : _) → told (suc n) (record { done = suc d; sense = s }) ≡ Good ∷ told n (record { done = d; sense = s })
 told-more n d s =
@@ -118,14 +119,14 @@ told-more n d s =
     ap (λ k. replicate k Good ++ rest_of (suc n) (record { done = suc d; sense = s })) m
     ∙ ap (λ z. Good ∷ (replicate (min d n) Good ++ z)) (rest-shift n (record { done = d; sense = s }) (record { done = suc d; sense = s }) refl refl)
 
-told-end : (n : ℕ) (s : _) → told (suc n) (record { done = 0; sense = s }) ≡ Bad (why_of s) ∷ replicate n Untouched
+told-end : (n : ℕ) (s : _) → told (suc n) (record { done = 0; sense = s }) ≡ Bad (why_ended s) ∷ replicate n Untouched
 told-end n s =
     let m : min 0 (suc n) ≡ 0 = omega arith in
     let t : ltb 0 (suc n) ≡ true = grind arith in
     let k : suc n - 1 ≡ n = omega arith in
     ap (λ j. replicate j Good ++ rest_of (suc n) (record { done = 0; sense = s })) m
-    ∙ ap (λ b. if b then Bad (why_of s) ∷ replicate (suc n - 1) Untouched else []) t
-    ∙ ap (λ j. Bad (why_of s) ∷ replicate j Untouched) k
+    ∙ ap (λ b. if b then Bad (why_ended s) ∷ replicate (suc n - 1) Untouched else []) t
+    ∙ ap (λ j. Bad (why_ended s) ∷ replicate j Untouched) k
 
 fates-by : (lba : ℕ) (fs : List (List ℕ)) (js : List Judged) → length fs ≡ length js → fates_out (ways_by fs js) ≡ told (length js) (record { done = length (passed js); sense = first_sense lba js })
 fates-by lba [] [] e = refl
@@ -145,7 +146,7 @@ set-frames i (f ∷ fs) (Err c ∷ js) h e = absurd (omega arith)
 set-frames zero (f ∷ fs) (Ok g ∷ js) h e = refl
 set-frames (suc i) (f ∷ fs) (Ok g ∷ js) h e = ap (λ z. f ∷ z) (set-frames i fs js (omega arith) (omega arith))
 
-set-fates : (s : _) (i : ℕ) (fs : List (List ℕ)) (js : List Judged) → why_of s ≡ Medium → i < length (passed js) → length fs ≡ length js → fates_out (set (ways_by fs js) i (Refuses Medium)) ≡ told (length js) (record { done = i; sense = s })
+set-fates : (s : _) (i : ℕ) (fs : List (List ℕ)) (js : List Judged) → why_ended s ≡ Medium → i < length (passed js) → length fs ≡ length js → fates_out (set (ways_by fs js) i (Refuses Medium)) ≡ told (length js) (record { done = i; sense = s })
 set-fates s i [] [] w h e = absurd (omega arith)
 set-fates s i [] (j ∷ js) w h e = absurd (omega arith)
 set-fates s i (f ∷ fs) [] w h e = absurd (omega arith)
@@ -155,7 +156,7 @@ set-fates s zero (f ∷ fs) (Ok g ∷ js) w h e =
     ∙ sym (told-end (length js) s ∙ ap (λ x. Bad x ∷ replicate (length js) Untouched) w)
 set-fates s (suc i) (f ∷ fs) (Ok g ∷ js) w h e = ap (λ z. Good ∷ z) (set-fates s i fs js w (omega arith) (omega arith)) ∙ sym (told-more (length js) i s)
 
-pub medium-why : (lba : ℕ) → why_of (Some (medium_sense 0x0C lba)) ≡ Medium
+pub medium-why : (lba : ℕ) → why_ended (Some (medium_sense 0x0C lba)) ≡ Medium
 medium-why lba = refl
 
 -- how the command ends

@@ -1,4 +1,3 @@
-pub mod Senses
 pub mod Blocks
 pub mod Commands
 pub mod Ahead

@@ -25,7 +25,8 @@ use Rattle.dix_adapter.proofs.Units.{frames-count}
 use Rattle.dix_adapter.specs.declared.adapter.Adapter.{Adapter}
 use Rattle.dix_adapter.specs.Carried.{Fetched, Sent, any_bad, arrives, carried, command_for, command_of, fates_in, frame_len, landed, out_of, sends, unsent, way_of}
 use Rattle.dix_adapter.specs.Groups.{IsGroup, IsProtect, blocks_in, first_of, label_of, request_of, size}
-use Rattle.dix_adapter.specs.Outcomes.{done_of, rest_of, why_of}
+use Rattle.dix_adapter.specs.Outcomes.{done_of, rest_of}
+use Rattle.block_path.specs.Senses.{why_ended}
 use Rattle.dix_adapter.specs.Ways.{RecordedIn, RecordedOut, any_settled}
 use Rattle.dix_adapter.proofs.Asking.{asked-for, count-is, field_for, fields_of, protect-is}
 use Rattle.dix_adapter.proofs.Blocks.{length-in}
@@ -129,7 +130,7 @@ settled-unsent (Ok f ∷ rs) e = settled-unsent rs e
 settled-unsent (Err c ∷ rs) e = refl
 
 settled-rest : (n : ℕ) (o : Outcome) → o.done < n → any_settled (rest_of n o) ≡ true
-settled-rest n o h = let t : ltb o.done n ≡ true = grind arith in ap (λ b. any_settled (if b then Bad (why_of o.sense) ∷ replicate (n - suc o.done) Untouched else [])) t
+settled-rest n o h = let t : ltb o.done n ≡ true = grind arith in ap (λ b. any_settled (if b then Bad (why_ended o.sense) ∷ replicate (n - suc o.done) Untouched else [])) t
 
 pub settled-sent : (n : ℕ) (o : Outcome) → 1 ≤ n → any_settled (replicate (done_of n o) Good ++ rest_of n o) ≡ true
 settled-sent n o h = by (done_of n o) refl

@@ -26,7 +26,8 @@ use Rattle.dix_adapter.proofs.Units.{frames-count}
 use Rattle.dix_adapter.specs.declared.adapter.Adapter.{Adapter}
 use Rattle.dix_adapter.specs.Carried.{Fetched, Sent, arrives, carried, command_for, fates_in, frame_len, sends, unsent, way_of}
 use Rattle.dix_adapter.specs.Groups.{blocks_in, first_of, label_of, size}
-use Rattle.dix_adapter.specs.Outcomes.{done_of, rest_of, why_of}
+use Rattle.dix_adapter.specs.Outcomes.{done_of, rest_of}
+use Rattle.block_path.specs.Senses.{why_ended}
 use Rattle.dix_adapter.specs.Ways.{Spends, settled_count}
 use Rattle.dix_adapter.proofs.Asking.{asked-for, count-is, fields_of}
 use Rattle.dix_adapter.proofs.Blocks.{length-in}
@@ -47,15 +48,15 @@ none-settled (suc n) = let e = none-settled n in omega arith
 rest-count : (n : ℕ) (o : Outcome) → settled_count (rest_of n o) ≡ min (o.done + 1) n - done_of n o
 rest-count n o =
     ⊎_elim
-    (λ (t : ltb o.done n ≡ true). ap (λ b. settled_count (if b then Bad (why_of o.sense) ∷ replicate (n - suc o.done) Untouched else [])) t ∙ (let e = none-settled (n - suc o.done) in let l = ltb-true o.done n t in omega arith))
-    (λ (t : ltb o.done n ≡ false). ap (λ b. settled_count (if b then Bad (why_of o.sense) ∷ replicate (n - suc o.done) Untouched else [])) t ∙ grind arith)
+    (λ (t : ltb o.done n ≡ true). ap (λ b. settled_count (if b then Bad (why_ended o.sense) ∷ replicate (n - suc o.done) Untouched else [])) t ∙ (let e = none-settled (n - suc o.done) in let l = ltb-true o.done n t in omega arith))
+    (λ (t : ltb o.done n ≡ false). ap (λ b. settled_count (if b then Bad (why_ended o.sense) ∷ replicate (n - suc o.done) Untouched else [])) t ∙ grind arith)
     (cases_Bool (ltb o.done n))
 
 rest-length : (n : ℕ) (o : Outcome) → length (rest_of n o) ≡ n - done_of n o
 rest-length n o =
     ⊎_elim
-    (λ (t : ltb o.done n ≡ true). ap (λ b. length (if b then Bad (why_of o.sense) ∷ replicate (n - suc o.done) Untouched else [])) t ∙ (let e = length-replicate (n - suc o.done) Untouched in let l = ltb-true o.done n t in omega arith))
-    (λ (t : ltb o.done n ≡ false). ap (λ b. length (if b then Bad (why_of o.sense) ∷ replicate (n - suc o.done) Untouched else [])) t ∙ grind arith)
+    (λ (t : ltb o.done n ≡ true). ap (λ b. length (if b then Bad (why_ended o.sense) ∷ replicate (n - suc o.done) Untouched else [])) t ∙ (let e = length-replicate (n - suc o.done) Untouched in let l = ltb-true o.done n t in omega arith))
+    (λ (t : ltb o.done n ≡ false). ap (λ b. length (if b then Bad (why_ended o.sense) ∷ replicate (n - suc o.done) Untouched else [])) t ∙ grind arith)
     (cases_Bool (ltb o.done n))
 
 sent-settled : (d : ℕ) (fs : List Fate) → settled_count (replicate d Good ++ fs) ≡ d + settled_count fs

@@ -3,51 +3,11 @@
 ghost use Rattle.std.specs.Prelude.{◌≡◌, ◌+◌, ◌≤◌, ◌++◌, Some, length, replicate};
 ghost use Rattle.std.specs.Vec.{vec_capacity};
 ghost use Rattle.bio_core.specs.declared.fate.Fate.TheVariants.{Untouched};
-ghost use Rattle.dix_adapter.specs.Outcomes.{done_of, is_medium, rest_of, why_of};
+ghost use Rattle.dix_adapter.specs.Outcomes.{done_of, rest_of};
 
-use bio_core::{Fate, Why};
+use bio_core::Fate;
+use block_path::why_by;
 use rig_api::Outcome;
-use sense_codes::{Layer, Sense, layer_and_check};
-
-/// MEDIUM ERROR (SPC-4, sense keys).
-const MEDIUM_ERROR: u8 = 0x03;
-/// UNRECOVERED READ ERROR, and WRITE ERROR (SPC-4, additional sense codes), both with the qualifier 00h.
-const UNRECOVERED_READ: u8 = 0x11;
-
-const WRITE_ERROR: u8 = 0x0c;
-
-/// Why the block failed at which a command ended with this sense.
-pub(crate) fn why_of(sense: Option<Sense>) -> Why
-    ensures { result ≡ why_of sense }
-{
-    match sense {
-        Some(sense) => why_for(&sense),
-        None => Why::Short,
-    }
-}
-
-fn why_for(sense: &Sense) -> Why
-    ensures { result ≡ why_of (Some sense.now) }
-{
-    match layer_and_check(sense) {
-        Some((Layer::Adapter, check)) => Why::Adapter(check),
-        Some((Layer::Target, check)) => Why::Target(check),
-        None if is_medium(sense) => Why::Medium,
-        None => Why::Refused {
-            key: sense.key,
-            asc: sense.asc,
-            ascq: sense.ascq,
-        },
-    }
-}
-
-fn is_medium(sense: &Sense) -> bool
-    ensures { result ≡ is_medium sense.now }
-{
-    sense.key == MEDIUM_ERROR
-        && sense.ascq == 0
-        && (sense.asc == UNRECOVERED_READ || sense.asc == WRITE_ERROR)
-}
 
 /// How many of so many blocks a command did.
 pub(crate) fn done_of(outcome: &Outcome, count: u32) -> u32
@@ -67,7 +27,7 @@ pub(crate) fn add_rest(outcome: &Outcome, count: u32, fates: &mut Vec<Fate>)
     if done == count {
         return;
     }
-    fates.push_reserved(Fate::Bad(why_of(outcome.sense)));
+    fates.push_reserved(Fate::Bad(why_by(outcome.sense)));
     add_untouched(count - done - 1, fates);
 }
 

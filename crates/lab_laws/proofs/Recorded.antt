@@ -29,7 +29,7 @@ use Rattle.block_path.specs.Acts.{State, act, tell}
 use Rattle.block_path.specs.Blocks.{Answer, Sent, Site, read_by, written_by}
 use Rattle.block_path.specs.declared.route.Route.{Route}
 use Rattle.block_path.specs.Serial.{plain, plain_tells}
-use Rattle.whole_run.specs.Senses.{is_medium_why, why_ended}
+use Rattle.block_path.specs.Senses.{is_medium_why, why_ended}
 use Rattle.whole_run.specs.Settings.{Setting, route}
 use Rattle.whole_run.specs.Steps.{Alters, Reads, Seals, Sets, Shows, Step, Writes, WritesPi, steps_of}
 use Rattle.whole_run.specs.ReadsAs.{listed_among, listed_in}

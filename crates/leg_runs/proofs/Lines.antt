@@ -15,7 +15,7 @@ use Rattle.stack_core.specs.Mediums.{RoseBy, listed_mediums, medium_lines}
 use Rattle.volume_table.specs.declared.device.DeviceInfo.{DeviceInfo}
 use Rattle.volume_table.specs.Tables.{Table}
 use Rattle.whole_run.specs.ScriptWalk.{bad_from, whole_or_bad}
-use Rattle.whole_run.specs.Senses.{is_medium_why}
+use Rattle.block_path.specs.Senses.{is_medium_why}
 use Rattle.script_text.specs.declared.script.Script.{Script}
 use Rattle.mirror_walk.specs.Mirror.{neither}
 use Rattle.mirror_walk.specs.OnLegs.{listed_written}

@@ -20,7 +20,7 @@ use Rattle.target_answer.specs.Passing.{found_in, from_medium, then_crossed, unl
 use Rattle.target_answer.specs.Target.{Answer, Stop, Stored, answer_unless, check_sense, each, first_sense, keeping, passage, passed, read_by, refusal, shape_of, stored_from, target_answer, whole}
 use Rattle.rig_api.specs.Telling.{IsAnswer, Standing, answer_of, unit_at, units_told, with_blocks}
 use Rattle.rig_api.specs.declared.rig.Outcome.{Outcome}
-use Rattle.whole_run.specs.Senses.{why_ended}
+use Rattle.block_path.specs.Senses.{why_ended}
 use Rattle.bio_core.specs.declared.fate.Why.TheVariants.{Target}
 use Rattle.pi_scrub.specs.Faults.{faults_from, listed, stored_finding}
 use Rattle.pi_scrub.specs.Looks.{found_at, protect_for, settled, verify_of}

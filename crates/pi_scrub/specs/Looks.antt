@@ -8,7 +8,7 @@ use Rattle.cdb_codec.specs.declared.command.Cdb.TheVariants.{Verify10, Verify16}
 use Rattle.rig_api.specs.Log.{Entry}
 use Rattle.rig_api.specs.declared.rig.Outcome.{Outcome}
 use Rattle.volume_table.specs.declared.device.DeviceInfo.{DeviceInfo}
-use Rattle.whole_run.specs.Senses.{why_ended}
+use Rattle.block_path.specs.Senses.{why_ended}
 use Rattle.pi_scrub.specs.declared.found.Found.{Found}
 
 -- The commands by which a scrub looks at blocks.

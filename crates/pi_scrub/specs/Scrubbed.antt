@@ -4,7 +4,7 @@ use Rattle.rig_api.specs.Log.{Entry}
 use Rattle.rig_api.specs.Telling.{Standing}
 use Rattle.rig_discovery.specs.Discovery.{Ends}
 use Rattle.volume_table.specs.declared.device.DeviceInfo.{DeviceInfo}
-use Rattle.whole_run.specs.Senses.{is_medium_why}
+use Rattle.block_path.specs.Senses.{is_medium_why}
 use Rattle.pi_scrub.specs.Looks.{AreFit, Look, Place, all_entries, all_found, all_looked}
 use Rattle.pi_scrub.specs.declared.found.Found.{Found}
 

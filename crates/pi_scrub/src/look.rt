@@ -13,7 +13,7 @@ use crate::found::Found;
 use pi_tuple::PiType;
 use rig_api::{Outcome, Rig};
 use std::alloc::{AllocError, Global};
-use whole_run::why_by;
+use block_path::why_by;
 
 /// Sends a VERIFY of these blocks, and answers how it ended.
 fn verify<R: Rig>(rig: &mut R, dev: u32, ty: PiType, lba: u64, n: u32) -> Outcome

@@ -18,7 +18,7 @@ use Rattle.block_path.specs.Acts.{State, act}
 use Rattle.block_path.specs.Blocks.{Sent, Site}
 use Rattle.block_path.specs.Serial.{plain}
 use Rattle.block_path.specs.WayOut.{Fails, Refuses, Stores, WayOut}
-use Rattle.whole_run.specs.Senses.{why_ended}
+use Rattle.block_path.specs.Senses.{why_ended}
 use Rattle.whole_run.specs.Settings.{Setting}
 use Rattle.run_record.specs.Records.{came_of, recorded}
 use Rattle.dix_adapter.specs.declared.adapter.Adapter.{Adapter}

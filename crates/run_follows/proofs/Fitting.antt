@@ -12,7 +12,7 @@ use Rattle.bio_core.specs.declared.request.Dir.TheVariants.{Read, Write}
 use Rattle.bio_core.specs.declared.request.Io.{Io}
 use Rattle.block_path.specs.Blocks.{Sent, Site}
 use Rattle.block_path.specs.Routes.{wire_size}
-use Rattle.whole_run.specs.Senses.{why_ended}
+use Rattle.block_path.specs.Senses.{why_ended}
 use Rattle.whole_run.specs.Settings.{Block as ScriptBlock, Setting, route}
 use Rattle.run_record.specs.Records.{came_of, find, is_labelled, recorded, stamped}
 use Rattle.run_record.specs.ToldRun.{came_in}

@@ -23,18 +23,17 @@ use Rattle.block_path.specs.Acts.{State}
 use Rattle.block_path.specs.Blocks.{Sent, Site}
 use Rattle.block_path.specs.Routes.{told_by}
 use Rattle.block_path.specs.WayOut.{Refuses, Stores, at_device, from_adapter, goes_out, to_wire}
-use Rattle.whole_run.specs.Senses.{why_ended}
+use Rattle.block_path.specs.Senses.{why_ended}
 use Rattle.whole_run.specs.Settings.{Setting}
 use Rattle.run_record.specs.Records.{came_of, find, is_labelled, recorded, stamped}
 use Rattle.run_record.specs.ToldRun.{came_by, came_in, told}
 use Rattle.dix_adapter.specs.declared.adapter.Adapter.{Adapter}
 use Rattle.dix_adapter.specs.Carried.{any_bad, arrives, carried, fates_in, frame_len, frame_sent, is_bad, land, landed, sends}
 use Rattle.dix_adapter.specs.Groups.{IsGroup, IsProtect, blocks_in, first_of, frame_cells, frame_in, label_of, route_of, size}
-use Rattle.dix_adapter.specs.Outcomes.{done_of, rest_of, why_of}
+use Rattle.dix_adapter.specs.Outcomes.{done_of, rest_of}
 use Rattle.dix_adapter.specs.Ways.{RecordedIn, RecordedOut}
 use Rattle.dix_adapter.proofs.Blocks.{length-in}
 use Rattle.carried_record.specs.OnRecord.{put_each}
-use Rattle.carried_record.proofs.Named.{named_alike}
 use Rattle.carried_record.proofs.Puts.{InTurn, goes_in, goes_out as went_out, turn}
 use Rattle.run_follows.specs.Following.{Follows}
 use Rattle.run_follows.specs.Gate.{Spot}
@@ -220,14 +219,14 @@ module _ (n : ℕ) (o : Outcome) (bs : List Block) (long : length bs ≡ n) wher
   ended : (ds : List Block) (f : List Came → List Fate) → length ds ≡ n - min o.done n → (f [] ≡ replicate (length ds) Untouched) → ((d : Block) (es : List Block) → ds ≡ d ∷ es → f (Err (why_ended o.sense) ∷ []) ≡ Bad (why_ended o.sense) ∷ replicate (length es) Untouched) →
       f (if ltb o.done n then Err (why_ended o.sense) ∷ [] else []) ≡ rest_of n o
   ended ds f l nothing one = by (ltb o.done n) refl where
-    by : (c : Bool) → ltb o.done n ≡ c → f (if c then Err (why_ended o.sense) ∷ [] else []) ≡ (if c then Bad (why_of o.sense) ∷ replicate (n - suc o.done) Untouched else [])
+    by : (c : Bool) → ltb o.done n ≡ c → f (if c then Err (why_ended o.sense) ∷ [] else []) ≡ (if c then Bad (why_ended o.sense) ∷ replicate (n - suc o.done) Untouched else [])
     by true q = some ds l refl where
-      some : (xs : List Block) → length xs ≡ n - min o.done n → ds ≡ xs → f (Err (why_ended o.sense) ∷ []) ≡ Bad (why_of o.sense) ∷ replicate (n - suc o.done) Untouched
+      some : (xs : List Block) → length xs ≡ n - min o.done n → ds ≡ xs → f (Err (why_ended o.sense) ∷ []) ≡ Bad (why_ended o.sense) ∷ replicate (n - suc o.done) Untouched
       some [] l e = let u : o.done < n = grind (arith, q) in absurd (omega (arith, l, u))
       some (d ∷ es) l e =
           let u : o.done < n = grind (arith, q) in
           let w : length es ≡ n - suc o.done = omega (arith, l, u) in
-          one d es e ∙ ap (λ y. Bad y ∷ replicate (length es) Untouched) (sym (named_alike o.sense)) ∙ ap (λ k. Bad (why_of o.sense) ∷ replicate k Untouched) w
+          one d es e ∙ ap (λ k. Bad (why_ended o.sense) ∷ replicate k Untouched) w
     by false q =
         let u : n ≤ o.done = grind (arith, q) in
         let w : length ds ≡ 0 = omega (arith, l, u) in

@@ -25,7 +25,7 @@ use Rattle.block_path.specs.Routes.{target}
 use Rattle.block_path.specs.Serial.{plain}
 use Rattle.block_path.specs.WayIn.{Delivers, Spoils, Stops, WayIn, at_host, from_device, from_wire}
 use Rattle.block_path.specs.WayOut.{Refuses, at_device, from_adapter, goes_out}
-use Rattle.whole_run.specs.Senses.{why_ended}
+use Rattle.block_path.specs.Senses.{why_ended}
 use Rattle.whole_run.specs.Settings.{Setting}
 use Rattle.run_record.specs.Records.{came_of, recorded}
 use Rattle.dix_adapter.specs.declared.adapter.Adapter.{Adapter}

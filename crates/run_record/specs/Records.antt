@@ -14,7 +14,7 @@ use Rattle.bio_core.specs.declared.fate.Why.{Why}
 use Rattle.bio_core.specs.declared.request.Dir.{Dir}
 use Rattle.bio_core.specs.declared.request.Dir.TheVariants.{Read as In, Write as Out}
 use Rattle.block_path.specs.Blocks.{Answer, Sent, Site}
-use Rattle.whole_run.specs.Senses.{why_ended}
+use Rattle.block_path.specs.Senses.{why_ended}
 use Rattle.whole_run.specs.Settings.{Setting}
 
 -- What a rig's log says of single blocks: an entry is a frame that was moved, an end is a block at which a command ended.

@@ -17,12 +17,11 @@ use Rattle.block_path.specs.declared.mode.Mode.{Mode}
 use Rattle.sense_codes.specs.declared.Sense.{Sense}
 use Rattle.dix_adapter.specs.declared.adapter.Adapter.{Adapter}
 use Rattle.dix_adapter.specs.Carried.{arrives, carried, fates_in, unsent}
-use Rattle.dix_adapter.specs.Outcomes.{rest_of, why_of}
+use Rattle.dix_adapter.specs.Outcomes.{rest_of}
 use Rattle.rig_api.specs.Log.{IsMedium, IsMediumSense}
 use Rattle.rig_api.specs.declared.rig.Outcome.{Outcome}
-use Rattle.whole_run.specs.Senses.{is_medium_why}
+use Rattle.block_path.specs.Senses.{is_medium_why, why_ended}
 use Rattle.whole_run.proofs.Named.{medium_is}
-use Rattle.carried_record.proofs.Named.{named_alike}
 use Rattle.stack_core.specs.Mediums.{mediums, one_medium}
 use Rattle.stack_walks.specs.Settled.{IsSettled, Judged, Kept, OneSettled, Settled}
 use Rattle.stack_walks.specs.Settling.{fate_by}
@@ -97,10 +96,6 @@ came_mediums a ios [] fs = refl
 came_mediums a ios (b ∷ bs) [] = refl
 came_mediums a ios (b ∷ bs) (f ∷ fs) = let x = carried_none (arrives a ios b f) in let r = came_mediums a ios bs fs in omega (arith, x, r)
 
--- adapter and record name a sense alike
-sense_key : (sense : Option Sense) → is_medium_why (why_of sense) ≡ true → IsMediumSense sense
-sense_key sense h = medium_is sense (ap is_medium_why (sym (named_alike sense)) ∙ h)
-
 -- at most one block of a command fails so, and then its sense says it
 pub rest_mediums : (n : ℕ) (o : Outcome) → mediums (rest_of n o) ≤ 1
 rest_mediums n o = by (ltb o.done n)
@@ -109,13 +104,13 @@ rest_mediums n o = by (ltb o.done n)
     one true = omega arith
     one false = omega arith
 
-    by : (b : Bool) → mediums (if b then Bad (why_of o.sense) ∷ replicate (n - suc o.done) Untouched else []) ≤ 1
-    by true = let x = one (is_medium_why (why_of o.sense)) in let y = untouched_mediums (n - suc o.done) in omega (arith, x, y)
+    by : (b : Bool) → mediums (if b then Bad (why_ended o.sense) ∷ replicate (n - suc o.done) Untouched else []) ≤ 1
+    by true = let x = one (is_medium_why (why_ended o.sense)) in let y = untouched_mediums (n - suc o.done) in omega (arith, x, y)
     by false = omega arith
 
 pub rest_sense : (n : ℕ) (o : Outcome) → 1 ≤ mediums (rest_of n o) → IsMedium o
 rest_sense n o h = by (ltb o.done n) h
   where
-    by : (b : Bool) → 1 ≤ mediums (if b then Bad (why_of o.sense) ∷ replicate (n - suc o.done) Untouched else []) → IsMedium o
-    by true h' = sense_key o.sense (⊎_elim (λ (e : is_medium_why (why_of o.sense) ≡ true). e) (λ (e : is_medium_why (why_of o.sense) ≡ false). let y = untouched_mediums (n - suc o.done) in let z : 1 ≤ 0 + mediums (replicate (n - suc o.done) Untouched) = rw e at h' in absurd (omega (arith, y, z))) (cases_Bool (is_medium_why (why_of o.sense))))
+    by : (b : Bool) → 1 ≤ mediums (if b then Bad (why_ended o.sense) ∷ replicate (n - suc o.done) Untouched else []) → IsMedium o
+    by true h' = medium_is o.sense (⊎_elim (λ (e : is_medium_why (why_ended o.sense) ≡ true). e) (λ (e : is_medium_why (why_ended o.sense) ≡ false). let y = untouched_mediums (n - suc o.done) in let z : 1 ≤ 0 + mediums (replicate (n - suc o.done) Untouched) = rw e at h' in absurd (omega (arith, y, z))) (cases_Bool (is_medium_why (why_ended o.sense))))
     by false h' = absurd (omega arith)

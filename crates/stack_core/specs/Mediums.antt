@@ -15,7 +15,7 @@ use Rattle.stack_steps.specs.declared.choice.Choice.{Choice}
 use Rattle.stack_steps.specs.declared.machine.Machine.{Machine}
 use Rattle.stack_steps.specs.Does.{Flies, Holds, Takes}
 use Rattle.stack_steps.specs.Shows.{Means}
-use Rattle.whole_run.specs.Senses.{is_medium_why}
+use Rattle.block_path.specs.Senses.{is_medium_why}
 use Rattle.stack_core.specs.declared.stack.Stack.{Stack}
 use Rattle.stack_core.specs.OnRecord.{bad_blocks}
 use Rattle.stack_core.specs.Stacks.{plan_in}

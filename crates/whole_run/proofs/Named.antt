@@ -5,7 +5,7 @@ use Rattle.pi_tuple.specs.declared.checks.Check.{Check}
 use Rattle.sense_codes.specs.declared.Sense.{Sense}
 use Rattle.bio_core.specs.declared.fate.Why.TheVariants.{Adapter, Medium, Refused, Target}
 use Rattle.rig_api.specs.Log.{IsMediumSense}
-use Rattle.whole_run.specs.Senses.{check_of, finding_of, is_medium, is_medium_why, why_ended, why_of}
+use Rattle.block_path.specs.Senses.{check_of, finding_of, is_medium, is_medium_why, why_ended, why_of}
 
 medium_or : (t : Bool) (key asc ascq : ℕ) → is_medium_why (if t then Medium else Refused key asc ascq) ≡ true → t ≡ true
 medium_or true key asc ascq h = refl

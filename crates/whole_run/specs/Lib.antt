@@ -1,4 +1,3 @@
-pub mod Senses
 pub mod Settings
 pub mod Steps
 pub mod ScriptWalk

@@ -3,9 +3,7 @@
 #![tactic(auto)]
 
 mod script_laws;
-mod senses;
 
 pub use script_laws::{
     a_calm_walk_is_a_plain_map, any_calm_order_is_a_plain_map, any_order_is_the_walk,
 };
-pub use senses::why_by;

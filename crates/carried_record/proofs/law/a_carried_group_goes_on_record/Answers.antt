@@ -1,4 +1,3 @@
-use Rattle.carried_record.proofs.Named.{named_alike}
 use Rattle.carried_record.proofs.Puts.{goes_in, goes_out}
 use Rattle.carried_record.proofs.law.a_carried_group_goes_on_record.Goals as goal
 
@@ -7,6 +6,3 @@ returns-clause-out c = λ m a ios req pool fates old new protect g w good r. goe
 
 pub returns-clause-inward : goal.returns-clause-inward
 returns-clause-inward c = λ m a ios req pool pool' fates old new protect g w r. goes_in m a ios req pool protect g pool' fates old new w r
-
-pub returns-clause-listed : goal.returns-clause-listed
-returns-clause-listed c = λ sense. named_alike sense

@@ -6,8 +6,8 @@ use Rattle.sense_codes.specs.declared.Sense.{Sense}
 use Rattle.sense_codes.specs.declared.layer.Layer.{Layer}
 use Rattle.sense_codes.specs.declared.layer.Layer.TheVariants.{Adapter, Target}
 use Rattle.sense_codes.specs.Checks.{Tells, key_of}
-use Rattle.whole_run.specs.Senses.{check_of, finding_of, layer_of}
-use Rattle.whole_run.proofs.senses.finding_named.Goals as goal
+use Rattle.block_path.specs.Senses.{check_of, finding_of, layer_of}
+use Rattle.block_path.proofs.senses.finding_named.Goals as goal
 
 -- the sense tells of no check of any layer
 abbrev TellsNone : Sense → Type 0

@@ -1,10 +1,17 @@
 //! Why a block failed at which a command ended, by the sense of the command.
 
 ghost use Rattle.std.specs.Prelude.{◌≡◌};
-ghost use Rattle.whole_run.specs.Senses.{is_medium, named_by, why_ended};
+ghost use Rattle.block_path.specs.Senses.{is_medium, named_by, why_ended};
 
 use bio_core::Why;
 use sense_codes::{Layer, Sense, layer_and_check};
+
+/// MEDIUM ERROR (SPC-4, sense keys).
+const MEDIUM_ERROR: u8 = 0x03;
+/// UNRECOVERED READ ERROR, and WRITE ERROR (SPC-4, additional sense codes), both with the qualifier 00h.
+const UNRECOVERED_READ: u8 = 0x11;
+
+const WRITE_ERROR: u8 = 0x0c;
 
 /// The layer and the check that the sense names.
 fn finding_named(sense: Sense) -> Option<Why>
@@ -21,7 +28,9 @@ fn finding_named(sense: Sense) -> Option<Why>
 fn is_medium_error(sense: Sense) -> bool
     ensures { result ≡ is_medium sense }
 {
-    sense.key == 3 && (sense.ascq == 0 && (sense.asc == 0x11 || sense.asc == 0x0C))
+    sense.key == MEDIUM_ERROR
+        && sense.ascq == 0
+        && (sense.asc == UNRECOVERED_READ || sense.asc == WRITE_ERROR)
 }
 
 /// Why a block failed at which its command ended with this sense, or with none: the layer and the
