@@ -23,7 +23,7 @@ use Rattle.rig_api.specs.State.{RigState}
 use Rattle.block_path.specs.Blocks.{Sent, Site}
 use Rattle.block_path.specs.Senses.{why_ended}
 use Rattle.whole_run.specs.Settings.{Setting}
-use Rattle.run_record.specs.Records.{came_of, put_blocks, put_decoded, put_entries, put_request, put_rw, recorded, stamped}
+use Rattle.run_laws.specs.Records.{came_of, put_blocks, put_decoded, put_entries, put_request, put_rw, recorded, stamped}
 use Rattle.dix_adapter.specs.declared.adapter.Adapter.{Adapter}
 use Rattle.dix_adapter.specs.Carried.{any_bad, command_for, command_of, frame_len, frame_sent, sends, way_of}
 use Rattle.dix_adapter.specs.Groups.{Chain, IsBio, IsGroup, IsProtect, blocks_in, first_of, label_of, size}

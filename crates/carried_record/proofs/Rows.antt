@@ -5,7 +5,7 @@ use Rattle.bio_core.specs.declared.request.Dir.TheVariants.{Read, Write}
 use Rattle.rig_api.specs.declared.rig.Outcome.{Outcome}
 use Rattle.dix_adapter.specs.Groups.{no_bio}
 use Rattle.whole_run.proofs.ScriptRows.{formatted}
-use Rattle.run_record.proofs.RecordRows.{log, m, sense}
+use Rattle.run_laws.proofs.RecordRows.{log, m, sense}
 use Rattle.carried_record.specs.OnRecord.{GoesOnRecord}
 
 abbrev written : Bio

@@ -7,7 +7,7 @@ use Rattle.block_path.specs.Blocks.{Sent, Site}
 use Rattle.dix_adapter.specs.Groups.{blocks_in, label_of, size}
 use Rattle.whole_run.specs.Settings.{Setting}
 use Rattle.rig_api.specs.Log.{Entry}
-use Rattle.run_record.specs.Records.{came_of, recorded, stamped}
+use Rattle.run_laws.specs.Records.{came_of, recorded, stamped}
 
 -- A group that was carried by one command, as it goes on record: block by block.
 

@@ -33,8 +33,8 @@ use Rattle.stack_ops.specs.declared.op.Op.TheVariants.{Fetch, FetchPi, Fill, Ove
 use Rattle.stack_ops.specs.declared.reply.Reply.{Reply}
 use Rattle.whole_run.specs.CalmRun.{AllFit, Fits}
 use Rattle.whole_run.specs.Settings.{Setting}
-use Rattle.run_record.specs.BackedRun.{IsBacked}
-use Rattle.run_record.specs.Records.{recorded}
+use Rattle.run_laws.specs.BackedRun.{IsBacked}
+use Rattle.run_laws.specs.Records.{recorded}
 use Rattle.run_falls.specs.Falls.{Falls, falling, over_falls, stores_or}
 use Rattle.run_falls.specs.Flips.{Flips, flip_op, with_flips}
 use Rattle.stack_core.specs.Mediums.{medium_lines}
@@ -52,7 +52,7 @@ use Rattle.rig_api.specs.State.{RigState}
 use Rattle.script_verdict.specs.Verdict.{HasRun}
 use Rattle.script_verdict.specs.declared.verdict.Finished.{Finished}
 use Rattle.vector_runs.specs.Unplayed.{first_overwrite, named, unplayed, unplayed_line}
-use Rattle.run_record.proofs.Labelled.{each_both}
+use Rattle.run_laws.proofs.Labelled.{each_both}
 use Rattle.lab_laws.specs.Passing.{IsNotCut, RunPasses, VectorsPass, WasTaken, width}
 use Rattle.lab_laws.proofs.Recorded.{HasWidth, IsWide, log_done, mixed_each, none_fell, put_fell}
 use Rattle.lab_laws.proofs.Walks.{Takes, freed, sents_taken}

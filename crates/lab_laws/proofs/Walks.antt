@@ -30,8 +30,8 @@ use Rattle.whole_run.specs.Steps.{Alters, Reads, Seals, Sets, Shows, Step, Write
 use Rattle.whole_run.proofs.CalmRuns.{op_meets}
 use Rattle.whole_run.proofs.PlainSteps.{AllMeet, Meets}
 use Rattle.whole_run.proofs.TupleFrames.{no}
-use Rattle.run_record.specs.Records.{put_sent, sents}
-use Rattle.run_record.proofs.Labelled.{each_both, tells_append}
+use Rattle.run_laws.specs.Records.{put_sent, sents}
+use Rattle.run_laws.proofs.Labelled.{each_both, tells_append}
 use Rattle.lab_laws.specs.Passing.{IsWhole, WalkPasses, WasTaken, width}
 use Rattle.lab_laws.proofs.Taken.{block_passes}
 

@@ -31,7 +31,7 @@ use Rattle.stack_ops.specs.declared.op.Op.{Op}
 use Rattle.whole_run.specs.CalmRun.{AllFit, IsCalm}
 use Rattle.whole_run.specs.ScriptWalk.{acts_from}
 use Rattle.whole_run.specs.Settings.{Setting}
-use Rattle.run_record.specs.Records.{sents}
+use Rattle.run_laws.specs.Records.{sents}
 use Rattle.rig_api.specs.State.{RigState}
 use Rattle.script_text.specs.Language.{script_in}
 use Rattle.script_text.specs.declared.script.Script.{Script}

@@ -13,7 +13,7 @@ use Rattle.whole_run.specs.ScriptWalk.{bad_from, request_reply, whole_or_bad}
 use Rattle.whole_run.specs.Settings.{Setting}
 use Rattle.whole_run.specs.Steps.{Step, each_from}
 use Rattle.whole_run.proofs.InSteps.{each_length}
-use Rattle.run_record.specs.TakenWalk.{taken_act, taken_acts, taken_reply, taken_replies}
+use Rattle.run_laws.specs.TakenWalk.{taken_act, taken_acts, taken_reply, taken_replies}
 use Rattle.leg_runs.specs.LegRuns.{AreBelow, Fits, LastFits}
 
 long-tells : (acts : List (Act Answer)) (s : State) → length (plain_tells act tell acts s) ≡ length acts

@@ -20,8 +20,8 @@ use Rattle.stack_ops.specs.declared.op.Op.TheVariants.{Fetch, FetchPi, Write}
 use Rattle.stack_ops.specs.declared.reply.Reply.{Reply}
 use Rattle.whole_run.specs.Settings.{Setting, block_of}
 use Rattle.whole_run.specs.Steps.{Reads, Writes, body_of, frame_at}
-use Rattle.run_record.specs.Records.{recorded}
-use Rattle.run_record.specs.TakenWalk.{taken_acts, taken_replies, taken_reply}
+use Rattle.run_laws.specs.Records.{recorded}
+use Rattle.run_laws.specs.TakenWalk.{taken_acts, taken_replies, taken_reply}
 use Rattle.stack_walks.specs.Requests.{requests_from}
 use Rattle.stack_walks.specs.Settling.{AreAllWhole}
 use Rattle.stack_core.specs.Stacks.{IsStack}

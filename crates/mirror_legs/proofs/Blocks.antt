@@ -20,7 +20,7 @@ use Rattle.mirror_walk.specs.OnLegs.{data_read, landed_by, stored_at, why_of, wh
 use Rattle.mirror_walk.specs.Repair.{reading, writing}
 use Rattle.mirror_walk.proofs.ReadByLegs.{finds as why_in}
 use Rattle.mirror_legs.proofs.Turns.{scattered}
-use Rattle.run_moves.proofs.Turns.{turn_length}
+use Rattle.run_laws.proofs.Turns.{turn_length}
 
 -- ---- one block
 

@@ -24,7 +24,7 @@ use Rattle.mirror_walk.specs.Repair.{reading}
 use Rattle.mirror_legs.specs.Legs.{by_app, tuple_landed, tuples_read}
 use Rattle.mirror_legs.proofs.Blocks.{Alike}
 use Rattle.mirror_legs.proofs.Turns.{scattered}
-use Rattle.run_moves.proofs.Turns.{turn_length}
+use Rattle.run_laws.proofs.Turns.{turn_length}
 
 -- ---- who verifies a block
 

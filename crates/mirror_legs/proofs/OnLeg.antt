@@ -37,7 +37,7 @@ use Rattle.whole_run.specs.Settings.{Block, Setting, block_of, route}
 use Rattle.whole_run.specs.Steps.{body_of}
 use Rattle.whole_run.proofs.CalmRuns.{room as block_ends}
 use Rattle.run_laws.proofs.Layers.{unmoved}
-use Rattle.run_moves.specs.Suited.{IsAtTarget}
+use Rattle.run_laws.specs.Suited.{IsAtTarget}
 use Rattle.script_text.specs.declared.script.Script.{Script}
 use Rattle.script_ground.specs.Units.{AreStored}
 use Rattle.script_ground.proofs.AtTarget.{TargetSuits, told-long}

@@ -19,7 +19,7 @@ ghost use Rattle.mirror_legs.specs.Inner.{read_pi_script, read_script, write_scr
 ghost use Rattle.mirror_legs.specs.Legs.{IsReady, ReadOnLeg, ReadPiOnLeg, WroteOnLeg};
 ghost use Rattle.mirror_legs.specs.MirrorScript.{IsMirrorScript, IsPiece, IsPieceWithTuples, without_faults};
 
-use run_moves::a_target_keeps_sizes;
+use run_laws::a_target_keeps_sizes;
 
 /// A script that has no fault on a mirror has what its legs ask, and so it has without its faults, as a repair runs it.
 pub fn a_mirror_has_what_its_legs_ask()

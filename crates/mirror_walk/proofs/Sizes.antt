@@ -32,7 +32,7 @@ use Rattle.whole_run.specs.Settings.{Block, Setting, block_of, route}
 use Rattle.whole_run.specs.Steps.{Reads, Seals, Step, Writes, WritesPi, body_of, each_from, frame_at, steps_of, tuple_of}
 use Rattle.whole_run.specs.UnderMap.{home}
 use Rattle.whole_run.proofs.CalmRuns.{part_length}
-use Rattle.run_moves.proofs.AtTarget.{sends_length, stores_length}
+use Rattle.run_laws.proofs.AtTarget.{sends_length, stores_length}
 use Rattle.mirror_walk.specs.Mirror.{Mirror, asked, done, is_none, marks_of, twin}
 use Rattle.mirror_walk.specs.declared.marks.Marks.{Marks}
 use Rattle.mirror_walk.specs.Repair.{Repair, good, mended, on_leg0, on_leg1, reading, repair_block, repair_from, repaired_by, steady, writing}

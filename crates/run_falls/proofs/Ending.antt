@@ -23,7 +23,7 @@ use Rattle.whole_run.specs.Settings.{Setting, block_of, route}
 use Rattle.whole_run.specs.Steps.{Alters, Reads, Seals, Sets, Shows, Step, Writes, WritesPi, steps_of}
 use Rattle.run_laws.specs.FallingReads.{falling_replies}
 use Rattle.run_laws.specs.StoreFaults.{falling_walk, may_fall}
-use Rattle.run_moves.specs.BoundRun.{AllBound, AllSuit, IsBound, IsBoundRun}
+use Rattle.run_laws.specs.BoundRun.{AllBound, AllSuit, IsBound, IsBoundRun}
 use Rattle.run_follows.specs.Finished.{AllEnded, HasEnded, HaveEnded, IsDone, IsSettled, answer_of, answers_of, replies_of}
 use Rattle.run_follows.specs.Slots.{Status}
 use Rattle.run_follows.proofs.Ends.{ends_as_walk, one as one_more}

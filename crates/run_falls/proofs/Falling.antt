@@ -7,7 +7,7 @@ use Rattle.bio_core.specs.Bios.{Block}
 use Rattle.bio_core.specs.declared.fate.Why.{Why}
 use Rattle.stack_ops.specs.declared.op.Op.{Op}
 use Rattle.block_path.specs.Blocks.{Sent, Site}
-use Rattle.run_record.specs.Records.{find, is_labelled, is_out, put_frame, stamped, writes_at}
+use Rattle.run_laws.specs.Records.{find, is_labelled, is_out, put_frame, stamped, writes_at}
 use Rattle.dix_adapter.specs.Groups.{label_of}
 use Rattle.carried_record.specs.OnRecord.{put_each}
 use Rattle.run_follows.specs.Sending.{IsElsewhere, is_carried}

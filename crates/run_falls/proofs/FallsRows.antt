@@ -24,9 +24,9 @@ use Rattle.whole_run.specs.Steps.{Writes, body_of}
 use Rattle.whole_run.specs.UnderMap.{home}
 use Rattle.whole_run.proofs.ScriptRows.{faulty, opening, seg}
 use Rattle.run_laws.proofs.ShownRows.{one_list}
-use Rattle.run_moves.specs.BoundRun.{IsBoundRun, Suits}
-use Rattle.run_moves.specs.OpsApart.{IsPlaced, OneCellEach}
-use Rattle.run_moves.proofs.BlocksApart.{still_apart}
+use Rattle.run_laws.specs.BoundRun.{IsBoundRun, Suits}
+use Rattle.run_laws.specs.OpsApart.{IsPlaced, OneCellEach}
+use Rattle.run_laws.proofs.BlocksApart.{still_apart}
 use Rattle.dix_adapter.specs.declared.adapter.Adapter.{Adapter}
 use Rattle.dix_adapter.specs.Carried.{frame_sent, is_bad, sends}
 use Rattle.carried_record.specs.OnRecord.{put_each}

@@ -20,9 +20,9 @@ use Rattle.stack_ops.specs.declared.reply.Reply.{Reply}
 use Rattle.whole_run.specs.ScriptWalk.{reply_of}
 use Rattle.run_follows.specs.Finished.{AllEnded, HaveEnded, answers_of, replies_of}
 use Rattle.run_follows.specs.Takes.{AllTakeAny, OpTakesAny}
-use Rattle.run_moves.specs.BoundRun.{AllBound, IsBound, IsBoundRun, fates, rooms}
-use Rattle.run_moves.specs.OpsApart.{IsPlaced, IsSpread, OpsConflict, is_shifted}
-use Rattle.run_moves.specs.ScriptMoves.{fates_of, own_at, room_of}
+use Rattle.run_laws.specs.BoundRun.{AllBound, IsBound, IsBoundRun, fates, rooms}
+use Rattle.run_laws.specs.OpsApart.{IsPlaced, IsSpread, OpsConflict, is_shifted}
+use Rattle.run_laws.specs.ScriptMoves.{fates_of, own_at, room_of}
 use Rattle.dix_adapter.specs.declared.adapter.Adapter.{Adapter}
 use Rattle.run_follows.specs.Gate.{AllPlaced, AreOver, LetsIn, MayMove, Spot, number, ops_of, parts_at, place}
 use Rattle.run_follows.specs.Pieces.{AllMayMove, IsNoneOf, all_cut, all_made, with_all}

@@ -13,7 +13,7 @@ use Rattle.range_gate.specs.Cells.{cells_clash}
 use Rattle.whole_run.specs.ScriptWalk.{act_of, source_of}
 use Rattle.whole_run.specs.Settings.{Setting}
 use Rattle.whole_run.specs.Steps.{Alters, Step, steps_of}
-use Rattle.run_moves.specs.ScriptMoves.{all_moves, blocks_from, blocks_of, by_moves, fates_of, moves_from, own_at, room_of, script_moves}
+use Rattle.run_laws.specs.ScriptMoves.{all_moves, blocks_from, blocks_of, by_moves, fates_of, moves_from, own_at, room_of, script_moves}
 use Rattle.run_follows.specs.Following.{AllStand, Follows, StandFrom}
 use Rattle.run_follows.specs.Slots.{Status, Waits, parts_of, so_far, done_by}
 use Rattle.run_falls.proofs.Switching.{far_length}

@@ -11,8 +11,8 @@ use Rattle.stack_ops.specs.declared.op.Op.TheVariants.{Fetch, FetchPi, Fill, Ove
 use Rattle.integrity_payload.specs.declared.payload.Owner.TheVariants.{Block as OfBlock, App as OfApp}
 use Rattle.whole_run.specs.Settings.{Setting, block_of}
 use Rattle.whole_run.specs.Steps.{Alters, Reads, Seals, Sets, Shows, Step, Writes, WritesPi, body_of, each_from, frame_at, steps_of}
-use Rattle.run_record.specs.Records.{is_out}
-use Rattle.run_moves.specs.OpsApart.{OpsConflict}
+use Rattle.run_laws.specs.Records.{is_out}
+use Rattle.run_laws.specs.OpsApart.{OpsConflict}
 use Rattle.dix_adapter.specs.declared.adapter.Adapter.{Adapter}
 use Rattle.dix_adapter.specs.Groups.{label_of}
 use Rattle.run_follows.specs.Gate.{AreOver, LetsIn, MayMove, Spot, is_over, number}

@@ -9,10 +9,10 @@ use Rattle.whole_run.specs.CalmRun.{AreBlocks}
 use Rattle.whole_run.specs.ScriptWalk.{act_of, acts_of}
 use Rattle.whole_run.specs.Settings.{Setting}
 use Rattle.whole_run.specs.Steps.{Alters, Reads, Seals, Sets, Shows, Step, Writes, WritesPi, body_of, each_from, steps_of, tuple_of}
-use Rattle.run_record.specs.EarlierWrites.{HasLog}
-use Rattle.run_moves.specs.BoundRun.{fates, rooms}
-use Rattle.run_moves.specs.OpsApart.{HasBlocks, IsPlaced, IsSpread, OpsConflict}
-use Rattle.run_moves.specs.ScriptMoves.{own_at, room_of}
+use Rattle.run_laws.specs.EarlierWrites.{HasLog}
+use Rattle.run_laws.specs.BoundRun.{fates, rooms}
+use Rattle.run_laws.specs.OpsApart.{HasBlocks, IsPlaced, IsSpread, OpsConflict}
+use Rattle.run_laws.specs.ScriptMoves.{own_at, room_of}
 use Rattle.dix_adapter.specs.declared.adapter.Adapter.{Adapter}
 use Rattle.run_follows.specs.Gate.{AllPlaced, AreOver, IsAlone, LetsIn, MayMove, Spot, number, parts_at, place}
 use Rattle.run_follows.specs.Sending.{AllGoing, carriage_of}

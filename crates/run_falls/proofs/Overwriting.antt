@@ -13,7 +13,7 @@ use Rattle.block_path.specs.Blocks.{Sent}
 use Rattle.block_path.specs.Serial.{plain}
 use Rattle.whole_run.specs.ScriptWalk.{acts_of}
 use Rattle.whole_run.specs.Settings.{Setting}
-use Rattle.run_moves.specs.OpsApart.{IsPlaced, OneCellEach}
+use Rattle.run_laws.specs.OpsApart.{IsPlaced, OneCellEach}
 use Rattle.run_follows.specs.Following.{Follows}
 use Rattle.run_follows.specs.Gate.{AllPlaced, BecomesDone, LetsIn}
 use Rattle.run_follows.specs.Slots.{Status, Waits}

@@ -20,9 +20,9 @@ use Rattle.block_path.specs.Serial.{plain, plain_tells}
 use Rattle.whole_run.specs.ScriptWalk.{acts_of}
 use Rattle.whole_run.specs.Settings.{Setting}
 use Rattle.whole_run.specs.Steps.{Alters, Reads, Seals, Sets, Shows, Step, Writes, WritesPi}
-use Rattle.run_moves.specs.BoundRun.{fates, rooms}
-use Rattle.run_moves.specs.OpsApart.{IsPlaced, OneCellEach}
-use Rattle.run_moves.specs.ScriptMoves.{own_at}
+use Rattle.run_laws.specs.BoundRun.{fates, rooms}
+use Rattle.run_laws.specs.OpsApart.{IsPlaced, OneCellEach}
+use Rattle.run_laws.specs.ScriptMoves.{own_at}
 use Rattle.dix_adapter.specs.declared.adapter.Adapter.{Adapter}
 use Rattle.dix_adapter.specs.Carried.{Unsent}
 use Rattle.dix_adapter.specs.Groups.{IsGroup, blocks_in, first_of, label_of}

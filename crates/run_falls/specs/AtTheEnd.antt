@@ -15,7 +15,7 @@ use Rattle.whole_run.specs.Settings.{Block, Setting, block_of}
 use Rattle.run_laws.specs.FallingReads.{IsReadAs, falling_replies}
 use Rattle.whole_run.specs.ReadsAs.{landing, listed_in, read_op}
 use Rattle.run_laws.specs.StoreFaults.{falling_past, falling_walk, is_lost}
-use Rattle.run_record.specs.ToldRun.{IsRecordOf}
+use Rattle.run_laws.specs.ToldRun.{IsRecordOf}
 use Rattle.run_falls.specs.Falls.{Falls, of_blocks, over_falls, put_really}
 
 -- A stack once all has ended, where store calls failed.

@@ -7,7 +7,7 @@ use Rattle.stack_ops.specs.declared.op.Op.TheVariants.{Fetch, FetchPi, Fill, Ove
 use Rattle.block_path.specs.Blocks.{Sent, Site}
 use Rattle.block_path.specs.Routes.{Device}
 use Rattle.whole_run.specs.Settings.{Block, Setting}
-use Rattle.run_record.specs.Records.{stamped}
+use Rattle.run_laws.specs.Records.{stamped}
 use Rattle.run_follows.specs.Slots.{Admitted, Carried, Cut, Done, Settled, Status, Waits}
 
 -- Store calls that fail, as a device: of a write whose call fails it stores what the call leaves, and a read whose call fails it refuses.

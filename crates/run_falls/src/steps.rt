@@ -18,7 +18,7 @@ ghost use Rattle.rig_api.specs.declared.change.Change.TheVariants.{Flip};
 ghost use Rattle.stack_ops.specs.declared.op.Op.TheVariants.{Overwrite};
 ghost use Rattle.whole_run.specs.ScriptWalk.{acts_of, changed};
 ghost use Rattle.whole_run.specs.Settings.{Setting};
-ghost use Rattle.run_moves.specs.OpsApart.{IsPlaced, OneCellEach};
+ghost use Rattle.run_laws.specs.OpsApart.{IsPlaced, OneCellEach};
 ghost use Rattle.dix_adapter.specs.declared.adapter.Adapter.{Adapter as AnyAdapter};
 ghost use Rattle.dix_adapter.specs.Carried.{Unsent};
 ghost use Rattle.dix_adapter.specs.Groups.{IsGroup, blocks_in, first_of};

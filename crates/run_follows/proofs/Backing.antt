@@ -9,14 +9,14 @@ use Rattle.block_path.specs.Moves.{hidden}
 use Rattle.whole_run.specs.ScriptWalk.{reply_of}
 use Rattle.whole_run.specs.Settings.{Setting}
 use Rattle.whole_run.specs.Steps.{steps_of}
-use Rattle.run_record.specs.BackedRun.{Backed, IsBacked}
-use Rattle.run_record.specs.CarriedRun.{Carried}
-use Rattle.run_record.specs.Records.{recorded}
-use Rattle.run_record.specs.ToldRun.{told}
-use Rattle.run_record.proofs.Backs.{backs, steps_same}
-use Rattle.run_record.proofs.Between.{carries}
-use Rattle.run_record.proofs.OwnRecord.{backs_itself}
-use Rattle.run_moves.specs.BoundRun.{IsBoundRun}
+use Rattle.run_laws.specs.BackedRun.{Backed, IsBacked}
+use Rattle.run_laws.specs.CarriedRun.{Carried}
+use Rattle.run_laws.specs.Records.{recorded}
+use Rattle.run_laws.specs.ToldRun.{told}
+use Rattle.run_laws.proofs.Backs.{backs, steps_same}
+use Rattle.run_laws.proofs.Between.{carries}
+use Rattle.run_laws.proofs.OwnRecord.{backs_itself}
+use Rattle.run_laws.specs.BoundRun.{IsBoundRun}
 use Rattle.run_follows.specs.Finished.{AllEnded, HaveEnded, answers_of, replies_of}
 use Rattle.run_follows.specs.Following.{Follows}
 use Rattle.run_follows.specs.Slots.{Status}

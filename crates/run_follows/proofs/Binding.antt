@@ -5,9 +5,9 @@ use Rattle.stack_ops.specs.declared.op.Op.TheVariants.{Fetch, FetchPi, Fill, Ove
 use Rattle.block_path.specs.Acts.{State}
 use Rattle.block_path.specs.Blocks.{Sent}
 use Rattle.whole_run.specs.Settings.{Setting, block_of, route}
-use Rattle.run_record.specs.ToldRun.{came_by, told}
-use Rattle.run_moves.specs.BoundRun.{AllBound, AllSuit, IsBound, IsBoundRun}
-use Rattle.run_moves.proofs.AtTarget.{fine_always}
+use Rattle.run_laws.specs.ToldRun.{came_by, told}
+use Rattle.run_laws.specs.BoundRun.{AllBound, AllSuit, IsBound, IsBoundRun}
+use Rattle.run_laws.proofs.AtTarget.{fine_always}
 use Rattle.run_follows.specs.Finished.{FramesFit}
 use Rattle.run_follows.proofs.Over.{same_rooms}
 

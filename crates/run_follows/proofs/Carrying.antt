@@ -14,10 +14,10 @@ use Rattle.block_path.specs.WayOut.{Fails, Refuses, Stores, WayOut, goes_out}
 use Rattle.block_path.specs.Serial.{all_done, none_done}
 use Rattle.whole_run.specs.Settings.{Setting, route}
 use Rattle.whole_run.specs.Steps.{Alters, Reads, Seals, Sets, Shows, Step, Writes, WritesPi}
-use Rattle.run_record.specs.EarlierWrites.{HasLog}
-use Rattle.run_record.specs.Records.{Mixed, is_out, put_frame, put_sent, writes_at, sents}
-use Rattle.run_moves.specs.BoundRun.{fates, rooms}
-use Rattle.run_moves.specs.ScriptMoves.{by_moves, lands_in, own_at}
+use Rattle.run_laws.specs.EarlierWrites.{HasLog}
+use Rattle.run_laws.specs.Records.{Mixed, is_out, put_frame, put_sent, writes_at, sents}
+use Rattle.run_laws.specs.BoundRun.{fates, rooms}
+use Rattle.run_laws.specs.ScriptMoves.{by_moves, lands_in, own_at}
 use Rattle.run_follows.specs.Following.{Becomes, Follows, sents_so_far}
 use Rattle.run_follows.specs.Gate.{MayMove, Spot, number, ops_of, parts_at, place}
 use Rattle.run_follows.specs.Slots.{Carried, Cut, Status, before_carrying, parts_of, write_parts}

@@ -12,10 +12,10 @@ use Rattle.block_path.proofs.Serial.{ends}
 use Rattle.whole_run.specs.ScriptWalk.{bad_from, reply_of, whole_or_bad}
 use Rattle.whole_run.specs.Settings.{Setting, block_of}
 use Rattle.whole_run.specs.Steps.{Alters, Reads, Seals, Sets, Shows, Step, Writes, WritesPi, body_of, each_from, frame_at, steps_of}
-use Rattle.run_record.specs.Records.{Mixed, put_sent, sents}
-use Rattle.run_moves.specs.BoundRun.{IsBoundRun}
-use Rattle.run_moves.specs.ScriptMoves.{all_moves, answers_from, blocks_from, blocks_of, by_moves, carried_by, fates_of, joins, moves_from, own_at, replies_from_moves, room_of, script_moves}
-use Rattle.run_moves.proofs.Ordered.{once_done}
+use Rattle.run_laws.specs.Records.{Mixed, put_sent, sents}
+use Rattle.run_laws.specs.BoundRun.{IsBoundRun}
+use Rattle.run_laws.specs.ScriptMoves.{all_moves, answers_from, blocks_from, blocks_of, by_moves, carried_by, fates_of, joins, moves_from, own_at, replies_from_moves, room_of, script_moves}
+use Rattle.run_laws.proofs.Ordered.{once_done}
 use Rattle.run_follows.specs.Finished.{AllEnded, EndsAsWalk, HasEnded, HaveEnded, answer_of, answers_of, replies_of}
 use Rattle.run_follows.specs.Following.{AllStand, Follows, StandFrom, sents_so_far}
 use Rattle.run_follows.specs.Slots.{Done as AllDone, Parts, Settled, Status, Tells, before_carrying, done_by, moves_in, parts_of, write_parts}

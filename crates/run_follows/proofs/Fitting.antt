@@ -14,8 +14,8 @@ use Rattle.block_path.specs.Blocks.{Sent, Site}
 use Rattle.block_path.specs.Routes.{wire_size}
 use Rattle.block_path.specs.Senses.{why_ended}
 use Rattle.whole_run.specs.Settings.{Block as ScriptBlock, Setting, route}
-use Rattle.run_record.specs.Records.{came_of, find, is_labelled, recorded, stamped}
-use Rattle.run_record.specs.ToldRun.{came_in}
+use Rattle.run_laws.specs.Records.{came_of, find, is_labelled, recorded, stamped}
+use Rattle.run_laws.specs.ToldRun.{came_in}
 use Rattle.dix_adapter.specs.declared.adapter.Adapter.{Adapter}
 use Rattle.dix_adapter.specs.Carried.{any_bad, frame_len, frame_sent, sends}
 use Rattle.dix_adapter.specs.Groups.{IsGroup, IsProtect, blocks_in, first_of, label_of, size}

@@ -5,7 +5,7 @@ use Rattle.std.proofs.lemmas.List.{length-replicate}
 use Rattle.std.proofs.lemmas.List.Elements.{All-nil}
 use Rattle.page_pool.specs.Places.{run}
 use Rattle.bio_core.specs.declared.fate.Why.{Why}
-use Rattle.run_moves.specs.ScriptMoves.{own_at}
+use Rattle.run_laws.specs.ScriptMoves.{own_at}
 use Rattle.stack_ops.specs.declared.op.Op.{Op}
 use Rattle.stack_ops.specs.declared.op.Op.TheVariants.{Put, Write}
 use Rattle.block_path.specs.Acts.{State, act, tell}
@@ -19,10 +19,10 @@ use Rattle.whole_run.specs.Steps.{Writes, body_of}
 use Rattle.whole_run.specs.UnderMap.{home}
 use Rattle.whole_run.proofs.ScriptRows.{faulty, opening, seg}
 use Rattle.run_laws.proofs.ShownRows.{one_list}
-use Rattle.run_record.specs.Records.{put_sent}
-use Rattle.run_moves.specs.BoundRun.{IsBoundRun, Suits}
-use Rattle.run_moves.specs.OpsApart.{IsPlaced, OneCellEach}
-use Rattle.run_moves.proofs.BlocksApart.{still_apart}
+use Rattle.run_laws.specs.Records.{put_sent}
+use Rattle.run_laws.specs.BoundRun.{IsBoundRun, Suits}
+use Rattle.run_laws.specs.OpsApart.{IsPlaced, OneCellEach}
+use Rattle.run_laws.proofs.BlocksApart.{still_apart}
 use Rattle.run_follows.specs.Finished.{EndsAsWalk}
 use Rattle.run_follows.specs.Following.{Becomes, Follows}
 use Rattle.run_follows.specs.Gate.{BecomesDone, MayMove, Spot, ops_of, parts_at}

@@ -8,11 +8,11 @@ use Rattle.block_path.specs.Blocks.{Answer, Sent, silent}
 use Rattle.block_path.specs.Serial.{all_done, plain, plain_tells}
 use Rattle.whole_run.specs.Settings.{Setting}
 use Rattle.whole_run.specs.Steps.{Step}
-use Rattle.run_record.specs.Records.{Mixed, put_sent, sents, writes_at}
-use Rattle.run_moves.specs.BoundRun.{fates, rooms}
-use Rattle.run_moves.specs.OpsApart.{NoneMeet}
-use Rattle.run_moves.specs.ScriptMoves.{ByMoves, all_moves, blocks_from, blocks_of, by_moves, own_at, script_moves}
-use Rattle.run_moves.proofs.BlocksApart.{blocks_apart}
+use Rattle.run_laws.specs.Records.{Mixed, put_sent, sents, writes_at}
+use Rattle.run_laws.specs.BoundRun.{fates, rooms}
+use Rattle.run_laws.specs.OpsApart.{NoneMeet}
+use Rattle.run_laws.specs.ScriptMoves.{ByMoves, all_moves, blocks_from, blocks_of, by_moves, own_at, script_moves}
+use Rattle.run_laws.proofs.BlocksApart.{blocks_apart}
 use Rattle.run_follows.specs.Following.{AllStand, Becomes, Follows, StandFrom, sents_so_far}
 use Rattle.run_follows.specs.Gate.{MayMove, Spot, number, ops_of, parts_at, place}
 use Rattle.run_follows.specs.Slots.{Admitted, Carried, Cut, Parts, Settled, Stands, Status, Waits, before_carrying, done_by, moves_in, parts_of, so_far}

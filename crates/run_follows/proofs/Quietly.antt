@@ -11,7 +11,7 @@ use Rattle.block_path.specs.Serial.{plain_tells}
 use Rattle.block_path.specs.WayIn.{delivered_unless, mapped_back, owner_finds}
 use Rattle.whole_run.specs.Settings.{Setting, route}
 use Rattle.whole_run.specs.Steps.{Alters, Reads, Seals, Sets, Shows, Step, Writes, WritesPi}
-use Rattle.run_moves.specs.ScriptMoves.{by_moves, carried_by, lands_in}
+use Rattle.run_laws.specs.ScriptMoves.{by_moves, carried_by, lands_in}
 use Rattle.run_follows.specs.Slots.{before_carrying, parts_of, write_parts}
 use Rattle.run_follows.proofs.Runs.{AllQuiet, IsQuiet}
 use Rattle.run_follows.proofs.Moving.{get_left}

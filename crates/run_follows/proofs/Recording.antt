@@ -25,8 +25,8 @@ use Rattle.block_path.specs.Routes.{told_by}
 use Rattle.block_path.specs.WayOut.{Refuses, Stores, at_device, from_adapter, goes_out, to_wire}
 use Rattle.block_path.specs.Senses.{why_ended}
 use Rattle.whole_run.specs.Settings.{Setting}
-use Rattle.run_record.specs.Records.{came_of, find, is_labelled, recorded, stamped}
-use Rattle.run_record.specs.ToldRun.{came_by, came_in, told}
+use Rattle.run_laws.specs.Records.{came_of, find, is_labelled, recorded, stamped}
+use Rattle.run_laws.specs.ToldRun.{came_by, came_in, told}
 use Rattle.dix_adapter.specs.declared.adapter.Adapter.{Adapter}
 use Rattle.dix_adapter.specs.Carried.{any_bad, arrives, carried, fates_in, frame_len, frame_sent, is_bad, land, landed, sends}
 use Rattle.dix_adapter.specs.Groups.{IsGroup, IsProtect, blocks_in, first_of, frame_cells, frame_in, label_of, route_of, size}

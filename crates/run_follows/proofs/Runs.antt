@@ -6,8 +6,8 @@ use Rattle.block_path.specs.Blocks.{Answer, Sent}
 use Rattle.block_path.specs.Serial.{ClearOf, Serial, all_done, none_done, plain, plain_tells}
 use Rattle.block_path.proofs.Acts.{commutes}
 use Rattle.block_path.proofs.Split.{NoneOf, clear_apart, clear_both, goes_on_between}
-use Rattle.run_record.specs.Records.{put_sent, sents}
-use Rattle.run_moves.specs.OpsApart.{NoneMeet}
+use Rattle.run_laws.specs.Records.{put_sent, sents}
+use Rattle.run_laws.specs.OpsApart.{NoneMeet}
 use Rattle.block_path.specs.Serial.{Apart}
 use Rattle.run_follows.specs.Following.{sents_so_far}
 use Rattle.run_follows.specs.Slots.{so_far}

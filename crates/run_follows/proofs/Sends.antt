@@ -19,10 +19,10 @@ use Rattle.block_path.specs.WayIn.{at_host, from_device, from_wire}
 use Rattle.block_path.specs.WayOut.{Fails, Refuses, Stores, from_adapter, goes_out, to_wire}
 use Rattle.whole_run.specs.Settings.{Setting, route}
 use Rattle.whole_run.specs.Steps.{Alters, Reads, Seals, Sets, Shows, Step, Writes, WritesPi, steps_of}
-use Rattle.run_record.specs.Records.{find, put_sent, stamped, writes_at}
-use Rattle.run_moves.specs.BoundRun.{fates, rooms}
-use Rattle.run_moves.specs.OpsApart.{OpsConflict}
-use Rattle.run_moves.specs.ScriptMoves.{own_at}
+use Rattle.run_laws.specs.Records.{find, put_sent, stamped, writes_at}
+use Rattle.run_laws.specs.BoundRun.{fates, rooms}
+use Rattle.run_laws.specs.OpsApart.{OpsConflict}
+use Rattle.run_laws.specs.ScriptMoves.{own_at}
 use Rattle.dix_adapter.specs.declared.adapter.Adapter.{Adapter}
 use Rattle.dix_adapter.specs.Carried.{arrives, carried as fate_of, land, sends, unsent}
 use Rattle.dix_adapter.specs.Groups.{frame_cells, frame_in, label_of, route_of}

@@ -6,10 +6,10 @@ use Rattle.block_path.specs.Acts.{conflict}
 use Rattle.block_path.specs.Blocks.{Answer}
 use Rattle.whole_run.specs.Settings.{Setting}
 use Rattle.whole_run.specs.Steps.{Alters, Reads, Seals, Sets, Shows, Step, Writes, WritesPi, steps_of}
-use Rattle.run_moves.specs.BoundRun.{fates, rooms}
-use Rattle.run_moves.specs.OpsApart.{IsPlaced, NoneMeet, OneCellEach, OpsConflict}
-use Rattle.run_moves.specs.ScriptMoves.{all_moves, blocks_from, blocks_of, by_moves, fates_of, moves_from, own_at, room_of, write_moves}
-use Rattle.run_moves.proofs.Meeting.{ops_apart}
+use Rattle.run_laws.specs.BoundRun.{fates, rooms}
+use Rattle.run_laws.specs.OpsApart.{IsPlaced, NoneMeet, OneCellEach, OpsConflict}
+use Rattle.run_laws.specs.ScriptMoves.{all_moves, blocks_from, blocks_of, by_moves, fates_of, moves_from, own_at, room_of, write_moves}
+use Rattle.run_laws.proofs.Meeting.{ops_apart}
 use Rattle.run_follows.specs.Following.{AllStand, StandFrom}
 use Rattle.run_follows.specs.Gate.{AllPlaced, AreOver, LetsIn, is_over}
 use Rattle.run_follows.specs.Slots.{Admitted, Carried, Cut, Done as AllDone, Parts, Settled, Stands, Status, Waits, before_carrying, done_by, moves_in, parts_of, so_far, write_parts}

@@ -21,7 +21,7 @@ use Rattle.block_path.proofs.Acts.{same_cells}
 use Rattle.block_path.proofs.Given.{stand_for}
 use Rattle.whole_run.specs.Settings.{Block, Setting, block_of, route}
 use Rattle.whole_run.specs.Steps.{Alters, Reads, Seals, Sets, Shows, Step, Writes, WritesPi, body_of, each_from, frame_at, steps_of, tuple_of}
-use Rattle.run_moves.specs.ScriptMoves.{all_moves, blocks_from, blocks_of, by_moves, carried_by, fates_of, lands_in, moves_from, own_at, room_of, script_moves, write_moves}
+use Rattle.run_laws.specs.ScriptMoves.{all_moves, blocks_from, blocks_of, by_moves, carried_by, fates_of, lands_in, moves_from, own_at, room_of, script_moves, write_moves}
 use Rattle.run_follows.specs.Following.{AllStand, Follows, StandFrom}
 use Rattle.run_follows.specs.Sending.{is_carried}
 use Rattle.run_follows.specs.Slots.{Admitted, Carried, Cut, Done as AllDone, Parts, Settled, Stands, Status, Waits, before_carrying, done_by, parts_of, so_far, write_parts}

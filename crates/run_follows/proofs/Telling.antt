@@ -27,7 +27,7 @@ use Rattle.block_path.specs.WayIn.{Delivers, Spoils, Stops, WayIn, at_host, from
 use Rattle.block_path.specs.WayOut.{Refuses, at_device, from_adapter, goes_out}
 use Rattle.block_path.specs.Senses.{why_ended}
 use Rattle.whole_run.specs.Settings.{Setting}
-use Rattle.run_record.specs.Records.{came_of, recorded}
+use Rattle.run_laws.specs.Records.{came_of, recorded}
 use Rattle.dix_adapter.specs.declared.adapter.Adapter.{Adapter}
 use Rattle.dix_adapter.specs.Carried.{any_bad, frame_len, frame_sent, is_bad, sends}
 use Rattle.dix_adapter.specs.Groups.{IsGroup, IsProtect, blocks_in, first_of, frame_cells, frame_in, route_of, size}

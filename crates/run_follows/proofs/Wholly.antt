@@ -8,9 +8,9 @@ use Rattle.block_path.specs.Serial.{all_done, none_done, plain, plain_tells}
 use Rattle.whole_run.specs.ScriptWalk.{act_of, acts_of}
 use Rattle.whole_run.specs.Settings.{Setting}
 use Rattle.whole_run.specs.Steps.{Alters, Reads, Seals, Sets, Shows, Step, Writes, WritesPi, body_of, each_from, steps_of, tuple_of}
-use Rattle.run_moves.specs.BoundRun.{fates, rooms}
-use Rattle.run_moves.specs.OpsApart.{IsPlaced, OneCellEach}
-use Rattle.run_moves.specs.ScriptMoves.{ByMoves, all_moves, at_once, blocks_from, blocks_of, by_moves, own_at}
+use Rattle.run_laws.specs.BoundRun.{fates, rooms}
+use Rattle.run_laws.specs.OpsApart.{IsPlaced, OneCellEach}
+use Rattle.run_laws.specs.ScriptMoves.{ByMoves, all_moves, at_once, blocks_from, blocks_of, by_moves, own_at}
 use Rattle.run_follows.specs.Following.{Follows, StandFrom}
 use Rattle.run_follows.specs.Gate.{AllPlaced, BecomesDone, IsAlone, LetsIn}
 use Rattle.run_follows.specs.Slots.{Done as AllDone, Stands, Status, Waits, parts_of, so_far, whole_part}

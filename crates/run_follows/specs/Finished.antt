@@ -9,7 +9,7 @@ use Rattle.whole_run.specs.ScriptWalk.{reply_of, script_replies, script_walk}
 use Rattle.block_path.specs.Routes.{wire_size}
 use Rattle.whole_run.specs.Settings.{Block, Setting, route}
 use Rattle.whole_run.specs.Steps.{Alters, Reads, Seals, Sets, Shows, Step, Writes, WritesPi, steps_of}
-use Rattle.run_record.specs.ToldRun.{IsRecordOf, came_by}
+use Rattle.run_laws.specs.ToldRun.{IsRecordOf, came_by}
 use Rattle.run_follows.specs.Slots.{Admitted, Carried, Cut, Done, Settled, Status, Waits}
 
 -- A stack once all has ended, and what it replies.

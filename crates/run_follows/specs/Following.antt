@@ -5,8 +5,8 @@ use Rattle.block_path.specs.Blocks.{Answer, Sent}
 use Rattle.block_path.specs.Serial.{Serial}
 use Rattle.whole_run.specs.Settings.{Setting}
 use Rattle.whole_run.specs.Steps.{Step, steps_of}
-use Rattle.run_record.specs.Records.{Mixed, put_sent, writes_at}
-use Rattle.run_moves.specs.ScriptMoves.{by_moves, fates_of, own_at, room_of, script_moves}
+use Rattle.run_laws.specs.Records.{Mixed, put_sent, writes_at}
+use Rattle.run_laws.specs.ScriptMoves.{by_moves, fates_of, own_at, room_of, script_moves}
 use Rattle.run_follows.specs.Slots.{Stands, Status, parts_of, so_far}
 
 -- A stack between two steps follows the walk.

@@ -7,9 +7,9 @@ use Rattle.block_path.specs.Serial.{plain_tells}
 use Rattle.whole_run.specs.ScriptWalk.{acts_of}
 use Rattle.whole_run.specs.Settings.{Setting}
 use Rattle.whole_run.specs.Steps.{Step, steps_of}
-use Rattle.run_moves.specs.BoundRun.{fates, rooms}
-use Rattle.run_moves.specs.OpsApart.{IsPlaced, IsSpread, OneCellEach, OpsConflict}
-use Rattle.run_moves.specs.ScriptMoves.{own_at}
+use Rattle.run_laws.specs.BoundRun.{fates, rooms}
+use Rattle.run_laws.specs.OpsApart.{IsPlaced, IsSpread, OneCellEach, OpsConflict}
+use Rattle.run_laws.specs.ScriptMoves.{own_at}
 use Rattle.run_follows.specs.Slots.{Admitted, Carried, Cut, Done, Parts, Settled, Status, Waits, parts_of}
 
 -- What the gate keeps: an op goes only where no earlier op that it conflicts with is still on its way.

@@ -15,12 +15,12 @@ use Rattle.block_path.specs.Serial.{plain}
 use Rattle.block_path.specs.WayOut.{Refuses, Stores, goes_out}
 use Rattle.whole_run.specs.Settings.{Setting, route}
 use Rattle.whole_run.specs.Steps.{Alters, Reads, Seals, Sets, Shows, Step, Writes, WritesPi}
-use Rattle.run_record.specs.EarlierWrites.{HasLog}
+use Rattle.run_laws.specs.EarlierWrites.{HasLog}
 use Rattle.rig_api.specs.Log.{Entry}
-use Rattle.run_record.specs.Records.{find, recorded}
-use Rattle.run_record.specs.ToldRun.{told}
-use Rattle.run_moves.specs.BoundRun.{rooms}
-use Rattle.run_moves.specs.ScriptMoves.{lands_in, own_at}
+use Rattle.run_laws.specs.Records.{find, recorded}
+use Rattle.run_laws.specs.ToldRun.{told}
+use Rattle.run_laws.specs.BoundRun.{rooms}
+use Rattle.run_laws.specs.ScriptMoves.{lands_in, own_at}
 use Rattle.dix_adapter.specs.declared.adapter.Adapter.{Adapter}
 use Rattle.dix_adapter.specs.Carried.{arrives, carried, land}
 use Rattle.dix_adapter.specs.Groups.{frame_cells, frame_in, route_of}

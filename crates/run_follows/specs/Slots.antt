@@ -6,8 +6,8 @@ use Rattle.block_path.specs.Moves.{carry_in, carry_out, make_tuple, map_back, ma
 use Rattle.whole_run.specs.ScriptWalk.{act_of}
 use Rattle.whole_run.specs.Settings.{Block, Setting, route}
 use Rattle.whole_run.specs.Steps.{Alters, Reads, Seals, Sets, Shows, Step, Writes, WritesPi}
-use Rattle.run_record.specs.Records.{put_sent, sents}
-use Rattle.run_moves.specs.ScriptMoves.{lands_in}
+use Rattle.run_laws.specs.Records.{put_sent, sents}
+use Rattle.run_laws.specs.ScriptMoves.{lands_in}
 
 -- How far each block of a script is, and which of its moves are done by then.
 

@@ -2,3 +2,14 @@ pub mod ShownRun
 pub mod StoreFaults
 pub mod FallingReads
 pub mod FallingWrites
+pub mod ScriptMoves
+pub mod BoundRun
+pub mod OpsApart
+pub mod Suited
+pub mod FallingMoves
+pub mod Records
+pub mod TakenWalk
+pub mod BackedRun
+pub mod CarriedRun
+pub mod ToldRun
+pub mod EarlierWrites

@@ -6,8 +6,8 @@ use Rattle.bio_core.specs.declared.fate.Why.{Why}
 use Rattle.block_path.specs.Acts.{Act, State, act, tell}
 use Rattle.block_path.specs.Blocks.{Answer}
 use Rattle.block_path.specs.Serial.{plain, plain_tells}
-use Rattle.run_record.specs.Records.{recorded}
-use Rattle.run_record.specs.ToldRun.{told}
+use Rattle.run_laws.specs.Records.{recorded}
+use Rattle.run_laws.specs.ToldRun.{told}
 use Rattle.rig_api.specs.Log.{Entry}
 use Rattle.rig_api.specs.State.{RigState}
 use Rattle.script_ground.proofs.Ops.{in-range, line-none}

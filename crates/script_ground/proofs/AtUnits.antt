@@ -20,7 +20,7 @@ use Rattle.volume_table.specs.Faults.{device}
 use Rattle.volume_table.specs.Places.{place_in, volume_len}
 use Rattle.volume_table.specs.Tables.{IsOn, MadeFor, Table}
 use Rattle.whole_run.specs.Settings.{Setting}
-use Rattle.run_moves.specs.ScriptMoves.{fates_of}
+use Rattle.run_laws.specs.ScriptMoves.{fates_of}
 use Rattle.stack_walks.specs.Spots.{op_in as op_at}
 use Rattle.stack_walks.specs.Units.{AreAtUnits, IsAtUnit, first_virt}
 use Rattle.script_text.specs.declared.script.Script.{Script}

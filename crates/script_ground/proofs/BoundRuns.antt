@@ -16,9 +16,9 @@ use Rattle.whole_run.specs.ScriptWalk.{changed, source_of}
 use Rattle.volume_table.specs.declared.device.DeviceInfo.{DeviceInfo}
 use Rattle.volume_table.specs.Tables.{Table}
 use Rattle.whole_run.specs.Settings.{Setting, block_of, route}
-use Rattle.run_moves.specs.BoundRun.{AllBound, AllSuit, IsBound, IsBoundRun, fates, rooms}
-use Rattle.run_moves.proofs.AtTarget.{fine_always}
-use Rattle.run_record.specs.ToldRun.{came_by, told}
+use Rattle.run_laws.specs.BoundRun.{AllBound, AllSuit, IsBound, IsBoundRun, fates, rooms}
+use Rattle.run_laws.proofs.AtTarget.{fine_always}
+use Rattle.run_laws.specs.ToldRun.{came_by, told}
 use Rattle.run_follows.specs.Finished.{FramesFit}
 use Rattle.run_follows.proofs.Over.{same_rooms}
 use Rattle.stack_walks.specs.Spots.{op_in as op_at}

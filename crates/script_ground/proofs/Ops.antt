@@ -16,9 +16,9 @@ use Rattle.volume_table.specs.Tables.{MadeFor, Table}
 use Rattle.whole_run.specs.CalmRun.{AreBlocks}
 use Rattle.whole_run.specs.Settings.{Setting, block_of}
 use Rattle.whole_run.specs.Steps.{Reads, Step, Writes, WritesPi, body_of, frame_at, steps_of}
-use Rattle.run_moves.specs.OpsApart.{IsPlaced}
-use Rattle.run_moves.specs.ScriptMoves.{fates_of}
-use Rattle.run_record.specs.EarlierWrites.{HasLog}
+use Rattle.run_laws.specs.OpsApart.{IsPlaced}
+use Rattle.run_laws.specs.ScriptMoves.{fates_of}
+use Rattle.run_laws.specs.EarlierWrites.{HasLog}
 use Rattle.run_follows.specs.Gate.{AllPlaced, IsAlone as IsNoRequest}
 use Rattle.stack_walks.specs.Spots.{no_step, op_in as op_at}
 use Rattle.stack_walks.proofs.Spots.{each_first}

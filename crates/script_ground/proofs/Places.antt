@@ -6,7 +6,7 @@ use Rattle.volume_table.specs.Places.{place_in, volume_len}
 use Rattle.volume_table.specs.Tables.{MadeFor, Table}
 use Rattle.whole_run.specs.Settings.{Setting}
 use Rattle.whole_run.specs.UnderMap.{home}
-use Rattle.run_moves.specs.OpsApart.{OneCellEach}
+use Rattle.run_laws.specs.OpsApart.{OneCellEach}
 use Rattle.script_text.specs.declared.script.Script.{Script}
 use Rattle.script_ground.specs.Bound.{IsAddress, IsSettingOf}
 

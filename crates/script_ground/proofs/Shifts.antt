@@ -20,7 +20,7 @@ use Rattle.volume_table.specs.Faults.{device}
 use Rattle.volume_table.specs.Places.{place_in, volume_len}
 use Rattle.volume_table.specs.Tables.{MadeFor, Table}
 use Rattle.whole_run.specs.Settings.{Setting, block_of, route}
-use Rattle.run_moves.specs.OpsApart.{AreStoredApart}
+use Rattle.run_laws.specs.OpsApart.{AreStoredApart}
 use Rattle.script_text.specs.declared.script.Script.{Script}
 use Rattle.script_text.specs.Bindings.{block_stays, blocks_stay, faults_fault, is_at_medium, is_bad_kind, is_bad_on, is_first_type, is_on, is_on_known, is_shift, request_at, shifts}
 use Rattle.script_text.proofs.Staying.{not_behind}

@@ -7,8 +7,8 @@ use Rattle.volume_table.specs.declared.device.DeviceInfo.{DeviceInfo}
 use Rattle.volume_table.specs.Places.{volume_len}
 use Rattle.volume_table.specs.Tables.{Table}
 use Rattle.whole_run.specs.Settings.{Setting}
-use Rattle.run_moves.specs.OpsApart.{AreStoredApart, IsSpread}
-use Rattle.run_moves.specs.ScriptMoves.{fates_of}
+use Rattle.run_laws.specs.OpsApart.{AreStoredApart, IsSpread}
+use Rattle.run_laws.specs.ScriptMoves.{fates_of}
 use Rattle.stack_walks.specs.Spots.{op_in as op_at}
 use Rattle.script_text.specs.Bindings.{op_fault, request_at, request_by, request_of}
 use Rattle.script_text.specs.Ops.{both_fault, data_fault}

@@ -17,7 +17,7 @@ use Rattle.volume_table.specs.declared.device.DeviceInfo.{DeviceInfo}
 use Rattle.volume_table.specs.Places.{place_in, volume_len}
 use Rattle.volume_table.specs.Tables.{MadeFor, Table}
 use Rattle.whole_run.specs.Settings.{Setting, block_of, route}
-use Rattle.run_moves.specs.Suited.{keeps_size}
+use Rattle.run_laws.specs.Suited.{keeps_size}
 use Rattle.run_follows.specs.Takes.{AllTakeAny, OpTakesAny, TakesAny}
 use Rattle.stack_walks.specs.Spots.{op_in as op_at}
 use Rattle.script_text.specs.declared.script.Script.{Script}

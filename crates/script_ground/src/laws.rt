@@ -12,9 +12,9 @@ ghost use Rattle.block_path.specs.Blocks.{Sent};
 ghost use Rattle.block_path.specs.Routes.{target};
 ghost use Rattle.dix_adapter.specs.Ways.{blocks_told, cell_in, shapes_of};
 ghost use Rattle.whole_run.specs.Settings.{Setting};
-ghost use Rattle.run_record.specs.ToldRun.{told};
-ghost use Rattle.run_moves.specs.BoundRun.{IsBoundRun, fates, rooms};
-ghost use Rattle.run_moves.specs.Suited.{keeps_size};
+ghost use Rattle.run_laws.specs.ToldRun.{told};
+ghost use Rattle.run_laws.specs.BoundRun.{IsBoundRun, fates, rooms};
+ghost use Rattle.run_laws.specs.Suited.{keeps_size};
 ghost use Rattle.run_follows.specs.Finished.{FramesFit};
 ghost use Rattle.run_follows.specs.Takes.{AllTakeAny};
 ghost use Rattle.script_text.specs.declared.script.Script.{Script as AnyScript};
@@ -27,7 +27,7 @@ ghost use Rattle.script_ground.specs.Bound.{IsSettingOf};
 ghost use Rattle.script_ground.specs.SuitsStack.{SuitsStack};
 ghost use Rattle.script_ground.specs.Units.{AreStored, all_blocks};
 
-use run_moves::a_target_keeps_sizes;
+use run_laws::a_target_keeps_sizes;
 
 /// Each block of the volume has a cell of its own, and each place a log; the ops lie in the script's pages and in the
 /// volume; each op is a request of some blocks or done whole; and the blocks of a request are spread, also where a

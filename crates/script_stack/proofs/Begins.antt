@@ -22,7 +22,7 @@ use Rattle.volume_table.specs.declared.device.DeviceInfo.{DeviceInfo}
 use Rattle.volume_table.specs.Tables.{MadeFor, Table}
 use Rattle.block_path.specs.Routes.{target}
 use Rattle.whole_run.specs.Settings.{Setting}
-use Rattle.run_moves.specs.BoundRun.{fates}
+use Rattle.run_laws.specs.BoundRun.{fates}
 use Rattle.script_text.specs.declared.script.Script.{Script}
 use Rattle.script_text.specs.Bindings.{binding_fault}
 use Rattle.stack_walks.specs.Ground.{Ground}

@@ -9,7 +9,7 @@ use Rattle.whole_run.specs.Settings.{Setting}
 use Rattle.whole_run.specs.Past.{steps_from}
 use Rattle.run_laws.specs.FallingReads.{falling_replies}
 use Rattle.run_laws.specs.StoreFaults.{falling_walk}
-use Rattle.run_record.specs.ToldRun.{IsRecordOf}
+use Rattle.run_laws.specs.ToldRun.{IsRecordOf}
 use Rattle.run_falls.specs.AtTheEnd.{EndsAsFalling}
 use Rattle.run_falls.specs.Falls.{of_blocks, over_falls}
 

@@ -8,7 +8,7 @@ use Rattle.volume_table.specs.declared.device.DeviceInfo.{DeviceInfo}
 use Rattle.volume_table.specs.Tables.{Table}
 use Rattle.block_path.specs.Moves.{hidden}
 use Rattle.whole_run.specs.Settings.{Setting}
-use Rattle.run_moves.specs.BoundRun.{fates, rooms}
+use Rattle.run_laws.specs.BoundRun.{fates, rooms}
 use Rattle.script_text.specs.declared.script.Script.{Script}
 use Rattle.stack_walks.specs.Requests.{page_after, pages_from}
 use Rattle.stack_walks.proofs.Begin.{pages-grow}

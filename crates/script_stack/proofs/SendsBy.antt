@@ -8,7 +8,7 @@ use Rattle.block_path.specs.Acts.{State}
 use Rattle.block_path.specs.declared.mode.Mode.{Mode}
 use Rattle.dix_adapter.specs.Groups.{mode_of}
 use Rattle.pi_tuple.specs.declared.checks.PiType.{PiType}
-use Rattle.run_record.proofs.Labelled.{each_both}
+use Rattle.run_laws.proofs.Labelled.{each_both}
 use Rattle.whole_run.specs.Settings.{Setting}
 use Rattle.bio_core.specs.declared.request.Io.{Io}
 use Rattle.merge_queue.specs.declared.limits.Limits.{Limits}

@@ -19,10 +19,10 @@ use Rattle.block_path.specs.Routes.{target}
 use Rattle.script_text.specs.declared.script.Script.{Script}
 use Rattle.whole_run.specs.ScriptWalk.{script_replies, script_walk}
 use Rattle.whole_run.specs.Settings.{Setting}
-use Rattle.run_record.specs.BackedRun.{Backed}
-use Rattle.run_record.specs.CarriedRun.{Carried}
-use Rattle.run_record.specs.Records.{recorded}
-use Rattle.run_moves.specs.BoundRun.{fates}
+use Rattle.run_laws.specs.BackedRun.{Backed}
+use Rattle.run_laws.specs.CarriedRun.{Carried}
+use Rattle.run_laws.specs.Records.{recorded}
+use Rattle.run_laws.specs.BoundRun.{fates}
 use Rattle.script_ground.specs.Units.{all_blocks}
 use Rattle.stack_core.specs.Mediums.{RoseBy, medium_lines}
 use Rattle.stack_walks.specs.Requests.{pages_from, requests_from}

@@ -23,7 +23,7 @@ use Rattle.run_laws.specs.FallingReads.{HasRoom}
 use Rattle.run_laws.specs.FallingWrites.{finds_then}
 use Rattle.whole_run.specs.ReadsAs.{read_op}
 use Rattle.run_laws.specs.StoreFaults.{IsFallingRun}
-use Rattle.run_record.specs.Records.{recorded}
+use Rattle.run_laws.specs.Records.{recorded}
 use Rattle.run_falls.specs.AtTheEnd.{EndsAsFalling, IsWrittenOrFails, ReadsOrFails}
 use Rattle.run_falls.specs.Falls.{of_blocks}
 use Rattle.script_text.specs.declared.script.Script.{Script}

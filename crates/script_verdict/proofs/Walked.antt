@@ -17,8 +17,8 @@ use Rattle.stack_ops.specs.declared.reply.Reply.{Reply}
 use Rattle.stack_core.specs.Mediums.{medium_lines}
 use Rattle.stack_core.specs.Stacks.{GoesOn}
 use Rattle.stack_core.specs.Walking.{NoneFailed, is_medium}
-use Rattle.run_record.specs.Records.{recorded}
-use Rattle.run_record.specs.ToldRun.{told}
+use Rattle.run_laws.specs.Records.{recorded}
+use Rattle.run_laws.specs.ToldRun.{told}
 use Rattle.stack_ops.specs.declared.reply.Reply.TheVariants.{Silent}
 use Rattle.script_stack.specs.Followed.{HasFallen, HasWalked, IsBackedBy, failed_in, none_fails, opening_of, setting_of, unit_of}
 use Rattle.stack_walks.specs.Overwrites.{is_overwrite}

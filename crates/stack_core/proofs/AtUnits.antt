@@ -22,9 +22,9 @@ use Rattle.stack_walks.specs.Units.{first_virt}
 use Rattle.stack_walks.specs.Requests.{first_page, page_after, request_of, requests_from}
 use Rattle.stack_walks.specs.Sheets.{io_at, no_io, op_in}
 use Rattle.whole_run.specs.Settings.{Setting}
-use Rattle.run_moves.specs.OpsApart.{OpsConflict, is_shifted}
-use Rattle.run_moves.specs.ScriptMoves.{fates_of}
-use Rattle.run_moves.proofs.Inside.{still_is}
+use Rattle.run_laws.specs.OpsApart.{OpsConflict, is_shifted}
+use Rattle.run_laws.specs.ScriptMoves.{fates_of}
+use Rattle.run_laws.proofs.Inside.{still_is}
 
 -- ---- shifts
 

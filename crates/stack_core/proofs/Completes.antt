@@ -29,8 +29,8 @@ use Rattle.block_path.specs.Blocks.{Sent}
 use Rattle.block_path.specs.Routes.{host_type}
 use Rattle.whole_run.specs.Settings.{Setting}
 use Rattle.whole_run.specs.Steps.{each_from}
-use Rattle.run_moves.specs.BoundRun.{fates}
-use Rattle.run_moves.specs.ScriptMoves.{fates_of}
+use Rattle.run_laws.specs.BoundRun.{fates}
+use Rattle.run_laws.specs.ScriptMoves.{fates_of}
 use Rattle.run_follows.specs.Sending.{is_carried}
 use Rattle.run_follows.specs.Slots.{Status}
 use Rattle.stack_walks.specs.Spots.{op_in}

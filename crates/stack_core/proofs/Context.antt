@@ -10,7 +10,7 @@ use Rattle.block_path.specs.Blocks.{Sent}
 use Rattle.volume_table.specs.declared.entry.Entry.{Entry}
 use Rattle.volume_table.specs.Places.{place_in}
 use Rattle.whole_run.specs.Settings.{Setting}
-use Rattle.run_record.specs.ToldRun.{came_by, told}
+use Rattle.run_laws.specs.ToldRun.{came_by, told}
 use Rattle.stack_walks.specs.Ground.{IsPlanOf}
 use Rattle.stack_walks.proofs.Over.{ground_over}
 use Rattle.pi_tuple.specs.declared.checks.PiType.{PiType}

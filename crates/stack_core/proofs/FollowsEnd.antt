@@ -19,7 +19,7 @@ use Rattle.block_path.specs.Blocks.{Sent}
 use Rattle.whole_run.specs.ScriptWalk.{bad_from as walk_bad, whole_or_bad}
 use Rattle.whole_run.specs.Settings.{Setting}
 use Rattle.whole_run.specs.Steps.{each_from}
-use Rattle.run_moves.specs.ScriptMoves.{fates_of}
+use Rattle.run_laws.specs.ScriptMoves.{fates_of}
 use Rattle.run_follows.specs.Sending.{NoneBefore, is_carried}
 use Rattle.run_follows.specs.Slots.{Status}
 use Rattle.stack_walks.proofs.Moving.{still}

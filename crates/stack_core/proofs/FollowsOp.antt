@@ -17,7 +17,7 @@ use Rattle.block_path.specs.Serial.{plain, plain_tells}
 use Rattle.whole_run.specs.ScriptWalk.{acts_of}
 use Rattle.whole_run.specs.Settings.{Setting}
 use Rattle.whole_run.specs.Steps.{each_from}
-use Rattle.run_moves.specs.ScriptMoves.{fates_of}
+use Rattle.run_laws.specs.ScriptMoves.{fates_of}
 use Rattle.run_follows.specs.Gate.{BecomesDone, IsAlone, LetsIn}
 use Rattle.run_follows.specs.Sending.{NoneBefore, is_carried}
 use Rattle.run_follows.specs.Slots.{Done, Status}
@@ -32,7 +32,7 @@ use Rattle.rig_api.specs.declared.change.Change.{Change}
 use Rattle.run_falls.specs.Flips.{Flips}
 use Rattle.run_falls.proofs.Flipped.{flip_at, flip_here, flip_there}
 use Rattle.run_falls.proofs.Overwriting.{between}
-use Rattle.run_moves.specs.OpsApart.{IsPlaced}
+use Rattle.run_laws.specs.OpsApart.{IsPlaced}
 use Rattle.stack_core.specs.Courses.{Course, Falling, FollowsBy, Straight}
 use Rattle.stack_core.specs.Rooms.{Suits}
 use Rattle.stack_walks.specs.Sheets.{op_in}

@@ -14,9 +14,9 @@ use Rattle.block_path.specs.Acts.{State}
 use Rattle.whole_run.specs.ScriptWalk.{bad_from, whole_or_bad}
 use Rattle.whole_run.specs.Settings.{Setting}
 use Rattle.whole_run.specs.Steps.{each_from}
-use Rattle.run_moves.specs.ScriptMoves.{fates_of}
-use Rattle.run_record.specs.Records.{recorded}
-use Rattle.run_record.specs.ToldRun.{told}
+use Rattle.run_laws.specs.ScriptMoves.{fates_of}
+use Rattle.run_laws.specs.Records.{recorded}
+use Rattle.run_laws.specs.ToldRun.{told}
 use Rattle.stack_core.specs.declared.stack.Stack.{Stack}
 use Rattle.stack_core.specs.Mediums.{HasCounted, RoseBy, listed_mediums, medium_lines, medium_replies, mediums, one_medium}
 use Rattle.stack_walks.specs.Moved.{why_of}

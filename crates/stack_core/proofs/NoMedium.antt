@@ -23,8 +23,8 @@ use Rattle.block_path.specs.Blocks.{Sent}
 use Rattle.whole_run.specs.ScriptWalk.{bad_from, whole_or_bad}
 use Rattle.whole_run.specs.Settings.{Setting}
 use Rattle.whole_run.specs.Steps.{each_from}
-use Rattle.run_moves.specs.ScriptMoves.{fates_of}
-use Rattle.run_record.specs.Records.{recorded}
+use Rattle.run_laws.specs.ScriptMoves.{fates_of}
+use Rattle.run_laws.specs.Records.{recorded}
 use Rattle.run_follows.specs.Following.{Follows}
 use Rattle.run_follows.specs.Slots.{Status}
 use Rattle.run_falls.specs.Flips.{Flips, flip_op, with_flips}

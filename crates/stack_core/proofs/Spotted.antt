@@ -14,8 +14,8 @@ use Rattle.block_path.specs.Acts.{Act}
 use Rattle.block_path.specs.Blocks.{Answer}
 use Rattle.block_path.specs.Moves.{in_turn}
 use Rattle.whole_run.specs.Settings.{Setting, block_of, route}
-use Rattle.run_moves.specs.BoundRun.{fates, rooms}
-use Rattle.run_moves.specs.ScriptMoves.{fates_of, own_at, room_of}
+use Rattle.run_laws.specs.BoundRun.{fates, rooms}
+use Rattle.run_laws.specs.ScriptMoves.{fates_of, own_at, room_of}
 use Rattle.run_follows.specs.Gate.{parts_at}
 use Rattle.run_follows.specs.Pieces.{all_cut, all_made}
 use Rattle.run_follows.specs.Slots.{Parts, parts_of}

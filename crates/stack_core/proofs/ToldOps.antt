@@ -26,7 +26,7 @@ use Rattle.block_path.specs.Acts.{State}
 use Rattle.block_path.specs.Blocks.{Site}
 use Rattle.whole_run.specs.ScriptWalk.{changed, source_of as source_cell}
 use Rattle.whole_run.specs.Settings.{Setting}
-use Rattle.run_record.specs.Records.{recorded}
+use Rattle.run_laws.specs.Records.{recorded}
 use Rattle.stack_core.specs.Courses.{Course, Falling, Straight}
 use Rattle.stack_core.specs.declared.stack.Stack.{Stack}
 use Rattle.stack_core.specs.Doing.{CanReach}

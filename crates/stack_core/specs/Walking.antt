@@ -33,12 +33,12 @@ use Rattle.whole_run.specs.ScriptWalk.{bad_from, changed, script_replies, script
 use Rattle.volume_table.specs.Places.{place_in, volume_len}
 use Rattle.whole_run.specs.Settings.{Setting}
 use Rattle.whole_run.specs.Steps.{each_from}
-use Rattle.run_moves.specs.BoundRun.{fates}
-use Rattle.run_moves.specs.ScriptMoves.{fates_of}
-use Rattle.run_record.specs.BackedRun.{Backed}
-use Rattle.run_record.specs.CarriedRun.{Carried}
-use Rattle.run_record.specs.Records.{recorded}
-use Rattle.run_record.specs.ToldRun.{told}
+use Rattle.run_laws.specs.BoundRun.{fates}
+use Rattle.run_laws.specs.ScriptMoves.{fates_of}
+use Rattle.run_laws.specs.BackedRun.{Backed}
+use Rattle.run_laws.specs.CarriedRun.{Carried}
+use Rattle.run_laws.specs.Records.{recorded}
+use Rattle.run_laws.specs.ToldRun.{told}
 use Rattle.run_follows.specs.Finished.{FramesFit}
 use Rattle.run_follows.specs.Sending.{NoneBefore}
 use Rattle.run_follows.specs.Slots.{Status}

@@ -22,7 +22,7 @@ use Rattle.block_path.specs.Blocks.{Answer}
 use Rattle.block_path.specs.Moves.{make_tuple, map_back, map_out, settle}
 use Rattle.whole_run.specs.Settings.{Setting, block_of, route}
 use Rattle.whole_run.specs.Steps.{Reads, Step, Writes, WritesPi, body_of, frame_at, steps_of, tuple_of}
-use Rattle.run_moves.specs.ScriptMoves.{own_at}
+use Rattle.run_laws.specs.ScriptMoves.{own_at}
 use Rattle.run_follows.specs.Sending.{carriage_of}
 use Rattle.run_follows.specs.Slots.{parts_of}
 use Rattle.stack_walks.specs.Spots.{no_step}

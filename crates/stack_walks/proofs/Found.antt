@@ -14,8 +14,8 @@ use Rattle.block_path.specs.WayIn.{Delivers, Spoils, Stops, WayIn, comes_in}
 use Rattle.block_path.specs.Serial.{Answered, walk}
 use Rattle.whole_run.specs.Settings.{Block, Setting, route}
 use Rattle.whole_run.specs.Steps.{Alters, Reads, Seals, Sets, Shows, Step, Writes, WritesPi, steps_of}
-use Rattle.run_moves.specs.BoundRun.{fates}
-use Rattle.run_moves.specs.ScriptMoves.{all_moves, blocks_from, by_moves, fates_of, lands_in, moves_from, own_at, room_of, write_moves}
+use Rattle.run_laws.specs.BoundRun.{fates}
+use Rattle.run_laws.specs.ScriptMoves.{all_moves, blocks_from, by_moves, fates_of, lands_in, moves_from, own_at, room_of, write_moves}
 use Rattle.run_follows.specs.Following.{AllStand, Follows, StandFrom}
 use Rattle.run_follows.specs.Slots.{Carried, Stands, Status, before_carrying, parts_of, so_far}
 use Rattle.stack_walks.specs.Spots.{IsRead, op_in, steps_in}

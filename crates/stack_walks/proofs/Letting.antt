@@ -12,8 +12,8 @@ use Rattle.stack_view.specs.View.{View, op_at}
 use Rattle.stack_view.proofs.Enabled.{all-at}
 use Rattle.whole_run.specs.Settings.{Setting}
 use Rattle.whole_run.specs.Steps.{Step}
-use Rattle.run_moves.specs.OpsApart.{OpsConflict}
-use Rattle.run_moves.specs.ScriptMoves.{fates_of}
+use Rattle.run_laws.specs.OpsApart.{OpsConflict}
+use Rattle.run_laws.specs.ScriptMoves.{fates_of}
 use Rattle.run_follows.specs.Gate.{AreOver, IsAlone, is_over}
 use Rattle.run_follows.specs.Slots.{Settled, Status}
 use Rattle.stack_walks.specs.Ground.{Ground, IsPlanOf}

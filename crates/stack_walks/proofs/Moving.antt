@@ -11,7 +11,7 @@ use Rattle.stack_view.specs.Plan.{Plan, request_at}
 use Rattle.stack_view.specs.Sound.{Sound}
 use Rattle.stack_view.specs.View.{Command, OpView, View, no_op, op_at}
 use Rattle.whole_run.specs.Settings.{Setting}
-use Rattle.run_moves.specs.ScriptMoves.{fates_of}
+use Rattle.run_laws.specs.ScriptMoves.{fates_of}
 use Rattle.run_follows.specs.Pieces.{with_all}
 use Rattle.run_follows.specs.Slots.{Admitted, Cut, Done, Settled, Status, Waits}
 use Rattle.stack_walks.specs.Ground.{IsPlanOf}

@@ -3,7 +3,7 @@ use Rattle.std.proofs.Common.{ℕ, suc, List, get_or, subst}
 use Rattle.stack_ops.specs.declared.op.Op.{Op}
 use Rattle.whole_run.specs.Settings.{Setting}
 use Rattle.whole_run.specs.Steps.{Step}
-use Rattle.run_record.specs.EarlierWrites.{HasLog}
+use Rattle.run_laws.specs.EarlierWrites.{HasLog}
 use Rattle.run_follows.proofs.Over.{all_placed_over, log_over, same_steps, spread_over}
 use Rattle.run_follows.proofs.Switch.{Told, over}
 use Rattle.stack_walks.specs.Ground.{Ground}

@@ -5,7 +5,7 @@ use Rattle.std.proofs.lemmas.List.{map-append, take-map, drop-map}
 use Rattle.page_pool.specs.Cells.{cell}
 use Rattle.page_pool.specs.Places.{places_in, range_of, run}
 use Rattle.range_gate.specs.Cells.{cells_of, in_turn}
-use Rattle.run_moves.specs.ScriptMoves.{own_at}
+use Rattle.run_laws.specs.ScriptMoves.{own_at}
 use Rattle.stack_walks.specs.Requests.{pages_for, private_tuples}
 use Rattle.stack_walks.proofs.Private.{tuples_from}
 

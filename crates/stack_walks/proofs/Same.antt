@@ -5,7 +5,7 @@ use Rattle.block_path.specs.Acts.{State}
 use Rattle.block_path.specs.Blocks.{Answer, Sent}
 use Rattle.whole_run.specs.Settings.{Setting}
 use Rattle.whole_run.specs.Steps.{Step, steps_of}
-use Rattle.run_moves.specs.ScriptMoves.{by_moves, fates_of, own_at, room_of}
+use Rattle.run_laws.specs.ScriptMoves.{by_moves, fates_of, own_at, room_of}
 use Rattle.run_follows.specs.Following.{AllStand, Follows, StandFrom}
 use Rattle.run_follows.specs.Slots.{Stands, Status, parts_of}
 

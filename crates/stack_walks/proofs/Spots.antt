@@ -7,8 +7,8 @@ use Rattle.stack_view.specs.Plan.{Plan}
 use Rattle.whole_run.specs.Settings.{Setting}
 use Rattle.whole_run.specs.Steps.{Step, each_from, steps_of}
 use Rattle.whole_run.proofs.InSteps.{each_length}
-use Rattle.run_moves.specs.OpsApart.{IsPlaced, IsSpread, OpsConflict}
-use Rattle.run_moves.specs.ScriptMoves.{fates_of}
+use Rattle.run_laws.specs.OpsApart.{IsPlaced, IsSpread, OpsConflict}
+use Rattle.run_laws.specs.ScriptMoves.{fates_of}
 use Rattle.run_follows.specs.Gate.{AllPlaced, AreOver, IsAlone, LetsIn, MayMove, Spot, number, ops_of, place}
 use Rattle.run_follows.specs.Slots.{Status}
 use Rattle.stack_walks.specs.Ground.{Ground}

@@ -3,7 +3,7 @@ use Rattle.std.proofs.Common.{◌≡◌, ◌⊎◌, ℕ, zero, suc, ◌+◌, ◌
 use Rattle.std.proofs.lemmas.Bool.{cases_eq, cases_lt}
 use Rattle.stack_ops.specs.declared.op.Op.{Op}
 use Rattle.whole_run.specs.Settings.{Setting}
-use Rattle.run_moves.specs.ScriptMoves.{fates_of}
+use Rattle.run_laws.specs.ScriptMoves.{fates_of}
 use Rattle.run_follows.specs.Gate.{number, place}
 use Rattle.run_follows.specs.Pieces.{AllMayMove, IsNoneOf, with_all}
 use Rattle.run_follows.specs.Sending.{with_status}

@@ -3,9 +3,9 @@ use Rattle.std.specs.Prelude.{◌≡◌, ◌⊎◌, ℕ, suc, ◌+◌, ◌<◌, 
 use Rattle.stack_ops.specs.declared.op.Op.{Op}
 use Rattle.stack_view.specs.Plan.{Plan, request_at}
 use Rattle.whole_run.specs.Settings.{Setting}
-use Rattle.run_moves.specs.OpsApart.{IsSpread, OneCellEach, OpsConflict}
-use Rattle.run_moves.specs.ScriptMoves.{fates_of}
-use Rattle.run_record.specs.EarlierWrites.{HasLog}
+use Rattle.run_laws.specs.OpsApart.{IsSpread, OneCellEach, OpsConflict}
+use Rattle.run_laws.specs.ScriptMoves.{fates_of}
+use Rattle.run_laws.specs.EarlierWrites.{HasLog}
 use Rattle.run_follows.specs.Gate.{AllPlaced, IsAlone}
 use Rattle.stack_walks.specs.Spots.{op_in, step_in}
 

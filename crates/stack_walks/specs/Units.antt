@@ -8,7 +8,7 @@ use Rattle.rig_api.specs.Telling.{no_spec}
 use Rattle.stack_ops.specs.declared.op.Op.{Op}
 use Rattle.stack_ops.specs.declared.op.Op.TheVariants.{Fetch, FetchPi, Fill, Overwrite, Put, Seal, Show, Wait, Write, WritePi}
 use Rattle.whole_run.specs.Settings.{Setting, block_of, route}
-use Rattle.run_moves.specs.ScriptMoves.{fates_of}
+use Rattle.run_laws.specs.ScriptMoves.{fates_of}
 use Rattle.stack_walks.specs.Spots.{op_in}
 
 -- the first virtual block of a request

@@ -1,4 +1,4 @@
-use Rattle.run_record.specs.ToldRun.{came_by}
+use Rattle.run_laws.specs.ToldRun.{came_by}
 use Rattle.run_follows.proofs.Switch.{switch}
 use Rattle.run_follows.proofs.send.more_may_stand_on_record.Goals as goal
 

@@ -1,6 +1,6 @@
 use Rattle.std.proofs.Common.{◌+◌}
-use Rattle.run_moves.specs.BoundRun.{fates, rooms}
-use Rattle.run_moves.specs.ScriptMoves.{own_at}
+use Rattle.run_laws.specs.BoundRun.{fates, rooms}
+use Rattle.run_laws.specs.ScriptMoves.{own_at}
 use Rattle.run_follows.specs.Gate.{place}
 use Rattle.run_follows.proofs.Quietly.{cut_quiet}
 use Rattle.run_follows.proofs.Moving.{cut}

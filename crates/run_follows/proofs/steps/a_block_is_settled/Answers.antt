@@ -3,8 +3,8 @@ use Rattle.block_path.specs.Acts.{act, tell}
 use Rattle.block_path.specs.Blocks.{silent}
 use Rattle.block_path.specs.Moves.{first_why}
 use Rattle.block_path.specs.Serial.{plain_tells}
-use Rattle.run_moves.specs.BoundRun.{fates, rooms}
-use Rattle.run_moves.specs.ScriptMoves.{own_at}
+use Rattle.run_laws.specs.BoundRun.{fates, rooms}
+use Rattle.run_laws.specs.ScriptMoves.{own_at}
 use Rattle.run_follows.specs.Gate.{parts_at, place}
 use Rattle.run_follows.proofs.Quietly.{listed_as, settled_quiet}
 use Rattle.run_follows.proofs.Moving.{settled}

@@ -1,4 +1,4 @@
-use Rattle.run_record.specs.ToldRun.{came_by}
+use Rattle.run_laws.specs.ToldRun.{came_by}
 use Rattle.run_follows.proofs.Over.{acts_over, all_placed_over, going_over, lets_over, may_over, moves_over}
 use Rattle.run_follows.proofs.steps.what_may_move_may_over_the_record.Goals as goal
 

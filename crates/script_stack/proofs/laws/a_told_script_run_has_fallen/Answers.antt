@@ -1,9 +1,9 @@
 use Rattle.std.proofs.Common.{◌≡◌, ◌*◌, ℕ, true, eqb, List, [], length, get_or, drop, refl, ap, subst, sym, take, ◌∙◌}
 use Rattle.page_pool.specs.Cells.{flat}
 use Rattle.dix_adapter.specs.Ways.{blocks_told, shapes_of}
-use Rattle.run_moves.specs.BoundRun.{IsBoundRun}
-use Rattle.run_moves.specs.Suited.{keeps_size}
-use Rattle.run_record.specs.Records.{recorded}
+use Rattle.run_laws.specs.BoundRun.{IsBoundRun}
+use Rattle.run_laws.specs.Suited.{keeps_size}
+use Rattle.run_laws.specs.Records.{recorded}
 use Rattle.run_follows.specs.Takes.{AllTakeAny}
 use Rattle.run_falls.specs.Flips.{with_flips}
 use Rattle.stack_core.specs.Walking.{EndsFallen}

@@ -1,5 +1,0 @@
-use Rattle.run_moves.proofs.AtTarget.{suits_target}
-use Rattle.run_moves.proofs.suits.a_target_keeps_sizes.Goals as goal
-
-pub returns : goal.returns
-returns c = λ m opening b h. suits_target m opening b h

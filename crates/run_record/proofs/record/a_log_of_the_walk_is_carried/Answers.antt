@@ -1,6 +1,0 @@
-use Rattle.run_record.specs.Records.{recorded}
-use Rattle.run_record.proofs.Between.{carries}
-use Rattle.run_record.proofs.record.a_log_of_the_walk_is_carried.Goals as goal
-
-pub returns : goal.returns
-returns c = λ m ops opening log h. carries m ops opening (recorded m log) h

@@ -1,6 +1,0 @@
-use Rattle.run_record.specs.Records.{recorded}
-use Rattle.run_record.proofs.Backs.{backs}
-use Rattle.run_record.proofs.record.a_walk_over_its_record_is_backed.Goals as goal
-
-pub returns : goal.returns
-returns c = λ m ops opening log h. backs m ops opening (recorded m log) h
