@@ -1,7 +1,7 @@
 //! Faults that a script has itself.
 
 ghost use Rattle.std.specs.Prelude.{◌≡◌};
-ghost use Rattle.stack_walks.specs.Overwrites.{is_overwrite};
+ghost use Rattle.run_follows.specs.Overwrites.{is_overwrite};
 ghost use Rattle.flip_sweep.specs.Flips.{bad_at, overwrite_fault, own_fault};
 
 use script_text::{Script, ScriptFault, ScriptKind};

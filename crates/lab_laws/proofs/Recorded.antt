@@ -38,7 +38,7 @@ use Rattle.run_laws.specs.Records.{Mixed, NoTwo, came_of, end_for, end_in, ended
 use Rattle.run_laws.specs.TakenWalk.{taken_act, taken_acts, taken_from, taken_in, taken_out}
 use Rattle.whole_run.proofs.TupleFrames.{no}
 use Rattle.run_laws.proofs.Labelled.{each_both, each_first, each_other, tells_append}
-use Rattle.run_falls.specs.Falls.{Falls, put_really, really}
+use Rattle.run_follows.specs.Falls.{Falls, put_really, really}
 use Rattle.stack_core.specs.Mediums.{listed_mediums, medium_lines}
 use Rattle.stack_core.specs.OnRecord.{bad_blocks}
 use Rattle.lab_laws.specs.Passing.{AreDone, IsNotCut, IsWhole, WasTaken, width}

@@ -35,11 +35,11 @@ use Rattle.whole_run.specs.CalmRun.{AllFit, Fits}
 use Rattle.whole_run.specs.Settings.{Setting}
 use Rattle.run_laws.specs.BackedRun.{IsBacked}
 use Rattle.run_laws.specs.Records.{recorded}
-use Rattle.run_falls.specs.Falls.{Falls, falling, over_falls, stores_or}
-use Rattle.run_falls.specs.Flips.{Flips, flip_op, with_flips}
+use Rattle.run_follows.specs.Falls.{Falls, falling, over_falls, stores_or}
+use Rattle.run_follows.specs.Flips.{Flips, flip_op, with_flips}
 use Rattle.stack_core.specs.Mediums.{medium_lines}
 use Rattle.stack_core.specs.OnRecord.{IsFormed, command_by}
-use Rattle.stack_walks.specs.Overwrites.{is_overwrite}
+use Rattle.run_follows.specs.Overwrites.{is_overwrite}
 use Rattle.script_text.specs.Bindings.{binding_fault}
 use Rattle.script_text.specs.Language.{script_in}
 use Rattle.script_text.specs.declared.script.Script.{Script}

@@ -22,8 +22,8 @@ use Rattle.whole_run.specs.Settings.{Setting, block_of}
 use Rattle.whole_run.specs.Steps.{Reads, Writes, body_of, frame_at}
 use Rattle.run_laws.specs.Records.{recorded}
 use Rattle.run_laws.specs.TakenWalk.{taken_acts, taken_replies, taken_reply}
-use Rattle.stack_walks.specs.Requests.{requests_from}
-use Rattle.stack_walks.specs.Settling.{AreAllWhole}
+use Rattle.run_follows.specs.Requests.{requests_from}
+use Rattle.run_follows.specs.Settling.{AreAllWhole}
 use Rattle.stack_core.specs.Stacks.{IsStack}
 use Rattle.stack_core.specs.declared.stack.Stack.{Stack}
 use Rattle.script_text.specs.declared.script.Script.{Script}

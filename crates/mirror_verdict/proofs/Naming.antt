@@ -10,8 +10,8 @@ use Rattle.volume_table.specs.declared.device.DeviceInfo.{DeviceInfo}
 use Rattle.volume_table.specs.Tables.{Table}
 use Rattle.dix_adapter.specs.Ways.{blocks_told, shapes_of}
 use Rattle.block_path.specs.Moves.{hidden}
-use Rattle.run_falls.specs.Falls.{of_blocks}
-use Rattle.run_falls.specs.Flips.{with_flips}
+use Rattle.run_follows.specs.Falls.{of_blocks}
+use Rattle.run_follows.specs.Flips.{with_flips}
 use Rattle.stack_ops.specs.declared.op.Op.{Op}
 use Rattle.stack_ops.specs.declared.op.Op.TheVariants.{Fetch, FetchPi, Fill, Overwrite, Put, Seal, Show, Wait, Write, WritePi}
 use Rattle.stack_ops.specs.declared.reply.Reply.{Reply}

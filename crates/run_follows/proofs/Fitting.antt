@@ -25,8 +25,8 @@ use Rattle.dix_adapter.proofs.Landing.{group-width}
 use Rattle.dix_adapter.proofs.Runs.{AllLong, group-wide}
 use Rattle.dix_adapter.proofs.GoingIn.{part-long}
 use Rattle.dix_adapter.proofs.Units.{frames-long}
-use Rattle.carried_record.specs.OnRecord.{put_each}
-use Rattle.carried_record.proofs.Puts.{goes_in, goes_out}
+use Rattle.run_follows.specs.OnRecord.{put_each}
+use Rattle.run_follows.proofs.Puts.{goes_in, goes_out}
 use Rattle.run_follows.specs.Finished.{FramesFit}
 use Rattle.run_follows.proofs.Recording.{arrived}
 use Rattle.rig_api.specs.State.{RigState}

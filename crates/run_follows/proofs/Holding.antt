@@ -13,7 +13,7 @@ use Rattle.whole_run.specs.Settings.{Setting}
 use Rattle.dix_adapter.specs.declared.adapter.Adapter.{Adapter}
 use Rattle.dix_adapter.specs.Carried.{Unsent, sends, unsent}
 use Rattle.dix_adapter.specs.Groups.{IsGroup, blocks_in, first_of}
-use Rattle.carried_record.proofs.Puts.{InTurn, bios_turn}
+use Rattle.run_follows.proofs.Puts.{InTurn, bios_turn}
 use Rattle.run_follows.specs.Following.{Follows}
 use Rattle.run_follows.specs.Gate.{Spot}
 use Rattle.run_follows.specs.Sending.{AllGoing, HeldBack, with_fates}

@@ -33,8 +33,8 @@ use Rattle.dix_adapter.specs.Groups.{IsGroup, IsProtect, blocks_in, first_of, fr
 use Rattle.dix_adapter.specs.Outcomes.{done_of, rest_of}
 use Rattle.dix_adapter.specs.Ways.{RecordedIn, RecordedOut}
 use Rattle.dix_adapter.proofs.Blocks.{length-in}
-use Rattle.carried_record.specs.OnRecord.{put_each}
-use Rattle.carried_record.proofs.Puts.{InTurn, goes_in, goes_out as went_out, turn}
+use Rattle.run_follows.specs.OnRecord.{put_each}
+use Rattle.run_follows.proofs.Puts.{InTurn, goes_in, goes_out as went_out, turn}
 use Rattle.run_follows.specs.Following.{Follows}
 use Rattle.run_follows.specs.Gate.{Spot}
 use Rattle.run_follows.specs.Sending.{AllComeIn, AllGoOut, AllGoing, FollowsOn, IsElsewhere, NoneBefore, in_fates, is_carried, land_all, out_fates, with_fate, with_fates, with_status}

@@ -27,7 +27,7 @@ use Rattle.dix_adapter.specs.declared.adapter.Adapter.{Adapter}
 use Rattle.dix_adapter.specs.Carried.{arrives, carried as fate_of, land, sends, unsent}
 use Rattle.dix_adapter.specs.Groups.{frame_cells, frame_in, label_of, route_of}
 use Rattle.dix_adapter.proofs.GoingIn.{scatter-none}
-use Rattle.carried_record.specs.OnRecord.{put_each}
+use Rattle.run_follows.specs.OnRecord.{put_each}
 use Rattle.run_follows.specs.Following.{Becomes, Follows}
 use Rattle.run_follows.specs.Gate.{AreOver, LetsIn, Spot, is_over, number, ops_of, parts_at, place}
 use Rattle.run_follows.specs.Sending.{AllComeIn, AllGoOut, AllGoing, Carriage, HeldBack, IsElsewhere, IsGoing, NoneBefore, SentIn, SentOut, carriage_of, fate_in, in_fates, is_carried, out_fates, land_all, land_one, with_fate, with_fates, with_status}

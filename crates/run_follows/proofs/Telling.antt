@@ -36,8 +36,8 @@ use Rattle.dix_adapter.specs.Ways.{CameIn, RecordedIn, RecordedOut, WentOut, act
 use Rattle.dix_adapter.proofs.Blocks.{length-in}
 use Rattle.dix_adapter.proofs.Runs.{AllLong, cut-joined}
 use Rattle.target_answer.specs.declared.units.UnitSpec.{UnitSpec}
-use Rattle.carried_record.specs.OnRecord.{put_each}
-use Rattle.carried_record.proofs.Puts.{InTurn, goes_in, goes_out as went_out, turn}
+use Rattle.run_follows.specs.OnRecord.{put_each}
+use Rattle.run_follows.proofs.Puts.{InTurn, goes_in, goes_out as went_out, turn}
 use Rattle.run_follows.specs.Following.{Follows}
 use Rattle.run_follows.specs.Gate.{Spot}
 use Rattle.run_follows.specs.Sending.{AllComeIn, AllGoOut, AllGoing, AllSized, FollowsTold, in_fates, land_all, out_acts, out_fates, with_fates}

@@ -24,7 +24,7 @@ use Rattle.run_laws.specs.ScriptMoves.{lands_in, own_at}
 use Rattle.dix_adapter.specs.declared.adapter.Adapter.{Adapter}
 use Rattle.dix_adapter.specs.Carried.{arrives, carried, land}
 use Rattle.dix_adapter.specs.Groups.{frame_cells, frame_in, route_of}
-use Rattle.carried_record.specs.OnRecord.{put_each}
+use Rattle.run_follows.specs.OnRecord.{put_each}
 use Rattle.run_follows.specs.Following.{Follows}
 use Rattle.run_follows.specs.Gate.{MayMove, Spot, number, ops_of, place}
 use Rattle.run_follows.specs.Slots.{Admitted, Carried, Cut, Done, Settled, Status, Waits}

@@ -6,6 +6,13 @@ mod begin;
 mod end;
 mod send;
 mod steps;
+mod law;
+mod falls_end;
+mod falls_send;
+mod falls_steps;
+mod falls_switch;
+mod laws;
+mod plans;
 
 pub use begin::a_stack_begins;
 pub use end::{
@@ -20,3 +27,19 @@ pub use steps::{
     a_block_is_admitted, a_block_is_carried, a_block_is_cut, a_block_is_settled,
     an_op_is_done_whole, some_blocks_move_on, what_may_move_may_over_the_record,
 };
+pub use law::a_carried_group_goes_on_record;
+pub use falls_end::{
+    a_finished_stack_is_the_falling_walk, a_stack_reads_the_last_write_or_fails_at_the_medium,
+    a_stack_writes_or_fails_at_the_medium, a_target_takes_any,
+};
+pub use falls_send::a_falling_command_is_sent;
+pub use falls_steps::{
+    a_block_is_settled_where_calls_fail, a_falling_stack_begins,
+    a_write_is_held_back_where_calls_fail, an_op_is_done_whole_where_calls_fail,
+    an_overwrite_flips_its_block_where_its_call_fails, some_blocks_move_on_where_calls_fail,
+};
+pub use falls_switch::{
+    a_stack_that_lists_no_medium_follows_the_walk, what_was_not_carried_may_come_to_another_device,
+};
+pub use laws::what_was_found_stands_in_its_cell;
+pub use plans::a_plan_has_the_conflicts_of_its_ops;

@@ -31,7 +31,7 @@ use Rattle.whole_run.specs.ScriptWalk.{changed, source_of}
 use Rattle.whole_run.specs.Settings.{Block, Setting, block_of, route}
 use Rattle.run_laws.specs.BoundRun.{AllBound, AllSuit, IsBoundRun, Suits, fates, rooms}
 use Rattle.run_laws.specs.Suited.{IsAtTarget, keeps_size}
-use Rattle.stack_walks.specs.Spots.{op_in as op_at}
+use Rattle.run_follows.specs.Spots.{op_in as op_at}
 use Rattle.script_text.specs.declared.script.Script.{Script}
 use Rattle.script_text.specs.Bindings.{binding_fault, op_fault, request_of}
 use Rattle.script_ground.specs.Bound.{IsSettingOf}

@@ -21,7 +21,7 @@ use Rattle.run_laws.proofs.AtTarget.{fine_always}
 use Rattle.run_laws.specs.ToldRun.{came_by, told}
 use Rattle.run_follows.specs.Finished.{FramesFit}
 use Rattle.run_follows.proofs.Over.{same_rooms}
-use Rattle.stack_walks.specs.Spots.{op_in as op_at}
+use Rattle.run_follows.specs.Spots.{op_in as op_at}
 use Rattle.script_text.specs.declared.script.Script.{Script}
 use Rattle.script_text.specs.Ops.{both_fault, data_fault}
 use Rattle.script_text.specs.Segments.{is_inside}

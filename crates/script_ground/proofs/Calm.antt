@@ -23,13 +23,13 @@ use Rattle.whole_run.specs.CalmRun.{AllFit, Fits, IsCalm, IsCalmRun, LiesIn}
 use Rattle.whole_run.specs.Settings.{Setting}
 use Rattle.whole_run.specs.UnderMap.{AreClean, NoEscape, home}
 use Rattle.run_laws.specs.StoreFaults.{IsFallingRun}
-use Rattle.stack_walks.specs.Spots.{op_in as op_at}
+use Rattle.run_follows.specs.Spots.{op_in as op_at}
 use Rattle.script_text.specs.Bindings.{expect_fault, has_no_tuples, op_fault, or_else}
 use Rattle.script_text.specs.declared.fault.ScriptFault.{ScriptFault}
 use Rattle.script_text.specs.declared.script.Script.{Script}
 use Rattle.script_laws.specs.Keeping.{IsMode, IsOp as KeepsRules, IsTag}
 use Rattle.script_laws.specs.Lines.{tag_of}
-use Rattle.stack_walks.specs.Overwrites.{is_overwrite}
+use Rattle.run_follows.specs.Overwrites.{is_overwrite}
 use Rattle.script_ground.specs.Units.{all_blocks}
 use Rattle.script_ground.proofs.AtTarget.{told-long}
 use Rattle.script_ground.proofs.Bodies.{if-none}

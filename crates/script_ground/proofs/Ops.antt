@@ -20,8 +20,8 @@ use Rattle.run_laws.specs.OpsApart.{IsPlaced}
 use Rattle.run_laws.specs.ScriptMoves.{fates_of}
 use Rattle.run_laws.specs.EarlierWrites.{HasLog}
 use Rattle.run_follows.specs.Gate.{AllPlaced, IsAlone as IsNoRequest}
-use Rattle.stack_walks.specs.Spots.{no_step, op_in as op_at}
-use Rattle.stack_walks.proofs.Spots.{each_first}
+use Rattle.run_follows.specs.Spots.{no_step, op_in as op_at}
+use Rattle.run_follows.proofs.Spots.{each_first}
 use Rattle.script_lines.specs.declared.kind.ScriptKind.{ScriptKind}
 use Rattle.script_lines.specs.declared.kind.ScriptKind.TheVariants.{BadRange}
 use Rattle.script_text.specs.declared.fault.ScriptFault.{ScriptFault}
@@ -33,7 +33,7 @@ use Rattle.script_laws.specs.Keeping.{Each}
 use Rattle.script_laws.proofs.OpForms.{no_fault, found_inside}
 use Rattle.script_ground.specs.Bound.{IsSettingOf}
 use Rattle.script_ground.specs.SuitsStack.{IsStackOp}
-use Rattle.stack_walks.specs.Seals.{IsSealed}
+use Rattle.run_follows.specs.Seals.{IsSealed}
 use Rattle.script_ground.proofs.Bodies.{alone-of, both-of, if-none}
 use Rattle.script_ground.proofs.Places.{home-logged}
 use Rattle.script_ground.proofs.Segments.{cells-below, none-below, one-stands, pages-append, stands, touched-in-pages}

@@ -22,7 +22,7 @@ use Rattle.whole_run.specs.UnderMap.{NoEscape}
 use Rattle.whole_run.specs.Detectable.{detectable}
 use Rattle.whole_run.specs.Past.{steps_from}
 use Rattle.run_laws.specs.ShownRun.{AllAreFetched, AllBind, AllStayNear, Binds, DevicesAreClean, HasCells, IsShownRun, LiesOn}
-use Rattle.stack_walks.specs.Spots.{op_in as op_at}
+use Rattle.run_follows.specs.Spots.{op_in as op_at}
 use Rattle.script_text.specs.Bindings.{op_fault, request_of}
 use Rattle.script_text.specs.Ops.{both_fault, data_fault}
 use Rattle.script_text.specs.declared.script.Script.{Script}

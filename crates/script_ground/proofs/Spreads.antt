@@ -9,7 +9,7 @@ use Rattle.volume_table.specs.Tables.{Table}
 use Rattle.whole_run.specs.Settings.{Setting}
 use Rattle.run_laws.specs.OpsApart.{AreStoredApart, IsSpread}
 use Rattle.run_laws.specs.ScriptMoves.{fates_of}
-use Rattle.stack_walks.specs.Spots.{op_in as op_at}
+use Rattle.run_follows.specs.Spots.{op_in as op_at}
 use Rattle.script_text.specs.Bindings.{op_fault, request_at, request_by, request_of}
 use Rattle.script_text.specs.Ops.{both_fault, data_fault}
 use Rattle.script_ground.specs.SuitsStack.{IsStackOp}

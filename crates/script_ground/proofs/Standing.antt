@@ -4,14 +4,14 @@ use Rattle.std.proofs.lemmas.List.{length-drop}
 use Rattle.volume_table.specs.declared.device.DeviceInfo.{DeviceInfo}
 use Rattle.volume_table.specs.Tables.{MadeFor, Table}
 use Rattle.whole_run.specs.Settings.{Setting}
-use Rattle.stack_walks.specs.Ground.{Ground}
-use Rattle.stack_walks.specs.Spots.{op_in as op_at}
+use Rattle.run_follows.specs.Ground.{Ground}
+use Rattle.run_follows.specs.Spots.{op_in as op_at}
 use Rattle.script_text.specs.declared.fault.ScriptFault.{ScriptFault}
 use Rattle.script_text.specs.declared.script.Script.{Script}
 use Rattle.script_text.specs.Bindings.{binding_fault, expect_fault, faults_fault, op_fault, ops_fault, or_else}
 use Rattle.script_ground.specs.Bound.{IsSettingOf}
 use Rattle.script_ground.specs.SuitsStack.{IsStackOp, SuitsStack}
-use Rattle.stack_walks.specs.Seals.{IsSealed}
+use Rattle.run_follows.specs.Seals.{IsSealed}
 use Rattle.script_ground.proofs.Ops.{kind-of, logged-op, no-fault, placed-all, rules-at, seal-of}
 use Rattle.script_ground.proofs.Places.{one-each}
 use Rattle.script_ground.proofs.Shifts.{stored-apart}

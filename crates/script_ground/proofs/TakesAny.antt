@@ -19,7 +19,7 @@ use Rattle.volume_table.specs.Tables.{MadeFor, Table}
 use Rattle.whole_run.specs.Settings.{Setting, block_of, route}
 use Rattle.run_laws.specs.Suited.{keeps_size}
 use Rattle.run_follows.specs.Takes.{AllTakeAny, OpTakesAny, TakesAny}
-use Rattle.stack_walks.specs.Spots.{op_in as op_at}
+use Rattle.run_follows.specs.Spots.{op_in as op_at}
 use Rattle.script_text.specs.declared.script.Script.{Script}
 use Rattle.script_text.specs.Bindings.{binding_fault, op_fault, request_of}
 use Rattle.script_ground.specs.Bound.{IsSettingOf}

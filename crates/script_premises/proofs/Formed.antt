@@ -10,7 +10,7 @@ use Rattle.fault_schedule.specs.declared.fault.FaultLine.{FaultLine}
 use Rattle.dix_adapter.specs.Ways.{blocks_told, shapes_of}
 use Rattle.stack_ops.specs.declared.op.Op.{Op}
 use Rattle.stack_ops.specs.declared.op.Op.TheVariants.{Fetch, FetchPi, Fill, Overwrite, Put, Seal, Show, Wait, Write, WritePi}
-use Rattle.stack_walks.specs.Overwrites.{is_overwrite as overwrites}
+use Rattle.run_follows.specs.Overwrites.{is_overwrite as overwrites}
 use Rattle.target_answer.specs.Target.{Stored}
 use Rattle.volume_table.specs.Tables.{Table}
 use Rattle.block_path.specs.Acts.{State}

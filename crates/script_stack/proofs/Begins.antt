@@ -10,7 +10,7 @@ use Rattle.dix_adapter.specs.Ways.{blocks_told, cell_in, shapes_of, site_of}
 use Rattle.fault_schedule.specs.declared.fault.FaultLine.{FaultLine}
 use Rattle.rig_api.specs.Telling.{Standing, no_spec, specs_of}
 use Rattle.target_answer.specs.Target.{Stored}
-use Rattle.stack_walks.specs.Units.{AreAtUnits}
+use Rattle.run_follows.specs.Units.{AreAtUnits}
 use Rattle.volume_table.specs.Faults.{device}
 use Rattle.volume_table.specs.Places.{place_in}
 use Rattle.script_ground.proofs.AtUnits.{lies-at-units}
@@ -25,17 +25,17 @@ use Rattle.whole_run.specs.Settings.{Setting}
 use Rattle.run_laws.specs.BoundRun.{fates}
 use Rattle.script_text.specs.declared.script.Script.{Script}
 use Rattle.script_text.specs.Bindings.{binding_fault}
-use Rattle.stack_walks.specs.Ground.{Ground}
-use Rattle.stack_walks.specs.Seals.{IsSealed}
+use Rattle.run_follows.specs.Ground.{Ground}
+use Rattle.run_follows.specs.Seals.{IsSealed}
 use Rattle.script_ground.specs.Bound.{IsSettingOf}
 use Rattle.script_ground.specs.SuitsStack.{SuitsStack}
 use Rattle.script_ground.specs.Units.{all_blocks}
 use Rattle.script_ground.proofs.Standing.{seals-whole, stands-on-ground}
 use Rattle.script_ground.proofs.Units.{over-units}
 use Rattle.stack_core.specs.declared.stack.Stack.{Stack}
-use Rattle.stack_walks.specs.Requests.{pages_from, requests_from}
-use Rattle.stack_walks.specs.Sheets.{io_at, op_in}
-use Rattle.stack_walks.specs.Shifts.{shifted_by}
+use Rattle.run_follows.specs.Requests.{pages_from, requests_from}
+use Rattle.run_follows.specs.Sheets.{io_at, op_in}
+use Rattle.run_follows.specs.Shifts.{shifted_by}
 use Rattle.stack_core.specs.NewStacks.{IsSetUp}
 use Rattle.stack_core.specs.Walking.{IsOver, NoneFailed, Opens, SizesFit, WalksAtFirst, WalksFallingAtFirst, WalksToldAtFirst}
 use Rattle.script_stack.specs.Beginning.{setup_of}

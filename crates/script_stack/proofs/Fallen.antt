@@ -10,8 +10,8 @@ use Rattle.whole_run.specs.Past.{steps_from}
 use Rattle.run_laws.specs.FallingReads.{falling_replies}
 use Rattle.run_laws.specs.StoreFaults.{falling_walk}
 use Rattle.run_laws.specs.ToldRun.{IsRecordOf}
-use Rattle.run_falls.specs.AtTheEnd.{EndsAsFalling}
-use Rattle.run_falls.specs.Falls.{of_blocks, over_falls}
+use Rattle.run_follows.specs.AtTheEnd.{EndsAsFalling}
+use Rattle.run_follows.specs.Falls.{of_blocks, over_falls}
 
 pub hidden-same : (m : Setting) (n : ℕ) (ops : List Op) (opening other : State) (pages : List ℕ) (blocks : List (List ℕ)) (replies : List Reply) (es : List Sent) → hidden n opening ≡ hidden n other → EndsAsFalling m n ops opening pages blocks replies es → EndsAsFalling m n ops other pages blocks replies es
 hidden-same m n ops opening other pages blocks replies es e h = record {

@@ -20,7 +20,7 @@ use Rattle.script_text.specs.declared.script.Script.{Script}
 use Rattle.script_text.specs.Bindings.{binding_fault, is_alterable, is_bad_change, is_on, is_type, op_fault}
 use Rattle.stack_core.specs.declared.stack.Stack.{Stack}
 use Rattle.stack_core.specs.Doing.{CanReach}
-use Rattle.stack_walks.specs.Sheets.{op_in as op_at}
+use Rattle.run_follows.specs.Sheets.{op_in as op_at}
 use Rattle.stack_core.specs.Stacks.{Reaches}
 use Rattle.script_ground.proofs.Ops.{no-fault}
 use Rattle.script_ground.proofs.Standing.{bound}

@@ -21,10 +21,10 @@ use Rattle.script_text.specs.Segments.{are_whole_tuples, is_inside, is_whole}
 use Rattle.script_laws.specs.Keeping.{IsProtect, blocks_of}
 use Rattle.script_laws.specs.Lines.{line_of}
 use Rattle.script_laws.proofs.OpForms.{no_fault, found_inside}
-use Rattle.stack_walks.specs.Requests.{first_page, page_after, request_of, requests_from}
-use Rattle.stack_walks.specs.Sheets.{op_in as op_at, request_in}
+use Rattle.run_follows.specs.Requests.{first_page, page_after, request_of, requests_from}
+use Rattle.run_follows.specs.Sheets.{op_in as op_at, request_in}
 use Rattle.stack_core.specs.Stacks.{AreUniform}
-use Rattle.stack_walks.specs.Starting.{AreTuples, CanStart, IsData, IsOp}
+use Rattle.run_follows.specs.Starting.{AreTuples, CanStart, IsData, IsOp}
 use Rattle.stack_core.proofs.Opening.{uniform}
 use Rattle.script_ground.specs.SuitsStack.{IsStackOp, SuitsStack}
 use Rattle.script_ground.proofs.Bodies.{HaveTuples, IsBody, alone-of, both-of}

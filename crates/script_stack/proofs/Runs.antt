@@ -10,8 +10,8 @@ use Rattle.block_path.specs.Moves.{hidden}
 use Rattle.whole_run.specs.Settings.{Setting}
 use Rattle.run_laws.specs.BoundRun.{fates, rooms}
 use Rattle.script_text.specs.declared.script.Script.{Script}
-use Rattle.stack_walks.specs.Requests.{page_after, pages_from}
-use Rattle.stack_walks.proofs.Begin.{pages-grow}
+use Rattle.run_follows.specs.Requests.{page_after, pages_from}
+use Rattle.run_follows.proofs.WalksBegin.{pages-grow}
 use Rattle.stack_core.proofs.Spotted.{after_is}
 use Rattle.script_stack.specs.Followed.{begun_of, opening_of, setting_of, unit_of}
 

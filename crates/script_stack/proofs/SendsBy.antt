@@ -25,9 +25,9 @@ use Rattle.script_text.specs.declared.script.Script.{Script}
 use Rattle.stack_core.specs.declared.sheet.Sheet.{Sheet}
 use Rattle.stack_core.specs.declared.stack.Stack.{Stack}
 use Rattle.stack_core.specs.OnRecord.{AreRecords, HasQueues, HasSent, IsFormed, IsOfRequests, ListsNone, SendsOn}
-use Rattle.stack_walks.specs.Requests.{requests_from}
-use Rattle.stack_walks.specs.Sheets.{plan_of}
-use Rattle.stack_walks.specs.Shifts.{shifted_by}
+use Rattle.run_follows.specs.Requests.{requests_from}
+use Rattle.run_follows.specs.Sheets.{plan_of}
+use Rattle.run_follows.specs.Shifts.{shifted_by}
 use Rattle.stack_core.specs.Stacks.{IsFinished, IsStack, Stays, plan_in}
 use Rattle.stack_core.specs.Walking.{Walks}
 use Rattle.script_stack.specs.Sends.{IsPlanFor, SendsBy, SendsFor, entries_of}

@@ -14,7 +14,7 @@ use Rattle.stack_view.proofs.Room.{accounted-start}
 use Rattle.stack_view.proofs.Starts.{starts}
 use Rattle.stack_core.specs.declared.stack.Stack.{Stack}
 use Rattle.stack_core.specs.Stacks.{HasSpare, HasStep, Steps, plan_in}
-use Rattle.stack_walks.proofs.Spare.{fewer}
+use Rattle.run_follows.proofs.Spare.{fewer}
 
 -- a step is one more, and there are at most so many
 pub record OneMore (p : Plan) (m m₂ : Machine) : Type 0 where

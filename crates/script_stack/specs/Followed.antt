@@ -25,7 +25,7 @@ use Rattle.run_laws.specs.Records.{recorded}
 use Rattle.run_laws.specs.BoundRun.{fates}
 use Rattle.script_ground.specs.Units.{all_blocks}
 use Rattle.stack_core.specs.Mediums.{RoseBy, medium_lines}
-use Rattle.stack_walks.specs.Requests.{pages_from, requests_from}
+use Rattle.run_follows.specs.Requests.{pages_from, requests_from}
 use Rattle.stack_core.specs.declared.stack.Stack.{Stack}
 use Rattle.stack_core.specs.Stacks.{IsFinished, IsStack}
 use Rattle.stack_core.specs.Walking.{EndsFallen, Walks, WalksFalling, WalksTold, is_medium}

@@ -10,9 +10,9 @@ use Rattle.volume_table.specs.Tables.{Table}
 use Rattle.script_text.specs.declared.script.Script.{Script}
 use Rattle.dix_adapter.specs.Groups.{mode_of}
 use Rattle.stack_core.specs.OnRecord.{AreRecords, HasQueues, HasSent, IsFormed, IsOfRequests, ListsNone}
-use Rattle.stack_walks.specs.Requests.{requests_from}
-use Rattle.stack_walks.specs.Sheets.{plan_of}
-use Rattle.stack_walks.specs.Shifts.{shifted_by}
+use Rattle.run_follows.specs.Requests.{requests_from}
+use Rattle.run_follows.specs.Sheets.{plan_of}
+use Rattle.run_follows.specs.Shifts.{shifted_by}
 use Rattle.stack_core.specs.Stacks.{plan_in}
 use Rattle.stack_core.specs.declared.stack.Stack.{Stack}
 

@@ -24,8 +24,8 @@ use Rattle.run_laws.specs.FallingWrites.{finds_then}
 use Rattle.whole_run.specs.ReadsAs.{read_op}
 use Rattle.run_laws.specs.StoreFaults.{IsFallingRun}
 use Rattle.run_laws.specs.Records.{recorded}
-use Rattle.run_falls.specs.AtTheEnd.{EndsAsFalling, IsWrittenOrFails, ReadsOrFails}
-use Rattle.run_falls.specs.Falls.{of_blocks}
+use Rattle.run_follows.specs.AtTheEnd.{EndsAsFalling, IsWrittenOrFails, ReadsOrFails}
+use Rattle.run_follows.specs.Falls.{of_blocks}
 use Rattle.script_text.specs.declared.script.Script.{Script}
 use Rattle.script_ground.proofs.Calm.{falling-run}
 use Rattle.script_ground.proofs.Landing.{room-of-read, room-of-write}

@@ -21,8 +21,8 @@ use Rattle.run_laws.specs.Records.{recorded}
 use Rattle.run_laws.specs.ToldRun.{told}
 use Rattle.stack_ops.specs.declared.reply.Reply.TheVariants.{Silent}
 use Rattle.script_stack.specs.Followed.{HasFallen, HasWalked, IsBackedBy, failed_in, none_fails, opening_of, setting_of, unit_of}
-use Rattle.stack_walks.specs.Overwrites.{is_overwrite}
-use Rattle.run_falls.specs.Falls.{of_blocks}
+use Rattle.run_follows.specs.Overwrites.{is_overwrite}
+use Rattle.run_follows.specs.Falls.{of_blocks}
 use Rattle.stack_core.specs.Going.{Went}
 use Rattle.script_stack.proofs.Ended.{BackedLaw, FallenLaw, IsOver, MediumLaw, ToldLaw, answered_by, backed_by, fallen_at, few_lines, sent_by, told_at, walked_at}
 use Rattle.script_stack.proofs.SendsBy.{AllLaw, FewLaw}
@@ -52,8 +52,8 @@ use Rattle.block_path.specs.Acts.{State}
 use Rattle.block_path.specs.Moves.{hidden}
 use Rattle.stack_ops.specs.declared.op.Op.{Op}
 use Rattle.stack_ops.specs.declared.op.Op.TheVariants.{Fetch, FetchPi, Fill, Overwrite, Put, Seal, Show, Wait, Write, WritePi}
-use Rattle.run_falls.specs.AtTheEnd.{EndsAsFalling}
-use Rattle.run_falls.specs.Flips.{Flips, flip_op, with_flips}
+use Rattle.run_follows.specs.AtTheEnd.{EndsAsFalling}
+use Rattle.run_follows.specs.Flips.{Flips, flip_op, with_flips}
 use Rattle.whole_run.specs.CalmRun.{IsCalmRun}
 use Rattle.whole_run.specs.PlainMap.{plain_map, plain_replies}
 use Rattle.whole_run.specs.ScriptWalk.{script_replies, script_walk}

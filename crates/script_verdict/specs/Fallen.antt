@@ -16,8 +16,8 @@ use Rattle.whole_run.specs.Settings.{Setting}
 use Rattle.run_laws.specs.FallingWrites.{finds_then}
 use Rattle.whole_run.specs.ReadsAs.{read_op}
 use Rattle.run_laws.specs.Records.{recorded}
-use Rattle.run_falls.specs.AtTheEnd.{EndsAsFalling, IsWrittenOrFails, ReadsOrFails}
-use Rattle.run_falls.specs.Falls.{Falls, of_blocks}
+use Rattle.run_follows.specs.AtTheEnd.{EndsAsFalling, IsWrittenOrFails, ReadsOrFails}
+use Rattle.run_follows.specs.Falls.{Falls, of_blocks}
 use Rattle.script_text.specs.declared.script.Script.{Script}
 use Rattle.script_verdict.specs.Premises.{opening_told, setting_told}
 

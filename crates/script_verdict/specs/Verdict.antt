@@ -2,7 +2,7 @@ use Rattle.std.specs.Prelude.{ℕ, suc, ◌≡◌, ◌+◌, ◌*◌, ◌<◌, �
 use Rattle.std.specs.List.{list_any}
 use Rattle.dix_base.specs.Told.{Calm, Rose}
 use Rattle.answered_record.specs.Answered.{AreAnswersTo}
-use Rattle.stack_walks.specs.Overwrites.{is_overwrite}
+use Rattle.run_follows.specs.Overwrites.{is_overwrite}
 use Rattle.page_pool.specs.Pages.{IsBlank}
 use Rattle.dix_adapter.specs.Groups.{mode_of}
 use Rattle.image_commands.specs.Causes.{CauseUntold, WasTold}
@@ -32,7 +32,7 @@ use Rattle.whole_run.specs.PlainMap.{plain_map, plain_replies}
 use Rattle.whole_run.specs.Settings.{Setting, block_of}
 use Rattle.whole_run.specs.UnderMap.{opened, under}
 use Rattle.stack_core.specs.Mediums.{RoseBy, medium_lines}
-use Rattle.stack_walks.specs.Requests.{pages_from, requests_from}
+use Rattle.run_follows.specs.Requests.{pages_from, requests_from}
 use Rattle.stack_core.specs.Stacks.{GoesOn, IsFinished, IsStack, Stays, plan_in}
 use Rattle.stack_core.specs.declared.stack.Stack.{Stack}
 use Rattle.stack_ops.specs.declared.reply.Reply.{Reply}

@@ -12,7 +12,7 @@ use call_refusal::Refusal;
 use dix_base::Source;
 use image_commands::told_devices;
 use rig_api::Rig;
-use run_falls::{
+use run_follows::{
     a_stack_reads_the_last_write_or_fails_at_the_medium, a_stack_writes_or_fails_at_the_medium,
 };
 use run_laws::a_read_is_the_last_write_or_names_the_first_layer;

@@ -35,8 +35,8 @@ use Rattle.dix_adapter.proofs.Units.{Stands}
 use Rattle.stack_ops.specs.declared.op.Op.{Op}
 use Rattle.stack_ops.specs.declared.op.Op.TheVariants.{Fetch, FetchPi, Fill, Overwrite, Put, Seal, Show, Wait, Write as WriteOp, WritePi}
 use Rattle.stack_ops.specs.declared.reply.Reply.{Reply}
-use Rattle.stack_walks.specs.Overwrites.{is_overwrite}
-use Rattle.stack_walks.specs.Sheets.{op_in}
+use Rattle.run_follows.specs.Overwrites.{is_overwrite}
+use Rattle.run_follows.specs.Sheets.{op_in}
 use Rattle.stack_core.specs.Walking.{IsKnown, units_left}
 
 -- ---- a group's command, as its unit decodes it

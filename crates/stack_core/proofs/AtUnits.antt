@@ -16,11 +16,11 @@ use Rattle.stack_ops.specs.Footprints.{footprint}
 use Rattle.stack_view.specs.Blocks.{blocks, place_of, run_of, times}
 use Rattle.target_answer.specs.Target.{has_blocks}
 use Rattle.target_answer.specs.declared.units.UnitSpec.{UnitSpec}
-use Rattle.carried_record.proofs.Puts.{InTurn}
+use Rattle.run_follows.proofs.Puts.{InTurn}
 use Rattle.dix_adapter.proofs.Asking.{is-pos}
-use Rattle.stack_walks.specs.Units.{first_virt}
-use Rattle.stack_walks.specs.Requests.{first_page, page_after, request_of, requests_from}
-use Rattle.stack_walks.specs.Sheets.{io_at, no_io, op_in}
+use Rattle.run_follows.specs.Units.{first_virt}
+use Rattle.run_follows.specs.Requests.{first_page, page_after, request_of, requests_from}
+use Rattle.run_follows.specs.Sheets.{io_at, no_io, op_in}
 use Rattle.whole_run.specs.Settings.{Setting}
 use Rattle.run_laws.specs.OpsApart.{OpsConflict, is_shifted}
 use Rattle.run_laws.specs.ScriptMoves.{fates_of}

@@ -33,21 +33,21 @@ use Rattle.run_laws.specs.BoundRun.{fates}
 use Rattle.run_laws.specs.ScriptMoves.{fates_of}
 use Rattle.run_follows.specs.Sending.{is_carried}
 use Rattle.run_follows.specs.Slots.{Status}
-use Rattle.stack_walks.specs.Spots.{op_in}
-use Rattle.stack_walks.specs.Statuses.{after_all, fate_at, id_of, sent_as, with_settled}
-use Rattle.stack_walks.proofs.Completing.{completed_statuses, once, were_out, were_sent}
-use Rattle.stack_walks.proofs.Fates.{done_with}
-use Rattle.stack_walks.proofs.Groups.{AllNumbered, ids_are, settled_given}
-use Rattle.stack_walks.proofs.Letting.{lets_of}
+use Rattle.run_follows.specs.Spots.{op_in}
+use Rattle.run_follows.specs.Statuses.{after_all, fate_at, id_of, sent_as, with_settled}
+use Rattle.run_follows.proofs.Completing.{completed_statuses, once, were_out, were_sent}
+use Rattle.run_follows.proofs.Fates.{done_with}
+use Rattle.run_follows.proofs.Groups.{AllNumbered, ids_are, settled_given}
+use Rattle.run_follows.proofs.Letting.{lets_of}
 use Rattle.stack_core.specs.Courses.{Course}
-use Rattle.stack_walks.specs.Moved.{why_of}
-use Rattle.stack_walks.specs.Settled.{AllSettled, Kept}
-use Rattle.stack_walks.specs.Settling.{AreFates}
-use Rattle.stack_walks.specs.Sheets.{io_at}
+use Rattle.run_follows.specs.Moved.{why_of}
+use Rattle.run_follows.specs.Settled.{AllSettled, Kept}
+use Rattle.run_follows.specs.Settling.{AreFates}
+use Rattle.run_follows.specs.Sheets.{io_at}
 use Rattle.stack_core.specs.Walking.{Data, Follow, GoesOn, IsReply, shown_in, status_of, why_in}
-use Rattle.stack_walks.proofs.Chained.{Each, all_each, one_place}
+use Rattle.run_follows.proofs.Chained.{Each, all_each, one_place}
 use Rattle.stack_core.proofs.Courses.{same_by}
-use Rattle.stack_walks.proofs.Facts.{place-is, there as there_is}
+use Rattle.run_follows.proofs.Facts.{place-is, there as there_is}
 use Rattle.stack_core.proofs.FollowsComplete.{AllLets, NotAt, all_settled, at, each_keeps, each_whole}
 use Rattle.stack_core.proofs.FollowsGroup.{AllLie, Places, all_lie, all_of, all_sent, apart_of, is_this}
 use Rattle.stack_core.proofs.Spotted.{Stands}

@@ -11,17 +11,17 @@ use Rattle.volume_table.specs.declared.entry.Entry.{Entry}
 use Rattle.volume_table.specs.Places.{place_in}
 use Rattle.whole_run.specs.Settings.{Setting}
 use Rattle.run_laws.specs.ToldRun.{came_by, told}
-use Rattle.stack_walks.specs.Ground.{IsPlanOf}
-use Rattle.stack_walks.proofs.Over.{ground_over}
+use Rattle.run_follows.specs.Ground.{IsPlanOf}
+use Rattle.run_follows.proofs.WalksOver.{ground_over}
 use Rattle.pi_tuple.specs.declared.checks.PiType.{PiType}
 use Rattle.dix_adapter.specs.declared.adapter.Adapter.{Adapter}
 use Rattle.stack_core.specs.declared.sheet.Sheet.{Sheet}
 use Rattle.stack_core.specs.declared.stack.Stack.{Stack}
-use Rattle.stack_walks.specs.Sheets.{io_at, op_in}
+use Rattle.run_follows.specs.Sheets.{io_at, op_in}
 use Rattle.stack_core.specs.Stacks.{IsStack, Stays, plan_in}
-use Rattle.stack_walks.specs.Seals.{IsSealed}
+use Rattle.run_follows.specs.Seals.{IsSealed}
 use Rattle.stack_core.specs.Walking.{IsOver}
-use Rattle.stack_walks.proofs.Facts.{request-at}
+use Rattle.run_follows.proofs.Facts.{request-at}
 use Rattle.stack_core.proofs.FollowsGroup.{Places}
 use Rattle.stack_core.proofs.FollowsSend.{Adapts}
 use Rattle.stack_core.proofs.Planning.{plan_is}

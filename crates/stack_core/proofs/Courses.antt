@@ -41,20 +41,20 @@ use Rattle.run_follows.proofs.Quietly.{listed_as, settled_quiet}
 use Rattle.run_follows.proofs.Telling.{told_in, told_out}
 use Rattle.run_follows.proofs.Together.{all_admitted, all_are_cut}
 use Rattle.run_follows.proofs.Wholly.{wholly}
-use Rattle.run_falls.specs.Falls.{falling, forgive, forgiven, is_write, left_of, none_falls, over_falls}
-use Rattle.run_falls.specs.FollowsFalling.{FollowsFalling, HasFallen}
-use Rattle.run_falls.proofs.Forgiving.{AllOf, IsOf, op_of}
-use Rattle.run_falls.proofs.OverDevice.{same_steps}
-use Rattle.run_falls.proofs.SentIn.{fallen_in}
-use Rattle.run_falls.proofs.SentOut.{fallen_out}
-use Rattle.run_falls.proofs.Stepping.{IsNotIn, all_admitted_falling, all_cut_falling, held_falling, kept, settled_falling, whole_falling, wait_still}
-use Rattle.stack_walks.specs.Spots.{IsRead, op_in, steps_in}
-use Rattle.stack_walks.proofs.Found.{found_there}
-use Rattle.stack_walks.proofs.Same.{same_statuses, same_within}
-use Rattle.stack_walks.proofs.Spots.{steps_count}
-use Rattle.run_falls.specs.Flips.{Flips, flip_op, with_flips}
-use Rattle.run_falls.proofs.Flipped.{all_may_flip, all_placed_flip, before_flip, behind_flip, cut_flip, fates_flip, fates_take, flip_at, flip_here, flip_spot, going_flip, lets_flip, long_flips, made_flip, may_flip, number_flip, op_flip, ops_flip, parts_flip, request_flip, split_flips, with_all_flip}
-use Rattle.run_falls.proofs.Overwriting.{between, flips_to, overwrite_falling}
+use Rattle.run_follows.specs.Falls.{falling, forgive, forgiven, is_write, left_of, none_falls, over_falls}
+use Rattle.run_follows.specs.FollowsFalling.{FollowsFalling, HasFallen}
+use Rattle.run_follows.proofs.Forgiving.{AllOf, IsOf, op_of}
+use Rattle.run_follows.proofs.OverDevice.{same_steps}
+use Rattle.run_follows.proofs.SentIn.{fallen_in}
+use Rattle.run_follows.proofs.SentOut.{fallen_out}
+use Rattle.run_follows.proofs.Stepping.{IsNotIn, all_admitted_falling, all_cut_falling, held_falling, kept, settled_falling, whole_falling, wait_still}
+use Rattle.run_follows.specs.Spots.{IsRead, op_in, steps_in}
+use Rattle.run_follows.proofs.Found.{found_there}
+use Rattle.run_follows.proofs.Same.{same_statuses, same_within}
+use Rattle.run_follows.proofs.Spots.{steps_count}
+use Rattle.run_follows.specs.Flips.{Flips, flip_op, with_flips}
+use Rattle.run_follows.proofs.Flipped.{all_may_flip, all_placed_flip, before_flip, behind_flip, cut_flip, fates_flip, fates_take, flip_at, flip_here, flip_spot, going_flip, lets_flip, long_flips, made_flip, may_flip, number_flip, op_flip, ops_flip, parts_flip, request_flip, split_flips, with_all_flip}
+use Rattle.run_follows.proofs.Overwriting.{between, flips_to, overwrite_falling}
 use Rattle.run_follows.specs.Slots.{Parts}
 use Rattle.rig_api.specs.declared.change.Change.{Change}
 use Rattle.rig_api.specs.declared.change.Change.TheVariants.{Flip}

@@ -27,14 +27,14 @@ use Rattle.run_follows.specs.Sending.{with_status}
 use Rattle.run_follows.specs.Slots.{Carried, Parts, Settled as IsSettled, Status}
 use Rattle.run_follows.proofs.Sends.{with_here, with_other}
 use Rattle.run_follows.proofs.Quietly.{no_second}
-use Rattle.stack_walks.specs.Spots.{spot_at}
-use Rattle.stack_walks.proofs.Spots.{spot_number, spot_ops, spot_place, steps_count}
+use Rattle.run_follows.specs.Spots.{spot_at}
+use Rattle.run_follows.proofs.Spots.{spot_number, spot_ops, spot_place, steps_count}
 use Rattle.stack_core.specs.Courses.{Course, FollowsBy}
-use Rattle.stack_walks.specs.Moved.{route_to, why_of}
-use Rattle.stack_walks.specs.Settled.{MappedBack, ReadSettled, Settled}
-use Rattle.stack_walks.specs.Settling.{IsWhole}
-use Rattle.stack_walks.specs.Sheets.{io_at, op_in}
-use Rattle.stack_walks.proofs.BlockParts.{owner_of, settled_of}
+use Rattle.run_follows.specs.Moved.{route_to, why_of}
+use Rattle.run_follows.specs.Settled.{MappedBack, ReadSettled, Settled}
+use Rattle.run_follows.specs.Settling.{IsWhole}
+use Rattle.run_follows.specs.Sheets.{io_at, op_in}
+use Rattle.run_follows.proofs.BlockParts.{owner_of, settled_of}
 use Rattle.stack_core.proofs.Courses.{settled_by}
 use Rattle.stack_core.proofs.FollowsMove.{frames_of}
 use Rattle.stack_core.proofs.InCells.{is-bare, is-mapped-back, is-settle}

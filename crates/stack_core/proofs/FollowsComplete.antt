@@ -26,22 +26,22 @@ use Rattle.run_follows.specs.Gate.{AreOver, is_over}
 use Rattle.run_follows.specs.Sending.{Carriage, IsElsewhere, carriage_of, with_status}
 use Rattle.run_follows.specs.Slots.{Carried, Settled as NowSettled, Status}
 use Rattle.run_follows.proofs.Sends.{over_stays, with_other}
-use Rattle.stack_walks.specs.Spots.{IsRead, op_in, step_in, steps_in}
-use Rattle.stack_walks.specs.Statuses.{with_settled}
-use Rattle.stack_walks.proofs.Spots.{Lets, may_move}
+use Rattle.run_follows.specs.Spots.{IsRead, op_in, step_in, steps_in}
+use Rattle.run_follows.specs.Statuses.{with_settled}
+use Rattle.run_follows.proofs.Spots.{Lets, may_move}
 use Rattle.dix_adapter.specs.Groups.{data_cells, tuple_cells}
 use Rattle.stack_core.specs.Courses.{Course, FollowsBy}
-use Rattle.stack_walks.specs.Moved.{why_of}
-use Rattle.stack_walks.specs.Settled.{IsSettled, Kept, OneSettled}
-use Rattle.stack_walks.specs.Settling.{AreFates}
-use Rattle.stack_walks.specs.Sheets.{io_at}
+use Rattle.run_follows.specs.Moved.{why_of}
+use Rattle.run_follows.specs.Settled.{IsSettled, Kept, OneSettled}
+use Rattle.run_follows.specs.Settling.{AreFates}
+use Rattle.run_follows.specs.Sheets.{io_at}
 use Rattle.stack_core.specs.Walking.{why_in}
-use Rattle.stack_walks.proofs.Chained.{Each, keeps_settled}
+use Rattle.run_follows.proofs.Chained.{Each, keeps_settled}
 use Rattle.stack_core.proofs.Courses.{found_by}
-use Rattle.stack_walks.proofs.Facts.{place-is}
+use Rattle.run_follows.proofs.Facts.{place-is}
 use Rattle.stack_core.proofs.FollowsBlock.{IsOn, block_settled}
 use Rattle.stack_core.proofs.Spotted.{Stands, block_is, count_is}
-use Rattle.stack_walks.proofs.Wholes.{all_stay}
+use Rattle.run_follows.proofs.Wholes.{all_stay}
 
 -- ---- a read's block is a read of the script
 

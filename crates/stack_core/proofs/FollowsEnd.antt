@@ -22,16 +22,16 @@ use Rattle.whole_run.specs.Steps.{each_from}
 use Rattle.run_laws.specs.ScriptMoves.{fates_of}
 use Rattle.run_follows.specs.Sending.{NoneBefore, is_carried}
 use Rattle.run_follows.specs.Slots.{Status}
-use Rattle.stack_walks.proofs.Moving.{still}
+use Rattle.run_follows.proofs.WalksMoving.{still}
 use Rattle.stack_core.specs.declared.kept.Room.{Room}
 use Rattle.stack_core.specs.declared.kept.Room.TheVariants.{Nothing}
 use Rattle.bio_core.specs.declared.fate.Fate.{Fate}
 use Rattle.stack_core.specs.Replies.{bad_from, reply_of, whole_or}
 use Rattle.stack_core.specs.Rooms.{Suits}
-use Rattle.stack_walks.specs.Sheets.{op_in}
+use Rattle.run_follows.specs.Sheets.{op_in}
 use Rattle.stack_core.specs.Stacks.{room_at}
 use Rattle.stack_core.specs.Walking.{Data, FailedBy, Follow, GoesOn, IsReply, shown_by, shown_in, status_of, why_in}
-use Rattle.stack_walks.specs.Overwrites.{is_overwrite}
+use Rattle.run_follows.specs.Overwrites.{is_overwrite}
 use Rattle.stack_core.specs.Courses.{Course, Falling, Straight}
 use Rattle.stack_core.proofs.Courses.{same_by}
 use Rattle.stack_core.proofs.Listed.{listed_as}

@@ -17,12 +17,12 @@ use Rattle.stack_view.specs.Plan.{Plan, request_at}
 use Rattle.whole_run.specs.Settings.{Setting, block_of, route}
 use Rattle.run_follows.specs.Sending.{IsElsewhere}
 use Rattle.run_follows.specs.Slots.{Carried, Status}
-use Rattle.stack_walks.specs.Statuses.{fate_at, id_of, sent_as}
-use Rattle.stack_walks.specs.Moved.{why_of}
-use Rattle.stack_walks.specs.Settling.{AreFates}
-use Rattle.stack_walks.specs.Sheets.{io_at}
-use Rattle.stack_walks.proofs.Chained.{one_place}
-use Rattle.stack_walks.proofs.Facts.{place-is, there as there_is}
+use Rattle.run_follows.specs.Statuses.{fate_at, id_of, sent_as}
+use Rattle.run_follows.specs.Moved.{why_of}
+use Rattle.run_follows.specs.Settling.{AreFates}
+use Rattle.run_follows.specs.Sheets.{io_at}
+use Rattle.run_follows.proofs.Chained.{one_place}
+use Rattle.run_follows.proofs.Facts.{place-is, there as there_is}
 use Rattle.stack_core.proofs.FollowsComplete.{AllOf, NotAt, at}
 
 -- the plan's requests and places are the stack's and the script's

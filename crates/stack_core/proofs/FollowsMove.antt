@@ -23,12 +23,12 @@ use Rattle.block_path.specs.Serial.{plain}
 use Rattle.block_path.proofs.InTurn.{plain_append}
 use Rattle.whole_run.specs.Settings.{Setting, block_of, route}
 use Rattle.run_follows.specs.Pieces.{all_cut, all_made}
-use Rattle.stack_walks.specs.Spots.{spots_from}
+use Rattle.run_follows.specs.Spots.{spots_from}
 use Rattle.stack_core.specs.Done.{MadeBy, WriteMade, WriteMapped}
-use Rattle.stack_walks.specs.Moved.{HasFrames, makes, maps_out, route_to, tuple_at}
-use Rattle.stack_walks.specs.Settling.{IsWhole}
-use Rattle.stack_walks.specs.Sheets.{io_at}
-use Rattle.stack_walks.proofs.BlockParts.{cut_of, made_by, made_of}
+use Rattle.run_follows.specs.Moved.{HasFrames, makes, maps_out, route_to, tuple_at}
+use Rattle.run_follows.specs.Settling.{IsWhole}
+use Rattle.run_follows.specs.Sheets.{io_at}
+use Rattle.run_follows.proofs.BlockParts.{cut_of, made_by, made_of}
 use Rattle.stack_core.proofs.InCells.{are-made, are-mapped}
 use Rattle.stack_core.proofs.Spotted.{Stands, all_cut_are, all_made_are, turns, turns_none, turns_one}
 

@@ -21,21 +21,21 @@ use Rattle.run_laws.specs.ScriptMoves.{fates_of}
 use Rattle.run_follows.specs.Gate.{BecomesDone, IsAlone, LetsIn}
 use Rattle.run_follows.specs.Sending.{NoneBefore, is_carried}
 use Rattle.run_follows.specs.Slots.{Done, Status}
-use Rattle.stack_walks.specs.Ground.{Ground, IsPlanOf}
-use Rattle.stack_walks.specs.Statuses.{fate_in}
-use Rattle.stack_walks.proofs.Letting.{lets_of}
-use Rattle.stack_walks.proofs.Moving.{elsewhere}
-use Rattle.stack_walks.proofs.Spots.{cut_at, lets_in, placed_at, placed_front}
-use Rattle.stack_walks.proofs.Standing.{is_done, waits}
+use Rattle.run_follows.specs.Ground.{Ground, IsPlanOf}
+use Rattle.run_follows.specs.Statuses.{fate_in}
+use Rattle.run_follows.proofs.Letting.{lets_of}
+use Rattle.run_follows.proofs.WalksMoving.{elsewhere}
+use Rattle.run_follows.proofs.Spots.{cut_at, lets_in, placed_at, placed_front}
+use Rattle.run_follows.proofs.WalksStanding.{is_done, waits}
 use Rattle.stack_core.specs.declared.kept.Room.TheVariants.{Nothing}
 use Rattle.rig_api.specs.declared.change.Change.{Change}
-use Rattle.run_falls.specs.Flips.{Flips}
-use Rattle.run_falls.proofs.Flipped.{flip_at, flip_here, flip_there}
-use Rattle.run_falls.proofs.Overwriting.{between}
+use Rattle.run_follows.specs.Flips.{Flips}
+use Rattle.run_follows.proofs.Flipped.{flip_at, flip_here, flip_there}
+use Rattle.run_follows.proofs.Overwriting.{between}
 use Rattle.run_laws.specs.OpsApart.{IsPlaced}
 use Rattle.stack_core.specs.Courses.{Course, Falling, FollowsBy, Straight}
 use Rattle.stack_core.specs.Rooms.{Suits}
-use Rattle.stack_walks.specs.Sheets.{op_in}
+use Rattle.run_follows.specs.Sheets.{op_in}
 use Rattle.stack_core.specs.Stacks.{room_at}
 use Rattle.stack_core.specs.Walking.{Data, FailedBy, Follow, GoesOn, IsReply, is_medium, shown_by, shown_in, status_of, why_in}
 use Rattle.stack_core.proofs.Courses.{GoesTo, failed_by, no_flip_yet, whole_by}

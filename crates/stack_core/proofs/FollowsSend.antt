@@ -22,20 +22,20 @@ use Rattle.run_laws.specs.ScriptMoves.{own_at}
 use Rattle.run_follows.specs.Gate.{Spot}
 use Rattle.run_follows.specs.Sending.{AllGoing, IsGoing, NoneBefore, carriage_of, with_fates}
 use Rattle.run_follows.specs.Slots.{Cut, Status}
-use Rattle.stack_walks.specs.Spots.{op_in, spot_at, step_in}
-use Rattle.stack_walks.specs.Statuses.{fate_in, id_of, sent_as}
-use Rattle.stack_walks.proofs.Fates.{in_none}
-use Rattle.stack_walks.proofs.Groups.{AllNumbered, ids_are}
-use Rattle.stack_walks.proofs.Letting.{lets_of}
-use Rattle.stack_walks.proofs.Sending.{in_its_queue, sent_statuses}
-use Rattle.stack_walks.proofs.Spots.{may_move, spot_number, spot_ops, spot_place, steps_count}
-use Rattle.stack_walks.proofs.Standing.{IsOut, is_sent, queued}
+use Rattle.run_follows.specs.Spots.{op_in, spot_at, step_in}
+use Rattle.run_follows.specs.Statuses.{fate_in, id_of, sent_as}
+use Rattle.run_follows.proofs.Fates.{in_none}
+use Rattle.run_follows.proofs.Groups.{AllNumbered, ids_are}
+use Rattle.run_follows.proofs.Letting.{lets_of}
+use Rattle.run_follows.proofs.Sending.{in_its_queue, sent_statuses}
+use Rattle.run_follows.proofs.Spots.{may_move, spot_number, spot_ops, spot_place, steps_count}
+use Rattle.run_follows.proofs.WalksStanding.{IsOut, is_sent, queued}
 use Rattle.stack_core.specs.Courses.{Course, FollowsBy}
-use Rattle.stack_walks.specs.Sheets.{io_at}
+use Rattle.run_follows.specs.Sheets.{io_at}
 use Rattle.stack_core.specs.Walking.{Data, Follow, shown_in, status_of, why_in}
 use Rattle.stack_core.proofs.Completes.{all_numbered}
 use Rattle.stack_core.proofs.Courses.{same_by}
-use Rattle.stack_walks.proofs.Facts.{place-is}
+use Rattle.run_follows.proofs.Facts.{place-is}
 use Rattle.stack_core.proofs.FollowsEnd.{none_same}
 use Rattle.stack_core.proofs.FollowsGroup.{AllApart, AllLie, Lies, Places, all_lie, apart_of, is_this}
 use Rattle.stack_core.proofs.Spotted.{Stands, block_is, count_is}

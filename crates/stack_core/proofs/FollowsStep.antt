@@ -25,15 +25,15 @@ use Rattle.run_laws.specs.Records.{find}
 use Rattle.run_follows.specs.Pieces.{all_made, with_all}
 use Rattle.run_follows.specs.Sending.{NoneBefore, is_carried}
 use Rattle.run_follows.specs.Slots.{Admitted, Cut, Status, Waits}
-use Rattle.stack_walks.specs.Spots.{spots_from, steps_in}
-use Rattle.stack_walks.specs.Statuses.{fate_in}
-use Rattle.stack_walks.proofs.Letting.{lets_of}
-use Rattle.stack_walks.proofs.Moving.{admitted_statuses, cut_statuses}
-use Rattle.stack_walks.proofs.Spots.{steps_count}
-use Rattle.stack_walks.proofs.Standing.{is_uncut, not_cut, unmarked, waits}
-use Rattle.stack_walks.proofs.Together.{all_may, with_out}
+use Rattle.run_follows.specs.Spots.{spots_from, steps_in}
+use Rattle.run_follows.specs.Statuses.{fate_in}
+use Rattle.run_follows.proofs.Letting.{lets_of}
+use Rattle.run_follows.proofs.WalksMoving.{admitted_statuses, cut_statuses}
+use Rattle.run_follows.proofs.Spots.{steps_count}
+use Rattle.run_follows.proofs.WalksStanding.{is_uncut, not_cut, unmarked, waits}
+use Rattle.run_follows.proofs.WalksTogether.{all_may, with_out}
 use Rattle.stack_core.specs.Done.{WriteMade, WriteMapped}
-use Rattle.stack_walks.specs.Sheets.{io_at, op_in}
+use Rattle.run_follows.specs.Sheets.{io_at, op_in}
 use Rattle.stack_core.specs.Walking.{Data, Follow, GoesOn, shown_in, status_of, why_in}
 use Rattle.stack_core.specs.Courses.{Course}
 use Rattle.stack_core.proofs.Courses.{admitted_by, cut_by, same_by}

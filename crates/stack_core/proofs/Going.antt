@@ -9,7 +9,7 @@ use Rattle.stack_steps.specs.Does.{CanStep, Chooses, Does}
 use Rattle.stack_steps.specs.Fine.{Fine}
 use Rattle.stack_core.specs.declared.stack.Stack.{Stack}
 use Rattle.stack_core.specs.Stacks.{HasSpare, HasStep, plan_in}
-use Rattle.stack_walks.proofs.Spare.{next-spare}
+use Rattle.run_follows.proofs.Spare.{next-spare}
 use Rattle.stack_core.proofs.Steps.{SendsNot, unanswered}
 
 -- the machine that has a step shows a view with one

@@ -29,15 +29,15 @@ use Rattle.stack_view.proofs.Counts.{times-head}
 use Rattle.stack_view.proofs.Enabled.{due-one}
 use Rattle.stack_view.proofs.Keeps.{command-there, settle-room}
 use Rattle.stack_view.proofs.Ops.{marks-settle, this-block}
-use Rattle.stack_walks.specs.Statuses.{id_of}
-use Rattle.stack_walks.proofs.Groups.{ids_are}
+use Rattle.run_follows.specs.Statuses.{id_of}
+use Rattle.run_follows.proofs.Groups.{ids_are}
 use Rattle.stack_core.specs.OnRecord.{AreTraced, IsKeptBad, IsTraced}
-use Rattle.stack_walks.specs.Settled.{Judged, Kept, OneSettled, Settled}
-use Rattle.stack_walks.specs.Settling.{AreFates, IsOf}
-use Rattle.stack_walks.specs.Sheets.{io_at}
-use Rattle.stack_walks.proofs.Chained.{Each, one_place}
-use Rattle.stack_walks.proofs.Facts.{place-is}
-use Rattle.stack_walks.proofs.Standing.{marked as marked_is}
+use Rattle.run_follows.specs.Settled.{Judged, Kept, OneSettled, Settled}
+use Rattle.run_follows.specs.Settling.{AreFates, IsOf}
+use Rattle.run_follows.specs.Sheets.{io_at}
+use Rattle.run_follows.proofs.Chained.{Each, one_place}
+use Rattle.run_follows.proofs.Facts.{place-is}
+use Rattle.run_follows.proofs.WalksStanding.{marked as marked_is}
 
 -- ---- where blocks are kept
 

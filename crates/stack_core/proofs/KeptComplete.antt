@@ -13,11 +13,11 @@ use Rattle.stack_steps.specs.declared.choice.Choice.TheVariants.{Complete}
 use Rattle.stack_steps.specs.Does.{Lands, Ready}
 use Rattle.stack_core.specs.declared.stack.Stack.{Stack}
 use Rattle.stack_core.specs.OnRecord.{AreTraced, Traces}
-use Rattle.stack_walks.specs.Settled.{AllSettled, Kept}
-use Rattle.stack_walks.specs.Settling.{AreFates, IsOf}
+use Rattle.run_follows.specs.Settled.{AllSettled, Kept}
+use Rattle.run_follows.specs.Settling.{AreFates, IsOf}
 use Rattle.stack_core.specs.Stacks.{IsStack, plan_in}
-use Rattle.stack_walks.proofs.Chained.{all_each, blocks_long}
-use Rattle.stack_walks.proofs.Facts.{completed, request-at}
+use Rattle.run_follows.proofs.Chained.{all_each, blocks_long}
+use Rattle.run_follows.proofs.Facts.{completed, request-at}
 use Rattle.stack_core.proofs.KeptBad.{completed_traced}
 use Rattle.stack_core.proofs.WalkedFar.{starts_stay}
 

@@ -22,9 +22,9 @@ use Rattle.run_laws.specs.ScriptMoves.{fates_of}
 use Rattle.run_laws.specs.Records.{recorded}
 use Rattle.run_laws.specs.ToldRun.{told}
 use Rattle.stack_core.specs.declared.stack.Stack.{Stack}
-use Rattle.stack_walks.specs.Moved.{why_of}
+use Rattle.run_follows.specs.Moved.{why_of}
 use Rattle.stack_core.specs.OnRecord.{IsKeptBad, ListsNone, bad_blocks}
-use Rattle.stack_walks.specs.Sheets.{op_in}
+use Rattle.run_follows.specs.Sheets.{op_in}
 use Rattle.stack_core.specs.Stacks.{IsFinished, IsStack, plan_in}
 use Rattle.stack_core.specs.Walking.{IsReply, Walks, why_in}
 use Rattle.stack_core.proofs.Context.{over_told}

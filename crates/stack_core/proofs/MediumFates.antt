@@ -23,10 +23,10 @@ use Rattle.rig_api.specs.declared.rig.Outcome.{Outcome}
 use Rattle.block_path.specs.Senses.{is_medium_why, why_ended}
 use Rattle.whole_run.proofs.Named.{medium_is}
 use Rattle.stack_core.specs.Mediums.{mediums, one_medium}
-use Rattle.stack_walks.specs.Settled.{IsSettled, Judged, Kept, OneSettled, Settled}
-use Rattle.stack_walks.specs.Settling.{fate_by}
-use Rattle.stack_walks.specs.Sheets.{io_at}
-use Rattle.stack_walks.proofs.Chained.{Each}
+use Rattle.run_follows.specs.Settled.{IsSettled, Judged, Kept, OneSettled, Settled}
+use Rattle.run_follows.specs.Settling.{fate_by}
+use Rattle.run_follows.specs.Sheets.{io_at}
+use Rattle.run_follows.proofs.Chained.{Each}
 
 -- ---- a command is completed
 

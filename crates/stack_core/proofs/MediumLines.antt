@@ -19,15 +19,15 @@ use Rattle.run_laws.specs.Records.{recorded}
 use Rattle.run_laws.specs.ToldRun.{told}
 use Rattle.stack_core.specs.declared.stack.Stack.{Stack}
 use Rattle.stack_core.specs.Mediums.{HasCounted, RoseBy, listed_mediums, medium_lines, medium_replies, mediums, one_medium}
-use Rattle.stack_walks.specs.Moved.{why_of}
+use Rattle.run_follows.specs.Moved.{why_of}
 use Rattle.stack_core.specs.OnRecord.{bad_blocks}
-use Rattle.stack_walks.specs.Settling.{blocks_before}
-use Rattle.stack_walks.specs.Sheets.{op_in}
+use Rattle.run_follows.specs.Settling.{blocks_before}
+use Rattle.run_follows.specs.Sheets.{op_in}
 use Rattle.stack_core.specs.Stacks.{IsFinished, IsStack, plan_in}
 use Rattle.stack_core.specs.Walking.{IsReply, Walks}
 use Rattle.stack_core.proofs.Context.{over_told}
-use Rattle.stack_walks.proofs.Counts.{blocks-more}
-use Rattle.stack_walks.proofs.Facts.{request-at}
+use Rattle.run_follows.proofs.Counts.{blocks-more}
+use Rattle.run_follows.proofs.Facts.{request-at}
 use Rattle.stack_core.proofs.Mediums.{rose_less}
 use Rattle.stack_core.proofs.Walked.{sound, stand}
 use Rattle.stack_core.proofs.ListsAll.{lists_bad}

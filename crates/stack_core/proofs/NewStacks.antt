@@ -3,7 +3,7 @@ use Rattle.std.proofs.Common.{◌<◌, ℕ, length}
 use Rattle.page_pool.specs.Pages.{AreWhole}
 use Rattle.stack_view.specs.View.{start}
 use Rattle.stack_steps.specs.Does.{Holds}
-use Rattle.stack_walks.specs.Sheets.{op_in}
+use Rattle.run_follows.specs.Sheets.{op_in}
 use Rattle.stack_core.specs.declared.stack.Stack.{Stack}
 use Rattle.stack_core.specs.NewStacks.{FollowsAtFirst}
 use Rattle.stack_core.specs.Rooms.{Suits}

@@ -27,14 +27,14 @@ use Rattle.run_laws.specs.ScriptMoves.{fates_of}
 use Rattle.run_laws.specs.Records.{recorded}
 use Rattle.run_follows.specs.Following.{Follows}
 use Rattle.run_follows.specs.Slots.{Status}
-use Rattle.run_falls.specs.Flips.{Flips, flip_op, with_flips}
-use Rattle.run_falls.specs.FollowsFalling.{HasFallen}
-use Rattle.stack_walks.specs.Overwrites.{is_overwrite}
-use Rattle.run_falls.proofs.NoneFell.{none_fell}
-use Rattle.stack_walks.specs.Sheets.{op_in}
-use Rattle.stack_walks.specs.Statuses.{fate_in}
-use Rattle.stack_walks.proofs.Letting.{ended_waits}
-use Rattle.stack_walks.proofs.Standing.{is_done, is_settled, past}
+use Rattle.run_follows.specs.Flips.{Flips, flip_op, with_flips}
+use Rattle.run_follows.specs.FollowsFalling.{HasFallen}
+use Rattle.run_follows.specs.Overwrites.{is_overwrite}
+use Rattle.run_follows.proofs.NoneFell.{none_fell}
+use Rattle.run_follows.specs.Sheets.{op_in}
+use Rattle.run_follows.specs.Statuses.{fate_in}
+use Rattle.run_follows.proofs.Letting.{ended_waits}
+use Rattle.run_follows.proofs.WalksStanding.{is_done, is_settled, past}
 use Rattle.stack_core.specs.Courses.{Falling}
 use Rattle.stack_core.specs.declared.stack.Stack.{Stack}
 use Rattle.dix_base.specs.Told.{Calm}

@@ -36,11 +36,11 @@ use Rattle.stack_core.specs.declared.kept.Room.TheVariants.{Tuples}
 use Rattle.stack_core.specs.Doing.{CanDo}
 use Rattle.stack_core.specs.Done.{OpDone, Sealed}
 use Rattle.stack_core.specs.Replies.{CanSeal, HoldsSeal, shown}
-use Rattle.stack_walks.specs.Requests.{sealed}
+use Rattle.run_follows.specs.Requests.{sealed}
 use Rattle.stack_core.specs.Rooms.{Suits}
-use Rattle.stack_walks.specs.Seals.{IsSealed}
+use Rattle.run_follows.specs.Seals.{IsSealed}
 use Rattle.stack_core.specs.Walking.{IsReply, op_left, shown_by}
-use Rattle.stack_walks.proofs.Begin.{size-is}
+use Rattle.run_follows.proofs.WalksBegin.{size-is}
 use Rattle.stack_core.proofs.Spotted.{turns, turns_one}
 
 -- these bytes at the first place

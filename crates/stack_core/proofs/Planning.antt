@@ -22,13 +22,13 @@ use Rattle.stack_ops.specs.declared.op.Op.TheVariants.{Fetch, FetchPi, Fill, Ove
 use Rattle.stack_ops.specs.Footprints.{footprint, is_alone}
 use Rattle.whole_run.specs.Settings.{Setting}
 use Rattle.run_laws.specs.OpsApart.{OpsConflict, is_shifted}
-use Rattle.stack_walks.specs.Ground.{IsPlanOf}
-use Rattle.stack_walks.specs.Requests.{requests_from}
-use Rattle.stack_walks.specs.Sheets.{do_clash, io_at, layout_of, no_print, op_in, plan_of, prints_of, request_in}
-use Rattle.stack_walks.specs.Shifts.{shifted_by, shifts}
-use Rattle.stack_walks.proofs.Begin.{length-requests}
-use Rattle.stack_walks.proofs.Facts.{request-at}
-use Rattle.stack_walks.proofs.Conflicting.{own_layout}
+use Rattle.run_follows.specs.Ground.{IsPlanOf}
+use Rattle.run_follows.specs.Requests.{requests_from}
+use Rattle.run_follows.specs.Sheets.{do_clash, io_at, layout_of, no_print, op_in, plan_of, prints_of, request_in}
+use Rattle.run_follows.specs.Shifts.{shifted_by, shifts}
+use Rattle.run_follows.proofs.WalksBegin.{length-requests}
+use Rattle.run_follows.proofs.Facts.{request-at}
+use Rattle.run_follows.proofs.Conflicting.{own_layout}
 use Rattle.stack_core.proofs.Listing.{prints-at}
 use Rattle.stack_core.proofs.AtUnits.{io_count}
 

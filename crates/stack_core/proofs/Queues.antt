@@ -8,8 +8,8 @@ use Rattle.stack_view.specs.Sound.{OnDevices}
 use Rattle.volume_table.specs.Places.{place_in}
 use Rattle.volume_table.specs.Tables.{Table}
 use Rattle.stack_core.specs.OnRecord.{HasQueues}
-use Rattle.stack_walks.specs.Sheets.{io_at, plan_of}
-use Rattle.stack_walks.proofs.Facts.{request-at}
+use Rattle.run_follows.specs.Sheets.{io_at, plan_of}
+use Rattle.run_follows.proofs.Facts.{request-at}
 
 pub has-queues : (ops : List Op) (shifted : List Bool) (ios : List Io) (table : Table) (limits : Limits) (devices : ℕ) → OnDevices (plan_of ops shifted ios table limits devices) →
     ((n : ℕ) → ((i k : ℕ) → k < (io_at ios i).count → (place_in table.entries ((io_at ios i).first + k)).0 < n) → devices ≤ n) → HasQueues (plan_of ops shifted ios table limits devices)

@@ -23,10 +23,10 @@ use Rattle.stack_view.specs.Sound.{HasBlocks, Settles}
 use Rattle.stack_steps.specs.Fine.{Fine}
 use Rattle.stack_steps.proofs.Keep.{count-few}
 use Rattle.stack_steps.proofs.Sums.{group-ends}
-use Rattle.stack_walks.specs.Sheets.{HaveNumbers, io_at, plan_of}
-use Rattle.stack_walks.specs.Settling.{AreAllWhole, IsWhole}
+use Rattle.run_follows.specs.Sheets.{HaveNumbers, io_at, plan_of}
+use Rattle.run_follows.specs.Settling.{AreAllWhole, IsWhole}
 use Rattle.stack_core.specs.Stacks.{AreUniform}
-use Rattle.stack_walks.proofs.Facts.{is-of, place-is, request-at}
+use Rattle.run_follows.proofs.Facts.{is-of, place-is, request-at}
 
 -- the sizes of the two crates are one
 pub same-size : (g : List Bio) → Carry.size g ≡ size g

@@ -38,8 +38,8 @@ use Rattle.stack_steps.proofs.Sums.{sends-fit}
 use Rattle.stack_core.specs.declared.stack.Stack.{Stack}
 use Rattle.stack_core.specs.Stacks.{HasSpare, HoldsEach, IsStack, Reaches, plan_in}
 use Rattle.stack_core.proofs.Sending.{carried-group, same-size}
-use Rattle.stack_walks.specs.Sheets.{io_at}
-use Rattle.stack_walks.proofs.Spare.{fewer}
+use Rattle.run_follows.specs.Sheets.{io_at}
+use Rattle.run_follows.proofs.Spare.{fewer}
 
 -- a group that can be sent in one view can be sent in each that the machine shows
 can-too : (p : Plan) (m : Machine) (u v : View) (d i : ℕ) → Holds p m u → Holds p m v → can p v (StepSend d i) ≡ true → can p u (StepSend d i) ≡ true

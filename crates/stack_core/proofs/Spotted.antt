@@ -19,13 +19,13 @@ use Rattle.run_laws.specs.ScriptMoves.{fates_of, own_at, room_of}
 use Rattle.run_follows.specs.Gate.{parts_at}
 use Rattle.run_follows.specs.Pieces.{all_cut, all_made}
 use Rattle.run_follows.specs.Slots.{Parts, parts_of}
-use Rattle.stack_walks.specs.Ground.{Ground, IsPlanOf}
-use Rattle.stack_walks.specs.Spots.{spot_at, spots_from, step_in}
-use Rattle.stack_walks.proofs.Spots.{spot_place, steps_count}
-use Rattle.stack_walks.specs.Requests.{first_page, own_blocks, page_after, pages_for, request_of, requests_from}
-use Rattle.stack_walks.specs.Sheets.{io_at, op_in}
-use Rattle.stack_walks.specs.Settling.{AreAllWhole}
-use Rattle.stack_walks.proofs.BlockParts.{ArePartsOf, cut_of, made_of, parts_are}
+use Rattle.run_follows.specs.Ground.{Ground, IsPlanOf}
+use Rattle.run_follows.specs.Spots.{spot_at, spots_from, step_in}
+use Rattle.run_follows.proofs.Spots.{spot_place, steps_count}
+use Rattle.run_follows.specs.Requests.{first_page, own_blocks, page_after, pages_for, request_of, requests_from}
+use Rattle.run_follows.specs.Sheets.{io_at, op_in}
+use Rattle.run_follows.specs.Settling.{AreAllWhole}
+use Rattle.run_follows.proofs.BlockParts.{ArePartsOf, cut_of, made_of, parts_are}
 use Rattle.stack_core.proofs.AtUnits.{io_count}
 
 -- ---- moves of blocks in turn

@@ -27,7 +27,7 @@ use Rattle.stack_core.specs.declared.sheet.Sheet.{Sheet}
 use Rattle.stack_core.specs.declared.stack.Stack.{Stack}
 use Rattle.stack_core.specs.OnRecord.{Carries, HasSentBy, IsFormed, IsOfRequests, IsRecordOf, SendsOn, Traces}
 use Rattle.stack_core.specs.Stacks.{HasStep, Stays, plan_in}
-use Rattle.stack_walks.proofs.Clear.{clear_in, clear_out, held_fails}
+use Rattle.run_follows.proofs.Clear.{clear_in, clear_out, held_fails}
 use Rattle.stack_core.proofs.Goes.{either-way}
 use Rattle.stack_core.proofs.Recording.{formed_of, record_of}
 use Rattle.stack_core.proofs.SendsOn.{KeepsMarks, group_held, group_recorded, other_sends, traces_same}

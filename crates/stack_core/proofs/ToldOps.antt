@@ -15,7 +15,7 @@ use Rattle.rig_api.specs.Telling.{IsStanding, Standing, block_at, can_change, ch
 use Rattle.target_answer.specs.Frames.{stored_size}
 use Rattle.dix_adapter.specs.Ways.{blocks_told, cell_in, shapes_of, site_of}
 use Rattle.dix_adapter.proofs.GoingIn.{long-at}
-use Rattle.stack_walks.specs.Units.{AreAtUnits}
+use Rattle.run_follows.specs.Units.{AreAtUnits}
 use Rattle.stack_core.specs.declared.sheet.Sheet.{Sheet}
 use Rattle.stack_core.proofs.Context.{over_stays}
 use Rattle.dix_adapter.proofs.Puts.{cell-is, told-at, told-puts}

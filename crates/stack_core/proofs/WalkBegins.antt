@@ -18,14 +18,14 @@ use Rattle.run_laws.specs.Records.{recorded}
 use Rattle.run_laws.specs.ToldRun.{told}
 use Rattle.run_follows.specs.Finished.{FramesFit}
 use Rattle.run_follows.specs.Slots.{Waits}
-use Rattle.stack_walks.specs.Statuses.{fate_in}
-use Rattle.stack_walks.specs.Units.{AreAtUnits}
-use Rattle.stack_walks.proofs.Standing.{waits}
-use Rattle.run_falls.specs.Flips.{no_flips}
+use Rattle.run_follows.specs.Statuses.{fate_in}
+use Rattle.run_follows.specs.Units.{AreAtUnits}
+use Rattle.run_follows.proofs.WalksStanding.{waits}
+use Rattle.run_follows.specs.Flips.{no_flips}
 use Rattle.stack_core.specs.Courses.{Course, Falling, Straight}
 use Rattle.stack_core.specs.declared.stack.Stack.{Stack}
 use Rattle.stack_core.specs.Rooms.{Suits}
-use Rattle.stack_walks.specs.Sheets.{op_in, request_in}
+use Rattle.run_follows.specs.Sheets.{op_in, request_in}
 use Rattle.stack_core.specs.Stacks.{IsStack, plan_in, room_at}
 use Rattle.stack_core.proofs.Courses.{FlipsNone, begins_by}
 use Rattle.stack_core.specs.Walking.{IsOver, Opens, SizesFit, Walks, WalksAtTarget, WalksBy, WalksFalling, WalksOver, WalksTold, data_of, shown_in, status_of, why_in}

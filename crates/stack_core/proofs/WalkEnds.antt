@@ -33,18 +33,18 @@ use Rattle.run_follows.specs.Slots.{Done, Settled, Status}
 use Rattle.run_follows.proofs.Backing.{is_backed, told_carried}
 use Rattle.run_follows.proofs.Ends.{ends_as_walk}
 use Rattle.run_follows.specs.Takes.{AllTakeAny}
-use Rattle.run_falls.specs.AtTheEnd.{EndsAsFalling}
-use Rattle.run_falls.proofs.Ending.{ends_as_falling}
-use Rattle.stack_walks.specs.Statuses.{fate_in}
-use Rattle.stack_walks.proofs.Letting.{ended_waits}
-use Rattle.stack_walks.proofs.Standing.{is_done, is_settled}
-use Rattle.run_falls.specs.Flips.{with_flips}
-use Rattle.run_falls.proofs.Flipped.{FineByLength, bound_flip, ended_flip, replies_flip, takes_flip}
+use Rattle.run_follows.specs.AtTheEnd.{EndsAsFalling}
+use Rattle.run_follows.proofs.Ending.{ends_as_falling}
+use Rattle.run_follows.specs.Statuses.{fate_in}
+use Rattle.run_follows.proofs.Letting.{ended_waits}
+use Rattle.run_follows.proofs.WalksStanding.{is_done, is_settled}
+use Rattle.run_follows.specs.Flips.{with_flips}
+use Rattle.run_follows.proofs.Flipped.{FineByLength, bound_flip, ended_flip, replies_flip, takes_flip}
 use Rattle.stack_core.specs.Courses.{Course}
 use Rattle.stack_core.specs.declared.stack.Stack.{Stack}
-use Rattle.stack_walks.specs.Sheets.{op_in}
+use Rattle.run_follows.specs.Sheets.{op_in}
 use Rattle.stack_core.specs.Stacks.{IsStack, plan_in}
-use Rattle.stack_walks.specs.Overwrites.{is_overwrite}
+use Rattle.run_follows.specs.Overwrites.{is_overwrite}
 use Rattle.stack_core.specs.Walking.{EndsFallen, EndsTold, HasFails, IsOver, IsReply, Walks, WalksBy, WalksTold, data_of, is_medium, shown_by, shown_in, status_of, why_in, WalksFalling}
 use Rattle.stack_core.proofs.Context.{over_told}
 use Rattle.stack_core.proofs.Walked.{sound, stand}

@@ -42,18 +42,18 @@ use Rattle.stack_core.specs.declared.kept.Room.TheVariants.{Nothing}
 use Rattle.stack_core.specs.declared.sheet.Sheet.{Sheet}
 use Rattle.stack_core.specs.declared.stack.Stack.{Stack}
 use Rattle.rig_api.specs.declared.change.Change.{Change}
-use Rattle.run_falls.specs.Flips.{Flips}
-use Rattle.run_falls.proofs.Flipped.{flip_at}
-use Rattle.run_falls.proofs.Overwriting.{between}
+use Rattle.run_follows.specs.Flips.{Flips}
+use Rattle.run_follows.proofs.Flipped.{flip_at}
+use Rattle.run_follows.proofs.Overwriting.{between}
 use Rattle.stack_ops.specs.declared.op.Op.TheVariants.{Overwrite}
 use Rattle.stack_core.specs.Courses.{Course, Falling}
 use Rattle.stack_core.specs.Done.{MadeBy, OpDone, WriteMade, WriteMapped}
 use Rattle.stack_core.specs.Replies.{reply_of}
-use Rattle.stack_walks.specs.Sheets.{io_at, op_in}
+use Rattle.run_follows.specs.Sheets.{io_at, op_in}
 use Rattle.stack_core.specs.Stacks.{IsStack, Stays, plan_in, room_at}
 use Rattle.stack_core.specs.Walking.{Data, Follow, GoesOn, IsChosen, IsOver, WalksBy, data_of, is_medium, op_left, status_of}
 use Rattle.stack_core.proofs.Context.{places, stands}
-use Rattle.stack_walks.proofs.Facts.{op-ends, op-enters, there as there_is}
+use Rattle.run_follows.proofs.Facts.{op-ends, op-enters, there as there_is}
 use Rattle.stack_core.proofs.FollowsEnd.{ends, joins}
 use Rattle.stack_core.proofs.FollowsGroup.{Places}
 use Rattle.stack_core.proofs.FollowsOp.{QuietBy, alone, op_fails, op_goes}

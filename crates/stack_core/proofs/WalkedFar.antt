@@ -34,19 +34,19 @@ use Rattle.volume_table.specs.Places.{place_in, volume_len}
 use Rattle.whole_run.specs.Settings.{Setting}
 use Rattle.run_follows.specs.Sending.{AllGoing, NoneBefore, with_fates}
 use Rattle.run_follows.specs.Slots.{Status}
-use Rattle.stack_walks.proofs.Sending.{in_its_queue}
+use Rattle.run_follows.proofs.Sending.{in_its_queue}
 use Rattle.stack_core.specs.Courses.{Course, FollowsBy}
 use Rattle.stack_core.specs.declared.sheet.Sheet.{Sheet}
 use Rattle.stack_core.specs.declared.stack.Stack.{Stack}
-use Rattle.stack_walks.specs.Settled.{AllSettled, Kept}
-use Rattle.stack_walks.specs.Settling.{AreFates}
-use Rattle.stack_walks.specs.Sheets.{io_at}
+use Rattle.run_follows.specs.Settled.{AllSettled, Kept}
+use Rattle.run_follows.specs.Settling.{AreFates}
+use Rattle.run_follows.specs.Sheets.{io_at}
 use Rattle.stack_core.specs.Stacks.{IsStack, Stays, plan_in}
 use Rattle.stack_core.specs.Walking.{Data, Follow, IsChosen, IsOver, SizesFit, WalksBy, data_of, status_of}
 use Rattle.stack_core.proofs.Completes.{completes}
 use Rattle.stack_core.proofs.Courses.{held_by, none_held}
 use Rattle.stack_core.proofs.Context.{adapts, places, stands}
-use Rattle.stack_walks.proofs.Facts.{completed, place-is}
+use Rattle.run_follows.proofs.Facts.{completed, place-is}
 use Rattle.stack_core.proofs.FollowsSend.{all_going, sent_before, sent_follows, spots_of}
 use Rattle.stack_core.proofs.Sending.{carried-group}
 use Rattle.stack_core.proofs.Walked.{can_be, lie, meant, ready, sound, stand, taken, walked}

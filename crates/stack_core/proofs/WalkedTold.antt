@@ -33,7 +33,7 @@ use Rattle.dix_adapter.proofs.GoingIn.{long-at, sent-long-in}
 use Rattle.dix_adapter.proofs.Landing.{group-width}
 use Rattle.dix_adapter.proofs.Runs.{Next, Run, group-run, width_for}
 use Rattle.dix_adapter.proofs.Units.{Stands as UnitStands, unit-stands}
-use Rattle.carried_record.proofs.Puts.{InTurn, bios_turn}
+use Rattle.run_follows.proofs.Puts.{InTurn, bios_turn}
 use Rattle.range_gate.specs.Gates.{has_ended}
 use Rattle.rig_api.specs.Log.{Entry}
 use Rattle.rig_api.specs.Telling.{HasCause, IsStanding, Standing, frame_size, spec_at, specs_of, unit_at, units_told}
@@ -60,18 +60,18 @@ use Rattle.run_laws.specs.Records.{recorded}
 use Rattle.run_follows.specs.Sending.{AllGoing, AllSized, NoneBefore, with_fates}
 use Rattle.run_follows.specs.Slots.{Status}
 use Rattle.run_follows.proofs.Recording.{none_in, none_out}
-use Rattle.stack_walks.specs.Units.{AreAtUnits, IsAtUnit, first_virt}
-use Rattle.stack_walks.proofs.Standing.{IsOut}
+use Rattle.run_follows.specs.Units.{AreAtUnits, IsAtUnit, first_virt}
+use Rattle.run_follows.proofs.WalksStanding.{IsOut}
 use Rattle.stack_core.specs.Courses.{Course, Falling, FollowsBy, Straight}
 use Rattle.stack_core.specs.declared.sheet.Sheet.{Sheet}
 use Rattle.stack_core.specs.declared.stack.Stack.{Stack}
-use Rattle.stack_walks.specs.Sheets.{io_at, op_in}
+use Rattle.run_follows.specs.Sheets.{io_at, op_in}
 use Rattle.stack_core.specs.Stacks.{IsStack, Stays, plan_in}
 use Rattle.stack_core.specs.Walking.{IsChosen, WalksAtTarget, WalksBy, data_of, status_of}
 use Rattle.stack_core.proofs.AtUnits.{EachIn, both_still, fewer_behind, first_block, io_count, io_first, range_in, still}
 use Rattle.stack_core.proofs.Context.{adapts, over_stays, places, stands}
 use Rattle.stack_core.proofs.Courses.{StopsBy, in_by, out_by}
-use Rattle.stack_walks.proofs.Facts.{place-is}
+use Rattle.run_follows.proofs.Facts.{place-is}
 use Rattle.stack_core.proofs.FollowsGroup.{AllLie, Lies}
 use Rattle.stack_core.proofs.FollowsSend.{all_going, group_lies, ids, out_is, spots_of}
 use Rattle.stack_core.proofs.Walked.{sound, stand}

@@ -7,8 +7,8 @@ use Rattle.whole_run.specs.Settings.{Setting}
 use Rattle.run_follows.specs.Following.{Follows}
 use Rattle.run_follows.specs.Sending.{is_carried}
 use Rattle.run_follows.specs.Slots.{Status}
-use Rattle.run_falls.specs.Flips.{Flips, with_flips}
-use Rattle.run_falls.specs.FollowsFalling.{FollowsFalling}
+use Rattle.run_follows.specs.Flips.{Flips, with_flips}
+use Rattle.run_follows.specs.FollowsFalling.{FollowsFalling}
 
 -- No store call failed, or it isn't known. Or some failed, and it is known which: each overwrite among them flips its block.
 pub data Course : Type 0 where

@@ -7,7 +7,7 @@ use Rattle.answered_record.specs.Answered.{PutsAnswers}
 use Rattle.block_path.specs.Acts.{State}
 use Rattle.whole_run.specs.Settings.{Setting}
 use Rattle.stack_ops.specs.declared.reply.Reply.{Reply}
-use Rattle.stack_walks.specs.Overwrites.{is_overwrite}
+use Rattle.run_follows.specs.Overwrites.{is_overwrite}
 use Rattle.stack_core.specs.declared.stack.Stack.{Stack}
 use Rattle.stack_core.specs.Mediums.{HasCounted, RoseBy, medium_replies}
 use Rattle.stack_core.specs.Stacks.{HasSpare, IsStack, Reaches}

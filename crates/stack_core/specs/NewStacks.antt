@@ -10,9 +10,9 @@ use Rattle.stack_ops.specs.declared.reply.Reply.TheVariants.{Silent}
 use Rattle.stack_view.specs.Runs.{blocks_of_requests}
 use Rattle.stack_view.specs.View.{start}
 use Rattle.stack_steps.specs.Does.{Holds}
-use Rattle.stack_walks.specs.Requests.{pages_from, requests_from}
-use Rattle.stack_walks.specs.Sheets.{request_in}
-use Rattle.stack_walks.specs.Shifts.{shifted_by}
+use Rattle.run_follows.specs.Requests.{pages_from, requests_from}
+use Rattle.run_follows.specs.Sheets.{request_in}
+use Rattle.run_follows.specs.Shifts.{shifted_by}
 use Rattle.stack_core.specs.declared.setup.Setup.{Setup}
 use Rattle.stack_core.specs.declared.stack.Stack.{Stack}
 use Rattle.stack_core.specs.OnRecord.{HasQueues}

@@ -28,8 +28,8 @@ use Rattle.stack_core.specs.declared.kept.Room.{Room}
 use Rattle.stack_core.specs.declared.kept.Room.TheVariants.{Nothing}
 use Rattle.stack_core.specs.declared.sheet.Sheet.{Sheet}
 use Rattle.stack_core.specs.declared.stack.Stack.{Stack}
-use Rattle.stack_walks.specs.Sheets.{io_at, op_in, plan_of}
-use Rattle.stack_walks.specs.Settling.{AreAllWhole, AreFates}
+use Rattle.run_follows.specs.Sheets.{io_at, op_in, plan_of}
+use Rattle.run_follows.specs.Settling.{AreAllWhole, AreFates}
 use Rattle.stack_core.specs.Replies.{HoldsBad}
 use Rattle.stack_core.specs.Doing.{CanDo, CanReach}
 

@@ -42,24 +42,24 @@ use Rattle.run_laws.specs.ToldRun.{told}
 use Rattle.run_follows.specs.Finished.{FramesFit}
 use Rattle.run_follows.specs.Sending.{NoneBefore}
 use Rattle.run_follows.specs.Slots.{Status}
-use Rattle.stack_walks.specs.Ground.{Ground}
-use Rattle.stack_walks.specs.Seals.{IsSealed}
-use Rattle.stack_walks.specs.Statuses.{status_in}
-use Rattle.stack_walks.specs.Units.{AreAtUnits}
+use Rattle.run_follows.specs.Ground.{Ground}
+use Rattle.run_follows.specs.Seals.{IsSealed}
+use Rattle.run_follows.specs.Statuses.{status_in}
+use Rattle.run_follows.specs.Units.{AreAtUnits}
 use Rattle.stack_core.specs.declared.kept.Room.{Room}
 use Rattle.stack_core.specs.declared.sheet.Sheet.{Sheet}
 use Rattle.stack_core.specs.declared.stack.Stack.{Stack}
-use Rattle.run_falls.specs.AtTheEnd.{EndsAsFalling}
-use Rattle.run_falls.specs.Flips.{Flips, with_flips}
+use Rattle.run_follows.specs.AtTheEnd.{EndsAsFalling}
+use Rattle.run_follows.specs.Flips.{Flips, with_flips}
 use Rattle.rig_api.specs.declared.change.Change.{Change}
-use Rattle.stack_walks.specs.Overwrites.{is_overwrite}
+use Rattle.run_follows.specs.Overwrites.{is_overwrite}
 use Rattle.stack_core.specs.Courses.{Course, Falling, FollowsBy, Straight}
 use Rattle.stack_core.specs.Doing.{CanReach}
-use Rattle.stack_walks.specs.Moved.{why_of}
-use Rattle.stack_walks.specs.Requests.{requests_from}
+use Rattle.run_follows.specs.Moved.{why_of}
+use Rattle.run_follows.specs.Requests.{requests_from}
 use Rattle.stack_core.specs.Rooms.{Suits}
-use Rattle.stack_walks.specs.Sheets.{io_at, op_in}
-use Rattle.stack_walks.specs.Shifts.{shifted_by}
+use Rattle.run_follows.specs.Sheets.{io_at, op_in}
+use Rattle.run_follows.specs.Shifts.{shifted_by}
 use Rattle.stack_core.specs.Stacks.{HasStep, plan_in, room_at}
 
 -- ---- how far each block is

@@ -36,8 +36,8 @@ ghost use Rattle.block_path.specs.Routes.{host_type};
 ghost use Rattle.block_path.specs.Serial.{plain};
 ghost use Rattle.dix_adapter.specs.Groups.{data_cells};
 ghost use Rattle.stack_core.specs.Done.{WriteMade, WriteMapped};
-ghost use Rattle.stack_walks.specs.Settled.{MappedBack, ReadSettled};
-ghost use Rattle.stack_walks.specs.Moved.{HasFrames, IsSettle, makes, maps_out, route_to, tuple_at, why_of};
+ghost use Rattle.run_follows.specs.Settled.{MappedBack, ReadSettled};
+ghost use Rattle.run_follows.specs.Moved.{HasFrames, IsSettle, makes, maps_out, route_to, tuple_at, why_of};
 
 /// A write whose tuples are made as it is admitted, and whose tags are mapped out as it is cut and back as it is
 /// settled, is one move a block further each time: the pages are those that the moves leave.

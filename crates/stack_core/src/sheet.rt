@@ -5,7 +5,7 @@ ghost use Rattle.page_pool.specs.Places.{total};
 ghost use Rattle.page_pool.specs.Cuts.{cut};
 ghost use Rattle.bio_core.specs.Bios.{block_size, data_segs, tuple_segs};
 ghost use Rattle.volume_table.specs.Places.{place_in, volume_len};
-ghost use Rattle.stack_walks.specs.Sheets.{HaveNumbers, IsSheet, io_at, op_in, plan_of};
+ghost use Rattle.run_follows.specs.Sheets.{HaveNumbers, IsSheet, io_at, op_in, plan_of};
 
 use bio_core::{Dir, Io};
 use merge_queue::Limits;

@@ -3,14 +3,14 @@
 ghost use Rattle.std.specs.Prelude.{◌≡◌, ◌<◌, ◌≤◌, ◌+◌, ◌||◌, ℕ, false, List, IfOk, length, replicate, slice_index_or};
 ghost use Rattle.stack_ops.specs.declared.reply.Reply.TheVariants.{Silent};
 ghost use Rattle.stack_ops.specs.Footprints.{IsShortPut};
-ghost use Rattle.stack_walks.specs.Sheets.{IsSheet, op_in, plan_of, prints_of};
-ghost use Rattle.stack_walks.specs.Shifts.{is_shift, shifted_by, shifts};
-ghost use Rattle.stack_walks.specs.Requests.{first_page, own_blocks, page_after, pages_from, requests_from};
+ghost use Rattle.run_follows.specs.Sheets.{IsSheet, op_in, plan_of, prints_of};
+ghost use Rattle.run_follows.specs.Shifts.{is_shift, shifted_by, shifts};
+ghost use Rattle.run_follows.specs.Requests.{first_page, own_blocks, page_after, pages_from, requests_from};
 ghost use Rattle.stack_core.specs.Replies.{HoldsBad};
 ghost use Rattle.stack_core.specs.Rooms.{Suits, blocks_in};
 ghost use Rattle.stack_core.specs.Stacks.{IsStack, plan_in, room_at};
 ghost use Rattle.stack_core.specs.NewStacks.{FollowsAtFirst, IsNewStack, IsSetUp};
-ghost use Rattle.stack_walks.specs.Starting.{CanStart};
+ghost use Rattle.run_follows.specs.Starting.{CanStart};
 
 use crate::kept::{Fates, Room, room_for};
 use crate::requests::{own_blocks, pages_for, request_of};

@@ -5,7 +5,7 @@ use Rattle.run_laws.specs.BoundRun.{IsBoundRun}
 use Rattle.run_laws.specs.Suited.{keeps_size}
 use Rattle.run_laws.specs.Records.{recorded}
 use Rattle.run_follows.specs.Takes.{AllTakeAny}
-use Rattle.run_falls.specs.Flips.{with_flips}
+use Rattle.run_follows.specs.Flips.{with_flips}
 use Rattle.stack_core.specs.Walking.{EndsFallen}
 use Rattle.script_ground.proofs.Units.{over-units}
 use Rattle.script_stack.specs.Followed.{begun_of, failed_in, opening_of, setting_of}

@@ -6,18 +6,18 @@ use Rattle.range_gate.specs.declared.phase.Phase.TheVariants.{Waiting}
 use Rattle.stack_view.specs.Runs.{blocks_of_requests}
 use Rattle.stack_view.specs.View.{start}
 use Rattle.stack_steps.specs.Shows.{IsGateOf}
-use Rattle.stack_walks.specs.Sheets.{op_in, prints_of, request_in}
-use Rattle.stack_walks.specs.Requests.{pages_from, requests_from}
-use Rattle.stack_walks.specs.Shifts.{shifts}
+use Rattle.run_follows.specs.Sheets.{op_in, prints_of, request_in}
+use Rattle.run_follows.specs.Requests.{pages_from, requests_from}
+use Rattle.run_follows.specs.Shifts.{shifts}
 use Rattle.stack_core.specs.Stacks.{plan_in, room_at}
 use Rattle.stack_core.specs.Rooms.{Suits}
 use Rattle.merge_queue.specs.Groups.{numbers}
 use Rattle.merge_queue.proofs.Linking.{length-numbers}
 use Rattle.std.specs.List.{list_any}
-use Rattle.stack_walks.proofs.Begin.{length-requests}
+use Rattle.run_follows.proofs.WalksBegin.{length-requests}
 use Rattle.stack_core.proofs.FirstStack.{first-stack}
 use Rattle.stack_core.proofs.Sent.{holds-all}
-use Rattle.stack_walks.proofs.Gates.{gate-is, length-prints}
+use Rattle.run_follows.proofs.Gates.{gate-is, length-prints}
 use Rattle.stack_core.proofs.Opening.{have-numbers, inside-each, own-few, sheet-is, small-blocks}
 use Rattle.stack_core.proofs.Queues.{has-queues}
 use Rattle.stack_core.proofs.NewStacks.{follows-at-first}

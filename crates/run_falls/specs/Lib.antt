@@ -1,4 +1,0 @@
-pub mod Falls
-pub mod FollowsFalling
-pub mod AtTheEnd
-pub mod Flips
