@@ -1,6 +1,6 @@
 //! Blocks as a row writes them.
 
-use row_table::{array_of, small};
+use test_table::{array_of, small};
 use std::alloc::{AllocError, Global};
 
 /// The data of block `p`: byte `j` is (7 j + p (j / 5) + p) mod 251.

@@ -6,10 +6,10 @@ use arrayvec::ArrayVec;
 use bio_core::{Bio, Dir, Fate};
 use dix_adapter::{Adapter, Scratch};
 use fault_schedule::{Crossing, FaultKind, FaultLine, FaultList, ShortBytes};
-use group_checks::group_blocks;
+use test_groups::group_blocks;
 use page_pool::PagePool;
 use rig_api::Rig;
-use row_table::{cut, small};
+use test_table::{cut, small};
 use std::alloc::{AllocError, Global};
 
 /// The address of the group's first block.

@@ -4,7 +4,7 @@ use dix_adapter::Adapter;
 use fault_schedule::Tamper;
 use pi_guard::GuardKind;
 use pi_tuple::PiType;
-use row_table::tag_of;
+use test_table::tag_of;
 
 /// One way through the adapter.
 #[derive(Clone, Copy)]

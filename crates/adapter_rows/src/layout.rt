@@ -5,7 +5,7 @@ ghost use Rattle.std.specs.Prelude.{◌≤◌};
 use crate::blocks::frame_of;
 use crate::case::Case;
 use bio_core::{Dir, Io};
-use group_checks::{list_of, write_all};
+use test_groups::{list_of, write_all};
 use integrity_payload::{Owner, Payload};
 use page_pool::{PAGE, PagePool, Seg, SgList};
 use std::alloc::{AllocError, Global};

@@ -10,7 +10,7 @@ mod outcomes;
 mod scene;
 mod table;
 
-use row_table::read_table;
+use test_table::read_table;
 use std::io;
 use table::Table;
 

@@ -6,7 +6,7 @@ ghost use Rattle.rig_api.specs.Log.{has_key};
 use bio_core::{Fate, Why};
 use pi_tuple::Check;
 use rig_api::Outcome;
-use row_table::{array_of, small};
+use test_table::{array_of, small};
 use sense_codes::Sense;
 
 /// The sense of a word: key, code and qualifier in hexadecimal; none of another word.

@@ -2,7 +2,7 @@
 
 use crate::case::Case;
 use crate::scene::Scene;
-use row_table::{Judge, cut};
+use test_table::{Judge, cut};
 use std::alloc::{AllocError, Global};
 
 /// What holds for the rows from here on.

@@ -3,7 +3,7 @@
 use crate::names::{add, none, or_dash};
 use arrayvec::ArrayVec;
 use fault_schedule::{Crossing, FaultKind, FaultLine, FaultList, Label, ShortBytes, Tamper};
-use row_table::{bytes_of, cut, hex_of, small};
+use test_table::{bytes_of, cut, hex_of, small};
 use std::alloc::{AllocError, Global};
 
 fn crossing_of(word: &str) -> Crossing {

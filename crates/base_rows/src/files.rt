@@ -4,7 +4,7 @@ use crate::names::{add, yes_or_no};
 use crate::stores::step;
 use crate::walk::{shrunk, walk};
 use dix_base::{FileStore, Store};
-use row_table::{bytes_of, cut, hex_of, small};
+use test_table::{bytes_of, cut, hex_of, small};
 use std::alloc::{AllocError, Global};
 use std::fs::{OpenOptions, Permissions};
 use std::os::unix::fs::PermissionsExt;

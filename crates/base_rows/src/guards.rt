@@ -3,7 +3,7 @@
 use crate::names::none;
 use pi_guard::plain::{crc16_by_bits, ip_sum_by_words};
 use pi_guard::{GuardKind, GuardRun, crc16, ip_sum};
-use row_table::{bytes_of, cut, hex_of, small};
+use test_table::{bytes_of, cut, hex_of, small};
 use std::alloc::{AllocError, Global};
 
 /// The guard of the parts of these lengths, one after another.

@@ -5,7 +5,7 @@ ghost use Rattle.std.specs.Prelude.{◌≡◌, length};
 use crate::names::{add, none, out_of_range, type_of, yes_or_no};
 use pi_tuple::PiType;
 use rig_api::RigFault;
-use row_table::{bytes_of, cut, hex_of, number, small};
+use test_table::{bytes_of, cut, hex_of, number, small};
 use std::alloc::{AllocError, Global};
 use target_answer::{UnitSpec, Version, header, is_header, specs_in, version_of};
 

@@ -16,7 +16,7 @@ mod stores;
 mod tuples;
 mod walk;
 
-use row_table::{Judge, cut, read_table};
+use test_table::{Judge, cut, read_table};
 use std::alloc::{AllocError, Global};
 use std::io;
 

@@ -7,7 +7,7 @@ use crate::faults::tamper_of;
 use crate::names::{add, check_name, none, or_dash, out_of_range, tiny, type_of};
 use fault_schedule::{Label, Tamper};
 use pi_tuple::PiType;
-use row_table::{bytes_of, cut, small};
+use test_table::{bytes_of, cut, small};
 use std::alloc::{AllocError, Global};
 use target_answer::Passage;
 

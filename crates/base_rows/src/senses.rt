@@ -5,7 +5,7 @@ ghost use Rattle.sense_codes.specs.Written.{Fits};
 
 use crate::names::{check_name, none, out_of_range};
 use arrayvec::ArrayVec;
-use row_table::{array_of, bytes_of, cut, hex_of};
+use test_table::{array_of, bytes_of, cut, hex_of};
 use sense_codes::{Layer, Sense, SenseFault, layer_and_check};
 use std::alloc::{AllocError, Global};
 

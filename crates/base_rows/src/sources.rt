@@ -9,7 +9,7 @@ use dix_base::{
     ByteList, CalmSink, CalmSource, Failed, MemSink, MemSource, Sink, Source, StdinSource,
     StdoutSink,
 };
-use row_table::{bytes_of, cut, hex_of, number, small};
+use test_table::{bytes_of, cut, hex_of, number, small};
 use std::alloc::{AllocError, Global};
 
 fn take_from<S: Source>(source: &mut S, buf: &mut [u8]) -> Result<usize, Failed>

@@ -6,7 +6,7 @@ ghost use Rattle.dix_base.specs.Told.{Apart, Becomes, Begins, Rose};
 use crate::names::{add, none};
 use crate::sources::numbers;
 use dix_base::{CalmStore, Failed, MemStore, Store, StoreFault};
-use row_table::{bytes_of, cut, hex_of, small};
+use test_table::{bytes_of, cut, hex_of, small};
 use std::alloc::{AllocError, Global};
 
 /// Writes the piece over what is there, and reads it back.

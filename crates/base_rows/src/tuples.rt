@@ -2,7 +2,7 @@
 
 use crate::names::{check_name, none, short, type_of, yes_or_no};
 use pi_tuple::{Checks, Tuple, finds, has_ref_tag, is_escape, make, own_tag, ref_tag};
-use row_table::{array_of, cut, hex_of, number, small};
+use test_table::{array_of, cut, hex_of, number, small};
 use std::alloc::{AllocError, Global};
 
 /// The tuple of 16 hexadecimal digits; that of zeros for another word.

@@ -9,7 +9,7 @@ use crate::groups::{adapter, good_of, list, payload, tuples};
 use crate::rig::PlainRig;
 use bio_core::{Bio, Dir, Fate, Io};
 use dix_adapter::{Adapter, Scratch};
-use group_checks::{group_blocks, write_all};
+use test_groups::{group_blocks, write_all};
 use page_pool::{PAGE, PagePool, Seg};
 use pi_guard::GuardKind;
 use rig_api::Rig;

@@ -5,7 +5,7 @@ ghost use Rattle.rig_api.specs.Log.{capacity_len};
 ghost use Rattle.target_answer.specs.Requests.{blocks_of};
 
 use crate::targets::{BLOCKS, READ, WRITE, frames};
-use answer_rig::AnswerRig;
+use test_answers::AnswerRig;
 use fault_schedule::Label;
 use rig_api::{Outcome, Rig};
 use std::alloc::{AllocError, Global};

@@ -5,7 +5,7 @@ ghost use Rattle.dix_adapter.specs.Groups.{IsProtect};
 use bio_core::Fate;
 use dix_adapter::Adapter;
 use fault_schedule::{FaultList, Tamper};
-use group_checks::list_of;
+use test_groups::list_of;
 use integrity_payload::{Owner, Payload};
 use page_pool::{Seg, SgList};
 use pi_guard::GuardKind;

@@ -3,7 +3,7 @@
 ghost use Rattle.std.specs.Prelude.{◌≡◌, ◌≤◌, ◌^◌, ◌-◌, None, true, refl};
 ghost use Rattle.rig_log.specs.Entries.{few_of, keyed_of};
 ghost use Rattle.rig_log.specs.Logs.{logged, room_in};
-ghost use Rattle.answer_rig.specs.Answering.{is_count, ready_of, size_of, standing_of};
+ghost use Rattle.test_answers.specs.Answering.{is_count, ready_of, size_of, standing_of};
 
 use dix_base::Failed;
 use fault_schedule::{FaultList, Label, Tamper};

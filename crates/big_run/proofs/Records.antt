@@ -17,9 +17,9 @@ use Rattle.script_stack.specs.Sends.{IsPlanFor, entries_of}
 use Rattle.script_stack.proofs.SendsBy.{recorded_long}
 use Rattle.script_text.specs.Generator.{big}
 use Rattle.script_text.specs.declared.script.Script.{Script}
-use Rattle.script_verdict.specs.Texts.{has_bad}
-use Rattle.script_verdict.specs.Verdict.{Followed, HasRun}
-use Rattle.script_verdict.specs.declared.verdict.Finished.{Finished}
+use Rattle.run_command.specs.Texts.{has_bad}
+use Rattle.run_command.specs.Verdict.{Followed, HasRun}
+use Rattle.run_command.specs.declared.verdict.Finished.{Finished}
 use Rattle.target_answer.specs.Image.{formatted}
 use Rattle.big_run.specs.Counting.{all_bad, counts_with, no_ops}
 use Rattle.big_run.specs.Plain.{big_replies, big_table, big_units}

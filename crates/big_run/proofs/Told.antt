@@ -10,8 +10,8 @@ use Rattle.rig_api.specs.State.{RigState}
 use Rattle.rig_discovery.specs.Discovery.{info_of}
 use Rattle.script_stack.specs.Followed.{none_fails}
 use Rattle.script_text.specs.Generator.{big, big_entries}
-use Rattle.script_verdict.specs.Premises.{IsPlainRun, opening_told}
-use Rattle.script_verdict.specs.Verdict.{HasTable, WasAsked}
+use Rattle.run_command.specs.Premises.{IsPlainRun, opening_told}
+use Rattle.run_command.specs.Verdict.{HasTable, WasAsked}
 use Rattle.target_answer.specs.Headers.{header, specs_in, version_of}
 use Rattle.target_answer.specs.Image.{formatted, fresh_bytes, units_from, units_in}
 use Rattle.target_answer.specs.declared.units.UnitSpec.{UnitSpec}

@@ -1,7 +1,7 @@
 use Rattle.std.specs.Prelude.{ℕ, List, [], ◌∷◌}
 use Rattle.pi_tuple.specs.declared.checks.PiType.TheVariants.{One}
 use Rattle.script_text.specs.Generator.{big, big_entries, ops_from}
-use Rattle.script_verdict.specs.Premises.{opening_told, setting_told}
+use Rattle.run_command.specs.Premises.{opening_told, setting_told}
 use Rattle.stack_ops.specs.declared.reply.Reply.{Reply}
 use Rattle.target_answer.specs.Image.{all_fresh}
 use Rattle.target_answer.specs.Target.{Stored}

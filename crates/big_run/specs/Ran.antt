@@ -3,9 +3,9 @@ use Rattle.dix_base.specs.Told.{Calm}
 use Rattle.pi_guard.specs.Guards.{crc}
 use Rattle.report_text.specs.Report.{report}
 use Rattle.script_text.specs.Generator.{big, ops_from}
-use Rattle.script_verdict.specs.Texts.{has_bad}
-use Rattle.script_verdict.specs.Verdict.{HasRun}
-use Rattle.script_verdict.specs.declared.verdict.Finished.{Finished}
+use Rattle.run_command.specs.Texts.{has_bad}
+use Rattle.run_command.specs.Verdict.{HasRun}
+use Rattle.run_command.specs.declared.verdict.Finished.{Finished}
 use Rattle.script_stack.specs.Sends.{IsPlanFor, entries_of}
 use Rattle.stack_view.specs.Plan.{Plan}
 use Rattle.stack_view.specs.Runs.{blocks_of_requests, sends_of}

@@ -15,7 +15,7 @@ use pi_tuple::PiType;
 use rig_api::Rig;
 use script_laws::a_big_script_keeps_the_rules;
 use script_text::big_script;
-use script_verdict::{Finished, print_run, run_script};
+use run_command::{Finished, print_run, run_script};
 use std::alloc::{AllocError, Global};
 use target_answer::UnitSpec;
 

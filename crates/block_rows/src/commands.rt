@@ -3,7 +3,7 @@
 use crate::words::short;
 use cdb_codec::CdbFault;
 use pi_blocks::CdbFields;
-use row_table::{Words, bytes_of, hex_of};
+use test_table::{Words, bytes_of, hex_of};
 use std::alloc::{AllocError, Global};
 
 fn refusal(alloc: Global, why: CdbFault) -> Result<String, AllocError> {

@@ -2,7 +2,7 @@
 
 use pi_blocks::{Part, Run, crc16v, ip_sumv};
 use pi_guard::{crc16, crc16_after};
-use row_table::{Words, bytes_of, hex_of, small};
+use test_table::{Words, bytes_of, hex_of, small};
 use std::alloc::{AllocError, Global};
 
 /// The bytes in parts of these lengths, with commas between, and one more of what is left.

@@ -2,7 +2,7 @@
 
 use crate::words::{found_text, short, want_of, written_text};
 use pi_blocks::{Layout, generate, remap, verify};
-use row_table::{Words, bytes_of};
+use test_table::{Words, bytes_of};
 use std::alloc::{AllocError, Global};
 
 /// What a check of blocks answers, by what is wanted and the bytes.

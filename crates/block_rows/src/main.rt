@@ -11,7 +11,7 @@ mod single;
 mod words;
 
 use pi_blocks::Layout;
-use row_table::{Judge, Words, read_table};
+use test_table::{Judge, Words, read_table};
 use std::alloc::{AllocError, Global};
 use std::io;
 

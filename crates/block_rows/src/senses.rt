@@ -2,7 +2,7 @@
 
 use pi_blocks::SenseFields;
 use pi_tuple::Check;
-use row_table::{Words, bytes_of, hex_of};
+use test_table::{Words, bytes_of, hex_of};
 use sense_codes::{Layer, SenseFault};
 use std::alloc::{AllocError, Global};
 

@@ -2,7 +2,7 @@
 
 use crate::words::{found_text, short, want_of};
 use pi_blocks::{TupleFields, check};
-use row_table::{Words, bytes_of, hex_of};
+use test_table::{Words, bytes_of, hex_of};
 use std::alloc::{AllocError, Global};
 
 /// The eight bytes of a word; zeros where it has fewer.

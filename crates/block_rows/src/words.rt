@@ -1,7 +1,7 @@
 //! Words that the calls share.
 
 use pi_blocks::{Found, Refusal, Want};
-use row_table::{Words, hex_of};
+use test_table::{Words, hex_of};
 use std::alloc::{AllocError, Global};
 
 /// A number of 16 bits in decimal digits, or the largest where the word is none.

@@ -5,7 +5,7 @@ use crate::lines::behind;
 use crate::sources::source_in;
 use crate::wanted::{add_call, add_image};
 use headline::{Way, run_on_bytes};
-use row_table::cut;
+use test_table::cut;
 use std::alloc::{AllocError, Global};
 
 /// What the first of a row's words does with a script.

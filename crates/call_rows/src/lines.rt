@@ -1,6 +1,6 @@
 //! The lines of a row by their first words, their marks.
 
-use row_table::cut;
+use test_table::cut;
 use std::alloc::{AllocError, Global};
 
 /// The marks that a line may have.

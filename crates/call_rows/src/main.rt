@@ -13,7 +13,7 @@ mod sweeps;
 mod table;
 mod wanted;
 
-use row_table::read_table;
+use test_table::read_table;
 use std::io;
 use table::Table;
 

@@ -2,11 +2,11 @@
 
 use crate::lines::numbers;
 use dix_base::MemStore;
-use dix_words::unit_of;
+use command_line::unit_of;
 use image_rig::ImageRig;
 use rig_api::Outcome;
-use row_table::{array_of, bytes_of, cut, number};
-use scripted_rig::{Answer, formatted};
+use test_table::{array_of, bytes_of, cut, number};
+use test_rig::{Answer, formatted};
 use sense_codes::Sense;
 use std::alloc::{AllocError, Global};
 

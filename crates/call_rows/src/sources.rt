@@ -1,7 +1,7 @@
 //! The words of a row's call, and the source that it reads.
 
 use crate::lines::{behind, text};
-use row_table::{cut, number};
+use test_table::{cut, number};
 use script_text::{big_script, print_script};
 use std::alloc::{AllocError, Global};
 

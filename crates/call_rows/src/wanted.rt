@@ -2,7 +2,7 @@
 
 use crate::calls::Came;
 use crate::lines::{add_line, behind, has, text};
-use row_table::{bytes_of, cut, hex_of, number};
+use test_table::{bytes_of, cut, hex_of, number};
 use std::alloc::{AllocError, Global};
 use std::str;
 

@@ -6,15 +6,15 @@ use Rattle.rig_api.specs.State.{RigState}
 use Rattle.image_commands.specs.Causes.{CauseUnformatted, CauseUnmigrated, CauseUnscrubbed}
 use Rattle.nvme_command.specs.Causes.{CauseNotDone}
 use Rattle.nvme_command.proofs.Completes.{spared_alone}
-use Rattle.dix_words.specs.Grammar.{command_in, image_in}
-use Rattle.dix_words.specs.declared.command.Command.{Command}
-use Rattle.dix_words.specs.declared.command.Command.TheVariants.{Run, Trace, Format, Migrate, Mirror, Scrub, Nvme, Modes, Big}
-use Rattle.mirror_verdict.proofs.Completing.{complete as mirror_complete}
-use Rattle.mirror_verdict.specs.Texts.{is_any_lost}
-use Rattle.mirror_verdict.specs.Verdict.{IsComplete as MirrorComplete}
-use Rattle.script_verdict.proofs.Completing.{complete, never_rose, no_head_fault, told_is_good}
-use Rattle.script_verdict.specs.Texts.{has_bad}
-use Rattle.script_verdict.specs.Verdict.{IsComplete as RunComplete}
+use Rattle.command_line.specs.Grammar.{command_in, image_in}
+use Rattle.command_line.specs.declared.command.Command.{Command}
+use Rattle.command_line.specs.declared.command.Command.TheVariants.{Run, Trace, Format, Migrate, Mirror, Scrub, Nvme, Modes, Big}
+use Rattle.mirror_command.proofs.Completing.{complete as mirror_complete}
+use Rattle.mirror_command.specs.Texts.{is_any_lost}
+use Rattle.mirror_command.specs.Verdict.{IsComplete as MirrorComplete}
+use Rattle.run_command.proofs.Completing.{complete, never_rose, no_head_fault, told_is_good}
+use Rattle.run_command.specs.Texts.{has_bad}
+use Rattle.run_command.specs.Verdict.{IsComplete as RunComplete}
 use Rattle.call_refusal.specs.declared.refusal.Refusal.{Refusal as Stop}
 use Rattle.call_refusal.specs.declared.refusal.Refusal.TheVariants as stop
 use Rattle.dix_run.specs.Commands.{Ended, IsRightRun, IsRun, RunsOrFails, work_of}

@@ -11,11 +11,11 @@ use Rattle.image_commands.specs.Causes.{CauseUnscrubbed, WasFormatted, WasScrubb
 use Rattle.call_refusal.specs.declared.refusal.Refusal.TheVariants as stop
 use Rattle.report_text.specs.Report.{report}
 use Rattle.report_text.specs.Trace.{trace}
-use Rattle.dix_words.specs.Grammar.{image_in}
+use Rattle.command_line.specs.Grammar.{image_in}
 use Rattle.script_text.specs.declared.script.Script.{Script}
-use Rattle.script_verdict.specs.Texts.{has_bad}
-use Rattle.script_verdict.specs.Verdict.{HasRun, HasRunSource}
-use Rattle.script_verdict.specs.declared.verdict.Finished.{Finished}
+use Rattle.run_command.specs.Texts.{has_bad}
+use Rattle.run_command.specs.Verdict.{HasRun, HasRunSource}
+use Rattle.run_command.specs.declared.verdict.Finished.{Finished}
 use Rattle.dix_run.specs.Commands.{format_work, trace_work}
 use Rattle.dix_run.specs.Verdict.{Done, EndedAs, Facts, LeavesSource, Refused, Work, Written, call_of, done_status, refusal_text, status_of}
 use Rattle.dix_run.specs.declared.refusal.Refusal.{Refusal}

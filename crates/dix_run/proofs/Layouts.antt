@@ -6,11 +6,11 @@ use Rattle.std.proofs.lemmas.Bool.{leb-true}
 use Rattle.pi_tuple.specs.declared.checks.PiType.{PiType}
 use Rattle.target_answer.specs.Headers.{is_layout}
 use Rattle.target_answer.specs.declared.units.UnitSpec.{UnitSpec}
-use Rattle.dix_words.specs.Grammar.{big_of, big_with, command_in, format_of, format_with, is_name, is_one_name, modes_of, modes_with, on_image, units_in}
+use Rattle.command_line.specs.Grammar.{big_of, big_with, command_in, format_of, format_with, is_name, is_one_name, modes_of, modes_with, on_image, units_in}
 use Rattle.script_words.specs.Decimals.{number_in}
-use Rattle.dix_words.specs.Units.{type_in}
-use Rattle.dix_words.specs.declared.command.Command.{Command}
-use Rattle.dix_words.specs.declared.command.Command.TheVariants.{Run, Trace, Format, Migrate, Mirror, Scrub, Nvme, Big}
+use Rattle.command_line.specs.Units.{type_in}
+use Rattle.command_line.specs.declared.command.Command.{Command}
+use Rattle.command_line.specs.declared.command.Command.TheVariants.{Run, Trace, Format, Migrate, Mirror, Scrub, Nvme, Big}
 
 on_image_not : (c : Command) (words : List (List ℕ)) (us : List UnitSpec) → (c ≡ Format us → ⊥) → on_image c words ≡ Some (Format us) → ⊥
 on_image_not c words us n e = by (is_one_name words) e

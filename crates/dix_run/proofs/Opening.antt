@@ -5,16 +5,16 @@ use Rattle.image_commands.specs.Views.{OpenedOnce}
 use Rattle.nvme_command.proofs.Completes.{done_opens, not_done_opens}
 use Rattle.rig_api.specs.Telling.{Standing, Stayed}
 use Rattle.rig_api.specs.State.{RigState}
-use Rattle.dix_words.specs.Grammar.{image_in}
-use Rattle.dix_words.specs.declared.command.Command.{Command}
-use Rattle.dix_words.specs.declared.command.Command.TheVariants.{Run, Trace, Format, Migrate, Mirror, Scrub, Nvme, Modes, Big}
+use Rattle.command_line.specs.Grammar.{image_in}
+use Rattle.command_line.specs.declared.command.Command.{Command}
+use Rattle.command_line.specs.declared.command.Command.TheVariants.{Run, Trace, Format, Migrate, Mirror, Scrub, Nvme, Modes, Big}
 use Rattle.script_text.specs.declared.script.Script.{Script}
-use Rattle.mirror_verdict.specs.Verdict.{CauseStopped as CauseMidway, HasMirroredSource, StoppedMidway}
-use Rattle.mirror_verdict.specs.declared.mirrored.Mirrored.{Mirrored}
-use Rattle.script_verdict.specs.Verdict.{CauseRefused, CauseStopped, HasRunSource, StoppedShort}
+use Rattle.mirror_command.specs.Verdict.{CauseStopped as CauseMidway, HasMirroredSource, StoppedMidway}
+use Rattle.mirror_command.specs.declared.mirrored.Mirrored.{Mirrored}
+use Rattle.run_command.specs.Verdict.{CauseRefused, CauseStopped, HasRunSource, StoppedShort}
 use Rattle.call_refusal.specs.declared.refusal.Refusal.{Refusal as Stop}
 use Rattle.call_refusal.specs.declared.refusal.Refusal.TheVariants as stop
-use Rattle.script_verdict.specs.declared.verdict.Finished.{Finished}
+use Rattle.run_command.specs.declared.verdict.Finished.{Finished}
 use Rattle.dix_run.specs.Commands.{work_of}
 use Rattle.dix_run.specs.Headline.{OpensOnce}
 use Rattle.dix_run.specs.Verdict.{ByCause, Cause, CauseNotCommanded, CauseNotMirrored, CauseNotRun, Done, Facts, HasNoCommand, Refused, Verdict, WantsMemory, call_of}

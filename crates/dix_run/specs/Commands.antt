@@ -20,19 +20,19 @@ use Rattle.mode_map.specs.Modes.{modes_text}
 use Rattle.script_text.specs.Bindings.{binding_fault}
 use Rattle.script_text.specs.Language.{script_in}
 use Rattle.script_text.specs.declared.script.Script.{Script}
-use Rattle.script_verdict.specs.Texts.{has_bad}
-use Rattle.script_verdict.specs.Verdict.{HasRunSource, devices_of, table_over}
-use Rattle.script_verdict.specs.declared.verdict.Finished.{Finished}
+use Rattle.run_command.specs.Texts.{has_bad}
+use Rattle.run_command.specs.Verdict.{HasRunSource, devices_of, table_over}
+use Rattle.run_command.specs.declared.verdict.Finished.{Finished}
 use Rattle.mirror_script.specs.MirrorFaults.{mirror_fault}
-use Rattle.mirror_verdict.specs.Texts.{is_any_lost, mirror_text}
-use Rattle.mirror_verdict.specs.Verdict.{HasMirroredSource}
-use Rattle.mirror_verdict.specs.declared.mirrored.Mirrored.{Mirrored}
+use Rattle.mirror_command.specs.Texts.{is_any_lost, mirror_text}
+use Rattle.mirror_command.specs.Verdict.{HasMirroredSource}
+use Rattle.mirror_command.specs.declared.mirrored.Mirrored.{Mirrored}
 use Rattle.big_run.specs.Ran.{RanBig}
 use Rattle.big_run.specs.Text.{big_text}
 use Rattle.big_run.specs.declared.running.BigRun.{BigRun}
-use Rattle.dix_words.specs.Grammar.{command_in, image_in}
-use Rattle.dix_words.specs.declared.command.Command.{Command}
-use Rattle.dix_words.specs.declared.command.Command.TheVariants.{Run, Trace, Format, Migrate, Mirror, Scrub, Nvme, Modes, Big}
+use Rattle.command_line.specs.Grammar.{command_in, image_in}
+use Rattle.command_line.specs.declared.command.Command.{Command}
+use Rattle.command_line.specs.declared.command.Command.TheVariants.{Run, Trace, Format, Migrate, Mirror, Scrub, Nvme, Modes, Big}
 use Rattle.dix_run.specs.ScrubText.{has_some, scrub_text}
 use Rattle.dix_run.specs.Verdict.{ByCause, CauseNotCommanded, CauseNotMirrored, CauseNotRun, EndedAs, Facts, HasNoCommand, LeavesSource, WantsMemory, Work, call_of, done_status, usage_text}
 use Rattle.dix_run.specs.declared.status.Status.{Status}

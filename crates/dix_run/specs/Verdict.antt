@@ -1,12 +1,12 @@
 use Rattle.std.specs.Prelude.{ℕ, ◌≡◌, ◌⊎◌, Bool, if◌then◌else◌, List, codes, Option}
 use Rattle.dix_base.specs.Told.{Appended, AppendedSome, Calm, Rose}
 use Rattle.nvme_command.specs.Causes.{CauseNotDone}
-use Rattle.dix_words.specs.Grammar.{image_in}
+use Rattle.command_line.specs.Grammar.{image_in}
 use Rattle.call_refusal.specs.Texts.{refusal_text as stop_text}
-use Rattle.script_verdict.specs.Verdict.{CauseRefused, Facts as Call}
+use Rattle.run_command.specs.Verdict.{CauseRefused, Facts as Call}
 use Rattle.call_refusal.specs.declared.refusal.Refusal.{Refusal as Stop}
 use Rattle.call_refusal.specs.declared.refusal.Refusal.TheVariants as stop
-use Rattle.mirror_verdict.specs.Verdict.{CauseRefused as CauseUnmirrored}
+use Rattle.mirror_command.specs.Verdict.{CauseRefused as CauseUnmirrored}
 use Rattle.dix_run.specs.declared.status.Status.{Status}
 use Rattle.dix_run.specs.declared.status.Status.TheVariants as status
 use Rattle.dix_run.specs.declared.refusal.Refusal.{Refusal}

@@ -2,7 +2,7 @@
 
 ghost use Rattle.std.specs.Prelude.{◌≡◌, ◌≤◌, ◌++◌, ℕ, List, Option, codes, decimal, length, true};
 ghost use Rattle.target_answer.specs.Headers.{is_layout};
-ghost use Rattle.dix_words.specs.Grammar.{word_bytes};
+ghost use Rattle.command_line.specs.Grammar.{word_bytes};
 ghost use Rattle.dix_run.specs.Commands.{format_work, migrate_work, scrub_work};
 ghost use Rattle.dix_run.specs.Verdict.{EndedAs};
 
@@ -11,7 +11,7 @@ use crate::refusal::Refusal;
 use crate::scrub_text::{has_some, scrub_text};
 use crate::status::Status;
 use dix_base::Sink;
-use dix_words::{UnitList, image_of};
+use command_line::{UnitList, image_of};
 use image_commands::{format_image, migrate_image, scrub_image};
 use report_text::{Line, add, add_number};
 use rig_api::Rig;

@@ -1,7 +1,7 @@
 //! Running a script on a mirror.
 
-ghost use Rattle.dix_words.specs.Grammar.{word_bytes};
-ghost use Rattle.mirror_verdict.specs.Texts.{is_any_lost, mirror_text};
+ghost use Rattle.command_line.specs.Grammar.{word_bytes};
+ghost use Rattle.mirror_command.specs.Texts.{is_any_lost, mirror_text};
 ghost use Rattle.dix_run.specs.Commands.{mirror_work};
 ghost use Rattle.dix_run.specs.Verdict.{EndedAs, Facts, Written, done_status};
 
@@ -9,8 +9,8 @@ use crate::program::{refuse, status_for};
 use crate::refusal::Refusal;
 use crate::status::Status;
 use dix_base::{Failed, Sink, Source};
-use dix_words::image_of;
-use mirror_verdict::{Mirrored, mirror_source, print_mirrored};
+use command_line::image_of;
+use mirror_command::{Mirrored, mirror_source, print_mirrored};
 use rig_api::Rig;
 use std::alloc::Global;
 

@@ -1,6 +1,6 @@
 //! NVM commands on an image.
 
-ghost use Rattle.dix_words.specs.Grammar.{word_bytes};
+ghost use Rattle.command_line.specs.Grammar.{word_bytes};
 ghost use Rattle.dix_run.specs.Commands.{nvme_work};
 ghost use Rattle.dix_run.specs.Verdict.{EndedAs, Facts};
 
@@ -8,7 +8,7 @@ use crate::program::{finish, refuse, status_for};
 use crate::refusal::Refusal;
 use crate::status::Status;
 use dix_base::{Sink, Source};
-use dix_words::image_of;
+use command_line::image_of;
 use nvme_command::do_commands;
 use rig_api::Rig;
 use std::alloc::Global;

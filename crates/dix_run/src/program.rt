@@ -1,7 +1,7 @@
 //! The top call.
 
 ghost use Rattle.std.specs.Prelude.{◌≡◌};
-ghost use Rattle.dix_words.specs.Grammar.{word_bytes};
+ghost use Rattle.command_line.specs.Grammar.{word_bytes};
 ghost use Rattle.dix_run.specs.Headline.{Carries};
 ghost use Rattle.dix_run.specs.Verdict.{Facts, Written, done_status, refusal_text, status_of};
 
@@ -14,7 +14,7 @@ use crate::refusal::Refusal;
 use crate::running::{run_image, trace_image};
 use crate::status::Status;
 use dix_base::{Failed, Sink, Source};
-use dix_words::{Command, command_of};
+use command_line::{Command, command_of};
 use report_text::write_out;
 use rig_api::Rig;
 use std::alloc::Global;

@@ -1,10 +1,10 @@
 //! Running a script on an image.
 
 ghost use Rattle.std.specs.Prelude.{◌≤◌, ◌++◌, drop, length};
-ghost use Rattle.dix_words.specs.Grammar.{word_bytes};
+ghost use Rattle.command_line.specs.Grammar.{word_bytes};
 ghost use Rattle.report_text.specs.Report.{report};
 ghost use Rattle.report_text.specs.Trace.{trace};
-ghost use Rattle.script_verdict.specs.Texts.{has_bad};
+ghost use Rattle.run_command.specs.Texts.{has_bad};
 ghost use Rattle.dix_run.specs.Commands.{run_work, trace_work};
 ghost use Rattle.dix_run.specs.Verdict.{EndedAs, Facts, Written, done_status};
 
@@ -12,9 +12,9 @@ use crate::program::{refuse, status_for};
 use crate::refusal::Refusal;
 use crate::status::Status;
 use dix_base::{Failed, Sink, Source};
-use dix_words::image_of;
+use command_line::image_of;
 use rig_api::Rig;
-use script_verdict::{Finished, print_run, print_traced_run, run_source};
+use run_command::{Finished, print_run, print_traced_run, run_source};
 use std::alloc::Global;
 
 /// Writes the report of a run.

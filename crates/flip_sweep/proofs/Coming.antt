@@ -12,12 +12,12 @@ use Rattle.rig_api.specs.Telling.{IsStanding, Standing, own_units, units_told}
 use Rattle.rig_api.specs.State.{RigState}
 use Rattle.script_text.specs.Bindings.{binding_fault}
 use Rattle.script_text.specs.declared.script.Script.{Script}
-use Rattle.script_verdict.specs.Verdict.{CauseStopped, Followed, HasRun, WasAsked, devices_of}
+use Rattle.run_command.specs.Verdict.{CauseStopped, Followed, HasRun, WasAsked, devices_of}
 use Rattle.call_refusal.specs.declared.refusal.Refusal.{Refusal}
 use Rattle.call_refusal.specs.declared.refusal.Refusal.TheVariants as refusal
-use Rattle.script_verdict.specs.declared.verdict.Finished.{Finished}
-use Rattle.script_verdict.proofs.Completing.{never_rose, no_head_fault, table_is, told_is_good}
-use Rattle.script_verdict.proofs.Devices.{image_devices}
+use Rattle.run_command.specs.declared.verdict.Finished.{Finished}
+use Rattle.run_command.proofs.Completing.{never_rose, no_head_fault, table_is, told_is_good}
+use Rattle.run_command.proofs.Devices.{image_devices}
 use Rattle.target_answer.specs.Frames.{joined}
 use Rattle.target_answer.specs.Headers.{image_size, is_layout}
 use Rattle.target_answer.specs.Image.{formatted}

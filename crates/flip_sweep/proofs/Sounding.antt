@@ -12,7 +12,7 @@ use Rattle.script_text.specs.Crossings.{crossing_of, is_read, spot_of}
 use Rattle.script_text.specs.Rules.{is_bad_flip}
 use Rattle.script_text.specs.declared.fault.ScriptFault.{ScriptFault}
 use Rattle.script_text.specs.declared.script.Script.{Script}
-use Rattle.script_verdict.specs.Working.{IsSound}
+use Rattle.run_command.specs.Working.{IsSound}
 use Rattle.stack_ops.specs.declared.op.Op.{Op}
 use Rattle.flip_sweep.specs.Flips.{IsSite, fault_before, flip_at, overwrite_fault, own_fault, with_flip}
 use Rattle.flip_sweep.specs.declared.flips.Site.{Site}

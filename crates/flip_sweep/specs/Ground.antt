@@ -1,6 +1,6 @@
 -- What stays from run to run.
 use Rattle.std.specs.Prelude.{◌≡◌, ◌<◌, ◌≤◌, true, None, length}
-use Rattle.script_verdict.specs.Working.{IsSound}
+use Rattle.run_command.specs.Working.{IsSound}
 use Rattle.target_answer.specs.Headers.{image_size, is_layout}
 use Rattle.target_answer.specs.Image.{formatted}
 use Rattle.flip_sweep.specs.Comes.{came_to, seen_of}

@@ -5,7 +5,7 @@ use Rattle.image_scripts.specs.Over.{volume_over}
 use Rattle.script_text.specs.Bindings.{binding_fault}
 use Rattle.script_text.specs.declared.fault.ScriptFault.{ScriptFault}
 use Rattle.script_text.specs.declared.script.Script.{Script}
-use Rattle.script_verdict.specs.Verdict.{devices_of}
+use Rattle.run_command.specs.Verdict.{devices_of}
 use Rattle.call_refusal.specs.declared.refusal.Refusal.{Refusal}
 use Rattle.call_refusal.specs.declared.refusal.Refusal.TheVariants as refusal
 use Rattle.target_answer.specs.Image.{formatted}

@@ -1,7 +1,7 @@
 //! Runs over formatted units, in memory.
 
 ghost use Rattle.std.specs.Prelude.{◌≡◌, List, IfErr, IfOk, length, true};
-ghost use Rattle.script_verdict.specs.Working.{IsSound};
+ghost use Rattle.run_command.specs.Working.{IsSound};
 ghost use Rattle.target_answer.specs.Headers.{image_size, is_layout};
 ghost use Rattle.target_answer.specs.Image.{formatted};
 ghost use Rattle.target_answer.specs.declared.units.UnitSpec.{UnitSpec as AnyUnit};
@@ -14,7 +14,7 @@ use image_rig::ImageRig;
 use page_pool::PagePool;
 use rig_api::Rig;
 use script_text::Script;
-use script_verdict::{Finished, run_script};
+use run_command::{Finished, run_script};
 use stack_ops::Reply;
 use std::alloc::{AllocError, Global};
 use target_answer::UnitSpec;

@@ -2,7 +2,7 @@
 
 ghost use Rattle.std.specs.Prelude.{◌≡◌, ◌+◌, ◌≤◌, ◌<◌, ◌^◌, [], IfErr, IfOk, IsErrOf, OnErr, OnOk, length, true};
 ghost use Rattle.dix_base.specs.Told.{Appended, AppendedSome, Rose};
-ghost use Rattle.script_verdict.specs.Working.{IsSound};
+ghost use Rattle.run_command.specs.Working.{IsSound};
 ghost use Rattle.target_answer.specs.Headers.{is_layout};
 ghost use Rattle.flip_sweep.specs.Flips.{AreSites, IsSite, sites_of};
 ghost use Rattle.flip_sweep.specs.Ground.{IsGround, swept_in};

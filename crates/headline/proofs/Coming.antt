@@ -4,21 +4,21 @@ use Rattle.std.specs.Prelude.{All, Option}
 use Rattle.dix_base.specs.Told.{Calm, Rose}
 use Rattle.rig_api.specs.Head.{head_fault, head_of}
 use Rattle.rig_api.specs.Telling.{IsStanding, units_told}
-use Rattle.dix_words.specs.Grammar.{command_in, image_in}
-use Rattle.dix_words.specs.declared.command.Command.{Command}
-use Rattle.dix_words.specs.declared.command.Command.TheVariants as command
+use Rattle.command_line.specs.Grammar.{command_in, image_in}
+use Rattle.command_line.specs.declared.command.Command.{Command}
+use Rattle.command_line.specs.declared.command.Command.TheVariants as command
 use Rattle.report_text.specs.Report.{report}
 use Rattle.script_text.specs.declared.script.Script.{Script}
-use Rattle.script_verdict.proofs.Completing.{complete, never_rose, same_script}
-use Rattle.script_verdict.specs.Texts.{has_bad}
-use Rattle.script_verdict.specs.Verdict.{CauseRefused, HasRun}
+use Rattle.run_command.proofs.Completing.{complete, never_rose, same_script}
+use Rattle.run_command.specs.Texts.{has_bad}
+use Rattle.run_command.specs.Verdict.{CauseRefused, HasRun}
 use Rattle.call_refusal.specs.declared.refusal.Refusal.{Refusal as Stop}
 use Rattle.call_refusal.specs.declared.refusal.Refusal.TheVariants as stop
-use Rattle.script_verdict.specs.declared.verdict.Finished.{Finished}
-use Rattle.mirror_verdict.proofs.Completing.{complete as mirror_complete}
-use Rattle.mirror_verdict.specs.Texts.{is_any_lost, mirror_text}
-use Rattle.mirror_verdict.specs.Verdict.{CauseRefused as CauseUnmirrored, HasMirrored}
-use Rattle.mirror_verdict.specs.declared.mirrored.Mirrored.{Mirrored}
+use Rattle.run_command.specs.declared.verdict.Finished.{Finished}
+use Rattle.mirror_command.proofs.Completing.{complete as mirror_complete}
+use Rattle.mirror_command.specs.Texts.{is_any_lost, mirror_text}
+use Rattle.mirror_command.specs.Verdict.{CauseRefused as CauseUnmirrored, HasMirrored}
+use Rattle.mirror_command.specs.declared.mirrored.Mirrored.{Mirrored}
 use Rattle.dix_run.specs.Commands.{mirror_work, run_work, work_of}
 use Rattle.dix_run.specs.Headline.{Carries}
 use Rattle.dix_run.specs.Verdict.{Cause, CauseNotMirrored, CauseNotRun, Done, EndedAs, Facts, Refused, Verdict, Work, Written, call_of, done_status, status_of, verdict_status, verdict_text}

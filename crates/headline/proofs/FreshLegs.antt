@@ -21,7 +21,7 @@ use Rattle.whole_run.proofs.TupleFrames.{Small, data_is, tag_below, tuple_is}
 use Rattle.image_layout.proofs.Heads.{layout_parts}
 use Rattle.script_premises.proofs.Fresh.{blocks_are, fresh_unit, shapes_are}
 use Rattle.script_text.specs.declared.script.Script.{Script}
-use Rattle.script_verdict.specs.Verdict.{devices_of}
+use Rattle.run_command.specs.Verdict.{devices_of}
 use Rattle.headline.specs.Headline.{blocks_in, half_over, mirror_over, volume_over}
 use Rattle.image_scripts.proofs.FreshHead.{units_back}
 

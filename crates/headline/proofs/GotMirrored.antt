@@ -5,10 +5,10 @@ use Rattle.target_answer.specs.Target.{Stored}
 use Rattle.script_text.specs.declared.script.Script.{Script}
 use Rattle.mirror_volume.specs.Enough.{WasEnough}
 use Rattle.mirror_volume.specs.Premises.{IsOneGoodRun}
-use Rattle.mirror_verdict.specs.Stages.{HasServed}
-use Rattle.mirror_verdict.specs.Verdict.{HasMirrored}
-use Rattle.mirror_verdict.proofs.Mirroring.{calm-names-none}
-use Rattle.mirror_verdict.specs.declared.mirrored.Mirrored.{Mirrored}
+use Rattle.mirror_command.specs.Stages.{HasServed}
+use Rattle.mirror_command.specs.Verdict.{HasMirrored}
+use Rattle.mirror_command.proofs.Mirroring.{calm-names-none}
+use Rattle.mirror_command.specs.declared.mirrored.Mirrored.{Mirrored}
 use Rattle.rig_api.specs.State.{RigState}
 
 calm : (old new : ℕ) → new ≡ 0 → Calm old new

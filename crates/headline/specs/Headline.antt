@@ -23,15 +23,15 @@ use Rattle.run_follows.specs.Overwrites.{is_overwrite}
 use Rattle.script_text.specs.Bindings.{binding_fault}
 use Rattle.script_text.specs.Language.{script_in}
 use Rattle.script_text.specs.declared.script.Script.{Script}
-use Rattle.script_verdict.specs.Texts.{has_bad}
-use Rattle.script_verdict.specs.Verdict.{AllReadRightly, devices_of, opening_told, setting_told, table_over}
+use Rattle.run_command.specs.Texts.{has_bad}
+use Rattle.run_command.specs.Verdict.{AllReadRightly, devices_of, opening_told, setting_told, table_over}
 use Rattle.mirror_script.specs.MirrorFaults.{mirror_fault}
 use Rattle.mirror_walk.specs.Mirror.{mirror_replies}
 use Rattle.mirror_walk.specs.OneGood.{OneGood, script_asks}
 use Rattle.mirror_walk.specs.Repair.{Repair}
 use Rattle.leg_runs.specs.Standing.{half_of, mirror_setting}
-use Rattle.mirror_verdict.specs.Stages.{repair_over}
-use Rattle.mirror_verdict.specs.Texts.{is_any_lost, mirror_text}
+use Rattle.mirror_command.specs.Stages.{repair_over}
+use Rattle.mirror_command.specs.Texts.{is_any_lost, mirror_text}
 use Rattle.mirror_volume.specs.Enough.{AllReadLast, BothHoldLast}
 use Rattle.report_text.specs.Report.{report}
 use Rattle.dix_run.specs.Verdict.{done_status}

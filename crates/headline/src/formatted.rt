@@ -8,7 +8,7 @@ ghost use Rattle.rig_api.specs.Head.{head_fault, head_of, units_of};
 ghost use Rattle.rig_api.specs.State.{RigState};
 ghost use Rattle.rig_discovery.specs.Discovery.{info_of};
 ghost use Rattle.run_laws.specs.ShownRun.{DevicesAreClean};
-ghost use Rattle.script_verdict.specs.Verdict.{WasAsked, devices_of};
+ghost use Rattle.run_command.specs.Verdict.{WasAsked, devices_of};
 ghost use Rattle.target_answer.specs.Headers.{is_layout};
 ghost use Rattle.target_answer.specs.Image.{formatted};
 ghost use Rattle.target_answer.specs.Target.{Stored};

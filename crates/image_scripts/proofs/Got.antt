@@ -6,8 +6,8 @@ use Rattle.volume_table.specs.declared.device.DeviceInfo.{DeviceInfo}
 use Rattle.stack_ops.specs.declared.reply.Reply.{Reply}
 use Rattle.script_text.specs.declared.script.Script.{Script}
 use Rattle.script_stack.specs.Followed.{HasWalked}
-use Rattle.script_verdict.specs.Premises.{IsFormedRun, IsPlainRun, opening_told, setting_told}
-use Rattle.script_verdict.specs.Verdict.{AllReadRightly, Followed, HasPlain}
+use Rattle.run_command.specs.Premises.{IsFormedRun, IsPlainRun, opening_told, setting_told}
+use Rattle.run_command.specs.Verdict.{AllReadRightly, Followed, HasPlain}
 use Rattle.stack_core.specs.Mediums.{RoseBy, medium_lines}
 use Rattle.rig_api.specs.State.{RigState}
 

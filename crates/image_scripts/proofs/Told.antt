@@ -19,8 +19,8 @@ use Rattle.run_laws.specs.ShownRun.{DevicesAreClean}
 use Rattle.dix_base.specs.Told.{Becomes}
 use Rattle.image_commands.specs.Causes.{WasFormatted}
 use Rattle.image_layout.proofs.Heads.{layout_parts, right_layout}
-use Rattle.script_verdict.specs.Verdict.{WasAsked, devices_of}
-use Rattle.script_verdict.proofs.Devices.{image_devices, headed as head_told, all_specs}
+use Rattle.run_command.specs.Verdict.{WasAsked, devices_of}
+use Rattle.run_command.proofs.Devices.{image_devices, headed as head_told, all_specs}
 use Rattle.image_scripts.specs.Over.{blocks_in, image_with}
 use Rattle.image_scripts.proofs.Cut.{image_is_cut}
 use Rattle.image_scripts.proofs.FreshHead.{units_back}

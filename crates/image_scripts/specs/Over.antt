@@ -13,7 +13,7 @@ use Rattle.run_laws.specs.ShownRun.{DevicesAreClean}
 use Rattle.script_text.specs.Bindings.{binding_fault}
 use Rattle.script_text.specs.Language.{script_in}
 use Rattle.script_text.specs.declared.script.Script.{Script}
-use Rattle.script_verdict.specs.Verdict.{devices_of, opening_told, setting_told, table_over}
+use Rattle.run_command.specs.Verdict.{devices_of, opening_told, setting_told, table_over}
 
 -- the stored blocks of an image, one unit's behind another's
 abbrev pub blocks_in : List ℕ → List (List ℕ)

@@ -35,8 +35,8 @@ use Rattle.script_text.specs.Bindings.{binding_fault}
 use Rattle.script_text.specs.Crossings.{crossing_of, is_read}
 use Rattle.script_text.specs.declared.fault.ScriptFault.{ScriptFault}
 use Rattle.script_text.specs.declared.script.Script.{Script}
-use Rattle.script_verdict.specs.Verdict.{devices_of}
-use Rattle.script_verdict.proofs.Tables.{all_end}
+use Rattle.run_command.specs.Verdict.{devices_of}
+use Rattle.run_command.proofs.Tables.{all_end}
 use Rattle.image_layout.proofs.Heads.{layout_parts}
 use Rattle.image_scripts.specs.Over.{setting_over, volume_over}
 use Rattle.image_scripts.proofs.Told.{devices_back, stored_back}

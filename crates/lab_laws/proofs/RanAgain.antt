@@ -24,8 +24,8 @@ use Rattle.script_laws.proofs.Keeping.{read_keeps}
 use Rattle.script_stack.proofs.Following.{behind}
 use Rattle.script_text.specs.declared.script.Script.{Script}
 use Rattle.source_text.specs.Reading.{most_bytes}
-use Rattle.script_verdict.specs.Verdict.{Facts, HasRun}
-use Rattle.script_verdict.specs.declared.verdict.Finished.{Finished}
+use Rattle.run_command.specs.Verdict.{Facts, HasRun}
+use Rattle.run_command.specs.declared.verdict.Finished.{Finished}
 use Rattle.vector_lines.specs.Printed.{is_sender, out_of, sends}
 use Rattle.vector_lines.specs.Texts.{list_in}
 use Rattle.vector_lines.specs.declared.read.VectorFault.{VectorFault}

@@ -49,8 +49,8 @@ use Rattle.script_ground.proofs.OverUnits.{IsBoundOver, over}
 use Rattle.script_stack.specs.Followed.{HasFallen, failed_in, opening_of, setting_of, unit_of}
 use Rattle.script_stack.proofs.Following.{behind, told-stored}
 use Rattle.rig_api.specs.State.{RigState}
-use Rattle.script_verdict.specs.Verdict.{HasRun}
-use Rattle.script_verdict.specs.declared.verdict.Finished.{Finished}
+use Rattle.run_command.specs.Verdict.{HasRun}
+use Rattle.run_command.specs.declared.verdict.Finished.{Finished}
 use Rattle.vector_runs.specs.Unplayed.{first_overwrite, named, unplayed, unplayed_line}
 use Rattle.run_laws.proofs.Labelled.{each_both}
 use Rattle.lab_laws.specs.Passing.{IsNotCut, RunPasses, VectorsPass, WasTaken, width}

@@ -14,11 +14,11 @@ use Rattle.target_answer.specs.Image.{formatted}
 use Rattle.whole_run.specs.UnderMap.{NoEscape}
 use Rattle.run_premises.specs.Forms.{escapes_none, first_virt, op_of}
 use Rattle.script_laws.specs.Keeping.{Each}
-use Rattle.script_verdict.specs.Working.{IsSound}
+use Rattle.run_command.specs.Working.{IsSound}
 use Rattle.volume_table.specs.Faults.{table_fault}
 use Rattle.volume_table.specs.Places.{place_in}
 use Rattle.script_text.specs.Bindings.{binding_fault}
-use Rattle.script_verdict.specs.Verdict.{devices_of}
+use Rattle.run_command.specs.Verdict.{devices_of}
 use Rattle.image_scripts.specs.Over.{opening_over, setting_over, volume_over}
 use Rattle.flip_sweep.specs.Comes.{came_to}
 use Rattle.flip_sweep.specs.Flips.{own_fault, sites_of}

@@ -1,8 +1,8 @@
 //! The images that calls are made over.
 
-use dix_words::unit_of;
-use row_table::{bytes_of, cut, number};
-use scripted_rig::formatted;
+use command_line::unit_of;
+use test_table::{bytes_of, cut, number};
+use test_rig::formatted;
 use std::alloc::{AllocError, Global};
 
 /// The images that rows go over: the first, and the second of a `diff`.

@@ -1,6 +1,6 @@
 //! The lines of a row by their first words, their marks.
 
-use row_table::{bytes_of, cut, hex_of};
+use test_table::{bytes_of, cut, hex_of};
 use std::alloc::{AllocError, Global};
 
 /// The marks of lines of images.

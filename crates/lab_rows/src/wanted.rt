@@ -2,7 +2,7 @@
 
 use crate::calls::Came;
 use crate::lines::{add_line, behind, has, text};
-use row_table::number;
+use test_table::number;
 use std::alloc::{AllocError, Global};
 
 /// The status that a row wants: 0 where it says none.

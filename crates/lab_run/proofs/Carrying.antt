@@ -6,7 +6,7 @@ use Rattle.image_blocks.specs.declared.stretch.Stretch.{Stretch}
 use Rattle.image_blocks.specs.Places.{spec_of}
 use Rattle.image_dumps.specs.Dumps.{fits}
 use Rattle.image_dumps.specs.declared.fault.ImportFault.TheVariants as halt
-use Rattle.dix_words.specs.Grammar.{image_in}
+use Rattle.command_line.specs.Grammar.{image_in}
 use Rattle.image_diff.specs.Compared.{Places, differ_of}
 use Rattle.image_show.specs.Shown.{bad_of}
 use Rattle.lab_words.specs.declared.command.Command.{Command}
@@ -33,8 +33,8 @@ use Rattle.lab_run.proofs.Vectoring.{plays, vectors_reads, vectors_rig}
 use Rattle.lab_run.proofs.Explains.{explained_reads, explained_rig, explains_run}
 use Rattle.lab_run.proofs.Judges.{judges_text}
 use Rattle.target_model.proofs.Bytes.{rise as rose_from}
-use Rattle.script_verdict.proofs.Completing.{never_rose}
-use Rattle.script_verdict.proofs.Devices.{headed as head_is}
+use Rattle.run_command.proofs.Completing.{never_rose}
+use Rattle.run_command.proofs.Devices.{headed as head_is}
 
 -- ---- statuses
 

@@ -1,7 +1,7 @@
 -- The verdicts of `explain` with an image.
 use Rattle.std.proofs.Common.{ℕ, ◌≡◌, ◌≤◌, ◌⊎◌, inl, inr, Bool, true, false, List, drop, Option, Some, None, Ok, refl, sym, ap, subst, ◌∙◌, arith}
 use Rattle.dix_base.specs.Told.{Calm, Rose}
-use Rattle.dix_words.specs.Grammar.{image_in}
+use Rattle.command_line.specs.Grammar.{image_in}
 use Rattle.image_commands.specs.Causes.{CauseUntold, HasOpened}
 use Rattle.image_commands.specs.Views.{OpenedOnce}
 use Rattle.lab_words.specs.declared.command.Command.{Command}
@@ -19,12 +19,12 @@ use Rattle.script_text.specs.Bindings.{binding_fault}
 use Rattle.script_text.specs.Language.{script_in}
 use Rattle.script_text.specs.declared.script.Script.{Script}
 use Rattle.call_refusal.specs.Texts.{refusal_text as stop_text}
-use Rattle.script_verdict.specs.Texts.{has_bad}
-use Rattle.script_verdict.specs.Verdict.{CauseRefused, CauseStopped, Facts as Call, HasRun, StoppedShort, devices_of, table_over}
+use Rattle.run_command.specs.Texts.{has_bad}
+use Rattle.run_command.specs.Verdict.{CauseRefused, CauseStopped, Facts as Call, HasRun, StoppedShort, devices_of, table_over}
 use Rattle.call_refusal.specs.declared.refusal.Refusal.{Refusal as Stop}
 use Rattle.call_refusal.specs.declared.refusal.Refusal.TheVariants as stop
-use Rattle.script_verdict.specs.declared.verdict.Finished.{Finished}
-use Rattle.script_verdict.proofs.Completing.{never_rose}
+use Rattle.run_command.specs.declared.verdict.Finished.{Finished}
+use Rattle.run_command.proofs.Completing.{never_rose}
 use Rattle.volume_table.specs.Faults.{table_fault}
 use Rattle.lab_words.specs.Grammar.{command_in}
 use Rattle.lab_run.specs.Calls.{Facts, Held, on_rig}

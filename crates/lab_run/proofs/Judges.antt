@@ -27,8 +27,8 @@ use Rattle.lab_run.specs.declared.status.Status.{Status}
 use Rattle.lab_run.specs.declared.status.Status.TheVariants as status
 use Rattle.lab_run.proofs.Endings.{ended_refused, keeps_rig}
 use Rattle.rig_api.specs.State.{RigState}
-use Rattle.script_verdict.proofs.Completing.{never_rose}
-use Rattle.script_verdict.proofs.Refusing.{within}
+use Rattle.run_command.proofs.Completing.{never_rose}
+use Rattle.run_command.proofs.Refusing.{within}
 use Rattle.run_words.proofs.Marking.{over, too_long}
 
 kept : (words : List (List ℕ)) (h : Held) (left left' : Option (List ℕ)) (reads reads' : ℕ) (rig : RigState) (second : Held) → command_in words ≡ Some Judge → reads ≤ reads' → Keeps (on_input words h h left left' reads reads' rig second)

@@ -16,8 +16,8 @@ use Rattle.script_text.specs.Language.{script_in}
 use Rattle.script_text.specs.declared.fault.ScriptFault.{ScriptFault}
 use Rattle.script_text.specs.declared.script.Script.{Script}
 use Rattle.call_refusal.specs.Texts.{refusal_text}
-use Rattle.script_verdict.proofs.Completing.{never_rose, untaken_for_memory}
-use Rattle.script_verdict.specs.Verdict.{CauseUntaken, Facts as Call, HasRead, devices_of, table_over}
+use Rattle.run_command.proofs.Completing.{never_rose, untaken_for_memory}
+use Rattle.run_command.specs.Verdict.{CauseUntaken, Facts as Call, HasRead, devices_of, table_over}
 use Rattle.call_refusal.specs.declared.refusal.Refusal.{Refusal}
 use Rattle.call_refusal.specs.declared.refusal.Refusal.TheVariants as refusal
 use Rattle.source_text.proofs.Taking.{whole_text}

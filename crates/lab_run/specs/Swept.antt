@@ -10,7 +10,7 @@ use Rattle.script_text.specs.Language.{script_in}
 use Rattle.script_text.specs.declared.fault.ScriptFault.{ScriptFault}
 use Rattle.script_text.specs.declared.script.Script.{Script}
 use Rattle.call_refusal.specs.Texts.{refusal_text}
-use Rattle.script_verdict.specs.Verdict.{CauseUntaken, HasRead, devices_of, table_over}
+use Rattle.run_command.specs.Verdict.{CauseUntaken, HasRead, devices_of, table_over}
 use Rattle.call_refusal.specs.declared.refusal.Refusal.{Refusal}
 use Rattle.call_refusal.specs.declared.refusal.Refusal.TheVariants as refusal
 use Rattle.target_answer.specs.Image.{formatted}

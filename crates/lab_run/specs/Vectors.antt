@@ -1,6 +1,6 @@
 use Rattle.std.specs.Prelude.{ℕ, ◌≡◌, ◌⊎◌, true, false, List, ◌++◌, length, Some, None, Ok}
 use Rattle.dix_base.specs.Told.{Calm}
-use Rattle.dix_words.specs.Grammar.{image_in}
+use Rattle.command_line.specs.Grammar.{image_in}
 use Rattle.rig_api.specs.Head.{head_fault, head_of, units_of}
 use Rattle.rig_api.specs.Log.{Entry}
 use Rattle.rig_api.specs.declared.rig.RigFault.{RigFault}
@@ -9,7 +9,7 @@ use Rattle.script_text.specs.Language.{script_in}
 use Rattle.script_text.specs.declared.fault.ScriptFault.{ScriptFault}
 use Rattle.script_text.specs.declared.script.Script.{Script}
 use Rattle.call_refusal.specs.Texts.{refusal_text as stop_text}
-use Rattle.script_verdict.specs.Verdict.{Facts as PlayFacts, devices_of, table_over}
+use Rattle.run_command.specs.Verdict.{Facts as PlayFacts, devices_of, table_over}
 use Rattle.call_refusal.specs.declared.refusal.Refusal.{Refusal as Stop}
 use Rattle.script_words.specs.Cuts.{lines_of}
 use Rattle.vector_lines.specs.Texts.{is_list, list_in}

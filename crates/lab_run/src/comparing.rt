@@ -1,7 +1,7 @@
 //! Comparing places of two images.
 
 ghost use Rattle.std.specs.Prelude.{◌≡◌, ℕ, List, Option, Some, eqb};
-ghost use Rattle.dix_words.specs.Grammar.{word_bytes};
+ghost use Rattle.command_line.specs.Grammar.{word_bytes};
 ghost use Rattle.image_blocks.specs.Images.{units_open};
 ghost use Rattle.image_blocks.specs.Places.{IsStretch, spec_of};
 ghost use Rattle.lab_words.specs.declared.command.Command.{Command};
@@ -15,7 +15,7 @@ use crate::refusal::Refusal;
 use crate::showing::stretch_of;
 use crate::status::Status;
 use dix_base::{Sink, Store};
-use dix_words::image_of;
+use command_line::image_of;
 use image_blocks::{Image, Stretch, open_image};
 use image_diff::{DiffFault, diff_blocks};
 use lab_words::Place;

@@ -1,11 +1,11 @@
 //! Explaining the run of a script.
 
 ghost use Rattle.std.specs.Prelude.{◌≡◌, ◌≤◌, Some, drop, length};
-ghost use Rattle.dix_words.specs.Grammar.{word_bytes};
+ghost use Rattle.command_line.specs.Grammar.{word_bytes};
 ghost use Rattle.lab_words.specs.declared.command.Command.{Command};
 ghost use Rattle.run_words.specs.Sites.{Guides};
 ghost use Rattle.run_words.specs.Texts.{explained_by};
-ghost use Rattle.script_verdict.specs.Texts.{has_bad};
+ghost use Rattle.run_command.specs.Texts.{has_bad};
 ghost use Rattle.lab_words.specs.Grammar.{command_in};
 ghost use Rattle.lab_run.specs.Calls.{Held, on_rig};
 ghost use Rattle.lab_run.specs.Verdict.{Ended, Written, done_status};
@@ -14,7 +14,7 @@ use crate::program::{finish, status_for};
 use crate::status::Status;
 use crate::stopping::stop;
 use dix_base::{Failed, Sink, Source};
-use dix_words::image_of;
+use command_line::image_of;
 use rig_api::Rig;
 use run_words::{Explained, Unexplained, explain_source, print_explained};
 use std::alloc::Global;

@@ -1,7 +1,7 @@
 //! The vectors of a text.
 
 ghost use Rattle.std.specs.Prelude.{◌≡◌, Some, drop};
-ghost use Rattle.dix_words.specs.Grammar.{word_bytes};
+ghost use Rattle.command_line.specs.Grammar.{word_bytes};
 ghost use Rattle.lab_words.specs.declared.command.Command.{Command};
 ghost use Rattle.vector_runs.specs.ListText.{has_sense};
 ghost use Rattle.vector_runs.specs.Played.{AreLogged, first_of, played_text};
@@ -14,7 +14,7 @@ use crate::program::status_for;
 use crate::status::Status;
 use crate::stopping::stop;
 use dix_base::{Failed, Sink, Source};
-use dix_words::image_of;
+use command_line::image_of;
 use rig_api::Rig;
 use std::alloc::Global;
 use vector_runs::{Played, play_source, print_played};

@@ -1,7 +1,7 @@
 //! Sweeping a script.
 
 ghost use Rattle.std.specs.Prelude.{◌≡◌, Some};
-ghost use Rattle.dix_words.specs.Grammar.{word_bytes};
+ghost use Rattle.command_line.specs.Grammar.{word_bytes};
 ghost use Rattle.rig_api.specs.State.{RigState};
 ghost use Rattle.lab_words.specs.declared.command.Command.{Command};
 ghost use Rattle.lab_words.specs.Grammar.{command_in};
@@ -13,9 +13,9 @@ use crate::program::status_for;
 use crate::status::Status;
 use crate::stopping::stop;
 use dix_base::{Sink, Source};
-use dix_words::UnitList;
+use command_line::UnitList;
 use flip_sweep::{Halt, Unswept, sweep_script};
-use script_verdict::take_script;
+use run_command::take_script;
 use std::alloc::Global;
 
 /// The status of a sweep that was broken off.

@@ -3,8 +3,8 @@ use Rattle.std.specs.Prelude.{String}
 use Rattle.std.specs.List.{list_all}
 use Rattle.target_answer.specs.Headers.{is_layout, is_spec}
 use Rattle.target_answer.specs.declared.units.UnitSpec.{UnitSpec}
-use Rattle.dix_words.specs.Grammar.{units_in, with_unit, word_bytes}
-use Rattle.dix_words.specs.Units.{unit_in}
+use Rattle.command_line.specs.Grammar.{units_in, with_unit, word_bytes}
+use Rattle.command_line.specs.Units.{unit_in}
 use Rattle.lab_words.specs.Grammar.{laid_out}
 
 -- the units so far, with those that follow

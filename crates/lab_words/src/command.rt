@@ -2,14 +2,14 @@
 
 ghost use Rattle.std.specs.Prelude.{◌≡◌, IfNone, IfSome, None, Some, option_map, string_bytes};
 ghost use Rattle.std.specs.Str.{bytes_eq};
-ghost use Rattle.dix_words.specs.Grammar.{word_bytes};
+ghost use Rattle.command_line.specs.Grammar.{word_bytes};
 ghost use Rattle.lab_words.specs.Grammar.{alone, behind_image, command_by, command_in, diff_of, explain_of, export_of, flip_in, image_and_place, import_of, laid_in, layout_alone, show_of, shown, sweep_of, vectors_of};
-ghost use Rattle.dix_words.specs.Grammar.{is_name};
+ghost use Rattle.command_line.specs.Grammar.{is_name};
 
 use crate::layout::{Layout, layout_of};
 use crate::place::{Place, place_of};
 use crate::unit_words::laid_out;
-use dix_words::UnitList;
+use command_line::UnitList;
 use script_words::byte;
 
 /// A command of the program. Those that work on an image name it by the word behind their own, and

@@ -1,11 +1,11 @@
 //! The words of units, as `dix format` takes them.
 
 ghost use Rattle.std.specs.Prelude.{◌≡◌, ◌≤◌, length, option_map};
-ghost use Rattle.dix_words.specs.Grammar.{units_in, word_bytes};
+ghost use Rattle.command_line.specs.Grammar.{units_in, word_bytes};
 ghost use Rattle.lab_words.specs.Grammar.{laid_out};
 
 use arrayvec::ArrayVec;
-use dix_words::{UnitList, unit_of};
+use command_line::{UnitList, unit_of};
 use target_answer::{UnitSpec, is_layout};
 
 /// The units of at most eight words.

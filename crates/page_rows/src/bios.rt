@@ -7,8 +7,8 @@ use crate::kinds::dir_word;
 use crate::scene::Scene;
 use bio_core::{Bio, Io};
 use integrity_payload::Payload;
-use page_checks::is_payload;
-use row_table::Words;
+use test_pages::is_payload;
+use test_table::Words;
 use std::alloc::{AllocError, Global};
 
 /// Whether the request has tuples for each of its blocks, or none.

@@ -4,7 +4,7 @@ ghost use Rattle.std.specs.Prelude.{◌≡◌, ◌<◌, IfOk, length, vec_len};
 
 use crate::kinds::seg_of;
 use range_gate::{Footprint, Gate, Reach, Touch, TouchList};
-use row_table::{number, small};
+use test_table::{number, small};
 use std::alloc::{AllocError, Global};
 
 /// The word without its last letter, and whether that is a w.

@@ -6,7 +6,7 @@ use bio_core::Dir;
 use page_pool::Seg;
 use pi_guard::GuardKind;
 use pi_tuple::PiType;
-use row_table::small;
+use test_table::small;
 use std::alloc::{AllocError, Global};
 
 /// The segment of a word PAGE:OFFSET:LENGTH.

@@ -18,5 +18,5 @@ use table::Table;
 
 fn main(rt: HostRuntime) -> io::Result<()> {
     let mut table = Table::new(rt.alloc())?;
-    row_table::read_table(&rt, &mut table)
+    test_table::read_table(&rt, &mut table)
 }

@@ -5,11 +5,11 @@ ghost use Rattle.stack_ops.specs.Footprints.{IsShortPut};
 
 use crate::gates::waits;
 use dix_base::ByteList;
-use page_checks::list_of;
+use test_pages::list_of;
 use page_pool::{Seg, SgList};
 use range_gate::Footprint;
 use rig_api::Change;
-use row_table::Words;
+use test_table::Words;
 use stack_ops::{Op, footprint_of};
 use std::alloc::{AllocError, Global};
 

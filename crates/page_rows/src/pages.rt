@@ -6,9 +6,9 @@ ghost use Rattle.page_pool.specs.Places.{NoneTwice, places_in, range_of, total};
 
 use crate::kinds::seg_of;
 use crate::scene::Scene;
-use page_checks::{all_lie, lies, none_twice};
+use test_pages::{all_lie, lies, none_twice};
 use page_pool::{PagePool, Seg, SgList};
-use row_table::{Words, hex_of};
+use test_table::{Words, hex_of};
 use std::alloc::{AllocError, Global};
 
 /// Whether the list lies in the pool and has so many bytes from this one on.

@@ -5,7 +5,7 @@ use crate::kinds::{dir_of, fits};
 use crate::scene::NO_BIO;
 use bio_core::Bio;
 use merge_queue::{DeviceQueue, Limits};
-use row_table::{Words, cut};
+use test_table::{Words, cut};
 use std::alloc::{AllocError, Global};
 use std::marker::Model;
 

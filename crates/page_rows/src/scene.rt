@@ -5,9 +5,9 @@ use crate::pages::{put, scatter, zero};
 use crate::tuples;
 use bio_core::{Bio, Dir, Io};
 use integrity_payload::{Owner, Payload};
-use page_checks::list_of;
+use test_pages::list_of;
 use page_pool::{PagePool, SgList};
-use row_table::{Words, bytes_of, cut, small, tag_of};
+use test_table::{Words, bytes_of, cut, small, tag_of};
 use std::alloc::{AllocError, Global};
 
 /// The pool, a request whose data and tuples may lie in it, and a bio of it.

@@ -4,7 +4,7 @@ use crate::crowd::Crowd;
 use crate::queues::Device;
 use crate::scene::Scene;
 use crate::{bios, gates, ops, pages, tuples};
-use row_table::{Judge, cut, small};
+use test_table::{Judge, cut, small};
 use std::alloc::{AllocError, Global};
 
 /// The pages and the request, a queue, and a gate.

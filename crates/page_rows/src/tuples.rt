@@ -9,11 +9,11 @@ use crate::kinds::{fits, guard_of, type_of};
 use crate::scene::Scene;
 use bio_core::Io;
 use integrity_payload::Payload;
-use page_checks::{all_lie, are_apart, is_payload, none_twice};
+use test_pages::{all_lie, are_apart, is_payload, none_twice};
 use page_pool::{PagePool, SgList};
 use pi_tuple::{Check, Tuple};
 use ref_remap::{map_back, map_out};
-use row_table::{Words, array_of, hex_of, tag_of};
+use test_table::{Words, array_of, hex_of, tag_of};
 use std::alloc::{AllocError, Global};
 
 /// Whether the payload's tuples lie in the pool.
@@ -148,7 +148,7 @@ pub(crate) fn answer(
         return Ok(None);
     };
     match word {
-        "tuple" => tuple_text(alloc, &scene.pool, pi, row_table::small(rest)),
+        "tuple" => tuple_text(alloc, &scene.pool, pi, test_table::small(rest)),
         "verify" => match found(&scene.pool, &scene.io, pi, rest) {
             Some(word) => Ok(Some(String::from_str(alloc, word)?)),
             None => Ok(None),

@@ -6,8 +6,8 @@ use crate::images::rig_over;
 use crate::units::{sense_of, type_word};
 use rig_api::{Outcome, Rig};
 use rig_discovery::discover;
-use row_table::{Words, bytes_of};
-use scripted_rig::{Answer, ScriptedRig};
+use test_table::{Words, bytes_of};
+use test_rig::{Answer, ScriptedRig};
 use std::alloc::{AllocError, Global};
 use volume_table::DeviceInfo;
 

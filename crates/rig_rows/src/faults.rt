@@ -2,7 +2,7 @@
 
 use arrayvec::ArrayVec;
 use fault_schedule::{Crossing, FaultKind, FaultLine, FaultList, ShortBytes, Tamper};
-use row_table::Words;
+use test_table::Words;
 use std::alloc::{AllocError, Global};
 
 fn crossing_of(word: &str) -> Option<Crossing> {

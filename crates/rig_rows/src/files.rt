@@ -9,7 +9,7 @@ use dix_base::FileStore;
 use fault_schedule::ShortBytes;
 use image_rig::ImageRig;
 use rig_api::{Change, Rig};
-use row_table::{Words, bytes_of, hex_of};
+use test_table::{Words, bytes_of, hex_of};
 use std::alloc::{AllocError, Global};
 use std::{env, fs, io, process};
 use target_answer::is_layout;

@@ -7,7 +7,7 @@ use dix_base::MemStore;
 use fault_schedule::Label;
 use image_rig::ImageRig;
 use rig_api::{Outcome, Rig, RigFault, blocks_of};
-use row_table::{Words, bytes_of, hex_of, small};
+use test_table::{Words, bytes_of, hex_of, small};
 use std::alloc::{AllocError, Global};
 
 const LABELS: [Label; 2] = [Label { op: 3, k: 0 }, Label { op: 3, k: 1 }];
@@ -32,7 +32,7 @@ pub(crate) fn rig_over(
 /// The formatted image of these units, which is empty where there can be none.
 fn image_of(alloc: Global, words: &str) -> Result<Vec<u8>, AllocError> {
     let units = units_of(words);
-    scripted_rig::formatted(alloc, &units)
+    test_rig::formatted(alloc, &units)
 }
 
 fn copy(alloc: Global, bytes: &[u8]) -> Result<Vec<u8>, AllocError> {
@@ -144,7 +144,7 @@ impl Images {
                 self.image = image_of(alloc, rest)?;
                 0
             }
-            "rig" => row_table::number(rest),
+            "rig" => test_table::number(rest),
             _ => return Ok(false),
         };
         self.rig = rig_over(alloc, copy(alloc, &self.image)?, fail)?;

@@ -4,7 +4,7 @@ use block_path::Mode;
 use mode_map::modes_text;
 use pi_guard::GuardKind;
 use pi_tuple::PiType;
-use row_table::{Words, tag_of};
+use test_table::{Words, tag_of};
 use std::alloc::{AllocError, Global};
 
 fn guard_of(word: &str) -> GuardKind {

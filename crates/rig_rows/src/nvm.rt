@@ -4,7 +4,7 @@ use nvme_front::{Completion, NvmFront};
 use nvme_session::{NvmReply, do_command, front_of};
 use pi_guard::crc16;
 use rig_api::Rig;
-use row_table::{Words, bytes_of, hex_of};
+use test_table::{Words, bytes_of, hex_of};
 use std::alloc::{AllocError, Global};
 
 /// The 64 bytes of a command, in pieces.

@@ -6,7 +6,7 @@ use image_blocks::{
     Image, PlaceFault, Stretch, block_bytes, open_image, part_of, read_blocks, whole_of,
     write_blocks,
 };
-use row_table::{Words, hex_of};
+use test_table::{Words, hex_of};
 use std::alloc::{AllocError, Global};
 
 /// A copy of the image in a store that fails at this call, or never where it is 0.

@@ -7,7 +7,7 @@ use crate::units::type_of;
 use crate::ways::Way;
 use crate::{capacity, nvm, stretches};
 use nvme_front::NvmFront;
-use row_table::{Judge, cut};
+use test_table::{Judge, cut};
 use std::alloc::{AllocError, Global};
 
 /// An image in memory, a front of its units, an image in a file, and the way of a block.

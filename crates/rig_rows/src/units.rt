@@ -3,7 +3,7 @@
 use arrayvec::ArrayVec;
 use pi_tuple::PiType;
 use rig_api::{Outcome, RigFault, UnitSpec};
-use row_table::{array_of, hex_of, number, small};
+use test_table::{array_of, hex_of, number, small};
 use sense_codes::Sense;
 use std::alloc::{AllocError, Global};
 

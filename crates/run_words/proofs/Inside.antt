@@ -26,11 +26,11 @@ use Rattle.whole_run.specs.ScriptWalk.{acts_of, bad_from, replies_from, reply_of
 use Rattle.whole_run.specs.Settings.{Setting}
 use Rattle.whole_run.specs.Steps.{Step, each_from, steps_of}
 use Rattle.whole_run.proofs.InSteps.{each_length}
-use Rattle.script_verdict.specs.Verdict.{HasRun}
+use Rattle.run_command.specs.Verdict.{HasRun}
 use Rattle.run_words.specs.Explained.{WasExplained}
 use Rattle.run_words.specs.Sites.{AreInside, Guides, IsGuideOf, IsInside, first_block, sites_from, sites_of}
 use Rattle.run_words.specs.declared.guide.Guide.{Guide}
-use Rattle.script_verdict.specs.declared.verdict.Finished.{Finished}
+use Rattle.run_command.specs.declared.verdict.Finished.{Finished}
 use Rattle.run_words.specs.declared.guide.OpSite.{OpSite}
 
 long_tells : (acts : List (Act Answer)) (s : State) → length (plain_tells act tell acts s) ≡ length acts

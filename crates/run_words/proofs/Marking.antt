@@ -8,11 +8,11 @@ use Rattle.script_lines.specs.declared.kind.ScriptKind.TheVariants.{TooMany}
 use Rattle.script_text.specs.Language.{lines_read, nothing_read, script_in}
 use Rattle.script_text.specs.declared.fault.ScriptFault.{ScriptFault}
 use Rattle.script_text.specs.declared.script.Script.{Script}
-use Rattle.script_verdict.proofs.Completing.{complete}
-use Rattle.script_verdict.specs.Verdict.{CauseRefused, Facts, HasRead, HoldsFault, IsFromOutside, devices_of, table_over}
+use Rattle.run_command.proofs.Completing.{complete}
+use Rattle.run_command.specs.Verdict.{CauseRefused, Facts, HasRead, HoldsFault, IsFromOutside, devices_of, table_over}
 use Rattle.call_refusal.specs.declared.refusal.Refusal.{Refusal}
 use Rattle.call_refusal.specs.declared.refusal.Refusal.TheVariants as refusal
-use Rattle.script_verdict.proofs.Refusing.{within}
+use Rattle.run_command.proofs.Refusing.{within}
 use Rattle.rig_api.specs.Head.{head_fault, head_of}
 use Rattle.rig_api.specs.State.{RigState}
 use Rattle.script_text.specs.Bindings.{binding_fault}

@@ -7,7 +7,7 @@ use Rattle.script_text.specs.Bindings.{binding_fault}
 use Rattle.script_text.specs.Language.{script_in}
 use Rattle.script_text.specs.declared.fault.ScriptFault.{ScriptFault}
 use Rattle.script_text.specs.declared.script.Script.{Script}
-use Rattle.script_verdict.specs.Verdict.{CauseRefused, CauseStopped, Facts, HasRead, HasRun, IsFromOutside, IsUnbound, devices_of, table_over}
+use Rattle.run_command.specs.Verdict.{CauseRefused, CauseStopped, Facts, HasRead, HasRun, IsFromOutside, IsUnbound, devices_of, table_over}
 use Rattle.call_refusal.specs.declared.refusal.Refusal.{Refusal}
 use Rattle.call_refusal.specs.declared.refusal.Refusal.TheVariants as refusal
 use Rattle.source_text.specs.Reading.{IsWhole, most_bytes}

@@ -4,8 +4,8 @@ ghost use Rattle.std.specs.Prelude.{◌≡◌, ◌≤◌, Err, IfErr, IfOk, List
 ghost use Rattle.fault_marks.specs.Texts.{marked_text};
 ghost use Rattle.script_lines.specs.declared.kind.ScriptKind.{ScriptKind};
 ghost use Rattle.script_text.specs.Language.{script_in};
-ghost use Rattle.script_verdict.specs.Verdict.{Facts};
-ghost use Rattle.script_verdict.specs.Working.{IsSound};
+ghost use Rattle.run_command.specs.Verdict.{Facts};
+ghost use Rattle.run_command.specs.Working.{IsSound};
 ghost use Rattle.run_words.specs.Explained.{CauseUnexplained, CauseUnrun, ExplainsText, HasExplained, IsComplete, IsHaltOf, IsSaid, WasExplained};
 
 use crate::guide::Guide;
@@ -15,7 +15,7 @@ use fault_marks::marked_text;
 use rig_api::Rig;
 use script_laws::a_read_script_keeps_the_rules;
 use script_text::{Script, ScriptFault, ScriptKind, read_script};
-use script_verdict::{Finished, run_script};
+use run_command::{Finished, run_script};
 use source_text::{Unread, read_all};
 use std::alloc::Global;
 

@@ -2,7 +2,7 @@
 
 ghost use Rattle.std.specs.Prelude.{◌≡◌, IfOk};
 ghost use Rattle.run_words.specs.Sites.{IsGuideOf, first_block, site_of, sites_from};
-ghost use Rattle.script_verdict.specs.Working.{IsSound};
+ghost use Rattle.run_command.specs.Working.{IsSound};
 
 use script_text::Script;
 use stack_ops::Op;

@@ -13,7 +13,7 @@ use crate::listed::print_all_listed;
 use crate::records::print_records;
 use dix_base::{Failed, Sink};
 use rig_api::Rig;
-use script_verdict::print_run;
+use run_command::print_run;
 use stack_ops::Reply;
 use volume_table::Entry;
 

@@ -2,7 +2,7 @@
 
 use crate::reading::{numbers_text, wanted};
 use pi_guard::crc16;
-use row_table::{cut, hex_of, small, text_of};
+use test_table::{cut, hex_of, small, text_of};
 use script_text::{Script, ScriptKind, big_script, print_script, read_script};
 use std::alloc::{AllocError, Global};
 

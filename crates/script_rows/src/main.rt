@@ -8,7 +8,7 @@ mod generated;
 mod reading;
 mod table;
 
-use row_table::read_table;
+use test_table::read_table;
 use std::io;
 use table::Table;
 

@@ -5,7 +5,7 @@ use crate::forming::formed_row;
 use crate::generated::generated_row;
 use crate::reading::{numbers_row, printed_row, read_row};
 use pi_tuple::PiType;
-use row_table::{Judge, cut, small, text_of};
+use test_table::{Judge, cut, small, text_of};
 use std::alloc::{AllocError, Global};
 use volume_table::DeviceInfo;
 

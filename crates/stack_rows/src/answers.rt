@@ -2,8 +2,8 @@
 
 use pi_tuple::PiType;
 use rig_api::Outcome;
-use row_table::{array_of, cut};
-use scripted_rig::Answer;
+use test_table::{array_of, cut};
+use test_rig::Answer;
 use sense_codes::Sense;
 use std::alloc::{AllocError, Global};
 use target_answer::UnitSpec;

@@ -1,9 +1,9 @@
 //! A formatted image in memory.
 
 use dix_base::MemStore;
-use dix_words::unit_of;
+use command_line::unit_of;
 use image_rig::ImageRig;
-use scripted_rig::formatted;
+use test_rig::formatted;
 use std::alloc::{AllocError, Global};
 use target_answer::UnitSpec;
 

@@ -9,7 +9,7 @@ mod row;
 mod runs;
 mod table;
 
-use row_table::read_table;
+use test_table::read_table;
 use std::io;
 use table::Table;
 

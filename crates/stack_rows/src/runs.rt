@@ -1,19 +1,19 @@
 //! What comes of a row.
 
-ghost use Rattle.script_verdict.specs.Working.{IsSound};
+ghost use Rattle.run_command.specs.Working.{IsSound};
 
 use crate::answers::answers_by;
 use crate::image::Image;
 use crate::row::{Row, add_line};
 use call_refusal::Refusal;
 use dix_base::MemSink;
-use mirror_verdict::{print_mirrored, run_mirror};
+use mirror_command::{print_mirrored, run_mirror};
 use report_text::print_trace;
 use rig_api::Rig;
 use script_laws::a_read_script_keeps_the_rules;
 use script_text::{Script, ScriptFault, read_script};
-use script_verdict::{Finished, print_run, run_script};
-use scripted_rig::ScriptedRig;
+use run_command::{Finished, print_run, run_script};
+use test_rig::ScriptedRig;
 use std::alloc::{AllocError, Global};
 
 /// The most bytes of a report or a trace.

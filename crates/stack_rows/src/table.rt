@@ -3,7 +3,7 @@
 use crate::image::Image;
 use crate::row::{Row, add_line};
 use crate::runs::came_of;
-use row_table::{Judge, cut};
+use test_table::{Judge, cut};
 use std::alloc::{AllocError, Global};
 
 /// The image from here on, and the row that is read.

@@ -1,6 +1,6 @@
 //! The words that the program is called with.
 
-use dix_words::{Command, UnitList, command_of, image_of};
+use command_line::{Command, UnitList, command_of, image_of};
 use pi_tuple::PiType;
 use std::alloc::{AllocError, Global};
 

@@ -13,7 +13,7 @@ mod sinks;
 mod table;
 mod words;
 
-use row_table::read_table;
+use test_table::read_table;
 use std::io;
 use table::Table;
 

@@ -2,7 +2,7 @@
 
 use bio_core::Why;
 use pi_tuple::Check;
-use row_table::array_of;
+use test_table::array_of;
 use stack_ops::{BadBlock, BadList};
 use std::alloc::{AllocError, Global};
 

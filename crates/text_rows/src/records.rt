@@ -5,10 +5,10 @@ ghost use Rattle.rig_api.specs.Log.{has_key};
 
 use crate::senses::sense_of;
 use crate::sinks::{left, sink_of};
-use answer_rig::AnswerRig;
+use test_answers::AnswerRig;
 use report_text::print_trace;
 use rig_api::{Outcome, Rig, blocks_of};
-use row_table::{bytes_of, cut, small};
+use test_table::{bytes_of, cut, small};
 use sense_codes::Sense;
 use std::alloc::{AllocError, Global};
 

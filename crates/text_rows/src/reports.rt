@@ -4,7 +4,7 @@ use crate::reasons::blocks_of;
 use crate::sinks::{left, sink_of};
 use dix_base::ByteList;
 use report_text::print_report;
-use row_table::{bytes_of, cut, small};
+use test_table::{bytes_of, cut, small};
 use stack_ops::Reply;
 use std::alloc::{AllocError, Global};
 

@@ -7,7 +7,7 @@ use image_rig::ImageRig;
 use pi_tuple::PiType;
 use report_text::print_trace;
 use rig_api::{Rig, UnitSpec};
-use row_table::{cut, small};
+use test_table::{cut, small};
 use std::alloc::{AllocError, Global};
 use target_answer::is_layout;
 

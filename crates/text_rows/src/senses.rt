@@ -1,6 +1,6 @@
 //! Senses, as a row writes them.
 
-use row_table::array_of;
+use test_table::array_of;
 use sense_codes::Sense;
 
 /// The sense of a word: key, code and qualifier in hexadecimal, and behind @ the information, if it has any; none of

@@ -2,7 +2,7 @@
 
 use crate::words::quoted;
 use dix_base::{Failed, MemSink};
-use row_table::number;
+use test_table::number;
 use std::alloc::{AllocError, Global};
 
 /// A sink with room for so many bytes, of which the call of this number fails, or none for 0.

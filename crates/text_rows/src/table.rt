@@ -6,7 +6,7 @@ use crate::records::record_row;
 use crate::reports::{replies_of, report_row};
 use crate::scrubs::trace_row;
 use crate::words::word_row;
-use row_table::{Judge, cut, text_of};
+use test_table::{Judge, cut, text_of};
 use stack_ops::Reply;
 use std::alloc::{AllocError, Global};
 

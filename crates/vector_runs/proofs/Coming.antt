@@ -7,9 +7,9 @@ use Rattle.rig_api.specs.Telling.{Standing}
 use Rattle.rig_api.specs.State.{RigState}
 use Rattle.rig_discovery.specs.Discovery.{looks}
 use Rattle.script_text.specs.declared.script.Script.{Script}
-use Rattle.script_verdict.specs.Verdict.{CauseStopped, Facts, HasRun}
+use Rattle.run_command.specs.Verdict.{CauseStopped, Facts, HasRun}
 use Rattle.call_refusal.specs.declared.refusal.Refusal.{Refusal}
-use Rattle.script_verdict.specs.declared.verdict.Finished.{Finished}
+use Rattle.run_command.specs.declared.verdict.Finished.{Finished}
 use Rattle.vector_lines.specs.declared.line.VectorLine.{VectorLine}
 use Rattle.vector_runs.specs.Done.{AreRecords}
 use Rattle.vector_runs.specs.Played.{AreLogged, CauseNotPlayed, HasCome, HasPlayed, ListPlayed, ScriptPlayed, first_of}

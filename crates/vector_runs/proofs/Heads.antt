@@ -15,9 +15,9 @@ use Rattle.rig_api.specs.declared.rig.RigFault.{RigFault}
 use Rattle.rig_api.specs.State.{RigState}
 use Rattle.script_text.specs.declared.fault.ScriptFault.{ScriptFault}
 use Rattle.script_text.specs.declared.script.Script.{Script}
-use Rattle.script_verdict.proofs.Completing.{never_rose, no_head_fault}
-use Rattle.script_verdict.proofs.Devices.{headed}
-use Rattle.script_verdict.specs.Verdict.{CauseStopped, Facts}
+use Rattle.run_command.proofs.Completing.{never_rose, no_head_fault}
+use Rattle.run_command.proofs.Devices.{headed}
+use Rattle.run_command.specs.Verdict.{CauseStopped, Facts}
 use Rattle.call_refusal.specs.declared.refusal.Refusal.{Refusal}
 use Rattle.call_refusal.specs.declared.refusal.Refusal.TheVariants as refusal
 use Rattle.vector_lines.specs.declared.line.VectorLine.{VectorLine}

@@ -5,10 +5,10 @@ use Rattle.image_commands.specs.Views.{HasKept, OpenedOnce}
 use Rattle.rig_api.specs.Telling.{Opened, Standing}
 use Rattle.rig_api.specs.State.{RigState}
 use Rattle.script_text.specs.declared.script.Script.{Script}
-use Rattle.script_verdict.specs.Verdict.{CauseStopped, Facts, HasRun, StoppedShort}
+use Rattle.run_command.specs.Verdict.{CauseStopped, Facts, HasRun, StoppedShort}
 use Rattle.call_refusal.specs.declared.refusal.Refusal.{Refusal}
 use Rattle.call_refusal.specs.declared.refusal.Refusal.TheVariants as refusal
-use Rattle.script_verdict.specs.declared.verdict.Finished.{Finished}
+use Rattle.run_command.specs.declared.verdict.Finished.{Finished}
 use Rattle.vector_lines.specs.declared.line.VectorLine.{VectorLine}
 use Rattle.vector_runs.specs.Answered.{BrokeOff, CauseUnanswered, IsReady}
 use Rattle.vector_runs.specs.Played.{CauseNotPlayed, HasPlayed}

@@ -8,9 +8,9 @@ use Rattle.rig_api.specs.State.{RigState}
 use Rattle.script_text.specs.Language.{script_in}
 use Rattle.script_text.specs.declared.fault.ScriptFault.{ScriptFault}
 use Rattle.script_text.specs.declared.script.Script.{Script}
-use Rattle.script_verdict.proofs.Completing.{never_rose, no_head_fault, stops_from_outside}
-use Rattle.script_verdict.proofs.Devices.{headed}
-use Rattle.script_verdict.specs.Verdict.{CauseStopped, Facts, IsFromOutside}
+use Rattle.run_command.proofs.Completing.{never_rose, no_head_fault, stops_from_outside}
+use Rattle.run_command.proofs.Devices.{headed}
+use Rattle.run_command.specs.Verdict.{CauseStopped, Facts, IsFromOutside}
 use Rattle.call_refusal.specs.declared.refusal.Refusal.{Refusal}
 use Rattle.call_refusal.specs.declared.refusal.Refusal.TheVariants as refusal
 use Rattle.script_words.specs.Cuts.{lines_of}

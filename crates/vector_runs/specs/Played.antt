@@ -7,7 +7,7 @@ use Rattle.rig_api.specs.State.{RigState}
 use Rattle.script_text.specs.Bindings.{binding_fault}
 use Rattle.script_text.specs.Language.{script_in}
 use Rattle.script_text.specs.declared.script.Script.{Script}
-use Rattle.script_verdict.specs.Verdict.{CauseStopped, Facts, HasRun, IsFromOutside, devices_of, table_over}
+use Rattle.run_command.specs.Verdict.{CauseStopped, Facts, HasRun, IsFromOutside, devices_of, table_over}
 use Rattle.call_refusal.specs.declared.refusal.Refusal.{Refusal}
 use Rattle.script_words.specs.Cuts.{lines_of}
 use Rattle.vector_lines.specs.Texts.{is_list, list_in}

@@ -2,8 +2,8 @@
 
 ghost use Rattle.std.specs.Prelude.{◌≡◌, ◌≤◌, MatchResult, OnErr, OnOk, drop};
 ghost use Rattle.dix_base.specs.Told.{Appended, AppendedSome, Rose};
-ghost use Rattle.script_verdict.specs.Verdict.{CauseStopped, Facts};
-ghost use Rattle.script_verdict.specs.Working.{IsSound};
+ghost use Rattle.run_command.specs.Verdict.{CauseStopped, Facts};
+ghost use Rattle.run_command.specs.Working.{IsSound};
 ghost use Rattle.vector_runs.specs.Answered.{CauseUnanswered};
 ghost use Rattle.vector_runs.specs.ListText.{has_sense};
 ghost use Rattle.vector_runs.specs.Played.{AreLogged, HasCome, ListPlayed, ScriptPlayed, first_of, played_text};
@@ -16,7 +16,7 @@ use call_refusal::Refusal;
 use dix_base::{Failed, Sink, Source};
 use rig_api::Rig;
 use script_text::Script;
-use script_verdict::{Finished, run_script};
+use run_command::{Finished, run_script};
 use std::alloc::Global;
 use vector_lines::VectorLine;
 

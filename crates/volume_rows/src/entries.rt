@@ -3,7 +3,7 @@
 use crate::names::{add, out_of_range, place_text};
 use crate::stripes::{legs_text, stripe_of};
 use linear_volume::Linear;
-use row_table::{cut, number, small};
+use test_table::{cut, number, small};
 use std::alloc::{AllocError, Global};
 use volume_table::{Entry, EntryList};
 

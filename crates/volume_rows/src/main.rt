@@ -8,7 +8,7 @@ mod stripes;
 mod tables;
 mod trees;
 
-use row_table::{Judge, cut, read_table};
+use test_table::{Judge, cut, read_table};
 use std::alloc::{AllocError, Global};
 use std::io;
 

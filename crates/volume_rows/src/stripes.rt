@@ -4,7 +4,7 @@ ghost use Rattle.std.specs.Prelude.{ℕ, ◌+◌, ◌^◌, ◌<◌, ◌≤◌, I
 ghost use Rattle.stripe_volume.specs.Stripes.{AreApart, EndsFit, HasLegs, IsWhole};
 
 use crate::names::{add, out_of_range, place_text};
-use row_table::{cut, number, small};
+use test_table::{cut, number, small};
 use std::alloc::{AllocError, Global};
 use stripe_volume::{Leg, LegList, Stripe};
 

@@ -6,7 +6,7 @@ ghost use Rattle.volume_table.specs.Tables.{EndFits};
 
 use crate::entries::entries_of;
 use crate::names::{out_of_range, place_text, type_of, type_text};
-use row_table::{number, small};
+use test_table::{number, small};
 use std::alloc::{AllocError, Global};
 use volume_table::{DeviceInfo, Entry, VolumeFault, VolumeTable};
 

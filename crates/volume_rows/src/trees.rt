@@ -7,7 +7,7 @@ ghost use Rattle.volume_tree.specs.Trees.{AreTracks};
 use crate::entries::entries_text;
 use crate::names::out_of_range;
 use linear_volume::Linear;
-use row_table::{cut, number, small};
+use test_table::{cut, number, small};
 use std::alloc::{AllocError, AllocFailed, Global};
 use volume_tree::{TreeFault, expand};
 

@@ -1,5 +1,5 @@
 use Rattle.std.proofs.Common.{◌≡◌, length, drop}
-use Rattle.dix_words.specs.Grammar.{units_in, word_bytes}
+use Rattle.command_line.specs.Grammar.{units_in, word_bytes}
 use Rattle.lab_words.proofs.UnitLemmas.{joined}
 use Rattle.lab_words.proofs.unit_words.units_of.Given as goal
 

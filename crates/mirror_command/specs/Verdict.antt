@@ -1,0 +1,105 @@
+use Rattle.std.specs.Prelude.{All, ℕ, ◌≡◌, ◌*◌, ◌⊎◌, replicate, List, [], ◌++◌, is_some, Some, None, Ok}
+use Rattle.dix_base.specs.Told.{Calm}
+use Rattle.page_pool.specs.Cells.{flat}
+use Rattle.rig_api.specs.Head.{head_fault, head_of}
+use Rattle.rig_api.specs.State.{RigState}
+use Rattle.image_commands.specs.Causes.{CauseUntold}
+use Rattle.target_answer.specs.Target.{Stored}
+use Rattle.volume_table.specs.Faults.{table_fault}
+use Rattle.volume_table.specs.Tables.{Table}
+use Rattle.volume_table.specs.declared.device.DeviceInfo.{DeviceInfo}
+use Rattle.script_text.specs.Language.{script_in}
+use Rattle.script_text.specs.declared.fault.ScriptFault.{ScriptFault}
+use Rattle.script_text.specs.declared.script.Script.{Script}
+use Rattle.run_command.specs.Layers.{NamesFaults}
+use Rattle.run_command.specs.Verdict.{CauseUntaken, Facts, HasBadVolume, HasRead, HasTable, HoldsBlocks, IsFromOutside, StoppedShort, WasAsked, devices_of, table_over}
+use Rattle.call_refusal.specs.declared.refusal.Refusal.{Refusal}
+use Rattle.call_refusal.specs.declared.refusal.Refusal.TheVariants as refusal
+use Rattle.mirror_script.specs.MirrorFaults.{mirror_fault}
+use Rattle.mirror_walk.specs.Mirror.{fresh}
+use Rattle.mirror_volume.specs.Plans.{IsMirror}
+use Rattle.leg_runs.specs.LegRuns.{NamesNoMedium}
+use Rattle.leg_runs.specs.Standing.{IsBoundMirror, half_of}
+use Rattle.mirror_volume.specs.declared.mirror.Mirror.{Mirror}
+use Rattle.mirror_volume.specs.Enough.{WasEnough}
+use Rattle.mirror_volume.specs.Premises.{IsFormedMirror, IsOneGoodRun, IsStillMirror}
+use Rattle.mirror_command.specs.Stages.{Broke, Finished, stage_of}
+use Rattle.mirror_command.specs.declared.mirrored.Mirrored.{Mirrored}
+
+-- The mirror of a script over these devices, none of whose ops is done: all blocks are fresh on both legs, its pages are zeros, and no entry of the schedule is used.
+pub record IsBegun (s : Script) (devices : List DeviceInfo) (begun : Mirror) : Type 0 where
+  pub mirror : IsMirror begun
+  pub script_is : begun.plan.script ≡ s
+  pub devices_are : begun.plan.devices.items ≡ devices
+  pub none : begun.replies.items ≡ []
+  pub unused : begun.state.used ≡ 0
+  pub marks : begun.state.marks.items ≡ replicate (half_of s devices) fresh
+  pub pages : flat begun.state.pool ≡ replicate (4096 * s.pages) 0
+
+-- ---- a script that was run on a mirror
+
+-- The image was opened, its devices told what they are, the script was bound to a mirror over them, its ops were done, and then the repair. `ended` says by which runs on the legs, and what these left; over any rig the lines of the report that name the medium are at most as many as the count of faults rose; over one that tells its blocks, where no line names the medium, of the report or of a request on a leg, it is the mirror's walk and its repair. Of such a run `enough` says when one good leg was enough, `formed` says it by what a reader of the script sees, and `still` says it of a script without faults under any protect field. Over a rig that tells its blocks, whatever lines name the medium, no block of the report is listed as refused or short.
+pub record HasMirrored (run : Mirrored) (s : Script) (name : List ℕ) (old new : RigState) : Type 0 where
+  pub devices : List DeviceInfo
+  pub told : RigState
+  pub asked : WasAsked name devices old told
+  pub bound : IsBoundMirror s devices
+  pub begun : Mirror
+  pub starts : IsBegun s devices begun
+  pub ended : Finished s devices (stage_of begun [] told) run.mirror run.repair.repaired run.repair.lost new
+  pub tells : is_some new.image ≡ is_some told.image
+  pub holds : HoldsBlocks told new
+  pub faults : (us : List Stored) → told.units ≡ Some us → All NamesFaults run.mirror.replies.items
+  pub enough : (us : List Stored) → told.units ≡ Some us → NamesNoMedium (ended.stage.runs ++ ended.runs) run.mirror.replies.items → IsOneGoodRun s devices us
+      → (left : List Stored) × ((new.units ≡ Some left) × WasEnough s devices us left run.repair.lost)
+  pub formed : (us : List Stored) → told.units ≡ Some us → NamesNoMedium (ended.stage.runs ++ ended.runs) run.mirror.replies.items → IsFormedMirror s devices us
+      → (left : List Stored) × ((new.units ≡ Some left) × WasEnough s devices us left run.repair.lost)
+  pub still : (us : List Stored) → told.units ≡ Some us → NamesNoMedium (ended.stage.runs ++ ended.runs) run.mirror.replies.items → IsStillMirror s devices us
+      → (left : List Stored) × ((new.units ≡ Some left) × WasEnough s devices us left run.repair.lost)
+
+-- The source was read to its end, and its script was run on a mirror.
+pub record HasMirroredSource (run : Mirrored) (f : Facts) : Type 0 where
+  pub script : Script
+  pub read : HasRead script f.left f.left_after
+  pub ran : HasMirrored run script f.name f.rig f.rig_after
+
+-- ---- and one that wasn't
+
+-- No entry is at fault, and the script has a fault on a mirror over its volume, the first.
+pub record IsUnbound (bad : ScriptFault) (s : Script) (name : List ℕ) (old new : RigState) : Type 0 where
+  pub devices : List DeviceInfo
+  pub asked : WasAsked name devices old new
+  pub table : Table
+  pub made : HasTable s devices table
+  pub bound : mirror_fault s table devices ≡ Some bad
+
+-- Memory was wanting in the middle: some ops were done, and the next one, or the repair, was broken off.
+pub record StoppedMidway (s : Script) (name : List ℕ) (old new : RigState) : Type 0 where
+  pub devices : List DeviceInfo
+  pub told : RigState
+  pub asked : WasAsked name devices old told
+  pub bound : IsBoundMirror s devices
+  pub begun : Mirror
+  pub starts : IsBegun s devices begun
+  pub broke : Broke s devices (stage_of begun [] told) new
+  pub tells : is_some new.image ≡ is_some told.image
+  pub holds : HoldsBlocks told new
+
+-- Why a script wasn't run on a mirror to its end, and what that leaves.
+abbrev pub CauseStopped : Refusal → Script → List ℕ → RigState → RigState → Type 0
+CauseStopped (refusal.Script bad) s name old new = IsUnbound bad s name old new
+CauseStopped (refusal.Volume entry kind) s name old new = HasBadVolume entry kind s name old new
+CauseStopped refusal.Memory s name old new = StoppedShort name old new ⊎ StoppedMidway s name old new
+CauseStopped why s name old new = CauseUntold why name old new
+
+-- Why a call doesn't come to its end: the source gives no script, and the rig is as before; or it was read to its end, and its script stopped.
+abbrev pub CauseRefused : Refusal → Facts → Type 0
+CauseRefused r f =
+    (CauseUntaken r f.left f.left_after f.reads f.reads_after × (f.rig_after ≡ f.rig))
+    ⊎ ((s : Script) × HasRead s f.left f.left_after × CauseStopped r s f.name f.rig f.rig_after)
+
+-- A text of the language, an image whose head is right, and a script without a fault on a mirror over it, and no fault of the source: then nothing in them is refused.
+abbrev pub IsComplete : Refusal → Facts → Type 0
+IsComplete r f =
+    (text image : List ℕ) (s : Script) → f.left ≡ Some text → script_in text ≡ Ok s → f.rig.image ≡ Some image → head_fault (head_of image) ≡ None → table_fault s.entries (devices_of image) s.block ≡ None →
+    mirror_fault s (table_over s.entries (devices_of image)) (devices_of image) ≡ None → Calm f.reads f.reads_after → IsFromOutside r

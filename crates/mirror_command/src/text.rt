@@ -1,0 +1,34 @@
+//! The text of a script on a mirror.
+
+ghost use Rattle.std.specs.Prelude.{◌≡◌, ◌≤◌, OnErr, OnOk};
+ghost use Rattle.dix_base.specs.Told.{Appended, AppendedSome, Rose};
+ghost use Rattle.mirror_command.specs.Texts.{mirror_text, repair_line};
+
+use crate::mirrored::Mirrored;
+use dix_base::{Failed, Sink};
+use mirror_volume::Repair;
+use report_text::{Line, add, add_number, print_report, write_out};
+
+/// The line that says what a repair did.
+fn repair_line(repair: Repair) -> Line
+    ensures { result.items ≡ repair_line repair.repaired repair.lost }
+{
+    let mut line = Line::new();
+    add(&mut line, b"repaired ");
+    add_number(&mut line, u64::from(repair.repaired));
+    add(&mut line, b" lost ");
+    add_number(&mut line, u64::from(repair.lost));
+    add(&mut line, b"\n");
+    line
+}
+
+/// Writes the report of a script on a mirror: that of its ops, and behind it how many blocks were repaired and lost.
+pub fn print_mirrored<O: Sink>(out: &mut O, run: &Mirrored) -> Result<(), Failed>
+    ensures whole { OnOk result (Appended (mirror_text run.now.mirror.replies.items run.now.repair.repaired run.now.repair.lost) (O.taken out.old) (O.taken out.new)) }
+    ensures part { OnErr result (AppendedSome (mirror_text run.now.mirror.replies.items run.now.repair.repaired run.now.repair.lost) (O.taken out.old) (O.taken out.new)) }
+    ensures cause { OnErr result (Rose (O.faults out.old) (O.faults out.new)) }
+    ensures count { O.faults out.old ≤ O.faults out.new }
+{
+    print_report(out, run.mirror.replies())?;
+    write_out(out, repair_line(run.repair).as_slice())
+}

@@ -1,0 +1,268 @@
+-- What the steps of a stack come to, by the laws of a script that was run to its end.
+use Rattle.std.proofs.Common.{ℕ, zero, suc, ◌≡◌, ◌<◌, ◌*◌, Bool, true, false, List, [], ◌∷◌, ◌++◌, get_or, map, take, Option, None, Some, refl, sym, ap, subst, ◌∙◌}
+use Rattle.std.specs.Prelude.{All}
+use Rattle.std.specs.List.{list_any}
+use Rattle.std.proofs.lemmas.Bool.{false≢true, or_parts}
+use Rattle.page_pool.specs.Cells.{flat}
+use Rattle.dix_base.specs.Told.{AreOctets}
+use Rattle.target_answer.specs.Target.{Stored}
+use Rattle.rig_api.specs.Log.{Entry, Room}
+use Rattle.rig_api.specs.State.{RigState}
+use Rattle.answered_record.specs.Answered.{Answers}
+use Rattle.volume_table.specs.declared.device.DeviceInfo.{DeviceInfo}
+use Rattle.volume_table.specs.Tables.{Table}
+use Rattle.script_text.specs.declared.script.Script.{Script}
+use Rattle.stack_core.specs.declared.stack.Stack.{Stack}
+use Rattle.stack_ops.specs.declared.reply.Reply.{Reply}
+use Rattle.stack_core.specs.Mediums.{medium_lines}
+use Rattle.stack_core.specs.Stacks.{GoesOn}
+use Rattle.stack_core.specs.Walking.{NoneFailed, is_medium}
+use Rattle.run_laws.specs.Records.{recorded}
+use Rattle.run_laws.specs.ToldRun.{told}
+use Rattle.stack_ops.specs.declared.reply.Reply.TheVariants.{Silent}
+use Rattle.script_stack.specs.Followed.{HasFallen, HasWalked, IsBackedBy, failed_in, none_fails, opening_of, setting_of, unit_of}
+use Rattle.run_follows.specs.Overwrites.{is_overwrite}
+use Rattle.run_follows.specs.Falls.{of_blocks}
+use Rattle.stack_core.specs.Going.{Went}
+use Rattle.script_stack.proofs.Ended.{BackedLaw, FallenLaw, IsOver, MediumLaw, ToldLaw, answered_by, backed_by, fallen_at, few_lines, sent_by, told_at, walked_at}
+use Rattle.script_stack.proofs.SendsBy.{AllLaw, FewLaw}
+use Rattle.script_stack.proofs.Words.{sends_own}
+use Rattle.script_laws.specs.Keeping.{Keeps}
+use Rattle.script_ground.proofs.OverUnits.{IsBoundOver}
+use Rattle.rig_discovery.specs.Discovery.{info_of}
+use Rattle.script_stack.proofs.Octets.{blocks_octets}
+use Rattle.dix_adapter.specs.Ways.{blocks_told, shapes_of}
+use Rattle.run_command.specs.Fallen.{HasServed}
+use Rattle.run_command.specs.Premises.{IsDetectableRun, IsFormedRun, IsPlainRun, IsQuietRun}
+use Rattle.run_command.specs.Layers.{NamesFaults, NamesLayers}
+use Rattle.run_command.proofs.Devices.{image_holds}
+use Rattle.run_command.proofs.Fallen.{BroughtFallLaw, Ends, OwnFallLaw, ReadsFallLaw, served}
+use Rattle.run_command.proofs.Layers.{names-faults, names-layers, none-medium}
+use Rattle.run_command.proofs.Premises.{detectable_run, plain_run}
+use Rattle.page_pool.specs.declared.segs.Seg.{Seg}
+use Rattle.integrity_payload.specs.declared.payload.Owner.{Owner}
+use Rattle.whole_run.specs.ReadsAs.{ReadsRightly, read_op}
+use Rattle.run_laws.specs.ShownRun.{DevicesAreClean, IsShownRun}
+use Rattle.run_premises.specs.Forms.{escapes_none}
+use Rattle.script_premises.specs.FormedScript.{IsBoundTo, IsFormedScript}
+use Rattle.whole_run.specs.Detectable.{detectable}
+use Rattle.whole_run.specs.Past.{steps_from}
+use Rattle.run_command.specs.Verdict.{AllReadRightly, Followed, HasPlain, HasReadRightly, opening_told, setting_told}
+use Rattle.block_path.specs.Acts.{State}
+use Rattle.block_path.specs.Moves.{hidden}
+use Rattle.stack_ops.specs.declared.op.Op.{Op}
+use Rattle.stack_ops.specs.declared.op.Op.TheVariants.{Fetch, FetchPi, Fill, Overwrite, Put, Seal, Show, Wait, Write, WritePi}
+use Rattle.run_follows.specs.AtTheEnd.{EndsAsFalling}
+use Rattle.run_follows.specs.Flips.{Flips, flip_op, with_flips}
+use Rattle.whole_run.specs.CalmRun.{IsCalmRun}
+use Rattle.whole_run.specs.PlainMap.{plain_map, plain_replies}
+use Rattle.whole_run.specs.ScriptWalk.{script_replies, script_walk}
+use Rattle.whole_run.specs.Settings.{Setting}
+use Rattle.whole_run.specs.UnderMap.{IsUnder, NoEscape, address_of, opened}
+
+-- as a stack's walk begins on it
+abbrev pub armed_for : Script → RigState → RigState
+armed_for s v = record v { armed = s.faults }
+
+-- what goes on from the rig made ready goes on from it
+pub goes_from : (s : Script) (told ready end : RigState) (spare : Room) → ready ≡ record told { room = spare; armed = s.faults } → GoesOn ready end → GoesOn (armed_for s told) end
+goes_from s told ready end spare same goes =
+    let g : GoesOn (record told { room = spare; armed = s.faults }) end = subst (λ (v : RigState). GoesOn v end) same goes in
+    record { standing = g.standing; more = g.more; records = g.records; faults = g.faults }
+
+pub went_from : (s : Script) (begun r : Stack) (told ready end : RigState) (spare : Room) → ready ≡ record told { room = spare; armed = s.faults } → Went begun ready r end → Went begun (armed_for s told) r end
+went_from s begun r told ready end spare same went =
+    let w : Went begun (record told { room = spare; armed = s.faults }) r end = subst (λ (v : RigState). Went begun v r end) same went in
+    record { walks = w.walks; told = w.told; falling = w.falling; silent = w.silent; faults = w.faults; counts = w.counts; sheet = w.sheet; answered = λ m n opening first k none us units armed calm. answers_armed us (w.answered m n opening first k none us units armed calm) }
+  where
+    answers_armed : (us : List Stored) → Answers us (record told { room = spare; armed = s.faults }) end × (end.standing ≡ told.standing) × (end.armed ≡ s.faults) → Answers us (armed_for s told) end × (end.standing ≡ told.standing) × (end.armed ≡ s.faults)
+    answers_armed us x = let a = x.0 in (record { records = a.records; log = a.log; left = a.left; answered = a.answered; units = a.units }, x.1, x.2)
+
+-- a script that keeps the rules of its language and was made ready, from which the stack went to its end, over a rig as a call sees it
+pub record IsDone (s : Script) (t : Table) (devices : List DeviceInfo) (begun r : Stack) (old new : RigState) : Type 0 where
+  pub keeps : Keeps s
+  pub some : 0 < old.standing.devices
+  pub octets : AreOctets old.image
+  pub faults : new.armed ≡ s.faults
+  pub over : IsOver s t devices s.schedule begun r old.image new.image (armed_for s old) new
+
+-- where the rig told these units, the script is bound to its volume over them
+bound_at : (s : Script) (t : Table) (devices : List DeviceInfo) (begun r : Stack) (old new : RigState) (o : IsDone s t devices begun r old new) → (us : List Stored) → old.units ≡ Some us → IsBoundOver s t us
+bound_at s t devices begun r old new o us e =
+    let told = told_at s t devices s.schedule begun r old.image new.image (armed_for s old) new o.over us e in
+    record { keeps = o.keeps; lines = o.over.lines; made = told.made; bound = told.bound; stored = told.stored }
+
+devices_at : (s : Script) (t : Table) (devices : List DeviceInfo) (begun r : Stack) (old new : RigState) (o : IsDone s t devices begun r old new) → (us : List Stored) → old.units ≡ Some us → devices ≡ map info_of (shapes_of us)
+devices_at s t devices begun r old new o us e = (told_at s t devices s.schedule begun r old.image new.image (armed_for s old) new o.over us e).infos
+
+bytes_at : (s : Script) (t : Table) (devices : List DeviceInfo) (begun r : Stack) (old new : RigState) (o : IsDone s t devices begun r old new) → (us : List Stored) → old.units ≡ Some us → All (All (λ x. x < 256)) (blocks_told us)
+bytes_at s t devices begun r old new o us e = blocks_octets old.standing old.image us o.octets (sym o.over.laid ∙ e)
+
+walked : (s : Script) (t : Table) (devices : List DeviceInfo) (begun r : Stack) (old new : RigState) → ToldLaw → (o : IsDone s t devices begun r old new) → (us : List Stored) → old.units ≡ Some us → medium_lines r.replies.items ≡ 0 →
+    (left : List Stored) × (new.units ≡ Some left) × HasWalked s t us left r.pool o.over.goes.more r.replies.items
+walked s t devices begun r old new law o us e unnamed =
+    let w = walked_at s t devices s.schedule begun r old.image new.image (armed_for s old) new law o.over us e unnamed in
+    (w.0, w.1.0, w.1.1)
+
+-- behind the adapter of a script's setting is a target, and none of its overwrites fails
+named : (s : Script) (t : Table) (devices : List DeviceInfo) (begun r : Stack) (old new : RigState) → ToldLaw → (o : IsDone s t devices begun r old new) → (us : List Stored) → old.units ≡ Some us → medium_lines r.replies.items ≡ 0 →
+    All NamesLayers r.replies.items
+named s t devices begun r old new law o us e unnamed =
+    let w = walked s t devices begun r old new law o us e unnamed in
+    subst (λ (replies : List Reply). All NamesLayers replies) (sym w.2.replies_are) (names-layers (setting_told s t us) s.faults refl (λ i. refl) s.ops (opening_told s us))
+
+-- the laws of a calm walk
+abbrev pub RepliesLaw : Type 0
+RepliesLaw = (m : Setting) (ops : List Op) (opening : State) → IsCalmRun m ops opening → script_replies m ops opening ≡ plain_replies m ops (opened m opening)
+
+abbrev pub UnderLaw : Type 0
+UnderLaw = (m : Setting) (ops : List Op) (opening : State) → IsCalmRun m ops opening → IsUnder m (plain_map m ops (opened m opening)) opening.blocks (script_walk m ops opening)
+
+plain_of : (s : Script) (t : Table) (us left : List Stored) (pool : List (List ℕ)) (log : List Entry) (replies : List Reply) → RepliesLaw → UnderLaw → IsCalmRun (setting_told s t us) s.ops (opening_told s us) → HasWalked s t us left pool log replies →
+    HasPlain s t us left pool replies
+plain_of s t us left pool log replies same under calm w =
+    let u = under (setting_told s t us) s.ops (opening_told s us) calm in
+    record {
+      replies_are = w.replies_are ∙ same (setting_told s t us) s.ops (opening_told s us) calm;
+      pages = w.pages ∙ u.bytes;
+      blocks = w.blocks ∙ u.blocks;
+    }
+
+plain_at : (s : Script) (t : Table) (devices : List DeviceInfo) (begun r : Stack) (old new : RigState) → ToldLaw → RepliesLaw → UnderLaw → (o : IsDone s t devices begun r old new) → (us : List Stored) → old.units ≡ Some us → medium_lines r.replies.items ≡ 0 →
+    IsPlainRun s t us → (left : List Stored) × (new.units ≡ Some left) × HasPlain s t us left r.pool r.replies.items
+plain_at s t devices begun r old new law same under o us e unnamed run =
+    let w = walked s t devices begun r old new law o us e unnamed in
+    (w.0, w.1, plain_of s t us w.0 r.pool o.over.goes.more r.replies.items same under (plain_run s t us (bound_at s t devices begun r old new o us e) (bytes_at s t devices begun r old new o us e) run) w.2)
+
+-- the law of reads under scheduled faults
+abbrev pub DetectionLaw : Type 0
+DetectionLaw = (m : Setting) (devices : List DeviceInfo) (before after : List Op) (owner : Owner) (v n k : ℕ) (body tuples : List Seg) (opening : State) → IsShownRun m devices (before ++ (read_op owner v n body tuples ∷ after)) opening → k < n
+    → ReadsRightly m before owner v n body tuples after opening k
+
+reads_rightly : (m : Setting) (devices : List DeviceInfo) (ops : List Op) (opening : State) (replies : List Reply) → DetectionLaw → IsShownRun m devices ops opening → replies ≡ script_replies m ops opening → AllReadRightly m ops opening replies
+reads_rightly m devices ops opening replies law run same before after owner v n k body tuples is l =
+    subst (λ (r : List Reply). HasReadRightly m before owner v n body tuples opening r k) (sym (same ∙ ap (λ (all : List Op). script_replies m all opening) is))
+    (law m devices before after owner v n k body tuples opening (subst (λ (all : List Op). IsShownRun m devices all opening) is run) l)
+
+shown_at : (s : Script) (t : Table) (devices : List DeviceInfo) (begun r : Stack) (old new : RigState) → ToldLaw → DetectionLaw → (o : IsDone s t devices begun r old new) → (us : List Stored) → old.units ≡ Some us → medium_lines r.replies.items ≡ 0 →
+    IsDetectableRun s t devices us → AllReadRightly (setting_told s t us) s.ops (opening_told s us) r.replies.items
+shown_at s t devices begun r old new law detects o us e unnamed run =
+    let w = walked s t devices begun r old new law o us e unnamed in
+    reads_rightly (setting_told s t us) devices s.ops (opening_told s us) r.replies.items detects
+    (detectable_run s t devices us (devices_at s t devices begun r old new o us e) (bound_at s t devices begun r old new o us e) run) w.2.replies_are
+
+fell : (s : Script) (t : Table) (devices : List DeviceInfo) (begun r : Stack) (old new : RigState) → FallenLaw → (o : IsDone s t devices begun r old new) → (us : List Stored) → old.units ≡ Some us →
+    (left : List Stored) × (new.units ≡ Some left) × HasFallen s t us left r.pool o.over.goes.more r.replies.items
+fell s t devices begun r old new law o us e =
+    let w = fallen_at s t devices s.schedule begun r old.image new.image (armed_for s old) new law o.over us e in
+    (w.0, w.1.0, w.1.1)
+
+-- behind the adapter is a target, whose store calls may fail
+names_faults : (s : Script) (t : Table) (devices : List DeviceInfo) (begun r : Stack) (old new : RigState) → FallenLaw → (o : IsDone s t devices begun r old new) → (us : List Stored) → old.units ≡ Some us →
+    All NamesFaults r.replies.items
+names_faults s t devices begun r old new law o us e =
+    let w = fell s t devices begun r old new law o us e in
+    let f = w.2.fallen in
+    subst (λ (replies : List Reply). All NamesFaults replies) (sym f.ends.replies_are)
+    (names-faults (setting_of s t (shapes_of us) (failed_in r.replies.items)) s.faults refl (of_blocks f.ends.falls) 1 (with_flips f.flips 1 s.ops) (hidden (4096 * s.pages) (opening_told s us)))
+
+-- without overwrites none fails: the replies are those of a walk by the records
+none_failed : (s : Script) (t : Table) (devices : List DeviceInfo) (log : List Entry) (replies : List Reply) → list_any is_overwrite s.ops ≡ false → IsBackedBy s t devices log replies → NoneFailed replies
+none_failed s t devices log replies none backed i =
+    let m = setting_of s t (map unit_of devices) (failed_in replies) in
+    ap (λ (rs : List Reply). is_medium (get_or rs i Silent)) (backed []).checked ∙ none-medium (told m (recorded m log)) 1 s.ops (opening_of s (map unit_of devices) []) none i
+
+-- nor does one flip its block
+no_flips_in : (flips : Flips) (i : ℕ) (ops : List Op) → list_any is_overwrite ops ≡ false → with_flips flips i ops ≡ ops
+no_flips_in flips i [] h = refl
+no_flips_in flips i (op ∷ ops) h =
+    let p = or_parts (is_overwrite op) (list_any is_overwrite ops) h in
+    ap (λ (x : Op). x ∷ with_flips flips (suc i) ops) (as_it_is (flips i) op p.0) ∙ ap (λ (rest : List Op). op ∷ rest) (no_flips_in flips (suc i) ops p.1)
+  where
+    as_it_is : (o : Option (List ℕ)) (op : Op) → is_overwrite op ≡ false → flip_op o op ≡ op
+    as_it_is None op h = refl
+    as_it_is (Some mask) (Fill seg byte) h = refl
+    as_it_is (Some mask) (Put page off bytes) h = refl
+    as_it_is (Some mask) (Show seg) h = refl
+    as_it_is (Some mask) (Seal n body tuples app rtag) h = refl
+    as_it_is (Some mask) (Write v n body app) h = refl
+    as_it_is (Some mask) (Fetch v n body) h = refl
+    as_it_is (Some mask) (WritePi v n body tuples) h = refl
+    as_it_is (Some mask) (FetchPi v n body tuples) h = refl
+    as_it_is (Some mask) (Overwrite dev lba change) h = absurd (false≢true (sym h))
+    as_it_is (Some mask) Wait h = refl
+
+none_fails_in : (replies : List Reply) → NoneFailed replies → (i : ℕ) → failed_in replies i ≡ none_fails i
+none_fails_in replies none zero = refl
+none_fails_in replies none (suc i) = none i
+
+quiet_ends : (s : Script) (t : Table) (us left : List Stored) (pool : List (List ℕ)) (log : List Entry) (replies : List Reply) → list_any is_overwrite s.ops ≡ false → NoneFailed replies → HasFallen s t us left pool log replies → Ends s t us left pool log replies s.ops
+quiet_ends s t us left pool log replies none silent h =
+    let pages = take (4096 * s.pages) (flat pool) in
+    let opening = opening_told s us in
+    let script = subst (λ (ops : List Op). EndsAsFalling (setting_of s t (shapes_of us) (failed_in replies)) (4096 * s.pages) ops opening pages (blocks_told left) replies (recorded (setting_of s t (shapes_of us) (failed_in replies)) log)) (no_flips_in h.fallen.flips 1 s.ops none) h.fallen.ends in
+    subst (λ (fails : ℕ → Bool). EndsAsFalling (setting_of s t (shapes_of us) fails) (4096 * s.pages) s.ops opening pages (blocks_told left) replies (recorded (setting_of s t (shapes_of us) fails) log)) (λ x i. none_fails_in replies silent i x) script
+
+-- the laws of a script's form
+abbrev pub FormLaw : Type 0
+FormLaw = (s : Script) (t : Table) (us : List Stored) → IsBoundTo s t us → IsFormedScript s t us → detectable (setting_told s t us) (steps_from (setting_told s t us) 1 s.ops) (opening_told s us) ≡ true
+
+abbrev pub EscapeLaw : Type 0
+EscapeLaw = (s : Script) (t : Table) (us : List Stored) → escapes_none s.ops ≡ true → NoEscape (setting_told s t us) 1 s.ops (opening_told s us)
+
+by_form : (s : Script) (t : Table) (devices : List DeviceInfo) (us : List Stored) → FormLaw → EscapeLaw → devices ≡ map info_of (shapes_of us) → IsBoundOver s t us → All (All (λ x. x < 256)) (blocks_told us) → IsFormedRun s t devices us → IsDetectableRun s t devices us
+by_form s t devices us form escape same b bytes p =
+    let none = escape s t us p.escapes in
+    let own = subst (λ (ds : List DeviceInfo). DevicesAreClean (setting_told s t us) ds (blocks_told us)) same p.clean in
+    record {
+      ty = p.ty;
+      dix = p.dix;
+      dif = p.dif;
+      protect = p.protect;
+      clean = p.clean;
+      no_escape = none;
+      shown = form s t us (record { keeps = b.keeps; lines = b.lines; made = b.made; bound = b.bound; stored = b.stored })
+          (record {
+            ty = p.ty;
+            dix = p.dix;
+            dif = p.dif;
+            protect = p.protect;
+            form = p.form;
+            bytes = bytes;
+            clean = λ v l z. own v (address_of (setting_told s t us) v) l (b.made.inside v l);
+            no_escape = none;
+          });
+    }
+
+formed_at : (s : Script) (t : Table) (devices : List DeviceInfo) (begun r : Stack) (old new : RigState) → ToldLaw → DetectionLaw → FormLaw → EscapeLaw → (o : IsDone s t devices begun r old new) → (us : List Stored) → old.units ≡ Some us →
+    medium_lines r.replies.items ≡ 0 → IsFormedRun s t devices us → AllReadRightly (setting_told s t us) s.ops (opening_told s us) r.replies.items
+formed_at s t devices begun r old new law detects form escape o us e unnamed run =
+    shown_at s t devices begun r old new law detects o us e unnamed
+    (by_form s t devices us form escape (devices_at s t devices begun r old new o us e) (bound_at s t devices begun r old new o us e) (bytes_at s t devices begun r old new o us e) run)
+
+fallen_view : (s : Script) (t : Table) (devices : List DeviceInfo) (begun r : Stack) (old new : RigState) → BackedLaw → FallenLaw → ReadsFallLaw → OwnFallLaw → BroughtFallLaw → (o : IsDone s t devices begun r old new) → (us : List Stored) → old.units ≡ Some us → IsQuietRun s t us →
+    (left : List Stored) × (new.units ≡ Some left) × HasServed s t us left r.pool o.over.goes.more r.replies.items
+fallen_view s t devices begun r old new backed law reads own brought o us e quiet =
+    let none = none_failed s t devices o.over.goes.more r.replies.items quiet.overwrites (backed_by s t devices s.schedule begun r old.image new.image (armed_for s old) new backed o.over) in
+    let w = fell s t devices begun r old new law o us e in
+    (w.0, w.1, served s t us w.0 r.pool o.over.goes.more r.replies.items reads own brought (bound_at s t devices begun r old new o us e) (bytes_at s t devices begun r old new o us e) quiet (quiet_ends s t us w.0 r.pool o.over.goes.more r.replies.items quiet.overwrites none w.2))
+
+pub followed : (s : Script) (t : Table) (devices : List DeviceInfo) (begun r : Stack) (old new : RigState) → BackedLaw → FewLaw → AllLaw → MediumLaw → ToldLaw → RepliesLaw → UnderLaw → DetectionLaw → FormLaw → EscapeLaw → FallenLaw → ReadsFallLaw → OwnFallLaw → BroughtFallLaw → IsDone s t devices begun r old new → Followed s t devices old new r.pool r.replies.items
+followed s t devices begun r old new backed few all medium told same under detects form escape fallen reads own brought o = record {
+  tells = o.over.tells;
+  holds = image_holds old new o.over.goes.standing o.some o.over.ready o.over.ready_after o.over.laid_after o.over.tells;
+  armed = o.faults;
+  goes = record { standing = o.over.goes.standing; more = o.over.goes.more; records = o.over.goes.records; faults = o.over.goes.faults };
+  backed = backed_by s t devices s.schedule begun r old.image new.image (armed_for s old) new backed o.over;
+  sends = sends_own s [] t o.over.goes.more r.replies.items (sent_by s t devices s.schedule begun r old.image new.image (armed_for s old) new few all o.over);
+  medium = few_lines s t devices s.schedule begun r old.image new.image (armed_for s old) new medium o.over;
+  plain = plain_at s t devices begun r old new told same under o;
+  shown = shown_at s t devices begun r old new told detects o;
+  formed = formed_at s t devices begun r old new told detects form escape o;
+  walked = walked s t devices begun r old new told o;
+  named = named s t devices begun r old new told o;
+  fell = fell s t devices begun r old new fallen o;
+  faults = names_faults s t devices begun r old new fallen o;
+  answered = λ us e quiet none calm. answered_by s t devices s.schedule begun r old.image new.image (armed_for s old) new o.over us e quiet none calm;
+  fallen = fallen_view s t devices begun r old new backed fallen reads own brought o;
+}
