@@ -6,8 +6,8 @@ ghost use Rattle.cdb_codec.specs.Forms.{Fits, FitsSixteen, FitsTen, FitsThirtyTw
 use crate::names::{add, none, out_of_range, short, tiny, type_of};
 use arrayvec::ArrayVec;
 use cdb_codec::{Cdb, CdbFault, Dir2, Rw, choose};
-use test_table::{bytes_of, cut, hex_of, number, small};
 use std::alloc::{AllocError, Global};
+use test_table::{bytes_of, cut, hex_of, number, small};
 
 /// What a caller can conclude: each call undoes the other.
 fn there_and_back(c: &Cdb) -> Result<Cdb, CdbFault>

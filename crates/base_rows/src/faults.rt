@@ -3,8 +3,8 @@
 use crate::names::{add, none, or_dash};
 use arrayvec::ArrayVec;
 use fault_schedule::{Crossing, FaultKind, FaultLine, FaultList, Label, ShortBytes, Tamper};
-use test_table::{bytes_of, cut, hex_of, small};
 use std::alloc::{AllocError, Global};
+use test_table::{bytes_of, cut, hex_of, small};
 
 fn crossing_of(word: &str) -> Crossing {
     match word {

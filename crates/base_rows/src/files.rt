@@ -4,11 +4,11 @@ use crate::names::{add, yes_or_no};
 use crate::stores::step;
 use crate::walk::{shrunk, walk};
 use dix_base::{FileStore, Store};
-use test_table::{bytes_of, cut, hex_of, small};
-use std::alloc::{AllocError, Global};
+use std::alloc::AllocError;
 use std::fs::{OpenOptions, Permissions};
 use std::os::unix::fs::PermissionsExt;
 use std::{env, fs, io, process};
+use test_table::{bytes_of, cut, hex_of, small};
 
 /// A path in the folder for temporary files, of this process alone; a name that begins with / is a path itself.
 fn path_of(rt: HostRuntime, name: &str) -> io::Result<String> {

@@ -3,8 +3,8 @@
 use crate::names::none;
 use pi_guard::plain::{crc16_by_bits, ip_sum_by_words};
 use pi_guard::{GuardKind, GuardRun, crc16, ip_sum};
-use test_table::{bytes_of, cut, hex_of, small};
 use std::alloc::{AllocError, Global};
+use test_table::{bytes_of, cut, hex_of, small};
 
 /// The guard of the parts of these lengths, one after another.
 fn in_parts(kind: GuardKind, lengths: &str, bytes: &[u8]) -> u16 {

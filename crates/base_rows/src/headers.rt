@@ -5,9 +5,9 @@ ghost use Rattle.std.specs.Prelude.{◌≡◌, length};
 use crate::names::{add, none, out_of_range, type_of, yes_or_no};
 use pi_tuple::PiType;
 use rig_api::RigFault;
-use test_table::{bytes_of, cut, hex_of, number, small};
 use std::alloc::{AllocError, Global};
 use target_answer::{UnitSpec, Version, header, is_header, specs_in, version_of};
+use test_table::{bytes_of, cut, hex_of, number, small};
 
 fn version_in(word: &str) -> Version {
     if word == "1" {

@@ -16,9 +16,9 @@ mod stores;
 mod tuples;
 mod walk;
 
-use test_table::{Judge, cut, read_table};
 use std::alloc::{AllocError, Global};
 use std::io;
+use test_table::{Judge, cut, read_table};
 
 /// The schedule of faults of the rows from here on, as the table tells it.
 #[derive(Drop)]

@@ -5,9 +5,9 @@ ghost use Rattle.sense_codes.specs.Written.{Fits};
 
 use crate::names::{check_name, none, out_of_range};
 use arrayvec::ArrayVec;
-use test_table::{array_of, bytes_of, cut, hex_of};
 use sense_codes::{Layer, Sense, SenseFault, layer_and_check};
 use std::alloc::{AllocError, Global};
+use test_table::{array_of, bytes_of, cut, hex_of};
 
 /// What a caller can conclude: each call undoes the other.
 fn there_and_back(s: &Sense) -> Result<Sense, SenseFault>

@@ -9,8 +9,8 @@ use dix_base::{
     ByteList, CalmSink, CalmSource, Failed, MemSink, MemSource, Sink, Source, StdinSource,
     StdoutSink,
 };
-use test_table::{bytes_of, cut, hex_of, number, small};
 use std::alloc::{AllocError, Global};
+use test_table::{bytes_of, cut, hex_of, number, small};
 
 fn take_from<S: Source>(source: &mut S, buf: &mut [u8]) -> Result<usize, Failed>
     ensures taken { IfOk result (λ n. Took (take n buf.new) (S.left source.old) (S.left source.new)) }

@@ -6,8 +6,8 @@ ghost use Rattle.dix_base.specs.Told.{Apart, Becomes, Begins, Rose};
 use crate::names::{add, none};
 use crate::sources::numbers;
 use dix_base::{CalmStore, Failed, MemStore, Store, StoreFault};
-use test_table::{bytes_of, cut, hex_of, small};
 use std::alloc::{AllocError, Global};
+use test_table::{bytes_of, cut, hex_of, small};
 
 /// Writes the piece over what is there, and reads it back.
 fn stamp<S: Store>(store: &mut S, at: u64, piece: &[u8], into: &mut [u8]) -> Result<(), Failed>

@@ -2,8 +2,8 @@
 
 use crate::names::{check_name, none, short, type_of, yes_or_no};
 use pi_tuple::{Checks, Tuple, finds, has_ref_tag, is_escape, make, own_tag, ref_tag};
-use test_table::{array_of, cut, hex_of, number, small};
 use std::alloc::{AllocError, Global};
+use test_table::{array_of, cut, hex_of, number, small};
 
 /// The tuple of 16 hexadecimal digits; that of zeros for another word.
 fn tuple_of(word: &str) -> Tuple {

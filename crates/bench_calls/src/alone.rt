@@ -9,11 +9,11 @@ use crate::groups::{adapter, good_of, list, payload, tuples};
 use crate::rig::PlainRig;
 use bio_core::{Bio, Dir, Fate, Io};
 use dix_adapter::{Adapter, Scratch};
-use test_groups::{group_blocks, write_all};
 use page_pool::{PAGE, PagePool, Seg};
 use pi_guard::GuardKind;
 use rig_api::Rig;
 use std::alloc::{AllocError, Global};
+use test_groups::{group_blocks, write_all};
 
 /// The requests, each of so many blocks on two pages, some of the same ones.
 const REQUESTS: u32 = 1024;

@@ -1,14 +1,14 @@
 //! What the adapter says to its rig, said by itself.
 
-ghost use Rattle.std.specs.Prelude.{◌≡◌, IfOk, length};
+ghost use Rattle.std.specs.Prelude.{◌≡◌, length};
 ghost use Rattle.rig_api.specs.Log.{capacity_len};
 ghost use Rattle.target_answer.specs.Requests.{blocks_of};
 
 use crate::targets::{BLOCKS, READ, WRITE, frames};
-use test_answers::AnswerRig;
 use fault_schedule::Label;
 use rig_api::{Outcome, Rig};
 use std::alloc::{AllocError, Global};
+use test_answers::AnswerRig;
 
 /// The device of type 1 with blocks of 512 bytes.
 pub(crate) const DEVICE: u32 = 1;

@@ -5,12 +5,12 @@ ghost use Rattle.dix_adapter.specs.Groups.{IsProtect};
 use bio_core::Fate;
 use dix_adapter::Adapter;
 use fault_schedule::{FaultList, Tamper};
-use test_groups::list_of;
 use integrity_payload::{Owner, Payload};
 use page_pool::{Seg, SgList};
 use pi_guard::GuardKind;
 use pi_tuple::{PiType, make};
 use std::alloc::{AllocError, Global};
+use test_groups::list_of;
 
 pub(crate) fn list(alloc: Global, segs: &[Seg]) -> Result<SgList, AllocError> {
     match list_of(alloc, segs)? {

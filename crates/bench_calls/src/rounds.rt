@@ -8,14 +8,14 @@ ghost use Rattle.dix_adapter.specs.Room.{HoldsBlocks};
 use crate::exchanges::{DEVICE, DONE};
 use crate::groups::{adapter, good_of, list, payload, tuples};
 use crate::targets::{BLOCKS, frames};
-use test_answers::AnswerRig;
 use bio_core::{Bio, Dir, Fate, Io};
 use dix_adapter::{Adapter, Scratch};
-use test_groups::{group_blocks, write_all};
 use page_pool::{PAGE, PagePool, Seg};
 use pi_guard::GuardKind;
 use rig_api::Rig;
 use std::alloc::{AllocError, Global};
+use test_answers::AnswerRig;
+use test_groups::{group_blocks, write_all};
 
 /// The pages of the data, and behind them those of the tuples.
 const DATA_PAGES: u32 = 128;

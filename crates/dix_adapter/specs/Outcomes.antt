@@ -1,5 +1,5 @@
 -- What an outcome says of the blocks of a command.
-use Rattle.std.specs.Prelude.{ℕ, suc, ◌-◌, min, Bool, ◌&&◌, ◌||◌, eqb, ltb, if◌then◌else◌, List, [], ◌∷◌, replicate, Option, Some, None}
+use Rattle.std.specs.Prelude.{ℕ, suc, ◌-◌, min, ltb, if◌then◌else◌, List, [], ◌∷◌, replicate}
 use Rattle.bio_core.specs.declared.fate.Fate.{Fate}
 use Rattle.bio_core.specs.declared.fate.Fate.TheVariants.{Bad, Untouched}
 use Rattle.block_path.specs.Senses.{why_ended}

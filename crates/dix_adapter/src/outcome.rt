@@ -1,6 +1,6 @@
 //! What the outcome of a command says of its blocks.
 
-ghost use Rattle.std.specs.Prelude.{◌≡◌, ◌+◌, ◌≤◌, ◌++◌, Some, length, replicate};
+ghost use Rattle.std.specs.Prelude.{◌≡◌, ◌+◌, ◌≤◌, ◌++◌, length, replicate};
 ghost use Rattle.std.specs.Vec.{vec_capacity};
 ghost use Rattle.bio_core.specs.declared.fate.Fate.TheVariants.{Untouched};
 ghost use Rattle.dix_adapter.specs.Outcomes.{done_of, rest_of};

@@ -28,7 +28,7 @@ use Rattle.run_command.specs.Verdict.{Facts, HasRun}
 use Rattle.run_command.specs.declared.verdict.Finished.{Finished}
 use Rattle.vector_lines.specs.Printed.{is_sender, out_of, sends}
 use Rattle.vector_lines.specs.Texts.{list_in}
-use Rattle.vector_lines.specs.declared.read.VectorFault.{VectorFault}
+use Rattle.script_text.specs.declared.fault.ScriptFault.{ScriptFault}
 use Rattle.vector_lines.specs.declared.line.VectorLine.{VectorLine}
 use Rattle.vector_runs.specs.Answered.{HasAnswered}
 use Rattle.vector_runs.specs.Done.{answers_over, units_over, units_to}
@@ -208,10 +208,10 @@ list_again run f image told_is calm (script, held, h) name old new is quiet a =
 -- ---- the list read from the text
 
 -- what a right text is read as is one thing
-read_once : (one other : List VectorLine) → ◌≡◌ {A = Result (List VectorLine) VectorFault} (Ok one) (Ok other) → one ≡ other
+read_once : (one other : List VectorLine) → ◌≡◌ {A = Result (List VectorLine) ScriptFault} (Ok one) (Ok other) → one ≡ other
 read_once one other e = ap or_none e
   where
-    or_none : Result (List VectorLine) VectorFault → List VectorLine
+    or_none : Result (List VectorLine) ScriptFault → List VectorLine
     or_none (Ok ls) = ls
     or_none (Err fault) = []
 

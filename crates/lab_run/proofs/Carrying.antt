@@ -43,7 +43,19 @@ done_never true e = cc
 done_never false e = cc
 
 refused_never : (r : Refusal) → status_of r ≡ status.WriteFault → ⊥
-refused_never _ e = cc
+refused_never refusal.Words e = cc
+refused_never (refusal.Image x) e = cc
+refused_never (refusal.Place x) e = cc
+refused_never refusal.NoTuples e = cc
+refused_never (refusal.SecondImage x) e = cc
+refused_never (refusal.SecondPlace x) e = cc
+refused_never refusal.OtherSize e = cc
+refused_never refusal.OtherCount e = cc
+refused_never (refusal.Short x) e = cc
+refused_never refusal.Long e = cc
+refused_never refusal.RigFault e = cc
+refused_never refusal.ReadFault e = cc
+refused_never refusal.Memory e = cc
 
 ending_never : (x : Ending) → ending_status x ≡ status.WriteFault → ⊥
 ending_never Done e = cc

@@ -1,4 +1,5 @@
 use Rattle.std.proofs.Common.{Some, refl, ap, ◌∙◌}
+use Rattle.std.proofs.lemmas.Result.{err_from_is_err_and}
 use Rattle.image_layout.specs.Heads.{head_in}
 use Rattle.image_rig.specs.Told.{laid_of, ready_of}
 use Rattle.target_answer.specs.Image.{formatted}
@@ -6,38 +7,39 @@ use Rattle.image_scripts.proofs.FreshHead.{right_head}
 use Rattle.flip_sweep.proofs.Coming.{no_run, seen}
 use Rattle.flip_sweep.proofs.runs.run_over.Goals as goal
 
-pub returns-in-Ok-run_script-clause-comes : goal.returns-in-Ok-run_script-clause-comes
-returns-in-Ok-run_script-clause-comes c = λ units h e.
+pub returns-clause-comes : goal.returns-clause-comes
+returns-clause-comes c = λ units h e.
     let r = c.run_script.new.rig in
-    (seen c.args.script units (record { run = c.in-Ok-run_script.run'; rig = r }) _ _ _ h
+    (seen c.args.script units (record { run = c.in_ok-run.run'; rig = r }) _ _ _ h
     (record {
       image_is = c.new-rig.ensures.image ∙ ap Some (c.new.ensures.bytes ∙ c.in-Ok.ensures.items ∙ e);
       left_is = refl;
       laid = laid_of _ (head_in r.head) r.store.handed r.store.openings (Some r.store.bytes);
       stands = ready_of _ (head_in r.head) r.store.handed r.store.openings (Some r.store.bytes) r.units.items r.right r.devices r.told refl;
       calm = refl;
-    }) c.in-Ok-run_script.ensures.verdict).comes
+    }) c.in_ok-run.ensures.verdict).comes
 
-pub returns-in-Ok-run_script-clause-long : goal.returns-in-Ok-run_script-clause-long
-returns-in-Ok-run_script-clause-long c = λ units h e.
+pub returns-clause-long : goal.returns-clause-long
+returns-clause-long c = λ units h e.
     let r = c.run_script.new.rig in
-    (seen c.args.script units (record { run = c.in-Ok-run_script.run'; rig = r }) _ _ _ h
+    (seen c.args.script units (record { run = c.in_ok-run.run'; rig = r }) _ _ _ h
     (record {
       image_is = c.new-rig.ensures.image ∙ ap Some (c.new.ensures.bytes ∙ c.in-Ok.ensures.items ∙ e);
       left_is = refl;
       laid = laid_of _ (head_in r.head) r.store.handed r.store.openings (Some r.store.bytes);
       stands = ready_of _ (head_in r.head) r.store.handed r.store.openings (Some r.store.bytes) r.units.items r.right r.devices r.told refl;
       calm = refl;
-    }) c.in-Ok-run_script.ensures.verdict).long
+    }) c.in_ok-run.ensures.verdict).long
 
-pub returns-in-Err-clause-cause : goal.returns-in-Err-clause-cause
-returns-in-Err-clause-cause c = λ units h e.
+pub returns-in_err-run-clause-cause : goal.returns-in_err-run-clause-cause
+returns-in_err-run-clause-cause c = λ units h e.
     let r = c.run_script.new.rig in
-    no_run c.in-Err.refusal c.args.script (formatted units) r.store.bytes _ _ _ (right_head units h)
+    let p = err_from_is_err_and c.from_residual.result c.from_residual.ensures.1 in
+    rw (p.1, p.2) (no_run c.in_err-run.field-0.0 c.args.script (formatted units) r.store.bytes _ _ _ (right_head units h)
     (record {
       image_is = c.new-rig.ensures.image ∙ ap Some (c.new.ensures.bytes ∙ c.in-Ok.ensures.items ∙ e);
       left_is = refl;
       laid = laid_of _ (head_in r.head) r.store.handed r.store.openings (Some r.store.bytes);
       stands = ready_of _ (head_in r.head) r.store.handed r.store.openings (Some r.store.bytes) r.units.items r.right r.devices r.told refl;
       calm = refl;
-    }) c.in-Err.ensures.verdict
+    }) c.in_err-run.ensures.verdict)
