@@ -1,7 +1,7 @@
 //! Blocks as a row writes them.
 
-use test_table::{array_of, small};
 use std::alloc::{AllocError, Global};
+use test_table::{array_of, small};
 
 /// The data of block `p`: byte `j` is (7 j + p (j / 5) + p) mod 251.
 fn data(alloc: Global, p: u32, size: u32) -> Result<Vec<u8>, AllocError> {

@@ -6,11 +6,11 @@ use arrayvec::ArrayVec;
 use bio_core::{Bio, Dir, Fate};
 use dix_adapter::{Adapter, Scratch};
 use fault_schedule::{Crossing, FaultKind, FaultLine, FaultList, ShortBytes};
-use test_groups::group_blocks;
 use page_pool::PagePool;
 use rig_api::Rig;
-use test_table::{cut, small};
 use std::alloc::{AllocError, Global};
+use test_groups::group_blocks;
+use test_table::{cut, small};
 
 /// The address of the group's first block.
 const LBA: u64 = 6;

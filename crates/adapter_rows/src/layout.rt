@@ -5,10 +5,10 @@ ghost use Rattle.std.specs.Prelude.{◌≤◌};
 use crate::blocks::frame_of;
 use crate::case::Case;
 use bio_core::{Dir, Io};
-use test_groups::{list_of, write_all};
 use integrity_payload::{Owner, Payload};
 use page_pool::{PAGE, PagePool, Seg, SgList};
 use std::alloc::{AllocError, Global};
+use test_groups::{list_of, write_all};
 
 /// The pages of a scene: those of a write, and behind them those of a read.
 const PAGES: u32 = 16;

@@ -10,9 +10,9 @@ mod outcomes;
 mod scene;
 mod table;
 
-use test_table::read_table;
 use std::io;
 use table::Table;
+use test_table::read_table;
 
 fn main(rt: HostRuntime) -> io::Result<()> {
     read_table(&rt, &mut Table::new())

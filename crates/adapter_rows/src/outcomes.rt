@@ -6,8 +6,8 @@ ghost use Rattle.rig_api.specs.Log.{has_key};
 use bio_core::{Fate, Why};
 use pi_tuple::Check;
 use rig_api::Outcome;
-use test_table::{array_of, small};
 use sense_codes::Sense;
+use test_table::{array_of, small};
 
 /// The sense of a word: key, code and qualifier in hexadecimal; none of another word.
 fn sense_of(word: &str) -> Option<Sense>

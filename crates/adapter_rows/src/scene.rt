@@ -5,7 +5,6 @@ use crate::carrying::{carried, flips};
 use crate::case::Case;
 use crate::layout::{are_same, pages, put_all};
 use crate::outcomes::{are_fates, outcome};
-use test_answers::AnswerRig;
 use bio_core::Dir;
 use dix_adapter::Adapter;
 use dix_base::MemStore;
@@ -13,9 +12,10 @@ use fault_schedule::{FaultList, Tamper};
 use image_rig::ImageRig;
 use page_pool::PagePool;
 use rig_api::{Rig, UnitSpec};
-use test_table::{cut, small};
 use std::alloc::{AllocError, Global};
 use target_answer::is_layout;
+use test_answers::AnswerRig;
+use test_table::{cut, small};
 
 /// An image, pages, and what is to stand in these.
 #[derive(Drop)]

@@ -2,8 +2,8 @@
 
 use crate::case::Case;
 use crate::scene::Scene;
-use test_table::{Judge, cut};
 use std::alloc::{AllocError, Global};
+use test_table::{Judge, cut};
 
 /// What holds for the rows from here on.
 #[derive(Drop)]

@@ -13,9 +13,9 @@ use image_rig::ImageRig;
 use pi_guard::crc16;
 use pi_tuple::PiType;
 use rig_api::Rig;
+use run_command::{Finished, print_run, run_script};
 use script_laws::a_big_script_keeps_the_rules;
 use script_text::big_script;
-use run_command::{Finished, print_run, run_script};
 use std::alloc::{AllocError, Global};
 use target_answer::UnitSpec;
 

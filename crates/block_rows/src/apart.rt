@@ -3,8 +3,8 @@
 use crate::guards::parts_of;
 use crate::words::{found_text, short, want_of, written_text};
 use pi_blocks::{Layout, dix_generate, dix_verify};
-use test_table::{Words, bytes_of};
 use std::alloc::{AllocError, Global};
+use test_table::{Words, bytes_of};
 
 /// What a check answers, by what is wanted, the lengths of the data's parts, the data and the metadata.
 pub(crate) fn verified(

@@ -3,8 +3,8 @@
 use crate::words::short;
 use cdb_codec::CdbFault;
 use pi_blocks::CdbFields;
-use test_table::{Words, bytes_of, hex_of};
 use std::alloc::{AllocError, Global};
+use test_table::{Words, bytes_of, hex_of};
 
 fn refusal(alloc: Global, why: CdbFault) -> Result<String, AllocError> {
     String::from_str(

@@ -2,8 +2,8 @@
 
 use pi_blocks::{Part, Run, crc16v, ip_sumv};
 use pi_guard::{crc16, crc16_after};
-use test_table::{Words, bytes_of, hex_of, small};
 use std::alloc::{AllocError, Global};
+use test_table::{Words, bytes_of, hex_of, small};
 
 /// The bytes in parts of these lengths, with commas between, and one more of what is left.
 pub(crate) fn parts_of<'a>(

@@ -2,8 +2,8 @@
 
 use crate::words::{found_text, short, want_of, written_text};
 use pi_blocks::{Layout, generate, remap, verify};
-use test_table::{Words, bytes_of};
 use std::alloc::{AllocError, Global};
+use test_table::{Words, bytes_of};
 
 /// What a check of blocks answers, by what is wanted and the bytes.
 pub(crate) fn verified(

@@ -11,9 +11,9 @@ mod single;
 mod words;
 
 use pi_blocks::Layout;
-use test_table::{Judge, Words, read_table};
 use std::alloc::{AllocError, Global};
 use std::io;
+use test_table::{Judge, Words, read_table};
 
 /// The layout of the rows from here on, as the table tells it.
 #[derive(Drop)]

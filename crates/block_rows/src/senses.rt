@@ -2,9 +2,9 @@
 
 use pi_blocks::SenseFields;
 use pi_tuple::Check;
-use test_table::{Words, bytes_of, hex_of};
 use sense_codes::{Layer, SenseFault};
 use std::alloc::{AllocError, Global};
+use test_table::{Words, bytes_of, hex_of};
 
 /// A number of 8 bits in decimal digits, or the largest where the word is none.
 fn tiny(word: &str) -> u8 {

@@ -2,8 +2,8 @@
 
 use crate::words::{found_text, short, want_of};
 use pi_blocks::{TupleFields, check};
-use test_table::{Words, bytes_of, hex_of};
 use std::alloc::{AllocError, Global};
+use test_table::{Words, bytes_of, hex_of};
 
 /// The eight bytes of a word; zeros where it has fewer.
 fn eight_of(alloc: Global, word: &str) -> Result<[u8; 8], AllocError> {

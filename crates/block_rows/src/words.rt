@@ -1,8 +1,8 @@
 //! Words that the calls share.
 
 use pi_blocks::{Found, Refusal, Want};
-use test_table::{Words, hex_of};
 use std::alloc::{AllocError, Global};
+use test_table::{Words, hex_of};
 
 /// A number of 16 bits in decimal digits, or the largest where the word is none.
 pub(crate) fn short(word: &str) -> u16 {

@@ -5,8 +5,8 @@ use crate::lines::behind;
 use crate::sources::source_in;
 use crate::wanted::{add_call, add_image};
 use headline::{Way, run_on_bytes};
-use test_table::cut;
 use std::alloc::{AllocError, Global};
+use test_table::cut;
 
 /// What the first of a row's words does with a script.
 fn way_of(lines: &[String]) -> Way {

@@ -1,7 +1,7 @@
 //! The lines of a row by their first words, their marks.
 
-use test_table::cut;
 use std::alloc::{AllocError, Global};
+use test_table::cut;
 
 /// The marks that a line may have.
 const MARKS: &str =

@@ -1,9 +1,9 @@
 //! The words of a row's call, and the source that it reads.
 
 use crate::lines::{behind, text};
-use test_table::{cut, number};
 use script_text::{big_script, print_script};
 use std::alloc::{AllocError, Global};
+use test_table::{cut, number};
 
 /// A word, which is the image's name for `a`, else has a space for each `_`, and nothing for `''`.
 fn word_of(alloc: Global, text: &str, name: &str) -> Result<String, AllocError> {

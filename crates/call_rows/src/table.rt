@@ -9,10 +9,10 @@ use crate::sweeps::add_sweep;
 use crate::wanted::{add_call, add_image};
 use dix_base::MemStore;
 use image_rig::ImageRig;
-use test_table::{Judge, cut};
-use test_rig::ScriptedRig;
 use std::alloc::{AllocError, Global};
 use std::{fs, io};
+use test_rig::ScriptedRig;
+use test_table::{Judge, cut};
 
 /// What the row before left.
 #[derive(Drop)]

@@ -2,9 +2,9 @@
 
 use crate::calls::Came;
 use crate::lines::{add_line, behind, has, text};
-use test_table::{bytes_of, cut, hex_of, number};
 use std::alloc::{AllocError, Global};
 use std::str;
+use test_table::{bytes_of, cut, hex_of, number};
 
 /// Whether a text has this line.
 fn has_line(text: &str, line: &str) -> bool {

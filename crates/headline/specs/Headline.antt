@@ -9,22 +9,19 @@ use Rattle.rig_api.specs.Head.{head_fault, head_of}
 use Rattle.rig_api.specs.Telling.{own_units}
 use Rattle.stack_ops.specs.declared.reply.Reply.{Reply}
 use Rattle.volume_table.specs.Faults.{table_fault}
-use Rattle.block_path.specs.Acts.{State}
 use Rattle.whole_run.specs.Detectable.{detectable}
 use Rattle.whole_run.specs.Past.{brought_by}
 use Rattle.whole_run.specs.PlainMap.{Plain, as_expected, plain_map, plain_replies}
-use Rattle.whole_run.specs.ScriptWalk.{script_replies, script_walk}
 use Rattle.whole_run.specs.Settings.{Setting}
 use Rattle.whole_run.specs.Steps.{Step}
 use Rattle.whole_run.specs.UnderMap.{AreClean, NoEscape, NoneEscapes, home, opened, under}
 use Rattle.run_laws.specs.ShownRun.{DevicesAreClean}
 use Rattle.run_premises.specs.Forms.{escapes_none, shows_by_form}
 use Rattle.run_follows.specs.Overwrites.{is_overwrite}
-use Rattle.script_text.specs.Bindings.{binding_fault}
 use Rattle.script_text.specs.Language.{script_in}
 use Rattle.script_text.specs.declared.script.Script.{Script}
 use Rattle.run_command.specs.Texts.{has_bad}
-use Rattle.run_command.specs.Verdict.{AllReadRightly, devices_of, opening_told, setting_told, table_over}
+use Rattle.run_command.specs.Verdict.{AllReadRightly, devices_of}
 use Rattle.mirror_script.specs.MirrorFaults.{mirror_fault}
 use Rattle.mirror_walk.specs.Mirror.{mirror_replies}
 use Rattle.mirror_walk.specs.OneGood.{OneGood, script_asks}

@@ -1,7 +1,7 @@
 //! The lines of a row by their first words, their marks.
 
-use test_table::{bytes_of, cut, hex_of};
 use std::alloc::{AllocError, Global};
+use test_table::{bytes_of, cut, hex_of};
 
 /// The marks of lines of images.
 const IMAGE_MARKS: &str = "put cut more second-put second-cut second-more then rig";

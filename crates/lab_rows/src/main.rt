@@ -10,9 +10,9 @@ mod sweeps;
 mod table;
 mod wanted;
 
-use test_table::read_table;
 use std::io;
 use table::Table;
+use test_table::read_table;
 
 fn main(rt: HostRuntime) -> io::Result<()> {
     let mut table = Table::new(rt.alloc());

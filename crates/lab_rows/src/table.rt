@@ -5,8 +5,8 @@ use crate::images::{Images, image_of};
 use crate::lines::{has, is_mark};
 use crate::sweeps::add_sweep;
 use crate::wanted::add_call;
-use test_table::{Judge, cut};
 use std::alloc::{AllocError, Global};
+use test_table::{Judge, cut};
 
 /// The images that rows go over, and the lines of the row that is read.
 #[derive(Drop)]

@@ -2,8 +2,8 @@
 
 use crate::calls::Came;
 use crate::lines::{add_line, behind, has, text};
-use test_table::number;
 use std::alloc::{AllocError, Global};
+use test_table::number;
 
 /// The status that a row wants: 0 where it says none.
 fn status_wanted(lines: &[String]) -> u64 {

@@ -10,8 +10,8 @@ use call_refusal::Refusal;
 use image_commands::told_devices;
 use mirror_script::bind_mirror;
 use rig_api::Rig;
-use script_text::Script;
 use run_command::table_of;
+use script_text::Script;
 use std::alloc::Global;
 use volume_table::DeviceInfo;
 

@@ -15,8 +15,8 @@ use mirror_volume::{
     one_good_leg_is_enough,
 };
 use rig_api::Rig;
-use script_text::Script;
 use run_command::{is_any_bad, take_script};
+use script_text::Script;
 use std::alloc::Global;
 
 /// A script that was run on a mirror to its end, and repaired.

@@ -7,9 +7,9 @@ use crate::kinds::dir_word;
 use crate::scene::Scene;
 use bio_core::{Bio, Io};
 use integrity_payload::Payload;
+use std::alloc::{AllocError, Global};
 use test_pages::is_payload;
 use test_table::Words;
-use std::alloc::{AllocError, Global};
 
 /// Whether the request has tuples for each of its blocks, or none.
 fn has_tuples(pi: &Option<Payload>, count: u32) -> bool

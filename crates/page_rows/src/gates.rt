@@ -4,8 +4,8 @@ ghost use Rattle.std.specs.Prelude.{◌≡◌, ◌<◌, IfOk, length, vec_len};
 
 use crate::kinds::seg_of;
 use range_gate::{Footprint, Gate, Reach, Touch, TouchList};
-use test_table::{number, small};
 use std::alloc::{AllocError, Global};
+use test_table::{number, small};
 
 /// The word without its last letter, and whether that is a w.
 fn written(word: &str) -> (&str, bool) {

@@ -6,8 +6,8 @@ use bio_core::Dir;
 use page_pool::Seg;
 use pi_guard::GuardKind;
 use pi_tuple::PiType;
-use test_table::small;
 use std::alloc::{AllocError, Global};
+use test_table::small;
 
 /// The segment of a word PAGE:OFFSET:LENGTH.
 pub(crate) fn seg_of(word: &str) -> Seg {

@@ -1,17 +1,17 @@
 //! What ops touch.
 
-ghost use Rattle.std.specs.Prelude.{◌≡◌, ◌<◌, ◌^◌, IfOk, length};
+ghost use Rattle.std.specs.Prelude.{◌<◌, IfOk};
 ghost use Rattle.stack_ops.specs.Footprints.{IsShortPut};
 
 use crate::gates::waits;
 use dix_base::ByteList;
-use test_pages::list_of;
 use page_pool::{Seg, SgList};
 use range_gate::Footprint;
 use rig_api::Change;
-use test_table::Words;
 use stack_ops::{Op, footprint_of};
 use std::alloc::{AllocError, Global};
+use test_pages::list_of;
+use test_table::Words;
 
 /// Where an op has its 512 bytes of data on page 0, its tuple on page 1, and its virtual block.
 #[derive(Clone, Copy)]

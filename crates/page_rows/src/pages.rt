@@ -2,14 +2,14 @@
 
 ghost use Rattle.std.specs.Prelude.{◌≡◌, ◌+◌, ◌≤◌, true};
 ghost use Rattle.page_pool.specs.Pages.{AllLieIn};
-ghost use Rattle.page_pool.specs.Places.{NoneTwice, places_in, range_of, total};
+ghost use Rattle.page_pool.specs.Places.{NoneTwice, range_of, total};
 
 use crate::kinds::seg_of;
 use crate::scene::Scene;
-use test_pages::{all_lie, lies, none_twice};
 use page_pool::{PagePool, Seg, SgList};
-use test_table::{Words, hex_of};
 use std::alloc::{AllocError, Global};
+use test_pages::{all_lie, lies, none_twice};
+use test_table::{Words, hex_of};
 
 /// Whether the list lies in the pool and has so many bytes from this one on.
 fn is_range(pool: &PagePool, list: &SgList, at: u32, len: u32) -> bool

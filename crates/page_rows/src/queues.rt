@@ -5,9 +5,9 @@ use crate::kinds::{dir_of, fits};
 use crate::scene::NO_BIO;
 use bio_core::Bio;
 use merge_queue::{DeviceQueue, Limits};
-use test_table::{Words, cut};
 use std::alloc::{AllocError, Global};
 use std::marker::Model;
+use test_table::{Words, cut};
 
 /// How many bios a queue has room for.
 const ROOM: u32 = 24;

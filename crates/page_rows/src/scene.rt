@@ -5,10 +5,10 @@ use crate::pages::{put, scatter, zero};
 use crate::tuples;
 use bio_core::{Bio, Dir, Io};
 use integrity_payload::{Owner, Payload};
-use test_pages::list_of;
 use page_pool::{PagePool, SgList};
-use test_table::{Words, bytes_of, cut, small, tag_of};
 use std::alloc::{AllocError, Global};
+use test_pages::list_of;
+use test_table::{Words, bytes_of, cut, small, tag_of};
 
 /// The pool, a request whose data and tuples may lie in it, and a bio of it.
 #[derive(Drop)]

@@ -4,8 +4,8 @@ use crate::crowd::Crowd;
 use crate::queues::Device;
 use crate::scene::Scene;
 use crate::{bios, gates, ops, pages, tuples};
-use test_table::{Judge, cut, small};
 use std::alloc::{AllocError, Global};
+use test_table::{Judge, cut, small};
 
 /// The pages and the request, a queue, and a gate.
 #[derive(Drop)]

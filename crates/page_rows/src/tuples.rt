@@ -9,12 +9,12 @@ use crate::kinds::{fits, guard_of, type_of};
 use crate::scene::Scene;
 use bio_core::Io;
 use integrity_payload::Payload;
-use test_pages::{all_lie, are_apart, is_payload, none_twice};
 use page_pool::{PagePool, SgList};
 use pi_tuple::{Check, Tuple};
 use ref_remap::{map_back, map_out};
-use test_table::{Words, array_of, hex_of, tag_of};
 use std::alloc::{AllocError, Global};
+use test_pages::{all_lie, are_apart, is_payload, none_twice};
+use test_table::{Words, array_of, hex_of, tag_of};
 
 /// Whether the payload's tuples lie in the pool.
 fn is_there(pool: &PagePool, pi: &Payload) -> bool

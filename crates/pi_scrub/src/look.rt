@@ -10,10 +10,10 @@ ghost use Rattle.pi_scrub.specs.Steps.{Did, Finds, room_for};
 
 use crate::command::verify_of;
 use crate::found::Found;
+use block_path::why_by;
 use pi_tuple::PiType;
 use rig_api::{Outcome, Rig};
 use std::alloc::{AllocError, Global};
-use block_path::why_by;
 
 /// Sends a VERIFY of these blocks, and answers how it ended.
 fn verify<R: Rig>(rig: &mut R, dev: u32, ty: PiType, lba: u64, n: u32) -> Outcome

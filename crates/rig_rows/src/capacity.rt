@@ -1,14 +1,12 @@
 //! What a device tells of itself.
 
-ghost use Rattle.std.specs.Prelude.{◌≡◌, ◌≤◌};
-
 use crate::images::rig_over;
 use crate::units::{sense_of, type_word};
 use rig_api::{Outcome, Rig};
 use rig_discovery::discover;
-use test_table::{Words, bytes_of};
-use test_rig::{Answer, ScriptedRig};
 use std::alloc::{AllocError, Global};
+use test_rig::{Answer, ScriptedRig};
+use test_table::{Words, bytes_of};
 use volume_table::DeviceInfo;
 
 /// The answer of two words: the bytes, and the sense or `-`.

@@ -2,8 +2,8 @@
 
 use arrayvec::ArrayVec;
 use fault_schedule::{Crossing, FaultKind, FaultLine, FaultList, ShortBytes, Tamper};
-use test_table::Words;
 use std::alloc::{AllocError, Global};
+use test_table::Words;
 
 fn crossing_of(word: &str) -> Option<Crossing> {
     match word {

@@ -9,10 +9,10 @@ use dix_base::FileStore;
 use fault_schedule::ShortBytes;
 use image_rig::ImageRig;
 use rig_api::{Change, Rig};
-use test_table::{Words, bytes_of, hex_of};
 use std::alloc::{AllocError, Global};
 use std::{env, fs, io, process};
 use target_answer::is_layout;
+use test_table::{Words, bytes_of, hex_of};
 
 /// A rig over the file.
 #[derive(Drop)]

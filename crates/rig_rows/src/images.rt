@@ -1,14 +1,14 @@
 //! Images in memory, and a rig over one.
 
-ghost use Rattle.std.specs.Prelude.{◌≡◌, ◌≤◌, ◌<◌, length};
+ghost use Rattle.std.specs.Prelude.{◌<◌, length};
 
 use crate::units::{opened_word, outcome_text, part, units_of};
 use dix_base::MemStore;
 use fault_schedule::Label;
 use image_rig::ImageRig;
-use rig_api::{Outcome, Rig, RigFault, blocks_of};
-use test_table::{Words, bytes_of, hex_of, small};
+use rig_api::{Outcome, Rig, blocks_of};
 use std::alloc::{AllocError, Global};
+use test_table::{Words, bytes_of, hex_of, small};
 
 const LABELS: [Label; 2] = [Label { op: 3, k: 0 }, Label { op: 3, k: 1 }];
 

@@ -4,8 +4,8 @@ use block_path::Mode;
 use mode_map::modes_text;
 use pi_guard::GuardKind;
 use pi_tuple::PiType;
-use test_table::{Words, tag_of};
 use std::alloc::{AllocError, Global};
+use test_table::{Words, tag_of};
 
 fn guard_of(word: &str) -> GuardKind {
     if word == "ip" {

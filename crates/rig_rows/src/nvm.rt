@@ -4,8 +4,8 @@ use nvme_front::{Completion, NvmFront};
 use nvme_session::{NvmReply, do_command, front_of};
 use pi_guard::crc16;
 use rig_api::Rig;
-use test_table::{Words, bytes_of, hex_of};
 use std::alloc::{AllocError, Global};
+use test_table::{Words, bytes_of, hex_of};
 
 /// The 64 bytes of a command, in pieces.
 fn command_of(alloc: Global, word: &str) -> Result<Option<[u8; 64]>, AllocError> {

@@ -6,8 +6,8 @@ use image_blocks::{
     Image, PlaceFault, Stretch, block_bytes, open_image, part_of, read_blocks, whole_of,
     write_blocks,
 };
-use test_table::{Words, hex_of};
 use std::alloc::{AllocError, Global};
+use test_table::{Words, hex_of};
 
 /// A copy of the image in a store that fails at this call, or never where it is 0.
 fn store_of(alloc: Global, image: &[u8], fail: u64) -> Result<MemStore, AllocError> {

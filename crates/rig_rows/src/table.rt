@@ -7,8 +7,8 @@ use crate::units::type_of;
 use crate::ways::Way;
 use crate::{capacity, nvm, stretches};
 use nvme_front::NvmFront;
-use test_table::{Judge, cut};
 use std::alloc::{AllocError, Global};
+use test_table::{Judge, cut};
 
 /// An image in memory, a front of its units, an image in a file, and the way of a block.
 #[derive(Drop)]

@@ -3,9 +3,9 @@
 use arrayvec::ArrayVec;
 use pi_tuple::PiType;
 use rig_api::{Outcome, RigFault, UnitSpec};
-use test_table::{array_of, hex_of, number, small};
 use sense_codes::Sense;
 use std::alloc::{AllocError, Global};
+use test_table::{array_of, hex_of, number, small};
 
 pub(crate) fn type_of(word: &str) -> PiType {
     match word {

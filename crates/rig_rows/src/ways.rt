@@ -10,8 +10,8 @@ use block_path::{Mode, Route};
 use fault_schedule::Label;
 use integrity_payload::Owner;
 use pi_tuple::{Check, PiType};
-use test_table::{Words, array_of, hex_of};
 use std::alloc::{AllocError, Global};
+use test_table::{Words, array_of, hex_of};
 
 /// The block of virtual block 0, at address 100. A mode whose protect field is 0 has 1 in its place.
 fn route(ty: PiType, mode: Mode) -> Route

@@ -1,6 +1,6 @@
 //! The volume of a script over the devices of a rig.
 
-ghost use Rattle.std.specs.Prelude.{◌≡◌, ◌≤◌, IfErr, IfOk, None, length};
+ghost use Rattle.std.specs.Prelude.{◌≡◌, IfErr, IfOk, None};
 ghost use Rattle.rig_discovery.specs.Discovery.{Ends};
 ghost use Rattle.script_text.specs.Bindings.{binding_fault};
 ghost use Rattle.run_command.specs.Verdict.{HasTable};

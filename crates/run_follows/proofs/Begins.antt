@@ -1,8 +1,7 @@
 -- At first.
-use Rattle.std.proofs.Common.{◌≡◌, ℕ, suc, ◌+◌, List, [], ◌∷◌, ◌++◌, get_or, None, refl, sym, ap, ◌∙◌}
+use Rattle.std.proofs.Common.{◌≡◌, ℕ, suc, ◌+◌, List, [], ◌∷◌, ◌++◌, get_or, refl, sym, ap, ◌∙◌}
 use Rattle.stack_ops.specs.declared.op.Op.{Op}
 use Rattle.block_path.specs.Acts.{State, act, conflict, tell}
-use Rattle.block_path.specs.Blocks.{Answer}
 use Rattle.block_path.specs.Serial.{none_done}
 use Rattle.block_path.proofs.Serial.{begins}
 use Rattle.whole_run.specs.Settings.{Setting}
@@ -10,7 +9,7 @@ use Rattle.whole_run.specs.Steps.{Step, steps_of}
 use Rattle.run_laws.specs.ScriptMoves.{all_moves, blocks_from, blocks_of, by_moves, fates_of, moves_from, own_at, room_of, script_moves}
 use Rattle.run_follows.specs.Following.{AllStand, Follows, StandFrom}
 use Rattle.run_follows.specs.Slots.{Status, Waits}
-use Rattle.run_follows.proofs.Runs.{Moves, none_far, sents_none, none_both as none_join}
+use Rattle.run_follows.proofs.Runs.{none_far, sents_none, none_both as none_join}
 
 abbrev all_wait : ℕ → ℕ → Status
 all_wait i k = Waits

@@ -1,5 +1,5 @@
 -- A script that is bound, over what stands on record.
-use Rattle.std.proofs.Common.{◌≡◌, ◌≤◌, ℕ, suc, ◌+◌, Bool, true, List, [], ◌∷◌, length, refl, subst}
+use Rattle.std.proofs.Common.{◌≤◌, ℕ, suc, ◌+◌, Bool, true, List, [], ◌∷◌, length, refl, subst}
 use Rattle.stack_ops.specs.declared.op.Op.{Op}
 use Rattle.stack_ops.specs.declared.op.Op.TheVariants.{Fetch, FetchPi, Fill, Overwrite, Put, Seal, Show, Wait, Write, WritePi}
 use Rattle.block_path.specs.Acts.{State}

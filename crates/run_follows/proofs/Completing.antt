@@ -1,5 +1,5 @@
 -- Statuses after a command is completed.
-use Rattle.std.proofs.Common.{◌≡◌, ◌⊎◌, ℕ, zero, suc, ◌+◌, ◌<◌, ◌≤◌, Bool, true, false, ◌&&◌, eqb, List, [], ◌∷◌, length, get_or, set, map, Option, refl, sym, ap, subst, ◌∙◌, arith, ⊎_elim}
+use Rattle.std.proofs.Common.{◌≡◌, ◌⊎◌, ℕ, zero, suc, ◌+◌, ◌<◌, ◌≤◌, Bool, true, false, ◌&&◌, eqb, List, [], ◌∷◌, get_or, set, Option, refl, sym, ap, subst, ◌∙◌, arith, ⊎_elim}
 use Rattle.std.specs.Prelude.{if◌then◌else◌, nat_le, nat_lt}
 use Rattle.std.proofs.lemmas.Bool.{cases_Bool, cases_lt}
 use Rattle.bio_core.specs.declared.fate.Fate.{Fate}
@@ -11,13 +11,13 @@ use Rattle.range_gate.specs.declared.phase.Phase.{Phase}
 use Rattle.merge_queue.proofs.Lists.{total-one}
 use Rattle.stack_view.specs.Blocks.{BlockId, blocks, is_block, is_settled, settled_of, times}
 use Rattle.stack_view.specs.Plan.{Plan, request_at}
-use Rattle.stack_view.specs.Sound.{Sound, in_commands, is_marked}
+use Rattle.stack_view.specs.Sound.{Sound, is_marked}
 use Rattle.stack_view.specs.Steps.{settle}
 use Rattle.stack_view.specs.View.{Command, OpView, View, command_at, no_command, no_op, op_at}
 use Rattle.stack_view.proofs.Keeps.{command-there, settle-room}
 use Rattle.stack_view.proofs.Ops.{grows-settle, marks-settle}
 use Rattle.run_follows.specs.Slots.{Admitted, Done, Settled, Status, Waits}
-use Rattle.run_follows.specs.Statuses.{after_all, fate_at, fate_in, id_of, sent_as, standing, status_in, with_settled}
+use Rattle.run_follows.specs.Statuses.{after_all, fate_at, fate_in, sent_as, standing, status_in, with_settled}
 use Rattle.run_follows.proofs.Fates.{done_with, fate_none, in_same, in_this, times_in}
 use Rattle.run_follows.proofs.Groups.{AllNumbered, ids_are, settled_given, settled_nobody}
 use Rattle.run_follows.proofs.WalksStanding.{IsOut, flying, is_sent, is_settled as stands_settled, marked, unmarked}

@@ -1,10 +1,9 @@
 -- What became of a block by the commands in flight, and how a command changes it.
-use Rattle.std.proofs.Common.{◌≡◌, ℕ, zero, suc, ◌+◌, ◌<◌, ◌≤◌, Bool, true, false, ◌&&◌, eqb, List, [], ◌∷◌, ◌++◌, length, get_or, set, refl, sym, ap, ◌∙◌, arith, ⊎_elim}
+use Rattle.std.proofs.Common.{◌≡◌, ℕ, zero, suc, ◌+◌, ◌≤◌, true, false, ◌&&◌, eqb, List, [], ◌∷◌, ◌++◌, get_or, set, refl, ap, ◌∙◌, arith, ⊎_elim}
 use Rattle.std.specs.Prelude.{if◌then◌else◌}
 use Rattle.std.proofs.lemmas.Bool.{cases_Bool}
 use Rattle.bio_core.specs.declared.fate.Fate.{Fate}
 use Rattle.bio_core.specs.declared.fate.Fate.TheVariants.{Good, Bad, Untouched}
-use Rattle.merge_queue.specs.Index.{total}
 use Rattle.stack_view.specs.Blocks.{BlockId, blocks, is_block, times}
 use Rattle.stack_view.specs.Sound.{in_commands}
 use Rattle.stack_view.specs.View.{Command, no_command}

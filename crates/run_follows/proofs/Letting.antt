@@ -1,5 +1,5 @@
 -- What the gate lets in, by what is seen of a stack.
-use Rattle.std.proofs.Common.{◌≡◌, ◌⊎◌, inl, inr, ℕ, suc, ◌+◌, ◌<◌, ◌≤◌, true, false, List, [], ◌∷◌, length, Option, refl, sym, ap, subst, ◌∙◌, arith, ⊎_elim}
+use Rattle.std.proofs.Common.{◌≡◌, ◌⊎◌, inl, inr, ℕ, suc, ◌+◌, ◌<◌, ◌≤◌, true, false, List, [], ◌∷◌, length, Option, refl, ap, arith, ⊎_elim}
 use Rattle.std.proofs.lemmas.Bool.{cases_Bool, cases_lt}
 use Rattle.bio_core.specs.declared.fate.Why.{Why}
 use Rattle.range_gate.specs.Gates.{has_ended, is_waiting}
@@ -12,10 +12,9 @@ use Rattle.stack_view.specs.View.{View, op_at}
 use Rattle.stack_view.proofs.Enabled.{all-at}
 use Rattle.whole_run.specs.Settings.{Setting}
 use Rattle.whole_run.specs.Steps.{Step}
-use Rattle.run_laws.specs.OpsApart.{OpsConflict}
 use Rattle.run_laws.specs.ScriptMoves.{fates_of}
-use Rattle.run_follows.specs.Gate.{AreOver, IsAlone, is_over}
-use Rattle.run_follows.specs.Slots.{Settled, Status}
+use Rattle.run_follows.specs.Gate.{AreOver, is_over}
+use Rattle.run_follows.specs.Slots.{Status}
 use Rattle.run_follows.specs.Ground.{Ground, IsPlanOf}
 use Rattle.run_follows.specs.Spots.{op_in, steps_in}
 use Rattle.run_follows.specs.Statuses.{fate_in, status_in}

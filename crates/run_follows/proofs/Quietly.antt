@@ -1,5 +1,5 @@
 -- Moves in pages alone leave the record as it is; what settling finds.
-use Rattle.std.proofs.Common.{◌≡◌, ◌<◌, ℕ, suc, Bool, true, false, List, [], ◌∷◌, ◌++◌, length, get_or, Option, Some, None, refl, sym, ap, ◌∙◌, arith}
+use Rattle.std.proofs.Common.{◌≡◌, ℕ, suc, Bool, true, false, List, [], ◌∷◌, ◌++◌, length, get_or, Option, Some, None, refl, sym, ap, ◌∙◌, arith}
 use Rattle.bio_core.specs.declared.fate.Why.{Why}
 use Rattle.integrity_payload.specs.declared.payload.Owner.{Owner}
 use Rattle.pi_tuple.specs.declared.checks.Check.{Check}

@@ -1,31 +1,22 @@
 -- Statuses after a group is sent, and after its command is completed.
-use Rattle.std.proofs.Common.{◌≡◌, ◌⊎◌, ℕ, zero, suc, ◌+◌, ◌<◌, ◌≤◌, Bool, true, false, List, [], ◌∷◌, ◌++◌, length, get_or, set, map, Option, refl, sym, ap, subst, ◌∙◌, arith, ⊎_elim}
-use Rattle.std.specs.Prelude.{if◌then◌else◌, eqb, nat_lt}
-use Rattle.std.specs.List.{All}
-use Rattle.std.proofs.lemmas.Bool.{cases_Bool, cases_eq, cases_lt, eqb-true}
-use Rattle.std.proofs.lemmas.List.{get_or_past}
-use Rattle.bio_core.specs.declared.bio.Bio.{Bio}
+use Rattle.std.proofs.Common.{◌≡◌, ◌⊎◌, ℕ, zero, suc, ◌+◌, ◌<◌, ◌≤◌, false, List, [], ◌∷◌, ◌++◌, length, get_or, map, Option, refl, sym, ap, subst, ◌∙◌, arith, ⊎_elim}
+use Rattle.std.proofs.lemmas.Bool.{cases_lt}
 use Rattle.bio_core.specs.declared.fate.Fate.{Fate}
 use Rattle.bio_core.specs.declared.fate.Fate.TheVariants.{Good, Bad, Untouched}
 use Rattle.bio_core.specs.declared.fate.Why.{Why}
 use Rattle.dix_adapter.specs.Groups.{blocks_in}
-use Rattle.range_gate.specs.Gates.{is_waiting}
-use Rattle.merge_queue.specs.Groups.{Group}
-use Rattle.merge_queue.specs.Index.{total}
 use Rattle.merge_queue.proofs.Lists.{total-one}
-use Rattle.stack_view.specs.Blocks.{BlockId, blocks, is_settled, settled_of, times}
+use Rattle.stack_view.specs.Blocks.{blocks, times}
 use Rattle.stack_view.specs.Plan.{Plan, request_at}
-use Rattle.stack_view.specs.Sound.{Sound, in_commands, in_groups, in_queues, is_marked}
-use Rattle.stack_view.specs.Steps.{settle}
-use Rattle.stack_view.specs.View.{Command, OpView, View, command_at, group_at, no_command, no_op, op_at, queue_at}
-use Rattle.stack_view.proofs.Keeps.{queue-there, settle-room}
-use Rattle.stack_view.proofs.Ops.{Grows, grows-settle, marks-settle}
+use Rattle.stack_view.specs.Sound.{Sound, in_groups, in_queues}
+use Rattle.stack_view.specs.View.{Command, OpView, View, group_at, no_op, op_at, queue_at}
+use Rattle.stack_view.proofs.Keeps.{queue-there}
 use Rattle.run_follows.specs.Sending.{with_fates}
-use Rattle.run_follows.specs.Slots.{Cut, Settled, Status}
-use Rattle.run_follows.specs.Statuses.{after_all, fate_at, fate_by, fate_in, first_fate, given, id_of, sent_as, standing, status_in, with_settled}
-use Rattle.run_follows.proofs.Fates.{done_with, fate_none, in_more, in_none, in_same, in_this, other_fate, times_in}
-use Rattle.run_follows.proofs.Groups.{AllNumbered, ids_are, sent_given, sent_nobody, settled_given, settled_nobody}
-use Rattle.run_follows.proofs.WalksStanding.{IsOut, flying, is_sent, is_settled as now_settled, queued, unmarked}
+use Rattle.run_follows.specs.Slots.{Cut, Status}
+use Rattle.run_follows.specs.Statuses.{fate_at, fate_in, first_fate, given, id_of, sent_as, standing, status_in}
+use Rattle.run_follows.proofs.Fates.{fate_none, in_more, in_none, other_fate}
+use Rattle.run_follows.proofs.Groups.{AllNumbered, ids_are, sent_given, sent_nobody}
+use Rattle.run_follows.proofs.WalksStanding.{is_sent, queued}
 
 -- a block of a group stands in the queues
 pub in_its_queue : (v : View) (d i j q : ℕ) → i < length (queue_at v d) → times j q (blocks (group_at v d i)) ≤ in_queues j q v.queues

@@ -1,18 +1,16 @@
 -- The blocks of a script as spots of it, and when one may move.
-use Rattle.std.proofs.Common.{◌≡◌, ◌⊎◌, inl, inr, ℕ, zero, suc, ◌+◌, ◌-◌, ◌<◌, ◌≤◌, true, false, List, [], ◌∷◌, ◌++◌, length, get_or, take, drop, refl, sym, ap, subst, ◌∙◌, arith, ⊎_elim, length-take}
-use Rattle.std.proofs.lemmas.Bool.{cases_Bool}
+use Rattle.std.proofs.Common.{◌≡◌, ◌⊎◌, ℕ, zero, suc, ◌+◌, ◌-◌, ◌<◌, ◌≤◌, List, [], ◌∷◌, ◌++◌, length, get_or, take, drop, refl, sym, ap, subst, ◌∙◌, arith}
 use Rattle.stack_ops.specs.declared.op.Op.{Op}
 use Rattle.stack_ops.specs.declared.op.Op.TheVariants.{Fetch, FetchPi, Fill, Overwrite, Put, Seal, Show, Wait, Write, WritePi}
-use Rattle.stack_view.specs.Plan.{Plan}
 use Rattle.whole_run.specs.Settings.{Setting}
-use Rattle.whole_run.specs.Steps.{Step, each_from, steps_of}
+use Rattle.whole_run.specs.Steps.{each_from, steps_of}
 use Rattle.whole_run.proofs.InSteps.{each_length}
 use Rattle.run_laws.specs.OpsApart.{IsPlaced, IsSpread, OpsConflict}
 use Rattle.run_laws.specs.ScriptMoves.{fates_of}
-use Rattle.run_follows.specs.Gate.{AllPlaced, AreOver, IsAlone, LetsIn, MayMove, Spot, number, ops_of, place}
+use Rattle.run_follows.specs.Gate.{AllPlaced, AreOver, LetsIn, MayMove, number, ops_of, place}
 use Rattle.run_follows.specs.Slots.{Status}
 use Rattle.run_follows.specs.Ground.{Ground}
-use Rattle.run_follows.specs.Spots.{no_step, op_in, spot_at, spots_from, step_in, steps_in}
+use Rattle.run_follows.specs.Spots.{no_step, op_in, spot_at, step_in, steps_in}
 use Rattle.dix_adapter.proofs.GoingOut.{take-long}
 
 -- ---- steps of an op

@@ -1,17 +1,15 @@
 -- Statuses after an op is admitted or ends, and after a piece is cut.
-use Rattle.std.proofs.Common.{◌≡◌, ◌⊎◌, ℕ, zero, suc, ◌+◌, ◌-◌, ◌<◌, ◌≤◌, Bool, true, false, List, [], length, get_or, set, Option, refl, sym, ap, subst, ◌∙◌, arith, ⊎_elim}
+use Rattle.std.proofs.Common.{◌≡◌, ◌⊎◌, ℕ, zero, suc, ◌+◌, ◌-◌, ◌<◌, ◌≤◌, Bool, true, false, List, length, get_or, Option, refl, sym, ap, subst, ◌∙◌, arith, ⊎_elim}
 use Rattle.std.specs.Prelude.{if◌then◌else◌, eqb, nat_le, nat_lt}
 use Rattle.bio_core.specs.declared.fate.Fate.{Fate}
 use Rattle.std.proofs.lemmas.Bool.{cases_Bool, cases_eq, cases_lt, eqb-true}
-use Rattle.std.proofs.lemmas.List.{get_or-set_same, get_or-set_other}
 use Rattle.bio_core.specs.declared.fate.Why.{Why}
 use Rattle.stack_ops.specs.declared.op.Op.{Op}
 use Rattle.range_gate.specs.Gates.{is_waiting}
 use Rattle.stack_view.specs.Plan.{Plan, request_at}
 use Rattle.stack_view.specs.Sound.{Sound}
-use Rattle.stack_view.specs.View.{Command, OpView, View, no_op, op_at}
+use Rattle.stack_view.specs.View.{Command, OpView, View, op_at}
 use Rattle.whole_run.specs.Settings.{Setting}
-use Rattle.run_laws.specs.ScriptMoves.{fates_of}
 use Rattle.run_follows.specs.Pieces.{with_all}
 use Rattle.run_follows.specs.Slots.{Admitted, Cut, Done, Settled, Status, Waits}
 use Rattle.run_follows.specs.Ground.{IsPlanOf}
@@ -19,7 +17,7 @@ use Rattle.run_follows.specs.Spots.{op_in, spots_from, steps_in}
 use Rattle.run_follows.specs.Statuses.{fate_in, sent_as, standing, status_in}
 use Rattle.run_follows.proofs.Fates.{in_none}
 use Rattle.run_follows.proofs.Spots.{steps_count}
-use Rattle.run_follows.proofs.WalksStanding.{is_done, is_sent, is_settled, is_uncut, not_cut, nowhere, past, unmarked, waits}
+use Rattle.run_follows.proofs.WalksStanding.{is_sent, is_settled, is_uncut, not_cut, nowhere, past, unmarked, waits}
 use Rattle.run_follows.proofs.WalksTogether.{with_in, with_out}
 
 -- another op's statuses are those that they were

@@ -1,13 +1,12 @@
 -- What a block's status is by what is seen of it.
-use Rattle.std.proofs.Common.{◌≡◌, ℕ, ◌+◌, ◌-◌, ◌<◌, ◌≤◌, Bool, true, false, List, get_or, Option, refl, arith, ⊎_elim}
-use Rattle.std.specs.Prelude.{if◌then◌else◌, eqb, nat_le}
-use Rattle.std.proofs.lemmas.Bool.{cases_Bool, cases_lt, eq-eqb, ne_eqb, lt-ltb, le-ltb, le-leb, lt-leb, ltb-true}
+use Rattle.std.proofs.Common.{◌≡◌, ℕ, ◌+◌, ◌-◌, ◌<◌, ◌≤◌, true, false, List, get_or, Option, refl, arith, ⊎_elim}
+use Rattle.std.proofs.lemmas.Bool.{cases_Bool, cases_lt, eq-eqb, ne_eqb, lt-ltb, le-ltb, le-leb, lt-leb}
 use Rattle.bio_core.specs.declared.fate.Fate.{Fate}
 use Rattle.bio_core.specs.declared.fate.Why.{Why}
 use Rattle.range_gate.specs.Gates.{is_waiting}
 use Rattle.stack_view.specs.Blocks.{times}
 use Rattle.stack_view.specs.Plan.{Plan, Request, request_at}
-use Rattle.stack_view.specs.Sound.{Sound, due, in_commands, in_queues, is_marked, places, uncut}
+use Rattle.stack_view.specs.Sound.{Sound, due, in_commands, in_queues, is_marked, uncut}
 use Rattle.stack_view.specs.View.{OpView, View, op_at}
 use Rattle.stack_view.proofs.Counts.{times-within}
 use Rattle.stack_view.proofs.Enabled.{due-one}

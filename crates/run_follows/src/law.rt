@@ -1,14 +1,12 @@
 //! One command of a group.
 
-ghost use Rattle.std.specs.Prelude.{◌≡◌, ℕ, false, List, Option, map, take};
+ghost use Rattle.std.specs.Prelude.{◌≡◌, ℕ, false, List, map, take};
 ghost use Rattle.bio_core.specs.declared.bio.Bio.{Bio as AnyBio};
 ghost use Rattle.bio_core.specs.declared.fate.Fate.{Fate as AnyFate};
 ghost use Rattle.bio_core.specs.declared.request.Dir.TheVariants.{Read, Write};
 ghost use Rattle.bio_core.specs.declared.request.Io.{Io as AnyIo};
 ghost use Rattle.page_pool.specs.Cells.{flat};
-ghost use Rattle.sense_codes.specs.declared.Sense.{Sense as AnySense};
 ghost use Rattle.target_answer.specs.Frames.{frames_of};
-ghost use Rattle.block_path.specs.Senses.{why_ended};
 ghost use Rattle.whole_run.specs.Settings.{Setting};
 ghost use Rattle.dix_adapter.specs.declared.adapter.Adapter.{Adapter as AnyAdapter};
 ghost use Rattle.dix_adapter.specs.Carried.{any_bad, frame_len, frame_sent, sends};

@@ -1,6 +1,6 @@
 //! Moves that may change places.
 
-ghost use Rattle.std.specs.Prelude.{◌≡◌, ◌+◌, ℕ, ◌<◌, ◌≤◌, false, List, ◌∷◌, ◌++◌, nat_abs, pos, ◌+ℤ◌};
+ghost use Rattle.std.specs.Prelude.{◌≡◌, ◌+◌, ℕ, ◌<◌, ◌≤◌, false, List, ◌∷◌, ◌++◌, pos, ◌+ℤ◌};
 ghost use Rattle.fault_schedule.specs.Altered.{shift_of};
 ghost use Rattle.fault_schedule.specs.declared.fault.Crossing.TheVariants.{AdapterToTarget};
 ghost use Rattle.stack_ops.specs.declared.op.Op.{Op as AnyOp};

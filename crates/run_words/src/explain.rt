@@ -13,9 +13,9 @@ use call_refusal::{Refusal, TOO_LONG};
 use dix_base::Source;
 use fault_marks::marked_text;
 use rig_api::Rig;
+use run_command::{Finished, run_script};
 use script_laws::a_read_script_keeps_the_rules;
 use script_text::{Script, ScriptFault, ScriptKind, read_script};
-use run_command::{Finished, run_script};
 use source_text::{Unread, read_all};
 use std::alloc::Global;
 

@@ -2,9 +2,9 @@
 
 use crate::reading::{numbers_text, wanted};
 use pi_guard::crc16;
-use test_table::{cut, hex_of, small, text_of};
 use script_text::{Script, ScriptKind, big_script, print_script, read_script};
 use std::alloc::{AllocError, Global};
+use test_table::{cut, hex_of, small, text_of};
 
 /// How many bytes are printed of a script, and their CRC.
 fn sum(alloc: Global, script: &Script) -> Result<String, AllocError> {

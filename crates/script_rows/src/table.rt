@@ -5,8 +5,8 @@ use crate::forming::formed_row;
 use crate::generated::generated_row;
 use crate::reading::{numbers_row, printed_row, read_row};
 use pi_tuple::PiType;
-use test_table::{Judge, cut, small, text_of};
 use std::alloc::{AllocError, Global};
+use test_table::{Judge, cut, small, text_of};
 use volume_table::DeviceInfo;
 
 /// What the rows stand on.

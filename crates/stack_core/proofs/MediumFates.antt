@@ -1,5 +1,5 @@
 -- How many blocks fail at the medium, as commands are carried and completed.
-use Rattle.std.proofs.Common.{◌≡◌, ◌≤◌, ℕ, zero, suc, ◌+◌, ◌-◌, true, false, Bool, List, [], ◌∷◌, ◌++◌, map, get_or, set, replicate, refl, sym, ap, ◌∙◌, ⊎_elim, arith}
+use Rattle.std.proofs.Common.{◌≡◌, ◌≤◌, ℕ, zero, suc, ◌+◌, ◌-◌, true, false, Bool, List, [], ◌∷◌, ◌++◌, map, get_or, set, replicate, refl, ap, ◌∙◌, ⊎_elim, arith}
 use Rattle.std.specs.Prelude.{ltb, if◌then◌else◌, Option, Some, None, Result, Ok, Err}
 use Rattle.std.proofs.lemmas.Bool.{cases_Bool}
 use Rattle.pi_tuple.specs.declared.checks.PiType.{PiType}
@@ -14,11 +14,10 @@ use Rattle.integrity_payload.specs.declared.payload.Owner.{Owner}
 use Rattle.integrity_payload.specs.declared.payload.Owner.TheVariants.{Block as OfBlock, App as OfApp}
 use Rattle.integrity_payload.specs.declared.payload.Payload.{Payload}
 use Rattle.block_path.specs.declared.mode.Mode.{Mode}
-use Rattle.sense_codes.specs.declared.Sense.{Sense}
 use Rattle.dix_adapter.specs.declared.adapter.Adapter.{Adapter}
 use Rattle.dix_adapter.specs.Carried.{arrives, carried, fates_in, unsent}
 use Rattle.dix_adapter.specs.Outcomes.{rest_of}
-use Rattle.rig_api.specs.Log.{IsMedium, IsMediumSense}
+use Rattle.rig_api.specs.Log.{IsMedium}
 use Rattle.rig_api.specs.declared.rig.Outcome.{Outcome}
 use Rattle.block_path.specs.Senses.{is_medium_why, why_ended}
 use Rattle.whole_run.proofs.Named.{medium_is}

@@ -9,9 +9,8 @@ ghost use Rattle.ref_remap.specs.Remapped.{AreRemapped};
 ghost use Rattle.bio_core.specs.Bios.{block_size};
 ghost use Rattle.bio_core.specs.declared.request.Dir.TheVariants.{Read};
 ghost use Rattle.merge_queue.specs.Groups.{size};
-ghost use Rattle.run_follows.specs.Sheets.{io_at};
 ghost use Rattle.run_follows.specs.Settling.{AreAllWhole, AreFates, HasTuples, IsOf, IsWhole, found_by};
-ghost use Rattle.run_follows.specs.Settled.{AllSettled, BioSettled, Blanked, Judged, Kept, LeftBy, MappedBack, OneSettled, ReadSettled, Settled, TupleBlanked, said_by};
+ghost use Rattle.run_follows.specs.Settled.{AllSettled, BioSettled, Blanked, Judged, LeftBy, MappedBack, OneSettled, ReadSettled, Settled, TupleBlanked, said_by};
 
 use crate::kept::Fates;
 use bio_core::{Bio, Dir, Fate, Io, Why};

@@ -3,7 +3,7 @@
 ghost use Rattle.std.specs.Prelude.{◌≡◌, ◌<◌, ◌≤◌, ◌+◌, ◌*◌, ◌^◌, ℕ, length};
 ghost use Rattle.page_pool.specs.Places.{total};
 ghost use Rattle.page_pool.specs.Cuts.{cut};
-ghost use Rattle.bio_core.specs.Bios.{block_size, data_segs, tuple_segs};
+ghost use Rattle.bio_core.specs.Bios.{block_size, data_segs};
 ghost use Rattle.volume_table.specs.Places.{place_in, volume_len};
 ghost use Rattle.run_follows.specs.Sheets.{HaveNumbers, IsSheet, io_at, op_in, plan_of};
 

@@ -2,11 +2,11 @@
 
 use pi_tuple::PiType;
 use rig_api::Outcome;
-use test_table::{array_of, cut};
-use test_rig::Answer;
 use sense_codes::Sense;
 use std::alloc::{AllocError, Global};
 use target_answer::UnitSpec;
+use test_rig::Answer;
+use test_table::{array_of, cut};
 
 /// As many bytes as 64 blocks have with their tuples.
 const FRAMES: usize = 33_280;

@@ -1,11 +1,11 @@
 //! A formatted image in memory.
 
-use dix_base::MemStore;
 use command_line::unit_of;
+use dix_base::MemStore;
 use image_rig::ImageRig;
-use test_rig::formatted;
 use std::alloc::{AllocError, Global};
 use target_answer::UnitSpec;
+use test_rig::formatted;
 
 #[derive(Drop)]
 pub(crate) struct Image {

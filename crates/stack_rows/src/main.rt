@@ -9,9 +9,9 @@ mod row;
 mod runs;
 mod table;
 
-use test_table::read_table;
 use std::io;
 use table::Table;
+use test_table::read_table;
 
 fn main(rt: HostRuntime) -> io::Result<()> {
     let mut table = Table::new(rt.alloc());

@@ -10,11 +10,11 @@ use dix_base::MemSink;
 use mirror_command::{print_mirrored, run_mirror};
 use report_text::print_trace;
 use rig_api::Rig;
+use run_command::{Finished, print_run, run_script};
 use script_laws::a_read_script_keeps_the_rules;
 use script_text::{Script, ScriptFault, read_script};
-use run_command::{Finished, print_run, run_script};
-use test_rig::ScriptedRig;
 use std::alloc::{AllocError, Global};
+use test_rig::ScriptedRig;
 
 /// The most bytes of a report or a trace.
 const ROOM: u32 = 100_000;

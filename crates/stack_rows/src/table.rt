@@ -3,8 +3,8 @@
 use crate::image::Image;
 use crate::row::{Row, add_line};
 use crate::runs::came_of;
-use test_table::{Judge, cut};
 use std::alloc::{AllocError, Global};
+use test_table::{Judge, cut};
 
 /// The image from here on, and the row that is read.
 #[derive(Drop)]

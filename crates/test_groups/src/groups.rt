@@ -1,7 +1,7 @@
 //! Groups.
 
 ghost use Rattle.std.specs.Prelude.{◌≡◌, ℕ, ◌+◌, true, IfSome};
-ghost use Rattle.dix_adapter.specs.Groups.{IsBio, IsGroup, first_of, size};
+ghost use Rattle.dix_adapter.specs.Groups.{IsBio, IsGroup, size};
 
 use crate::requests::is_request;
 use bio_core::{Bio, Io};

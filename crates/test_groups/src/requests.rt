@@ -10,8 +10,8 @@ ghost use Rattle.dix_adapter.specs.Walking.{HasHost, IsOnce, TuplesOnce, Walkabl
 use bio_core::{Dir, Io};
 use dix_adapter::Adapter;
 use integrity_payload::Payload;
-use test_pages::{all_lie, none_twice};
 use page_pool::PagePool;
+use test_pages::{all_lie, none_twice};
 
 fn is_payload(pool: &PagePool, count: u32, pi: &Payload) -> bool
     ensures payload { result ≡ true → IsPayload pi.now }

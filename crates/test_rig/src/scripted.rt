@@ -1,7 +1,5 @@
 //! The rig.
 
-ghost use Rattle.std.specs.Prelude.{◌≡◌};
-
 use crate::answers::Answer;
 use fault_schedule::FaultList;
 use rig_api::Rig;

@@ -13,9 +13,9 @@ mod sinks;
 mod table;
 mod words;
 
-use test_table::read_table;
 use std::io;
 use table::Table;
+use test_table::read_table;
 
 fn main(rt: HostRuntime) -> io::Result<()> {
     let mut table = Table::new(rt.alloc());

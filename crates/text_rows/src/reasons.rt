@@ -2,9 +2,9 @@
 
 use bio_core::Why;
 use pi_tuple::Check;
-use test_table::array_of;
 use stack_ops::{BadBlock, BadList};
 use std::alloc::{AllocError, Global};
+use test_table::array_of;
 
 fn check_of(word: &str) -> Check {
     match word {

@@ -5,12 +5,12 @@ ghost use Rattle.rig_api.specs.Log.{has_key};
 
 use crate::senses::sense_of;
 use crate::sinks::{left, sink_of};
-use test_answers::AnswerRig;
 use report_text::print_trace;
 use rig_api::{Outcome, Rig, blocks_of};
-use test_table::{bytes_of, cut, small};
 use sense_codes::Sense;
 use std::alloc::{AllocError, Global};
+use test_answers::AnswerRig;
+use test_table::{bytes_of, cut, small};
 
 fn is_keyed(sense: Option<Sense>) -> bool
     ensures { result ≡ has_key sense }

@@ -4,9 +4,9 @@ use crate::reasons::blocks_of;
 use crate::sinks::{left, sink_of};
 use dix_base::ByteList;
 use report_text::print_report;
-use test_table::{bytes_of, cut, small};
 use stack_ops::Reply;
 use std::alloc::{AllocError, Global};
+use test_table::{bytes_of, cut, small};
 
 /// The reply of a word: whole, silent, medium, bad:REASON,.. or shown:BYTES.
 fn reply_of(alloc: Global, word: &str) -> Result<Reply, AllocError> {

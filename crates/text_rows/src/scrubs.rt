@@ -7,9 +7,9 @@ use image_rig::ImageRig;
 use pi_tuple::PiType;
 use report_text::print_trace;
 use rig_api::{Rig, UnitSpec};
-use test_table::{cut, small};
 use std::alloc::{AllocError, Global};
 use target_answer::is_layout;
+use test_table::{cut, small};
 
 fn unit(ty: PiType, blocks: u64) -> UnitSpec {
     UnitSpec {

@@ -1,7 +1,7 @@
 //! Senses, as a row writes them.
 
-use test_table::array_of;
 use sense_codes::Sense;
+use test_table::array_of;
 
 /// The sense of a word: key, code and qualifier in hexadecimal, and behind @ the information, if it has any; none of
 /// another word.

@@ -2,8 +2,8 @@
 
 use crate::words::quoted;
 use dix_base::{Failed, MemSink};
-use test_table::number;
 use std::alloc::{AllocError, Global};
+use test_table::number;
 
 /// A sink with room for so many bytes, of which the call of this number fails, or none for 0.
 pub(crate) fn sink_of(alloc: Global, room: u32, call: &str) -> Result<MemSink, AllocError> {

@@ -6,9 +6,9 @@ use crate::records::record_row;
 use crate::reports::{replies_of, report_row};
 use crate::scrubs::trace_row;
 use crate::words::word_row;
-use test_table::{Judge, cut, text_of};
 use stack_ops::Reply;
 use std::alloc::{AllocError, Global};
+use test_table::{Judge, cut, text_of};
 
 /// What the rows stand on.
 #[derive(Drop)]

@@ -1,12 +1,12 @@
 //! The words of scripts.
 
 use page_pool::Seg;
-use test_table::{cut, hex_of, number, small, text_of};
 use script_words::{
     byte, choice, hex_bytes, is_plain, leg, long_tag, next_line, next_word, number_within, segment,
     segments, short_hex, signed_within, spot, tag,
 };
 use std::alloc::{AllocError, Global};
+use test_table::{cut, hex_of, number, small, text_of};
 
 fn none(alloc: Global) -> Result<String, AllocError> {
     String::from_str(alloc, "none")

@@ -15,7 +15,6 @@ use Rattle.script_words.specs.Cuts.{lines_of}
 use Rattle.source_text.specs.Reading.{IsWhole}
 use Rattle.vector_lines.specs.Texts.{is_list, list_in}
 use Rattle.vector_runs.specs.Taken.{CauseNotHeld, CauseNotTaken, HasTaken, Holds, list_fault, script_fault, text_fault}
-use Rattle.vector_runs.specs.Unplayed.{unplayed}
 use Rattle.vector_runs.specs.declared.wanted.Wanted.{Wanted}
 use Rattle.vector_runs.specs.declared.wanted.Wanted.TheVariants as wanted
 
@@ -24,9 +23,6 @@ list_at_fault text f l e = ap (λ b. if b then list_fault (list_in text) else sc
 
 pub script_at_fault : (text : List ℕ) (f : ScriptFault) → is_list (lines_of text) ≡ false → script_in text ≡ Err f → text_fault text ≡ Some f
 script_at_fault text f l e = ap (λ b. if b then list_fault (list_in text) else script_fault (script_in text)) l ∙ ap script_fault e
-
-pub script_unplayed : (text : List ℕ) (s : Script) (f : ScriptFault) → is_list (lines_of text) ≡ false → script_in text ≡ Ok s → unplayed s ≡ Some f → text_fault text ≡ Some f
-script_unplayed text s f l e u = ap (λ b. if b then list_fault (list_in text) else script_fault (script_in text)) l ∙ ap script_fault e ∙ u
 
 held_by : (text : List ℕ) (f : ScriptFault) (r : Refusal) → text_fault text ≡ Some f → (r ≡ refusal.Memory) ⊎ (r ≡ refusal.Script f) → CauseNotHeld r text
 held_by text f r e (inl m) = inl m

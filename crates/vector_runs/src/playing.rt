@@ -15,8 +15,8 @@ use crate::wanted::{Wanted, take_wanted};
 use call_refusal::Refusal;
 use dix_base::{Failed, Sink, Source};
 use rig_api::Rig;
-use script_text::Script;
 use run_command::{Finished, run_script};
+use script_text::Script;
 use std::alloc::Global;
 use vector_lines::VectorLine;
 

@@ -3,8 +3,8 @@
 use crate::names::{add, out_of_range, place_text};
 use crate::stripes::{legs_text, stripe_of};
 use linear_volume::Linear;
-use test_table::{cut, number, small};
 use std::alloc::{AllocError, Global};
+use test_table::{cut, number, small};
 use volume_table::{Entry, EntryList};
 
 /// The extent of four numbers: the first block, how many, the device and the address.

@@ -8,9 +8,9 @@ mod stripes;
 mod tables;
 mod trees;
 
-use test_table::{Judge, cut, read_table};
 use std::alloc::{AllocError, Global};
 use std::io;
+use test_table::{Judge, cut, read_table};
 
 /// The stripe, the devices and the entries of the rows from here on, as the table tells them.
 #[derive(Drop)]

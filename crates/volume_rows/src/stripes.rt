@@ -4,9 +4,9 @@ ghost use Rattle.std.specs.Prelude.{ℕ, ◌+◌, ◌^◌, ◌<◌, ◌≤◌, I
 ghost use Rattle.stripe_volume.specs.Stripes.{AreApart, EndsFit, HasLegs, IsWhole};
 
 use crate::names::{add, out_of_range, place_text};
-use test_table::{cut, number, small};
 use std::alloc::{AllocError, Global};
 use stripe_volume::{Leg, LegList, Stripe};
+use test_table::{cut, number, small};
 
 /// Whether the stripe is as its calls require.
 fn is_right(stripe: &Stripe) -> bool

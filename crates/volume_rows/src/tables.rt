@@ -6,8 +6,8 @@ ghost use Rattle.volume_table.specs.Tables.{EndFits};
 
 use crate::entries::entries_of;
 use crate::names::{out_of_range, place_text, type_of, type_text};
-use test_table::{number, small};
 use std::alloc::{AllocError, Global};
+use test_table::{number, small};
 use volume_table::{DeviceInfo, Entry, VolumeFault, VolumeTable};
 
 fn is_in_range(entry: &Entry) -> bool

@@ -7,8 +7,8 @@ ghost use Rattle.volume_tree.specs.Trees.{AreTracks};
 use crate::entries::entries_text;
 use crate::names::out_of_range;
 use linear_volume::Linear;
-use test_table::{cut, number, small};
 use std::alloc::{AllocError, AllocFailed, Global};
+use test_table::{cut, number, small};
 use volume_tree::{TreeFault, expand};
 
 /// An extent of an inner volume: how many blocks, and where.

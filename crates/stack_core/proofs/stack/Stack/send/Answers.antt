@@ -163,26 +163,26 @@ returns-clause-went g c = λ ch.
       counts = sent_counts s after ch.0 c.args.d c.args.i old.faults new.faults stays ch.1 ch.2 (returns-clause-spoils g c) refl refl;
       sheet = refl;
       answered = λ m n opening first w none us told armed calm.
-      (let s = c.args.self.now in
-      let a = c.args.rig.now in
-      let b = c.carry.new.rig in
-      let old : RigState = g.R.Rig.state a in
-      let new : RigState = g.R.Rig.state b in
-      let req = c.take.new.group.items in
-      let ios = s.sheet.ios.items in
-      let after : Stack = record s { machine = c.fly.new.self; pool = c.carry.new.pool; scratch = c.carry.new.scratch; group = c.take.new.group; fates = c.carry.new.fates } in
-      let settles = settles-of req c.carry.new.fates.items (c.carry.ensures.count ∙ ap size c.deref.ensures.value) c.carry.ensures.settles in
-      let flies = rw (c.deref-2.ensures.value, c.deref-3.ensures.value) at c.fly.ensures in
-      let k = can-carry s c.args.d c.args.i req c.take.new.self (is_some old.image) old.standing old.room c.requires.stands.stack c.requires.stands.spare c.requires.stands.reaches c.requires.ready c.take.ensures.takes in
-      let known = size_is m n opening first s old.standing old.log c.requires.stands.stack w after c.args.d c.args.i req c.carry.new.fates.items c.take.new.self (record { sheet = refl; adapter = refl; host = refl }) ch c.take.ensures.takes flies settles refl ∙ group-bytes s.adapter s.pool k.bytes ios req k.fits in
-      let stands = unit-stands old.standing old.image us (first_of req).dev (sym (g.met.R.Rig.laid a) ∙ told) (g.met.R.Rig.ready a) k.device in
-      let unsent = rw (c.ios.ensures, c.deref.ensures.value) at c.carry.ensures.unsent in
-      let sent = rw (c.ios.ensures, c.deref.ensures.value) at c.carry.ensures.sent in
-      let fetched = rw (c.ios.ensures, c.deref.ensures.value) at c.carry.ensures.fetched in
-      either-way (Answers us old new × (new.standing ≡ old.standing) × (new.armed ≡ old.armed)) (first_of req).dir (any_bad (map (sends s.adapter ios (flat s.pool)) (blocks_in req)))
-      (λ d q. (let e = ap g.R.Rig.state (unsent d q).1 in puts_nothing old new (ap (λ (s : RigState). s.log) e) (ap (λ (s : RigState). s.standing) e) (ap (λ (s : RigState). s.armed) e) (ap (λ (s : RigState). s.units) e) us told armed calm))
-      (λ d q. (sent_puts s.adapter ios req s.pool c.carry.new.pool k.bytes us c.carry.new.fates.items old new c.requires.stands.stack.fixed.protect k.fits known stands told armed calm d q (sent d q), c.carry.ensures.stays.standing, c.carry.ensures.stays.armed))
-      (λ d. (fetched_puts s.adapter ios req s.pool c.carry.new.pool k.bytes us c.carry.new.fates.items old new c.requires.stands.stack.fixed.protect k.fits known stands told armed calm d (fetched d), c.carry.ensures.stays.standing, c.carry.ensures.stays.armed)));
+          (let s = c.args.self.now in
+          let a = c.args.rig.now in
+          let b = c.carry.new.rig in
+          let old : RigState = g.R.Rig.state a in
+          let new : RigState = g.R.Rig.state b in
+          let req = c.take.new.group.items in
+          let ios = s.sheet.ios.items in
+          let after : Stack = record s { machine = c.fly.new.self; pool = c.carry.new.pool; scratch = c.carry.new.scratch; group = c.take.new.group; fates = c.carry.new.fates } in
+          let settles = settles-of req c.carry.new.fates.items (c.carry.ensures.count ∙ ap size c.deref.ensures.value) c.carry.ensures.settles in
+          let flies = rw (c.deref-2.ensures.value, c.deref-3.ensures.value) at c.fly.ensures in
+          let k = can-carry s c.args.d c.args.i req c.take.new.self (is_some old.image) old.standing old.room c.requires.stands.stack c.requires.stands.spare c.requires.stands.reaches c.requires.ready c.take.ensures.takes in
+          let known = size_is m n opening first s old.standing old.log c.requires.stands.stack w after c.args.d c.args.i req c.carry.new.fates.items c.take.new.self (record { sheet = refl; adapter = refl; host = refl }) ch c.take.ensures.takes flies settles refl ∙ group-bytes s.adapter s.pool k.bytes ios req k.fits in
+          let stands = unit-stands old.standing old.image us (first_of req).dev (sym (g.met.R.Rig.laid a) ∙ told) (g.met.R.Rig.ready a) k.device in
+          let unsent = rw (c.ios.ensures, c.deref.ensures.value) at c.carry.ensures.unsent in
+          let sent = rw (c.ios.ensures, c.deref.ensures.value) at c.carry.ensures.sent in
+          let fetched = rw (c.ios.ensures, c.deref.ensures.value) at c.carry.ensures.fetched in
+          either-way (Answers us old new × (new.standing ≡ old.standing) × (new.armed ≡ old.armed)) (first_of req).dir (any_bad (map (sends s.adapter ios (flat s.pool)) (blocks_in req)))
+          (λ d q. (let e = ap g.R.Rig.state (unsent d q).1 in puts_nothing old new (ap (λ (s : RigState). s.log) e) (ap (λ (s : RigState). s.standing) e) (ap (λ (s : RigState). s.armed) e) (ap (λ (s : RigState). s.units) e) us told armed calm))
+          (λ d q. (sent_puts s.adapter ios req s.pool c.carry.new.pool k.bytes us c.carry.new.fates.items old new c.requires.stands.stack.fixed.protect k.fits known stands told armed calm d q (sent d q), c.carry.ensures.stays.standing, c.carry.ensures.stays.armed))
+          (λ d. (fetched_puts s.adapter ios req s.pool c.carry.new.pool k.bytes us c.carry.new.fates.items old new c.requires.stands.stack.fixed.protect k.fits known stands told armed calm d (fetched d), c.carry.ensures.stays.standing, c.carry.ensures.stays.armed)));
     })
 
 pub returns-clause-settles : goal.returns-clause-settles
