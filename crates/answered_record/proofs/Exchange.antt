@@ -1,9 +1,9 @@
 -- What one exchange with a unit that is told puts on record is the unit's answer, whatever stood in the buffer before.
-use Rattle.std.proofs.Common.{◌≡◌, ℕ, suc, ◌+◌, ◌-◌, ◌*◌, ◌≤◌, Bool, true, false, not, ◌&&◌, eqb, if◌then◌else◌, List, [], ◌∷◌, ◌++◌, length, take, drop, replicate, length-append, append-nil, Option, Some, None, refl, sym, ap, subst, ◌∙◌, arith}
+use Rattle.std.proofs.Common.{◌≡◌, ℕ, suc, ◌+◌, ◌-◌, ◌*◌, ◌≤◌, Bool, true, false, not, ◌&&◌, eqb, if◌then◌else◌, List, [], ◌∷◌, length, take, drop, replicate, length-append, Option, Some, None, refl, sym, ap, subst, ◌∙◌, arith}
 use Rattle.std.specs.Prelude.{min, nat_abs, IfOk, Result, Ok, Err}
 use Rattle.std.specs.List.{All}
 use Rattle.std.proofs.lemmas.Bool.{eq-eqb}
-use Rattle.std.proofs.lemmas.List.{drop_all, length-replicate, length-take-le, take-append-le}
+use Rattle.std.proofs.lemmas.List.{length-replicate, length-take-le, take-append-le}
 use Rattle.std.proofs.lemmas.List.Elements.{All-drop, All-head, All-tail, All-take}
 use Rattle.std.proofs.lemmas.Option.{none-some}
 use Rattle.std.proofs.Math.Nat.{mul-le-mul_right}
@@ -31,8 +31,10 @@ use Rattle.rig_api.specs.Telling.{answer_of, at_front, spec_at, unit_at, with_bl
 use Rattle.rig_api.specs.declared.rig.Outcome.{Outcome}
 use Rattle.dix_base.specs.Told.{Calm}
 use Rattle.rig_api.specs.State.{Exchanged, RigState}
+use Rattle.rig_api.proofs.UnitLaws.{fills}
 use Rattle.answered_record.specs.Answered.{ExchangePuts, answer_with, room_by, room_of, room_under}
-use Rattle.answered_record.proofs.Quiet.{comes_through, crosses, no}
+use Rattle.answered_record.proofs.Quiet.{comes_through, crosses}
+use Rattle.small_laws.proofs.Tests.{never}
 
 -- ---- the frames that a read sends
 
@@ -57,7 +59,7 @@ released_long p stored l some =
     by None true One l s = length-take-le p.size stored (omega (arith, l))
     by None true Two l s = length-take-le p.size stored (omega (arith, l))
     by None true Three l s = length-take-le p.size stored (omega (arith, l))
-    by None false Zero l s = no (sym s)
+    by None false Zero l s = never (sym s)
     by None false One l s = l
     by None false Two l s = l
     by None false Three l s = l
@@ -90,10 +92,7 @@ fits_room has wants sense e h = by (eqb has wants) (eq-eqb has wants e) h
   where
     by : (c : Bool) → c ≡ true → (if not c then Some (illegal 0x24) else None) ≡ Some sense → ⊥
     by true z h = none-some sense h
-    by false z h = no z
-
-fills : (xs buffer : List ℕ) → length xs ≡ length buffer → at_front xs buffer ≡ xs
-fills xs buffer l = ap (λ ys. xs ++ ys) (drop_all (length xs) buffer (omega (arith, l))) ∙ append-nil xs
+    by false z h = never z
 
 nothing_taken : (n k : ℕ) (xs ys : List ℕ) → n ≡ 0 → take (n * k) xs ≡ take (n * k) ys
 nothing_taken n k xs ys e = let z : n * k ≡ 0 = ap (λ m. m * k) e ∙ omega arith in ap (λ m. take m xs) z ∙ sym (ap (λ m. take m ys) z)

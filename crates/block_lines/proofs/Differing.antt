@@ -1,7 +1,6 @@
 -- The lines of the blocks that differ are taken apart block by block, and each tells what differs.
 use Rattle.std.proofs.Common.{ℕ, ◌⊎◌, inl, inr, ◌≡◌, ◌+◌, ◌-◌, ◌<◌, Bool, true, false, not, if◌then◌else◌, ◌||◌, eqb, List, [], ◌∷◌, ◌++◌, take, drop, refl, sym, ap, ◌∙◌, arith}
-use Rattle.std.proofs.lemmas.Bool.{eq-eqb}
-use Rattle.std.proofs.lemmas.Bool.Decides.{eqb_tells}
+use Rattle.std.proofs.lemmas.Bool.{or_parts}
 use Rattle.std.proofs.lemmas.Slice.Eq.{bytes_eq-Decides}
 use Rattle.std.specs.Str.{bytes_eq}
 use Rattle.target_answer.specs.Frames.{frames_of, tuple_of}
@@ -10,6 +9,7 @@ use Rattle.block_lines.specs.Laws.{AllAgree, BlocksAgree, NothingDiffers}
 use Rattle.block_lines.specs.ShowText.{one_if}
 use Rattle.block_lines.specs.declared.diff.Pair.{Pair}
 use Rattle.block_lines.proofs.Frames.{next_frame}
+use Rattle.small_laws.proofs.Tests.{same_number, no_other_number}
 
 -- the line of the next two blocks, and the lines behind it
 pub diff_at : (p : Pair) (lba other len other_len m k n : ℕ) (rest others one two more other_more line : List ℕ) → m ≡ len → k ≡ other_len → one ≡ take m rest → two ≡ take k others → more ≡ drop m rest → other_more ≡ drop k others →
@@ -35,12 +35,6 @@ number_by : (a b : ℕ) → ((eqb a b ≡ true) × (a ≡ b)) ⊎ ((eqb a b ≡ 
 number_by a b (inl t) e = t.1
 number_by a b (inr t) e = let k : true ≡ false = ap not (sym t.0) ∙ e in absurd (cc)
 
-same_number : (a b : ℕ) → not (eqb a b) ≡ false → a ≡ b
-same_number a b e = number_by a b (eqb_tells a b) e
-
-no_other_number : (a b : ℕ) → a ≡ b → not (eqb a b) ≡ false
-no_other_number a b e = ap not (eq-eqb a b e)
-
 bytes_by : (xs ys : List ℕ) (t : Bool) → bytes_eq xs ys ≡ t → not t ≡ false → xs ≡ ys
 bytes_by xs ys true k e = (bytes_eq-Decides xs ys).0 k
 bytes_by xs ys false k e = absurd (cc)
@@ -51,21 +45,17 @@ same_bytes xs ys e = bytes_by xs ys (bytes_eq xs ys) refl e
 no_other_bytes : (xs ys : List ℕ) → xs ≡ ys → not (bytes_eq xs ys) ≡ false
 no_other_bytes xs ys e = ap not ((bytes_eq-Decides xs ys).1 e)
 
-neither : (a b : Bool) → (a || b) ≡ false → (a ≡ false) × (b ≡ false)
-neither true b e = absurd (cc)
-neither false b e = (refl, e)
-
 none_of : (a b c d : Bool) → a ≡ false → b ≡ false → c ≡ false → d ≡ false → (a || (b || (c || d))) ≡ false
 none_of a b c d e f g h = rw (e, f, g, h) refl
 
 agree_by : (p : Pair) (lba other : ℕ) (one two : List ℕ) (t : Bool) → have_tuples p ≡ t → differs (if t then tuples_differ p (data_differ p one two) lba other (tuple_of p.unit.size one) (tuple_of p.other_unit.size two) else data_alone (data_differ p one two)) ≡ false → BlocksAgree p lba other one two
 agree_by p lba other one two true k e =
-    let a = neither _ _ e in
-    let b = neither _ _ a.1 in
-    let c = neither _ _ b.1 in
+    let a = or_parts _ _ e in
+    let b = or_parts _ _ a.1 in
+    let c = or_parts _ _ b.1 in
     record { content = same_bytes _ _ a.0; tuples = λ z. record { guard = same_number _ _ b.0; app = same_number _ _ c.0; tag = same_number _ _ c.1 } }
 agree_by p lba other one two false k e =
-    let a = neither _ _ e in
+    let a = or_parts _ _ e in
     record { content = same_bytes _ _ a.0; tuples = λ z. (let both : false ≡ true = sym k ∙ z in absurd (cc)) }
 
 agrees_so : (p : Pair) (lba other : ℕ) (one two : List ℕ) (t : Bool) → have_tuples p ≡ t → BlocksAgree p lba other one two → differs (if t then tuples_differ p (data_differ p one two) lba other (tuple_of p.unit.size one) (tuple_of p.other_unit.size two) else data_alone (data_differ p one two)) ≡ false

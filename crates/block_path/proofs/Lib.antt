@@ -9,3 +9,4 @@ pub mod Serial
 pub mod Sizes
 pub mod Split
 pub mod WriteMoves
+pub mod PathLaws

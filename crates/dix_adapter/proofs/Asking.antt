@@ -32,6 +32,7 @@ use Rattle.block_path.specs.declared.route.Route.{Route}
 use Rattle.dix_adapter.specs.declared.adapter.Adapter.{Adapter}
 use Rattle.dix_adapter.specs.Groups.{mode_of}
 use Rattle.dix_adapter.specs.Carried.{command_for}
+use Rattle.small_laws.proofs.Tests.{eqb_self}
 
 -- the fields of the command
 abbrev pub field_for : Adapter → ℕ
@@ -113,22 +114,19 @@ no-tuples dif One p = refl
 no-tuples dif Two p = refl
 no-tuples dif Three p = refl
 
-equal-yes : (n : ℕ) → eqb n n ≡ true
-equal-yes n = grind arith
-
 pub not-refused-out : (unit : UnitSpec) (cdb : Cdb) (c : Rw) (faults : List FaultLine) (labels : List Label) (out room : ℕ) → request_of cdb ≡ Write c → is_foreign unit.ty cdb ≡ false → (is_zero unit.ty && not (eqb c.protect 0)) ≡ false →
     has_blocks unit (wire_address faults labels c) c.n ≡ true → out ≡ bytes_of unit.size c → refusal unit (Ok cdb) faults labels out room ≡ None
 unfolding refusal
 not-refused-out unit cdb c faults labels out room r f t h l =
     ap (λ q. first_of (refusals_of unit cdb q faults labels out room)) r
-    ∙ rw (f, t, h, l, equal-yes (bytes_of unit.size c)) refl
+    ∙ rw (f, t, h, l, eqb_self (bytes_of unit.size c)) refl
 
 pub not-refused-in : (unit : UnitSpec) (cdb : Cdb) (c : Rw) (faults : List FaultLine) (labels : List Label) (out room : ℕ) → request_of cdb ≡ Read c → is_foreign unit.ty cdb ≡ false → (is_zero unit.ty && not (eqb c.protect 0)) ≡ false →
     has_blocks unit (wire_address faults labels c) c.n ≡ true → has_blocks unit (medium_address faults labels c) c.n ≡ true → room ≡ bytes_of unit.size c → refusal unit (Ok cdb) faults labels out room ≡ None
 unfolding refusal
 not-refused-in unit cdb c faults labels out room r f t h m l =
     ap (λ q. first_of (refusals_of unit cdb q faults labels out room)) r
-    ∙ rw (f, t, h, m, l, equal-yes (bytes_of unit.size c)) (last (eqb c.n 0))
+    ∙ rw (f, t, h, m, l, eqb_self (bytes_of unit.size c)) (last (eqb c.n 0))
   where
     last : (b : Bool) → first_of (record { comes = not b && not true; asc = 0x21 } ∷ record { comes = not true; asc = 0x24 } ∷ []) ≡ None
     last true = refl

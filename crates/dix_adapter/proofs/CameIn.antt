@@ -22,10 +22,12 @@ use Rattle.target_answer.specs.Passing.{from_medium}
 use Rattle.target_answer.specs.Requests.{is_foreign, request_of}
 use Rattle.target_answer.specs.declared.request.Request.TheVariants.{Read as Reads}
 use Rattle.target_answer.specs.Target.{Stop, Stored, answer_unless, carried_out, each, has_blocks, medium_address, passage as passage_of, passed, read_by, read_end, refusal, sending, shape_of, stored_from, target_answer, wire_address}
+use Rattle.target_answer.proofs.FewFrames.{few_passed}
 use Rattle.rig_api.specs.Log.{entry_of, moved_by, moved_under}
 use Rattle.rig_api.specs.Telling.{IsAnswer, answer_of, at_front, unit_at}
 use Rattle.rig_api.specs.declared.rig.Outcome.{Outcome}
 use Rattle.rig_api.specs.State.{RigState}
+use Rattle.rig_api.proofs.UnitLaws.{own_blocks}
 use Rattle.block_path.specs.Acts.{act}
 use Rattle.block_path.specs.Blocks.{fetched_cell}
 use Rattle.block_path.specs.Routes.{medium_lba, moved, passage, wire_lba}
@@ -38,8 +40,8 @@ use Rattle.dix_adapter.specs.Ways.{CameIn, acts_in, blocks_told, cell_in, fates_
 use Rattle.dix_adapter.proofs.Asking.{address-more, alike-in, asked-alike, asked-for, count-is, field_for, fields_of, lba-is, no-tuples-asked, not-refused-in, own-form, protect-is}
 use Rattle.dix_adapter.proofs.Commands.{command-blocks}
 use Rattle.dix_adapter.proofs.GoingIn.{acts-in, ends-in, judged-in-long, judged_in, long-at, part-long, passed-long, sent-long-in, ways-in-are}
-use Rattle.dix_adapter.proofs.GoingOut.{passed-few, take-long}
-use Rattle.dix_adapter.proofs.Puts.{cell-is, same-blocks, told-at}
+use Rattle.dix_adapter.proofs.GoingOut.{take-long}
+use Rattle.dix_adapter.proofs.Puts.{cell-is, told-at}
 use Rattle.dix_adapter.proofs.Runs.{AllLong, Next, Run, cut-joined, front-joined, label-at, width-sent, width_for}
 use Rattle.dix_adapter.proofs.WentOut.{first-shift}
 
@@ -209,7 +211,7 @@ came-by a ios req pool pool' us stop fates old new bytes at from width s t o was
     let isa = subst (λ x. IsAnswer x us (first_of req).dev o new.units was came) ans answer in
     let od : o.done ≡ end.done = ap (λ (x : Outcome). x.done) isa.outcome in
     let fl : length end.frames ≡ end.done = ap length ends.part ∙ take-long end.done (passed js) ends.few in
-    let dn : end.done ≤ size req = (let x = ends.few in let y = passed-few js in omega arith) in
+    let dn : end.done ≤ size req = (let x = ends.few in let y = few_passed js in omega arith) in
     let za : (first_of req).lba ≡ (first_of req).lba + 0 = omega arith in
     let zn : from + 0 + length bs ≤ unit.first + length unit.blocks = (let x = k.below in let z = k.count in omega arith) in
     let wide = came-wide a ios us (first_of req).dev bytes (first_of req).lba at from s t bs 0 k.protect k.there k.whole k.above zn k.here k.there_from (subst (λ z. Run a ios (first_of req).dev bytes s t z bs) za k.run) in
@@ -223,7 +225,7 @@ came-by a ios req pool pool' us stop fates old new bytes at from width s t o was
     record {
       fates_are = fate ∙ ap (λ z. fates_in a ios bs z ++ rest_of (size req) o) cut ∙ ap (λ x. fates_in a ios bs end.frames ++ rest_of (size req) x) isa.outcome
           ∙ ap (λ n. fates_in a ios bs end.frames ++ rest_of n (record { done = end.done; sense = end.sense })) (sym jn) ∙ sym ends.fates ∙ ap (λ z. fates_of_in (stopped_in stop z)) (sym ways);
-      told = isa.units ∙ ap (λ z. Some z) (same-blocks us (first_of req).dev);
+      told = isa.units ∙ ap (λ z. Some z) (own_blocks us (first_of req).dev);
       cells = λ kept now b c.
           lands ∙ ap (λ z. landed a ios bs z (flat pool)) (cut ∙ ends.part) ∙ ap (landed a ios bs (take end.done (passed js))) (sym b)
           ∙ sym (acts-in a ios (shapes_of us) (blocks_told us) kept bs end.done now c ends.few)

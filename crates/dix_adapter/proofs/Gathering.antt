@@ -10,6 +10,7 @@ use Rattle.page_pool.proofs.Ranges.{take-sum}
 use Rattle.pi_tuple.specs.declared.checks.Check.{Check}
 use Rattle.target_answer.specs.Frames.{joined}
 use Rattle.target_answer.specs.Passing.{unless}
+use Rattle.target_answer.proofs.FrameLaws.{joined_append}
 use Rattle.bio_core.specs.declared.bio.Bio.{Bio}
 use Rattle.bio_core.specs.declared.fate.Fate.{Fate}
 use Rattle.bio_core.specs.declared.request.Io.{Io}
@@ -22,10 +23,6 @@ pub any-append : (xs ys : List (Result (List ℕ) Check)) → any_bad (xs ++ ys)
 any-append [] ys = refl
 any-append (Ok f ∷ xs) ys = any-append xs ys
 any-append (Err c ∷ xs) ys = refl
-
-pub joined-append : (xs ys : List (List ℕ)) → joined (xs ++ ys) ≡ joined xs ++ joined ys
-joined-append [] ys = refl
-joined-append (x ∷ xs) ys = ap (λ z. x ++ z) (joined-append xs ys) ∙ sym (append_assoc x (joined xs) (joined ys))
 
 -- a good block's frame is what was gathered
 good-frame : (found : Option Check) (frame : List ℕ) (r : Result (List ℕ) Check) → unless found frame ≡ r → is_bad r ≡ false → frame ≡ frame_sent r
@@ -61,7 +58,7 @@ gathers-more a io b cells i from at old now new found g e f j =
         ∙ ap (λ z. (take from old ++ joined (map frame_sent (sends_first a io b cells i))) ++ z) (good-frame found (take (wire_size (route_by a io b i)) (drop at new)) (sends_by a io b cells i) j k.0)
         ∙ append_assoc (take from old) (joined (map frame_sent (sends_first a io b cells i))) (frame_sent (sends_by a io b cells i))
         ∙ ap (λ z. take from old ++ z) (ap (λ z. joined (map frame_sent (sends_first a io b cells i)) ++ z) (sym (append-nil (frame_sent (sends_by a io b cells i))))
-        ∙ sym (joined-append (map frame_sent (sends_first a io b cells i)) (frame_sent (sends_by a io b cells i) ∷ []))
+        ∙ sym (joined_append (map frame_sent (sends_first a io b cells i)) (frame_sent (sends_by a io b cells i) ∷ []))
         ∙ ap joined (sym (map-append frame_sent (sends_first a io b cells i) (sends_by a io b cells i ∷ []))))
 
 pub fates-more : (a : Adapter) (io : Io) (b : Bio) (cells : List ℕ) (i : ℕ) (old now new : List Fate) (f : Fate) → now ≡ old ++ map unsent (sends_first a io b cells i) → new ≡ now ++ (f ∷ []) → f ≡ unsent (sends_by a io b cells i) →

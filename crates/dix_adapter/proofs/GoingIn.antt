@@ -13,7 +13,6 @@ use Rattle.bio_core.specs.declared.fate.Why.TheVariants.{Medium, Target}
 use Rattle.bio_core.specs.declared.request.Io.{Io}
 use Rattle.bio_core.specs.Bios.{Block, block_size}
 use Rattle.fault_schedule.specs.declared.Label.{Label}
-use Rattle.fault_schedule.specs.declared.fault.Crossing.{Crossing}
 use Rattle.fault_schedule.specs.declared.fault.Crossing.TheVariants.{MediumToTarget, TargetToAdapter}
 use Rattle.fault_schedule.specs.declared.fault.FaultLine.{FaultLine}
 use Rattle.target_answer.specs.Frames.{data_of, stored_size}
@@ -34,8 +33,9 @@ use Rattle.dix_adapter.specs.Carried.{arrives, carried, fates_in, land, landed}
 use Rattle.dix_adapter.specs.Groups.{IsProtect, frame_cells, label_of, request_of, route_of}
 use Rattle.dix_adapter.specs.Outcomes.{rest_of}
 use Rattle.block_path.specs.Senses.{why_ended}
+use Rattle.block_path.proofs.PathLaws.{crossed_length, check_named}
 use Rattle.dix_adapter.specs.Ways.{acts_in, fates_of_in, frames_in, site_of, stopped_in, ways_in}
-use Rattle.dix_adapter.proofs.GoingOut.{check-why, rest-shift}
+use Rattle.dix_adapter.proofs.GoingOut.{rest-shift}
 use Rattle.dix_adapter.proofs.Runs.{AllLong, width_for}
 
 -- what the unit finds in each block
@@ -103,7 +103,7 @@ fates-from a ios lba (b ∷ bs) (Ok f ∷ js) e =
     (sym (rest-shift (length js) (record { done = length (passed js); sense = first_sense (lba + 1) js }) (record { done = suc (length (passed js)); sense = first_sense (lba + 1) js }) refl refl))
 fates-from a ios lba (b ∷ bs) (Err c ∷ js) e =
     ap (λ n. Bad (Target c) ∷ replicate n Untouched) (ways-long a ios bs js (omega arith))
-    ∙ sym (rest-end (length js) (Some (check_sense c lba)) ∙ ap (λ w. Bad w ∷ replicate (length js) Untouched) (check-why c lba))
+    ∙ sym (rest-end (length js) (Some (check_sense c lba)) ∙ ap (λ w. Bad w ∷ replicate (length js) Untouched) (check_named c lba))
 
 -- one at which a store call failed
 set-frames : (a : Adapter) (ios : List Io) (i : ℕ) (bs : List Block) (js : List Judged) → i ≤ length (passed js) → i < length js → length bs ≡ length js → frames_in (set (ways_from a ios bs js) i (Stops Medium)) ≡ take i (passed js)
@@ -213,12 +213,8 @@ acts-in a ios units blocks kept (x ∷ bs) (suc n) now b h =
 
 -- ---- their size
 
-crossed-long : (faults : List FaultLine) (label : Option Label) (at : Crossing) (frame : List ℕ) → length (crossed faults label at frame) ≡ length frame
-crossed-long faults None at frame = refl
-crossed-long faults (Some label) at frame = altered_length faults at label frame
-
 released-long : (faults : List FaultLine) (label : Option Label) (found : Option Check) (frame : List ℕ) (w : ℕ) → length frame ≡ w → IfOk (then_crossed faults label TargetToAdapter (unless found frame)) (λ f. length f ≡ w)
-released-long faults label None frame w e = crossed-long faults label TargetToAdapter frame ∙ e
+released-long faults label None frame w e = crossed_length faults label TargetToAdapter frame ∙ e
 released-long faults label (Some c) frame w e = tt
 
 pub from-long : (faults : List FaultLine) (p : Passage) (stored : List ℕ) (w : ℕ) → length (if eqb p.protect 0 then data_of p.size (crossed faults p.label MediumToTarget stored) else crossed faults p.label MediumToTarget stored) ≡ w → IfOk (from_medium faults p stored) (λ f. length f ≡ w)

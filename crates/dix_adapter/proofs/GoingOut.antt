@@ -4,7 +4,6 @@ use Rattle.std.specs.Prelude.{min, if◌then◌else◌, Result, Ok, Err}
 use Rattle.std.proofs.lemmas.Bool.{cases_Bool, or_parts, ltb-true}
 use Rattle.page_pool.specs.Cells.{gather, scatter}
 use Rattle.pi_tuple.specs.declared.checks.Check.{Check}
-use Rattle.pi_tuple.specs.declared.checks.Check.TheVariants.{Guard, AppTag, RefTag}
 use Rattle.bio_core.specs.declared.fate.Fate.{Fate}
 use Rattle.bio_core.specs.declared.fate.Fate.TheVariants.{Good, Bad, Untouched}
 use Rattle.bio_core.specs.declared.fate.Why.TheVariants.{Medium, Target}
@@ -13,6 +12,7 @@ use Rattle.bio_core.specs.Bios.{Block}
 use Rattle.target_answer.specs.Passing.{to_medium}
 use Rattle.target_answer.specs.Target.{Stop, check_sense, first_sense, medium_sense, passed, write_end}
 use Rattle.target_answer.specs.declared.units.UnitSpec.{UnitSpec}
+use Rattle.target_answer.proofs.FewFrames.{few_passed}
 use Rattle.rig_api.specs.declared.rig.Outcome.{Outcome}
 use Rattle.block_path.specs.Acts.{State, act}
 use Rattle.block_path.specs.Blocks.{Site, own_cell, stored_cell, written_by}
@@ -26,8 +26,10 @@ use Rattle.dix_adapter.specs.Carried.{any_bad, frame_sent, is_bad, sends}
 use Rattle.dix_adapter.specs.Groups.{frame_cells, route_of}
 use Rattle.dix_adapter.specs.Outcomes.{done_of, rest_of}
 use Rattle.block_path.specs.Senses.{why_ended}
+use Rattle.block_path.proofs.PathLaws.{check_named}
 use Rattle.dix_adapter.specs.Ways.{acts_out, cells_out, fates_out, frames_out, left_at, site_of, stopped_out, ways_out}
 use Rattle.dix_adapter.proofs.Puts.{puts, puts-more}
+use Rattle.small_laws.proofs.Tests.{ltb_suc}
 
 abbrev Judged : Type 0
 Judged = Result (List ℕ) Check
@@ -66,11 +68,6 @@ ways-are a ios cells (b ∷ bs) h =
     ap (λ w. w ∷ ways_out a ios cells bs) (way-by a (route_of a ios b) (sends a ios cells b) o.0)
     ∙ ap (λ ws. at_device (frame_sent (sends a ios cells b)) (by_target (to_medium a.tamper (passage a.tamper (route_of a ios b)) (frame_sent (sends a ios cells b)))) ∷ ws) (ways-are a ios cells bs o.1)
 
-pub passed-few : (js : List (Result (List ℕ) Check)) → length (passed js) ≤ length js
-passed-few [] = omega arith
-passed-few (Ok f ∷ js) = let e = passed-few js in omega arith
-passed-few (Err c ∷ js) = omega arith
-
 frames-by : (fs : List (List ℕ)) (js : List Judged) → length fs ≡ length js → frames_out (ways_by fs js) ≡ take (length (passed js)) fs
 frames-by [] [] e = refl
 frames-by [] (j ∷ js) e = absurd (omega arith)
@@ -84,7 +81,7 @@ take-long (suc n) [] h = absurd (omega arith)
 take-long (suc n) (x ∷ xs) h = ap suc (take-long n xs (omega arith))
 
 frames-count : (fs : List (List ℕ)) (js : List Judged) → length fs ≡ length js → length (frames_out (ways_by fs js)) ≡ length (passed js)
-frames-count fs js e = ap length (frames-by fs js e) ∙ take-long (length (passed js)) fs (let x = passed-few js in omega arith)
+frames-count fs js e = ap length (frames-by fs js e) ∙ take-long (length (passed js)) fs (let x = few_passed js in omega arith)
 
 ways-long : (fs : List (List ℕ)) (js : List Judged) → length fs ≡ length js → length (ways_by fs js) ≡ length js
 ways-long [] [] e = refl
@@ -94,23 +91,15 @@ ways-long (f ∷ fs) (j ∷ js) e = ap suc (ways-long fs js (omega arith))
 
 -- ---- fates
 
-pub check-why : (c : Check) (l : ℕ) → why_ended (Some (check_sense c l)) ≡ Target c
-check-why Guard l = refl
-check-why AppTag l = refl
-check-why RefTag l = refl
-
 abbrev pub told : ℕ → Outcome → List Fate
 told n o = replicate (done_of n o) Good ++ rest_of n o
-
-shift-test : (d m : ℕ) → ltb (suc d) (suc m) ≡ ltb d m
-shift-test d m = grind arith
 
 pub rest-shift : (n : ℕ) (o o' : Outcome) → o'.done ≡ suc o.done → o'.sense ≡ o.sense → rest_of (suc n) o' ≡ rest_of n o
 rest-shift n o o' d s =
     let m : suc n - suc (suc o.done) ≡ n - suc o.done = omega arith in
     ap (λ k. if ltb k (suc n) then Bad (why_ended o'.sense) ∷ replicate (suc n - suc k) Untouched else []) d
     ∙ ap (λ k. if ltb (suc o.done) (suc n) then Bad (why_ended k) ∷ replicate (suc n - suc (suc o.done)) Untouched else []) s
-    ∙ ap (λ b. if b then Bad (why_ended o.sense) ∷ replicate (suc n - suc (suc o.done)) Untouched else []) (shift-test o.done n)
+    ∙ ap (λ b. if b then Bad (why_ended o.sense) ∷ replicate (suc n - suc (suc o.done)) Untouched else []) (ltb_suc o.done n)
     ∙ ap (λ k. if ltb o.done n then Bad (why_ended o.sense) ∷ replicate k Untouched else []) m
 
 told-more : (n d : ℕ) (s : _) → told (suc n) (record { done = suc d; sense = s }) ≡ Good ∷ told n (record { done = d; sense = s })
@@ -135,7 +124,7 @@ fates-by lba (f ∷ fs) [] e = absurd (omega arith)
 fates-by lba (f ∷ fs) (Ok g ∷ js) e = ap (λ z. Good ∷ z) (fates-by (lba + 1) fs js (omega arith)) ∙ sym (told-more (length js) (length (passed js)) (first_sense (lba + 1) js))
 fates-by lba (f ∷ fs) (Err c ∷ js) e =
     ap (λ n. Bad (Target c) ∷ replicate n Untouched) (ways-long fs js (omega arith))
-    ∙ sym (told-end (length js) (Some (check_sense c lba)) ∙ ap (λ w. Bad w ∷ replicate (length js) Untouched) (check-why c lba))
+    ∙ sym (told-end (length js) (Some (check_sense c lba)) ∙ ap (λ w. Bad w ∷ replicate (length js) Untouched) (check_named c lba))
 
 -- one at which a store call failed
 set-frames : (i : ℕ) (fs : List (List ℕ)) (js : List Judged) → i < length (passed js) → length fs ≡ length js → frames_out (set (ways_by fs js) i (Refuses Medium)) ≡ take i fs
@@ -248,7 +237,7 @@ stored-out a ios units cells bs (Some s) lba c now g b i =
     ⊎_elim
     (λ (t : ltb s.at (length (passed js)) ≡ true).
     (let l = ltb-true s.at (length (passed js)) t in
-    let k : s.at < length (cells_out a ios units bs) = (let x = passed-few js in let y = judged-long a ios cells bs in let z = cells-long a ios units bs in omega arith) in
+    let k : s.at < length (cells_out a ios units bs) = (let x = few_passed js in let y = judged-long a ios cells bs in let z = cells-long a ios units bs in omega arith) in
     let q : c + length (take s.at (passed js)) ≡ get_or (cells_out a ios units bs) s.at 0 = ap (λ m. c + m) (take-long s.at (passed js) (omega arith)) ∙ sym (turn-at c (cells_out a ios units bs) s.at i k) in
     rw t (puts-more c (take s.at (passed js)) now.blocks s.left ∙ ap (λ m. set (puts c (take s.at (passed js)) now.blocks) m s.left) q
     ∙ ap (λ z. set z (get_or (cells_out a ios units bs) s.at 0) s.left) (sym (acts-out a ios units cells bs s.at c now g b (omega arith) i)))))

@@ -6,6 +6,7 @@ use Rattle.std.proofs.Math.Nat.{mul-le-mul_left, mul-le-mul_right}
 use Rattle.std.proofs.lemmas.Bool.{or_parts}
 use Rattle.pi_tuple.specs.declared.checks.Check.{Check}
 use Rattle.target_answer.specs.Frames.{joined}
+use Rattle.target_answer.proofs.FrameLaws.{joined_append}
 use Rattle.bio_core.specs.declared.bio.Bio.{Bio}
 use Rattle.bio_core.specs.declared.fate.Fate.{Fate}
 use Rattle.bio_core.specs.declared.request.Io.{Io}
@@ -15,7 +16,7 @@ use Rattle.dix_adapter.specs.declared.adapter.Adapter.{Adapter}
 use Rattle.dix_adapter.specs.Groups.{blocks_in, no_bio, request_of, route_by}
 use Rattle.dix_adapter.specs.Carried.{Gathers, any_bad, frame_sent, sends, sends_by, sends_first, unsent}
 use Rattle.dix_adapter.proofs.Blocks.{bios-more, blocks-more}
-use Rattle.dix_adapter.proofs.Gathering.{any-append, joined-append}
+use Rattle.dix_adapter.proofs.Gathering.{any-append}
 
 -- the blocks of a bio, as blocks of its op's request
 pub sends-blocks : (a : Adapter) (ios : List Io) (b : Bio) (cells : List ℕ) (n : ℕ) →
@@ -51,7 +52,7 @@ gathered-more a ios cells req i at end io b now new fates fates' h e q g t n f =
       frames_are = λ x.
           (let y = or_parts (any_bad (results a ios cells (take i req))) (any_bad (sends_first a io b cells b.count)) (sym (any-append (results a ios cells (take i req)) (sends_first a io b cells b.count)) ∙ ap any_bad (sym m) ∙ x) in
           ap (λ k. take k new) n ∙ t.frames y.1 ∙ ap (λ z. z ++ joined (map frame_sent (sends_first a io b cells b.count))) (g.frames_are y.0)
-          ∙ sym (joined-append (map frame_sent (results a ios cells (take i req))) (map frame_sent (sends_first a io b cells b.count)))
+          ∙ sym (joined_append (map frame_sent (results a ios cells (take i req))) (map frame_sent (sends_first a io b cells b.count)))
           ∙ ap joined (sym (map-append frame_sent (results a ios cells (take i req)) (sends_first a io b cells b.count)))
           ∙ ap (λ z. joined (map frame_sent z)) (sym m));
     }

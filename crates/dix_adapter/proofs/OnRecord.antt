@@ -17,11 +17,11 @@ use Rattle.cdb_codec.specs.declared.choice.Dir2.TheVariants.{In, Out}
 use Rattle.cdb_codec.proofs.Inverse.{decoded_form}
 use Rattle.target_answer.specs.Frames.{frames_of, joined, sent_size}
 use Rattle.target_answer.specs.Requests.{blocks_of}
+use Rattle.target_answer.proofs.FrameLaws.{frames_length}
 use Rattle.rig_api.specs.Log.{entry_of, moved_by, moved_under}
 use Rattle.rig_api.specs.Telling.{spec_at}
 use Rattle.rig_api.specs.declared.rig.Outcome.{Outcome}
 use Rattle.rig_api.specs.State.{RigState}
-use Rattle.dix_adapter.proofs.Units.{frames-count}
 use Rattle.dix_adapter.specs.declared.adapter.Adapter.{Adapter}
 use Rattle.dix_adapter.specs.Carried.{Fetched, Sent, any_bad, arrives, carried, command_for, command_of, fates_in, frame_len, landed, out_of, sends, unsent, way_of}
 use Rattle.dix_adapter.specs.Groups.{IsGroup, IsProtect, blocks_in, first_of, label_of, request_of, size}
@@ -38,7 +38,7 @@ use Rattle.dix_adapter.proofs.Told.{group-bytes}
 use Rattle.dix_adapter.proofs.WentOut.{some-blocks}
 
 -- only the front counts
-frames-front : (w n : ℕ) (X : List ℕ) → frames_of w n (take (n * w) X) ≡ frames_of w n X
+pub frames-front : (w n : ℕ) (X : List ℕ) → frames_of w n (take (n * w) X) ≡ frames_of w n X
 frames-front w zero X = refl
 frames-front w (suc n) X =
     let z : suc n * w ≡ w + n * w = omega arith in
@@ -158,4 +158,4 @@ pub settles-in : (a : Adapter) (pool pool' : List (List ℕ)) (bytes : ℕ) (ios
 settles-in a pool pool' bytes ios req fates old new g got =
     ap any_settled got.fates_are
     ∙ settled-came a ios (blocks_in req) (frames_of (frame_len a ios req) (done_of (size req) got.outcome) got.came) (size req) got.outcome (some-blocks a pool bytes ios req g) (length-in req)
-    (frames-count (frame_len a ios req) (done_of (size req) got.outcome) got.came)
+    (frames_length (frame_len a ios req) (done_of (size req) got.outcome) got.came)

@@ -94,9 +94,3 @@ told-at (u ∷ us) (suc dev) i l h = let s : length u.blocks + before us dev + i
     behind : (xs ys : List (List ℕ)) (i : ℕ) → get_or (xs ++ ys) (length xs + i) [] ≡ get_or ys i []
     behind [] ys i = let z : 0 + i ≡ i = omega arith in ap (λ k. get_or ys k []) z
     behind (x ∷ xs) ys i = let s : suc (length xs) + i ≡ suc (length xs + i) = omega arith in ap (λ k. get_or (x ∷ (xs ++ ys)) k []) s ∙ behind xs ys i
-
--- a unit with its own blocks
-pub same-blocks : (us : List Stored) (dev : ℕ) → with_blocks us dev (unit_at us dev).blocks ≡ us
-same-blocks [] dev = refl
-same-blocks (u ∷ us) zero = refl
-same-blocks (u ∷ us) (suc dev) = ap (λ z. u ∷ z) (same-blocks us dev)

@@ -18,11 +18,11 @@ use Rattle.cdb_codec.proofs.Inverse.{decoded_form}
 use Rattle.fault_schedule.specs.declared.Label.{Label}
 use Rattle.target_answer.specs.Frames.{frames_of, sent_size}
 use Rattle.target_answer.specs.declared.units.UnitSpec.{UnitSpec}
+use Rattle.target_answer.proofs.FrameLaws.{frames_length}
 use Rattle.rig_api.specs.Log.{Room, labels_len, moved_by, moved_under}
 use Rattle.rig_api.specs.Telling.{greatest, greatest_size, no_spec, spec_at, specs_of}
 use Rattle.rig_api.specs.declared.rig.Outcome.{Outcome}
 use Rattle.rig_api.specs.State.{RigState, Exchanged}
-use Rattle.dix_adapter.proofs.Units.{frames-count}
 use Rattle.dix_adapter.specs.declared.adapter.Adapter.{Adapter}
 use Rattle.dix_adapter.specs.Carried.{Fetched, Sent, arrives, carried, command_for, fates_in, frame_len, sends, unsent, way_of}
 use Rattle.dix_adapter.specs.Groups.{blocks_in, first_of, label_of, size}
@@ -154,7 +154,7 @@ pub spends-in : (a : Adapter) (pool pool' : List (List ℕ)) (ios : List Io) (re
 spends-in a pool pool' ios req fates old new got =
     let n = size req in
     let frames = frames_of (frame_len a ios req) (done_of n got.outcome) got.came in
-    let k = frames-count (frame_len a ios req) (done_of n got.outcome) got.came in
+    let k = frames_length (frame_len a ios req) (done_of n got.outcome) got.came in
     let l = length-in req in
     let s = ap settled_count got.fates_are ∙ came-settled a ios (blocks_in req) frames (rest_of n got.outcome) (omega arith) in
     let r = rest-count n got.outcome in
@@ -179,7 +179,7 @@ pub each-in : (a : Adapter) (pool pool' : List (List ℕ)) (ios : List Io) (req 
 each-in a pool pool' ios req fates old new got =
     let n = size req in
     let frames = frames_of (frame_len a ios req) (done_of n got.outcome) got.came in
-    let k = frames-count (frame_len a ios req) (done_of n got.outcome) got.came in
+    let k = frames_length (frame_len a ios req) (done_of n got.outcome) got.came in
     let l = length-in req in
     let r = rest-length n got.outcome in
     let e = ap length got.fates_are ∙ length-append (fates_in a ios (blocks_in req) frames) (rest_of n got.outcome) in

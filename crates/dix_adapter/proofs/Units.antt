@@ -1,41 +1,17 @@
 -- The units that a rig tells are those of its devices, and their blocks have one length.
-use Rattle.std.proofs.Common.{◌≡◌, ◌<◌, ◌≤◌, ℕ, zero, suc, ◌+◌, ◌*◌, Bool, true, false, eqb, ltb, List, [], ◌∷◌, length, drop, get_or, refl, ap, sym, subst, ◌∙◌, arith, inl, inr, ⊎_elim, Option, Some, None}
-use Rattle.std.specs.Prelude.{if◌then◌else◌}
-use Rattle.std.proofs.lemmas.Bool.{cases_Bool, eqb-true}
+use Rattle.std.proofs.Common.{◌≡◌, ◌<◌, ◌≤◌, ℕ, zero, suc, ◌+◌, ◌*◌, List, [], ◌∷◌, length, drop, get_or, refl, ap, sym, subst, ◌∙◌, arith, inl, inr, Option, Some, None}
 use Rattle.std.proofs.lemmas.List.{length-drop, length-take-le, take_all, length-map}
 use Rattle.target_answer.specs.Frames.{frames_of, stored_size}
-use Rattle.target_answer.specs.Headers.{all_bytes, bytes_of, image_size, is_header, specs_in}
+use Rattle.target_answer.specs.Headers.{all_bytes, bytes_of}
 use Rattle.target_answer.specs.Image.{units_from, units_in}
 use Rattle.target_answer.specs.Target.{Stored, shape_of}
 use Rattle.target_answer.specs.declared.units.UnitSpec.{UnitSpec}
-use Rattle.target_answer.specs.declared.units.Version.{Version}
-use Rattle.rig_api.specs.Head.{Head, fault_of_header, fault_under, head_fault, head_of, specs_under, units_of, version_in}
-use Rattle.rig_api.specs.declared.rig.RigFault.TheVariants.{BadLength}
+use Rattle.target_answer.proofs.FrameLaws.{frames_length}
+use Rattle.rig_api.specs.Head.{units_of}
 use Rattle.rig_api.specs.Telling.{IsStanding, Standing, StandsOn, no_spec, spec_at, specs_of, unit_at, units_told}
+use Rattle.rig_api.proofs.HeadLaws.{image_long}
 use Rattle.dix_adapter.specs.Ways.{shapes_of}
 use Rattle.dix_adapter.proofs.Runs.{AllLong}
-
--- the length of an image with a right head
-right-length : (h : Head) (v : Option Version) → fault_under v h ≡ None → h.size ≡ image_size (specs_under v h.first)
-right-length h None e = absurd (cc)
-right-length h (Some v) e = by (ltb (length h.first) 512) (is_header v h.first) h.size (image_size (specs_in v h.first)) e
-  where
-    by : (short good : Bool) (has wants : ℕ) → (if short then Some BadLength else fault_of_header good has wants) ≡ None → has ≡ wants
-    by true good has wants e = absurd (cc)
-    by false false has wants e = absurd (cc)
-    by false true has wants e =
-        ⊎_elim
-        (λ (t : eqb has wants ≡ true). eqb-true has wants t)
-        (λ (t : eqb has wants ≡ false). absurd (let x : Some BadLength ≡ None = sym (ap (λ b. if b then None else Some BadLength) t) ∙ e in cc))
-        (cases_Bool (eqb has wants))
-
-pub image-long : (h : Head) (image : List ℕ) → head_fault h ≡ None → h ≡ head_of image → length image ≡ image_size (units_of h)
-unfolding head_fault
-image-long h image e t = sym (ap (λ x. x.size) t) ∙ right-length h (version_in h) e
-
-pub frames-count : (w n : ℕ) (bytes : List ℕ) → length (frames_of w n bytes) ≡ n
-frames-count w zero bytes = refl
-frames-count w (suc n) bytes = ap suc (frames-count w n (drop w bytes))
 
 pub frames-long : (w n : ℕ) (bytes : List ℕ) → n * w ≤ length bytes → AllLong w (frames_of w n bytes)
 frames-long w zero bytes h = tt
@@ -44,10 +20,10 @@ frames-long w (suc n) bytes h =
     let d = length-drop w bytes in
     (length-take-le w bytes (omega arith), frames-long w n (drop w bytes) (omega arith))
 
-shapes-are : (us : List UnitSpec) (bytes : List ℕ) → shapes_of (units_from us bytes) ≡ us
+pub shapes-are : (us : List UnitSpec) (bytes : List ℕ) → shapes_of (units_from us bytes) ≡ us
 shapes-are [] bytes = refl
 shapes-are (u ∷ us) bytes =
-    ap (λ n. (record { ty = u.ty; blocks = n; size = u.size; first = u.first }) ∷ shapes_of (units_from us (drop (bytes_of u) bytes))) (frames-count (stored_size u.ty u.size) u.blocks bytes)
+    ap (λ n. (record { ty = u.ty; blocks = n; size = u.size; first = u.first }) ∷ shapes_of (units_from us (drop (bytes_of u) bytes))) (frames_length (stored_size u.ty u.size) u.blocks bytes)
     ∙ ap (λ z. u ∷ z) (shapes-are us (drop (bytes_of u) bytes))
 
 blocks-long : (us : List UnitSpec) (bytes : List ℕ) (dev : ℕ) → all_bytes us ≤ length bytes → dev < length us → AllLong (stored_size (unit_at (units_from us bytes) dev).ty (unit_at (units_from us bytes) dev).size) (unit_at (units_from us bytes) dev).blocks
@@ -73,7 +49,7 @@ of-image s bytes dev on l =
     let n : dev < length (specs_of s) = (let x = on.devices in let y = ap length e in omega arith) in
     let sh = shapes-are (specs_of s) (drop 512 bytes) in
     let m : length (units_in (specs_of s) bytes) ≡ length (specs_of s) = sym (length-map (units_in (specs_of s) bytes) shape_of) ∙ ap length sh in
-    let b : all_bytes (specs_of s) ≤ length (drop 512 bytes) = (let x = image-long s.head bytes on.right on.told in let y = ap all_bytes e in let d = length-drop 512 bytes in omega arith) in
+    let b : all_bytes (specs_of s) ≤ length (drop 512 bytes) = (let x = image_long s.head bytes on.right on.told in let y = ap all_bytes e in let d = length-drop 512 bytes in omega arith) in
     let t : dev < length (units_in (specs_of s) bytes) = omega (arith, n, m) in
     record {
       shapes = sh;

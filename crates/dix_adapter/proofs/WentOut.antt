@@ -1,7 +1,6 @@
 -- A write before a unit that is told.
-use Rattle.std.proofs.Common.{◌≡◌, ◌<◌, ◌≤◌, ℕ, suc, ◌+◌, ◌-◌, ◌*◌, true, false, not, ◌&&◌, eqb, ltb, List, [], ◌∷◌, ◌++◌, length, map, take, replicate, length-append, refl, ap, sym, subst, ◌∙◌, arith, ⊎_elim, Option, Some, None}
+use Rattle.std.proofs.Common.{◌≡◌, ◌<◌, ◌≤◌, ℕ, suc, ◌+◌, ◌-◌, ◌*◌, true, false, not, ◌&&◌, eqb, List, [], ◌∷◌, ◌++◌, length, map, take, replicate, refl, ap, sym, subst, ◌∙◌, arith, Option, None}
 use Rattle.std.specs.Prelude.{min, ℤ, pos, ◌+ℤ◌, nat_abs, Result, Ok}
-use Rattle.std.proofs.lemmas.Bool.{cases_Bool}
 use Rattle.std.proofs.lemmas.List.{append-nil}
 use Rattle.page_pool.specs.Cells.{flat}
 use Rattle.pi_tuple.specs.Finds.{is_zero}
@@ -25,6 +24,7 @@ use Rattle.target_answer.specs.Passing.{to_medium}
 use Rattle.target_answer.specs.Requests.{is_foreign, request_of}
 use Rattle.target_answer.specs.declared.request.Request.TheVariants.{Write as Writes}
 use Rattle.target_answer.specs.Target.{Stop, Stored, answer_unless, bytes_of, carried_out, each, has_blocks, passage as passage_of, passed, refusal, shape_of, storing, target_answer, wire_address, write_end, written_by}
+use Rattle.target_answer.proofs.FewFrames.{few_passed, few_written}
 use Rattle.rig_api.specs.Log.{entry_of, moved_by, moved_under}
 use Rattle.rig_api.specs.Telling.{IsAnswer, answer_of, unit_at, with_blocks}
 use Rattle.rig_api.specs.declared.rig.Outcome.{Outcome}
@@ -39,7 +39,7 @@ use Rattle.dix_adapter.specs.Outcomes.{done_of, rest_of}
 use Rattle.dix_adapter.specs.Ways.{WentOut, acts_out, blocks_told, cell_in, cells_out, fates_out, frames_out, left_at, shapes_of, stopped_out, ways_out}
 use Rattle.dix_adapter.proofs.Asking.{address-more, asked-for, count-is, field_for, fields_of, lba-is, no-tuples-asked, not-refused-out, own-form, protect-is}
 use Rattle.dix_adapter.proofs.Commands.{command-blocks}
-use Rattle.dix_adapter.proofs.GoingOut.{InTurn, all_sent, ends-out, judged-long, judged_out, passed-few, sent-long, stored-out, take-long, told, ways-are}
+use Rattle.dix_adapter.proofs.GoingOut.{InTurn, all_sent, ends-out, judged-long, judged_out, sent-long, stored-out, take-long, told, ways-are}
 use Rattle.dix_adapter.proofs.Puts.{before, cell-is, placed-puts, puts, puts-long, told-puts, told-shapes}
 use Rattle.dix_adapter.proofs.Runs.{AllLong, Run, asked-out, cut-joined, front-joined, joined-long, sent-wide, width-sent, width_for}
 
@@ -120,18 +120,6 @@ turn-out a ios us device bytes address at s t (b ∷ bs) k l p f r =
       subst (λ c. InTurn c (cells_out a ios (shapes_of us) bs)) (sym n) (turn-out a ios us device bytes address at s t bs (suc k) l p f (subst (λ c. Run a ios device bytes s t c bs) q r.1)),
     )
 
-end-few : (lba : ℕ) (js : List (Result (List ℕ) Check)) (stop : Option Stop) → length (write_end lba js stop).frames ≤ length js
-end-few lba js None = passed-few js
-end-few lba js (Some s) =
-    let e = passed-few js in
-    ⊎_elim
-    (λ (t : ltb s.at (length (passed js)) ≡ true).
-    (let l : s.at < length (passed js) = grind arith in
-    let n : length (take s.at (passed js) ++ (s.left ∷ [])) ≡ s.at + 1 = length-append (take s.at (passed js)) (s.left ∷ []) ∙ ap (λ k. k + 1) (take-long s.at (passed js) (omega arith)) in
-    rw t (omega arith)))
-    (λ (t : ltb s.at (length (passed js)) ≡ false). rw t e)
-    (cases_Bool (ltb s.at (length (passed js))))
-
 -- ---- the record
 
 pub moved-out : (a : Adapter) (bytes width address n d : ℕ) (fs : List (List ℕ)) (came : List ℕ) → Fits (command_for a Out address n) → IsProtect a.protect → AllLong (width_for a bytes) fs → length fs ≡ n → d ≤ n → width ≡ bytes →
@@ -171,11 +159,11 @@ went-by a ios req pool us stop fates old new bytes at width s t o k g l f e w an
     let ends = ends-out stop at fs js fn in
     let ans = answered-out a ios unit (first_of req).dev bytes (first_of req).lba (size req) at s t bs cells stop k g in
     let isa = subst (λ x. IsAnswer x us (first_of req).dev o new.units [] []) ans answer in
-    let pf = passed-few js in
+    let pf = few_passed js in
     let dn : end.done ≤ size req = (let x = ends.few in omega arith) in
     let fr : frames_out (stopped_out stop (ways_out a ios cells bs)) ≡ take end.done fs = ap (λ z. frames_out (stopped_out stop z)) ways ∙ ends.frames in
     let od : o.done ≡ end.done = ap (λ (x : Outcome). x.done) isa.outcome in
-    let fit : at - unit.first + length end.frames ≤ length unit.blocks = (let x = end-few at js stop in omega arith) in
+    let fit : at - unit.first + length end.frames ≤ length unit.blocks = (let x = few_written at js stop in omega arith) in
     let put : placed (at - unit.first) end.frames unit.blocks ≡ puts (at - unit.first) end.frames unit.blocks = placed-puts (at - unit.first) end.frames unit.blocks fit in
     let fc : length (frames_out (ways_out a ios cells bs)) ≡ length (passed js) = ap (λ z. length (frames_out z)) ways ∙ ap length (ends-out None at fs js fn).frames ∙ take-long (length (passed js)) fs (omega arith) in
     let lf : length (frames_out (stopped_out stop (ways_out a ios cells bs))) ≡ end.done = ap length fr ∙ take-long end.done fs (let x = ends.few in omega arith) in

@@ -1,3 +1,5 @@
 mod Over
 mod Cut
 mod Octets
+pub mod Counts
+pub mod Appending

@@ -1,9 +1,11 @@
 -- The commands come to their ends where nothing is at fault.
 use Rattle.std.proofs.Common.{ℕ, ◌≡◌, ◌⊎◌, inl, inr, Bool, true, false, List, Option, Some, None, refl, sym, ap, subst}
 use Rattle.dix_base.specs.Told.{Calm}
+use Rattle.dix_base.proofs.Counts.{never_rose}
 use Rattle.rig_api.specs.Head.{head_fault, head_of}
 use Rattle.rig_api.specs.State.{RigState}
 use Rattle.image_commands.specs.Causes.{CauseUnformatted, CauseUnmigrated, CauseUnscrubbed}
+use Rattle.image_commands.proofs.Opened.{right_head, told_is_good}
 use Rattle.nvme_command.specs.Causes.{CauseNotDone}
 use Rattle.nvme_command.proofs.Completes.{spared_alone}
 use Rattle.command_line.specs.Grammar.{command_in, image_in}
@@ -12,7 +14,7 @@ use Rattle.command_line.specs.declared.command.Command.TheVariants.{Run, Trace, 
 use Rattle.mirror_command.proofs.Completing.{complete as mirror_complete}
 use Rattle.mirror_command.specs.Texts.{is_any_lost}
 use Rattle.mirror_command.specs.Verdict.{IsComplete as MirrorComplete}
-use Rattle.run_command.proofs.Completing.{complete, never_rose, no_head_fault, told_is_good}
+use Rattle.run_command.proofs.Completing.{complete}
 use Rattle.run_command.specs.Texts.{has_bad}
 use Rattle.run_command.specs.Verdict.{IsComplete as RunComplete}
 use Rattle.call_refusal.specs.declared.refusal.Refusal.{Refusal as Stop}
@@ -61,13 +63,13 @@ unformatted_for_memory stop.Memory name old new calm c = refl
 unformatted_for_memory _ name old new calm c = absurd c
 
 unmigrated_for_memory : (s : Stop) (image name : List ℕ) (old new : RigState) → old.image ≡ Some image → head_fault (head_of image) ≡ None → Calm old.faults new.faults → CauseUnmigrated s name old new → s ≡ stop.Memory
-unmigrated_for_memory (stop.Image x) image name old new i h calm c = absurd (no_head_fault image x name old new i c.1.image h c.0)
+unmigrated_for_memory (stop.Image x) image name old new i h calm c = absurd (right_head image x name old new i c.1.image h c.0)
 unmigrated_for_memory stop.RigFault image name old new i h calm c = absurd (never_rose old.faults new.faults calm c.0)
 unmigrated_for_memory stop.Memory image name old new i h calm c = refl
 unmigrated_for_memory _ image name old new i h calm c = absurd c
 
 unscrubbed_for_memory : (s : Stop) (image name : List ℕ) (old new : RigState) → old.image ≡ Some image → head_fault (head_of image) ≡ None → Calm old.faults new.faults → CauseUnscrubbed s name old new → s ≡ stop.Memory
-unscrubbed_for_memory (stop.Image x) image name old new i h calm c = absurd (no_head_fault image x name old new i c.1.image h c.0)
+unscrubbed_for_memory (stop.Image x) image name old new i h calm c = absurd (right_head image x name old new i c.1.image h c.0)
 unscrubbed_for_memory (stop.BadCapacity dev) image name old new i h calm c = absurd (told_is_good image name dev old new i c)
 unscrubbed_for_memory stop.RigFault image name old new i h calm c = absurd (never_rose old.faults new.faults calm c.0)
 unscrubbed_for_memory stop.Memory image name old new i h calm c = refl

@@ -1,6 +1,7 @@
 -- A call came to its end.
-use Rattle.std.proofs.Common.{ℕ, ◌≡◌, inr, List, [], ◌∷◌, ◌++◌, length, drop, Option, refl, sym, ap, subst, ◌∙◌, append_assoc}
+use Rattle.std.proofs.Common.{ℕ, ◌≡◌, inr, List, [], ◌++◌, length, drop, Option, sym, ap, subst, ◌∙◌, append_assoc}
 use Rattle.std.specs.Prelude.{codes, decimal}
+use Rattle.std.proofs.Math.Seq.{drop-append_seam}
 use Rattle.target_answer.specs.declared.units.UnitSpec.{UnitSpec}
 use Rattle.volume_table.specs.declared.device.DeviceInfo.{DeviceInfo}
 use Rattle.rig_api.specs.Log.{Entry}
@@ -43,10 +44,6 @@ pub formatted : (f : Facts) (us : List UnitSpec) (n : ℕ) (old new : Option (Li
 formatted f us n old new o m result number was source written =
     done (format_work us) tt f old new o m result (was, source) (subst (λ k. Written status.Whole (codes "formatted " ++ (decimal k ++ codes "\n")) old new o m result) number written)
 
-dropped : (xs ys : List Entry) → drop (length xs) (xs ++ ys) ≡ ys
-dropped [] ys = refl
-dropped (x ∷ xs) ys = dropped xs ys
-
 -- the records of a call that ran a script
 records_since : (run : Finished) (script : Script) (name : List ℕ) (old new : RigState) → HasRun run script name old new → new.log ≡ old.log ++ drop run.first new.log
 records_since run script name old new r =
@@ -54,7 +51,7 @@ records_since run script name old new r =
     let asks : List Entry = looks told.between.standing 0 told.found.answers in
     let asked : r.told.log ≡ old.log ++ asks = told.found.log ∙ ap (λ v. v ++ asks) told.since.kept.log in
     let more : new.log ≡ old.log ++ (asks ++ r.followed.goes.more) = r.followed.goes.records ∙ ap (λ v. v ++ r.followed.goes.more) asked ∙ append_assoc old.log asks r.followed.goes.more in
-    let rest : drop run.first new.log ≡ asks ++ r.followed.goes.more = ap (λ k. drop k new.log) r.first ∙ ap (drop (length old.log)) more ∙ dropped old.log (asks ++ r.followed.goes.more) in
+    let rest : drop run.first new.log ≡ asks ++ r.followed.goes.more = ap (λ k. drop k new.log) r.first ∙ ap (drop (length old.log)) more ∙ drop-append_seam old.log (asks ++ r.followed.goes.more) in
     more ∙ ap (λ v. old.log ++ v) (sym rest)
 
 pub traced : (f : Facts) (run : Finished) (old new : Option (List ℕ)) (o n : ℕ) (result : Status) → HasRunSource run (call_of f) →

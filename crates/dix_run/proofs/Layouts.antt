@@ -11,6 +11,7 @@ use Rattle.script_words.specs.Decimals.{number_in}
 use Rattle.command_line.specs.Units.{type_in}
 use Rattle.command_line.specs.declared.command.Command.{Command}
 use Rattle.command_line.specs.declared.command.Command.TheVariants.{Run, Trace, Format, Migrate, Mirror, Scrub, Nvme, Big}
+use Rattle.image_commands.proofs.Devices.{second_true}
 
 on_image_not : (c : Command) (words : List (List ℕ)) (us : List UnitSpec) → (c ≡ Format us → ⊥) → on_image c words ≡ Some (Format us) → ⊥
 on_image_not c words us n e = by (is_one_name words) e
@@ -87,9 +88,6 @@ layout_in (verb ∷ words) us e =
     chain (bytes_eq verb (codes "run")) (bytes_eq verb (codes "trace")) (bytes_eq verb (codes "format")) (bytes_eq verb (codes "migrate")) (bytes_eq verb (codes "mirror")) (bytes_eq verb (codes "scrub")) (bytes_eq verb (codes "nvme"))
     (bytes_eq verb (codes "modes")) (bytes_eq verb (codes "big")) words us e
 
-second_true : (a b c : Bool) → (a && (b && c)) ≡ true → b ≡ true
-second_true a b c h = grind arith
-
 pub few_units : (us : List UnitSpec) → is_layout us ≡ true → length us ≤ 8
 few_units us e = leb-true (length us) 8 (second_true _ (leb (length us) 8) _ e)
 
@@ -130,16 +128,13 @@ modes_big [] n seed e = cc
 modes_big (t ∷ []) n seed e = modes_with_big (type_in t) n seed e
 modes_big (t ∷ u ∷ words) n seed e = cc
 
-within_big : (a b c : Bool) → (a && (b && c)) ≡ true → b ≡ true
-within_big a b c h = grind arith
-
 few_with : (x y : Option ℕ) (n seed : ℕ) → big_with x y ≡ Some (Big n seed) → n ≤ 1024
 few_with None y n seed e = absurd (cc)
 few_with (Some k) None n seed e = absurd (cc)
 few_with (Some k) (Some s) n seed e = by (leb 1 k && (leb k 1024 && ltb s (2 ^ 32))) refl e
   where
     by : (b : Bool) → (leb 1 k && (leb k 1024 && ltb s (2 ^ 32))) ≡ b → (if b then Some (Big k s) else None) ≡ Some (Big n seed) → n ≤ 1024
-    by true p e = let same : k ≡ n = cc in let l = leb-true k 1024 (within_big (leb 1 k) (leb k 1024) (ltb s (2 ^ 32)) p) in omega (arith, same, l)
+    by true p e = let same : k ≡ n = cc in let l = leb-true k 1024 (second_true (leb 1 k) (leb k 1024) (ltb s (2 ^ 32)) p) in omega (arith, same, l)
     by false p e = absurd (cc)
 
 few_of : (words : List (List ℕ)) (n seed : ℕ) → big_of words ≡ Some (Big n seed) → n ≤ 1024

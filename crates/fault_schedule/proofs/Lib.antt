@@ -1,2 +1,3 @@
 pub mod Xored
 mod Spans
+pub mod Unaltered

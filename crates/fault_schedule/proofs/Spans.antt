@@ -1,5 +1,5 @@
 -- A block is altered, and an op shifted, by the lines of its op alone, and these stand between the first and the last of them.
-use Rattle.std.proofs.Common.{◌≡◌, ℕ, suc, ◌+◌, ◌-◌, ◌%◌, ◌<◌, ◌≤◌, min, Bool, false, ◌&&◌, eqb, List, [], ◌∷◌, ◌++◌, length, get_or, set, take, drop, refl, sym, ap, ◌∙◌, arith, inl, inr, bit_xor, cond, unwrap_or, length-take, length-drop}
+use Rattle.std.proofs.Common.{◌≡◌, ℕ, suc, ◌+◌, ◌-◌, ◌%◌, ◌<◌, ◌≤◌, min, eqb, List, [], ◌∷◌, ◌++◌, length, get_or, set, take, drop, refl, sym, ap, ◌∙◌, arith, inl, inr, bit_xor, cond, unwrap_or, length-take, length-drop}
 use Rattle.std.proofs.lemmas.List.{append-nil, get_or-drop, get_or-take, get_or_default, get_or-set_other, get_or-set_same, take-append-drop}
 use Rattle.std.proofs.lemmas.List.Elements.{filter-append}
 use Rattle.std.proofs.lemmas.Bool.{cases_eq, ne_eqb, and_right}
@@ -11,15 +11,13 @@ use Rattle.fault_schedule.specs.declared.tamper.Span.{Span}
 use Rattle.fault_schedule.specs.Altered.{altered, is_same, named, named_by, shift_by, shift_of}
 use Rattle.fault_schedule.specs.AnyOrder.{xored-same}
 use Rattle.fault_schedule.specs.Spans.{IsAround, lines_of_op}
-
-second-no : (a b c : Bool) → b ≡ false → (a && (b && c)) ≡ false
-second-no a b c e = grind arith
+use Rattle.small_laws.proofs.Tests.{second_no}
 
 named-by-op : (lines : List FaultLine) (at : Crossing) (label : Label) (i : ℕ) → named (lines_of_op label.op lines) at label i ≡ named lines at label i
 named-by-op [] at label i = refl
 named-by-op (line ∷ lines) at label i = elim (eqb_tells line.op label.op) [
   | inl e ↦ ap (λ b. named (cond b (line ∷ lines_of_op label.op lines) (lines_of_op label.op lines)) at label i) e.0 ∙ ap (bit_xor (named_by line at label i)) (named-by-op lines at label i)
-  | inr e ↦ rw (second-no (is_same line.at at) (eqb line.op label.op) (eqb line.k label.k) e.0, e.0, named-by-op lines at label i) refl
+  | inr e ↦ rw (second_no (is_same line.at at) (eqb line.op label.op) (eqb line.k label.k) e.0, e.0, named-by-op lines at label i) refl
 ]
 
 -- other lines with the same ones of this op alter its block in the same way

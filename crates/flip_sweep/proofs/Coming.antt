@@ -16,7 +16,7 @@ use Rattle.run_command.specs.Verdict.{CauseStopped, Followed, HasRun, WasAsked, 
 use Rattle.call_refusal.specs.declared.refusal.Refusal.{Refusal}
 use Rattle.call_refusal.specs.declared.refusal.Refusal.TheVariants as refusal
 use Rattle.run_command.specs.declared.verdict.Finished.{Finished}
-use Rattle.run_command.proofs.Completing.{never_rose, no_head_fault, table_is, told_is_good}
+use Rattle.run_command.proofs.Completing.{table_is}
 use Rattle.run_command.proofs.Devices.{image_devices}
 use Rattle.target_answer.specs.Frames.{joined}
 use Rattle.target_answer.specs.Headers.{image_size, is_layout}
@@ -34,6 +34,8 @@ use Rattle.whole_run.specs.Settings.{Setting}
 use Rattle.flip_sweep.specs.Comes.{CameTo, came_to, seen_of}
 use Rattle.flip_sweep.specs.Swept.{CauseNoRun}
 use Rattle.flip_sweep.specs.declared.runs.Came.{Came as CameRun}
+use Rattle.dix_base.proofs.Counts.{never_rose}
+use Rattle.image_commands.proofs.Opened.{right_head as no_head_fault, told_is_good}
 
 -- ---- the formatted image
 

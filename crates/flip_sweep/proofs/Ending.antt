@@ -2,7 +2,8 @@
 use Rattle.std.proofs.Common.{◌≡◌, ℕ, ◌≤◌, Bool, ltb, List, ◌++◌, Option, Result, Ok, Err, OnErr, refl, sym, ap, subst, ◌∙◌}
 use Rattle.std.specs.Prelude.{IfOk, IsErrOf, OnOk}
 use Rattle.dix_base.specs.Told.{Appended, AppendedSome, Rose}
-use Rattle.report_text.proofs.Flow.{appended_both, part_first, part_second, whole_is_part}
+use Rattle.dix_base.proofs.Appending.{appended_both}
+use Rattle.report_text.proofs.Flow.{part_first, part_second, whole_is_part}
 use Rattle.target_model.proofs.Bytes.{rise}
 use Rattle.flip_sweep.specs.Flips.{sites_of}
 use Rattle.flip_sweep.specs.Rows.{first_line, last_line, none_yet}

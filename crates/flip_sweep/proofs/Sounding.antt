@@ -1,11 +1,11 @@
 -- A script with a flip as its one fault keeps the rules of its language.
-use Rattle.std.proofs.Common.{◌≡◌, ◌⊎◌, inl, inr, ℕ, zero, suc, ◌+◌, ◌<◌, ◌≤◌, Bool, true, false, eqb, List, [], ◌∷◌, length, Option, None, refl, ap, arith}
-use Rattle.std.specs.Prelude.{◌&&◌, ◌||◌, nat_lt}
-use Rattle.std.proofs.lemmas.Bool.{le-ltb, ne_eqb}
-use Rattle.hex.specs.Hex.{IsBytes}
+use Rattle.std.proofs.Common.{◌≡◌, ◌⊎◌, inl, inr, ℕ, ◌+◌, ◌<◌, ◌≤◌, Bool, true, false, eqb, List, [], ◌∷◌, length, Option, None, refl, ap, arith}
+use Rattle.std.specs.Prelude.{◌&&◌, nat_lt}
+use Rattle.std.proofs.lemmas.Bool.{le-ltb, ne_eqb, or_from}
 use Rattle.fault_schedule.specs.declared.fault.FaultKind.TheVariants.{Flip}
 use Rattle.fault_schedule.specs.declared.fault.FaultLine.{FaultLine}
 use Rattle.script_laws.specs.Keeping.{IsFault, IsFlip}
+use Rattle.script_laws.proofs.Words.{bytes_one}
 use Rattle.script_lines.specs.declared.line.Spot.{Spot}
 use Rattle.script_lines.specs.declared.line.Spot.TheVariants.{Host, Wire, Medium}
 use Rattle.script_text.specs.Crossings.{crossing_of, is_read, spot_of}
@@ -26,19 +26,11 @@ lies_there Host off bytes false = refl
 lies_there Wire off bytes false = refl
 lies_there Medium off bytes false = refl
 
-one_byte : (byte : ℕ) → byte < 256 → IsBytes (byte ∷ [])
-one_byte byte h zero = h
-one_byte byte h (suc i) = omega arith
-
-either : (a b : Bool) → a ≡ false → b ≡ false → (a || b) ≡ false
-either true b p q = p
-either false b p q = q
-
 good_flip : (size off byte : ℕ) → off < size + 8 → 1 ≤ byte → is_bad_flip size off (byte ∷ []) ≡ false
-good_flip size off byte o b = either (nat_lt (size + 8) (off + 1)) (eqb byte 0 && true) (le-ltb (size + 8) (off + 1) (omega (arith, o))) (ap (λ x. x && true) (ne_eqb byte 0 (λ e. omega (arith, b, e))))
+good_flip size off byte o b = or_from (nat_lt (size + 8) (off + 1)) (eqb byte 0 && true) (le-ltb (size + 8) (off + 1) (omega (arith, o))) (ap (λ x. x && true) (ne_eqb byte 0 (λ e. omega (arith, b, e))))
 
 is_flip : (size off byte : ℕ) → off < size + 8 → 1 ≤ byte → byte < 256 → IsFlip size off (byte ∷ [])
-is_flip size off byte o b h = record { off_fits = omega (arith, o); are_bytes = one_byte byte h; count = omega arith; good = good_flip size off byte o b }
+is_flip size off byte o b h = record { off_fits = omega (arith, o); are_bytes = bytes_one byte h; count = omega arith; good = good_flip size off byte o b }
 
 is_fault : (size : ℕ) (ops : List Op) (at : Site) (off byte : ℕ) → IsSite at → off < size + 8 → 1 ≤ byte → byte < 256 → IsFault size ops (flip_at ops at off byte)
 is_fault size ops at off byte s o b h = record {

@@ -1,8 +1,8 @@
 -- How stored blocks and units are looked at, one after another.
-use Rattle.std.proofs.Common.{◌≡◌, ℕ, zero, suc, ◌+◌, ◌*◌, ◌-◌, ◌<◌, ◌≤◌, true, List, ◌∷◌, length, take, drop, Option, Some, None, refl, sym, ap, subst, ◌∙◌, arith}
+use Rattle.std.proofs.Common.{◌≡◌, ℕ, ◌+◌, ◌*◌, ◌-◌, ◌<◌, ◌≤◌, true, List, ◌∷◌, length, take, drop, Option, Some, None, sym, ap, subst, ◌∙◌, arith}
 use Rattle.std.specs.List.{list_all}
 use Rattle.std.proofs.lemmas.Bool.{and_parts}
-use Rattle.std.proofs.lemmas.List.{drop-take, length-drop, take-take}
+use Rattle.std.proofs.lemmas.List.{length-drop}
 use Rattle.pi_tuple.specs.declared.checks.Check.{Check}
 use Rattle.pi_tuple.specs.declared.checks.PiType.{PiType}
 use Rattle.target_answer.specs.Frames.{frames_of, stored_size}
@@ -13,6 +13,7 @@ use Rattle.block_lines.proofs.Frames.{next_frame}
 use Rattle.flip_sweep.specs.Verdicts.{first_spoilt, first_spoilt_from, new_finding, or_else, spoilt_of}
 use Rattle.flip_sweep.specs.declared.verdict.Verdict.{Verdict}
 use Rattle.flip_sweep.specs.declared.verdict.Verdict.TheVariants.{Scrub}
+use Rattle.dix_adapter.proofs.OnRecord.{frames-front}
 
 -- the first of some blocks, and those behind it
 pub next_block : (ty : PiType) (size dev lba len n : ℕ) (was now : List ℕ) → 0 < n
@@ -39,14 +40,6 @@ not_here ty size dev lba len m n was now one other behind more e a r b q f h =
 
 -- ---- units
 
-frames_front : (len n : ℕ) (bytes : List ℕ) → frames_of len n (take (n * len) bytes) ≡ frames_of len n bytes
-frames_front len zero bytes = refl
-frames_front len (suc n) bytes =
-    let m : suc n * len ≡ len + n * len = omega arith in
-    let t : take len (take (suc n * len) bytes) ≡ take len bytes = take-take len (suc n * len) bytes (omega arith) in
-    let d : drop len (take (suc n * len) bytes) ≡ take (n * len) (drop len bytes) = ap (λ k. drop len (take k bytes)) m ∙ drop-take len (n * len) bytes in
-    ap (λ x. x ∷ frames_of len n (drop len (take (suc n * len) bytes))) t ∙ ap (λ y. take len bytes ∷ frames_of len n y) d ∙ ap (λ zs. take len bytes ∷ zs) (frames_front len n (drop len bytes))
-
 -- the first block of a unit that is at fault and isn't so otherwise
 abbrev first_of_unit : UnitSpec → (dev : ℕ) → (was now : List ℕ) → Option Verdict
 first_of_unit u dev was now = first_spoilt_from u.ty u.size dev u.first (frames_of (stored_size u.ty u.size) u.blocks was) (frames_of (stored_size u.ty u.size) u.blocks now)
@@ -55,8 +48,8 @@ front_of_unit : (u : UnitSpec) (dev m : ℕ) (was now one other : List ℕ) → 
 front_of_unit u dev m was now one other e a b =
     let len = stored_size u.ty u.size in
     ap (λ x. first_of_unit u dev x other) (a ∙ ap (λ k. take k was) e) ∙ ap (λ y. first_of_unit u dev (take (bytes_of u) was) y) (b ∙ ap (λ k. take k now) e)
-    ∙ ap (λ xs. first_spoilt_from u.ty u.size dev u.first xs (frames_of len u.blocks (take (u.blocks * len) now))) (frames_front len u.blocks was)
-    ∙ ap (λ ys. first_spoilt_from u.ty u.size dev u.first (frames_of len u.blocks was) ys) (frames_front len u.blocks now)
+    ∙ ap (λ xs. first_spoilt_from u.ty u.size dev u.first xs (frames_of len u.blocks (take (u.blocks * len) now))) (frames-front len u.blocks was)
+    ∙ ap (λ ys. first_spoilt_from u.ty u.size dev u.first (frames_of len u.blocks was) ys) (frames-front len u.blocks now)
 
 pub found_in_unit : (us others : List UnitSpec) (u : UnitSpec) (dev m : ℕ) (was now one other : List ℕ) (v : Verdict) → us ≡ u ∷ others → m ≡ bytes_of u → one ≡ take m was → other ≡ take m now
     → Some v ≡ first_spoilt_from u.ty u.size dev u.first (frames_of (stored_size u.ty u.size) u.blocks one) (frames_of (stored_size u.ty u.size) u.blocks other)

@@ -2,6 +2,7 @@
 use Rattle.std.proofs.Common.{◌≡◌, ◌<◌, ◌⊎◌, inl, inr, ℕ, List, [], Some, None, ap, subst, ◌∙◌, arith}
 use Rattle.std.specs.Prelude.{All, Option}
 use Rattle.dix_base.specs.Told.{Calm, Rose}
+use Rattle.dix_base.proofs.Counts.{never_rose}
 use Rattle.rig_api.specs.Head.{head_fault, head_of}
 use Rattle.rig_api.specs.Telling.{IsStanding, units_told}
 use Rattle.command_line.specs.Grammar.{command_in, image_in}
@@ -9,7 +10,7 @@ use Rattle.command_line.specs.declared.command.Command.{Command}
 use Rattle.command_line.specs.declared.command.Command.TheVariants as command
 use Rattle.report_text.specs.Report.{report}
 use Rattle.script_text.specs.declared.script.Script.{Script}
-use Rattle.run_command.proofs.Completing.{complete, never_rose, same_script}
+use Rattle.run_command.proofs.Completing.{complete, same_script}
 use Rattle.run_command.specs.Texts.{has_bad}
 use Rattle.run_command.specs.Verdict.{CauseRefused, HasRun}
 use Rattle.call_refusal.specs.declared.refusal.Refusal.{Refusal as Stop}

@@ -1,12 +1,13 @@
 -- On a mirror over the image that `format` left both legs have the same data and application tags.
-use Rattle.std.proofs.Common.{◌≡◌, ℕ, zero, suc, ◌+◌, ◌-◌, ◌/◌, ◌<◌, ◌≤◌, true, List, [], ◌∷◌, get_or, length, map, replicate, refl, sym, ap, subst, ◌∙◌, arith}
-use Rattle.std.proofs.lemmas.List.{get_or-append_right, get_or_append_left, length-replicate}
+use Rattle.std.proofs.Common.{◌≡◌, ℕ, ◌+◌, ◌-◌, ◌/◌, ◌<◌, true, List, [], get_or, length, map, replicate, refl, sym, ap, subst, ◌∙◌, arith}
+use Rattle.std.proofs.lemmas.List.{length-replicate}
 use Rattle.pi_tuple.specs.Tuples.{ref_tag}
 use Rattle.pi_tuple.specs.declared.checks.PiType.{PiType}
 use Rattle.pi_tuple.specs.declared.checks.PiType.TheVariants.{One}
 use Rattle.pi_tuple.specs.declared.tuple.Tuple.{Tuple}
+use Rattle.pi_tuple.proofs.TupleLaws.{tag_below}
 use Rattle.target_answer.specs.Headers.{is_layout}
-use Rattle.target_answer.specs.Image.{all_fresh, formatted, fresh, fresh_from, units_in}
+use Rattle.target_answer.specs.Image.{formatted, fresh, units_in}
 use Rattle.target_answer.specs.Target.{Stored}
 use Rattle.target_answer.specs.declared.units.UnitSpec.{UnitSpec}
 use Rattle.rig_api.specs.Telling.{own_units}
@@ -17,39 +18,15 @@ use Rattle.volume_table.specs.declared.device.DeviceInfo.{DeviceInfo}
 use Rattle.dix_adapter.specs.Ways.{blocks_told, cell_in, shapes_of}
 use Rattle.whole_run.specs.Past.{brought_by}
 use Rattle.whole_run.specs.UnderMap.{address_of, home}
-use Rattle.whole_run.proofs.TupleFrames.{Small, data_is, tag_below, tuple_is}
+use Rattle.whole_run.proofs.TupleFrames.{Small, data_is, tuple_is}
 use Rattle.image_layout.proofs.Heads.{layout_parts}
-use Rattle.script_premises.proofs.Fresh.{blocks_are, fresh_unit, shapes_are}
+use Rattle.script_premises.proofs.Fresh.{blocks_are, fresh_unit, shapes_are, cell_is}
 use Rattle.script_text.specs.declared.script.Script.{Script}
 use Rattle.run_command.specs.Verdict.{devices_of}
 use Rattle.headline.specs.Headline.{blocks_in, half_over, mirror_over, volume_over}
 use Rattle.image_scripts.proofs.FreshHead.{units_back}
 
 -- ---- the block of an address
-
-many : (ty : PiType) (size lba n : ℕ) → length (fresh_from ty size lba n) ≡ n
-many ty size lba zero = refl
-many ty size lba (suc n) = ap suc (many ty size (lba + 1) n)
-
-block_is : (ty : PiType) (size lba n k : ℕ) → k < n → get_or (fresh_from ty size lba n) k [] ≡ fresh ty size (lba + k)
-block_is ty size lba zero k h = absurd (omega arith)
-block_is ty size lba (suc n) zero h = let e : lba ≡ lba + 0 = omega arith in ap (fresh ty size) e
-block_is ty size lba (suc n) (suc k) h = let e : (lba + 1) + k ≡ lba + suc k = omega arith in block_is ty size (lba + 1) n k (omega arith) ∙ ap (fresh ty size) e
-
-cell_is : (ty : PiType) (size : ℕ) (us : List UnitSpec) (dev lba : ℕ) → IsOn (map info_of us) ty size dev lba 1 → get_or (blocks_told (map fresh_unit us)) (cell_in us dev lba) [] ≡ fresh ty size lba
-cell_is ty size [] dev lba h = let l = h.known in absurd (omega arith)
-cell_is ty size (u ∷ us) zero lba h =
-    let low : u.first ≤ lba = h.begins in
-    let high : lba + 1 ≤ u.first + u.blocks = h.ends in
-    let n = many u.ty u.size u.first u.blocks in
-    let e : u.first + (lba - u.first) ≡ lba = omega arith in
-    get_or_append_left (all_fresh u) (blocks_told (map fresh_unit us)) [] (lba - u.first) (omega arith) ∙ block_is u.ty u.size u.first u.blocks (lba - u.first) (omega arith)
-    ∙ ap (λ t. fresh t u.size (u.first + (lba - u.first))) h.type_is ∙ ap (λ s. fresh ty s (u.first + (lba - u.first))) h.size_is ∙ ap (fresh ty size) e
-cell_is ty size (u ∷ us) (suc dev) lba h =
-    let k = h.known in
-    let e : (u.blocks + cell_in us dev lba) - u.blocks ≡ cell_in us dev lba = omega arith in
-    get_or-append_right (all_fresh u) (blocks_told (map fresh_unit us)) u.blocks (u.blocks + cell_in us dev lba) [] (many u.ty u.size u.first u.blocks) (omega arith)
-    ∙ ap (λ i. get_or (blocks_told (map fresh_unit us)) i []) e ∙ cell_is ty size us dev lba (record { known = omega arith; begins = h.begins; ends = h.ends; type_is = h.type_is; size_is = h.size_is })
 
 -- what a read of it would bring
 brought_fresh : (size lba : ℕ) → brought_by size (fresh One size lba) ≡ record { body = replicate size 0; app = 0 }

@@ -2,7 +2,7 @@
 use Rattle.std.proofs.Common.{◌≡◌, ℕ, ◌+◌, ◌-◌, ◌*◌, ◌^◌, ◌<◌, ◌≤◌, true, List, [], ◌++◌, length, get_or, set, take, drop, replicate, Option, Some, None, sym, ap, ◌∙◌, arith, length-append}
 use Rattle.std.proofs.lemmas.List.{drop-drop, length-drop, length-replicate, length-take, take-take, take_all}
 use Rattle.std.proofs.Math.Seq.{take-add}
-use Rattle.std.proofs.Math.Nat.{mul-le-mul_left, mul_comm}
+use Rattle.std.proofs.Math.Nat.{mul_comm}
 use Rattle.std.specs.Prelude.{Result, Ok, Err, OnOk}
 use Rattle.dix_base.specs.Told.{Apart, Becomes, HasLength, IsRead, over}
 use Rattle.target_answer.specs.Frames.{frames_of, joined, placed, stored_size}
@@ -10,8 +10,9 @@ use Rattle.target_answer.specs.Headers.{all_bytes, bytes_of, image_size, is_layo
 use Rattle.target_answer.specs.Image.{unit_from, units_from, units_in}
 use Rattle.target_answer.specs.Target.{Stored}
 use Rattle.target_answer.specs.declared.units.UnitSpec.{UnitSpec}
+use Rattle.target_answer.proofs.FrameLaws.{frames_length}
 use Rattle.target_model.specs.Served.{AllLong}
-use Rattle.target_model.proofs.Bytes.{frames_back, frames_part, joined_frames, length_frames, long_both, long_drop, long_frames, long_take, over_back, placed_length, unit_over}
+use Rattle.target_model.proofs.Bytes.{frames_back, frames_part, joined_frames, long_both, long_drop, long_frames, long_take, over_back, placed_length, unit_over}
 use Rattle.rig_api.specs.Telling.{holding, no_spec, unit_at}
 use Rattle.image_layout.specs.Places.{block_len, block_place}
 use Rattle.image_layout.proofs.Heads.{spec_here}
@@ -19,10 +20,7 @@ use Rattle.image_layout.proofs.Units.{behind_over, bytes_within, drop_over, fram
 use Rattle.image_blocks.specs.declared.stretch.Stretch.{Stretch}
 use Rattle.image_blocks.specs.Blocks.{AreLeft, ArePut, AreStored, HasBlocks, blocks_at, blocks_of, with_stretch}
 use Rattle.image_blocks.specs.Places.{IsStretch, behind_in, spec_of}
-
--- so many blocks from one on lie inside all of them
-within_all : (k n m len : ℕ) → k + n ≤ m → k * len + n * len ≤ m * len
-within_all k n m len h = let a : len * (k + n) ≤ len * m = mul-le-mul_left len h in let b = mul_comm len (k + n) in let c = mul_comm len m in omega arith
+use Rattle.small_laws.proofs.Numbers.{within_all}
 
 -- how many blocks of its unit stand before a stretch
 abbrev before : List UnitSpec → Stretch → ℕ
@@ -68,13 +66,13 @@ blocks_put len k n m x b h lx lb =
     let cm : m * len ≡ len * m = mul_comm m len in
     let fs : List (List ℕ) = frames_of len n x in
     let all : List (List ℕ) = placed k fs (frames_of len m b) in
-    let nf : length fs ≡ n = length_frames len n x in
+    let nf : length fs ≡ n = frames_length len n x in
     let whole : joined fs ≡ x = joined_frames len n x ∙ take_all (len * n) x (omega arith) in
     let long : length (joined fs) ≡ len * length fs = ap length whole ∙ lx ∙ cn ∙ ap (λ i. len * i) (sym nf) in
     let place : k * len ≡ 0 + len * k = omega arith in
     let o : over 0 (joined all) b ≡ over (0 + len * k) (joined fs) b = unit_over 0 len k m fs b (omega arith) long (omega arith) in
     let is : over (k * len) x b ≡ over 0 (joined all) b = ap (λ v. over (k * len) v b) (sym whole) ∙ ap (λ i. over i (joined fs) b) place ∙ sym o in
-    let some : length all ≡ m = placed_length k fs (frames_of len m b) (let l = length_frames len m b in omega arith) ∙ length_frames len m b in
+    let some : length all ≡ m = placed_length k fs (frames_of len m b) (let l = frames_length len m b in omega arith) ∙ frames_length len m b in
     let each : AllLong len all = long_both len _ _ (long_take len k _ (long_frames len m b (omega arith))) (long_both len _ _ (long_frames len n x (omega arith)) (long_drop len (k + length fs) _ (long_frames len m b (omega arith)))) in
     ap (frames_of len m) is ∙ ap (λ i. frames_of len i (joined all ++ drop (0 + length (joined all)) b)) (sym some) ∙ frames_back len all (drop (0 + length (joined all)) b) each
 
@@ -154,13 +152,13 @@ has_some us s len None h z l =
     let bytes : List ℕ = replicate (s.count * block_len us s.dev) 0 in
     let c = mul_comm s.count (block_len us s.dev) in
     let k = length-replicate {A = ℕ} (s.count * block_len us s.dev) 0 in
-    (blocks_of us s bytes, record { many = length_frames (block_len us s.dev) s.count bytes; long = long_frames (block_len us s.dev) s.count bytes (omega arith); stored = tt })
+    (blocks_of us s bytes, record { many = frames_length (block_len us s.dev) s.count bytes; long = long_frames (block_len us s.dev) s.count bytes (omega arith); stored = tt })
 has_some us s len (Some was) h z l =
     let bytes = drop (block_place us s.dev s.first) was in
     let c = mul_comm s.count (block_len us s.dev) in
     let k = length-drop (block_place us s.dev s.first) was in
     let held = stretch_held us s h in
-    (blocks_of us s bytes, record { many = length_frames (block_len us s.dev) s.count bytes; long = long_frames (block_len us s.dev) s.count bytes (omega arith); stored = sym (stretch_found us was s h) })
+    (blocks_of us s bytes, record { many = frames_length (block_len us s.dev) s.count bytes; long = long_frames (block_len us s.dev) s.count bytes (omega arith); stored = sym (stretch_found us was s h) })
 
 -- ---- what a call of the store leaves
 
@@ -169,7 +167,7 @@ pub were_read : {X E : Type 0} (r : Result X E) (us : List UnitSpec) (s : Stretc
 were_read (Err e) us s at n xs image h p l k r = tt
 were_read (Ok x) us s at n xs image h p l k r =
     let c = mul_comm s.count (block_len us s.dev) in
-    record { many = length_frames (block_len us s.dev) s.count xs; long = long_frames (block_len us s.dev) s.count xs (omega arith); stored = as_stored image r }
+    record { many = frames_length (block_len us s.dev) s.count xs; long = long_frames (block_len us s.dev) s.count xs (omega arith); stored = as_stored image r }
   where
     as_stored : (image : Option (List ℕ)) → IsRead at n xs image → AreStored us s (blocks_of us s xs) image
     as_stored None r = tt
@@ -197,6 +195,6 @@ are_left us s at len n (Some was) (Some is) h p l z k b =
     let lx : length x ≡ s.count * block_len us s.dev = omega arith in (
       blocks_of us s x,
       long_frames (block_len us s.dev) s.count x (omega arith),
-      length_frames (block_len us s.dev) s.count x,
+      frames_length (block_len us s.dev) s.count x,
       ap (units_in us) (back ∙ ap (λ i. over i x was) p) ∙ stretch_put us was x s h lx (sym k ∙ z),
     )

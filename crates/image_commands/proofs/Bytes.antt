@@ -1,20 +1,19 @@
 -- An image is its first 512 bytes and then the blocks of its units.
-use Rattle.std.proofs.Common.{ℕ, zero, suc, ◌≡◌, ◌<◌, ◌≤◌, ◌+◌, ◌*◌, Bool, true, false, eqb, leb, ltb, List, [], ◌∷◌, ◌++◌, length, take, drop, Option, Some, None, refl, sym, ap, subst, ◌∙◌, inl, inr, ⊎_elim, arith}
-use Rattle.std.specs.Prelude.{if◌then◌else◌, is_some}
-use Rattle.std.proofs.lemmas.Bool.{cases_Bool, eqb-true, leb-true}
+use Rattle.std.proofs.Common.{ℕ, zero, suc, ◌≡◌, ◌<◌, ◌≤◌, ◌+◌, ◌*◌, leb, List, [], ◌∷◌, ◌++◌, length, take, drop, Option, Some, None, refl, sym, ap, subst, ◌∙◌, inl, inr, arith}
+use Rattle.std.specs.Prelude.{is_some}
+use Rattle.std.proofs.lemmas.Bool.{leb-true}
 use Rattle.std.proofs.Math.Seq.{take-add}
 use Rattle.std.proofs.lemmas.List.{length-drop, take-append-drop, take_all}
 use Rattle.std.proofs.lemmas.Option.{same_Some}
 use Rattle.target_answer.specs.Frames.{frames_of, joined, stored_size}
-use Rattle.target_answer.specs.Headers.{all_bytes, bytes_of, image_size, is_header, specs_in}
+use Rattle.target_answer.specs.Headers.{all_bytes, bytes_of}
 use Rattle.target_answer.specs.Image.{units_from, units_in}
 use Rattle.target_answer.specs.Target.{Stored}
 use Rattle.target_answer.specs.declared.units.UnitSpec.{UnitSpec}
-use Rattle.target_answer.specs.declared.units.Version.{Version}
-use Rattle.rig_api.specs.Head.{Head, fault_of_header, fault_under, head_fault, head_of, specs_under, units_of, version_in}
-use Rattle.rig_api.specs.declared.rig.RigFault.TheVariants.{BadLength}
+use Rattle.rig_api.specs.Head.{Head, head_fault, units_of}
 use Rattle.rig_api.specs.Telling.{IsStanding, Standing, StandsOn, specs_of, units_told}
-use Rattle.rig_discovery.proofs.Telling.{right_layout, left_true}
+use Rattle.rig_api.proofs.HeadLaws.{image_long, right_layout}
+use Rattle.small_laws.proofs.Tests.{and_first}
 
 -- the bytes of these units' blocks, one after another
 abbrev pub bytes_told : List Stored → List ℕ
@@ -23,30 +22,13 @@ bytes_told (u ∷ us) = joined u.blocks ++ bytes_told us
 
 -- ---- how long an image is
 
-by_length : (short good : Bool) (has wants : ℕ) → (if short then Some BadLength else fault_of_header good has wants) ≡ None → has ≡ wants
-by_length true good has wants e = absurd (cc)
-by_length false false has wants e = absurd (cc)
-by_length false true has wants e =
-    ⊎_elim
-    (λ (t : eqb has wants ≡ true). eqb-true has wants t)
-    (λ (t : eqb has wants ≡ false). absurd (let x : Some BadLength ≡ None = sym (ap (λ b. if b then None else Some BadLength) t) ∙ e in cc))
-    (cases_Bool (eqb has wants))
-
-right_length : (h : Head) (v : Option Version) → fault_under v h ≡ None → h.size ≡ image_size (specs_under v h.first)
-right_length h None e = absurd (cc)
-right_length h (Some v) e = by_length (ltb (length h.first) 512) (is_header v h.first) h.size (image_size (specs_in v h.first)) e
-
-image_long : (h : Head) (image : List ℕ) → head_fault h ≡ None → h ≡ head_of image → length image ≡ image_size (units_of h)
-unfolding head_fault
-image_long h image e t = sym (ap (λ x. x.size) t) ∙ right_length h (version_in h) e
-
 -- a right head tells a unit
 pub some_unit : (h : Head) → head_fault h ≡ None → 0 < length (units_of h)
-some_unit h e = let x = leb-true 1 (length (units_of h)) (left_true (leb 1 (length (units_of h))) _ (right_layout h e)) in omega arith
+some_unit h e = let x = leb-true 1 (length (units_of h)) (and_first (leb 1 (length (units_of h))) _ (right_layout h e)) in omega arith
 
 -- ---- its blocks
 
-joined_frames : (len n : ℕ) (b : List ℕ) → joined (frames_of len n b) ≡ take (n * len) b
+pub joined_frames : (len n : ℕ) (b : List ℕ) → joined (frames_of len n b) ≡ take (n * len) b
 joined_frames len zero b = let z : 0 * len ≡ 0 = omega arith in rw z refl
 joined_frames len (suc n) b =
     let e : suc n * len ≡ len + n * len = omega arith in

@@ -9,12 +9,13 @@ use Rattle.target_answer.specs.declared.units.UnitSpec.{UnitSpec}
 use Rattle.rig_api.specs.Head.{Head, head_fault, units_of}
 use Rattle.rig_api.specs.Log.{Entry}
 use Rattle.rig_api.specs.Telling.{Standing, specs_of, units_told}
+use Rattle.rig_api.proofs.HeadLaws.{right_layout}
 use Rattle.volume_table.specs.declared.device.DeviceInfo.{DeviceInfo}
 use Rattle.rig_discovery.specs.Discovery.{Answer, Ends, HasFound, all_told, info_of, told, with_info}
-use Rattle.rig_discovery.proofs.Telling.{right_layout, shape_is}
+use Rattle.rig_discovery.proofs.Telling.{shape_is}
 use Rattle.pi_scrub.specs.Scrubbed.{HasDevices, device_of}
 
-second_true : (a b c : Bool) → (a && (b && c)) ≡ true → b ≡ true
+pub second_true : (a b c : Bool) → (a && (b && c)) ≡ true → b ≡ true
 second_true a b c h = grind arith
 
 -- a right head tells at most eight units
@@ -54,10 +55,6 @@ devices_are s s' devices units units' image found few ends same kept laid told =
           let here = units_are s image us (sym laid ∙ old) in
           told (ap is_some old) ∙ shapes (specs_of s) (drop 512 here.0) ∙ ap (λ (v : List Stored). map device_of v) (sym here.1);
     }
-
--- the stored blocks after a call that changed neither image nor head
-pub units_through : (s s' : Standing) (image image' : Option (List ℕ)) (units units' : Option (List Stored)) → units ≡ units_told s image → units' ≡ units_told s' image' → s' ≡ s → image' ≡ image → units' ≡ units
-units_through s s' image image' units units' p q e f = q ∙ ap (λ (v : Standing). units_told v image') e ∙ ap (units_told s) f ∙ sym p
 
 -- a rig that tells its blocks has no device at fault
 pub silent : (units : Option (List Stored)) → (is_some units ≡ true → false ≡ true) → is_some units ≡ false

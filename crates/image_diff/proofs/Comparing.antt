@@ -4,7 +4,8 @@ use Rattle.std.proofs.lemmas.List.{length-take}
 use Rattle.std.proofs.Math.Nat.{mul-div-le, mul-le-mul_left, mul_comm}
 use Rattle.std.specs.Prelude.{min, Result, Ok, Err}
 use Rattle.dix_base.specs.Told.{Appended, AppendedSome, HasLength, Rose}
-use Rattle.report_text.proofs.Flow.{appended_both, part_first, part_second, whole_is_part}
+use Rattle.dix_base.proofs.Appending.{appended_none, appended_both}
+use Rattle.report_text.proofs.Flow.{part_first, part_second, whole_is_part}
 use Rattle.target_answer.specs.Headers.{image_size}
 use Rattle.target_answer.specs.declared.units.UnitSpec.{UnitSpec}
 use Rattle.block_lines.specs.DiffText.{compared_line, count_differ, diff_first, diff_line, diff_lines, differences, differs}
@@ -15,7 +16,7 @@ use Rattle.image_blocks.specs.declared.stretch.Stretch.{Stretch}
 use Rattle.image_blocks.specs.Blocks.{HasBlocks}
 use Rattle.image_blocks.specs.Places.{IsStretch, behind_in, front_in}
 use Rattle.image_blocks.proofs.Stretches.{has_both, has_none, has_some}
-use Rattle.image_walk.proofs.Walks.{behind_is, front_is, nothing}
+use Rattle.image_walk.proofs.Walks.{behind_is, front_is}
 use Rattle.target_model.proofs.Bytes.{rise}
 use Rattle.image_diff.specs.declared.fault.DiffFault.{DiffFault}
 use Rattle.image_diff.specs.declared.fault.DiffFault.TheVariants.{First, Second, Sink}
@@ -130,7 +131,7 @@ at_first p first second x = record {
   other_front = front_none p.others p.to second;
   same = refl;
   counted = refl;
-  written = nothing x;
+  written = appended_none x;
 }
 
 -- as many blocks are left of both
@@ -272,7 +273,7 @@ some_blocks p len other_len first second h k z =
 pub none_compared : (text : (ones twos : List (List ℕ)) → List ℕ) (p : Places) (len other_len : ℕ) (first second x y : Option (List ℕ)) → IsStretch p.units p.at → IsStretch p.others p.to → Lengths p len other_len first second → y ≡ x → HasComparedSome text p first second x y
 none_compared text p len other_len first second x y h k z e =
     let r = some_blocks p len other_len first second h k z in
-    record { ones = r.0; twos = r.1; has = r.2; written = (0, subst (λ v. Appended [] x v) (sym e) (nothing x)) }
+    record { ones = r.0; twos = r.1; has = r.2; written = (0, subst (λ v. Appended [] x v) (sym e) (appended_none x)) }
 
 -- What ended the comparing of a part ends that of the whole.
 pub passed_on : (e : DiffFault) (t u : (ones twos : List (List ℕ)) → List ℕ) (p q : Places) (first second was were : Option (List ℕ)) (n o : Counts) (mid old new : Option (List ℕ)) → first ≡ was → second ≡ were →

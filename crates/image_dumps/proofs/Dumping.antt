@@ -3,7 +3,8 @@ use Rattle.std.proofs.Common.{◌≡◌, ℕ, zero, suc, ◌+◌, ◌-◌, ◌*�
 use Rattle.std.proofs.lemmas.List.{take-append-drop}
 use Rattle.std.specs.Prelude.{min, Result, Ok, Err}
 use Rattle.dix_base.specs.Told.{Appended, AppendedSome, HasLength}
-use Rattle.report_text.proofs.Flow.{appended_both, part_first, part_second, whole_is_part}
+use Rattle.dix_base.proofs.Appending.{appended_none, appended_both}
+use Rattle.report_text.proofs.Flow.{part_first, part_second, whole_is_part}
 use Rattle.target_answer.specs.Frames.{frames_of}
 use Rattle.target_answer.specs.Headers.{image_size}
 use Rattle.target_answer.specs.declared.units.UnitSpec.{UnitSpec}
@@ -12,7 +13,7 @@ use Rattle.block_lines.proofs.Frames.{next_frame, shorter}
 use Rattle.image_blocks.specs.declared.stretch.Stretch.{Stretch}
 use Rattle.image_blocks.specs.Blocks.{HasBlocks, blocks_of}
 use Rattle.image_blocks.specs.Places.{IsStretch, behind_in, front_in, spec_of}
-use Rattle.image_walk.proofs.Walks.{behind_is, nothing}
+use Rattle.image_walk.proofs.Walks.{behind_is}
 use Rattle.image_blocks.proofs.Stretches.{has_both, has_none, has_some}
 use Rattle.image_dumps.specs.declared.fault.DumpFault.{DumpFault}
 use Rattle.image_dumps.specs.declared.fault.DumpFault.TheVariants.{Store, Sink}
@@ -54,7 +55,7 @@ pub record SoFar (layout : Layout) (us : List UnitSpec) (s left : Stretch) (imag
   pub written : Appended (dump_in layout us s blocks) old now
 
 pub at_first : (layout : Layout) (us : List UnitSpec) (s : Stretch) (image x : Option (List ℕ)) → SoFar layout us s s image x x
-at_first layout us s image x = record { blocks = []; whole = λ rest h. h; dev = refl; written = nothing x }
+at_first layout us s image x = record { blocks = []; whole = λ rest h. h; dev = refl; written = appended_none x }
 
 -- the dump of what is left stands behind that of the first blocks
 dump_behind : (layout : Layout) (us : List UnitSpec) (s left : Stretch) (xs ys : List (List ℕ)) → left.dev ≡ s.dev → dump_in layout us s (xs ++ ys) ≡ dump_in layout us s xs ++ dump_in layout us left ys
@@ -113,7 +114,7 @@ piece_some layout us vs s into image old new e h a = record { blocks = blocks_of
 pub none_dumped : (layout : Layout) (us : List UnitSpec) (s : Stretch) (len : ℕ) (image x y : Option (List ℕ)) → IsStretch us s → len ≡ image_size us → HasLength len image → y ≡ x → HasDumpedSome layout us s image x y
 none_dumped layout us s len image x y h z t e =
     let r = has_some us s len image h z t in
-    record { blocks = r.0; has = r.1; written = (0, subst (λ v. Appended [] x v) (sym e) (nothing x)) }
+    record { blocks = r.0; has = r.1; written = (0, subst (λ v. Appended [] x v) (sym e) (appended_none x)) }
 
 -- What ended the dump of a part ends that of the whole.
 pub passed_on : (X Y : Type 0) (e : DumpFault) (layout : Layout) (us : List UnitSpec) (a b : Stretch) (image was : Option (List ℕ)) (o o' n p p' q : ℕ) (mid old new : Option (List ℕ)) → image ≡ was → o ≤ o' → p ≤ p' →

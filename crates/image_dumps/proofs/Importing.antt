@@ -8,8 +8,9 @@ use Rattle.target_answer.specs.Headers.{all_bytes, bytes_of}
 use Rattle.target_answer.specs.Image.{units_from, units_in}
 use Rattle.target_answer.specs.Target.{Stored}
 use Rattle.target_answer.specs.declared.units.UnitSpec.{UnitSpec}
+use Rattle.target_answer.proofs.FrameLaws.{joined_append, frames_length}
 use Rattle.target_model.specs.Served.{AllLong}
-use Rattle.target_model.proofs.Bytes.{joined_append, length_frames, long_both, rise}
+use Rattle.target_model.proofs.Bytes.{long_both, rise}
 use Rattle.image_layout.specs.Places.{block_len}
 use Rattle.image_layout.proofs.Units.{unit_found}
 use Rattle.image_blocks.specs.declared.stretch.Stretch.{Stretch}
@@ -47,7 +48,7 @@ further_put layout us s most ps qs others (Some a) (Some b) (Some c) h n m p q =
     let f = unit_found us (drop 512 a) s.dev h.device in
     let first : (unit_at found s.dev).first ≡ (spec_of us s.dev).first = ap (λ (v : Stored). v.first) f in
     let blocks : length (unit_at found s.dev).blocks ≡ (spec_of us s.dev).blocks =
-    ap (λ (v : Stored). length v.blocks) f ∙ length_frames (stored_size (spec_of us s.dev).ty (spec_of us s.dev).size) (spec_of us s.dev).blocks (drop (all_bytes (take s.dev us)) (drop 512 a)) in
+    ap (λ (v : Stored). length v.blocks) f ∙ frames_length (stored_size (spec_of us s.dev).ty (spec_of us s.dev).size) (spec_of us s.dev).blocks (drop (all_bytes (take s.dev us)) (drop 512 a)) in
     let low = h.first in
     let high = h.last in
     let dev = h.device in

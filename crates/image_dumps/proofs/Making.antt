@@ -1,12 +1,13 @@
 -- How blocks are made of pieces, one after another.
-use Rattle.std.proofs.Common.{◌≡◌, ℕ, ◌+◌, ◌-◌, ◌*◌, ◌<◌, List, ◌∷◌, ◌++◌, length, take, drop, refl, sym, ap, ◌∙◌, arith, rules, append_assoc, length-append}
-use Rattle.std.proofs.lemmas.List.{drop-drop, length-drop, places, same_lists}
+use Rattle.std.proofs.Common.{◌≡◌, ℕ, ◌+◌, ◌-◌, ◌*◌, ◌<◌, List, ◌∷◌, ◌++◌, length, take, drop, refl, sym, ap, ◌∙◌, arith, append_assoc, length-append}
+use Rattle.std.proofs.lemmas.List.{drop-drop, length-drop, drop_at}
 use Rattle.pi_tuple.specs.declared.checks.PiType.{PiType}
 use Rattle.target_answer.specs.Frames.{frames_of, joined, stored_size}
 use Rattle.target_model.proofs.Bytes.{front_is}
 use Rattle.image_dumps.specs.declared.layout.Layout.{Layout}
 use Rattle.image_dumps.specs.Dumps.{imported, imported_block, piece_len}
 use Rattle.block_lines.proofs.Frames.{less_one, next_frame}
+use Rattle.small_laws.proofs.Numbers.{next_block}
 
 -- what stands in the room: blocks that are made, and behind them those that are left as they were; and the pieces that are left
 pub record Made (layout : Layout) (ty : PiType) (size first count i : ℕ) (pieces rest blocks now : List ℕ) : Type 0 where
@@ -16,12 +17,6 @@ pub record Made (layout : Layout) (ty : PiType) (size first count i : ℕ) (piec
   pub held : length rest ≡ (count - i) * piece_len layout ty size
   pub all : done ++ joined (imported layout ty size (first + i) (frames_of (stored_size ty size) (count - i) (drop (i * stored_size ty size) blocks)) (frames_of (piece_len layout ty size) (count - i) rest))
       ≡ joined (imported layout ty size first (frames_of (stored_size ty size) count blocks) (frames_of (piece_len layout ty size) count pieces))
-
-pub front_off : (n : ℕ) (x b : List ℕ) → length x ≡ n → drop n (x ++ b) ≡ b
-front_off n x b h = same_lists _ _ (search (rules, places)) (λ i d l. grind (arith, places))
-
-one_more : (i len : ℕ) → (i + 1) * len ≡ i * len + len
-one_more i len = grind arith
 
 -- the next block, and the others
 next_joined : (layout : Layout) (ty : PiType) (size lba len each n : ℕ) (bs ps : List ℕ) → 0 < n →
@@ -38,9 +33,9 @@ made_next layout ty size first count i pieces rest blocks now new h m e l =
     let len = stored_size ty size in
     let each = piece_len layout ty size in
     let d : List ℕ = drop (i * len) blocks in
-    let off : drop (i * len) now ≡ d = ap (drop (i * len)) m.split ∙ front_off (i * len) m.done d m.long in
+    let off : drop (i * len) now ≡ d = ap (drop (i * len)) m.split ∙ drop_at m.done d (i * len) m.long in
     let on : take (i * len) now ≡ m.done = ap (take (i * len)) m.split ∙ front_is (i * len) m.done d m.done refl m.long in
-    let more = one_more i len in
+    let more = next_block i len in
     let less = less_one (count - i) each (omega arith) in
     let left : count - i - 1 ≡ count - (i + 1) = omega arith in
     let behind : drop len d ≡ drop ((i + 1) * len) blocks = drop-drop len (i * len) blocks ∙ ap (λ n. drop n blocks) (sym more) in

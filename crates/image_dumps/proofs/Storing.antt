@@ -9,8 +9,9 @@ use Rattle.pi_tuple.specs.declared.checks.PiType.TheVariants.{Zero, One, Two, Th
 use Rattle.target_answer.specs.Frames.{frames_of, joined, stored_size}
 use Rattle.target_answer.specs.Image.{units_in}
 use Rattle.target_answer.specs.declared.units.UnitSpec.{UnitSpec}
+use Rattle.target_answer.proofs.FrameLaws.{frames_length}
 use Rattle.target_model.specs.Served.{AllLong}
-use Rattle.target_model.proofs.Bytes.{frames_back, joined_frames, length_frames, long_frames}
+use Rattle.target_model.proofs.Bytes.{frames_back, joined_frames, long_frames}
 use Rattle.image_layout.specs.Places.{block_len, block_place}
 use Rattle.image_blocks.specs.declared.stretch.Stretch.{Stretch}
 use Rattle.image_blocks.specs.Blocks.{AreLeft, ArePut, blocks_at, blocks_of, with_stretch}
@@ -58,15 +59,15 @@ same_run Plain ty size lba (x ∷ xs) (y ∷ ys) (p ∷ ps) l h = ap (λ v. impo
 same_run Tuples ty size lba (x ∷ xs) (y ∷ ys) (p ∷ ps) l h = absurd l
 
 found_many : (us : List UnitSpec) (was : List ℕ) (s : Stretch) → IsStretch us s → length (blocks_at (units_in us was) s) ≡ s.count
-found_many us was s h = ap length (stretch_found us was s h) ∙ length_frames (block_len us s.dev) s.count (drop (block_place us s.dev s.first) was)
+found_many us was s h = ap length (stretch_found us was s h) ∙ frames_length (block_len us s.dev) s.count (drop (block_place us s.dev s.first) was)
 
 -- what pieces make of the blocks in the room is what they make of the stored ones
 own_run : (layout : Layout) (us : List UnitSpec) (s : Stretch) (room : List ℕ) (ps : List (List ℕ)) (was : List ℕ) → IsStretch us s → HasOwn layout us s room (Some was) →
     imported layout (spec_of us s.dev).ty (spec_of us s.dev).size s.first (blocks_of us s room) ps ≡ imported_in layout us s (units_in us was) ps
 own_run Interleaved us s room ps was h o =
-    same_run Interleaved (spec_of us s.dev).ty (spec_of us s.dev).size s.first (blocks_of us s room) (blocks_at (units_in us was) s) ps tt (length_frames (block_len us s.dev) s.count room ∙ sym (found_many us was s h))
+    same_run Interleaved (spec_of us s.dev).ty (spec_of us s.dev).size s.first (blocks_of us s room) (blocks_at (units_in us was) s) ps tt (frames_length (block_len us s.dev) s.count room ∙ sym (found_many us was s h))
 own_run Plain us s room ps was h o =
-    same_run Plain (spec_of us s.dev).ty (spec_of us s.dev).size s.first (blocks_of us s room) (blocks_at (units_in us was) s) ps tt (length_frames (block_len us s.dev) s.count room ∙ sym (found_many us was s h))
+    same_run Plain (spec_of us s.dev).ty (spec_of us s.dev).size s.first (blocks_of us s room) (blocks_at (units_in us was) s) ps tt (frames_length (block_len us s.dev) s.count room ∙ sym (found_many us was s h))
 own_run Tuples us s room ps was h o = ap (λ v. imported Tuples (spec_of us s.dev).ty (spec_of us s.dev).size s.first v ps) o.stored
 
 pub pieces_put : (layout : Layout) (us vs : List UnitSpec) (s : Stretch) (room made pieces : List ℕ) (old new : Option (List ℕ)) → vs ≡ us → IsStretch us s → fits layout (spec_of us s.dev).ty ≡ true → length room ≡ s.count * block_len us s.dev →
@@ -88,8 +89,8 @@ pieces_put layout us vs s room made pieces (Some was) (Some new) v h f lr lp e o
     e ∙ ap (λ (w : List UnitSpec). joined (imported layout (spec_of w s.dev).ty (spec_of w s.dev).size s.first (blocks_of w s room) (frames_of (piece_len layout (spec_of w s.dev).ty (spec_of w s.dev).size) s.count pieces))) v in
     let c1 = mul_comm s.count len in
     let c2 = mul_comm s.count each in
-    let nb = length_frames len s.count room in
-    let np = length_frames each s.count pieces in
+    let nb = frames_length len s.count room in
+    let np = frames_length each s.count pieces in
     let many : length xs ≡ s.count = imported_length layout ty size s.first bs ps (nb ∙ sym np) ∙ np in
     let long : AllLong len xs = run_long layout ty size s.first bs ps f (long_frames len s.count room (omega arith)) (long_frames each s.count pieces (omega arith)) in
     let back : blocks_of us s made ≡ xs =
@@ -140,7 +141,7 @@ front_taken layout us s front whole got room a b l m e h w g t p =
     let ps : List (List ℕ) = frames_of each whole (take n room) in
     let c = mul_comm each whole in
     let k : length (take n room) ≡ n = length-take n room ∙ (omega arith) in
-    let many = length_frames each whole (take n room) in
+    let many = frames_length each whole (take n room) in
     let same : joined ps ≡ take n (take got room) = joined_frames each whole (take n room) ∙ ap (λ i. take i (take n room)) c ∙ take-take n n room (omega arith) ∙ sym (take-take n got room w) in
     record {
       pieces = ps;

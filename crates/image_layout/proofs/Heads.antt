@@ -1,5 +1,5 @@
 -- What a head without a fault tells.
-use Rattle.std.proofs.Common.{◌≡◌, ℕ, zero, suc, ◌+◌, ◌*◌, ◌<◌, ◌≤◌, Bool, true, false, ltb, eqb, ◌&&◌, List, [], ◌∷◌, length, take, get_or, Option, Some, None, refl, sym, ap, ◌∙◌, arith, ⊎_elim, rules, subst}
+use Rattle.std.proofs.Common.{◌≡◌, ℕ, zero, suc, ◌+◌, ◌*◌, ◌<◌, ◌≤◌, Bool, true, false, ltb, eqb, List, [], ◌∷◌, length, take, get_or, Option, Some, None, refl, sym, ap, ◌∙◌, arith, ⊎_elim, rules, subst}
 use Rattle.std.specs.Prelude.{if◌then◌else◌}
 use Rattle.std.specs.List.{list_all}
 use Rattle.std.proofs.Common.{◌⊎◌, inl, inr}
@@ -19,6 +19,7 @@ use Rattle.rig_api.specs.declared.rig.RigFault.TheVariants.{BadMagic, BadHeader,
 use Rattle.target_answer.specs.Headers.{all_bytes, bytes_of, image_size, is_header, is_layout, is_spec, specs_in}
 use Rattle.target_answer.specs.declared.units.UnitSpec.{UnitSpec}
 use Rattle.target_answer.specs.declared.units.Version.{Version}
+use Rattle.small_laws.proofs.Tests.{and_first, and_second}
 
 -- a head without a fault is of a version, has a header of it, and the length of that header's image
 pub record RightHead (h : Head) : Type 0 where
@@ -72,21 +73,6 @@ right_units h r = ap (λ v. specs_under v h.first) r.names
 
 -- ---- their layout
 
-left_true : (a b : Bool) → (a && b) ≡ true → a ≡ true
-left_true true b h = refl
-left_true false b h = absurd (cc)
-
-right_true : (a b : Bool) → (a && b) ≡ true → b ≡ true
-right_true true b h = h
-right_true false b h = absurd (cc)
-
-pub header_layout : (v : Version) (b : List ℕ) → is_header v b ≡ true → is_layout (specs_in v b) ≡ true
-unfolding is_header
-header_layout v b h = left_true (is_layout (specs_in v b)) _ h
-
-pub right_layout : (h : Head) → head_fault h ≡ None → is_layout (units_of h) ≡ true
-right_layout h e = let r = right_head h e in ap is_layout (right_units h r) ∙ header_layout r.version h.first r.header
-
 pub right_size : (h : Head) → head_fault h ≡ None → h.size ≡ image_size (units_of h)
 right_size h e = let r = right_head h e in r.size ∙ ap image_size (sym (right_units h r))
 
@@ -95,8 +81,8 @@ layout_parts us h = grind arith
 
 pub spec_at : (us : List UnitSpec) (i : ℕ) (d : UnitSpec) → list_all is_spec us ≡ true → i < length us → is_spec (get_or us i d) ≡ true
 spec_at [] i d h l = absurd (omega arith)
-spec_at (u ∷ us) zero d h l = left_true (is_spec u) (list_all is_spec us) h
-spec_at (u ∷ us) (suc i) d h l = spec_at us i d (right_true (is_spec u) (list_all is_spec us) h) (omega arith)
+spec_at (u ∷ us) zero d h l = and_first (is_spec u) (list_all is_spec us) h
+spec_at (u ∷ us) (suc i) d h l = spec_at us i d (and_second (is_spec u) (list_all is_spec us) h) (omega arith)
 
 pub spec_here : (us : List UnitSpec) (dev : ℕ) → is_layout us ≡ true → dev < length us → is_spec (get_or us dev no_spec) ≡ true
 spec_here us dev l d = let p = layout_parts us l in spec_at us dev no_spec p.2 d

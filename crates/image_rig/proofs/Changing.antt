@@ -1,6 +1,6 @@
 -- Blocks that are changed without a command.
 use Rattle.std.proofs.Common.{◌≡◌, ℕ, ◌+◌, ◌<◌, ◌≤◌, Bool, true, ◌&&◌, List, ◌∷◌, length, get_or, take, drop, replicate, Option, Some, refl, sym, ap, ◌∙◌, arith}
-use Rattle.std.specs.Prelude.{is_some, Result, Ok, Err, OnOk, OnErr}
+use Rattle.std.specs.Prelude.{is_some, Result, Ok, Err, OnOk}
 use Rattle.std.proofs.lemmas.List.{length-take, length-drop, length-replicate}
 use Rattle.std.proofs.lemmas.Bool.{and_parts, eqb-true}
 use Rattle.dix_base.specs.Told.{Apart, Becomes, HasLength, over}
@@ -10,7 +10,7 @@ use Rattle.target_answer.specs.Headers.{image_size, is_layout}
 use Rattle.target_answer.specs.Image.{units_in}
 use Rattle.target_answer.specs.Target.{Stored}
 use Rattle.target_answer.specs.declared.units.UnitSpec.{UnitSpec}
-use Rattle.target_model.proofs.Bytes.{becomes_some, over_back, told_length}
+use Rattle.target_model.proofs.Bytes.{becomes_some, over_back, told_length, size_most}
 use Rattle.rig_api.specs.Head.{Head, units_of}
 use Rattle.rig_api.specs.Telling.{block_at, can_change, changed, frame_size, has_address, no_spec, source_of, unit_at, with_block}
 use Rattle.rig_api.specs.declared.change.Change.{Change}
@@ -19,7 +19,7 @@ use Rattle.image_rig.specs.Changes.{IsChanged, altered_by, source_place}
 use Rattle.image_layout.specs.Places.{block_len, block_place}
 use Rattle.image_rig.specs.Places.{can_change_in}
 use Rattle.image_rig.specs.Told.{standing_of, units_of_image}
-use Rattle.image_rig.proofs.Devices.{Open, image_of, size_here, size_least, units_are}
+use Rattle.image_rig.proofs.Devices.{Open, image_of, size_here, units_are}
 use Rattle.image_layout.proofs.Units.{Address, addressed, block_changed, block_found, block_held, unit_found}
 
 pub target_address : (us : List UnitSpec) (dev lba : ℕ) (change : Change) → dev < length us → can_change_in us dev lba change ≡ true → Address us dev lba
@@ -121,17 +121,13 @@ pub on_ok : {A E : Type 0} {C P Q : Type 0} (r : Result A E) → (C → OnOk r P
 on_ok (Ok x) f k = k f
 on_ok (Err e) f k = tt
 
-pub on_err : {A E : Type 0} {Q : Type 0} (r : Result A E) → Q → OnErr r Q
-on_err (Ok x) q = tt
-on_err (Err e) q = q
-
 pub long_as : (image : Option (List ℕ)) (len : ℕ) → HasLength len image → (was : List ℕ) → image ≡ Some was → length was ≡ len
 long_as image len h was e = sym (told_length image len was e h)
 
 -- ---- room for a block
 
 pub block_small : (us : List UnitSpec) (dev n : ℕ) → is_layout us ≡ true → dev < length us → n ≤ (get_or us dev no_spec).size + 8 → n ≤ 4104
-block_small us dev n l d b = let s = size_least (get_or us dev no_spec).size (size_here us dev l d) in omega arith
+block_small us dev n l d b = let s = size_most (get_or us dev no_spec).size (size_here us dev l d) in omega arith
 
 pub fits_room : (at n len : ℕ) → n ≤ 4104 → at + n ≤ len → at + length (take n (replicate {A = ℕ} 4104 0)) ≤ len
 fits_room at n len h l =

@@ -1,11 +1,12 @@
 -- The units behind the devices of an image that is open, and the answers that are theirs.
-use Rattle.std.proofs.Common.{◌≡◌, ℕ, zero, suc, ◌+◌, ◌*◌, ◌^◌, ◌<◌, ◌≤◌, true, List, [], ◌∷◌, length, get_or, take, drop, Option, Some, None, refl, sym, ap, subst, ◌∙◌, arith, inl, inr}
+use Rattle.std.proofs.Common.{◌≡◌, ℕ, zero, suc, ◌+◌, ◌*◌, ◌^◌, ◌<◌, ◌≤◌, true, List, [], ◌∷◌, length, get_or, take, drop, Option, Some, None, refl, sym, ap, subst, ◌∙◌, arith}
 use Rattle.std.specs.Prelude.{is_some, max}
 use Rattle.std.specs.List.{list_all}
 use Rattle.std.proofs.lemmas.List.{take-take, drop-take, drop-drop, take_all}
 use Rattle.std.proofs.lemmas.Bool.{and_parts}
 use Rattle.std.proofs.lemmas.Option.{same_Some}
-use Rattle.dix_base.specs.Told.{Apart, Becomes, Calm, Rose}
+use Rattle.dix_base.specs.Told.{Apart, Becomes, Calm}
+use Rattle.dix_base.proofs.Counts.{never_rose}
 use Rattle.fault_schedule.specs.declared.Label.{Label}
 use Rattle.fault_schedule.specs.declared.fault.FaultLine.{FaultLine}
 use Rattle.target_answer.specs.Frames.{stored_size}
@@ -15,14 +16,15 @@ use Rattle.target_answer.specs.Target.{Answer, Stop, Stored, target_answer}
 use Rattle.target_answer.specs.declared.units.UnitSpec.{UnitSpec}
 use Rattle.target_model.specs.Served.{IsSize, IsUnit, Served, unit_in, with_unit}
 use Rattle.rig_api.specs.Head.{Head, head_fault, head_of, units_of}
-use Rattle.rig_api.specs.Log.{HasRoom, Room}
 use Rattle.target_model.specs.declared.unit.LogicalUnit.{LogicalUnit}
+use Rattle.target_model.proofs.Bytes.{size_most as size_least}
 use Rattle.rig_api.specs.Telling.{HasCause, IsAnswer, answer_of, frame_size, greatest, holding, no_spec, unit_at, with_blocks}
 use Rattle.rig_api.specs.declared.rig.Outcome.{Outcome}
+use Rattle.rig_api.proofs.HeadLaws.{right_layout}
 use Rattle.image_layout.specs.Places.{place_of}
 use Rattle.image_rig.specs.Places.{logical_of}
 use Rattle.image_rig.specs.Told.{units_of_image}
-use Rattle.image_layout.proofs.Heads.{bytes_small, layout_parts, right_head, right_layout, right_units, same_head, spec_here}
+use Rattle.image_layout.proofs.Heads.{bytes_small, layout_parts, right_head, right_units, same_head, spec_here}
 use Rattle.image_layout.proofs.Units.{bytes_within, unit_found, units_change}
 
 -- ---- what is known of an image that is open
@@ -166,14 +168,9 @@ told us h image image' dev room o n armed cdb labels out result before after fou
     subst (λ v. Answers v armed dev cdb labels out room o n result (units_of_image (length us) h image') before after) f
     (answered us h i.0 image' dev room o n armed cdb labels out result before after d named (s i.0 i.1))
 
--- where no fault was counted no store call failed
-not_risen : (o n : ℕ) → Calm o n → Rose o n → ⊥
-not_risen o n c (inl h) = omega arith
-not_risen o n c (inr h) = omega arith
-
 never_stopped : (o n frame : ℕ) (stop : Option Stop) → Calm o n → HasCause stop frame o n → stop ≡ None
 never_stopped o n frame None c h = refl
-never_stopped o n frame (Some s) c h = absurd (not_risen o n c h.0)
+never_stopped o n frame (Some s) c h = absurd (never_rose o n c h.0)
 
 pub calm : (found : List Stored) (dev room o n : ℕ) (armed : List FaultLine) (cdb : List ℕ) (labels : List Label) (out : List ℕ) (result : Outcome) (told : Option (List Stored)) (before after : List ℕ) → Calm o n →
     Answers found armed dev cdb labels out room o n result told before after → IsAnswer (answer_of found armed dev cdb labels out room None) found dev result told before after
@@ -217,10 +214,6 @@ head_after us h u answer image image' dev o n result before after l t s k =
     behind : 512 ≤ u.at
     behind = rw l (omega arith)
 
-pub size_least : (s : ℕ) → IsSize s → s ≤ 4096
-size_least s (inl h) = omega arith
-size_least s (inr h) = omega arith
-
 -- what a record of an exchange with this device asks
 pub record Sized (us : List UnitSpec) (h : Head) (u : LogicalUnit) (dev : ℕ) : Type 0 where
   pub small : u.size ≤ 4096
@@ -241,9 +234,6 @@ is_sized us h u len dev o d l =
 
 pub more_room : (a b n : ℕ) → a ≤ b → (a + 8) * n ≤ (b + 8) * n
 more_room a b n h = grind arith
-
-pub room_for : (a b exchanges blocks : ℕ) (r : Room) → a ≤ b → HasRoom b exchanges blocks r → HasRoom a exchanges blocks r
-room_for a b exchanges blocks r h o = let m = more_room a b blocks h in let w = o.moved in record { records = o.records; labels = o.labels; moved = omega arith }
 
 -- ---- room for records
 

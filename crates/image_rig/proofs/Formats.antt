@@ -3,13 +3,13 @@ use Rattle.std.proofs.Common.{◌≡◌, ℕ, zero, suc, ◌+◌, ◌<◌, ◌�
 use Rattle.std.specs.Prelude.{is_some}
 use Rattle.std.specs.List.{list_all}
 use Rattle.std.proofs.lemmas.List.{take_all, take-take, take-replicate}
-use Rattle.dix_base.specs.Told.{Appended, Becomes}
+use Rattle.dix_base.specs.Told.{Becomes}
 use Rattle.pi_tuple.specs.declared.checks.PiType.{PiType}
-use Rattle.pi_tuple.specs.declared.checks.PiType.TheVariants.{Zero, One, Two, Three}
 use Rattle.target_answer.specs.Frames.{joined, stored_size}
 use Rattle.target_answer.specs.Headers.{header, is_first, is_spec, version_for}
 use Rattle.target_answer.specs.Image.{all_fresh, formatted, fresh, fresh_bytes, fresh_from}
 use Rattle.target_answer.specs.declared.units.UnitSpec.{UnitSpec}
+use Rattle.target_answer.proofs.FrameLaws.{stored_least}
 use Rattle.image_rig.specs.Small.{is_small}
 
 and_assoc : (a b c : Bool) → (a && (b && c)) ≡ ((a && b) && c)
@@ -21,18 +21,6 @@ first_is_small [] = refl
 first_is_small (u ∷ us) = ap (λ b. eqb u.size 512 && (eqb u.first 0 && b)) (first_is_small us) ∙ and_assoc (eqb u.size 512) (eqb u.first 0) (list_all is_small us)
 
 -- ---- what is appended
-
-pub nothing_appended : (b : Option (List ℕ)) → Appended [] b b
-nothing_appended None = tt
-nothing_appended (Some xs) = sym (append-nil xs)
-
-pub appended_more : (xs ys : List ℕ) (a b c : Option (List ℕ)) → Appended xs a b → Appended ys b c → Appended (xs ++ ys) a c
-appended_more xs ys None None None h k = tt
-appended_more xs ys None None (Some c) h k = absurd k
-appended_more xs ys None (Some b) c h k = absurd h
-appended_more xs ys (Some a) None c h k = absurd h
-appended_more xs ys (Some a) (Some b) None h k = absurd k
-appended_more xs ys (Some a) (Some b) (Some c) h k = k ∙ ap (λ v. v ++ ys) h ∙ append_assoc a xs ys
 
 pub becomes_tells : (P : List ℕ → List ℕ → Type 0) (a b : Option (List ℕ)) → Becomes P a b → is_some b ≡ is_some a
 becomes_tells P None None h = refl
@@ -66,15 +54,9 @@ all_units us i h = ap (λ v. header (version_for us) us ++ fresh_bytes v) (take_
 size_spec : (u : UnitSpec) → is_spec u ≡ true → u.size ≤ 4096
 size_spec u h = grind arith
 
-size_stored : (ty : PiType) (size : ℕ) → size ≤ stored_size ty size
-size_stored Zero size = omega arith
-size_stored One size = omega arith
-size_stored Two size = omega arith
-size_stored Three size = omega arith
-
 pub zeros_room : (u : UnitSpec) (n : ℕ) → is_spec u ≡ true → n ≡ stored_size u.ty u.size → take u.size (take n (replicate {A = ℕ} 4104 0)) ≡ replicate u.size 0
 zeros_room u n h e =
     let a = size_spec u h in
-    let b = size_stored u.ty u.size in
+    let b = stored_least u.ty u.size in
     let zeros : List ℕ = replicate 4104 0 in
     take-take u.size n zeros (omega arith) ∙ take-replicate u.size 4104 0 (omega arith)

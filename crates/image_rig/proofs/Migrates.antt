@@ -18,7 +18,7 @@ use Rattle.rig_api.specs.Head.{Head, IsHeadOf, head_of, specs_under, units_of, v
 use Rattle.rig_api.specs.Telling.{KeepsBlocks, KeepsUnits, own_units}
 use Rattle.image_layout.proofs.Heads.{layout_parts}
 
-type_back : (ty : PiType) → type_of (number_of ty) ≡ ty
+pub type_back : (ty : PiType) → type_of (number_of ty) ≡ ty
 type_back Zero = refl
 type_back One = refl
 type_back Two = refl
@@ -33,7 +33,7 @@ pub record Told (u : UnitSpec) : Type 0 where
 pub spec_told : (u : UnitSpec) → is_spec u ≡ true → Told u
 spec_told u h = record { size = grind arith; blocks = grind arith; first = grind arith }
 
-same_spec : (u : UnitSpec) (t : PiType) (b s f : ℕ) → t ≡ u.ty → b ≡ u.blocks → s ≡ u.size → f ≡ u.first → record { ty = t; blocks = b; size = s; first = f } ≡ u
+pub same_spec : (u : UnitSpec) (t : PiType) (b s f : ℕ) → t ≡ u.ty → b ≡ u.blocks → s ≡ u.size → f ≡ u.first → record { ty = t; blocks = b; size = s; first = f } ≡ u
 same_spec u t b s f et eb es ef = rw (et, eb, es, ef) refl
 
 entry_back : (u : UnitSpec) (rest : List ℕ) → is_spec u ≡ true → spec_of Second (entry_of Second u ++ rest) ≡ u

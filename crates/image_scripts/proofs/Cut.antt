@@ -1,27 +1,22 @@
 -- An image is its header, and behind it the blocks of its units.
-use Rattle.std.proofs.Common.{◌≡◌, ℕ, zero, suc, ◌+◌, ◌*◌, List, [], ◌∷◌, ◌++◌, length, take, drop, None, refl, sym, ap, ◌∙◌, arith}
+use Rattle.std.proofs.Common.{◌≡◌, ℕ, ◌+◌, List, [], ◌∷◌, ◌++◌, length, take, drop, None, refl, sym, ap, ◌∙◌, arith}
 use Rattle.std.proofs.Math.Seq.{take-add}
 use Rattle.std.proofs.lemmas.List.{length-drop, take-append-drop, take_all}
 use Rattle.target_answer.specs.Frames.{frames_of, joined, stored_size}
 use Rattle.target_answer.specs.Headers.{all_bytes, bytes_of}
 use Rattle.target_answer.specs.Image.{units_from}
 use Rattle.target_answer.specs.declared.units.UnitSpec.{UnitSpec}
+use Rattle.target_answer.proofs.FrameLaws.{joined_append}
 use Rattle.rig_api.specs.Head.{head_fault, head_of, units_of}
 use Rattle.dix_adapter.specs.Ways.{blocks_told}
-use Rattle.dix_adapter.proofs.Gathering.{joined-append}
 use Rattle.image_layout.proofs.Heads.{right_head, right_units}
 use Rattle.image_scripts.specs.Over.{blocks_in, image_with}
-
-joined_frames : (w n : ℕ) (bytes : List ℕ) → joined (frames_of w n bytes) ≡ take (n * w) bytes
-joined_frames w zero bytes = let z : 0 * w ≡ 0 = omega arith in ap (λ k. take k bytes) (sym z)
-joined_frames w (suc n) bytes =
-    let m : suc n * w ≡ w + n * w = omega arith in
-    ap (λ xs. take w bytes ++ xs) (joined_frames w n (drop w bytes)) ∙ sym (take-add w (n * w) bytes) ∙ ap (λ k. take k bytes) (sym m)
+use Rattle.image_commands.proofs.Bytes.{joined_frames}
 
 joined_units : (us : List UnitSpec) (bytes : List ℕ) → joined (blocks_told (units_from us bytes)) ≡ take (all_bytes us) bytes
 joined_units [] bytes = refl
 joined_units (u ∷ us) bytes =
-    joined-append (frames_of (stored_size u.ty u.size) u.blocks bytes) (blocks_told (units_from us (drop (bytes_of u) bytes)))
+    joined_append (frames_of (stored_size u.ty u.size) u.blocks bytes) (blocks_told (units_from us (drop (bytes_of u) bytes)))
     ∙ ap (λ xs. xs ++ joined (blocks_told (units_from us (drop (bytes_of u) bytes)))) (joined_frames (stored_size u.ty u.size) u.blocks bytes)
     ∙ ap (λ xs. take (bytes_of u) bytes ++ xs) (joined_units us (drop (bytes_of u) bytes))
     ∙ sym (take-add (bytes_of u) (all_bytes us) bytes)

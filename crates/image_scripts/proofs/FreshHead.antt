@@ -6,37 +6,22 @@ use Rattle.std.specs.List.{list_all}
 use Rattle.std.specs.Str.{bytes_eq}
 use Rattle.std.proofs.lemmas.Nat.{from_be_bytes-to_be_bytes_2, from_be_bytes-to_be_bytes_8}
 use Rattle.std.proofs.lemmas.List.{drop_at, length-replicate, take_at}
-use Rattle.std.proofs.lemmas.Bool.{eqb-true}
+use Rattle.std.proofs.lemmas.Bool.{eqb-true, and_parts}
 use Rattle.std.proofs.lemmas.Slice.Eq.{bytes_eq-Decides}
-use Rattle.pi_tuple.specs.Finds.{own_tag}
-use Rattle.pi_tuple.specs.Tuples.{tuple_bytes}
 use Rattle.pi_tuple.specs.declared.checks.PiType.{PiType}
-use Rattle.pi_tuple.specs.declared.checks.PiType.TheVariants.{Zero, One, Two, Three}
 use Rattle.target_answer.specs.Frames.{joined, stored_size}
-use Rattle.target_answer.specs.Headers.{all_bytes, bytes_of, entry_of, header, image_size, is_first, is_header, is_layout, is_spec, magic_of, number_of, spec_of, specs_from, specs_in, type_of, version_for, version_of}
+use Rattle.target_answer.specs.Headers.{all_bytes, bytes_of, entry_of, header, image_size, is_first, is_header, is_layout, is_spec, magic_of, spec_of, specs_from, specs_in, version_for, version_of}
 use Rattle.target_answer.specs.Image.{all_fresh, formatted, fresh, fresh_bytes, fresh_from}
 use Rattle.target_answer.specs.declared.units.UnitSpec.{UnitSpec}
 use Rattle.target_answer.specs.declared.units.Version.{Version}
 use Rattle.target_answer.specs.declared.units.Version.TheVariants.{First, Second}
+use Rattle.target_answer.proofs.FreshBlocks.{fresh_long}
 use Rattle.rig_api.specs.Head.{fault_of_header, fault_under, head_fault, head_of, specs_under, units_of}
 use Rattle.rig_api.specs.declared.rig.RigFault.TheVariants.{BadLength}
 use Rattle.image_layout.proofs.Heads.{layout_parts}
-use Rattle.image_rig.proofs.Migrates.{header_back as second_back, header_long as second_long, spec_told}
+use Rattle.image_rig.proofs.Migrates.{header_back as second_back, header_long as second_long, spec_told, type_back, same_spec}
 
 -- ---- the header of version 1 is read back
-
-parts : (a b : Bool) → (a && b) ≡ true → (a ≡ true) × (b ≡ true)
-parts true b h = (refl, h)
-parts false b h = absurd (cc)
-
-same_spec : (u : UnitSpec) (t : PiType) (b s f : ℕ) → t ≡ u.ty → b ≡ u.blocks → s ≡ u.size → f ≡ u.first → record { ty = t; blocks = b; size = s; first = f } ≡ u
-same_spec u t b s f et eb es ef = rw (et, eb, es, ef) refl
-
-type_back : (ty : PiType) → type_of (number_of ty) ≡ ty
-type_back Zero = refl
-type_back One = refl
-type_back Two = refl
-type_back Three = refl
 
 entry_back : (u : UnitSpec) (rest : List ℕ) → is_spec u ≡ true → u.size ≡ 512 → u.first ≡ 0 → spec_of First (entry_of First u ++ rest) ≡ u
 entry_back u rest h s f = let t = spec_told u h in same_spec u _ _ _ _ (type_back u.ty) (from_be_bytes-to_be_bytes_8 u.blocks t.blocks) (sym s) (sym f)
@@ -44,9 +29,9 @@ entry_back u rest h s f = let t = spec_told u h in same_spec u _ _ _ _ (type_bac
 entries_back : (us : List UnitSpec) (rest : List ℕ) → list_all is_spec us ≡ true → is_first us ≡ true → specs_from First (length us) (joined (map (entry_of First) us) ++ rest) ≡ us
 entries_back [] rest h k = refl
 entries_back (u ∷ us) rest h k =
-    let s = parts (is_spec u) (list_all is_spec us) h in
-    let a = parts (eqb u.size 512) (eqb u.first 0 && is_first us) k in
-    let b = parts (eqb u.first 0) (is_first us) a.1 in
+    let s = and_parts (is_spec u) (list_all is_spec us) h in
+    let a = and_parts (eqb u.size 512) (eqb u.first 0 && is_first us) k in
+    let b = and_parts (eqb u.first 0) (is_first us) a.1 in
     let one : length (entry_of First u) ≡ 16 = refl in
     let assoc = append_assoc (entry_of First u) (joined (map (entry_of First) us)) rest in
     let d : drop 16 ((entry_of First u ++ joined (map (entry_of First) us)) ++ rest) ≡ joined (map (entry_of First) us) ++ rest =
@@ -105,12 +90,6 @@ written : (us : List UnitSpec) → is_layout us ≡ true → IsWritten us (versi
 written us h = by_size us (is_first us) refl h
 
 -- ---- the length
-
-pub fresh_long : (ty : PiType) (size lba : ℕ) → length (fresh ty size lba) ≡ stored_size ty size
-fresh_long Zero size lba = length-replicate size 0
-fresh_long One size lba = length-append (replicate size 0) (tuple_bytes (record { guard = 0; app = 0; rtag = own_tag One lba })) ∙ ap (λ n. n + 8) (length-replicate size 0)
-fresh_long Two size lba = length-append (replicate size 0) (tuple_bytes (record { guard = 0; app = 0; rtag = own_tag Two lba })) ∙ ap (λ n. n + 8) (length-replicate size 0)
-fresh_long Three size lba = length-append (replicate size 0) (tuple_bytes (record { guard = 0; app = 0; rtag = own_tag Three lba })) ∙ ap (λ n. n + 8) (length-replicate size 0)
 
 unit_long : (ty : PiType) (size lba n : ℕ) → length (joined (fresh_from ty size lba n)) ≡ n * stored_size ty size
 unit_long ty size lba zero = omega arith

@@ -10,6 +10,7 @@ use Rattle.target_answer.specs.declared.units.UnitSpec.{UnitSpec}
 use Rattle.rig_api.specs.Head.{Head, head_fault, head_of, units_of}
 use Rattle.rig_api.specs.Telling.{IsStanding, Standing, own_units, specs_of, units_told}
 use Rattle.rig_api.specs.State.{RigState}
+use Rattle.rig_api.proofs.HeadLaws.{headed, all_specs, right_layout}
 use Rattle.rig_discovery.specs.Discovery.{info_of}
 use Rattle.volume_table.specs.declared.device.DeviceInfo.{DeviceInfo}
 use Rattle.dix_adapter.specs.Ways.{blocks_told, cell_in}
@@ -18,9 +19,9 @@ use Rattle.whole_run.specs.Settings.{Setting}
 use Rattle.run_laws.specs.ShownRun.{DevicesAreClean}
 use Rattle.dix_base.specs.Told.{Becomes}
 use Rattle.image_commands.specs.Causes.{WasFormatted}
-use Rattle.image_layout.proofs.Heads.{layout_parts, right_layout}
+use Rattle.image_layout.proofs.Heads.{layout_parts}
 use Rattle.run_command.specs.Verdict.{WasAsked, devices_of}
-use Rattle.run_command.proofs.Devices.{image_devices, headed as head_told, all_specs}
+use Rattle.run_command.proofs.Devices.{image_devices}
 use Rattle.image_scripts.specs.Over.{blocks_in, image_with}
 use Rattle.image_scripts.proofs.Cut.{image_is_cut}
 use Rattle.image_scripts.proofs.FreshHead.{units_back}
@@ -31,7 +32,7 @@ use Rattle.image_scripts.proofs.FreshHead.{units_back}
 pub head_asked : (name : List ℕ) (devices : List DeviceInfo) (old told : RigState) (image : List ℕ) → old.image ≡ Some image → WasAsked name devices old told → told.standing.head ≡ head_of image
 head_asked name devices old told image e asked =
     let since = asked.told.since in
-    ap (λ (s : Standing). s.head) since.standing ∙ head_told asked.told.between.standing.head image asked.told.between.image (since.kept.image ∙ e) since.opened.head
+    ap (λ (s : Standing). s.head) since.standing ∙ headed asked.told.between.standing.head image asked.told.between.image (since.kept.image ∙ e) since.opened.head
 
 -- and tells the image's units
 pub units_asked : (name : List ℕ) (devices : List DeviceInfo) (old told : RigState) (image : List ℕ) → old.image ≡ Some image → WasAsked name devices old told → told.units ≡ Some (own_units image)

@@ -2,10 +2,11 @@
 use Rattle.std.proofs.Common.{◌≡◌, ℕ, suc, ◌+◌, ◌≤◌, List, [], ◌∷◌, ◌++◌, length, Option, Some, None, refl, sym, ap, subst, ◌∙◌, arith, append_assoc, append-nil, length-append}
 use Rattle.std.specs.Prelude.{min, Result, Ok, Err}
 use Rattle.dix_base.specs.Told.{Appended, AppendedSome, HasLength}
+use Rattle.dix_base.proofs.Appending.{appended_none, appended_both}
 use Rattle.pi_tuple.specs.declared.checks.Check.{Check}
 use Rattle.pi_tuple.specs.declared.checks.PiType.{PiType}
 use Rattle.pi_scrub.specs.Faults.{faults_from, listed, stored_finding}
-use Rattle.report_text.proofs.Flow.{appended_both, part_first, part_second, whole_is_part}
+use Rattle.report_text.proofs.Flow.{part_first, part_second, whole_is_part}
 use Rattle.target_answer.specs.Headers.{image_size}
 use Rattle.target_answer.specs.declared.units.UnitSpec.{UnitSpec}
 use Rattle.block_lines.specs.ShowText.{block_lines, count_bad, first_line, last_line}
@@ -14,7 +15,7 @@ use Rattle.image_blocks.specs.declared.stretch.Stretch.{Stretch}
 use Rattle.image_blocks.specs.Blocks.{HasBlocks}
 use Rattle.image_blocks.specs.Places.{IsStretch, behind_in, front_in, spec_of}
 use Rattle.image_blocks.proofs.Stretches.{has_both, has_none, has_some}
-use Rattle.image_walk.proofs.Walks.{behind_is, nothing}
+use Rattle.image_walk.proofs.Walks.{behind_is}
 use Rattle.target_model.proofs.Bytes.{rise}
 use Rattle.image_show.specs.declared.fault.ShowFault.{ShowFault}
 use Rattle.image_show.specs.declared.fault.ShowFault.TheVariants.{Store, Sink}
@@ -66,7 +67,7 @@ pub record SoFar (us : List UnitSpec) (s left : Stretch) (image : Option (List �
   pub written : Appended (lines_of us s blocks) old now
 
 pub at_first : (us : List UnitSpec) (s : Stretch) (image x : Option (List ℕ)) → SoFar us s s image 0 x x
-at_first us s image x = record { blocks = []; whole = λ rest h. h; dev = refl; first = omega arith; few = omega arith; counted = refl; written = nothing x }
+at_first us s image x = record { blocks = []; whole = λ rest h. h; dev = refl; first = omega arith; few = omega arith; counted = refl; written = appended_none x }
 
 -- the lines of what is left stand behind those of the first blocks
 lines_behind : (us : List UnitSpec) (s left : Stretch) (xs ys : List (List ℕ)) → left.dev ≡ s.dev → left.first ≡ s.first + length xs → lines_of us s (xs ++ ys) ≡ lines_of us s xs ++ lines_of us left ys
@@ -151,7 +152,7 @@ at_last us s left image bad old now l e = record {
 pub none_shown : (text : List (List ℕ) → List ℕ) (us : List UnitSpec) (s : Stretch) (len : ℕ) (image x y : Option (List ℕ)) → IsStretch us s → len ≡ image_size us → HasLength len image → y ≡ x → HasShownSome text us s image x y
 none_shown text us s len image x y h z t e =
     let r = has_some us s len image h z t in
-    record { blocks = r.0; has = r.1; written = (0, subst (λ v. Appended [] x v) (sym e) (nothing x)) }
+    record { blocks = r.0; has = r.1; written = (0, subst (λ v. Appended [] x v) (sym e) (appended_none x)) }
 
 -- What ended the showing of a part ends that of the whole.
 pub passed_on : (e : ShowFault) (t u : List (List ℕ) → List ℕ) (us : List UnitSpec) (a b : Stretch) (image was : Option (List ℕ)) (o o' n p p' q : ℕ) (mid old new : Option (List ℕ)) → image ≡ was → o ≤ o' → p ≤ p' →

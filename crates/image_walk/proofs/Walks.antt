@@ -1,16 +1,11 @@
 -- Walks along a stretch: what lies in a room, what is left, a text of which nothing was written, and what a store keeps.
-use Rattle.std.proofs.Common.{◌≡◌, ℕ, ◌*◌, ◌/◌, ◌≤◌, List, [], Option, Some, None, refl, sym, ap, ◌∙◌, arith, append-nil}
+use Rattle.std.proofs.Common.{◌≡◌, ℕ, ◌*◌, ◌/◌, ◌≤◌, List, refl, ap, ◌∙◌, arith}
 use Rattle.std.proofs.Math.Nat.{mul-div-le, mul-le-mul_left, mul_comm}
 use Rattle.std.specs.Prelude.{min}
-use Rattle.dix_base.specs.Told.{Appended}
 use Rattle.target_answer.specs.declared.units.UnitSpec.{UnitSpec}
 use Rattle.image_blocks.specs.declared.stretch.Stretch.{Stretch}
 use Rattle.image_blocks.specs.Places.{IsStretch, behind_in, front_in}
 use Rattle.image_walk.specs.Stores.{Held, WasRead, WasWritten}
-
-pub nothing : (x : Option (List ℕ)) → Appended [] x x
-nothing None = tt
-nothing (Some xs) = sym (append-nil xs)
 
 -- as many blocks as a room holds lie in it
 pub in_room : (piece left : Stretch) (most room len : ℕ) → piece ≡ front_in left most → most ≡ min (room / len) 65536 → piece.count * len ≤ room

@@ -1,8 +1,8 @@
 -- What came of a run is the same as itself.
-use Rattle.std.proofs.Common.{◌≡◌, ℕ, true, eqb, ◌&&◌, List, [], ◌∷◌, refl, ap, ◌∙◌}
+use Rattle.std.proofs.Common.{◌≡◌, true, eqb, ◌&&◌, List, [], ◌∷◌, refl, ap, ◌∙◌}
 use Rattle.std.specs.Prelude.{if◌then◌else◌, unwrap_or}
 use Rattle.std.specs.Str.{bytes_eq}
-use Rattle.std.proofs.lemmas.Bool.{and_from, eq-eqb}
+use Rattle.std.proofs.lemmas.Bool.{and_from}
 use Rattle.pi_tuple.specs.declared.checks.Check.{Check}
 use Rattle.pi_tuple.specs.declared.checks.Check.TheVariants.{Guard, AppTag, RefTag}
 use Rattle.bio_core.specs.declared.fate.Why.{Why}
@@ -19,9 +19,7 @@ use Rattle.flip_sweep.specs.declared.verdict.Verdict.TheVariants.{Same, Unseen}
 use Rattle.image_scripts.proofs.FreshHead.{same_bytes}
 use Rattle.lab_laws.proofs.Listing.{IsQuiet, found_nowhere}
 use Rattle.lab_laws.proofs.Scrubbed.{same_units}
-
-itself : (n : ℕ) → eqb n n ≡ true
-itself n = eq-eqb n n refl
+use Rattle.small_laws.proofs.Tests.{eqb_self}
 
 same_check : (c : Check) → is_same_check c c ≡ true
 same_check Guard = refl
@@ -34,12 +32,12 @@ same_why (why.Target c) = same_check c
 same_why (why.Block c) = same_check c
 same_why (why.App c) = same_check c
 same_why why.Medium = refl
-same_why (why.Refused key asc ascq) = and_from (eqb key key) (eqb asc asc && eqb ascq ascq) (itself key) (and_from (eqb asc asc) (eqb ascq ascq) (itself asc) (itself ascq))
+same_why (why.Refused key asc ascq) = and_from (eqb key key) (eqb asc asc && eqb ascq ascq) (eqb_self key) (and_from (eqb asc asc) (eqb ascq ascq) (eqb_self asc) (eqb_self ascq))
 same_why why.Short = refl
 
 same_blocks : (bs : List BadBlock) → are_same_blocks bs bs ≡ true
 same_blocks [] = refl
-same_blocks (b ∷ bs) = and_from (is_same_block b b) (are_same_blocks bs bs) (and_from (eqb b.k b.k) (is_same_why b.why b.why) (itself b.k) (same_why b.why)) (same_blocks bs)
+same_blocks (b ∷ bs) = and_from (is_same_block b b) (are_same_blocks bs bs) (and_from (eqb b.k b.k) (is_same_why b.why b.why) (eqb_self b.k) (same_why b.why)) (same_blocks bs)
 
 same_reply : (r : Reply) → is_same_reply r r ≡ true
 same_reply reply.Silent = refl

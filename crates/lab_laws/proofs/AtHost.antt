@@ -8,6 +8,7 @@ use Rattle.pi_tuple.specs.Tuples.{ref_tag}
 use Rattle.pi_tuple.specs.declared.checks.Check.TheVariants.{Guard, RefTag}
 use Rattle.pi_tuple.specs.declared.checks.PiType.TheVariants.{One}
 use Rattle.pi_tuple.specs.declared.tuple.Tuple.{Tuple}
+use Rattle.pi_tuple.proofs.TupleLaws.{same_fields}
 use Rattle.fault_schedule.specs.Altered.{named}
 use Rattle.fault_schedule.specs.declared.fault.Crossing.TheVariants.{AdapterToHost, MediumToTarget, TargetToAdapter, TargetToMedium}
 use Rattle.fault_schedule.specs.declared.fault.FaultLine.{FaultLine}
@@ -16,7 +17,7 @@ use Rattle.target_answer.specs.Frames.{data_of, frame_of, tuple_of}
 use Rattle.block_path.specs.WayIn.{WayIn, adapter_finds_in, mapped_back, owner_finds, owner_says, received, way_in}
 use Rattle.whole_run.specs.Detectable.{bears, crossed}
 use Rattle.whole_run.specs.Settings.{Block, Setting, route}
-use Rattle.whole_run.proofs.TupleFrames.{frame_is, three}
+use Rattle.whole_run.proofs.TupleFrames.{frame_is}
 use Rattle.run_laws.proofs.Found.{Bears, bears_both, expected, passed}
 use Rattle.run_laws.proofs.Framed.{mapped_body, mapped_tuple}
 use Rattle.lab_laws.proofs.Flipped.{IsOne, Whole, flip_whole, flip_wrong, tag_app, tag_data, tag_found, tag_guard, tag_whole}
@@ -147,7 +148,7 @@ module _ (m' : Setting) (even : m'.size % 2 ≡ 0) where
 
           same_frame : t1.rtag ≡ ref_tag b.virt → w1 ≡ w0
           same_frame e =
-              let t : t1 ≡ t0 = three guard_is app_is (e ∙ sym right.rtag) in
+              let t : t1 ≡ t0 = same_fields guard_is app_is (e ∙ sym right.rtag) in
               sym (frame_is n w1 whole1.size whole1.bytes) ∙ ap (λ d. frame_of d t1) data_is ∙ ap (frame_of (data_of n w0)) t ∙ frame_is n w0 whole0.size whole0.bytes
 
           as_it_was : way_in [] (plain).site.device (route plain b) owner x ≡ in_of owner None None (owner_finds (route plain b) w0) x w0

@@ -350,10 +350,6 @@ module _ (m' : Setting) (even : m'.size % 2 ≡ 0) (image : List (List ℕ)) (li
       pub does : act (act_of now step) s ≡ spoilt (act (act_of was step) s)
       pub good : WasGood (act (act_of was step) s)
 
-  each_other : (f : ℕ → Step) → ((i : ℕ) → i ≢ k → IsOther (f i)) → (j c : ℕ) → k < j → AllOther (each_from j c f)
-  each_other f others j zero l = tt
-  each_other f others j (suc c) l = (others j (λ e. omega (arith, e, l)), each_other f others (suc j) c (omega arith))
-
   -- so it does for some altered block
   pub record Altered (virt : ℕ) (within : virt < count) (step : Step) (s : State) : Type 0 where
     pub y : List ℕ
@@ -388,7 +384,7 @@ module _ (m' : Setting) (even : m'.size % 2 ≡ 0) (image : List (List ℕ)) (li
           let step : f j ≡ f k = ap f i in
           let m : Altered virt within (f j) s = subst (λ (x : Step). Marks virt within x) (sym step) marked s h fit.0 e.0 p.0 in
           let other = spoilt virt within m.y m.whole m.bad after in
-          let behind = ends_off virt within m.y m.whole m.bad (suc j) (each_from (suc j) c f) after other (each_other f others (suc j) c (omega (arith, i))) fit.1 e.1 next (inr (refl, m.mark.good)) p.1 in
+          let behind = ends_off virt within m.y m.whole m.bad (suc j) (each_from (suc j) c f) after other (others_only f others (suc j) c (omega (arith, i))) fit.1 e.1 next (inr (refl, m.mark.good)) p.1 in
           record { y = m.y; whole = m.whole; bad = m.bad; ends = ends_on virt within m.y m.whole m.bad j (f j) (each_from (suc j) c f) s s after other refl m.mark.does m.mark.answers p.0 behind }
       by rest (inr (inl m)) =
           let a = alike m' at op k off byte (f j) s (others j (λ i. omega (arith, i, m))) in

@@ -1,25 +1,20 @@
 -- The block that a plain import makes of a piece is clean.
-use Rattle.std.proofs.Common.{ℕ, ◌≡◌, ◌<◌, ◌^◌, true, false, List, sym, ap, subst, ◌∙◌, refl, arith}
+use Rattle.std.proofs.Common.{ℕ, ◌≡◌, false, List, sym, ap, subst, ◌∙◌, refl, arith}
 use Rattle.std.proofs.lemmas.Bool.{false≢true}
 use Rattle.pi_guard.specs.Guards.{crc}
 use Rattle.pi_guard.specs.declared.GuardKind.TheVariants.{Crc}
-use Rattle.pi_tuple.specs.Finds.{has_ref_tag, is_escaped, is_zero, own_tag}
-use Rattle.pi_tuple.specs.Tuples.{ref_tag}
+use Rattle.pi_guard.proofs.GuardSizes.{guard_below}
+use Rattle.pi_tuple.specs.Finds.{is_escaped, is_zero, own_tag}
 use Rattle.pi_tuple.specs.declared.checks.PiType.{PiType}
 use Rattle.pi_tuple.specs.declared.checks.PiType.TheVariants.{Zero, One, Two, Three}
 use Rattle.pi_tuple.specs.declared.tuple.Tuple.{Tuple}
+use Rattle.pi_tuple.proofs.TupleLaws.{own_below, own_is}
 use Rattle.target_answer.specs.Frames.{frame_of}
 use Rattle.target_answer.specs.Passing.{with_own_tuple}
 use Rattle.whole_run.specs.PlainMap.{as_expected}
 use Rattle.whole_run.specs.UnderMap.{IsClean}
-use Rattle.whole_run.proofs.TupleFrames.{Small, data_is, guard_below, tag_below, tuple_is}
+use Rattle.whole_run.proofs.TupleFrames.{Small, data_is, tuple_is}
 use Rattle.lab_laws.specs.Clean.{MakesClean}
-
-own_below : (ty : PiType) (lba : ℕ) → own_tag ty lba < 2 ^ 32
-own_below Zero lba = omega arith
-own_below One lba = tag_below lba
-own_below Two lba = tag_below lba
-own_below Three lba = omega arith
 
 framed : (ty : PiType) (lba : ℕ) (piece : List ℕ) → is_zero ty ≡ false → with_own_tuple ty lba piece ≡ frame_of piece (record { guard = crc piece; app = 0; rtag = own_tag ty lba })
 framed Zero lba piece z = absurd (false≢true (sym z))
@@ -32,12 +27,6 @@ no_escape_is Zero g r = refl
 no_escape_is One g r = refl
 no_escape_is Two g r = refl
 no_escape_is Three g r = refl
-
-own_is : (ty : PiType) (lba : ℕ) → has_ref_tag ty ≡ true → own_tag ty lba ≡ ref_tag lba
-own_is Zero lba h = absurd (false≢true h)
-own_is One lba h = refl
-own_is Two lba h = refl
-own_is Three lba h = absurd (false≢true h)
 
 pub made_clean : MakesClean
 made_clean m lba block piece z app long =

@@ -1,5 +1,5 @@
 -- A script over a formatted image, in type 1 with tuples passed all the way: its settings with a flip and without, and where its blocks lie.
-use Rattle.std.proofs.Common.{◌≡◌, ◌⊎◌, inl, inr, ◌<◌, ◌≤◌, ℕ, ◌%◌, Bool, true, false, List, [], ◌∷◌, length, get_or, map, Option, None, refl, sym, ap, subst, ◌∙◌, arith}
+use Rattle.std.proofs.Common.{◌≡◌, ◌<◌, ◌≤◌, ℕ, ◌%◌, Bool, true, false, List, [], ◌∷◌, length, get_or, map, Option, None, refl, sym, ap, subst, ◌∙◌, arith}
 use Rattle.std.specs.Prelude.{All}
 use Rattle.std.specs.List.{list_any}
 use Rattle.std.proofs.lemmas.Bool.{or_from}
@@ -48,10 +48,7 @@ use Rattle.lab_laws.specs.Flips.{IsGuarded}
 use Rattle.lab_laws.proofs.Made.{all_ends}
 use Rattle.lab_laws.proofs.OneLine.{m0, m1, one_line}
 use Rattle.lab_laws.proofs.Fresh.{no_escape, units_stored}
-
-even_block : (n : ℕ) → (n ≡ 512) ⊎ (n ≡ 4096) → n % 2 ≡ 0
-even_block n (inl e) = omega arith
-even_block n (inr e) = omega arith
+use Rattle.small_laws.proofs.Numbers.{even_size}
 
 -- ---- no overwrite
 
@@ -142,7 +139,7 @@ module _ (w : Sweep) (h : IsGuarded w) where
   flipped_is at off = let lines = one_line (crossing_of at.spot (Flip off (w.byte ∷ [])) (is_read s.ops at.op)) at.op at.k off w.byte ∷ [] in checked_form (under lines) (is_checked lines)
 
   pub is_even : own.size % 2 ≡ 0
-  is_even = even_block s.block h.sound.keeps.block_is
+  is_even = even_size s.block h.sound.keeps.block_is
 
   pub blocks_below : All (All (λ x. x < 256)) (blocks_told us)
   blocks_below = subst (λ us. All (All (λ x. x < 256)) (blocks_told us)) (sym (stored_back w.units h.layout)) (formatted_below w.units few)

@@ -1,13 +1,8 @@
 -- Where the cell of an address is among the blocks of units that are told.
-use Rattle.std.proofs.Common.{ℕ, zero, suc, ◌≡◌, ◌+◌, ◌-◌, ◌<◌, ◌≤◌, List, [], ◌∷◌, length, drop, get_or, map, refl, ap, ◌∙◌, arith}
+use Rattle.std.proofs.Common.{ℕ, zero, suc, ◌≡◌, ◌+◌, ◌-◌, ◌<◌, ◌≤◌, List, [], ◌∷◌, length, get_or, map, refl, ap, ◌∙◌, arith}
 use Rattle.std.proofs.lemmas.List.{get_or_append_left, get_or-append_right}
 use Rattle.pi_tuple.specs.declared.checks.PiType.{PiType}
-use Rattle.target_answer.specs.Frames.{stored_size}
-use Rattle.target_answer.specs.Headers.{bytes_of}
-use Rattle.target_answer.specs.Image.{units_from}
 use Rattle.target_answer.specs.Target.{Stored}
-use Rattle.target_answer.specs.declared.units.UnitSpec.{UnitSpec}
-use Rattle.target_model.proofs.Bytes.{length_frames}
 use Rattle.rig_api.specs.Telling.{unit_at}
 use Rattle.rig_discovery.specs.Discovery.{info_of}
 use Rattle.volume_table.specs.Tables.{IsOn}
@@ -40,10 +35,3 @@ there ty size (u ∷ us) (suc dev) lba h =
       ty_is = r.ty_is;
       size_is = r.size_is;
     }
-
--- the units of an image have the shapes that its head tells
-pub shapes_back : (us : List UnitSpec) (b : List ℕ) → shapes_of (units_from us b) ≡ us
-shapes_back [] b = refl
-shapes_back (u ∷ us) b =
-    ap (λ n. record { ty = u.ty; blocks = n; size = u.size; first = u.first } ∷ shapes_of (units_from us (drop (bytes_of u) b))) (length_frames (stored_size u.ty u.size) u.blocks b)
-    ∙ ap (λ rest. u ∷ rest) (shapes_back us (drop (bytes_of u) b))

@@ -1,5 +1,6 @@
 -- What the adapter's command puts on record is its unit's answer.
 use Rattle.std.proofs.Common.{◌≡◌, ℕ, ◌*◌, if◌then◌else◌, List, [], ◌∷◌, ◌++◌, length, map, drop, get_or, sym, ap, ◌∙◌}
+use Rattle.std.proofs.Math.Seq.{drop-append_seam}
 use Rattle.bio_core.specs.declared.bio.Bio.{Bio}
 use Rattle.cdb_codec.specs.Forms.{Fits, form}
 use Rattle.cdb_codec.specs.declared.choice.Dir2.{Dir2}
@@ -12,7 +13,6 @@ use Rattle.dix_adapter.specs.Groups.{blocks_in, first_of, label_of, size}
 use Rattle.dix_adapter.proofs.Asking.{asked-for, fields_of, request_by}
 use Rattle.dix_adapter.proofs.Landing.{group-width}
 use Rattle.dix_adapter.proofs.Runs.{width_for}
-use Rattle.script_stack.proofs.Following.{behind}
 use Rattle.vector_lines.specs.Printed.{is_sender, is_write, out_of, sends as goes}
 use Rattle.vector_runs.specs.Done.{room_of}
 use Rattle.stack_core.proofs.Answering.{all_wide, decodes, room_as}
@@ -29,7 +29,7 @@ module _ (a : Adapter) (req : List Bio) (dir : Dir2) (way : way_of (first_of req
   writes_as = ap is_sender (decodes a req dir way fits) ∙ ap goes (asked-for a dir (first_of req).lba (size req))
 
 same_last : (log : List Entry) (one other : Entry) → log ++ (one ∷ []) ≡ log ++ (other ∷ []) → one ≡ other
-same_last log one other e = ap (λ xs. get_or xs 0 no_entry) (sym (behind log (one ∷ [])) ∙ ap (drop (length log)) e ∙ behind log (other ∷ []))
+same_last log one other e = ap (λ xs. get_or xs 0 no_entry) (sym (drop-append_seam log (one ∷ [])) ∙ ap (drop (length log)) e ∙ drop-append_seam log (other ∷ []))
 
 pub write_answers : WriteAnswers
 write_answers a ios req pool pool' us fates old new h dir good x w =

@@ -14,13 +14,14 @@ use Rattle.pi_tuple.specs.declared.checks.Check.{Check}
 use Rattle.pi_tuple.specs.declared.checks.Check.TheVariants.{Guard, RefTag}
 use Rattle.pi_tuple.specs.declared.checks.PiType.TheVariants.{One}
 use Rattle.pi_tuple.specs.declared.tuple.Tuple.{Tuple}
+use Rattle.pi_tuple.proofs.TupleLaws.{same_fields}
 use Rattle.integrity_payload.specs.Payloads.{all_asked}
 use Rattle.fault_schedule.specs.Altered.{xored_from}
 use Rattle.fault_schedule.proofs.Xored.{get-xored, length-xored}
 use Rattle.guard_laws.proofs.Flips.{xor_kept}
 use Rattle.target_answer.specs.Frames.{data_of, tuple_of}
 use Rattle.block_path.proofs.Cells.{AllBelow}
-use Rattle.whole_run.proofs.TupleFrames.{below_at, below_drop, below_replicate, below_take, spelled, three}
+use Rattle.whole_run.proofs.TupleFrames.{below_at, below_drop, below_replicate, below_take, spelled}
 use Rattle.run_laws.proofs.Found.{bears_both, expected, passed}
 use Rattle.whole_run.specs.Detectable.{bears}
 use Rattle.run_premises.specs.Forms.{is_near, is_none, is_seen}
@@ -213,7 +214,7 @@ module _ (n off byte : ℕ) (low : n + 4 ≤ off) (high : off < n + 8) (some : 1
   tag_differs x h e =
       let i : ℕ = off - n in
       let z : n + i ≡ off = omega (arith, low) in
-      let t : tuple_of n (after x) ≡ tuple_of n x = three (tag_guard x h) (tag_app x h) e in
+      let t : tuple_of n (after x) ≡ tuple_of n x = same_fields (tag_guard x h) (tag_app x h) e in
       let same : drop n (after x) ≡ drop n x = sym (spelled_out (after x) (size_after x h) (bytes_after x h.bytes)) ∙ ap tuple_bytes t ∙ spelled_out x h.size h.bytes in
       let kept : f (n + i) ≡ 0 = xor_kept (get_or (drop n x) i 0) (f (n + i)) (sym (byte_at_is x h i (omega (arith, low, high))) ∙ ap (λ v. get_or v i 0) same) in
       let here : byte ≡ 0 = sym one.here ∙ ap f (sym z) ∙ kept in

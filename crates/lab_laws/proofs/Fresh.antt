@@ -11,6 +11,7 @@ use Rattle.target_answer.specs.Frames.{stored_size, tuple_of}
 use Rattle.target_answer.specs.Image.{formatted, fresh, fresh_from, units_in}
 use Rattle.target_answer.specs.Target.{Stored}
 use Rattle.target_answer.specs.declared.units.UnitSpec.{UnitSpec}
+use Rattle.target_answer.proofs.FreshBlocks.{fresh_long}
 use Rattle.rig_discovery.specs.Discovery.{info_of}
 use Rattle.volume_table.specs.Places.{place_in, volume_len}
 use Rattle.volume_table.specs.Tables.{IsOn}
@@ -19,7 +20,6 @@ use Rattle.whole_run.specs.Settings.{Setting}
 use Rattle.whole_run.specs.UnderMap.{home}
 use Rattle.script_ground.specs.Units.{AreStored}
 use Rattle.script_premises.proofs.Fresh.{fresh_unit, formatted_clean}
-use Rattle.image_scripts.proofs.FreshHead.{fresh_long}
 use Rattle.lab_laws.proofs.Scrubbed.{sizes_of}
 
 run_stored : (ty : PiType) (size lba n : ℕ) → All (λ (b : List ℕ). length b ≡ stored_size ty size) (fresh_from ty size lba n)

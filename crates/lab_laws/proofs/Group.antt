@@ -24,14 +24,14 @@ use Rattle.dix_adapter.specs.Groups.{blocks_in, first_of, frame_cells, frame_in,
 use Rattle.dix_adapter.specs.Ways.{frames_out, ways_out}
 use Rattle.dix_adapter.proofs.Blocks.{length-in}
 use Rattle.dix_adapter.proofs.Runs.{Run, group-run}
-use Rattle.whole_run.proofs.TupleFrames.{no}
 use Rattle.lab_laws.specs.Passing.{CommandPasses}
 use Rattle.lab_laws.proofs.Taken.{block_passes}
+use Rattle.small_laws.proofs.Tests.{never}
 
 one_taken : (faults : List FaultLine) (r : Route) (came : Result (List ℕ) Check) (ws : List WayOut) (fs : List (List ℕ)) → is_bad came ≡ false → IfOk came (λ carried. (stored : List ℕ) × (to_medium faults (passage faults r) carried ≡ Ok stored)) → frames_out ws ≡ fs →
     frames_out (from_adapter (target faults) r came ∷ ws) ≡ frame_sent came ∷ fs
 one_taken faults r (Ok carried) ws fs good h rest = ap (λ c. frames_out (at_device carried (by_target c) ∷ ws)) h.1 ∙ ap (λ xs. carried ∷ xs) rest
-one_taken faults r (Err check) ws fs good h rest = no (sym good)
+one_taken faults r (Err check) ws fs good h rest = never (sym good)
 
 module _ (a : Adapter) (ios : List Io) (cells : List ℕ) (faults : a.tamper ≡ []) (free : a.dix ≡ false → a.mask ≡ 0) where
   all_taken : (dev bytes at : ℕ) (bs : List Block) → Run a ios dev bytes (pos 0) (pos 0) at bs → any_bad (map (sends a ios cells) bs) ≡ false → frames_out (ways_out a ios cells bs) ≡ map frame_sent (map (sends a ios cells) bs)

@@ -14,16 +14,19 @@ use Rattle.target_answer.specs.Image.{fresh, fresh_from, units_in}
 use Rattle.target_answer.specs.Passing.{with_own_tuple}
 use Rattle.target_answer.specs.Target.{Stored}
 use Rattle.target_answer.specs.declared.units.UnitSpec.{UnitSpec}
+use Rattle.target_answer.proofs.FreshBlocks.{fresh_many}
+use Rattle.target_answer.proofs.FrameLaws.{frames_length}
 use Rattle.target_model.specs.Served.{AllLong}
-use Rattle.target_model.proofs.Bytes.{length_frames}
 use Rattle.rig_api.specs.Head.{head_of, units_of}
 use Rattle.rig_api.specs.Telling.{holding, no_unit, own_units, unit_at}
+use Rattle.rig_api.proofs.HeadLaws.{right_layout}
 use Rattle.rig_discovery.specs.Discovery.{Ends, info_of}
 use Rattle.volume_table.specs.Places.{place_in}
 use Rattle.volume_table.specs.Tables.{MadeFor}
 use Rattle.volume_table.specs.declared.device.DeviceInfo.{DeviceInfo}
 use Rattle.volume_table.proofs.Laws.{made}
 use Rattle.dix_adapter.specs.Ways.{blocks_told, shapes_of}
+use Rattle.dix_adapter.proofs.Units.{shapes-are}
 use Rattle.whole_run.specs.PlainMap.{as_expected}
 use Rattle.whole_run.specs.Settings.{Setting}
 use Rattle.whole_run.specs.UnderMap.{IsClean, address_of}
@@ -36,7 +39,7 @@ use Rattle.run_command.specs.Premises.{setting_told}
 use Rattle.run_command.specs.Verdict.{HasTable, devices_of, table_over}
 use Rattle.run_command.proofs.Tables.{all_end}
 use Rattle.image_layout.specs.Places.{block_place}
-use Rattle.image_layout.proofs.Heads.{layout_parts, right_layout}
+use Rattle.image_layout.proofs.Heads.{layout_parts}
 use Rattle.image_layout.proofs.Units.{unit_found}
 use Rattle.image_blocks.specs.Places.{spec_of, whole_in}
 use Rattle.image_blocks.specs.declared.stretch.PlaceFault.{PlaceFault}
@@ -49,7 +52,7 @@ use Rattle.image_dumps.proofs.Putting.{imported_length}
 use Rattle.image_scripts.specs.Over.{blocks_in, setting_over, volume_over}
 use Rattle.lab_laws.specs.Clean.{ClaimsOnClean, FormatMakes, HoldsClean, ImportMakes, IsImported, IsMade, KeepsHead, RunsOnClean}
 use Rattle.lab_laws.proofs.Blocks.{made_clean}
-use Rattle.lab_laws.proofs.Cells.{shapes_back, there}
+use Rattle.lab_laws.proofs.Cells.{there}
 use Rattle.image_dumps.proofs.Importing.{length_units}
 
 -- ---- a block of such a unit
@@ -84,10 +87,6 @@ run_is ty size lba (suc n) =
 zeros_long : (size n : ℕ) → AllLong size (replicate n (replicate size 0))
 zeros_long size zero = tt
 zeros_long size (suc n) = (length-replicate size 0, zeros_long size n)
-
-fresh_many : (ty : PiType) (size lba n : ℕ) → length (fresh_from ty size lba n) ≡ n
-fresh_many ty size lba zero = refl
-fresh_many ty size lba (suc n) = ap suc (fresh_many ty size (lba + 1) n)
 
 as_imported : (u : Stored) → IsMade u → IsImported u
 as_imported u (inl p) = p
@@ -167,7 +166,7 @@ whole_makes us dev more image image_after left left_after h t =
     let u : UnitSpec = spec_of us dev in
     let old : Stored = unit_at found dev in
     let f = unit_found us (drop 512 image) dev h in
-    let many : length old.blocks ≡ u.blocks = ap (λ (v : Stored). length v.blocks) f ∙ length_frames (stored_size u.ty u.size) u.blocks (drop (all_bytes (take dev us)) (drop 512 image)) in
+    let many : length old.blocks ≡ u.blocks = ap (λ (v : Stored). length v.blocks) f ∙ frames_length (stored_size u.ty u.size) u.blocks (drop (all_bytes (take dev us)) (drop 512 image)) in
     let few = length_units us (drop 512 image) in
     let w = whole_put old u.ty u.size u.first u.blocks t.pieces (ap (λ (v : Stored). v.ty) f) (ap (λ (v : Stored). v.size) f) (ap (λ (v : Stored). v.first) f) many t.many t.long in
     let now : Stored = holding old (placed (u.first - old.first) (imported Plain u.ty u.size u.first (take u.blocks (drop (u.first - old.first) old.blocks)) t.pieces ++ []) old.blocks) in (
@@ -213,7 +212,7 @@ pub claims_clean : ClaimsOnClean
 claims_clean script image text right fits mask is_made =
     let us : List Stored = own_units image in
     let specs : List UnitSpec = units_of (head_of image) in
-    let ds : map info_of (shapes_of us) ≡ devices_of image = ap (map info_of) (shapes_back specs (drop 512 image)) in
+    let ds : map info_of (shapes_of us) ≡ devices_of image = ap (map info_of) (shapes-are specs (drop 512 image)) in
     let keeps = (read_keeps text script fits.language).keeps in
     let ends = all_end (devices_of image) (all_ends specs (layout_parts specs (right_layout (head_of image) right)).2) in
     let count = keeps.entries_count.high_is in

@@ -1,8 +1,8 @@
 -- A run with one flip beside the run without: all other blocks are done alike, and what becomes of the flipped one.
-use Rattle.std.proofs.Common.{◌≡◌, ◌≢◌, ◌<◌, ◌≤◌, ℕ, zero, suc, ◌-◌, Bool, true, false, eqb, ◌&&◌, if◌then◌else◌, List, [], ◌∷◌, length, drop, get_or, None, ◌⊎◌, inl, inr, refl, sym, ap, ◌∙◌, arith}
+use Rattle.std.proofs.Common.{◌≡◌, ℕ, ◌-◌, Bool, true, false, eqb, ◌&&◌, if◌then◌else◌, List, [], ◌∷◌, length, drop, get_or, None, refl, sym, ap, ◌∙◌, arith}
 use Rattle.std.specs.Prelude.{ℤ, bit_xor, leb, pos, slice_index, unwrap_or}
 use Rattle.std.specs.Int.Bits.{xor_zero_r}
-use Rattle.std.proofs.lemmas.Bool.{cases_order, eqb-true, eq-eqb, leb-true, le-leb}
+use Rattle.std.proofs.lemmas.Bool.{eqb-true, eq-eqb, le-leb}
 use Rattle.page_pool.specs.Cells.{gather}
 use Rattle.fault_schedule.specs.Altered.{byte_at, is_line_of, is_same, named, shift_of}
 use Rattle.fault_schedule.specs.declared.fault.Crossing.{Crossing}
@@ -22,6 +22,7 @@ use Rattle.whole_run.specs.Steps.{Alters, Reads, Seals, Sets, Shows, Step, Write
 use Rattle.run_laws.proofs.Framed.{not_altered}
 use Rattle.lab_laws.proofs.Flipped.{IsOne}
 use Rattle.lab_laws.proofs.Ways.{comes_in, fetched_home, goes_out, in_by, out_by, stored_home, under_lines}
+use Rattle.guard_laws.proofs.Flips.{one_outside}
 
 abbrev pub one_line : Crossing → (op k off byte : ℕ) → FaultLine
 one_line at op k off byte = record { op = op; k = k; at = at; kind = Flip off (byte ∷ []) }
@@ -88,14 +89,6 @@ none_altered m' b c x = not_altered [] c (route (under_lines m' []) b).label x r
 
 -- ---- with one
 
-above : (a i : ℕ) → a ≤ i → i ≢ a → 0 < i - a
-above a i l d = by (cases_order a i)
-  where
-    by : (a ≡ i) ⊎ ((a < i) ⊎ (i < a)) → 0 < i - a
-    by (inl e) = absurd (d (sym e))
-    by (inr (inl g)) = omega arith
-    by (inr (inr g)) = absurd (omega arith)
-
 module _ (m' : Setting) (at : Crossing) (op k off byte : ℕ) where
   abbrev lines : List FaultLine
   lines = one_line at op k off byte ∷ []
@@ -156,19 +149,8 @@ module _ (m' : Setting) (at : Crossing) (op k off byte : ℕ) where
       let z : off - off ≡ 0 = omega arith in
       ap (λ t. if t then slice_index (byte ∷ []) (off - off) else 0) e ∙ ap (slice_index (byte ∷ [])) z
 
-  behind : (i : ℕ) → 0 < i → slice_index (byte ∷ []) i ≡ 0
-  behind zero h = absurd (omega arith)
-  behind (suc i) h = refl
-
-  byte_there : (i : ℕ) → i ≢ off → byte_at off (byte ∷ []) i ≡ 0
-  byte_there i d = by (leb off i) refl
-    where
-      by : (t : Bool) → leb off i ≡ t → (if t then slice_index (byte ∷ []) (i - off) else 0) ≡ 0
-      by true e = behind (i - off) (above off i (leb-true off i e) d)
-      by false e = refl
-
   pub one : (b : Block) → IsOwn b → is_same at at ≡ true → IsOne off byte (named lines at (route m1 b).label)
-  one b h s = record { here = named_is b h s off ∙ byte_here; there = λ i d. named_is b h s i ∙ byte_there i d }
+  one b h s = record { here = named_is b h s off ∙ byte_here; there = λ i d. named_is b h s i ∙ one_outside off byte i d }
 
   -- ---- steps
 

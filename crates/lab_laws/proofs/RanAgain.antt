@@ -3,6 +3,7 @@ use Rattle.std.proofs.Common.{◌≡◌, ℕ, ◌*◌, ◌≤◌, if◌then◌el
 use Rattle.std.specs.Prelude.{IfOk, min, slice_index_or, Result, Ok, Err}
 use Rattle.std.specs.List.{AllByRecursion as Each}
 use Rattle.std.proofs.lemmas.List.{take_all}
+use Rattle.std.proofs.Math.Seq.{drop-append_seam}
 use Rattle.dix_base.specs.Told.{Calm}
 use Rattle.cdb_codec.specs.Decoded.{decoded}
 use Rattle.cdb_codec.specs.declared.command.Cdb.{Cdb}
@@ -21,7 +22,6 @@ use Rattle.rig_api.specs.Telling.{Standing, answer_of, at_front, no_spec, spec_a
 use Rattle.answered_record.specs.Answered.{Answers, AreAnswersTo, FramesBy, FramesUnder, IsAnswerTo, answer_with, room_of}
 use Rattle.answered_record.proofs.Going.{answers_join}
 use Rattle.script_laws.proofs.Keeping.{read_keeps}
-use Rattle.script_stack.proofs.Following.{behind}
 use Rattle.script_text.specs.declared.script.Script.{Script}
 use Rattle.source_text.specs.Reading.{most_bytes}
 use Rattle.run_command.specs.Verdict.{Facts, HasRun}
@@ -144,7 +144,7 @@ module _ (run : Finished) (f : Facts) (image : List ℕ) (told_is : f.rig.image 
       let more = h.followed.goes.more in
       let log : f.rig_after.log ≡ f.rig.log ++ (first ++ more) =
       h.followed.goes.records ∙ ap (λ l. l ++ more) (looks_answer.log ∙ ap (λ l. l ++ first) h.asked.told.since.kept.log) ∙ append_assoc f.rig.log first more in
-      ap (λ n. drop n f.rig_after.log) h.first ∙ ap (drop (length f.rig.log)) log ∙ behind f.rig.log (first ++ more)
+      ap (λ n. drop n f.rig_after.log) h.first ∙ ap (drop (length f.rig.log)) log ∙ drop-append_seam f.rig.log (first ++ more)
 
   answered : AreAnswersTo s us records left
   answered =
@@ -223,7 +223,7 @@ text_again run f image told_is calm played written lines first g is quiet k same
     let read : lines ≡ lines_of 2 records = read_once lines (lines_of 2 records) (sym k.held.reads ∙ (ap list_in same ∙ text_reads records written few)) in
     let a = k.answered in
     let entries : drop first g.rig_after.log ≡ a.done.entries =
-    ap (λ n. drop n g.rig_after.log) k.first_is ∙ (ap (drop (length g.rig.log)) (a.done.log ∙ ap (λ l. l ++ a.done.entries) a.ready.log) ∙ behind g.rig.log a.done.entries) in
+    ap (λ n. drop n g.rig_after.log) k.first_is ∙ (ap (drop (length g.rig.log)) (a.done.log ∙ ap (λ l. l ++ a.done.entries) a.ready.log) ∙ drop-append_seam g.rig.log a.done.entries) in
     let by : (ls : List VectorLine) → ls ≡ lines_of 2 records → (b : HasAnswered g.name ls g.rig g.rig_after) → (list_text ls b.done.entries ≡ vectors_text records) × (g.rig_after.units ≡ f.rig_after.units) =
     λ ls e. subst (λ (xs : List VectorLine). (b : HasAnswered g.name xs g.rig g.rig_after) → (list_text xs b.done.entries ≡ vectors_text records) × (g.rig_after.units ≡ f.rig_after.units)) (sym e) (list_again run f image told_is calm played g.name g.rig g.rig_after is quiet) in
     let answer = by lines read a in

@@ -36,12 +36,12 @@ use Rattle.whole_run.specs.ReadsAs.{listed_among, listed_in}
 use Rattle.run_laws.specs.BackedRun.{Belongs, IsBacked, IsListedAs, OfRequest}
 use Rattle.run_laws.specs.Records.{Mixed, NoTwo, came_of, end_for, end_in, ended_by, find, is_labelled, put_blocks, put_decoded, put_entries, put_request, recorded, stamped}
 use Rattle.run_laws.specs.TakenWalk.{taken_act, taken_acts, taken_from, taken_in, taken_out}
-use Rattle.whole_run.proofs.TupleFrames.{no}
 use Rattle.run_laws.proofs.Labelled.{each_both, each_first, each_other, tells_append}
 use Rattle.run_follows.specs.Falls.{Falls, put_really, really}
 use Rattle.stack_core.specs.Mediums.{listed_mediums, medium_lines}
 use Rattle.stack_core.specs.OnRecord.{bad_blocks}
 use Rattle.lab_laws.specs.Passing.{AreDone, IsNotCut, IsWhole, WasTaken, width}
+use Rattle.small_laws.proofs.Tests.{never}
 
 -- ---- from blocks to commands
 
@@ -219,7 +219,7 @@ none_ended es (a ∷ answers) e n l (inl b) h =
     let here : IsListedAs es b.0.route a = subst (λ o. IfSome o (λ x. IsListedAs es x.route a)) b.1.0 l.0 in
     let ended : end_for es b.0.route.label ≡ Some Medium = ap (end_for es) (sym b.1.1.label) ∙ h in
     let why : a.why ≡ Some Medium = subst (λ o. IfSome o (λ w. a.why ≡ Some w)) ended here in
-    no (sym (subst NotMedium why n.0))
+    never (sym (subst NotMedium why n.0))
 
 -- each entry and end is found by its own label
 labelled_itself : (x : Sent) → is_labelled x.label x ≡ true
@@ -236,8 +236,8 @@ same_label n k h = by (eqb n.op k.op) (eqb n.k k.k) refl refl h
 
     by : (c d : Bool) → eqb n.op k.op ≡ c → eqb n.k k.k ≡ d → (c && d) ≡ true → n ≡ k
     by true true p q h = one n.op k.op n.k k.k (eqb-true n.op k.op p) (eqb-true n.k k.k q)
-    by true false p q h = no h
-    by false d p q h = no h
+    by true false p q h = never h
+    by false d p q h = never h
 
 abbrev IsFound : List Sent → Sent → Type 0
 IsFound es e = find e.label es ≡ Some e

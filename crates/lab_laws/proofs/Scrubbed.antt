@@ -9,10 +9,10 @@ use Rattle.target_answer.specs.Headers.{bytes_of}
 use Rattle.target_answer.specs.Image.{units_from}
 use Rattle.target_answer.specs.Target.{Stored}
 use Rattle.target_answer.specs.declared.units.UnitSpec.{UnitSpec}
+use Rattle.target_answer.proofs.FrameLaws.{joined_append}
 use Rattle.rig_discovery.specs.Discovery.{info_of}
 use Rattle.volume_table.specs.Tables.{IsOn}
 use Rattle.dix_adapter.specs.Ways.{cell_in}
-use Rattle.dix_adapter.proofs.Gathering.{joined-append}
 use Rattle.dix_adapter.proofs.Runs.{AllLong, cut-joined, joined-long}
 use Rattle.flip_sweep.specs.Verdicts.{first_spoilt, first_spoilt_from, new_finding, or_else, spoilt_of, unless}
 use Rattle.flip_sweep.specs.declared.verdict.Verdict.TheVariants.{Scrub}
@@ -52,7 +52,7 @@ cuts (u ∷ us) blocks e =
     let c = cut w u.blocks blocks (sizes_of us) e in
     let front = take u.blocks blocks in
     let back = drop u.blocks blocks in
-    let all : joined blocks ≡ joined front ++ joined back = ap joined (sym (take-append-drop u.blocks blocks)) ∙ joined-append front back in
+    let all : joined blocks ≡ joined front ++ joined back = ap joined (sym (take-append-drop u.blocks blocks)) ∙ joined_append front back in
     let first : frames_of w u.blocks (joined front ++ joined back) ≡ front = ap (λ k. frames_of w k (joined front ++ joined back)) (sym c.many) ∙ cut-joined w front (joined back) c.long in
     let size : length (joined front) ≡ bytes_of u = joined-long w front c.long ∙ ap (λ k. k * w) c.many in
     let rest : drop (bytes_of u) (joined front ++ joined back) ≡ joined back = drop_at (joined front) (joined back) (bytes_of u) size in

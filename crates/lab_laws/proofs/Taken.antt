@@ -2,13 +2,14 @@
 use Rattle.std.proofs.Common.{◌≡◌, ◌<◌, ℕ, ◌+◌, ◌^◌, Bool, true, false, not, ◌&&◌, eqb, if◌then◌else◌, List, [], ◌∷◌, ◌++◌, length, drop, take, Option, Some, None, refl, sym, ap, subst, ◌∙◌, arith}
 use Rattle.std.specs.Prelude.{bit_and, IfOk, Ok}
 use Rattle.std.specs.Int.{w16, to_be_bytes}
-use Rattle.std.proofs.lemmas.Bool.{eq-eqb, eqb-true, not-false}
-use Rattle.std.proofs.lemmas.List.{drop-drop, length-drop, length-take-le, take_at, drop_at}
+use Rattle.std.proofs.lemmas.Bool.{eq-eqb, eqb-true, not-false, and_right}
+use Rattle.std.proofs.lemmas.List.{drop-drop, length-take-le, take_at, drop_at}
 use Rattle.std.proofs.lemmas.Nat.{from_be_bytes-to_be_bytes_2}
 use lib.Bits.{and_zero_r}
 use Rattle.pi_guard.specs.Guards.{crc, guard_of}
 use Rattle.pi_guard.specs.declared.GuardKind.{GuardKind}
 use Rattle.pi_guard.specs.declared.GuardKind.TheVariants.{Crc, Ip}
+use Rattle.pi_guard.proofs.GuardSizes.{guard_below}
 use Rattle.pi_tuple.specs.Finds.{finding, first_of, has_ref_tag, is_escaped, is_zero}
 use Rattle.pi_tuple.specs.Tuples.{ref_tag, tuple_in}
 use Rattle.pi_tuple.specs.declared.tuple.Tuple.{Tuple}
@@ -16,6 +17,7 @@ use Rattle.pi_tuple.specs.declared.checks.PiType.{PiType}
 use Rattle.pi_tuple.specs.declared.checks.PiType.TheVariants.{Zero, One, Two, Three}
 use Rattle.pi_tuple.specs.declared.checks.Check.{Check}
 use Rattle.pi_tuple.specs.declared.checks.Check.TheVariants.{AppTag, Guard, RefTag}
+use Rattle.pi_tuple.proofs.TupleLaws.{tag_below, same_fields}
 use Rattle.cdb_codec.specs.Rule.{is_two}
 use Rattle.integrity_payload.specs.Payloads.{all_asked}
 use Rattle.target_answer.specs.Frames.{data_of, frame_of, tuple_of}
@@ -25,8 +27,10 @@ use Rattle.block_path.specs.declared.route.Route.{Route}
 use Rattle.block_path.specs.Routes.{host_size, is_crc, passage, wire_lba, with_guard}
 use Rattle.block_path.specs.WayOut.{adapter_finds_out, sent}
 use Rattle.whole_run.proofs.CalmWays.{onto_medium, onto_wire}
-use Rattle.whole_run.proofs.TupleFrames.{finds_in_frame, finds_none, guard_below, no, tag_below, three}
+use Rattle.whole_run.proofs.TupleFrames.{finds_in_frame, finds_none}
 use Rattle.lab_laws.specs.Passing.{BlockPasses}
+use Rattle.small_laws.proofs.Tests.{never}
+use Rattle.small_laws.proofs.Lists.{behind_long}
 
 -- ---- checks
 
@@ -55,33 +59,23 @@ masked : (c : Bool) (app want mask : ℕ) → not (eqb (bit_and app mask) (bit_a
 masked true app want mask h = h
 masked false app want mask h = let e : eqb (bit_and app 0) (bit_and want 0) ≡ true = eq-eqb _ _ (and_zero_r app ∙ sym (and_zero_r want)) in ap not e
 
-weaker : (c d : Bool) → d ≡ false → (c && d) ≡ false
-weaker false d h = refl
-weaker true d h = h
-
 -- ---- a tuple in a frame
 
 -- eight bytes under another guard
 reguarded : (g : ℕ) (b : List ℕ) → length b ≡ 8 → g < 2 ^ 16 → tuple_in (to_be_bytes w16 g ++ drop 2 b) ≡ record { guard = g; app = (tuple_in b).app; rtag = (tuple_in b).rtag }
 reguarded g [] l h = absurd (omega (arith, l))
 reguarded g (x ∷ []) l h = absurd (omega (arith, l))
-reguarded g (x ∷ y ∷ b) l h = let e = from_be_bytes-to_be_bytes_2 g h in three e refl refl
+reguarded g (x ∷ y ∷ b) l h = let e = from_be_bytes-to_be_bytes_2 g h in same_fields e refl refl
 
 module _ (size : ℕ) (frame : List ℕ) (l : length frame ≡ size + 8) where
-  front : length (take size frame) ≡ size
-  front = length-take-le size frame (omega (arith, l))
-
-  behind : length (drop size frame) ≡ 8
-  behind = let d = length-drop size frame in omega (arith, d, l)
-
   data_kept : (g : ℕ) → data_of size (with_guard size g frame) ≡ data_of size frame
   data_kept g = take_at (take size frame) (to_be_bytes w16 g ++ drop (size + 2) frame) size front
 
   tuple_kept : (g : ℕ) → g < 2 ^ 16 → tuple_of size (with_guard size g frame) ≡ record { guard = g; app = (tuple_of size frame).app; rtag = (tuple_of size frame).rtag }
   tuple_kept g h =
-      ap tuple_in (drop_at (take size frame) (to_be_bytes w16 g ++ drop (size + 2) frame) size front)
+      ap tuple_in (drop_at (take size frame) (to_be_bytes w16 g ++ drop (size + 2) frame) size (length-take-le size frame (omega (arith, l))))
       ∙ ap (λ b. tuple_in (to_be_bytes w16 g ++ b)) (sym (drop-drop 2 size frame))
-      ∙ reguarded g (drop size frame) behind h
+      ∙ reguarded g (drop size frame) (behind_long size 8 frame l) h
 
 -- ---- at the target
 
@@ -104,25 +98,25 @@ module _ (r : Route) where
       finding ty (all_asked r.mode.app r.mode.mask) (ref_tag r.lba) g t ≡ None →
       let p = passage [] (record r { ty = ty }) in
       finding ty (checked_of p) (wanted_of p) crc_is (record { guard = guard; app = t.app; rtag = t.rtag }) ≡ None
-  asks_less Zero g crc_is t guard z right h = no (sym z)
+  asks_less Zero g crc_is t guard z right h = never (sym z)
   asks_less One g crc_is t guard z right h =
       let p = passage [] (record r { ty = One }) in
       less (eqb t.app 0xFFFF) _ _ _ _ _ _ h
       (λ e. if_asked (checked_of p).guard guard crc_is (right (eqb-true t.guard g (not-false (eqb t.guard g) e))))
       (masked false t.app r.mode.app r.mode.mask)
-      (λ e. weaker (checked_of p).rtag _ (ap (λ w. not (eqb t.rtag w)) (wanted r One) ∙ e))
+      (λ e. and_right (checked_of p).rtag _ (ap (λ w. not (eqb t.rtag w)) (wanted r One) ∙ e))
   asks_less Two g crc_is t guard z right h =
       let p = passage [] (record r { ty = Two }) in
       less (eqb t.app 0xFFFF) _ _ _ _ _ _ h
       (λ e. if_asked (checked_of p).guard guard crc_is (right (eqb-true t.guard g (not-false (eqb t.guard g) e))))
       (masked (eqb p.protect 1) t.app r.mode.app r.mode.mask)
-      (λ e. weaker (checked_of p).rtag _ e)
+      (λ e. and_right (checked_of p).rtag _ e)
   asks_less Three g crc_is t guard z right h =
       let p = passage [] (record r { ty = Three }) in
       less (is_escaped Three t) _ _ false _ _ _ h
       (λ e. if_asked (checked_of p).guard guard crc_is (right (eqb-true t.guard g (not-false (eqb t.guard g) e))))
       (masked false t.app r.mode.app r.mode.mask)
-      (λ e. weaker (checked_of p).rtag false refl)
+      (λ e. and_right (checked_of p).rtag false refl)
 
   -- what the adapter passes on with its tuple has nothing bad for the target
   passed_on : (kind : GuardKind) (ty : PiType) (frame : List ℕ) → is_zero ty ≡ false → length frame ≡ r.size + 8 →
@@ -158,10 +152,10 @@ module _ (r : Route) (frame : List ℕ) (l : length frame ≡ r.size) (none : r.
       ∙ finds_none ty (checked_of p) (wanted_of p) (crc frame) t (λ _. refl) (unmasked (is_two ty && eqb p.protect 1) r.mode.app r.mode.mask none) (λ _ h. tags h)
 
   made : (ty : PiType) → is_zero ty ≡ false → found_in (passage [] (record r { ty = ty })) (with_own_tuple ty r.lba frame) ≡ None
-  made Zero z = no (sym z)
+  made Zero z = never (sym z)
   made One z = own One (ref_tag r.lba) (tag_below r.lba) (λ _. sym (wanted r One))
   made Two z = own Two (ref_tag r.lba) (tag_below r.lba) (λ _. sym (wanted r Two))
-  made Three z = own Three 0 (omega arith) (λ h. no h)
+  made Three z = own Three 0 (omega arith) (λ h. never h)
 
 -- ---- whichever way
 

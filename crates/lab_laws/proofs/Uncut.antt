@@ -3,6 +3,7 @@ use Rattle.std.proofs.Common.{◌≡◌, inr, ⊎_elim, ℕ, suc, ◌^◌, ◌+�
 use Rattle.std.specs.Prelude.{IfOk, Result, Ok}
 use Rattle.std.specs.List.{AllByRecursion as Each, list_any}
 use Rattle.std.proofs.lemmas.Bool.{ne_eqb}
+use Rattle.std.proofs.Math.Seq.{drop-append_seam}
 use Rattle.dix_base.specs.Told.{Calm}
 use Rattle.pi_tuple.specs.Finds.{is_zero}
 use Rattle.fault_schedule.specs.declared.fault.FaultLine.{FaultLine}
@@ -47,7 +48,7 @@ use Rattle.script_laws.proofs.Keeping.{read_keeps}
 use Rattle.script_ground.proofs.Calm.{all-fit, calm-of}
 use Rattle.script_ground.proofs.OverUnits.{IsBoundOver, over}
 use Rattle.script_stack.specs.Followed.{HasFallen, failed_in, opening_of, setting_of, unit_of}
-use Rattle.script_stack.proofs.Following.{behind, told-stored}
+use Rattle.script_stack.proofs.Following.{told-stored}
 use Rattle.rig_api.specs.State.{RigState}
 use Rattle.run_command.specs.Verdict.{HasRun}
 use Rattle.run_command.specs.declared.verdict.Finished.{Finished}
@@ -256,6 +257,6 @@ vectors_pass run f image told_is c (script, held, h) =
     let more = h.followed.goes.more in
     let log : f.rig_after.log ≡ f.rig.log ++ (first ++ more) =
     h.followed.goes.records ∙ ap (λ l. l ++ more) (found.log ∙ ap (λ l. l ++ first) h.asked.told.since.kept.log) ∙ append_assoc f.rig.log first more in
-    let rest : drop run.first f.rig_after.log ≡ first ++ more = ap (λ n. drop n f.rig_after.log) h.first ∙ ap (drop (length f.rig.log)) log ∙ behind f.rig.log (first ++ more) in
+    let rest : drop run.first f.rig_after.log ≡ first ++ more = ap (λ n. drop n f.rig_after.log) h.first ∙ ap (drop (length f.rig.log)) log ∙ drop-append_seam f.rig.log (first ++ more) in
     subst (Each (IsNotCut script.block)) (sym rest)
     (each_both (IsNotCut script.block) first more (looks_uncut script.block h.asked.told.between.standing 0 found.answers) (run_passes run script f.name held.text image f.rig f.rig_after held.reads held.plays told_is c h))

@@ -3,11 +3,13 @@ use Rattle.std.proofs.Common.{◌≡◌, ◌<◌, ℕ, zero, suc, ◌+◌, ◌%�
 use Rattle.std.specs.Int.{w32, from_be_bytes, to_be_bytes}
 use Rattle.std.proofs.lemmas.List.{map-set, set-get_or}
 use Rattle.pi_guard.specs.Guards.{guard_of}
+use Rattle.pi_guard.proofs.GuardSizes.{guard_below}
 use Rattle.pi_tuple.specs.Finds.{is_escaped}
 use Rattle.pi_tuple.specs.Tuples.{ref_tag, tuple_bytes}
 use Rattle.pi_tuple.specs.declared.tuple.Tuple.{Tuple}
 use Rattle.pi_tuple.specs.declared.checks.Check.{Check}
 use Rattle.pi_tuple.specs.declared.checks.PiType.TheVariants.{One}
+use Rattle.pi_tuple.proofs.TupleLaws.{tag_below}
 use Rattle.page_pool.specs.Cells.{gather, scatter}
 use Rattle.fault_schedule.specs.declared.fault.Crossing.TheVariants.{TargetToMedium}
 use Rattle.integrity_payload.specs.declared.payload.Owner.{Owner}
@@ -22,7 +24,7 @@ use Rattle.whole_run.specs.ScriptWalk.{act_of}
 use Rattle.whole_run.specs.Settings.{Block, Setting, route}
 use Rattle.whole_run.specs.Steps.{Alters, Reads, Seals, Sets, Shows, Step, Writes, WritesPi}
 use Rattle.whole_run.specs.UnderMap.{SuppliesNoEscape, home}
-use Rattle.whole_run.proofs.TupleFrames.{Small, below_append, below_drop, below_gather, below_replicate, below_scatter, below_take, four_below, guard_below, tag_below, tuple_below, tuple_is}
+use Rattle.whole_run.proofs.TupleFrames.{Small, below_append, below_drop, below_gather, below_replicate, below_scatter, below_take, four_below, tuple_below, tuple_is}
 use Rattle.run_laws.proofs.Along.{set_cases}
 use Rattle.run_premises.proofs.Ways.{OfBytes, comes_bytes}
 use Rattle.lab_laws.proofs.Flipped.{Whole}

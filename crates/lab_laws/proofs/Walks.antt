@@ -29,11 +29,11 @@ use Rattle.whole_run.specs.Settings.{Setting, route}
 use Rattle.whole_run.specs.Steps.{Alters, Reads, Seals, Sets, Shows, Step, Writes, WritesPi, steps_of}
 use Rattle.whole_run.proofs.CalmRuns.{op_meets}
 use Rattle.whole_run.proofs.PlainSteps.{AllMeet, Meets}
-use Rattle.whole_run.proofs.TupleFrames.{no}
 use Rattle.run_laws.specs.Records.{put_sent, sents}
 use Rattle.run_laws.proofs.Labelled.{each_both, tells_append}
 use Rattle.lab_laws.specs.Passing.{IsWhole, WalkPasses, WasTaken, width}
 use Rattle.lab_laws.proofs.Taken.{block_passes}
+use Rattle.small_laws.proofs.Tests.{never}
 
 -- A device stores what a target would.
 abbrev pub Takes : Device → Type 0
@@ -73,7 +73,7 @@ own_length false size body t l = l
 
 host_length : (dix : Bool) (size : ℕ) (frame : List ℕ) → dix ≡ true → length frame ≡ size + 8 → length frame ≡ (if dix then size + 8 else size)
 host_length true size frame d l = l
-host_length false size frame d l = no d
+host_length false size frame d l = never d
 
 -- ---- a walk
 

@@ -1,6 +1,7 @@
 -- What follows from a verdict with its cause.
 use Rattle.std.proofs.Common.{ℕ, ◌≡◌, ◌⊎◌, inl, inr, Bool, true, false, ltb, List, length, Option, Some, None, Result, Ok, Err, refl, sym, ap, subst, ◌∙◌}
 use Rattle.dix_base.specs.Told.{Calm, Rose}
+use Rattle.dix_base.proofs.Counts.{never_rose}
 use Rattle.image_blocks.specs.declared.stretch.PlaceFault.{PlaceFault}
 use Rattle.image_blocks.specs.declared.stretch.Stretch.{Stretch}
 use Rattle.image_blocks.specs.Places.{spec_of}
@@ -15,6 +16,7 @@ use Rattle.lab_words.specs.declared.layout.Layout.{Layout}
 use Rattle.lab_words.specs.declared.place.Place.{Place}
 use Rattle.rig_api.specs.Head.{head_fault, head_of, units_of}
 use Rattle.rig_api.specs.declared.rig.RigFault.{RigFault}
+use Rattle.rig_api.proofs.HeadLaws.{headed}
 use Rattle.target_answer.specs.declared.units.UnitSpec.{UnitSpec}
 use Rattle.lab_words.specs.Grammar.{command_in}
 use Rattle.lab_run.specs.Calls.{Facts, Held, laid_as, second_in, stretch_in, uses_rig, uses_second}
@@ -33,8 +35,6 @@ use Rattle.lab_run.proofs.Vectoring.{plays, vectors_reads, vectors_rig}
 use Rattle.lab_run.proofs.Explains.{explained_reads, explained_rig, explains_run}
 use Rattle.lab_run.proofs.Judges.{judges_text}
 use Rattle.target_model.proofs.Bytes.{rise as rose_from}
-use Rattle.run_command.proofs.Completing.{never_rose}
-use Rattle.run_command.proofs.Devices.{headed as head_is}
 
 -- ---- statuses
 
@@ -566,7 +566,7 @@ right_head (Some (Sweep byte units)) image x f i e = absurd i
 
 -- the units that were opened are those of the image that is told
 units_told : (name : List ℕ) (old new : Held) (image : List ℕ) (us : List UnitSpec) → old.bytes ≡ Some image → OpenedAs us name old new → us ≡ units_of (head_of image)
-units_told name old new image us b o = o.units ∙ ap units_of (head_is o.head image old.bytes b o.told)
+units_told name old new image us b o = o.units ∙ ap units_of (headed o.head image old.bytes b o.told)
 
 told_units : (f : Facts) (image : List ℕ) (us : List UnitSpec) → f.first.bytes ≡ Some image → HasOpened us f → us ≡ units_of (head_of image)
 told_units f image us b o = units_told (image_in f.words) f.first f.first_after image us b o
@@ -675,7 +675,7 @@ right_reads (Some (Sweep byte units)) image f i e = i
 -- ---- two images that can be compared
 
 bad_none : (name : List ℕ) (old new : Held) (image : List ℕ) (x : RigFault) → old.bytes ≡ Some image → BadHeadOf x name old new → head_fault (head_of image) ≡ None → ⊥
-bad_none name old new image x b h r = let e : ◌≡◌ {A = Option RigFault} (Some x) None = sym h.judged ∙ ap head_fault (head_is h.head image old.bytes b h.told) ∙ r in absurd (cc)
+bad_none name old new image x b h r = let e : ◌≡◌ {A = Option RigFault} (Some x) None = sym h.judged ∙ ap head_fault (headed h.head image old.bytes b h.told) ∙ r in absurd (cc)
 
 -- a place that was found in both is the same
 one_place : (us vs : List UnitSpec) (place : Place) (at to : Stretch) → us ≡ vs → stretch_in us place ≡ Ok at → stretch_in vs place ≡ Ok to → at ≡ to
@@ -764,7 +764,7 @@ refused_for_memory : (f : Facts) (image : List ℕ) (r : Refusal) → f.first.by
 refused_for_memory f image refusal.Words b i calm c = absurd (subst (λ (x : Option Command). IsRight x f image) (words_alone (command_in f.words) f c) i)
 refused_for_memory f image (refusal.Image x) b i calm c =
     let bad = bad_head (command_in f.words) x f c in
-    let e : ◌≡◌ {A = Option RigFault} (Some x) None = sym bad.judged ∙ ap head_fault (head_is bad.head image f.first.bytes b bad.told) ∙ right_head (command_in f.words) image x f i c in
+    let e : ◌≡◌ {A = Option RigFault} (Some x) None = sym bad.judged ∙ ap head_fault (headed bad.head image f.first.bytes b bad.told) ∙ right_head (command_in f.words) image x f i c in
     absurd (cc)
 refused_for_memory f image (refusal.Place x) b i calm c = absurd (right_place (command_in f.words) image x f i b c)
 refused_for_memory f image refusal.NoTuples b i calm c = absurd (right_layout (command_in f.words) image f i b c)
@@ -823,7 +823,7 @@ as_written f old new o n result v c (inr w) cs co = absurd (no_store_rose (comma
 -- ---- an image at fault is refused
 
 wrong_head : (f : Facts) (image : List ℕ) (us : List UnitSpec) (x : RigFault) → f.first.bytes ≡ Some image → HasOpened us f → head_fault (head_of image) ≡ Some x → ⊥
-wrong_head f image us x b o e = let k : ◌≡◌ {A = Option RigFault} None (Some x) = sym o.right ∙ ap head_fault (head_is o.head image f.first.bytes b o.told) ∙ e in absurd (cc)
+wrong_head f image us x b o e = let k : ◌≡◌ {A = Option RigFault} None (Some x) = sym o.right ∙ ap head_fault (headed o.head image f.first.bytes b o.told) ∙ e in absurd (cc)
 
 wrong_place : (f : Facts) (image : List ℕ) (us : List UnitSpec) (at : Stretch) (place : Place) → f.first.bytes ≡ Some image → HasOpened us f → stretch_in us place ≡ Ok at → IsNoPlace place image → ⊥
 wrong_place f image us at place b o t w =
@@ -894,7 +894,7 @@ refused_as f old new o n result ended = λ image b i cs co.
 -- ---- a second image at fault is refused
 
 opened_second : (f : Facts) (image : List ℕ) (one other : Place) (p : Places) → f.second.bytes ≡ Some image → HaveBoth one other p f → IsBadHead image ⊎ IsNoPlace other image → ⊥
-opened_second f image one other p b h (inl w) = let k : ◌≡◌ {A = Option RigFault} None (Some w.0) = sym h.opened.right ∙ ap head_fault (head_is h.opened.head image f.second.bytes b h.opened.told) ∙ w.1 in absurd (cc)
+opened_second f image one other p b h (inl w) = let k : ◌≡◌ {A = Option RigFault} None (Some w.0) = sym h.opened.right ∙ ap head_fault (headed h.opened.head image f.second.bytes b h.opened.told) ∙ w.1 in absurd (cc)
 opened_second f image one other p b h (inr w) =
     let units = units_told (second_in f.words) f.second f.second_after image p.others b h.opened in
     let k : ◌≡◌ {A = Result Stretch PlaceFault} (Ok p.to) (Err w.0) = sym h.there ∙ ap (λ (u : List UnitSpec). stretch_in u other) units ∙ w.1 in
@@ -942,7 +942,7 @@ dump_no_head (Some ShowUnits) x image f i b e = i
 dump_no_head (Some (ShowBlocks place)) x image f i b e = i
 dump_no_head (Some (Diff one two)) x image f i b e = i
 dump_no_head (Some (Export place layout)) x image f i b e = i
-dump_no_head (Some (Import place layout)) x image f i b e = (let k : ◌≡◌ {A = Option RigFault} (Some x) None = sym e.0.judged ∙ ap head_fault (head_is e.0.head image f.first.bytes b e.0.told) ∙ i.0.right in absurd (cc))
+dump_no_head (Some (Import place layout)) x image f i b e = (let k : ◌≡◌ {A = Option RigFault} (Some x) None = sym e.0.judged ∙ ap head_fault (headed e.0.head image f.first.bytes b e.0.told) ∙ i.0.right in absurd (cc))
 dump_no_head (Some Vectors) x image f i b e = i
 dump_no_head (Some Judge) x image f i b e = i
 dump_no_head (Some Explain) x image f i b e = i

@@ -1,6 +1,7 @@
 -- The verdicts of `explain` with an image.
 use Rattle.std.proofs.Common.{ℕ, ◌≡◌, ◌≤◌, ◌⊎◌, inl, inr, Bool, true, false, List, drop, Option, Some, None, Ok, refl, sym, ap, subst, ◌∙◌, arith}
 use Rattle.dix_base.specs.Told.{Calm, Rose}
+use Rattle.dix_base.proofs.Counts.{never_rose}
 use Rattle.command_line.specs.Grammar.{image_in}
 use Rattle.image_commands.specs.Causes.{CauseUntold, HasOpened}
 use Rattle.image_commands.specs.Views.{OpenedOnce}
@@ -24,7 +25,6 @@ use Rattle.run_command.specs.Verdict.{CauseRefused, CauseStopped, Facts as Call,
 use Rattle.call_refusal.specs.declared.refusal.Refusal.{Refusal as Stop}
 use Rattle.call_refusal.specs.declared.refusal.Refusal.TheVariants as stop
 use Rattle.run_command.specs.declared.verdict.Finished.{Finished}
-use Rattle.run_command.proofs.Completing.{never_rose}
 use Rattle.volume_table.specs.Faults.{table_fault}
 use Rattle.lab_words.specs.Grammar.{command_in}
 use Rattle.lab_run.specs.Calls.{Facts, Held, on_rig}

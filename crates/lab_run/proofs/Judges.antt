@@ -4,6 +4,7 @@ use Rattle.std.specs.Prelude.{IfOk, nat_lt}
 use Rattle.std.specs.declared.alloc.AllocError.{AllocError}
 use Rattle.std.proofs.lemmas.Bool.Decides.{nat_tests}
 use Rattle.dix_base.specs.Told.{Calm, IsAtEnd, Took}
+use Rattle.dix_base.proofs.Counts.{never_rose}
 use Rattle.fault_marks.specs.Texts.{marked_text, right_text}
 use Rattle.lab_words.specs.declared.command.Command.{Command}
 use Rattle.lab_words.specs.declared.command.Command.TheVariants.{Judge}
@@ -27,7 +28,6 @@ use Rattle.lab_run.specs.declared.status.Status.{Status}
 use Rattle.lab_run.specs.declared.status.Status.TheVariants as status
 use Rattle.lab_run.proofs.Endings.{ended_refused, keeps_rig}
 use Rattle.rig_api.specs.State.{RigState}
-use Rattle.run_command.proofs.Completing.{never_rose}
 use Rattle.run_command.proofs.Refusing.{within}
 use Rattle.run_words.proofs.Marking.{over, too_long}
 

@@ -1,6 +1,7 @@
 -- The verdicts of `sweep`.
 use Rattle.std.proofs.Common.{ℕ, ◌≡◌, ◌≤◌, ◌⊎◌, inl, inr, Bool, true, false, List, [], take, Option, Some, None, Result, Ok, Err, refl, sym, ap, subst, ◌∙◌, arith}
 use Rattle.dix_base.specs.Told.{Calm, Rose}
+use Rattle.dix_base.proofs.Counts.{never_rose}
 use Rattle.flip_sweep.specs.Flips.{own_fault}
 use Rattle.flip_sweep.specs.Swept.{CauseUnswept, Sweep as Swept, SweepEnds, has_unseen, sweep_text}
 use Rattle.flip_sweep.specs.declared.sweep.Halt.{Halt}
@@ -16,7 +17,7 @@ use Rattle.script_text.specs.Language.{script_in}
 use Rattle.script_text.specs.declared.fault.ScriptFault.{ScriptFault}
 use Rattle.script_text.specs.declared.script.Script.{Script}
 use Rattle.call_refusal.specs.Texts.{refusal_text}
-use Rattle.run_command.proofs.Completing.{never_rose, untaken_for_memory}
+use Rattle.run_command.proofs.Completing.{untaken_for_memory}
 use Rattle.run_command.specs.Verdict.{CauseUntaken, Facts as Call, HasRead, devices_of, table_over}
 use Rattle.call_refusal.specs.declared.refusal.Refusal.{Refusal}
 use Rattle.call_refusal.specs.declared.refusal.Refusal.TheVariants as refusal

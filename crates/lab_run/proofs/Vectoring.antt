@@ -1,6 +1,7 @@
 -- The verdicts of `vectors`.
 use Rattle.std.proofs.Common.{ℕ, ◌≡◌, ◌≤◌, ◌⊎◌, inl, inr, Bool, true, false, List, drop, Option, Some, Ok, Err, refl, sym, ap, subst, ◌∙◌, arith}
 use Rattle.dix_base.specs.Told.{Calm, Rose}
+use Rattle.dix_base.proofs.Counts.{never_rose}
 use Rattle.command_line.specs.Grammar.{image_in}
 use Rattle.image_commands.specs.Views.{OpenedOnce as RigOpenedOnce}
 use Rattle.lab_words.specs.declared.command.Command.{Command}
@@ -12,7 +13,6 @@ use Rattle.call_refusal.specs.Texts.{refusal_text as stop_text}
 use Rattle.run_command.specs.Verdict.{Facts as PlayFacts, IsFromOutside}
 use Rattle.call_refusal.specs.declared.refusal.Refusal.{Refusal as Stop}
 use Rattle.call_refusal.specs.declared.refusal.Refusal.TheVariants as stop
-use Rattle.run_command.proofs.Completing.{never_rose}
 use Rattle.vector_runs.specs.ListText.{has_sense}
 use Rattle.vector_runs.specs.Played.{HasCome, HasPlayed, first_of, played_text}
 use Rattle.vector_runs.specs.Taken.{text_fault}

@@ -1,11 +1,12 @@
-use Rattle.std.proofs.Common.{ℕ, ◌≡◌, ◌<◌, suc, Bool, false, ◌&&◌, leb, List, [], ◌∷◌, ◌++◌, length, Option, Some, None, refl, sym, ap, ◌∙◌, arith, append_assoc}
+use Rattle.std.proofs.Common.{ℕ, ◌≡◌, ◌<◌, false, leb, List, [], ◌∷◌, ◌++◌, length, Option, Some, None, refl, sym, ap, ◌∙◌, arith, append_assoc}
 use Rattle.std.specs.Prelude.{String}
 use Rattle.std.specs.List.{list_all}
 use Rattle.target_answer.specs.Headers.{is_layout, is_spec}
 use Rattle.target_answer.specs.declared.units.UnitSpec.{UnitSpec}
 use Rattle.command_line.specs.Grammar.{units_in, with_unit, word_bytes}
-use Rattle.command_line.specs.Units.{unit_in}
+use Rattle.command_line.proofs.WordLemmas.{bytes_length, as_many}
 use Rattle.lab_words.specs.Grammar.{laid_out}
+use Rattle.small_laws.proofs.Tests.{second_no}
 
 -- the units so far, with those that follow
 abbrev pub joined : List UnitSpec → Option (List UnitSpec) → Option (List UnitSpec)
@@ -19,23 +20,6 @@ joined_none (Some us) = refl
 pub joined_more : (us : List UnitSpec) (u : UnitSpec) (more : Option (List UnitSpec)) → joined us (with_unit (Some u) more) ≡ joined (us ++ (u ∷ [])) more
 joined_more us u None = refl
 joined_more us u (Some more) = ap Some (sym (append_assoc us (u ∷ []) more))
-
-bytes_length : {Z : Type 0} (ws : List (String Z)) → length (word_bytes ws) ≡ length ws
-bytes_length [] = refl
-bytes_length (w ∷ ws) = ap suc (bytes_length ws)
-
-one_unit : (u : Option UnitSpec) (rest : Option (List UnitSpec)) (us : List UnitSpec) (n : ℕ) → with_unit u rest ≡ Some us → ((more : List UnitSpec) → rest ≡ Some more → length more ≡ n) → length us ≡ suc n
-one_unit None rest us n e f = absurd (cc)
-one_unit (Some u) None us n e f = absurd (cc)
-one_unit (Some u) (Some more) us n e f = let k : us ≡ u ∷ more = cc in ap length k ∙ ap suc (f more refl)
-
--- as many units as words
-as_many : (ws : List (List ℕ)) (us : List UnitSpec) → units_in ws ≡ Some us → length us ≡ length ws
-as_many [] us e = let k : us ≡ [] = cc in ap length k
-as_many (w ∷ ws) us e = one_unit (unit_in w) (units_in ws) us (length ws) e (λ more p. as_many ws more p)
-
-second_no : (a b c : Bool) → b ≡ false → (a && (b && c)) ≡ false
-second_no a b c e = grind arith
 
 none_fits : (x : Option (List UnitSpec)) (n : ℕ) → 8 < n → ((us : List UnitSpec) → x ≡ Some us → length us ≡ n) → laid_out x ≡ None
 none_fits None n h f = refl

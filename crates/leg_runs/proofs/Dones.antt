@@ -2,6 +2,7 @@
 use Rattle.std.proofs.Common.{◌≡◌, ℕ, List, ◌++◌, length, take, drop, Option, ap, ◌∙◌, subst}
 use Rattle.std.specs.Prelude.{IfOk, Result}
 use Rattle.std.proofs.lemmas.List.{length-map}
+use Rattle.std.proofs.lemmas.Result.{IfOk-weaker}
 use Rattle.bio_core.specs.declared.fate.Why.{Why}
 use Rattle.page_pool.specs.declared.segs.Seg.{Seg}
 use Rattle.page_pool.specs.Pages.{Wrote, byte_at, bytes_in}
@@ -17,7 +18,6 @@ use Rattle.mirror_legs.specs.declared.piece.Piece.{Piece}
 use Rattle.leg_runs.specs.Asked.{IsReadOf, ReadBy}
 use Rattle.leg_runs.specs.LegRuns.{AllOwn, LegRun}
 use Rattle.leg_runs.specs.OnOps.{DidOp, IsWriteOf, OpAsks, Sides, WroteBy, whole_request}
-use Rattle.leg_runs.proofs.Results.{if-ok}
 use Rattle.rig_api.specs.State.{RigState}
 
 -- as many bytes as the data have
@@ -34,7 +34,7 @@ module _ {E : Type 0} (s : Script) (half number v n : ℕ) (body : List Seg) (ol
       let done : IfOk result (WroteBy s half number v n app data_is old.marks new.marks runs) =
       subst (λ (p : Piece). IfOk result (WroteBy s half p.op p.v p.n app data_is old.marks new.marks runs)) whole
       (subst (λ (bs : List ℕ). IfOk result (WroteBy s half q.op q.v q.n app bs old.marks new.marks runs)) copied by) in
-      (asked, if-ok (WroteBy s half number v n app data_is old.marks new.marks runs) (DidOp s half number (Write v n body app) old new before after runs) result (λ reply w. ((same, w), tt)) done)
+      (asked, IfOk-weaker result (WroteBy s half number v n app data_is old.marks new.marks runs) (DidOp s half number (Write v n body app) old new before after runs) (λ reply w. ((same, w), tt)) done)
 
   pub reads : AllOwn (IsReadOf s half q) runs → AllOwn (OpAsks s half number (Fetch v n body) old.pool) runs
   reads own = subst (λ (p : Piece). AllOwn (IsReadOf s half p) runs) whole own
@@ -46,5 +46,5 @@ module _ {E : Type 0} (s : Script) (half number v n : ℕ) (body : List Seg) (ol
       let runs0 = read.0 in
       let runs1 = read.1 in
       let by = subst (λ (p : Piece). ReadBy s half p (take n (drop v old.marks)) runs0 runs1 listed bytes) whole (subst (λ (ms : List Marks). ReadBy s half q ms runs0 runs1 listed bytes) marks_are read.2.1) in
-      if-ok (λ (reply : Reply). reply ≡ whole_or_bad (bad_from 0 listed)) (DidOp s half number (Fetch v n body) old new before after runs) result
+      IfOk-weaker result (λ (reply : Reply). reply ≡ whole_or_bad (bad_from 0 listed)) (DidOp s half number (Fetch v n body) old new before after runs)
       (λ reply e. (record { runs0 = runs0; runs1 = runs1; listed = listed; bytes = bytes; runs_are = read.2.0; read = by; pages = wrote; marks = kept; reply_is = e }, tt)) replied

@@ -1,6 +1,7 @@
 -- What an op of a mirror did at its end, by its kind.
 use Rattle.std.proofs.Common.{◌≡◌, ◌<◌, ℕ, zero, suc, ◌⊎◌, inl, inr, List, [], ◌∷◌, get_or, length, replicate, refl, sym, ap, ◌∙◌, subst, arith}
 use Rattle.std.specs.Prelude.{IfOk, Result}
+use Rattle.std.proofs.lemmas.Result.{IfOk-weaker}
 use Rattle.page_pool.specs.declared.segs.Seg.{Seg}
 use Rattle.page_pool.specs.Pages.{Wrote, part}
 use Rattle.page_pool.specs.Places.{places_of}
@@ -17,7 +18,6 @@ use Rattle.script_stack.specs.Causes.{table_of}
 use Rattle.leg_runs.specs.LegRuns.{AllOwn, LegRun}
 use Rattle.leg_runs.specs.OnOps.{Altered, DidOp, OpAsks, OverwriteTells, RanOp, Sides}
 use Rattle.leg_runs.specs.Standing.{op_at}
-use Rattle.leg_runs.proofs.Results.{if-ok}
 use Rattle.leg_runs.proofs.Runs.{ran-nothing}
 
 -- ---- the op at a place
@@ -60,7 +60,7 @@ module _ (s : Script) (devices : List DeviceInfo) (half number used : ℕ) (old 
   did-show {E} seg result is said =
       subst (λ (o : Op). RanOp s devices half number o old.pool used used now now (λ runs. IfOk result (DidOp s half number o old old now now runs))) (sym is)
       (ran-nothing (table_of s devices) devices s.schedule now used (λ (runs : List LegRun). AllOwn (OpAsks s half number (Show seg) old.pool) runs × IfOk result (DidOp s half number (Show seg) old old now now runs))
-      (tt, if-ok (λ (reply : Reply). reply ≡ Shown (part old.pool seg)) (DidOp s half number (Show seg) old old now now []) result (λ reply e. ((record { same = refl; none = refl }, e), tt)) said))
+      (tt, IfOk-weaker result (λ (reply : Reply). reply ≡ Shown (part old.pool seg)) (DidOp s half number (Show seg) old old now now []) (λ reply e. ((record { same = refl; none = refl }, e), tt)) said))
 
 module _ (s : Script) (devices : List DeviceInfo) (half number used : ℕ) (old : Sides) (before after : RigState) (op : Op) where
   pub did-overwrite : (dev lba : ℕ) (change : Change) (reply : Reply) → op ≡ Overwrite dev lba change → (reply ≡ Silent) ⊎ (reply ≡ Medium) → Altered dev lba change [] before after → OverwriteTells dev lba change reply before after

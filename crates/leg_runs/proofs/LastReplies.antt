@@ -1,10 +1,11 @@
 -- The last op of a script that is run lists blocks of its request alone.
-use Rattle.std.proofs.Common.{ℕ, suc, ◌≡◌, ◌+◌, ◌≤◌, List, [], ◌∷◌, ◌++◌, drop, get_or, length, map, Option, Some, None, refl, ap, ◌∙◌, arith}
+use Rattle.std.proofs.Common.{ℕ, suc, ◌≡◌, ◌+◌, ◌≤◌, List, [], ◌∷◌, ◌++◌, drop, get_or, length, map, Option, Some, None, ◌∙◌, arith}
 use Rattle.std.proofs.lemmas.List.{length-map}
 use Rattle.bio_core.specs.declared.fate.Why.{Why}
-use Rattle.block_path.specs.Acts.{Act, State, act, tell}
+use Rattle.block_path.specs.Acts.{State, act, tell}
 use Rattle.block_path.specs.Blocks.{Answer, Sent}
 use Rattle.block_path.specs.Serial.{plain, plain_tells}
+use Rattle.block_path.proofs.PathLaws.{long_tells}
 use Rattle.stack_ops.specs.declared.op.Op.{Op}
 use Rattle.stack_ops.specs.declared.reply.BadBlock.{BadBlock}
 use Rattle.stack_ops.specs.declared.reply.Reply.{Reply}
@@ -15,10 +16,6 @@ use Rattle.whole_run.specs.Steps.{Step, each_from}
 use Rattle.whole_run.proofs.InSteps.{each_length}
 use Rattle.run_laws.specs.TakenWalk.{taken_act, taken_acts, taken_reply, taken_replies}
 use Rattle.leg_runs.specs.LegRuns.{AreBelow, Fits, LastFits}
-
-long-tells : (acts : List (Act Answer)) (s : State) → length (plain_tells act tell acts s) ≡ length acts
-long-tells [] s = refl
-long-tells (a ∷ acts) s = ap suc (long-tells acts (act a s))
 
 below-whys : (n k : ℕ) (whys : List (Option Why)) → k + length whys ≤ n → AreBelow n (bad_from k whys)
 below-whys n k [] h = tt
@@ -48,4 +45,4 @@ module _ (m : Setting) (es : List Sent) where
 pub asks-steps : (m : Setting) (es : List Sent) (n : ℕ) (reply : Reply) (s : State) (f : ℕ → Step) → Fits n (request_reply (plain_tells act tell (map (taken_act m es reply) (each_from 0 n f)) s))
 asks-steps m es n reply s f =
     let acts = map (taken_act m es reply) (each_from 0 n f) in
-    fits-answers n (plain_tells act tell acts s) (long-tells acts s ∙ length-map (each_from 0 n f) (taken_act m es reply) ∙ each_length 0 n f)
+    fits-answers n (plain_tells act tell acts s) (long_tells acts s ∙ length-map (each_from 0 n f) (taken_act m es reply) ∙ each_length 0 n f)

@@ -1,5 +1,5 @@
 -- Blocks that are mended one after another, and stretches of them.
-use Rattle.std.proofs.Common.{ℕ, zero, suc, ◌≡◌, ◌+◌, ◌-◌, ◌*◌, ◌<◌, Bool, true, List, [], ◌∷◌, ◌++◌, Option, Some, None, drop, get_or, length, min, take, append_assoc, append-nil, refl, ap, subst, sym, ◌∙◌, arith}
+use Rattle.std.proofs.Common.{ℕ, zero, suc, ◌≡◌, ◌+◌, ◌-◌, ◌*◌, ◌<◌, Bool, true, List, [], ◌∷◌, ◌++◌, Option, Some, None, drop, get_or, length, min, take, append_assoc, append-nil, refl, ap, subst, sym, ◌∙◌, arith, add-zero}
 use Rattle.std.proofs.lemmas.List.{length-take-le, take_more}
 use Rattle.bio_core.specs.declared.fate.Why.{Why}
 use Rattle.whole_run.specs.Past.{Brought}
@@ -35,12 +35,9 @@ lost-append (Lost ∷ ns) ms = let e = lost-append ns ms in omega (arith, e)
 next-block : (u n : ℕ) → u + suc n ≡ suc u + n
 next-block u n = omega arith
 
-no-block : (u : ℕ) → u + 0 ≡ u
-no-block u = omega arith
-
 module _ (s : Script) (half n : ℕ) where
   are_mends-append : (u : ℕ) (ns ms : List Need) (xs ys : List LegRun) → AreMends s half n u ns xs → AreMends s half n (u + length ns) ms ys → AreMends s half n u (ns ++ ms) (xs ++ ys)
-  are_mends-append u [] ms [] ys h k = subst (λ v. AreMends s half n v ms ys) (no-block u) k
+  are_mends-append u [] ms [] ys h k = subst (λ v. AreMends s half n v ms ys) (add-zero u) k
   are_mends-append u [] ms (x ∷ xs) ys h k = absurd h
   are_mends-append u (Fine ∷ ns) ms xs ys h k = are_mends-append (suc u) ns ms xs ys h (subst (λ v. AreMends s half n v ms ys) (next-block u (length ns)) k)
   are_mends-append u (Lost ∷ ns) ms xs ys h k = are_mends-append (suc u) ns ms xs ys h (subst (λ v. AreMends s half n v ms ys) (next-block u (length ns)) k)
@@ -51,7 +48,7 @@ module _ (s : Script) (half n : ℕ) where
 
   marks-append : (u : ℕ) (ns ms : List Need) (xs ys : List LegRun) (marks : List Marks) → AreMends s half n u ns xs
       → marks_mended u (ns ++ ms) (whys_by (xs ++ ys)) marks ≡ marks_mended (u + length ns) ms (whys_by ys) (marks_mended u ns (whys_by xs) marks)
-  marks-append u [] ms [] ys marks h = ap (λ v. marks_mended v ms (whys_by ys) marks) (sym (no-block u))
+  marks-append u [] ms [] ys marks h = ap (λ v. marks_mended v ms (whys_by ys) marks) (sym (add-zero u))
   marks-append u [] ms (x ∷ xs) ys marks h = absurd h
   marks-append u (Fine ∷ ns) ms xs ys marks h = marks-append (suc u) ns ms xs ys marks h ∙ ap (λ v. marks_mended v ms (whys_by ys) (marks_mended (suc u) ns (whys_by xs) marks)) (sym (next-block u (length ns)))
   marks-append u (Lost ∷ ns) ms xs ys marks h = marks-append (suc u) ns ms xs ys marks h ∙ ap (λ v. marks_mended v ms (whys_by ys) (marks_mended (suc u) ns (whys_by xs) marks)) (sym (next-block u (length ns)))
@@ -80,8 +77,8 @@ module _ (s : Script) (half n : ℕ) where
 
   pub mends-none : (u : ℕ) (d : Mended) → MendsBy s half n u [] d d []
   mends-none u d =
-      let a = no-block d.repaired in
-      let b = no-block d.lost in
+      let a = add-zero d.repaired in
+      let b = add-zero d.lost in
       record { mends = tt; new_is = λ i. record { marks = d.marks; repaired = sym a i; lost = sym b i } }
 
   -- of blocks that need these, one more
@@ -106,11 +103,11 @@ counted ws (Some why) b e w = ap accepted_of w ∙ sym (ap from_bool e)
 module _ (s : Script) (half n u : ℕ) (need : Need) (d : Mended) where
   pub mends-fine : need ≡ Fine → MendsBy s half n u (need ∷ []) d d []
   mends-fine e = subst (λ (x : Need). MendsBy s half n u (x ∷ []) d d []) (sym e)
-      (let a = no-block d.repaired in let b = no-block d.lost in record { mends = tt; new_is = λ i. record { marks = d.marks; repaired = sym a i; lost = sym b i } })
+      (let a = add-zero d.repaired in let b = add-zero d.lost in record { mends = tt; new_is = λ i. record { marks = d.marks; repaired = sym a i; lost = sym b i } })
 
   pub mends-lost : need ≡ Lost → MendsBy s half n u (need ∷ []) d (record d { lost = d.lost + 1 }) []
   mends-lost e = subst (λ (x : Need). MendsBy s half n u (x ∷ []) d (record d { lost = d.lost + 1 }) []) (sym e)
-      (let a = no-block d.repaired in record { mends = tt; new_is = λ i. record { marks = d.marks; repaired = sym a i; lost = d.lost + 1 } })
+      (let a = add-zero d.repaired in record { mends = tt; new_is = λ i. record { marks = d.marks; repaired = sym a i; lost = d.lost + 1 } })
 
   pub mends-on0 : (e : Brought) (runs : List LegRun) (r : LegRun) (b : Bool) (m : Marks) (k : ℕ) → k ≡ from_bool b → need ≡ On0 e → runs ≡ r ∷ [] → r.own ≡ write_script s half (record (whole_stretch u n) { n = 1 }) e.app e.body
       → b ≡ none_of (get_or (found_by 1 (replies_of r)) 0 None) → m ≡ marks_of d.marks u
@@ -118,7 +115,7 @@ module _ (s : Script) (half n u : ℕ) (need : Need) (d : Mended) where
   mends-on0 e runs r b m k k-is is runs-are own found same =
       let why = get_or (found_by 1 (replies_of r)) 0 None in
       let bit = found ∙ sym (none-same why) in
-      let z = no-block d.lost in
+      let z = add-zero d.lost in
       let many = k-is ∙ sym (counted (why ∷ []) why b found refl) in
       let new : Mended = record d { marks = set d.marks u (record m { leg0 = b }); repaired = d.repaired + k } in
       subst (λ (rs : List LegRun). MendsBy s half n u (need ∷ []) d new rs) (sym runs-are)
@@ -131,7 +128,7 @@ module _ (s : Script) (half n u : ℕ) (need : Need) (d : Mended) where
   mends-on1 e runs r b m k k-is is runs-are own found same =
       let why = get_or (found_by 1 (replies_of r)) 0 None in
       let bit = found ∙ sym (none-same why) in
-      let z = no-block d.lost in
+      let z = add-zero d.lost in
       let many = k-is ∙ sym (counted (why ∷ []) why b found refl) in
       let new : Mended = record d { marks = set d.marks u (record m { leg1 = b }); repaired = d.repaired + k } in
       subst (λ (rs : List LegRun). MendsBy s half n u (need ∷ []) d new rs) (sym runs-are)

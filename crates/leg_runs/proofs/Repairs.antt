@@ -1,5 +1,5 @@
 -- The repair of a mirror, done at the target stretch by stretch, is that of its walk.
-use Rattle.std.proofs.Common.{◌≡◌, ◌<◌, ◌≤◌, ℕ, zero, suc, ◌+◌, ◌-◌, ◌*◌, Bool, true, false, if◌then◌else◌, List, [], ◌∷◌, ◌++◌, length, map, get_or, set, take, drop, min, Option, Some, None, refl, sym, ap, subst, ◌∙◌, arith}
+use Rattle.std.proofs.Common.{◌≡◌, ◌<◌, ◌≤◌, ℕ, zero, suc, ◌+◌, ◌-◌, ◌*◌, Bool, true, false, if◌then◌else◌, List, [], ◌∷◌, ◌++◌, length, map, get_or, set, take, drop, min, Option, Some, None, refl, sym, ap, subst, ◌∙◌, arith, add-zero}
 use Rattle.std.specs.Prelude.{IfOk, Result, Ok, Err}
 use Rattle.std.specs.List.{All}
 use Rattle.std.proofs.lemmas.List.{get_or-drop, get_or-map, get_or-take, length-drop, length-map, length-set, length-take-le}
@@ -247,20 +247,17 @@ module _ (law : LookLaw) (s : Script) (devices : List DeviceInfo) (bound : IsBou
     wanted1-long : length (fresh_on1 marks) ≡ n
     wanted1-long = length-map marks (λ (k : Marks). k.leg1) ∙ marks-count
 
-    begin : u + 0 ≡ u
-    begin = omega arith
-
     goods0 : each_good s.block (λ j. reading q (block0 j) (blocks_told now)) 0 (fresh_on0 marks) ≡ map (taken s.block) (good0 q half u n r)
     goods0 =
         good-each s.block (λ j. reading q (block0 j) (blocks_told now)) (λ w. (marks_of old.marks w).leg0) (λ w. reading q (on_leg0 w) (blocks_told now)) u 0 (fresh_on0 marks) bits0
         (λ j. reads-under m 0 j 0 (u + j) (u + j) (blocks_told now))
-        ∙ (λ i. map (taken s.block) (each_from (begin i) (wanted0-long i) (λ w. good (marks_of old.marks w).leg0 (reading q (on_leg0 w) (blocks_told now)))))
+        ∙ (λ i. map (taken s.block) (each_from (add-zero u i) (wanted0-long i) (λ w. good (marks_of old.marks w).leg0 (reading q (on_leg0 w) (blocks_told now)))))
 
     goods1 : each_good s.block (λ j. reading q (block1 j) (blocks_told now)) 0 (fresh_on1 marks) ≡ map (taken s.block) (good1 q half u n r)
     goods1 =
         good-each s.block (λ j. reading q (block1 j) (blocks_told now)) (λ w. (marks_of old.marks w).leg1) (λ w. reading q (on_leg1 half w) (blocks_told now)) u 0 (fresh_on1 marks) bits1
         (λ j. reads-under m 0 (n + j) 0 (half + (u + j)) (half + (u + j)) (blocks_told now))
-        ∙ (λ i. map (taken s.block) (each_from (begin i) (wanted1-long i) (λ w. good (marks_of old.marks w).leg1 (reading q (on_leg1 half w) (blocks_told now)))))
+        ∙ (λ i. map (taken s.block) (each_from (add-zero u i) (wanted1-long i) (λ w. good (marks_of old.marks w).leg1 (reading q (on_leg1 half w) (blocks_told now)))))
 
     abbrev all : List Need
     all = needs s.block (good0 q half u n r) (good1 q half u n r)

@@ -1,5 +1,5 @@
 -- A write of a mirror, done at the target on leg 0 and then on leg 1, is that of its walk.
-use Rattle.std.proofs.Common.{◌≡◌, ℕ, suc, ◌+◌, ◌*◌, true, false, List, [], ◌∷◌, length, take, drop, refl, sym, ap, ◌∙◌, subst, arith}
+use Rattle.std.proofs.Common.{◌≡◌, ℕ, suc, ◌+◌, ◌*◌, true, false, List, [], ◌∷◌, length, take, drop, refl, sym, ap, ◌∙◌, subst, arith, add-zero}
 use Rattle.std.proofs.lemmas.List.{length-map}
 use Rattle.page_pool.specs.declared.segs.Seg.{Seg}
 use Rattle.page_pool.specs.Cells.{cell, flat, gather}
@@ -101,9 +101,6 @@ module _ (s : Script) (devices : List DeviceInfo) (now : List Stored) (over : Is
   brings-long : length brings ≡ n * s.block
   brings-long = gather_length 0 (cells_of body) (flat old.pool) ∙ cells-long body ∙ req.long
 
-  on-leg1 : n + 0 ≡ n
-  on-leg1 = omega arith
-
   pub write-goes : (app : ℕ) (new : Sides) (runs : List LegRun) (reply : Reply) (left : List Stored) → new.pool ≡ old.pool → WroteBy s half i v n app (bytes_in old.pool body 0 (total body)) old.marks new.marks runs reply → AllWalked t now runs left →
       Goes setting half count i (Write v n body app) (standing rest old now) now left new reply
   write-goes app new runs reply left same w all =
@@ -124,12 +121,12 @@ module _ (s : Script) (devices : List DeviceInfo) (now : List Stored) (over : Is
       let found1 : found_by n (replies_of w.on1) ≡ whys_written setting (blocks_on i n (half + v) n) brought =
       ap (found_by n) g1.replies_are
       ∙ found-last n (pages_for (n * s.block)) (whys_written (mirror_setting s devices next) (blocks_on i (n + 0) (half + v) n) brought) (whys-each (mirror_setting s devices next) i (n + 0) (half + v) n s.block app brings)
-      ∙ (λ j. whys_written (at-next j) (blocks_on i (on-leg1 j) (half + v) n) brought) in
+      ∙ (λ j. whys_written (at-next j) (blocks_on i (add-zero n j) (half + v) n) brought) in
       let law = writes_by_legs setting half (legs s devices now over) count i v n body app (standing rest old now) counted req.inside in
       record {
         pages = ap flat same ∙ sym law.bytes;
         marks = w.marks ∙ (λ j. marks_written v (found0 j) (found1 j) old.marks) ∙ sym law.marks;
         shapes = ap shapes_of last ∙ h1.shapes ∙ h0.shapes;
-        blocks = ap blocks_told last ∙ g1.blocks ∙ (λ j. written (at-next j) (blocks_on i (on-leg1 j) (half + v) n) brought (g0.blocks j)) ∙ sym law.blocks;
+        blocks = ap blocks_told last ∙ g1.blocks ∙ (λ j. written (at-next j) (blocks_on i (add-zero n j) (half + v) n) brought (g0.blocks j)) ∙ sym law.blocks;
         reply_is = w.reply_is ∙ (λ j. whole_or_bad (bad_from 0 (listed_written (found0 j) (found1 j)))) ∙ sym (law.reply false);
       }

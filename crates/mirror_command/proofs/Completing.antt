@@ -7,13 +7,14 @@ use Rattle.script_text.specs.declared.fault.ScriptFault.{ScriptFault}
 use Rattle.script_text.specs.declared.script.Script.{Script}
 use Rattle.volume_table.specs.Faults.{table_fault}
 use Rattle.mirror_script.specs.MirrorFaults.{mirror_fault}
-use Rattle.run_command.proofs.Completing.{no_head_fault, not_bad, same_script, table_is, told_is_good, untaken_for_memory}
+use Rattle.run_command.proofs.Completing.{not_bad, same_script, table_is, untaken_for_memory}
 use Rattle.run_command.proofs.Devices.{image_devices}
 use Rattle.run_command.specs.Verdict.{Facts, IsFromOutside, devices_of, table_over}
 use Rattle.call_refusal.specs.declared.refusal.Refusal.{Refusal}
 use Rattle.call_refusal.specs.declared.refusal.Refusal.TheVariants as refusal
 use Rattle.mirror_command.specs.Verdict.{CauseRefused, CauseStopped, HasMirroredSource, IsComplete, IsUnbound}
 use Rattle.mirror_command.specs.declared.mirrored.Mirrored.{Mirrored}
+use Rattle.image_commands.proofs.Opened.{right_head, told_is_good}
 
 not_unbound : (image : List ℕ) (s : Script) (bad : ScriptFault) (name : List ℕ) (old new : RigState) → old.image ≡ Some image → mirror_fault s (table_over s.entries (devices_of image)) (devices_of image) ≡ None → IsUnbound bad s name old new → ⊥
 not_unbound image s bad name old new i b u =
@@ -26,7 +27,7 @@ not_unbound image s bad name old new i b u =
 stops_from_outside : (r : Refusal) (s : Script) (name : List ℕ) (old new : RigState) (image : List ℕ) → CauseStopped r s name old new → old.image ≡ Some image → head_fault (head_of image) ≡ None → table_fault s.entries (devices_of image) s.block ≡ None
     → mirror_fault s (table_over s.entries (devices_of image)) (devices_of image) ≡ None → IsFromOutside r
 stops_from_outside (refusal.Script bad) s name old new image c i h t b = absurd (not_unbound image s bad name old new i b c)
-stops_from_outside (refusal.Image x) s name old new image c i h t b = absurd (no_head_fault image x name old new i c.1.image h c.0)
+stops_from_outside (refusal.Image x) s name old new image c i h t b = absurd (right_head image x name old new i c.1.image h c.0)
 stops_from_outside (refusal.BadCapacity dev) s name old new image c i h t b = absurd (told_is_good image name dev old new i c)
 stops_from_outside (refusal.Volume entry kind) s name old new image c i h t b = absurd (not_bad image s entry kind name old new i t c)
 stops_from_outside refusal.RigFault s name old new image c i h t b = inr refl

@@ -3,6 +3,7 @@ use Rattle.std.proofs.Common.{◌≡◌, ◌<◌, ◌≤◌, ℕ, zero, suc, ◌
 use Rattle.std.proofs.lemmas.List.{append-nil, drop-drop, length-drop, length-take, take-append-drop, take_all}
 use Rattle.page_pool.specs.Cells.{scatter}
 use Rattle.range_gate.specs.Cells.{cells_of, in_turn}
+use Rattle.range_gate.proofs.Turns.{run_cells}
 use Rattle.stack_ops.specs.declared.op.Op.{Op}
 use Rattle.stack_ops.specs.declared.reply.Reply.TheVariants.{Silent}
 use Rattle.stack_ops.specs.Footprints.{put_seg}
@@ -10,7 +11,7 @@ use Rattle.block_path.specs.Acts.{State}
 use Rattle.whole_run.specs.ScriptWalk.{replies_from, walk_from}
 use Rattle.whole_run.specs.Settings.{Setting}
 use Rattle.mirror_legs.specs.Inner.{puts}
-use Rattle.mirror_legs.proofs.Turns.{run_cells, scattered}
+use Rattle.mirror_legs.proofs.Turns.{scattered}
 
 pub puts_length : (page pages : ℕ) (bytes : List ℕ) → length (puts page pages bytes) ≡ pages
 puts_length page zero bytes = refl

@@ -6,6 +6,7 @@ use Rattle.std.proofs.Math.Seq.{set-append_seam}
 use Rattle.page_pool.specs.Cells.{cell, gather, scatter}
 use Rattle.page_pool.specs.Places.{places_in, run}
 use Rattle.range_gate.specs.Cells.{cells_of, in_turn}
+use Rattle.range_gate.proofs.Turns.{take_turn, run_cells}
 use Rattle.whole_run.specs.Steps.{body_of}
 use Rattle.run_laws.proofs.Parts.{body_part}
 use Rattle.mirror_legs.specs.Inner.{page_segs}
@@ -22,11 +23,6 @@ turn_append v (suc a) b =
     let z : suc (a + b) ≡ suc a + b = omega arith in
     ap (λ l. v ∷ l) (ap (λ x. in_turn (suc v) a ++ in_turn x b) e ∙ turn_append (suc v) a b) ∙ ap (in_turn v) z
 
-take_turn : (v n len : ℕ) → len ≤ n → take len (in_turn v n) ≡ in_turn v len
-take_turn v n zero l = refl
-take_turn v zero (suc len) l = absurd (omega arith)
-take_turn v (suc n) (suc len) l = ap (λ t. v ∷ t) (take_turn (suc v) n len (omega arith))
-
 pub turn_part : (v n at len : ℕ) → at + len ≤ n → take len (drop at (in_turn v n)) ≡ in_turn (v + at) len
 turn_part v n zero len l = let e : v ≡ v + 0 = omega arith in take_turn v n len (omega arith) ∙ ap (λ x. in_turn x len) e
 turn_part v zero (suc at) len l = absurd (omega arith)
@@ -35,13 +31,6 @@ turn_part v (suc n) (suc at) len l =
     turn_part (suc v) n at len (omega arith) ∙ ap (λ x. in_turn x len) e
 
 -- ---- the cells of pages
-
-pub run_cells : (page off n : ℕ) → map cell (run page off n) ≡ in_turn (4096 * page + off) n
-unfolding run
-run_cells page off zero = refl
-run_cells page off (suc n) =
-    let e : 4096 * page + (off + 1) ≡ suc (4096 * page + off) = omega arith in
-    ap (λ l. (4096 * page + off) ∷ l) (run_cells page (off + 1) n ∙ ap (λ v. in_turn v n) e)
 
 -- the cells of one page and of those behind it
 segs_then : (page q bytes len : ℕ) → len ≡ min 4096 bytes → map cell (run page 0 (min 4096 bytes) ++ places_in (page_segs (suc page) q (bytes - 4096))) ≡ in_turn (4096 * page) len ++ cells_of (page_segs (suc page) q (bytes - 4096))

@@ -42,10 +42,6 @@ tuple_cells page pages n k l g h =
 pub as_piece : (size half : ℕ) (p : Piece) → IsPieceWithTuples size half p → IsPiece size half p
 as_piece size half p h = let r = h.room in let u = pages_room (p.n * size) in record { some = h.some; room = omega (arith, r, u); inside = h.inside }
 
--- what stands first in the pages, and what stands at byte `at`
-front_of : (n : ℕ) (xs ys : List ℕ) → length xs ≡ n → take n (xs ++ ys) ≡ xs
-front_of n xs ys e = take_at xs ys n e
-
 later_of : (at n : ℕ) (xs gap ys rest : List ℕ) → length xs + length gap ≡ at → length ys ≡ n → take n (drop at (xs ++ (gap ++ (ys ++ rest)))) ≡ ys
 later_of at n xs gap ys rest e z =
     let a = length-append xs gap in
@@ -141,7 +137,7 @@ module _ (s : Script) (t : Table) (half : ℕ) (p : Piece) (is : IsMirrorScript 
         landed =
             sym (take-take (n * size) (4096 * (pages + more)) (flat pool) (omega (arith, a)))
             ∙ ap (take (n * size)) (w.pages ∙ read.bytes)
-            ∙ front_of (n * size) read-data (gap ++ ([] ++ (theirs ++ rest))) read.long;
+            ∙ take_at read-data (gap ++ ([] ++ (theirs ++ rest))) (n * size) read.long;
         tuples =
             within_pages (4096 * pages) (n * 8) (4096 * more) (flat pool) b
             ∙ ap (λ k. take (n * 8) (drop (4096 * pages) (take k (flat pool)))) e

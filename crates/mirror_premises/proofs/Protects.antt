@@ -5,6 +5,7 @@ use Rattle.std.proofs.lemmas.Bool.{and_parts}
 use Rattle.pi_guard.specs.Guards.{crc, guard_of}
 use Rattle.pi_guard.specs.declared.GuardKind.{GuardKind}
 use Rattle.pi_guard.specs.declared.GuardKind.TheVariants.{Crc, Ip}
+use Rattle.pi_guard.proofs.GuardSizes.{guard_below}
 use Rattle.pi_tuple.specs.Finds.{finding, first_of, is_escaped}
 use Rattle.pi_tuple.specs.Tuples.{ref_tag}
 use Rattle.pi_tuple.specs.declared.tuple.Tuple.{Tuple}
@@ -13,6 +14,7 @@ use Rattle.pi_tuple.specs.declared.checks.Check.TheVariants.{AppTag, Guard, RefT
 use Rattle.pi_tuple.specs.declared.checks.PiType.TheVariants.{One}
 use Rattle.fault_schedule.specs.Altered.{altered}
 use Rattle.fault_schedule.specs.declared.fault.Crossing.TheVariants.{AdapterToTarget, HostToAdapter, MediumToTarget, TargetToAdapter, TargetToMedium}
+use Rattle.fault_schedule.proofs.Unaltered.{altered_none}
 use Rattle.integrity_payload.specs.Payloads.{all_asked}
 use Rattle.integrity_payload.specs.declared.payload.Owner.{Owner}
 use Rattle.target_answer.specs.Frames.{data_of, tuple_of}
@@ -23,8 +25,6 @@ use Rattle.block_path.specs.WayIn.{Delivers, Spoils, Stops, WayIn, at_host, from
 use Rattle.block_path.proofs.Sizes.{altered_length}
 use Rattle.block_path.specs.WayOut.{Fails, Refuses, Stores, WayOut, adapter_finds_out, at_device, from_adapter, mapped_out, sent, to_wire, way_out}
 use Rattle.whole_run.specs.Settings.{Block, Setting, route}
-use Rattle.whole_run.proofs.CalmWays.{altered_none}
-use Rattle.whole_run.proofs.TupleFrames.{guard_below}
 use Rattle.run_laws.proofs.Found.{bears_both, expected, from_both, passed, passes_if, unmasked}
 use Rattle.run_laws.proofs.Framed.{guarded, mapped_length}
 use Rattle.run_laws.proofs.Layers.{unmoved}

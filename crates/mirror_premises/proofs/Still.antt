@@ -1,12 +1,11 @@
 -- A mirror without faults, under any protect field with tuples.
-use Rattle.std.proofs.Common.{◌≡◌, ◌<◌, ℕ, zero, suc, ◌+◌, ◌%◌, ◌^◌, Bool, true, false, eqb, ◌||◌, if◌then◌else◌, List, [], ◌∷◌, ◌++◌, length, get_or, Option, Some, None, refl, sym, ap, subst, ◌∙◌, arith, append_assoc}
+use Rattle.std.proofs.Common.{◌≡◌, ◌<◌, ℕ, zero, suc, ◌+◌, ◌%◌, ◌^◌, Bool, true, false, eqb, ◌||◌, if◌then◌else◌, List, [], ◌∷◌, ◌++◌, length, get_or, refl, sym, ap, subst, ◌∙◌, arith, append_assoc}
 use Rattle.std.specs.List.{list_any}
 use Rattle.std.proofs.lemmas.Bool.{and_from, false≢true, ne_eqb, or_parts}
 use Rattle.page_pool.specs.declared.segs.Seg.{Seg}
 use Rattle.page_pool.specs.Cells.{gather}
 use Rattle.pi_guard.specs.Guards.{crc}
 use Rattle.pi_tuple.specs.Tuples.{ref_tag}
-use Rattle.pi_tuple.specs.declared.checks.Check.{Check}
 use Rattle.integrity_payload.specs.declared.payload.Owner.{Owner}
 use Rattle.integrity_payload.specs.declared.payload.Owner.TheVariants.{Block as OfBlock, App as OfApp}
 use Rattle.fault_schedule.specs.declared.fault.Crossing.TheVariants.{AdapterToTarget, HostToAdapter}
@@ -30,6 +29,7 @@ use Rattle.whole_run.specs.ScriptWalk.{act_of}
 use Rattle.whole_run.specs.Settings.{Block, Setting, block_of, route}
 use Rattle.whole_run.specs.Steps.{Alters, Reads, Seals, Sets, Shows, Step, Writes, WritesPi, body_of, each_from, frame_at, steps_of, tuple_of as tuple_at}
 use Rattle.whole_run.specs.UnderMap.{address_of, home}
+use Rattle.whole_run.proofs.TagLaws.{passed_all}
 use Rattle.run_laws.proofs.Found.{from_both, passes_if, unmasked}
 use Rattle.run_premises.specs.Forms.{is_overwrite}
 use Rattle.mirror_walk.specs.Mirror.{Mirror, all_asked, asked, asks, count_of, done, mirror_opened, mirror_past, mirror_walk, marks_of, twin}
@@ -50,10 +50,6 @@ abbrev pub EqualLaw : Type 0
 EqualLaw = (m : Setting) (devices : List DeviceInfo) (half : ℕ) (ops : List Op) (opening : State) → IsMirrorRun m devices half ops opening → AreBytes m half opening.blocks → IsRepaired m half ops opening
 
 -- ---- without faults there is nothing to show
-
-passed-all : (o : Option Check) (rest : Bool) → rest ≡ true → if_passed o rest ≡ true
-passed-all None rest h = h
-passed-all (Some c) rest h = refl
 
 -- no step overwrites a stored block
 abbrev Plain : Step → Type 0
@@ -124,10 +120,10 @@ module _ (m' : Setting) where
       let x = mapped_out (route m1 b) frame in
       let y = crossed m1 b HostToAdapter x in
       let z = crossed m1 b AdapterToTarget (sent (route m1 b) y) in
-      passed-all (adapter_finds_out (route m1 b) y) (shows_at_medium m1 b z) (passed-all (found_in (passage [] (route m1 b)) z) true refl)
+      passed_all (adapter_finds_out (route m1 b) y) (shows_at_medium m1 b z) (passed_all (found_in (passage [] (route m1 b)) z) true refl)
 
   in-shown : (b : Block) (stored : List ℕ) → shows_in m1 b stored ≡ true
-  in-shown b stored = passed-all (found m1 b stored AtTarget) (if_passed (found m1 b stored AtAdapter) true) (passed-all (found m1 b stored AtAdapter) true refl)
+  in-shown b stored = passed_all (found m1 b stored AtTarget) (if_passed (found m1 b stored AtAdapter) true) (passed_all (found m1 b stored AtAdapter) true refl)
 
   step-shown : (step : Step) (s : State) → Plain step → step_shows m1 step s ≡ true
   step-shown (Sets at values) s h = refl

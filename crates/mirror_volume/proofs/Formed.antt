@@ -1,12 +1,8 @@
 -- A bound script on a mirror whose faults have the form: all that one good leg asks.
-use Rattle.std.proofs.Common.{◌≡◌, ◌<◌, ℕ, ◌*◌, ◌%◌, ◌⊎◌, inl, inr, true, false, not, List, [], ◌∷◌, arith, length, ap}
-use Rattle.std.specs.Prelude.{All}
+use Rattle.std.proofs.Common.{◌≡◌, ◌<◌, ℕ, ◌*◌, true, false, not, List, [], ◌∷◌, arith, length, ap}
 use Rattle.std.specs.List.{list_all, list_any}
 use Rattle.std.proofs.lemmas.Bool.{and_parts, not-true}
-use Rattle.std.proofs.lemmas.List.Elements.{All-cons, All-nil, All-replicate}
-use Rattle.fault_schedule.specs.declared.fault.FaultKind.{FaultKind}
-use Rattle.fault_schedule.specs.declared.fault.FaultKind.TheVariants.{Flip, Shift}
-use Rattle.fault_schedule.specs.declared.fault.FaultLine.{FaultLine}
+use Rattle.std.proofs.lemmas.List.Elements.{All-replicate}
 use Rattle.dix_adapter.specs.Ways.{blocks_told}
 use Rattle.stack_ops.specs.declared.op.Op.{Op}
 use Rattle.stack_ops.specs.declared.op.Op.TheVariants.{Fetch, FetchPi, Fill, Overwrite, Put, Seal, Show, Wait, Write, WritePi}
@@ -17,7 +13,7 @@ use Rattle.block_path.specs.Acts.{State}
 use Rattle.block_path.specs.Routes.{target}
 use Rattle.mirror_walk.specs.declared.marks.Marks.{Marks}
 use Rattle.script_text.specs.declared.script.Script.{Script}
-use Rattle.script_laws.specs.Keeping.{Each, IsFault, IsKind, IsOp as KeepsRules}
+use Rattle.script_laws.specs.Keeping.{Each, IsOp as KeepsRules}
 use Rattle.script_ground.proofs.OverUnits.{cell-there}
 use Rattle.script_ground.proofs.Calm.{are-bytes}
 use Rattle.script_stack.specs.Causes.{table_of}
@@ -27,7 +23,6 @@ use Rattle.whole_run.specs.Settings.{Setting}
 use Rattle.whole_run.specs.UnderMap.{AreClean, NoneEscapes, address_of, home}
 use Rattle.run_laws.specs.ShownRun.{DevicesAreClean}
 use Rattle.run_premises.specs.Forms.{is_overwrite, supplies_none}
-use Rattle.run_premises.specs.FormedRun.{IsOfBytes}
 use Rattle.mirror_walk.specs.OneGood.{AreBytes, OneGood, script_asks}
 use Rattle.mirror_premises.specs.Forms.{is_good_on_legs, spares_other_leg}
 use Rattle.mirror_premises.specs.FormedMirror.{AllPutBytes, HasFormedLegs, HasStillLegs, PutsBytes, ServesLast}
@@ -37,6 +32,8 @@ use Rattle.mirror_volume.specs.Enough.{AllReadLast, WasEnough, opening_over}
 use Rattle.mirror_volume.specs.Premises.{HoldsBytes, IsFormedMirror, IsOneGoodRun, IsStillMirror}
 use Rattle.mirror_volume.proofs.Enough.{enough-by}
 use Rattle.mirror_volume.proofs.Premises.{all-bound, checked-over, dif-on, has-cells, lies-on}
+use Rattle.small_laws.proofs.Numbers.{even_size as even}
+use Rattle.script_premises.proofs.Formed.{lines-bytes}
 
 -- what the laws of the form say
 abbrev pub FormLaw : Type 0
@@ -52,18 +49,6 @@ abbrev pub StillLaw : Type 0
 StillLaw = (m : Setting) (devices : List DeviceInfo) (half : ℕ) (ops : List Op) (opening : State) → HasStillLegs m devices half ops opening → ServesLast m half ops opening
 
 -- ---- bytes
-
-even : (n : ℕ) → (n ≡ 512) ⊎ (n ≡ 4096) → n % 2 ≡ 0
-even n (inl e) = omega arith
-even n (inr e) = omega arith
-
-kind-bytes : (size : ℕ) (f : FaultLine) (kind : FaultKind) → IsKind size f kind → IsOfBytes kind
-kind-bytes size f (Flip off bytes) h = are-bytes bytes h.are_bytes
-kind-bytes size f (Shift by) h = tt
-
-lines-bytes : (size : ℕ) (ops : List Op) (faults : List FaultLine) → Each (IsFault size ops) faults → All (λ (line : FaultLine). IsOfBytes line.kind) faults
-lines-bytes size ops [] h = All-nil (λ (line : FaultLine). IsOfBytes line.kind)
-lines-bytes size ops (f ∷ faults) h = All-cons (λ (line : FaultLine). IsOfBytes line.kind) f faults (kind-bytes size f f.kind h.0.kind_is) (lines-bytes size ops faults h.1)
 
 puts-op : (dix : _) (pages size : ℕ) (op : Op) → KeepsRules dix pages size op → PutsBytes op
 puts-op dix pages size (Fill seg byte) k = k.ranges

@@ -1,6 +1,5 @@
 -- Runs of some stretches, and then of others; where stretches lie.
 use Rattle.std.proofs.Common.{ℕ, zero, suc, ◌≡◌, ◌+◌, ◌*◌, ◌≤◌, ◌<◌, Bool, true, false, List, [], ◌∷◌, ◌++◌, Option, get_or, length, take, refl, arith}
-use Rattle.std.proofs.Math.Nat.{add-mul, mul-le-mul_right}
 use Rattle.script_laws.specs.Keeping.{Each}
 use Rattle.script_laws.proofs.Held.{each_both}
 use Rattle.bio_core.specs.declared.fate.Why.{Why}
@@ -49,7 +48,3 @@ inside-from n at many (false ∷ wanted) l h =
 
 pub all-inside : (n : ℕ) (wanted : List Bool) → length wanted ≡ n → Each (IsInside n) (stretches wanted)
 all-inside n wanted e = inside-from n 0 0 wanted (omega arith) (omega (arith, e))
-
--- so many blocks more, in bytes
-pub ends-inside : (a b n size : ℕ) → a + b ≤ n → a * size + b * size ≤ n * size
-ends-inside a b n size l = let m : (a + b) * size ≤ n * size = mul-le-mul_right size l in let e = add-mul a b size in omega (arith, m, e)

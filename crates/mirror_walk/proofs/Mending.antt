@@ -4,9 +4,11 @@ use Rattle.std.specs.Prelude.{pos, Result, Ok, Err}
 use Rattle.std.proofs.lemmas.Bool.{false≢true}
 use Rattle.std.proofs.lemmas.List.{length-set, length-take-le, get_or-set_same, get_or-set_other}
 use Rattle.pi_guard.specs.Guards.{guard_of}
+use Rattle.pi_guard.proofs.GuardSizes.{guard_below}
 use Rattle.pi_tuple.specs.Finds.{is_escaped}
 use Rattle.pi_tuple.specs.declared.tuple.Tuple.{Tuple}
 use Rattle.pi_tuple.specs.declared.checks.PiType.TheVariants.{One}
+use Rattle.pi_tuple.proofs.TupleLaws.{tag_below}
 use Rattle.fault_schedule.specs.Altered.{shift_of}
 use Rattle.fault_schedule.specs.declared.fault.Crossing.{Crossing}
 use Rattle.integrity_payload.specs.declared.payload.Owner.TheVariants.{Block as OfBlock}
@@ -23,7 +25,7 @@ use Rattle.whole_run.specs.Past.{Brought, brought_by}
 use Rattle.whole_run.specs.PlainMap.{as_expected}
 use Rattle.whole_run.specs.Settings.{Block, Setting, route}
 use Rattle.whole_run.specs.UnderMap.{address_of, home}
-use Rattle.whole_run.proofs.TupleFrames.{Small, data_is, guard_below, tag_below, tuple_is}
+use Rattle.whole_run.proofs.TupleFrames.{Small, data_is, tuple_is}
 use Rattle.run_laws.specs.ShownRun.{HasCells, LiesOn}
 use Rattle.mirror_walk.specs.Mirror.{fresh, marks_of}
 use Rattle.mirror_walk.specs.declared.marks.Marks.{Marks}

@@ -21,7 +21,7 @@ use Rattle.whole_run.specs.ScriptWalk.{act_of}
 use Rattle.whole_run.specs.Settings.{Block, Setting}
 use Rattle.whole_run.specs.Steps.{Alters, Reads, Seals, Sets, Shows, Step, Writes, WritesPi}
 use Rattle.whole_run.specs.UnderMap.{NoneEscapes, home}
-use Rattle.whole_run.proofs.TupleFrames.{frame_small, three as same_tuple}
+use Rattle.whole_run.proofs.TupleFrames.{frame_small}
 use Rattle.run_laws.specs.ShownRun.{HasCells, LiesOn}
 use Rattle.whole_run.proofs.InSteps.{scatter_length}
 use Rattle.mirror_walk.specs.Mirror.{Mirror, accepted, all_asked, answer, asks, count_of, done, fresh, marks_of, mirror_opened, mirror_past, mirror_walk}
@@ -36,6 +36,7 @@ use Rattle.run_laws.proofs.Reading.{checked_form}
 use Rattle.mirror_walk.proofs.Mending.{After, Before, Mended, SoundAs, SpoiltAt, at0, at1, block_mended}
 use Rattle.mirror_walk.proofs.Steps.{HasIn, Held, asks_fit, held_after, marks_long, step_has}
 use Rattle.mirror_walk.proofs.Whole.{script_fits, starts}
+use Rattle.pi_tuple.proofs.TupleLaws.{same_fields}
 
 smaller : (w u : ℕ) → w < suc u → (w ≡ u → ⊥) → w < u
 smaller zero zero l off = absurd (off refl)
@@ -232,7 +233,7 @@ module _ (m' : Setting) (devices : List DeviceInfo) (half : ℕ) (ops : List Op)
   proper v e blocks h = record {
     size = h.sound.bare.size;
     body = ap (λ (b : Brought). b.body) h.brought;
-    tuple = same_tuple (h.sound.bears.guard ∙ ap (λ (b : Brought). crc b.body) h.brought) (ap (λ (b : Brought). b.app) h.brought) h.sound.bears.rtag;
+    tuple = same_fields (h.sound.bears.guard ∙ ap (λ (b : Brought). crc b.body) h.brought) (ap (λ (b : Brought). b.app) h.brought) h.sound.bears.rtag;
   }
 
   pub is_repaired : IsRepaired base half ops opening

@@ -8,8 +8,8 @@ use Rattle.block_path.specs.Blocks.{stored_cell}
 use Rattle.block_path.specs.WayIn.{delivered_of, way_in}
 use Rattle.whole_run.specs.Past.{brought_by}
 use Rattle.whole_run.specs.Settings.{Block, Setting, route}
-use Rattle.whole_run.specs.Steps.{each_from}
 use Rattle.whole_run.specs.UnderMap.{home}
+use Rattle.whole_run.proofs.EachFrom.{each_same}
 use Rattle.mirror_walk.specs.Mirror.{fresh, is_none, marks_of}
 use Rattle.mirror_walk.specs.declared.marks.Marks.{Marks}
 use Rattle.mirror_walk.specs.OnLegs.{stored_at, why_of, written}
@@ -28,14 +28,6 @@ repair_join m half u (suc n) k r =
     let e : suc u + n ≡ u + suc n = omega arith in
     let z : suc n + k ≡ suc (n + k) = omega arith in
     ap (λ j. repair_from m half u j r) z ∙ repair_join m half (suc u) n k (repair_block m half u r) ∙ ap (λ w. repair_from m half w k (repair_from m half (suc u) n (repair_block m half u r))) e
-
--- the same at each block of a stretch
-each_alike : {X : Type 0} (k n : ℕ) (f g : ℕ → X) → ((j : ℕ) → k ≤ j → j < k + n → f j ≡ g j) → each_from k n f ≡ each_from k n g
-each_alike k zero f g h = refl
-each_alike k (suc n) f g h =
-    let first = h k (omega arith) (omega arith) in
-    let rest = each_alike (suc k) n f g (λ j l t. h j (omega (arith, l)) (omega (arith, t))) in
-    cc
 
 module _ (m : Setting) (half : ℕ) (legs : HasLegs m half) where
   -- what a block's repair leaves alone
@@ -81,9 +73,9 @@ module _ (m : Setting) (half : ℕ) (legs : HasLegs m half) where
       (good (marks_of r.marks u).leg0 (reading m (on_leg0 u) r.blocks)) (good (marks_of r.marks u).leg1 (reading m (on_leg1 half u) r.blocks)) r in
       by_stretch (suc u) n now (omega (arith, l))
       ∙ ap (λ gs. repaired_each m half (suc u) gs (good1 m half (suc u) n now) now)
-      (each_alike (suc u) n (λ w. good (marks_of now.marks w).leg0 (reading m (on_leg0 w) now.blocks)) (λ w. good (marks_of r.marks w).leg0 (reading m (on_leg0 w) r.blocks)) (λ w k t. good_same0 w r now (same w k t)))
+      (each_same (suc u) n (λ w. good (marks_of now.marks w).leg0 (reading m (on_leg0 w) now.blocks)) (λ w. good (marks_of r.marks w).leg0 (reading m (on_leg0 w) r.blocks)) (λ w k t. good_same0 w r now (same w k t)))
       ∙ ap (λ gs. repaired_each m half (suc u) (good0 m half (suc u) n r) gs now)
-      (each_alike (suc u) n (λ w. good (marks_of now.marks w).leg1 (reading m (on_leg1 half w) now.blocks)) (λ w. good (marks_of r.marks w).leg1 (reading m (on_leg1 half w) r.blocks)) (λ w k t. good_same1 w r now (same w k t)))
+      (each_same (suc u) n (λ w. good (marks_of now.marks w).leg1 (reading m (on_leg1 half w) now.blocks)) (λ w. good (marks_of r.marks w).leg1 (reading m (on_leg1 half w) r.blocks)) (λ w k t. good_same1 w r now (same w k t)))
 
 -- the same state by equal counts
 abbrev with_counts : List (List ℕ) → List Marks → (repaired lost : ℕ) → Repair

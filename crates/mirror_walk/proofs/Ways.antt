@@ -1,5 +1,5 @@
 -- One block of a write: what is accepted has the application tag that is expected, and where no fault names it, that suffices.
-use Rattle.std.proofs.Common.{◌≡◌, ℕ, Bool, true, false, eqb, ◌&&◌, ◌||◌, not, if◌then◌else◌, List, Option, Some, None, refl, sym, ap, subst, ◌∙◌}
+use Rattle.std.proofs.Common.{◌≡◌, ℕ, true, false, eqb, ◌&&◌, ◌||◌, not, if◌then◌else◌, List, Some, None, sym, ap, subst, ◌∙◌}
 use Rattle.std.specs.Prelude.{Result, Ok, Err}
 use Rattle.std.proofs.lemmas.Bool.{and_from, and_parts, eq-eqb}
 use Rattle.pi_guard.specs.Guards.{crc, guard_of}
@@ -22,6 +22,7 @@ use Rattle.whole_run.specs.Detectable.{arrives, bears, crossed, found, guard_at,
 use Rattle.whole_run.specs.FirstLayer.{AtAdapter, AtTarget, has_flip, has_shift}
 use Rattle.whole_run.specs.PlainMap.{as_expected}
 use Rattle.whole_run.specs.Settings.{Block, Setting, route}
+use Rattle.whole_run.proofs.TagLaws.{passed_all}
 use Rattle.mirror_walk.specs.OneGood.{IsUnnamed}
 use Rattle.run_laws.proofs.Found.{Bears, expected, from_both, passed, passes_if, unless_rule, unmasked}
 use Rattle.run_laws.proofs.Framed.{mapped_body, mapped_length, mapped_tuple}
@@ -131,19 +132,15 @@ module _ (m' : Setting) (b : Block) where
   shown_free : (at : Crossing) (x : List ℕ) → IsUnnamed m b → shows m b at x ≡ true
   shown_free at x free = ap (λ c. not c || is_foreign m b at (guard_at m at (data_of m.size (crossed m b at x))) (tuple_of m.size (crossed m b at x))) (free at)
 
-  if_true : (o : Option Check) (c : Bool) → c ≡ true → if_passed o c ≡ true
-  if_true None c h = h
-  if_true (Some check) c h = refl
-
   pub free_out : (f : List ℕ) → IsUnnamed m b → shows_out m b f ≡ true
   free_out f free =
       let x = mapped_out (route m b) f in
       let y = crossed m b HostToAdapter x in
       let z = crossed m b AdapterToTarget (sent (route m b) y) in
       and_from (shows m b HostToAdapter x) (shows_on_wire m b y) (shown_free HostToAdapter x free)
-      (if_true (adapter_finds_out (route m b) y) (shows m b AdapterToTarget (sent (route m b) y) && shows_at_medium m b z)
+      (passed_all (adapter_finds_out (route m b) y) (shows m b AdapterToTarget (sent (route m b) y) && shows_at_medium m b z)
       (and_from (shows m b AdapterToTarget (sent (route m b) y)) (shows_at_medium m b z) (shown_free AdapterToTarget (sent (route m b) y) free)
-      (if_true (found_in (passage m'.site.faults (route m b)) z) (shows m b TargetToMedium z) (shown_free TargetToMedium z free))))
+      (passed_all (found_in (passage m'.site.faults (route m b)) z) (shows m b TargetToMedium z) (shown_free TargetToMedium z free))))
 
   pub free_in : (x : List ℕ) → IsUnnamed m b → has_shift m b MediumToTarget ≡ false → shows_in m b x ≡ true
   free_in x free still =
@@ -154,5 +151,5 @@ module _ (m' : Setting) (b : Block) where
       and_from (is_not_meant m b x) (shows m b MediumToTarget x && if_passed t (middle && if_passed a last))
       (ap (λ c. not c || not (bears (tuple_of m.size x) (crc (data_of m.size x)) (ref_tag (wire_lba m.site.faults (route m b))))) still)
       (and_from (shows m b MediumToTarget x) (if_passed t (middle && if_passed a last)) (shown_free MediumToTarget x free)
-      (if_true t (middle && if_passed a last) (and_from middle (if_passed a last) (shown_free TargetToAdapter (arrives m b x AtTarget) free)
-      (if_true a last (shown_free AdapterToHost (received (route m b) (arrives m b x AtAdapter)) free)))))
+      (passed_all t (middle && if_passed a last) (and_from middle (if_passed a last) (shown_free TargetToAdapter (arrives m b x AtTarget) free)
+      (passed_all a last (shown_free AdapterToHost (received (route m b) (arrives m b x AtAdapter)) free)))))

@@ -6,6 +6,7 @@ use lib.Bits.{and_zero_r}
 use Rattle.pi_guard.specs.Guards.{crc, guard_of}
 use Rattle.pi_guard.specs.declared.GuardKind.{GuardKind}
 use Rattle.pi_guard.specs.declared.GuardKind.TheVariants.{Crc, Ip}
+use Rattle.pi_guard.proofs.GuardSizes.{guard_below}
 use Rattle.pi_tuple.specs.Finds.{finding, first_of, has_ref_tag, is_escaped, is_zero, own_tag}
 use Rattle.pi_tuple.specs.Tuples.{ref_tag}
 use Rattle.pi_tuple.specs.declared.tuple.Tuple.{Tuple}
@@ -13,6 +14,7 @@ use Rattle.pi_tuple.specs.declared.checks.PiType.{PiType}
 use Rattle.pi_tuple.specs.declared.checks.PiType.TheVariants.{Zero, One, Two, Three}
 use Rattle.pi_tuple.specs.declared.checks.Check.{Check}
 use Rattle.pi_tuple.specs.declared.checks.Check.TheVariants.{AppTag, Guard, RefTag}
+use Rattle.pi_tuple.proofs.TupleLaws.{tag_below}
 use Rattle.cdb_codec.specs.Rule.{is_two}
 use Rattle.fault_schedule.specs.Altered.{altered, byte_at, is_same}
 use Rattle.fault_schedule.specs.declared.fault.Crossing.{Crossing}
@@ -32,11 +34,12 @@ use Rattle.block_path.specs.Routes.{by_target, host_type, is_crc, moved, passage
 use Rattle.block_path.specs.WayIn.{Delivers, at_host, delivered_unless, from_device, from_wire, mapped_back, owner_finds, owner_says, received, verified, way_in}
 use Rattle.block_path.specs.WayOut.{Stores, adapter_finds_out, at_device, from_adapter, mapped_out, sent, to_wire, way_out}
 use Rattle.block_path.proofs.Cells.{AllBelow, below}
+use Rattle.block_path.proofs.PathLaws.{never_zero}
 use Rattle.whole_run.specs.Settings.{Block, Setting, route}
 use Rattle.whole_run.specs.PlainMap.{Entry, all_pass, as_expected, entry_of, finds_of_app, handed, own_in, tag_of}
 use Rattle.whole_run.specs.UnderMap.{stored_as}
 use Rattle.whole_run.proofs.CalmWays.{IsProper, comes_home, goes, goes_bare, goes_on, here, loud, onto_wire, proper_entry, quiet, rtag_below, unmasked, wire, onto_medium, off_medium, off_wire, new_guard}
-use Rattle.whole_run.proofs.TupleFrames.{Small, data_is, finds_none, guard_below, mapped_is, tag_below}
+use Rattle.whole_run.proofs.TupleFrames.{Small, data_is, finds_none, mapped_is}
 use Rattle.mode_map.specs.Finders.{IsClean, ShowsIn, checks_stored, seen_in, finder, flip_of, flipped, is_served, seen_by, seen_in_read, seen_in_write, seen_on_way_in, seen_on_way_out}
 use Rattle.mode_map.specs.declared.finder.Seen.{Seen}
 use Rattle.mode_map.specs.declared.finder.Seen.TheVariants.{Adapter, Target, Owner as OfOwner}
@@ -70,12 +73,6 @@ open-kept Zero e body v h = h
 open-kept One e body v h = h
 open-kept Two e body v h = h
 open-kept Three e body v h = h
-
-never-zero : (ty : PiType) → is_zero (host_type ty) ≡ false
-never-zero Zero = refl
-never-zero One = refl
-never-zero Two = refl
-never-zero Three = refl
 
 -- data that a check of their guard tells from an entry's
 pub record Other (m : Setting) (e : Entry) (body : List ℕ) : Type 0 where
@@ -325,7 +322,7 @@ module _ (m : Setting) (b : Block) (protect : 0 < m.mode.protect) (mask : m.mode
         let mapped : mapped_out r (frame_of e.body k) ≡ frame_of e.body u = mapped_is m.size e.body k p.size s (host_type ty) b.virt (here m b protect) in
         let f' = frame_of (flipped off bytes e.body) u in
         let finds : adapter_finds_out r f' ≡ Some Guard =
-        finds-guard m.size m.mode.kind (host_type ty) (all_asked m.mode.app m.mode.mask) (ref_tag (here m b protect)) (flipped off bytes e.body) u t.other.size su (never-zero ty)
+        finds-guard m.size m.mode.kind (host_type ty) (all_asked m.mode.app m.mode.mask) (ref_tag (here m b protect)) (flipped off bytes e.body) u t.other.size su (never_zero ty)
         (open-mapped (host_type ty) b.virt (here m b protect) k (open-host ty e (guard_of m.mode.kind e.body) b.virt h)) refl (λ same. shows (sym same ∙ g.0)) in
         let wired : to_wire (flip HostToAdapter) r (mapped_out r (frame_of e.body k)) ≡ Err Guard =
         ap (to_wire (flip HostToAdapter) r) mapped ∙ to-wire (flip HostToAdapter) r (frame_of e.body u)
@@ -570,7 +567,7 @@ module _ (m : Setting) (b : Block) (protect : 0 < m.mode.protect) (mask : m.mode
         let came : altered (flip AdapterToHost) AdapterToHost (label_of b) (received r w) ≡ frame_of body k.0 = ap (altered (flip AdapterToHost) AdapterToHost (label_of b)) k.1 ∙ altered-here b AdapterToHost off bytes e.body _ t.inside in
         let mapped : mapped_back r (frame_of body k.0) ≡ frame_of body u = mapped_is m.size body k.0 t.other.size s (host_type ty) (here m b protect) b.virt in
         let finds : owner_finds r (frame_of body u) ≡ Some Guard =
-        finds-guard m.size m.mode.kind (host_type ty) (all_asked m.mode.app m.mode.mask) (ref_tag b.virt) body u t.other.size su (never-zero ty) (open-mapped (host_type ty) (here m b protect) b.virt k.0 k.4) refl (λ same. shows (sym same ∙ g.0 ∙ k.3)) in
+        finds-guard m.size m.mode.kind (host_type ty) (all_asked m.mode.app m.mode.mask) (ref_tag b.virt) body u t.other.size su (never_zero ty) (open-mapped (host_type ty) (here m b protect) b.virt k.0 k.4) refl (λ same. shows (sym same ∙ g.0 ∙ k.3)) in
         hands-over true dif ty e p
         ∙ ap (λ f. seen_on_way_in (verified r owner (Delivers w f))) came
         ∙ ap (λ f. seen_on_way_in (delivered_unless owner w f (owner_finds r f))) mapped

@@ -8,6 +8,7 @@ use Rattle.fault_schedule.specs.Altered.{altered, byte_at, is_same, named, shift
 use Rattle.fault_schedule.specs.declared.Label.{Label}
 use Rattle.fault_schedule.specs.declared.fault.Crossing.{Crossing}
 use Rattle.fault_schedule.specs.declared.fault.Crossing.TheVariants.{HostToAdapter, AdapterToTarget, TargetToMedium, MediumToTarget, TargetToAdapter, AdapterToHost}
+use Rattle.fault_schedule.specs.AnyOrder.{xored-same}
 use Rattle.pi_tuple.specs.declared.checks.Check.{Check}
 use Rattle.target_answer.specs.Passing.{then_crossed}
 use Rattle.block_path.proofs.Cells.{AllBelow}
@@ -34,10 +35,6 @@ named-here b at off bytes i = ap (λ c. bit_xor (if c then byte_at off bytes i e
 
 named-there : (b : Block) (at other : Crossing) (off : ℕ) (bytes : List ℕ) (i : ℕ) → is_same at other ≡ false → named (flip_of b at off bytes) other (label_of b) i ≡ 0
 named-there b at other off bytes i h = ap (λ c. bit_xor (if c && (eqb b.op b.op && eqb b.k b.k) then byte_at off bytes i else 0) 0) h
-
-xored-same : (f g : ℕ → ℕ) (i : ℕ) (xs : List ℕ) → ((k : ℕ) → f k ≡ g k) → xored_from f i xs ≡ xored_from g i xs
-xored-same f g i [] same = refl
-xored-same f g i (x ∷ xs) same = let e = same i in let rest = xored-same f g (i + 1) xs same in cc
 
 xored-zero : (f : ℕ → ℕ) (i : ℕ) (xs : List ℕ) → ((k : ℕ) → f k ≡ 0) → xored_from f i xs ≡ xs
 xored-zero f i [] none = refl

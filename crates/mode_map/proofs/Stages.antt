@@ -15,6 +15,7 @@ use Rattle.pi_tuple.specs.declared.checks.Checks.{Checks}
 use Rattle.fault_schedule.specs.Altered.{altered}
 use Rattle.fault_schedule.specs.declared.fault.Crossing.TheVariants.{AdapterToHost, AdapterToTarget, HostToAdapter, MediumToTarget, TargetToAdapter, TargetToMedium}
 use Rattle.fault_schedule.specs.declared.fault.FaultLine.{FaultLine}
+use Rattle.fault_schedule.proofs.Unaltered.{altered_none}
 use Rattle.integrity_payload.specs.declared.payload.Owner.{Owner}
 use Rattle.ref_remap.specs.Remapped.{remapped}
 use Rattle.target_answer.specs.Frames.{data_of, frame_of, tuple_of}
@@ -23,7 +24,7 @@ use Rattle.block_path.specs.declared.route.Route.{Route}
 use Rattle.block_path.specs.Routes.{by_target, passage, target}
 use Rattle.block_path.specs.WayIn.{Delivers, adapter_finds_in, at_host, delivered_unless, from_device, from_wire, mapped_back, owner_finds, received, verified, way_in}
 use Rattle.block_path.specs.WayOut.{Stores, at_device, checked_out, from_adapter, to_wire}
-use Rattle.whole_run.proofs.CalmWays.{altered_none, crossed_none, onto_medium, off_medium, off_wire}
+use Rattle.whole_run.proofs.CalmWays.{crossed_none, onto_medium, off_medium, off_wire}
 use Rattle.whole_run.proofs.TupleFrames.{Small, finds_in_frame}
 
 -- ---- alterations apart

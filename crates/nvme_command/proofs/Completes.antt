@@ -1,20 +1,21 @@
 -- Lines that fit over a right image are refused for want of memory alone.
 use Rattle.std.proofs.Common.{ℕ, ◌≡◌, ◌≤◌, inl, inr, Bool, true, false, if◌then◌else◌, List, [], ◌∷◌, length, Option, Some, None, refl, sym, ap, subst, ◌∙◌, arith}
-use Rattle.std.specs.Prelude.{Result, Ok, Err, is_some, map, nat_lt}
+use Rattle.std.specs.Prelude.{Result, Ok, Err, map, nat_lt}
 use Rattle.std.proofs.lemmas.Bool.Decides.{nat_tests}
 use Rattle.std.proofs.lemmas.List.{take_all}
-use Rattle.dix_base.specs.Told.{Calm, Rose}
+use Rattle.dix_base.specs.Told.{Calm}
+use Rattle.dix_base.proofs.Counts.{never_rose}
 use Rattle.source_text.specs.Reading.{most_bytes}
 use Rattle.source_text.proofs.Taking.{most_is, over_long, whole_text}
-use Rattle.rig_api.specs.Head.{Head, IsHeadOf, head_fault, head_of, units_of}
+use Rattle.rig_api.specs.Head.{head_fault, head_of, units_of}
 use Rattle.target_answer.specs.Image.{units_in}
 use Rattle.rig_api.specs.Telling.{Standing, specs_of, units_told}
-use Rattle.rig_api.specs.declared.rig.RigFault.{RigFault}
 use Rattle.rig_api.specs.State.{RigState}
+use Rattle.rig_api.proofs.HeadLaws.{headed}
 use Rattle.volume_table.specs.declared.device.DeviceInfo.{DeviceInfo}
 use Rattle.rig_discovery.specs.Discovery.{info_of}
-use Rattle.image_commands.specs.Views.{OpenedOnce, WasOpened}
-use Rattle.image_commands.specs.Causes.{IsBad}
+use Rattle.image_commands.specs.Views.{OpenedOnce}
+use Rattle.image_commands.proofs.Opened.{right_head, told_is_good}
 use Rattle.call_refusal.specs.declared.refusal.Refusal.{Refusal}
 use Rattle.call_refusal.specs.declared.refusal.Refusal.TheVariants as refusal
 use Rattle.nvme_session.proofs.Kept.{told-is}
@@ -26,9 +27,6 @@ use Rattle.nvme_command.specs.Causes.{CauseNotDone, CauseUndone, HasAsked, HasDo
 use Rattle.nvme_command.specs.Done.{AllDone}
 use Rattle.nvme_command.specs.Fits.{misfit}
 use Rattle.nvme_command.specs.Replies.{Reply}
-
-pub never_rose : (old new : ℕ) → Calm old new → Rose old new → ⊥
-never_rose old new c r = grind arith
 
 not_long : (b : Bool) (x : Result (List NvmLine) ScriptFault) (e : ScriptFault) (lines : List NvmLine) → (if b then Err e else x) ≡ Ok lines → b ≡ false
 not_long true x e lines h = absurd (cc)
@@ -47,21 +45,6 @@ no_lines f left left' text lines e t (inr n) = over_long text n.1.0 left left' e
 
 same_lines : (text : List ℕ) (lines lines' : List NvmLine) (left left' : Option (List ℕ)) → left ≡ Some text → text_in text ≡ Ok lines → HasLines lines' left left' → lines' ≡ lines
 same_lines text lines lines' left left' e t h = let both = sym h.lines_are ∙ ap text_in (whole_text h.text text left left' e h.whole) ∙ t in cc
-
-headed : (h : Head) (image : List ℕ) (told : Option (List ℕ)) → told ≡ Some image → IsHeadOf h told → h ≡ head_of image
-headed h image told e i = rw e at i
-
-right_head : (image : List ℕ) (x : RigFault) (name : List ℕ) (old new : RigState) → old.image ≡ Some image → new.image ≡ old.image → head_fault (head_of image) ≡ None → WasOpened name (Some x) old new → ⊥
-right_head image x name old new e k good opened =
-    let head : new.standing.head ≡ head_of image = headed new.standing.head image new.image (k ∙ e) opened.head in
-    let both : ◌≡◌ {A = Option RigFault} (Some x) None = sym opened.judged ∙ ap head_fault head ∙ good in
-    cc
-
-told_is_good : (image name : List ℕ) (dev : ℕ) (old new : RigState) → old.image ≡ Some image → IsBad name dev old new → ⊥
-told_is_good image name dev old new e b =
-    let told : is_some b.between.units ≡ true = ap is_some (b.since.laid ∙ ap (units_told b.between.standing) (b.since.kept.image ∙ e)) in
-    let untold : is_some b.between.units ≡ false = b.untold in
-    cc
 
 -- the devices that a told image's rig told are those of its head
 devices_told : (image name : List ℕ) (devices : List DeviceInfo) (old new : RigState) → old.image ≡ Some image → HasTold name devices old new → devices ≡ map info_of (units_of (head_of image))

@@ -3,6 +3,7 @@ use Rattle.std.proofs.Common.{ℕ, ◌≡◌, ◌+◌, ◌<◌, ◌≤◌, inl, 
 use Rattle.std.specs.Prelude.{map, not}
 use Rattle.std.proofs.lemmas.List.{take-append-drop, take_more}
 use Rattle.dix_base.specs.Told.{Calm}
+use Rattle.dix_base.proofs.Counts.{never_rose}
 use Rattle.target_answer.specs.Target.{Stop, Stored}
 use Rattle.rig_api.specs.Telling.{HasCause, unit_at}
 use Rattle.rig_api.specs.State.{RigState}
@@ -17,7 +18,6 @@ use Rattle.nvme_session.specs.declared.doing.NvmReply.{NvmReply}
 use Rattle.nvme_command.specs.Done.{Adds, AllDone, Came, CameInPart, Lacks, Stays, WasDone, body_given, dev_of, meta_given, replies_over, step_by, step_of, units_over}
 use Rattle.nvme_command.specs.Fits.{command_of, device_of_line}
 use Rattle.nvme_command.specs.Replies.{Reply, has_failed, replies_text, reply_line, reply_of}
-use Rattle.nvme_command.proofs.Completes.{never_rose}
 
 -- ---- one more
 

@@ -1,8 +1,7 @@
 -- A command that is done over a rig that tells its blocks is the unit's answer, translated.
-use Rattle.std.proofs.Common.{◌≡◌, ◌≤◌, ◌<◌, ℕ, zero, suc, ◌+◌, ◌-◌, ◌*◌, ◌%◌, ◌^◌, Bool, true, false, not, ◌&&◌, eqb, ltb, List, [], ◌∷◌, ◌++◌, length, drop, map, refl, ap, sym, subst, ◌∙◌, arith, ⊎_elim, Option, Some, None}
+use Rattle.std.proofs.Common.{◌≡◌, ◌≤◌, ◌<◌, ℕ, zero, suc, ◌+◌, ◌-◌, ◌*◌, ◌%◌, ◌^◌, Bool, true, false, not, ◌&&◌, eqb, ltb, List, [], ◌∷◌, length, drop, map, refl, ap, sym, subst, ◌∙◌, arith, ⊎_elim, Option, Some, None}
 use Rattle.std.specs.Prelude.{if◌then◌else◌, replicate, slice_index_or}
 use Rattle.std.proofs.lemmas.Bool.{cases_Bool, eqb-true}
-use Rattle.std.proofs.lemmas.List.{append-nil}
 use Rattle.pi_tuple.specs.Finds.{is_zero}
 use Rattle.pi_tuple.specs.Tuples.{ref_tag}
 use Rattle.target_answer.specs.Passing.{is_one}
@@ -12,8 +11,9 @@ use Rattle.sense_codes.specs.declared.Sense.{Sense}
 use Rattle.fault_schedule.specs.declared.fault.FaultLine.{FaultLine}
 use Rattle.target_answer.specs.Frames.{joined, stored_size}
 use Rattle.target_answer.specs.Target.{Answer, Stop, Stored, target_answer}
-use Rattle.rig_api.specs.Telling.{IsAnswer, answer_of, at_front, unit_at}
+use Rattle.rig_api.specs.Telling.{IsAnswer, answer_of, unit_at}
 use Rattle.rig_api.specs.declared.rig.Outcome.{Outcome}
+use Rattle.rig_api.proofs.UnitLaws.{fills}
 use Rattle.volume_table.specs.declared.device.DeviceInfo.{DeviceInfo}
 use Rattle.nvme_front.specs.Answers.{IsNvmAnswer, device_of, nvm_answer, outcome_of}
 use Rattle.nvme_front.specs.Buffers.{body_after, data_in, filled, frames_out, meta_after, meta_in, room_for, sent_by}
@@ -41,9 +41,6 @@ drop-all [] [] e = refl
 drop-all [] (y ∷ ys) e = absurd (omega arith)
 drop-all (x ∷ xs) [] e = absurd (omega arith)
 drop-all (x ∷ xs) (y ∷ ys) e = drop-all xs ys (omega arith)
-
-front-whole : (xs before : List ℕ) → length xs ≡ length before → at_front xs before ≡ xs
-front-whole xs before e = ap (λ z. xs ++ z) (drop-all xs before e) ∙ append-nil xs
 
 -- ---- completions
 
@@ -140,7 +137,7 @@ of-unit us dev c armed body meta body' meta' before came stop o told result f h 
     let e = ends unit c armed body meta stop f h whole long in
     let done : result ≡ completed c.count (outcome_of a) = r ∙ ap (completed c.count) said'.outcome in
     let same : is_write c ≡ false → is_success (completed c.count (outcome_of a)) ≡ true → came ≡ joined a.sent =
-    λ w s. said'.into ∙ front-whole (joined a.sent) before (e.long w (done-all c.count (outcome_of a) s) ∙ sym room) in
+    λ w s. said'.into ∙ fills (joined a.sent) before (e.long w (done-all c.count (outcome_of a) s) ∙ sym room) in
     record {
       answer = record {
         completion = done;

@@ -13,17 +13,18 @@ use Rattle.cdb_codec.specs.declared.command.Rw.{Rw}
 use Rattle.cdb_codec.proofs.Inverse.{decoded_form}
 use Rattle.sense_codes.specs.declared.Sense.{Sense}
 use Rattle.fault_schedule.specs.declared.fault.FaultLine.{FaultLine}
-use Rattle.fault_schedule.specs.declared.fault.Crossing.TheVariants.{TargetToAdapter}
 use Rattle.target_answer.specs.Frames.{data_of, frames_of, joined, sent_size}
-use Rattle.target_answer.specs.Passing.{found_in, from_medium, then_crossed, to_medium, unless}
+use Rattle.target_answer.specs.Passing.{found_in, from_medium, to_medium, unless}
 use Rattle.target_answer.specs.Requests.{is_foreign, request_of}
 use Rattle.target_answer.specs.Target.{Answer, Stop, Stored, answer_unless, bytes_of, carried_out, check_sense, each, first_of, first_sense, has_blocks, illegal, medium_address, medium_sense, passage, passed, read_by, read_end, refusal, refusals_of, refused, shape_of, stored_from, target_answer, whole, wire_address, write_end, written_by}
 use Rattle.target_answer.specs.declared.request.Request.TheVariants.{Read, Write}
 use Rattle.target_answer.specs.declared.units.UnitSpec.{UnitSpec}
+use Rattle.target_answer.proofs.FrameLaws.{frames_length, unless_crossed}
 use Rattle.rig_api.specs.declared.rig.Outcome.{Outcome}
 use Rattle.nvme_front.specs.Answers.{outcome_of}
 use Rattle.nvme_front.specs.Completions.{by_end, completed, is_internal, out_of_range, read_error, success, write_fault}
 use Rattle.nvme_front.specs.declared.completion.Completion.{Completion}
+use Rattle.small_laws.proofs.Tests.{no_other_number}
 
 -- ---- completions
 
@@ -81,15 +82,12 @@ five : (a b o f w : Bool) → a ≡ false → b ≡ false → w ≡ false →
     first_of (record { comes = a; asc = 0x20 } ∷ record { comes = b; asc = 0x24 } ∷ record { comes = o; asc = 0x21 } ∷ record { comes = f; asc = 0x21 } ∷ record { comes = w; asc = 0x24 } ∷ []) ≡ (if o then Some (illegal 0x21) else (if f then Some (illegal 0x21) else None))
 five a b o f w p q r = rw (p, q, r) refl
 
-same-room : (has wants : ℕ) → has ≡ wants → not (eqb has wants) ≡ false
-same-room has wants e = grind arith
-
 refusal-of-write : (unit : UnitSpec) (cmd : Cdb) (c : Rw) (armed : List FaultLine) (out room : ℕ) → request_of cmd ≡ Write c → is_foreign unit.ty cmd ≡ false → (is_zero unit.ty && not (eqb c.protect 0)) ≡ false → out ≡ bytes_of unit.size c →
     refusal unit (Ok cmd) armed [] out room ≡ (if not (has_blocks unit (wire_address armed [] c) c.n) then Some (illegal 0x21) else None)
 unfolding refusal
 refusal-of-write unit cmd c armed out room q f z e =
     ap (λ r. first_of (refusals_of unit cmd r armed [] out room)) q
-    ∙ four (is_foreign unit.ty cmd) (is_zero unit.ty && not (eqb c.protect 0)) (not (has_blocks unit (wire_address armed [] c) c.n)) (not (eqb out (bytes_of unit.size c))) f z (same-room out (bytes_of unit.size c) e)
+    ∙ four (is_foreign unit.ty cmd) (is_zero unit.ty && not (eqb c.protect 0)) (not (has_blocks unit (wire_address armed [] c) c.n)) (not (eqb out (bytes_of unit.size c))) f z (no_other_number out (bytes_of unit.size c) e)
 
 refusal-of-read : (unit : UnitSpec) (cmd : Cdb) (c : Rw) (armed : List FaultLine) (out room : ℕ) → request_of cmd ≡ Read c → is_foreign unit.ty cmd ≡ false → (is_zero unit.ty && not (eqb c.protect 0)) ≡ false → room ≡ bytes_of unit.size c →
     refusal unit (Ok cmd) armed [] out room
@@ -97,7 +95,7 @@ refusal-of-read : (unit : UnitSpec) (cmd : Cdb) (c : Rw) (armed : List FaultLine
 unfolding refusal
 refusal-of-read unit cmd c armed out room q f z e =
     ap (λ r. first_of (refusals_of unit cmd r armed [] out room)) q
-    ∙ five (is_foreign unit.ty cmd) (is_zero unit.ty && not (eqb c.protect 0)) (not (has_blocks unit (wire_address armed [] c) c.n)) (not (eqb c.n 0) && not (has_blocks unit (medium_address armed [] c) c.n)) (not (eqb room (bytes_of unit.size c))) f z (same-room room (bytes_of unit.size c) e)
+    ∙ five (is_foreign unit.ty cmd) (is_zero unit.ty && not (eqb c.protect 0)) (not (has_blocks unit (wire_address armed [] c) c.n)) (not (eqb c.n 0) && not (has_blocks unit (medium_address armed [] c) c.n)) (not (eqb room (bytes_of unit.size c))) f z (no_other_number room (bytes_of unit.size c) e)
 
 pub answer-by : (unit : Stored) (cmd : Cdb) (armed : List FaultLine) (out : List ℕ) (room : ℕ) (stop : Option Stop) → Fits cmd →
     target_answer unit armed (form cmd) [] out room stop ≡ answer_unless (refusal (shape_of unit) (Ok cmd) armed [] (length out) room) unit (Ok cmd) armed [] out stop
@@ -109,10 +107,6 @@ answer-by unit cmd armed out room stop f = ap (λ (d : Result Cdb CdbFault). ans
 each-long : (judge : ℕ → List ℕ → Result (List ℕ) Check) (k : ℕ) (frames : List (List ℕ)) → length (each judge k frames) ≡ length frames
 each-long judge k [] = refl
 each-long judge k (f ∷ frames) = ap suc (each-long judge (k + 1) frames)
-
-frames-count : (w n : ℕ) (bytes : List ℕ) → length (frames_of w n bytes) ≡ n
-frames-count w zero bytes = refl
-frames-count w (suc n) bytes = ap suc (frames-count w n (drop w bytes))
 
 -- each of these has this length
 abbrev pub AllLong : ℕ → List (List ℕ) → Type 0
@@ -138,18 +132,13 @@ drop-long w zero fs h = h
 drop-long w (suc n) [] h = tt
 drop-long w (suc n) (f ∷ fs) h = drop-long w n fs h.1
 
--- a block without a label, from the medium
-released-of : (armed : List FaultLine) (x : Option Check) (frame : List ℕ) → then_crossed armed None TargetToAdapter (unless x frame) ≡ unless x frame
-released-of armed None frame = refl
-released-of armed (Some c) frame = refl
-
 abbrev front_of : Rw → (size : ℕ) → List ℕ → List ℕ
 front_of c size frame = if eqb c.protect 0 then data_of size frame else frame
 
 judged-is : (armed : List FaultLine) (unit : UnitSpec) (c : Rw) (lba k : ℕ) (frame : List ℕ) →
     from_medium armed (passage unit c lba [] k) frame ≡ unless (found_in (passage unit c lba [] k) frame) (front_of c unit.size frame)
 unfolding from_medium
-judged-is armed unit c lba k frame = released-of armed (found_in (passage unit c lba [] k) frame) (front_of c unit.size frame)
+judged-is armed unit c lba k frame = unless_crossed armed (found_in (passage unit c lba [] k) frame) (front_of c unit.size frame)
 
 front-long : (c : Rw) (size stored : ℕ) (frame : List ℕ) → length frame ≡ stored → sent_size c.protect size ≡ stored → length (front_of c size frame) ≡ stored
 front-long c size stored frame l e = by (eqb c.protect 0) e
@@ -217,7 +206,7 @@ write-ends unit cmd c armed out w stop a q l =
     let r = refusal-of-write (shape_of unit) cmd c armed (length out) 0 q a.own a.tuples (l ∙ ap (λ x. c.n * x) (sym a.width)) in
     let lba = nat_abs (wire_address armed [] c) in
     let js = written_by (shape_of unit) c lba armed [] out in
-    let count : length js ≡ c.n = each-long (λ k frame. to_medium armed (passage (shape_of unit) c lba [] k) frame) 0 (frames_of (sent_size c.protect unit.size) c.n out) ∙ frames-count (sent_size c.protect unit.size) c.n out in
+    let count : length js ≡ c.n = each-long (λ k frame. to_medium armed (passage (shape_of unit) c lba [] k) frame) 0 (frames_of (sent_size c.protect unit.size) c.n out) ∙ frames_length (sent_size c.protect unit.size) c.n out in
     ⊎_elim
     (λ (e : (if o then Some (illegal 0x21) else None) ≡ Some (illegal 0x21)). named-at c.n _ _ (of-refused unit cmd armed out 0 stop _ (illegal 0x21) a.fits r e) (refused-named c.n))
     (λ (e : (if o then Some (illegal 0x21) else None) ≡ None). named-at c.n _ _ (of-carried unit cmd armed out 0 stop _ a.fits r e ∙ ap (λ x. carried_out unit x armed [] out stop) q) (write-named c.n lba js stop count))

@@ -1,20 +1,8 @@
 -- An exchange out of one buffer.
-use Rattle.std.proofs.Common.{◌≡◌, ℕ, zero, suc, ◌+◌, ◌≤◌, Bool, true, false, List, [], ◌∷◌, ◌++◌, length, take, drop, refl, ap, subst, arith}
+use Rattle.std.proofs.Common.{◌≡◌, ℕ, ◌+◌, ◌≤◌, Bool, true, false, List, [], length, take, drop, refl, subst, arith}
 use Rattle.std.proofs.lemmas.List.{length-drop, length-take-le}
 use Rattle.rig_api.specs.declared.rig.Outcome.{Outcome}
 use Rattle.rig_api.specs.State.{Exchanged, RigState}
-
-pub cut-front : (n : ℕ) (xs ys : List ℕ) → length xs ≡ n → take n (xs ++ ys) ≡ xs
-cut-front zero [] ys e = refl
-cut-front zero (x ∷ xs) ys e = absurd (omega arith)
-cut-front (suc n) [] ys e = absurd (omega arith)
-cut-front (suc n) (x ∷ xs) ys e = ap (λ z. x ∷ z) (cut-front n xs ys (omega arith))
-
-pub cut-back : (n : ℕ) (xs ys : List ℕ) → length xs ≡ n → drop n (xs ++ ys) ≡ ys
-cut-back zero [] ys e = refl
-cut-back zero (x ∷ xs) ys e = absurd (omega arith)
-cut-back (suc n) [] ys e = absurd (omega arith)
-cut-back (suc n) (x ∷ xs) ys e = cut-back n xs ys (omega arith)
 
 pub with-lists : (dev : ℕ) (cdb out out' before before' came came' : List ℕ) (o : Outcome) (old new : RigState) → out ≡ out' → before ≡ before' → came ≡ came' → Exchanged old new dev cdb [] out before came o → Exchanged old new dev cdb [] out' before' came' o
 with-lists dev cdb out out' before before' came came' o old new e f h x =

@@ -1,8 +1,8 @@
 -- Buffers on the heap that a command was done with.
 use Rattle.std.proofs.Common.{◌≡◌, ℕ, eqb, true, false, List, [], ◌∷◌, ◌++◌, length, take, drop, Option, Some, None, refl, sym, ap, subst, ◌∙◌, ⊎_elim}
-use Rattle.std.specs.Prelude.{Result, Ok, Err, IfOk, is_some, map}
+use Rattle.std.specs.Prelude.{is_some, map}
 use Rattle.std.proofs.lemmas.Bool.{cases_Bool, eqb-true}
-use Rattle.std.proofs.lemmas.List.{length-replicate}
+use Rattle.std.proofs.lemmas.List.{length-replicate, take_at}
 use Rattle.target_answer.specs.Target.{Stored}
 use Rattle.rig_api.specs.Log.{Room}
 use Rattle.rig_api.specs.State.{RigState}
@@ -17,11 +17,10 @@ use Rattle.nvme_front.specs.Answers.{HasDevices, device_of}
 use Rattle.nvme_front.specs.Results.{IsAnswered}
 use Rattle.nvme_front.specs.declared.command.NvmCommand.{NvmCommand}
 use Rattle.nvme_front.specs.declared.completion.Completion.{Completion}
-use Rattle.nvme_front.proofs.Sending.{cut-front}
 use Rattle.nvme_session.specs.Sessions.{given}
 
 pub kept-front : (n : ℕ) (xs ys : List ℕ) → length xs ≡ n → xs ≡ take n (xs ++ ys)
-kept-front n xs ys e = sym (cut-front n xs ys e)
+kept-front n xs ys e = sym (take_at xs ys n e)
 
 -- the answer with the same buffers, over a rig that has got more room
 pub answered-as : (ds : List DeviceInfo) (c : NvmCommand) (b b' m m' nb nb' nm nm' : List ℕ) (result : Completion) (old old' new : RigState) (room : Room) → b ≡ b' → m ≡ m' → nb ≡ nb' → nm ≡ nm' → old ≡ record old' { room = room } →
@@ -41,10 +40,6 @@ given-long n meta =
     (λ (e : eqb (length meta) n ≡ true). rw e (eqb-true (length meta) n e))
     (λ (e : eqb (length meta) n ≡ false). rw e (length-replicate n 0))
     (cases_Bool (eqb (length meta) n))
-
-pub ok-with : {A E : Type 0} {P Q : A → Type 0} (r : Result A E) → ((a : A) → P a → Q a) → IfOk r P → IfOk r Q
-ok-with (Ok a) f h = f a h
-ok-with (Err e) f h = h
 
 -- ---- a command leaves the devices what they are
 

@@ -3,19 +3,17 @@ use Rattle.std.proofs.Common.{◌≡◌, ◌<◌, ℕ, ◌+◌, Bool, true, fals
 use Rattle.std.specs.Prelude.{slice_index_or}
 use Rattle.std.specs.List.{list_all}
 use Rattle.std.proofs.lemmas.List.{take_all}
-use Rattle.pi_tuple.specs.declared.checks.PiType.{PiType}
-use Rattle.cdb_codec.specs.Decoded.{eight_at, four_at}
-use Rattle.std.specs.Prelude.{slice_index}
 use Rattle.std.proofs.lemmas.Bool.{and_from}
 use Rattle.target_answer.specs.Headers.{is_spec}
 use Rattle.target_answer.specs.declared.units.UnitSpec.{UnitSpec}
 use Rattle.rig_api.specs.Head.{head_fault, units_of}
 use Rattle.rig_api.specs.Log.{Entry}
 use Rattle.rig_api.specs.Telling.{Standing, no_spec, spec_at, specs_of}
+use Rattle.rig_api.proofs.HeadLaws.{right_layout}
 use Rattle.volume_table.specs.declared.device.DeviceInfo.{DeviceInfo}
-use Rattle.rig_discovery.specs.Answers.{info_with, is_fault, type_told}
 use Rattle.rig_discovery.specs.Discovery.{Answer, HasFound, all_told, told, with_info}
-use Rattle.rig_discovery.proofs.Telling.{right_layout, all_at, last_true}
+use Rattle.rig_discovery.proofs.Telling.{all_at, last_true}
+use Rattle.rig_discovery.proofs.ToldSizes.{told_size}
 use Rattle.target_answer.specs.Target.{Stored}
 use Rattle.pi_scrub.specs.Scrubbed.{HasDevices as Discovered}
 use Rattle.nvme_front.specs.Answers.{HasDevices}
@@ -29,14 +27,6 @@ good-size u h = by (eqb u.size 512) (eqb u.size 4096) u.blocks _ h
     by false true n x h = refl
     by false false n x h = grind arith
 
-told-size : (s : Standing) (dev : ℕ) (a : Answer) (i : DeviceInfo) → told s dev a ≡ Some i → i.size ≡ (spec_at s dev).size
-told-size s dev a i e = by (is_fault (spec_at s dev).first (spec_at s dev).size a.outcome (eight_at a.bytes 0) (four_at a.bytes 8)) (type_told (slice_index a.bytes 12)) e
-  where
-    by : (b : Bool) (t : Option PiType) → (if b then None else info_with (spec_at s dev).first (spec_at s dev).size (eight_at a.bytes 0) t) ≡ Some i → i.size ≡ (spec_at s dev).size
-    by true t e = absurd (cc)
-    by false None e = absurd (cc)
-    by false (Some ty) e = cc
-
 all-sizes : (s : Standing) (dev : ℕ) (xs : List Answer) (found : List DeviceInfo) → all_told s dev xs ≡ Some found → ((k : ℕ) → k < dev + length xs → is_spec (spec_at s k) ≡ true) → list_all has_size found ≡ true
 all-sizes s dev [] found e good = let k : found ≡ [] = cc in ap (list_all has_size) k
 all-sizes s dev (x ∷ xs) found e good =
@@ -47,7 +37,7 @@ all-sizes s dev (x ∷ xs) found e good =
     by (Some i) None p q e = absurd (cc)
     by (Some i) (Some more) p q e =
         let k : found ≡ i ∷ more = cc in
-        let z = told-size s dev x i p in
+        let z = told_size s dev x i p in
         let g = good-size (spec_at s dev) (good dev (omega arith)) in
         let h : has_size i ≡ true = ap (λ n. eqb n 512 || eqb n 4096) z ∙ g in
         ap (list_all has_size) k ∙ and_from (has_size i) (list_all has_size more) h (q more refl)

@@ -1,8 +1,7 @@
 -- the bytes at a run of places are a part of the page
 use Rattle.std.proofs.Common.{◌≡◌, ℕ, ◌+◌, ◌-◌, ◌≤◌, ◌<◌, List, [], ◌++◌, length, take, drop, get_or, set, sym, ap, ◌∙◌, ◌⊎◌, ◌≢◌, inl, inr, arith}
 use Rattle.std.proofs.lemmas.List.{places, same_lists, length-take, length-drop, length-append, length-map, length-set, get_or-map, get_or-set_same, get_or-set_other, get_or_past, set_past, map-set, take-append-le}
-use Rattle.std.proofs.lemmas.Bool.{cases_lt}
-use Rattle.std.proofs.lemmas.Bool.Decides.{eqb_tells}
+use Rattle.std.proofs.lemmas.Bool.{cases_lt, cases_eq}
 use Rattle.std.specs.Vec.{with_items_from}
 use Rattle.std.specs.declared.alloc.Global.{Global}
 use Rattle.std.specs.declared.vec.Vec.{Vec}
@@ -27,9 +26,6 @@ part-is pool s w h = let size = w.size s.page h.in_pool in let k = h.in_page in 
 
 -- bytes written into a page
 
-pub same_or : (a b : ℕ) → (a ≡ b) ⊎ (a ≢ b)
-same_or a b = elim (eqb_tells a b) [ inl h ↦ inl h.1 | inr h ↦ inr h.1 ]
-
 pub length-with_bytes : (page : List ℕ) (off : ℕ) (w : List ℕ) → length (with_bytes page off w) ≡ length page
 length-with_bytes page off w = simp (length-take, length-append, length-drop) (omega arith)
 
@@ -47,7 +43,7 @@ pub page-other : (pool : List (List ℕ)) (s : Seg) (w : List ℕ) (n : ℕ) →
 page-other pool s w n h = get_or-set_other pool s.page n (with_bytes (page_of pool s.page) s.off w) [] h
 
 pub sizes-with_part : (pool : List (List ℕ)) (s : Seg) (w : List ℕ) (n : ℕ) → length (page_of (with_part pool s w) n) ≡ length (page_of pool n)
-sizes-with_part pool s w n = elim (same_or n s.page) [
+sizes-with_part pool s w n = elim (cases_eq n s.page) [
   | inl e ↦ elim (cases_lt s.page (length pool)) [
     | inl l ↦ rw e (ap length (page-same pool s w l) ∙ length-with_bytes (page_of pool s.page) s.off w)
     | inr l ↦ ap (λ p. length (page_of p n)) (set_past pool s.page (with_bytes (page_of pool s.page) s.off w) l)
@@ -82,7 +78,7 @@ pub others-with_part : (pool : List (List ℕ)) (s : Seg) (w : List ℕ) → Lie
 others-with_part pool s w h whole l = record {
   pages = length-set pool s.page (with_bytes (page_of pool s.page) s.off w);
   sizes = sizes-with_part pool s w;
-  others = λ p free. elim (same_or p.page s.page) [
+  others = λ p free. elim (cases_eq p.page s.page) [
     | inl e ↦ ap (λ n. get_or (page_of (with_part pool s w) n) p.off 0) e
         ∙ (ap (λ q. get_or q p.off 0) (page-same pool s w h.in_pool)
         ∙ (other_in_page pool s w p h whole l e free ∙ ap (λ n. get_or (page_of pool n) p.off 0) (sym e)))

@@ -13,7 +13,8 @@ use Rattle.pi_blocks.specs.declared.block.Found.{Found}
 use Rattle.pi_blocks.specs.declared.block.Want.{Want}
 use Rattle.pi_blocks.specs.declared.layout.Layout.{Layout}
 use Rattle.pi_blocks.proofs.Makes.{made_by_guarded}
-use Rattle.pi_blocks.proofs.Puts.{Puts, next_block, puts_more, same_part}
+use Rattle.pi_blocks.proofs.Puts.{Puts, puts_more, same_part}
+use Rattle.small_laws.proofs.Numbers.{next_block}
 
 -- what is found in block i, whose data come next
 pub looked_apart : (l : Layout) (w : Want) (body left meta : List ℕ) (i guard : ℕ) (kind : GuardKind) (t : Tuple) (found : Option Found) → left ≡ drop (i * l.data_size) body → kind ≡ kind_of l.guard →

@@ -1,18 +1,17 @@
 -- Tuples that were made are alone in what was written, and are found to be fine.
-use Rattle.std.proofs.Common.{◌≡◌, ℕ, ◌+◌, ◌-◌, ◌*◌, ◌/◌, ◌%◌, ◌^◌, ◌<◌, ◌≤◌, ◌⊎◌, Bool, true, false, not, ◌&&◌, eqb, if◌then◌else◌, List, ◌++◌, length, take, drop, None, refl, ap, ◌∙◌, sym, subst, inl, inr, arith, lit<}
+use Rattle.std.proofs.Common.{◌≡◌, ℕ, ◌+◌, ◌-◌, ◌*◌, ◌/◌, ◌^◌, ◌<◌, ◌≤◌, ◌⊎◌, Bool, true, false, not, ◌&&◌, eqb, List, ◌++◌, length, take, drop, None, refl, ap, ◌∙◌, sym, subst, inl, inr, arith}
 use Rattle.std.specs.Prelude.{bit_and}
 use Rattle.std.proofs.lemmas.Bool.{and_right, cases_lt, eq-eqb, not_from_true}
 use Rattle.std.proofs.Math.Nat.{mul-le-mul_right}
-use Rattle.pi_guard.specs.Guards.{crc, guard_of, ip, word_sum}
-use Rattle.pi_guard.specs.declared.GuardKind.{GuardKind}
-use Rattle.pi_guard.specs.declared.GuardKind.TheVariants.{Crc, Ip}
-use Rattle.pi_guard.proofs.RegisterLemmas.{crc-register, register-lt}
+use Rattle.pi_guard.specs.Guards.{guard_of}
+use Rattle.pi_guard.proofs.GuardSizes.{guard_below}
 use Rattle.pi_tuple.specs.Finds.{finding, own_tag}
 use Rattle.pi_tuple.specs.Tuples.{ref_tag, tuple_in}
 use Rattle.pi_tuple.specs.declared.tuple.Tuple.{Tuple}
 use Rattle.pi_tuple.specs.declared.checks.PiType.{PiType}
 use Rattle.pi_tuple.specs.declared.checks.PiType.TheVariants.{Zero, One, Two, Three}
 use Rattle.pi_tuple.specs.declared.checks.Checks.{Checks}
+use Rattle.pi_tuple.proofs.TupleLaws.{own_below, read_back}
 use Rattle.pi_blocks.specs.Blocks.{Block, apart, checks_of, guard_in, in_line, looked, told_by, told_of}
 use Rattle.pi_blocks.specs.Laws.{AreFineWhenMade, AreFineWhenMadeApart, IsClear, MakesTuplesAlone, MakesTuplesApart, count_of}
 use Rattle.pi_blocks.specs.Layouts.{covered_of, is_good, kind_of, stride_of, type_of}
@@ -21,30 +20,9 @@ use Rattle.pi_blocks.specs.Puts.{all_put}
 use Rattle.pi_blocks.specs.declared.block.Want.{Want}
 use Rattle.pi_blocks.specs.declared.layout.Layout.{Layout}
 use Rattle.pi_blocks.proofs.MapLaws.{has_room, whole_within}
-use Rattle.pi_blocks.proofs.Puts.{Fit, all_put-apart, all_put-length, all_put-stands, fit_in_blocks, next_block}
-use Rattle.pi_blocks.proofs.Tuples.{first_by, read_back, tag_below}
-
--- a guard has sixteen bits
-crc-lt : (bytes : List ℕ) → crc bytes < 2 ^ 16
-crc-lt bytes = rw (crc-register bytes) (register-lt 0 bytes (lit< tt))
-
-sum_below : (c : Bool) (n : ℕ) → (if c then 65535 else 65535 - (n % 65535 + 1)) < 2 ^ 16
-sum_below true n = omega arith
-sum_below false n = omega arith
-
-ip_below : (bytes : List ℕ) → ip bytes < 2 ^ 16
-unfolding ip
-ip_below bytes = sum_below (eqb (word_sum bytes) 0) (word_sum bytes - 1)
-
-guard_below : (kind : GuardKind) (bytes : List ℕ) → guard_of kind bytes < 2 ^ 16
-guard_below Crc bytes = crc-lt bytes
-guard_below Ip bytes = ip_below bytes
-
-own_below : (ty : PiType) (lba : ℕ) → own_tag ty lba < 2 ^ 32
-own_below Zero lba = lit< tt
-own_below One lba = tag_below lba
-own_below Two lba = tag_below lba
-own_below Three lba = lit< tt
+use Rattle.pi_blocks.proofs.Puts.{Fit, all_put-apart, all_put-length, all_put-stands, fit_in_blocks}
+use Rattle.pi_blocks.proofs.Tuples.{first_by}
+use Rattle.small_laws.proofs.Numbers.{next_block}
 
 same_guard : (b : Bool) (g : ℕ) → (b && not (eqb g g)) ≡ false
 same_guard b g = and_right b (not (eqb g g)) (not_from_true (eqb g g) (eq-eqb g g refl))

@@ -8,7 +8,8 @@ use Rattle.pi_blocks.specs.Layouts.{covered_of, kind_of, stride_of, type_of}
 use Rattle.pi_blocks.specs.Made.{made_bytes, place_in_line}
 use Rattle.pi_blocks.specs.Puts.{put_at}
 use Rattle.pi_blocks.specs.declared.layout.Layout.{Layout}
-use Rattle.pi_blocks.proofs.Puts.{Puts, next_block, puts_more, same_part}
+use Rattle.pi_blocks.proofs.Puts.{Puts, puts_more, same_part}
+use Rattle.small_laws.proofs.Numbers.{next_block}
 
 -- the tuple that is made looks at nothing but the guarded bytes
 pub made_by_guarded : (l : Layout) (app first : ℕ) (blocks others : ℕ → Block) (i : ℕ) → (blocks i).guarded ≡ (others i).guarded → made_bytes l app first blocks i ≡ made_bytes l app first others i

@@ -13,7 +13,8 @@ use Rattle.pi_blocks.specs.Layouts.{AreBlocks, covered_of, is_good, stride_of, t
 use Rattle.pi_blocks.specs.Mapped.{all_mapped, mapped_tag, tag_in, tag_place}
 use Rattle.pi_blocks.specs.declared.layout.Layout.{Layout}
 use Rattle.pi_blocks.proofs.Maps.{four_long, own_length}
-use Rattle.pi_blocks.proofs.Puts.{Fit, all_put-apart, all_put-cong, all_put-length, all_put-over, all_put-same, all_put-stands, fit_in_blocks, next_block}
+use Rattle.pi_blocks.proofs.Puts.{Fit, all_put-apart, all_put-cong, all_put-length, all_put-over, all_put-same, all_put-stands, fit_in_blocks}
+use Rattle.small_laws.proofs.Numbers.{next_block}
 
 -- in a good layout the tuple fits
 pub has_room : (l : Layout) → is_good l ≡ true → l.tuple_at + 8 ≤ l.meta_size

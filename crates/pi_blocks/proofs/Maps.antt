@@ -9,8 +9,9 @@ use Rattle.ref_remap.specs.Remapped.{remapped_tag}
 use Rattle.pi_blocks.specs.Layouts.{stride_of, type_of}
 use Rattle.pi_blocks.specs.Mapped.{all_mapped, exchanged, mapped_tag, tag_in, tag_place}
 use Rattle.pi_blocks.specs.Puts.{put_at}
-use Rattle.pi_blocks.proofs.Puts.{Puts, all_put-same, next_block, puts_more, same_part}
+use Rattle.pi_blocks.proofs.Puts.{Puts, all_put-same, puts_more, same_part}
 use Rattle.pi_blocks.specs.declared.layout.Layout.{Layout}
+use Rattle.small_laws.proofs.Numbers.{next_block}
 
 exchange_or : (b : Bool) (from to : ℕ) (tag : List ℕ) → b ≡ true → (if b && eqb (from_be_bytes w32 tag) (ref_tag from) then to_be_bytes w32 (ref_tag to) else tag) ≡ exchanged from to tag
 exchange_or b from to tag e = ap (λ t. if t && eqb (from_be_bytes w32 tag) (ref_tag from) then to_be_bytes w32 (ref_tag to) else tag) e

@@ -3,13 +3,10 @@ use Rattle.std.proofs.Common.{◌≡◌, ℕ, zero, suc, ◌+◌, ◌-◌, ◌*�
 use Rattle.std.proofs.lemmas.Bool.{cases_lt}
 use Rattle.std.proofs.lemmas.List.{drop-drop, drop_at, drop-append-le, length-append, length-drop, length-take-le, places, same_lists, take-append-drop, take-append-le, take_at, take-take, drop-take}
 use Rattle.std.proofs.lemmas.Slice.{drop-put_mid}
-use Rattle.std.proofs.Math.Nat.{mul-le-mul_right, suc-mul}
+use Rattle.std.proofs.Math.Nat.{mul-le-mul_right}
 use borrow.Rule.Slice.PartMut.{put_mid}
 use Rattle.pi_blocks.specs.Puts.{all_put, put_at}
-
--- block i ends where the next one begins
-pub next_block : (i size : ℕ) → (i + 1) * size ≡ i * size + size
-next_block i size = ap (λ (m : ℕ). m * size) (add-one i) ∙ suc-mul i size
+use Rattle.small_laws.proofs.Numbers.{next_block}
 
 -- the pieces are put as a part of a slice is written
 pub put_is_part : (at width : ℕ) (piece bytes : List ℕ) → length piece ≡ width → put_at at piece bytes ≡ put_mid at width bytes piece

@@ -17,8 +17,8 @@ use Rattle.pi_blocks.specs.declared.block.Found.{Found}
 use Rattle.pi_blocks.specs.declared.block.Want.{Want}
 use Rattle.pi_blocks.specs.declared.layout.Layout.{Layout}
 use Rattle.pi_blocks.proofs.MapLaws.{block_within, has_room, maps_tags_alone, tag_is_mapped, whole_within}
-use Rattle.pi_blocks.proofs.Puts.{next_block}
 use Rattle.pi_blocks.proofs.Tuples.{fine_by_new_tag, remapped_is_read}
+use Rattle.small_laws.proofs.Numbers.{next_block}
 
 pub none_told : (f : Check → Found) (o : Option Check) → told_by f o ≡ None → o ≡ None
 none_told f None h = refl

@@ -1,10 +1,10 @@
 -- A tuple is read back as it was written, also after its tag is mapped.
-use Rattle.std.proofs.Common.{◌≡◌, ℕ, ◌^◌, ◌<◌, Bool, true, false, not, ◌&&◌, eqb, if◌then◌else◌, List, [], ◌∷◌, ◌++◌, length, take, drop, Option, Some, None, refl, ap, ◌∙◌, sym, inl, inr, arith}
+use Rattle.std.proofs.Common.{◌≡◌, ℕ, Bool, true, false, not, ◌&&◌, eqb, if◌then◌else◌, List, [], ◌∷◌, ◌++◌, length, take, drop, Option, Some, None, refl, ap, ◌∙◌, sym, inl, inr, arith}
 use Rattle.std.specs.Prelude.{bit_and}
 use Rattle.std.specs.Int.{w32, from_be_bytes, to_be_bytes}
 use Rattle.std.proofs.lemmas.Bool.{and_left, cases_Bool, eq-eqb}
 use Rattle.std.proofs.lemmas.List.{take-append-drop}
-use Rattle.std.proofs.lemmas.Nat.{from_be_bytes-to_be_bytes_2, from_be_bytes-to_be_bytes_4, mod_below}
+use Rattle.std.proofs.lemmas.Nat.{from_be_bytes-to_be_bytes_4}
 use Rattle.pi_tuple.specs.declared.tuple.Tuple.{Tuple}
 use Rattle.pi_tuple.specs.declared.checks.PiType.{PiType}
 use Rattle.pi_tuple.specs.declared.checks.PiType.TheVariants.{Zero, One, Two, Three}
@@ -12,7 +12,8 @@ use Rattle.pi_tuple.specs.declared.checks.Check.{Check}
 use Rattle.pi_tuple.specs.declared.checks.Check.TheVariants.{Guard, AppTag, RefTag}
 use Rattle.pi_tuple.specs.declared.checks.Checks.{Checks}
 use Rattle.pi_tuple.specs.Finds.{finding, has_ref_tag}
-use Rattle.pi_tuple.specs.Tuples.{ref_tag, tuple_bytes, tuple_in}
+use Rattle.pi_tuple.specs.Tuples.{ref_tag, tuple_in}
+use Rattle.pi_tuple.proofs.TupleLaws.{tag_below, same_fields}
 use Rattle.ref_remap.specs.Remapped.{remapped, remapped_bytes}
 
 as_eight : (P : List ℕ → Type 0) → ((a b c d e f g h : ℕ) → P (a ∷ b ∷ c ∷ d ∷ e ∷ f ∷ g ∷ h ∷ [])) → (bytes : List ℕ) → length bytes ≡ 8 → P bytes
@@ -26,20 +27,6 @@ as_eight P p (a ∷ b ∷ c ∷ d ∷ e ∷ f ∷ []) l = absurd (omega arith)
 as_eight P p (a ∷ b ∷ c ∷ d ∷ e ∷ f ∷ g ∷ []) l = absurd (omega arith)
 as_eight P p (a ∷ b ∷ c ∷ d ∷ e ∷ f ∷ g ∷ h ∷ []) l = p a b c d e f g h
 as_eight P p (a ∷ b ∷ c ∷ d ∷ e ∷ f ∷ g ∷ h ∷ i ∷ r) l = absurd (omega arith)
-
-same_fields : {g h a b r s : ℕ} → g ≡ h → a ≡ b → r ≡ s → ◌≡◌ {A = Tuple} (record { guard = g; app = a; rtag = r }) (record { guard = h; app = b; rtag = s })
-same_fields p q u = cc
-
-pub tag_below : (n : ℕ) → ref_tag n < 2 ^ 32
-tag_below n = mod_below n (2 ^ 32) (omega arith)
-
--- a tuple that is spelled is read
-pub read_back : (g a r : ℕ) → g < 2 ^ 16 → a < 2 ^ 16 → r < 2 ^ 32 → tuple_in (tuple_bytes (record { guard = g; app = a; rtag = r })) ≡ record { guard = g; app = a; rtag = r }
-read_back g a r p q s =
-    let x = from_be_bytes-to_be_bytes_2 g p in
-    let y = from_be_bytes-to_be_bytes_2 a q in
-    let z = from_be_bytes-to_be_bytes_4 r s in
-    same_fields x y z
 
 remapped_or : (t : Bool) (to : ℕ) (bytes : List ℕ) → length bytes ≡ 8 →
     tuple_in (take 4 bytes ++ (if t then to_be_bytes w32 (ref_tag to) else drop 4 bytes)) ≡ (if t then record { guard = (tuple_in bytes).guard; app = (tuple_in bytes).app; rtag = ref_tag to } else tuple_in bytes)

@@ -13,3 +13,4 @@ mod Halving
 mod Sums
 mod Numbers
 mod Runs
+pub mod GuardSizes

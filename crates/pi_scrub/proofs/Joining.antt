@@ -3,6 +3,7 @@ use Rattle.std.proofs.Common.{ℕ, zero, suc, ◌≡◌, ◌+◌, ◌-◌, ◌^�
 use Rattle.std.specs.Prelude.{if◌then◌else◌, count_by, cond, map, min}
 use Rattle.std.proofs.lemmas.List.Sums.{sum_by-append}
 use Rattle.dix_base.specs.Told.{Calm, Rose}
+use Rattle.dix_base.proofs.Counts.{calm_first, calm_then}
 use Rattle.sense_codes.specs.declared.Sense.{Sense}
 use Rattle.pi_tuple.specs.declared.checks.PiType.{PiType}
 use Rattle.target_answer.specs.Target.{Stored}
@@ -169,12 +170,6 @@ rest_step found new all part dev u lba k m e n p same above =
     ∙ ap (λ (v : List (List ℕ)). part ++ faults_from u.ty u.size dev (lba + k) v) rest in
     ap (λ (v : List Found). v ++ faults_from u.ty u.size dev (lba + k) (drop (lba + k - u.first) u.blocks)) n
     ∙ append_assoc found part (faults_from u.ty u.size dev (lba + k) (drop (lba + k - u.first) u.blocks)) ∙ ap (λ (v : List Found). found ++ v) (sym split) ∙ e
-
-pub calm_first : (a b c : ℕ) → b ≤ c → Calm a c → Calm a b
-calm_first a b c h p = (omega (arith, p.0), omega (arith, p.1))
-
-pub calm_then : (a b c : ℕ) → a ≤ b → Calm a c → Calm b c
-calm_then a b c h p = (omega (arith, p.0), p.1)
 
 device_at : (us : List Stored) (dev : ℕ) → dev < length us → info_at (map device_of us) dev ≡ device_of (unit_at us dev)
 device_at [] dev l = absurd (omega arith)

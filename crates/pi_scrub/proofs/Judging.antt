@@ -3,7 +3,6 @@ use Rattle.std.proofs.Common.{ℕ, zero, suc, ◌≡◌, ◌+◌, ◌-◌, ◌^�
 use Rattle.std.specs.Prelude.{Result, Ok, Err, if◌then◌else◌, is_some}
 use Rattle.std.proofs.lemmas.Bool.{le-leb}
 use Rattle.pi_tuple.specs.declared.checks.Check.{Check}
-use Rattle.pi_tuple.specs.declared.checks.Check.TheVariants.{Guard, AppTag, RefTag}
 use Rattle.pi_tuple.specs.declared.checks.PiType.{PiType}
 use Rattle.pi_tuple.specs.declared.checks.PiType.TheVariants.{Zero, One, Two, Three}
 use Rattle.cdb_codec.specs.Forms.{Fits, form}
@@ -15,54 +14,42 @@ use Rattle.cdb_codec.specs.declared.command.Rw.{Rw}
 use Rattle.cdb_codec.proofs.Inverse.{decoded_form}
 use Rattle.sense_codes.specs.declared.Sense.{Sense}
 use Rattle.fault_schedule.specs.declared.fault.FaultLine.{FaultLine}
-use Rattle.fault_schedule.specs.declared.fault.Crossing.TheVariants.{TargetToAdapter}
-use Rattle.target_answer.specs.Passing.{found_in, from_medium, then_crossed, unless}
-use Rattle.target_answer.specs.Target.{Answer, Stop, Stored, answer_unless, check_sense, each, first_sense, keeping, passage, passed, read_by, refusal, shape_of, stored_from, target_answer, whole}
+use Rattle.target_answer.specs.Passing.{found_in, from_medium, unless}
+use Rattle.target_answer.specs.Target.{Answer, Stop, Stored, answer_unless, each, first_sense, keeping, passage, passed, read_by, refusal, shape_of, stored_from, target_answer, whole}
+use Rattle.target_answer.proofs.FrameLaws.{unless_crossed}
 use Rattle.rig_api.specs.Telling.{IsAnswer, Standing, answer_of, unit_at, units_told, with_blocks}
 use Rattle.rig_api.specs.declared.rig.Outcome.{Outcome}
-use Rattle.block_path.specs.Senses.{why_ended}
-use Rattle.bio_core.specs.declared.fate.Why.TheVariants.{Target}
+use Rattle.rig_api.proofs.UnitLaws.{own_blocks}
+use Rattle.block_path.proofs.PathLaws.{check_named}
 use Rattle.pi_scrub.specs.Faults.{faults_from, listed, stored_finding}
 use Rattle.pi_scrub.specs.Looks.{found_at, protect_for, settled, verify_of}
 use Rattle.pi_scrub.specs.Steps.{IsWithin}
 use Rattle.pi_scrub.proofs.Joining.{settled_most}
-use Rattle.rig_discovery.proofs.Telling.{own_block, same_units}
+use Rattle.rig_discovery.proofs.Telling.{same_units}
+use Rattle.small_laws.proofs.Tests.{ltb_suc}
 
 abbrev pub by_form : Bool → Rw → Cdb
 by_form b c = if b then Verify10 c else Verify16 c
-
--- what is found in a stored block
-crossing : (armed : List FaultLine) (x : Option Check) (frame : List ℕ) → then_crossed armed None TargetToAdapter (unless x frame) ≡ unless x frame
-crossing armed None frame = refl
-crossing armed (Some c) frame = refl
 
 abbrev judge : List FaultLine → PiType → (blocks size first lba n : ℕ) → ℕ → List ℕ → Result (List ℕ) Check
 judge armed ty blocks size first lba n k frame = from_medium armed (passage (record { ty = ty; blocks = blocks; size = size; first = first }) (untagged lba n (protect_for ty)) lba [] k) frame
 
 judged_is : (armed : List FaultLine) (ty : PiType) (blocks size first lba n k : ℕ) (frame : List ℕ) → (sent : List ℕ) × (judge armed ty blocks size first lba n k frame ≡ unless (stored_finding ty size (lba + k) frame) sent)
 unfolding from_medium found_in
-judged_is armed Zero blocks size first lba n k frame = (_, crossing armed (stored_finding Zero size (lba + k) frame) _)
-judged_is armed One blocks size first lba n k frame = (_, crossing armed (stored_finding One size (lba + k) frame) _)
-judged_is armed Two blocks size first lba n k frame = (_, crossing armed (stored_finding Two size (lba + k) frame) _)
-judged_is armed Three blocks size first lba n k frame = (_, crossing armed (stored_finding Three size (lba + k) frame) _)
-
-shift_test : (d m : ℕ) → ltb (suc d) (suc m) ≡ ltb d m
-shift_test d m = grind arith
+judged_is armed Zero blocks size first lba n k frame = (_, unless_crossed armed (stored_finding Zero size (lba + k) frame) _)
+judged_is armed One blocks size first lba n k frame = (_, unless_crossed armed (stored_finding One size (lba + k) frame) _)
+judged_is armed Two blocks size first lba n k frame = (_, unless_crossed armed (stored_finding Two size (lba + k) frame) _)
+judged_is armed Three blocks size first lba n k frame = (_, unless_crossed armed (stored_finding Three size (lba + k) frame) _)
 
 found_shift : (dev l m d : ℕ) (s : Option Sense) → found_at dev l (suc m) (record { done = suc d; sense = s }) ≡ found_at dev (l + 1) m (record { done = d; sense = s })
-found_shift dev l m d s = let e : l + suc d ≡ l + 1 + d = omega arith in rw (shift_test d m, e) refl
+found_shift dev l m d s = let e : l + suc d ≡ l + 1 + d = omega arith in rw (ltb_suc d m, e) refl
 
 settled_shift : (m d : ℕ) → settled (suc m) (suc d) ≡ suc (settled m d)
-settled_shift m d = rw (shift_test d m) (by (ltb d m))
+settled_shift m d = rw (ltb_suc d m) (by (ltb d m))
   where
     by : (b : Bool) → (if b then suc d + 1 else suc m) ≡ suc (if b then d + 1 else m)
     by true = omega arith
     by false = refl
-
-target_named : (c : Check) (l : ℕ) → why_ended (Some (check_sense c l)) ≡ Target c
-target_named Guard l = refl
-target_named AppTag l = refl
-target_named RefTag l = refl
 
 abbrev ended : List (Result (List ℕ) Check) → ℕ → Outcome
 ended js l = record { done = length (passed js); sense = first_sense l js }
@@ -72,7 +59,7 @@ bad_one : (ty : PiType) (size dev l : ℕ) (frame : List ℕ) (frames : List (Li
 bad_one ty size dev l frame frames c rest y =
     let t : ltb 0 (suc (length frames)) ≡ true = grind arith in
     let z : l + 0 ≡ l = omega arith in
-    rw (t, y, z, target_named c l) refl
+    rw (t, y, z, check_named c l) refl
 
 one_judged : (ty : PiType) (size dev l : ℕ) (frame sent : List ℕ) (frames : List (List ℕ)) (y : Option Check) (j : Result (List ℕ) Check) (rest : List (Result (List ℕ) Check)) → j ≡ unless y sent → stored_finding ty size l frame ≡ y →
     found_at dev (l + 1) (length frames) (ended rest (l + 1)) ≡ faults_from ty size dev (l + 1) (take (settled (length frames) (length (passed rest))) frames) →
@@ -165,7 +152,7 @@ blocks_kept u armed ty lba n room stop f =
 stays : (us : List Stored) (armed : List FaultLine) (dev lba n : ℕ) (ty : PiType) (o : Outcome) (told : Option (List Stored)) (stop : Option Stop) (before after : List ℕ) → Fits (verify_of ty lba n) →
     IsAnswer (answer_of us armed dev (form (verify_of ty lba n)) [] [] 0 stop) us dev o told before after → told ≡ Some us
 stays us armed dev lba n ty o told stop before after f a =
-    a.units ∙ ap (λ (v : List (List ℕ)). Some (with_blocks us dev v)) (blocks_kept (unit_at us dev) armed ty lba n 0 stop f) ∙ ap (λ (v : List Stored). Some v) (own_block us dev)
+    a.units ∙ ap (λ (v : List (List ℕ)). Some (with_blocks us dev v)) (blocks_kept (unit_at us dev) armed ty lba n 0 stop f) ∙ ap (λ (v : List Stored). Some v) (own_blocks us dev)
 
 pub units_stay : (s s' : Standing) (armed : List FaultLine) (dev lba n : ℕ) (ty : PiType) (a b : Option (List ℕ)) (old new : Option (List Stored)) (o : Outcome) (before after : List ℕ) → s' ≡ s → old ≡ units_told s a → new ≡ units_told s' b → is_some b ≡ is_some a → Fits (verify_of ty lba n) →
     ((us : List Stored) → old ≡ Some us → (stop : Option Stop) × IsAnswer (answer_of us armed dev (form (verify_of ty lba n)) [] [] 0 stop) us dev o new before after) → new ≡ old

@@ -3,3 +3,4 @@ pub mod Layouts
 pub mod Rising
 pub mod Sweep
 pub mod Unended
+pub mod Turns

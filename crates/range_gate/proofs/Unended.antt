@@ -8,6 +8,7 @@ use Rattle.range_gate.specs.declared.phase.Phase.{Phase}
 use Rattle.range_gate.specs.declared.phase.Phase.TheVariants.{Waiting, Ended}
 use Rattle.range_gate.specs.Gates.{conflict_at, falling, has_ended, is_waiting, may_admit, none_conflicts, phase_at, unended}
 use Rattle.range_gate.specs.Windows.{Falls}
+use Rattle.small_laws.proofs.Tests.{second_no}
 
 -- one more place in front, unless its op has ended
 abbrev with : Bool → ℕ → List ℕ → List ℕ
@@ -184,10 +185,6 @@ few table ps us first i k r x w f l e =
     let h : nat_lt (length (unended ps i)) 32 ≡ true = lt-ltb (length (unended ps i)) 32 (let b = ap length g in omega arith) in
     e ∙ ap (none_conflicts (conflict_at table) i) g ∙ sym (ap (λ b. b && (nat_lt (length (unended ps i)) 32 && none_conflicts (conflict_at table) i (unended ps i))) w ∙ ap (λ b. b && none_conflicts (conflict_at table) i (unended ps i)) h)
 
-and_false : (a b c : Bool) → b ≡ false → (a && (b && c)) ≡ false
-and_false true b c e = rw e refl
-and_false false b c e = refl
-
 pub too_many : (table : List (List Bool)) (ps : List Phase) (us : List ℕ) (first i k : ℕ) (r : Bool) → Looked ps us i k → first ≡ length us - k →
     32 ≤ length (looked_at us first) → r ≡ false → r ≡ may_admit (record { conflicts = table; phases = ps }) i
 too_many table ps us first i k r x f l e =
@@ -196,7 +193,7 @@ too_many table ps us first i k r x f l e =
     let m = many ps (length ps) i (length us - k) (let o = x.op in omega arith)
     (λ b o p. (let q = x.below b o (omega arith) in rw (sym (ap (λ v. get_or v b 0) x.live)) q)) in
     let h : nat_lt (length (unended ps i)) 32 ≡ false = le-ltb (length (unended ps i)) 32 (let b = a.1 in let w = x.within in omega arith) in
-    e ∙ sym (and_false (is_waiting (phase_at ps i)) (nat_lt (length (unended ps i)) 32) (none_conflicts (conflict_at table) i (unended ps i)) h)
+    e ∙ sym (second_no (is_waiting (phase_at ps i)) (nat_lt (length (unended ps i)) 32) (none_conflicts (conflict_at table) i (unended ps i)) h)
 
 -- ---- end, and the list of all places
 

@@ -1,25 +1,14 @@
 -- A text that is written piece by piece: what is left of it, and a failure on the way.
-use Rattle.std.proofs.Common.{ℕ, ◌≡◌, ◌+◌, min, List, [], ◌++◌, length, take, drop, Option, Some, None, Result, Ok, Err, OnErr, refl, sym, ap, subst, ◌∙◌, arith, rules, append_assoc, append-nil}
+use Rattle.std.proofs.Common.{ℕ, ◌≡◌, ◌+◌, min, List, [], ◌++◌, length, take, drop, Option, refl, sym, ap, subst, ◌∙◌, arith, rules, append_assoc, append-nil}
 use Rattle.std.proofs.lemmas.List.{places, same_lists, take-append-drop}
 use Rattle.dix_base.specs.Told.{Appended, AppendedSome}
+use Rattle.dix_base.proofs.Appending.{appended_none, appended_both}
 
 -- Of a text a first part was appended, and this rest is left.
 pub record Left (text rest : List ℕ) (old now : Option (List ℕ)) : Type 0 where
   pub done : List ℕ
   pub split : done ++ rest ≡ text
   pub written : Appended done old now
-
-appended_none : (x : Option (List ℕ)) → Appended [] x x
-appended_none None = tt
-appended_none (Some xs) = sym (append-nil xs)
-
-pub appended_both : (s t : List ℕ) (a b c : Option (List ℕ)) → Appended s a b → Appended t b c → Appended (s ++ t) a c
-appended_both s t None None None p q = tt
-appended_both s t (Some a) (Some b) (Some c) p q = q ∙ ap (λ v. v ++ t) p ∙ append_assoc a s t
-appended_both s t None None (Some c) p q = q
-appended_both s t None (Some b) c p q = absurd p
-appended_both s t (Some a) None c p q = absurd p
-appended_both s t (Some a) (Some b) None p q = q
 
 pub at_start : (text : List ℕ) (x : Option (List ℕ)) → Left text text x x
 at_start text x = record { done = []; split = refl; written = appended_none x }
@@ -65,7 +54,3 @@ after_first s t a b p = record { done = s; split = ap (λ r. s ++ r) (append-nil
 
 pub part_second : (s t : List ℕ) (a b c : Option (List ℕ)) → Appended s a b → AppendedSome t b c → AppendedSome (s ++ t) a c
 part_second s t a b c p q = breaks_off (s ++ t) t [] a b c (after_first s t a b p) q
-
-pub on_err : {T E P : Type 0} (r : Result T E) → P → OnErr r P
-on_err (Ok x) p = tt
-on_err (Err e) p = p

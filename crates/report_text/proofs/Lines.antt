@@ -1,5 +1,5 @@
 -- The pieces of each line of a report or trace are the line.
-use Rattle.std.proofs.Common.{ℕ, zero, Bool, true, false, ◌&&◌, ◌≡◌, ◌+◌, ◌<◌, ◌≤◌, suc, List, [], ◌∷◌, ◌++◌, length, take, drop, get_or, codes, decimal, refl, sym, ap, ◌∙◌, arith, add-one, append_assoc, drop-cons}
+use Rattle.std.proofs.Common.{ℕ, zero, true, ◌≡◌, ◌+◌, ◌<◌, ◌≤◌, suc, List, [], ◌∷◌, ◌++◌, length, take, drop, get_or, codes, decimal, refl, sym, ap, ◌∙◌, arith, add-one, append_assoc, drop-cons}
 use Rattle.std.proofs.lemmas.List.{take-append-drop}
 use Rattle.hex.specs.Hex.{encode_lower, encode_with, lower_digits}
 use Rattle.stack_ops.specs.declared.reply.BadBlock.{BadBlock}
@@ -8,6 +8,7 @@ use Rattle.report_text.specs.Report.{bad_line, bad_lines, lines_from, lines_of, 
 use Rattle.report_text.specs.Trace.{trace, trace_line, sense_text}
 use Rattle.rig_api.specs.declared.rig.Record.{Record}
 use Rattle.rig_api.specs.Log.{Entry, entry_at, has_key, have_keys, no_entry}
+use Rattle.small_laws.proofs.Tests.{and_first, and_second}
 
 pub shown : (front : List ℕ) (number : ℕ) (hex : List ℕ) → front ≡ codes "op " ++ (decimal number ++ codes " ") → front ++ (hex ++ codes "\n") ≡ op_line number hex
 shown front number hex e = ap (λ f. f ++ (hex ++ codes "\n")) e ∙ append_assoc (codes "op ") (decimal number ++ codes " ") (hex ++ codes "\n") ∙ ap (λ r. codes "op " ++ r) (append_assoc (decimal number) (codes " ") (hex ++ codes "\n"))
@@ -38,14 +39,6 @@ next_reply i rs r h e =
 pub next_record : (i : ℕ) (es : List Entry) (r : Record) → i < length es → r ≡ (entry_at es i).what → trace (drop i es) ≡ trace_line r ++ trace (drop (i + 1) es)
 next_record i es r h e =
     ap trace (drop-cons es i no_entry h) ∙ ap (λ k. trace_line (entry_at es i).what ++ trace (drop k es)) (sym (add-one i)) ∙ ap (λ x. trace_line x ++ trace (drop (i + 1) es)) (sym e)
-
-and_first : (a b : Bool) → a && b ≡ true → a ≡ true
-and_first true b h = refl
-and_first false b h = h
-
-and_second : (a b : Bool) → a && b ≡ true → b ≡ true
-and_second true b h = h
-and_second false b h = absurd (cc)
 
 pub keyed_at : (es : List Entry) (i : ℕ) → have_keys es ≡ true → has_key (entry_at es i).what.outcome.sense ≡ true
 keyed_at [] i k = refl

@@ -1,2 +1,5 @@
 pub mod Octets
 pub mod State
+pub mod HeadLaws
+pub mod UnitLaws
+pub mod RoomLaws

@@ -1,3 +1,4 @@
 pub mod Telling
+pub mod ToldSizes
 mod Steps
 mod Answering

@@ -8,48 +8,28 @@ use Rattle.pi_tuple.specs.declared.checks.PiType.{PiType}
 use Rattle.pi_tuple.specs.declared.checks.PiType.TheVariants.{Zero, One, Two, Three}
 use Rattle.cdb_codec.specs.Decoded.{eight_at, four_at}
 use Rattle.fault_schedule.specs.declared.fault.FaultLine.{FaultLine}
-use Rattle.target_answer.specs.Frames.{frames_of, joined, stored_size}
-use Rattle.target_answer.specs.Headers.{bytes_of, image_size, is_header, is_layout, is_spec, specs_in}
+use Rattle.target_answer.specs.Frames.{joined, stored_size}
+use Rattle.target_answer.specs.Headers.{bytes_of, is_spec}
 use Rattle.target_answer.specs.Image.{unit_from, units_from, units_in}
 use Rattle.target_answer.specs.Target.{Answer, Stop, Stored, capacity_data, protection_byte, refusal, shape_of, target_answer}
 use Rattle.target_answer.specs.declared.units.UnitSpec.{UnitSpec}
-use Rattle.target_answer.specs.declared.units.Version.{Version}
-use Rattle.rig_api.specs.Head.{Head, fault_of_header, fault_under, head_fault, specs_under, units_of, version_in}
-use Rattle.rig_api.specs.declared.rig.RigFault.TheVariants.{BadLength}
+use Rattle.target_answer.proofs.FrameLaws.{frames_length}
+use Rattle.rig_api.specs.Head.{units_of}
 use Rattle.rig_api.specs.Telling.{HasCause, IsAnswer, IsStanding, Standing, answer_of, at_front, frame_size, no_spec, no_unit, spec_at, specs_of, unit_at, units_told, with_blocks}
 use Rattle.rig_api.specs.declared.rig.Outcome.{Outcome}
+use Rattle.rig_api.proofs.HeadLaws.{right_layout}
+use Rattle.rig_api.proofs.UnitLaws.{own_blocks}
 use Rattle.rig_discovery.specs.Answers.{info_with, is_fault, told_by, type_told}
 use Rattle.rig_discovery.specs.Discovery.{info_of, look}
 use Rattle.volume_table.specs.declared.device.DeviceInfo.{DeviceInfo}
-
-good_header : (short good : Bool) (has wants : ℕ) → (if short then Some BadLength else fault_of_header good has wants) ≡ None → good ≡ true
-good_header true good has wants e = absurd (cc)
-good_header false true has wants e = refl
-good_header false false has wants e = absurd (cc)
-
-pub left_true : (a b : Bool) → (a && b) ≡ true → a ≡ true
-left_true true b h = refl
-left_true false b h = absurd (cc)
-
-header_layout : (v : Version) (bytes : List ℕ) → is_header v bytes ≡ true → is_layout (specs_in v bytes) ≡ true
-unfolding is_header
-header_layout v bytes h = left_true (is_layout (specs_in v bytes)) _ h
-
-layout_under : (h : Head) (v : Option Version) → fault_under v h ≡ None → is_layout (specs_under v h.first) ≡ true
-layout_under h None e = absurd (cc)
-layout_under h (Some v) e = header_layout v h.first (good_header (ltb (length h.first) 512) (is_header v h.first) h.size (image_size (specs_in v h.first)) e)
-
--- the units of a right head are those of an image
-pub right_layout : (h : Head) → head_fault h ≡ None → is_layout (units_of h) ≡ true
-unfolding head_fault
-right_layout h e = layout_under h (version_in h) e
+use Rattle.small_laws.proofs.Tests.{and_first}
 
 pub last_true : (a b c : Bool) → (a && (b && c)) ≡ true → c ≡ true
 last_true a b c h = grind arith
 
 pub all_at : (us : List UnitSpec) (i : ℕ) → list_all is_spec us ≡ true → i < length us → is_spec (slice_index_or us i no_spec) ≡ true
 all_at [] i h l = absurd (omega arith)
-all_at (u ∷ us) zero h l = left_true (is_spec u) _ h
+all_at (u ∷ us) zero h l = and_first (is_spec u) _ h
 all_at (u ∷ us) (suc i) h l = all_at us i (right_true (is_spec u) (list_all is_spec us) h) (omega arith)
   where
     right_true : (a b : Bool) → (a && b) ≡ true → b ≡ true
@@ -70,10 +50,6 @@ spec_good s image dev i l =
 
 pub enough : (s : Standing) (image : Option (List ℕ)) (dev : ℕ) → IsStanding s image → dev < s.devices → dev < length (specs_of s)
 enough s image dev i l = (spec_good s image dev i l).1
-
-frames_length : (w n : ℕ) (bytes : List ℕ) → length (frames_of w n bytes) ≡ n
-frames_length w zero bytes = refl
-frames_length w (suc n) bytes = ap suc (frames_length w n (drop w bytes))
 
 pub shape_is : (u : UnitSpec) (bytes : List ℕ) → shape_of (unit_from u bytes) ≡ u
 shape_is u bytes = ap (λ (n : ℕ). record { ty = u.ty; blocks = n; size = u.size; first = u.first }) (frames_length (stored_size u.ty u.size) u.blocks bytes)
@@ -122,11 +98,6 @@ pub answered : (unit : Stored) (armed : List FaultLine) (stop : Option Stop) →
 unfolding target_answer refusal
 answered unit armed stop = refl
 
-pub own_block : (us : List Stored) (dev : ℕ) → with_blocks us dev (unit_at us dev).blocks ≡ us
-own_block [] dev = refl
-own_block (u ∷ us) zero = refl
-own_block (u ∷ us) (suc dev) = ap (λ (v : List Stored). u ∷ v) (own_block us dev)
-
 -- what was answered to a look at these units
 abbrev pub SaidTold : List FaultLine → ℕ → Outcome → List ℕ → Option (List Stored) → Option (List Stored) → ℕ → ℕ → Type 0
 SaidTold armed dev o into old new f f' =
@@ -134,7 +105,7 @@ SaidTold armed dev o into old new f f' =
     × IsAnswer (answer_of us armed dev look [] [] 32 stop) us dev o new (replicate 32 0) into
 
 stays : (us : List Stored) (armed : List FaultLine) (dev : ℕ) (into : List ℕ) (o : Outcome) (told : Option (List Stored)) (stop : Option Stop) → IsAnswer (answer_of us armed dev look [] [] 32 stop) us dev o told (replicate 32 0) into → told ≡ Some us
-stays us armed dev into o told stop a = a.units ∙ ap (λ (v : Answer). Some (with_blocks us dev v.blocks)) (answered (unit_at us dev) armed stop) ∙ ap (λ (v : List Stored). Some v) (own_block us dev)
+stays us armed dev into o told stop a = a.units ∙ ap (λ (v : Answer). Some (with_blocks us dev v.blocks)) (answered (unit_at us dev) armed stop) ∙ ap (λ (v : List Stored). Some v) (own_blocks us dev)
 
 pub same_units : (s : Standing) (a b : Option (List ℕ)) (old new : Option (List Stored)) → old ≡ units_told s a → new ≡ units_told s b → is_some b ≡ is_some a → ((us : List Stored) → old ≡ Some us → new ≡ Some us) → new ≡ old
 same_units s None None old new p q t h = q ∙ sym p

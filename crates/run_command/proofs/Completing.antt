@@ -1,14 +1,11 @@
 -- Where nothing is at fault in text and image, what is refused comes from outside.
-use Rattle.std.proofs.Common.{ℕ, ◌≡◌, inl, inr, ◌<◌, ◌≤◌, true, false, List, length, Option, Some, None, Result, Ok, Err, refl, sym, ap, subst, ◌∙◌, arith, length-append}
-use Rattle.std.specs.Prelude.{IfErr, MatchResult, is_some, nat_lt}
+use Rattle.std.proofs.Common.{ℕ, ◌≡◌, inl, inr, ◌<◌, ◌≤◌, true, List, length, Option, Some, None, Result, Ok, Err, refl, sym, ap, subst, ◌∙◌, arith, length-append}
+use Rattle.std.specs.Prelude.{IfErr, MatchResult, nat_lt}
 use Rattle.std.proofs.lemmas.Bool.{lt-ltb}
-use Rattle.dix_base.specs.Told.{Calm, Rose, Took}
-use Rattle.image_commands.specs.Causes.{IsBad}
-use Rattle.image_commands.specs.Views.{WasOpened}
+use Rattle.dix_base.specs.Told.{Calm, Took}
+use Rattle.dix_base.proofs.Counts.{never_rose}
+use Rattle.image_commands.proofs.Opened.{right_head, told_is_good}
 use Rattle.pi_tuple.specs.declared.checks.PiType.{PiType}
-use Rattle.rig_api.specs.Head.{head_fault, head_of}
-use Rattle.rig_api.specs.Telling.{units_told}
-use Rattle.rig_api.specs.declared.rig.RigFault.{RigFault}
 use Rattle.rig_api.specs.State.{RigState}
 use Rattle.script_text.specs.Bindings.{binding_fault}
 use Rattle.script_text.specs.Language.{script_in}
@@ -21,17 +18,13 @@ use Rattle.volume_table.specs.declared.entry.Entry.{Entry}
 use Rattle.volume_table.specs.declared.fault.VolumeFault.{VolumeFault}
 use Rattle.volume_table.specs.declared.fault.VolumeFault.TheVariants.{At}
 use Rattle.volume_table.specs.declared.fault.VolumeKind.{VolumeKind}
-use Rattle.run_command.proofs.Devices.{image_devices, headed}
+use Rattle.run_command.proofs.Devices.{image_devices}
 use Rattle.source_text.proofs.Taking.{most_is, whole_text}
 use Rattle.source_text.specs.Reading.{IsOver}
 use Rattle.run_command.specs.Verdict.{CauseRefused, CauseStopped, CauseUntaken, Facts, HasBadVolume, HasRead, HasRunSource, HasTable, HoldsFault, IsComplete, IsUnbound, StopsFromOutside, devices_of, table_over}
 use Rattle.run_command.specs.declared.verdict.Finished.{Finished}
 use Rattle.call_refusal.specs.declared.refusal.Refusal.{Refusal}
 use Rattle.call_refusal.specs.declared.refusal.Refusal.TheVariants as refusal
-
-pub never_rose : (o n : ℕ) → Calm o n → Rose o n → ⊥
-never_rose o n c (inl r) = omega (arith, c.0, r)
-never_rose o n c (inr r) = omega (arith, c.1, r)
 
 pub same_script : (f : Facts) (text : List ℕ) (script found : Script) → f.left ≡ Some text → script_in text ≡ Ok script → HasRead found f.left f.left_after → found ≡ script
 same_script f text script found l s read =
@@ -78,23 +71,9 @@ not_bad image script entry kind name old new i t u =
     let k : ◌≡◌ {A = Option VolumeFault} None (Some (At entry kind)) = sym t ∙ ap (λ v. table_fault script.entries v script.block) (sym d) ∙ u.bad in
     absurd (cc)
 
-pub no_head_fault : (image : List ℕ) (x : RigFault) (name : List ℕ) (old new : RigState) → old.image ≡ Some image → new.image ≡ old.image → head_fault (head_of image) ≡ None → WasOpened name (Some x) old new → ⊥
-no_head_fault image x name old new i same h opened =
-    let e : new.standing.head ≡ head_of image = headed new.standing.head image new.image (same ∙ i) opened.head in
-    let k : ◌≡◌ {A = Option RigFault} None (Some x) = sym h ∙ ap head_fault (sym e) ∙ opened.judged in
-    absurd (cc)
-
--- a rig that tells its image answers rightly for its capacities
-pub told_is_good : (image name : List ℕ) (dev : ℕ) (old new : RigState) → old.image ≡ Some image → IsBad name dev old new → ⊥
-told_is_good image name dev old new e b =
-    let told : is_some b.between.units ≡ true = ap is_some (b.since.laid ∙ ap (units_told b.between.standing) (b.since.kept.image ∙ e)) in
-    let untold : is_some b.between.units ≡ false = b.untold in
-    let k : true ≡ false = sym told ∙ untold in
-    absurd (cc)
-
 pub stops_from_outside : (r : Refusal) (script : Script) (name : List ℕ) (old new : RigState) → CauseStopped r script name old new → StopsFromOutside r script old
 stops_from_outside (refusal.Script bad) script name old new c = λ image i h t b. absurd (not_unbound image script bad name old new i b c)
-stops_from_outside (refusal.Image x) script name old new c = λ image i h t b. absurd (no_head_fault image x name old new i c.1.image h c.0)
+stops_from_outside (refusal.Image x) script name old new c = λ image i h t b. absurd (right_head image x name old new i c.1.image h c.0)
 stops_from_outside (refusal.BadCapacity dev) script name old new c = λ image i h t b. absurd (told_is_good image name dev old new i c)
 stops_from_outside (refusal.Volume entry kind) script name old new c = λ image i h t b. absurd (not_bad image script entry kind name old new i t c)
 stops_from_outside refusal.RigFault script name old new c = λ image i h t b. inr refl

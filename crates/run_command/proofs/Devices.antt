@@ -1,18 +1,18 @@
 -- The devices that a rig told, where it tells its image.
 use Rattle.std.proofs.Common.{ℕ, ◌≡◌, ◌<◌, true, List, [], ◌∷◌, ◌++◌, length, take, drop, Option, Some, None, refl, sym, ap, ◌∙◌, arith}
 use Rattle.std.specs.Prelude.{is_some, map}
-use Rattle.std.proofs.Math.Seq.{take-length}
 use Rattle.image_commands.proofs.Bytes.{bytes_told, holds_blocks, some_unit}
 use Rattle.image_commands.proofs.Devices.{shapes}
 use Rattle.pi_scrub.specs.Scrubbed.{HasDevices}
-use Rattle.rig_api.specs.Head.{Head, IsHeadOf, head_of, units_of}
+use Rattle.rig_api.specs.Head.{head_of, units_of}
 use Rattle.rig_api.specs.Telling.{IsStanding, Standing, specs_of, units_told}
 use Rattle.rig_api.specs.State.{RigState}
+use Rattle.rig_api.proofs.HeadLaws.{headed, all_specs}
 use Rattle.rig_discovery.specs.Discovery.{info_of}
 use Rattle.dix_adapter.specs.Ways.{blocks_told}
-use Rattle.dix_adapter.proofs.Gathering.{joined-append}
 use Rattle.target_answer.specs.Frames.{joined}
 use Rattle.target_answer.specs.Target.{Stored}
+use Rattle.target_answer.proofs.FrameLaws.{joined_append}
 use Rattle.volume_table.specs.declared.device.DeviceInfo.{DeviceInfo}
 use Rattle.run_command.specs.Verdict.{HoldsBlocks, WasAsked, devices_of}
 
@@ -27,12 +27,6 @@ known s devices units (Some image) has laid told = as_head s devices units image
 -- the devices of a rig that tells are its head's
 pub known_infos : (name : List ℕ) (devices : List DeviceInfo) (old new : RigState) → WasAsked name devices old new → new.units ≡ units_told new.standing new.image → is_some new.image ≡ true → devices ≡ map info_of (specs_of new.standing)
 known_infos name devices old new asked laid told = known new.standing devices new.units new.image asked.told.devices_are laid told
-
-pub all_specs : (s : Standing) → s.devices ≡ length (units_of s.head) → specs_of s ≡ units_of s.head
-all_specs s e = ap (λ n. take n (units_of s.head)) e ∙ take-length (units_of s.head)
-
-pub headed : (h : Head) (image : List ℕ) (told : Option (List ℕ)) → told ≡ Some image → IsHeadOf h told → h ≡ head_of image
-headed h image told e i = rw e at i
 
 -- they are those of the image
 pub image_devices : (name : List ℕ) (devices : List DeviceInfo) (old new : RigState) (image : List ℕ) → WasAsked name devices old new → old.image ≡ Some image → devices ≡ devices_of image
@@ -53,7 +47,7 @@ has_device name devices old new asked =
 
 bytes_are : (us : List Stored) → bytes_told us ≡ joined (blocks_told us)
 bytes_are [] = refl
-bytes_are (u ∷ us) = ap (λ v. joined u.blocks ++ v) (bytes_are us) ∙ sym (joined-append u.blocks (blocks_told us))
+bytes_are (u ∷ us) = ap (λ v. joined u.blocks ++ v) (bytes_are us) ∙ sym (joined_append u.blocks (blocks_told us))
 
 -- the image of a rig that was told before and after, and stands on devices
 pub image_holds : (old new : RigState) → new.standing ≡ old.standing → 0 < old.standing.devices → IsStanding old.standing old.image → IsStanding new.standing new.image → new.units ≡ units_told new.standing new.image → is_some new.image ≡ is_some old.image → HoldsBlocks old new

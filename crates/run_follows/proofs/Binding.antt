@@ -12,7 +12,7 @@ use Rattle.run_follows.specs.Finished.{FramesFit}
 use Rattle.run_follows.proofs.Over.{same_rooms}
 
 module _ (m : Setting) (es : List Sent) (fit : FramesFit m es) where
-  suit_over : (i v n : ℕ) → AllSuit (told m es) (λ c block. true) i v n
+  pub suit_over : (i v n : ℕ) → AllSuit (told m es) (λ c block. true) i v n
   suit_over i v n k l = record { stores = λ frame e. fine_always (came_by es (route m (block_of i v k)).label); sends = λ stored e. fit (block_of i v k) }
 
   op_over : (fine : ℕ → List ℕ → Bool) (bytes i : ℕ) (op : Op) → IsBound m fine bytes i op → IsBound (told m es) (λ c block. true) bytes i op

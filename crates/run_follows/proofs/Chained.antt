@@ -16,8 +16,10 @@ use Rattle.integrity_payload.specs.declared.payload.Payload.{Payload}
 use Rattle.std.specs.Prelude.{Option, Some, None}
 use Rattle.block_path.specs.declared.mode.Mode.{Mode}
 use Rattle.dix_adapter.specs.Groups.{blocks_in}
+use Rattle.dix_adapter.proofs.Blocks.{length-blocks}
 use Rattle.merge_queue.specs.Chains.{no_bio}
 use Rattle.merge_queue.specs.Groups.{size}
+use Rattle.merge_queue.proofs.Moves.{size-append}
 use Rattle.run_follows.specs.Settled.{AllSettled, BioSettled, Blanked, Judged, Kept, LeftBy, MappedBack, OneSettled, Settled, TupleBlanked}
 use Rattle.run_follows.specs.Settling.{AreFates, blocks_before}
 use Rattle.run_follows.specs.Sheets.{io_at}
@@ -88,13 +90,9 @@ module _ (mode : Mode) (ty : PiType) (ios : List Io) (starts : List ℕ) where
       ∙ (ap (λ x. record { op = op; k = k; dev = dev; lba = lba; dir = dir } ∷ (blocks_from op (suc k) dev (suc lba) dir n ++ (record { op = op; k = x; dev = dev; lba = suc lba + n; dir = dir } ∷ []))) a
       ∙ ap (λ x. record { op = op; k = k; dev = dev; lba = lba; dir = dir } ∷ (blocks_from op (suc k) dev (suc lba) dir n ++ (record { op = op; k = k + suc n; dev = dev; lba = x; dir = dir } ∷ []))) b)
 
-  from_long : (op k dev lba : ℕ) (dir : Dir) (n : ℕ) → length (blocks_from op k dev lba dir n) ≡ n
-  from_long op k dev lba dir zero = refl
-  from_long op k dev lba dir (suc n) = ap suc (from_long op (suc k) dev (suc lba) dir n)
-
   pub blocks_long : (bios : List Bio) → length (blocks_in bios) ≡ size bios
   blocks_long [] = refl
-  blocks_long (b ∷ bios) = let e = length-append (blocks_of b) (blocks_in bios) in let f = from_long b.op b.k b.dev b.lba b.dir b.count in let h = blocks_long bios in omega arith
+  blocks_long (b ∷ bios) = let e = length-append (blocks_of b) (blocks_in bios) in let f = length-blocks b.op b.k b.dev b.lba b.dir b.count in let h = blocks_long bios in omega arith
 
   -- one fate more
   fates_more : (fates : List Fate) (at n : ℕ) → at + n < length fates → take (suc n) (drop at fates) ≡ take n (drop at fates) ++ (get_or fates (at + n) Good ∷ [])
@@ -117,7 +115,7 @@ module _ (mode : Mode) (ty : PiType) (ios : List Io) (starts : List ℕ) where
   bio_each bio fates at (suc n) old new h s =
       let one : Each mode ty ios starts (record { op = bio.op; k = bio.k + n; dev = bio.dev; lba = bio.lba + n; dir = bio.dir } ∷ []) (get_or fates (at + n) Good ∷ []) s.0 new = (new, (s.2, refl)) in
       let l = fates_long fates at n (omega arith) in
-      let m = from_long bio.op bio.k bio.dev bio.lba bio.dir n in
+      let m = length-blocks bio.op bio.k bio.dev bio.lba bio.dir n in
       rw (from_last bio.op bio.k bio.dev bio.lba bio.dir n, fates_more fates at n (omega arith)) (each_join (blocks_from bio.op bio.k bio.dev bio.lba bio.dir n) _ (take n (drop at fates)) _ old s.0 new (omega arith) (bio_each bio fates at n old s.0 (omega arith) s.1) one)
 
   blocks_join : (xs ys : List Bio) → blocks_in (xs ++ ys) ≡ blocks_in xs ++ blocks_in ys
@@ -128,10 +126,6 @@ module _ (mode : Mode) (ty : PiType) (ios : List Io) (starts : List ℕ) where
   bios_more [] n h = absurd (omega arith)
   bios_more (b ∷ bios) zero h = refl
   bios_more (b ∷ bios) (suc n) h = ap (λ l. b ∷ l) (bios_more bios n (omega arith))
-
-  size_join : (xs ys : List Bio) → size (xs ++ ys) ≡ size xs + size ys
-  size_join [] ys = omega arith
-  size_join (x ∷ xs) ys = let e = size_join xs ys in omega arith
 
   size_nil : (n : ℕ) → size (take n []) ≡ 0
   size_nil zero = refl
@@ -154,7 +148,7 @@ module _ (mode : Mode) (ty : PiType) (ios : List Io) (starts : List ℕ) where
       let bio = get_or bios n no_bio in
       let t = bios_more bios n (omega arith) in
       let below = size_below bios (suc n) in
-      let sum : size (take (suc n) bios) ≡ size (take n bios) + bio.count = ap size t ∙ (size_join (take n bios) (bio ∷ []) ∙ (let z : bio.count + 0 ≡ bio.count = omega arith in ap (λ x. size (take n bios) + x) z)) in
+      let sum : size (take (suc n) bios) ≡ size (take n bios) + bio.count = ap size t ∙ (size-append (take n bios) (bio ∷ []) ∙ (let z : bio.count + 0 ≡ bio.count = omega arith in ap (λ x. size (take n bios) + x) z)) in
       let bs : blocks_in (take (suc n) bios) ≡ blocks_in (take n bios) ++ blocks_of bio = ap blocks_in t ∙ (blocks_join (take n bios) (bio ∷ []) ∙ ap (λ x. blocks_in (take n bios) ++ x) (append-nil (blocks_of bio))) in
       let fs : take (size (take (suc n) bios)) fates ≡ take (size (take n bios)) fates ++ take bio.count (drop (size (take n bios)) fates) = ap (λ x. take x fates) sum ∙ take_both fates (size (take n bios)) bio.count (omega arith) in
       let a = blocks_long (take n bios) in

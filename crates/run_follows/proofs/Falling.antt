@@ -82,15 +82,12 @@ rest_none b left falls (c ∷ bs) h n = (there b left falls c.op c.k (λ p q. h.
 
 -- whether a label has one more
 
-either : (i k : ℕ) (b : Block) → ((i ≡ b.op) × (k ≡ b.k)) ⊎ (i ≡ b.op → k ≡ b.k → ⊥)
-either i k b = by (eqb i b.op) (eqb k b.k) refl refl where
+pub decide : (i k : ℕ) (b : Block) → ((i ≡ b.op) × (k ≡ b.k)) ⊎ (i ≡ b.op → k ≡ b.k → ⊥)
+decide i k b = by (eqb i b.op) (eqb k b.k) refl refl where
   by : (x y : Bool) → eqb i b.op ≡ x → eqb k b.k ≡ y → ((i ≡ b.op) × (k ≡ b.k)) ⊎ (i ≡ b.op → k ≡ b.k → ⊥)
   by true true e f = inl (eqb-true i b.op e, eqb-true k b.k f)
   by true false e f = inr (λ p q. false≢true (sym f ∙ eq-eqb k b.k q))
   by false y e f = inr (λ p q. false≢true (sym e ∙ eq-eqb i b.op p))
-
-pub decide : (i k : ℕ) (b : Block) → ((i ≡ b.op) × (k ≡ b.k)) ⊎ (i ≡ b.op → k ≡ b.k → ⊥)
-decide i k b = either i k b
 
 -- these are all the blocks of a group, with their statuses
 abbrev pub AllCut : (ℕ → ℕ → Status) → List Block → Type 0

@@ -1,7 +1,7 @@
 -- A group of a write over a rig whose store call may have failed at one of its blocks.
-use Rattle.std.proofs.Common.{◌≡◌, ◌<◌, ◌≤◌, ◌⊎◌, inl, inr, ℕ, zero, suc, Bool, true, false, ◌&&◌, ◌||◌, eqb, if◌then◌else◌, List, [], ◌∷◌, ◌++◌, length, map, take, get_or, set, Option, Some, None, refl, sym, ap, subst, ◌∙◌, arith}
+use Rattle.std.proofs.Common.{◌≡◌, ◌<◌, ◌≤◌, ◌⊎◌, inl, inr, ℕ, zero, suc, Bool, true, false, ◌&&◌, eqb, if◌then◌else◌, List, [], ◌∷◌, ◌++◌, length, map, take, get_or, set, Option, Some, None, refl, sym, ap, subst, ◌∙◌, arith}
 use Rattle.std.specs.Prelude.{Result, Ok, Err, IfSome, ltb}
-use Rattle.std.proofs.lemmas.Bool.{eqb-true, false≢true}
+use Rattle.std.proofs.lemmas.Bool.{eqb-true, false≢true, or_parts}
 use Rattle.page_pool.specs.Cells.{scatter}
 use Rattle.pi_tuple.specs.declared.checks.Check.{Check}
 use Rattle.target_answer.specs.declared.units.UnitSpec.{UnitSpec}
@@ -35,6 +35,7 @@ use Rattle.run_follows.proofs.Devices.{fall_alike}
 use Rattle.run_follows.proofs.Falling.{NoneFall, all_really, decide, elsewhere_still, fall_at, fall_if, falls_by, here, none_of_rest, rest_none, there, with_fall}
 use Rattle.run_follows.proofs.Forgiving.{AllDir, AreFresh}
 use Rattle.run_follows.proofs.Switching.{out_same}
+use Rattle.run_follows.proofs.Ends.{one as one_more}
 
 abbrev Came : Type 0
 Came = Result (List ℕ) Why
@@ -66,13 +67,6 @@ falls_here None (Ok stored) b i k More = More
 falls_here None (Err why) b i k More = ⊥
 falls_here (Some left) came b i k More = (i ≡ b.op) × (k ≡ b.k)
 
-pub both : (x y : Bool) → (x || y) ≡ false → (x ≡ false) × (y ≡ false)
-both false y h = (refl, h)
-both true y h = absurd (false≢true (sym h))
-
-pub one_more : {X : Type 0} (x y : X) (xs ys : List X) → x ≡ y → xs ≡ ys → (x ∷ xs) ≡ (y ∷ ys)
-one_more x y xs ys e f = ap (λ z. z ∷ xs) e ∙ ap (λ zs. y ∷ zs) f
-
 pub nothing_really : (falls : Falls) (bs : List Block) → all_really falls bs [] ≡ []
 nothing_really falls [] = refl
 nothing_really falls (b ∷ bs) = refl
@@ -97,7 +91,7 @@ why_of d Good = d
 why_of d (Bad why) = why
 why_of d Untouched = d
 
-still_out : (bs : List Block) (status : ℕ → ℕ → Status) → with_fates bs (out_fates bs []) status ≡ status
+pub still_out : (bs : List Block) (status : ℕ → ℕ → Status) → with_fates bs (out_fates bs []) status ≡ status
 still_out [] status = refl
 still_out (b ∷ bs) status = still_out bs status
 
@@ -176,7 +170,7 @@ module _ (a : Adapter) (ios : List Io) (units : List UnitSpec) (cells : List ℕ
   pub ways_plain : (bs : List Block) → any_bad (map (sends a ios cells) bs) ≡ false → ways_out a ios cells bs ≡ plain_ways bs
   ways_plain [] good = refl
   ways_plain (b ∷ bs) good =
-      let g = both (is_bad (sends a ios cells b)) (any_bad (map (sends a ios cells) bs)) good in
+      let g = or_parts (is_bad (sends a ios cells b)) (any_bad (map (sends a ios cells) bs)) good in
       one_more _ _ _ _ (way_over (target a.tamper) b g.0) (ways_plain bs g.1)
 
   real_none : (falls : Falls) (bs : List Block) → NoneFall falls bs → real_ways falls bs ≡ plain_ways bs
@@ -372,7 +366,7 @@ module _ (a : Adapter) (ios : List Io) (units : List UnitSpec) (cells : List ℕ
 
     pub all_go : (bs : List Block) → AllDir Write bs → any_bad (map (sends a ios cells) bs) ≡ false → AllGoOut (over_falls m falls) a ios cells bs (walk_cames falls bs)
     all_go [] d good = refl
-    all_go (b ∷ bs) d good = let g = both (is_bad (sends a ios cells b)) (any_bad (map (sends a ios cells) bs)) good in by (falls (label_of b)) (stored b) (goes b g.0) (all_go bs d.1 g.1) where
+    all_go (b ∷ bs) d good = let g = or_parts (is_bad (sends a ios cells b)) (any_bad (map (sends a ios cells) bs)) good in by (falls (label_of b)) (stored b) (goes b g.0) (all_go bs d.1 g.1) where
       by : (o : Option (List ℕ)) (came : Came) → goes_out m.site.faults (falling falls m.site.device) (route_of a ios b) (frame_in ios cells b) ≡ at_device (sent b) (stores_or o came) → AllGoOut (over_falls m falls) a ios cells bs (walk_cames falls bs) →
           AllGoOut (over_falls m falls) a ios cells (b ∷ bs) (came_here o came (sent b) (walk_cames falls bs))
       by None (Ok st) q h = (d.0, ((st, q), h))
@@ -392,7 +386,7 @@ module _ (a : Adapter) (ios : List Io) (units : List UnitSpec) (cells : List ℕ
         (plain act (out_acts (over_falls m falls) a ios bs (walk_cames falls bs)) now).blocks ≡ fill falls bs (plain act (take (length (frames_out (real_ways falls bs))) (acts_out a ios units bs)) now).blocks
     blocks_walk [] now p good = refl
     blocks_walk (b ∷ bs) now p good =
-        let g = both (is_bad (sends a ios cells b)) (any_bad (map (sends a ios cells) bs)) good in
+        let g = or_parts (is_bad (sends a ios cells b)) (any_bad (map (sends a ios cells) bs)) good in
         by (falls (label_of b)) refl (stored b) (ap (λ x. goes_out m.site.faults (falling falls m.site.device) (route_of a ios b) (frame_in ios x b)) p ∙ goes b g.0) (λ now p. blocks_walk bs now p g.1)
       where
         by : (o : Option (List ℕ)) → falls (label_of b) ≡ o → (came : Came) → goes_out m.site.faults (falling falls m.site.device) (route_of a ios b) (frame_in ios now.bytes b) ≡ at_device (sent b) (stores_or o came) →

@@ -5,6 +5,7 @@ use Rattle.std.proofs.lemmas.List.{map-append, take-map, drop-map}
 use Rattle.page_pool.specs.Cells.{cell}
 use Rattle.page_pool.specs.Places.{places_in, range_of, run}
 use Rattle.range_gate.specs.Cells.{cells_of, in_turn}
+use Rattle.range_gate.proofs.Turns.{take_turn, run_cells}
 use Rattle.run_laws.specs.ScriptMoves.{own_at}
 use Rattle.run_follows.specs.Requests.{pages_for, private_tuples}
 use Rattle.run_follows.proofs.Private.{tuples_from}
@@ -13,20 +14,10 @@ turn_join : (from a b : ℕ) → in_turn from (a + b) ≡ in_turn from a ++ in_t
 turn_join from zero b = let e : from + 0 ≡ from = omega arith in let f : 0 + b ≡ b = omega arith in ap (in_turn from) f ∙ ap (λ z. in_turn z b) (sym e)
 turn_join from (suc a) b = let e : suc from + a ≡ from + suc a = omega arith in let f : suc a + b ≡ suc (a + b) = omega arith in ap (in_turn from) f ∙ ap (λ l. from ∷ l) (turn_join (suc from) a b ∙ ap (λ z. in_turn (suc from) a ++ in_turn z b) e)
 
-take_turn : (from n k : ℕ) → k ≤ n → take k (in_turn from n) ≡ in_turn from k
-take_turn from n zero h = refl
-take_turn from zero (suc k) h = absurd (omega arith)
-take_turn from (suc n) (suc k) h = ap (λ l. from ∷ l) (take_turn (suc from) n k (omega arith))
-
 drop_turn : (from n k : ℕ) → k ≤ n → drop k (in_turn from n) ≡ in_turn (from + k) (n - k)
 drop_turn from n zero h = let e : from + 0 ≡ from = omega arith in let f : n - 0 ≡ n = omega arith in rw (e, f) refl
 drop_turn from zero (suc k) h = absurd (omega arith)
 drop_turn from (suc n) (suc k) h = let e : suc from + k ≡ from + suc k = omega arith in let f : suc n - suc k ≡ n - k = omega arith in rw f (drop_turn (suc from) n k (omega arith) ∙ ap (λ z. in_turn z (n - k)) e)
-
-run_cells : (page off n : ℕ) → map cell (run page off n) ≡ in_turn (4096 * page + off) n
-unfolding run
-run_cells page off zero = refl
-run_cells page off (suc n) = let e : 4096 * page + (off + 1) ≡ suc (4096 * page + off) = omega arith in ap (λ l. (4096 * page + off) ∷ l) (run_cells page (off + 1) n ∙ ap (λ z. in_turn z n) e)
 
 -- the pages from the k-th on
 pages_cells : (page count k m : ℕ) → cells_of (tuples_from page count k m) ≡ in_turn (4096 * (page + k)) (min (8 * (count - 512 * k)) (4096 * m))

@@ -1,5 +1,5 @@
 -- From a group's command to the entries and ends of its blocks.
-use Rattle.std.proofs.Common.{◌≡◌, ◌<◌, ◌≤◌, ◌+◌, ℕ, zero, suc, Bool, true, false, if◌then◌else◌, List, [], ◌∷◌, ◌++◌, length, map, take, drop, Option, refl, sym, ap, subst, ◌∙◌, arith, length-append, append-nil}
+use Rattle.std.proofs.Common.{◌≡◌, ◌<◌, ◌≤◌, ◌+◌, ℕ, zero, suc, Bool, true, false, if◌then◌else◌, List, [], ◌∷◌, ◌++◌, length, map, take, Option, refl, sym, ap, subst, ◌∙◌, arith, length-append, append-nil}
 use Rattle.std.specs.Prelude.{min, ltb, Result, Ok, Err}
 use Rattle.std.specs.List.{All}
 use Rattle.std.proofs.lemmas.List.{length-map, length-take}
@@ -18,6 +18,7 @@ use Rattle.cdb_codec.specs.declared.choice.Dir2.TheVariants.{In, Out}
 use Rattle.cdb_codec.specs.declared.command.Rw.{Rw}
 use Rattle.cdb_codec.proofs.Inverse.{decoded_form}
 use Rattle.target_answer.specs.Frames.{frames_of, joined, sent_size}
+use Rattle.target_answer.proofs.FrameLaws.{frames_length}
 use Rattle.rig_api.specs.Log.{Entry}
 use Rattle.rig_api.specs.State.{RigState}
 use Rattle.block_path.specs.Blocks.{Sent, Site}
@@ -33,6 +34,7 @@ use Rattle.dix_adapter.proofs.Asking.{asked-for, count-is, fields_of, lba-is, pr
 use Rattle.dix_adapter.proofs.Blocks.{length-blocks, length-in}
 use Rattle.dix_adapter.proofs.Landing.{group-width}
 use Rattle.dix_adapter.proofs.Runs.{AllLong, cut-joined, group-wide, width-sent, width_for}
+use Rattle.dix_adapter.proofs.GoingIn.{part-long}
 use Rattle.run_follows.specs.OnRecord.{GoesOnRecord, put_each}
 
 one_more : (m : Setting) (log : List Entry) (e : Entry) (es : List Sent) → put_entries m (log ++ (e ∷ [])) es ≡ put_decoded m (decoded e.what.cdb) e (put_entries m log es)
@@ -146,10 +148,6 @@ module _ (m : Setting) (a : Adapter) (ios : List Io) (req : List Bio) (pool : Li
       ∙ ap (λ x. put_decoded m x e (recorded m old.log)) (decoded_form cmd (subst Fits d r.fits))
       ∙ ap (λ x. put_request m x e (recorded m old.log)) (asked-for a Out first.lba n)
 
-  frames_many : (w k : ℕ) (bytes : List ℕ) → length (frames_of w k bytes) ≡ k
-  frames_many w zero bytes = refl
-  frames_many w (suc k) bytes = ap suc (frames_many w k (drop w bytes))
-
   pub goes_in : (pool' : List (List ℕ)) (fates : List Fate) (old new : RigState) → first.dir ≡ Read → (r : RecordedIn a ios req pool pool' fates old new) →
       GoesOnRecord m req r.entry.what.outcome (frames_of (frame_len a ios req) (done_of n r.entry.what.outcome) r.entry.moved) old.log new.log
   goes_in pool' fates old new w r =
@@ -157,12 +155,7 @@ module _ (m : Setting) (a : Adapter) (ios : List Io) (req : List Bio) (pool : Li
       let width : sent_size c.protect m.size ≡ frame_len a ios req = wire ∙ sym (group-width a pool m.size ios req g) in
       in_decoded old new r.entry r.what w
       ∙ rw_is m Read c r.entry (blocks_in req) first.dev first.lba n (frames_of (frame_len a ios req) done r.entry.moved) (recorded m old.log) r.what.dev (lba-is a first.lba n) (count-is a first.lba n) r.what.labels
-      (ap (λ k. frames_of k done r.entry.moved) width) (subst (λ d. InTurn d first.dev first.lba (blocks_in req)) w turn) (length-in req) (frames_many (frame_len a ios req) done r.entry.moved)
-
-  long_front : (w k : ℕ) (fs : List (List ℕ)) → AllLong w fs → AllLong w (take k fs)
-  long_front w zero fs h = tt
-  long_front w (suc k) [] h = tt
-  long_front w (suc k) (f ∷ fs) h = (h.0, long_front w k fs h.1)
+      (ap (λ k. frames_of k done r.entry.moved) width) (subst (λ d. InTurn d first.dev first.lba (blocks_in req)) w turn) (length-in req) (frames_length (frame_len a ios req) done r.entry.moved)
 
   pub goes_out : (fates : List Fate) (old new : RigState) → first.dir ≡ Write → any_bad (map (sends a ios (flat pool)) (blocks_in req)) ≡ false → (r : RecordedOut a ios req (flat pool) fates old new) →
       GoesOnRecord m req r.entry.what.outcome (take (done_of n r.entry.what.outcome) (map frame_sent (map (sends a ios (flat pool)) (blocks_in req)))) old.log new.log
@@ -178,7 +171,7 @@ module _ (m : Setting) (a : Adapter) (ios : List Io) (req : List Bio) (pool : Li
       ap (λ k. frames_of k done r.entry.moved) wire
       ∙ ap (frames_of (width_for a m.size) done) (r.moved ∙ sym (append-nil (joined frames)))
       ∙ ap (λ k. frames_of (width_for a m.size) k (joined frames ++ [])) (sym count)
-      ∙ cut-joined (width_for a m.size) frames [] (long_front (width_for a m.size) done all wide) in
+      ∙ cut-joined (width_for a m.size) frames [] (part-long (width_for a m.size) done all wide) in
       out_decoded old new r.entry r.what w
       ∙ rw_is m Write c r.entry (blocks_in req) first.dev first.lba n frames (recorded m old.log) r.what.dev (lba-is a first.lba n) (count-is a first.lba n) r.what.labels cut
       (subst (λ d. InTurn d first.dev first.lba (blocks_in req)) w turn) (length-in req) count

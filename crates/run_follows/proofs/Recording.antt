@@ -7,9 +7,9 @@ use Rattle.page_pool.specs.Cells.{flat}
 use Rattle.pi_tuple.specs.declared.checks.Check.{Check}
 use Rattle.fault_schedule.specs.declared.Label.{Label}
 use Rattle.target_answer.specs.Frames.{frames_of}
+use Rattle.target_answer.proofs.FrameLaws.{frames_length}
 use Rattle.rig_api.specs.declared.rig.Outcome.{Outcome}
 use Rattle.rig_api.specs.State.{RigState}
-use Rattle.dix_adapter.proofs.Units.{frames-count}
 use Rattle.bio_core.specs.Bios.{Block}
 use Rattle.bio_core.specs.declared.bio.Bio.{Bio}
 use Rattle.bio_core.specs.declared.fate.Fate.{Fate}
@@ -321,7 +321,7 @@ module _ (m : Setting) (n : ℕ) (ops : List Op) (a : Adapter) (ios : List Io) (
       let es = recorded m old.log in
       let frames = frames_of (frame_len a ios req) (done_of (size req) o) r.entry.moved in
       let cames = came_of (size req) o.done o.sense frames in
-      let count = frames-count (frame_len a ios req) (done_of (size req) o) r.entry.moved in
+      let count = frames_length (frame_len a ios req) (done_of (size req) o) r.entry.moved in
       let put : recorded m new.log ≡ put_each m.site bs cames es = goes_in m a ios req pool protect g pool' fates old new w r in
       let fate : in_fates a ios bs cames ≡ fates = in_fates_are (size req) o bs (length-in req) a ios frames count ∙ sym r.fates_are in
       subst (λ x. NoneBefore (with_fates bs fates status) x) (sym put) (subst (λ f. NoneBefore (with_fates bs f status) (put_each m.site bs cames es)) fate
@@ -352,7 +352,7 @@ module _ (m : Setting) (n : ℕ) (ops : List Op) (a : Adapter) (ios : List Io) (
       let es' = recorded m new.log in
       let frames = frames_of (frame_len a ios req) (done_of (size req) o) r.entry.moved in
       let cames = came_of (size req) o.done o.sense frames in
-      let count = frames-count (frame_len a ios req) (done_of (size req) o) r.entry.moved in
+      let count = frames_length (frame_len a ios req) (done_of (size req) o) r.entry.moved in
       let put : es' ≡ put_each m.site bs cames es = goes_in m a ios req pool protect g pool' fates old new w r in
       let each = subst (λ x. EachCame x bs cames) (sym put) (each_came m n ops a ios (length opening.logs) status bs spots cames es going (all_none m n ops a ios (length opening.logs) status es bs spots going none)) in
       let before = λ (i k : ℕ) (c : is_carried (status i k) ≡ true). told_before m n ops a ios (length opening.logs) status bs spots cames es going i k c ∙ ap (λ x. came_by x (label_at i k)) (sym put) in

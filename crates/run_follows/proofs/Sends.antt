@@ -33,6 +33,7 @@ use Rattle.run_follows.specs.Gate.{AreOver, LetsIn, Spot, is_over, number, ops_o
 use Rattle.run_follows.specs.Sending.{AllComeIn, AllGoOut, AllGoing, Carriage, HeldBack, IsElsewhere, IsGoing, NoneBefore, SentIn, SentOut, carriage_of, fate_in, in_fates, is_carried, out_fates, land_all, land_one, with_fate, with_fates, with_status}
 use Rattle.run_follows.specs.Slots.{Carried, Cut, Status, parts_of, write_parts}
 use Rattle.run_follows.proofs.Carrying.{carried}
+use Rattle.run_follows.proofs.Outward.{still_out}
 
 -- statuses
 
@@ -169,10 +170,6 @@ one_block m n ops a ios opening now status es b s c e why g q t h = put_block m 
 
 -- the ones behind stay cut
 
-pub untouched_out : (bs : List Block) (status : ℕ → ℕ → Status) → with_fates bs (out_fates bs []) status ≡ status
-untouched_out [] status = refl
-untouched_out (b ∷ bs) status = untouched_out bs status
-
 untouched_in : (a : Adapter) (ios : List Io) (bs : List Block) (status : ℕ → ℕ → Status) → with_fates bs (in_fates a ios bs []) status ≡ status
 untouched_in a ios [] status = refl
 untouched_in a ios (b ∷ bs) status = untouched_in a ios bs status
@@ -187,7 +184,7 @@ module _ (m : Setting) (n : ℕ) (ops : List Op) (a : Adapter) (ios : List Io) (
   out_all [] spots cames now status es g w h = record { after = now; follows = h; bytes = refl; blocks = refl }
   out_all (b ∷ bs) spots [] now status es g w h = record {
     after = now;
-    follows = subst (λ s. Follows m n ops opening s now es) (sym (untouched_out bs status)) h;
+    follows = subst (λ s. Follows m n ops opening s now es) (sym (still_out bs status)) h;
     bytes = refl;
     blocks = refl;
   }
@@ -216,7 +213,7 @@ module _ (m : Setting) (n : ℕ) (ops : List Op) (a : Adapter) (ios : List Io) (
       record {
         after = act c now;
         follows = subst (λ cs. Follows m n ops opening (with_fates bs (out_fates bs cs) new) (act c now) (put_each m.site bs cs es')) (sym w.1.1)
-            (subst (λ st. Follows m n ops opening st (act c now) (put_each m.site bs [] es')) (sym (untouched_out bs new)) (subst (λ x. Follows m n ops opening new (act c now) x) (sym (put_nothing m bs es')) there));
+            (subst (λ st. Follows m n ops opening st (act c now) (put_each m.site bs [] es')) (sym (still_out bs new)) (subst (λ x. Follows m n ops opening new (act c now) x) (sym (put_nothing m bs es')) there));
         bytes = refl;
         blocks = ap (λ x. scatter (stored_cell m.site r ∷ []) (written_by r x [] (get_or now.logs (own_cell m.site r) [])).written.blocks now.blocks) w.1.0;
       }

@@ -4,9 +4,9 @@ use Rattle.std.specs.Prelude.{IfSome, ltb}
 use Rattle.page_pool.specs.Cells.{flat}
 use Rattle.target_answer.specs.Frames.{frames_of, joined, stored_size}
 use Rattle.target_answer.specs.Target.{Stop, Stored}
+use Rattle.target_answer.proofs.FrameLaws.{frames_length}
 use Rattle.rig_api.specs.Log.{Entry}
 use Rattle.rig_api.specs.State.{RigState}
-use Rattle.dix_adapter.proofs.Units.{frames-count}
 use Rattle.bio_core.specs.Bios.{Block}
 use Rattle.bio_core.specs.declared.bio.Bio.{Bio}
 use Rattle.bio_core.specs.declared.fate.Fate.{Fate}
@@ -84,7 +84,7 @@ module _ (m : Setting) (n : ℕ) (ops : List Op) (a : Adapter) (ios : List Io) (
       let k = done_of (size req) o in
       let frames = frames_of len k r.entry.moved in
       let cames = came_of (size req) o.done o.sense frames in
-      let count = frames-count len k r.entry.moved in
+      let count = frames_length len k r.entry.moved in
       let long = length-in req in
       let same : r.entry ≡ told.entry = last_one old.log r.entry told.entry (sym r.what.recorded ∙ told.recorded) in
       let done : o.done ≡ length (frames_in real) = ap (λ (e : Entry). e.what.outcome.done) same ∙ told.done ∙ ap (λ ws. length (frames_in ws)) ways in

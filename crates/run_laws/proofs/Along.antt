@@ -3,11 +3,13 @@ use Rattle.std.proofs.Common.{◌≡◌, ◌<◌, ◌^◌, ℕ, ◌+◌, Bool, t
 use Rattle.std.proofs.lemmas.Bool.{eqb-true, eqb-false, eq-eqb, ne_eqb, and_parts, or_parts, not-true, false≢true, cond-true, cond-false}
 use Rattle.std.proofs.lemmas.List.{length-set, get_or-set_same, get_or-set_other}
 use Rattle.pi_guard.specs.Guards.{crc}
+use Rattle.pi_guard.proofs.GuardSizes.{guard_below}
 use Rattle.pi_tuple.specs.Finds.{is_escaped}
 use Rattle.pi_tuple.specs.Tuples.{ref_tag}
 use Rattle.pi_tuple.specs.declared.tuple.Tuple.{Tuple}
 use Rattle.pi_tuple.specs.declared.checks.PiType.TheVariants.{One}
 use Rattle.pi_tuple.specs.declared.checks.Check.{Check}
+use Rattle.pi_tuple.proofs.TupleLaws.{tag_below}
 use Rattle.page_pool.specs.Cells.{gather, scatter}
 use Rattle.fault_schedule.specs.declared.fault.Crossing.TheVariants.{TargetToMedium}
 use Rattle.integrity_payload.specs.declared.payload.Owner.{Owner}
@@ -30,7 +32,7 @@ use Rattle.whole_run.specs.ScriptWalk.{act_of, changed, source_of}
 use Rattle.whole_run.specs.Settings.{Block, Setting, route}
 use Rattle.whole_run.specs.Steps.{Alters, Reads, Seals, Sets, Shows, Step, Writes, WritesPi}
 use Rattle.whole_run.specs.UnderMap.{IsClean, NoneEscapes, SuppliesNoEscape}
-use Rattle.whole_run.proofs.TupleFrames.{Small, data_is, guard_below, tag_below, tuple_is}
+use Rattle.whole_run.proofs.TupleFrames.{Small, data_is, tuple_is}
 use Rattle.whole_run.specs.ReadsAs.{said_by}
 use Rattle.run_laws.specs.ShownRun.{DevicesAreClean, HasBlock, HasCells, LiesOn, StaysNear}
 use Rattle.run_laws.proofs.Layers.{After, Fetched, IsBare, Outcome, Reading, Sound, Spoilt, checked, goes_out, reads, same_brought, why_ended}

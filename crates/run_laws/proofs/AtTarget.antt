@@ -1,5 +1,5 @@
 -- What a target stores and sends has its size.
-use Rattle.std.proofs.Common.{◌≡◌, ◌<◌, ◌≤◌, ◌+◌, ℕ, Bool, true, false, ◌&&◌, eqb, if◌then◌else◌, List, [], length, take, get_or, Option, Some, None, refl, sym, subst, ◌∙◌, arith, length-append}
+use Rattle.std.proofs.Common.{◌≡◌, ◌<◌, ◌+◌, ℕ, Bool, true, false, ◌&&◌, eqb, if◌then◌else◌, List, [], length, take, get_or, Option, Some, refl, sym, subst, ◌∙◌, arith, length-append}
 use Rattle.std.specs.Prelude.{not, IfOk, Result, Ok, Err}
 use Rattle.std.proofs.lemmas.Bool.{eq-eqb, eqb-true}
 use Rattle.std.proofs.lemmas.List.{length-take-le}
@@ -17,17 +17,15 @@ use Rattle.bio_core.specs.declared.fate.Why.{Why}
 use Rattle.target_answer.specs.Frames.{data_of, stored_size}
 use Rattle.target_answer.specs.Passing.{accepted, crossed, found_in, from_medium, released, then_crossed, to_medium, unless, with_own_tuple}
 use Rattle.target_answer.specs.declared.passage.Passage.{Passage}
+use Rattle.target_answer.proofs.FrameLaws.{stored_least}
 use Rattle.block_path.specs.Blocks.{fetched_cell, stored_cell}
 use Rattle.block_path.specs.Routes.{Device, by_target, passage, passes_tuples, target, told_by, wire_size}
 use Rattle.block_path.specs.declared.route.Route.{Route}
-use Rattle.block_path.proofs.Sizes.{altered_length, unless_length}
+use Rattle.block_path.proofs.Sizes.{unless_length}
+use Rattle.block_path.proofs.PathLaws.{crossed_length}
 use Rattle.whole_run.specs.Settings.{Block, Setting, route}
 use Rattle.run_laws.specs.BoundRun.{Suits}
 use Rattle.run_laws.specs.Suited.{IsAtTarget, keeps_size}
-
-crossed_length : (faults : List FaultLine) (label : Option Label) (at : Crossing) (frame : List ℕ) → length (crossed faults label at frame) ≡ length frame
-crossed_length faults None at frame = refl
-crossed_length faults (Some label) at frame = altered_length faults at label frame
 
 made_length : (ty : PiType) (lba : ℕ) (bytes : List ℕ) (size : ℕ) → length bytes ≡ size → length (with_own_tuple ty lba bytes) ≡ stored_size ty size
 made_length Zero lba bytes size h = h
@@ -71,12 +69,6 @@ by_size Zero true size protect l = no_field Zero size protect
 by_size One true size protect l = with_field One size protect l refl
 by_size Two true size protect l = with_field Two size protect l refl
 by_size Three true size protect l = with_field Three size protect l refl
-
-stored_least : (ty : PiType) (size : ℕ) → size ≤ stored_size ty size
-stored_least Zero size = omega arith
-stored_least One size = omega arith
-stored_least Two size = omega arith
-stored_least Three size = omega arith
 
 module _ (faults : List FaultLine) (r : Route) (l : 0 < r.mode.protect) where
   abbrev sizes : BySize (passes_tuples r) r.ty r.size r.mode.protect

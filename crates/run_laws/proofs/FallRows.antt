@@ -21,13 +21,13 @@ use Rattle.whole_run.specs.Past.{steps_from}
 use Rattle.whole_run.specs.Settings.{Block, Setting, block_of}
 use Rattle.whole_run.specs.UnderMap.{IsClean, address_of, home}
 use Rattle.whole_run.proofs.ScriptRows.{faulty, formatted, opening, seg}
-use Rattle.whole_run.proofs.TupleFrames.{no}
 use Rattle.run_laws.specs.FallingReads.{IsReadOrFails, falling_replies}
 use Rattle.run_laws.specs.FallingWrites.{FailsAtMediumAlone, finds_then}
 use Rattle.run_laws.specs.StoreFaults.{IsFallingRun, falling_past, is_lost, may_fall}
 use Rattle.run_laws.proofs.FallingOps.{reads_or_fails}
 use Rattle.run_laws.proofs.FallingWrites.{app_write_fails, own_write_fails}
 use Rattle.run_laws.proofs.ShownRows.{one_list, two_lists}
+use Rattle.small_laws.proofs.Tests.{never}
 
 abbrev m : Setting
 m = faulty []
@@ -61,7 +61,7 @@ found_again = refl
 falling_over : (script : List Op) → AllFit m script → IsFallingRun m script opening
 unfolding crc
 falling_over script fit = record {
-  calm = record { faults = refl; device = refl; fails = λ op. refl; protect = omega arith; mask = λ h. no (sym h) };
+  calm = record { faults = refl; device = refl; fails = λ op. refl; protect = omega arith; mask = λ h. never (sym h) };
   lies = record { within = within; apart = apart; size = size; bytes = bytes };
   clean = clean;
   fit = fit;

@@ -4,12 +4,14 @@ use Rattle.std.specs.Prelude.{Result, Ok, Err}
 use Rattle.std.proofs.lemmas.Bool.{cond-false, cond-true, eqb-false, eqb-true, false≢true}
 use Rattle.std.proofs.lemmas.List.{get_or-set_other, get_or-set_same, length-set}
 use Rattle.pi_guard.specs.Guards.{guard_of}
+use Rattle.pi_guard.proofs.GuardSizes.{guard_below}
 use Rattle.pi_tuple.specs.Finds.{has_ref_tag, is_zero}
 use Rattle.pi_tuple.specs.Tuples.{ref_tag}
 use Rattle.pi_tuple.specs.declared.tuple.Tuple.{Tuple}
 use Rattle.pi_tuple.specs.declared.checks.PiType.{PiType}
 use Rattle.pi_tuple.specs.declared.checks.Check.{Check}
 use Rattle.pi_tuple.specs.declared.checks.Check.TheVariants.{AppTag}
+use Rattle.pi_tuple.proofs.TupleLaws.{tag_below}
 use Rattle.page_pool.specs.Cells.{gather, scatter}
 use Rattle.integrity_payload.specs.declared.payload.Owner.{Owner}
 use Rattle.bio_core.specs.declared.fate.Why.{Why}
@@ -34,7 +36,7 @@ use Rattle.whole_run.specs.UnderMap.{AreClean, IsClean, home}
 use Rattle.whole_run.proofs.CalmRuns.{op_meets, silent_form}
 use Rattle.whole_run.proofs.CalmWays.{is_right, quiet, read_same, wire_same}
 use Rattle.whole_run.proofs.PlainSteps.{AllMeet, Meets}
-use Rattle.whole_run.proofs.TupleFrames.{Small, data_is, guard_below, tag_below, tuple_is}
+use Rattle.whole_run.proofs.TupleFrames.{Small, data_is, tuple_is}
 use Rattle.run_laws.specs.StoreFaults.{IsFallingRun, IsServed, LandsAs, events_when, failing, fallen, falling_past, falling_walk, is_lost, leaving, may_fall, or_fallen}
 use Rattle.run_laws.proofs.Framed.{retag}
 use Rattle.run_laws.proofs.Passing.{Kept, Passes, retagged}

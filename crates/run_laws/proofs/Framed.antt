@@ -10,6 +10,7 @@ use Rattle.std.proofs.lemmas.Nat.{from_be_bytes-to_be_bytes_2, from_be_bytes-to_
 use Rattle.pi_tuple.specs.Finds.{has_ref_tag}
 use Rattle.pi_tuple.specs.Tuples.{ref_tag, tuple_in}
 use Rattle.pi_tuple.specs.declared.checks.PiType.{PiType}
+use Rattle.pi_tuple.proofs.TupleLaws.{tag_below, same_fields}
 use Rattle.fault_schedule.specs.Altered.{altered, flip_at, is_line_of, named, xored_from}
 use Rattle.fault_schedule.specs.declared.Label.{Label}
 use Rattle.fault_schedule.specs.declared.fault.Crossing.{Crossing}
@@ -21,7 +22,7 @@ use Rattle.target_answer.specs.Frames.{data_of, tuple_of}
 use Rattle.block_path.specs.Routes.{with_guard}
 use Rattle.block_path.proofs.Sizes.{tuple_length}
 use Rattle.whole_run.specs.FirstLayer.{is_flip}
-use Rattle.whole_run.proofs.TupleFrames.{tag_below, three as same_tuple}
+use Rattle.small_laws.proofs.Lists.{behind_long}
 
 -- the tuple's tag, from one address to another
 abbrev pub retag : PiType → (from to : ℕ) → ℕ → ℕ
@@ -40,7 +41,7 @@ remapped_tuple ty from to (a ∷ b ∷ c ∷ d ∷ e ∷ f ∷ g ∷ []) l = abs
 remapped_tuple ty from to (a ∷ b ∷ c ∷ d ∷ e ∷ f ∷ g ∷ k ∷ []) l = by (has_ref_tag ty && eqb (from_be_bytes w32 (e ∷ f ∷ g ∷ k ∷ [])) (ref_tag from)) where
   by : (t : Bool) → tuple_in (a ∷ b ∷ c ∷ d ∷ (if t then to_be_bytes w32 (ref_tag to) else e ∷ f ∷ g ∷ k ∷ []))
       ≡ record { guard = from_be_bytes w16 (a ∷ b ∷ []); app = from_be_bytes w16 (c ∷ d ∷ []); rtag = if t then ref_tag to else from_be_bytes w32 (e ∷ f ∷ g ∷ k ∷ []) }
-  by true = same_tuple refl refl (from_be_bytes-to_be_bytes_4 (ref_tag to) (tag_below to))
+  by true = same_fields refl refl (from_be_bytes-to_be_bytes_4 (ref_tag to) (tag_below to))
   by false = refl
 remapped_tuple ty from to (a ∷ b ∷ c ∷ d ∷ e ∷ f ∷ g ∷ k ∷ m ∷ more) l = absurd (omega (arith, l))
 
@@ -54,7 +55,7 @@ reguarded_tuple guard (a ∷ b ∷ c ∷ d ∷ []) l h = absurd (omega (arith, l
 reguarded_tuple guard (a ∷ b ∷ c ∷ d ∷ e ∷ []) l h = absurd (omega (arith, l))
 reguarded_tuple guard (a ∷ b ∷ c ∷ d ∷ e ∷ f ∷ []) l h = absurd (omega (arith, l))
 reguarded_tuple guard (a ∷ b ∷ c ∷ d ∷ e ∷ f ∷ g ∷ []) l h = absurd (omega (arith, l))
-reguarded_tuple guard (a ∷ b ∷ c ∷ d ∷ e ∷ f ∷ g ∷ k ∷ []) l h = same_tuple (from_be_bytes-to_be_bytes_2 guard h) refl refl
+reguarded_tuple guard (a ∷ b ∷ c ∷ d ∷ e ∷ f ∷ g ∷ k ∷ []) l h = same_fields (from_be_bytes-to_be_bytes_2 guard h) refl refl
 reguarded_tuple guard (a ∷ b ∷ c ∷ d ∷ e ∷ f ∷ g ∷ k ∷ m ∷ more) l h = absurd (omega (arith, l))
 
 -- the frame y is x under this guard and this tag
@@ -68,7 +69,7 @@ module _ (n : ℕ) (frame : List ℕ) (size : length frame ≡ n + 8) where
   front = length-take-le n frame (omega (arith, size))
 
   eight : length (drop n frame) ≡ 8
-  eight = let l = length-drop n frame in omega (arith, l, size)
+  eight = behind_long n 8 frame size
 
   -- the frame whose tag was mapped
   abbrev pub mapped : PiType → ℕ → ℕ → List ℕ
@@ -103,7 +104,7 @@ module _ (n : ℕ) (frame : List ℕ) (size : length frame ≡ n + 8) where
         ap tuple_in (drop_at (take n frame) (to_be_bytes w16 guard ++ drop (n + 2) frame) n front)
         ∙ ap (λ rest. tuple_in (to_be_bytes w16 guard ++ rest)) (sym (drop-drop 2 n frame))
         ∙ reguarded_tuple guard (drop n frame) eight h
-        ∙ same_tuple refl refl e;
+        ∙ same_fields refl refl e;
   }
 
 -- a crossing at which no line flips a byte

@@ -6,11 +6,13 @@ use Rattle.std.proofs.lemmas.Int.{ints}
 use Rattle.pi_guard.specs.Guards.{crc, guard_of}
 use Rattle.pi_guard.specs.declared.GuardKind.{GuardKind}
 use Rattle.pi_guard.specs.declared.GuardKind.TheVariants.{Crc, Ip}
+use Rattle.pi_guard.proofs.GuardSizes.{guard_below}
 use Rattle.pi_tuple.specs.Finds.{finding, is_escaped}
 use Rattle.pi_tuple.specs.Tuples.{ref_tag}
 use Rattle.pi_tuple.specs.declared.tuple.Tuple.{Tuple}
 use Rattle.pi_tuple.specs.declared.checks.PiType.TheVariants.{One}
 use Rattle.pi_tuple.specs.declared.checks.Check.{Check}
+use Rattle.pi_tuple.proofs.TupleLaws.{same_fields}
 use Rattle.fault_schedule.specs.Altered.{shift_of}
 use Rattle.fault_schedule.specs.declared.fault.Crossing.{Crossing}
 use Rattle.fault_schedule.specs.declared.fault.Crossing.TheVariants.{AdapterToHost, AdapterToTarget, HostToAdapter, MediumToTarget, TargetToAdapter, TargetToMedium}
@@ -24,12 +26,12 @@ use Rattle.block_path.specs.Routes.{by_target, converted, is_crc, medium_lba, mo
 use Rattle.block_path.specs.WayIn.{Delivers, Spoils, Stops, WayIn, at_host, delivered_unless, from_device, from_wire, mapped_back, owner_says, received, verified, way_in}
 use Rattle.block_path.specs.WayOut.{Fails, Refuses, Stores, WayOut, adapter_finds_out, at_device, from_adapter, mapped_out, sent, to_wire, way_out}
 use Rattle.block_path.proofs.Sizes.{altered_length}
+use Rattle.block_path.proofs.PathLaws.{as_crc, as_ip}
 use Rattle.whole_run.specs.Detectable.{arrives, asks_app, bears, bears_some, crossed, found, guard_at, if_passed, is_foreign, is_not_meant, shows, shows_at_medium, shows_in, shows_on_wire, shows_out}
 use Rattle.whole_run.specs.FirstLayer.{AtAdapter, AtOwner, AtTarget, Layer, has_flip, has_shift}
 use Rattle.whole_run.specs.Past.{Brought, brought_by}
 use Rattle.whole_run.specs.PlainMap.{as_expected}
 use Rattle.whole_run.specs.Settings.{Block, Setting, route}
-use Rattle.whole_run.proofs.TupleFrames.{guard_below, three as same_tuple}
 use Rattle.whole_run.specs.ReadsAs.{said_by}
 use Rattle.run_laws.specs.ShownRun.{StaysNear}
 use Rattle.run_laws.proofs.Found.{Bears, IsFound, asked_on, bears_both, expected, found_something, from_both, is_found, passed, passes_if, unless_rule, unmasked}
@@ -168,18 +170,10 @@ module _ (m' : Setting) where
       IsUnderTuple n new (ref_tag a) x (converted (route m b) to x)
   converted_under to old new a x h k same other b = by (is_crc kind) same other where
     by : (c : Bool) → (c ≡ true → old ≡ new) → (c ≡ false → guard_of to (data_of n x) ≡ new) → IsUnderTuple n new (ref_tag a) x (if c then x else with_guard n (guard_of to (data_of n x)) x)
-    by true same other = record { size = h.size; body = refl; tuple = same_tuple (k.guard ∙ same refl) refl k.rtag }
+    by true same other = record { size = h.size; body = refl; tuple = same_fields (k.guard ∙ same refl) refl k.rtag }
     by false same other =
         subst (λ g. IsUnderTuple n g (ref_tag a) x (with_guard n (guard_of to (data_of n x)) x)) (other refl)
         (guarded n x h.size (guard_of to (data_of n x)) (guard_below to (data_of n x)) (ref_tag a) k.rtag)
-
-  as_crc : (k : GuardKind) (x : List ℕ) → is_crc k ≡ true → guard_of k x ≡ crc x
-  as_crc Crc x h = refl
-  as_crc Ip x h = absurd (false≢true h)
-
-  as_ip : (k : GuardKind) (x : List ℕ) → is_crc k ≡ false → guard_of Ip x ≡ guard_of k x
-  as_ip Crc x h = absurd (false≢true (sym h))
-  as_ip Ip x h = refl
 
   pub sent_under : (a : ℕ) (x : List ℕ) → IsBare n x → Bears (tuple_of n x) (guard_of kind (data_of n x)) (ref_tag a) → (b : Block) → IsUnderTuple n (crc (data_of n x)) (ref_tag a) x (sent (route m b) x)
   sent_under a x h k b = converted_under Crc (guard_of kind (data_of n x)) (crc (data_of n x)) a x h k (as_crc kind (data_of n x)) (λ _. refl) b
@@ -494,7 +488,7 @@ module _ (m' : Setting) where
         body = mapped_body n y h.size One (lba b) b.virt ∙ h.body;
         tuple =
             mapped_tuple n y h.size One (lba b) b.virt
-            ∙ same_tuple (ap (λ (t : Tuple). t.guard) h.tuple) (ap (λ (t : Tuple). t.app) h.tuple) (ap (λ c. if c then ref_tag b.virt else (tuple_of n y).rtag) q);
+            ∙ same_fields (ap (λ (t : Tuple). t.guard) h.tuple) (ap (λ (t : Tuple). t.app) h.tuple) (ap (λ c. if c then ref_tag b.virt else (tuple_of n y).rtag) q);
       }
 
   record PastOwner (b : Block) (stored : List ℕ) : Type 0 where

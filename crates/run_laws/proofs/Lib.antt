@@ -16,7 +16,7 @@ pub mod Turns
 pub mod Inside
 pub mod Meeting
 pub mod BlocksApart
-mod Behind
+pub mod Behind
 mod Does
 pub mod Ordered
 mod Fallen

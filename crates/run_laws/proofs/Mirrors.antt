@@ -22,12 +22,12 @@ use Rattle.whole_run.specs.ScriptWalk.{act_of}
 use Rattle.whole_run.specs.Settings.{Setting, route}
 use Rattle.whole_run.specs.Steps.{Alters, Reads, Seals, Sets, Shows, Step, Writes, WritesPi}
 use Rattle.whole_run.specs.ReadsAs.{listed_in}
-use Rattle.whole_run.proofs.TupleFrames.{no as no_false}
 use Rattle.run_laws.specs.BackedRun.{HasEnd, HasEntry, IsFound, IsInTurn, IsListedAs, OfRead, OfRequest, PassesIn, host_finds, host_lists, is_outside}
 use Rattle.run_laws.specs.Records.{end_in, entry_for, entry_in}
 use Rattle.run_laws.specs.TakenWalk.{carried_of, frame_in, landed_of, taken_act, taken_in, taken_out}
 use Rattle.run_laws.specs.ToldRun.{came_by, came_in, told}
 use Rattle.run_laws.proofs.Labelled.{Filed}
+use Rattle.small_laws.proofs.Tests.{never}
 
 -- all that the sentences say of one block
 pub record Fine (m : Setting) (es : List Sent) (a : Answer) : Type 0 where
@@ -69,7 +69,7 @@ module _ (m : Setting) (es : List Sent) (r : Route) where
     of = refl;
     why = refl;
     shown = refl;
-    fine = record { delivered = tt; in_turn = tt; passes = tt; listed = rw f tt; caused = λ h. no_false h; spoiled = tt };
+    fine = record { delivered = tt; in_turn = tt; passes = tt; listed = rw f tt; caused = λ h. never h; spoiled = tt };
   }
   write_by None (Err why) frame back log e f = record {
     written = refl;
@@ -134,7 +134,7 @@ module _ (m : Setting) (es : List Sent) (r : Route) where
       in_turn = λ e. no_some e;
       passes = λ e. no_some e;
       listed = rw f tt;
-      caused = λ e. no_false e;
+      caused = λ e. never e;
       spoiled = λ _ _. (record { frame = frame; after = after }, (ap entry_in f, h frame refl));
     };
   }
@@ -148,7 +148,7 @@ module _ (m : Setting) (es : List Sent) (r : Route) where
       in_turn = λ e. no_some e;
       passes = λ e. no_some e;
       listed = rw f tt;
-      caused = λ e. no_false (sym (inside owner check) ∙ e);
+      caused = λ e. never (sym (inside owner check) ∙ e);
       spoiled = λ _ _. (record { frame = frame; after = after }, (ap entry_in f, h frame refl));
     };
   }

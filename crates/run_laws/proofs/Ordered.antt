@@ -23,6 +23,7 @@ use Rattle.run_laws.specs.ScriptMoves.{ByMoves, all_moves, answers_from, blocks_
 use Rattle.run_laws.proofs.Does.{Does, IsOwn, IsReady, IsShaped, does_step, keeps}
 use Rattle.run_laws.proofs.Turns.{from_less, turn_below, turn_distinct, turn_from, turn_length}
 use Rattle.run_laws.proofs.Inside.{room_enough}
+use Rattle.run_laws.proofs.Labelled.{tells_append}
 
 abbrev pub wholes : List ByMoves → List (Act Answer)
 wholes [] = []
@@ -43,10 +44,6 @@ wholes_are m from fate k (step ∷ steps) =
     let first = whole_is m (own_at from k) (fate + k) step in
     let rest = wholes_are m from fate (suc k) steps in
     ap (λ a. a ∷ wholes (blocks_from m from fate (suc k) steps)) first ∙ ap (λ acts. act_of m step ∷ acts) rest
-
-tells_append : (xs ys : List (Act Answer)) (s : State) → plain_tells act tell (xs ++ ys) s ≡ plain_tells act tell xs s ++ plain_tells act tell ys (plain act xs s)
-tells_append [] ys s = refl
-tells_append (x ∷ xs) ys s = ap (λ rest. tell x s ∷ rest) (tells_append xs ys (act x s))
 
 module _ (m : Setting) (fine : ℕ → List ℕ → Bool) (n : ℕ) (opening : State) (room : n ≤ length opening.bytes) where
   abbrev Shaped : State → Type 0

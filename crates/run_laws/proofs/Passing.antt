@@ -4,6 +4,7 @@ use Rattle.std.specs.Prelude.{bit_and}
 use Rattle.std.proofs.lemmas.Bool.{eq-eqb, eqb-true, false≢true}
 use Rattle.pi_guard.specs.Guards.{crc, guard_of}
 use Rattle.pi_guard.specs.declared.GuardKind.{GuardKind}
+use Rattle.pi_guard.proofs.GuardSizes.{guard_below}
 use Rattle.pi_tuple.specs.Finds.{finding, first_of, has_ref_tag, is_escaped, is_zero}
 use Rattle.pi_tuple.specs.Tuples.{ref_tag}
 use Rattle.pi_tuple.specs.declared.tuple.Tuple.{Tuple}
@@ -19,7 +20,7 @@ use Rattle.whole_run.specs.Past.{Brought}
 use Rattle.whole_run.specs.PlainMap.{all_pass, as_expected}
 use Rattle.whole_run.specs.Settings.{Setting}
 use Rattle.whole_run.proofs.CalmWays.{quiet}
-use Rattle.whole_run.proofs.TupleFrames.{finds_none, guard_below}
+use Rattle.whole_run.proofs.TupleFrames.{finds_none}
 use Rattle.run_laws.proofs.Framed.{guarded, retag}
 
 abbrev pub unguarded : Tuple → (guard : ℕ) → Tuple
@@ -43,12 +44,6 @@ host_same Zero h = absurd (false≢true (sym h))
 host_same One h = refl
 host_same Two h = refl
 host_same Three h = refl
-
-pub never_zero : (ty : PiType) → is_zero (host_type ty) ≡ false
-never_zero Zero = refl
-never_zero One = refl
-never_zero Two = refl
-never_zero Three = refl
 
 pub retagged : (ty : PiType) (from to : ℕ) → has_ref_tag ty ≡ true → retag ty from to (ref_tag from) ≡ ref_tag to
 retagged ty from to h =

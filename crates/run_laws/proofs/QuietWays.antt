@@ -1,19 +1,21 @@
 -- One block on its way where nothing alters it, with any tuple: in every mode, for every type, and for escapes too.
 use Rattle.std.proofs.Common.{◌≡◌, ◌<◌, ◌≤◌, ◌^◌, ℕ, ◌+◌, Bool, true, false, eqb, ◌&&◌, not, if◌then◌else◌, List, [], length, Option, Some, None, refl, sym, ap, subst, ◌∙◌, inl, inr, arith, length-append}
-use Rattle.std.specs.Prelude.{bit_and, Result, Ok, Err}
-use Rattle.std.specs.Int.Bits.{and_zero_r}
-use Rattle.std.proofs.lemmas.Bool.{and_parts, eqb-true, false≢true, ne_eqb, not-true}
+use Rattle.std.specs.Prelude.{Result, Ok, Err}
+use Rattle.std.proofs.lemmas.Bool.{and_parts, false≢true, not-true}
 use Rattle.std.proofs.lemmas.List.{length-take-le, take-take, take_all}
 use Rattle.pi_guard.specs.Guards.{crc, guard_of}
 use Rattle.pi_guard.specs.declared.GuardKind.{GuardKind}
 use Rattle.pi_guard.specs.declared.GuardKind.TheVariants.{Crc, Ip}
+use Rattle.pi_guard.proofs.GuardSizes.{guard_below}
 use Rattle.pi_tuple.specs.Finds.{finding, has_ref_tag, is_escaped, is_zero, own_tag}
 use Rattle.pi_tuple.specs.Tuples.{ref_tag}
 use Rattle.pi_tuple.specs.declared.tuple.Tuple.{Tuple}
 use Rattle.pi_tuple.specs.declared.checks.PiType.{PiType}
 use Rattle.pi_tuple.specs.declared.checks.PiType.TheVariants.{One, Three, Two, Zero}
 use Rattle.pi_tuple.specs.declared.checks.Check.{Check}
+use Rattle.pi_tuple.proofs.TupleLaws.{tag_below, own_is}
 use Rattle.fault_schedule.specs.declared.fault.Crossing.TheVariants.{AdapterToHost, AdapterToTarget, HostToAdapter, MediumToTarget, TargetToAdapter, TargetToMedium}
+use Rattle.fault_schedule.proofs.Unaltered.{altered_none}
 use Rattle.integrity_payload.specs.Payloads.{all_asked}
 use Rattle.integrity_payload.specs.declared.payload.Owner.{Owner}
 use Rattle.target_answer.specs.Frames.{data_of, frame_of, stored_size, tuple_of}
@@ -22,13 +24,15 @@ use Rattle.block_path.specs.declared.route.Route.{Route}
 use Rattle.block_path.specs.Routes.{Device, by_target, converted, host_type, is_crc, passage, passes_tuples, target, wire_lba}
 use Rattle.block_path.specs.WayIn.{Delivers, adapter_finds_in, at_host, delivered_unless, from_device, from_wire, mapped_back, owner_finds, received, received_by, verified, way_in}
 use Rattle.block_path.specs.WayOut.{Fails, Refuses, Stores, WayOut, adapter_finds_out, at_device, from_adapter, mapped_out, sent, sent_by, to_wire, way_out}
+use Rattle.block_path.proofs.PathLaws.{never_zero}
 use Rattle.whole_run.specs.Past.{Brought, brought_by}
-use Rattle.whole_run.specs.PlainMap.{all_pass, as_expected}
+use Rattle.whole_run.specs.PlainMap.{all_pass}
 use Rattle.whole_run.specs.Settings.{Block, Setting, route}
-use Rattle.whole_run.proofs.CalmWays.{altered_none, quiet, unmasked, wire_same}
-use Rattle.whole_run.proofs.TupleFrames.{Small, data_is, guard_below, tag_below, tuple_is}
+use Rattle.whole_run.proofs.CalmWays.{quiet, unmasked, wire_same}
+use Rattle.whole_run.proofs.TupleFrames.{Small, data_is, tuple_is}
+use Rattle.whole_run.proofs.TagLaws.{mask_fits, field_set}
 use Rattle.run_laws.proofs.Framed.{mapped_body, mapped_length, mapped_tuple, retag}
-use Rattle.run_laws.proofs.Passing.{Converted, Kept, Passes, asks_all, conversion, found_none, host_same, never_zero, passes, retagged, same_escape, still}
+use Rattle.run_laws.proofs.Passing.{Converted, Kept, Passes, asks_all, conversion, found_none, host_same, passes, retagged, same_escape, still}
 
 -- either it ends, by what is found, or it goes on
 found_rule : {X : Type 0} (P : X → Type 0) (k : Result (List ℕ) Check → X) (o : Option Check) (frame : List ℕ) → ((c : Check) → o ≡ Some c → P (k (Err c))) → (o ≡ None → P (k (Ok frame))) → P (k (unless o frame))
@@ -55,26 +59,19 @@ module _ (m' : Setting) (b : Block) (protect : 0 < m'.mode.protect) where
   abbrev here : ℕ
   here = (route m' b).lba
 
-  field_set : eqb m'.mode.protect 0 ≡ false
-  field_set = ne_eqb m'.mode.protect 0 (λ e. omega (arith, e, protect))
-
-  fits : (c : Bool) (app : ℕ) → as_expected m' app ≡ true → bit_and app (if c then m'.mode.mask else 0) ≡ bit_and m'.mode.app (if c then m'.mode.mask else 0)
-  fits true app h = eqb-true _ _ h
-  fits false app h = and_zero_r app ∙ sym (and_zero_r m'.mode.app)
-
   -- the target finds nothing of what passes
   target_none : (dix dif : Bool) (ty : PiType) (x : List ℕ) → (is_zero ty ≡ false → Passes m' ty (crc (data_of n x)) here (tuple_of n x)) → found_in (passage [] (route (q dix dif ty) b)) x ≡ None
   unfolding found_in
   target_none dix dif Zero x h = refl
   target_none dix dif One x h =
       let p = passage [] (route (q dix dif One) b) in
-      passes m' One (asked_of p) (wanted_of p) (crc (data_of n x)) here (tuple_of n x) (h refl) (fits false (tuple_of n x).app) (λ _. ap ref_tag (sym (wire_same m' b protect dix dif One)))
+      passes m' One (asked_of p) (wanted_of p) (crc (data_of n x)) here (tuple_of n x) (h refl) (mask_fits m' false (tuple_of n x).app) (λ _. ap ref_tag (sym (wire_same m' b protect dix dif One)))
   target_none dix dif Two x h =
       let p = passage [] (route (q dix dif Two) b) in
-      passes m' Two (asked_of p) (wanted_of p) (crc (data_of n x)) here (tuple_of n x) (h refl) (fits (eqb p.protect 1) (tuple_of n x).app) (λ _. refl)
+      passes m' Two (asked_of p) (wanted_of p) (crc (data_of n x)) here (tuple_of n x) (h refl) (mask_fits m' (eqb p.protect 1) (tuple_of n x).app) (λ _. refl)
   target_none dix dif Three x h =
       let p = passage [] (route (q dix dif Three) b) in
-      passes m' Three (asked_of p) (wanted_of p) (crc (data_of n x)) here (tuple_of n x) (h refl) (fits false (tuple_of n x).app) (λ k. absurd (false≢true k))
+      passes m' Three (asked_of p) (wanted_of p) (crc (data_of n x)) here (tuple_of n x) (h refl) (mask_fits m' false (tuple_of n x).app) (λ k. absurd (false≢true k))
 
   onto_wire : (dix dif : Bool) (ty : PiType) (x : List ℕ) → to_wire [] (route (q dix dif ty) b) x ≡ unless (adapter_finds_out (route (q dix dif ty) b) x) (sent (route (q dix dif ty) b) x)
   unfolding to_wire
@@ -96,7 +93,7 @@ module _ (m' : Setting) (b : Block) (protect : 0 < m'.mode.protect) where
       ap (λ came. at_device x (by_target came))
       (onto_medium dix dif ty x
       ∙ ap (λ c. if eqb (if c then m'.mode.protect else 0) 0 then Ok other else unless o x) p
-      ∙ ap (λ c. if c then Ok other else unless o x) field_set
+      ∙ ap (λ c. if c then Ok other else unless o x) (field_set m' protect)
       ∙ ap (λ o. unless o x) (target_none dix dif ty x h))
 
   stores_bare : (dix dif : Bool) (ty : PiType) (x : List ℕ) → passes_tuples (route (q dix dif ty) b) ≡ false → at_device x ((target []).stores (route (q dix dif ty) b) x) ≡ Stores x (with_own_tuple ty here x)
@@ -115,14 +112,11 @@ module _ (m' : Setting) (b : Block) (protect : 0 < m'.mode.protect) where
     by true = tag_below here
     by false = omega arith
 
-  tag_is : (ty : PiType) (a : ℕ) → has_ref_tag ty ≡ true → own_tag ty a ≡ ref_tag a
-  tag_is ty a h = ap (λ c. if c then ref_tag a else 0) h
-
   under_made : (ty : PiType) (x : List ℕ) → length x ≡ n → m'.mode.mask ≡ 0 → let s = frame_of x (record { guard = crc x; app = 0; rtag = own_tag ty here }) in Passes m' ty (crc (data_of n s)) here (tuple_of n s)
   under_made ty x l free =
       let t : Tuple = record { guard = crc x; app = 0; rtag = own_tag ty here } in
       subst (λ u. Passes m' ty (crc (data_of n (frame_of x t))) here u) (sym (tuple_is n x t l (small ty x)))
-      (inr (record { guard_is = ap crc (sym (data_is n x t l)); app_is = unmasked m' 0 free; rtag_is = λ h. tag_is ty here h }))
+      (inr (record { guard_is = ap crc (sym (data_is n x t l)); app_is = unmasked m' 0 free; rtag_is = λ h. own_is ty here h }))
 
   made : (dix dif : Bool) (ty : PiType) (x : List ℕ) (e : Brought) → length x ≡ n → m'.mode.mask ≡ 0 → x ≡ e.body → (all_pass (q dix dif ty) ≡ true → ⊥) → Kept m' dix dif ty here (with_own_tuple ty here x) e
   made dix dif Zero x e l free same none = record { size = l; passing = λ h. absurd (false≢true (sym h)); body = take_all n x (omega (arith, l)) ∙ same; app = λ h. absurd (none h) }
@@ -287,7 +281,7 @@ module _ (m' : Setting) (b : Block) (protect : 0 < m'.mode.protect) where
   released_passing : (dix dif : Bool) (ty : PiType) (x : List ℕ) (e : Brought) → passes_tuples (route (q dix dif ty) b) ≡ true → Kept m' dix dif ty here x e → released (passage [] (route (q dix dif ty) b)) x ≡ Ok x
   released_passing dix dif ty x e p h =
       ap (λ c. unless (found_in (passage [] (route (q dix dif ty) b)) x) (if eqb (if c then m'.mode.protect else 0) 0 then data_of n x else x)) p
-      ∙ ap (λ c. unless (found_in (passage [] (route (q dix dif ty) b)) x) (if c then data_of n x else x)) field_set
+      ∙ ap (λ c. unless (found_in (passage [] (route (q dix dif ty) b)) x) (if c then data_of n x else x)) (field_set m' protect)
       ∙ ap (λ o. unless o x) (target_none dix dif ty x h.passing)
 
   released_bare : (dix dif : Bool) (ty : PiType) (x : List ℕ) (e : Brought) → passes_tuples (route (q dix dif ty) b) ≡ false → Kept m' dix dif ty here x e → released (passage [] (route (q dix dif ty) b)) x ≡ Ok (data_of n x)
@@ -362,7 +356,7 @@ module _ (m' : Setting) (b : Block) (protect : 0 < m'.mode.protect) where
         let size = length-append w _ ∙ ap (λ k. k + 8) short in
         let front = data_is n w t short in
         let good : Passes m' (host_type ty) (guard_of kind (data_of n f)) here (tuple_of n f) = subst (Passes m' (host_type ty) (guard_of kind (data_of n f)) here) (sym (tuple_is n w t short fits_in))
-        (inr (record { guard_is = ap (guard_of kind) (sym front); app_is = unmasked m' 0 (loose p); rtag_is = λ h. tag_is (host_type ty) here h })) in
+        (inr (record { guard_is = ap (guard_of kind) (sym front); app_is = unmasked m' 0 (loose p); rtag_is = λ h. own_is (host_type ty) here h })) in
         record {
           carried = w;
           frame = mapped_back r f;

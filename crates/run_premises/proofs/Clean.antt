@@ -1,11 +1,10 @@
 -- What a run without faults leaves clean.
 use Rattle.std.proofs.Common.{◌≡◌, ◌<◌, ℕ, zero, suc, ◌+◌, Bool, true, false, not, ◌&&◌, if◌then◌else◌, List, [], ◌∷◌, length, map, get_or, set, Option, Some, None, refl, sym, ap, subst, ◌∙◌, arith}
 use Rattle.std.proofs.lemmas.Bool.{eqb-true, false≢true}
-use Rattle.std.proofs.lemmas.List.{length-set}
 use Rattle.pi_guard.specs.Guards.{crc}
 use Rattle.pi_guard.specs.declared.GuardKind.TheVariants.{Crc}
-use Rattle.pi_tuple.specs.Finds.{has_ref_tag, is_escaped, is_zero}
-use Rattle.pi_tuple.specs.Tuples.{ref_tag}
+use Rattle.pi_guard.proofs.GuardSizes.{guard_below}
+use Rattle.pi_tuple.specs.Finds.{is_escaped, is_zero}
 use Rattle.pi_tuple.specs.declared.tuple.Tuple.{Tuple}
 use Rattle.pi_tuple.specs.declared.checks.PiType.{PiType}
 use Rattle.pi_tuple.specs.declared.checks.PiType.TheVariants.{One, Three, Two, Zero}
@@ -28,9 +27,10 @@ use Rattle.whole_run.specs.Steps.{Alters, Reads, Seals, Sets, Shows, Step, Write
 use Rattle.whole_run.specs.UnderMap.{AreClean, IsClean, IsUnder, NoEscape, NoneEscapes, SuppliesNoEscape, address_of, held, home, map_from, opened, stored_as, under}
 use Rattle.whole_run.proofs.CalmRuns.{op_meets, silent_form}
 use Rattle.whole_run.proofs.CalmWays.{IsProper, quiet, rtag_below}
-use Rattle.whole_run.proofs.MapUnder.{AllProper, map_length, proper_opened, under_opened}
+use Rattle.whole_run.proofs.MapUnder.{AllProper, map_length, proper_opened, under_opened, under_length}
 use Rattle.whole_run.proofs.PlainSteps.{AllMeet, Stands, all_steps}
-use Rattle.whole_run.proofs.TupleFrames.{Small, data_is, guard_below, tuple_is}
+use Rattle.whole_run.proofs.TupleFrames.{Small, data_is, tuple_is}
+use Rattle.whole_run.proofs.TagLaws.{tag_right}
 use Rattle.run_laws.specs.ShownRun.{DevicesAreClean, HasCells, LiesOn}
 use Rattle.run_laws.proofs.Along.{set_cases}
 use Rattle.run_laws.proofs.Passing.{host_same}
@@ -97,12 +97,6 @@ passes_all Three false dif h = absurd (false≢true h)
 
 -- ---- what is stored of an entry
 
-tag_right : (ty : PiType) (lba own : ℕ) → has_ref_tag ty ≡ true → tag_of ty lba own ≡ ref_tag lba
-tag_right Zero lba own h = absurd (false≢true h)
-tag_right One lba own h = refl
-tag_right Two lba own h = refl
-tag_right Three lba own h = absurd (false≢true h)
-
 stored_clean : (m : Setting) (lba : ℕ) (e : Entry) → is_zero m.ty ≡ false → Open m.ty e → IsProper m e → IsClean m lba (stored_as m lba e)
 stored_clean m lba e z o p =
     let t : Tuple = record { guard = crc e.body; app = e.app; rtag = tag_of m.ty lba e.own } in
@@ -122,10 +116,6 @@ stored_clean m lba e z o p =
         }
 
 module _ (m : Setting) (n : ℕ) (image : List (List ℕ)) (lies : LiesIn m n image) (z : is_zero m.ty ≡ false) where
-  long : (v : ℕ) (map : List Entry) → length (under m v map image) ≡ length image
-  long v [] = refl
-  long v (e ∷ map) = length-set (under m (suc v) map image) (home m v) (stored_as m (address_of m v) e) ∙ long (suc v) map
-
   -- a cell that is clean stays so under a map
   cell_clean : (c lba : ℕ) → ((v : ℕ) → v < n → home m v ≡ c → lba ≡ address_of m v) → IsClean m lba (get_or image c []) →
       (v : ℕ) (map : List Entry) → v + length map ≡ n → AllOpen m.ty map → AllProper m map → IsClean m lba (get_or (under m v map image) c [])
@@ -134,7 +124,7 @@ module _ (m : Setting) (n : ℕ) (image : List (List ℕ)) (lies : LiesIn m n im
       let rest = under m (suc v) map image in
       let inside : v < n = omega (arith, s) in
       let within = lies.within v inside in
-      let size = long (suc v) map in
+      let size = under_length m image (suc v) map in
       set_cases (IsClean m lba) rest (home m v) c (stored_as m (address_of m v) e) []
       (λ q. (omega (arith, within, size), subst (λ a. IsClean m a (stored_as m (address_of m v) e)) (sym (meets v inside (eqb-true (home m v) c q))) (stored_clean m (address_of m v) e z o.0 p.0)))
       (λ q. cell_clean c lba meets base (suc v) map (omega (arith, s)) o.1 p.1)

@@ -7,13 +7,14 @@ use Rattle.std.proofs.lemmas.List.{append_cancel_left, get_or_append_left, get_o
 use Rattle.std.proofs.lemmas.Nat.{from_be_bytes-to_be_bytes_2}
 use Rattle.pi_guard.specs.Guards.{crc}
 use Rattle.pi_guard.specs.declared.GuardKind.TheVariants.{Crc}
+use Rattle.pi_guard.proofs.GuardSizes.{guard_below}
 use Rattle.fault_schedule.specs.Altered.{altered, named, xored_from}
 use Rattle.fault_schedule.specs.declared.Label.{Label}
 use Rattle.fault_schedule.specs.declared.fault.Crossing.{Crossing}
 use Rattle.fault_schedule.specs.declared.fault.FaultLine.{FaultLine}
 use Rattle.target_answer.specs.Frames.{data_of, tuple_of}
 use Rattle.block_path.proofs.Cells.{AllBelow, below}
-use Rattle.whole_run.proofs.TupleFrames.{below_append, below_take, frame_small, guard_below, two_below}
+use Rattle.whole_run.proofs.TupleFrames.{below_append, below_take, frame_small, two_below}
 use Rattle.guard_laws.specs.Changes.{IsInTwoBytes}
 use Rattle.guard_laws.specs.Guarded.{guarded}
 use Rattle.guard_laws.proofs.Additive.{hidden_exactly}

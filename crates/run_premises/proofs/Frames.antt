@@ -5,7 +5,7 @@ use Rattle.std.specs.Int.{w16, w32, from_be_bytes, to_be_bytes}
 use Rattle.std.specs.Int.Bits.{xor_zero_r}
 use Rattle.std.specs.List.{list_all}
 use Rattle.std.proofs.lemmas.Bool.{cases_lt, eqb-false, not-true}
-use Rattle.std.proofs.lemmas.List.{get_or-drop, get_or-take, get_or_past, length-drop, length-replicate, length-take-le, take-append-drop, take-replicate, take_at}
+use Rattle.std.proofs.lemmas.List.{get_or-drop, get_or-take, get_or_past, length-replicate, length-take-le, take-append-drop, take-replicate, take_at}
 use Rattle.std.proofs.lemmas.Nat.{xor_of_8}
 use Rattle.pi_guard.specs.Guards.{crc, guard_of}
 use Rattle.pi_guard.specs.declared.GuardKind.{GuardKind}
@@ -21,6 +21,7 @@ use Rattle.guard_laws.proofs.Flips.{xored_shown_by_each}
 use Rattle.run_premises.specs.Forms.{is_none, is_seen}
 use Rattle.run_premises.proofs.Near.{near, named_at, none_at, take-xored, xored_same}
 use Rattle.run_premises.proofs.Sums.{guard_clears}
+use Rattle.small_laws.proofs.Lists.{behind_long}
 
 -- what is below 256 place by place is so place by place, whatever stands in for a missing one
 pub all_of : (xs : List ℕ) → AllBelow 256 xs → All (λ x. x < 256) xs
@@ -38,25 +39,19 @@ take_over (x ∷ p) q zero k e = absurd (omega arith)
 take_over (x ∷ p) q (suc n) k e = let z : suc n + k ≡ suc (n + k) = omega arith in ap (λ v. take v (x ∷ (p ++ q))) z ∙ ap (λ v. x ∷ v) (take_over p q n k (omega arith))
 
 module _ (n : ℕ) (x : List ℕ) (size : length x ≡ n + 8) (bytes : AllBelow 256 x) where
-  eight : length (drop n x) ≡ 8
-  eight = let l = length-drop n x in omega arith
-
-  pub front_long : length (take n x) ≡ n
-  front_long = length-take-le n x (omega arith)
-
   -- data and guard are the frame's front
   pub front_is : take (n + 2) x ≡ guarded (data_of n x) (tuple_of n x).guard
   front_is =
       let g = (tuple_of n x).guard in
       ap (take (n + 2)) (sym (take-append-drop n x))
       ∙ take_over (take n x) (drop n x) n 2 front_long
-      ∙ ap (λ v. take n x ++ take 2 v) (sym (spelled (drop n x) eight (λ i. below_at 256 (drop n x) i 0 (omega arith) (below_drop 256 n x bytes))))
+      ∙ ap (λ v. take n x ++ take 2 v) (sym (spelled (drop n x) (behind_long n 8 x size) (λ i. below_at 256 (drop n x) i 0 (omega arith) (below_drop 256 n x bytes))))
       ∙ ap (λ v. take n x ++ v) (take_at (to_be_bytes w16 g) (to_be_bytes w16 (tuple_of n x).app ++ to_be_bytes w32 (tuple_of n x).rtag) 2 refl)
 
   -- where the guard is right, that of the front is 0
   pub front_clears : (kind : GuardKind) → n % 2 ≡ 0 → (tuple_of n x).guard ≡ guard_of kind (data_of n x) → guard_of kind (take (n + 2) x) ≡ 0
   front_clears kind even right =
-      let e : length (take n x) % 2 ≡ 0 = ap (λ v. v % 2) front_long ∙ even in
+      let e : length (take n x) % 2 ≡ 0 = ap (λ v. v % 2) (length-take-le n x (omega arith)) ∙ even in
       ap (guard_of kind) (front_is ∙ ap (guarded (take n x)) right) ∙ guard_clears kind (take n x) e
 
 -- all bytes that are named for a frame

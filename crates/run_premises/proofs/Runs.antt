@@ -8,10 +8,12 @@ use Rattle.std.proofs.lemmas.List.{length-set}
 use Rattle.pi_guard.specs.Guards.{guard_of}
 use Rattle.pi_guard.specs.declared.GuardKind.{GuardKind}
 use Rattle.pi_guard.specs.declared.GuardKind.TheVariants.{Crc}
+use Rattle.pi_guard.proofs.GuardSizes.{guard_below}
 use Rattle.pi_tuple.specs.Finds.{is_escaped}
 use Rattle.pi_tuple.specs.Tuples.{ref_tag, tuple_bytes}
 use Rattle.pi_tuple.specs.declared.tuple.Tuple.{Tuple}
 use Rattle.pi_tuple.specs.declared.checks.PiType.TheVariants.{One}
+use Rattle.pi_tuple.proofs.TupleLaws.{tag_below}
 use Rattle.page_pool.specs.Cells.{gather, scatter}
 use Rattle.fault_schedule.specs.Altered.{is_line_of, is_same, shift_of}
 use Rattle.fault_schedule.specs.declared.fault.Crossing.{Crossing}
@@ -25,7 +27,6 @@ use Rattle.volume_table.specs.Places.{volume_len}
 use Rattle.block_path.specs.Acts.{State, act}
 use Rattle.block_path.specs.Blocks.{fetched_cell, own_cell, own_frame, own_tuple, read_by, stored_cell, tag_after, tuple_after, written_by}
 use Rattle.block_path.specs.Routes.{moved}
-use Rattle.block_path.specs.Serial.{plain}
 use Rattle.block_path.specs.WayIn.{Delivers, Spoils, Stops, WayIn, way_in}
 use Rattle.block_path.specs.WayOut.{Fails, Refuses, Stores, WayOut, way_out}
 use Rattle.block_path.proofs.Cells.{AllBelow, below, gather_length}
@@ -33,16 +34,15 @@ use Rattle.whole_run.specs.CalmRun.{AllFit, Fits, LiesIn}
 use Rattle.whole_run.specs.Detectable.{detectable, step_shows}
 use Rattle.whole_run.specs.FirstLayer.{has_flip, has_shift, is_flip}
 use Rattle.whole_run.specs.Past.{steps_from}
-use Rattle.whole_run.specs.ScriptWalk.{act_of, acts_of}
+use Rattle.whole_run.specs.ScriptWalk.{act_of}
 use Rattle.whole_run.specs.Settings.{Block, Setting, block_of, route}
 use Rattle.whole_run.specs.Steps.{Alters, Reads, Seals, Sets, Shows, Step, Writes, WritesPi, body_of, each_from, frame_at, steps_of, tuple_of}
-use Rattle.whole_run.specs.UnderMap.{AreClean, NoEscape, NoneEscapes, SuppliesNoEscape, home}
+use Rattle.whole_run.specs.UnderMap.{AreClean, NoneEscapes, SuppliesNoEscape, home}
 use Rattle.whole_run.proofs.CalmRuns.{frame_length, part_length}
-use Rattle.whole_run.proofs.InSteps.{acts_stepped, stepped}
-use Rattle.whole_run.proofs.TupleFrames.{Small, below_append, below_drop, below_gather, below_replicate, below_scatter, below_take, data_is, four_below, guard_below, tag_below, tuple_below, tuple_is}
+use Rattle.whole_run.proofs.TupleFrames.{Small, below_append, below_drop, below_gather, below_replicate, below_scatter, below_take, data_is, four_below, tuple_below, tuple_is}
 use Rattle.run_laws.proofs.Layers.{checked, unmoved}
 use Rattle.run_laws.proofs.Along.{set_cases}
-use Rattle.run_laws.proofs.Reading.{checked_form}
+use Rattle.run_laws.proofs.Reading.{checked_form, none_escapes}
 use Rattle.run_premises.specs.Forms.{brings_tuples, first_virt, is_good_line, is_overwrite, is_stored_altered, op_of, virt_of}
 use Rattle.run_premises.specs.FormedRun.{HasFormedFaults, IsOfBytes}
 use Rattle.run_premises.proofs.Lines.{IsLineOf, line_of, no_shift, none_of}
@@ -335,15 +335,6 @@ module _ (m' : Setting) (ops : List Op) (even : m'.size % 2 ≡ 0) (flips : All 
 
 -- escapes by steps
 module _ (m : Setting) where
-  escapes_both : (xs ys : List Step) (s : State) → NoneEscapes m xs s → NoneEscapes m ys (stepped (act_of m) xs s) → NoneEscapes m (xs ++ ys) s
-  escapes_both [] ys s h k = k
-  escapes_both (x ∷ xs) ys s h k = (h.0, escapes_both xs ys (act (act_of m x) s) h.1 k)
-
-  none_escapes : (i : ℕ) (ops : List Op) (s : State) → NoEscape m i ops s → NoneEscapes m (steps_from m i ops) s
-  none_escapes i [] s h = tt
-  none_escapes i (op ∷ ops) s h =
-      escapes_both (steps_of m i op) (steps_from m (suc i) ops) s h.0
-      (subst (NoneEscapes m (steps_from m (suc i) ops)) (acts_stepped (act_of m) (steps_of m i op) s) (none_escapes (suc i) ops (plain act (acts_of m i op) s) h.1))
 
 formed : (m' : Setting) (ops : List Op) (opening : State) → HasFormedFaults (checked m') ops opening → detectable (checked m') (steps_from (checked m') 1 ops) opening ≡ true
 formed m' ops opening run =

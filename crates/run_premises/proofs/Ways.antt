@@ -1,5 +1,5 @@
 -- One block on its way under faults that have the form.
-use Rattle.std.proofs.Common.{◌≡◌, ◌<◌, ℕ, ◌+◌, ◌%◌, ◌^◌, Bool, true, false, eqb, ◌&&◌, ◌||◌, not, if◌then◌else◌, List, ◌++◌, length, take, drop, Option, Some, None, refl, sym, ap, subst, ◌∙◌}
+use Rattle.std.proofs.Common.{◌≡◌, ◌<◌, ℕ, ◌+◌, ◌%◌, Bool, true, false, eqb, ◌&&◌, ◌||◌, not, if◌then◌else◌, List, ◌++◌, length, take, drop, Option, Some, None, refl, sym, ap, subst, ◌∙◌}
 use Rattle.std.specs.Prelude.{All, Result}
 use Rattle.std.specs.Int.{w16, w32, from_be_bytes, to_be_bytes}
 use Rattle.std.specs.List.{list_all}
@@ -7,6 +7,7 @@ use Rattle.std.proofs.lemmas.Bool.{and_from, and_parts, ne_eqb, not-true, not_fr
 use Rattle.pi_guard.specs.Guards.{guard_of}
 use Rattle.pi_guard.specs.declared.GuardKind.{GuardKind}
 use Rattle.pi_guard.specs.declared.GuardKind.TheVariants.{Crc, Ip}
+use Rattle.pi_guard.proofs.GuardSizes.{guard_below}
 use Rattle.pi_tuple.specs.Finds.{finding, is_escaped}
 use Rattle.pi_tuple.specs.Tuples.{ref_tag}
 use Rattle.pi_tuple.specs.declared.tuple.Tuple.{Tuple}
@@ -31,7 +32,7 @@ use Rattle.whole_run.specs.Detectable.{arrives, asks_app, bears, bears_some, cro
 use Rattle.whole_run.specs.FirstLayer.{AtAdapter, AtTarget, has_flip, has_shift, is_flip}
 use Rattle.whole_run.specs.PlainMap.{as_expected}
 use Rattle.whole_run.specs.Settings.{Block, Setting, route}
-use Rattle.whole_run.proofs.TupleFrames.{below_append, below_drop, below_take, four_below, guard_below, two_below}
+use Rattle.whole_run.proofs.TupleFrames.{below_append, below_drop, below_take, four_below, two_below}
 use Rattle.run_laws.proofs.Found.{bears_both, expected, passed, unless_rule}
 use Rattle.run_laws.proofs.Framed.{guarded, mapped_body, mapped_length, mapped_tuple, not_altered}
 use Rattle.run_laws.proofs.Layers.{checked, found_is}
@@ -157,13 +158,10 @@ module _ (m' : Setting) (ops : List Op) (even : m'.size % 2 ≡ 0) (flips : All 
   mapped_right : (k : GuardKind) (from to : ℕ) (x : List ℕ) → Fine x → Right k x → Right k (data_of n x ++ remapped_bytes One from to (drop n x))
   mapped_right k from to x h r = ap (λ (t : Tuple). t.guard) (mapped_tuple n x h.size One from to) ∙ r ∙ ap (guard_of k) (sym (mapped_body n x h.size One from to))
 
-  guard_small : (k : GuardKind) (x : List ℕ) → guard_of k x < 2 ^ 16
-  guard_small k x = guard_below k x
-
   converted_fine : (to : GuardKind) (c : Bool) (x : List ℕ) → Fine x → Fine (if c then x else with_guard n (guard_of to (data_of n x)) x)
   converted_fine to true x h = h
   converted_fine to false x h =
-      let u = guarded n x h.size (guard_of to (data_of n x)) (guard_small to (data_of n x)) (tuple_of n x).rtag refl in
+      let u = guarded n x h.size (guard_of to (data_of n x)) (guard_below to (data_of n x)) (tuple_of n x).rtag refl in
       record {
         size = u.size;
         bytes = below_append 256 (take n x) _ (below_take 256 n x h.bytes) (below_append 256 (to_be_bytes w16 (guard_of to (data_of n x))) (drop (n + 2) x) (two_below (guard_of to (data_of n x))) (below_drop 256 (n + 2) x h.bytes));
@@ -172,7 +170,7 @@ module _ (m' : Setting) (ops : List Op) (even : m'.size % 2 ≡ 0) (flips : All 
 
   new_right : (to : GuardKind) (x : List ℕ) → Fine x → Right to (with_guard n (guard_of to (data_of n x)) x)
   new_right to x h =
-      let u = guarded n x h.size (guard_of to (data_of n x)) (guard_small to (data_of n x)) (tuple_of n x).rtag refl in
+      let u = guarded n x h.size (guard_of to (data_of n x)) (guard_below to (data_of n x)) (tuple_of n x).rtag refl in
       ap (λ (t : Tuple). t.guard) u.tuple ∙ ap (guard_of to) (sym u.body)
 
   pub sent_fine : (b : Block) (x : List ℕ) → Fine x → Fine (sent (route m b) x)

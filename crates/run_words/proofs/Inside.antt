@@ -3,9 +3,10 @@ use Rattle.std.proofs.Common.{ℕ, suc, ◌≡◌, ◌+◌, ◌≤◌, ◌<◌, 
 use Rattle.std.proofs.lemmas.List.{length-map}
 use Rattle.std.proofs.lemmas.List.Elements.{All-cons, All-nil}
 use Rattle.bio_core.specs.declared.fate.Why.{Why}
-use Rattle.block_path.specs.Acts.{Act, State, act, tell}
+use Rattle.block_path.specs.Acts.{State, act, tell}
 use Rattle.block_path.specs.Blocks.{Answer}
 use Rattle.block_path.specs.Serial.{plain, plain_tells}
+use Rattle.block_path.proofs.PathLaws.{long_tells}
 use Rattle.run_laws.specs.Records.{recorded}
 use Rattle.run_laws.specs.ToldRun.{told}
 use Rattle.rig_api.specs.Log.{Entry}
@@ -32,10 +33,6 @@ use Rattle.run_words.specs.Sites.{AreInside, Guides, IsGuideOf, IsInside, first_
 use Rattle.run_words.specs.declared.guide.Guide.{Guide}
 use Rattle.run_command.specs.declared.verdict.Finished.{Finished}
 use Rattle.run_words.specs.declared.guide.OpSite.{OpSite}
-
-long_tells : (acts : List (Act Answer)) (s : State) → length (plain_tells act tell acts s) ≡ length acts
-long_tells [] s = refl
-long_tells (a ∷ acts) s = ap suc (long_tells acts (act a s))
 
 abbrev Below : (first most : ℕ) → BadBlock → Type 0
 Below first most b = first + b.k < most

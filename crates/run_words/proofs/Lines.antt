@@ -1,5 +1,5 @@
 -- The pieces of each line and of each list of lines are the text.
-use Rattle.std.proofs.Common.{ℕ, suc, ◌≡◌, ◌+◌, ◌<◌, ◌≤◌, Bool, true, false, cond, List, [], ◌∷◌, ◌++◌, length, drop, get_or, codes, decimal, Result, Ok, Err, OnOk, refl, sym, ap, subst, ◌∙◌, add-one, append_assoc, drop-cons}
+use Rattle.std.proofs.Common.{ℕ, suc, ◌≡◌, ◌+◌, ◌<◌, ◌≤◌, Bool, true, false, cond, List, [], ◌∷◌, ◌++◌, length, drop, get_or, codes, decimal, Result, Ok, Err, OnOk, refl, sym, ap, subst, ◌∙◌, add-one, drop-cons}
 use Rattle.std.proofs.lemmas.List.{drop_all}
 use Rattle.fault_schedule.specs.declared.Label.{Label}
 use Rattle.rig_api.specs.Log.{Entry, entry_at, no_entry}
@@ -12,9 +12,7 @@ use Rattle.run_words.specs.Sites.{AreInside}
 use Rattle.run_words.specs.Texts.{all_listed, ended_lines, entry_lines, goes_on, listed_line, listed_lines, next_run, record_lines, reply_lines, run_line, run_lines, runs_from, runs_of}
 use Rattle.run_words.specs.declared.guide.OpSite.{OpSite}
 use Rattle.run_words.specs.declared.labels.Run.{Run}
-
-five : (a b c d e r : List ℕ) → (a ++ (b ++ (c ++ (d ++ e)))) ++ r ≡ a ++ (b ++ (c ++ (d ++ (e ++ r))))
-five a b c d e r = append_assoc a _ r ∙ ap (λ x. a ++ x) (append_assoc b _ r ∙ ap (λ x. b ++ x) (append_assoc c _ r ∙ ap (λ x. c ++ x) (append_assoc d e r)))
+use Rattle.script_laws.proofs.Front.{regroup as five}
 
 -- a command's front, its words and its end
 pub command_parts : (front cdb end : List ℕ) (number : ℕ) (r : Record) → front ≡ codes "command " ++ (decimal number ++ (codes " dev " ++ (decimal r.dev ++ codes " "))) → cdb ≡ r.cdb → end ≡ outcome_words r.outcome → front ++ (cdb_words cdb ++ end) ≡ command_line number r

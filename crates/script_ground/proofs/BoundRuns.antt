@@ -15,13 +15,13 @@ use Rattle.stack_ops.specs.declared.op.Op.TheVariants.{Fetch, FetchPi, Fill, Ove
 use Rattle.whole_run.specs.ScriptWalk.{changed, source_of}
 use Rattle.volume_table.specs.declared.device.DeviceInfo.{DeviceInfo}
 use Rattle.volume_table.specs.Tables.{Table}
-use Rattle.whole_run.specs.Settings.{Setting, block_of, route}
+use Rattle.whole_run.specs.Settings.{Setting}
 use Rattle.run_laws.specs.BoundRun.{AllBound, AllSuit, IsBound, IsBoundRun, fates, rooms}
-use Rattle.run_laws.proofs.AtTarget.{fine_always}
 use Rattle.run_laws.specs.ToldRun.{came_by, told}
 use Rattle.run_follows.specs.Finished.{FramesFit}
 use Rattle.run_follows.proofs.Over.{same_rooms}
 use Rattle.run_follows.specs.Spots.{op_in as op_at}
+use Rattle.run_follows.proofs.Binding.{suit_over}
 use Rattle.script_text.specs.declared.script.Script.{Script}
 use Rattle.script_text.specs.Ops.{both_fault, data_fault}
 use Rattle.script_text.specs.Segments.{is_inside}
@@ -103,18 +103,15 @@ suits-all m fine ops h = suits-each m fine 1 ops (λ j l. let z : suc j ≡ 1 + 
 -- ---- over what stands on record
 
 module _ (m : Setting) (es : List Sent) (fit : FramesFit m es) where
-  any-block : (i v n : ℕ) → AllSuit (told m es) (λ c block. true) i v n
-  any-block i v n k l = record { stores = λ frame e. fine_always (came_by es (route m (block_of i v k)).label); sends = λ stored e. fit (block_of i v k) }
-
   any-op : (i : ℕ) (op : Op) → OpSuits (told m es) (λ c block. true) i op
   any-op i (Fill seg byte) = tt
   any-op i (Put page off bytes) = tt
   any-op i (Show seg) = tt
   any-op i (Seal n body tuples app rtag) = tt
-  any-op i (Write v n body app) = any-block i v n
-  any-op i (Fetch v n body) = any-block i v n
-  any-op i (WritePi v n body tuples) = any-block i v n
-  any-op i (FetchPi v n body tuples) = any-block i v n
+  any-op i (Write v n body app) = suit_over m es fit i v n
+  any-op i (Fetch v n body) = suit_over m es fit i v n
+  any-op i (WritePi v n body tuples) = suit_over m es fit i v n
+  any-op i (FetchPi v n body tuples) = suit_over m es fit i v n
   any-op i (Overwrite dev lba change) = λ block e. refl
   any-op i Wait = tt
 

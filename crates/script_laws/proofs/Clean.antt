@@ -8,7 +8,7 @@ use Rattle.std.proofs.lemmas.List.Folds.{list_all-append}
 use Rattle.std.proofs.lemmas.Bool.{and_from}
 use Rattle.script_words.specs.Decimals.{is_digit}
 use Rattle.script_laws.specs.Clean.{IsWord, avoids, clean, is_filled, is_visible}
-use Rattle.script_text.proofs.Filled.{and_first, and_second}
+use Rattle.small_laws.proofs.Tests.{and_first, and_second}
 
 pub clean_both : (a b : List ℕ) → clean a ≡ true → clean b ≡ true → clean (a ++ b) ≡ true
 clean_both a b g h = list_all-append is_visible a b ∙ and_from (clean a) (clean b) g h

@@ -130,7 +130,7 @@ first_front b s rest m l p =
     (joined 2 (mode_text s.mode ++ (limits_text s.limits ++ (pages_text s.pages ++ rest))) (at_dix b) 3 (limits_text s.limits ++ (pages_text s.pages ++ rest)) (at_mode b s.mode) 5 rest _ (mode_step b s.mode (limits_text s.limits ++ (pages_text s.pages ++ rest)) m)
     (joined 3 (limits_text s.limits ++ (pages_text s.pages ++ rest)) (at_mode b s.mode) 4 (pages_text s.pages ++ rest) (at_limits b s.mode s.limits) 5 rest _ (limits_step b s.mode s.limits (pages_text s.pages ++ rest) l) (pages_step b s.mode s.limits s.pages rest p)))
 
-regroup : (v m l p n rest : List ℕ) → (v ++ (m ++ (l ++ (p ++ n)))) ++ rest ≡ v ++ (m ++ (l ++ (p ++ (n ++ rest))))
+pub regroup : (v m l p n rest : List ℕ) → (v ++ (m ++ (l ++ (p ++ n)))) ++ rest ≡ v ++ (m ++ (l ++ (p ++ (n ++ rest))))
 regroup v m l p n rest = simp append_assoc
 
 pub parts_false : (a b : Bool) → not a || not b ≡ false → (a ≡ true) × (b ≡ true)

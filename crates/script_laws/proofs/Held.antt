@@ -2,6 +2,7 @@
 use Rattle.std.proofs.Common.{ℕ, ℤ, pos, negsuc, ◌≡◌, ◌⊎◌, inl, ◌+◌, ◌^◌, ◌<◌, ◌≤◌, ◌&&◌, ◌||◌, Bool, true, false, not, eqb, leb, List, [], ◌∷◌, ◌++◌, length, Option, Some, None, Result, Ok, Err, refl, sym, subst, ap, ◌∙◌, arith}
 use Rattle.std.specs.Prelude.{if◌then◌else◌, unwrap_or, is_some}
 use Rattle.std.proofs.lemmas.Bool.Decides.{nat_tests}
+use Rattle.std.proofs.lemmas.Bool.{eqb-true}
 use Rattle.hex.specs.Hex.{IsBytes}
 use Rattle.fault_schedule.specs.declared.fault.FaultKind.{FaultKind}
 use Rattle.fault_schedule.specs.declared.fault.FaultKind.TheVariants.{Flip as FlipKind, Shift as ShiftKind}
@@ -126,16 +127,13 @@ blocks_snoc (o ∷ ops) op = let r = blocks_snoc ops op in omega (arith, r)
 
 -- the order of lines
 
-place_by : (a b : ℕ) → eqb a b ≡ true → a ≡ b
-place_by a b h = grind (arith, nat_tests)
-
 pub record Goes (n q : ℕ) : Type 0 where
   pub up : n ≤ q
   pub behind_volume : 8 ≤ q → 7 ≤ n
   pub some : 1 ≤ q
 
 goes_to : (n q k : ℕ) → eqb q k ≡ true → n ≤ k → 1 ≤ k → (8 ≤ k → 7 ≤ n) → Goes n q
-goes_to n q k e l s v = let same = place_by q k e in record { up = omega (arith, same, l); behind_volume = λ m. v (omega (arith, same, m)); some = omega (arith, same, s) }
+goes_to n q k e l s v = let same = eqb-true q k e in record { up = omega (arith, same, l); behind_volume = λ m. v (omega (arith, same, m)); some = omega (arith, same, s) }
 
 or_by : (a b : Bool) (P : Type 0) → a || b ≡ true → (a ≡ true → P) → (b ≡ true → P) → P
 or_by true b P h f g = f refl
@@ -229,7 +227,7 @@ pub tag_twice : (app : ℕ) → unwrap_or (tag_of app) 0 ≡ app
 tag_twice app = by (eqb app 0) refl
   where
     by : (b : Bool) → eqb app 0 ≡ b → unwrap_or (if b then None else Some app) 0 ≡ app
-    by true e = sym (place_by app 0 e)
+    by true e = sym (eqb-true app 0 e)
     by false e = refl
 
 no_tag : (dix : Bool) (app : Option ℕ) → not dix && is_some app ≡ false → not dix && is_some (tag_of (unwrap_or app 0)) ≡ false

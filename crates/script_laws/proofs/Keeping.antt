@@ -19,12 +19,12 @@ use Rattle.script_text.specs.declared.fault.ScriptFault.{ScriptFault}
 use Rattle.script_text.specs.declared.script.Script.{Script}
 use Rattle.script_text.specs.Language.{at_end, at_place, end_fault, finished, go_on, header_taken, is_behind, is_comment, line_taken, lines_read, nothing_read, script_in, taken, text_taken, unless_broken, verb_taken, version_of, words_behind, words_taken}
 use Rattle.script_text.specs.Rules.{broken_rule}
-use Rattle.script_text.proofs.Filled.{and_second}
 use Rattle.script_laws.specs.Keeping.{Each, IsFault, Keeps}
 use Rattle.script_laws.proofs.FormsGive.{Numbers, fill_gives, overwrite_gives, put_gives, read_gives, readpi_gives, seal_gives, show_gives, write_gives, writepi_gives}
 use Rattle.script_laws.proofs.Held.{Goes, Held, InOrder, IsRaw, goes, length_both, nothing_held, number_of}
 use Rattle.script_laws.proofs.Inverse.{ended_ok, ok_of}
 use Rattle.script_laws.proofs.Kept.{Rules, begin_kept, block_kept, expect_kept, fault_kept, inner_kept, limits_kept, linear_kept, mode_kept, op_kept, over_kept, pages_kept, rules_of, schedule_kept, shift_kept, stripe_kept, ok_draft}
+use Rattle.small_laws.proofs.Tests.{and_second}
 
 -- a line of this verb that is taken
 pub verb_kept : (verb : Verb) (n : ℕ) (words : List (List ℕ)) (d e : Drafted) → Held d → Goes (number_of d.place) (place_number (place_of verb)) → (line : Line) → line_form verb d.block words ≡ Ok line → Rules d line → taken n line d ≡ Ok e

@@ -1,5 +1,5 @@
 -- each line that is taken leaves a draft of which all that holds still
-use Rattle.std.proofs.Common.{ℕ, ◌≡◌, ◌+◌, ◌<◌, ◌≤◌, ◌||◌, Bool, true, false, not, eqb, ltb, leb, List, [], ◌∷◌, ◌++◌, length, Option, Some, None, Result, Ok, Err, refl, sym, subst, ap, ◌∙◌, arith}
+use Rattle.std.proofs.Common.{ℕ, ◌≡◌, ◌+◌, ◌<◌, ◌≤◌, Bool, true, false, eqb, ltb, leb, List, [], ◌∷◌, ◌++◌, length, Option, Some, None, Result, Ok, Err, refl, sym, subst, ap, ◌∙◌, arith}
 use Rattle.std.specs.Prelude.{if◌then◌else◌}
 use Rattle.std.proofs.lemmas.Bool.Decides.{nat_tests}
 use Rattle.script_lines.specs.declared.kind.ScriptKind.{ScriptKind}
@@ -22,8 +22,10 @@ use Rattle.script_laws.proofs.FormsGive.{Numbers, as_line_ok, block_gives, expec
 use Rattle.script_laws.proofs.Held.{Goes, Held, each_both, each_none, each_snoc, faults_more, flip_raw, length_both, number_of, op_of, ops_more, order_on, shift_raw}
 use Rattle.script_laws.proofs.Inverse.{ended_ok, ok_of}
 use Rattle.script_laws.proofs.Over.{IsInner, over_entries}
+use Rattle.script_laws.proofs.Front.{parts_false}
+use Rattle.volume_tree.proofs.Gathering.{or_first, or_second}
 
-unbroken : (b : Bool) (k : ScriptKind) (rest : Option ScriptKind) → (if b then Some k else rest) ≡ None → (b ≡ false) × (rest ≡ None)
+pub unbroken : (b : Bool) (k : ScriptKind) (rest : Option ScriptKind) → (if b then Some k else rest) ≡ None → (b ≡ false) × (rest ≡ None)
 unbroken true k rest h = absurd (cc)
 unbroken false k rest h = (refl, h)
 
@@ -39,19 +41,11 @@ rules_of d line h =
     let c = unbroken (is_bad_fault d line) _ _ b.1 in
     record { integrity = a.0; few = b.0; good = c.0 }
 
-not_full : (a b : ℕ) → leb b a ≡ false → a < b
+pub not_full : (a b : ℕ) → leb b a ≡ false → a < b
 not_full a b h = grind (arith, nat_tests)
 
-not_more : (a b : ℕ) → ltb b a ≡ false → a ≤ b
+pub not_more : (a b : ℕ) → ltb b a ≡ false → a ≤ b
 not_more a b h = grind (arith, nat_tests)
-
-or_first : (a b : Bool) → a || b ≡ false → a ≡ false
-or_first true b h = h
-or_first false b h = refl
-
-or_second : (a b : Bool) → a || b ≡ false → b ≡ false
-or_second true b h = absurd (cc)
-or_second false b h = h
 
 pub ok_draft : (a b : Drafted) → ◌≡◌ {A = Result Drafted ScriptKind} (Ok a) (Ok b) → b ≡ a
 ok_draft a b h = cc
@@ -147,17 +141,12 @@ block_kept n words d e h g line f t =
       order = order_on (number_of d.place) 4 d.mask d.entries d.faults d.ops (λ s. absurd (omega (arith, s))) g h.order;
     })
 
-has_dix : (a b : Bool) → not a || not b ≡ false → (a ≡ true) × (b ≡ true)
-has_dix true true h = (refl, refl)
-has_dix true false h = absurd (cc)
-has_dix false b h = absurd (cc)
-
 pub expect_kept : (n : ℕ) (words : List (List ℕ)) (d e : Drafted) → Held d → Goes (number_of d.place) 5 → (line : Line) → line_form ExpectVerb d.block words ≡ Ok line → Rules d line → taken n line d ≡ Ok e → Held (record e { place = Some AtExpect })
 unfolding taken
 expect_kept n words d e h g line f r t =
     let m = expect_gives words line f in
     let same = ok_draft (record d { app = m.0; mask = m.1; expect_line = n }) e (sym (ap (λ l. taken n l d) m.2) ∙ t) in
-    let dix = has_dix d.mode.dix d.mode.dif (sym (ap (lacks_integrity d) m.2) ∙ r.integrity) in
+    let dix = parts_false d.mode.dix d.mode.dif (sym (ap (lacks_integrity d) m.2) ∙ r.integrity) in
     let o = order_on (number_of d.place) 5 d.mask d.entries d.faults d.ops (λ s. absurd (omega (arith, s))) g h.order in
     subst (λ x. Held (record x { place = Some AtExpect })) (sym same)
     (record {

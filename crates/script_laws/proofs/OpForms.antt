@@ -23,7 +23,6 @@ use Rattle.script_text.specs.Ops.{are_tuples, both_fault, data_fault, is_body, o
 use Rattle.script_text.specs.Printed.{seg_text, segs_text}
 use Rattle.script_text.specs.Rules.{is_count}
 use Rattle.script_text.specs.Segments.{are_few_each, are_inside, are_whole_tuples, is_inside}
-use Rattle.script_text.proofs.Filled.{and_first, and_second}
 use Rattle.script_laws.specs.Clean.{AreWords, IsWord}
 use Rattle.script_laws.specs.Keeping.{InRange, IsFlip, IsTag}
 use Rattle.script_laws.specs.Lines.{app_words, flip_words, op_word, op_words_behind}
@@ -31,7 +30,8 @@ use Rattle.script_laws.proofs.Clean.{decimal_word}
 use Rattle.script_laws.proofs.Forms.{flip_back, some_byte, value_is}
 use Rattle.script_laws.proofs.Places.{AreSegs, IsSeg, pair_word, seg_back, seg_word, segs_back, segs_word, spot_back, word32_back, word64_back}
 use Rattle.script_laws.proofs.Words.{byte_back, byte_word, hex_back, hex_word, long_tag_back, long_tag_word, tag_back, tag_word}
-use Rattle.script_laws.proofs.Over.{unbroken}
+use Rattle.script_laws.proofs.Kept.{unbroken}
+use Rattle.small_laws.proofs.Tests.{and_first, and_second}
 
 abbrev pub AreListed : List Seg → Type 0
 AreListed segs = AreSegs segs × (1 ≤ length segs)

@@ -1,5 +1,5 @@
 -- the entries of an `over` line are in their ranges
-use Rattle.std.proofs.Common.{ℕ, suc, ◌≡◌, ◌+◌, ◌*◌, ◌^◌, ◌<◌, ◌≤◌, ◌||◌, Bool, true, false, eqb, ltb, leb, cond, All, List, [], ◌∷◌, length, map, find, Option, Some, None, Ok, refl, sym, subst, ap, ◌∙◌, arith}
+use Rattle.std.proofs.Common.{ℕ, suc, ◌≡◌, ◌+◌, ◌*◌, ◌^◌, ◌<◌, ◌≤◌, Bool, true, false, eqb, ltb, leb, cond, All, List, [], ◌∷◌, length, map, find, Option, Some, None, Ok, refl, sym, subst, ap, ◌∙◌, arith}
 use Rattle.std.specs.Prelude.{if◌then◌else◌}
 use Rattle.std.specs.List.{list_any}
 use Rattle.std.proofs.lemmas.Bool.Decides.{nat_tests}
@@ -13,21 +13,15 @@ use Rattle.volume_tree.specs.declared.TreeFault.TheVariants.{BadLength, Unaligne
 use Rattle.volume_tree.specs.Tracks.{FollowsFrom, ends, is_held, place_by, track_place}
 use Rattle.volume_tree.specs.Trees.{AreTracks, DoFit, EntriesFollow, expanded, has_bad_length, is_unaligned, leg_from, stripe_between, stripes, tree_fault, tree_place}
 use Rattle.volume_tree.proofs.Stretches.{Built, all_blocks, all_fit, all_follow, all_places, all_ranges, built}
+use Rattle.volume_tree.proofs.Gathering.{or_first, or_second}
 use Rattle.script_lines.specs.declared.kind.ScriptKind.{ScriptKind}
 use Rattle.script_text.specs.Trees.{InnerExtent, as_kind, entries_over, is_bad_volume, is_none, is_past, over_fault, track_from, tracks_in, unless_fault}
 use Rattle.script_laws.specs.Keeping.{Each, IsEntry, IsLeg, IsWithin}
+use Rattle.script_laws.proofs.Kept.{unbroken, not_full, not_more}
 
 pub record IsInner (i : InnerExtent) : Type 0 where
   pub len_is : IsWithin 1 1048576 i.len
   pub dev_fits : i.dev < 2 ^ 32
-
-or_first : (a b : Bool) → a || b ≡ false → a ≡ false
-or_first true b h = h
-or_first false b h = refl
-
-or_second : (a b : Bool) → a || b ≡ false → b ≡ false
-or_second true b h = absurd (cc)
-or_second false b h = h
 
 record IsSpan (e : Linear) : Type 0 where
   dev_fits : e.dev < 2 ^ 32
@@ -106,16 +100,6 @@ tree_by true b c f e h = absurd (cc (ap as_kind (sym e) ∙ h))
 tree_by false true c f e h = absurd (cc (ap as_kind (sym e) ∙ h))
 tree_by false false c f e h = (refl, refl)
 
-pub unbroken : (b : Bool) (k : ScriptKind) (rest : Option ScriptKind) → (if b then Some k else rest) ≡ None → (b ≡ false) × (rest ≡ None)
-unbroken true k rest h = absurd (cc)
-unbroken false k rest h = (refl, h)
-
-pub not_more : (a b : ℕ) → ltb b a ≡ false → a ≤ b
-not_more a b h = grind (arith, nat_tests)
-
-pub not_from : (a b : ℕ) → leb b a ≡ false → a < b
-not_from a b h = grind (arith, nat_tests)
-
 unless_ok : (f : Option ScriptKind) (es found : List Entry) → unless_fault f es ≡ Ok found → (f ≡ None) × (found ≡ es)
 unless_ok None es found h = (refl, cc)
 unless_ok (Some k) es found h = absurd (cc)
@@ -148,7 +132,7 @@ over_spread inner start len chunk volumes found h few l c some e =
       tree = built chunk len ts c.low_is (omega (arith, same, some)) l.low_is t.0 f.0 f.1;
       spans = t.1;
       few = omega (arith, same, eight);
-      fits = not_from (start + len) (2 ^ 64) b.0;
+      fits = not_full (start + len) (2 ^ 64) b.0;
     }
 
 pub over_entries : (inner : List InnerExtent) (start len chunk : ℕ) (volumes : List ℕ) (found : List Entry) → Each IsInner inner → length inner ≤ 32 → IsWithin 1 1048576 len → IsWithin 1 65536 chunk → 1 ≤ length volumes

@@ -15,10 +15,10 @@ use Rattle.script_lines.specs.Verbs.{comes_before, is_new_verb, place_of, verb_o
 use Rattle.script_text.specs.Drafts.{Drafted}
 use Rattle.script_text.specs.Language.{at_place, go_on, is_behind, is_comment, line_taken, lines_read, taken, text_taken, unless_broken, verb_taken, words_behind, words_taken}
 use Rattle.script_text.specs.Rules.{broken_rule}
-use Rattle.script_text.proofs.Filled.{and_first, and_second}
 use Rattle.script_laws.specs.Clean.{AreWords}
 use Rattle.script_laws.specs.Texts.{has_short_lines, is_short, spaced}
 use Rattle.script_laws.proofs.Texts.{first_line, plain_spaced, words_spaced}
+use Rattle.small_laws.proofs.Tests.{and_first, and_second}
 
 -- Where its lines are short, a text is read so far: what is left is read from this number and this draft on.
 abbrev pub Step : ℕ → List ℕ → Drafted → ℕ → List ℕ → Drafted → Type 0

@@ -9,14 +9,11 @@ use Rattle.script_words.proofs.Cutting.{next_of, cut_first}
 use Rattle.script_laws.specs.Clean.{AreWords, IsWord, avoids, clean, is_filled, is_visible}
 use Rattle.script_laws.specs.Texts.{spaced}
 use Rattle.script_laws.proofs.Clean.{clean_avoids}
-use Rattle.volume_tree.proofs.Putting.{ltb_suc, one_more}
-use Rattle.script_text.proofs.Filled.{and_first, and_second}
-
-same_mark : (mark : ℕ) → eqb mark mark ≡ true
-same_mark mark = grind (arith, nat_tests)
+use Rattle.small_laws.proofs.Tests.{and_first, and_second, eqb_self, ltb_suc}
+use Rattle.small_laws.proofs.Numbers.{one_more}
 
 pub parts_at : (mark : ℕ) (w rest : List ℕ) → avoids mark w ≡ true → parts mark (w ++ (mark ∷ rest)) ≡ w ∷ parts mark rest
-parts_at mark [] rest h = ap (λ t. cond t ([] ∷ parts mark rest) (in_front mark (parts mark rest))) (same_mark mark)
+parts_at mark [] rest h = ap (λ t. cond t ([] ∷ parts mark rest) (in_front mark (parts mark rest))) (eqb_self mark)
 parts_at mark (b ∷ w) rest h =
     ap (λ t. cond t ([] ∷ parts mark (w ++ (mark ∷ rest))) (in_front b (parts mark (w ++ (mark ∷ rest))))) (not-true (eqb b mark) (and_first (not (eqb b mark)) (avoids mark w) h))
     ∙ ap (in_front b) (parts_at mark w rest (and_second (not (eqb b mark)) (avoids mark w) h))
@@ -112,7 +109,7 @@ cut_later mark b bs h =
     ∙ later_by (ltb (position_or_len (is_byte mark) bs) (length bs)) b (position_or_len (is_byte mark) bs) bs
 
 pub cut_at : (mark : ℕ) (w rest : List ℕ) → avoids mark w ≡ true → cut mark (w ++ (mark ∷ rest)) ≡ Some (record { before = w; after = rest })
-cut_at mark [] rest h = cut_first mark mark rest (same_mark mark)
+cut_at mark [] rest h = cut_first mark mark rest (eqb_self mark)
 cut_at mark (b ∷ w) rest h =
     cut_later mark b (w ++ (mark ∷ rest)) (not-true (eqb b mark) (and_first (not (eqb b mark)) (avoids mark w) h))
     ∙ ap (later b) (cut_at mark w rest (and_second (not (eqb b mark)) (avoids mark w) h))

@@ -15,7 +15,7 @@ use Rattle.script_words.specs.Hexes.{byte_in, bytes_by, hex_in, long_tag_in, tag
 use Rattle.script_words.specs.Numbers.{as_negative, as_positive, in_range, number_within, signed_within}
 use Rattle.script_laws.specs.Clean.{IsWord, avoids, clean, is_filled, is_visible}
 use Rattle.script_laws.proofs.Clean.{are_digits, decimal_digits, decimal_filled, digits_avoid, digits_clean}
-use Rattle.script_text.proofs.Filled.{and_first, and_second}
+use Rattle.small_laws.proofs.Tests.{and_first, and_second}
 
 value_more : (m : ℕ) (ds : List ℕ) (d : ℕ) → value_from m (ds ++ (d ∷ [])) ≡ value_from m ds * 10 + (d - 48)
 value_more m [] d = refl
@@ -104,7 +104,7 @@ negative_back most n h s =
 
 -- hexadecimal digits
 
-bytes_one : (a : ℕ) → a < 256 → IsBytes (a ∷ [])
+pub bytes_one : (a : ℕ) → a < 256 → IsBytes (a ∷ [])
 bytes_one a g zero = g
 bytes_one a g (suc k) = omega arith
 
@@ -132,11 +132,8 @@ tag_back n h = ap (value_of w16) (decode_sized-encode_lower (to_be_bytes w16 n) 
 pub long_tag_back : (n : ℕ) → n < 2 ^ 32 → long_tag_in (encode_lower (to_be_bytes w32 n)) ≡ Some n
 long_tag_back n h = ap (value_of w32) (decode_sized-encode_lower (to_be_bytes w32 n) 4 refl (four_bytes n)) ∙ ap Some (from_be_bytes-to_be_bytes_4 n h)
 
-pub one_byte : (b : ℕ) → b < 256 → IsBytes (b ∷ [])
-one_byte b h = bytes_one b h
-
 pub byte_back : (b : ℕ) → b < 256 → byte_in (encode_lower (b ∷ [])) ≡ Some b
-byte_back b h = ap (value_of w8) (decode_sized-encode_lower (b ∷ []) 1 refl (one_byte b h))
+byte_back b h = ap (value_of w8) (decode_sized-encode_lower (b ∷ []) 1 refl (bytes_one b h))
 
 pub hex_back : (most : ℕ) (bytes : List ℕ) → IsBytes bytes → 1 ≤ length bytes → length bytes ≤ most → hex_in most (encode_lower bytes) ≡ Some bytes
 hex_back most bytes f l h =
@@ -188,7 +185,7 @@ pub long_tag_word : (n : ℕ) → IsWord (encode_lower (to_be_bytes w32 n))
 long_tag_word n = hex_word (to_be_bytes w32 n) (four_bytes n) (omega arith)
 
 pub byte_word : (b : ℕ) → b < 256 → IsWord (encode_lower (b ∷ []))
-byte_word b h = hex_word (b ∷ []) (one_byte b h) (omega arith)
+byte_word b h = hex_word (b ∷ []) (bytes_one b h) (omega arith)
 
 pub minus_word : (n : ℕ) → suc n < 2 ^ 64 → IsWord (signed_decimal (negsuc n))
 minus_word n h = record { clean_is = digits_clean (decimal (suc n)) (decimal_digits (suc n) h); filled_is = refl }

@@ -1,5 +1,5 @@
 -- A bound script whose faults have the form: all that the law of its run asks.
-use Rattle.std.proofs.Common.{◌≡◌, ◌<◌, ℕ, ◌*◌, ◌%◌, true, not, ◌||◌, ◌⊎◌, inl, inr, List, [], ◌∷◌, refl, sym, ap, ◌∙◌, arith, map, false}
+use Rattle.std.proofs.Common.{◌≡◌, ◌<◌, ℕ, ◌*◌, true, not, ◌||◌, List, [], ◌∷◌, refl, sym, ap, ◌∙◌, arith, map, false}
 use Rattle.std.specs.Prelude.{All}
 use Rattle.std.specs.List.{list_all, list_any}
 use Rattle.std.proofs.lemmas.Bool.{and_parts, not-true}
@@ -32,16 +32,13 @@ use Rattle.whole_run.specs.UnderMap.{AreClean, NoEscape, address_of}
 use Rattle.run_premises.specs.Forms.{is_good_line, is_overwrite, supplies_none}
 use Rattle.run_premises.specs.FormedRun.{HasFormedFaults, IsOfBytes}
 use Rattle.script_premises.specs.FormedScript.{IsBoundTo, IsFormedScript, IsStillScript}
-
-even : (n : ℕ) → (n ≡ 512) ⊎ (n ≡ 4096) → n % 2 ≡ 0
-even n (inl e) = omega arith
-even n (inr e) = omega arith
+use Rattle.small_laws.proofs.Numbers.{even_size as even}
 
 kind-bytes : (size : ℕ) (f : FaultLine) (kind : FaultKind) → IsKind size f kind → IsOfBytes kind
 kind-bytes size f (Flip off bytes) h = are-bytes bytes h.are_bytes
 kind-bytes size f (Shift by) h = tt
 
-lines-bytes : (size : ℕ) (ops : List Op) (faults : List FaultLine) → Each (IsFault size ops) faults → All (λ (line : FaultLine). IsOfBytes line.kind) faults
+pub lines-bytes : (size : ℕ) (ops : List Op) (faults : List FaultLine) → Each (IsFault size ops) faults → All (λ (line : FaultLine). IsOfBytes line.kind) faults
 lines-bytes size ops [] h = All-nil (λ (line : FaultLine). IsOfBytes line.kind)
 lines-bytes size ops (f ∷ faults) h = All-cons (λ (line : FaultLine). IsOfBytes line.kind) f faults (kind-bytes size f f.kind h.0.kind_is) (lines-bytes size ops faults h.1)
 

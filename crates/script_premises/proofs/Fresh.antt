@@ -1,16 +1,17 @@
 -- What a formatted image holds: clean blocks.
-use Rattle.std.proofs.Common.{ℕ, zero, suc, ◌≡◌, ◌+◌, ◌-◌, ◌*◌, ◌^◌, ◌≤◌, ◌<◌, true, false, List, [], ◌∷◌, ◌++◌, length, drop, get_or, map, replicate, refl, sym, ap, subst, ◌∙◌, arith}
+use Rattle.std.proofs.Common.{ℕ, zero, suc, ◌≡◌, ◌+◌, ◌-◌, ◌*◌, ◌≤◌, ◌<◌, true, false, List, [], ◌∷◌, ◌++◌, length, drop, get_or, map, replicate, refl, sym, ap, subst, ◌∙◌, arith}
 use Rattle.std.specs.Prelude.{All}
 use Rattle.std.specs.Int.{w16, to_be_bytes}
 use Rattle.std.proofs.lemmas.Bool.{false≢true}
 use Rattle.std.proofs.lemmas.List.{drop_at, length-append, length-replicate, get_or_append_left, get_or-append_right}
 use Rattle.std.proofs.lemmas.List.Elements.{All-append, All-cons, All-nil}
 use Rattle.pi_guard.specs.Guards.{crc}
-use Rattle.pi_tuple.specs.Finds.{has_ref_tag, is_escaped, is_zero, own_tag}
-use Rattle.pi_tuple.specs.Tuples.{ref_tag, tuple_bytes}
+use Rattle.pi_tuple.specs.Finds.{is_escaped, is_zero, own_tag}
+use Rattle.pi_tuple.specs.Tuples.{tuple_bytes}
 use Rattle.pi_tuple.specs.declared.checks.PiType.{PiType}
 use Rattle.pi_tuple.specs.declared.checks.PiType.TheVariants.{Zero, One, Two, Three}
 use Rattle.pi_tuple.specs.declared.tuple.Tuple.{Tuple}
+use Rattle.pi_tuple.proofs.TupleLaws.{own_below, own_is}
 use Rattle.target_answer.specs.Frames.{frame_of, frames_of, joined, stored_size}
 use Rattle.target_answer.specs.Headers.{bytes_of, entry_of, header, magic_of, version_for}
 use Rattle.target_answer.specs.Image.{all_fresh, formatted, fresh, fresh_bytes, fresh_from, units_from, units_in}
@@ -18,17 +19,18 @@ use Rattle.target_answer.specs.Target.{Stored}
 use Rattle.target_answer.specs.declared.units.UnitSpec.{UnitSpec}
 use Rattle.target_answer.specs.declared.units.Version.{Version}
 use Rattle.target_answer.specs.declared.units.Version.TheVariants.{First, Second}
+use Rattle.target_answer.proofs.FreshBlocks.{fresh_long, fresh_many, fresh_is}
 use Rattle.dix_adapter.specs.Ways.{blocks_told, cell_in, shapes_of}
 use Rattle.dix_adapter.proofs.Runs.{AllLong, cut-joined, joined-long}
 use Rattle.rig_discovery.specs.Discovery.{info_of}
 use Rattle.volume_table.specs.Places.{place_in}
 use Rattle.volume_table.specs.Tables.{IsOn}
-use Rattle.block_path.proofs.Cells.{AllBelow}
 use Rattle.whole_run.specs.PlainMap.{as_expected}
 use Rattle.whole_run.specs.Settings.{Setting}
 use Rattle.whole_run.specs.UnderMap.{IsClean}
-use Rattle.whole_run.proofs.TupleFrames.{Small, data_is, tag_below, tuple_below, tuple_is}
+use Rattle.whole_run.proofs.TupleFrames.{Small, data_is, tuple_below, tuple_is}
 use Rattle.run_laws.specs.ShownRun.{DevicesAreClean}
+use Rattle.run_laws.proofs.Behind.{all_below}
 use Rattle.run_premises.proofs.Near.{crc-zeros, zeros_are_bytes}
 
 -- ---- the header's length
@@ -62,28 +64,18 @@ header_long Second us h =
 abbrev pub fresh_unit : UnitSpec → Stored
 fresh_unit u = record { ty = u.ty; size = u.size; first = u.first; blocks = all_fresh u }
 
-long : (ty : PiType) (size lba : ℕ) → length (fresh ty size lba) ≡ stored_size ty size
-long Zero size lba = length-replicate size 0
-long One size lba = length-append (replicate size 0) (tuple_bytes (record { guard = 0; app = 0; rtag = own_tag One lba })) ∙ ap (λ n. n + 8) (length-replicate size 0)
-long Two size lba = length-append (replicate size 0) (tuple_bytes (record { guard = 0; app = 0; rtag = own_tag Two lba })) ∙ ap (λ n. n + 8) (length-replicate size 0)
-long Three size lba = length-append (replicate size 0) (tuple_bytes (record { guard = 0; app = 0; rtag = own_tag Three lba })) ∙ ap (λ n. n + 8) (length-replicate size 0)
-
-all_long : (ty : PiType) (size lba n : ℕ) → AllLong (stored_size ty size) (fresh_from ty size lba n)
+pub all_long : (ty : PiType) (size lba n : ℕ) → AllLong (stored_size ty size) (fresh_from ty size lba n)
 all_long ty size lba zero = tt
-all_long ty size lba (suc n) = (long ty size lba, all_long ty size (lba + 1) n)
+all_long ty size lba (suc n) = (fresh_long ty size lba, all_long ty size (lba + 1) n)
 
-many : (ty : PiType) (size lba n : ℕ) → length (fresh_from ty size lba n) ≡ n
-many ty size lba zero = refl
-many ty size lba (suc n) = ap suc (many ty size (lba + 1) n)
-
-first_found : (u : UnitSpec) (rest : List ℕ) → frames_of (stored_size u.ty u.size) u.blocks (joined (all_fresh u) ++ rest) ≡ all_fresh u
+pub first_found : (u : UnitSpec) (rest : List ℕ) → frames_of (stored_size u.ty u.size) u.blocks (joined (all_fresh u) ++ rest) ≡ all_fresh u
 first_found u rest =
-    ap (λ n. frames_of (stored_size u.ty u.size) n (joined (all_fresh u) ++ rest)) (sym (many u.ty u.size u.first u.blocks))
+    ap (λ n. frames_of (stored_size u.ty u.size) n (joined (all_fresh u) ++ rest)) (sym (fresh_many u.ty u.size u.first u.blocks))
     ∙ cut-joined (stored_size u.ty u.size) (all_fresh u) rest (all_long u.ty u.size u.first u.blocks)
 
-bytes_are : (u : UnitSpec) → length (joined (all_fresh u)) ≡ bytes_of u
+pub bytes_are : (u : UnitSpec) → length (joined (all_fresh u)) ≡ bytes_of u
 bytes_are u =
-    joined-long (stored_size u.ty u.size) (all_fresh u) (all_long u.ty u.size u.first u.blocks) ∙ ap (λ n. n * stored_size u.ty u.size) (many u.ty u.size u.first u.blocks)
+    joined-long (stored_size u.ty u.size) (all_fresh u) (all_long u.ty u.size u.first u.blocks) ∙ ap (λ n. n * stored_size u.ty u.size) (fresh_many u.ty u.size u.first u.blocks)
 
 units_found : (us : List UnitSpec) → units_from us (fresh_bytes us) ≡ map fresh_unit us
 units_found [] = refl
@@ -98,40 +90,29 @@ blocks_are us few = ap (units_from us) (drop_at (header (version_for us) us) (fr
 
 shapes_fresh : (us : List UnitSpec) → shapes_of (map fresh_unit us) ≡ us
 shapes_fresh [] = refl
-shapes_fresh (u ∷ us) = ap (λ n. record { ty = u.ty; blocks = n; size = u.size; first = u.first } ∷ shapes_of (map fresh_unit us)) (many u.ty u.size u.first u.blocks) ∙ ap (λ rest. u ∷ rest) (shapes_fresh us)
+shapes_fresh (u ∷ us) = ap (λ n. record { ty = u.ty; blocks = n; size = u.size; first = u.first } ∷ shapes_of (map fresh_unit us)) (fresh_many u.ty u.size u.first u.blocks) ∙ ap (λ rest. u ∷ rest) (shapes_fresh us)
 
 pub shapes_are : (us : List UnitSpec) → length us ≤ 8 → shapes_of (units_in us (formatted us)) ≡ us
 shapes_are us few = ap shapes_of (blocks_are us few) ∙ shapes_fresh us
 
 -- ---- the block of an address
 
-block_is : (ty : PiType) (size lba n k : ℕ) → k < n → get_or (fresh_from ty size lba n) k [] ≡ fresh ty size (lba + k)
-block_is ty size lba zero k h = absurd (omega arith)
-block_is ty size lba (suc n) zero h = let e : lba ≡ lba + 0 = omega arith in ap (fresh ty size) e
-block_is ty size lba (suc n) (suc k) h = let e : (lba + 1) + k ≡ lba + suc k = omega arith in block_is ty size (lba + 1) n k (omega arith) ∙ ap (fresh ty size) e
-
-cell_is : (ty : PiType) (size : ℕ) (us : List UnitSpec) (dev lba : ℕ) → IsOn (map info_of us) ty size dev lba 1 → get_or (blocks_told (map fresh_unit us)) (cell_in us dev lba) [] ≡ fresh ty size lba
+pub cell_is : (ty : PiType) (size : ℕ) (us : List UnitSpec) (dev lba : ℕ) → IsOn (map info_of us) ty size dev lba 1 → get_or (blocks_told (map fresh_unit us)) (cell_in us dev lba) [] ≡ fresh ty size lba
 cell_is ty size [] dev lba h = let l = h.known in absurd (omega arith)
 cell_is ty size (u ∷ us) zero lba h =
     let low : u.first ≤ lba = h.begins in
     let high : lba + 1 ≤ u.first + u.blocks = h.ends in
-    let n = many u.ty u.size u.first u.blocks in
+    let n = fresh_many u.ty u.size u.first u.blocks in
     let e : u.first + (lba - u.first) ≡ lba = omega arith in
-    get_or_append_left (all_fresh u) (blocks_told (map fresh_unit us)) [] (lba - u.first) (omega arith) ∙ block_is u.ty u.size u.first u.blocks (lba - u.first) (omega arith)
+    get_or_append_left (all_fresh u) (blocks_told (map fresh_unit us)) [] (lba - u.first) (omega arith) ∙ fresh_is u.ty u.size u.first u.blocks (lba - u.first) (omega arith)
     ∙ ap (λ t. fresh t u.size (u.first + (lba - u.first))) h.type_is ∙ ap (λ s. fresh ty s (u.first + (lba - u.first))) h.size_is ∙ ap (fresh ty size) e
 cell_is ty size (u ∷ us) (suc dev) lba h =
     let k = h.known in
     let e : (u.blocks + cell_in us dev lba) - u.blocks ≡ cell_in us dev lba = omega arith in
-    get_or-append_right (all_fresh u) (blocks_told (map fresh_unit us)) u.blocks (u.blocks + cell_in us dev lba) [] (many u.ty u.size u.first u.blocks) (omega arith)
+    get_or-append_right (all_fresh u) (blocks_told (map fresh_unit us)) u.blocks (u.blocks + cell_in us dev lba) [] (fresh_many u.ty u.size u.first u.blocks) (omega arith)
     ∙ ap (λ i. get_or (blocks_told (map fresh_unit us)) i []) e ∙ cell_is ty size us dev lba (record { known = omega arith; begins = h.begins; ends = h.ends; type_is = h.type_is; size_is = h.size_is })
 
 -- ---- it is clean
-
-own_below : (ty : PiType) (lba : ℕ) → own_tag ty lba < 2 ^ 32
-own_below Zero lba = omega arith
-own_below One lba = tag_below lba
-own_below Two lba = tag_below lba
-own_below Three lba = omega arith
 
 framed : (ty : PiType) (size lba : ℕ) → is_zero ty ≡ false → fresh ty size lba ≡ frame_of (replicate size 0) (record { guard = 0; app = 0; rtag = own_tag ty lba })
 framed Zero size lba z = absurd (false≢true (sym z))
@@ -144,12 +125,6 @@ no_escape_is Zero r = refl
 no_escape_is One r = refl
 no_escape_is Two r = refl
 no_escape_is Three r = refl
-
-own_is : (ty : PiType) (lba : ℕ) → has_ref_tag ty ≡ true → own_tag ty lba ≡ ref_tag lba
-own_is Zero lba h = absurd (false≢true h)
-own_is One lba h = refl
-own_is Two lba h = refl
-own_is Three lba h = absurd (false≢true h)
 
 fresh_clean : (m : Setting) (lba : ℕ) → is_zero m.ty ≡ false → as_expected m 0 ≡ true → IsClean m lba (fresh m.ty m.size lba)
 fresh_clean m lba z app =
@@ -173,12 +148,8 @@ formatted_clean m units few z app cell v lba l h =
 
 -- ---- it is bytes
 
-each_below : (n : ℕ) (xs : List ℕ) → AllBelow n xs → All (λ x. x < n) xs
-each_below n [] h = All-nil (λ (x : ℕ). x < n)
-each_below n (x ∷ xs) h = All-cons (λ (y : ℕ). y < n) x xs h.0 (each_below n xs h.1)
-
 with_tuple : (size : ℕ) (t : Tuple) → All (λ x. x < 256) (frame_of (replicate size 0) t)
-with_tuple size t = All-append (λ (x : ℕ). x < 256) (replicate size 0) (tuple_bytes t) (zeros_are_bytes size) (each_below 256 (tuple_bytes t) (tuple_below t))
+with_tuple size t = All-append (λ (x : ℕ). x < 256) (replicate size 0) (tuple_bytes t) (zeros_are_bytes size) (all_below 256 (tuple_bytes t) (tuple_below t))
 
 fresh_below : (ty : PiType) (size lba : ℕ) → All (λ x. x < 256) (fresh ty size lba)
 fresh_below Zero size lba = zeros_are_bytes size

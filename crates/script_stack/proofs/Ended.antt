@@ -7,6 +7,7 @@ use Rattle.answered_record.specs.Answered.{AreAnswersTo}
 use Rattle.run_follows.specs.Overwrites.{is_overwrite}
 use Rattle.stack_core.specs.declared.sheet.Sheet.{Sheet}
 use Rattle.std.proofs.lemmas.Option.{none-some}
+use Rattle.std.proofs.Math.Seq.{drop-append_seam}
 use Rattle.fault_schedule.specs.declared.fault.FaultLine.{FaultLine}
 use Rattle.target_answer.specs.Image.{units_in}
 use Rattle.target_answer.specs.Target.{Stored}
@@ -33,7 +34,7 @@ use Rattle.stack_view.specs.View.{start}
 use Rattle.script_stack.specs.Followed.{BeginsTold, BeginsWalks, HasWalked, IsBackedBy, SizesAre, begun_of, failed_in, none_fails, setting_of, unit_of, BeginsFalling, HasFallen}
 use Rattle.stack_core.specs.Going.{Went}
 use Rattle.script_stack.specs.Sends.{IsPlanFor, SendsBy, SendsFor, by_words, entries_of}
-use Rattle.script_stack.proofs.Following.{behind, told-shapes, told-stored}
+use Rattle.script_stack.proofs.Following.{told-shapes, told-stored}
 use Rattle.script_stack.proofs.SendsBy.{AllLaw, FewLaw, sends_for}
 
 -- the law over any rig
@@ -86,7 +87,7 @@ pub record IsOver (s : Script) (t : Table) (devices : List DeviceInfo) (words : 
   pub sent : begun.machine.steps ≡ 0 → SendsBy (entries_of words) begun r old.log new.log
 
 pub rest_is : (s : Script) (t : Table) (devices : List DeviceInfo) (words : List (ℕ × ℕ)) (begun r : Stack) (image image' : Option (List ℕ)) (old new : RigState) (o : IsOver s t devices words begun r image image' old new) → drop (length old.log) new.log ≡ o.goes.more
-rest_is s t devices words begun r image image' old new o = ap (drop (length old.log)) o.goes.records ∙ behind old.log o.goes.more
+rest_is s t devices words begun r image image' old new o = ap (drop (length old.log)) o.goes.records ∙ drop-append_seam old.log o.goes.more
 
 pub backed_by : (s : Script) (t : Table) (devices : List DeviceInfo) (words : List (ℕ × ℕ)) (begun r : Stack) (image image' : Option (List ℕ)) (old new : RigState) → BackedLaw → (o : IsOver s t devices words begun r image image' old new) → IsBackedBy s t devices o.goes.more r.replies.items
 backed_by s t devices words begun r image image' old new law o =
@@ -109,7 +110,7 @@ answered_by s t devices words begun r image image' old new o us told quiet none 
     let m = setting_of s t (map unit_of devices) (failed_in r.replies.items) in
     let ops : begun.sheet.ops ≡ s.ops = ap (λ (x : Sheet). x.ops) (sym o.stays.sheet) ∙ o.ops in
     let x = (o.went.answered m (4096 * s.pages) (begun_of s (map unit_of devices) []) (length old.log) (o.walks (failed_in r.replies.items) [] old.standing old.log o.sizes) (ap (list_any is_overwrite) ops ∙ none) us told (o.armed ∙ quiet) calm).0 in
-    let same : x.records ≡ o.goes.more = sym (behind old.log x.records) ∙ (ap (drop (length old.log)) (sym x.log) ∙ rest_is s t devices words begun r image image' old new o) in
+    let same : x.records ≡ o.goes.more = sym (drop-append_seam old.log x.records) ∙ (ap (drop (length old.log)) (sym x.log) ∙ rest_is s t devices words begun r image image' old new o) in
     (x.left, x.units, subst (λ es. AreAnswersTo old.standing us es x.left) same x.answered)
 
 -- the law of lines that name the medium

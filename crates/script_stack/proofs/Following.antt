@@ -1,6 +1,6 @@
 -- A script that was run over a rig was followed to its end.
-use Rattle.std.proofs.Common.{◌≡◌, ◌<◌, ℕ, zero, suc, ◌+◌, Bool, true, false, List, [], ◌∷◌, ◌++◌, length, drop, Option, Some, None, refl, sym, ap, subst, ◌∙◌, arith}
-use Rattle.std.specs.Prelude.{if◌then◌else◌, slice_index, take}
+use Rattle.std.proofs.Common.{◌≡◌, ◌<◌, ℕ, zero, suc, ◌+◌, List, [], ◌∷◌, length, Option, Some, None, refl, sym, ap, subst, ◌∙◌, arith}
+use Rattle.std.specs.Prelude.{take}
 use Rattle.std.proofs.lemmas.List.{length-map, length-take}
 use Rattle.std.specs.List.{All}
 use Rattle.std.proofs.lemmas.List.Elements.{All-cons, All-nil}
@@ -8,13 +8,11 @@ use Rattle.std.proofs.lemmas.Option.{none-some, same_Some}
 use Rattle.target_answer.specs.Frames.{stored_size}
 use Rattle.target_answer.specs.Image.{units_in}
 use Rattle.target_answer.specs.Target.{Stored, shape_of}
-use Rattle.pi_tuple.specs.declared.checks.PiType.{PiType}
-use Rattle.cdb_codec.specs.Decoded.{eight_at, four_at}
 use Rattle.rig_api.specs.Head.{units_of}
 use Rattle.rig_api.specs.Log.{Entry}
 use Rattle.rig_api.specs.Telling.{IsStanding, Standing, spec_at, specs_of, unit_at, units_told}
-use Rattle.rig_discovery.specs.Answers.{info_with, is_fault, type_told}
 use Rattle.rig_discovery.specs.Discovery.{Answer, HasFound, all_told, told, with_info}
+use Rattle.rig_discovery.proofs.ToldSizes.{told_size}
 use Rattle.volume_table.specs.declared.device.DeviceInfo.{DeviceInfo}
 use Rattle.volume_table.specs.Faults.{device}
 use Rattle.dix_adapter.specs.Ways.{shapes_of}
@@ -24,13 +22,6 @@ use Rattle.script_ground.specs.Units.{AreStored}
 use Rattle.script_stack.specs.Followed.{SizesAre}
 
 -- ---- what was found has the sizes that the head tells
-
-told-size : (s : Standing) (dev : ℕ) (a : Answer) (d : DeviceInfo) → told s dev a ≡ Some d → d.size ≡ (spec_at s dev).size
-told-size s dev a d e = by (is_fault (spec_at s dev).first (spec_at s dev).size a.outcome (eight_at a.bytes 0) (four_at a.bytes 8)) (type_told (slice_index a.bytes 12)) e where
-  by : (bad : Bool) (ty : Option PiType) → (if bad then None else info_with (spec_at s dev).first (spec_at s dev).size (eight_at a.bytes 0) ty) ≡ Some d → d.size ≡ (spec_at s dev).size
-  by true ty e = absurd (none-some d e)
-  by false None e = absurd (none-some d e)
-  by false (Some ty) e = sym (ap (λ (x : DeviceInfo). x.size) (same_Some _ d e))
 
 sizes-from : (s : Standing) (dev : ℕ) (answers : List Answer) (found : List DeviceInfo) → all_told s dev answers ≡ Some found → (d : ℕ) → d < length found → (spec_at s (dev + d)).size ≡ (device found d).size
 sizes-from s dev [] found e d l = absurd (let n = ap length (same_Some [] found e) in omega arith)
@@ -44,7 +35,7 @@ sizes-from s dev (a ∷ answers) found e d l = by (told s dev a) refl (all_told 
       subst (λ ds. (spec_at s (dev + d)).size ≡ (device ds d).size) same (at d (subst (λ ds. d < length ds) (sym same) l))
     where
       at : (d : ℕ) → d < length (i ∷ more) → (spec_at s (dev + d)).size ≡ (device (i ∷ more) d).size
-      at zero l = let z : dev + 0 ≡ dev = omega arith in ap (λ x. (spec_at s x).size) z ∙ sym (told-size s dev a i f)
+      at zero l = let z : dev + 0 ≡ dev = omega arith in ap (λ x. (spec_at s x).size) z ∙ sym (told_size s dev a i f)
       at (suc d) l = let z : dev + suc d ≡ dev + 1 + d = omega arith in ap (λ x. (spec_at s x).size) z ∙ behind more g d (omega arith)
 
 pub sizes-found : (s : Standing) (devices : List DeviceInfo) (old new : List Entry) → HasFound s devices old new → SizesAre devices s
@@ -76,13 +67,3 @@ told-stored st image us e r =
     let m = ap length s in
     let t = length-take st.devices (units_of st.head) in
     stored-from us (λ dev l. (unit-stands st image us dev e r (omega arith)).long)
-
--- the stored blocks after a call that changed neither image nor head
-pub units-through : (s s2 : Standing) (image image2 : Option (List ℕ)) (units units2 : Option (List Stored)) → units ≡ units_told s image → units2 ≡ units_told s2 image2 → s2 ≡ s → image2 ≡ image → units2 ≡ units
-units-through s s2 image image2 units units2 p q e f = q ∙ ap (λ (v : Standing). units_told v image2) e ∙ ap (units_told s) f ∙ sym p
-
--- ---- the records behind some
-
-pub behind : (xs ys : List Entry) → drop (length xs) (xs ++ ys) ≡ ys
-behind [] ys = refl
-behind (x ∷ xs) ys = behind xs ys

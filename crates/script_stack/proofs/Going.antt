@@ -2,7 +2,7 @@
 use Rattle.std.proofs.Common.{◌≤◌, ◌++◌, ◌∙◌, ℕ, ap, refl, arith}
 use Rattle.std.specs.List.{list_any}
 use Rattle.std.proofs.lemmas.List.{append_assoc}
-use Rattle.rig_api.specs.State.{RigState, Stays as RigStays}
+use Rattle.rig_api.specs.State.{RigState}
 use Rattle.answered_record.proofs.Going.{puts_nothing, puts_then}
 use Rattle.run_follows.specs.Overwrites.{is_overwrite}
 use Rattle.stack_core.specs.declared.sheet.Sheet.{Sheet}
@@ -32,13 +32,6 @@ went_on s o s' o' s'' o'' a b = record {
   answered = λ m n opening first w none.
       puts_then o o' o'' a.faults b.faults (a.answered m n opening first w none) (b.answered m n opening first (a.walks m n opening first w) (ap (λ (x : Sheet). list_any is_overwrite x.ops) a.sheet ∙ none));
 }
-
--- the rig stays from one to the next
-pub rig_then : (s s' s'' : RigState) → RigStays s s' → RigStays s' s'' → RigStays s s''
-rig_then s s' s'' a b = record { tells = b.tells ∙ a.tells; standing = b.standing ∙ a.standing; armed = b.armed ∙ a.armed; count = (let x = a.count in let y = b.count in omega arith) }
-
-pub rig_nowhere : (s : RigState) → RigStays s s
-rig_nowhere s = record { tells = refl; standing = refl; armed = refl; count = omega arith }
 
 -- and goes on from one to the next
 pub goes_then : (s s' s'' : RigState) → GoesOn s s' → GoesOn s' s'' → GoesOn s s''

@@ -1,18 +1,11 @@
 -- Segments inside the pages: few bytes, and each place in a page.
-use Rattle.std.proofs.Common.{ℕ, zero, suc, ◌≡◌, ◌+◌, ◌*◌, ◌≤◌, ◌&&◌, Bool, true, false, List, [], ◌∷◌, ◌++◌, length, refl, arith}
+use Rattle.std.proofs.Common.{ℕ, zero, suc, ◌≡◌, ◌+◌, ◌*◌, ◌≤◌, true, List, [], ◌∷◌, ◌++◌, length, arith}
 use Rattle.std.proofs.lemmas.Bool.Decides.{nat_tests}
 use Rattle.page_pool.specs.declared.segs.Seg.{Seg}
 use Rattle.page_pool.specs.Places.{PageByte, places_in, run, total}
 use Rattle.page_pool.specs.Walking.{InPages}
 use Rattle.script_text.specs.Segments.{are_inside, is_inside}
-
-pub and_first : (a b : Bool) → a && b ≡ true → a ≡ true
-and_first true b h = refl
-and_first false b h = h
-
-pub and_second : (a b : Bool) → a && b ≡ true → b ≡ true
-and_second true b h = h
-and_second false b h = absurd (cc)
+use Rattle.small_laws.proofs.Tests.{and_first, and_second}
 
 ends_inside : (pages : ℕ) (s : Seg) → is_inside pages s ≡ true → s.off + s.len ≤ 4096
 ends_inside pages s h = grind (arith, nat_tests)

@@ -11,6 +11,7 @@ use Rattle.page_pool.proofs.Sharing.{exact}
 use Rattle.range_gate.specs.Prints.{IsSound, Rises}
 use Rattle.range_gate.proofs.Sweep.{skip_left}
 use Rattle.script_text.specs.Segments.{any_share}
+use Rattle.small_laws.proofs.Tests.{same_test}
 
 abbrev one : Bool → ℕ
 one true = 1
@@ -27,11 +28,6 @@ pairs (s ∷ ss) = row s ss + pairs ss
 abbrev rows : List Seg → List Seg → ℕ
 rows ts [] = 0
 rows ts (s ∷ ss) = row s ts + rows ts ss
-
-same_test : (a b : Bool) → (a ≡ true → b ≡ true) → (b ≡ true → a ≡ true) → a ≡ b
-same_test true b f g = sym (f refl)
-same_test false true f g = g refl
-same_test false false f g = refl
 
 shares_both : (s t : Seg) → shares s t ≡ shares t s
 shares_both s t =

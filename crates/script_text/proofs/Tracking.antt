@@ -14,7 +14,7 @@ use Rattle.std.proofs.lemmas.List.{map-append}
 use Rattle.std.proofs.lemmas.Bool.{eq-eqb}
 use Rattle.volume_tree.specs.Tracks.{tracks_of}
 use Rattle.script_text.specs.Trees.{are_lengths, is_bad_volume, is_length, is_past, track_from, tracks_in}
-use Rattle.script_text.proofs.Filled.{and_first, and_second}
+use Rattle.small_laws.proofs.Tests.{and_first, and_second}
 
 abbrev extent : ℕ → Inner → Linear
 extent start i = record { start = start; len = i.len; dev = i.dev; at = i.at }

@@ -5,17 +5,13 @@ use Rattle.std.proofs.lemmas.Bool.Decides.{nat_tests}
 use Rattle.page_pool.specs.declared.segs.Seg.{Seg}
 use Rattle.script_words.specs.Cuts.{Cut, cut, cut_by, ended, filled, in_front, is_byte, lines_of, parts, words_of}
 use Rattle.script_words.specs.Places.{seg_in, segs_of, with_seg}
+use Rattle.small_laws.proofs.Tests.{ltb_suc}
+use Rattle.small_laws.proofs.Numbers.{one_more}
 
 -- how a cut looks with a byte in front
 abbrev later : ℕ → Option Cut → Option Cut
 later b None = None
 later b (Some c) = Some (record { before = b ∷ c.before; after = c.after })
-
-one_more : (n : ℕ) → 1 + n ≡ suc n
-one_more n = omega arith
-
-ltb_suc : (a b : ℕ) → ltb (suc a) (suc b) ≡ ltb a b
-ltb_suc a b = grind (arith, nat_tests)
 
 pub ltb_zero : (a : ℕ) → ltb 0 (suc a) ≡ true
 ltb_zero a = grind (arith, nat_tests)

@@ -28,7 +28,7 @@ use Rattle.block_path.specs.Acts.{State}
 use Rattle.block_path.specs.Blocks.{Sent}
 use Rattle.block_path.specs.Routes.{host_type}
 use Rattle.whole_run.specs.Settings.{Setting}
-use Rattle.whole_run.specs.Steps.{each_from}
+use Rattle.whole_run.proofs.EachFrom.{each_same}
 use Rattle.run_laws.specs.BoundRun.{fates}
 use Rattle.run_laws.specs.ScriptMoves.{fates_of}
 use Rattle.run_follows.specs.Sending.{is_carried}
@@ -51,10 +51,6 @@ use Rattle.run_follows.proofs.Facts.{place-is, there as there_is}
 use Rattle.stack_core.proofs.FollowsComplete.{AllLets, NotAt, all_settled, at, each_keeps, each_whole}
 use Rattle.stack_core.proofs.FollowsGroup.{AllLie, Places, all_lie, all_of, all_sent, apart_of, is_this}
 use Rattle.stack_core.proofs.Spotted.{Stands}
-
-each_same : {X : Type 0} (k n : ℕ) (f g : ℕ → X) → ((q : ℕ) → k ≤ q → q < k + n → f q ≡ g q) → each_from k n f ≡ each_from k n g
-each_same k zero f g h = refl
-each_same k (suc n) f g h = ap (λ x. x ∷ each_from (suc k) n f) (h k (omega arith) (omega arith)) ∙ ap (λ l. g k ∷ l) (each_same (suc k) n f g (λ q a b. h q (omega arith) (omega arith)))
 
 after_carried : (f : Fate) (w : Option Why) (old : Status) → is_carried (after_all f w old) ≡ false → is_carried old ≡ false
 after_carried Good w old e = absurd (false≢true (sym e))

@@ -103,11 +103,8 @@ module _ (us : List Stored) (st : Standing) where
   left_is m image Wait e u r c = refl
 
 -- a rig that tells its units tells its image
-none_some : (us : List Stored) → None ≡ Some us → ⊥
-none_some us e = cc
-
 pub is_told : (st : Standing) (image : Option (List ℕ)) (us : List Stored) → units_told st image ≡ Some us → is_some image ≡ true
-is_told st None us e = absurd (none_some us e)
+is_told st None us e = absurd (cc)
 is_told st (Some bytes) us e = refl
 
 -- ---- a step that leaves the rig alone

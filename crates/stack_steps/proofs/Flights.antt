@@ -2,11 +2,11 @@
 use Rattle.std.proofs.Common.{◌≡◌, ◌<◌, ◌≤◌, ℕ, zero, suc, ◌+◌, ◌-◌, false, List, [], ◌∷◌, ◌++◌, length, take, drop, get_or, set, refl, sym, ap, ◌∙◌, arith, length-append, length-drop}
 use Rattle.std.specs.Prelude.{◌^◌}
 use Rattle.std.specs.List.{remove}
-use Rattle.std.proofs.lemmas.List.{length-take, take_all, drop-take, take-take, drop-drop}
+use Rattle.std.proofs.lemmas.List.{length-take, take_all, drop-take, take-take, drop-drop, take-append-le}
 use Rattle.stack_view.specs.View.{Command, no_command}
 use Rattle.merge_queue.specs.Groups.{without}
 use Rattle.merge_queue.proofs.Lists.{without-remove}
-use Rattle.stack_view.proofs.Rests.{take_within, drop_within}
+use Rattle.stack_view.proofs.Rests.{drop_within}
 use Rattle.bio_core.specs.declared.bio.Bio.{Bio}
 use Rattle.bio_core.specs.declared.fate.Fate.{Fate}
 use Rattle.stack_steps.specs.declared.flight.Flight.{Flight}
@@ -65,7 +65,7 @@ fates-place es i d h = let a = fates-more es i d h in let b = fates-front es (i 
 cut-take : {A : Type 0} (k at n : ℕ) (xs : List A) → k ≤ length xs → take k (cut_out (k + at) n xs) ≡ take k xs
 cut-take k at n xs h =
     let l = length-take (k + at) xs in
-    take_within k (take (k + at) xs) (drop (k + at + n) xs) (omega arith) ∙ take-take k (k + at) xs (omega arith)
+    take-append-le k (take (k + at) xs) (drop (k + at + n) xs) (omega arith) ∙ take-take k (k + at) xs (omega arith)
 
 cut-drop : {A : Type 0} (k at n : ℕ) (xs : List A) → k ≤ length xs → drop k (cut_out (k + at) n xs) ≡ cut_out at n (drop k xs)
 cut-drop k at n xs h =
@@ -112,8 +112,8 @@ push-shown [] e (b ∷ bs) gs fs hs a a' c d = absurd (omega arith)
 push-shown [] e [] gs (f ∷ fs) hs a a' c d = absurd (omega arith)
 push-shown (x ∷ es) e bs gs fs hs a b c d =
     let r = push-shown es e (drop x.bios bs) gs (drop x.blocks fs) hs (let l = length-drop x.bios bs in omega arith) (let l = length-drop x.blocks fs in omega arith) c d in
-    let y = take_within x.bios bs gs (omega arith) in
-    let z = take_within x.blocks fs hs (omega arith) in
+    let y = take-append-le x.bios bs gs (omega arith) in
+    let z = take-append-le x.blocks fs hs (omega arith) in
     let u = drop_within x.bios bs gs (omega arith) in
     let v = drop_within x.blocks fs hs (omega arith) in
     rw (y, z, u, v) (ap (λ w. record { dev = x.dev; bios = take x.bios bs; fates = take x.blocks fs; completed = false } ∷ w) r)

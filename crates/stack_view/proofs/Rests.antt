@@ -1,7 +1,7 @@
 -- What is settled of a command and what goes back are its blocks.
 use Rattle.std.proofs.Common.{◌≡◌, ℕ, zero, suc, ◌+◌, ◌-◌, ◌<◌, ◌≤◌, true, false, eqb, List, [], ◌∷◌, ◌++◌, length, get_or, take, drop, map, refl, sym, ap, ◌∙◌, ⊎_elim, arith, drop-cons, length-drop}
 use Rattle.std.proofs.lemmas.Bool.{cases_Bool, leb-true, leb-false, eqb-true, eq-eqb}
-use Rattle.std.proofs.lemmas.List.{drop_all, length-take}
+use Rattle.std.proofs.lemmas.List.{drop_all, length-take, take-append-le}
 use Rattle.std.specs.List.{All}
 use Rattle.std.proofs.lemmas.List.Elements.{All-nil, All-cons, All-tail, All-map, All-weaker}
 use Rattle.stack_view.specs.Sound.{HasBlocks}
@@ -35,11 +35,6 @@ drop-run i k (suc n) (suc m) h =
 
     f : m - n ≡ suc m - suc n
     f = omega arith
-
-pub take_within : {A : Type 0} (n : ℕ) (xs ys : List A) → n ≤ length xs → take n (xs ++ ys) ≡ take n xs
-take_within zero xs ys h = refl
-take_within (suc n) [] ys h = absurd (omega arith)
-take_within (suc n) (x ∷ xs) ys h = ap (λ l. x ∷ l) (take_within n xs ys (omega arith))
 
 pub take_past : {A : Type 0} (n m : ℕ) (xs ys : List A) → length xs ≡ m → m ≤ n → take n (xs ++ ys) ≡ xs ++ take (n - m) ys
 take_past n m [] ys e h = let f : n - m ≡ n = omega arith in rw f refl
@@ -82,7 +77,7 @@ blocks-front p n (b ∷ bs) =
     (λ (z : eqb n 0 ≡ false).
     let f : b.k + 0 ≡ b.k = omega arith in
     rw (e, z) (append-none (run_of (place_of b.op) (b.k + 0) n) ∙ ap (λ k. run_of (place_of b.op) k n) f
-    ∙ sym (take_within n (run_of (place_of b.op) b.k b.count) (blocks bs) (omega arith) ∙ take-run (place_of b.op) b.k n b.count (omega arith))))
+    ∙ sym (take-append-le n (run_of (place_of b.op) b.k b.count) (blocks bs) (omega arith) ∙ take-run (place_of b.op) b.k n b.count (omega arith))))
     (cases_Bool (eqb n 0)))
     (cases_Bool (nat_le b.count n))
 

@@ -1,10 +1,11 @@
 -- Bytes of a store, and blocks that lie in it.
 use Rattle.std.proofs.Common.{ℕ, zero, suc, ◌≡◌, ◌+◌, ◌-◌, ◌*◌, ◌<◌, ◌≤◌, List, [], ◌∷◌, ◌++◌, length, take, drop, Option, Some, None, refl, sym, ap, ◌∙◌, arith, rules, zero-add, append_assoc, length-append}
-use Rattle.std.proofs.lemmas.List.{places, same_lists, length-take, length-drop}
+use Rattle.std.proofs.lemmas.List.{places, same_lists, length-take, length-drop, take_at, drop_at}
 use Rattle.std.proofs.Math.Nat.{mul-le-mul_left}
 use Rattle.std.proofs.Math.Seq.{take-add}
 use Rattle.dix_base.specs.Told.{over, Apart, Becomes, HasLength, Rose}
 use Rattle.target_answer.specs.Frames.{frames_of, joined, placed}
+use Rattle.target_answer.proofs.FrameLaws.{joined_append}
 use Rattle.rig_api.specs.Telling.{at_front}
 use Rattle.target_model.specs.Served.{AllLong, IsSize}
 
@@ -60,19 +61,11 @@ front_next a b before =
     let last : drop (length b) (drop (length a) before) ≡ drop (length (a ++ b)) before = drop_both (length b) (length a) before ∙ ap (λ n. drop n before) (sym (length-append a b)) in
     over_end a b (drop (length a) before) ∙ sym (append_assoc a b _) ∙ ap (λ v. (a ++ b) ++ v) last
 
-pub length_frames : (len n : ℕ) (b : List ℕ) → length (frames_of len n b) ≡ n
-length_frames len zero b = refl
-length_frames len (suc n) b = let e = length_frames len n (drop len b) in omega (arith, e)
-
 pub joined_frames : (len n : ℕ) (b : List ℕ) → joined (frames_of len n b) ≡ take (len * n) b
 joined_frames len zero b = let z : len * 0 ≡ 0 = omega arith in rw z refl
 joined_frames len (suc n) b =
     let e : len * suc n ≡ len + len * n = omega arith in
     ap (λ v. take len b ++ v) (joined_frames len n (drop len b)) ∙ sym (take-add len (len * n) b) ∙ ap (λ k. take k b) (sym e)
-
-pub joined_append : (xs ys : List (List ℕ)) → joined (xs ++ ys) ≡ joined xs ++ joined ys
-joined_append [] ys = refl
-joined_append (x ∷ xs) ys = ap (λ v. x ++ v) (joined_append xs ys) ∙ sym (append_assoc x (joined xs) (joined ys))
 
 take_frames : (len n m : ℕ) (b : List ℕ) → n ≤ m → take n (frames_of len m b) ≡ frames_of len n b
 take_frames len zero m b h = refl
@@ -144,11 +137,8 @@ unit_same at len m bytes h =
 pub rise : (o o' n : ℕ) → o ≤ o' → Rose o' n → Rose o n
 rise o o' n h r = grind arith
 
-front : (n : ℕ) (xs b : List ℕ) → length xs ≡ n → take n (xs ++ b) ≡ xs
-front n xs b h = same_lists _ _ (search (rules, places)) (λ i d l. grind (arith, places))
-
 pub front_is : (n : ℕ) (a b xs : List ℕ) → a ≡ xs → length xs ≡ n → take n (a ++ b) ≡ xs
-front_is n a b xs e h = ap (λ v. take n (v ++ b)) e ∙ front n xs b h
+front_is n a b xs e h = ap (λ v. take n (v ++ b)) e ∙ take_at xs b n h
 
 -- a block of so many lies inside their bytes
 pub inside : (p s k n : ℕ) → k < n → p + s * k + s ≤ p + s * n
@@ -219,9 +209,6 @@ pub long_joined : (len : ℕ) (xs : List (List ℕ)) → AllLong len xs → leng
 long_joined len [] p = omega arith
 long_joined len (x ∷ xs) p = length-append x (joined xs) ∙ omega (arith, p.0, long_joined len xs p.1)
 
-behind : (n : ℕ) (x b : List ℕ) → length x ≡ n → drop n (x ++ b) ≡ b
-behind n x b h = same_lists _ _ (search (rules, places)) (λ i d l. grind (arith, places))
-
 two : (x y : List ℕ) (xs ys : List (List ℕ)) → x ≡ y → xs ≡ ys → (x ∷ xs) ≡ (y ∷ ys)
 two x y xs ys p q = cc
 
@@ -230,19 +217,19 @@ pub frames_back : (len : ℕ) (xs : List (List ℕ)) (rest : List ℕ) → AllLo
 frames_back len [] rest p = refl
 frames_back len (x ∷ xs) rest p =
     let e : joined (x ∷ xs) ++ rest ≡ x ++ (joined xs ++ rest) = append_assoc x (joined xs) rest in
-    rw e (two _ _ _ _ (front len x (joined xs ++ rest) p.0) (ap (frames_of len (length xs)) (behind len x (joined xs ++ rest) p.0) ∙ frames_back len xs rest p.1))
+    rw e (two _ _ _ _ (take_at x (joined xs ++ rest) len p.0) (ap (frames_of len (length xs)) (drop_at x (joined xs ++ rest) len p.0) ∙ frames_back len xs rest p.1))
 
 pub placed_length : (i : ℕ) (fs blocks : List (List ℕ)) → i + length fs ≤ length blocks → length (placed i fs blocks) ≡ length blocks
 placed_length i fs blocks h = simp (length-append, length-take, length-drop) (omega arith)
 
 pub over_behind : (p : ℕ) (a xs : List ℕ) → p ≤ length xs → drop p (over p a xs) ≡ a ++ drop (p + length a) xs
-over_behind p a xs h = behind p (take p xs) (a ++ drop (p + length a) xs) (simp length-take (omega arith))
+over_behind p a xs h = drop_at (take p xs) (a ++ drop (p + length a) xs) p (simp length-take (omega arith))
 
 take_front : (p : ℕ) (xs b : List ℕ) → p ≤ length xs → take p (take p xs ++ b) ≡ take p xs
-take_front p xs b h = front p (take p xs) b (simp length-take (omega arith))
+take_front p xs b h = take_at (take p xs) b p (simp length-take (omega arith))
 
 pub over_apart : (p n : ℕ) (a xs : List ℕ) → length a ≡ n → p + n ≤ length xs → Apart p n xs (over p a xs)
 over_apart p n a xs e h =
     let rest : drop (p + n) (over p a xs) ≡ drop (p + n) xs =
-    sym (drop_both n p (over p a xs)) ∙ ap (drop n) (over_behind p a xs (omega arith)) ∙ behind n a (drop (p + length a) xs) e ∙ ap (λ k. drop (p + k) xs) e in
+    sym (drop_both n p (over p a xs)) ∙ ap (drop n) (over_behind p a xs (omega arith)) ∙ drop_at a (drop (p + length a) xs) n e ∙ ap (λ k. drop (p + k) xs) e in
     (over_length p a xs (omega (arith, e)), take_front p xs (a ++ drop (p + length a) xs) (omega arith), rest)

@@ -1,37 +1,38 @@
 -- From the blocks of a command to the answer of the unit.
-use Rattle.std.proofs.Common.{ℕ, zero, suc, ◌≡◌, ◌+◌, ◌*◌, ◌-◌, ◌<◌, ◌≤◌, Bool, true, false, ltb, if◌then◌else◌, List, [], ◌∷◌, ◌++◌, length, take, drop, Option, Some, None, Result, Ok, Err, refl, sym, ap, subst, ◌^◌, ◌∙◌, arith, length-append, append-nil}
+use Rattle.std.proofs.Common.{ℕ, zero, suc, ◌≡◌, ◌+◌, ◌*◌, ◌-◌, ◌<◌, ◌≤◌, Bool, true, false, List, [], ◌∷◌, ◌++◌, length, take, drop, Option, Some, None, Ok, Err, refl, sym, ap, subst, ◌^◌, ◌∙◌, arith, append-nil}
 use Rattle.std.specs.Prelude.{ℤ, pos, nat_abs, eqb, min, ◌≢◌}
 use Rattle.std.proofs.lemmas.List.{length-take, length-drop}
 use Rattle.dix_base.specs.Told.{Rose, over}
 use Rattle.rig_api.specs.Log.{IsMedium, has_key}
-use Rattle.pi_tuple.specs.declared.checks.Check.{Check}
 use Rattle.cdb_codec.specs.declared.command.Cdb.{Cdb}
 use Rattle.cdb_codec.specs.declared.command.Rw.{Rw}
 use Rattle.cdb_codec.specs.declared.command.CdbFault.{CdbFault}
 use Rattle.cdb_codec.specs.Decoded.{decoded}
 use Rattle.target_answer.specs.Requests.{request_of}
 use Rattle.std.proofs.lemmas.Bool.Decides.{nat_tests}
-use Rattle.std.proofs.lemmas.Bool.{ltb-true, eqb-true}
+use Rattle.std.proofs.lemmas.Bool.{eqb-true}
 use Rattle.fault_schedule.specs.declared.Label.{Label}
 use Rattle.fault_schedule.specs.declared.fault.FaultLine.{FaultLine}
 use Rattle.sense_codes.specs.declared.Sense.{Sense}
 use Rattle.target_answer.specs.Frames.{stored_size, sent_size, frames_of, joined, placed}
-use Rattle.target_answer.specs.Target.{Stored, Stop, Answer, Ended, answer_unless, asc_of, capacity_data, refusal, target_answer, carried_out, first_of, illegal, keeping, medium_address, passed, read_by, read_end, refusals_of, sending, shape_of, storing, stored_from, whole, wire_address, write_end, written_by}
+use Rattle.target_answer.specs.Target.{Stored, Stop, Answer, answer_unless, asc_of, capacity_data, refusal, target_answer, carried_out, first_of, illegal, keeping, medium_address, read_by, read_end, refusals_of, sending, shape_of, storing, stored_from, wire_address, write_end, written_by}
 use Rattle.target_answer.specs.declared.request.Request.{Request}
 use Rattle.target_answer.specs.declared.request.Request.TheVariants.{Read, Write, Verify, ReadCapacity}
 use Rattle.target_answer.specs.declared.units.UnitSpec.{UnitSpec}
+use Rattle.target_answer.proofs.FrameLaws.{frames_length}
+use Rattle.target_answer.proofs.FewFrames.{few_written}
 use Rattle.rig_api.specs.Telling.{at_front, holding}
 use Rattle.rig_api.specs.declared.rig.Outcome.{Outcome}
 use Rattle.target_model.specs.declared.unit.LogicalUnit.{LogicalUnit}
 use Rattle.target_model.specs.Served.{AllLong, AllRead, AllWritten, HasBlocks, Served, StandsBack, answer_after, answer_to, block_bytes, shape_in, unit_in, with_unit}
-use Rattle.target_model.proofs.Bytes.{drop_all, drop_both, frames_part, frames_back, length_frames, long_both, long_drop, long_frames, long_joined, long_take, over_apart, over_behind, placed_length, room_for, unit_over, unit_same}
+use Rattle.target_model.proofs.Bytes.{drop_all, drop_both, frames_part, frames_back, long_both, long_drop, long_frames, long_joined, long_take, over_apart, over_behind, placed_length, room_for, unit_over, unit_same}
 use Rattle.target_model.proofs.Ends.{length_each}
 
 abbrev wide : LogicalUnit → ℕ
 wide u = stored_size u.ty u.size
 
 pub shape_is : (u : LogicalUnit) (bytes : List ℕ) → shape_of (unit_in u bytes) ≡ shape_in u
-shape_is u bytes = ap (λ (n : ℕ). record { ty = u.ty; blocks = n; size = u.size; first = u.first }) (length_frames (wide u) u.blocks (drop u.at bytes))
+shape_is u bytes = ap (λ (n : ℕ). record { ty = u.ty; blocks = n; size = u.size; first = u.first }) (frames_length (wide u) u.blocks (drop u.at bytes))
 
 pub served_as : (u : LogicalUnit) (A B : Option Stop → Answer) (o n : ℕ) (was : List ℕ) (now : Option (List ℕ)) (result : Outcome) (before after : List ℕ) → ((stop : Option Stop) → A stop ≡ B stop) →
     Served u B o n was now result before after → Served u A o n was now result before after
@@ -65,7 +66,7 @@ own_long : (u : LogicalUnit) (bytes : List ℕ) → u.at + wide u * u.blocks ≤
 own_long u bytes h = long_frames (wide u) u.blocks (drop u.at bytes) (simp length-drop (omega (arith, h)))
 
 own_back : (u : LogicalUnit) (bytes : List ℕ) → u.at + wide u * u.blocks ≤ length bytes → StandsBack u (unit_in u bytes).blocks bytes
-own_back u bytes h = stands_back u (unit_in u bytes).blocks bytes (own_long u bytes h) (length_frames (wide u) u.blocks (drop u.at bytes)) h
+own_back u bytes h = stands_back u (unit_in u bytes).blocks bytes (own_long u bytes h) (frames_length (wide u) u.blocks (drop u.at bytes)) h
 
 -- a refusal changes nothing
 pub served_refused : (u : LogicalUnit) (answer : Option Stop → Answer) (o : ℕ) (bytes : List ℕ) (now : Option (List ℕ)) (result : Outcome) (sense : Option Sense) (into : List ℕ) → u.at + wide u * u.blocks ≤ length bytes → now ≡ Some bytes →
@@ -86,25 +87,8 @@ taken_answer : (u : LogicalUnit) (bytes : List ℕ) (cdb : Cdb) (request : Reque
     answer_to (unit_in u bytes) cdb request faults labels out room stop ≡ carried_out (unit_in u bytes) request faults labels out stop
 taken_answer u bytes cdb request faults labels out room e stop = rw (shape_is u bytes, e) refl
 
-few_passed : (rs : List (Result (List ℕ) Check)) → length (passed rs) ≤ length rs
-few_passed [] = omega arith
-few_passed (Ok f ∷ rs) = let h = few_passed rs in omega (arith, h)
-few_passed (Err c ∷ rs) = omega arith
-
-few_cut : (test : Bool) (k n : ℕ) (left : List ℕ) (frames : List (List ℕ)) (other : Ended) (done : ℕ) (sense : Option Sense) → length frames ≤ n → length other.frames ≤ n → (test ≡ true → k < length frames) →
-    length (if test then (record { done = done; sense = sense; frames = take k frames ++ (left ∷ []) }) else other).frames ≤ n
-few_cut true k n left frames other done sense h l t =
-    let less : k < length frames = t refl in
-    let e : length (take k frames ++ (left ∷ [])) ≡ k + 1 = length-append (take k frames) (left ∷ []) ∙ ap (λ v. v + 1) (simp length-take (omega arith)) in
-    omega (arith, e)
-few_cut false k n left frames other done sense h l t = l
-
-few_written : (lba : ℕ) (rs : List (Result (List ℕ) Check)) (stop : Option Stop) → length (write_end lba rs stop).frames ≤ length rs
-few_written lba rs None = few_passed rs
-few_written lba rs (Some s) = few_cut (ltb s.at (length (passed rs))) s.at (length rs) s.left (passed rs) (whole lba rs) s.at _ (few_passed rs) (few_passed rs) (ltb-true s.at (length (passed rs)))
-
 pub many_written : (unit : UnitSpec) (c : Rw) (lba : ℕ) (faults : List FaultLine) (labels : List Label) (out : List ℕ) → length (written_by unit c lba faults labels out) ≡ c.n
-many_written unit c lba faults labels out = length_each _ 0 (frames_of (sent_size c.protect unit.size) c.n out) ∙ length_frames (sent_size c.protect unit.size) c.n out
+many_written unit c lba faults labels out = length_each _ 0 (frames_of (sent_size c.protect unit.size) c.n out) ∙ frames_length (sent_size c.protect unit.size) c.n out
 
 write_is : (u : LogicalUnit) (bytes : List ℕ) (c : Rw) (lba : ℕ) (faults : List FaultLine) (labels : List Label) (out : List ℕ) → wire_address faults labels c ≡ pos lba → (stop : Option Stop) →
     carried_out (unit_in u bytes) (Write c) faults labels out stop ≡ storing (lba - u.first) (unit_in u bytes).blocks (write_end lba (written_by (shape_in u) c lba faults labels out) stop)
@@ -123,7 +107,7 @@ served_written u cdb c lba place o n room faults labels out bytes into now resul
     let same : with_unit u (placed (lba - u.first) frames (unit_in u bytes).blocks) bytes ≡ over place (joined frames) bytes = unit_over u.at (wide u) (lba - u.first) u.blocks frames bytes within w.whole h ∙ ap (λ k. over k (joined frames) bytes) (sym p) in
     let blocks : List (List ℕ) = (unit_in u bytes).blocks in
     let own = own_long u bytes h in
-    let number : length blocks ≡ u.blocks = length_frames (wide u) u.blocks (drop u.at bytes) in
+    let number : length blocks ≡ u.blocks = frames_length (wide u) u.blocks (drop u.at bytes) in
     let long : AllLong (wide u) (placed (lba - u.first) frames blocks) =
     long_both (wide u) (take (lba - u.first) blocks) (frames ++ drop (lba - u.first + length frames) blocks) (long_take (wide u) (lba - u.first) blocks own)
     (long_both (wide u) frames (drop (lba - u.first + length frames) blocks) w.long (long_drop (wide u) (lba - u.first + length frames) blocks own)) in

@@ -5,8 +5,9 @@ use Rattle.pi_tuple.specs.declared.checks.Check.{Check}
 use Rattle.sense_codes.specs.declared.Sense.{Sense}
 use Rattle.target_answer.specs.Frames.{frames_of, joined}
 use Rattle.target_answer.specs.Target.{Ended, passed, first_sense, each, whole, write_end, read_end, check_sense, medium_sense}
+use Rattle.target_answer.proofs.FrameLaws.{joined_append}
 use Rattle.target_model.specs.Served.{AllLong}
-use Rattle.target_model.proofs.Bytes.{joined_append, long_one}
+use Rattle.target_model.proofs.Bytes.{long_one}
 
 abbrev pub Judge : Type 0
 Judge = ℕ → List ℕ → Result (List ℕ) Check

@@ -5,10 +5,11 @@ use Rattle.pi_tuple.specs.declared.checks.Check.{Check}
 use Rattle.sense_codes.specs.declared.Sense.{Sense}
 use Rattle.target_answer.specs.Frames.{frames_of, joined}
 use Rattle.target_answer.specs.Target.{Stop, Ended, each, write_end}
+use Rattle.target_answer.proofs.FrameLaws.{joined_append}
 use Rattle.rig_api.specs.Telling.{HasCause}
 use Rattle.rig_api.specs.declared.rig.Outcome.{Outcome}
 use Rattle.target_model.specs.Served.{AllLong, AllWritten, BlockWritten}
-use Rattle.target_model.proofs.Bytes.{joined_append, long_one, over_next, over_none, rise}
+use Rattle.target_model.proofs.Bytes.{long_one, over_next, over_none, rise}
 use Rattle.target_model.proofs.Ends.{Judge, Along, begins, goes_on, ends_found, ends_all, ends_unstored}
 
 -- what is known of a write that has stored its first k blocks

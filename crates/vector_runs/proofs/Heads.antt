@@ -8,15 +8,16 @@ use Rattle.script_words.specs.Cuts.{lines_of}
 use Rattle.vector_lines.specs.Texts.{head_read, is_list, list_in}
 use Rattle.source_text.proofs.Taking.{whole_text}
 use Rattle.dix_base.specs.Told.{Calm}
+use Rattle.dix_base.proofs.Counts.{never_rose}
 use Rattle.image_commands.specs.Causes.{HasOpened}
 use Rattle.image_commands.specs.Views.{WasOpened}
+use Rattle.image_commands.proofs.Opened.{right_head}
 use Rattle.rig_api.specs.Head.{head_fault, head_of, units_of}
 use Rattle.rig_api.specs.declared.rig.RigFault.{RigFault}
 use Rattle.rig_api.specs.State.{RigState}
+use Rattle.rig_api.proofs.HeadLaws.{headed}
 use Rattle.script_text.specs.declared.fault.ScriptFault.{ScriptFault}
 use Rattle.script_text.specs.declared.script.Script.{Script}
-use Rattle.run_command.proofs.Completing.{never_rose, no_head_fault}
-use Rattle.run_command.proofs.Devices.{headed}
 use Rattle.run_command.specs.Verdict.{CauseStopped, Facts}
 use Rattle.call_refusal.specs.declared.refusal.Refusal.{Refusal}
 use Rattle.call_refusal.specs.declared.refusal.Refusal.TheVariants as refusal
@@ -103,7 +104,7 @@ IsLine r = ((y : ScriptFault) × (r ≡ refusal.Script y)) ⊎ (r ≡ refusal.Me
 
 unanswered_out : (r : Refusal) (lines : List VectorLine) (name image : List ℕ) (old new : RigState) → old.image ≡ Some image → head_fault (head_of image) ≡ None → Calm old.faults new.faults → CauseUnanswered r name lines old new → IsLine r
 unanswered_out (refusal.Script bad) lines name image old new i h k c = inl (bad, refl)
-unanswered_out (refusal.Image y) lines name image old new i h k c = absurd (no_head_fault image y name old new i c.1.image h c.0)
+unanswered_out (refusal.Image y) lines name image old new i h k c = absurd (right_head image y name old new i c.1.image h c.0)
 unanswered_out refusal.RigFault lines name image old new i h k c = absurd (never_rose old.faults new.faults k c.0.0)
 unanswered_out refusal.Memory lines name image old new i h k c = inr refl
 unanswered_out _ lines name image old new i h k c = absurd c.0

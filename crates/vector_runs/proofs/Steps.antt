@@ -3,6 +3,7 @@ use Rattle.std.proofs.Common.{ℕ, ◌≡◌, ◌+◌, ◌<◌, ◌≤◌, List,
 use Rattle.std.specs.Prelude.{is_some, replicate}
 use Rattle.std.proofs.lemmas.List.{length-replicate, take-append-drop, take_more, take_all}
 use Rattle.dix_base.specs.Told.{Calm}
+use Rattle.dix_base.proofs.Counts.{calm_first, calm_then}
 use Rattle.fault_schedule.specs.declared.fault.FaultLine.{FaultLine}
 use Rattle.target_answer.specs.Frames.{joined}
 use Rattle.target_answer.specs.Target.{Answer, Stored}
@@ -27,12 +28,6 @@ units_more : (s : Standing) (us : List Stored) (ls : List VectorLine) (l : Vecto
 units_more s us [] l = refl
 units_more s us (x ∷ ls) l = units_more s (units_to s us x) ls l
 
-calm_before : (a b c : ℕ) → b ≤ c → Calm a c → Calm a b
-calm_before a b c h q = (omega (arith, h, q.0), omega (arith, h, q.1))
-
-calm_behind : (a b c : ℕ) → a ≤ b → Calm a c → Calm b c
-calm_behind a b c h q = (omega (arith, h, q.0), q.1)
-
 -- nothing was done yet
 pub none_done : (v : RigState) → HaveDone [] v v
 none_done v = record {
@@ -53,8 +48,8 @@ done_more ls l a b c x y = record {
   log = y.log ∙ ap (λ (v : List Entry). v ++ (y.entry ∷ [])) x.log ∙ append_assoc a.log x.entries (y.entry ∷ []);
   records = records_more a.standing ls x.entries l y.entry x.records (subst (λ (s : Standing). IsRecord s l y.entry) x.standing y.is);
   told = λ us e q.
-      let first = x.told us e (calm_before a.faults b.faults c.faults y.count q) in
-      let then = y.told (units_over a.standing us ls) first.1 (calm_behind a.faults b.faults c.faults x.count q) in
+      let first = x.told us e (calm_first a.faults b.faults c.faults y.count q) in
+      let then = y.told (units_over a.standing us ls) first.1 (calm_then a.faults b.faults c.faults x.count q) in
       let entry : y.entry ≡ entry_to a.standing (units_over a.standing us ls) l = then.0 ∙ ap (λ (s : Standing). entry_to s (units_over a.standing us ls) l) x.standing in
       let units : units_to b.standing (units_over a.standing us ls) l ≡ units_to a.standing (units_over a.standing us ls) l = ap (λ (s : Standing). units_to s (units_over a.standing us ls) l) x.standing in (
         ap (λ (v : List Entry). v ++ (y.entry ∷ [])) first.0 ∙ ap (λ (v : Entry). answers_over a.standing us ls ++ (v ∷ [])) entry ∙ sym (answers_more a.standing us ls l),
@@ -78,7 +73,7 @@ still ls a b c x y = record {
   entries = x.entries;
   log = y.log ∙ x.log;
   records = x.records;
-  told = λ us e q. let first = x.told us e (calm_before a.faults b.faults c.faults y.count q) in (first.0, y.units ∙ first.1);
+  told = λ us e q. let first = x.told us e (calm_first a.faults b.faults c.faults y.count q) in (first.0, y.units ∙ first.1);
   tells = ap is_some y.image ∙ x.tells;
   armed = y.armed ∙ x.armed;
   standing = y.standing ∙ x.standing;

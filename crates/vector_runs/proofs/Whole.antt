@@ -3,13 +3,14 @@ use Rattle.std.proofs.Common.{ℕ, ◌≡◌, ◌⊎◌, inl, inr, ◌≤◌, Bo
 use Rattle.std.specs.Prelude.{nat_lt}
 use Rattle.std.proofs.lemmas.Bool.{ltb-false}
 use Rattle.dix_base.specs.Told.{Calm, Rose}
+use Rattle.dix_base.proofs.Counts.{never_rose}
 use Rattle.rig_api.specs.Head.{Head, head_fault, head_of, units_of}
 use Rattle.rig_api.specs.State.{RigState}
+use Rattle.rig_api.proofs.HeadLaws.{headed}
 use Rattle.script_text.specs.Language.{script_in}
 use Rattle.script_text.specs.declared.fault.ScriptFault.{ScriptFault}
 use Rattle.script_text.specs.declared.script.Script.{Script}
-use Rattle.run_command.proofs.Completing.{never_rose, no_head_fault, stops_from_outside}
-use Rattle.run_command.proofs.Devices.{headed}
+use Rattle.run_command.proofs.Completing.{stops_from_outside}
 use Rattle.run_command.specs.Verdict.{CauseStopped, Facts, IsFromOutside}
 use Rattle.call_refusal.specs.declared.refusal.Refusal.{Refusal}
 use Rattle.call_refusal.specs.declared.refusal.Refusal.TheVariants as refusal
@@ -24,6 +25,7 @@ use Rattle.vector_runs.specs.Taken.{CauseNotTaken, HoldsFault, HoldsList, HoldsS
 use Rattle.vector_runs.specs.Unplayed.{unplayed}
 use Rattle.vector_runs.specs.declared.playing.Played.{Played}
 use Rattle.vector_runs.specs.declared.playing.Played.TheVariants as played
+use Rattle.image_commands.proofs.Opened.{right_head}
 
 pub list_right : (text : List ℕ) (lines : List VectorLine) → is_list (lines_of text) ≡ true → list_in text ≡ Ok lines → text_fault text ≡ None
 list_right text lines l e = ap (λ b. if b then list_fault (list_in text) else script_fault (script_in text)) l ∙ ap list_fault e
@@ -85,7 +87,7 @@ in_range lines bad n m e a b = let k : ◌≡◌ {A = Option ScriptFault} None (
 
 list_from_outside : (r : Refusal) (lines : List VectorLine) (name image : List ℕ) (old new : RigState) → old.image ≡ Some image → head_fault (head_of image) ≡ None → out_of_range (length (units_of (head_of image))) lines ≡ None → CauseUnanswered r name lines old new → IsFromOutside r
 list_from_outside (refusal.Script bad) lines name image old new i h o c = absurd (in_range lines bad new.standing.devices (length (units_of (head_of image))) (devices_are name image old new i c.0) o c.1)
-list_from_outside (refusal.Image x) lines name image old new i h o c = absurd (no_head_fault image x name old new i c.1.image h c.0)
+list_from_outside (refusal.Image x) lines name image old new i h o c = absurd (right_head image x name old new i c.1.image h c.0)
 list_from_outside refusal.RigFault lines name image old new i h o c = inr refl
 list_from_outside refusal.Memory lines name image old new i h o c = inl refl
 list_from_outside _ lines name image old new i h o c = absurd c.0

@@ -1,5 +1,5 @@
 -- What it means that no entry is at fault.
-use Rattle.std.proofs.Common.{◌≡◌, ℕ, ◌+◌, ◌<◌, ◌≤◌, Bool, true, false, not, eqb, if◌then◌else◌, List, [], ◌∷◌, ◌++◌, length, Option, Some, None, inl, inr, sum_by, refl, subst, arith}
+use Rattle.std.proofs.Common.{◌≡◌, ℕ, ◌+◌, ◌<◌, ◌≤◌, Bool, true, false, if◌then◌else◌, List, [], ◌∷◌, ◌++◌, length, Option, Some, None, inl, inr, sum_by, refl, subst, arith}
 use Rattle.std.specs.List.{list_any}
 use Rattle.std.proofs.lemmas.Bool.Decides.{nat_tests}
 use Rattle.std.proofs.lemmas.Bool.{or_parts, not-false}
@@ -15,6 +15,7 @@ use Rattle.volume_table.specs.Entries.{entry_len, entry_start, extents}
 use Rattle.volume_table.specs.Faults.{device, do_any_meet, fault_from, fault_of, has_bad_chunk, have_shared_legs, is_before_start, is_gap, is_of_other_size, is_of_other_type, is_overlapping, is_past_end, is_type, is_unknown, or_later}
 use Rattle.volume_table.specs.Tables.{IsOn}
 use Rattle.volume_table.proofs.Lists.{In, in_front, in_last, none_in}
+use Rattle.small_laws.proofs.Tests.{same_number}
 
 pub record IsFine (ty : PiType) (before : List Entry) (e : Entry) (devices : List DeviceInfo) (size : ℕ) : Type 0 where
   pub start : entry_start e ≡ sum_by entry_len before
@@ -31,9 +32,6 @@ pick : (b : Bool) (k : VolumeKind) (r : Option VolumeKind) → (if b then Some k
 pick true k r h = absurd (cc)
 pick false k r h = (refl, h)
 
-pub at_sum : (a b : ℕ) → not (eqb a b) ≡ false → a ≡ b
-at_sum a b h = grind (arith, nat_tests)
-
 fine : (ty : PiType) (before : List Entry) (e : Entry) (devices : List DeviceInfo) (size : ℕ) → fault_of ty before e devices size ≡ None → IsFine ty before e devices size
 fine ty before e devices size h =
     let p1 = pick (is_gap before e) Gap _ h in
@@ -46,7 +44,7 @@ fine ty before e devices size h =
     let p8 = pick (list_any (is_of_other_size size devices) (extents e)) OtherSize _ p5.1 in
     let over = or_parts (have_shared_legs e) (list_any (λ b. do_any_meet (extents e) (extents b)) before) p4.0 in
     record {
-      start = at_sum (entry_start e) (sum_by entry_len before) p1.0;
+      start = same_number (entry_start e) (sum_by entry_len before) p1.0;
       known = p2.0;
       chunk = p6.0;
       begins = p7.0;

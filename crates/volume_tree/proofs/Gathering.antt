@@ -6,8 +6,8 @@ use Rattle.std.proofs.Math.Nat.{add-mul-mod_self_right, mod-add-div', zero-mod}
 use Rattle.linear_volume.specs.declared.Linear.{Linear}
 use Rattle.volume_tree.specs.Tracks.{FollowsFrom, end_of, put, put_all, put_ends, track_len}
 use Rattle.volume_tree.specs.Trees.{AreTracks, is_other_length, is_ragged}
-use Rattle.volume_table.proofs.Fine.{at_sum}
 use Rattle.volume_table.proofs.Formulas.{whole_by}
+use Rattle.small_laws.proofs.Tests.{same_number}
 
 -- each number is above the one before, the first above this one
 abbrev pub Ascends : ℕ → List ℕ → Type 0
@@ -160,7 +160,7 @@ ends_are m chunk a (e ∷ t) f z w r =
 pub all_ends_are : (m chunk : ℕ) (ts : List (List Linear)) → AreTracks ts → list_any (is_other_length m) ts ≡ false → list_any (λ t. list_any (is_ragged chunk) t) ts ≡ false → AllEndsAre (Above (IsCut m chunk)) ts
 all_ends_are m chunk [] f l r = tt
 all_ends_are m chunk (t ∷ ts) f l r =
-    let here : track_len t ≡ m = at_sum (track_len t) m (or_first (is_other_length m t) (list_any (is_other_length m) ts) l) in (
+    let here : track_len t ≡ m = same_number (track_len t) m (or_first (is_other_length m t) (list_any (is_other_length m) ts) l) in (
       ends_are m chunk 0 t f.0 (zero-mod chunk) (omega (arith, here)) (or_first (list_any (is_ragged chunk) t) (list_any (λ u. list_any (is_ragged chunk) u) ts) r),
       all_ends_are m chunk ts f.1 (or_second (is_other_length m t) (list_any (is_other_length m) ts) l) (or_second (list_any (is_ragged chunk) t) (list_any (λ u. list_any (is_ragged chunk) u) ts) r),
     )

@@ -8,12 +8,12 @@ use Rattle.linear_volume.specs.declared.Linear.{Linear}
 use Rattle.stripe_volume.specs.Stripes.{stripe_place}
 use Rattle.stripe_volume.specs.declared.legs.Leg.{Leg}
 use Rattle.volume_table.specs.Entries.{entry_place}
-use Rattle.volume_table.proofs.Fine.{at_sum}
 use Rattle.volume_tree.specs.Tracks.{FollowsFrom, track, track_len, track_place}
 use Rattle.volume_tree.specs.Trees.{AreTracks, is_other_length, leg_from, stripe_between, tree_place}
 use Rattle.volume_tree.proofs.Gathering.{AllIn, AreIn, or_first, or_second}
 use Rattle.volume_tree.proofs.Spots.{Gap, further, held}
 use Rattle.volume_tree.proofs.Following.{together}
+use Rattle.small_laws.proofs.Tests.{same_number}
 
 -- block u, n inner volumes, c blocks in a chunk: how many chunks of u's inner volume come before u's, its turn, and its place in its chunk
 record Parts (c n a u : ℕ) : Type 0 where
@@ -92,7 +92,7 @@ track_is_in (t ∷ ts) (suc i) xs f h = track_is_in ts i xs f.1 (omega arith)
 
 track_is_long : (m : ℕ) (ts : List (List Linear)) (i : ℕ) → list_any (is_other_length m) ts ≡ false → i < length ts → track_len (track ts i) ≡ m
 track_is_long m [] i f h = absurd (omega arith)
-track_is_long m (t ∷ ts) zero f h = at_sum (track_len t) m (or_first (is_other_length m t) (list_any (is_other_length m) ts) f)
+track_is_long m (t ∷ ts) zero f h = same_number (track_len t) m (or_first (is_other_length m t) (list_any (is_other_length m) ts) f)
 track_is_long m (t ∷ ts) (suc i) f h = track_is_long m ts i (or_second (is_other_length m t) (list_any (is_other_length m) ts) f) (omega arith)
 
 leg_at : (x i : ℕ) (ts : List (List Linear)) (d : Leg) → i < length ts → get_or (map (leg_from x) ts) i d ≡ leg_from x (track ts i)

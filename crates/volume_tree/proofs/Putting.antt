@@ -6,19 +6,15 @@ use Rattle.std.proofs.lemmas.List.Edits.{length-insert}
 use Rattle.std.proofs.lemmas.List.Sums.{prefix_len-le-length}
 use Rattle.linear_volume.specs.declared.Linear.{Linear}
 use Rattle.volume_tree.specs.Tracks.{end_of, has_at, is_from, put, put_all, put_ends}
+use Rattle.small_laws.proofs.Tests.{ltb_suc}
+use Rattle.small_laws.proofs.Numbers.{one_more}
 
 not_leb : (x y : ℕ) → not (leb x y) ≡ ltb y x
 not_leb x y = grind (arith, nat_tests)
 
-pub ltb_suc : (a b : ℕ) → ltb (suc a) (suc b) ≡ ltb a b
-ltb_suc a b = grind (arith, nat_tests)
-
 cond_cons : (b : Bool) (y : ℕ) (xs ys : List ℕ) → cond b (y ∷ xs) (y ∷ ys) ≡ y ∷ cond b xs ys
 cond_cons true y xs ys = refl
 cond_cons false y xs ys = refl
-
-pub one_more : (n : ℕ) → 1 + n ≡ suc n
-one_more n = omega arith
 
 place_more : (x y : ℕ) (ys : List ℕ) → ltb y x ≡ true → position_or_len (is_from x) (y ∷ ys) ≡ suc (position_or_len (is_from x) ys)
 place_more x y ys h =

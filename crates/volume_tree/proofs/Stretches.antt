@@ -12,12 +12,12 @@ use Rattle.linear_volume.specs.declared.Linear.{Linear}
 use Rattle.volume_table.specs.declared.entry.Entry.{Entry}
 use Rattle.volume_table.specs.Entries.{IsInRange, IsLength, entry_len, entry_place, entry_start, is_held}
 use Rattle.volume_table.specs.Places.{place_by, place_in, volume_len}
-use Rattle.volume_table.proofs.Fine.{at_sum}
 use Rattle.volume_tree.specs.Tracks.{FollowsFrom, ends, track_len}
 use Rattle.volume_tree.specs.Trees.{AreTracks, DoFit, EntriesFollow, expanded, has_bad_length, is_other_length, is_unaligned, leg_from, stripe_between, stripes, tree_place}
 use Rattle.volume_tree.proofs.Gathering.{AllIn, AreIn, Ascends, Each, Gathered, IsCut, IsIn, all_ends_are, all_gather, all_in, or_first, or_second}
 use Rattle.volume_tree.proofs.Placing.{same_place}
 use Rattle.volume_tree.proofs.Following.{together as sum}
+use Rattle.small_laws.proofs.Tests.{same_number}
 
 -- the last end is the number of all blocks
 track_end : (a : ℕ) (t : List Linear) (xs : List ℕ) → FollowsFrom a t → 0 < track_len t → AreIn t xs → IsIn (a + track_len t) xs
@@ -172,7 +172,7 @@ pub record Built (c len : ℕ) (ts : List (List Linear)) : Type 0 where
 
 whole_len : (len c n : ℕ) → 0 < n → not (eqb (len % (c * n)) 0) ≡ false → len / n * n ≡ len
 whole_len len c n hn h =
-    let z : len % (c * n) ≡ 0 = at_sum (len % (c * n)) 0 h in
+    let z : len % (c * n) ≡ 0 = same_number (len % (c * n)) 0 h in
     let e : len / (c * n) * (c * n) + len % (c * n) ≡ len = div-add-mod' len (c * n) in
     let f : len ≡ len / (c * n) * c * n + 0 = omega (arith, e, z) in
     let r : len % n ≡ 0 = ap (λ k. k % n) f ∙ mod-mul-add (len / (c * n) * c) n 0 hn in
@@ -186,7 +186,7 @@ some_blocks (suc m) n h = omega arith
 last_in : (m : ℕ) (ts : List (List Linear)) (xs : List ℕ) → 0 < length ts → 0 < m → AreTracks ts → AllIn ts xs → list_any (is_other_length m) ts ≡ false → IsIn m xs
 last_in m [] xs h p f i l = absurd (omega arith)
 last_in m (t ∷ ts) xs h p f i l =
-    let e : track_len t ≡ m = at_sum (track_len t) m (or_first (is_other_length m t) (list_any (is_other_length m) ts) l) in
+    let e : track_len t ≡ m = same_number (track_len t) m (or_first (is_other_length m t) (list_any (is_other_length m) ts) l) in
     subst (λ k. IsIn k xs) (omega (arith, e)) (track_end 0 t xs f.0 (omega (arith, e, p)) i.0)
 
 pub built : (c len : ℕ) (ts : List (List Linear)) → 1 ≤ c → 1 ≤ length ts → 1 ≤ len → AreTracks ts → has_bad_length len c ts ≡ false → is_unaligned c ts ≡ false → Built c len ts

@@ -2,12 +2,13 @@
 use Rattle.std.proofs.Common.{◌≡◌, ◌<◌, ℕ, ◌+◌, ◌^◌, Bool, true, false, not, ◌&&◌, ◌||◌, eqb, if◌then◌else◌, List, [], ◌∷◌, ◌++◌, length, drop, Option, Some, None, refl, sym, ap, ◌∙◌, arith}
 use Rattle.std.specs.Prelude.{bit_and, Result, Ok, Err}
 use Rattle.std.specs.Int.{w16, to_be_bytes}
-use Rattle.std.proofs.lemmas.Bool.{eq-eqb, eqb-true, ne_eqb, not-false}
+use Rattle.std.proofs.lemmas.Bool.{eq-eqb, eqb-true, not-false}
 use Rattle.std.proofs.lemmas.List.{drop-drop, take_all}
-use lib.Bits.{and_zero_r, xor_zero_r}
+use lib.Bits.{and_zero_r}
 use Rattle.pi_guard.specs.Guards.{crc, guard_of}
 use Rattle.pi_guard.specs.declared.GuardKind.{GuardKind}
 use Rattle.pi_guard.specs.declared.GuardKind.TheVariants.{Crc, Ip}
+use Rattle.pi_guard.proofs.GuardSizes.{guard_below}
 use Rattle.pi_tuple.specs.Finds.{finding, first_of, has_ref_tag, is_escaped, own_tag}
 use Rattle.pi_tuple.specs.Tuples.{ref_tag}
 use Rattle.pi_tuple.specs.declared.tuple.Tuple.{Tuple}
@@ -16,11 +17,13 @@ use Rattle.pi_tuple.specs.declared.checks.PiType.TheVariants.{Zero, One, Two, Th
 use Rattle.pi_tuple.specs.declared.checks.Check.{Check}
 use Rattle.pi_tuple.specs.declared.checks.Check.TheVariants.{AppTag, Guard, RefTag}
 use Rattle.pi_tuple.specs.declared.checks.Checks.{Checks}
+use Rattle.pi_tuple.proofs.TupleLaws.{tag_below}
 use Rattle.cdb_codec.specs.Rule.{is_two}
-use Rattle.fault_schedule.specs.Altered.{altered, named, xored_from}
+use Rattle.fault_schedule.specs.Altered.{altered, named}
 use Rattle.fault_schedule.specs.declared.Label.{Label}
 use Rattle.fault_schedule.specs.declared.fault.Crossing.{Crossing}
 use Rattle.fault_schedule.specs.declared.fault.Crossing.TheVariants.{AdapterToHost, AdapterToTarget, HostToAdapter, MediumToTarget, TargetToAdapter, TargetToMedium}
+use Rattle.fault_schedule.proofs.Unaltered.{altered_none}
 use Rattle.integrity_payload.specs.Payloads.{all_asked}
 use Rattle.integrity_payload.specs.declared.payload.Owner.{Owner}
 use Rattle.bio_core.specs.declared.fate.Why.TheVariants.{Adapter}
@@ -31,10 +34,13 @@ use Rattle.block_path.specs.Routes.{by_target, converted, host_type, is_crc, pas
 use Rattle.block_path.specs.WayIn.{Delivers, adapter_finds_in, at_host, from_device, from_wire, mapped_back, owner_finds, received, delivered_unless, verified, way_in}
 use Rattle.block_path.specs.WayOut.{Fails, Stores, WayOut, adapter_finds_out, at_device, checked_out, from_adapter, goes_out, mapped_out, sent, to_wire, way_out}
 use Rattle.block_path.proofs.Cells.{AllBelow}
+use Rattle.block_path.proofs.PathLaws.{as_crc, as_ip}
 use Rattle.whole_run.specs.Settings.{Block, Setting, route}
 use Rattle.whole_run.specs.PlainMap.{Entry, all_pass, as_expected, entry_of, finds_of_app, handed, own_in, passed, tag_of}
 use Rattle.whole_run.specs.UnderMap.{stored_as}
-use Rattle.whole_run.proofs.TupleFrames.{Small, behind_is, data_is, finds_in_frame, finds_none, guard_below, mapped_is, no, tag_below}
+use Rattle.whole_run.proofs.TupleFrames.{Small, behind_is, data_is, finds_in_frame, finds_none, mapped_is}
+use Rattle.whole_run.proofs.TagLaws.{mask_fits, tag_right, field_set}
+use Rattle.small_laws.proofs.Tests.{never}
 
 -- a setting without faults, over a target, with these in place of its own
 abbrev pub quiet : Setting → Bool → Bool → PiType → Setting
@@ -44,14 +50,6 @@ quiet m dix dif ty = record m {
   site = record m.site { faults = []; device = target [] };
   fails = λ op. false;
 }
-
--- nothing is altered
-xored_none : (at : Crossing) (label : Label) (i : ℕ) (xs : List ℕ) → xored_from (named [] at label) i xs ≡ xs
-xored_none at label i [] = refl
-xored_none at label i (x ∷ xs) = let rest = xored_none at label (i + 1) xs in let first = xor_zero_r x in cc
-
-pub altered_none : (at : Crossing) (label : Label) (frame : List ℕ) → altered [] at label frame ≡ frame
-altered_none at label frame = xored_none at label 0 frame
 
 pub crossed_none : (at : Crossing) (label : Label) (came : Result (List ℕ) Check) → then_crossed [] (Some label) at came ≡ came
 crossed_none at label (Ok frame) = ap (λ f. Ok f) (altered_none at label frame)
@@ -108,7 +106,7 @@ pub bare : (m : Setting) (body : List ℕ) (t : Tuple) → all_pass m ≡ false 
 bare m body t h = by (all_pass m) h where
   by : (c : Bool) → c ≡ false → Bare (if c then record { body = body; app = t.app; own = own_in m.ty t.rtag } else record { body = body; app = 0; own = 0 })
   by false h = record { app = refl; own = refl }
-  by true h = no (sym h)
+  by true h = never (sym h)
 
 own_below : (ty : PiType) (rtag : ℕ) → rtag < 2 ^ 32 → own_in ty rtag < 2 ^ 32
 own_below Zero rtag h = omega arith
@@ -191,7 +189,7 @@ tagged true v p r h k = by (eqb r v) h where
   by : (d : Bool) → not (d || eqb r p) ≡ false → (if d then p else r) ≡ p
   by true h = refl
   by false h = eqb-true r p (not-false (eqb r p) h)
-tagged false v p r h k = no k
+tagged false v p r h k = never k
 
 pub is_right : (m : Setting) (b : Block) (body : List ℕ) (t : Tuple) → finds_of_app m b body t ≡ None → Right m b body t
 is_right m b body t h =
@@ -219,14 +217,6 @@ reguard m r to body t new s l h k = by (is_crc r.mode.kind) h k where
       ∙ new_guard r.size (guard_of to body) body t l
       ∙ ap (λ g. frame_of body (record { guard = g; app = t.app; rtag = t.rtag })) (k refl)
 
-as_crc : (kind : GuardKind) (body : List ℕ) → is_crc kind ≡ true → guard_of kind body ≡ crc body
-as_crc Crc body h = refl
-as_crc Ip body h = no h
-
-as_ip : (kind : GuardKind) (body : List ℕ) → is_crc kind ≡ false → guard_of Ip body ≡ guard_of kind body
-as_ip Crc body h = no (sym h)
-as_ip Ip body h = refl
-
 -- a way out as the plain map says it: an accepted block is stored under its tuple
 abbrev pub goes : Setting → Block → Option Check → Entry → WayOut
 goes m b None e = Stores (wire m b e) (stored_as m (route m b).lba e)
@@ -235,9 +225,6 @@ goes m b (Some check) e = Fails (Adapter check)
 module _ (m : Setting) (b : Block) (protect : 0 < m.mode.protect) where
   abbrev pub here : ℕ
   here = (route m b).lba
-
-  field_set : eqb m.mode.protect 0 ≡ false
-  field_set = ne_eqb m.mode.protect 0 (λ e. omega (arith, e, protect))
 
   pub wire_same : (dix dif : Bool) (ty : PiType) → wire_lba [] (route (quiet m dix dif ty) b) ≡ here
   wire_same dix dif ty = omega arith
@@ -280,14 +267,10 @@ module _ (m : Setting) (b : Block) (protect : 0 < m.mode.protect) where
 
   -- the tag that the target wants of a tuple
   wanted : (dix dif : Bool) (ty : PiType) (own : ℕ) → has_ref_tag ty ≡ true → tag_of ty here own ≡ wanted_of (passage [] (route (quiet m dix dif ty) b))
-  wanted dix dif Zero own h = no h
+  wanted dix dif Zero own h = never h
   wanted dix dif One own h = ap ref_tag (sym (wire_same dix dif One))
   wanted dix dif Two own h = refl
-  wanted dix dif Three own h = no h
-
-  fits : (c : Bool) (app : ℕ) → as_expected m app ≡ true → bit_and app (if c then m.mode.mask else 0) ≡ bit_and m.mode.app (if c then m.mode.mask else 0)
-  fits true app h = eqb-true _ _ h
-  fits false app h = and_zero_r app ∙ sym (and_zero_r m.mode.app)
+  wanted dix dif Three own h = never h
 
   -- nothing is found at the target of a block under its tuple
   passes_target : (dix dif : Bool) (ty : PiType) (e : Entry) → IsProper m e →
@@ -298,7 +281,7 @@ module _ (m : Setting) (b : Block) (protect : 0 < m.mode.protect) where
   passes_target dix dif ty e h =
       let p = passage [] (route (quiet m dix dif ty) b) in
       good Crc ty (checked_of p) (wanted_of p) e.body e.app (tag_of ty here e.own) h.size h.app (rtag_below ty here e.own h.own)
-      (fits (is_two ty && eqb p.protect 1) e.app h.expected) (wanted dix dif ty e.own)
+      (mask_fits m (is_two ty && eqb p.protect 1) e.app h.expected) (wanted dix dif ty e.own)
 
   none_stored : (dix dif : Bool) (ty : PiType) (e : Entry) → IsProper m e → let q = quiet m dix dif ty in found_in (passage [] (route q b)) (stored_as q here e) ≡ None
   unfolding found_in
@@ -321,7 +304,7 @@ module _ (m : Setting) (b : Block) (protect : 0 < m.mode.protect) where
   whole_accepted dix ty e made none =
       let q = quiet m dix true ty in
       let f = frame_of e.body (record { guard = crc e.body; app = e.app; rtag = tag_of ty here e.own }) in
-      ap (λ c. if c then Ok made else unless (found_in (passage [] (route q b)) f) f) field_set ∙ ap (λ o. unless o f) none
+      ap (λ c. if c then Ok made else unless (found_in (passage [] (route q b)) f) f) (field_set m protect) ∙ ap (λ o. unless o f) none
 
   accepted_is : (dix dif : Bool) (ty : PiType) (e : Entry) → IsProper m e → (passes_tuples (route (quiet m dix dif ty) b) ≡ false → Bare e) →
       let q = quiet m dix dif ty in accepted (passage [] (route q b)) (wire q b e) ≡ Ok (stored_as q here e)
@@ -386,7 +369,7 @@ module _ (m : Setting) (b : Block) (protect : 0 < m.mode.protect) where
 
   -- what the target releases of what is stored
   whole_released : (dix : Bool) (ty : PiType) (f other : List ℕ) → (if eqb m.mode.protect 0 then other else f) ≡ f
-  whole_released dix ty f other = ap (λ c. if c then other else f) field_set
+  whole_released dix ty f other = ap (λ c. if c then other else f) (field_set m protect)
 
   put_on_wire : (dix dif : Bool) (ty : PiType) (e : Entry) → IsProper m e → let q = quiet m dix dif ty in
       let p = passage [] (route q b) in (if eqb p.protect 0 then data_of m.size (stored_as q here e) else stored_as q here e) ≡ wire q b e
@@ -406,17 +389,11 @@ module _ (m : Setting) (b : Block) (protect : 0 < m.mode.protect) where
       ap (λ o. unless o (if eqb x.protect 0 then data_of m.size (stored_as q here e) else stored_as q here e)) (none_stored dix dif ty e p)
       ∙ ap (λ f. Ok f) (put_on_wire dix dif ty e p)
 
-  named_tag : (ty : PiType) (n own : ℕ) → has_ref_tag ty ≡ true → tag_of ty n own ≡ ref_tag n
-  named_tag Zero n own h = no h
-  named_tag One n own h = refl
-  named_tag Two n own h = refl
-  named_tag Three n own h = no h
-
   passes_adapter : (ty : PiType) (e : Entry) → IsProper m e →
       let f = frame_of e.body (record { guard = crc e.body; app = e.app; rtag = tag_of ty here e.own }) in
       finding ty (all_asked m.mode.app m.mode.mask) (ref_tag here) (crc (data_of m.size f)) (tuple_of m.size f) ≡ None
   passes_adapter ty e p =
-      good Crc ty (all_asked m.mode.app m.mode.mask) (ref_tag here) e.body e.app (tag_of ty here e.own) p.size p.app (rtag_below ty here e.own p.own) (eqb-true _ _ p.expected) (named_tag ty here e.own)
+      good Crc ty (all_asked m.mode.app m.mode.mask) (ref_tag here) e.body e.app (tag_of ty here e.own) p.size p.app (rtag_below ty here e.own p.own) (eqb-true _ _ p.expected) (tag_right ty here e.own)
 
   adapter_in : (dix dif : Bool) (ty : PiType) (e : Entry) → IsProper m e → let q = quiet m dix dif ty in adapter_finds_in (route q b) (wire q b e) ≡ None
   adapter_in dix false ty e p = refl
@@ -466,7 +443,7 @@ module _ (m : Setting) (b : Block) (protect : 0 < m.mode.protect) where
   owner_in true dif ty e p l =
       let x = passed (quiet m true dif ty) e in
       good m.mode.kind (host_type ty) (all_asked m.mode.app m.mode.mask) (ref_tag b.virt) e.body x.app (tag_of (host_type ty) b.virt x.own) l p.app (rtag_below (host_type ty) b.virt x.own p.own)
-      (eqb-true _ _ p.expected) (named_tag (host_type ty) b.virt x.own)
+      (eqb-true _ _ p.expected) (tag_right (host_type ty) b.virt x.own)
 
   -- the way in of the block that is stored for an entry
   pub comes_home : (dix dif : Bool) (ty : PiType) (owner : Owner) (e : Entry) → let q = quiet m dix dif ty in

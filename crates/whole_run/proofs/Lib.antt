@@ -8,3 +8,5 @@ pub mod CalmRuns
 pub mod AnyOrder
 pub mod Named
 pub mod InSteps
+pub mod EachFrom
+pub mod TagLaws

@@ -40,11 +40,11 @@ abbrev pub put_unless : Setting → Option Check → ℕ → Entry → List (Lis
 put_unless m None v e image = put_at m v e image
 put_unless m (Some check) v e image = image
 
-module _ (m : Setting) (n : ℕ) (image : List (List ℕ)) (lies : LiesIn m n image) where
-  under_length : (v : ℕ) (map : List Entry) → length (under m v map image) ≡ length image
-  under_length v [] = refl
-  under_length v (e ∷ map) = length-set (under m (suc v) map image) (home m v) (stored_as m (address_of m v) e) ∙ under_length (suc v) map
+pub under_length : (m : Setting) (image : List (List ℕ)) (v : ℕ) (map : List Entry) → length (under m v map image) ≡ length image
+under_length m image v [] = refl
+under_length m image v (e ∷ map) = length-set (under m (suc v) map image) (home m v) (stored_as m (address_of m v) e) ∙ under_length m image (suc v) map
 
+module _ (m : Setting) (n : ℕ) (image : List (List ℕ)) (lies : LiesIn m n image) where
   differ : (u v : ℕ) → u < v → v < n → home m u ≢ home m v
   differ u v l k e = let same = lies.apart u v (omega (arith, l, k)) k e in omega (arith, l, same)
 
@@ -66,7 +66,7 @@ module _ (m : Setting) (n : ℕ) (image : List (List ℕ)) (lies : LiesIn m n im
   under_at v (x ∷ map) zero j s p l =
       let rest = under m (suc v) map image in
       let same : j ≡ v = omega (arith, p) in
-      let size = under_length (suc v) map in
+      let size = under_length m image (suc v) map in
       let here = lies.within v (omega (arith, s)) in
       ap (λ w. get_or (put_at m v x rest) (home m w) []) same
       ∙ get_or-set_same rest (home m v) (stored_as m (address_of m v) x) [] (omega (arith, size, here))

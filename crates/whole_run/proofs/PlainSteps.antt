@@ -4,11 +4,13 @@ use Rattle.std.specs.Int.{w32, to_be_bytes, from_be_bytes}
 use Rattle.std.proofs.lemmas.Bool.{eq-eqb}
 use Rattle.std.proofs.lemmas.List.{length-set, length-take-le}
 use Rattle.pi_guard.specs.Guards.{guard_of}
+use Rattle.pi_guard.proofs.GuardSizes.{guard_below}
 use Rattle.pi_tuple.specs.Finds.{first_of, has_ref_tag, is_escaped}
 use Rattle.pi_tuple.specs.Tuples.{ref_tag, tuple_bytes}
 use Rattle.pi_tuple.specs.declared.tuple.Tuple.{Tuple}
 use Rattle.pi_tuple.specs.declared.checks.Check.{Check}
 use Rattle.pi_tuple.specs.declared.checks.Check.TheVariants.{AppTag, Guard, RefTag}
+use Rattle.pi_tuple.proofs.TupleLaws.{tag_below}
 use Rattle.integrity_payload.specs.declared.payload.Owner.{Owner}
 use Rattle.page_pool.specs.Cells.{gather, scatter}
 use Rattle.bio_core.specs.declared.fate.Why.{Why}
@@ -31,7 +33,8 @@ use Rattle.whole_run.specs.Steps.{Alters, Reads, Seals, Sets, Shows, Step, Write
 use Rattle.whole_run.specs.UnderMap.{IsUnder, NoneEscapes, SuppliesNoEscape, address_of, home, stored_as, under}
 use Rattle.whole_run.proofs.CalmWays.{IsProper, comes_home, goes, goes_bare, goes_on, is_right, loud, proper_entry, quiet, read_same, unmasked, wire_same}
 use Rattle.whole_run.proofs.MapUnder.{AllProper, proper_at, proper_set, put_unless, under_accepted, under_at}
-use Rattle.whole_run.proofs.TupleFrames.{below_append, below_drop, below_gather, below_scatter, below_take, four_below, frame_is, frame_small, guard_below, no, tag_below, tuple_below}
+use Rattle.whole_run.proofs.TupleFrames.{below_append, below_drop, below_gather, below_scatter, below_take, four_below, frame_is, frame_small, tuple_below}
+use Rattle.small_laws.proofs.Tests.{never}
 
 -- answers that a reply can't tell apart
 pub record Same (a b : Answer) : Type 0 where
@@ -94,9 +97,9 @@ own_is_found m b app body =
   where
     by : (g x r : Bool) → g ≡ false → r ≡ false →
         first_of (record { check = Guard; differs = g } ∷ record { check = AppTag; differs = not x } ∷ record { check = RefTag; differs = r } ∷ []) ≡ (if x then None else Some AppTag)
-    by true x r p q = no (sym p)
+    by true x r p q = never (sym p)
     by false false r p q = refl
-    by false true true p q = no (sym q)
+    by false true true p q = never (sym q)
     by false true false p q = refl
 
     own_tag_right : (c : Bool) → (c && not (eqb (if c then ref_tag b.virt else 0) (ref_tag b.virt) || eqb (if c then ref_tag b.virt else 0) (ref_tag (route m b).lba))) ≡ false
@@ -159,7 +162,7 @@ module _ (m' : Setting) (n : ℕ) (image : List (List ℕ)) (protect : 0 < m'.mo
       ap (way_out [] (target []) (route q b)) (sym (frame_is m'.size seen l h))
       ∙ goes_on m' b protect m'.mode.dif m'.ty (data_of m'.size seen) (tuple_of m'.size seen)
       (length-take-le m'.size seen (omega (arith, l))) (below_take 256 m'.size seen h) (frame_small m'.size seen l h) loose escape
-  pi_way false b seen on l h loose escape = no on
+  pi_way false b seen on l h loose escape = never on
 
   -- an entry that is accepted is proper
   proper_kept : (o : Option Check) (v : ℕ) (e : Entry) (map : List Entry) → (o ≡ None → IsProper m e) → AllProper m map → AllProper m (kept_unless o v e map)

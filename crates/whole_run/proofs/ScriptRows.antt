@@ -34,7 +34,7 @@ use Rattle.whole_run.specs.CalmRun.{IsCalmRun}
 use Rattle.whole_run.specs.PlainMap.{plain_map, plain_replies}
 use Rattle.whole_run.specs.ScriptWalk.{script_replies, script_walk}
 use Rattle.whole_run.specs.UnderMap.{IsClean, address_of, home, opened, under}
-use Rattle.whole_run.proofs.TupleFrames.{no}
+use Rattle.small_laws.proofs.Tests.{never}
 
 abbrev pub with_faults : GuardKind → Bool → Bool → PiType → (app mask : ℕ) → List FaultLine → Setting
 with_faults kind dix dif ty app mask faults = record {
@@ -237,7 +237,7 @@ misplaced_is_not = refl
 pub calm_run : IsCalmRun (calm Ip true true One) one_block opening
 unfolding crc
 calm_run = record {
-  calm = record { faults = refl; device = refl; fails = λ op. refl; protect = omega arith; mask = λ h. no (sym h) };
+  calm = record { faults = refl; device = refl; fails = λ op. refl; protect = omega arith; mask = λ h. never (sym h) };
   pages = All-replicate (λ x. x < 256) 1100 0 (omega arith);
   lies = record { within = within; apart = apart; size = size; bytes = bytes };
   clean = clean;

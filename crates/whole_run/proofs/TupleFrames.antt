@@ -1,45 +1,28 @@
 -- A frame is its data and its tuple; what is found in it, field by field.
-use Rattle.std.proofs.Common.{◌≡◌, ◌<◌, ℕ, zero, suc, ◌+◌, ◌-◌, ◌%◌, ◌^◌, Bool, true, false, not, ◌&&◌, ◌||◌, eqb, if◌then◌else◌, List, [], ◌∷◌, ◌++◌, length, take, drop, get_or, set, replicate, None, refl, sym, ap, ◌∙◌, arith, lit<}
+use Rattle.std.proofs.Common.{◌≡◌, ◌<◌, ℕ, zero, suc, ◌+◌, ◌-◌, ◌^◌, Bool, true, false, not, ◌&&◌, ◌||◌, eqb, if◌then◌else◌, List, [], ◌∷◌, ◌++◌, length, take, drop, get_or, set, replicate, None, refl, sym, ap, ◌∙◌, arith, lit<}
 use Rattle.std.specs.Prelude.{bit_and}
 use Rattle.std.specs.Int.{w16, w32, from_be_bytes, to_be_bytes}
 use Rattle.std.proofs.lemmas.Bool.{eq-eqb}
-use Rattle.std.proofs.lemmas.List.{length-drop, take-append-drop, take_at, drop_at}
-use Rattle.std.proofs.lemmas.Nat.{be_bytes_2, be_bytes_4, from_be_bytes-to_be_bytes_2, from_be_bytes-to_be_bytes_4, mod_below}
-use Rattle.pi_guard.proofs.RegisterLemmas.{crc-register, register-lt}
-use Rattle.pi_guard.specs.Guards.{crc, guard_of, ip, word_sum}
+use Rattle.std.proofs.lemmas.List.{take-append-drop, take_at, drop_at}
+use Rattle.std.proofs.lemmas.Nat.{be_bytes_2, be_bytes_4, mod_below}
+use Rattle.pi_guard.specs.Guards.{guard_of}
 use Rattle.pi_guard.specs.declared.GuardKind.{GuardKind}
-use Rattle.pi_guard.specs.declared.GuardKind.TheVariants.{Crc, Ip}
 use Rattle.pi_tuple.specs.Finds.{finding, first_of, has_ref_tag, is_escaped, is_zero}
-use Rattle.pi_tuple.specs.Tuples.{ref_tag, tuple_bytes, tuple_in}
+use Rattle.pi_tuple.specs.Tuples.{tuple_bytes, tuple_in}
 use Rattle.pi_tuple.specs.declared.tuple.Tuple.{Tuple}
 use Rattle.pi_tuple.specs.declared.checks.PiType.{PiType}
 use Rattle.pi_tuple.specs.declared.checks.Check.{Check}
 use Rattle.pi_tuple.specs.declared.checks.Checks.{Checks}
+use Rattle.pi_tuple.proofs.TupleLaws.{read_back as slices}
 use Rattle.page_pool.specs.Cells.{gather, scatter}
 use Rattle.ref_remap.specs.Remapped.{remapped, remapped_bytes}
 use Rattle.ref_remap.proofs.Tags.{mapped-bytes}
 use Rattle.target_answer.specs.Frames.{data_of, frame_of, tuple_of}
 use Rattle.block_path.proofs.Cells.{AllBelow}
-
-pub no : {A : Type 0} → false ≡ true → A
-no h = absurd (grind (arith, h))
+use Rattle.small_laws.proofs.Numbers.{two_bytes}
+use Rattle.small_laws.proofs.Lists.{behind_long}
 
 -- a tuple is spelled and read back
-
-pub three : {g h a b r s : ℕ} → g ≡ h → a ≡ b → r ≡ s → ◌≡◌ {A = Tuple} (record { guard = g; app = a; rtag = r }) (record { guard = h; app = b; rtag = s })
-three p q u = cc
-
-pub slices : (g a r : ℕ) → g < 2 ^ 16 → a < 2 ^ 16 → r < 2 ^ 32 → tuple_in (tuple_bytes (record { guard = g; app = a; rtag = r })) ≡ record { guard = g; app = a; rtag = r }
-slices g a r p q s =
-    let x = from_be_bytes-to_be_bytes_2 g p in
-    let y = from_be_bytes-to_be_bytes_2 a q in
-    let z = from_be_bytes-to_be_bytes_4 r s in
-    three x y z
-
-pair_below : (x y : ℕ) → x < 256 → y < 256 → (i : ℕ) → get_or (x ∷ y ∷ []) i 0 < 256
-pair_below x y a b zero = a
-pair_below x y a b (suc zero) = b
-pair_below x y a b (suc (suc i)) = lit< tt
 
 quad_below : (x y z w : ℕ) → x < 256 → y < 256 → z < 256 → w < 256 → (i : ℕ) → get_or (x ∷ y ∷ z ∷ w ∷ []) i 0 < 256
 quad_below x y z w a b c d zero = a
@@ -58,32 +41,13 @@ spelled (a ∷ b ∷ c ∷ d ∷ e ∷ []) l h = absurd (omega arith)
 spelled (a ∷ b ∷ c ∷ d ∷ e ∷ f ∷ []) l h = absurd (omega arith)
 spelled (a ∷ b ∷ c ∷ d ∷ e ∷ f ∷ g ∷ []) l h = absurd (omega arith)
 spelled (a ∷ b ∷ c ∷ d ∷ e ∷ f ∷ g ∷ k ∷ []) l h =
-    let x : to_be_bytes w16 (from_be_bytes w16 (a ∷ b ∷ [])) ≡ a ∷ b ∷ [] = be_bytes_2 (a ∷ b ∷ []) _ refl (pair_below a b (h 0) (h 1)) refl in
-    let y : to_be_bytes w16 (from_be_bytes w16 (c ∷ d ∷ [])) ≡ c ∷ d ∷ [] = be_bytes_2 (c ∷ d ∷ []) _ refl (pair_below c d (h 2) (h 3)) refl in
+    let x : to_be_bytes w16 (from_be_bytes w16 (a ∷ b ∷ [])) ≡ a ∷ b ∷ [] = be_bytes_2 (a ∷ b ∷ []) _ refl (two_bytes a b (h 0) (h 1)) refl in
+    let y : to_be_bytes w16 (from_be_bytes w16 (c ∷ d ∷ [])) ≡ c ∷ d ∷ [] = be_bytes_2 (c ∷ d ∷ []) _ refl (two_bytes c d (h 2) (h 3)) refl in
     let z : to_be_bytes w32 (from_be_bytes w32 (e ∷ f ∷ g ∷ k ∷ [])) ≡ e ∷ f ∷ g ∷ k ∷ [] = be_bytes_4 (e ∷ f ∷ g ∷ k ∷ []) _ refl (quad_below e f g k (h 4) (h 5) (h 6) (h 7)) refl in
     ap (λ u. u ++ (to_be_bytes w16 (from_be_bytes w16 (c ∷ d ∷ [])) ++ to_be_bytes w32 (from_be_bytes w32 (e ∷ f ∷ g ∷ k ∷ [])))) x
     ∙ ap (λ u. (a ∷ b ∷ []) ++ (u ++ to_be_bytes w32 (from_be_bytes w32 (e ∷ f ∷ g ∷ k ∷ [])))) y
     ∙ ap (λ u. (a ∷ b ∷ []) ++ ((c ∷ d ∷ []) ++ u)) z
 spelled (a ∷ b ∷ c ∷ d ∷ e ∷ f ∷ g ∷ k ∷ m ∷ more) l h = absurd (omega arith)
-
--- a guard has sixteen bits
-crc-lt : (bytes : List ℕ) → crc bytes < 2 ^ 16
-crc-lt bytes = rw (crc-register bytes) (register-lt 0 bytes (lit< tt))
-
-sum_below : (c : Bool) (n : ℕ) → (if c then 65535 else 65535 - (n % 65535 + 1)) < 2 ^ 16
-sum_below true n = omega arith
-sum_below false n = omega arith
-
-ip_below : (bytes : List ℕ) → ip bytes < 2 ^ 16
-unfolding ip
-ip_below bytes = sum_below (eqb (word_sum bytes) 0) (word_sum bytes - 1)
-
-pub guard_below : (kind : GuardKind) (bytes : List ℕ) → guard_of kind bytes < 2 ^ 16
-guard_below Crc bytes = crc-lt bytes
-guard_below Ip bytes = ip_below bytes
-
-pub tag_below : (n : ℕ) → ref_tag n < 2 ^ 32
-tag_below n = mod_below n (2 ^ 32) (omega arith)
 
 -- the fields have their widths
 pub record Small (t : Tuple) : Type 0 where
@@ -205,14 +169,11 @@ eight_small (a ∷ b ∷ c ∷ d ∷ e ∷ f ∷ g ∷ k ∷ []) l h =
 eight_small (a ∷ b ∷ c ∷ d ∷ e ∷ f ∷ g ∷ k ∷ m ∷ more) l h = absurd (omega (arith, l))
 
 module _ (size : ℕ) (frame : List ℕ) (l : length frame ≡ size + 8) (h : AllBelow 256 frame) where
-  eight : length (drop size frame) ≡ 8
-  eight = let d = length-drop size frame in omega (arith, d, l)
-
   pub frame_small : Small (tuple_of size frame)
-  frame_small = eight_small (drop size frame) eight (below_drop 256 size frame h)
+  frame_small = eight_small (drop size frame) (behind_long size 8 frame l) (below_drop 256 size frame h)
 
   -- a frame of bytes is its data under its tuple
   pub frame_is : frame_of (data_of size frame) (tuple_of size frame) ≡ frame
   frame_is =
-      ap (λ xs. take size frame ++ xs) (spelled (drop size frame) eight (λ i. below_at 256 (drop size frame) i 0 (omega arith) (below_drop 256 size frame h)))
+      ap (λ xs. take size frame ++ xs) (spelled (drop size frame) (behind_long size 8 frame l) (λ i. below_at 256 (drop size frame) i 0 (omega arith) (below_drop 256 size frame h)))
       ∙ take-append-drop size frame

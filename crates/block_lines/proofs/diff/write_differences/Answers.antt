@@ -2,11 +2,12 @@
 use Rattle.std.proofs.Common.{ℕ, List, ◌+◌, ◌-◌, refl, subst, arith}
 use Rattle.target_answer.specs.Frames.{frames_of, stored_size}
 use Rattle.block_lines.specs.DiffText.{count_differ, diff_line, diff_lines}
-use Rattle.report_text.proofs.Flow.{Left, breaks_off, goes_on, on_err}
+use Rattle.report_text.proofs.Flow.{Left, breaks_off, goes_on}
 use Rattle.block_lines.proofs.Differing.{diff_at, differ_at}
 use Rattle.block_lines.proofs.Showing.{at_most_one}
 use Rattle.block_lines.proofs.Frames.{shorter}
 use Rattle.block_lines.proofs.diff.write_differences.Goals as goal
+use Rattle.small_laws.proofs.Results.{on_err}
 
 pub returns-in_err-is_other-clause-part : goal.returns-in_err-is_other-clause-part
 returns-in_err-is_other-clause-part g c =

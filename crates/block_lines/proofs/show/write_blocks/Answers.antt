@@ -2,10 +2,11 @@ use Rattle.std.proofs.Common.{ℕ, List, ◌≡◌, ◌+◌, ◌-◌, ◌++◌, 
 use Rattle.target_answer.specs.Frames.{frames_of, stored_size}
 use Rattle.block_lines.specs.Sights.{block_line}
 use Rattle.block_lines.specs.ShowText.{block_lines, count_bad}
-use Rattle.report_text.proofs.Flow.{Left, breaks_off, goes_on, on_err}
+use Rattle.report_text.proofs.Flow.{Left, breaks_off, goes_on}
 use Rattle.block_lines.proofs.Showing.{at_most_one, bad_at, lines_at}
 use Rattle.block_lines.proofs.Frames.{shorter}
 use Rattle.block_lines.proofs.show.write_blocks.Goals as goal
+use Rattle.small_laws.proofs.Results.{on_err}
 
 pub returns-in_err-write_all-clause-part : goal.returns-in_err-write_all-clause-part
 returns-in_err-write_all-clause-part g c =

@@ -1,8 +1,9 @@
 use Rattle.std.proofs.Common.{ℕ, List, ◌+◌, drop, subst, ◌∙◌, arith}
 use Rattle.block_lines.specs.UnitText.{unit_lines}
-use Rattle.report_text.proofs.Flow.{Left, breaks_off, goes_on, on_err}
+use Rattle.report_text.proofs.Flow.{Left, breaks_off, goes_on}
 use Rattle.block_lines.proofs.Showing.{next_unit}
 use Rattle.block_lines.proofs.unit.write_lines.Goals as goal
+use Rattle.small_laws.proofs.Results.{on_err}
 
 pub returns-in_err-write_all-clause-part : goal.returns-in_err-write_all-clause-part
 returns-in_err-write_all-clause-part g c =

@@ -1,8 +1,9 @@
 use Rattle.block_lines.specs.ShowText.{first_line}
 use Rattle.block_lines.specs.UnitText.{unit_lines}
-use Rattle.report_text.proofs.Flow.{on_err, part_first, part_second}
+use Rattle.report_text.proofs.Flow.{part_first, part_second}
 use Rattle.block_lines.proofs.unit.write_units.Goals as goal
 use Rattle.std.proofs.lemmas.Result.{on_err_weaker}
+use Rattle.small_laws.proofs.Results.{on_err}
 
 pub returns-in_err-write_first-clause-part : goal.returns-in_err-write_first-clause-part
 returns-in_err-write_first-clause-part g c = on_err c.from_residual.result (part_first first_line (unit_lines 0 c.args.units.now) _ _ c.in_err-write_first.ensures.part)

@@ -1,5 +1,5 @@
 use Rattle.std.proofs.Common.{◌≡◌, ℕ, ◌+◌, ◌-◌, ◌<◌, [], refl, ap, subst, arith}
-use Rattle.report_text.proofs.Flow.{Left, at_end, at_start, breaks_off, goes_on, on_err, stops}
+use Rattle.report_text.proofs.Flow.{Left, at_end, at_start, breaks_off, goes_on, stops}
 use Rattle.flip_sweep.specs.Ground.{swept_in}
 use Rattle.flip_sweep.specs.Rows.{next_open, row, row_before}
 use Rattle.flip_sweep.specs.Swept.{rows_at}
@@ -7,6 +7,7 @@ use Rattle.flip_sweep.specs.declared.stretch.Stretch.{Stretch}
 use Rattle.flip_sweep.proofs.Rowing.{small_less}
 use Rattle.flip_sweep.proofs.Sweeping.{counted_first, counted_last, counted_next, last_on, open_rows, rows_first, rows_last, rows_next, small_first, small_on}
 use Rattle.flip_sweep.proofs.sweep.sweep_site.Goals as goal
+use Rattle.small_laws.proofs.Results.{on_err}
 
 pub frame_len-len-requires : goal.frame_len-len-requires
 frame_len-len-requires g c = c.requires.base.sound

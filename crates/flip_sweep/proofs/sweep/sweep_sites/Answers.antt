@@ -1,5 +1,5 @@
 use Rattle.std.proofs.Common.{◌*◌, List, length, ap, subst, ◌∙◌, arith}
-use Rattle.report_text.proofs.Flow.{Left, at_end, at_start, breaks_off, goes_on, on_err}
+use Rattle.report_text.proofs.Flow.{Left, at_end, at_start, breaks_off, goes_on}
 use Rattle.flip_sweep.specs.Flips.{AreSites}
 use Rattle.flip_sweep.specs.Ground.{swept_in}
 use Rattle.flip_sweep.specs.Rows.{IsSmall}
@@ -9,6 +9,7 @@ use Rattle.flip_sweep.specs.declared.flips.Site.{Site}
 use Rattle.flip_sweep.proofs.Sounding.{block_few}
 use Rattle.flip_sweep.proofs.Sweeping.{counts_next, no_counts, no_rows, rows_behind, small_begin, small_here, small_site}
 use Rattle.flip_sweep.proofs.sweep.sweep_sites.Goals as goal
+use Rattle.small_laws.proofs.Results.{on_err}
 
 pub sweep_site-requires-clause-site : goal.sweep_site-requires-clause-site
 sweep_site-requires-clause-site g c = (subst AreSites c.in-Some.ensures.cases.0 c.loop-site.invariant.sites).0

@@ -1,10 +1,10 @@
 use Rattle.std.proofs.Common.{sym, ap, subst, length, arith}
-use Rattle.report_text.proofs.Flow.{on_err}
 use Rattle.flip_sweep.specs.Flips.{AreSites}
 use Rattle.flip_sweep.specs.Ground.{swept_in}
 use Rattle.flip_sweep.proofs.Ending.{all_counts, all_written, first_breaks, last_breaks, rows_break}
 use Rattle.flip_sweep.proofs.Siting.{all_sites, few_sites}
 use Rattle.flip_sweep.proofs.sweep.write_sweep.Goals as goal
+use Rattle.small_laws.proofs.Results.{on_err}
 
 pub returns-in_err-write_first-clause-part : goal.returns-in_err-write_first-clause-part
 returns-in_err-write_first-clause-part g c = on_err c.from_residual.result (first_breaks (swept_in c.args.base.now) _ _ c.in_err-write_first.ensures.part)

@@ -1,8 +1,9 @@
 use Rattle.std.proofs.Common.{ap, sym, ◌∙◌}
 use Rattle.target_answer.specs.Headers.{image_size, is_layout}
 use Rattle.image_layout.specs.Heads.{head_in}
-use Rattle.image_layout.proofs.Heads.{right_layout, right_size}
+use Rattle.image_layout.proofs.Heads.{right_size}
 use Rattle.image_blocks.proofs.opening.open_image.Goals as goal
+use Rattle.rig_api.proofs.HeadLaws.{right_layout}
 
 pub invariant_of-result : goal.invariant_of-result
 invariant_of-result g c = record { layout = ap is_layout c.units.ensures ∙ right_layout (head_in c.look.new.head) c.in_ok-look.ensures.judged }

@@ -1,10 +1,11 @@
 use Rattle.std.proofs.Common.{ℕ, List, ◌-◌, subst, arith}
 use Rattle.target_answer.specs.Frames.{frames_of, stored_size}
 use Rattle.image_dumps.specs.Dumps.{dump_of}
-use Rattle.report_text.proofs.Flow.{Left, breaks_off, goes_on, on_err}
+use Rattle.report_text.proofs.Flow.{Left, breaks_off, goes_on}
 use Rattle.image_dumps.proofs.Dumping.{dump_at}
 use Rattle.block_lines.proofs.Frames.{shorter}
 use Rattle.image_dumps.proofs.export.write_pieces.Goals as goal
+use Rattle.small_laws.proofs.Results.{on_err}
 
 pub returns-in_err-write_all-clause-part : goal.returns-in_err-write_all-clause-part
 returns-in_err-write_all-clause-part g c =

@@ -1,15 +1,16 @@
 use Rattle.std.proofs.Common.{◌++◌, sym, ap, subst, ◌∙◌, arith, refl}
 use Rattle.dix_base.specs.Told.{Appended}
+use Rattle.dix_base.proofs.Appending.{appended_none, appended_both}
 use Rattle.target_answer.specs.Frames.{joined}
 use Rattle.target_answer.specs.Image.{fresh_from}
-use Rattle.image_rig.proofs.Formats.{appended_more, becomes_tells, fresh_more, nothing_appended}
+use Rattle.image_rig.proofs.Formats.{becomes_tells, fresh_more}
 use Rattle.image_rig.proofs.formatting.append_blocks.Goals as goal
 
 pub loop-k-init : goal.loop-k-init
 loop-k-init g c = record {
   long = c.requires.long;
   zeros = c.requires.zeros;
-  appended = nothing_appended (g.S.Store.bytes c.args.store.now);
+  appended = appended_none (g.S.Store.bytes c.args.store.now);
   tells = refl;
   count = omega arith;
   named = refl;
@@ -19,7 +20,7 @@ loop-k-init g c = record {
 pub loop-k-preserved : goal.loop-k-preserved
 loop-k-preserved g c =
     let u = c.args.unit.now in
-    let more = appended_more (joined (fresh_from u.ty u.size u.first c.loop-k.k)) c.put_tuple.new.frame (g.S.Store.bytes c.args.store.now) (g.S.Store.bytes c.loop-k.store) (g.S.Store.bytes c.append.new.self) c.loop-k.invariant.appended c.in_ok-append.ensures.written in
+    let more = appended_both (joined (fresh_from u.ty u.size u.first c.loop-k.k)) c.put_tuple.new.frame (g.S.Store.bytes c.args.store.now) (g.S.Store.bytes c.loop-k.store) (g.S.Store.bytes c.append.new.self) c.loop-k.invariant.appended c.in_ok-append.ensures.written in
     record {
       long = c.put_tuple.ensures.long;
       zeros = c.put_tuple.ensures.zeros;

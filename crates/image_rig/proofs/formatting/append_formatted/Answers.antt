@@ -1,10 +1,11 @@
 use Rattle.std.proofs.Common.{◌++◌, sym, ap, subst, ◌∙◌, arith, append_assoc, take, get_or}
 use Rattle.dix_base.specs.Told.{Appended}
+use Rattle.dix_base.proofs.Appending.{appended_both}
 use Rattle.target_answer.specs.Frames.{joined}
 use Rattle.target_answer.specs.Headers.{header, version_for}
 use Rattle.target_answer.specs.Image.{all_fresh, fresh_bytes}
 use Rattle.rig_api.specs.Telling.{no_spec}
-use Rattle.image_rig.proofs.Formats.{all_units, appended_more, units_more}
+use Rattle.image_rig.proofs.Formats.{all_units, units_more}
 use Rattle.image_rig.proofs.formatting.append_formatted.Goals as goal
 
 pub loop-unit-preserved : goal.loop-unit-preserved
@@ -12,7 +13,7 @@ loop-unit-preserved g c =
     let us = c.args.units.now in
     let i = c.loop-unit.unit-index in
     let h = header (version_for us) us in
-    let more = appended_more (h ++ fresh_bytes (take i us)) (joined (all_fresh (get_or us i no_spec))) (g.S.Store.bytes c.args.store.now) (g.S.Store.bytes c.loop-unit.store) (g.S.Store.bytes c.append_unit.new.store) c.loop-unit.invariant.appended c.in_ok-append_unit.ensures.appended in
+    let more = appended_both (h ++ fresh_bytes (take i us)) (joined (all_fresh (get_or us i no_spec))) (g.S.Store.bytes c.args.store.now) (g.S.Store.bytes c.loop-unit.store) (g.S.Store.bytes c.append_unit.new.store) c.loop-unit.invariant.appended c.in_ok-append_unit.ensures.appended in
     record {
       appended = subst (λ xs. Appended xs (g.S.Store.bytes c.args.store.now) (g.S.Store.bytes c.append_unit.new.store))
           (append_assoc h (fresh_bytes (take i us)) (joined (all_fresh (get_or us i no_spec))) ∙ ap (λ v. h ++ v) (sym (units_more us i no_spec c.loop-unit-test.true))) more;

@@ -1,9 +1,10 @@
 use Rattle.std.proofs.Common.{subst}
-use Rattle.report_text.proofs.Flow.{on_err, whole_is_part}
+use Rattle.report_text.proofs.Flow.{whole_is_part}
 use Rattle.dix_base.specs.Told.{Appended}
 use Rattle.block_lines.specs.UnitText.{units_text}
 use Rattle.image_blocks.specs.Images.{units_open}
 use Rattle.image_show.proofs.units.show_units.Goals as goal
+use Rattle.small_laws.proofs.Results.{on_err}
 
 pub returns-clause-part : goal.returns-clause-part
 returns-clause-part g c = on_err c.flush.result (whole_is_part (units_text (units_open c.args.image.now)) _ _ _

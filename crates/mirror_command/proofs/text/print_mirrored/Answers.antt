@@ -1,8 +1,10 @@
-use Rattle.report_text.proofs.Flow.{appended_both, on_err, part_first, part_second}
+use Rattle.report_text.proofs.Flow.{part_first, part_second}
 use Rattle.report_text.specs.Report.{report}
 use Rattle.mirror_command.specs.Texts.{repair_line}
 use Rattle.mirror_command.proofs.text.print_mirrored.Goals as goal
 use Rattle.std.proofs.lemmas.Result.{on_ok_weaker, on_err_weaker}
+use Rattle.small_laws.proofs.Results.{on_err}
+use Rattle.dix_base.proofs.Appending.{appended_both}
 
 pub returns-in_err-print_report-clause-part : goal.returns-in_err-print_report-clause-part
 returns-in_err-print_report-clause-part g c =

@@ -6,10 +6,11 @@ use Rattle.script_text.specs.declared.script.Script.{Script}
 use Rattle.script_stack.specs.Causes.{table_of}
 use Rattle.stack_core.specs.declared.stack.Stack.{Stack}
 use Rattle.std.specs.Prelude.{None}
+use Rattle.std.proofs.lemmas.Result.{IfOk-weaker}
 use Rattle.leg_runs.specs.LegRuns.{found_by}
 use Rattle.leg_runs.proofs.OwnRuns.{read-pi-fits, read-pi-lies}
 use Rattle.mirror_volume.proofs.Planned.{half-small, plan-asks, plan-tuples}
-use Rattle.leg_runs.proofs.Results.{if-not, if-ok}
+use Rattle.leg_runs.proofs.Results.{if-not}
 use Rattle.leg_runs.proofs.Runs.{ran-nothing}
 use Rattle.leg_runs.proofs.OwnEach.{all_own-so}
 use Rattle.mirror_volume.proofs.legs.read_pi_piece.Goals as goal
@@ -81,7 +82,7 @@ returns-clause-ran g c =
           ran.1.1.0,
           (
             all_own-so _ _ ran.0 (λ s e. e ∙ c.in_ok-own.ensures) ran.1.1.1.0,
-            if-ok _ _ c.copy_out-2.result (λ u tuples. (one.0, (one.1.0, (one.1.1.0 ∙ c.in_ok-own.ensures, (found, (bytes, tuples ∙ (λ i. take (c.requires.tuples i) (drop (4096 * c.pages_for-behind.ensures i) (flat (pool-2 i))))))))))
+            IfOk-weaker c.copy_out-2.result _ _ (λ u tuples. (one.0, (one.1.0, (one.1.1.0 ∙ c.in_ok-own.ensures, (found, (bytes, tuples ∙ (λ i. take (c.requires.tuples i) (drop (4096 * c.pages_for-behind.ensures i) (flat (pool-2 i))))))))))
                 c.copy_out-2.ensures.bytes,
           ),
         ),

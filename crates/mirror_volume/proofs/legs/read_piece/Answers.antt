@@ -6,10 +6,10 @@ use Rattle.script_text.specs.declared.script.Script.{Script}
 use Rattle.script_stack.specs.Causes.{table_of}
 use Rattle.stack_core.specs.declared.stack.Stack.{Stack}
 use Rattle.std.specs.Prelude.{None}
+use Rattle.std.proofs.lemmas.Result.{IfOk-weaker}
 use Rattle.leg_runs.specs.LegRuns.{found_by}
 use Rattle.leg_runs.proofs.OwnRuns.{read-fits, read-lies}
 use Rattle.mirror_volume.proofs.Planned.{half-small, plan-asks, plan-piece}
-use Rattle.leg_runs.proofs.Results.{if-ok}
 use Rattle.leg_runs.proofs.Runs.{ran-nothing}
 use Rattle.leg_runs.proofs.OwnEach.{all_own-so}
 use Rattle.mirror_volume.proofs.legs.read_piece.Goals as goal
@@ -68,7 +68,7 @@ returns-clause-ran g c =
           ran.1.1.0,
           (
             all_own-so _ _ ran.0 (λ s e. e ∙ c.in_ok-own.ensures) ran.1.1.1.0,
-            if-ok _ _ c.copy_out.result (λ u bytes. (one.0, (one.1.0, (one.1.1.0 ∙ c.in_ok-own.ensures, (found, bytes ∙ (λ i. take (c.requires.long i) (flat (pool i)))))))) c.copy_out.ensures.bytes,
+            IfOk-weaker c.copy_out.result _ _ (λ u bytes. (one.0, (one.1.0, (one.1.1.0 ∙ c.in_ok-own.ensures, (found, bytes ∙ (λ i. take (c.requires.long i) (flat (pool i)))))))) c.copy_out.ensures.bytes,
           ),
         ),
       ),

@@ -2,8 +2,8 @@ use Rattle.std.proofs.Common.{◌+◌, ◌*◌, ◌≤◌, length, rules, ◌∙
 use Rattle.mirror_legs.specs.Inner.{read_script}
 use Rattle.leg_runs.proofs.Borrowed.{pasted-back}
 use Rattle.leg_runs.proofs.Readings.{part-bytes, part-found, part-of, reads-part}
-use Rattle.mirror_volume.proofs.Stretched.{ends-inside}
 use Rattle.mirror_volume.proofs.reading.ask_stretch.Goals as goal
+use Rattle.small_laws.proofs.Numbers.{within_all}
 
 pub returns-in_err-read_piece-clause-ran : goal.returns-in_err-read_piece-clause-ran
 returns-in_err-read_piece-clause-ran g c =
@@ -24,7 +24,7 @@ returns-clause-ran g c =
     let x = c.in_ok-read_piece.ensures.ran in
     let ran = x.1.1.1.1 in
     let few : s.0 + s.1 ≤ length came.found.items = let h = c.requires.stretch.inside in let e = c.requires.found in omega (arith, h, e) in
-    let room : s.0 * size + s.1 * size ≤ length came.bytes.items = let h = ends-inside s.0 s.1 whole.n size c.requires.stretch.inside in let e = c.requires.bytes in omega (arith, h, e) in (
+    let room : s.0 * size + s.1 * size ≤ length came.bytes.items = let h = within_all s.0 s.1 whole.n size c.requires.stretch.inside in let e = c.requires.bytes in omega (arith, h, e) in (
       x.0,
       (
         x.1.0,

@@ -2,9 +2,9 @@ use Rattle.std.proofs.Common.{inl, ap, drop, length, length-drop, length-take-le
 use Rattle.mirror_legs.specs.Inner.{read_pi_script}
 use Rattle.leg_runs.specs.Asked.{part_of}
 use Rattle.mirror_volume.proofs.Helds.{part-after, put-part}
-use Rattle.mirror_volume.proofs.Stretched.{ends-inside}
 use Rattle.leg_runs.proofs.OwnEach.{all_own-so}
 use Rattle.mirror_volume.proofs.repair.look_at_part.Goals as goal
+use Rattle.small_laws.proofs.Numbers.{within_all}
 
 pub returns-in_err-read_pi_piece-clause-ran : goal.returns-in_err-read_pi_piece-clause-ran
 returns-in_err-read_pi_piece-clause-ran g c =
@@ -27,7 +27,7 @@ returns-clause-ran g c =
     let n = c.args.part.1 in
     let seen = c.requires.seen in
     let ensured = c.read_pi_piece.ensures in
-    let lie-bytes = ends-inside start n c.args.whole.n s.block b in
+    let lie-bytes = within_all start n c.args.whole.n s.block b in
     let long-bytes = seen.bytes in
     let long-tuples = seen.tuples in
     let put-found = put-part c.args.seen.now.found.len start (start + n - start) n c.deref_mut-3.result.now c.args.seen.now.found.items _ _ c.deref_mut-3.ensures.value (omega (arith, c.deref_mut-3.ensures.len, ap length c.deref_mut-3.ensures.value)) (omega (arith, b, seen.found)) (omega arith) (omega (arith, ensured.found, b, seen.found, ap length c.deref_mut-3.ensures.value, length-drop start c.deref_mut-3.result.now, length-take-le (start + n - start) (drop start c.deref_mut-3.result.now) (omega (arith, b, seen.found, ap length c.deref_mut-3.ensures.value, length-drop start c.deref_mut-3.result.now)))) o.1.1.1.0 in

@@ -1,4 +1,5 @@
 use Rattle.std.proofs.Common.{◌≡◌, ◌+◌, ◌-◌, ◌++◌, true, ap, drop, rules, subst, take, ◌∙◌, arith}
+use Rattle.std.proofs.lemmas.Result.{IfOk-weaker}
 use Rattle.mirror_legs.specs.declared.piece.Piece.{Piece}
 use Rattle.mirror_legs.specs.Inner.{read_pi_script}
 use Rattle.leg_runs.specs.Asked.{AreOf, fresh_on0, stretches}
@@ -6,7 +7,6 @@ use Rattle.mirror_volume.specs.Helds.{goods_in}
 use Rattle.leg_runs.specs.Mending.{fresh_on1}
 use Rattle.leg_runs.proofs.Mended.{stretched}
 use Rattle.leg_runs.proofs.OwnEach.{all_own-append}
-use Rattle.leg_runs.proofs.Results.{if-ok}
 use Rattle.leg_runs.proofs.Runs.{ran-nothing, ran-two}
 use Rattle.mirror_volume.proofs.repair.repair_stretch.Goals as goal
 
@@ -46,7 +46,7 @@ returns-clause-ran g c =
           both.1,
           (
             all_own-append _ x.0 (y.0 ++ z.0) x.1.1.1.0 (all_own-append _ y.0 z.0 y.1.1.1.0 z.1.1.1.0),
-            if-ok _ _ c.mend_all.result (λ u m. stretched p.script p.half whole.v whole.n _ _ x.0 y.0 z.0 w0 w1 (goods_in p.script.block c.in_ok-held0.held0) (goods_in p.script.block c.in_ok-held1.held1) e0 e1 a0 a1 x.1.1.1.1.1 y.1.1.1.1.1 m) z.1.1.1.1,
+            IfOk-weaker c.mend_all.result _ _ (λ u m. stretched p.script p.half whole.v whole.n _ _ x.0 y.0 z.0 w0 w1 (goods_in p.script.block c.in_ok-held0.held0) (goods_in p.script.block c.in_ok-held1.held1) e0 e1 a0 a1 x.1.1.1.1.1 y.1.1.1.1.1 m) z.1.1.1.1,
           ),
         ),
       ),

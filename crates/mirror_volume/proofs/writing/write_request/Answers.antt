@@ -1,4 +1,5 @@
 use Rattle.std.proofs.Common.{ℕ, ◌≡◌, ◌++◌, List, Option, true, false, ap, length, rules, sym, ◌∙◌}
+use Rattle.std.proofs.lemmas.Result.{IfOk-weaker}
 use Rattle.bio_core.specs.declared.fate.Why.{Why}
 use Rattle.stack_ops.specs.declared.reply.Reply.{Reply}
 use Rattle.whole_run.specs.ScriptWalk.{bad_from, whole_or_bad}
@@ -9,7 +10,6 @@ use Rattle.script_text.specs.declared.script.Script.{Script}
 use Rattle.leg_runs.specs.LegRuns.{AllOwn, LegRun, found_by, replies_of}
 use Rattle.leg_runs.specs.OnOps.{IsWriteOf, whole_request}
 use Rattle.leg_runs.proofs.Borrowed.{written-back}
-use Rattle.leg_runs.proofs.Results.{if-ok}
 use Rattle.leg_runs.proofs.Runs.{ran-nothing, ran-two}
 use Rattle.leg_runs.proofs.OwnEach.{all_own-append, all_own-so}
 use Rattle.mirror_volume.proofs.writing.write_request.Goals as goal
@@ -82,7 +82,7 @@ returns-clause-ran g c =
           both.1,
           (
             all_own-append _ x.0 y.0 of0 of1,
-            if-ok _ _ c.request_reply.result (λ (reply : Reply) e. record {
+            IfOk-weaker c.request_reply.result _ _ (λ (reply : Reply) e. record {
               on0 = first.0;
               on1 = last.0;
               runs_are = λ i. first.1.0 i ++ last.1.0 i;

@@ -1,13 +1,14 @@
 use Rattle.std.proofs.Common.{◌≡◌, length, ap, sym, ◌∙◌, refl, rules, subst}
 use Rattle.std.specs.Prelude.{replicate}
 use Rattle.std.proofs.lemmas.Option.{none-some, same_Some}
+use Rattle.std.proofs.lemmas.Result.{IfOk-weaker}
 use Rattle.nvme_front.specs.Answers.{HasDevices}
 use Rattle.nvme_front.specs.Commands.{command_in}
 use Rattle.nvme_front.specs.Refusals.{device_at, meta_len}
 use Rattle.nvme_front.specs.Results.{IsAnswered}
 use Rattle.nvme_session.specs.Sessions.{filled, given}
 use Rattle.nvme_session.specs.declared.doing.NvmReply.{NvmReply}
-use Rattle.nvme_session.proofs.Kept.{devices-kept, given-long, ok-with}
+use Rattle.nvme_session.proofs.Kept.{devices-kept, given-long}
 use Rattle.nvme_session.proofs.doing.do_command.Goals as goal
 
 pub do_granted-requires-clause-meta : goal.do_granted-requires-clause-meta
@@ -27,7 +28,7 @@ returns-clause-replied g c =
     let new = g.R.Rig.state c.do_granted.new.rig in
     let body : c.in_ok-body.body.items ≡ filled front d c.args.fill = c.in_ok-body.ensures ∙ ap (λ n. replicate n c.args.fill) c.in-Ok.ensures.body in
     let meta : c.in_ok-tuples.tuples.items ≡ given (meta_len (device_at front d.nsid).ty d) c.args.meta.now = c.in_ok-tuples.ensures ∙ ap (λ n. given n c.args.meta.now) c.in-Ok.ensures.meta in
-    ok-with c.do_granted.result (λ (r : NvmReply) said. record {
+    IfOk-weaker c.do_granted.result _ _ (λ (r : NvmReply) said. record {
       refused = λ x q. absurd (none-some x (sym c.in-Ok.ensures.granted ∙ q));
       answered = λ n.
           subst (λ m. IsAnswered front d (filled front d c.args.fill) m r.body.items r.meta.items r.completion old new) meta
@@ -35,10 +36,10 @@ returns-clause-replied g c =
     }) c.do_granted.ensures.answered
 
 pub returns-clause-never : goal.returns-clause-never
-returns-clause-never g c = ok-with c.do_granted.result (λ r said. said.never) c.do_granted.ensures.answered
+returns-clause-never g c = IfOk-weaker c.do_granted.result _ _ (λ r said. said.never) c.do_granted.ensures.answered
 
 pub returns-clause-medium : goal.returns-clause-medium
-returns-clause-medium g c = ok-with c.do_granted.result (λ r said. said.medium) c.do_granted.ensures.answered
+returns-clause-medium g c = IfOk-weaker c.do_granted.result _ _ (λ r said. said.medium) c.do_granted.ensures.answered
 
 pub returns-clause-devices : goal.returns-clause-devices
 returns-clause-devices g c =

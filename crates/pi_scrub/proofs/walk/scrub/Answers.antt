@@ -1,7 +1,8 @@
 use Rattle.std.proofs.Common.{◌<◌, [], length, ◌∙◌, arith}
-use Rattle.pi_scrub.proofs.Joining.{calm_first, calm_then, next_device, next_faults, no_faults, units_length}
+use Rattle.pi_scrub.proofs.Joining.{next_device, next_faults, no_faults, units_length}
 use Rattle.pi_scrub.proofs.walk.scrub.Goals as goal
 use Rattle.rig_api.proofs.State.{stays-on}
+use Rattle.dix_base.proofs.Counts.{calm_first, calm_then}
 
 pub returns-in-Err-clause-part : goal.returns-in-Err-clause-part
 returns-in-Err-clause-part g c =

@@ -1,9 +1,11 @@
 use Rattle.std.proofs.Common.{◌++◌, subst, ◌∙◌}
 use Rattle.std.proofs.lemmas.Result.{on_ok_weaker, on_err_weaker}
 use Rattle.dix_base.specs.Told.{Appended, AppendedSome}
+use Rattle.dix_base.proofs.Appending.{appended_both}
 use Rattle.report_text.specs.Report.{bad_lines}
-use Rattle.report_text.proofs.Flow.{appended_both, on_err, part_first, part_second}
+use Rattle.report_text.proofs.Flow.{part_first, part_second}
 use Rattle.report_text.proofs.report.print_bad.Goals as goal
+use Rattle.small_laws.proofs.Results.{on_err}
 
 pub returns-in_err-write_all-clause-part : goal.returns-in_err-write_all-clause-part
 returns-in_err-write_all-clause-part g c =

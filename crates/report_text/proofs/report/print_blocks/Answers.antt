@@ -1,8 +1,9 @@
 use Rattle.std.proofs.Common.{◌+◌, drop, subst, ◌∙◌, arith}
 use Rattle.report_text.specs.Report.{bad_lines}
-use Rattle.report_text.proofs.Flow.{Left, breaks_off, goes_on, on_err}
+use Rattle.report_text.proofs.Flow.{Left, breaks_off, goes_on}
 use Rattle.report_text.proofs.Lines.{next_bad}
 use Rattle.report_text.proofs.report.print_blocks.Goals as goal
+use Rattle.small_laws.proofs.Results.{on_err}
 
 pub returns-in_err-write_all-clause-part : goal.returns-in_err-write_all-clause-part
 returns-in_err-write_all-clause-part g c =

@@ -1,8 +1,9 @@
 use Rattle.std.proofs.Common.{◌+◌, codes, drop, subst, arith}
 use Rattle.report_text.specs.Report.{lines_from, lines_of, report}
-use Rattle.report_text.proofs.Flow.{Left, breaks_off, goes_on, on_err, part_first}
+use Rattle.report_text.proofs.Flow.{Left, breaks_off, goes_on, part_first}
 use Rattle.report_text.proofs.Lines.{next_reply}
 use Rattle.report_text.proofs.report.write_report.Goals as goal
+use Rattle.small_laws.proofs.Results.{on_err}
 
 pub returns-in_err-write_all-clause-part : goal.returns-in_err-write_all-clause-part
 returns-in_err-write_all-clause-part g c = on_err c.from_residual.result (part_first (codes "dix report 1\n") (lines_from 1 c.args.replies.now) _ _ c.in_err-write_all.ensures.part)

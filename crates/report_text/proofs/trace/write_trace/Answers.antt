@@ -1,8 +1,9 @@
 use Rattle.std.proofs.Common.{◌<◌, ◌+◌, length, drop, subst, arith}
 use Rattle.report_text.specs.Trace.{trace, trace_line}
-use Rattle.report_text.proofs.Flow.{Left, breaks_off, goes_on, on_err}
+use Rattle.report_text.proofs.Flow.{Left, breaks_off, goes_on}
 use Rattle.report_text.proofs.Lines.{keyed, next_record}
 use Rattle.report_text.proofs.trace.write_trace.Goals as goal
+use Rattle.small_laws.proofs.Results.{on_err}
 
 pub print_record-requires : goal.print_record-requires
 print_record-requires g c = keyed (g.R.Rig.state c.args.rig.now).log c.loop-i.i c.logged.result.now (g.met.R.Rig.keyed c.args.rig.now) c.logged.ensures

@@ -1,8 +1,9 @@
 use Rattle.std.proofs.Common.{◌≡◌, ◌++◌, take, drop, ap, sym, subst, ◌∙◌, arith}
 use Rattle.hex.specs.Hex.{encode_lower}
-use Rattle.report_text.proofs.Flow.{breaks_off, goes_on, at_end, on_err, Left}
+use Rattle.report_text.proofs.Flow.{breaks_off, goes_on, at_end, Left}
 use Rattle.report_text.proofs.Lines.{hex_parts, hex_end}
 use Rattle.report_text.proofs.writing.write_hex.Goals as goal
+use Rattle.small_laws.proofs.Results.{on_err}
 
 pub returns-in_err-write_all-clause-part : goal.returns-in_err-write_all-clause-part
 returns-in_err-write_all-clause-part g c =

@@ -1,9 +1,10 @@
 use Rattle.std.proofs.Common.{◌+◌, [], drop, sym, subst, ◌∙◌, arith}
 use Rattle.std.proofs.lemmas.Result.{on_err_weaker}
-use Rattle.report_text.proofs.Flow.{Left, breaks_off, goes_on, on_err}
+use Rattle.report_text.proofs.Flow.{Left, breaks_off, goes_on}
 use Rattle.run_words.specs.Texts.{run_lines, runs_from, runs_of}
 use Rattle.run_words.proofs.Lines.{last_run, next_label}
 use Rattle.run_words.proofs.labels.print_runs.Goals as goal
+use Rattle.small_laws.proofs.Results.{on_err}
 
 pub returns-in_err-run-clause-part : goal.returns-in_err-run-clause-part
 returns-in_err-run-clause-part g c =

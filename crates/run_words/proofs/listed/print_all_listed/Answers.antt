@@ -1,11 +1,12 @@
 use Rattle.std.proofs.Common.{◌+◌, drop, ap, subst, ◌∙◌, arith}
 use Rattle.std.proofs.lemmas.List.{drop_all}
-use Rattle.report_text.proofs.Flow.{Left, at_end, breaks_off, goes_on, on_err}
+use Rattle.report_text.proofs.Flow.{Left, at_end, breaks_off, goes_on}
 use Rattle.volume_table.specs.Places.{volume_len}
 use Rattle.run_words.specs.Sites.{AreInside}
 use Rattle.run_words.specs.Texts.{all_listed}
 use Rattle.run_words.proofs.Lines.{inside_next, next_reply, none_listed}
 use Rattle.run_words.proofs.listed.print_all_listed.Goals as goal
+use Rattle.small_laws.proofs.Results.{on_err}
 
 pub returns-in_err-print_reply-clause-part : goal.returns-in_err-print_reply-clause-part
 returns-in_err-print_reply-clause-part g c =

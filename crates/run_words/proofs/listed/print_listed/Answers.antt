@@ -1,11 +1,12 @@
 use Rattle.std.proofs.Common.{◌+◌, ◌<◌, drop, subst, ◌∙◌, arith}
 use Rattle.std.proofs.lemmas.List.Elements.{All-get_or}
-use Rattle.report_text.proofs.Flow.{Left, breaks_off, goes_on, on_err}
+use Rattle.report_text.proofs.Flow.{Left, breaks_off, goes_on}
 use Rattle.stack_ops.specs.declared.reply.BadBlock.{BadBlock}
 use Rattle.volume_table.specs.Places.{volume_len}
 use Rattle.run_words.specs.Texts.{listed_lines}
 use Rattle.run_words.proofs.Lines.{next_listed}
 use Rattle.run_words.proofs.listed.print_listed.Goals as goal
+use Rattle.small_laws.proofs.Results.{on_err}
 
 pub listed_line-requires-clause-inside : goal.listed_line-requires-clause-inside
 listed_line-requires-clause-inside g c = All-get_or (λ (b : BadBlock). c.args.site.first + b.k < volume_len c.args.entries.now) c.args.blocks.now c.loop-block.block-index _ c.loop-block-test.true c.requires.inside

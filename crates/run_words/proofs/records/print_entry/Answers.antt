@@ -1,8 +1,10 @@
 use Rattle.std.proofs.lemmas.Result.{on_ok_weaker, on_err_weaker}
-use Rattle.report_text.proofs.Flow.{appended_both, on_err, part_first, part_second}
+use Rattle.report_text.proofs.Flow.{part_first, part_second}
 use Rattle.run_words.specs.Commands.{command_line}
 use Rattle.run_words.specs.Texts.{run_lines, runs_of}
 use Rattle.run_words.proofs.records.print_entry.Goals as goal
+use Rattle.small_laws.proofs.Results.{on_err}
+use Rattle.dix_base.proofs.Appending.{appended_both}
 
 pub returns-in_err-print_command-clause-part : goal.returns-in_err-print_command-clause-part
 returns-in_err-print_command-clause-part g c =

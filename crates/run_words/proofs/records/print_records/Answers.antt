@@ -1,8 +1,9 @@
 use Rattle.std.proofs.Common.{◌≡◌, ◌<◌, ◌+◌, ◌-◌, length, drop, subst, arith}
-use Rattle.report_text.proofs.Flow.{Left, breaks_off, goes_on, on_err}
+use Rattle.report_text.proofs.Flow.{Left, breaks_off, goes_on}
 use Rattle.run_words.specs.Texts.{record_lines}
 use Rattle.run_words.proofs.Lines.{next_record}
 use Rattle.run_words.proofs.records.print_records.Goals as goal
+use Rattle.small_laws.proofs.Results.{on_err}
 
 pub returns-in_err-print_entry-clause-part : goal.returns-in_err-print_entry-clause-part
 returns-in_err-print_entry-clause-part g c =

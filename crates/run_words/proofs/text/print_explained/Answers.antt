@@ -1,9 +1,11 @@
 use Rattle.std.proofs.Common.{drop}
 use Rattle.std.proofs.lemmas.Result.{on_ok_weaker, on_err_weaker}
-use Rattle.report_text.proofs.Flow.{appended_both, on_err, part_first, part_second}
+use Rattle.report_text.proofs.Flow.{part_first, part_second}
 use Rattle.report_text.specs.Report.{report}
 use Rattle.run_words.specs.Texts.{words_text}
 use Rattle.run_words.proofs.text.print_explained.Goals as goal
+use Rattle.small_laws.proofs.Results.{on_err}
+use Rattle.dix_base.proofs.Appending.{appended_both}
 
 pub returns-in_err-print_run-clause-part : goal.returns-in_err-print_run-clause-part
 returns-in_err-print_run-clause-part g c =

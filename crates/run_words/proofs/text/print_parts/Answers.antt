@@ -1,8 +1,10 @@
 use Rattle.std.proofs.Common.{drop}
 use Rattle.std.proofs.lemmas.Result.{on_ok_weaker, on_err_weaker}
-use Rattle.report_text.proofs.Flow.{appended_both, on_err, part_first, part_second}
+use Rattle.report_text.proofs.Flow.{part_first, part_second}
 use Rattle.run_words.specs.Texts.{all_listed, record_lines}
 use Rattle.run_words.proofs.text.print_parts.Goals as goal
+use Rattle.small_laws.proofs.Results.{on_err}
+use Rattle.dix_base.proofs.Appending.{appended_both}
 
 pub returns-in_err-print_records-clause-part : goal.returns-in_err-print_records-clause-part
 returns-in_err-print_records-clause-part g c =

@@ -1,6 +1,6 @@
 use Rattle.std.proofs.Common.{List, drop, ap, sym, subst, ◌∙◌}
 use Rattle.dix_base.specs.Told.{Appended}
-use Rattle.report_text.proofs.Flow.{on_err, whole_is_part}
+use Rattle.report_text.proofs.Flow.{whole_is_part}
 use Rattle.volume_table.specs.Places.{volume_len}
 use Rattle.volume_table.specs.declared.entry.Entry.{Entry}
 use Rattle.run_words.specs.Sites.{AreInside}
@@ -8,6 +8,7 @@ use Rattle.run_words.specs.Texts.{words_text}
 use Rattle.run_words.specs.declared.guide.OpSite.{OpSite}
 use Rattle.run_words.proofs.Lines.{on_ok}
 use Rattle.run_words.proofs.text.print_words.Goals as goal
+use Rattle.small_laws.proofs.Results.{on_err}
 
 pub print_parts-requires-clause-table : goal.print_parts-requires-clause-table
 print_parts-requires-clause-table g c = (c.requires.guides.table, c.requires.guides.entries ∙ sym c.as_slice-entries.ensures, c.requires.guides.made)

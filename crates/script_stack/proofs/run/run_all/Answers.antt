@@ -1,7 +1,8 @@
 use Rattle.std.proofs.Common.{arith}
-use Rattle.script_stack.proofs.Going.{goes_then, rig_then, stays_then, went_on}
+use Rattle.script_stack.proofs.Going.{goes_then, stays_then, went_on}
 use Rattle.script_stack.proofs.SendsBy.{entries_long, sends_then}
 use Rattle.script_stack.proofs.run.run_all.Goals as goal
+use Rattle.rig_api.proofs.State.{stays-on}
 
 pub returns-clause-went : goal.returns-clause-went
 returns-clause-went g c = went_on _ _ _ _ _ _ c.run_schedule.ensures.went c.run_rest.ensures.went
@@ -10,7 +11,7 @@ pub returns-clause-stays : goal.returns-clause-stays
 returns-clause-stays g c = stays_then _ _ _ c.run_schedule.ensures.stays c.run_rest.ensures.stays
 
 pub returns-clause-rig : goal.returns-clause-rig
-returns-clause-rig g c = rig_then _ _ _ c.run_schedule.ensures.rig c.run_rest.ensures.rig
+returns-clause-rig g c = stays-on _ _ _ c.run_schedule.ensures.rig c.run_rest.ensures.rig
 
 pub returns-clause-goes : goal.returns-clause-goes
 returns-clause-goes g c = goes_then _ _ _ c.run_schedule.ensures.goes c.run_rest.ensures.goes

@@ -2,10 +2,11 @@ use Rattle.std.proofs.Common.{◌≡◌, true, false, refl, ap, sym, ◌∙◌, 
 use Rattle.stack_view.specs.Runs.{most_steps}
 use Rattle.stack_core.specs.Stacks.{plan_in}
 use Rattle.stack_core.proofs.Goes.{goes-nowhere}
-use Rattle.script_stack.proofs.Going.{goes_then, rig_nowhere, rig_then, stays_then, went_nowhere, went_on}
+use Rattle.script_stack.proofs.Going.{goes_then, stays_then, went_nowhere, went_on}
 use Rattle.script_stack.proofs.SendsBy.{entry_behind, sends_nowhere, sends_once, sends_then}
 use Rattle.script_stack.proofs.Steps.{has-step, one-more}
 use Rattle.script_stack.proofs.run.run_rest.Goals as goal
+use Rattle.rig_api.proofs.State.{stays-still, stays-on}
 
 pub loop-stack-smaller : goal.loop-stack-smaller
 loop-stack-smaller g c =
@@ -21,7 +22,7 @@ pub loop-stack-init : goal.loop-stack-init
 loop-stack-init g c = record {
   stands = c.requires;
   stays = record { sheet = refl; adapter = refl; host = refl };
-  rig = rig_nowhere _;
+  rig = stays-still _;
   went = went_nowhere _ _;
   goes = goes-nowhere _;
   sends = λ es h. sends_nowhere es _ _;
@@ -32,7 +33,7 @@ pub loop-stack-preserved : goal.loop-stack-preserved
 loop-stack-preserved g c = record {
   stands = c.step.ensures.stands;
   stays = stays_then _ _ _ c.loop-stack.invariant.stays c.step.ensures.stays;
-  rig = rig_then _ _ _ c.loop-stack.invariant.rig c.step.ensures.rig;
+  rig = stays-on _ _ _ c.loop-stack.invariant.rig c.step.ensures.rig;
   went = went_on _ _ _ _ _ _ c.loop-stack.invariant.went c.step.ensures.went;
   goes = goes_then _ _ _ c.loop-stack.invariant.goes c.step.ensures.goes;
   sends = λ es h.

@@ -1,8 +1,10 @@
 use Rattle.std.proofs.Common.{◌++◌}
 use Rattle.vector_lines.specs.Printed.{head_text, tail_text, word_text}
 use Rattle.std.proofs.lemmas.Result.{on_ok_weaker, on_err_weaker}
-use Rattle.report_text.proofs.Flow.{appended_both, on_err, part_first, part_second}
+use Rattle.report_text.proofs.Flow.{part_first, part_second}
 use Rattle.vector_lines.proofs.text.write_vector.Goals as goal
+use Rattle.small_laws.proofs.Results.{on_err}
+use Rattle.dix_base.proofs.Appending.{appended_both}
 
 pub returns-in_err-write_head-clause-part : goal.returns-in_err-write_head-clause-part
 returns-in_err-write_head-clause-part g c =

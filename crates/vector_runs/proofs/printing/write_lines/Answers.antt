@@ -1,9 +1,10 @@
 use Rattle.std.proofs.Common.{◌<◌, ◌+◌, length, drop, subst, arith}
-use Rattle.report_text.proofs.Flow.{Left, at_end, breaks_off, goes_on, on_err}
+use Rattle.report_text.proofs.Flow.{Left, at_end, breaks_off, goes_on}
 use Rattle.rig_api.specs.Log.{entry_at}
 use Rattle.vector_runs.specs.ListText.{line_text, lines_text}
 use Rattle.vector_runs.proofs.Lines.{next_line, no_lines}
 use Rattle.vector_runs.proofs.printing.write_lines.Goals as goal
+use Rattle.small_laws.proofs.Results.{on_err}
 
 pub returns-in_err-write_line-clause-part : goal.returns-in_err-write_line-clause-part
 returns-in_err-write_line-clause-part g c =

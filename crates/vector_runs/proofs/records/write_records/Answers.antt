@@ -1,9 +1,10 @@
 use Rattle.std.proofs.Common.{◌<◌, ◌+◌, length, drop, subst, arith}
-use Rattle.report_text.proofs.Flow.{Left, at_end, breaks_off, goes_on, on_err}
+use Rattle.report_text.proofs.Flow.{Left, at_end, breaks_off, goes_on}
 use Rattle.rig_api.specs.Log.{entry_at}
 use Rattle.vector_runs.specs.RecordText.{record_text, records_text}
 use Rattle.vector_runs.proofs.RecordLines.{next_text, no_text}
 use Rattle.vector_runs.proofs.records.write_records.Goals as goal
+use Rattle.small_laws.proofs.Results.{on_err}
 
 pub returns-in_err-write_record-clause-part : goal.returns-in_err-write_record-clause-part
 returns-in_err-write_record-clause-part g c =

@@ -1,15 +1,15 @@
 use Rattle.std.proofs.Common.{◌≡◌, sym, ◌∙◌, arith, rules}
 use Rattle.target_answer.specs.Requests.{blocks_of}
 use Rattle.rig_api.specs.Telling.{greatest_size, spec_at}
+use Rattle.rig_api.proofs.RoomLaws.{room_for}
 use Rattle.rig_log.specs.Logs.{room_in}
 use Rattle.test_answers.specs.Answering.{device_count, device_is, greatest_is, standing_of}
-use Rattle.bench_calls.proofs.Rooms.{room-for}
 use Rattle.bench_calls.proofs.rig.PlainRigRig.exchange.Goals as goal
 
 pub note-requires-clause-room : goal.note-requires-clause-room
 note-requires-clause-room c =
     let g = greatest_is c.args.self.now.devices (device_count c.args.self.now.devices c.args.dev c.args.self.now.open c.requires.device) in
-    room-for c.size_of.result (greatest_size (standing_of c.args.self.now.devices)) 1 (blocks_of c.args.cdb.now) (room_in c.args.self.now.log) (omega (arith, g, c.size_of.ensures.bound)) c.requires.room
+    room_for c.size_of.result (greatest_size (standing_of c.args.self.now.devices)) 1 (blocks_of c.args.cdb.now) (room_in c.args.self.now.log) (omega (arith, g, c.size_of.ensures.bound)) c.requires.room
 
 pub returns : goal.returns
 returns c =

@@ -3,8 +3,9 @@ use Rattle.target_answer.specs.Target.{target_answer}
 use Rattle.target_model.specs.Served.{unit_in}
 use Rattle.image_layout.specs.Heads.{head_in}
 use Rattle.image_rig.specs.Places.{logical_of}
-use Rattle.image_rig.proofs.Devices.{calm, head_after, is_open, is_sized, is_unit, room_for, some_blocks, told_by}
+use Rattle.image_rig.proofs.Devices.{calm, head_after, is_open, is_sized, is_unit, some_blocks, told_by}
 use Rattle.image_rig.proofs.calls.ImageRigRig.exchange.Goals as goal
+use Rattle.rig_api.proofs.RoomLaws.{room_for}
 
 pub logical-unit-requires-clause-layout : goal.logical-unit-requires-clause-layout
 logical-unit-requires-clause-layout g c = let o = is_open c.args.self.now.units.items (head_in c.args.self.now.head) (g.S.Store.len c.args.self.now.store) c.args.dev c.requires.device c.args.self.now.right c.args.self.now.devices c.args.self.now.held in rw c.deref.ensures.0 o.layout

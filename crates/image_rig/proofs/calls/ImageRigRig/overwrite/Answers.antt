@@ -5,9 +5,10 @@ use Rattle.image_rig.specs.Changes.{IsChanged}
 use Rattle.image_layout.specs.Heads.{head_in}
 use Rattle.image_layout.specs.Places.{block_len, block_place}
 use Rattle.image_rig.specs.Places.{can_change_in}
-use Rattle.image_rig.proofs.Changing.{block_behind, can_of, can_where_told, changed_units, left_units, long_as, on_err, on_ok}
+use Rattle.image_rig.proofs.Changing.{block_behind, can_of, can_where_told, changed_units, left_units, long_as, on_ok}
 use Rattle.image_rig.proofs.Devices.{head_kept, is_open}
 use Rattle.image_rig.proofs.calls.ImageRigRig.overwrite.Goals as goal
+use Rattle.small_laws.proofs.Results.{on_err}
 
 pub change_block-requires-clause-layout : goal.change_block-requires-clause-layout
 change_block-requires-clause-layout g c = let o = is_open c.args.self.now.units.items (head_in c.args.self.now.head) (g.S.Store.len c.args.self.now.store) c.args.dev c.requires.device c.args.self.now.right c.args.self.now.devices c.args.self.now.held in rw c.deref.ensures.0 o.layout

@@ -1,7 +1,7 @@
 use Rattle.std.proofs.Common.{arith, rules}
-use Rattle.image_rig.proofs.Devices.{room_for}
 use Rattle.test_rig.proofs.Sizes.{sizes}
 use Rattle.test_rig.proofs.calls.ScriptedRigRig.exchange.Goals as goal
+use Rattle.rig_api.proofs.RoomLaws.{room_for}
 
 pub note-requires-clause-size : goal.note-requires-clause-size
 note-requires-clause-size g c =
