@@ -1,5 +1,5 @@
 -- The lines of the blocks that differ are taken apart block by block, and each tells what differs.
-use Rattle.std.proofs.Common.{ℕ, ◌⊎◌, inl, inr, ◌≡◌, ◌+◌, ◌-◌, ◌<◌, Bool, true, false, not, if◌then◌else◌, ◌||◌, eqb, List, [], ◌∷◌, ◌++◌, take, drop, refl, sym, ap, ◌∙◌, arith}
+use Rattle.std.proofs.Common.{ℕ, ◌≡◌, ◌+◌, ◌-◌, ◌<◌, Bool, true, false, not, if◌then◌else◌, ◌||◌, List, [], ◌∷◌, ◌++◌, take, drop, refl, sym, ap, ◌∙◌, arith}
 use Rattle.std.proofs.lemmas.Bool.{or_parts}
 use Rattle.std.proofs.lemmas.Slice.Eq.{bytes_eq-Decides}
 use Rattle.std.specs.Str.{bytes_eq}
@@ -30,10 +30,6 @@ differ_at p lba other len other_len m k n differ next total is_other rest others
     omega (arith, step, sum, new)
 
 -- ---- nothing differs exactly where all are alike
-
-number_by : (a b : ℕ) → ((eqb a b ≡ true) × (a ≡ b)) ⊎ ((eqb a b ≡ false) × (a ≡ b → ⊥)) → not (eqb a b) ≡ false → a ≡ b
-number_by a b (inl t) e = t.1
-number_by a b (inr t) e = let k : true ≡ false = ap not (sym t.0) ∙ e in absurd (cc)
 
 bytes_by : (xs ys : List ℕ) (t : Bool) → bytes_eq xs ys ≡ t → not t ≡ false → xs ≡ ys
 bytes_by xs ys true k e = (bytes_eq-Decides xs ys).0 k

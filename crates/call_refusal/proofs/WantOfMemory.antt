@@ -6,10 +6,6 @@ use Rattle.script_text.specs.declared.fault.ScriptFault.{ScriptFault}
 use Rattle.call_refusal.specs.Refusals.{of_kind}
 use Rattle.call_refusal.specs.declared.refusal.Refusal.TheVariants as refusal
 
-pub of_other : (k : ScriptKind) (f : ScriptFault) → (k ≡ kind.Memory → ⊥) → of_kind k f ≡ refusal.Script f
-of_other kind.Memory f other = absurd (other refl)
-of_other _ f other = refl
-
 pub of_either : (k : ScriptKind) (f : ScriptFault) → (of_kind k f ≡ refusal.Memory) ⊎ (of_kind k f ≡ refusal.Script f)
 of_either kind.Memory f = inl refl
 of_either _ f = inr refl

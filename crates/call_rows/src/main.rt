@@ -5,6 +5,7 @@
 
 mod bytes;
 mod calls;
+mod commands;
 mod files;
 mod lines;
 mod outside;

@@ -1,7 +1,7 @@
 //! What a call runs over: images, and answers of devices in their place.
 
 use crate::lines::numbers;
-use command_line::unit_of;
+use unit_words::unit_of;
 use dix_base::MemStore;
 use image_rig::ImageRig;
 use rig_api::Outcome;

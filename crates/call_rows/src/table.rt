@@ -2,6 +2,7 @@
 
 use crate::bytes::add_on_bytes;
 use crate::calls::came_over;
+use crate::commands::{command_row, image_row};
 use crate::files::{add_in_file, path_of};
 use crate::lines::{add_line, has, is_mark};
 use crate::outside::{answers_in, image_in, image_of, rig_over};
@@ -147,8 +148,15 @@ impl Judge for Table {
         Ok(is_mark(word))
     }
 
-    /// So, where a row's call comes to what its lines say; else what came otherwise.
-    fn answer(&mut self, alloc: Global, _call: &str) -> Result<String, AllocError> {
+    /// Of words their command or image. Of a row so, where its call comes to what its lines say; else what came
+    /// otherwise.
+    fn answer(&mut self, alloc: Global, call: &str) -> Result<String, AllocError> {
+        let (word, words) = cut(call);
+        match word {
+            "command" => return command_row(alloc, words),
+            "image" => return image_row(alloc, words),
+            _ => {}
+        }
         let lines = std::mem::replace(&mut self.lines, Vec::new(alloc));
         let mut others = Vec::new(alloc);
         if !self.is_in_file {

@@ -1,10 +1,12 @@
-use Rattle.std.proofs.Common.{ℕ, ◌≡◌, ◌<◌, suc, false, leb, List, [], ◌∷◌, ◌++◌, length, Option, Some, None, refl, ap, ◌∙◌, arith}
+-- Words that are too many or too few for a command.
+use Rattle.std.proofs.Common.{ℕ, ◌≡◌, ◌<◌, false, leb, List, [], ◌∷◌, length, Option, Some, None, refl, ◌∙◌, arith}
 use Rattle.std.specs.Prelude.{String}
 use Rattle.std.specs.List.{list_all}
 use Rattle.target_answer.specs.Headers.{is_layout, is_spec}
 use Rattle.target_answer.specs.declared.units.UnitSpec.{UnitSpec}
-use Rattle.command_line.specs.Grammar.{big_of, format_with, image_in, is_one_name, modes_of, units_in, with_unit, word_bytes}
-use Rattle.command_line.specs.Units.{unit_in}
+use Rattle.unit_words.specs.Words.{units_in, word_bytes}
+use Rattle.unit_words.proofs.WordLemmas.{as_many, bytes_length}
+use Rattle.command_line.specs.Grammar.{big_of, format_with, is_one_name, modes_of}
 use Rattle.small_laws.proofs.Tests.{second_no}
 
 -- other than one word, and other than two
@@ -18,25 +20,6 @@ not_two [] h = refl
 not_two (a ∷ []) h = refl
 not_two (a ∷ b ∷ []) h = absurd (h refl)
 not_two (a ∷ b ∷ c ∷ ws) h = refl
-
--- the units so far, with those that follow
-abbrev pub joined : List UnitSpec → Option (List UnitSpec) → Option (List UnitSpec)
-joined us None = None
-joined us (Some more) = Some (us ++ more)
-
-pub bytes_length : {Z : Type 0} (ws : List (String Z)) → length (word_bytes ws) ≡ length ws
-bytes_length [] = refl
-bytes_length (w ∷ ws) = ap suc (bytes_length ws)
-
-pub one_unit : (u : Option UnitSpec) (rest : Option (List UnitSpec)) (us : List UnitSpec) (n : ℕ) → with_unit u rest ≡ Some us → ((more : List UnitSpec) → rest ≡ Some more → length more ≡ n) → length us ≡ suc n
-one_unit None rest us n e f = absurd (cc)
-one_unit (Some u) None us n e f = absurd (cc)
-one_unit (Some u) (Some more) us n e f = let k : us ≡ u ∷ more = cc in ap length k ∙ ap suc (f more refl)
-
--- as many units as words
-pub as_many : (ws : List (List ℕ)) (us : List UnitSpec) → units_in ws ≡ Some us → length us ≡ length ws
-as_many [] us e = let k : us ≡ [] = cc in ap length k
-as_many (w ∷ ws) us e = one_unit (unit_in w) (units_in ws) us (length ws) e (λ more p. as_many ws more p)
 
 none_fits : (x : Option (List UnitSpec)) (n : ℕ) → 8 < n → ((us : List UnitSpec) → x ≡ Some us → length us ≡ n) → format_with x ≡ None
 none_fits None n h f = refl
@@ -54,8 +37,3 @@ pub not_one_name : {Z : Type 0} (ws : List (String Z)) → (length ws ≡ 1 → 
 not_one_name [] h = refl
 not_one_name (a ∷ []) h = absurd (h refl)
 not_one_name (a ∷ b ∷ ws) h = refl
-
-pub no_second : {Z : Type 0} (ws : List (String Z)) → length ws < 2 → [] ≡ image_in (word_bytes ws)
-no_second [] h = refl
-no_second (a ∷ []) h = refl
-no_second (a ∷ b ∷ ws) h = absurd (omega arith)

@@ -1,24 +1,15 @@
-use Rattle.std.specs.Prelude.{ℕ, ◌^◌, Bool, false, not, eqb, leb, ltb, ◌&&◌, if◌then◌else◌, List, [], ◌∷◌, codes, String, string_bytes, Option, Some, None}
+use Rattle.std.specs.Prelude.{ℕ, ◌^◌, Bool, false, leb, ltb, ◌&&◌, if◌then◌else◌, List, [], ◌∷◌, codes, Option, Some, None}
 use Rattle.std.specs.Str.{bytes_eq}
 use Rattle.pi_tuple.specs.declared.checks.PiType.{PiType}
 use Rattle.target_answer.specs.Headers.{is_layout}
 use Rattle.target_answer.specs.declared.units.UnitSpec.{UnitSpec}
 use Rattle.script_words.specs.Decimals.{number_in}
-use Rattle.command_line.specs.Units.{type_in, unit_in}
+use Rattle.unit_words.specs.Units.{type_in}
+use Rattle.unit_words.specs.Words.{is_name, units_in}
 use Rattle.command_line.specs.declared.command.Command.{Command}
 use Rattle.command_line.specs.declared.command.Command.TheVariants.{Run, Trace, Format, Migrate, Mirror, Scrub, Nvme, Modes, Big}
 
 -- The grammar of the program's words.
-
--- the bytes of the words
-abbrev pub word_bytes : {Z : Type 0} → List (String Z) → List (List ℕ)
-word_bytes [] = []
-word_bytes (w ∷ ws) = string_bytes w ∷ word_bytes ws
-
--- A name is not empty and doesn't begin with a hyphen.
-abbrev pub is_name : List ℕ → Bool
-is_name [] = false
-is_name (b ∷ bytes) = not (eqb b 45)
 
 abbrev pub is_one_name : List (List ℕ) → Bool
 is_one_name [] = false
@@ -28,16 +19,6 @@ is_one_name (image ∷ more ∷ words) = false
 -- IMAGE
 abbrev pub on_image : Command → List (List ℕ) → Option Command
 on_image c words = if is_one_name words then Some c else None
-
-abbrev pub with_unit : Option UnitSpec → Option (List UnitSpec) → Option (List UnitSpec)
-with_unit None us = None
-with_unit (Some u) None = None
-with_unit (Some u) (Some us) = Some (u ∷ us)
-
--- the units of words, each of which is one
-abbrev pub units_in : List (List ℕ) → Option (List UnitSpec)
-units_in [] = Some []
-units_in (w ∷ ws) = with_unit (unit_in w) (units_in ws)
 
 abbrev pub format_with : Option (List UnitSpec) → Option Command
 format_with None = None
@@ -88,9 +69,3 @@ command_by verb words =
 abbrev pub command_in : List (List ℕ) → Option Command
 command_in [] = None
 command_in (verb ∷ words) = command_by verb words
-
--- the second word, which names the image of a command that works on one
-abbrev pub image_in : List (List ℕ) → List ℕ
-image_in [] = []
-image_in (verb ∷ []) = []
-image_in (verb ∷ image ∷ words) = image

@@ -1,15 +1,14 @@
 //! The commands of the program.
 
-ghost use Rattle.std.specs.Prelude.{◌≡◌, ◌≤◌, length, option_map, string_bytes};
+ghost use Rattle.std.specs.Prelude.{◌≡◌, string_bytes};
 ghost use Rattle.std.specs.Str.{bytes_eq};
-ghost use Rattle.command_line.specs.Grammar.{big_of, big_with, command_by, command_in, format_of, format_with, image_in, is_name, is_one_name, modes_of, on_image, units_in, word_bytes};
+ghost use Rattle.unit_words.specs.Words.{units_in, word_bytes};
+ghost use Rattle.command_line.specs.Grammar.{big_of, big_with, command_by, command_in, format_of, format_with, is_one_name, modes_of, on_image};
 
-use crate::unit::{type_of, unit_of};
-use crate::unit_list::UnitList;
-use arrayvec::ArrayVec;
 use pi_tuple::PiType;
 use script_words::number;
-use target_answer::{UnitSpec, is_layout};
+use target_answer::is_layout;
+use unit_words::{UnitList, is_name, type_of, units_of};
 
 /// A command of the program. Those that work on an image name it by their second word.
 #[derive(Drop)]
@@ -40,16 +39,6 @@ fn is_word(word: &String, text: &[u8]) -> bool
     word.as_bytes() == text
 }
 
-/// Whether the word names an image: it isn't empty and doesn't begin with a hyphen.
-fn is_name(word: &String) -> bool
-    ensures { result ≡ is_name (string_bytes word.now) }
-{
-    match word.as_bytes() {
-        [] => false,
-        [first, ..] => *first != b'-',
-    }
-}
-
 fn is_one_name(words: &[String]) -> bool
     ensures { result ≡ is_one_name (word_bytes words.now) }
 {
@@ -68,22 +57,6 @@ fn on_image(command: Command, words: &[String]) -> Option<Command>
     } else {
         None
     }
-}
-
-/// The units that at most eight words order.
-fn units_of(words: &[String]) -> Option<ArrayVec<UnitSpec, 8>>
-    requires { length words.now ≤ 8 }
-    ensures { option_map (λ v. v.items) result ≡ units_in (word_bytes words.now) }
-{
-    let mut units = ArrayVec::new();
-    for word in words {
-        let unit = unit_of(word.as_bytes())?;
-        match units.try_push(unit) {
-            Ok(()) => {}
-            Err(_) => unreachable!(),
-        }
-    }
-    Some(units)
 }
 
 /// `T:BLOCKS ..` behind the image of `format`.
@@ -187,14 +160,4 @@ fn command_by(verb: &String, words: &[String]) -> Option<Command>
         return big_of(words);
     }
     None
-}
-
-/// The image that the words of a command name: the second of them, or nothing where they are fewer.
-pub fn image_of(words: &[String]) -> &str
-    ensures { result.now ≡ image_in (word_bytes words.now) }
-{
-    if words.len() < 2 {
-        return "";
-    }
-    words[1].as_str()
 }

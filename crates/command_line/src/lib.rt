@@ -2,9 +2,5 @@
 #![tactic(auto)]
 
 mod command;
-mod unit;
-mod unit_list;
 
-pub use command::{Command, command_of, image_of};
-pub use unit::unit_of;
-pub use unit_list::UnitList;
+pub use command::{Command, command_of};

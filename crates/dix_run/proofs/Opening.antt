@@ -5,7 +5,7 @@ use Rattle.image_commands.specs.Views.{OpenedOnce}
 use Rattle.nvme_command.proofs.Completes.{done_opens, not_done_opens}
 use Rattle.rig_api.specs.Telling.{Standing, Stayed}
 use Rattle.rig_api.specs.State.{RigState}
-use Rattle.command_line.specs.Grammar.{image_in}
+use Rattle.unit_words.specs.Words.{image_in}
 use Rattle.command_line.specs.declared.command.Command.{Command}
 use Rattle.command_line.specs.declared.command.Command.TheVariants.{Run, Trace, Format, Migrate, Mirror, Scrub, Nvme, Modes, Big}
 use Rattle.script_text.specs.declared.script.Script.{Script}

@@ -30,7 +30,8 @@ use Rattle.mirror_command.specs.declared.mirrored.Mirrored.{Mirrored}
 use Rattle.big_run.specs.Ran.{RanBig}
 use Rattle.big_run.specs.Text.{big_text}
 use Rattle.big_run.specs.declared.running.BigRun.{BigRun}
-use Rattle.command_line.specs.Grammar.{command_in, image_in}
+use Rattle.unit_words.specs.Words.{image_in}
+use Rattle.command_line.specs.Grammar.{command_in}
 use Rattle.command_line.specs.declared.command.Command.{Command}
 use Rattle.command_line.specs.declared.command.Command.TheVariants.{Run, Trace, Format, Migrate, Mirror, Scrub, Nvme, Modes, Big}
 use Rattle.dix_run.specs.ScrubText.{has_some, scrub_text}

@@ -1,7 +1,7 @@
 use Rattle.std.specs.Prelude.{ℕ, ◌≡◌, ◌⊎◌, Bool, if◌then◌else◌, List, codes, Option}
 use Rattle.dix_base.specs.Told.{Appended, AppendedSome, Calm, Rose}
 use Rattle.nvme_command.specs.Causes.{CauseNotDone}
-use Rattle.command_line.specs.Grammar.{image_in}
+use Rattle.unit_words.specs.Words.{image_in}
 use Rattle.call_refusal.specs.Texts.{refusal_text as stop_text}
 use Rattle.run_command.specs.Verdict.{CauseRefused, Facts as Call}
 use Rattle.call_refusal.specs.declared.refusal.Refusal.{Refusal as Stop}

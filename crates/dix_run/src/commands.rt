@@ -2,7 +2,7 @@
 
 ghost use Rattle.std.specs.Prelude.{◌≡◌, ◌≤◌, ◌++◌, ℕ, List, Option, codes, decimal, length, true};
 ghost use Rattle.target_answer.specs.Headers.{is_layout};
-ghost use Rattle.command_line.specs.Grammar.{word_bytes};
+ghost use Rattle.unit_words.specs.Words.{word_bytes};
 ghost use Rattle.dix_run.specs.Commands.{format_work, migrate_work, scrub_work};
 ghost use Rattle.dix_run.specs.Verdict.{EndedAs};
 
@@ -10,7 +10,7 @@ use crate::program::{finish, refuse, status_for};
 use crate::refusal::Refusal;
 use crate::scrub_text::{has_some, scrub_text};
 use crate::status::Status;
-use command_line::{UnitList, image_of};
+use unit_words::{UnitList, image_of};
 use dix_base::Sink;
 use image_commands::{format_image, migrate_image, scrub_image};
 use report_text::{Line, add, add_number};

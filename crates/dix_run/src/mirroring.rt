@@ -1,6 +1,6 @@
 //! Running a script on a mirror.
 
-ghost use Rattle.command_line.specs.Grammar.{word_bytes};
+ghost use Rattle.unit_words.specs.Words.{word_bytes};
 ghost use Rattle.mirror_command.specs.Texts.{is_any_lost, mirror_text};
 ghost use Rattle.dix_run.specs.Commands.{mirror_work};
 ghost use Rattle.dix_run.specs.Verdict.{EndedAs, Facts, Written, done_status};
@@ -8,7 +8,7 @@ ghost use Rattle.dix_run.specs.Verdict.{EndedAs, Facts, Written, done_status};
 use crate::program::{refuse, status_for};
 use crate::refusal::Refusal;
 use crate::status::Status;
-use command_line::image_of;
+use unit_words::image_of;
 use dix_base::{Failed, Sink, Source};
 use mirror_command::{Mirrored, mirror_source, print_mirrored};
 use rig_api::Rig;

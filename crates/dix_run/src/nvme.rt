@@ -1,13 +1,13 @@
 //! NVM commands on an image.
 
-ghost use Rattle.command_line.specs.Grammar.{word_bytes};
+ghost use Rattle.unit_words.specs.Words.{word_bytes};
 ghost use Rattle.dix_run.specs.Commands.{nvme_work};
 ghost use Rattle.dix_run.specs.Verdict.{EndedAs, Facts};
 
 use crate::program::{finish, refuse, status_for};
 use crate::refusal::Refusal;
 use crate::status::Status;
-use command_line::image_of;
+use unit_words::image_of;
 use dix_base::{Sink, Source};
 use nvme_command::do_commands;
 use rig_api::Rig;

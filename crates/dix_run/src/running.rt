@@ -1,7 +1,7 @@
 //! Running a script on an image.
 
 ghost use Rattle.std.specs.Prelude.{◌≤◌, ◌++◌, drop, length};
-ghost use Rattle.command_line.specs.Grammar.{word_bytes};
+ghost use Rattle.unit_words.specs.Words.{word_bytes};
 ghost use Rattle.report_text.specs.Report.{report};
 ghost use Rattle.report_text.specs.Trace.{trace};
 ghost use Rattle.run_command.specs.Texts.{has_bad};
@@ -11,7 +11,7 @@ ghost use Rattle.dix_run.specs.Verdict.{EndedAs, Facts, Written, done_status};
 use crate::program::{refuse, status_for};
 use crate::refusal::Refusal;
 use crate::status::Status;
-use command_line::image_of;
+use unit_words::image_of;
 use dix_base::{Failed, Sink, Source};
 use rig_api::Rig;
 use run_command::{Finished, print_run, print_traced_run, run_source};

@@ -5,7 +5,8 @@ use Rattle.dix_base.specs.Told.{Calm, Rose}
 use Rattle.dix_base.proofs.Counts.{never_rose}
 use Rattle.rig_api.specs.Head.{head_fault, head_of}
 use Rattle.rig_api.specs.Telling.{IsStanding, units_told}
-use Rattle.command_line.specs.Grammar.{command_in, image_in}
+use Rattle.unit_words.specs.Words.{image_in}
+use Rattle.command_line.specs.Grammar.{command_in}
 use Rattle.command_line.specs.declared.command.Command.{Command}
 use Rattle.command_line.specs.declared.command.Command.TheVariants as command
 use Rattle.report_text.specs.Report.{report}

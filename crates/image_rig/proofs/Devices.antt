@@ -232,9 +232,6 @@ is_sized us h u len dev o d l =
       own = ap (λ v. (get_or v dev no_spec).size) o.named ∙ sym e;
     }
 
-pub more_room : (a b n : ℕ) → a ≤ b → (a + 8) * n ≤ (b + 8) * n
-more_room a b n h = grind arith
-
 -- ---- room for records
 
 greatest_spec : (us : List UnitSpec) → list_all is_spec us ≡ true → greatest us ≤ 4096

@@ -1,6 +1,6 @@
 //! The images that calls are made over.
 
-use command_line::unit_of;
+use unit_words::unit_of;
 use std::alloc::{AllocError, Global};
 use test_rig::formatted;
 use test_table::{bytes_of, cut, number};

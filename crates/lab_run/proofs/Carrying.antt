@@ -7,7 +7,7 @@ use Rattle.image_blocks.specs.declared.stretch.Stretch.{Stretch}
 use Rattle.image_blocks.specs.Places.{spec_of}
 use Rattle.image_dumps.specs.Dumps.{fits}
 use Rattle.image_dumps.specs.declared.fault.ImportFault.TheVariants as halt
-use Rattle.command_line.specs.Grammar.{image_in}
+use Rattle.unit_words.specs.Words.{image_in}
 use Rattle.image_diff.specs.Compared.{Places, differ_of}
 use Rattle.image_show.specs.Shown.{bad_of}
 use Rattle.lab_words.specs.declared.command.Command.{Command}

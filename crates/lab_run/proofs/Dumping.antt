@@ -3,7 +3,7 @@ use Rattle.std.proofs.Common.{ℕ, ◌≡◌, ◌+◌, ◌*◌, ◌<◌, ◌≤�
 use Rattle.std.proofs.lemmas.List.{take-take}
 use Rattle.std.proofs.Math.Nat.{mul-le-mul_left, mul_comm}
 use Rattle.dix_base.specs.Told.{Becomes, IsAtEnd}
-use Rattle.command_line.specs.Grammar.{image_in}
+use Rattle.unit_words.specs.Words.{image_in}
 use Rattle.image_walk.specs.Stores.{WasRead, WasWritten}
 use Rattle.image_blocks.specs.Blocks.{HasBlocks, blocks_at}
 use Rattle.image_blocks.specs.Images.{units_open}

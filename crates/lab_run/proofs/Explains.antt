@@ -2,7 +2,7 @@
 use Rattle.std.proofs.Common.{ℕ, ◌≡◌, ◌≤◌, ◌⊎◌, inl, inr, Bool, true, false, List, drop, Option, Some, None, Ok, refl, sym, ap, subst, ◌∙◌, arith}
 use Rattle.dix_base.specs.Told.{Calm, Rose}
 use Rattle.dix_base.proofs.Counts.{never_rose}
-use Rattle.command_line.specs.Grammar.{image_in}
+use Rattle.unit_words.specs.Words.{image_in}
 use Rattle.image_commands.specs.Causes.{CauseUntold, HasOpened}
 use Rattle.image_commands.specs.Views.{OpenedOnce}
 use Rattle.lab_words.specs.declared.command.Command.{Command}

@@ -2,7 +2,7 @@
 use Rattle.std.proofs.Common.{◌≡◌, ℕ, ◌≤◌, Bool, true, false, eqb, List, [], ◌∷◌, Option, Some, None, refl, subst, arith}
 use Rattle.std.specs.Prelude.{codes, if◌then◌else◌}
 use Rattle.std.specs.Str.{bytes_eq}
-use Rattle.command_line.specs.Grammar.{units_in}
+use Rattle.unit_words.specs.Words.{units_in}
 use Rattle.lab_words.specs.Grammar.{PlaceAhead, alone, alone_behind, behind_image, command_by, command_in, diff_ahead, diff_of, diff_with, explain_of, export_of, exported, flip_in, image_and_place, import_of, imported, laid_in, laid_out, show_of, shown, shown_at, shown_behind, sweep_of, sweep_with, unless_zero, vectors_of}
 use Rattle.lab_words.specs.Places.{place_in}
 use Rattle.lab_words.specs.declared.command.Command.{Command}

@@ -1,6 +1,6 @@
 use Rattle.std.specs.Prelude.{ℕ, ◌≡◌, ◌≤◌, ◌⊎◌, Bool, false, true, ltb, if◌then◌else◌, List, length, take, Option, Some, None, Result, Ok, Err}
 use Rattle.dix_base.specs.Told.{Appended, AppendedSome, Becomes, Rose}
-use Rattle.command_line.specs.Grammar.{image_in}
+use Rattle.unit_words.specs.Words.{image_in}
 use Rattle.block_lines.specs.UnitText.{units_text}
 use Rattle.image_blocks.specs.Blocks.{HasBlocks, with_stretch}
 use Rattle.image_blocks.specs.Places.{spec_of}

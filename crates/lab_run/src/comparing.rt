@@ -1,7 +1,7 @@
 //! Comparing places of two images.
 
 ghost use Rattle.std.specs.Prelude.{◌≡◌, ℕ, List, Option, Some, eqb};
-ghost use Rattle.command_line.specs.Grammar.{word_bytes};
+ghost use Rattle.unit_words.specs.Words.{word_bytes};
 ghost use Rattle.image_blocks.specs.Images.{units_open};
 ghost use Rattle.image_blocks.specs.Places.{IsStretch, spec_of};
 ghost use Rattle.lab_words.specs.declared.command.Command.{Command};
@@ -14,7 +14,7 @@ use crate::program::{refuse, status_for};
 use crate::refusal::Refusal;
 use crate::showing::stretch_of;
 use crate::status::Status;
-use command_line::image_of;
+use unit_words::image_of;
 use dix_base::{Sink, Store};
 use image_blocks::{Image, Stretch, open_image};
 use image_diff::{DiffFault, diff_blocks};

@@ -1,7 +1,7 @@
 //! Explaining the run of a script.
 
 ghost use Rattle.std.specs.Prelude.{◌≡◌, ◌≤◌, Some, drop, length};
-ghost use Rattle.command_line.specs.Grammar.{word_bytes};
+ghost use Rattle.unit_words.specs.Words.{word_bytes};
 ghost use Rattle.lab_words.specs.declared.command.Command.{Command};
 ghost use Rattle.run_words.specs.Sites.{Guides};
 ghost use Rattle.run_words.specs.Texts.{explained_by};
@@ -13,7 +13,7 @@ ghost use Rattle.lab_run.specs.Verdict.{Ended, Written, done_status};
 use crate::program::{finish, status_for};
 use crate::status::Status;
 use crate::stopping::stop;
-use command_line::image_of;
+use unit_words::image_of;
 use dix_base::{Failed, Sink, Source};
 use rig_api::Rig;
 use run_words::{Explained, Unexplained, explain_source, print_explained};

@@ -1,7 +1,7 @@
 //! Importing blocks into an image.
 
 ghost use Rattle.std.specs.Prelude.{◌≡◌, Some};
-ghost use Rattle.command_line.specs.Grammar.{word_bytes};
+ghost use Rattle.unit_words.specs.Words.{word_bytes};
 ghost use Rattle.lab_words.specs.declared.command.Command.{Command};
 ghost use Rattle.lab_words.specs.Grammar.{command_in};
 ghost use Rattle.lab_run.specs.Calls.{Held, held, on_input};
@@ -13,7 +13,7 @@ use crate::program::{finish, refuse};
 use crate::refusal::Refusal;
 use crate::showing::stretch_of;
 use crate::status::Status;
-use command_line::image_of;
+use unit_words::image_of;
 use dix_base::{Sink, Source, Store};
 use image_blocks::open_image;
 use image_dumps::import_blocks;

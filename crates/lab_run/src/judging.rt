@@ -2,7 +2,7 @@
 
 ghost use Rattle.std.specs.Prelude.{◌≡◌, ℕ, Err, IfOk, List, Ok, Some};
 ghost use Rattle.script_lines.specs.declared.kind.ScriptKind.{ScriptKind};
-ghost use Rattle.command_line.specs.Grammar.{word_bytes};
+ghost use Rattle.unit_words.specs.Words.{word_bytes};
 ghost use Rattle.lab_words.specs.declared.command.Command.{Command};
 ghost use Rattle.script_text.specs.Language.{script_in};
 ghost use Rattle.lab_words.specs.Grammar.{command_in};

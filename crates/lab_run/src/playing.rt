@@ -1,7 +1,7 @@
 //! The vectors of a text.
 
 ghost use Rattle.std.specs.Prelude.{◌≡◌, Some, drop};
-ghost use Rattle.command_line.specs.Grammar.{word_bytes};
+ghost use Rattle.unit_words.specs.Words.{word_bytes};
 ghost use Rattle.lab_words.specs.declared.command.Command.{Command};
 ghost use Rattle.vector_runs.specs.ListText.{has_sense};
 ghost use Rattle.vector_runs.specs.Played.{AreLogged, first_of, played_text};
@@ -13,7 +13,7 @@ ghost use Rattle.lab_run.specs.Verdict.{Ended, Written};
 use crate::program::status_for;
 use crate::status::Status;
 use crate::stopping::stop;
-use command_line::image_of;
+use unit_words::image_of;
 use dix_base::{Failed, Sink, Source};
 use rig_api::Rig;
 use std::alloc::Global;

@@ -1,7 +1,7 @@
 //! The top call.
 
 ghost use Rattle.std.specs.Prelude.{◌≡◌};
-ghost use Rattle.command_line.specs.Grammar.{word_bytes};
+ghost use Rattle.unit_words.specs.Words.{word_bytes};
 ghost use Rattle.lab_run.specs.Calls.{Facts, held};
 ghost use Rattle.lab_run.specs.Headline.{Carries};
 ghost use Rattle.lab_run.specs.Texts.{refusal_text, status_of};

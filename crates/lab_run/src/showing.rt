@@ -2,7 +2,7 @@
 
 ghost use Rattle.std.specs.Prelude.{◌≡◌, ℕ, IfOk, List, Option, Some};
 ghost use Rattle.block_lines.specs.UnitText.{units_text};
-ghost use Rattle.command_line.specs.Grammar.{word_bytes};
+ghost use Rattle.unit_words.specs.Words.{word_bytes};
 ghost use Rattle.image_blocks.specs.Images.{units_open};
 ghost use Rattle.image_blocks.specs.Places.{IsStretch};
 ghost use Rattle.lab_words.specs.declared.command.Command.{Command};
@@ -14,7 +14,7 @@ ghost use Rattle.rig_api.specs.State.{RigState};
 use crate::program::{refuse, status_for};
 use crate::refusal::Refusal;
 use crate::status::Status;
-use command_line::image_of;
+use unit_words::image_of;
 use dix_base::{Failed, Sink, Store};
 use image_blocks::{Image, PlaceFault, Stretch, open_image, part_of, whole_of};
 use image_show::ShowFault;

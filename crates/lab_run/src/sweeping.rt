@@ -1,7 +1,7 @@
 //! Sweeping a script.
 
 ghost use Rattle.std.specs.Prelude.{◌≡◌, Some};
-ghost use Rattle.command_line.specs.Grammar.{word_bytes};
+ghost use Rattle.unit_words.specs.Words.{word_bytes};
 ghost use Rattle.rig_api.specs.State.{RigState};
 ghost use Rattle.lab_words.specs.declared.command.Command.{Command};
 ghost use Rattle.lab_words.specs.Grammar.{command_in};
@@ -12,7 +12,7 @@ ghost use Rattle.lab_run.specs.Verdict.{Ended};
 use crate::program::status_for;
 use crate::status::Status;
 use crate::stopping::stop;
-use command_line::UnitList;
+use unit_words::UnitList;
 use dix_base::{Sink, Source};
 use flip_sweep::{Halt, Unswept, sweep_script};
 use run_command::take_script;

@@ -1,25 +1,12 @@
-use Rattle.std.proofs.Common.{ℕ, ◌≡◌, ◌<◌, false, leb, List, [], ◌∷◌, ◌++◌, length, Option, Some, None, refl, sym, ap, ◌∙◌, arith, append_assoc}
+use Rattle.std.proofs.Common.{ℕ, ◌≡◌, ◌<◌, false, leb, List, length, Option, Some, None, refl, ◌∙◌, arith}
 use Rattle.std.specs.Prelude.{String}
 use Rattle.std.specs.List.{list_all}
 use Rattle.target_answer.specs.Headers.{is_layout, is_spec}
 use Rattle.target_answer.specs.declared.units.UnitSpec.{UnitSpec}
-use Rattle.command_line.specs.Grammar.{units_in, with_unit, word_bytes}
-use Rattle.command_line.proofs.WordLemmas.{bytes_length, as_many}
+use Rattle.unit_words.specs.Words.{units_in, word_bytes}
+use Rattle.unit_words.proofs.WordLemmas.{as_many, bytes_length}
 use Rattle.lab_words.specs.Grammar.{laid_out}
 use Rattle.small_laws.proofs.Tests.{second_no}
-
--- the units so far, with those that follow
-abbrev pub joined : List UnitSpec → Option (List UnitSpec) → Option (List UnitSpec)
-joined us None = None
-joined us (Some more) = Some (us ++ more)
-
-pub joined_none : (more : Option (List UnitSpec)) → joined [] more ≡ more
-joined_none None = refl
-joined_none (Some us) = refl
-
-pub joined_more : (us : List UnitSpec) (u : UnitSpec) (more : Option (List UnitSpec)) → joined us (with_unit (Some u) more) ≡ joined (us ++ (u ∷ [])) more
-joined_more us u None = refl
-joined_more us u (Some more) = ap Some (sym (append_assoc us (u ∷ []) more))
 
 none_fits : (x : Option (List UnitSpec)) (n : ℕ) → 8 < n → ((us : List UnitSpec) → x ≡ Some us → length us ≡ n) → laid_out x ≡ None
 none_fits None n h f = refl

@@ -2,7 +2,7 @@ use Rattle.std.specs.Prelude.{ℕ, eqb, if◌then◌else◌, List, [], ◌∷◌
 use Rattle.std.specs.Str.{bytes_eq}
 use Rattle.target_answer.specs.Headers.{is_layout}
 use Rattle.target_answer.specs.declared.units.UnitSpec.{UnitSpec}
-use Rattle.command_line.specs.Grammar.{is_name, units_in}
+use Rattle.unit_words.specs.Words.{is_name, units_in}
 use Rattle.script_words.specs.Hexes.{byte_in}
 use Rattle.lab_words.specs.Layouts.{layout_in}
 use Rattle.lab_words.specs.Places.{place_in}

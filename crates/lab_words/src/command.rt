@@ -2,14 +2,13 @@
 
 ghost use Rattle.std.specs.Prelude.{◌≡◌, IfNone, IfSome, None, Some, string_bytes};
 ghost use Rattle.std.specs.Str.{bytes_eq};
-ghost use Rattle.command_line.specs.Grammar.{word_bytes};
+ghost use Rattle.unit_words.specs.Words.{word_bytes};
 ghost use Rattle.lab_words.specs.Grammar.{alone, behind_image, command_by, command_in, diff_of, explain_of, export_of, flip_in, image_and_place, import_of, laid_in, layout_alone, show_of, shown, sweep_of, vectors_of};
-ghost use Rattle.command_line.specs.Grammar.{is_name};
 
 use crate::layout::{Layout, layout_of};
 use crate::place::{Place, place_of};
-use crate::unit_words::laid_out;
-use command_line::UnitList;
+use crate::ordered::laid_out;
+use unit_words::{UnitList, is_name};
 use script_words::byte;
 
 /// A command of the program. Those that work on an image name it by the word behind their own, and
@@ -44,16 +43,6 @@ fn is_word(word: &String, text: &[u8]) -> bool
     ensures { result ≡ bytes_eq (string_bytes word.now) text.now }
 {
     word.as_bytes() == text
-}
-
-/// Whether the word names an image: it isn't empty and doesn't begin with a hyphen.
-fn is_name(word: &String) -> bool
-    ensures { result ≡ is_name (string_bytes word.now) }
-{
-    match word.as_bytes() {
-        [] => false,
-        [first, ..] => *first != b'-',
-    }
 }
 
 /// The command, where no words stand behind it.

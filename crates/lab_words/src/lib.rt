@@ -3,8 +3,8 @@
 
 mod command;
 mod layout;
+mod ordered;
 mod place;
-mod unit_words;
 
 pub use command::{Command, command_of};
 pub use layout::{Layout, layout_of};

@@ -1,5 +1,5 @@
 -- A command that is done over a rig that tells its blocks is the unit's answer, translated.
-use Rattle.std.proofs.Common.{◌≡◌, ◌≤◌, ◌<◌, ℕ, zero, suc, ◌+◌, ◌-◌, ◌*◌, ◌%◌, ◌^◌, Bool, true, false, not, ◌&&◌, eqb, ltb, List, [], ◌∷◌, length, drop, map, refl, ap, sym, subst, ◌∙◌, arith, ⊎_elim, Option, Some, None}
+use Rattle.std.proofs.Common.{◌≡◌, ◌≤◌, ◌<◌, ℕ, zero, suc, ◌+◌, ◌-◌, ◌*◌, ◌%◌, ◌^◌, Bool, true, false, not, ◌&&◌, eqb, ltb, List, [], ◌∷◌, length, map, refl, ap, sym, subst, ◌∙◌, arith, ⊎_elim, Option, Some, None}
 use Rattle.std.specs.Prelude.{if◌then◌else◌, replicate, slice_index_or}
 use Rattle.std.proofs.lemmas.Bool.{cases_Bool, eqb-true}
 use Rattle.pi_tuple.specs.Finds.{is_zero}
@@ -35,12 +35,6 @@ filled-same c done old x y h = by (is_write c) (is_success done) h
     by true s h = refl
     by false true h = h refl refl
     by false false h = refl
-
-drop-all : (xs ys : List ℕ) → length xs ≡ length ys → drop (length xs) ys ≡ []
-drop-all [] [] e = refl
-drop-all [] (y ∷ ys) e = absurd (omega arith)
-drop-all (x ∷ xs) [] e = absurd (omega arith)
-drop-all (x ∷ xs) (y ∷ ys) e = drop-all xs ys (omega arith)
 
 -- ---- completions
 

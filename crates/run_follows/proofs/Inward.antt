@@ -32,6 +32,7 @@ use Rattle.run_follows.specs.FollowsFalling.{AllFallen, HasFallen}
 use Rattle.run_follows.proofs.Falling.{NoneFall, all_really, decide, elsewhere_still, fall_at, fall_if, falls_by, here, none_fall, none_of_rest, rest_none, there, with_fall}
 use Rattle.run_follows.proofs.Forgiving.{AllDir, AreFresh}
 use Rattle.run_follows.proofs.Outward.{falls_here, forgiven_here, not_here, some_if, nothing_really}
+use Rattle.run_follows.proofs.StillFates.{still_in}
 
 abbrev Came : Type 0
 Came = Result (List ℕ) Why
@@ -144,10 +145,6 @@ module _ (a : Adapter) (ios : List Io) (units : List UnitSpec) (blocks : List (L
   abbrev pub Fell : Falls → List Block → (ℕ → ℕ → Status) → Type 0
   Fell falls bs status = (i k : ℕ) (left : List ℕ) → falls (record { op = i; k = k }) ≡ Some left → HasFallen (status i k) ⊎ FallsIn falls bs i k
 
-  still_in : (bs : List Block) (status : ℕ → ℕ → Status) → with_fates bs (in_fates a ios bs []) status ≡ status
-  still_in [] status = refl
-  still_in (b ∷ bs) status = still_in bs status
-
   -- some status that was carried
   some_carried : (b : Block) (w : Result (List ℕ) Check) → (why : Option Why) × ((status : ℕ → ℕ → Status) → with_fate b (carried w) status ≡ with_status b.op b.k (Carried why) status)
   some_carried b (Ok got) = (None, λ status. refl)
@@ -174,11 +171,11 @@ module _ (a : Adapter) (ios : List Io) (units : List UnitSpec) (blocks : List (L
         to : (why : Option Why) (j l : ℕ) (more : List ℕ) → falls (record { op = j; k = l }) ≡ Some more → HasFallen (status j l) ⊎ FallsIn falls bs j l → HasFallen (with_status b.op b.k (Carried why) status j l) ⊎ FallsIn falls bs j l
         to why j l more q (inl x) = inl (keeps (Carried why) j l (not_here falls b j l more n q) x)
         to why j l more q (inr x) = inr x
-    by None n (Err why) h f = subst (λ (s : ℕ → ℕ → Status). HasFallen (s i k)) (sym (still_in bs (with_status b.op b.k (Carried (Some why)) status))) (to (h i k left e)) where
+    by None n (Err why) h f = subst (λ (s : ℕ → ℕ → Status). HasFallen (s i k)) (sym (still_in a ios bs (with_status b.op b.k (Carried (Some why)) status))) (to (h i k left e)) where
       to : HasFallen (status i k) ⊎ ⊥ → HasFallen (with_status b.op b.k (Carried (Some why)) status i k)
       to (inl x) = keeps (Carried (Some why)) i k (not_here falls b i k left n e) x
       to (inr x) = absurd x
-    by (Some there) n came h f = subst (λ (s : ℕ → ℕ → Status). HasFallen (s i k)) (sym (still_in bs (with_status b.op b.k (Carried (Some Medium)) status))) (to (decide i k b) (h i k left e)) where
+    by (Some there) n came h f = subst (λ (s : ℕ → ℕ → Status). HasFallen (s i k)) (sym (still_in a ios bs (with_status b.op b.k (Carried (Some Medium)) status))) (to (decide i k b) (h i k left e)) where
       to : ((i ≡ b.op) × (k ≡ b.k)) ⊎ (i ≡ b.op → k ≡ b.k → ⊥) → HasFallen (status i k) ⊎ ((i ≡ b.op) × (k ≡ b.k)) → HasFallen (with_status b.op b.k (Carried (Some Medium)) status i k)
       to (inl p) x = subst HasFallen (sym (with_here b.op b.k i k (Carried (Some Medium)) status p.0 p.1)) refl
       to (inr p) (inl x) = keeps (Carried (Some Medium)) i k p x

@@ -64,3 +64,4 @@ pub mod BlockParts
 pub mod Chained
 pub mod Clear
 pub mod Conflicting
+mod StillFates

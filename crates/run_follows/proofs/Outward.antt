@@ -36,6 +36,7 @@ use Rattle.run_follows.proofs.Falling.{NoneFall, all_really, decide, elsewhere_s
 use Rattle.run_follows.proofs.Forgiving.{AllDir, AreFresh}
 use Rattle.run_follows.proofs.Switching.{out_same}
 use Rattle.run_follows.proofs.Ends.{one as one_more}
+use Rattle.run_follows.proofs.StillFates.{still_out}
 
 abbrev Came : Type 0
 Came = Result (List ℕ) Why
@@ -90,10 +91,6 @@ abbrev why_of : Why → Fate → Why
 why_of d Good = d
 why_of d (Bad why) = why
 why_of d Untouched = d
-
-pub still_out : (bs : List Block) (status : ℕ → ℕ → Status) → with_fates bs (out_fates bs []) status ≡ status
-still_out [] status = refl
-still_out (b ∷ bs) status = still_out bs status
 
 -- statuses
 

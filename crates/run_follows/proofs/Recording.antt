@@ -42,6 +42,7 @@ use Rattle.run_follows.specs.Slots.{Carried, Status}
 use Rattle.run_follows.proofs.Over.{going_over}
 use Rattle.run_follows.proofs.Sends.{in_all, out_all, with_here, with_other}
 use Rattle.run_follows.proofs.Switch.{switch}
+use Rattle.run_follows.proofs.StillFates.{still_out, still_in}
 
 abbrev Came : Type 0
 Came = Result (List ℕ) Why
@@ -122,14 +123,6 @@ module _ (m : Setting) (n : ℕ) (ops : List Op) (a : Adapter) (ios : List Io) (
   AreFates (b ∷ bs) (c ∷ cames) [] = ⊥
   AreFates (b ∷ bs) (c ∷ cames) (f ∷ fs) = ((why : Option Why) × ((status : ℕ → ℕ → Status) → with_fate b f status ≡ with_status b.op b.k (Carried why) status)) × AreFates bs cames fs
 
-  still_out : (bs : List Block) (status : ℕ → ℕ → Status) → with_fates bs (out_fates bs []) status ≡ status
-  still_out [] status = refl
-  still_out (b ∷ bs) status = still_out bs status
-
-  still_in : (bs : List Block) (status : ℕ → ℕ → Status) → with_fates bs (in_fates a ios bs []) status ≡ status
-  still_in [] status = refl
-  still_in (b ∷ bs) status = still_in bs status
-
   pub out_are : (bs : List Block) (cames : List Came) → AreFates bs cames (out_fates bs cames)
   out_are [] cames = tt
   out_are (b ∷ bs) [] = λ status. still_out bs status
@@ -138,7 +131,7 @@ module _ (m : Setting) (n : ℕ) (ops : List Op) (a : Adapter) (ios : List Io) (
 
   pub in_are : (bs : List Block) (cames : List Came) → AreFates bs cames (in_fates a ios bs cames)
   in_are [] cames = tt
-  in_are (b ∷ bs) [] = λ status. still_in bs status
+  in_are (b ∷ bs) [] = λ status. still_in a ios bs status
   in_are (b ∷ bs) (Err why ∷ cames) = ((Some why, λ status. refl), in_are bs cames)
   in_are (b ∷ bs) (Ok frame ∷ cames) = (by (arrives a ios b frame), in_are bs cames) where
     by : (w : Result (List ℕ) Check) → (why : Option Why) × ((status : ℕ → ℕ → Status) → with_fate b (carried w) status ≡ with_status b.op b.k (Carried why) status)

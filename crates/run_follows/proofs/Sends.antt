@@ -33,7 +33,7 @@ use Rattle.run_follows.specs.Gate.{AreOver, LetsIn, Spot, is_over, number, ops_o
 use Rattle.run_follows.specs.Sending.{AllComeIn, AllGoOut, AllGoing, Carriage, HeldBack, IsElsewhere, IsGoing, NoneBefore, SentIn, SentOut, carriage_of, fate_in, in_fates, is_carried, out_fates, land_all, land_one, with_fate, with_fates, with_status}
 use Rattle.run_follows.specs.Slots.{Carried, Cut, Status, parts_of, write_parts}
 use Rattle.run_follows.proofs.Carrying.{carried}
-use Rattle.run_follows.proofs.Outward.{still_out}
+use Rattle.run_follows.proofs.StillFates.{still_out, still_in}
 
 -- statuses
 
@@ -170,10 +170,6 @@ one_block m n ops a ios opening now status es b s c e why g q t h = put_block m 
 
 -- the ones behind stay cut
 
-untouched_in : (a : Adapter) (ios : List Io) (bs : List Block) (status : ℕ → ℕ → Status) → with_fates bs (in_fates a ios bs []) status ≡ status
-untouched_in a ios [] status = refl
-untouched_in a ios (b ∷ bs) status = untouched_in a ios bs status
-
 put_nothing : (m : Setting) (bs : List Block) (es : List Sent) → put_each m.site bs [] es ≡ es
 put_nothing m [] es = refl
 put_nothing m (b ∷ bs) es = refl
@@ -261,7 +257,7 @@ module _ (m : Setting) (n : ℕ) (ops : List Op) (a : Adapter) (ios : List Io) (
   in_all [] spots cames now status es g w h = record { after = now; follows = h; bytes = refl; blocks = refl }
   in_all (b ∷ bs) spots [] now status es g w h = record {
     after = now;
-    follows = subst (λ s. Follows m n ops opening s now es) (sym (untouched_in a ios bs status)) h;
+    follows = subst (λ s. Follows m n ops opening s now es) (sym (still_in a ios bs status)) h;
     bytes = refl;
     blocks = refl;
   }

@@ -65,9 +65,6 @@ no_data_fault : (page n : ℕ) → page < 64 → 1 ≤ n → n ≤ 8 → data_fa
 no_data_fault page n p l m =
     ap (λ b. if not b then Some BadRange else (if not (is_body 64 512 n (page_start page (512 * n) ∷ [])) then Some BadSegments else None)) (count_is n l m) ∙ ap (λ b. if not b then Some BadSegments else None) (body_is page n p l m)
 
-same_zero : (a : ℕ) → eqb a 0 ≡ true → 0 ≡ a
-same_zero a h = grind (arith, nat_tests)
-
 tag_fits : (app : ℕ) → app < 2 ^ 16 → (b : Bool) → IsTag (if b then None else Some app)
 tag_fits app h true = tt
 tag_fits app h false = h

@@ -1,7 +1,7 @@
 -- each line that is taken leaves a draft of which all that holds still
-use Rattle.std.proofs.Common.{ℕ, ◌≡◌, ◌+◌, ◌<◌, ◌≤◌, Bool, true, false, eqb, ltb, leb, List, [], ◌∷◌, ◌++◌, length, Option, Some, None, Result, Ok, Err, refl, sym, subst, ap, ◌∙◌, arith}
+use Rattle.std.proofs.Common.{ℕ, ◌≡◌, ◌+◌, ◌≤◌, Bool, true, false, eqb, ltb, leb, List, [], ◌∷◌, ◌++◌, length, Some, None, Result, Ok, Err, refl, sym, subst, ap, ◌∙◌, arith}
 use Rattle.std.specs.Prelude.{if◌then◌else◌}
-use Rattle.std.proofs.lemmas.Bool.Decides.{nat_tests}
+use Rattle.std.proofs.lemmas.Bool.{leb-false, ltb-false}
 use Rattle.script_lines.specs.declared.kind.ScriptKind.{ScriptKind}
 use Rattle.script_lines.specs.declared.kind.ScriptKind.TheVariants.{TooMany}
 use Rattle.script_lines.specs.declared.line.Line.{Line}
@@ -21,13 +21,9 @@ use Rattle.script_laws.specs.Keeping.{Each, IsChoice, IsEntry}
 use Rattle.script_laws.proofs.FormsGive.{Numbers, as_line_ok, block_gives, expect_gives, fault_gives, inner_gives, limits_gives, linear_gives, mode_gives, over_gives, pages_gives, schedule_gives, shift_gives, stripe_gives}
 use Rattle.script_laws.proofs.Held.{Goes, Held, each_both, each_none, each_snoc, faults_more, flip_raw, length_both, number_of, op_of, ops_more, order_on, shift_raw}
 use Rattle.script_laws.proofs.Inverse.{ended_ok, ok_of}
-use Rattle.script_laws.proofs.Over.{IsInner, over_entries}
+use Rattle.script_laws.proofs.Over.{IsInner, over_entries, unbroken}
 use Rattle.script_laws.proofs.Front.{parts_false}
 use Rattle.volume_tree.proofs.Gathering.{or_first, or_second}
-
-pub unbroken : (b : Bool) (k : ScriptKind) (rest : Option ScriptKind) → (if b then Some k else rest) ≡ None → (b ≡ false) × (rest ≡ None)
-unbroken true k rest h = absurd (cc)
-unbroken false k rest h = (refl, h)
 
 pub record Rules (d : Drafted) (line : Line) : Type 0 where
   pub integrity : lacks_integrity d line ≡ false
@@ -40,12 +36,6 @@ rules_of d line h =
     let b = unbroken (is_too_many d line) _ _ a.1 in
     let c = unbroken (is_bad_fault d line) _ _ b.1 in
     record { integrity = a.0; few = b.0; good = c.0 }
-
-pub not_full : (a b : ℕ) → leb b a ≡ false → a < b
-not_full a b h = grind (arith, nat_tests)
-
-pub not_more : (a b : ℕ) → ltb b a ≡ false → a ≤ b
-not_more a b h = grind (arith, nat_tests)
 
 pub ok_draft : (a b : Drafted) → ◌≡◌ {A = Result Drafted ScriptKind} (Ok a) (Ok b) → b ≡ a
 ok_draft a b h = cc
@@ -167,7 +157,7 @@ unfolding taken
 inner_kept n words d e h g line f r t =
     let m = inner_gives words line f in
     let same = ok_draft (record d { inner = d.inner ++ (record { volume = m.0; len = m.1; dev = m.2; at = m.3 } ∷ []) }) e (sym (ap (λ l. taken n l d) m.4) ∙ t) in
-    let few = not_full (length d.inner) 32 (sym (ap (is_too_many d) m.4) ∙ r.few) in
+    let few = leb-false 32 (length d.inner) (sym (ap (is_too_many d) m.4) ∙ r.few) in
     let long = length_both d.inner (record { volume = m.0; len = m.1; dev = m.2; at = m.3 } ∷ []) in
     subst (λ x. Held (record x { place = Some AtInner })) (sym same)
     (record {
@@ -204,7 +194,7 @@ pub linear_kept : (n : ℕ) (words : List (List ℕ)) (d e : Drafted) → Held d
 unfolding taken
 linear_kept n words d e h g line f r t =
     let m = linear_gives words line f in
-    let few = not_full (length d.entries) 16 (sym (ap (is_too_many d) m.1) ∙ r.few) in
+    let few = leb-false 16 (length d.entries) (sym (ap (is_too_many d) m.1) ∙ r.few) in
     let same = ok_draft (record d { entries = d.entries ++ (LinearEntry m.0 ∷ []) }) e (sym (ap (λ l. taken n l d) m.1) ∙ t) in
     subst (λ x. Held (record x { place = Some AtVolume })) (sym same) (more_entries d (LinearEntry m.0 ∷ []) h g ((m.2, m.3, m.4, m.5), tt) (omega arith) (omega (arith, few)))
 
@@ -213,8 +203,8 @@ unfolding taken
 stripe_kept n words d e h g line f r t =
     let m = stripe_gives words line f in
     let rule = sym (ap (is_too_many d) m.4) ∙ r.few in
-    let few = not_full (length d.entries) 16 (or_first (leb 16 (length d.entries)) (ltb 8 (length m.3)) rule) in
-    let most = not_more (length m.3) 8 (or_second (leb 16 (length d.entries)) (ltb 8 (length m.3)) rule) in
+    let few = leb-false 16 (length d.entries) (or_first (leb 16 (length d.entries)) (ltb 8 (length m.3)) rule) in
+    let most = ltb-false 8 (length m.3) (or_second (leb 16 (length d.entries)) (ltb 8 (length m.3)) rule) in
     let entry : Entry = StripeEntry (record { start = m.0; len = m.1; chunk = m.2; legs = m.3 }) in
     let same = ok_draft (record d { entries = d.entries ++ (entry ∷ []) }) e (sym (ap (λ l. taken n l d) m.4) ∙ t) in
     subst (λ x. Held (record x { place = Some AtVolume })) (sym same)
@@ -230,13 +220,13 @@ over_kept n words d e h g line f t =
   where
     by : (b : Bool) (found : List Entry) → Each IsEntry found → 1 ≤ length found → ltb 16 (length d.entries + length found) ≡ b → (if b then Err TooMany else Ok (record d { entries = d.entries ++ found })) ≡ Ok e → Held (record e { place = Some AtVolume })
     by true found each some i k = absurd (cc)
-    by false found each some i k = subst (λ x. Held (record x { place = Some AtVolume })) (sym (ok_draft (record d { entries = d.entries ++ found }) e k)) (more_entries d found h g each some (not_more (length d.entries + length found) 16 i))
+    by false found each some i k = subst (λ x. Held (record x { place = Some AtVolume })) (sym (ok_draft (record d { entries = d.entries ++ found }) e k)) (more_entries d found h g each some (ltb-false 16 (length d.entries + length found) i))
 
 pub fault_kept : (n : ℕ) (words : List (List ℕ)) (d e : Drafted) → Held d → Goes (number_of d.place) 8 → (line : Line) → line_form FaultVerb d.block words ≡ Ok line → Rules d line → taken n line d ≡ Ok e → Held (record e { place = Some AtFault })
 unfolding taken
 fault_kept n words d e h g line f r t =
     let m = fault_gives d.block words line f in
-    let few = not_full (length d.faults) 256 (sym (ap (is_too_many d) m.5) ∙ r.few) in
+    let few = leb-false 256 (length d.faults) (sym (ap (is_too_many d) m.5) ∙ r.few) in
     let raw = flip_raw d.block m.0 m.1 m.2 m.3 m.4 m.6 m.7 (record { off_fits = m.8; are_bytes = m.9; count = m.10; good = sym (ap (is_bad_fault d) m.5) ∙ r.good }) in
     let same = ok_draft _ e (sym (ap (λ l. taken n l d) m.5) ∙ t) in
     let o = order_on (number_of d.place) 8 d.mask d.entries d.faults d.ops (λ s. absurd (omega (arith, s))) g h.order in
@@ -258,7 +248,7 @@ pub shift_kept : (n : ℕ) (words : List (List ℕ)) (d e : Drafted) → Held d 
 unfolding taken
 shift_kept n words d e h g line f r t =
     let m = shift_gives words line f in
-    let few = not_full (length d.faults) 256 (sym (ap (is_too_many d) m.3) ∙ r.few) in
+    let few = leb-false 256 (length d.faults) (sym (ap (is_too_many d) m.3) ∙ r.few) in
     let raw = shift_raw d.block m.0 m.1 m.2 m.4 m.5 m.6 (sym (ap (is_bad_fault d) m.3) ∙ r.good) in
     let same = ok_draft _ e (sym (ap (λ l. taken n l d) m.3) ∙ t) in
     let o = order_on (number_of d.place) 8 d.mask d.entries d.faults d.ops (λ s. absurd (omega (arith, s))) g h.order in
@@ -280,7 +270,7 @@ pub schedule_kept : (n : ℕ) (words : List (List ℕ)) (d e : Drafted) → Held
 unfolding taken
 schedule_kept n words d e h g line f r t =
     let m = schedule_gives words line f in
-    let most = not_more (length d.schedule + length m.0) 16384 (sym (ap (is_too_many d) m.1) ∙ r.few) in
+    let most = ltb-false 16384 (length d.schedule + length m.0) (sym (ap (is_too_many d) m.1) ∙ r.few) in
     let long = length_both d.schedule m.0 in
     let same = ok_draft (record d { schedule = d.schedule ++ m.0 }) e (sym (ap (λ l. taken n l d) m.1) ∙ t) in
     subst (λ x. Held (record x { place = Some AtSchedule })) (sym same)
@@ -322,8 +312,8 @@ op_kept n d e h g r line f gives rules t =
     let b = ok_of (op_in d.pages d.block a.0) (with_op n a.0 d) e (sym (ap (λ l. taken n l d) a.2) ∙ t) in
     let integrity = sym (ap (lacks_integrity d) a.2) ∙ rules.integrity in
     let many = sym (ap (is_too_many d) a.2) ∙ rules.few in
-    let few = not_full (length d.ops) 1024 (or_first (leb 1024 (length d.ops)) (ltb 16384 (d.blocks + request_blocks a.0)) many) in
-    let most = not_more (d.blocks + request_blocks a.0) 16384 (or_second (leb 1024 (length d.ops)) (ltb 16384 (d.blocks + request_blocks a.0)) many) in
+    let few = leb-false 1024 (length d.ops) (or_first (leb 1024 (length d.ops)) (ltb 16384 (d.blocks + request_blocks a.0)) many) in
+    let most = ltb-false 16384 (d.blocks + request_blocks a.0) (or_second (leb 1024 (length d.ops)) (ltb 16384 (d.blocks + request_blocks a.0)) many) in
     let op = op_of d.mode.dix d.pages d.block a.0 b.0 b.1 integrity (gives a.0 a.1) in
     let same = ok_draft _ e b.2 in
     let o = order_on (number_of d.place) 11 d.mask d.entries d.faults d.ops (λ s. absurd (omega (arith, s))) g h.order in

@@ -30,7 +30,7 @@ use Rattle.script_laws.proofs.Clean.{decimal_word}
 use Rattle.script_laws.proofs.Forms.{flip_back, some_byte, value_is}
 use Rattle.script_laws.proofs.Places.{AreSegs, IsSeg, pair_word, seg_back, seg_word, segs_back, segs_word, spot_back, word32_back, word64_back}
 use Rattle.script_laws.proofs.Words.{byte_back, byte_word, hex_back, hex_word, long_tag_back, long_tag_word, tag_back, tag_word}
-use Rattle.script_laws.proofs.Kept.{unbroken}
+use Rattle.script_laws.proofs.Over.{unbroken}
 use Rattle.small_laws.proofs.Tests.{and_first, and_second}
 
 abbrev pub AreListed : List Seg → Type 0

@@ -4,6 +4,7 @@ use Rattle.std.specs.Prelude.{if◌then◌else◌}
 use Rattle.std.specs.List.{list_any}
 use Rattle.std.proofs.lemmas.Bool.Decides.{nat_tests}
 use Rattle.std.proofs.lemmas.List.Elements.{All-head, All-tail}
+use Rattle.std.proofs.lemmas.Bool.{leb-false, ltb-false}
 use Rattle.linear_volume.specs.declared.Linear.{Linear}
 use Rattle.volume_table.specs.declared.entry.Entry.{Entry}
 use Rattle.volume_table.specs.Entries.{IsInRange}
@@ -17,7 +18,10 @@ use Rattle.volume_tree.proofs.Gathering.{or_first, or_second}
 use Rattle.script_lines.specs.declared.kind.ScriptKind.{ScriptKind}
 use Rattle.script_text.specs.Trees.{InnerExtent, as_kind, entries_over, is_bad_volume, is_none, is_past, over_fault, track_from, tracks_in, unless_fault}
 use Rattle.script_laws.specs.Keeping.{Each, IsEntry, IsLeg, IsWithin}
-use Rattle.script_laws.proofs.Kept.{unbroken, not_full, not_more}
+
+pub unbroken : (b : Bool) (k : ScriptKind) (rest : Option ScriptKind) → (if b then Some k else rest) ≡ None → (b ≡ false) × (rest ≡ None)
+unbroken true k rest h = absurd (cc)
+unbroken false k rest h = (refl, h)
 
 pub record IsInner (i : InnerExtent) : Type 0 where
   pub len_is : IsWithin 1 1048576 i.len
@@ -125,14 +129,14 @@ over_spread inner start len chunk volumes found h few l c some e =
     let g = unbroken (list_any (is_bad_volume inner) volumes) _ _ b.1 in
     let t = tracks_hold inner volumes h few g.0 in
     let same = t.2 in
-    let eight = not_more (length volumes) 8 a.0 in
+    let eight = ltb-false 8 (length volumes) a.0 in
     let f = tree_by (has_bad_length len chunk ts) (is_unaligned chunk ts) (ltb 16 (length (ends ts))) (tree_fault len chunk ts) refl g.1 in
     record {
       same = u.1;
       tree = built chunk len ts c.low_is (omega (arith, same, some)) l.low_is t.0 f.0 f.1;
       spans = t.1;
       few = omega (arith, same, eight);
-      fits = not_full (start + len) (2 ^ 64) b.0;
+      fits = leb-false (2 ^ 64) (start + len) b.0;
     }
 
 pub over_entries : (inner : List InnerExtent) (start len chunk : ℕ) (volumes : List ℕ) (found : List Entry) → Each IsInner inner → length inner ≤ 32 → IsWithin 1 1048576 len → IsWithin 1 65536 chunk → 1 ≤ length volumes

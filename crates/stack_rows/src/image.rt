@@ -1,6 +1,6 @@
 //! A formatted image in memory.
 
-use command_line::unit_of;
+use unit_words::unit_of;
 use dix_base::MemStore;
 use image_rig::ImageRig;
 use std::alloc::{AllocError, Global};

@@ -2,7 +2,6 @@
 //! which something else comes, with what came, and how many rows there were, and how many of these.
 #![tactic(auto)]
 
-mod commands;
 mod lines;
 mod reasons;
 mod records;

@@ -1,6 +1,5 @@
 //! The lines of the table.
 
-use crate::commands::{command_row, image_row};
 use crate::lines::lines_row;
 use crate::records::record_row;
 use crate::reports::{replies_of, report_row};
@@ -42,8 +41,6 @@ impl Judge for Table {
     fn answer(&mut self, alloc: Global, call: &str) -> Result<String, AllocError> {
         let (word, rest) = cut(call);
         match word {
-            "command" => command_row(alloc, rest),
-            "image" => image_row(alloc, rest),
             "lines" => lines_row(alloc, &text_of(alloc, rest)?),
             "report" => report_row(alloc, rest, &self.replies, &self.whole),
             "record" => record_row(alloc, rest, &self.whole),

@@ -1,5 +1,5 @@
 use Rattle.std.proofs.Common.{Ok, Err, inl}
-use Rattle.command_line.specs.Grammar.{word_bytes}
+use Rattle.unit_words.specs.Words.{word_bytes}
 use Rattle.flip_sweep.specs.declared.sweep.Unswept.TheVariants as unswept
 use Rattle.lab_run.specs.Swept.{swept}
 use Rattle.lab_run.proofs.Named.{sweep_good}

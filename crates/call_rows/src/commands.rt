@@ -1,6 +1,7 @@
 //! The words that the program is called with.
 
-use command_line::{Command, UnitList, command_of, image_of};
+use command_line::{Command, command_of};
+use unit_words::{UnitList, image_of};
 use pi_tuple::PiType;
 use std::alloc::{AllocError, Global};
 

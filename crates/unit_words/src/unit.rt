@@ -1,7 +1,7 @@
 //! A unit as a word orders it: `T:BLOCKS` or `T:BLOCKS:SIZE:FIRST`.
 
 ghost use Rattle.std.specs.Prelude.{◌≡◌};
-ghost use Rattle.command_line.specs.Units.{spec_of, type_in, type_numbered, unit_in};
+ghost use Rattle.unit_words.specs.Units.{spec_of, type_in, type_numbered, unit_in};
 
 use pi_tuple::PiType;
 use script_words::{number, split_once};
@@ -20,7 +20,7 @@ fn type_numbered(number: u64) -> Option<PiType>
 }
 
 /// The protection type of this number, 0 to 3.
-pub(crate) fn type_of(word: &[u8]) -> Option<PiType>
+pub fn type_of(word: &[u8]) -> Option<PiType>
     ensures { result ≡ type_in word.now }
 {
     type_numbered(number(word)?)

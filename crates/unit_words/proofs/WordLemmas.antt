@@ -1,0 +1,31 @@
+-- How many words there are, and how many units in them.
+use Rattle.std.proofs.Common.{ℕ, ◌≡◌, ◌<◌, suc, List, [], ◌∷◌, ◌++◌, length, Option, Some, None, refl, ap, ◌∙◌, arith}
+use Rattle.std.specs.Prelude.{String}
+use Rattle.target_answer.specs.declared.units.UnitSpec.{UnitSpec}
+use Rattle.unit_words.specs.Units.{unit_in}
+use Rattle.unit_words.specs.Words.{image_in, units_in, with_unit, word_bytes}
+
+-- the units so far, with those that follow
+abbrev pub joined : List UnitSpec → Option (List UnitSpec) → Option (List UnitSpec)
+joined us None = None
+joined us (Some more) = Some (us ++ more)
+
+pub bytes_length : {Z : Type 0} (ws : List (String Z)) → length (word_bytes ws) ≡ length ws
+bytes_length [] = refl
+bytes_length (w ∷ ws) = ap suc (bytes_length ws)
+
+pub one_unit : (u : Option UnitSpec) (rest : Option (List UnitSpec)) (us : List UnitSpec) (n : ℕ) → with_unit u rest ≡ Some us → ((more : List UnitSpec) → rest ≡ Some more → length more ≡ n) → length us ≡ suc n
+one_unit None rest us n e f = absurd (cc)
+one_unit (Some u) None us n e f = absurd (cc)
+one_unit (Some u) (Some more) us n e f = let k : us ≡ u ∷ more = cc in ap length k ∙ ap suc (f more refl)
+
+-- as many units as words
+pub as_many : (ws : List (List ℕ)) (us : List UnitSpec) → units_in ws ≡ Some us → length us ≡ length ws
+as_many [] us e = let k : us ≡ [] = cc in ap length k
+as_many (w ∷ ws) us e = one_unit (unit_in w) (units_in ws) us (length ws) e (λ more p. as_many ws more p)
+
+pub no_second : {Z : Type 0} (ws : List (String Z)) → length ws < 2 → [] ≡ image_in (word_bytes ws)
+no_second [] h = refl
+no_second (a ∷ []) h = refl
+no_second (a ∷ b ∷ ws) h = absurd (omega arith)
+

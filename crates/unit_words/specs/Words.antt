@@ -1,0 +1,30 @@
+-- Words as bytes, names of images, and units in a row.
+use Rattle.std.specs.Prelude.{ℕ, Bool, false, not, eqb, List, [], ◌∷◌, String, string_bytes, Option, Some, None}
+use Rattle.target_answer.specs.declared.units.UnitSpec.{UnitSpec}
+use Rattle.unit_words.specs.Units.{unit_in}
+
+-- the bytes of the words
+abbrev pub word_bytes : {Z : Type 0} → List (String Z) → List (List ℕ)
+word_bytes [] = []
+word_bytes (w ∷ ws) = string_bytes w ∷ word_bytes ws
+
+-- A name is not empty and doesn't begin with a hyphen.
+abbrev pub is_name : List ℕ → Bool
+is_name [] = false
+is_name (b ∷ bytes) = not (eqb b 45)
+
+abbrev pub with_unit : Option UnitSpec → Option (List UnitSpec) → Option (List UnitSpec)
+with_unit None us = None
+with_unit (Some u) None = None
+with_unit (Some u) (Some us) = Some (u ∷ us)
+
+-- the units of words, each of which is one
+abbrev pub units_in : List (List ℕ) → Option (List UnitSpec)
+units_in [] = Some []
+units_in (w ∷ ws) = with_unit (unit_in w) (units_in ws)
+
+-- the second word, which names the image of a command that works on one
+abbrev pub image_in : List (List ℕ) → List ℕ
+image_in [] = []
+image_in (verb ∷ []) = []
+image_in (verb ∷ image ∷ words) = image
