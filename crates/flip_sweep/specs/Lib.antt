@@ -4,3 +4,4 @@ pub mod Verdicts
 pub mod Rows
 pub mod Swept
 pub mod Ground
+pub mod Halts

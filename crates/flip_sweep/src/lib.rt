@@ -5,6 +5,7 @@
 mod copying;
 mod counts;
 mod flips;
+mod from;
 mod line;
 mod listing;
 mod own_lines;

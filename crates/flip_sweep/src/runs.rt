@@ -71,9 +71,7 @@ pub(crate) fn run_over(alloc: Global, image: &[u8], script: Script) -> Result<Ca
     ensures long { (units : List AnyUnit) → is_layout units ≡ true → image.now ≡ formatted units → IfOk result (λ came. length came.rig.store.bytes ≡ image_size units) }
     ensures cause { (units : List AnyUnit) → is_layout units ≡ true → image.now ≡ formatted units → IfErr result (λ r. CauseNoRun r script (formatted units)) }
 {
-    let Ok(bytes) = Vec::from_slice(alloc, image) else {
-        return Err(Refusal::Memory);
-    };
+    let bytes = Vec::from_slice(alloc, image)?;
     let mut rig = ImageRig::new(alloc, CalmStore::new(bytes));
     let run = run_script(alloc, "sweep", script, &mut rig)?;
     Ok(Came { run, rig })

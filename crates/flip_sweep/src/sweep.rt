@@ -127,10 +127,8 @@ fn write_row<O: Sink>(out: &mut O, site: Site, stretch: Stretch) -> Result<(), H
     ensures cause { OnErr result (Rose (O.faults out.old) (O.faults out.new)) }
     ensures count { O.faults out.old ≤ O.faults out.new }
 {
-    match write_all(out, row(site, stretch).as_slice()) {
-        Ok(()) => Ok(()),
-        Err(Failed) => Err(Halt::Sink),
-    }
+    write_all(out, row(site, stretch).as_slice())?;
+    Ok(())
 }
 
 /// Writes what the flips of the bytes of a frame come to, and counts them.
@@ -151,15 +149,11 @@ fn sweep_site<O: Sink>(
     ensures count { O.faults out.old ≤ O.faults out.new }
 {
     let len = frame_len(base.script);
-    let Ok(opened) = first_stretch(alloc, base, site) else {
-        return Err(Halt::Memory);
-    };
+    let opened = first_stretch(alloc, base, site)?;
     let mut current = opened;
     let mut counted = counts.with(opened.verdict);
     while current.last + 1 < len {
-        let Ok(verdict) = verdict_at(alloc, base, site, current.last + 1) else {
-            return Err(Halt::Memory);
-        };
+        let verdict = verdict_at(alloc, base, site, current.last + 1)?;
         let next = go_on(out, site, current, verdict)?;
         let more = counted.with(verdict);
         current = next;
@@ -201,10 +195,8 @@ fn write_text<O: Sink>(out: &mut O, text: &[u8]) -> Result<(), Halt>
     ensures cause { OnErr result (Rose (O.faults out.old) (O.faults out.new)) }
     ensures count { O.faults out.old ≤ O.faults out.new }
 {
-    match write_all(out, text) {
-        Ok(()) => Ok(()),
-        Err(Failed) => Err(Halt::Sink),
-    }
+    write_all(out, text)?;
+    Ok(())
 }
 
 fn write_first<O: Sink>(out: &mut O) -> Result<(), Halt>
@@ -277,22 +269,16 @@ fn begun<'a>(
     if let Some(fault) = own_fault(script) {
         return Err(Refusal::Script(fault));
     }
-    let Ok(fresh) = fresh_rig(alloc, units) else {
-        return Err(Refusal::Memory);
-    };
-    let Ok(copy) = copy_of(alloc, script) else {
-        return Err(Refusal::Memory);
-    };
-    match run_over(alloc, fresh.store().bytes(), copy) {
-        Ok(plain) => Ok(Ground {
-            units,
-            script,
-            byte,
-            fresh,
-            plain,
-        }),
-        Err(refusal) => Err(refusal),
-    }
+    let fresh = fresh_rig(alloc, units)?;
+    let copy = copy_of(alloc, script)?;
+    let plain = run_over(alloc, fresh.store().bytes(), copy)?;
+    Ok(Ground {
+        units,
+        script,
+        byte,
+        fresh,
+        plain,
+    })
 }
 
 /// Whether some flips are seen by nobody, where all of them were counted.

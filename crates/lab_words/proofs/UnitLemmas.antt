@@ -1,3 +1,4 @@
+-- The units of a layout, read one by one: more than eight order no image.
 use Rattle.std.proofs.Common.{ℕ, ◌≡◌, ◌<◌, false, leb, List, length, Option, Some, None, refl, ◌∙◌, arith}
 use Rattle.std.specs.Prelude.{String}
 use Rattle.std.specs.List.{list_all}

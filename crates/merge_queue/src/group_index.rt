@@ -270,7 +270,8 @@ impl GroupIndex {
         requires second { j < length self.now.groups }
         requires other { i ≡ j → ⊥ }
         requires within { AreWithin most self.now.groups }
-        ensures { result + ((if may_join lim.now self.now.groups i j then 1 else 0) + (if may_join lim.now self.now.groups j i then 1 else 0)) ≡ links lim.now self.now.groups i + links lim.now self.now.groups j }
+        ensures { result + ((if may_join lim.now self.now.groups i j then 1 else 0) + (if may_join lim.now self.now.groups j i then 1 else 0))
+            ≡ links lim.now self.now.groups i + links lim.now self.now.groups j }
     {
         let there = as_number(self.joinable(i, j, lim)) as u64;
         let back = as_number(self.joinable(j, i, lim)) as u64;

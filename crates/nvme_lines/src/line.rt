@@ -98,10 +98,8 @@ fn take_meta(alloc: Global, words: &mut Words) -> Result<ByteList, ScriptKind>
     let Some(word) = words.next() else {
         return Err(ScriptKind::MissingWord);
     };
-    let bytes = match meta_in(alloc, word) {
-        Ok(Some(bytes)) => bytes,
-        Ok(None) => return Err(ScriptKind::BadNumber),
-        Err(_) => return Err(ScriptKind::Memory),
+    let Some(bytes) = meta_in(alloc, word)? else {
+        return Err(ScriptKind::BadNumber);
     };
     match words.next() {
         None => Ok(ByteList::from_vec(bytes)),

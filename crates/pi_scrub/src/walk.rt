@@ -73,10 +73,7 @@ pub fn scrub<R: Rig>(
     ensures stays { Stays (R.state rig.old) (R.state rig.new) }
 {
     for dev in 0..devices.len() as u32 {
-        match scrub_device(alloc, devices, dev, rig, found) {
-            Ok(()) => {}
-            Err(error) => return Err(error),
-        }
+        scrub_device(alloc, devices, dev, rig, found)?;
     }
     Ok(())
 }

@@ -2,6 +2,10 @@ use Rattle.std.specs.Prelude.{ℕ, List, codes}
 use Rattle.script_lines.specs.declared.kind.ScriptKind.{ScriptKind}
 use Rattle.script_lines.specs.declared.kind.ScriptKind.TheVariants.{NotAscii, LongLine, UnknownWord, BadNumber, MissingWord, ExtraWord, OutOfPlace, TooMany, BadSegments, SegOverlap, BadRange, BadFault, NoIntegrity, NoHeader, Memory}
 
+-- want of memory
+abbrev pub of_memory : ScriptKind
+of_memory = Memory
+
 abbrev pub kind_number : ScriptKind → ℕ
 kind_number NotAscii = 1
 kind_number LongLine = 2

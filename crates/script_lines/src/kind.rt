@@ -1,7 +1,9 @@
 //! What may be wrong with a line of a script.
 
 ghost use Rattle.std.specs.Prelude.{◌≡◌};
-ghost use Rattle.script_lines.specs.Kinds.{kind_name, kind_number};
+ghost use Rattle.script_lines.specs.Kinds.{kind_name, kind_number, of_memory};
+
+use std::alloc::AllocError;
 
 /// What is wrong with a line of a script.
 #[derive(Clone, Copy, Debug, PartialEq, Eq)]
@@ -83,5 +85,13 @@ impl ScriptKind {
             ScriptKind::NoHeader => "NoHeader",
             ScriptKind::Memory => "Memory",
         }
+    }
+}
+
+impl From<AllocError> for ScriptKind {
+    ghost from_gives = { λ _ kind. kind ≡ of_memory };
+
+    fn from(_error: AllocError) -> ScriptKind {
+        ScriptKind::Memory
     }
 }

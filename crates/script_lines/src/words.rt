@@ -187,10 +187,9 @@ impl<'a> Words<'a> {
     pub(crate) fn hex(&mut self, alloc: Global) -> Result<ByteList, ScriptKind>
         ensures { ReadsUnless (value (hex_in 512) self.old) result self.new }
     {
-        match script_words::hex_bytes(alloc, self.word()?) {
-            Ok(Some(bytes)) => Ok(ByteList::from_vec(bytes)),
-            Ok(None) => Err(ScriptKind::BadNumber),
-            Err(_) => Err(ScriptKind::Memory),
+        match script_words::hex_bytes(alloc, self.word()?)? {
+            Some(bytes) => Ok(ByteList::from_vec(bytes)),
+            None => Err(ScriptKind::BadNumber),
         }
     }
 
@@ -212,10 +211,9 @@ impl<'a> Words<'a> {
     pub(crate) fn segments(&mut self, alloc: Global) -> Result<SegList, ScriptKind>
         ensures { ReadsUnless (value segs_in self.old) result self.new }
     {
-        match script_words::segments(alloc, self.word()?) {
-            Ok(Some(segs)) => Ok(SegList::from_vec(segs)),
-            Ok(None) => Err(ScriptKind::BadNumber),
-            Err(_) => Err(ScriptKind::Memory),
+        match script_words::segments(alloc, self.word()?)? {
+            Some(segs) => Ok(SegList::from_vec(segs)),
+            None => Err(ScriptKind::BadNumber),
         }
     }
 

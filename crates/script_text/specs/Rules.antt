@@ -1,12 +1,22 @@
-use Rattle.std.specs.Prelude.{ℕ, ℤ, pos, ◌+◌, Bool, true, false, not, ◌&&◌, ◌||◌, eqb, nat_le, nat_lt, if◌then◌else◌, List, length, Option, Some, None, is_some}
+use Rattle.std.specs.Prelude.{◌≡◌, ◌⊎◌, ℕ, ℤ, pos, ◌+◌, Bool, true, false, not, ◌&&◌, ◌||◌, eqb, nat_le, nat_lt, if◌then◌else◌, List, length, Option, Some, None, is_some, Result, Ok, Err}
 use Rattle.std.specs.List.{list_all}
 use Rattle.script_lines.specs.declared.kind.ScriptKind.{ScriptKind}
-use Rattle.script_lines.specs.declared.kind.ScriptKind.TheVariants.{TooMany, BadFault, NoIntegrity}
+use Rattle.script_lines.specs.declared.kind.ScriptKind.TheVariants.{TooMany, BadFault, NoIntegrity, Memory}
 use Rattle.script_lines.specs.declared.line.OpLine.{OpLine}
 use Rattle.script_lines.specs.declared.line.OpLine.TheVariants.{Seal, Write, Read, WritePi, ReadPi}
 use Rattle.script_lines.specs.declared.line.Line.{Line}
 use Rattle.script_lines.specs.declared.line.Line.TheVariants.{Expect, Inner, Linear, Stripe, Flip, Shift, Schedule, Op}
 use Rattle.script_text.specs.Drafts.{Drafted}
+
+-- The answer is such a one, and the rule isn't broken; or it is this kind, and the rule is broken; or it is want of memory.
+abbrev pub IsUnlessBroken : {A : Type 0} → (broken : Bool) → ScriptKind → (A → Type 0) → Result A ScriptKind → Type 0
+IsUnlessBroken broken kind IsSuch (Ok a) = IsSuch a × (broken ≡ false)
+IsUnlessBroken broken kind IsSuch (Err k) = (k ≡ Memory) ⊎ ((k ≡ kind) × (broken ≡ true))
+
+-- The answer is such a one, and there is no fault; or it is the fault, or want of memory.
+abbrev pub IsUnlessFault : {A : Type 0} → Option ScriptKind → (A → Type 0) → Result A ScriptKind → Type 0
+IsUnlessFault fault IsSuch (Ok a) = IsSuch a × (fault ≡ None)
+IsUnlessFault fault IsSuch (Err k) = (k ≡ Memory) ⊎ (fault ≡ Some k)
 
 -- The rules on a line that ask nothing of its segments.
 

@@ -1,7 +1,8 @@
 //! A script against a volume.
 
-ghost use Rattle.std.specs.Prelude.{◌≡◌, not, ◌||◌, ◌<◌, ◌≤◌, ◌+◌, [], Some, None, MatchResult, drop, false, length, get_or, slice_get};
-ghost use Rattle.script_text.specs.Bindings.{binding_fault, block_stays, blocks_stay, expect_fault, faults_fault, is_at_medium, is_bad_on, is_first_type, is_shift, marked, op_fault, ops_fault, request_at};
+ghost use Rattle.std.specs.Prelude.{◌≡◌, ◌<◌, ◌≤◌, ◌+◌, [], Some, None, MatchResult, drop, false, length, get_or, slice_get};
+ghost use Rattle.fault_schedule.specs.declared.fault.FaultKind.{FaultKind};
+ghost use Rattle.script_text.specs.Bindings.{binding_fault, block_stays, blocks_stay, expect_fault, faults_fault, is_bad_kind, is_bad_on, is_shift, marked, op_fault, ops_fault, request_at};
 ghost use Rattle.volume_table.specs.Places.{volume_len};
 
 use crate::against::{Against, can_alter, is_bad_change, is_on, request, request_at};
@@ -52,7 +53,7 @@ fn is_bad_shift(
     request: (u64, u32),
     was_shifted: bool,
 ) -> bool
-    ensures { result ≡ (not (is_first_type against.entry.table.now.ty) || (is_at_medium line.now.at || (was_shifted || not (blocks_stay against.entry.table.now against.entry.devices.now by request.0 request.1)))) }
+    ensures { result ≡ is_bad_kind against.entry.table.now against.entry.devices.now was_shifted line.now request (FaultKind.Shift by) }
 {
     let (v, n) = request;
     against.table.ty() != PiType::One

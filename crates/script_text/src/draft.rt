@@ -116,10 +116,8 @@ impl Draft {
     fn add_schedule(&mut self, entries: &WordList) -> Result<(), ScriptKind>
         ensures { Takes (schedule_taken entries.now (drafted self.old)) result (drafted self.new) }
     {
-        match self.schedule.extend_from_slice(entries.as_slice()) {
-            Ok(()) => Ok(()),
-            Err(_) => Err(ScriptKind::Memory),
-        }
+        self.schedule.extend_from_slice(entries.as_slice())?;
+        Ok(())
     }
 
     fn add_inner(&mut self, inner: Inner) -> Result<(), ScriptKind>
@@ -287,9 +285,7 @@ impl Draft {
             op_lines,
         } = self;
         let mut lines = fault_lines;
-        if lines.extend_from_slice(op_lines.as_slice()).is_err() {
-            return Err(ScriptKind::Memory);
-        }
+        lines.extend_from_slice(op_lines.as_slice())?;
         let faults = crossed(alloc, faults, ops.as_slice())?;
         Ok(Script {
             mode: mode_of(mode, app, mask),
@@ -328,15 +324,12 @@ fn copy_of(alloc: Global, entry: &Entry) -> Result<Entry, ScriptKind>
 {
     match entry {
         Entry::Linear(linear) => Ok(Entry::Linear(*linear)),
-        Entry::Stripe(stripe) => match stripe.legs.copy(alloc) {
-            Ok(legs) => Ok(Entry::Stripe(Stripe {
-                start: stripe.start,
-                len: stripe.len,
-                chunk: stripe.chunk,
-                legs,
-            })),
-            Err(_) => Err(ScriptKind::Memory),
-        },
+        Entry::Stripe(stripe) => Ok(Entry::Stripe(Stripe {
+            start: stripe.start,
+            len: stripe.len,
+            chunk: stripe.chunk,
+            legs: stripe.legs.copy(alloc)?,
+        })),
     }
 }
 

@@ -1,6 +1,6 @@
 //! Ops in place of their lines, where these keep the rules on counts, segments and alterations.
 
-ghost use Rattle.std.specs.Prelude.{All, ◌++◌, ◌≡◌, ℕ, ◌⊎◌, ◌≤◌, IfErr, IfOk, MatchResult, Ok, None, Some, false, length, nat_lt, true};
+ghost use Rattle.std.specs.Prelude.{All, ◌++◌, ◌≡◌, ℕ, ◌⊎◌, ◌≤◌, IfErr, IfOk, MatchResult, Ok, false, length, nat_lt, not, true};
 ghost use Rattle.page_pool.specs.Places.{places_in};
 ghost use Rattle.page_pool.specs.Walking.{InPages};
 ghost use Rattle.script_lines.specs.declared.kind.ScriptKind.{ScriptKind};
@@ -8,6 +8,7 @@ ghost use Rattle.script_lines.specs.declared.line.OpLine.{OpLine};
 ghost use Rattle.script_lines.specs.Reading.{IsUnless};
 ghost use Rattle.range_gate.specs.Prints.{IsSound};
 ghost use Rattle.script_text.specs.Ops.{are_tuples, both_fault, data_fault, is_body, op_in};
+ghost use Rattle.script_text.specs.Rules.{IsUnlessBroken, IsUnlessFault};
 ghost use Rattle.script_text.specs.Segments.{are_inside, do_overlap, is_inside};
 
 use crate::rules::{is_bad_flip, is_count};
@@ -45,16 +46,13 @@ fn list_of(alloc: Global, segs: &[Seg]) -> Result<SgList, ScriptKind>
     ensures pages { IfOk result (λ list. InPages (places_in list)) }
     ensures memory { IfErr result (λ k. k ≡ ScriptKind.Memory) }
 {
-    match sg_list(alloc, segs) {
-        Ok(list) => Ok(list),
-        Err(_) => Err(ScriptKind::Memory),
-    }
+    Ok(sg_list(alloc, segs)?)
 }
 
 /// The data of `n` blocks.
 fn body_of(alloc: Global, segs: &[Seg], n: u32, sizes: Sizes) -> Result<SgList, ScriptKind>
     requires { length segs.now ≤ 512 }
-    ensures { MatchResult result (λ list. (list ≡ segs.now) × (is_body sizes.pages sizes.block n segs.now ≡ true)) (λ k. (k ≡ ScriptKind.Memory) ⊎ ((k ≡ ScriptKind.BadSegments) × (is_body sizes.pages sizes.block n segs.now ≡ false))) }
+    ensures { IsUnlessBroken (not (is_body sizes.pages sizes.block n segs.now)) ScriptKind.BadSegments (λ list. list ≡ segs.now) result }
 {
     if !are_inside(segs, sizes.pages) {
         return Err(ScriptKind::BadSegments);
@@ -72,7 +70,7 @@ fn body_of(alloc: Global, segs: &[Seg], n: u32, sizes: Sizes) -> Result<SgList, 
 /// The tuples of `n` blocks.
 fn tuples_of(alloc: Global, segs: &[Seg], n: u32, sizes: Sizes) -> Result<SgList, ScriptKind>
     requires { length segs.now ≤ 512 }
-    ensures { MatchResult result (λ list. (list ≡ segs.now) × (are_tuples sizes.pages n segs.now ≡ true)) (λ k. (k ≡ ScriptKind.Memory) ⊎ ((k ≡ ScriptKind.BadSegments) × (are_tuples sizes.pages n segs.now ≡ false))) }
+    ensures { IsUnlessBroken (not (are_tuples sizes.pages n segs.now)) ScriptKind.BadSegments (λ list. list ≡ segs.now) result }
 {
     if !are_inside(segs, sizes.pages) {
         return Err(ScriptKind::BadSegments);
@@ -89,18 +87,18 @@ fn tuples_of(alloc: Global, segs: &[Seg], n: u32, sizes: Sizes) -> Result<SgList
 
 fn apart(alloc: Global, body: &[Seg], tuples: &[Seg]) -> Result<(), ScriptKind>
     requires { All IsSound (body.now ++ tuples.now) }
-    ensures { MatchResult result (λ u. do_overlap body.now tuples.now ≡ false) (λ k. (k ≡ ScriptKind.Memory) ⊎ ((k ≡ ScriptKind.SegOverlap) × (do_overlap body.now tuples.now ≡ true))) }
+    ensures { MatchResult result (λ u. do_overlap body.now tuples.now ≡ false)
+        (λ k. (k ≡ ScriptKind.Memory) ⊎ ((k ≡ ScriptKind.SegOverlap) × (do_overlap body.now tuples.now ≡ true))) }
 {
-    match do_overlap(alloc, body, tuples) {
-        Ok(false) => Ok(()),
-        Ok(true) => Err(ScriptKind::SegOverlap),
-        Err(_) => Err(ScriptKind::Memory),
+    if do_overlap(alloc, body, tuples)? {
+        return Err(ScriptKind::SegOverlap);
     }
+    Ok(())
 }
 
 /// The data of a request without tuples of its own.
 fn data_of(alloc: Global, n: u32, body: &SegList, sizes: Sizes) -> Result<SgList, ScriptKind>
-    ensures { MatchResult result (λ list. (list ≡ body.now) × (data_fault sizes.pages sizes.block n body.now ≡ None)) (λ k. (k ≡ ScriptKind.Memory) ⊎ (data_fault sizes.pages sizes.block n body.now ≡ Some k)) }
+    ensures { IsUnlessFault (data_fault sizes.pages sizes.block n body.now) (λ list. list ≡ body.now) result }
 {
     if is_long(body.as_slice()) {
         return Err(ScriptKind::TooMany);
@@ -121,7 +119,7 @@ fn both_of(
     tuples: &SegList,
     sizes: Sizes,
 ) -> Result<(SgList, SgList), ScriptKind>
-    ensures { MatchResult result (λ lists. (lists.0 ≡ body.now) × (lists.1 ≡ tuples.now) × (both_fault sizes.pages sizes.block n body.now tuples.now ≡ None)) (λ k. (k ≡ ScriptKind.Memory) ⊎ (both_fault sizes.pages sizes.block n body.now tuples.now ≡ Some k)) }
+    ensures { IsUnlessFault (both_fault sizes.pages sizes.block n body.now tuples.now) (λ lists. (lists.0 ≡ body.now) × (lists.1 ≡ tuples.now)) result }
 {
     if is_long(body.as_slice()) || is_long(tuples.as_slice()) {
         return Err(ScriptKind::TooMany);

@@ -1,8 +1,10 @@
 //! The entries of a stripe over inner volumes.
 
-ghost use Rattle.std.specs.Prelude.{IfNone, IfSome, ◌+◌, ◌<◌, ◌^◌, Ok, Err, ◌≡◌, ◌⊎◌, ◌++◌, ◌∷◌, ◌≤◌, [], IfErr, IfOk, MatchResult, None, OnOk, Some, false, length, true};
+ghost use Rattle.std.specs.Prelude.{IfNone, IfSome, ◌+◌, ◌<◌, ◌^◌, ◌≡◌, ◌++◌, ◌∷◌, ◌≤◌, [], IfErr, IfOk, None, OnOk, Some, length, true};
 ghost use Rattle.std.specs.List.{list_any};
 ghost use Rattle.script_lines.specs.declared.kind.ScriptKind.{ScriptKind};
+ghost use Rattle.script_lines.specs.Reading.{IsUnless};
+ghost use Rattle.script_text.specs.Rules.{IsUnlessBroken};
 ghost use Rattle.script_text.specs.Trees.{are_lengths, entries_over, is_bad_volume, over_fault, track_from, tracks_in};
 ghost use Rattle.volume_tree.specs.Tracks.{FollowsFrom, tracks_of};
 ghost use Rattle.volume_tree.specs.Trees.{AreTracks};
@@ -46,7 +48,7 @@ fn extent_of(inner: Inner, start: u64) -> Option<Linear>
 fn track(alloc: Global, inner: &[Inner], volume: u32) -> Result<Vec<Linear>, ScriptKind>
     requires few { length inner.now ≤ 32 }
     requires lengths { are_lengths inner.now ≡ true }
-    ensures value { MatchResult result (λ v. (v.items ≡ track_from 0 volume inner.now) × (is_bad_volume inner.now volume ≡ false)) (λ k. (k ≡ ScriptKind.Memory) ⊎ ((k ≡ ScriptKind.BadRange) × (is_bad_volume inner.now volume ≡ true))) }
+    ensures value { IsUnlessBroken (is_bad_volume inner.now volume) ScriptKind.BadRange (λ v. v.items ≡ track_from 0 volume inner.now) result }
     ensures follows { IfOk result (λ v. FollowsFrom 0 v.items) }
 {
     let mut track = Vec::new(alloc);
@@ -70,7 +72,7 @@ fn track(alloc: Global, inner: &[Inner], volume: u32) -> Result<Vec<Linear>, Scr
 fn tracks(alloc: Global, inner: &[Inner], volumes: &[u32]) -> Result<Vec<Vec<Linear>>, ScriptKind>
     requires few { length inner.now ≤ 32 }
     requires lengths { are_lengths inner.now ≡ true }
-    ensures value { MatchResult result (λ v. (tracks_of v.items ≡ tracks_in inner.now volumes.now) × (list_any (is_bad_volume inner.now) volumes.now ≡ false)) (λ k. (k ≡ ScriptKind.Memory) ⊎ ((k ≡ ScriptKind.BadRange) × (list_any (is_bad_volume inner.now) volumes.now ≡ true))) }
+    ensures value { IsUnlessBroken (list_any (is_bad_volume inner.now) volumes.now) ScriptKind.BadRange (λ v. tracks_of v.items ≡ tracks_in inner.now volumes.now) result }
     ensures tracks { IfOk result (λ v. AreTracks (tracks_of v.items)) }
 {
     let mut tracks = Vec::new(alloc);
@@ -102,7 +104,7 @@ pub(crate) fn entries_over(
     requires len { (1 ≤ line.len) × (line.len ≤ 1048576) }
     requires chunk { 1 ≤ line.chunk }
     requires legs { 1 ≤ length line.volumes.now }
-    ensures { MatchResult result (λ list. entries_over inner.now line.entry.start line.entry.len line.entry.chunk line.entry.volumes.now ≡ Ok list) (λ k. (k ≡ ScriptKind.Memory) ⊎ (entries_over inner.now line.entry.start line.entry.len line.entry.chunk line.entry.volumes.now ≡ Err k)) }
+    ensures { IsUnless (entries_over inner.now line.entry.start line.entry.len line.entry.chunk line.entry.volumes.now) result }
 {
     let OverLine {
         start,

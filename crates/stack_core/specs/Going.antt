@@ -2,10 +2,11 @@
 use Rattle.std.specs.Prelude.{◌≡◌, ℕ, ◌+◌, ◌≤◌, List, false, is_some}
 use Rattle.std.specs.List.{list_any}
 use Rattle.dix_base.specs.Told.{Calm}
-use Rattle.rig_api.specs.State.{RigState}
+use Rattle.rig_api.specs.State.{KeepsRecords, RigState, Stays as RigStays}
 use Rattle.answered_record.specs.Answered.{PutsAnswers}
 use Rattle.block_path.specs.Acts.{State}
 use Rattle.whole_run.specs.Settings.{Setting}
+use Rattle.stack_ops.specs.declared.op.Op.{Op}
 use Rattle.stack_ops.specs.declared.reply.Reply.{Reply}
 use Rattle.run_follows.specs.Overwrites.{is_overwrite}
 use Rattle.stack_core.specs.declared.stack.Stack.{Stack}
@@ -38,6 +39,12 @@ pub record Went (old : Stack) (before : RigState) (new : Stack) (after : RigStat
 pub record SettlesNone (old new : Stack) : Type 0 where
   pub kept : new.kept ≡ old.kept
   pub replies : new.replies.items ≡ old.replies.items
+
+-- An op was admitted over a rig, which stays as it was, with its records; where no op overwrites a stored block, so do its units.
+pub record AdmitsOver (ops : List Op) (old new : RigState) : Type 0 where
+  pub stays : RigStays old new
+  pub keeps : KeepsRecords old new
+  pub answered : list_any is_overwrite ops ≡ false → PutsAnswers old new
 
 -- Overwrites that reply that their store calls failed are more only where the count of faults rose, and by no more than it did.
 pub record FailsCounted (old new : List Reply) (count count' : ℕ) : Type 0 where

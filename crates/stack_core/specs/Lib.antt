@@ -1,4 +1,5 @@
 pub mod Replies
+pub mod Places
 pub mod Doing
 pub mod Done
 pub mod Stacks

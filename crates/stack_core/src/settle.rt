@@ -11,6 +11,7 @@ ghost use Rattle.bio_core.specs.declared.request.Dir.TheVariants.{Read};
 ghost use Rattle.merge_queue.specs.Groups.{size};
 ghost use Rattle.run_follows.specs.Settling.{AreAllWhole, AreFates, HasTuples, IsOf, IsWhole, found_by};
 ghost use Rattle.run_follows.specs.Settled.{AllSettled, BioSettled, Blanked, Judged, LeftBy, MappedBack, OneSettled, ReadSettled, Settled, TupleBlanked, said_by};
+ghost use Rattle.stack_core.specs.Places.{HoldsFates, KeepsPlaces};
 
 use crate::kept::Fates;
 use bio_core::{Bio, Dir, Fate, Io, Why};
@@ -225,12 +226,9 @@ fn settle_one(
     requires within { bio.now.k + bio.now.count ≤ io.now.count }
     requires there { i < bio.now.count }
     requires ends { bio.now.lba + bio.now.count < 2 ^ 64 }
-    requires numbered { 1 ≤ bio.now.op }
-    requires starts { bio.now.op ≤ length kept.old.starts.items }
-    requires held { slice_index_or kept.old.starts.items (bio.now.op - 1) 0 + io.now.count ≤ length kept.old.held.items }
+    requires held { HoldsFates io.now bio.now kept.old }
     ensures pages { length pool.new ≡ length pool.old }
-    ensures starts { kept.new.starts.items ≡ kept.old.starts.items }
-    ensures held { length kept.new.held.items ≡ length kept.old.held.items }
+    ensures places { KeepsPlaces kept.old kept.new }
     ensures settled { OneSettled mode ty io.now (slice_index_or kept.old.starts.items (bio.now.op - 1) 0) (bio.now.k + i) (bio.now.lba + i) fate
         (record { pages = pool.old; held = kept.old.held.items }) (record { pages = pool.new; held = kept.new.held.items }) }
 {
@@ -258,13 +256,10 @@ fn settle_bio(
     requires whole { IsWhole pool.old io.now }
     requires within { bio.now.k + bio.now.count ≤ io.now.count }
     requires ends { bio.now.lba + bio.now.count < 2 ^ 64 }
-    requires numbered { 1 ≤ bio.now.op }
-    requires starts { bio.now.op ≤ length kept.old.starts.items }
-    requires held { slice_index_or kept.old.starts.items (bio.now.op - 1) 0 + io.now.count ≤ length kept.old.held.items }
+    requires held { HoldsFates io.now bio.now kept.old }
     requires fates { at + bio.now.count ≤ length fates.now }
     ensures pages { length pool.new ≡ length pool.old }
-    ensures starts { kept.new.starts.items ≡ kept.old.starts.items }
-    ensures held { length kept.new.held.items ≡ length kept.old.held.items }
+    ensures places { KeepsPlaces kept.old kept.new }
     ensures settled { BioSettled mode ty io.now (slice_index_or kept.old.starts.items (bio.now.op - 1) 0) bio.now fates.now at bio.now.count
         (record { pages = pool.old; held = kept.old.held.items }) (record { pages = pool.new; held = kept.new.held.items }) }
 {

@@ -15,15 +15,12 @@ ghost use Rattle.stack_core.specs.Doing.{CanDo, CanReach, HasBlocks};
 ghost use Rattle.stack_core.specs.Walking.{Enters, IsChosen, IsKnown, LeavesOwn, NoneFailed, WalksOn, is_medium, units_left};
 ghost use Rattle.dix_base.specs.Told.{Calm};
 ghost use Rattle.rig_api.specs.Telling.{block_at, changed, frame_size, unit_at, with_block};
-ghost use Rattle.rig_api.specs.State.{KeepsRecords, Stays as RigStays};
+ghost use Rattle.rig_api.specs.State.{Stays as RigStays};
 ghost use Rattle.target_answer.specs.Target.{Stored};
 ghost use Rattle.stack_core.specs.Mediums.{Counts, Spoils, medium_replies};
-ghost use Rattle.std.specs.List.{list_any};
-ghost use Rattle.answered_record.specs.Answered.{PutsAnswers};
-ghost use Rattle.run_follows.specs.Overwrites.{is_overwrite};
 ghost use Rattle.stack_core.specs.OnRecord.{Carries, SendsOn, Traces};
 ghost use Rattle.stack_core.specs.Stacks.{GoesOn, HasStep, IsStack, Stays, Steps, plan_in};
-ghost use Rattle.stack_core.specs.Going.{FailsCounted, SettlesNone, StandsOver, Went};
+ghost use Rattle.stack_core.specs.Going.{AdmitsOver, FailsCounted, SettlesNone, StandsOver, Went};
 
 use crate::kept::{Fates, Room, reply_of, shown};
 use crate::pages::{fill, put};
@@ -180,9 +177,7 @@ impl Stack {
         ensures step { (cut : ℕ) → Does (plan_in self.old.sheet) self.old.machine (Admit q) cut self.new.machine }
         ensures walks { IsChosen self.old (Admit q) → Enters (R.state rig.old) (R.state rig.new) self.old self.new }
         ensures fails { FailsCounted self.old.replies.items self.new.replies.items (R.state rig.old).faults (R.state rig.new).faults }
-        ensures rig { RigStays (R.state rig.old) (R.state rig.new) }
-        ensures keeps { KeepsRecords (R.state rig.old) (R.state rig.new) }
-        ensures answered { list_any is_overwrite self.old.sheet.ops ≡ false → PutsAnswers (R.state rig.old) (R.state rig.new) }
+        ensures rig { AdmitsOver self.old.sheet.ops (R.state rig.old) (R.state rig.new) }
         ensures kept { self.new.kept ≡ self.old.kept }
     {
         let op = self.machine.admit(&self.sheet, q) as usize;

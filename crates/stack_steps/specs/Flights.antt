@@ -1,5 +1,8 @@
 -- The commands in flight, over their bios and fates.
 use Rattle.std.specs.Prelude.{◌≡◌, ◌<◌, ◌≤◌, ◌^◌, ℕ, zero, suc, ◌+◌, ◌-◌, ⊤, false, List, [], ◌∷◌, ◌++◌, length, take, drop}
+use Rattle.std.specs.Vec.{vec_capacity}
+use Rattle.std.specs.declared.alloc.Global.{Global}
+use Rattle.std.specs.declared.vec.Vec.{Vec}
 use Rattle.bio_core.specs.declared.bio.Bio.{Bio}
 use Rattle.bio_core.specs.declared.fate.Fate.{Fate}
 use Rattle.stack_view.specs.View.{Command}
@@ -35,6 +38,10 @@ pub record AreFlights (room : ℕ) (es : List Flight) (bs : List Bio) (fs : List
   pub few_bios : length bs ≤ room
   pub few_fates : length fs ≤ room
   pub small : room < 2 ^ 32
+
+-- The lists of all commands have room for as many.
+abbrev pub HaveRoom : ℕ → Vec Flight Global → Vec Bio Global → Vec Fate Global → Type 0
+HaveRoom room commands bios fates = (room ≤ vec_capacity commands) × ((room ≤ vec_capacity bios) × (room ≤ vec_capacity fates))
 
 -- the commands, where those from a place up to another begin this many bios and fates earlier
 abbrev pub earlier : (from to bios fates : ℕ) → List Flight → List Flight

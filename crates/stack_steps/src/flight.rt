@@ -85,16 +85,13 @@ pub struct InFlight {
 }
 
 impl Model for InFlight {
-    ghost use Rattle.std.specs.Prelude.{◌≤◌};
-    ghost use Rattle.std.specs.Vec.{vec_capacity};
-    ghost use Rattle.stack_steps.specs.Flights.{Flights, AreFlights, shown};
+    ghost use Rattle.stack_steps.specs.Flights.{AreFlights, Flights, HaveRoom, shown};
 
     ghost Value = { Flights };
 
     ghost view = { λ f. record { commands = shown f.commands.items f.bios.items f.fates.items; room = f.room } };
 
-    ghost invariant = { λ f. AreFlights f.room f.commands.items f.bios.items f.fates.items
-        × ((f.room ≤ vec_capacity f.commands) × ((f.room ≤ vec_capacity f.bios) × (f.room ≤ vec_capacity f.fates))) };
+    ghost invariant = { λ f. AreFlights f.room f.commands.items f.bios.items f.fates.items × HaveRoom f.room f.commands f.bios f.fates };
 }
 
 impl InFlight {

@@ -1,18 +1,17 @@
 //! Single moves, over the lists of a machine.
 
-ghost use Rattle.std.specs.Prelude.{◌≡◌, ◌<◌, ◌≤◌, ◌+◌, ◌^◌, true, eqb, if◌then◌else◌, length, map, set, slice_index_or, slice_set};
+ghost use Rattle.std.specs.Prelude.{◌≡◌, ◌<◌, ◌≤◌, ◌+◌, ◌^◌, true, length, map, set, slice_index_or, slice_set};
 ghost use Rattle.std.specs.List.{All, remove};
 ghost use Rattle.std.specs.Vec.{vec_capacity};
 ghost use Rattle.merge_queue.specs.Groups.{size, lba_of, put, put_all, joined, without, group_in};
 ghost use Rattle.merge_queue.specs.Index.{bios_in};
 ghost use Rattle.range_gate.specs.Gates.{may_admit, phase_at};
 ghost use Rattle.range_gate.specs.declared.phase.Phase.TheVariants.{Admitted, Ended};
-ghost use Rattle.stack_view.specs.Plan.{request_at};
 ghost use Rattle.stack_view.specs.Rests.{rests};
 ghost use Rattle.stack_steps.specs.State.{no_state};
 ghost use Rattle.stack_steps.specs.Parts.{Divides, Ends};
 ghost use Rattle.stack_steps.specs.Shows.{groups_of};
-ghost use Rattle.stack_steps.specs.Moves.{more_cut, no_queue, KeepRoom};
+ghost use Rattle.stack_steps.specs.Moves.{Adjoin, KeepRoom, live_entered, more_cut, phase_entered, queued_at};
 
 use crate::Requests;
 use crate::live::Live;
@@ -43,9 +42,9 @@ pub fn enter_op<P: Requests>(plan: &P, gate: &mut Gate, live: &mut Live, q: usiz
     requires op { slice_index_or live.old.items q 0 < length gate.old.phases }
     requires request { slice_index_or live.old.items q 0 < length (P.plan plan.now).requests }
     requires may { may_admit gate.old (slice_index_or live.old.items q 0) ≡ true }
-    ensures phases { gate.new.phases ≡ set gate.old.phases (slice_index_or live.old.items q 0) (if eqb (request_at (P.plan plan.now) (slice_index_or live.old.items q 0)).count 0 then Ended else Admitted) }
+    ensures phases { gate.new.phases ≡ set gate.old.phases (slice_index_or live.old.items q 0) (phase_entered (P.plan plan.now) (slice_index_or live.old.items q 0)) }
     ensures conflicts { gate.new.conflicts ≡ gate.old.conflicts }
-    ensures live { live.new.items ≡ (if eqb (request_at (P.plan plan.now) (slice_index_or live.old.items q 0)).count 0 then remove live.old.items q else live.old.items) }
+    ensures live { live.new.items ≡ live_entered (P.plan plan.now) live.old.items q }
 {
     let op = live.at(q);
     gate.admit(op + 1);
@@ -68,8 +67,8 @@ pub fn put_group(queues: &mut Vec<DeviceQueue>, d: usize, run: &[Bio])
     requires there { d < length queues.old.items }
     requires some { 0 < length run.now }
     requires ends { lba_of run.now + size run.now < 2 ^ 64 }
-    requires room { bios_in (slice_index_or queues.old.items d no_queue).groups + length run.now ≤ (slice_index_or queues.old.items d no_queue).room }
-    ensures groups { map groups_of queues.new.items ≡ slice_set (map groups_of queues.old.items) d (put run.now (slice_index_or queues.old.items d no_queue).groups) }
+    requires room { bios_in (queued_at queues.old.items d).groups + length run.now ≤ (queued_at queues.old.items d).room }
+    ensures groups { map groups_of queues.new.items ≡ slice_set (map groups_of queues.old.items) d (put run.now (queued_at queues.old.items d).groups) }
     ensures room { KeepRoom queues.old.items queues.new.items }
 {
     queues[d].put(run);
@@ -78,11 +77,11 @@ pub fn put_group(queues: &mut Vec<DeviceQueue>, d: usize, run: &[Bio])
 /// Joins two groups of a device.
 pub fn join_groups(queues: &mut Vec<DeviceQueue>, d: usize, i: u32, j: u32)
     requires there { d < length queues.old.items }
-    requires first { i < length (slice_index_or queues.old.items d no_queue).groups }
-    requires second { j < length (slice_index_or queues.old.items d no_queue).groups }
+    requires first { i < length (queued_at queues.old.items d).groups }
+    requires second { j < length (queued_at queues.old.items d).groups }
     requires other { i ≡ j → ⊥ }
-    requires behind { lba_of (group_in (slice_index_or queues.old.items d no_queue).groups i) + size (group_in (slice_index_or queues.old.items d no_queue).groups i) ≡ lba_of (group_in (slice_index_or queues.old.items d no_queue).groups j) }
-    ensures groups { map groups_of queues.new.items ≡ slice_set (map groups_of queues.old.items) d (joined (slice_index_or queues.old.items d no_queue).groups i j) }
+    requires behind { Adjoin (group_in (queued_at queues.old.items d).groups i) (group_in (queued_at queues.old.items d).groups j) }
+    ensures groups { map groups_of queues.new.items ≡ slice_set (map groups_of queues.old.items) d (joined (queued_at queues.old.items d).groups i j) }
     ensures room { KeepRoom queues.old.items queues.new.items }
 {
     queues[d].join(i, j);
@@ -91,11 +90,11 @@ pub fn join_groups(queues: &mut Vec<DeviceQueue>, d: usize, i: u32, j: u32)
 /// Takes a group out of the queue of a device.
 pub fn take_group(queues: &mut Vec<DeviceQueue>, d: usize, i: u32, into: &mut Vec<Bio>)
     requires there { d < length queues.old.items }
-    requires within { i < length (slice_index_or queues.old.items d no_queue).groups }
-    requires room { length (group_in (slice_index_or queues.old.items d no_queue).groups i) ≤ vec_capacity into.old }
-    ensures groups { map groups_of queues.new.items ≡ slice_set (map groups_of queues.old.items) d (without i (slice_index_or queues.old.items d no_queue).groups) }
+    requires within { i < length (queued_at queues.old.items d).groups }
+    requires room { length (group_in (queued_at queues.old.items d).groups i) ≤ vec_capacity into.old }
+    ensures groups { map groups_of queues.new.items ≡ slice_set (map groups_of queues.old.items) d (without i (queued_at queues.old.items d).groups) }
     ensures room { KeepRoom queues.old.items queues.new.items }
-    ensures into { into.new.items ≡ group_in (slice_index_or queues.old.items d no_queue).groups i }
+    ensures into { into.new.items ≡ group_in (queued_at queues.old.items d).groups i }
     ensures capacity { vec_capacity into.new ≡ vec_capacity into.old }
 {
     into.clear();
@@ -116,8 +115,8 @@ pub fn put_back<P: Requests>(
     requires divide { All (Divides (P.plan plan.now)) bios.now }
     requires scratch { length bios.now ≤ vec_capacity scratch.old }
     requires ends { All Ends (rests (P.plan plan.now) bios.now fates.now) }
-    requires room { bios_in (put_all (rests (P.plan plan.now) bios.now fates.now) (slice_index_or queues.old.items d no_queue).groups) ≤ (slice_index_or queues.old.items d no_queue).room }
-    ensures groups { map groups_of queues.new.items ≡ slice_set (map groups_of queues.old.items) d (put_all (rests (P.plan plan.now) bios.now fates.now) (slice_index_or queues.old.items d no_queue).groups) }
+    requires room { bios_in (put_all (rests (P.plan plan.now) bios.now fates.now) (queued_at queues.old.items d).groups) ≤ (queued_at queues.old.items d).room }
+    ensures groups { map groups_of queues.new.items ≡ slice_set (map groups_of queues.old.items) d (put_all (rests (P.plan plan.now) bios.now fates.now) (queued_at queues.old.items d).groups) }
     ensures room { KeepRoom queues.old.items queues.new.items }
     ensures capacity { vec_capacity scratch.new ≡ vec_capacity scratch.old }
 {

@@ -8,7 +8,7 @@ ghost use Rattle.stack_view.specs.Pieces.{part};
 ghost use Rattle.stack_view.specs.Rests.{front, behind, rests};
 ghost use Rattle.merge_queue.specs.Groups.{put, put_all};
 ghost use Rattle.merge_queue.specs.Index.{bios_in};
-ghost use Rattle.stack_steps.specs.Parts.{Divides, Ends, last_part, untouched_front, rests_from};
+ghost use Rattle.stack_steps.specs.Parts.{CanGoBack, Divides, Ends, WentBack, last_part, untouched_front};
 
 use crate::Requests;
 use bio_core::{Bio, Fate};
@@ -171,13 +171,10 @@ fn put_next<P: Requests>(
     requires few { length fates.now < 2 ^ 32 }
     requires divide { All (Divides (P.plan plan.now)) bios.now }
     requires scratch { length bios.now ≤ vec_capacity scratch.old }
-    requires ends { All Ends (rests_from (P.plan plan.now) bios.now at fates.now) }
-    requires room { bios_in (put_all (rests_from (P.plan plan.now) bios.now at fates.now) queue.old.groups) ≤ queue.old.room }
+    requires can { CanGoBack (P.plan plan.now) bios.now fates.now at queue.old }
     ensures later { at < result }
     ensures within { result ≤ length fates.now }
-    ensures ends { All Ends (rests_from (P.plan plan.now) bios.now result fates.now) }
-    ensures groups { put_all (rests_from (P.plan plan.now) bios.now result fates.now) queue.new.groups ≡ put_all (rests_from (P.plan plan.now) bios.now at fates.now) queue.old.groups }
-    ensures room { queue.new.room ≡ queue.old.room }
+    ensures went { WentBack (P.plan plan.now) bios.now fates.now at result queue.old queue.new }
     ensures capacity { vec_capacity scratch.new ≡ vec_capacity scratch.old }
 {
     let n = count_untouched(fates, at);

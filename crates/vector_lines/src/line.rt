@@ -112,10 +112,9 @@ fn take_out(alloc: Global, words: &mut Words) -> Result<ByteList, ScriptKind>
 {
     match words.next() {
         None => Err(ScriptKind::MissingWord),
-        Some(word) => match out_in(alloc, word) {
-            Ok(Some(bytes)) => Ok(ByteList::from_vec(bytes)),
-            Ok(None) => Err(ScriptKind::BadNumber),
-            Err(_) => Err(ScriptKind::Memory),
+        Some(word) => match out_in(alloc, word)? {
+            Some(bytes) => Ok(ByteList::from_vec(bytes)),
+            None => Err(ScriptKind::BadNumber),
         },
     }
 }

@@ -12,10 +12,10 @@ use Rattle.small_laws.proofs.Results.{on_err}
 pub frame_len-len-requires : goal.frame_len-len-requires
 frame_len-len-requires g c = c.requires.base.sound
 
-pub returns-in_default-clause-part : goal.returns-in_default-clause-part
-returns-in_default-clause-part g c =
+pub returns-in_err-opened-clause-part : goal.returns-in_err-opened-clause-part
+returns-in_err-opened-clause-part g c =
     let all = rows_at (swept_in c.args.base.now) c.args.site in
-    stops all all _ _ _ (at_start all (g.O.Sink.taken c.args.out.now)) refl
+    on_err c.from_residual.result (stops all all _ _ _ (at_start all (g.O.Sink.taken c.args.out.now)) refl)
 
 pub with-counted-requires : goal.with-counted-requires
 with-counted-requires g c = small_less c.args.counts (c.args.base.now.script.now.block + 8) 1 (omega arith) c.requires.small
@@ -24,30 +24,30 @@ pub loop-current-init : goal.loop-current-init
 loop-current-init g c =
     let w = swept_in c.args.base.now in
     let at = c.args.site in
-    let s = c.in-Ok.opened in
+    let s = c.in_ok-opened.opened in
     let taken = g.O.Sink.taken c.args.out.now in
-    let none : s.last ≡ 0 = ap (λ (x : Stretch). x.last) c.in-Ok.ensures in
+    let none : s.last ≡ 0 = ap (λ (x : Stretch). x.last) c.in_ok-opened.ensures in
     record {
-      rows = subst (λ t. Left (rows_at w at) t taken taken) (rows_first w at s c.in-Ok.ensures) (at_start (rows_at w at) taken);
-      counted = counted_first w at s c.args.counts c.with-counted.result c.in-Ok.ensures c.with-counted.ensures;
-      small = small_first w at s c.args.counts c.with-counted.result c.in-Ok.ensures c.with-counted.ensures c.requires.small;
+      rows = subst (λ t. Left (rows_at w at) t taken taken) (rows_first w at s c.in_ok-opened.ensures) (at_start (rows_at w at) taken);
+      counted = counted_first w at s c.args.counts c.with-counted.result c.in_ok-opened.ensures c.with-counted.ensures;
+      small = small_first w at s c.args.counts c.with-counted.result c.in_ok-opened.ensures c.with-counted.ensures c.requires.small;
       within = omega (arith, none);
       count = omega arith;
     }
 
-pub returns-in_default-verdict_at-clause-part : goal.returns-in_default-verdict_at-clause-part
-returns-in_default-verdict_at-clause-part g c =
+pub returns-in_err-verdict-clause-part : goal.returns-in_err-verdict-clause-part
+returns-in_err-verdict-clause-part g c =
     let w = swept_in c.args.base.now in
-    stops (rows_at w c.args.site) (open_rows w c.args.site c.loop-current.current) _ _ _ c.loop-current.invariant.rows refl
+    on_err c.from_residual-in_err-verdict.result (stops (rows_at w c.args.site) (open_rows w c.args.site c.loop-current.current) _ _ _ c.loop-current.invariant.rows refl)
 
 pub returns-in_err-next-clause-part : goal.returns-in_err-next-clause-part
 returns-in_err-next-clause-part g c =
     let w = swept_in c.args.base.now in
     let at = c.args.site in
     let s = c.loop-current.current in
-    let v = c.in-Ok-verdict_at.verdict in
-    on_err c.from_residual.result (breaks_off (rows_at w at) (row_before at s v) (open_rows w at (next_open s v)) _ _ _
-    (subst (λ t. Left (rows_at w at) t (g.O.Sink.taken c.args.out.now) (g.O.Sink.taken c.loop-current.out)) (rows_next w at s (next_open s v) v c.in-Ok-verdict_at.ensures (omega (arith, c.loop-current-test.true, c.frame_len-len.ensures.len)) refl) c.loop-current.invariant.rows)
+    let v = c.in_ok-verdict.verdict in
+    on_err c.from_residual-in_err-next.result (breaks_off (rows_at w at) (row_before at s v) (open_rows w at (next_open s v)) _ _ _
+    (subst (λ t. Left (rows_at w at) t (g.O.Sink.taken c.args.out.now) (g.O.Sink.taken c.loop-current.out)) (rows_next w at s (next_open s v) v c.in_ok-verdict.ensures (omega (arith, c.loop-current-test.true, c.frame_len-len.ensures.len)) refl) c.loop-current.invariant.rows)
     c.in_err-next.ensures.part)
 
 pub with-more-requires : goal.with-more-requires
@@ -60,13 +60,13 @@ loop-current-preserved g c =
     let at = c.args.site in
     let s = c.loop-current.current in
     let next = c.in_ok-next.next in
-    let v = c.in-Ok-verdict_at.verdict in
+    let v = c.in_ok-verdict.verdict in
     let inv = c.loop-current.invariant in
     let l : s.last + 1 < w.script.block + 8 = omega (arith, c.loop-current-test.true, c.frame_len-len.ensures.len) in
     record {
       rows = goes_on (rows_at w at) (row_before at s v) (open_rows w at next) _ _ _
-          (subst (λ t. Left (rows_at w at) t (g.O.Sink.taken c.args.out.now) (g.O.Sink.taken c.loop-current.out)) (rows_next w at s next v c.in-Ok-verdict_at.ensures l c.in_ok-next.ensures.current) inv.rows) c.in_ok-next.ensures.whole;
-      counted = counted_next w at s next v c.loop-current.counted c.with-more.result _ c.in-Ok-verdict_at.ensures l c.in_ok-next.ensures.current c.with-more.ensures inv.counted;
+          (subst (λ t. Left (rows_at w at) t (g.O.Sink.taken c.args.out.now) (g.O.Sink.taken c.loop-current.out)) (rows_next w at s next v c.in_ok-verdict.ensures l c.in_ok-next.ensures.current) inv.rows) c.in_ok-next.ensures.whole;
+      counted = counted_next w at s next v c.loop-current.counted c.with-more.result _ c.in_ok-verdict.ensures l c.in_ok-next.ensures.current c.with-more.ensures inv.counted;
       small = small_on w s next v c.loop-current.counted c.with-more.result l c.in_ok-next.ensures.current c.with-more.ensures inv.small;
       within = omega (arith, last_on w s next v l c.in_ok-next.ensures.current, l);
       count = omega (arith, c.go_on.ensures.count, inv.count);
@@ -81,7 +81,7 @@ loop-current-smaller g c =
     let s = c.loop-current.current in
     let next = c.in_ok-next.next in
     let l : s.last + 1 < w.script.block + 8 = omega (arith, c.loop-current-test.true, c.frame_len-len.ensures.len) in
-    less_left (w.script.block + 8) s.last next.last (last_on w s next c.in-Ok-verdict_at.verdict l c.in_ok-next.ensures.current) l
+    less_left (w.script.block + 8) s.last next.last (last_on w s next c.in_ok-verdict.verdict l c.in_ok-next.ensures.current) l
 
 pub returns-in_err-write_row-clause-part : goal.returns-in_err-write_row-clause-part
 returns-in_err-write_row-clause-part g c =

@@ -25,8 +25,8 @@ loop-bio-preserved c =
     let l : (get_or bios i no_bio).op - 1 < length ios = omega arith in
     record {
       pages = c.settle_bio.ensures.pages ∙ v.pages;
-      kept = fates_stay ios c.loop-bio.kept.starts.items c.settle_bio.new.kept.starts.items c.loop-bio.kept.held.items c.settle_bio.new.kept.held.items c.settle_bio.ensures.starts c.settle_bio.ensures.held v.kept;
-      starts = c.settle_bio.ensures.starts ∙ v.starts;
+      kept = fates_stay ios c.loop-bio.kept.starts.items c.settle_bio.new.kept.starts.items c.loop-bio.kept.held.items c.settle_bio.new.kept.held.items c.settle_bio.ensures.places.starts c.settle_bio.ensures.places.held v.kept;
+      starts = c.settle_bio.ensures.places.starts ∙ v.starts;
       at = omega (arith, size-more bios i no_bio c.loop-bio-test.true);
       rest = omega (arith, at_drop_more size bios i no_bio c.loop-bio-test.true);
       settled = bio-more c.args.mode c.args.ty ios c.args.kept.now.starts.items c.loop-bio.kept.starts.items bios c.args.fates.now c.loop-bio.at i no_bio c.index-ios-bio.result _ _ _ v.starts c.loop-bio-test.true l c.index-ios-bio.is v.at v.settled c.settle_bio.ensures.settled;

@@ -160,18 +160,27 @@ returns-clause-fails g c =
           (set_rises replies c.admit-op.result c.do_op-done.result o.faults o'.faults c.do_op-done.ensures.stays.count (λ calm e. false≢true (sym (c.do_op-done.ensures.silent calm) ∙ ap is_medium e)) n first h);
     }
 
-pub returns-clause-keeps : goal.returns-clause-keeps
-returns-clause-keeps g c = record { log = c.do_op-done.ensures.log; room = c.do_op-done.ensures.room; armed = c.do_op-done.ensures.stays.armed; count = c.do_op-done.ensures.stays.count }
+pub returns-then-io-gt0-clause-rig : goal.returns-then-io-gt0-clause-rig
+returns-then-io-gt0-clause-rig g c =
+    let rig = g.R.Rig.state c.args.rig.now in
+    record {
+      stays = record { tells = refl; standing = refl; armed = refl; count = omega arith };
+      keeps = record { log = refl; room = refl; armed = refl; count = omega arith };
+      answered = λ none. puts_nothing rig rig refl refl refl refl;
+    }
 
-pub returns-then-io-gt0-clause-answered : goal.returns-then-io-gt0-clause-answered
-returns-then-io-gt0-clause-answered g c = λ none. puts_nothing (g.R.Rig.state c.args.rig.now) (g.R.Rig.state c.args.rig.now) refl refl refl refl
-
-pub returns-clause-answered : goal.returns-clause-answered
-returns-clause-answered g c = λ none us told armed calm.
-    (let old = g.R.Rig.state c.args.rig.now in
-    let new = g.R.Rig.state c.do_op-done.new.rig in (
-      answers_nothing us old new c.do_op-done.ensures.log
-          (op_leaves c.args.self.now.sheet.ops c.admit-op.result _ us c.do_op-done.result new.units none c.op.ensures (c.do_op-done.ensures.left us told)),
-      c.do_op-done.ensures.stays.standing,
-      c.do_op-done.ensures.stays.armed,
-    ))
+pub returns-clause-rig : goal.returns-clause-rig
+returns-clause-rig g c =
+    let old = g.R.Rig.state c.args.rig.now in
+    let new = g.R.Rig.state c.do_op-done.new.rig in
+    let stays = c.do_op-done.ensures.stays in
+    record {
+      stays = stays;
+      keeps = record { log = c.do_op-done.ensures.log; room = c.do_op-done.ensures.room; armed = stays.armed; count = stays.count };
+      answered = λ none us told armed calm. (
+        answers_nothing us old new c.do_op-done.ensures.log
+            (op_leaves c.args.self.now.sheet.ops c.admit-op.result _ us c.do_op-done.result new.units none c.op.ensures (c.do_op-done.ensures.left us told)),
+        stays.standing,
+        stays.armed,
+      );
+    }

@@ -144,7 +144,7 @@ admit-requires-clause-ready g c =
 pub returns-in-Admit-clause-stands : goal.returns-in-Admit-clause-stands
 returns-in-Admit-clause-stands g c =
     let h : Chooses (plan_in c.args.self.now.sheet) c.args.self.now.machine c.args.word (Admit c.in-Admit.q) = rw c.in-Admit.is at c.choose-choice.ensures in
-    stands-left c.args.self.now c.admit.new.self c.args.word c.args.cut (Admit c.in-Admit.q) (g.R.Rig.state c.args.rig.now) (g.R.Rig.state c.admit.new.rig) tt c.requires.stands c.requires.some h (c.admit.ensures.step c.args.cut) c.admit.ensures.stack c.admit.ensures.stays.sheet c.admit.ensures.rig.standing c.admit.ensures.keeps.room c.admit.ensures.rig.tells
+    stands-left c.args.self.now c.admit.new.self c.args.word c.args.cut (Admit c.in-Admit.q) (g.R.Rig.state c.args.rig.now) (g.R.Rig.state c.admit.new.rig) tt c.requires.stands c.requires.some h (c.admit.ensures.step c.args.cut) c.admit.ensures.stack c.admit.ensures.stays.sheet c.admit.ensures.rig.stays.standing c.admit.ensures.rig.keeps.room c.admit.ensures.rig.stays.tells
 
 pub returns-in-Admit-clause-step : goal.returns-in-Admit-clause-step
 returns-in-Admit-clause-step g c =
@@ -153,20 +153,20 @@ returns-in-Admit-clause-step g c =
 
 pub returns-in-Admit-clause-goes : goal.returns-in-Admit-clause-goes
 returns-in-Admit-clause-goes g c =
-    goes-as-before (g.R.Rig.state c.args.rig.now) (g.R.Rig.state c.admit.new.rig) c.admit.ensures.rig.standing c.admit.ensures.keeps.log c.admit.ensures.rig.count
+    goes-as-before (g.R.Rig.state c.args.rig.now) (g.R.Rig.state c.admit.new.rig) c.admit.ensures.rig.stays.standing c.admit.ensures.rig.keeps.log c.admit.ensures.rig.stays.count
 
 pub returns-in-Admit-clause-went : goal.returns-in-Admit-clause-went
 returns-in-Admit-clause-went g c =
     let h : Chooses (plan_in c.args.self.now.sheet) c.args.self.now.machine c.args.word (Admit c.in-Admit.q) = rw c.in-Admit.is at c.choose-choice.ensures in
     let a = c.args.rig.now in
-    went-entered c.args.self.now c.admit.new.self (g.R.Rig.state c.args.rig.now) (g.R.Rig.state c.admit.new.rig) c.requires.stands.stack c.admit.ensures.stays (c.admit.ensures.walks (c.args.word, h, c.requires.some)) c.admit.ensures.rig c.admit.ensures.keeps.log (g.met.R.Rig.laid a) (g.met.R.Rig.ready a) c.admit.ensures.fails.silent
-    (still_counts c.args.self.now c.admit.new.self c.args.word c.args.cut (g.R.Rig.state c.args.rig.now).faults (g.R.Rig.state c.admit.new.rig).faults (Admit c.in-Admit.q) tt tt c.admit.ensures.stays h c.requires.some (c.admit.ensures.step c.args.cut) c.admit.ensures.kept c.admit.ensures.rig.count c.admit.ensures.fails.counts)
-    c.admit.ensures.answered
+    went-entered c.args.self.now c.admit.new.self (g.R.Rig.state c.args.rig.now) (g.R.Rig.state c.admit.new.rig) c.requires.stands.stack c.admit.ensures.stays (c.admit.ensures.walks (c.args.word, h, c.requires.some)) c.admit.ensures.rig.stays c.admit.ensures.rig.keeps.log (g.met.R.Rig.laid a) (g.met.R.Rig.ready a) c.admit.ensures.fails.silent
+    (still_counts c.args.self.now c.admit.new.self c.args.word c.args.cut (g.R.Rig.state c.args.rig.now).faults (g.R.Rig.state c.admit.new.rig).faults (Admit c.in-Admit.q) tt tt c.admit.ensures.stays h c.requires.some (c.admit.ensures.step c.args.cut) c.admit.ensures.kept c.admit.ensures.rig.stays.count c.admit.ensures.fails.counts)
+    c.admit.ensures.rig.answered
 
 pub returns-in-Admit-clause-sends : goal.returns-in-Admit-clause-sends
 returns-in-Admit-clause-sends g c =
     let h : Chooses (plan_in c.args.self.now.sheet) c.args.self.now.machine c.args.word (Admit c.in-Admit.q) = rw c.in-Admit.is at c.choose-choice.ensures in
-    subst (SendsOn c.args.word c.args.cut c.args.self.now c.admit.new.self (g.R.Rig.state c.args.rig.now).log) (sym c.admit.ensures.keeps.log)
+    subst (SendsOn c.args.word c.args.cut c.args.self.now c.admit.new.self (g.R.Rig.state c.args.rig.now).log) (sym c.admit.ensures.rig.keeps.log)
     (still_sends c.args.self.now c.admit.new.self c.args.word c.args.cut (Admit c.in-Admit.q) (g.R.Rig.state c.args.rig.now).log tt tt c.admit.ensures.stays h c.requires.some (c.admit.ensures.step c.args.cut) c.admit.ensures.kept)
 
 pub send-requires-clause-ready : goal.send-requires-clause-ready
