@@ -1,9 +1,9 @@
 //! A group carried again and again.
 
-ghost use Rattle.std.specs.Prelude.{◌≡◌, ◌≤◌, ◌<◌, ℕ};
+ghost use Rattle.std.specs.Prelude.{◌≡◌, ◌≤◌, ◌<◌};
 ghost use Rattle.std.specs.Vec.{vec_capacity};
-ghost use Rattle.dix_adapter.specs.Groups.{IsGroup, IsProtect, block_len, first_of, size};
-ghost use Rattle.dix_adapter.specs.Room.{HoldsBlocks};
+ghost use Rattle.dix_adapter.specs.Groups.{IsProtect, first_of, size};
+ghost use Rattle.bench_calls.specs.Rounds.{IsRound};
 
 use crate::exchanges::{DEVICE, DONE};
 use crate::groups::{adapter, good_of, list, payload, tuples};
@@ -97,15 +97,11 @@ fn carry(
     fates: &mut Vec<Fate>,
     count: u32,
 )
-    requires protect { IsProtect adapter.now.protect }
-    requires group { (bytes : ℕ) × IsGroup adapter.now pool.old bytes ios.now req.now }
+    requires round { IsRound adapter.now pool.old ios.now req.now scratch.old (vec_capacity fates.old) }
     requires count { count ≡ size req.now }
     requires few { count ≤ 1024 }
-    requires scratch { HoldsBlocks (block_len ios.now req.now) (size req.now) scratch.old }
-    requires fates { size req.now ≤ vec_capacity fates.old }
     requires device { (first_of req.now).dev < (⟦<AnswerRig as Rig>⟧.state rig.old).standing.devices }
-    ensures group { (bytes : ℕ) × IsGroup adapter.now pool.new bytes ios.now req.now }
-    ensures scratch { HoldsBlocks (block_len ios.now req.now) (size req.now) scratch.new }
+    ensures round { IsRound adapter.now pool.new ios.now req.now scratch.new (vec_capacity fates.new) }
     ensures capacity { vec_capacity fates.new ≡ vec_capacity fates.old }
     ensures standing { (⟦<AnswerRig as Rig>⟧.state rig.new).standing ≡ (⟦<AnswerRig as Rig>⟧.state rig.old).standing }
 {

@@ -144,7 +144,8 @@ impl Route {
         requires lba { self.now.lba < 2 ^ 63 }
         requires protect { 0 < self.now.mode.protect }
         requires frame { length frame.old ≡ self.now.size + 8 }
-        ensures judged { ended result (take (host_size self.now) frame.new) ≡ delivered_of (way_in tamper.now (target tamper.now) self.now owner (take (stored_size self.now.ty self.now.size) frame.old)) }
+        ensures judged { ended result (take (host_size self.now) frame.new)
+            ≡ delivered_of (way_in tamper.now (target tamper.now) self.now owner (take (stored_size self.now.ty self.now.size) frame.old)) }
         ensures length { length frame.new ≡ length frame.old }
     {
         let stored = self.stored_size();

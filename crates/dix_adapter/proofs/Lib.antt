@@ -6,6 +6,7 @@ pub mod Gathering
 pub mod Grouping
 pub mod Judged
 pub mod Landing
+pub mod OnTheWay
 pub mod Puts
 pub mod Asking
 pub mod GoingOut

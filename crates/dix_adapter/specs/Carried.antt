@@ -50,6 +50,10 @@ abbrev pub any_bad : List (Result (List ℕ) Check) → Bool
 any_bad [] = false
 any_bad (r ∷ rs) = is_bad r || any_bad rs
 
+-- the adapter finds a block of a write bad
+abbrev pub is_bad_write : Adapter → List Io → List Bio → (cells : List ℕ) → Bool
+is_bad_write a ios req cells = any_bad (map (sends a ios cells) (blocks_in req))
+
 -- where a block is bad, it fails and the others are untouched
 abbrev pub unsent : Result (List ℕ) Check → Fate
 unsent (Ok frame) = Untouched

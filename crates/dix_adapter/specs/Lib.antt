@@ -5,3 +5,5 @@ pub mod Outcomes
 pub mod Walking
 pub mod Carried
 pub mod Ways
+pub mod OnTheWay
+pub mod Carrying

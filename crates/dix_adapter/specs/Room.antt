@@ -13,3 +13,8 @@ pub record HoldsBlocks (bytes count : ℕ) (s : Scratch) : Type 0 where
 pub record KeepsRoom (old new : Scratch) : Type 0 where
   pub frames : length new.frames.items ≡ length old.frames.items
   pub labels : vec_capacity new.labels ≡ vec_capacity old.labels
+
+-- it is as it was, and still serves so many blocks
+pub record KeepsScratch (bytes count : ℕ) (old new : Scratch) : Type 0 where
+  pub holds : HoldsBlocks bytes count new
+  pub room : KeepsRoom old new

@@ -100,9 +100,12 @@ pub record IsBehind (a : Adapter) (ios : List Io) (req : List Bio) (us : List St
   pub ty : (unit_at us (first_of req).dev).ty ≡ a.ty
   pub bytes : (unit_at us (first_of req).dev).size ≡ block_size (request_of ios (first_of req).op)
   pub armed : lines ≡ a.tamper
-  pub alike : All (λ b. (shift_of a.tamper AdapterToTarget b.op ≡ shift_of a.tamper AdapterToTarget (first_of req).op) × (shift_of a.tamper MediumToTarget b.op ≡ shift_of a.tamper MediumToTarget (first_of req).op)) req
+  pub alike : All (λ b. (shift_of a.tamper AdapterToTarget b.op ≡ shift_of a.tamper AdapterToTarget (first_of req).op)
+      × (shift_of a.tamper MediumToTarget b.op ≡ shift_of a.tamper MediumToTarget (first_of req).op)) req
   pub sent : has_blocks (shape_of (unit_at us (first_of req).dev)) (pos (first_of req).lba +ℤ shift_of a.tamper AdapterToTarget (first_of req).op) (size req) ≡ true
-  pub fetched : (first_of req).dir ≡ Read → has_blocks (shape_of (unit_at us (first_of req).dev)) ((pos (first_of req).lba +ℤ shift_of a.tamper AdapterToTarget (first_of req).op) +ℤ shift_of a.tamper MediumToTarget (first_of req).op) (size req) ≡ true
+  pub fetched : (first_of req).dir ≡ Read
+      → has_blocks (shape_of (unit_at us (first_of req).dev))
+      ((pos (first_of req).lba +ℤ shift_of a.tamper AdapterToTarget (first_of req).op) +ℤ shift_of a.tamper MediumToTarget (first_of req).op) (size req) ≡ true
 
 -- No store call failed where the count of faults stayed; where it rose one may have failed, at some block.
 abbrev pub UpTo : (Option Stop → Type 0) → (frame : ℕ) → (faults faults' : ℕ) → Type 0
@@ -197,7 +200,8 @@ pub record CameIn (a : Adapter) (ios : List Io) (req : List Bio) (pool pool' : L
   pub fates_are : fates ≡ fates_of_in (stopped_in stop (ways_in a ios (shapes_of us) (blocks_told us) (blocks_in req)))
   pub told : new.units ≡ Some us
   pub cells : (kept : Block → ℕ) (now : State) → now.bytes ≡ flat pool → now.blocks ≡ blocks_told us →
-      flat pool' ≡ (plain act (take (length (frames_in (stopped_in stop (ways_in a ios (shapes_of us) (blocks_told us) (blocks_in req))))) (acts_in a ios (shapes_of us) kept (blocks_in req))) now).bytes
+      flat pool' ≡ (plain act (take (length (frames_in (stopped_in stop (ways_in a ios (shapes_of us) (blocks_told us) (blocks_in req)))))
+      (acts_in a ios (shapes_of us) kept (blocks_in req))) now).bytes
   pub entry : Entry
   pub recorded : new.log ≡ old.log ++ (entry ∷ [])
   pub done : entry.what.outcome.done ≡ length (frames_in (stopped_in stop (ways_in a ios (shapes_of us) (blocks_told us) (blocks_in req))))

@@ -1,18 +1,17 @@
 //! The adapter.
 
-ghost use Rattle.std.specs.Prelude.{◌≡◌, ◌<◌, ◌≤◌, ◌+◌, ◌^◌, ℕ, List, true, false, Some, length, map};
+ghost use Rattle.std.specs.Prelude.{◌≡◌, ◌<◌, ◌+◌, ◌^◌, true, false, length};
 ghost use Rattle.std.specs.Vec.{vec_capacity};
 ghost use Rattle.page_pool.specs.Cells.{flat};
 ghost use Rattle.bio_core.specs.declared.request.Dir.TheVariants.{Read, Write};
-ghost use Rattle.rig_api.specs.Log.{HasRoom};
 ghost use Rattle.bio_core.specs.Bios.{block_size};
 ghost use Rattle.rig_api.specs.State.{Stays};
-ghost use Rattle.rig_api.specs.Telling.{frame_size, greatest_size, spec_at, unit_at};
-ghost use Rattle.target_answer.specs.Target.{Stored};
-ghost use Rattle.dix_adapter.specs.Ways.{CameIn, IsBehind, RecordedIn, RecordedOut, Spends, UpTo, WentOut, any_settled};
-ghost use Rattle.dix_adapter.specs.Carried.{Fetched, Sent, Unsent, any_bad, sends};
-ghost use Rattle.dix_adapter.specs.Groups.{EndsInTime, IsGroup, IsProtect, block_len, blocks_in, first_of, mode_of, request_of, route_by, size};
-ghost use Rattle.dix_adapter.specs.Room.{HoldsBlocks, KeepsRoom};
+ghost use Rattle.rig_api.specs.Telling.{greatest_size};
+ghost use Rattle.dix_adapter.specs.Ways.{Spends};
+ghost use Rattle.dix_adapter.specs.Carried.{Unsent, is_bad_write};
+ghost use Rattle.dix_adapter.specs.Carrying.{CanCarry, HasCarriedIn, HasCarriedOut, HasSettled};
+ghost use Rattle.dix_adapter.specs.Groups.{EndsInTime, block_len, first_of, mode_of, route_by, size};
+ghost use Rattle.dix_adapter.specs.Room.{KeepsScratch};
 
 use crate::Mode;
 use crate::scratch::Scratch;
@@ -96,38 +95,17 @@ impl Adapter {
         scratch: &mut Scratch,
         fates: &mut Vec<Fate>,
     )
-        requires protect { IsProtect self.now.protect }
-        requires group { (bytes : ℕ) × IsGroup self.now pool.old bytes ios.now req.now }
-        requires scratch { HoldsBlocks (block_len ios.now req.now) (size req.now) scratch.old }
-        requires fates { size req.now ≤ vec_capacity fates.old }
-        requires device { (first_of req.now).dev < (R.state rig.old).standing.devices }
-        requires spare { HasRoom (greatest_size (R.state rig.old).standing) 1 (size req.now) (R.state rig.old).room }
-        ensures unsent { (first_of req.now).dir ≡ Write → any_bad (map (sends self.now ios.now (flat pool.old)) (blocks_in req.now)) ≡ true
+        requires can { CanCarry self.now pool.old ios.now req.now scratch.old (vec_capacity fates.old) (R.state rig.old) }
+        ensures unsent { (first_of req.now).dir ≡ Write → is_bad_write self.now ios.now req.now (flat pool.old) ≡ true
             → Unsent self.now ios.now req.now pool.old pool.new fates.new.items × (rig.new ≡ rig.old) }
-        ensures sent { (first_of req.now).dir ≡ Write → any_bad (map (sends self.now ios.now (flat pool.old)) (blocks_in req.now)) ≡ false
-            → Sent self.now ios.now req.now pool.old pool.new fates.new.items (R.state rig.old) (R.state rig.new) }
-        ensures fetched { (first_of req.now).dir ≡ Read
-            → Fetched self.now ios.now req.now pool.old pool.new fates.new.items (R.state rig.old) (R.state rig.new) }
-        ensures recorded_out { (spec_at (R.state rig.old).standing (first_of req.now).dev).size ≡ block_size (request_of ios.now (first_of req.now).op)
-            → (first_of req.now).dir ≡ Write → any_bad (map (sends self.now ios.now (flat pool.old)) (blocks_in req.now)) ≡ false
-            → RecordedOut self.now ios.now req.now (flat pool.old) fates.new.items (R.state rig.old) (R.state rig.new) }
-        ensures recorded_in { (spec_at (R.state rig.old).standing (first_of req.now).dev).size ≡ block_size (request_of ios.now (first_of req.now).op)
-            → (first_of req.now).dir ≡ Read
-            → RecordedIn self.now ios.now req.now pool.old pool.new fates.new.items (R.state rig.old) (R.state rig.new) }
-        ensures settles { any_settled fates.new.items ≡ true }
-        ensures count { length fates.new.items ≡ size req.now }
-        ensures went_out { (us : List Stored) → (R.state rig.old).units ≡ Some us → IsBehind self.now ios.now req.now us (R.state rig.old).armed
-            → (first_of req.now).dir ≡ Write → any_bad (map (sends self.now ios.now (flat pool.old)) (blocks_in req.now)) ≡ false
-            → UpTo (λ stop. WentOut self.now ios.now req.now (flat pool.old) us stop fates.new.items (R.state rig.old) (R.state rig.new))
-            (frame_size (unit_at us (first_of req.now).dev)) (R.state rig.old).faults (R.state rig.new).faults }
-        ensures came_in { (us : List Stored) → (R.state rig.old).units ≡ Some us → IsBehind self.now ios.now req.now us (R.state rig.old).armed
-            → (first_of req.now).dir ≡ Read
-            → UpTo (λ stop. CameIn self.now ios.now req.now pool.old pool.new us stop fates.new.items (R.state rig.old) (R.state rig.new))
-            (frame_size (unit_at us (first_of req.now).dev)) (R.state rig.old).faults (R.state rig.new).faults }
+        ensures carried_out { (first_of req.now).dir ≡ Write → is_bad_write self.now ios.now req.now (flat pool.old) ≡ false
+            → HasCarriedOut self.now ios.now req.now pool.old pool.new fates.new.items (R.state rig.old) (R.state rig.new) }
+        ensures carried_in { (first_of req.now).dir ≡ Read
+            → HasCarriedIn self.now ios.now req.now pool.old pool.new fates.new.items (R.state rig.old) (R.state rig.new) }
+        ensures settled { HasSettled req.now fates.new.items }
         ensures pages { length pool.new ≡ length pool.old }
         ensures stays { Stays (R.state rig.old) (R.state rig.new) }
-        ensures scratch { HoldsBlocks (block_len ios.now req.now) (size req.now) scratch.new }
-        ensures keeps_room { KeepsRoom scratch.old scratch.new }
+        ensures scratch { KeepsScratch (block_len ios.now req.now) (size req.now) scratch.old scratch.new }
         ensures spent { Spends (greatest_size (R.state rig.old).standing) fates.new.items (R.state rig.old).room (R.state rig.new).room }
         ensures capacity { vec_capacity fates.new ≡ vec_capacity fates.old }
     {

@@ -1,11 +1,10 @@
 //! Blocks on their way in.
 
-ghost use Rattle.std.specs.Prelude.{◌≡◌, ℕ, ◌+◌, ◌-◌, ◌*◌, ◌<◌, ◌≤◌, ◌^◌, ◌++◌, List, [], length, map, take, drop};
+ghost use Rattle.std.specs.Prelude.{◌≡◌, ℕ, ◌+◌, ◌-◌, ◌*◌, ◌<◌, ◌≤◌, ◌^◌, ◌++◌, List, [], length, take, drop};
 ghost use Rattle.std.specs.Vec.{vec_capacity};
 ghost use Rattle.page_pool.specs.Cells.{flat};
 ghost use Rattle.page_pool.specs.Pages.{AreWhole};
 ghost use Rattle.bio_core.specs.Bios.{block_size};
-ghost use Rattle.target_answer.specs.Frames.{frames_of};
 ghost use Rattle.target_answer.specs.Passing.{unless};
 ghost use Rattle.bio_core.specs.declared.request.Dir.TheVariants.{Read};
 ghost use Rattle.cdb_codec.specs.Forms.{Fits, form};
@@ -13,11 +12,13 @@ ghost use Rattle.cdb_codec.specs.declared.choice.Dir2.TheVariants.{In};
 ghost use Rattle.rig_api.specs.Log.{HasRoom};
 ghost use Rattle.rig_api.specs.Telling.{greatest_size};
 ghost use Rattle.rig_api.specs.State.{Exchanged};
-ghost use Rattle.dix_adapter.specs.Room.{HoldsBlocks, KeepsRoom};
+ghost use Rattle.dix_adapter.specs.Room.{KeepsScratch};
 ghost use Rattle.block_path.specs.Routes.{wire_size};
-ghost use Rattle.dix_adapter.specs.Carried.{Fetched, carried, command_for, comes_by, comes_first, fates_in, frame_len, land, landed, lands_first};
-ghost use Rattle.dix_adapter.specs.Groups.{EndsInTime, IsGroup, IsProtect, block_len, blocks_in, data_cells, first_of, route_by, size, tuple_cells};
-ghost use Rattle.dix_adapter.specs.Walking.{HasHost, IsBefore, IsOnce, Walkable};
+ghost use Rattle.dix_adapter.specs.Carried.{Fetched, carried, command_for, land};
+ghost use Rattle.dix_adapter.specs.Groups.{IsGroup, IsProtect, block_len, data_cells, first_of, route_by, size, tuple_cells};
+ghost use Rattle.dix_adapter.specs.Walking.{IsBefore, IsOnce, Walkable};
+ghost use Rattle.dix_adapter.specs.Carrying.{CanCarry};
+ghost use Rattle.dix_adapter.specs.OnTheWay.{CanGo, HasLanded, HasLandedFirst, HasLandedNext, KeepsBehind};
 
 use crate::Adapter;
 use crate::outcome::{add_rest, done_of};
@@ -42,17 +43,11 @@ impl Adapter {
         scratch: &mut Scratch,
         fates: &mut Vec<Fate>,
     )
-        requires protect { IsProtect self.now.protect }
-        requires group { (bytes : ℕ) × IsGroup self.now pool.old bytes ios.now req.now }
+        requires can { CanCarry self.now pool.old ios.now req.now scratch.old (vec_capacity fates.old) (R.state rig.old) }
         requires way { (first_of req.now).dir ≡ Read }
-        requires scratch { HoldsBlocks (block_len ios.now req.now) (size req.now) scratch.old }
         requires none { fates.old.items ≡ [] }
-        requires fates { size req.now ≤ vec_capacity fates.old }
-        requires device { (first_of req.now).dev < (R.state rig.old).standing.devices }
-        requires spare { HasRoom (greatest_size (R.state rig.old).standing) 1 (size req.now) (R.state rig.old).room }
         ensures fetched { Fetched self.now ios.now req.now pool.old pool.new fates.new.items (R.state rig.old) (R.state rig.new) }
-        ensures scratch { HoldsBlocks (block_len ios.now req.now) (size req.now) scratch.new }
-        ensures keeps_room { KeepsRoom scratch.old scratch.new }
+        ensures scratch { KeepsScratch (block_len ios.now req.now) (size req.now) scratch.old scratch.new }
         ensures capacity { vec_capacity fates.new ≡ vec_capacity fates.old }
     {
         let count = fill_labels(req, &mut scratch.labels);
@@ -113,11 +108,7 @@ impl Adapter {
         requires none { fates.old.items ≡ [] }
         requires room { size req.now * (block_len ios.now req.now + 8) + 8 ≤ length frames.old }
         requires fates { size req.now ≤ vec_capacity fates.old }
-        ensures fates { fates.new.items ≡ fates_in self.now ios.now (blocks_in req.now) (frames_of (frame_len self.now ios.now req.now) done frames.old) }
-        ensures cells { flat pool.new ≡ landed self.now ios.now (blocks_in req.now) (frames_of (frame_len self.now ios.now req.now) done frames.old) (flat pool.old) }
-        ensures count { length fates.new.items ≡ done }
-        ensures pages { length pool.new ≡ length pool.old }
-        ensures whole { AreWhole pool.new }
+        ensures landed { HasLanded self.now ios.now req.now done frames.old pool.old pool.new fates.new.items }
         ensures long { length frames.new ≡ length frames.old }
         ensures capacity { vec_capacity fates.new ≡ vec_capacity fates.old }
     {
@@ -151,23 +142,15 @@ impl Adapter {
         from: usize,
         fates: &mut Vec<Fate>,
     ) -> usize
-        requires walks { Walkable pool.old io.now }
+        requires can { CanGo self.now pool.old io.now bio.now }
         requires once { IsOnce io.now }
         requires few { count ≤ bio.now.count }
-        requires within { bio.now.k + bio.now.count ≤ io.now.count }
-        requires ends { EndsInTime bio.now }
-        requires fits { io.now.first + io.now.count < 2 ^ 64 }
-        requires host { HasHost self.now.dix io.now.pi }
         requires small { block_size io.now ≤ 4096 }
         requires room { from + count * wire_size (route_by self.now io.now bio.now 0) + 8 ≤ length frames.old }
         requires fates { length fates.old.items + count ≤ vec_capacity fates.old }
-        ensures fates { fates.new.items ≡ fates.old.items ++ map carried (comes_first self.now io.now bio.now (wire_size (route_by self.now io.now bio.now 0)) (drop from frames.old) count) }
-        ensures cells { flat pool.new ≡ lands_first self.now io.now bio.now (wire_size (route_by self.now io.now bio.now 0)) (drop from frames.old) (flat pool.old) count }
-        ensures pages { length pool.new ≡ length pool.old }
-        ensures whole { AreWhole pool.new }
+        ensures landed { HasLandedFirst self.now io.now bio.now count (drop from frames.old) pool.old pool.new fates.old.items fates.new.items }
         ensures end { result ≡ from + count * wire_size (route_by self.now io.now bio.now 0) }
-        ensures behind { drop result frames.new ≡ drop result frames.old }
-        ensures long { length frames.new ≡ length frames.old }
+        ensures behind { KeepsBehind result frames.old frames.new }
         ensures capacity { vec_capacity fates.new ≡ vec_capacity fates.old }
     {
         let _pages = pool.pages();
@@ -192,23 +175,15 @@ impl Adapter {
         frames: &mut [u8],
         at: usize,
     ) -> Fate
-        requires walks { Walkable pool.old io.now }
+        requires can { CanGo self.now pool.old io.now bio.now }
         requires once { IsOnce io.now }
         requires before { IsBefore io.now (bio.now.k + i) walks.old }
         requires bio { i < bio.now.count }
-        requires within { bio.now.k + bio.now.count ≤ io.now.count }
-        requires ends { EndsInTime bio.now }
-        requires fits { io.now.first + io.now.count < 2 ^ 64 }
-        requires host { HasHost self.now.dix io.now.pi }
         requires small { block_size io.now ≤ 4096 }
         requires room { at + (block_size io.now + 8) ≤ length frames.old }
-        ensures fate { result ≡ carried (comes_by self.now io.now bio.now (take (wire_size (route_by self.now io.now bio.now i)) (drop at frames.old)) i) }
-        ensures cells { flat pool.new ≡ land (data_cells io.now (bio.now.k + i) ++ tuple_cells io.now.pi (bio.now.k + i)) (comes_by self.now io.now bio.now (take (wire_size (route_by self.now io.now bio.now i)) (drop at frames.old)) i) (flat pool.old) }
-        ensures pages { length pool.new ≡ length pool.old }
-        ensures whole { AreWhole pool.new }
+        ensures landed { HasLandedNext self.now io.now bio.now i (drop at frames.old) pool.old pool.new result }
         ensures before { IsBefore io.now (bio.now.k + (i + 1)) walks.new }
-        ensures behind { drop (at + wire_size (route_by self.now io.now bio.now i)) frames.new ≡ drop (at + wire_size (route_by self.now io.now bio.now i)) frames.old }
-        ensures long { length frames.new ≡ length frames.old }
+        ensures behind { KeepsBehind (at + wire_size (route_by self.now io.now bio.now i)) frames.old frames.new }
     {
         let size = walks.block_size(io) as usize;
         let (_, rest) = frames.split_at_mut(at);
@@ -227,22 +202,14 @@ impl Adapter {
         walks: &mut Walks<'_>,
         frame: &mut [u8],
     ) -> Fate
-        requires walks { Walkable pool.old io.now }
+        requires can { CanGo self.now pool.old io.now bio.now }
         requires once { IsOnce io.now }
         requires before { IsBefore io.now (bio.now.k + i) walks.old }
         requires bio { i < bio.now.count }
-        requires within { bio.now.k + bio.now.count ≤ io.now.count }
-        requires ends { EndsInTime bio.now }
-        requires fits { io.now.first + io.now.count < 2 ^ 64 }
-        requires host { HasHost self.now.dix io.now.pi }
         requires long { length frame.old ≡ block_size io.now + 8 }
-        ensures fate { result ≡ carried (comes_by self.now io.now bio.now (take (wire_size (route_by self.now io.now bio.now i)) frame.old) i) }
-        ensures cells { flat pool.new ≡ land (data_cells io.now (bio.now.k + i) ++ tuple_cells io.now.pi (bio.now.k + i)) (comes_by self.now io.now bio.now (take (wire_size (route_by self.now io.now bio.now i)) frame.old) i) (flat pool.old) }
-        ensures pages { length pool.new ≡ length pool.old }
-        ensures whole { AreWhole pool.new }
+        ensures landed { HasLandedNext self.now io.now bio.now i frame.old pool.old pool.new result }
         ensures before { IsBefore io.now (bio.now.k + (i + 1)) walks.new }
-        ensures behind { drop (wire_size (route_by self.now io.now bio.now i)) frame.new ≡ drop (wire_size (route_by self.now io.now bio.now i)) frame.old }
-        ensures long { length frame.new ≡ length frame.old }
+        ensures behind { KeepsBehind (wire_size (route_by self.now io.now bio.now i)) frame.old frame.new }
     {
         let behind = tuple_behind(frame);
         let found = self

@@ -6,7 +6,6 @@ ghost use Rattle.std.specs.Vec.{vec_capacity};
 ghost use Rattle.bio_core.specs.Bios.{block_size, blocks_of};
 ghost use Rattle.page_pool.specs.Cells.{flat};
 ghost use Rattle.block_path.specs.Routes.{wire_size};
-ghost use Rattle.target_answer.specs.Frames.{joined};
 ghost use Rattle.target_answer.specs.Passing.{unless};
 ghost use Rattle.bio_core.specs.declared.fate.Fate.TheVariants.{Good};
 ghost use Rattle.cdb_codec.specs.Forms.{Fits, form};
@@ -15,12 +14,14 @@ ghost use Rattle.pi_tuple.specs.Finds.{is_zero};
 ghost use Rattle.rig_api.specs.Log.{HasRoom};
 ghost use Rattle.rig_api.specs.Telling.{greatest_size};
 ghost use Rattle.rig_api.specs.State.{Exchanged};
-ghost use Rattle.dix_adapter.specs.Carried.{Gathers, Sent, Unsent, any_bad, any_fails, fails, command_for, frame_sent, sends, sends_by, sends_first, unsent};
-ghost use Rattle.dix_adapter.specs.Walking.{HasHost, IsBefore, Walkable};
+ghost use Rattle.dix_adapter.specs.Carried.{Gathers, Sent, Unsent, any_fails, command_for, fails, is_bad_write, out_of, sends, sends_by, sends_first, unsent};
+ghost use Rattle.dix_adapter.specs.Walking.{IsBefore};
 ghost use Rattle.dix_adapter.specs.Outcomes.{done_of as spec_done, rest_of};
-ghost use Rattle.dix_adapter.specs.Room.{HoldsBlocks, KeepsRoom};
+ghost use Rattle.dix_adapter.specs.Room.{KeepsScratch};
 ghost use Rattle.bio_core.specs.declared.request.Dir.TheVariants.{Write};
 ghost use Rattle.dix_adapter.specs.Groups.{EndsInTime, IsGroup, IsProtect, block_len, blocks_in, first_of, label_of, route_by, size};
+ghost use Rattle.dix_adapter.specs.Carrying.{CanCarry};
+ghost use Rattle.dix_adapter.specs.OnTheWay.{CanGo};
 
 use crate::Adapter;
 use crate::outcome::{add_rest, done_of};
@@ -44,20 +45,14 @@ impl Adapter {
         scratch: &mut Scratch,
         fates: &mut Vec<Fate>,
     )
-        requires protect { IsProtect self.now.protect }
-        requires group { (bytes : ℕ) × IsGroup self.now pool.now bytes ios.now req.now }
+        requires can { CanCarry self.now pool.now ios.now req.now scratch.old (vec_capacity fates.old) (R.state rig.old) }
         requires way { (first_of req.now).dir ≡ Write }
-        requires scratch { HoldsBlocks (block_len ios.now req.now) (size req.now) scratch.old }
         requires none { fates.old.items ≡ [] }
-        requires fates { size req.now ≤ vec_capacity fates.old }
-        requires device { (first_of req.now).dev < (R.state rig.old).standing.devices }
-        requires spare { HasRoom (greatest_size (R.state rig.old).standing) 1 (size req.now) (R.state rig.old).room }
-        ensures unsent { any_bad (map (sends self.now ios.now (flat pool.now)) (blocks_in req.now)) ≡ true
+        ensures unsent { is_bad_write self.now ios.now req.now (flat pool.now) ≡ true
             → Unsent self.now ios.now req.now pool.now pool.now fates.new.items × (rig.new ≡ rig.old) }
-        ensures sent { any_bad (map (sends self.now ios.now (flat pool.now)) (blocks_in req.now)) ≡ false
+        ensures sent { is_bad_write self.now ios.now req.now (flat pool.now) ≡ false
             → Sent self.now ios.now req.now pool.now pool.now fates.new.items (R.state rig.old) (R.state rig.new) }
-        ensures scratch { HoldsBlocks (block_len ios.now req.now) (size req.now) scratch.new }
-        ensures keeps_room { KeepsRoom scratch.old scratch.new }
+        ensures scratch { KeepsScratch (block_len ios.now req.now) (size req.now) scratch.old scratch.new }
         ensures capacity { vec_capacity fates.new ≡ vec_capacity fates.old }
     {
         let end = self.gather(pool, ios, req, &mut scratch.frames, fates);
@@ -84,8 +79,8 @@ impl Adapter {
         requires room { size req.now * (block_len ios.now req.now + 8) + 8 ≤ length frames.old }
         requires fates { size req.now ≤ vec_capacity fates.old }
         ensures fates { fates.new.items ≡ map unsent (map (sends self.now ios.now (flat pool.now)) (blocks_in req.now)) }
-        ensures frames { any_bad (map (sends self.now ios.now (flat pool.now)) (blocks_in req.now)) ≡ false
-            → take result frames.new ≡ joined (map frame_sent (map (sends self.now ios.now (flat pool.now)) (blocks_in req.now))) }
+        ensures frames { is_bad_write self.now ios.now req.now (flat pool.now) ≡ false
+            → take result frames.new ≡ out_of self.now ios.now req.now pool.now }
         ensures within { result ≤ length frames.new }
         ensures long { length frames.new ≡ length frames.old }
         ensures capacity { vec_capacity fates.new ≡ vec_capacity fates.old }
@@ -108,11 +103,7 @@ impl Adapter {
         from: usize,
         fates: &mut Vec<Fate>,
     ) -> usize
-        requires walks { Walkable pool.now io.now }
-        requires within { bio.now.k + bio.now.count ≤ io.now.count }
-        requires ends { EndsInTime bio.now }
-        requires fits { io.now.first + io.now.count < 2 ^ 64 }
-        requires host { HasHost self.now.dix io.now.pi }
+        requires can { CanGo self.now pool.now io.now bio.now }
         requires small { block_size io.now ≤ 4096 }
         requires room { from + bio.now.count * (block_size io.now + 8) + 8 ≤ length frames.old }
         requires fates { length fates.old.items + bio.now.count ≤ vec_capacity fates.old }
@@ -144,13 +135,9 @@ impl Adapter {
         frames: &mut [u8],
         at: usize,
     ) -> (Option<Check>, usize)
-        requires walks { Walkable pool.now io.now }
+        requires can { CanGo self.now pool.now io.now bio.now }
         requires before { IsBefore io.now (bio.now.k + i) walks.old }
         requires bio { i < bio.now.count }
-        requires within { bio.now.k + bio.now.count ≤ io.now.count }
-        requires ends { EndsInTime bio.now }
-        requires fits { io.now.first + io.now.count < 2 ^ 64 }
-        requires host { HasHost self.now.dix io.now.pi }
         requires room { at + (block_size io.now + 8) ≤ length frames.old }
         requires small { block_size io.now ≤ 4096 }
         ensures judged { unless result.0 (take (wire_size (route_by self.now io.now bio.now i)) (drop at frames.new)) ≡ sends_by self.now io.now bio.now (flat pool.now) i }
@@ -176,13 +163,9 @@ impl Adapter {
         walks: &mut Walks<'_>,
         frame: &mut [u8],
     ) -> Option<Check>
-        requires walks { Walkable pool.now io.now }
+        requires can { CanGo self.now pool.now io.now bio.now }
         requires before { IsBefore io.now (bio.now.k + i) walks.old }
         requires bio { i < bio.now.count }
-        requires within { bio.now.k + bio.now.count ≤ io.now.count }
-        requires ends { EndsInTime bio.now }
-        requires fits { io.now.first + io.now.count < 2 ^ 64 }
-        requires host { HasHost self.now.dix io.now.pi }
         requires long { length frame.old ≡ block_size io.now + 8 }
         ensures judged { unless result (take (wire_size (route_by self.now io.now bio.now i)) frame.new) ≡ sends_by self.now io.now bio.now (flat pool.now) i }
         ensures long { length frame.new ≡ length frame.old }

@@ -27,8 +27,10 @@ impl Payload {
         requires lie { AllLieIn pool.old self.now.tuples }
         requires once { NoneTwice (places_in self.now.tuples) }
         requires apart { Apart (places_in body.now) (places_in self.now.tuples) }
-        ensures tuples { (k : ℕ) → k < self.now.count → HoldsTuple pool.new self.now.tuples k (made_tuple pool.old body.now (total body.now / self.now.count) kind ty self.now.seed self.now.app k) }
-        ensures wrote { Wrote pool.old pool.new (range_of self.now.tuples 0 (8 * self.now.count)) (made_bytes pool.old body.now (total body.now / self.now.count) kind ty self.now.seed self.now.app self.now.count) }
+        ensures tuples { (k : ℕ) → k < self.now.count
+            → HoldsTuple pool.new self.now.tuples k (made_tuple pool.old body.now (total body.now / self.now.count) kind ty self.now.seed self.now.app k) }
+        ensures wrote { Wrote pool.old pool.new (range_of self.now.tuples 0 (8 * self.now.count))
+            (made_bytes pool.old body.now (total body.now / self.now.count) kind ty self.now.seed self.now.app self.now.count) }
     {
         let size = body.total() / self.count;
         let mut blocks = body.walk(0);
@@ -57,7 +59,8 @@ impl Payload {
         requires fits { self.now.seed + self.now.count ≤ 2 ^ 64 }
         requires body { AllLieIn pool.now body.now }
         requires lie { AllLieIn pool.now self.now.tuples }
-        ensures { result ≡ finding ty (all_asked app mask) (ref_tag (self.now.seed + k)) (guard_of kind (block_of pool.now body.now (total body.now / self.now.count) k)) (tuple_of pool.now self.now.tuples k) }
+        ensures { result ≡ finding ty (all_asked app mask) (ref_tag (self.now.seed + k))
+            (guard_of kind (block_of pool.now body.now (total body.now / self.now.count) k)) (tuple_of pool.now self.now.tuples k) }
     {
         let size = body.total() / self.count;
         let mut blocks = body.walk(k * size);

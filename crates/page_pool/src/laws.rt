@@ -4,7 +4,7 @@ ghost use Rattle.std.specs.Prelude.{◌≡◌, ℕ, ◌+◌, ◌-◌, ◌*◌, �
 ghost use Rattle.std.specs.List.{All, IsDistinct};
 ghost use Rattle.page_pool.specs.Cells.{cell, flat, gather, joined, scatter, share_a_cell};
 ghost use Rattle.page_pool.specs.Cuts.{cut, past, upto};
-ghost use Rattle.page_pool.specs.Joining.{parts_in};
+ghost use Rattle.page_pool.specs.Joining.{IsCut, parts_in};
 ghost use Rattle.page_pool.specs.Pages.{AllLieIn, AreWhole, LiesIn, OthersStay, Wrote, bytes_at, bytes_in, part, with_part};
 ghost use Rattle.page_pool.specs.Places.{Apart, NoneTwice, PageByte, places_in, places_of, range_of, total};
 ghost use Rattle.page_pool.specs.Walking.{AllStandIn};
@@ -15,7 +15,8 @@ ghost use Rattle.page_pool.specs.declared.segs.Seg.{Seg as AnySeg};
 /// where the bytes are apart. `tuples` says that the ranges of eight bytes, one after another, are one range.
 pub fn a_pool_is_cells()
     ensures read { (pool : List (List ℕ)) (ps : List PageByte) → AreWhole pool → AllStandIn (length pool) ps → bytes_at pool ps ≡ gather 0 (map cell ps) (flat pool) }
-    ensures wrote { (old new : List (List ℕ)) (ps : List PageByte) (bytes : List ℕ) → AreWhole old → AllStandIn (length old) ps → Wrote old new ps bytes → flat new ≡ scatter (map cell ps) bytes (flat old) }
+    ensures wrote { (old new : List (List ℕ)) (ps : List PageByte) (bytes : List ℕ) → AreWhole old → AllStandIn (length old) ps → Wrote old new ps bytes
+        → flat new ≡ scatter (map cell ps) bytes (flat old) }
     ensures same { (old new : List (List ℕ)) → OthersStay old new [] → new ≡ old }
     ensures whole { (old new : List (List ℕ)) (ps : List PageByte) → OthersStay old new ps → AreWhole old → AreWhole new }
     ensures size { (pool : List (List ℕ)) → AreWhole pool → length (flat pool) ≡ 4096 * length pool }
@@ -44,9 +45,7 @@ pub fn a_range_is_of_its_list()
     ensures once { (segs : List AnySeg) (at len : ℕ) → NoneTwice (places_in segs) → NoneTwice (range_of segs at len) }
     ensures behind { (segs : List AnySeg) (at len from more : ℕ) → NoneTwice (places_in segs) → at + len ≤ from → Apart (range_of segs at len) (range_of segs from more) }
     ensures apart { (segs others : List AnySeg) (at len from more : ℕ) → Apart (places_in segs) (places_in others) → Apart (range_of segs at len) (range_of others from more) }
-    ensures cut { (segs : List AnySeg) (at len : ℕ) → places_in (cut segs at len) ≡ range_of segs at len }
-    ensures few { (segs : List AnySeg) (at len : ℕ) → length (cut segs at len) ≤ len }
-    ensures fewer { (segs : List AnySeg) (at len : ℕ) → length (cut segs at len) ≤ length segs }
+    ensures cut { (segs : List AnySeg) (at len : ℕ) → IsCut segs at len (cut segs at len) }
     ensures lies { (pool : List (List ℕ)) (segs : List AnySeg) (at len : ℕ) → AllLieIn pool segs → AllLieIn pool (cut segs at len) }
     ensures joined { (pool : List (List ℕ)) (segs : List AnySeg) (at len : ℕ) → AreWhole pool → AllLieIn pool segs → flat (parts_in pool segs at len) ≡ bytes_in pool segs at len }
 {}

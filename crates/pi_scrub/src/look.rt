@@ -58,7 +58,8 @@ pub(crate) fn look<R: Rig>(
     requires some { 1 ≤ n }
     requires most { n ≤ 1024 }
     requires end { lba + n < 2 ^ 64 }
-    ensures did { IfOk result (λ k. Did dev ty lba n k found.old.items found.new.items (R.state rig.old).log (R.state rig.new).log (R.state rig.old).units (R.state rig.old).faults (R.state rig.new).faults) }
+    ensures did { IfOk result (λ k. Did dev ty lba n k found.old.items found.new.items
+        (R.state rig.old).log (R.state rig.new).log (R.state rig.old).units (R.state rig.old).faults (R.state rig.new).faults) }
     ensures no_found { OnErr result (found.new.items ≡ found.old.items) }
     ensures no_log { OnErr result ((R.state rig.new).log ≡ (R.state rig.old).log) }
     ensures units { (R.state rig.new).units ≡ (R.state rig.old).units }

@@ -45,7 +45,8 @@ pub fn map_back(pool: &mut PagePool, pi: &Payload, ty: PiType, k: u32, n: u32, p
     requires lie { AllLieIn pool.old pi.now.tuples }
     requires once { NoneTwice (places_in pi.now.tuples) }
     ensures mapped { AreRemapped pool.old pool.new pi.now.tuples ty k n physical (pi.now.seed + k) }
-    ensures round_trip { (i : ℕ) → i < n → (t : AnyTuple) → MappedOut ty (pi.now.seed + k + i) (physical + i) t (tuple_of pool.old pi.now.tuples (k + i)) → tuple_of pool.new pi.now.tuples (k + i) ≡ made_virtual ty (pi.now.seed + k + i) (physical + i) t }
+    ensures round_trip { (i : ℕ) → i < n → (t : AnyTuple) → MappedOut ty (pi.now.seed + k + i) (physical + i) t (tuple_of pool.old pi.now.tuples (k + i))
+        → tuple_of pool.new pi.now.tuples (k + i) ≡ made_virtual ty (pi.now.seed + k + i) (physical + i) t }
 {
     rewrite(pool, pi, ty, k, n, physical, pi.seed + k as u64);
 }

@@ -1,6 +1,6 @@
 //! Asking each device of a rig for its capacity.
 
-ghost use Rattle.std.specs.Prelude.{◌≡◌, ◌+◌, ◌^◌, List, IfSome, ◌≤◌, ◌<◌, ◌++◌, ◌∷◌, [], IfErr, IfOk, IsOk, Some, is_some, length, map, true};
+ghost use Rattle.std.specs.Prelude.{◌≡◌, ◌+◌, ◌^◌, List, IfSome, ◌≤◌, ◌<◌, ◌++◌, ◌∷◌, [], IfErr, IfOk, IsOkAnd, Some, is_some, length, map, true};
 ghost use Rattle.rig_api.specs.Log.{HasRoom};
 ghost use Rattle.rig_api.specs.Telling.{greatest_size, spec_at, specs_of};
 ghost use Rattle.rig_api.specs.State.{Stays};
@@ -51,8 +51,7 @@ pub fn discover<R: Rig>(rig: &mut R) -> Result<ArrayVec<DeviceInfo, 8>, BadCapac
     requires room { HasRoom (greatest_size (R.state rig.old).standing) (R.state rig.old).standing.devices 0 (R.state rig.old).room }
     ensures found { IfOk result (λ v. HasFound (R.state rig.old).standing v.items (R.state rig.old).log (R.state rig.new).log) }
     ensures fault { IfErr result (λ f. HasFault (R.state rig.old).standing f.dev (R.state rig.old).log (R.state rig.new).log) }
-    ensures never { is_some (R.state rig.old).units ≡ true → IsOk result }
-    ensures told { is_some (R.state rig.old).units ≡ true → IfOk result (λ v. v.items ≡ map info_of (specs_of (R.state rig.old).standing)) }
+    ensures told { is_some (R.state rig.old).units ≡ true → IsOkAnd result (λ v. v.items ≡ map info_of (specs_of (R.state rig.old).standing)) }
     ensures ends { IfOk result (λ v. Ends v.items) }
     ensures answered { (us : List Stored) → (R.state rig.old).units ≡ Some us → Answers us (R.state rig.old) (R.state rig.new) }
     ensures units { (R.state rig.new).units ≡ (R.state rig.old).units }

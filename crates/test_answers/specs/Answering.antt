@@ -65,6 +65,11 @@ entries (Some r) labels moved = record { what = r; labels = labels; moved = move
 abbrev pub spare : {X : Type 0} → Vec X → ℕ
 spare v = vec_capacity v - vec_len v
 
+-- The list holds these, and its room fell by no more than their number.
+pub record IsFilled {X : Type 0} (xs : List X) (old new : Vec X) : Type 0 where
+  pub items : new.items ≡ xs
+  pub room : spare old ≤ spare new + length xs
+
 abbrev pub records_left : Option Record → ℕ
 records_left None = 1
 records_left (Some r) = 0

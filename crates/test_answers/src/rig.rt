@@ -4,7 +4,7 @@ ghost use Rattle.std.specs.Prelude.{◌≡◌, ◌+◌, ◌*◌, ◌-◌, ◌≤
 ghost use Rattle.std.specs.Vec.{vec_capacity};
 ghost use Rattle.rig_api.specs.Log.{HasRoom, has_key};
 ghost use Rattle.rig_api.specs.Telling.{greatest_size};
-ghost use Rattle.test_answers.specs.Answering.{entries, few_of, is_count, is_keyed, keyed_of, ready_of, room_of, size_of, spare, standing_of};
+ghost use Rattle.test_answers.specs.Answering.{IsFilled, entries, few_of, is_count, is_keyed, keyed_of, ready_of, room_of, size_of, spare, standing_of};
 
 use dix_base::Failed;
 use fault_schedule::{FaultList, Label, Tamper};
@@ -86,10 +86,8 @@ impl AnswerRig {
         requires labels { length labels.now ≤ spare self.old.labels }
         requires moved { length moved.now ≤ spare self.old.moved }
         ensures what { self.new.what ≡ Some (record { dev = dev; cdb = cdb.now; outcome = self.old.outcome }) }
-        ensures labels { self.new.labels.items ≡ labels.now }
-        ensures moved { self.new.moved.items ≡ moved.now }
-        ensures room_labels { spare self.old.labels ≤ spare self.new.labels + length labels.now }
-        ensures room_moved { spare self.old.moved ≤ spare self.new.moved + length moved.now }
+        ensures labels { IsFilled labels.now self.old.labels self.new.labels }
+        ensures moved { IsFilled moved.now self.old.moved self.new.moved }
         ensures devices { self.new.devices ≡ self.old.devices }
         ensures outcome { self.new.outcome ≡ self.old.outcome }
         ensures tamper { self.new.tamper ≡ self.old.tamper }

@@ -20,19 +20,13 @@ pub returns-clause-apart : goal.returns-clause-apart
 returns-clause-apart c = apart-lists
 
 pub returns-clause-cut : goal.returns-clause-cut
-returns-clause-cut c = places-cut
+returns-clause-cut c = λ segs at len. record { names = places-cut segs at len; few = cut-few segs at len; fewer = cut-fewer segs at len }
 
 pub returns-clause-lies : goal.returns-clause-lies
 returns-clause-lies c = lie-cut
 
 pub returns-clause-joined : goal.returns-clause-joined
 returns-clause-joined c = joined-parts
-
-pub returns-clause-few : goal.returns-clause-few
-returns-clause-few c = cut-few
-
-pub returns-clause-fewer : goal.returns-clause-fewer
-returns-clause-fewer c = cut-fewer
 
 pub returns-clause-all : goal.returns-clause-all
 returns-clause-all c = range-all

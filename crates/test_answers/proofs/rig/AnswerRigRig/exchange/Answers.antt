@@ -23,8 +23,8 @@ returns c =
     record {
       exchanged = record {
         recorded = ap (λ w. entries w c.note.new.self.labels.items c.note.new.self.moved.items) c.note.ensures.what
-            ∙ ap (λ w. record { what = record { dev = c.args.dev; cdb = c.args.cdb.now; outcome = c.args.self.now.outcome }; labels = w; moved = c.note.new.self.moved.items } ∷ []) (c.note.ensures.labels ∙ c.kept_labels-kept.ensures.value)
-            ∙ ap (λ w. record { what = record { dev = c.args.dev; cdb = c.args.cdb.now; outcome = c.args.self.now.outcome }; labels = labels_of c.args.cdb.now c.args.self.now.outcome c.args.labels.now; moved = w } ∷ []) (c.note.ensures.moved ∙ c.moved_frames-moved.ensures.value)
+            ∙ ap (λ w. record { what = record { dev = c.args.dev; cdb = c.args.cdb.now; outcome = c.args.self.now.outcome }; labels = w; moved = c.note.new.self.moved.items } ∷ []) (c.note.ensures.labels.items ∙ c.kept_labels-kept.ensures.value)
+            ∙ ap (λ w. record { what = record { dev = c.args.dev; cdb = c.args.cdb.now; outcome = c.args.self.now.outcome }; labels = labels_of c.args.cdb.now c.args.self.now.outcome c.args.labels.now; moved = w } ∷ []) (c.note.ensures.moved.items ∙ c.moved_frames-moved.ensures.value)
             ∙ ap (λ n. entry_of n c.args.dev c.args.cdb.now c.args.labels.now c.args.self.now.outcome c.args.out.now c.copy_front.new.into ∷ []) z
             ∙ ap (λ o. entry_of (spec_at (standing_of c.args.self.now.devices) c.args.dev).size c.args.dev c.args.cdb.now c.args.labels.now o c.args.out.now c.copy_front.new.into ∷ []) (sym c.note.ensures.outcome)
             ∙ ap (λ w. entries w c.args.self.now.labels.items c.args.self.now.moved.items ++ entry_of (spec_at (standing_of c.args.self.now.devices) c.args.dev).size c.args.dev c.args.cdb.now c.args.labels.now c.note.new.self.outcome c.args.out.now c.copy_front.new.into ∷ []) (sym r.none);
@@ -36,8 +36,8 @@ returns c =
         standing = ap standing_of c.note.ensures.devices;
         armed = c.note.ensures.tamper;
         records = search rules;
-        moved = omega (arith, moved, c.note.ensures.room_moved);
-        labelled = omega (arith, labelled, c.note.ensures.room_labels);
+        moved = omega (arith, moved, c.note.ensures.moved.room);
+        labelled = omega (arith, labelled, c.note.ensures.labels.room);
         count = search rules;
       };
     }
