@@ -57,7 +57,8 @@ fn ran_by(
     ensures status { IfOk result (λ ran. ran.status ≡ status) }
     ensures report { IfOk result (λ ran. ran.report.items ≡ sink.bytes) }
     ensures image { IfOk result (λ ran. (⟦<ImageRig<CalmStore> as Rig>⟧.state rig.now).image ≡ Some ran.image.items) }
-    ensures told { IsTold (⟦<ImageRig<CalmStore> as Rig>⟧.state rig.now).standing (⟦<ImageRig<CalmStore> as Rig>⟧.state rig.now).image (⟦<ImageRig<CalmStore> as Rig>⟧.state rig.now).units (⟦<ImageRig<CalmStore> as Rig>⟧.state rig.now).faults }
+    ensures told { IsTold (⟦<ImageRig<CalmStore> as Rig>⟧.state rig.now).standing (⟦<ImageRig<CalmStore> as Rig>⟧.state rig.now).image
+        (⟦<ImageRig<CalmStore> as Rig>⟧.state rig.now).units (⟦<ImageRig<CalmStore> as Rig>⟧.state rig.now).faults }
 {
     Ok(Ran {
         status,

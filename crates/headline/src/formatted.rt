@@ -27,7 +27,8 @@ pub fn a_formatted_image_tells_its_units()
     ensures head { (units : List AnyUnit) → is_layout units ≡ true → head_fault (head_of (formatted units)) ≡ None }
     ensures units { (units : List AnyUnit) → is_layout units ≡ true → units_of (head_of (formatted units)) ≡ units }
     ensures devices { (units : List AnyUnit) → is_layout units ≡ true → devices_of (formatted units) ≡ map info_of units }
-    ensures told { (units : List AnyUnit) (name : List ℕ) (devices : List AnyDevice) (old told : RigState) → is_layout units ≡ true → old.image ≡ Some (formatted units) → WasAsked name devices old told
+    ensures told { (units : List AnyUnit) (name : List ℕ) (devices : List AnyDevice) (old told : RigState) → is_layout units ≡ true → old.image ≡ Some (formatted units)
+        → WasAsked name devices old told
         → (us : List Stored) × (told.units ≡ Some us) × (devices ≡ map info_of units) × All (All (λ x. x < 256)) (blocks_told us)
         × ((m : Setting) → is_zero m.ty ≡ false → as_expected m 0 ≡ true → m.site.cell ≡ cell_in units → DevicesAreClean m devices (blocks_told us)) }
 {

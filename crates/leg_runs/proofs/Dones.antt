@@ -1,5 +1,5 @@
 -- What a write and a read of a mirror come to is what their ops ask for.
-use Rattle.std.proofs.Common.{◌≡◌, ℕ, List, ◌++◌, length, take, drop, Option, ap, ◌∙◌, subst}
+use Rattle.std.proofs.Common.{◌≡◌, ℕ, List, length, take, drop, Option, ap, ◌∙◌, subst}
 use Rattle.std.specs.Prelude.{IfOk, Result}
 use Rattle.std.proofs.lemmas.List.{length-map}
 use Rattle.std.proofs.lemmas.Result.{IfOk-weaker}
@@ -15,7 +15,7 @@ use Rattle.whole_run.specs.ScriptWalk.{bad_from, whole_or_bad}
 use Rattle.script_text.specs.declared.script.Script.{Script}
 use Rattle.mirror_walk.specs.declared.marks.Marks.{Marks}
 use Rattle.mirror_legs.specs.declared.piece.Piece.{Piece}
-use Rattle.leg_runs.specs.Asked.{IsReadOf, ReadBy}
+use Rattle.leg_runs.specs.Asked.{IsReadOf, ReadBy, ReadOnBoth}
 use Rattle.leg_runs.specs.LegRuns.{AllOwn, LegRun}
 use Rattle.leg_runs.specs.OnOps.{DidOp, IsWriteOf, OpAsks, Sides, WroteBy, whole_request}
 use Rattle.rig_api.specs.State.{RigState}
@@ -40,11 +40,11 @@ module _ {E : Type 0} (s : Script) (half number v n : ℕ) (body : List Seg) (ol
   reads own = subst (λ (p : Piece). AllOwn (IsReadOf s half p) runs) whole own
 
   pub did-fetch : (marks : List Marks) (listed : List (Option Why)) → marks ≡ take n (drop v old.marks) → new.marks ≡ old.marks → Wrote old.pool new.pool (range_of body 0 (total body)) bytes
-      → ((runs0 runs1 : List LegRun) × ((runs ≡ runs0 ++ runs1) × ReadBy s half q marks runs0 runs1 listed bytes)) → IfOk result (λ (reply : Reply). reply ≡ whole_or_bad (bad_from 0 listed))
+      → ReadOnBoth s half q marks runs listed bytes → IfOk result (λ (reply : Reply). reply ≡ whole_or_bad (bad_from 0 listed))
       → IfOk result (DidOp s half number (Fetch v n body) old new before after runs)
   did-fetch marks listed marks_are kept wrote read replied =
-      let runs0 = read.0 in
-      let runs1 = read.1 in
-      let by = subst (λ (p : Piece). ReadBy s half p (take n (drop v old.marks)) runs0 runs1 listed bytes) whole (subst (λ (ms : List Marks). ReadBy s half q ms runs0 runs1 listed bytes) marks_are read.2.1) in
+      let runs0 = read.runs0 in
+      let runs1 = read.runs1 in
+      let by = subst (λ (p : Piece). ReadBy s half p (take n (drop v old.marks)) runs0 runs1 listed bytes) whole (subst (λ (ms : List Marks). ReadBy s half q ms runs0 runs1 listed bytes) marks_are read.read) in
       IfOk-weaker result (λ (reply : Reply). reply ≡ whole_or_bad (bad_from 0 listed)) (DidOp s half number (Fetch v n body) old new before after runs)
-      (λ reply e. (record { runs0 = runs0; runs1 = runs1; listed = listed; bytes = bytes; runs_are = read.2.0; read = by; pages = wrote; marks = kept; reply_is = e }, tt)) replied
+      (λ reply e. (record { runs0 = runs0; runs1 = runs1; listed = listed; bytes = bytes; runs_are = read.runs_are; read = by; pages = wrote; marks = kept; reply_is = e }, tt)) replied

@@ -32,9 +32,8 @@ use Rattle.mirror_legs.specs.declared.piece.Piece.{Piece}
 use Rattle.mirror_legs.specs.Inner.{first_virt, page_segs, pages_for, puts, read_pi_script, read_script, write_script}
 use Rattle.mirror_legs.proofs.Turns.{gathered, segs_cells}
 use Rattle.mirror_legs.proofs.Suits.{segs_total}
-use Rattle.leg_runs.specs.LegRuns.{AllBacked, AllOwn, Fits, LastFits, LegRun, replies_of}
+use Rattle.leg_runs.specs.LegRuns.{AllBacked, Fits, LastFits, LegRun, OneRun, RanLegs, replies_of}
 use Rattle.leg_runs.proofs.LastReplies.{asks-steps, last-fits}
-use Rattle.leg_runs.proofs.Runs.{RanBy}
 
 -- ---- the last reply
 
@@ -53,16 +52,15 @@ backed-fits own t devices log replies before op n e f h =
 
 -- the one run of a stack of its own
 abbrev pub IsRunOf : Script → Stack → List LegRun → Type 0
-IsRunOf own stack runs = AllOwn (λ (s : Script). s ≡ own) runs × ((r : LegRun) × ((runs ≡ r ∷ []) × ((r.own ≡ own) × (r.stack ≡ stack))))
+IsRunOf own stack runs = OneRun own (λ (r : LegRun). r.stack ≡ stack) runs
 
-run-fits : (t : Table) (devices : List DeviceInfo) (schedule : List (ℕ × ℕ)) (before after : RigState) (used used' : ℕ) (own : Script) (stack : Stack) (ops : List Op) (op : Op) (n : ℕ)
-    → own.ops ≡ ops ++ (op ∷ []) → ListsOf n op → RanBy t devices schedule before after used used' (IsRunOf own stack) → LastFits stack.replies.items n
-run-fits t devices schedule before after used used' own stack ops op n e f h =
-    let one = h.1.1.1.1 in
-    let r = one.0 in
-    let all = subst (AllBacked t devices) one.1.0 h.1.0.backed in
-    let backed = subst (λ (s : Script). IsBackedBy s t devices r.records (replies_of r)) one.1.1.0 all.0 in
-    subst (λ (s : Stack). LastFits s.replies.items n) one.1.1.1 (backed-fits own t devices r.records (replies_of r) ops op n e f backed)
+run-fits : (t : Table) (devices : List DeviceInfo) (runs : List LegRun) (before after : RigState) (own : Script) (stack : Stack) (ops : List Op) (op : Op) (n : ℕ)
+    → own.ops ≡ ops ++ (op ∷ []) → ListsOf n op → RanLegs t devices runs before after → IsRunOf own stack runs → LastFits stack.replies.items n
+run-fits t devices runs before after own stack ops op n e f ran one =
+    let r = one.run in
+    let all = subst (AllBacked t devices) one.only ran.backed in
+    let backed = subst (λ (s : Script). IsBackedBy s t devices r.records (replies_of r)) one.own_is all.0 in
+    subst (λ (s : Stack). LastFits s.replies.items n) one.so (backed-fits own t devices r.records (replies_of r) ops op n e f backed)
 
 lists-write : (v n : ℕ) (body : List Seg) (app : ℕ) → ListsOf n (Write v n body app)
 lists-write v n body app m es j reply now = asks-steps m es n reply now (λ k. Writes (block_of j v k) app (body_of m.size body k))
@@ -73,23 +71,23 @@ lists-fetch v n body m es j reply now = asks-steps m es n reply now (λ k. Reads
 lists-fetch-pi : (v n : ℕ) (body tuples : List Seg) → ListsOf n (FetchPi v n body tuples)
 lists-fetch-pi v n body tuples m es j reply now = asks-steps m es n reply now (λ k. Reads (block_of j v k) OfApp (frame_at m.size body tuples k))
 
-module _ (t : Table) (devices : List DeviceInfo) (schedule : List (ℕ × ℕ)) (before after : RigState) (used used' : ℕ) (stack : Stack) (s : Script) (half : ℕ) (p : Piece) where
-  pub write-fits : (own : Script) (app : ℕ) (bytes : List ℕ) → own ≡ write_script s half p app bytes → RanBy t devices schedule before after used used' (IsRunOf own stack) → LastFits stack.replies.items p.n
-  write-fits own app bytes e h =
+module _ (t : Table) (devices : List DeviceInfo) (runs : List LegRun) (before after : RigState) (stack : Stack) (s : Script) (half : ℕ) (p : Piece) where
+  pub write-fits : (own : Script) (app : ℕ) (bytes : List ℕ) → own ≡ write_script s half p app bytes → RanLegs t devices runs before after → IsRunOf own stack runs → LastFits stack.replies.items p.n
+  write-fits own app bytes e ran one =
       let pages = pages_for (p.n * s.block) in
       let segs = page_segs 0 pages (p.n * s.block) in
-      run-fits t devices schedule before after used used' own stack (puts 0 pages bytes) (Write (first_virt half p) p.n segs app) p.n (ap (λ (x : Script). x.ops) e) (lists-write (first_virt half p) p.n segs app) h
+      run-fits t devices runs before after own stack (puts 0 pages bytes) (Write (first_virt half p) p.n segs app) p.n (ap (λ (x : Script). x.ops) e) (lists-write (first_virt half p) p.n segs app) ran one
 
-  pub read-fits : (own : Script) → own ≡ read_script s half p → RanBy t devices schedule before after used used' (IsRunOf own stack) → LastFits stack.replies.items p.n
-  read-fits own e h =
+  pub read-fits : (own : Script) → own ≡ read_script s half p → RanLegs t devices runs before after → IsRunOf own stack runs → LastFits stack.replies.items p.n
+  read-fits own e ran one =
       let segs = page_segs 0 (pages_for (p.n * s.block)) (p.n * s.block) in
-      run-fits t devices schedule before after used used' own stack [] (Fetch (first_virt half p) p.n segs) p.n (ap (λ (x : Script). x.ops) e) (lists-fetch (first_virt half p) p.n segs) h
+      run-fits t devices runs before after own stack [] (Fetch (first_virt half p) p.n segs) p.n (ap (λ (x : Script). x.ops) e) (lists-fetch (first_virt half p) p.n segs) ran one
 
-  pub read-pi-fits : (own : Script) → own ≡ read_pi_script s half p → RanBy t devices schedule before after used used' (IsRunOf own stack) → LastFits stack.replies.items p.n
-  read-pi-fits own e h =
+  pub read-pi-fits : (own : Script) → own ≡ read_pi_script s half p → RanLegs t devices runs before after → IsRunOf own stack runs → LastFits stack.replies.items p.n
+  read-pi-fits own e ran one =
       let segs = page_segs 0 (pages_for (p.n * s.block)) (p.n * s.block) in
       let tuples = page_segs (pages_for (p.n * s.block)) (pages_for (p.n * 8)) (p.n * 8) in
-      run-fits t devices schedule before after used used' own stack [] (FetchPi (first_virt half p) p.n segs tuples) p.n (ap (λ (x : Script). x.ops) e) (lists-fetch-pi (first_virt half p) p.n segs tuples) h
+      run-fits t devices runs before after own stack [] (FetchPi (first_virt half p) p.n segs tuples) p.n (ap (λ (x : Script). x.ops) e) (lists-fetch-pi (first_virt half p) p.n segs tuples) ran one
 
 -- ---- what lands
 

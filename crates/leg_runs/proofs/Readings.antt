@@ -7,7 +7,7 @@ use Rattle.mirror_walk.specs.declared.marks.Marks.{Marks}
 use Rattle.mirror_legs.specs.declared.piece.Piece.{Piece}
 use Rattle.mirror_legs.specs.Inner.{read_script}
 use Rattle.leg_runs.specs.Asked.{AreOf, IsInside, IsReadOf, ReadBy, bytes_after, first_listed, found_after, fresh_on0, last_listed, part_of, pasted, rest_wanted, stretches}
-use Rattle.leg_runs.specs.LegRuns.{AllOwn, LegRun, found_by, pool_of, replies_of}
+use Rattle.leg_runs.specs.LegRuns.{AllOwn, LegRun, OneRun, found_by, pool_of, replies_of}
 use Rattle.leg_runs.proofs.OwnEach.{all_own-so}
 
 -- what is asked on leg 1 is a read of the same blocks
@@ -52,16 +52,16 @@ first-long (k ∷ marks) (why ∷ found) e = ap suc (first-long marks found (ome
 -- one stretch was asked
 module _ (script : Piece → Script) (p : Piece) (size : ℕ) (s : ℕ × ℕ) (found' : List (Option Why)) (bytes' : List ℕ) where
   abbrev pub RanPart : List LegRun → Type 0
-  RanPart runs = (r : LegRun) × ((runs ≡ r ∷ []) × ((r.own ≡ script (part_of p s)) × ((found' ≡ found_by s.1 (replies_of r)) × (bytes' ≡ take (s.1 * size) (flat (pool_of r))))))
+  RanPart runs = OneRun (script (part_of p s)) (λ (r : LegRun). (found' ≡ found_by s.1 (replies_of r)) × (bytes' ≡ take (s.1 * size) (flat (pool_of r)))) runs
 
   pub part-of : (runs : List LegRun) → RanPart runs → AreOf script p (s ∷ []) runs
-  part-of runs h = subst (AreOf script p (s ∷ [])) (sym h.1.0) (h.1.1.0, tt)
+  part-of runs h = subst (AreOf script p (s ∷ [])) (sym h.only) (h.own_is, tt)
 
   pub part-found : (runs : List LegRun) (found : List (Option Why)) → RanPart runs → pasted s.0 found' found ≡ found_after (s ∷ []) runs found
-  part-found runs found h = subst (λ (rs : List LegRun). pasted s.0 found' found ≡ found_after (s ∷ []) rs found) (sym h.1.0) (ap (λ f. pasted s.0 f found) h.1.1.1.0)
+  part-found runs found h = subst (λ (rs : List LegRun). pasted s.0 found' found ≡ found_after (s ∷ []) rs found) (sym h.only) (ap (λ f. pasted s.0 f found) h.so.0)
 
   pub part-bytes : (runs : List LegRun) (bytes : List ℕ) → RanPart runs → pasted (s.0 * size) bytes' bytes ≡ bytes_after size (s ∷ []) runs bytes
-  part-bytes runs bytes h = subst (λ (rs : List LegRun). pasted (s.0 * size) bytes' bytes ≡ bytes_after size (s ∷ []) rs bytes) (sym h.1.0) (ap (λ b. pasted (s.0 * size) b bytes) h.1.1.1.1)
+  part-bytes runs bytes h = subst (λ (rs : List LegRun). pasted (s.0 * size) bytes' bytes ≡ bytes_after size (s ∷ []) rs bytes) (sym h.only) (ap (λ b. pasted (s.0 * size) b bytes) h.so.1)
 
 -- the request of a stretch is a read of the piece
 pub reads-part : (s : Script) (half : ℕ) (p : Piece) (stretch : ℕ × ℕ) (runs : List LegRun) → IsInside p.n stretch → AllOwn (λ own. own ≡ read_script s half (part_of p stretch)) runs → AllOwn (IsReadOf s half p) runs

@@ -91,16 +91,6 @@ ran-one s t devices words before after r h = record {
   fallen = λ us e. (let x = h.fallen us e in (x.0, (x.1.0, (x.0, (x.1.1, refl)))));
 }
 
--- ---- runs of which something is said
-
--- what the functions of a mirror say of their runs
-abbrev pub RanBy : Table → List DeviceInfo → (schedule : List (ℕ × ℕ)) → (before after : RigState) → (used used' : ℕ) → (List LegRun → Type 0) → Type 0
-RanBy t devices schedule before after used used' P = (runs : List LegRun) × (RanLegs t devices runs before after × (GoOn schedule used runs used' × P runs))
-
-pub ran-nothing : (t : Table) (devices : List DeviceInfo) (schedule : List (ℕ × ℕ)) (now : RigState) (used : ℕ) (P : List LegRun → Type 0) → P [] → RanBy t devices schedule now now used used P
-ran-nothing t devices schedule now used P h = ([], (ran-none t devices now now (record { units = refl; standing = refl; log = refl; faults = refl }), (refl, h)))
-
--- some runs, and then others
-pub ran-two : (t : Table) (devices : List DeviceInfo) (schedule : List (ℕ × ℕ)) (before between after : RigState) (used then used' : ℕ) (xs ys : List LegRun)
-    → RanLegs t devices xs before between → GoOn schedule used xs then → RanLegs t devices ys between after → GoOn schedule then ys used' → RanLegs t devices (xs ++ ys) before after × GoOn schedule used (xs ++ ys) used'
-ran-two t devices schedule before between after used then used' xs ys h g k f = (ran-append t devices xs ys before between after h k, go_on-append schedule used then used' xs ys g f)
+-- nothing was run
+pub ran-nothing : (t : Table) (devices : List DeviceInfo) (now : RigState) → RanLegs t devices [] now now
+ran-nothing t devices now = ran-none t devices now now (record { units = refl; standing = refl; log = refl; faults = refl })

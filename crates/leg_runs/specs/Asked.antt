@@ -97,3 +97,10 @@ pub record ReadBy (s : Script) (half : ℕ) (p : Piece) (marks : List Marks) (ru
   pub found1_is : found1 ≡ found_after (stretches (rest_wanted marks found0)) runs1 found0
   pub listed_is : listed ≡ last_listed marks (rest_wanted marks found0) (first_listed marks found0) found1
   pub bytes_are : bytes ≡ bytes_after s.block (stretches (rest_wanted marks found0)) runs1 (bytes_after s.block (stretches (fresh_on0 marks)) runs0 (replicate (p.n * s.block) 0))
+
+-- These runs are those of a read of it, on leg 0 and then on leg 1.
+pub record ReadOnBoth (s : Script) (half : ℕ) (p : Piece) (marks : List Marks) (runs : List LegRun) (listed : List (Option Why)) (bytes : List ℕ) : Type 0 where
+  pub runs0 : List LegRun
+  pub runs1 : List LegRun
+  pub runs_are : runs ≡ runs0 ++ runs1
+  pub read : ReadBy s half p marks runs0 runs1 listed bytes

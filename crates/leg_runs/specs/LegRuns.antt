@@ -35,6 +35,13 @@ abbrev pub AllOwn : (Script → Type 0) → List LegRun → Type 0
 AllOwn P [] = Unit {0}
 AllOwn P (r ∷ runs) = P r.own × AllOwn P runs
 
+-- One request alone was run: this script, and of the run this holds.
+pub record OneRun (own : Script) (So : LegRun → Type 0) (runs : List LegRun) : Type 0 where
+  pub run : LegRun
+  pub only : runs ≡ run ∷ []
+  pub own_is : run.own ≡ own
+  pub so : So run
+
 abbrev pub all_records : List LegRun → List Entry
 all_records [] = []
 all_records (r ∷ runs) = r.records ++ all_records runs

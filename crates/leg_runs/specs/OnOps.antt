@@ -1,4 +1,4 @@
-use Rattle.std.specs.Prelude.{ℕ, ◌≡◌, ◌≤◌, ◌⊎◌, Bool, true, false, List, [], ◌∷◌, ◌++◌, drop, replicate, take, Option, Some}
+use Rattle.std.specs.Prelude.{ℕ, ◌≡◌, ◌≤◌, ◌⊎◌, Bool, true, false, List, [], ◌∷◌, ◌++◌, drop, replicate, take, Option, Some, is_some}
 use Rattle.bio_core.specs.declared.fate.Why.{Why}
 use Rattle.page_pool.specs.declared.segs.Seg.{Seg}
 use Rattle.page_pool.specs.Pages.{Wrote, bytes_in, part}
@@ -155,10 +155,15 @@ OpWalked Wait t us runs reply left = AllWalked t us runs left
 
 -- ---- an op, as far as memory goes
 
--- Op number `number`, over these pages: what its runs leave at the rig, the entries of the schedule that they use, and something of them.
-abbrev pub RanOp : Script → List DeviceInfo → (half number : ℕ) → Op → (pool : List (List ℕ)) → (used used' : ℕ) → (before after : RigState) → (List LegRun → Type 0) → Type 0
-RanOp s devices half number op pool used used' before after P =
-    (runs : List LegRun) × (OpRan op (table_of s devices) devices runs before after × (GoOn s.schedule used runs used' × (AllOwn (OpAsks s half number op pool) runs × P runs)))
+-- Op number `number`, over these pages: what its runs leave at the rig, the entries of the schedule that they use, and something of them. The rig tells its image or not as before, and stands as before.
+pub record RanOp (s : Script) (devices : List DeviceInfo) (half number : ℕ) (op : Op) (pool : List (List ℕ)) (used used' : ℕ) (before after : RigState) (Came : List LegRun → Type 0) : Type 0 where
+  pub runs : List LegRun
+  pub ran : OpRan op (table_of s devices) devices runs before after
+  pub goes_on : GoOn s.schedule used runs used'
+  pub own : AllOwn (OpAsks s half number op pool) runs
+  pub came : Came runs
+  pub tells : is_some after.image ≡ is_some before.image
+  pub standing : after.standing ≡ before.standing
 
 -- It was done to its end.
 abbrev pub DidOp : Script → (half number : ℕ) → Op → (old new : Sides) → (before after : RigState) → List LegRun → Reply → Type 0

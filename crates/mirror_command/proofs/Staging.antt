@@ -1,6 +1,6 @@
 -- A script on a mirror, stage by stage.
 use Rattle.std.proofs.Common.{◌≡◌, ◌<◌, ◌≤◌, ℕ, suc, ◌+◌, inl, inr, true, List, [], ◌∷◌, ◌++◌, length, take, refl, sym, ap, ◌∙◌, subst, arith, append-nil, append_assoc}
-use Rattle.std.specs.Prelude.{All, Err, IfOk, MatchResult, Ok, Result, is_err}
+use Rattle.std.specs.Prelude.{All, Err, IfOk, MatchResult, Ok, Result, false, is_err, is_some}
 use Rattle.std.proofs.Math.Seq.{take-length}
 use Rattle.std.proofs.lemmas.List.{length_push}
 use Rattle.std.proofs.lemmas.List.Elements.{All-push}
@@ -26,8 +26,11 @@ use Rattle.mirror_volume.specs.declared.repair.Repair.{Repair as Done}
 use Rattle.leg_runs.specs.LegRuns.{AllBacked, AllOwn, GoOn, LegRun, NamesNoMedium, RanLegs, all_mediums, all_records}
 use Rattle.leg_runs.specs.Mending.{IsRepairOf, RepairBy, stretches_in}
 use Rattle.leg_runs.specs.OnOps.{OpAsks, OpBy, OpRan, OpTells, Sides}
+use Rattle.mirror_volume.specs.declared.legs.Plan.{Plan}
 use Rattle.mirror_volume.specs.Enough.{opening_over}
-use Rattle.leg_runs.specs.Standing.{IsRepairedAs, KeepsToWalk, RepairsAsWalk, StandsAt, half_of, mirror_setting, op_at, walked}
+use Rattle.mirror_volume.specs.Plans.{IsMirror}
+use Rattle.mirror_volume.specs.Running.{CanGoOn}
+use Rattle.leg_runs.specs.Standing.{HasDevices, IsRepairedAs, KeepsToWalk, RepairsAsWalk, StandsAt, half_of, mirror_setting, op_at, walked}
 use Rattle.leg_runs.proofs.Lines.{lines-append, op-lines, rose-later}
 use Rattle.leg_runs.proofs.Unnamed.{unnamed-first, unnamed-last}
 use Rattle.leg_runs.proofs.Runs.{all_backed-append, all_mediums-append, all_records-append, go_on-append, rose-add}
@@ -78,6 +81,15 @@ stretches-more s devices runs more used used' before between after h k g = recor
   backed = all_backed-append (table_of s devices) devices runs more h.backed k.backed;
   medium = subst (λ n. RoseBy n before.faults after.faults) (sym (all_mediums-append runs more)) (rose-add (all_mediums runs) (all_mediums more) before.faults between.faults after.faults h.faults k.faults h.medium k.medium);
   goes = go_on-append s.schedule 0 used used' runs more h.goes g;
+}
+
+-- A mirror that could go on still can, over a rig that stands as before.
+pub goes-on : {old new : Mirror} {before after : RigState} → CanGoOn old before → new.plan ≡ old.plan → IsMirror new → new.failed ≡ false → is_some after.image ≡ is_some before.image → after.standing ≡ before.standing → CanGoOn new after
+goes-on {old} {new} {before} {after} h plan mirror going tells standing = record {
+  mirror = mirror;
+  going = going;
+  rig = subst (λ (p : Plan). HasDevices p.devices.items (is_some after.image) after.standing) (sym plan)
+      (subst (λ st. HasDevices old.plan.devices.items (is_some after.image) st) (sym standing) (subst (λ t. HasDevices old.plan.devices.items t before.standing) (sym tells) h.rig));
 }
 
 -- ---- op by op

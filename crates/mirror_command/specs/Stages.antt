@@ -32,6 +32,12 @@ pub record Stage : Type 0 where
 abbrev pub stage_of : Mirror → List LegRun → RigState → Stage
 stage_of r runs outside = record { sides = sides_of r; used = r.state.used; replies = r.replies.items; runs = runs; outside = outside }
 
+-- None of its ops is done, and it stands at the begin of its walk, over whatever units.
+pub record IsBegun (r : Mirror) : Type 0 where
+  pub none : r.replies.items ≡ []
+  pub unused : r.state.used ≡ 0
+  pub stands : (us : List Stored) → StandsAt r.plan.script r.plan.devices.items us (sides_of r) [] us
+
 -- Op k, counted from 0, was done: by its runs, which go on in the schedule.
 pub record OneMore (s : Script) (devices : List DeviceInfo) (k : ℕ) (old new : Stage) : Type 0 where
   pub runs : List LegRun

@@ -1,11 +1,10 @@
 //! The ops of a mirror, and its repair.
 
-ghost use Rattle.std.specs.Prelude.{◌≡◌, List, [], false, MatchResult, OnOk, is_some, length};
-ghost use Rattle.target_answer.specs.Target.{Stored};
+ghost use Rattle.std.specs.Prelude.{◌≡◌, List, [], MatchResult, OnOk, is_some, length};
 ghost use Rattle.leg_runs.specs.LegRuns.{LegRun};
-ghost use Rattle.mirror_volume.specs.Plans.{IsMirror, sides_of};
-ghost use Rattle.leg_runs.specs.Standing.{HasDevices, StandsAt};
-ghost use Rattle.mirror_command.specs.Stages.{Broke, Finished, Served, stage_of};
+ghost use Rattle.mirror_volume.specs.Plans.{IsMirror};
+ghost use Rattle.mirror_volume.specs.Running.{CanGoOn};
+ghost use Rattle.mirror_command.specs.Stages.{Broke, Finished, IsBegun, Served, stage_of};
 ghost use Rattle.rig_api.specs.State.{RigState};
 
 use mirror_volume::{Mirror, Repair};
@@ -19,16 +18,12 @@ fn do_ops<R: Rig>(
     count: usize,
     rig: &mut R,
 ) -> Result<(), AllocError>
-    requires mirror { IsMirror mirror.old }
-    requires going { mirror.old.failed ≡ false }
-    requires none { mirror.old.replies.items ≡ [] }
-    requires unused { mirror.old.state.used ≡ 0 }
-    requires stands { (us : List Stored) → StandsAt mirror.old.plan.script mirror.old.plan.devices.items us (sides_of mirror.old) [] us }
+    requires ready { CanGoOn mirror.old (R.state rig.old) }
+    requires begun { IsBegun mirror.old }
     requires count { count ≡ length mirror.old.plan.script.ops }
-    requires rig { HasDevices mirror.old.plan.devices.items (is_some (R.state rig.old).image) (R.state rig.old).standing }
     ensures mirror { IsMirror mirror.new }
     ensures plan { mirror.new.plan ≡ mirror.old.plan }
-    ensures going { OnOk result (mirror.new.failed ≡ false) }
+    ensures ready { OnOk result (CanGoOn mirror.new (R.state rig.new)) }
     ensures done { let before : RigState = R.state rig.old in
         let after : RigState = R.state rig.new in
         MatchResult result
@@ -50,13 +45,9 @@ pub(crate) fn serve<R: Rig>(
     count: usize,
     rig: &mut R,
 ) -> Result<Repair, AllocError>
-    requires mirror { IsMirror mirror.old }
-    requires going { mirror.old.failed ≡ false }
-    requires none { mirror.old.replies.items ≡ [] }
-    requires unused { mirror.old.state.used ≡ 0 }
-    requires stands { (us : List Stored) → StandsAt mirror.old.plan.script mirror.old.plan.devices.items us (sides_of mirror.old) [] us }
+    requires ready { CanGoOn mirror.old (R.state rig.old) }
+    requires begun { IsBegun mirror.old }
     requires count { count ≡ length mirror.old.plan.script.ops }
-    requires rig { HasDevices mirror.old.plan.devices.items (is_some (R.state rig.old).image) (R.state rig.old).standing }
     ensures done { let before : RigState = R.state rig.old in
         let after : RigState = R.state rig.new in
         MatchResult result

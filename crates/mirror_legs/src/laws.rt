@@ -54,7 +54,8 @@ pub fn a_read_on_a_leg_goes_its_ways()
 
 /// A stack takes the script in which some blocks of a request are read on a leg with their tuples.
 pub fn a_stack_takes_a_read_with_tuples_on_a_leg()
-    ensures { (s : AnyScript) (t : Table) (devices : List AnyDevice) (half : ℕ) (p : AnyPiece) → IsMirrorScript s t half → IsPieceWithTuples s.block half p → IsReady (read_pi_script s half p) t devices }
+    ensures { (s : AnyScript) (t : Table) (devices : List AnyDevice) (half : ℕ) (p : AnyPiece) → IsMirrorScript s t half → IsPieceWithTuples s.block half p
+        → IsReady (read_pi_script s half p) t devices }
 {}
 
 /// And such a read lists and lands of each block what the mirror's script says of it on this leg, and lands its tuple.

@@ -1,52 +1,37 @@
 -- Along all that a script asks of the legs, under faults that have the form: what stands in the pages and on the volume, and that each fault is shown.
-use Rattle.std.proofs.Common.{◌≡◌, ◌<◌, ◌≤◌, ℕ, zero, suc, ◌+◌, ◌-◌, ◌%◌, ◌^◌, Bool, true, false, eqb, ◌&&◌, not, List, [], ◌∷◌, ◌++◌, length, get_or, set, refl, sym, ap, subst, ◌∙◌, arith, length-append}
-use Rattle.std.specs.Prelude.{All, pos, nat_abs}
+use Rattle.std.proofs.Common.{◌≡◌, ◌<◌, ◌≤◌, ℕ, zero, suc, ◌+◌, ◌-◌, ◌%◌, ◌^◌, Bool, true, false, eqb, ◌&&◌, not, List, [], ◌∷◌, ◌++◌, length, get_or, refl, sym, ap, subst, ◌∙◌, arith}
+use Rattle.std.specs.Prelude.{All}
 use Rattle.std.specs.List.{list_all, list_any}
-use Rattle.std.proofs.lemmas.Bool.{and_from, and_parts, eqb-true, eq-eqb, false≢true, not-true, or_parts}
-use Rattle.std.proofs.lemmas.List.{length-set}
-use Rattle.pi_guard.specs.Guards.{guard_of}
-use Rattle.pi_guard.specs.declared.GuardKind.{GuardKind}
-use Rattle.pi_guard.specs.declared.GuardKind.TheVariants.{Crc}
+use Rattle.std.proofs.lemmas.Bool.{and_from, and_parts, eq-eqb, false≢true, not-true, or_parts}
 use Rattle.pi_guard.proofs.GuardSizes.{guard_below}
-use Rattle.pi_tuple.specs.Finds.{is_escaped}
-use Rattle.pi_tuple.specs.Tuples.{tuple_bytes}
-use Rattle.pi_tuple.specs.declared.tuple.Tuple.{Tuple}
-use Rattle.pi_tuple.specs.declared.checks.PiType.TheVariants.{One}
 use Rattle.pi_tuple.proofs.TupleLaws.{tag_below}
-use Rattle.page_pool.specs.Cells.{gather, scatter}
-use Rattle.fault_schedule.specs.Altered.{is_line_of, is_same, shift_of}
+use Rattle.fault_schedule.specs.Altered.{is_line_of, is_same}
 use Rattle.fault_schedule.specs.declared.fault.Crossing.{Crossing}
-use Rattle.fault_schedule.specs.declared.fault.Crossing.TheVariants.{AdapterToTarget, MediumToTarget, TargetToMedium}
+use Rattle.fault_schedule.specs.declared.fault.Crossing.TheVariants.{MediumToTarget, TargetToMedium}
 use Rattle.fault_schedule.specs.declared.fault.FaultLine.{FaultLine}
 use Rattle.integrity_payload.specs.declared.payload.Owner.{Owner}
 use Rattle.integrity_payload.specs.declared.payload.Owner.TheVariants.{Block as OfBlock}
 use Rattle.stack_ops.specs.declared.op.Op.{Op}
 use Rattle.stack_ops.specs.declared.op.Op.TheVariants.{Fetch, FetchPi, Fill, Overwrite, Put, Seal, Show, Wait, Write, WritePi}
 use Rattle.volume_table.specs.Places.{volume_len}
-use Rattle.block_path.specs.Acts.{State, act}
-use Rattle.block_path.specs.Blocks.{fetched_cell, own_cell, own_frame, own_tuple, read_by, stored_cell, written_by}
-use Rattle.block_path.specs.Routes.{moved}
-use Rattle.block_path.specs.WayIn.{Delivers, Spoils, Stops, WayIn, way_in}
-use Rattle.block_path.specs.WayOut.{Fails, Refuses, Stores, WayOut, way_out}
-use Rattle.block_path.proofs.Cells.{AllBelow, below, gather_length}
+use Rattle.block_path.specs.Acts.{State}
+use Rattle.block_path.proofs.Cells.{AllBelow, below}
 use Rattle.whole_run.specs.CalmRun.{LiesIn}
-use Rattle.whole_run.specs.Detectable.{detectable, step_shows}
-use Rattle.whole_run.specs.FirstLayer.{has_flip, has_shift, is_flip}
+use Rattle.whole_run.specs.Detectable.{detectable}
+use Rattle.whole_run.specs.FirstLayer.{has_flip, is_flip}
 use Rattle.whole_run.specs.Past.{steps_from}
-use Rattle.whole_run.specs.ScriptWalk.{act_of}
 use Rattle.whole_run.specs.Settings.{Block, Setting, block_of, route}
 use Rattle.whole_run.specs.Steps.{Alters, Reads, Seals, Sets, Shows, Step, Writes, WritesPi, body_of, each_from, steps_of}
-use Rattle.whole_run.specs.UnderMap.{AreClean, NoneEscapes, SuppliesNoEscape, home}
+use Rattle.whole_run.specs.UnderMap.{AreClean, NoneEscapes}
 use Rattle.whole_run.proofs.CalmRuns.{part_length}
-use Rattle.whole_run.proofs.TupleFrames.{Small, below_append, below_gather, below_replicate, below_scatter, data_is, tuple_below, tuple_is}
-use Rattle.run_laws.proofs.Layers.{checked, unmoved}
-use Rattle.run_laws.proofs.Along.{set_cases}
+use Rattle.whole_run.proofs.TupleFrames.{below_replicate}
+use Rattle.run_laws.proofs.Layers.{checked}
 use Rattle.run_laws.proofs.Reading.{checked_form}
 use Rattle.run_premises.specs.Forms.{first_virt, is_good_line, is_overwrite, is_shown_line, op_of}
 use Rattle.run_premises.specs.FormedRun.{IsOfBytes}
-use Rattle.run_premises.proofs.Lines.{IsLineOf, line_of, no_shift, none_of, pick}
-use Rattle.run_premises.proofs.Ways.{Fine, Kept, OfBytes, Right, comes_bytes, comes_shown, goes_kept, goes_shown}
+use Rattle.run_premises.proofs.Lines.{IsLineOf, line_of, none_of, pick}
 use Rattle.run_premises.proofs.Runs.{if_all}
+use Rattle.run_premises.proofs.Shown.{AllSuit, Suits, all_shown, begins, both_suit}
 use Rattle.volume_table.specs.declared.device.DeviceInfo.{DeviceInfo}
 use Rattle.mirror_walk.specs.Mirror.{Mirror, all_asked, asked, asks, blocks_in, count_of, done, mirror_opened, twin}
 use Rattle.mirror_walk.specs.OneGood.{AllBind, Binds, script_asks}
@@ -73,53 +58,19 @@ module _ (m' : Setting) (half : ℕ) (ops : List Op) (even : m'.size % 2 ≡ 0) 
   pub good : list_all (is_good_line m'.mode.kind n faults (apart faults)) faults ≡ true
   good = good_apart m'.mode.kind n half faults ops form
 
-  -- a frame on its way
-  abbrev IsFine : List ℕ → Type 0
-  IsFine x = Fine m' (apart faults) even flips good x
-
-  abbrev IsRight : GuardKind → List ℕ → Type 0
-  IsRight k x = Right m' (apart faults) even flips good k x
-
   -- the block is the one that its op names at its place, on the leg of that place
   abbrev pub IsNamed : Block → Type 0
   IsNamed b = virt_in half (op_of ops b.op) b.k ≡ b.virt
 
-  abbrev pub Suits : Step → Type 0
-  Suits (Sets at values) = AllBelow 256 values
-  Suits (Shows at) = Unit {0}
-  Suits (Seals body tuple app rtag) = Unit {0}
-  Suits (Writes b app body) = IsNamed b × ((b.virt < count) × ((length body ≡ n) × (app < 2 ^ 16)))
-  Suits (WritesPi b frame) = ⊥
-  Suits (Reads b owner to) = IsNamed b × (b.virt < count)
-  Suits (Alters dev lba change) = ⊥
+  -- no application brings a tuple to a mirror
+  abbrev pub Brings : Block → Type 0
+  Brings b = ⊥
 
-  abbrev pub AllSuit : List Step → Type 0
-  AllSuit [] = Unit {0}
-  AllSuit (step ∷ steps) = Suits step × AllSuit steps
+  abbrev IsFit : Step → Type 0
+  IsFit = Suits m IsNamed Brings
 
-  -- a stored block of the volume: right where no line alters it on its way to the medium
-  pub record Held (v : ℕ) (x : List ℕ) : Type 0 where
-    pub fine : IsFine x
-    pub right : is_altered_on_legs half ops faults v ≡ false → IsRight Crc x
-
-  pub record Holds (s : State) : Type 0 where
-    pub pages : AllBelow 256 s.bytes
-    pub size : length s.blocks ≡ length image
-    pub each : (v : ℕ) → v < count → Held v (get_or s.blocks (home m v) [])
-
-  -- ---- no shift
-
-  home_is : (b : Block) → stored_cell m.site (route m b) ≡ home m b.virt
-  home_is b = ap (m'.site.cell (route m b).dev) (ap (moved (route m b).lba) (no_shift m'.mode.kind n faults (apart faults) faults good AdapterToTarget b.op) ∙ unmoved m' (route m b).lba (pos 0) refl)
-
-  fetched_is : (b : Block) → fetched_cell m.site (route m b) ≡ home m b.virt
-  fetched_is b =
-      let a = ap (moved (route m b).lba) (no_shift m'.mode.kind n faults (apart faults) faults good AdapterToTarget b.op) ∙ unmoved m' (route m b).lba (pos 0) refl in
-      let w = moved (route m b).lba (shift_of faults AdapterToTarget b.op) in
-      ap (m'.site.cell (route m b).dev) (ap (moved w) (no_shift m'.mode.kind n faults (apart faults) faults good MediumToTarget b.op) ∙ unmoved m' w (pos 0) refl ∙ a)
-
-  unshifted : (b : Block) → has_shift m b MediumToTarget ≡ false
-  unshifted b = ap (λ z. not (eqb (nat_abs z) 0)) (no_shift m'.mode.kind n faults (apart faults) faults good MediumToTarget b.op)
+  abbrev pub AllFitting : List Step → Type 0
+  AllFitting = AllSuit m IsNamed Brings
 
   -- ---- lines of a block
 
@@ -143,125 +94,12 @@ module _ (m' : Setting) (half : ℕ) (ops : List Op) (even : m'.size % 2 ≡ 0) 
       let undoes = not-true _ (and_parts (is_shown_line m'.mode.kind n faults c.line) (not (may_undo_on_legs half ops faults c.line)) c.other).1 in
       ap (is_altered_on_legs half ops faults) (sym (virt_is b MediumToTarget c.line l e)) ∙ if_all (is_same c.line.at MediumToTarget) (is_altered_on_legs half ops faults (virt_on_legs half ops c.line)) undoes same
 
-  -- ---- a block is stored
-
-  stored_held : (b : Block) (stored : List ℕ) (s : State) → IsNamed b → b.virt < count → IsFine stored → (has_flip m b TargetToMedium ≡ false → IsRight Crc stored) → Holds s →
-      (v : ℕ) → v < count → Held v (get_or (set s.blocks (stored_cell m.site (route m b)) stored) (home m v) [])
-  stored_held b stored s e w f r h v l =
-      let c = stored_cell m.site (route m b) in
-      let inside = lies.within b.virt w in
-      let size = h.size in
-      let own = home_is b in
-      set_cases (Held v) s.blocks c (home m v) stored [] (λ q.
-      let same : b.virt ≡ v = lies.apart b.virt v w l (sym own ∙ eqb-true c (home m v) q) in (
-        (omega (arith, inside, size, own)),
-        record { fine = f; right = λ a. r (kept_there b e (ap (is_altered_on_legs half ops faults) same ∙ a)) },
-      )) (λ q. h.each v l)
-
-  written_size : (b : Block) (w : WayOut) (back : List ℕ) (log : List (List ℕ)) (blocks : List (List ℕ)) → length (scatter (stored_cell m.site (route m b) ∷ []) (written_by (route m b) w back log).written.blocks blocks) ≡ length blocks
-  written_size b (Fails why) back log blocks = refl
-  written_size b (Refuses why) back log blocks = refl
-  written_size b (Stores carried stored) back log blocks = length-set blocks (stored_cell m.site (route m b)) stored
-
-  written_held : (b : Block) (w : WayOut) (back : List ℕ) (log : List (List ℕ)) (s : State) → IsNamed b → b.virt < count → Kept m' (apart faults) even flips good b w → Holds s →
-      (v : ℕ) → v < count → Held v (get_or (scatter (stored_cell m.site (route m b) ∷ []) (written_by (route m b) w back log).written.blocks s.blocks) (home m v) [])
-  written_held b (Fails why) back log s e l k h = h.each
-  written_held b (Refuses why) back log s e l k h = h.each
-  written_held b (Stores carried stored) back log s e l k h = stored_held b stored s e l k.0 k.1 h
-
-  -- ---- frames of the host
-
-  own_fine : (b : Block) (app : ℕ) (x : List ℕ) → length x ≡ n → AllBelow 256 x → app < 2 ^ 16 → is_escaped One (own_tuple (route m b) app x) ≡ false → IsFine (own_frame (route m b) app x)
-  own_fine b app x l h a e =
-      let t = own_tuple (route m b) app x in
-      let small : Small t = record { guard = guard_below m'.mode.kind x; app = a; rtag = tag_below b.virt } in
-      record {
-        size = length-append x (tuple_bytes t) ∙ ap (λ k. k + 8) l;
-        bytes = below_append 256 x (tuple_bytes t) h (tuple_below t);
-        escape = ap (λ u. is_escaped One u) (tuple_is n x t l small) ∙ e;
-      }
-
-  own_right : (b : Block) (app : ℕ) (x : List ℕ) → length x ≡ n → app < 2 ^ 16 → IsRight m'.mode.kind (own_frame (route m b) app x)
-  own_right b app x l a =
-      let t = own_tuple (route m b) app x in
-      let small : Small t = record { guard = guard_below m'.mode.kind x; app = a; rtag = tag_below b.virt } in
-      ap (λ (u : Tuple). u.guard) (tuple_is n x t l small) ∙ ap (guard_of m'.mode.kind) (sym (data_is n x t l))
-
-  read_bytes : (b : Block) (owner : Owner) (w : WayIn) (size after : ℕ) → OfBytes m' (apart faults) even flips good w → AllBelow 256 (read_by (route m b) owner w size after).written.bytes
-  read_bytes b owner (Stops why) size after h = below_replicate 256 size 0 (omega arith)
-  read_bytes b owner (Spoils why carried) size after h = below_replicate 256 size 0 (omega arith)
-  read_bytes b owner (Delivers carried frame) size after h = h
-
-  -- ---- a step
-
-  pub record Goes (step : Step) (s : State) : Type 0 where
-    pub shown : step_shows m step s ≡ true
-    pub holds : Holds (act (act_of m step) s)
-
-  one_step : (step : Step) (s : State) → Suits step → SuppliesNoEscape m step s → Holds s → Goes step s
-  one_step (Sets at values) s fit e h = record { shown = refl; holds = record { pages = below_scatter 256 at values s.bytes fit h.pages; size = h.size; each = h.each } }
-  one_step (Shows at) s fit e h = record { shown = refl; holds = record { pages = h.pages; size = h.size; each = h.each } }
-  one_step (Seals body tuple app rtag) s fit e h =
-      let t : Tuple = record { guard = guard_of m'.mode.kind (gather 0 body s.bytes); app = app; rtag = rtag } in
-      record { shown = refl; holds = record { pages = below_scatter 256 tuple (tuple_bytes t) s.bytes (tuple_below t) h.pages; size = h.size; each = h.each } }
-  one_step (Writes b app body) s fit e h =
-      let x = gather 0 body s.bytes in
-      let l = gather_length 0 body s.bytes ∙ fit.1.1.0 in
-      let bytes = below_gather 256 body s.bytes (omega arith) h.pages in
-      let frame = own_frame (route m b) app x in
-      let f = own_fine b app x l bytes fit.1.1.1 (e refl) in
-      let w = way_out faults m.site.device (route m b) frame in
-      let log = get_or s.logs (own_cell m.site (route m b)) [] in
-      let k = goes_kept m' (apart faults) even flips good b frame f in
-      record {
-        shown = goes_shown m' (apart faults) even flips good b frame f (λ q. own_right b app x l fit.1.1.1);
-        holds = record { pages = h.pages; size = written_size b w [] log s.blocks ∙ h.size; each = written_held b w [] log s fit.0 fit.1.0 k h };
-      }
-  one_step (WritesPi b frame) s fit e h = absurd fit
-  one_step (Reads b owner to) s fit e h =
-      let c = fetched_cell m.site (route m b) in
-      let stored = get_or s.blocks c [] in
-      let k = subst (λ i. Held b.virt (get_or s.blocks i [])) (sym (fetched_is b)) (h.each b.virt fit.1) in
-      let w = way_in faults m.site.device (route m b) owner stored in
-      let logged = length (get_or s.logs (own_cell m.site (route m b)) []) in
-      record {
-        shown = comes_shown m' (apart faults) even flips good b stored k.fine (unshifted b) (λ q. k.right (whole_there b fit.0 q));
-        holds = record {
-          pages = below_scatter 256 to (read_by (route m b) owner w (length to) logged).written.bytes s.bytes (read_bytes b owner w (length to) logged (comes_bytes m' (apart faults) even flips good b owner stored k.fine)) h.pages;
-          size = h.size;
-          each = h.each;
-        };
-      }
-  one_step (Alters dev lba change) s fit e h = absurd fit
-
-  pub all_shown : (steps : List Step) (s : State) → AllSuit steps → NoneEscapes m steps s → Holds s → detectable m steps s ≡ true
-  all_shown [] s fit e h = refl
-  all_shown (step ∷ steps) s fit e h =
-      let g = one_step step s fit.0 e.0 h in
-      let next = act (act_of m step) s in
-      and_from (step_shows m step s) (detectable m steps next) g.shown (all_shown steps next fit.1 e.1 g.holds)
-
-  pub begins : (s : State) → s.blocks ≡ image → AllBelow 256 s.bytes → AreClean m s.blocks → Holds s
-  begins s same pages clean = record {
-    pages = pages;
-    size = ap length same;
-    each = λ v l.
-        let c = clean v l refl in
-        record {
-          fine = record {
-            size = ap (λ (bs : List (List ℕ)). length (get_or bs (home m v) [])) same ∙ lies.size v l;
-            bytes = subst (λ (bs : List (List ℕ)). AllBelow 256 (get_or bs (home m v) [])) (sym same) (below 256 (get_or image (home m v) []) (lies.bytes v l));
-            escape = c.no_escape;
-          };
-          right = λ a. c.guard;
-        };
-  }
+  pub steps_shown : (steps : List Step) (s : State) → AllFitting steps → NoneEscapes m steps s → s.blocks ≡ image → AllBelow 256 s.bytes → AreClean m s.blocks → detectable m steps s ≡ true
+  steps_shown steps s fit e same pages clean =
+      all_shown m' (apart faults) even flips good image lies IsNamed Brings (is_altered_on_legs half ops faults) kept_there whole_there (λ b h. absurd h) steps s fit e
+      (begins m' (apart faults) even flips good image lies IsNamed Brings (is_altered_on_legs half ops faults) kept_there whole_there (λ b h. absurd h) s same pages clean)
 
   -- ---- what a script asks of the legs
-
-  both_suit : (xs ys : List Step) → AllSuit xs → AllSuit ys → AllSuit (xs ++ ys)
-  both_suit [] ys h k = k
-  both_suit (x ∷ xs) ys h k = (h.0, both_suit xs ys h.1 k)
 
   -- a step of the script: what it asks suits, on either leg
   abbrev OnLegs : Block → Type 0
@@ -284,13 +122,13 @@ module _ (m' : Setting) (half : ℕ) (ops : List Op) (even : m'.size % 2 ≡ 0) 
   both_ask [] ys h k = k
   both_ask (x ∷ xs) ys h k = (h.0, both_ask xs ys h.1 k)
 
-  read_suits : (f0 f1 d : Bool) (b c : Block) (owner : Owner) (to : List ℕ) → Suits (Reads b owner to) → Suits (Reads c owner to) → AllSuit (asked f0 f1 d (Reads b owner to) (Reads c owner to))
+  read_suits : (f0 f1 d : Bool) (b c : Block) (owner : Owner) (to : List ℕ) → IsFit (Reads b owner to) → IsFit (Reads c owner to) → AllFitting (asked f0 f1 d (Reads b owner to) (Reads c owner to))
   read_suits true true true b c owner to h k = (h, tt)
   read_suits true true false b c owner to h k = (h, (k, tt))
   read_suits true false d b c owner to h k = (h, tt)
   read_suits false f1 d b c owner to h k = (k, tt)
 
-  asks_suit : (step : Step) (s : Mirror) → Asks step → AllSuit (asks m half (count_of ops) step s)
+  asks_suit : (step : Step) (s : Mirror) → Asks step → AllFitting (asks m half (count_of ops) step s)
   asks_suit (Sets at values) s h = (h, tt)
   asks_suit (Shows at) s h = (tt, tt)
   asks_suit (Seals body tuple app rtag) s h = (tt, tt)
@@ -299,10 +137,10 @@ module _ (m' : Setting) (half : ℕ) (ops : List Op) (even : m'.size % 2 ≡ 0) 
   asks_suit (Reads b owner to) s h = read_suits _ _ _ b (twin m half (count_of ops) b) owner to h.0 h.1
   asks_suit (Alters dev lba change) s h = absurd h
 
-  all_asked_suit : (steps : List Step) (s : Mirror) → AllAsk steps → AllSuit (all_asked m half (count_of ops) steps s)
+  all_asked_suit : (steps : List Step) (s : Mirror) → AllAsk steps → AllFitting (all_asked m half (count_of ops) steps s)
   all_asked_suit [] s h = tt
   all_asked_suit (step ∷ steps) s h =
-      both_suit (asks m half (count_of ops) step s) (all_asked m half (count_of ops) steps (done m half (count_of ops) step s)) (asks_suit step s h.0) (all_asked_suit steps (done m half (count_of ops) step s) h.1)
+      both_suit m IsNamed Brings (asks m half (count_of ops) step s) (all_asked m half (count_of ops) steps (done m half (count_of ops) step s)) (asks_suit step s h.0) (all_asked_suit steps (done m half (count_of ops) step s) h.1)
 
   each_asks : (k c : ℕ) (f : ℕ → Step) → ((j : ℕ) → j < k + c → Asks (f j)) → AllAsk (each_from k c f)
   each_asks k zero f h = tt
@@ -339,7 +177,7 @@ module _ (m' : Setting) (half : ℕ) (ops : List Op) (even : m'.size % 2 ≡ 0) 
       both_ask (steps_of m i op) (steps_from m (suc i) rest) (op_asks devices bytes long i op first h.0 p.0 none.0)
       (ops_ask devices bytes long (suc i) rest (λ j. let z : suc i + j ≡ i + suc j = omega arith in ap (op_of ops) z ∙ e (suc j)) h.1 p.1 none.1)
 
-  pub script_suits : (devices : List DeviceInfo) (opening : State) → count ≡ half + half → AllBind m devices half (length opening.bytes) ops → AllPutBytes ops → list_any is_overwrite ops ≡ false → AllSuit (script_asks m half ops opening)
+  pub script_suits : (devices : List DeviceInfo) (opening : State) → count ≡ half + half → AllBind m devices half (length opening.bytes) ops → AllPutBytes ops → list_any is_overwrite ops ≡ false → AllFitting (script_asks m half ops opening)
   script_suits devices opening long bind puts none =
       all_asked_suit (steps_from m 1 ops) (mirror_opened half opening)
       (ops_ask devices (length opening.bytes) long 1 ops (λ j. let z : 1 + j - 1 ≡ j = omega arith in ap (λ v. get_or ops v Wait) z) bind puts none)
@@ -347,10 +185,9 @@ module _ (m' : Setting) (half : ℕ) (ops : List Op) (even : m'.size % 2 ≡ 0) 
 formed : (m' : Setting) (devices : List DeviceInfo) (half : ℕ) (ops : List Op) (opening : State) → HasFormedLegs (checked m') devices half ops opening → detectable (checked m') (script_asks (checked m') half ops opening) opening ≡ true
 formed m' devices half ops opening run =
     let p = and_parts (list_all (is_good_on_legs m'.mode.kind m'.size half m'.site.faults ops) m'.site.faults) (not (list_any is_overwrite ops)) run.form in
-    all_shown m' half ops run.even run.flips p.0 opening.blocks run.lies (script_asks (checked m') half ops opening) opening
+    steps_shown m' half ops run.even run.flips p.0 opening.blocks run.lies (script_asks (checked m') half ops opening) opening
     (script_suits m' half ops run.even run.flips p.0 opening.blocks run.lies devices opening run.long run.bind run.puts (not-true _ p.1))
-    run.no_escape
-    (begins m' half ops run.even run.flips p.0 opening.blocks run.lies opening refl (below 256 opening.bytes run.pages) run.clean)
+    run.no_escape refl (below 256 opening.bytes run.pages) run.clean
 
 pub shown_by_form : (m : Setting) (devices : List DeviceInfo) (half : ℕ) (ops : List Op) (opening : State) → HasFormedLegs m devices half ops opening → detectable m (script_asks m half ops opening) opening ≡ true
 shown_by_form m devices half ops opening run =

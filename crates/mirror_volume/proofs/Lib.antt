@@ -1,3 +1,4 @@
+pub mod Running
 pub mod Pieces
 pub mod Planned
 pub mod Stretched

@@ -1,10 +1,13 @@
 use Rattle.std.specs.Prelude.{ℕ, ◌≡◌, ◌*◌, List, length, Option}
+use Rattle.bio_core.specs.declared.fate.Why.{Why}
 use Rattle.whole_run.specs.Past.{Brought}
+use Rattle.mirror_walk.specs.declared.marks.Marks.{Marks}
 use Rattle.mirror_volume.specs.declared.repair.Held.{Held}
+use Rattle.mirror_volume.specs.declared.repair.Repair.{Repair}
 use Rattle.mirror_volume.specs.declared.repair.Seen.{Seen}
 use Rattle.leg_runs.specs.LegRuns.{LegRun}
 use Rattle.leg_runs.specs.Asked.{bytes_after, found_after}
-use Rattle.leg_runs.specs.Mending.{goods, tuples_after}
+use Rattle.leg_runs.specs.Mending.{Mended, goods, tuples_after}
 
 -- What a leg has of n blocks of this size.
 pub record IsHeld (size n : ℕ) (h : Held) : Type 0 where
@@ -12,8 +15,19 @@ pub record IsHeld (size n : ℕ) (h : Held) : Type 0 where
   pub bytes : length h.bytes.items ≡ n * size
   pub tuples : length h.tuples.items ≡ n * 8
 
+-- What both legs have of them.
+pub record AreHeld (size n : ℕ) (h0 h1 : Held) : Type 0 where
+  pub on0 : IsHeld size n h0
+  pub on1 : IsHeld size n h1
+
 abbrev pub goods_in : (size : ℕ) → Held → List (Option Brought)
 goods_in size h = goods size h.good.items h.bytes.items h.tuples.items
+
+-- These have room for n blocks of this size: their data, their tuples, and what is found of each.
+pub record HasRoom (size n : ℕ) (bytes tuples : List ℕ) (found : List (Option Why)) : Type 0 where
+  pub long : length bytes ≡ n * size
+  pub tuples_long : length tuples ≡ n * 8
+  pub found_long : length found ≡ n
 
 -- What came of n blocks so far.
 pub record IsSeen (size n : ℕ) (seen : Seen) : Type 0 where
@@ -26,3 +40,10 @@ pub record IsAfter (size : ℕ) (stretches : List (ℕ × ℕ)) (runs : List Leg
   pub found : new.found.items ≡ found_after stretches runs old.found.items
   pub bytes : new.bytes.items ≡ bytes_after size stretches runs old.bytes.items
   pub tuples : new.tuples.items ≡ tuples_after size stretches runs old.tuples.items
+
+-- the marks of all blocks, and what was counted up to now; and where nothing was
+abbrev pub so_far : List Marks → Repair → Mended
+so_far marks done = record { marks = marks; repaired = done.repaired; lost = done.lost }
+
+abbrev pub none_mended : List Marks → Mended
+none_mended marks = record { marks = marks; repaired = 0; lost = 0 }

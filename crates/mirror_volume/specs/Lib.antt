@@ -1,4 +1,5 @@
 pub mod Plans
+pub mod Running
 pub mod Helds
 pub mod Enough
 pub mod Premises

@@ -1,8 +1,13 @@
-use Rattle.std.specs.Prelude.{◌≡◌, ◌+◌, ◌*◌, ◌≤◌, length}
+use Rattle.std.specs.Prelude.{ℕ, ◌≡◌, ◌+◌, ◌*◌, ◌≤◌, List, length}
+use Rattle.page_pool.specs.declared.segs.Seg.{Seg}
+use Rattle.page_pool.specs.Pages.{AllLieIn}
+use Rattle.page_pool.specs.Places.{NoneTwice, range_of, total}
 use Rattle.mirror_legs.specs.declared.piece.Piece.{Piece}
 use Rattle.mirror_volume.specs.declared.legs.Plan.{Plan}
 use Rattle.mirror_volume.specs.declared.mirror.Mirror.{Mirror}
-use Rattle.leg_runs.specs.OnOps.{Sides}
+use Rattle.mirror_volume.specs.declared.mirror.State.{State}
+use Rattle.leg_runs.specs.Mending.{whole_stretch}
+use Rattle.leg_runs.specs.OnOps.{Sides, whole_request}
 use Rattle.leg_runs.specs.Standing.{IsBoundMirror, half_of}
 
 -- What a mirror goes by: a script that is bound to its devices, and the number of its blocks.
@@ -18,6 +23,18 @@ pub record IsPieceOf (p : Plan) (piece : Piece) : Type 0 where
   pub room : piece.n * p.script.block ≤ 1048576
   pub inside : piece.v + piece.n ≤ p.half
 
+-- All blocks of a stretch are such a piece, on leg 0.
+pub record IsStretchOf (p : Plan) (whole : Piece) : Type 0 where
+  pub piece : IsPieceOf p whole
+  pub all : whole ≡ whole_stretch whole.v whole.n
+
+-- All n blocks from v on, as op `op`, are such a piece. Their data are as long, lie in the pages, and no byte of a page is of two of them.
+pub record IsRequestOf (p : Plan) (pool : List (List ℕ)) (op v n : ℕ) (body : List Seg) : Type 0 where
+  pub piece : IsPieceOf p (whole_request op v n)
+  pub long : total body ≡ n * p.script.block
+  pub lie : AllLieIn pool body
+  pub once : NoneTwice (range_of body 0 (total body))
+
 -- A mirror between two ops: as many replies as ops are done, all of its pages, and a mark for each block.
 pub record IsMirror (r : Mirror) : Type 0 where
   pub plan : IsPlan r.plan
@@ -27,5 +44,8 @@ pub record IsMirror (r : Mirror) : Type 0 where
   pub done : length r.replies.items ≤ length r.plan.script.ops
   pub room : length r.plan.script.ops ≤ r.replies.cap
 
+abbrev pub both_of : State → Sides
+both_of state = record { pool = state.pool; marks = state.marks.items }
+
 abbrev pub sides_of : Mirror → Sides
-sides_of r = record { pool = r.state.pool; marks = r.state.marks.items }
+sides_of r = both_of r.state

@@ -1,6 +1,6 @@
 //! Requests on a leg: each is a stack of its own, run to its end.
 
-ghost use Rattle.std.specs.Prelude.{◌≡◌, ◌<◌, ◌≤◌, ◌+◌, ◌*◌, ◌^◌, List, [], ◌∷◌, IfOk, OnOk, None, drop, is_some, length, take};
+ghost use Rattle.std.specs.Prelude.{◌≡◌, ◌<◌, ◌≤◌, ◌+◌, ◌*◌, ◌^◌, IfOk, OnOk, None, drop, length, take};
 ghost use Rattle.page_pool.specs.Cells.{flat};
 ghost use Rattle.page_pool.specs.Pages.{AllLieIn};
 ghost use Rattle.script_ground.specs.SuitsStack.{SuitsStack};
@@ -9,9 +9,11 @@ ghost use Rattle.script_stack.specs.Causes.{table_of};
 ghost use Rattle.run_follows.specs.Requests.{requests_from};
 ghost use Rattle.stack_core.specs.Stacks.{IsStack};
 ghost use Rattle.mirror_legs.specs.Inner.{page_segs, pages_for, read_pi_script, read_script, write_script};
-ghost use Rattle.leg_runs.specs.LegRuns.{AllOwn, GoOn, LegRun, RanLegs, found_by, pool_of, replies_of};
-ghost use Rattle.mirror_volume.specs.Plans.{IsPlan, IsPieceOf};
-ghost use Rattle.leg_runs.specs.Standing.{HasDevices, IsBoundMirror};
+ghost use Rattle.leg_runs.specs.LegRuns.{OneRun, found_by, pool_of, replies_of};
+ghost use Rattle.mirror_volume.specs.Helds.{HasRoom};
+ghost use Rattle.mirror_volume.specs.Plans.{IsPieceOf};
+ghost use Rattle.mirror_volume.specs.Running.{CanRun, HasRun};
+ghost use Rattle.leg_runs.specs.Standing.{IsBoundMirror};
 
 use crate::replies::found_last;
 use bio_core::Why;
@@ -60,21 +62,16 @@ fn run_own<R: Rig>(
     used: &mut usize,
     rig: &mut R,
 ) -> Result<Stack, AllocError>
-    requires plan { IsPlan plan.now }
-    requires rig { HasDevices plan.now.devices.items (is_some (R.state rig.old).image) (R.state rig.old).standing }
-    requires used { used.old ≤ length plan.now.script.schedule }
+    requires ready { CanRun plan.now used.old (R.state rig.old) }
     requires suits { SuitsStack own }
     requires lines { length own.lines ≡ length own.faults + length own.ops }
     requires block { own.block ≡ plan.now.script.block }
     requires bound { binding_fault own (table_of plan.now.script plan.now.devices.items) plan.now.devices.items ≡ None }
-    ensures ran { (runs : List LegRun) × (RanLegs (table_of plan.now.script plan.now.devices.items) plan.now.devices.items runs (R.state rig.old) (R.state rig.new)
-        × (GoOn plan.now.script.schedule used.old runs used.new × (AllOwn (λ s. s ≡ own) runs
-        × IfOk result (λ stack. (r : LegRun) × ((runs ≡ r ∷ []) × ((r.own ≡ own) × (r.stack ≡ stack))))))) }
+    ensures ran { HasRun plan.now used.old used.new (R.state rig.old) (R.state rig.new) (λ s. s ≡ own)
+        (λ runs. IfOk result (λ stack. OneRun own (λ r. r.stack ≡ stack) runs)) }
     ensures stack { IfOk result IsStack }
     ensures ios { IfOk result (λ stack. stack.sheet.ios.items ≡ requests_from own.mode.dix own.pages own.ops) }
-    ensures tells { is_some (R.state rig.new).image ≡ is_some (R.state rig.old).image }
-    ensures standing { (R.state rig.new).standing ≡ (R.state rig.old).standing }
-    ensures used { used.new ≤ length plan.now.script.schedule }
+    ensures ready { CanRun plan.now used.new (R.state rig.new) }
 {
     let table = table_of(alloc, &plan.script, plan.devices.as_slice())?;
     let rest = &plan.script.schedule.as_slice()[*used..];
@@ -94,19 +91,14 @@ pub(crate) fn write_piece<R: Rig>(
     used: &mut usize,
     rig: &mut R,
 ) -> Result<(), AllocError>
-    requires plan { IsPlan plan.now }
-    requires rig { HasDevices plan.now.devices.items (is_some (R.state rig.old).image) (R.state rig.old).standing }
-    requires used { used.old ≤ length plan.now.script.schedule }
+    requires ready { CanRun plan.now used.old (R.state rig.old) }
     requires piece { IsPieceOf plan.now piece }
     requires long { length bytes.now ≡ piece.n * plan.now.script.block }
     requires found { length found.old ≡ piece.n }
-    ensures ran { (runs : List LegRun) × (RanLegs (table_of plan.now.script plan.now.devices.items) plan.now.devices.items runs (R.state rig.old) (R.state rig.new)
-        × (GoOn plan.now.script.schedule used.old runs used.new × (AllOwn (λ own. own ≡ write_script plan.now.script plan.now.half piece app bytes.now) runs
-        × IfOk result (λ u. (r : LegRun) × ((runs ≡ r ∷ []) × ((r.own ≡ write_script plan.now.script plan.now.half piece app bytes.now) × (found.new ≡ found_by piece.n (replies_of r)))))))) }
+    ensures ran { HasRun plan.now used.old used.new (R.state rig.old) (R.state rig.new) (λ own. own ≡ write_script plan.now.script plan.now.half piece app bytes.now)
+        (λ runs. IfOk result (λ u. OneRun (write_script plan.now.script plan.now.half piece app bytes.now) (λ r. found.new ≡ found_by piece.n (replies_of r)) runs)) }
     ensures found { length found.new ≡ length found.old }
-    ensures tells { is_some (R.state rig.new).image ≡ is_some (R.state rig.old).image }
-    ensures standing { (R.state rig.new).standing ≡ (R.state rig.old).standing }
-    ensures used { used.new ≤ length plan.now.script.schedule }
+    ensures ready { CanRun plan.now used.new (R.state rig.new) }
 {
     a_mirror_has_what_its_legs_ask();
     a_stack_takes_a_request_on_a_leg();
@@ -140,21 +132,16 @@ pub(crate) fn read_piece<R: Rig>(
     used: &mut usize,
     rig: &mut R,
 ) -> Result<(), AllocError>
-    requires plan { IsPlan plan.now }
-    requires rig { HasDevices plan.now.devices.items (is_some (R.state rig.old).image) (R.state rig.old).standing }
-    requires used { used.old ≤ length plan.now.script.schedule }
+    requires ready { CanRun plan.now used.old (R.state rig.old) }
     requires piece { IsPieceOf plan.now piece }
     requires long { length bytes.old ≡ piece.n * plan.now.script.block }
     requires found { length found.old ≡ piece.n }
-    ensures ran { (runs : List LegRun) × (RanLegs (table_of plan.now.script plan.now.devices.items) plan.now.devices.items runs (R.state rig.old) (R.state rig.new)
-        × (GoOn plan.now.script.schedule used.old runs used.new × (AllOwn (λ own. own ≡ read_script plan.now.script plan.now.half piece) runs
-        × IfOk result (λ u. (r : LegRun) × ((runs ≡ r ∷ []) × ((r.own ≡ read_script plan.now.script plan.now.half piece)
-        × ((found.new ≡ found_by piece.n (replies_of r)) × (bytes.new ≡ take (piece.n * plan.now.script.block) (flat (pool_of r)))))))))) }
+    ensures ran { HasRun plan.now used.old used.new (R.state rig.old) (R.state rig.new) (λ own. own ≡ read_script plan.now.script plan.now.half piece)
+        (λ runs. IfOk result (λ u. OneRun (read_script plan.now.script plan.now.half piece)
+        (λ r. (found.new ≡ found_by piece.n (replies_of r)) × (bytes.new ≡ take (piece.n * plan.now.script.block) (flat (pool_of r)))) runs)) }
     ensures found { length found.new ≡ length found.old }
     ensures long { length bytes.new ≡ length bytes.old }
-    ensures tells { is_some (R.state rig.new).image ≡ is_some (R.state rig.old).image }
-    ensures standing { (R.state rig.new).standing ≡ (R.state rig.old).standing }
-    ensures used { used.new ≤ length plan.now.script.schedule }
+    ensures ready { CanRun plan.now used.new (R.state rig.new) }
 {
     a_mirror_has_what_its_legs_ask();
     a_stack_takes_a_request_on_a_leg();
@@ -175,25 +162,16 @@ pub(crate) fn read_pi_piece<R: Rig>(
     used: &mut usize,
     rig: &mut R,
 ) -> Result<(), AllocError>
-    requires plan { IsPlan plan.now }
-    requires rig { HasDevices plan.now.devices.items (is_some (R.state rig.old).image) (R.state rig.old).standing }
-    requires used { used.old ≤ length plan.now.script.schedule }
+    requires ready { CanRun plan.now used.old (R.state rig.old) }
     requires piece { IsPieceOf plan.now piece }
     requires short { piece.n ≤ 128 }
-    requires long { length bytes.old ≡ piece.n * plan.now.script.block }
-    requires tuples { length tuples.old ≡ piece.n * 8 }
-    requires found { length found.old ≡ piece.n }
-    ensures ran { (runs : List LegRun) × (RanLegs (table_of plan.now.script plan.now.devices.items) plan.now.devices.items runs (R.state rig.old) (R.state rig.new)
-        × (GoOn plan.now.script.schedule used.old runs used.new × (AllOwn (λ own. own ≡ read_pi_script plan.now.script plan.now.half piece) runs
-        × IfOk result (λ u. (r : LegRun) × ((runs ≡ r ∷ []) × ((r.own ≡ read_pi_script plan.now.script plan.now.half piece) × ((found.new ≡ found_by piece.n (replies_of r))
-        × ((bytes.new ≡ take (piece.n * plan.now.script.block) (flat (pool_of r)))
-        × (tuples.new ≡ take (piece.n * 8) (drop (4096 * pages_for (piece.n * plan.now.script.block)) (flat (pool_of r)))))))))))) }
-    ensures found { length found.new ≡ length found.old }
-    ensures long { length bytes.new ≡ length bytes.old }
-    ensures tuples { length tuples.new ≡ length tuples.old }
-    ensures tells { is_some (R.state rig.new).image ≡ is_some (R.state rig.old).image }
-    ensures standing { (R.state rig.new).standing ≡ (R.state rig.old).standing }
-    ensures used { used.new ≤ length plan.now.script.schedule }
+    requires room { HasRoom plan.now.script.block piece.n bytes.old tuples.old found.old }
+    ensures ran { HasRun plan.now used.old used.new (R.state rig.old) (R.state rig.new) (λ own. own ≡ read_pi_script plan.now.script plan.now.half piece)
+        (λ runs. IfOk result (λ u. OneRun (read_pi_script plan.now.script plan.now.half piece)
+        (λ r. (found.new ≡ found_by piece.n (replies_of r)) × ((bytes.new ≡ take (piece.n * plan.now.script.block) (flat (pool_of r)))
+        × (tuples.new ≡ take (piece.n * 8) (drop (4096 * pages_for (piece.n * plan.now.script.block)) (flat (pool_of r)))))) runs)) }
+    ensures room { HasRoom plan.now.script.block piece.n bytes.new tuples.new found.new }
+    ensures ready { CanRun plan.now used.new (R.state rig.new) }
 {
     a_mirror_has_what_its_legs_ask();
     a_stack_takes_a_read_with_tuples_on_a_leg();

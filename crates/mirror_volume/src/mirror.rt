@@ -1,15 +1,13 @@
 //! A script on a mirror, op by op.
 
-ghost use Rattle.std.specs.Prelude.{IfErr, IfOk, IsTrue, List, Ok, [], false, is_err, is_some, length, true, ◌*◌, ◌++◌, ◌+◌, ◌<◌, ◌↔◌, ◌∷◌, ◌≡◌, ◌≤◌};
-ghost use Rattle.script_stack.specs.Causes.{table_of};
-ghost use Rattle.leg_runs.specs.LegRuns.{AllOwn, GoOn, LegRun, RanLegs};
-ghost use Rattle.mirror_volume.specs.Plans.{IsMirror, IsPlan, sides_of};
-ghost use Rattle.leg_runs.specs.Standing.{HasDevices};
+ghost use Rattle.std.specs.Prelude.{IfErr, IfOk, IsTrue, List, Ok, [], false, is_err, length, true, ◌+◌, ◌<◌, ◌↔◌, ◌≡◌};
+ghost use Rattle.mirror_volume.specs.Helds.{none_mended, so_far};
+ghost use Rattle.mirror_volume.specs.Plans.{IsMirror, sides_of};
+ghost use Rattle.mirror_volume.specs.Running.{CanGoOn, CanRun, DidNext, HasRun};
 ghost use Rattle.target_answer.specs.Target.{Stored};
-ghost use Rattle.stack_ops.specs.declared.reply.Reply.{Reply};
-ghost use Rattle.leg_runs.specs.OnOps.{DidOp, RanOp, whole_request};
+ghost use Rattle.leg_runs.specs.OnOps.{RanOp, whole_request};
 ghost use Rattle.leg_runs.specs.Mending.{IsRepairOf, RepairBy, stretches_in};
-ghost use Rattle.leg_runs.specs.Standing.{IsBoundMirror, KeepsToWalk, RepairsAsWalk, StandsAt, op_at};
+ghost use Rattle.leg_runs.specs.Standing.{IsBoundMirror, RepairsAsWalk, StandsAt, op_at};
 
 use crate::legs::{Plan, table_of};
 use crate::marks::FRESH;
@@ -98,24 +96,17 @@ impl Mirror {
 
     /// Does the next op; false exactly where none is left, and then nothing is done.
     pub fn next<R: Rig>(&mut self, alloc: Global, rig: &mut R) -> Result<bool, AllocError>
-        requires mirror { IsMirror self.old }
-        requires going { self.old.failed ≡ false }
-        requires rig { HasDevices self.old.plan.devices.items (is_some (R.state rig.old).image) (R.state rig.old).standing }
+        requires ready { CanGoOn self.old (R.state rig.old) }
         ensures mirror { IsMirror self.new }
         ensures plan { self.new.plan ≡ self.old.plan }
         ensures more { IfOk result (λ more. IsTrue more ↔ length self.old.replies.items < length self.old.plan.script.ops) }
         ensures ended { result ≡ Ok false → (self.new ≡ self.old) × (R.state rig.new ≡ R.state rig.old) }
         ensures failed { self.new.failed ≡ is_err result }
         ensures wanting { IfErr result (λ e. self.new.replies.items ≡ self.old.replies.items) }
-        ensures op { RanOp self.old.plan.script self.old.plan.devices.items self.old.plan.half (length self.old.replies.items + 1)
-            (op_at self.old.plan.script.ops (length self.old.replies.items)) self.old.state.pool self.old.state.used self.new.state.used (R.state rig.old) (R.state rig.new)
-            (λ runs. result ≡ Ok true → (reply : Reply) × ((self.new.replies.items ≡ self.old.replies.items ++ (reply ∷ []))
-            × (DidOp self.old.plan.script self.old.plan.half (length self.old.replies.items + 1) (op_at self.old.plan.script.ops (length self.old.replies.items))
-            (sides_of self.old) (sides_of self.new) (R.state rig.old) (R.state rig.new) runs reply
-            × KeepsToWalk self.old.plan.script self.old.plan.devices.items (sides_of self.old) (sides_of self.new) (R.state rig.old) (R.state rig.new)
-            self.old.replies.items reply runs))) }
-        ensures tells { is_some (R.state rig.new).image ≡ is_some (R.state rig.old).image }
-        ensures standing { (R.state rig.new).standing ≡ (R.state rig.old).standing }
+        ensures op { RanOp self.old.plan.script self.old.plan.devices.items self.old.plan.half
+            (length self.old.replies.items + 1) (op_at self.old.plan.script.ops (length self.old.replies.items))
+            self.old.state.pool self.old.state.used self.new.state.used (R.state rig.old) (R.state rig.new)
+            (λ runs. result ≡ Ok true → DidNext self.old self.new (R.state rig.old) (R.state rig.new) runs) }
     {
         an_op_of_a_mirror_goes_on_in_its_walk();
         // The pages are whole, which the law asks.
@@ -138,23 +129,18 @@ impl Mirror {
 
     /// Looks at every block of both legs without faults, and where just one leg is good, writes the block to the other.
     pub fn repair<R: Rig>(&mut self, alloc: Global, rig: &mut R) -> Result<Repair, AllocError>
-        requires mirror { IsMirror self.old }
-        requires going { self.old.failed ≡ false }
-        requires rig { HasDevices self.old.plan.devices.items (is_some (R.state rig.old).image) (R.state rig.old).standing }
+        requires ready { CanGoOn self.old (R.state rig.old) }
         ensures mirror { IsMirror self.new }
         ensures plan { self.new.plan ≡ self.old.plan }
         ensures replies { self.new.replies.items ≡ self.old.replies.items }
         ensures pages { self.new.state.pool ≡ self.old.state.pool }
         ensures failed { self.new.failed ≡ is_err result }
-        ensures ran { (runs : List LegRun) × (RanLegs (table_of self.old.plan.script self.old.plan.devices.items) self.old.plan.devices.items runs (R.state rig.old) (R.state rig.new)
-            × (GoOn self.old.plan.script.schedule self.old.state.used runs self.new.state.used
-            × (AllOwn (IsRepairOf self.old.plan.script self.old.plan.half) runs
-            × IfOk result (λ done. RepairBy self.old.plan.script self.old.plan.half 0 (stretches_in self.old.plan.half)
-            (record { marks = self.old.state.marks.items; repaired = 0; lost = 0 }) (record { marks = self.new.state.marks.items; repaired = done.repaired; lost = done.lost }) runs
+        ensures ran { HasRun self.old.plan self.old.state.used self.new.state.used (R.state rig.old) (R.state rig.new)
+            (IsRepairOf self.old.plan.script self.old.plan.half)
+            (λ runs. IfOk result (λ done. RepairBy self.old.plan.script self.old.plan.half 0 (stretches_in self.old.plan.half)
+            (none_mended self.old.state.marks.items) (so_far self.new.state.marks.items done) runs
             × RepairsAsWalk self.old.plan.script self.old.plan.devices.items (sides_of self.old) (R.state rig.old) (R.state rig.new)
-            self.old.replies.items self.new.state.marks.items done.repaired done.lost runs)))) }
-        ensures tells { is_some (R.state rig.new).image ≡ is_some (R.state rig.old).image }
-        ensures standing { (R.state rig.new).standing ≡ (R.state rig.old).standing }
+            self.old.replies.items self.new.state.marks.items done.repaired done.lost runs)) }
     {
         a_repair_of_a_mirror_is_that_of_its_walk();
         match repair_all(alloc, &self.plan, &mut self.state, rig) {
@@ -196,17 +182,12 @@ fn repair_all<R: Rig>(
     state: &mut State,
     rig: &mut R,
 ) -> Result<Repair, AllocError>
-    requires plan { IsPlan plan.now }
-    requires rig { HasDevices plan.now.devices.items (is_some (R.state rig.old).image) (R.state rig.old).standing }
-    requires used { state.old.used ≤ length plan.now.script.schedule }
+    requires ready { CanRun plan.now state.old.used (R.state rig.old) }
     requires marks { length state.old.marks.items ≡ plan.now.half }
-    ensures ran { (runs : List LegRun) × (RanLegs (table_of plan.now.script plan.now.devices.items) plan.now.devices.items runs (R.state rig.old) (R.state rig.new)
-        × (GoOn plan.now.script.schedule state.old.used runs state.new.used × (AllOwn (IsRepairOf plan.now.script plan.now.half) runs
-        × IfOk result (λ done. RepairBy plan.now.script plan.now.half 0 (stretches_in plan.now.half)
-        (record { marks = state.old.marks.items; repaired = 0; lost = 0 }) (record { marks = state.new.marks.items; repaired = done.repaired; lost = done.lost }) runs)))) }
-    ensures tells { is_some (R.state rig.new).image ≡ is_some (R.state rig.old).image }
-    ensures standing { (R.state rig.new).standing ≡ (R.state rig.old).standing }
-    ensures used { state.new.used ≤ length plan.now.script.schedule }
+    ensures ran { HasRun plan.now state.old.used state.new.used (R.state rig.old) (R.state rig.new) (IsRepairOf plan.now.script plan.now.half)
+        (λ runs. IfOk result (λ done. RepairBy plan.now.script plan.now.half 0 (stretches_in plan.now.half)
+        (none_mended state.old.marks.items) (so_far state.new.marks.items done) runs)) }
+    ensures ready { CanRun plan.now state.new.used (R.state rig.new) }
     ensures pages { state.new.pool ≡ state.old.pool }
     ensures marks { length state.new.marks.items ≡ length state.old.marks.items }
 {

@@ -1,14 +1,13 @@
 //! The ops of a mirror's script.
 
-ghost use Rattle.std.specs.Prelude.{◌≡◌, ◌<◌, ◌≤◌, ◌+◌, ◌*◌, ◌⊎◌, [], IfOk, is_some, length};
-ghost use Rattle.page_pool.specs.Pages.{AllLieIn};
-ghost use Rattle.page_pool.specs.Places.{NoneTwice, range_of, total};
+ghost use Rattle.std.specs.Prelude.{◌≡◌, ◌<◌, ◌+◌, ◌⊎◌, [], IfOk, is_some, length};
 ghost use Rattle.stack_ops.specs.declared.op.Op.TheVariants.{Fetch, Write};
 ghost use Rattle.stack_ops.specs.declared.reply.Reply.TheVariants.{Medium, Silent};
 ghost use Rattle.stack_core.specs.Doing.{HasBlocks};
-ghost use Rattle.leg_runs.specs.OnOps.{Altered, DidOp, OverwriteTells, RanOp, whole_request};
-ghost use Rattle.mirror_volume.specs.Plans.{IsPieceOf, IsPlan};
-ghost use Rattle.leg_runs.specs.Standing.{HasDevices, op_at};
+ghost use Rattle.leg_runs.specs.OnOps.{Altered, DidOp, OverwriteTells, RanOp};
+ghost use Rattle.mirror_volume.specs.Plans.{IsRequestOf, both_of};
+ghost use Rattle.mirror_volume.specs.Running.{CanRun};
+ghost use Rattle.leg_runs.specs.Standing.{op_at};
 
 use crate::legs::Plan;
 use crate::mirror::{State, whole_request};
@@ -33,19 +32,13 @@ fn write_blocks<R: Rig>(
     app: u16,
     rig: &mut R,
 ) -> Result<Reply, AllocError>
-    requires plan { IsPlan plan.now }
-    requires rig { HasDevices plan.now.devices.items (is_some (R.state rig.old).image) (R.state rig.old).standing }
-    requires used { state.old.used ≤ length plan.now.script.schedule }
-    requires piece { IsPieceOf plan.now (whole_request number v n) }
-    requires long { total body.now ≡ n * plan.now.script.block }
-    requires lie { AllLieIn state.old.pool body.now }
+    requires ready { CanRun plan.now state.old.used (R.state rig.old) }
+    requires request { IsRequestOf plan.now state.old.pool number v n body.now }
     requires marks { length state.old.marks.items ≡ plan.now.half }
     ensures ran { RanOp plan.now.script plan.now.devices.items plan.now.half number (Write v n body.now app) state.old.pool state.old.used state.new.used (R.state rig.old) (R.state rig.new)
         (λ runs. IfOk result (DidOp plan.now.script plan.now.half number (Write v n body.now app)
-        (record { pool = state.old.pool; marks = state.old.marks.items }) (record { pool = state.new.pool; marks = state.new.marks.items }) (R.state rig.old) (R.state rig.new) runs)) }
-    ensures tells { is_some (R.state rig.new).image ≡ is_some (R.state rig.old).image }
-    ensures standing { (R.state rig.new).standing ≡ (R.state rig.old).standing }
-    ensures used { state.new.used ≤ length plan.now.script.schedule }
+        (both_of state.old) (both_of state.new) (R.state rig.old) (R.state rig.new) runs)) }
+    ensures ready { CanRun plan.now state.new.used (R.state rig.new) }
     ensures pages { length state.new.pool ≡ length state.old.pool }
     ensures marks { length state.new.marks.items ≡ length state.old.marks.items }
 {
@@ -66,20 +59,13 @@ fn fetch_blocks<R: Rig>(
     body: &SgList,
     rig: &mut R,
 ) -> Result<Reply, AllocError>
-    requires plan { IsPlan plan.now }
-    requires rig { HasDevices plan.now.devices.items (is_some (R.state rig.old).image) (R.state rig.old).standing }
-    requires used { state.old.used ≤ length plan.now.script.schedule }
-    requires piece { IsPieceOf plan.now (whole_request number v n) }
-    requires long { total body.now ≡ n * plan.now.script.block }
-    requires lie { AllLieIn state.old.pool body.now }
-    requires once { NoneTwice (range_of body.now 0 (total body.now)) }
+    requires ready { CanRun plan.now state.old.used (R.state rig.old) }
+    requires request { IsRequestOf plan.now state.old.pool number v n body.now }
     requires marks { length state.old.marks.items ≡ plan.now.half }
     ensures ran { RanOp plan.now.script plan.now.devices.items plan.now.half number (Fetch v n body.now) state.old.pool state.old.used state.new.used (R.state rig.old) (R.state rig.new)
         (λ runs. IfOk result (DidOp plan.now.script plan.now.half number (Fetch v n body.now)
-        (record { pool = state.old.pool; marks = state.old.marks.items }) (record { pool = state.new.pool; marks = state.new.marks.items }) (R.state rig.old) (R.state rig.new) runs)) }
-    ensures tells { is_some (R.state rig.new).image ≡ is_some (R.state rig.old).image }
-    ensures standing { (R.state rig.new).standing ≡ (R.state rig.old).standing }
-    ensures used { state.new.used ≤ length plan.now.script.schedule }
+        (both_of state.old) (both_of state.new) (R.state rig.old) (R.state rig.new) runs)) }
+    ensures ready { CanRun plan.now state.new.used (R.state rig.new) }
     ensures pages { length state.new.pool ≡ length state.old.pool }
     ensures marks { length state.new.marks.items ≡ length state.old.marks.items }
 {
@@ -114,18 +100,14 @@ pub(crate) fn do_op<R: Rig>(
     at: usize,
     rig: &mut R,
 ) -> Result<Reply, AllocError>
-    requires plan { IsPlan plan.now }
-    requires rig { HasDevices plan.now.devices.items (is_some (R.state rig.old).image) (R.state rig.old).standing }
-    requires used { state.old.used ≤ length plan.now.script.schedule }
+    requires ready { CanRun plan.now state.old.used (R.state rig.old) }
     requires op { at < length plan.now.script.ops }
     requires pages { length state.old.pool ≡ plan.now.script.pages }
     requires marks { length state.old.marks.items ≡ plan.now.half }
     ensures ran { RanOp plan.now.script plan.now.devices.items plan.now.half (at + 1) (op_at plan.now.script.ops at) state.old.pool state.old.used state.new.used (R.state rig.old) (R.state rig.new)
         (λ runs. IfOk result (DidOp plan.now.script plan.now.half (at + 1) (op_at plan.now.script.ops at)
-        (record { pool = state.old.pool; marks = state.old.marks.items }) (record { pool = state.new.pool; marks = state.new.marks.items }) (R.state rig.old) (R.state rig.new) runs)) }
-    ensures tells { is_some (R.state rig.new).image ≡ is_some (R.state rig.old).image }
-    ensures standing { (R.state rig.new).standing ≡ (R.state rig.old).standing }
-    ensures used { state.new.used ≤ length plan.now.script.schedule }
+        (both_of state.old) (both_of state.new) (R.state rig.old) (R.state rig.new) runs)) }
+    ensures ready { CanRun plan.now state.new.used (R.state rig.new) }
     ensures pages { length state.new.pool ≡ length state.old.pool }
     ensures marks { length state.new.marks.items ≡ length state.old.marks.items }
 {

@@ -1,13 +1,11 @@
 //! A read: each block is asked on leg 0 if it is fresh there; if it isn't, or isn't delivered, on leg 1 if it is fresh
 //! there.
 
-ghost use Rattle.std.specs.Prelude.{◌≡◌, ◌<◌, ◌≤◌, ◌+◌, ◌*◌, ◌++◌, List, [], ◌∷◌, IfOk, None, not, ◌&&◌, ◌||◌, if◌then◌else◌, is_none, is_some, length};
-ghost use Rattle.script_stack.specs.Causes.{table_of};
-ghost use Rattle.leg_runs.specs.LegRuns.{AllOwn, GoOn, LegRun, RanLegs};
-ghost use Rattle.mirror_volume.specs.Plans.{IsPieceOf, IsPlan};
-ghost use Rattle.leg_runs.specs.Standing.{HasDevices};
+ghost use Rattle.std.specs.Prelude.{◌≡◌, ◌*◌, [], ◌∷◌, IfOk, None, not, ◌&&◌, ◌||◌, if◌then◌else◌, is_none, is_some, length};
+ghost use Rattle.mirror_volume.specs.Plans.{IsPieceOf};
+ghost use Rattle.mirror_volume.specs.Running.{CanRun, HasRun};
 ghost use Rattle.mirror_legs.specs.Inner.{read_script};
-ghost use Rattle.leg_runs.specs.Asked.{AreOf, IsInside, IsReadOf, ReadBy, bytes_after, first_listed, found_after, fresh_on0, last_listed, rest_wanted, stretches};
+ghost use Rattle.leg_runs.specs.Asked.{AreOf, IsInside, IsReadOf, ReadOnBoth, bytes_after, first_listed, found_after, fresh_on0, last_listed, rest_wanted, stretches};
 
 use crate::legs::{Plan, read_piece};
 use crate::stretches::stretches_of;
@@ -36,20 +34,15 @@ fn ask_stretch<R: Rig>(
     used: &mut usize,
     rig: &mut R,
 ) -> Result<(), AllocError>
-    requires plan { IsPlan plan.now }
-    requires rig { HasDevices plan.now.devices.items (is_some (R.state rig.old).image) (R.state rig.old).standing }
-    requires used { used.old ≤ length plan.now.script.schedule }
+    requires ready { CanRun plan.now used.old (R.state rig.old) }
     requires piece { IsPieceOf plan.now whole }
     requires stretch { IsInside whole.n stretch }
     requires found { length came.old.found.items ≡ whole.n }
     requires bytes { length came.old.bytes.items ≡ whole.n * plan.now.script.block }
-    ensures ran { (runs : List LegRun) × (RanLegs (table_of plan.now.script plan.now.devices.items) plan.now.devices.items runs (R.state rig.old) (R.state rig.new)
-        × (GoOn plan.now.script.schedule used.old runs used.new × (AllOwn (IsReadOf plan.now.script plan.now.half whole) runs
-        × IfOk result (λ u. AreOf (read_script plan.now.script plan.now.half) whole (stretch ∷ []) runs
-        × ((came.new.found.items ≡ found_after (stretch ∷ []) runs came.old.found.items) × (came.new.bytes.items ≡ bytes_after plan.now.script.block (stretch ∷ []) runs came.old.bytes.items)))))) }
-    ensures tells { is_some (R.state rig.new).image ≡ is_some (R.state rig.old).image }
-    ensures standing { (R.state rig.new).standing ≡ (R.state rig.old).standing }
-    ensures used { used.new ≤ length plan.now.script.schedule }
+    ensures ran { HasRun plan.now used.old used.new (R.state rig.old) (R.state rig.new) (IsReadOf plan.now.script plan.now.half whole)
+        (λ runs. IfOk result (λ u. AreOf (read_script plan.now.script plan.now.half) whole (stretch ∷ []) runs
+        × ((came.new.found.items ≡ found_after (stretch ∷ []) runs came.old.found.items) × (came.new.bytes.items ≡ bytes_after plan.now.script.block (stretch ∷ []) runs came.old.bytes.items)))) }
+    ensures ready { CanRun plan.now used.new (R.state rig.new) }
     ensures found { length came.new.found.items ≡ length came.old.found.items }
     ensures bytes { length came.new.bytes.items ≡ length came.old.bytes.items }
 {
@@ -78,21 +71,16 @@ fn ask<R: Rig>(
     used: &mut usize,
     rig: &mut R,
 ) -> Result<(), AllocError>
-    requires plan { IsPlan plan.now }
-    requires rig { HasDevices plan.now.devices.items (is_some (R.state rig.old).image) (R.state rig.old).standing }
-    requires used { used.old ≤ length plan.now.script.schedule }
+    requires ready { CanRun plan.now used.old (R.state rig.old) }
     requires piece { IsPieceOf plan.now whole }
     requires wanted { length wanted.now ≡ whole.n }
     requires found { length came.old.found.items ≡ whole.n }
     requires bytes { length came.old.bytes.items ≡ whole.n * plan.now.script.block }
-    ensures ran { (runs : List LegRun) × (RanLegs (table_of plan.now.script plan.now.devices.items) plan.now.devices.items runs (R.state rig.old) (R.state rig.new)
-        × (GoOn plan.now.script.schedule used.old runs used.new × (AllOwn (IsReadOf plan.now.script plan.now.half whole) runs
-        × IfOk result (λ u. AreOf (read_script plan.now.script plan.now.half) whole (stretches wanted.now) runs
+    ensures ran { HasRun plan.now used.old used.new (R.state rig.old) (R.state rig.new) (IsReadOf plan.now.script plan.now.half whole)
+        (λ runs. IfOk result (λ u. AreOf (read_script plan.now.script plan.now.half) whole (stretches wanted.now) runs
         × ((came.new.found.items ≡ found_after (stretches wanted.now) runs came.old.found.items)
-        × (came.new.bytes.items ≡ bytes_after plan.now.script.block (stretches wanted.now) runs came.old.bytes.items)))))) }
-    ensures tells { is_some (R.state rig.new).image ≡ is_some (R.state rig.old).image }
-    ensures standing { (R.state rig.new).standing ≡ (R.state rig.old).standing }
-    ensures used { used.new ≤ length plan.now.script.schedule }
+        × (came.new.bytes.items ≡ bytes_after plan.now.script.block (stretches wanted.now) runs came.old.bytes.items)))) }
+    ensures ready { CanRun plan.now used.new (R.state rig.new) }
     ensures found { length came.new.found.items ≡ length came.old.found.items }
     ensures bytes { length came.new.bytes.items ≡ length came.old.bytes.items }
 {
@@ -186,17 +174,12 @@ pub(crate) fn read_blocks<R: Rig>(
     used: &mut usize,
     rig: &mut R,
 ) -> Result<(Vec<Option<Why>>, Vec<u8>), AllocError>
-    requires plan { IsPlan plan.now }
-    requires rig { HasDevices plan.now.devices.items (is_some (R.state rig.old).image) (R.state rig.old).standing }
-    requires used { used.old ≤ length plan.now.script.schedule }
+    requires ready { CanRun plan.now used.old (R.state rig.old) }
     requires piece { IsPieceOf plan.now on0 }
     requires marks { length marks.now ≡ on0.n }
-    ensures ran { (runs : List LegRun) × (RanLegs (table_of plan.now.script plan.now.devices.items) plan.now.devices.items runs (R.state rig.old) (R.state rig.new)
-        × (GoOn plan.now.script.schedule used.old runs used.new × (AllOwn (IsReadOf plan.now.script plan.now.half on0) runs
-        × IfOk result (λ v. (runs0 runs1 : List LegRun) × ((runs ≡ runs0 ++ runs1) × ReadBy plan.now.script plan.now.half on0 marks.now runs0 runs1 v.0.items v.1.items))))) }
-    ensures tells { is_some (R.state rig.new).image ≡ is_some (R.state rig.old).image }
-    ensures standing { (R.state rig.new).standing ≡ (R.state rig.old).standing }
-    ensures used { used.new ≤ length plan.now.script.schedule }
+    ensures ran { HasRun plan.now used.old used.new (R.state rig.old) (R.state rig.new) (IsReadOf plan.now.script plan.now.half on0)
+        (λ runs. IfOk result (λ v. ReadOnBoth plan.now.script plan.now.half on0 marks.now runs v.0.items v.1.items)) }
+    ensures ready { CanRun plan.now used.new (R.state rig.new) }
     ensures listed { IfOk result (λ v. length v.0.items ≡ on0.n) }
     ensures bytes { IfOk result (λ v. length v.1.items ≡ on0.n * plan.now.script.block) }
 {

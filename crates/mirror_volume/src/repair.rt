@@ -1,16 +1,15 @@
 //! The repair of a mirror, after its script: where just one leg of a block is good, its data and its application tag
 //! are written to the other one.
 
-ghost use Rattle.std.specs.Prelude.{◌≡◌, ◌<◌, ◌≤◌, ◌+◌, ◌*◌, ◌^◌, true, ◌&&◌, List, [], ◌∷◌, IfOk, drop, get_or, None, is_none, is_some, length, take};
-ghost use Rattle.script_stack.specs.Causes.{table_of};
-ghost use Rattle.leg_runs.specs.LegRuns.{AllOwn, GoOn, LegRun, RanLegs, found_by, replies_of};
-ghost use Rattle.mirror_volume.specs.Plans.{IsPieceOf, IsPlan};
-ghost use Rattle.leg_runs.specs.Standing.{HasDevices};
+ghost use Rattle.std.specs.Prelude.{◌≡◌, ◌<◌, ◌≤◌, ◌+◌, ◌*◌, ◌^◌, ◌&&◌, [], ◌∷◌, IfOk, drop, get_or, None, is_none, length, take};
+ghost use Rattle.leg_runs.specs.LegRuns.{OneRun, found_by, replies_of};
+ghost use Rattle.mirror_volume.specs.Plans.{IsPieceOf, IsStretchOf};
+ghost use Rattle.mirror_volume.specs.Running.{CanRun, HasRun};
 ghost use Rattle.pi_tuple.specs.Tuples.{tuple_in};
 ghost use Rattle.mirror_legs.specs.Inner.{read_pi_script, write_script};
 ghost use Rattle.leg_runs.specs.Asked.{AreOf, IsInside, stretches};
-ghost use Rattle.mirror_volume.specs.Helds.{IsAfter, IsHeld, IsSeen, goods_in};
-ghost use Rattle.leg_runs.specs.Mending.{IsRepairOf, MendsBy, StretchBy, delivered, fresh_on1, looked, need_by, needs_by, whole_stretch};
+ghost use Rattle.mirror_volume.specs.Helds.{AreHeld, IsAfter, IsHeld, IsSeen, goods_in, so_far};
+ghost use Rattle.leg_runs.specs.Mending.{IsRepairOf, MendsBy, StretchBy, delivered, fresh_on1, looked, need_by, needs_by};
 
 use crate::legs::{Plan, read_pi_piece, write_piece};
 use crate::reading::fresh;
@@ -91,21 +90,16 @@ fn look_at_part<R: Rig>(
     used: &mut usize,
     rig: &mut R,
 ) -> Result<(), AllocError>
-    requires plan { IsPlan plan.now }
-    requires rig { HasDevices plan.now.devices.items (is_some (R.state rig.old).image) (R.state rig.old).standing }
-    requires used { used.old ≤ length plan.now.script.schedule }
+    requires ready { CanRun plan.now used.old (R.state rig.old) }
     requires piece { IsPieceOf plan.now whole }
     requires short { whole.n ≤ 128 }
     requires repair { whole.op ≡ 0 }
     requires part { IsInside whole.n part }
     requires seen { IsSeen plan.now.script.block whole.n seen.old }
-    ensures ran { (runs : List LegRun) × (RanLegs (table_of plan.now.script plan.now.devices.items) plan.now.devices.items runs (R.state rig.old) (R.state rig.new)
-        × (GoOn plan.now.script.schedule used.old runs used.new × (AllOwn (IsRepairOf plan.now.script plan.now.half) runs
-        × IfOk result (λ u. AreOf (read_pi_script plan.now.script plan.now.half) whole (part ∷ []) runs
-        × IsAfter plan.now.script.block (part ∷ []) runs seen.old seen.new)))) }
-    ensures tells { is_some (R.state rig.new).image ≡ is_some (R.state rig.old).image }
-    ensures standing { (R.state rig.new).standing ≡ (R.state rig.old).standing }
-    ensures used { used.new ≤ length plan.now.script.schedule }
+    ensures ran { HasRun plan.now used.old used.new (R.state rig.old) (R.state rig.new) (IsRepairOf plan.now.script plan.now.half)
+        (λ runs. IfOk result (λ u. AreOf (read_pi_script plan.now.script plan.now.half) whole (part ∷ []) runs
+        × IsAfter plan.now.script.block (part ∷ []) runs seen.old seen.new)) }
+    ensures ready { CanRun plan.now used.new (R.state rig.new) }
     ensures seen { IsSeen plan.now.script.block whole.n seen.new }
 {
     let (start, n) = part;
@@ -134,21 +128,16 @@ fn look_at_parts<R: Rig>(
     used: &mut usize,
     rig: &mut R,
 ) -> Result<(), AllocError>
-    requires plan { IsPlan plan.now }
-    requires rig { HasDevices plan.now.devices.items (is_some (R.state rig.old).image) (R.state rig.old).standing }
-    requires used { used.old ≤ length plan.now.script.schedule }
+    requires ready { CanRun plan.now used.old (R.state rig.old) }
     requires piece { IsPieceOf plan.now whole }
     requires short { whole.n ≤ 128 }
     requires repair { whole.op ≡ 0 }
     requires wanted { length wanted.now ≡ whole.n }
     requires seen { IsSeen plan.now.script.block whole.n seen.old }
-    ensures ran { (runs : List LegRun) × (RanLegs (table_of plan.now.script plan.now.devices.items) plan.now.devices.items runs (R.state rig.old) (R.state rig.new)
-        × (GoOn plan.now.script.schedule used.old runs used.new × (AllOwn (IsRepairOf plan.now.script plan.now.half) runs
-        × IfOk result (λ u. AreOf (read_pi_script plan.now.script plan.now.half) whole (stretches wanted.now) runs
-        × IsAfter plan.now.script.block (stretches wanted.now) runs seen.old seen.new)))) }
-    ensures tells { is_some (R.state rig.new).image ≡ is_some (R.state rig.old).image }
-    ensures standing { (R.state rig.new).standing ≡ (R.state rig.old).standing }
-    ensures used { used.new ≤ length plan.now.script.schedule }
+    ensures ran { HasRun plan.now used.old used.new (R.state rig.old) (R.state rig.new) (IsRepairOf plan.now.script plan.now.half)
+        (λ runs. IfOk result (λ u. AreOf (read_pi_script plan.now.script plan.now.half) whole (stretches wanted.now) runs
+        × IsAfter plan.now.script.block (stretches wanted.now) runs seen.old seen.new)) }
+    ensures ready { CanRun plan.now used.new (R.state rig.new) }
     ensures seen { IsSeen plan.now.script.block whole.n seen.new }
 {
     let parts = stretches_of(alloc, wanted)?;
@@ -167,20 +156,15 @@ fn look<R: Rig>(
     used: &mut usize,
     rig: &mut R,
 ) -> Result<Held, AllocError>
-    requires plan { IsPlan plan.now }
-    requires rig { HasDevices plan.now.devices.items (is_some (R.state rig.old).image) (R.state rig.old).standing }
-    requires used { used.old ≤ length plan.now.script.schedule }
+    requires ready { CanRun plan.now used.old (R.state rig.old) }
     requires piece { IsPieceOf plan.now whole }
     requires short { whole.n ≤ 128 }
     requires repair { whole.op ≡ 0 }
     requires wanted { length wanted.now ≡ whole.n }
-    ensures ran { (runs : List LegRun) × (RanLegs (table_of plan.now.script plan.now.devices.items) plan.now.devices.items runs (R.state rig.old) (R.state rig.new)
-        × (GoOn plan.now.script.schedule used.old runs used.new × (AllOwn (IsRepairOf plan.now.script plan.now.half) runs
-        × IfOk result (λ h. AreOf (read_pi_script plan.now.script plan.now.half) whole (stretches wanted.now) runs
-        × (goods_in plan.now.script.block h ≡ looked plan.now.script.block whole.n wanted.now runs))))) }
-    ensures tells { is_some (R.state rig.new).image ≡ is_some (R.state rig.old).image }
-    ensures standing { (R.state rig.new).standing ≡ (R.state rig.old).standing }
-    ensures used { used.new ≤ length plan.now.script.schedule }
+    ensures ran { HasRun plan.now used.old used.new (R.state rig.old) (R.state rig.new) (IsRepairOf plan.now.script plan.now.half)
+        (λ runs. IfOk result (λ h. AreOf (read_pi_script plan.now.script plan.now.half) whole (stretches wanted.now) runs
+        × (goods_in plan.now.script.block h ≡ looked plan.now.script.block whole.n wanted.now runs))) }
+    ensures ready { CanRun plan.now used.new (R.state rig.new) }
     ensures held { IfOk result (λ h. IsHeld plan.now.script.block whole.n h) }
 {
     let count = whole.n as usize;
@@ -208,21 +192,16 @@ fn mend<R: Rig>(
     used: &mut usize,
     rig: &mut R,
 ) -> Result<bool, AllocError>
-    requires plan { IsPlan plan.now }
-    requires rig { HasDevices plan.now.devices.items (is_some (R.state rig.old).image) (R.state rig.old).standing }
-    requires used { used.old ≤ length plan.now.script.schedule }
+    requires ready { CanRun plan.now used.old (R.state rig.old) }
     requires piece { IsPieceOf plan.now whole }
     requires repair { whole.op ≡ 0 }
     requires block { i < whole.n }
     requires held { IsHeld plan.now.script.block whole.n from.now }
-    ensures ran { (runs : List LegRun) × (RanLegs (table_of plan.now.script plan.now.devices.items) plan.now.devices.items runs (R.state rig.old) (R.state rig.new)
-        × (GoOn plan.now.script.schedule used.old runs used.new × (AllOwn (IsRepairOf plan.now.script plan.now.half) runs
-        × IfOk result (λ is_accepted. (r : LegRun) × ((runs ≡ r ∷ []) × ((r.own ≡ write_script plan.now.script plan.now.half (record whole { n = 1; v = whole.v + i })
+    ensures ran { HasRun plan.now used.old used.new (R.state rig.old) (R.state rig.new) (IsRepairOf plan.now.script plan.now.half)
+        (λ runs. IfOk result (λ is_accepted. OneRun (write_script plan.now.script plan.now.half (record whole { n = 1; v = whole.v + i })
         (tuple_in (drop (8 * i) from.now.tuples.items)).app (take plan.now.script.block (drop (i * plan.now.script.block) from.now.bytes.items)))
-        × (is_accepted ≡ is_none (get_or (found_by 1 (replies_of r)) 0 None)))))))) }
-    ensures tells { is_some (R.state rig.new).image ≡ is_some (R.state rig.old).image }
-    ensures standing { (R.state rig.new).standing ≡ (R.state rig.old).standing }
-    ensures used { used.new ≤ length plan.now.script.schedule }
+        (λ r. is_accepted ≡ is_none (get_or (found_by 1 (replies_of r)) 0 None)) runs)) }
+    ensures ready { CanRun plan.now used.new (R.state rig.new) }
 {
     let size = plan.script.block as usize;
     let piece = Piece {
@@ -250,24 +229,17 @@ fn mend_block<R: Rig>(
     used: &mut usize,
     rig: &mut R,
 ) -> Result<(), AllocError>
-    requires plan { IsPlan plan.now }
-    requires rig { HasDevices plan.now.devices.items (is_some (R.state rig.old).image) (R.state rig.old).standing }
-    requires used { used.old ≤ length plan.now.script.schedule }
-    requires piece { IsPieceOf plan.now whole }
-    requires whole { whole ≡ whole_stretch whole.v whole.n }
+    requires ready { CanRun plan.now used.old (R.state rig.old) }
+    requires stretch { IsStretchOf plan.now whole }
     requires block { i < whole.n }
     requires marks { length marks.old ≡ plan.now.half }
-    requires held0 { IsHeld plan.now.script.block whole.n held0.now }
-    requires held1 { IsHeld plan.now.script.block whole.n held1.now }
+    requires held { AreHeld plan.now.script.block whole.n held0.now held1.now }
     requires few { done.old.repaired + (done.old.lost + 1) < 2 ^ 32 }
-    ensures ran { (runs : List LegRun) × (RanLegs (table_of plan.now.script plan.now.devices.items) plan.now.devices.items runs (R.state rig.old) (R.state rig.new)
-        × (GoOn plan.now.script.schedule used.old runs used.new × (AllOwn (IsRepairOf plan.now.script plan.now.half) runs
-        × IfOk result (λ u. MendsBy plan.now.script plan.now.half whole.n (whole.v + i)
+    ensures ran { HasRun plan.now used.old used.new (R.state rig.old) (R.state rig.new) (IsRepairOf plan.now.script plan.now.half)
+        (λ runs. IfOk result (λ u. MendsBy plan.now.script plan.now.half whole.n (whole.v + i)
         (need_by (get_or (goods_in plan.now.script.block held0.now) i None) (get_or (goods_in plan.now.script.block held1.now) i None) ∷ [])
-        (record { marks = marks.old; repaired = done.old.repaired; lost = done.old.lost }) (record { marks = marks.new; repaired = done.new.repaired; lost = done.new.lost }) runs)))) }
-    ensures tells { is_some (R.state rig.new).image ≡ is_some (R.state rig.old).image }
-    ensures standing { (R.state rig.new).standing ≡ (R.state rig.old).standing }
-    ensures used { used.new ≤ length plan.now.script.schedule }
+        (so_far marks.old done.old) (so_far marks.new done.new) runs)) }
+    ensures ready { CanRun plan.now used.new (R.state rig.new) }
     ensures marks { length marks.new ≡ length marks.old }
     ensures few { IfOk result (λ u. done.new.repaired + done.new.lost ≤ done.old.repaired + (done.old.lost + 1)) }
 {
@@ -306,22 +278,15 @@ fn mend_all<R: Rig>(
     used: &mut usize,
     rig: &mut R,
 ) -> Result<(), AllocError>
-    requires plan { IsPlan plan.now }
-    requires rig { HasDevices plan.now.devices.items (is_some (R.state rig.old).image) (R.state rig.old).standing }
-    requires used { used.old ≤ length plan.now.script.schedule }
-    requires piece { IsPieceOf plan.now whole }
-    requires whole { whole ≡ whole_stretch whole.v whole.n }
+    requires ready { CanRun plan.now used.old (R.state rig.old) }
+    requires stretch { IsStretchOf plan.now whole }
     requires marks { length marks.old ≡ plan.now.half }
-    requires held0 { IsHeld plan.now.script.block whole.n held0.now }
-    requires held1 { IsHeld plan.now.script.block whole.n held1.now }
+    requires held { AreHeld plan.now.script.block whole.n held0.now held1.now }
     requires few { done.old.repaired + (done.old.lost + whole.n) < 2 ^ 32 }
-    ensures ran { (runs : List LegRun) × (RanLegs (table_of plan.now.script plan.now.devices.items) plan.now.devices.items runs (R.state rig.old) (R.state rig.new)
-        × (GoOn plan.now.script.schedule used.old runs used.new × (AllOwn (IsRepairOf plan.now.script plan.now.half) runs
-        × IfOk result (λ u. MendsBy plan.now.script plan.now.half whole.n whole.v (needs_by (goods_in plan.now.script.block held0.now) (goods_in plan.now.script.block held1.now))
-        (record { marks = marks.old; repaired = done.old.repaired; lost = done.old.lost }) (record { marks = marks.new; repaired = done.new.repaired; lost = done.new.lost }) runs)))) }
-    ensures tells { is_some (R.state rig.new).image ≡ is_some (R.state rig.old).image }
-    ensures standing { (R.state rig.new).standing ≡ (R.state rig.old).standing }
-    ensures used { used.new ≤ length plan.now.script.schedule }
+    ensures ran { HasRun plan.now used.old used.new (R.state rig.old) (R.state rig.new) (IsRepairOf plan.now.script plan.now.half)
+        (λ runs. IfOk result (λ u. MendsBy plan.now.script plan.now.half whole.n whole.v (needs_by (goods_in plan.now.script.block held0.now) (goods_in plan.now.script.block held1.now))
+        (so_far marks.old done.old) (so_far marks.new done.new) runs)) }
+    ensures ready { CanRun plan.now used.new (R.state rig.new) }
     ensures marks { length marks.new ≡ length marks.old }
     ensures few { IfOk result (λ u. done.new.repaired + done.new.lost ≤ done.old.repaired + (done.old.lost + whole.n)) }
 {
@@ -348,21 +313,15 @@ pub(crate) fn repair_stretch<R: Rig>(
     used: &mut usize,
     rig: &mut R,
 ) -> Result<(), AllocError>
-    requires plan { IsPlan plan.now }
-    requires rig { HasDevices plan.now.devices.items (is_some (R.state rig.old).image) (R.state rig.old).standing }
-    requires used { used.old ≤ length plan.now.script.schedule }
-    requires piece { IsPieceOf plan.now whole }
+    requires ready { CanRun plan.now used.old (R.state rig.old) }
+    requires stretch { IsStretchOf plan.now whole }
     requires short { whole.n ≤ 128 }
-    requires whole { whole ≡ whole_stretch whole.v whole.n }
     requires marks { length marks.old ≡ plan.now.half }
     requires few { done.old.repaired + (done.old.lost + whole.n) < 2 ^ 32 }
-    ensures ran { (runs : List LegRun) × (RanLegs (table_of plan.now.script plan.now.devices.items) plan.now.devices.items runs (R.state rig.old) (R.state rig.new)
-        × (GoOn plan.now.script.schedule used.old runs used.new × (AllOwn (IsRepairOf plan.now.script plan.now.half) runs
-        × IfOk result (λ u. StretchBy plan.now.script plan.now.half whole.v whole.n
-        (record { marks = marks.old; repaired = done.old.repaired; lost = done.old.lost }) (record { marks = marks.new; repaired = done.new.repaired; lost = done.new.lost }) runs)))) }
-    ensures tells { is_some (R.state rig.new).image ≡ is_some (R.state rig.old).image }
-    ensures standing { (R.state rig.new).standing ≡ (R.state rig.old).standing }
-    ensures used { used.new ≤ length plan.now.script.schedule }
+    ensures ran { HasRun plan.now used.old used.new (R.state rig.old) (R.state rig.new) (IsRepairOf plan.now.script plan.now.half)
+        (λ runs. IfOk result (λ u. StretchBy plan.now.script plan.now.half whole.v whole.n
+        (so_far marks.old done.old) (so_far marks.new done.new) runs)) }
+    ensures ready { CanRun plan.now used.new (R.state rig.new) }
     ensures marks { length marks.new ≡ length marks.old }
     ensures few { IfOk result (λ u. done.new.repaired + done.new.lost ≤ done.old.repaired + (done.old.lost + whole.n)) }
 {

@@ -1,4 +1,4 @@
-use Rattle.std.specs.Prelude.{ℕ, ◌+◌, ◌/◌, ◌%◌, Bool, not, ◌||◌, eqb, List, [], ◌∷◌, slice_index}
+use Rattle.std.specs.Prelude.{ℕ, ◌+◌, ◌/◌, ◌%◌, ◌^◌, ◌<◌, ◌≤◌, Bool, not, ◌||◌, eqb, List, [], ◌∷◌, slice_index}
 use Rattle.std.specs.Int.{w16, w32, w64, from_le_bytes}
 use Rattle.nvme_front.specs.declared.command.NvmCommand.{NvmCommand}
 
@@ -34,3 +34,9 @@ is_write c = eqb c.opcode 1
 
 abbrev pub is_read : NvmCommand → Bool
 is_read c = eqb c.opcode 2
+
+-- The command is of 1 to 1024 blocks, whose addresses fit 64 bits.
+pub record HasSpan (c : NvmCommand) : Type 0 where
+  pub some : 1 ≤ c.count
+  pub few : c.count ≤ 1024
+  pub end : c.first + c.count < 2 ^ 64

@@ -10,7 +10,7 @@ ghost use Rattle.nvme_front.specs.Answers.{HasDevices};
 ghost use Rattle.nvme_front.specs.Results.{AnswersCalm, IsAnswered};
 ghost use Rattle.nvme_front.specs.Exchanges.{Done};
 ghost use Rattle.nvme_front.specs.Buffers.{room_for};
-ghost use Rattle.nvme_front.specs.Commands.{command_in};
+ghost use Rattle.nvme_front.specs.Commands.{HasSpan, command_in};
 ghost use Rattle.nvme_front.specs.Refusals.{body_len, device_at, has_meta, has_namespace, has_size, meta_len, refusal};
 ghost use Rattle.nvme_front.specs.Translation.{scsi_command};
 
@@ -160,9 +160,7 @@ fn run<R: Rig>(
 ) -> Completion
     requires there { dev < (R.state rig.old).standing.devices }
     requires size { device.size ≤ 4096 }
-    requires some { 1 ≤ command.now.count }
-    requires few { command.now.count ≤ 1024 }
-    requires end { command.now.first + command.now.count < 2 ^ 64 }
+    requires span { HasSpan command.now }
     requires body { length body.old ≡ body_len device command.now }
     requires meta { length meta.old ≡ meta_len device.ty command.now }
     requires frames { length frames.old ≡ 4202496 }

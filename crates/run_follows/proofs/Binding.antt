@@ -4,12 +4,13 @@ use Rattle.stack_ops.specs.declared.op.Op.{Op}
 use Rattle.stack_ops.specs.declared.op.Op.TheVariants.{Fetch, FetchPi, Fill, Overwrite, Put, Seal, Show, Wait, Write, WritePi}
 use Rattle.block_path.specs.Acts.{State}
 use Rattle.block_path.specs.Blocks.{Sent}
+use Rattle.block_path.specs.Routes.{told_by}
 use Rattle.whole_run.specs.Settings.{Setting, block_of, route}
 use Rattle.run_laws.specs.ToldRun.{came_by, told}
 use Rattle.run_laws.specs.BoundRun.{AllBound, AllSuit, IsBound, IsBoundRun}
 use Rattle.run_laws.proofs.AtTarget.{fine_always}
 use Rattle.run_follows.specs.Finished.{FramesFit}
-use Rattle.run_follows.proofs.Over.{same_rooms}
+use Rattle.run_follows.proofs.OverDevice.{same_rooms}
 
 module _ (m : Setting) (es : List Sent) (fit : FramesFit m es) where
   pub suit_over : (i v n : ℕ) → AllSuit (told m es) (λ c block. true) i v n
@@ -34,7 +35,7 @@ module _ (m : Setting) (es : List Sent) (fit : FramesFit m es) where
   pub bound_over : (fine : ℕ → List ℕ → Bool) (n : ℕ) (ops : List Op) (opening : State) → IsBoundRun m fine n ops opening → IsBoundRun (told m es) (λ c block. true) n ops opening
   bound_over fine n ops opening h = record {
     bound = all_over fine n 1 ops h.bound;
-    room = subst (λ r. n + r ≤ length opening.bytes) (same_rooms m (came_by es) ops) h.room;
+    room = subst (λ r. n + r ≤ length opening.bytes) (same_rooms m (told_by (came_by es)) ops) h.room;
     found = h.found;
     all_fine = λ c. refl;
   }

@@ -16,7 +16,7 @@ use Rattle.whole_run.specs.Steps.{Alters, Step, steps_of}
 use Rattle.run_laws.specs.ScriptMoves.{all_moves, blocks_from, blocks_of, by_moves, fates_of, moves_from, own_at, room_of, script_moves}
 use Rattle.run_follows.specs.Following.{AllStand, Follows, StandFrom}
 use Rattle.run_follows.specs.Slots.{Status, Waits, parts_of, so_far, done_by}
-use Rattle.run_follows.proofs.Switching.{far_length}
+use Rattle.run_follows.proofs.Runs.{far_length}
 
 abbrev Done : Type 0
 Done = List (Option Answer)

@@ -7,9 +7,7 @@ pub mod Wholly
 mod Carrying
 pub mod Ends
 pub mod Backing
-pub mod Switch
 pub mod Sends
-pub mod Over
 pub mod Recording
 pub mod Telling
 pub mod Holding
@@ -20,6 +18,7 @@ pub mod Together
 pub mod Puts
 mod Rows
 pub mod Switching
+pub mod Switch
 pub mod Devices
 pub mod OverDevice
 pub mod Forgiving

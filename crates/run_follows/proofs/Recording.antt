@@ -39,7 +39,7 @@ use Rattle.run_follows.specs.Following.{Follows}
 use Rattle.run_follows.specs.Gate.{Spot}
 use Rattle.run_follows.specs.Sending.{AllComeIn, AllGoOut, AllGoing, FollowsOn, IsElsewhere, NoneBefore, in_fates, is_carried, land_all, out_fates, with_fate, with_fates, with_status}
 use Rattle.run_follows.specs.Slots.{Carried, Status}
-use Rattle.run_follows.proofs.Over.{going_over}
+use Rattle.run_follows.proofs.OverDevice.{going_over}
 use Rattle.run_follows.proofs.Sends.{in_all, out_all, with_here, with_other}
 use Rattle.run_follows.proofs.Switch.{switch}
 use Rattle.run_follows.proofs.StillFates.{still_out, still_in}
@@ -352,7 +352,7 @@ module _ (m : Setting) (n : ℕ) (ops : List Op) (a : Adapter) (ios : List Io) (
       let follows = switch m (came_by es) (came_by es') n ops opening now status es before h in
       let turns = subst (λ d. InTurn d (first_of req).dev (first_of req).lba bs) w (turn m a ios req pool protect g) in
       let comes = comes_all m a ios faults (first_of req).dev (first_of req).lba es' bs cames now.blocks (came_length o frames count) turns each in
-      let sent = in_all (told m es') n ops a ios opening faults bs spots cames now status es (going_over m (came_by es') n ops a ios (length opening.logs) status bs spots going) comes follows in
+      let sent = in_all (told m es') n ops a ios opening faults bs spots cames now status es (going_over m (told_by (came_by es')) n ops a ios (length opening.logs) status bs spots going) comes follows in
       let fate : in_fates a ios bs cames ≡ fates = in_fates_are (size req) o bs (length-in req) a ios frames count ∙ sym r.fates_are in
       record {
         after = sent.after;
@@ -383,7 +383,7 @@ module _ (m : Setting) (n : ℕ) (ops : List Op) (a : Adapter) (ios : List Io) (
       let long = length-in req in
       let short : ltb o.done (size req) ≡ true → k < length bs = λ q. (let u : o.done < size req = grind (arith, q) in omega (arith, u, long)) in
       let goes = goes_all m a ios faults (first_of req).dev (first_of req).lba es' (flat pool) bs k (ltb o.done (size req)) (why_ended o.sense) (omega (arith, long)) short turns good each in
-      let sent = out_all (told m es') n ops a ios opening bs spots cames now status es (going_over m (came_by es') n ops a ios (length opening.logs) status bs spots going)
+      let sent = out_all (told m es') n ops a ios opening bs spots cames now status es (going_over m (told_by (came_by es')) n ops a ios (length opening.logs) status bs spots going)
       (subst (λ c. AllGoOut (told m es') a ios c bs cames) (sym pages) goes) follows in
       let fate : out_fates bs cames ≡ fates = out_fates_are (size req) o bs (length-in req) frames count ∙ sym r.fates_are in
       record {

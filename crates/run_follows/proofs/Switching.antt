@@ -1,6 +1,7 @@
 -- What was not carried may come to another device.
-use Rattle.std.proofs.Common.{◌≡◌, ◌≤◌, ◌⊎◌, inl, inr, ℕ, zero, suc, ◌+◌, ◌%◌, ◌^◌, Bool, true, false, List, [], ◌∷◌, ◌++◌, length, drop, get_or, Option, Some, None, refl, sym, ap, subst, ◌∙◌, arith, length-append}
+use Rattle.std.proofs.Common.{◌≡◌, ◌≤◌, ◌⊎◌, inl, inr, ℕ, zero, suc, ◌+◌, ◌%◌, ◌^◌, Bool, true, false, List, [], ◌∷◌, ◌++◌, length, drop, get_or, Some, None, refl, sym, ap, subst, ◌∙◌, arith, length-append}
 use Rattle.std.specs.Prelude.{Result, Ok, Err}
+use Rattle.std.proofs.lemmas.Bool.{false≢true}
 use Rattle.page_pool.specs.Cells.{gather, scatter}
 use Rattle.pi_tuple.specs.declared.checks.Check.{Check}
 use Rattle.integrity_payload.specs.declared.payload.Owner.TheVariants.{Block as OfBlock, App as OfApp}
@@ -21,19 +22,8 @@ use Rattle.whole_run.specs.Steps.{Alters, Reads, Seals, Sets, Shows, Step, Write
 use Rattle.run_laws.specs.ScriptMoves.{all_moves, blocks_from, blocks_of, by_moves, carried_by, fates_of, lands_in, moves_from, own_at, room_of, script_moves, write_moves}
 use Rattle.run_follows.specs.Following.{AllStand, Follows, StandFrom}
 use Rattle.run_follows.specs.Sending.{is_carried}
-use Rattle.run_follows.specs.Slots.{Stands, Status, done_by, parts_of, so_far, write_parts}
-use Rattle.run_follows.proofs.Switch.{not_yet}
-
-abbrev Done : Type 0
-Done = List (Option Answer)
-
-abbrev Moves : Type 0
-Moves = List (Act Answer)
-
-pub far_length : (moves : Moves) (answers : List Answer) → length (so_far moves answers) ≡ length moves
-far_length [] answers = refl
-far_length (a ∷ moves) [] = ap suc (far_length moves [])
-far_length (a ∷ moves) (r ∷ answers) = ap suc (far_length moves answers)
+use Rattle.run_follows.specs.Slots.{Admitted, Carried, Cut, Done as AllDone, Parts, Settled, Stands, Status, Waits, before_carrying, done_by, parts_of, so_far, write_parts}
+use Rattle.run_follows.proofs.Runs.{Done, Moves, far_length}
 
 -- moves in pairs: those that are done do the same
 pub record SameAct (a b : Act Answer) : Type 0 where
@@ -125,6 +115,14 @@ over m d = record m { site = record m.site { device = d } }
 pub record SameFor (one two : Device) (r : Route) : Type 0 where
   pub stores : (frame : List ℕ) → one.stores r frame ≡ two.stores r frame
   pub sends : (stored : List ℕ) → one.sends r stored ≡ two.sends r stored
+
+not_yet : (p : Parts) (status : Status) (n : ℕ) → is_carried status ≡ false → n ≡ done_by p status → n ≤ before_carrying p
+not_yet p Waits n c e = omega (arith, e)
+not_yet p Admitted n c e = omega (arith, e)
+not_yet p Cut n c e = omega (arith, e)
+not_yet p (Carried fate) n c e = absurd (false≢true (sym c))
+not_yet p (Settled why) n c e = absurd (false≢true (sym c))
+not_yet p (AllDone shown) n c e = absurd (false≢true (sym c))
 
 module _ (m : Setting) (one two : Device) where
   -- a block with which both do the same

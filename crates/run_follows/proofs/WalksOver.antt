@@ -1,10 +1,11 @@
 -- What holds of a script over its rig holds of it over a device of which is told what came of each block.
 use Rattle.std.proofs.Common.{ℕ, suc, List, get_or, subst}
 use Rattle.stack_ops.specs.declared.op.Op.{Op}
+use Rattle.block_path.specs.Routes.{told_by}
 use Rattle.whole_run.specs.Settings.{Setting}
 use Rattle.whole_run.specs.Steps.{Step}
 use Rattle.run_laws.specs.EarlierWrites.{HasLog}
-use Rattle.run_follows.proofs.Over.{all_placed_over, log_over, same_steps, spread_over}
+use Rattle.run_follows.proofs.OverDevice.{all_placed_over, log_over, same_steps, spread_over}
 use Rattle.run_follows.proofs.Switch.{Told, over}
 use Rattle.run_follows.specs.Ground.{Ground}
 use Rattle.run_follows.specs.Spots.{no_step, op_in, step_in}
@@ -12,8 +13,8 @@ use Rattle.run_follows.specs.Spots.{no_step, op_in, step_in}
 pub ground_over : (m : Setting) (came : Told) (n logs : ℕ) (ops : List Op) → Ground m n logs ops → Ground (over m came) n logs ops
 ground_over m came n logs ops g = record {
   one = g.one;
-  placed = all_placed_over m came n ops g.placed;
+  placed = all_placed_over m (told_by came) n ops g.placed;
   kinds = g.kinds;
-  spread = λ i l z. spread_over m came (suc i) (op_in ops i) (g.spread i l z);
-  logged = λ i k l z. subst (λ (steps : List Step). HasLog (over m came) logs (get_or steps k no_step)) (same_steps m came (suc i) (op_in ops i)) (log_over m came logs (step_in m ops i k) (g.logged i k l z));
+  spread = λ i l z. spread_over m (told_by came) (suc i) (op_in ops i) (g.spread i l z);
+  logged = λ i k l z. subst (λ (steps : List Step). HasLog (over m came) logs (get_or steps k no_step)) (same_steps m (told_by came) (suc i) (op_in ops i)) (log_over m (told_by came) logs (step_in m ops i k) (g.logged i k l z));
 }

@@ -38,14 +38,16 @@ pub fn a_finished_stack_is_the_falling_walk()
 
 /// Over a target a block that is as long as a stored one is fine where a block of the script is stored.
 pub fn a_target_takes_any()
-    ensures { (m : Setting) (opening : List (List ℕ)) (b : Block) (left : List ℕ) → IsAtTarget m opening b → length left ≡ stored_size m.ty m.size → keeps_size opening (stored_cell m.site (route m b)) left ≡ true }
+    ensures { (m : Setting) (opening : List (List ℕ)) (b : Block) (left : List ℕ) → IsAtTarget m opening b → length left ≡ stored_size m.ty m.size
+        → keeps_size opening (stored_cell m.site (route m b)) left ≡ true }
 {}
 
 /// So in a run without scheduled faults over a clean image, whatever store calls failed: a block of a read that isn't
 /// lost when its op begins is listed for the medium, or it isn't listed, and where it lands stand the last accepted
 /// write's data, and for an application its application tag, where tuples pass all the way.
 pub fn a_stack_reads_the_last_write_or_fails_at_the_medium()
-    ensures { (m : Setting) (bytes : ℕ) (before after : List AnyOp) (owner : AnyOwner) (v n k : ℕ) (body tuples : List AnySeg) (opening : State) (pages : List ℕ) (blocks : List (List ℕ)) (replies : List AnyReply) (es : List Sent)
+    ensures { (m : Setting) (bytes : ℕ) (before after : List AnyOp) (owner : AnyOwner) (v n k : ℕ) (body tuples : List AnySeg) (opening : State) (pages : List ℕ) (blocks : List (List ℕ))
+        (replies : List AnyReply) (es : List Sent)
         → let ops = before ++ (read_op owner v n body tuples ∷ after) in
         IsFallingRun m ops (hidden bytes opening) → HasRoom m (length (hidden bytes opening).bytes) owner n body tuples → k < n
         → (e : EndsAsFalling m bytes ops opening pages blocks replies es) → ReadsOrFails m (of_blocks e.falls) before owner v n body tuples (hidden bytes opening) replies k }
@@ -53,10 +55,12 @@ pub fn a_stack_reads_the_last_write_or_fails_at_the_medium()
 
 /// And a block of a write that the plain map accepts is listed for the medium or not at all.
 pub fn a_stack_writes_or_fails_at_the_medium()
-    ensures own { (m : Setting) (bytes : ℕ) (before after : List AnyOp) (v n k : ℕ) (body : List AnySeg) (app : ℕ) (opening : State) (pages : List ℕ) (blocks : List (List ℕ)) (replies : List AnyReply) (es : List Sent)
+    ensures own { (m : Setting) (bytes : ℕ) (before after : List AnyOp) (v n k : ℕ) (body : List AnySeg) (app : ℕ) (opening : State) (pages : List ℕ) (blocks : List (List ℕ))
+        (replies : List AnyReply) (es : List Sent)
         → let ops = before ++ (Write v n body app ∷ after) in
         IsFallingRun m ops (hidden bytes opening) → k < n → finds_plainly m app ≡ None → EndsAsFalling m bytes ops opening pages blocks replies es → IsWrittenOrFails (length before) replies k }
-    ensures brought { (m : Setting) (bytes : ℕ) (before after : List AnyOp) (v n k : ℕ) (body tuples : List AnySeg) (opening : State) (pages : List ℕ) (blocks : List (List ℕ)) (replies : List AnyReply) (es : List Sent)
+    ensures brought { (m : Setting) (bytes : ℕ) (before after : List AnyOp) (v n k : ℕ) (body tuples : List AnySeg) (opening : State) (pages : List ℕ) (blocks : List (List ℕ))
+        (replies : List AnyReply) (es : List Sent)
         → let ops = before ++ (WritePi v n body tuples ∷ after) in
         IsFallingRun m ops (hidden bytes opening) → HasRoom m (length (hidden bytes opening).bytes) App n body tuples → k < n → (e : EndsAsFalling m bytes ops opening pages blocks replies es)
         → finds_then m (of_blocks e.falls) before v body tuples (hidden bytes opening) k ≡ None → IsWrittenOrFails (length before) replies k }

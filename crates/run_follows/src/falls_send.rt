@@ -26,14 +26,16 @@ ghost use Rattle.rig_api.specs.State.{RigState};
 /// there what it may: the stack follows on. What is left of a write's block has the size of a stored block. That nothing
 /// stands on record of a block that wasn't carried is what a stack over any rig keeps.
 pub fn a_falling_command_is_sent()
-    ensures out { (m : Setting) (n : ℕ) (ops : List AnyOp) (a : AnyAdapter) (ios : List AnyIo) (req : List AnyBio) (pool : List (List ℕ)) (us : List Stored) (stop : Option Stop) (fates : List AnyFate) (old new : RigState)
+    ensures out { (m : Setting) (n : ℕ) (ops : List AnyOp) (a : AnyAdapter) (ios : List AnyIo) (req : List AnyBio) (pool : List (List ℕ)) (us : List Stored) (stop : Option Stop)
+        (fates : List AnyFate) (old new : RigState)
         (opening : State) (status : ℕ → ℕ → Status) (spots : List Spot)
         → IsProtect a.protect → IsGroup a pool m.size ios req → (first_of req).dir ≡ Write → any_bad (map (sends a ios (flat pool)) (blocks_in req)) ≡ false → m.site ≡ site_of a (shapes_of us)
         → RecordedOut a ios req (flat pool) fates old new → (w : WentOut a ios req (flat pool) us stop fates old new) → IfSome stop (λ s. length s.left ≡ stored_size m.ty m.size)
         → AllGoing m n ops a ios (length opening.logs) status (blocks_in req) spots → NoneBefore status (recorded m old.log)
         → FollowsFalling m n ops opening status (flat pool) (blocks_told us) (recorded m old.log)
         → FollowsFalling m n ops opening (with_fates (blocks_in req) fates status) (flat pool) (blocks_told w.units) (recorded m new.log) }
-    ensures inward { (m : Setting) (n : ℕ) (ops : List AnyOp) (a : AnyAdapter) (ios : List AnyIo) (req : List AnyBio) (pool pool' : List (List ℕ)) (us : List Stored) (stop : Option Stop) (fates : List AnyFate) (old new : RigState)
+    ensures inward { (m : Setting) (n : ℕ) (ops : List AnyOp) (a : AnyAdapter) (ios : List AnyIo) (req : List AnyBio) (pool pool' : List (List ℕ)) (us : List Stored) (stop : Option Stop)
+        (fates : List AnyFate) (old new : RigState)
         (opening : State) (status : ℕ → ℕ → Status) (spots : List Spot)
         → IsProtect a.protect → IsGroup a pool m.size ios req → (first_of req).dir ≡ Read → m.site ≡ site_of a (shapes_of us)
         → AllSized m a ios (blocks_told us) (frame_len a ios req) (blocks_in req)

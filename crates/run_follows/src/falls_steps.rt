@@ -37,10 +37,14 @@ pub fn a_falling_stack_begins()
 
 /// The blocks of an op are admitted, and those of a piece are cut.
 pub fn some_blocks_move_on_where_calls_fail()
-    ensures admitted { (m : Setting) (n : ℕ) (ops : List AnyOp) (opening : State) (status : ℕ → ℕ → Status) (pages : List ℕ) (blocks : List (List ℕ)) (es : List Sent) (spots : List Spot) → AllMayMove m n ops status Waits spots
-        → (f : FollowsFalling m n ops opening status pages blocks es) → let after = plain act (all_made m n spots) f.after in FollowsFalling m n ops opening (with_all spots Admitted status) after.bytes after.blocks es }
-    ensures cut { (m : Setting) (n : ℕ) (ops : List AnyOp) (opening : State) (status : ℕ → ℕ → Status) (pages : List ℕ) (blocks : List (List ℕ)) (es : List Sent) (spots : List Spot) → AllMayMove m n ops status Admitted spots
-        → (f : FollowsFalling m n ops opening status pages blocks es) → let after = plain act (all_cut m n spots) f.after in FollowsFalling m n ops opening (with_all spots Cut status) after.bytes after.blocks es }
+    ensures admitted { (m : Setting) (n : ℕ) (ops : List AnyOp) (opening : State) (status : ℕ → ℕ → Status) (pages : List ℕ) (blocks : List (List ℕ)) (es : List Sent) (spots : List Spot)
+        → AllMayMove m n ops status Waits spots
+        → (f : FollowsFalling m n ops opening status pages blocks es) → let after = plain act (all_made m n spots) f.after in
+        FollowsFalling m n ops opening (with_all spots Admitted status) after.bytes after.blocks es }
+    ensures cut { (m : Setting) (n : ℕ) (ops : List AnyOp) (opening : State) (status : ℕ → ℕ → Status) (pages : List ℕ) (blocks : List (List ℕ)) (es : List Sent) (spots : List Spot)
+        → AllMayMove m n ops status Admitted spots
+        → (f : FollowsFalling m n ops opening status pages blocks es) → let after = plain act (all_cut m n spots) f.after in
+        FollowsFalling m n ops opening (with_all spots Cut status) after.bytes after.blocks es }
 {}
 
 /// A command is completed: a block is listed with what was found when it was carried, as one whose store call failed is
@@ -54,14 +58,17 @@ pub fn a_block_is_settled_where_calls_fail()
 
 /// An op that is no request is done whole, once the gate lets it in.
 pub fn an_op_is_done_whole_where_calls_fail()
-    ensures { (m : Setting) (n : ℕ) (front behind : List AnyOp) (op : AnyOp) (opening : State) (old new : ℕ → ℕ → Status) (pages : List ℕ) (blocks : List (List ℕ)) (es : List Sent) → let i = suc (length front) in
-        OneCellEach m → AllPlaced m n front → IsPlaced m n op → IsAlone op → LetsIn m old 1 front i op → (f : FollowsFalling m n (front ++ (op ∷ behind)) opening old pages blocks es) → BecomesDone m i op f.after old new
+    ensures { (m : Setting) (n : ℕ) (front behind : List AnyOp) (op : AnyOp) (opening : State) (old new : ℕ → ℕ → Status) (pages : List ℕ) (blocks : List (List ℕ)) (es : List Sent)
+        → let i = suc (length front) in
+        OneCellEach m → AllPlaced m n front → IsPlaced m n op → IsAlone op → LetsIn m old 1 front i op → (f : FollowsFalling m n (front ++ (op ∷ behind)) opening old pages blocks es)
+        → BecomesDone m i op f.after old new
         → let after = plain act (acts_of m i op) f.after in FollowsFalling m n (front ++ (op ∷ behind)) opening new after.bytes after.blocks es }
 {}
 
 /// The adapter finds a block of a write bad and sends nothing: pages, stored blocks and record are as they were.
 pub fn a_write_is_held_back_where_calls_fail()
-    ensures { (m : Setting) (n : ℕ) (ops : List AnyOp) (a : AnyAdapter) (ios : List AnyIo) (req : List AnyBio) (pool pool' : List (List ℕ)) (fates : List AnyFate) (opening : State) (status : ℕ → ℕ → Status)
+    ensures { (m : Setting) (n : ℕ) (ops : List AnyOp) (a : AnyAdapter) (ios : List AnyIo) (req : List AnyBio) (pool pool' : List (List ℕ)) (fates : List AnyFate) (opening : State)
+        (status : ℕ → ℕ → Status)
         (blocks : List (List ℕ)) (es : List Sent) (spots : List Spot)
         → IsGroup a pool m.size ios req → (first_of req).dir ≡ Write → m.site.faults ≡ a.tamper → Unsent a ios req pool pool' fates
         → AllGoing m n ops a ios (length opening.logs) status (blocks_in req) spots → FollowsFalling m n ops opening status (flat pool) blocks es
@@ -72,7 +79,8 @@ pub fn a_write_is_held_back_where_calls_fail()
 /// size, is what some flip of the block leaves: the stack follows the walk in which this flip stands in its place.
 pub fn an_overwrite_flips_its_block_where_its_call_fails()
     ensures flips { (old left : List ℕ) → length left ≡ length old → (mask : List ℕ) × (changed (Flip 0 mask) old ≡ left) }
-    ensures follows { (m : Setting) (n : ℕ) (front behind : List AnyOp) (dev lba : ℕ) (change : AnyChange) (mask : List ℕ) (opening : State) (old new : ℕ → ℕ → Status) (pages : List ℕ) (blocks : List (List ℕ)) (es : List Sent)
+    ensures follows { (m : Setting) (n : ℕ) (front behind : List AnyOp) (dev lba : ℕ) (change : AnyChange) (mask : List ℕ) (opening : State) (old new : ℕ → ℕ → Status) (pages : List ℕ)
+        (blocks : List (List ℕ)) (es : List Sent)
         → let i = suc (length front) in let flip = Overwrite dev lba (Flip 0 mask) in
         OneCellEach m → AllPlaced m n front → IsPlaced m n (Overwrite dev lba change) → LetsIn m old 1 front i (Overwrite dev lba change)
         → (f : FollowsFalling m n (front ++ (Overwrite dev lba change ∷ behind)) opening old pages blocks es) → BecomesDone m i (Overwrite dev lba change) f.after old new

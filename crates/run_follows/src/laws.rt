@@ -15,5 +15,6 @@ ghost use Rattle.run_follows.specs.Spots.{IsRead, op_in, step_in};
 /// What was found of a block of a read that is carried, and not settled yet, stands in its cell.
 pub fn what_was_found_stands_in_its_cell()
     ensures { (m : Setting) (n : ℕ) (ops : List AnyOp) (opening now : State) (status : ℕ → ℕ → Status) (es : List Sent) (p q : ℕ) (why : Option AnyWhy) → Follows m n ops opening status now es
-        → fates ops ≤ length opening.fates → p < length ops → q < fates_of (op_in ops p) → IsRead (step_in m ops p q) → status (suc p) q ≡ Carried why → get_or now.fates (fates (take p ops) + q) None ≡ why }
+        → fates ops ≤ length opening.fates → p < length ops → q < fates_of (op_in ops p) → IsRead (step_in m ops p q) → status (suc p) q ≡ Carried why
+        → get_or now.fates (fates (take p ops) + q) None ≡ why }
 {}

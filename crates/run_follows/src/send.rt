@@ -41,7 +41,8 @@ pub fn more_may_stand_on_record()
 pub fn a_group_is_sent()
     ensures out { (m : Setting) (n : ℕ) (ops : List AnyOp) (a : AnyAdapter) (ios : List AnyIo) (opening now : State) (status : ℕ → ℕ → Status) (es : List Sent) (bs : List Block) (spots : List Spot)
         (cames : List (Result (List ℕ) AnyWhy))
-        → AllGoing m n ops a ios (length opening.logs) status bs spots → AllGoOut m a ios now.bytes bs cames → Follows m n ops opening status now es → SentOut m n ops a ios opening now bs cames status es }
+        → AllGoing m n ops a ios (length opening.logs) status bs spots → AllGoOut m a ios now.bytes bs cames → Follows m n ops opening status now es
+        → SentOut m n ops a ios opening now bs cames status es }
     ensures inward { (m : Setting) (n : ℕ) (ops : List AnyOp) (a : AnyAdapter) (ios : List AnyIo) (opening now : State) (status : ℕ → ℕ → Status) (es : List Sent) (bs : List Block) (spots : List Spot)
         (cames : List (Result (List ℕ) AnyWhy))
         → m.site.faults ≡ a.tamper → AllGoing m n ops a ios (length opening.logs) status bs spots → AllComeIn m a ios now.blocks bs cames → Follows m n ops opening status now es
@@ -87,7 +88,8 @@ pub fn a_told_command_is_sent()
         → AllGoing m n ops a ios (length opening.logs) status (blocks_in req) spots → now.bytes ≡ flat pool → now.blocks ≡ blocks_told us
         → Follows m n ops opening status now (recorded m old.log)
         → FollowsTold m n ops opening (with_fates (blocks_in req) fates status) (flat pool) (blocks_told w.units) new.log }
-    ensures inward { (m : Setting) (n : ℕ) (ops : List AnyOp) (a : AnyAdapter) (ios : List AnyIo) (req : List AnyBio) (pool pool' : List (List ℕ)) (us : List Stored) (fates : List AnyFate) (old new : RigState)
+    ensures inward { (m : Setting) (n : ℕ) (ops : List AnyOp) (a : AnyAdapter) (ios : List AnyIo) (req : List AnyBio) (pool pool' : List (List ℕ)) (us : List Stored) (fates : List AnyFate)
+        (old new : RigState)
         (opening now : State) (status : ℕ → ℕ → Status) (spots : List Spot)
         → IsProtect a.protect → IsGroup a pool m.size ios req → (first_of req).dir ≡ Read → m.site ≡ site_of a (shapes_of us)
         → AllSized m a ios (blocks_told us) (frame_len a ios req) (blocks_in req)

@@ -33,6 +33,7 @@ pub fn blocks_of_a_request_have_no_moves_that_conflict()
 pub fn blocks_of_a_request_are_stored_apart()
     ensures still { (m : Setting) (i v n : ℕ) → OneCellEach m → is_shifted m i ≡ false → v + n ≤ volume_len m.entries → AreStoredApart m i v n }
     ensures shifted { (m : Setting) (devices : List AnyDevice) (image : List (List ℕ)) (i v n : ℕ) → LiesOn m devices → HasCells m devices image → v + n ≤ volume_len m.entries
-        → ((k : ℕ) → k < n → let r = route m (block_of i v k) in (pos (wire_lba m.site.faults r) ≡ pos r.lba +ℤ shift_of m.site.faults AdapterToTarget i) × HasBlock m devices r.dev (wire_lba m.site.faults r))
+        → ((k : ℕ) → k < n → let r = route m (block_of i v k) in (pos (wire_lba m.site.faults r) ≡ pos r.lba +ℤ shift_of m.site.faults AdapterToTarget i)
+        × HasBlock m devices r.dev (wire_lba m.site.faults r))
         → AreStoredApart m i v n }
 {}

@@ -3,6 +3,7 @@ pub mod Sums
 pub mod Frames
 pub mod Lines
 pub mod Ways
+pub mod Shown
 pub mod Runs
 pub mod Escapes
 pub mod Clean

@@ -1,52 +1,37 @@
 -- Along the steps of a run whose faults have the form: what stands in the pages and on the volume, and that each fault is shown.
-use Rattle.std.proofs.Common.{◌≡◌, ◌<◌, ℕ, zero, suc, ◌+◌, ◌-◌, ◌%◌, ◌^◌, Bool, true, false, eqb, ◌&&◌, ◌||◌, not, if◌then◌else◌, List, [], ◌∷◌, ◌++◌, length, take, drop, get_or, set, refl, sym, ap, subst, ◌∙◌, arith, length-append}
-use Rattle.std.specs.Prelude.{All, pos, nat_abs}
-use Rattle.std.specs.Int.{w32, from_be_bytes, to_be_bytes}
+use Rattle.std.proofs.Common.{◌≡◌, ℕ, suc, ◌+◌, ◌-◌, ◌%◌, ◌^◌, Bool, true, false, eqb, ◌&&◌, not, List, [], ◌∷◌, ◌++◌, get_or, refl, sym, ap, subst, ◌∙◌, arith}
+use Rattle.std.specs.Prelude.{All}
 use Rattle.std.specs.List.{list_all, list_any}
-use Rattle.std.proofs.lemmas.Bool.{and_from, and_parts, eqb-true, eq-eqb, false≢true, false_from_ne_true}
-use Rattle.std.proofs.lemmas.List.{length-set}
-use Rattle.pi_guard.specs.Guards.{guard_of}
-use Rattle.pi_guard.specs.declared.GuardKind.{GuardKind}
-use Rattle.pi_guard.specs.declared.GuardKind.TheVariants.{Crc}
+use Rattle.std.proofs.lemmas.Bool.{and_from, and_parts, eq-eqb, false≢true, false_from_ne_true}
 use Rattle.pi_guard.proofs.GuardSizes.{guard_below}
-use Rattle.pi_tuple.specs.Finds.{is_escaped}
-use Rattle.pi_tuple.specs.Tuples.{ref_tag, tuple_bytes}
-use Rattle.pi_tuple.specs.declared.tuple.Tuple.{Tuple}
-use Rattle.pi_tuple.specs.declared.checks.PiType.TheVariants.{One}
 use Rattle.pi_tuple.proofs.TupleLaws.{tag_below}
-use Rattle.page_pool.specs.Cells.{gather, scatter}
-use Rattle.fault_schedule.specs.Altered.{is_line_of, is_same, shift_of}
+use Rattle.fault_schedule.specs.Altered.{is_line_of, is_same}
 use Rattle.fault_schedule.specs.declared.fault.Crossing.{Crossing}
-use Rattle.fault_schedule.specs.declared.fault.Crossing.TheVariants.{AdapterToTarget, HostToAdapter, MediumToTarget, TargetToMedium}
+use Rattle.fault_schedule.specs.declared.fault.Crossing.TheVariants.{HostToAdapter, MediumToTarget, TargetToMedium}
 use Rattle.fault_schedule.specs.declared.fault.FaultLine.{FaultLine}
-use Rattle.integrity_payload.specs.declared.payload.Owner.{Owner}
 use Rattle.integrity_payload.specs.declared.payload.Owner.TheVariants.{Block as OfBlock, App as OfApp}
 use Rattle.stack_ops.specs.declared.op.Op.{Op}
 use Rattle.stack_ops.specs.declared.op.Op.TheVariants.{Fetch, FetchPi, Fill, Overwrite, Put, Seal, Show, Wait, Write, WritePi}
 use Rattle.volume_table.specs.Places.{volume_len}
 use Rattle.block_path.specs.Acts.{State, act}
-use Rattle.block_path.specs.Blocks.{fetched_cell, own_cell, own_frame, own_tuple, read_by, stored_cell, tag_after, tuple_after, written_by}
-use Rattle.block_path.specs.Routes.{moved}
-use Rattle.block_path.specs.WayIn.{Delivers, Spoils, Stops, WayIn, way_in}
-use Rattle.block_path.specs.WayOut.{Fails, Refuses, Stores, WayOut, way_out}
-use Rattle.block_path.proofs.Cells.{AllBelow, below, gather_length}
+use Rattle.block_path.proofs.Cells.{AllBelow, below}
 use Rattle.whole_run.specs.CalmRun.{AllFit, Fits, LiesIn}
-use Rattle.whole_run.specs.Detectable.{detectable, step_shows}
-use Rattle.whole_run.specs.FirstLayer.{has_flip, has_shift, is_flip}
+use Rattle.whole_run.specs.Detectable.{detectable}
+use Rattle.whole_run.specs.FirstLayer.{has_flip, is_flip}
 use Rattle.whole_run.specs.Past.{steps_from}
 use Rattle.whole_run.specs.ScriptWalk.{act_of}
 use Rattle.whole_run.specs.Settings.{Block, Setting, block_of, route}
-use Rattle.whole_run.specs.Steps.{Alters, Reads, Seals, Sets, Shows, Step, Writes, WritesPi, body_of, each_from, frame_at, steps_of, tuple_of}
-use Rattle.whole_run.specs.UnderMap.{AreClean, NoneEscapes, SuppliesNoEscape, home}
+use Rattle.whole_run.specs.Steps.{Reads, Seals, Step, Writes, WritesPi, body_of, frame_at, steps_of, tuple_of}
+use Rattle.whole_run.specs.UnderMap.{AreClean, NoneEscapes}
 use Rattle.whole_run.proofs.CalmRuns.{frame_length, part_length}
-use Rattle.whole_run.proofs.TupleFrames.{Small, below_append, below_drop, below_gather, below_replicate, below_scatter, below_take, data_is, four_below, tuple_below, tuple_is}
-use Rattle.run_laws.proofs.Layers.{checked, unmoved}
-use Rattle.run_laws.proofs.Along.{set_cases}
+use Rattle.whole_run.proofs.TupleFrames.{below_replicate}
+use Rattle.run_laws.proofs.Layers.{checked}
 use Rattle.run_laws.proofs.Reading.{checked_form, none_escapes}
 use Rattle.run_premises.specs.Forms.{brings_tuples, first_virt, is_good_line, is_overwrite, is_stored_altered, op_of, virt_of}
 use Rattle.run_premises.specs.FormedRun.{HasFormedFaults, IsOfBytes}
-use Rattle.run_premises.proofs.Lines.{IsLineOf, line_of, no_shift, none_of}
-use Rattle.run_premises.proofs.Ways.{Fine, Kept, OfBytes, Right, comes_bytes, comes_shown, goes_kept, goes_shown, the_line}
+use Rattle.run_premises.proofs.Shown.{AllSuit, all_shown, begins, both_suit, each_suits}
+use Rattle.run_premises.proofs.Lines.{IsLineOf, line_of, none_of}
+use Rattle.run_premises.proofs.Ways.{the_line}
 
 pub mends : (a b : Bool) → (a && b) ≡ false → a ≡ true → b ≡ true → ⊥
 mends true true h p q = false≢true (sym h)
@@ -70,53 +55,16 @@ module _ (m' : Setting) (ops : List Op) (even : m'.size % 2 ≡ 0) (flips : All 
   abbrev faults : List FaultLine
   faults = m'.site.faults
 
-  -- a frame on its way, as `Ways` has it
-  abbrev IsFine : List ℕ → Type 0
-  IsFine x = Fine m' ops even flips form x
-
-  abbrev IsRight : GuardKind → List ℕ → Type 0
-  IsRight k x = Right m' ops even flips form k x
-
   -- the block is the one that its op names at its place
   abbrev pub IsNamed : Block → Type 0
   IsNamed b = first_virt (op_of ops b.op) + b.k ≡ b.virt
 
-  abbrev pub Suits : Step → Type 0
-  Suits (Sets at values) = AllBelow 256 values
-  Suits (Shows at) = Unit {0}
-  Suits (Seals body tuple app rtag) = Unit {0}
-  Suits (Writes b app body) = IsNamed b × ((b.virt < count) × ((length body ≡ n) × (app < 2 ^ 16)))
-  Suits (WritesPi b frame) = IsNamed b × ((b.virt < count) × ((length frame ≡ n + 8) × (brings_tuples (op_of ops b.op) ≡ true)))
-  Suits (Reads b owner to) = IsNamed b × (b.virt < count)
-  Suits (Alters dev lba change) = ⊥
+  -- an application brings its tuple
+  abbrev pub Brings : Block → Type 0
+  Brings b = brings_tuples (op_of ops b.op) ≡ true
 
-  abbrev pub AllSuit : List Step → Type 0
-  AllSuit [] = Unit {0}
-  AllSuit (step ∷ steps) = Suits step × AllSuit steps
-
-  -- a stored block of the volume: right where no line alters it on its way to the medium
-  pub record Held (v : ℕ) (x : List ℕ) : Type 0 where
-    pub fine : IsFine x
-    pub right : is_stored_altered ops faults v ≡ false → IsRight Crc x
-
-  pub record Holds (s : State) : Type 0 where
-    pub pages : AllBelow 256 s.bytes
-    pub size : length s.blocks ≡ length image
-    pub each : (v : ℕ) → v < count → Held v (get_or s.blocks (home m v) [])
-
-  -- ---- no shift
-
-  home_is : (b : Block) → stored_cell m.site (route m b) ≡ home m b.virt
-  home_is b = ap (m'.site.cell (route m b).dev) (ap (moved (route m b).lba) (no_shift m'.mode.kind n faults ops faults form AdapterToTarget b.op) ∙ unmoved m' (route m b).lba (pos 0) refl)
-
-  fetched_is : (b : Block) → fetched_cell m.site (route m b) ≡ home m b.virt
-  fetched_is b =
-      let a = ap (moved (route m b).lba) (no_shift m'.mode.kind n faults ops faults form AdapterToTarget b.op) ∙ unmoved m' (route m b).lba (pos 0) refl in
-      let w = moved (route m b).lba (shift_of faults AdapterToTarget b.op) in
-      ap (m'.site.cell (route m b).dev) (ap (moved w) (no_shift m'.mode.kind n faults ops faults form MediumToTarget b.op) ∙ unmoved m' w (pos 0) refl ∙ a)
-
-  unshifted : (b : Block) → has_shift m b MediumToTarget ≡ false
-  unshifted b = ap (λ z. not (eqb (nat_abs z) 0)) (no_shift m'.mode.kind n faults ops faults form MediumToTarget b.op)
+  abbrev pub AllFitting : List Step → Type 0
+  AllFitting = AllSuit m IsNamed Brings
 
   -- ---- lines of a block
 
@@ -139,198 +87,53 @@ module _ (m' : Setting) (ops : List Op) (even : m'.size % 2 ≡ 0) (flips : All 
       ap (is_stored_altered ops faults) (sym (virt_is b MediumToTarget l.line l.is e)) ∙ if_all (is_same l.line.at MediumToTarget) (is_stored_altered ops faults (virt_of ops l.line)) l.undoes same
 
   -- no line alters a block whose tuple an application brings on its way to the adapter
-  not_mended : (b : Block) → brings_tuples (op_of ops b.op) ≡ true → has_flip m b HostToAdapter ≡ true → ⊥
+  not_mended : (b : Block) → Brings b → has_flip m b HostToAdapter ≡ true → ⊥
   not_mended b t q =
       let l = the_line m' ops even flips form b HostToAdapter q in
       mends (is_same l.line.at HostToAdapter) (brings_tuples (op_of ops l.line.op)) l.mends (ap (λ at. is_same at HostToAdapter) l.is.crossing) (ap (λ label. brings_tuples (op_of ops label.op)) l.is.labelled ∙ t)
 
-  -- ---- a block is stored
-
-  stored_held : (b : Block) (stored : List ℕ) (s : State) → IsNamed b → b.virt < count → IsFine stored → (has_flip m b TargetToMedium ≡ false → IsRight Crc stored) → Holds s →
-      (v : ℕ) → v < count → Held v (get_or (set s.blocks (stored_cell m.site (route m b)) stored) (home m v) [])
-  stored_held b stored s e w f r h v l =
-      let c = stored_cell m.site (route m b) in
-      let inside = lies.within b.virt w in
-      let size = h.size in
-      let own = home_is b in
-      set_cases (Held v) s.blocks c (home m v) stored [] (λ q.
-      let same : b.virt ≡ v = lies.apart b.virt v w l (sym own ∙ eqb-true c (home m v) q) in (
-        (omega (arith, inside, size, own)),
-        record { fine = f; right = λ a. r (kept_there b e (ap (is_stored_altered ops faults) same ∙ a)) },
-      )) (λ q. h.each v l)
-
-  written_size : (b : Block) (w : WayOut) (back : List ℕ) (log : List (List ℕ)) (blocks : List (List ℕ)) → length (scatter (stored_cell m.site (route m b) ∷ []) (written_by (route m b) w back log).written.blocks blocks) ≡ length blocks
-  written_size b (Fails why) back log blocks = refl
-  written_size b (Refuses why) back log blocks = refl
-  written_size b (Stores carried stored) back log blocks = length-set blocks (stored_cell m.site (route m b)) stored
-
-  written_held : (b : Block) (w : WayOut) (back : List ℕ) (log : List (List ℕ)) (s : State) → IsNamed b → b.virt < count → Kept m' ops even flips form b w → Holds s →
-      (v : ℕ) → v < count → Held v (get_or (scatter (stored_cell m.site (route m b) ∷ []) (written_by (route m b) w back log).written.blocks s.blocks) (home m v) [])
-  written_held b (Fails why) back log s e l k h = h.each
-  written_held b (Refuses why) back log s e l k h = h.each
-  written_held b (Stores carried stored) back log s e l k h = stored_held b stored s e l k.0 k.1 h
-
-  written_pages : (b : Block) (w : WayOut) (back : List ℕ) (log : List (List ℕ)) → (written_by (route m b) w back log).written.bytes ≡ back
-  written_pages b (Fails why) back log = refl
-  written_pages b (Refuses why) back log = refl
-  written_pages b (Stores carried stored) back log = refl
-
-  -- ---- frames of the host
-
-  own_fine : (b : Block) (app : ℕ) (x : List ℕ) → length x ≡ n → AllBelow 256 x → app < 2 ^ 16 → is_escaped One (own_tuple (route m b) app x) ≡ false → IsFine (own_frame (route m b) app x)
-  own_fine b app x l h a e =
-      let t = own_tuple (route m b) app x in
-      let small : Small t = record { guard = guard_below m'.mode.kind x; app = a; rtag = tag_below b.virt } in
-      record {
-        size = length-append x (tuple_bytes t) ∙ ap (λ k. k + 8) l;
-        bytes = below_append 256 x (tuple_bytes t) h (tuple_below t);
-        escape = ap (λ u. is_escaped One u) (tuple_is n x t l small) ∙ e;
-      }
-
-  own_right : (b : Block) (app : ℕ) (x : List ℕ) → length x ≡ n → app < 2 ^ 16 → IsRight m'.mode.kind (own_frame (route m b) app x)
-  own_right b app x l a =
-      let t = own_tuple (route m b) app x in
-      let small : Small t = record { guard = guard_below m'.mode.kind x; app = a; rtag = tag_below b.virt } in
-      ap (λ (u : Tuple). u.guard) (tuple_is n x t l small) ∙ ap (guard_of m'.mode.kind) (sym (data_is n x t l))
-
-  tag_bytes : (b : Block) (tag : List ℕ) → AllBelow 256 tag → AllBelow 256 (tag_after (route m b) tag)
-  tag_bytes b tag h = by (eqb (from_be_bytes w32 tag) (ref_tag b.virt) || eqb (from_be_bytes w32 tag) (ref_tag (route m b).lba)) where
-    by : (c : Bool) → AllBelow 256 (if c then to_be_bytes w32 (ref_tag b.virt) else tag)
-    by true = four_below (ref_tag b.virt)
-    by false = h
-
-  after_bytes : (b : Block) (tuple : List ℕ) → AllBelow 256 tuple → AllBelow 256 (tuple_after (route m b) tuple)
-  after_bytes b tuple h = below_append 256 (take 4 tuple) (tag_after (route m b) (drop 4 tuple)) (below_take 256 4 tuple h) (tag_bytes b (drop 4 tuple) (below_drop 256 4 tuple h))
-
-  read_bytes : (b : Block) (owner : Owner) (w : WayIn) (size after : ℕ) → OfBytes m' ops even flips form w → AllBelow 256 (read_by (route m b) owner w size after).written.bytes
-  read_bytes b owner (Stops why) size after h = below_replicate 256 size 0 (omega arith)
-  read_bytes b owner (Spoils why carried) size after h = below_replicate 256 size 0 (omega arith)
-  read_bytes b owner (Delivers carried frame) size after h = h
-
-  -- ---- a step
-
-  pub record Goes (step : Step) (s : State) : Type 0 where
-    pub shown : step_shows m step s ≡ true
-    pub holds : Holds (act (act_of m step) s)
-
-  one_step : (step : Step) (s : State) → Suits step → SuppliesNoEscape m step s → Holds s → Goes step s
-  one_step (Sets at values) s fit e h = record { shown = refl; holds = record { pages = below_scatter 256 at values s.bytes fit h.pages; size = h.size; each = h.each } }
-  one_step (Shows at) s fit e h = record { shown = refl; holds = record { pages = h.pages; size = h.size; each = h.each } }
-  one_step (Seals body tuple app rtag) s fit e h =
-      let t : Tuple = record { guard = guard_of m'.mode.kind (gather 0 body s.bytes); app = app; rtag = rtag } in
-      record { shown = refl; holds = record { pages = below_scatter 256 tuple (tuple_bytes t) s.bytes (tuple_below t) h.pages; size = h.size; each = h.each } }
-  one_step (Writes b app body) s fit e h =
-      let x = gather 0 body s.bytes in
-      let l = gather_length 0 body s.bytes ∙ fit.1.1.0 in
-      let bytes = below_gather 256 body s.bytes (omega arith) h.pages in
-      let frame = own_frame (route m b) app x in
-      let f = own_fine b app x l bytes fit.1.1.1 (e refl) in
-      let w = way_out faults m.site.device (route m b) frame in
-      let log = get_or s.logs (own_cell m.site (route m b)) [] in
-      let k = goes_kept m' ops even flips form b frame f in
-      record {
-        shown = goes_shown m' ops even flips form b frame f (λ q. own_right b app x l fit.1.1.1);
-        holds = record { pages = h.pages; size = written_size b w [] log s.blocks ∙ h.size; each = written_held b w [] log s fit.0 fit.1.0 k h };
-      }
-  one_step (WritesPi b frame) s fit e h =
-      let x = gather 0 frame s.bytes in
-      let f : IsFine x = record { size = gather_length 0 frame s.bytes ∙ fit.1.1.0; bytes = below_gather 256 frame s.bytes (omega arith) h.pages; escape = e } in
-      let w = way_out faults m.site.device (route m b) x in
-      let log = get_or s.logs (own_cell m.site (route m b)) [] in
-      let back = tuple_after (route m b) (drop n x) in
-      let k = goes_kept m' ops even flips form b x f in
-      record {
-        shown = goes_shown m' ops even flips form b x f (λ q. absurd (not_mended b fit.1.1.1 q));
-        holds = record {
-          pages = subst (λ bs. AllBelow 256 (scatter (drop n frame) bs s.bytes)) (sym (written_pages b w back log)) (below_scatter 256 (drop n frame) back s.bytes (after_bytes b (drop n x) (below_drop 256 n x f.bytes)) h.pages);
-          size = written_size b w back log s.blocks ∙ h.size;
-          each = written_held b w back log s fit.0 fit.1.0 k h;
-        };
-      }
-  one_step (Reads b owner to) s fit e h =
-      let c = fetched_cell m.site (route m b) in
-      let stored = get_or s.blocks c [] in
-      let k = subst (λ i. Held b.virt (get_or s.blocks i [])) (sym (fetched_is b)) (h.each b.virt fit.1) in
-      let w = way_in faults m.site.device (route m b) owner stored in
-      let logged = length (get_or s.logs (own_cell m.site (route m b)) []) in
-      record {
-        shown = comes_shown m' ops even flips form b stored k.fine (unshifted b) (λ q. k.right (whole_there b fit.0 q));
-        holds = record {
-          pages = below_scatter 256 to (read_by (route m b) owner w (length to) logged).written.bytes s.bytes (read_bytes b owner w (length to) logged (comes_bytes m' ops even flips form b owner stored k.fine)) h.pages;
-          size = h.size;
-          each = h.each;
-        };
-      }
-  one_step (Alters dev lba change) s fit e h = absurd fit
-
-  pub all_shown : (steps : List Step) (s : State) → AllSuit steps → NoneEscapes m steps s → Holds s → detectable m steps s ≡ true
-  all_shown [] s fit e h = refl
-  all_shown (step ∷ steps) s fit e h =
-      let g = one_step step s fit.0 e.0 h in
-      let next = act (act_of m step) s in
-      and_from (step_shows m step s) (detectable m steps next) g.shown (all_shown steps next fit.1 e.1 g.holds)
-
-  pub begins : (s : State) → s.blocks ≡ image → AllBelow 256 s.bytes → AreClean m s.blocks → Holds s
-  begins s same pages clean = record {
-    pages = pages;
-    size = ap length same;
-    each = λ v l.
-        let c = clean v l refl in
-        record {
-          fine = record {
-            size = ap (λ (bs : List (List ℕ)). length (get_or bs (home m v) [])) same ∙ lies.size v l;
-            bytes = subst (λ (bs : List (List ℕ)). AllBelow 256 (get_or bs (home m v) [])) (sym same) (below 256 (get_or image (home m v) []) (lies.bytes v l));
-            escape = c.no_escape;
-          };
-          right = λ a. c.guard;
-        };
-  }
+  pub steps_shown : (steps : List Step) (s : State) → AllFitting steps → NoneEscapes m steps s → s.blocks ≡ image → AllBelow 256 s.bytes → AreClean m s.blocks → detectable m steps s ≡ true
+  steps_shown steps s fit e same pages clean =
+      all_shown m' ops even flips form image lies IsNamed Brings (is_stored_altered ops faults) kept_there whole_there not_mended steps s fit e
+      (begins m' ops even flips form image lies IsNamed Brings (is_stored_altered ops faults) kept_there whole_there not_mended s same pages clean)
 
   -- ---- the steps of ops
 
-  each_suits : (k c : ℕ) (f : ℕ → Step) → ((j : ℕ) → j < k + c → Suits (f j)) → AllSuit (each_from k c f)
-  each_suits k zero f h = tt
-  each_suits k (suc c) f h = (h k (omega arith), each_suits (suc k) c f (λ j l. h j (omega arith)))
-
-  both_suit : (xs ys : List Step) → AllSuit xs → AllSuit ys → AllSuit (xs ++ ys)
-  both_suit [] ys h k = k
-  both_suit (x ∷ xs) ys h k = (h.0, both_suit xs ys h.1 k)
-
-  op_suits : (i : ℕ) (op : Op) → op_of ops i ≡ op → Fits m op → AllSuit (steps_of m i op)
+  op_suits : (i : ℕ) (op : Op) → op_of ops i ≡ op → Fits m op → AllFitting (steps_of m i op)
   op_suits i (Fill seg byte) e h = (below_replicate 256 seg.len byte h, tt)
   op_suits i (Put page off bytes) e h = (below 256 bytes h, tt)
   op_suits i (Show seg) e h = (tt, tt)
-  op_suits i (Seal c body tuples app rtag) e h = each_suits 0 c (λ k. Seals (body_of m.size body k) (tuple_of tuples k) app ((rtag + k) % 2 ^ 32)) (λ j l. tt)
+  op_suits i (Seal c body tuples app rtag) e h = each_suits m IsNamed Brings 0 c (λ k. Seals (body_of m.size body k) (tuple_of tuples k) app ((rtag + k) % 2 ^ 32)) (λ j l. tt)
   op_suits i (Write v c body app) e h =
-      each_suits 0 c (λ k. Writes (block_of i v k) app (body_of m.size body k)) (λ j l. (
+      each_suits m IsNamed Brings 0 c (λ k. Writes (block_of i v k) app (body_of m.size body k)) (λ j l. (
         ap (λ o. first_virt o + j) e,
         (
           (let w = h.0.within in omega (arith, w, l)),
           (part_length body m.size j c h.0.bytes_are (omega (arith, l)), h.1),
         ),
       ))
-  op_suits i (Fetch v c body) e h = each_suits 0 c (λ k. Reads (block_of i v k) OfBlock (body_of m.size body k)) (λ j l. (ap (λ o. first_virt o + j) e, omega (arith, h, l)))
+  op_suits i (Fetch v c body) e h = each_suits m IsNamed Brings 0 c (λ k. Reads (block_of i v k) OfBlock (body_of m.size body k)) (λ j l. (ap (λ o. first_virt o + j) e, omega (arith, h, l)))
   op_suits i (WritePi v c body tuples) e h =
-      each_suits 0 c (λ k. WritesPi (block_of i v k) (frame_at m.size body tuples k)) (λ j l. (
+      each_suits m IsNamed Brings 0 c (λ k. WritesPi (block_of i v k) (frame_at m.size body tuples k)) (λ j l. (
         ap (λ o. first_virt o + j) e,
         (
           (let w = h.0.within in omega (arith, w, l)),
           (frame_length m.size body tuples j c h.0.bytes_are h.1.0 (omega (arith, l)), ap brings_tuples e),
         ),
       ))
-  op_suits i (FetchPi v c body tuples) e h = each_suits 0 c (λ k. Reads (block_of i v k) OfApp (frame_at m.size body tuples k)) (λ j l. (ap (λ o. first_virt o + j) e, omega (arith, h, l)))
+  op_suits i (FetchPi v c body tuples) e h = each_suits m IsNamed Brings 0 c (λ k. Reads (block_of i v k) OfApp (frame_at m.size body tuples k)) (λ j l. (ap (λ o. first_virt o + j) e, omega (arith, h, l)))
   op_suits i (Overwrite dev lba change) e h = absurd h
   op_suits i Wait e h = tt
 
   -- the ops from op i on are the rest
-  ops_suit : (i : ℕ) (rest : List Op) → ((j : ℕ) → op_of ops (i + j) ≡ get_or rest j Wait) → AllFit m rest → AllSuit (steps_from m i rest)
+  ops_suit : (i : ℕ) (rest : List Op) → ((j : ℕ) → op_of ops (i + j) ≡ get_or rest j Wait) → AllFit m rest → AllFitting (steps_from m i rest)
   ops_suit i [] e h = tt
   ops_suit i (op ∷ rest) e h =
       let first : op_of ops i ≡ op = (let z : i ≡ i + 0 = omega arith in ap (op_of ops) z ∙ e 0) in
-      both_suit (steps_of m i op) (steps_from m (suc i) rest) (op_suits i op first h.0)
+      both_suit m IsNamed Brings (steps_of m i op) (steps_from m (suc i) rest) (op_suits i op first h.0)
       (ops_suit (suc i) rest (λ j. let z : suc i + j ≡ i + suc j = omega arith in ap (op_of ops) z ∙ e (suc j)) h.1)
 
-  pub all_suit : AllFit m ops → AllSuit (steps_from m 1 ops)
+  pub all_suit : AllFit m ops → AllFitting (steps_from m 1 ops)
   all_suit h = ops_suit 1 ops (λ j. let z : 1 + j - 1 ≡ j = omega arith in ap (λ v. get_or ops v Wait) z) h
 
 -- escapes by steps
@@ -339,10 +142,9 @@ module _ (m : Setting) where
 formed : (m' : Setting) (ops : List Op) (opening : State) → HasFormedFaults (checked m') ops opening → detectable (checked m') (steps_from (checked m') 1 ops) opening ≡ true
 formed m' ops opening run =
     let form = (and_parts (list_all (is_good_line m'.mode.kind m'.size m'.site.faults ops) m'.site.faults) (not (list_any is_overwrite ops)) run.form).0 in
-    all_shown m' ops run.even run.flips form opening.blocks run.lies (steps_from (checked m') 1 ops) opening
+    steps_shown m' ops run.even run.flips form opening.blocks run.lies (steps_from (checked m') 1 ops) opening
     (all_suit m' ops run.even run.flips form opening.blocks run.lies run.fit)
-    (none_escapes (checked m') 1 ops opening run.no_escape)
-    (begins m' ops run.even run.flips form opening.blocks run.lies opening refl (below 256 opening.bytes run.pages) run.clean)
+    (none_escapes (checked m') 1 ops opening run.no_escape) refl (below 256 opening.bytes run.pages) run.clean
 
 pub shown_by_form : (m : Setting) (ops : List Op) (opening : State) → HasFormedFaults m ops opening → detectable m (steps_from m 1 ops) opening ≡ true
 shown_by_form m ops opening run =

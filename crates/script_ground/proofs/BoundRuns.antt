@@ -9,6 +9,7 @@ use Rattle.page_pool.specs.declared.segs.Seg.{Seg}
 use Rattle.range_gate.specs.Cells.{cells_of}
 use Rattle.block_path.specs.Acts.{State}
 use Rattle.block_path.specs.Blocks.{Sent}
+use Rattle.block_path.specs.Routes.{told_by}
 use Rattle.block_path.specs.declared.mode.Mode.{Mode}
 use Rattle.stack_ops.specs.declared.op.Op.{Op}
 use Rattle.stack_ops.specs.declared.op.Op.TheVariants.{Fetch, FetchPi, Fill, Overwrite, Put, Seal, Show, Wait, Write, WritePi}
@@ -19,7 +20,7 @@ use Rattle.whole_run.specs.Settings.{Setting}
 use Rattle.run_laws.specs.BoundRun.{AllBound, AllSuit, IsBound, IsBoundRun, fates, rooms}
 use Rattle.run_laws.specs.ToldRun.{came_by, told}
 use Rattle.run_follows.specs.Finished.{FramesFit}
-use Rattle.run_follows.proofs.Over.{same_rooms}
+use Rattle.run_follows.proofs.OverDevice.{same_rooms}
 use Rattle.run_follows.specs.Spots.{op_in as op_at}
 use Rattle.run_follows.proofs.Binding.{suit_over}
 use Rattle.script_text.specs.declared.script.Script.{Script}
@@ -118,7 +119,7 @@ module _ (m : Setting) (es : List Sent) (fit : FramesFit m es) where
   pub over-record : (s : Script) (t : Table) (devices : List DeviceInfo) (logs : ℕ) (opening : State) → SuitsStack s → IsSettingOf m s t devices logs → 4096 * s.pages + rooms m s.ops ≤ length opening.bytes → fates s.ops ≤ length opening.fates → IsBoundRun (told m es) (λ c block. true) (4096 * s.pages) s.ops opening
   over-record s t devices logs opening k is room found = record {
     bound = bound-all (told m es) (λ c block. true) s.mode.dix s.pages s.block 1 s.ops is.size (ap (λ (x : Mode). x.dix) is.mode) k.ops_are (suits-all (told m es) (λ c block. true) s.ops (λ j l. any-op (suc j) (op_at s.ops j)));
-    room = subst (λ (r : ℕ). 4096 * s.pages + r ≤ length opening.bytes) (same_rooms m (came_by es) s.ops) room;
+    room = subst (λ (r : ℕ). 4096 * s.pages + r ≤ length opening.bytes) (same_rooms m (told_by (came_by es)) s.ops) room;
     found = found;
     all_fine = λ c. refl;
   }

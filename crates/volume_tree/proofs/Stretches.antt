@@ -13,7 +13,7 @@ use Rattle.volume_table.specs.declared.entry.Entry.{Entry}
 use Rattle.volume_table.specs.Entries.{IsInRange, IsLength, entry_len, entry_place, entry_start, is_held}
 use Rattle.volume_table.specs.Places.{place_by, place_in, volume_len}
 use Rattle.volume_tree.specs.Tracks.{FollowsFrom, ends, track_len}
-use Rattle.volume_tree.specs.Trees.{AreTracks, DoFit, EntriesFollow, expanded, has_bad_length, is_other_length, is_unaligned, leg_from, stripe_between, stripes, tree_place}
+use Rattle.volume_tree.specs.Trees.{AreTracks, DoFit, EntriesFollow, LieAsTree, expanded, has_bad_length, is_other_length, is_unaligned, leg_from, stripe_between, stripes, tree_place}
 use Rattle.volume_tree.proofs.Gathering.{AllIn, AreIn, Ascends, Each, Gathered, IsCut, IsIn, all_ends_are, all_gather, all_in, or_first, or_second}
 use Rattle.volume_tree.proofs.Placing.{same_place}
 use Rattle.volume_tree.proofs.Following.{together as sum}
@@ -222,19 +222,12 @@ pub all_ranges : (start c len : ℕ) (ts : List (List Linear)) → Built c len t
 all_ranges start c len ts b h8 hl = let s = b.sum in ranges start c (length ts) b.m 0 ts (ends ts) b.along.ascends b.along.cut b.tree.chunk refl b.tree.some h8 (omega (arith, s, hl))
 
 -- all that is said of the entries
-pub record Says (start c len : ℕ) (ts : List (List Linear)) (list : List Entry) : Type 0 where
-  pub places : (v : ℕ) → start ≤ v → v < start + len → place_in list v ≡ tree_place start c ts v
-  pub follow : EntriesFollow start list
-  pub blocks : volume_len list ≡ len
-  pub ranges : All IsInRange list
-  pub few : length list ≤ 16
-
 pub says : (start c len n : ℕ) (ts : List (List Linear)) (xs : List ℕ) (list : List Entry) → length ts ≡ n → 1 ≤ c → 1 ≤ n → n ≤ 8 → IsLength len → AreTracks ts → has_bad_length len c ts ≡ false → is_unaligned c ts ≡ false
-    → xs ≡ ends ts → length xs ≤ 16 → list ≡ stripes start c ts 0 xs → Says start c len ts list
+    → xs ≡ ends ts → length xs ≤ 16 → list ≡ stripes start c ts 0 xs → LieAsTree start len c ts list
 says start c len n ts xs list l hc hn h8 hl f b u e k s =
     let r = built c len ts hc (omega (arith, l, hn)) hl.0 f b u in
     let same : expanded start c ts ≡ list = sym (s ∙ ap (stripes start c ts 0) e) in
-    subst (Says start c len ts) same (record {
+    subst (LieAsTree start len c ts) same (record {
       places = λ v lo hi. all_places start c len v ts r lo hi;
       follow = all_follow start c len ts r;
       blocks = all_blocks start c len ts r;

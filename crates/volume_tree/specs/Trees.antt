@@ -1,10 +1,11 @@
-use Rattle.std.specs.Prelude.{ℕ, ◌≡◌, ◌+◌, ◌-◌, ◌*◌, ◌/◌, ◌%◌, ◌^◌, ◌<◌, Bool, not, ◌||◌, eqb, nat_lt, if◌then◌else◌, List, [], ◌∷◌, length, map, Option, Some, None}
+use Rattle.std.specs.Prelude.{ℕ, ◌≡◌, ◌+◌, ◌-◌, ◌*◌, ◌/◌, ◌%◌, ◌^◌, ◌<◌, ◌≤◌, All, Bool, not, ◌||◌, eqb, nat_lt, if◌then◌else◌, List, [], ◌∷◌, length, map, Option, Some, None}
 use Rattle.std.specs.List.{list_any}
 use Rattle.linear_volume.specs.declared.Linear.{Linear}
 use Rattle.stripe_volume.specs.declared.legs.Leg.{Leg}
 use Rattle.volume_table.specs.declared.entry.Entry.{Entry}
 use Rattle.volume_table.specs.declared.entry.Entry.TheVariants.{Stripe}
-use Rattle.volume_table.specs.Entries.{entry_len, entry_start}
+use Rattle.volume_table.specs.Entries.{IsInRange, entry_len, entry_start}
+use Rattle.volume_table.specs.Places.{place_in, volume_len}
 use Rattle.volume_tree.specs.declared.TreeFault.{TreeFault}
 use Rattle.volume_tree.specs.declared.TreeFault.TheVariants.{BadLength, Unaligned, TooMany}
 use Rattle.volume_tree.specs.Tracks.{FollowsFrom, ends, track, track_len, track_place}
@@ -72,3 +73,11 @@ DoFit start n x (y ∷ ys) = (x < y) × (start + y * n < 2 ^ 64) × DoFit start 
 abbrev pub EntriesFollow : ℕ → List Entry → Type 0
 EntriesFollow start [] = Unit {0}
 EntriesFollow start (e ∷ rest) = (entry_start e ≡ start) × EntriesFollow (start + entry_len e) rest
+
+-- These entries lie as the tree says: each block where the tree has it. They begin at block `start`, one follows on the other, they have `len` blocks and are at most 16, and each is in the range of an entry.
+pub record LieAsTree (start len chunk : ℕ) (tracks : List (List Linear)) (list : List Entry) : Type 0 where
+  pub places : (v : ℕ) → start ≤ v → v < start + len → place_in list v ≡ tree_place start chunk tracks v
+  pub follow : EntriesFollow start list
+  pub blocks : volume_len list ≡ len
+  pub ranges : All IsInRange list
+  pub few : length list ≤ 16

@@ -1,12 +1,11 @@
 //! A stripe over inner volumes as stripes over devices.
 
-ghost use Rattle.std.specs.Prelude.{◌≡◌, ℕ, ◌+◌, ◌-◌, ◌*◌, ◌/◌, ◌^◌, ◌<◌, ◌≤◌, All, length, map, IfOk, IsOkUnless, None, OnOk, Some};
+ghost use Rattle.std.specs.Prelude.{◌≡◌, ℕ, ◌+◌, ◌-◌, ◌*◌, ◌/◌, ◌^◌, ◌<◌, ◌≤◌, length, map, IfOk, IsOkUnless, None, OnOk, Some};
 ghost use Rattle.std.specs.List.{list_any};
-ghost use Rattle.volume_table.specs.Entries.{IsInRange, IsLength};
-ghost use Rattle.volume_table.specs.Places.{place_in, volume_len};
+ghost use Rattle.volume_table.specs.Entries.{IsLength};
 ghost use Rattle.volume_tree.specs.declared.TreeFault.{TreeFault};
 ghost use Rattle.volume_tree.specs.Tracks.{tracks_of};
-ghost use Rattle.volume_tree.specs.Trees.{AreTracks, DoFit, EntriesFollow, expanded, has_bad_length, is_other_length, is_unaligned, leg_from, stripe_between, stripes, tree_fault, tree_place};
+ghost use Rattle.volume_tree.specs.Trees.{AreTracks, DoFit, LieAsTree, expanded, has_bad_length, is_other_length, is_unaligned, leg_from, stripe_between, stripes, tree_fault};
 
 use crate::TreeFault;
 use crate::ends::ends_of;
@@ -118,11 +117,7 @@ pub fn expand(
     ensures fault { (f : TreeFault) → tree_fault len chunk (tracks_of legs.now) ≡ Some f → result ≡ Err f }
     ensures good { tree_fault len chunk (tracks_of legs.now) ≡ None → IsOkUnless result TreeFault.Memory }
     ensures value { IfOk result (λ list. list ≡ expanded start chunk (tracks_of legs.now)) }
-    ensures places { IfOk result (λ list. (v : ℕ) → start ≤ v → v < start + len → place_in list v ≡ tree_place start chunk (tracks_of legs.now) v) }
-    ensures follow { IfOk result (λ list. EntriesFollow start list) }
-    ensures blocks { IfOk result (λ list. volume_len list ≡ len) }
-    ensures ranges { IfOk result (λ list. All IsInRange list) }
-    ensures few { IfOk result (λ list. length list ≤ 16) }
+    ensures lie { IfOk result (LieAsTree start len chunk (tracks_of legs.now)) }
 {
     if has_bad_length(len, chunk, legs) {
         return Err(TreeFault::BadLength);

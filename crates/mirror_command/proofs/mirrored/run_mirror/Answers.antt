@@ -7,11 +7,19 @@ use Rattle.mirror_command.proofs.mirrored.run_mirror.Goals as goal
 pub new-requires : goal.new-requires
 new-requires g c = record { bound = bound_mirror c.args.script c.in_ok-devices.devices.items c.requires c.in_ok-devices.ensures.asked.told.devices_are.few c.in_ok-devices.ensures.free }
 
-pub serve-requires-clause-stands : goal.serve-requires-clause-stands
-serve-requires-clause-stands g c = rw (c.in_ok-mirror.ensures.script, c.in_ok-mirror.ensures.devices) c.in_ok-mirror.ensures.told
+pub serve-requires-clause-begun : goal.serve-requires-clause-begun
+serve-requires-clause-begun g c = record {
+  none = c.in_ok-mirror.ensures.none;
+  unused = c.in_ok-mirror.ensures.unused;
+  stands = rw (c.in_ok-mirror.ensures.script, c.in_ok-mirror.ensures.devices) c.in_ok-mirror.ensures.told;
+}
 
-pub serve-requires-clause-rig : goal.serve-requires-clause-rig
-serve-requires-clause-rig g c = rw c.in_ok-mirror.ensures.devices (has-devices c.args.image.now c.in_ok-devices.devices.items _ _ c.in_ok-devices.ensures.asked (g.met.R.Rig.laid c.bind.new.rig))
+pub serve-requires-clause-ready : goal.serve-requires-clause-ready
+serve-requires-clause-ready g c = record {
+  mirror = c.in_ok-mirror.ensures.mirror;
+  going = c.in_ok-mirror.ensures.fine;
+  rig = rw c.in_ok-mirror.ensures.devices (has-devices c.args.image.now c.in_ok-devices.devices.items _ _ c.in_ok-devices.ensures.asked (g.met.R.Rig.laid c.bind.new.rig));
+}
 
 pub returns : goal.returns
 returns g c =

@@ -1,14 +1,13 @@
-use Rattle.std.proofs.Common.{◌≡◌, false, List, [], is_some}
+use Rattle.std.proofs.Common.{◌≡◌, List, [], is_some}
 use Rattle.leg_runs.specs.LegRuns.{LegRun}
-use Rattle.mirror_volume.specs.Plans.{IsMirror}
+use Rattle.mirror_volume.specs.Running.{CanGoOn}
 use Rattle.mirror_command.specs.Stages.{Served, stage_of}
 use Rattle.mirror_command.proofs.serving.do_ops.Given as goal
 
 abbrev pub invariant-loop : goal.invariant-loop
 invariant-loop g l = record {
-  mirror : IsMirror l.mirror;
+  ready : CanGoOn l.mirror (g.R.Rig.state l.rig);
   plan : l.mirror.plan ≡ l.fn.mirror.plan;
-  going : l.mirror.failed ≡ false;
   served : (runs : List LegRun) × Served l.fn.mirror.plan.script l.fn.mirror.plan.devices.items
       (stage_of l.fn.mirror [] (g.R.Rig.state l.fn.rig)) l.counter
       (stage_of l.mirror runs (g.R.Rig.state l.rig));

@@ -4,22 +4,23 @@ use Rattle.script_stack.specs.Causes.{table_of}
 use Rattle.script_stack.specs.Followed.{Ran}
 use Rattle.leg_runs.specs.LegRuns.{LegRun}
 use Rattle.leg_runs.proofs.Runs.{ran-none, ran-one}
+use Rattle.mirror_volume.proofs.Running.{can-still, none-run}
 use Rattle.mirror_volume.proofs.legs.run_own.Goals as goal
 use Rattle.rig_api.specs.State.{RigState}
 
 pub returns-in_err-table-clause-ran : goal.returns-in_err-table-clause-ran
 returns-in_err-table-clause-ran g c =
-    ([], (ran-none (table_of c.args.plan.now.script c.args.plan.now.devices.items) c.args.plan.now.devices.items _ _ (record { units = refl; standing = refl; log = refl; faults = refl }), (refl, (tt, search rules))))
+    none-run _ (search rules)
 
 pub slice_bounds-rest-count : goal.slice_bounds-rest-count
 slice_bounds-rest-count g c =
     let e = ap (length {A = ℕ × ℕ}) c.as_slice-2.ensures in
-    omega (arith, e, c.requires.used)
+    omega (arith, e, c.requires.ready.few)
 
 pub slice_bounds-rest-start : goal.slice_bounds-rest-start
 slice_bounds-rest-start g c =
     let e = ap (length {A = ℕ × ℕ}) c.as_slice-2.ensures in
-    let h : c.args.used.now ≤ length c.as_slice-2.result.now = omega (arith, e, c.requires.used) in
+    let h : c.args.used.now ≤ length c.as_slice-2.result.now = omega (arith, e, c.requires.ready.few) in
     search rules
 
 pub run_bound-requires-clause-bound : goal.run_bound-requires-clause-bound
@@ -27,14 +28,16 @@ run_bound-requires-clause-bound g c = record { suits = c.requires.suits; lines =
 
 pub returns-in_err-stack-clause-ran : goal.returns-in_err-stack-clause-ran
 returns-in_err-stack-clause-ran g c =
-    let same = c.in_err-stack.ensures.unarmed in (
-      [],
-      (
-        ran-none (table_of c.args.plan.now.script c.args.plan.now.devices.items) c.args.plan.now.devices.items _ _
-            (record { units = ap (λ (s : RigState). s.units) same; standing = ap (λ (s : RigState). s.standing) same; log = ap (λ (s : RigState). s.log) same; faults = ap (λ (s : RigState). s.faults) same }),
-        (refl, (tt, search rules)),
-      ),
-    )
+    let same = c.in_err-stack.ensures.unarmed in
+    record {
+      runs = [];
+      ran = ran-none (table_of c.args.plan.now.script c.args.plan.now.devices.items) c.args.plan.now.devices.items _ _
+          (record { units = ap (λ (s : RigState). s.units) same; standing = ap (λ (s : RigState). s.standing) same; log = ap (λ (s : RigState). s.log) same; faults = ap (λ (s : RigState). s.faults) same });
+      goes_on = refl;
+      own = tt;
+      came = search rules;
+      tells = c.run_bound.ensures.tells;
+    }
 
 pub returns-clause-ran : goal.returns-clause-ran
 returns-clause-ran g c =
@@ -59,9 +62,19 @@ returns-clause-ran g c =
     let run : LegRun = record { own = s; words = words; records = ran.more; stack = r } in
     let l = length-drop c.args.used.now plan.script.schedule in
     let e = ap (length {A = ℕ × ℕ}) c.as_slice-2.ensures in
-    (run ∷ [], (ran-one s t devices words before after r ran, ((refl, omega (arith, l, e, c.min.ensures, c.steps.ensures.value)), ((refl, tt), (run, (refl, (refl, refl)))))))
+    record {
+      runs = run ∷ [];
+      ran = ran-one s t devices words before after r ran;
+      goes_on = (refl, omega (arith, l, e, c.min.ensures, c.steps.ensures.value));
+      own = (refl, tt);
+      came = record { run = run; only = refl; own_is = refl; so = refl };
+      tells = c.run_bound.ensures.tells;
+    }
 
-pub returns-clause-used : goal.returns-clause-used
-returns-clause-used g c =
+pub returns-in_err-stack-clause-ready : goal.returns-in_err-stack-clause-ready
+returns-in_err-stack-clause-ready g c = can-still _ _ c.requires.ready c.requires.ready.few c.run_bound.ensures.tells c.run_bound.ensures.standing
+
+pub returns-clause-ready : goal.returns-clause-ready
+returns-clause-ready g c =
     let e = ap (length {A = ℕ × ℕ}) c.as_slice-2.ensures in
-    omega (arith, e, c.min.ensures, c.requires.used)
+    can-still _ _ c.requires.ready (omega (arith, e, c.min.ensures, c.requires.ready.few)) c.run_bound.ensures.tells c.run_bound.ensures.standing

@@ -8,24 +8,23 @@ use Rattle.std.specs.Prelude.{None}
 use Rattle.leg_runs.specs.LegRuns.{found_by}
 use Rattle.leg_runs.proofs.OwnRuns.{write-fits}
 use Rattle.mirror_volume.proofs.Planned.{half-small, plan-asks, plan-piece}
-use Rattle.leg_runs.proofs.Runs.{ran-nothing}
-use Rattle.leg_runs.proofs.OwnEach.{all_own-so}
+use Rattle.mirror_volume.proofs.Running.{none-run, run-so}
 use Rattle.mirror_volume.proofs.legs.write_piece.Goals as goal
 
 pub write_script-requires-clause-virt : goal.write_script-requires-clause-virt
 write_script-requires-clause-virt g c =
-    let a = half-small c.args.plan.now c.requires.plan in
+    let a = half-small c.args.plan.now c.requires.ready.plan in
     let b = c.requires.piece.inside in
     omega (arith, a, b)
 
 pub returns-in_err-own-clause-ran : goal.returns-in_err-own-clause-ran
-returns-in_err-own-clause-ran g c = ran-nothing _ _ _ _ _ _ (search rules)
+returns-in_err-own-clause-ran g c = none-run _ (search rules)
 
 pub run_own-requires-clause-suits : goal.run_own-requires-clause-suits
 run_own-requires-clause-suits g c =
     let p = c.args.plan.now in
     let t = table_of p.script p.devices.items in
-    let ready = c.a_stack_takes_a_request_on_a_leg.ensures.writes p.script t p.devices.items p.half c.args.piece c.args.app c.args.bytes.now (plan-asks c.a_mirror_has_what_its_legs_ask.ensures.script p c.requires.plan)
+    let ready = c.a_stack_takes_a_request_on_a_leg.ensures.writes p.script t p.devices.items p.half c.args.piece c.args.app c.args.bytes.now (plan-asks c.a_mirror_has_what_its_legs_ask.ensures.script p c.requires.ready.plan)
     (plan-piece p c.args.piece c.requires.piece) c.requires.long in
     subst SuitsStack (sym c.in_ok-own.ensures) ready.suits
 
@@ -33,25 +32,25 @@ pub run_own-requires-clause-bound : goal.run_own-requires-clause-bound
 run_own-requires-clause-bound g c =
     let p = c.args.plan.now in
     let t = table_of p.script p.devices.items in
-    let ready = c.a_stack_takes_a_request_on_a_leg.ensures.writes p.script t p.devices.items p.half c.args.piece c.args.app c.args.bytes.now (plan-asks c.a_mirror_has_what_its_legs_ask.ensures.script p c.requires.plan)
+    let ready = c.a_stack_takes_a_request_on_a_leg.ensures.writes p.script t p.devices.items p.half c.args.piece c.args.app c.args.bytes.now (plan-asks c.a_mirror_has_what_its_legs_ask.ensures.script p c.requires.ready.plan)
     (plan-piece p c.args.piece c.requires.piece) c.requires.long in
     subst (λ (s : Script). binding_fault s t p.devices.items ≡ None) (sym c.in_ok-own.ensures) ready.bound
 
 pub returns-in_err-stack-clause-ran : goal.returns-in_err-stack-clause-ran
 returns-in_err-stack-clause-ran g c =
-    let ran = c.in_err-stack.ensures.ran in
-    (ran.0, (ran.1.0, (ran.1.1.0, (all_own-so _ _ ran.0 (λ s e. e ∙ c.in_ok-own.ensures) ran.1.1.1.0, search rules))))
+    run-so _ c.in_err-stack.ensures.ran (λ s e. e ∙ c.in_ok-own.ensures) (search rules)
 
 pub found_last-requires : goal.found_last-requires
 found_last-requires g c =
     let p = c.args.plan.now in
-    let fits = write-fits _ _ _ _ _ _ _ c.in_ok-stack.stack p.script p.half c.args.piece c.in_ok-own.own c.args.app c.args.bytes.now c.in_ok-own.ensures c.in_ok-stack.ensures.ran in
+    let ran = c.in_ok-stack.ensures.ran in
+    let fits = write-fits _ _ ran.runs _ _ c.in_ok-stack.stack p.script p.half c.args.piece c.in_ok-own.own c.args.app c.args.bytes.now c.in_ok-own.ensures ran.ran ran.came in
     rw (c.replies.ensures, c.requires.found) fits
 
 pub returns-clause-ran : goal.returns-clause-ran
 returns-clause-ran g c =
     let ran = c.in_ok-stack.ensures.ran in
-    let one = ran.1.1.1.1 in
-    let replies = c.replies.ensures ∙ sym (ap (λ (x : Stack). x.replies.items) one.1.1.1) in
+    let one = ran.came in
+    let replies = c.replies.ensures ∙ sym (ap (λ (x : Stack). x.replies.items) one.so) in
     let found = c.found_last.ensures ∙ ap (λ n. found_by n c.replies.result.now) c.requires.found ∙ ap (found_by c.args.piece.n) replies in
-    (ran.0, (ran.1.0, (ran.1.1.0, (all_own-so _ _ ran.0 (λ s e. e ∙ c.in_ok-own.ensures) ran.1.1.1.0, (one.0, (one.1.0, (one.1.1.0 ∙ c.in_ok-own.ensures, found)))))))
+    run-so _ ran (λ s e. e ∙ c.in_ok-own.ensures) (record { run = one.run; only = one.only; own_is = one.own_is ∙ c.in_ok-own.ensures; so = found })

@@ -13,50 +13,21 @@ use Rattle.leg_runs.proofs.Ends.{did-fill, did-idle, did-overwrite, did-put, did
 use Rattle.mirror_volume.proofs.Pieces.{fetch-suits, write-suits}
 use Rattle.leg_runs.proofs.Reached.{has-blocks}
 use Rattle.leg_runs.proofs.Requests.{op-fits, overwrite-fits}
+use Rattle.mirror_volume.proofs.Running.{can-still}
 use Rattle.mirror_volume.proofs.ops.do_op.Goals as goal
 use Rattle.rig_api.specs.State.{RigState}
 
-pub write_blocks-requires-clause-piece : goal.write_blocks-requires-clause-piece
-write_blocks-requires-clause-piece g c =
+pub write_blocks-requires-clause-request : goal.write_blocks-requires-clause-request
+write_blocks-requires-clause-request g c =
     let p = c.args.plan.now in
-    (write-suits p c.args.state.now.pool c.args.at c.in-Write.v c.in-Write.n c.in-Write.body c.in-Write.app c.requires.plan c.requires.pages c.requires.op
-    (op-is p.script.ops c.as_slice.result.now c.args.at c.index-as_slice-at.result (Write c.in-Write.v c.in-Write.n c.in-Write.body c.in-Write.app) c.as_slice.ensures c.requires.op c.index-as_slice-at.is c.in-Write.is)).piece
+    write-suits p c.args.state.now.pool c.args.at c.in-Write.v c.in-Write.n c.in-Write.body c.in-Write.app c.requires.ready.plan c.requires.pages c.requires.op
+    (op-is p.script.ops c.as_slice.result.now c.args.at c.index-as_slice-at.result (Write c.in-Write.v c.in-Write.n c.in-Write.body c.in-Write.app) c.as_slice.ensures c.requires.op c.index-as_slice-at.is c.in-Write.is)
 
-pub write_blocks-requires-clause-long : goal.write_blocks-requires-clause-long
-write_blocks-requires-clause-long g c =
+pub fetch_blocks-requires-clause-request : goal.fetch_blocks-requires-clause-request
+fetch_blocks-requires-clause-request g c =
     let p = c.args.plan.now in
-    (write-suits p c.args.state.now.pool c.args.at c.in-Write.v c.in-Write.n c.in-Write.body c.in-Write.app c.requires.plan c.requires.pages c.requires.op
-    (op-is p.script.ops c.as_slice.result.now c.args.at c.index-as_slice-at.result (Write c.in-Write.v c.in-Write.n c.in-Write.body c.in-Write.app) c.as_slice.ensures c.requires.op c.index-as_slice-at.is c.in-Write.is)).request.long
-
-pub write_blocks-requires-clause-lie : goal.write_blocks-requires-clause-lie
-write_blocks-requires-clause-lie g c =
-    let p = c.args.plan.now in
-    (write-suits p c.args.state.now.pool c.args.at c.in-Write.v c.in-Write.n c.in-Write.body c.in-Write.app c.requires.plan c.requires.pages c.requires.op
-    (op-is p.script.ops c.as_slice.result.now c.args.at c.index-as_slice-at.result (Write c.in-Write.v c.in-Write.n c.in-Write.body c.in-Write.app) c.as_slice.ensures c.requires.op c.index-as_slice-at.is c.in-Write.is)).lie
-
-pub fetch_blocks-requires-clause-piece : goal.fetch_blocks-requires-clause-piece
-fetch_blocks-requires-clause-piece g c =
-    let p = c.args.plan.now in
-    (fetch-suits p c.args.state.now.pool c.args.at c.in-Fetch.v c.in-Fetch.n c.in-Fetch.body c.requires.plan c.requires.pages c.requires.op
-    (op-is p.script.ops c.as_slice.result.now c.args.at c.index-as_slice-at.result (Fetch c.in-Fetch.v c.in-Fetch.n c.in-Fetch.body) c.as_slice.ensures c.requires.op c.index-as_slice-at.is c.in-Fetch.is)).piece
-
-pub fetch_blocks-requires-clause-long : goal.fetch_blocks-requires-clause-long
-fetch_blocks-requires-clause-long g c =
-    let p = c.args.plan.now in
-    (fetch-suits p c.args.state.now.pool c.args.at c.in-Fetch.v c.in-Fetch.n c.in-Fetch.body c.requires.plan c.requires.pages c.requires.op
-    (op-is p.script.ops c.as_slice.result.now c.args.at c.index-as_slice-at.result (Fetch c.in-Fetch.v c.in-Fetch.n c.in-Fetch.body) c.as_slice.ensures c.requires.op c.index-as_slice-at.is c.in-Fetch.is)).request.long
-
-pub fetch_blocks-requires-clause-lie : goal.fetch_blocks-requires-clause-lie
-fetch_blocks-requires-clause-lie g c =
-    let p = c.args.plan.now in
-    (fetch-suits p c.args.state.now.pool c.args.at c.in-Fetch.v c.in-Fetch.n c.in-Fetch.body c.requires.plan c.requires.pages c.requires.op
-    (op-is p.script.ops c.as_slice.result.now c.args.at c.index-as_slice-at.result (Fetch c.in-Fetch.v c.in-Fetch.n c.in-Fetch.body) c.as_slice.ensures c.requires.op c.index-as_slice-at.is c.in-Fetch.is)).lie
-
-pub fetch_blocks-requires-clause-once : goal.fetch_blocks-requires-clause-once
-fetch_blocks-requires-clause-once g c =
-    let p = c.args.plan.now in
-    (fetch-suits p c.args.state.now.pool c.args.at c.in-Fetch.v c.in-Fetch.n c.in-Fetch.body c.requires.plan c.requires.pages c.requires.op
-    (op-is p.script.ops c.as_slice.result.now c.args.at c.index-as_slice-at.result (Fetch c.in-Fetch.v c.in-Fetch.n c.in-Fetch.body) c.as_slice.ensures c.requires.op c.index-as_slice-at.is c.in-Fetch.is)).once
+    fetch-suits p c.args.state.now.pool c.args.at c.in-Fetch.v c.in-Fetch.n c.in-Fetch.body c.requires.ready.plan c.requires.pages c.requires.op
+    (op-is p.script.ops c.as_slice.result.now c.args.at c.index-as_slice-at.result (Fetch c.in-Fetch.v c.in-Fetch.n c.in-Fetch.body) c.as_slice.ensures c.requires.op c.index-as_slice-at.is c.in-Fetch.is)
 
 pub overwrite-requires : goal.overwrite-requires
 overwrite-requires g c =
@@ -65,9 +36,9 @@ overwrite-requires g c =
     let devices = p.devices.items in
     let t = table_of s devices in
     let is = op-is p.script.ops c.as_slice.result.now c.args.at c.index-as_slice-at.result (Overwrite c.in-Overwrite.dev c.in-Overwrite.lba c.in-Overwrite.change) c.as_slice.ensures c.requires.op c.index-as_slice-at.is c.in-Overwrite.is in
-    let fits = subst (λ (op : Op). op_fault s.mode.protect t devices s.block op ≡ None) is (op-fits s devices c.args.at c.requires.plan.bound c.requires.op) in
+    let fits = subst (λ (op : Op). op_fault s.mode.protect t devices s.block op ≡ None) is (op-fits s devices c.args.at c.requires.ready.plan.bound c.requires.op) in
     let change = overwrite-fits s.mode.protect t devices s.block c.in-Overwrite.dev c.in-Overwrite.lba c.in-Overwrite.change fits in
-    has-blocks devices _ _ t.ty s.block c.in-Overwrite.dev c.in-Overwrite.lba c.in-Overwrite.change c.requires.rig change
+    has-blocks devices _ _ t.ty s.block c.in-Overwrite.dev c.in-Overwrite.lba c.in-Overwrite.change c.requires.ready.rig change
 
 pub returns-in-Fill-clause-ran : goal.returns-in-Fill-clause-ran
 returns-in-Fill-clause-ran g c =
@@ -121,7 +92,7 @@ returns-in-Overwrite-clause-ran g c =
     let now : RigState = g.R.Rig.state c.args.rig.now in
     let is = op-is p.script.ops c.as_slice.result.now c.args.at c.index-as_slice-at.result (Overwrite c.in-Overwrite.dev c.in-Overwrite.lba c.in-Overwrite.change) c.as_slice.ensures c.requires.op c.index-as_slice-at.is c.in-Overwrite.is in
     let after : RigState = g.R.Rig.state c.overwrite.new.rig in
-    did-overwrite p.script p.devices.items p.half (c.args.at + 1) c.args.state.now.used old now after (op_at p.script.ops c.args.at) c.in-Overwrite.dev c.in-Overwrite.lba c.in-Overwrite.change c.overwrite.result is c.overwrite.ensures.reply c.overwrite.ensures.altered c.overwrite.ensures.made
+    did-overwrite p.script p.devices.items p.half (c.args.at + 1) c.args.state.now.used old now after (op_at p.script.ops c.args.at) c.in-Overwrite.dev c.in-Overwrite.lba c.in-Overwrite.change c.overwrite.result is c.overwrite.ensures.reply c.overwrite.ensures.altered c.overwrite.ensures.made c.overwrite.ensures.tells
 
 pub returns-in-Seal-clause-ran : goal.returns-in-Seal-clause-ran
 returns-in-Seal-clause-ran g c =
@@ -130,3 +101,6 @@ returns-in-Seal-clause-ran g c =
     let now : RigState = g.R.Rig.state c.args.rig.now in
     let is = op-is p.script.ops c.as_slice.result.now c.args.at c.index-as_slice-at.result c.index-as_slice-at.result c.as_slice.ensures c.requires.op c.index-as_slice-at.is refl in
     did-idle p.script p.devices.items p.half (c.args.at + 1) c.args.state.now.used old now (op_at p.script.ops c.args.at) c.index-as_slice-at.result is c.in-Seal.is
+
+pub returns-in-Overwrite-clause-ready : goal.returns-in-Overwrite-clause-ready
+returns-in-Overwrite-clause-ready g c = can-still _ _ c.requires.ready c.requires.ready.few c.overwrite.ensures.tells c.overwrite.ensures.standing

@@ -18,7 +18,15 @@ pub returns-in_err-listed-clause-ran : goal.returns-in_err-listed-clause-ran
 returns-in_err-listed-clause-ran g c =
     let p = c.args.plan.now in
     let x = c.in_err-listed.ensures.ran in
-    (x.0, (x.1.0, (x.1.1.0, (subst (λ (q : Piece). AllOwn (IsReadOf p.script p.half q) x.0) c.whole_request-on0.ensures x.1.1.1.0, search rules))))
+    record {
+      runs = x.runs;
+      ran = x.ran;
+      goes_on = x.goes_on;
+      own = subst (λ (q : Piece). AllOwn (IsReadOf p.script p.half q) x.runs) c.whole_request-on0.ensures x.own;
+      came = search rules;
+      tells = x.tells;
+      standing = x.ran.standing;
+    }
 
 pub returns-clause-ran : goal.returns-clause-ran
 returns-clause-ran g c =
@@ -41,18 +49,15 @@ returns-clause-ran g c =
     let listed = c.in_ok-listed.listed.items in
     let count : (v + n) - v ≡ n = omega arith in
     let marks : take ((v + n) - v) (drop v c.deref.result.now) ≡ take n (drop v m) = ap (λ k. take k (drop v c.deref.result.now)) count ∙ ap (λ (ms : List Marks). take n (drop v ms)) c.deref.ensures.value in
-    let long : length bytes ≡ total body = c.in_ok-listed.ensures.bytes ∙ ap (λ (r : Piece). r.n * size) whole ∙ sym c.requires.long in
+    let long : length bytes ≡ total body = c.in_ok-listed.ensures.bytes ∙ ap (λ (r : Piece). r.n * size) whole ∙ sym c.requires.request.long in
     let wrote = subst (λ k. Wrote old.pool new.pool (range_of body 0 k) bytes) long (subst (λ (bs : List ℕ). Wrote old.pool new.pool (range_of body 0 (length bs)) bs) c.deref-2.ensures.value c.scatter.ensures) in
-    let replied = subst (λ (found : List (Option Why)). IfOk c.request_reply.result (λ (reply : Reply). reply ≡ whole_or_bad (bad_from 0 found))) c.deref-3.ensures.value c.request_reply.ensures in (
-      x.0,
-      (
-        x.1.0,
-        (
-          x.1.1.0,
-          (
-            reads p.script p.half c.args.number v n body old new before after x.0 c.request_reply.result q whole bytes x.1.1.1.0,
-            did-fetch p.script p.half c.args.number v n body old new before after x.0 c.request_reply.result q whole bytes (take ((v + n) - v) (drop v c.deref.result.now)) listed marks refl wrote x.1.1.1.1 replied,
-          ),
-        ),
-      ),
-    )
+    let replied = subst (λ (found : List (Option Why)). IfOk c.request_reply.result (λ (reply : Reply). reply ≡ whole_or_bad (bad_from 0 found))) c.deref-3.ensures.value c.request_reply.ensures in
+    record {
+      runs = x.runs;
+      ran = x.ran;
+      goes_on = x.goes_on;
+      own = reads p.script p.half c.args.number v n body old new before after x.runs c.request_reply.result q whole bytes x.own;
+      came = did-fetch p.script p.half c.args.number v n body old new before after x.runs c.request_reply.result q whole bytes (take ((v + n) - v) (drop v c.deref.result.now)) listed marks refl wrote x.came replied;
+      tells = x.tells;
+      standing = x.ran.standing;
+    }

@@ -9,7 +9,7 @@ pub returns-in_err-read_piece-clause-ran : goal.returns-in_err-read_piece-clause
 returns-in_err-read_piece-clause-ran g c =
     let p = c.args.plan.now in
     let x = c.in_err-read_piece.ensures.ran in
-    (x.0, (x.1.0, (x.1.1.0, (reads-part p.script p.half c.args.whole c.args.stretch x.0 c.requires.stretch x.1.1.1.0, search rules))))
+    record { runs = x.runs; ran = x.ran; goes_on = x.goes_on; own = reads-part p.script p.half c.args.whole c.args.stretch x.runs c.requires.stretch x.own; came = search rules; tells = x.tells }
 
 pub returns-clause-ran : goal.returns-clause-ran
 returns-clause-ran g c =
@@ -22,24 +22,20 @@ returns-clause-ran g c =
     let found = c.read_piece.new.found in
     let bytes = c.read_piece.new.bytes in
     let x = c.in_ok-read_piece.ensures.ran in
-    let ran = x.1.1.1.1 in
+    let ran = x.came in
     let few : s.0 + s.1 ≤ length came.found.items = let h = c.requires.stretch.inside in let e = c.requires.found in omega (arith, h, e) in
-    let room : s.0 * size + s.1 * size ≤ length came.bytes.items = let h = within_all s.0 s.1 whole.n size c.requires.stretch.inside in let e = c.requires.bytes in omega (arith, h, e) in (
-      x.0,
-      (
-        x.1.0,
+    let room : s.0 * size + s.1 * size ≤ length came.bytes.items = let h = within_all s.0 s.1 whole.n size c.requires.stretch.inside in let e = c.requires.bytes in omega (arith, h, e) in
+    record {
+      runs = x.runs;
+      ran = x.ran;
+      goes_on = x.goes_on;
+      own = reads-part p.script p.half whole s x.runs c.requires.stretch x.own;
+      came = (
+        part-of script whole size s found bytes x.runs ran,
         (
-          x.1.1.0,
-          (
-            reads-part p.script p.half whole s x.0 c.requires.stretch x.1.1.1.0,
-            (
-              part-of script whole size s found bytes x.0 ran,
-              (
-                pasted-back s.0 s.1 came.found.len c.deref_mut-2.result.now came.found.items found c.deref_mut-2.ensures.value came.found.ok.0 few c.read_piece.auto.found ∙ part-found script whole size s found bytes x.0 came.found.items ran,
-                pasted-back (s.0 * size) (s.1 * size) came.bytes.len c.deref_mut.result.now came.bytes.items bytes c.deref_mut.ensures.value came.bytes.ok.0 room c.read_piece.auto.bytes ∙ part-bytes script whole size s found bytes x.0 came.bytes.items ran,
-              ),
-            ),
-          ),
+          pasted-back s.0 s.1 came.found.len c.deref_mut-2.result.now came.found.items found c.deref_mut-2.ensures.value came.found.ok.0 few c.read_piece.auto.found ∙ part-found script whole size s found bytes x.runs came.found.items ran,
+          pasted-back (s.0 * size) (s.1 * size) came.bytes.len c.deref_mut.result.now came.bytes.items bytes c.deref_mut.ensures.value came.bytes.ok.0 room c.read_piece.auto.bytes ∙ part-bytes script whole size s found bytes x.runs came.bytes.items ran,
         ),
-      ),
-    )
+      );
+      tells = x.tells;
+    }

@@ -5,9 +5,12 @@ use Rattle.mirror_legs.specs.Inner.{read_script}
 use Rattle.leg_runs.specs.Asked.{IsReadOf, first_listed, fresh_on0, last_listed, rest_wanted}
 use Rattle.leg_runs.proofs.Borrowed.{written-back}
 use Rattle.leg_runs.proofs.Readings.{asked-same, first-long, on-other, read-by}
-use Rattle.leg_runs.proofs.Runs.{ran-nothing, ran-two}
 use Rattle.leg_runs.proofs.Fetched.{rest-long}
-use Rattle.leg_runs.proofs.OwnEach.{all_own-append}
+use Rattle.mirror_volume.proofs.Running.{none-run, run-both, run-so}
+use Rattle.mirror_volume.specs.declared.legs.Plan.{Plan}
+use Rattle.mirror_volume.specs.Running.{HasRun}
+use Rattle.leg_runs.specs.LegRuns.{LegRun}
+use Rattle.rig_api.specs.State.{RigState}
 use Rattle.mirror_volume.proofs.reading.read_blocks.Goals as goal
 
 -- of no block anything is found, where what no finding is a clone of is none itself
@@ -18,23 +21,28 @@ none-found P found n h never = h is-none
     is-none None k = refl
     is-none (Some why) k = absurd (never why k)
 
+-- what is run on leg 1 is a read of the same blocks
+abbrev of-other : {used used' : ℕ} {before after : RigState} {Came : List LegRun → Type 0} (p : Plan) (on0 : Piece) → HasRun p used used' before after (IsReadOf p.script p.half (record on0 { on1 = true })) Came
+    → HasRun p used used' before after (IsReadOf p.script p.half on0) Came
+of-other p on0 h = record { runs = h.runs; ran = h.ran; goes_on = h.goes_on; own = on-other p.script p.half on0 h.runs h.own; came = h.came; tells = h.tells }
+
 pub returns-in_err-vec-clause-ran : goal.returns-in_err-vec-clause-ran
-returns-in_err-vec-clause-ran g c = ran-nothing _ _ _ _ _ _ (search rules)
+returns-in_err-vec-clause-ran g c = none-run _ (search rules)
 
 pub returns-in_err-vec-2-clause-ran : goal.returns-in_err-vec-2-clause-ran
-returns-in_err-vec-2-clause-ran g c = ran-nothing _ _ _ _ _ _ (search rules)
+returns-in_err-vec-2-clause-ran g c = none-run _ (search rules)
 
 pub returns-in_err-wanted-clause-ran : goal.returns-in_err-wanted-clause-ran
-returns-in_err-wanted-clause-ran g c = ran-nothing _ _ _ _ _ _ (search rules)
+returns-in_err-wanted-clause-ran g c = none-run _ (search rules)
 
 pub returns-in_err-ask-clause-ran : goal.returns-in_err-ask-clause-ran
-returns-in_err-ask-clause-ran g c = let x = c.in_err-ask.ensures.ran in (x.0, (x.1.0, (x.1.1.0, (x.1.1.1.0, search rules))))
+returns-in_err-ask-clause-ran g c = run-so _ c.in_err-ask.ensures.ran (λ s h. h) (search rules)
 
 pub returns-in_err-listed-clause-ran : goal.returns-in_err-listed-clause-ran
-returns-in_err-listed-clause-ran g c = let x = c.in_ok-ask.ensures.ran in (x.0, (x.1.0, (x.1.1.0, (x.1.1.1.0, search rules))))
+returns-in_err-listed-clause-ran g c = run-so _ c.in_ok-ask.ensures.ran (λ s h. h) (search rules)
 
 pub returns-in_err-wanted-2-clause-ran : goal.returns-in_err-wanted-2-clause-ran
-returns-in_err-wanted-2-clause-ran g c = let x = c.in_ok-ask.ensures.ran in (x.0, (x.1.0, (x.1.1.0, (x.1.1.1.0, search rules))))
+returns-in_err-wanted-2-clause-ran g c = run-so _ c.in_ok-ask.ensures.ran (λ s h. h) (search rules)
 
 pub ask-requires-2-clause-wanted : goal.ask-requires-2-clause-wanted
 ask-requires-2-clause-wanted g c =
@@ -47,11 +55,8 @@ pub returns-in_err-ask-2-clause-ran : goal.returns-in_err-ask-2-clause-ran
 returns-in_err-ask-2-clause-ran g c =
     let p = c.args.plan.now in
     let on0 = c.args.on0 in
-    let x = c.in_ok-ask.ensures.ran in
     let y = c.in_err-ask-2.ensures.ran in
-    let both = ran-two _ _ _ _ _ _ _ _ _ x.0 y.0 x.1.0 x.1.1.0 y.1.0 y.1.1.0 in
-    let own = all_own-append (IsReadOf p.script p.half on0) x.0 y.0 x.1.1.1.0 (on-other p.script p.half on0 y.0 y.1.1.1.0) in
-    (x.0 ++ y.0, (both.0, (both.1, (own, search rules))))
+    run-both _ c.in_ok-ask.ensures.ran (of-other p on0 y) (search rules)
 
 pub list_last-requires-clause-wanted : goal.list_last-requires-clause-wanted
 list_last-requires-clause-wanted g c =
@@ -92,8 +97,6 @@ returns-clause-ran g c =
     let bytes1 = c.ask-2.new.came.bytes.items in
     let x = c.in_ok-ask.ensures.ran in
     let y = c.in_ok-ask-2.ensures.ran in
-    let both = ran-two _ _ _ _ _ _ _ _ _ x.0 y.0 x.1.0 x.1.1.0 y.1.0 y.1.1.0 in
-    let own = all_own-append (IsReadOf p.script p.half on0) x.0 y.0 x.1.1.1.0 (on-other p.script p.half on0 y.0 y.1.1.1.0) in
     let none : before ≡ replicate on0.n None = none-found _ before on0.n c.in_ok-vec-2.ensures.items_if_clones_equal (λ why k. k) in
     let blank : zeros ≡ replicate (on0.n * size) 0 = c.in_ok-vec.ensures.items_if_clones_equal (λ y h. h) in
     let fresh : c.deref.result.now ≡ fresh_on0 marks = c.deref.ensures.value ∙ c.in_ok-wanted.ensures in
@@ -103,6 +106,6 @@ returns-clause-ran g c =
     let kept : length c.list_last.new.listed ≡ c.in_ok-listed.listed.len = c.list_last.auto.listed ∙ ap length c.deref_mut.ensures.value ∙ sym c.in_ok-listed.listed.ok.0 in
     let back = written-back c.in_ok-listed.listed.len c.list_last.new.listed c.in_ok-listed.listed.items kept in
     let listed = back ∙ c.list_last.ensures ∙ (λ i. last_listed marks (rest' i) (listed0 i) (c.deref-6.ensures.value i)) in
-    let first = asked-same script on0 size c.deref.result.now (fresh_on0 marks) x.0 before (replicate on0.n None) found0 zeros (replicate (on0.n * size) 0) bytes0 fresh none blank x.1.1.1.1 in
-    let last = asked-same script on1 size c.deref-4.result.now (rest_wanted marks found0) y.0 found0 found0 found1 bytes0 bytes0 bytes1 rest refl refl y.1.1.1.1 in
-    (x.0 ++ y.0, (both.0, (both.1, (own, (x.0, y.0, (refl, read-by p.script p.half on0 marks x.0 y.0 found0 found1 _ bytes0 bytes1 first last listed))))))
+    let first = asked-same script on0 size c.deref.result.now (fresh_on0 marks) x.runs before (replicate on0.n None) found0 zeros (replicate (on0.n * size) 0) bytes0 fresh none blank x.came in
+    let last = asked-same script on1 size c.deref-4.result.now (rest_wanted marks found0) y.runs found0 found0 found1 bytes0 bytes0 bytes1 rest refl refl y.came in
+    run-both _ x (of-other p on0 y) (record { runs0 = x.runs; runs1 = y.runs; runs_are = refl; read = read-by p.script p.half on0 marks x.runs y.runs found0 found1 _ bytes0 bytes1 first last listed })

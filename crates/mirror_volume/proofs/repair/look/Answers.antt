@@ -1,16 +1,16 @@
 use Rattle.std.proofs.Common.{ap, length, rules, sym, ◌∙◌}
 use Rattle.mirror_volume.proofs.Helds.{delivered-long}
-use Rattle.leg_runs.proofs.Runs.{ran-nothing}
+use Rattle.mirror_volume.proofs.Running.{none-run}
 use Rattle.mirror_volume.proofs.repair.look.Goals as goal
 
 pub returns-in_err-vec-clause-ran : goal.returns-in_err-vec-clause-ran
-returns-in_err-vec-clause-ran g c = ran-nothing _ _ _ _ _ _ (tt, search rules)
+returns-in_err-vec-clause-ran g c = none-run _ (search rules)
 
 pub returns-in_err-vec-2-clause-ran : goal.returns-in_err-vec-2-clause-ran
-returns-in_err-vec-2-clause-ran g c = ran-nothing _ _ _ _ _ _ (tt, search rules)
+returns-in_err-vec-2-clause-ran g c = none-run _ (search rules)
 
 pub returns-in_err-vec-3-clause-ran : goal.returns-in_err-vec-3-clause-ran
-returns-in_err-vec-3-clause-ran g c = ran-nothing _ _ _ _ _ _ (tt, search rules)
+returns-in_err-vec-3-clause-ran g c = none-run _ (search rules)
 
 pub returns-clause-held : goal.returns-clause-held
 returns-clause-held g c =

@@ -5,7 +5,7 @@ use Rattle.pi_tuple.specs.Tuples.{tuple_in}
 use Rattle.mirror_legs.specs.declared.piece.Piece.{Piece}
 use Rattle.mirror_legs.specs.Inner.{write_script}
 use Rattle.mirror_volume.proofs.Helds.{block-at}
-use Rattle.leg_runs.proofs.OwnEach.{all_own-so}
+use Rattle.mirror_volume.proofs.Running.{run-so}
 use Rattle.mirror_volume.proofs.repair.mend.Goals as goal
 
 turned : (some none : Bool) → some ≡ not none → none ≡ not some
@@ -20,7 +20,7 @@ returns-in_err-write_piece-clause-ran g c =
     let a = c.requires.piece.inside in
     let b = c.requires.block in
     let x = c.in_err-write_piece.ensures.ran in
-    (x.0, (x.1.0, (x.1.1.0, (all_own-so _ _ x.0 (λ own e. inr (record { piece = p; no_op = c.requires.repair; one = refl; inside = omega (arith, a, b); app = _; body = _; own_is = e })) x.1.1.1.0, search rules))))
+    run-so _ x (λ own e. inr (record { piece = p; no_op = c.requires.repair; one = refl; inside = omega (arith, a, b); app = _; body = _; own_is = e })) (search rules)
 
 pub returns-clause-ran : goal.returns-clause-ran
 returns-clause-ran g c =
@@ -29,28 +29,13 @@ returns-clause-ran g c =
     let a = c.requires.piece.inside in
     let b = c.requires.block in
     let x = c.in_ok-write_piece.ensures.ran in
-    let o = x.1.1.1.1 in
+    let o = x.came in
     let app = c.tag_of-app.ensures ∙ ap (λ (xs : List ℕ). (tuple_in (drop (8 * c.args.i) xs)).app) c.deref-2.ensures.value in
     let bytes = block-at s.block c.args.i c.deref.result.now c.args.from.now.bytes.items c.deref.ensures.value in
-    let found = c.is_none.ensures in (
-      x.0,
-      (
-        x.1.0,
-        (
-          x.1.1.0,
-          (
-            all_own-so _ _ x.0 (λ own e. inr (record { piece = p; no_op = c.requires.repair; one = refl; inside = omega (arith, a, b); app = _; body = _; own_is = e })) x.1.1.1.0,
-            (
-              o.0,
-              (
-                o.1.0,
-                (
-                  o.1.1.0 ∙ (λ j. write_script s c.args.plan.now.half p (app j) (bytes j)),
-                  turned _ c.is_none.result found ∙ ap (λ (fs : List (Option Why)). not (is_some (get_or fs 0 None))) o.1.1.1,
-                ),
-              ),
-            ),
-          ),
-        ),
-      ),
-    )
+    let found = c.is_none.ensures in
+    run-so _ x (λ own e. inr (record { piece = p; no_op = c.requires.repair; one = refl; inside = omega (arith, a, b); app = _; body = _; own_is = e })) (record {
+      run = o.run;
+      only = o.only;
+      own_is = o.own_is ∙ (λ j. write_script s c.args.plan.now.half p (app j) (bytes j));
+      so = turned _ c.is_none.result found ∙ ap (λ (fs : List (Option Why)). not (is_some (get_or fs 0 None))) o.so;
+    })

@@ -14,27 +14,7 @@ stripes-requires-clause-fit c =
     let b = built c.args.chunk c.args.len (tracks_of c.args.legs.now) c.requires.chunk (omega (arith, legs, c.requires.some)) c.requires.blocks.0 c.requires.tracks (sym c.has_bad_length.ensures ∙ c.if-has_bad_length.false) (sym c.is_unaligned.ensures ∙ c.if-is_unaligned.false) in
     subst (λ n. DoFit c.args.start n 0 c.as_slice.result.now) legs (subst (λ xs. DoFit c.args.start (length (tracks_of c.args.legs.now)) 0 xs) (sym (c.as_slice.ensures.value ∙ c.in-Some.ensures.some)) (all_fit c.args.start c.args.chunk c.args.len (tracks_of c.args.legs.now) b c.requires.fits))
 
-pub returns-in-Ok-clause-places : goal.returns-in-Ok-clause-places
-returns-in-Ok-clause-places c =
-    (says c.args.start c.args.chunk c.args.len (length c.args.legs.now) (tracks_of c.args.legs.now) c.as_slice.result.now c.from_vec.result (length-map c.args.legs.now (λ (v : Vec Linear Global). v.items)) c.requires.chunk c.requires.some c.requires.few c.requires.blocks c.requires.tracks
-    (sym c.has_bad_length.ensures ∙ c.if-has_bad_length.false) (sym c.is_unaligned.ensures ∙ c.if-is_unaligned.false) (c.as_slice.ensures.value ∙ c.in-Some.ensures.some) c.as_slice.ensures.fits (c.from_vec.ensures ∙ c.in-Ok.ensures)).places
-
-pub returns-in-Ok-clause-follow : goal.returns-in-Ok-clause-follow
-returns-in-Ok-clause-follow c =
-    (says c.args.start c.args.chunk c.args.len (length c.args.legs.now) (tracks_of c.args.legs.now) c.as_slice.result.now c.from_vec.result (length-map c.args.legs.now (λ (v : Vec Linear Global). v.items)) c.requires.chunk c.requires.some c.requires.few c.requires.blocks c.requires.tracks
-    (sym c.has_bad_length.ensures ∙ c.if-has_bad_length.false) (sym c.is_unaligned.ensures ∙ c.if-is_unaligned.false) (c.as_slice.ensures.value ∙ c.in-Some.ensures.some) c.as_slice.ensures.fits (c.from_vec.ensures ∙ c.in-Ok.ensures)).follow
-
-pub returns-in-Ok-clause-blocks : goal.returns-in-Ok-clause-blocks
-returns-in-Ok-clause-blocks c =
-    (says c.args.start c.args.chunk c.args.len (length c.args.legs.now) (tracks_of c.args.legs.now) c.as_slice.result.now c.from_vec.result (length-map c.args.legs.now (λ (v : Vec Linear Global). v.items)) c.requires.chunk c.requires.some c.requires.few c.requires.blocks c.requires.tracks
-    (sym c.has_bad_length.ensures ∙ c.if-has_bad_length.false) (sym c.is_unaligned.ensures ∙ c.if-is_unaligned.false) (c.as_slice.ensures.value ∙ c.in-Some.ensures.some) c.as_slice.ensures.fits (c.from_vec.ensures ∙ c.in-Ok.ensures)).blocks
-
-pub returns-in-Ok-clause-ranges : goal.returns-in-Ok-clause-ranges
-returns-in-Ok-clause-ranges c =
-    (says c.args.start c.args.chunk c.args.len (length c.args.legs.now) (tracks_of c.args.legs.now) c.as_slice.result.now c.from_vec.result (length-map c.args.legs.now (λ (v : Vec Linear Global). v.items)) c.requires.chunk c.requires.some c.requires.few c.requires.blocks c.requires.tracks
-    (sym c.has_bad_length.ensures ∙ c.if-has_bad_length.false) (sym c.is_unaligned.ensures ∙ c.if-is_unaligned.false) (c.as_slice.ensures.value ∙ c.in-Some.ensures.some) c.as_slice.ensures.fits (c.from_vec.ensures ∙ c.in-Ok.ensures)).ranges
-
-pub returns-in-Ok-clause-few : goal.returns-in-Ok-clause-few
-returns-in-Ok-clause-few c =
-    (says c.args.start c.args.chunk c.args.len (length c.args.legs.now) (tracks_of c.args.legs.now) c.as_slice.result.now c.from_vec.result (length-map c.args.legs.now (λ (v : Vec Linear Global). v.items)) c.requires.chunk c.requires.some c.requires.few c.requires.blocks c.requires.tracks
-    (sym c.has_bad_length.ensures ∙ c.if-has_bad_length.false) (sym c.is_unaligned.ensures ∙ c.if-is_unaligned.false) (c.as_slice.ensures.value ∙ c.in-Some.ensures.some) c.as_slice.ensures.fits (c.from_vec.ensures ∙ c.in-Ok.ensures)).few
+pub returns-in-Ok-clause-lie : goal.returns-in-Ok-clause-lie
+returns-in-Ok-clause-lie c =
+    says c.args.start c.args.chunk c.args.len (length c.args.legs.now) (tracks_of c.args.legs.now) c.as_slice.result.now c.from_vec.result (length-map c.args.legs.now (λ (v : Vec Linear Global). v.items)) c.requires.chunk c.requires.some c.requires.few c.requires.blocks c.requires.tracks
+    (sym c.has_bad_length.ensures ∙ c.if-has_bad_length.false) (sym c.is_unaligned.ensures ∙ c.if-is_unaligned.false) (c.as_slice.ensures.value ∙ c.in-Some.ensures.some) c.as_slice.ensures.fits (c.from_vec.ensures ∙ c.in-Ok.ensures)

@@ -27,22 +27,22 @@ returns-in-Ok-clause-op g c =
     let at : c.len-at.result ≡ k = c.len-at.ensures ∙ self.replies.ok.0 in
     let new : Sides = record { pool = c.do_op.new.state.pool; marks = c.do_op.new.state.marks.items } in
     let x = subst (λ i. RanOp p.script p.devices.items p.half (i + 1) (op_at p.script.ops i) self.state.pool self.state.used c.do_op.new.state.used before after (λ runs. DidOp p.script p.half (i + 1) (op_at p.script.ops i) (sides_of self) new before after runs c.in-Ok.reply)) at c.in-Ok.ensures.ran in
-    let first = c.requires.mirror.done in
+    let first = c.requires.ready.mirror.done in
     let left = c.if-at-as_slice.false in
     let ops = ap length c.as_slice.ensures in
     let between : IsBetween p.script p.devices.items p.half (sides_of self) self.replies.items (g.R.Rig.state c.args.rig.now).image before = record {
-      bound = c.requires.mirror.plan.bound;
-      half_is = c.requires.mirror.plan.half;
-      rig = c.requires.rig;
+      bound = c.requires.ready.mirror.plan.bound;
+      half_is = c.requires.ready.mirror.plan.half;
+      rig = c.requires.ready.rig;
       laid = g.met.R.Rig.laid c.args.rig.now;
       ready = g.met.R.Rig.ready c.args.rig.now;
       whole = c.pages-pages.ensures.whole;
-      pages = c.requires.mirror.pages;
-      marks = c.requires.mirror.marks;
+      pages = c.requires.ready.mirror.pages;
+      marks = c.requires.ready.mirror.marks;
       more = omega (arith, at, first, left, ops);
     } in
-    let keeps = op-stands c.an_op_of_a_mirror_goes_on_in_its_walk.ensures p.script p.devices.items p.half (sides_of self) new x.0 self.replies.items c.in-Ok.reply (g.R.Rig.state c.args.rig.now).image before after between x.1.0 x.1.1.1.1 in
-    (x.0, (x.1.0, (x.1.1.0, (x.1.1.1.0, λ e. (c.in-Ok.reply, (c.push_reserved.ensures.items, (x.1.1.1.1, keeps)))))))
+    let keeps = op-stands c.an_op_of_a_mirror_goes_on_in_its_walk.ensures p.script p.devices.items p.half (sides_of self) new x.runs self.replies.items c.in-Ok.reply (g.R.Rig.state c.args.rig.now).image before after between x.ran x.came in
+    record { runs = x.runs; ran = x.ran; goes_on = x.goes_on; own = x.own; came = λ e. record { reply = c.in-Ok.reply; replies_are = c.push_reserved.ensures.items; did = x.came; keeps = keeps }; tells = x.tells; standing = x.standing }
 
 pub returns-in-Err-clause-op : goal.returns-in-Err-clause-op
 returns-in-Err-clause-op g c =
@@ -53,4 +53,4 @@ returns-in-Err-clause-op g c =
     let after : RigState = g.R.Rig.state c.do_op.new.rig in
     let at : c.len-at.result ≡ k = c.len-at.ensures ∙ self.replies.ok.0 in
     let x = subst (λ i. RanOp p.script p.devices.items p.half (i + 1) (op_at p.script.ops i) self.state.pool self.state.used c.do_op.new.state.used before after (λ runs. Unit {0})) at c.in-Err.ensures.ran in
-    (x.0, (x.1.0, (x.1.1.0, (x.1.1.1.0, λ e. cc))))
+    record { runs = x.runs; ran = x.ran; goes_on = x.goes_on; own = x.own; came = λ e. cc; tells = x.tells; standing = x.standing }

@@ -13,11 +13,10 @@ run-requires-clause-there g c =
     let k = namespace-in c.args.self.now c.of-command.result.nsid (granted c.args.self.now c.of-command.result (subst (λ (x : NvmCommand). refusal c.args.self.now x ≡ None) (sym c.of-command.ensures) c.requires.granted)).there in
     let a = k.0 in let b = k.1 in let e = c.requires.devices.count in omega arith
 
-pub run-requires-clause-end : goal.run-requires-clause-end
-run-requires-clause-end g c = (granted c.args.self.now c.of-command.result (subst (λ (x : NvmCommand). refusal c.args.self.now x ≡ None) (sym c.of-command.ensures) c.requires.granted)).end
-
-pub run-requires-clause-few : goal.run-requires-clause-few
-run-requires-clause-few g c = (granted c.args.self.now c.of-command.result (subst (λ (x : NvmCommand). refusal c.args.self.now x ≡ None) (sym c.of-command.ensures) c.requires.granted)).few
+pub run-requires-clause-span : goal.run-requires-clause-span
+run-requires-clause-span g c =
+    let gr = granted c.args.self.now c.of-command.result (subst (λ (x : NvmCommand). refusal c.args.self.now x ≡ None) (sym c.of-command.ensures) c.requires.granted) in
+    record { some = subst (λ (x : NvmCommand). 1 ≤ x.count) (sym c.of-command.ensures) (some-blocks c.args.sqe.now); few = gr.few; end = gr.end }
 
 pub overflow_sub-command : goal.overflow_sub-command
 overflow_sub-command g c = (namespace-in c.args.self.now c.of-command.result.nsid (granted c.args.self.now c.of-command.result (subst (λ (x : NvmCommand). refusal c.args.self.now x ≡ None) (sym c.of-command.ensures) c.requires.granted)).there).0
