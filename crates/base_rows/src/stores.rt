@@ -1,6 +1,7 @@
 //! Stores. The functions that use the trait know nothing else of an object, and are proved from the trait alone.
 
 ghost use Rattle.std.specs.Prelude.{◌≡◌, ◌+◌, ◌-◌, ◌^◌, min, ◌≤◌, length, IsErrOf, OnErr, OnOk};
+ghost use Rattle.dix_base.specs.Stores.{IsCounted, WasWritten};
 ghost use Rattle.dix_base.specs.Told.{Apart, Becomes, Begins, Rose};
 
 use crate::names::{add, none};
@@ -11,13 +12,11 @@ use test_table::{bytes_of, cut, hex_of, small};
 
 /// Writes the piece over what is there, and reads it back.
 fn stamp<S: Store>(store: &mut S, at: u64, piece: &[u8], into: &mut [u8]) -> Result<(), Failed>
-    requires inside { at + length piece.now ≤ S.len store.old }
+    requires inside { at + length piece.now ≤ (S.state store.old).length }
     requires within { length into.old ≤ length piece.now }
-    ensures apart { Becomes (Apart at (length piece.now)) (S.bytes store.old) (S.bytes store.new) }
-    ensures length { S.len store.new ≡ S.len store.old }
-    ensures opened { S.openings store.new ≡ S.openings store.old }
-    ensures calm { OnOk result (S.faults store.new ≡ S.faults store.old) }
-    ensures cause { OnErr result (Rose (S.faults store.old) (S.faults store.new)) }
+    ensures apart { Becomes (Apart at (length piece.now)) (S.state store.old).bytes (S.state store.new).bytes }
+    ensures stays { WasWritten (S.state store.old) (S.state store.new) }
+    ensures counted { IsCounted result (S.state store.old) (S.state store.new) }
 {
     store.write_at(at, piece)?;
     store.read_at(at, into)
@@ -31,8 +30,8 @@ fn exchange<S: Store>(
     piece: &[u8],
     into: &mut [u8],
 ) -> Result<u64, Failed>
-    ensures opened { S.openings store.new ≡ min (S.openings store.old + 1) (2 ^ 64 - 1) }
-    ensures cause { OnErr result (Rose (S.faults store.old) (S.faults store.new)) }
+    ensures opened { (S.state store.new).openings ≡ min ((S.state store.old).openings + 1) (2 ^ 64 - 1) }
+    ensures cause { OnErr result (Rose (S.state store.old).faults (S.state store.new).faults) }
 {
     let len = store.open(name)?;
     if len > 4 && piece.len() < 4 && into.len() <= piece.len() {
@@ -42,9 +41,9 @@ fn exchange<S: Store>(
 }
 
 fn add_to<S: Store>(store: &mut S, alloc: Global, piece: &[u8]) -> Result<(), StoreFault>
-    ensures begins { Becomes Begins (S.bytes store.old) (S.bytes store.new) }
-    ensures cause { IsErrOf result StoreFault.Failed → Rose (S.faults store.old) (S.faults store.new) }
-    ensures memory { IsErrOf result StoreFault.Memory → S.bytes store.new ≡ S.bytes store.old }
+    ensures begins { Becomes Begins (S.state store.old).bytes (S.state store.new).bytes }
+    ensures cause { IsErrOf result StoreFault.Failed → Rose (S.state store.old).faults (S.state store.new).faults }
+    ensures memory { IsErrOf result StoreFault.Memory → (S.state store.new).bytes ≡ (S.state store.old).bytes }
 {
     store.append(alloc, piece)
 }
@@ -56,8 +55,8 @@ fn refill<S: Store>(
     name: String,
     piece: &[u8],
 ) -> Result<(), StoreFault>
-    ensures length { OnOk result (S.len store.new ≡ length piece.now) }
-    ensures cause { IsErrOf result StoreFault.Failed → Rose (S.faults store.old) (S.faults store.new) }
+    ensures length { OnOk result ((S.state store.new).length ≡ length piece.now) }
+    ensures cause { IsErrOf result StoreFault.Failed → Rose (S.state store.old).faults (S.state store.new).faults }
 {
     match store.reset(name) {
         Ok(()) => store.append(alloc, piece),

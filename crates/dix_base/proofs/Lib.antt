@@ -3,3 +3,4 @@ mod Cut
 mod Octets
 pub mod Counts
 pub mod Appending
+pub mod Stores

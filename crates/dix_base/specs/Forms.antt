@@ -1,4 +1,5 @@
-use Rattle.std.specs.Prelude.{ℕ, ◌≡◌, ◌<◌, length, ◌+◌, ◌-◌, ◌^◌, ◌/◌, min, List, All, Contains, Bool}
+use Rattle.std.specs.Prelude.{ℕ, ◌≡◌, ◌<◌, length, ◌+◌, ◌-◌, ◌^◌, ◌/◌, min, List, All, Contains, Bool, Some, None}
+use Rattle.dix_base.specs.Stores.{StoreState}
 
 -- one more, unless at the last value
 abbrev pub one_more : ℕ → ℕ
@@ -44,6 +45,10 @@ pub record Kept : Type 0 where
   pub openings : ℕ
   pub handed : List ℕ
 
+-- what it shows
+abbrev pub kept_state : Kept → StoreState
+kept_state s = record { bytes = Some s.bytes; length = length s.bytes; faults = 0; openings = s.openings; handed = s.handed }
+
 -- a store in memory that fails at the calls of a list
 pub record Stock : Type 0 where
   pub bytes : List ℕ
@@ -52,6 +57,10 @@ pub record Stock : Type 0 where
   pub handed : List ℕ
   pub turns : Turns
 
+-- what it shows
+abbrev pub stock_state : Stock → StoreState
+stock_state s = record { bytes = Some s.bytes; length = length s.bytes; faults = s.turns.faults; openings = s.openings; handed = s.handed }
+
 -- a store that is a file: whether one is open, and its length in bytes, 0 where none is
 pub record OpenFile : Type 0 where
   pub is_open : Bool
@@ -59,6 +68,10 @@ pub record OpenFile : Type 0 where
   pub faults : ℕ
   pub openings : ℕ
   pub handed : List ℕ
+
+-- what it shows, which is nothing of its bytes
+abbrev pub file_state : OpenFile → StoreState
+file_state f = record { bytes = None; length = f.len; faults = f.faults; openings = f.openings; handed = f.handed }
 
 -- after so many bytes more
 abbrev pub longer : ℕ → OpenFile → OpenFile

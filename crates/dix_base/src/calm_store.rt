@@ -1,6 +1,8 @@
 //! A store in memory that never fails.
 
 ghost use Rattle.std.specs.Prelude.{◌≡◌, ◌+◌, ◌-◌, ◌^◌, min, ◌≤◌, ◌++◌, ◌<◌, [], All, drop, length, take, Some, refl, IfOk, IsErrOf, IsOk, OnOk, string_bytes};
+ghost use Rattle.dix_base.specs.Forms.{kept_state};
+ghost use Rattle.dix_base.specs.Stores.{WasExtended, WasOpened, WasWritten};
 ghost use Rattle.dix_base.specs.Told.{Apart, Begins, over};
 
 use crate::fault_plan::raise;
@@ -63,15 +65,7 @@ impl CalmStore {
 }
 
 impl Store for CalmStore {
-    ghost bytes = { λ s. Some s.bytes };
-
-    ghost len = { λ s. length s.bytes };
-
-    ghost faults = { λ s. 0 };
-
-    ghost openings = { λ s. s.openings };
-
-    ghost handed = { λ s. s.handed };
+    ghost state = { λ s. kept_state s };
 
     ghost told = { λ s. refl };
 
@@ -81,8 +75,7 @@ impl Store for CalmStore {
     fn open(&mut self, name: String) -> Result<u64, Failed>
         ensures length { IfOk result (λ n. n ≡ length self.new.bytes) }
         ensures same { self.new.bytes ≡ self.old.bytes }
-        ensures opened { self.new.openings ≡ min (self.old.openings + 1) (2 ^ 64 - 1) }
-        ensures named { self.new.handed ≡ string_bytes name }
+        ensures opened { WasOpened (string_bytes name) (kept_state self.old) (kept_state self.new) }
 
         ensures calm { IsOk result }
     {
@@ -95,8 +88,7 @@ impl Store for CalmStore {
     fn reset(&mut self, name: String) -> Result<(), Failed>
         ensures empty { OnOk result (self.new.bytes ≡ []) }
         ensures length { OnOk result (length self.new.bytes ≡ 0) }
-        ensures opened { self.new.openings ≡ min (self.old.openings + 1) (2 ^ 64 - 1) }
-        ensures named { self.new.handed ≡ string_bytes name }
+        ensures opened { WasOpened (string_bytes name) (kept_state self.old) (kept_state self.new) }
 
         ensures calm { IsOk result }
     {
@@ -110,10 +102,7 @@ impl Store for CalmStore {
     fn read_at(&mut self, at: u64, into: &mut [u8]) -> Result<(), Failed>
         requires { at + length into.old ≤ length self.old.bytes }
         ensures read { OnOk result (into.new ≡ take (length into.old) (drop at self.old.bytes)) }
-        ensures same { self.new.bytes ≡ self.old.bytes }
-        ensures length { length self.new.bytes ≡ length self.old.bytes }
-        ensures named { self.new.handed ≡ self.old.handed }
-        ensures opened { self.new.openings ≡ self.old.openings }
+        ensures stays { self.new ≡ self.old }
 
         ensures calm { IsOk result }
     {
@@ -127,9 +116,7 @@ impl Store for CalmStore {
         requires { at + length piece.now ≤ length self.old.bytes }
         ensures written { OnOk result (self.new.bytes ≡ over at piece.now self.old.bytes) }
         ensures apart { Apart at (length piece.now) self.old.bytes self.new.bytes }
-        ensures length { length self.new.bytes ≡ length self.old.bytes }
-        ensures named { self.new.handed ≡ self.old.handed }
-        ensures opened { self.new.openings ≡ self.old.openings }
+        ensures stays { WasWritten (kept_state self.old) (kept_state self.new) }
 
         ensures calm { IsOk result }
     {
@@ -142,11 +129,9 @@ impl Store for CalmStore {
         ensures written { OnOk result (self.new.bytes ≡ self.old.bytes ++ piece.now) }
         ensures length { OnOk result (length self.new.bytes ≡ length self.old.bytes + length piece.now) }
         ensures begins { Begins self.old.bytes self.new.bytes }
-        ensures more { length self.old.bytes ≤ length self.new.bytes }
         ensures memory { IsErrOf result StoreFault.Memory → self.new ≡ self.old }
         ensures cause { IsErrOf result StoreFault.Failed → ⊥ }
-        ensures named { self.new.handed ≡ self.old.handed }
-        ensures opened { self.new.openings ≡ self.old.openings }
+        ensures stays { WasExtended (kept_state self.old) (kept_state self.new) }
     {
         match self.held.bytes.extend_from_slice(piece) {
             Ok(()) => Ok(()),

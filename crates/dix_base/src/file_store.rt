@@ -1,7 +1,8 @@
 //! A file as a store.
 
 ghost use Rattle.std.specs.Prelude.{◌≡◌, ◌+◌, ◌-◌, ◌^◌, min, ◌≤◌, ◌↔◌, [], false, None, IsTrue, IfOk, IsOk, IsErrOf, OnErr, OnOk, length, string_bytes};
-ghost use Rattle.dix_base.specs.Forms.{after_file_fault, longer, one_more};
+ghost use Rattle.dix_base.specs.Forms.{after_file_fault, file_state, longer, one_more};
+ghost use Rattle.dix_base.specs.Stores.{IsCounted, WasExtended, WasOpened, WasRead, WasWritten};
 ghost use Rattle.dix_base.specs.Told.{Rose};
 
 use crate::fault_plan::raise;
@@ -91,15 +92,7 @@ impl FileStore {
 }
 
 impl Store for FileStore {
-    ghost bytes = { λ s. None };
-
-    ghost len = { λ s. s.len };
-
-    ghost faults = { λ s. s.faults };
-
-    ghost openings = { λ s. s.openings };
-
-    ghost handed = { λ s. s.handed };
+    ghost state = { λ s. file_state s };
 
     ghost told = { λ s. tt };
 
@@ -110,10 +103,8 @@ impl Store for FileStore {
     /// is a failure; then no file is open, and the length is 0.
     fn open(&mut self, name: String) -> Result<u64, Failed>
         ensures length { IfOk result (λ n. n ≡ self.new.len) }
-        ensures cause { OnErr result (Rose self.old.faults self.new.faults) }
-        ensures count { self.old.faults ≤ self.new.faults }
-        ensures opened { self.new.openings ≡ min (self.old.openings + 1) (2 ^ 64 - 1) }
-        ensures named { self.new.handed ≡ string_bytes name }
+        ensures counted { IsCounted result (file_state self.old) (file_state self.new) }
+        ensures opened { WasOpened (string_bytes name) (file_state self.old) (file_state self.new) }
 
         ensures passed { OnOk result (self.new.faults ≡ self.old.faults) }
         ensures failed { OnErr result (self.new.faults ≡ one_more self.old.faults) }
@@ -139,10 +130,8 @@ impl Store for FileStore {
     /// where it isn't there. After a failure no file is open, and the length is 0.
     fn reset(&mut self, name: String) -> Result<(), Failed>
         ensures length { OnOk result (self.new.len ≡ 0) }
-        ensures cause { OnErr result (Rose self.old.faults self.new.faults) }
-        ensures count { self.old.faults ≤ self.new.faults }
-        ensures opened { self.new.openings ≡ min (self.old.openings + 1) (2 ^ 64 - 1) }
-        ensures named { self.new.handed ≡ string_bytes name }
+        ensures counted { IsCounted result (file_state self.old) (file_state self.new) }
+        ensures opened { WasOpened (string_bytes name) (file_state self.old) (file_state self.new) }
 
         ensures passed { OnOk result (self.new.faults ≡ self.old.faults) }
         ensures failed { OnErr result (self.new.faults ≡ one_more self.old.faults) }
@@ -167,8 +156,8 @@ impl Store for FileStore {
     /// before is a failure, and so is a read while no file is open.
     fn read_at(&mut self, at: u64, into: &mut [u8]) -> Result<(), Failed>
         requires { at + length into.old ≤ self.old.len }
-        ensures cause { OnErr result (Rose self.old.faults self.new.faults) }
-        ensures count { self.old.faults ≤ self.new.faults }
+        ensures stays { WasRead (file_state self.old) (file_state self.new) }
+        ensures counted { IsCounted result (file_state self.old) (file_state self.new) }
 
         ensures is_open { OnOk result (IsTrue self.old.is_open) }
         ensures passed { OnOk result (self.new ≡ self.old) }
@@ -186,8 +175,8 @@ impl Store for FileStore {
     /// Writes until all bytes went. A write while no file is open is a failure.
     fn write_at(&mut self, at: u64, piece: &[u8]) -> Result<(), Failed>
         requires { at + length piece.now ≤ self.old.len }
-        ensures cause { OnErr result (Rose self.old.faults self.new.faults) }
-        ensures count { self.old.faults ≤ self.new.faults }
+        ensures stays { WasWritten (file_state self.old) (file_state self.new) }
+        ensures counted { IsCounted result (file_state self.old) (file_state self.new) }
 
         ensures is_open { OnOk result (IsTrue self.old.is_open) }
         ensures passed { OnOk result (self.new ≡ self.old) }
@@ -206,12 +195,9 @@ impl Store for FileStore {
     /// and what came behind it is written over by the next call.
     fn append(&mut self, _alloc: Global, piece: &[u8]) -> Result<(), StoreFault>
         ensures length { OnOk result (self.new.len ≡ self.old.len + length piece.now) }
-        ensures more { self.old.len ≤ self.new.len }
         ensures memory { IsErrOf result StoreFault.Memory → ⊥ }
         ensures cause { IsErrOf result StoreFault.Failed → Rose self.old.faults self.new.faults }
-        ensures count { self.old.faults ≤ self.new.faults }
-        ensures named { self.new.handed ≡ self.old.handed }
-        ensures opened { self.new.openings ≡ self.old.openings }
+        ensures stays { WasExtended (file_state self.old) (file_state self.new) }
 
         ensures is_open { OnOk result (IsTrue self.old.is_open) }
         ensures passed { OnOk result (self.new ≡ longer (length piece.now) self.old) }

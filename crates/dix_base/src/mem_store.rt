@@ -1,7 +1,8 @@
 //! A store in memory that fails at the calls of a list.
 
 ghost use Rattle.std.specs.Prelude.{◌≡◌, ◌+◌, ◌-◌, ◌/◌, ◌^◌, min, ◌≤◌, ◌++◌, ◌↔◌, [], drop, length, take, Some, refl, IfOk, IsErr, IsErrOf, IsOk, OnOk, OnErr, string_bytes};
-ghost use Rattle.dix_base.specs.Forms.{IsNextListed, after_call, after_fault, no_turns};
+ghost use Rattle.dix_base.specs.Forms.{IsNextListed, after_call, after_fault, no_turns, stock_state};
+ghost use Rattle.dix_base.specs.Stores.{IsCounted, WasExtended, WasOpened, WasRead, WasWritten};
 ghost use Rattle.dix_base.specs.Told.{Apart, Begins, Rose, over};
 
 use crate::fault_plan::FaultPlan;
@@ -49,15 +50,7 @@ impl MemStore {
 }
 
 impl Store for MemStore {
-    ghost bytes = { λ s. Some s.bytes };
-
-    ghost len = { λ s. length s.bytes };
-
-    ghost faults = { λ s. s.turns.faults };
-
-    ghost openings = { λ s. s.openings };
-
-    ghost handed = { λ s. s.handed };
+    ghost state = { λ s. stock_state s };
 
     ghost told = { λ s. refl };
 
@@ -67,8 +60,7 @@ impl Store for MemStore {
     fn open(&mut self, name: String) -> Result<u64, Failed>
         ensures length { IfOk result (λ n. n ≡ length self.new.bytes) }
         ensures same { self.new.bytes ≡ self.old.bytes }
-        ensures opened { self.new.openings ≡ min (self.old.openings + 1) (2 ^ 64 - 1) }
-        ensures named { self.new.handed ≡ string_bytes name }
+        ensures opened { WasOpened (string_bytes name) (stock_state self.old) (stock_state self.new) }
 
         ensures opens { IsOk result }
         ensures uncounted { self.new.turns ≡ self.old.turns }
@@ -80,10 +72,8 @@ impl Store for MemStore {
     fn reset(&mut self, name: String) -> Result<(), Failed>
         ensures empty { OnOk result (self.new.bytes ≡ []) }
         ensures length { OnOk result (length self.new.bytes ≡ 0) }
-        ensures cause { OnErr result (Rose self.old.turns.faults self.new.turns.faults) }
-        ensures count { self.old.turns.faults ≤ self.new.turns.faults }
-        ensures opened { self.new.openings ≡ min (self.old.openings + 1) (2 ^ 64 - 1) }
-        ensures named { self.new.handed ≡ string_bytes name }
+        ensures counted { IsCounted result (stock_state self.old) (stock_state self.new) }
+        ensures opened { WasOpened (string_bytes name) (stock_state self.old) (stock_state self.new) }
 
         ensures listed { IsErr result ↔ IsNextListed self.old.turns }
         ensures passed { OnOk result (self.new.turns ≡ after_call self.old.turns) }
@@ -101,12 +91,8 @@ impl Store for MemStore {
     fn read_at(&mut self, at: u64, into: &mut [u8]) -> Result<(), Failed>
         requires { at + length into.old ≤ length self.old.bytes }
         ensures read { OnOk result (into.new ≡ take (length into.old) (drop at self.old.bytes)) }
-        ensures same { self.new.bytes ≡ self.old.bytes }
-        ensures length { length self.new.bytes ≡ length self.old.bytes }
-        ensures cause { OnErr result (Rose self.old.turns.faults self.new.turns.faults) }
-        ensures count { self.old.turns.faults ≤ self.new.turns.faults }
-        ensures named { self.new.handed ≡ self.old.handed }
-        ensures opened { self.new.openings ≡ self.old.openings }
+        ensures counted { IsCounted result (stock_state self.old) (stock_state self.new) }
+        ensures stays { WasRead (stock_state self.old) (stock_state self.new) }
 
         ensures listed { IsErr result ↔ IsNextListed self.old.turns }
         ensures passed { OnOk result (self.new.turns ≡ after_call self.old.turns) }
@@ -122,11 +108,8 @@ impl Store for MemStore {
         requires { at + length piece.now ≤ length self.old.bytes }
         ensures written { OnOk result (self.new.bytes ≡ over at piece.now self.old.bytes) }
         ensures apart { Apart at (length piece.now) self.old.bytes self.new.bytes }
-        ensures length { length self.new.bytes ≡ length self.old.bytes }
-        ensures cause { OnErr result (Rose self.old.turns.faults self.new.turns.faults) }
-        ensures count { self.old.turns.faults ≤ self.new.turns.faults }
-        ensures named { self.new.handed ≡ self.old.handed }
-        ensures opened { self.new.openings ≡ self.old.openings }
+        ensures counted { IsCounted result (stock_state self.old) (stock_state self.new) }
+        ensures stays { WasWritten (stock_state self.old) (stock_state self.new) }
 
         ensures listed { IsErr result ↔ IsNextListed self.old.turns }
         ensures passed { OnOk result (self.new.turns ≡ after_call self.old.turns) }
@@ -144,12 +127,9 @@ impl Store for MemStore {
         ensures written { OnOk result (self.new.bytes ≡ self.old.bytes ++ piece.now) }
         ensures length { OnOk result (length self.new.bytes ≡ length self.old.bytes + length piece.now) }
         ensures begins { Begins self.old.bytes self.new.bytes }
-        ensures more { length self.old.bytes ≤ length self.new.bytes }
         ensures memory { IsErrOf result StoreFault.Memory → self.new ≡ self.old }
         ensures cause { IsErrOf result StoreFault.Failed → Rose self.old.turns.faults self.new.turns.faults }
-        ensures count { self.old.turns.faults ≤ self.new.turns.faults }
-        ensures named { self.new.handed ≡ self.old.handed }
-        ensures opened { self.new.openings ≡ self.old.openings }
+        ensures stays { WasExtended (stock_state self.old) (stock_state self.new) }
 
         ensures listed { IsErrOf result StoreFault.Failed → IsNextListed self.old.turns }
         ensures unlisted { OnOk result (¬ IsNextListed self.old.turns) }

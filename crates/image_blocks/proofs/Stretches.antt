@@ -1,12 +1,12 @@
 -- Where the blocks of a stretch lie in an image, and what becomes of its units as they change.
-use Rattle.std.proofs.Common.{◌≡◌, ℕ, ◌+◌, ◌-◌, ◌*◌, ◌^◌, ◌<◌, ◌≤◌, true, List, [], ◌++◌, length, get_or, set, take, drop, replicate, Option, Some, None, sym, ap, ◌∙◌, arith, length-append}
+use Rattle.std.proofs.Common.{◌≡◌, ℕ, ◌+◌, ◌-◌, ◌*◌, ◌≤◌, List, [], ◌++◌, length, get_or, set, take, drop, replicate, Option, Some, None, sym, ap, ◌∙◌, arith, length-append}
 use Rattle.std.proofs.lemmas.List.{drop-drop, length-drop, length-replicate, length-take, take-take, take_all}
 use Rattle.std.proofs.Math.Seq.{take-add}
 use Rattle.std.proofs.Math.Nat.{mul_comm}
 use Rattle.std.specs.Prelude.{Result, Ok, Err, OnOk}
 use Rattle.dix_base.specs.Told.{Apart, Becomes, HasLength, IsRead, over}
 use Rattle.target_answer.specs.Frames.{frames_of, joined, placed, stored_size}
-use Rattle.target_answer.specs.Headers.{all_bytes, bytes_of, image_size, is_layout, is_spec}
+use Rattle.target_answer.specs.Headers.{all_bytes, bytes_of, image_size}
 use Rattle.target_answer.specs.Image.{unit_from, units_from, units_in}
 use Rattle.target_answer.specs.Target.{Stored}
 use Rattle.target_answer.specs.declared.units.UnitSpec.{UnitSpec}
@@ -15,7 +15,6 @@ use Rattle.target_model.specs.Served.{AllLong}
 use Rattle.target_model.proofs.Bytes.{frames_back, frames_part, joined_frames, long_both, long_drop, long_frames, long_take, over_back, placed_length, unit_over}
 use Rattle.rig_api.specs.Telling.{holding, no_spec, unit_at}
 use Rattle.image_layout.specs.Places.{block_len, block_place}
-use Rattle.image_layout.proofs.Heads.{spec_here}
 use Rattle.image_layout.proofs.Units.{behind_over, bytes_within, drop_over, frames_front, front_over, unit_found, units_change}
 use Rattle.image_blocks.specs.declared.stretch.Stretch.{Stretch}
 use Rattle.image_blocks.specs.Blocks.{AreLeft, ArePut, AreStored, HasBlocks, blocks_at, blocks_of, with_stretch}

@@ -1,7 +1,8 @@
 //! Stretches of blocks, read and written.
 
-ghost use Rattle.std.specs.Prelude.{◌≡◌, ◌+◌, ◌*◌, ◌≤◌, OnErr, OnOk, length};
-ghost use Rattle.dix_base.specs.Told.{Apart, Becomes, Rose};
+ghost use Rattle.std.specs.Prelude.{◌≡◌, ◌+◌, ◌*◌, ◌≤◌, OnOk, length};
+ghost use Rattle.dix_base.specs.Stores.{IsCounted, WasRead, WasWritten};
+ghost use Rattle.dix_base.specs.Told.{Apart, Becomes};
 ghost use Rattle.target_answer.specs.Headers.{image_size};
 ghost use Rattle.image_layout.specs.Places.{block_len, block_place};
 ghost use Rattle.image_blocks.specs.Blocks.{AreLeft, ArePut, HasBlocks, blocks_of};
@@ -33,16 +34,11 @@ pub fn read_blocks<S: Store>(
 ) -> Result<(), Failed>
     requires place { IsStretch (units_open image.now) at }
     requires room { length into.old ≡ at.count * block_len (units_open image.now) at.dev }
-    requires held { S.len store.old ≡ image_size (units_open image.now) }
-    ensures read { OnOk result (HasBlocks (units_open image.now) at (blocks_of (units_open image.now) at into.new) (S.bytes store.old)) }
+    requires held { (S.state store.old).length ≡ image_size (units_open image.now) }
+    ensures read { OnOk result (HasBlocks (units_open image.now) at (blocks_of (units_open image.now) at into.new) (S.state store.old).bytes) }
     ensures long { length into.new ≡ length into.old }
-    ensures cause { OnErr result (Rose (S.faults store.old) (S.faults store.new)) }
-    ensures calm { OnOk result (S.faults store.new ≡ S.faults store.old) }
-    ensures same { S.bytes store.new ≡ S.bytes store.old }
-    ensures length { S.len store.new ≡ S.len store.old }
-    ensures count { S.faults store.old ≤ S.faults store.new }
-    ensures named { S.handed store.new ≡ S.handed store.old }
-    ensures opened { S.openings store.new ≡ S.openings store.old }
+    ensures stays { WasRead (S.state store.old) (S.state store.new) }
+    ensures counted { IsCounted result (S.state store.old) (S.state store.new) }
 {
     store.read_at(place_in(image, at), into)
 }
@@ -57,16 +53,12 @@ pub fn write_blocks<S: Store>(
 ) -> Result<(), Failed>
     requires place { IsStretch (units_open image.now) at }
     requires room { length from.now ≡ at.count * block_len (units_open image.now) at.dev }
-    requires held { S.len store.old ≡ image_size (units_open image.now) }
-    ensures put { OnOk result (ArePut (units_open image.now) at (blocks_of (units_open image.now) at from.now) (S.bytes store.old) (S.bytes store.new)) }
-    ensures left { AreLeft (units_open image.now) at (S.bytes store.old) (S.bytes store.new) }
-    ensures apart { Becomes (Apart (block_place (units_open image.now) at.dev at.first) (length from.now)) (S.bytes store.old) (S.bytes store.new) }
-    ensures cause { OnErr result (Rose (S.faults store.old) (S.faults store.new)) }
-    ensures calm { OnOk result (S.faults store.new ≡ S.faults store.old) }
-    ensures length { S.len store.new ≡ S.len store.old }
-    ensures count { S.faults store.old ≤ S.faults store.new }
-    ensures named { S.handed store.new ≡ S.handed store.old }
-    ensures opened { S.openings store.new ≡ S.openings store.old }
+    requires held { (S.state store.old).length ≡ image_size (units_open image.now) }
+    ensures put { OnOk result (ArePut (units_open image.now) at (blocks_of (units_open image.now) at from.now) (S.state store.old).bytes (S.state store.new).bytes) }
+    ensures left { AreLeft (units_open image.now) at (S.state store.old).bytes (S.state store.new).bytes }
+    ensures apart { Becomes (Apart (block_place (units_open image.now) at.dev at.first) (length from.now)) (S.state store.old).bytes (S.state store.new).bytes }
+    ensures stays { WasWritten (S.state store.old) (S.state store.new) }
+    ensures counted { IsCounted result (S.state store.old) (S.state store.new) }
 {
     store.write_at(place_in(image, at), from)
 }

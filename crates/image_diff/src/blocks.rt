@@ -4,7 +4,7 @@ ghost use Rattle.std.specs.Prelude.{◌≡◌, ◌*◌, ◌≤◌, length};
 ghost use Rattle.image_layout.specs.Places.{block_len};
 ghost use Rattle.image_blocks.specs.Images.{units_open};
 ghost use Rattle.image_blocks.specs.Places.{IsStretch};
-ghost use Rattle.image_walk.specs.Stores.{WasRead, held};
+ghost use Rattle.dix_base.specs.Stores.{WasRead};
 ghost use Rattle.image_diff.specs.Compared.{CanCompare, DiffEnds, counts, lines_of, pair_of, places, diff_of};
 
 use crate::fault::DiffFault;
@@ -40,19 +40,15 @@ fn diff_piece<S: Store, T: Store, O: Sink>(
     other_into: &mut [u8],
     out: &mut O,
 ) -> Result<u32, DiffFault>
-    requires places { CanCompare (places (units_open image.now) at (units_open other_image.now) to) (S.len store.old) (T.len other.old) }
+    requires places { CanCompare (places (units_open image.now) at (units_open other_image.now) to) (S.state store.old).length (T.state other.old).length }
     requires room { length into.old ≡ at.count * block_len (units_open image.now) at.dev }
     requires other_room { length other_into.old ≡ to.count * block_len (units_open other_image.now) to.dev }
     ensures compared { DiffEnds result (lines_of (places (units_open image.now) at (units_open other_image.now) to)) (places (units_open image.now) at (units_open other_image.now) to)
-        (S.bytes store.old) (T.bytes other.old)
-        (counts (S.faults store.old) (S.faults store.new) (T.faults other.old) (T.faults other.new) (O.faults out.old) (O.faults out.new))
+        (S.state store.old).bytes (T.state other.old).bytes
+        (counts (S.state store.old).faults (S.state store.new).faults (T.state other.old).faults (T.state other.new).faults (O.faults out.old) (O.faults out.new))
         (O.taken out.old) (O.taken out.new) }
-    ensures first { WasRead
-        (held (S.bytes store.old) (S.len store.old) (S.faults store.old) (S.handed store.old) (S.openings store.old))
-        (held (S.bytes store.new) (S.len store.new) (S.faults store.new) (S.handed store.new) (S.openings store.new)) }
-    ensures second { WasRead
-        (held (T.bytes other.old) (T.len other.old) (T.faults other.old) (T.handed other.old) (T.openings other.old))
-        (held (T.bytes other.new) (T.len other.new) (T.faults other.new) (T.handed other.new) (T.openings other.new)) }
+    ensures first { WasRead (S.state store.old) (S.state store.new) }
+    ensures second { WasRead (T.state other.old) (T.state other.new) }
     ensures sinks { O.faults out.old ≤ O.faults out.new }
 {
     match read_blocks(store, image, at, into) {
@@ -83,19 +79,15 @@ fn diff_lines<S: Store, T: Store, O: Sink>(
     other_room: &mut [u8],
     out: &mut O,
 ) -> Result<u32, DiffFault>
-    requires places { CanCompare (places (units_open image.now) place (units_open other_image.now) to) (S.len store.old) (T.len other.old) }
+    requires places { CanCompare (places (units_open image.now) place (units_open other_image.now) to) (S.state store.old).length (T.state other.old).length }
     requires least { 4104 ≤ length room.old }
     requires other_least { 4104 ≤ length other_room.old }
     ensures compared { DiffEnds result (lines_of (places (units_open image.now) place (units_open other_image.now) to)) (places (units_open image.now) place (units_open other_image.now) to)
-        (S.bytes store.old) (T.bytes other.old)
-        (counts (S.faults store.old) (S.faults store.new) (T.faults other.old) (T.faults other.new) (O.faults out.old) (O.faults out.new))
+        (S.state store.old).bytes (T.state other.old).bytes
+        (counts (S.state store.old).faults (S.state store.new).faults (T.state other.old).faults (T.state other.new).faults (O.faults out.old) (O.faults out.new))
         (O.taken out.old) (O.taken out.new) }
-    ensures first { WasRead
-        (held (S.bytes store.old) (S.len store.old) (S.faults store.old) (S.handed store.old) (S.openings store.old))
-        (held (S.bytes store.new) (S.len store.new) (S.faults store.new) (S.handed store.new) (S.openings store.new)) }
-    ensures second { WasRead
-        (held (T.bytes other.old) (T.len other.old) (T.faults other.old) (T.handed other.old) (T.openings other.old))
-        (held (T.bytes other.new) (T.len other.new) (T.faults other.new) (T.handed other.new) (T.openings other.new)) }
+    ensures first { WasRead (S.state store.old) (S.state store.new) }
+    ensures second { WasRead (T.state other.old) (T.state other.new) }
     ensures sinks { O.faults out.old ≤ O.faults out.new }
 {
     let len = block_bytes(image, place.dev);
@@ -144,19 +136,15 @@ fn diff_all<S: Store, T: Store, O: Sink>(
     other_room: &mut [u8],
     out: &mut O,
 ) -> Result<u32, DiffFault>
-    requires places { CanCompare (places (units_open image.now) place (units_open other_image.now) to) (S.len store.old) (T.len other.old) }
+    requires places { CanCompare (places (units_open image.now) place (units_open other_image.now) to) (S.state store.old).length (T.state other.old).length }
     requires least { 4104 ≤ length room.old }
     requires other_least { 4104 ≤ length other_room.old }
     ensures compared { DiffEnds result (diff_of (places (units_open image.now) place (units_open other_image.now) to)) (places (units_open image.now) place (units_open other_image.now) to)
-        (S.bytes store.old) (T.bytes other.old)
-        (counts (S.faults store.old) (S.faults store.new) (T.faults other.old) (T.faults other.new) (O.faults out.old) (O.faults out.new))
+        (S.state store.old).bytes (T.state other.old).bytes
+        (counts (S.state store.old).faults (S.state store.new).faults (T.state other.old).faults (T.state other.new).faults (O.faults out.old) (O.faults out.new))
         (O.taken out.old) (O.taken out.new) }
-    ensures first { WasRead
-        (held (S.bytes store.old) (S.len store.old) (S.faults store.old) (S.handed store.old) (S.openings store.old))
-        (held (S.bytes store.new) (S.len store.new) (S.faults store.new) (S.handed store.new) (S.openings store.new)) }
-    ensures second { WasRead
-        (held (T.bytes other.old) (T.len other.old) (T.faults other.old) (T.handed other.old) (T.openings other.old))
-        (held (T.bytes other.new) (T.len other.new) (T.faults other.new) (T.handed other.new) (T.openings other.new)) }
+    ensures first { WasRead (S.state store.old) (S.state store.new) }
+    ensures second { WasRead (T.state other.old) (T.state other.new) }
     ensures sinks { O.faults out.old ≤ O.faults out.new }
 {
     match write_diff_first(out) {
@@ -199,18 +187,14 @@ pub fn diff_blocks<S: Store, T: Store, O: Sink>(
     room: &mut [u8],
     out: &mut O,
 ) -> Result<u32, DiffFault>
-    requires places { CanCompare (places (units_open image.now) place (units_open other_image.now) to) (S.len store.old) (T.len other.old) }
+    requires places { CanCompare (places (units_open image.now) place (units_open other_image.now) to) (S.state store.old).length (T.state other.old).length }
     requires least { 8208 ≤ length room.old }
     ensures compared { DiffEnds result (diff_of (places (units_open image.now) place (units_open other_image.now) to)) (places (units_open image.now) place (units_open other_image.now) to)
-        (S.bytes store.old) (T.bytes other.old)
-        (counts (S.faults store.old) (S.faults store.new) (T.faults other.old) (T.faults other.new) (O.faults out.old) (O.faults out.new))
+        (S.state store.old).bytes (T.state other.old).bytes
+        (counts (S.state store.old).faults (S.state store.new).faults (T.state other.old).faults (T.state other.new).faults (O.faults out.old) (O.faults out.new))
         (O.taken out.old) (O.taken out.new) }
-    ensures first { WasRead
-        (held (S.bytes store.old) (S.len store.old) (S.faults store.old) (S.handed store.old) (S.openings store.old))
-        (held (S.bytes store.new) (S.len store.new) (S.faults store.new) (S.handed store.new) (S.openings store.new)) }
-    ensures second { WasRead
-        (held (T.bytes other.old) (T.len other.old) (T.faults other.old) (T.handed other.old) (T.openings other.old))
-        (held (T.bytes other.new) (T.len other.new) (T.faults other.new) (T.handed other.new) (T.openings other.new)) }
+    ensures first { WasRead (S.state store.old) (S.state store.new) }
+    ensures second { WasRead (T.state other.old) (T.state other.new) }
     ensures sinks { O.faults out.old ≤ O.faults out.new }
 {
     let half = room.len() / 2;

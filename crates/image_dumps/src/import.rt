@@ -7,7 +7,7 @@ ghost use Rattle.target_answer.specs.Headers.{image_size};
 ghost use Rattle.image_layout.specs.Places.{block_len};
 ghost use Rattle.image_blocks.specs.Images.{units_open};
 ghost use Rattle.image_blocks.specs.Places.{IsStretch};
-ghost use Rattle.image_walk.specs.Stores.{WasRead, WasWritten, held};
+ghost use Rattle.dix_base.specs.Stores.{WasRead, WasWritten};
 ghost use Rattle.image_dumps.specs.Ends.{ArePieces, AreSome, CanTake, HasOwn, ImportEnds, KeepsOutside, TakingEnds, behind_pieces, each_len, pieces_of};
 
 use crate::fault::ImportFault;
@@ -27,13 +27,11 @@ fn read_own<S: Store>(
 ) -> Result<(), Failed>
     requires place { IsStretch (units_open image.now) at }
     requires room { length frames.old ≡ at.count * block_len (units_open image.now) at.dev }
-    requires held { S.len store.old ≡ image_size (units_open image.now) }
-    ensures own { OnOk result (HasOwn layout (units_open image.now) at frames.new (S.bytes store.old)) }
+    requires held { (S.state store.old).length ≡ image_size (units_open image.now) }
+    ensures own { OnOk result (HasOwn layout (units_open image.now) at frames.new (S.state store.old).bytes) }
     ensures long { length frames.new ≡ length frames.old }
-    ensures cause { OnErr result (Rose (S.faults store.old) (S.faults store.new)) }
-    ensures store { WasRead
-        (held (S.bytes store.old) (S.len store.old) (S.faults store.old) (S.handed store.old) (S.openings store.old))
-        (held (S.bytes store.new) (S.len store.new) (S.faults store.new) (S.handed store.new) (S.openings store.new)) }
+    ensures cause { OnErr result (Rose (S.state store.old).faults (S.state store.new).faults) }
+    ensures store { WasRead (S.state store.old) (S.state store.new) }
 {
     match layout {
         Layout::Tuples => read_blocks(store, image, at, frames),
@@ -51,18 +49,16 @@ fn put_stretch<S: Store>(
     pieces: &[u8],
     frames: &mut [u8],
 ) -> Result<(), Failed>
-    requires place { CanTake layout (units_open image.now) at (S.len store.old) }
+    requires place { CanTake layout (units_open image.now) at (S.state store.old).length }
     requires pieces { length pieces.now ≡ at.count * each_len layout (units_open image.now) at }
     requires room { length frames.old ≡ at.count * block_len (units_open image.now) at.dev }
     ensures put { OnOk result (ArePieces layout (units_open image.now) at
-        (frames_of (each_len layout (units_open image.now) at) at.count pieces.now) [] (S.bytes store.old) (S.bytes store.new)) }
-    ensures left { OnErr result (AreSome (units_open image.now) at (S.bytes store.old) (S.bytes store.new)) }
-    ensures apart { KeepsOutside (units_open image.now) at (S.bytes store.old) (S.bytes store.new) }
-    ensures cause { OnErr result (Rose (S.faults store.old) (S.faults store.new)) }
+        (frames_of (each_len layout (units_open image.now) at) at.count pieces.now) [] (S.state store.old).bytes (S.state store.new).bytes) }
+    ensures left { OnErr result (AreSome (units_open image.now) at (S.state store.old).bytes (S.state store.new).bytes) }
+    ensures apart { KeepsOutside (units_open image.now) at (S.state store.old).bytes (S.state store.new).bytes }
+    ensures cause { OnErr result (Rose (S.state store.old).faults (S.state store.new).faults) }
     ensures long { length frames.new ≡ length frames.old }
-    ensures store { WasWritten
-        (held (S.bytes store.old) (S.len store.old) (S.faults store.old) (S.handed store.old) (S.openings store.old))
-        (held (S.bytes store.new) (S.len store.new) (S.faults store.new) (S.handed store.new) (S.openings store.new)) }
+    ensures store { WasWritten (S.state store.old) (S.state store.new) }
 {
     match read_own(store, image, at, layout, frames) {
         Ok(()) => {}
@@ -87,16 +83,14 @@ fn take_stretch<S: Store, R: Source>(
     pieces: &mut [u8],
     frames: &mut [u8],
 ) -> Result<u32, ImportFault>
-    requires place { CanTake layout (units_open image.now) at (S.len store.old) }
+    requires place { CanTake layout (units_open image.now) at (S.state store.old).length }
     requires pieces { length pieces.old ≡ at.count * each_len layout (units_open image.now) at }
     requires room { length frames.old ≡ at.count * block_len (units_open image.now) at.dev }
     ensures taken { TakingEnds result layout (units_open image.now) at (length frames.old)
-        (S.faults store.old) (S.faults store.new) (R.faults source.old) (R.faults source.new)
-        (S.bytes store.old) (S.bytes store.new) (R.left source.old) (R.left source.new) }
-    ensures apart { KeepsOutside (units_open image.now) at (S.bytes store.old) (S.bytes store.new) }
-    ensures store { WasWritten
-        (held (S.bytes store.old) (S.len store.old) (S.faults store.old) (S.handed store.old) (S.openings store.old))
-        (held (S.bytes store.new) (S.len store.new) (S.faults store.new) (S.handed store.new) (S.openings store.new)) }
+        (S.state store.old).faults (S.state store.new).faults (R.faults source.old) (R.faults source.new)
+        (S.state store.old).bytes (S.state store.new).bytes (R.left source.old) (R.left source.new) }
+    ensures apart { KeepsOutside (units_open image.now) at (S.state store.old).bytes (S.state store.new).bytes }
+    ensures store { WasWritten (S.state store.old) (S.state store.new) }
     ensures sources { R.faults source.old ≤ R.faults source.new }
 {
     let got = match fill(source, pieces) {
@@ -148,17 +142,15 @@ fn take_all<S: Store, R: Source>(
     pieces: &mut [u8],
     frames: &mut [u8],
 ) -> Result<u32, ImportFault>
-    requires place { CanTake layout (units_open image.now) place (S.len store.old) }
+    requires place { CanTake layout (units_open image.now) place (S.state store.old).length }
     requires pieces { 4104 ≤ length pieces.old }
     requires frames { 4104 ≤ length frames.old }
     ensures taken { TakingEnds result layout (units_open image.now) place (length frames.old)
-        (S.faults store.old) (S.faults store.new) (R.faults source.old) (R.faults source.new)
-        (S.bytes store.old) (S.bytes store.new) (R.left source.old) (R.left source.new) }
-    ensures apart { KeepsOutside (units_open image.now) place (S.bytes store.old) (S.bytes store.new) }
+        (S.state store.old).faults (S.state store.new).faults (R.faults source.old) (R.faults source.new)
+        (S.state store.old).bytes (S.state store.new).bytes (R.left source.old) (R.left source.new) }
+    ensures apart { KeepsOutside (units_open image.now) place (S.state store.old).bytes (S.state store.new).bytes }
     ensures room { length pieces.new ≡ length pieces.old }
-    ensures store { WasWritten
-        (held (S.bytes store.old) (S.len store.old) (S.faults store.old) (S.handed store.old) (S.openings store.old))
-        (held (S.bytes store.new) (S.len store.new) (S.faults store.new) (S.handed store.new) (S.openings store.new)) }
+    ensures store { WasWritten (S.state store.old) (S.state store.new) }
     ensures sources { R.faults source.old ≤ R.faults source.new }
 {
     let len = block_bytes(image, place.dev);
@@ -204,15 +196,13 @@ pub fn import_blocks<S: Store, R: Source>(
     source: &mut R,
     room: &mut [u8],
 ) -> Result<u32, ImportFault>
-    requires place { CanTake layout (units_open image.now) place (S.len store.old) }
+    requires place { CanTake layout (units_open image.now) place (S.state store.old).length }
     requires least { 8208 ≤ length room.old }
     ensures imported { ImportEnds result layout (units_open image.now) place (length room.old)
-        (S.faults store.old) (S.faults store.new) (R.faults source.old) (R.faults source.new)
-        (S.bytes store.old) (S.bytes store.new) (R.left source.old) (R.left source.new) }
-    ensures apart { KeepsOutside (units_open image.now) place (S.bytes store.old) (S.bytes store.new) }
-    ensures store { WasWritten
-        (held (S.bytes store.old) (S.len store.old) (S.faults store.old) (S.handed store.old) (S.openings store.old))
-        (held (S.bytes store.new) (S.len store.new) (S.faults store.new) (S.handed store.new) (S.openings store.new)) }
+        (S.state store.old).faults (S.state store.new).faults (R.faults source.old) (R.faults source.new)
+        (S.state store.old).bytes (S.state store.new).bytes (R.left source.old) (R.left source.new) }
+    ensures apart { KeepsOutside (units_open image.now) place (S.state store.old).bytes (S.state store.new).bytes }
+    ensures store { WasWritten (S.state store.old) (S.state store.new) }
     ensures sources { R.faults source.old ≤ R.faults source.new }
 {
     let half = room.len() / 2;

@@ -7,12 +7,13 @@ use Rattle.pi_tuple.specs.declared.checks.PiType.{PiType}
 use Rattle.pi_tuple.specs.declared.checks.PiType.TheVariants.{Zero, One, Two, Three}
 use Rattle.target_answer.specs.Frames.{stored_size}
 use Rattle.std.specs.Prelude.{Result, Ok, Err, IsErrOf, min}
+use Rattle.dix_base.specs.Stores.{StoreState, WasOpened, WasRead}
 use Rattle.dix_base.specs.Told.{HasLength, IsRead}
 use Rattle.std.proofs.lemmas.Bool.{cases_lt, eqb-true, ltb-false, lt-ltb, le-ltb}
 use Rattle.std.proofs.lemmas.List.{take_all}
 use Rattle.std.proofs.lemmas.Option.{same_Some}
-use Rattle.image_layout.specs.Heads.{IsHeadFault, JudgesHead}
-use Rattle.rig_api.specs.Telling.{no_spec}
+use Rattle.image_layout.specs.Heads.{HasLooked, IsHeadFault, JudgesHead, called}
+use Rattle.rig_api.specs.Telling.{Opened, OpenedBy, Standing, no_spec}
 use Rattle.rig_api.specs.Head.{HasJudged, IsHeadOf, Head, head_fault, fault_of_header, fault_under, units_of, specs_under, version_in}
 use Rattle.rig_api.specs.declared.rig.RigFault.{RigFault}
 use Rattle.rig_api.specs.declared.rig.RigFault.TheVariants.{BadMagic, BadHeader, BadLength, Failed, Memory}
@@ -173,3 +174,27 @@ has_judged (Err BadHeader) old new image j h = h
 has_judged (Err BadLength) old new image j h = h
 has_judged (Err Failed) old new image j h = absurd j
 has_judged (Err Memory) old new image j h = absurd j
+
+-- ---- an image that was looked at
+
+pub opened_by : {X : Type 0} (r : Result X RigFault) (name : List ℕ) (old new : Standing) → Opened name old new → OpenedBy r name old new
+opened_by (Ok x) name old new o = o
+opened_by (Err BadMagic) name old new o = o
+opened_by (Err BadHeader) name old new o = o
+opened_by (Err BadLength) name old new o = o
+opened_by (Err Failed) name old new o = o
+opened_by (Err Memory) name old new o = tt
+
+-- the content was opened, and its first bytes were read
+pub has_looked : {X : Type 0} (r : Result X RigFault) (name : List ℕ) (old mid new : StoreState) → JudgesHead r → mid.bytes ≡ old.bytes → WasOpened name old mid → WasRead mid new → HasLooked r name old new
+has_looked r name old mid new j s o w =
+    let once : Opened name (called old) (called new) = (w.opened ∙ o.opened, w.named ∙ o.named) in
+    let a = o.count in
+    let b = w.count in
+    record {
+      same = w.same ∙ s;
+      opening = inr once;
+      opened = opened_by r name (called old) (called new) once;
+      failed = λ e. absurd (never_failed r j e);
+      count = omega arith;
+    }

@@ -1,10 +1,10 @@
 //! A look at an image: it is opened, and its head is read and judged.
 
-ghost use Rattle.std.specs.Prelude.{◌≡◌, ◌≤◌, ◌⊎◌, IfOk, IsErrOf, OnErr, OnOk, Option, take, length};
+ghost use Rattle.std.specs.Prelude.{◌≡◌, ◌≤◌, IfOk, OnErr, OnOk, Option, take, length};
+ghost use Rattle.dix_base.specs.Stores.{WasRead};
 ghost use Rattle.dix_base.specs.Told.{IsRead, Rose};
 ghost use Rattle.rig_api.specs.Head.{HasJudged, IsFaultOf, IsHeadOf};
-ghost use Rattle.rig_api.specs.Telling.{Opened, OpenedBy, Stayed};
-ghost use Rattle.image_layout.specs.Heads.{JudgesHead, called, head_in};
+ghost use Rattle.image_layout.specs.Heads.{HasLooked, JudgesHead, head_in};
 
 use crate::image_head::ImageHead;
 use dix_base::{Failed, Store};
@@ -13,15 +13,11 @@ use std::alloc::Global;
 
 /// Reads the first bytes of the image. There is no call where there are none.
 fn first_bytes<S: Store>(store: &mut S, have: usize) -> Result<[u8; 512], Failed>
-    requires within { have ≤ S.len store.old }
+    requires within { have ≤ (S.state store.old).length }
     requires bound { have ≤ 512 }
-    ensures read { IfOk result (λ first. IsRead 0 have (take have first) (S.bytes store.old)) }
-    ensures cause { OnErr result (Rose (S.faults store.old) (S.faults store.new)) }
-    ensures same { S.bytes store.new ≡ S.bytes store.old }
-    ensures length { S.len store.new ≡ S.len store.old }
-    ensures count { S.faults store.old ≤ S.faults store.new }
-    ensures named { S.handed store.new ≡ S.handed store.old }
-    ensures opened { S.openings store.new ≡ S.openings store.old }
+    ensures read { IfOk result (λ first. IsRead 0 have (take have first) (S.state store.old).bytes) }
+    ensures stays { WasRead (S.state store.old) (S.state store.new) }
+    ensures cause { OnErr result (Rose (S.state store.old).faults (S.state store.new).faults) }
 {
     let mut first = [0; 512];
     if have == 0 {
@@ -33,15 +29,11 @@ fn first_bytes<S: Store>(store: &mut S, have: usize) -> Result<[u8; 512], Failed
 
 /// Reads the head of an image of this size.
 fn read_head<S: Store>(store: &mut S, size: u64) -> Result<ImageHead, Failed>
-    requires { size ≡ S.len store.old }
-    ensures head { IfOk result (λ h. IsHeadOf (head_in h) (S.bytes store.old)) }
+    requires { size ≡ (S.state store.old).length }
+    ensures head { IfOk result (λ h. IsHeadOf (head_in h) (S.state store.old).bytes) }
     ensures size { IfOk result (λ h. h.size ≡ size) }
-    ensures cause { OnErr result (Rose (S.faults store.old) (S.faults store.new)) }
-    ensures same { S.bytes store.new ≡ S.bytes store.old }
-    ensures length { S.len store.new ≡ S.len store.old }
-    ensures count { S.faults store.old ≤ S.faults store.new }
-    ensures named { S.handed store.new ≡ S.handed store.old }
-    ensures opened { S.openings store.new ≡ S.openings store.old }
+    ensures stays { WasRead (S.state store.old) (S.state store.new) }
+    ensures cause { OnErr result (Rose (S.state store.old).faults (S.state store.new).faults) }
 {
     let have = size.min(512) as usize;
     let first = first_bytes(store, have)?;
@@ -67,13 +59,9 @@ pub fn look<S: Store>(
     name: &str,
 ) -> Result<(), RigFault>
     ensures judged { IsFaultOf result (head_in head.new) }
-    ensures head { HasJudged result (head_in head.old) (head_in head.new) (S.bytes store.old) }
-    ensures size { OnOk result ((head_in head.new).size ≡ S.len store.new) }
-    ensures failed { IsErrOf result RigFault.Failed → Rose (S.faults store.old) (S.faults store.new) }
-    ensures opening { Stayed (called (S.handed store.old) (S.openings store.old)) (called (S.handed store.new) (S.openings store.new)) ⊎ Opened name.now (called (S.handed store.old) (S.openings store.old)) (called (S.handed store.new) (S.openings store.new)) }
-    ensures opened { OpenedBy result name.now (called (S.handed store.old) (S.openings store.old)) (called (S.handed store.new) (S.openings store.new)) }
-    ensures same { S.bytes store.new ≡ S.bytes store.old }
-    ensures count { S.faults store.old ≤ S.faults store.new }
+    ensures head { HasJudged result (head_in head.old) (head_in head.new) (S.state store.old).bytes }
+    ensures size { OnOk result ((head_in head.new).size ≡ (S.state store.new).length) }
+    ensures looked { HasLooked result name.now (S.state store.old) (S.state store.new) }
 {
     let Ok(name) = String::from_str(alloc, name) else {
         return Err(RigFault::Memory);

@@ -1,9 +1,7 @@
 -- How the formatted image grows, block by block and unit by unit.
 use Rattle.std.proofs.Common.{◌≡◌, ℕ, zero, suc, ◌+◌, ◌<◌, ◌≤◌, Bool, true, false, eqb, ◌&&◌, List, [], ◌∷◌, ◌++◌, length, take, replicate, get_or, Option, Some, None, refl, sym, ap, ◌∙◌, arith, append_assoc, append-nil}
-use Rattle.std.specs.Prelude.{is_some}
 use Rattle.std.specs.List.{list_all}
 use Rattle.std.proofs.lemmas.List.{take_all, take-take, take-replicate}
-use Rattle.dix_base.specs.Told.{Becomes}
 use Rattle.pi_tuple.specs.declared.checks.PiType.{PiType}
 use Rattle.target_answer.specs.Frames.{joined, stored_size}
 use Rattle.target_answer.specs.Headers.{header, is_first, is_spec, version_for}
@@ -21,12 +19,6 @@ first_is_small [] = refl
 first_is_small (u ∷ us) = ap (λ b. eqb u.size 512 && (eqb u.first 0 && b)) (first_is_small us) ∙ and_assoc (eqb u.size 512) (eqb u.first 0) (list_all is_small us)
 
 -- ---- what is appended
-
-pub becomes_tells : (P : List ℕ → List ℕ → Type 0) (a b : Option (List ℕ)) → Becomes P a b → is_some b ≡ is_some a
-becomes_tells P None None h = refl
-becomes_tells P None (Some b) h = absurd h
-becomes_tells P (Some a) None h = absurd h
-becomes_tells P (Some a) (Some b) h = refl
 
 -- one block more
 pub fresh_more : (ty : PiType) (size lba k : ℕ) → joined (fresh_from ty size lba (k + 1)) ≡ joined (fresh_from ty size lba k) ++ fresh ty size (lba + k)

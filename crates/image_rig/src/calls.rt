@@ -3,7 +3,7 @@
 ghost use Rattle.std.specs.Prelude.{◌≡◌, [], length, refl};
 ghost use Rattle.rig_log.specs.Entries.{few_of, keyed_of};
 ghost use Rattle.rig_log.specs.Logs.{logged, room_in};
-ghost use Rattle.image_layout.specs.Heads.{head_in};
+ghost use Rattle.image_layout.specs.Heads.{called, head_in};
 ghost use Rattle.image_rig.specs.Told.{laid_of, ready_of, standing_of, units_of_image};
 
 use crate::ImageRig;
@@ -23,12 +23,11 @@ use target_model::serve;
 impl<S: Store> ImageRig<S> {
     /// A rig over this store, with no image opened, no fault armed and nothing in its log.
     pub fn new(alloc: Global, store: S) -> ImageRig<S>
-        ensures image { (⟦<ImageRig<S> as Rig>⟧.state result).image ≡ S.bytes store }
-        ensures faults { (⟦<ImageRig<S> as Rig>⟧.state result).faults ≡ S.faults store }
+        ensures image { (⟦<ImageRig<S> as Rig>⟧.state result).image ≡ (S.state store).bytes }
+        ensures faults { (⟦<ImageRig<S> as Rig>⟧.state result).faults ≡ (S.state store).faults }
         ensures log { (⟦<ImageRig<S> as Rig>⟧.state result).log ≡ [] }
         ensures armed { (⟦<ImageRig<S> as Rig>⟧.state result).armed ≡ [] }
-        ensures standing { (⟦<ImageRig<S> as Rig>⟧.state result).standing
-            ≡ record { devices = 0; head = record { size = 0; first = [] }; name = S.handed store; openings = S.openings store } }
+        ensures standing { (⟦<ImageRig<S> as Rig>⟧.state result).standing ≡ called (S.state store) }
     {
         ImageRig {
             store,
@@ -41,10 +40,10 @@ impl<S: Store> ImageRig<S> {
 
     /// The store, which holds the image.
     pub fn store(&self) -> &S
-        ensures image { S.bytes result.now ≡ (⟦<ImageRig<S> as Rig>⟧.state self.now).image }
-        ensures faults { S.faults result.now ≡ (⟦<ImageRig<S> as Rig>⟧.state self.now).faults }
-        ensures name { S.handed result.now ≡ (⟦<ImageRig<S> as Rig>⟧.state self.now).standing.name }
-        ensures openings { S.openings result.now ≡ (⟦<ImageRig<S> as Rig>⟧.state self.now).standing.openings }
+        ensures image { (S.state result.now).bytes ≡ (⟦<ImageRig<S> as Rig>⟧.state self.now).image }
+        ensures faults { (S.state result.now).faults ≡ (⟦<ImageRig<S> as Rig>⟧.state self.now).faults }
+        ensures name { (S.state result.now).handed ≡ (⟦<ImageRig<S> as Rig>⟧.state self.now).standing.name }
+        ensures openings { (S.state result.now).openings ≡ (⟦<ImageRig<S> as Rig>⟧.state self.now).standing.openings }
     {
         &self.store
     }
@@ -52,18 +51,18 @@ impl<S: Store> ImageRig<S> {
 
 impl<S: Store> Rig for ImageRig<S> {
     ghost state = { λ s. record {
-      image = S.bytes s.store;
-      units = units_of_image (length s.units.items) (head_in s.head) (S.bytes s.store);
-      standing = standing_of (length s.units.items) (head_in s.head) (S.handed s.store) (S.openings s.store);
+      image = (S.state s.store).bytes;
+      units = units_of_image (length s.units.items) (head_in s.head) (S.state s.store).bytes;
+      standing = standing_of (length s.units.items) (head_in s.head) (S.state s.store).handed (S.state s.store).openings;
       log = logged s.log;
       room = room_in s.log;
       armed = s.tamper;
-      faults = S.faults s.store;
+      faults = (S.state s.store).faults;
     } };
 
-    ghost laid = { λ s. laid_of (length s.units.items) (head_in s.head) (S.handed s.store) (S.openings s.store) (S.bytes s.store) };
+    ghost laid = { λ s. laid_of (length s.units.items) (head_in s.head) (S.state s.store).handed (S.state s.store).openings (S.state s.store).bytes };
 
-    ghost ready = { λ s. ready_of (length s.units.items) (head_in s.head) (S.handed s.store) (S.openings s.store) (S.bytes s.store) s.units.items s.right s.devices s.told refl };
+    ghost ready = { λ s. ready_of (length s.units.items) (head_in s.head) (S.state s.store).handed (S.state s.store).openings (S.state s.store).bytes s.units.items s.right s.devices s.told refl };
 
     ghost octets = { λ s. S.octets s.store };
 

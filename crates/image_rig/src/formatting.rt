@@ -1,7 +1,8 @@
 //! The formatted image of units: a header, and blocks of zeros with proper tuples.
 
-ghost use Rattle.std.specs.Prelude.{◌≡◌, ◌+◌, ◌≤◌, ◌++◌, OnOk, IsErrOf, is_some, length, replicate, take, true};
+ghost use Rattle.std.specs.Prelude.{◌≡◌, ◌+◌, ◌≤◌, ◌++◌, OnOk, IsErrOf, length, replicate, take, true};
 ghost use Rattle.std.specs.List.{list_all};
+ghost use Rattle.dix_base.specs.Stores.{WasExtended};
 ghost use Rattle.dix_base.specs.Told.{Appended, Rose};
 ghost use Rattle.target_answer.specs.Frames.{joined, stored_size};
 ghost use Rattle.target_answer.specs.Headers.{is_layout, is_spec, version_for};
@@ -42,12 +43,9 @@ fn append_blocks<S: Store>(
     requires unit { is_spec unit.now ≡ true }
     requires long { length frame.old ≡ stored_size unit.now.ty unit.now.size }
     requires zeros { take unit.now.size frame.old ≡ replicate unit.now.size 0 }
-    ensures appended { OnOk result (Appended (joined (all_fresh unit.now)) (S.bytes store.old) (S.bytes store.new)) }
-    ensures tells { is_some (S.bytes store.new) ≡ is_some (S.bytes store.old) }
-    ensures cause { IsErrOf result StoreFault.Failed → Rose (S.faults store.old) (S.faults store.new) }
-    ensures count { S.faults store.old ≤ S.faults store.new }
-    ensures named { S.handed store.new ≡ S.handed store.old }
-    ensures opened { S.openings store.new ≡ S.openings store.old }
+    ensures appended { OnOk result (Appended (joined (all_fresh unit.now)) (S.state store.old).bytes (S.state store.new).bytes) }
+    ensures cause { IsErrOf result StoreFault.Failed → Rose (S.state store.old).faults (S.state store.new).faults }
+    ensures stays { WasExtended (S.state store.old) (S.state store.new) }
 {
     for k in 0..unit.blocks {
         put_tuple(frame, unit.ty, unit.size, unit.first + k);
@@ -59,12 +57,9 @@ fn append_blocks<S: Store>(
 /// Appends the formatted blocks of a unit.
 fn append_unit<S: Store>(alloc: Global, store: &mut S, unit: &UnitSpec) -> Result<(), StoreFault>
     requires { is_spec unit.now ≡ true }
-    ensures appended { OnOk result (Appended (joined (all_fresh unit.now)) (S.bytes store.old) (S.bytes store.new)) }
-    ensures tells { is_some (S.bytes store.new) ≡ is_some (S.bytes store.old) }
-    ensures cause { IsErrOf result StoreFault.Failed → Rose (S.faults store.old) (S.faults store.new) }
-    ensures count { S.faults store.old ≤ S.faults store.new }
-    ensures named { S.handed store.new ≡ S.handed store.old }
-    ensures opened { S.openings store.new ≡ S.openings store.old }
+    ensures appended { OnOk result (Appended (joined (all_fresh unit.now)) (S.state store.old).bytes (S.state store.new).bytes) }
+    ensures cause { IsErrOf result StoreFault.Failed → Rose (S.state store.old).faults (S.state store.new).faults }
+    ensures stays { WasExtended (S.state store.old) (S.state store.new) }
 {
     let mut room = [0; 4104];
     let size = stored_size(unit.ty, unit.size) as usize;
@@ -78,12 +73,9 @@ pub(crate) fn append_formatted<S: Store>(
     units: &[UnitSpec],
 ) -> Result<(), StoreFault>
     requires { is_layout units.now ≡ true }
-    ensures appended { OnOk result (Appended (formatted units.now) (S.bytes store.old) (S.bytes store.new)) }
-    ensures tells { is_some (S.bytes store.new) ≡ is_some (S.bytes store.old) }
-    ensures cause { IsErrOf result StoreFault.Failed → Rose (S.faults store.old) (S.faults store.new) }
-    ensures count { S.faults store.old ≤ S.faults store.new }
-    ensures named { S.handed store.new ≡ S.handed store.old }
-    ensures opened { S.openings store.new ≡ S.openings store.old }
+    ensures appended { OnOk result (Appended (formatted units.now) (S.state store.old).bytes (S.state store.new).bytes) }
+    ensures cause { IsErrOf result StoreFault.Failed → Rose (S.state store.old).faults (S.state store.new).faults }
+    ensures stays { WasExtended (S.state store.old) (S.state store.new) }
 {
     store.append(alloc, &header(version_for(units), units))?;
     for unit in units {

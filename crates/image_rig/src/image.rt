@@ -23,6 +23,6 @@ pub struct ImageRig<S: Store> {
     pub(crate) log: Log,
     ghost right: { 0 < length units.items → head_fault (head_in head) ≡ None },
     ghost devices: { 0 < length units.items → units.items ≡ units_of (head_in head) },
-    ghost told: { 0 < length units.items → (image : List ℕ) → S.bytes store ≡ Some image → head_in head ≡ head_of image },
-    ghost held: { 0 < length units.items → S.len store ≡ head.size },
+    ghost told: { 0 < length units.items → (image : List ℕ) → (S.state store).bytes ≡ Some image → head_in head ≡ head_of image },
+    ghost held: { 0 < length units.items → (S.state store).length ≡ head.size },
 }

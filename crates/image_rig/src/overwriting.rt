@@ -1,6 +1,7 @@
 //! Stored blocks changed without a command.
 
 ghost use Rattle.std.specs.Prelude.{◌≡◌, ◌+◌, ◌<◌, ◌≤◌, IsOk, OnErr, OnOk, false, length, take, drop, true};
+ghost use Rattle.dix_base.specs.Stores.{WasWritten};
 ghost use Rattle.dix_base.specs.Told.{Apart, Becomes, Rose, over};
 ghost use Rattle.image_rig.specs.Changes.{IsChanged, altered_by};
 ghost use Rattle.image_layout.specs.Places.{block_len, block_place};
@@ -33,15 +34,12 @@ fn overwrite_block<S: Store>(
     change: &Change,
     block: &mut [u8],
 ) -> Result<(), Failed>
-    requires source { from + length block.old ≤ S.len store.old }
-    requires target { to + length block.old ≤ S.len store.old }
-    ensures changed { OnOk result (Becomes (λ was is. is ≡ over to (altered_by change.now (take (length block.old) (drop from was))) was) (S.bytes store.old) (S.bytes store.new)) }
-    ensures apart { Becomes (Apart to (length block.old)) (S.bytes store.old) (S.bytes store.new) }
-    ensures cause { OnErr result (Rose (S.faults store.old) (S.faults store.new)) }
-    ensures length { S.len store.new ≡ S.len store.old }
-    ensures count { S.faults store.old ≤ S.faults store.new }
-    ensures named { S.handed store.new ≡ S.handed store.old }
-    ensures opened { S.openings store.new ≡ S.openings store.old }
+    requires source { from + length block.old ≤ (S.state store.old).length }
+    requires target { to + length block.old ≤ (S.state store.old).length }
+    ensures changed { OnOk result (Becomes (λ was is. is ≡ over to (altered_by change.now (take (length block.old) (drop from was))) was) (S.state store.old).bytes (S.state store.new).bytes) }
+    ensures apart { Becomes (Apart to (length block.old)) (S.state store.old).bytes (S.state store.new).bytes }
+    ensures cause { OnErr result (Rose (S.state store.old).faults (S.state store.new).faults) }
+    ensures stays { WasWritten (S.state store.old) (S.state store.new) }
 {
     store.read_at(from, block)?;
     alter(change, block);
@@ -59,16 +57,13 @@ pub(crate) fn change_block<S: Store>(
     requires layout { is_layout units.now ≡ true }
     requires device { dev < length units.now }
     requires source { source_of change.now dev < length units.now }
-    requires held { S.len store.old ≡ image_size units.now }
+    requires held { (S.state store.old).length ≡ image_size units.now }
     ensures changed { can_change_in units.now dev lba change.now ≡ true
-        → OnOk result (Becomes (IsChanged units.now dev lba change.now) (S.bytes store.old) (S.bytes store.new)) }
-    ensures apart { Becomes (Apart (block_place units.now dev lba) (block_len units.now dev)) (S.bytes store.old) (S.bytes store.new) }
-    ensures nowhere { can_change_in units.now dev lba change.now ≡ false → IsOk result × (S.faults store.new ≡ S.faults store.old) }
-    ensures cause { OnErr result (Rose (S.faults store.old) (S.faults store.new)) }
-    ensures length { S.len store.new ≡ S.len store.old }
-    ensures count { S.faults store.old ≤ S.faults store.new }
-    ensures named { S.handed store.new ≡ S.handed store.old }
-    ensures opened { S.openings store.new ≡ S.openings store.old }
+        → OnOk result (Becomes (IsChanged units.now dev lba change.now) (S.state store.old).bytes (S.state store.new).bytes) }
+    ensures apart { Becomes (Apart (block_place units.now dev lba) (block_len units.now dev)) (S.state store.old).bytes (S.state store.new).bytes }
+    ensures nowhere { can_change_in units.now dev lba change.now ≡ false → IsOk result × ((S.state store.new).faults ≡ (S.state store.old).faults) }
+    ensures cause { OnErr result (Rose (S.state store.old).faults (S.state store.new).faults) }
+    ensures stays { WasWritten (S.state store.old) (S.state store.new) }
 {
     if !can_change(units, dev, lba, change) {
         return Ok(());

@@ -5,7 +5,7 @@ ghost use Rattle.target_answer.specs.Headers.{image_size};
 ghost use Rattle.image_layout.specs.Places.{block_len};
 ghost use Rattle.image_blocks.specs.Images.{units_open};
 ghost use Rattle.image_blocks.specs.Places.{IsStretch};
-ghost use Rattle.image_walk.specs.Stores.{WasRead, held};
+ghost use Rattle.dix_base.specs.Stores.{WasRead};
 ghost use Rattle.image_show.specs.Shown.{ShowEnds, lines_of, text_of};
 
 use crate::fault::ShowFault;
@@ -24,12 +24,10 @@ fn show_piece<S: Store, O: Sink>(
 ) -> Result<u32, ShowFault>
     requires place { IsStretch (units_open image.now) at }
     requires room { length into.old ≡ at.count * block_len (units_open image.now) at.dev }
-    requires held { S.len store.old ≡ image_size (units_open image.now) }
-    ensures shown { ShowEnds result (lines_of (units_open image.now) at) (units_open image.now) at (S.bytes store.old)
-        (S.faults store.old) (S.faults store.new) (O.faults out.old) (O.faults out.new) (O.taken out.old) (O.taken out.new) }
-    ensures store { WasRead
-        (held (S.bytes store.old) (S.len store.old) (S.faults store.old) (S.handed store.old) (S.openings store.old))
-        (held (S.bytes store.new) (S.len store.new) (S.faults store.new) (S.handed store.new) (S.openings store.new)) }
+    requires held { (S.state store.old).length ≡ image_size (units_open image.now) }
+    ensures shown { ShowEnds result (lines_of (units_open image.now) at) (units_open image.now) at (S.state store.old).bytes
+        (S.state store.old).faults (S.state store.new).faults (O.faults out.old) (O.faults out.new) (O.taken out.old) (O.taken out.new) }
+    ensures store { WasRead (S.state store.old) (S.state store.new) }
     ensures sinks { O.faults out.old ≤ O.faults out.new }
 {
     match read_blocks(store, image, at, into) {
@@ -54,12 +52,10 @@ fn show_lines<S: Store, O: Sink>(
 ) -> Result<u32, ShowFault>
     requires place { IsStretch (units_open image.now) place }
     requires least { 4104 ≤ length room.old }
-    requires held { S.len store.old ≡ image_size (units_open image.now) }
-    ensures shown { ShowEnds result (lines_of (units_open image.now) place) (units_open image.now) place (S.bytes store.old)
-        (S.faults store.old) (S.faults store.new) (O.faults out.old) (O.faults out.new) (O.taken out.old) (O.taken out.new) }
-    ensures store { WasRead
-        (held (S.bytes store.old) (S.len store.old) (S.faults store.old) (S.handed store.old) (S.openings store.old))
-        (held (S.bytes store.new) (S.len store.new) (S.faults store.new) (S.handed store.new) (S.openings store.new)) }
+    requires held { (S.state store.old).length ≡ image_size (units_open image.now) }
+    ensures shown { ShowEnds result (lines_of (units_open image.now) place) (units_open image.now) place (S.state store.old).bytes
+        (S.state store.old).faults (S.state store.new).faults (O.faults out.old) (O.faults out.new) (O.taken out.old) (O.taken out.new) }
+    ensures store { WasRead (S.state store.old) (S.state store.new) }
     ensures sinks { O.faults out.old ≤ O.faults out.new }
 {
     let len = block_bytes(image, place.dev);
@@ -89,12 +85,10 @@ fn show_all<S: Store, O: Sink>(
 ) -> Result<u32, ShowFault>
     requires place { IsStretch (units_open image.now) place }
     requires least { 4104 ≤ length room.old }
-    requires held { S.len store.old ≡ image_size (units_open image.now) }
-    ensures shown { ShowEnds result (text_of (units_open image.now) place) (units_open image.now) place (S.bytes store.old)
-        (S.faults store.old) (S.faults store.new) (O.faults out.old) (O.faults out.new) (O.taken out.old) (O.taken out.new) }
-    ensures store { WasRead
-        (held (S.bytes store.old) (S.len store.old) (S.faults store.old) (S.handed store.old) (S.openings store.old))
-        (held (S.bytes store.new) (S.len store.new) (S.faults store.new) (S.handed store.new) (S.openings store.new)) }
+    requires held { (S.state store.old).length ≡ image_size (units_open image.now) }
+    ensures shown { ShowEnds result (text_of (units_open image.now) place) (units_open image.now) place (S.state store.old).bytes
+        (S.state store.old).faults (S.state store.new).faults (O.faults out.old) (O.faults out.new) (O.taken out.old) (O.taken out.new) }
+    ensures store { WasRead (S.state store.old) (S.state store.new) }
     ensures sinks { O.faults out.old ≤ O.faults out.new }
 {
     match write_first(out) {
@@ -126,12 +120,10 @@ pub fn show_blocks<S: Store, O: Sink>(
 ) -> Result<u32, ShowFault>
     requires place { IsStretch (units_open image.now) place }
     requires least { 4104 ≤ length room.old }
-    requires held { S.len store.old ≡ image_size (units_open image.now) }
-    ensures shown { ShowEnds result (text_of (units_open image.now) place) (units_open image.now) place (S.bytes store.old)
-        (S.faults store.old) (S.faults store.new) (O.faults out.old) (O.faults out.new) (O.taken out.old) (O.taken out.new) }
-    ensures store { WasRead
-        (held (S.bytes store.old) (S.len store.old) (S.faults store.old) (S.handed store.old) (S.openings store.old))
-        (held (S.bytes store.new) (S.len store.new) (S.faults store.new) (S.handed store.new) (S.openings store.new)) }
+    requires held { (S.state store.old).length ≡ image_size (units_open image.now) }
+    ensures shown { ShowEnds result (text_of (units_open image.now) place) (units_open image.now) place (S.state store.old).bytes
+        (S.state store.old).faults (S.state store.new).faults (O.faults out.old) (O.faults out.new) (O.taken out.old) (O.taken out.new) }
+    ensures store { WasRead (S.state store.old) (S.state store.new) }
     ensures sinks { O.faults out.old ≤ O.faults out.new }
 {
     let ended = show_all(store, image, place, room, out);

@@ -1,11 +1,10 @@
--- Walks along a stretch: what lies in a room, what is left, a text of which nothing was written, and what a store keeps.
-use Rattle.std.proofs.Common.{◌≡◌, ℕ, ◌*◌, ◌/◌, ◌≤◌, List, refl, ap, ◌∙◌, arith}
+-- Walks along a stretch: what lies in a room, what is left, and a text of which nothing was written.
+use Rattle.std.proofs.Common.{◌≡◌, ℕ, ◌*◌, ◌/◌, ◌≤◌, List, ap, arith}
 use Rattle.std.proofs.Math.Nat.{mul-div-le, mul-le-mul_left, mul_comm}
 use Rattle.std.specs.Prelude.{min}
 use Rattle.target_answer.specs.declared.units.UnitSpec.{UnitSpec}
 use Rattle.image_blocks.specs.declared.stretch.Stretch.{Stretch}
 use Rattle.image_blocks.specs.Places.{IsStretch, behind_in, front_in}
-use Rattle.image_walk.specs.Stores.{Held, WasRead, WasWritten}
 
 -- as many blocks as a room holds lie in it
 pub in_room : (piece left : Stretch) (most room len : ℕ) → piece ≡ front_in left most → most ≡ min (room / len) 65536 → piece.count * len ≤ room
@@ -22,17 +21,3 @@ front_is us s most h = let b = h.last in record { device = h.device; first = h.f
 
 pub behind_is : (us : List UnitSpec) (s : Stretch) (n : ℕ) → IsStretch us s → n ≤ s.count → IsStretch us (behind_in s n)
 behind_is us s n h c = let a = h.first in let b = h.last in record { device = h.device; first = omega arith; last = omega arith }
-
--- ---- what a store keeps, from moment to moment
-
-pub not_read : (h : Held) → WasRead h h
-not_read h = record { same = refl; len = refl; count = omega arith; named = refl; opened = refl }
-
-pub read_on : (a b c : Held) → WasRead a b → WasRead b c → WasRead a c
-read_on a b c p q = let i = p.count in let j = q.count in record { same = q.same ∙ p.same; len = q.len ∙ p.len; count = omega arith; named = q.named ∙ p.named; opened = q.opened ∙ p.opened }
-
-pub not_written : (h : Held) → WasWritten h h
-not_written h = record { len = refl; count = omega arith; named = refl; opened = refl }
-
-pub written_on : (a b c : Held) → WasWritten a b → WasWritten b c → WasWritten a c
-written_on a b c p q = let i = p.count in let j = q.count in record { len = q.len ∙ p.len; count = omega arith; named = q.named ∙ p.named; opened = q.opened ∙ p.opened }

@@ -1,5 +1,4 @@
-//! Walks along a stretch of an image's blocks, by as many blocks at a time as a room holds: what such a walk keeps of
-//! the store, and how much of it lies in the room.
+//! Walks along a stretch of an image's blocks, by as many blocks at a time as a room holds: how much of it lies there.
 #![tactic(auto)]
 
 ghost use Rattle.std.specs.Prelude.{◌≡◌, ◌/◌, ◌<◌, min};

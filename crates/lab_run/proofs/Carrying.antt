@@ -1,5 +1,6 @@
 -- What follows from a verdict with its cause.
 use Rattle.std.proofs.Common.{ℕ, ◌≡◌, ◌⊎◌, inl, inr, Bool, true, false, ltb, List, length, Option, Some, None, Result, Ok, Err, refl, sym, ap, subst, ◌∙◌}
+use Rattle.dix_base.specs.Stores.{StoreState}
 use Rattle.dix_base.specs.Told.{Calm, Rose}
 use Rattle.dix_base.proofs.Counts.{never_rose}
 use Rattle.image_blocks.specs.declared.stretch.PlaceFault.{PlaceFault}
@@ -19,7 +20,7 @@ use Rattle.rig_api.specs.declared.rig.RigFault.{RigFault}
 use Rattle.rig_api.proofs.HeadLaws.{headed}
 use Rattle.target_answer.specs.declared.units.UnitSpec.{UnitSpec}
 use Rattle.lab_words.specs.Grammar.{command_in}
-use Rattle.lab_run.specs.Calls.{Facts, Held, laid_as, second_in, stretch_in, uses_rig, uses_second}
+use Rattle.lab_run.specs.Calls.{Facts, laid_as, second_in, stretch_in, uses_rig, uses_second}
 use Rattle.lab_run.specs.Headline.{AreCalm, CameTo, Carries, Causes, DoneBy, IsAtFault, IsBadHead, IsComplete, IsDone, IsDumpAtFault, IsNoPlace, IsNoTuples, IsOtherLength, IsReady, IsRight, IsSecondWrong, IsWrong, IsWrongDump, StoreRose, Wrote, dump_len, layout_named, place_named}
 use Rattle.lab_run.specs.Outcomes.{BadImage, BadInput, Done, Ending, Found, NoMemory, Outcome, RigFailed, SourceFailed, ending_status}
 use Rattle.lab_run.specs.Texts.{status_of}
@@ -565,7 +566,7 @@ right_head (Some Explain) image x f i e = absurd i
 right_head (Some (Sweep byte units)) image x f i e = absurd i
 
 -- the units that were opened are those of the image that is told
-units_told : (name : List ℕ) (old new : Held) (image : List ℕ) (us : List UnitSpec) → old.bytes ≡ Some image → OpenedAs us name old new → us ≡ units_of (head_of image)
+units_told : (name : List ℕ) (old new : StoreState) (image : List ℕ) (us : List UnitSpec) → old.bytes ≡ Some image → OpenedAs us name old new → us ≡ units_of (head_of image)
 units_told name old new image us b o = o.units ∙ ap units_of (headed o.head image old.bytes b o.told)
 
 told_units : (f : Facts) (image : List ℕ) (us : List UnitSpec) → f.first.bytes ≡ Some image → HasOpened us f → us ≡ units_of (head_of image)
@@ -674,7 +675,7 @@ right_reads (Some (Sweep byte units)) image f i e = i
 
 -- ---- two images that can be compared
 
-bad_none : (name : List ℕ) (old new : Held) (image : List ℕ) (x : RigFault) → old.bytes ≡ Some image → BadHeadOf x name old new → head_fault (head_of image) ≡ None → ⊥
+bad_none : (name : List ℕ) (old new : StoreState) (image : List ℕ) (x : RigFault) → old.bytes ≡ Some image → BadHeadOf x name old new → head_fault (head_of image) ≡ None → ⊥
 bad_none name old new image x b h r = let e : ◌≡◌ {A = Option RigFault} (Some x) None = sym h.judged ∙ ap head_fault (headed h.head image old.bytes b h.told) ∙ r in absurd (cc)
 
 -- a place that was found in both is the same

@@ -2,7 +2,7 @@
 use Rattle.std.proofs.Common.{ℕ, ◌≡◌, ◌≤◌, inl, inr, Bool, true, false, eqb, ltb, List, Option, Some, Result, Ok, Err, refl, sym, ap, subst, ◌∙◌, arith}
 use Rattle.std.proofs.lemmas.Bool.{eq-eqb, eqb-true}
 use Rattle.unit_words.specs.Words.{image_in}
-use Rattle.image_walk.specs.Stores.{WasRead}
+use Rattle.dix_base.specs.Stores.{StoreState, WasRead}
 use Rattle.image_blocks.specs.Blocks.{HasBlocks}
 use Rattle.image_blocks.specs.Images.{units_open}
 use Rattle.image_blocks.specs.Places.{spec_of}
@@ -19,7 +19,7 @@ use Rattle.rig_api.specs.declared.rig.RigFault.TheVariants as head
 use Rattle.rig_api.specs.State.{RigState}
 use Rattle.target_answer.specs.declared.units.UnitSpec.{UnitSpec}
 use Rattle.lab_words.specs.Grammar.{command_in}
-use Rattle.lab_run.specs.Calls.{Facts, Held, OpenedOnce, on_both, second_in, stretch_in, uses_second}
+use Rattle.lab_run.specs.Calls.{Facts, OpenedOnce, on_both, second_in, stretch_in, uses_second}
 use Rattle.lab_run.specs.Texts.{refusal_of, refusal_text, second_refusal_of, status_of}
 use Rattle.lab_run.specs.Verdict.{CauseByCommand, CauseNotCompared, Compared, Ended, HasCompared, HasFirst, HaveBoth, Keeps, OpenedAs, Written, compared_status, done_status}
 use Rattle.lab_run.specs.declared.refusal.Refusal.{Refusal}
@@ -29,28 +29,28 @@ use Rattle.lab_run.proofs.Endings.{Tried, ended_refused, keeps_image, keeps_rig,
 use Rattle.target_model.proofs.Bytes.{rise as rose_since}
 
 -- what a store is like that was opened, or wasn't
-pub record Kept (name : List ℕ) (old new : Held) : Type 0 where
+pub record Kept (name : List ℕ) (old new : StoreState) : Type 0 where
   pub same : new.bytes ≡ old.bytes
   pub opening : OpenedOnce name old new
   pub count : old.faults ≤ new.faults
 
-pub still : (name : List ℕ) (h : Held) → Kept name h h
+pub still : (name : List ℕ) (h : StoreState) → Kept name h h
 still name h = record { same = refl; opening = inl (refl, refl); count = omega arith }
 
-pub since_tried : (r : Result Image RigFault) (name : List ℕ) (old new : Held) → Tried r name old new → Kept name old new
+pub since_tried : (r : Result Image RigFault) (name : List ℕ) (old new : StoreState) → Tried r name old new → Kept name old new
 since_tried r name old new t = record { same = t.same; opening = t.opening; count = t.count }
 
-since_read : (image : Image) (name : List ℕ) (old mid new : Held) → Tried (Ok image) name old mid → WasRead mid new → Kept name old new
+since_read : (image : Image) (name : List ℕ) (old mid new : StoreState) → Tried (Ok image) name old mid → WasRead mid new → Kept name old new
 since_read image name old mid new t g = record { same = g.same ∙ t.same; opening = rw (g.named, g.opened) t.opening; count = (let a = t.count in let b = g.count in omega (arith, a, b)) }
 
 -- the image that was opened, after its blocks were read
-opened_since : (image : Image) (name : List ℕ) (old mid new : Held) → Tried (Ok image) name old mid → WasRead mid new → OpenedAs (units_open image) name old new
+opened_since : (image : Image) (name : List ℕ) (old mid new : StoreState) → Tried (Ok image) name old mid → WasRead mid new → OpenedAs (units_open image) name old new
 opened_since image name old mid new t g = record { opened = rw (g.named, g.opened) t.opened; head = t.judged.head; right = t.judged.judged; told = t.judged.told; units = t.judged.units }
 
-pub opened_in : (image : Image) (name : List ℕ) (old new : Held) → Tried (Ok image) name old new → OpenedAs (units_open image) name old new
+pub opened_in : (image : Image) (name : List ℕ) (old new : StoreState) → Tried (Ok image) name old new → OpenedAs (units_open image) name old new
 opened_in image name old new t = record { opened = t.opened; head = t.judged.head; right = t.judged.judged; told = t.judged.told; units = t.judged.units }
 
-keeps_both : (words : List (List ℕ)) (one other : Place) (old new old_second new_second : Held) (left : Option (List ℕ)) (reads : ℕ) (rig : RigState) → command_in words ≡ Some (Diff one other) → Kept (image_in words) old new → Kept (second_in words) old_second new_second →
+keeps_both : (words : List (List ℕ)) (one other : Place) (old new old_second new_second : StoreState) (left : Option (List ℕ)) (reads : ℕ) (rig : RigState) → command_in words ≡ Some (Diff one other) → Kept (image_in words) old new → Kept (second_in words) old_second new_second →
     Keeps (on_both words old new old_second new_second left reads rig)
 keeps_both words one other old new old_second new_second left reads rig e k s =
     let f = on_both words old new old_second new_second left reads rig in
@@ -63,7 +63,7 @@ keeps_both words one other old new old_second new_second left reads rig e k s =
       count = k.count;
     }
 
-pub uncompared : (words : List (List ℕ)) (one other : Place) (old new old_second new_second : Held) (left : Option (List ℕ)) (reads : ℕ) (rig : RigState) (r : Refusal) (taken taken' : Option (List ℕ)) (o n : ℕ) (result : Status) →
+pub uncompared : (words : List (List ℕ)) (one other : Place) (old new old_second new_second : StoreState) (left : Option (List ℕ)) (reads : ℕ) (rig : RigState) (r : Refusal) (taken taken' : Option (List ℕ)) (o n : ℕ) (result : Status) →
     command_in words ≡ Some (Diff one other) → CauseNotCompared one other r (on_both words old new old_second new_second left reads rig) → Kept (image_in words) old new → Kept (second_in words) old_second new_second →
     Written (status_of r) (refusal_text r) taken taken' o n result → Ended (on_both words old new old_second new_second left reads rig) taken taken' o n result
 uncompared words one other old new old_second new_second left reads rig r taken taken' o n result e cause k s w =
@@ -86,13 +86,13 @@ second_refused one other us at head.BadLength f h t = record { units = us; at = 
 second_refused one other us at head.Failed f h t = inr (t.failed refl)
 second_refused one other us at head.Memory f h t = tt
 
-pub no_first : (words : List (List ℕ)) (one other : Place) (old new second : Held) (left : Option (List ℕ)) (reads : ℕ) (rig : RigState) (x : RigFault) (r : Refusal) (taken taken' : Option (List ℕ)) (o n : ℕ) (result : Status) →
+pub no_first : (words : List (List ℕ)) (one other : Place) (old new second : StoreState) (left : Option (List ℕ)) (reads : ℕ) (rig : RigState) (x : RigFault) (r : Refusal) (taken taken' : Option (List ℕ)) (o n : ℕ) (result : Status) →
     command_in words ≡ Some (Diff one other) → r ≡ refusal_of x → Tried (Err x) (image_in words) old new → Written (status_of r) (refusal_text r) taken taken' o n result → Ended (on_both words old new second second left reads rig) taken taken' o n result
 no_first words one other old new second left reads rig x r taken taken' o n result e s t w =
     let f = on_both words old new second second left reads rig in
     uncompared words one other old new second second left reads rig r taken taken' o n result e (subst (λ (y : Refusal). CauseNotCompared one other y f) (sym s) (first_refused one other x f t)) (since_tried (Err x) (image_in words) old new t) (still (second_in words) second) w
 
-pub no_second : (words : List (List ℕ)) (one other : Place) (old new old_second new_second : Held) (left : Option (List ℕ)) (reads : ℕ) (rig : RigState) (image : Image) (at : Stretch) (x : RigFault) (r : Refusal) (taken taken' : Option (List ℕ)) (o n : ℕ) (result : Status) →
+pub no_second : (words : List (List ℕ)) (one other : Place) (old new old_second new_second : StoreState) (left : Option (List ℕ)) (reads : ℕ) (rig : RigState) (image : Image) (at : Stretch) (x : RigFault) (r : Refusal) (taken taken' : Option (List ℕ)) (o n : ℕ) (result : Status) →
     command_in words ≡ Some (Diff one other) → Tried (Ok image) (image_in words) old new → Ok at ≡ stretch_in (units_open image) one → r ≡ second_refusal_of x → Tried (Err x) (second_in words) old_second new_second →
     Written (status_of r) (refusal_text r) taken taken' o n result → Ended (on_both words old new old_second new_second left reads rig) taken taken' o n result
 no_second words one other old new old_second new_second left reads rig image at x r taken taken' o n result e i p s t w =
@@ -104,13 +104,13 @@ no_second words one other old new old_second new_second left reads rig image at 
 -- ---- places that can't be compared
 
 -- both images were opened and have their places
-pub record Found (words : List (List ℕ)) (one other : Place) (old new old_second new_second : Held) (image beside : Image) (at to : Stretch) : Type 0 where
+pub record Found (words : List (List ℕ)) (one other : Place) (old new old_second new_second : StoreState) (image beside : Image) (at to : Stretch) : Type 0 where
   pub first : Tried (Ok image) (image_in words) old new
   pub there : Ok at ≡ stretch_in (units_open image) one
   pub second : Tried (Ok beside) (second_in words) old_second new_second
   pub other_there : Ok to ≡ stretch_in (units_open beside) other
 
-both_found : (words : List (List ℕ)) (one other : Place) (old new old_second new_second : Held) (left : Option (List ℕ)) (reads : ℕ) (rig : RigState) (image beside : Image) (at to : Stretch) → Found words one other old new old_second new_second image beside at to →
+both_found : (words : List (List ℕ)) (one other : Place) (old new old_second new_second : StoreState) (left : Option (List ℕ)) (reads : ℕ) (rig : RigState) (image beside : Image) (at to : Stretch) → Found words one other old new old_second new_second image beside at to →
     HaveBoth one other (places (units_open image) at (units_open beside) to) (on_both words old new old_second new_second left reads rig)
 both_found words one other old new old_second new_second left reads rig image beside at to h = record {
   first = record { opened = opened_in image (image_in words) old new h.first; there = sym h.there };
@@ -118,7 +118,7 @@ both_found words one other old new old_second new_second left reads rig image be
   there = sym h.other_there;
 }
 
-pub other_size : (words : List (List ℕ)) (one other : Place) (old new old_second new_second : Held) (left : Option (List ℕ)) (reads : ℕ) (rig : RigState) (image beside : Image) (at to : Stretch) (b : Bool) (taken taken' : Option (List ℕ)) (o n : ℕ) (result : Status) →
+pub other_size : (words : List (List ℕ)) (one other : Place) (old new old_second new_second : StoreState) (left : Option (List ℕ)) (reads : ℕ) (rig : RigState) (image beside : Image) (at to : Stretch) (b : Bool) (taken taken' : Option (List ℕ)) (o n : ℕ) (result : Status) →
     command_in words ≡ Some (Diff one other) → Found words one other old new old_second new_second image beside at to → b ≡ eqb (spec_of (units_open image) at.dev).size (spec_of (units_open beside) to.dev).size → b ≡ false →
     Written (status_of refusal.OtherSize) (refusal_text refusal.OtherSize) taken taken' o n result → Ended (on_both words old new old_second new_second left reads rig) taken taken' o n result
 other_size words one other old new old_second new_second left reads rig image beside at to b taken taken' o n result e h q z w =
@@ -130,7 +130,7 @@ other_size words one other old new old_second new_second left reads rig image be
     })
     (since_tried (Ok image) (image_in words) old new h.first) (since_tried (Ok beside) (second_in words) old_second new_second h.second) w
 
-pub other_count : (words : List (List ℕ)) (one other : Place) (old new old_second new_second : Held) (left : Option (List ℕ)) (reads : ℕ) (rig : RigState) (image beside : Image) (at to : Stretch) (b : Bool) (taken taken' : Option (List ℕ)) (o n : ℕ) (result : Status) →
+pub other_count : (words : List (List ℕ)) (one other : Place) (old new old_second new_second : StoreState) (left : Option (List ℕ)) (reads : ℕ) (rig : RigState) (image beside : Image) (at to : Stretch) (b : Bool) (taken taken' : Option (List ℕ)) (o n : ℕ) (result : Status) →
     command_in words ≡ Some (Diff one other) → Found words one other old new old_second new_second image beside at to → b ≡ eqb (spec_of (units_open image) at.dev).size (spec_of (units_open beside) to.dev).size → b ≡ true → (at.count ≡ to.count → ⊥) →
     Written (status_of refusal.OtherCount) (refusal_text refusal.OtherCount) taken taken' o n result → Ended (on_both words old new old_second new_second left reads rig) taken taken' o n result
 other_count words one other old new old_second new_second left reads rig image beside at to b taken taken' o n result e h q z m w =
@@ -146,11 +146,11 @@ other_count words one other old new old_second new_second left reads rig image b
 -- ---- places that are compared
 
 -- both stores as the images were opened, and after their blocks were read
-pub record Walked (mid new mid_second new_second : Held) : Type 0 where
+pub record Walked (mid new mid_second new_second : StoreState) : Type 0 where
   pub first : WasRead mid new
   pub second : WasRead mid_second new_second
 
-has_compared : (words : List (List ℕ)) (one other : Place) (old mid new old_second mid_second new_second : Held) (left : Option (List ℕ)) (reads : ℕ) (rig : RigState) (image beside : Image) (at to : Stretch) (ones twos : List (List ℕ)) →
+has_compared : (words : List (List ℕ)) (one other : Place) (old mid new old_second mid_second new_second : StoreState) (left : Option (List ℕ)) (reads : ℕ) (rig : RigState) (image beside : Image) (at to : Stretch) (ones twos : List (List ℕ)) →
     command_in words ≡ Some (Diff one other) → Found words one other old mid old_second mid_second image beside at to → Walked mid new mid_second new_second →
     (spec_of (units_open image) at.dev).size ≡ (spec_of (units_open beside) to.dev).size → at.count ≡ to.count → HaveBlocks (places (units_open image) at (units_open beside) to) ones twos mid.bytes mid_second.bytes →
     HasCompared (places (units_open image) at (units_open beside) to) ones twos (on_both words old new old_second new_second left reads rig)
@@ -171,7 +171,7 @@ has_compared words one other old mid new old_second mid_second new_second left r
   };
 }
 
-pub compared : (words : List (List ℕ)) (one other : Place) (old mid new old_second mid_second new_second : Held) (left : Option (List ℕ)) (reads : ℕ) (rig : RigState) (image beside : Image) (at to : Stretch) (r : Result ℕ DiffFault) (taken taken' : Option (List ℕ)) (o n : ℕ) (result : Status) →
+pub compared : (words : List (List ℕ)) (one other : Place) (old mid new old_second mid_second new_second : StoreState) (left : Option (List ℕ)) (reads : ℕ) (rig : RigState) (image beside : Image) (at to : Stretch) (r : Result ℕ DiffFault) (taken taken' : Option (List ℕ)) (o n : ℕ) (result : Status) →
     command_in words ≡ Some (Diff one other) → Found words one other old mid old_second mid_second image beside at to → Walked mid new mid_second new_second →
     (spec_of (units_open image) at.dev).size ≡ (spec_of (units_open beside) to.dev).size → at.count ≡ to.count →
     DiffEnds r (diff_of (places (units_open image) at (units_open beside) to)) (places (units_open image) at (units_open beside) to) mid.bytes mid_second.bytes (counts mid.faults new.faults mid_second.faults new_second.faults o n) taken taken' → result ≡ compared_status r →

@@ -4,7 +4,7 @@ use Rattle.std.proofs.lemmas.List.{take-take}
 use Rattle.std.proofs.Math.Nat.{mul-le-mul_left, mul_comm}
 use Rattle.dix_base.specs.Told.{Becomes, IsAtEnd}
 use Rattle.unit_words.specs.Words.{image_in}
-use Rattle.image_walk.specs.Stores.{WasRead, WasWritten}
+use Rattle.dix_base.specs.Stores.{StoreState, WasRead, WasWritten}
 use Rattle.image_blocks.specs.Blocks.{HasBlocks, blocks_at}
 use Rattle.image_blocks.specs.Images.{units_open}
 use Rattle.image_blocks.specs.Places.{spec_of}
@@ -33,7 +33,7 @@ use Rattle.target_answer.specs.declared.units.UnitSpec.{UnitSpec}
 use Rattle.target_model.specs.Served.{AllLong}
 use Rattle.target_model.proofs.Bytes.{rise as rose_since}
 use Rattle.lab_words.specs.Grammar.{command_in}
-use Rattle.lab_run.specs.Calls.{Facts, Held, OpenedOnce, laid_as, on_first, on_input, stretch_in}
+use Rattle.lab_run.specs.Calls.{Facts, OpenedOnce, laid_as, on_first, on_input, stretch_in}
 use Rattle.lab_run.specs.Headline.{IsOtherLength}
 use Rattle.lab_run.specs.Texts.{imported_text, refusal_of, refusal_text, status_of}
 use Rattle.lab_run.specs.Verdict.{AreOthersKept, CauseByCommand, CauseNotExported, CauseNotImported, DumpTaken, Ended, Exported, HasBrokenOff, Imported, IsUntouched, Keeps, KeepsAround, KeepsHead, KeepsImage, KeepsSource, Written, dumped_status, halted}
@@ -44,7 +44,7 @@ use Rattle.lab_run.specs.declared.status.Status.TheVariants as status
 use Rattle.lab_run.proofs.Endings.{Tried, ended_refused, keeps_on, keeps_rig, kept_on, on_opened, opened_on}
 
 -- a refusal that leaves the image and the source
-pub refused_still : (words : List (List ℕ)) (c : Command) (old new : Held) (left : Option (List ℕ)) (reads : ℕ) (rig : RigState) (second : Held) (r : Refusal) (taken taken' : Option (List ℕ)) (o n : ℕ) (result : Status) →
+pub refused_still : (words : List (List ℕ)) (c : Command) (old new : StoreState) (left : Option (List ℕ)) (reads : ℕ) (rig : RigState) (second : StoreState) (r : Refusal) (taken taken' : Option (List ℕ)) (o n : ℕ) (result : Status) →
     command_in words ≡ Some c → CauseByCommand (Some c) r (on_first words old new left reads rig second) → new.bytes ≡ old.bytes → OpenedOnce (image_in words) old new → old.faults ≤ new.faults → Written (status_of r) (refusal_text r) taken taken' o n result →
     Ended (on_first words old new left reads rig second) taken taken' o n result
 refused_still words c old new left reads rig second r taken taken' o n result e cause b p k w =
@@ -60,7 +60,7 @@ not_exported place layout head.BadLength f t = record { opened = t.opened; head 
 not_exported place layout head.Failed f t = t.failed refl
 not_exported place layout head.Memory f t = tt
 
-untouched : (words : List (List ℕ)) (old new : Held) (left : Option (List ℕ)) (reads : ℕ) (rig : RigState) (second : Held) → new.bytes ≡ old.bytes → IsUntouched (on_first words old new left reads rig second)
+untouched : (words : List (List ℕ)) (old new : StoreState) (left : Option (List ℕ)) (reads : ℕ) (rig : RigState) (second : StoreState) → new.bytes ≡ old.bytes → IsUntouched (on_first words old new left reads rig second)
 untouched words old new left reads rig second b = record { bytes = b; left = refl; reads = refl }
 
 not_imported : (place : Place) (layout : Layout) (x : RigFault) (f : Facts) → IsUntouched f → Tried (Err x) (image_in f.words) f.first f.first_after → CauseNotImported place layout (refusal_of x) f
@@ -70,13 +70,13 @@ not_imported place layout head.BadLength f u t = (record { opened = t.opened; he
 not_imported place layout head.Failed f u t = inl (t.failed refl, u)
 not_imported place layout head.Memory f u t = u
 
-pub unexported : (words : List (List ℕ)) (place : Place) (layout : Layout) (old new : Held) (left : Option (List ℕ)) (reads : ℕ) (rig : RigState) (second : Held) (x : RigFault) (r : Refusal) (taken taken' : Option (List ℕ)) (o n : ℕ) (result : Status) →
+pub unexported : (words : List (List ℕ)) (place : Place) (layout : Layout) (old new : StoreState) (left : Option (List ℕ)) (reads : ℕ) (rig : RigState) (second : StoreState) (x : RigFault) (r : Refusal) (taken taken' : Option (List ℕ)) (o n : ℕ) (result : Status) →
     command_in words ≡ Some (Export place layout) → r ≡ refusal_of x → Tried (Err x) (image_in words) old new → Written (status_of r) (refusal_text r) taken taken' o n result → Ended (on_first words old new left reads rig second) taken taken' o n result
 unexported words place layout old new left reads rig second x r taken taken' o n result e s t w =
     let f = on_first words old new left reads rig second in
     refused_still words (Export place layout) old new left reads rig second r taken taken' o n result e (subst (λ (y : Refusal). CauseNotExported place layout y f) (sym s) (not_exported place layout x f t)) t.same t.opening t.count w
 
-pub unimported : (words : List (List ℕ)) (place : Place) (layout : Layout) (old new : Held) (left : Option (List ℕ)) (reads : ℕ) (rig : RigState) (second : Held) (x : RigFault) (r : Refusal) (taken taken' : Option (List ℕ)) (o n : ℕ) (result : Status) →
+pub unimported : (words : List (List ℕ)) (place : Place) (layout : Layout) (old new : StoreState) (left : Option (List ℕ)) (reads : ℕ) (rig : RigState) (second : StoreState) (x : RigFault) (r : Refusal) (taken taken' : Option (List ℕ)) (o n : ℕ) (result : Status) →
     command_in words ≡ Some (Import place layout) → r ≡ refusal_of x → Tried (Err x) (image_in words) old new → Written (status_of r) (refusal_text r) taken taken' o n result → Ended (on_first words old new left reads rig second) taken taken' o n result
 unimported words place layout old new left reads rig second x r taken taken' o n result e s t w =
     let f = on_first words old new left reads rig second in
@@ -84,25 +84,25 @@ unimported words place layout old new left reads rig second x r taken taken' o n
     (subst (λ (y : Refusal). CauseNotImported place layout y f) (sym s) (not_imported place layout x f (untouched words old new left reads rig second t.same) t)) t.same t.opening t.count w
 
 -- want of memory for the blocks
-pub spared_export : (words : List (List ℕ)) (place : Place) (layout : Layout) (old : Held) (left : Option (List ℕ)) (reads : ℕ) (rig : RigState) (second : Held) (taken taken' : Option (List ℕ)) (o n : ℕ) (result : Status) →
+pub spared_export : (words : List (List ℕ)) (place : Place) (layout : Layout) (old : StoreState) (left : Option (List ℕ)) (reads : ℕ) (rig : RigState) (second : StoreState) (taken taken' : Option (List ℕ)) (o n : ℕ) (result : Status) →
     command_in words ≡ Some (Export place layout) → Written (status_of refusal.Memory) (refusal_text refusal.Memory) taken taken' o n result → Ended (on_first words old old left reads rig second) taken taken' o n result
 spared_export words place layout old left reads rig second taken taken' o n result e w =
     refused_still words (Export place layout) old old left reads rig second refusal.Memory taken taken' o n result e tt refl (inl (refl, refl)) (omega arith) w
 
-pub spared_import : (words : List (List ℕ)) (place : Place) (layout : Layout) (old : Held) (left : Option (List ℕ)) (reads : ℕ) (rig : RigState) (second : Held) (taken taken' : Option (List ℕ)) (o n : ℕ) (result : Status) →
+pub spared_import : (words : List (List ℕ)) (place : Place) (layout : Layout) (old : StoreState) (left : Option (List ℕ)) (reads : ℕ) (rig : RigState) (second : StoreState) (taken taken' : Option (List ℕ)) (o n : ℕ) (result : Status) →
     command_in words ≡ Some (Import place layout) → Written (status_of refusal.Memory) (refusal_text refusal.Memory) taken taken' o n result → Ended (on_first words old old left reads rig second) taken taken' o n result
 spared_import words place layout old left reads rig second taken taken' o n result e w =
     refused_still words (Import place layout) old old left reads rig second refusal.Memory taken taken' o n result e (untouched words old old left reads rig second refl) refl (inl (refl, refl)) (omega arith) w
 
 -- an image without the place
-pub unplaced_export : (words : List (List ℕ)) (place : Place) (layout : Layout) (old new : Held) (left : Option (List ℕ)) (reads : ℕ) (rig : RigState) (second : Held) (image : Image) (x : PlaceFault) (taken taken' : Option (List ℕ)) (o n : ℕ) (result : Status) →
+pub unplaced_export : (words : List (List ℕ)) (place : Place) (layout : Layout) (old new : StoreState) (left : Option (List ℕ)) (reads : ℕ) (rig : RigState) (second : StoreState) (image : Image) (x : PlaceFault) (taken taken' : Option (List ℕ)) (o n : ℕ) (result : Status) →
     command_in words ≡ Some (Export place layout) → Tried (Ok image) (image_in words) old new → Err x ≡ stretch_in (units_open image) place → Written (status_of (refusal.Place x)) (refusal_text (refusal.Place x)) taken taken' o n result →
     Ended (on_first words old new left reads rig second) taken taken' o n result
 unplaced_export words place layout old new left reads rig second image x taken taken' o n result e t p w =
     let f = on_first words old new left reads rig second in
     refused_still words (Export place layout) old new left reads rig second (refusal.Place x) taken taken' o n result e (record { units = units_open image; opened = opened_on image f t; judged = sym p }) t.same t.opening t.count w
 
-pub unplaced_import : (words : List (List ℕ)) (place : Place) (layout : Layout) (old new : Held) (left : Option (List ℕ)) (reads : ℕ) (rig : RigState) (second : Held) (image : Image) (x : PlaceFault) (taken taken' : Option (List ℕ)) (o n : ℕ) (result : Status) →
+pub unplaced_import : (words : List (List ℕ)) (place : Place) (layout : Layout) (old new : StoreState) (left : Option (List ℕ)) (reads : ℕ) (rig : RigState) (second : StoreState) (image : Image) (x : PlaceFault) (taken taken' : Option (List ℕ)) (o n : ℕ) (result : Status) →
     command_in words ≡ Some (Import place layout) → Tried (Ok image) (image_in words) old new → Err x ≡ stretch_in (units_open image) place → Written (status_of (refusal.Place x)) (refusal_text (refusal.Place x)) taken taken' o n result →
     Ended (on_first words old new left reads rig second) taken taken' o n result
 unplaced_import words place layout old new left reads rig second image x taken taken' o n result e t p w =
@@ -111,14 +111,14 @@ unplaced_import words place layout old new left reads rig second image x taken t
     (record { units = units_open image; opened = opened_on image f t; judged = sym p }, untouched words old new left reads rig second t.same) t.same t.opening t.count w
 
 -- a place without what the layout holds
-pub unfit_export : (words : List (List ℕ)) (place : Place) (layout : Layout) (old new : Held) (left : Option (List ℕ)) (reads : ℕ) (rig : RigState) (second : Held) (image : Image) (at : Stretch) (b : Bool) (taken taken' : Option (List ℕ)) (o n : ℕ) (result : Status) →
+pub unfit_export : (words : List (List ℕ)) (place : Place) (layout : Layout) (old new : StoreState) (left : Option (List ℕ)) (reads : ℕ) (rig : RigState) (second : StoreState) (image : Image) (at : Stretch) (b : Bool) (taken taken' : Option (List ℕ)) (o n : ℕ) (result : Status) →
     command_in words ≡ Some (Export place layout) → Tried (Ok image) (image_in words) old new → Ok at ≡ stretch_in (units_open image) place → b ≡ fits (laid_as layout) (spec_of (units_open image) at.dev).ty → b ≡ false →
     Written (status_of refusal.NoTuples) (refusal_text refusal.NoTuples) taken taken' o n result → Ended (on_first words old new left reads rig second) taken taken' o n result
 unfit_export words place layout old new left reads rig second image at b taken taken' o n result e t p q z w =
     let f = on_first words old new left reads rig second in
     refused_still words (Export place layout) old new left reads rig second refusal.NoTuples taken taken' o n result e (record { units = units_open image; opened = opened_on image f t; at = at; there = sym p; judged = sym q ∙ z }) t.same t.opening t.count w
 
-pub unfit_import : (words : List (List ℕ)) (place : Place) (layout : Layout) (old new : Held) (left : Option (List ℕ)) (reads : ℕ) (rig : RigState) (second : Held) (image : Image) (at : Stretch) (b : Bool) (taken taken' : Option (List ℕ)) (o n : ℕ) (result : Status) →
+pub unfit_import : (words : List (List ℕ)) (place : Place) (layout : Layout) (old new : StoreState) (left : Option (List ℕ)) (reads : ℕ) (rig : RigState) (second : StoreState) (image : Image) (at : Stretch) (b : Bool) (taken taken' : Option (List ℕ)) (o n : ℕ) (result : Status) →
     command_in words ≡ Some (Import place layout) → Tried (Ok image) (image_in words) old new → Ok at ≡ stretch_in (units_open image) place → b ≡ fits (laid_as layout) (spec_of (units_open image) at.dev).ty → b ≡ false →
     Written (status_of refusal.NoTuples) (refusal_text refusal.NoTuples) taken taken' o n result → Ended (on_first words old new left reads rig second) taken taken' o n result
 unfit_import words place layout old new left reads rig second image at b taken taken' o n result e t p q z w =
@@ -128,7 +128,7 @@ unfit_import words place layout old new left reads rig second image at b taken t
 
 -- ---- blocks that are exported
 
-shown_dump : (words : List (List ℕ)) (place : Place) (layout : Layout) (old mid new : Held) (left : Option (List ℕ)) (reads : ℕ) (rig : RigState) (second : Held) (image : Image) (at : Stretch) (r : Result (Unit {0}) DumpFault) (taken taken' : Option (List ℕ)) (o n : ℕ) (result : Status) →
+shown_dump : (words : List (List ℕ)) (place : Place) (layout : Layout) (old mid new : StoreState) (left : Option (List ℕ)) (reads : ℕ) (rig : RigState) (second : StoreState) (image : Image) (at : Stretch) (r : Result (Unit {0}) DumpFault) (taken taken' : Option (List ℕ)) (o n : ℕ) (result : Status) →
     command_in words ≡ Some (Export place layout) → Tried (Ok image) (image_in words) old mid → WasRead mid new → Ok at ≡ stretch_in (units_open image) place → fits (laid_as layout) (spec_of (units_open image) at.dev).ty ≡ true →
     DumpEnds r (laid_as layout) (units_open image) at mid.bytes mid.faults new.faults o n taken taken' → result ≡ dumped_status r → Ended (on_first words old new left reads rig second) taken taken' o n result
 shown_dump words place layout old mid new left reads rig second image at (Ok x) taken taken' o n result e t g p z s w = record {
@@ -165,7 +165,7 @@ shown_dump words place layout old mid new left reads rig second image at (Err du
   kept = keeps_on image words old mid new left reads rig second t g;
 }
 
-pub exported : (words : List (List ℕ)) (place : Place) (layout : Layout) (form : DumpLayout) (old mid new : Held) (left : Option (List ℕ)) (reads : ℕ) (rig : RigState) (second : Held) (image : Image) (at : Stretch) (r : Result (Unit {0}) DumpFault) (taken taken' : Option (List ℕ)) (o n : ℕ) (result : Status) →
+pub exported : (words : List (List ℕ)) (place : Place) (layout : Layout) (form : DumpLayout) (old mid new : StoreState) (left : Option (List ℕ)) (reads : ℕ) (rig : RigState) (second : StoreState) (image : Image) (at : Stretch) (r : Result (Unit {0}) DumpFault) (taken taken' : Option (List ℕ)) (o n : ℕ) (result : Status) →
     form ≡ laid_as layout → command_in words ≡ Some (Export place layout) → Tried (Ok image) (image_in words) old mid → WasRead mid new → Ok at ≡ stretch_in (units_open image) place → fits (laid_as layout) (spec_of (units_open image) at.dev).ty ≡ true →
     DumpEnds r form (units_open image) at mid.bytes mid.faults new.faults o n taken taken' → result ≡ dumped_status r → Ended (on_first words old new left reads rig second) taken taken' o n result
 exported words place layout form old mid new left reads rig second image at r taken taken' o n result fe e t g p z s w =
@@ -175,7 +175,7 @@ exported words place layout form old mid new left reads rig second image at r ta
 -- ---- blocks that are imported
 
 -- the store as the image was opened, and after blocks of a stretch were written, and the source before and after
-pub record Writes (us : List UnitSpec) (at : Stretch) (mid new : Held) (reads reads_after : ℕ) : Type 0 where
+pub record Writes (us : List UnitSpec) (at : Stretch) (mid new : StoreState) (reads reads_after : ℕ) : Type 0 where
   pub apart : KeepsOutside us at mid.bytes new.bytes
   pub store : WasWritten mid new
   pub sources : reads ≤ reads_after
@@ -218,7 +218,7 @@ head_kept us at image image_after p =
     becomes image image_after (λ was is q. sym (take-take 512 place is low) ∙ ap (take 512) q.1 ∙ take-take 512 place was low) p
 
 -- what an import leaves
-taken_by : (words : List (List ℕ)) (place : Place) (layout : Layout) (form : DumpLayout) (most : ℕ) (old mid new : Held) (left left_after : Option (List ℕ)) (reads reads_after : ℕ) (rig : RigState) (second : Held) (image : Image) (at : Stretch) (r : Result ℕ ImportFault) →
+taken_by : (words : List (List ℕ)) (place : Place) (layout : Layout) (form : DumpLayout) (most : ℕ) (old mid new : StoreState) (left left_after : Option (List ℕ)) (reads reads_after : ℕ) (rig : RigState) (second : StoreState) (image : Image) (at : Stretch) (r : Result ℕ ImportFault) →
     form ≡ laid_as layout → most ≡ 65536 → Tried (Ok image) (image_in words) old mid → Writes (units_open image) at mid new reads reads_after → Ok at ≡ stretch_in (units_open image) place → fits (laid_as layout) (spec_of (units_open image) at.dev).ty ≡ true →
     ImportEnds r form (units_open image) at most mid.faults new.faults reads reads_after mid.bytes new.bytes left left_after → DumpTaken r (units_open image) at place layout (on_input words old new left left_after reads reads_after rig second)
 taken_by words place layout form most old mid new left left_after reads reads_after rig second image at r fe me t g p z s = record {
@@ -227,7 +227,7 @@ taken_by words place layout form most old mid new left left_after reads reads_af
     there = sym p;
     fits = z;
   };
-  len = g.store.len ∙ t.judged.held;
+  len = g.store.length ∙ t.judged.held;
   opened_faults = mid.faults;
   since = t.count;
   ends =
@@ -236,7 +236,7 @@ taken_by words place layout form most old mid new left left_after reads reads_af
       subst (λ (x : Option (List ℕ)). ImportEnds r (laid_as layout) (units_open image) at 65536 mid.faults new.faults reads reads_after x new.bytes left left_after) t.same b);
 }
 
-keeps_by : (words : List (List ℕ)) (place : Place) (layout : Layout) (old mid new : Held) (left left_after : Option (List ℕ)) (reads reads_after : ℕ) (rig : RigState) (second : Held) (us : List UnitSpec) (at : Stretch) (image : Image) (r : Result ℕ ImportFault) →
+keeps_by : (words : List (List ℕ)) (place : Place) (layout : Layout) (old mid new : StoreState) (left left_after : Option (List ℕ)) (reads reads_after : ℕ) (rig : RigState) (second : StoreState) (us : List UnitSpec) (at : Stretch) (image : Image) (r : Result ℕ ImportFault) →
     command_in words ≡ Some (Import place layout) → Tried (Ok image) (image_in words) old mid → Writes us at mid new reads reads_after → DumpTaken r us at place layout (on_input words old new left left_after reads reads_after rig second) → Keeps (on_input words old new left left_after reads reads_after rig second)
 keeps_by words place layout old mid new left left_after reads reads_after rig second us at image r e t g d =
     let f = on_input words old new left left_after reads reads_after rig second in
@@ -259,7 +259,7 @@ keeps_by words place layout old mid new left left_after reads reads_after rig se
       count = (let a = t.count in let b = g.store.count in omega arith);
     }
 
-pub imports : (words : List (List ℕ)) (place : Place) (layout : Layout) (form : DumpLayout) (most : ℕ) (old mid new : Held) (left left_after : Option (List ℕ)) (reads reads_after : ℕ) (rig : RigState) (second : Held) (image : Image) (at : Stretch) (count : ℕ) (text : List ℕ) (taken taken' : Option (List ℕ)) (o n : ℕ) (result : Status) →
+pub imports : (words : List (List ℕ)) (place : Place) (layout : Layout) (form : DumpLayout) (most : ℕ) (old mid new : StoreState) (left left_after : Option (List ℕ)) (reads reads_after : ℕ) (rig : RigState) (second : StoreState) (image : Image) (at : Stretch) (count : ℕ) (text : List ℕ) (taken taken' : Option (List ℕ)) (o n : ℕ) (result : Status) →
     form ≡ laid_as layout → most ≡ 65536 → command_in words ≡ Some (Import place layout) → Tried (Ok image) (image_in words) old mid → Writes (units_open image) at mid new reads reads_after → Ok at ≡ stretch_in (units_open image) place → fits (laid_as layout) (spec_of (units_open image) at.dev).ty ≡ true →
     ImportEnds (Ok count) form (units_open image) at most mid.faults new.faults reads reads_after mid.bytes new.bytes left left_after → text ≡ imported_text count → Written status.Whole text taken taken' o n result →
     Ended (on_input words old new left left_after reads reads_after rig second) taken taken' o n result
@@ -278,7 +278,7 @@ broken halt.Long place layout f b = b
 broken halt.Store place layout f b = inr b
 broken halt.Source place layout f b = b
 
-pub halts : (words : List (List ℕ)) (place : Place) (layout : Layout) (form : DumpLayout) (most : ℕ) (old mid new : Held) (left left_after : Option (List ℕ)) (reads reads_after : ℕ) (rig : RigState) (second : Held) (image : Image) (at : Stretch) (x : ImportFault) (r : Refusal) (taken taken' : Option (List ℕ)) (o n : ℕ) (result : Status) →
+pub halts : (words : List (List ℕ)) (place : Place) (layout : Layout) (form : DumpLayout) (most : ℕ) (old mid new : StoreState) (left left_after : Option (List ℕ)) (reads reads_after : ℕ) (rig : RigState) (second : StoreState) (image : Image) (at : Stretch) (x : ImportFault) (r : Refusal) (taken taken' : Option (List ℕ)) (o n : ℕ) (result : Status) →
     form ≡ laid_as layout → most ≡ 65536 → command_in words ≡ Some (Import place layout) → Tried (Ok image) (image_in words) old mid → Writes (units_open image) at mid new reads reads_after → Ok at ≡ stretch_in (units_open image) place → fits (laid_as layout) (spec_of (units_open image) at.dev).ty ≡ true →
     ImportEnds (Err x) form (units_open image) at most mid.faults new.faults reads reads_after mid.bytes new.bytes left left_after → r ≡ halted x → Written (status_of r) (refusal_text r) taken taken' o n result →
     Ended (on_input words old new left left_after reads reads_after rig second) taken taken' o n result

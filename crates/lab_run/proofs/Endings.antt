@@ -1,9 +1,10 @@
 -- The verdicts of `show`.
 use Rattle.std.proofs.Common.{ℕ, ◌≡◌, ◌≤◌, inl, inr, List, Option, Some, None, Result, Ok, Err, refl, sym, ap, subst, ◌∙◌, arith, ltb}
 use Rattle.std.specs.Prelude.{IsErrOf}
+use Rattle.image_layout.specs.Heads.{HasLooked, called}
 use Rattle.dix_base.specs.Told.{Rose}
 use Rattle.unit_words.specs.Words.{image_in}
-use Rattle.image_walk.specs.Stores.{WasRead}
+use Rattle.dix_base.specs.Stores.{StoreState, WasRead}
 use Rattle.image_blocks.specs.Blocks.{HasBlocks}
 use Rattle.image_blocks.specs.Images.{IsJudged, units_open}
 use Rattle.image_blocks.specs.declared.image.Image.{Image}
@@ -21,7 +22,7 @@ use Rattle.rig_api.specs.declared.rig.RigFault.{RigFault}
 use Rattle.rig_api.specs.declared.rig.RigFault.TheVariants as head
 use Rattle.rig_api.specs.State.{RigState}
 use Rattle.lab_words.specs.Grammar.{command_in}
-use Rattle.lab_run.specs.Calls.{Facts, Held, OpenedOnce, called_of, on_first, stretch_in}
+use Rattle.lab_run.specs.Calls.{Facts, OpenedOnce, on_first, stretch_in}
 use Rattle.lab_run.specs.Texts.{refusal_of, refusal_text, status_of}
 use Rattle.lab_run.specs.Verdict.{Cause, CauseByCommand, CauseNotListed, CauseNotShown, Ended, HasOpened, Keeps, KeepsImage, KeepsRig, KeepsSource, Listed, OpensRig, Refused, Shown, Verdict, Written, done_status, shown_status, verdict_status, verdict_text}
 use Rattle.lab_run.specs.declared.refusal.Refusal.{Refusal}
@@ -30,23 +31,22 @@ use Rattle.lab_run.specs.declared.status.Status.{Status}
 use Rattle.target_model.proofs.Bytes.{rise as rose_since}
 
 -- what the opening of an image leaves
-pub record Tried (result : Result Image RigFault) (name : List ℕ) (old new : Held) : Type 0 where
-  pub judged : IsJudged result old.bytes new.len
+pub record Tried (result : Result Image RigFault) (name : List ℕ) (old new : StoreState) : Type 0 where
+  pub judged : IsJudged result old.bytes new.length
   pub failed : IsErrOf result head.Failed → Rose old.faults new.faults
   pub opening : OpenedOnce name old new
-  pub opened : OpenedBy result name (called_of old) (called_of new)
+  pub opened : OpenedBy result name (called old) (called new)
   pub same : new.bytes ≡ old.bytes
   pub count : old.faults ≤ new.faults
 
-pub tried : (result : Result Image RigFault) (name handed : List ℕ) (old new : Held) → handed ≡ name → IsJudged result old.bytes new.len → (IsErrOf result head.Failed → Rose old.faults new.faults) → OpenedOnce handed old new → OpenedBy result handed (called_of old) (called_of new) →
-    new.bytes ≡ old.bytes → old.faults ≤ new.faults → Tried result name old new
-tried result name handed old new e j f o p s k = record {
+pub tried : (result : Result Image RigFault) (name handed : List ℕ) (old new : StoreState) → handed ≡ name → IsJudged result old.bytes new.length → HasLooked result handed old new → Tried result name old new
+tried result name handed old new e j l = record {
   judged = j;
-  failed = f;
-  opening = subst (λ (x : List ℕ). OpenedOnce x old new) e o;
-  opened = subst (λ (x : List ℕ). OpenedBy result x (called_of old) (called_of new)) e p;
-  same = s;
-  count = k;
+  failed = l.failed;
+  opening = subst (λ (x : List ℕ). OpenedOnce x old new) e l.opening;
+  opened = subst (λ (x : List ℕ). OpenedBy result x (called old) (called new)) e l.opened;
+  same = l.same;
+  count = l.count;
 }
 
 pub ended_refused : (f : Facts) (r : Refusal) (taken taken' : Option (List ℕ)) (o n : ℕ) (result : Status) → CauseByCommand (command_in f.words) r f → Keeps f → Written (status_of r) (refusal_text r) taken taken' o n result → Ended f taken taken' o n result
@@ -113,12 +113,12 @@ keeps_image (Some Judge) f b = b
 keeps_image (Some Explain) f b = b
 keeps_image (Some (Sweep byte units)) f b = b
 
-pub kept_on : (words : List (List ℕ)) (old new : Held) (left : Option (List ℕ)) (reads : ℕ) (rig : RigState) (second : Held) → new.bytes ≡ old.bytes → OpenedOnce (image_in words) old new → old.faults ≤ new.faults → Keeps (on_first words old new left reads rig second)
+pub kept_on : (words : List (List ℕ)) (old new : StoreState) (left : Option (List ℕ)) (reads : ℕ) (rig : RigState) (second : StoreState) → new.bytes ≡ old.bytes → OpenedOnce (image_in words) old new → old.faults ≤ new.faults → Keeps (on_first words old new left reads rig second)
 kept_on words old new left reads rig second b o c =
     let f = on_first words old new left reads rig second in
     record { source = keeps_source (command_in words) f refl refl; rig = keeps_rig (command_in words) f refl; second = inl refl; image = keeps_image (command_in words) f b; openings = o; count = c }
 
-pub unlisted : (words : List (List ℕ)) (old new : Held) (left : Option (List ℕ)) (reads : ℕ) (rig : RigState) (second : Held) (x : RigFault) (r : Refusal) (taken taken' : Option (List ℕ)) (o n : ℕ) (result : Status) →
+pub unlisted : (words : List (List ℕ)) (old new : StoreState) (left : Option (List ℕ)) (reads : ℕ) (rig : RigState) (second : StoreState) (x : RigFault) (r : Refusal) (taken taken' : Option (List ℕ)) (o n : ℕ) (result : Status) →
     command_in words ≡ Some ShowUnits → r ≡ refusal_of x → Tried (Err x) (image_in words) old new → Written (status_of r) (refusal_text r) taken taken' o n result → Ended (on_first words old new left reads rig second) taken taken' o n result
 unlisted words old new left reads rig second x r taken taken' o n result e s t w =
     let f = on_first words old new left reads rig second in
@@ -126,7 +126,7 @@ unlisted words old new left reads rig second x r taken taken' o n result e s t w
     (subst (λ (c : Option Command). CauseByCommand c r f) (sym e) (subst (λ (y : Refusal). CauseNotListed y f) (sym s) (not_listed x f t)))
     (kept_on words old new left reads rig second t.same t.opening t.count) w
 
-pub unshown : (words : List (List ℕ)) (place : Place) (old new : Held) (left : Option (List ℕ)) (reads : ℕ) (rig : RigState) (second : Held) (x : RigFault) (r : Refusal) (taken taken' : Option (List ℕ)) (o n : ℕ) (result : Status) →
+pub unshown : (words : List (List ℕ)) (place : Place) (old new : StoreState) (left : Option (List ℕ)) (reads : ℕ) (rig : RigState) (second : StoreState) (x : RigFault) (r : Refusal) (taken taken' : Option (List ℕ)) (o n : ℕ) (result : Status) →
     command_in words ≡ Some (ShowBlocks place) → r ≡ refusal_of x → Tried (Err x) (image_in words) old new → Written (status_of r) (refusal_text r) taken taken' o n result → Ended (on_first words old new left reads rig second) taken taken' o n result
 unshown words place old new left reads rig second x r taken taken' o n result e s t w =
     let f = on_first words old new left reads rig second in
@@ -135,7 +135,7 @@ unshown words place old new left reads rig second x r taken taken' o n result e 
     (kept_on words old new left reads rig second t.same t.opening t.count) w
 
 -- want of memory for the blocks
-pub spared : (words : List (List ℕ)) (place : Place) (old : Held) (left : Option (List ℕ)) (reads : ℕ) (rig : RigState) (second : Held) (taken taken' : Option (List ℕ)) (o n : ℕ) (result : Status) →
+pub spared : (words : List (List ℕ)) (place : Place) (old : StoreState) (left : Option (List ℕ)) (reads : ℕ) (rig : RigState) (second : StoreState) (taken taken' : Option (List ℕ)) (o n : ℕ) (result : Status) →
     command_in words ≡ Some (ShowBlocks place) → Written (status_of refusal.Memory) (refusal_text refusal.Memory) taken taken' o n result → Ended (on_first words old old left reads rig second) taken taken' o n result
 spared words place old left reads rig second taken taken' o n result e w =
     let f = on_first words old old left reads rig second in
@@ -147,7 +147,7 @@ spared words place old left reads rig second taken taken' o n result e w =
 pub opened_on : (image : Image) (f : Facts) → Tried (Ok image) (image_in f.words) f.first f.first_after → HasOpened (units_open image) f
 opened_on image f t = record { opened = t.opened; head = t.judged.head; right = t.judged.judged; told = t.judged.told; units = t.judged.units }
 
-pub listed : (words : List (List ℕ)) (old new : Held) (left : Option (List ℕ)) (reads : ℕ) (rig : RigState) (second : Held) (image : Image) (taken taken' : Option (List ℕ)) (o n : ℕ) (result : Status) →
+pub listed : (words : List (List ℕ)) (old new : StoreState) (left : Option (List ℕ)) (reads : ℕ) (rig : RigState) (second : StoreState) (image : Image) (taken taken' : Option (List ℕ)) (o n : ℕ) (result : Status) →
     command_in words ≡ Some ShowUnits → Tried (Ok image) (image_in words) old new → Written (verdict_status (Listed (units_open image))) (verdict_text (Listed (units_open image))) taken taken' o n result → Ended (on_first words old new left reads rig second) taken taken' o n result
 listed words old new left reads rig second image taken taken' o n result e t w = record {
   verdict = Listed (units_open image);
@@ -157,7 +157,7 @@ listed words old new left reads rig second image taken taken' o n result e t w =
 }
 
 -- an image without the place
-pub unplaced : (words : List (List ℕ)) (place : Place) (old new : Held) (left : Option (List ℕ)) (reads : ℕ) (rig : RigState) (second : Held) (image : Image) (x : PlaceFault) (taken taken' : Option (List ℕ)) (o n : ℕ) (result : Status) →
+pub unplaced : (words : List (List ℕ)) (place : Place) (old new : StoreState) (left : Option (List ℕ)) (reads : ℕ) (rig : RigState) (second : StoreState) (image : Image) (x : PlaceFault) (taken taken' : Option (List ℕ)) (o n : ℕ) (result : Status) →
     command_in words ≡ Some (ShowBlocks place) → Tried (Ok image) (image_in words) old new → Err x ≡ stretch_in (units_open image) place → Written (status_of (refusal.Place x)) (refusal_text (refusal.Place x)) taken taken' o n result →
     Ended (on_first words old new left reads rig second) taken taken' o n result
 unplaced words place old new left reads rig second image x taken taken' o n result e t p w =
@@ -168,7 +168,7 @@ unplaced words place old new left reads rig second image x taken taken' o n resu
 
 -- ---- blocks that are shown
 
-pub on_opened : (image : Image) (words : List (List ℕ)) (old mid new : Held) (left : Option (List ℕ)) (reads : ℕ) (rig : RigState) (second : Held) → Tried (Ok image) (image_in words) old mid → WasRead mid new → HasOpened (units_open image) (on_first words old new left reads rig second)
+pub on_opened : (image : Image) (words : List (List ℕ)) (old mid new : StoreState) (left : Option (List ℕ)) (reads : ℕ) (rig : RigState) (second : StoreState) → Tried (Ok image) (image_in words) old mid → WasRead mid new → HasOpened (units_open image) (on_first words old new left reads rig second)
 on_opened image words old mid new left reads rig second t g = record {
   opened = rw (g.named, g.opened) t.opened;
   head = t.judged.head;
@@ -177,11 +177,11 @@ on_opened image words old mid new left reads rig second t g = record {
   units = t.judged.units;
 }
 
-pub keeps_on : (image : Image) (words : List (List ℕ)) (old mid new : Held) (left : Option (List ℕ)) (reads : ℕ) (rig : RigState) (second : Held) → Tried (Ok image) (image_in words) old mid → WasRead mid new → Keeps (on_first words old new left reads rig second)
+pub keeps_on : (image : Image) (words : List (List ℕ)) (old mid new : StoreState) (left : Option (List ℕ)) (reads : ℕ) (rig : RigState) (second : StoreState) → Tried (Ok image) (image_in words) old mid → WasRead mid new → Keeps (on_first words old new left reads rig second)
 keeps_on image words old mid new left reads rig second t g =
     kept_on words old new left reads rig second (g.same ∙ t.same) (rw (g.named, g.opened) t.opening) (let a = t.count in let b = g.count in omega arith)
 
-pub shown : (words : List (List ℕ)) (place : Place) (old mid new : Held) (left : Option (List ℕ)) (reads : ℕ) (rig : RigState) (second : Held) (image : Image) (at : Stretch) (r : Result ℕ ShowFault) (taken taken' : Option (List ℕ)) (o n : ℕ) (result : Status) →
+pub shown : (words : List (List ℕ)) (place : Place) (old mid new : StoreState) (left : Option (List ℕ)) (reads : ℕ) (rig : RigState) (second : StoreState) (image : Image) (at : Stretch) (r : Result ℕ ShowFault) (taken taken' : Option (List ℕ)) (o n : ℕ) (result : Status) →
     command_in words ≡ Some (ShowBlocks place) → Tried (Ok image) (image_in words) old mid → WasRead mid new → Ok at ≡ stretch_in (units_open image) place →
     ShowEnds r (text_of (units_open image) at) (units_open image) at mid.bytes mid.faults new.faults o n taken taken' → result ≡ shown_status r → Ended (on_first words old new left reads rig second) taken taken' o n result
 shown words place old mid new left reads rig second image at (Ok bad) taken taken' o n result e t g p s w = record {
@@ -205,11 +205,11 @@ shown words place old mid new left reads rig second image at (Err show.Sink) tak
 
 -- ---- calls that touch no image
 
-pub without_image : (words : List (List ℕ)) (h : Held) (left : Option (List ℕ)) (reads : ℕ) (rig : RigState) (second : Held) (v : Verdict) (taken taken' : Option (List ℕ)) (o n : ℕ) (result : Status) →
+pub without_image : (words : List (List ℕ)) (h : StoreState) (left : Option (List ℕ)) (reads : ℕ) (rig : RigState) (second : StoreState) (v : Verdict) (taken taken' : Option (List ℕ)) (o n : ℕ) (result : Status) →
     Cause v (on_first words h h left reads rig second) → Written (verdict_status v) (verdict_text v) taken taken' o n result → Ended (on_first words h h left reads rig second) taken taken' o n result
 without_image words h left reads rig second v taken taken' o n result c w = record { verdict = v; cause = c; written = inl w; kept = kept_on words h h left reads rig second refl (inl (refl, refl)) (omega arith) }
 
-pub no_command : (words : List (List ℕ)) (h : Held) (left : Option (List ℕ)) (reads : ℕ) (rig : RigState) (second : Held) (taken taken' : Option (List ℕ)) (o n : ℕ) (result : Status) →
+pub no_command : (words : List (List ℕ)) (h : StoreState) (left : Option (List ℕ)) (reads : ℕ) (rig : RigState) (second : StoreState) (taken taken' : Option (List ℕ)) (o n : ℕ) (result : Status) →
     command_in words ≡ None → Written (status_of refusal.Words) (refusal_text refusal.Words) taken taken' o n result → Ended (on_first words h h left reads rig second) taken taken' o n result
 no_command words h left reads rig second taken taken' o n result e w =
     without_image words h left reads rig second (Refused refusal.Words) taken taken' o n result (subst (λ (c : Option Command). CauseByCommand c refusal.Words (on_first words h h left reads rig second)) (sym e) refl) w

@@ -1,5 +1,6 @@
 -- The verdicts of `explain` with an image.
 use Rattle.std.proofs.Common.{ℕ, ◌≡◌, ◌≤◌, ◌⊎◌, inl, inr, Bool, true, false, List, drop, Option, Some, None, Ok, refl, sym, ap, subst, ◌∙◌, arith}
+use Rattle.dix_base.specs.Stores.{StoreState}
 use Rattle.dix_base.specs.Told.{Calm, Rose}
 use Rattle.dix_base.proofs.Counts.{never_rose}
 use Rattle.unit_words.specs.Words.{image_in}
@@ -27,7 +28,7 @@ use Rattle.call_refusal.specs.declared.refusal.Refusal.TheVariants as stop
 use Rattle.run_command.specs.declared.verdict.Finished.{Finished}
 use Rattle.volume_table.specs.Faults.{table_fault}
 use Rattle.lab_words.specs.Grammar.{command_in}
-use Rattle.lab_run.specs.Calls.{Facts, Held, on_rig}
+use Rattle.lab_run.specs.Calls.{Facts, on_rig}
 use Rattle.lab_run.specs.Explained.{ExplainsRun, HasExplained, HasToldFault, HasToldRun, HasToldStop, explain_call}
 use Rattle.lab_run.specs.Outcomes.{BadInput, Ending, Outcome, RigFailed, SourceFailed, ending_status, found_ending, stop_ending}
 use Rattle.lab_run.specs.Verdict.{BrokeOff, Cause, CauseByCommand, CauseRan, Compared, Ended, Exported, Helped, Imported, Judged, Keeps, KeepsImage, KeepsRig, KeepsSource, Listed, Marked, Ran, Refused, Shown, Verdict, Versioned, Written, done_status, verdict_status, verdict_text}
@@ -93,7 +94,7 @@ goes_not_run stop.RigFault f c = goes_refused stop.RigFault f c
 goes_not_run stop.Memory f c = goes_refused stop.Memory f c
 goes_not_run stop.ReadFault f c = goes_refused stop.ReadFault f c
 
-kept : (words : List (List ℕ)) (left left' : Option (List ℕ)) (reads reads' : ℕ) (rig rig' : RigState) (first second : Held) → command_in words ≡ Some Explain → reads ≤ reads' → Goes (image_in words) rig rig' → Keeps (on_rig words left left' reads reads' rig rig' first second)
+kept : (words : List (List ℕ)) (left left' : Option (List ℕ)) (reads reads' : ℕ) (rig rig' : RigState) (first second : StoreState) → command_in words ≡ Some Explain → reads ≤ reads' → Goes (image_in words) rig rig' → Keeps (on_rig words left left' reads reads' rig rig' first second)
 kept words left left' reads reads' rig rig' first second e k g =
     let f = on_rig words left left' reads reads' rig rig' first second in
     record {
@@ -107,7 +108,7 @@ kept words left left' reads reads' rig rig' first second e k g =
 
 -- ---- a call
 
-came : (words : List (List ℕ)) (left left' : Option (List ℕ)) (reads reads' : ℕ) (rig rig' : RigState) (first second : Held) (w : Outcome) (taken taken' : Option (List ℕ)) (o n : ℕ) (result : Status) →
+came : (words : List (List ℕ)) (left left' : Option (List ℕ)) (reads reads' : ℕ) (rig rig' : RigState) (first second : StoreState) (w : Outcome) (taken taken' : Option (List ℕ)) (o n : ℕ) (result : Status) →
     command_in words ≡ Some Explain → reads ≤ reads' → Goes (image_in words) rig rig' → HasExplained w (on_rig words left left' reads reads' rig rig' first second) → Written (ending_status w.ending) w.text taken taken' o n result →
     Ended (on_rig words left left' reads reads' rig rig' first second) taken taken' o n result
 came words left left' reads reads' rig rig' first second w taken taken' o n result e k g h t =
@@ -129,7 +130,7 @@ guided_text told f h =
     ap (λ x. explained_by x told.guide.entries log told.run.stack.replies.items) h.explained.guided.sites
     ∙ ap (λ x. explained_by (sites_of h.script) x log told.run.stack.replies.items) h.explained.guided.entries
 
-pub told : (words : List (List ℕ)) (left left' : Option (List ℕ)) (reads reads' : ℕ) (rig rig' : RigState) (first second : Held) (x : Explained) (taken taken' : Option (List ℕ)) (o n : ℕ) (result : Status) →
+pub told : (words : List (List ℕ)) (left left' : Option (List ℕ)) (reads reads' : ℕ) (rig rig' : RigState) (first second : StoreState) (x : Explained) (taken taken' : Option (List ℕ)) (o n : ℕ) (result : Status) →
     command_in words ≡ Some Explain → reads ≤ reads' → HasRunExplained x (explain_call (on_rig words left left' reads reads' rig rig' first second)) →
     Written (done_status (has_bad x.run.stack.replies.items)) (explained_by x.guide.sites.items x.guide.entries (drop x.run.first rig'.log) x.run.stack.replies.items) taken taken' o n result →
     Ended (on_rig words left left' reads reads' rig rig' first second) taken taken' o n result
@@ -142,7 +143,7 @@ told words left left' reads reads' rig rig' first second x taken taken' o n resu
     (record { named = e; untouched = refl; came = inl (record { run = x.run; script = h.script; read = h.read; ran = h.explained.ran; text = refl; ending = refl }) })
     (subst (λ (s : Status). Written s text taken taken' o n result) (run_status bad) (subst (λ (z : List ℕ). Written (done_status bad) z taken taken' o n result) (guided_text x (explain_call f) h) t))
 
-marked : (words : List (List ℕ)) (left left' : Option (List ℕ)) (reads reads' : ℕ) (rig rig' : RigState) (first second : Held) (said : List ℕ) (taken taken' : Option (List ℕ)) (o n : ℕ) (result : Status) →
+marked : (words : List (List ℕ)) (left left' : Option (List ℕ)) (reads reads' : ℕ) (rig rig' : RigState) (first second : StoreState) (said : List ℕ) (taken taken' : Option (List ℕ)) (o n : ℕ) (result : Status) →
     command_in words ≡ Some Explain → reads ≤ reads' → HasMarked said (explain_call (on_rig words left left' reads reads' rig rig' first second)) → Written status.Input said taken taken' o n result →
     Ended (on_rig words left left' reads reads' rig rig' first second) taken taken' o n result
 marked words left left' reads reads' rig rig' first second said taken taken' o n result e k m t =
@@ -150,7 +151,7 @@ marked words left left' reads reads' rig rig' first second said taken taken' o n
     came words left left' reads reads' rig rig' first second (record { ending = BadInput; text = said }) taken taken' o n result e k (goes_marked said (explain_call f) m)
     (record { named = e; untouched = refl; came = inr (inl (record { marked = m; ending = refl })) }) t
 
-pub stopped : (words : List (List ℕ)) (left left' : Option (List ℕ)) (reads reads' : ℕ) (rig rig' : RigState) (first second : Held) (r : Stop) (taken taken' : Option (List ℕ)) (o n : ℕ) (result : Status) →
+pub stopped : (words : List (List ℕ)) (left left' : Option (List ℕ)) (reads reads' : ℕ) (rig rig' : RigState) (first second : StoreState) (r : Stop) (taken taken' : Option (List ℕ)) (o n : ℕ) (result : Status) →
     command_in words ≡ Some Explain → reads ≤ reads' → CauseNotRun r (explain_call (on_rig words left left' reads reads' rig rig' first second)) → Written (ending_status (stop_ending r)) (stop_text r) taken taken' o n result →
     Ended (on_rig words left left' reads reads' rig rig' first second) taken taken' o n result
 stopped words left left' reads reads' rig rig' first second r taken taken' o n result e k c t =
@@ -158,7 +159,7 @@ stopped words left left' reads reads' rig rig' first second r taken taken' o n r
     came words left left' reads reads' rig rig' first second (record { ending = stop_ending r; text = stop_text r }) taken taken' o n result e k (goes_not_run r (explain_call f) c)
     (record { named = e; untouched = refl; came = inr (inr (record { reason = r; cause = c; text = refl; ending = refl })) }) t
 
-pub marked_by : (words : List (List ℕ)) (left left' : Option (List ℕ)) (reads reads' : ℕ) (rig rig' : RigState) (first second : Held) (said line : List ℕ) (taken taken' : Option (List ℕ)) (o n : ℕ) (result : Status) →
+pub marked_by : (words : List (List ℕ)) (left left' : Option (List ℕ)) (reads reads' : ℕ) (rig rig' : RigState) (first second : StoreState) (said line : List ℕ) (taken taken' : Option (List ℕ)) (o n : ℕ) (result : Status) →
     command_in words ≡ Some Explain → reads ≤ reads' → HasMarked said (explain_call (on_rig words left left' reads reads' rig rig' first second)) → line ≡ said → Written status.Input line taken taken' o n result →
     Ended (on_rig words left left' reads reads' rig rig' first second) taken taken' o n result
 marked_by words left left' reads reads' rig rig' first second said line taken taken' o n result e k m l t =

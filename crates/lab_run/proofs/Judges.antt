@@ -3,6 +3,7 @@ use Rattle.std.proofs.Common.{ℕ, ◌≡◌, ◌+◌, ◌≤◌, ◌⊎◌, inl
 use Rattle.std.specs.Prelude.{IfOk, nat_lt}
 use Rattle.std.specs.declared.alloc.AllocError.{AllocError}
 use Rattle.std.proofs.lemmas.Bool.Decides.{nat_tests}
+use Rattle.dix_base.specs.Stores.{StoreState}
 use Rattle.dix_base.specs.Told.{Calm, IsAtEnd, Took}
 use Rattle.dix_base.proofs.Counts.{never_rose}
 use Rattle.fault_marks.specs.Texts.{marked_text, right_text}
@@ -16,7 +17,7 @@ use Rattle.script_words.specs.Cuts.{lines_of}
 use Rattle.source_text.specs.Reading.{IsOver, IsWhole, most_bytes}
 use Rattle.source_text.proofs.Taking.{most_is}
 use Rattle.lab_words.specs.Grammar.{command_in}
-use Rattle.lab_run.specs.Calls.{Facts, Held, on_input}
+use Rattle.lab_run.specs.Calls.{Facts, on_input}
 use Rattle.lab_run.specs.Judging.{CauseNotJudged, HasJudged, HasScriptFault, JudgesText}
 use Rattle.lab_run.specs.Saying.{IsTold, Says}
 use Rattle.lab_run.specs.Texts.{refusal_text, status_of}
@@ -31,7 +32,7 @@ use Rattle.rig_api.specs.State.{RigState}
 use Rattle.run_command.proofs.Refusing.{within}
 use Rattle.run_words.proofs.Marking.{over, too_long}
 
-kept : (words : List (List ℕ)) (h : Held) (left left' : Option (List ℕ)) (reads reads' : ℕ) (rig : RigState) (second : Held) → command_in words ≡ Some Judge → reads ≤ reads' → Keeps (on_input words h h left left' reads reads' rig second)
+kept : (words : List (List ℕ)) (h : StoreState) (left left' : Option (List ℕ)) (reads reads' : ℕ) (rig : RigState) (second : StoreState) → command_in words ≡ Some Judge → reads ≤ reads' → Keeps (on_input words h h left left' reads reads' rig second)
 kept words h left left' reads reads' rig second e r =
     let f = on_input words h h left left' reads reads' rig second in
     record {
@@ -45,13 +46,13 @@ kept words h left left' reads reads' rig second e r =
 
 -- ---- a call
 
-pub unjudged : (words : List (List ℕ)) (h : Held) (left left' : Option (List ℕ)) (reads reads' : ℕ) (rig : RigState) (second : Held) (r : Refusal) (taken taken' : Option (List ℕ)) (o n : ℕ) (result : Status) →
+pub unjudged : (words : List (List ℕ)) (h : StoreState) (left left' : Option (List ℕ)) (reads reads' : ℕ) (rig : RigState) (second : StoreState) (r : Refusal) (taken taken' : Option (List ℕ)) (o n : ℕ) (result : Status) →
     command_in words ≡ Some Judge → reads ≤ reads' → CauseNotJudged r (on_input words h h left left' reads reads' rig second) → Written (status_of r) (refusal_text r) taken taken' o n result → Ended (on_input words h h left left' reads reads' rig second) taken taken' o n result
 unjudged words h left left' reads reads' rig second r taken taken' o n result e k cause w =
     let f = on_input words h h left left' reads reads' rig second in
     ended_refused f r taken taken' o n result (subst (λ (c : Option Command). CauseByCommand c r f) (sym e) cause) (kept words h left left' reads reads' rig second e k) w
 
-said_right : (words : List (List ℕ)) (h : Held) (left left' : Option (List ℕ)) (reads reads' : ℕ) (rig : RigState) (second : Held) (taken taken' : Option (List ℕ)) (o n : ℕ) (result : Status) (text : List ℕ) (want : Result Script ScriptFault) (s : Status) (said : List ℕ) →
+said_right : (words : List (List ℕ)) (h : StoreState) (left left' : Option (List ℕ)) (reads reads' : ℕ) (rig : RigState) (second : StoreState) (taken taken' : Option (List ℕ)) (o n : ℕ) (result : Status) (text : List ℕ) (want : Result Script ScriptFault) (s : Status) (said : List ℕ) →
     command_in words ≡ Some Judge → reads ≤ reads' → IsWhole text left left' → script_in text ≡ want → Says want s said text → Written s said taken taken' o n result → Ended (on_input words h h left left' reads reads' rig second) taken taken' o n result
 said_right words h left left' reads reads' rig second taken taken' o n result text (Ok script) s said e k whole reads_so says w = record {
   verdict = Judged script;
@@ -67,7 +68,7 @@ said_right words h left left' reads reads' rig second taken taken' o n result te
 }
 
 -- a text that was read to its end
-pub told_whole : (words : List (List ℕ)) (h : Held) (left left' : Option (List ℕ)) (reads reads' : ℕ) (rig : RigState) (second : Held) (taken taken' : Option (List ℕ)) (o n : ℕ) (result : Status) (text : List ℕ) (said : Result Said AllocError) →
+pub told_whole : (words : List (List ℕ)) (h : StoreState) (left left' : Option (List ℕ)) (reads reads' : ℕ) (rig : RigState) (second : StoreState) (taken taken' : Option (List ℕ)) (o n : ℕ) (result : Status) (text : List ℕ) (said : Result Said AllocError) →
     command_in words ≡ Some Judge → reads ≤ reads' → IsWhole text left left' → IfOk said (λ x. Says (script_in text) x.status x.text.items text) → IsTold said taken taken' o n result → Ended (on_input words h h left left' reads reads' rig second) taken taken' o n result
 told_whole words h left left' reads reads' rig second taken taken' o n result text (Ok x) e k whole says w =
     said_right words h left left' reads reads' rig second taken taken' o n result text (script_in text) x.status x.text.items e k whole refl says w
@@ -75,7 +76,7 @@ told_whole words h left left' reads reads' rig second taken taken' o n result te
     unjudged words h left left' reads reads' rig second refusal.Memory taken taken' o n result e k (within text left left' whole, refl) w
 
 -- a text that is too long, which isn't kept
-pub told_over : (words : List (List ℕ)) (h : Held) (left left' : Option (List ℕ)) (reads reads' : ℕ) (rig : RigState) (second : Held) (taken taken' : Option (List ℕ)) (o n : ℕ) (result : Status) (said : Result Said AllocError) →
+pub told_over : (words : List (List ℕ)) (h : StoreState) (left left' : Option (List ℕ)) (reads reads' : ℕ) (rig : RigState) (second : StoreState) (taken taken' : Option (List ℕ)) (o n : ℕ) (result : Status) (said : Result Said AllocError) →
     command_in words ≡ Some Judge → reads ≤ reads' → IsOver left left' → ((text : List ℕ) → IfOk said (λ x. Says (Err (record { line = 0; kind = TooMany })) x.status x.text.items text)) → IsTold said taken taken' o n result →
     Ended (on_input words h h left left' reads reads' rig second) taken taken' o n result
 told_over words h left left' reads reads' rig second taken taken' o n result (Ok x) e k long says w =

@@ -1,5 +1,6 @@
 -- The verdicts of `sweep`.
 use Rattle.std.proofs.Common.{ℕ, ◌≡◌, ◌≤◌, ◌⊎◌, inl, inr, Bool, true, false, List, [], take, Option, Some, None, Result, Ok, Err, refl, sym, ap, subst, ◌∙◌, arith}
+use Rattle.dix_base.specs.Stores.{StoreState}
 use Rattle.dix_base.specs.Told.{Calm, Rose}
 use Rattle.dix_base.proofs.Counts.{never_rose}
 use Rattle.flip_sweep.specs.Flips.{own_fault}
@@ -29,7 +30,7 @@ use Rattle.volume_table.specs.declared.fault.VolumeFault.{VolumeFault}
 use Rattle.volume_table.specs.declared.fault.VolumeFault.TheVariants.{At}
 use Rattle.volume_table.specs.declared.fault.VolumeKind.{VolumeKind}
 use Rattle.lab_words.specs.Grammar.{command_in}
-use Rattle.lab_run.specs.Calls.{Facts, Held, on_input}
+use Rattle.lab_run.specs.Calls.{Facts, on_input}
 use Rattle.lab_run.specs.Outcomes.{BadImage, BadInput, Done, Ending, Found, NoMemory, Outcome, RigFailed, SourceFailed, ending_status, stop_ending}
 use Rattle.lab_run.specs.Swept.{HasSwept, IsUnswept, SweepCameTo, SweepsTexts, halt_status, swept}
 use Rattle.lab_run.specs.Verdict.{BrokeOff, Cause, CauseByCommand, CauseRan, Compared, Ended, Exported, Helped, Imported, Judged, Keeps, KeepsImage, KeepsSource, Listed, Marked, Ran, Refused, Shown, Verdict, Versioned, Written, done_status, verdict_status, verdict_text}
@@ -38,7 +39,7 @@ use Rattle.lab_run.specs.declared.status.Status.TheVariants as status
 use Rattle.lab_run.proofs.Endings.{keeps_rig}
 use Rattle.lab_run.proofs.Explains.{status_is}
 
-pub kept : (words : List (List ℕ)) (h : Held) (left left' : Option (List ℕ)) (reads reads' : ℕ) (rig : RigState) (second : Held) (byte : ℕ) (units : List UnitSpec) → command_in words ≡ Some (Sweep byte units) → reads ≤ reads' → Keeps (on_input words h h left left' reads reads' rig second)
+pub kept : (words : List (List ℕ)) (h : StoreState) (left left' : Option (List ℕ)) (reads reads' : ℕ) (rig : RigState) (second : StoreState) (byte : ℕ) (units : List UnitSpec) → command_in words ≡ Some (Sweep byte units) → reads ≤ reads' → Keeps (on_input words h h left left' reads reads' rig second)
 kept words h left left' reads reads' rig second byte units e r =
     let f = on_input words h h left left' reads reads' rig second in
     record {
@@ -58,7 +59,7 @@ pub record Comes (f : Facts) : Type 0 where
   pub untouched : f.first_after ≡ f.first
   pub kept_is : Keeps f
 
-abbrev pub comes : (words : List (List ℕ)) (h : Held) (left left' : Option (List ℕ)) (reads reads' : ℕ) (rig : RigState) (second : Held) (byte : ℕ) (units : List UnitSpec) → command_in words ≡ Some (Sweep byte units) → reads ≤ reads' → Comes (on_input words h h left left' reads reads' rig second)
+abbrev pub comes : (words : List (List ℕ)) (h : StoreState) (left left' : Option (List ℕ)) (reads reads' : ℕ) (rig : RigState) (second : StoreState) (byte : ℕ) (units : List UnitSpec) → command_in words ≡ Some (Sweep byte units) → reads ≤ reads' → Comes (on_input words h h left left' reads reads' rig second)
 comes words h left left' reads reads' rig second byte units e r = record { byte = byte; units = units; named = e; untouched = refl; kept_is = kept words h left left' reads reads' rig second byte units e r }
 
 ended : (f : Facts) (c : Comes f) (w : Outcome) (taken taken' : Option (List ℕ)) (o n : ℕ) (result : Status) → SweepCameTo w.ending c.byte c.units f w.text → Written (ending_status w.ending) w.text taken taken' o n result → Ended f taken taken' o n result

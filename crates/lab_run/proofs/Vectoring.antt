@@ -1,5 +1,6 @@
 -- The verdicts of `vectors`.
 use Rattle.std.proofs.Common.{ℕ, ◌≡◌, ◌≤◌, ◌⊎◌, inl, inr, Bool, true, false, List, drop, Option, Some, Ok, Err, refl, sym, ap, subst, ◌∙◌, arith}
+use Rattle.dix_base.specs.Stores.{StoreState}
 use Rattle.dix_base.specs.Told.{Calm, Rose}
 use Rattle.dix_base.proofs.Counts.{never_rose}
 use Rattle.unit_words.specs.Words.{image_in}
@@ -20,7 +21,7 @@ use Rattle.vector_runs.specs.declared.playing.Played.{Played}
 use Rattle.vector_runs.proofs.Heads.{head_refused, not_played_out, not_played_over, range_refused}
 use Rattle.vector_runs.proofs.Whole.{faulty_refused, list_complete, not_played_faulty, rig_failed, script_complete, source_failed}
 use Rattle.lab_words.specs.Grammar.{command_in}
-use Rattle.lab_run.specs.Calls.{Facts, Held, on_rig}
+use Rattle.lab_run.specs.Calls.{Facts, on_rig}
 use Rattle.lab_run.specs.Outcomes.{Outcome, RigFailed, SourceFailed, ending_status, found_ending, stop_ending}
 use Rattle.lab_run.specs.Vectors.{HasVectors, IsDoneOrShort, PlaysTexts, WereNotPlayed, played_by}
 use Rattle.lab_run.specs.Verdict.{BrokeOff, Cause, CauseByCommand, CauseRan, Compared, Ended, Exported, Helped, Imported, Judged, Keeps, KeepsImage, KeepsRig, KeepsSource, Listed, Marked, Ran, Refused, Shown, Verdict, Versioned, Written, verdict_status, verdict_text}
@@ -34,7 +35,7 @@ use Rattle.lab_run.proofs.Explains.{run_no_rig, run_no_source}
 abbrev pub named : List ℕ → Facts → PlayFacts
 named name f = record { name = name; left = f.left; left_after = f.left_after; reads = f.reads; reads_after = f.reads_after; rig = f.rig; rig_after = f.rig_after }
 
-kept : (words : List (List ℕ)) (left left' : Option (List ℕ)) (reads reads' : ℕ) (rig rig' : RigState) (first second : Held) → command_in words ≡ Some Vectors → reads ≤ reads' → RigOpenedOnce (image_in words) rig.standing rig'.standing → rig.faults ≤ rig'.faults →
+kept : (words : List (List ℕ)) (left left' : Option (List ℕ)) (reads reads' : ℕ) (rig rig' : RigState) (first second : StoreState) → command_in words ≡ Some Vectors → reads ≤ reads' → RigOpenedOnce (image_in words) rig.standing rig'.standing → rig.faults ≤ rig'.faults →
     Keeps (on_rig words left left' reads reads' rig rig' first second)
 kept words left left' reads reads' rig rig' first second e r o n =
     let f = on_rig words left left' reads reads' rig rig' first second in
@@ -50,7 +51,7 @@ kept words left left' reads reads' rig rig' first second e r o n =
 ran : (f : Facts) (w : Outcome) (taken taken' : Option (List ℕ)) (o n : ℕ) (result : Status) → command_in f.words ≡ Some Vectors → HasVectors w f → Keeps f → Written (ending_status w.ending) w.text taken taken' o n result → Ended f taken taken' o n result
 ran f w taken taken' o n result e h k t = record { verdict = Ran w; cause = subst (λ (c : Option Command). CauseRan c w f) (sym e) h; written = inl t; kept = k }
 
-pub played : (words : List (List ℕ)) (left left' : Option (List ℕ)) (reads reads' : ℕ) (rig rig' : RigState) (first second : Held) (name : List ℕ) (p : Played) (taken taken' : Option (List ℕ)) (o n : ℕ) (result : Status) → command_in words ≡ Some Vectors → name ≡ image_in words →
+pub played : (words : List (List ℕ)) (left left' : Option (List ℕ)) (reads reads' : ℕ) (rig rig' : RigState) (first second : StoreState) (name : List ℕ) (p : Played) (taken taken' : Option (List ℕ)) (o n : ℕ) (result : Status) → command_in words ≡ Some Vectors → name ≡ image_in words →
     HasCome (Ok p) (named name (on_rig words left left' reads reads' rig rig' first second)) →
     Written (ending_status (found_ending (has_sense (drop (first_of p) rig'.log)))) (played_text p (drop (first_of p) rig'.log)) taken taken' o n result →
     Ended (on_rig words left left' reads reads' rig rig' first second) taken taken' o n result
@@ -61,7 +62,7 @@ played words left left' reads reads' rig rig' first second name p taken taken' o
     ran f (record { ending = found_ending (has_sense entries); text = played_text p entries }) taken taken' o n result e (inl (p, entries, record { played = come.verdict; all = come.since; ending = refl; text = refl }))
     (kept words left left' reads reads' rig rig' first second e come.reads come.opens come.count) t
 
-pub stopped : (words : List (List ℕ)) (left left' : Option (List ℕ)) (reads reads' : ℕ) (rig rig' : RigState) (first second : Held) (name : List ℕ) (r : Stop) (taken taken' : Option (List ℕ)) (o n : ℕ) (result : Status) → command_in words ≡ Some Vectors → name ≡ image_in words →
+pub stopped : (words : List (List ℕ)) (left left' : Option (List ℕ)) (reads reads' : ℕ) (rig rig' : RigState) (first second : StoreState) (name : List ℕ) (r : Stop) (taken taken' : Option (List ℕ)) (o n : ℕ) (result : Status) → command_in words ≡ Some Vectors → name ≡ image_in words →
     HasCome (Err r) (named name (on_rig words left left' reads reads' rig rig' first second)) → Written (ending_status (stop_ending r)) (stop_text r) taken taken' o n result → Ended (on_rig words left left' reads reads' rig rig' first second) taken taken' o n result
 stopped words left left' reads reads' rig rig' first second name r taken taken' o n result e i h t =
     let f = on_rig words left left' reads reads' rig rig' first second in

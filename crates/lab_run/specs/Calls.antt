@@ -1,18 +1,18 @@
 use Rattle.std.specs.Prelude.{ℕ, ◌⊎◌, Bool, true, false, List, [], ◌∷◌, Option, Some, None, Result}
+use Rattle.dix_base.specs.Stores.{StoreState}
 use Rattle.image_blocks.specs.Places.{part_in, whole_in}
 use Rattle.image_blocks.specs.declared.stretch.PlaceFault.{PlaceFault}
 use Rattle.image_blocks.specs.declared.stretch.Stretch.{Stretch}
 use Rattle.image_dumps.specs.declared.layout.Layout.{Layout as DumpLayout}
 use Rattle.image_dumps.specs.declared.layout.Layout.TheVariants as dump
 use Rattle.image_layout.specs.Heads.{called}
-pub use Rattle.image_walk.specs.Stores.{Held, held}
 use Rattle.lab_words.specs.declared.command.Command.{Command}
 use Rattle.lab_words.specs.declared.command.Command.TheVariants.{Help, Version, ShowUnits, ShowBlocks, Diff, Export, Import, Vectors, Judge, Explain, Sweep}
 use Rattle.lab_words.specs.declared.layout.Layout.{Layout}
 use Rattle.lab_words.specs.declared.layout.Layout.TheVariants as word
 use Rattle.lab_words.specs.declared.place.Place.{Place}
 use Rattle.lab_words.specs.declared.place.Place.TheVariants.{Device, Blocks}
-use Rattle.rig_api.specs.Telling.{Opened, Standing, Stayed}
+use Rattle.rig_api.specs.Telling.{Opened, Stayed}
 use Rattle.rig_api.specs.State.{RigState}
 use Rattle.target_answer.specs.declared.units.UnitSpec.{UnitSpec}
 
@@ -67,13 +67,9 @@ laid_as word.Interleaved = dump.Interleaved
 laid_as word.Plain = dump.Plain
 laid_as word.Tuples = dump.Tuples
 
--- the name and the openings of a store
-abbrev pub called_of : Held → Standing
-called_of h = called h.name h.openings
-
 -- The store was opened by this name, or not at all.
-abbrev pub OpenedOnce : List ℕ → Held → Held → Type 0
-OpenedOnce name old new = Stayed (called_of old) (called_of new) ⊎ Opened name (called_of old) (called_of new)
+abbrev pub OpenedOnce : List ℕ → StoreState → StoreState → Type 0
+OpenedOnce name old new = Stayed (called old) (called new) ⊎ Opened name (called old) (called new)
 
 -- what a call speaks of: its words, and its source, its rig and its two stores before and after
 pub record Facts : Type 0 where
@@ -84,13 +80,13 @@ pub record Facts : Type 0 where
   pub reads_after : ℕ
   pub rig : RigState
   pub rig_after : RigState
-  pub first : Held
-  pub first_after : Held
-  pub second : Held
-  pub second_after : Held
+  pub first : StoreState
+  pub first_after : StoreState
+  pub second : StoreState
+  pub second_after : StoreState
 
 -- a call that works on its source and its first store alone
-abbrev pub on_input : List (List ℕ) → (old new : Held) → (left left_after : Option (List ℕ)) → (reads reads_after : ℕ) → RigState → Held → Facts
+abbrev pub on_input : List (List ℕ) → (old new : StoreState) → (left left_after : Option (List ℕ)) → (reads reads_after : ℕ) → RigState → StoreState → Facts
 on_input words old new left left_after reads reads_after rig second = record {
   words = words;
   left = left;
@@ -106,11 +102,11 @@ on_input words old new left left_after reads reads_after rig second = record {
 }
 
 -- a call that works on its first store alone
-abbrev pub on_first : List (List ℕ) → (old new : Held) → Option (List ℕ) → ℕ → RigState → Held → Facts
+abbrev pub on_first : List (List ℕ) → (old new : StoreState) → Option (List ℕ) → ℕ → RigState → StoreState → Facts
 on_first words old new left reads rig second = on_input words old new left left reads reads rig second
 
 -- a call that works on its two stores alone
-abbrev pub on_both : List (List ℕ) → (old new old_second new_second : Held) → Option (List ℕ) → ℕ → RigState → Facts
+abbrev pub on_both : List (List ℕ) → (old new old_second new_second : StoreState) → Option (List ℕ) → ℕ → RigState → Facts
 on_both words old new old_second new_second left reads rig = record {
   words = words;
   left = left;
@@ -126,7 +122,7 @@ on_both words old new old_second new_second left reads rig = record {
 }
 
 -- a call that works on its source and its rig alone
-abbrev pub on_rig : List (List ℕ) → (left left_after : Option (List ℕ)) → (reads reads_after : ℕ) → (rig rig_after : RigState) → (first second : Held) → Facts
+abbrev pub on_rig : List (List ℕ) → (left left_after : Option (List ℕ)) → (reads reads_after : ℕ) → (rig rig_after : RigState) → (first second : StoreState) → Facts
 on_rig words left left_after reads reads_after rig rig_after first second = record {
   words = words;
   left = left;

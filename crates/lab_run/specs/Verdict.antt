@@ -1,4 +1,6 @@
 use Rattle.std.specs.Prelude.{ℕ, ◌≡◌, ◌≤◌, ◌⊎◌, Bool, false, true, ltb, if◌then◌else◌, List, length, take, Option, Some, None, Result, Ok, Err}
+use Rattle.image_layout.specs.Heads.{called}
+use Rattle.dix_base.specs.Stores.{StoreState}
 use Rattle.dix_base.specs.Told.{Appended, AppendedSome, Becomes, Rose}
 use Rattle.unit_words.specs.Words.{image_in}
 use Rattle.block_lines.specs.UnitText.{units_text}
@@ -29,7 +31,7 @@ use Rattle.target_answer.specs.Headers.{image_size}
 use Rattle.target_answer.specs.Image.{units_in}
 use Rattle.target_answer.specs.declared.units.UnitSpec.{UnitSpec}
 use Rattle.lab_words.specs.Grammar.{command_in}
-use Rattle.lab_run.specs.Calls.{Facts, Held, OpenedOnce, called_of, laid_as, second_in, stretch_in, uses_second}
+use Rattle.lab_run.specs.Calls.{Facts, OpenedOnce, laid_as, second_in, stretch_in, uses_second}
 use Rattle.fault_marks.specs.Texts.{marked_text, right_text}
 use Rattle.script_text.specs.declared.fault.ScriptFault.{ScriptFault}
 use Rattle.script_text.specs.declared.script.Script.{Script}
@@ -48,8 +50,8 @@ use Rattle.lab_run.specs.declared.status.Status.TheVariants as status
 -- ---- what was done
 
 -- The image of this name was opened in a store, its head is right, and these are its units.
-pub record OpenedAs (us : List UnitSpec) (name : List ℕ) (old new : Held) : Type 0 where
-  pub opened : Opened name (called_of old) (called_of new)
+pub record OpenedAs (us : List UnitSpec) (name : List ℕ) (old new : StoreState) : Type 0 where
+  pub opened : Opened name (called old) (called new)
   pub head : Head
   pub right : head_fault head ≡ None
   pub told : IsHeadOf head old.bytes
@@ -120,7 +122,7 @@ pub record DumpTaken (result : Result ℕ ImportFault) (us : List UnitSpec) (at 
   pub opened_faults : ℕ
   pub since : f.first.faults ≤ opened_faults
   pub ends : ImportEnds result (laid_as layout) us at 65536 opened_faults f.first_after.faults f.reads f.reads_after f.first.bytes f.first_after.bytes f.left f.left_after
-  pub len : f.first_after.len ≡ image_size us
+  pub len : f.first_after.length ≡ image_size us
 
 -- The dump is in the place: so many blocks of it, which are all that the place has.
 pub record HasImported (us : List UnitSpec) (at : Stretch) (count : ℕ) (layout : Layout) (f : Facts) : Type 0 where
@@ -131,8 +133,8 @@ pub record HasImported (us : List UnitSpec) (at : Stretch) (count : ℕ) (layout
 -- ---- refusals
 
 -- The image of this name was opened in a store, and this is the first fault of its head.
-pub record BadHeadOf (fault : RigFault) (name : List ℕ) (old new : Held) : Type 0 where
-  pub opened : Opened name (called_of old) (called_of new)
+pub record BadHeadOf (fault : RigFault) (name : List ℕ) (old new : StoreState) : Type 0 where
+  pub opened : Opened name (called old) (called new)
   pub head : Head
   pub judged : head_fault head ≡ Some fault
   pub told : IsHeadOf head old.bytes

@@ -6,7 +6,7 @@ ghost use Rattle.image_blocks.specs.Images.{units_open};
 ghost use Rattle.image_blocks.specs.Places.{IsStretch, spec_of};
 ghost use Rattle.lab_words.specs.declared.command.Command.{Command};
 ghost use Rattle.lab_words.specs.Grammar.{command_in};
-ghost use Rattle.lab_run.specs.Calls.{held, on_both, second_in};
+ghost use Rattle.lab_run.specs.Calls.{on_both, second_in};
 ghost use Rattle.lab_run.specs.Verdict.{Ended, compared_status};
 ghost use Rattle.rig_api.specs.State.{RigState};
 
@@ -65,11 +65,7 @@ pub(crate) fn diff<A: Store, B: Store, O: Sink>(
     out: &mut O,
 ) -> Status
     requires { command_in (word_bytes words.now) ≡ Some (Command.Diff one other) }
-    ensures { (left : Option (List ℕ)) (reads : ℕ) (rig : RigState) → Ended (on_both (word_bytes words.now)
-        (held (A.bytes first.old) (A.len first.old) (A.faults first.old) (A.handed first.old) (A.openings first.old))
-        (held (A.bytes first.new) (A.len first.new) (A.faults first.new) (A.handed first.new) (A.openings first.new))
-        (held (B.bytes second.old) (B.len second.old) (B.faults second.old) (B.handed second.old) (B.openings second.old))
-        (held (B.bytes second.new) (B.len second.new) (B.faults second.new) (B.handed second.new) (B.openings second.new))
+    ensures { (left : Option (List ℕ)) (reads : ℕ) (rig : RigState) → Ended (on_both (word_bytes words.now) (A.state first.old) (A.state first.new) (B.state second.old) (B.state second.new)
         left reads rig) (O.taken out.old) (O.taken out.new) (O.faults out.old) (O.faults out.new) result }
 {
     let mut room = match vec![in alloc; 0u8; 2 * SIDE] {

@@ -2,12 +2,13 @@
 
 ghost use Rattle.std.specs.Prelude.{◌≡◌, ◌≤◌, Some, drop, length};
 ghost use Rattle.unit_words.specs.Words.{word_bytes};
+ghost use Rattle.dix_base.specs.Stores.{StoreState};
 ghost use Rattle.lab_words.specs.declared.command.Command.{Command};
 ghost use Rattle.run_words.specs.Sites.{Guides};
 ghost use Rattle.run_words.specs.Texts.{explained_by};
 ghost use Rattle.run_command.specs.Texts.{has_bad};
 ghost use Rattle.lab_words.specs.Grammar.{command_in};
-ghost use Rattle.lab_run.specs.Calls.{Held, on_rig};
+ghost use Rattle.lab_run.specs.Calls.{on_rig};
 ghost use Rattle.lab_run.specs.Verdict.{Ended, Written, done_status};
 
 use crate::program::{finish, status_for};
@@ -44,7 +45,7 @@ pub(crate) fn explain<S: Source, R: Rig, O: Sink>(
     requires { command_in (word_bytes words.now) ≡ Some Command.Explain }
     ensures { let old = R.state rig.old in
         let new = R.state rig.new in
-        (first second : Held) → Ended (on_rig (word_bytes words.now) (S.left input.old) (S.left input.new) (S.faults input.old) (S.faults input.new) old new first second)
+        (first second : StoreState) → Ended (on_rig (word_bytes words.now) (S.left input.old) (S.left input.new) (S.faults input.old) (S.faults input.new) old new first second)
         (O.taken out.old) (O.taken out.new) (O.faults out.old) (O.faults out.new) result }
 {
     match explain_source(alloc, image_of(words), input, rig) {

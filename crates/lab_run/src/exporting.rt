@@ -2,9 +2,10 @@
 
 ghost use Rattle.std.specs.Prelude.{◌≡◌, ℕ, List, Option, Some};
 ghost use Rattle.unit_words.specs.Words.{word_bytes};
+ghost use Rattle.dix_base.specs.Stores.{StoreState};
 ghost use Rattle.lab_words.specs.declared.command.Command.{Command};
 ghost use Rattle.lab_words.specs.Grammar.{command_in};
-ghost use Rattle.lab_run.specs.Calls.{Held, held, on_first};
+ghost use Rattle.lab_run.specs.Calls.{on_first};
 ghost use Rattle.lab_run.specs.Verdict.{Ended};
 ghost use Rattle.rig_api.specs.State.{RigState};
 
@@ -30,9 +31,7 @@ pub(crate) fn export<A: Store, O: Sink>(
     out: &mut O,
 ) -> Status
     requires { command_in (word_bytes words.now) ≡ Some (Command.Export place layout) }
-    ensures { (left : Option (List ℕ)) (reads : ℕ) (rig : RigState) (second : Held) → Ended (on_first (word_bytes words.now)
-        (held (A.bytes store.old) (A.len store.old) (A.faults store.old) (A.handed store.old) (A.openings store.old))
-        (held (A.bytes store.new) (A.len store.new) (A.faults store.new) (A.handed store.new) (A.openings store.new))
+    ensures { (left : Option (List ℕ)) (reads : ℕ) (rig : RigState) (second : StoreState) → Ended (on_first (word_bytes words.now) (A.state store.old) (A.state store.new)
         left reads rig second) (O.taken out.old) (O.taken out.new) (O.faults out.old) (O.faults out.new) result }
 {
     let mut room = match vec![in alloc; 0u8; ROOM] {

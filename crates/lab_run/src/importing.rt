@@ -2,9 +2,10 @@
 
 ghost use Rattle.std.specs.Prelude.{◌≡◌, Some};
 ghost use Rattle.unit_words.specs.Words.{word_bytes};
+ghost use Rattle.dix_base.specs.Stores.{StoreState};
 ghost use Rattle.lab_words.specs.declared.command.Command.{Command};
 ghost use Rattle.lab_words.specs.Grammar.{command_in};
-ghost use Rattle.lab_run.specs.Calls.{Held, held, on_input};
+ghost use Rattle.lab_run.specs.Calls.{on_input};
 ghost use Rattle.lab_run.specs.Verdict.{Ended};
 ghost use Rattle.rig_api.specs.State.{RigState};
 
@@ -31,9 +32,7 @@ pub(crate) fn import<S: Source, A: Store, O: Sink>(
     out: &mut O,
 ) -> Status
     requires { command_in (word_bytes words.now) ≡ Some (Command.Import place layout) }
-    ensures { (rig : RigState) (second : Held) → Ended (on_input (word_bytes words.now)
-        (held (A.bytes store.old) (A.len store.old) (A.faults store.old) (A.handed store.old) (A.openings store.old))
-        (held (A.bytes store.new) (A.len store.new) (A.faults store.new) (A.handed store.new) (A.openings store.new))
+    ensures { (rig : RigState) (second : StoreState) → Ended (on_input (word_bytes words.now) (A.state store.old) (A.state store.new)
         (S.left input.old) (S.left input.new) (S.faults input.old) (S.faults input.new)
         rig second) (O.taken out.old) (O.taken out.new) (O.faults out.old) (O.faults out.new) result }
 {

@@ -1,12 +1,13 @@
 //! Judging a script.
 
 ghost use Rattle.std.specs.Prelude.{◌≡◌, ℕ, Err, IfOk, List, Ok, Some};
+ghost use Rattle.dix_base.specs.Stores.{StoreState};
 ghost use Rattle.script_lines.specs.declared.kind.ScriptKind.{ScriptKind};
 ghost use Rattle.unit_words.specs.Words.{word_bytes};
 ghost use Rattle.lab_words.specs.declared.command.Command.{Command};
 ghost use Rattle.script_text.specs.Language.{script_in};
 ghost use Rattle.lab_words.specs.Grammar.{command_in};
-ghost use Rattle.lab_run.specs.Calls.{Held, on_input};
+ghost use Rattle.lab_run.specs.Calls.{on_input};
 ghost use Rattle.fault_marks.specs.Texts.{marked_text};
 ghost use Rattle.lab_run.specs.Saying.{IsTold, Says};
 ghost use Rattle.lab_run.specs.Verdict.{Ended};
@@ -97,7 +98,8 @@ pub(crate) fn judge<S: Source, O: Sink>(
     out: &mut O,
 ) -> Status
     requires { command_in (word_bytes words.now) ≡ Some Command.Judge }
-    ensures { (h : Held) (rig : RigState) (second : Held) → Ended (on_input (word_bytes words.now) h h (S.left input.old) (S.left input.new) (S.faults input.old) (S.faults input.new) rig second)
+    ensures { (h : StoreState) (rig : RigState) (second : StoreState)
+        → Ended (on_input (word_bytes words.now) h h (S.left input.old) (S.left input.new) (S.faults input.old) (S.faults input.new) rig second)
         (O.taken out.old) (O.taken out.new) (O.faults out.old) (O.faults out.new) result }
 {
     let _words = words;

@@ -2,11 +2,12 @@
 
 ghost use Rattle.std.specs.Prelude.{◌≡◌, Some, drop};
 ghost use Rattle.unit_words.specs.Words.{word_bytes};
+ghost use Rattle.dix_base.specs.Stores.{StoreState};
 ghost use Rattle.lab_words.specs.declared.command.Command.{Command};
 ghost use Rattle.vector_runs.specs.ListText.{has_sense};
 ghost use Rattle.vector_runs.specs.Played.{AreLogged, first_of, played_text};
 ghost use Rattle.lab_words.specs.Grammar.{command_in};
-ghost use Rattle.lab_run.specs.Calls.{Held, on_rig};
+ghost use Rattle.lab_run.specs.Calls.{on_rig};
 ghost use Rattle.lab_run.specs.Outcomes.{ending_status, found_ending};
 ghost use Rattle.lab_run.specs.Verdict.{Ended, Written};
 
@@ -41,7 +42,7 @@ pub(crate) fn vectors<S: Source, R: Rig, O: Sink>(
     out: &mut O,
 ) -> Status
     requires { command_in (word_bytes words.now) ≡ Some Command.Vectors }
-    ensures { (first : Held) (second : Held) → Ended (on_rig (word_bytes words.now) (S.left input.old) (S.left input.new) (S.faults input.old) (S.faults input.new)
+    ensures { (first : StoreState) (second : StoreState) → Ended (on_rig (word_bytes words.now) (S.left input.old) (S.left input.new) (S.faults input.old) (S.faults input.new)
         (R.state rig.old) (R.state rig.new) first second) (O.taken out.old) (O.taken out.new) (O.faults out.old) (O.faults out.new) result }
 {
     match play_source(alloc, image_of(words), input, rig) {

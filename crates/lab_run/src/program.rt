@@ -2,7 +2,7 @@
 
 ghost use Rattle.std.specs.Prelude.{◌≡◌};
 ghost use Rattle.unit_words.specs.Words.{word_bytes};
-ghost use Rattle.lab_run.specs.Calls.{Facts, held};
+ghost use Rattle.lab_run.specs.Calls.{Facts};
 ghost use Rattle.lab_run.specs.Headline.{Carries};
 ghost use Rattle.lab_run.specs.Texts.{refusal_text, status_of};
 ghost use Rattle.lab_run.specs.Verdict.{Written, done_status};
@@ -72,10 +72,10 @@ pub fn run<S: Source, R: Rig, A: Store, B: Store, O: Sink>(
       reads_after = S.faults input.new;
       rig = R.state rig.old;
       rig_after = R.state rig.new;
-      first = held (A.bytes first.old) (A.len first.old) (A.faults first.old) (A.handed first.old) (A.openings first.old);
-      first_after = held (A.bytes first.new) (A.len first.new) (A.faults first.new) (A.handed first.new) (A.openings first.new);
-      second = held (B.bytes second.old) (B.len second.old) (B.faults second.old) (B.handed second.old) (B.openings second.old);
-      second_after = held (B.bytes second.new) (B.len second.new) (B.faults second.new) (B.handed second.new) (B.openings second.new);
+      first = A.state first.old;
+      first_after = A.state first.new;
+      second = B.state second.old;
+      second_after = B.state second.new;
     } in
         Carries f (O.taken out.old) (O.taken out.new) (O.faults out.old) (O.faults out.new) result }
 {

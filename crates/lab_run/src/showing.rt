@@ -1,13 +1,14 @@
 //! Showing an image.
 
 ghost use Rattle.std.specs.Prelude.{◌≡◌, ℕ, IfOk, List, Option, Some};
+ghost use Rattle.dix_base.specs.Stores.{StoreState};
 ghost use Rattle.block_lines.specs.UnitText.{units_text};
 ghost use Rattle.unit_words.specs.Words.{word_bytes};
 ghost use Rattle.image_blocks.specs.Images.{units_open};
 ghost use Rattle.image_blocks.specs.Places.{IsStretch};
 ghost use Rattle.lab_words.specs.declared.command.Command.{Command};
 ghost use Rattle.lab_words.specs.Grammar.{command_in};
-ghost use Rattle.lab_run.specs.Calls.{Held, held, on_first, stretch_in};
+ghost use Rattle.lab_run.specs.Calls.{on_first, stretch_in};
 ghost use Rattle.lab_run.specs.Verdict.{Ended, Written, shown_status};
 ghost use Rattle.rig_api.specs.State.{RigState};
 
@@ -61,9 +62,7 @@ pub(crate) fn show_units<A: Store, O: Sink>(
     out: &mut O,
 ) -> Status
     requires { command_in (word_bytes words.now) ≡ Some Command.ShowUnits }
-    ensures { (left : Option (List ℕ)) (reads : ℕ) (rig : RigState) (second : Held) → Ended (on_first (word_bytes words.now)
-        (held (A.bytes store.old) (A.len store.old) (A.faults store.old) (A.handed store.old) (A.openings store.old))
-        (held (A.bytes store.new) (A.len store.new) (A.faults store.new) (A.handed store.new) (A.openings store.new))
+    ensures { (left : Option (List ℕ)) (reads : ℕ) (rig : RigState) (second : StoreState) → Ended (on_first (word_bytes words.now) (A.state store.old) (A.state store.new)
         left reads rig second) (O.taken out.old) (O.taken out.new) (O.faults out.old) (O.faults out.new) result }
 {
     match open_image(alloc, store, image_of(words)) {
@@ -81,9 +80,7 @@ pub(crate) fn show_blocks<A: Store, O: Sink>(
     out: &mut O,
 ) -> Status
     requires { command_in (word_bytes words.now) ≡ Some (Command.ShowBlocks place) }
-    ensures { (left : Option (List ℕ)) (reads : ℕ) (rig : RigState) (second : Held) → Ended (on_first (word_bytes words.now)
-        (held (A.bytes store.old) (A.len store.old) (A.faults store.old) (A.handed store.old) (A.openings store.old))
-        (held (A.bytes store.new) (A.len store.new) (A.faults store.new) (A.handed store.new) (A.openings store.new))
+    ensures { (left : Option (List ℕ)) (reads : ℕ) (rig : RigState) (second : StoreState) → Ended (on_first (word_bytes words.now) (A.state store.old) (A.state store.new)
         left reads rig second) (O.taken out.old) (O.taken out.new) (O.faults out.old) (O.faults out.new) result }
 {
     let mut room = match vec![in alloc; 0u8; ROOM] {

@@ -2,10 +2,11 @@
 
 ghost use Rattle.std.specs.Prelude.{◌≡◌, Some};
 ghost use Rattle.unit_words.specs.Words.{word_bytes};
+ghost use Rattle.dix_base.specs.Stores.{StoreState};
 ghost use Rattle.rig_api.specs.State.{RigState};
 ghost use Rattle.lab_words.specs.declared.command.Command.{Command};
 ghost use Rattle.lab_words.specs.Grammar.{command_in};
-ghost use Rattle.lab_run.specs.Calls.{Held, on_input};
+ghost use Rattle.lab_run.specs.Calls.{on_input};
 ghost use Rattle.lab_run.specs.Swept.{halt_status};
 ghost use Rattle.lab_run.specs.Verdict.{Ended};
 
@@ -39,7 +40,8 @@ pub(crate) fn sweep<S: Source, O: Sink>(
     out: &mut O,
 ) -> Status
     requires { command_in (word_bytes words.now) ≡ Some (Command.Sweep byte units.now) }
-    ensures { (h : Held) (rig : RigState) (second : Held) → Ended (on_input (word_bytes words.now) h h (S.left input.old) (S.left input.new) (S.faults input.old) (S.faults input.new) rig second)
+    ensures { (h : StoreState) (rig : RigState) (second : StoreState)
+        → Ended (on_input (word_bytes words.now) h h (S.left input.old) (S.left input.new) (S.faults input.old) (S.faults input.new) rig second)
         (O.taken out.old) (O.taken out.new) (O.faults out.old) (O.faults out.new) result }
 {
     let _words = words;

@@ -2,9 +2,9 @@
 
 ghost use Rattle.std.specs.Prelude.{◌≡◌, ◌⊎◌, ◌+◌, ◌^◌, ◌<◌, ◌≤◌, ℕ, List, length, is_some, true, false, OnOk, OnErr, IfOk, IsOk, IsErrOf, Some};
 ghost use Rattle.dix_base.specs.Told.{AreOctets, Becomes, Rose};
-ghost use Rattle.rig_api.specs.Head.{HasJudged, IsFaultOf, fault_name, units_of, version_in};
+ghost use Rattle.rig_api.specs.Head.{fault_name, units_of, version_in};
 ghost use Rattle.rig_api.specs.Log.{HasRoom, capacity_len, entry_at, have_keys};
-ghost use Rattle.rig_api.specs.State.{Exchanged, KeepsRecords, RigState, Stays};
+ghost use Rattle.rig_api.specs.State.{Exchanged, IsJudgement, KeepsRecords, RigState, Stays};
 ghost use Rattle.rig_api.specs.Telling.{IsMigrated, IsStanding, JudgesNone, KeepsBlocks, KeepsUnits, LeavesImage, Opened, OpenedBy, Stayed, block_at, can_change, changed, frame_size, greatest_size, migrated_count, source_of, spec_at, unit_at, units_told, with_block};
 ghost use Rattle.target_answer.specs.Headers.{is_layout};
 ghost use Rattle.target_answer.specs.Image.{formatted};
@@ -79,9 +79,7 @@ pub trait Rig {
     /// its head says so, `Failed` only where the count of faults rose, `Memory` for want of it.
     /// After a refusal the rig has no device.
     fn open(&mut self, alloc: Global, name: &str) -> Result<(), RigFault>
-        ensures judged { IsFaultOf result (state self.new).standing.head }
-        ensures head { HasJudged result (state self.old).standing.head (state self.new).standing.head (state self.old).image }
-        ensures failed { IsErrOf result RigFault.Failed → Rose (state self.old).faults (state self.new).faults }
+        ensures judged { IsJudgement result (state self.old) (state self.new) }
         ensures devices { OnOk result ((state self.new).standing.devices ≡ length (units_of (state self.new).standing.head)) }
         ensures none { OnErr result ((state self.new).standing.devices ≡ 0) }
         ensures opening { Stayed (state self.old).standing (state self.new).standing ⊎ Opened name.now (state self.old).standing (state self.new).standing }
@@ -113,9 +111,7 @@ pub trait Rig {
     /// `open`. The head that stands afterwards is the one that was read, before the write. Every
     /// stored block stays as it was, also after `Failed`, and the rig has no device.
     fn migrate(&mut self, alloc: Global, name: &str) -> Result<u32, RigFault>
-        ensures judged { IsFaultOf result (state self.new).standing.head }
-        ensures head { HasJudged result (state self.old).standing.head (state self.new).standing.head (state self.old).image }
-        ensures failed { IsErrOf result RigFault.Failed → Rose (state self.old).faults (state self.new).faults }
+        ensures judged { IsJudgement result (state self.old) (state self.new) }
         ensures number { IfOk result (λ n. n ≡ migrated_count (version_in (state self.new).standing.head) (units_of (state self.new).standing.head)) }
         ensures migrated { OnOk result (IsMigrated (state self.new).standing.head (state self.old).image (state self.new).image) }
         ensures stored { OnOk result (KeepsUnits (state self.old).image (state self.new).image) }

@@ -24,7 +24,7 @@ use Rattle.target_answer.proofs.FewFrames.{few_written}
 use Rattle.rig_api.specs.Telling.{at_front, holding}
 use Rattle.rig_api.specs.declared.rig.Outcome.{Outcome}
 use Rattle.target_model.specs.declared.unit.LogicalUnit.{LogicalUnit}
-use Rattle.target_model.specs.Served.{AllLong, AllRead, AllWritten, HasBlocks, Served, StandsBack, answer_after, answer_to, block_bytes, shape_in, unit_in, with_unit}
+use Rattle.target_model.specs.Served.{AllLong, AllRead, AllWritten, HasBlocks, Served, StandsBack, answer_after, answer_to, block_bytes, shape_in, unit_in, with_unit, CanMove, FitsFrame, IsUnit}
 use Rattle.target_model.proofs.Bytes.{drop_all, drop_both, frames_part, frames_back, long_both, long_drop, long_frames, long_joined, long_take, over_apart, over_behind, placed_length, room_for, unit_over, unit_same}
 use Rattle.target_model.proofs.Ends.{length_each}
 
@@ -170,13 +170,27 @@ keyed asc r e = rw e refl
 
 -- The same in the code's words, which has the unit's shape as a value.
 
-pub place_held : (u : LogicalUnit) (s : UnitSpec) (lba n place len : ℕ) → s ≡ shape_in u → HasBlocks s lba n → place ≡ u.at + wide u * (lba - u.first) → u.at + wide u * u.blocks ≤ len → place + block_bytes s * n ≤ len
+place_held : (u : LogicalUnit) (s : UnitSpec) (lba n place len : ℕ) → s ≡ shape_in u → HasBlocks s lba n → place ≡ u.at + wide u * (lba - u.first) → u.at + wide u * u.blocks ≤ len → place + block_bytes s * n ≤ len
 place_held u s lba n place len e b p h =
     rw e (let b' = rw e at b in let room = room_for u.at (wide u) u.first u.blocks lba n b'.first b'.last in omega (arith, room, p, h))
 
-pub place_fits : (u : LogicalUnit) (s : UnitSpec) (lba n place : ℕ) → s ≡ shape_in u → HasBlocks s lba n → place ≡ u.at + wide u * (lba - u.first) → u.at + wide u * u.blocks < 2 ^ 64 → place + block_bytes s * n < 2 ^ 64
+place_fits : (u : LogicalUnit) (s : UnitSpec) (lba n place : ℕ) → s ≡ shape_in u → HasBlocks s lba n → place ≡ u.at + wide u * (lba - u.first) → u.at + wide u * u.blocks < 2 ^ 64 → place + block_bytes s * n < 2 ^ 64
 place_fits u s lba n place e b p h =
     rw e (let b' = rw e at b in let room = room_for u.at (wide u) u.first u.blocks lba n b'.first b'.last in omega (arith, room, p, h))
+
+-- the blocks of a command that is taken can be moved, those from the second address on
+pub can_move : (u : LogicalUnit) (s : UnitSpec) (c : Rw) (lba from place len : ℕ) → s ≡ shape_in u → IsUnit u len → FitsFrame s c → HasBlocks s lba c.n → HasBlocks s from c.n → place ≡ u.at + wide u * (from - u.first) → CanMove s c lba place len
+can_move u s c lba from place len e is f told there p =
+    let t = rw e at told in
+    let a : lba + c.n ≤ u.first + u.blocks = t.last in
+    let b = is.addresses in
+    record {
+      size = rw e is.size;
+      sent = f;
+      held = place_held u s from c.n place len e there p is.held;
+      fits = place_fits u s from c.n place e there p is.places;
+      last = omega arith;
+    }
 
 pub refused_by : (u : LogicalUnit) (s : UnitSpec) (bytes : List ℕ) (cdb : Cdb) (request : Request) (faults : List FaultLine) (labels : List Label) (out : List ℕ) (room asc o : ℕ) (now : Option (List ℕ)) (result : Outcome) (into : List ℕ) →
     s ≡ shape_in u → u.at + wide u * u.blocks ≤ length bytes → now ≡ Some bytes → result ≡ record { done = 0; sense = Some (illegal asc) } →

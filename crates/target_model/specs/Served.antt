@@ -1,4 +1,5 @@
 use Rattle.std.specs.Prelude.{ℕ, ◌≡◌, ◌+◌, ◌*◌, ◌^◌, ◌<◌, ◌≤◌, ◌⊎◌, List, [], ◌∷◌, length, take, drop, Option, Some, None, Result, Ok, Err}
+use Rattle.dix_base.specs.Stores.{StoreState}
 use Rattle.dix_base.specs.Told.{Apart, Rose, over}
 use Rattle.pi_tuple.specs.declared.checks.Check.{Check}
 use Rattle.sense_codes.specs.declared.Sense.{Sense}
@@ -86,6 +87,32 @@ pub record AllRead (end : Option Stop → Ended) (frame old new : ℕ) (result :
   pub outcome : result ≡ record { done = (end stop).done; sense = (end stop).sense }
   pub into : after ≡ at_front (joined (end stop).frames) before
 
+-- ---- the same on a store that tells its bytes
+
+abbrev pub BlockWrittenOn : Result (List ℕ) Check → (size place lba : ℕ) → (old new : StoreState) → Option Sense → Type 0
+BlockWrittenOn judged size place lba old new result = (bytes : List ℕ) → old.bytes ≡ Some bytes → BlockWritten judged size place lba old.faults new.faults bytes result new.bytes
+
+-- what came at the target is read off the store's bytes
+abbrev pub BlockReadOn : (List ℕ → Result (List ℕ) Check) → (size lba : ℕ) → (old new : StoreState) → Option Sense → List ℕ → Type 0
+BlockReadOn judged size lba old new result frame = (bytes : List ℕ) → old.bytes ≡ Some bytes → BlockRead (judged bytes) size lba old.faults new.faults result frame
+
+abbrev pub AllWrittenOn : (Option Stop → Ended) → (frame place : ℕ) → (old new : StoreState) → Outcome → Type 0
+AllWrittenOn end frame place old new result = (bytes : List ℕ) → old.bytes ≡ Some bytes → AllWritten end frame place old.faults new.faults bytes new.bytes result
+
+-- the end is read off the store's bytes
+abbrev pub AllReadOn : (List ℕ → Option Stop → Ended) → (frame : ℕ) → (old new : StoreState) → Outcome → (before after : List ℕ) → Type 0
+AllReadOn end frame old new result before after = (bytes : List ℕ) → old.bytes ≡ Some bytes → AllRead (end bytes) frame old.faults new.faults result before after
+
+-- as a read ends, of which nothing is sent
+abbrev pub AllVerifiedOn : (List ℕ → Option Stop → Ended) → (frame : ℕ) → (old new : StoreState) → Outcome → Type 0
+AllVerifiedOn end frame old new result = (bytes : List ℕ) → old.bytes ≡ Some bytes → (into : List ℕ) × AllRead (end bytes) frame old.faults new.faults result [] into
+
+-- The answer is that of the unit which stands in the store.
+abbrev pub ServedOn : LogicalUnit → (Stored → Option Stop → Answer) → (old new : StoreState) → Outcome → (before after : List ℕ) → Type 0
+ServedOn u answer old new result before after = (bytes : List ℕ) → old.bytes ≡ Some bytes → Served u (answer (unit_in u bytes)) old.faults new.faults bytes new.bytes result before after
+
+-- ---- answers
+
 abbrev pub answer_after : Option Sense → Stored → Request → List FaultLine → List Label → List ℕ → Option Stop → Answer
 answer_after (Some sense) unit request faults labels out stop = refused unit sense
 answer_after None unit request faults labels out stop = carried_out unit request faults labels out stop
@@ -103,6 +130,14 @@ pub record HasBlocks (unit : UnitSpec) (lba count : ℕ) : Type 0 where
 -- The command moves no tuples that the unit hasn't.
 abbrev pub FitsFrame : UnitSpec → Rw → Type 0
 FitsFrame unit c = sent_size c.protect unit.size ≤ stored_size unit.ty unit.size
+
+-- The blocks of a command can be moved: their size is served, no tuples move that the unit hasn't, the store has them all from this place on, and places and addresses have 64 bits.
+pub record CanMove (unit : UnitSpec) (c : Rw) (lba place len : ℕ) : Type 0 where
+  pub size : IsSize unit.size
+  pub sent : FitsFrame unit c
+  pub held : place + block_bytes unit * c.n ≤ len
+  pub fits : place + block_bytes unit * c.n < 2 ^ 64
+  pub last : lba + c.n < 2 ^ 64
 
 -- The store has the unit, whose places and addresses have 64 bits.
 pub record IsUnit (u : LogicalUnit) (len : ℕ) : Type 0 where

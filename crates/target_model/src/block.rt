@@ -1,11 +1,12 @@
 //! One block of a command, over any store.
 
-ghost use Rattle.std.specs.Prelude.{◌≡◌, ◌+◌, ◌≤◌, ◌^◌, ◌<◌, ℕ, List, length, is_some, take, drop, Some, true};
+ghost use Rattle.std.specs.Prelude.{◌≡◌, ◌+◌, ◌≤◌, ◌^◌, ◌<◌, length, take, drop, true};
+ghost use Rattle.dix_base.specs.Stores.{WasRead, WasWritten};
 ghost use Rattle.dix_base.specs.Told.{Rose};
 ghost use Rattle.rig_api.specs.Log.{IsMediumSense, has_key};
 ghost use Rattle.target_answer.specs.Frames.{sent_size, stored_size};
 ghost use Rattle.target_answer.specs.Passing.{from_medium, to_medium};
-ghost use Rattle.target_model.specs.Served.{BlockRead, BlockWritten};
+ghost use Rattle.target_model.specs.Served.{BlockReadOn, BlockWrittenOn};
 
 use crate::sense::{aborted, medium};
 use dix_base::{Failed, Store};
@@ -26,17 +27,12 @@ pub(crate) fn write_block<S: Store>(
     requires frame { length frame.old ≡ stored_size block.ty block.size }
     requires sent { length sent.now ≡ sent_size block.protect block.size }
     requires fits { length sent.now ≤ length frame.old }
-    requires held { place + length frame.old ≤ S.len store.old }
-    ensures told { (bytes : List ℕ) → S.bytes store.old ≡ Some bytes
-        → BlockWritten (to_medium tamper.now block sent.now) (stored_size block.ty block.size) place block.lba (S.faults store.old) (S.faults store.new) bytes result (S.bytes store.new) }
-    ensures medium { IsMediumSense result → Rose (S.faults store.old) (S.faults store.new) }
+    requires held { place + length frame.old ≤ (S.state store.old).length }
+    ensures told { BlockWrittenOn (to_medium tamper.now block sent.now) (stored_size block.ty block.size) place block.lba (S.state store.old) (S.state store.new) result }
+    ensures medium { IsMediumSense result → Rose (S.state store.old).faults (S.state store.new).faults }
     ensures key { has_key result ≡ true }
     ensures frame { length frame.new ≡ length frame.old }
-    ensures tells { is_some (S.bytes store.new) ≡ is_some (S.bytes store.old) }
-    ensures len { S.len store.new ≡ S.len store.old }
-    ensures name { S.handed store.new ≡ S.handed store.old }
-    ensures openings { S.openings store.new ≡ S.openings store.old }
-    ensures count { S.faults store.old ≤ S.faults store.new }
+    ensures stays { WasWritten (S.state store.old) (S.state store.new) }
 {
     frame[..sent.len()].copy_from_slice(sent);
     match block.to_medium(tamper, frame) {
@@ -60,18 +56,13 @@ pub(crate) fn read_block<S: Store>(
 ) -> Option<Sense>
     requires frame { length frame.old ≡ stored_size block.ty block.size }
     requires fits { sent_size block.protect block.size ≤ length frame.old }
-    requires held { place + length frame.old ≤ S.len store.old }
-    ensures told { (bytes : List ℕ) → S.bytes store.old ≡ Some bytes
-        → BlockRead (from_medium tamper.now block (take (stored_size block.ty block.size) (drop place bytes))) (sent_size block.protect block.size) block.lba
-        (S.faults store.old) (S.faults store.new) result frame.new }
-    ensures medium { IsMediumSense result → Rose (S.faults store.old) (S.faults store.new) }
+    requires held { place + length frame.old ≤ (S.state store.old).length }
+    ensures told { BlockReadOn (λ bytes. from_medium tamper.now block (take (stored_size block.ty block.size) (drop place bytes)))
+        (sent_size block.protect block.size) block.lba (S.state store.old) (S.state store.new) result frame.new }
+    ensures medium { IsMediumSense result → Rose (S.state store.old).faults (S.state store.new).faults }
     ensures key { has_key result ≡ true }
     ensures frame { length frame.new ≡ length frame.old }
-    ensures same { S.bytes store.new ≡ S.bytes store.old }
-    ensures len { S.len store.new ≡ S.len store.old }
-    ensures name { S.handed store.new ≡ S.handed store.old }
-    ensures openings { S.openings store.new ≡ S.openings store.old }
-    ensures count { S.faults store.old ≤ S.faults store.new }
+    ensures stays { WasRead (S.state store.old) (S.state store.new) }
 {
     match store.read_at(place, frame) {
         Ok(()) => match block.from_medium(tamper, frame) {

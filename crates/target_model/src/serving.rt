@@ -1,11 +1,12 @@
 //! What a unit answers to a command block, over any store.
 
-ghost use Rattle.std.specs.Prelude.{◌≡◌, ◌+◌, ◌-◌, ◌*◌, ◌^◌, ◌<◌, ◌≤◌, ◌≢◌, [], ℕ, List, length, is_some, min, take, Some, None, true};
+ghost use Rattle.std.specs.Prelude.{◌≡◌, ◌+◌, ◌-◌, ◌*◌, ◌^◌, ◌<◌, ◌≤◌, ◌≢◌, [], length, min, take, Some, None, true};
+ghost use Rattle.dix_base.specs.Stores.{WasRead, WasWritten};
 ghost use Rattle.dix_base.specs.Told.{Rose};
 ghost use Rattle.rig_api.specs.Log.{IsMedium, has_key};
 ghost use Rattle.target_answer.specs.Target.{asc_of, capacity_data, illegal, protection_byte, target_answer};
 ghost use Rattle.target_answer.specs.declared.request.Request.TheVariants.{Read, ReadCapacity, Verify, Write};
-ghost use Rattle.target_model.specs.Served.{IsUnit, Served, answer_to, block_bytes, shape_in, unit_in};
+ghost use Rattle.target_model.specs.Served.{IsUnit, ServedOn, answer_to, block_bytes, shape_in};
 
 use crate::LogicalUnit;
 use crate::refusal::{taken_read, taken_verify, taken_write};
@@ -49,16 +50,11 @@ fn write<S: Store>(
     into: &[u8],
     tamper: &Tamper,
 ) -> Outcome
-    requires unit { IsUnit unit.now (S.len store.old) }
-    ensures told { (bytes : List ℕ) → S.bytes store.old ≡ Some bytes
-        → Served unit.now (answer_to (unit_in unit.now bytes) cdb (Write c) tamper.now labels.now out.now (length into.now)) (S.faults store.old) (S.faults store.new) bytes (S.bytes store.new) result into.now into.now }
-    ensures medium { IsMedium result → Rose (S.faults store.old) (S.faults store.new) }
+    requires unit { IsUnit unit.now (S.state store.old).length }
+    ensures told { ServedOn unit.now (λ found. answer_to found cdb (Write c) tamper.now labels.now out.now (length into.now)) (S.state store.old) (S.state store.new) result into.now into.now }
+    ensures medium { IsMedium result → Rose (S.state store.old).faults (S.state store.new).faults }
     ensures key { has_key result.sense ≡ true }
-    ensures tells { is_some (S.bytes store.new) ≡ is_some (S.bytes store.old) }
-    ensures len { S.len store.new ≡ S.len store.old }
-    ensures name { S.handed store.new ≡ S.handed store.old }
-    ensures openings { S.openings store.new ≡ S.openings store.old }
-    ensures count { S.faults store.old ≤ S.faults store.new }
+    ensures stays { WasWritten (S.state store.old) (S.state store.new) }
 {
     let shape = unit.shape();
     match taken_write(shape, cdb, c, tamper, labels, out.len()) {
@@ -84,16 +80,11 @@ fn read<S: Store>(
     into: &mut [u8],
     tamper: &Tamper,
 ) -> Outcome
-    requires unit { IsUnit unit.now (S.len store.old) }
-    ensures told { (bytes : List ℕ) → S.bytes store.old ≡ Some bytes
-        → Served unit.now (answer_to (unit_in unit.now bytes) cdb (Read c) tamper.now labels.now out.now (length into.old)) (S.faults store.old) (S.faults store.new) bytes (S.bytes store.new) result into.old into.new }
-    ensures medium { IsMedium result → Rose (S.faults store.old) (S.faults store.new) }
+    requires unit { IsUnit unit.now (S.state store.old).length }
+    ensures told { ServedOn unit.now (λ found. answer_to found cdb (Read c) tamper.now labels.now out.now (length into.old)) (S.state store.old) (S.state store.new) result into.old into.new }
+    ensures medium { IsMedium result → Rose (S.state store.old).faults (S.state store.new).faults }
     ensures key { has_key result.sense ≡ true }
-    ensures same { S.bytes store.new ≡ S.bytes store.old }
-    ensures len { S.len store.new ≡ S.len store.old }
-    ensures name { S.handed store.new ≡ S.handed store.old }
-    ensures openings { S.openings store.new ≡ S.openings store.old }
-    ensures count { S.faults store.old ≤ S.faults store.new }
+    ensures stays { WasRead (S.state store.old) (S.state store.new) }
 {
     let shape = unit.shape();
     match taken_read(shape, cdb, c, tamper, labels, into.len()) {
@@ -119,16 +110,11 @@ fn verify<S: Store>(
     into: &[u8],
     tamper: &Tamper,
 ) -> Outcome
-    requires unit { IsUnit unit.now (S.len store.old) }
-    ensures told { (bytes : List ℕ) → S.bytes store.old ≡ Some bytes
-        → Served unit.now (answer_to (unit_in unit.now bytes) cdb (Verify c) tamper.now labels.now out.now (length into.now)) (S.faults store.old) (S.faults store.new) bytes (S.bytes store.new) result into.now into.now }
-    ensures medium { IsMedium result → Rose (S.faults store.old) (S.faults store.new) }
+    requires unit { IsUnit unit.now (S.state store.old).length }
+    ensures told { ServedOn unit.now (λ found. answer_to found cdb (Verify c) tamper.now labels.now out.now (length into.now)) (S.state store.old) (S.state store.new) result into.now into.now }
+    ensures medium { IsMedium result → Rose (S.state store.old).faults (S.state store.new).faults }
     ensures key { has_key result.sense ≡ true }
-    ensures same { S.bytes store.new ≡ S.bytes store.old }
-    ensures len { S.len store.new ≡ S.len store.old }
-    ensures name { S.handed store.new ≡ S.handed store.old }
-    ensures openings { S.openings store.new ≡ S.openings store.old }
-    ensures count { S.faults store.old ≤ S.faults store.new }
+    ensures stays { WasRead (S.state store.old) (S.state store.new) }
 {
     let shape = unit.shape();
     match taken_verify(shape, cdb, c) {
@@ -215,16 +201,11 @@ pub fn serve<S: Store>(
     tamper: &Tamper,
 ) -> Outcome
     requires some { 1 ≤ unit.now.blocks }
-    requires unit { IsUnit unit.now (S.len store.old) }
-    ensures told { (bytes : List ℕ) → S.bytes store.old ≡ Some bytes
-        → Served unit.now (target_answer (unit_in unit.now bytes) tamper.now cdb.now labels.now out.now (length into.old)) (S.faults store.old) (S.faults store.new) bytes (S.bytes store.new) result into.old into.new }
-    ensures medium { IsMedium result → Rose (S.faults store.old) (S.faults store.new) }
+    requires unit { IsUnit unit.now (S.state store.old).length }
+    ensures told { ServedOn unit.now (λ found. target_answer found tamper.now cdb.now labels.now out.now (length into.old)) (S.state store.old) (S.state store.new) result into.old into.new }
+    ensures medium { IsMedium result → Rose (S.state store.old).faults (S.state store.new).faults }
     ensures key { has_key result.sense ≡ true }
-    ensures tells { is_some (S.bytes store.new) ≡ is_some (S.bytes store.old) }
-    ensures len { S.len store.new ≡ S.len store.old }
-    ensures name { S.handed store.new ≡ S.handed store.old }
-    ensures openings { S.openings store.new ≡ S.openings store.old }
-    ensures count { S.faults store.old ≤ S.faults store.new }
+    ensures stays { WasWritten (S.state store.old) (S.state store.new) }
 {
     match Cdb::decode(cdb) {
         Err(fault) => refused(asc_of(fault)),

@@ -1,11 +1,12 @@
 //! The blocks of a command, one after another.
 
-ghost use Rattle.std.specs.Prelude.{◌≡◌, ◌+◌, ◌*◌, ◌^◌, ◌<◌, ◌≤◌, ℕ, List, [], length, is_some, drop, Some, true};
+ghost use Rattle.std.specs.Prelude.{◌≡◌, ◌+◌, ◌*◌, ◌^◌, ◌<◌, ◌≤◌, [], length, drop, Some, true};
+ghost use Rattle.dix_base.specs.Stores.{WasRead, WasWritten};
 ghost use Rattle.dix_base.specs.Told.{Rose, over};
 ghost use Rattle.rig_api.specs.Log.{IsMedium, has_key};
 ghost use Rattle.target_answer.specs.Frames.{frames_of, sent_size};
 ghost use Rattle.target_answer.specs.Target.{passage, read_by, read_end, write_end, written_by};
-ghost use Rattle.target_model.specs.Served.{AllRead, AllWritten, IsSize, block_bytes};
+ghost use Rattle.target_model.specs.Served.{AllReadOn, AllVerifiedOn, AllWrittenOn, CanMove, block_bytes};
 
 use crate::block::{read_block, write_block};
 use crate::unit::{block_bytes, sent_size};
@@ -63,22 +64,13 @@ pub(crate) fn write_blocks<S: Store>(
     labels: &[Label],
     out: &[u8],
 ) -> Outcome
-    requires size { IsSize blocks.unit.size }
-    requires sent { sent_size blocks.fields.protect blocks.unit.size ≤ block_bytes blocks.unit }
+    requires can { CanMove blocks.unit blocks.fields blocks.lba place (S.state store.old).length }
     requires out { length out.now ≡ blocks.fields.n * sent_size blocks.fields.protect blocks.unit.size }
-    requires held { place + block_bytes blocks.unit * blocks.fields.n ≤ S.len store.old }
-    requires fits { place + block_bytes blocks.unit * blocks.fields.n < 2 ^ 64 }
-    requires last { blocks.lba + blocks.fields.n < 2 ^ 64 }
-    ensures told { (bytes : List ℕ) → S.bytes store.old ≡ Some bytes
-        → AllWritten (write_end blocks.lba (written_by blocks.unit blocks.fields blocks.lba tamper.now labels.now out.now)) (block_bytes blocks.unit) place
-        (S.faults store.old) (S.faults store.new) bytes (S.bytes store.new) result }
-    ensures medium { IsMedium result → Rose (S.faults store.old) (S.faults store.new) }
+    ensures told { AllWrittenOn (write_end blocks.lba (written_by blocks.unit blocks.fields blocks.lba tamper.now labels.now out.now))
+        (block_bytes blocks.unit) place (S.state store.old) (S.state store.new) result }
+    ensures medium { IsMedium result → Rose (S.state store.old).faults (S.state store.new).faults }
     ensures key { has_key result.sense ≡ true }
-    ensures tells { is_some (S.bytes store.new) ≡ is_some (S.bytes store.old) }
-    ensures len { S.len store.new ≡ S.len store.old }
-    ensures name { S.handed store.new ≡ S.handed store.old }
-    ensures openings { S.openings store.new ≡ S.openings store.old }
-    ensures count { S.faults store.old ≤ S.faults store.new }
+    ensures stays { WasWritten (S.state store.old) (S.state store.new) }
 {
     let mut buffer = [0u8; 4104];
     let stored = block_bytes(blocks.unit);
@@ -118,22 +110,13 @@ pub(crate) fn read_blocks<S: Store>(
     labels: &[Label],
     into: &mut [u8],
 ) -> Outcome
-    requires size { IsSize blocks.unit.size }
-    requires sent { sent_size blocks.fields.protect blocks.unit.size ≤ block_bytes blocks.unit }
+    requires can { CanMove blocks.unit blocks.fields blocks.lba place (S.state store.old).length }
     requires into { length into.old ≡ blocks.fields.n * sent_size blocks.fields.protect blocks.unit.size }
-    requires held { place + block_bytes blocks.unit * blocks.fields.n ≤ S.len store.old }
-    requires fits { place + block_bytes blocks.unit * blocks.fields.n < 2 ^ 64 }
-    requires last { blocks.lba + blocks.fields.n < 2 ^ 64 }
-    ensures told { (bytes : List ℕ) → S.bytes store.old ≡ Some bytes
-        → AllRead (read_end blocks.lba (read_by blocks.unit blocks.fields blocks.lba tamper.now labels.now (frames_of (block_bytes blocks.unit) blocks.fields.n (drop place bytes))))
-        (block_bytes blocks.unit) (S.faults store.old) (S.faults store.new) result into.old into.new }
-    ensures medium { IsMedium result → Rose (S.faults store.old) (S.faults store.new) }
+    ensures told { AllReadOn (λ held. read_end blocks.lba (read_by blocks.unit blocks.fields blocks.lba tamper.now labels.now (frames_of (block_bytes blocks.unit) blocks.fields.n (drop place held))))
+        (block_bytes blocks.unit) (S.state store.old) (S.state store.new) result into.old into.new }
+    ensures medium { IsMedium result → Rose (S.state store.old).faults (S.state store.new).faults }
     ensures key { has_key result.sense ≡ true }
-    ensures same { S.bytes store.new ≡ S.bytes store.old }
-    ensures len { S.len store.new ≡ S.len store.old }
-    ensures name { S.handed store.new ≡ S.handed store.old }
-    ensures openings { S.openings store.new ≡ S.openings store.old }
-    ensures count { S.faults store.old ≤ S.faults store.new }
+    ensures stays { WasRead (S.state store.old) (S.state store.new) }
 {
     let mut buffer = [0u8; 4104];
     let stored = block_bytes(blocks.unit);
@@ -164,21 +147,12 @@ pub(crate) fn verify_blocks<S: Store>(
     blocks: Blocks,
     tamper: &Tamper,
 ) -> Outcome
-    requires size { IsSize blocks.unit.size }
-    requires sent { sent_size blocks.fields.protect blocks.unit.size ≤ block_bytes blocks.unit }
-    requires held { place + block_bytes blocks.unit * blocks.fields.n ≤ S.len store.old }
-    requires fits { place + block_bytes blocks.unit * blocks.fields.n < 2 ^ 64 }
-    requires last { blocks.lba + blocks.fields.n < 2 ^ 64 }
-    ensures told { (bytes : List ℕ) → S.bytes store.old ≡ Some bytes
-        → (into : List ℕ) × AllRead (read_end blocks.lba (read_by blocks.unit blocks.fields blocks.lba tamper.now [] (frames_of (block_bytes blocks.unit) blocks.fields.n (drop place bytes))))
-        (block_bytes blocks.unit) (S.faults store.old) (S.faults store.new) result [] into }
-    ensures medium { IsMedium result → Rose (S.faults store.old) (S.faults store.new) }
+    requires can { CanMove blocks.unit blocks.fields blocks.lba place (S.state store.old).length }
+    ensures told { AllVerifiedOn (λ held. read_end blocks.lba (read_by blocks.unit blocks.fields blocks.lba tamper.now [] (frames_of (block_bytes blocks.unit) blocks.fields.n (drop place held))))
+        (block_bytes blocks.unit) (S.state store.old) (S.state store.new) result }
+    ensures medium { IsMedium result → Rose (S.state store.old).faults (S.state store.new).faults }
     ensures key { has_key result.sense ≡ true }
-    ensures same { S.bytes store.new ≡ S.bytes store.old }
-    ensures len { S.len store.new ≡ S.len store.old }
-    ensures name { S.handed store.new ≡ S.handed store.old }
-    ensures openings { S.openings store.new ≡ S.openings store.old }
-    ensures count { S.faults store.old ≤ S.faults store.new }
+    ensures stays { WasRead (S.state store.old) (S.state store.new) }
 {
     let mut buffer = [0u8; 4104];
     let stored = block_bytes(blocks.unit);

@@ -10,4 +10,4 @@ read_at-requires g c =
 
 pub returns-clause-read : goal.returns-clause-read
 returns-clause-read g c =
-    were_read c.read_at.result (units_open c.args.image.now) c.args.at c.place_in.result _ c.read_at.new.into (g.S.Store.bytes c.args.store.now) c.requires.place c.place_in.ensures c.requires.room (c.read_at.auto.into ∙ c.requires.room) c.read_at.ensures.read
+    were_read c.read_at.result (units_open c.args.image.now) c.args.at c.place_in.result _ c.read_at.new.into (g.S.Store.state c.args.store.now).bytes c.requires.place c.place_in.ensures c.requires.room (c.read_at.auto.into ∙ c.requires.room) c.read_at.ensures.read

@@ -11,11 +11,11 @@ write_at-requires g c =
 
 pub returns-clause-put : goal.returns-clause-put
 returns-clause-put g c = ok_map c.write_at.result _ _
-    (are_put (units_open c.args.image.now) c.args.at c.place_in.result (g.S.Store.len c.args.store.now) c.args.from.now (g.S.Store.bytes c.args.store.now) (g.S.Store.bytes c.write_at.new.self)
+    (are_put (units_open c.args.image.now) c.args.at c.place_in.result (g.S.Store.state c.args.store.now).length c.args.from.now (g.S.Store.state c.args.store.now).bytes (g.S.Store.state c.write_at.new.self).bytes
     c.requires.place c.place_in.ensures c.requires.room c.requires.held (g.met.S.Store.told c.args.store.now))
     c.write_at.ensures.written
 
 pub returns-clause-left : goal.returns-clause-left
 returns-clause-left g c =
-    are_left (units_open c.args.image.now) c.args.at c.place_in.result (g.S.Store.len c.args.store.now) (length c.args.from.now) (g.S.Store.bytes c.args.store.now) (g.S.Store.bytes c.write_at.new.self)
+    are_left (units_open c.args.image.now) c.args.at c.place_in.result (g.S.Store.state c.args.store.now).length (length c.args.from.now) (g.S.Store.state c.args.store.now).bytes (g.S.Store.state c.write_at.new.self).bytes
     c.requires.place c.place_in.ensures c.requires.room c.requires.held (g.met.S.Store.told c.args.store.now) c.write_at.ensures.apart

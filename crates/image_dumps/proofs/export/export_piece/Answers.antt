@@ -5,16 +5,16 @@ use Rattle.image_dumps.proofs.export.export_piece.Goals as goal
 
 pub returns-in-Err-clause-dumped : goal.returns-in-Err-clause-dumped
 returns-in-Err-clause-dumped g c =
-    (c.in-Err.ensures.cause, none_dumped c.args.layout (units_open c.args.image.now) c.args.at (g.S.Store.len c.args.store.now) (g.S.Store.bytes c.args.store.now) _ _ c.requires.place c.requires.held (g.met.S.Store.told c.args.store.now) refl)
+    (c.in-Err.ensures.counted.cause, none_dumped c.args.layout (units_open c.args.image.now) c.args.at (g.S.Store.state c.args.store.now).length (g.S.Store.state c.args.store.now).bytes _ _ c.requires.place c.requires.held (g.met.S.Store.told c.args.store.now) refl)
 
 pub returns-in-Ok-write_dump-clause-dumped : goal.returns-in-Ok-write_dump-clause-dumped
 returns-in-Ok-write_dump-clause-dumped g c =
-    piece_dumped c.args.layout (units_open c.args.image.now) c.units.result.now c.args.at c.read_blocks.new.into (g.S.Store.bytes c.args.store.now) (g.O.Sink.taken c.args.out.now) (g.O.Sink.taken c.write_dump.new.out)
+    piece_dumped c.args.layout (units_open c.args.image.now) c.units.result.now c.args.at c.read_blocks.new.into (g.S.Store.state c.args.store.now).bytes (g.O.Sink.taken c.args.out.now) (g.O.Sink.taken c.write_dump.new.out)
     c.units.ensures c.in-Ok.ensures.read c.in-Ok-write_dump.ensures.whole
 
 pub returns-in-Err-write_dump-clause-dumped : goal.returns-in-Err-write_dump-clause-dumped
 returns-in-Err-write_dump-clause-dumped g c = (
   c.in-Err-write_dump.ensures.cause,
-  piece_some c.args.layout (units_open c.args.image.now) c.units.result.now c.args.at c.read_blocks.new.into (g.S.Store.bytes c.args.store.now) (g.O.Sink.taken c.args.out.now) (g.O.Sink.taken c.write_dump.new.out)
+  piece_some c.args.layout (units_open c.args.image.now) c.units.result.now c.args.at c.read_blocks.new.into (g.S.Store.state c.args.store.now).bytes (g.O.Sink.taken c.args.out.now) (g.O.Sink.taken c.write_dump.new.out)
       c.units.ensures c.in-Ok.ensures.read c.in-Err-write_dump.ensures.part,
 )

@@ -10,5 +10,5 @@ returns-in-Ok-take-clause-imported g c =
     let room = c.take_all.ensures.room in
     let half = c.split_at_mut-pieces.ensures.front_len in
     let least = c.requires.least in
-    ended_long c.args.layout (units_open c.args.image.now) c.args.place c.in-Ok.count c.in-Ok-take.field-0 c.take.new.buf (g.S.Store.bytes c.args.store.now) (g.S.Store.bytes c.take_all.new.store) (g.R.Source.left c.args.source.now) (g.R.Source.left c.take_all.new.source) (g.R.Source.left c.take.new.self)
+    ended_long c.args.layout (units_open c.args.image.now) c.args.place c.in-Ok.count c.in-Ok-take.field-0 c.take.new.buf (g.S.Store.state c.args.store.now).bytes (g.S.Store.state c.take_all.new.store).bytes (g.R.Source.left c.args.source.now) (g.R.Source.left c.take_all.new.source) (g.R.Source.left c.take.new.self)
     c.in-Ok.ensures.taken (omega (arith, c.in-Ok-take.field-0-test)) (omega (arith, c.in-Ok-take.ensures.bound, one)) (c.take.auto.buf ∙ one ∙ (omega (arith, room, half, least))) c.in-Ok-take.ensures.taken

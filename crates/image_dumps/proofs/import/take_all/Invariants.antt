@@ -1,7 +1,7 @@
 use Rattle.std.proofs.Common.{◌≡◌, ◌≤◌, length}
 use Rattle.image_blocks.specs.Images.{units_open}
 use Rattle.image_blocks.specs.Places.{IsStretch}
-use Rattle.image_walk.specs.Stores.{WasWritten, held}
+use Rattle.dix_base.specs.Stores.{WasWritten}
 use Rattle.image_dumps.specs.Ends.{KeepsOutside}
 use Rattle.image_dumps.proofs.Importing.{SoFar}
 use Rattle.image_dumps.proofs.import.take_all.Given as goal
@@ -9,12 +9,11 @@ use Rattle.image_dumps.proofs.import.take_all.Given as goal
 abbrev pub invariant-loop-left : goal.invariant-loop-left
 invariant-loop-left g l = record {
   there : IsStretch (units_open l.image) l.left;
-  apart : KeepsOutside (units_open l.image) l.fn.place (g.S.Store.bytes l.initial.store) (g.S.Store.bytes l.store);
-  taken : SoFar l.layout (units_open l.image) l.fn.place l.left l.done (g.S.Store.bytes l.initial.store) (g.S.Store.bytes l.store) (g.R.Source.left l.initial.source) (g.R.Source.left l.source);
+  apart : KeepsOutside (units_open l.image) l.fn.place (g.S.Store.state l.initial.store).bytes (g.S.Store.state l.store).bytes;
+  taken : SoFar l.layout (units_open l.image) l.fn.place l.left l.done (g.S.Store.state l.initial.store).bytes (g.S.Store.state l.store).bytes (g.R.Source.left l.initial.source) (g.R.Source.left l.source);
   pieces : length l.pieces ≡ length l.initial.pieces;
   frames : length l.frames ≡ length l.initial.frames;
-  store : WasWritten (held (g.S.Store.bytes l.initial.store) (g.S.Store.len l.initial.store) (g.S.Store.faults l.initial.store) (g.S.Store.handed l.initial.store) (g.S.Store.openings l.initial.store))
-      (held (g.S.Store.bytes l.store) (g.S.Store.len l.store) (g.S.Store.faults l.store) (g.S.Store.handed l.store) (g.S.Store.openings l.store));
+  store : WasWritten (g.S.Store.state l.initial.store) (g.S.Store.state l.store);
   sources : g.R.Source.faults l.initial.source ≤ g.R.Source.faults l.source;
 }
 

@@ -1,4 +1,5 @@
-use Rattle.std.proofs.Common.{◌≡◌, ◌≤◌, take, replicate, length, is_some}
+use Rattle.std.proofs.Common.{◌≡◌, take, replicate, length}
+use Rattle.dix_base.specs.Stores.{WasExtended}
 use Rattle.dix_base.specs.Told.{Appended}
 use Rattle.target_answer.specs.Frames.{joined, stored_size}
 use Rattle.target_answer.specs.Image.{fresh_from}
@@ -8,9 +9,6 @@ abbrev pub invariant-loop-k : goal.invariant-loop-k
 invariant-loop-k g l = record {
   long : length l.frame ≡ stored_size l.unit.ty l.unit.size;
   zeros : take l.unit.size l.frame ≡ replicate l.unit.size 0;
-  appended : Appended (joined (fresh_from l.unit.ty l.unit.size l.unit.first l.k)) (g.S.Store.bytes l.initial.store) (g.S.Store.bytes l.store);
-  tells : is_some (g.S.Store.bytes l.store) ≡ is_some (g.S.Store.bytes l.initial.store);
-  count : g.S.Store.faults l.initial.store ≤ g.S.Store.faults l.store;
-  named : g.S.Store.handed l.store ≡ g.S.Store.handed l.initial.store;
-  opened : g.S.Store.openings l.store ≡ g.S.Store.openings l.initial.store;
+  appended : Appended (joined (fresh_from l.unit.ty l.unit.size l.unit.first l.k)) (g.S.Store.state l.initial.store).bytes (g.S.Store.state l.store).bytes;
+  store : WasExtended (g.S.Store.state l.initial.store) (g.S.Store.state l.store);
 }

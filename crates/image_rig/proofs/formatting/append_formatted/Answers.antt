@@ -1,4 +1,5 @@
-use Rattle.std.proofs.Common.{◌++◌, sym, ap, subst, ◌∙◌, arith, append_assoc, take, get_or}
+use Rattle.std.proofs.Common.{◌++◌, sym, ap, subst, ◌∙◌, append_assoc, take, get_or}
+use Rattle.dix_base.proofs.Stores.{extended_on}
 use Rattle.dix_base.specs.Told.{Appended}
 use Rattle.dix_base.proofs.Appending.{appended_both}
 use Rattle.target_answer.specs.Frames.{joined}
@@ -13,15 +14,12 @@ loop-unit-preserved g c =
     let us = c.args.units.now in
     let i = c.loop-unit.unit-index in
     let h = header (version_for us) us in
-    let more = appended_both (h ++ fresh_bytes (take i us)) (joined (all_fresh (get_or us i no_spec))) (g.S.Store.bytes c.args.store.now) (g.S.Store.bytes c.loop-unit.store) (g.S.Store.bytes c.append_unit.new.store) c.loop-unit.invariant.appended c.in_ok-append_unit.ensures.appended in
+    let more = appended_both (h ++ fresh_bytes (take i us)) (joined (all_fresh (get_or us i no_spec))) (g.S.Store.state c.args.store.now).bytes (g.S.Store.state c.loop-unit.store).bytes (g.S.Store.state c.append_unit.new.store).bytes c.loop-unit.invariant.appended c.in_ok-append_unit.ensures.appended in
     record {
-      appended = subst (λ xs. Appended xs (g.S.Store.bytes c.args.store.now) (g.S.Store.bytes c.append_unit.new.store))
+      appended = subst (λ xs. Appended xs (g.S.Store.state c.args.store.now).bytes (g.S.Store.state c.append_unit.new.store).bytes)
           (append_assoc h (fresh_bytes (take i us)) (joined (all_fresh (get_or us i no_spec))) ∙ ap (λ v. h ++ v) (sym (units_more us i no_spec c.loop-unit-test.true))) more;
-      tells = c.append_unit.ensures.tells ∙ c.loop-unit.invariant.tells;
-      count = omega (arith, c.loop-unit.invariant.count, c.append_unit.ensures.count);
-      named = c.append_unit.ensures.named ∙ c.loop-unit.invariant.named;
-      opened = c.append_unit.ensures.opened ∙ c.loop-unit.invariant.opened;
+      store = extended_on (g.S.Store.state c.args.store.now) (g.S.Store.state c.loop-unit.store) (g.S.Store.state c.append_unit.new.store) c.loop-unit.invariant.store c.append_unit.ensures.stays;
     }
 
 pub returns-clause-appended : goal.returns-clause-appended
-returns-clause-appended g c = subst (λ xs. Appended xs (g.S.Store.bytes c.args.store.now) (g.S.Store.bytes c.loop-unit.store)) (all_units c.args.units.now c.loop-unit.unit-index c.loop-unit-test.false) c.loop-unit.invariant.appended
+returns-clause-appended g c = subst (λ xs. Appended xs (g.S.Store.state c.args.store.now).bytes (g.S.Store.state c.loop-unit.store).bytes) (all_units c.args.units.now c.loop-unit.unit-index c.loop-unit-test.false) c.loop-unit.invariant.appended

@@ -16,5 +16,5 @@ pub returns-in_ok-write_header-in-Some-First-clause-stored : goal.returns-in_ok-
 returns-in_ok-write_header-in-Some-First-clause-stored g c =
     let h = head_in c.args.head.now in
     let us : c.deref.result.now ≡ units_of h = c.deref.ensures.0 ∙ c.units-units.ensures in
-    keeps_units c.deref.result.now h (g.S.Store.bytes c.args.store.now) (g.S.Store.bytes c.write_header.new.store) (ap is_layout us ∙ right_layout h c.requires.right) us c.requires.told
+    keeps_units c.deref.result.now h (g.S.Store.state c.args.store.now).bytes (g.S.Store.state c.write_header.new.store).bytes (ap is_layout us ∙ right_layout h c.requires.right) us c.requires.told
     c.in_ok-write_header-in-Some-First.ensures.written

@@ -5,9 +5,9 @@ use Rattle.image_rig.proofs.migrating.write_header.Goals as goal
 
 pub returns-clause-written : goal.returns-clause-written
 returns-clause-written g c = ok_map c.write_at.result _ _
-    (becomes_map _ _ (λ was is o. over_header c.args.units.now _ was is c.requires.few (c.deref.ensures.0 ∙ c.header.ensures) o) (g.S.Store.bytes c.args.store.now) (g.S.Store.bytes c.write_at.new.self))
+    (becomes_map _ _ (λ was is o. over_header c.args.units.now _ was is c.requires.few (c.deref.ensures.0 ∙ c.header.ensures) o) (g.S.Store.state c.args.store.now).bytes (g.S.Store.state c.write_at.new.self).bytes)
     c.write_at.ensures.written
 
 pub returns-clause-blocks : goal.returns-clause-blocks
 returns-clause-blocks g c =
-    becomes_map _ _ (λ was is a. kept_behind _ was is (ap length (c.deref.ensures.0 ∙ c.header.ensures) ∙ header_long c.args.units.now c.requires.few) a) (g.S.Store.bytes c.args.store.now) (g.S.Store.bytes c.write_at.new.self) c.write_at.ensures.apart
+    becomes_map _ _ (λ was is a. kept_behind _ was is (ap length (c.deref.ensures.0 ∙ c.header.ensures) ∙ header_long c.args.units.now c.requires.few) a) (g.S.Store.state c.args.store.now).bytes (g.S.Store.state c.write_at.new.self).bytes c.write_at.ensures.apart

@@ -12,7 +12,7 @@ overwrite_block-requires-clause-source g c =
     let n = c.stored_size-len.result in
     let small = block_small us c.args.dev n c.requires.layout c.requires.device c.stored_size-len.ensures.bound in
     let held = source_held us c.args.dev c.args.lba c.args.change.now c.requires.device c.requires.source (sym c.can_change.ensures ∙ c.if-not-can_change.false) in
-    fits_room c.source_place-from.result n (g.S.Store.len c.args.store.now) small (omega (arith, held, c.source_place-from.ensures, c.stored_size-len.ensures.value, c.requires.held))
+    fits_room c.source_place-from.result n (g.S.Store.state c.args.store.now).length small (omega (arith, held, c.source_place-from.ensures, c.stored_size-len.ensures.value, c.requires.held))
 
 pub overwrite_block-requires-clause-target : goal.overwrite_block-requires-clause-target
 overwrite_block-requires-clause-target g c =
@@ -20,4 +20,4 @@ overwrite_block-requires-clause-target g c =
     let n = c.stored_size-len.result in
     let small = block_small us c.args.dev n c.requires.layout c.requires.device c.stored_size-len.ensures.bound in
     let held = block_held us c.args.dev c.args.lba (target_address us c.args.dev c.args.lba c.args.change.now c.requires.device (sym c.can_change.ensures ∙ c.if-not-can_change.false)) in
-    fits_room c.block_place-to.result n (g.S.Store.len c.args.store.now) small (omega (arith, held, c.block_place-to.ensures.value, c.stored_size-len.ensures.value, c.requires.held))
+    fits_room c.block_place-to.result n (g.S.Store.state c.args.store.now).length small (omega (arith, held, c.block_place-to.ensures.value, c.stored_size-len.ensures.value, c.requires.held))

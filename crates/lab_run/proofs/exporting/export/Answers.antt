@@ -1,5 +1,5 @@
 use Rattle.std.proofs.Common.{sym, ◌∙◌}
-use Rattle.lab_run.specs.Calls.{Held, held}
+use Rattle.dix_base.specs.Stores.{StoreState}
 use Rattle.lab_run.proofs.Dumping.{exported, spared_export, unexported, unfit_export, unplaced_export}
 use Rattle.lab_run.proofs.Endings.{tried}
 use Rattle.lab_run.proofs.exporting.export.Goals as goal
@@ -11,29 +11,27 @@ pub returns-in-Err-open_image : goal.returns-in-Err-open_image
 returns-in-Err-open_image g c = λ left reads rig second.
     let e = c.in-Err-open_image.ensures in
     unexported _ c.args.place c.args.layout _ _ left reads rig second c.in-Err-open_image.fault c.of.result _ _ _ _ c.refuse-in-Err-open_image.result c.requires c.of.ensures
-    (tried _ _ c.image_of.result.now _ _ c.image_of.ensures e.judged e.failed e.opening e.opened e.same e.count) c.refuse-in-Err-open_image.ensures
+    (tried _ _ c.image_of.result.now _ _ c.image_of.ensures e.judged e.looked) c.refuse-in-Err-open_image.ensures
 
 pub returns-in-Err-stretch_of : goal.returns-in-Err-stretch_of
 returns-in-Err-stretch_of g c = λ left reads rig second.
     let e = c.in-Ok-open_image.ensures in
     unplaced_export _ c.args.place c.args.layout _ _ left reads rig second c.in-Ok-open_image.image c.in-Err-stretch_of.fault _ _ _ _ c.refuse-in-Err-stretch_of.result c.requires
-    (tried _ _ c.image_of.result.now _ _ c.image_of.ensures e.judged e.failed e.opening e.opened e.same e.count) c.in-Err-stretch_of.ensures.value c.refuse-in-Err-stretch_of.ensures
+    (tried _ _ c.image_of.result.now _ _ c.image_of.ensures e.judged e.looked) c.in-Err-stretch_of.ensures.value c.refuse-in-Err-stretch_of.ensures
 
 pub returns-then-not-fits_there : goal.returns-then-not-fits_there
 returns-then-not-fits_there g c = λ left reads rig second.
     let e = c.in-Ok-open_image.ensures in
     unfit_export _ c.args.place c.args.layout _ _ left reads rig second c.in-Ok-open_image.image c.in-Ok-stretch_of.at c.fits_there.result _ _ _ _ c.refuse-then-not-fits_there.result c.requires
-    (tried _ _ c.image_of.result.now _ _ c.image_of.ensures e.judged e.failed e.opening e.opened e.same e.count) c.in-Ok-stretch_of.ensures.value c.fits_there.ensures c.if-not-fits_there.true c.refuse-then-not-fits_there.ensures
+    (tried _ _ c.image_of.result.now _ _ c.image_of.ensures e.judged e.looked) c.in-Ok-stretch_of.ensures.value c.fits_there.ensures c.if-not-fits_there.true c.refuse-then-not-fits_there.ensures
 
 pub returns : goal.returns
 returns g c = λ left reads rig second.
     let e = c.in-Ok-open_image.ensures in
-    let was : Held = held (g.A.Store.bytes c.args.store.now) (g.A.Store.len c.args.store.now) (g.A.Store.faults c.args.store.now) (g.A.Store.handed c.args.store.now) (g.A.Store.openings c.args.store.now) in
-    let mid : Held =
-    held (g.A.Store.bytes c.open_image.new.store) (g.A.Store.len c.open_image.new.store) (g.A.Store.faults c.open_image.new.store) (g.A.Store.handed c.open_image.new.store) (g.A.Store.openings c.open_image.new.store) in
-    let is : Held =
-    held (g.A.Store.bytes c.export_blocks.new.store) (g.A.Store.len c.export_blocks.new.store) (g.A.Store.faults c.export_blocks.new.store) (g.A.Store.handed c.export_blocks.new.store) (g.A.Store.openings c.export_blocks.new.store) in
+    let was : StoreState = g.A.Store.state c.args.store.now in
+    let mid : StoreState = g.A.Store.state c.open_image.new.store in
+    let is : StoreState = g.A.Store.state c.export_blocks.new.store in
     let s = c.export_blocks.ensures in
     exported _ c.args.place c.args.layout c.laid.result was mid is left reads rig second c.in-Ok-open_image.image c.in-Ok-stretch_of.at c.export_blocks.result _ _ _ _ c.dumped.result c.laid.ensures c.requires
-    (tried _ _ c.image_of.result.now was mid c.image_of.ensures e.judged e.failed e.opening e.opened e.same e.count) s.store c.in-Ok-stretch_of.ensures.value (sym c.fits_there.ensures ∙ c.if-not-fits_there.false)
+    (tried _ _ c.image_of.result.now was mid c.image_of.ensures e.judged e.looked) s.store c.in-Ok-stretch_of.ensures.value (sym c.fits_there.ensures ∙ c.if-not-fits_there.false)
     s.dumped c.dumped.ensures

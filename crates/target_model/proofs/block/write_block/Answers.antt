@@ -23,11 +23,11 @@ unstored judged frame size place lba o n before now bytes sense e j l h s b r =
 pub returns-in-Err-clause-told : goal.returns-in-Err-clause-told
 returns-in-Err-clause-told g c =
     λ bytes e.
-    let len : g.S.Store.len c.args.store.now ≡ length bytes = told_length _ _ bytes e (g.met.S.Store.told c.args.store.now) in
+    let len : (g.S.Store.state c.args.store.now).length ≡ length bytes = told_length _ _ bytes e (g.met.S.Store.told c.args.store.now) in
     let long : length c.to_medium.new.frame ≡ stored_size c.args.block.ty c.args.block.size = c.in-None.ensures.length ∙ grown in
-    unstored (to_medium c.args.tamper.now c.args.block c.args.sent.now) c.to_medium.new.frame (stored_size c.args.block.ty c.args.block.size) c.args.place c.args.block.lba (g.S.Store.faults c.args.store.now) (g.S.Store.faults c.write_at.new.self)
-    (g.S.Store.bytes c.args.store.now) (g.S.Store.bytes c.write_at.new.self) bytes c.medium.result e
-    (sym (c.in-None.ensures.judged ∙ ap (to_medium c.args.tamper.now c.args.block) sent)) long (omega arith) c.medium.ensures c.write_at.ensures.apart c.in-Err.ensures.cause
+    unstored (to_medium c.args.tamper.now c.args.block c.args.sent.now) c.to_medium.new.frame (stored_size c.args.block.ty c.args.block.size) c.args.place c.args.block.lba (g.S.Store.state c.args.store.now).faults (g.S.Store.state c.write_at.new.self).faults
+    (g.S.Store.state c.args.store.now).bytes (g.S.Store.state c.write_at.new.self).bytes bytes c.medium.result e
+    (sym (c.in-None.ensures.judged ∙ ap (to_medium c.args.tamper.now c.args.block) sent)) long (omega arith) c.medium.ensures c.write_at.ensures.apart c.in-Err.ensures.counted.cause
   where
     grown : length (c.copy_from_slice.new.self ++ drop (length c.args.sent.now) c.args.frame.now) ≡ stored_size c.args.block.ty c.args.block.size
     grown = copied_length c.copy_from_slice.new.self c.args.sent.now c.args.frame.now c.copy_from_slice.ensures.after c.requires.fits ∙ c.requires.frame

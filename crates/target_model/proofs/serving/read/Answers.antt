@@ -1,14 +1,11 @@
 use Rattle.std.proofs.Common.{length, arith, ◌∙◌}
 use Rattle.target_answer.specs.declared.request.Request.TheVariants.{Read}
 use Rattle.target_model.proofs.Bytes.{told_length}
-use Rattle.target_model.proofs.Composing.{keyed, not_medium, place_fits, place_held, refused_by, read_as}
+use Rattle.target_model.proofs.Composing.{can_move, keyed, not_medium, refused_by, read_as}
 use Rattle.target_model.proofs.serving.read.Goals as goal
 
-pub read_blocks-requires-clause-held : goal.read_blocks-requires-clause-held
-read_blocks-requires-clause-held g c = place_held c.args.unit.now c.shape-shape.result c.in-Ok.from c.args.c.n c.place_of.result _ c.shape-shape.ensures c.in-Ok.ensures.source c.place_of.ensures c.requires.unit.held
-
-pub read_blocks-requires-clause-fits : goal.read_blocks-requires-clause-fits
-read_blocks-requires-clause-fits g c = place_fits c.args.unit.now c.shape-shape.result c.in-Ok.from c.args.c.n c.place_of.result c.shape-shape.ensures c.in-Ok.ensures.source c.place_of.ensures c.requires.unit.places
+pub read_blocks-requires-clause-can : goal.read_blocks-requires-clause-can
+read_blocks-requires-clause-can g c = can_move c.args.unit.now c.shape-shape.result c.args.c c.in-Ok.lba c.in-Ok.from c.place_of.result _ c.shape-shape.ensures c.requires.unit c.in-Ok.ensures.frame c.in-Ok.ensures.inside c.in-Ok.ensures.source c.place_of.ensures
 
 pub returns-in-Err-clause-told : goal.returns-in-Err-clause-told
 returns-in-Err-clause-told g c =
@@ -28,4 +25,4 @@ returns-in-Ok-clause-told g c =
     λ bytes e.
     let len = told_length _ _ bytes e (g.met.S.Store.told c.args.store.now) in
     read_as c.args.unit.now c.shape-shape.result c.args.cdb c.args.c c.in-Ok.lba c.in-Ok.from c.place_of.result _ _ (length c.args.into.now) c.args.tamper.now c.args.labels.now c.args.out.now bytes c.args.into.now _ _ c.read_blocks.result
-    c.shape-shape.ensures (omega (arith, len, c.requires.unit.held)) (c.read_blocks.ensures.same ∙ e) c.in-Ok.ensures.taken c.in-Ok.ensures.address c.in-Ok.ensures.fetched c.in-Ok.ensures.source c.place_of.ensures (c.read_blocks.ensures.told bytes e)
+    c.shape-shape.ensures (omega (arith, len, c.requires.unit.held)) (c.read_blocks.ensures.stays.same ∙ e) c.in-Ok.ensures.taken c.in-Ok.ensures.address c.in-Ok.ensures.fetched c.in-Ok.ensures.source c.place_of.ensures (c.read_blocks.ensures.told bytes e)

@@ -1,14 +1,11 @@
 use Rattle.std.proofs.Common.{length, arith, ◌∙◌}
 use Rattle.target_answer.specs.declared.request.Request.TheVariants.{Verify}
 use Rattle.target_model.proofs.Bytes.{told_length}
-use Rattle.target_model.proofs.Composing.{keyed, not_medium, place_fits, place_held, refused_by, verified_as}
+use Rattle.target_model.proofs.Composing.{can_move, keyed, not_medium, refused_by, verified_as}
 use Rattle.target_model.proofs.serving.verify.Goals as goal
 
-pub verify_blocks-requires-clause-held : goal.verify_blocks-requires-clause-held
-verify_blocks-requires-clause-held g c = place_held c.args.unit.now c.shape-shape.result c.args.c.lba c.args.c.n c.place_of.result _ c.shape-shape.ensures c.in-Ok.ensures.inside c.place_of.ensures c.requires.unit.held
-
-pub verify_blocks-requires-clause-fits : goal.verify_blocks-requires-clause-fits
-verify_blocks-requires-clause-fits g c = place_fits c.args.unit.now c.shape-shape.result c.args.c.lba c.args.c.n c.place_of.result c.shape-shape.ensures c.in-Ok.ensures.inside c.place_of.ensures c.requires.unit.places
+pub verify_blocks-requires : goal.verify_blocks-requires
+verify_blocks-requires g c = record { can = can_move c.args.unit.now c.shape-shape.result c.args.c c.args.c.lba c.args.c.lba c.place_of.result _ c.shape-shape.ensures c.requires.unit c.in-Ok.ensures.frame c.in-Ok.ensures.inside c.in-Ok.ensures.inside c.place_of.ensures }
 
 pub returns-in-Err-clause-told : goal.returns-in-Err-clause-told
 returns-in-Err-clause-told g c =
@@ -29,4 +26,4 @@ returns-in-Ok-clause-told g c =
     let len = told_length _ _ bytes e (g.met.S.Store.told c.args.store.now) in
     let r = c.verify_blocks.ensures.told bytes e in
     verified_as c.args.unit.now c.shape-shape.result c.args.cdb c.args.c c.place_of.result _ _ (length c.args.into.now) c.args.tamper.now c.args.labels.now c.args.out.now bytes c.args.into.now r.0 _ c.verify_blocks.result
-    c.shape-shape.ensures (omega (arith, len, c.requires.unit.held)) (c.verify_blocks.ensures.same ∙ e) c.in-Ok.ensures.taken c.in-Ok.ensures.inside c.place_of.ensures r.1
+    c.shape-shape.ensures (omega (arith, len, c.requires.unit.held)) (c.verify_blocks.ensures.stays.same ∙ e) c.in-Ok.ensures.taken c.in-Ok.ensures.inside c.place_of.ensures r.1

@@ -1,14 +1,11 @@
 use Rattle.std.proofs.Common.{length, arith}
 use Rattle.target_answer.specs.declared.request.Request.TheVariants.{Write}
 use Rattle.target_model.proofs.Bytes.{told_length}
-use Rattle.target_model.proofs.Composing.{keyed, not_medium, place_fits, place_held, refused_by, written_as}
+use Rattle.target_model.proofs.Composing.{can_move, keyed, not_medium, refused_by, written_as}
 use Rattle.target_model.proofs.serving.write.Goals as goal
 
-pub write_blocks-requires-clause-held : goal.write_blocks-requires-clause-held
-write_blocks-requires-clause-held g c = place_held c.args.unit.now c.shape-shape.result c.in-Ok.lba c.args.c.n c.place_of.result _ c.shape-shape.ensures c.in-Ok.ensures.inside c.place_of.ensures c.requires.unit.held
-
-pub write_blocks-requires-clause-fits : goal.write_blocks-requires-clause-fits
-write_blocks-requires-clause-fits g c = place_fits c.args.unit.now c.shape-shape.result c.in-Ok.lba c.args.c.n c.place_of.result c.shape-shape.ensures c.in-Ok.ensures.inside c.place_of.ensures c.requires.unit.places
+pub write_blocks-requires-clause-can : goal.write_blocks-requires-clause-can
+write_blocks-requires-clause-can g c = can_move c.args.unit.now c.shape-shape.result c.args.c c.in-Ok.lba c.in-Ok.lba c.place_of.result _ c.shape-shape.ensures c.requires.unit c.in-Ok.ensures.frame c.in-Ok.ensures.inside c.in-Ok.ensures.inside c.place_of.ensures
 
 pub returns-in-Err-clause-told : goal.returns-in-Err-clause-told
 returns-in-Err-clause-told g c =

@@ -1,4 +1,5 @@
-use Rattle.std.proofs.Common.{◌≡◌, ℕ, ◌+◌, ◌*◌, ◌≤◌, List, Some, length, drop}
+use Rattle.std.proofs.Common.{◌≡◌, ℕ, ◌+◌, ◌*◌, List, Some, length, drop}
+use Rattle.dix_base.specs.Stores.{WasRead}
 use Rattle.target_answer.specs.Passing.{from_medium}
 use Rattle.target_answer.specs.Target.{passage}
 use Rattle.target_model.proofs.Reading.{Sent}
@@ -6,15 +7,11 @@ use Rattle.target_model.proofs.transfer.read_blocks.Given as goal
 
 abbrev pub invariant-loop-k : goal.invariant-loop-k
 invariant-loop-k g l = record {
-  told : (bytes : List ℕ) → g.S.Store.bytes l.initial.store ≡ Some bytes
+  told : (bytes : List ℕ) → (g.S.Store.state l.initial.store).bytes ≡ Some bytes
       → Sent (λ k frame. from_medium l.tamper (passage l.blocks.unit l.blocks.fields l.blocks.lba l.labels k) frame) l.blocks.lba l.stored l.blocks.fields.n l.sent l.k (drop l.at bytes) (drop l.place bytes) l.initial.into l.into;
   into : length l.into ≡ length l.initial.into;
   at : l.at ≡ l.place + l.stored * l.k;
   end : l.end ≡ l.sent * l.k;
   buffer : length l.buffer ≡ 4104;
-  same : g.S.Store.bytes l.store ≡ g.S.Store.bytes l.initial.store;
-  len : g.S.Store.len l.store ≡ g.S.Store.len l.initial.store;
-  name : g.S.Store.handed l.store ≡ g.S.Store.handed l.initial.store;
-  openings : g.S.Store.openings l.store ≡ g.S.Store.openings l.initial.store;
-  count : g.S.Store.faults l.initial.store ≤ g.S.Store.faults l.store;
+  store : WasRead (g.S.Store.state l.initial.store) (g.S.Store.state l.store);
 }

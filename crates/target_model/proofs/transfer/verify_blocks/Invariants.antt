@@ -1,4 +1,5 @@
-use Rattle.std.proofs.Common.{◌≡◌, ℕ, ◌+◌, ◌*◌, ◌≤◌, List, [], Some, length, drop}
+use Rattle.std.proofs.Common.{◌≡◌, ℕ, ◌+◌, ◌*◌, List, [], Some, length, drop}
+use Rattle.dix_base.specs.Stores.{WasRead}
 use Rattle.target_answer.specs.Frames.{sent_size}
 use Rattle.target_answer.specs.Passing.{from_medium}
 use Rattle.target_answer.specs.Target.{passage}
@@ -7,13 +8,9 @@ use Rattle.target_model.proofs.transfer.verify_blocks.Given as goal
 
 abbrev pub invariant-loop-k : goal.invariant-loop-k
 invariant-loop-k g l = record {
-  told : (bytes : List ℕ) → g.S.Store.bytes l.initial.store ≡ Some bytes
+  told : (bytes : List ℕ) → (g.S.Store.state l.initial.store).bytes ≡ Some bytes
       → (into : List ℕ) × Sent (λ k frame. from_medium l.tamper (passage l.blocks.unit l.blocks.fields l.blocks.lba [] k) frame) l.blocks.lba l.stored l.blocks.fields.n (sent_size l.blocks.fields.protect l.blocks.unit.size) l.k (drop l.at bytes) (drop l.place bytes) [] into;
   at : l.at ≡ l.place + l.stored * l.k;
   buffer : length l.buffer ≡ 4104;
-  same : g.S.Store.bytes l.store ≡ g.S.Store.bytes l.initial.store;
-  len : g.S.Store.len l.store ≡ g.S.Store.len l.initial.store;
-  name : g.S.Store.handed l.store ≡ g.S.Store.handed l.initial.store;
-  openings : g.S.Store.openings l.store ≡ g.S.Store.openings l.initial.store;
-  count : g.S.Store.faults l.initial.store ≤ g.S.Store.faults l.store;
+  store : WasRead (g.S.Store.state l.initial.store) (g.S.Store.state l.store);
 }
