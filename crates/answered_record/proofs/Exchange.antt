@@ -26,7 +26,7 @@ use Rattle.target_answer.specs.declared.passage.Passage.{Passage}
 use Rattle.target_answer.specs.declared.request.Request.{Request}
 use Rattle.target_answer.specs.declared.request.Request.TheVariants.{Read, ReadCapacity, Verify, Write}
 use Rattle.target_answer.specs.Target.{Answer, Refusal, Stored, answer_unless, capacity_data, carried_out, each, first_of, foreign_form, illegal, medium_address, no_tuples, outside, fetched_outside, passage, passed, read_by, refusal, refusals_of, refused, shape_of, stored_from, target_answer, wire_address, wrong_room, bytes_of}
-use Rattle.rig_api.specs.Log.{Entry, entry_of, frames_done, moved_by, moved_of, moved_under}
+use Rattle.rig_api.specs.Log.{LogEntry, entry_of, frames_done, moved_by, moved_of, moved_under}
 use Rattle.rig_api.specs.Telling.{answer_of, at_front, spec_at, unit_at, with_blocks}
 use Rattle.rig_api.specs.declared.rig.Outcome.{Outcome}
 use Rattle.dix_base.specs.Told.{Calm}
@@ -151,7 +151,7 @@ module _ (old new : RigState) (dev : ℕ) (cdb : List ℕ) (labels : List Label)
   k = (spec_at old.standing dev).size
 
   -- its record, the answer, and the room filled with zeros
-  abbrev pub entry : Entry
+  abbrev pub entry : LogEntry
   entry = entry_of k dev cdb labels o out came
 
   abbrev pub mine : Answer

@@ -1,12 +1,12 @@
 -- Answers one after another.
 use Rattle.std.proofs.Common.{◌≡◌, ◌≤◌, List, [], ◌∷◌, ◌++◌, Some, refl, sym, ap, subst, ◌∙◌, arith, append-nil, append_assoc}
 use Rattle.target_answer.specs.Target.{Stored}
-use Rattle.rig_api.specs.Log.{Entry, Room}
+use Rattle.rig_api.specs.Log.{LogEntry, Room}
 use Rattle.rig_api.specs.State.{RigState}
 use Rattle.rig_api.specs.Telling.{Standing, with_blocks}
 use Rattle.answered_record.specs.Answered.{Answers, AreAnswersTo, PutsAnswers, answer_with}
 
-pub answers_join : (s : Standing) (us between left : List Stored) (es fs : List Entry) → AreAnswersTo s us es between → AreAnswersTo s between fs left → AreAnswersTo s us (es ++ fs) left
+pub answers_join : (s : Standing) (us between left : List Stored) (es fs : List LogEntry) → AreAnswersTo s us es between → AreAnswersTo s between fs left → AreAnswersTo s us (es ++ fs) left
 answers_join s us between left [] fs h k = subst (λ ws. AreAnswersTo s ws fs left) h k
 answers_join s us between left (e ∷ es) fs (a, h) k = (a, answers_join s (with_blocks us e.what.dev (answer_with s us a.labels a.out e).blocks) between left es fs h k)
 

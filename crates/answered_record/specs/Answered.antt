@@ -10,7 +10,7 @@ use Rattle.target_answer.specs.Requests.{request_of}
 use Rattle.target_answer.specs.declared.request.Request.{Request}
 use Rattle.target_answer.specs.declared.request.Request.TheVariants.{Read, ReadCapacity, Verify, Write}
 use Rattle.target_answer.specs.Target.{Answer, Stored}
-use Rattle.rig_api.specs.Log.{Entry, moved_of}
+use Rattle.rig_api.specs.Log.{LogEntry, moved_of}
 use Rattle.rig_api.specs.State.{Exchanged, RigState}
 use Rattle.rig_api.specs.Telling.{Standing, answer_of, at_front, spec_at, unit_at, with_blocks}
 use Rattle.rig_api.specs.declared.rig.Outcome.{Outcome}
@@ -46,15 +46,15 @@ abbrev pub AreFrames : (size : ℕ) → List ℕ → List ℕ → Type 0
 AreFrames size cdb out = FramesUnder size (decoded cdb) out
 
 -- the bytes that the command of a record reads
-abbrev pub room_for : Standing → Entry → ℕ
+abbrev pub room_for : Standing → LogEntry → ℕ
 room_for s e = room_of (spec_at s e.what.dev).size e.what.cdb
 
 -- what the record's unit answers to its command, without faults, where these bytes are sent with it
-abbrev pub answer_with : Standing → List Stored → List Label → (out : List ℕ) → Entry → Answer
+abbrev pub answer_with : Standing → List Stored → List Label → (out : List ℕ) → LogEntry → Answer
 answer_with s us labels out e = answer_of us [] e.what.dev e.what.cdb labels out (room_for s e) None
 
 -- The record is of this answer, whatever bytes were sent.
-pub record IsAnswerTo (s : Standing) (us : List Stored) (e : Entry) : Type 0 where
+pub record IsAnswerTo (s : Standing) (us : List Stored) (e : LogEntry) : Type 0 where
   pub labels : List Label
   pub out : List ℕ
   pub frames : AreFrames (spec_at s e.what.dev).size e.what.cdb out
@@ -62,13 +62,13 @@ pub record IsAnswerTo (s : Standing) (us : List Stored) (e : Entry) : Type 0 whe
   pub moved : e.moved ≡ moved_of (spec_at s e.what.dev).size e.what.cdb e.what.outcome out (at_front (joined (answer_with s us labels out e).sent) (replicate (room_for s e) 0))
 
 -- So is each of these, one after another, and these units are left.
-abbrev pub AreAnswersTo : Standing → List Stored → List Entry → (left : List Stored) → Type 0
+abbrev pub AreAnswersTo : Standing → List Stored → List LogEntry → (left : List Stored) → Type 0
 AreAnswersTo s us [] left = left ≡ us
 AreAnswersTo s us (e ∷ es) left = (a : IsAnswerTo s us e) × AreAnswersTo s (with_blocks us e.what.dev (answer_with s us a.labels a.out e).blocks) es left
 
 -- The records that came are so, and the rig tells the units that they leave.
 pub record Answers (us : List Stored) (old new : RigState) : Type 0 where
-  pub records : List Entry
+  pub records : List LogEntry
   pub log : new.log ≡ old.log ++ records
   pub left : List Stored
   pub answered : AreAnswersTo old.standing us records left

@@ -6,7 +6,7 @@ use Rattle.pi_guard.specs.Guards.{crc}
 use Rattle.report_text.specs.Report.{report}
 use Rattle.rig_api.specs.Telling.{Standing}
 use Rattle.rig_api.specs.State.{RigState}
-use Rattle.rig_discovery.specs.Discovery.{Answer, looks}
+use Rattle.rig_discovery.specs.Discovery.{LookAnswer, looks}
 use Rattle.stack_ops.specs.declared.reply.Reply.{Reply}
 use Rattle.stack_ops.specs.declared.reply.Reply.TheVariants.{Silent, Whole, Bad, Shown, Medium}
 use Rattle.stack_core.specs.Mediums.{medium_lines}
@@ -35,7 +35,7 @@ pub counted_all : (bad m : ℕ) (rest all : List Reply) → length rest ≡ 0 �
 counted_all bad m [] all z e h = counted bad (all_bad all) m e h
 counted_all bad m (r ∷ rest) all z e h = absurd (omega arith)
 
-looks_count : (s : Standing) (dev : ℕ) (answers : List Answer) → length (looks s dev answers) ≡ length answers
+looks_count : (s : Standing) (dev : ℕ) (answers : List LookAnswer) → length (looks s dev answers) ≡ length answers
 looks_count s dev [] = refl
 looks_count s dev (a ∷ answers) = ap suc (looks_count s (dev + 1) answers)
 

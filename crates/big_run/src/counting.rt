@@ -5,6 +5,7 @@ ghost use Rattle.script_laws.specs.Keeping.{blocks_of};
 ghost use Rattle.script_laws.specs.Lines.{line_of};
 ghost use Rattle.script_text.specs.Rules.{request_blocks};
 ghost use Rattle.big_run.specs.Counting.{all_bad, bad_in, blocks_in, counts_with, no_ops, ops_in, with_op};
+ghost use Rattle.bio_core.specs.declared.TheConstants.{MOST_BLOCKS};
 
 use stack_ops::{Op, Reply};
 
@@ -22,7 +23,7 @@ pub struct OpCounts {
 /// The counts, with one more op.
 fn with_op(counts: OpCounts, op: &Op) -> OpCounts
     requires ops { ops_in counts ≤ 1024 }
-    requires blocks { blocks_in counts + request_blocks (line_of op.now) ≤ 16384 }
+    requires blocks { blocks_in counts + request_blocks (line_of op.now) ≤ MOST_BLOCKS }
     ensures { result ≡ with_op counts op.now }
 {
     match op {
@@ -51,7 +52,7 @@ fn with_op(counts: OpCounts, op: &Op) -> OpCounts
 /// The counts of these ops.
 pub(crate) fn counts_of(ops: &[Op]) -> OpCounts
     requires count { length ops.now ≤ 1024 }
-    requires blocks { blocks_of ops.now ≤ 16384 }
+    requires blocks { blocks_of ops.now ≤ MOST_BLOCKS }
     ensures { result ≡ counts_with no_ops ops.now }
 {
     let mut counts = OpCounts {

@@ -6,6 +6,7 @@ use Rattle.integrity_payload.specs.Payloads.{IsPayload}
 use Rattle.bio_core.specs.declared.request.Dir.{Dir}
 use Rattle.bio_core.specs.declared.request.Io.{Io}
 use Rattle.bio_core.specs.declared.bio.Bio.{Bio}
+use Rattle.pi_tuple.specs.declared.TheConstants.{TUPLE}
 
 -- the bytes of data of each of a request's blocks
 abbrev pub block_size : Io → ℕ
@@ -23,7 +24,7 @@ data_segs io k n = length (cut io.body (k * block_size io) (n * block_size io))
 -- the segments that hold a byte of the tuples of n blocks, from block k on
 abbrev pub tuple_segs : Option Payload → ℕ → ℕ → ℕ
 tuple_segs None k n = 0
-tuple_segs (Some pi) k n = length (cut pi.tuples (8 * k) (8 * n))
+tuple_segs (Some pi) k n = length (cut pi.tuples (TUPLE * k) (TUPLE * n))
 
 -- n blocks of a request, from block k on, at this address and the next ones
 abbrev pub bio_of : Io → (op k n dev lba : ℕ) → Bio

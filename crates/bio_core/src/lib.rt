@@ -9,3 +9,6 @@ mod request;
 pub use bio::Bio;
 pub use fate::{Fate, Why};
 pub use request::{Dir, Io};
+
+/// The requests of a run have at most this many blocks together.
+pub const MOST_BLOCKS: u32 = 16384;

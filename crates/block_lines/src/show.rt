@@ -7,7 +7,7 @@ ghost use Rattle.block_lines.specs.ShowText.{block_lines, count_bad, first_line,
 
 use crate::sight::add_block;
 use dix_base::{Failed, Sink};
-use pi_tuple::PiType;
+use pi_tuple::{PiType, TUPLE};
 use report_text::{Line, add, add_number, write_all};
 use target_answer::UnitSpec;
 
@@ -17,7 +17,7 @@ pub(crate) fn stored_len(unit: UnitSpec) -> usize
 {
     match unit.ty {
         PiType::Zero => unit.size as usize,
-        PiType::One | PiType::Two | PiType::Three => unit.size as usize + 8,
+        PiType::One | PiType::Two | PiType::Three => unit.size as usize + TUPLE,
     }
 }
 

@@ -11,7 +11,7 @@ use Rattle.target_answer.specs.Target.{check_sense}
 use Rattle.bio_core.specs.declared.fate.Why.TheVariants.{Target}
 use Rattle.pi_tuple.specs.declared.checks.Check.TheVariants.{Guard, AppTag, RefTag}
 use Rattle.block_path.specs.Acts.{Act, State, act, tell}
-use Rattle.block_path.specs.Blocks.{Answer}
+use Rattle.block_path.specs.Blocks.{ActAnswer}
 use Rattle.block_path.specs.Serial.{plain_tells}
 use Rattle.pi_tuple.specs.declared.checks.PiType.{PiType}
 use Rattle.pi_tuple.specs.Finds.{is_zero}
@@ -31,7 +31,7 @@ check_named Guard l = refl
 check_named AppTag l = refl
 check_named RefTag l = refl
 
-pub long_tells : (acts : List (Act Answer)) (s : State) → length (plain_tells act tell acts s) ≡ length acts
+pub long_tells : (acts : List (Act ActAnswer)) (s : State) → length (plain_tells act tell acts s) ≡ length acts
 long_tells [] s = refl
 long_tells (a ∷ acts) s = ap suc (long_tells acts (act a s))
 

@@ -8,18 +8,18 @@ use Rattle.page_pool.specs.Cells.{gather, scatter}
 use Rattle.bio_core.specs.declared.fate.Why.{Why}
 use Rattle.block_path.specs.declared.route.Route.{Route}
 use Rattle.block_path.specs.Acts.{Effect, State, act, tell}
-use Rattle.block_path.specs.Blocks.{Answer, Site, fetched_cell, own_cell, read_block, read_by}
+use Rattle.block_path.specs.Blocks.{ActAnswer, Site, fetched_cell, own_cell, read_block, read_by}
 use Rattle.block_path.specs.Moves.{AreCells, Fills, IsOne, carried_in, carry_in, hidden, joined, left_by, settle, settled_by}
 use Rattle.block_path.specs.WayIn.{Delivers, Spoils, Stops, WayIn, comes_in, delivered_unless, mapped_back, owner_finds, verified, way_in}
 use Rattle.block_path.proofs.Cells.{AllBelow, Distinct, below, distinct, gather_back, gather_length, scatter_append, scatter_none, scatter_twice}
 use Rattle.block_path.proofs.Behind.{AllFrom, from, scatter_behind}
 
 -- The pages and the answers of the moves are those of the act.
-record Same (to pages : List ℕ) (first second whole : Effect Answer) : Type 0 where
+record Same (to pages : List ℕ) (first second whole : Effect ActAnswer) : Type 0 where
   bytes : scatter to second.written.bytes (scatter to first.written.bytes pages) ≡ scatter to whole.written.bytes pages
   answer : joined first.answer second.answer ≡ whole.answer
 
-same_by : (to pages : List ℕ) (first second other whole : Effect Answer) → second ≡ other → Same to pages first other whole → Same to pages first second whole
+same_by : (to pages : List ℕ) (first second other whole : Effect ActAnswer) → second ≡ other → Same to pages first other whole → Same to pages first second whole
 same_by to pages first second other whole e h = rw e h
 
 zeros_size : (n k : ℕ) → n ≡ k → n ≤ length {A = ℕ} (replicate k 0)

@@ -51,13 +51,13 @@ pub record Asked : Type 0 where
   pub reader : Option Owner
 
 -- What an act answers: which block it is, if it is one; what was found; what stands on record of it; the bytes that are shown.
-pub record Answer : Type 0 where
+pub record ActAnswer : Type 0 where
   pub of : Option Asked
   pub why : Option Why
   pub sent : Option Sent
   pub shown : List ℕ
 
-abbrev pub silent : Answer
+abbrev pub silent : ActAnswer
 silent = record { of = None; why = None; sent = None; shown = [] }
 
 abbrev pub sent_of : Route → Dir → Result (List ℕ) Why → ℕ → Option Sent
@@ -76,7 +76,7 @@ abbrev pub nothing_written : State
 nothing_written = record { bytes = []; blocks = []; logs = []; fates = [] }
 
 -- Where it is accepted, its frame is stored and its place has one more on record; `back` are the bytes of its tuple afterwards.
-abbrev pub written_by : Route → WayOut → (back : List ℕ) → (log : List (List ℕ)) → Effect Answer
+abbrev pub written_by : Route → WayOut → (back : List ℕ) → (log : List (List ℕ)) → Effect ActAnswer
 written_by r (Fails why) back log = record { written = record nothing_written { bytes = back }; answer = record silent { of = write_of r; why = Some why } }
 written_by r (Refuses why) back log = record {
   written = record nothing_written { bytes = back };
@@ -95,7 +95,7 @@ abbrev pub own_frame : Route → ℕ → List ℕ → List ℕ
 own_frame r app body = if r.mode.dix then frame_of body (own_tuple r app body) else body
 
 -- a block of a write whose tuple the block layer makes: the cells of its data
-abbrev pub write_block : Site → Route → ℕ → List ℕ → Act Answer
+abbrev pub write_block : Site → Route → ℕ → List ℕ → Act ActAnswer
 write_block s r app body = record {
   bytes = record { reads = body; writes = [] };
   blocks = record { reads = []; writes = stored_cell s r ∷ [] };
@@ -114,7 +114,7 @@ abbrev pub tuple_after : Route → List ℕ → List ℕ
 tuple_after r tuple = take 4 tuple ++ tag_after r (drop 4 tuple)
 
 -- a block of a write whose tuple the application brings: the cells of its data, then of its tuple
-abbrev pub write_block_of_app : Site → Route → List ℕ → Act Answer
+abbrev pub write_block_of_app : Site → Route → List ℕ → Act ActAnswer
 write_block_of_app s r frame = record {
   bytes = record { reads = frame; writes = drop r.size frame };
   blocks = record { reads = []; writes = stored_cell s r ∷ [] };
@@ -124,7 +124,7 @@ write_block_of_app s r frame = record {
 }
 
 -- A block that isn't delivered leaves zeros.
-abbrev pub read_by : Route → Owner → WayIn → (size after : ℕ) → Effect Answer
+abbrev pub read_by : Route → Owner → WayIn → (size after : ℕ) → Effect ActAnswer
 read_by r owner (Stops why) size after = record {
   written = record nothing_written { bytes = replicate size 0 };
   answer = record silent { of = read_of r owner; why = Some why; sent = sent_of r Read (Err why) after };
@@ -139,7 +139,7 @@ read_by r owner (Delivers carried frame) size after = record {
 }
 
 -- A block of a read: the cells in which it lands. Where its owner is the block layer, its tuple has no cells to land in.
-abbrev pub read_block : Site → Route → Owner → List ℕ → Act Answer
+abbrev pub read_block : Site → Route → Owner → List ℕ → Act ActAnswer
 read_block s r owner to = record {
   bytes = record { reads = []; writes = to };
   blocks = record { reads = fetched_cell s r ∷ []; writes = [] };

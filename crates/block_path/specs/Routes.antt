@@ -19,6 +19,7 @@ use Rattle.target_answer.specs.Frames.{data_of, tuple_of}
 use Rattle.target_answer.specs.Passing.{from_medium, to_medium}
 use Rattle.target_answer.specs.declared.passage.Passage.{Passage}
 use Rattle.block_path.specs.declared.route.Route.{Route}
+use Rattle.pi_tuple.specs.declared.TheConstants.{TUPLE}
 
 -- What host, adapter and target know of a block on its way. A frame is the block's data, followed by its tuple where one travels.
 
@@ -39,11 +40,11 @@ field r = if passes_tuples r then r.mode.protect else 0
 
 -- the bytes of the frame between host and adapter
 abbrev pub host_size : Route → ℕ
-host_size r = if r.mode.dix then r.size + 8 else r.size
+host_size r = if r.mode.dix then r.size + TUPLE else r.size
 
 -- and those between adapter and target
 abbrev pub wire_size : Route → ℕ
-wire_size r = if passes_tuples r then r.size + 8 else r.size
+wire_size r = if passes_tuples r then r.size + TUPLE else r.size
 
 -- What is found in a frame in the host's form: its guard, its application tag under the mask, and its reference tag, which is to be that of this block or address.
 abbrev pub host_finding : Route → ℕ → List ℕ → Option Check

@@ -4,6 +4,7 @@ use Rattle.pi_tuple.specs.declared.checks.Check.TheVariants.{Guard, AppTag, RefT
 use Rattle.sense_codes.specs.declared.Sense.{Sense}
 use Rattle.bio_core.specs.declared.fate.Why.{Why}
 use Rattle.bio_core.specs.declared.fate.Why.TheVariants.{Adapter, App, Block, Medium, Refused, Short, Target}
+use Rattle.sense_codes.specs.declared.codes.TheConstants.{MEDIUM_ERROR, UNRECOVERED_READ, WRITE_ERROR, PROTECTION}
 
 -- the check that the qualifier of ASC 10h names (SPC-4)
 abbrev pub check_of : ℕ → Option Check
@@ -19,10 +20,10 @@ finding_of key (Some check) = layer_of key check
 
 -- MEDIUM ERROR with UNRECOVERED READ ERROR or WRITE ERROR
 abbrev pub is_medium : Sense → Bool
-is_medium s = eqb s.key 3 && (eqb s.ascq 0 && (eqb s.asc 0x11 || eqb s.asc 0x0C))
+is_medium s = eqb s.key MEDIUM_ERROR && (eqb s.ascq 0 && (eqb s.asc UNRECOVERED_READ || eqb s.asc WRITE_ERROR))
 
 abbrev pub named_by : Sense → Option Why
-named_by s = if eqb s.asc 0x10 then finding_of s.key (check_of s.ascq) else None
+named_by s = if eqb s.asc PROTECTION then finding_of s.key (check_of s.ascq) else None
 
 abbrev pub why_of : Option Why → Sense → Why
 why_of (Some w) s = w

@@ -13,6 +13,7 @@ ghost use Rattle.target_answer.specs.Passing.{unless};
 ghost use Rattle.block_path.specs.Routes.{converted, field, host_finding, host_size, host_type, passes_tuples, wire_size, with_guard};
 ghost use Rattle.block_path.specs.WayIn.{adapter_finds_in, from_wire, received};
 ghost use Rattle.block_path.specs.WayOut.{adapter_finds_out, sent, to_wire};
+ghost use Rattle.pi_tuple.specs.declared.TheConstants.{TUPLE};
 
 use crate::Route;
 use fault_schedule::{Crossing, Tamper};
@@ -38,7 +39,7 @@ fn guard(kind: GuardKind, bytes: &[u8]) -> u16
 
 /// The tuple behind so many bytes of data.
 fn tuple_behind(frame: &[u8], size: usize) -> Tuple
-    requires { length frame.now ≡ size + 8 }
+    requires { length frame.now ≡ size + TUPLE }
     ensures { result ≡ tuple_of size frame.now }
 {
     let mut bytes = [0; 8];
@@ -47,14 +48,14 @@ fn tuple_behind(frame: &[u8], size: usize) -> Tuple
 }
 
 fn put_tuple(frame: &mut [u8], size: usize, tuple: Tuple)
-    requires { length frame.old ≡ size + 8 }
+    requires { length frame.old ≡ size + TUPLE }
     ensures { frame.new ≡ data_of size frame.old ++ tuple_bytes tuple }
 {
     frame[size..].copy_from_slice(&tuple.to_bytes());
 }
 
 fn put_guard(frame: &mut [u8], size: usize, guard: u16)
-    requires { length frame.old ≡ size + 8 }
+    requires { length frame.old ≡ size + TUPLE }
     ensures { frame.new ≡ with_guard size guard frame.old }
 {
     frame[size..size + 2].copy_from_slice(&guard.to_be_bytes());
@@ -92,7 +93,7 @@ impl Route {
 
     /// What is found in a frame in the host's form whose reference tag is to be that of this address or block.
     pub(crate) fn host_finding(&self, address: u64, frame: &[u8]) -> Option<Check>
-        requires { length frame.now ≡ self.now.size + 8 }
+        requires { length frame.now ≡ self.now.size + TUPLE }
         ensures { result ≡ host_finding self.now address frame.now }
     {
         let size = self.size as usize;
@@ -106,7 +107,7 @@ impl Route {
     }
 
     fn adapter_finds_out(&self, frame: &[u8]) -> Option<Check>
-        requires { length frame.now ≡ self.now.size + 8 }
+        requires { length frame.now ≡ self.now.size + TUPLE }
         ensures { result ≡ adapter_finds_out self.now (take (host_size self.now) frame.now) }
     {
         if self.mode.dix {
@@ -117,7 +118,7 @@ impl Route {
     }
 
     fn adapter_finds_in(&self, frame: &[u8]) -> Option<Check>
-        requires { length frame.now ≡ self.now.size + 8 }
+        requires { length frame.now ≡ self.now.size + TUPLE }
         ensures { result ≡ adapter_finds_in self.now (take (wire_size self.now) frame.now) }
     {
         if !self.passes_tuples() {
@@ -137,7 +138,7 @@ impl Route {
 impl Route {
     /// What the adapter sends of a frame that it has checked, in place.
     fn send(&self, frame: &mut [u8])
-        requires { length frame.old ≡ self.now.size + 8 }
+        requires { length frame.old ≡ self.now.size + TUPLE }
         ensures sent { take (wire_size self.now) frame.new ≡ sent self.now (take (host_size self.now) frame.old) }
         ensures length { length frame.new ≡ length frame.old }
     {
@@ -156,7 +157,7 @@ impl Route {
 
     /// What the adapter hands on of a frame that it has checked, in place.
     fn receive(&self, frame: &mut [u8])
-        requires { length frame.old ≡ self.now.size + 8 }
+        requires { length frame.old ≡ self.now.size + TUPLE }
         ensures received { take (host_size self.now) frame.new ≡ received self.now (take (wire_size self.now) frame.old) }
         ensures length { length frame.new ≡ length frame.old }
     {
@@ -179,7 +180,7 @@ impl Route {
 
     /// The frame crosses between host and adapter.
     fn cross(&self, tamper: &Tamper, at: Crossing, frame: &mut [u8])
-        requires { length frame.old ≡ self.now.size + 8 }
+        requires { length frame.old ≡ self.now.size + TUPLE }
         ensures crossed { take (host_size self.now) frame.new ≡ altered tamper.now at self.now.label (take (host_size self.now) frame.old) }
         ensures length { length frame.new ≡ length frame.old }
     {
@@ -198,7 +199,7 @@ impl Route {
     /// the CRC as its guard, or stripped, or inserted, or there is none.
     #[tactic(auto, unfolding(crate::specs::WayOut::to_wire))]
     pub fn to_wire(&self, tamper: &Tamper, frame: &mut [u8]) -> Option<Check>
-        requires { length frame.old ≡ self.now.size + 8 }
+        requires { length frame.old ≡ self.now.size + TUPLE }
         ensures judged { unless result (take (wire_size self.now) frame.new) ≡ to_wire tamper.now self.now (take (host_size self.now) frame.old) }
         ensures length { length frame.new ≡ length frame.old }
     {
@@ -217,7 +218,7 @@ impl Route {
     /// or inserted, or there is none. Then the frame crosses to the host.
     #[tactic(auto, unfolding(crate::specs::WayIn::from_wire))]
     pub fn from_wire(&self, tamper: &Tamper, frame: &mut [u8]) -> Option<Check>
-        requires { length frame.old ≡ self.now.size + 8 }
+        requires { length frame.old ≡ self.now.size + TUPLE }
         ensures judged { unless result (take (host_size self.now) frame.new) ≡ from_wire tamper.now self.now (take (wire_size self.now) frame.old) }
         ensures length { length frame.new ≡ length frame.old }
     {

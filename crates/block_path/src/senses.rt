@@ -4,14 +4,8 @@ ghost use Rattle.std.specs.Prelude.{◌≡◌};
 ghost use Rattle.block_path.specs.Senses.{is_medium, named_by, why_ended};
 
 use bio_core::Why;
+use sense_codes::codes::{MEDIUM_ERROR, UNRECOVERED_READ, WRITE_ERROR};
 use sense_codes::{Layer, Sense, layer_and_check};
-
-/// MEDIUM ERROR (SPC-4, sense keys).
-const MEDIUM_ERROR: u8 = 0x03;
-/// UNRECOVERED READ ERROR, and WRITE ERROR (SPC-4, additional sense codes), both with the qualifier 00h.
-const UNRECOVERED_READ: u8 = 0x11;
-
-const WRITE_ERROR: u8 = 0x0c;
 
 /// The layer and the check that the sense names.
 fn finding_named(sense: Sense) -> Option<Why>
@@ -24,7 +18,7 @@ fn finding_named(sense: Sense) -> Option<Why>
     }
 }
 
-/// Whether the sense is MEDIUM ERROR with UNRECOVERED READ ERROR or WRITE ERROR.
+/// Whether the sense is MEDIUM ERROR with UNRECOVERED READ ERROR or WRITE ERROR, each with the qualifier 00h.
 fn is_medium_error(sense: Sense) -> bool
     ensures { result ≡ is_medium sense }
 {

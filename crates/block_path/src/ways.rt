@@ -7,6 +7,7 @@ ghost use Rattle.target_answer.specs.Frames.{stored_size};
 ghost use Rattle.block_path.specs.Routes.{host_size, moved, passage, target};
 ghost use Rattle.block_path.specs.WayIn.{delivered_of, mapped_back, owner_finds, owner_says, way_in};
 ghost use Rattle.block_path.specs.WayOut.{ended, mapped_out, stored_of, way_out};
+ghost use Rattle.pi_tuple.specs.declared.TheConstants.{TUPLE};
 
 use crate::{Route, host_type};
 use bio_core::Why;
@@ -84,7 +85,7 @@ impl Route {
     }
 
     fn map_out(&self, frame: &mut [u8])
-        requires { length frame.old ≡ self.now.size + 8 }
+        requires { length frame.old ≡ self.now.size + TUPLE }
         ensures mapped { take (host_size self.now) frame.new ≡ mapped_out self.now (take (host_size self.now) frame.old) }
         ensures length { length frame.new ≡ length frame.old }
     {
@@ -95,7 +96,7 @@ impl Route {
     }
 
     fn map_back(&self, frame: &mut [u8])
-        requires { length frame.old ≡ self.now.size + 8 }
+        requires { length frame.old ≡ self.now.size + TUPLE }
         ensures mapped { take (host_size self.now) frame.new ≡ mapped_back self.now (take (host_size self.now) frame.old) }
         ensures length { length frame.new ≡ length frame.old }
     {
@@ -106,7 +107,7 @@ impl Route {
     }
 
     fn owner_finds(&self, frame: &[u8]) -> Option<Check>
-        requires { length frame.now ≡ self.now.size + 8 }
+        requires { length frame.now ≡ self.now.size + TUPLE }
         ensures { result ≡ owner_finds self.now (take (host_size self.now) frame.now) }
     {
         if self.mode.dix {
@@ -124,7 +125,7 @@ impl Route {
     pub fn way_out(&self, tamper: &Tamper, frame: &mut [u8]) -> Option<Why>
         requires lba { self.now.lba < 2 ^ 63 }
         requires protect { 0 < self.now.mode.protect }
-        requires frame { length frame.old ≡ self.now.size + 8 }
+        requires frame { length frame.old ≡ self.now.size + TUPLE }
         ensures judged { ended result (take (stored_size self.now.ty self.now.size) frame.new) ≡ stored_of (way_out tamper.now (target tamper.now) self.now (take (host_size self.now) frame.old)) }
         ensures length { length frame.new ≡ length frame.old }
     {
@@ -143,7 +144,7 @@ impl Route {
     pub fn way_in(&self, tamper: &Tamper, owner: Owner, frame: &mut [u8]) -> Option<Why>
         requires lba { self.now.lba < 2 ^ 63 }
         requires protect { 0 < self.now.mode.protect }
-        requires frame { length frame.old ≡ self.now.size + 8 }
+        requires frame { length frame.old ≡ self.now.size + TUPLE }
         ensures judged { ended result (take (host_size self.now) frame.new)
             ≡ delivered_of (way_in tamper.now (target tamper.now) self.now owner (take (stored_size self.now.ty self.now.size) frame.old)) }
         ensures length { length frame.new ≡ length frame.old }

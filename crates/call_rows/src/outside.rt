@@ -1,7 +1,6 @@
 //! What a call runs over: images, and answers of devices in their place.
 
 use crate::lines::numbers;
-use unit_words::unit_of;
 use dix_base::MemStore;
 use image_rig::ImageRig;
 use rig_api::Outcome;
@@ -9,6 +8,7 @@ use sense_codes::Sense;
 use std::alloc::{AllocError, Global};
 use test_rig::{Answer, formatted};
 use test_table::{array_of, bytes_of, cut, number};
+use unit_words::unit_of;
 
 /// The bytes of the freshly formatted image of the units that these words name; none where an image can't have them.
 pub(crate) fn image_of(alloc: Global, words: &str) -> Result<Vec<u8>, AllocError> {

@@ -14,6 +14,7 @@ use Rattle.block_path.specs.declared.mode.Mode.{Mode}
 use Rattle.block_path.specs.declared.route.Route.{Route}
 use Rattle.dix_adapter.specs.declared.adapter.Adapter.{Adapter}
 use Rattle.dix_adapter.specs.Walking.{HasHost, IsOnce, Walkable}
+use Rattle.pi_tuple.specs.declared.TheConstants.{TUPLE, LARGEST_BLOCK}
 
 -- the blocks of a group, bio after bio
 abbrev pub blocks_in : List Bio → List Block
@@ -79,7 +80,7 @@ data_cells io k = map cell (range_of io.body (k * block_size io) (block_size io)
 
 abbrev pub tuple_cells : Option Payload → ℕ → List ℕ
 tuple_cells None k = []
-tuple_cells (Some pi) k = map cell (range_of pi.tuples (8 * k) 8)
+tuple_cells (Some pi) k = map cell (range_of pi.tuples (TUPLE * k) TUPLE)
 
 -- the cells of a block's frame
 abbrev pub frame_cells : List Io → Block → List ℕ
@@ -131,4 +132,4 @@ pub record IsGroup (a : Adapter) (pool : List (List ℕ)) (bytes : ℕ) (ios : L
   pub bios : All (IsBio a pool bytes ios (first_of req).dev (first_of req).dir) req
   pub chain : Chain (first_of req).lba req
   pub ends : (first_of req).lba + size req < 2 ^ 64
-  pub small : (1 ≤ bytes) × (bytes ≤ 4096)
+  pub small : (1 ≤ bytes) × (bytes ≤ LARGEST_BLOCK)

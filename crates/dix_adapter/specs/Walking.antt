@@ -9,6 +9,7 @@ use Rattle.integrity_payload.specs.declared.payload.Payload.{Payload}
 use Rattle.bio_core.specs.declared.request.Io.{Io}
 use Rattle.bio_core.specs.Bios.{block_size}
 use Rattle.dix_adapter.specs.declared.walks.Walks.{Walks}
+use Rattle.pi_tuple.specs.declared.TheConstants.{TUPLE}
 
 -- a request along whose blocks one can walk: its data and tuples lie in the pool
 abbrev pub WalksTuples : (pool : List (List ℕ)) → ℕ → Option Payload → Type 0
@@ -22,7 +23,7 @@ pub record Walkable (pool : List (List ℕ)) (io : Io) : Type 0 where
 
 abbrev pub tuples_ahead : Option Payload → ℕ → Option (List Seg)
 tuples_ahead None k = None
-tuples_ahead (Some pi) k = Some (past (8 * k) pi.tuples)
+tuples_ahead (Some pi) k = Some (past (TUPLE * k) pi.tuples)
 
 -- it stands before block k
 pub record IsBefore (io : Io) (k : ℕ) (w : Walks) : Type 0 where
@@ -33,7 +34,7 @@ pub record IsBefore (io : Io) (k : ℕ) (w : Walks) : Type 0 where
 -- the bytes of the tuple of block k, or these where there is none
 abbrev pub tuple_or : (pool : List (List ℕ)) → Option Payload → ℕ → List ℕ → List ℕ
 tuple_or pool None k others = others
-tuple_or pool (Some pi) k others = bytes_in pool pi.tuples (8 * k) 8
+tuple_or pool (Some pi) k others = bytes_in pool pi.tuples (TUPLE * k) TUPLE
 
 -- no byte of its lists is there twice
 abbrev pub TuplesOnce : Option Payload → Type 0

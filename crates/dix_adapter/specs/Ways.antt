@@ -17,11 +17,11 @@ use Rattle.cdb_codec.specs.Forms.{Fits, form}
 use Rattle.target_answer.specs.Frames.{frames_of, joined}
 use Rattle.target_answer.specs.Target.{Stop, Stored, has_blocks, shape_of}
 use Rattle.target_answer.specs.declared.units.UnitSpec.{UnitSpec}
-use Rattle.rig_api.specs.Log.{Entry, HasRoom, Room}
+use Rattle.rig_api.specs.Log.{LogEntry, HasRoom, Room}
 use Rattle.rig_api.specs.Telling.{HasCause, unit_at}
 use Rattle.rig_api.specs.State.{RigState}
 use Rattle.block_path.specs.Acts.{Act, State, act}
-use Rattle.block_path.specs.Blocks.{Answer, Site, fetched_cell, stored_cell}
+use Rattle.block_path.specs.Blocks.{ActAnswer, Site, fetched_cell, stored_cell}
 use Rattle.block_path.specs.Moves.{carry_in, carry_out}
 use Rattle.block_path.specs.Routes.{target}
 use Rattle.block_path.specs.Serial.{plain}
@@ -53,7 +53,7 @@ abbrev pub Spends : (size : ℕ) → List Fate → (old new : Room) → Type 0
 Spends size fates old new = (exchanges blocks : ℕ) → HasRoom size (exchanges + 1) (blocks + settled_count fates) old → HasRoom size exchanges blocks new
 
 -- One record was appended: of the group's command to its device, with the labels of its blocks in their order.
-pub record IsRecord (a : Adapter) (req : List Bio) (old new : RigState) (e : Entry) : Type 0 where
+pub record IsRecord (a : Adapter) (req : List Bio) (old new : RigState) (e : LogEntry) : Type 0 where
   pub recorded : new.log ≡ old.log ++ (e ∷ [])
   pub dev : e.what.dev ≡ (first_of req).dev
   pub cdb : e.what.cdb ≡ form (command_of a req)
@@ -62,14 +62,14 @@ pub record IsRecord (a : Adapter) (req : List Bio) (old new : RigState) (e : Ent
 
 -- The record of a write has the frames that were sent of the blocks that are done.
 pub record RecordedOut (a : Adapter) (ios : List Io) (req : List Bio) (cells : List ℕ) (fates : List Fate) (old new : RigState) : Type 0 where
-  pub entry : Entry
+  pub entry : LogEntry
   pub what : IsRecord a req old new entry
   pub moved : entry.moved ≡ joined (take (done_of (size req) entry.what.outcome) (map frame_sent (map (sends a ios cells) (blocks_in req))))
   pub fates_are : fates ≡ replicate (done_of (size req) entry.what.outcome) Good ++ rest_of (size req) entry.what.outcome
 
 -- The record of a read has a whole frame of each block that is done. What becomes of the blocks, and of the cells, is what these frames come to.
 pub record RecordedIn (a : Adapter) (ios : List Io) (req : List Bio) (pool pool' : List (List ℕ)) (fates : List Fate) (old new : RigState) : Type 0 where
-  pub entry : Entry
+  pub entry : LogEntry
   pub what : IsRecord a req old new entry
   pub long : length entry.moved ≡ done_of (size req) entry.what.outcome * frame_len a ios req
   pub fates_are : fates ≡ fates_in a ios (blocks_in req) (frames_of (frame_len a ios req) (done_of (size req) entry.what.outcome) entry.moved) ++ rest_of (size req) entry.what.outcome
@@ -119,7 +119,7 @@ ways_out a ios cells [] = []
 ways_out a ios cells (b ∷ bs) = goes_out a.tamper (target a.tamper) (route_of a ios b) (frame_in ios cells b) ∷ ways_out a ios cells bs
 
 -- and the move by which it is carried
-abbrev pub acts_out : Adapter → List Io → List UnitSpec → List Block → List (Act Answer)
+abbrev pub acts_out : Adapter → List Io → List UnitSpec → List Block → List (Act ActAnswer)
 acts_out a ios units [] = []
 acts_out a ios units (b ∷ bs) = carry_out (site_of a units) (route_of a ios b) (frame_cells ios b) ∷ acts_out a ios units bs
 
@@ -160,7 +160,7 @@ pub record WentOut (a : Adapter) (ios : List Io) (req : List Bio) (cells : List 
   pub blocks : (now : State) → now.bytes ≡ cells → now.blocks ≡ blocks_told us →
       blocks_told units ≡ left_at stop (length (frames_out (ways_out a ios cells (blocks_in req)))) (cells_out a ios (shapes_of us) (blocks_in req))
       (plain act (take (length (frames_out (stopped_out stop (ways_out a ios cells (blocks_in req))))) (acts_out a ios (shapes_of us) (blocks_in req))) now).blocks
-  pub entry : Entry
+  pub entry : LogEntry
   pub recorded : new.log ≡ old.log ++ (entry ∷ [])
   pub done : entry.what.outcome.done ≡ length (frames_out (stopped_out stop (ways_out a ios cells (blocks_in req))))
   pub moved : entry.moved ≡ joined (frames_out (stopped_out stop (ways_out a ios cells (blocks_in req))))
@@ -174,7 +174,7 @@ ways_in a ios units blocks [] = []
 ways_in a ios units blocks (b ∷ bs) = comes_in a.tamper (target a.tamper) (route_of a ios b) (get_or blocks (fetched_cell (site_of a units) (route_of a ios b)) []) ∷ ways_in a ios units blocks bs
 
 -- and the move by which it is carried; what is found of a block is kept in a cell of its own
-abbrev pub acts_in : Adapter → List Io → List UnitSpec → (kept : Block → ℕ) → List Block → List (Act Answer)
+abbrev pub acts_in : Adapter → List Io → List UnitSpec → (kept : Block → ℕ) → List Block → List (Act ActAnswer)
 acts_in a ios units kept [] = []
 acts_in a ios units kept (b ∷ bs) = carry_in (site_of a units) (route_of a ios b) (frame_cells ios b) (kept b) ∷ acts_in a ios units kept bs
 
@@ -202,7 +202,7 @@ pub record CameIn (a : Adapter) (ios : List Io) (req : List Bio) (pool pool' : L
   pub cells : (kept : Block → ℕ) (now : State) → now.bytes ≡ flat pool → now.blocks ≡ blocks_told us →
       flat pool' ≡ (plain act (take (length (frames_in (stopped_in stop (ways_in a ios (shapes_of us) (blocks_told us) (blocks_in req)))))
       (acts_in a ios (shapes_of us) kept (blocks_in req))) now).bytes
-  pub entry : Entry
+  pub entry : LogEntry
   pub recorded : new.log ≡ old.log ++ (entry ∷ [])
   pub done : entry.what.outcome.done ≡ length (frames_in (stopped_in stop (ways_in a ios (shapes_of us) (blocks_told us) (blocks_in req))))
   pub moved : entry.moved ≡ joined (frames_in (stopped_in stop (ways_in a ios (shapes_of us) (blocks_told us) (blocks_in req))))

@@ -19,17 +19,18 @@ ghost use Rattle.dix_adapter.specs.Groups.{IsGroup, IsProtect, block_len, data_c
 ghost use Rattle.dix_adapter.specs.Walking.{IsBefore, IsOnce, Walkable};
 ghost use Rattle.dix_adapter.specs.Carrying.{CanCarry};
 ghost use Rattle.dix_adapter.specs.OnTheWay.{CanGo, HasLanded, HasLandedFirst, HasLandedNext, KeepsBehind};
+ghost use Rattle.pi_tuple.specs.declared.TheConstants.{LARGEST_BLOCK};
 
 use crate::Adapter;
 use crate::outcome::{add_rest, done_of};
 use crate::outward::fill_labels;
-use crate::scratch::{Scratch, TUPLE};
+use crate::scratch::Scratch;
 use crate::walks::Walks;
 use bio_core::{Bio, Fate, Io, Why};
 use cdb_codec::Dir2;
 use fault_schedule::Label;
 use page_pool::PagePool;
-use pi_tuple::Check;
+use pi_tuple::{Check, TUPLE};
 use rig_api::{Outcome, Rig};
 
 impl Adapter {
@@ -145,7 +146,7 @@ impl Adapter {
         requires can { CanGo self.now pool.old io.now bio.now }
         requires once { IsOnce io.now }
         requires few { count ≤ bio.now.count }
-        requires small { block_size io.now ≤ 4096 }
+        requires small { block_size io.now ≤ LARGEST_BLOCK }
         requires room { from + count * wire_size (route_by self.now io.now bio.now 0) + 8 ≤ length frames.old }
         requires fates { length fates.old.items + count ≤ vec_capacity fates.old }
         ensures landed { HasLandedFirst self.now io.now bio.now count (drop from frames.old) pool.old pool.new fates.old.items fates.new.items }
@@ -179,7 +180,7 @@ impl Adapter {
         requires once { IsOnce io.now }
         requires before { IsBefore io.now (bio.now.k + i) walks.old }
         requires bio { i < bio.now.count }
-        requires small { block_size io.now ≤ 4096 }
+        requires small { block_size io.now ≤ LARGEST_BLOCK }
         requires room { at + (block_size io.now + 8) ≤ length frames.old }
         ensures landed { HasLandedNext self.now io.now bio.now i (drop at frames.old) pool.old pool.new result }
         ensures before { IsBefore io.now (bio.now.k + (i + 1)) walks.new }

@@ -22,16 +22,17 @@ ghost use Rattle.bio_core.specs.declared.request.Dir.TheVariants.{Write};
 ghost use Rattle.dix_adapter.specs.Groups.{EndsInTime, IsGroup, IsProtect, block_len, blocks_in, first_of, label_of, route_by, size};
 ghost use Rattle.dix_adapter.specs.Carrying.{CanCarry};
 ghost use Rattle.dix_adapter.specs.OnTheWay.{CanGo};
+ghost use Rattle.pi_tuple.specs.declared.TheConstants.{LARGEST_BLOCK};
 
 use crate::Adapter;
 use crate::outcome::{add_rest, done_of};
-use crate::scratch::{Scratch, TUPLE};
+use crate::scratch::Scratch;
 use crate::walks::Walks;
 use bio_core::{Bio, Fate, Io, Why};
 use cdb_codec::{Cdb, Dir2, choose};
 use fault_schedule::Label;
 use page_pool::PagePool;
-use pi_tuple::{Check, PiType};
+use pi_tuple::{Check, PiType, TUPLE};
 use rig_api::{Outcome, Rig};
 
 impl Adapter {
@@ -104,7 +105,7 @@ impl Adapter {
         fates: &mut Vec<Fate>,
     ) -> usize
         requires can { CanGo self.now pool.now io.now bio.now }
-        requires small { block_size io.now ≤ 4096 }
+        requires small { block_size io.now ≤ LARGEST_BLOCK }
         requires room { from + bio.now.count * (block_size io.now + 8) + 8 ≤ length frames.old }
         requires fates { length fates.old.items + bio.now.count ≤ vec_capacity fates.old }
         ensures fates { fates.new.items ≡ fates.old.items ++ map unsent (sends_first self.now io.now bio.now (flat pool.now) bio.now.count) }
@@ -139,7 +140,7 @@ impl Adapter {
         requires before { IsBefore io.now (bio.now.k + i) walks.old }
         requires bio { i < bio.now.count }
         requires room { at + (block_size io.now + 8) ≤ length frames.old }
-        requires small { block_size io.now ≤ 4096 }
+        requires small { block_size io.now ≤ LARGEST_BLOCK }
         ensures judged { unless result.0 (take (wire_size (route_by self.now io.now bio.now i)) (drop at frames.new)) ≡ sends_by self.now io.now bio.now (flat pool.now) i }
         ensures front { take at frames.new ≡ take at frames.old }
         ensures end { result.1 ≡ at + wire_size (route_by self.now io.now bio.now i) }
@@ -178,8 +179,8 @@ impl Adapter {
 
     /// The bytes of a frame on the wire.
     pub(crate) fn wire_size(&self, size: usize) -> usize
-        requires { size + 8 < 2 ^ 32 }
-        ensures { result ≡ (if self.now.dif && not (is_zero self.now.ty) then size + 8 else size) }
+        requires { size + TUPLE < 2 ^ 32 }
+        ensures { result ≡ (if self.now.dif && not (is_zero self.now.ty) then size + TUPLE else size) }
     {
         if self.passes_tuples() {
             size + TUPLE

@@ -5,10 +5,8 @@ ghost use Rattle.std.specs.Vec.{vec_capacity};
 ghost use Rattle.dix_adapter.specs.Room.{HoldsBlocks};
 
 use fault_schedule::Label;
+use pi_tuple::{LARGEST_BLOCK, TUPLE};
 use std::alloc::{AllocError, Global};
-
-/// The bytes of a tuple.
-pub(crate) const TUPLE: usize = 8;
 
 /// Where the adapter keeps the frames and the labels of one command.
 #[derive(Drop)]
@@ -22,15 +20,15 @@ impl Scratch {
     /// Room for the blocks of one command, of which there are at most 1,048,576, whatever their size.
     pub fn new(alloc: Global, max_blocks: u32) -> Result<Scratch, AllocError>
         requires { max_blocks ≤ 1048576 }
-        ensures { IfOk result (HoldsBlocks 4096 max_blocks) }
+        ensures { IfOk result (HoldsBlocks LARGEST_BLOCK max_blocks) }
     {
-        Scratch::for_size(alloc, max_blocks, 4096)
+        Scratch::for_size(alloc, max_blocks, LARGEST_BLOCK)
     }
 
     /// The same for blocks of at most so many bytes, which are at most 4,096.
     pub fn for_size(alloc: Global, max_blocks: u32, most_bytes: u32) -> Result<Scratch, AllocError>
         requires blocks { max_blocks ≤ 1048576 }
-        requires bytes { most_bytes ≤ 4096 }
+        requires bytes { most_bytes ≤ LARGEST_BLOCK }
         ensures { IfOk result (HoldsBlocks most_bytes max_blocks) }
     {
         let count = max_blocks as usize;

@@ -4,7 +4,7 @@ use Rattle.std.specs.Prelude.{codes, decimal}
 use Rattle.std.proofs.Math.Seq.{drop-append_seam}
 use Rattle.target_answer.specs.declared.units.UnitSpec.{UnitSpec}
 use Rattle.volume_table.specs.declared.device.DeviceInfo.{DeviceInfo}
-use Rattle.rig_api.specs.Log.{Entry}
+use Rattle.rig_api.specs.Log.{LogEntry}
 use Rattle.rig_api.specs.State.{RigState}
 use Rattle.rig_discovery.specs.Discovery.{looks}
 use Rattle.pi_scrub.specs.declared.found.Found.{Found}
@@ -48,7 +48,7 @@ formatted f us n old new o m result number was source written =
 records_since : (run : Finished) (script : Script) (name : List ℕ) (old new : RigState) → HasRun run script name old new → new.log ≡ old.log ++ drop run.first new.log
 records_since run script name old new r =
     let told = r.asked.told in
-    let asks : List Entry = looks told.between.standing 0 told.found.answers in
+    let asks : List LogEntry = looks told.between.standing 0 told.found.answers in
     let asked : r.told.log ≡ old.log ++ asks = told.found.log ∙ ap (λ v. v ++ asks) told.since.kept.log in
     let more : new.log ≡ old.log ++ (asks ++ r.followed.goes.more) = r.followed.goes.records ∙ ap (λ v. v ++ r.followed.goes.more) asked ∙ append_assoc old.log asks r.followed.goes.more in
     let rest : drop run.first new.log ≡ asks ++ r.followed.goes.more = ap (λ k. drop k new.log) r.first ∙ ap (drop (length old.log)) more ∙ drop-append_seam old.log (asks ++ r.followed.goes.more) in

@@ -2,7 +2,7 @@
 use Rattle.std.specs.Prelude.{ℕ, ◌≡◌, ◌⊎◌, Bool, List, ◌++◌, length, codes, decimal, map, Option, Some, None, Ok}
 use Rattle.dix_base.specs.Told.{Calm}
 use Rattle.rig_api.specs.Head.{head_fault, head_of, units_of}
-use Rattle.rig_api.specs.Log.{Entry}
+use Rattle.rig_api.specs.Log.{LogEntry}
 use Rattle.target_answer.specs.declared.units.UnitSpec.{UnitSpec}
 use Rattle.pi_tuple.specs.declared.checks.PiType.{PiType}
 use Rattle.volume_table.specs.declared.device.DeviceInfo.{DeviceInfo}
@@ -104,13 +104,13 @@ run_work = record {
 -- ---- trace IMAGE: the same, and behind the report the records of the call
 
 -- The script of the source was run, and these are the records of the call.
-pub record HasTraced (run : Finished) (log : List Entry) (f : Facts) : Type 0 where
+pub record HasTraced (run : Finished) (log : List LogEntry) (f : Facts) : Type 0 where
   pub ran : HasRunSource run (call_of f)
   pub log_is : f.rig_after.log ≡ f.rig.log ++ log
 
 abbrev pub trace_work : Work
 trace_work = record {
-  Yield = Finished × List Entry;
+  Yield = Finished × List LogEntry;
   WasDone = λ x f. HasTraced x.0 x.1 f;
   status = λ x. done_status (has_bad x.0.stack.replies.items);
   text = λ x. report x.0.stack.replies.items ++ trace x.1;

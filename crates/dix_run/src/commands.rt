@@ -10,12 +10,12 @@ use crate::program::{finish, refuse, status_for};
 use crate::refusal::Refusal;
 use crate::scrub_text::{has_some, scrub_text};
 use crate::status::Status;
-use unit_words::{UnitList, image_of};
 use dix_base::Sink;
 use image_commands::{format_image, migrate_image, scrub_image};
 use report_text::{Line, add, add_number};
 use rig_api::Rig;
 use std::alloc::Global;
+use unit_words::{UnitList, image_of};
 
 /// The line that says how many units were formatted or migrated.
 fn count_line(what: &[u8], count: u32) -> Line

@@ -8,11 +8,11 @@ ghost use Rattle.dix_run.specs.Verdict.{EndedAs, Facts, Written, done_status};
 use crate::program::{refuse, status_for};
 use crate::refusal::Refusal;
 use crate::status::Status;
-use unit_words::image_of;
 use dix_base::{Failed, Sink, Source};
 use mirror_command::{Mirrored, mirror_source, print_mirrored};
 use rig_api::Rig;
 use std::alloc::Global;
+use unit_words::image_of;
 
 /// Writes the report of a script on a mirror, and what its repair did.
 fn report_mirrored<O: Sink>(out: &mut O, run: &Mirrored) -> Status

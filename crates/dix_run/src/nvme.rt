@@ -7,11 +7,11 @@ ghost use Rattle.dix_run.specs.Verdict.{EndedAs, Facts};
 use crate::program::{finish, refuse, status_for};
 use crate::refusal::Refusal;
 use crate::status::Status;
-use unit_words::image_of;
 use dix_base::{Sink, Source};
 use nvme_command::do_commands;
 use rig_api::Rig;
 use std::alloc::Global;
+use unit_words::image_of;
 
 /// `nvme IMAGE`: does the NVM commands of the source's lines, and writes their completions.
 pub(crate) fn nvme<S: Source, R: Rig, O: Sink>(

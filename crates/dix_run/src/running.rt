@@ -11,11 +11,11 @@ ghost use Rattle.dix_run.specs.Verdict.{EndedAs, Facts, Written, done_status};
 use crate::program::{refuse, status_for};
 use crate::refusal::Refusal;
 use crate::status::Status;
-use unit_words::image_of;
 use dix_base::{Failed, Sink, Source};
 use rig_api::Rig;
 use run_command::{Finished, print_run, print_traced_run, run_source};
 use std::alloc::Global;
+use unit_words::image_of;
 
 /// Writes the report of a run.
 fn report_run<O: Sink>(out: &mut O, run: &Finished) -> Status

@@ -9,6 +9,7 @@ use Rattle.script_text.specs.declared.fault.ScriptFault.{ScriptFault}
 use Rattle.script_text.specs.declared.script.Script.{Script}
 use Rattle.fault_marks.specs.Words.{spans_of, text_behind}
 use Rattle.fault_marks.specs.declared.words.Span.{Span}
+use Rattle.source_text.specs.declared.TheConstants.{LONGEST_LINE}
 
 -- Where in its line a fault is.
 
@@ -73,4 +74,4 @@ two_lines fault text line = map shown_byte line ++ (codes "\n" ++ (replicate (co
 -- nothing, where the text has no such line, or it has more than 4,096 bytes
 abbrev pub line_marked : ScriptFault → (text : List ℕ) → Option (List ℕ) → List ℕ
 line_marked fault text None = []
-line_marked fault text (Some line) = if nat_lt 4096 (length line) then [] else two_lines fault text line
+line_marked fault text (Some line) = if nat_lt LONGEST_LINE (length line) then [] else two_lines fault text line

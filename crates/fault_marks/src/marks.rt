@@ -12,10 +12,8 @@ use crate::sentences::sentence;
 use crate::texts::fault_line;
 use crate::words::{Span, first_begin, last_end, spans_of};
 use script_text::{ScriptFault, ScriptKind, read_script};
+use source_text::LONGEST_LINE;
 use std::alloc::{AllocError, Global};
-
-/// A line is shown that has at most this many bytes.
-const LONGEST: usize = 4096;
 
 /// The text up to so many bytes behind a place; all of it, where it has no more.
 fn beginning(text: &[u8], begin: usize, len: usize) -> &[u8]
@@ -86,7 +84,7 @@ fn under_word(
 /// The place two behind the last of the line's words.
 fn two_behind(words: &[Span], line: &[u8]) -> usize
     requires words { words.now ≡ spans_of line.now }
-    requires short { length line.now ≤ 4096 }
+    requires short { length line.now ≤ LONGEST_LINE }
     ensures { result ≡ last_end words.now + 1 }
 {
     let _line = line;
@@ -96,7 +94,7 @@ fn two_behind(words: &[Span], line: &[u8]) -> usize
 
 /// The place two behind the last word.
 fn behind_last(alloc: Global, line: &[u8]) -> Result<usize, AllocError>
-    requires { length line.now ≤ 4096 }
+    requires { length line.now ≤ LONGEST_LINE }
     ensures { IfOk result (λ c. c ≡ last_end (spans_of line.now) + 1) }
 {
     let words = spans_of(alloc, line)?;
@@ -106,7 +104,7 @@ fn behind_last(alloc: Global, line: &[u8]) -> Result<usize, AllocError>
 /// How many bytes of the line stand before the caret.
 fn column(alloc: Global, fault: ScriptFault, text: &[u8], line: &[u8]) -> Result<usize, AllocError>
     requires line { 0 < fault.line }
-    requires short { length line.now ≤ 4096 }
+    requires short { length line.now ≤ LONGEST_LINE }
     ensures { IfOk result (λ c. c ≡ column fault.kind fault text.now line.now) }
 {
     match fault.kind {
@@ -179,7 +177,7 @@ fn two_lines(
     line: &[u8],
 ) -> Result<Vec<u8>, AllocError>
     requires line { 0 < fault.line }
-    requires short { length line.now ≤ 4096 }
+    requires short { length line.now ≤ LONGEST_LINE }
     ensures { IfOk result (λ v. v.items ≡ two_lines fault text.now line.now) }
 {
     let spaces = column(alloc, fault, text, line)?;
@@ -198,7 +196,7 @@ fn line_marked(alloc: Global, fault: ScriptFault, text: &[u8]) -> Result<Vec<u8>
     match line_at(text, fault.line) {
         None => Ok(Vec::new(alloc)),
         Some(line) => {
-            if line.len() > LONGEST {
+            if line.len() > LONGEST_LINE {
                 return Ok(Vec::new(alloc));
             }
             two_lines(alloc, fault, text, line)

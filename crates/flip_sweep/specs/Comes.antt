@@ -8,6 +8,7 @@ use Rattle.target_answer.specs.declared.units.UnitSpec.{UnitSpec}
 use Rattle.image_scripts.specs.Over.{left_by, replied}
 use Rattle.script_text.specs.declared.script.Script.{Script}
 use Rattle.flip_sweep.specs.declared.runs.Came.{Came}
+use Rattle.page_pool.specs.declared.TheConstants.{PAGE}
 
 -- what a run comes to: what its ops reply, its pages, and all stored blocks, one after another
 pub record CameTo : Type 0 where
@@ -27,6 +28,6 @@ came_to s us = record {
 abbrev pub seen_of : Came → (pages : ℕ) → CameTo
 seen_of c pages = record {
   replies = c.run.stack.replies.items;
-  pages = take (4096 * pages) (flat c.run.stack.pool);
+  pages = take (PAGE * pages) (flat c.run.stack.pool);
   stored = drop 512 c.rig.store.bytes;
 }

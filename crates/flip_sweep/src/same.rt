@@ -94,7 +94,7 @@ fn is_same_page(one: &PagePool, other: &PagePool, page: u32) -> bool
 
 /// Whether so many first pages of two pools hold the same.
 pub(crate) fn are_same_pages(one: &PagePool, other: &PagePool, pages: u32) -> bool
-    ensures { result ≡ bytes_eq (take (4096 * pages) (flat one.now)) (take (4096 * pages) (flat other.now)) }
+    ensures { result ≡ bytes_eq (take (PAGE * pages) (flat one.now)) (take (PAGE * pages) (flat other.now)) }
 {
     let count = one.pages().min(pages as usize);
     if count != other.pages().min(pages as usize) {

@@ -7,6 +7,7 @@ ghost use Rattle.target_answer.specs.Headers.{all_bytes, bytes_of, is_layout, is
 ghost use Rattle.target_answer.specs.Image.{units_from};
 ghost use Rattle.target_answer.specs.Passing.{is_one};
 ghost use Rattle.flip_sweep.specs.Verdicts.{first_spoilt, first_spoilt_from, new_finding};
+ghost use Rattle.pi_tuple.specs.declared.TheConstants.{TUPLE};
 
 use crate::verdict::Verdict;
 use image_layout::stored_size;
@@ -25,7 +26,7 @@ fn is_one(ty: PiType) -> bool
 
 /// What a check of a block of a unit with tuples finds.
 fn protected_finding(unit: UnitSpec, lba: u64, block: &[u8]) -> Option<Check>
-    requires { length block.now ≡ unit.size + 8 }
+    requires { length block.now ≡ unit.size + TUPLE }
     ensures { result ≡ stored_finding unit.ty unit.size lba block.now }
 {
     let (data, behind) = block.split_at(unit.size as usize);

@@ -8,6 +8,7 @@ ghost use Rattle.flip_sweep.specs.Flips.{AreSites, IsSite, sites_of};
 ghost use Rattle.flip_sweep.specs.Ground.{IsGround, swept_in};
 ghost use Rattle.flip_sweep.specs.Rows.{IsSmall, all_counted, first_line, last_line, next_open, none_yet, row, row_before, stretch};
 ghost use Rattle.flip_sweep.specs.Swept.{CauseUnswept, SweepEnds, all_rows, counts_of, counts_with, rows_at, sweep_text, unseen_in, verdict_at, verdicts_at};
+ghost use Rattle.target_answer.specs.declared.TheConstants.{MOST_FRAME};
 
 use crate::copying::with_faults;
 use crate::counts::Counts;
@@ -59,7 +60,7 @@ pub(crate) struct Ground<'a> {
 fn frame_len(script: &Script) -> u32
     requires { IsSound script.now }
     ensures len { result ≡ script.now.block + 8 }
-    ensures few { result ≤ 4104 }
+    ensures few { result ≤ MOST_FRAME }
 {
     script.block + 8
 }

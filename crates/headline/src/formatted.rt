@@ -32,5 +32,6 @@ pub fn a_formatted_image_tells_its_units()
         → (us : List Stored) × (told.units ≡ Some us) × (devices ≡ map info_of units) × All (All (λ x. x < 256)) (blocks_told us)
         × ((m : Setting) → is_zero m.ty ≡ false → as_expected m 0 ≡ true → m.site.cell ≡ cell_in units → DevicesAreClean m devices (blocks_told us)) }
 {
+    // By laws.
     a_formatted_image_is_clean();
 }

@@ -5,6 +5,7 @@ ghost use Rattle.target_answer.specs.declared.units.UnitSpec.{UnitSpec};
 ghost use Rattle.image_layout.specs.Places.{block_len};
 ghost use Rattle.image_blocks.specs.Images.{units_open};
 ghost use Rattle.image_blocks.specs.Places.{IsStretch, behind_in, front_in, has_blocks, part_in, whole_in};
+ghost use Rattle.target_answer.specs.declared.TheConstants.{MOST_FRAME};
 
 use crate::image::Image;
 use crate::stretch::{PlaceFault, Stretch};
@@ -80,7 +81,7 @@ pub fn block_bytes(image: &Image, dev: u32) -> usize
     requires { dev < length (units_open image.now) }
     ensures value { result ≡ block_len (units_open image.now) dev }
     ensures least { 512 ≤ result }
-    ensures most { result ≤ 4104 }
+    ensures most { result ≤ MOST_FRAME }
 {
     let unit = image.units[dev as usize];
     stored_size(unit.ty, unit.size) as usize

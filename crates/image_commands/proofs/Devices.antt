@@ -7,11 +7,11 @@ use Rattle.target_answer.specs.Image.{unit_from, units_from, units_in}
 use Rattle.target_answer.specs.Target.{Stored}
 use Rattle.target_answer.specs.declared.units.UnitSpec.{UnitSpec}
 use Rattle.rig_api.specs.Head.{Head, head_fault, units_of}
-use Rattle.rig_api.specs.Log.{Entry}
+use Rattle.rig_api.specs.Log.{LogEntry}
 use Rattle.rig_api.specs.Telling.{Standing, specs_of, units_told}
 use Rattle.rig_api.proofs.HeadLaws.{right_layout}
 use Rattle.volume_table.specs.declared.device.DeviceInfo.{DeviceInfo}
-use Rattle.rig_discovery.specs.Discovery.{Answer, Ends, HasFound, all_told, info_of, told, with_info}
+use Rattle.rig_discovery.specs.Discovery.{LookAnswer, Ends, HasFound, all_told, info_of, told, with_info}
 use Rattle.rig_discovery.proofs.Telling.{shape_is}
 use Rattle.pi_scrub.specs.Scrubbed.{HasDevices, device_of}
 
@@ -27,7 +27,7 @@ one_info None rest found n e f = absurd (cc)
 one_info (Some i) None found n e f = absurd (cc)
 one_info (Some i) (Some more) found n e f = let k : found ≡ i ∷ more = cc in ap length k ∙ ap suc (f more refl)
 
-told_length : (s : Standing) (dev : ℕ) (xs : List Answer) (found : List DeviceInfo) → all_told s dev xs ≡ Some found → length found ≡ length xs
+told_length : (s : Standing) (dev : ℕ) (xs : List LookAnswer) (found : List DeviceInfo) → all_told s dev xs ≡ Some found → length found ≡ length xs
 told_length s dev [] found e = let k : found ≡ [] = cc in ap length k
 told_length s dev (x ∷ xs) found e = one_info (told s dev x) (all_told s (dev + 1) xs) found (length xs) e (λ more r. told_length s (dev + 1) xs more r)
 
@@ -42,7 +42,7 @@ units_are s None us e = absurd (cc)
 units_are s (Some bytes) us e = let k : us ≡ units_in (specs_of s) bytes = cc in (bytes, k)
 
 -- what was discovered are the rig's devices
-pub devices_are : (s s' : Standing) (devices : List DeviceInfo) (units units' : Option (List Stored)) (image : Option (List ℕ)) {log log' : List Entry} → HasFound s devices log log' → s.devices ≤ 8 → Ends devices → s' ≡ s → units' ≡ units → units ≡ units_told s image → (is_some units ≡ true → devices ≡ map info_of (specs_of s)) →
+pub devices_are : (s s' : Standing) (devices : List DeviceInfo) (units units' : Option (List Stored)) (image : Option (List ℕ)) {log log' : List LogEntry} → HasFound s devices log log' → s.devices ≤ 8 → Ends devices → s' ≡ s → units' ≡ units → units ≡ units_told s image → (is_some units ≡ true → devices ≡ map info_of (specs_of s)) →
     HasDevices devices s' units'
 devices_are s s' devices units units' image found few ends same kept laid told =
     let n : length devices ≡ s.devices = told_length s 0 found.answers devices found.told ∙ found.each in

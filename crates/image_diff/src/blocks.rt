@@ -6,6 +6,7 @@ ghost use Rattle.image_blocks.specs.Images.{units_open};
 ghost use Rattle.image_blocks.specs.Places.{IsStretch};
 ghost use Rattle.dix_base.specs.Stores.{WasRead};
 ghost use Rattle.image_diff.specs.Compared.{CanCompare, DiffEnds, counts, lines_of, pair_of, places, diff_of};
+ghost use Rattle.target_answer.specs.declared.TheConstants.{MOST_FRAME};
 
 use crate::fault::DiffFault;
 use block_lines::{Pair, write_compared, write_diff_first, write_differences};
@@ -80,8 +81,8 @@ fn diff_lines<S: Store, T: Store, O: Sink>(
     out: &mut O,
 ) -> Result<u32, DiffFault>
     requires places { CanCompare (places (units_open image.now) place (units_open other_image.now) to) (S.state store.old).length (T.state other.old).length }
-    requires least { 4104 ≤ length room.old }
-    requires other_least { 4104 ≤ length other_room.old }
+    requires least { MOST_FRAME ≤ length room.old }
+    requires other_least { MOST_FRAME ≤ length other_room.old }
     ensures compared { DiffEnds result (lines_of (places (units_open image.now) place (units_open other_image.now) to)) (places (units_open image.now) place (units_open other_image.now) to)
         (S.state store.old).bytes (T.state other.old).bytes
         (counts (S.state store.old).faults (S.state store.new).faults (T.state other.old).faults (T.state other.new).faults (O.faults out.old) (O.faults out.new))
@@ -137,8 +138,8 @@ fn diff_all<S: Store, T: Store, O: Sink>(
     out: &mut O,
 ) -> Result<u32, DiffFault>
     requires places { CanCompare (places (units_open image.now) place (units_open other_image.now) to) (S.state store.old).length (T.state other.old).length }
-    requires least { 4104 ≤ length room.old }
-    requires other_least { 4104 ≤ length other_room.old }
+    requires least { MOST_FRAME ≤ length room.old }
+    requires other_least { MOST_FRAME ≤ length other_room.old }
     ensures compared { DiffEnds result (diff_of (places (units_open image.now) place (units_open other_image.now) to)) (places (units_open image.now) place (units_open other_image.now) to)
         (S.state store.old).bytes (T.state other.old).bytes
         (counts (S.state store.old).faults (S.state store.new).faults (T.state other.old).faults (T.state other.new).faults (O.faults out.old) (O.faults out.new))

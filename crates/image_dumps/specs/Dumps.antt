@@ -5,6 +5,7 @@ use Rattle.target_answer.specs.Frames.{data_of, stored_size}
 use Rattle.target_answer.specs.Passing.{with_own_tuple}
 use Rattle.image_dumps.specs.declared.layout.Layout.{Layout}
 use Rattle.image_dumps.specs.declared.layout.Layout.TheVariants.{Interleaved, Plain, Tuples}
+use Rattle.pi_tuple.specs.declared.TheConstants.{TUPLE}
 
 -- Dumps of blocks: a piece for each, one after another.
 
@@ -21,7 +22,7 @@ fits Tuples Three = true
 abbrev pub piece_len : Layout → PiType → (size : ℕ) → ℕ
 piece_len Interleaved ty size = stored_size ty size
 piece_len Plain ty size = size
-piece_len Tuples ty size = 8
+piece_len Tuples ty size = TUPLE
 
 -- the piece of a stored block: all of it, its data, or what stands behind them
 abbrev pub piece_of : Layout → (size : ℕ) → List ℕ → List ℕ

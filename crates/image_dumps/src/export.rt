@@ -10,6 +10,7 @@ ghost use Rattle.image_blocks.specs.Places.{IsStretch};
 ghost use Rattle.dix_base.specs.Stores.{WasRead};
 ghost use Rattle.image_dumps.specs.Dumps.{dump_of, piece_of};
 ghost use Rattle.image_dumps.specs.Ends.{DumpEnds};
+ghost use Rattle.target_answer.specs.declared.TheConstants.{MOST_FRAME};
 
 use crate::fault::DumpFault;
 use crate::layout::{Layout, stored_len};
@@ -120,7 +121,7 @@ fn export_all<S: Store, O: Sink>(
     out: &mut O,
 ) -> Result<(), DumpFault>
     requires place { IsStretch (units_open image.now) place }
-    requires least { 4104 ≤ length room.old }
+    requires least { MOST_FRAME ≤ length room.old }
     requires held { (S.state store.old).length ≡ image_size (units_open image.now) }
     ensures dumped { DumpEnds result layout (units_open image.now) place (S.state store.old).bytes
         (S.state store.old).faults (S.state store.new).faults (O.faults out.old) (O.faults out.new) (O.taken out.old) (O.taken out.new) }
@@ -156,7 +157,7 @@ pub fn export_blocks<S: Store, O: Sink>(
     out: &mut O,
 ) -> Result<(), DumpFault>
     requires place { IsStretch (units_open image.now) place }
-    requires least { 4104 ≤ length room.old }
+    requires least { MOST_FRAME ≤ length room.old }
     requires held { (S.state store.old).length ≡ image_size (units_open image.now) }
     ensures dumped { DumpEnds result layout (units_open image.now) place (S.state store.old).bytes
         (S.state store.old).faults (S.state store.new).faults (O.faults out.old) (O.faults out.new) (O.taken out.old) (O.taken out.new) }

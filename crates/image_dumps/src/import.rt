@@ -9,6 +9,7 @@ ghost use Rattle.image_blocks.specs.Images.{units_open};
 ghost use Rattle.image_blocks.specs.Places.{IsStretch};
 ghost use Rattle.dix_base.specs.Stores.{WasRead, WasWritten};
 ghost use Rattle.image_dumps.specs.Ends.{ArePieces, AreSome, CanTake, HasOwn, ImportEnds, KeepsOutside, TakingEnds, behind_pieces, each_len, pieces_of};
+ghost use Rattle.target_answer.specs.declared.TheConstants.{MOST_FRAME};
 
 use crate::fault::ImportFault;
 use crate::layout::{Layout, piece_len};
@@ -143,8 +144,8 @@ fn take_all<S: Store, R: Source>(
     frames: &mut [u8],
 ) -> Result<u32, ImportFault>
     requires place { CanTake layout (units_open image.now) place (S.state store.old).length }
-    requires pieces { 4104 ≤ length pieces.old }
-    requires frames { 4104 ≤ length frames.old }
+    requires pieces { MOST_FRAME ≤ length pieces.old }
+    requires frames { MOST_FRAME ≤ length frames.old }
     ensures taken { TakingEnds result layout (units_open image.now) place (length frames.old)
         (S.state store.old).faults (S.state store.new).faults (R.faults source.old) (R.faults source.new)
         (S.state store.old).bytes (S.state store.new).bytes (R.left source.old) (R.left source.new) }

@@ -4,7 +4,7 @@ ghost use Rattle.std.specs.Prelude.{◌≡◌};
 ghost use Rattle.target_answer.specs.Frames.{stored_size};
 ghost use Rattle.image_dumps.specs.Dumps.{fits, piece_len};
 
-use pi_tuple::PiType;
+use pi_tuple::{PiType, TUPLE};
 use target_answer::UnitSpec;
 
 /// What of each block a dump holds.
@@ -34,7 +34,7 @@ pub(crate) fn stored_len(unit: UnitSpec) -> usize
 {
     match unit.ty {
         PiType::Zero => unit.size as usize,
-        PiType::One | PiType::Two | PiType::Three => unit.size as usize + 8,
+        PiType::One | PiType::Two | PiType::Three => unit.size as usize + TUPLE,
     }
 }
 

@@ -14,6 +14,7 @@ use dix_base::{Failed, Store};
 use fault_schedule::xor_into;
 use image_layout::{block_place, stored_size};
 use rig_api::{Change, UnitSpec};
+use target_answer::MOST_FRAME;
 
 fn alter(change: &Change, block: &mut [u8])
     ensures value { block.new ≡ altered_by change.now block.old }
@@ -71,7 +72,7 @@ pub(crate) fn change_block<S: Store>(
     let unit = units[dev];
     let from = source_place(units, dev, lba, change);
     let to = block_place(units, dev, lba);
-    let mut room = [0; 4104];
+    let mut room = [0; MOST_FRAME];
     let len = stored_size(unit.ty, unit.size) as usize;
     overwrite_block(store, from, to, change, &mut room[..len])
 }

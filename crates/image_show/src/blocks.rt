@@ -7,6 +7,7 @@ ghost use Rattle.image_blocks.specs.Images.{units_open};
 ghost use Rattle.image_blocks.specs.Places.{IsStretch};
 ghost use Rattle.dix_base.specs.Stores.{WasRead};
 ghost use Rattle.image_show.specs.Shown.{ShowEnds, lines_of, text_of};
+ghost use Rattle.target_answer.specs.declared.TheConstants.{MOST_FRAME};
 
 use crate::fault::ShowFault;
 use block_lines::{write_blocks, write_first, write_last};
@@ -51,7 +52,7 @@ fn show_lines<S: Store, O: Sink>(
     out: &mut O,
 ) -> Result<u32, ShowFault>
     requires place { IsStretch (units_open image.now) place }
-    requires least { 4104 ≤ length room.old }
+    requires least { MOST_FRAME ≤ length room.old }
     requires held { (S.state store.old).length ≡ image_size (units_open image.now) }
     ensures shown { ShowEnds result (lines_of (units_open image.now) place) (units_open image.now) place (S.state store.old).bytes
         (S.state store.old).faults (S.state store.new).faults (O.faults out.old) (O.faults out.new) (O.taken out.old) (O.taken out.new) }
@@ -84,7 +85,7 @@ fn show_all<S: Store, O: Sink>(
     out: &mut O,
 ) -> Result<u32, ShowFault>
     requires place { IsStretch (units_open image.now) place }
-    requires least { 4104 ≤ length room.old }
+    requires least { MOST_FRAME ≤ length room.old }
     requires held { (S.state store.old).length ≡ image_size (units_open image.now) }
     ensures shown { ShowEnds result (text_of (units_open image.now) place) (units_open image.now) place (S.state store.old).bytes
         (S.state store.old).faults (S.state store.new).faults (O.faults out.old) (O.faults out.new) (O.taken out.old) (O.taken out.new) }
@@ -119,7 +120,7 @@ pub fn show_blocks<S: Store, O: Sink>(
     out: &mut O,
 ) -> Result<u32, ShowFault>
     requires place { IsStretch (units_open image.now) place }
-    requires least { 4104 ≤ length room.old }
+    requires least { MOST_FRAME ≤ length room.old }
     requires held { (S.state store.old).length ≡ image_size (units_open image.now) }
     ensures shown { ShowEnds result (text_of (units_open image.now) place) (units_open image.now) place (S.state store.old).bytes
         (S.state store.old).faults (S.state store.new).faults (O.faults out.old) (O.faults out.new) (O.taken out.old) (O.taken out.new) }

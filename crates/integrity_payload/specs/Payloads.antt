@@ -11,6 +11,7 @@ use Rattle.pi_tuple.specs.declared.checks.Checks.{Checks}
 use Rattle.pi_tuple.specs.Finds.{own_tag}
 use Rattle.pi_tuple.specs.Tuples.{tuple_bytes, tuple_in}
 use Rattle.integrity_payload.specs.declared.payload.Payload.{Payload}
+use Rattle.pi_tuple.specs.declared.TheConstants.{TUPLE}
 
 -- each segment holds whole tuples, so that each tuple lies in one segment
 abbrev pub AreWholeTuples : List Seg → Type 0
@@ -20,11 +21,11 @@ AreWholeTuples (s ∷ ss) = (s.len % 8 ≡ 0) × AreWholeTuples ss
 -- the tuple list has eight bytes for each tuple, and each tuple lies in one segment
 pub record IsPayload (pi : Payload) : Type 0 where
   pub whole : AreWholeTuples pi.tuples
-  pub long : total pi.tuples ≡ 8 * pi.count
+  pub long : total pi.tuples ≡ TUPLE * pi.count
 
 -- the places of a tuple's eight bytes in its list
 abbrev pub tuple_places : List Seg → ℕ → List PageByte
-tuple_places segs k = range_of segs (8 * k) 8
+tuple_places segs k = range_of segs (TUPLE * k) TUPLE
 
 -- the tuple that these eight bytes spell
 abbrev pub tuple_of : List (List ℕ) → List Seg → ℕ → Tuple

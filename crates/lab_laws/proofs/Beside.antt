@@ -17,7 +17,7 @@ use Rattle.bio_core.specs.declared.fate.Why.{Why}
 use Rattle.bio_core.specs.declared.fate.Why.TheVariants.{Target}
 use Rattle.volume_table.specs.Places.{place_in, volume_len}
 use Rattle.block_path.specs.Acts.{Act, State, act, tell}
-use Rattle.block_path.specs.Blocks.{Answer, fetched_cell, own_cell, own_frame, stored_cell, tuple_after}
+use Rattle.block_path.specs.Blocks.{ActAnswer, fetched_cell, own_cell, own_frame, stored_cell, tuple_after}
 use Rattle.block_path.specs.Serial.{plain, plain_tells}
 use Rattle.block_path.specs.WayIn.{WayIn, adapter_finds_in, mapped_back, owner_finds, received, way_in}
 use Rattle.block_path.specs.WayOut.{Fails, Refuses, Stores, WayOut, way_out}
@@ -67,11 +67,11 @@ module _ (m' : Setting) (even : m'.size % 2 ≡ 0) (image : List (List ℕ)) (li
   abbrev pub left : Setting → List Step → State → State
   left m steps s = plain act (map (act_of m) steps) s
 
-  abbrev pub tells : Setting → List Step → State → List Answer
+  abbrev pub tells : Setting → List Step → State → List ActAnswer
   tells m steps s = plain_tells act tell (map (act_of m) steps) s
 
   abbrev pub whys : Setting → List Step → State → List (Option Why)
-  whys m steps s = map (λ (a : Answer). a.why) (tells m steps s)
+  whys m steps s = map (λ (a : ActAnswer). a.why) (tells m steps s)
 
   pub stands_on : (steps : List Step) (s : State) → AllFit steps → NoneEscapes was steps s → Stands s → Stands (left was steps s)
   stands_on [] s fit e h = h
@@ -113,7 +113,7 @@ module _ (m' : Setting) (even : m'.size % 2 ≡ 0) (image : List (List ℕ)) (li
       later next d m =
           let a = alike m' at op k off byte (f j) s (others j d) in
           let after = act (act_of now (f j)) s in
-          let none : (tell (act_of now (f j)) s).why ≡ None = ap (λ (x : Answer). x.why) a.answers ∙ p.0 in
+          let none : (tell (act_of now (f j)) s).why ≡ None = ap (λ (x : ActAnswer). x.why) a.answers ∙ p.0 in
           begins_same k w (bad_from (suc j) (whys now (each_from (suc j) c f) (act (act_of was (f j)) s))) (bad_from j (whys now (each_from j (suc c) f) s))
           (ap (λ v. bad_from (suc j) (whys now (each_from (suc j) c f) v)) (sym a.does) ∙ sym (none_ahead j (tell (act_of now (f j)) s).why (whys now (each_from (suc j) c f) after) none)) (next m)
 
@@ -138,7 +138,7 @@ module _ (m' : Setting) (even : m'.size % 2 ≡ 0) (image : List (List ℕ)) (li
   alike_then : (j : ℕ) (w : Why) (step : Step) (steps : List Step) (s : State) → Alike was now step s → (tell (act_of was step) s).why ≡ None →
       BeginsWith k w (bad_from (suc j) (whys now steps (act (act_of was step) s))) ⊎ SameSteps steps (act (act_of was step) s) → BeginsWith k w (bad_from j (whys now (step ∷ steps) s)) ⊎ SameSteps (step ∷ steps) s
   alike_then j w step steps s a quiet (inl found) =
-      let none : (tell (act_of now step) s).why ≡ None = ap (λ (x : Answer). x.why) a.answers ∙ quiet in
+      let none : (tell (act_of now step) s).why ≡ None = ap (λ (x : ActAnswer). x.why) a.answers ∙ quiet in
       inl (begins_same k w (bad_from (suc j) (whys now steps (act (act_of was step) s))) (bad_from j (whys now (step ∷ steps) s))
       (ap (λ v. bad_from (suc j) (whys now steps v)) (sym a.does) ∙ sym (none_ahead j (tell (act_of now step) s).why (whys now steps (act (act_of now step) s)) none)) found)
   alike_then j w step steps s a quiet (inr r) = inr (record {
@@ -197,7 +197,7 @@ module _ (m' : Setting) (even : m'.size % 2 ≡ 0) (image : List (List ℕ)) (li
     written_off r d own reads writes (Refuses why) back s g = inr (refl, g)
     written_off r d own reads writes (Stores carried x) back s g = by (eqb c d) refl
       where
-        a : Act Answer
+        a : Act ActAnswer
         a = as_written r d own reads writes (Stores carried x) back
 
         by : (t : Bool) → eqb c d ≡ t → Off (act a s) (act a (spoilt s))
@@ -272,7 +272,7 @@ module _ (m' : Setting) (even : m'.size % 2 ≡ 0) (image : List (List ℕ)) (li
     ends_on : (j : ℕ) (step : Step) (steps : List Step) (s t u v : State) → u ≡ act (act_of was step) s → act (act_of now step) t ≡ v → tell (act_of now step) t ≡ tell (act_of was step) s → (tell (act_of was step) s).why ≡ None →
         Ends (suc j) steps u v → Ends j (step ∷ steps) s t
     ends_on j step steps s t u v d e a none (inl found) =
-        let why : (tell (act_of now step) t).why ≡ None = ap (λ (x : Answer). x.why) a ∙ none in
+        let why : (tell (act_of now step) t).why ≡ None = ap (λ (x : ActAnswer). x.why) a ∙ none in
         inl (
           found.0,
           begins_same found.0 (Target check) (bad_from (suc j) (whys now steps v)) (bad_from j (whys now (step ∷ steps) t))
@@ -295,7 +295,7 @@ module _ (m' : Setting) (even : m'.size % 2 ≡ 0) (image : List (List ℕ)) (li
         by : ((v : State) → Off (act (act_of was step) s) v → Ends (suc j) steps (act (act_of was step) s) v) → Goes step s t → Ends j (step ∷ steps) s t
         by next (inl hit) =
             let a = alike m' at op k off byte step t o.0 in
-            inl (j, bad_ahead j (tell (act_of now step) t).why (Target check) (whys now steps (act (act_of now step) t)) (ap (λ (x : Answer). x.why) a.answers ∙ hit))
+            inl (j, bad_ahead j (tell (act_of now step) t).why (Target check) (whys now steps (act (act_of now step) t)) (ap (λ (x : ActAnswer). x.why) a.answers ∙ hit))
         by next (inr same) =
             let a = alike m' at op k off byte step t o.0 in
             ends_on j step steps s t (act (act_of was step) s) (act (act_of was step) t) refl a.does (a.answers ∙ same.0) p.0 (next (act (act_of was step) t) same.1)

@@ -5,7 +5,7 @@ use Rattle.bio_core.specs.declared.bio.Bio.{Bio}
 use Rattle.cdb_codec.specs.Forms.{Fits, form}
 use Rattle.cdb_codec.specs.declared.choice.Dir2.{Dir2}
 use Rattle.cdb_codec.specs.declared.choice.Dir2.TheVariants.{In, Out}
-use Rattle.rig_api.specs.Log.{Entry, entry_of, no_entry}
+use Rattle.rig_api.specs.Log.{LogEntry, entry_of, no_entry}
 use Rattle.rig_api.specs.Telling.{spec_at}
 use Rattle.dix_adapter.specs.declared.adapter.Adapter.{Adapter}
 use Rattle.dix_adapter.specs.Carried.{command_of, out_of as sent_by, way_of}
@@ -28,7 +28,7 @@ module _ (a : Adapter) (req : List Bio) (dir : Dir2) (way : way_of (first_of req
   writes_as : is_write (form (command_of a req)) ≡ goes (request_by dir (fields_of a (first_of req).lba (size req)))
   writes_as = ap is_sender (decodes a req dir way fits) ∙ ap goes (asked-for a dir (first_of req).lba (size req))
 
-same_last : (log : List Entry) (one other : Entry) → log ++ (one ∷ []) ≡ log ++ (other ∷ []) → one ≡ other
+same_last : (log : List LogEntry) (one other : LogEntry) → log ++ (one ∷ []) ≡ log ++ (other ∷ []) → one ≡ other
 same_last log one other e = ap (λ xs. get_or xs 0 no_entry) (sym (drop-append_seam log (one ∷ [])) ∙ ap (drop (length log)) e ∙ drop-append_seam log (other ∷ []))
 
 pub write_answers : WriteAnswers
@@ -41,7 +41,7 @@ write_answers a ios req pool pool' us fates old new h dir good x w =
     let way : way_of (first_of req).dir ≡ Out = ap way_of dir in
     let e = entry_of k dev cdb labels x.outcome out [] in
     let same : w.entry ≡ e = same_last old.log w.entry e (sym w.recorded ∙ x.exchanged.recorded) in
-    let moved : e.moved ≡ out = ap (λ (y : Entry). y.moved) (sym same) ∙ (command_passes a ios req pool k us fates old new h.faults h.mask h.group good w).1 in
+    let moved : e.moved ≡ out = ap (λ (y : LogEntry). y.moved) (sym same) ∙ (command_passes a ios req pool k us fates old new h.faults h.mask h.group good w).1 in
     let all : out_of cdb e.moved ≡ out = ap (λ b. if b then e.moved else []) (writes_as a req Out way x.fits) ∙ moved in
     (e, exchange_answers old new dev cdb labels out [] [] x.outcome us x.exchanged h.units h.armed h.calm h.stored h.size (sym (room_as a req Out way x.fits k)) all)
 

@@ -14,7 +14,7 @@ use Rattle.stack_ops.specs.declared.reply.Reply.{Reply}
 use Rattle.stack_ops.specs.declared.reply.Reply.TheVariants.{Bad, Medium, Shown, Silent, Whole as AllWhole}
 use Rattle.volume_table.specs.Places.{volume_len}
 use Rattle.block_path.specs.Acts.{State, act}
-use Rattle.block_path.specs.Blocks.{Answer}
+use Rattle.block_path.specs.Blocks.{ActAnswer}
 use Rattle.block_path.specs.Serial.{plain}
 use Rattle.whole_run.specs.CalmRun.{LiesIn}
 use Rattle.whole_run.specs.ScriptWalk.{acts_of, bad_from, replies_from, reply_of, request_reply, walk_from, whole_or_bad}
@@ -53,7 +53,7 @@ FoundAt k w (suc behind) (r ∷ was) (r' ∷ now) = (r' ≡ r) × FoundAt k w be
 -- an op that is a request: its steps and its reply
 pub record IsRequest (m : Setting) (i : ℕ) (o : Op) (n : ℕ) (f : ℕ → Step) : Type 0 where
   pub steps : steps_of m i o ≡ each_from 0 n f
-  pub reply : (answers : List Answer) → reply_of (m.fails i) o answers ≡ request_reply answers
+  pub reply : (answers : List ActAnswer) → reply_of (m.fails i) o answers ≡ request_reply answers
 
 module _ (m' : Setting) (even : m'.size % 2 ≡ 0) (image : List (List ℕ)) (lies : LiesIn (m0 m' TargetToMedium 0 0 0 0) (volume_len m'.entries) image) (at : Crossing) (op k off byte : ℕ) (check : Check) where
   abbrev was : Setting

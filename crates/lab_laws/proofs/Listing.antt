@@ -3,7 +3,7 @@ use Rattle.std.proofs.Common.{◌≡◌, ℕ, ◌+◌, List, [], ◌∷◌, map,
 use Rattle.bio_core.specs.declared.fate.Why.{Why}
 use Rattle.stack_ops.specs.declared.reply.BadBlock.{BadBlock}
 use Rattle.stack_ops.specs.declared.reply.Reply.{Reply}
-use Rattle.block_path.specs.Blocks.{Answer}
+use Rattle.block_path.specs.Blocks.{ActAnswer}
 use Rattle.whole_run.specs.ScriptWalk.{bad_from, request_reply, whole_or_bad}
 use Rattle.script_laws.specs.Keeping.{Each}
 use Rattle.lab_laws.proofs.Bad.{BeginsWith}
@@ -18,8 +18,8 @@ pub lists_bad : (bad : List BadBlock) → listed (whole_or_bad bad) ≡ bad
 lists_bad [] = refl
 lists_bad (x ∷ bad) = refl
 
-pub lists_request : (answers : List Answer) → listed (request_reply answers) ≡ bad_from 0 (map (λ (a : Answer). a.why) answers)
-lists_request answers = lists_bad (bad_from 0 (map (λ (a : Answer). a.why) answers))
+pub lists_request : (answers : List ActAnswer) → listed (request_reply answers) ≡ bad_from 0 (map (λ (a : ActAnswer). a.why) answers)
+lists_request answers = lists_bad (bad_from 0 (map (λ (a : ActAnswer). a.why) answers))
 
 -- the first block that nobody listed before
 other_first : (was now : List BadBlock) (k : ℕ) (w : Why) → was ≡ [] → BeginsWith k w now → first_other was now ≡ Some (record { k = k; why = w })

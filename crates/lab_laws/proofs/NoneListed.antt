@@ -13,7 +13,7 @@ use Rattle.volume_table.specs.Places.{place_in, volume_len}
 use Rattle.volume_table.specs.Tables.{IsOn}
 use Rattle.dix_adapter.specs.Ways.{blocks_told}
 use Rattle.block_path.specs.Acts.{State}
-use Rattle.block_path.specs.Blocks.{Answer}
+use Rattle.block_path.specs.Blocks.{ActAnswer}
 use Rattle.block_path.specs.Serial.{plain_tells}
 use Rattle.whole_run.specs.PlainMap.{Plain, finds_plainly, listed_by, plain_answer, plain_replies_from, plain_step}
 use Rattle.whole_run.specs.ScriptWalk.{bad_from, replies_from, reply_of}
@@ -36,16 +36,16 @@ use Rattle.lab_laws.proofs.Bound.{blocks_below, bound, cells, few, no_overwrite,
 use Rattle.lab_laws.proofs.Listing.{IsQuiet, lists_request}
 
 module _ (m : Setting) (mask : m.mode.mask ≡ 0) where
-  abbrev answers : List Step → Plain → List Answer
+  abbrev answers : List Step → Plain → List ActAnswer
   answers steps s = plain_tells (plain_step m) (plain_answer m) steps s
 
   abbrev Silent : Step → Type 0
   Silent step = (s : Plain) → (plain_answer m step s).why ≡ None
 
-  none_bad : (j c i : ℕ) (f : ℕ → Step) (s : Plain) → ((k : ℕ) → Silent (f k)) → bad_from i (map (λ (a : Answer). a.why) (answers (each_from j c f) s)) ≡ []
+  none_bad : (j c i : ℕ) (f : ℕ → Step) (s : Plain) → ((k : ℕ) → Silent (f k)) → bad_from i (map (λ (a : ActAnswer). a.why) (answers (each_from j c f) s)) ≡ []
   none_bad j zero i f s h = refl
   none_bad j (suc c) i f s h =
-      ap (λ w. bad_from i (w ∷ map (λ (a : Answer). a.why) (answers (each_from (suc j) c f) (plain_step m (f j) s)))) (h j s) ∙ none_bad (suc j) c (suc i) f (plain_step m (f j) s) h
+      ap (λ w. bad_from i (w ∷ map (λ (a : ActAnswer). a.why) (answers (each_from (suc j) c f) (plain_step m (f j) s)))) (h j s) ∙ none_bad (suc j) c (suc i) f (plain_step m (f j) s) h
 
   write_silent : (app : ℕ) → (listed_by (finds_plainly m app)).why ≡ None
   write_silent app = let e = unmasked m app mask in rw e refl

@@ -11,7 +11,7 @@ use Rattle.fault_schedule.specs.declared.fault.FaultKind.TheVariants.{Flip}
 use Rattle.fault_schedule.specs.declared.fault.FaultLine.{FaultLine}
 use Rattle.integrity_payload.specs.declared.payload.Owner.{Owner}
 use Rattle.block_path.specs.Acts.{Act, State, act, tell}
-use Rattle.block_path.specs.Blocks.{Answer, fetched_cell, own_cell, own_frame, read_by, stored_cell, tuple_after, untouched, written_by}
+use Rattle.block_path.specs.Blocks.{ActAnswer, fetched_cell, own_cell, own_frame, read_by, stored_cell, tuple_after, untouched, written_by}
 use Rattle.block_path.specs.WayIn.{WayIn, way_in}
 use Rattle.block_path.specs.WayOut.{WayOut, way_out}
 use Rattle.block_path.specs.declared.route.Route.{Route}
@@ -30,7 +30,7 @@ one_line at op k off byte = record { op = op; k = k; at = at; kind = Flip off (b
 -- ---- acts, by what becomes of their blocks
 
 -- a block of a write: where it is stored, what it reads and writes of the pages, and how it ends
-abbrev pub as_written : Route → (cell own : ℕ) → (reads writes : List ℕ) → WayOut → (back : List ℕ) → Act Answer
+abbrev pub as_written : Route → (cell own : ℕ) → (reads writes : List ℕ) → WayOut → (back : List ℕ) → Act ActAnswer
 as_written r cell own reads writes w back = record {
   bytes = record { reads = reads; writes = writes };
   blocks = record { reads = []; writes = cell ∷ [] };
@@ -39,7 +39,7 @@ as_written r cell own reads writes w back = record {
   compute = λ seen. written_by r w back (get_or seen.logs 0 []);
 }
 
-abbrev pub as_read : Route → Owner → (cell own : ℕ) → (to : List ℕ) → WayIn → Act Answer
+abbrev pub as_read : Route → Owner → (cell own : ℕ) → (to : List ℕ) → WayIn → Act ActAnswer
 as_read r owner cell own to w = record {
   bytes = record { reads = []; writes = to };
   blocks = record { reads = cell ∷ []; writes = [] };

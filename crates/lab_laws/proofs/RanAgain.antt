@@ -16,7 +16,7 @@ use Rattle.target_answer.specs.declared.request.Request.TheVariants.{Read, ReadC
 use Rattle.target_answer.specs.declared.units.UnitSpec.{UnitSpec}
 use Rattle.target_answer.specs.Target.{Answer, Stored}
 use Rattle.rig_api.specs.Head.{IsHeadOf, head_of, units_of}
-use Rattle.rig_api.specs.Log.{Entry, entry_of, moved_by, moved_of, moved_under}
+use Rattle.rig_api.specs.Log.{LogEntry, entry_of, moved_by, moved_of, moved_under}
 use Rattle.rig_api.specs.State.{RigState}
 use Rattle.rig_api.specs.Telling.{Standing, answer_of, at_front, no_spec, spec_at, specs_of, units_told, with_blocks}
 use Rattle.answered_record.specs.Answered.{Answers, AreAnswersTo, FramesBy, FramesUnder, IsAnswerTo, answer_with, room_of}
@@ -44,7 +44,7 @@ use Rattle.lab_laws.proofs.Uncut.{no_faults, played_whole, vectors_pass}
 -- ---- a record that is an answer, and whose write isn't cut
 
 -- The moved bytes of a write are then all that was sent.
-request_moved : (k size : ℕ) (q : Request) (e : Entry) (out into : List ℕ) → FramesBy size q out → e.moved ≡ moved_by size q e.what.outcome.done out into → AreDone k q e → (if sends q then e.moved else []) ≡ out
+request_moved : (k size : ℕ) (q : Request) (e : LogEntry) (out into : List ℕ) → FramesBy size q out → e.moved ≡ moved_by size q e.what.outcome.done out into → AreDone k q e → (if sends q then e.moved else []) ≡ out
 request_moved k size (Read c) e out into f w h = sym f
 request_moved k size (Verify c) e out into f w h = sym f
 request_moved k size (ReadCapacity len) e out into f w h = sym f
@@ -54,12 +54,12 @@ request_moved k size (Write c) e out into f w h =
     let n : min e.what.outcome.done c.n * sent_size c.protect size ≡ length out = ap (λ m. m * sent_size c.protect size) all ∙ sym f in
     w ∙ ap (λ m. take m out) n ∙ take_all (length out) out (omega arith)
 
-decoded_moved : (k size : ℕ) (d : Result Cdb CdbFault) (e : Entry) (out into : List ℕ) → FramesUnder size d out → e.moved ≡ moved_under size d e.what.outcome.done out into → IfOk d (λ cdb. AreDone k (request_of cdb) e) → (if is_sender d then e.moved else []) ≡ out
+decoded_moved : (k size : ℕ) (d : Result Cdb CdbFault) (e : LogEntry) (out into : List ℕ) → FramesUnder size d out → e.moved ≡ moved_under size d e.what.outcome.done out into → IfOk d (λ cdb. AreDone k (request_of cdb) e) → (if is_sender d then e.moved else []) ≡ out
 decoded_moved k size (Ok cdb) e out into f w h = request_moved k size (request_of cdb) e out into f w h
 decoded_moved k size (Err fault) e out into f w h = sym f
 
 module _ (s : Standing) (k : ℕ) where
-  module _ (us : List Stored) (e : Entry) (a : IsAnswerTo s us e) (whole : IsNotCut k e) where
+  module _ (us : List Stored) (e : LogEntry) (a : IsAnswerTo s us e) (whole : IsNotCut k e) where
     abbrev size : ℕ
     size = (spec_at s e.what.dev).size
 
@@ -82,7 +82,7 @@ module _ (s : Standing) (k : ℕ) where
     next_units : with_blocks us e.what.dev (answer_with s us a.labels a.out e).blocks ≡ with_blocks us e.what.dev (answer_for s us a.labels e).blocks
     next_units = ap (λ ys. with_blocks us e.what.dev (by ys).blocks) (sym same)
 
-  all_answered : (us left : List Stored) (es : List Entry) → AreAnswersTo s us es left → Each (IsNotCut k) es → AreAnswered s us es left
+  all_answered : (us left : List Stored) (es : List LogEntry) → AreAnswersTo s us es left → Each (IsNotCut k) es → AreAnswered s us es left
   unfolding is_answered
   all_answered us left [] h w = h
   all_answered us left (e ∷ es) (a, h) w =
@@ -97,7 +97,7 @@ module _ (run : Finished) (f : Facts) (image : List ℕ) (told_is : f.rig.image 
   abbrev us : List Stored
   us = units_in (specs_of s) image
 
-  abbrev records : List Entry
+  abbrev records : List LogEntry
   records = drop run.first f.rig_after.log
 
   abbrev lines : List VectorLine
@@ -176,7 +176,7 @@ over_same t s units [] e = (refl, refl)
 over_same t s units (l ∷ ls) e =
     let z : (spec_at t l.dev).size ≡ (spec_at s l.dev).size = ap (λ (specs : List UnitSpec). (slice_index_or specs l.dev no_spec).size) e in
     let by : (k : ℕ) → Answer = λ k. answer_of units [] l.dev l.cdb [] l.out (room_of k l.cdb) None in
-    let one : (k : ℕ) → Entry = λ k. entry_of k l.dev l.cdb [] (record { done = (by k).done; sense = (by k).sense }) l.out (at_front (joined (by k).sent) (replicate (room_of k l.cdb) 0)) in
+    let one : (k : ℕ) → LogEntry = λ k. entry_of k l.dev l.cdb [] (record { done = (by k).done; sense = (by k).sense }) l.out (at_front (joined (by k).sent) (replicate (room_of k l.cdb) 0)) in
     let next : units_to t units l ≡ units_to s units l = ap (λ k. with_blocks units l.dev (by k).blocks) z in
     let rest = over_same t s (units_to t units l) ls e in (
       ap (λ k. one k ∷ answers_over t (units_to t units l) ls) z ∙ ap (λ es. one (spec_at s l.dev).size ∷ es) (rest.0 ∙ ap (λ ws. answers_over s ws ls) next),

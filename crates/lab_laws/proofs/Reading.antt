@@ -10,7 +10,7 @@ use Rattle.hex.proofs.HexLemmas.{length-encode_with}
 use Rattle.sense_codes.specs.Written.{descriptor, fixed as fixed_form, written, written_with}
 use Rattle.sense_codes.specs.declared.Sense.{Sense}
 use Rattle.report_text.specs.Trace.{sense_text}
-use Rattle.rig_api.specs.Log.{Entry}
+use Rattle.rig_api.specs.Log.{LogEntry}
 use Rattle.script_words.specs.Cuts.{lines_of as cut_lines, words_of}
 use Rattle.script_words.specs.Hexes.{hex_in}
 use Rattle.script_words.specs.Places.{word32}
@@ -71,10 +71,10 @@ chosen_few true xs n h = h
 chosen_few false xs n h = omega arith
 
 -- a line is these words
-abbrev words : Entry → List (List ℕ)
+abbrev words : LogEntry → List (List ℕ)
 words e = codes "v" ∷ decimal e.what.dev ∷ hexes e.what.cdb ∷ hexes (out_of e.what.cdb e.moved) ∷ decimal e.what.outcome.done ∷ sense_text e.what.outcome.sense ∷ hexes (in_of e.what.cdb e.moved) ∷ []
 
-are_words : (e : Entry) → IsWritten e → AreWords (words e)
+are_words : (e : LogEntry) → IsWritten e → AreWords (words e)
 are_words e h = (
   record { clean_is = refl; filled_is = refl },
   (
@@ -124,7 +124,7 @@ module _ (d c o n s i rest : List ℕ) where
       let f1 : y1 ++ t ≡ q1 = append_assoc c (32 ∷ y2) t ∙ ap (λ z. c ++ (32 ∷ z)) f2 in
       ap (λ z. 118 ∷ 32 ∷ z) (append_assoc d (32 ∷ y1) t ∙ ap (λ z. d ++ (32 ∷ z)) f1)
 
-line_out : (e : Entry) (rest : List ℕ) → record_text e ++ rest ≡ spaced (words e) ++ (10 ∷ rest)
+line_out : (e : LogEntry) (rest : List ℕ) → record_text e ++ rest ≡ spaced (words e) ++ (10 ∷ rest)
 line_out e rest =
     let d = decimal e.what.dev in
     let n = decimal e.what.outcome.done in
@@ -166,10 +166,10 @@ module _ (number dev : ℕ) (cdb out : List ℕ) where
       ∙ ap (λ x. or_bad x (o ∷ rest) >>= (λ b. value out_in b.1 >>= (λ e. Ok (record { number = number; dev = dev; cdb = b.0; out = e.0 })))) q
       ∙ ap (λ x. or_bad x rest >>= (λ e. Ok (record { number = number; dev = dev; cdb = cdb; out = e.0 }))) r
 
-abbrev line_by : ℕ → Entry → VectorLine
+abbrev line_by : ℕ → LogEntry → VectorLine
 line_by n e = record { number = n; dev = e.what.dev; cdb = e.what.cdb; out = out_of e.what.cdb e.moved }
 
-taken_line : (n : ℕ) (e : Entry) (so_far : List VectorLine) → IsWritten e → text_taken n (spaced (words e)) so_far ≡ Ok (so_far ++ (line_by n e ∷ []))
+taken_line : (n : ℕ) (e : LogEntry) (so_far : List VectorLine) → IsWritten e → text_taken n (spaced (words e)) so_far ≡ Ok (so_far ++ (line_by n e ∷ []))
 taken_line n e so_far h =
     let w = are_words e h in
     let form = read_form n e.what.dev e.what.cdb (out_of e.what.cdb e.moved) (decimal e.what.dev) (hexes e.what.cdb) (hexes (out_of e.what.cdb e.moved)) (decimal e.what.outcome.done ∷ sense_text e.what.outcome.sense ∷ hexes (in_of e.what.cdb e.moved) ∷ [])
@@ -178,7 +178,7 @@ taken_line n e so_far h =
     ap (λ b. if not b then Err NotAscii else words_taken n (words_of (spaced (words e))) so_far) (plain_spaced (words e) w)
     ∙ ap (λ ws. words_taken n ws so_far) (words_spaced (words e) w) ∙ ap (added so_far) form
 
-all_read : (n : ℕ) (es : List Entry) (so_far : List VectorLine) → Each IsWritten es → lines_read n (cut_lines (records_text es)) so_far ≡ Ok (so_far ++ lines_of n es)
+all_read : (n : ℕ) (es : List LogEntry) (so_far : List VectorLine) → Each IsWritten es → lines_read n (cut_lines (records_text es)) so_far ≡ Ok (so_far ++ lines_of n es)
 all_read n [] so_far h = ap (λ ls. Ok ls) (sym (append-nil so_far))
 all_read n (e ∷ es) so_far h =
     let w = are_words e h.0 in

@@ -20,13 +20,13 @@ use Rattle.target_answer.specs.Frames.{frames_of, sent_size}
 use Rattle.target_answer.specs.Requests.{request_of}
 use Rattle.target_answer.specs.declared.request.Request.{Request}
 use Rattle.target_answer.specs.declared.request.Request.TheVariants.{Read, ReadCapacity, Verify, Write}
-use Rattle.rig_api.specs.Log.{Entry}
+use Rattle.rig_api.specs.Log.{LogEntry}
 use Rattle.stack_ops.specs.declared.op.Op.{Op}
 use Rattle.stack_ops.specs.declared.reply.BadBlock.{BadBlock}
 use Rattle.stack_ops.specs.declared.reply.Reply.{Reply}
 use Rattle.stack_ops.specs.declared.reply.Reply.TheVariants.{Bad, Medium as MediumReply, Shown, Silent, Whole}
 use Rattle.block_path.specs.Acts.{State, act, tell}
-use Rattle.block_path.specs.Blocks.{Answer, Sent, Site, read_by, written_by}
+use Rattle.block_path.specs.Blocks.{ActAnswer, Sent, Site, read_by, written_by}
 use Rattle.block_path.specs.declared.route.Route.{Route}
 use Rattle.block_path.specs.Serial.{plain, plain_tells}
 use Rattle.block_path.specs.Senses.{is_medium_why, why_ended}
@@ -84,11 +84,11 @@ module _ (m : Setting) where
       omega (arith, rest, d, t, f, z)
 
   -- what came of the blocks of a command
-  abbrev cames_of : Rw → Entry → List (Result (List ℕ) Why)
+  abbrev cames_of : Rw → LogEntry → List (Result (List ℕ) Why)
   cames_of c e = came_of c.n e.what.outcome.done e.what.outcome.sense (frames_of (sent_size c.protect m.size) (min e.what.outcome.done c.n) e.moved)
 
   -- of a write whose frames have this length
-  write_done : (c : Rw) (e : Entry) → sent_size c.protect m.size ≡ width m → Each (IsWhole (width m) Out) (cames_of c e) → AreDone m.size (Write c) e
+  write_done : (c : Rw) (e : LogEntry) → sent_size c.protect m.size ≡ width m → Each (IsWhole (width m) Out) (cames_of c e) → AreDone m.size (Write c) e
   write_done c e w h =
       let done = e.what.outcome.done in
       let frames = frames_of (sent_size c.protect m.size) (min done c.n) e.moved in
@@ -105,27 +105,27 @@ module _ (m : Setting) where
   HasWidth (Verify c) = Unit {0}
   HasWidth (ReadCapacity len) = Unit {0}
 
-  abbrev pub IsWide : Entry → Type 0
+  abbrev pub IsWide : LogEntry → Type 0
   IsWide e = IfOk (decoded e.what.cdb) (λ cdb. HasWidth (request_of cdb))
 
-  request_done : (q : Request) (e : Entry) (es : List Sent) → HasWidth q → Each (WasTaken m) (put_request m q e es) → Each (WasTaken m) es × AreDone m.size q e
+  request_done : (q : Request) (e : LogEntry) (es : List Sent) → HasWidth q → Each (WasTaken m) (put_request m q e es) → Each (WasTaken m) es × AreDone m.size q e
   request_done (Read c) e es w h = ((blocks_taken In e.what.dev c.lba e.labels (cames_of c e) es h).0, tt)
   request_done (Write c) e es w h = let b = blocks_taken Out e.what.dev c.lba e.labels (cames_of c e) es h in (b.0, write_done c e w b.1)
   request_done (Verify c) e es w h = (h, tt)
   request_done (ReadCapacity len) e es w h = (h, tt)
 
-  decoded_done : (d : Result Cdb CdbFault) (e : Entry) (es : List Sent) → IfOk d (λ cdb. HasWidth (request_of cdb)) → Each (WasTaken m) (put_decoded m d e es) → Each (WasTaken m) es × IfOk d (λ cdb. AreDone m.size (request_of cdb) e)
+  decoded_done : (d : Result Cdb CdbFault) (e : LogEntry) (es : List Sent) → IfOk d (λ cdb. HasWidth (request_of cdb)) → Each (WasTaken m) (put_decoded m d e es) → Each (WasTaken m) es × IfOk d (λ cdb. AreDone m.size (request_of cdb) e)
   decoded_done (Ok cdb) e es w h = request_done (request_of cdb) e es w h
   decoded_done (Err fault) e es w h = (h, tt)
 
-  entries_done : (log : List Entry) (es : List Sent) → Each IsWide log → Each (WasTaken m) (put_entries m log es) → Each (WasTaken m) es × Each (IsNotCut m.size) log
+  entries_done : (log : List LogEntry) (es : List Sent) → Each IsWide log → Each (WasTaken m) (put_entries m log es) → Each (WasTaken m) es × Each (IsNotCut m.size) log
   entries_done [] es w h = (h, tt)
   entries_done (e ∷ log) es w h =
       let rest = entries_done log (put_decoded m (decoded e.what.cdb) e es) w.1 h in
       let one = decoded_done (decoded e.what.cdb) e es w.0 rest.0 in
       (one.0, (one.1, rest.1))
 
-  pub log_done : (log : List Entry) → Each IsWide log → Each (WasTaken m) (recorded m log) → Each (IsNotCut m.size) log
+  pub log_done : (log : List LogEntry) → Each IsWide log → Each (WasTaken m) (recorded m log) → Each (IsNotCut m.size) log
   log_done log w h = (entries_done log [] w h).1
 
 -- ---- which blocks a store call failed
@@ -195,7 +195,7 @@ module _ (m : Setting) (es : List Sent) where
   taken_not reply (Reads b owner to) s h = in_not m.site.faults (route m b) owner (listed_in reply b.k) _ _ _ (none_listed reply b.k h)
   taken_not reply (Alters dev lba change) s h = tt
 
-  abbrev AnswersNot : Answer → Type 0
+  abbrev AnswersNot : ActAnswer → Type 0
   AnswersNot a = NotMedium a.why
 
   steps_not : (reply : Reply) (steps : List Step) (s : State) → listed_mediums (bad_blocks reply) ≡ 0 → Each AnswersNot (plain_tells act tell (map (taken_act m es reply) steps) s)
@@ -212,7 +212,7 @@ module _ (m : Setting) (es : List Sent) where
       (each_both AnswersNot (plain_tells act tell one s) (plain_tells act tell more (plain act one s)) (steps_not (get_or replies 0 Silent) (steps_of m i op) s z.0) (ops_not (suc i) ops (drop 1 replies) (plain act one s) z.1))
 
 -- so none has an end for the medium
-none_ended : (es : List Sent) (answers : List Answer) (e : Sent) → Each (λ a. NotMedium a.why) answers → Each (OfRequest (IsListedAs es)) answers → Belongs answers e → end_for es e.label ≡ Some Medium → ⊥
+none_ended : (es : List Sent) (answers : List ActAnswer) (e : Sent) → Each (λ a. NotMedium a.why) answers → Each (OfRequest (IsListedAs es)) answers → Belongs answers e → end_for es e.label ≡ Some Medium → ⊥
 none_ended es [] e n l b h = absurd b
 none_ended es (a ∷ answers) e n l (inr b) h = none_ended es answers e n.1 l.1 b h
 none_ended es (a ∷ answers) e n l (inl b) h =

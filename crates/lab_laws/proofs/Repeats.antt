@@ -15,7 +15,7 @@ use Rattle.target_answer.specs.declared.passage.Passage.{Passage}
 use Rattle.target_answer.specs.declared.request.Request.{Request}
 use Rattle.target_answer.specs.declared.request.Request.TheVariants.{Read, ReadCapacity, Verify, Write}
 use Rattle.target_answer.specs.Target.{Answer, Stored, answer_unless, carried_out, each, medium_address, passage, read_end, refusal, refusals_of, sending, shape_of, stored_from, storing, target_answer, wire_address, write_end, first_of}
-use Rattle.rig_api.specs.Log.{Entry, moved_of}
+use Rattle.rig_api.specs.Log.{LogEntry, moved_of}
 use Rattle.rig_api.specs.Telling.{Standing, at_front, spec_at, unit_at, with_blocks}
 use Rattle.rig_api.specs.declared.rig.Outcome.{Outcome}
 use Rattle.answered_record.proofs.Quiet.{comes_through, crosses}
@@ -91,7 +91,7 @@ unlabelled unit cdb (label ∷ labels) out room = labelled unit label labels out
 -- ---- a list
 
 module _ (s : Standing) where
-  again : (us left : List Stored) (n : ℕ) (es : List Entry) → AreAnswered s us es left → (lines_text (lines_of n es) (answers_over s us (lines_of n es)) ≡ records_text es) × (units_over s us (lines_of n es) ≡ left)
+  again : (us left : List Stored) (n : ℕ) (es : List LogEntry) → AreAnswered s us es left → (lines_text (lines_of n es) (answers_over s us (lines_of n es)) ≡ records_text es) × (units_over s us (lines_of n es) ≡ left)
   again us left n [] h = (refl, sym h)
   again us left n (e ∷ es) (a, h) =
       let dev = e.what.dev in

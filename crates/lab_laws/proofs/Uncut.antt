@@ -20,9 +20,9 @@ use Rattle.target_answer.specs.Requests.{request_of}
 use Rattle.target_answer.specs.Target.{Stored}
 use Rattle.target_answer.specs.declared.units.UnitSpec.{UnitSpec}
 use Rattle.rig_api.specs.Head.{IsHeadOf, units_of}
-use Rattle.rig_api.specs.Log.{Entry}
+use Rattle.rig_api.specs.Log.{LogEntry}
 use Rattle.rig_api.specs.Telling.{IsStanding, Standing, specs_of, units_told}
-use Rattle.rig_discovery.specs.Discovery.{Answer as Looked, info_of, looks}
+use Rattle.rig_discovery.specs.Discovery.{LookAnswer as Looked, info_of, looks}
 use Rattle.pi_scrub.specs.Scrubbed.{device_of}
 use Rattle.volume_table.specs.Tables.{MadeFor, Table}
 use Rattle.volume_table.specs.declared.device.DeviceInfo.{DeviceInfo}
@@ -143,20 +143,20 @@ module _ (m : Setting) where
   field_wide true protect h = let e : eqb protect 0 ≡ false = ne_eqb protect 0 (λ z. omega (arith, z, h)) in ap (λ b. if b then m.size else m.size + 8) e
   field_wide false protect h = refl
 
-  formed_wide : (e : Entry) → 0 < m.mode.protect → IsFormed m.mode m.ty e → IsWide m e
+  formed_wide : (e : LogEntry) → 0 < m.mode.protect → IsFormed m.mode m.ty e → IsWide m e
   formed_wide e p h =
       let field = if m.mode.dif && not (is_zero m.ty) then m.mode.protect else 0 in
       let d : decoded e.what.cdb ≡ Ok (command_by m.mode m.ty h.dir h.lba h.n) = ap decoded h.cdb ∙ decoded_form (command_by m.mode m.ty h.dir h.lba h.n) h.fits in
       subst (λ r. IfOk r (λ cdb. HasWidth m (request_of cdb))) (sym d)
       (chosen_wide (is_two m.ty && not (eqb field 0)) (fits_10 h.lba h.n) h.dir h.lba h.n field m.mode.app m.mode.mask (field_wide (m.mode.dif && not (is_zero m.ty)) m.mode.protect p))
 
-  all_wide : (log : List Entry) → 0 < m.mode.protect → Each (IsFormed m.mode m.ty) log → Each (IsWide m) log
+  all_wide : (log : List LogEntry) → 0 < m.mode.protect → Each (IsFormed m.mode m.ty) log → Each (IsWide m) log
   all_wide [] p h = tt
   all_wide (e ∷ log) p h = (formed_wide e p h.0, all_wide log p h.1)
 
 -- ---- by what is on record
 
-fell_whole : (s : Script) (t : Table) (us left : List Stored) (pool : List (List ℕ)) (log : List Entry) (replies : List Reply) → IsBoundOver s t us → s.faults ≡ [] → list_any is_overwrite s.ops ≡ false → HasFallen s t us left pool log replies →
+fell_whole : (s : Script) (t : Table) (us left : List Stored) (pool : List (List ℕ)) (log : List LogEntry) (replies : List Reply) → IsBoundOver s t us → s.faults ≡ [] → list_any is_overwrite s.ops ≡ false → HasFallen s t us left pool log replies →
     let m = setting_of s t (shapes_of us) (failed_in replies) in
     IsBacked m s.ops (opening_of s (shapes_of us) []) (recorded m log) replies → medium_lines replies ≡ 0 → Each (WasTaken m) (recorded m log)
 fell_whole s t us left pool log replies b faults overwrites h backed none =
@@ -171,7 +171,7 @@ fell_whole s t us left pool log replies b faults overwrites h backed none =
     let fell = put_fell m m.site e.falls e.told [] told tt in
     none_fell m (width m) s.ops (opening_of s (shapes_of us) []) (recorded m log) replies backed none (subst (Each _) (sym e.on_record) fell)
 
-uncut : (s : Script) (t : Table) (us left : List Stored) (pool : List (List ℕ)) (log : List Entry) (replies : List Reply) → IsBoundOver s t us → s.faults ≡ [] → list_any is_overwrite s.ops ≡ false → HasFallen s t us left pool log replies →
+uncut : (s : Script) (t : Table) (us left : List Stored) (pool : List (List ℕ)) (log : List LogEntry) (replies : List Reply) → IsBoundOver s t us → s.faults ≡ [] → list_any is_overwrite s.ops ≡ false → HasFallen s t us left pool log replies →
     let m = setting_of s t (shapes_of us) (failed_in replies) in
     IsBacked m s.ops (opening_of s (shapes_of us) []) (recorded m log) replies → medium_lines replies ≡ 0 → Each (IsFormed s.mode t.ty) log → Each (IsNotCut s.block) log
 uncut s t us left pool log replies b faults overwrites h backed none formed =

@@ -14,7 +14,7 @@ use Rattle.target_answer.specs.Frames.{frame_of}
 use Rattle.target_answer.specs.Passing.{to_medium}
 use Rattle.block_path.specs.declared.route.Route.{Route}
 use Rattle.block_path.specs.Acts.{State, act, tell}
-use Rattle.block_path.specs.Blocks.{Answer, Sent, own_frame, own_tuple, read_by, written_by}
+use Rattle.block_path.specs.Blocks.{ActAnswer, Sent, own_frame, own_tuple, read_by, written_by}
 use Rattle.block_path.specs.Routes.{Device, by_target, host_size, passage, target, wire_size}
 use Rattle.block_path.specs.Serial.{plain, plain_tells}
 use Rattle.block_path.specs.WayIn.{Delivers, Spoils, Stops, WayIn}
@@ -42,7 +42,7 @@ Takes device = (r : Route) (frame stored : List ℕ) → to_medium [] (passage [
 pub target_takes : Takes (target [])
 target_takes r frame stored e = (stored, ap by_target e)
 
-abbrev Taken : (bytes : ℕ) → Answer → Type 0
+abbrev Taken : (bytes : ℕ) → ActAnswer → Type 0
 Taken bytes a = IfSome a.sent (λ e. IsWhole bytes e.dir e.came)
 
 -- ---- a block
@@ -104,7 +104,7 @@ module _ (m : Setting) (takes : Takes m.site.device) (faults : m.site.faults ≡
       subst (Each (Taken (width m))) (sym (tells_append one more s))
       (each_both (Taken (width m)) (plain_tells act tell one s) (plain_tells act tell more (plain act one s)) (steps_taken (steps_of m i op) s (op_meets m i op h.0)) (ops_taken (suc i) ops (plain act one s) h.1))
 
-on_record : (m : Setting) (answers : List Answer) → Each (Taken (width m)) answers → Each (WasTaken m) (sents answers)
+on_record : (m : Setting) (answers : List ActAnswer) → Each (Taken (width m)) answers → Each (WasTaken m) (sents answers)
 on_record m [] h = tt
 on_record m (a ∷ answers) h = by a.sent h.0 (on_record m answers h.1)
   where

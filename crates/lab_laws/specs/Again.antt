@@ -12,7 +12,7 @@ use Rattle.sense_codes.specs.Written.{written}
 use Rattle.target_answer.specs.Frames.{joined, stored_size}
 use Rattle.target_answer.specs.Image.{units_in}
 use Rattle.target_answer.specs.Target.{Answer, Stored}
-use Rattle.rig_api.specs.Log.{Entry, entry_of, moved_of}
+use Rattle.rig_api.specs.Log.{LogEntry, entry_of, moved_of}
 use Rattle.rig_api.specs.State.{Exchanged, RigState}
 use Rattle.rig_api.specs.Telling.{Standing, answer_of, at_front, spec_at, specs_of, unit_at, with_blocks}
 use Rattle.rig_api.specs.declared.rig.Outcome.{Outcome}
@@ -31,25 +31,26 @@ use Rattle.vector_runs.specs.ListText.{list_text}
 use Rattle.vector_runs.specs.Played.{HasListed, HasPlayed}
 use Rattle.vector_runs.specs.RecordText.{vectors_text}
 use Rattle.vector_runs.specs.declared.playing.Played.TheVariants as played
+use Rattle.source_text.specs.declared.TheConstants.{MOST_BYTES}
 
 -- Vectors that are done again as a list.
 
 -- the bytes that the command of a record reads
-abbrev pub room_for : Standing → Entry → ℕ
+abbrev pub room_for : Standing → LogEntry → ℕ
 room_for s e = room_of (spec_at s e.what.dev).size e.what.cdb
 
 -- what the record's unit answers to its command, without faults, where its moved bytes are sent, if it is a write's
-abbrev pub answer_for : Standing → List Stored → List Label → Entry → Answer
+abbrev pub answer_for : Standing → List Stored → List Label → LogEntry → Answer
 answer_for s us labels e = answer_of us [] e.what.dev e.what.cdb labels (out_of e.what.cdb e.moved) (room_for s e) None
 
 -- The record is of this answer.
-pub record IsAnswered (s : Standing) (us : List Stored) (e : Entry) : Type 0 where
+pub record IsAnswered (s : Standing) (us : List Stored) (e : LogEntry) : Type 0 where
   pub labels : List Label
   pub outcome : e.what.outcome ≡ record { done = (answer_for s us labels e).done; sense = (answer_for s us labels e).sense }
   pub moved : e.moved ≡ moved_of (spec_at s e.what.dev).size e.what.cdb e.what.outcome (out_of e.what.cdb e.moved) (at_front (joined (answer_for s us labels e).sent) (replicate (room_for s e) 0))
 
 -- So is each of these, one after another, and these units are left.
-abbrev pub AreAnswered : Standing → List Stored → List Entry → (left : List Stored) → Type 0
+abbrev pub AreAnswered : Standing → List Stored → List LogEntry → (left : List Stored) → Type 0
 AreAnswered s us [] left = left ≡ us
 AreAnswered s us (e ∷ es) left = (a : IsAnswered s us e) × AreAnswered s (with_blocks us e.what.dev (answer_for s us a.labels e).blocks) es left
 
@@ -74,7 +75,7 @@ pub record IsToldGroup (a : Adapter) (ios : List Io) (req : List Bio) (pool : Li
 
 -- One record came to the log, of an answer, and the units are as it leaves them.
 abbrev pub PutsAnswer : List Stored → (old new : RigState) → Type 0
-PutsAnswer us old new = (e : Entry) × ((new.log ≡ old.log ++ (e ∷ [])) × ((a : IsAnswered old.standing us e) × (new.units ≡ Some (with_blocks us e.what.dev (answer_for old.standing us a.labels e).blocks))))
+PutsAnswer us old new = (e : LogEntry) × ((new.log ≡ old.log ++ (e ∷ [])) × ((a : IsAnswered old.standing us e) × (new.units ≡ Some (with_blocks us e.what.dev (answer_for old.standing us a.labels e).blocks))))
 
 -- So it is of each write that the adapter passes and sends,
 abbrev pub WriteAnswers : Type 0
@@ -87,12 +88,12 @@ ReadAnswers = (a : Adapter) (ios : List Io) (req : List Bio) (pool pool' : List 
     Fetched a ios req pool pool' fates old new → PutsAnswer us old new
 
 -- the lines of a list that their vectors are, from this number on
-abbrev pub lines_of : (number : ℕ) → List Entry → List VectorLine
+abbrev pub lines_of : (number : ℕ) → List LogEntry → List VectorLine
 lines_of n [] = []
 lines_of n (e ∷ es) = record { number = n; dev = e.what.dev; cdb = e.what.cdb; out = out_of e.what.cdb e.moved } ∷ lines_of (n + 1) es
 
 -- What the form of a line holds: a device of 32 bits, a command block of 1 to 32 bytes, a count of blocks of 64 bits, at most 2,097,152 moved bytes, and bytes in all of them.
-pub record IsWritten (e : Entry) : Type 0 where
+pub record IsWritten (e : LogEntry) : Type 0 where
   pub dev : e.what.dev < 2 ^ 32
   pub cdb : IsBytes e.what.cdb
   pub some : 1 ≤ length e.what.cdb
@@ -104,11 +105,11 @@ pub record IsWritten (e : Entry) : Type 0 where
 
 -- The text of their vectors is a list of these lines, where it isn't too long.
 abbrev pub TextReads : Type 0
-TextReads = (es : List Entry) → Each IsWritten es → length (vectors_text es) ≤ 4194304 → list_in (vectors_text es) ≡ Ok (lines_of 2 es)
+TextReads = (es : List LogEntry) → Each IsWritten es → length (vectors_text es) ≤ MOST_BYTES → list_in (vectors_text es) ≡ Ok (lines_of 2 es)
 
 -- Their vectors, done as a list over the same units, are the same text and leave the same units.
 abbrev pub SameAgain : Type 0
-SameAgain = (s : Standing) (us left : List Stored) (es : List Entry) → AreAnswered s us es left →
+SameAgain = (s : Standing) (us left : List Stored) (es : List LogEntry) → AreAnswered s us es left →
     let lines = lines_of 2 es in (list_text lines (answers_over s us lines) ≡ vectors_text es) × (units_over s us lines ≡ left)
 
 -- So it is of the records of a script that was run, whose vectors are written, over an image that is told and where no store call failed: their vectors, done as a list over the units of that image, are the same text, and leave the units that the run left.

@@ -16,7 +16,7 @@ use Rattle.target_answer.specs.Requests.{request_of}
 use Rattle.target_answer.specs.declared.request.Request.{Request}
 use Rattle.target_answer.specs.declared.request.Request.TheVariants.{Read, ReadCapacity, Verify, Write}
 use Rattle.target_answer.specs.Target.{Stored}
-use Rattle.rig_api.specs.Log.{Entry}
+use Rattle.rig_api.specs.Log.{LogEntry}
 use Rattle.block_path.specs.declared.route.Route.{Route}
 use Rattle.block_path.specs.Acts.{State, act, tell}
 use Rattle.block_path.specs.Blocks.{Sent}
@@ -73,13 +73,13 @@ abbrev pub WalkPasses : Type 0
 WalkPasses = (m : Setting) (ops : List Op) (opening : State) → IsCalm m → AllFit m ops → Each (WasTaken m) (sents (plain_tells act tell (acts_from m 1 ops) opening))
 
 -- All blocks of a write are done, and all its frames were moved. Of another command nothing is said.
-abbrev pub AreDone : (size : ℕ) → Request → Entry → Type 0
+abbrev pub AreDone : (size : ℕ) → Request → LogEntry → Type 0
 AreDone size (Read c) e = Unit {0}
 AreDone size (Write c) e = (c.n ≤ e.what.outcome.done) × (c.n * sent_size c.protect size ≤ length e.moved)
 AreDone size (Verify c) e = Unit {0}
 AreDone size (ReadCapacity len) e = Unit {0}
 
-abbrev pub IsNotCut : (size : ℕ) → Entry → Type 0
+abbrev pub IsNotCut : (size : ℕ) → LogEntry → Type 0
 IsNotCut size e = IfOk (decoded e.what.cdb) (λ cdb. AreDone size (request_of cdb) e)
 
 -- In a run of a script without `fault`, `shift` and `overwrite` lines, over an image that is told and without a store call that failed, no write ends early.

@@ -1,9 +1,9 @@
 //! The images that calls are made over.
 
-use unit_words::unit_of;
 use std::alloc::{AllocError, Global};
 use test_rig::formatted;
 use test_table::{bytes_of, cut, number};
+use unit_words::unit_of;
 
 /// The images that rows go over: the first, and the second of a `diff`.
 #[derive(Drop)]

@@ -2,7 +2,7 @@ use Rattle.std.specs.Prelude.{ℕ, ◌≡◌, ◌⊎◌, true, false, List, ◌+
 use Rattle.dix_base.specs.Told.{Calm}
 use Rattle.unit_words.specs.Words.{image_in}
 use Rattle.rig_api.specs.Head.{head_fault, head_of, units_of}
-use Rattle.rig_api.specs.Log.{Entry}
+use Rattle.rig_api.specs.Log.{LogEntry}
 use Rattle.rig_api.specs.declared.rig.RigFault.{RigFault}
 use Rattle.script_text.specs.Bindings.{binding_fault}
 use Rattle.script_text.specs.Language.{script_in}
@@ -33,7 +33,7 @@ abbrev pub played_by : Facts → PlayFacts
 played_by f = record { name = image_in f.words; left = f.left; left_after = f.left_after; reads = f.reads; reads_after = f.reads_after; rig = f.rig; rig_after = f.rig_after }
 
 -- The commands of the text were done, and these are all records of the call: their vectors are written.
-pub record WerePlayed (p : Played) (entries : List Entry) (w : Outcome) (f : Facts) : Type 0 where
+pub record WerePlayed (p : Played) (entries : List LogEntry) (w : Outcome) (f : Facts) : Type 0 where
   pub played : HasPlayed p (played_by f)
   pub all : f.rig_after.log ≡ f.rig.log ++ entries
   pub ending : w.ending ≡ found_ending (has_sense entries)
@@ -47,7 +47,7 @@ pub record WereNotPlayed (r : Stop) (w : Outcome) (f : Facts) : Type 0 where
 
 -- It came to this: the vectors of the source's text, or why there are none.
 abbrev pub HasVectors : Outcome → Facts → Type 0
-HasVectors w f = ((p : Played) × (entries : List Entry) × WerePlayed p entries w f) ⊎ ((r : Stop) × WereNotPlayed r w f)
+HasVectors w f = ((p : Played) × (entries : List LogEntry) × WerePlayed p entries w f) ⊎ ((r : Stop) × WereNotPlayed r w f)
 
 -- Neither source nor rig nor sink failed.
 abbrev pub AreCalmAll : Facts → ℕ → ℕ → Type 0

@@ -14,12 +14,12 @@ use crate::program::{refuse, status_for};
 use crate::refusal::Refusal;
 use crate::showing::stretch_of;
 use crate::status::Status;
-use unit_words::image_of;
 use dix_base::{Sink, Store};
 use image_blocks::{Image, Stretch, open_image};
 use image_diff::{DiffFault, diff_blocks};
 use lab_words::Place;
 use std::alloc::Global;
+use unit_words::image_of;
 
 /// The second image that the words of a command name: the fourth of them, or nothing where they are fewer.
 fn second_of(words: &[String]) -> &str

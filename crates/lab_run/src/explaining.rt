@@ -14,11 +14,11 @@ ghost use Rattle.lab_run.specs.Verdict.{Ended, Written, done_status};
 use crate::program::{finish, status_for};
 use crate::status::Status;
 use crate::stopping::stop;
-use unit_words::image_of;
 use dix_base::{Failed, Sink, Source};
 use rig_api::Rig;
 use run_words::{Explained, Unexplained, explain_source, print_explained};
 use std::alloc::Global;
+use unit_words::image_of;
 
 /// Writes the report of a run and what it means.
 fn tell_run<R: Rig, O: Sink>(out: &mut O, told: &Explained, rig: &R) -> Status

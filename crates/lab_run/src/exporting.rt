@@ -14,12 +14,12 @@ use crate::program::refuse;
 use crate::refusal::Refusal;
 use crate::showing::{ROOM, stretch_of};
 use crate::status::Status;
-use unit_words::image_of;
 use dix_base::{Sink, Store};
 use image_blocks::open_image;
 use image_dumps::export_blocks;
 use lab_words::{Layout, Place};
 use std::alloc::Global;
+use unit_words::image_of;
 
 /// `export IMAGE PLACE LAYOUT`: writes the blocks of the place in the layout.
 pub(crate) fn export<A: Store, O: Sink>(

@@ -14,12 +14,12 @@ use crate::program::{finish, refuse};
 use crate::refusal::Refusal;
 use crate::showing::stretch_of;
 use crate::status::Status;
-use unit_words::image_of;
 use dix_base::{Sink, Source, Store};
 use image_blocks::open_image;
 use image_dumps::import_blocks;
 use lab_words::{Layout, Place};
 use std::alloc::Global;
+use unit_words::image_of;
 
 /// `import IMAGE PLACE LAYOUT`: puts what the source gives in the place.
 pub(crate) fn import<S: Source, A: Store, O: Sink>(

@@ -14,10 +14,10 @@ ghost use Rattle.lab_run.specs.Verdict.{Ended, Written};
 use crate::program::status_for;
 use crate::status::Status;
 use crate::stopping::stop;
-use unit_words::image_of;
 use dix_base::{Failed, Sink, Source};
 use rig_api::Rig;
 use std::alloc::Global;
+use unit_words::image_of;
 use vector_runs::{Played, play_source, print_played};
 
 /// Writes the vectors of a text whose commands were done.

@@ -15,12 +15,12 @@ ghost use Rattle.rig_api.specs.State.{RigState};
 use crate::program::{refuse, status_for};
 use crate::refusal::Refusal;
 use crate::status::Status;
-use unit_words::image_of;
 use dix_base::{Failed, Sink, Store};
 use image_blocks::{Image, PlaceFault, Stretch, open_image, part_of, whole_of};
 use image_show::ShowFault;
 use lab_words::Place;
 use std::alloc::Global;
+use unit_words::image_of;
 
 /// The blocks of a place.
 pub(crate) fn stretch_of(image: &Image, place: Place) -> Result<Stretch, PlaceFault>

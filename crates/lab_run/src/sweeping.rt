@@ -13,11 +13,11 @@ ghost use Rattle.lab_run.specs.Verdict.{Ended};
 use crate::program::status_for;
 use crate::status::Status;
 use crate::stopping::stop;
-use unit_words::UnitList;
 use dix_base::{Sink, Source};
 use flip_sweep::{Halt, Unswept, sweep_script};
 use run_command::take_script;
 use std::alloc::Global;
+use unit_words::UnitList;
 
 /// The status of a sweep that was broken off.
 fn halt_status(halt: Halt) -> Status

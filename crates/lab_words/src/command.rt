@@ -6,10 +6,10 @@ ghost use Rattle.unit_words.specs.Words.{word_bytes};
 ghost use Rattle.lab_words.specs.Grammar.{alone, behind_image, command_by, command_in, diff_of, explain_of, export_of, flip_in, image_and_place, import_of, laid_in, layout_alone, show_of, shown, sweep_of, vectors_of};
 
 use crate::layout::{Layout, layout_of};
-use crate::place::{Place, place_of};
 use crate::ordered::laid_out;
-use unit_words::{UnitList, is_name};
+use crate::place::{Place, place_of};
 use script_words::byte;
+use unit_words::{UnitList, is_name};
 
 /// A command of the program. Those that work on an image name it by the word behind their own, and
 /// `diff` its second one by the word behind the first place.

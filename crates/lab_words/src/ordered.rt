@@ -4,8 +4,8 @@ ghost use Rattle.std.specs.Prelude.{◌≡◌, option_map};
 ghost use Rattle.unit_words.specs.Words.{units_in, word_bytes};
 ghost use Rattle.lab_words.specs.Grammar.{laid_out};
 
-use unit_words::{UnitList, units_of};
 use target_answer::is_layout;
+use unit_words::{UnitList, units_of};
 
 /// The units of words, where an image may have them.
 pub(crate) fn laid_out(words: &[String]) -> Option<UnitList>

@@ -3,7 +3,7 @@ use Rattle.std.proofs.Common.{ℕ, suc, ◌≡◌, ◌+◌, ◌≤◌, List, [],
 use Rattle.std.proofs.lemmas.List.{length-map}
 use Rattle.bio_core.specs.declared.fate.Why.{Why}
 use Rattle.block_path.specs.Acts.{State, act, tell}
-use Rattle.block_path.specs.Blocks.{Answer, Sent}
+use Rattle.block_path.specs.Blocks.{ActAnswer, Sent}
 use Rattle.block_path.specs.Serial.{plain, plain_tells}
 use Rattle.block_path.proofs.PathLaws.{long_tells}
 use Rattle.stack_ops.specs.declared.op.Op.{Op}
@@ -26,10 +26,10 @@ fits-list : (n : ℕ) (bad : List BadBlock) → AreBelow n bad → Fits n (whole
 fits-list n [] h = tt
 fits-list n (b ∷ bad) h = h
 
-fits-answers : (n : ℕ) (answers : List Answer) → length answers ≡ n → Fits n (request_reply answers)
+fits-answers : (n : ℕ) (answers : List ActAnswer) → length answers ≡ n → Fits n (request_reply answers)
 fits-answers n answers e =
-    let whys = map (λ (a : Answer). a.why) answers in
-    let l : length whys ≡ length answers = length-map answers (λ (a : Answer). a.why) in
+    let whys = map (λ (a : ActAnswer). a.why) answers in
+    let l : length whys ≡ length answers = length-map answers (λ (a : ActAnswer). a.why) in
     fits-list n (bad_from 0 whys) (below-whys n 0 whys (omega (arith, e, l)))
 
 module _ (m : Setting) (es : List Sent) where

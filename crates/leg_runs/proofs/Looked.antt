@@ -7,7 +7,7 @@ use Rattle.page_pool.specs.Cells.{flat}
 use Rattle.pi_tuple.specs.Tuples.{tuple_in}
 use Rattle.bio_core.specs.declared.fate.Why.{Why}
 use Rattle.bio_core.specs.declared.fate.Why.TheVariants.{Adapter, App, Block as ByOwner, Medium, Refused, Short, Target}
-use Rattle.rig_api.specs.Log.{Entry}
+use Rattle.rig_api.specs.Log.{LogEntry}
 use Rattle.rig_discovery.specs.Discovery.{info_of}
 use Rattle.target_answer.specs.Target.{Stored}
 use Rattle.stack_ops.specs.declared.reply.Reply.{Reply}
@@ -38,7 +38,7 @@ use Rattle.leg_runs.proofs.Replied.{found-last}
 
 -- What a leg's law says of a read with tuples.
 abbrev pub LookLaw : Type 0
-LookLaw = (s : Script) (t : Table) (half : ℕ) (p : Piece) (us left : List Stored) (pool : List (List ℕ)) (log : List Entry) (replies : List Reply)
+LookLaw = (s : Script) (t : Table) (half : ℕ) (p : Piece) (us left : List Stored) (pool : List (List ℕ)) (log : List LogEntry) (replies : List Reply)
     → IsMirrorScript s t half → IsPieceWithTuples s.block half p → MadeFor t (map info_of (shapes_of us)) s.block → AreStored us → HasWalked (read_pi_script s half p) t us left pool log replies
     → ReadPiOnLeg s t half p us left pool replies
 

@@ -5,7 +5,7 @@ use Rattle.std.proofs.lemmas.List.{length-replicate, length-take-le}
 use Rattle.std.proofs.Math.Nat.{mul-le-mul_right}
 use Rattle.page_pool.specs.Cells.{flat}
 use Rattle.bio_core.specs.declared.fate.Why.{Why}
-use Rattle.rig_api.specs.Log.{Entry}
+use Rattle.rig_api.specs.Log.{LogEntry}
 use Rattle.rig_discovery.specs.Discovery.{info_of}
 use Rattle.target_answer.specs.Target.{Stored, shape_of}
 use Rattle.target_answer.specs.declared.units.UnitSpec.{UnitSpec}
@@ -34,7 +34,7 @@ use Rattle.leg_runs.proofs.Replied.{found-last}
 
 -- What a leg's law says of a read.
 abbrev pub ReadLaw : Type 0
-ReadLaw = (s : Script) (t : Table) (half : ℕ) (p : Piece) (us left : List Stored) (pool : List (List ℕ)) (log : List Entry) (replies : List Reply)
+ReadLaw = (s : Script) (t : Table) (half : ℕ) (p : Piece) (us left : List Stored) (pool : List (List ℕ)) (log : List LogEntry) (replies : List Reply)
     → IsMirrorScript s t half → IsPiece s.block half p → MadeFor t (map info_of (shapes_of us)) s.block → AreStored us → HasWalked (read_script s half p) t us left pool log replies → ReadOnLeg s t half p us left pool replies
 
 -- ---- units are the same by their shapes and their blocks

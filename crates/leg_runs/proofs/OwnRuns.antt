@@ -8,7 +8,7 @@ use Rattle.page_pool.proofs.Celled.{length-flat, read-cells}
 use Rattle.page_pool.proofs.Spreads.{range-all, range_stands}
 use Rattle.range_gate.specs.Cells.{in_turn}
 use Rattle.integrity_payload.specs.declared.payload.Owner.TheVariants.{App as OfApp, Block as OfBlock}
-use Rattle.rig_api.specs.Log.{Entry}
+use Rattle.rig_api.specs.Log.{LogEntry}
 use Rattle.rig_api.specs.State.{RigState}
 use Rattle.block_path.specs.Acts.{State, act, tell}
 use Rattle.block_path.specs.Blocks.{Sent}
@@ -41,7 +41,7 @@ use Rattle.leg_runs.proofs.LastReplies.{asks-steps, last-fits}
 abbrev pub ListsOf : (n : ℕ) → Op → Type 0
 ListsOf n op = (m : Setting) (es : List Sent) (j : ℕ) (reply : Reply) (now : State) → Fits n (taken_reply op reply (plain_tells act tell (taken_acts m es j op reply) now))
 
-backed-fits : (own : Script) (t : Table) (devices : List DeviceInfo) (log : List Entry) (replies : List Reply) (before : List Op) (op : Op) (n : ℕ) → own.ops ≡ before ++ (op ∷ []) → ListsOf n op
+backed-fits : (own : Script) (t : Table) (devices : List DeviceInfo) (log : List LogEntry) (replies : List Reply) (before : List Op) (op : Op) (n : ℕ) → own.ops ≡ before ++ (op ∷ []) → ListsOf n op
     → IsBackedBy own t devices log replies → LastFits replies n
 backed-fits own t devices log replies before op n e f h =
     let m = setting_of own t (map unit_of devices) (failed_in replies) in

@@ -1,6 +1,6 @@
 use Rattle.std.specs.Prelude.{ℕ, ◌≡◌, ◌+◌, ◌<◌, ◌≤◌, min, List, [], ◌∷◌, ◌++◌, drop, length, replicate, set, Option, Some, None}
 use Rattle.bio_core.specs.declared.fate.Why.{Why}
-use Rattle.rig_api.specs.Log.{Entry}
+use Rattle.rig_api.specs.Log.{LogEntry}
 use Rattle.rig_api.specs.State.{RigState}
 use Rattle.stack_ops.specs.declared.reply.BadBlock.{BadBlock}
 use Rattle.stack_ops.specs.declared.reply.Reply.{Reply}
@@ -20,7 +20,7 @@ use Rattle.stack_core.specs.declared.stack.Stack.{Stack}
 pub record LegRun : Type 0 where
   pub own : Script
   pub words : List (ℕ × ℕ)
-  pub records : List Entry
+  pub records : List LogEntry
   pub stack : Stack
 
 -- what its ops replied, and its pages
@@ -42,7 +42,7 @@ pub record OneRun (own : Script) (So : LegRun → Type 0) (runs : List LegRun) :
   pub own_is : run.own ≡ own
   pub so : So run
 
-abbrev pub all_records : List LegRun → List Entry
+abbrev pub all_records : List LegRun → List LogEntry
 all_records [] = []
 all_records (r ∷ runs) = r.records ++ all_records runs
 

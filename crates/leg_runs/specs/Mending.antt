@@ -10,6 +10,8 @@ use Rattle.mirror_legs.specs.declared.piece.Piece.{Piece}
 use Rattle.mirror_legs.specs.Inner.{pages_for, read_pi_script, write_script}
 use Rattle.leg_runs.specs.LegRuns.{LegRun, found_by, pool_of, replies_of}
 use Rattle.leg_runs.specs.Asked.{AreOf, bytes_after, found_after, fresh_on0, pasted, stretches}
+use Rattle.page_pool.specs.declared.TheConstants.{PAGE}
+use Rattle.pi_tuple.specs.declared.TheConstants.{TUPLE}
 
 -- The repair of a stretch of blocks, by its runs on the legs.
 
@@ -25,7 +27,7 @@ abbrev pub tuples_after : (size : ℕ) → List (ℕ × ℕ) → List LegRun →
 tuples_after size [] runs tuples = tuples
 tuples_after size (s ∷ ss) [] tuples = tuples
 tuples_after size (s ∷ ss) (r ∷ runs) tuples =
-    tuples_after size ss runs (pasted (s.0 * 8) (take (s.1 * 8) (drop (4096 * pages_for (s.1 * size)) (flat (pool_of r)))) tuples)
+    tuples_after size ss runs (pasted (s.0 * 8) (take (s.1 * 8) (drop (PAGE * pages_for (s.1 * size)) (flat (pool_of r)))) tuples)
 
 -- which blocks were wanted, and have nothing found of them
 abbrev pub delivered : List Bool → List (Option Why) → List Bool
@@ -41,7 +43,7 @@ goods size (d ∷ good) bytes tuples = (if d then Some (record { body = take siz
 -- what was looked at on a leg, by the runs there
 abbrev pub looked : (size n : ℕ) → List Bool → List LegRun → List (Option Brought)
 looked size n wanted runs =
-    goods size (delivered wanted (found_after (stretches wanted) runs (replicate n None))) (bytes_after size (stretches wanted) runs (replicate (n * size) 0)) (tuples_after size (stretches wanted) runs (replicate (n * 8) 0))
+    goods size (delivered wanted (found_after (stretches wanted) runs (replicate n None))) (bytes_after size (stretches wanted) runs (replicate (n * size) 0)) (tuples_after size (stretches wanted) runs (replicate (n * TUPLE) 0))
 
 abbrev pub need_by : Option Brought → Option Brought → Need
 need_by None None = Lost

@@ -24,6 +24,7 @@ pub fn an_op_of_a_mirror_goes_on_in_its_walk()
         → StandsAt s devices us old replies now → OpBy s (half_of s devices) (length replies + 1) (op_at s.ops (length replies)) old new runs reply
         → OpWalked (op_at s.ops (length replies)) (table_of s devices) now runs reply left → StandsAt s devices us new (replies ++ (reply ∷ [])) left }
 {
+    // By laws.
     a_read_on_a_leg_goes_its_ways();
 }
 
@@ -34,5 +35,6 @@ pub fn a_repair_of_a_mirror_is_that_of_its_walk()
         → RepairBy s (half_of s devices) 0 (stretches_in (half_of s devices)) (record { marks = sides.marks; repaired = 0; lost = 0 }) new runs → AllWalked (table_of s devices) now runs left
         → IsRepairedAs s devices us (length replies) new.marks new.repaired new.lost left }
 {
+    // By laws.
     a_read_with_tuples_on_a_leg_goes_its_ways();
 }

@@ -2,7 +2,7 @@
 use Rattle.std.proofs.Common.{◌≡◌, ℕ, ◌*◌, ◌⊎◌, inl, inr, List, [], ◌∷◌, Some, get_or, refl, sym, subst}
 use Rattle.std.specs.Prelude.{All}
 use Rattle.target_answer.specs.Target.{Stored}
-use Rattle.rig_api.specs.Log.{Entry}
+use Rattle.rig_api.specs.Log.{LogEntry}
 use Rattle.rig_api.specs.Telling.{block_at, changed, with_block}
 use Rattle.rig_api.specs.declared.change.Change.{Change}
 use Rattle.rig_api.specs.State.{RigState}
@@ -42,7 +42,7 @@ names-listed Medium h = h
 
 -- ---- a request on a leg
 
-fallen-lists : (s : Script) (t : Table) (us left : List Stored) (pool : List (List ℕ)) (log : List Entry) (replies : List Reply) → HasFallen s t us left pool log replies → All (ListsOnly is_fault) replies
+fallen-lists : (s : Script) (t : Table) (us left : List Stored) (pool : List (List ℕ)) (log : List LogEntry) (replies : List Reply) → HasFallen s t us left pool log replies → All (ListsOnly is_fault) replies
 fallen-lists s t us left pool log replies h =
     let f = h.fallen in
     let named = subst (λ (rs : List Reply). All NamesFaults rs) (sym f.ends.replies_are)

@@ -25,6 +25,7 @@ use Rattle.mirror_volume.specs.Enough.{WasEnough}
 use Rattle.mirror_volume.specs.Premises.{IsFormedMirror, IsOneGoodRun, IsStillMirror}
 use Rattle.mirror_command.specs.Stages.{Broke, Finished, stage_of}
 use Rattle.mirror_command.specs.declared.mirrored.Mirrored.{Mirrored}
+use Rattle.page_pool.specs.declared.TheConstants.{PAGE}
 
 -- The mirror of a script over these devices, none of whose ops is done: all blocks are fresh on both legs, its pages are zeros, and no entry of the schedule is used.
 pub record IsBegun (s : Script) (devices : List DeviceInfo) (begun : Mirror) : Type 0 where
@@ -34,7 +35,7 @@ pub record IsBegun (s : Script) (devices : List DeviceInfo) (begun : Mirror) : T
   pub none : begun.replies.items ≡ []
   pub unused : begun.state.used ≡ 0
   pub marks : begun.state.marks.items ≡ replicate (half_of s devices) fresh
-  pub pages : flat begun.state.pool ≡ replicate (4096 * s.pages) 0
+  pub pages : flat begun.state.pool ≡ replicate (PAGE * s.pages) 0
 
 -- ---- a script that was run on a mirror
 

@@ -47,6 +47,7 @@ pub fn run_mirror<R: Rig>(
     let devices = bind(alloc, image, &script, rig)?;
     let count = script.ops.as_slice().len();
     let mut mirror = Mirror::new(alloc, script, devices)?;
+    // By laws.
     one_good_leg_is_enough();
     a_formed_mirror_has_one_good_leg();
     no_fault_is_enough_under_any_protect_field();

@@ -20,7 +20,7 @@ use Rattle.stack_ops.specs.declared.reply.Reply.{Reply}
 use Rattle.stack_ops.specs.declared.reply.Reply.TheVariants.{Silent}
 use Rattle.target_answer.specs.Target.{Stored}
 use Rattle.target_answer.specs.Frames.{stored_size}
-use Rattle.rig_api.specs.Log.{Entry}
+use Rattle.rig_api.specs.Log.{LogEntry}
 use Rattle.rig_discovery.specs.Discovery.{info_of}
 use Rattle.dix_adapter.specs.Ways.{blocks_told, cell_in, shapes_of}
 use Rattle.volume_table.specs.Places.{place_in}
@@ -188,7 +188,7 @@ module _ (s : Script) (t : Table) (half : ℕ) (p : Piece) (is : IsMirrorScript 
     numbered : 1 + pages ≡ suc pages
     numbered = omega arith
 
-    pub write_goes : (left : List Stored) (pool : List (List ℕ)) (log : List Entry) (replies : List Reply) → HasWalked script t us left pool log replies → WroteOnLeg s t half p app bytes us left replies
+    pub write_goes : (left : List Stored) (pool : List (List ℕ)) (log : List LogEntry) (replies : List Reply) → HasWalked script t us left pool log replies → WroteOnLeg s t half p app bytes us left replies
     write_goes left pool log replies w = record {
       replies_are =
           w.replies_are
@@ -254,7 +254,7 @@ module _ (s : Script) (t : Table) (half : ℕ) (p : Piece) (is : IsMirrorScript 
     front_of : (xs ys : List ℕ) → length xs ≡ n * size → take (n * size) (xs ++ ys) ≡ xs
     front_of xs ys e = take-append-le (n * size) xs ys (omega arith) ∙ take_all (n * size) xs (omega arith)
 
-    pub read_goes : (left : List Stored) (pool : List (List ℕ)) (log : List Entry) (replies : List Reply) → HasWalked reader t us left pool log replies → ReadOnLeg s t half p us left pool replies
+    pub read_goes : (left : List Stored) (pool : List (List ℕ)) (log : List LogEntry) (replies : List Reply) → HasWalked reader t us left pool log replies → ReadOnLeg s t half p us left pool replies
     read_goes left pool log replies w = record {
       replies_are = w.replies_are ∙ ap (λ whys. whole_or_bad (bad_from 0 whys) ∷ []) read.whys;
       blocks = w.blocks ∙ read.blocks;

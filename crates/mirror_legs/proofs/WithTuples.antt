@@ -5,7 +5,7 @@ use Rattle.page_pool.specs.declared.segs.Seg.{Seg}
 use Rattle.page_pool.specs.Cells.{flat}
 use Rattle.range_gate.specs.Cells.{cells_of, in_turn}
 use Rattle.target_answer.specs.Target.{Stored}
-use Rattle.rig_api.specs.Log.{Entry}
+use Rattle.rig_api.specs.Log.{LogEntry}
 use Rattle.rig_discovery.specs.Discovery.{info_of}
 use Rattle.stack_ops.specs.declared.reply.Reply.{Reply}
 use Rattle.dix_adapter.specs.Ways.{blocks_told, shapes_of}
@@ -119,7 +119,7 @@ module _ (s : Script) (t : Table) (half : ℕ) (p : Piece) (is : IsMirrorScript 
       (λ k z l. tuple_cells pages more n k b c (omega (arith, l)))
       (λ k z l. delivers s t half p is plain-piece us law made stored k (omega (arith, l)) (λ f. f ≡ size + 8) (ap (λ (d : Bool). if d then size + 8 else size) is.dix))
 
-  pub read_pi_goes : (left : List Stored) (pool : List (List ℕ)) (log : List Entry) (replies : List Reply) → HasWalked reader t us left pool log replies → ReadPiOnLeg s t half p us left pool replies
+  pub read_pi_goes : (left : List Stored) (pool : List (List ℕ)) (log : List LogEntry) (replies : List Reply) → HasWalked reader t us left pool log replies → ReadPiOnLeg s t half p us left pool replies
   read_pi_goes left pool log replies w =
       let read-data = data_read m (blocks_of half p) (blocks_told us) in
       let theirs = tuples_read m (blocks_of half p) (blocks_told us) in

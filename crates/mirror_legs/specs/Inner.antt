@@ -5,6 +5,8 @@ use Rattle.stack_ops.specs.declared.op.Op.{Op}
 use Rattle.stack_ops.specs.declared.op.Op.TheVariants.{Fetch, FetchPi, Put, Write}
 use Rattle.script_text.specs.declared.script.Script.{Script}
 use Rattle.mirror_legs.specs.declared.piece.Piece.{Piece}
+use Rattle.page_pool.specs.declared.TheConstants.{PAGE}
+use Rattle.pi_tuple.specs.declared.TheConstants.{TUPLE}
 
 -- A request on a leg, as a script of its own: `put`s of its data, and the request, over pages of their own, with the op's faults.
 
@@ -28,16 +30,16 @@ own_faults p request (f ∷ faults) =
 
 -- how many pages so many bytes take
 abbrev pub pages_for : (bytes : ℕ) → ℕ
-pages_for bytes = (bytes + 4095) / 4096
+pages_for bytes = (bytes + (PAGE - 1)) / PAGE
 
 -- so many bytes, from the begin of this page on, as one segment a page
 abbrev pub page_segs : (page pages bytes : ℕ) → List Seg
 page_segs page zero bytes = []
-page_segs page (suc pages) bytes = record { page = page; off = 0; len = min 4096 bytes } ∷ page_segs (suc page) pages (bytes - 4096)
+page_segs page (suc pages) bytes = record { page = page; off = 0; len = min PAGE bytes } ∷ page_segs (suc page) pages (bytes - PAGE)
 
 abbrev pub puts : (page pages : ℕ) → List ℕ → List Op
 puts page zero bytes = []
-puts page (suc pages) bytes = Put page 0 (take 4096 bytes) ∷ puts (suc page) pages (drop 4096 bytes)
+puts page (suc pages) bytes = Put page 0 (take PAGE bytes) ∷ puts (suc page) pages (drop PAGE bytes)
 
 -- a script with the mirror's mode and limits, for a request of n blocks: no group has more
 abbrev pub own_script : Script → (n pages : ℕ) → List FaultLine → List Op → Script
@@ -58,5 +60,5 @@ read_script s half p =
 -- The piece is read with its tuples, which stand in pages behind those of the data.
 abbrev pub read_pi_script : Script → (half : ℕ) → Piece → Script
 read_pi_script s half p =
-    own_script s p.n (pages_for (p.n * s.block) + pages_for (p.n * 8)) (own_faults p 1 s.faults)
-    (FetchPi (first_virt half p) p.n (page_segs 0 (pages_for (p.n * s.block)) (p.n * s.block)) (page_segs (pages_for (p.n * s.block)) (pages_for (p.n * 8)) (p.n * 8)) ∷ [])
+    own_script s p.n (pages_for (p.n * s.block) + pages_for (p.n * TUPLE)) (own_faults p 1 s.faults)
+    (FetchPi (first_virt half p) p.n (page_segs 0 (pages_for (p.n * s.block)) (p.n * s.block)) (page_segs (pages_for (p.n * s.block)) (pages_for (p.n * TUPLE)) (p.n * TUPLE)) ∷ [])

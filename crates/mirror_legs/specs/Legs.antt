@@ -19,6 +19,8 @@ use Rattle.mirror_walk.specs.OnLegs.{blocks_on, brought_each, data_read, whys_re
 use Rattle.mirror_walk.specs.Repair.{reading}
 use Rattle.mirror_legs.specs.declared.piece.Piece.{Piece}
 use Rattle.mirror_legs.specs.Inner.{first_label, first_virt, pages_for}
+use Rattle.page_pool.specs.declared.TheConstants.{PAGE}
+use Rattle.pi_tuple.specs.declared.TheConstants.{TUPLE}
 
 -- A stack takes the script over a volume of these devices.
 pub record IsReady (s : Script) (t : Table) (devices : List DeviceInfo) : Type 0 where
@@ -72,4 +74,4 @@ pub record ReadPiOnLeg (s : Script) (t : Table) (half : ℕ) (p : Piece) (us us'
   pub replies_are : replies ≡ whole_or_bad (bad_from 0 (map by_app (whys_read (mirror_setting s t us) (blocks_of half p) (blocks_told us)))) ∷ []
   pub blocks : blocks_told us' ≡ blocks_told us
   pub landed : take (p.n * s.block) (flat pool) ≡ data_read (mirror_setting s t us) (blocks_of half p) (blocks_told us)
-  pub tuples : take (p.n * 8) (drop (4096 * pages_for (p.n * s.block)) (flat pool)) ≡ tuples_read (mirror_setting s t us) (blocks_of half p) (blocks_told us)
+  pub tuples : take (p.n * TUPLE) (drop (PAGE * pages_for (p.n * s.block)) (flat pool)) ≡ tuples_read (mirror_setting s t us) (blocks_of half p) (blocks_told us)

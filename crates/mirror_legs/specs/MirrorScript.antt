@@ -8,6 +8,7 @@ use Rattle.script_laws.specs.Keeping.{Each, IsProtect, IsWithin}
 use Rattle.mirror_script.specs.MirrorFaults.{names_blocks}
 use Rattle.mirror_legs.specs.declared.piece.Piece.{Piece}
 use Rattle.mirror_legs.specs.Inner.{pages_for}
+use Rattle.pi_tuple.specs.declared.TheConstants.{TUPLE}
 
 -- A script on a mirror of `half` blocks: its requests bring tuples from the host to units of type 1 or 2, and no fault line is a shift. Its mode, limits and block size are such as a stack takes.
 pub record IsMirrorScript (s : Script) (t : Table) (half : ℕ) : Type 0 where
@@ -28,7 +29,7 @@ pub record IsPiece (size half : ℕ) (p : Piece) : Type 0 where
 -- So has one that is read with its tuples: data and tuples have room in 256 pages together.
 pub record IsPieceWithTuples (size half : ℕ) (p : Piece) : Type 0 where
   pub some : 1 ≤ p.n
-  pub room : pages_for (p.n * size) + pages_for (p.n * 8) ≤ 256
+  pub room : pages_for (p.n * size) + pages_for (p.n * TUPLE) ≤ 256
   pub inside : p.v + p.n ≤ half
 
 -- the script of a repair, which has no faults

@@ -1,7 +1,7 @@
 ghost use Rattle.std.specs.Prelude.{ℕ, ◌≡◌, ◌+◌, ◌*◌, ◌/◌, List, length, map, None};
 ghost use Rattle.target_answer.specs.Target.{Stored};
 ghost use Rattle.target_answer.specs.declared.units.UnitSpec.{UnitSpec};
-ghost use Rattle.rig_api.specs.Log.{Entry};
+ghost use Rattle.rig_api.specs.Log.{LogEntry};
 ghost use Rattle.rig_discovery.specs.Discovery.{info_of};
 ghost use Rattle.dix_adapter.specs.Ways.{shapes_of};
 ghost use Rattle.stack_ops.specs.declared.reply.Reply.{Reply as AnyReply};
@@ -38,17 +38,18 @@ pub fn a_stack_takes_a_request_on_a_leg()
 
 /// Done at the target, such a write lists and stores of each block what the mirror's script says of it on this leg.
 pub fn a_write_on_a_leg_goes_its_ways()
-    ensures { (s : AnyScript) (t : Table) (half : ℕ) (p : AnyPiece) (app : ℕ) (bytes : List ℕ) (us left : List Stored) (pool : List (List ℕ)) (log : List Entry) (replies : List AnyReply)
+    ensures { (s : AnyScript) (t : Table) (half : ℕ) (p : AnyPiece) (app : ℕ) (bytes : List ℕ) (us left : List Stored) (pool : List (List ℕ)) (log : List LogEntry) (replies : List AnyReply)
         → IsMirrorScript s t half → IsPiece s.block half p → length bytes ≡ p.n * s.block → HasWalked (write_script s half p app bytes) t us left pool log replies
         → WroteOnLeg s t half p app bytes us left replies }
 {}
 
 /// And such a read lists and lands of each block what the mirror's script says of it on this leg.
 pub fn a_read_on_a_leg_goes_its_ways()
-    ensures { (s : AnyScript) (t : Table) (half : ℕ) (p : AnyPiece) (us left : List Stored) (pool : List (List ℕ)) (log : List Entry) (replies : List AnyReply)
+    ensures { (s : AnyScript) (t : Table) (half : ℕ) (p : AnyPiece) (us left : List Stored) (pool : List (List ℕ)) (log : List LogEntry) (replies : List AnyReply)
         → IsMirrorScript s t half → IsPiece s.block half p → MadeFor t (map info_of (shapes_of us)) s.block → AreStored us → HasWalked (read_script s half p) t us left pool log replies
         → ReadOnLeg s t half p us left pool replies }
 {
+    // By laws.
     a_target_keeps_sizes();
 }
 
@@ -60,9 +61,10 @@ pub fn a_stack_takes_a_read_with_tuples_on_a_leg()
 
 /// And such a read lists and lands of each block what the mirror's script says of it on this leg, and lands its tuple.
 pub fn a_read_with_tuples_on_a_leg_goes_its_ways()
-    ensures { (s : AnyScript) (t : Table) (half : ℕ) (p : AnyPiece) (us left : List Stored) (pool : List (List ℕ)) (log : List Entry) (replies : List AnyReply)
+    ensures { (s : AnyScript) (t : Table) (half : ℕ) (p : AnyPiece) (us left : List Stored) (pool : List (List ℕ)) (log : List LogEntry) (replies : List AnyReply)
         → IsMirrorScript s t half → IsPieceWithTuples s.block half p → MadeFor t (map info_of (shapes_of us)) s.block → AreStored us → HasWalked (read_pi_script s half p) t us left pool log replies
         → ReadPiOnLeg s t half p us left pool replies }
 {
+    // By laws.
     a_target_keeps_sizes();
 }

@@ -2,6 +2,7 @@
 
 ghost use Rattle.std.specs.Prelude.{◌≡◌, ◌+◌, ◌*◌, ◌<◌, ◌≤◌, ◌^◌, ◌++◌, IfOk, OnOk, length};
 ghost use Rattle.mirror_legs.specs.Inner.{own_faults, own_script, page_segs, pages_for, puts, read_pi_script, read_script, write_script};
+ghost use Rattle.pi_tuple.specs.declared.TheConstants.{TUPLE};
 
 use crate::Piece;
 use dix_base::ByteList;
@@ -185,7 +186,7 @@ pub fn read_pi_script(
     requires block { piece.n * script.now.block < 2 ^ 31 }
     requires label { piece.count + piece.first < 2 ^ 32 }
     requires virt { half + piece.v < 2 ^ 64 }
-    requires tuples { piece.n * 8 < 2 ^ 31 }
+    requires tuples { piece.n * TUPLE < 2 ^ 31 }
     requires few { length script.now.faults < 2 ^ 16 }
     ensures { IfOk result (λ s. s ≡ read_pi_script script.now half piece) }
 {

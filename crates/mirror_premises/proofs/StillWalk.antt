@@ -14,7 +14,7 @@ use Rattle.stack_ops.specs.declared.op.Op.TheVariants.{Fetch, FetchPi, Fill, Ove
 use Rattle.volume_table.specs.Places.{volume_len}
 use Rattle.volume_table.specs.declared.device.DeviceInfo.{DeviceInfo}
 use Rattle.block_path.specs.Acts.{State, act, tell}
-use Rattle.block_path.specs.Blocks.{Answer, fetched_cell, own_cell, own_frame, own_tuple, read_by, stored_cell, written_by}
+use Rattle.block_path.specs.Blocks.{ActAnswer, fetched_cell, own_cell, own_frame, own_tuple, read_by, stored_cell, written_by}
 use Rattle.block_path.specs.Routes.{moved, target}
 use Rattle.block_path.specs.Serial.{plain, plain_tells}
 use Rattle.block_path.specs.WayIn.{Delivers, Spoils, Stops, WayIn, delivered_of, way_in}
@@ -181,8 +181,8 @@ module _ (m' : Setting) (p : ℕ) (some : eqb p 0 ≡ false) (half : ℕ) (count
 
   -- ---- steps on the legs, one after another
 
-  abbrev whys : List Answer → List (Option Why)
-  whys list = map (λ (a : Answer). a.why) list
+  abbrev whys : List ActAnswer → List (Option Why)
+  whys list = map (λ (a : ActAnswer). a.why) list
 
   record AllSame (xs : List Step) (s : State) : Type 0 where
     state : plain act (map (act_of mp) xs) s ≡ plain act (map (act_of m1) xs) s

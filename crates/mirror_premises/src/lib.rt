@@ -43,6 +43,7 @@ pub fn each_block_of_a_mirror_has_a_leg_by_its_form()
 pub fn a_still_mirror_serves_the_last_write_under_any_protect_field()
     ensures { (m : Setting) (devices : List AnyDevice) (half : ℕ) (ops : List AnyOp) (opening : State) → HasStillLegs m devices half ops opening → ServesLast m half ops opening }
 {
+    // By laws.
     a_mirror_reads_the_last_write();
     a_repair_makes_both_legs_equal();
 }

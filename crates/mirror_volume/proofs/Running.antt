@@ -1,7 +1,6 @@
 -- Requests on the legs of a mirror: none was run, some and then others, and what else is said of some.
 use Rattle.std.proofs.Common.{ℕ, ◌≡◌, ◌≤◌, List, [], ◌++◌, is_some, length, refl, subst, sym, ◌∙◌}
 use Rattle.rig_api.specs.State.{RigState}
-use Rattle.rig_api.specs.Telling.{Standing}
 use Rattle.script_text.specs.declared.script.Script.{Script}
 use Rattle.script_stack.specs.Causes.{table_of}
 use Rattle.leg_runs.specs.LegRuns.{LegRun}

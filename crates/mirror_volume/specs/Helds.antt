@@ -8,12 +8,13 @@ use Rattle.mirror_volume.specs.declared.repair.Seen.{Seen}
 use Rattle.leg_runs.specs.LegRuns.{LegRun}
 use Rattle.leg_runs.specs.Asked.{bytes_after, found_after}
 use Rattle.leg_runs.specs.Mending.{Mended, goods, tuples_after}
+use Rattle.pi_tuple.specs.declared.TheConstants.{TUPLE}
 
 -- What a leg has of n blocks of this size.
 pub record IsHeld (size n : ℕ) (h : Held) : Type 0 where
   pub good : length h.good.items ≡ n
   pub bytes : length h.bytes.items ≡ n * size
-  pub tuples : length h.tuples.items ≡ n * 8
+  pub tuples : length h.tuples.items ≡ n * TUPLE
 
 -- What both legs have of them.
 pub record AreHeld (size n : ℕ) (h0 h1 : Held) : Type 0 where
@@ -26,14 +27,14 @@ goods_in size h = goods size h.good.items h.bytes.items h.tuples.items
 -- These have room for n blocks of this size: their data, their tuples, and what is found of each.
 pub record HasRoom (size n : ℕ) (bytes tuples : List ℕ) (found : List (Option Why)) : Type 0 where
   pub long : length bytes ≡ n * size
-  pub tuples_long : length tuples ≡ n * 8
+  pub tuples_long : length tuples ≡ n * TUPLE
   pub found_long : length found ≡ n
 
 -- What came of n blocks so far.
 pub record IsSeen (size n : ℕ) (seen : Seen) : Type 0 where
   pub found : length seen.found.items ≡ n
   pub bytes : length seen.bytes.items ≡ n * size
-  pub tuples : length seen.tuples.items ≡ n * 8
+  pub tuples : length seen.tuples.items ≡ n * TUPLE
 
 -- Some stretches were read, by these runs.
 pub record IsAfter (size : ℕ) (stretches : List (ℕ × ℕ)) (runs : List LegRun) (old new : Seen) : Type 0 where

@@ -32,6 +32,7 @@ pub fn one_good_leg_is_enough()
     ensures repaired { (s : AnyScript) (devices : List AnyDevice) (us left : List Stored) (marks : List AnyMarks) (repaired lost : ℕ) → IsOver s devices us → HoldsBytes us → IsOneGoodRun s devices us
         → IsRepairedAs s devices us (length s.ops) marks repaired lost left → WasEnough s devices us left lost }
 {
+    // By laws.
     a_mirror_reads_the_last_write();
     a_repair_makes_both_legs_equal();
 }
@@ -40,6 +41,7 @@ pub fn one_good_leg_is_enough()
 pub fn a_formed_mirror_has_one_good_leg()
     ensures { (s : AnyScript) (devices : List AnyDevice) (us : List Stored) → IsOver s devices us → HoldsBytes us → IsFormedMirror s devices us → IsOneGoodRun s devices us }
 {
+    // By laws.
     faults_on_a_mirror_are_shown_by_their_form();
     no_write_on_a_mirror_supplies_an_escape_by_its_form();
     each_block_of_a_mirror_has_a_leg_by_its_form();
@@ -51,6 +53,7 @@ pub fn no_fault_is_enough_under_any_protect_field()
     ensures repaired { (s : AnyScript) (devices : List AnyDevice) (us left : List Stored) (marks : List AnyMarks) (repaired lost : ℕ) → IsOver s devices us → HoldsBytes us → IsStillMirror s devices us
         → IsRepairedAs s devices us (length s.ops) marks repaired lost left → WasEnough s devices us left lost }
 {
+    // By laws.
     a_still_mirror_serves_the_last_write_under_any_protect_field();
 }
 

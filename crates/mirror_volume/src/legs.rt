@@ -14,6 +14,8 @@ ghost use Rattle.mirror_volume.specs.Helds.{HasRoom};
 ghost use Rattle.mirror_volume.specs.Plans.{IsPieceOf};
 ghost use Rattle.mirror_volume.specs.Running.{CanRun, HasRun};
 ghost use Rattle.leg_runs.specs.Standing.{IsBoundMirror};
+ghost use Rattle.pi_tuple.specs.declared.TheConstants.{TUPLE};
+ghost use Rattle.page_pool.specs.declared.TheConstants.{PAGE};
 
 use crate::replies::found_last;
 use bio_core::Why;
@@ -100,6 +102,7 @@ pub(crate) fn write_piece<R: Rig>(
     ensures found { length found.new ≡ length found.old }
     ensures ready { CanRun plan.now used.new (R.state rig.new) }
 {
+    // By laws.
     a_mirror_has_what_its_legs_ask();
     a_stack_takes_a_request_on_a_leg();
     let own = write_script(alloc, &plan.script, plan.half, piece, app, bytes)?;
@@ -113,7 +116,7 @@ fn copy_out(alloc: Global, pool: &PagePool, page: u32, into: &mut [u8]) -> Resul
     requires some { 1 ≤ length into.old }
     requires few { page + length into.old < 2 ^ 32 }
     requires lie { AllLieIn pool.now (page_segs page (pages_for (length into.old)) (length into.old)) }
-    ensures bytes { OnOk result (into.new ≡ take (length into.old) (drop (4096 * page) (flat pool.now))) }
+    ensures bytes { OnOk result (into.new ≡ take (length into.old) (drop (PAGE * page) (flat pool.now))) }
     ensures long { length into.new ≡ length into.old }
 {
     let _pages = pool.pages();
@@ -143,6 +146,7 @@ pub(crate) fn read_piece<R: Rig>(
     ensures long { length bytes.new ≡ length bytes.old }
     ensures ready { CanRun plan.now used.new (R.state rig.new) }
 {
+    // By laws.
     a_mirror_has_what_its_legs_ask();
     a_stack_takes_a_request_on_a_leg();
     let own = read_script(alloc, &plan.script, plan.half, piece)?;
@@ -169,10 +173,11 @@ pub(crate) fn read_pi_piece<R: Rig>(
     ensures ran { HasRun plan.now used.old used.new (R.state rig.old) (R.state rig.new) (λ own. own ≡ read_pi_script plan.now.script plan.now.half piece)
         (λ runs. IfOk result (λ u. OneRun (read_pi_script plan.now.script plan.now.half piece)
         (λ r. (found.new ≡ found_by piece.n (replies_of r)) × ((bytes.new ≡ take (piece.n * plan.now.script.block) (flat (pool_of r)))
-        × (tuples.new ≡ take (piece.n * 8) (drop (4096 * pages_for (piece.n * plan.now.script.block)) (flat (pool_of r)))))) runs)) }
+        × (tuples.new ≡ take (piece.n * TUPLE) (drop (PAGE * pages_for (piece.n * plan.now.script.block)) (flat (pool_of r)))))) runs)) }
     ensures room { HasRoom plan.now.script.block piece.n bytes.new tuples.new found.new }
     ensures ready { CanRun plan.now used.new (R.state rig.new) }
 {
+    // By laws.
     a_mirror_has_what_its_legs_ask();
     a_stack_takes_a_read_with_tuples_on_a_leg();
     let own = read_pi_script(alloc, &plan.script, plan.half, piece)?;

@@ -108,6 +108,7 @@ impl Mirror {
             self.old.state.pool self.old.state.used self.new.state.used (R.state rig.old) (R.state rig.new)
             (λ runs. result ≡ Ok true → DidNext self.old self.new (R.state rig.old) (R.state rig.new) runs) }
     {
+        // By laws.
         an_op_of_a_mirror_goes_on_in_its_walk();
         // The pages are whole, which the law asks.
         let _pages = self.state.pool.pages();
@@ -142,6 +143,7 @@ impl Mirror {
             × RepairsAsWalk self.old.plan.script self.old.plan.devices.items (sides_of self.old) (R.state rig.old) (R.state rig.new)
             self.old.replies.items self.new.state.marks.items done.repaired done.lost runs)) }
     {
+        // By laws.
         a_repair_of_a_mirror_is_that_of_its_walk();
         match repair_all(alloc, &self.plan, &mut self.state, rig) {
             Ok(done) => Ok(done),

@@ -11,7 +11,7 @@ use Rattle.integrity_payload.specs.declared.payload.Owner.TheVariants.{Block as 
 use Rattle.bio_core.specs.declared.fate.Why.{Why}
 use Rattle.block_path.specs.declared.route.Route.{Route}
 use Rattle.block_path.specs.Acts.{State, act, tell}
-use Rattle.block_path.specs.Blocks.{Answer, own_cell, fetched_cell, read_by}
+use Rattle.block_path.specs.Blocks.{ActAnswer, own_cell, fetched_cell, read_by}
 use Rattle.block_path.specs.Serial.{plain, plain_tells}
 use Rattle.block_path.specs.WayIn.{Delivers, Spoils, Stops, WayIn, delivered_of, way_in}
 use Rattle.block_path.proofs.Cells.{Distinct, distinct, scatter_append, scatter_none, scatter_twice}
@@ -92,7 +92,7 @@ module _ (m : Setting) where
     left steps = plain act (map (act_of m) steps) s
 
     abbrev found : List Step → Option Why
-    found steps = listed (map (λ (a : Answer). a.why) (plain_tells act tell (map (act_of m) steps) s))
+    found steps = listed (map (λ (a : ActAnswer). a.why) (plain_tells act tell (map (act_of m) steps) s))
 
     record Comes (steps : List Step) (came : Result (List ℕ) Why) : Type 0 where
       bytes : (left steps).bytes ≡ scatter at (landed_by m.size came) s.bytes
@@ -202,7 +202,7 @@ module _ (m : Setting) (half : ℕ) (legs : HasLegs m half) (count : ℕ → ℕ
     record AllRead (j r : ℕ) (s : Mirror) : Type 0 where
       stands : Stands (plain (done m half count) (each_from j r f) s)
       lands : (plain (done m half count) (each_from j r f) s).state.bytes ≡ scatter (from j) (all_landed m.size (each_from j r (came marks blocks))) s.state.bytes
-      whys : map (λ (a : Answer). a.why) (plain_tells (done m half count) (answer m half count) (each_from j r f) s) ≡ map why_of (each_from j r (came marks blocks))
+      whys : map (λ (a : ActAnswer). a.why) (plain_tells (done m half count) (answer m half count) (each_from j r f) s) ≡ map why_of (each_from j r (came marks blocks))
 
     all_read : (j r : ℕ) (s : Mirror) → j + r ≤ n → Stands s → AllRead j r s
     all_read j zero s l h = record { stands = h; lands = sym (scatter_none (from j) s.state.bytes); whys = refl }
@@ -224,7 +224,7 @@ module _ (m : Setting) (half : ℕ) (legs : HasLegs m half) (count : ℕ → ℕ
               ∙ sym (scatter_append at (from (suc j)) (vs ++ rest) s.state.bytes)
               ∙ ap (λ xs. scatter xs (vs ++ rest) s.state.bytes) (sym (from_split j));
           whys =
-              ap (λ w. w ∷ map (λ (a : Answer). a.why) (plain_tells (done m half count) (answer m half count) (each_from (suc j) r f) now)) one.why
+              ap (λ w. w ∷ map (λ (a : ActAnswer). a.why) (plain_tells (done m half count) (answer m half count) (each_from (suc j) r f) now)) one.why
               ∙ ap (λ ws. why_of (came marks blocks j) ∷ ws) all.whys;
         }
 
@@ -239,7 +239,7 @@ module _ (m : Setting) (half : ℕ) (legs : HasLegs m half) (count : ℕ → ℕ
   reads_by_legs within total_is once fit =
       let all = all_read m half legs count i v n body total_is (distinct (cells_of body) once) within s.marks s.state.blocks fit 0 n s (omega arith) (record { blocks_are = refl; marks_are = refl }) in
       let none : 0 * m.size ≡ 0 = omega arith in
-      let whys : map (λ (a : Answer). a.why) (plain_tells (done m half count) (answer m half count) (each_from 0 n (f m half legs count i v n body)) s) ≡ map why_of (comes_from m half i n v 0 n s.marks s.state.blocks) = all.whys ∙ ap (map why_of) same_come in
+      let whys : map (λ (a : ActAnswer). a.why) (plain_tells (done m half count) (answer m half count) (each_from 0 n (f m half legs count i v n body)) s) ≡ map why_of (comes_from m half i n v 0 n s.marks s.state.blocks) = all.whys ∙ ap (map why_of) same_come in
       record {
         blocks = all.stands.blocks_are;
         marks = all.stands.marks_are;

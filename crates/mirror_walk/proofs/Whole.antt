@@ -11,7 +11,7 @@ use Rattle.stack_ops.specs.declared.reply.Reply.TheVariants.{Silent, Whole}
 use Rattle.range_gate.specs.Cells.{cells_of}
 use Rattle.volume_table.specs.declared.device.DeviceInfo.{DeviceInfo}
 use Rattle.block_path.specs.Acts.{State, act, effect}
-use Rattle.block_path.specs.Blocks.{Answer}
+use Rattle.block_path.specs.Blocks.{ActAnswer}
 use Rattle.block_path.specs.Serial.{plain, plain_tells}
 use Rattle.block_path.proofs.Cells.{AllBelow, below, distinct, gather_past}
 use Rattle.block_path.proofs.InTurn.{plain_append}
@@ -203,12 +203,12 @@ module _ (m' : Setting) (devices : List DeviceInfo) (half : ℕ) (ops : List Op)
         ∙ plain_append (done m half (count_of ops)) (steps_from m 1 before ++ each_from 0 k f) (f k ∷ []) (mirror_opened half opening)
 
     none_bad : (j k r : ℕ) → k + r ≡ n → (now : Mirror) → now ≡ at (steps_from m 1 before ++ each_from 0 k f) →
-        bad_from j (map (λ (a : Answer). a.why) (plain_tells (done m half (count_of ops)) (answer m half (count_of ops)) (each_from k r f) now)) ≡ []
+        bad_from j (map (λ (a : ActAnswer). a.why) (plain_tells (done m half (count_of ops)) (answer m half (count_of ops)) (each_from k r f) now)) ≡ []
     none_bad j k zero e now q = refl
     none_bad j k (suc r) e now q =
         let why : (answer m half (count_of ops) (f k) now).why ≡ None = ap (λ t. (answer m half (count_of ops) (f k) t).why) q ∙ (gets_at k (omega (arith, e))).why in
         let next = done m half (count_of ops) (f k) now in
-        ap (λ w. bad_from j (w ∷ map (λ (a : Answer). a.why) (plain_tells (done m half (count_of ops)) (answer m half (count_of ops)) (each_from (suc k) r f) next))) why
+        ap (λ w. bad_from j (w ∷ map (λ (a : ActAnswer). a.why) (plain_tells (done m half (count_of ops)) (answer m half (count_of ops)) (each_from (suc k) r f) next))) why
         ∙ none_bad (suc j) (suc k) r (omega (arith, e)) next (ap (done m half (count_of ops) (f k)) q ∙ sym (one_more k))
 
     reply_whole : get_or (mirror_replies m half ops opening) (length before) Silent ≡ Whole

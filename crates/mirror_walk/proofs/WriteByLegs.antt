@@ -10,7 +10,7 @@ use Rattle.range_gate.specs.Cells.{cells_of}
 use Rattle.bio_core.specs.declared.fate.Why.{Why}
 use Rattle.block_path.specs.declared.route.Route.{Route}
 use Rattle.block_path.specs.Acts.{State, act, tell}
-use Rattle.block_path.specs.Blocks.{Answer, fetched_cell, own_cell, own_frame, stored_cell, written_by}
+use Rattle.block_path.specs.Blocks.{ActAnswer, fetched_cell, own_cell, own_frame, stored_cell, written_by}
 use Rattle.block_path.specs.Routes.{wire_lba}
 use Rattle.block_path.specs.Serial.{plain, plain_tells}
 use Rattle.block_path.specs.WayOut.{Fails, Refuses, Stores, WayOut, stored_of, way_out}
@@ -168,13 +168,13 @@ module _ (m : Setting) (half : ℕ) (legs : HasLegs m half) where
         ∙ ap (marks_written ((v + j) + 1) whys others) (one_found j s)
 
     all_listed : (j r : ℕ) (s : Mirror) →
-        map (λ (a : Answer). a.why) (plain_tells (done m half count) (answer m half count) (each_from j r f) s)
+        map (λ (a : ActAnswer). a.why) (plain_tells (done m half count) (answer m half count) (each_from j r f) s)
         ≡ listed_written (whys_written m (each_from j r on0) (each_from j r (e s.state.bytes))) (whys_written m (each_from j r on1) (each_from j r (e s.state.bytes)))
     all_listed j zero s = refl
     all_listed j (suc r) s =
         let first = one_listed j s in
         let rest = all_listed (suc j) r (done m half count (f j) s) in
-        ap (λ w. w ∷ map (λ (a : Answer). a.why) (plain_tells (done m half count) (answer m half count) (each_from (suc j) r f) (done m half count (f j) s))) first
+        ap (λ w. w ∷ map (λ (a : ActAnswer). a.why) (plain_tells (done m half count) (answer m half count) (each_from (suc j) r f) (done m half count (f j) s))) first
         ∙ ap (λ ws. neither (why0 s.state.bytes j) (why1 s.state.bytes j) ∷ ws) rest
 
   module _ (count : ℕ → ℕ) (i v n : ℕ) (body : List Seg) (app : ℕ) (s : Mirror) (counted : count i ≡ n) where
@@ -212,7 +212,7 @@ module _ (m : Setting) (half : ℕ) (legs : HasLegs m half) where
         ∙ ap (λ bs. g (blocks_on i 0 v n) bs (each_from 0 n (λ k. record { body = gather 0 (body_of m.size body k) s.state.bytes; app = app }))) same1
         ∙ ap (g (blocks_on i 0 v n) (blocks_on i n (half + v) n)) same_data
 
-    listed : map (λ (a : Answer). a.why) (plain_tells (done m half count) (answer m half count) (each_from 0 n (f count i v app at)) s) ≡ listed_written whys0 whys1
+    listed : map (λ (a : ActAnswer). a.why) (plain_tells (done m half count) (answer m half count) (each_from 0 n (f count i v app at)) s) ≡ listed_written whys0 whys1
     listed = all_listed count i v app at 0 n s ∙ same_all (λ bs cs es. listed_written (whys_written m bs es) (whys_written m cs es))
 
     pub writes_by_legs : v + n ≤ half → WritesByLegs m half count i v n body app s

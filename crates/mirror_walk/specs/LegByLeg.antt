@@ -11,7 +11,7 @@ use Rattle.stack_ops.specs.declared.reply.Reply.{Reply}
 use Rattle.stack_ops.specs.declared.reply.Reply.TheVariants.{Medium, Shown, Silent}
 use Rattle.stack_ops.specs.Footprints.{put_seg}
 use Rattle.volume_table.specs.Places.{volume_len}
-use Rattle.block_path.specs.Blocks.{Answer}
+use Rattle.block_path.specs.Blocks.{ActAnswer}
 use Rattle.block_path.specs.Serial.{plain, plain_tells}
 use Rattle.whole_run.specs.Past.{Brought, steps_from}
 use Rattle.whole_run.specs.ScriptWalk.{bad_from, changed, reply_of, source_of, whole_or_bad}
@@ -35,11 +35,11 @@ module _ (m : Setting) (half : ℕ) (count : ℕ → ℕ) (i : ℕ) (op : Op) (s
   abbrev pub after_op : Mirror
   after_op = plain (done m half count) (steps_of m i op) s
 
-  abbrev pub answers_of : List Answer
+  abbrev pub answers_of : List ActAnswer
   answers_of = plain_tells (done m half count) (answer m half count) (steps_of m i op) s
 
   abbrev pub whys_of : List (Option Why)
-  whys_of = map (λ (a : Answer). a.why) answers_of
+  whys_of = map (λ (a : ActAnswer). a.why) answers_of
 
 -- the data that a write brings
 abbrev pub brought_of : Setting → (n : ℕ) → List Seg → (app : ℕ) → Mirror → List Brought

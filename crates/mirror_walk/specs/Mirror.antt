@@ -5,7 +5,7 @@ use Rattle.stack_ops.specs.declared.op.Op.{Op}
 use Rattle.stack_ops.specs.declared.op.Op.TheVariants.{Fetch, FetchPi, Fill, Overwrite, Put, Seal, Show, Wait, Write, WritePi}
 use Rattle.stack_ops.specs.declared.reply.Reply.{Reply}
 use Rattle.block_path.specs.Acts.{State, act, tell}
-use Rattle.block_path.specs.Blocks.{Answer, silent}
+use Rattle.block_path.specs.Blocks.{ActAnswer, silent}
 use Rattle.block_path.specs.Serial.{plain, plain_tells}
 use Rattle.whole_run.specs.Past.{Event, event_of, steps_from}
 use Rattle.whole_run.specs.ScriptWalk.{act_of, reply_of}
@@ -98,7 +98,7 @@ module _ (m : Setting) (half : ℕ) (count : ℕ → ℕ) where
   asks (Alters dev lba change) s = Alters dev lba change ∷ []
 
   -- and what these answer
-  abbrev pub answers : Step → Mirror → List Answer
+  abbrev pub answers : Step → Mirror → List ActAnswer
   answers step s = plain_tells act tell (map (act_of m) (asks step s)) s.state
 
   abbrev pub findings : Step → Mirror → List (Option Why)
@@ -118,7 +118,7 @@ module _ (m : Setting) (half : ℕ) (count : ℕ → ℕ) where
   abbrev pub done : Step → Mirror → Mirror
   done step s = record { state = plain act (map (act_of m) (asks step s)) s.state; marks = marks_after step s }
 
-  abbrev pub answer : Step → Mirror → Answer
+  abbrev pub answer : Step → Mirror → ActAnswer
   answer step s = record (get_or (answers step s) 0 silent) { why = listed (findings step s) }
 
   -- what was accepted by the mirror, as events on leg 0

@@ -26,6 +26,7 @@ use Rattle.whole_run.specs.UnderMap.{NoneEscapes, address_of, home}
 use Rattle.run_laws.specs.ShownRun.{DevicesAreClean, HasBlock, HasCells, IsChecked, LiesOn}
 use Rattle.mirror_walk.specs.Mirror.{all_asked, count_of, done, fresh, marks_of, mirror_opened, mirror_past, mirror_replies, mirror_walk, twin}
 use Rattle.mirror_walk.specs.Repair.{mirror_repair}
+use Rattle.pi_tuple.specs.declared.TheConstants.{TUPLE}
 
 -- One good leg: for each block of a mirror there is a leg on which no fault line alters it on its way, and no overwrite in its place.
 
@@ -101,7 +102,7 @@ last_of m half count steps opening u = last_accepted m opening (record { op = 0;
 
 -- A virtual block is stored with these data and this application tag, under their tuple: the CRC, and the tag of the address.
 pub record HoldsProper (m : Setting) (virt : ℕ) (e : Brought) (blocks : List (List ℕ)) : Type 0 where
-  pub size : length (get_or blocks (home m virt) []) ≡ m.size + 8
+  pub size : length (get_or blocks (home m virt) []) ≡ m.size + TUPLE
   pub body : data_of m.size (get_or blocks (home m virt) []) ≡ e.body
   pub tuple : tuple_of m.size (get_or blocks (home m virt) []) ≡ record { guard = crc e.body; app = e.app; rtag = ref_tag (address_of m virt) }
 

@@ -36,7 +36,7 @@ use Rattle.block_path.specs.WayOut.{Stores, adapter_finds_out, at_device, from_a
 use Rattle.block_path.proofs.Cells.{AllBelow, below}
 use Rattle.block_path.proofs.PathLaws.{never_zero}
 use Rattle.whole_run.specs.Settings.{Block, Setting, route}
-use Rattle.whole_run.specs.PlainMap.{Entry, all_pass, as_expected, entry_of, finds_of_app, handed, own_in, tag_of}
+use Rattle.whole_run.specs.PlainMap.{MapEntry, all_pass, as_expected, entry_of, finds_of_app, handed, own_in, tag_of}
 use Rattle.whole_run.specs.UnderMap.{stored_as}
 use Rattle.whole_run.proofs.CalmWays.{IsProper, comes_home, goes, goes_bare, goes_on, here, loud, onto_wire, proper_entry, quiet, rtag_below, unmasked, wire, onto_medium, off_medium, off_wire, new_guard}
 use Rattle.whole_run.proofs.TupleFrames.{Small, data_is, finds_none, mapped_is}
@@ -47,16 +47,16 @@ use Rattle.mode_map.proofs.Flips.{altered-bare, altered-here, altered-there, cro
 use Rattle.mode_map.proofs.Stages.{CameIn, WentOut, came-in, finds-guard, from-medium, from-wire, guard-mapped, open-mapped, rtag-mapped, to-medium, to-wire, went-out}
 
 -- the tags of an entry are no escape's
-abbrev pub Unescaped : PiType → Entry → Type 0
+abbrev pub Unescaped : PiType → MapEntry → Type 0
 Unescaped ty e = is_escaped (host_type ty) (record { guard = 0; app = e.app; rtag = e.own }) ≡ false
 
-open-host : (ty : PiType) (e : Entry) (g v : ℕ) → Unescaped ty e → is_escaped (host_type ty) (record { guard = g; app = e.app; rtag = tag_of (host_type ty) v e.own }) ≡ false
+open-host : (ty : PiType) (e : MapEntry) (g v : ℕ) → Unescaped ty e → is_escaped (host_type ty) (record { guard = g; app = e.app; rtag = tag_of (host_type ty) v e.own }) ≡ false
 open-host Zero e g v h = h
 open-host One e g v h = h
 open-host Two e g v h = h
 open-host Three e g v h = h
 
-open-wire : (ty : PiType) (e : Entry) (g a : ℕ) → is_zero ty ≡ false → Unescaped ty e → is_escaped ty (record { guard = g; app = e.app; rtag = tag_of ty a e.own }) ≡ false
+open-wire : (ty : PiType) (e : MapEntry) (g a : ℕ) → is_zero ty ≡ false → Unescaped ty e → is_escaped ty (record { guard = g; app = e.app; rtag = tag_of ty a e.own }) ≡ false
 open-wire Zero e g a z h = refl
 open-wire One e g a z h = h
 open-wire Two e g a z h = h
@@ -68,14 +68,14 @@ open-bare One body = refl
 open-bare Two body = refl
 open-bare Three body = refl
 
-open-kept : (ty : PiType) (e : Entry) (body : List ℕ) (v : ℕ) → Unescaped ty e → Unescaped ty (record { body = body; app = e.app; own = own_in ty (tag_of (host_type ty) v e.own) })
+open-kept : (ty : PiType) (e : MapEntry) (body : List ℕ) (v : ℕ) → Unescaped ty e → Unescaped ty (record { body = body; app = e.app; own = own_in ty (tag_of (host_type ty) v e.own) })
 open-kept Zero e body v h = h
 open-kept One e body v h = h
 open-kept Two e body v h = h
 open-kept Three e body v h = h
 
 -- data that a check of their guard tells from an entry's
-pub record Other (m : Setting) (e : Entry) (body : List ℕ) : Type 0 where
+pub record Other (m : Setting) (e : MapEntry) (body : List ℕ) : Type 0 where
   pub size : length body ≡ m.size
   pub bytes : AllBelow 256 body
   pub shows : crc body ≡ crc e.body → ⊥
@@ -84,20 +84,20 @@ module _ (m : Setting) (b : Block) (protect : 0 < m.mode.protect) (mask : m.mode
   abbrev pub way : Bool → Bool → PiType → Route
   way dix dif ty = route (quiet m dix dif ty) b
 
-  abbrev pub tuple_at_host : PiType → Entry → Tuple
+  abbrev pub tuple_at_host : PiType → MapEntry → Tuple
   tuple_at_host ty e = record { guard = guard_of m.mode.kind e.body; app = e.app; rtag = tag_of (host_type ty) b.virt e.own }
 
-  abbrev pub held : Bool → PiType → Entry → List ℕ
+  abbrev pub held : Bool → PiType → MapEntry → List ℕ
   held dix ty e = if dix then frame_of e.body (tuple_at_host ty e) else e.body
 
   -- the tuple on wire and medium
-  abbrev pub tuple_below : PiType → Entry → Tuple
+  abbrev pub tuple_below : PiType → MapEntry → Tuple
   tuple_below ty e = record { guard = crc e.body; app = e.app; rtag = tag_of ty (here m b protect) e.own }
 
-  small-host : (ty : PiType) (e : Entry) → IsProper m e → Small (tuple_at_host ty e)
+  small-host : (ty : PiType) (e : MapEntry) → IsProper m e → Small (tuple_at_host ty e)
   small-host ty e p = record { guard = guard_below m.mode.kind e.body; app = p.app; rtag = rtag_below (host_type ty) b.virt e.own p.own }
 
-  small-below : (ty : PiType) (e : Entry) → IsProper m e → Small (tuple_below ty e)
+  small-below : (ty : PiType) (e : MapEntry) → IsProper m e → Small (tuple_below ty e)
   small-below ty e p = record { guard = guard_below Crc e.body; app = p.app; rtag = rtag_below ty (here m b protect) e.own p.own }
 
   -- ---- a clean way out
@@ -112,63 +112,63 @@ module _ (m : Setting) (b : Block) (protect : 0 < m.mode.protect) (mask : m.mode
       by false = refl
       by true = let e : eqb (ref_tag b.virt) (ref_tag b.virt) ≡ true = eq-eqb (ref_tag b.virt) (ref_tag b.virt) refl in rw e refl
 
-  none-found : (dif : Bool) (ty : PiType) (e : Entry) → finds_of_app (quiet m true dif ty) b e.body (tuple_at_host ty e) ≡ None
+  none-found : (dif : Bool) (ty : PiType) (e : MapEntry) → finds_of_app (quiet m true dif ty) b e.body (tuple_at_host ty e) ≡ None
   none-found dif ty e =
       all-none (eqb (guard_of m.mode.kind e.body) (guard_of m.mode.kind e.body)) (as_expected m e.app) _ (eq-eqb _ _ refl) (unmasked m e.app mask) (tag-named ty e.own (ref_tag (here m b protect)))
 
   -- what is stored of it
-  abbrev pub kept : Bool → Bool → PiType → Entry → Entry
+  abbrev pub kept : Bool → Bool → PiType → MapEntry → MapEntry
   kept dix dif ty e = entry_of (quiet m dix dif ty) e.body (tuple_at_host ty e)
 
-  kept-body : (dix dif : Bool) (ty : PiType) (e : Entry) → (kept dix dif ty e).body ≡ e.body
+  kept-body : (dix dif : Bool) (ty : PiType) (e : MapEntry) → (kept dix dif ty e).body ≡ e.body
   kept-body dix dif ty e = by (all_pass (quiet m dix dif ty))
     where
-      by : (c : Bool) → let k : Entry = (if c then record { body = e.body; app = e.app; own = own_in ty (tag_of (host_type ty) b.virt e.own) } else record { body = e.body; app = 0; own = 0 }) in k.body ≡ e.body
+      by : (c : Bool) → let k : MapEntry = (if c then record { body = e.body; app = e.app; own = own_in ty (tag_of (host_type ty) b.virt e.own) } else record { body = e.body; app = 0; own = 0 }) in k.body ≡ e.body
       by true = refl
       by false = refl
 
-  kept-open : (dix dif : Bool) (ty : PiType) (e : Entry) → Unescaped ty e → Unescaped ty (kept dix dif ty e)
+  kept-open : (dix dif : Bool) (ty : PiType) (e : MapEntry) → Unescaped ty e → Unescaped ty (kept dix dif ty e)
   kept-open dix dif ty e h = by (all_pass (quiet m dix dif ty))
     where
       by : (c : Bool) → Unescaped ty (if c then record { body = e.body; app = e.app; own = own_in ty (tag_of (host_type ty) b.virt e.own) } else record { body = e.body; app = 0; own = 0 })
       by true = open-kept ty e e.body b.virt h
       by false = open-bare ty e.body
 
-  kept-proper : (dix dif : Bool) (ty : PiType) (e : Entry) → IsProper m e → IsProper m (kept dix dif ty e)
+  kept-proper : (dix dif : Bool) (ty : PiType) (e : MapEntry) → IsProper m e → IsProper m (kept dix dif ty e)
   kept-proper dix dif ty e p =
       loud m dix dif ty (kept dix dif ty e)
       (proper_entry (quiet m dix dif ty) e.body (tuple_at_host ty e) p.size p.bytes (small-host ty e p) (unmasked m e.app mask) (λ _. mask))
 
-  goes-out : (dix dif : Bool) (ty : PiType) (e : Entry) → IsProper m e → Unescaped ty e →
+  goes-out : (dix dif : Bool) (ty : PiType) (e : MapEntry) → IsProper m e → Unescaped ty e →
       way_out [] (target []) (way dix dif ty) (held dix ty e) ≡ Stores (wire (quiet m dix dif ty) b (kept dix dif ty e)) (stored_as (quiet m dix dif ty) (here m b protect) (kept dix dif ty e))
   goes-out true dif ty e p h =
       goes_on m b protect dif ty e.body (tuple_at_host ty e) p.size p.bytes (small-host ty e p) (λ _. mask) (open-host ty e (guard_of m.mode.kind e.body) b.virt h)
       ∙ ap (λ o. goes (quiet m true dif ty) b o (kept true dif ty e)) (none-found dif ty e)
   goes-out false dif ty e p h = goes_bare m b protect dif ty e.body (tuple_at_host ty e) p.size p.bytes mask
 
-  clean-out : (dix dif : Bool) (ty : PiType) (e : Entry) → IsProper m e → Unescaped ty e →
+  clean-out : (dix dif : Bool) (ty : PiType) (e : MapEntry) → IsProper m e → Unescaped ty e →
       WentOut (way dix dif ty) (mapped_out (way dix dif ty) (held dix ty e)) (wire (quiet m dix dif ty) b (kept dix dif ty e)) (stored_as (quiet m dix dif ty) (here m b protect) (kept dix dif ty e))
   clean-out dix dif ty e p h = went-out (way dix dif ty) (mapped_out (way dix dif ty) (held dix ty e)) _ _ (goes-out dix dif ty e p h)
 
   -- ---- a clean way in
 
-  comes-in : (dix dif : Bool) (ty : PiType) (owner : Owner) (e : Entry) → IsProper m e →
+  comes-in : (dix dif : Bool) (ty : PiType) (owner : Owner) (e : MapEntry) → IsProper m e →
       way_in [] (target []) (way dix dif ty) owner (stored_as (quiet m dix dif ty) (here m b protect) e) ≡ Delivers (wire (quiet m dix dif ty) b e) (handed (quiet m dix dif ty) b e)
   comes-in dix dif ty owner e p = comes_home m b protect dix dif ty owner e p (λ _. mask)
 
-  clean-in : (dix dif : Bool) (ty : PiType) (owner : Owner) (e : Entry) → IsProper m e → CameIn (way dix dif ty) owner (stored_as (quiet m dix dif ty) (here m b protect) e) (wire (quiet m dix dif ty) b e) (handed (quiet m dix dif ty) b e)
+  clean-in : (dix dif : Bool) (ty : PiType) (owner : Owner) (e : MapEntry) → IsProper m e → CameIn (way dix dif ty) owner (stored_as (quiet m dix dif ty) (here m b protect) e) (wire (quiet m dix dif ty) b e) (handed (quiet m dix dif ty) b e)
   clean-in dix dif ty owner e p = came-in (way dix dif ty) owner _ _ _ (comes-in dix dif ty owner e p)
 
-  unseen : (dix dif : Bool) (ty : PiType) (owner : Owner) (e : Entry) → IsProper m e → seen_in_read (quiet m dix dif ty) b owner [] (stored_as (quiet m dix dif ty) (here m b protect) e) ≡ None
+  unseen : (dix dif : Bool) (ty : PiType) (owner : Owner) (e : MapEntry) → IsProper m e → seen_in_read (quiet m dix dif ty) b owner [] (stored_as (quiet m dix dif ty) (here m b protect) e) ≡ None
   unseen dix dif ty owner e p = ap seen_on_way_in (comes-in dix dif ty owner e p)
 
   -- the entry with other data
-  other-proper : (e : Entry) (body : List ℕ) → IsProper m e → length body ≡ m.size → AllBelow 256 body → IsProper m (record e { body = body })
+  other-proper : (e : MapEntry) (body : List ℕ) → IsProper m e → length body ≡ m.size → AllBelow 256 body → IsProper m (record e { body = body })
   other-proper e body p l h = record { size = l; bytes = h; app = p.app; own = p.own; expected = p.expected }
 
   -- ---- other data under an entry's tuple, from the medium
 
-  guard-asked : (dix dif : Bool) (ty : PiType) (e : Entry) (body : List ℕ) → IsProper m e → Unescaped ty e → Other m e body → is_zero ty ≡ false → not (eqb (passage [] (way dix dif ty)).protect 3) ≡ true →
+  guard-asked : (dix dif : Bool) (ty : PiType) (e : MapEntry) (body : List ℕ) → IsProper m e → Unescaped ty e → Other m e body → is_zero ty ≡ false → not (eqb (passage [] (way dix dif ty)).protect 3) ≡ true →
       found_in (passage [] (way dix dif ty)) (frame_of body (tuple_below ty e)) ≡ Some Guard
   unfolding found_in
   guard-asked dix dif ty e body p h o z g =
@@ -187,13 +187,13 @@ module _ (m : Setting) (b : Block) (protect : 0 < m.mode.protect) (mask : m.mode
       finds_none ty (asked_of p) (wanted_of p) (crc (data_of m.size frame)) (tuple_of m.size frame)
       (λ t. absurd (let x : false ≡ true = sym g ∙ t in cc)) (masked (is_two ty && eqb p.protect 1) (tuple_of m.size frame).app) (λ t _. absurd (let x : false ≡ true = sym r ∙ t in cc))
 
-  adapter-finds : (dix : Bool) (ty : PiType) (e : Entry) (body : List ℕ) → IsProper m e → Unescaped ty e → Other m e body → is_zero ty ≡ false →
+  adapter-finds : (dix : Bool) (ty : PiType) (e : MapEntry) (body : List ℕ) → IsProper m e → Unescaped ty e → Other m e body → is_zero ty ≡ false →
       finding ty (all_asked m.mode.app m.mode.mask) (ref_tag (here m b protect)) (crc (data_of m.size (frame_of body (tuple_below ty e)))) (tuple_of m.size (frame_of body (tuple_below ty e))) ≡ Some Guard
   adapter-finds dix ty e body p h o z =
       finds-guard m.size Crc ty (all_asked m.mode.app m.mode.mask) (ref_tag (here m b protect)) body (tuple_below ty e) o.size (small-below ty e p) z (open-wire ty e (crc e.body) (here m b protect) z h) refl (λ same. o.shows (sym same))
 
   -- on the wire
-  adapter-sees : (dix : Bool) (ty : PiType) (owner : Owner) (e : Entry) (body : List ℕ) → IsProper m e → Unescaped ty e → Other m e body → is_zero ty ≡ false →
+  adapter-sees : (dix : Bool) (ty : PiType) (owner : Owner) (e : MapEntry) (body : List ℕ) → IsProper m e → Unescaped ty e → Other m e body → is_zero ty ≡ false →
       from_wire [] (way dix true ty) (frame_of body (tuple_below ty e)) ≡ Err Guard
   adapter-sees dix Zero owner e body p h o z = absurd (cc)
   adapter-sees dix One owner e body p h o z = off_wire (way dix true One) (frame_of body (tuple_below One e)) ∙ ap (λ x. unless x (received (way dix true One) (frame_of body (tuple_below One e)))) (adapter-finds dix One e body p h o refl)
@@ -201,7 +201,7 @@ module _ (m : Setting) (b : Block) (protect : 0 < m.mode.protect) (mask : m.mode
   adapter-sees dix Three owner e body p h o z = off_wire (way dix true Three) (frame_of body (tuple_below Three e)) ∙ ap (λ x. unless x (received (way dix true Three) (frame_of body (tuple_below Three e)))) (adapter-finds dix Three e body p h o refl)
 
   -- the target's field: that of the mode where tuples travel
-  by-target : (dix dif : Bool) (ty : PiType) (owner : Owner) (e : Entry) (body : List ℕ) → IsProper m e → Unescaped ty e → Other m e body → is_zero ty ≡ false → not (eqb (passage [] (way dix dif ty)).protect 3) ≡ true →
+  by-target : (dix dif : Bool) (ty : PiType) (owner : Owner) (e : MapEntry) (body : List ℕ) → IsProper m e → Unescaped ty e → Other m e body → is_zero ty ≡ false → not (eqb (passage [] (way dix dif ty)).protect 3) ≡ true →
       seen_in_read (quiet m dix dif ty) b owner [] (frame_of body (tuple_below ty e)) ≡ Some Target
   by-target dix dif ty owner e body p h o z g =
       let f = frame_of body (tuple_below ty e) in
@@ -209,7 +209,7 @@ module _ (m : Setting) (b : Block) (protect : 0 < m.mode.protect) (mask : m.mode
       ap (λ v. seen_on_way_in (verified (way dix dif ty) owner (from_device [] (way dix dif ty) (by_target v))))
       (off_medium (way dix dif ty) f ∙ ap (λ v. unless v (if eqb x.protect 0 then data_of m.size f else f)) (guard-asked dix dif ty e body p h o z g))
 
-  past-target : (dix : Bool) (ty : PiType) (owner : Owner) (e : Entry) (body : List ℕ) → IsProper m e → Unescaped ty e → Other m e body → is_zero ty ≡ false → (passage [] (way dix true ty)).protect ≡ 3 →
+  past-target : (dix : Bool) (ty : PiType) (owner : Owner) (e : MapEntry) (body : List ℕ) → IsProper m e → Unescaped ty e → Other m e body → is_zero ty ≡ false → (passage [] (way dix true ty)).protect ≡ 3 →
       seen_in_read (quiet m dix true ty) b owner [] (frame_of body (tuple_below ty e)) ≡ Some Adapter
   past-target dix ty owner e body p h o z three =
       let f = frame_of body (tuple_below ty e) in
@@ -218,7 +218,7 @@ module _ (m : Setting) (b : Block) (protect : 0 < m.mode.protect) (mask : m.mode
       (off_medium (way dix true ty) f ∙ ap (λ v. unless v (if eqb x.protect 0 then data_of m.size f else f)) (nothing-asked dix true ty f three) ∙ ap (λ n. Ok (if eqb n 0 then data_of m.size f else f)) three)
       ∙ ap (λ v. seen_on_way_in (verified (way dix true ty) owner (at_host f v))) (adapter-sees dix ty owner e body p h o z)
 
-  pub read-other : (dix dif : Bool) (ty : PiType) (owner : Owner) (e : Entry) (body : List ℕ) → IsProper m e → Unescaped ty e → Other m e body → is_zero ty ≡ false →
+  pub read-other : (dix dif : Bool) (ty : PiType) (owner : Owner) (e : MapEntry) (body : List ℕ) → IsProper m e → Unescaped ty e → Other m e body → is_zero ty ≡ false →
       seen_in_read (quiet m dix dif ty) b owner [] (frame_of body (tuple_below ty e)) ≡ (if dif && eqb m.mode.protect 3 then Some Adapter else Some Target)
   read-other dix false Zero owner e body p h o z = absurd (cc)
   read-other dix false One owner e body p h o z = by-target dix false One owner e body p h o refl refl
@@ -242,7 +242,7 @@ module _ (m : Setting) (b : Block) (protect : 0 < m.mode.protect) (mask : m.mode
       by false t = by-target dix true Three owner e body p h o refl (ap not t)
 
   -- where no tuple travels the wire has the data alone
-  wire-bare : (dix dif : Bool) (ty : PiType) (e : Entry) → is_zero ty ≡ true ⊎ dif ≡ false → wire (quiet m dix dif ty) b e ≡ e.body
+  wire-bare : (dix dif : Bool) (ty : PiType) (e : MapEntry) → is_zero ty ≡ true ⊎ dif ≡ false → wire (quiet m dix dif ty) b e ≡ e.body
   wire-bare dix false ty e h = refl
   wire-bare dix true Zero e h = refl
   wire-bare dix true One e h = absurd (one-of h)
@@ -267,11 +267,11 @@ module _ (m : Setting) (b : Block) (protect : 0 < m.mode.protect) (mask : m.mode
     abbrev pub flip : Crossing → List FaultLine
     flip at = flip_of b at off bytes
 
-    abbrev pub turned : Entry → Entry
+    abbrev pub turned : MapEntry → MapEntry
     turned e = record e { body = flipped off bytes e.body }
 
     -- the flip shows in these data
-    pub record Turns (e : Entry) : Type 0 where
+    pub record Turns (e : MapEntry) : Type 0 where
       pub inside : off + length bytes ≤ length e.body
       pub other : Other m e (flipped off bytes e.body)
 
@@ -302,7 +302,7 @@ module _ (m : Setting) (b : Block) (protect : 0 < m.mode.protect) (mask : m.mode
 
     -- ---- from the host to the adapter
 
-    at-host : (dix dif : Bool) (ty : PiType) (e : Entry) → IsProper m e → Unescaped ty e → Turns e → (guard_of m.mode.kind (flipped off bytes e.body) ≡ guard_of m.mode.kind e.body → ⊥) →
+    at-host : (dix dif : Bool) (ty : PiType) (e : MapEntry) → IsProper m e → Unescaped ty e → Turns e → (guard_of m.mode.kind (flipped off bytes e.body) ≡ guard_of m.mode.kind e.body → ⊥) →
         seen_in_write (quiet m dix dif ty) b owner (flip HostToAdapter) (held dix ty e) ≡ (if dix then Some Adapter else None)
     at-host false dif ty e p h t shows =
         let r = way false dif ty in
@@ -333,7 +333,7 @@ module _ (m : Setting) (b : Block) (protect : 0 < m.mode.protect) (mask : m.mode
     -- ---- behind the adapter, on a way out
 
     -- up to the target the way is clean
-    onto-target : (dix dif : Bool) (ty : PiType) (at : Crossing) (e : Entry) → is_same at HostToAdapter ≡ false → IsProper m e → Unescaped ty e →
+    onto-target : (dix dif : Bool) (ty : PiType) (at : Crossing) (e : MapEntry) → is_same at HostToAdapter ≡ false → IsProper m e → Unescaped ty e →
         way_out (flip at) (target (flip at)) (way dix dif ty) (held dix ty e)
         ≡ at_device (wire (quiet m dix dif ty) b (kept dix dif ty e)) (by_target (to_medium (flip at) (passage (flip at) (way dix dif ty)) (wire (quiet m dix dif ty) b (kept dix dif ty e))))
     onto-target dix dif ty at e apart p h =
@@ -341,7 +341,7 @@ module _ (m : Setting) (b : Block) (protect : 0 < m.mode.protect) (mask : m.mode
         ap (from_adapter (target (flip at)) r)
         (to-wire (flip at) r (mapped_out r (held dix ty e)) ∙ ap (to_wire [] r) (altered-there b at HostToAdapter off bytes (mapped_out r (held dix ty e)) apart) ∙ (clean-out dix dif ty e p h).sent)
 
-    turns-kept : (dix dif : Bool) (ty : PiType) (e : Entry) → Turns e → Turns (kept dix dif ty e)
+    turns-kept : (dix dif : Bool) (ty : PiType) (e : MapEntry) → Turns e → Turns (kept dix dif ty e)
     turns-kept dix dif ty e t = by (all_pass (quiet m dix dif ty))
       where
         by : (c : Bool) → Turns (if c then record { body = e.body; app = e.app; own = own_in ty (tag_of (host_type ty) b.virt e.own) } else record { body = e.body; app = 0; own = 0 })
@@ -349,14 +349,14 @@ module _ (m : Setting) (b : Block) (protect : 0 < m.mode.protect) (mask : m.mode
         by false = record { inside = t.inside; other = record { size = t.other.size; bytes = t.other.bytes; shows = t.other.shows } }
 
     -- the data alone, on a wire or medium without tuples, is that of the entry with other data
-    stored-bare : (dix dif : Bool) (ty : PiType) (e : Entry) → IsProper m e → Unescaped ty e → Turns e → is_zero ty ≡ true ⊎ dif ≡ false →
+    stored-bare : (dix dif : Bool) (ty : PiType) (e : MapEntry) → IsProper m e → Unescaped ty e → Turns e → is_zero ty ≡ true ⊎ dif ≡ false →
         to_medium [] (passage [] (way dix dif ty)) (flipped off bytes e.body) ≡ Ok (stored_as (quiet m dix dif ty) (here m b protect) (kept dix dif ty (turned e)))
     stored-bare dix dif ty e p h t bare =
         ap (to_medium [] (passage [] (way dix dif ty))) (sym (wire-bare dix dif ty (kept dix dif ty (turned e)) bare ∙ kept-body dix dif ty (turned e)))
         ∙ (clean-out dix dif ty (turned e) (other-proper e (flipped off bytes e.body) p t.other.size t.other.bytes) h).stores
 
     -- what is accepted with other data and without a tuple is found by nobody
-    none-bare : (dix dif : Bool) (ty : PiType) (e : Entry) → IsProper m e → Unescaped ty e → Turns e → is_zero ty ≡ true ⊎ dif ≡ false →
+    none-bare : (dix dif : Bool) (ty : PiType) (e : MapEntry) → IsProper m e → Unescaped ty e → Turns e → is_zero ty ≡ true ⊎ dif ≡ false →
         seen_on_way_out (quiet m dix dif ty) b owner (at_device e.body (by_target (to_medium [] (passage [] (way dix dif ty)) (flipped off bytes e.body)))) ≡ None
     none-bare dix dif ty e p h t bare =
         ap (λ v. seen_on_way_out (quiet m dix dif ty) b owner (at_device e.body (by_target v))) (stored-bare dix dif ty e p h t bare)
@@ -368,7 +368,7 @@ module _ (m : Setting) (b : Block) (protect : 0 < m.mode.protect) (mask : m.mode
     to-target-apart dix dif ty frame = medium-apart dix dif ty AdapterToTarget frame ∙ crossed-there b AdapterToTarget TargetToMedium off bytes _ refl
 
     -- the target looks at other data under an entry's tuple
-    accepts-other : (dix : Bool) (ty : PiType) (e : Entry) → IsProper m e → Unescaped ty e → Turns e → is_zero ty ≡ false → passes_tuples (way dix true ty) ≡ true →
+    accepts-other : (dix : Bool) (ty : PiType) (e : MapEntry) → IsProper m e → Unescaped ty e → Turns e → is_zero ty ≡ false → passes_tuples (way dix true ty) ≡ true →
         seen_on_way_out (quiet m dix true ty) b owner (at_device (frame_of e.body (tuple_below ty e)) (by_target (to_medium [] (passage [] (way dix true ty)) (frame_of (flipped off bytes e.body) (tuple_below ty e)))))
         ≡ (if eqb m.mode.protect 3 then Some Adapter else Some Target)
     accepts-other dix ty e p h t z passes = by (eqb m.mode.protect 3) refl
@@ -390,21 +390,21 @@ module _ (m : Setting) (b : Block) (protect : 0 < m.mode.protect) (mask : m.mode
             ap (λ v. seen_on_way_out (quiet m dix true ty) b owner (at_device (frame_of e.body (tuple_below ty e)) (by_target v)))
             (taken (Some Guard) (guard-asked dix true ty e (flipped off bytes e.body) p h t.other z (ap (λ n. not (eqb n 3)) field ∙ ap not other)))
 
-    at-wire : (dix dif : Bool) (ty : PiType) (e : Entry) → IsProper m e → Unescaped ty e → Turns e → seen_in_write (quiet m dix dif ty) b owner (flip AdapterToTarget) (held dix ty e)
+    at-wire : (dix dif : Bool) (ty : PiType) (e : MapEntry) → IsProper m e → Unescaped ty e → Turns e → seen_in_write (quiet m dix dif ty) b owner (flip AdapterToTarget) (held dix ty e)
         ≡ (if dif && not (is_zero ty) then (if eqb m.mode.protect 3 then Some Adapter else Some Target) else None)
     at-wire dix dif ty e p h t =
         ap (seen_on_way_out (quiet m dix dif ty) b owner) (onto-target dix dif ty AdapterToTarget e refl p h ∙ ap (λ v. at_device (wire (quiet m dix dif ty) b (kept dix dif ty e)) (by_target v)) (to-target-apart dix dif ty (wire (quiet m dix dif ty) b (kept dix dif ty e))))
         ∙ by dif ty (kept-proper dix dif ty e p) (kept-open dix dif ty e h) (turns-kept dix dif ty e t)
       where
         -- where no tuple travels
-        alone : (dif : Bool) (ty : PiType) (k : Entry) → IsProper m k → Unescaped ty k → Turns k → is_zero ty ≡ true ⊎ dif ≡ false → wire (quiet m dix dif ty) b k ≡ k.body →
+        alone : (dif : Bool) (ty : PiType) (k : MapEntry) → IsProper m k → Unescaped ty k → Turns k → is_zero ty ≡ true ⊎ dif ≡ false → wire (quiet m dix dif ty) b k ≡ k.body →
             seen_on_way_out (quiet m dix dif ty) b owner (at_device k.body (by_target (to_medium [] (passage [] (way dix dif ty)) (altered (flip AdapterToTarget) AdapterToTarget (label_of b) k.body)))) ≡ None
         alone dif ty k p h t bare w =
             ap (λ x. seen_on_way_out (quiet m dix dif ty) b owner (at_device k.body (by_target (to_medium [] (passage [] (way dix dif ty)) x)))) (altered-bare b AdapterToTarget off bytes k.body)
             ∙ none-bare dix dif ty k p h t bare
 
         -- and where one does
-        along : (ty : PiType) (k : Entry) → IsProper m k → Unescaped ty k → Turns k → is_zero ty ≡ false → passes_tuples (way dix true ty) ≡ true →
+        along : (ty : PiType) (k : MapEntry) → IsProper m k → Unescaped ty k → Turns k → is_zero ty ≡ false → passes_tuples (way dix true ty) ≡ true →
             seen_on_way_out (quiet m dix true ty) b owner (at_device (frame_of k.body (tuple_below ty k)) (by_target (to_medium [] (passage [] (way dix true ty)) (altered (flip AdapterToTarget) AdapterToTarget (label_of b) (frame_of k.body (tuple_below ty k))))))
             ≡ (if eqb m.mode.protect 3 then Some Adapter else Some Target)
         along ty k p h t z passes =
@@ -423,7 +423,7 @@ module _ (m : Setting) (b : Block) (protect : 0 < m.mode.protect) (mask : m.mode
     -- ---- on the medium
 
     -- a block that is stored or fetched with other data
-    fetched-other : (dix dif : Bool) (ty : PiType) (at : Crossing) (e : Entry) → IsProper m e → Unescaped ty e → Turns e →
+    fetched-other : (dix dif : Bool) (ty : PiType) (at : Crossing) (e : MapEntry) → IsProper m e → Unescaped ty e → Turns e →
         seen_in_read (quiet m dix dif ty) b owner [] (altered (flip at) at (label_of b) (stored_as (quiet m dix dif ty) (here m b protect) e)) ≡ checks_stored (quiet m dix dif ty).mode ty
     fetched-other dix dif Zero at e p h t =
         ap (seen_in_read (quiet m dix dif Zero) b owner []) (altered-bare b at off bytes e.body)
@@ -432,7 +432,7 @@ module _ (m : Setting) (b : Block) (protect : 0 < m.mode.protect) (mask : m.mode
     fetched-other dix dif Two at e p h t = ap (seen_in_read (quiet m dix dif Two) b owner []) (altered-here b at off bytes e.body _ t.inside) ∙ read-other dix dif Two owner e (flipped off bytes e.body) p h t.other refl
     fetched-other dix dif Three at e p h t = ap (seen_in_read (quiet m dix dif Three) b owner []) (altered-here b at off bytes e.body _ t.inside) ∙ read-other dix dif Three owner e (flipped off bytes e.body) p h t.other refl
 
-    at-medium : (dix dif : Bool) (ty : PiType) (e : Entry) → IsProper m e → Unescaped ty e → Turns e → seen_in_write (quiet m dix dif ty) b owner (flip TargetToMedium) (held dix ty e) ≡ checks_stored (quiet m dix dif ty).mode ty
+    at-medium : (dix dif : Bool) (ty : PiType) (e : MapEntry) → IsProper m e → Unescaped ty e → Turns e → seen_in_write (quiet m dix dif ty) b owner (flip TargetToMedium) (held dix ty e) ≡ checks_stored (quiet m dix dif ty).mode ty
     at-medium dix dif ty e p h t =
         let k = kept dix dif ty e in
         let w = wire (quiet m dix dif ty) b k in
@@ -450,7 +450,7 @@ module _ (m : Setting) (b : Block) (protect : 0 < m.mode.protect) (mask : m.mode
     rest-in dix dif ty at (Err c) apart = refl
     rest-in dix dif ty at (Ok f) apart = ap (at_host f) (from-wire (flip at) (way dix dif ty) f ∙ crossed-there b at AdapterToHost off bytes (from_wire [] (way dix dif ty) f) apart)
 
-    at-fetch : (dix dif : Bool) (ty : PiType) (e : Entry) → IsProper m e → Unescaped ty e → Turns e → seen_in_read (quiet m dix dif ty) b owner (flip MediumToTarget) (stored_as (quiet m dix dif ty) (here m b protect) e) ≡ checks_stored (quiet m dix dif ty).mode ty
+    at-fetch : (dix dif : Bool) (ty : PiType) (e : MapEntry) → IsProper m e → Unescaped ty e → Turns e → seen_in_read (quiet m dix dif ty) b owner (flip MediumToTarget) (stored_as (quiet m dix dif ty) (here m b protect) e) ≡ checks_stored (quiet m dix dif ty).mode ty
     at-fetch dix dif ty e p h t =
         let s = stored_as (quiet m dix dif ty) (here m b protect) e in
         ap (λ v. seen_on_way_in (verified (way dix dif ty) owner v))
@@ -459,14 +459,14 @@ module _ (m : Setting) (b : Block) (protect : 0 < m.mode.protect) (mask : m.mode
         ∙ fetched-other dix dif ty MediumToTarget e p h t
 
     -- what the target sends is clean, up to a crossing behind it
-    sends-clean : (dix dif : Bool) (ty : PiType) (at : Crossing) (e : Entry) → IsProper m e → is_same at MediumToTarget ≡ false →
+    sends-clean : (dix dif : Bool) (ty : PiType) (at : Crossing) (e : MapEntry) → IsProper m e → is_same at MediumToTarget ≡ false →
         from_medium (flip at) (passage (flip at) (way dix dif ty)) (stored_as (quiet m dix dif ty) (here m b protect) e) ≡ then_crossed (flip at) (Some (label_of b)) TargetToAdapter (Ok (wire (quiet m dix dif ty) b e))
     sends-clean dix dif ty at e p apart =
         wire-apart dix dif ty at (stored_as (quiet m dix dif ty) (here m b protect) e)
         ∙ ap (λ f. then_crossed (flip at) (Some (label_of b)) TargetToAdapter (from_medium [] (passage [] (way dix dif ty)) f)) (altered-there b at MediumToTarget off bytes (stored_as (quiet m dix dif ty) (here m b protect) e) apart)
         ∙ ap (then_crossed (flip at) (Some (label_of b)) TargetToAdapter) (clean-in dix dif ty owner e p).sends
 
-    at-answer : (dix dif : Bool) (ty : PiType) (e : Entry) → IsProper m e → Unescaped ty e → Turns e → seen_in_read (quiet m dix dif ty) b owner (flip TargetToAdapter) (stored_as (quiet m dix dif ty) (here m b protect) e)
+    at-answer : (dix dif : Bool) (ty : PiType) (e : MapEntry) → IsProper m e → Unescaped ty e → Turns e → seen_in_read (quiet m dix dif ty) b owner (flip TargetToAdapter) (stored_as (quiet m dix dif ty) (here m b protect) e)
         ≡ (if dif && not (is_zero ty) then Some Adapter else None)
     at-answer dix dif ty e p h t =
         ap (λ v. seen_on_way_in (verified (way dix dif ty) owner v))
@@ -501,10 +501,10 @@ module _ (m : Setting) (b : Block) (protect : 0 < m.mode.protect) (mask : m.mode
     -- ---- from the adapter to the host
 
     -- the tuple that the host gets, before its tag is mapped back
-    abbrev HostFrame : Bool → PiType → Entry → Type 0
+    abbrev HostFrame : Bool → PiType → MapEntry → Type 0
     HostFrame dif ty e = (u : Tuple) × (received (way true dif ty) (wire (quiet m true dif ty) b e) ≡ frame_of e.body u) × Small u × (u.guard ≡ guard_of m.mode.kind e.body) × (is_escaped (host_type ty) u ≡ false)
 
-    inserted : (dif : Bool) (ty : PiType) (e : Entry) → received (way true dif ty) (wire (quiet m true dif ty) b e) ≡ frame_of e.body (record { guard = guard_of m.mode.kind e.body; app = 0; rtag = own_tag (host_type ty) (here m b protect) }) → HostFrame dif ty e
+    inserted : (dif : Bool) (ty : PiType) (e : MapEntry) → received (way true dif ty) (wire (quiet m true dif ty) b e) ≡ frame_of e.body (record { guard = guard_of m.mode.kind e.body; app = 0; rtag = own_tag (host_type ty) (here m b protect) }) → HostFrame dif ty e
     inserted dif ty e is = (record { guard = guard_of m.mode.kind e.body; app = 0; rtag = own_tag (host_type ty) (here m b protect) }, is, record { guard = guard_below m.mode.kind e.body; app = omega arith; rtag = own-below (has_ref_tag (host_type ty)) }, refl, fresh-open ty)
       where
         own-below : (c : Bool) → (if c then ref_tag (here m b protect) else 0) < 2 ^ 32
@@ -525,11 +525,11 @@ module _ (m : Setting) (b : Block) (protect : 0 < m.mode.protect) (mask : m.mode
         ap (λ d. with_guard m.size (guard_of Ip d) (frame_of body (record { guard = crc body; app = app; rtag = rtag }))) (data_is m.size body (record { guard = crc body; app = app; rtag = rtag }) l)
         ∙ new_guard m.size (guard_of Ip body) body (record { guard = crc body; app = app; rtag = rtag }) l
 
-    brought : (ty : PiType) (e : Entry) → IsProper m e → received (way true true ty) (wire (quiet m true true ty) b e) ≡ frame_of e.body (record { guard = guard_of m.mode.kind e.body; app = e.app; rtag = tag_of ty (here m b protect) e.own }) →
+    brought : (ty : PiType) (e : MapEntry) → IsProper m e → received (way true true ty) (wire (quiet m true true ty) b e) ≡ frame_of e.body (record { guard = guard_of m.mode.kind e.body; app = e.app; rtag = tag_of ty (here m b protect) e.own }) →
         is_escaped (host_type ty) (record { guard = guard_of m.mode.kind e.body; app = e.app; rtag = tag_of ty (here m b protect) e.own }) ≡ false → HostFrame true ty e
     brought ty e p is free = (record { guard = guard_of m.mode.kind e.body; app = e.app; rtag = tag_of ty (here m b protect) e.own }, is, record { guard = guard_below m.mode.kind e.body; app = p.app; rtag = rtag_below ty (here m b protect) e.own p.own }, refl, free)
 
-    host-frame : (dif : Bool) (ty : PiType) (e : Entry) → IsProper m e → Unescaped ty e → HostFrame dif ty e
+    host-frame : (dif : Bool) (ty : PiType) (e : MapEntry) → IsProper m e → Unescaped ty e → HostFrame dif ty e
     host-frame false ty e p h = inserted false ty e refl
     host-frame true Zero e p h = inserted true Zero e refl
     host-frame true One e p h = brought One e p (hosted-frame m.mode.kind e.body e.app _ p.size) h
@@ -543,7 +543,7 @@ module _ (m : Setting) (b : Block) (protect : 0 < m.mode.protect) (mask : m.mode
         by OfBlock = refl
         by OfApp = refl
 
-    hands-over : (dix dif : Bool) (ty : PiType) (e : Entry) → IsProper m e → seen_in_read (quiet m dix dif ty) b owner (flip AdapterToHost) (stored_as (quiet m dix dif ty) (here m b protect) e)
+    hands-over : (dix dif : Bool) (ty : PiType) (e : MapEntry) → IsProper m e → seen_in_read (quiet m dix dif ty) b owner (flip AdapterToHost) (stored_as (quiet m dix dif ty) (here m b protect) e)
         ≡ seen_on_way_in (verified (way dix dif ty) owner (Delivers (wire (quiet m dix dif ty) b e) (altered (flip AdapterToHost) AdapterToHost (label_of b) (received (way dix dif ty) (wire (quiet m dix dif ty) b e)))))
     hands-over dix dif ty e p =
         let w = wire (quiet m dix dif ty) b e in
@@ -552,7 +552,7 @@ module _ (m : Setting) (b : Block) (protect : 0 < m.mode.protect) (mask : m.mode
         ∙ ap (λ v. seen_on_way_in (verified (way dix dif ty) owner (at_host w v)))
         (from-wire (flip AdapterToHost) (way dix dif ty) w ∙ ap (then_crossed (flip AdapterToHost) (Some (label_of b)) AdapterToHost) (clean-in dix dif ty owner e p).hands)
 
-    at-owner : (dix dif : Bool) (ty : PiType) (e : Entry) → IsProper m e → Unescaped ty e → Turns e → (guard_of m.mode.kind (flipped off bytes e.body) ≡ guard_of m.mode.kind e.body → ⊥) →
+    at-owner : (dix dif : Bool) (ty : PiType) (e : MapEntry) → IsProper m e → Unescaped ty e → Turns e → (guard_of m.mode.kind (flipped off bytes e.body) ≡ guard_of m.mode.kind e.body → ⊥) →
         seen_in_read (quiet m dix dif ty) b owner (flip AdapterToHost) (stored_as (quiet m dix dif ty) (here m b protect) e) ≡ (if dix then Some OfOwner else None)
     at-owner false dif ty e p h t shows = hands-over false dif ty e p
     at-owner true dif ty e p h t shows =
@@ -586,16 +586,16 @@ wire-finder true One p = refl
 wire-finder true Two p = refl
 wire-finder true Three p = refl
 
-proper : (m : Setting) (e : Entry) → IsClean m e → IsProper m e
+proper : (m : Setting) (e : MapEntry) → IsClean m e → IsProper m e
 proper m e c = record { size = c.size; bytes = below 256 e.body c.bytes; app = c.app; own = c.own; expected = unmasked m e.app c.mask }
 
-turns : (m : Setting) (b : Block) (protect : 0 < m.mode.protect) (mask : m.mode.mask ≡ 0) (at : Crossing) (off : ℕ) (bytes : List ℕ) (owner : Owner) (e : Entry) → IsClean m e → ShowsIn m at off bytes e → Turns m b protect mask off bytes owner e
+turns : (m : Setting) (b : Block) (protect : 0 < m.mode.protect) (mask : m.mode.mask ≡ 0) (at : Crossing) (off : ℕ) (bytes : List ℕ) (owner : Owner) (e : MapEntry) → IsClean m e → ShowsIn m at off bytes e → Turns m b protect mask off bytes owner e
 turns m b protect mask at off bytes owner e c w = record {
   inside = subst (λ n. off + length bytes ≤ n) (sym c.size) w.inside;
   other = record { size = length-xored (byte_at off bytes) 0 e.body ∙ c.size; bytes = flipped-below off 0 bytes e.body (below 256 bytes w.below) (below 256 e.body c.bytes); shows = w.crc_shows };
 }
 
-pub sees : (m : Setting) (b : Block) (owner : Owner) (at : Crossing) (off : ℕ) (bytes : List ℕ) (e : Entry) → is_served m.mode.protect ≡ true → IsClean m e → ShowsIn m at off bytes e → seen_in m b owner at off bytes e ≡ finder m.mode m.ty at
+pub sees : (m : Setting) (b : Block) (owner : Owner) (at : Crossing) (off : ℕ) (bytes : List ℕ) (e : MapEntry) → is_served m.mode.protect ≡ true → IsClean m e → ShowsIn m at off bytes e → seen_in m b owner at off bytes e ≡ finder m.mode m.ty at
 sees m b owner HostToAdapter off bytes e v c w =
     let s = served-some m.mode.protect v in at-host m b s c.mask off bytes owner m.mode.dix m.mode.dif m.ty e (proper m e c) c.unescaped (turns m b s c.mask HostToAdapter off bytes owner e c w) (w.host_shows refl)
 sees m b owner AdapterToTarget off bytes e v c w =
@@ -609,6 +609,6 @@ sees m b owner TargetToAdapter off bytes e v c w =
 sees m b owner AdapterToHost off bytes e v c w =
     let s = served-some m.mode.protect v in at-owner m b s c.mask off bytes owner m.mode.dix m.mode.dif m.ty e (proper m e c) c.unescaped (turns m b s c.mask AdapterToHost off bytes owner e c w) (w.host_shows refl)
 
-pub sees_by : (m : Setting) (b : Block) (owner : Owner) (at : Crossing) (off : ℕ) (bytes : List ℕ) (e : Entry) (mode : Mode) (ty : PiType) (result : Option Seen) → is_served mode.protect ≡ true → result ≡ finder mode ty at → m.mode ≡ mode → m.ty ≡ ty → IsClean m e → ShowsIn m at off bytes e → seen_in m b owner at off bytes e ≡ result
+pub sees_by : (m : Setting) (b : Block) (owner : Owner) (at : Crossing) (off : ℕ) (bytes : List ℕ) (e : MapEntry) (mode : Mode) (ty : PiType) (result : Option Seen) → is_served mode.protect ≡ true → result ≡ finder mode ty at → m.mode ≡ mode → m.ty ≡ ty → IsClean m e → ShowsIn m at off bytes e → seen_in m b owner at off bytes e ≡ result
 sees_by m b owner at off bytes e mode ty result v is sm st c w =
     sees m b owner at off bytes e (ap (λ (x : Mode). is_served x.protect) sm ∙ v) c w ∙ ap (λ (x : Mode). finder x m.ty at) sm ∙ ap (λ x. finder mode x at) st ∙ sym is

@@ -17,7 +17,7 @@ use Rattle.block_path.specs.WayIn.{Delivers, Spoils, Stops, WayIn, way_in}
 use Rattle.block_path.specs.WayOut.{Fails, Refuses, Stores, WayOut, way_out}
 use Rattle.block_path.specs.declared.mode.Mode.{Mode}
 use Rattle.whole_run.specs.Settings.{Block, Setting, route}
-use Rattle.whole_run.specs.PlainMap.{Entry, tag_of}
+use Rattle.whole_run.specs.PlainMap.{MapEntry, tag_of}
 use Rattle.whole_run.specs.UnderMap.{stored_as}
 use Rattle.mode_map.specs.declared.finder.Seen.{Seen}
 use Rattle.mode_map.specs.declared.finder.Seen.TheVariants.{Adapter, Target, Owner as OfOwner}
@@ -61,11 +61,11 @@ abbrev pub flip_of : Block → Crossing → (off : ℕ) → List ℕ → List Fa
 flip_of b at off bytes = record { op = b.op; k = b.k; at = at; kind = Flip off bytes } ∷ []
 
 -- the block as the host has it, with its proper tuple where it has tuples
-abbrev pub held_by_host : Setting → Block → Entry → List ℕ
+abbrev pub held_by_host : Setting → Block → MapEntry → List ℕ
 held_by_host m b e = if m.mode.dix then frame_of e.body (record { guard = guard_of m.mode.kind e.body; app = e.app; rtag = tag_of (host_type m.ty) b.virt e.own }) else e.body
 
 -- the layer that finds the flip: of a write of the block, or of a read of it as it is stored under its proper tuple
-abbrev pub seen_in : Setting → Block → Owner → Crossing → (off : ℕ) → List ℕ → Entry → Option Seen
+abbrev pub seen_in : Setting → Block → Owner → Crossing → (off : ℕ) → List ℕ → MapEntry → Option Seen
 seen_in m b owner HostToAdapter off bytes e = seen_in_write m b owner (flip_of b HostToAdapter off bytes) (held_by_host m b e)
 seen_in m b owner AdapterToTarget off bytes e = seen_in_write m b owner (flip_of b AdapterToTarget off bytes) (held_by_host m b e)
 seen_in m b owner TargetToMedium off bytes e = seen_in_write m b owner (flip_of b TargetToMedium off bytes) (held_by_host m b e)
@@ -74,7 +74,7 @@ seen_in m b owner TargetToAdapter off bytes e = seen_in_read m b owner (flip_of 
 seen_in m b owner AdapterToHost off bytes e = seen_in_read m b owner (flip_of b AdapterToHost off bytes) (stored_as m (route m b).lba e)
 
 -- A block whose tuple is no escape, in a setting whose mask is 0.
-pub record IsClean (m : Setting) (e : Entry) : Type 0 where
+pub record IsClean (m : Setting) (e : MapEntry) : Type 0 where
   pub size : length e.body ≡ m.size
   pub bytes : All (λ x. x < 256) e.body
   pub app : e.app < 2 ^ 16
@@ -95,7 +95,7 @@ abbrev pub flipped : (off : ℕ) → List ℕ → List ℕ → List ℕ
 flipped off bytes body = xored_from (byte_at off bytes) 0 body
 
 -- The flip is in the data, after it the CRC of the data is another, and on a crossing at the host the host's guard is too.
-pub record ShowsIn (m : Setting) (at : Crossing) (off : ℕ) (bytes : List ℕ) (e : Entry) : Type 0 where
+pub record ShowsIn (m : Setting) (at : Crossing) (off : ℕ) (bytes : List ℕ) (e : MapEntry) : Type 0 where
   pub inside : off + length bytes ≤ m.size
   pub below : All (λ x. x < 256) bytes
   pub crc_shows : crc (flipped off bytes e.body) ≡ crc e.body → ⊥

@@ -3,7 +3,7 @@ use Rattle.cdb_codec.specs.Forms.{form}
 use Rattle.fault_schedule.specs.declared.fault.FaultLine.{FaultLine}
 use Rattle.target_answer.specs.Frames.{joined}
 use Rattle.target_answer.specs.Target.{Answer, Stop, Stored, target_answer}
-use Rattle.rig_api.specs.Log.{Entry, entry_of}
+use Rattle.rig_api.specs.Log.{LogEntry, entry_of}
 use Rattle.rig_api.specs.Telling.{Standing, spec_at, with_blocks}
 use Rattle.rig_api.specs.declared.rig.Outcome.{Outcome}
 use Rattle.volume_table.specs.declared.device.DeviceInfo.{DeviceInfo}
@@ -46,7 +46,7 @@ pub record IsNvmAnswer (a : NvmAnswer) (us : List Stored) (dev : ℕ) (result : 
   pub meta_is : meta ≡ a.meta
 
 -- One record more, of the translated command; the completion is that of its outcome, and the buffers of a read that succeeded are the frames that came.
-pub record Submitted (d : DeviceInfo) (c : NvmCommand) (s : Standing) (body meta body' meta' : List ℕ) (result : Completion) (old new : List Entry) : Type 0 where
+pub record Submitted (d : DeviceInfo) (c : NvmCommand) (s : Standing) (body meta body' meta' : List ℕ) (result : Completion) (old new : List LogEntry) : Type 0 where
   pub outcome : Outcome
   pub came : List ℕ
   pub long : length came ≡ room_for d.ty c d.size

@@ -2,6 +2,7 @@ use Rattle.std.specs.Prelude.{ℕ, Bool, ◌&&◌, ◌||◌, eqb, if◌then◌el
 use Rattle.sense_codes.specs.declared.Sense.{Sense}
 use Rattle.rig_api.specs.declared.rig.Outcome.{Outcome}
 use Rattle.nvme_front.specs.declared.completion.Completion.{Completion}
+use Rattle.sense_codes.specs.declared.codes.TheConstants.{ABORTED_COMMAND, PROTECTION, MEDIUM_ERROR, UNRECOVERED_READ, WRITE_ERROR, ILLEGAL_REQUEST, OUT_OF_RANGE}
 
 -- The completions of the ends of a SCSI command (NVM Express Base Specification, Status Field).
 
@@ -40,12 +41,12 @@ says s key asc ascq = eqb s.key key && (eqb s.asc asc && eqb s.ascq ascq)
 -- what the target found (ABORTED COMMAND), an error of the medium (MEDIUM ERROR), an address outside the unit (ILLEGAL REQUEST), or anything else
 abbrev pub by_sense : Sense → Completion
 by_sense s =
-    if says s 0x0B 0x10 1 then guard_error
-    else (if says s 0x0B 0x10 2 then app_error
-    else (if says s 0x0B 0x10 3 then ref_error
-    else (if says s 0x03 0x11 0 then read_error
-    else (if says s 0x03 0x0C 0 then write_fault
-    else (if says s 0x05 0x21 0 then out_of_range
+    if says s ABORTED_COMMAND PROTECTION 1 then guard_error
+    else (if says s ABORTED_COMMAND PROTECTION 2 then app_error
+    else (if says s ABORTED_COMMAND PROTECTION 3 then ref_error
+    else (if says s MEDIUM_ERROR UNRECOVERED_READ 0 then read_error
+    else (if says s MEDIUM_ERROR WRITE_ERROR 0 then write_fault
+    else (if says s ILLEGAL_REQUEST OUT_OF_RANGE 0 then out_of_range
     else internal)))))
 
 abbrev pub by_end : Option Sense → Completion

@@ -9,6 +9,7 @@ use Rattle.nvme_front.specs.Commands.{is_read, is_write}
 use Rattle.nvme_front.specs.Completions.{out_of_range}
 use Rattle.nvme_front.specs.declared.command.NvmCommand.{NvmCommand}
 use Rattle.nvme_front.specs.declared.completion.Completion.{Completion}
+use Rattle.pi_tuple.specs.declared.TheConstants.{TUPLE}
 
 -- The refusals of an NVM command, in their order, and the lengths of its buffers.
 
@@ -92,7 +93,7 @@ abbrev pub body_len : DeviceInfo → NvmCommand → ℕ
 body_len d c = c.count * d.size
 
 abbrev pub meta_len : PiType → NvmCommand → ℕ
-meta_len ty c = if has_meta ty c then c.count * 8 else 0
+meta_len ty c = if has_meta ty c then c.count * TUPLE else 0
 
 -- a block size that is served
 abbrev pub has_size : DeviceInfo → Bool

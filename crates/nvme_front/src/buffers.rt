@@ -6,13 +6,11 @@ ghost use Rattle.target_answer.specs.Frames.{stored_size};
 ghost use Rattle.nvme_front.specs.Buffers.{body_after, frames_out, made_tag, meta_after, parts, room_for, sent_by, tuple_for};
 ghost use Rattle.nvme_front.specs.Commands.{is_write};
 ghost use Rattle.nvme_front.specs.Refusals.{has_meta, meta_len};
+ghost use Rattle.pi_tuple.specs.declared.TheConstants.{LARGEST_BLOCK};
 
 use crate::{Completion, NvmCommand};
 use pi_guard::crc16;
-use pi_tuple::{PiType, has_ref_tag, make};
-
-/// The bytes of a tuple.
-pub(crate) const TUPLE: usize = 8;
+use pi_tuple::{PiType, TUPLE, has_ref_tag, make};
 
 /// Puts these bytes behind those in front of this place, and answers where they end.
 fn put(into: &mut [u8], at: usize, piece: &[u8]) -> usize
@@ -68,9 +66,9 @@ pub(crate) fn has_meta(ty: PiType, command: &NvmCommand) -> bool
 
 /// The bytes of a block with its tuple, where the unit has tuples.
 fn stored_size(ty: PiType, size: usize) -> usize
-    requires { size ≤ 4096 }
+    requires { size ≤ LARGEST_BLOCK }
     ensures value { result ≡ stored_size ty size }
-    ensures bound { result ≤ size + 8 }
+    ensures bound { result ≤ size + TUPLE }
 {
     if ty == PiType::Zero {
         size
@@ -82,7 +80,7 @@ fn stored_size(ty: PiType, size: usize) -> usize
 /// The bytes that a command has sent by its unit: the frames of a read.
 pub(crate) fn room_for(ty: PiType, command: &NvmCommand, size: usize) -> usize
     requires few { command.now.count ≤ 1024 }
-    requires size { size ≤ 4096 }
+    requires size { size ≤ LARGEST_BLOCK }
     ensures value { result ≡ room_for ty command.now size }
     ensures bound { result ≤ 4202496 }
     ensures none { is_write command.now ≡ true → result ≡ 0 }
@@ -105,11 +103,11 @@ pub(crate) fn put_frames(
     frames: &mut [u8],
 )
     requires few { command.now.count ≤ 1024 }
-    requires size { size ≤ 4096 }
+    requires size { size ≤ LARGEST_BLOCK }
     requires body { length body.now ≡ command.now.count * size }
-    requires meta { command.now.pract ≡ false → length meta.now ≡ command.now.count * 8 }
-    requires room { command.now.count * (size + 8) ≤ length frames.old }
-    ensures frames { take (command.now.count * (size + 8)) frames.new ≡ frames_out ty command.now size 0 command.now.count body.now meta.now }
+    requires meta { command.now.pract ≡ false → length meta.now ≡ command.now.count * TUPLE }
+    requires room { command.now.count * (size + TUPLE) ≤ length frames.old }
+    ensures frames { take (command.now.count * (size + TUPLE)) frames.new ≡ frames_out ty command.now size 0 command.now.count body.now meta.now }
     ensures long { length frames.new ≡ length frames.old }
 {
     let mut data = body;
@@ -160,9 +158,9 @@ pub(crate) fn put_out(
     frames: &mut [u8],
 ) -> usize
     requires few { command.now.count ≤ 1024 }
-    requires size { size ≤ 4096 }
+    requires size { size ≤ LARGEST_BLOCK }
     requires body { length body.now ≡ command.now.count * size }
-    requires meta { has_meta ty command.now ≡ true → length meta.now ≡ command.now.count * 8 }
+    requires meta { has_meta ty command.now ≡ true → length meta.now ≡ command.now.count * TUPLE }
     requires room { 4202496 ≤ length frames.old }
     ensures sent { take result frames.new ≡ sent_by ty command.now size body.now meta.now }
     ensures bound { result ≤ 4202496 }
@@ -191,7 +189,7 @@ pub(crate) fn deliver(
     body: &mut [u8],
     meta: &mut [u8],
 )
-    requires size { size ≤ 4096 }
+    requires size { size ≤ LARGEST_BLOCK }
     requires came { length came.now ≡ room_for ty command.now size }
     requires body { length body.old ≡ command.now.count * size }
     requires meta { length meta.old ≡ meta_len ty command.now }

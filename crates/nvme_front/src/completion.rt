@@ -5,6 +5,10 @@ ghost use Rattle.nvme_front.specs.Completions.{by_sense, completed, is_success, 
 
 use rig_api::Outcome;
 use sense_codes::Sense;
+use sense_codes::codes::{
+    ABORTED_COMMAND, ILLEGAL_REQUEST, MEDIUM_ERROR, OUT_OF_RANGE, PROTECTION, UNRECOVERED_READ,
+    WRITE_ERROR,
+};
 
 /// How a command was completed (NVM Express Base Specification, Status Field).
 #[derive(Clone, Copy, Debug, PartialEq, Eq)]
@@ -33,22 +37,22 @@ fn says(s: Sense, key: u8, asc: u8, ascq: u8) -> bool
 fn by_sense(s: Sense) -> Completion
     ensures { result ≡ by_sense s }
 {
-    if says(s, 0x0B, 0x10, 1) {
+    if says(s, ABORTED_COMMAND, PROTECTION, 1) {
         return Completion { sct: 2, sc: 0x82 };
     }
-    if says(s, 0x0B, 0x10, 2) {
+    if says(s, ABORTED_COMMAND, PROTECTION, 2) {
         return Completion { sct: 2, sc: 0x83 };
     }
-    if says(s, 0x0B, 0x10, 3) {
+    if says(s, ABORTED_COMMAND, PROTECTION, 3) {
         return Completion { sct: 2, sc: 0x84 };
     }
-    if says(s, 0x03, 0x11, 0) {
+    if says(s, MEDIUM_ERROR, UNRECOVERED_READ, 0) {
         return Completion { sct: 2, sc: 0x81 };
     }
-    if says(s, 0x03, 0x0C, 0) {
+    if says(s, MEDIUM_ERROR, WRITE_ERROR, 0) {
         return Completion { sct: 2, sc: 0x80 };
     }
-    if says(s, 0x05, 0x21, 0) {
+    if says(s, ILLEGAL_REQUEST, OUT_OF_RANGE, 0) {
         return Completion { sct: 0, sc: 0x80 };
     }
     Completion { sct: 0, sc: 0x06 }

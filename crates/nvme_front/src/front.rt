@@ -13,14 +13,15 @@ ghost use Rattle.nvme_front.specs.Buffers.{room_for};
 ghost use Rattle.nvme_front.specs.Commands.{HasSpan, command_in};
 ghost use Rattle.nvme_front.specs.Refusals.{body_len, device_at, has_meta, has_namespace, has_size, meta_len, refusal};
 ghost use Rattle.nvme_front.specs.Translation.{scsi_command};
+ghost use Rattle.pi_tuple.specs.declared.TheConstants.{LARGEST_BLOCK};
 
-use crate::buffers::{TUPLE, cut, deliver, has_meta, put_out, room_for};
+use crate::buffers::{cut, deliver, has_meta, put_out, room_for};
 use crate::completion::completed;
 use crate::refusal::refusal;
 use crate::translation::scsi_command;
 use crate::{Completion, NvmCommand};
 use arrayvec::ArrayVec;
-use pi_tuple::PiType;
+use pi_tuple::{PiType, TUPLE};
 use rig_api::{Outcome, Rig};
 use std::alloc::{AllocError, Global};
 use std::marker::Model;
@@ -159,7 +160,7 @@ fn run<R: Rig>(
     rig: &mut R,
 ) -> Completion
     requires there { dev < (R.state rig.old).standing.devices }
-    requires size { device.size ≤ 4096 }
+    requires size { device.size ≤ LARGEST_BLOCK }
     requires span { HasSpan command.now }
     requires body { length body.old ≡ body_len device command.now }
     requires meta { length meta.old ≡ meta_len device.ty command.now }

@@ -5,6 +5,7 @@ use Rattle.script_lines.specs.declared.kind.ScriptKind.TheVariants.{LongLine, Me
 use Rattle.nvme_lines.specs.Lines.{line_form}
 use Rattle.nvme_lines.specs.declared.line.NvmLine.{NvmLine}
 use Rattle.script_text.specs.declared.fault.ScriptFault.{ScriptFault}
+use Rattle.source_text.specs.declared.TheConstants.{LONGEST_LINE, MOST_BYTES}
 
 -- A text of NVM commands, line by line. A line without words, or whose first word begins with #, is skipped.
 
@@ -25,7 +26,7 @@ words_taken number (first ∷ words) so_far = if is_comment first then Ok so_far
 abbrev pub text_taken : (number : ℕ) → List ℕ → List NvmLine → Result (List NvmLine) ScriptKind
 text_taken number line so_far =
     if not (is_plain line) then Err NotAscii
-    else (if nat_lt 4096 (length line) then Err LongLine else words_taken number (words_of line) so_far)
+    else (if nat_lt LONGEST_LINE (length line) then Err LongLine else words_taken number (words_of line) so_far)
 
 abbrev pub go_on : (number : ℕ) → Result (List NvmLine) ScriptKind → (List NvmLine → Result (List NvmLine) ScriptFault) → Result (List NvmLine) ScriptFault
 go_on number (Err k) more = Err (record { line = number; kind = k })
@@ -38,7 +39,7 @@ lines_read number (line ∷ lines) so_far = go_on number (text_taken number line
 
 -- the lines of a text, which has at most 4,194,304 bytes, or its first fault
 abbrev pub text_in : List ℕ → Result (List NvmLine) ScriptFault
-text_in text = if nat_lt 4194304 (length text) then Err (record { line = 0; kind = TooMany }) else lines_read 1 (lines_of text) []
+text_in text = if nat_lt MOST_BYTES (length text) then Err (record { line = 0; kind = TooMany }) else lines_read 1 (lines_of text) []
 
 -- A reader gave this and now has so many lines, or wanted memory.
 abbrev pub Takes : Result (List NvmLine) ScriptKind → Result (Unit {0}) ScriptKind → List NvmLine → Type 0

@@ -9,12 +9,9 @@ use crate::line::{NvmLine, line_of};
 use script_lines::{ScriptKind, Words};
 use script_text::ScriptFault;
 use script_words::{is_plain, next_line, next_word};
+use source_text::{LONGEST_LINE, MOST_BYTES};
 use std::alloc::Global;
 
-/// A text has at most this many bytes.
-const MOST_BYTES: usize = 4_194_304;
-/// A line has at most this many bytes, without its newline.
-const LONGEST: usize = 4096;
 /// A text has at most this many lines with words.
 const MOST_LINES: usize = 1024;
 
@@ -66,7 +63,7 @@ fn take_text(
     if !is_plain(line) {
         return Err(ScriptKind::NotAscii);
     }
-    if line.len() > LONGEST {
+    if line.len() > LONGEST_LINE {
         return Err(ScriptKind::LongLine);
     }
     take_words(alloc, lines, number, line)

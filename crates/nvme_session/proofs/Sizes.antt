@@ -7,11 +7,11 @@ use Rattle.std.proofs.lemmas.Bool.{and_from}
 use Rattle.target_answer.specs.Headers.{is_spec}
 use Rattle.target_answer.specs.declared.units.UnitSpec.{UnitSpec}
 use Rattle.rig_api.specs.Head.{head_fault, units_of}
-use Rattle.rig_api.specs.Log.{Entry}
+use Rattle.rig_api.specs.Log.{LogEntry}
 use Rattle.rig_api.specs.Telling.{Standing, no_spec, spec_at, specs_of}
 use Rattle.rig_api.proofs.HeadLaws.{right_layout}
 use Rattle.volume_table.specs.declared.device.DeviceInfo.{DeviceInfo}
-use Rattle.rig_discovery.specs.Discovery.{Answer, HasFound, all_told, told, with_info}
+use Rattle.rig_discovery.specs.Discovery.{LookAnswer, HasFound, all_told, told, with_info}
 use Rattle.rig_discovery.proofs.Telling.{all_at, last_true}
 use Rattle.rig_discovery.proofs.ToldSizes.{told_size}
 use Rattle.target_answer.specs.Target.{Stored}
@@ -27,7 +27,7 @@ good-size u h = by (eqb u.size 512) (eqb u.size 4096) u.blocks _ h
     by false true n x h = refl
     by false false n x h = grind arith
 
-all-sizes : (s : Standing) (dev : ℕ) (xs : List Answer) (found : List DeviceInfo) → all_told s dev xs ≡ Some found → ((k : ℕ) → k < dev + length xs → is_spec (spec_at s k) ≡ true) → list_all has_size found ≡ true
+all-sizes : (s : Standing) (dev : ℕ) (xs : List LookAnswer) (found : List DeviceInfo) → all_told s dev xs ≡ Some found → ((k : ℕ) → k < dev + length xs → is_spec (spec_at s k) ≡ true) → list_all has_size found ≡ true
 all-sizes s dev [] found e good = let k : found ≡ [] = cc in ap (list_all has_size) k
 all-sizes s dev (x ∷ xs) found e good =
     by (told s dev x) (all_told s (dev + 1) xs) refl (λ more q. all-sizes s (dev + 1) xs more q (λ j l. good j (omega arith))) e
@@ -42,7 +42,7 @@ all-sizes s dev (x ∷ xs) found e good =
         let h : has_size i ≡ true = ap (λ n. eqb n 512 || eqb n 4096) z ∙ g in
         ap (list_all has_size) k ∙ and_from (has_size i) (list_all has_size more) h (q more refl)
 
-pub sizes-found : (s : Standing) (found : List DeviceInfo) (old new : List Entry) → head_fault s.head ≡ None → s.devices ≡ length (units_of s.head) → HasFound s found old new → list_all has_size found ≡ true
+pub sizes-found : (s : Standing) (found : List DeviceInfo) (old new : List LogEntry) → head_fault s.head ≡ None → s.devices ≡ length (units_of s.head) → HasFound s found old new → list_all has_size found ≡ true
 sizes-found s found old new right devices f =
     let all : specs_of s ≡ units_of s.head = take_all s.devices (units_of s.head) (omega (arith, devices)) in
     let good : list_all is_spec (units_of s.head) ≡ true = last_true _ _ _ (right_layout s.head right) in

@@ -1,6 +1,6 @@
 use Rattle.std.specs.Prelude.{ℕ, ◌≡◌, ◌⊎◌, false, eqb, if◌then◌else◌, List, length, replicate, [], Option, Some, None, is_some}
 use Rattle.target_answer.specs.Target.{Stored}
-use Rattle.rig_api.specs.Log.{Entry}
+use Rattle.rig_api.specs.Log.{LogEntry}
 use Rattle.rig_api.specs.State.{RigState}
 use Rattle.rig_api.specs.Telling.{Standing}
 use Rattle.volume_table.specs.declared.device.DeviceInfo.{DeviceInfo}
@@ -14,7 +14,7 @@ use Rattle.call_refusal.specs.declared.refusal.Refusal.{Refusal}
 use Rattle.call_refusal.specs.declared.refusal.Refusal.TheVariants as stop
 
 -- Why there is no front of a rig's devices: a device's answer is at fault, and then the blocks aren't told; or there is no memory, before the first device was asked or behind the last.
-abbrev pub CauseNoFront : Refusal → Standing → Option (List Stored) → (old new : List Entry) → (image image' : Option (List ℕ)) → Type 0
+abbrev pub CauseNoFront : Refusal → Standing → Option (List Stored) → (old new : List LogEntry) → (image image' : Option (List ℕ)) → Type 0
 CauseNoFront (stop.BadCapacity dev) s units old new image image' = HasFault s dev old new × (is_some units ≡ false)
 CauseNoFront stop.Memory s units old new image image' = ((new ≡ old) × (image' ≡ image)) ⊎ ((devices : List DeviceInfo) × HasFound s devices old new)
 CauseNoFront _ s units old new image image' = ⊥

@@ -1,6 +1,7 @@
 -- The bytes of all pages one after another: the cells of a pool.
 use Rattle.std.specs.Prelude.{ℕ, zero, suc, ◌+◌, ◌*◌, Bool, false, eqb, ◌||◌, List, [], ◌∷◌, ◌++◌, get_or, set}
 use Rattle.page_pool.specs.Places.{PageByte}
+use Rattle.page_pool.specs.declared.TheConstants.{PAGE}
 
 -- lists one after another; of a pool, its cells
 abbrev pub flat : List (List ℕ) → List ℕ
@@ -9,7 +10,7 @@ flat (page ∷ pages) = page ++ flat pages
 
 -- the cell of a byte of the pool
 abbrev pub cell : PageByte → ℕ
-cell p = 4096 * p.page + p.off
+cell p = PAGE * p.page + p.off
 
 -- what these cells hold; a cell beyond the end holds `none`
 abbrev pub gather : {X : Type 0} → X → List ℕ → List X → List X

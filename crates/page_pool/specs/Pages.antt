@@ -3,6 +3,7 @@ use Rattle.std.specs.declared.alloc.Global.{Global}
 use Rattle.std.specs.declared.vec.Vec.{Vec}
 use Rattle.page_pool.specs.declared.segs.Seg.{Seg}
 use Rattle.page_pool.specs.Places.{PageByte, IsAmong, range_of}
+use Rattle.page_pool.specs.declared.TheConstants.{PAGE}
 
 -- the pages of a pool, each as its bytes
 abbrev pub contents : List (Vec ℕ Global) → List (List ℕ)
@@ -26,12 +27,12 @@ bytes_in pool segs at len = bytes_at pool (range_of segs at len)
 
 -- each page has 4,096 bytes
 pub record AreWhole (pool : List (List ℕ)) : Type 0 where
-  pub size : (page : ℕ) → page < length pool → length (page_of pool page) ≡ 4096
+  pub size : (page : ℕ) → page < length pool → length (page_of pool page) ≡ PAGE
 
 -- the segment lies in one of the pool's pages
 pub record LiesIn (pool : List (List ℕ)) (s : Seg) : Type 0 where
   pub in_pool : s.page < length pool
-  pub in_page : s.off + s.len ≤ 4096
+  pub in_page : s.off + s.len ≤ PAGE
 
 -- so do all segments of a list
 abbrev pub AllLieIn : List (List ℕ) → List Seg → Type 0

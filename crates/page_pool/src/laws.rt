@@ -9,6 +9,7 @@ ghost use Rattle.page_pool.specs.Pages.{AllLieIn, AreWhole, LiesIn, OthersStay, 
 ghost use Rattle.page_pool.specs.Places.{Apart, NoneTwice, PageByte, places_in, places_of, range_of, total};
 ghost use Rattle.page_pool.specs.Walking.{AllStandIn};
 ghost use Rattle.page_pool.specs.declared.segs.Seg.{Seg as AnySeg};
+ghost use Rattle.page_pool.specs.declared.TheConstants.{PAGE};
 
 /// A pool's pages one after another are its cells: reading places gathers, writing them scatters. Bytes that stand in
 /// the pool have cells below its end, no two the same where none of the bytes is there twice, and none in common
@@ -19,8 +20,8 @@ pub fn a_pool_is_cells()
         → flat new ≡ scatter (map cell ps) bytes (flat old) }
     ensures same { (old new : List (List ℕ)) → OthersStay old new [] → new ≡ old }
     ensures whole { (old new : List (List ℕ)) (ps : List PageByte) → OthersStay old new ps → AreWhole old → AreWhole new }
-    ensures size { (pool : List (List ℕ)) → AreWhole pool → length (flat pool) ≡ 4096 * length pool }
-    ensures below { (pages : ℕ) (ps : List PageByte) → AllStandIn pages ps → All (λ i. i < 4096 * pages) (map cell ps) }
+    ensures size { (pool : List (List ℕ)) → AreWhole pool → length (flat pool) ≡ PAGE * length pool }
+    ensures below { (pages : ℕ) (ps : List PageByte) → AllStandIn pages ps → All (λ i. i < PAGE * pages) (map cell ps) }
     ensures distinct { (pages : ℕ) (ps : List PageByte) → AllStandIn pages ps → NoneTwice ps → IsDistinct nat_eq (map cell ps) }
     ensures apart { (pages : ℕ) (ps qs : List PageByte) → AllStandIn pages ps → AllStandIn pages qs → Apart ps qs → share_a_cell (map cell ps) (map cell qs) ≡ false }
     ensures ranges { (segs : List AnySeg) (at a b : ℕ) → range_of segs at (a + b) ≡ range_of segs at a ++ range_of segs (at + a) b }

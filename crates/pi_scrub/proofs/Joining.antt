@@ -7,7 +7,7 @@ use Rattle.dix_base.proofs.Counts.{calm_first, calm_then}
 use Rattle.sense_codes.specs.declared.Sense.{Sense}
 use Rattle.pi_tuple.specs.declared.checks.PiType.{PiType}
 use Rattle.target_answer.specs.Target.{Stored}
-use Rattle.rig_api.specs.Log.{Entry, IsMedium}
+use Rattle.rig_api.specs.Log.{LogEntry, IsMedium}
 use Rattle.rig_api.specs.Telling.{unit_at}
 use Rattle.rig_api.specs.declared.rig.Outcome.{Outcome}
 use Rattle.rig_discovery.specs.Discovery.{Ends}
@@ -22,7 +22,7 @@ use Rattle.pi_scrub.specs.declared.found.Found.{Found}
 
 entries_append : (xs ys : List Look) → all_entries (xs ++ ys) ≡ all_entries xs ++ all_entries ys
 entries_append [] ys = refl
-entries_append (x ∷ xs) ys = ap (λ (v : List Entry). entry_of x ∷ v) (entries_append xs ys)
+entries_append (x ∷ xs) ys = ap (λ (v : List LogEntry). entry_of x ∷ v) (entries_append xs ys)
 
 found_append : (xs ys : List Look) → all_found (xs ++ ys) ≡ all_found xs ++ all_found ys
 found_append [] ys = refl
@@ -39,11 +39,11 @@ fit_append ds (x ∷ xs) ys p q = (p.0, p.1, p.2, fit_append ds xs ys p.3 q)
 rose_add : (a b o m n : ℕ) → o ≤ m → m ≤ n → RoseBy a o m → RoseBy b m n → RoseBy (a + b) o n
 rose_add a b o m n p q x y = grind arith
 
-pub looked_then : (ds : List DeviceInfo) (due mid left : List Place) (a b c : List Found) (x y z : List Entry) (o m n : ℕ) → o ≤ m → m ≤ n → Looked ds due mid a b x y o m → Looked ds mid left b c y z m n → Looked ds due left a c x z o n
+pub looked_then : (ds : List DeviceInfo) (due mid left : List Place) (a b c : List Found) (x y z : List LogEntry) (o m n : ℕ) → o ≤ m → m ≤ n → Looked ds due mid a b x y o m → Looked ds mid left b c y z m n → Looked ds due left a c x z o n
 looked_then ds due mid left a b c x y z o m n p q u v = record {
   looks = u.looks ++ v.looks;
   fit = fit_append ds u.looks v.looks u.fit v.fit;
-  log = v.log ∙ ap (λ (w : List Entry). w ++ all_entries v.looks) u.log ∙ append_assoc x (all_entries u.looks) (all_entries v.looks) ∙ ap (λ (w : List Entry). x ++ w) (sym (entries_append u.looks v.looks));
+  log = v.log ∙ ap (λ (w : List LogEntry). w ++ all_entries v.looks) u.log ∙ append_assoc x (all_entries u.looks) (all_entries v.looks) ∙ ap (λ (w : List LogEntry). x ++ w) (sym (entries_append u.looks v.looks));
   found_is = v.found_is ∙ ap (λ (w : List Found). w ++ all_found v.looks) u.found_is ∙ append_assoc a (all_found u.looks) (all_found v.looks) ∙ ap (λ (w : List Found). a ++ w) (sym (found_append u.looks v.looks));
   once = u.once ∙ ap (λ (w : List Place). all_looked u.looks ++ w) v.once ∙ sym (append_assoc (all_looked u.looks) (all_looked v.looks) left) ∙ ap (λ (w : List Place). w ++ left) (sym (looked_append u.looks v.looks));
   medium =
@@ -53,7 +53,7 @@ looked_then ds due mid left a b c x y z o m n p q u v = record {
 }
 
 -- further blocks behind those that are due
-pub looked_wider : (ds : List DeviceInfo) (due left more : List Place) (a b : List Found) (x y : List Entry) (o n : ℕ) → Looked ds due left a b x y o n → Looked ds (due ++ more) (left ++ more) a b x y o n
+pub looked_wider : (ds : List DeviceInfo) (due left more : List Place) (a b : List Found) (x y : List LogEntry) (o n : ℕ) → Looked ds due left a b x y o n → Looked ds (due ++ more) (left ++ more) a b x y o n
 looked_wider ds due left more a b x y o n u = record {
   looks = u.looks;
   fit = u.fit;
@@ -63,7 +63,7 @@ looked_wider ds due left more a b x y o n u = record {
   medium = u.medium;
 }
 
-pub looked_none : (ds : List DeviceInfo) (due : List Place) (a : List Found) (x : List Entry) (o n : ℕ) → o ≤ n → Looked ds due due a a x x o n
+pub looked_none : (ds : List DeviceInfo) (due : List Place) (a : List Found) (x : List LogEntry) (o n : ℕ) → o ≤ n → Looked ds due due a a x x o n
 looked_none ds due a x o n l = record { looks = []; fit = tt; log = sym (append-nil x); found_is = sym (append-nil a); once = refl; medium = inl (omega arith) }
 
 places_split : (dev lba a b : ℕ) → places dev lba (a + b) ≡ places dev lba a ++ places dev (lba + a) b
@@ -104,11 +104,11 @@ settled_most n d = grind arith
 pub settled_some : (n d : ℕ) → 1 ≤ n → 1 ≤ settled n d
 settled_some n d h = grind arith
 
-pub did_bound : (dev : ℕ) (ty : PiType) (lba n k : ℕ) (a b : List Found) (x y : List Entry) (units : Option (List Stored)) (o m : ℕ) → Did dev ty lba n k a b x y units o m → 1 ≤ n → (1 ≤ k) × (k ≤ n)
+pub did_bound : (dev : ℕ) (ty : PiType) (lba n k : ℕ) (a b : List Found) (x y : List LogEntry) (units : Option (List Stored)) (o m : ℕ) → Did dev ty lba n k a b x y units o m → 1 ≤ n → (1 ≤ k) × (k ≤ n)
 did_bound dev ty lba n k a b x y units o m d h = let p = settled_some n d.outcome.done h in let q = settled_most n d.outcome.done in (omega (arith, p, d.settled_is), omega (arith, q, d.settled_is))
 
 -- one look at the first blocks of those that are due
-pub one_look : (ds : List DeviceInfo) (dev : ℕ) (ty : PiType) (lba n k left : ℕ) (a b : List Found) (x y : List Entry) (units : Option (List Stored)) (o m : ℕ) → o ≤ m → 1 ≤ n → n ≤ 1024 → ty ≡ (info_at ds dev).ty → n ≤ left → Did dev ty lba n k a b x y units o m →
+pub one_look : (ds : List DeviceInfo) (dev : ℕ) (ty : PiType) (lba n k left : ℕ) (a b : List Found) (x y : List LogEntry) (units : Option (List Stored)) (o m : ℕ) → o ≤ m → 1 ≤ n → n ≤ 1024 → ty ≡ (info_at ds dev).ty → n ≤ left → Did dev ty lba n k a b x y units o m →
     Looked ds (places dev lba left) (places dev (lba + k) (left - k)) a b x y o m
 one_look ds dev ty lba n k left a b x y units o m l p q t within d =
     let bound = did_bound dev ty lba n k a b x y units o m d p in
@@ -186,7 +186,7 @@ device_is ds us dev e l =
     let n : length ds ≡ length us = ap length e ∙ map_length us in
     ap (λ (v : List DeviceInfo). info_at v dev) e ∙ device_at us dev (omega (arith, n))
 
-pub told_step : (ds : List DeviceInfo) (us : List Stored) (units : Option (List Stored)) (dev lba n k left : ℕ) (ty : PiType) (found new all : List Found) (x y : List Entry) (o m p : ℕ) → info_at ds dev ≡ device_of (unit_at us dev) → ty ≡ (info_at ds dev).ty → (info_at ds dev).first ≤ lba → lba + left ≡ (info_at ds dev).first + (info_at ds dev).blocks → n ≤ left →
+pub told_step : (ds : List DeviceInfo) (us : List Stored) (units : Option (List Stored)) (dev lba n k left : ℕ) (ty : PiType) (found new all : List Found) (x y : List LogEntry) (o m p : ℕ) → info_at ds dev ≡ device_of (unit_at us dev) → ty ≡ (info_at ds dev).ty → (info_at ds dev).first ≤ lba → lba + left ≡ (info_at ds dev).first + (info_at ds dev).blocks → n ≤ left →
     o ≤ m → m ≤ p → units ≡ Some us → Calm o p → (Calm o m → with_rest found dev (unit_at us dev) lba ≡ all) → Did dev ty lba n k found new x y units m p → with_rest new dev (unit_at us dev) (lba + k) ≡ all
 told_step ds us units dev lba n k left ty found new all x y o m p info t above span within l q e calm so d =
     let u : Stored = unit_at us dev in
@@ -214,7 +214,7 @@ pub due_now : (ds : List DeviceInfo) (dev : ℕ) → dev < length ds → all_pla
 due_now ds dev l = ap (all_places dev) (drop_devices ds dev l)
 
 -- a device that was looked at whole, or in part, behind those before it
-pub next_device : (ds : List DeviceInfo) (dev : ℕ) (due left : List Place) (a b c : List Found) (x y z : List Entry) (o m n : ℕ) → dev < length ds → o ≤ m → m ≤ n → Looked ds due (all_places dev (drop dev ds)) a b x y o m →
+pub next_device : (ds : List DeviceInfo) (dev : ℕ) (due left : List Place) (a b c : List Found) (x y z : List LogEntry) (o m n : ℕ) → dev < length ds → o ≤ m → m ≤ n → Looked ds due (all_places dev (drop dev ds)) a b x y o m →
     Looked ds (places dev (info_at ds dev).first (info_at ds dev).blocks) left b c y z m n → Looked ds due (left ++ all_places (dev + 1) (drop (dev + 1) ds)) a c x z o n
 next_device ds dev due left a b c x y z o m n l p q u v =
     let now : Looked ds due (places dev (info_at ds dev).first (info_at ds dev).blocks ++ all_places (dev + 1) (drop (dev + 1) ds)) a b x y o m = rw (due_now ds dev l) at u in

@@ -5,7 +5,7 @@ use Rattle.cdb_codec.specs.Forms.{form}
 use Rattle.cdb_codec.specs.Rule.{untagged}
 use Rattle.cdb_codec.specs.declared.command.Cdb.{Cdb}
 use Rattle.cdb_codec.specs.declared.command.Cdb.TheVariants.{Verify10, Verify16}
-use Rattle.rig_api.specs.Log.{Entry}
+use Rattle.rig_api.specs.Log.{LogEntry}
 use Rattle.rig_api.specs.declared.rig.Outcome.{Outcome}
 use Rattle.volume_table.specs.declared.device.DeviceInfo.{DeviceInfo}
 use Rattle.block_path.specs.Senses.{why_ended}
@@ -36,7 +36,7 @@ pub record Look : Type 0 where
   pub outcome : Outcome
 
 -- its record, which has no labels and no moved bytes
-abbrev pub entry_of : Look → Entry
+abbrev pub entry_of : Look → LogEntry
 entry_of l = record { what = record { dev = l.dev; cdb = form (verify_of l.ty l.lba l.n); outcome = l.outcome }; labels = []; moved = [] }
 
 -- the block at which it ended, where it did before its last one: with what its sense says of it
@@ -63,7 +63,7 @@ place_of f = record { dev = f.dev; lba = f.lba }
 abbrev pub looked_at : Look → List Place
 looked_at l = places l.dev l.lba (min l.outcome.done l.n) ++ map place_of (found_by l)
 
-abbrev pub all_entries : List Look → List Entry
+abbrev pub all_entries : List Look → List LogEntry
 all_entries [] = []
 all_entries (l ∷ ls) = entry_of l ∷ all_entries ls
 

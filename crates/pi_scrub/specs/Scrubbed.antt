@@ -1,6 +1,6 @@
 use Rattle.std.specs.Prelude.{ℕ, ◌≡◌, ◌+◌, ◌^◌, ◌≤◌, ◌⊎◌, Bool, List, ◌++◌, length, map, count_by, Option, Some}
 use Rattle.target_answer.specs.Target.{Stored}
-use Rattle.rig_api.specs.Log.{Entry}
+use Rattle.rig_api.specs.Log.{LogEntry}
 use Rattle.rig_api.specs.Telling.{Standing}
 use Rattle.rig_discovery.specs.Discovery.{Ends}
 use Rattle.volume_table.specs.declared.device.DeviceInfo.{DeviceInfo}
@@ -16,7 +16,7 @@ abbrev pub RoseBy : ℕ → ℕ → ℕ → Type 0
 RoseBy n old new = (old + n ≤ new) ⊎ (2 ^ 64 ≤ new + 1)
 
 -- Looks were made, one record each, and what was found is what their records say: each entry has a record of its own, which ended at its block. The blocks that were to be looked at are those that these looked at, each once and in order, and then the blocks that are left. Entries of a medium are at most as many as the count of faults rose.
-pub record Looked (devices : List DeviceInfo) (due left : List Place) (found found' : List Found) (old new : List Entry) (f f' : ℕ) : Type 0 where
+pub record Looked (devices : List DeviceInfo) (due left : List Place) (found found' : List Found) (old new : List LogEntry) (f f' : ℕ) : Type 0 where
   pub looks : List Look
   pub fit : AreFit devices looks
   pub log : new ≡ old ++ all_entries looks

@@ -3,7 +3,7 @@ use Rattle.std.specs.Global.{Vec}
 use Rattle.dix_base.specs.Told.{Calm, Rose}
 use Rattle.pi_tuple.specs.declared.checks.PiType.{PiType}
 use Rattle.target_answer.specs.Target.{Stored}
-use Rattle.rig_api.specs.Log.{Entry, IsMedium}
+use Rattle.rig_api.specs.Log.{LogEntry, IsMedium}
 use Rattle.rig_api.specs.Telling.{unit_at}
 use Rattle.rig_api.specs.declared.rig.Outcome.{Outcome}
 use Rattle.pi_scrub.specs.Faults.{faults_from}
@@ -23,7 +23,7 @@ Finds dev ty lba n o units f f' =
     → found_at dev lba n o ≡ faults_from ty (unit_at us dev).size dev lba (take (settled n o.done) (drop (lba - (unit_at us dev).first) (unit_at us dev).blocks))
 
 -- One look was made, and settled k blocks.
-pub record Did (dev : ℕ) (ty : PiType) (lba n k : ℕ) (found found' : List Found) (old new : List Entry) (units : Option (List Stored)) (f f' : ℕ) : Type 0 where
+pub record Did (dev : ℕ) (ty : PiType) (lba n k : ℕ) (found found' : List Found) (old new : List LogEntry) (units : Option (List Stored)) (f f' : ℕ) : Type 0 where
   pub outcome : Outcome
   pub settled_is : k ≡ settled n outcome.done
   pub log : new ≡ old ++ (entry_of (record { dev = dev; ty = ty; lba = lba; n = n; outcome = outcome }) ∷ [])

@@ -9,6 +9,7 @@ use Rattle.pi_tuple.specs.declared.checks.PiType.{PiType}
 use Rattle.pi_tuple.specs.Finds.{has_ref_tag}
 use Rattle.pi_tuple.specs.Tuples.{ref_tag}
 use Rattle.integrity_payload.specs.Payloads.{HoldsTuple, tuple_of, tuple_places}
+use Rattle.pi_tuple.specs.declared.TheConstants.{TUPLE}
 
 -- a tuple with the tag of the one address gets that of the other, in types 1 and 2; any other stays
 abbrev pub remapped : PiType → ℕ → ℕ → Tuple → Tuple
@@ -29,7 +30,7 @@ all_remapped pool segs ty k from to n = joined (λ i. remapped_bytes ty (from + 
 -- n tuples from tuple k on are mapped in place, and no other byte changed
 pub record AreRemapped (old new : List (List ℕ)) (segs : List Seg) (ty : PiType) (k n from to : ℕ) : Type 0 where
   pub tuples : (i : ℕ) → i < n → HoldsTuple new segs (k + i) (remapped ty (from + i) (to + i) (tuple_of old segs (k + i)))
-  pub wrote : Wrote old new (range_of segs (8 * k) (8 * n)) (all_remapped old segs ty k from to n)
+  pub wrote : Wrote old new (range_of segs (TUPLE * k) (TUPLE * n)) (all_remapped old segs ty k from to n)
 
 -- u is what mapping out, once or twice, made of t
 abbrev pub MappedOut : PiType → ℕ → ℕ → Tuple → Tuple → Type 0

@@ -7,7 +7,7 @@ use Rattle.stack_ops.specs.declared.reply.Reply.{Reply}
 use Rattle.report_text.specs.Report.{bad_line, bad_lines, lines_from, lines_of, op_line}
 use Rattle.report_text.specs.Trace.{trace, trace_line, sense_text}
 use Rattle.rig_api.specs.declared.rig.Record.{Record}
-use Rattle.rig_api.specs.Log.{Entry, entry_at, has_key, have_keys, no_entry}
+use Rattle.rig_api.specs.Log.{LogEntry, entry_at, has_key, have_keys, no_entry}
 use Rattle.small_laws.proofs.Tests.{and_first, and_second}
 
 pub shown : (front : List ℕ) (number : ℕ) (hex : List ℕ) → front ≡ codes "op " ++ (decimal number ++ codes " ") → front ++ (hex ++ codes "\n") ≡ op_line number hex
@@ -36,16 +36,16 @@ pub next_reply : (i : ℕ) (rs : List Reply) (r : Reply) → i < length rs → r
 next_reply i rs r h e =
     ap (lines_from (i + 1)) (drop-cons rs i r h) ∙ ap (λ k. lines_of (i + 1) (get_or rs i r) ++ lines_from (i + 1 + 1) (drop k rs)) (sym (add-one i)) ∙ ap (λ x. lines_of (i + 1) x ++ lines_from (i + 1 + 1) (drop (i + 1) rs)) (sym e)
 
-pub next_record : (i : ℕ) (es : List Entry) (r : Record) → i < length es → r ≡ (entry_at es i).what → trace (drop i es) ≡ trace_line r ++ trace (drop (i + 1) es)
+pub next_record : (i : ℕ) (es : List LogEntry) (r : Record) → i < length es → r ≡ (entry_at es i).what → trace (drop i es) ≡ trace_line r ++ trace (drop (i + 1) es)
 next_record i es r h e =
     ap trace (drop-cons es i no_entry h) ∙ ap (λ k. trace_line (entry_at es i).what ++ trace (drop k es)) (sym (add-one i)) ∙ ap (λ x. trace_line x ++ trace (drop (i + 1) es)) (sym e)
 
-pub keyed_at : (es : List Entry) (i : ℕ) → have_keys es ≡ true → has_key (entry_at es i).what.outcome.sense ≡ true
+pub keyed_at : (es : List LogEntry) (i : ℕ) → have_keys es ≡ true → has_key (entry_at es i).what.outcome.sense ≡ true
 keyed_at [] i k = refl
 keyed_at (e ∷ es) zero k = and_first (has_key e.what.outcome.sense) (have_keys es) k
 keyed_at (e ∷ es) (suc i) k = keyed_at es i (and_second (has_key e.what.outcome.sense) (have_keys es) k)
 
-pub keyed : (es : List Entry) (i : ℕ) (r : Record) → have_keys es ≡ true → r ≡ (entry_at es i).what → has_key r.outcome.sense ≡ true
+pub keyed : (es : List LogEntry) (i : ℕ) (r : Record) → have_keys es ≡ true → r ≡ (entry_at es i).what → has_key r.outcome.sense ≡ true
 keyed es i r k e = ap (λ x. has_key x.outcome.sense) e ∙ keyed_at es i k
 
 pub hex_end : (xs : List ℕ) → length xs ≤ 0 → encode_lower xs ≡ []

@@ -4,7 +4,7 @@ use Rattle.sense_codes.specs.declared.Sense.{Sense}
 use Rattle.sense_codes.specs.Written.{written}
 use Rattle.rig_api.specs.declared.rig.Outcome.{Outcome}
 use Rattle.rig_api.specs.declared.rig.Record.{Record}
-use Rattle.rig_api.specs.Log.{Entry}
+use Rattle.rig_api.specs.Log.{LogEntry}
 
 -- the sense data's bytes, where there is a sense
 abbrev pub sense_text : Option Sense → List ℕ
@@ -20,6 +20,6 @@ abbrev pub trace_line : Record → List ℕ
 trace_line r = codes "x " ++ (decimal r.dev ++ (codes " " ++ (encode_lower r.cdb ++ end_text r.outcome)))
 
 -- the lines of these records, in order
-abbrev pub trace : List Entry → List ℕ
+abbrev pub trace : List LogEntry → List ℕ
 trace [] = []
 trace (e ∷ es) = trace_line e.what ++ trace es

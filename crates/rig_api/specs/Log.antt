@@ -11,9 +11,10 @@ use Rattle.sense_codes.specs.declared.Sense.{Sense}
 use Rattle.fault_schedule.specs.declared.Label.{Label}
 use Rattle.rig_api.specs.declared.rig.Record.{Record}
 use Rattle.rig_api.specs.declared.rig.Outcome.{Outcome}
+use Rattle.pi_tuple.specs.declared.TheConstants.{TUPLE}
 
 -- a record with its labels and its moved bytes
-pub record Entry : Type 0 where
+pub record LogEntry : Type 0 where
   pub what : Record
   pub labels : List Label
   pub moved : List ℕ
@@ -28,7 +29,7 @@ pub record Room : Type 0 where
 pub record HasRoom (size exchanges blocks : ℕ) (r : Room) : Type 0 where
   pub records : exchanges ≤ r.records
   pub labels : exchanges + blocks ≤ r.labels
-  pub moved : (size + 8) * blocks + 32 * exchanges ≤ r.moved
+  pub moved : (size + TUPLE) * blocks + 32 * exchanges ≤ r.moved
 
 -- the first frames of a buffer: those of the blocks that are done
 abbrev pub frames_done : (size : ℕ) → Rw → (done : ℕ) → List ℕ → List ℕ
@@ -54,7 +55,7 @@ abbrev pub labels_of : List ℕ → Outcome → List Label → List Label
 labels_of cdb o labels = take (min (o.done + 1) (blocks_of cdb)) labels
 
 -- the entry of an exchange
-abbrev pub entry_of : (size dev : ℕ) → List ℕ → List Label → Outcome → (out into : List ℕ) → Entry
+abbrev pub entry_of : (size dev : ℕ) → List ℕ → List Label → Outcome → (out into : List ℕ) → LogEntry
 entry_of size dev cdb labels o out into = record {
   what = record { dev = dev; cdb = cdb; outcome = o };
   labels = labels_of cdb o labels;
@@ -81,10 +82,10 @@ moved_len size cdb o out into = length (moved_of size cdb o out into)
 abbrev pub labels_len : List ℕ → Outcome → List Label → ℕ
 labels_len cdb o labels = length (labels_of cdb o labels)
 
-abbrev pub no_entry : Entry
+abbrev pub no_entry : LogEntry
 no_entry = record { what = record { dev = 0; cdb = []; outcome = record { done = 0; sense = None } }; labels = []; moved = [] }
 
-abbrev pub entry_at : List Entry → ℕ → Entry
+abbrev pub entry_at : List LogEntry → ℕ → LogEntry
 entry_at log i = slice_index_or log i no_entry
 
 -- a sense key has four bits
@@ -92,7 +93,7 @@ abbrev pub has_key : Option Sense → Bool
 has_key None = true
 has_key (Some s) = ltb s.key 16
 
-abbrev pub have_keys : List Entry → Bool
+abbrev pub have_keys : List LogEntry → Bool
 have_keys [] = true
 have_keys (e ∷ log) = has_key e.what.outcome.sense && have_keys log
 

@@ -4,6 +4,7 @@ ghost use Rattle.std.specs.Prelude.{◌≡◌, ◌+◌, ◌*◌, ◌≤◌, ◌<
 ghost use Rattle.rig_api.specs.Log.{capacity_by, capacity_len, frames_done, labels_of, moved_by, moved_of};
 ghost use Rattle.target_answer.specs.Frames.{sent_size};
 ghost use Rattle.target_answer.specs.Requests.{blocks_of, transferred};
+ghost use Rattle.pi_tuple.specs.declared.TheConstants.{TUPLE, LARGEST_BLOCK};
 
 use crate::{Outcome, Record};
 use arrayvec::ArrayVec;
@@ -43,24 +44,24 @@ pub fn front<T>(all: &[T], count: usize) -> &[T]
 
 fn sent_size(protect: u8, size: u32) -> usize
     ensures value { result ≡ sent_size protect size }
-    ensures bound { result ≤ size + 8 }
+    ensures bound { result ≤ size + TUPLE }
 {
     let size = size as usize;
     if protect == 0 { size } else { size + 8 }
 }
 
 fn frames_done<'a>(size: u32, c: Rw, done: u32, buffer: &'a [u8]) -> &'a [u8]
-    requires { size ≤ 4096 }
+    requires { size ≤ LARGEST_BLOCK }
     ensures value { result.now ≡ frames_done size c done buffer.now }
-    ensures bound { length result.now ≤ (size + 8) * c.n }
+    ensures bound { length result.now ≤ (size + TUPLE) * c.n }
 {
     front(buffer, done.min(c.n) as usize * sent_size(c.protect, size))
 }
 
 fn moved_by<'a>(size: u32, request: Request, done: u32, out: &'a [u8], into: &'a [u8]) -> &'a [u8]
-    requires { size ≤ 4096 }
+    requires { size ≤ LARGEST_BLOCK }
     ensures value { result.now ≡ moved_by size request done out.now into.now }
-    ensures bound { length result.now ≤ (size + 8) * transferred request + capacity_by request (length into.now) }
+    ensures bound { length result.now ≤ (size + TUPLE) * transferred request + capacity_by request (length into.now) }
 {
     match request {
         Request::Read(c) => frames_done(size, c, done, into),
@@ -79,9 +80,9 @@ pub fn moved_frames<'a>(
     out: &'a [u8],
     into: &'a [u8],
 ) -> &'a [u8]
-    requires { size ≤ 4096 }
+    requires { size ≤ LARGEST_BLOCK }
     ensures value { result.now ≡ moved_of size cdb.now outcome out.now into.now }
-    ensures bound { length result.now ≤ (size + 8) * blocks_of cdb.now + capacity_len cdb.now (length into.now) }
+    ensures bound { length result.now ≤ (size + TUPLE) * blocks_of cdb.now + capacity_len cdb.now (length into.now) }
 {
     match Cdb::decode(cdb) {
         Ok(command) => moved_by(size, request_of(command), outcome.done, out, into),

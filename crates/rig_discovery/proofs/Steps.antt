@@ -2,23 +2,23 @@
 use Rattle.std.proofs.Common.{ℕ, zero, suc, ◌≡◌, ◌+◌, ◌^◌, ◌-◌, ◌<◌, List, [], ◌∷◌, ◌++◌, length, take, Option, Some, None, refl, sym, ap, ◌∙◌, arith, append_assoc, length-append}
 use Rattle.std.specs.Prelude.{map, slice_index_or}
 use Rattle.target_answer.specs.declared.units.UnitSpec.{UnitSpec}
-use Rattle.rig_api.specs.Log.{Entry, HasRoom, Room}
+use Rattle.rig_api.specs.Log.{LogEntry, HasRoom, Room}
 use Rattle.rig_api.specs.Telling.{Standing, no_spec, spec_at}
 use Rattle.rig_api.specs.declared.rig.Outcome.{Outcome}
 use Rattle.volume_table.specs.declared.device.DeviceInfo.{DeviceInfo}
 use Rattle.rig_discovery.specs.Answers.{told_by}
-use Rattle.rig_discovery.specs.Discovery.{Answer, Ends, Spent, all_told, entry_of_look, info_of, looks, told, with_info}
+use Rattle.rig_discovery.specs.Discovery.{LookAnswer, Ends, Spent, all_told, entry_of_look, info_of, looks, told, with_info}
 
 pub asked_is : (s s' : Standing) (dev first size : ℕ) (o : Outcome) (bytes : List ℕ) (result : Option DeviceInfo) → s' ≡ s → first ≡ (spec_at s' dev).first → size ≡ (spec_at s' dev).size → result ≡ told_by first size o bytes →
     result ≡ told_by (spec_at s dev).first (spec_at s dev).size o bytes
 asked_is s s' dev first size o bytes result e f z r =
     r ∙ ap (λ n. told_by n size o bytes) (f ∙ ap (λ (v : Standing). (spec_at v dev).first) e) ∙ ap (λ n. told_by (spec_at s dev).first n o bytes) (z ∙ ap (λ (v : Standing). (spec_at v dev).size) e)
 
-looks_more : (s : Standing) (d k : ℕ) (xs : List Answer) (a : Answer) → k ≡ d + length xs → looks s d (xs ++ (a ∷ [])) ≡ looks s d xs ++ (entry_of_look s k a ∷ [])
+looks_more : (s : Standing) (d k : ℕ) (xs : List LookAnswer) (a : LookAnswer) → k ≡ d + length xs → looks s d (xs ++ (a ∷ [])) ≡ looks s d xs ++ (entry_of_look s k a ∷ [])
 looks_more s d k [] a e = let n : d ≡ k = omega arith in rw n refl
-looks_more s d k (b ∷ xs) a e = ap (λ (v : List Entry). entry_of_look s d b ∷ v) (looks_more s (d + 1) k xs a (omega arith))
+looks_more s d k (b ∷ xs) a e = ap (λ (v : List LogEntry). entry_of_look s d b ∷ v) (looks_more s (d + 1) k xs a (omega arith))
 
-all_more : (s : Standing) (d k : ℕ) (xs : List Answer) (a : Answer) (found : List DeviceInfo) (i : DeviceInfo) → k ≡ d + length xs → all_told s d xs ≡ Some found → told s k a ≡ Some i → all_told s d (xs ++ (a ∷ [])) ≡ Some (found ++ (i ∷ []))
+all_more : (s : Standing) (d k : ℕ) (xs : List LookAnswer) (a : LookAnswer) (found : List DeviceInfo) (i : DeviceInfo) → k ≡ d + length xs → all_told s d xs ≡ Some found → told s k a ≡ Some i → all_told s d (xs ++ (a ∷ [])) ≡ Some (found ++ (i ∷ []))
 all_more s d k [] a found i e h t = let n : d ≡ k = omega arith in let f : found ≡ [] = cc in rw (n, t, f) refl
 all_more s d k (b ∷ xs) a found i e h t = more (told s d b) (all_told s (d + 1) xs) h (λ rest r. all_more s (d + 1) k xs a rest i (omega arith) r t)
   where
@@ -29,22 +29,22 @@ all_more s d k (b ∷ xs) a found i e h t = more (told s d b) (all_told s (d + 1
     more (Some y) (Some v) p f = let q : found ≡ y ∷ v = cc in rw (f v refl, q) refl
 
 -- the looks so far
-pub record SoFar (s : Standing) (dev : ℕ) (found : List DeviceInfo) (old new : List Entry) : Type 0 where
-  pub answers : List Answer
+pub record SoFar (s : Standing) (dev : ℕ) (found : List DeviceInfo) (old new : List LogEntry) : Type 0 where
+  pub answers : List LookAnswer
   pub each : length answers ≡ dev
   pub log : new ≡ old ++ looks s 0 answers
   pub told : all_told s 0 answers ≡ Some found
 
-log_more : (s : Standing) (dev : ℕ) (xs : List Answer) (a : Answer) (old mid new : List Entry) → length xs ≡ dev → mid ≡ old ++ looks s 0 xs → new ≡ mid ++ (entry_of_look s dev a ∷ []) → new ≡ old ++ (looks s 0 xs ++ (entry_of_look s dev a ∷ []))
-log_more s dev xs a old mid new n p q = q ∙ ap (λ (v : List Entry). v ++ (entry_of_look s dev a ∷ [])) p ∙ append_assoc old (looks s 0 xs) (entry_of_look s dev a ∷ [])
+log_more : (s : Standing) (dev : ℕ) (xs : List LookAnswer) (a : LookAnswer) (old mid new : List LogEntry) → length xs ≡ dev → mid ≡ old ++ looks s 0 xs → new ≡ mid ++ (entry_of_look s dev a ∷ []) → new ≡ old ++ (looks s 0 xs ++ (entry_of_look s dev a ∷ []))
+log_more s dev xs a old mid new n p q = q ∙ ap (λ (v : List LogEntry). v ++ (entry_of_look s dev a ∷ [])) p ∙ append_assoc old (looks s 0 xs) (entry_of_look s dev a ∷ [])
 
-pub one_more : (s : Standing) (dev : ℕ) (found : List DeviceInfo) (i : DeviceInfo) (old mid new : List Entry) (result : Option DeviceInfo) → SoFar s dev found old mid → (a : Answer) × (result ≡ told s dev a) × (new ≡ mid ++ (entry_of_look s dev a ∷ [])) → result ≡ Some i → SoFar s (dev + 1) (found ++ (i ∷ [])) old new
+pub one_more : (s : Standing) (dev : ℕ) (found : List DeviceInfo) (i : DeviceInfo) (old mid new : List LogEntry) (result : Option DeviceInfo) → SoFar s dev found old mid → (a : LookAnswer) × (result ≡ told s dev a) × (new ≡ mid ++ (entry_of_look s dev a ∷ [])) → result ≡ Some i → SoFar s (dev + 1) (found ++ (i ∷ [])) old new
 one_more s dev found i old mid new result so asked r =
     let n : dev ≡ 0 + length so.answers = omega (arith, so.each) in
     record {
       answers = so.answers ++ (asked.0 ∷ []);
       each = length-append so.answers (asked.0 ∷ []) ∙ omega (arith, so.each);
-      log = log_more s dev so.answers asked.0 old mid new so.each so.log asked.2 ∙ ap (λ (v : List Entry). old ++ v) (sym (looks_more s 0 dev so.answers asked.0 n));
+      log = log_more s dev so.answers asked.0 old mid new so.each so.log asked.2 ∙ ap (λ (v : List LogEntry). old ++ v) (sym (looks_more s 0 dev so.answers asked.0 n));
       told = all_more s 0 dev so.answers asked.0 found i n so.told (sym asked.1 ∙ r);
     }
 

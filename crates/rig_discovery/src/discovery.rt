@@ -6,7 +6,7 @@ ghost use Rattle.rig_api.specs.Telling.{greatest_size, spec_at, specs_of};
 ghost use Rattle.rig_api.specs.State.{Stays};
 ghost use Rattle.answered_record.specs.Answered.{Answers};
 ghost use Rattle.target_answer.specs.Target.{Stored};
-ghost use Rattle.rig_discovery.specs.Discovery.{Answer, Ends, HasFault, HasFound, Spent, entry_of_look, info_of, told};
+ghost use Rattle.rig_discovery.specs.Discovery.{LookAnswer, Ends, HasFault, HasFound, Spent, entry_of_look, info_of, told};
 
 use crate::answer::told_by;
 use arrayvec::ArrayVec;
@@ -27,7 +27,7 @@ const LOOK: [u8; 16] = [0x9E, 0x10, 0, 0, 0, 0, 0, 0, 0, 0, 0, 0, 0, 32, 0, 0];
 fn ask<R: Rig>(rig: &mut R, dev: u32) -> Option<DeviceInfo>
     requires device { dev < (R.state rig.old).standing.devices }
     requires room { HasRoom (greatest_size (R.state rig.old).standing) 1 0 (R.state rig.old).room }
-    ensures asked { (a : Answer) × (result ≡ told (R.state rig.old).standing dev a) × ((R.state rig.new).log ≡ (R.state rig.old).log ++ (entry_of_look (R.state rig.old).standing dev a ∷ [])) }
+    ensures asked { (a : LookAnswer) × (result ≡ told (R.state rig.old).standing dev a) × ((R.state rig.new).log ≡ (R.state rig.old).log ++ (entry_of_look (R.state rig.old).standing dev a ∷ [])) }
     ensures told { is_some (R.state rig.old).units ≡ true → result ≡ Some (info_of (spec_at (R.state rig.old).standing dev)) }
     ensures end { IfSome result (λ i. i.first + i.blocks < 2 ^ 64) }
     ensures answered { (us : List Stored) → (R.state rig.old).units ≡ Some us → Answers us (R.state rig.old) (R.state rig.new) }

@@ -2,10 +2,10 @@ use Rattle.std.specs.Prelude.{ℕ, suc, ◌≡◌, ◌+◌, ◌-◌, ◌^◌, �
 use Rattle.std.proofs.Common.{sym, ap, subst, ◌∙◌}
 use Rattle.std.specs.Global.{Vec}
 use Rattle.fault_schedule.specs.declared.Label.{Label}
-use Rattle.rig_api.specs.Log.{Entry, has_key, have_keys}
+use Rattle.rig_api.specs.Log.{LogEntry, has_key, have_keys}
 use Rattle.rig_log.specs.declared.kept.Kept.{Kept}
 
-abbrev pub entry : List Label → List ℕ → Kept → Entry
+abbrev pub entry : List Label → List ℕ → Kept → LogEntry
 entry labels moved k = record {
   what = k.what;
   labels = take k.labels_len (drop k.labels_at labels);
@@ -13,7 +13,7 @@ entry labels moved k = record {
 }
 
 -- the entries of the records that are kept, whose labels and moved bytes are parts of the two lists
-abbrev pub entries : List Label → List ℕ → List Kept → List Entry
+abbrev pub entries : List Label → List ℕ → List Kept → List LogEntry
 entries labels moved [] = []
 entries labels moved (k ∷ ks) = entry labels moved k ∷ entries labels moved ks
 

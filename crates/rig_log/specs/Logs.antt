@@ -1,10 +1,10 @@
 use Rattle.std.specs.Prelude.{List}
-use Rattle.rig_api.specs.Log.{Entry, Room}
+use Rattle.rig_api.specs.Log.{LogEntry, Room}
 use Rattle.rig_log.specs.Entries.{entries, spare}
 use Rattle.rig_log.specs.declared.log.Log.{Log}
 
 -- what a log holds
-abbrev pub logged : Log → List Entry
+abbrev pub logged : Log → List LogEntry
 logged l = entries l.labels.items l.moved.items l.kept.items
 
 -- the further records, labels and moved bytes for which it has room

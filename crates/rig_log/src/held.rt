@@ -4,6 +4,7 @@ ghost use Rattle.std.specs.Prelude.{◌≡◌, ◌+◌, ◌≤◌, ◌<◌, ◌+
 ghost use Rattle.rig_log.specs.Entries.{spare};
 ghost use Rattle.rig_log.specs.Logs.{logged, room_in};
 ghost use Rattle.rig_api.specs.Log.{HasRoom, entry_at, has_key};
+ghost use Rattle.pi_tuple.specs.declared.TheConstants.{LARGEST_BLOCK};
 
 use crate::kept::Kept;
 use crate::log::Log;
@@ -60,7 +61,7 @@ impl Log {
     /// Takes the memory for so many further exchanges of together so many blocks of at most this
     /// size. The number of records stays below 2^32, so room for more of them is refused.
     pub fn reserve(&mut self, size: u32, exchanges: u32, blocks: u32) -> Result<(), AllocError>
-        requires { size ≤ 4096 }
+        requires { size ≤ LARGEST_BLOCK }
         ensures room { OnOk result (HasRoom size exchanges blocks (room_in self.new)) }
         ensures log { logged self.new ≡ logged self.old }
     {

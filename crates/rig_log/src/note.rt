@@ -4,6 +4,7 @@ ghost use Rattle.std.specs.Prelude.{◌≡◌, ◌+◌, ◌≤◌, ◌++◌, [],
 ghost use Rattle.rig_log.specs.Logs.{logged, room_in};
 ghost use Rattle.rig_api.specs.Log.{HasRoom, capacity_len, entry_of, has_key, labels_len, moved_len};
 ghost use Rattle.target_answer.specs.Requests.{blocks_of};
+ghost use Rattle.pi_tuple.specs.declared.TheConstants.{LARGEST_BLOCK};
 
 use crate::log::Log;
 use fault_schedule::Label;
@@ -22,7 +23,7 @@ impl Log {
         out: &[u8],
         into: &[u8],
     )
-        requires size { size ≤ 4096 }
+        requires size { size ≤ LARGEST_BLOCK }
         requires short { length cdb.now ≤ 32 }
         requires key { has_key outcome.sense ≡ true }
         requires room { HasRoom size 1 (blocks_of cdb.now) (room_in self.old) }

@@ -11,7 +11,7 @@ use Rattle.block_path.specs.Acts.{State}
 use Rattle.block_path.specs.Blocks.{Sent}
 use Rattle.block_path.specs.Moves.{hidden}
 use Rattle.dix_adapter.specs.Ways.{blocks_told}
-use Rattle.rig_api.specs.Log.{Entry}
+use Rattle.rig_api.specs.Log.{LogEntry}
 use Rattle.target_answer.specs.Target.{Stored}
 use Rattle.stack_ops.specs.declared.op.Op.{Op}
 use Rattle.stack_ops.specs.declared.op.Op.TheVariants.{Write, WritePi}
@@ -59,13 +59,13 @@ all-own s us =
     (subst (λ (k : ℕ). take {A = ℕ} k (replicate (4096 * s.pages) 0) ≡ replicate (4096 * s.pages) 0) (length-replicate {A = ℕ} (4096 * s.pages) 0) (take-length {A = ℕ} (replicate (4096 * s.pages) 0)))
 
 -- the end of a run of this script
-abbrev pub Ends : Script → Table → (us left : List Stored) → (pool : List (List ℕ)) → List Entry → List Reply → List Op → Type 0
+abbrev pub Ends : Script → Table → (us left : List Stored) → (pool : List (List ℕ)) → List LogEntry → List Reply → List Op → Type 0
 Ends s t us left pool log replies ops = EndsAsFalling (setting_told s t us) (4096 * s.pages) ops (opening_told s us) (take (4096 * s.pages) (flat pool)) (blocks_told left) replies (recorded (setting_told s t us) log)
 
 quiet_run : (s : Script) (t : Table) (us : List Stored) → IsBoundOver s t us → All (All (λ x. x < 256)) (blocks_told us) → IsQuietRun s t us → IsFallingRun (setting_told s t us) s.ops (hidden (4096 * s.pages) (opening_told s us))
 quiet_run s t us b bytes q = falling-run s t us b q.faults q.overwrites bytes q.clean
 
-all_read : (s : Script) (t : Table) (us left : List Stored) (pool : List (List ℕ)) (log : List Entry) (replies : List Reply) → ReadsFallLaw → IsBoundOver s t us → All (All (λ x. x < 256)) (blocks_told us) → IsQuietRun s t us → (e : Ends s t us left pool log replies s.ops) →
+all_read : (s : Script) (t : Table) (us left : List Stored) (pool : List (List ℕ)) (log : List LogEntry) (replies : List Reply) → ReadsFallLaw → IsBoundOver s t us → All (All (λ x. x < 256)) (blocks_told us) → IsQuietRun s t us → (e : Ends s t us left pool log replies s.ops) →
     AllReadOrFail (setting_told s t us) e.falls s.ops (opening_told s us) replies
 all_read s t us left pool log replies law b bytes q e before after owner v n k body tuples is l =
     let m = setting_told s t us in
@@ -75,7 +75,7 @@ all_read s t us left pool log replies law b bytes q e before after owner v n k b
     (λ x run. law m (4096 * s.pages) before after owner v n k body tuples (opening_told s us) (take (4096 * s.pages) (flat pool)) (blocks_told left) replies (recorded m log) run room l x)
     e (quiet_run s t us b bytes q))
 
-all_write : (s : Script) (t : Table) (us left : List Stored) (pool : List (List ℕ)) (log : List Entry) (replies : List Reply) → OwnFallLaw → BroughtFallLaw → IsBoundOver s t us → All (All (λ x. x < 256)) (blocks_told us) → IsQuietRun s t us → (e : Ends s t us left pool log replies s.ops) →
+all_write : (s : Script) (t : Table) (us left : List Stored) (pool : List (List ℕ)) (log : List LogEntry) (replies : List Reply) → OwnFallLaw → BroughtFallLaw → IsBoundOver s t us → All (All (λ x. x < 256)) (blocks_told us) → IsQuietRun s t us → (e : Ends s t us left pool log replies s.ops) →
     AllWriteOrFail (setting_told s t us) e.falls s.ops (opening_told s us) replies
 all_write s t us left pool log replies own brought b bytes q e =
     let m = setting_told s t us in
@@ -90,7 +90,7 @@ all_write s t us left pool log replies own brought b bytes q e =
           e (quiet_run s t us b bytes q) found;
     }
 
-pub served : (s : Script) (t : Table) (us left : List Stored) (pool : List (List ℕ)) (log : List Entry) (replies : List Reply) → ReadsFallLaw → OwnFallLaw → BroughtFallLaw → IsBoundOver s t us → All (All (λ x. x < 256)) (blocks_told us) → IsQuietRun s t us → Ends s t us left pool log replies s.ops → HasServed s t us left pool log replies
+pub served : (s : Script) (t : Table) (us left : List Stored) (pool : List (List ℕ)) (log : List LogEntry) (replies : List Reply) → ReadsFallLaw → OwnFallLaw → BroughtFallLaw → IsBoundOver s t us → All (All (λ x. x < 256)) (blocks_told us) → IsQuietRun s t us → Ends s t us left pool log replies s.ops → HasServed s t us left pool log replies
 served s t us left pool log replies reads own brought b bytes q e = record {
   ends = e;
   reads = all_read s t us left pool log replies reads b bytes q e;

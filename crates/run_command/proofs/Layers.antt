@@ -13,7 +13,7 @@ use Rattle.bio_core.specs.declared.fate.Why.TheVariants.{Adapter, App, Block as 
 use Rattle.target_answer.specs.Passing.{from_medium, to_medium}
 use Rattle.block_path.specs.declared.route.Route.{Route}
 use Rattle.block_path.specs.Acts.{Act, Effect, State, act, effect, tell}
-use Rattle.block_path.specs.Blocks.{Answer, read_by, written_by}
+use Rattle.block_path.specs.Blocks.{ActAnswer, read_by, written_by}
 use Rattle.block_path.specs.Routes.{Device, by_target, passage, target}
 use Rattle.block_path.specs.Serial.{plain, plain_tells}
 use Rattle.block_path.specs.WayIn.{Delivers, Spoils, Stops, WayIn, at_host, delivered_unless, from_device, from_wire, mapped_back, owner_finds, verified, way_in}
@@ -132,24 +132,24 @@ whole-or-faults : (bad : List BadBlock) → All (λ (b : BadBlock). is_fault b.w
 whole-or-faults [] h = tt
 whole-or-faults (b ∷ bad) h = h
 
-shown-layers : (answers : List Answer) → NamesLayers (shown_reply answers)
+shown-layers : (answers : List ActAnswer) → NamesLayers (shown_reply answers)
 shown-layers [] = tt
 shown-layers (a ∷ answers) = tt
 
-shown-faults : (answers : List Answer) → NamesFaults (shown_reply answers)
+shown-faults : (answers : List ActAnswer) → NamesFaults (shown_reply answers)
 shown-faults [] = tt
 shown-faults (a ∷ answers) = tt
 
-abbrev whys_of : List Answer → List (Option Why)
-whys_of answers = map (λ (a : Answer). a.why) answers
+abbrev whys_of : List ActAnswer → List (Option Why)
+whys_of answers = map (λ (a : ActAnswer). a.why) answers
 
-requested-layers : (answers : List Answer) → All (Finds is_finding) (whys_of answers) → NamesLayers (whole_or_bad (bad_from 0 (whys_of answers)))
+requested-layers : (answers : List ActAnswer) → All (Finds is_finding) (whys_of answers) → NamesLayers (whole_or_bad (bad_from 0 (whys_of answers)))
 requested-layers answers h = whole-or-layers _ (listed is_finding 0 (whys_of answers) h)
 
-requested-faults : (answers : List Answer) → All (Finds is_fault) (whys_of answers) → NamesFaults (whole_or_bad (bad_from 0 (whys_of answers)))
+requested-faults : (answers : List ActAnswer) → All (Finds is_fault) (whys_of answers) → NamesFaults (whole_or_bad (bad_from 0 (whys_of answers)))
 requested-faults answers h = whole-or-faults _ (listed is_fault 0 (whys_of answers) h)
 
-replied-layers : (op : Op) (answers : List Answer) → All (Finds is_finding) (whys_of answers) → NamesLayers (reply_of false op answers)
+replied-layers : (op : Op) (answers : List ActAnswer) → All (Finds is_finding) (whys_of answers) → NamesLayers (reply_of false op answers)
 replied-layers (Fill seg byte) answers h = tt
 replied-layers (Put page off bytes) answers h = tt
 replied-layers (Show seg) answers h = shown-layers answers
@@ -161,7 +161,7 @@ replied-layers (FetchPi v n body tuples) answers h = requested-layers answers h
 replied-layers (Overwrite dev lba change) answers h = tt
 replied-layers Wait answers h = tt
 
-replied-faults : (fails : Bool) (op : Op) (answers : List Answer) → All (Finds is_fault) (whys_of answers) → NamesFaults (reply_of fails op answers)
+replied-faults : (fails : Bool) (op : Op) (answers : List ActAnswer) → All (Finds is_fault) (whys_of answers) → NamesFaults (reply_of fails op answers)
 replied-faults fails (Fill seg byte) answers h = tt
 replied-faults fails (Put page off bytes) answers h = tt
 replied-faults fails (Show seg) answers h = shown-faults answers
@@ -175,7 +175,7 @@ replied-faults true (Overwrite dev lba change) answers h = tt
 replied-faults fails Wait answers h = tt
 
 -- what each act answers in turn
-each-finds : (ok : Why → Bool) (does : Step → Act Answer) → ((step : Step) (s : State) → Finds ok (tell (does step) s).why) → (steps : List Step) (s : State) → All (Finds ok) (whys_of (plain_tells act tell (map does steps) s))
+each-finds : (ok : Why → Bool) (does : Step → Act ActAnswer) → ((step : Step) (s : State) → Finds ok (tell (does step) s).why) → (steps : List Step) (s : State) → All (Finds ok) (whys_of (plain_tells act tell (map does steps) s))
 each-finds ok does h [] s = λ i d l. absurd (omega arith)
 each-finds ok does h (step ∷ steps) s =
     All-cons (Finds ok) (tell (does step) s).why (whys_of (plain_tells act tell (map does steps) (act (does step) s))) (h step s) (each-finds ok does h steps (act (does step) s))
@@ -215,7 +215,7 @@ module _ (m : Setting) (faults : List FaultLine) (told : m.site.device ≡ targe
 -- ---- the walk in which store calls fail
 
 -- what a failed call leaves is nothing to what is answered
-same-answer : (why : Option Why) (left : List ℕ) (e : Effect Answer) → (left_by why left e).answer ≡ e.answer
+same-answer : (why : Option Why) (left : List ℕ) (e : Effect ActAnswer) → (left_by why left e).answer ≡ e.answer
 same-answer None left e = refl
 same-answer (Some (Adapter check)) left e = refl
 same-answer (Some (Target check)) left e = refl
@@ -238,7 +238,7 @@ module _ (m : Setting) (faults : List FaultLine) (told : m.site.device ≡ targe
   fallen-finds : (step : Step) (left : List ℕ) (s : State) → Finds is_fault (tell (fallen m left step) s).why
   fallen-finds step left s =
       let a = act_of (over_failing m) step in
-      subst (Finds is_fault) (sym (ap (λ (x : Answer). x.why) (same-answer (tell a s).why left (effect a s)))) (step-finds is_fault faults-checks (over_failing m) failing-answers step s)
+      subst (Finds is_fault) (sym (ap (λ (x : ActAnswer). x.why) (same-answer (tell a s).why left (effect a s)))) (step-finds is_fault faults-checks (over_failing m) failing-answers step s)
 
   or-fallen-finds : (step : Step) (o : Option (List ℕ)) (s : State) → Finds is_fault (tell (or_fallen m step o) s).why
   or-fallen-finds step None s = step-finds is_fault faults-checks m fault-answers step s
@@ -267,11 +267,11 @@ whole-no-medium : (bad : List BadBlock) → is_medium (whole_or_bad bad) ≡ fal
 whole-no-medium [] = refl
 whole-no-medium (b ∷ bad) = refl
 
-shown-no-medium : (answers : List Answer) → is_medium (shown_reply answers) ≡ false
+shown-no-medium : (answers : List ActAnswer) → is_medium (shown_reply answers) ≡ false
 shown-no-medium [] = refl
 shown-no-medium (a ∷ answers) = refl
 
-op-no-medium : (fails : Bool) (op : Op) (answers : List Answer) → is_overwrite op ≡ false → is_medium (reply_of fails op answers) ≡ false
+op-no-medium : (fails : Bool) (op : Op) (answers : List ActAnswer) → is_overwrite op ≡ false → is_medium (reply_of fails op answers) ≡ false
 op-no-medium fails (Fill seg byte) answers h = refl
 op-no-medium fails (Put page off bytes) answers h = refl
 op-no-medium fails (Show seg) answers h = shown-no-medium answers

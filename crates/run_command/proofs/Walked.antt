@@ -6,7 +6,7 @@ use Rattle.std.proofs.lemmas.Bool.{false≢true, or_parts}
 use Rattle.page_pool.specs.Cells.{flat}
 use Rattle.dix_base.specs.Told.{AreOctets}
 use Rattle.target_answer.specs.Target.{Stored}
-use Rattle.rig_api.specs.Log.{Entry, Room}
+use Rattle.rig_api.specs.Log.{LogEntry, Room}
 use Rattle.rig_api.specs.State.{RigState}
 use Rattle.answered_record.specs.Answered.{Answers}
 use Rattle.volume_table.specs.declared.device.DeviceInfo.{DeviceInfo}
@@ -118,7 +118,7 @@ RepliesLaw = (m : Setting) (ops : List Op) (opening : State) → IsCalmRun m ops
 abbrev pub UnderLaw : Type 0
 UnderLaw = (m : Setting) (ops : List Op) (opening : State) → IsCalmRun m ops opening → IsUnder m (plain_map m ops (opened m opening)) opening.blocks (script_walk m ops opening)
 
-plain_of : (s : Script) (t : Table) (us left : List Stored) (pool : List (List ℕ)) (log : List Entry) (replies : List Reply) → RepliesLaw → UnderLaw → IsCalmRun (setting_told s t us) s.ops (opening_told s us) → HasWalked s t us left pool log replies →
+plain_of : (s : Script) (t : Table) (us left : List Stored) (pool : List (List ℕ)) (log : List LogEntry) (replies : List Reply) → RepliesLaw → UnderLaw → IsCalmRun (setting_told s t us) s.ops (opening_told s us) → HasWalked s t us left pool log replies →
     HasPlain s t us left pool replies
 plain_of s t us left pool log replies same under calm w =
     let u = under (setting_told s t us) s.ops (opening_told s us) calm in
@@ -167,7 +167,7 @@ names_faults s t devices begun r old new law o us e =
     (names-faults (setting_of s t (shapes_of us) (failed_in r.replies.items)) s.faults refl (of_blocks f.ends.falls) 1 (with_flips f.flips 1 s.ops) (hidden (4096 * s.pages) (opening_told s us)))
 
 -- without overwrites none fails: the replies are those of a walk by the records
-none_failed : (s : Script) (t : Table) (devices : List DeviceInfo) (log : List Entry) (replies : List Reply) → list_any is_overwrite s.ops ≡ false → IsBackedBy s t devices log replies → NoneFailed replies
+none_failed : (s : Script) (t : Table) (devices : List DeviceInfo) (log : List LogEntry) (replies : List Reply) → list_any is_overwrite s.ops ≡ false → IsBackedBy s t devices log replies → NoneFailed replies
 none_failed s t devices log replies none backed i =
     let m = setting_of s t (map unit_of devices) (failed_in replies) in
     ap (λ (rs : List Reply). is_medium (get_or rs i Silent)) (backed []).checked ∙ none-medium (told m (recorded m log)) 1 s.ops (opening_of s (map unit_of devices) []) none i
@@ -196,7 +196,7 @@ none_fails_in : (replies : List Reply) → NoneFailed replies → (i : ℕ) → 
 none_fails_in replies none zero = refl
 none_fails_in replies none (suc i) = none i
 
-quiet_ends : (s : Script) (t : Table) (us left : List Stored) (pool : List (List ℕ)) (log : List Entry) (replies : List Reply) → list_any is_overwrite s.ops ≡ false → NoneFailed replies → HasFallen s t us left pool log replies → Ends s t us left pool log replies s.ops
+quiet_ends : (s : Script) (t : Table) (us left : List Stored) (pool : List (List ℕ)) (log : List LogEntry) (replies : List Reply) → list_any is_overwrite s.ops ≡ false → NoneFailed replies → HasFallen s t us left pool log replies → Ends s t us left pool log replies s.ops
 quiet_ends s t us left pool log replies none silent h =
     let pages = take (4096 * s.pages) (flat pool) in
     let opening = opening_told s us in

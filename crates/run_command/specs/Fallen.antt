@@ -5,7 +5,7 @@ use Rattle.page_pool.specs.declared.segs.Seg.{Seg}
 use Rattle.integrity_payload.specs.declared.payload.Owner.{Owner}
 use Rattle.block_path.specs.Acts.{State}
 use Rattle.dix_adapter.specs.Ways.{blocks_told}
-use Rattle.rig_api.specs.Log.{Entry}
+use Rattle.rig_api.specs.Log.{LogEntry}
 use Rattle.target_answer.specs.Target.{Stored}
 use Rattle.stack_ops.specs.declared.op.Op.{Op}
 use Rattle.stack_ops.specs.declared.op.Op.TheVariants.{Write, WritePi}
@@ -20,6 +20,7 @@ use Rattle.run_follows.specs.AtTheEnd.{EndsAsFalling, IsWrittenOrFails, ReadsOrF
 use Rattle.run_follows.specs.Falls.{Falls, of_blocks}
 use Rattle.script_text.specs.declared.script.Script.{Script}
 use Rattle.run_command.specs.Premises.{opening_told, setting_told}
+use Rattle.page_pool.specs.declared.TheConstants.{PAGE}
 
 -- Each block of each read is listed for the medium, or it isn't listed and lands as the last accepted write, unless it is lost.
 abbrev pub AllReadOrFail : Setting → Falls → List Op → State → List Reply → Type 0
@@ -32,7 +33,7 @@ pub record AllWriteOrFail (m : Setting) (falls : Falls) (ops : List Op) (opening
   pub brought : (before after : List Op) (v n k : ℕ) (body tuples : List Seg) → ops ≡ before ++ (WritePi v n body tuples ∷ after) → k < n → finds_then m (of_blocks falls) before v body tuples opening k ≡ None → IsWrittenOrFails (length before) replies k
 
 -- Replies, pages and stored blocks are those of the script's ops done one after another, but for the store calls that failed, and the records hold what these carry. A block of a read that isn't lost, and one of a write that the plain map accepts, fails at the medium alone.
-pub record HasServed (script : Script) (table : Table) (us left : List Stored) (pool : List (List ℕ)) (log : List Entry) (replies : List Reply) : Type 0 where
-  pub ends : EndsAsFalling (setting_told script table us) (4096 * script.pages) script.ops (opening_told script us) (take (4096 * script.pages) (flat pool)) (blocks_told left) replies (recorded (setting_told script table us) log)
+pub record HasServed (script : Script) (table : Table) (us left : List Stored) (pool : List (List ℕ)) (log : List LogEntry) (replies : List Reply) : Type 0 where
+  pub ends : EndsAsFalling (setting_told script table us) (PAGE * script.pages) script.ops (opening_told script us) (take (PAGE * script.pages) (flat pool)) (blocks_told left) replies (recorded (setting_told script table us) log)
   pub reads : AllReadOrFail (setting_told script table us) ends.falls script.ops (opening_told script us) replies
   pub writes : AllWriteOrFail (setting_told script table us) ends.falls script.ops (opening_told script us) replies

@@ -54,6 +54,7 @@ use Rattle.run_command.specs.Premises.{IsDetectableRun, IsFormedRun, IsPlainRun,
 use Rattle.call_refusal.specs.declared.refusal.Refusal.{Refusal}
 use Rattle.call_refusal.specs.declared.refusal.Refusal.TheVariants as refusal
 use Rattle.run_command.specs.declared.verdict.Finished.{Finished}
+use Rattle.page_pool.specs.declared.TheConstants.{PAGE}
 
 -- what a call speaks of: the name of the image, and the source and the rig, before and after
 pub record Facts : Type 0 where
@@ -145,7 +146,7 @@ pub record IsEnded (begun s : Stack) : Type 0 where
 -- Replies, pages and stored blocks are those of the script's ops on a plain map of virtual blocks, which knows no adapter, no target and no address; the stored blocks are the image under that map.
 pub record HasPlain (script : Script) (table : Table) (us left : List Stored) (pool : List (List ℕ)) (replies : List Reply) : Type 0 where
   pub replies_are : replies ≡ plain_replies (setting_told script table us) script.ops (opened (setting_told script table us) (opening_told script us))
-  pub pages : take (4096 * script.pages) (flat pool) ≡ (plain_map (setting_told script table us) script.ops (opened (setting_told script table us) (opening_told script us))).bytes
+  pub pages : take (PAGE * script.pages) (flat pool) ≡ (plain_map (setting_told script table us) script.ops (opened (setting_told script table us) (opening_told script us))).bytes
   pub blocks : blocks_told left ≡ under (setting_told script table us) 0 (plain_map (setting_told script table us) script.ops (opened (setting_told script table us) (opening_told script us))).map (blocks_told us)
 
 -- Block k of the read that follows these ops, by the replies of the run: it is listed exactly where there is a first layer that checks after a fault, with that layer and with the check that is found in the frame that arrives there. Else what lands is the last accepted write's: its data, and where an application takes tuples its tag. What is past and stored is told as it is when the op begins.

@@ -84,6 +84,7 @@ pub fn run_script<R: Rig>(
         schedule,
     } = run;
     run_all(&mut stack, schedule.as_slice(), rig);
+    // By laws.
     a_script_run_is_backed();
     a_told_script_run_has_walked();
     a_finished_stack_has_sent();

@@ -1,6 +1,6 @@
 -- The record of a finished stack.
 use Rattle.std.proofs.Common.{◌≡◌, ℕ, suc, Bool, true, List, [], ◌∷◌, refl, sym, ap, subst, ◌∙◌}
-use Rattle.rig_api.specs.Log.{Entry}
+use Rattle.rig_api.specs.Log.{LogEntry}
 use Rattle.stack_ops.specs.declared.op.Op.{Op}
 use Rattle.stack_ops.specs.declared.reply.Reply.{Reply}
 use Rattle.block_path.specs.Acts.{State}
@@ -33,14 +33,14 @@ module _ (m : Setting) (es : List Sent) where
       ap (λ steps. reply_of (m.fails i) op (answers_of 0 steps (status i)) ∷ replies_of (told m es) (suc i) ops status) (sym (steps_same m es i op))
       ∙ ap (λ (rs : List Reply). reply_of (m.fails i) op (answers_of 0 (steps_of m i op) (status i)) ∷ rs) (replies_over (suc i) ops status)
 
-pub is_backed : (m : Setting) (n : ℕ) (ops : List Op) (opening now : State) (status : ℕ → ℕ → Status) (log : List Entry) → let over = told m (recorded m log) in
+pub is_backed : (m : Setting) (n : ℕ) (ops : List Op) (opening now : State) (status : ℕ → ℕ → Status) (log : List LogEntry) → let over = told m (recorded m log) in
     IsBoundRun over (λ c block. true) n ops opening → AllEnded m 1 ops status → Follows over n ops opening status now (recorded m log) → Backed m ops (hidden n opening) log (replies_of m 1 ops status)
 is_backed m n ops opening now status log run ended h =
     let es = recorded m log in
     let w = ends_as_walk (told m es) (λ c block. true) n ops opening now status es run (ended_over m es 1 ops status ended) h in
     subst (IsBacked m ops (hidden n opening) es) (sym w.replies ∙ replies_over m es 1 ops status) (backs m ops (hidden n opening) es w.recorded)
 
-pub told_carried : (m : Setting) (fine : ℕ → List ℕ → Bool) (n : ℕ) (ops : List Op) (opening now : State) (status : ℕ → ℕ → Status) (log : List Entry) → IsBoundRun m fine n ops opening → AllEnded m 1 ops status →
+pub told_carried : (m : Setting) (fine : ℕ → List ℕ → Bool) (n : ℕ) (ops : List Op) (opening now : State) (status : ℕ → ℕ → Status) (log : List LogEntry) → IsBoundRun m fine n ops opening → AllEnded m 1 ops status →
     Follows m n ops opening status now (recorded m log) → Carried m ops (hidden n opening) log × Backed m ops (hidden n opening) log (replies_of m 1 ops status)
 told_carried m fine n ops opening now status log run ended h =
     let es = recorded m log in

@@ -18,7 +18,7 @@ use Rattle.stack_ops.specs.declared.op.Op.{Op}
 use Rattle.stack_ops.specs.declared.op.Op.TheVariants.{Fetch, FetchPi, Fill, Overwrite, Put, Seal, Show, Wait, Write, WritePi}
 use Rattle.block_path.specs.declared.route.Route.{Route}
 use Rattle.block_path.specs.Acts.{Act}
-use Rattle.block_path.specs.Blocks.{Answer}
+use Rattle.block_path.specs.Blocks.{ActAnswer}
 use Rattle.block_path.specs.Moves.{make_tuple, map_back, map_out, settle}
 use Rattle.whole_run.specs.Settings.{Setting, block_of, route}
 use Rattle.whole_run.specs.Steps.{Reads, Step, Writes, WritesPi, body_of, frame_at, steps_of, tuple_of}
@@ -32,16 +32,16 @@ use Rattle.run_follows.specs.Requests.{first_page, request_of}
 use Rattle.run_follows.proofs.OwnCells.{own_cells}
 
 -- the move that makes a block's tuple, where the block layer does
-abbrev pub made_by : Owner → Route → (app : ℕ) → (body tuple : List ℕ) → List (Act Answer)
+abbrev pub made_by : Owner → Route → (app : ℕ) → (body tuple : List ℕ) → List (Act ActAnswer)
 made_by OfBlock r app body tuple = make_tuple r app body tuple ∷ []
 made_by OfApp r app body tuple = []
 
-abbrev pub made_of : Dir → Option Payload → Route → (body : List ℕ) → (k : ℕ) → List (Act Answer)
+abbrev pub made_of : Dir → Option Payload → Route → (body : List ℕ) → (k : ℕ) → List (Act ActAnswer)
 made_of Read o r body k = []
 made_of WriteDir None r body k = []
 made_of WriteDir (Some pi) r body k = made_by pi.owner r pi.app body (tuple_at pi k)
 
-abbrev pub cut_of : Dir → Option Payload → Route → (k : ℕ) → List (Act Answer)
+abbrev pub cut_of : Dir → Option Payload → Route → (k : ℕ) → List (Act ActAnswer)
 cut_of Read o r k = []
 cut_of WriteDir None r k = []
 cut_of WriteDir (Some pi) r k = map_out r (tuple_at pi k) ∷ []
@@ -50,7 +50,7 @@ abbrev pub owner_of : Option Payload → Owner
 owner_of None = OfBlock
 owner_of (Some pi) = pi.owner
 
-abbrev pub settled_of : Dir → Option Payload → Route → (body : List ℕ) → (k fate : ℕ) → List (Act Answer)
+abbrev pub settled_of : Dir → Option Payload → Route → (body : List ℕ) → (k fate : ℕ) → List (Act ActAnswer)
 settled_of Read o r body k fate = settle r (owner_of o) (body ++ tuple_cells o k) fate ∷ []
 settled_of WriteDir None r body k fate = []
 settled_of WriteDir (Some pi) r body k fate = map_back r (tuple_at pi k) ∷ []

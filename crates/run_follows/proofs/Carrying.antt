@@ -7,7 +7,7 @@ use Rattle.page_pool.specs.Cells.{gather, scatter}
 use Rattle.bio_core.specs.declared.fate.Why.{Why}
 use Rattle.block_path.specs.declared.route.Route.{Route}
 use Rattle.block_path.specs.Acts.{Act, Effect, State, act, tell}
-use Rattle.block_path.specs.Blocks.{Answer, Sent, Site, fetched_cell, own_cell, silent, written_by}
+use Rattle.block_path.specs.Blocks.{ActAnswer, Sent, Site, fetched_cell, own_cell, silent, written_by}
 use Rattle.block_path.specs.Moves.{carried_in, carry_in, carry_out}
 use Rattle.block_path.specs.WayIn.{Delivers, Spoils, Stops, WayIn, comes_in}
 use Rattle.block_path.specs.WayOut.{Fails, Refuses, Stores, WayOut, goes_out}
@@ -55,12 +55,12 @@ writes_more s c (e ∷ es) fs =
     ap (put_frame take e.came) (writes_more s c es fs) ∙ put_frames take e.came (writes_at s c es) (writes_at s c fs)
 
 -- what a carried block leaves in the logs is what it puts on record
-pub record Logs (m : Setting) (a : Act Answer) (now : State) : Type 0 where
+pub record Logs (m : Setting) (a : Act ActAnswer) (now : State) : Type 0 where
   pub grows : (c : ℕ) → get_or (act a now).logs c [] ≡ get_or now.logs c [] ++ writes_at m.site c (put_sent (tell a now).sent [])
   pub room : length (act a now).logs ≡ length now.logs
 
 -- the same of what is written to these logs
-record Puts (m : Setting) (writes : List ℕ) (e : Effect Answer) (now : State) : Type 0 where
+record Puts (m : Setting) (writes : List ℕ) (e : Effect ActAnswer) (now : State) : Type 0 where
   grows : (c : ℕ) → get_or (scatter writes e.written.logs now.logs) c [] ≡ get_or now.logs c [] ++ writes_at m.site c (put_sent e.answer.sent [])
   room : length (scatter writes e.written.logs now.logs) ≡ length now.logs
 
@@ -103,27 +103,27 @@ step_logs m own fate (WritesPi b frame) now l = out_logs m (route m b) frame now
 step_logs m own fate (Reads b owner to) now l = in_logs m (route m b) (lands_in owner m.mode.dix to own) fate now
 step_logs m own fate (Alters dev lba change) now l = record { grows = λ c. sym (append-nil (get_or now.logs c [])); room = refl }
 
-get_last : (xs : List Answer) (t : Answer) (c : ℕ) → length xs ≡ c → get_or (xs ++ (t ∷ [])) c silent ≡ t
+get_last : (xs : List ActAnswer) (t : ActAnswer) (c : ℕ) → length xs ≡ c → get_or (xs ++ (t ∷ [])) c silent ≡ t
 get_last [] t c e = rw (← e) refl
 get_last (x ∷ xs) t zero e = absurd (omega (arith, e))
 get_last (x ∷ xs) t (suc c) e = get_last xs t c (omega (arith, e))
 
-get_nothing : (xs : List Answer) (c : ℕ) → length xs ≡ c → get_or xs c silent ≡ silent
+get_nothing : (xs : List ActAnswer) (c : ℕ) → length xs ≡ c → get_or xs c silent ≡ silent
 get_nothing [] c e = refl
 get_nothing (x ∷ xs) zero e = absurd (omega (arith, e))
 get_nothing (x ∷ xs) (suc c) e = get_nothing xs c (omega (arith, e))
 
 -- one answer more
-mixed_done : (a : Act Answer) (t : Answer) (done ds bs : Done) (es : List Sent) → done ≡ ds ++ (none_done (a ∷ []) ++ bs) → Mixed (sents_so_far done) es → Mixed (sents_so_far (ds ++ (all_done (t ∷ []) ++ bs))) (es ++ put_sent t.sent [])
+mixed_done : (a : Act ActAnswer) (t : ActAnswer) (done ds bs : Done) (es : List Sent) → done ≡ ds ++ (none_done (a ∷ []) ++ bs) → Mixed (sents_so_far done) es → Mixed (sents_so_far (ds ++ (all_done (t ∷ []) ++ bs))) (es ++ put_sent t.sent [])
 mixed_done a t done ds bs es e h =
     let before = ap sents_so_far e ∙ sents_before (a ∷ []) ds bs in
     let mixed = mixed_put t.sent (sents_so_far ds) (sents_so_far bs) es (subst (λ q. Mixed q es) before h) in
     subst (λ q. Mixed q (es ++ put_sent t.sent [])) (sym (sents_after (t ∷ []) ds bs)) mixed
 
 -- only the last answer puts something on record
-one_sent : (here : List Answer) (t : Answer) (c : ℕ) → length here ≡ c → sents here ≡ put_sent (get_or here c silent).sent [] → sents (here ++ (t ∷ [])) ≡ put_sent (get_or (here ++ (t ∷ [])) c silent).sent []
+one_sent : (here : List ActAnswer) (t : ActAnswer) (c : ℕ) → length here ≡ c → sents here ≡ put_sent (get_or here c silent).sent [] → sents (here ++ (t ∷ [])) ≡ put_sent (get_or (here ++ (t ∷ [])) c silent).sent []
 one_sent here t c l e =
-    sents_both here (t ∷ []) ∙ ap (λ q. q ++ put_sent t.sent []) (e ∙ ap (λ (r : Answer). put_sent r.sent []) (get_nothing here c l)) ∙ ap (λ (r : Answer). put_sent r.sent []) (sym (get_last here t c l))
+    sents_both here (t ∷ []) ∙ ap (λ q. q ++ put_sent t.sent []) (e ∙ ap (λ (r : ActAnswer). put_sent r.sent []) (get_nothing here c l)) ∙ ap (λ (r : ActAnswer). put_sent r.sent []) (sym (get_last here t c l))
 
 pub carried : (m : Setting) (n : ℕ) (s : Spot) (opening now : State) (old new : ℕ → ℕ → Status) (es : List Sent) → let a = (parts_at m n s).carrying in
     MayMove m n old s → HasLog m (length opening.logs) s.step → old (number s) (place s) ≡ Cut → Becomes (number s) (place s) (Carried (tell a now).why) old new →
@@ -145,7 +145,7 @@ carried m n s opening now old new es may has e becomes h =
     (λ here st. let y = length-append here (t ∷ []) in let z = st.count in record {
       count = omega (arith, y, z);
       sent = one_sent here t (before_carrying p) st.count st.sent;
-      tells = ap (λ (r : Answer). r.why) (get_last here t (before_carrying p) st.count);
+      tells = ap (λ (r : ActAnswer). r.why) (get_last here t (before_carrying p) st.count);
     }) in
     let turn = spot_turn m n s old new next h.done run (t ∷ []) may becomes (subst (λ w. Stretch p w run) (sym e) stretch) (subst (λ w. BlockTurns m from fate k s.step w next run (t ∷ [])) (sym e) turns) h.stand in
     follow_turn m n (ops_of s) opening now old new es (es ++ put_sent t.sent []) run h turn

@@ -6,7 +6,7 @@ use Rattle.stack_ops.specs.declared.op.Op.{Op}
 use Rattle.stack_ops.specs.declared.op.Op.TheVariants.{Fetch, FetchPi, Fill, Overwrite, Put, Seal, Show, Wait, Write, WritePi}
 use Rattle.stack_ops.specs.declared.reply.Reply.TheVariants.{Shown}
 use Rattle.block_path.specs.Acts.{State, act, conflict, tell}
-use Rattle.block_path.specs.Blocks.{Answer, Sent, silent}
+use Rattle.block_path.specs.Blocks.{ActAnswer, Sent, silent}
 use Rattle.block_path.specs.Serial.{Serial, all_done}
 use Rattle.block_path.proofs.Serial.{ends}
 use Rattle.whole_run.specs.ScriptWalk.{bad_from, reply_of, whole_or_bad}
@@ -22,18 +22,18 @@ use Rattle.run_follows.specs.Slots.{Done as AllDone, Parts, Settled, Status, Tel
 use Rattle.run_follows.proofs.Runs.{Done, all_both, far_whole, sents_all, sents_both}
 use Rattle.run_follows.proofs.Standing.{moves_length, parts_are}
 
-take_first : (xs ys : List Answer) (n : ℕ) → length xs ≡ n → take n (xs ++ ys) ≡ xs
+take_first : (xs ys : List ActAnswer) (n : ℕ) → length xs ≡ n → take n (xs ++ ys) ≡ xs
 take_first [] ys n e = rw (← e) refl
 take_first (x ∷ xs) ys zero e = absurd (omega (arith, e))
 take_first (x ∷ xs) ys (suc n) e = ap (λ rest. x ∷ rest) (take_first xs ys n (omega (arith, e)))
 
-drop_first : (xs ys : List Answer) (n : ℕ) → length xs ≡ n → drop n (xs ++ ys) ≡ ys
+drop_first : (xs ys : List ActAnswer) (n : ℕ) → length xs ≡ n → drop n (xs ++ ys) ≡ ys
 drop_first [] ys n e = rw (← e) refl
 drop_first (x ∷ xs) ys zero e = absurd (omega (arith, e))
 drop_first (x ∷ xs) ys (suc n) e = drop_first xs ys n (omega (arith, e))
 
 -- only the move that carries puts something on record
-join_sent : (m : Setting) (own : List ℕ) (fate : ℕ) (step : Step) (here : List Answer) → ((by_moves m own fate step).join here).sent ≡ (get_or here (before_carrying (parts_of m own fate step)) silent).sent
+join_sent : (m : Setting) (own : List ℕ) (fate : ℕ) (step : Step) (here : List ActAnswer) → ((by_moves m own fate step).join here).sent ≡ (get_or here (before_carrying (parts_of m own fate step)) silent).sent
 join_sent m own fate (Sets at values) here = refl
 join_sent m own fate (Shows at) here = refl
 join_sent m own fate (Seals body tuple app rtag) here = refl
@@ -46,7 +46,7 @@ join_sent m own fate (Reads b owner to) here = refl
 join_sent m own fate (Alters dev lba change) here = refl
 
 -- what a step's answer and what is known of it have in common
-abbrev Same : Step → Answer → Answer → Type 0
+abbrev Same : Step → ActAnswer → ActAnswer → Type 0
 Same (Sets at values) a b = Unit {0}
 Same (Shows at) a b = a.shown ≡ b.shown
 Same (Seals body tuple app rtag) a b = Unit {0}
@@ -55,19 +55,19 @@ Same (WritesPi c frame) a b = a.why ≡ b.why
 Same (Reads c owner to) a b = a.why ≡ b.why
 Same (Alters dev lba change) a b = Unit {0}
 
-abbrev AllSame : List Step → List Answer → List Answer → Type 0
+abbrev AllSame : List Step → List ActAnswer → List ActAnswer → Type 0
 AllSame [] xs ys = (xs ≡ []) × (ys ≡ [])
 AllSame (step ∷ steps) [] ys = ⊥
 AllSame (step ∷ steps) (x ∷ xs) [] = ⊥
 AllSame (step ∷ steps) (x ∷ xs) (y ∷ ys) = Same step x y × AllSame steps xs ys
 
-settled_same : (status : Status) (carried joined : Answer) → (why : Option Why) × (status ≡ Settled why) → Tells status carried joined → joined.why ≡ (answer_of status).why
+settled_same : (status : Status) (carried joined : ActAnswer) → (why : Option Why) × (status ≡ Settled why) → Tells status carried joined → joined.why ≡ (answer_of status).why
 settled_same status carried joined h t = let k = subst (λ s. Tells s carried joined) h.1 t in k ∙ sym (ap (λ s. (answer_of s).why) h.1)
 
-done_same : (status : Status) (carried joined : Answer) → (shown : List ℕ) × (status ≡ AllDone shown) → Tells status carried joined → joined.shown ≡ (answer_of status).shown
+done_same : (status : Status) (carried joined : ActAnswer) → (shown : List ℕ) × (status ≡ AllDone shown) → Tells status carried joined → joined.shown ≡ (answer_of status).shown
 done_same status carried joined h t = let k = subst (λ s. Tells s carried joined) h.1 t in k ∙ sym (ap (λ s. (answer_of s).shown) h.1)
 
-step_same : (step : Step) (status : Status) (carried joined : Answer) → HasEnded step status → Tells status carried joined → Same step joined (answer_of status)
+step_same : (step : Step) (status : Status) (carried joined : ActAnswer) → HasEnded step status → Tells status carried joined → Same step joined (answer_of status)
 step_same (Sets at values) status carried joined h t = tt
 step_same (Shows at) status carried joined h t = done_same status carried joined h t
 step_same (Seals body tuple app rtag) status carried joined h t = tt
@@ -90,7 +90,7 @@ one x y xs ys e f = ap (λ z. z ∷ xs) e ∙ ap (λ zs. y ∷ zs) f
 
 module _ (m : Setting) where
   record StepsEnd (from fate k : ℕ) (steps : List Step) (status : ℕ → Status) (done : Done) : Type 0 where
-    answers : List Answer
+    answers : List ActAnswer
     is : done ≡ all_done answers
     size : length answers ≡ length (all_moves (blocks_from m from fate k steps))
     sent : sents answers ≡ sents (joins (blocks_from m from fate k steps) answers)
@@ -139,7 +139,7 @@ module _ (m : Setting) where
   AllBlocks (Reads b owner to ∷ steps) = AllBlocks steps
   AllBlocks (Alters dev lba change ∷ steps) = ⊥
 
-  whys_same : (steps : List Step) (xs ys : List Answer) → AllBlocks steps → AllSame steps xs ys → map (λ a. a.why) xs ≡ map (λ a. a.why) ys
+  whys_same : (steps : List Step) (xs ys : List ActAnswer) → AllBlocks steps → AllSame steps xs ys → map (λ a. a.why) xs ≡ map (λ a. a.why) ys
   whys_same [] xs ys b h = ap (map (λ a. a.why)) (h.0 ∙ sym h.1)
   whys_same (Sets at values ∷ steps) xs ys b h = absurd b
   whys_same (Shows at ∷ steps) xs ys b h = absurd b
@@ -155,14 +155,14 @@ module _ (m : Setting) where
   whys_same (Reads c owner to ∷ steps) (x ∷ xs) (y ∷ ys) b h = one x.why y.why (map (λ a. a.why) xs) (map (λ a. a.why) ys) h.0 (whys_same steps xs ys b h.1)
   whys_same (Alters dev lba change ∷ steps) xs ys b h = absurd b
 
-  request_same : (steps : List Step) (xs ys : List Answer) → AllBlocks steps → AllSame steps xs ys → whole_or_bad (bad_from 0 (map (λ a. a.why) xs)) ≡ whole_or_bad (bad_from 0 (map (λ a. a.why) ys))
+  request_same : (steps : List Step) (xs ys : List ActAnswer) → AllBlocks steps → AllSame steps xs ys → whole_or_bad (bad_from 0 (map (λ a. a.why) xs)) ≡ whole_or_bad (bad_from 0 (map (λ a. a.why) ys))
   request_same steps xs ys b h = ap (λ whys. whole_or_bad (bad_from 0 whys)) (whys_same steps xs ys b h)
 
   each_write : (k n : ℕ) (f : ℕ → Step) → ((j : ℕ) (steps : List Step) → AllBlocks steps → AllBlocks (f j ∷ steps)) → AllBlocks (each_from k n f)
   each_write k zero f h = tt
   each_write k (suc n) f h = h k (each_from (suc k) n f) (each_write (suc k) n f h)
 
-  reply_same : (fails : Bool) (i : ℕ) (op : Op) (xs ys : List Answer) → AllSame (steps_of m i op) xs ys → reply_of fails op xs ≡ reply_of fails op ys
+  reply_same : (fails : Bool) (i : ℕ) (op : Op) (xs ys : List ActAnswer) → AllSame (steps_of m i op) xs ys → reply_of fails op xs ≡ reply_of fails op ys
   reply_same fails i (Fill seg byte) xs ys h = refl
   reply_same fails i (Put page off values) xs ys h = refl
   reply_same fails i (Show seg) [] ys h = absurd h
@@ -177,7 +177,7 @@ module _ (m : Setting) where
   reply_same fails i Wait xs ys h = refl
 
   record OpsEnd (from fate i : ℕ) (ops : List Op) (status : ℕ → ℕ → Status) (done : Done) : Type 0 where
-    answers : List Answer
+    answers : List ActAnswer
     is : done ≡ all_done answers
     size : length answers ≡ length (moves_from m from fate i ops)
     sent : sents answers ≡ sents (answers_from m from fate i ops answers)

@@ -11,7 +11,7 @@ use Rattle.stack_ops.specs.declared.op.Op.{Op}
 use Rattle.stack_ops.specs.declared.op.Op.TheVariants.{Fetch, FetchPi, Fill, Overwrite, Put, Seal, Show, Wait, Write, WritePi}
 use Rattle.stack_ops.specs.Footprints.{footprint}
 use Rattle.block_path.specs.Acts.{Act, State}
-use Rattle.block_path.specs.Blocks.{Answer}
+use Rattle.block_path.specs.Blocks.{ActAnswer}
 use Rattle.whole_run.specs.Settings.{Setting}
 use Rattle.whole_run.specs.Steps.{steps_of}
 use Rattle.fault_schedule.specs.Altered.{byte_at, xored_from}
@@ -180,11 +180,11 @@ parts_flip m n flips s =
 
 pub made_flip : (m : Setting) (n : ℕ) (flips : Flips) (spots : List Spot) → all_made m n (map (flip_spot flips) spots) ≡ all_made m n spots
 made_flip m n flips [] = refl
-made_flip m n flips (s ∷ spots) = ap (λ p. p.made ++ all_made m n (map (flip_spot flips) spots)) (parts_flip m n flips s) ∙ ap (λ (xs : List (Act Answer)). (parts_at m n s).made ++ xs) (made_flip m n flips spots)
+made_flip m n flips (s ∷ spots) = ap (λ p. p.made ++ all_made m n (map (flip_spot flips) spots)) (parts_flip m n flips s) ∙ ap (λ (xs : List (Act ActAnswer)). (parts_at m n s).made ++ xs) (made_flip m n flips spots)
 
 pub cut_flip : (m : Setting) (n : ℕ) (flips : Flips) (spots : List Spot) → all_cut m n (map (flip_spot flips) spots) ≡ all_cut m n spots
 cut_flip m n flips [] = refl
-cut_flip m n flips (s ∷ spots) = ap (λ p. p.cut ++ all_cut m n (map (flip_spot flips) spots)) (parts_flip m n flips s) ∙ ap (λ (xs : List (Act Answer)). (parts_at m n s).cut ++ xs) (cut_flip m n flips spots)
+cut_flip m n flips (s ∷ spots) = ap (λ p. p.cut ++ all_cut m n (map (flip_spot flips) spots)) (parts_flip m n flips s) ∙ ap (λ (xs : List (Act ActAnswer)). (parts_at m n s).cut ++ xs) (cut_flip m n flips spots)
 
 pub going_flip : (m : Setting) (n : ℕ) (flips : Flips) (ops : List Op) (a : Adapter) (ios : List Io) (logs : ℕ) (status : ℕ → ℕ → Status) (bs : List Block) (spots : List Spot) → AllGoing m n ops a ios logs status bs spots →
     AllGoing m n (with_flips flips 1 ops) a ios logs status bs (map (flip_spot flips) spots)

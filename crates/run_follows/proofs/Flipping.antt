@@ -6,7 +6,7 @@ use Rattle.rig_api.specs.declared.change.Change.TheVariants.{Flip}
 use Rattle.stack_ops.specs.declared.op.Op.{Op}
 use Rattle.stack_ops.specs.declared.op.Op.TheVariants.{Overwrite}
 use Rattle.block_path.specs.Acts.{Act, State, act, conflict, tell}
-use Rattle.block_path.specs.Blocks.{Answer, Sent, untouched}
+use Rattle.block_path.specs.Blocks.{ActAnswer, Sent, untouched}
 use Rattle.block_path.specs.Serial.{Answered, FreeOfDone, InOrder, walk}
 use Rattle.page_pool.specs.Cells.{share_a_cell}
 use Rattle.range_gate.specs.Cells.{cells_clash}
@@ -19,14 +19,14 @@ use Rattle.run_follows.specs.Slots.{Status, Waits, parts_of, so_far, done_by}
 use Rattle.run_follows.proofs.Runs.{far_length}
 
 abbrev Done : Type 0
-Done = List (Option Answer)
+Done = List (Option ActAnswer)
 
 abbrev Moves : Type 0
-Moves = List (Act Answer)
+Moves = List (Act ActAnswer)
 
 -- it conflicts with no more than the other did
-abbrev IsLooser : Act Answer → Act Answer → Type 0
-IsLooser a b = (x : Act Answer) → conflict a x ≡ false → conflict b x ≡ false
+abbrev IsLooser : Act ActAnswer → Act ActAnswer → Type 0
+IsLooser a b = (x : Act ActAnswer) → conflict a x ≡ false → conflict b x ≡ false
 
 -- moves of which those that are done are the same, and the others conflict with no more
 abbrev Looser : Moves → Moves → Done → Type 0
@@ -51,7 +51,7 @@ loose_answers (a ∷ as') (b ∷ bs) (None ∷ ds) s h k = loose_answers as' bs 
 loose_answers (a ∷ as') (b ∷ bs) (Some r ∷ ds) s h k =
     (k.0 ∙ ap (λ x. tell x s) h.0, subst (λ x. Answered act tell bs ds (act x s)) h.0 (loose_answers as' bs ds (act a s) h.1 k.1))
 
-loose_free : (a b : Act Answer) (as' bs : Moves) (ds : Done) → IsLooser a b → Looser as' bs ds → FreeOfDone conflict a as' ds → FreeOfDone conflict b bs ds
+loose_free : (a b : Act ActAnswer) (as' bs : Moves) (ds : Done) → IsLooser a b → Looser as' bs ds → FreeOfDone conflict a as' ds → FreeOfDone conflict b bs ds
 loose_free a b [] bs ds l h k = rw h tt
 loose_free a b (x ∷ as') [] ds l h k = absurd h
 loose_free a b (x ∷ as') (y ∷ bs) [] l h k = tt
@@ -142,7 +142,7 @@ module _ (m : Setting) (dev lba off : ℕ) (change : Change) (mask : List ℕ) w
         moves = subst (λ ds. Looser (moves_from m from fate i (one ∷ behind)) (moves_from m from fate i (two ∷ behind)) ds) (sym (h.1.1.0 ∙ ap (λ ds. ds ++ h.1.0) here)) (looser, same_loose _ h.1.0);
       }
     where
-      nothing : (answers : List Answer) → length answers ≡ 0 → answers ≡ []
+      nothing : (answers : List ActAnswer) → length answers ≡ 0 → answers ≡ []
       nothing [] l = refl
       nothing (x ∷ answers) l = absurd (omega (arith, l))
   turned from fate i k (op ∷ front) behind status done e w h =

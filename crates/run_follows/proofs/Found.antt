@@ -6,7 +6,7 @@ use Rattle.page_pool.specs.Cells.{scatter}
 use Rattle.stack_ops.specs.declared.op.Op.{Op}
 use Rattle.block_path.specs.declared.route.Route.{Route}
 use Rattle.block_path.specs.Acts.{Act, State, act, effect, seen, tell}
-use Rattle.block_path.specs.Blocks.{Answer, Sent, silent}
+use Rattle.block_path.specs.Blocks.{ActAnswer, Sent, silent}
 use Rattle.block_path.specs.Moves.{carried_in, carry_in, settle}
 use Rattle.block_path.specs.WayIn.{Delivers, Spoils, Stops, WayIn, comes_in}
 use Rattle.block_path.specs.Serial.{Answered, walk}
@@ -24,11 +24,11 @@ abbrev AllFrom : ℕ → List ℕ → Type 0
 AllFrom c [] = Unit {0}
 AllFrom c (w ∷ ws) = (c ≤ w) × AllFrom c ws
 
-abbrev pub EachAbove : ℕ → List (Act Answer) → Type 0
+abbrev pub EachAbove : ℕ → List (Act ActAnswer) → Type 0
 EachAbove c [] = Unit {0}
 EachAbove c (a ∷ acts) = AllFrom c a.fates.writes × EachAbove c acts
 
-above_join : (c : ℕ) (xs ys : List (Act Answer)) → EachAbove c xs → EachAbove c ys → EachAbove c (xs ++ ys)
+above_join : (c : ℕ) (xs ys : List (Act ActAnswer)) → EachAbove c xs → EachAbove c ys → EachAbove c (xs ++ ys)
 above_join c [] ys h k = k
 above_join c (x ∷ xs) ys h k = (h.0, above_join c xs ys h.1 k)
 
@@ -36,7 +36,7 @@ from_less : (c d : ℕ) (ws : List ℕ) → c ≤ d → AllFrom d ws → AllFrom
 from_less c d [] h a = tt
 from_less c d (w ∷ ws) h a = let x = a.0 in (omega arith, from_less c d ws h a.1)
 
-above_less : (c d : ℕ) (acts : List (Act Answer)) → c ≤ d → EachAbove d acts → EachAbove c acts
+above_less : (c d : ℕ) (acts : List (Act ActAnswer)) → c ≤ d → EachAbove d acts → EachAbove c acts
 above_less c d [] h a = tt
 above_less c d (x ∷ acts) h a = (from_less c d x.fates.writes h a.0, above_less c d acts h a.1)
 
@@ -77,13 +77,13 @@ scatter_long [] values cells = refl
 scatter_long (i ∷ at) [] cells = refl
 scatter_long (i ∷ at) (v ∷ values) cells = scatter_long at values (set cells i v) ∙ length-set cells i v
 
-walk_keeps : (acts : List (Act Answer)) (ds : List (Option Answer)) (s : State) (c : ℕ) → EachAbove (suc c) acts → get_or (walk act acts ds s).fates c None ≡ get_or s.fates c None
+walk_keeps : (acts : List (Act ActAnswer)) (ds : List (Option ActAnswer)) (s : State) (c : ℕ) → EachAbove (suc c) acts → get_or (walk act acts ds s).fates c None ≡ get_or s.fates c None
 walk_keeps [] ds s c h = refl
 walk_keeps (a ∷ acts) [] s c h = refl
 walk_keeps (a ∷ acts) (None ∷ ds) s c h = walk_keeps acts ds s c h.1
 walk_keeps (a ∷ acts) (Some r ∷ ds) s c h = walk_keeps acts ds (act a s) c h.1 ∙ scatter_keeps a.fates.writes (effect a s).written.fates s.fates c h.0
 
-walk_long : (acts : List (Act Answer)) (ds : List (Option Answer)) (s : State) → length (walk act acts ds s).fates ≡ length s.fates
+walk_long : (acts : List (Act ActAnswer)) (ds : List (Option ActAnswer)) (s : State) → length (walk act acts ds s).fates ≡ length s.fates
 walk_long [] ds s = refl
 walk_long (a ∷ acts) [] s = refl
 walk_long (a ∷ acts) (None ∷ ds) s = walk_long acts ds s
@@ -91,26 +91,26 @@ walk_long (a ∷ acts) (Some r ∷ ds) s = walk_long acts ds (act a s) ∙ scatt
 
 -- ---- a walk in two parts
 
-so_long : (moves : List (Act Answer)) (answers : List Answer) → length (so_far moves answers) ≡ length moves
+so_long : (moves : List (Act ActAnswer)) (answers : List ActAnswer) → length (so_far moves answers) ≡ length moves
 so_long [] answers = refl
 so_long (a ∷ moves) [] = ap suc (so_long moves [])
 so_long (a ∷ moves) (r ∷ answers) = ap suc (so_long moves answers)
 
-walk_join : (xs ys : List (Act Answer)) (ds es : List (Option Answer)) (s : State) → length ds ≡ length xs → walk act (xs ++ ys) (ds ++ es) s ≡ walk act ys es (walk act xs ds s)
+walk_join : (xs ys : List (Act ActAnswer)) (ds es : List (Option ActAnswer)) (s : State) → length ds ≡ length xs → walk act (xs ++ ys) (ds ++ es) s ≡ walk act ys es (walk act xs ds s)
 walk_join [] ys [] es s h = refl
 walk_join [] ys (d ∷ ds) es s h = absurd (omega arith)
 walk_join (x ∷ xs) ys [] es s h = absurd (omega arith)
 walk_join (x ∷ xs) ys (None ∷ ds) es s h = walk_join xs ys ds es s (omega arith)
 walk_join (x ∷ xs) ys (Some r ∷ ds) es s h = walk_join xs ys ds es (act x s) (omega arith)
 
-answered_front : (xs ys : List (Act Answer)) (ds es : List (Option Answer)) (s : State) → length ds ≡ length xs → Answered act tell (xs ++ ys) (ds ++ es) s → Answered act tell xs ds s
+answered_front : (xs ys : List (Act ActAnswer)) (ds es : List (Option ActAnswer)) (s : State) → length ds ≡ length xs → Answered act tell (xs ++ ys) (ds ++ es) s → Answered act tell xs ds s
 answered_front [] ys [] es s h k = tt
 answered_front [] ys (d ∷ ds) es s h k = absurd (omega arith)
 answered_front (x ∷ xs) ys [] es s h k = absurd (omega arith)
 answered_front (x ∷ xs) ys (None ∷ ds) es s h k = answered_front xs ys ds es s (omega arith) k
 answered_front (x ∷ xs) ys (Some r ∷ ds) es s h k = (k.0, answered_front xs ys ds es (act x s) (omega arith) k.1)
 
-answered_behind : (xs ys : List (Act Answer)) (ds es : List (Option Answer)) (s : State) → length ds ≡ length xs → Answered act tell (xs ++ ys) (ds ++ es) s → Answered act tell ys es (walk act xs ds s)
+answered_behind : (xs ys : List (Act ActAnswer)) (ds es : List (Option ActAnswer)) (s : State) → length ds ≡ length xs → Answered act tell (xs ++ ys) (ds ++ es) s → Answered act tell ys es (walk act xs ds s)
 answered_behind [] ys [] es s h k = k
 answered_behind [] ys (d ∷ ds) es s h k = absurd (omega arith)
 answered_behind (x ∷ xs) ys [] es s h k = absurd (omega arith)
@@ -125,7 +125,7 @@ carried_same r (Spoils why carried) after = refl
 carried_same r (Delivers carried frame) after = refl
 
 -- a block that is carried, with what is behind it
-one_read : (m : Setting) (r : Route) (to : List ℕ) (f : ℕ) (last : Act Answer) (answers : List Answer) (s : State) (why : Option Why) → length answers ≡ 1 → (get_or answers 0 silent).why ≡ why → f < length s.fates → AllFrom (suc f) last.fates.writes →
+one_read : (m : Setting) (r : Route) (to : List ℕ) (f : ℕ) (last : Act ActAnswer) (answers : List ActAnswer) (s : State) (why : Option Why) → length answers ≡ 1 → (get_or answers 0 silent).why ≡ why → f < length s.fates → AllFrom (suc f) last.fates.writes →
     Answered act tell (carry_in m.site r to f ∷ (last ∷ [])) (so_far (carry_in m.site r to f ∷ (last ∷ [])) answers) s →
     get_or (walk act (carry_in m.site r to f ∷ (last ∷ [])) (so_far (carry_in m.site r to f ∷ (last ∷ [])) answers) s).fates f None ≡ why
 one_read m r to f last [] s why n w l b a = absurd (omega arith)
@@ -133,7 +133,7 @@ one_read m r to f last (x ∷ (y ∷ answers)) s why n w l b a = absurd (omega a
 one_read m r to f last (x ∷ []) s why n w l b a =
     let c = carry_in m.site r to f in
     let e : (effect c s).written.fates ≡ (effect c s).answer.why ∷ [] = carried_same r (comes_in m.site.faults m.site.device r (get_or (gather_of s) 0 [])) (length (get_or (logs_of s) 0 [])) in
-    ap (λ v. get_or (scatter (f ∷ []) v s.fates) f None) e ∙ (get_or-set_same s.fates f (effect c s).answer.why None l ∙ (sym (ap (λ (t : Answer). t.why) a.0) ∙ w))
+    ap (λ v. get_or (scatter (f ∷ []) v s.fates) f None) e ∙ (get_or-set_same s.fates f (effect c s).answer.why None l ∙ (sym (ap (λ (t : ActAnswer). t.why) a.0) ∙ w))
   where
     gather_of : State → List (List ℕ)
     gather_of s = (seen (carry_in m.site r to f) s).blocks
@@ -141,7 +141,7 @@ one_read m r to f last (x ∷ []) s why n w l b a =
     logs_of : State → List (List (List ℕ))
     logs_of s = (seen (carry_in m.site r to f) s).logs
 
-in_block : (m : Setting) (own : List ℕ) (f : ℕ) (step : Step) (answers : List Answer) (s : State) (why : Option Why) → IsRead step → Stands (parts_of m own f step) (by_moves m own f step).join (Carried why) answers → f < length s.fates →
+in_block : (m : Setting) (own : List ℕ) (f : ℕ) (step : Step) (answers : List ActAnswer) (s : State) (why : Option Why) → IsRead step → Stands (parts_of m own f step) (by_moves m own f step).join (Carried why) answers → f < length s.fates →
     Answered act tell (by_moves m own f step).moves (so_far (by_moves m own f step).moves answers) s → get_or (walk act (by_moves m own f step).moves (so_far (by_moves m own f step).moves answers) s).fates f None ≡ why
 in_block m own f (Sets at values) answers s why r st l a = absurd r
 in_block m own f (Shows at) answers s why r st l a = absurd r
@@ -151,7 +151,7 @@ in_block m own f (WritesPi b frame) answers s why r st l a = absurd r
 in_block m own f (Reads b owner to) answers s why r st l a = one_read m (route m b) (lands_in owner m.mode.dix to own) f (settle (route m b) owner (lands_in owner m.mode.dix to own) f) answers s why st.count st.tells l tt a
 in_block m own f (Alters dev lba change) answers s why r st l a = absurd r
 
-in_steps : (m : Setting) (from fate k q : ℕ) (steps : List Step) (status : ℕ → Status) (done : List (Option Answer)) (rest : List (Act Answer)) (behind : List (Option Answer)) (s : State) (why : Option Why) → q < length steps → IsRead (get_or steps q (Sets [] [])) →
+in_steps : (m : Setting) (from fate k q : ℕ) (steps : List Step) (status : ℕ → Status) (done : List (Option ActAnswer)) (rest : List (Act ActAnswer)) (behind : List (Option ActAnswer)) (s : State) (why : Option Why) → q < length steps → IsRead (get_or steps q (Sets [] [])) →
     StandFrom m from fate k steps status done → status (k + q) ≡ Carried why → fate + (k + q) < length s.fates → EachAbove (suc (fate + (k + q))) rest → Answered act tell (all_moves (blocks_from m from fate k steps) ++ rest) (done ++ behind) s →
     get_or (walk act (all_moves (blocks_from m from fate k steps) ++ rest) (done ++ behind) s).fates (fate + (k + q)) None ≡ why
 in_steps m from fate k q [] status done rest behind s why l r st c w b a = absurd (omega arith)
@@ -187,7 +187,7 @@ in_steps m from fate k (suc q) (step ∷ steps) status done rest behind s why l 
     (ap (λ x. get_or (walk act x (done ++ behind) s).fates (fate + (suc k + q)) None) ms ∙ (ap (λ x. get_or (walk act (moves ++ more) x s).fates (fate + (suc k + q)) None) ds
     ∙ (ap (λ (x : State). get_or x.fates (fate + (suc k + q)) None) (walk_join moves more here (st.1.0 ++ behind) s long) ∙ ih)))
 
-blocks_done_long : (m : Setting) (from fate k : ℕ) (steps : List Step) (status : ℕ → Status) (done : List (Option Answer)) → StandFrom m from fate k steps status done → length done ≡ length (all_moves (blocks_from m from fate k steps))
+blocks_done_long : (m : Setting) (from fate k : ℕ) (steps : List Step) (status : ℕ → Status) (done : List (Option ActAnswer)) → StandFrom m from fate k steps status done → length done ≡ length (all_moves (blocks_from m from fate k steps))
 blocks_done_long m from fate k [] status done st = ap length st
 blocks_done_long m from fate k (step ∷ steps) status done st =
     let moves = (by_moves m (own_at from k) (fate + k) step).moves in
@@ -198,7 +198,7 @@ blocks_done_long m from fate k (step ∷ steps) status done st =
     let e = ap length st.1.1.0 in
     omega arith
 
-in_ops : (m : Setting) (from fate i p q : ℕ) (ops : List Op) (status : ℕ → ℕ → Status) (done : List (Option Answer)) (s : State) (why : Option Why) → p < length ops → q < fates_of (op_in ops p) → IsRead (get_or (steps_of m (i + p) (op_in ops p)) q (Sets [] [])) →
+in_ops : (m : Setting) (from fate i p q : ℕ) (ops : List Op) (status : ℕ → ℕ → Status) (done : List (Option ActAnswer)) (s : State) (why : Option Why) → p < length ops → q < fates_of (op_in ops p) → IsRead (get_or (steps_of m (i + p) (op_in ops p)) q (Sets [] [])) →
     AllStand m from fate i ops status done → status (i + p) q ≡ Carried why → (fate + fates (take p ops)) + q < length s.fates → Answered act tell (moves_from m from fate i ops) done s →
     get_or (walk act (moves_from m from fate i ops) done s).fates ((fate + fates (take p ops)) + q) None ≡ why
 in_ops m from fate i p q [] status done s why l w r st c b a = absurd (omega arith)

@@ -4,7 +4,7 @@ use Rattle.std.proofs.lemmas.List.{append_assoc}
 use Rattle.bio_core.specs.declared.fate.Why.{Why}
 use Rattle.stack_ops.specs.declared.op.Op.{Op}
 use Rattle.block_path.specs.Acts.{Act, State, act, conflict, tell}
-use Rattle.block_path.specs.Blocks.{Answer, Sent, silent}
+use Rattle.block_path.specs.Blocks.{ActAnswer, Sent, silent}
 use Rattle.block_path.specs.Serial.{all_done, plain, plain_tells}
 use Rattle.whole_run.specs.Settings.{Setting}
 use Rattle.whole_run.specs.Steps.{Step}
@@ -56,7 +56,7 @@ pub record Stretch (p : Parts) (old : Status) (run : Moves) : Type 0 where
   pub is : moves_in p ≡ front ++ (run ++ back)
   pub count : done_by p old ≡ length front
 
-pub spot_turn : (m : Setting) (n : ℕ) (s : Spot) (old new : ℕ → ℕ → Status) (next : Status) (done : Done) (run : Moves) (ts : List Answer) → MayMove m n old s → Becomes (number s) (place s) next old new →
+pub spot_turn : (m : Setting) (n : ℕ) (s : Spot) (old new : ℕ → ℕ → Status) (next : Status) (done : Done) (run : Moves) (ts : List ActAnswer) → MayMove m n old s → Becomes (number s) (place s) next old new →
     Stretch (parts_at m n s) (old (number s) (place s)) run →
     BlockTurns m (n + rooms m s.front) (fates s.front) (place s) s.step (old (number s) (place s)) next run ts →
     AllStand m n 0 1 (ops_of s) old done → Turn (script_moves m n (ops_of s)) done run ts (AllStand m n 0 1 (ops_of s) new)
@@ -93,30 +93,30 @@ spot_turn m n s old new next done run ts may becomes st turns h =
 
 -- what a block says after a quiet run
 
-pub get_left : (xs ys : List Answer) (c : ℕ) → c < length xs → get_or (xs ++ ys) c silent ≡ get_or xs c silent
+pub get_left : (xs ys : List ActAnswer) (c : ℕ) → c < length xs → get_or (xs ++ ys) c silent ≡ get_or xs c silent
 get_left [] ys c l = absurd (omega (arith, l))
 get_left (x ∷ xs) ys zero l = refl
 get_left (x ∷ xs) ys (suc c) l = get_left xs ys c (omega (arith, l))
 
-get_beyond : (xs : List Answer) (c : ℕ) → length xs ≤ c → get_or xs c silent ≡ silent
+get_beyond : (xs : List ActAnswer) (c : ℕ) → length xs ≤ c → get_or xs c silent ≡ silent
 get_beyond [] c l = refl
 get_beyond (x ∷ xs) zero l = absurd (omega (arith, l))
 get_beyond (x ∷ xs) (suc c) l = get_beyond xs c (omega (arith, l))
 
-quiet_stays : (answers ts : List Answer) (c : ℕ) → sents ts ≡ [] → sents answers ≡ put_sent (get_or answers c silent).sent [] → (c < length answers) ⊎ (length (answers ++ ts) ≤ c) →
+quiet_stays : (answers ts : List ActAnswer) (c : ℕ) → sents ts ≡ [] → sents answers ≡ put_sent (get_or answers c silent).sent [] → (c < length answers) ⊎ (length (answers ++ ts) ≤ c) →
     sents (answers ++ ts) ≡ put_sent (get_or (answers ++ ts) c silent).sent []
 quiet_stays answers ts c q e (inl l) = sents_both answers ts ∙ ap (λ x. sents answers ++ x) q ∙ append-nil (sents answers) ∙ e ∙ ap (λ a. put_sent a.sent []) (sym (get_left answers ts c l))
 quiet_stays answers ts c q e (inr l) =
     let x = length-append answers ts in
     sents_both answers ts ∙ ap (λ x. sents answers ++ x) q ∙ append-nil (sents answers) ∙ e ∙ ap (λ a. put_sent a.sent []) (get_beyond answers c (omega (arith, x, l)) ∙ sym (get_beyond (answers ++ ts) c l))
 
-pub block_turns : (m : Setting) (from fate k : ℕ) (step : Step) (old next : Status) (run : Moves) (ts : List Answer) → let b = by_moves m (own_at from k) (fate + k) step in let p = parts_of m (own_at from k) (fate + k) step in
-    Stretch p old run → length ts ≡ length run → ((here : List Answer) → Stands p b.join old here → Stands p b.join next (here ++ ts)) → BlockTurns m from fate k step old next run ts
+pub block_turns : (m : Setting) (from fate k : ℕ) (step : Step) (old next : Status) (run : Moves) (ts : List ActAnswer) → let b = by_moves m (own_at from k) (fate + k) step in let p = parts_of m (own_at from k) (fate + k) step in
+    Stretch p old run → length ts ≡ length run → ((here : List ActAnswer) → Stands p b.join old here → Stands p b.join next (here ++ ts)) → BlockTurns m from fate k step old next run ts
 block_turns m from fate k step old next run ts st l f = λ here stands.
     let b = by_moves m (own_at from k) (fate + k) step in
     let p = parts_of m (own_at from k) (fate + k) step in
     let moves : b.moves ≡ st.front ++ (run ++ st.back) = parts_are m (own_at from k) (fate + k) step ∙ st.is in
-    let P : Done → Type 0 = λ d. (here : List Answer) × ((d ≡ so_far b.moves here) × Stands p b.join next here) in
+    let P : Done → Type 0 = λ d. (here : List ActAnswer) × ((d ≡ so_far b.moves here) × Stands p b.join next here) in
     subst (λ x. Turn x (so_far x here) run ts P) (sym moves)
     (of_block st.front run st.back here ts P (stands.count ∙ st.count) l (here ++ ts, (ap (λ x. so_far x (here ++ ts)) (sym moves), f here stands)))
 
@@ -130,7 +130,7 @@ module _ (m : Setting) (n : ℕ) (s : Spot) (opening now : State) (old new : ℕ
   old_here = old (number s) (place s)
 
   on : (was next : Status) (run : Moves) → old_here ≡ was → Becomes (number s) (place s) next old new → AllQuiet run → Stretch p was run →
-      ((here : List Answer) → let b = by_moves m (own_at (n + rooms m s.front) (place s)) (fates s.front + place s) s.step in Stands p b.join was here → Stands p b.join next (here ++ plain_tells act tell run now)) →
+      ((here : List ActAnswer) → let b = by_moves m (own_at (n + rooms m s.front) (place s)) (fates s.front + place s) s.step in Stands p b.join was here → Stands p b.join next (here ++ plain_tells act tell run now)) →
       Follows m n (ops_of s) opening new (plain act run now) es
   on was next run e becomes q st f =
       let from = n + rooms m s.front in
@@ -161,12 +161,12 @@ module _ (m : Setting) (n : ℕ) (s : Spot) (opening now : State) (old new : ℕ
         tells = tt;
       })
 
-  into_front : (xs ys : Moves) (k : Act Answer) (zs : Moves) → xs ++ (ys ++ (k ∷ zs)) ≡ (xs ++ (ys ++ (k ∷ []))) ++ (zs ++ [])
+  into_front : (xs ys : Moves) (k : Act ActAnswer) (zs : Moves) → xs ++ (ys ++ (k ∷ zs)) ≡ (xs ++ (ys ++ (k ∷ []))) ++ (zs ++ [])
   into_front xs ys k zs =
       ap (λ t. xs ++ t) (sym (append_assoc ys (k ∷ []) zs)) ∙ sym (append_assoc xs (ys ++ (k ∷ [])) zs) ∙ ap (λ t. (xs ++ (ys ++ (k ∷ []))) ++ t) (sym (append-nil zs))
 
   pub settled : (fate : Option Why) (why : Option Why) → old_here ≡ Carried fate → Becomes (number s) (place s) (Settled why) old new → AllQuiet p.settled →
-      ((here : List Answer) → length here ≡ suc (before_carrying p) → (get_or here (before_carrying p) silent).why ≡ fate →
+      ((here : List ActAnswer) → length here ≡ suc (before_carrying p) → (get_or here (before_carrying p) silent).why ≡ fate →
       ((by_moves m (own_at (n + rooms m s.front) (place s)) (fates s.front + place s) s.step).join (here ++ plain_tells act tell p.settled now)).why ≡ why) →
       Follows m n (ops_of s) opening new (plain act p.settled now) es
   settled fate why e becomes q f =

@@ -19,7 +19,7 @@ use Rattle.cdb_codec.specs.declared.command.Rw.{Rw}
 use Rattle.cdb_codec.proofs.Inverse.{decoded_form}
 use Rattle.target_answer.specs.Frames.{frames_of, joined, sent_size}
 use Rattle.target_answer.proofs.FrameLaws.{frames_length}
-use Rattle.rig_api.specs.Log.{Entry}
+use Rattle.rig_api.specs.Log.{LogEntry}
 use Rattle.rig_api.specs.State.{RigState}
 use Rattle.block_path.specs.Blocks.{Sent, Site}
 use Rattle.block_path.specs.Senses.{why_ended}
@@ -37,7 +37,7 @@ use Rattle.dix_adapter.proofs.Runs.{AllLong, cut-joined, group-wide, width-sent,
 use Rattle.dix_adapter.proofs.GoingIn.{part-long}
 use Rattle.run_follows.specs.OnRecord.{GoesOnRecord, put_each}
 
-one_more : (m : Setting) (log : List Entry) (e : Entry) (es : List Sent) → put_entries m (log ++ (e ∷ [])) es ≡ put_decoded m (decoded e.what.cdb) e (put_entries m log es)
+one_more : (m : Setting) (log : List LogEntry) (e : LogEntry) (es : List Sent) → put_entries m (log ++ (e ∷ [])) es ≡ put_decoded m (decoded e.what.cdb) e (put_entries m log es)
 one_more m [] e es = refl
 one_more m (x ∷ log) e es = one_more m log e (put_decoded m (decoded x.what.cdb) x es)
 
@@ -98,7 +98,7 @@ came_length n done sense frames e = by (ltb done n) refl where
       (omega (arith, a, b, e, l), omega (arith, a, b, e, l))
 
 -- a command of these blocks
-rw_is : (m : Setting) (dir : Dir) (c : Rw) (e : Entry) (bs : List Block) (dev lba n : ℕ) (frames : List (List ℕ)) (es : List Sent) → let done = e.what.outcome.done in
+rw_is : (m : Setting) (dir : Dir) (c : Rw) (e : LogEntry) (bs : List Block) (dev lba n : ℕ) (frames : List (List ℕ)) (es : List Sent) → let done = e.what.outcome.done in
     e.what.dev ≡ dev → c.lba ≡ lba → c.n ≡ n → e.labels ≡ take (min (done + 1) n) (map label_of bs) → frames_of (sent_size c.protect m.size) (min done n) e.moved ≡ frames →
     InTurn dir dev lba bs → length bs ≡ n → length frames ≡ min done n → put_rw m dir c e es ≡ put_each m.site bs (came_of n done e.what.outcome.sense frames) es
 rw_is m dir c e bs dev lba n frames es d a k labels cut turn long count =
@@ -130,7 +130,7 @@ module _ (m : Setting) (a : Adapter) (ios : List Io) (req : List Bio) (pool : Li
   turn = bios_turn a pool m.size ios first.dev first.dir first.lba req g.bios g.chain
 
   -- the record of a read, and of a write
-  in_decoded : (old new : RigState) (e : Entry) → IsRecord a req old new e → first.dir ≡ Read → recorded m new.log ≡ put_rw m Read c e (recorded m old.log)
+  in_decoded : (old new : RigState) (e : LogEntry) → IsRecord a req old new e → first.dir ≡ Read → recorded m new.log ≡ put_rw m Read c e (recorded m old.log)
   in_decoded old new e r w =
       let cmd = command_for a In first.lba n in
       let d : command_of a req ≡ cmd = ap (λ y. command_for a (way_of y) first.lba n) w in
@@ -139,7 +139,7 @@ module _ (m : Setting) (a : Adapter) (ios : List Io) (req : List Bio) (pool : Li
       ∙ ap (λ x. put_decoded m x e (recorded m old.log)) (decoded_form cmd (subst Fits d r.fits))
       ∙ ap (λ x. put_request m x e (recorded m old.log)) (asked-for a In first.lba n)
 
-  out_decoded : (old new : RigState) (e : Entry) → IsRecord a req old new e → first.dir ≡ Write → recorded m new.log ≡ put_rw m Write c e (recorded m old.log)
+  out_decoded : (old new : RigState) (e : LogEntry) → IsRecord a req old new e → first.dir ≡ Write → recorded m new.log ≡ put_rw m Write c e (recorded m old.log)
   out_decoded old new e r w =
       let cmd = command_for a Out first.lba n in
       let d : command_of a req ≡ cmd = ap (λ y. command_for a (way_of y) first.lba n) w in

@@ -5,7 +5,7 @@ use Rattle.integrity_payload.specs.declared.payload.Owner.{Owner}
 use Rattle.pi_tuple.specs.declared.checks.Check.{Check}
 use Rattle.block_path.specs.declared.route.Route.{Route}
 use Rattle.block_path.specs.Acts.{State, act, tell}
-use Rattle.block_path.specs.Blocks.{Answer, silent}
+use Rattle.block_path.specs.Blocks.{ActAnswer, silent}
 use Rattle.block_path.specs.Moves.{first_why, left_by, settle, settled_by}
 use Rattle.block_path.specs.Serial.{plain_tells}
 use Rattle.block_path.specs.WayIn.{delivered_unless, mapped_back, owner_finds}
@@ -68,10 +68,10 @@ pub no_second : (fate : Option Why) → first_why fate None ≡ fate
 no_second None = refl
 no_second (Some why) = refl
 
-kept : (here ts : List Answer) (c : ℕ) (fate : Option Why) → length here ≡ suc c → (get_or here c silent).why ≡ fate → (get_or (here ++ ts) c silent).why ≡ first_why fate None
+kept : (here ts : List ActAnswer) (c : ℕ) (fate : Option Why) → length here ≡ suc c → (get_or here c silent).why ≡ fate → (get_or (here ++ ts) c silent).why ≡ first_why fate None
 kept here ts c fate l e = ap (λ a. a.why) (get_left here ts c (omega (arith, l))) ∙ e ∙ sym (no_second fate)
 
-pub listed_as : (m : Setting) (own : List ℕ) (fate : ℕ) (step : Step) (now : State) (found : Option Why) (here : List Answer) → let p = parts_of m own fate step in length here ≡ suc (before_carrying p) → (get_or here (before_carrying p) silent).why ≡ found →
+pub listed_as : (m : Setting) (own : List ℕ) (fate : ℕ) (step : Step) (now : State) (found : Option Why) (here : List ActAnswer) → let p = parts_of m own fate step in length here ≡ suc (before_carrying p) → (get_or here (before_carrying p) silent).why ≡ found →
     let ts = plain_tells act tell p.settled now in ((by_moves m own fate step).join (here ++ ts)).why ≡ first_why found (get_or ts 0 silent).why
 listed_as m own fate (Sets at values) now found here l e = kept here [] 0 found l e
 listed_as m own fate (Shows at) now found here l e = kept here [] 0 found l e

@@ -2,7 +2,7 @@
 use Rattle.std.proofs.Common.{◌≡◌, suc, List, [], ◌∷◌, ◌++◌, length, Option, Some, None, refl, sym, ap, subst, ◌∙◌, arith, length-append}
 use Rattle.std.proofs.lemmas.List.{append_assoc}
 use Rattle.block_path.specs.Acts.{Act, State, act, conflict, tell}
-use Rattle.block_path.specs.Blocks.{Answer, Sent}
+use Rattle.block_path.specs.Blocks.{ActAnswer, Sent}
 use Rattle.block_path.specs.Serial.{ClearOf, Serial, all_done, none_done, plain, plain_tells}
 use Rattle.block_path.proofs.Acts.{commutes}
 use Rattle.block_path.proofs.Split.{NoneOf, clear_apart, clear_both, goes_on_between}
@@ -13,17 +13,17 @@ use Rattle.run_follows.specs.Following.{sents_so_far}
 use Rattle.run_follows.specs.Slots.{so_far}
 
 abbrev pub Done : Type 0
-Done = List (Option Answer)
+Done = List (Option ActAnswer)
 
 abbrev pub Moves : Type 0
-Moves = List (Act Answer)
+Moves = List (Act ActAnswer)
 
 pub shifted : {X : Type 0} (xs : List X) (y : X) (zs : List X) → xs ++ (y ∷ zs) ≡ (xs ++ (y ∷ [])) ++ zs
 shifted xs y zs = sym (append_assoc xs (y ∷ []) zs)
 
 -- of blocks in part
 
-pub far_length : (moves : Moves) (answers : List Answer) → length (so_far moves answers) ≡ length moves
+pub far_length : (moves : Moves) (answers : List ActAnswer) → length (so_far moves answers) ≡ length moves
 far_length [] answers = refl
 far_length (a ∷ moves) [] = ap suc (far_length moves [])
 far_length (a ∷ moves) (r ∷ answers) = ap suc (far_length moves answers)
@@ -32,33 +32,33 @@ pub none_far : (moves : Moves) → so_far moves [] ≡ none_done moves
 none_far [] = refl
 none_far (a ∷ moves) = ap (λ rest. None ∷ rest) (none_far moves)
 
-pub none_both : (xs ys : Moves) → none_done {R = Answer} (xs ++ ys) ≡ none_done xs ++ none_done ys
+pub none_both : (xs ys : Moves) → none_done {R = ActAnswer} (xs ++ ys) ≡ none_done xs ++ none_done ys
 none_both [] ys = refl
 none_both (x ∷ xs) ys = ap (λ rest. None ∷ rest) (none_both xs ys)
 
-pub all_both : (xs ys : List Answer) → all_done (xs ++ ys) ≡ all_done xs ++ all_done ys
+pub all_both : (xs ys : List ActAnswer) → all_done (xs ++ ys) ≡ all_done xs ++ all_done ys
 all_both [] ys = refl
 all_both (x ∷ xs) ys = ap (λ rest. Some x ∷ rest) (all_both xs ys)
 
-pub far_done : (front run back : Moves) (answers : List Answer) → length answers ≡ length front → so_far (front ++ (run ++ back)) answers ≡ all_done answers ++ (none_done run ++ none_done back)
+pub far_done : (front run back : Moves) (answers : List ActAnswer) → length answers ≡ length front → so_far (front ++ (run ++ back)) answers ≡ all_done answers ++ (none_done run ++ none_done back)
 far_done [] run back [] e = none_far (run ++ back) ∙ none_both run back
 far_done [] run back (r ∷ answers) e = absurd (omega (arith, e))
 far_done (a ∷ front) run back [] e = absurd (omega (arith, e))
 far_done (a ∷ front) run back (r ∷ answers) e = ap (λ rest. Some r ∷ rest) (far_done front run back answers (omega (arith, e)))
 
-far_all : (run back : Moves) (ts : List Answer) → length ts ≡ length run → so_far (run ++ back) ts ≡ all_done ts ++ none_done back
+far_all : (run back : Moves) (ts : List ActAnswer) → length ts ≡ length run → so_far (run ++ back) ts ≡ all_done ts ++ none_done back
 far_all [] back [] e = none_far back
 far_all [] back (t ∷ ts) e = absurd (omega (arith, e))
 far_all (a ∷ run) back [] e = absurd (omega (arith, e))
 far_all (a ∷ run) back (t ∷ ts) e = ap (λ rest. Some t ∷ rest) (far_all run back ts (omega (arith, e)))
 
-pub far_more : (front run back : Moves) (answers ts : List Answer) → length answers ≡ length front → length ts ≡ length run → so_far (front ++ (run ++ back)) (answers ++ ts) ≡ all_done answers ++ (all_done ts ++ none_done back)
+pub far_more : (front run back : Moves) (answers ts : List ActAnswer) → length answers ≡ length front → length ts ≡ length run → so_far (front ++ (run ++ back)) (answers ++ ts) ≡ all_done answers ++ (all_done ts ++ none_done back)
 far_more [] run back [] ts e l = far_all run back ts l
 far_more [] run back (r ∷ answers) ts e l = absurd (omega (arith, e))
 far_more (a ∷ front) run back [] ts e l = absurd (omega (arith, e))
 far_more (a ∷ front) run back (r ∷ answers) ts e l = ap (λ rest. Some r ∷ rest) (far_more front run back answers ts (omega (arith, e)) l)
 
-pub far_whole : (moves : Moves) (answers : List Answer) → length answers ≡ length moves → so_far moves answers ≡ all_done answers
+pub far_whole : (moves : Moves) (answers : List ActAnswer) → length answers ≡ length moves → so_far moves answers ≡ all_done answers
 far_whole [] [] e = refl
 far_whole [] (r ∷ answers) e = absurd (omega (arith, e))
 far_whole (a ∷ moves) [] e = absurd (omega (arith, e))
@@ -78,11 +78,11 @@ pub clear_nothing : (run : Moves) → AllClear run [] []
 clear_nothing [] = tt
 clear_nothing (a ∷ run) = (tt, clear_nothing run)
 
-clear_one : (run : Moves) (a : Act Answer) (r : Answer) → AllClear run (a ∷ []) (Some r ∷ [])
+clear_one : (run : Moves) (a : Act ActAnswer) (r : ActAnswer) → AllClear run (a ∷ []) (Some r ∷ [])
 clear_one [] a r = tt
 clear_one (x ∷ run) a r = (tt, clear_one run a r)
 
-column : (xs run : Moves) (a : Act Answer) → NoneMeet conflict xs (a ∷ run) → NoneOf conflict a xs × NoneMeet conflict xs run
+column : (xs run : Moves) (a : Act ActAnswer) → NoneMeet conflict xs (a ∷ run) → NoneOf conflict a xs × NoneMeet conflict xs run
 column [] run a h = (tt, tt)
 column (x ∷ xs) run a h = let rest = column xs run a h.1 in ((h.0.0, rest.0), (h.0.1, rest.1))
 
@@ -91,7 +91,7 @@ pub clear_of_all : (run xs : Moves) (ds : Done) → NoneMeet conflict xs run →
 clear_of_all [] xs ds h = tt
 clear_of_all (a ∷ run) xs ds h = let c = column xs run a h in (clear_apart conflict a xs ds c.0, clear_of_all run xs ds c.1)
 
-right_apart : (x : Act Answer) (ys run zs : Moves) → Apart conflict x (ys ++ (run ++ zs)) → Apart conflict x run
+right_apart : (x : Act ActAnswer) (ys run zs : Moves) → Apart conflict x (ys ++ (run ++ zs)) → Apart conflict x run
 right_apart x [] [] zs h = tt
 right_apart x [] (a ∷ run) zs h = (h.0, right_apart x [] run zs h.1)
 right_apart x (y ∷ ys) run zs h = right_apart x ys run zs h.1
@@ -101,26 +101,26 @@ pub midst_apart : (xs ys run zs : Moves) → NoneMeet conflict xs (ys ++ (run ++
 midst_apart [] ys run zs h = tt
 midst_apart (x ∷ xs) ys run zs h = (right_apart x ys run zs h.0, midst_apart xs ys run zs h.1)
 
-clear_past : (a : Act Answer) (moves : Moves) (answers : List Answer) → length answers ≡ length moves → ClearOf conflict a moves (so_far moves answers)
+clear_past : (a : Act ActAnswer) (moves : Moves) (answers : List ActAnswer) → length answers ≡ length moves → ClearOf conflict a moves (so_far moves answers)
 clear_past a [] answers e = tt
 clear_past a (b ∷ moves) [] e = absurd (omega (arith, e))
 clear_past a (b ∷ moves) (r ∷ answers) e = clear_past a moves answers (omega (arith, e))
 
 -- moves that are all done
-pub clear_over : (run moves : Moves) (answers : List Answer) → length answers ≡ length moves → AllClear run moves (so_far moves answers)
+pub clear_over : (run moves : Moves) (answers : List ActAnswer) → length answers ≡ length moves → AllClear run moves (so_far moves answers)
 clear_over [] moves answers e = tt
 clear_over (a ∷ run) moves answers e = (clear_past a moves answers e, clear_over run moves answers e)
 
-clear_front : (run front : Moves) (answers : List Answer) → AllClear run front (all_done answers)
+clear_front : (run front : Moves) (answers : List ActAnswer) → AllClear run front (all_done answers)
 clear_front [] front answers = tt
 clear_front (a ∷ run) front answers = (by a front answers, clear_front run front answers) where
-  by : (a : Act Answer) (front : Moves) (answers : List Answer) → ClearOf conflict a front (all_done answers)
+  by : (a : Act ActAnswer) (front : Moves) (answers : List ActAnswer) → ClearOf conflict a front (all_done answers)
   by a [] answers = tt
   by a (b ∷ front) [] = tt
   by a (b ∷ front) (r ∷ answers) = by a front answers
 
 -- one of these runs, once it is done, makes it so
-pub record Turn (moves : Moves) (done : Done) (run : Moves) (ts : List Answer) (P : Done → Type 0) : Type 0 where
+pub record Turn (moves : Moves) (done : Done) (run : Moves) (ts : List ActAnswer) (P : Done → Type 0) : Type 0 where
   pub before : Moves
   pub after : Moves
   pub ds : Done
@@ -137,7 +137,7 @@ regroup f b x a = sym (append_assoc f b (x ++ a))
 regroup_back : {X : Type 0} (b x a k : List X) → (b ++ (x ++ a)) ++ k ≡ b ++ (x ++ (a ++ k))
 regroup_back b x a k = append_assoc b (x ++ a) k ∙ ap (λ t. b ++ t) (append_assoc x a k)
 
-pub behind : (front moves run : Moves) (fd done : Done) (ts : List Answer) (P Q : Done → Type 0) → length fd ≡ length front → AllClear run front fd → ((d : Done) → P d → Q (fd ++ d)) → Turn moves done run ts P → Turn (front ++ moves) (fd ++ done) run ts Q
+pub behind : (front moves run : Moves) (fd done : Done) (ts : List ActAnswer) (P Q : Done → Type 0) → length fd ≡ length front → AllClear run front fd → ((d : Done) → P d → Q (fd ++ d)) → Turn moves done run ts P → Turn (front ++ moves) (fd ++ done) run ts Q
 behind front moves run fd done ts P Q l c f t = record {
   before = front ++ t.before;
   after = t.after;
@@ -150,7 +150,7 @@ behind front moves run fd done ts P Q l c f t = record {
   next = subst Q (regroup fd t.ds (all_done ts) t.bs) (f (t.ds ++ (all_done ts ++ t.bs)) t.next);
 }
 
-pub in_front : (moves run back : Moves) (done bd : Done) (ts : List Answer) (P Q : Done → Type 0) → ((d : Done) → P d → Q (d ++ bd)) → Turn moves done run ts P → Turn (moves ++ back) (done ++ bd) run ts Q
+pub in_front : (moves run back : Moves) (done bd : Done) (ts : List ActAnswer) (P Q : Done → Type 0) → ((d : Done) → P d → Q (d ++ bd)) → Turn moves done run ts P → Turn (moves ++ back) (done ++ bd) run ts Q
 in_front moves run back done bd ts P Q f t = record {
   before = t.before;
   after = t.after ++ back;
@@ -164,7 +164,7 @@ in_front moves run back done bd ts P Q f t = record {
 }
 
 -- the next run of one block
-pub of_block : (front run back : Moves) (answers ts : List Answer) (P : Done → Type 0) → length answers ≡ length front → length ts ≡ length run → P (so_far (front ++ (run ++ back)) (answers ++ ts)) → Turn (front ++ (run ++ back)) (so_far (front ++ (run ++ back)) answers) run ts P
+pub of_block : (front run back : Moves) (answers ts : List ActAnswer) (P : Done → Type 0) → length answers ≡ length front → length ts ≡ length run → P (so_far (front ++ (run ++ back)) (answers ++ ts)) → Turn (front ++ (run ++ back)) (so_far (front ++ (run ++ back)) answers) run ts P
 of_block front run back answers ts P e l p = record {
   before = front;
   after = back;
@@ -176,7 +176,7 @@ of_block front run back answers ts P e l p = record {
   clear = clear_front run front answers;
   next = subst P (far_more front run back answers ts e l) p;
 } where
-  done_length : (answers : List Answer) → length (all_done answers) ≡ length answers
+  done_length : (answers : List ActAnswer) → length (all_done answers) ≡ length answers
   done_length [] = refl
   done_length (r ∷ answers) = ap suc (done_length answers)
 
@@ -215,11 +215,11 @@ sents_join [] es = refl
 sents_join (None ∷ ds) es = sents_join ds es
 sents_join (Some a ∷ ds) es = ap (put_sent a.sent) (sents_join ds es) ∙ put_join a.sent (sents_so_far ds) (sents_so_far es)
 
-pub sents_both : (xs ys : List Answer) → sents (xs ++ ys) ≡ sents xs ++ sents ys
+pub sents_both : (xs ys : List ActAnswer) → sents (xs ++ ys) ≡ sents xs ++ sents ys
 sents_both [] ys = refl
 sents_both (a ∷ xs) ys = ap (put_sent a.sent) (sents_both xs ys) ∙ put_join a.sent (sents xs) (sents ys)
 
-pub sents_all : (ts : List Answer) → sents_so_far (all_done ts) ≡ sents ts
+pub sents_all : (ts : List ActAnswer) → sents_so_far (all_done ts) ≡ sents ts
 sents_all [] = refl
 sents_all (t ∷ ts) = ap (put_sent t.sent) (sents_all ts)
 
@@ -231,12 +231,12 @@ sents_none (a ∷ run) = sents_none run
 pub sents_before : (run : Moves) (ds bs : Done) → sents_so_far (ds ++ (none_done run ++ bs)) ≡ sents_so_far ds ++ sents_so_far bs
 sents_before run ds bs = sents_join ds (none_done run ++ bs) ∙ ap (λ t. sents_so_far ds ++ t) (sents_join (none_done run) bs ∙ ap (λ t. t ++ sents_so_far bs) (sents_none run))
 
-pub sents_after : (ts : List Answer) (ds bs : Done) → sents_so_far (ds ++ (all_done ts ++ bs)) ≡ sents_so_far ds ++ (sents ts ++ sents_so_far bs)
+pub sents_after : (ts : List ActAnswer) (ds bs : Done) → sents_so_far (ds ++ (all_done ts ++ bs)) ≡ sents_so_far ds ++ (sents ts ++ sents_so_far bs)
 sents_after ts ds bs = sents_join ds (all_done ts ++ bs) ∙ ap (λ t. sents_so_far ds ++ t) (sents_join (all_done ts) bs ∙ ap (λ t. t ++ sents_so_far bs) (sents_all ts))
 
 -- moves that leave record and logs as they are
 
-pub record IsQuiet (a : Act Answer) : Type 0 where
+pub record IsQuiet (a : Act ActAnswer) : Type 0 where
   pub logs : a.logs.writes ≡ []
   pub sent : (s : State) → (tell a s).sent ≡ None
 

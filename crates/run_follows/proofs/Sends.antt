@@ -13,7 +13,7 @@ use Rattle.bio_core.specs.declared.request.Io.{Io}
 use Rattle.stack_ops.specs.declared.op.Op.{Op}
 use Rattle.block_path.specs.declared.route.Route.{Route}
 use Rattle.block_path.specs.Acts.{Act, Effect, State, act, effect, tell}
-use Rattle.block_path.specs.Blocks.{Answer, Sent, own_cell, stored_cell, written_by}
+use Rattle.block_path.specs.Blocks.{ActAnswer, Sent, own_cell, stored_cell, written_by}
 use Rattle.block_path.specs.Moves.{carried_in, carry_in, carry_out}
 use Rattle.block_path.specs.WayIn.{at_host, from_device, from_wire}
 use Rattle.block_path.specs.WayOut.{Fails, Refuses, Stores, from_adapter, goes_out, to_wire}
@@ -101,7 +101,7 @@ carries_in m own fate (Alters dev lba change) r frame e = absurd (false≢true (
 
 -- what it tells
 
-pub record Tells (m : Setting) (a : Act Answer) (now : State) (e : Sent) (why : Option Why) : Type 0 where
+pub record Tells (m : Setting) (a : Act ActAnswer) (now : State) (e : Sent) (why : Option Why) : Type 0 where
   pub sent : (tell a now).sent ≡ Some e
   pub why_is : (tell a now).why ≡ why
 
@@ -144,15 +144,15 @@ going_rest m n ops a ios logs status b next (x ∷ bs) (s ∷ spots) c e h =
     )
 
 -- whatever it puts on record
-put_block : (m : Setting) (n : ℕ) (ops : List Op) (a : Adapter) (ios : List Io) (opening now : State) (status : ℕ → ℕ → Status) (es : List Sent) (b : Block) (s : Spot) (c : Act Answer) (o : Option Sent) (why : Option Why) →
+put_block : (m : Setting) (n : ℕ) (ops : List Op) (a : Adapter) (ios : List Io) (opening now : State) (status : ℕ → ℕ → Status) (es : List Sent) (b : Block) (s : Spot) (c : Act ActAnswer) (o : Option Sent) (why : Option Why) →
     IsGoing m n ops a ios (length opening.logs) status b s → (parts_at m n s).carrying ≡ c → (tell c now).sent ≡ o → (tell c now).why ≡ why → Follows m n ops opening status now es →
     Follows m n ops opening (with_status b.op b.k (Carried why) status) (act c now) (es ++ put_sent o [])
 put_block m n ops a ios opening now status es b s c o why g q put found h =
     let here = subst (λ o. Follows m n o opening status now es) (sym g.script) h in
     let new = with_status b.op b.k (Carried why) status in
     let k = (parts_at m n s).carrying in
-    let told : (tell k now).why ≡ why = ap (λ (x : Act Answer). (tell x now).why) q ∙ found in
-    let sent : (tell k now).sent ≡ o = ap (λ (x : Act Answer). (tell x now).sent) q ∙ put in
+    let told : (tell k now).why ≡ why = ap (λ (x : Act ActAnswer). (tell x now).why) q ∙ found in
+    let sent : (tell k now).sent ≡ o = ap (λ (x : Act ActAnswer). (tell x now).sent) q ∙ put in
     let becomes : Becomes (number s) (place s) (Carried (tell k now).why) status new = record {
       here = with_here b.op b.k (number s) (place s) (Carried why) status g.number g.place ∙ ap (λ w. Carried w) (sym told);
       elsewhere = λ j l f. with_other b.op b.k j l (Carried why) status (λ x y. f (x ∙ sym g.number) (y ∙ sym g.place));
@@ -163,7 +163,7 @@ put_block m n ops a ios opening now status es b s c o why g q put found h =
     (subst (λ x. Follows m n (ops_of s) opening new (act x now) (es ++ put_sent o [])) q
     (subst (λ e. Follows m n (ops_of s) opening new (act k now) (es ++ put_sent e [])) sent done))
 
-one_block : (m : Setting) (n : ℕ) (ops : List Op) (a : Adapter) (ios : List Io) (opening now : State) (status : ℕ → ℕ → Status) (es : List Sent) (b : Block) (s : Spot) (c : Act Answer) (e : Sent) (why : Option Why) →
+one_block : (m : Setting) (n : ℕ) (ops : List Op) (a : Adapter) (ios : List Io) (opening now : State) (status : ℕ → ℕ → Status) (es : List Sent) (b : Block) (s : Spot) (c : Act ActAnswer) (e : Sent) (why : Option Why) →
     IsGoing m n ops a ios (length opening.logs) status b s → (parts_at m n s).carrying ≡ c → Tells m c now e why → Follows m n ops opening status now es →
     Follows m n ops opening (with_status b.op b.k (Carried why) status) (act c now) (es ++ (e ∷ []))
 one_block m n ops a ios opening now status es b s c e why g q t h = put_block m n ops a ios opening now status es b s c (Some e) why g q t.sent t.why_is h
@@ -215,7 +215,7 @@ module _ (m : Setting) (n : ℕ) (ops : List Op) (a : Adapter) (ios : List Io) (
       }
 
 -- what a block of a read leaves and tells
-record Comes (m : Setting) (a : Adapter) (ios : List Io) (b : Block) (now : State) (es : List Sent) (came : Result (List ℕ) Why) (e : Effect Answer) : Type 0 where
+record Comes (m : Setting) (a : Adapter) (ios : List Io) (b : Block) (now : State) (es : List Sent) (came : Result (List ℕ) Why) (e : Effect ActAnswer) : Type 0 where
   why : Option Why
   sent : e.answer.sent ≡ Some (stamped m.site es (label_of b) Read b.dev b.lba came)
   why_is : e.answer.why ≡ why

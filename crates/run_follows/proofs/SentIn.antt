@@ -5,7 +5,7 @@ use Rattle.page_pool.specs.Cells.{flat}
 use Rattle.target_answer.specs.Frames.{frames_of, joined, stored_size}
 use Rattle.target_answer.specs.Target.{Stop, Stored}
 use Rattle.target_answer.proofs.FrameLaws.{frames_length}
-use Rattle.rig_api.specs.Log.{Entry}
+use Rattle.rig_api.specs.Log.{LogEntry}
 use Rattle.rig_api.specs.State.{RigState}
 use Rattle.bio_core.specs.Bios.{Block}
 use Rattle.bio_core.specs.declared.bio.Bio.{Bio}
@@ -87,11 +87,11 @@ module _ (m : Setting) (n : ℕ) (ops : List Op) (a : Adapter) (ios : List Io) (
       let count = frames_length len k r.entry.moved in
       let long = length-in req in
       let same : r.entry ≡ told.entry = last_one old.log r.entry told.entry (sym r.what.recorded ∙ told.recorded) in
-      let done : o.done ≡ length (frames_in real) = ap (λ (e : Entry). e.what.outcome.done) same ∙ told.done ∙ ap (λ ws. length (frames_in ws)) ways in
+      let done : o.done ≡ length (frames_in real) = ap (λ (e : LogEntry). e.what.outcome.done) same ∙ told.done ∙ ap (λ ws. length (frames_in ws)) ways in
       let fewer = few real in
       let ways_count = ways_length more bs in
       let enough : k ≡ length (frames_in real) = omega (arith, done, fewer, ways_count, long) in
-      let moved : r.entry.moved ≡ joined (frames_in real) ++ [] = ap (λ (e : Entry). e.moved) same ∙ told.moved ∙ ap (λ ws. joined (frames_in ws)) ways ∙ sym (append-nil (joined (frames_in real))) in
+      let moved : r.entry.moved ≡ joined (frames_in real) ++ [] = ap (λ (e : LogEntry). e.moved) same ∙ told.moved ∙ ap (λ ws. joined (frames_in ws)) ways ∙ sym (append-nil (joined (frames_in real))) in
       let cut_there : frames ≡ frames_in real = ap (λ j. frames_of len j r.entry.moved) enough ∙ ap (frames_of len (length (frames_in real))) moved ∙ cut-joined len (frames_in real) [] (long_frames a ios units blocks m site more len bs wide) in
       let put : recorded m new.log ≡ put_each m.site bs cames es = goes_in m a ios req pool protect g pool' fates old new w r in
       let fate : in_fates a ios bs cames ≡ fates = in_fates_are (size req) o bs long a ios frames count ∙ sym r.fates_are in

@@ -5,7 +5,7 @@ use Rattle.std.proofs.lemmas.List.{length-map, length-take}
 use Rattle.page_pool.specs.Cells.{flat}
 use Rattle.target_answer.specs.Frames.{stored_size}
 use Rattle.target_answer.specs.Target.{Stop, Stored}
-use Rattle.rig_api.specs.Log.{Entry}
+use Rattle.rig_api.specs.Log.{LogEntry}
 use Rattle.rig_api.specs.State.{RigState}
 use Rattle.bio_core.specs.Bios.{Block}
 use Rattle.bio_core.specs.declared.bio.Bio.{Bio}
@@ -104,7 +104,7 @@ module _ (m : Setting) (n : ℕ) (ops : List Op) (a : Adapter) (ios : List Io) (
       let put : recorded m new.log ≡ put_each m.site bs cames es = went_out m a ios req pool protect g fates old new w good r in
       let fate : out_fates bs cames ≡ fates = out_fates_are (size req) o bs long frames count ∙ sym r.fates_are in
       let same : r.entry ≡ told.entry = last_one old.log r.entry told.entry (sym r.what.recorded ∙ told.recorded) in
-      let done : o.done ≡ length (frames_out real) = ap (λ (e : Entry). e.what.outcome.done) same ∙ told.done ∙ ap (λ ws. length (frames_out ws)) ways in
+      let done : o.done ≡ length (frames_out real) = ap (λ (e : LogEntry). e.what.outcome.done) same ∙ told.done ∙ ap (λ ws. length (frames_out ws)) ways in
       let fewer = few real in
       let ways_count = ways_length more bs in
       let enough : k ≡ length (frames_out real) = omega (arith, done, fewer, ways_count, long) in

@@ -3,7 +3,7 @@ use Rattle.std.proofs.Common.{◌≡◌, ◌≤◌, ◌⊎◌, inl, inr, ℕ, su
 use Rattle.std.proofs.lemmas.Bool.{false≢true}
 use Rattle.stack_ops.specs.declared.op.Op.{Op}
 use Rattle.block_path.specs.Acts.{conflict}
-use Rattle.block_path.specs.Blocks.{Answer}
+use Rattle.block_path.specs.Blocks.{ActAnswer}
 use Rattle.whole_run.specs.Settings.{Setting}
 use Rattle.whole_run.specs.Steps.{Alters, Reads, Seals, Sets, Shows, Step, Writes, WritesPi, steps_of}
 use Rattle.run_laws.specs.BoundRun.{fates, rooms}
@@ -94,14 +94,14 @@ module _ (m : Setting) where
   abbrev pub Next : (from fate k : ℕ) → Step → Status → Done → Type 0
   Next from fate k step next d =
       let b = by_moves m (own_at from k) (fate + k) step in
-      (here : List Answer) × ((d ≡ so_far b.moves here) × Stands (parts_of m (own_at from k) (fate + k) step) b.join next here)
+      (here : List ActAnswer) × ((d ≡ so_far b.moves here) × Stands (parts_of m (own_at from k) (fate + k) step) b.join next here)
 
-  abbrev pub BlockTurns : (from fate k : ℕ) → Step → (old next : Status) → Moves → List Answer → Type 0
+  abbrev pub BlockTurns : (from fate k : ℕ) → Step → (old next : Status) → Moves → List ActAnswer → Type 0
   BlockTurns from fate k step old next run ts =
       let b = by_moves m (own_at from k) (fate + k) step in
-      (here : List Answer) → Stands (parts_of m (own_at from k) (fate + k) step) b.join old here → Turn b.moves (so_far b.moves here) run ts (Next from fate k step next)
+      (here : List ActAnswer) → Stands (parts_of m (own_at from k) (fate + k) step) b.join old here → Turn b.moves (so_far b.moves here) run ts (Next from fate k step next)
 
-  pub step_turn : (from fate k : ℕ) (xs : List Step) (step : Step) (ys : List Step) (at : ℕ) (old new : ℕ → Status) (done : Done) (run : Moves) (ts : List Answer) → k + length xs ≡ at →
+  pub step_turn : (from fate k : ℕ) (xs : List Step) (step : Step) (ys : List Step) (at : ℕ) (old new : ℕ → Status) (done : Done) (run : Moves) (ts : List ActAnswer) → k + length xs ≡ at →
       ((l : ℕ) → (l ≡ at → ⊥) → new l ≡ old l) → BlockTurns from fate at step (old at) (new at) run ts → NoneMeet conflict (all_moves (blocks_from m from fate k xs)) run →
       StandFrom m from fate k (xs ++ (step ∷ ys)) old done → Turn (all_moves (blocks_from m from fate k (xs ++ (step ∷ ys)))) done run ts (StandFrom m from fate k (xs ++ (step ∷ ys)) new)
   step_turn from fate k [] step ys at old new done run ts e same block apart h =
@@ -133,7 +133,7 @@ module _ (m : Setting) where
 
   -- an op's next moves among all
 
-  abbrev pub OpTurns : (from fate i : ℕ) → Op → (old new : ℕ → Status) → Moves → List Answer → Type 0
+  abbrev pub OpTurns : (from fate i : ℕ) → Op → (old new : ℕ → Status) → Moves → List ActAnswer → Type 0
   OpTurns from fate i op old new run ts =
       (here : Done) → StandFrom m from fate 0 (steps_of m i op) old here → Turn (all_moves (blocks_of m from fate i op)) here run ts (StandFrom m from fate 0 (steps_of m i op) new)
 
@@ -142,7 +142,7 @@ module _ (m : Setting) where
   ClearOps from fate i (op ∷ ops) status run =
       ((here : Done) → StandFrom m from fate 0 (steps_of m i op) (status i) here → AllClear run (all_moves (blocks_of m from fate i op)) here) × ClearOps (from + room_of m op) (fate + fates_of op) (suc i) ops status run
 
-  pub op_turn : (from fate i : ℕ) (xs : List Op) (op : Op) (ys : List Op) (at from' fate' : ℕ) (old new : ℕ → ℕ → Status) (done : Done) (run : Moves) (ts : List Answer) →
+  pub op_turn : (from fate i : ℕ) (xs : List Op) (op : Op) (ys : List Op) (at from' fate' : ℕ) (old new : ℕ → ℕ → Status) (done : Done) (run : Moves) (ts : List ActAnswer) →
       i + length xs ≡ at → from + rooms m xs ≡ from' → fate + fates xs ≡ fate' → ((j l : ℕ) → (j ≡ at → ⊥) → new j l ≡ old j l) → OpTurns from' fate' at op (old at) (new at) run ts → ClearOps from fate i xs old run →
       AllStand m from fate i (xs ++ (op ∷ ys)) old done → Turn (moves_from m from fate i (xs ++ (op ∷ ys))) done run ts (AllStand m from fate i (xs ++ (op ∷ ys)) new)
   op_turn from fate i [] op ys at from' fate' old new done run ts e f g same turns clear h =

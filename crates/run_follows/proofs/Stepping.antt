@@ -14,7 +14,7 @@ use Rattle.bio_core.specs.declared.request.Dir.TheVariants.{Read, Write as Write
 use Rattle.bio_core.specs.declared.request.Io.{Io}
 use Rattle.stack_ops.specs.declared.op.Op.{Op}
 use Rattle.block_path.specs.Acts.{State, act, tell}
-use Rattle.block_path.specs.Blocks.{Answer, Sent, silent}
+use Rattle.block_path.specs.Blocks.{ActAnswer, Sent, silent}
 use Rattle.block_path.specs.Moves.{first_why}
 use Rattle.block_path.specs.Serial.{plain, plain_tells}
 use Rattle.whole_run.specs.ScriptWalk.{acts_of}
@@ -167,7 +167,7 @@ module _ (m : Setting) (n : ℕ) (ops : List Op) (opening : State) (status : ℕ
 
 -- a block is settled
 
-abbrev found : List Answer → Option Why
+abbrev found : List ActAnswer → Option Why
 found answers = (get_or answers 0 silent).why
 
 -- a write's completion finds nothing

@@ -9,7 +9,7 @@ use Rattle.stack_ops.specs.declared.op.Op.{Op}
 use Rattle.stack_ops.specs.declared.op.Op.TheVariants.{Fetch, FetchPi, Fill, Overwrite, Put, Seal, Show, Wait, Write, WritePi}
 use Rattle.block_path.specs.declared.route.Route.{Route}
 use Rattle.block_path.specs.Acts.{Act, Effect, State, act, conflict, effect, tell}
-use Rattle.block_path.specs.Blocks.{Answer, Sent, fetched_cell, own_cell, silent, written_by}
+use Rattle.block_path.specs.Blocks.{ActAnswer, Sent, fetched_cell, own_cell, silent, written_by}
 use Rattle.block_path.specs.Moves.{carried_in, carry_in, carry_out, make_tuple, map_back, map_out, settle}
 use Rattle.block_path.specs.Routes.{Device}
 use Rattle.block_path.specs.Serial.{Alike, StandFor}
@@ -26,23 +26,23 @@ use Rattle.run_follows.specs.Slots.{Admitted, Carried, Cut, Done as AllDone, Par
 use Rattle.run_follows.proofs.Runs.{Done, Moves, far_length}
 
 -- moves in pairs: those that are done do the same
-pub record SameAct (a b : Act Answer) : Type 0 where
+pub record SameAct (a b : Act ActAnswer) : Type 0 where
   pub state : (s : State) → act a s ≡ act b s
   pub answer : (s : State) → tell a s ≡ tell b s
 
-abbrev Pairs : Moves → Moves → List Answer → Type 0
+abbrev Pairs : Moves → Moves → List ActAnswer → Type 0
 Pairs [] [] answers = Unit {0}
 Pairs [] (y ∷ ys) answers = ⊥
 Pairs (x ∷ xs) [] answers = ⊥
 Pairs (x ∷ xs) (y ∷ ys) [] = Alike conflict x y × Pairs xs ys []
 Pairs (x ∷ xs) (y ∷ ys) (r ∷ answers) = (Alike conflict x y × SameAct x y) × Pairs xs ys answers
 
-same_pairs : (xs : Moves) (answers : List Answer) → Pairs xs xs answers
+same_pairs : (xs : Moves) (answers : List ActAnswer) → Pairs xs xs answers
 same_pairs [] answers = tt
 same_pairs (x ∷ xs) [] = (record { one = λ y. refl; other = λ y. refl }, same_pairs xs [])
 same_pairs (x ∷ xs) (r ∷ answers) = ((record { one = λ y. refl; other = λ y. refl }, record { state = λ s. refl; answer = λ s. refl }), same_pairs xs answers)
 
-pairs_mid : (front : Moves) (a b : Act Answer) (back : Moves) (answers : List Answer) → Alike conflict a b → (length answers ≤ length front) ⊎ SameAct a b → Pairs (front ++ (a ∷ back)) (front ++ (b ∷ back)) answers
+pairs_mid : (front : Moves) (a b : Act ActAnswer) (back : Moves) (answers : List ActAnswer) → Alike conflict a b → (length answers ≤ length front) ⊎ SameAct a b → Pairs (front ++ (a ∷ back)) (front ++ (b ∷ back)) answers
 pairs_mid [] a b back [] l h = (l, same_pairs back [])
 pairs_mid [] a b back (r ∷ answers) l (inl u) = absurd (omega (arith, u))
 pairs_mid [] a b back (r ∷ answers) l (inr same) = ((l, same), same_pairs back answers)
@@ -50,7 +50,7 @@ pairs_mid (x ∷ front) a b back [] l h = (record { one = λ y. refl; other = λ
 pairs_mid (x ∷ front) a b back (r ∷ answers) l (inl u) = ((record { one = λ y. refl; other = λ y. refl }, record { state = λ s. refl; answer = λ s. refl }), pairs_mid front a b back answers l (inl (omega (arith, u))))
 pairs_mid (x ∷ front) a b back (r ∷ answers) l (inr same) = ((record { one = λ y. refl; other = λ y. refl }, record { state = λ s. refl; answer = λ s. refl }), pairs_mid front a b back answers l (inr same))
 
-far_same : (xs ys : Moves) (answers : List Answer) → Pairs xs ys answers → so_far xs answers ≡ so_far ys answers
+far_same : (xs ys : Moves) (answers : List ActAnswer) → Pairs xs ys answers → so_far xs answers ≡ so_far ys answers
 far_same [] [] answers h = refl
 far_same [] (y ∷ ys) answers h = absurd h
 far_same (x ∷ xs) [] answers h = absurd h
@@ -60,7 +60,7 @@ far_same (x ∷ xs) (y ∷ ys) (r ∷ answers) h = ap (λ rest. Some r ∷ rest)
 abbrev Stand : Moves → Moves → Done → Type 0
 Stand xs ys ds = (s : State) → StandFor act tell conflict xs ys ds s
 
-stand_pairs : (xs ys as' bs' : Moves) (answers : List Answer) (ds : Done) → Pairs xs ys answers → Stand as' bs' ds → Stand (xs ++ as') (ys ++ bs') (so_far xs answers ++ ds)
+stand_pairs : (xs ys as' bs' : Moves) (answers : List ActAnswer) (ds : Done) → Pairs xs ys answers → Stand as' bs' ds → Stand (xs ++ as') (ys ++ bs') (so_far xs answers ++ ds)
 stand_pairs [] [] as' bs' answers ds h k s = k s
 stand_pairs [] (y ∷ ys) as' bs' answers ds h k s = absurd h
 stand_pairs (x ∷ xs) [] as' bs' answers ds h k s = absurd h
@@ -132,24 +132,24 @@ module _ (m : Setting) (one two : Device) where
   out_effect r (Err check) log e = refl
 
   pub out_same : (r : Route) (frame : List ℕ) → SameFor one two r → SameAct (carry_out (over m one).site r frame) (carry_out (over m two).site r frame)
-  out_same r frame e = record { state = λ s. state s (same s); answer = λ s. ap (λ (x : Effect Answer). x.answer) (same s) } where
+  out_same r frame e = record { state = λ s. state s (same s); answer = λ s. ap (λ (x : Effect ActAnswer). x.answer) (same s) } where
     same : (s : State) → effect (carry_out (over m one).site r frame) s ≡ effect (carry_out (over m two).site r frame) s
     same s = out_effect r (to_wire m.site.faults r (gather 0 frame s.bytes)) (get_or s.logs (own_cell m.site r) []) e
 
     state : (s : State) → effect (carry_out (over m one).site r frame) s ≡ effect (carry_out (over m two).site r frame) s → act (carry_out (over m one).site r frame) s ≡ act (carry_out (over m two).site r frame) s
     state s q = let a = carry_out (over m one).site r frame in same_cells _ _ _ _ _ _ _ _
-        (ap (λ (x : Effect Answer). scatter a.bytes.writes x.written.bytes s.bytes) q) (ap (λ (x : Effect Answer). scatter a.blocks.writes x.written.blocks s.blocks) q)
-        (ap (λ (x : Effect Answer). scatter a.logs.writes x.written.logs s.logs) q) (ap (λ (x : Effect Answer). scatter a.fates.writes x.written.fates s.fates) q)
+        (ap (λ (x : Effect ActAnswer). scatter a.bytes.writes x.written.bytes s.bytes) q) (ap (λ (x : Effect ActAnswer). scatter a.blocks.writes x.written.blocks s.blocks) q)
+        (ap (λ (x : Effect ActAnswer). scatter a.logs.writes x.written.logs s.logs) q) (ap (λ (x : Effect ActAnswer). scatter a.fates.writes x.written.fates s.fates) q)
 
   in_same : (r : Route) (to : List ℕ) (fate : ℕ) → SameFor one two r → SameAct (carry_in (over m one).site r to fate) (carry_in (over m two).site r to fate)
-  in_same r to fate e = record { state = λ s. state s (same s); answer = λ s. ap (λ (x : Effect Answer). x.answer) (same s) } where
+  in_same r to fate e = record { state = λ s. state s (same s); answer = λ s. ap (λ (x : Effect ActAnswer). x.answer) (same s) } where
     same : (s : State) → effect (carry_in (over m one).site r to fate) s ≡ effect (carry_in (over m two).site r to fate) s
     same s = ap (λ came. carried_in r (from_device m.site.faults r came) (length (get_or s.logs (own_cell m.site r) []))) (e.sends (get_or s.blocks (fetched_cell m.site r) []))
 
     state : (s : State) → effect (carry_in (over m one).site r to fate) s ≡ effect (carry_in (over m two).site r to fate) s → act (carry_in (over m one).site r to fate) s ≡ act (carry_in (over m two).site r to fate) s
     state s q = let a = carry_in (over m one).site r to fate in same_cells _ _ _ _ _ _ _ _
-        (ap (λ (x : Effect Answer). scatter a.bytes.writes x.written.bytes s.bytes) q) (ap (λ (x : Effect Answer). scatter a.blocks.writes x.written.blocks s.blocks) q)
-        (ap (λ (x : Effect Answer). scatter a.logs.writes x.written.logs s.logs) q) (ap (λ (x : Effect Answer). scatter a.fates.writes x.written.fates s.fates) q)
+        (ap (λ (x : Effect ActAnswer). scatter a.bytes.writes x.written.bytes s.bytes) q) (ap (λ (x : Effect ActAnswer). scatter a.blocks.writes x.written.blocks s.blocks) q)
+        (ap (λ (x : Effect ActAnswer). scatter a.logs.writes x.written.logs s.logs) q) (ap (λ (x : Effect ActAnswer). scatter a.fates.writes x.written.fates s.fates) q)
 
   -- what it takes for the moves of a step to stand for one another
   abbrev IsTold : (i k : ℕ) → Status → Type 0
@@ -164,7 +164,7 @@ module _ (m : Setting) (one two : Device) where
     by true e = inr (g e)
     by false e = inl (f e)
 
-  step_pairs : (i k : ℕ) (own : List ℕ) (fate : ℕ) (step : Step) (status : Status) (here : List Answer) → HasLabel i k step → IsTold i k status → length here ≡ done_by (parts_of (over m one) own fate step) status →
+  step_pairs : (i k : ℕ) (own : List ℕ) (fate : ℕ) (step : Step) (status : Status) (here : List ActAnswer) → HasLabel i k step → IsTold i k status → length here ≡ done_by (parts_of (over m one) own fate step) status →
       Pairs (by_moves (over m one) own fate step).moves (by_moves (over m two) own fate step).moves here
   step_pairs i k own fate (Sets at values) status here l t e = same_pairs (by_moves (over m one) own fate (Sets at values)).moves here
   step_pairs i k own fate (Shows at) status here l t e = same_pairs (by_moves (over m one) own fate (Shows at)).moves here
@@ -191,7 +191,7 @@ module _ (m : Setting) (one two : Device) where
       (λ c. not_yet (parts_of (over m one) own fate (Reads b owner to)) status (length here) c e) (λ c. in_same (route m b) at fate (same_label i k b l (t c))))
   step_pairs i k own fate (Alters dev lba change) status here l t e = same_pairs (by_moves (over m one) own fate (Alters dev lba change)).moves here
 
-  step_stands : (own : List ℕ) (fate : ℕ) (step : Step) (status : Status) (here : List Answer) → Stands (parts_of (over m one) own fate step) (by_moves (over m one) own fate step).join status here →
+  step_stands : (own : List ℕ) (fate : ℕ) (step : Step) (status : Status) (here : List ActAnswer) → Stands (parts_of (over m one) own fate step) (by_moves (over m one) own fate step).join status here →
       Stands (parts_of (over m two) own fate step) (by_moves (over m two) own fate step).join status here
   step_stands own fate (Sets at values) status here s = record { count = s.count; sent = s.sent; tells = s.tells }
   step_stands own fate (Shows at) status here s = record { count = s.count; sent = s.sent; tells = s.tells }

@@ -7,7 +7,7 @@ use Rattle.page_pool.specs.Cells.{flat}
 use Rattle.pi_tuple.specs.declared.checks.Check.{Check}
 use Rattle.target_answer.specs.Frames.{frames_of, joined}
 use Rattle.target_answer.specs.Target.{Stored}
-use Rattle.rig_api.specs.Log.{Entry}
+use Rattle.rig_api.specs.Log.{LogEntry}
 use Rattle.rig_api.specs.State.{RigState}
 use Rattle.bio_core.specs.Bios.{Block}
 use Rattle.bio_core.specs.declared.bio.Bio.{Bio}
@@ -225,12 +225,12 @@ module _ (m : Setting) (n : ℕ) (ops : List Op) (a : Adapter) (ios : List Io) (
       let count = frames_length len k r.entry.moved in
       let ways = ways_in a ios (shapes_of us) (blocks_told us) bs in
       let same : r.entry ≡ told.entry = last_one old.log r.entry told.entry (sym r.what.recorded ∙ told.recorded) in
-      let done : o.done ≡ length (frames_in ways) = ap (λ (e : Entry). e.what.outcome.done) same ∙ told.done in
+      let done : o.done ≡ length (frames_in ways) = ap (λ (e : LogEntry). e.what.outcome.done) same ∙ told.done in
       let few = frames_few ways in
       let ways_count = ways_length bs in
       let long = length-in req in
       let enough : k ≡ length (frames_in ways) = omega (arith, done, few, ways_count, long) in
-      let moved : r.entry.moved ≡ joined (frames_in ways) ++ [] = ap (λ (e : Entry). e.moved) same ∙ told.moved ∙ sym (append-nil (joined (frames_in ways))) in
+      let moved : r.entry.moved ≡ joined (frames_in ways) ++ [] = ap (λ (e : LogEntry). e.moved) same ∙ told.moved ∙ sym (append-nil (joined (frames_in ways))) in
       let cut : frames ≡ frames_in ways = ap (λ j. frames_of len j r.entry.moved) enough ∙ ap (frames_of len (length (frames_in ways))) moved
       ∙ cut-joined len (frames_in ways) [] (long_frames m a ios (shapes_of us) site (blocks_told us) len bs sized) in
       let put : recorded m new.log ≡ put_each m.site bs cames es = goes_in m a ios req pool protect g pool' fates old new w r in

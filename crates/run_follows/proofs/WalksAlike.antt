@@ -11,7 +11,7 @@ use Rattle.bio_core.specs.declared.fate.Why.{Why}
 use Rattle.bio_core.specs.declared.fate.Why.TheVariants.{Medium}
 use Rattle.block_path.specs.declared.route.Route.{Route}
 use Rattle.block_path.specs.Acts.{Effect, State, act, effect, tell}
-use Rattle.block_path.specs.Blocks.{Answer, fetched_cell, own_cell, own_frame, read_by, stored_cell, tuple_after, written_by}
+use Rattle.block_path.specs.Blocks.{ActAnswer, fetched_cell, own_cell, own_frame, read_by, stored_cell, tuple_after, written_by}
 use Rattle.block_path.specs.Moves.{on_bytes}
 use Rattle.block_path.specs.Routes.{Device}
 use Rattle.block_path.specs.WayIn.{WayIn, Delivers, Spoils, Stops, from_device, verified}
@@ -32,7 +32,7 @@ abbrev pub Forgives : Option (List ℕ) → (there truth : Option Why) → Type 
 Forgives None there truth = there ≡ truth
 Forgives (Some left) there truth = there ≡ None → truth ≡ Some Medium
 
-record Leaves (o : Option (List ℕ)) (x y : Effect Answer) : Type 0 where
+record Leaves (o : Option (List ℕ)) (x y : Effect ActAnswer) : Type 0 where
   bytes : x.written.bytes ≡ y.written.bytes
   blocks : x.written.blocks ≡ y.written.blocks
   why : Forgives o x.answer.why y.answer.why
@@ -70,7 +70,7 @@ module _ (m : Setting) (falls : Falls) where
   over = over_falls m falls
 
   -- what is told of a step there and in truth
-  abbrev pub Tells : Step → Answer → Answer → Type 0
+  abbrev pub Tells : Step → ActAnswer → ActAnswer → Type 0
   Tells (Sets at values) x y = Unit {0}
   Tells (Shows at) x y = x.shown ≡ y.shown
   Tells (Seals body tuple app rtag) x y = Unit {0}
@@ -87,7 +87,7 @@ module _ (m : Setting) (falls : Falls) where
   on_bytes_sees reads writes f s t h = record { bytes = ap (λ x. scatter writes (f (gather 0 reads x)) x) h.bytes; blocks = h.blocks }
 
   -- a write
-  out_steps : (writes : List ℕ) (c : ℕ) (o : Option (List ℕ)) (x y : Effect Answer) (s t : State) → Sees s t → Leaves o x y →
+  out_steps : (writes : List ℕ) (c : ℕ) (o : Option (List ℕ)) (x y : Effect ActAnswer) (s t : State) → Sees s t → Leaves o x y →
       (scatter writes x.written.bytes s.bytes ≡ scatter writes y.written.bytes t.bytes) × (scatter (c ∷ []) x.written.blocks s.blocks ≡ scatter (c ∷ []) y.written.blocks t.blocks)
   out_steps writes c o x y s t h l = (
     ap (λ z. scatter writes z s.bytes) l.bytes ∙ ap (scatter writes y.written.bytes) h.bytes,
@@ -120,7 +120,7 @@ module _ (m : Setting) (falls : Falls) where
 
   -- a read
 
-  record ReadLeaves (to : List ℕ) (x y : Effect Answer) : Type 0 where
+  record ReadLeaves (to : List ℕ) (x y : Effect ActAnswer) : Type 0 where
     bytes : x.written.bytes ≡ y.written.bytes
     why : x.answer.why ≡ y.answer.why
 

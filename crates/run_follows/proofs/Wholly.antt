@@ -3,7 +3,7 @@ use Rattle.std.proofs.Common.{◌≡◌, ℕ, zero, suc, ◌+◌, ◌%◌, ◌^�
 use Rattle.stack_ops.specs.declared.op.Op.{Op}
 use Rattle.stack_ops.specs.declared.op.Op.TheVariants.{Fetch, FetchPi, Fill, Overwrite, Put, Seal, Show, Wait, Write, WritePi}
 use Rattle.block_path.specs.Acts.{State, act, tell}
-use Rattle.block_path.specs.Blocks.{Answer, Sent, silent}
+use Rattle.block_path.specs.Blocks.{ActAnswer, Sent, silent}
 use Rattle.block_path.specs.Serial.{all_done, none_done, plain, plain_tells}
 use Rattle.whole_run.specs.ScriptWalk.{act_of, acts_of}
 use Rattle.whole_run.specs.Settings.{Setting}
@@ -69,7 +69,7 @@ module _ (m : Setting) (from fate : ℕ) where
       let one = one_move m (own_at from k) (fate + k) step h.0 in
       ap (λ (b : ByMoves). b.moves ++ all_moves (blocks_from m from fate (suc k) steps)) one.moves ∙ ap (λ rest. act_of m step ∷ rest) (alone_moves (suc k) steps h.1)
 
-  none_of : (answers : List Answer) → length answers ≡ 0 → answers ≡ []
+  none_of : (answers : List ActAnswer) → length answers ≡ 0 → answers ≡ []
   none_of [] e = refl
   none_of (a ∷ answers) e = absurd (omega (arith, e))
 

@@ -3,7 +3,7 @@ use Rattle.bio_core.specs.declared.fate.Why.{Why}
 use Rattle.stack_ops.specs.declared.op.Op.{Op}
 use Rattle.stack_ops.specs.declared.reply.Reply.{Reply}
 use Rattle.block_path.specs.Acts.{State}
-use Rattle.block_path.specs.Blocks.{Answer, Sent, silent}
+use Rattle.block_path.specs.Blocks.{ActAnswer, Sent, silent}
 use Rattle.block_path.specs.Moves.{hidden}
 use Rattle.whole_run.specs.ScriptWalk.{reply_of, script_replies, script_walk}
 use Rattle.block_path.specs.Routes.{wire_size}
@@ -40,7 +40,7 @@ AllEnded m i [] status = Unit {0}
 AllEnded m i (op ∷ ops) status = HaveEnded 0 (steps_of m i op) (status i) × AllEnded m (suc i) ops status
 
 -- what is known of a step that ended: with what it is listed, or what it shows
-abbrev pub answer_of : Status → Answer
+abbrev pub answer_of : Status → ActAnswer
 answer_of Waits = silent
 answer_of Admitted = silent
 answer_of Cut = silent
@@ -48,7 +48,7 @@ answer_of (Carried fate) = silent
 answer_of (Settled why) = record silent { why = why }
 answer_of (Done shown) = record silent { shown = shown }
 
-abbrev pub answers_of : (k : ℕ) → List Step → (ℕ → Status) → List Answer
+abbrev pub answers_of : (k : ℕ) → List Step → (ℕ → Status) → List ActAnswer
 answers_of k [] status = []
 answers_of k (step ∷ steps) status = answer_of (status k) ∷ answers_of (suc k) steps status
 

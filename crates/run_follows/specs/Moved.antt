@@ -16,9 +16,10 @@ use Rattle.bio_core.specs.Bios.{block_size}
 use Rattle.block_path.specs.declared.mode.Mode.{Mode}
 use Rattle.block_path.specs.declared.route.Route.{Route}
 use Rattle.block_path.specs.Acts.{Act, State, act, tell}
-use Rattle.block_path.specs.Blocks.{Answer}
+use Rattle.block_path.specs.Blocks.{ActAnswer}
 use Rattle.block_path.specs.Moves.{first_why, in_turn, make_tuple, map_out, settle}
 use Rattle.dix_adapter.specs.Groups.{data_cells}
+use Rattle.pi_tuple.specs.declared.TheConstants.{TUPLE}
 
 -- block k of a request, which lies at this address
 abbrev pub route_to : Label → (dev : ℕ) → PiType → Mode → Io → (k lba : ℕ) → Route
@@ -39,7 +40,7 @@ pub record HasFrames (pool : List (List ℕ)) (io : Io) (pi : Payload) : Type 0 
   pub is : io.pi ≡ Some pi
   pub seed : pi.seed ≡ io.first
   pub count : pi.count ≡ io.count
-  pub long : total pi.tuples ≡ 8 * io.count
+  pub long : total pi.tuples ≡ TUPLE * io.count
   pub whole : AreWhole pool
   pub lies : AllLieIn pool io.body
   pub lie : AllLieIn pool pi.tuples
@@ -47,10 +48,10 @@ pub record HasFrames (pool : List (List ℕ)) (io : Io) (pi : Payload) : Type 0 
   pub apart : Apart (places_in io.body) (places_in pi.tuples)
 
 -- A block's tuple is made, its tag is mapped out, or back: these are the moves of n blocks from block k on, at addresses from this one on.
-abbrev pub makes : (ℕ → Label) → (dev : ℕ) → PiType → Mode → Io → Payload → (n : ℕ) → List (Act Answer)
+abbrev pub makes : (ℕ → Label) → (dev : ℕ) → PiType → Mode → Io → Payload → (n : ℕ) → List (Act ActAnswer)
 makes label dev ty mode io pi n = in_turn (λ i. make_tuple (route_to (label i) dev ty mode io i 0) pi.app (data_cells io i) (tuple_at pi i)) n
 
-abbrev pub maps_out : (ℕ → Label) → (dev : ℕ) → PiType → Mode → Io → Payload → (k n lba : ℕ) → List (Act Answer)
+abbrev pub maps_out : (ℕ → Label) → (dev : ℕ) → PiType → Mode → Io → Payload → (k n lba : ℕ) → List (Act ActAnswer)
 maps_out label dev ty mode io pi k n lba = in_turn (λ i. map_out (route_to (label i) dev ty mode io (k + i) (lba + i)) (tuple_at pi (k + i))) n
 
 -- The pages are those that the move leaves, and the block came to what the move answers where it was good before.

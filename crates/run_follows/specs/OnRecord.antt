@@ -6,7 +6,7 @@ use Rattle.rig_api.specs.declared.rig.Outcome.{Outcome}
 use Rattle.block_path.specs.Blocks.{Sent, Site}
 use Rattle.dix_adapter.specs.Groups.{blocks_in, label_of, size}
 use Rattle.whole_run.specs.Settings.{Setting}
-use Rattle.rig_api.specs.Log.{Entry}
+use Rattle.rig_api.specs.Log.{LogEntry}
 use Rattle.run_laws.specs.Records.{came_of, recorded, stamped}
 
 -- A group that was carried by one command, as it goes on record: block by block.
@@ -18,5 +18,5 @@ put_each s (b ∷ bs) [] es = es
 put_each s (b ∷ bs) (came ∷ cames) es = put_each s bs cames (es ++ (stamped s es (label_of b) b.dir b.dev b.lba came ∷ []))
 
 -- The new log has one command more: the frames of the blocks that are done, and why the command ended, where it ended before the last.
-abbrev pub GoesOnRecord : Setting → List Bio → Outcome → (frames : List (List ℕ)) → (old new : List Entry) → Type 0
+abbrev pub GoesOnRecord : Setting → List Bio → Outcome → (frames : List (List ℕ)) → (old new : List LogEntry) → Type 0
 GoesOnRecord m req o frames old new = recorded m new ≡ put_each m.site (blocks_in req) (came_of (size req) o.done o.sense frames) (recorded m old)

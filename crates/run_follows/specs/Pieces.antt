@@ -1,7 +1,7 @@
 use Rattle.std.specs.Prelude.{ℕ, ◌≡◌, List, [], ◌∷◌, ◌++◌}
 use Rattle.stack_ops.specs.declared.op.Op.{Op}
 use Rattle.block_path.specs.Acts.{Act}
-use Rattle.block_path.specs.Blocks.{Answer}
+use Rattle.block_path.specs.Blocks.{ActAnswer}
 use Rattle.whole_run.specs.Settings.{Setting}
 use Rattle.run_follows.specs.Gate.{MayMove, Spot, number, ops_of, parts_at, place}
 use Rattle.run_follows.specs.Sending.{with_status}
@@ -25,10 +25,10 @@ AllMayMove m n ops status was (s ∷ spots) =
     (ops_of s ≡ ops) × (MayMove m n status s × ((status (number s) (place s) ≡ was) × (IsNoneOf s spots × AllMayMove m n ops status was spots)))
 
 -- what their admission does, and what their cut does, one block after another
-abbrev pub all_made : Setting → (n : ℕ) → List Spot → List (Act Answer)
+abbrev pub all_made : Setting → (n : ℕ) → List Spot → List (Act ActAnswer)
 all_made m n [] = []
 all_made m n (s ∷ spots) = (parts_at m n s).made ++ all_made m n spots
 
-abbrev pub all_cut : Setting → (n : ℕ) → List Spot → List (Act Answer)
+abbrev pub all_cut : Setting → (n : ℕ) → List Spot → List (Act ActAnswer)
 all_cut m n [] = []
 all_cut m n (s ∷ spots) = (parts_at m n s).cut ++ all_cut m n spots

@@ -10,6 +10,8 @@ use Rattle.merge_queue.specs.Groups.{numbers}
 use Rattle.stack_ops.specs.declared.op.Op.{Op}
 use Rattle.stack_ops.specs.declared.op.Op.TheVariants.{Fill, Put, Show, Seal, Write, Fetch, WritePi, FetchPi, Overwrite, Wait}
 use Rattle.run_follows.specs.Sheets.{no_io}
+use Rattle.page_pool.specs.declared.TheConstants.{PAGE}
+use Rattle.pi_tuple.specs.declared.TheConstants.{TUPLE}
 
 -- how many pages hold the tuples of so many blocks
 abbrev pub pages_for : ℕ → ℕ
@@ -17,7 +19,7 @@ pages_for count = (count + 511) / 512
 
 -- the i-th page of the tuples of so many blocks, from a page on
 abbrev pub tuple_page : (page count : ℕ) → ℕ → Seg
-tuple_page page count i = record { page = page + i; off = 0; len = min (8 * (count - 512 * i)) 4096 }
+tuple_page page count i = record { page = page + i; off = 0; len = min (TUPLE * (count - 512 * i)) PAGE }
 
 abbrev pub private_tuples : (page count : ℕ) → List Seg
 private_tuples page count = map (tuple_page page count) (numbers 0 (pages_for count))

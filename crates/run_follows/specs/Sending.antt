@@ -9,14 +9,14 @@ use Rattle.bio_core.specs.declared.request.Io.{Io}
 use Rattle.stack_ops.specs.declared.op.Op.{Op}
 use Rattle.block_path.specs.declared.route.Route.{Route}
 use Rattle.block_path.specs.Acts.{Act, State, act}
-use Rattle.block_path.specs.Blocks.{Answer, Sent, fetched_cell}
+use Rattle.block_path.specs.Blocks.{ActAnswer, Sent, fetched_cell}
 use Rattle.block_path.specs.Moves.{carry_out}
 use Rattle.block_path.specs.Serial.{plain}
 use Rattle.block_path.specs.WayOut.{Refuses, Stores, goes_out}
 use Rattle.whole_run.specs.Settings.{Setting, route}
 use Rattle.whole_run.specs.Steps.{Alters, Reads, Seals, Sets, Shows, Step, Writes, WritesPi}
 use Rattle.run_laws.specs.EarlierWrites.{HasLog}
-use Rattle.rig_api.specs.Log.{Entry}
+use Rattle.rig_api.specs.Log.{LogEntry}
 use Rattle.run_laws.specs.Records.{find, recorded}
 use Rattle.run_laws.specs.ToldRun.{told}
 use Rattle.run_laws.specs.BoundRun.{rooms}
@@ -141,7 +141,7 @@ AllComeIn m a ios blocks (b ∷ bs) (came ∷ cames) =
     (b.dir ≡ Read) × ((m.site.device.sends (route_of a ios b) (get_or blocks (fetched_cell m.site (route_of a ios b)) []) ≡ came) × AllComeIn m a ios blocks bs cames)
 
 -- the moves of the blocks that were carried
-abbrev pub out_acts : Setting → Adapter → List Io → List Block → List (Result (List ℕ) Why) → List (Act Answer)
+abbrev pub out_acts : Setting → Adapter → List Io → List Block → List (Result (List ℕ) Why) → List (Act ActAnswer)
 out_acts m a ios [] cames = []
 out_acts m a ios (b ∷ bs) [] = []
 out_acts m a ios (b ∷ bs) (Ok frame ∷ cames) = carry_out m.site (route_of a ios b) (frame_cells ios b) ∷ out_acts m a ios bs cames
@@ -161,7 +161,7 @@ pub record SentIn (m : Setting) (n : ℕ) (ops : List Op) (a : Adapter) (ios : L
   pub blocks : after.blocks ≡ now.blocks
 
 -- After a command was sent over any rig: the stack follows on with the new log as its record, the blocks have these fates, the pages are these, and nothing stands on record of a block that wasn't carried.
-pub record FollowsOn (m : Setting) (n : ℕ) (ops : List Op) (opening : State) (status : ℕ → ℕ → Status) (pages : List ℕ) (log : List Entry) : Type 0 where
+pub record FollowsOn (m : Setting) (n : ℕ) (ops : List Op) (opening : State) (status : ℕ → ℕ → Status) (pages : List ℕ) (log : List LogEntry) : Type 0 where
   pub after : State
   pub follows : Follows (told m (recorded m log)) n ops opening status after (recorded m log)
   pub bytes : after.bytes ≡ pages
@@ -174,7 +174,7 @@ AllSized m a ios blocks bytes (b ∷ bs) =
     IfOk (m.site.device.sends (route_of a ios b) (get_or blocks (fetched_cell m.site (route_of a ios b)) [])) (λ frame. length frame ≡ bytes) × AllSized m a ios blocks bytes bs
 
 -- After a command was sent over a rig that tells its blocks: the stack follows on, and stored blocks are as told.
-pub record FollowsTold (m : Setting) (n : ℕ) (ops : List Op) (opening : State) (status : ℕ → ℕ → Status) (pages : List ℕ) (blocks : List (List ℕ)) (log : List Entry) : Type 0 where
+pub record FollowsTold (m : Setting) (n : ℕ) (ops : List Op) (opening : State) (status : ℕ → ℕ → Status) (pages : List ℕ) (blocks : List (List ℕ)) (log : List LogEntry) : Type 0 where
   pub after : State
   pub follows : Follows m n ops opening status after (recorded m log)
   pub bytes : after.bytes ≡ pages

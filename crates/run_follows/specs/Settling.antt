@@ -16,6 +16,7 @@ use Rattle.bio_core.specs.declared.request.Dir.TheVariants.{Read}
 use Rattle.bio_core.specs.declared.request.Io.{Io}
 use Rattle.stack_view.specs.Runs.{blocks_of_requests}
 use Rattle.run_follows.specs.Sheets.{io_at, request_in}
+use Rattle.bio_core.specs.declared.TheConstants.{MOST_BLOCKS}
 
 -- what the owner of its tuple says of a block at fault
 abbrev pub found_by : Owner → Check → Why
@@ -62,4 +63,4 @@ pub record AreFates (ios : List Io) (starts : List ℕ) (held : List Fate) : Typ
   pub all : length held ≡ blocks_of_requests (map request_in ios)
   pub begin : (i : ℕ) → i < length ios → get_or starts i 0 ≡ blocks_before ios i
   pub within : (i : ℕ) → i < length ios → get_or starts i 0 + (io_at ios i).count ≤ length held
-  pub few : length held ≤ 16384
+  pub few : length held ≤ MOST_BLOCKS

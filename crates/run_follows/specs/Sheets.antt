@@ -15,6 +15,7 @@ use Rattle.stack_ops.specs.declared.op.Op.TheVariants.{Wait}
 use Rattle.stack_ops.specs.Footprints.{footprint}
 use Rattle.stack_view.specs.Plan.{Plan, Place, Request}
 use Rattle.stack_steps.specs.Fine.{Fine}
+use Rattle.pi_tuple.specs.declared.TheConstants.{TUPLE}
 
 -- a request of no blocks
 abbrev pub no_io : Io
@@ -70,7 +71,7 @@ HaveNumbers ios = (i : ℕ) → (io_at ios i).first + (io_at ios i).count < 2 ^ 
 
 -- each has eight bytes of tuples for each block, where it has tuples
 abbrev pub HaveTuples : List Io → Type 0
-HaveTuples ios = (i : ℕ) (pi : Payload) → (io_at ios i).pi ≡ Some pi → 8 * (io_at ios i).count ≤ total pi.tuples
+HaveTuples ios = (i : ℕ) (pi : Payload) → (io_at ios i).pi ≡ Some pi → TUPLE * (io_at ios i).count ≤ total pi.tuples
 
 pub record IsSheet (ops : List Op) (shifted : List Bool) (ios : List Io) (table : Table) (limits : Limits) (devices : ℕ) : Type 0 where
   pub fine : Fine (plan_of ops shifted ios table limits devices)

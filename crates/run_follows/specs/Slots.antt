@@ -1,7 +1,7 @@
 use Rattle.std.specs.Prelude.{ℕ, suc, ◌+◌, ◌≡◌, Bool, true, false, List, [], ◌∷◌, ◌++◌, length, drop, get_or, Option, Some, None}
 use Rattle.bio_core.specs.declared.fate.Why.{Why}
 use Rattle.block_path.specs.Acts.{Act}
-use Rattle.block_path.specs.Blocks.{Answer, silent}
+use Rattle.block_path.specs.Blocks.{ActAnswer, silent}
 use Rattle.block_path.specs.Moves.{carry_in, carry_out, make_tuple, map_back, map_out, settle}
 use Rattle.whole_run.specs.ScriptWalk.{act_of}
 use Rattle.whole_run.specs.Settings.{Block, Setting, route}
@@ -22,16 +22,16 @@ pub data Status : Type 0 where
 
 -- A step's moves by what does them: the admission of its op, its cut, the sending that carries it, and its completion.
 pub record Parts : Type 0 where
-  pub made : List (Act Answer)
-  pub cut : List (Act Answer)
-  pub carrying : Act Answer
-  pub settled : List (Act Answer)
+  pub made : List (Act ActAnswer)
+  pub cut : List (Act ActAnswer)
+  pub carrying : Act ActAnswer
+  pub settled : List (Act ActAnswer)
 
-abbrev pub moves_in : Parts → List (Act Answer)
+abbrev pub moves_in : Parts → List (Act ActAnswer)
 moves_in p = p.made ++ (p.cut ++ (p.carrying ∷ p.settled))
 
 -- done at once
-abbrev pub whole_part : Act Answer → Parts
+abbrev pub whole_part : Act ActAnswer → Parts
 whole_part a = record { made = []; cut = []; carrying = a; settled = [] }
 
 abbrev pub write_parts : Setting → Block → (app : ℕ) → (body own : List ℕ) → (dix : Bool) → Parts
@@ -77,7 +77,7 @@ done_by p (Settled why) = suc (before_carrying p + length p.settled)
 done_by p (Done shown) = suc (before_carrying p + length p.settled)
 
 -- what is known of a block, by what its carrying answered, and by what all its moves say together
-abbrev pub Tells : Status → (carried joined : Answer) → Type 0
+abbrev pub Tells : Status → (carried joined : ActAnswer) → Type 0
 Tells Waits carried joined = Unit {0}
 Tells Admitted carried joined = Unit {0}
 Tells Cut carried joined = Unit {0}
@@ -86,13 +86,13 @@ Tells (Settled why) carried joined = joined.why ≡ why
 Tells (Done shown) carried joined = joined.shown ≡ shown
 
 -- So many moves have answered, only the one that carries put something on record, and what is known is so.
-pub record Stands (p : Parts) (join : List Answer → Answer) (status : Status) (answers : List Answer) : Type 0 where
+pub record Stands (p : Parts) (join : List ActAnswer → ActAnswer) (status : Status) (answers : List ActAnswer) : Type 0 where
   pub count : length answers ≡ done_by p status
   pub sent : sents answers ≡ put_sent (get_or answers (before_carrying p) silent).sent []
   pub tells : Tells status (get_or answers (before_carrying p) silent) (join answers)
 
 -- the answers of the moves that are done, and nothing of the others
-abbrev pub so_far : List (Act Answer) → List Answer → List (Option Answer)
+abbrev pub so_far : List (Act ActAnswer) → List ActAnswer → List (Option ActAnswer)
 so_far [] answers = []
 so_far (a ∷ moves) [] = None ∷ so_far moves []
 so_far (a ∷ moves) (r ∷ answers) = Some r ∷ so_far moves answers

@@ -15,6 +15,8 @@ use Rattle.stack_ops.specs.Footprints.{put_seg}
 use Rattle.stack_view.specs.Runs.{blocks_of_requests}
 use Rattle.run_follows.specs.Sheets.{op_in, request_in}
 use Rattle.run_follows.specs.Requests.{requests_from}
+use Rattle.pi_tuple.specs.declared.TheConstants.{TUPLE, LARGEST_BLOCK}
+use Rattle.bio_core.specs.declared.TheConstants.{MOST_BLOCKS}
 
 -- data of n blocks of this size, whose blocks are the volume's
 pub record IsData (pool : List (List ℕ)) (bytes len v n : ℕ) (body : List Seg) : Type 0 where
@@ -26,7 +28,7 @@ pub record IsData (pool : List (List ℕ)) (bytes len v n : ℕ) (body : List Se
 -- tuples of n blocks
 pub record AreTuples (pool : List (List ℕ)) (n : ℕ) (tuples : List Seg) : Type 0 where
   pub whole : AreWholeTuples tuples
-  pub long : total tuples ≡ 8 * n
+  pub long : total tuples ≡ TUPLE * n
   pub lies : AllLieIn pool tuples
   pub once : NoneTwice (places_in tuples)
 
@@ -52,13 +54,13 @@ pub record CanStart (table : Table) (dix : Bool) (protect : ℕ) (limits : Limit
   pub pool_is : length pool ≡ pages
   pub few_pages : pages ≤ 65536
   pub few_ops : length ops ≤ 4096
-  pub few_blocks : blocks_of_requests (map request_in (requests_from dix pages ops)) ≤ 16384
+  pub few_blocks : blocks_of_requests (map request_in (requests_from dix pages ops)) ≤ MOST_BLOCKS
   pub protect_is : IsProtect protect
   pub some_blocks : 1 ≤ limits.max_blocks
   pub most_blocks : limits.max_blocks ≤ 1048576
   pub bytes : ℕ
   pub some_bytes : 1 ≤ bytes
-  pub few_bytes : bytes ≤ 4096
+  pub few_bytes : bytes ≤ LARGEST_BLOCK
   pub devices : List DeviceInfo
   pub few_devices : length devices ≤ 8
   pub made : MadeFor table devices bytes

@@ -1,7 +1,7 @@
 //! At the end.
 
 ghost use Rattle.std.specs.Prelude.{ℕ, Bool, true, List};
-ghost use Rattle.rig_api.specs.Log.{Entry};
+ghost use Rattle.rig_api.specs.Log.{LogEntry};
 ghost use Rattle.stack_ops.specs.declared.op.Op.{Op as AnyOp};
 ghost use Rattle.block_path.specs.Acts.{State};
 ghost use Rattle.block_path.specs.Blocks.{Sent};
@@ -31,7 +31,7 @@ pub fn a_bound_run_is_bound_over_its_record()
 
 /// So over any rig, honest or not, its log backs the stack's replies.
 pub fn a_finished_stack_is_backed()
-    ensures { (m : Setting) (n : ℕ) (ops : List AnyOp) (opening now : State) (status : ℕ → ℕ → Status) (log : List Entry) → let over = told m (recorded m log) in
+    ensures { (m : Setting) (n : ℕ) (ops : List AnyOp) (opening now : State) (status : ℕ → ℕ → Status) (log : List LogEntry) → let over = told m (recorded m log) in
         IsBoundRun over (λ c block. true) n ops opening → AllEnded m 1 ops status → Follows over n ops opening status now (recorded m log)
         → Backed m ops (hidden n opening) log (replies_of m 1 ops status) }
 {}
@@ -39,7 +39,7 @@ pub fn a_finished_stack_is_backed()
 /// And over a rig that tells its blocks, its log holds what the script's walk over the target carries, and backs the
 /// stack's replies.
 pub fn a_finished_told_stack_is_carried()
-    ensures { (m : Setting) (fine : ℕ → List ℕ → Bool) (n : ℕ) (ops : List AnyOp) (opening now : State) (status : ℕ → ℕ → Status) (log : List Entry) → IsBoundRun m fine n ops opening
+    ensures { (m : Setting) (fine : ℕ → List ℕ → Bool) (n : ℕ) (ops : List AnyOp) (opening now : State) (status : ℕ → ℕ → Status) (log : List LogEntry) → IsBoundRun m fine n ops opening
         → AllEnded m 1 ops status → Follows m n ops opening status now (recorded m log)
         → Carried m ops (hidden n opening) log × Backed m ops (hidden n opening) log (replies_of m 1 ops status) }
 {}

@@ -8,7 +8,7 @@ use Rattle.stack_ops.specs.declared.op.Op.TheVariants.{Fetch, FetchPi, Fill, Ove
 use Rattle.stack_ops.specs.declared.reply.Reply.{Reply}
 use Rattle.stack_ops.specs.declared.reply.Reply.TheVariants.{Silent}
 use Rattle.block_path.specs.Acts.{Act, State, act, tell}
-use Rattle.block_path.specs.Blocks.{Answer, Asked, Sent, silent}
+use Rattle.block_path.specs.Blocks.{ActAnswer, Asked, Sent, silent}
 use Rattle.block_path.specs.Serial.{plain, plain_tells}
 use Rattle.block_path.proofs.InTurn.{plain_append}
 use Rattle.whole_run.specs.ScriptWalk.{act_of, acts_from, acts_of, bad_from, replies_from, reply_of, request_reply, script_replies, shown_reply, whole_or_bad}
@@ -25,43 +25,43 @@ use Rattle.run_laws.proofs.Labelled.{Filed, Proper, each_first, each_other, file
 use Rattle.run_laws.proofs.Mirrors.{Fine, Mirror, SaysOf, mirrored}
 
 -- answers side by side
-record Twin (m : Setting) (es : List Sent) (x t : Answer) : Type 0 where
+record Twin (m : Setting) (es : List Sent) (x t : ActAnswer) : Type 0 where
   of : t.of ≡ x.of
   why : t.why ≡ x.why
   shown : t.shown ≡ x.shown
   fine : Fine m es t
 
-abbrev Twins : Setting → List Sent → List Answer → List Answer → Type 0
+abbrev Twins : Setting → List Sent → List ActAnswer → List ActAnswer → Type 0
 Twins m es [] ts = ts ≡ []
 Twins m es (x ∷ xs) [] = ⊥
 Twins m es (x ∷ xs) (t ∷ ts) = Twin m es x t × Twins m es xs ts
 
-abbrev Says : Reply → List Step → List Answer → Type 0
+abbrev Says : Reply → List Step → List ActAnswer → Type 0
 Says reply [] answers = Unit {0}
 Says reply (step ∷ steps) [] = Unit {0}
 Says reply (step ∷ steps) (a ∷ answers) = SaysOf reply step a × Says reply steps answers
 
-says_each : (reply : Reply) (f : ℕ → Step) → ((k : ℕ) (a : Answer) → listed_in reply k ≡ a.why → SaysOf reply (f k) a) → (j n : ℕ) (answers : List Answer) →
+says_each : (reply : Reply) (f : ℕ → Step) → ((k : ℕ) (a : ActAnswer) → listed_in reply k ≡ a.why → SaysOf reply (f k) a) → (j n : ℕ) (answers : List ActAnswer) →
     ((i k : ℕ) → k ≡ j + i → listed_in reply k ≡ (get_or answers i silent).why) → Says reply (each_from j n f) answers
 says_each reply f g j zero answers h = tt
 says_each reply f g j (suc n) [] h = tt
 says_each reply f g j (suc n) (a ∷ answers) h = (g j a (h 0 j (omega arith)), says_each reply f g (suc j) n answers (λ i k e. h (suc i) k (omega (arith, e))))
 
-quiet_each : (reply : Reply) (f : ℕ → Step) → ((k : ℕ) (a : Answer) → SaysOf reply (f k) a) → (j n : ℕ) (answers : List Answer) → Says reply (each_from j n f) answers
+quiet_each : (reply : Reply) (f : ℕ → Step) → ((k : ℕ) (a : ActAnswer) → SaysOf reply (f k) a) → (j n : ℕ) (answers : List ActAnswer) → Says reply (each_from j n f) answers
 quiet_each reply f g j n answers = by j n answers where
-  by : (j n : ℕ) (answers : List Answer) → Says reply (each_from j n f) answers
+  by : (j n : ℕ) (answers : List ActAnswer) → Says reply (each_from j n f) answers
   by j zero answers = tt
   by j (suc n) [] = tt
   by j (suc n) (a ∷ answers) = (g j a, by (suc j) n answers)
 
-listed_at : (answers : List Answer) (i k : ℕ) → k ≡ 0 + i → listed_in (request_reply answers) k ≡ (get_or answers i silent).why
+listed_at : (answers : List ActAnswer) (i k : ℕ) → k ≡ 0 + i → listed_in (request_reply answers) k ≡ (get_or answers i silent).why
 listed_at answers i k e = let same : k ≡ i = omega (arith, e) in ap (listed_in (request_reply answers)) same ∙ is_listed answers i
 
 module _ (m : Setting) (es : List Sent) where
   abbrev over : Setting
   over = told m es
 
-  says_op : (fails : Bool) (i : ℕ) (op : Op) (answers : List Answer) → Says (reply_of fails op answers) (steps_of m i op) answers
+  says_op : (fails : Bool) (i : ℕ) (op : Op) (answers : List ActAnswer) → Says (reply_of fails op answers) (steps_of m i op) answers
   says_op fails i (Fill seg byte) [] = tt
   says_op fails i (Fill seg byte) (a ∷ answers) = (tt, tt)
   says_op fails i (Put page off values) [] = tt
@@ -77,11 +77,11 @@ module _ (m : Setting) (es : List Sent) where
   says_op fails i (Overwrite dev lba change) (a ∷ answers) = (tt, tt)
   says_op fails i Wait answers = tt
 
-  record Lists (one other : List (Act Answer)) (s : State) : Type 0 where
+  record Lists (one other : List (Act ActAnswer)) (s : State) : Type 0 where
     state : plain act other s ≡ plain act one s
     twins : Twins m es (plain_tells act tell one s) (plain_tells act tell other s)
 
-  first_and_rest : (a b : Act Answer) (one other : List (Act Answer)) (s : State) → Mirror m es a b s → Lists one other (act a s) → Lists (a ∷ one) (b ∷ other) s
+  first_and_rest : (a b : Act ActAnswer) (one other : List (Act ActAnswer)) (s : State) → Mirror m es a b s → Lists one other (act a s) → Lists (a ∷ one) (b ∷ other) s
   first_and_rest a b one other s h rest = record {
     state = ap (plain act other) h.state ∙ rest.state;
     twins = (record { of = h.of; why = h.why; shown = h.shown; fine = h.fine }, subst (λ z. Twins m es (plain_tells act tell one (act a s)) (plain_tells act tell other z)) (sym h.state) rest.twins);
@@ -106,20 +106,20 @@ module _ (m : Setting) (es : List Sent) where
   steps_same i (Overwrite dev lba change) = refl
   steps_same i Wait = refl
 
-  whys_same : (xs ts : List Answer) → Twins m es xs ts → map (λ a. a.why) ts ≡ map (λ a. a.why) xs
+  whys_same : (xs ts : List ActAnswer) → Twins m es xs ts → map (λ a. a.why) ts ≡ map (λ a. a.why) xs
   whys_same [] ts h = ap (map (λ a. a.why)) h
   whys_same (x ∷ xs) [] h = absurd h
   whys_same (x ∷ xs) (t ∷ ts) h = ap (λ rest. t.why ∷ rest) (whys_same xs ts h.1) ∙ ap (λ w. w ∷ map (λ a. a.why) xs) h.0.why
 
-  request_same : (xs ts : List Answer) → Twins m es xs ts → request_reply ts ≡ request_reply xs
+  request_same : (xs ts : List ActAnswer) → Twins m es xs ts → request_reply ts ≡ request_reply xs
   request_same xs ts h = ap (λ whys. whole_or_bad (bad_from 0 whys)) (whys_same xs ts h)
 
-  shown_same : (xs ts : List Answer) → Twins m es xs ts → shown_reply ts ≡ shown_reply xs
+  shown_same : (xs ts : List ActAnswer) → Twins m es xs ts → shown_reply ts ≡ shown_reply xs
   shown_same [] ts h = ap shown_reply h
   shown_same (x ∷ xs) [] h = absurd h
   shown_same (x ∷ xs) (t ∷ ts) h = ap (λ bytes. shown_reply (record silent { shown = bytes } ∷ [])) h.0.shown
 
-  reply_same : (fails : Bool) (op : Op) (xs ts : List Answer) → Twins m es xs ts → taken_reply op (reply_of fails op xs) ts ≡ reply_of fails op xs
+  reply_same : (fails : Bool) (op : Op) (xs ts : List ActAnswer) → Twins m es xs ts → taken_reply op (reply_of fails op xs) ts ≡ reply_of fails op xs
   reply_same fails (Fill seg byte) xs ts h = refl
   reply_same fails (Put page off values) xs ts h = refl
   reply_same fails (Show seg) xs ts h = shown_same xs ts h
@@ -140,7 +140,7 @@ module _ (m : Setting) (es : List Sent) where
       let says : Says reply (steps_of over i op) answers = subst (λ steps. Says reply steps answers) (steps_same i op) (says_op (m.fails i) i op answers) in
       subst (λ steps. Lists (acts_of over i op) (map (taken_act m es reply) steps) s) (sym (steps_same i op)) (lists_mirrored reply (steps_of over i op) s filed says)
 
-  twins_both : (xs ys ts us : List Answer) → Twins m es xs ts → Twins m es ys us → Twins m es (xs ++ ys) (ts ++ us)
+  twins_both : (xs ys ts us : List ActAnswer) → Twins m es xs ts → Twins m es ys us → Twins m es (xs ++ ys) (ts ++ us)
   twins_both [] ys ts us h k = subst (λ t. Twins m es ys (t ++ us)) (sym h) k
   twins_both (x ∷ xs) ys [] us h k = absurd h
   twins_both (x ∷ xs) ys (t ∷ ts) us h k = (h.0, twins_both xs ys ts us h.1 k)
@@ -178,7 +178,7 @@ module _ (m : Setting) (es : List Sent) where
       }
 
   -- from all that is said of one block to each sentence
-  each_of : (P : Answer → Type 0) → ((t : Answer) → Fine m es t → P t) → (xs ts : List Answer) → Twins m es xs ts → Each P ts
+  each_of : (P : ActAnswer → Type 0) → ((t : ActAnswer) → Fine m es t → P t) → (xs ts : List ActAnswer) → Twins m es xs ts → Each P ts
   each_of P h [] ts k = subst (Each P) (sym k) tt
   each_of P h (x ∷ xs) [] k = absurd k
   each_of P h (x ∷ xs) (t ∷ ts) k = (h t k.0.fine, each_of P h xs ts k.1)
@@ -198,7 +198,7 @@ module _ (m : Setting) (es : List Sent) where
       elim (lies_out e x h.0 h.1.0 (subst (Lies e) h.1.1.0 k)) [ inl p ↦ inl p | inr q ↦ inr (lies_mixed e xs (h.0 ++ h.1.0) h.1.1.1 q) ]
 
   -- whose it is
-  owner_of : (e : Sent) (xs ts : List Answer) → Lies e (sents xs) → Each Proper xs → Twins m es xs ts → Belongs ts e
+  owner_of : (e : Sent) (xs ts : List ActAnswer) → Lies e (sents xs) → Each Proper xs → Twins m es xs ts → Belongs ts e
   owner_of e [] ts l p k = absurd l
   owner_of e (x ∷ xs) [] l p k = absurd k
   owner_of e (x ∷ xs) (t ∷ ts) l p k = by x.sent l p.0 (λ q. owner_of e xs ts q p.1 k.1) where

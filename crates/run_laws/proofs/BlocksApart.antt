@@ -14,7 +14,7 @@ use Rattle.stack_ops.specs.declared.op.Op.TheVariants.{Fetch, FetchPi, Fill, Ove
 use Rattle.volume_table.specs.Places.{place_in, volume_len}
 use Rattle.volume_table.specs.declared.device.DeviceInfo.{DeviceInfo}
 use Rattle.block_path.specs.Acts.{Act, conflict}
-use Rattle.block_path.specs.Blocks.{Answer, stored_cell}
+use Rattle.block_path.specs.Blocks.{ActAnswer, stored_cell}
 use Rattle.block_path.specs.Routes.{wire_lba}
 use Rattle.block_path.proofs.Cells.{AllBelow, below, distinct, share_back}
 use Rattle.whole_run.specs.Settings.{Block, Setting, block_of, route}
@@ -40,7 +40,7 @@ own_behind : (dix : Bool) (n from k : ℕ) → n ≤ from → AllFrom n (where_o
 own_behind true n from k l = from_less (from + 8 * k) n (own_at from k) (omega (arith, l)) (turn_from (from + 8 * k) 8)
 own_behind false n from k l = tt
 
-meet_both : (xs ys zs : List (Act Answer)) → NoneMeet conflict xs zs → NoneMeet conflict ys zs → NoneMeet conflict (xs ++ ys) zs
+meet_both : (xs ys zs : List (Act ActAnswer)) → NoneMeet conflict xs zs → NoneMeet conflict ys zs → NoneMeet conflict (xs ++ ys) zs
 meet_both [] ys zs h k = k
 meet_both (x ∷ xs) ys zs h k = (h.0, meet_both xs ys zs h.1 k)
 

@@ -10,7 +10,7 @@ use Rattle.integrity_payload.specs.declared.payload.Owner.TheVariants.{Block as 
 use Rattle.bio_core.specs.declared.fate.Why.{Why}
 use Rattle.block_path.specs.declared.route.Route.{Route}
 use Rattle.block_path.specs.Acts.{Act, State, act, effect, tell}
-use Rattle.block_path.specs.Blocks.{Answer, fetched_cell, own_cell, own_frame, own_tuple, silent, stored_cell, tuple_after, written_by}
+use Rattle.block_path.specs.Blocks.{ActAnswer, fetched_cell, own_cell, own_frame, own_tuple, silent, stored_cell, tuple_after, written_by}
 use Rattle.block_path.specs.Moves.{AreCells, FrameAt, IsOne, carry_in, carry_out, hidden, joined, make_tuple, map_back, map_out, settle}
 use Rattle.block_path.specs.Routes.{host_size, wire_size}
 use Rattle.block_path.specs.Serial.{plain, plain_tells}
@@ -46,18 +46,18 @@ module _ (m : Setting) (fine : ℕ → List ℕ → Bool) (n : ℕ) (opening : S
     pub fates : length s.fates ≡ length opening.fates
     pub all_fine : (c : ℕ) → fine c (get_or s.blocks c []) ≡ true
 
-  pub record Does (moves : List (Act Answer)) (whole : Act Answer) (join : List Answer → Answer) : Type 0 where
+  pub record Does (moves : List (Act ActAnswer)) (whole : Act ActAnswer) (join : List ActAnswer → ActAnswer) : Type 0 where
     pub state : (s : State) → IsShaped s → hidden n (plain act moves s) ≡ act whole (hidden n s)
     pub answer : (s : State) → IsShaped s → join (plain_tells act tell moves s) ≡ tell whole (hidden n s)
     pub fine_after : (s : State) → IsShaped s → (c : ℕ) → fine c (get_or (act whole (hidden n s)).blocks c []) ≡ true
 
-  same_size : (moves : List (Act Answer)) (s : State) → (length (plain act moves s).bytes ≡ length s.bytes) × (length (plain act moves s).fates ≡ length s.fates)
+  same_size : (moves : List (Act ActAnswer)) (s : State) → (length (plain act moves s).bytes ≡ length s.bytes) × (length (plain act moves s).fates ≡ length s.fates)
   same_size [] s = (refl, refl)
   same_size (a ∷ moves) s =
       let rest = same_size moves (act a s) in
       (rest.0 ∙ scatter_length a.bytes.writes (effect a s).written.bytes s.bytes, rest.1 ∙ scatter_length a.fates.writes (effect a s).written.fates s.fates)
 
-  pub keeps : (moves : List (Act Answer)) (whole : Act Answer) (join : List Answer → Answer) (s : State) → Does moves whole join → IsShaped s → IsShaped (plain act moves s)
+  pub keeps : (moves : List (Act ActAnswer)) (whole : Act ActAnswer) (join : List ActAnswer → ActAnswer) (s : State) → Does moves whole join → IsShaped s → IsShaped (plain act moves s)
   keeps moves whole join s d p =
       let k = same_size moves s in
       let seen = d.state s p in
@@ -121,11 +121,11 @@ module _ (m : Setting) (fine : ℕ → List ℕ → Bool) (n : ℕ) (opening : S
       AllBelow n to × (Distinct to × (FitsHost owner own to × ((fate < length opening.fates) × Suits m fine b)))
   IsReady own fate (Alters dev lba change) = (block : List ℕ) → fine (source_of m.site dev lba change) block ≡ true → fine (m.site.cell dev lba) (changed change block) ≡ true
 
-  one_hidden : (x y : State) (t u : Answer) → IsOne x y t u → hidden n x ≡ hidden n y
+  one_hidden : (x y : State) (t u : ActAnswer) → IsOne x y t u → hidden n x ≡ hidden n y
   one_hidden x y t u h = same_cells _ _ _ _ _ _ _ _ (ap (take n) h.bytes) h.blocks h.logs refl
 
   -- done in one move
-  single : (a : Act Answer) → AllBelow n a.bytes.reads → a.fates.reads ≡ [] → a.fates.writes ≡ [] → ((s : State) → IsShaped s → (c : ℕ) → fine c (get_or (act a (hidden n s)).blocks c []) ≡ true) →
+  single : (a : Act ActAnswer) → AllBelow n a.bytes.reads → a.fates.reads ≡ [] → a.fates.writes ≡ [] → ((s : State) → IsShaped s → (c : ℕ) → fine c (get_or (act a (hidden n s)).blocks c []) ≡ true) →
       Does (a ∷ []) a (λ answers. get_or answers 0 silent)
   single a h p q f = record {
     state = λ s _. sym (act_hidden n a s h p q).state;

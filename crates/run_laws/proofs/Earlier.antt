@@ -15,7 +15,7 @@ use Rattle.stack_ops.specs.declared.op.Op.TheVariants.{Fetch, FetchPi, Fill, Ove
 use Rattle.stack_ops.specs.declared.reply.Reply.{Reply}
 use Rattle.stack_ops.specs.declared.reply.Reply.TheVariants.{Silent}
 use Rattle.block_path.specs.Acts.{State, act, effect, tell}
-use Rattle.block_path.specs.Blocks.{Answer, Sent, own_cell, read_by, written_by}
+use Rattle.block_path.specs.Blocks.{ActAnswer, Sent, own_cell, read_by, written_by}
 use Rattle.block_path.specs.declared.route.Route.{Route}
 use Rattle.block_path.specs.Serial.{plain, plain_tells}
 use Rattle.block_path.proofs.WriteMoves.{take_over}
@@ -105,7 +105,7 @@ module _ (m : Setting) (es : List Sent) where
       omega (arith, rest, one, both)
 
   module _ (ops : List Op) (replies : List Reply) where
-    abbrev Counted : Answer → Type 0
+    abbrev Counted : ActAnswer → Type 0
     Counted = OfRead (IsCounted m ops replies)
 
     abbrev AllCounted : Reply → List Step → State → Type 0
@@ -171,7 +171,7 @@ module _ (m : Setting) (es : List Sent) where
       let same : count_by (is_accepted m c reply) (steps_of m (1 + length before) op) ≡ count_by (is_accepted m c reply) (steps_of m i op) = ap (λ j. count_by (is_accepted m c reply) (steps_of m j op)) (let q : 1 + length before ≡ i = omega (arith, e) in q) in
       omega (arith, more, now, was, same) in
       let size = length-append before (op ∷ []) in
-      let behind : List Answer = plain_tells act tell others next in
+      let behind : List ActAnswer = plain_tells act tell others next in
       let later =
       from_op replies logs (before ++ (op ∷ [])) ops (suc i) next (omega (arith, e, size)) (steps_keep reply (steps_of m i op) s ∙ z) grown (each_other (HasLog m logs) (steps_of m i op) (steps_from m (suc i) ops) h) in
       let dropped : drop (length (before ++ (op ∷ []))) replies ≡ drop 1 rest = ap (λ n. drop n replies) (let e : length (before ++ (op ∷ [])) ≡ suc (length before) = omega (arith, size) in e) ∙ sym (first_behind (length before) replies) in
@@ -181,7 +181,7 @@ module _ (m : Setting) (es : List Sent) where
       subst (Each (OfRead (IsCounted m (before ++ (op ∷ ops)) replies))) (sym (tells_append acts others s)) (each_both (OfRead (IsCounted m (before ++ (op ∷ ops)) replies)) (plain_tells act tell acts s) behind here there)
 
   -- one op of all, and one of its blocks
-  at_op : (P : Answer → Type 0) (i : ℕ) (before : List Op) (op : Op) (after : List Op) (replies : List Reply) (s : State) → Each P (plain_tells act tell (taken_from m es i (before ++ (op ∷ after)) replies) s) →
+  at_op : (P : ActAnswer → Type 0) (i : ℕ) (before : List Op) (op : Op) (after : List Op) (replies : List Reply) (s : State) → Each P (plain_tells act tell (taken_from m es i (before ++ (op ∷ after)) replies) s) →
       (t : State) × Each P (plain_tells act tell (taken_acts m es (i + length before) op (get_or replies (length before) Silent)) t)
   at_op P i [] op after replies s h =
       let acts = taken_acts m es i op (get_or replies 0 Silent) in
@@ -202,7 +202,7 @@ module _ (m : Setting) (es : List Sent) where
             (subst (λ j. Each P (plain_tells act tell (taken_acts m es j op (get_or (drop 1 replies) (length before) Silent)) found.0)) e found.1),
       )
 
-  at_block : (P : Answer → Type 0) (reply : Reply) (f : ℕ → Step) (j k n i : ℕ) (s : State) → k < n → i ≡ j + k → Each P (plain_tells act tell (map (taken_act m es reply) (each_from j n f)) s) →
+  at_block : (P : ActAnswer → Type 0) (reply : Reply) (f : ℕ → Step) (j k n i : ℕ) (s : State) → k < n → i ≡ j + k → Each P (plain_tells act tell (map (taken_act m es reply) (each_from j n f)) s) →
       (t : State) × P (tell (taken_act m es reply (f i)) t)
   at_block P reply f j k zero i s l e h = absurd (omega (arith, l))
   at_block P reply f j zero (suc n) i s l e h = let q : j ≡ i = omega (arith, e) in (s, subst (λ x. P (tell (taken_act m es reply (f x)) s)) q h.0)
@@ -212,7 +212,7 @@ pub counts_accepted : (m : Setting) (ops : List Op) (opening : State) (es : List
 counts_accepted m ops opening es replies h = from_op m es replies (length opening.logs) [] ops 1 opening refl refl (λ c l. ap length (h.empty c)) h.within
 
 -- what two sentences and the count say of one block
-abbrev SoFar : Setting → List Sent → List Op → List Reply → Answer → Type 0
+abbrev SoFar : Setting → List Sent → List Op → List Reply → ActAnswer → Type 0
 SoFar m es ops replies a = OfRead (HasEntry es) a × (OfRead (IsInTurn es) a × OfRead (IsCounted m ops replies) a)
 
 stands : (m : Setting) (es : List Sent) (ops : List Op) (replies : List Reply) (reply : Reply) (b : Block) (owner : Owner) (to : List ℕ) (s : State) → listed_in reply b.k ≡ None →
@@ -238,7 +238,7 @@ stands_after m before after owner v n k body tuples opening es replies backed em
     let ops = before ++ (op ∷ after) in
     let reply = get_or replies (length before) Silent in
     let P = SoFar m es ops replies in
-    let Q : Answer → Type 0 = λ a. OfRead (IsInTurn es) a × OfRead (IsCounted m ops replies) a in
+    let Q : ActAnswer → Type 0 = λ a. OfRead (IsInTurn es) a × OfRead (IsCounted m ops replies) a in
     let tells = answered m ops opening es replies in
     let all : Each P tells = each_pair (OfRead (HasEntry es)) Q tells backed.delivered (each_pair (OfRead (IsInTurn es)) (OfRead (IsCounted m ops replies)) tells backed.in_turn (counts_accepted m ops opening es replies empty)) in
     let mine = at_op m es P 1 before op after replies opening all in

@@ -10,7 +10,7 @@ use Rattle.bio_core.specs.declared.fate.Why.{Why}
 use Rattle.bio_core.specs.declared.fate.Why.TheVariants.{Adapter, App, Block as ByOwner, Medium, Refused, Short, Target}
 use Rattle.stack_ops.specs.declared.op.Op.{Op}
 use Rattle.block_path.specs.Acts.{Act, Effect, State, act, conflict, effect, tell}
-use Rattle.block_path.specs.Blocks.{Answer, own_cell, nothing_written, own_frame, silent, stored_cell, tuple_after, written_by}
+use Rattle.block_path.specs.Blocks.{ActAnswer, own_cell, nothing_written, own_frame, silent, stored_cell, tuple_after, written_by}
 use Rattle.block_path.specs.Moves.{carry_in, carry_out, hidden, make_tuple, map_back, map_out, settle}
 use Rattle.block_path.specs.declared.route.Route.{Route}
 use Rattle.block_path.specs.Serial.{Leads, all_done, none_done, plain, plain_tells}
@@ -31,7 +31,7 @@ use Rattle.run_laws.proofs.Does.{Does, FitsHost, IsOwn, IsReady, IsShaped, does_
 use Rattle.run_laws.proofs.Ordered.{AllDo, AllReady, moves_are_blocks, op_ready, wholes}
 
 -- A failing store call changes nothing but what lies in the cell.
-left_rule : (P : Effect Answer → Type 0) (why : Option Why) (left : List ℕ) (e : Effect Answer) → P e → P (record { written = record e.written { blocks = left ∷ [] }; answer = e.answer }) → P (left_by why left e)
+left_rule : (P : Effect ActAnswer → Type 0) (why : Option Why) (left : List ℕ) (e : Effect ActAnswer) → P e → P (record { written = record e.written { blocks = left ∷ [] }; answer = e.answer }) → P (left_by why left e)
 left_rule P None left e h k = h
 left_rule P (Some Medium) left e h k = k
 left_rule P (Some (Adapter check)) left e h k = h
@@ -45,7 +45,7 @@ left_rule P (Some Short) left e h k = h
 abbrev spill : Option Why → List ℕ → List (List ℕ)
 spill why left = (left_by why left (record { written = nothing_written; answer = silent })).written.blocks
 
-spill_is : (why : Option Why) (left : List ℕ) (e : Effect Answer) → e.written.blocks ≡ [] → (left_by why left e).written.blocks ≡ spill why left
+spill_is : (why : Option Why) (left : List ℕ) (e : Effect ActAnswer) → e.written.blocks ≡ [] → (left_by why left e).written.blocks ≡ spill why left
 spill_is None left e h = h
 spill_is (Some Medium) left e h = refl
 spill_is (Some (Adapter check)) left e h = h
@@ -59,8 +59,8 @@ spill_is (Some Short) left e h = h
 abbrev leaves_at : ℕ → List ℕ → Option Why → State → State → State
 leaves_at cell left why before now = record now { blocks = scatter (cell ∷ []) (spill why left) before.blocks }
 
-module _ (left : List ℕ) (a : Act Answer) (s : State) where
-  abbrev e : Effect Answer
+module _ (left : List ℕ) (a : Act ActAnswer) (s : State) where
+  abbrev e : Effect ActAnswer
   e = effect a s
 
   spoiled_tells : tell (spoiled left a) s ≡ tell a s
@@ -105,7 +105,7 @@ module _ (m : Setting) (fine : ℕ → List ℕ → Bool) (n : ℕ) (opening : S
   suits_failing b = record { stores = λ frame e. tt; sends = λ stored e. tt }
 
   -- a block of a write: its moves and its act leave the same in its cell
-  fallen_write : (left : List ℕ) (cell : ℕ) (moves : List (Act Answer)) (whole : Act Answer) (join : List Answer → Answer) → fine cell left ≡ true → Does M fine n opening moves whole join →
+  fallen_write : (left : List ℕ) (cell : ℕ) (moves : List (Act ActAnswer)) (whole : Act ActAnswer) (join : List ActAnswer → ActAnswer) → fine cell left ≡ true → Does M fine n opening moves whole join →
       ((s : State) → plain act (map (spoiled left) moves) s ≡ leaves_at cell left (join (plain_tells act tell moves s)).why s (plain act moves s)) →
       ((s : State) → plain_tells act tell (map (spoiled left) moves) s ≡ plain_tells act tell moves s) →
       whole.blocks.writes ≡ cell ∷ [] → ((s : State) → (effect whole s).written.blocks ≡ []) → Does m fine n opening (map (spoiled left) moves) (spoiled left whole) join
@@ -114,7 +114,7 @@ module _ (m : Setting) (fine : ℕ → List ℕ → Bool) (n : ℕ) (opening : S
         let q = shape_same s p in
         ap (hidden n) (moved s)
         ∙ ap (λ t. leaves_at cell left (join (plain_tells act tell moves s)).why s t) (d.state s q)
-        ∙ ap (λ (t : Answer). leaves_at cell left t.why s (act whole (hidden n s))) (d.answer s q)
+        ∙ ap (λ (t : ActAnswer). leaves_at cell left t.why s (act whole (hidden n s))) (d.answer s q)
         ∙ sym (spoiled_does left whole (hidden n s) cell there (empty (hidden n s)));
     answer = λ s p. ap join (told s) ∙ d.answer s (shape_same s p) ∙ sym (spoiled_tells left whole (hidden n s));
     fine_after = λ s p c.
@@ -269,7 +269,7 @@ module _ (m : Setting) (falls : Block → Option (List ℕ)) where
         (do_from from fate 0 (steps_of m i op) (op_ready m fine n opening room from fate i op l (omega (arith, r)) (omega (arith, f)) h.0))
         (all_do (from + room_of m op) (fate + fates_of op) (suc i) ops (omega (arith, l)) (omega (arith, r)) (omega (arith, f)) h.1)
 
-pub falling_in_any_order : (m : Setting) (falls : Block → Option (List ℕ)) (fine : ℕ → List ℕ → Bool) (n : ℕ) (ops : List Op) (opening now : State) (places : List ℕ) (answers : List Answer) →
+pub falling_in_any_order : (m : Setting) (falls : Block → Option (List ℕ)) (fine : ℕ → List ℕ → Bool) (n : ℕ) (ops : List Op) (opening now : State) (places : List ℕ) (answers : List ActAnswer) →
     IsBoundRun m fine n ops opening → LeavesFine m fine falls →
     Leads act tell conflict (falling_moves m falls n ops) places (none_done (falling_moves m falls n ops)) opening (all_done answers) now → AreTheFallingWalk m falls n ops opening now answers
 falling_in_any_order m falls fine n ops opening now places answers run leaves l =

@@ -11,7 +11,7 @@ use Rattle.stack_ops.specs.declared.op.Op.TheVariants.{Put, Write}
 use Rattle.stack_ops.specs.declared.reply.Reply.TheVariants.{Bad, Silent}
 use Rattle.target_answer.specs.Passing.{found_in, from_medium, to_medium}
 use Rattle.block_path.specs.Acts.{Act, State, act, conflict, tell}
-use Rattle.block_path.specs.Blocks.{Answer, stored_cell}
+use Rattle.block_path.specs.Blocks.{ActAnswer, stored_cell}
 use Rattle.block_path.specs.Serial.{Leads, all_done, none_done}
 use Rattle.block_path.specs.WayIn.{from_wire}
 use Rattle.block_path.specs.WayOut.{to_wire}
@@ -60,10 +60,10 @@ bound_run = record {
   all_fine = λ c. eq-eqb (length (get_or opening.blocks c [])) (length (get_or opening.blocks c [])) refl;
 }
 
-abbrev moves : List (Act Answer)
+abbrev moves : List (Act ActAnswer)
 moves = falling_moves m falls 1100 ops
 
-abbrev move : ℕ → Act Answer
+abbrev move : ℕ → Act ActAnswer
 move i = get_or moves i (set_bytes [] [])
 
 abbrev after_put : State
@@ -78,7 +78,7 @@ after_map = act (move 1) after_make
 abbrev after_carry : State
 after_carry = act (move 2) after_map
 
-abbrev answers : List Answer
+abbrev answers : List ActAnswer
 answers = tell (move 0) after_put ∷ tell (move 1) after_make ∷ tell (move 2) after_map ∷ tell (move 3) after_carry ∷ tell (move 4) before ∷ []
 
 -- Its moves may be done in this order.

@@ -21,7 +21,7 @@ use Rattle.volume_table.specs.Places.{volume_len}
 use Rattle.target_answer.specs.Frames.{data_of, frame_of, stored_size, tuple_of}
 use Rattle.block_path.specs.declared.route.Route.{Route}
 use Rattle.block_path.specs.Acts.{Act, State, act, conflict, tell}
-use Rattle.block_path.specs.Blocks.{Answer, fetched_cell, own_cell, own_frame, own_tuple, read_by, stored_cell, tuple_after, written_by}
+use Rattle.block_path.specs.Blocks.{ActAnswer, fetched_cell, own_cell, own_frame, own_tuple, read_by, stored_cell, tuple_after, written_by}
 use Rattle.block_path.specs.Routes.{host_type, target}
 use Rattle.block_path.specs.WayOut.{Fails, Refuses, Stores, WayOut, from_adapter, mapped_out, to_wire, way_out}
 use Rattle.block_path.proofs.Cells.{gather_length}
@@ -326,14 +326,14 @@ each_is_served m falls ops opening earlier later step h e =
     (quietly_served m falls ops opening earlier later step (subst (λ x. IsFallingRun x ops opening) q h) (subst (λ x. steps_from x 1 ops ≡ earlier ++ (step ∷ later)) q e))
 
 -- a block whose store call fails has the cells that it would have
-abbrev Alike : Setting → Step → Act Answer → Act Answer → Type 0
+abbrev Alike : Setting → Step → Act ActAnswer → Act ActAnswer → Type 0
 Alike m step other a = (conflict a other ≡ conflict (act_of m step) other) × (conflict other a ≡ conflict other (act_of m step))
 
-either_alike : (m : Setting) (step : Step) (other : Act Answer) (o : Option (List ℕ)) → ((left : List ℕ) → Alike m step other (fallen m left step)) → Alike m step other (or_fallen m step o)
+either_alike : (m : Setting) (step : Step) (other : Act ActAnswer) (o : Option (List ℕ)) → ((left : List ℕ) → Alike m step other (fallen m left step)) → Alike m step other (or_fallen m step o)
 either_alike m step other None h = (refl, refl)
 either_alike m step other (Some left) h = h left
 
-alike : (m : Setting) (falls : Block → Option (List ℕ)) (step : Step) (other : Act Answer) → Alike m step other (may_fall m falls step)
+alike : (m : Setting) (falls : Block → Option (List ℕ)) (step : Step) (other : Act ActAnswer) → Alike m step other (may_fall m falls step)
 alike m falls (Sets at values) other = (refl, refl)
 alike m falls (Shows at) other = (refl, refl)
 alike m falls (Seals body tuple app rtag) other = (refl, refl)
@@ -342,8 +342,8 @@ alike m falls (WritesPi b frame) other = either_alike m (WritesPi b frame) other
 alike m falls (Reads b owner to) other = either_alike m (Reads b owner to) other (falls b) (λ left. (refl, refl))
 alike m falls (Alters dev lba change) other = (refl, refl)
 
-pub conflicts_alike : (m : Setting) (falls : Block → Option (List ℕ)) (step : Step) (other : Act Answer) → conflict (may_fall m falls step) other ≡ conflict (act_of m step) other
+pub conflicts_alike : (m : Setting) (falls : Block → Option (List ℕ)) (step : Step) (other : Act ActAnswer) → conflict (may_fall m falls step) other ≡ conflict (act_of m step) other
 conflicts_alike m falls step other = (alike m falls step other).0
 
-pub is_in_conflict_alike : (m : Setting) (falls : Block → Option (List ℕ)) (step : Step) (other : Act Answer) → conflict other (may_fall m falls step) ≡ conflict other (act_of m step)
+pub is_in_conflict_alike : (m : Setting) (falls : Block → Option (List ℕ)) (step : Step) (other : Act ActAnswer) → conflict other (may_fall m falls step) ≡ conflict other (act_of m step)
 is_in_conflict_alike m falls step other = (alike m falls step other).1

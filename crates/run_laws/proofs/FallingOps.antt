@@ -12,7 +12,7 @@ use Rattle.stack_ops.specs.declared.op.Op.{Op}
 use Rattle.stack_ops.specs.declared.reply.Reply.TheVariants.{Silent}
 use Rattle.target_answer.specs.Frames.{data_of, tuple_of}
 use Rattle.block_path.specs.Acts.{Act, State, act, tell}
-use Rattle.block_path.specs.Blocks.{Answer}
+use Rattle.block_path.specs.Blocks.{ActAnswer}
 use Rattle.block_path.specs.Serial.{plain_tells}
 use Rattle.block_path.proofs.Cells.{AllBelow, Distinct, below, distinct}
 use Rattle.whole_run.specs.FirstLayer.{last_accepted}
@@ -30,7 +30,7 @@ use Rattle.whole_run.proofs.InSteps.{acts_stepped, block_says, each_split, later
 use Rattle.run_laws.proofs.Parts.{block_below, block_distinct, blocks_apart, landed, lists_of}
 
 module _ (m : Setting) (falls : Block → Option (List ℕ)) where
-  abbrev a : Step → Act Answer
+  abbrev a : Step → Act ActAnswer
   a = may_fall m falls
 
   reply_at : (i : ℕ) (before : List Op) (op : Op) (after : List Op) (s : State) →
@@ -117,8 +117,8 @@ lands m bytes OfApp n k body tuples l h =
 
 -- one block of an op that is a request
 module _ (m : Setting) (falls : Block → Option (List ℕ)) (before after : List Op) (op : Op) (f : ℕ → Step) (n k : ℕ) (opening : State) (l : k < n)
-    (steps_are : steps_of m (suc (length before)) op ≡ each_from 0 n f) (replies : (answers : List Answer) → reply_of (m.fails (1 + length before)) op answers ≡ request_reply answers) where
-  abbrev does : Step → Act Answer
+    (steps_are : steps_of m (suc (length before)) op ≡ each_from 0 n f) (replies : (answers : List ActAnswer) → reply_of (m.fails (1 + length before)) op answers ≡ request_reply answers) where
+  abbrev does : Step → Act ActAnswer
   does = may_fall m falls
 
   -- the cells before the op, and before its block k
@@ -186,10 +186,10 @@ module _ (m : Setting) (falls : Block → Option (List ℕ)) (before after : Lis
   are_reads : steps_of m i op ≡ each_from 0 n f
   are_reads = read_steps m i v n owner body tuples
 
-  replies_so : (answers : List Answer) → reply_of (m.fails (1 + length before)) op answers ≡ request_reply answers
+  replies_so : (answers : List ActAnswer) → reply_of (m.fails (1 + length before)) op answers ≡ request_reply answers
   replies_so answers = read_reply (m.fails (1 + length before)) v n owner body tuples answers
 
-  abbrev doing : Step → Act Answer
+  abbrev doing : Step → Act ActAnswer
   doing = may_fall m falls
 
   abbrev began : State

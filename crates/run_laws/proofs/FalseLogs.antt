@@ -11,7 +11,7 @@ use Rattle.fault_schedule.specs.declared.fault.Crossing.TheVariants.{HostToAdapt
 use Rattle.integrity_payload.specs.declared.payload.Owner.TheVariants.{Block as OfBlock}
 use Rattle.bio_core.specs.declared.fate.Why.{Why}
 use Rattle.bio_core.specs.declared.fate.Why.TheVariants.{Adapter, Medium, Short}
-use Rattle.rig_api.specs.Log.{Entry}
+use Rattle.rig_api.specs.Log.{LogEntry}
 use Rattle.stack_ops.specs.declared.op.Op.{Op}
 use Rattle.stack_ops.specs.declared.op.Op.TheVariants.{Fetch, Show, Write}
 use Rattle.stack_ops.specs.declared.reply.Reply.{Reply}
@@ -32,10 +32,10 @@ one_write = Write 0 1 (seg 0 512) 0 ∷ []
 abbrev one_read : List Op
 one_read = Fetch 0 1 (seg 0 512) ∷ []
 
-abbrev out : (op : ℕ) → List (List ℕ) → Entry
+abbrev out : (op : ℕ) → List (List ℕ) → LogEntry
 out op frames = entry (form (Write16 (fields 2 1))) 1 None (labels op 0 1) frames
 
-abbrev into : (op : ℕ) → List (List ℕ) → Entry
+abbrev into : (op : ℕ) → List (List ℕ) → LogEntry
 into op frames = entry (form (Read16 (fields 2 1))) 1 None (labels op 0 1) frames
 
 abbrev op_of : Option Asked → ℕ

@@ -9,7 +9,7 @@ use Rattle.integrity_payload.specs.declared.payload.Owner.TheVariants.{Block as 
 use Rattle.stack_ops.specs.declared.op.Op.{Op}
 use Rattle.stack_ops.specs.declared.op.Op.TheVariants.{Fetch, FetchPi, Fill, Overwrite, Put, Seal, Show, Wait, Write, WritePi}
 use Rattle.block_path.specs.Acts.{Act, State, act, tell}
-use Rattle.block_path.specs.Blocks.{Answer, Asked, Sent, read_by, written_by}
+use Rattle.block_path.specs.Blocks.{ActAnswer, Asked, Sent, read_by, written_by}
 use Rattle.block_path.specs.declared.route.Route.{Route}
 use Rattle.block_path.specs.Serial.{plain, plain_tells}
 use Rattle.block_path.specs.WayIn.{Delivers, Spoils, Stops, WayIn}
@@ -20,7 +20,7 @@ use Rattle.whole_run.specs.Steps.{Reads, Seals, Step, Writes, WritesPi, body_of,
 use Rattle.run_laws.specs.BackedRun.{Owns}
 use Rattle.run_laws.specs.Records.{Mixed, NoTwo, find, is_labelled, put_sent, sents}
 
-pub tells_append : (xs ys : List (Act Answer)) (s : State) → plain_tells act tell (xs ++ ys) s ≡ plain_tells act tell xs s ++ plain_tells act tell ys (plain act xs s)
+pub tells_append : (xs ys : List (Act ActAnswer)) (s : State) → plain_tells act tell (xs ++ ys) s ≡ plain_tells act tell xs s ++ plain_tells act tell ys (plain act xs s)
 tells_append [] ys s = refl
 tells_append (x ∷ xs) ys s = ap (λ rest. tell x s ∷ rest) (tells_append xs ys (act x s))
 
@@ -37,18 +37,18 @@ each_both P [] ys h k = k
 each_both P (x ∷ xs) ys h k = (h.0, each_both P xs ys h.1 k)
 
 -- what stands on record of a block has its label, direction and place
-abbrev pub Proper : Answer → Type 0
+abbrev pub Proper : ActAnswer → Type 0
 Proper a = IfSome a.sent (λ e. (b : Asked) × ((a.of ≡ Some b) × Owns e b))
 
 abbrev same_label : Label → Label → Bool
 same_label n k = eqb n.op k.op && eqb n.k k.k
 
 -- none of these answers is of a block with this label
-abbrev Far : Label → List Answer → Type 0
+abbrev Far : Label → List ActAnswer → Type 0
 Far n [] = Unit {0}
 Far n (a ∷ answers) = IfSome a.of (λ b. same_label n b.route.label ≡ false) × Far n answers
 
-abbrev AllFar : List Answer → Type 0
+abbrev AllFar : List ActAnswer → Type 0
 AllFar [] = Unit {0}
 AllFar (a ∷ answers) = IfSome a.of (λ b. Far b.route.label answers) × AllFar answers
 
@@ -76,7 +76,7 @@ no_other : {X : Type 0} (c : Bool) (x : Option X) (rest : Option X) → c ≡ fa
 no_other false x rest h k = k
 no_other true x rest h k = absurd (grind (arith, h))
 
-far_find : (n : Label) (answers : List Answer) → Far n answers → Each Proper answers → find n (sents answers) ≡ None
+far_find : (n : Label) (answers : List ActAnswer) → Far n answers → Each Proper answers → find n (sents answers) ≡ None
 far_find n [] f p = refl
 far_find n (a ∷ answers) f p = by (far_find n answers f.1 p.1) a.sent a.of f.0 p.0 where
   by : find n (sents answers) ≡ None → (s : Option Sent) (of : Option Asked) → IfSome of (λ b. same_label n b.route.label ≡ false) → IfSome s (λ e. (b : Asked) × ((of ≡ Some b) × Owns e b)) → find n (put_sent s (sents answers)) ≡ None
@@ -86,7 +86,7 @@ far_find n (a ∷ answers) f p = by (far_find n answers f.1 p.1) a.sent a.of f.0
       let far : same_label n b.route.label ≡ false = subst (λ o. IfSome o (λ b. same_label n b.route.label ≡ false)) q.1.0 g in
       no_other (is_labelled n e) (Some e) (find n (sents answers)) (ap (λ x. same_label x n) q.1.1.label ∙ flip_label n b.route.label far) rest
 
-once_sents : (answers : List Answer) → AllFar answers → Each Proper answers → NoTwo (sents answers)
+once_sents : (answers : List ActAnswer) → AllFar answers → Each Proper answers → NoTwo (sents answers)
 once_sents [] f p = tt
 once_sents (a ∷ answers) f p = by (once_sents answers f.1 p.1) a.sent a.of f.0 p.0 where
   by : NoTwo (sents answers) → (s : Option Sent) (of : Option Asked) → IfSome of (λ b. Far b.route.label answers) → IfSome s (λ e. (b : Asked) × ((of ≡ Some b) × Owns e b)) → NoTwo (put_sent s (sents answers))
@@ -96,7 +96,7 @@ once_sents (a ∷ answers) f p = by (once_sents answers f.1 p.1) a.sent a.of f.0
       (ap (λ n. find n (sents answers)) q.1.1.label ∙ far_find q.0.route.label answers far p.1, rest)
 
 -- what stands on record of a block is what its act put there
-abbrev pub Filed : List Sent → Answer → Type 0
+abbrev pub Filed : List Sent → ActAnswer → Type 0
 Filed es a = IfSome a.of (λ b. find b.route.label es ≡ a.sent)
 
 found_first : (n : Label) (e : Sent) (es : List Sent) → e.label ≡ n → find n (e ∷ es) ≡ Some e
@@ -106,14 +106,14 @@ found_behind : (n : Label) (e : Sent) (es : List Sent) → is_labelled n e ≡ f
 found_behind n e es h = ap (λ c. if c then Some e else find n es) h
 
 -- the others are found as before
-others_filed : (n : Label) (e : Sent) (es : List Sent) (answers : List Answer) → e.label ≡ n → Far n answers → Each (Filed es) answers → Each (Filed (e ∷ es)) answers
+others_filed : (n : Label) (e : Sent) (es : List Sent) (answers : List ActAnswer) → e.label ≡ n → Far n answers → Each (Filed es) answers → Each (Filed (e ∷ es)) answers
 others_filed n e es [] h f k = tt
 others_filed n e es (a ∷ answers) h f k = (by a.of f.0 k.0, others_filed n e es answers h f.1 k.1) where
   by : (of : Option Asked) → IfSome of (λ b. same_label n b.route.label ≡ false) → IfSome of (λ b. find b.route.label es ≡ a.sent) → IfSome of (λ b. find b.route.label (e ∷ es) ≡ a.sent)
   by None g q = tt
   by (Some b) g q = found_behind b.route.label e es (ap (λ x. same_label x b.route.label) h ∙ g) ∙ q
 
-filed_sents : (answers : List Answer) → AllFar answers → Each Proper answers → Each (Filed (sents answers)) answers
+filed_sents : (answers : List ActAnswer) → AllFar answers → Each Proper answers → Each (Filed (sents answers)) answers
 filed_sents [] f p = tt
 filed_sents (a ∷ answers) f p = by (filed_sents answers f.1 p.1) a.sent a.of f.0 p.0 where
   by : Each (Filed (sents answers)) answers → (s : Option Sent) (of : Option Asked) → IfSome of (λ b. Far b.route.label answers) → IfSome s (λ e. (b : Asked) × ((of ≡ Some b) × Owns e b)) →
@@ -181,19 +181,19 @@ mixed_same (x ∷ xs) ys h k =
     at n false e before after finds none = skip n before after x e ∙ finds n ∙ sym (ap (λ c. if c then Some x else find n xs) e)
 
 -- the blocks of an op are numbered from k on
-abbrev Numbered : ℕ → ℕ → List Answer → Type 0
+abbrev Numbered : ℕ → ℕ → List ActAnswer → Type 0
 Numbered i k [] = Unit {0}
 Numbered i k (a ∷ answers) = IfSome a.of (λ b. (b.route.label.op ≡ i) × (b.route.label.k ≡ k)) × Numbered i (suc k) answers
 
 -- these are of ops from i on
-abbrev FromOp : ℕ → List Answer → Type 0
+abbrev FromOp : ℕ → List ActAnswer → Type 0
 FromOp i [] = Unit {0}
 FromOp i (a ∷ answers) = IfSome a.of (λ b. i ≤ b.route.label.op) × FromOp i answers
 
 abbrev label_at : ℕ → ℕ → Label
 label_at i k = record { op = i; k = k }
 
-numbered_far : (i j k : ℕ) (answers : List Answer) → j < k → Numbered i k answers → Far (label_at i j) answers
+numbered_far : (i j k : ℕ) (answers : List ActAnswer) → j < k → Numbered i k answers → Far (label_at i j) answers
 numbered_far i j k [] l h = tt
 numbered_far i j k (a ∷ answers) l h = (by a.of h.0, numbered_far i j (suc k) answers (omega (arith, l)) h.1) where
   and_false : (c : Bool) → (c && false) ≡ false
@@ -204,19 +204,19 @@ numbered_far i j k (a ∷ answers) l h = (by a.of h.0, numbered_far i j (suc k) 
   by None g = tt
   by (Some b) g = let e : eqb j b.route.label.k ≡ false = ne_eqb j b.route.label.k (λ q. omega (arith, l, q, g.1)) in ap (λ c. eqb i b.route.label.op && c) e ∙ and_false (eqb i b.route.label.op)
 
-from_far : (i k next : ℕ) (answers : List Answer) → i < next → FromOp next answers → Far (label_at i k) answers
+from_far : (i k next : ℕ) (answers : List ActAnswer) → i < next → FromOp next answers → Far (label_at i k) answers
 from_far i k next [] l h = tt
 from_far i k next (a ∷ answers) l h = (by a.of h.0, from_far i k next answers l h.1) where
   by : (of : Option Asked) → IfSome of (λ b. next ≤ b.route.label.op) → IfSome of (λ b. same_label (label_at i k) b.route.label ≡ false)
   by None g = tt
   by (Some b) g = let e : eqb i b.route.label.op ≡ false = ne_eqb i b.route.label.op (λ q. omega (arith, l, q, g)) in ap (λ c. c && eqb k b.route.label.k) e
 
-far_both : (n : Label) (xs ys : List Answer) → Far n xs → Far n ys → Far n (xs ++ ys)
+far_both : (n : Label) (xs ys : List ActAnswer) → Far n xs → Far n ys → Far n (xs ++ ys)
 far_both n [] ys h k = k
 far_both n (x ∷ xs) ys h k = (h.0, far_both n xs ys h.1 k)
 
 -- one op, then the others
-ops_far : (i k : ℕ) (xs ys : List Answer) → Numbered i k xs → FromOp (suc i) ys → AllFar ys → AllFar (xs ++ ys)
+ops_far : (i k : ℕ) (xs ys : List ActAnswer) → Numbered i k xs → FromOp (suc i) ys → AllFar ys → AllFar (xs ++ ys)
 ops_far i k [] ys h f r = r
 ops_far i k (a ∷ xs) ys h f r = (by a.of h.0, ops_far i (suc k) xs ys h.1 f r) where
   same : (b : Asked) → b.route.label.op ≡ i → b.route.label.k ≡ k → label_at i k ≡ b.route.label
@@ -226,9 +226,9 @@ ops_far i k (a ∷ xs) ys h f r = (by a.of h.0, ops_far i (suc k) xs ys h.1 f r)
   by None g = tt
   by (Some b) g = subst (λ n. Far n (xs ++ ys)) (same b g.0 g.1) (far_both (label_at i k) xs ys (numbered_far i k (suc k) xs (omega arith) h.1) (from_far i k (suc i) ys (omega arith) f))
 
-from_numbered : (i k : ℕ) (xs ys : List Answer) → Numbered i k xs → FromOp (suc i) ys → FromOp i (xs ++ ys)
+from_numbered : (i k : ℕ) (xs ys : List ActAnswer) → Numbered i k xs → FromOp (suc i) ys → FromOp i (xs ++ ys)
 from_numbered i k [] ys h f = weaker ys f where
-  weaker : (ys : List Answer) → FromOp (suc i) ys → FromOp i ys
+  weaker : (ys : List ActAnswer) → FromOp (suc i) ys → FromOp i ys
   weaker [] f = tt
   weaker (y ∷ ys) f = (by y.of f.0, weaker ys f.1) where
     by : (of : Option Asked) → IfSome of (λ b. suc i ≤ b.route.label.op) → IfSome of (λ b. i ≤ b.route.label.op)
@@ -240,7 +240,7 @@ from_numbered i k (a ∷ xs) ys h f = (by a.of h.0, from_numbered i (suc k) xs y
   by (Some b) g = omega (arith, g.0)
 
 -- what an act answers as a block of a request
-record Marked (i k : ℕ) (a : Answer) : Type 0 where
+record Marked (i k : ℕ) (a : ActAnswer) : Type 0 where
   number : IfSome a.of (λ b. (b.route.label.op ≡ i) × (b.route.label.k ≡ k))
   proper : IfSome a.sent (λ e. (b : Asked) × ((a.of ≡ Some b) × Owns e b))
 
@@ -254,7 +254,7 @@ read_marked r owner (Stops why) size after = record { number = (refl, refl); pro
 read_marked r owner (Spoils why carried) size after = record { number = (refl, refl); proper = (record { route = r; reader = Some owner }, (refl, record { label = refl; dir = refl; dev = refl; lba = refl })) }
 read_marked r owner (Delivers carried frame) size after = record { number = (refl, refl); proper = (record { route = r; reader = Some owner }, (refl, record { label = refl; dir = refl; dev = refl; lba = refl })) }
 
-record Lined (i k : ℕ) (answers : List Answer) : Type 0 where
+record Lined (i k : ℕ) (answers : List ActAnswer) : Type 0 where
   numbered : Numbered i k answers
   proper : Each Proper answers
 
@@ -264,7 +264,7 @@ module _ (m : Setting) where
   each_lined i f h k (suc n) s =
       let rest = each_lined i f h (suc k) n (act (act_of m (f k)) s) in
       record { numbered = ((h k s).number, rest.numbered); proper = (proper_of (tell (act_of m (f k)) s) (h k s), rest.proper) } where
-        proper_of : (a : Answer) → Marked i k a → Proper a
+        proper_of : (a : ActAnswer) → Marked i k a → Proper a
         proper_of a g = g.proper
 
   op_lined : (i : ℕ) (op : Op) (s : State) → Lined i 0 (plain_tells act tell (acts_of m i op) s)
@@ -280,7 +280,7 @@ module _ (m : Setting) where
   op_lined i Wait s = record { numbered = tt; proper = tt }
 
 -- the answers of a script
-pub record Script (i : ℕ) (answers : List Answer) : Type 0 where
+pub record Script (i : ℕ) (answers : List ActAnswer) : Type 0 where
   pub far : AllFar answers
   pub from : FromOp i answers
   pub proper : Each Proper answers
@@ -301,16 +301,16 @@ script_lined m i (op ∷ ops) s =
     })
 
 -- what stands on record is found there by its block's label, and no block has two
-pub record IsFiled (es : List Sent) (answers : List Answer) : Type 0 where
+pub record IsFiled (es : List Sent) (answers : List ActAnswer) : Type 0 where
   pub once : NoTwo es
   pub filed : Each (Filed es) answers
 
-pub filed_in : (i : ℕ) (answers : List Answer) (es : List Sent) → Script i answers → Mixed (sents answers) es → IsFiled es answers
+pub filed_in : (i : ℕ) (answers : List ActAnswer) (es : List Sent) → Script i answers → Mixed (sents answers) es → IsFiled es answers
 filed_in i answers es h x =
     let same = mixed_same (sents answers) es x (once_sents answers h.far h.proper) in
     record { once = same.once; filed = moved answers same.finds (filed_sents answers h.far h.proper) }
   where
-    moved : (others : List Answer) → ((n : Label) → find n es ≡ find n (sents answers)) → Each (Filed (sents answers)) others → Each (Filed es) others
+    moved : (others : List ActAnswer) → ((n : Label) → find n es ≡ find n (sents answers)) → Each (Filed (sents answers)) others → Each (Filed es) others
     moved [] finds k = tt
     moved (a ∷ others) finds k = (by a.of k.0, moved others finds k.1) where
       by : (of : Option Asked) → IfSome of (λ b. find b.route.label (sents answers) ≡ a.sent) → IfSome of (λ b. find b.route.label es ≡ a.sent)

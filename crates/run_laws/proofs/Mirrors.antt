@@ -13,7 +13,7 @@ use Rattle.bio_core.specs.declared.fate.Why.TheVariants.{Adapter}
 use Rattle.stack_ops.specs.declared.reply.Reply.{Reply}
 use Rattle.target_answer.specs.Passing.{then_crossed, unless}
 use Rattle.block_path.specs.Acts.{Act, Effect, State, act, effect, seen, tell}
-use Rattle.block_path.specs.Blocks.{Answer, Sent, own_frame, read_block, read_by, tuple_after, write_block, write_block_of_app, written_by}
+use Rattle.block_path.specs.Blocks.{ActAnswer, Sent, own_frame, read_block, read_by, tuple_after, write_block, write_block_of_app, written_by}
 use Rattle.block_path.specs.declared.route.Route.{Route}
 use Rattle.block_path.specs.Routes.{medium_lba, told_by}
 use Rattle.block_path.specs.WayIn.{Delivers, Spoils, Stops, WayIn, adapter_finds_in, at_host, delivered_unless, from_device, from_wire, owner_finds, owner_says, received, verified, way_in}
@@ -30,7 +30,7 @@ use Rattle.run_laws.proofs.Labelled.{Filed}
 use Rattle.small_laws.proofs.Tests.{never}
 
 -- all that the sentences say of one block
-pub record Fine (m : Setting) (es : List Sent) (a : Answer) : Type 0 where
+pub record Fine (m : Setting) (es : List Sent) (a : ActAnswer) : Type 0 where
   pub delivered : OfRead (HasEntry es) a
   pub in_turn : OfRead (IsInTurn es) a
   pub passes : OfRead (PassesIn m es) a
@@ -39,7 +39,7 @@ pub record Fine (m : Setting) (es : List Sent) (a : Answer) : Type 0 where
   pub spoiled : OfRead (IsFound m es) a
 
 -- the walk that takes the replies does what the other does
-record Mirrors (m : Setting) (es : List Sent) (one other : Effect Answer) : Type 0 where
+record Mirrors (m : Setting) (es : List Sent) (one other : Effect ActAnswer) : Type 0 where
   written : other.written ≡ one.written
   of : other.answer.of ≡ one.answer.of
   why : other.answer.why ≡ one.answer.why
@@ -201,14 +201,14 @@ module _ (m : Setting) (es : List Sent) (r : Route) where
         (read_by_cases owner a o (Ok frame) size after (λ other e. same frame other (ap frame_or e)) g)
 
 -- the same of two acts
-pub record Mirror (m : Setting) (es : List Sent) (a b : Act Answer) (s : State) : Type 0 where
+pub record Mirror (m : Setting) (es : List Sent) (a b : Act ActAnswer) (s : State) : Type 0 where
   pub state : act b s ≡ act a s
   pub of : (tell b s).of ≡ (tell a s).of
   pub why : (tell b s).why ≡ (tell a s).why
   pub shown : (tell b s).shown ≡ (tell a s).shown
   pub fine : Fine m es (tell b s)
 
-by_effects : (m : Setting) (es : List Sent) (a : Act Answer) (other : State → Effect Answer) (s : State) → Mirrors m es (effect a s) (other (seen a s)) → Mirror m es a (record a { compute = other }) s
+by_effects : (m : Setting) (es : List Sent) (a : Act ActAnswer) (other : State → Effect ActAnswer) (s : State) → Mirrors m es (effect a s) (other (seen a s)) → Mirror m es a (record a { compute = other }) s
 by_effects m es a other s h = record {
   state = ap (λ w. leaves w) h.written;
   of = h.of;
@@ -226,7 +226,7 @@ by_effects m es a other s h = record {
     }
 
 -- what a reply says of a step's block is what its act answers
-abbrev pub SaysOf : Reply → Step → Answer → Type 0
+abbrev pub SaysOf : Reply → Step → ActAnswer → Type 0
 SaysOf reply (Sets at values) a = Unit {0}
 SaysOf reply (Shows at) a = Unit {0}
 SaysOf reply (Seals body tuple app rtag) a = Unit {0}
@@ -235,10 +235,10 @@ SaysOf reply (WritesPi b frame) a = listed_in reply b.k ≡ a.why
 SaysOf reply (Reads b owner to) a = listed_in reply b.k ≡ a.why
 SaysOf reply (Alters dev lba change) a = Unit {0}
 
-quiet_fine : (m : Setting) (es : List Sent) (a : Answer) → a.of ≡ None → Fine m es a
+quiet_fine : (m : Setting) (es : List Sent) (a : ActAnswer) → a.of ≡ None → Fine m es a
 quiet_fine m es a h = record { delivered = rw h tt; in_turn = rw h tt; passes = rw h tt; listed = rw h tt; caused = rw h tt; spoiled = rw h tt }
 
-quiet : (m : Setting) (es : List Sent) (a : Act Answer) (s : State) → (tell a s).of ≡ None → Mirror m es a a s
+quiet : (m : Setting) (es : List Sent) (a : Act ActAnswer) (s : State) → (tell a s).of ≡ None → Mirror m es a a s
 quiet m es a s h = record { state = refl; of = refl; why = refl; shown = refl; fine = quiet_fine m es (tell a s) h }
 
 module _ (m : Setting) (es : List Sent) where

@@ -8,7 +8,7 @@ use Rattle.fault_schedule.specs.declared.fault.Crossing.TheVariants.{TargetToMed
 use Rattle.stack_ops.specs.declared.op.Op.{Op}
 use Rattle.stack_ops.specs.declared.op.Op.TheVariants.{Put, Write}
 use Rattle.block_path.specs.Acts.{Act, State, act, conflict, tell}
-use Rattle.block_path.specs.Blocks.{Answer}
+use Rattle.block_path.specs.Blocks.{ActAnswer}
 use Rattle.block_path.specs.Serial.{Leads, all_done, none_done}
 use Rattle.whole_run.specs.ScriptWalk.{set_bytes}
 use Rattle.whole_run.specs.Settings.{Setting, block_of}
@@ -42,10 +42,10 @@ bound_run = record {
   all_fine = λ c. eq-eqb (length (get_or opening.blocks c [])) (length (get_or opening.blocks c [])) refl;
 }
 
-abbrev moves : List (Act Answer)
+abbrev moves : List (Act ActAnswer)
 moves = script_moves m 1100 ops
 
-abbrev move : ℕ → Act Answer
+abbrev move : ℕ → Act ActAnswer
 move i = get_or moves i (set_bytes [] [])
 
 abbrev after_put : State
@@ -61,7 +61,7 @@ abbrev after_carry : State
 after_carry = act (move 2) after_map
 
 -- Its moves may be done in this order.
-led : (now : State) × ((answers : List Answer) × Leads act tell conflict moves (4 ∷ 0 ∷ 1 ∷ 2 ∷ 3 ∷ []) (none_done moves) before (all_done answers) now)
+led : (now : State) × ((answers : List ActAnswer) × Leads act tell conflict moves (4 ∷ 0 ∷ 1 ∷ 2 ∷ 3 ∷ []) (none_done moves) before (all_done answers) now)
 unfolding run
 led = (
   act (move 3) after_carry,

@@ -5,7 +5,7 @@ use Rattle.integrity_payload.specs.declared.payload.Owner.TheVariants.{Block as 
 use Rattle.stack_ops.specs.declared.op.Op.{Op}
 use Rattle.stack_ops.specs.declared.op.Op.TheVariants.{Fetch, FetchPi, Fill, Overwrite, Put, Seal, Show, Wait, Write, WritePi}
 use Rattle.block_path.specs.Acts.{Act, State, act, conflict, tell}
-use Rattle.block_path.specs.Blocks.{Answer}
+use Rattle.block_path.specs.Blocks.{ActAnswer}
 use Rattle.block_path.specs.Moves.{hidden}
 use Rattle.block_path.specs.Serial.{Leads, all_done, none_done, plain, plain_tells}
 use Rattle.block_path.proofs.Acts.{commutes}
@@ -25,7 +25,7 @@ use Rattle.run_laws.proofs.Turns.{from_less, turn_below, turn_distinct, turn_fro
 use Rattle.run_laws.proofs.Inside.{room_enough}
 use Rattle.run_laws.proofs.Labelled.{tells_append}
 
-abbrev pub wholes : List ByMoves → List (Act Answer)
+abbrev pub wholes : List ByMoves → List (Act ActAnswer)
 wholes [] = []
 wholes (b ∷ blocks) = b.whole ∷ wholes blocks
 
@@ -172,7 +172,7 @@ module _ (m : Setting) (fine : ℕ → List ℕ → Bool) (n : ℕ) (opening : S
       }
 
 -- once all are done, whatever the order was
-pub once_done : (m : Setting) (fine : ℕ → List ℕ → Bool) (n : ℕ) (ops : List Op) (opening now : State) (answers : List Answer) → IsBoundRun m fine n ops opening →
+pub once_done : (m : Setting) (fine : ℕ → List ℕ → Bool) (n : ℕ) (ops : List Op) (opening now : State) (answers : List ActAnswer) → IsBoundRun m fine n ops opening →
     now ≡ plain act (script_moves m n ops) opening → answers ≡ plain_tells act tell (script_moves m n ops) opening → AreTheWalk m n ops opening now answers
 once_done m fine n ops opening now answers run state tells =
     let room = run.room in
@@ -183,7 +183,7 @@ once_done m fine n ops opening now answers run state tells =
       answers_are = ap (answers_from m n 0 1 ops) tells ∙ k.answers;
     }
 
-pub in_any_order : (m : Setting) (fine : ℕ → List ℕ → Bool) (n : ℕ) (ops : List Op) (opening now : State) (places : List ℕ) (answers : List Answer) → IsBoundRun m fine n ops opening →
+pub in_any_order : (m : Setting) (fine : ℕ → List ℕ → Bool) (n : ℕ) (ops : List Op) (opening now : State) (places : List ℕ) (answers : List ActAnswer) → IsBoundRun m fine n ops opening →
     Leads act tell conflict (script_moves m n ops) places (none_done (script_moves m n ops)) opening (all_done answers) now → AreTheWalk m n ops opening now answers
 in_any_order m fine n ops opening now places answers run l =
     let h = any_whole_order act tell conflict commutes (script_moves m n ops) places opening answers now l in

@@ -11,7 +11,7 @@ use Rattle.integrity_payload.specs.declared.payload.Owner.{Owner}
 use Rattle.bio_core.specs.declared.fate.Why.{Why}
 use Rattle.stack_ops.specs.declared.op.Op.{Op}
 use Rattle.block_path.specs.Acts.{Act, Effect, State, act, effect, tell}
-use Rattle.block_path.specs.Blocks.{Answer, Sent, fetched_cell, own_cell, own_frame, read_by, tuple_after, written_by}
+use Rattle.block_path.specs.Blocks.{ActAnswer, Sent, fetched_cell, own_cell, own_frame, read_by, tuple_after, written_by}
 use Rattle.block_path.specs.declared.route.Route.{Route}
 use Rattle.block_path.specs.Routes.{Device, told_by}
 use Rattle.block_path.specs.Serial.{plain, plain_tells}
@@ -30,7 +30,7 @@ use Rattle.run_laws.proofs.Backs.{backs, steps_same}
 use Rattle.run_laws.proofs.Labelled.{Filed, filed_in, script_lined}
 
 -- what two ways leave and answer, stored blocks aside
-record Alike (one other : Effect Answer) : Type 0 where
+record Alike (one other : Effect ActAnswer) : Type 0 where
   bytes : other.written.bytes ≡ one.written.bytes
   logs : other.written.logs ≡ one.written.logs
   fates : other.written.fates ≡ one.written.fates
@@ -69,15 +69,15 @@ module _ (es : List Sent) (device : Device) (r : Route) where
   same_came faults owner (Ok carried) size after f = came_in_by owner carried (from_wire faults r carried) size after f
   same_came faults owner (Err why) size after f = ap came_in f
 
-same_effect : (one other : Effect Answer) → other ≡ one → Alike one other
+same_effect : (one other : Effect ActAnswer) → other ≡ one → Alike one other
 same_effect one other h = record { bytes = ap (λ e. e.written.bytes) h; logs = ap (λ e. e.written.logs) h; fates = ap (λ e. e.written.fates) h; answer = ap (λ e. e.answer) h }
 
 -- what two acts leave, other stored blocks before and after
-record StepAlike (a other : Act Answer) (s : State) (x : List (List ℕ)) : Type 0 where
+record StepAlike (a other : Act ActAnswer) (s : State) (x : List (List ℕ)) : Type 0 where
   tells : tell other (record s { blocks = x }) ≡ tell a s
   state : act other (record s { blocks = x }) ≡ record (act a s) { blocks = (act other (record s { blocks = x })).blocks }
 
-by_effects : (a : Act Answer) (otherwise : State → Effect Answer) (s : State) (x : List (List ℕ)) → let other = record a { compute = otherwise } in Alike (effect a s) (effect other (record s { blocks = x })) → StepAlike a other s x
+by_effects : (a : Act ActAnswer) (otherwise : State → Effect ActAnswer) (s : State) (x : List (List ℕ)) → let other = record a { compute = otherwise } in Alike (effect a s) (effect other (record s { blocks = x })) → StepAlike a other s x
 by_effects a otherwise s x h = record {
   tells = h.answer;
   state = same_cells _ _ _ _ _ _ _ _ (ap (λ v. scatter a.bytes.writes v s.bytes) h.bytes) refl (ap (λ v. scatter a.logs.writes v s.logs) h.logs) (ap (λ v. scatter a.fates.writes v s.fates) h.fates);
@@ -131,7 +131,7 @@ module _ (m : Setting) (es : List Sent) where
   all_steps_same i [] = refl
   all_steps_same i (op ∷ ops) = ap (λ xs. xs ++ steps_from over (suc i) ops) (sym (steps_same m es i op)) ∙ ap (λ xs. steps_of m i op ++ xs) (all_steps_same (suc i) ops)
 
-  same_replies : (i : ℕ) (ops : List Op) (answers : List Answer) → replies_by over i ops answers ≡ replies_by m i ops answers
+  same_replies : (i : ℕ) (ops : List Op) (answers : List ActAnswer) → replies_by over i ops answers ≡ replies_by m i ops answers
   same_replies i [] answers = refl
   same_replies i (op ∷ ops) answers =
       let count : length (acts_of over i op) ≡ length (acts_of m i op) = length-map (steps_of over i op) (act_of over) ∙ ap length (sym (steps_same m es i op)) ∙ sym (length-map (steps_of m i op) (act_of m)) in

@@ -4,7 +4,7 @@ use Rattle.std.proofs.lemmas.Bool.{false≢true, or_from, or_right}
 use Rattle.page_pool.specs.Cells.{is_in, share_a_cell}
 use Rattle.range_gate.specs.Cells.{Cells, cells_clash}
 use Rattle.block_path.specs.Acts.{Act, conflict}
-use Rattle.block_path.specs.Blocks.{Answer, fetched_cell, own_cell, stored_cell, untouched}
+use Rattle.block_path.specs.Blocks.{ActAnswer, fetched_cell, own_cell, stored_cell, untouched}
 use Rattle.block_path.specs.Serial.{Apart}
 use Rattle.block_path.proofs.Cells.{no_clash}
 use Rattle.whole_run.specs.Settings.{Block, Setting, route}
@@ -60,13 +60,13 @@ pub record Reach : Type 0 where
   pub logs : Cells
   pub fates : Cells
 
-pub record IsInside (r : Reach) (a : Act Answer) : Type 0 where
+pub record IsInside (r : Reach) (a : Act ActAnswer) : Type 0 where
   pub bytes : Within a.bytes r.bytes
   pub blocks : Within a.blocks r.blocks
   pub logs : Within a.logs r.logs
   pub fates : Within a.fates r.fates
 
-abbrev pub AllInside : Reach → List (Act Answer) → Type 0
+abbrev pub AllInside : Reach → List (Act ActAnswer) → Type 0
 AllInside r [] = Unit {0}
 AllInside r (a ∷ acts) = IsInside r a × AllInside r acts
 
@@ -76,17 +76,17 @@ pub record AreClear (r q : Reach) : Type 0 where
   pub logs : cells_clash r.logs q.logs ≡ false
   pub fates : cells_clash r.fates q.fates ≡ false
 
-no_conflict : (r q : Reach) (a b : Act Answer) → IsInside r a → IsInside q b → AreClear r q → conflict a b ≡ false
+no_conflict : (r q : Reach) (a b : Act ActAnswer) → IsInside r a → IsInside q b → AreClear r q → conflict a b ≡ false
 no_conflict r q a b h k c =
     or_from (cells_clash a.bytes b.bytes) (cells_clash a.blocks b.blocks || (cells_clash a.logs b.logs || cells_clash a.fates b.fates)) (no_clash_within a.bytes r.bytes b.bytes q.bytes h.bytes k.bytes c.bytes)
     (or_from (cells_clash a.blocks b.blocks) (cells_clash a.logs b.logs || cells_clash a.fates b.fates) (no_clash_within a.blocks r.blocks b.blocks q.blocks h.blocks k.blocks c.blocks)
     (or_from (cells_clash a.logs b.logs) (cells_clash a.fates b.fates) (no_clash_within a.logs r.logs b.logs q.logs h.logs k.logs c.logs)
     (no_clash_within a.fates r.fates b.fates q.fates h.fates k.fates c.fates)))
 
-pub none_meet : (r q : Reach) (xs ys : List (Act Answer)) → AllInside r xs → AllInside q ys → AreClear r q → NoneMeet conflict xs ys
+pub none_meet : (r q : Reach) (xs ys : List (Act ActAnswer)) → AllInside r xs → AllInside q ys → AreClear r q → NoneMeet conflict xs ys
 none_meet r q [] ys h k c = tt
 none_meet r q (x ∷ xs) ys h k c = (one ys k, none_meet r q xs ys h.1 k c) where
-  one : (ys : List (Act Answer)) → AllInside q ys → Apart conflict x ys
+  one : (ys : List (Act ActAnswer)) → AllInside q ys → Apart conflict x ys
   one [] k = tt
   one (y ∷ ys) k = (no_conflict r q x y h.0 k.0 c, one ys k.1)
 
@@ -100,7 +100,7 @@ pub record Covers (big r : Reach) : Type 0 where
 within_within : (f g h : Cells) → Within f g → Within g h → Within f h
 within_within f g h p q = record { reads = in_both f.reads g.reads h.reads p.reads q.reads; writes = in_both f.writes g.writes h.writes p.writes q.writes }
 
-pub covered : (big r : Reach) (acts : List (Act Answer)) → Covers big r → AllInside r acts → AllInside big acts
+pub covered : (big r : Reach) (acts : List (Act ActAnswer)) → Covers big r → AllInside r acts → AllInside big acts
 covered big r [] c h = tt
 covered big r (a ∷ acts) c h = (
   record {
@@ -112,7 +112,7 @@ covered big r (a ∷ acts) c h = (
   covered big r acts c h.1,
 )
 
-pub inside_both : (r : Reach) (xs ys : List (Act Answer)) → AllInside r xs → AllInside r ys → AllInside r (xs ++ ys)
+pub inside_both : (r : Reach) (xs ys : List (Act ActAnswer)) → AllInside r xs → AllInside r ys → AllInside r (xs ++ ys)
 inside_both r [] ys h k = k
 inside_both r (x ∷ xs) ys h k = (h.0, inside_both r xs ys h.1 k)
 

@@ -14,7 +14,7 @@ use Rattle.range_gate.specs.Cells.{cells_of}
 use Rattle.volume_table.specs.declared.device.DeviceInfo.{DeviceInfo}
 use Rattle.target_answer.specs.Frames.{data_of, tuple_of as tuple_in_frame}
 use Rattle.block_path.specs.Acts.{State, act, tell}
-use Rattle.block_path.specs.Blocks.{Answer, fetched_cell}
+use Rattle.block_path.specs.Blocks.{ActAnswer, fetched_cell}
 use Rattle.block_path.specs.Serial.{plain, plain_tells}
 use Rattle.block_path.proofs.Cells.{AllBelow, Distinct, below, distinct}
 use Rattle.whole_run.specs.Detectable.{detectable, found}
@@ -227,7 +227,7 @@ module _ (m' : Setting) (devices : List DeviceInfo) (before after : List Op) (ow
       ap (λ r. listed_in r k) (reply_at m 1 before op after opening ∙ read_reply (m.fails (1 + length before)) v n owner body tuples (plain_tells act tell (acts_of m (1 + length before) op) s)
       ∙ ap (λ steps. request_reply (plain_tells act tell (map (act_of m) steps) s)) op_steps)
       ∙ is_listed (plain_tells act tell (map (act_of m) (each_from 0 k f ++ (f k ∷ later))) s) k
-      ∙ ap (λ (a : Answer). a.why) (tells_at (act_of m) (each_from 0 k f) (f k) later s k (each_length 0 k f))
+      ∙ ap (λ (a : ActAnswer). a.why) (tells_at (act_of m) (each_from 0 k f) (f k) later s k (each_length 0 k f))
 
   read_lands : Lands m devices (length opening.bytes) owner n body tuples
   read_lands = lands m devices (length opening.bytes) (1 + length before) owner v n body tuples (bind_at m devices (length opening.bytes) 1 before op after run.bind)

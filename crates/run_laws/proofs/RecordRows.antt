@@ -11,7 +11,7 @@ use Rattle.cdb_codec.specs.Forms.{form}
 use Rattle.cdb_codec.specs.declared.command.Rw.{Rw}
 use Rattle.cdb_codec.specs.declared.command.Cdb.TheVariants.{Read16, Write16}
 use Rattle.fault_schedule.specs.declared.Label.{Label}
-use Rattle.rig_api.specs.Log.{Entry}
+use Rattle.rig_api.specs.Log.{LogEntry}
 use Rattle.integrity_payload.specs.declared.payload.Owner.TheVariants.{Block as OfBlock}
 use Rattle.bio_core.specs.declared.fate.Why.TheVariants.{Adapter, Medium}
 use Rattle.bio_core.specs.declared.request.Dir.TheVariants.{Read, Write as ToUnit}
@@ -49,13 +49,13 @@ labels op k (suc n) = record { op = op; k = k } ∷ labels op (suc k) n
 abbrev pub sense : (key asc ascq : ℕ) → Option Sense
 sense key asc ascq = Some (record { key = key; asc = asc; ascq = ascq; info = None })
 
-abbrev pub entry : List ℕ → (done : ℕ) → Option Sense → List Label → List (List ℕ) → Entry
+abbrev pub entry : List ℕ → (done : ℕ) → Option Sense → List Label → List (List ℕ) → LogEntry
 entry cdb done sense labels frames = record { what = record { dev = 0; cdb = cdb; outcome = record { done = done; sense = sense } }; labels = labels; moved = joined frames }
 
 abbrev pub ops : List Op
 ops = Write 0 2 (seg 0 1024) 0 ∷ Fetch 0 2 (seg 0 1024) ∷ []
 
-abbrev pub log : List Entry
+abbrev pub log : List LogEntry
 log =
     entry (form (Write16 (fields 2 2))) 1 (sense 3 0x0C 0) (labels 1 0 2) (formatted 2 ∷ [])
     ∷ entry (form (Read16 (fields 2 2))) 2 None (labels 2 0 2) (formatted 2 ∷ formatted 2 ∷ [])
@@ -134,7 +134,7 @@ unfolding run
 first_stands = stands_after m written [] OfBlock 0 2 0 (seg 0 1024) [] opening es replies backed_replies empty_logs (omega arith) refl
 
 -- and a log of the walk itself, with two reads in another order
-abbrev honest_log : List Entry
+abbrev honest_log : List LogEntry
 honest_log =
     entry (form (Write16 (fields 2 2))) 2 None (labels 1 0 2) (formatted 2 ∷ formatted 3 ∷ [])
     ∷ entry (form (Read16 (fields 3 1))) 1 None (labels 2 1 1) (formatted 3 ∷ [])

@@ -7,11 +7,11 @@ use Rattle.bio_core.specs.declared.request.Dir.{Dir}
 use Rattle.bio_core.specs.declared.request.Dir.TheVariants.{Read, Write}
 use Rattle.pi_tuple.specs.declared.checks.Check.{Check}
 use Rattle.fault_schedule.specs.declared.fault.FaultLine.{FaultLine}
-use Rattle.rig_api.specs.Log.{Entry}
+use Rattle.rig_api.specs.Log.{LogEntry}
 use Rattle.stack_ops.specs.declared.op.Op.{Op}
 use Rattle.stack_ops.specs.declared.reply.Reply.{Reply}
 use Rattle.block_path.specs.Acts.{State, act, tell}
-use Rattle.block_path.specs.Blocks.{Answer, Asked, Sent}
+use Rattle.block_path.specs.Blocks.{ActAnswer, Asked, Sent}
 use Rattle.block_path.specs.declared.route.Route.{Route}
 use Rattle.block_path.specs.Serial.{plain, plain_tells}
 use Rattle.block_path.specs.WayIn.{adapter_finds_in, owner_finds, owner_says}
@@ -24,10 +24,10 @@ use Rattle.run_laws.specs.ToldRun.{told}
 -- A log backs replies: what was read came out of commands of this run, and each answer has its cause there.
 
 -- if it is a block of a request, and if of a read
-abbrev pub OfRequest : (Route → Answer → Type 0) → Answer → Type 0
+abbrev pub OfRequest : (Route → ActAnswer → Type 0) → ActAnswer → Type 0
 OfRequest P a = IfSome a.of (λ b. P b.route a)
 
-abbrev pub OfRead : (Route → Owner → Answer → Type 0) → Answer → Type 0
+abbrev pub OfRead : (Route → Owner → ActAnswer → Type 0) → ActAnswer → Type 0
 OfRead P a = IfSome a.of (λ b. IfSome b.reader (λ owner. P b.route owner a))
 
 abbrev pub dir_of : Option Owner → Dir
@@ -42,7 +42,7 @@ pub record Owns (e : Sent) (b : Asked) : Type 0 where
   pub lba : e.lba ≡ b.route.lba
 
 -- It is of one of these answers' blocks.
-abbrev pub Belongs : List Answer → Sent → Type 0
+abbrev pub Belongs : List ActAnswer → Sent → Type 0
 Belongs [] e = ⊥
 Belongs (a ∷ answers) e = ((b : Asked) × ((a.of ≡ Some b) × Owns e b)) ⊎ Belongs answers e
 
@@ -71,33 +71,33 @@ is_outside Short = true
 -- Sentences on one block and its answer in the walk; the `why` there is what its reply lists it with.
 
 -- It is delivered, so it has an entry.
-abbrev pub HasEntry : List Sent → Route → Owner → Answer → Type 0
+abbrev pub HasEntry : List Sent → Route → Owner → ActAnswer → Type 0
 HasEntry es r owner a = a.why ≡ None → (x : Moved) × (entry_for es r.label ≡ Some x)
 
 -- Its entry stands after as many write entries of the place as the walk has carried there before.
-abbrev pub IsInTurn : List Sent → Route → Owner → Answer → Type 0
+abbrev pub IsInTurn : List Sent → Route → Owner → ActAnswer → Type 0
 IsInTurn es r owner a = a.why ≡ None → IfSome (entry_for es r.label) (λ x. IfSome a.sent (λ s. x.after ≡ s.after))
 
 -- Its entry passes the adapter's check and its owner's.
-abbrev pub PassesIn : Setting → List Sent → Route → Owner → Answer → Type 0
+abbrev pub PassesIn : Setting → List Sent → Route → Owner → ActAnswer → Type 0
 PassesIn m es r owner a = a.why ≡ None → IfSome (entry_for es r.label) (λ x. host_finds m.site.faults r owner x.frame ≡ None)
 
 -- It has an end, so it is listed with the answer for that sense.
-abbrev pub IsListedAs : List Sent → Route → Answer → Type 0
+abbrev pub IsListedAs : List Sent → Route → ActAnswer → Type 0
 IsListedAs es r a = IfSome (end_for es r.label) (λ why. a.why ≡ Some why)
 
 -- It is listed with an answer from behind the adapter, so it has an end.
-abbrev pub HasEnd : List Sent → Route → Answer → Type 0
+abbrev pub HasEnd : List Sent → Route → ActAnswer → Type 0
 HasEnd es r a = IfSome a.why (λ why. is_outside why ≡ true → (x : Why) × (end_for es r.label ≡ Some x))
 
 -- It is listed otherwise and has no end, so it has an entry in which that is found at the host.
-abbrev pub IsFound : Setting → List Sent → Route → Owner → Answer → Type 0
+abbrev pub IsFound : Setting → List Sent → Route → Owner → ActAnswer → Type 0
 IsFound m es r owner a =
     IfSome a.why (λ why. is_outside why ≡ false → end_for es r.label ≡ None → (x : Moved) × ((entry_for es r.label ≡ Some x) × (host_finds m.site.faults r owner x.frame ≡ Some why)))
 
 module _ (m : Setting) (ops : List Op) (opening : State) (es : List Sent) (replies : List Reply) where
   -- what the walk that takes these replies answers of each block
-  abbrev pub answered : List Answer
+  abbrev pub answered : List ActAnswer
   answered = plain_tells act tell (taken_from m es 1 ops replies) opening
 
   pub record IsBacked : Type 0 where
@@ -125,5 +125,5 @@ module _ (m : Setting) (ops : List Op) (opening : State) (es : List Sent) (repli
     pub checked : replies ≡ script_replies (told m es) ops opening
 
 -- the same of a rig's log
-abbrev pub Backed : Setting → List Op → State → List Entry → List Reply → Type 0
+abbrev pub Backed : Setting → List Op → State → List LogEntry → List Reply → Type 0
 Backed m ops opening log replies = IsBacked m ops opening (recorded m log) replies

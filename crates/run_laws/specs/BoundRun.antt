@@ -5,13 +5,14 @@ use Rattle.range_gate.specs.Cells.{cells_of}
 use Rattle.stack_ops.specs.declared.op.Op.{Op}
 use Rattle.stack_ops.specs.declared.op.Op.TheVariants.{Fetch, FetchPi, Fill, Overwrite, Put, Seal, Show, Wait, Write, WritePi}
 use Rattle.block_path.specs.Acts.{State, act, tell}
-use Rattle.block_path.specs.Blocks.{Answer, fetched_cell, stored_cell}
+use Rattle.block_path.specs.Blocks.{ActAnswer, fetched_cell, stored_cell}
 use Rattle.block_path.specs.Moves.{hidden}
 use Rattle.block_path.specs.Routes.{wire_size}
 use Rattle.block_path.specs.Serial.{plain_tells}
 use Rattle.whole_run.specs.ScriptWalk.{acts_from, changed, script_replies, script_walk, source_of}
 use Rattle.whole_run.specs.Settings.{Block, Setting, block_of, route}
 use Rattle.run_laws.specs.ScriptMoves.{answers_by_moves, fates_of, replies_by_moves, room_of}
+use Rattle.pi_tuple.specs.declared.TheConstants.{TUPLE}
 
 -- What is asked of a script so that its moves come to its walk.
 
@@ -34,10 +35,10 @@ IsBound m fine bytes i (Write v n body app) = All (λ c. c < bytes) (cells_of bo
 IsBound m fine bytes i (Fetch v n body) = All (λ c. c < bytes) (cells_of body) × ((total body ≡ n * m.size) × (IsDistinct nat_eq (cells_of body) × AllSuit m fine i v n))
 IsBound m fine bytes i (WritePi v n body tuples) =
     All (λ c. c < bytes) (cells_of body ++ cells_of tuples)
-    × ((total body ≡ n * m.size) × ((total tuples ≡ n * 8) × (IsDistinct nat_eq (cells_of body ++ cells_of tuples) × ((m.mode.dix ≡ true) × AllSuit m fine i v n))))
+    × ((total body ≡ n * m.size) × ((total tuples ≡ n * TUPLE) × (IsDistinct nat_eq (cells_of body ++ cells_of tuples) × ((m.mode.dix ≡ true) × AllSuit m fine i v n))))
 IsBound m fine bytes i (FetchPi v n body tuples) =
     All (λ c. c < bytes) (cells_of body ++ cells_of tuples)
-    × ((total body ≡ n * m.size) × ((total tuples ≡ n * 8) × (IsDistinct nat_eq (cells_of body ++ cells_of tuples) × ((m.mode.dix ≡ true) × AllSuit m fine i v n))))
+    × ((total body ≡ n * m.size) × ((total tuples ≡ n * TUPLE) × (IsDistinct nat_eq (cells_of body ++ cells_of tuples) × ((m.mode.dix ≡ true) × AllSuit m fine i v n))))
 IsBound m fine bytes i (Overwrite dev lba change) = (block : List ℕ) → fine (source_of m.site dev lba change) block ≡ true → fine (m.site.cell dev lba) (changed change block) ≡ true
 IsBound m fine bytes i Wait = Unit {0}
 
@@ -62,7 +63,7 @@ pub record IsBoundRun (m : Setting) (fine : ℕ → List ℕ → Bool) (n : ℕ)
   pub all_fine : (c : ℕ) → fine c (get_or opening.blocks c []) ≡ true
 
 -- The moves come to the walk: pages in front of the private ones, stored blocks and carried frames; replies; and what is answered of each block, with what stands on record of it.
-pub record AreTheWalk (m : Setting) (n : ℕ) (ops : List Op) (opening now : State) (answers : List Answer) : Type 0 where
+pub record AreTheWalk (m : Setting) (n : ℕ) (ops : List Op) (opening now : State) (answers : List ActAnswer) : Type 0 where
   pub cells : hidden n now ≡ script_walk m ops (hidden n opening)
   pub replies : replies_by_moves m n ops answers ≡ script_replies m ops (hidden n opening)
   pub answers_are : answers_by_moves m n ops answers ≡ plain_tells act tell (acts_from m 1 ops) (hidden n opening)

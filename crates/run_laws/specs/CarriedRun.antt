@@ -1,5 +1,5 @@
 use Rattle.std.specs.Prelude.{ℕ, ◌≡◌, not, ◌&&◌, eqb, List, [], ◌∷◌, get_or}
-use Rattle.rig_api.specs.Log.{Entry}
+use Rattle.rig_api.specs.Log.{LogEntry}
 use Rattle.stack_ops.specs.declared.op.Op.{Op}
 use Rattle.block_path.specs.Acts.{State, act, tell}
 use Rattle.block_path.specs.Blocks.{Sent, Site}
@@ -21,5 +21,5 @@ pub record IsCarried (m : Setting) (ops : List Op) (opening : State) (es : List 
   pub reads : (c after : ℕ) → Mixed (reads_at m.site c after (sents (plain_tells act tell (acts_from m 1 ops) opening))) (reads_at m.site c after es)
 
 -- the same of a rig's log
-abbrev pub Carried : Setting → List Op → State → List Entry → Type 0
+abbrev pub Carried : Setting → List Op → State → List LogEntry → Type 0
 Carried m ops opening log = IsCarried m ops opening (recorded m log)

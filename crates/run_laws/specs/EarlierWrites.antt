@@ -6,7 +6,7 @@ use Rattle.stack_ops.specs.declared.op.Op.{Op}
 use Rattle.stack_ops.specs.declared.reply.Reply.{Reply}
 use Rattle.stack_ops.specs.declared.reply.Reply.TheVariants.{Silent}
 use Rattle.block_path.specs.Acts.{State}
-use Rattle.block_path.specs.Blocks.{Answer, Sent, own_cell}
+use Rattle.block_path.specs.Blocks.{ActAnswer, Sent, own_cell}
 use Rattle.block_path.specs.declared.route.Route.{Route}
 use Rattle.whole_run.specs.Past.{steps_from}
 use Rattle.whole_run.specs.Settings.{Setting, route}
@@ -32,7 +32,7 @@ accepted_in m c i [] replies = 0
 accepted_in m c i (op ∷ ops) replies = count_by (is_accepted m c (get_or replies 0 Silent)) (steps_of m i op) + accepted_in m c (suc i) ops (drop 1 replies)
 
 -- What stands on record of it stands after as many write entries of its place as earlier ops have such blocks there.
-abbrev pub IsCounted : Setting → List Op → List Reply → Route → Owner → Answer → Type 0
+abbrev pub IsCounted : Setting → List Op → List Reply → Route → Owner → ActAnswer → Type 0
 IsCounted m ops replies r owner a = IfSome a.sent (λ s. s.after ≡ accepted_in m (own_cell m.site r) 1 (take (r.label.op - 1) ops) replies)
 
 -- A block has an entry that stands after so many.

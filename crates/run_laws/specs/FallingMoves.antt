@@ -1,7 +1,7 @@
 use Rattle.std.specs.Prelude.{ℕ, ◌≡◌, ◌+◌, Bool, true, suc, IfSome, List, [], ◌∷◌, ◌++◌, map, Option, Some, None}
 use Rattle.stack_ops.specs.declared.op.Op.{Op}
 use Rattle.block_path.specs.Acts.{Act, State}
-use Rattle.block_path.specs.Blocks.{Answer, stored_cell}
+use Rattle.block_path.specs.Blocks.{ActAnswer, stored_cell}
 use Rattle.block_path.specs.Moves.{hidden}
 use Rattle.whole_run.specs.Past.{steps_from}
 use Rattle.whole_run.specs.ScriptWalk.{replies_by}
@@ -14,7 +14,7 @@ use Rattle.run_laws.specs.ScriptMoves.{ByMoves, all_moves, by_moves, fates_of, j
 -- A script by its moves where store calls fail: what a block does over a device whose calls fail, and in its cell lies what is left there.
 
 -- what a move leaves whose store call fails; a move that calls none is as it was
-abbrev pub spoiled : List ℕ → Act Answer → Act Answer
+abbrev pub spoiled : List ℕ → Act ActAnswer → Act ActAnswer
 spoiled left a = record a { compute = λ seen. leaving left (a.compute seen) }
 
 -- what a block's store call leaves, if it fails
@@ -43,7 +43,7 @@ falling_blocks m falls from fate i [] = []
 falling_blocks m falls from fate i (op ∷ ops) = falling_from m falls from fate 0 (steps_of m i op) ++ falling_blocks m falls (from + room_of m op) (fate + fates_of op) (suc i) ops
 
 -- all moves of the script, with its private pages behind n bytes of pages
-abbrev pub falling_moves : Setting → (falls : Block → Option (List ℕ)) → (n : ℕ) → List Op → List (Act Answer)
+abbrev pub falling_moves : Setting → (falls : Block → Option (List ℕ)) → (n : ℕ) → List Op → List (Act ActAnswer)
 falling_moves m falls n ops = all_moves (falling_blocks m falls n 0 1 ops)
 
 -- What is left of a block is fine where the block is stored.
@@ -51,6 +51,6 @@ abbrev pub LeavesFine : Setting → (fine : ℕ → List ℕ → Bool) → (fall
 LeavesFine m fine falls = (b : Block) → IfSome (falls b) (λ left. fine (stored_cell m.site (route m b)) left ≡ true)
 
 -- The moves come to the walk in which these calls fail: pages in front of the private ones, stored blocks and carried frames, and replies.
-pub record AreTheFallingWalk (m : Setting) (falls : Block → Option (List ℕ)) (n : ℕ) (ops : List Op) (opening now : State) (answers : List Answer) : Type 0 where
+pub record AreTheFallingWalk (m : Setting) (falls : Block → Option (List ℕ)) (n : ℕ) (ops : List Op) (opening now : State) (answers : List ActAnswer) : Type 0 where
   pub cells : hidden n now ≡ falling_walk m falls (steps_from m 1 ops) (hidden n opening)
   pub replies : replies_by m 1 ops (joins (falling_blocks m falls n 0 1 ops) answers) ≡ falling_replies m falls 1 ops (hidden n opening)

@@ -22,6 +22,7 @@ use Rattle.whole_run.specs.Settings.{Block, Setting, block_of}
 use Rattle.whole_run.specs.Steps.{steps_of}
 use Rattle.whole_run.specs.ReadsAs.{landing, listed_in, read_op, takes_tuples}
 use Rattle.run_laws.specs.StoreFaults.{falling_past, falling_walk, is_lost, may_fall}
+use Rattle.pi_tuple.specs.declared.TheConstants.{TUPLE}
 
 -- What comes of a read op where store calls fail, in its reply and in the pages.
 
@@ -34,7 +35,7 @@ falling_replies m falls i (op ∷ ops) s =
 -- Each of n blocks of a read has cells of its own in so many bytes of pages, and an application has tuples in memory.
 abbrev pub HasRoom : Setting → (bytes : ℕ) → Owner → (n : ℕ) → (body tuples : List Seg) → Type 0
 HasRoom m bytes OfBlock n body tuples = (total body ≡ n * m.size) × AreCells bytes (cells_of body)
-HasRoom m bytes OfApp n body tuples = (total body ≡ n * m.size) × ((total tuples ≡ n * 8) × (AreCells bytes (cells_of body ++ cells_of tuples) × (m.mode.dix ≡ true)))
+HasRoom m bytes OfApp n body tuples = (total body ≡ n * m.size) × ((total tuples ≡ n * TUPLE) × (AreCells bytes (cells_of body ++ cells_of tuples) × (m.mode.dix ≡ true)))
 
 -- The block isn't listed, and these data landed; an application gets this application tag too, where tuples pass all the way.
 pub record IsReadAs (m : Setting) (owner : Owner) (e : Brought) (listed : Option Why) (landed : List ℕ) : Type 0 where

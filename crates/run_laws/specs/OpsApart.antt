@@ -14,6 +14,7 @@ use Rattle.block_path.specs.Serial.{Apart}
 use Rattle.whole_run.specs.CalmRun.{AreBlocks}
 use Rattle.whole_run.specs.Settings.{Setting, block_of, route}
 use Rattle.whole_run.specs.UnderMap.{home}
+use Rattle.pi_tuple.specs.declared.TheConstants.{TUPLE}
 
 -- Ops that don't conflict: what is asked of them, and that their moves don't either.
 
@@ -37,8 +38,8 @@ HasBlocks m (Show seg) = Unit {0}
 HasBlocks m (Seal n body tuples app rtag) = Unit {0}
 HasBlocks m (Write v n body app) = AreBlocks m v n (total body)
 HasBlocks m (Fetch v n body) = AreBlocks m v n (total body)
-HasBlocks m (WritePi v n body tuples) = AreBlocks m v n (total body) × (total tuples ≡ n * 8)
-HasBlocks m (FetchPi v n body tuples) = AreBlocks m v n (total body) × (total tuples ≡ n * 8)
+HasBlocks m (WritePi v n body tuples) = AreBlocks m v n (total body) × (total tuples ≡ n * TUPLE)
+HasBlocks m (FetchPi v n body tuples) = AreBlocks m v n (total body) × (total tuples ≡ n * TUPLE)
 HasBlocks m (Overwrite dev lba change) = Unit {0}
 HasBlocks m Wait = Unit {0}
 

@@ -9,11 +9,11 @@ use Rattle.target_answer.specs.Frames.{frames_of, sent_size}
 use Rattle.target_answer.specs.Requests.{request_of}
 use Rattle.target_answer.specs.declared.request.Request.{Request}
 use Rattle.target_answer.specs.declared.request.Request.TheVariants.{Read, ReadCapacity, Verify, Write}
-use Rattle.rig_api.specs.Log.{Entry}
+use Rattle.rig_api.specs.Log.{LogEntry}
 use Rattle.bio_core.specs.declared.fate.Why.{Why}
 use Rattle.bio_core.specs.declared.request.Dir.{Dir}
 use Rattle.bio_core.specs.declared.request.Dir.TheVariants.{Read as In, Write as Out}
-use Rattle.block_path.specs.Blocks.{Answer, Sent, Site}
+use Rattle.block_path.specs.Blocks.{ActAnswer, Sent, Site}
 use Rattle.block_path.specs.Senses.{why_ended}
 use Rattle.whole_run.specs.Settings.{Setting}
 
@@ -51,27 +51,27 @@ put_blocks s dir dev lba labels [] es = es
 put_blocks s dir dev lba labels (came ∷ cames) es =
     put_blocks s dir dev (suc lba) (drop 1 labels) cames (es ++ (stamped s es (get_or labels 0 nobody) dir dev lba came ∷ []))
 
-abbrev pub put_rw : Setting → Dir → Rw → Entry → List Sent → List Sent
+abbrev pub put_rw : Setting → Dir → Rw → LogEntry → List Sent → List Sent
 put_rw m dir c e es =
     let done = e.what.outcome.done in
     put_blocks m.site dir e.what.dev c.lba e.labels (came_of c.n done e.what.outcome.sense (frames_of (sent_size c.protect m.size) (min done c.n) e.moved)) es
 
-abbrev pub put_request : Setting → Request → Entry → List Sent → List Sent
+abbrev pub put_request : Setting → Request → LogEntry → List Sent → List Sent
 put_request m (Read c) e es = put_rw m In c e es
 put_request m (Write c) e es = put_rw m Out c e es
 put_request m (Verify c) e es = es
 put_request m (ReadCapacity len) e es = es
 
-abbrev pub put_decoded : Setting → Result Cdb CdbFault → Entry → List Sent → List Sent
+abbrev pub put_decoded : Setting → Result Cdb CdbFault → LogEntry → List Sent → List Sent
 put_decoded m (Ok cdb) e es = put_request m (request_of cdb) e es
 put_decoded m (Err fault) e es = es
 
-abbrev pub put_entries : Setting → List Entry → List Sent → List Sent
+abbrev pub put_entries : Setting → List LogEntry → List Sent → List Sent
 put_entries m [] es = es
 put_entries m (e ∷ log) es = put_entries m log (put_decoded m (decoded e.what.cdb) e es)
 
 -- the entries and ends of a log, in its order
-abbrev pub recorded : Setting → List Entry → List Sent
+abbrev pub recorded : Setting → List LogEntry → List Sent
 recorded m log = put_entries m log []
 
 abbrev pub is_labelled : Label → Sent → Bool
@@ -120,7 +120,7 @@ put_sent None es = es
 put_sent (Some e) es = e ∷ es
 
 -- what stands on record by these answers, in their order
-abbrev pub sents : List Answer → List Sent
+abbrev pub sents : List ActAnswer → List Sent
 sents [] = []
 sents (a ∷ answers) = put_sent a.sent (sents answers)
 

@@ -6,22 +6,23 @@ use Rattle.stack_ops.specs.declared.op.Op.{Op}
 use Rattle.stack_ops.specs.declared.op.Op.TheVariants.{Fetch, FetchPi, Fill, Overwrite, Put, Seal, Show, Wait, Write, WritePi}
 use Rattle.stack_ops.specs.declared.reply.Reply.{Reply}
 use Rattle.block_path.specs.Acts.{Act}
-use Rattle.block_path.specs.Blocks.{Answer, silent}
+use Rattle.block_path.specs.Blocks.{ActAnswer, silent}
 use Rattle.block_path.specs.Moves.{carry_in, carry_out, joined, make_tuple, map_back, map_out, settle}
 use Rattle.whole_run.specs.ScriptWalk.{act_of, reply_of}
 use Rattle.whole_run.specs.Settings.{Block, Setting, route}
 use Rattle.whole_run.specs.Steps.{Alters, Reads, Seals, Sets, Shows, Step, Writes, WritesPi, steps_of}
+use Rattle.page_pool.specs.declared.TheConstants.{PAGE}
 
 -- The moves of a whole script: what a stack does with each block, move by move. Tuples that the block layer makes or checks lie in private pages behind the script's, each request beginning a fresh one; and each block of a request has a cell for what is found of it.
 
 -- a block by its moves, the act that they are together, and what their answers say together
 pub record ByMoves : Type 0 where
-  pub moves : List (Act Answer)
-  pub whole : Act Answer
-  pub join : List Answer → Answer
+  pub moves : List (Act ActAnswer)
+  pub whole : Act ActAnswer
+  pub join : List ActAnswer → ActAnswer
 
 -- Its admission makes the tuple, its cut maps the tag out, its sending carries the frame, its completion maps the tag back; without tuples in memory it is only sent.
-abbrev pub write_moves : Setting → Block → (app : ℕ) → (body own : List ℕ) → (dix : Bool) → List (Act Answer)
+abbrev pub write_moves : Setting → Block → (app : ℕ) → (body own : List ℕ) → (dix : Bool) → List (Act ActAnswer)
 write_moves m b app body own true = make_tuple (route m b) app body own ∷ map_out (route m b) own ∷ carry_out m.site (route m b) (body ++ own) ∷ map_back (route m b) own ∷ []
 write_moves m b app body own false = carry_out m.site (route m b) body ∷ []
 
@@ -30,7 +31,7 @@ abbrev pub carried_by : (dix : Bool) → ℕ
 carried_by true = 2
 carried_by false = 0
 
-abbrev pub write_pi_moves : Setting → Block → (frame : List ℕ) → List (Act Answer)
+abbrev pub write_pi_moves : Setting → Block → (frame : List ℕ) → List (Act ActAnswer)
 write_pi_moves m b frame = map_out (route m b) (drop m.size frame) ∷ carry_out m.site (route m b) frame ∷ map_back (route m b) (drop m.size frame) ∷ []
 
 -- where a read lands: behind its data the block layer's own tuple, where the host has tuples
@@ -40,10 +41,10 @@ lands_in OfBlock false to own = to
 lands_in OfApp dix to own = to
 
 -- Its sending carries it in, its completion settles it.
-abbrev pub read_moves : Setting → Block → Owner → (at : List ℕ) → (fate : ℕ) → List (Act Answer)
+abbrev pub read_moves : Setting → Block → Owner → (at : List ℕ) → (fate : ℕ) → List (Act ActAnswer)
 read_moves m b owner at fate = carry_in m.site (route m b) at fate ∷ settle (route m b) owner at fate ∷ []
 
-abbrev pub at_once : Act Answer → ByMoves
+abbrev pub at_once : Act ActAnswer → ByMoves
 at_once a = record { moves = a ∷ []; whole = a; join = λ answers. get_or answers 0 silent }
 
 -- a step by its moves, with the cells of its block's own tuple, and the cell of what is found
@@ -72,18 +73,18 @@ blocks_from m from fate k (step ∷ steps) = by_moves m (own_at from k) (fate + 
 abbrev pub blocks_of : Setting → (from fate i : ℕ) → Op → List ByMoves
 blocks_of m from fate i op = blocks_from m from fate 0 (steps_of m i op)
 
-abbrev pub all_moves : List ByMoves → List (Act Answer)
+abbrev pub all_moves : List ByMoves → List (Act ActAnswer)
 all_moves [] = []
 all_moves (b ∷ blocks) = b.moves ++ all_moves blocks
 
 -- what the blocks answer, by the answers of all their moves
-abbrev pub joins : List ByMoves → List Answer → List Answer
+abbrev pub joins : List ByMoves → List ActAnswer → List ActAnswer
 joins [] answers = []
 joins (b ∷ blocks) answers = b.join (take (length b.moves) answers) ∷ joins blocks (drop (length b.moves) answers)
 
 -- the bytes of so many own tuples, in whole pages
 abbrev pub room_for : ℕ → ℕ
-room_for n = 4096 * ((n + 511) / 512)
+room_for n = PAGE * ((n + 511) / 512)
 
 -- the bytes of an op's private pages
 abbrev pub room_of : Setting → Op → ℕ
@@ -112,19 +113,19 @@ fates_of (Overwrite dev lba change) = 0
 fates_of Wait = 0
 
 -- all moves of the ops from op i on: each op's private pages and cells begin where those of the op before end
-abbrev pub moves_from : Setting → (from fate i : ℕ) → List Op → List (Act Answer)
+abbrev pub moves_from : Setting → (from fate i : ℕ) → List Op → List (Act ActAnswer)
 moves_from m from fate i [] = []
 moves_from m from fate i (op ∷ ops) = all_moves (blocks_of m from fate i op) ++ moves_from m (from + room_of m op) (fate + fates_of op) (suc i) ops
 
 -- the answers of their blocks, and their replies, by the answers of all moves
-abbrev pub answers_from : Setting → (from fate i : ℕ) → List Op → List Answer → List Answer
+abbrev pub answers_from : Setting → (from fate i : ℕ) → List Op → List ActAnswer → List ActAnswer
 answers_from m from fate i [] answers = []
 answers_from m from fate i (op ∷ ops) answers =
     let blocks = blocks_of m from fate i op in
     let mine = length (all_moves blocks) in
     joins blocks (take mine answers) ++ answers_from m (from + room_of m op) (fate + fates_of op) (suc i) ops (drop mine answers)
 
-abbrev pub replies_from_moves : Setting → (from fate i : ℕ) → List Op → List Answer → List Reply
+abbrev pub replies_from_moves : Setting → (from fate i : ℕ) → List Op → List ActAnswer → List Reply
 replies_from_moves m from fate i [] answers = []
 replies_from_moves m from fate i (op ∷ ops) answers =
     let blocks = blocks_of m from fate i op in
@@ -132,11 +133,11 @@ replies_from_moves m from fate i (op ∷ ops) answers =
     reply_of (m.fails i) op (joins blocks (take mine answers)) ∷ replies_from_moves m (from + room_of m op) (fate + fates_of op) (suc i) ops (drop mine answers)
 
 -- the script's, with its private pages behind n bytes of pages
-abbrev pub script_moves : Setting → (n : ℕ) → List Op → List (Act Answer)
+abbrev pub script_moves : Setting → (n : ℕ) → List Op → List (Act ActAnswer)
 script_moves m n ops = moves_from m n 0 1 ops
 
-abbrev pub replies_by_moves : Setting → (n : ℕ) → List Op → List Answer → List Reply
+abbrev pub replies_by_moves : Setting → (n : ℕ) → List Op → List ActAnswer → List Reply
 replies_by_moves m n ops answers = replies_from_moves m n 0 1 ops answers
 
-abbrev pub answers_by_moves : Setting → (n : ℕ) → List Op → List Answer → List Answer
+abbrev pub answers_by_moves : Setting → (n : ℕ) → List Op → List ActAnswer → List ActAnswer
 answers_by_moves m n ops answers = answers_from m n 0 1 ops answers

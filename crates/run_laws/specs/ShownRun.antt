@@ -18,6 +18,7 @@ use Rattle.whole_run.specs.Detectable.{detectable}
 use Rattle.whole_run.specs.Past.{steps_from}
 use Rattle.whole_run.specs.Settings.{Block, Setting, block_of, route}
 use Rattle.whole_run.specs.UnderMap.{IsClean, NoEscape}
+use Rattle.pi_tuple.specs.declared.TheConstants.{TUPLE}
 
 -- What is asked of a run with faults, so that tuples show each of them.
 
@@ -70,9 +71,9 @@ Binds m devices bytes i (Show seg) = Unit {0}
 Binds m devices bytes i (Seal n body tuples app rtag) = Unit {0}
 Binds m devices bytes i (Write v n body app) = AreBlocks m v n (total body) × ((app < 2 ^ 16) × AllStayNear m i v n)
 Binds m devices bytes i (Fetch v n body) = AreBlocks m v n (total body) × (AreCells bytes (cells_of body) × (AllStayNear m i v n × AllAreFetched m devices i v n))
-Binds m devices bytes i (WritePi v n body tuples) = AreBlocks m v n (total body) × ((total tuples ≡ n * 8) × AllStayNear m i v n)
+Binds m devices bytes i (WritePi v n body tuples) = AreBlocks m v n (total body) × ((total tuples ≡ n * TUPLE) × AllStayNear m i v n)
 Binds m devices bytes i (FetchPi v n body tuples) =
-    AreBlocks m v n (total body) × ((total tuples ≡ n * 8) × (AreCells bytes (cells_of body ++ cells_of tuples) × (AllStayNear m i v n × AllAreFetched m devices i v n)))
+    AreBlocks m v n (total body) × ((total tuples ≡ n * TUPLE) × (AreCells bytes (cells_of body ++ cells_of tuples) × (AllStayNear m i v n × AllAreFetched m devices i v n)))
 Binds m devices bytes i (Overwrite dev lba change) = HasBlock m devices dev lba
 Binds m devices bytes i Wait = Unit {0}
 

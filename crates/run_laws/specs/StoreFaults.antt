@@ -6,7 +6,7 @@ use Rattle.stack_ops.specs.declared.op.Op.{Op}
 use Rattle.target_answer.specs.Frames.{data_of, tuple_of}
 use Rattle.volume_table.specs.Places.{volume_len}
 use Rattle.block_path.specs.Acts.{Act, Effect, State, act, tell}
-use Rattle.block_path.specs.Blocks.{Answer}
+use Rattle.block_path.specs.Blocks.{ActAnswer}
 use Rattle.block_path.specs.Routes.{Device}
 use Rattle.block_path.specs.Serial.{plain}
 use Rattle.whole_run.specs.CalmRun.{AllFit, IsCalm, LiesIn}
@@ -17,6 +17,7 @@ use Rattle.whole_run.specs.ScriptWalk.{act_of}
 use Rattle.whole_run.specs.Settings.{Block, Setting}
 use Rattle.whole_run.specs.Steps.{Alters, Reads, Seals, Sets, Shows, Step, Writes, WritesPi}
 use Rattle.whole_run.specs.UnderMap.{AreClean}
+use Rattle.pi_tuple.specs.declared.TheConstants.{TUPLE}
 
 -- A walk in which store calls fail. Which blocks' calls fail, and what a write then leaves in its cell, is given from outside.
 
@@ -28,7 +29,7 @@ abbrev pub over_failing : Setting → Setting
 over_failing m = record m { site = record m.site { device = failing } }
 
 -- A write that came as far as the medium leaves these bytes in its cell.
-abbrev pub left_by : Option Why → List ℕ → Effect Answer → Effect Answer
+abbrev pub left_by : Option Why → List ℕ → Effect ActAnswer → Effect ActAnswer
 left_by None left e = e
 left_by (Some Medium) left e = record { written = record e.written { blocks = left ∷ [] }; answer = e.answer }
 left_by (Some (Adapter check)) left e = e
@@ -38,19 +39,19 @@ left_by (Some (App check)) left e = e
 left_by (Some (Refused key asc ascq)) left e = e
 left_by (Some Short) left e = e
 
-abbrev pub leaving : List ℕ → Effect Answer → Effect Answer
+abbrev pub leaving : List ℕ → Effect ActAnswer → Effect ActAnswer
 leaving left e = left_by e.answer.why left e
 
 -- what a step does whose store call fails
-abbrev pub fallen : Setting → List ℕ → Step → Act Answer
+abbrev pub fallen : Setting → List ℕ → Step → Act ActAnswer
 fallen m left step = record (act_of (over_failing m) step) { compute = λ seen. leaving left ((act_of (over_failing m) step).compute seen) }
 
-abbrev pub or_fallen : Setting → Step → Option (List ℕ) → Act Answer
+abbrev pub or_fallen : Setting → Step → Option (List ℕ) → Act ActAnswer
 or_fallen m step None = act_of m step
 or_fallen m step (Some left) = fallen m left step
 
 -- what a step does, where `falls` says of each block whether its store call fails, and what that leaves
-abbrev pub may_fall : Setting → (falls : Block → Option (List ℕ)) → Step → Act Answer
+abbrev pub may_fall : Setting → (falls : Block → Option (List ℕ)) → Step → Act ActAnswer
 may_fall m falls (Sets at values) = act_of m (Sets at values)
 may_fall m falls (Shows at) = act_of m (Shows at)
 may_fall m falls (Seals body tuple app rtag) = act_of m (Seals body tuple app rtag)
@@ -85,10 +86,10 @@ is_lost b (Lost a ∷ past) = if eqb a.virt b.virt then true else is_lost b past
 is_lost b (Overwritten cell ∷ past) = is_lost b past
 
 -- A frame of these data, as long as the host has it, lands and isn't listed; where tuples pass all the way it has this application tag.
-pub record LandsAs (m : Setting) (a : Act Answer) (to : List ℕ) (e : Brought) (s : State) : Type 0 where
+pub record LandsAs (m : Setting) (a : Act ActAnswer) (to : List ℕ) (e : Brought) (s : State) : Type 0 where
   pub not_listed : (tell a s).why ≡ None
   pub frame : List ℕ
-  pub size : length frame ≡ (if m.mode.dix then m.size + 8 else m.size)
+  pub size : length frame ≡ (if m.mode.dix then m.size + TUPLE else m.size)
   pub body : data_of m.size frame ≡ e.body
   pub app : all_pass m ≡ true → (tuple_of m.size frame).app ≡ e.app
   pub lands : (act a s).bytes ≡ scatter to frame s.bytes

@@ -8,7 +8,7 @@ use Rattle.stack_ops.specs.declared.op.Op.TheVariants.{Overwrite}
 use Rattle.stack_ops.specs.declared.reply.Reply.{Reply}
 use Rattle.stack_ops.specs.declared.reply.Reply.TheVariants.{Silent}
 use Rattle.block_path.specs.Acts.{Act, State, act, tell}
-use Rattle.block_path.specs.Blocks.{Answer, Sent, own_frame, read_block, read_by, tuple_after, write_block, write_block_of_app, written_by}
+use Rattle.block_path.specs.Blocks.{ActAnswer, Sent, own_frame, read_block, read_by, tuple_after, write_block, write_block_of_app, written_by}
 use Rattle.block_path.specs.declared.route.Route.{Route}
 use Rattle.block_path.specs.Serial.{plain, plain_tells}
 use Rattle.block_path.specs.WayIn.{Delivers, Stops, WayIn, mapped_back, received}
@@ -42,7 +42,7 @@ abbrev pub frame_in : Option Moved → List ℕ
 frame_in None = []
 frame_in (Some x) = x.frame
 
-abbrev pub taken_act : Setting → List Sent → Reply → Step → Act Answer
+abbrev pub taken_act : Setting → List Sent → Reply → Step → Act ActAnswer
 taken_act m es reply (Sets at values) = act_of m (Sets at values)
 taken_act m es reply (Shows at) = act_of m (Shows at)
 taken_act m es reply (Seals body tuple app rtag) = act_of m (Seals body tuple app rtag)
@@ -57,16 +57,16 @@ taken_act m es reply (Reads b owner to) = record (read_block m.site (route m b) 
 }
 taken_act m es reply (Alters dev lba change) = act_of m (Alters dev lba change)
 
-abbrev pub taken_acts : Setting → List Sent → (i : ℕ) → Op → Reply → List (Act Answer)
+abbrev pub taken_acts : Setting → List Sent → (i : ℕ) → Op → Reply → List (Act ActAnswer)
 taken_acts m es i op reply = map (taken_act m es reply) (steps_of m i op)
 
 -- The reply of an overwrite is taken, any other is made.
-abbrev pub taken_reply : Op → Reply → List Answer → Reply
+abbrev pub taken_reply : Op → Reply → List ActAnswer → Reply
 taken_reply (Overwrite dev lba change) reply answers = reply
 taken_reply op reply answers = reply_of false op answers
 
 -- all acts of the ops from op i on, with their replies
-abbrev pub taken_from : Setting → List Sent → (i : ℕ) → List Op → List Reply → List (Act Answer)
+abbrev pub taken_from : Setting → List Sent → (i : ℕ) → List Op → List Reply → List (Act ActAnswer)
 taken_from m es i [] replies = []
 taken_from m es i (op ∷ ops) replies = taken_acts m es i op (get_or replies 0 Silent) ++ taken_from m es (suc i) ops (drop 1 replies)
 

@@ -3,7 +3,7 @@
 ghost use Rattle.std.specs.Prelude.{ℕ, Bool, List, Option};
 ghost use Rattle.stack_ops.specs.declared.op.Op.{Op as AnyOp};
 ghost use Rattle.block_path.specs.Acts.{State, act, conflict, tell};
-ghost use Rattle.block_path.specs.Blocks.{Answer};
+ghost use Rattle.block_path.specs.Blocks.{ActAnswer};
 ghost use Rattle.block_path.specs.Serial.{Leads, all_done, none_done};
 ghost use Rattle.whole_run.specs.Settings.{Block, Setting};
 ghost use Rattle.run_laws.specs.BoundRun.{AreTheWalk, IsBoundRun};
@@ -14,7 +14,7 @@ ghost use Rattle.run_laws.specs.ScriptMoves.{script_moves};
 /// its pages, stored blocks, carried frames and replies, and what it answers of each block. There is no premise on
 /// faults or on the image; the device behind the adapter may be any.
 pub fn moves_in_any_order_are_the_walk()
-    ensures { (m : Setting) (fine : ℕ → List ℕ → Bool) (n : ℕ) (ops : List AnyOp) (opening now : State) (places : List ℕ) (answers : List Answer) → IsBoundRun m fine n ops opening
+    ensures { (m : Setting) (fine : ℕ → List ℕ → Bool) (n : ℕ) (ops : List AnyOp) (opening now : State) (places : List ℕ) (answers : List ActAnswer) → IsBoundRun m fine n ops opening
         → Leads act tell conflict (script_moves m n ops) places (none_done (script_moves m n ops)) opening (all_done answers) now
         → AreTheWalk m n ops opening now answers }
 {}
@@ -23,7 +23,7 @@ pub fn moves_in_any_order_are_the_walk()
 /// conflicting ones in script order, they come to the walk in which these calls fail, with its pages, stored blocks,
 /// carried frames and replies.
 pub fn moves_in_any_order_are_the_falling_walk()
-    ensures { (m : Setting) (falls : Block → Option (List ℕ)) (fine : ℕ → List ℕ → Bool) (n : ℕ) (ops : List AnyOp) (opening now : State) (places : List ℕ) (answers : List Answer)
+    ensures { (m : Setting) (falls : Block → Option (List ℕ)) (fine : ℕ → List ℕ → Bool) (n : ℕ) (ops : List AnyOp) (opening now : State) (places : List ℕ) (answers : List ActAnswer)
         → IsBoundRun m fine n ops opening → LeavesFine m fine falls
         → Leads act tell conflict (falling_moves m falls n ops) places (none_done (falling_moves m falls n ops)) opening (all_done answers) now
         → AreTheFallingWalk m falls n ops opening now answers }

@@ -7,7 +7,7 @@ ghost use Rattle.integrity_payload.specs.declared.payload.Owner.TheVariants.{App
 ghost use Rattle.stack_ops.specs.declared.op.Op.{Op as AnyOp};
 ghost use Rattle.stack_ops.specs.declared.op.Op.TheVariants.{Write, WritePi};
 ghost use Rattle.block_path.specs.Acts.{Act, State, conflict};
-ghost use Rattle.block_path.specs.Blocks.{Answer};
+ghost use Rattle.block_path.specs.Blocks.{ActAnswer};
 ghost use Rattle.whole_run.specs.Past.{steps_from};
 ghost use Rattle.whole_run.specs.PlainMap.{finds_plainly};
 ghost use Rattle.whole_run.specs.ScriptWalk.{act_of};
@@ -50,6 +50,6 @@ pub fn a_write_fails_at_the_medium_alone()
 /// A block whose store call fails conflicts with what it would have conflicted with: so any order of the blocks that
 /// keeps conflicting ones in order is the walk, whichever calls fail.
 pub fn a_failing_block_conflicts_as_before()
-    ensures one { (m : Setting) (falls : Block → Option (List ℕ)) (step : Step) (other : Act Answer) → conflict (may_fall m falls step) other ≡ conflict (act_of m step) other }
-    ensures other { (m : Setting) (falls : Block → Option (List ℕ)) (step : Step) (other : Act Answer) → conflict other (may_fall m falls step) ≡ conflict other (act_of m step) }
+    ensures one { (m : Setting) (falls : Block → Option (List ℕ)) (step : Step) (other : Act ActAnswer) → conflict (may_fall m falls step) other ≡ conflict (act_of m step) other }
+    ensures other { (m : Setting) (falls : Block → Option (List ℕ)) (step : Step) (other : Act ActAnswer) → conflict other (may_fall m falls step) ≡ conflict other (act_of m step) }
 {}

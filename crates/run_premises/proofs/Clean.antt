@@ -20,7 +20,7 @@ use Rattle.block_path.specs.Routes.{host_type}
 use Rattle.block_path.specs.Serial.{plain}
 use Rattle.block_path.proofs.Cells.{below}
 use Rattle.whole_run.specs.CalmRun.{AllFit, IsCalmRun, LiesIn}
-use Rattle.whole_run.specs.PlainMap.{Entry, Plain, all_pass, as_expected, entry_of, finds_of_app, finds_plainly, kept_unless, own_in, plain_from, plain_map, plain_step, tag_of}
+use Rattle.whole_run.specs.PlainMap.{MapEntry, Plain, all_pass, as_expected, entry_of, finds_of_app, finds_plainly, kept_unless, own_in, plain_from, plain_map, plain_step, tag_of}
 use Rattle.whole_run.specs.ScriptWalk.{act_of, acts_of, script_walk, walk_from}
 use Rattle.whole_run.specs.Settings.{Setting, route}
 use Rattle.whole_run.specs.Steps.{Alters, Reads, Seals, Sets, Shows, Step, Writes, WritesPi, steps_of}
@@ -37,19 +37,19 @@ use Rattle.run_laws.proofs.Passing.{host_same}
 
 -- ---- entries that are no escape
 
-abbrev Open : PiType → Entry → Type 0
+abbrev Open : PiType → MapEntry → Type 0
 Open ty e = is_escaped ty (record { guard = 0; app = e.app; rtag = e.own }) ≡ false
 
-abbrev AllOpen : PiType → List Entry → Type 0
+abbrev AllOpen : PiType → List MapEntry → Type 0
 AllOpen ty [] = Unit {0}
 AllOpen ty (e ∷ map) = Open ty e × AllOpen ty map
 
-open_set : (ty : PiType) (map : List Entry) (i : ℕ) (e : Entry) → Open ty e → AllOpen ty map → AllOpen ty (set map i e)
+open_set : (ty : PiType) (map : List MapEntry) (i : ℕ) (e : MapEntry) → Open ty e → AllOpen ty map → AllOpen ty (set map i e)
 open_set ty [] i e p h = tt
 open_set ty (x ∷ map) zero e p h = (p, h.1)
 open_set ty (x ∷ map) (suc i) e p h = (h.0, open_set ty map i e p h.1)
 
-open_kept : (ty : PiType) (o : Option Check) (v : ℕ) (e : Entry) (map : List Entry) → Open ty e → AllOpen ty map → AllOpen ty (kept_unless o v e map)
+open_kept : (ty : PiType) (o : Option Check) (v : ℕ) (e : MapEntry) (map : List MapEntry) → Open ty e → AllOpen ty map → AllOpen ty (kept_unless o v e map)
 open_kept ty None v e map p h = open_set ty map v e p h
 open_kept ty (Some check) v e map p h = h
 
@@ -72,7 +72,7 @@ entry_open m body t h = by (all_pass m) refl where
   by true e = own_open m.ty t (h e)
   by false e = nothing_escapes m.ty 0
 
-stored_open : (ty : PiType) (g lba : ℕ) (e : Entry) → Open ty e → is_escaped ty (record { guard = g; app = e.app; rtag = tag_of ty lba e.own }) ≡ false
+stored_open : (ty : PiType) (g lba : ℕ) (e : MapEntry) → Open ty e → is_escaped ty (record { guard = g; app = e.app; rtag = tag_of ty lba e.own }) ≡ false
 stored_open Zero g lba e h = refl
 stored_open One g lba e h = h
 stored_open Two g lba e h = h
@@ -97,7 +97,7 @@ passes_all Three false dif h = absurd (false≢true h)
 
 -- ---- what is stored of an entry
 
-stored_clean : (m : Setting) (lba : ℕ) (e : Entry) → is_zero m.ty ≡ false → Open m.ty e → IsProper m e → IsClean m lba (stored_as m lba e)
+stored_clean : (m : Setting) (lba : ℕ) (e : MapEntry) → is_zero m.ty ≡ false → Open m.ty e → IsProper m e → IsClean m lba (stored_as m lba e)
 stored_clean m lba e z o p =
     let t : Tuple = record { guard = crc e.body; app = e.app; rtag = tag_of m.ty lba e.own } in
     subst (IsClean m lba) (sym (ap (λ c. if c then e.body else frame_of e.body (record { guard = crc e.body; app = e.app; rtag = tag_of m.ty lba e.own })) z))
@@ -118,7 +118,7 @@ stored_clean m lba e z o p =
 module _ (m : Setting) (n : ℕ) (image : List (List ℕ)) (lies : LiesIn m n image) (z : is_zero m.ty ≡ false) where
   -- a cell that is clean stays so under a map
   cell_clean : (c lba : ℕ) → ((v : ℕ) → v < n → home m v ≡ c → lba ≡ address_of m v) → IsClean m lba (get_or image c []) →
-      (v : ℕ) (map : List Entry) → v + length map ≡ n → AllOpen m.ty map → AllProper m map → IsClean m lba (get_or (under m v map image) c [])
+      (v : ℕ) (map : List MapEntry) → v + length map ≡ n → AllOpen m.ty map → AllProper m map → IsClean m lba (get_or (under m v map image) c [])
   cell_clean c lba meets base v [] s o p = base
   cell_clean c lba meets base v (e ∷ map) s o p =
       let rest = under m (suc v) map image in

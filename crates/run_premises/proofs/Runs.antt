@@ -1,10 +1,8 @@
 -- Along the steps of a run whose faults have the form: what stands in the pages and on the volume, and that each fault is shown.
-use Rattle.std.proofs.Common.{◌≡◌, ℕ, suc, ◌+◌, ◌-◌, ◌%◌, ◌^◌, Bool, true, false, eqb, ◌&&◌, not, List, [], ◌∷◌, ◌++◌, get_or, refl, sym, ap, subst, ◌∙◌, arith}
+use Rattle.std.proofs.Common.{◌≡◌, ℕ, suc, ◌+◌, ◌-◌, ◌%◌, ◌^◌, Bool, true, false, eqb, ◌&&◌, not, List, [], ◌∷◌, get_or, refl, sym, ap, subst, ◌∙◌, arith}
 use Rattle.std.specs.Prelude.{All}
 use Rattle.std.specs.List.{list_all, list_any}
 use Rattle.std.proofs.lemmas.Bool.{and_from, and_parts, eq-eqb, false≢true, false_from_ne_true}
-use Rattle.pi_guard.proofs.GuardSizes.{guard_below}
-use Rattle.pi_tuple.proofs.TupleLaws.{tag_below}
 use Rattle.fault_schedule.specs.Altered.{is_line_of, is_same}
 use Rattle.fault_schedule.specs.declared.fault.Crossing.{Crossing}
 use Rattle.fault_schedule.specs.declared.fault.Crossing.TheVariants.{HostToAdapter, MediumToTarget, TargetToMedium}
@@ -13,13 +11,12 @@ use Rattle.integrity_payload.specs.declared.payload.Owner.TheVariants.{Block as 
 use Rattle.stack_ops.specs.declared.op.Op.{Op}
 use Rattle.stack_ops.specs.declared.op.Op.TheVariants.{Fetch, FetchPi, Fill, Overwrite, Put, Seal, Show, Wait, Write, WritePi}
 use Rattle.volume_table.specs.Places.{volume_len}
-use Rattle.block_path.specs.Acts.{State, act}
+use Rattle.block_path.specs.Acts.{State}
 use Rattle.block_path.proofs.Cells.{AllBelow, below}
 use Rattle.whole_run.specs.CalmRun.{AllFit, Fits, LiesIn}
 use Rattle.whole_run.specs.Detectable.{detectable}
 use Rattle.whole_run.specs.FirstLayer.{has_flip, is_flip}
 use Rattle.whole_run.specs.Past.{steps_from}
-use Rattle.whole_run.specs.ScriptWalk.{act_of}
 use Rattle.whole_run.specs.Settings.{Block, Setting, block_of, route}
 use Rattle.whole_run.specs.Steps.{Reads, Seals, Step, Writes, WritesPi, body_of, frame_at, steps_of, tuple_of}
 use Rattle.whole_run.specs.UnderMap.{AreClean, NoneEscapes}

@@ -11,6 +11,7 @@ use Rattle.fault_schedule.specs.declared.fault.FaultLine.{FaultLine}
 use Rattle.stack_ops.specs.declared.op.Op.{Op}
 use Rattle.stack_ops.specs.declared.op.Op.TheVariants.{Fetch, FetchPi, Fill, Overwrite, Put, Seal, Show, Wait, Write, WritePi}
 use Rattle.whole_run.specs.FirstLayer.{is_flip}
+use Rattle.pi_tuple.specs.declared.TheConstants.{TUPLE}
 
 -- Which scheduled faults tuples can show, told by their lines and the ops alone: in type 1 with tuples that are passed and protect field 001b.
 
@@ -18,7 +19,7 @@ use Rattle.whole_run.specs.FirstLayer.{is_flip}
 
 -- what becomes of a frame of zeros: each byte is all that the lines name for its place
 abbrev pub mask_of : (size : ℕ) → List FaultLine → Crossing → Label → List ℕ
-mask_of size faults at label = altered faults at label (replicate (size + 8) 0)
+mask_of size faults at label = altered faults at label (replicate (size + TUPLE) 0)
 
 -- the guard that a frame has at a crossing: the host's on its side of the adapter, else the CRC
 abbrev pub kind_at : GuardKind → Crossing → GuardKind

@@ -4,6 +4,7 @@ ghost use Rattle.std.specs.Prelude.{◌≡◌, ◌+◌, ◌∷◌, false, length
 ghost use Rattle.std.specs.List.{list_all, list_any};
 ghost use Rattle.whole_run.specs.FirstLayer.{is_flip};
 ghost use Rattle.run_premises.specs.Forms.{brings_tuples, escapes_none, first_virt, is_good_line, is_near, is_none, is_overwrite, is_seen, is_shown, is_shown_line, is_stored_altered, kind_at, label_of, may_mend, may_undo, op_of, shows_by_form, stores, supplies_none, virt_of};
+ghost use Rattle.pi_tuple.specs.declared.TheConstants.{TUPLE};
 
 use fault_schedule::{Crossing, FaultKind, FaultLine, FaultList, Label, Tamper};
 use pi_guard::{GuardKind, crc16};
@@ -50,7 +51,7 @@ fn is_seen(kind: GuardKind, mask: &[u8]) -> bool
 }
 
 fn is_shown(size: usize, kind: GuardKind, mask: &[u8]) -> bool
-    requires { length mask.now ≡ size + 8 }
+    requires { length mask.now ≡ size + TUPLE }
     ensures { result ≡ is_shown size kind mask.now }
 {
     let (front, tags) = mask.split_at(size + 2);
@@ -83,9 +84,9 @@ fn is_shown_line(
     line: &FaultLine,
     frame: &mut [u8],
 ) -> bool
-    requires { length frame.old ≡ size + 8 }
+    requires { length frame.old ≡ size + TUPLE }
     ensures shown { result ≡ is_shown_line kind size tamper.now line.now }
-    ensures room { length frame.new ≡ size + 8 }
+    ensures room { length frame.new ≡ size + TUPLE }
 {
     let label = Label {
         op: line.op,
@@ -168,7 +169,7 @@ fn are_good(
     ops: &[Op],
     frame: &mut [u8],
 ) -> bool
-    requires room { length frame.old ≡ size + 8 }
+    requires room { length frame.old ≡ size + TUPLE }
     requires armed { tamper.now ≡ lines.now }
     ensures { result ≡ list_all (is_good_line kind size lines.now ops.now) lines.now }
 {

@@ -25,6 +25,7 @@ ghost use Rattle.whole_run.specs.UnderMap.{AreClean, NoEscape};
 ghost use Rattle.run_laws.specs.ShownRun.{DevicesAreClean, HasCells, LiesOn};
 ghost use Rattle.run_premises.specs.Forms.{escapes_none, is_near, is_seen, mask_of};
 ghost use Rattle.run_premises.specs.FormedRun.{HasFormedFaults, IsOfBytes};
+ghost use Rattle.pi_tuple.specs.declared.TheConstants.{TUPLE};
 
 mod form;
 
@@ -39,7 +40,7 @@ pub fn near_flips_are_seen()
 /// A law: of a frame of bytes with the CRC of its data as its guard, what lines alter is hidden exactly where the CRC of
 /// all that they name for data and guard is 0. So the form is exact where the guard is the CRC.
 pub fn the_form_is_exact_for_the_crc()
-    ensures { (size : ℕ) (faults : List FaultLine) (at : Crossing) (label : Label) (frame : List ℕ) → All (λ (line : FaultLine). IsOfBytes line.kind) faults → length frame ≡ size + 8
+    ensures { (size : ℕ) (faults : List FaultLine) (at : Crossing) (label : Label) (frame : List ℕ) → All (λ (line : FaultLine). IsOfBytes line.kind) faults → length frame ≡ size + TUPLE
         → All (λ x. x < 256) frame → (tuple_of size frame).guard ≡ crc (data_of size frame)
         → ((tuple_of size (altered faults at label frame)).guard ≡ crc (data_of size (altered faults at label frame))) ↔ (crc (take (size + 2) (mask_of size faults at label)) ≡ 0) }
 {}

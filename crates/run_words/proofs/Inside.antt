@@ -4,12 +4,12 @@ use Rattle.std.proofs.lemmas.List.{length-map}
 use Rattle.std.proofs.lemmas.List.Elements.{All-cons, All-nil}
 use Rattle.bio_core.specs.declared.fate.Why.{Why}
 use Rattle.block_path.specs.Acts.{State, act, tell}
-use Rattle.block_path.specs.Blocks.{Answer}
+use Rattle.block_path.specs.Blocks.{ActAnswer}
 use Rattle.block_path.specs.Serial.{plain, plain_tells}
 use Rattle.block_path.proofs.PathLaws.{long_tells}
 use Rattle.run_laws.specs.Records.{recorded}
 use Rattle.run_laws.specs.ToldRun.{told}
-use Rattle.rig_api.specs.Log.{Entry}
+use Rattle.rig_api.specs.Log.{LogEntry}
 use Rattle.rig_api.specs.State.{RigState}
 use Rattle.script_ground.proofs.Ops.{in-range, line-none}
 use Rattle.script_ground.proofs.Standing.{bound}
@@ -47,17 +47,17 @@ listed : (first most : ℕ) (bad : List BadBlock) → All (Below first most) bad
 listed first most [] h = tt
 listed first most (b ∷ bad) h = h
 
-by_answers : (first most n : ℕ) (answers : List Answer) → first + n ≤ most → length answers ≡ n → IsInside first most (request_reply answers)
+by_answers : (first most n : ℕ) (answers : List ActAnswer) → first + n ≤ most → length answers ≡ n → IsInside first most (request_reply answers)
 by_answers first most n answers w e =
-    let whys = map (λ (a : Answer). a.why) answers in
-    let l : length whys ≡ length answers = length-map answers (λ (a : Answer). a.why) in
+    let whys = map (λ (a : ActAnswer). a.why) answers in
+    let l : length whys ≡ length answers = length-map answers (λ (a : ActAnswer). a.why) in
     listed first most (bad_from 0 whys) (below first most n 0 whys w (omega (arith, e, l)))
 
 by_steps : (m : Setting) (first most n i : ℕ) (op : Op) (f : ℕ → Step) (s : State) → steps_of m i op ≡ each_from 0 n f → first + n ≤ most → IsInside first most (request_reply (plain_tells act tell (acts_of m i op) s))
 by_steps m first most n i op f s e w =
     by_answers first most n (plain_tells act tell (acts_of m i op) s) w (long_tells (acts_of m i op) s ∙ length-map (steps_of m i op) _ ∙ ap length e ∙ each_length 0 n f)
 
-shown : (first most : ℕ) (answers : List Answer) → IsInside first most (shown_reply answers)
+shown : (first most : ℕ) (answers : List ActAnswer) → IsInside first most (shown_reply answers)
 shown first most [] = tt
 shown first most (a ∷ answers) = tt
 
@@ -87,7 +87,7 @@ all_inside m t devices size i (op ∷ ops) (line ∷ lines) s h =
     (one_inside m t devices size i op s n.0, all_inside m t devices size (suc i) ops lines (plain act (acts_of m i op) s) n.1)
 
 -- the replies of a run that backs them
-inside_run : (s : Script) (t : Table) (devices : List DeviceInfo) (log : List Entry) (replies : List Reply) → binding_fault s t devices ≡ None → IsBackedBy s t devices log replies → AreInside (volume_len t.entries) (sites_of s) replies
+inside_run : (s : Script) (t : Table) (devices : List DeviceInfo) (log : List LogEntry) (replies : List Reply) → binding_fault s t devices ≡ None → IsBackedBy s t devices log replies → AreInside (volume_len t.entries) (sites_of s) replies
 inside_run s t devices log replies b backed =
     let m = setting_of s t (map unit_of devices) (failed_in replies) in
     subst (λ (rs : List Reply). AreInside (volume_len t.entries) (sites_of s) rs) (sym (backed []).checked)

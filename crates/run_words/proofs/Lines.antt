@@ -2,7 +2,7 @@
 use Rattle.std.proofs.Common.{ℕ, suc, ◌≡◌, ◌+◌, ◌<◌, ◌≤◌, Bool, true, false, cond, List, [], ◌∷◌, ◌++◌, length, drop, get_or, codes, decimal, Result, Ok, Err, OnOk, refl, sym, ap, subst, ◌∙◌, add-one, drop-cons}
 use Rattle.std.proofs.lemmas.List.{drop_all}
 use Rattle.fault_schedule.specs.declared.Label.{Label}
-use Rattle.rig_api.specs.Log.{Entry, entry_at, no_entry}
+use Rattle.rig_api.specs.Log.{LogEntry, entry_at, no_entry}
 use Rattle.rig_api.specs.declared.rig.Record.{Record}
 use Rattle.stack_ops.specs.declared.reply.BadBlock.{BadBlock}
 use Rattle.stack_ops.specs.declared.reply.Reply.{Reply}
@@ -20,11 +20,11 @@ command_parts front cdb end number r e d f =
     ap (λ g. front ++ (cdb_words g ++ end)) d ∙ ap (λ g. front ++ (cdb_words r.cdb ++ g)) f ∙ ap (λ g. g ++ (cdb_words r.cdb ++ outcome_words r.outcome)) e
     ∙ five (codes "command ") (decimal number) (codes " dev ") (decimal r.dev) (codes " ") (cdb_words r.cdb ++ outcome_words r.outcome)
 
-next_entry : (n i : ℕ) (sites : List OpSite) (es : List Entry) → i < length es → record_lines n sites (drop i es) ≡ entry_lines n sites (entry_at es i) ++ record_lines (n + 1) sites (drop (i + 1) es)
+next_entry : (n i : ℕ) (sites : List OpSite) (es : List LogEntry) → i < length es → record_lines n sites (drop i es) ≡ entry_lines n sites (entry_at es i) ++ record_lines (n + 1) sites (drop (i + 1) es)
 next_entry n i sites es h =
     ap (record_lines n sites) (drop-cons es i no_entry h) ∙ ap (λ k. entry_lines n sites (entry_at es i) ++ record_lines (n + 1) sites (drop k es)) (sym (add-one i))
 
-pub next_record : (n m i : ℕ) (sites : List OpSite) (es : List Entry) (what : Record) (labels : List Label) → i < length es → m ≡ n → what ≡ (entry_at es i).what → labels ≡ (entry_at es i).labels →
+pub next_record : (n m i : ℕ) (sites : List OpSite) (es : List LogEntry) (what : Record) (labels : List Label) → i < length es → m ≡ n → what ≡ (entry_at es i).what → labels ≡ (entry_at es i).labels →
     record_lines n sites (drop i es) ≡ (command_line m what ++ run_lines sites (runs_of labels)) ++ record_lines (n + 1) sites (drop (i + 1) es)
 next_record n m i sites es what labels h e f d =
     let rest = record_lines (n + 1) sites (drop (i + 1) es) in

@@ -9,6 +9,7 @@ use Rattle.cdb_codec.specs.declared.command.CdbFault.{CdbFault}
 use Rattle.rig_api.specs.declared.rig.Outcome.{Outcome}
 use Rattle.rig_api.specs.declared.rig.Record.{Record}
 use Rattle.sense_codes.specs.declared.Sense.{Sense}
+use Rattle.sense_codes.specs.declared.codes.TheConstants.{MEDIUM_ERROR, ILLEGAL_REQUEST, ABORTED_COMMAND, INVALID_OPCODE, OUT_OF_RANGE, INVALID_FIELD, UNRECOVERED_READ, WRITE_ERROR, PROTECTION}
 
 -- A command and what came of it, in words.
 
@@ -44,9 +45,9 @@ cdb_words cdb = words_by (decoded cdb) cdb
 -- the sense key (SPC-4, 4.5.6)
 abbrev pub key_words : ℕ → List ℕ
 key_words key =
-    if eqb key 0x03 then codes "MEDIUM ERROR"
-    else (if eqb key 0x05 then codes "ILLEGAL REQUEST"
-    else (if eqb key 0x0B then codes "ABORTED COMMAND"
+    if eqb key MEDIUM_ERROR then codes "MEDIUM ERROR"
+    else (if eqb key ILLEGAL_REQUEST then codes "ILLEGAL REQUEST"
+    else (if eqb key ABORTED_COMMAND then codes "ABORTED COMMAND"
     else codes "key " ++ encode_lower (key ∷ [])))
 
 -- an additional sense code and a qualifier without a name here
@@ -64,16 +65,16 @@ check_words asc ascq =
 -- a code with the qualifier 00h
 abbrev pub plain_words : (asc ascq : ℕ) → List ℕ
 plain_words asc ascq =
-    if eqb asc 0x20 then codes "invalid command operation code"
-    else (if eqb asc 0x21 then codes "logical block address out of range"
-    else (if eqb asc 0x24 then codes "invalid field in cdb"
-    else (if eqb asc 0x11 then codes "unrecovered read error"
-    else (if eqb asc 0x0C then codes "write error"
+    if eqb asc INVALID_OPCODE then codes "invalid command operation code"
+    else (if eqb asc OUT_OF_RANGE then codes "logical block address out of range"
+    else (if eqb asc INVALID_FIELD then codes "invalid field in cdb"
+    else (if eqb asc UNRECOVERED_READ then codes "unrecovered read error"
+    else (if eqb asc WRITE_ERROR then codes "write error"
     else other_words asc ascq))))
 
 -- the additional sense code and its qualifier (SPC-4, 4.5.6)
 abbrev pub code_words : (asc ascq : ℕ) → List ℕ
-code_words asc ascq = if eqb asc 0x10 then check_words asc ascq else (if eqb ascq 0x00 then plain_words asc ascq else other_words asc ascq)
+code_words asc ascq = if eqb asc PROTECTION then check_words asc ascq else (if eqb ascq 0x00 then plain_words asc ascq else other_words asc ascq)
 
 -- the block that the sense speaks of
 abbrev pub info_words : Option ℕ → List ℕ

@@ -1,6 +1,6 @@
 use Rattle.std.specs.Prelude.{ℕ, ◌+◌, ◌&&◌, Bool, eqb, if◌then◌else◌, List, [], ◌∷◌, ◌++◌, codes, decimal}
 use Rattle.fault_schedule.specs.declared.Label.{Label}
-use Rattle.rig_api.specs.Log.{Entry}
+use Rattle.rig_api.specs.Log.{LogEntry}
 use Rattle.report_text.specs.Report.{report, why_text}
 use Rattle.stack_ops.specs.declared.reply.BadBlock.{BadBlock}
 use Rattle.stack_ops.specs.declared.reply.Reply.{Reply}
@@ -55,11 +55,11 @@ abbrev pub ended_lines : List OpSite → Run → Label → List ℕ
 ended_lines sites r l = if goes_on r l then [] else run_line sites r
 
 -- the command of a record, and whose blocks it carried
-abbrev pub entry_lines : (number : ℕ) → List OpSite → Entry → List ℕ
+abbrev pub entry_lines : (number : ℕ) → List OpSite → LogEntry → List ℕ
 entry_lines number sites e = command_line number e.what ++ run_lines sites (runs_of e.labels)
 
 -- the lines of these records, the first of which has this number
-abbrev pub record_lines : (number : ℕ) → List OpSite → List Entry → List ℕ
+abbrev pub record_lines : (number : ℕ) → List OpSite → List LogEntry → List ℕ
 record_lines number sites [] = []
 record_lines number sites (e ∷ es) = entry_lines number sites e ++ record_lines (number + 1) sites es
 
@@ -96,13 +96,13 @@ all_listed entries number (s ∷ sites) (r ∷ replies) = reply_lines entries nu
 -- ---- all of it
 
 -- the records of a call, and the listed blocks
-abbrev pub words_text : List OpSite → List Extent → (records : List Entry) → List Reply → List ℕ
+abbrev pub words_text : List OpSite → List Extent → (records : List LogEntry) → List Reply → List ℕ
 words_text sites entries records replies = record_lines 0 sites records ++ all_listed entries 1 sites replies
 
 -- behind the report
-abbrev pub explained_by : List OpSite → List Extent → (records : List Entry) → List Reply → List ℕ
+abbrev pub explained_by : List OpSite → List Extent → (records : List LogEntry) → List Reply → List ℕ
 explained_by sites entries records replies = report replies ++ words_text sites entries records replies
 
 -- the same of a script
-abbrev pub explained_text : Script → (records : List Entry) → List Reply → List ℕ
+abbrev pub explained_text : Script → (records : List LogEntry) → List Reply → List ℕ
 explained_text script records replies = explained_by (sites_of script) script.entries records replies

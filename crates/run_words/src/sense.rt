@@ -6,6 +6,10 @@ ghost use Rattle.run_words.specs.Commands.{check_words, code_words, info_words, 
 use report_text::{Line, add, add_hex, add_number};
 use rig_api::Outcome;
 use sense_codes::Sense;
+use sense_codes::codes::{
+    ABORTED_COMMAND, ILLEGAL_REQUEST, INVALID_FIELD, INVALID_OPCODE, MEDIUM_ERROR, OUT_OF_RANGE,
+    PROTECTION, UNRECOVERED_READ, WRITE_ERROR,
+};
 
 /// Adds the name of a sense key.
 fn add_key(line: &mut Line, key: u8)
@@ -14,9 +18,9 @@ fn add_key(line: &mut Line, key: u8)
     ensures bound { length line.new.items ≤ length line.old.items + 32 }
 {
     match key {
-        0x03 => add(line, b"MEDIUM ERROR"),
-        0x05 => add(line, b"ILLEGAL REQUEST"),
-        0x0B => add(line, b"ABORTED COMMAND"),
+        MEDIUM_ERROR => add(line, b"MEDIUM ERROR"),
+        ILLEGAL_REQUEST => add(line, b"ILLEGAL REQUEST"),
+        ABORTED_COMMAND => add(line, b"ABORTED COMMAND"),
         _ => {
             add(line, b"key ");
             add_hex(line, &[key]);
@@ -57,11 +61,11 @@ fn add_plain(line: &mut Line, asc: u8, ascq: u8)
     ensures bound { length line.new.items ≤ length line.old.items + 48 }
 {
     match asc {
-        0x20 => add(line, b"invalid command operation code"),
-        0x21 => add(line, b"logical block address out of range"),
-        0x24 => add(line, b"invalid field in cdb"),
-        0x11 => add(line, b"unrecovered read error"),
-        0x0C => add(line, b"write error"),
+        INVALID_OPCODE => add(line, b"invalid command operation code"),
+        OUT_OF_RANGE => add(line, b"logical block address out of range"),
+        INVALID_FIELD => add(line, b"invalid field in cdb"),
+        UNRECOVERED_READ => add(line, b"unrecovered read error"),
+        WRITE_ERROR => add(line, b"write error"),
         _ => add_other(line, asc, ascq),
     }
 }
@@ -72,7 +76,7 @@ fn add_code(line: &mut Line, asc: u8, ascq: u8)
     ensures items { line.new.items ≡ line.old.items ++ code_words asc ascq }
     ensures bound { length line.new.items ≤ length line.old.items + 48 }
 {
-    if asc == 0x10 {
+    if asc == PROTECTION {
         add_check(line, asc, ascq);
     } else if ascq == 0 {
         add_plain(line, asc, ascq);

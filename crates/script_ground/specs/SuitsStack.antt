@@ -7,6 +7,7 @@ use Rattle.script_text.specs.Ops.{op_in}
 use Rattle.script_text.specs.Rules.{needs_tuples}
 use Rattle.script_laws.specs.Keeping.{Each, IsProtect, IsWithin, blocks_of}
 use Rattle.script_laws.specs.Lines.{line_of}
+use Rattle.bio_core.specs.declared.TheConstants.{MOST_BLOCKS}
 
 -- What a stack asks of a script: less than the rules of its language. So a layer above may make a script of its own, whose `put`s have whole pages.
 
@@ -36,4 +37,4 @@ pub record SuitsStack (s : Script) : Type 0 where
   pub block_is : (s.block ≡ 512) ⊎ (s.block ≡ 4096)
   pub ops_are : Each (IsStackOp s.mode.dix s.pages s.block) s.ops
   pub ops_count : length s.ops ≤ 1024
-  pub blocks_count : blocks_of s.ops ≤ 16384
+  pub blocks_count : blocks_of s.ops ≤ MOST_BLOCKS

@@ -26,6 +26,7 @@ ghost use Rattle.run_follows.specs.Seals.{IsSealed};
 ghost use Rattle.script_ground.specs.Bound.{IsSettingOf};
 ghost use Rattle.script_ground.specs.SuitsStack.{SuitsStack};
 ghost use Rattle.script_ground.specs.Units.{AreStored, all_blocks};
+ghost use Rattle.page_pool.specs.declared.TheConstants.{PAGE};
 
 use run_laws::a_target_keeps_sizes;
 
@@ -34,7 +35,7 @@ use run_laws::a_target_keeps_sizes;
 /// fault shifts them.
 pub fn a_bound_script_stands_on_ground()
     ensures { (m : Setting) (s : AnyScript) (t : Table) (devices : List AnyDevice) (logs : ℕ) → SuitsStack s → length s.lines ≡ length s.faults + length s.ops → MadeFor t devices s.block
-        → binding_fault s t devices ≡ None → IsSettingOf m s t devices logs → Ground m (4096 * s.pages) logs s.ops }
+        → binding_fault s t devices ≡ None → IsSettingOf m s t devices logs → Ground m (PAGE * s.pages) logs s.ops }
 {}
 
 /// A `seal` takes whole blocks of the volume's size.
@@ -61,7 +62,7 @@ pub fn a_bound_script_lies_at_its_units()
 /// each block.
 pub fn a_bound_script_is_bound_over_its_record()
     ensures { (m : Setting) (s : AnyScript) (t : Table) (devices : List AnyDevice) (logs : ℕ) (opening : State) (es : List Sent) → SuitsStack s → IsSettingOf m s t devices logs → FramesFit m es
-        → 4096 * s.pages + rooms m s.ops ≤ length opening.bytes → fates s.ops ≤ length opening.fates → IsBoundRun (told m es) (λ c block. true) (4096 * s.pages) s.ops opening }
+        → PAGE * s.pages + rooms m s.ops ≤ length opening.bytes → fates s.ops ≤ length opening.fates → IsBoundRun (told m es) (λ c block. true) (PAGE * s.pages) s.ops opening }
 {}
 
 /// Over a target whose units tell their blocks, each of the size of a stored block, the ops are bound to the script's
@@ -70,8 +71,9 @@ pub fn a_bound_script_is_bound_at_its_target()
     ensures { (m : Setting) (s : AnyScript) (t : Table) (units : List AnyUnit) (us : List Stored) (logs : ℕ) (opening : State) → SuitsStack s → length s.lines ≡ length s.faults + length s.ops
         → MadeFor t (map info_of units) s.block → binding_fault s t (map info_of units) ≡ None → IsSettingOf m s t (map info_of units) logs
         → m.site ≡ record { faults = s.faults; device = target s.faults; cell = cell_in units } → shapes_of us ≡ units → AreStored us → opening.blocks ≡ blocks_told us
-        → 4096 * s.pages + rooms m s.ops ≤ length opening.bytes → fates s.ops ≤ length opening.fates → IsBoundRun m (keeps_size opening.blocks) (4096 * s.pages) s.ops opening }
+        → PAGE * s.pages + rooms m s.ops ≤ length opening.bytes → fates s.ops ≤ length opening.fates → IsBoundRun m (keeps_size opening.blocks) (PAGE * s.pages) s.ops opening }
 {
+    // By laws.
     a_target_keeps_sizes();
 }
 

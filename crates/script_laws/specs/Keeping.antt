@@ -18,6 +18,8 @@ use Rattle.script_text.specs.Crossings.{crossing_of, is_read, spot_of}
 use Rattle.script_text.specs.Ops.{op_in}
 use Rattle.script_text.specs.Rules.{is_bad_flip, needs_tuples, request_blocks}
 use Rattle.script_laws.specs.Lines.{line_of}
+use Rattle.volume_table.specs.declared.TheConstants.{MOST_LENGTH}
+use Rattle.bio_core.specs.declared.TheConstants.{MOST_BLOCKS}
 
 -- What each script of the language keeps: the counts, the ranges, the crossings and the rules of its lines.
 
@@ -57,8 +59,8 @@ pub record AreLegs (legs : List Leg) : Type 0 where
   pub count : IsWithin 1 8 (length legs)
 
 abbrev pub IsEntry : Entry → Type 0
-IsEntry (Linear e) = (e.start < 2 ^ 64) × IsWithin 1 1048576 e.len × (e.dev < 2 ^ 32) × (e.at < 2 ^ 64)
-IsEntry (Stripe s) = (s.start < 2 ^ 64) × IsWithin 1 1048576 s.len × IsWithin 1 65536 s.chunk × AreLegs s.legs
+IsEntry (Linear e) = (e.start < 2 ^ 64) × IsWithin 1 MOST_LENGTH e.len × (e.dev < 2 ^ 32) × (e.at < 2 ^ 64)
+IsEntry (Stripe s) = (s.start < 2 ^ 64) × IsWithin 1 MOST_LENGTH s.len × IsWithin 1 65536 s.chunk × AreLegs s.legs
 
 -- bytes of a frame of blocks of this size that are altered
 pub record IsFlip (size off : ℕ) (bytes : List ℕ) : Type 0 where
@@ -132,4 +134,4 @@ pub record Keeps (s : Script) : Type 0 where
   pub choices_count : length s.schedule ≤ 16384
   pub ops_are : Each (IsOp s.mode.dix s.pages s.block) s.ops
   pub ops_count : length s.ops ≤ 1024
-  pub blocks_count : blocks_of s.ops ≤ 16384
+  pub blocks_count : blocks_of s.ops ≤ MOST_BLOCKS

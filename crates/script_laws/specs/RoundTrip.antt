@@ -2,10 +2,11 @@ use Rattle.std.specs.Prelude.{ℕ, ◌≡◌, ◌+◌, ◌≤◌, true, List, le
 use Rattle.script_text.specs.declared.script.Script.{Script}
 use Rattle.script_text.specs.Language.{script_in}
 use Rattle.script_laws.specs.Texts.{has_short_lines}
+use Rattle.source_text.specs.declared.TheConstants.{MOST_BYTES}
 
 -- The text is within the limits: 4,194,304 bytes, and 4,096 on a line.
 pub record IsWithinLimits (text : List ℕ) : Type 0 where
-  pub size : length text ≤ 4194304
+  pub size : length text ≤ MOST_BYTES
   pub lines : has_short_lines text ≡ true
 
 -- The second script is the first, apart from the numbers of its lines.

@@ -18,6 +18,8 @@ use Rattle.script_lines.specs.declared.volume_lines.Striped.{Striped}
 use Rattle.script_lines.specs.declared.verb.Verb.{Verb}
 use Rattle.script_lines.specs.declared.verb.Verb.TheVariants.{Mode as ModeVerb, Limits as LimitsVerb, Pages as PagesVerb, Block as BlockVerb, Expect as ExpectVerb, Inner as InnerVerb, Linear as LinearVerb, Stripe as StripeVerb, Over as OverVerb, Fault as FaultVerb, Shift as ShiftVerb, Schedule as ScheduleVerb, Begin as BeginVerb, Fill as FillVerb, Put as PutVerb, Show as ShowVerb, Seal as SealVerb, Write as WriteVerb, Read as ReadVerb, WritePi as WritePiVerb, ReadPi as ReadPiVerb, Overwrite as OverwriteVerb}
 use Rattle.script_lines.specs.Reading.{Got, ◌>>=◌, either, ended, fixed, some_of, value}
+use Rattle.volume_table.specs.declared.TheConstants.{MOST_LENGTH}
+use Rattle.pi_tuple.specs.declared.TheConstants.{LARGEST_BLOCK}
 
 -- The lines of a script by what stands behind their first words. Each form is read from left to right.
 
@@ -96,7 +98,7 @@ place_form ws = do
 
 -- 1 to 1,048,576 blocks
 abbrev pub len_in : List ℕ → Option ℕ
-len_in word = number_within 1 1048576 word
+len_in word = number_within 1 MOST_LENGTH word
 
 -- inner I LEN dev D at A
 unfoldable pub inner_form : List (List ℕ) → Result Line ScriptKind
@@ -323,10 +325,10 @@ line_form verb size ws = as_line (op_form verb size ws)
 
 -- The numbers of a line that later rules rest on are in their ranges.
 abbrev pub IsSound : Line → Type 0
-IsSound (Block size) = size ≤ 4096
-IsSound (Inner volume len dev at) = (1 ≤ len) × (len ≤ 1048576)
-IsSound (Over start len chunk volumes) = (1 ≤ len) × (len ≤ 1048576) × (1 ≤ chunk) × (1 ≤ length volumes)
+IsSound (Block size) = size ≤ LARGEST_BLOCK
+IsSound (Inner volume len dev at) = (1 ≤ len) × (len ≤ MOST_LENGTH)
+IsSound (Over start len chunk volumes) = (1 ≤ len) × (len ≤ MOST_LENGTH) × (1 ≤ chunk) × (1 ≤ length volumes)
 IsSound _ = Unit {0}
 
 abbrev pub IsSoundFront : Striped → Type 0
-IsSoundFront s = (1 ≤ s.len) × (s.len ≤ 1048576) × (1 ≤ s.chunk)
+IsSoundFront s = (1 ≤ s.len) × (s.len ≤ MOST_LENGTH) × (1 ≤ s.chunk)

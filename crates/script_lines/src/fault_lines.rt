@@ -4,6 +4,7 @@ ghost use Rattle.std.specs.Prelude.{◌≡◌, ◌≤◌, IfOk};
 ghost use Rattle.script_lines.specs.Forms.{IsSound, any_spot_in, fault_form, flip_form, flip_spot, schedule_form, shift_form, shift_spot, wire_or_medium_in};
 ghost use Rattle.script_lines.specs.Reading.{IsUnless, Reads, value};
 ghost use Rattle.script_words.specs.Numbers.{signed_within};
+ghost use Rattle.pi_tuple.specs.declared.TheConstants.{LARGEST_BLOCK};
 
 use crate::line::{Line, Spot};
 use crate::listed::{Listed, some};
@@ -57,7 +58,7 @@ fn flip_spot(words: &mut Words) -> Result<Spot, ScriptKind>
 /// `OFF HEX`, to the end of the line: the offset lies in a frame of blocks of this size.
 #[tactic(auto, unfolding(crate::specs::Forms::flip_form))]
 pub(crate) fn flip(words: &mut Words, size: u32) -> Result<(u32, ShortBytes), ScriptKind>
-    requires { size ≤ 4096 }
+    requires { size ≤ LARGEST_BLOCK }
     ensures { result ≡ flip_form size words.old }
 {
     let off = words.small(0, size + 7)?;
@@ -69,7 +70,7 @@ pub(crate) fn flip(words: &mut Words, size: u32) -> Result<(u32, ShortBytes), Sc
 /// `fault OP K WHERE flip OFF HEX`
 #[tactic(auto, unfolding(crate::specs::Forms::fault_form))]
 pub(crate) fn fault_line(words: &mut Words, size: u32) -> Result<Line, ScriptKind>
-    requires { size ≤ 4096 }
+    requires { size ≤ LARGEST_BLOCK }
     ensures value { result ≡ fault_form size words.old }
     ensures sound { IfOk result IsSound }
 {

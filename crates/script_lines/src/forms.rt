@@ -4,6 +4,7 @@ ghost use Rattle.std.specs.Prelude.{◌≡◌, ◌≤◌, IfOk};
 ghost use Rattle.script_lines.specs.Forms.{IsSound, line_form, op_form};
 ghost use Rattle.script_lines.specs.Reading.{IsUnless, ended};
 ghost use Rattle.script_lines.specs.declared.line.Line.{Line};
+ghost use Rattle.pi_tuple.specs.declared.TheConstants.{LARGEST_BLOCK};
 
 use crate::fault_lines::{fault_line, schedule_line, shift_line};
 use crate::header_lines::{block_line, expect_line, limits_line, mode_line, pages_line};
@@ -16,7 +17,7 @@ use crate::{Line, OpLine, ScriptKind, Verb, Words};
 use std::alloc::Global;
 
 fn op_line(alloc: Global, verb: Verb, words: &mut Words, size: u32) -> Result<OpLine, ScriptKind>
-    requires { size ≤ 4096 }
+    requires { size ≤ LARGEST_BLOCK }
     ensures { IsUnless (op_form verb size words.old) result }
 {
     match verb {
@@ -44,7 +45,7 @@ fn begin_line(words: &mut Words) -> Result<Line, ScriptKind>
 /// The line that begins with this first word and goes on with these words, in a script of blocks
 /// of this size, at most 4,096: its first fault from the left, or want of memory.
 pub fn line_of(alloc: Global, verb: Verb, words: &mut Words, size: u32) -> Result<Line, ScriptKind>
-    requires { size ≤ 4096 }
+    requires { size ≤ LARGEST_BLOCK }
     ensures value { IsUnless (line_form verb size words.old) result }
     ensures sound { IfOk result IsSound }
 {

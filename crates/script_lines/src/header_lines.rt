@@ -4,6 +4,7 @@ ghost use Rattle.std.specs.Prelude.{◌≡◌, ◌≤◌, IfOk, IfSome};
 ghost use Rattle.script_lines.specs.Forms.{IsSound, block_form, expect_form, guard_by, limits_form, mask_in, mode_form, pages_form, protect_in, size_in};
 ghost use Rattle.script_lines.specs.Reading.{Reads, value};
 ghost use Rattle.script_words.specs.Hexes.{tag_in};
+ghost use Rattle.pi_tuple.specs.declared.TheConstants.{LARGEST_BLOCK};
 
 use crate::line::{Line, ModeLine};
 use crate::{ScriptKind, Words};
@@ -90,7 +91,7 @@ pub(crate) fn pages_line(words: &mut Words) -> Result<Line, ScriptKind>
 /// 512 or 4096
 fn size_in(word: &[u8]) -> Option<u32>
     ensures value { result ≡ size_in word.now }
-    ensures bound { IfSome result (λ n. n ≤ 4096) }
+    ensures bound { IfSome result (λ n. n ≤ LARGEST_BLOCK) }
 {
     let size = number_within(word, 0, 0xffff_ffff)?;
     if size == 512 || size == 4096 {
@@ -101,7 +102,7 @@ fn size_in(word: &[u8]) -> Option<u32>
 
 fn size(words: &mut Words) -> Result<u32, ScriptKind>
     ensures value { Reads (value size_in words.old) result words.new }
-    ensures bound { IfOk result (λ n. n ≤ 4096) }
+    ensures bound { IfOk result (λ n. n ≤ LARGEST_BLOCK) }
 {
     match size_in(words.word()?) {
         Some(size) => Ok(size),

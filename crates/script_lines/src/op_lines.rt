@@ -4,6 +4,7 @@ ghost use Rattle.std.specs.Prelude.{◌≡◌, ◌≤◌};
 ghost use Rattle.script_lines.specs.Forms.{app_form, change_form, fill_form, overwrite_form, put_form, read_form, readpi_form, seal_form, show_form, write_form, writepi_form};
 ghost use Rattle.script_lines.specs.Reading.{IsUnless, ended};
 ghost use Rattle.script_lines.specs.declared.line.OpLine.{OpLine};
+ghost use Rattle.pi_tuple.specs.declared.TheConstants.{LARGEST_BLOCK};
 
 use crate::fault_lines::flip;
 use crate::line::OpLine;
@@ -140,7 +141,7 @@ fn change(
     lba: u64,
     is_flip: bool,
 ) -> Result<OpLine, ScriptKind>
-    requires { size ≤ 4096 }
+    requires { size ≤ LARGEST_BLOCK }
     ensures { result ≡ change_form size dev lba is_flip words.old }
 {
     if is_flip {
@@ -166,7 +167,7 @@ fn change(
 /// `overwrite DEV LBA flip OFF HEX` or `overwrite DEV LBA from DEV LBA`
 #[tactic(auto, unfolding(crate::specs::Forms::overwrite_form))]
 pub(crate) fn overwrite_line(words: &mut Words, size: u32) -> Result<OpLine, ScriptKind>
-    requires { size ≤ 4096 }
+    requires { size ≤ LARGEST_BLOCK }
     ensures { result ≡ overwrite_form size words.old }
 {
     let dev = words.word32()?;

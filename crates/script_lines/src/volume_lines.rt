@@ -4,6 +4,7 @@ ghost use Rattle.std.specs.Prelude.{◌≡◌, ◌≤◌, IfOk};
 ghost use Rattle.script_lines.specs.Forms.{IsSound, IsSoundFront, inner_form, leg_word, len_in, linear_form, over_form, place_form, stripe_form, striped_form};
 ghost use Rattle.script_lines.specs.Reading.{IsUnless, Reads, value};
 ghost use Rattle.script_words.specs.Numbers.{number_within};
+ghost use Rattle.volume_table.specs.declared.TheConstants.{MOST_LENGTH};
 
 use crate::line::Line;
 use crate::listed::{Listed, some};
@@ -17,7 +18,7 @@ use stripe_volume::{Leg, LegList};
 fn len(words: &mut Words) -> Result<u64, ScriptKind>
     ensures value { Reads (value len_in words.old) result words.new }
     ensures low { IfOk result (λ n. 1 ≤ n) }
-    ensures high { IfOk result (λ n. n ≤ 1048576) }
+    ensures high { IfOk result (λ n. n ≤ MOST_LENGTH) }
 {
     words.number(1, 1048576)
 }

@@ -33,6 +33,7 @@ pub fn a_script_is_shown_by_its_form()
     ensures { (s : AnyScript) (t : Table) (us : List Stored) → IsBoundTo s t us → IsFormedScript s t us
         → detectable (setting_of s t (shapes_of us) none_fails) (steps_from (setting_of s t (shapes_of us) none_fails) 1 s.ops) (opening_of s (shapes_of us) (blocks_told us)) ≡ true }
 {
+    // By laws.
     faults_are_shown_by_their_form();
 }
 
@@ -43,6 +44,7 @@ pub fn a_formed_script_is_a_shown_run()
         → DevicesAreClean (setting_of s t (shapes_of us) none_fails) (map info_of (shapes_of us)) (blocks_told us)
         → IsShownRun (setting_of s t (shapes_of us) none_fails) (map info_of (shapes_of us)) s.ops (opening_of s (shapes_of us) (blocks_told us)) }
 {
+    // By laws.
     faults_are_shown_by_their_form();
 }
 
@@ -53,6 +55,7 @@ pub fn a_still_script_leaves_its_devices_clean()
         → DevicesAreClean (setting_of s t (shapes_of us) none_fails) (map info_of (shapes_of us))
         (script_walk (setting_of s t (shapes_of us) none_fails) s.ops (opening_of s (shapes_of us) (blocks_told us))).blocks }
 {
+    // By laws.
     a_calm_run_leaves_its_devices_clean();
 }
 
@@ -62,6 +65,7 @@ pub fn a_script_supplies_no_escape_by_its_form()
     ensures { (s : AnyScript) (t : Table) (us : List Stored) → escapes_none s.ops ≡ true
         → NoEscape (setting_of s t (shapes_of us) none_fails) 1 s.ops (opening_of s (shapes_of us) (blocks_told us)) }
 {
+    // By laws.
     no_write_supplies_an_escape_by_its_form();
 }
 

@@ -11,7 +11,7 @@ use Rattle.std.proofs.Math.Seq.{drop-append_seam}
 use Rattle.fault_schedule.specs.declared.fault.FaultLine.{FaultLine}
 use Rattle.target_answer.specs.Image.{units_in}
 use Rattle.target_answer.specs.Target.{Stored}
-use Rattle.rig_api.specs.Log.{Entry}
+use Rattle.rig_api.specs.Log.{LogEntry}
 use Rattle.rig_api.specs.Telling.{IsStanding, Standing, specs_of, units_told}
 use Rattle.rig_api.specs.State.{RigState}
 use Rattle.rig_discovery.specs.Discovery.{info_of}
@@ -39,20 +39,20 @@ use Rattle.script_stack.proofs.SendsBy.{AllLaw, FewLaw, sends_for}
 
 -- the law over any rig
 abbrev pub BackedLaw : Type 0
-BackedLaw = (s : Script) (t : Table) (devices : List DeviceInfo) (first : ℕ) (r : Stack) (st : Standing) (log : List Entry) → SuitsStack s → IsStack r → r.sheet.ops ≡ s.ops
+BackedLaw = (s : Script) (t : Table) (devices : List DeviceInfo) (first : ℕ) (r : Stack) (st : Standing) (log : List LogEntry) → SuitsStack s → IsStack r → r.sheet.ops ≡ s.ops
     → ((blocks : List (List ℕ)) → Walks (setting_of s t (map unit_of devices) (failed_in r.replies.items)) (4096 * s.pages) (begun_of s (map unit_of devices) blocks) first r st log)
     → IsFinished r → IsBackedBy s t devices (drop first log) r.replies.items
 
 -- the law over a rig that tells its blocks
 abbrev pub ToldLaw : Type 0
-ToldLaw = (s : Script) (t : Table) (us left : List Stored) (first : ℕ) (r : Stack) (armed : List FaultLine) (st : Standing) (log : List Entry) → SuitsStack s → length s.lines ≡ length s.faults + length s.ops
+ToldLaw = (s : Script) (t : Table) (us left : List Stored) (first : ℕ) (r : Stack) (armed : List FaultLine) (st : Standing) (log : List LogEntry) → SuitsStack s → length s.lines ≡ length s.faults + length s.ops
     → MadeFor t (map info_of (shapes_of us)) s.block → binding_fault s t (map info_of (shapes_of us)) ≡ None → AreStored us → shapes_of left ≡ shapes_of us → IsStack r → r.sheet.ops ≡ s.ops
     → medium_lines r.replies.items ≡ 0 → WalksFalling (setting_of s t (shapes_of us) none_fails) (4096 * s.pages) (begun_of s (shapes_of us) (blocks_told us)) first r (Some left) armed st log
     → IsFinished r → HasWalked s t us left r.pool (drop first log) r.replies.items
 
 -- and where its store calls may fail
 abbrev pub FallenLaw : Type 0
-FallenLaw = (s : Script) (t : Table) (us left : List Stored) (first : ℕ) (r : Stack) (armed : List FaultLine) (st : Standing) (log : List Entry) → SuitsStack s → length s.lines ≡ length s.faults + length s.ops
+FallenLaw = (s : Script) (t : Table) (us left : List Stored) (first : ℕ) (r : Stack) (armed : List FaultLine) (st : Standing) (log : List LogEntry) → SuitsStack s → length s.lines ≡ length s.faults + length s.ops
     → MadeFor t (map info_of (shapes_of us)) s.block → binding_fault s t (map info_of (shapes_of us)) ≡ None → AreStored us → shapes_of left ≡ shapes_of us → IsStack r → r.sheet.ops ≡ s.ops
     → WalksFalling (setting_of s t (shapes_of us) (failed_in r.replies.items)) (4096 * s.pages) (begun_of s (shapes_of us) (blocks_told us)) first r (Some left) armed st log
     → IsFinished r → HasFallen s t us left r.pool (drop first log) r.replies.items
@@ -91,7 +91,7 @@ rest_is s t devices words begun r image image' old new o = ap (drop (length old.
 
 pub backed_by : (s : Script) (t : Table) (devices : List DeviceInfo) (words : List (ℕ × ℕ)) (begun r : Stack) (image image' : Option (List ℕ)) (old new : RigState) → BackedLaw → (o : IsOver s t devices words begun r image image' old new) → IsBackedBy s t devices o.goes.more r.replies.items
 backed_by s t devices words begun r image image' old new law o =
-    subst (λ (more : List Entry). IsBackedBy s t devices more r.replies.items) (rest_is s t devices words begun r image image' old new o)
+    subst (λ (more : List LogEntry). IsBackedBy s t devices more r.replies.items) (rest_is s t devices words begun r image image' old new o)
     (law s t devices (length old.log) r new.standing new.log o.suits o.stack o.ops
     (λ blocks. o.went.walks (setting_of s t (map unit_of devices) (failed_in r.replies.items)) (4096 * s.pages) (begun_of s (map unit_of devices) blocks) (length old.log) (o.walks (failed_in r.replies.items) blocks old.standing old.log o.sizes)) o.ended)
 
@@ -115,7 +115,7 @@ answered_by s t devices words begun r image image' old new o us told quiet none 
 
 -- the law of lines that name the medium
 abbrev pub MediumLaw : Type 0
-MediumLaw = (m : Setting) (n : ℕ) (opening : State) (begun first : ℕ) (s : Stack) (st : Standing) (log : List Entry) (count : ℕ) → IsStack s → Walks m n opening begun s st log
+MediumLaw = (m : Setting) (n : ℕ) (opening : State) (begun first : ℕ) (s : Stack) (st : Standing) (log : List LogEntry) (count : ℕ) → IsStack s → Walks m n opening begun s st log
     → IsFinished s → HasCounted first s count → RoseBy (medium_lines s.replies.items) first count
 
 pub few_lines : (s : Script) (t : Table) (devices : List DeviceInfo) (words : List (ℕ × ℕ)) (begun r : Stack) (image image' : Option (List ℕ)) (old new : RigState) → MediumLaw → (o : IsOver s t devices words begun r image image' old new) → RoseBy (medium_lines r.replies.items) old.faults new.faults
@@ -173,7 +173,7 @@ walked_at s t devices words begun r image image' old new law o us e none =
     let ends' : WalksFalling (setting_of s t (shapes_of us) none_fails) (4096 * s.pages) (begun_of s (shapes_of us) (blocks_told us)) (length old.log) r (Some told.left) new.armed new.standing new.log = rw told.left_are at ends in
     let walked : HasWalked s t us told.left r.pool (drop (length old.log) new.log) r.replies.items =
     law s t us told.left (length old.log) r new.armed new.standing new.log o.suits o.lines told.made told.bound told.stored told.same o.stack o.ops none ends' o.ended in
-    (told.left, (told.left_are, subst (λ (more : List Entry). HasWalked s t us told.left r.pool more r.replies.items) (rest_is s t devices words begun r image image' old new o) walked))
+    (told.left, (told.left_are, subst (λ (more : List LogEntry). HasWalked s t us told.left r.pool more r.replies.items) (rest_is s t devices words begun r image image' old new o) walked))
 
 pub fallen_at : (s : Script) (t : Table) (devices : List DeviceInfo) (words : List (ℕ × ℕ)) (begun r : Stack) (image image' : Option (List ℕ)) (old new : RigState) → FallenLaw → (o : IsOver s t devices words begun r image image' old new) → (us : List Stored) → old.units ≡ Some us →
     (left : List Stored) × ((new.units ≡ Some left) × HasFallen s t us left r.pool o.goes.more r.replies.items)
@@ -183,4 +183,4 @@ fallen_at s t devices words begun r image image' old new law o us e =
     let ends' : WalksFalling (setting_of s t (shapes_of us) (failed_in r.replies.items)) (4096 * s.pages) (begun_of s (shapes_of us) (blocks_told us)) (length old.log) r (Some told.left) new.armed new.standing new.log = rw told.left_are at ends in
     let fallen : HasFallen s t us told.left r.pool (drop (length old.log) new.log) r.replies.items =
     law s t us told.left (length old.log) r new.armed new.standing new.log o.suits o.lines told.made told.bound told.stored told.same o.stack o.ops ends' o.ended in
-    (told.left, (told.left_are, subst (λ (more : List Entry). HasFallen s t us told.left r.pool more r.replies.items) (rest_is s t devices words begun r image image' old new o) fallen))
+    (told.left, (told.left_are, subst (λ (more : List LogEntry). HasFallen s t us told.left r.pool more r.replies.items) (rest_is s t devices words begun r image image' old new o) fallen))

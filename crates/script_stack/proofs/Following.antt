@@ -9,9 +9,9 @@ use Rattle.target_answer.specs.Frames.{stored_size}
 use Rattle.target_answer.specs.Image.{units_in}
 use Rattle.target_answer.specs.Target.{Stored, shape_of}
 use Rattle.rig_api.specs.Head.{units_of}
-use Rattle.rig_api.specs.Log.{Entry}
+use Rattle.rig_api.specs.Log.{LogEntry}
 use Rattle.rig_api.specs.Telling.{IsStanding, Standing, spec_at, specs_of, unit_at, units_told}
-use Rattle.rig_discovery.specs.Discovery.{Answer, HasFound, all_told, told, with_info}
+use Rattle.rig_discovery.specs.Discovery.{LookAnswer, HasFound, all_told, told, with_info}
 use Rattle.rig_discovery.proofs.ToldSizes.{told_size}
 use Rattle.volume_table.specs.declared.device.DeviceInfo.{DeviceInfo}
 use Rattle.volume_table.specs.Faults.{device}
@@ -23,7 +23,7 @@ use Rattle.script_stack.specs.Followed.{SizesAre}
 
 -- ---- what was found has the sizes that the head tells
 
-sizes-from : (s : Standing) (dev : ℕ) (answers : List Answer) (found : List DeviceInfo) → all_told s dev answers ≡ Some found → (d : ℕ) → d < length found → (spec_at s (dev + d)).size ≡ (device found d).size
+sizes-from : (s : Standing) (dev : ℕ) (answers : List LookAnswer) (found : List DeviceInfo) → all_told s dev answers ≡ Some found → (d : ℕ) → d < length found → (spec_at s (dev + d)).size ≡ (device found d).size
 sizes-from s dev [] found e d l = absurd (let n = ap length (same_Some [] found e) in omega arith)
 sizes-from s dev (a ∷ answers) found e d l = by (told s dev a) refl (all_told s (dev + 1) answers) refl e (λ more f d l. sizes-from s (dev + 1) answers more f d l) where
   by : (i : Option DeviceInfo) → told s dev a ≡ i → (rest : Option (List DeviceInfo)) → all_told s (dev + 1) answers ≡ rest → with_info i rest ≡ Some found
@@ -38,7 +38,7 @@ sizes-from s dev (a ∷ answers) found e d l = by (told s dev a) refl (all_told 
       at zero l = let z : dev + 0 ≡ dev = omega arith in ap (λ x. (spec_at s x).size) z ∙ sym (told_size s dev a i f)
       at (suc d) l = let z : dev + suc d ≡ dev + 1 + d = omega arith in ap (λ x. (spec_at s x).size) z ∙ behind more g d (omega arith)
 
-pub sizes-found : (s : Standing) (devices : List DeviceInfo) (old new : List Entry) → HasFound s devices old new → SizesAre devices s
+pub sizes-found : (s : Standing) (devices : List DeviceInfo) (old new : List LogEntry) → HasFound s devices old new → SizesAre devices s
 sizes-found s devices old new h d l = let z : d ≡ 0 + d = omega arith in ap (λ x. (spec_at s x).size) z ∙ sizes-from s 0 h.answers devices h.told d l
 
 -- ---- the units that a rig tells

@@ -2,7 +2,7 @@
 use Rattle.std.proofs.Common.{◌≡◌, ◌≤◌, ℕ, zero, suc, List, [], ◌∷◌, ◌++◌, length, get_or, refl, sym, ap, subst, ◌∙◌, arith, append-nil, append_assoc}
 use Rattle.std.specs.List.{All, AllByRecursion as Each}
 use Rattle.std.proofs.lemmas.List.{get_or_past}
-use Rattle.rig_api.specs.Log.{Entry as Record}
+use Rattle.rig_api.specs.Log.{LogEntry as Record}
 use Rattle.rig_api.specs.Telling.{Standing}
 use Rattle.block_path.specs.Acts.{State}
 use Rattle.block_path.specs.declared.mode.Mode.{Mode}
@@ -16,7 +16,7 @@ use Rattle.stack_ops.specs.declared.op.Op.{Op}
 use Rattle.stack_view.specs.Comes.{entry_at}
 use Rattle.stack_view.specs.Measure.{greatest_pieces}
 use Rattle.stack_view.specs.Plan.{Plan}
-use Rattle.stack_view.specs.Runs.{Entry, Sent, blocks_of_requests, sends_of}
+use Rattle.stack_view.specs.Runs.{ScheduleEntry, Sent, blocks_of_requests, sends_of}
 use Rattle.stack_view.specs.View.{start}
 use Rattle.stack_view.proofs.Runs.{calm-sends}
 use Rattle.stack_steps.specs.Does.{Holds}
@@ -32,10 +32,10 @@ use Rattle.stack_core.specs.Stacks.{IsFinished, IsStack, Stays, plan_in}
 use Rattle.stack_core.specs.Walking.{Walks}
 use Rattle.script_stack.specs.Sends.{IsPlanFor, SendsBy, SendsFor, entries_of}
 
-pub sends_nowhere : (es : List Entry) (s : Stack) (log : List Record) → SendsBy es s s log log
+pub sends_nowhere : (es : List ScheduleEntry) (s : Stack) (log : List Record) → SendsBy es s s log log
 sends_nowhere es s log = record { more = []; records = sym (append-nil log); formed = tt; of_requests = tt; on = λ before x. subst (HasSent es s) (sym (append-nil before)) x }
 
-pub sends_then : (es : List Entry) (s s' s'' : Stack) (log log' log'' : List Record) → Stays s s' → SendsBy es s s' log log' → SendsBy es s' s'' log' log'' → SendsBy es s s'' log log''
+pub sends_then : (es : List ScheduleEntry) (s s' s'' : Stack) (log log' log'' : List Record) → Stays s s' → SendsBy es s s' log log' → SendsBy es s' s'' log' log'' → SendsBy es s s'' log log''
 sends_then es s s' s'' log log' log'' stays a b = record {
   more = a.more ++ b.more;
   records = b.records ∙ (ap (λ l. l ++ b.more) a.records ∙ append_assoc log a.more b.more);
@@ -45,7 +45,7 @@ sends_then es s s' s'' log log' log'' stays a b = record {
 }
 
 -- one step, where its word and its cut are the schedule's next
-pub sends_once : (es : List Entry) (word cut : ℕ) (s s' : Stack) (log log' : List Record) → entry_at es s.machine.steps ≡ record { word = word; cut = cut } → SendsOn word cut s s' log log' → SendsBy es s s' log log'
+pub sends_once : (es : List ScheduleEntry) (word cut : ℕ) (s s' : Stack) (log log' : List Record) → entry_at es s.machine.steps ≡ record { word = word; cut = cut } → SendsOn word cut s s' log log' → SendsBy es s s' log log'
 sends_once es word cut s s' log log' e a = record { more = a.more; records = a.records; formed = a.formed; of_requests = a.of_requests; on = λ before x. a.on es before e x }
 
 -- what stands behind a list is one list
@@ -64,7 +64,7 @@ entry_in (w ∷ ws) (suc i) = entry_in ws i
 pub entry_here : (ws : List (ℕ × ℕ)) (i n : ℕ) → n ≡ i → entry_at (entries_of ws) n ≡ record { word = (get_or ws i (0, 0)).0; cut = (get_or ws i (0, 0)).1 }
 entry_here ws i n e = ap (entry_at (entries_of ws)) e ∙ entry_in ws i
 
-pub entry_behind : (es : List Entry) (n : ℕ) → length es ≤ n → entry_at es n ≡ record { word = 0; cut = 0 }
+pub entry_behind : (es : List ScheduleEntry) (n : ℕ) → length es ≤ n → entry_at es n ≡ record { word = 0; cut = 0 }
 entry_behind es n h = get_or_past es n (record { word = 0; cut = 0 }) h
 
 pub entries_long : (ws : List (ℕ × ℕ)) → length (entries_of ws) ≡ length ws
@@ -74,7 +74,7 @@ entries_long (w ∷ ws) = ap suc (entries_long ws)
 -- ---- the whole run
 
 -- before the first step nothing is sent
-pub none_sent : (es : List Entry) (s : Stack) → Holds (plan_in s.sheet) s.machine (start (plan_in s.sheet)) → HasSent es s []
+pub none_sent : (es : List ScheduleEntry) (s : Stack) → Holds (plan_in s.sheet) s.machine (start (plan_in s.sheet)) → HasSent es s []
 none_sent es s h = record { view = start (plan_in s.sheet); holds = h; comes = refl; on_record = tt; traced = tt }
 
 -- as many records as commands
@@ -84,7 +84,7 @@ recorded_long [] (e ∷ log) h = absurd h
 recorded_long (s ∷ ss) [] h = absurd h
 recorded_long (s ∷ ss) (e ∷ log) h = ap suc (recorded_long ss log h.1)
 
-pub few_pieces : (p : Plan) (es : List Entry) (log : List Record) → HasQueues p → All (λ e. e.cut ≡ 0) es → AreRecords (sends_of p es) log → length log ≤ greatest_pieces p 0 p.requests
+pub few_pieces : (p : Plan) (es : List ScheduleEntry) (log : List Record) → HasQueues p → All (λ e. e.cut ≡ 0) es → AreRecords (sends_of p es) log → length log ≤ greatest_pieces p 0 p.requests
 few_pieces p es log q u h =
     let a = recorded_long (sends_of p es) log h in
     let b = calm-sends p es q.on u in
@@ -106,10 +106,10 @@ formed_as mode mode' ty ty' log log' e f g h = subst (λ x. Each (IsFormed x ty'
 
 -- what a finished stack has sent, by the law
 abbrev pub FewLaw : Type 0
-FewLaw = (es : List Entry) (s : Stack) (log : List Record) → IsStack s → HasSent es s log → length log ≤ blocks_of_requests (plan_in s.sheet).requests
+FewLaw = (es : List ScheduleEntry) (s : Stack) (log : List Record) → IsStack s → HasSent es s log → length log ≤ blocks_of_requests (plan_in s.sheet).requests
 
 abbrev pub AllLaw : Type 0
-AllLaw = (es : List Entry) (s : Stack) (log : List Record) (m : Setting) (n : ℕ) (opening : State) (first : ℕ) (st : Standing) (whole : List Record) → IsStack s → HasSent es s log → Walks m n opening first s st whole
+AllLaw = (es : List ScheduleEntry) (s : Stack) (log : List Record) (m : Setting) (n : ℕ) (opening : State) (first : ℕ) (st : Standing) (whole : List Record) → IsStack s → HasSent es s log → Walks m n opening first s st whole
     → IsFinished s → ListsNone s.replies.items → AreRecords (sends_of (plan_in s.sheet) es) log
 
 -- from a new stack to a finished one

@@ -1,13 +1,13 @@
 -- A script's own schedule is nothing to its run by given words.
 use Rattle.std.proofs.Common.{ℕ, List}
-use Rattle.rig_api.specs.Log.{Entry}
+use Rattle.rig_api.specs.Log.{LogEntry}
 use Rattle.stack_ops.specs.declared.reply.Reply.{Reply}
 use Rattle.volume_table.specs.Tables.{Table}
 use Rattle.script_text.specs.declared.script.Script.{Script}
 use Rattle.script_stack.specs.Sends.{SendsFor, by_words}
 
 -- by its own schedule
-pub sends_own : (s : Script) (words : List (ℕ × ℕ)) (t : Table) (log : List Entry) (replies : List Reply) → SendsFor (by_words (by_words s words) s.schedule) t log replies → SendsFor s t log replies
+pub sends_own : (s : Script) (words : List (ℕ × ℕ)) (t : Table) (log : List LogEntry) (replies : List Reply) → SendsFor (by_words (by_words s words) s.schedule) t log replies → SendsFor s t log replies
 sends_own s words t log replies h = record {
   plan = h.plan;
   is_plan = record { is = h.is_plan.is; queues = h.is_plan.queues };

@@ -3,7 +3,7 @@ use Rattle.std.specs.Prelude.{◌≡◌, ℕ, zero, suc, ◌*◌, ◌<◌, ◌�
 use Rattle.page_pool.specs.Cells.{flat}
 use Rattle.target_answer.specs.Target.{Stored}
 use Rattle.target_answer.specs.declared.units.UnitSpec.{UnitSpec}
-use Rattle.rig_api.specs.Log.{Entry}
+use Rattle.rig_api.specs.Log.{LogEntry}
 use Rattle.rig_api.specs.Telling.{Standing, spec_at, specs_of}
 use Rattle.rig_api.specs.State.{RigState}
 use Rattle.rig_discovery.specs.Discovery.{info_of}
@@ -30,6 +30,7 @@ use Rattle.stack_core.specs.declared.stack.Stack.{Stack}
 use Rattle.stack_core.specs.Stacks.{IsFinished, IsStack}
 use Rattle.stack_core.specs.Walking.{EndsFallen, Walks, WalksFalling, WalksTold, is_medium}
 use Rattle.script_stack.specs.Sends.{SendsFor, by_words}
+use Rattle.page_pool.specs.declared.TheConstants.{PAGE}
 
 -- which overwrites failed, by the replies; ops are numbered from 1
 abbrev pub failed_in : List Reply → ℕ → Bool
@@ -56,28 +57,28 @@ setting_of s t units fails = record {
 
 -- The cells with which it begins: pages of zeros, these stored blocks, and no frame carried yet.
 abbrev pub opening_of : Script → List UnitSpec → (blocks : List (List ℕ)) → State
-opening_of s units blocks = record { bytes = replicate (4096 * s.pages) 0; blocks = blocks; logs = replicate (all_blocks units) []; fates = [] }
+opening_of s units blocks = record { bytes = replicate (PAGE * s.pages) 0; blocks = blocks; logs = replicate (all_blocks units) []; fates = [] }
 
 -- The same with the private pages of the block layer's tuples, and a cell for what is found of each block.
 abbrev pub begun_of : Script → List UnitSpec → (blocks : List (List ℕ)) → State
-begun_of s units blocks = record { bytes = replicate (4096 * pages_from s.mode.dix s.pages s.ops) 0; blocks = blocks; logs = replicate (all_blocks units) []; fates = replicate (fates s.ops) None }
+begun_of s units blocks = record { bytes = replicate (PAGE * pages_from s.mode.dix s.pages s.ops) 0; blocks = blocks; logs = replicate (all_blocks units) []; fates = replicate (fates s.ops) None }
 
 -- The log backs the replies, whatever lay in the stored blocks.
-abbrev pub IsBackedBy : Script → Table → List DeviceInfo → List Entry → List Reply → Type 0
+abbrev pub IsBackedBy : Script → Table → List DeviceInfo → List LogEntry → List Reply → Type 0
 IsBackedBy s t devices log replies = (blocks : List (List ℕ)) → Backed (setting_of s t (map unit_of devices) (failed_in replies)) s.ops (opening_of s (map unit_of devices) blocks) log replies
 
 -- Replies, pages and stored blocks are those of the script's ops done one after another at the target, and the log holds what they carry.
-pub record HasWalked (s : Script) (t : Table) (us us' : List Stored) (pool : List (List ℕ)) (log : List Entry) (replies : List Reply) : Type 0 where
+pub record HasWalked (s : Script) (t : Table) (us us' : List Stored) (pool : List (List ℕ)) (log : List LogEntry) (replies : List Reply) : Type 0 where
   pub replies_are : replies ≡ script_replies (setting_of s t (shapes_of us) none_fails) s.ops (opening_of s (shapes_of us) (blocks_told us))
-  pub pages : take (4096 * s.pages) (flat pool) ≡ (script_walk (setting_of s t (shapes_of us) none_fails) s.ops (opening_of s (shapes_of us) (blocks_told us))).bytes
+  pub pages : take (PAGE * s.pages) (flat pool) ≡ (script_walk (setting_of s t (shapes_of us) none_fails) s.ops (opening_of s (shapes_of us) (blocks_told us))).bytes
   pub shapes : shapes_of us' ≡ shapes_of us
   pub blocks : blocks_told us' ≡ (script_walk (setting_of s t (shapes_of us) none_fails) s.ops (opening_of s (shapes_of us) (blocks_told us))).blocks
   pub carried : Carried (setting_of s t (shapes_of us) none_fails) s.ops (opening_of s (shapes_of us) (blocks_told us)) log
 
 -- So they are where store calls failed: they are those of the walk in which just these calls fail and leave what they may, and in which an overwrite that replied `Medium` flips its block somehow; and the log holds what that walk carries.
-pub record HasFallen (s : Script) (t : Table) (us us' : List Stored) (pool : List (List ℕ)) (log : List Entry) (replies : List Reply) : Type 0 where
+pub record HasFallen (s : Script) (t : Table) (us us' : List Stored) (pool : List (List ℕ)) (log : List LogEntry) (replies : List Reply) : Type 0 where
   pub shapes : shapes_of us' ≡ shapes_of us
-  pub fallen : EndsFallen (setting_of s t (shapes_of us) (failed_in replies)) (4096 * s.pages) (opening_of s (shapes_of us) (blocks_told us)) s.ops (take (4096 * s.pages) (flat pool)) (blocks_told us') replies
+  pub fallen : EndsFallen (setting_of s t (shapes_of us) (failed_in replies)) (PAGE * s.pages) (opening_of s (shapes_of us) (blocks_told us)) s.ops (take (PAGE * s.pages) (flat pool)) (blocks_told us') replies
       (recorded (setting_of s t (shapes_of us) (failed_in replies)) log)
 
 -- ---- before the first step
@@ -88,18 +89,18 @@ SizesAre devices st = (d : ℕ) → d < length devices → (spec_at st d).size �
 
 -- A new stack of a script follows its walk from a rig's next record on: over any rig,
 abbrev pub BeginsWalks : Script → Table → List DeviceInfo → Stack → Type 0
-BeginsWalks s t devices r = (fails : ℕ → Bool) (blocks : List (List ℕ)) (st : Standing) (log : List Entry) → SizesAre devices st
-    → Walks (setting_of s t (map unit_of devices) fails) (4096 * s.pages) (begun_of s (map unit_of devices) blocks) (length log) r st log
+BeginsWalks s t devices r = (fails : ℕ → Bool) (blocks : List (List ℕ)) (st : Standing) (log : List LogEntry) → SizesAre devices st
+    → Walks (setting_of s t (map unit_of devices) fails) (PAGE * s.pages) (begun_of s (map unit_of devices) blocks) (length log) r st log
 
 -- and over a rig with these devices that tells its blocks, with the script's faults armed.
 abbrev pub BeginsTold : Script → Table → List DeviceInfo → Stack → Type 0
-BeginsTold s t devices r = (us : List Stored) (st : Standing) (log : List Entry) → devices ≡ map info_of (specs_of st) → shapes_of us ≡ specs_of st
-    → WalksTold (setting_of s t (shapes_of us) none_fails) (4096 * s.pages) (begun_of s (shapes_of us) (blocks_told us)) (length log) r (Some us) s.faults st log
+BeginsTold s t devices r = (us : List Stored) (st : Standing) (log : List LogEntry) → devices ≡ map info_of (specs_of st) → shapes_of us ≡ specs_of st
+    → WalksTold (setting_of s t (shapes_of us) none_fails) (PAGE * s.pages) (begun_of s (shapes_of us) (blocks_told us)) (length log) r (Some us) s.faults st log
 
 -- So it does where store calls may fail.
 abbrev pub BeginsFalling : Script → Table → List DeviceInfo → Stack → Type 0
-BeginsFalling s t devices r = (fails : ℕ → Bool) (us : List Stored) (st : Standing) (log : List Entry) → devices ≡ map info_of (specs_of st) → shapes_of us ≡ specs_of st
-    → WalksFalling (setting_of s t (shapes_of us) fails) (4096 * s.pages) (begun_of s (shapes_of us) (blocks_told us)) (length log) r (Some us) s.faults st log
+BeginsFalling s t devices r = (fails : ℕ → Bool) (us : List Stored) (st : Standing) (log : List LogEntry) → devices ≡ map info_of (specs_of st) → shapes_of us ≡ specs_of st
+    → WalksFalling (setting_of s t (shapes_of us) fails) (PAGE * s.pages) (begun_of s (shapes_of us) (blocks_told us)) (length log) r (Some us) s.faults st log
 
 -- ---- at the end
 
@@ -113,7 +114,7 @@ pub record Ran (s : Script) (t : Table) (devices : List DeviceInfo) (words : Lis
   pub ended : IsFinished r
   pub standing : after.standing ≡ before.standing
   pub faults : before.faults ≤ after.faults
-  pub more : List Entry
+  pub more : List LogEntry
   pub records : after.log ≡ before.log ++ more
   pub backed : IsBackedBy s t devices more r.replies.items
   pub sends : SendsFor (by_words s words) t more r.replies.items

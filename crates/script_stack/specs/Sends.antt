@@ -1,11 +1,11 @@
 -- What a script's run sends, by its requests, its volume and its schedule.
 use Rattle.std.specs.Prelude.{◌≡◌, ◌≤◌, ℕ, List, [], ◌∷◌, ◌++◌, length}
 use Rattle.std.specs.List.{All, AllByRecursion as Each}
-use Rattle.rig_api.specs.Log.{Entry as Record}
+use Rattle.rig_api.specs.Log.{LogEntry as Record}
 use Rattle.stack_ops.specs.declared.reply.Reply.{Reply}
 use Rattle.stack_view.specs.Measure.{greatest_pieces}
 use Rattle.stack_view.specs.Plan.{Plan}
-use Rattle.stack_view.specs.Runs.{Entry, blocks_of_requests, sends_of}
+use Rattle.stack_view.specs.Runs.{ScheduleEntry, blocks_of_requests, sends_of}
 use Rattle.volume_table.specs.Tables.{Table}
 use Rattle.script_text.specs.declared.script.Script.{Script}
 use Rattle.dix_adapter.specs.Groups.{mode_of}
@@ -17,7 +17,7 @@ use Rattle.stack_core.specs.Stacks.{plan_in}
 use Rattle.stack_core.specs.declared.stack.Stack.{Stack}
 
 -- the entries of a schedule, each a word and a cut
-abbrev pub entries_of : List (ℕ × ℕ) → List Entry
+abbrev pub entries_of : List (ℕ × ℕ) → List ScheduleEntry
 entries_of [] = []
 entries_of (w ∷ ws) = record { word = w.0; cut = w.1 } ∷ entries_of ws
 
@@ -47,7 +47,7 @@ pub record SendsFor (s : Script) (t : Table) (log : List Record) (replies : List
 -- ---- some steps
 
 -- The stack goes on by a schedule, and these records are made, each of a group of its plan, in the form that the adapter calls for.
-pub record SendsBy (es : List Entry) (old new : Stack) (log log' : List Record) : Type 0 where
+pub record SendsBy (es : List ScheduleEntry) (old new : Stack) (log log' : List Record) : Type 0 where
   pub more : List Record
   pub records : log' ≡ log ++ more
   pub formed : Each (IsFormed (mode_of old.adapter) old.adapter.ty) more

@@ -3,7 +3,7 @@
 ghost use Rattle.std.specs.Prelude.{◌≡◌, ◌*◌, ◌+◌, ℕ, List, Some, None, drop, length, map};
 ghost use Rattle.fault_schedule.specs.declared.fault.FaultLine.{FaultLine};
 ghost use Rattle.target_answer.specs.Target.{Stored};
-ghost use Rattle.rig_api.specs.Log.{Entry};
+ghost use Rattle.rig_api.specs.Log.{LogEntry};
 ghost use Rattle.rig_api.specs.Telling.{Standing};
 ghost use Rattle.rig_discovery.specs.Discovery.{info_of};
 ghost use Rattle.volume_table.specs.declared.device.DeviceInfo.{DeviceInfo as AnyDevice};
@@ -18,6 +18,7 @@ ghost use Rattle.stack_core.specs.Stacks.{IsFinished, IsStack};
 ghost use Rattle.stack_core.specs.Mediums.{medium_lines};
 ghost use Rattle.stack_core.specs.Walking.{Walks, WalksFalling};
 ghost use Rattle.script_stack.specs.Followed.{HasFallen, HasWalked, IsBackedBy, begun_of, failed_in, none_fails, setting_of, unit_of};
+ghost use Rattle.page_pool.specs.declared.TheConstants.{PAGE};
 
 use script_ground::{
     a_bound_script_is_bound_at_its_target, a_bound_script_is_bound_over_its_record,
@@ -30,10 +31,11 @@ use stack_core::{
 
 /// Over any rig, honest or not, the log of a script that was run to its end backs its replies.
 pub fn a_script_run_is_backed()
-    ensures { (s : AnyScript) (t : Table) (devices : List AnyDevice) (first : ℕ) (r : AnyStack) (st : Standing) (log : List Entry) → SuitsStack s → IsStack r → r.sheet.ops ≡ s.ops
-        → ((blocks : List (List ℕ)) → Walks (setting_of s t (map unit_of devices) (failed_in r.replies.items)) (4096 * s.pages) (begun_of s (map unit_of devices) blocks) first r st log)
+    ensures { (s : AnyScript) (t : Table) (devices : List AnyDevice) (first : ℕ) (r : AnyStack) (st : Standing) (log : List LogEntry) → SuitsStack s → IsStack r → r.sheet.ops ≡ s.ops
+        → ((blocks : List (List ℕ)) → Walks (setting_of s t (map unit_of devices) (failed_in r.replies.items)) (PAGE * s.pages) (begun_of s (map unit_of devices) blocks) first r st log)
         → IsFinished r → IsBackedBy s t devices (drop first log) r.replies.items }
 {
+    // By laws.
     a_bound_script_is_bound_over_its_record();
     a_finished_stack_is_backed();
 }
@@ -41,12 +43,13 @@ pub fn a_script_run_is_backed()
 /// Over a rig that tells its blocks, where no line of the replies names the medium, the script's ops were done one after
 /// another at the target.
 pub fn a_told_script_run_has_walked()
-    ensures { (s : AnyScript) (t : Table) (us left : List Stored) (first : ℕ) (r : AnyStack) (armed : List FaultLine) (st : Standing) (log : List Entry)
+    ensures { (s : AnyScript) (t : Table) (us left : List Stored) (first : ℕ) (r : AnyStack) (armed : List FaultLine) (st : Standing) (log : List LogEntry)
         → SuitsStack s → length s.lines ≡ length s.faults + length s.ops → MadeFor t (map info_of (shapes_of us)) s.block → binding_fault s t (map info_of (shapes_of us)) ≡ None
         → AreStored us → shapes_of left ≡ shapes_of us → IsStack r → r.sheet.ops ≡ s.ops
-        → medium_lines r.replies.items ≡ 0 → WalksFalling (setting_of s t (shapes_of us) none_fails) (4096 * s.pages) (begun_of s (shapes_of us) (blocks_told us)) first r (Some left) armed st log
+        → medium_lines r.replies.items ≡ 0 → WalksFalling (setting_of s t (shapes_of us) none_fails) (PAGE * s.pages) (begun_of s (shapes_of us) (blocks_told us)) first r (Some left) armed st log
         → IsFinished r → HasWalked s t us left r.pool (drop first log) r.replies.items }
 {
+    // By laws.
     a_bound_script_is_bound_at_its_target();
     a_finished_stack_that_names_no_medium_has_followed_the_walk();
     a_finished_stack_has_done_the_walk();
@@ -54,12 +57,13 @@ pub fn a_told_script_run_has_walked()
 
 /// And whatever lines name it, so they were but for what the store calls that failed left.
 pub fn a_told_script_run_has_fallen()
-    ensures { (s : AnyScript) (t : Table) (us left : List Stored) (first : ℕ) (r : AnyStack) (armed : List FaultLine) (st : Standing) (log : List Entry)
+    ensures { (s : AnyScript) (t : Table) (us left : List Stored) (first : ℕ) (r : AnyStack) (armed : List FaultLine) (st : Standing) (log : List LogEntry)
         → SuitsStack s → length s.lines ≡ length s.faults + length s.ops → MadeFor t (map info_of (shapes_of us)) s.block → binding_fault s t (map info_of (shapes_of us)) ≡ None
         → AreStored us → shapes_of left ≡ shapes_of us → IsStack r → r.sheet.ops ≡ s.ops
-        → WalksFalling (setting_of s t (shapes_of us) (failed_in r.replies.items)) (4096 * s.pages) (begun_of s (shapes_of us) (blocks_told us)) first r (Some left) armed st log
+        → WalksFalling (setting_of s t (shapes_of us) (failed_in r.replies.items)) (PAGE * s.pages) (begun_of s (shapes_of us) (blocks_told us)) first r (Some left) armed st log
         → IsFinished r → HasFallen s t us left r.pool (drop first log) r.replies.items }
 {
+    // By laws.
     a_bound_script_is_bound_at_its_target();
     a_bound_script_takes_any_block_at_its_target();
     a_finished_stack_has_done_the_falling_walk();

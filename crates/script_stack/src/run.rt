@@ -2,7 +2,7 @@
 
 ghost use Rattle.std.specs.Prelude.{◌≡◌, ◌≤◌, List, length};
 ghost use Rattle.rig_api.specs.State.{Stays as RigStays};
-ghost use Rattle.stack_view.specs.Runs.{Entry};
+ghost use Rattle.stack_view.specs.Runs.{ScheduleEntry};
 ghost use Rattle.stack_core.specs.Going.{StandsOver, Went};
 ghost use Rattle.stack_core.specs.Stacks.{GoesOn, HasStep, IsFinished, Stays, plan_in};
 ghost use Rattle.script_stack.specs.Sends.{SendsBy, entries_of};
@@ -38,7 +38,7 @@ fn run_rest<R: Rig>(stack: &mut Stack, rig: &mut R)
     ensures goes { GoesOn (R.state rig.old) (R.state rig.new) }
     ensures went { Went stack.old (R.state rig.old) stack.new (R.state rig.new) }
     ensures ended { IsFinished stack.new }
-    ensures sends { (es : List Entry) → (HasStep (plan_in stack.old.sheet) stack.old.machine → length es ≤ stack.old.machine.steps)
+    ensures sends { (es : List ScheduleEntry) → (HasStep (plan_in stack.old.sheet) stack.old.machine → length es ≤ stack.old.machine.steps)
         → SendsBy es stack.old stack.new (R.state rig.old).log (R.state rig.new).log }
 {
     while !stack.finished() {

@@ -68,6 +68,7 @@ pub fn run_bound<R: Rig>(
 {
     let Run { mut stack, .. } = ready_script(alloc, script, table, devices, rig)?;
     run_all(&mut stack, schedule, rig);
+    // By laws.
     a_script_run_is_backed();
     a_told_script_run_has_walked();
     a_finished_stack_has_sent();

@@ -28,6 +28,7 @@ use Rattle.script_text.specs.Drafts.{Drafted}
 use Rattle.script_text.specs.Ops.{op_in}
 use Rattle.script_text.specs.Rules.{broken_rule, request_blocks}
 use Rattle.script_text.specs.Trees.{entries_over}
+use Rattle.source_text.specs.declared.TheConstants.{LONGEST_LINE, MOST_BYTES}
 
 -- The language of scripts: what reading a text answers, a script or the first fault.
 
@@ -154,7 +155,7 @@ words_taken number (first ∷ words) d = if is_comment first then Ok d else word
 abbrev pub text_taken : ℕ → List ℕ → Drafted → Result Drafted ScriptKind
 text_taken number line d =
     if not (is_plain line) then Err NotAscii
-    else (if nat_lt 4096 (length line) then Err LongLine else words_taken number (words_of line) d)
+    else (if nat_lt LONGEST_LINE (length line) then Err LongLine else words_taken number (words_of line) d)
 
 -- what is wrong with the end of the text
 abbrev pub end_fault : Option Place → Option ScriptKind
@@ -196,7 +197,7 @@ lines_read number (line ∷ lines) d = go_on number (text_taken number line d) (
 
 -- the script of a text, or its first fault
 abbrev pub script_in : List ℕ → Result Script ScriptFault
-script_in text = if nat_lt 4194304 (length text) then Err (record { line = 0; kind = TooMany }) else lines_read 1 (lines_of text) nothing_read
+script_in text = if nat_lt MOST_BYTES (length text) then Err (record { line = 0; kind = TooMany }) else lines_read 1 (lines_of text) nothing_read
 
 -- A reader gave this and is now so, or wanted memory.
 abbrev pub Takes : Result Drafted ScriptKind → Result (Unit {0}) ScriptKind → Drafted → Type 0

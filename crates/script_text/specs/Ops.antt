@@ -10,6 +10,7 @@ use Rattle.stack_ops.specs.declared.op.Op.{Op}
 use Rattle.stack_ops.specs.declared.op.Op.TheVariants.{Fill as FillOp, Put as PutOp, Show as ShowOp, Seal as SealOp, Write as WriteOp, Fetch, WritePi as WritePiOp, FetchPi, Overwrite, Wait as WaitOp}
 use Rattle.script_text.specs.Rules.{is_bad_flip, is_count}
 use Rattle.script_text.specs.Segments.{are_few_each, are_inside, are_whole_tuples, do_overlap, is_inside}
+use Rattle.pi_tuple.specs.declared.TheConstants.{TUPLE}
 
 -- The data of n blocks: inside the pages, of their total, no block in more than four segments.
 abbrev pub is_body : (pages size n : ℕ) → List Seg → Bool
@@ -17,7 +18,7 @@ is_body pages size n body = are_inside pages body && (eqb (total body) (size * n
 
 -- The tuples of n blocks: inside the pages, of their total, each in one segment.
 abbrev pub are_tuples : (pages n : ℕ) → List Seg → Bool
-are_tuples pages n tuples = are_inside pages tuples && (eqb (total tuples) (8 * n) && are_whole_tuples tuples)
+are_tuples pages n tuples = are_inside pages tuples && (eqb (total tuples) (TUPLE * n) && are_whole_tuples tuples)
 
 -- the first rule that the count and the segments of an op without tuples of its own break
 abbrev pub data_fault : (pages size n : ℕ) → List Seg → Option ScriptKind

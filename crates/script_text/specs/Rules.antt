@@ -7,6 +7,8 @@ use Rattle.script_lines.specs.declared.line.OpLine.TheVariants.{Seal, Write, Rea
 use Rattle.script_lines.specs.declared.line.Line.{Line}
 use Rattle.script_lines.specs.declared.line.Line.TheVariants.{Expect, Inner, Linear, Stripe, Flip, Shift, Schedule, Op}
 use Rattle.script_text.specs.Drafts.{Drafted}
+use Rattle.bio_core.specs.declared.TheConstants.{MOST_BLOCKS}
+use Rattle.pi_tuple.specs.declared.TheConstants.{TUPLE}
 
 -- The answer is such a one, and the rule isn't broken; or it is this kind, and the rule is broken; or it is want of memory.
 abbrev pub IsUnlessBroken : {A : Type 0} → (broken : Bool) → ScriptKind → (A → Type 0) → Result A ScriptKind → Type 0
@@ -44,7 +46,7 @@ request_blocks _ = 0
 
 -- more than 1,024 ops, or than 16,384 blocks of all requests
 abbrev pub is_op_too_many : Drafted → OpLine → Bool
-is_op_too_many d op = nat_le 1024 (length d.ops) || nat_lt 16384 (d.blocks + request_blocks op)
+is_op_too_many d op = nat_le 1024 (length d.ops) || nat_lt MOST_BLOCKS (d.blocks + request_blocks op)
 
 -- more than 32 extents of inner volumes, 16 entries, 8 legs, 256 faults, 16,384 entries of the schedule
 abbrev pub is_too_many : Drafted → Line → Bool
@@ -66,7 +68,7 @@ is_zero b = eqb b 0
 
 -- An alteration goes past the end of a frame, or alters nothing.
 abbrev pub is_bad_flip : (size off : ℕ) → List ℕ → Bool
-is_bad_flip size off bytes = nat_lt (size + 8) (off + length bytes) || list_all is_zero bytes
+is_bad_flip size off bytes = nat_lt (size + TUPLE) (off + length bytes) || list_all is_zero bytes
 
 abbrev pub is_no_shift : ℤ → Bool
 is_no_shift (pos n) = eqb n 0

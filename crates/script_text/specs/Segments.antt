@@ -3,10 +3,11 @@ use Rattle.std.specs.List.{list_all, list_any}
 use Rattle.page_pool.specs.declared.segs.Seg.{Seg}
 use Rattle.page_pool.specs.Cuts.{cut}
 use Rattle.page_pool.specs.Places.{shares}
+use Rattle.page_pool.specs.declared.TheConstants.{PAGE}
 
 -- The segment has bytes, and they lie in one of so many pages.
 abbrev pub is_inside : ℕ → Seg → Bool
-is_inside pages s = nat_lt s.page pages && (nat_lt 0 s.len && nat_le (s.off + s.len) 4096)
+is_inside pages s = nat_lt s.page pages && (nat_lt 0 s.len && nat_le (s.off + s.len) PAGE)
 
 abbrev pub are_inside : ℕ → List Seg → Bool
 are_inside pages segs = list_all (is_inside pages) segs

@@ -8,6 +8,7 @@ use Rattle.volume_tree.specs.Trees.{expanded, tree_fault}
 use Rattle.script_lines.specs.declared.kind.ScriptKind.{ScriptKind}
 use Rattle.script_lines.specs.declared.kind.ScriptKind.TheVariants.{TooMany, BadRange}
 use Rattle.script_text.specs.declared.trees.Inner.{Inner}
+use Rattle.volume_table.specs.declared.TheConstants.{MOST_LENGTH}
 
 -- an extent of an inner volume
 abbrev pub InnerExtent : Type 0
@@ -60,7 +61,7 @@ entries_over inner start len chunk volumes = unless_fault (over_fault inner star
 
 -- 1 to 1,048,576 blocks
 abbrev pub is_length : Inner → Bool
-is_length i = nat_le 1 i.len && nat_le i.len 1048576
+is_length i = nat_le 1 i.len && nat_le i.len MOST_LENGTH
 
 abbrev pub are_lengths : List Inner → Bool
 are_lengths inner = list_all is_length inner

@@ -4,6 +4,9 @@ ghost use Rattle.std.specs.Prelude.{◌≡◌, ◌∷◌, ◌++◌, ◌≤◌, �
 ghost use Rattle.script_lines.specs.declared.kind.ScriptKind.{ScriptKind};
 ghost use Rattle.script_text.specs.Crossings.{crossed, is_read};
 ghost use Rattle.script_text.specs.Trees.{are_lengths};
+ghost use Rattle.bio_core.specs.declared.TheConstants.{MOST_BLOCKS};
+ghost use Rattle.pi_tuple.specs.declared.TheConstants.{LARGEST_BLOCK};
+ghost use Rattle.volume_table.specs.declared.TheConstants.{MOST_LENGTH};
 
 use crate::ScriptKind;
 use crate::adding::add;
@@ -43,10 +46,10 @@ pub(crate) struct Draft {
     pub(crate) blocks: u32,
     pub(crate) fault_lines: Vec<u32>,
     pub(crate) op_lines: Vec<u32>,
-    ghost sized: { block ≤ 4096 },
+    ghost sized: { block ≤ LARGEST_BLOCK },
     ghost few: { vec_len inner ≤ 32 },
     ghost lengths: { are_lengths inner.items ≡ true },
-    ghost counted: { blocks ≤ 16384 },
+    ghost counted: { blocks ≤ MOST_BLOCKS },
 }
 
 impl Draft {
@@ -93,7 +96,7 @@ impl Draft {
     /// The entries of an `over` line, which may be too many.
     fn add_over(&mut self, alloc: Global, line: OverLine) -> Result<(), ScriptKind>
         requires low { 1 ≤ line.len }
-        requires high { line.len ≤ 1048576 }
+        requires high { line.len ≤ MOST_LENGTH }
         requires chunk { 1 ≤ line.chunk }
         requires legs { 1 ≤ length line.volumes.now }
         ensures { Takes (over_taken line.entry.start line.entry.len line.entry.chunk line.entry.volumes.now (drafted self.old)) result (drafted self.new) }
@@ -123,7 +126,7 @@ impl Draft {
     fn add_inner(&mut self, inner: Inner) -> Result<(), ScriptKind>
         requires few { vec_len self.old.inner < 32 }
         requires low { 1 ≤ inner.len }
-        requires high { inner.len ≤ 1048576 }
+        requires high { inner.len ≤ MOST_LENGTH }
         ensures { Takes (inner_taken inner (drafted self.old)) result (drafted self.new) }
     {
         add(&mut self.inner, inner)
@@ -136,7 +139,7 @@ impl Draft {
     }
 
     fn add_op(&mut self, alloc: Global, number: u32, line: OpLine) -> Result<(), ScriptKind>
-        requires { self.old.blocks + request_blocks line ≤ 16384 }
+        requires { self.old.blocks + request_blocks line ≤ MOST_BLOCKS }
         ensures { Takes (op_taken number line (drafted self.old)) result (drafted self.new) }
     {
         let blocks = request_blocks(&line);

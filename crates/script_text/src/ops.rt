@@ -10,6 +10,7 @@ ghost use Rattle.range_gate.specs.Prints.{IsSound};
 ghost use Rattle.script_text.specs.Ops.{are_tuples, both_fault, data_fault, is_body, op_in};
 ghost use Rattle.script_text.specs.Rules.{IsUnlessBroken, IsUnlessFault};
 ghost use Rattle.script_text.specs.Segments.{are_inside, do_overlap, is_inside};
+ghost use Rattle.pi_tuple.specs.declared.TheConstants.{LARGEST_BLOCK};
 
 use crate::rules::{is_bad_flip, is_count};
 use crate::segments::{are_few_each, are_inside, are_whole_tuples, do_overlap, is_inside, sg_list};
@@ -171,7 +172,7 @@ fn show(seg: Seg, sizes: Sizes) -> Result<Op, ScriptKind>
 }
 
 fn flip(dev: u32, lba: u64, off: u32, bytes: ShortBytes, sizes: Sizes) -> Result<Op, ScriptKind>
-    requires { sizes.block ≤ 4096 }
+    requires { sizes.block ≤ LARGEST_BLOCK }
     ensures { result ≡ op_in sizes.pages sizes.block (OpLine.Flip dev lba off bytes) }
 {
     if is_bad_flip(off, &bytes, sizes.block) {
@@ -241,7 +242,7 @@ fn read(alloc: Global, v: u64, n: u32, body: SegList, sizes: Sizes) -> Result<Op
 
 /// The op of a line, or the first rule that it breaks.
 pub(crate) fn op_of(alloc: Global, line: OpLine, sizes: Sizes) -> Result<Op, ScriptKind>
-    requires { sizes.block ≤ 4096 }
+    requires { sizes.block ≤ LARGEST_BLOCK }
     ensures { IsUnless (op_in sizes.pages sizes.block line) result }
 {
     match line {

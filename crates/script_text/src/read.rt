@@ -12,12 +12,8 @@ use crate::rules::{is_bad_fault, is_too_many, lacks_integrity};
 use crate::{Script, ScriptFault, ScriptKind};
 use script_lines::{Line, Place, Verb, Words, line_of, verb_of};
 use script_words::{is_plain, next_line};
+use source_text::{LONGEST_LINE, MOST_BYTES};
 use std::alloc::Global;
-
-/// A text has at most this many bytes.
-const MOST_BYTES: usize = 4194304;
-/// A line has at most this many bytes, without its newline.
-const LONGEST: usize = 4096;
 
 fn is_same(a: &[u8], b: &[u8]) -> bool
     ensures { result ≡ bytes_eq a.now b.now }
@@ -166,7 +162,7 @@ fn take_text(alloc: Global, draft: &mut Draft, number: u32, line: &[u8]) -> Resu
     if !is_plain(line) {
         return Err(ScriptKind::NotAscii);
     }
-    if line.len() > LONGEST {
+    if line.len() > LONGEST_LINE {
         return Err(ScriptKind::LongLine);
     }
     take_words(alloc, draft, number, &mut Words::of(line))

@@ -5,8 +5,10 @@ ghost use Rattle.std.specs.Prelude.{◌≡◌, ◌+◌, ◌≤◌, nat_lt};
 ghost use Rattle.std.specs.List.{list_all};
 ghost use Rattle.script_text.specs.Drafts.{drafted};
 ghost use Rattle.script_text.specs.Rules.{is_bad_fault, is_bad_flip, is_count, is_op_too_many, is_too_many, is_zero, lacks_integrity, needs_tuples, request_blocks};
+ghost use Rattle.pi_tuple.specs.declared.TheConstants.{TUPLE, LARGEST_BLOCK};
 
 use crate::draft::Draft;
+use bio_core::MOST_BLOCKS;
 use fault_schedule::ShortBytes;
 use script_lines::{Line, OpLine};
 
@@ -21,8 +23,6 @@ const MOST_FAULTS: usize = 256;
 const MOST_SCHEDULE: usize = 16384;
 
 const MOST_OPS: usize = 1024;
-
-const MOST_BLOCKS: u64 = 16384;
 
 const MOST_REQUEST: u32 = 2048;
 
@@ -65,7 +65,7 @@ fn is_op_too_many(draft: &Draft, op: &OpLine) -> bool
     ensures { result ≡ is_op_too_many (drafted draft.now) op.now }
 {
     draft.ops.len() >= MOST_OPS
-        || u64::from(draft.blocks) + u64::from(request_blocks(op)) > MOST_BLOCKS
+        || u64::from(draft.blocks) + u64::from(request_blocks(op)) > u64::from(MOST_BLOCKS)
 }
 
 /// A count is passed with this line.
@@ -96,8 +96,8 @@ pub(crate) fn is_count(n: u32) -> bool
 
 /// So many bytes from this offset on go past the end of a frame of a block of this size.
 fn is_past_frame(off: u32, len: usize, size: u32) -> bool
-    requires { size ≤ 4096 }
-    ensures { result ≡ nat_lt (size + 8) (off + len) }
+    requires { size ≤ LARGEST_BLOCK }
+    ensures { result ≡ nat_lt (size + TUPLE) (off + len) }
 {
     let room = u64::from(size + 8);
     let off = u64::from(off);
@@ -112,7 +112,7 @@ fn are_zero(bytes: &[u8]) -> bool
 
 /// The alteration goes past the end of a frame, or alters nothing.
 pub(crate) fn is_bad_flip(off: u32, bytes: &ShortBytes, size: u32) -> bool
-    requires { size ≤ 4096 }
+    requires { size ≤ LARGEST_BLOCK }
     ensures { result ≡ is_bad_flip size off bytes.now }
 {
     let bytes = bytes.as_slice();
@@ -120,7 +120,7 @@ pub(crate) fn is_bad_flip(off: u32, bytes: &ShortBytes, size: u32) -> bool
 }
 
 pub(crate) fn is_bad_fault(draft: &Draft, line: &Line) -> bool
-    requires { draft.now.block ≤ 4096 }
+    requires { draft.now.block ≤ LARGEST_BLOCK }
     ensures { result ≡ is_bad_fault (drafted draft.now) line.now }
 {
     match line {

@@ -8,6 +8,7 @@ ghost use Rattle.script_text.specs.Rules.{IsUnlessBroken};
 ghost use Rattle.script_text.specs.Trees.{are_lengths, entries_over, is_bad_volume, over_fault, track_from, tracks_in};
 ghost use Rattle.volume_tree.specs.Tracks.{FollowsFrom, tracks_of};
 ghost use Rattle.volume_tree.specs.Trees.{AreTracks};
+ghost use Rattle.volume_table.specs.declared.TheConstants.{MOST_LENGTH};
 
 use crate::adding::add;
 use crate::rules::MOST_LEGS;
@@ -101,7 +102,7 @@ pub(crate) fn entries_over(
 ) -> Result<EntryList, ScriptKind>
     requires few { length inner.now ≤ 32 }
     requires lengths { are_lengths inner.now ≡ true }
-    requires len { (1 ≤ line.len) × (line.len ≤ 1048576) }
+    requires len { (1 ≤ line.len) × (line.len ≤ MOST_LENGTH) }
     requires chunk { 1 ≤ line.chunk }
     requires legs { 1 ≤ length line.volumes.now }
     ensures { IsUnless (entries_over inner.now line.entry.start line.entry.len line.entry.chunk line.entry.volumes.now) result }

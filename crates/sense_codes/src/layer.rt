@@ -6,6 +6,7 @@ ghost use Rattle.sense_codes.specs.declared.layer.Layer.{Layer};
 ghost use Rattle.pi_tuple.specs.declared.checks.Check.{Check};
 
 use crate::Sense;
+use crate::codes::{ABORTED_COMMAND, ILLEGAL_REQUEST, PROTECTION};
 use pi_tuple::Check;
 
 /// Who checked a block.
@@ -22,8 +23,8 @@ fn layer_of(key: u8) -> Option<Layer>
     ensures only { (l : Layer) → key ≡ key_of l → result ≡ Some l }
 {
     match key {
-        0x05 => Some(Layer::Adapter),
-        0x0B => Some(Layer::Target),
+        ILLEGAL_REQUEST => Some(Layer::Adapter),
+        ABORTED_COMMAND => Some(Layer::Target),
         _ => None,
     }
 }
@@ -50,7 +51,7 @@ pub fn layer_and_check(s: &Sense) -> Option<(Layer, Check)>
     ensures found { IfSome result (λ r. Tells r.0 r.1 s.now) }
     ensures only { (l : Layer) → (c : Check) → Tells l c s.now → result ≡ Some (record { 0 = l; 1 = c }) }
 {
-    if s.asc != 0x10 {
+    if s.asc != PROTECTION {
         return None;
     }
     match (layer_of(s.key), check_of(s.ascq)) {

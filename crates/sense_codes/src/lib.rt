@@ -1,6 +1,7 @@
 //! Sense data: what a target says of a command that it didn't carry out whole (SPC-4, 4.5).
 #![tactic(auto)]
 
+pub mod codes;
 mod decode;
 mod encode;
 mod layer;

@@ -1,1 +1,2 @@
-//! Laws of tests, numbers and answers that the standard library lacks: proofs alone, with nothing to call.
+//! Laws of tests, numbers, lists and answers that the standard library lacks: proofs alone, with nothing to call.
+#![tactic(auto)]

@@ -1,9 +1,10 @@
 use Rattle.std.specs.Prelude.{ℕ, ◌≡◌, ◌≤◌, ◌+◌, List, length, Option}
 use Rattle.dix_base.specs.Told.{IsAtEnd, Took}
+use Rattle.source_text.specs.declared.TheConstants.{MOST_BYTES}
 
 -- A text has at most this many bytes.
 unfoldable pub most_bytes : ℕ
-most_bytes = 4194304
+most_bytes = MOST_BYTES
 
 -- The source was read to its end, and these bytes were all that was left.
 abbrev pub IsWhole : List ℕ → Option (List ℕ) → Option (List ℕ) → Type 0

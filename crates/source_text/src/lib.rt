@@ -9,7 +9,10 @@ use dix_base::{Failed, Source};
 use std::alloc::Global;
 
 /// A text has at most this many bytes.
-const MOST_BYTES: usize = 4_194_304;
+pub const MOST_BYTES: usize = 4_194_304;
+
+/// A line of a text has at most this many bytes.
+pub const LONGEST_LINE: usize = 4096;
 
 /// Why a text wasn't read.
 #[derive(Clone, Copy, Debug, PartialEq, Eq)]

@@ -4,10 +4,10 @@ use Rattle.std.specs.Prelude.{not}
 use Rattle.std.proofs.lemmas.Bool.{cases_Bool, false≢true}
 use Rattle.bio_core.specs.declared.fate.Fate.{Fate}
 use Rattle.dix_adapter.specs.Carried.{any_fails}
-use Rattle.rig_api.specs.Log.{Entry as Record}
+use Rattle.rig_api.specs.Log.{LogEntry as Record}
 use Rattle.stack_view.specs.Comes.{AllGood}
 use Rattle.stack_view.specs.Plan.{Plan}
-use Rattle.stack_view.specs.Runs.{Entry, blocks_of_requests, sends_of, sent}
+use Rattle.stack_view.specs.Runs.{ScheduleEntry, blocks_of_requests, sends_of, sent}
 use Rattle.stack_view.specs.Sound.{AllEnded, OnDevices}
 use Rattle.stack_view.specs.Steps.{Complete, enabled}
 use Rattle.stack_view.specs.View.{Command, OpView, View, command_at, no_command}
@@ -18,7 +18,7 @@ use Rattle.stack_core.specs.OnRecord.{AreRecords, AreTraced, HasSentBy, IsKeptBa
 use Rattle.stack_core.proofs.Recording.{NoneFails, each_recorded, few_records}
 
 -- no more than there are blocks
-pub few_sent : (es : List Entry) (p : Plan) (m : Machine) (starts : List ℕ) (held : List Fate) (log : List Record) → OnDevices p → HasSentBy es p m starts held log → length log ≤ blocks_of_requests p.requests
+pub few_sent : (es : List ScheduleEntry) (p : Plan) (m : Machine) (starts : List ℕ) (held : List Fate) (log : List Record) → OnDevices p → HasSentBy es p m starts held log → length log ≤ blocks_of_requests p.requests
 few_sent es p m starts held log on x =
     let a = few_records x.view.commands log x.on_record in
     let b = comes-few p es x.view.steps x.view on x.comes in
@@ -44,7 +44,7 @@ completed_once : (p : Plan) (v : View) (j : ℕ) → not (command_at v j).comple
 completed_once p v j z e = let y : true ≡ false = rw e at z in false≢true (sym y)
 
 -- all that is sent where all blocks are good
-pub all_sent : (es : List Entry) (p : Plan) (m : Machine) (starts : List ℕ) (held : List Fate) (log : List Record) → OnDevices p → (x : HasSentBy es p m starts held log) → enabled p x.view ≡ [] → (IsKeptBad x.view.ops starts held → ⊥) → AreRecords (sends_of p es) log
+pub all_sent : (es : List ScheduleEntry) (p : Plan) (m : Machine) (starts : List ℕ) (held : List Fate) (log : List Record) → OnDevices p → (x : HasSentBy es p m starts held log) → enabled p x.view ≡ [] → (IsKeptBad x.view.ops starts held → ⊥) → AreRecords (sends_of p es) log
 all_sent es p m starts held log on x e none =
     let v = x.view in
     let s = x.holds.shows.sound in

@@ -15,7 +15,7 @@ use Rattle.stack_ops.specs.declared.op.Op.{Op}
 use Rattle.stack_view.specs.Plan.{Plan}
 use Rattle.block_path.specs.declared.route.Route.{Route}
 use Rattle.block_path.specs.Acts.{Act, State, act, tell}
-use Rattle.block_path.specs.Blocks.{Answer, Sent, silent}
+use Rattle.block_path.specs.Blocks.{ActAnswer, Sent, silent}
 use Rattle.block_path.specs.Moves.{first_why, settle}
 use Rattle.block_path.specs.Routes.{host_type}
 use Rattle.block_path.specs.Serial.{plain, plain_tells}
@@ -41,7 +41,7 @@ use Rattle.stack_core.proofs.InCells.{is-bare, is-mapped-back, is-settle}
 use Rattle.stack_core.proofs.Spotted.{Stands, block_is, count_is, parts_there}
 
 -- what the moves that settle a block leave and tell
-pub record Leaves (acts : List (Act Answer)) (fate : Fate) (now : State) (new : List (List ℕ)) (result : Fate) : Type 0 where
+pub record Leaves (acts : List (Act ActAnswer)) (fate : Fate) (now : State) (new : List (List ℕ)) (result : Fate) : Type 0 where
   pub bytes : flat new ≡ (plain act acts now).bytes
   pub blocks : (plain act acts now).blocks ≡ now.blocks
   pub came : why_of result ≡ first_why (why_of fate) (get_or (plain_tells act tell acts now) 0 silent).why

@@ -16,7 +16,7 @@ use Rattle.stack_ops.specs.declared.op.Op.{Op}
 use Rattle.stack_view.specs.Plan.{Plan}
 use Rattle.block_path.specs.declared.route.Route.{Route}
 use Rattle.block_path.specs.Acts.{Act, State, act}
-use Rattle.block_path.specs.Blocks.{Answer}
+use Rattle.block_path.specs.Blocks.{ActAnswer}
 use Rattle.block_path.specs.Moves.{make_tuple, map_out}
 use Rattle.block_path.specs.Routes.{host_type}
 use Rattle.block_path.specs.Serial.{plain}
@@ -40,11 +40,11 @@ frames_of pool io pi w h e =
     let l = t.payload.long in
     record { is = e; seed = t.seed; count = c; long = omega arith; whole = w; lies = h.lies; lie = t.lie; once = t.once; apart = t.apart }
 
-turns_same : (f g : ℕ → List (Act Answer)) (k n : ℕ) → ((j : ℕ) → f j ≡ g j) → turns f k n ≡ turns g k n
+turns_same : (f g : ℕ → List (Act ActAnswer)) (k n : ℕ) → ((j : ℕ) → f j ≡ g j) → turns f k n ≡ turns g k n
 turns_same f g k zero h = refl
 turns_same f g k (suc n) h = ap (λ x. x ++ turns f (suc k) n) (h k) ∙ ap (λ x. g k ++ x) (turns_same f g (suc k) n h)
 
-turns_blocks : (f : ℕ → List (Act Answer)) (k n : ℕ) (s : State) → ((j : ℕ) (t : State) → (plain act (f j) t).blocks ≡ t.blocks) → (plain act (turns f k n) s).blocks ≡ s.blocks
+turns_blocks : (f : ℕ → List (Act ActAnswer)) (k n : ℕ) (s : State) → ((j : ℕ) (t : State) → (plain act (f j) t).blocks ≡ t.blocks) → (plain act (turns f k n) s).blocks ≡ s.blocks
 turns_blocks f k zero s h = refl
 turns_blocks f k (suc n) s h = ap (λ (x : State). x.blocks) (plain_append act (f k) (turns f (suc k) n) s) ∙ (turns_blocks f (suc k) n (plain act (f k) s) h ∙ h k s)
 
@@ -73,7 +73,7 @@ module _ (m : Setting) (n logs : ℕ) (p : Plan) (ops : List Op) (ios : List Io)
   whole = g.whole i li
 
   -- the pages after no move
-  nothing : (acts : List (Act Answer)) (new : List (List ℕ)) → acts ≡ [] → new ≡ old → flat new ≡ (plain act acts now).bytes
+  nothing : (acts : List (Act ActAnswer)) (new : List (List ℕ)) → acts ≡ [] → new ≡ old → flat new ≡ (plain act acts now).bytes
   nothing acts new e f = ap flat f ∙ (sym same ∙ sym (ap (λ x. (plain act x now).bytes) e))
 
   abbrev label : ℕ → Label
@@ -81,7 +81,7 @@ module _ (m : Setting) (n logs : ℕ) (p : Plan) (ops : List Op) (ios : List Io)
 
   -- ---- admitted
 
-  abbrev made : List (Act Answer)
+  abbrev made : List (Act ActAnswer)
   made = all_made m n (spots_from m ops i 0 io.count)
 
   made_are : made ≡ turns (λ j. made_of io.dir io.pi (route_at j) (data_cells io j) j) 0 io.count
@@ -129,7 +129,7 @@ module _ (m : Setting) (n logs : ℕ) (p : Plan) (ops : List Op) (ios : List Io)
   -- ---- cut
 
   module _ (k c : ℕ) (fit : k + c ≤ io.count) where
-    abbrev cut : List (Act Answer)
+    abbrev cut : List (Act ActAnswer)
     cut = all_cut m n (spots_from m ops i k c)
 
     cut_are : cut ≡ turns (λ j. cut_of io.dir io.pi (route_at j) j) k c

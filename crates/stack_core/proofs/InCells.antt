@@ -29,7 +29,7 @@ use Rattle.bio_core.proofs.Sizes.{blocks_fit}
 use Rattle.dix_adapter.specs.Groups.{data_cells}
 use Rattle.block_path.specs.declared.mode.Mode.{Mode}
 use Rattle.block_path.specs.Acts.{Act, State, act}
-use Rattle.block_path.specs.Blocks.{Answer}
+use Rattle.block_path.specs.Blocks.{ActAnswer}
 use Rattle.block_path.specs.Serial.{plain}
 use Rattle.block_path.proofs.InTurn.{made_in_turn, mapped_in_turn}
 use Rattle.block_path.specs.Routes.{host_finding, host_type}
@@ -299,7 +299,7 @@ module _ (old : List (List ℕ)) (io : Io) (k : ℕ) (none : io.pi ≡ None) (wh
 
 -- ---- the moves of tuples, in turn
 
-in-turn-same : (f g : ℕ → Act Answer) (n : ℕ) → ((i : ℕ) → f i ≡ g i) → in_turn f n ≡ in_turn g n
+in-turn-same : (f g : ℕ → Act ActAnswer) (n : ℕ) → ((i : ℕ) → f i ≡ g i) → in_turn f n ≡ in_turn g n
 in-turn-same f g zero h = refl
 in-turn-same f g (suc n) h = let a = in-turn-same f g n h in let b = h n in cc
 

@@ -3,7 +3,7 @@ use Rattle.std.proofs.Common.{◌≡◌, ◌<◌, ◌≤◌, ℕ, zero, suc, ◌
 use Rattle.std.proofs.lemmas.Bool.{cases_lt, false≢true}
 use Rattle.std.proofs.lemmas.List.{get_or_past}
 use Rattle.bio_core.specs.declared.fate.Why.{Why}
-use Rattle.rig_api.specs.Log.{Entry}
+use Rattle.rig_api.specs.Log.{LogEntry}
 use Rattle.rig_api.specs.Telling.{Standing}
 use Rattle.stack_ops.specs.declared.op.Op.{Op}
 use Rattle.stack_ops.specs.declared.op.Op.TheVariants.{Fetch, FetchPi, Fill, Overwrite, Put, Seal, Show, Wait, Write, WritePi}
@@ -72,7 +72,7 @@ op_there ops i h =
     (λ (l : length ops ≤ i). let e = ap fates_of (get_or_past ops i Wait l) in absurd (omega arith))
     (cases_lt i (length ops))
 
-pub lists_all : (m : Setting) (n : ℕ) (opening : State) (first : ℕ) (s : Stack) (st : Standing) (log : List Entry) → IsStack s → Walks m n opening first s st log → IsFinished s →
+pub lists_all : (m : Setting) (n : ℕ) (opening : State) (first : ℕ) (s : Stack) (st : Standing) (log : List LogEntry) → IsStack s → Walks m n opening first s st log → IsFinished s →
     ListsNone s.replies.items → (v : View) → Holds (plan_in s.sheet) s.machine v → IsKeptBad v.ops s.kept.starts.items s.kept.held.items → ⊥
 lists_all m n opening first s st log k w none lists v x b =
     let p = plan_in s.sheet in

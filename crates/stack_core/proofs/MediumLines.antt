@@ -3,7 +3,7 @@ use Rattle.std.proofs.Common.{◌≡◌, ◌<◌, ◌≤◌, ℕ, zero, suc, ◌
 use Rattle.bio_core.specs.declared.fate.Fate.{Fate}
 use Rattle.bio_core.specs.declared.fate.Fate.TheVariants.{Good, Bad, Untouched}
 use Rattle.bio_core.specs.declared.fate.Why.{Why}
-use Rattle.rig_api.specs.Log.{Entry}
+use Rattle.rig_api.specs.Log.{LogEntry}
 use Rattle.rig_api.specs.Telling.{Standing}
 use Rattle.stack_ops.specs.declared.op.Op.{Op}
 use Rattle.stack_ops.specs.declared.op.Op.TheVariants.{Fetch, FetchPi, Fill, Overwrite, Put, Seal, Show, Wait, Write, WritePi}
@@ -117,7 +117,7 @@ dropped (h ∷ held) zero = omega arith
 dropped (h ∷ held) (suc x) = let r = dropped held x in omega (arith, r)
 
 -- by the count of faults
-pub lines_rose : (m : Setting) (n : ℕ) (opening : State) (begun : ℕ) (first : ℕ) (s : Stack) (st : Standing) (log : List Entry) (count : ℕ) → IsStack s → Walks m n opening begun s st log → IsFinished s →
+pub lines_rose : (m : Setting) (n : ℕ) (opening : State) (begun : ℕ) (first : ℕ) (s : Stack) (st : Standing) (log : List LogEntry) (count : ℕ) → IsStack s → Walks m n opening begun s st log → IsFinished s →
     HasCounted first s count → RoseBy (medium_lines s.replies.items) first count
 lines_rose m n opening begun first s st log count k w none x =
     let p = plan_in s.sheet in

@@ -7,7 +7,7 @@ use Rattle.bio_core.specs.declared.fate.Why.TheVariants.{Medium, Short}
 use Rattle.dix_adapter.specs.Ways.{blocks_told}
 use Rattle.fault_schedule.specs.declared.fault.FaultLine.{FaultLine}
 use Rattle.range_gate.specs.Gates.{has_ended, is_waiting}
-use Rattle.rig_api.specs.Log.{Entry}
+use Rattle.rig_api.specs.Log.{LogEntry}
 use Rattle.rig_api.specs.Telling.{Standing}
 use Rattle.target_answer.specs.Target.{Stored}
 use Rattle.stack_ops.specs.declared.op.Op.{Op}
@@ -193,7 +193,7 @@ as_is flips i k (op ∷ ops) h e =
 
 -- ---- so it followed the walk
 
-pub walks_straight : (m : Setting) (n : ℕ) (opening : State) (first : ℕ) (s : Stack) (units : Option (List Stored)) (armed : List FaultLine) (st : Standing) (log : List Entry) → IsStack s → WalksFalling m n opening first s units armed st log →
+pub walks_straight : (m : Setting) (n : ℕ) (opening : State) (first : ℕ) (s : Stack) (units : Option (List Stored)) (armed : List FaultLine) (st : Standing) (log : List LogEntry) → IsStack s → WalksFalling m n opening first s units armed st log →
     IsFinished s → medium_lines s.replies.items ≡ 0 → WalksTold m n opening first s units armed st log
 walks_straight m n opening first s units armed st log k walks none e =
     let flips = walks.0 in

@@ -23,7 +23,7 @@ use Rattle.stack_ops.specs.declared.reply.Reply.{Reply}
 use Rattle.stack_ops.specs.declared.reply.Reply.TheVariants.{Medium, Shown, Silent}
 use Rattle.stack_ops.specs.Footprints.{put_seg}
 use Rattle.block_path.specs.Acts.{Act, State, act, tell}
-use Rattle.block_path.specs.Blocks.{Answer, silent}
+use Rattle.block_path.specs.Blocks.{ActAnswer, silent}
 use Rattle.block_path.specs.Moves.{in_turn, on_bytes}
 use Rattle.block_path.specs.Serial.{plain, plain_tells}
 use Rattle.block_path.proofs.InTurn.{made_in_turn}
@@ -60,12 +60,12 @@ pub record IsWholly (m : Setting) (i : ℕ) (op : Op) (new : List (List ℕ)) (r
   pub replies : (whys : List (Option Why)) → IsReply op whys reply
   pub shows : (k : ℕ) → at_first (shown_by reply) k ≡ (get_or (plain_tells act tell (acts_of m i op) now) k silent).shown
 
-abbrev none_told : List Answer
+abbrev none_told : List ActAnswer
 none_told = []
 
-one_tell : (t : Answer) (k : ℕ) → (get_or (t ∷ []) k silent).shown ≡ at_first t.shown k
+one_tell : (t : ActAnswer) (k : ℕ) → (get_or (t ∷ []) k silent).shown ≡ at_first t.shown k
 one_tell t zero = refl
-one_tell t (suc k) = ap (λ (a : Answer). a.shown) (get_or_past none_told k silent (omega arith))
+one_tell t (suc k) = ap (λ (a : ActAnswer). a.shown) (get_or_past none_told k silent (omega arith))
 
 segment_stands : (pool : List (List ℕ)) (s : Seg) → LiesIn pool s → AllStandIn (length pool) (places_of s ++ [])
 segment_stands pool s l = segments_stand pool (s ∷ []) (l, tt)
@@ -81,7 +81,7 @@ seals_are m F k zero = refl
 seals_are m F k (suc n) = ap (λ l. act_of m (F k) ∷ l) (seals_are m F (suc k) n)
 
 seals_silent : (m : Setting) (F : ℕ → Step) (k n q : ℕ) (s : State) → ((j : ℕ) (t : State) → (tell (act_of m (F j)) t).shown ≡ []) → (get_or (plain_tells act tell (map (act_of m) (each_from k n F)) s) q silent).shown ≡ []
-seals_silent m F k zero q s h = ap (λ (a : Answer). a.shown) (get_or_past none_told q silent (omega arith))
+seals_silent m F k zero q s h = ap (λ (a : ActAnswer). a.shown) (get_or_past none_told q silent (omega arith))
 seals_silent m F k (suc n) zero s h = h k s
 seals_silent m F k (suc n) (suc q) s h = seals_silent m F (suc k) n q (act (act_of m (F k)) s) h
 
@@ -100,7 +100,7 @@ module _ (m : Setting) (i : ℕ) (old new : List (List ℕ)) (reply : Reply) (no
   still_whole : new ≡ old → AreWhole new
   still_whole e = subst AreWhole (sym e) w
 
-  one_silent : (t : Answer) → t.shown ≡ [] → reply ≡ Silent → (k : ℕ) → at_first (shown_by reply) k ≡ (get_or (t ∷ []) k silent).shown
+  one_silent : (t : ActAnswer) → t.shown ≡ [] → reply ≡ Silent → (k : ℕ) → at_first (shown_by reply) k ≡ (get_or (t ∷ []) k silent).shown
   one_silent t e r k = silent_shows r k ∙ (sym (at_none k) ∙ (ap (λ b. at_first b k) (sym e) ∙ sym (one_tell t k)))
 
   -- a `seal`
@@ -111,7 +111,7 @@ module _ (m : Setting) (i : ℕ) (old new : List (List ℕ)) (reply : Reply) (no
     abbrev F : ℕ → Step
     F k = Seals (body_of m.size body k) (tuple_of tuples k) app ((rtag + k) % 2 ^ 32)
 
-    abbrev one : ℕ → Act Answer
+    abbrev one : ℕ → Act ActAnswer
     one j = on_bytes (map cell (range_of body (j * m.size) m.size)) (map cell (tuple_places tuples j)) (λ bytes. tuple_bytes (record { guard = guard_of m.mode.kind bytes; app = app; rtag = own_tag One (rtag + j) }))
 
     seal_bytes : CanSeal old body pi → total body ≡ n * m.size → Sealed (Tuples pi) m.mode.kind body old new → flat new ≡ (plain act (acts_of m i (Seal n body tuples app rtag)) now).bytes
@@ -181,7 +181,7 @@ module _ (m : Setting) (i : ℕ) (old new : List (List ℕ)) (reply : Reply) (no
     blocks = refl;
     whole = still_whole h.0;
     replies = λ whys. h.1;
-    shows = λ q. silent_shows h.1 q ∙ sym (ap (λ (a : Answer). a.shown) (get_or_past none_told q silent (omega arith)));
+    shows = λ q. silent_shows h.1 q ∙ sym (ap (λ (a : ActAnswer). a.shown) (get_or_past none_told q silent (omega arith)));
   }
 
 pub is_wholly : (m : Setting) (i : ℕ) (old new : List (List ℕ)) (reply : Reply) (now : State) → AreWhole old → now.bytes ≡ flat old → (op : Op) (kind : GuardKind) (room : Room) → IsAlone op → CanDo old room op → Suits op room → IsSealed m op → kind ≡ m.mode.kind → OpDone op kind room old new reply →

@@ -14,7 +14,7 @@ use Rattle.dix_adapter.specs.Groups as Carry
 use Rattle.dix_adapter.specs.Groups.{mode_of}
 use Rattle.dix_adapter.proofs.Asking.{asked-for, count-is, lba-is}
 use Rattle.merge_queue.specs.Groups.{dir_of, lba_of}
-use Rattle.rig_api.specs.Log.{Entry as Record}
+use Rattle.rig_api.specs.Log.{LogEntry as Record}
 use Rattle.target_answer.specs.Requests.{request_of}
 use Rattle.stack_view.specs.Runs.{sent}
 use Rattle.stack_view.specs.View.{Command, OpView, no_command}

@@ -5,10 +5,10 @@ use Rattle.bio_core.specs.declared.fate.Fate.{Fate}
 use Rattle.bio_core.specs.declared.fate.Fate.TheVariants.{Good}
 use Rattle.dix_adapter.specs.Carried.{any_fails}
 use Rattle.merge_queue.specs.Groups.{size}
-use Rattle.rig_api.specs.Log.{Entry as Record}
+use Rattle.rig_api.specs.Log.{LogEntry as Record}
 use Rattle.stack_view.specs.Comes.{Comes, ComesBy, entry_at}
 use Rattle.stack_view.specs.Plan.{Plan}
-use Rattle.stack_view.specs.Runs.{Entry, sent}
+use Rattle.stack_view.specs.Runs.{ScheduleEntry, sent}
 use Rattle.stack_view.specs.Sound.{Settles}
 use Rattle.stack_view.specs.Steps.{Step, End as StepEnd, Complete as StepComplete, Admit as StepAdmit, Cut as StepCut, Join as StepJoin, Send as StepSend, can, chosen, enabled, step}
 use Rattle.stack_view.specs.View.{Command, OpView, View, group_at, no_op}
@@ -50,7 +50,7 @@ still_recorded p v (StepCut i) cut log n h = h
 still_recorded p v (StepJoin d i j) cut log n h = h
 still_recorded p v (StepSend d i) cut log n h = absurd n
 
-pub other_sends : (es : List Entry) (p : Plan) (m m' : Machine) (starts starts' : List ℕ) (held held' : List Fate) (word cut : ℕ) (c : Choice) (log : List Record) → SendsNot c → Chooses p m word c → ((v : View) → Holds p m v → 0 < length (enabled p v)) → Does p m c cut m' → Traces p m c starts held starts' held' →
+pub other_sends : (es : List ScheduleEntry) (p : Plan) (m m' : Machine) (starts starts' : List ℕ) (held held' : List Fate) (word cut : ℕ) (c : Choice) (log : List Record) → SendsNot c → Chooses p m word c → ((v : View) → Holds p m v → 0 < length (enabled p v)) → Does p m c cut m' → Traces p m c starts held starts' held' →
     entry_at es m.steps ≡ record { word = word; cut = cut } → HasSentBy es p m starts held log → HasSentBy es p m' starts' held' log
 other_sends es p m m' starts starts' held held' word cut c log n h has does traces e x =
     let v = x.view in
@@ -69,7 +69,7 @@ other_sends es p m m' starts starts' held held' word cut c log n h has does trac
 
 -- ---- a group is sent
 
-module _ (es : List Entry) (p : Plan) (m m' between : Machine) (starts : List ℕ) (held : List Fate) (word cut d i : ℕ) (group : List Bio) (fates : List Fate) (log : List Record) (h : Chooses p m word (Send d i)) (has : (v : View) → Holds p m v → 0 < length (enabled p v))
+module _ (es : List ScheduleEntry) (p : Plan) (m m' between : Machine) (starts : List ℕ) (held : List Fate) (word cut d i : ℕ) (group : List Bio) (fates : List Fate) (log : List Record) (h : Chooses p m word (Send d i)) (has : (v : View) → Holds p m v → 0 < length (enabled p v))
     (takes : Takes p m d i group between) (flies : Flies p between d group fates m') (settles : Settles group fates) (good : any_fails fates ≡ false → fates ≡ replicate (size group) Good) (e : entry_at es m.steps ≡ record { word = word; cut = cut }) (x : HasSentBy es p m starts held log) where
   abbrev command : List Bio → Command
   command g = record { dev = d; bios = g; fates = fates; completed = false }

@@ -11,7 +11,7 @@ use Rattle.stack_ops.specs.declared.op.Op.TheVariants.{Fetch, FetchPi, Fill, Ove
 use Rattle.stack_view.specs.Plan.{Plan}
 use Rattle.block_path.specs.declared.route.Route.{Route}
 use Rattle.block_path.specs.Acts.{Act}
-use Rattle.block_path.specs.Blocks.{Answer}
+use Rattle.block_path.specs.Blocks.{ActAnswer}
 use Rattle.block_path.specs.Moves.{in_turn}
 use Rattle.whole_run.specs.Settings.{Setting, block_of, route}
 use Rattle.run_laws.specs.BoundRun.{fates, rooms}
@@ -30,22 +30,22 @@ use Rattle.stack_core.proofs.AtUnits.{io_count}
 
 -- ---- moves of blocks in turn
 
-abbrev pub turns : (ℕ → List (Act Answer)) → (k n : ℕ) → List (Act Answer)
+abbrev pub turns : (ℕ → List (Act ActAnswer)) → (k n : ℕ) → List (Act ActAnswer)
 turns f k zero = []
 turns f k (suc n) = f k ++ turns f (suc k) n
 
-pub turns_none : (f : ℕ → List (Act Answer)) (k n : ℕ) → ((j : ℕ) → f j ≡ []) → turns f k n ≡ []
+pub turns_none : (f : ℕ → List (Act ActAnswer)) (k n : ℕ) → ((j : ℕ) → f j ≡ []) → turns f k n ≡ []
 turns_none f k zero h = refl
 turns_none f k (suc n) h = ap (λ x. x ++ turns f (suc k) n) (h k) ∙ turns_none f (suc k) n h
 
-turns_last : (f : ℕ → List (Act Answer)) (k n : ℕ) → turns f k (suc n) ≡ turns f k n ++ f (k + n)
+turns_last : (f : ℕ → List (Act ActAnswer)) (k n : ℕ) → turns f k (suc n) ≡ turns f k n ++ f (k + n)
 turns_last f k zero = let z : k + 0 ≡ k = omega arith in append-nil (f k) ∙ ap f (sym z)
 turns_last f k (suc n) =
     let z : suc k + n ≡ k + suc n = omega arith in
     ap (λ x. f k ++ x) (turns_last f (suc k) n) ∙ (sym (append_assoc (f k) (turns f (suc k) n) (f (suc k + n))) ∙ ap (λ x. (f k ++ turns f (suc k) n) ++ f x) z)
 
 -- one move each, from block k on
-pub turns_one : (f : ℕ → Act Answer) (g : ℕ → Act Answer) (k n : ℕ) → ((j : ℕ) → j < n → f (k + j) ≡ g j) → turns (λ j. f j ∷ []) k n ≡ in_turn g n
+pub turns_one : (f : ℕ → Act ActAnswer) (g : ℕ → Act ActAnswer) (k n : ℕ) → ((j : ℕ) → j < n → f (k + j) ≡ g j) → turns (λ j. f j ∷ []) k n ≡ in_turn g n
 turns_one f g k zero h = refl
 turns_one f g k (suc n) h = turns_last (λ j. f j ∷ []) k n ∙ (ap (λ x. x ++ (f (k + n) ∷ [])) (turns_one f g k n (λ j l. h j (omega arith))) ∙ ap (λ x. in_turn g n ++ (x ∷ [])) (h n (omega arith)))
 

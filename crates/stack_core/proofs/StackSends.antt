@@ -12,11 +12,11 @@ use Rattle.dix_adapter.specs.Groups as Carry
 use Rattle.dix_adapter.specs.Groups.{blocks_in, first_of, mode_of}
 use Rattle.dix_adapter.specs.Outcomes.{done_of}
 use Rattle.merge_queue.specs.Groups.{size}
-use Rattle.rig_api.specs.Log.{Entry as Record}
+use Rattle.rig_api.specs.Log.{LogEntry as Record}
 use Rattle.rig_api.specs.State.{RigState}
 use Rattle.stack_view.specs.Formed.{IsGroup}
 use Rattle.stack_view.specs.Plan.{Plan}
-use Rattle.stack_view.specs.Runs.{Entry, sent}
+use Rattle.stack_view.specs.Runs.{ScheduleEntry, sent}
 use Rattle.stack_view.specs.Sound.{HasBlocks, Settles}
 use Rattle.stack_steps.specs.declared.choice.Choice.{Choice}
 use Rattle.stack_steps.specs.declared.choice.Choice.TheVariants.{Complete, Send}
@@ -59,7 +59,7 @@ lands_sends s s' word cut i log stays h has does traces = quiet_sends s s' word 
 pub group_sends : (s s' : Stack) (word cut d i : ℕ) (log log' : List Record) → Stays s s' → Chooses (plan_in s.sheet) s.machine word (Send d i) → HasStep (plan_in s.sheet) s.machine → Carries s.adapter (plan_in s.sheet) s.machine d i s'.machine log log' → s'.kept ≡ s.kept → SendsOn word cut s s' log log'
 group_sends s s' word cut d i log log' stays h has x kept = by x.records
   where
-    stacked : (es : List Entry) (after : List Record) → HasSentBy es (plan_in s.sheet) s'.machine s.kept.starts.items s.kept.held.items after → HasSentBy es (plan_in s'.sheet) s'.machine s'.kept.starts.items s'.kept.held.items after
+    stacked : (es : List ScheduleEntry) (after : List Record) → HasSentBy es (plan_in s.sheet) s'.machine s.kept.starts.items s.kept.held.items after → HasSentBy es (plan_in s'.sheet) s'.machine s'.kept.starts.items s'.kept.held.items after
     stacked es after y = subst (λ (sh : Sheet). HasSentBy es (plan_in sh) s'.machine s'.kept.starts.items s'.kept.held.items after) (sym stays.sheet)
         (subst (λ (f : Fates). HasSentBy es (plan_in s.sheet) s'.machine f.starts.items f.held.items after) (sym kept) y)
 

@@ -7,7 +7,7 @@ use Rattle.fault_schedule.specs.Altered.{byte_at, xored_from}
 use Rattle.fault_schedule.specs.declared.fault.FaultLine.{FaultLine}
 use Rattle.target_answer.specs.Target.{Stored}
 use Rattle.target_answer.specs.declared.units.UnitSpec.{UnitSpec}
-use Rattle.rig_api.specs.Log.{Entry}
+use Rattle.rig_api.specs.Log.{LogEntry}
 use Rattle.rig_api.specs.declared.change.Change.{Change}
 use Rattle.rig_api.specs.declared.change.Change.TheVariants.{Copy, Flip}
 use Rattle.rig_api.specs.State.{RigState}
@@ -109,18 +109,18 @@ is_told st (Some bytes) us e = refl
 
 -- ---- a step that leaves the rig alone
 
-pub walks_on : (m : Setting) (n : ℕ) (opening : State) (first : ℕ) (s s' : Stack) (st : Standing) (log : List Entry) → IsStack s → Stays s s' → WalksOn s s' → Walks m n opening first s st log → Walks m n opening first s' st log
+pub walks_on : (m : Setting) (n : ℕ) (opening : State) (first : ℕ) (s s' : Stack) (st : Standing) (log : List LogEntry) → IsStack s → Stays s s' → WalksOn s s' → Walks m n opening first s st log → Walks m n opening first s' st log
 walks_on m n opening first s s' st log k stays on w =
     records_stay m n opening first s st log k w s' stays w.left (on Straight _ n opening _ w.left (over_record m n opening first s st log k w) w.walks)
 
-at_target_on : (course : Course) (m : Setting) (n : ℕ) (opening : State) (first : ℕ) (s s' : Stack) (units : Option (List Stored)) (armed : List FaultLine) (st : Standing) (log : List Entry) → IsStack s → Stays s s' → WalksOn s s' → WalksAtTarget course m n opening first s units armed st log → WalksAtTarget course m n opening first s' units armed st log
+at_target_on : (course : Course) (m : Setting) (n : ℕ) (opening : State) (first : ℕ) (s s' : Stack) (units : Option (List Stored)) (armed : List FaultLine) (st : Standing) (log : List LogEntry) → IsStack s → Stays s s' → WalksOn s s' → WalksAtTarget course m n opening first s units armed st log → WalksAtTarget course m n opening first s' units armed st log
 at_target_on course m n opening first s s' units armed st log k stays on w =
     told_stay m n opening first s units armed st log k w s' stays units w.us armed log w.recorded_from w.told_are refl (on course m n opening (recorded m (drop first log)) (blocks_told w.us) w.over w.walks)
 
-pub told_on : (m : Setting) (n : ℕ) (opening : State) (first : ℕ) (s s' : Stack) (units : Option (List Stored)) (armed : List FaultLine) (st : Standing) (log : List Entry) → IsStack s → Stays s s' → WalksOn s s' → WalksTold m n opening first s units armed st log → WalksTold m n opening first s' units armed st log
+pub told_on : (m : Setting) (n : ℕ) (opening : State) (first : ℕ) (s s' : Stack) (units : Option (List Stored)) (armed : List FaultLine) (st : Standing) (log : List LogEntry) → IsStack s → Stays s s' → WalksOn s s' → WalksTold m n opening first s units armed st log → WalksTold m n opening first s' units armed st log
 told_on m n opening first s s' units armed st log k stays on w = at_target_on Straight m n opening first s s' units armed st log k stays on w
 
-pub falling_on : (m : Setting) (n : ℕ) (opening : State) (first : ℕ) (s s' : Stack) (units : Option (List Stored)) (armed : List FaultLine) (st : Standing) (log : List Entry) → IsStack s → Stays s s' → WalksOn s s' → WalksFalling m n opening first s units armed st log → WalksFalling m n opening first s' units armed st log
+pub falling_on : (m : Setting) (n : ℕ) (opening : State) (first : ℕ) (s s' : Stack) (units : Option (List Stored)) (armed : List FaultLine) (st : Standing) (log : List LogEntry) → IsStack s → Stays s s' → WalksOn s s' → WalksFalling m n opening first s units armed st log → WalksFalling m n opening first s' units armed st log
 falling_on m n opening first s s' units armed st log k stays on w = (w.0, at_target_on (Falling w.0) m n opening first s s' units armed st log k stays on w.1)
 
 -- ---- an op is admitted

@@ -4,7 +4,7 @@ use Rattle.std.proofs.lemmas.Bool.{false≢true}
 use Rattle.std.proofs.lemmas.List.{drop_all, get_or_past, length-map}
 use Rattle.page_pool.specs.Pages.{AreWhole}
 use Rattle.range_gate.specs.Gates.{has_ended, is_waiting}
-use Rattle.rig_api.specs.Log.{Entry}
+use Rattle.rig_api.specs.Log.{LogEntry}
 use Rattle.fault_schedule.specs.declared.fault.FaultLine.{FaultLine}
 use Rattle.target_answer.specs.Target.{Stored}
 use Rattle.dix_adapter.specs.Ways.{blocks_told, site_of}
@@ -72,11 +72,11 @@ over_begins course none over n opening s k h whole suits o =
       blocks = refl;
     }
 
-none_recorded : (m : Setting) (log : List Entry) → recorded m (drop (length log) log) ≡ []
+none_recorded : (m : Setting) (log : List LogEntry) → recorded m (drop (length log) log) ≡ []
 none_recorded m log = ap (recorded m) (drop_all (length log) log (omega arith))
 
 -- over any rig
-pub walk_begins : (m : Setting) (n : ℕ) (opening : State) (s : Stack) (st : Standing) (log : List Entry) → IsStack s → Holds (plan_in s.sheet) s.machine (start (plan_in s.sheet)) → AreWhole s.pool → ((i : ℕ) → i < length s.sheet.ops → Suits (op_in s.sheet.ops i) (room_at s.rooms.items i)) →
+pub walk_begins : (m : Setting) (n : ℕ) (opening : State) (s : Stack) (st : Standing) (log : List LogEntry) → IsStack s → Holds (plan_in s.sheet) s.machine (start (plan_in s.sheet)) → AreWhole s.pool → ((i : ℕ) → i < length s.sheet.ops → Suits (op_in s.sheet.ops i) (room_at s.rooms.items i)) →
     Opens opening s → IsOver m n opening s.sheet s.adapter s.host → SizesFit m st → Walks m n opening (length log) s st log
 walk_begins m n opening s st log k h whole suits o over sizes = record {
   over = over;
@@ -88,7 +88,7 @@ walk_begins m n opening s st log k h whole suits o over sizes = record {
 }
 
 -- over a rig that tells its blocks
-at_target_begins : (course : Course) → FlipsNone course → (m : Setting) (n : ℕ) (opening : State) (s : Stack) (us : List Stored) (armed : List FaultLine) (st : Standing) (log : List Entry) → IsStack s → Holds (plan_in s.sheet) s.machine (start (plan_in s.sheet)) → AreWhole s.pool → ((i : ℕ) → i < length s.sheet.ops → Suits (op_in s.sheet.ops i) (room_at s.rooms.items i)) →
+at_target_begins : (course : Course) → FlipsNone course → (m : Setting) (n : ℕ) (opening : State) (s : Stack) (us : List Stored) (armed : List FaultLine) (st : Standing) (log : List LogEntry) → IsStack s → Holds (plan_in s.sheet) s.machine (start (plan_in s.sheet)) → AreWhole s.pool → ((i : ℕ) → i < length s.sheet.ops → Suits (op_in s.sheet.ops i) (room_at s.rooms.items i)) →
     Opens opening s → IsOver m n opening s.sheet s.adapter s.host → SizesFit m st → m.site ≡ site_of s.adapter (specs_of st) → AreAtUnits m (specs_of st) s.sheet.ops → armed ≡ s.adapter.tamper → opening.blocks ≡ blocks_told us →
     WalksAtTarget course m n opening (length log) s (Some us) armed st log
 at_target_begins course none m n opening s us armed st log k h whole suits o over sizes site behind armed_are blocks = record {
@@ -103,13 +103,13 @@ at_target_begins course none m n opening s us armed st log k h whole suits o ove
   walks = subst (λ es. WalksBy course m n opening es (blocks_told us) s) (sym (none_recorded m log)) (subst (λ x. WalksBy course m n opening [] x s) blocks (over_begins course none m n opening s k h whole suits o));
 }
 
-pub told_begins : (m : Setting) (n : ℕ) (opening : State) (s : Stack) (us : List Stored) (armed : List FaultLine) (st : Standing) (log : List Entry) → IsStack s → Holds (plan_in s.sheet) s.machine (start (plan_in s.sheet)) → AreWhole s.pool → ((i : ℕ) → i < length s.sheet.ops → Suits (op_in s.sheet.ops i) (room_at s.rooms.items i)) →
+pub told_begins : (m : Setting) (n : ℕ) (opening : State) (s : Stack) (us : List Stored) (armed : List FaultLine) (st : Standing) (log : List LogEntry) → IsStack s → Holds (plan_in s.sheet) s.machine (start (plan_in s.sheet)) → AreWhole s.pool → ((i : ℕ) → i < length s.sheet.ops → Suits (op_in s.sheet.ops i) (room_at s.rooms.items i)) →
     Opens opening s → IsOver m n opening s.sheet s.adapter s.host → SizesFit m st → m.site ≡ site_of s.adapter (specs_of st) → AreAtUnits m (specs_of st) s.sheet.ops → armed ≡ s.adapter.tamper → opening.blocks ≡ blocks_told us →
     WalksTold m n opening (length log) s (Some us) armed st log
 told_begins m n opening s us armed st log k h whole suits o over sizes site behind armed_are blocks = at_target_begins Straight tt m n opening s us armed st log k h whole suits o over sizes site behind armed_are blocks
 
 -- and where its store calls may fail
-pub falling_begins : (m : Setting) (n : ℕ) (opening : State) (s : Stack) (us : List Stored) (armed : List FaultLine) (st : Standing) (log : List Entry) → IsStack s → Holds (plan_in s.sheet) s.machine (start (plan_in s.sheet)) → AreWhole s.pool → ((i : ℕ) → i < length s.sheet.ops → Suits (op_in s.sheet.ops i) (room_at s.rooms.items i)) →
+pub falling_begins : (m : Setting) (n : ℕ) (opening : State) (s : Stack) (us : List Stored) (armed : List FaultLine) (st : Standing) (log : List LogEntry) → IsStack s → Holds (plan_in s.sheet) s.machine (start (plan_in s.sheet)) → AreWhole s.pool → ((i : ℕ) → i < length s.sheet.ops → Suits (op_in s.sheet.ops i) (room_at s.rooms.items i)) →
     Opens opening s → IsOver m n opening s.sheet s.adapter s.host → SizesFit m st → m.site ≡ site_of s.adapter (specs_of st) → AreAtUnits m (specs_of st) s.sheet.ops → armed ≡ s.adapter.tamper → opening.blocks ≡ blocks_told us →
     WalksFalling m n opening (length log) s (Some us) armed st log
 falling_begins m n opening s us armed st log k h whole suits o over sizes site behind armed_are blocks = (no_flips, at_target_begins (Falling no_flips) (λ i. refl) m n opening s us armed st log k h whole suits o over sizes site behind armed_are blocks)

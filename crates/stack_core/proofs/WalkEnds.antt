@@ -4,7 +4,7 @@ use Rattle.std.specs.Prelude.{if◌then◌else◌}
 use Rattle.page_pool.specs.Cells.{flat}
 use Rattle.bio_core.specs.declared.fate.Why.{Why}
 use Rattle.range_gate.specs.Gates.{has_ended}
-use Rattle.rig_api.specs.Log.{Entry}
+use Rattle.rig_api.specs.Log.{LogEntry}
 use Rattle.fault_schedule.specs.declared.fault.FaultLine.{FaultLine}
 use Rattle.target_answer.specs.Target.{Stored}
 use Rattle.dix_adapter.specs.Ways.{blocks_told}
@@ -18,7 +18,7 @@ use Rattle.stack_view.specs.Steps.{enabled}
 use Rattle.stack_view.specs.View.{op_at}
 use Rattle.stack_view.proofs.Enabled.{stuck, all-at}
 use Rattle.block_path.specs.Acts.{State}
-use Rattle.block_path.specs.Blocks.{Answer, Sent}
+use Rattle.block_path.specs.Blocks.{ActAnswer, Sent}
 use Rattle.block_path.specs.Moves.{hidden}
 use Rattle.whole_run.specs.ScriptWalk.{bad_from, reply_of, whole_or_bad}
 use Rattle.whole_run.specs.Settings.{Setting}
@@ -51,13 +51,13 @@ use Rattle.stack_core.proofs.Walked.{sound, stand}
 
 -- blocks of a request, of which each is settled so
 module _ (f : ℕ → Step) (status : ℕ → Status) (why : ℕ → Option Why) where
-  whys_are : (k c : ℕ) → ((q : ℕ) → k ≤ q → q < k + c → status q ≡ Settled (why q)) → map (λ (a : Answer). a.why) (answers_of k (each_from k c f) status) ≡ each_from k c why
+  whys_are : (k c : ℕ) → ((q : ℕ) → k ≤ q → q < k + c → status q ≡ Settled (why q)) → map (λ (a : ActAnswer). a.why) (answers_of k (each_from k c f) status) ≡ each_from k c why
   whys_are k zero h = refl
-  whys_are k (suc c) h = ap (λ s. (answer_of s).why ∷ map (λ (a : Answer). a.why) (answers_of (suc k) (each_from (suc k) c f) status)) (h k (omega arith) (omega arith)) ∙ ap (λ l. why k ∷ l) (whys_are (suc k) c (λ q a b. h q (omega arith) (omega arith)))
+  whys_are k (suc c) h = ap (λ s. (answer_of s).why ∷ map (λ (a : ActAnswer). a.why) (answers_of (suc k) (each_from (suc k) c f) status)) (h k (omega arith) (omega arith)) ∙ ap (λ l. why k ∷ l) (whys_are (suc k) c (λ q a b. h q (omega arith) (omega arith)))
 
 module _ (m : Setting) (i : ℕ) (status : ℕ → Status) (why : ℕ → Option Why) (reply : Reply) where
   -- what the op replied is what its blocks say
-  request_says : (f : ℕ → Step) (c : ℕ) → ((q : ℕ) → q < c → status q ≡ Settled (why q)) → reply ≡ whole_or_bad (bad_from 0 (each_from 0 c why)) → whole_or_bad (bad_from 0 (map (λ (a : Answer). a.why) (answers_of 0 (each_from 0 c f) status))) ≡ reply
+  request_says : (f : ℕ → Step) (c : ℕ) → ((q : ℕ) → q < c → status q ≡ Settled (why q)) → reply ≡ whole_or_bad (bad_from 0 (each_from 0 c why)) → whole_or_bad (bad_from 0 (map (λ (a : ActAnswer). a.why) (answers_of 0 (each_from 0 c f) status))) ≡ reply
   request_says f c h e = ap (λ w. whole_or_bad (bad_from 0 w)) (whys_are f status why 0 c (λ q a b. h q (omega arith))) ∙ sym e
 
   over_says : (fails : Bool) → (reply ≡ Silent) ⊎ (reply ≡ Medium) → fails ≡ is_medium reply → (if fails then Medium else Silent) ≡ reply
@@ -159,7 +159,7 @@ module _ {course : Course} (over : Setting) (n : ℕ) (opening : State) (es : Li
       (λ j l. let y : suc j ≡ 1 + j = omega arith in subst (λ x. reply_of (m.fails x) (op_in ops j) (answers_of 0 (steps_of m x (op_in ops j)) (status x)) ≡ get_or s.replies.items j Silent) y (says m (suc j) (status (suc j)) (why j) (get_or s.replies.items j Silent) (op_in ops j) (λ q b. settled j q l b) (λ z. done j 0 l z) (w.follow.replied j l (ended j l)) (f j l)))
 
 -- Over any rig the replies are backed by what stands on record since the stack began.
-pub ends_backed : (m : Setting) (n : ℕ) (opening : State) (first : ℕ) (s : Stack) (st : Standing) (log : List Entry) → IsStack s → (w : Walks m n opening first s st log) → enabled (plan_in s.sheet) w.walks.view ≡ [] →
+pub ends_backed : (m : Setting) (n : ℕ) (opening : State) (first : ℕ) (s : Stack) (st : Standing) (log : List LogEntry) → IsStack s → (w : Walks m n opening first s st log) → enabled (plan_in s.sheet) w.walks.view ≡ [] →
     HasFails m s.replies.items → IsBoundRun (told m (recorded m (drop first log))) (λ c block. true) n s.sheet.ops opening → Backed m s.sheet.ops (hidden n opening) (drop first log) s.replies.items
 ends_backed m n opening first s st log k w none f bound =
     let es = recorded m (drop first log) in
@@ -169,7 +169,7 @@ ends_backed m n opening first s st log k w none f bound =
     (is_backed m n s.sheet.ops opening w.walks.now status (drop first log) bound (all_ended (told m es) n opening es w.left s k o w.walks none m) w.walks.follow.follows)
 
 -- Over a rig that tells its blocks the stack has done the walk.
-pub ends_told : (m : Setting) (fine : ℕ → List ℕ → Bool) (n : ℕ) (opening : State) (first : ℕ) (s : Stack) (units : Option (List Stored)) (armed : List FaultLine) (st : Standing) (log : List Entry) → IsStack s → (w : WalksTold m n opening first s units armed st log) → enabled (plan_in s.sheet) w.walks.view ≡ [] →
+pub ends_told : (m : Setting) (fine : ℕ → List ℕ → Bool) (n : ℕ) (opening : State) (first : ℕ) (s : Stack) (units : Option (List Stored)) (armed : List FaultLine) (st : Standing) (log : List LogEntry) → IsStack s → (w : WalksTold m n opening first s units armed st log) → enabled (plan_in s.sheet) w.walks.view ≡ [] →
     HasFails m s.replies.items → IsBoundRun m fine n s.sheet.ops opening → EndsTold m n opening s.sheet.ops s w.us (drop first log)
 ends_told m fine n opening first s units armed st log k w none f bound =
     let es = recorded m (drop first log) in
@@ -188,7 +188,7 @@ ends_told m fine n opening first s units armed st log k w none f bound =
     }
 
 -- And where some store calls failed, it has done the walk in which just these fail.
-pub ends_falling : (m : Setting) (fine : ℕ → List ℕ → Bool) (n : ℕ) (opening : State) (first : ℕ) (s : Stack) (units : Option (List Stored)) (armed : List FaultLine) (st : Standing) (log : List Entry) → IsStack s → (w : WalksFalling m n opening first s units armed st log) → enabled (plan_in s.sheet) (w.1).walks.view ≡ [] →
+pub ends_falling : (m : Setting) (fine : ℕ → List ℕ → Bool) (n : ℕ) (opening : State) (first : ℕ) (s : Stack) (units : Option (List Stored)) (armed : List FaultLine) (st : Standing) (log : List LogEntry) → IsStack s → (w : WalksFalling m n opening first s units armed st log) → enabled (plan_in s.sheet) (w.1).walks.view ≡ [] →
     HasFails m s.replies.items → FineByLength fine → IsBoundRun m fine n s.sheet.ops opening → AllTakeAny m fine 1 s.sheet.ops → EndsFallen m n opening s.sheet.ops (take n (flat s.pool)) (blocks_told (w.1).us) s.replies.items (recorded m (drop first log))
 ends_falling m fine n opening first s units armed st log k walks none f long bound takes =
     let flips = walks.0 in

@@ -12,7 +12,7 @@ use Rattle.dix_adapter.specs.Carried.{Unsent, any_bad, frame_len, sends}
 use Rattle.dix_adapter.specs.Groups as Carry
 use Rattle.dix_adapter.specs.Groups.{blocks_in, first_of, mode_of}
 use Rattle.dix_adapter.specs.Ways.{IsRecord, RecordedIn, RecordedOut}
-use Rattle.rig_api.specs.Log.{Entry}
+use Rattle.rig_api.specs.Log.{LogEntry}
 use Rattle.rig_api.specs.Telling.{Standing, spec_at}
 use Rattle.rig_api.specs.State.{RigState}
 use Rattle.stack_view.specs.Plan.{Plan}
@@ -41,7 +41,7 @@ use Rattle.stack_core.proofs.FollowsSend.{all_going, spots_of}
 use Rattle.stack_core.proofs.Walked.{sound}
 use Rattle.stack_core.proofs.WalkedFar.{fits, formed, goes_on, group_is, head_there, named, once, place, size_known, walk_held}
 
-module _ (m : Setting) (n : ℕ) (opening : State) (first : ℕ) (s : Stack) (st : Standing) (log : List Entry) (k : IsStack s) (w : Walks m n opening first s st log) where
+module _ (m : Setting) (n : ℕ) (opening : State) (first : ℕ) (s : Stack) (st : Standing) (log : List LogEntry) (k : IsStack s) (w : Walks m n opening first s st log) where
   abbrev records : List Sent
   records = recorded m (drop first log)
 
@@ -104,7 +104,7 @@ module _ (m : Setting) (n : ℕ) (opening : State) (first : ℕ) (s : Stack) (st
     abbrev pub from_first : RigState → RigState
     from_first x = record x { log = drop first x.log }
 
-    dropped : (old new : RigState) (e : Entry) → old.log ≡ log → IsRecord s.adapter (group_at view d i) old new e → IsRecord s.adapter (group_at view d i) (from_first old) (from_first new) e
+    dropped : (old new : RigState) (e : LogEntry) → old.log ≡ log → IsRecord s.adapter (group_at view d i) old new e → IsRecord s.adapter (group_at view d i) (from_first old) (from_first new) e
     dropped old new e l r = record {
       recorded = ap (drop first) r.recorded ∙ drop_end first old.log e (subst (λ x. first ≤ length x) (sym l) w.recorded_from);
       dev = r.dev;
@@ -113,12 +113,12 @@ module _ (m : Setting) (n : ℕ) (opening : State) (first : ℕ) (s : Stack) (st
       labels = r.labels;
     }
       where
-        drop_end : (f : ℕ) (x : List Entry) (e : Entry) → f ≤ length x → drop f (x ++ (e ∷ [])) ≡ drop f x ++ (e ∷ [])
+        drop_end : (f : ℕ) (x : List LogEntry) (e : LogEntry) → f ≤ length x → drop f (x ++ (e ∷ [])) ≡ drop f x ++ (e ∷ [])
         drop_end zero x e h = refl
         drop_end (suc f) [] e h = absurd (omega arith)
         drop_end (suc f) (y ∷ x) e h = drop_end f x e (omega arith)
 
-    grows : (old new : RigState) (e : Entry) → old.log ≡ log → IsRecord s.adapter (group_at view d i) old new e → first ≤ length new.log
+    grows : (old new : RigState) (e : LogEntry) → old.log ≡ log → IsRecord s.adapter (group_at view d i) old new e → first ≤ length new.log
     grows old new e l r =
         let a = ap length r.recorded in
         let b = length-append old.log (e ∷ []) in
@@ -126,7 +126,7 @@ module _ (m : Setting) (n : ℕ) (opening : State) (first : ℕ) (s : Stack) (st
         let f = w.recorded_from in
         omega arith
 
-    went : (log' : List Entry) → AreWhole s'.pool → first ≤ length log' → FramesFit m (recorded m (drop first log')) → (on : FollowsOn m n s.sheet.ops opening (with_fates bs fates status) (flat s'.pool) (drop first log')) → Walks m n opening first s' st log'
+    went : (log' : List LogEntry) → AreWhole s'.pool → first ≤ length log' → FramesFit m (recorded m (drop first log')) → (on : FollowsOn m n s.sheet.ops opening (with_fates bs fates status) (flat s'.pool) (drop first log')) → Walks m n opening first s' st log'
     went log' whole l fitting on = record {
       over = over_stays m n opening s s' stays w.over;
       sizes = w.sizes;

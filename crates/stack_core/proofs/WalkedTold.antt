@@ -35,7 +35,7 @@ use Rattle.dix_adapter.proofs.Runs.{Next, Run, group-run, width_for}
 use Rattle.dix_adapter.proofs.Units.{Stands as UnitStands, unit-stands}
 use Rattle.run_follows.proofs.Puts.{InTurn, bios_turn}
 use Rattle.range_gate.specs.Gates.{has_ended}
-use Rattle.rig_api.specs.Log.{Entry}
+use Rattle.rig_api.specs.Log.{LogEntry}
 use Rattle.rig_api.specs.Telling.{HasCause, IsStanding, Standing, frame_size, spec_at, specs_of, unit_at, units_told}
 use Rattle.rig_api.specs.State.{RigState}
 use Rattle.merge_queue.specs.Groups.{size}
@@ -95,7 +95,7 @@ by_target_ok : (x : Result (List ℕ) Check) (P : List ℕ → Type 0) → IfOk 
 by_target_ok (Ok frame) P h = h
 by_target_ok (Err check) P h = tt
 
-module _ {course : Course} (m : Setting) (n : ℕ) (opening : State) (first : ℕ) (s : Stack) (units : Option (List Stored)) (armed : List FaultLine) (st : Standing) (log : List Entry) (k : IsStack s) (w : WalksAtTarget course m n opening first s units armed st log) where
+module _ {course : Course} (m : Setting) (n : ℕ) (opening : State) (first : ℕ) (s : Stack) (units : Option (List Stored)) (armed : List FaultLine) (st : Standing) (log : List LogEntry) (k : IsStack s) (w : WalksAtTarget course m n opening first s units armed st log) where
   abbrev records : List Sent
   records = recorded m (drop first log)
 
@@ -115,7 +115,7 @@ module _ {course : Course} (m : Setting) (n : ℕ) (opening : State) (first : �
   ops = s.sheet.ops
 
   -- the same over the same records and the same units
-  pub told_stay : (s' : Stack) → Stays s s' → (units' : Option (List Stored)) (us' : List Stored) (armed' : List FaultLine) (log' : List Entry) → first ≤ length log' → units' ≡ Some us' → armed' ≡ armed → WalksBy course m n opening (recorded m (drop first log')) (blocks_told us') s' → WalksAtTarget course m n opening first s' units' armed' st log'
+  pub told_stay : (s' : Stack) → Stays s s' → (units' : Option (List Stored)) (us' : List Stored) (armed' : List FaultLine) (log' : List LogEntry) → first ≤ length log' → units' ≡ Some us' → armed' ≡ armed → WalksBy course m n opening (recorded m (drop first log')) (blocks_told us') s' → WalksAtTarget course m n opening first s' units' armed' st log'
   told_stay s' stays units' us' armed' log' l e a walks = record {
     over = over_stays m n opening s s' stays w.over;
     sizes = w.sizes;
@@ -390,18 +390,18 @@ module _ {course : Course} (m : Setting) (n : ℕ) (opening : State) (first : �
       abbrev from_first : RigState → RigState
       from_first x = record x { log = drop first x.log }
 
-      drop_end : (f : ℕ) (x : List Entry) (e : Entry) → f ≤ length x → drop f (x ++ (e ∷ [])) ≡ drop f x ++ (e ∷ [])
+      drop_end : (f : ℕ) (x : List LogEntry) (e : LogEntry) → f ≤ length x → drop f (x ++ (e ∷ [])) ≡ drop f x ++ (e ∷ [])
       drop_end zero x e h = refl
       drop_end (suc f) [] e h = absurd (omega arith)
       drop_end (suc f) (y ∷ x) e h = drop_end f x e (omega arith)
 
-      from_then : (old new : RigState) (e : Entry) → old.log ≡ log → new.log ≡ old.log ++ (e ∷ []) → drop first new.log ≡ drop first old.log ++ (e ∷ [])
+      from_then : (old new : RigState) (e : LogEntry) → old.log ≡ log → new.log ≡ old.log ++ (e ∷ []) → drop first new.log ≡ drop first old.log ++ (e ∷ [])
       from_then old new e l r = ap (drop first) r ∙ drop_end first old.log e (subst (λ x. first ≤ length x) (sym l) w.recorded_from)
 
-      dropped : (old new : RigState) (e : Entry) → old.log ≡ log → IsRecord s.adapter g old new e → IsRecord s.adapter g (from_first old) (from_first new) e
+      dropped : (old new : RigState) (e : LogEntry) → old.log ≡ log → IsRecord s.adapter g old new e → IsRecord s.adapter g (from_first old) (from_first new) e
       dropped old new e l r = record { recorded = from_then old new e l r.recorded; dev = r.dev; cdb = r.cdb; fits = r.fits; labels = r.labels }
 
-      grows : (old new : RigState) (e : Entry) → old.log ≡ log → new.log ≡ old.log ++ (e ∷ []) → first ≤ length new.log
+      grows : (old new : RigState) (e : LogEntry) → old.log ≡ log → new.log ≡ old.log ++ (e ∷ []) → first ≤ length new.log
       grows old new e l r =
           let a = ap length r in
           let b = length-append old.log (e ∷ []) in
@@ -410,7 +410,7 @@ module _ {course : Course} (m : Setting) (n : ℕ) (opening : State) (first : �
           omega arith
 
       -- the stack goes on over the target
-      on_told : (units' : Option (List Stored)) (us' : List Stored) (armed' : List FaultLine) (log' : List Entry) (now' : State) → units' ≡ Some us' → armed' ≡ armed → first ≤ length log' → AreWhole s'.pool → now'.bytes ≡ flat s'.pool → now'.blocks ≡ blocks_told us' →
+      on_told : (units' : Option (List Stored)) (us' : List Stored) (armed' : List FaultLine) (log' : List LogEntry) (now' : State) → units' ≡ Some us' → armed' ≡ armed → first ≤ length log' → AreWhole s'.pool → now'.bytes ≡ flat s'.pool → now'.blocks ≡ blocks_told us' →
           FollowsBy course m n ops opening (with_fates bs fates status) now' (recorded m (drop first log')) → NoneBefore (with_fates bs fates status) (recorded m (drop first log')) → WalksAtTarget course m n opening first s' units' armed' st log'
       on_told units' us' armed' log' now' e a l whole bytes blocks follows none =
           told_stay s' stays units' us' armed' log' l e a

@@ -21,10 +21,11 @@ use Rattle.stack_ops.specs.Footprints.{put_seg}
 use Rattle.stack_core.specs.declared.kept.Room.{Room}
 use Rattle.stack_core.specs.declared.kept.Room.TheVariants.{Nothing, Blocks, Bytes, Tuples}
 use Rattle.stack_core.specs.Replies.{shown}
+use Rattle.pi_tuple.specs.declared.TheConstants.{TUPLE}
 
 -- each tuple of the payload is made of these data
 abbrev pub TuplesMade : Payload → GuardKind → PiType → List Seg → (old new : List (List ℕ)) → Type 0
-TuplesMade pi kind ty body old new = Wrote old new (range_of pi.tuples 0 (8 * pi.count)) (made_bytes old body (total body / pi.count) kind ty pi.seed pi.app pi.count)
+TuplesMade pi kind ty body old new = Wrote old new (range_of pi.tuples 0 (TUPLE * pi.count)) (made_bytes old body (total body / pi.count) kind ty pi.seed pi.app pi.count)
 
 -- where they are the block layer's
 abbrev pub MadeBy : Owner → Payload → GuardKind → PiType → List Seg → (old new : List (List ℕ)) → Type 0

@@ -18,7 +18,7 @@ use Rattle.dix_adapter.specs.declared.adapter.Adapter.{Adapter}
 use Rattle.dix_adapter.specs.Carried.{any_fails}
 use Rattle.dix_adapter.specs.Groups.{blocks_in, label_of, mode_of}
 use Rattle.merge_queue.specs.Groups.{size}
-use Rattle.rig_api.specs.Log.{Entry as Record, labels_of}
+use Rattle.rig_api.specs.Log.{LogEntry as Record, labels_of}
 use Rattle.target_answer.specs.Requests.{request_of}
 use Rattle.target_answer.specs.declared.request.Request.{Request}
 use Rattle.target_answer.specs.declared.request.Request.TheVariants.{Read, Write, Verify, ReadCapacity}
@@ -28,7 +28,7 @@ use Rattle.stack_ops.specs.declared.reply.Reply.TheVariants.{Silent, Whole, Bad 
 use Rattle.stack_view.specs.Comes.{Comes, entry_at}
 use Rattle.stack_view.specs.Formed.{IsGroup}
 use Rattle.stack_view.specs.Plan.{Plan}
-use Rattle.stack_view.specs.Runs.{Entry, Sent, sent}
+use Rattle.stack_view.specs.Runs.{ScheduleEntry, Sent, sent}
 use Rattle.stack_view.specs.Steps.{Step, can, step}
 use Rattle.stack_view.specs.View.{Command, OpView, View, no_op}
 use Rattle.stack_steps.specs.declared.choice.Choice.{Choice}
@@ -116,14 +116,14 @@ AreTraced ops starts held (c ∷ cs) = IsTraced ops starts held c × AreTraced o
 -- ---- a run so far
 
 -- A machine that keeps these fates has come so far by a schedule, and these records were made since its first step.
-pub record HasSentBy (es : List Entry) (p : Plan) (m : Machine) (starts : List ℕ) (held : List Fate) (log : List Record) : Type 0 where
+pub record HasSentBy (es : List ScheduleEntry) (p : Plan) (m : Machine) (starts : List ℕ) (held : List Fate) (log : List Record) : Type 0 where
   pub view : View
   pub holds : Holds p m view
   pub comes : Comes p es view.steps view
   pub on_record : AreOnRecord view.commands log
   pub traced : AreTraced view.ops starts held view.commands
 
-abbrev pub HasSent : List Entry → Stack → List Record → Type 0
+abbrev pub HasSent : List ScheduleEntry → Stack → List Record → Type 0
 HasSent es s log = HasSentBy es (plan_in s.sheet) s.machine s.kept.starts.items s.kept.held.items log
 
 -- A step that is the next one of a schedule goes on so, by the records that it makes; each is of a group of the plan, in the form that the adapter calls for.
@@ -132,7 +132,7 @@ pub record SendsOn (word cut : ℕ) (old new : Stack) (log log' : List Record) :
   pub records : log' ≡ log ++ more
   pub formed : Each (IsFormed (mode_of old.adapter) old.adapter.ty) more
   pub of_requests : Each (IsOfRequests (plan_in old.sheet)) more
-  pub on : (es : List Entry) (before : List Record) → entry_at es old.machine.steps ≡ record { word = word; cut = cut } → HasSent es old before → HasSent es new (before ++ more)
+  pub on : (es : List ScheduleEntry) (before : List Record) → entry_at es old.machine.steps ≡ record { word = word; cut = cut } → HasSent es old before → HasSent es new (before ++ more)
 
 -- ---- the parts of a step
 

@@ -12,7 +12,7 @@ use Rattle.dix_adapter.specs.declared.adapter.Adapter.{Adapter}
 use Rattle.dix_adapter.specs.Groups.{IsProtect}
 use Rattle.dix_adapter.specs.Room.{HoldsBlocks}
 use Rattle.dix_adapter.specs.Walking.{HasHost}
-use Rattle.rig_api.specs.Log.{Entry, HasRoom, Room as Spare}
+use Rattle.rig_api.specs.Log.{LogEntry, HasRoom, Room as Spare}
 use Rattle.rig_api.specs.State.{RigState}
 use Rattle.rig_api.specs.Telling.{Standing, greatest_size}
 use Rattle.stack_ops.specs.declared.op.Op.{Op}
@@ -32,6 +32,7 @@ use Rattle.run_follows.specs.Sheets.{io_at, op_in, plan_of}
 use Rattle.run_follows.specs.Settling.{AreAllWhole, AreFates}
 use Rattle.stack_core.specs.Replies.{HoldsBad}
 use Rattle.stack_core.specs.Doing.{CanDo, CanReach}
+use Rattle.pi_tuple.specs.declared.TheConstants.{LARGEST_BLOCK}
 
 abbrev pub plan_in : Sheet → Plan
 plan_in s = plan_of s.ops s.shifted.items s.ios.items s.table s.limits s.devices
@@ -42,7 +43,7 @@ room_at rooms i = get_or rooms i Nothing
 -- all blocks have one size, and tuples travel from the host as the adapter knows it
 pub record AreUniform (dix : Bool) (bytes : ℕ) (ios : List Io) : Type 0 where
   pub some : 1 ≤ bytes
-  pub few : bytes ≤ 4096
+  pub few : bytes ≤ LARGEST_BLOCK
   pub size : (i : ℕ) → 0 < (io_at ios i).count → block_size (io_at ios i) ≡ bytes
   pub host : (i : ℕ) → 0 < (io_at ios i).count → HasHost dix (io_at ios i).pi
 
@@ -112,6 +113,6 @@ pub record Stays (old new : Stack) : Type 0 where
 -- The rig goes on as it stands: its records are followed by others or by none, and its count of faults doesn't fall.
 pub record GoesOn (old new : RigState) : Type 0 where
   pub standing : new.standing ≡ old.standing
-  pub more : List Entry
+  pub more : List LogEntry
   pub records : new.log ≡ old.log ++ more
   pub faults : old.faults ≤ new.faults

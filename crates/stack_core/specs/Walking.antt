@@ -10,7 +10,7 @@ use Rattle.dix_base.specs.Told.{Calm}
 use Rattle.fault_schedule.specs.declared.fault.FaultLine.{FaultLine}
 use Rattle.target_answer.specs.Target.{Stored}
 use Rattle.range_gate.specs.Gates.{has_ended}
-use Rattle.rig_api.specs.Log.{Entry}
+use Rattle.rig_api.specs.Log.{LogEntry}
 use Rattle.rig_api.specs.State.{RigState}
 use Rattle.rig_api.specs.Telling.{Standing, block_at, changed as changed_told, frame_size, spec_at, specs_of, unit_at, with_block}
 use Rattle.stack_ops.specs.declared.op.Op.{Op}
@@ -61,6 +61,7 @@ use Rattle.stack_core.specs.Rooms.{Suits}
 use Rattle.run_follows.specs.Sheets.{io_at, op_in}
 use Rattle.run_follows.specs.Shifts.{shifted_by}
 use Rattle.stack_core.specs.Stacks.{HasStep, plan_in, room_at}
+use Rattle.page_pool.specs.declared.TheConstants.{PAGE}
 
 -- ---- how far each block is
 
@@ -138,7 +139,7 @@ pub record IsOver (m : Setting) (n : ℕ) (opening : State) (sheet : Sheet) (a :
   pub ground : Ground m n (length opening.logs) sheet.ops
   pub found : fates sheet.ops ≤ length opening.fates
   pub pages : ℕ
-  pub bytes : n ≡ 4096 * pages
+  pub bytes : n ≡ PAGE * pages
   pub ios : sheet.ios.items ≡ requests_from m.mode.dix pages sheet.ops
   pub shifted : sheet.shifted.items ≡ shifted_by m.site.faults (length sheet.ops)
   pub mode : m.mode ≡ mode_of a
@@ -184,7 +185,7 @@ abbrev pub SizesFit : Setting → Standing → Type 0
 SizesFit m st = (v : ℕ) → v < volume_len m.entries → (spec_at st (place_in m.entries v).0).size ≡ m.size
 
 -- Over any rig, whose records from the first on are this log: what came of each block is what stands on record, and each frame that came has the wire's size.
-pub record Walks (m : Setting) (n : ℕ) (opening : State) (first : ℕ) (s : Stack) (st : Standing) (log : List Entry) : Type 0 where
+pub record Walks (m : Setting) (n : ℕ) (opening : State) (first : ℕ) (s : Stack) (st : Standing) (log : List LogEntry) : Type 0 where
   pub over : IsOver m n opening s.sheet s.adapter s.host
   pub sizes : SizesFit m st
   pub recorded_from : first ≤ length log
@@ -195,7 +196,7 @@ pub record Walks (m : Setting) (n : ℕ) (opening : State) (first : ℕ) (s : St
 -- ---- over a rig that tells its blocks
 
 -- Over a rig that tells its blocks, with the stack's faults armed: what came of each block is the target's answer, and the cells of the stored blocks are those that the rig tells.
-pub record WalksAtTarget (course : Course) (m : Setting) (n : ℕ) (opening : State) (first : ℕ) (s : Stack) (units : Option (List Stored)) (armed : List FaultLine) (st : Standing) (log : List Entry) : Type 0 where
+pub record WalksAtTarget (course : Course) (m : Setting) (n : ℕ) (opening : State) (first : ℕ) (s : Stack) (units : Option (List Stored)) (armed : List FaultLine) (st : Standing) (log : List LogEntry) : Type 0 where
   pub over : IsOver m n opening s.sheet s.adapter s.host
   pub sizes : SizesFit m st
   pub site : m.site ≡ site_of s.adapter (specs_of st)
@@ -207,11 +208,11 @@ pub record WalksAtTarget (course : Course) (m : Setting) (n : ℕ) (opening : St
   pub walks : WalksBy course m n opening (recorded m (drop first log)) (blocks_told us) s
 
 -- while no store call failed,
-abbrev pub WalksTold : (m : Setting) (n : ℕ) (opening : State) (first : ℕ) → Stack → (units : Option (List Stored)) (armed : List FaultLine) → Standing → (log : List Entry) → Type 0
+abbrev pub WalksTold : (m : Setting) (n : ℕ) (opening : State) (first : ℕ) → Stack → (units : Option (List Stored)) (armed : List FaultLine) → Standing → (log : List LogEntry) → Type 0
 WalksTold m n opening first s units armed st log = WalksAtTarget Straight m n opening first s units armed st log
 
 -- and whether or not some failed.
-abbrev pub WalksFalling : (m : Setting) (n : ℕ) (opening : State) (first : ℕ) → Stack → (units : Option (List Stored)) (armed : List FaultLine) → Standing → (log : List Entry) → Type 0
+abbrev pub WalksFalling : (m : Setting) (n : ℕ) (opening : State) (first : ℕ) → Stack → (units : Option (List Stored)) (armed : List FaultLine) → Standing → (log : List LogEntry) → Type 0
 WalksFalling m n opening first s units armed st log = (flips : Flips) × WalksAtTarget (Falling flips) m n opening first s units armed st log
 
 -- the cells with which a stack begins: its pages are those of these, and no frame was carried yet
@@ -221,18 +222,18 @@ pub record Opens (opening : State) (s : Stack) : Type 0 where
 
 -- A new stack follows the walk, over any rig with devices of blocks of this size, from the rig's next record on.
 abbrev pub WalksAtFirst : Stack → Type 0
-WalksAtFirst s = (m : Setting) (n : ℕ) (opening : State) (st : Standing) (log : List Entry)
+WalksAtFirst s = (m : Setting) (n : ℕ) (opening : State) (st : Standing) (log : List LogEntry)
     → Opens opening s → IsOver m n opening s.sheet s.adapter s.host → SizesFit m st → Walks m n opening (length log) s st log
 
 -- So it does over a rig that tells its blocks, which are those of the opening, with its faults armed.
 abbrev pub WalksToldAtFirst : Stack → Type 0
-WalksToldAtFirst s = (m : Setting) (n : ℕ) (opening : State) (us : List Stored) (armed : List FaultLine) (st : Standing) (log : List Entry)
+WalksToldAtFirst s = (m : Setting) (n : ℕ) (opening : State) (us : List Stored) (armed : List FaultLine) (st : Standing) (log : List LogEntry)
     → Opens opening s → IsOver m n opening s.sheet s.adapter s.host → SizesFit m st → m.site ≡ site_of s.adapter (specs_of st) → AreAtUnits m (specs_of st) s.sheet.ops
     → armed ≡ s.adapter.tamper → opening.blocks ≡ blocks_told us → WalksTold m n opening (length log) s (Some us) armed st log
 
 -- And so it does where store calls may fail.
 abbrev pub WalksFallingAtFirst : Stack → Type 0
-WalksFallingAtFirst s = (m : Setting) (n : ℕ) (opening : State) (us : List Stored) (armed : List FaultLine) (st : Standing) (log : List Entry)
+WalksFallingAtFirst s = (m : Setting) (n : ℕ) (opening : State) (us : List Stored) (armed : List FaultLine) (st : Standing) (log : List LogEntry)
     → Opens opening s → IsOver m n opening s.sheet s.adapter s.host → SizesFit m st → m.site ≡ site_of s.adapter (specs_of st) → AreAtUnits m (specs_of st) s.sheet.ops
     → armed ≡ s.adapter.tamper → opening.blocks ≡ blocks_told us → WalksFalling m n opening (length log) s (Some us) armed st log
 
@@ -327,7 +328,7 @@ pub record Enters (before after : RigState) (old new : Stack) : Type 0 where
 -- ---- at the end
 
 -- Over a rig that tells its blocks: the stack's replies, the script's pages and the stored blocks are those of the script's walk at the target, and the log holds what the walk carries and backs the replies.
-pub record EndsTold (m : Setting) (n : ℕ) (opening : State) (ops : List Op) (s : Stack) (us : List Stored) (log : List Entry) : Type 0 where
+pub record EndsTold (m : Setting) (n : ℕ) (opening : State) (ops : List Op) (s : Stack) (us : List Stored) (log : List LogEntry) : Type 0 where
   pub replies : s.replies.items ≡ script_replies m ops (hidden n opening)
   pub pages : take n (flat s.pool) ≡ (script_walk m ops (hidden n opening)).bytes
   pub blocks : blocks_told us ≡ (script_walk m ops (hidden n opening)).blocks

@@ -8,6 +8,7 @@ ghost use Rattle.run_follows.specs.Sheets.{request_in};
 ghost use Rattle.run_follows.specs.Settling.{AreFates};
 ghost use Rattle.stack_core.specs.Rooms.{IsForBlocks, Suits, blocks_in};
 ghost use Rattle.stack_core.specs.Replies.{HoldsBad, HoldsShown, bad_from, reply_of, shown};
+ghost use Rattle.bio_core.specs.declared.TheConstants.{MOST_BLOCKS};
 
 use crate::requests::sealed;
 use bio_core::{Fate, Io};
@@ -27,7 +28,7 @@ pub(crate) struct Fates {
 impl Fates {
     /// Of no block anything became yet.
     pub(crate) fn new(alloc: Global, ios: &[Io]) -> Result<Fates, AllocError>
-        requires { blocks_of_requests (map request_in ios.now) ≤ 16384 }
+        requires { blocks_of_requests (map request_in ios.now) ≤ MOST_BLOCKS }
         ensures fates { IfOk result (λ f. AreFates ios.now f.starts.items f.held.items) }
         ensures held { IfOk result (λ f. f.held.items ≡ replicate (blocks_of_requests (map request_in ios.now)) Untouched) }
     {

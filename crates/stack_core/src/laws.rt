@@ -4,9 +4,9 @@ ghost use Rattle.std.specs.Prelude.{◌≡◌, ◌<◌, ◌≤◌, ℕ, List, �
 ghost use Rattle.fault_schedule.specs.declared.Label.{Label as AnyLabel};
 ghost use Rattle.fault_schedule.specs.declared.fault.FaultLine.{FaultLine};
 ghost use Rattle.target_answer.specs.Target.{Stored};
-ghost use Rattle.rig_api.specs.Log.{Entry};
+ghost use Rattle.rig_api.specs.Log.{LogEntry};
 ghost use Rattle.rig_api.specs.Telling.{Standing};
-ghost use Rattle.stack_view.specs.Runs.{Entry as AnyEntry, blocks_of_requests, sends_of};
+ghost use Rattle.stack_view.specs.Runs.{ScheduleEntry as AnyEntry, blocks_of_requests, sends_of};
 ghost use Rattle.whole_run.specs.Settings.{Setting};
 ghost use Rattle.run_laws.specs.BoundRun.{IsBoundRun};
 ghost use Rattle.run_laws.specs.BackedRun.{Backed};
@@ -68,7 +68,7 @@ pub fn a_read_is_settled_by_a_move()
 
 /// A stack that followed the walk of its script to the end, over any rig, honest or not: the rig's log backs its replies.
 pub fn a_finished_stack_is_backed()
-    ensures { (m : Setting) (n : ℕ) (opening : State) (first : ℕ) (s : AnyStack) (st : Standing) (log : List Entry) → IsStack s → Walks m n opening first s st log
+    ensures { (m : Setting) (n : ℕ) (opening : State) (first : ℕ) (s : AnyStack) (st : Standing) (log : List LogEntry) → IsStack s → Walks m n opening first s st log
         → IsFinished s → HasFails m s.replies.items
         → IsBoundRun (told m (recorded m (drop first log))) (λ c block. true) n s.sheet.ops opening → Backed m s.sheet.ops (hidden n opening) (drop first log) s.replies.items }
 {}
@@ -76,7 +76,8 @@ pub fn a_finished_stack_is_backed()
 /// And over a rig that tells its blocks, while its count of faults didn't rise: replies, pages and stored blocks are those
 /// of the script's walk at the target, and the log holds what the walk carries.
 pub fn a_finished_stack_has_done_the_walk()
-    ensures { (m : Setting) (fine : ℕ → List ℕ → Bool) (n : ℕ) (opening : State) (first : ℕ) (s : AnyStack) (us : List Stored) (armed : List FaultLine) (st : Standing) (log : List Entry) → IsStack s
+    ensures { (m : Setting) (fine : ℕ → List ℕ → Bool) (n : ℕ) (opening : State) (first : ℕ) (s : AnyStack) (us : List Stored) (armed : List FaultLine) (st : Standing) (log : List LogEntry)
+        → IsStack s
         → WalksTold m n opening first s (Some us) armed st log → IsFinished s → HasFails m s.replies.items
         → IsBoundRun m fine n s.sheet.ops opening → EndsTold m n opening s.sheet.ops s us (drop first log) }
 {}
@@ -85,7 +86,8 @@ pub fn a_finished_stack_has_done_the_walk()
 /// overwrite whose own failed flips its block somehow, and the log holds what that walk carries. What is as long as a fine
 /// block is fine in its place.
 pub fn a_finished_stack_has_done_the_falling_walk()
-    ensures { (m : Setting) (fine : ℕ → List ℕ → Bool) (n : ℕ) (opening : State) (first : ℕ) (s : AnyStack) (us : List Stored) (armed : List FaultLine) (st : Standing) (log : List Entry) → IsStack s
+    ensures { (m : Setting) (fine : ℕ → List ℕ → Bool) (n : ℕ) (opening : State) (first : ℕ) (s : AnyStack) (us : List Stored) (armed : List FaultLine) (st : Standing) (log : List LogEntry)
+        → IsStack s
         → WalksFalling m n opening first s (Some us) armed st log → IsFinished s → HasFails m s.replies.items
         → ((c : ℕ) (old new : List ℕ) → length new ≡ length old → fine c old ≡ true → fine c new ≡ true) → IsBoundRun m fine n s.sheet.ops opening → AllTakeAny m fine 1 s.sheet.ops
         → EndsFallen m n opening s.sheet.ops (take n (flat s.pool)) (blocks_told us) s.replies.items (recorded m (drop first log)) }
@@ -95,21 +97,21 @@ pub fn a_finished_stack_has_done_the_falling_walk()
 /// requests have blocks. Where its replies list no block, these are the records of the commands that are sent where all
 /// blocks are good, in order and one for one.
 pub fn a_finished_stack_has_sent()
-    ensures few { (es : List AnyEntry) (s : AnyStack) (log : List Entry) → IsStack s → HasSent es s log → length log ≤ blocks_of_requests (plan_in s.sheet).requests }
-    ensures all { (es : List AnyEntry) (s : AnyStack) (log : List Entry) (m : Setting) (n : ℕ) (opening : State) (first : ℕ) (st : Standing) (whole : List Entry)
+    ensures few { (es : List AnyEntry) (s : AnyStack) (log : List LogEntry) → IsStack s → HasSent es s log → length log ≤ blocks_of_requests (plan_in s.sheet).requests }
+    ensures all { (es : List AnyEntry) (s : AnyStack) (log : List LogEntry) (m : Setting) (n : ℕ) (opening : State) (first : ℕ) (st : Standing) (whole : List LogEntry)
         → IsStack s → HasSent es s log → Walks m n opening first s st whole → IsFinished s → ListsNone s.replies.items → AreRecords (sends_of (plan_in s.sheet) es) log }
 {}
 
 /// And the lines of its replies that name the medium, of blocks and of overwrites, are at most as many as the count of
 /// faults rose, where each step kept `HasCounted`.
 pub fn a_finished_stack_names_the_medium_seldom()
-    ensures { (m : Setting) (n : ℕ) (opening : State) (begun first : ℕ) (s : AnyStack) (st : Standing) (log : List Entry) (count : ℕ) → IsStack s → Walks m n opening begun s st log
+    ensures { (m : Setting) (n : ℕ) (opening : State) (begun first : ℕ) (s : AnyStack) (st : Standing) (log : List LogEntry) (count : ℕ) → IsStack s → Walks m n opening begun s st log
         → IsFinished s → HasCounted first s count → RoseBy (medium_lines s.replies.items) first count }
 {}
 
 /// Where no line of its replies names the medium no store call failed: over a rig that tells its blocks it followed the
 /// walk at the target, whatever the count of faults did.
 pub fn a_finished_stack_that_names_no_medium_has_followed_the_walk()
-    ensures { (m : Setting) (n : ℕ) (opening : State) (first : ℕ) (s : AnyStack) (us : List Stored) (armed : List FaultLine) (st : Standing) (log : List Entry)
+    ensures { (m : Setting) (n : ℕ) (opening : State) (first : ℕ) (s : AnyStack) (us : List Stored) (armed : List FaultLine) (st : Standing) (log : List LogEntry)
         → IsStack s → WalksFalling m n opening first s (Some us) armed st log → IsFinished s → medium_lines s.replies.items ≡ 0 → WalksTold m n opening first s (Some us) armed st log }
 {}

@@ -4,16 +4,14 @@ ghost use Rattle.std.specs.Prelude.{◌≡◌, ◌+◌, ◌<◌, ◌≤◌, ◌^
 ghost use Rattle.std.specs.Option.{ForSome};
 ghost use Rattle.run_follows.specs.Sheets.{no_io};
 ghost use Rattle.run_follows.specs.Requests.{of_app, of_block, own_blocks, own_tuples, pages_for, private_tuples, request_of, sealed, tuple_page};
+ghost use Rattle.bio_core.specs.declared.TheConstants.{MOST_BLOCKS};
 
 use bio_core::{Dir, Io};
 use integrity_payload::{Owner, Payload};
-use page_pool::{Seg, SgList};
+use page_pool::{PAGE, Seg, SgList};
 use smallvec::SmallVec;
 use stack_ops::Op;
 use std::alloc::{AllocError, Global};
-
-/// The bytes of a page.
-const PAGE: u32 = 4096;
 
 /// How many tuples fill a page.
 const TUPLES: u32 = 512;
@@ -43,7 +41,7 @@ fn copy_of(alloc: Global, list: &SgList) -> Result<SgList, AllocError>
 
 /// The places of so many tuples in pages of their own, from this page on.
 fn private_tuples(alloc: Global, page: u32, count: u32) -> Result<SgList, AllocError>
-    requires few { count ≤ 16384 }
+    requires few { count ≤ MOST_BLOCKS }
     requires pages { page + 32 < 2 ^ 32 }
     ensures { IfOk result (λ list. list ≡ private_tuples page count) }
 {
@@ -56,7 +54,7 @@ fn private_tuples(alloc: Global, page: u32, count: u32) -> Result<SgList, AllocE
 
 /// The i-th of the pages that hold the tuples of so many blocks.
 fn tuple_page(page: u32, count: u32, i: u32) -> Seg
-    requires few { count ≤ 16384 }
+    requires few { count ≤ MOST_BLOCKS }
     requires pages { page + 32 < 2 ^ 32 }
     requires within { i < pages_for count }
     ensures { result ≡ tuple_page page count i }
@@ -76,7 +74,7 @@ fn own_tuples(
     app: u16,
     page: Option<u32>,
 ) -> Result<Option<Payload>, AllocError>
-    requires few { n ≤ 16384 }
+    requires few { n ≤ MOST_BLOCKS }
     requires pages { ForSome page (λ p. p + 32 < 2 ^ 32) }
     ensures { IfOk result (λ pi. pi ≡ own_tuples v n app page) }
 {
@@ -102,7 +100,7 @@ fn of_block(
     app: u16,
     page: Option<u32>,
 ) -> Result<Io, AllocError>
-    requires few { n ≤ 16384 }
+    requires few { n ≤ MOST_BLOCKS }
     requires pages { ForSome page (λ p. p + 32 < 2 ^ 32) }
     ensures { IfOk result (λ io. io ≡ of_block dir v n body.now app page) }
 {
@@ -157,7 +155,7 @@ fn none(alloc: Global) -> Io
 /// The request that an op is, with this first page for tuples of the block layer, if there are any; one of no blocks
 /// for an op that is none.
 pub(crate) fn request_of(alloc: Global, op: &Op, page: Option<u32>) -> Result<Io, AllocError>
-    requires few { own_blocks op.now ≤ 16384 }
+    requires few { own_blocks op.now ≤ MOST_BLOCKS }
     requires pages { ForSome page (λ p. p + 32 < 2 ^ 32) }
     ensures { IfOk result (λ io. io ≡ request_of op.now page) }
 {

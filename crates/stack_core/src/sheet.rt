@@ -6,6 +6,7 @@ ghost use Rattle.page_pool.specs.Cuts.{cut};
 ghost use Rattle.bio_core.specs.Bios.{block_size, data_segs};
 ghost use Rattle.volume_table.specs.Places.{place_in, volume_len};
 ghost use Rattle.run_follows.specs.Sheets.{HaveNumbers, IsSheet, io_at, op_in, plan_of};
+ghost use Rattle.pi_tuple.specs.declared.TheConstants.{LARGEST_BLOCK};
 
 use bio_core::{Dir, Io};
 use merge_queue::Limits;
@@ -142,9 +143,9 @@ fn devices_of(io: &Io, table: &VolumeTable) -> u32
 
 /// The bytes of data in each block of a request, or 0 where it has no block.
 fn block_bytes(io: &Io) -> u32
-    requires { 0 < io.now.count → block_size io.now ≤ 4096 }
+    requires { 0 < io.now.count → block_size io.now ≤ LARGEST_BLOCK }
     ensures all { 0 < io.now.count → block_size io.now ≤ result }
-    ensures few { result ≤ 4096 }
+    ensures few { result ≤ LARGEST_BLOCK }
 {
     if io.count == 0 {
         return 0;
@@ -154,9 +155,9 @@ fn block_bytes(io: &Io) -> u32
 
 /// The most bytes of data in a block of the requests.
 pub(crate) fn largest_block(ios: &[Io]) -> u32
-    requires { (i : ℕ) → 0 < (io_at ios.now i).count → block_size (io_at ios.now i) ≤ 4096 }
+    requires { (i : ℕ) → 0 < (io_at ios.now i).count → block_size (io_at ios.now i) ≤ LARGEST_BLOCK }
     ensures all { (i : ℕ) → 0 < (io_at ios.now i).count → block_size (io_at ios.now i) ≤ result }
-    ensures few { result ≤ 4096 }
+    ensures few { result ≤ LARGEST_BLOCK }
 {
     let mut most = 0;
     for io in ios {

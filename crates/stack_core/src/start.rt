@@ -11,6 +11,7 @@ ghost use Rattle.stack_core.specs.Rooms.{Suits, blocks_in};
 ghost use Rattle.stack_core.specs.Stacks.{IsStack, plan_in, room_at};
 ghost use Rattle.stack_core.specs.NewStacks.{FollowsAtFirst, IsNewStack, IsSetUp};
 ghost use Rattle.run_follows.specs.Starting.{CanStart};
+ghost use Rattle.bio_core.specs.declared.TheConstants.{MOST_BLOCKS};
 
 use crate::kept::{Fates, Room, room_for};
 use crate::requests::{own_blocks, pages_for, request_of};
@@ -78,7 +79,7 @@ fn first_page(dix: bool, page: u32) -> Option<u32>
 }
 
 fn page_after(dix: bool, page: u32, op: &Op) -> u32
-    requires few { own_blocks op.now ≤ 16384 }
+    requires few { own_blocks op.now ≤ MOST_BLOCKS }
     requires pages { page ≤ 262144 }
     ensures next { result ≡ page_after dix page op.now }
     ensures most { result ≤ page + 32 }
@@ -93,7 +94,7 @@ fn page_after(dix: bool, page: u32, op: &Op) -> u32
 /// The requests of the ops; those whose tuples the block layer makes have them behind the first pages.
 fn requests(alloc: Global, ops: &[Op], dix: bool, pages: u32) -> Result<(Vec<Io>, u32), AllocError>
     requires few { length ops.now ≤ 4096 }
-    requires blocks { (i : ℕ) → i < length ops.now → own_blocks (op_in ops.now i) ≤ 16384 }
+    requires blocks { (i : ℕ) → i < length ops.now → own_blocks (op_in ops.now i) ≤ MOST_BLOCKS }
     requires pages { pages ≤ 65536 }
     ensures ios { IfOk result (λ r. r.0.items ≡ requests_from dix pages ops.now) }
     ensures pages { IfOk result (λ r. r.1 ≡ pages_from dix pages ops.now) }

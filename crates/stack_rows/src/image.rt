@@ -1,11 +1,11 @@
 //! A formatted image in memory.
 
-use unit_words::unit_of;
 use dix_base::MemStore;
 use image_rig::ImageRig;
 use std::alloc::{AllocError, Global};
 use target_answer::UnitSpec;
 use test_rig::formatted;
+use unit_words::unit_of;
 
 #[derive(Drop)]
 pub(crate) struct Image {

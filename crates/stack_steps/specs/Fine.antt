@@ -4,12 +4,13 @@ use Rattle.stack_view.specs.Plan.{Plan, request_at}
 use Rattle.stack_view.specs.Formed.{Straight}
 use Rattle.stack_view.specs.Runs.{blocks_of_requests}
 use Rattle.stack_view.specs.Sound.{OnDevices}
+use Rattle.bio_core.specs.declared.TheConstants.{MOST_BLOCKS}
 
 -- The blocks of the requests lie on the devices, straight; there are few of them; no address is the last that there is.
 pub record Fine (p : Plan) : Type 0 where
   pub on_devices : OnDevices p
   pub straight : Straight p
   pub few_ops : length p.requests ≤ 4096
-  pub few_blocks : blocks_of_requests p.requests ≤ 16384
+  pub few_blocks : blocks_of_requests p.requests ≤ MOST_BLOCKS
   pub few_devices : p.devices ≤ 8
   pub ends : (i k : ℕ) → k < (request_at p i).count → (p.place ((request_at p i).first + k)).lba + 1 < 2 ^ 64

@@ -7,7 +7,7 @@ use Rattle.merge_queue.specs.Groups.{size}
 use Rattle.stack_view.specs.Plan.{Plan}
 use Rattle.stack_view.specs.View.{View, Command, no_command, start}
 use Rattle.stack_view.specs.Steps.{Step, End, Complete, Admit, Cut, Join, Send, enabled, chosen, step}
-use Rattle.stack_view.specs.Runs.{Entry, Rig, entry_of, taken, no_steps, all_good, by_word, run, blocks_of_requests, most_steps, end_of}
+use Rattle.stack_view.specs.Runs.{ScheduleEntry, Rig, entry_of, taken, no_steps, all_good, by_word, run, blocks_of_requests, most_steps, end_of}
 use Rattle.stack_view.specs.Sound.{OnDevices, Sound}
 use Rattle.stack_view.specs.Measure.{Counted}
 use Rattle.stack_view.specs.Comes.{AllGood, Comes, entry_at}
@@ -20,7 +20,7 @@ pub record Both (p : Plan) (v : View) : Type 0 where
   pub sound : Sound p v
   pub counted : Counted p v
 
-pub comes-both : (p : Plan) (es : List Entry) (n : ℕ) (v : View) → OnDevices p → Comes p es n v → Both p v
+pub comes-both : (p : Plan) (es : List ScheduleEntry) (n : ℕ) (v : View) → OnDevices p → Comes p es n v → Both p v
 comes-both p es zero v on h = subst (Both p) (sym h) (record { sound = starts p; counted = counted-start p })
 comes-both p es (suc n) v on h =
     let u = h.0 in
@@ -32,11 +32,11 @@ comes-both p es (suc n) v on h =
       counted = counted-keeps p u (chosen p u e.word) e.cut h.2.fates b.sound on c h.2.answered b.counted;
     })
 
-pub comes-steps : (p : Plan) (es : List Entry) (n : ℕ) (v : View) → Comes p es n v → v.steps ≡ n
+pub comes-steps : (p : Plan) (es : List ScheduleEntry) (n : ℕ) (v : View) → Comes p es n v → v.steps ≡ n
 comes-steps p es zero v h = ap (λ (x : View). x.steps) h
 comes-steps p es (suc n) v h = ap (λ (x : View). x.steps) h.2.is ∙ ap suc (comes-steps p es n h.0 h.1)
 
-pub comes-few : (p : Plan) (es : List Entry) (n : ℕ) (v : View) → OnDevices p → Comes p es n v → length v.commands ≤ blocks_of_requests p.requests
+pub comes-few : (p : Plan) (es : List ScheduleEntry) (n : ℕ) (v : View) → OnDevices p → Comes p es n v → length v.commands ≤ blocks_of_requests p.requests
 comes-few p es n v on h = let c = (comes-both p es n v on h).counted.sends in omega arith
 
 -- ---- all were good before
@@ -72,16 +72,16 @@ good-step p u (Send d i) cut n fates h = ap (step p u (Send d i) cut) (sym (good
 
 -- ---- the run of good blocks
 
-run-stays : (p : Plan) (rig : Rig) (n : ℕ) (es : List Entry) (v : View) → no_steps (enabled p v) ≡ true → run p rig n es v ≡ v
+run-stays : (p : Plan) (rig : Rig) (n : ℕ) (es : List ScheduleEntry) (v : View) → no_steps (enabled p v) ≡ true → run p rig n es v ≡ v
 run-stays p rig zero es v e = refl
 run-stays p rig (suc n) es v e = rw e refl
 
-drops : (es : List Entry) (n : ℕ) → drop n (drop 1 es) ≡ drop (suc n) es
+drops : (es : List ScheduleEntry) (n : ℕ) → drop n (drop 1 es) ≡ drop (suc n) es
 drops [] zero = refl
 drops [] (suc n) = refl
 drops (e ∷ es) n = refl
 
-run-more : (p : Plan) (rig : Rig) (n m : ℕ) (es : List Entry) (v : View) → run p rig (n + m) es v ≡ run p rig m (drop n es) (run p rig n es v)
+run-more : (p : Plan) (rig : Rig) (n m : ℕ) (es : List ScheduleEntry) (v : View) → run p rig (n + m) es v ≡ run p rig m (drop n es) (run p rig n es v)
 run-more p rig zero m es v = rw (zero-add m) refl
 run-more p rig (suc n) m es v =
     let e : suc n + m ≡ suc (n + m) = omega arith in
@@ -90,7 +90,7 @@ run-more p rig (suc n) m es v =
     (λ (z : no_steps (enabled p v) ≡ false). rw z (run-more p rig n m (drop 1 es) (by_word p rig (entry_of es) v) ∙ ap (λ x. run p rig m x (run p rig n (drop 1 es) (by_word p rig (entry_of es) v))) (drops es n)))
     (cases_Bool (no_steps (enabled p v))))
 
-first-is : (es : List Entry) (n : ℕ) → entry_of (drop n es) ≡ entry_at es n
+first-is : (es : List ScheduleEntry) (n : ℕ) → entry_of (drop n es) ≡ entry_at es n
 first-is [] zero = refl
 first-is [] (suc n) = refl
 first-is (e ∷ es) zero = refl
@@ -100,7 +100,7 @@ has-steps : (ss : List Step) → 0 < length ss → no_steps ss ≡ false
 has-steps [] h = absurd (omega arith)
 has-steps (s ∷ ss) h = refl
 
-comes-calm : (p : Plan) (es : List Entry) (n : ℕ) (v : View) → Comes p es n v → AllGood v.commands → run p all_good n es (start p) ≡ v
+comes-calm : (p : Plan) (es : List ScheduleEntry) (n : ℕ) (v : View) → Comes p es n v → AllGood v.commands → run p all_good n es (start p) ≡ v
 comes-calm p es zero v h g = sym h
 comes-calm p es (suc n) v h g =
     let u = h.0 in
@@ -122,7 +122,7 @@ none-enabled : (ss : List Step) → ss ≡ [] → no_steps ss ≡ true
 none-enabled [] h = refl
 none-enabled (s ∷ ss) h = cc
 
-pub comes-end : (p : Plan) (es : List Entry) (n : ℕ) (v : View) → OnDevices p → Comes p es n v → enabled p v ≡ [] → AllGood v.commands → v ≡ end_of p all_good es
+pub comes-end : (p : Plan) (es : List ScheduleEntry) (n : ℕ) (v : View) → OnDevices p → Comes p es n v → enabled p v ≡ [] → AllGood v.commands → v ≡ end_of p all_good es
 comes-end p es n v on h e g =
     let c = (comes-both p es n v on h).counted.steps in
     let s = comes-steps p es n v h in

@@ -13,7 +13,7 @@ use Rattle.stack_view.specs.Sound.{OnDevices}
 use Rattle.stack_view.specs.Formed.{Straight}
 use Rattle.stack_view.specs.Pieces.{greatest_piece}
 use Rattle.stack_view.specs.Rests.{untouched_runs}
-use Rattle.stack_view.specs.Runs.{Entry, Rig, Sent, all_good, end_of, sends_of, sends_with}
+use Rattle.stack_view.specs.Runs.{ScheduleEntry, Rig, Sent, all_good, end_of, sends_of, sends_with}
 
 -- segments of n blocks from k on where each segment holds so many blocks
 abbrev in_pages : ℕ → ℕ → ℕ → ℕ
@@ -22,7 +22,7 @@ in_pages each k n = ((k + n - 1) / each + 1) - k / each
 abbrev on_device : ℕ → ℕ → Place
 on_device dev lba = record { dev = dev; lba = lba }
 
-abbrev entry : ℕ → ℕ → Entry
+abbrev entry : ℕ → ℕ → ScheduleEntry
 entry w c = record { word = w; cut = c }
 
 abbrev write : ℕ → ℕ → Request

@@ -9,11 +9,11 @@ use Rattle.stack_view.specs.View.{View, Command, start, group_at}
 use Rattle.stack_view.specs.Steps.{Step, End, Complete, Admit, Cut, Join, Send, enabled, chosen, step}
 
 -- one entry of a schedule
-pub record Entry : Type 0 where
+pub record ScheduleEntry : Type 0 where
   pub word : ℕ
   pub cut : ℕ
 
-abbrev pub entry_of : List Entry → Entry
+abbrev pub entry_of : List ScheduleEntry → ScheduleEntry
 entry_of [] = record { word = 0; cut = 0 }
 entry_of (e ∷ es) = e
 
@@ -37,11 +37,11 @@ Rig = ℕ → Group → List Fate
 abbrev pub all_good : Rig
 all_good n g = replicate (size g) Good
 
-abbrev pub by_word : Plan → Rig → Entry → View → View
+abbrev pub by_word : Plan → Rig → ScheduleEntry → View → View
 by_word p rig e v = let s = chosen p v e.word in step p v s e.cut (rig (length v.commands) (taken v s))
 
 -- at most n steps, by the entries and then by (0, 0)
-abbrev pub run : Plan → Rig → ℕ → List Entry → View → View
+abbrev pub run : Plan → Rig → ℕ → List ScheduleEntry → View → View
 run p rig zero es v = v
 run p rig (suc n) es v = let more = run p rig n (drop 1 es) (by_word p rig (entry_of es) v) in if no_steps (enabled p v) then v else more
 
@@ -62,12 +62,12 @@ pub record Sent : Type 0 where
 abbrev pub sent : Command → Sent
 sent c = record { dev = c.dev; dir = dir_of c.bios; lba = lba_of c.bios; count = size c.bios }
 
-abbrev pub end_of : Plan → Rig → List Entry → View
+abbrev pub end_of : Plan → Rig → List ScheduleEntry → View
 end_of p rig es = run p rig (most_steps p) es (start p)
 
-abbrev pub sends_with : Plan → Rig → List Entry → List Sent
+abbrev pub sends_with : Plan → Rig → List ScheduleEntry → List Sent
 sends_with p rig es = map sent (end_of p rig es).commands
 
 -- the groups that are sent where every block is good
-abbrev pub sends_of : Plan → List Entry → List Sent
+abbrev pub sends_of : Plan → List ScheduleEntry → List Sent
 sends_of p es = sends_with p all_good es

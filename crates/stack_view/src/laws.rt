@@ -10,7 +10,7 @@ ghost use Rattle.range_gate.specs.Gates.{has_ended};
 ghost use Rattle.stack_view.specs.View.{View, Command, start, is_admitted, op_at, queue_at, group_at};
 ghost use Rattle.stack_view.specs.Open.{in_order, Completes};
 ghost use Rattle.stack_view.specs.Steps.{Step, Send, Complete, can, enabled, enabled_below, six_lists, chosen, step};
-ghost use Rattle.stack_view.specs.Runs.{Entry, Rig, all_good, blocks_of_requests, end_of, sends_with, sends_of};
+ghost use Rattle.stack_view.specs.Runs.{ScheduleEntry, Rig, all_good, blocks_of_requests, end_of, sends_with, sends_of};
 ghost use Rattle.merge_queue.specs.Index.{bios_in};
 ghost use Rattle.stack_view.specs.Formed.{Straight, IsGroup, Formed};
 ghost use Rattle.stack_view.specs.Room.{Accounted, unsettled, exchanges_left, exchanges_of, frames_left, frames_of};
@@ -76,25 +76,25 @@ pub fn each_piece_is_sent_once()
 
 /// A run ends, in few steps, with few sends, whatever the schedule and the rig.
 pub fn each_run_ends()
-    ensures sound { (p : Plan) (rig : Rig) (es : List Entry) → OnDevices p → RigSettles rig → Sound p (end_of p rig es) }
-    ensures ends { (p : Plan) (rig : Rig) (es : List Entry) → OnDevices p → RigSettles rig → enabled p (end_of p rig es) ≡ [] }
-    ensures steps { (p : Plan) (rig : Rig) (es : List Entry) → OnDevices p → RigSettles rig
+    ensures sound { (p : Plan) (rig : Rig) (es : List ScheduleEntry) → OnDevices p → RigSettles rig → Sound p (end_of p rig es) }
+    ensures ends { (p : Plan) (rig : Rig) (es : List ScheduleEntry) → OnDevices p → RigSettles rig → enabled p (end_of p rig es) ≡ [] }
+    ensures steps { (p : Plan) (rig : Rig) (es : List ScheduleEntry) → OnDevices p → RigSettles rig
         → (end_of p rig es).steps ≤ 2 * length p.requests + 5 * blocks_of_requests p.requests }
-    ensures sends { (p : Plan) (rig : Rig) (es : List Entry) → OnDevices p → RigSettles rig
+    ensures sends { (p : Plan) (rig : Rig) (es : List ScheduleEntry) → OnDevices p → RigSettles rig
         → length (sends_with p rig es) ≤ blocks_of_requests p.requests }
 {}
 
 /// Where all blocks are good and no entry cuts, no more is sent than there are greatest pieces.
 pub fn calm_runs_send_few()
     ensures good { RigSettles all_good }
-    ensures few { (p : Plan) (es : List Entry) → OnDevices p → All (λ e. e.cut ≡ 0) es → length (sends_of p es) ≤ greatest_pieces p 0 p.requests }
+    ensures few { (p : Plan) (es : List ScheduleEntry) → OnDevices p → All (λ e. e.cut ≡ 0) es → length (sends_of p es) ≤ greatest_pieces p 0 p.requests }
 {}
 
 /// Whatever the fates are, no more is sent than there are blocks. Where all blocks that were sent were good and nothing is
 /// enabled any more, the view is the end of the run in which all blocks are good.
 pub fn a_run_of_good_blocks_is_known_before()
-    ensures few { (p : Plan) (es : List Entry) (n : ℕ) (v : View) → OnDevices p → Comes p es n v → length v.commands ≤ blocks_of_requests p.requests }
-    ensures good { (p : Plan) (es : List Entry) (n : ℕ) (v : View) → OnDevices p → Comes p es n v → enabled p v ≡ [] → AllGood v.commands → v ≡ end_of p all_good es }
+    ensures few { (p : Plan) (es : List ScheduleEntry) (n : ℕ) (v : View) → OnDevices p → Comes p es n v → length v.commands ≤ blocks_of_requests p.requests }
+    ensures good { (p : Plan) (es : List ScheduleEntry) (n : ℕ) (v : View) → OnDevices p → Comes p es n v → enabled p v ≡ [] → AllGood v.commands → v ≡ end_of p all_good es }
 {}
 
 /// The greatest piece is within the limits, and no greater one is; a cut is within it.

@@ -3,6 +3,7 @@ use Rattle.pi_tuple.specs.Tuples.{tuple_bytes, tuple_in}
 use Rattle.pi_tuple.specs.declared.tuple.Tuple.{Tuple}
 use Rattle.pi_tuple.specs.declared.checks.PiType.{PiType}
 use Rattle.pi_tuple.specs.declared.checks.PiType.TheVariants.{Zero, One, Two, Three}
+use Rattle.pi_tuple.specs.declared.TheConstants.{TUPLE}
 
 -- A frame is a block's bytes of data, followed by the eight bytes of its tuple where a tuple travels.
 abbrev pub data_of : (size : ℕ) → List ℕ → List ℕ
@@ -17,13 +18,13 @@ frame_of bytes t = bytes ++ tuple_bytes t
 -- the bytes of a block on the medium: a unit of type 0 has data alone
 abbrev pub stored_size : PiType → (size : ℕ) → ℕ
 stored_size Zero size = size
-stored_size One size = size + 8
-stored_size Two size = size + 8
-stored_size Three size = size + 8
+stored_size One size = size + TUPLE
+stored_size Two size = size + TUPLE
+stored_size Three size = size + TUPLE
 
 -- the bytes of a block between host and target: under protect field 000b the data alone
 abbrev pub sent_size : (protect : ℕ) → (size : ℕ) → ℕ
-sent_size protect size = if eqb protect 0 then size else size + 8
+sent_size protect size = if eqb protect 0 then size else size + TUPLE
 
 -- so many frames of this length, one after another
 abbrev pub frames_of : (length_of_each : ℕ) → ℕ → List ℕ → List (List ℕ)

@@ -9,6 +9,7 @@ use Rattle.target_answer.specs.Frames.{stored_size, joined}
 use Rattle.target_answer.specs.declared.units.Version.{Version}
 use Rattle.target_answer.specs.declared.units.Version.TheVariants.{First, Second}
 use Rattle.target_answer.specs.declared.units.UnitSpec.{UnitSpec}
+use Rattle.target_answer.specs.declared.TheConstants.{MOST_LARGE, MOST_SMALL}
 
 -- The header of an image, of either version, is what one list of units is written as. A header is right where it is what was read from it, written again.
 
@@ -81,7 +82,7 @@ specs_in v b = specs_from v (min (two_at b 8) 8) (drop 16 b)
 
 -- the most blocks of a unit of this block size: no unit has another size than these two
 abbrev pub most_blocks : (size : ℕ) → ℕ
-most_blocks size = if eqb size 512 then 65536 else (if eqb size 4096 then 8192 else 0)
+most_blocks size = if eqb size 512 then MOST_SMALL else (if eqb size 4096 then MOST_LARGE else 0)
 
 -- a unit that an image may have
 abbrev pub is_spec : UnitSpec → Bool

@@ -24,6 +24,7 @@ use Rattle.target_answer.specs.declared.request.Request.TheVariants.{Read, Write
 use Rattle.target_answer.specs.Frames.{sent_size, frames_of, placed}
 use Rattle.target_answer.specs.Passing.{to_medium, from_medium}
 use Rattle.target_answer.specs.Requests.{request_of, is_foreign}
+use Rattle.sense_codes.specs.declared.codes.TheConstants.{PROTECTION, INVALID_OPCODE, INVALID_FIELD, OUT_OF_RANGE, WRITE_ERROR, UNRECOVERED_READ}
 
 -- What a unit answers to a command block.
 
@@ -44,7 +45,7 @@ illegal asc = record { key = 5; asc = asc; ascq = 0; info = None }
 
 -- ABORTED COMMAND with 10h and the check's qualifier, and the address of the block as information
 abbrev pub check_sense : Check → ℕ → Sense
-check_sense check lba = record { key = key_of Target; asc = 0x10; ascq = ascq_of check; info = Some lba }
+check_sense check lba = record { key = key_of Target; asc = PROTECTION; ascq = ascq_of check; info = Some lba }
 
 -- MEDIUM ERROR with 11h UNRECOVERED READ ERROR or 0Ch WRITE ERROR
 abbrev pub medium_sense : ℕ → ℕ → Sense
@@ -78,22 +79,22 @@ first_of [] = None
 first_of (r ∷ rest) = if r.comes then Some (illegal r.asc) else first_of rest
 
 abbrev pub foreign_form : UnitSpec → Cdb → Refusal
-foreign_form unit cdb = record { comes = is_foreign unit.ty cdb; asc = 0x20 }
+foreign_form unit cdb = record { comes = is_foreign unit.ty cdb; asc = INVALID_OPCODE }
 
 -- tuples are asked of a unit that has none
 abbrev pub no_tuples : UnitSpec → Rw → Refusal
-no_tuples unit c = record { comes = is_zero unit.ty && not (eqb c.protect 0); asc = 0x24 }
+no_tuples unit c = record { comes = is_zero unit.ty && not (eqb c.protect 0); asc = INVALID_FIELD }
 
 abbrev pub outside : UnitSpec → ℤ → ℕ → Refusal
-outside unit a n = record { comes = not (has_blocks unit a n); asc = 0x21 }
+outside unit a n = record { comes = not (has_blocks unit a n); asc = OUT_OF_RANGE }
 
 -- a block is fetched from outside the unit; a command of no blocks fetches none
 abbrev pub fetched_outside : UnitSpec → ℤ → ℕ → Refusal
-fetched_outside unit a n = record { comes = not (eqb n 0) && not (has_blocks unit a n); asc = 0x21 }
+fetched_outside unit a n = record { comes = not (eqb n 0) && not (has_blocks unit a n); asc = OUT_OF_RANGE }
 
 -- the host's buffer hasn't the length of what is transferred
 abbrev pub wrong_room : (has wants : ℕ) → Refusal
-wrong_room has wants = record { comes = not (eqb has wants); asc = 0x24 }
+wrong_room has wants = record { comes = not (eqb has wants); asc = INVALID_FIELD }
 
 -- the bytes that a command transfers
 abbrev pub bytes_of : (size : ℕ) → Rw → ℕ
@@ -112,9 +113,9 @@ refusals_of unit cdb (Verify c) faults labels out room =
     foreign_form unit cdb ∷ no_tuples unit c ∷ outside unit (pos c.lba) c.n ∷ []
 
 abbrev pub asc_of : CdbFault → ℕ
-asc_of Opcode = 0x20
-asc_of Field = 0x24
-asc_of Length = 0x24
+asc_of Opcode = INVALID_OPCODE
+asc_of Field = INVALID_FIELD
+asc_of Length = INVALID_FIELD
 
 -- the first refusal of a command block, if there is one
 unfoldable pub refusal : UnitSpec → Result Cdb CdbFault → List FaultLine → List Label → (out room : ℕ) → Option Sense
@@ -160,7 +161,7 @@ abbrev pub write_end : (lba : ℕ) → List (Result (List ℕ) Check) → Option
 write_end lba judged None = whole lba judged
 write_end lba judged (Some s) =
     if ltb s.at (length (passed judged))
-    then record { done = s.at; sense = Some (medium_sense 0x0C (lba + s.at)); frames = take s.at (passed judged) ++ (s.left ∷ []) }
+    then record { done = s.at; sense = Some (medium_sense WRITE_ERROR (lba + s.at)); frames = take s.at (passed judged) ++ (s.left ∷ []) }
     else whole lba judged
 
 -- of a read: a store call that fails comes before the check of its block, and ends the prefix there
@@ -168,7 +169,7 @@ abbrev pub read_end : (lba : ℕ) → List (Result (List ℕ) Check) → Option 
 read_end lba judged None = whole lba judged
 read_end lba judged (Some s) =
     if ltb s.at (length (passed judged) + 1) && ltb s.at (length judged)
-    then record { done = s.at; sense = Some (medium_sense 0x11 (lba + s.at)); frames = take s.at (passed judged) }
+    then record { done = s.at; sense = Some (medium_sense UNRECOVERED_READ (lba + s.at)); frames = take s.at (passed judged) }
     else whole lba judged
 
 -- the frames are stored from this index on, or sent, or neither

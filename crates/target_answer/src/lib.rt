@@ -10,3 +10,11 @@ mod units;
 pub use passage::Passage;
 pub use request::{Request, is_foreign, request_of};
 pub use units::{UnitSpec, Version, header, is_header, is_layout, is_spec, specs_in, version_of};
+
+/// The bytes of the largest frame: 4,096 of data and a tuple.
+pub const MOST_FRAME: usize = 4104;
+
+/// The most blocks that a unit with blocks of 512 bytes has, and one with blocks of 4,096.
+pub(crate) const MOST_SMALL: u64 = 65_536;
+
+pub(crate) const MOST_LARGE: u64 = 8192;

@@ -8,6 +8,7 @@ ghost use Rattle.arrayvec.specs.ArrayVec.{array_vec_len};
 ghost use Rattle.cdb_codec.specs.Decoded.{eight_at};
 ghost use Rattle.target_answer.specs.Headers.{entry_1, entry_2, entry_of, exponent_of, entry_size, header, is_header, is_layout, is_spec, magic_of, most_blocks, number_of, spec_of, specs_in, type_of, version_of};
 
+use crate::{MOST_LARGE, MOST_SMALL};
 use arrayvec::ArrayVec;
 use pi_tuple::PiType;
 
@@ -237,8 +238,8 @@ fn most_blocks(size: u32) -> u64
     ensures { result ≡ most_blocks size }
 {
     match size {
-        512 => 65536,
-        4096 => 8192,
+        512 => MOST_SMALL,
+        4096 => MOST_LARGE,
         _ => 0,
     }
 }

@@ -14,6 +14,7 @@ use Rattle.target_answer.specs.declared.units.UnitSpec.{UnitSpec}
 use Rattle.rig_api.specs.Telling.{HasCause, at_front, holding}
 use Rattle.rig_api.specs.declared.rig.Outcome.{Outcome}
 use Rattle.target_model.specs.declared.unit.LogicalUnit.{LogicalUnit}
+use Rattle.sense_codes.specs.declared.codes.TheConstants.{WRITE_ERROR, UNRECOVERED_READ}
 
 -- the unit without its blocks
 abbrev pub shape_in : LogicalUnit → UnitSpec
@@ -58,7 +59,7 @@ pub record Served (u : LogicalUnit) (answer : Option Stop → Answer) (old new :
 abbrev pub StoredOrFailed : List ℕ → (place lba old new : ℕ) → List ℕ → Option Sense → Option (List ℕ) → Type 0
 StoredOrFailed frame place lba old new was None now = now ≡ Some (over place frame was)
 StoredOrFailed frame place lba old new was (Some sense) now =
-    Rose old new × (sense ≡ medium_sense 0x0C lba) × ((left : List ℕ) × (length left ≡ length frame) × (now ≡ Some (over place left was)))
+    Rose old new × (sense ≡ medium_sense WRITE_ERROR lba) × ((left : List ℕ) × (length left ≡ length frame) × (now ≡ Some (over place left was)))
 
 -- how one block of a write ends, of which this came at the target
 abbrev pub BlockWritten : Result (List ℕ) Check → (size place lba old new : ℕ) → List ℕ → Option Sense → Option (List ℕ) → Type 0
@@ -69,7 +70,7 @@ BlockWritten (Ok frame) size place lba old new was result now = (length frame �
 abbrev pub BlockRead : Result (List ℕ) Check → (size lba old new : ℕ) → Option Sense → List ℕ → Type 0
 BlockRead judged size lba old new None frame = judged ≡ Ok (take size frame)
 BlockRead judged size lba old new (Some sense) frame =
-    (Rose old new × (sense ≡ medium_sense 0x11 lba)) ⊎ ((check : Check) × (judged ≡ Err check) × (sense ≡ check_sense check lba))
+    (Rose old new × (sense ≡ medium_sense UNRECOVERED_READ lba)) ⊎ ((check : Check) × (judged ≡ Err check) × (sense ≡ check_sense check lba))
 
 -- how the blocks of a write end: the frames that were stored stand one after another from this place on
 pub record AllWritten (end : Option Stop → Ended) (frame place old new : ℕ) (was : List ℕ) (now : Option (List ℕ)) (result : Outcome) : Type 0 where

@@ -12,6 +12,7 @@ use crate::sense::{aborted, medium};
 use dix_base::{Failed, Store};
 use fault_schedule::Tamper;
 use sense_codes::Sense;
+use sense_codes::codes::{UNRECOVERED_READ, WRITE_ERROR};
 use target_answer::Passage;
 
 /// Takes a block from the host to its place in the store. `frame` is scratch of the length of a
@@ -39,7 +40,7 @@ pub(crate) fn write_block<S: Store>(
         Some(check) => Some(aborted(check, block.lba)),
         None => match store.write_at(place, frame) {
             Ok(()) => None,
-            Err(Failed) => Some(medium(0x0C, block.lba)),
+            Err(Failed) => Some(medium(WRITE_ERROR, block.lba)),
         },
     }
 }
@@ -69,6 +70,6 @@ pub(crate) fn read_block<S: Store>(
             Some(check) => Some(aborted(check, block.lba)),
             None => None,
         },
-        Err(Failed) => Some(medium(0x11, block.lba)),
+        Err(Failed) => Some(medium(UNRECOVERED_READ, block.lba)),
     }
 }

@@ -7,11 +7,13 @@ ghost use Rattle.target_model.specs.Served.{FitsFrame, HasBlocks};
 ghost use Rattle.target_answer.specs.Target.{bytes_of, first_of, has_blocks, illegal, medium_address, refusals_of, shift_by_first, wire_address};
 ghost use Rattle.target_answer.specs.declared.request.Request.TheVariants.{Read, ReadCapacity, Verify, Write};
 ghost use Rattle.target_answer.specs.declared.units.UnitSpec.{UnitSpec};
+ghost use Rattle.pi_tuple.specs.declared.TheConstants.{LARGEST_BLOCK};
 
 use crate::unit::sent_size;
 use cdb_codec::{Cdb, Rw};
 use fault_schedule::{Crossing, Label, Tamper};
 use pi_tuple::PiType;
+use sense_codes::codes::{INVALID_FIELD, INVALID_OPCODE, OUT_OF_RANGE};
 use target_answer::{UnitSpec, is_foreign};
 
 fn shift_by_first(tamper: &Tamper, at: Crossing, labels: &[Label]) -> i64
@@ -71,7 +73,7 @@ fn lacks_tuples(unit: UnitSpec, c: Rw) -> bool
 
 /// The bytes that a command transfers.
 fn bytes_of(size: u32, c: Rw) -> u64
-    requires { size ≤ 4096 }
+    requires { size ≤ LARGEST_BLOCK }
     ensures { result ≡ bytes_of size c }
 {
     c.n as u64 * sent_size(c.protect, size) as u64
@@ -87,7 +89,7 @@ pub(crate) fn taken_write(
     labels: &[Label],
     out: usize,
 ) -> Result<u64, u8>
-    requires size { unit.size ≤ 4096 }
+    requires size { unit.size ≤ LARGEST_BLOCK }
     requires fits { unit.first + unit.blocks < 2 ^ 64 }
     ensures refused { IfErr result (λ asc. first_of (refusals_of unit cdb (Write c) tamper.now labels.now out 0) ≡ Some (illegal asc)) }
     ensures taken { OnOk result (first_of (refusals_of unit cdb (Write c) tamper.now labels.now out 0) ≡ None) }
@@ -97,19 +99,19 @@ pub(crate) fn taken_write(
     ensures room { OnOk result (out ≡ bytes_of unit.size c) }
 {
     if is_foreign(unit.ty, cdb) {
-        return Err(0x20);
+        return Err(INVALID_OPCODE);
     }
     if lacks_tuples(unit, c) {
-        return Err(0x24);
+        return Err(INVALID_FIELD);
     }
     let Some(lba) = wire_lba(tamper, labels, c) else {
-        return Err(0x21);
+        return Err(OUT_OF_RANGE);
     };
     if !has_blocks(unit, lba, c.n) {
-        return Err(0x21);
+        return Err(OUT_OF_RANGE);
     }
     if out as u64 != bytes_of(unit.size, c) {
-        return Err(0x24);
+        return Err(INVALID_FIELD);
     }
     Ok(lba)
 }
@@ -152,7 +154,7 @@ pub(crate) fn taken_read(
     labels: &[Label],
     room: usize,
 ) -> Result<(u64, u64), u8>
-    requires size { unit.size ≤ 4096 }
+    requires size { unit.size ≤ LARGEST_BLOCK }
     requires fits { unit.first + unit.blocks < 2 ^ 64 }
     ensures refused { IfErr result (λ asc. first_of (refusals_of unit cdb (Read c) tamper.now labels.now 0 room) ≡ Some (illegal asc)) }
     ensures taken { OnOk result (first_of (refusals_of unit cdb (Read c) tamper.now labels.now 0 room) ≡ None) }
@@ -164,22 +166,22 @@ pub(crate) fn taken_read(
     ensures room { OnOk result (room ≡ bytes_of unit.size c) }
 {
     if is_foreign(unit.ty, cdb) {
-        return Err(0x20);
+        return Err(INVALID_OPCODE);
     }
     if lacks_tuples(unit, c) {
-        return Err(0x24);
+        return Err(INVALID_FIELD);
     }
     let Some(lba) = wire_lba(tamper, labels, c) else {
-        return Err(0x21);
+        return Err(OUT_OF_RANGE);
     };
     if !has_blocks(unit, lba, c.n) {
-        return Err(0x21);
+        return Err(OUT_OF_RANGE);
     }
     let Some(from) = fetched_from(unit, tamper, labels, lba, c.n) else {
-        return Err(0x21);
+        return Err(OUT_OF_RANGE);
     };
     if room as u64 != bytes_of(unit.size, c) {
-        return Err(0x24);
+        return Err(INVALID_FIELD);
     }
     Ok((lba, from))
 }
@@ -192,13 +194,13 @@ pub(crate) fn taken_verify(unit: UnitSpec, cdb: Cdb, c: Rw) -> Result<(), u8>
     ensures frame { OnOk result (FitsFrame unit c) }
 {
     if is_foreign(unit.ty, cdb) {
-        return Err(0x20);
+        return Err(INVALID_OPCODE);
     }
     if lacks_tuples(unit, c) {
-        return Err(0x24);
+        return Err(INVALID_FIELD);
     }
     if !has_blocks(unit, c.lba, c.n) {
-        return Err(0x21);
+        return Err(OUT_OF_RANGE);
     }
     Ok(())
 }

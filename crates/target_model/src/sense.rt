@@ -6,13 +6,14 @@ ghost use Rattle.target_answer.specs.Target.{check_sense, illegal, medium_sense}
 
 use pi_tuple::Check;
 use sense_codes::Sense;
+use sense_codes::codes::{ABORTED_COMMAND, ILLEGAL_REQUEST, MEDIUM_ERROR, PROTECTION};
 
 /// ILLEGAL REQUEST.
 pub(crate) fn illegal(asc: u8) -> Sense
     ensures { result ≡ illegal asc }
 {
     Sense {
-        key: 5,
+        key: ILLEGAL_REQUEST,
         asc,
         ascq: 0,
         info: None,
@@ -24,7 +25,7 @@ pub(crate) fn medium(asc: u8, lba: u64) -> Sense
     ensures { result ≡ medium_sense asc lba }
 {
     Sense {
-        key: 3,
+        key: MEDIUM_ERROR,
         asc,
         ascq: 0,
         info: Some(lba),
@@ -46,8 +47,8 @@ pub(crate) fn aborted(check: Check, lba: u64) -> Sense
     ensures { result ≡ check_sense check lba }
 {
     Sense {
-        key: 11,
-        asc: 0x10,
+        key: ABORTED_COMMAND,
+        asc: PROTECTION,
         ascq: qualifier(check),
         info: Some(lba),
     }

@@ -18,6 +18,7 @@ use dix_base::Store;
 use fault_schedule::{Label, Tamper};
 use pi_tuple::PiType;
 use rig_api::Outcome;
+use sense_codes::codes::{INVALID_FIELD, INVALID_OPCODE};
 use target_answer::{Request, UnitSpec, request_of};
 
 /// ILLEGAL REQUEST, and no block is done.
@@ -159,13 +160,13 @@ fn capacity_data(unit: UnitSpec) -> [u8; 32]
 fn read_capacity(unit: &LogicalUnit, alloc_len: u32, into: &mut [u8]) -> Outcome
     requires some { 1 ≤ unit.now.blocks }
     requires fits { unit.now.first + unit.now.blocks < 2 ^ 64 }
-    ensures refused { length into.old ≢ min alloc_len 32 → (result ≡ record { done = 0; sense = Some (illegal 0x24) }) × (into.new ≡ into.old) }
+    ensures refused { length into.old ≢ min alloc_len 32 → (result ≡ record { done = 0; sense = Some (illegal INVALID_FIELD) }) × (into.new ≡ into.old) }
     ensures told { length into.old ≡ min alloc_len 32
         → (result ≡ record { done = 0; sense = None }) × (into.new ≡ take (min alloc_len 32) (capacity_data (shape_in unit.now))) }
 {
     let count = alloc_len.min(32) as usize;
     if into.len() != count {
-        return refused(0x24);
+        return refused(INVALID_FIELD);
     }
     let data = capacity_data(unit.shape());
     into.copy_from_slice(&data[..count]);
@@ -179,9 +180,9 @@ fn asc_of(fault: CdbFault) -> u8
     ensures { result ≡ asc_of fault }
 {
     match fault {
-        CdbFault::Opcode => 0x20,
-        CdbFault::Field => 0x24,
-        CdbFault::Length => 0x24,
+        CdbFault::Opcode => INVALID_OPCODE,
+        CdbFault::Field => INVALID_FIELD,
+        CdbFault::Length => INVALID_FIELD,
     }
 }
 

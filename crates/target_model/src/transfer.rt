@@ -15,7 +15,7 @@ use dix_base::Store;
 use fault_schedule::{Label, Tamper};
 use rig_api::Outcome;
 use sense_codes::Sense;
-use target_answer::{Passage, UnitSpec};
+use target_answer::{MOST_FRAME, Passage, UnitSpec};
 
 /// The blocks of a command: the unit, the command's fields, and the LBA of the first block, as
 /// the target was told it.
@@ -72,7 +72,7 @@ pub(crate) fn write_blocks<S: Store>(
     ensures key { has_key result.sense ≡ true }
     ensures stays { WasWritten (S.state store.old) (S.state store.new) }
 {
-    let mut buffer = [0u8; 4104];
+    let mut buffer = [0u8; MOST_FRAME];
     let stored = block_bytes(blocks.unit);
     let sent = sent_size(blocks.fields.protect, blocks.unit.size);
     let mut rest = out;
@@ -118,7 +118,7 @@ pub(crate) fn read_blocks<S: Store>(
     ensures key { has_key result.sense ≡ true }
     ensures stays { WasRead (S.state store.old) (S.state store.new) }
 {
-    let mut buffer = [0u8; 4104];
+    let mut buffer = [0u8; MOST_FRAME];
     let stored = block_bytes(blocks.unit);
     let sent = sent_size(blocks.fields.protect, blocks.unit.size);
     let mut at = place;
@@ -154,7 +154,7 @@ pub(crate) fn verify_blocks<S: Store>(
     ensures key { has_key result.sense ≡ true }
     ensures stays { WasRead (S.state store.old) (S.state store.new) }
 {
-    let mut buffer = [0u8; 4104];
+    let mut buffer = [0u8; MOST_FRAME];
     let stored = block_bytes(blocks.unit);
     let mut at = place;
     for k in 0..blocks.fields.n {

@@ -10,7 +10,7 @@ use Rattle.target_answer.specs.Headers.{header, image_size, is_header, specs_in}
 use Rattle.target_answer.specs.declared.units.UnitSpec.{UnitSpec}
 use Rattle.target_answer.specs.declared.units.Version.TheVariants.{Second}
 use Rattle.rig_api.specs.Head.{Head, head_fault, units_of}
-use Rattle.rig_api.specs.Log.{Entry, Room, has_key, have_keys}
+use Rattle.rig_api.specs.Log.{LogEntry, Room, has_key, have_keys}
 use Rattle.rig_api.specs.Telling.{IsStanding, Standing, greatest, greatest_size, no_spec, spec_at, specs_of}
 use Rattle.rig_api.specs.declared.rig.Record.{Record}
 
@@ -58,7 +58,7 @@ ready_of devices h = by (eight_or_none devices h)
 
 -- ---- the one record
 
-abbrev pub entries : Option Record → List Label → (moved : List ℕ) → List Entry
+abbrev pub entries : Option Record → List Label → (moved : List ℕ) → List LogEntry
 entries None labels moved = []
 entries (Some r) labels moved = record { what = r; labels = labels; moved = moved } ∷ []
 

@@ -28,4 +28,3 @@ pub no_second : {Z : Type 0} (ws : List (String Z)) → length ws < 2 → [] ≡
 no_second [] h = refl
 no_second (a ∷ []) h = refl
 no_second (a ∷ b ∷ ws) h = absurd (omega arith)
-

@@ -6,6 +6,7 @@ use Rattle.script_lines.specs.declared.kind.ScriptKind.TheVariants.{Memory, NoHe
 use Rattle.vector_lines.specs.Lines.{line_form}
 use Rattle.vector_lines.specs.declared.line.VectorLine.{VectorLine}
 use Rattle.script_text.specs.declared.fault.ScriptFault.{ScriptFault}
+use Rattle.source_text.specs.declared.TheConstants.{MOST_BYTES}
 
 -- A list of commands: a text whose first line that isn't skipped is dix vectors 1, and lines of commands behind it.
 
@@ -61,7 +62,7 @@ head_read number (line ∷ lines) =
 
 -- the commands of a text, which has at most 4,194,304 bytes, or its first fault
 abbrev pub list_in : List ℕ → Result (List VectorLine) ScriptFault
-list_in text = if nat_lt 4194304 (length text) then Err (record { line = 0; kind = TooMany }) else head_read 1 (lines_of text)
+list_in text = if nat_lt MOST_BYTES (length text) then Err (record { line = 0; kind = TooMany }) else head_read 1 (lines_of text)
 
 -- A reader gave this and now has so many lines, or wanted memory.
 abbrev pub Takes : Result (List VectorLine) ScriptKind → Result (Unit {0}) ScriptKind → List VectorLine → Type 0

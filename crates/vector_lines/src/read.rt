@@ -9,10 +9,8 @@ use crate::line::{VectorLine, is_same, line_of};
 use script_lines::{ScriptKind, Words};
 use script_text::ScriptFault;
 use script_words::{is_plain, next_line, next_word};
+use source_text::MOST_BYTES;
 use std::alloc::Global;
-
-/// A text has at most this many bytes.
-const MOST_BYTES: usize = 4_194_304;
 
 /// Whether a line is skipped: it has no words, or its first begins with `#`.
 fn is_skipped(line: &[u8]) -> bool
@@ -62,7 +60,7 @@ pub fn is_list(text: &[u8]) -> bool
 
 /// The number of the line behind the first line of a list, and what stands from there on.
 fn skip_head(text: &[u8]) -> Result<(u32, &[u8]), ScriptFault>
-    requires { length text.now ≤ 4194304 }
+    requires { length text.now ≤ MOST_BYTES }
     ensures head { IfOk result (λ p. lines_read p.0 (lines_of p.1.now) [] ≡ head_read 1 (lines_of text.now)) }
     ensures few { IfOk result (λ p. p.0 + length p.1.now ≤ 4194305) }
     ensures fault { IfErr result (λ f. head_read 1 (lines_of text.now) ≡ Err f) }

@@ -2,7 +2,7 @@
 use Rattle.std.proofs.Common.{ℕ, suc, ◌≡◌, inl, inr, ◌+◌, ◌≤◌, List, [], ◌∷◌, ◌++◌, length, drop, Result, Ok, Err, refl, sym, ap, subst, ◌∙◌, arith, append_assoc, length-append}
 use Rattle.std.specs.Prelude.{MatchResult}
 use Rattle.std.proofs.Math.Seq.{drop-append_seam}
-use Rattle.rig_api.specs.Log.{Entry}
+use Rattle.rig_api.specs.Log.{LogEntry}
 use Rattle.rig_api.specs.Telling.{Standing}
 use Rattle.rig_api.specs.State.{RigState}
 use Rattle.rig_discovery.specs.Discovery.{looks}
@@ -21,27 +21,27 @@ use Rattle.vector_runs.proofs.Opens.{played_goes, refused_goes}
 use Rattle.vector_runs.proofs.Whole.{list_complete, script_complete}
 
 -- each line has one record
-same_length : (s : Standing) (ls : List VectorLine) (es : List Entry) → AreRecords s ls es → length es ≡ length ls
+same_length : (s : Standing) (ls : List VectorLine) (es : List LogEntry) → AreRecords s ls es → length es ≡ length ls
 same_length s [] [] d = refl
 same_length s [] (e ∷ es) d = absurd d
 same_length s (l ∷ ls) [] d = absurd d
 same_length s (l ∷ ls) (e ∷ es) d = ap suc (same_length s ls es d.1)
 
 -- the records behind those of before
-rest_is : (old new more : List Entry) (first : ℕ) → first ≡ length old → new ≡ old ++ more → new ≡ old ++ drop first new
+rest_is : (old new more : List LogEntry) (first : ℕ) → first ≡ length old → new ≡ old ++ more → new ≡ old ++ drop first new
 rest_is old new more first e h = h ∙ ap (λ v. old ++ v) (sym (ap (λ k. drop k new) e ∙ ap (drop (length old)) h ∙ drop-append_seam old more))
 
-enough : (old new more : List Entry) (first n : ℕ) → first ≡ length old → new ≡ old ++ more → length more ≡ n → first + n ≤ length new
+enough : (old new more : List LogEntry) (first n : ℕ) → first ≡ length old → new ≡ old ++ more → length more ≡ n → first + n ≤ length new
 enough old new more first n e h m = let l = ap length h ∙ length-append old more in omega (arith, e, m, l)
 
 -- those of a run
-abbrev run_more : (run : Finished) (script : Script) (name : List ℕ) (old new : RigState) → HasRun run script name old new → List Entry
+abbrev run_more : (run : Finished) (script : Script) (name : List ℕ) (old new : RigState) → HasRun run script name old new → List LogEntry
 run_more run script name old new r = looks r.asked.told.between.standing 0 r.asked.told.found.answers ++ r.followed.goes.more
 
 run_log : (run : Finished) (script : Script) (name : List ℕ) (old new : RigState) (r : HasRun run script name old new) → new.log ≡ old.log ++ run_more run script name old new r
 run_log run script name old new r =
     let told = r.asked.told in
-    let asks : List Entry = looks told.between.standing 0 told.found.answers in
+    let asks : List LogEntry = looks told.between.standing 0 told.found.answers in
     let asked : r.told.log ≡ old.log ++ asks = told.found.log ∙ ap (λ v. v ++ asks) told.since.kept.log in
     r.followed.goes.records ∙ ap (λ v. v ++ r.followed.goes.more) asked ∙ append_assoc old.log asks r.followed.goes.more
 

@@ -7,14 +7,14 @@ use Rattle.dix_base.proofs.Counts.{calm_first, calm_then}
 use Rattle.fault_schedule.specs.declared.fault.FaultLine.{FaultLine}
 use Rattle.target_answer.specs.Frames.{joined}
 use Rattle.target_answer.specs.Target.{Answer, Stored}
-use Rattle.rig_api.specs.Log.{Entry, Room, entry_of}
+use Rattle.rig_api.specs.Log.{LogEntry, Room, entry_of}
 use Rattle.rig_api.specs.declared.rig.Outcome.{Outcome}
 use Rattle.rig_api.specs.Telling.{IsAnswer, Standing, answer_of, at_front}
 use Rattle.rig_api.specs.State.{Exchanged, RigState}
 use Rattle.vector_lines.specs.declared.line.VectorLine.{VectorLine}
 use Rattle.vector_runs.specs.Done.{AreRecords, HaveDone, HaveDoneSome, IsRecord, Stays, WasDone, answer_to, answers_over, entry_to, room_of, size_of, units_over, units_to}
 
-records_more : (s : Standing) (ls : List VectorLine) (es : List Entry) (l : VectorLine) (e : Entry) → AreRecords s ls es → IsRecord s l e → AreRecords s (ls ++ (l ∷ [])) (es ++ (e ∷ []))
+records_more : (s : Standing) (ls : List VectorLine) (es : List LogEntry) (l : VectorLine) (e : LogEntry) → AreRecords s ls es → IsRecord s l e → AreRecords s (ls ++ (l ∷ [])) (es ++ (e ∷ []))
 records_more s [] [] l e d w = (w, tt)
 records_more s [] (x ∷ es) l e d w = absurd d
 records_more s (x ∷ ls) [] l e d w = absurd d
@@ -22,7 +22,7 @@ records_more s (x ∷ ls) (y ∷ es) l e d w = (d.0, records_more s ls es l e d.
 
 answers_more : (s : Standing) (us : List Stored) (ls : List VectorLine) (l : VectorLine) → answers_over s us (ls ++ (l ∷ [])) ≡ answers_over s us ls ++ (entry_to s (units_over s us ls) l ∷ [])
 answers_more s us [] l = refl
-answers_more s us (x ∷ ls) l = ap (λ (v : List Entry). entry_to s us x ∷ v) (answers_more s (units_to s us x) ls l)
+answers_more s us (x ∷ ls) l = ap (λ (v : List LogEntry). entry_to s us x ∷ v) (answers_more s (units_to s us x) ls l)
 
 units_more : (s : Standing) (us : List Stored) (ls : List VectorLine) (l : VectorLine) → units_over s us (ls ++ (l ∷ [])) ≡ units_to s (units_over s us ls) l
 units_more s us [] l = refl
@@ -45,14 +45,14 @@ none_done v = record {
 done_more : (ls : List VectorLine) (l : VectorLine) (a b c : RigState) → HaveDone ls a b → WasDone l b c → HaveDone (ls ++ (l ∷ [])) a c
 done_more ls l a b c x y = record {
   entries = x.entries ++ (y.entry ∷ []);
-  log = y.log ∙ ap (λ (v : List Entry). v ++ (y.entry ∷ [])) x.log ∙ append_assoc a.log x.entries (y.entry ∷ []);
+  log = y.log ∙ ap (λ (v : List LogEntry). v ++ (y.entry ∷ [])) x.log ∙ append_assoc a.log x.entries (y.entry ∷ []);
   records = records_more a.standing ls x.entries l y.entry x.records (subst (λ (s : Standing). IsRecord s l y.entry) x.standing y.is);
   told = λ us e q.
       let first = x.told us e (calm_first a.faults b.faults c.faults y.count q) in
       let then = y.told (units_over a.standing us ls) first.1 (calm_then a.faults b.faults c.faults x.count q) in
       let entry : y.entry ≡ entry_to a.standing (units_over a.standing us ls) l = then.0 ∙ ap (λ (s : Standing). entry_to s (units_over a.standing us ls) l) x.standing in
       let units : units_to b.standing (units_over a.standing us ls) l ≡ units_to a.standing (units_over a.standing us ls) l = ap (λ (s : Standing). units_to s (units_over a.standing us ls) l) x.standing in (
-        ap (λ (v : List Entry). v ++ (y.entry ∷ [])) first.0 ∙ ap (λ (v : Entry). answers_over a.standing us ls ++ (v ∷ [])) entry ∙ sym (answers_more a.standing us ls l),
+        ap (λ (v : List LogEntry). v ++ (y.entry ∷ [])) first.0 ∙ ap (λ (v : LogEntry). answers_over a.standing us ls ++ (v ∷ [])) entry ∙ sym (answers_more a.standing us ls l),
         then.1 ∙ ap Some (units ∙ sym (units_more a.standing us ls l)),
       );
   tells = y.tells ∙ x.tells;

@@ -2,7 +2,7 @@ use Rattle.std.specs.Prelude.{ℕ, ◌≡◌, ◌≤◌, List, [], ◌∷◌, �
 use Rattle.dix_base.specs.Told.{Calm}
 use Rattle.target_answer.specs.Frames.{joined}
 use Rattle.target_answer.specs.Target.{Answer, Stored}
-use Rattle.rig_api.specs.Log.{Entry, entry_of}
+use Rattle.rig_api.specs.Log.{LogEntry, entry_of}
 use Rattle.rig_api.specs.Telling.{Standing, answer_of, at_front, spec_at, with_blocks}
 use Rattle.rig_api.specs.declared.rig.Outcome.{Outcome}
 use Rattle.rig_api.specs.State.{RigState}
@@ -16,14 +16,14 @@ abbrev pub size_of : Standing → VectorLine → ℕ
 size_of s l = (spec_at s l.dev).size
 
 -- The record is that of the line's command on the line's device, with this outcome and these bytes in the room for what it reads.
-pub record IsRecord (s : Standing) (l : VectorLine) (e : Entry) : Type 0 where
+pub record IsRecord (s : Standing) (l : VectorLine) (e : LogEntry) : Type 0 where
   pub outcome : Outcome
   pub into : List ℕ
   pub room : length into ≡ room_of (size_of s l) l.cdb
   pub entry : e ≡ entry_of (size_of s l) l.dev l.cdb [] outcome l.out into
 
 -- Each line has one record, in their order.
-abbrev pub AreRecords : Standing → List VectorLine → List Entry → Type 0
+abbrev pub AreRecords : Standing → List VectorLine → List LogEntry → Type 0
 AreRecords s [] [] = Unit {0}
 AreRecords s [] (e ∷ es) = ⊥
 AreRecords s (l ∷ ls) [] = ⊥
@@ -35,18 +35,18 @@ AreRecords s (l ∷ ls) (e ∷ es) = IsRecord s l e × AreRecords s ls es
 abbrev pub answer_to : Standing → List Stored → VectorLine → Answer
 answer_to s us l = answer_of us [] l.dev l.cdb [] l.out (room_of (size_of s l) l.cdb) None
 
-abbrev pub entry_by : Standing → VectorLine → Answer → Entry
+abbrev pub entry_by : Standing → VectorLine → Answer → LogEntry
 entry_by s l a = entry_of (size_of s l) l.dev l.cdb [] (record { done = a.done; sense = a.sense }) l.out (at_front (joined a.sent) (replicate (room_of (size_of s l) l.cdb) 0))
 
 -- its record, and the units after it
-abbrev pub entry_to : Standing → List Stored → VectorLine → Entry
+abbrev pub entry_to : Standing → List Stored → VectorLine → LogEntry
 entry_to s us l = entry_by s l (answer_to s us l)
 
 abbrev pub units_to : Standing → List Stored → VectorLine → List Stored
 units_to s us l = with_blocks us l.dev (answer_to s us l).blocks
 
 -- the records of all lines, one after another, and the units after the last
-abbrev pub answers_over : Standing → List Stored → List VectorLine → List Entry
+abbrev pub answers_over : Standing → List Stored → List VectorLine → List LogEntry
 answers_over s us [] = []
 answers_over s us (l ∷ ls) = entry_to s us l ∷ answers_over s (units_to s us l) ls
 
@@ -58,7 +58,7 @@ units_over s us (l ∷ ls) = units_over s (units_to s us l) ls
 
 -- The commands of these lines were done, and nothing else. Over any rig each has one record, in order; where the blocks are told and the count of faults didn't rise, records and blocks are the units' answers, one after another.
 pub record HaveDone (lines : List VectorLine) (old new : RigState) : Type 0 where
-  pub entries : List Entry
+  pub entries : List LogEntry
   pub log : new.log ≡ old.log ++ entries
   pub records : AreRecords old.standing lines entries
   pub told : (us : List Stored) → old.units ≡ Some us → Calm old.faults new.faults
@@ -77,7 +77,7 @@ pub record HaveDoneSome (lines : List VectorLine) (old new : RigState) : Type 0 
 
 -- The command of a line was done, or, where there was no memory, not.
 pub record WasDone (l : VectorLine) (old new : RigState) : Type 0 where
-  pub entry : Entry
+  pub entry : LogEntry
   pub log : new.log ≡ old.log ++ (entry ∷ [])
   pub is : IsRecord old.standing l entry
   pub told : (us : List Stored) → old.units ≡ Some us → Calm old.faults new.faults

@@ -2,7 +2,7 @@ use Rattle.std.specs.Prelude.{ℕ, ◌≡◌, ◌+◌, ◌≤◌, ◌⊎◌, tru
 use Rattle.dix_base.specs.Told.{Calm}
 use Rattle.image_commands.specs.Views.{OpenedOnce}
 use Rattle.rig_api.specs.Head.{head_fault, head_of, units_of}
-use Rattle.rig_api.specs.Log.{Entry}
+use Rattle.rig_api.specs.Log.{LogEntry}
 use Rattle.rig_api.specs.State.{RigState}
 use Rattle.script_text.specs.Bindings.{binding_fault}
 use Rattle.script_text.specs.Language.{script_in}
@@ -30,7 +30,7 @@ first_of (played.Listed lines first) = first
 first_of (played.Ran run) = run.first
 
 -- the vectors of the records of the call: of a list each with what its line sends, of a script each with its moved bytes
-abbrev pub played_text : Played → List Entry → List ℕ
+abbrev pub played_text : Played → List LogEntry → List ℕ
 played_text (played.Listed lines first) entries = list_text lines.items entries
 played_text (played.Ran run) entries = vectors_text entries
 
@@ -61,7 +61,7 @@ ScriptPlayed (played.Listed ls first) script name old new = ⊥
 ScriptPlayed (played.Ran run) script name old new = HasRun run script name old new
 
 -- The rig has the records whose vectors are to be written.
-abbrev pub AreLogged : Played → List Entry → Type 0
+abbrev pub AreLogged : Played → List LogEntry → Type 0
 AreLogged (played.Listed lines first) log = first + length lines.items ≤ length log
 AreLogged (played.Ran run) log = run.first ≤ length log
 

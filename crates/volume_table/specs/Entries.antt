@@ -5,6 +5,7 @@ use Rattle.stripe_volume.specs.Stripes.{leg, leg_len, stripe_place, stripe_run}
 use Rattle.volume_table.specs.declared.entry.Entry.{Entry}
 use Rattle.volume_table.specs.declared.entry.Entry.TheVariants.{Linear, Stripe}
 use Rattle.volume_table.specs.declared.extent.Extent.{Extent}
+use Rattle.volume_table.specs.declared.TheConstants.{MOST_LENGTH}
 
 abbrev pub entry_start : Entry → ℕ
 entry_start (Linear e) = e.start
@@ -42,7 +43,7 @@ first_device (Stripe s) = (leg s 0).dev
 
 -- 1 to 1,048,576 blocks
 abbrev pub IsLength : ℕ → Type 0
-IsLength n = (1 ≤ n) × (n ≤ 1048576)
+IsLength n = (1 ≤ n) × (n ≤ MOST_LENGTH)
 
 -- The lengths, the chunk and the number of legs are in their ranges.
 abbrev pub IsInRange : Entry → Type 0

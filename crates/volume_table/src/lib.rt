@@ -16,3 +16,6 @@ pub use entry_list::EntryList;
 pub use extent::Extent;
 pub use fault::{VolumeFault, VolumeKind};
 pub use table::VolumeTable;
+
+/// An entry of a volume's table has at most this many blocks.
+pub const MOST_LENGTH: u32 = 1_048_576;

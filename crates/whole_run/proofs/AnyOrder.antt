@@ -2,7 +2,7 @@
 use Rattle.std.proofs.Common.{◌≡◌, ℕ, suc, List, [], ◌∷◌, ◌++◌, length, take, drop, refl, sym, ap, ◌∙◌, subst}
 use Rattle.stack_ops.specs.declared.op.Op.{Op}
 use Rattle.block_path.specs.Acts.{State, act, conflict, tell}
-use Rattle.block_path.specs.Blocks.{Answer}
+use Rattle.block_path.specs.Blocks.{ActAnswer}
 use Rattle.block_path.specs.Serial.{Leads, all_done, none_done, plain, plain_tells}
 use Rattle.block_path.proofs.Acts.{commutes}
 use Rattle.block_path.proofs.Serial.{any_whole_order}
@@ -35,14 +35,14 @@ acts_reply m i (op ∷ ops) s =
     let rest = ap (replies_by m (suc i) ops) (other_tells act tell mine others s) ∙ acts_reply m (suc i) ops (plain act mine s) in
     cc
 
-pub in_any_order : (m : Setting) (ops : List Op) (places : List ℕ) (before after : State) (answers : List Answer) →
+pub in_any_order : (m : Setting) (ops : List Op) (places : List ℕ) (before after : State) (answers : List ActAnswer) →
     Leads act tell conflict (acts_from m 1 ops) places (none_done (acts_from m 1 ops)) before (all_done answers) after →
     (after ≡ script_walk m ops before) × (replies_by m 1 ops answers ≡ script_replies m ops before)
 in_any_order m ops places before after answers l =
     let h = any_whole_order act tell conflict commutes (acts_from m 1 ops) places before answers after l in
     (h.0 ∙ acts_walk m 1 ops before, ap (replies_by m 1 ops) h.1 ∙ acts_reply m 1 ops before)
 
-pub calmly_in_any_order : (m : Setting) (ops : List Op) (places : List ℕ) (before after : State) (answers : List Answer) → IsCalmRun m ops before →
+pub calmly_in_any_order : (m : Setting) (ops : List Op) (places : List ℕ) (before after : State) (answers : List ActAnswer) → IsCalmRun m ops before →
     Leads act tell conflict (acts_from m 1 ops) places (none_done (acts_from m 1 ops)) before (all_done answers) after →
     (replies_by m 1 ops answers ≡ plain_replies m ops (opened m before)) × IsUnder m (plain_map m ops (opened m before)) before.blocks after
 calmly_in_any_order m ops places before after answers run l =

@@ -36,7 +36,7 @@ use Rattle.block_path.specs.WayOut.{Fails, Stores, WayOut, adapter_finds_out, at
 use Rattle.block_path.proofs.Cells.{AllBelow}
 use Rattle.block_path.proofs.PathLaws.{as_crc, as_ip}
 use Rattle.whole_run.specs.Settings.{Block, Setting, route}
-use Rattle.whole_run.specs.PlainMap.{Entry, all_pass, as_expected, entry_of, finds_of_app, handed, own_in, passed, tag_of}
+use Rattle.whole_run.specs.PlainMap.{MapEntry, all_pass, as_expected, entry_of, finds_of_app, handed, own_in, passed, tag_of}
 use Rattle.whole_run.specs.UnderMap.{stored_as}
 use Rattle.whole_run.proofs.TupleFrames.{Small, behind_is, data_is, finds_in_frame, finds_none, mapped_is}
 use Rattle.whole_run.proofs.TagLaws.{mask_fits, tag_right, field_set}
@@ -76,22 +76,22 @@ off_medium r frame =
     ∙ ap (released (passage [] r)) (altered_none MediumToTarget r.label frame)
 
 -- what travels between adapter and target
-abbrev pub wire : Setting → Block → Entry → List ℕ
+abbrev pub wire : Setting → Block → MapEntry → List ℕ
 wire m b e = if passes_tuples (route m b) then frame_of e.body (record { guard = crc e.body; app = e.app; rtag = tag_of m.ty (route m b).lba e.own }) else e.body
 
 -- what the host has of a read before its tag is mapped back
-abbrev pub hosted : Setting → Block → Entry → List ℕ
+abbrev pub hosted : Setting → Block → MapEntry → List ℕ
 hosted m b e =
     if m.mode.dix then frame_of e.body (record { guard = guard_of m.mode.kind e.body; app = (passed m e).app; rtag = tag_of (host_type m.ty) (route m b).lba (passed m e).own }) else e.body
 
-pub record IsProper (m : Setting) (e : Entry) : Type 0 where
+pub record IsProper (m : Setting) (e : MapEntry) : Type 0 where
   pub size : length e.body ≡ m.size
   pub bytes : AllBelow 256 e.body
   pub app : e.app < 2 ^ 16
   pub own : e.own < 2 ^ 32
   pub expected : as_expected m e.app ≡ true
 
-pub record Bare (e : Entry) : Type 0 where
+pub record Bare (e : MapEntry) : Type 0 where
   pub app : e.app ≡ 0
   pub own : e.own ≡ 0
 
@@ -126,14 +126,14 @@ proper_entry m body t l h s e free = by (all_pass m) free where
   by true free = record { size = l; bytes = h; app = s.app; own = own_below m.ty t.rtag s.rtag; expected = e }
   by false free = record { size = l; bytes = h; app = omega arith; own = omega arith; expected = unmasked m 0 (free refl) }
 
-pub proper_passed : (m : Setting) (e : Entry) → IsProper m e → (all_pass m ≡ false → m.mode.mask ≡ 0) → IsProper m (passed m e)
+pub proper_passed : (m : Setting) (e : MapEntry) → IsProper m e → (all_pass m ≡ false → m.mode.mask ≡ 0) → IsProper m (passed m e)
 proper_passed m e p free = by (all_pass m) free where
   by : (c : Bool) → (c ≡ false → m.mode.mask ≡ 0) → IsProper m (if c then e else record { body = e.body; app = 0; own = 0 })
   by true free = p
   by false free = record { size = p.size; bytes = p.bytes; app = omega arith; own = omega arith; expected = unmasked m 0 (free refl) }
 
 -- being proper names neither mode nor type
-pub loud : (m : Setting) (dix dif : Bool) (ty : PiType) (e : Entry) → IsProper (quiet m dix dif ty) e → IsProper m e
+pub loud : (m : Setting) (dix dif : Bool) (ty : PiType) (e : MapEntry) → IsProper (quiet m dix dif ty) e → IsProper m e
 loud m dix dif ty e p = record { size = p.size; bytes = p.bytes; app = p.app; own = p.own; expected = p.expected }
 
 pub same_frame : (body : List ℕ) (g a a' r r' : ℕ) → a ≡ a' → r ≡ r' → frame_of body (record { guard = g; app = a; rtag = r }) ≡ frame_of body (record { guard = g; app = a'; rtag = r' })
@@ -218,7 +218,7 @@ reguard m r to body t new s l h k = by (is_crc r.mode.kind) h k where
       ∙ ap (λ g. frame_of body (record { guard = g; app = t.app; rtag = t.rtag })) (k refl)
 
 -- a way out as the plain map says it: an accepted block is stored under its tuple
-abbrev pub goes : Setting → Block → Option Check → Entry → WayOut
+abbrev pub goes : Setting → Block → Option Check → MapEntry → WayOut
 goes m b None e = Stores (wire m b e) (stored_as m (route m b).lba e)
 goes m b (Some check) e = Fails (Adapter check)
 
@@ -273,7 +273,7 @@ module _ (m : Setting) (b : Block) (protect : 0 < m.mode.protect) where
   wanted dix dif Three own h = never h
 
   -- nothing is found at the target of a block under its tuple
-  passes_target : (dix dif : Bool) (ty : PiType) (e : Entry) → IsProper m e →
+  passes_target : (dix dif : Bool) (ty : PiType) (e : MapEntry) → IsProper m e →
       let p = passage [] (route (quiet m dix dif ty) b) in
       let f = frame_of e.body (record { guard = crc e.body; app = e.app; rtag = tag_of ty here e.own }) in
       found_in p f ≡ None
@@ -283,21 +283,21 @@ module _ (m : Setting) (b : Block) (protect : 0 < m.mode.protect) where
       good Crc ty (checked_of p) (wanted_of p) e.body e.app (tag_of ty here e.own) h.size h.app (rtag_below ty here e.own h.own)
       (mask_fits m (is_two ty && eqb p.protect 1) e.app h.expected) (wanted dix dif ty e.own)
 
-  none_stored : (dix dif : Bool) (ty : PiType) (e : Entry) → IsProper m e → let q = quiet m dix dif ty in found_in (passage [] (route q b)) (stored_as q here e) ≡ None
+  none_stored : (dix dif : Bool) (ty : PiType) (e : MapEntry) → IsProper m e → let q = quiet m dix dif ty in found_in (passage [] (route q b)) (stored_as q here e) ≡ None
   unfolding found_in
   none_stored dix dif Zero e h = refl
   none_stored dix dif One e h = passes_target dix dif One e h
   none_stored dix dif Two e h = passes_target dix dif Two e h
   none_stored dix dif Three e h = passes_target dix dif Three e h
 
-  same_made : (dix : Bool) (ty : PiType) (e : Entry) → Bare e →
+  same_made : (dix : Bool) (ty : PiType) (e : MapEntry) → Bare e →
       frame_of e.body (record { guard = crc e.body; app = 0; rtag = own_tag ty (wire_lba [] (route (quiet m dix false ty) b)) }) ≡ frame_of e.body (record { guard = crc e.body; app = e.app; rtag = tag_of ty here e.own })
   same_made dix ty e h =
       same_frame e.body (crc e.body) 0 e.app _ _ (sym h.app)
       (ap (λ a. own_tag ty a) (wire_same dix false ty) ∙ ap (λ own. if has_ref_tag ty then ref_tag here else own) (sym h.own))
 
   -- what the target accepts of what the wire has
-  whole_accepted : (dix : Bool) (ty : PiType) (e : Entry) (made : List ℕ) → let q = quiet m dix true ty in
+  whole_accepted : (dix : Bool) (ty : PiType) (e : MapEntry) (made : List ℕ) → let q = quiet m dix true ty in
       let f = frame_of e.body (record { guard = crc e.body; app = e.app; rtag = tag_of ty here e.own }) in
       found_in (passage [] (route q b)) f ≡ None →
       (if eqb m.mode.protect 0 then Ok made else unless (found_in (passage [] (route q b)) f) f) ≡ Ok f
@@ -306,7 +306,7 @@ module _ (m : Setting) (b : Block) (protect : 0 < m.mode.protect) where
       let f = frame_of e.body (record { guard = crc e.body; app = e.app; rtag = tag_of ty here e.own }) in
       ap (λ c. if c then Ok made else unless (found_in (passage [] (route q b)) f) f) (field_set m protect) ∙ ap (λ o. unless o f) none
 
-  accepted_is : (dix dif : Bool) (ty : PiType) (e : Entry) → IsProper m e → (passes_tuples (route (quiet m dix dif ty) b) ≡ false → Bare e) →
+  accepted_is : (dix dif : Bool) (ty : PiType) (e : MapEntry) → IsProper m e → (passes_tuples (route (quiet m dix dif ty) b) ≡ false → Bare e) →
       let q = quiet m dix dif ty in accepted (passage [] (route q b)) (wire q b e) ≡ Ok (stored_as q here e)
   accepted_is dix false Zero e p h = refl
   accepted_is dix false One e p h = ap (λ f. Ok f) (same_made dix One e (h refl))
@@ -318,7 +318,7 @@ module _ (m : Setting) (b : Block) (protect : 0 < m.mode.protect) where
   accepted_is dix true Three e p h = whole_accepted dix Three e _ (passes_target dix true Three e p)
 
   -- what the wire has is stored
-  outcome : (dix dif : Bool) (ty : PiType) (e : Entry) → IsProper m e → (passes_tuples (route (quiet m dix dif ty) b) ≡ false → Bare e) →
+  outcome : (dix dif : Bool) (ty : PiType) (e : MapEntry) → IsProper m e → (passes_tuples (route (quiet m dix dif ty) b) ≡ false → Bare e) →
       let q = quiet m dix dif ty in at_device (wire q b e) ((target []).stores (route q b) (wire q b e)) ≡ Stores (wire q b e) (stored_as q here e)
   outcome dix dif ty e p h =
       let q = quiet m dix dif ty in
@@ -371,7 +371,7 @@ module _ (m : Setting) (b : Block) (protect : 0 < m.mode.protect) where
   whole_released : (dix : Bool) (ty : PiType) (f other : List ℕ) → (if eqb m.mode.protect 0 then other else f) ≡ f
   whole_released dix ty f other = ap (λ c. if c then other else f) (field_set m protect)
 
-  put_on_wire : (dix dif : Bool) (ty : PiType) (e : Entry) → IsProper m e → let q = quiet m dix dif ty in
+  put_on_wire : (dix dif : Bool) (ty : PiType) (e : MapEntry) → IsProper m e → let q = quiet m dix dif ty in
       let p = passage [] (route q b) in (if eqb p.protect 0 then data_of m.size (stored_as q here e) else stored_as q here e) ≡ wire q b e
   put_on_wire dix false Zero e p = take_all m.size e.body (omega (arith, p.size))
   put_on_wire dix false One e p = data_is m.size e.body _ p.size
@@ -382,34 +382,34 @@ module _ (m : Setting) (b : Block) (protect : 0 < m.mode.protect) where
   put_on_wire dix true Two e p = whole_released dix Two _ _
   put_on_wire dix true Three e p = whole_released dix Three _ _
 
-  released_is : (dix dif : Bool) (ty : PiType) (e : Entry) → IsProper m e → let q = quiet m dix dif ty in released (passage [] (route q b)) (stored_as q here e) ≡ Ok (wire q b e)
+  released_is : (dix dif : Bool) (ty : PiType) (e : MapEntry) → IsProper m e → let q = quiet m dix dif ty in released (passage [] (route q b)) (stored_as q here e) ≡ Ok (wire q b e)
   released_is dix dif ty e p =
       let q = quiet m dix dif ty in
       let x = passage [] (route q b) in
       ap (λ o. unless o (if eqb x.protect 0 then data_of m.size (stored_as q here e) else stored_as q here e)) (none_stored dix dif ty e p)
       ∙ ap (λ f. Ok f) (put_on_wire dix dif ty e p)
 
-  passes_adapter : (ty : PiType) (e : Entry) → IsProper m e →
+  passes_adapter : (ty : PiType) (e : MapEntry) → IsProper m e →
       let f = frame_of e.body (record { guard = crc e.body; app = e.app; rtag = tag_of ty here e.own }) in
       finding ty (all_asked m.mode.app m.mode.mask) (ref_tag here) (crc (data_of m.size f)) (tuple_of m.size f) ≡ None
   passes_adapter ty e p =
       good Crc ty (all_asked m.mode.app m.mode.mask) (ref_tag here) e.body e.app (tag_of ty here e.own) p.size p.app (rtag_below ty here e.own p.own) (eqb-true _ _ p.expected) (tag_right ty here e.own)
 
-  adapter_in : (dix dif : Bool) (ty : PiType) (e : Entry) → IsProper m e → let q = quiet m dix dif ty in adapter_finds_in (route q b) (wire q b e) ≡ None
+  adapter_in : (dix dif : Bool) (ty : PiType) (e : MapEntry) → IsProper m e → let q = quiet m dix dif ty in adapter_finds_in (route q b) (wire q b e) ≡ None
   adapter_in dix false ty e p = refl
   adapter_in dix true Zero e p = refl
   adapter_in dix true One e p = passes_adapter One e p
   adapter_in dix true Two e p = passes_adapter Two e p
   adapter_in dix true Three e p = passes_adapter Three e p
 
-  received_passed : (ty : PiType) (e : Entry) → IsProper m e →
+  received_passed : (ty : PiType) (e : MapEntry) → IsProper m e →
       converted (route (quiet m true true ty) b) Ip (frame_of e.body (record { guard = crc e.body; app = e.app; rtag = tag_of ty here e.own }))
       ≡ frame_of e.body (record { guard = guard_of m.mode.kind e.body; app = e.app; rtag = tag_of ty here e.own })
   received_passed ty e p =
       reguard m (route (quiet m true true ty) b) Ip e.body (record { guard = crc e.body; app = e.app; rtag = tag_of ty here e.own }) (guard_of m.mode.kind e.body) refl p.size
       (λ h. sym (as_crc m.mode.kind e.body h)) (λ h. as_ip m.mode.kind e.body h)
 
-  received_is : (dix dif : Bool) (ty : PiType) (e : Entry) → IsProper m e → let q = quiet m dix dif ty in received (route q b) (wire q b e) ≡ hosted q b e
+  received_is : (dix dif : Bool) (ty : PiType) (e : MapEntry) → IsProper m e → let q = quiet m dix dif ty in received (route q b) (wire q b e) ≡ hosted q b e
   received_is true false ty e p = refl
   received_is true true Zero e p = refl
   received_is true true One e p = received_passed One e p
@@ -427,7 +427,7 @@ module _ (m : Setting) (b : Block) (protect : 0 < m.mode.protect) where
     by false = refl
     by true = let e : eqb (ref_tag here) (ref_tag here) ≡ true = eq-eqb (ref_tag here) (ref_tag here) refl in ap (λ c. if c then ref_tag b.virt else ref_tag here) e
 
-  home_again : (dix dif : Bool) (ty : PiType) (e : Entry) → let q = quiet m dix dif ty in IsProper m (passed q e) → length e.body ≡ m.size → mapped_back (route q b) (hosted q b e) ≡ handed q b e
+  home_again : (dix dif : Bool) (ty : PiType) (e : MapEntry) → let q = quiet m dix dif ty in IsProper m (passed q e) → length e.body ≡ m.size → mapped_back (route q b) (hosted q b e) ≡ handed q b e
   home_again false dif ty e p l = refl
   home_again true dif ty e p l =
       let q = quiet m true dif ty in
@@ -438,7 +438,7 @@ module _ (m : Setting) (b : Block) (protect : 0 < m.mode.protect) where
       ∙ ap (frame_of e.body) (retagged (has_ref_tag (host_type ty) && eqb t.rtag (ref_tag here)) t (ref_tag b.virt))
       ∙ ap (λ r. frame_of e.body (record { guard = guard_of m.mode.kind e.body; app = x.app; rtag = r })) (back_named ty x.own)
 
-  owner_in : (dix dif : Bool) (ty : PiType) (e : Entry) → let q = quiet m dix dif ty in IsProper m (passed q e) → length e.body ≡ m.size → owner_finds (route q b) (handed q b e) ≡ None
+  owner_in : (dix dif : Bool) (ty : PiType) (e : MapEntry) → let q = quiet m dix dif ty in IsProper m (passed q e) → length e.body ≡ m.size → owner_finds (route q b) (handed q b e) ≡ None
   owner_in false dif ty e p l = refl
   owner_in true dif ty e p l =
       let x = passed (quiet m true dif ty) e in
@@ -446,7 +446,7 @@ module _ (m : Setting) (b : Block) (protect : 0 < m.mode.protect) where
       (eqb-true _ _ p.expected) (tag_right (host_type ty) b.virt x.own)
 
   -- the way in of the block that is stored for an entry
-  pub comes_home : (dix dif : Bool) (ty : PiType) (owner : Owner) (e : Entry) → let q = quiet m dix dif ty in
+  pub comes_home : (dix dif : Bool) (ty : PiType) (owner : Owner) (e : MapEntry) → let q = quiet m dix dif ty in
       IsProper m e → (all_pass q ≡ false → m.mode.mask ≡ 0) → way_in [] (target []) (route q b) owner (stored_as q here e) ≡ Delivers (wire q b e) (handed q b e)
   comes_home dix dif ty owner e p free =
       let q = quiet m dix dif ty in

@@ -10,7 +10,7 @@ use Rattle.bio_core.specs.declared.fate.Why.{Why}
 use Rattle.stack_ops.specs.declared.op.Op.{Op}
 use Rattle.stack_ops.specs.declared.reply.BadBlock.{BadBlock}
 use Rattle.block_path.specs.Acts.{Act, State, act, effect, tell}
-use Rattle.block_path.specs.Blocks.{Answer, silent}
+use Rattle.block_path.specs.Blocks.{ActAnswer, silent}
 use Rattle.block_path.specs.Serial.{plain, plain_tells}
 use Rattle.block_path.proofs.Cells.{gather_past}
 use Rattle.block_path.proofs.InTurn.{plain_append}
@@ -39,7 +39,7 @@ beyond_head j i why bad l =
 at_head : (j : ℕ) (why : Why) (bad : List BadBlock) → listed_among (record { k = j; why = why } ∷ bad) j ≡ Some why
 at_head j why bad = let e : eqb j j ≡ true = eq-eqb j j refl in ap (λ t. if t then Some why else listed_among bad j) e
 
-why_listed : (j k i : ℕ) (answers : List Answer) → i ≡ j + k → listed_among (bad_from j (map (λ a. a.why) answers)) i ≡ (get_or answers k silent).why
+why_listed : (j k i : ℕ) (answers : List ActAnswer) → i ≡ j + k → listed_among (bad_from j (map (λ a. a.why) answers)) i ≡ (get_or answers k silent).why
 why_listed j k i [] e = refl
 why_listed j zero i (a ∷ answers) e =
     let q : i ≡ j = omega (arith, e) in
@@ -57,7 +57,7 @@ listed_blocks : (bad : List BadBlock) (k : ℕ) → listed_in (whole_or_bad bad)
 listed_blocks [] k = refl
 listed_blocks (x ∷ bad) k = refl
 
-pub is_listed : (answers : List Answer) (k : ℕ) → listed_in (request_reply answers) k ≡ (get_or answers k silent).why
+pub is_listed : (answers : List ActAnswer) (k : ℕ) → listed_in (request_reply answers) k ≡ (get_or answers k silent).why
 is_listed answers k = listed_blocks (bad_from 0 (map (λ a. a.why) answers)) k ∙ why_listed 0 k k answers (omega arith)
 
 -- block k among n
@@ -87,7 +87,7 @@ steps_split m i (first ∷ before) op after =
     ∙ sym (append_assoc (steps_of m i first) (steps_from m (suc i) before) (steps_of m (i + suc (length before)) op ++ steps_from m (suc (i + suc (length before))) after))
 
 -- what each step does is given
-module _ (a : Step → Act Answer) where
+module _ (a : Step → Act ActAnswer) where
   abbrev pub stepped : List Step → State → State
   stepped steps s = plain (λ step s. act (a step) s) steps s
 
@@ -124,12 +124,12 @@ module _ (a : Step → Act Answer) where
   block_says f k n s l =
       is_listed (plain_tells act tell (map a (each_from 0 n f)) s) k
       ∙ ap (λ steps. (get_or (plain_tells act tell (map a steps) s) k silent).why) (each_split 0 k n k f l (omega arith))
-      ∙ ap (λ (x : Answer). x.why) (tells_at (each_from 0 k f) (f k) (each_from (suc k) (n - suc k) f) s k (each_length 0 k f))
+      ∙ ap (λ (x : ActAnswer). x.why) (tells_at (each_from 0 k f) (f k) (each_from (suc k) (n - suc k) f) s k (each_length 0 k f))
 
 pub read_steps : (m : Setting) (i v n : ℕ) (owner : Owner) (body tuples : List Seg) → steps_of m i (read_op owner v n body tuples) ≡ each_from 0 n (λ k. Reads (block_of i v k) owner (landing m.size owner body tuples k))
 read_steps m i v n OfBlock body tuples = refl
 read_steps m i v n OfApp body tuples = refl
 
-pub read_reply : (fails : _) (v n : ℕ) (owner : Owner) (body tuples : List Seg) (answers : List Answer) → reply_of fails (read_op owner v n body tuples) answers ≡ request_reply answers
+pub read_reply : (fails : _) (v n : ℕ) (owner : Owner) (body tuples : List Seg) (answers : List ActAnswer) → reply_of fails (read_op owner v n body tuples) answers ≡ request_reply answers
 read_reply fails v n OfBlock body tuples answers = refl
 read_reply fails v n OfApp body tuples answers = refl

@@ -12,35 +12,35 @@ use Rattle.pi_tuple.specs.declared.checks.Check.{Check}
 use Rattle.target_answer.specs.Frames.{data_of, frame_of, stored_size, tuple_of}
 use Rattle.block_path.proofs.Cells.{AllBelow, below}
 use Rattle.whole_run.specs.CalmRun.{LiesIn}
-use Rattle.whole_run.specs.PlainMap.{Entry, all_pass, kept_unless, no_entry}
+use Rattle.whole_run.specs.PlainMap.{MapEntry, all_pass, kept_unless, no_entry}
 use Rattle.whole_run.specs.Settings.{Setting}
 use Rattle.whole_run.specs.UnderMap.{IsClean, address_of, held, home, map_from, stored_as, under}
 use Rattle.whole_run.proofs.CalmWays.{IsProper, unmasked}
 use Rattle.whole_run.proofs.TupleFrames.{below_take, frame_is, frame_small}
 
-abbrev pub AllProper : Setting → List Entry → Type 0
+abbrev pub AllProper : Setting → List MapEntry → Type 0
 AllProper m [] = Unit {0}
 AllProper m (e ∷ map) = IsProper m e × AllProper m map
 
-pub proper_set : (m : Setting) (map : List Entry) (i : ℕ) (e : Entry) → IsProper m e → AllProper m map → AllProper m (set map i e)
+pub proper_set : (m : Setting) (map : List MapEntry) (i : ℕ) (e : MapEntry) → IsProper m e → AllProper m map → AllProper m (set map i e)
 proper_set m [] i e p h = tt
 proper_set m (x ∷ map) zero e p h = (p, h.1)
 proper_set m (x ∷ map) (suc i) e p h = (h.0, proper_set m map i e p h.1)
 
-pub proper_at : (m : Setting) (map : List Entry) (i : ℕ) → i < length map → AllProper m map → IsProper m (get_or map i no_entry)
+pub proper_at : (m : Setting) (map : List MapEntry) (i : ℕ) → i < length map → AllProper m map → IsProper m (get_or map i no_entry)
 proper_at m [] i l h = absurd (omega (arith, l))
 proper_at m (x ∷ map) zero l h = h.0
 proper_at m (x ∷ map) (suc i) l h = proper_at m map i (omega (arith, l)) h.1
 
 -- what is put for an entry at its block's place
-abbrev pub put_at : Setting → ℕ → Entry → List (List ℕ) → List (List ℕ)
+abbrev pub put_at : Setting → ℕ → MapEntry → List (List ℕ) → List (List ℕ)
 put_at m v e image = set image (home m v) (stored_as m (address_of m v) e)
 
-abbrev pub put_unless : Setting → Option Check → ℕ → Entry → List (List ℕ) → List (List ℕ)
+abbrev pub put_unless : Setting → Option Check → ℕ → MapEntry → List (List ℕ) → List (List ℕ)
 put_unless m None v e image = put_at m v e image
 put_unless m (Some check) v e image = image
 
-pub under_length : (m : Setting) (image : List (List ℕ)) (v : ℕ) (map : List Entry) → length (under m v map image) ≡ length image
+pub under_length : (m : Setting) (image : List (List ℕ)) (v : ℕ) (map : List MapEntry) → length (under m v map image) ≡ length image
 under_length m image v [] = refl
 under_length m image v (e ∷ map) = length-set (under m (suc v) map image) (home m v) (stored_as m (address_of m v) e) ∙ under_length m image (suc v) map
 
@@ -48,7 +48,7 @@ module _ (m : Setting) (n : ℕ) (image : List (List ℕ)) (lies : LiesIn m n im
   differ : (u v : ℕ) → u < v → v < n → home m u ≢ home m v
   differ u v l k e = let same = lies.apart u v (omega (arith, l, k)) k e in omega (arith, l, same)
 
-  under_set : (v : ℕ) (map : List Entry) (i j : ℕ) (e : Entry) → v + length map ≡ n → j ≡ v + i → i < length map → under m v (set map i e) image ≡ put_at m j e (under m v map image)
+  under_set : (v : ℕ) (map : List MapEntry) (i j : ℕ) (e : MapEntry) → v + length map ≡ n → j ≡ v + i → i < length map → under m v (set map i e) image ≡ put_at m j e (under m v map image)
   under_set v [] i j e s p l = absurd (omega (arith, l))
   under_set v (x ∷ map) zero j e s p l =
       let rest = under m (suc v) map image in
@@ -60,7 +60,7 @@ module _ (m : Setting) (n : ℕ) (image : List (List ℕ)) (lies : LiesIn m n im
       ap (put_at m v x) (under_set (suc v) map i j e (omega (arith, s)) (omega (arith, p)) (omega (arith, l)))
       ∙ sym (set_comm rest (home m v) (home m j) (stored_as m (address_of m v) x) (stored_as m (address_of m j) e) (differ v j (omega (arith, p)) (omega (arith, p, s, l))))
 
-  pub under_at : (v : ℕ) (map : List Entry) (i j : ℕ) → v + length map ≡ n → j ≡ v + i → i < length map →
+  pub under_at : (v : ℕ) (map : List MapEntry) (i j : ℕ) → v + length map ≡ n → j ≡ v + i → i < length map →
       get_or (under m v map image) (home m j) [] ≡ stored_as m (address_of m j) (get_or map i no_entry)
   under_at v [] i j s p l = absurd (omega (arith, l))
   under_at v (x ∷ map) zero j s p l =
@@ -76,7 +76,7 @@ module _ (m : Setting) (n : ℕ) (image : List (List ℕ)) (lies : LiesIn m n im
       get_or-set_other rest (home m v) (home m j) (stored_as m (address_of m v) x) [] (λ e. differ v j (omega (arith, p)) (omega (arith, p, s, l)) (sym e))
       ∙ under_at (suc v) map i j (omega (arith, s)) (omega (arith, p)) (omega (arith, l))
 
-  pub under_accepted : (map : List Entry) (o : Option Check) (v : ℕ) (e : Entry) → length map ≡ n → v < n →
+  pub under_accepted : (map : List MapEntry) (o : Option Check) (v : ℕ) (e : MapEntry) → length map ≡ n → v < n →
       under m 0 (kept_unless o v e map) image ≡ put_unless m o v e (under m 0 map image)
   under_accepted map None v e s l = under_set 0 map v v e (omega (arith, s)) (omega arith) (omega (arith, s, l))
   under_accepted map (Some check) v e s l = refl

@@ -19,14 +19,14 @@ use Rattle.stack_ops.specs.declared.op.Op.{Op}
 use Rattle.stack_ops.specs.declared.op.Op.TheVariants.{Fetch, FetchPi, Fill, Overwrite, Put, Seal, Show, Wait, Write, WritePi}
 use Rattle.stack_ops.specs.declared.reply.Reply.TheVariants.{Shown}
 use Rattle.block_path.specs.Acts.{State, act, tell}
-use Rattle.block_path.specs.Blocks.{Answer, fetched_cell, own_cell, own_frame, own_tuple, read_by, silent, stored_cell, tag_after, tuple_after, written_by}
+use Rattle.block_path.specs.Blocks.{ActAnswer, fetched_cell, own_cell, own_frame, own_tuple, read_by, silent, stored_cell, tag_after, tuple_after, written_by}
 use Rattle.block_path.specs.Routes.{host_type, target}
 use Rattle.block_path.specs.Serial.{plain, plain_tells}
 use Rattle.block_path.specs.WayIn.{way_in}
 use Rattle.block_path.specs.WayOut.{way_out}
 use Rattle.block_path.proofs.Cells.{AllBelow, gather_length}
 use Rattle.whole_run.specs.CalmRun.{LiesIn}
-use Rattle.whole_run.specs.PlainMap.{Entry, Plain, all_pass, as_expected, entry_of, finds_of_app, finds_plainly, handed, kept_unless, listed_by, no_entry, plain_answer, plain_step}
+use Rattle.whole_run.specs.PlainMap.{MapEntry, Plain, all_pass, as_expected, entry_of, finds_of_app, finds_plainly, handed, kept_unless, listed_by, no_entry, plain_answer, plain_step}
 use Rattle.whole_run.specs.ScriptWalk.{act_of, bad_from, reply_of, shown_reply, whole_or_bad}
 use Rattle.whole_run.specs.Settings.{Block, Setting, route}
 use Rattle.whole_run.specs.Steps.{Alters, Reads, Seals, Sets, Shows, Step, Writes, WritesPi}
@@ -37,32 +37,32 @@ use Rattle.whole_run.proofs.TupleFrames.{below_append, below_drop, below_gather,
 use Rattle.small_laws.proofs.Tests.{never}
 
 -- answers that a reply can't tell apart
-pub record Same (a b : Answer) : Type 0 where
+pub record Same (a b : ActAnswer) : Type 0 where
   pub why : a.why ≡ b.why
   pub shown : a.shown ≡ b.shown
 
-abbrev pub AllSame : List Answer → List Answer → Type 0
+abbrev pub AllSame : List ActAnswer → List ActAnswer → Type 0
 AllSame [] [] = Unit {0}
 AllSame [] (b ∷ bs) = ⊥
 AllSame (a ∷ xs) [] = ⊥
 AllSame (a ∷ xs) (b ∷ bs) = Same a b × AllSame xs bs
 
-whys_same : (xs ys : List Answer) → AllSame xs ys → map (λ a. a.why) xs ≡ map (λ a. a.why) ys
+whys_same : (xs ys : List ActAnswer) → AllSame xs ys → map (λ a. a.why) xs ≡ map (λ a. a.why) ys
 whys_same [] [] h = refl
 whys_same [] (y ∷ ys) h = absurd h
 whys_same (x ∷ xs) [] h = absurd h
 whys_same (x ∷ xs) (y ∷ ys) h = let first = h.0.why in let rest = whys_same xs ys h.1 in cc
 
-shown_same : (xs ys : List Answer) → AllSame xs ys → shown_reply xs ≡ shown_reply ys
+shown_same : (xs ys : List ActAnswer) → AllSame xs ys → shown_reply xs ≡ shown_reply ys
 shown_same [] [] h = refl
 shown_same [] (y ∷ ys) h = absurd h
 shown_same (x ∷ xs) [] h = absurd h
 shown_same (x ∷ xs) (y ∷ ys) h = ap (λ s. Shown s) h.0.shown
 
-request_same : (xs ys : List Answer) → AllSame xs ys → whole_or_bad (bad_from 0 (map (λ a. a.why) xs)) ≡ whole_or_bad (bad_from 0 (map (λ a. a.why) ys))
+request_same : (xs ys : List ActAnswer) → AllSame xs ys → whole_or_bad (bad_from 0 (map (λ a. a.why) xs)) ≡ whole_or_bad (bad_from 0 (map (λ a. a.why) ys))
 request_same xs ys h = ap (λ whys. whole_or_bad (bad_from 0 whys)) (whys_same xs ys h)
 
-pub reply_same : (fails : Bool) (op : Op) (xs ys : List Answer) → AllSame xs ys → reply_of fails op xs ≡ reply_of fails op ys
+pub reply_same : (fails : Bool) (op : Op) (xs ys : List ActAnswer) → AllSame xs ys → reply_of fails op xs ≡ reply_of fails op ys
 reply_same fails (Fill seg byte) xs ys h = refl
 reply_same fails (Put page off bytes) xs ys h = refl
 reply_same fails (Show seg) xs ys h = shown_same xs ys h
@@ -108,16 +108,16 @@ own_is_found m b app body =
         let e : eqb (ref_tag b.virt) (ref_tag b.virt) ≡ true = eq-eqb _ _ refl in
         ap (λ c. not (c || eqb (ref_tag b.virt) (ref_tag (route m b).lba))) e
 
-placed : (m : Setting) (b : Block) (o : Option Check) (back : List ℕ) (log : List (List ℕ)) (e : Entry) (c : ℕ) (blocks : List (List ℕ)) → c ≡ home m b.virt →
+placed : (m : Setting) (b : Block) (o : Option Check) (back : List ℕ) (log : List (List ℕ)) (e : MapEntry) (c : ℕ) (blocks : List (List ℕ)) → c ≡ home m b.virt →
     scatter (c ∷ []) (written_by (route m b) (goes m b o e) back log).written.blocks blocks ≡ put_unless m o b.virt e blocks
 placed m b None back log e c blocks p = ap (λ i. set blocks i (stored_as m (address_of m b.virt) e)) p
 placed m b (Some check) back log e c blocks p = refl
 
-told : (m : Setting) (b : Block) (o : Option Check) (back : List ℕ) (log : List (List ℕ)) (e : Entry) → Same (written_by (route m b) (goes m b o e) back log).answer (listed_by o)
+told : (m : Setting) (b : Block) (o : Option Check) (back : List ℕ) (log : List (List ℕ)) (e : MapEntry) → Same (written_by (route m b) (goes m b o e) back log).answer (listed_by o)
 told m b None back log e = record { why = refl; shown = refl }
 told m b (Some check) back log e = record { why = refl; shown = refl }
 
-left : (m : Setting) (b : Block) (o : Option Check) (back : List ℕ) (log : List (List ℕ)) (e : Entry) → (written_by (route m b) (goes m b o e) back log).written.bytes ≡ back
+left : (m : Setting) (b : Block) (o : Option Check) (back : List ℕ) (log : List (List ℕ)) (e : MapEntry) → (written_by (route m b) (goes m b o e) back log).written.bytes ≡ back
 left m b None back log e = refl
 left m b (Some check) back log e = refl
 
@@ -165,11 +165,11 @@ module _ (m' : Setting) (n : ℕ) (image : List (List ℕ)) (protect : 0 < m'.mo
   pi_way false b seen on l h loose escape = never on
 
   -- an entry that is accepted is proper
-  proper_kept : (o : Option Check) (v : ℕ) (e : Entry) (map : List Entry) → (o ≡ None → IsProper m e) → AllProper m map → AllProper m (kept_unless o v e map)
+  proper_kept : (o : Option Check) (v : ℕ) (e : MapEntry) (map : List MapEntry) → (o ≡ None → IsProper m e) → AllProper m map → AllProper m (kept_unless o v e map)
   proper_kept None v e map p h = proper_set m map v e (p refl) h
   proper_kept (Some check) v e map p h = h
 
-  size_kept : (o : Option Check) (v : ℕ) (e : Entry) (map : List Entry) → length (kept_unless o v e map) ≡ length map
+  size_kept : (o : Option Check) (v : ℕ) (e : MapEntry) (map : List MapEntry) → length (kept_unless o v e map) ≡ length map
   size_kept None v e map = length-set map v e
   size_kept (Some check) v e map = refl
 
@@ -188,14 +188,14 @@ module _ (m' : Setting) (n : ℕ) (image : List (List ℕ)) (protect : 0 < m'.mo
   after_below : (b : Block) (tuple : List ℕ) → AllBelow 256 tuple → AllBelow 256 (tuple_after (route m b) tuple)
   after_below b tuple h = below_append 256 (take 4 tuple) (tag_after (route m b) (drop 4 tuple)) (below_take 256 4 tuple h) (tag_after_below b (drop 4 tuple) (below_drop 256 4 tuple h))
 
-  handed_below : (b : Block) (e : Entry) → AllBelow 256 e.body → AllBelow 256 (handed m b e)
+  handed_below : (b : Block) (e : MapEntry) → AllBelow 256 e.body → AllBelow 256 (handed m b e)
   handed_below b e h = by m.mode.dix _ where
     by : (c : Bool) (t : Tuple) → AllBelow 256 (if c then frame_of e.body t else e.body)
     by true t = below_append 256 e.body (tuple_bytes t) h (tuple_below t)
     by false t = h
 
   -- one step leads from the plain state's cells to the next plain state's
-  pub record Leads (after : Plain) (now : State) (tells said : Answer) : Type 0 where
+  pub record Leads (after : Plain) (now : State) (tells said : ActAnswer) : Type 0 where
     pub under : IsUnder m after image now
     pub same : Same tells said
     pub stands : Stands m n after
@@ -321,7 +321,7 @@ module _ (m' : Setting) (n : ℕ) (image : List (List ℕ)) (protect : 0 < m'.mo
         subst (λ x. Leads (plain_step m step s) (act (act_of m step) x) (tell (act_of m step) x) (plain_answer m step s)) (sym e)
         (plain_step_is step s c.logs c.fates meets (subst (SuppliesNoEscape m step) e escape) h)
 
-    pub record LeadAll (after : Plain) (now : State) (tells says : List Answer) : Type 0 where
+    pub record LeadAll (after : Plain) (now : State) (tells says : List ActAnswer) : Type 0 where
       pub under : IsUnder m after image now
       pub same : AllSame tells says
       pub stands : Stands m n after

@@ -10,6 +10,7 @@ use Rattle.block_path.specs.Routes.{target}
 use Rattle.whole_run.specs.PlainMap.{all_pass}
 use Rattle.whole_run.specs.Settings.{Setting}
 use Rattle.whole_run.specs.UnderMap.{AreClean, NoEscape, home}
+use Rattle.pi_tuple.specs.declared.TheConstants.{TUPLE}
 
 -- What is asked of a run without faults.
 
@@ -41,7 +42,7 @@ Fits m (Show seg) = Unit {0}
 Fits m (Seal n body tuples app rtag) = Unit {0}
 Fits m (Write v n body app) = AreBlocks m v n (total body) × (app < 2 ^ 16)
 Fits m (Fetch v n body) = v + n ≤ volume_len m.entries
-Fits m (WritePi v n body tuples) = AreBlocks m v n (total body) × ((total tuples ≡ n * 8) × (m.mode.dix ≡ true))
+Fits m (WritePi v n body tuples) = AreBlocks m v n (total body) × ((total tuples ≡ n * TUPLE) × (m.mode.dix ≡ true))
 Fits m (FetchPi v n body tuples) = v + n ≤ volume_len m.entries
 Fits m (Overwrite dev lba change) = ⊥
 Fits m Wait = Unit {0}

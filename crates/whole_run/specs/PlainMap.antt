@@ -12,7 +12,7 @@ use Rattle.bio_core.specs.declared.fate.Why.TheVariants.{Adapter}
 use Rattle.stack_ops.specs.declared.op.Op.{Op}
 use Rattle.stack_ops.specs.declared.reply.Reply.{Reply}
 use Rattle.target_answer.specs.Frames.{data_of, frame_of, tuple_of}
-use Rattle.block_path.specs.Blocks.{Answer, own_tuple, silent, tuple_after}
+use Rattle.block_path.specs.Blocks.{ActAnswer, own_tuple, silent, tuple_after}
 use Rattle.block_path.specs.Routes.{host_type}
 use Rattle.block_path.specs.Serial.{plain, plain_tells}
 use Rattle.whole_run.specs.Settings.{Block, Setting, route}
@@ -22,7 +22,7 @@ use Rattle.whole_run.specs.Steps.{Alters, Reads, Seals, Sets, Shows, Step, Write
 -- A script without faults, on pages and a plain map of virtual blocks.
 
 -- what the map has of a block: its data, its application tag, and in type 3 its reference tag
-pub record Entry : Type 0 where
+pub record MapEntry : Type 0 where
   pub body : List ℕ
   pub app : ℕ
   pub own : ℕ
@@ -30,9 +30,9 @@ pub record Entry : Type 0 where
 -- the bytes of pages, and for each virtual block its entry
 pub record Plain : Type 0 where
   pub bytes : List ℕ
-  pub map : List Entry
+  pub map : List MapEntry
 
-abbrev pub no_entry : Entry
+abbrev pub no_entry : MapEntry
 no_entry = record { body = []; app = 0; own = 0 }
 
 -- tuples travel all the way between host and medium
@@ -47,11 +47,11 @@ own_in Two rtag = 0
 own_in Three rtag = rtag
 
 -- Only where tuples travel all the way their application tag and their own tag are kept.
-abbrev pub passed : Setting → Entry → Entry
+abbrev pub passed : Setting → MapEntry → MapEntry
 passed m e = if all_pass m then e else record { body = e.body; app = 0; own = 0 }
 
 -- what the map keeps of an accepted block with this tuple
-abbrev pub entry_of : Setting → List ℕ → Tuple → Entry
+abbrev pub entry_of : Setting → List ℕ → Tuple → MapEntry
 entry_of m body t = passed m (record { body = body; app = t.app; own = own_in m.ty t.rtag })
 
 -- the application tag is the expected one, in the bits of the mask
@@ -70,11 +70,11 @@ finds_of_app m b body t = first_of
     ∷ record { check = RefTag; differs = has_ref_tag (host_type m.ty) && not (eqb t.rtag (ref_tag b.virt) || eqb t.rtag (ref_tag (route m b).lba)) }
     ∷ [])
 
-abbrev pub kept_unless : Option Check → (v : ℕ) → Entry → List Entry → List Entry
+abbrev pub kept_unless : Option Check → (v : ℕ) → MapEntry → List MapEntry → List MapEntry
 kept_unless None v e map = set map v e
 kept_unless (Some check) v e map = map
 
-abbrev pub listed_by : Option Check → Answer
+abbrev pub listed_by : Option Check → ActAnswer
 listed_by None = silent
 listed_by (Some check) = record silent { why = Some (Adapter check) }
 
@@ -83,7 +83,7 @@ abbrev pub tag_of : PiType → (named own : ℕ) → ℕ
 tag_of ty named own = if has_ref_tag ty then ref_tag named else own
 
 -- what a reader gets: the data, with the host's guard and the virtual block where the host has tuples
-abbrev pub handed : Setting → Block → Entry → List ℕ
+abbrev pub handed : Setting → Block → MapEntry → List ℕ
 handed m b e =
     if m.mode.dix then frame_of e.body (record { guard = guard_of m.mode.kind e.body; app = (passed m e).app; rtag = tag_of (host_type m.ty) b.virt (passed m e).own })
     else e.body
@@ -105,7 +105,7 @@ plain_step m (WritesPi b frame) s = let seen = gather 0 frame s.bytes in
 plain_step m (Reads b owner to) s = record s { bytes = scatter to (handed m b (get_or s.map b.virt no_entry)) s.bytes }
 plain_step m (Alters dev lba change) s = s
 
-abbrev pub plain_answer : Setting → Step → Plain → Answer
+abbrev pub plain_answer : Setting → Step → Plain → ActAnswer
 plain_answer m (Sets at values) s = silent
 plain_answer m (Shows at) s = record silent { shown = gather 0 at s.bytes }
 plain_answer m (Seals body tuple app rtag) s = silent

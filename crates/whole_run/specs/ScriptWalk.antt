@@ -11,7 +11,7 @@ use Rattle.stack_ops.specs.declared.reply.BadBlock.{BadBlock}
 use Rattle.stack_ops.specs.declared.reply.Reply.{Reply}
 use Rattle.stack_ops.specs.declared.reply.Reply.TheVariants.{Bad, Medium, Shown, Silent, Whole}
 use Rattle.block_path.specs.Acts.{Act, State, act, tell}
-use Rattle.block_path.specs.Blocks.{Answer, Site, nothing_written, read_block, silent, untouched, write_block, write_block_of_app}
+use Rattle.block_path.specs.Blocks.{ActAnswer, Site, nothing_written, read_block, silent, untouched, write_block, write_block_of_app}
 use Rattle.block_path.specs.Moves.{on_bytes}
 use Rattle.block_path.specs.Serial.{plain, plain_tells}
 use Rattle.whole_run.specs.Settings.{Setting, route}
@@ -20,14 +20,14 @@ use Rattle.whole_run.specs.Steps.{Alters, Reads, Seals, Sets, Shows, Step, Write
 -- The walk: the ops of a script done one after another, block by block. There are no pieces, queues, groups or commands.
 
 -- `fill` and `put` set bytes.
-abbrev pub set_bytes : (at values : List ℕ) → Act Answer
+abbrev pub set_bytes : (at values : List ℕ) → Act ActAnswer
 set_bytes at values = on_bytes [] at (λ bytes. values)
 
-abbrev pub show_bytes : List ℕ → Act Answer
+abbrev pub show_bytes : List ℕ → Act ActAnswer
 show_bytes at = record (on_bytes at [] (λ bytes. [])) { compute = λ seen. record { written = nothing_written; answer = record silent { shown = seen.bytes } } }
 
 -- `seal` makes the tuple of each block: the host's guard of its data, the tag, and the long tag.
-abbrev pub seal_block : Setting → (body tuple : List ℕ) → (app rtag : ℕ) → Act Answer
+abbrev pub seal_block : Setting → (body tuple : List ℕ) → (app rtag : ℕ) → Act ActAnswer
 seal_block m body tuple app rtag = on_bytes body tuple (λ bytes. tuple_bytes (record { guard = guard_of m.mode.kind bytes; app = app; rtag = rtag }))
 
 -- the cell from which a change takes the block
@@ -41,7 +41,7 @@ changed (Flip off bytes) block = xored_from (byte_at off bytes) 0 block
 changed (Copy from at) block = block
 
 -- `overwrite` changes a stored block behind the target's back.
-abbrev pub overwrite : Site → (dev lba : ℕ) → Change → Act Answer
+abbrev pub overwrite : Site → (dev lba : ℕ) → Change → Act ActAnswer
 overwrite s dev lba change = record {
   bytes = untouched;
   blocks = record { reads = source_of s dev lba change ∷ []; writes = s.cell dev lba ∷ [] };
@@ -50,7 +50,7 @@ overwrite s dev lba change = record {
   compute = λ seen. record { written = record nothing_written { blocks = changed change (get_or seen.blocks 0 []) ∷ [] }; answer = silent };
 }
 
-abbrev pub act_of : Setting → Step → Act Answer
+abbrev pub act_of : Setting → Step → Act ActAnswer
 act_of m (Sets at values) = set_bytes at values
 act_of m (Shows at) = show_bytes at
 act_of m (Seals body tuple app rtag) = seal_block m body tuple app rtag
@@ -60,7 +60,7 @@ act_of m (Reads b owner to) = read_block m.site (route m b) owner to
 act_of m (Alters dev lba change) = overwrite m.site dev lba change
 
 -- op i as the acts of its blocks
-abbrev pub acts_of : Setting → (i : ℕ) → Op → List (Act Answer)
+abbrev pub acts_of : Setting → (i : ℕ) → Op → List (Act ActAnswer)
 acts_of m i op = map (act_of m) (steps_of m i op)
 
 -- the bad blocks among those from block k on, by what was found of each
@@ -74,15 +74,15 @@ whole_or_bad [] = Whole
 whole_or_bad (b ∷ bad) = Bad (b ∷ bad)
 
 -- a request replies that it is whole, or lists its bad blocks
-abbrev pub request_reply : List Answer → Reply
+abbrev pub request_reply : List ActAnswer → Reply
 request_reply answers = whole_or_bad (bad_from 0 (map (λ a. a.why) answers))
 
-abbrev pub shown_reply : List Answer → Reply
+abbrev pub shown_reply : List ActAnswer → Reply
 shown_reply [] = Silent
 shown_reply (a ∷ answers) = Shown a.shown
 
 -- what an op replies to its blocks' answers; `fails` says that it is an overwrite whose store call failed
-abbrev pub reply_of : (fails : Bool) → Op → List Answer → Reply
+abbrev pub reply_of : (fails : Bool) → Op → List ActAnswer → Reply
 reply_of fails (Fill seg byte) answers = Silent
 reply_of fails (Put page off bytes) answers = Silent
 reply_of fails (Show seg) answers = shown_reply answers
@@ -111,12 +111,12 @@ abbrev pub script_replies : Setting → List Op → State → List Reply
 script_replies m ops s = replies_from m 1 ops s
 
 -- all acts of the ops from op i on, one op after another
-abbrev pub acts_from : Setting → (i : ℕ) → List Op → List (Act Answer)
+abbrev pub acts_from : Setting → (i : ℕ) → List Op → List (Act ActAnswer)
 acts_from m i [] = []
 acts_from m i (op ∷ ops) = acts_of m i op ++ acts_from m (suc i) ops
 
 -- the replies that the answers of all acts make
-abbrev pub replies_by : Setting → (i : ℕ) → List Op → List Answer → List Reply
+abbrev pub replies_by : Setting → (i : ℕ) → List Op → List ActAnswer → List Reply
 replies_by m i [] answers = []
 replies_by m i (op ∷ ops) answers =
     reply_of (m.fails i) op (take (length (acts_of m i op)) answers) ∷ replies_by m (suc i) ops (drop (length (acts_of m i op)) answers)

@@ -10,6 +10,7 @@ use Rattle.stack_ops.specs.declared.op.Op.{Op}
 use Rattle.stack_ops.specs.declared.op.Op.TheVariants.{Fetch, FetchPi, Fill, Overwrite, Put, Seal, Show, Wait, Write, WritePi}
 use Rattle.stack_ops.specs.Footprints.{put_seg}
 use Rattle.whole_run.specs.Settings.{Block, Setting, block_of}
+use Rattle.pi_tuple.specs.declared.TheConstants.{TUPLE}
 
 -- What an op does, one block after another. Bytes of pages are named by their cells, in order.
 pub data Step : Type 0 where
@@ -26,7 +27,7 @@ abbrev pub body_of : (size : ℕ) → List Seg → ℕ → List ℕ
 body_of size body k = map cell (range_of body (k * size) size)
 
 abbrev pub tuple_of : List Seg → ℕ → List ℕ
-tuple_of tuples k = map cell (range_of tuples (8 * k) 8)
+tuple_of tuples k = map cell (range_of tuples (TUPLE * k) TUPLE)
 
 abbrev pub frame_at : (size : ℕ) → (body tuples : List Seg) → ℕ → List ℕ
 frame_at size body tuples k = body_of size body k ++ tuple_of tuples k

@@ -10,7 +10,7 @@ use Rattle.block_path.specs.Acts.{State, act}
 use Rattle.block_path.specs.Blocks.{own_tuple}
 use Rattle.block_path.specs.Routes.{host_type}
 use Rattle.block_path.specs.Serial.{plain}
-use Rattle.whole_run.specs.PlainMap.{Entry, Plain, as_expected, own_in, tag_of}
+use Rattle.whole_run.specs.PlainMap.{MapEntry, Plain, as_expected, own_in, tag_of}
 use Rattle.whole_run.specs.ScriptWalk.{act_of, acts_of}
 use Rattle.whole_run.specs.Settings.{Setting, route}
 use Rattle.whole_run.specs.Steps.{Alters, Reads, Seals, Sets, Shows, Step, Writes, WritesPi, steps_of}
@@ -25,13 +25,13 @@ abbrev pub home : Setting → ℕ → ℕ
 home m v = m.site.cell (place_in m.entries v).0 (address_of m v)
 
 -- what the map has of a stored block
-abbrev pub held : Setting → List ℕ → Entry
+abbrev pub held : Setting → List ℕ → MapEntry
 held m frame =
     if is_zero m.ty then record { body = data_of m.size frame; app = 0; own = 0 }
     else record { body = data_of m.size frame; app = (tuple_of m.size frame).app; own = own_in m.ty (tuple_of m.size frame).rtag }
 
 -- the map of n blocks from v on, as the image holds them
-abbrev pub map_from : Setting → (v n : ℕ) → List (List ℕ) → List Entry
+abbrev pub map_from : Setting → (v n : ℕ) → List (List ℕ) → List MapEntry
 map_from m v zero image = []
 map_from m v (suc n) image = held m (get_or image (home m v) []) ∷ map_from m (suc v) n image
 
@@ -40,13 +40,13 @@ abbrev pub opened : Setting → State → Plain
 opened m opening = record { bytes = opening.bytes; map = map_from m 0 (volume_len m.entries) opening.blocks }
 
 -- the stored block of an entry: its data, under the tuple of its guard, its application tag and its address
-abbrev pub stored_as : Setting → (lba : ℕ) → Entry → List ℕ
+abbrev pub stored_as : Setting → (lba : ℕ) → MapEntry → List ℕ
 stored_as m lba e =
     if is_zero m.ty then e.body
     else frame_of e.body (record { guard = crc e.body; app = e.app; rtag = tag_of m.ty lba e.own })
 
 -- the image that has at each place its entry of the map, from block v on; every other block is the image's
-abbrev pub under : Setting → (v : ℕ) → List Entry → List (List ℕ) → List (List ℕ)
+abbrev pub under : Setting → (v : ℕ) → List MapEntry → List (List ℕ) → List (List ℕ)
 under m v [] image = image
 under m v (e ∷ map) image = set (under m (suc v) map image) (home m v) (stored_as m (address_of m v) e)
 

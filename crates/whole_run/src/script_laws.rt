@@ -2,7 +2,7 @@
 
 ghost use Rattle.std.specs.Prelude.{◌≡◌, ℕ, List};
 ghost use Rattle.block_path.specs.Acts.{State, act, conflict, tell};
-ghost use Rattle.block_path.specs.Blocks.{Answer};
+ghost use Rattle.block_path.specs.Blocks.{ActAnswer};
 ghost use Rattle.block_path.specs.Serial.{Leads, all_done, none_done};
 ghost use Rattle.stack_ops.specs.declared.op.Op.{Op as AnyOp};
 ghost use Rattle.whole_run.specs.CalmRun.{IsCalmRun};
@@ -23,14 +23,14 @@ pub fn a_calm_walk_is_a_plain_map()
 /// In whatever order the blocks of all ops are done that keeps conflicting ones in script order: pages, stored blocks
 /// and carried frames are the walk's, and so are the replies. There is no premise on faults or on the image.
 pub fn any_order_is_the_walk()
-    ensures { (m : Setting) (ops : List AnyOp) (places : List ℕ) (before after : State) (answers : List Answer)
+    ensures { (m : Setting) (ops : List AnyOp) (places : List ℕ) (before after : State) (answers : List ActAnswer)
         → Leads act tell conflict (acts_from m 1 ops) places (none_done (acts_from m 1 ops)) before (all_done answers) after
         → (after ≡ script_walk m ops before) × (replies_by m 1 ops answers ≡ script_replies m ops before) }
 {}
 
 /// So over a clean image, with no escape and no fault, every such order is the plain map.
 pub fn any_calm_order_is_a_plain_map()
-    ensures { (m : Setting) (ops : List AnyOp) (places : List ℕ) (before after : State) (answers : List Answer) → IsCalmRun m ops before
+    ensures { (m : Setting) (ops : List AnyOp) (places : List ℕ) (before after : State) (answers : List ActAnswer) → IsCalmRun m ops before
         → Leads act tell conflict (acts_from m 1 ops) places (none_done (acts_from m 1 ops)) before (all_done answers) after
         → (replies_by m 1 ops answers ≡ plain_replies m ops (opened m before)) × IsUnder m (plain_map m ops (opened m before)) before.blocks after }
 {}

@@ -1,4 +1,4 @@
-use Rattle.std.proofs.Common.{◌≡◌, ◌≤◌, List, length, take}
+use Rattle.std.proofs.Common.{◌≡◌, List, length, take}
 use Rattle.mirror_legs.specs.Inner.{read_script}
 use Rattle.leg_runs.specs.Asked.{AreOf, IsReadOf, bytes_after, found_after}
 use Rattle.leg_runs.specs.LegRuns.{LegRun}

@@ -1,4 +1,4 @@
-use Rattle.std.proofs.Common.{ℕ, ◌≡◌, ◌*◌, ◌++◌, List, None, Option, Some, ap, length, refl, replicate, rules, sym, true, ◌∙◌}
+use Rattle.std.proofs.Common.{ℕ, ◌≡◌, ◌*◌, List, None, Option, Some, ap, length, refl, replicate, rules, sym, true, ◌∙◌}
 use Rattle.bio_core.specs.declared.fate.Why.{Why}
 use Rattle.mirror_legs.specs.declared.piece.Piece.{Piece}
 use Rattle.mirror_legs.specs.Inner.{read_script}

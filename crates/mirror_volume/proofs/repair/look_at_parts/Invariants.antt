@@ -1,4 +1,4 @@
-use Rattle.std.proofs.Common.{◌≡◌, ◌≤◌, List, length, take}
+use Rattle.std.proofs.Common.{List, take}
 use Rattle.mirror_legs.specs.Inner.{read_pi_script}
 use Rattle.leg_runs.specs.Asked.{AreOf}
 use Rattle.mirror_volume.specs.Helds.{IsAfter, IsSeen}
