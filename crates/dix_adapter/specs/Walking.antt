@@ -1,5 +1,5 @@
 -- Along the blocks of a request.
-use Rattle.std.specs.Prelude.{◌≡◌, Bool, true, false, ℕ, ◌*◌, ◌<◌, List, Option, Some, None}
+use Rattle.std.specs.Prelude.{◌≡◌, Bool, true, false, ℕ, ◌*◌, ◌<◌, ◌≤◌, List, Option, Some, None}
 use Rattle.page_pool.specs.declared.segs.Seg.{Seg}
 use Rattle.page_pool.specs.Cuts.{past}
 use Rattle.page_pool.specs.Pages.{AllLieIn, bytes_in}
@@ -15,6 +15,10 @@ use Rattle.pi_tuple.specs.declared.TheConstants.{TUPLE}
 abbrev pub WalksTuples : (pool : List (List ℕ)) → ℕ → Option Payload → Type 0
 WalksTuples pool count None = Unit {0}
 WalksTuples pool count (Some pi) = IsPayload pi × ((pi.count ≡ count) × AllLieIn pool pi.tuples)
+
+-- in some pool the tuples are walked, and the walk may begin at block k
+abbrev pub MayWalkFrom : Option Payload → ℕ → Type 0
+MayWalkFrom pi k = (pool : List (List ℕ)) × ((count : ℕ) × (WalksTuples pool count pi × (k ≤ count)))
 
 pub record Walkable (pool : List (List ℕ)) (io : Io) : Type 0 where
   pub some : 0 < io.count

@@ -5,7 +5,7 @@ ghost use Rattle.page_pool.specs.Cells.{flat, scatter};
 ghost use Rattle.page_pool.specs.Pages.{AreWhole, bytes_in};
 ghost use Rattle.bio_core.specs.Bios.{block_size};
 ghost use Rattle.dix_adapter.specs.Groups.{data_cells, tuple_cells};
-ghost use Rattle.dix_adapter.specs.Walking.{IsBefore, IsOnce, TuplesOnce, Walkable, WalksTuples, tuple_or, tuples_ahead};
+ghost use Rattle.dix_adapter.specs.Walking.{IsBefore, IsOnce, MayWalkFrom, TuplesOnce, Walkable, WalksTuples, tuple_or, tuples_ahead};
 
 use bio_core::Io;
 use integrity_payload::Payload;
@@ -137,7 +137,7 @@ fn read_tuple(
 }
 
 fn tuples_from(pi: &Option<Payload>, k: u32) -> Option<Walk<'_>>
-    requires { (pool : List (List ℕ)) × ((count : ℕ) × (WalksTuples pool count pi.now × (k ≤ count))) }
+    requires { MayWalkFrom pi.now k }
     ensures { result ≡ tuples_ahead pi.now k }
 {
     match pi {

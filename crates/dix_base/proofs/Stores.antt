@@ -1,6 +1,5 @@
 -- What a store keeps, from moment to moment.
-use Rattle.std.proofs.Common.{ap, refl, ◌∙◌, arith}
-use Rattle.std.specs.Prelude.{is_some}
+use Rattle.std.proofs.Common.{refl, ◌∙◌, arith}
 use Rattle.dix_base.specs.Stores.{StoreState, WasExtended, WasRead, WasWritten}
 
 pub not_read : (s : StoreState) → WasRead s s
@@ -14,10 +13,6 @@ not_written s = record { tells = refl; length = refl; count = omega arith; named
 
 pub written_on : (a b c : StoreState) → WasWritten a b → WasWritten b c → WasWritten a c
 written_on a b c p q = let i = p.count in let j = q.count in record { tells = q.tells ∙ p.tells; length = q.length ∙ p.length; count = omega arith; named = q.named ∙ p.named; opened = q.opened ∙ p.opened }
-
--- a store that was read was written nowhere
-pub written_nowhere : (a b : StoreState) → WasRead a b → WasWritten a b
-written_nowhere a b p = record { tells = ap is_some p.same; length = p.length; count = p.count; named = p.named; opened = p.opened }
 
 pub not_extended : (s : StoreState) → WasExtended s s
 not_extended s = record { tells = refl; more = omega arith; count = omega arith; named = refl; opened = refl }

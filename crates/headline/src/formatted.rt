@@ -1,21 +1,16 @@
 //! What `format` leaves.
 
-ghost use Rattle.std.specs.Prelude.{List, ℕ, ◌≡◌, ◌<◌, true, false, map, None, Some, All};
-ghost use Rattle.dix_adapter.specs.Ways.{blocks_told, cell_in};
+ghost use Rattle.std.specs.Prelude.{List, ℕ, ◌≡◌, true, map, None, Some};
 ghost use Rattle.image_commands.specs.Causes.{WasFormatted};
-ghost use Rattle.pi_tuple.specs.Finds.{is_zero};
 ghost use Rattle.rig_api.specs.Head.{head_fault, head_of, units_of};
 ghost use Rattle.rig_api.specs.State.{RigState};
 ghost use Rattle.rig_discovery.specs.Discovery.{info_of};
-ghost use Rattle.run_laws.specs.ShownRun.{DevicesAreClean};
 ghost use Rattle.run_command.specs.Verdict.{WasAsked, devices_of};
 ghost use Rattle.target_answer.specs.Headers.{is_layout};
 ghost use Rattle.target_answer.specs.Image.{formatted};
-ghost use Rattle.target_answer.specs.Target.{Stored};
 ghost use Rattle.target_answer.specs.declared.units.UnitSpec.{UnitSpec as AnyUnit};
+ghost use Rattle.headline.specs.Fresh.{TellsFresh};
 ghost use Rattle.volume_table.specs.declared.device.DeviceInfo.{DeviceInfo as AnyDevice};
-ghost use Rattle.whole_run.specs.PlainMap.{as_expected};
-ghost use Rattle.whole_run.specs.Settings.{Setting};
 
 use script_premises::a_formatted_image_is_clean;
 
@@ -29,8 +24,7 @@ pub fn a_formatted_image_tells_its_units()
     ensures devices { (units : List AnyUnit) → is_layout units ≡ true → devices_of (formatted units) ≡ map info_of units }
     ensures told { (units : List AnyUnit) (name : List ℕ) (devices : List AnyDevice) (old told : RigState) → is_layout units ≡ true → old.image ≡ Some (formatted units)
         → WasAsked name devices old told
-        → (us : List Stored) × (told.units ≡ Some us) × (devices ≡ map info_of units) × All (All (λ x. x < 256)) (blocks_told us)
-        × ((m : Setting) → is_zero m.ty ≡ false → as_expected m 0 ≡ true → m.site.cell ≡ cell_in units → DevicesAreClean m devices (blocks_told us)) }
+        → TellsFresh units devices told }
 {
     // By laws.
     a_formatted_image_is_clean();

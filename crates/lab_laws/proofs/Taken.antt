@@ -69,7 +69,7 @@ reguarded g (x ∷ y ∷ b) l h = let e = from_be_bytes-to_be_bytes_2 g h in sam
 
 module _ (size : ℕ) (frame : List ℕ) (l : length frame ≡ size + 8) where
   data_kept : (g : ℕ) → data_of size (with_guard size g frame) ≡ data_of size frame
-  data_kept g = take_at (take size frame) (to_be_bytes w16 g ++ drop (size + 2) frame) size front
+  data_kept g = take_at (take size frame) (to_be_bytes w16 g ++ drop (size + 2) frame) size (length-take-le size frame (omega (arith, l)))
 
   tuple_kept : (g : ℕ) → g < 2 ^ 16 → tuple_of size (with_guard size g frame) ≡ record { guard = g; app = (tuple_of size frame).app; rtag = (tuple_of size frame).rtag }
   tuple_kept g h =

@@ -44,7 +44,7 @@ module _ (n : ℕ) (x : List ℕ) (size : length x ≡ n + 8) (bytes : AllBelow 
   front_is =
       let g = (tuple_of n x).guard in
       ap (take (n + 2)) (sym (take-append-drop n x))
-      ∙ take_over (take n x) (drop n x) n 2 front_long
+      ∙ take_over (take n x) (drop n x) n 2 (length-take-le n x (omega arith))
       ∙ ap (λ v. take n x ++ take 2 v) (sym (spelled (drop n x) (behind_long n 8 x size) (λ i. below_at 256 (drop n x) i 0 (omega arith) (below_drop 256 n x bytes))))
       ∙ ap (λ v. take n x ++ v) (take_at (to_be_bytes w16 g) (to_be_bytes w16 (tuple_of n x).app ++ to_be_bytes w32 (tuple_of n x).rtag) 2 refl)
 

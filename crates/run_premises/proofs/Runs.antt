@@ -43,12 +43,6 @@ module _ (m' : Setting) (ops : List Op) (even : m'.size % 2 ≡ 0) (flips : All 
   abbrev m : Setting
   m = checked m'
 
-  abbrev n : ℕ
-  n = m'.size
-
-  abbrev count : ℕ
-  count = volume_len m'.entries
-
   abbrev faults : List FaultLine
   faults = m'.site.faults
 
@@ -132,9 +126,6 @@ module _ (m' : Setting) (ops : List Op) (even : m'.size % 2 ≡ 0) (flips : All 
 
   pub all_suit : AllFit m ops → AllFitting (steps_from m 1 ops)
   all_suit h = ops_suit 1 ops (λ j. let z : 1 + j - 1 ≡ j = omega arith in ap (λ v. get_or ops v Wait) z) h
-
--- escapes by steps
-module _ (m : Setting) where
 
 formed : (m' : Setting) (ops : List Op) (opening : State) → HasFormedFaults (checked m') ops opening → detectable (checked m') (steps_from (checked m') 1 ops) opening ≡ true
 formed m' ops opening run =

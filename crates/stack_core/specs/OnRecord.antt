@@ -136,6 +136,11 @@ pub record SendsOn (word cut : ℕ) (old new : Stack) (log log' : List Record) :
 
 -- ---- the parts of a step
 
+-- a record was put behind the log: that of this group with its fates, in the form of mode and type, of blocks of the plan's requests
+abbrev pub PutsRecord : Adapter → Plan → (d : ℕ) → List Bio → List Fate → (log log' : List Record) → Type 0
+PutsRecord a p d group fates log log' =
+    (e : Record) × (log' ≡ log ++ (e ∷ [])) × IsRecordOf (sent (record { dev = d; bios = group; fates = fates; completed = false })) e × IsFormed (mode_of a) a.ty e × IsOfRequests p e
+
 -- A group was taken and sent by this adapter. It is on record, in the form that the adapter calls for, but where the adapter held it back, since a block is bad; where none is, all are good.
 pub record Carries (a : Adapter) (p : Plan) (m : Machine) (d i : ℕ) (m' : Machine) (log log' : List Record) : Type 0 where
   pub taken : Machine
@@ -145,7 +150,7 @@ pub record Carries (a : Adapter) (p : Plan) (m : Machine) (d i : ℕ) (m' : Mach
   pub flies : Flies p taken d group fates m'
   pub settles : Settles group fates
   pub good : any_fails fates ≡ false → fates ≡ replicate (size group) Good
-  pub records : ((e : Record) × (log' ≡ log ++ (e ∷ [])) × IsRecordOf (sent (record { dev = d; bios = group; fates = fates; completed = false })) e × IsFormed (mode_of a) a.ty e × IsOfRequests p e) ⊎ ((any_fails fates ≡ true) × (log' ≡ log))
+  pub records : PutsRecord a p d group fates log log' ⊎ ((any_fails fates ≡ true) × (log' ≡ log))
 
 -- bad blocks are kept when the step of this choice is done, whichever view the machine showed
 abbrev pub Traces : Plan → Machine → Choice → (starts : List ℕ) (held : List Fate) (starts' : List ℕ) (held' : List Fate) → Type 0

@@ -56,5 +56,5 @@ returns-in_err-discover-clause-told g c =
       };
       armed = c.discover.ensures.stays.armed ∙ ap (λ (s : RigState). s.armed) c.reserve.ensures.keeps ∙ c.in_ok-open_image.ensures.kept.armed;
       fault = rw (ap (λ (s : RigState). s.standing) c.reserve.ensures.keeps, ap (λ (s : RigState). s.log) c.reserve.ensures.keeps) at c.in_err-discover.ensures.fault;
-      untold = silent _ (λ t. c.in_err-discover.ensures.told (ap is_some (ap (λ (s : RigState). s.units) c.reserve.ensures.keeps) ∙ t));
+      untold = silent _ (λ t. absurd (c.in_err-discover.ensures.told (ap is_some (ap (λ (s : RigState). s.units) c.reserve.ensures.keeps) ∙ t)));
     })

@@ -24,7 +24,7 @@ pub returns-in_err-devices-clause-cause : goal.returns-in_err-devices-clause-cau
 returns-in_err-devices-clause-cause g c =
     let same = ap (λ (s : RigState). s.units) c.reserve.ensures.keeps in
     let p = err_from_is_err_and c.from_residual-in_err-devices.result c.from_residual-in_err-devices.ensures.1 in
-    rw (p.1, p.2) (rw (ap (λ (s : RigState). s.standing) c.reserve.ensures.keeps, ap (λ (s : RigState). s.log) c.reserve.ensures.keeps) at c.in_err-devices.ensures.fault, silent _ (λ t. c.in_err-devices.ensures.never (ap is_some same ∙ t)))
+    rw (p.1, p.2) (rw (ap (λ (s : RigState). s.standing) c.reserve.ensures.keeps, ap (λ (s : RigState). s.log) c.reserve.ensures.keeps) at c.in_err-devices.ensures.fault, silent _ (λ t. absurd (c.in_err-devices.ensures.told (ap is_some same ∙ t))))
 
 pub returns-in_err-devices-clause-units : goal.returns-in_err-devices-clause-units
 returns-in_err-devices-clause-units g c = c.discover.ensures.units ∙ ap (λ (s : RigState). s.units) c.reserve.ensures.keeps

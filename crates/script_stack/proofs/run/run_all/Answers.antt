@@ -11,7 +11,7 @@ pub returns-clause-stays : goal.returns-clause-stays
 returns-clause-stays g c = stays_then _ _ _ c.run_schedule.ensures.stays c.run_rest.ensures.stays
 
 pub returns-clause-rig : goal.returns-clause-rig
-returns-clause-rig g c = stays-on _ _ _ c.run_schedule.ensures.rig c.run_rest.ensures.rig
+returns-clause-rig g c = stays-on c.run_schedule.ensures.rig c.run_rest.ensures.rig
 
 pub returns-clause-goes : goal.returns-clause-goes
 returns-clause-goes g c = goes_then _ _ _ c.run_schedule.ensures.goes c.run_rest.ensures.goes

@@ -33,7 +33,7 @@ pub loop-stack-preserved : goal.loop-stack-preserved
 loop-stack-preserved g c = record {
   stands = c.step.ensures.stands;
   stays = stays_then _ _ _ c.loop-stack.invariant.stays c.step.ensures.stays;
-  rig = stays-on _ _ _ c.loop-stack.invariant.rig c.step.ensures.rig;
+  rig = stays-on c.loop-stack.invariant.rig c.step.ensures.rig;
   went = went_on _ _ _ _ _ _ c.loop-stack.invariant.went c.step.ensures.went;
   goes = goes_then _ _ _ c.loop-stack.invariant.goes c.step.ensures.goes;
   sends = λ es h.

@@ -11,7 +11,7 @@ pub loop-word-preserved : goal.loop-word-preserved
 loop-word-preserved g c = record {
   stands = c.step.ensures.stands;
   stays = stays_then _ _ _ c.loop-word.invariant.stays c.step.ensures.stays;
-  rig = stays-on _ _ _ c.loop-word.invariant.rig c.step.ensures.rig;
+  rig = stays-on c.loop-word.invariant.rig c.step.ensures.rig;
   went = went_on _ _ _ _ _ _ c.loop-word.invariant.went c.step.ensures.went;
   goes = goes_then _ _ _ c.loop-word.invariant.goes c.step.ensures.goes;
   sends = λ z. sends_then _ _ _ _ _ _ _ c.loop-word.invariant.stays (c.loop-word.invariant.sends z) (sends_once _ _ _ _ _ _ _ (entry_here c.args.schedule.now c.loop-word.word-index c.loop-word.stack.machine.steps (c.loop-word.invariant.steps z)) c.step.ensures.sends);
