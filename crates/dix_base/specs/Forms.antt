@@ -1,4 +1,6 @@
-use Rattle.std.specs.Prelude.{ℕ, ◌≡◌, ◌<◌, length, ◌+◌, ◌-◌, ◌^◌, ◌/◌, min, List, All, Contains, Bool, Some, None}
+use Rattle.std.specs.Prelude.{ℕ, ◌≡◌, ◌<◌, ◌↔◌, length, ◌+◌, ◌-◌, ◌^◌, ◌/◌, min, List, All, Contains, Bool, Some, None, Result, IsErr, IsErrOf, OnOk, OnErr}
+use Rattle.dix_base.specs.declared.failed.StoreFault.{StoreFault}
+use Rattle.dix_base.specs.declared.failed.StoreFault.TheVariants.{Failed}
 use Rattle.dix_base.specs.Stores.{StoreState}
 
 -- one more, unless at the last value
@@ -26,6 +28,19 @@ after_call t = record { listed = t.listed; calls = one_more t.calls; faults = t.
 -- after a call that failed
 abbrev pub after_fault : Turns → Turns
 after_fault t = record { listed = t.listed; calls = one_more t.calls; faults = one_more t.faults }
+
+-- A call failed just where this was so, and is counted as what it was.
+pub record TookTurn {X E : Type 0} (result : Result X E) (fails : Type 0) (old new : Turns) : Type 0 where
+  pub failing : IsErr result ↔ fails
+  pub passed : OnOk result (new ≡ after_call old)
+  pub failed : OnErr result (new ≡ after_fault old)
+
+-- A call that may end for want of memory, and then isn't counted: it failed otherwise just where it was listed.
+pub record TookTurnOrMemory {X : Type 0} (result : Result X StoreFault) (old new : Turns) : Type 0 where
+  pub listed : IsErrOf result Failed → IsNextListed old
+  pub unlisted : OnOk result (¬ IsNextListed old)
+  pub passed : OnOk result (new ≡ after_call old)
+  pub failed : IsErrOf result Failed → new ≡ after_fault old
 
 -- a source in memory: the bytes that are left
 pub record Supply : Type 0 where

@@ -1,7 +1,7 @@
 //! A sink in memory.
 
 ghost use Rattle.std.specs.Prelude.{◌≡◌, ◌≤◌, ◌<◌, ◌+◌, ◌↔◌, ◌⊎◌, ◌++◌, [], length, min, take, Some, IfOk, IsErr, OnErr, OnOk};
-ghost use Rattle.dix_base.specs.Forms.{IsFull, IsNextListed, after_call, after_fault, no_turns};
+ghost use Rattle.dix_base.specs.Forms.{IsFull, IsNextListed, TookTurn, no_turns};
 ghost use Rattle.dix_base.specs.Told.{Rose};
 
 use crate::fault_plan::FaultPlan;
@@ -68,11 +68,9 @@ impl Sink for MemSink {
         ensures cause { OnErr result (Rose self.old.turns.faults self.new.turns.faults) }
         ensures count { self.old.turns.faults ≤ self.new.turns.faults }
 
-        ensures listed { IsErr result ↔ (IsNextListed self.old.turns ⊎ IsFull self.old.room bytes.now) }
+        ensures turn { TookTurn result (IsNextListed self.old.turns ⊎ IsFull self.old.room bytes.now) self.old.turns self.new.turns }
         ensures most { IfOk result (λ n. n ≡ min (length bytes.now) self.old.room) }
         ensures room { IfOk result (λ n. self.new.room + n ≡ self.old.room) }
-        ensures passed { OnOk result (self.new.turns ≡ after_call self.old.turns) }
-        ensures failed { OnErr result (self.new.turns ≡ after_fault self.old.turns) }
         ensures same_room { OnErr result (self.new.room ≡ self.old.room) }
     {
         let is_full = self.room == 0 && !bytes.is_empty();

@@ -1,7 +1,7 @@
 //! A source in memory that fails at the calls of a list.
 
 ghost use Rattle.std.specs.Prelude.{◌≡◌, ◌≤◌, ◌<◌, ◌↔◌, ◌++◌, [], drop, length, min, take, Some, IfOk, IsErr, OnErr, OnOk};
-ghost use Rattle.dix_base.specs.Forms.{IsNextListed, after_call, after_fault, no_turns};
+ghost use Rattle.dix_base.specs.Forms.{IsNextListed, TookTurn, no_turns};
 ghost use Rattle.dix_base.specs.Told.{Rose};
 
 use crate::fault_plan::FaultPlan;
@@ -52,10 +52,8 @@ impl Source for MemSource {
         ensures cause { OnErr result (Rose self.old.turns.faults self.new.turns.faults) }
         ensures count { self.old.turns.faults ≤ self.new.turns.faults }
 
-        ensures listed { IsErr result ↔ IsNextListed self.old.turns }
+        ensures turn { TookTurn result (IsNextListed self.old.turns) self.old.turns self.new.turns }
         ensures most { IfOk result (λ n. n ≡ min (length buf.old) (length self.old.left)) }
-        ensures passed { OnOk result (self.new.turns ≡ after_call self.old.turns) }
-        ensures failed { OnErr result (self.new.turns ≡ after_fault self.old.turns) }
         ensures buffer { OnErr result (buf.new ≡ buf.old) }
     {
         self.plan.turn(false)?;

@@ -1,7 +1,7 @@
 //! A store in memory that fails at the calls of a list.
 
 ghost use Rattle.std.specs.Prelude.{◌≡◌, ◌+◌, ◌-◌, ◌/◌, ◌^◌, min, ◌≤◌, ◌++◌, ◌↔◌, [], drop, length, take, Some, refl, IfOk, IsErr, IsErrOf, IsOk, OnOk, OnErr, string_bytes};
-ghost use Rattle.dix_base.specs.Forms.{IsNextListed, after_call, after_fault, no_turns, stock_state};
+ghost use Rattle.dix_base.specs.Forms.{IsNextListed, TookTurn, TookTurnOrMemory, no_turns, stock_state};
 ghost use Rattle.dix_base.specs.Stores.{IsCounted, WasExtended, WasOpened, WasRead, WasWritten};
 ghost use Rattle.dix_base.specs.Told.{Apart, Begins, Rose, over};
 
@@ -75,9 +75,7 @@ impl Store for MemStore {
         ensures counted { IsCounted result (stock_state self.old) (stock_state self.new) }
         ensures opened { WasOpened (string_bytes name) (stock_state self.old) (stock_state self.new) }
 
-        ensures listed { IsErr result ↔ IsNextListed self.old.turns }
-        ensures passed { OnOk result (self.new.turns ≡ after_call self.old.turns) }
-        ensures failed { OnErr result (self.new.turns ≡ after_fault self.old.turns) }
+        ensures turn { TookTurn result (IsNextListed self.old.turns) self.old.turns self.new.turns }
         ensures same { OnErr result (self.new.bytes ≡ self.old.bytes) }
     {
         if self.plan.turn(false).is_err() {
@@ -94,9 +92,7 @@ impl Store for MemStore {
         ensures counted { IsCounted result (stock_state self.old) (stock_state self.new) }
         ensures stays { WasRead (stock_state self.old) (stock_state self.new) }
 
-        ensures listed { IsErr result ↔ IsNextListed self.old.turns }
-        ensures passed { OnOk result (self.new.turns ≡ after_call self.old.turns) }
-        ensures failed { OnErr result (self.new.turns ≡ after_fault self.old.turns) }
+        ensures turn { TookTurn result (IsNextListed self.old.turns) self.old.turns self.new.turns }
         ensures buffer { OnErr result (into.new ≡ into.old) }
     {
         self.plan.turn(false)?;
@@ -111,9 +107,7 @@ impl Store for MemStore {
         ensures counted { IsCounted result (stock_state self.old) (stock_state self.new) }
         ensures stays { WasWritten (stock_state self.old) (stock_state self.new) }
 
-        ensures listed { IsErr result ↔ IsNextListed self.old.turns }
-        ensures passed { OnOk result (self.new.turns ≡ after_call self.old.turns) }
-        ensures failed { OnErr result (self.new.turns ≡ after_fault self.old.turns) }
+        ensures turn { TookTurn result (IsNextListed self.old.turns) self.old.turns self.new.turns }
         ensures half { OnErr result (self.new.bytes ≡ over at (take (length piece.now / 2) piece.now) self.old.bytes) }
     {
         let n = self.plan.part_of(piece.len());
@@ -131,10 +125,7 @@ impl Store for MemStore {
         ensures cause { IsErrOf result StoreFault.Failed → Rose self.old.turns.faults self.new.turns.faults }
         ensures stays { WasExtended (stock_state self.old) (stock_state self.new) }
 
-        ensures listed { IsErrOf result StoreFault.Failed → IsNextListed self.old.turns }
-        ensures unlisted { OnOk result (¬ IsNextListed self.old.turns) }
-        ensures passed { OnOk result (self.new.turns ≡ after_call self.old.turns) }
-        ensures failed { IsErrOf result StoreFault.Failed → self.new.turns ≡ after_fault self.old.turns }
+        ensures turn { TookTurnOrMemory result self.old.turns self.new.turns }
         ensures half { IsErrOf result StoreFault.Failed → self.new.bytes ≡ self.old.bytes ++ take (length piece.now / 2) piece.now }
     {
         let n = self.plan.part_of(piece.len());
