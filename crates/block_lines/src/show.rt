@@ -7,18 +7,14 @@ ghost use Rattle.block_lines.specs.ShowText.{block_lines, count_bad, first_line,
 
 use crate::sight::add_block;
 use dix_base::{Failed, Sink};
-use pi_tuple::{PiType, TUPLE};
 use report_text::{Line, add, add_number, write_all};
-use target_answer::UnitSpec;
+use target_answer::{UnitSpec, stored_size};
 
 /// The bytes of a stored block.
 pub(crate) fn stored_len(unit: UnitSpec) -> usize
     ensures { result ≡ stored_size unit.ty unit.size }
 {
-    match unit.ty {
-        PiType::Zero => unit.size as usize,
-        PiType::One | PiType::Two | PiType::Three => unit.size as usize + TUPLE,
-    }
+    stored_size(unit.ty, unit.size)
 }
 
 /// The number of blocks at fault or that differ, with this one.

@@ -11,7 +11,7 @@ ghost use Rattle.block_lines.specs.Sights.{block_line, have_text, is_at_fault, r
 
 use crate::line::add_hex;
 use pi_guard::crc16;
-use pi_tuple::{Check, Checks, PiType, Tuple, finds, is_escape, ref_tag};
+use pi_tuple::{Check, Checks, PiType, TUPLE, Tuple, finds, is_escape, ref_tag};
 use report_text::{Line, add, add_number};
 use target_answer::UnitSpec;
 
@@ -56,10 +56,10 @@ pub(crate) fn is_zero(ty: PiType) -> bool
 }
 
 pub(crate) fn tuple_in(eight: &[u8]) -> Tuple
-    requires { length eight.now ≡ 8 }
+    requires { length eight.now ≡ TUPLE }
     ensures { result ≡ tuple_in eight.now }
 {
-    let mut bytes = [0; 8];
+    let mut bytes = [0; TUPLE];
     bytes.copy_from_slice(eight);
     Tuple::from_bytes(&bytes)
 }

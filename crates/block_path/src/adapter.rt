@@ -13,12 +13,11 @@ ghost use Rattle.target_answer.specs.Passing.{unless};
 ghost use Rattle.block_path.specs.Routes.{converted, field, host_finding, host_size, host_type, passes_tuples, wire_size, with_guard};
 ghost use Rattle.block_path.specs.WayIn.{adapter_finds_in, from_wire, received};
 ghost use Rattle.block_path.specs.WayOut.{adapter_finds_out, sent, to_wire};
-ghost use Rattle.pi_tuple.specs.declared.TheConstants.{TUPLE};
 
 use crate::Route;
 use fault_schedule::{Crossing, Tamper};
 use pi_guard::{GuardKind, crc16, ip_sum};
-use pi_tuple::{Check, Checks, PiType, Tuple, finds, make, own_tag, ref_tag};
+use pi_tuple::{Check, Checks, PiType, TUPLE, Tuple, finds, make, own_tag, ref_tag};
 
 /// The type of the tuples that a host has in memory for a unit of this type: the unit's, and type 1 where the unit
 /// has none.
@@ -42,7 +41,7 @@ fn tuple_behind(frame: &[u8], size: usize) -> Tuple
     requires { length frame.now ≡ size + TUPLE }
     ensures { result ≡ tuple_of size frame.now }
 {
-    let mut bytes = [0; 8];
+    let mut bytes = [0; TUPLE];
     bytes.copy_from_slice(&frame[size..]);
     Tuple::from_bytes(&bytes)
 }

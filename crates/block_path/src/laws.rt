@@ -24,6 +24,7 @@ ghost use Rattle.block_path.specs.Routes.{Device, host_size, wire_size};
 ghost use Rattle.block_path.specs.WayIn.{comes_in, from_wire, mapped_back};
 ghost use Rattle.block_path.specs.WayOut.{mapped_out, to_wire};
 ghost use Rattle.block_path.specs.Serial.{AgreesWith, AllApart, Answered, ClearOf, Commutes, Leads, MayAct, Serial, StandFor, all_done, none_done, plain, plain_tells, walk};
+ghost use Rattle.pi_tuple.specs.declared.TheConstants.{TUPLE};
 
 /// Acts that share no cell that one of them writes may change places, and conflict is one both ways.
 pub fn acts_without_conflict_commute<R>()
@@ -95,7 +96,7 @@ pub fn a_write_in_three_moves()
         let mapped = act (map_out r tuple) now in
         IsOne (act (map_back r tuple) (act (carry_out s r frame) mapped)) (act (write_block_of_app s r frame) now)
         (tell (carry_out s r frame) mapped) (tell (write_block_of_app s r frame) now) }
-    ensures own { (s : Site) (r : Route) (app n : ℕ) (body tuple : List ℕ) (now : State) → r.mode.dix ≡ true → length body ≡ r.size → length tuple ≡ 8
+    ensures own { (s : Site) (r : Route) (app n : ℕ) (body tuple : List ℕ) (now : State) → r.mode.dix ≡ true → length body ≡ r.size → length tuple ≡ TUPLE
         → share_a_cell body tuple ≡ false → AreCells (length now.bytes) tuple → All (λ i. n ≤ i) tuple
         → let made = act (make_tuple r app body tuple) now in
         IsOne (hidden n (act (write_block_of_app s r (body ++ tuple)) made)) (hidden n (act (write_block s r app body) now))
@@ -118,11 +119,11 @@ pub fn frames_have_their_sizes()
 /// tuple leaves, in turn.
 pub fn tuples_are_written_in_turn()
     ensures mapped { (old new : List (List ℕ)) (segs : List AnySeg) (ty : AnyType) (k n from to : ℕ) (now : State)
-        → AreWhole old → AllLieIn old segs → NoneTwice (places_in segs) → 8 * (k + n) ≤ total segs → now.bytes ≡ flat old → AreRemapped old new segs ty k n from to
+        → AreWhole old → AllLieIn old segs → NoneTwice (places_in segs) → TUPLE * (k + n) ≤ total segs → now.bytes ≡ flat old → AreRemapped old new segs ty k n from to
         → (plain act (in_turn (λ i. on_bytes (map cell (tuple_places segs (k + i))) (map cell (tuple_places segs (k + i))) (remapped_bytes ty (from + i) (to + i))) n) now).bytes ≡ flat new }
     ensures made { (old new : List (List ℕ)) (body segs : List AnySeg) (size : ℕ) (kind : AnyKind) (ty : AnyType) (seed app n : ℕ) (now : State)
-        → AreWhole old → AllLieIn old body → AllLieIn old segs → NoneTwice (places_in segs) → Apart (places_in body) (places_in segs) → 8 * n ≤ total segs → now.bytes ≡ flat old
-        → Wrote old new (range_of segs 0 (8 * n)) (made_bytes old body size kind ty seed app n)
+        → AreWhole old → AllLieIn old body → AllLieIn old segs → NoneTwice (places_in segs) → Apart (places_in body) (places_in segs) → TUPLE * n ≤ total segs → now.bytes ≡ flat old
+        → Wrote old new (range_of segs 0 (TUPLE * n)) (made_bytes old body size kind ty seed app n)
         → (plain act (in_turn (λ i. on_bytes (map cell (range_of body (i * size) size)) (map cell (tuple_places segs i))
         (λ bytes. tuple_bytes (record { guard = guard_of kind bytes; app = app; rtag = own_tag ty (seed + i) }))) n) now).bytes ≡ flat new }
 {}

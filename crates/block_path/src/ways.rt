@@ -14,7 +14,7 @@ use bio_core::Why;
 use fault_schedule::{Crossing, Tamper};
 use integrity_payload::Owner;
 use pi_tuple::{Check, PiType, has_ref_tag, ref_tag};
-use target_answer::Passage;
+use target_answer::{Passage, stored_size};
 
 /// The address that is so many blocks off.
 fn moved(lba: u64, by: i64) -> u64
@@ -37,7 +37,7 @@ fn map_tag(tag: &mut [u8], ty: PiType, from: u64, to: u64)
 
 /// The eight bytes of a tuple, of which the last four are its reference tag.
 fn map_tuple(tuple: &mut [u8], ty: PiType, from: u64, to: u64)
-    requires { length tuple.old ≡ 8 }
+    requires { length tuple.old ≡ TUPLE }
     ensures { tuple.new ≡ remapped_bytes ty from to tuple.old }
 {
     map_tag(&mut tuple[4..], ty, from, to);
@@ -76,12 +76,7 @@ impl Route {
     fn stored_size(&self) -> usize
         ensures { result ≡ stored_size self.now.ty self.now.size }
     {
-        let size = self.size as usize;
-        if self.ty == PiType::Zero {
-            size
-        } else {
-            size + 8
-        }
+        stored_size(self.ty, self.size)
     }
 
     fn map_out(&self, frame: &mut [u8])

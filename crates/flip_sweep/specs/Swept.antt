@@ -24,6 +24,7 @@ use Rattle.flip_sweep.specs.declared.sweep.Halt.TheVariants as halt
 use Rattle.flip_sweep.specs.declared.sweep.Unswept.{Unswept}
 use Rattle.flip_sweep.specs.declared.sweep.Unswept.TheVariants as unswept
 use Rattle.flip_sweep.specs.declared.verdict.Verdict.{Verdict}
+use Rattle.pi_tuple.specs.declared.TheConstants.{TUPLE}
 
 -- what is swept: the byte by which others are altered, the units, and the script
 pub record Sweep : Type 0 where
@@ -42,7 +43,7 @@ verdicts_from w at off (suc n) = verdict_at w at off ∷ verdicts_from w at (off
 
 -- and for each byte of a frame: a block and eight bytes
 abbrev pub verdicts_at : Sweep → Site → List Verdict
-verdicts_at w at = verdicts_from w at 0 (w.script.block + 8)
+verdicts_at w at = verdicts_from w at 0 (w.script.block + TUPLE)
 
 abbrev pub rows_at : Sweep → Site → List ℕ
 rows_at w at = rows at (stretches (verdicts_at w at))

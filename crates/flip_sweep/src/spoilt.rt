@@ -7,13 +7,11 @@ ghost use Rattle.target_answer.specs.Headers.{all_bytes, bytes_of, is_layout, is
 ghost use Rattle.target_answer.specs.Image.{units_from};
 ghost use Rattle.target_answer.specs.Passing.{is_one};
 ghost use Rattle.flip_sweep.specs.Verdicts.{first_spoilt, first_spoilt_from, new_finding};
-ghost use Rattle.pi_tuple.specs.declared.TheConstants.{TUPLE};
 
 use crate::verdict::Verdict;
-use image_layout::stored_size;
 use pi_guard::crc16;
-use pi_tuple::{Check, Checks, PiType, Tuple, finds, ref_tag};
-use target_answer::UnitSpec;
+use pi_tuple::{Check, Checks, PiType, TUPLE, Tuple, finds, ref_tag};
+use target_answer::{UnitSpec, stored_size};
 
 fn is_one(ty: PiType) -> bool
     ensures { result ≡ is_one ty }
@@ -30,7 +28,7 @@ fn protected_finding(unit: UnitSpec, lba: u64, block: &[u8]) -> Option<Check>
     ensures { result ≡ stored_finding unit.ty unit.size lba block.now }
 {
     let (data, behind) = block.split_at(unit.size as usize);
-    let mut eight = [0; 8];
+    let mut eight = [0; TUPLE];
     eight.copy_from_slice(behind);
     let checks = Checks {
         guard: true,
@@ -82,7 +80,7 @@ fn first_in(dev: u32, unit: UnitSpec, was: &[u8], now: &[u8]) -> Option<Verdict>
     ensures { result ≡ first_spoilt_from unit.ty unit.size dev unit.first
         (frames_of (stored_size unit.ty unit.size) unit.blocks was.now) (frames_of (stored_size unit.ty unit.size) unit.blocks now.now) }
 {
-    let len = stored_size(unit.ty, unit.size) as usize;
+    let len = stored_size(unit.ty, unit.size);
     let mut lba = unit.first;
     let mut left = unit.blocks;
     let mut before = was;
@@ -106,7 +104,7 @@ fn bytes_of(unit: UnitSpec) -> usize
     requires { is_spec unit ≡ true }
     ensures { result ≡ bytes_of unit }
 {
-    unit.blocks as usize * stored_size(unit.ty, unit.size) as usize
+    unit.blocks as usize * stored_size(unit.ty, unit.size)
 }
 
 /// The first stored block of these units that is at fault and isn't so otherwise, by the bytes of all their blocks.

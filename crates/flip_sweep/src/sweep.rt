@@ -22,6 +22,7 @@ use call_refusal::Refusal;
 use dix_base::{CalmStore, Failed, Sink};
 use fault_schedule::FaultList;
 use image_rig::ImageRig;
+use pi_tuple::TUPLE;
 use report_text::write_all;
 use script_text::{LineList, Script};
 use std::alloc::{AllocError, Global};
@@ -59,17 +60,17 @@ pub(crate) struct Ground<'a> {
 /// The bytes of a frame: a block and eight bytes.
 fn frame_len(script: &Script) -> u32
     requires { IsSound script.now }
-    ensures len { result ≡ script.now.block + 8 }
+    ensures len { result ≡ script.now.block + TUPLE }
     ensures few { result ≤ MOST_FRAME }
 {
-    script.block + 8
+    script.block + TUPLE as u32
 }
 
 /// What the flip of byte `off` of a frame comes to.
 fn verdict_at(alloc: Global, base: &Ground<'_>, site: Site, off: u32) -> Result<Verdict, AllocError>
     requires base { IsGround base.now }
     requires site { IsSite site }
-    requires off { off < base.now.script.now.block + 8 }
+    requires off { off < base.now.script.now.block + TUPLE }
     ensures { IfOk result (λ v. v ≡ verdict_at (swept_in base.now) site off) }
 {
     let script = with_flip(alloc, base.script, site, off, base.byte)?;
@@ -142,7 +143,7 @@ fn sweep_site<O: Sink>(
 ) -> Result<Counts, Halt>
     requires base { IsGround base.now }
     requires site { IsSite site }
-    requires small { IsSmall counts (base.now.script.now.block + 8) }
+    requires small { IsSmall counts (base.now.script.now.block + TUPLE) }
     ensures counts { IfOk result (λ c. c ≡ all_counted counts (verdicts_at (swept_in base.now) site)) }
     ensures whole { OnOk result (Appended (rows_at (swept_in base.now) site) (O.taken out.old) (O.taken out.new)) }
     ensures part { OnErr result (AppendedSome (rows_at (swept_in base.now) site) (O.taken out.old) (O.taken out.new)) }

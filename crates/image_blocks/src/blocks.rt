@@ -12,7 +12,8 @@ ghost use Rattle.image_blocks.specs.Places.{IsStretch};
 use crate::image::Image;
 use crate::stretch::Stretch;
 use dix_base::{Failed, Store};
-use image_layout::{place_of, stored_size};
+use image_layout::place_of;
+use target_answer::stored_size;
 
 /// The byte of the image at which a stretch begins.
 fn place_in(image: &Image, at: Stretch) -> u64
@@ -21,7 +22,7 @@ fn place_in(image: &Image, at: Stretch) -> u64
 {
     let unit = image.units[at.dev as usize];
     place_of(&image.units, at.dev as usize)
-        + (at.first - unit.first) * stored_size(unit.ty, unit.size)
+        + (at.first - unit.first) * stored_size(unit.ty, unit.size) as u64
 }
 
 /// Reads the blocks of a stretch into `into`, which has just their length, by one call of the store. A call

@@ -9,8 +9,7 @@ ghost use Rattle.target_answer.specs.declared.TheConstants.{MOST_FRAME};
 
 use crate::image::Image;
 use crate::stretch::{PlaceFault, Stretch};
-use image_layout::stored_size;
-use target_answer::UnitSpec;
+use target_answer::{UnitSpec, stored_size};
 
 /// All blocks of a unit.
 pub fn whole_of(image: &Image, dev: u32) -> Result<Stretch, PlaceFault>
@@ -84,5 +83,5 @@ pub fn block_bytes(image: &Image, dev: u32) -> usize
     ensures most { result ≤ MOST_FRAME }
 {
     let unit = image.units[dev as usize];
-    stored_size(unit.ty, unit.size) as usize
+    stored_size(unit.ty, unit.size)
 }

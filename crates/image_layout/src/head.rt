@@ -2,15 +2,13 @@
 
 ghost use Rattle.std.specs.Prelude.{◌≡◌, ◌≤◌, ◌+◌, ◌*◌, [], None, Some, eqb, if◌then◌else◌, true};
 ghost use Rattle.target_answer.specs.Headers.{bytes_of, image_size, is_header, is_layout, is_spec, specs_in};
-ghost use Rattle.target_answer.specs.Frames.{stored_size};
 ghost use Rattle.rig_api.specs.Head.{fault_of_header, head_fault, units_of, version_in};
 ghost use Rattle.image_layout.specs.Heads.{head_in};
 
 use crate::image_head::ImageHead;
 use arrayvec::ArrayVec;
-use pi_tuple::PiType;
 use rig_api::{RigFault, front};
-use target_answer::{UnitSpec, Version, is_header, specs_in, version_of};
+use target_answer::{UnitSpec, Version, is_header, specs_in, stored_size, version_of};
 
 impl ImageHead {
     /// The head of no image.
@@ -56,24 +54,13 @@ impl ImageHead {
     }
 }
 
-/// The bytes of a block as it is stored.
-pub fn stored_size(ty: PiType, size: u32) -> u64
-    ensures value { result ≡ stored_size ty size }
-    ensures bound { result ≤ size + 8 }
-{
-    match ty {
-        PiType::Zero => size as u64,
-        _ => size as u64 + 8,
-    }
-}
-
 /// The bytes of a unit's blocks in the image.
 pub(crate) fn unit_bytes(unit: UnitSpec) -> u64
     requires { is_spec unit ≡ true }
     ensures value { result ≡ bytes_of unit }
     ensures bound { result ≤ 65536 * 520 }
 {
-    unit.blocks * stored_size(unit.ty, unit.size)
+    unit.blocks * stored_size(unit.ty, unit.size) as u64
 }
 
 /// The length of the image of these units.

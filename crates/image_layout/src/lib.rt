@@ -7,7 +7,6 @@ mod image_head;
 mod looking;
 mod place;
 
-pub use head::stored_size;
 pub use image_head::ImageHead;
 pub use looking::look;
 pub use place::{block_place, has_address, place_of};

@@ -5,8 +5,8 @@ ghost use Rattle.target_answer.specs.Headers.{bytes_of, is_layout};
 ghost use Rattle.rig_api.specs.Telling.{has_address, no_spec};
 ghost use Rattle.image_layout.specs.Places.{block_place, place_of};
 
-use crate::head::{stored_size, unit_bytes};
-use target_answer::UnitSpec;
+use crate::head::unit_bytes;
+use target_answer::{UnitSpec, stored_size};
 
 /// The byte of the image at which a unit's first block begins.
 pub fn place_of(units: &[UnitSpec], dev: usize) -> u64
@@ -30,7 +30,7 @@ pub fn block_place(units: &[UnitSpec], dev: usize, lba: u64) -> u64
     ensures value { result ≡ block_place units.now dev lba }
 {
     let unit = units[dev];
-    place_of(units, dev) + (lba - unit.first) * stored_size(unit.ty, unit.size)
+    place_of(units, dev) + (lba - unit.first) * stored_size(unit.ty, unit.size) as u64
 }
 
 /// Whether a unit has this LBA.

@@ -10,10 +10,9 @@ ghost use Rattle.target_answer.specs.Image.{all_fresh, formatted, fresh};
 ghost use Rattle.image_rig.specs.Small.{is_small};
 
 use dix_base::{Store, StoreFault};
-use image_layout::stored_size;
 use pi_tuple::{PiType, make, own_tag};
 use std::alloc::Global;
-use target_answer::{MOST_FRAME, UnitSpec, Version, header};
+use target_answer::{MOST_FRAME, UnitSpec, Version, header, stored_size};
 
 /// Puts the tuple of a formatted block behind zeros: guard 0, which is that of zeros, application tag 0,
 /// and the block's own reference tag.
@@ -62,7 +61,7 @@ fn append_unit<S: Store>(alloc: Global, store: &mut S, unit: &UnitSpec) -> Resul
     ensures stays { WasExtended (S.state store.old) (S.state store.new) }
 {
     let mut room = [0; MOST_FRAME];
-    let size = stored_size(unit.ty, unit.size) as usize;
+    let size = stored_size(unit.ty, unit.size);
     append_blocks(alloc, store, unit, &mut room[..size])
 }
 

@@ -12,9 +12,9 @@ ghost use Rattle.target_answer.specs.Headers.{image_size, is_layout};
 use crate::place::{can_change, source_place};
 use dix_base::{Failed, Store};
 use fault_schedule::xor_into;
-use image_layout::{block_place, stored_size};
+use image_layout::block_place;
 use rig_api::{Change, UnitSpec};
-use target_answer::MOST_FRAME;
+use target_answer::{MOST_FRAME, stored_size};
 
 fn alter(change: &Change, block: &mut [u8])
     ensures value { block.new ≡ altered_by change.now block.old }
@@ -73,6 +73,6 @@ pub(crate) fn change_block<S: Store>(
     let from = source_place(units, dev, lba, change);
     let to = block_place(units, dev, lba);
     let mut room = [0; MOST_FRAME];
-    let len = stored_size(unit.ty, unit.size) as usize;
+    let len = stored_size(unit.ty, unit.size);
     overwrite_block(store, from, to, change, &mut room[..len])
 }

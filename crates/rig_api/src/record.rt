@@ -10,7 +10,7 @@ use crate::{Outcome, Record};
 use arrayvec::ArrayVec;
 use cdb_codec::{Cdb, Rw};
 use fault_schedule::{Label, ShortBytes};
-use target_answer::{Request, request_of};
+use target_answer::{Request, request_of, sent_size};
 
 impl Record {
     /// The record of an exchange: the device, the command block of at most 32 bytes and the
@@ -40,14 +40,6 @@ pub fn front<T>(all: &[T], count: usize) -> &[T]
         return part;
     }
     all
-}
-
-fn sent_size(protect: u8, size: u32) -> usize
-    ensures value { result ≡ sent_size protect size }
-    ensures bound { result ≤ size + TUPLE }
-{
-    let size = size as usize;
-    if protect == 0 { size } else { size + 8 }
 }
 
 fn frames_done<'a>(size: u32, c: Rw, done: u32, buffer: &'a [u8]) -> &'a [u8]

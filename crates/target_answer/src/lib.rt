@@ -5,10 +5,12 @@
 
 mod passage;
 mod request;
+mod size;
 mod units;
 
 pub use passage::Passage;
 pub use request::{Request, is_foreign, request_of};
+pub use size::{sent_size, stored_size};
 pub use units::{UnitSpec, Version, header, is_header, is_layout, is_spec, specs_in, version_of};
 
 /// The bytes of the largest frame: 4,096 of data and a tuple.

@@ -4,6 +4,7 @@ ghost use Rattle.std.specs.Prelude.{◌≡◌, ◌+◌, ◌≤◌, ◌<◌, ◌+
 ghost use Rattle.pi_tuple.specs.Tuples.{tuple_bytes, tuple_in};
 ghost use Rattle.target_answer.specs.Frames.{sent_size, stored_size};
 ghost use Rattle.target_answer.specs.Passing.{asked_of, crossed, found_in, from_medium, to_medium, unless, wanted_of, with_own_tuple};
+ghost use Rattle.pi_tuple.specs.declared.TheConstants.{TUPLE};
 
 use fault_schedule::{Crossing, Label, Tamper};
 use pi_guard::crc16;
@@ -40,7 +41,7 @@ fn cross(tamper: &Tamper, label: Option<Label>, at: Crossing, frame: &mut [u8])
 }
 
 fn tuple_behind(behind: &[u8]) -> Tuple
-    requires { length behind.now ≡ 8 }
+    requires { length behind.now ≡ TUPLE }
     ensures { result ≡ tuple_in behind.now }
 {
     Tuple::from_bytes(&[
@@ -92,7 +93,7 @@ impl Passage {
 }
 
 fn put_tuple(frame: &mut [u8], at: usize, tuple: Tuple)
-    requires { at + 8 ≡ length frame.old }
+    requires { at + TUPLE ≡ length frame.old }
     ensures { frame.new ≡ take at frame.old ++ tuple_bytes tuple }
 {
     let bytes = tuple.to_bytes();

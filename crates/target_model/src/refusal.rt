@@ -9,12 +9,11 @@ ghost use Rattle.target_answer.specs.declared.request.Request.TheVariants.{Read,
 ghost use Rattle.target_answer.specs.declared.units.UnitSpec.{UnitSpec};
 ghost use Rattle.pi_tuple.specs.declared.TheConstants.{LARGEST_BLOCK};
 
-use crate::unit::sent_size;
 use cdb_codec::{Cdb, Rw};
 use fault_schedule::{Crossing, Label, Tamper};
 use pi_tuple::PiType;
 use sense_codes::codes::{INVALID_FIELD, INVALID_OPCODE, OUT_OF_RANGE};
-use target_answer::{UnitSpec, is_foreign};
+use target_answer::{UnitSpec, is_foreign, sent_size};
 
 fn shift_by_first(tamper: &Tamper, at: Crossing, labels: &[Label]) -> i64
     ensures { result ≡ shift_by_first tamper.now at labels.now }

@@ -9,13 +9,13 @@ ghost use Rattle.target_answer.specs.Target.{passage, read_by, read_end, write_e
 ghost use Rattle.target_model.specs.Served.{AllReadOn, AllVerifiedOn, AllWrittenOn, CanMove, block_bytes};
 
 use crate::block::{read_block, write_block};
-use crate::unit::{block_bytes, sent_size};
+use crate::unit::block_bytes;
 use cdb_codec::Rw;
 use dix_base::Store;
 use fault_schedule::{Label, Tamper};
 use rig_api::Outcome;
 use sense_codes::Sense;
-use target_answer::{MOST_FRAME, Passage, UnitSpec};
+use target_answer::{MOST_FRAME, Passage, UnitSpec, sent_size};
 
 /// The blocks of a command: the unit, the command's fields, and the LBA of the first block, as
 /// the target was told it.

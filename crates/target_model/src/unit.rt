@@ -1,11 +1,11 @@
 //! A unit in a store.
 
 ghost use Rattle.std.specs.Prelude.{◌≡◌, ◌+◌, ◌≤◌};
-ghost use Rattle.target_answer.specs.Frames.{sent_size, stored_size};
+ghost use Rattle.pi_tuple.specs.declared.TheConstants.{TUPLE};
 ghost use Rattle.target_model.specs.Served.{block_bytes, shape_in};
 
 use pi_tuple::PiType;
-use target_answer::UnitSpec;
+use target_answer::{UnitSpec, stored_size};
 
 /// A unit whose blocks lie in a store, one after another.
 #[derive(Clone, Copy, Debug, PartialEq, Eq)]
@@ -38,21 +38,7 @@ impl LogicalUnit {
 /// The bytes of a block as it is stored.
 pub(crate) fn block_bytes(unit: UnitSpec) -> usize
     ensures value { result ≡ block_bytes unit }
-    ensures bound { result ≤ unit.size + 8 }
+    ensures bound { result ≤ unit.size + TUPLE }
 {
-    let size = unit.size as usize;
-    if unit.ty == PiType::Zero {
-        size
-    } else {
-        size + 8
-    }
-}
-
-/// The bytes of a block between host and target.
-pub(crate) fn sent_size(protect: u8, size: u32) -> usize
-    ensures value { result ≡ sent_size protect size }
-    ensures bound { result ≤ size + 8 }
-{
-    let size = size as usize;
-    if protect == 0 { size } else { size + 8 }
+    stored_size(unit.ty, unit.size)
 }

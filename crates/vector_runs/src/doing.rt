@@ -9,7 +9,7 @@ ghost use Rattle.vector_runs.specs.Ranges.{is_inside, out_of_range};
 use cdb_codec::Cdb;
 use rig_api::{Rig, blocks_of};
 use std::alloc::{AllocError, Global};
-use target_answer::{Request, request_of};
+use target_answer::{Request, request_of, sent_size};
 use vector_lines::VectorLine;
 
 /// The bytes that so many frames have.
@@ -18,9 +18,7 @@ fn frames_len(n: u32, protect: u8, size: u32) -> usize
     requires { n ≤ 1024 }
     ensures { result ≡ n * sent_size protect size }
 {
-    let size = size as usize;
-    let len = if protect == 0 { size } else { size + 8 };
-    n as usize * len
+    n as usize * sent_size(protect, size)
 }
 
 fn room_by(size: u32, request: Request) -> usize
