@@ -8,6 +8,7 @@ ghost use Rattle.bio_core.specs.Bios.{HasTuplesFor, bio_of, block_size, blocks_o
 use crate::{Dir, Io};
 use integrity_payload::Payload;
 use page_pool::SgList;
+use pi_tuple::TUPLE;
 
 /// Blocks `k` to `k + count - 1` of one request, at consecutive addresses of one device. A bio names blocks and
 /// holds no data.
@@ -128,10 +129,10 @@ fn count_tuple_segs(pi: &Option<Payload>, count: u32, k: u32, n: u32) -> u32
 }
 
 fn segs_of_tuples(tuples: &SgList, k: u32, n: u32) -> u32
-    requires { 8 * (k + n) ≤ total tuples.now }
-    ensures { result ≡ length (cut tuples.now (8 * k) (8 * n)) }
+    requires { TUPLE * (k + n) ≤ total tuples.now }
+    ensures { result ≡ length (cut tuples.now (TUPLE * k) (TUPLE * n)) }
 {
     // The list's bytes are known to be few once it was looked at.
     let _segs = tuples.as_slice();
-    tuples.segs_in(8 * k, 8 * n)
+    tuples.segs_in(TUPLE as u32 * k, TUPLE as u32 * n)
 }

@@ -9,6 +9,7 @@ ghost use Rattle.pi_guard.specs.Guards.{guard_of};
 ghost use Rattle.pi_tuple.specs.Finds.{finding};
 ghost use Rattle.pi_tuple.specs.Tuples.{ref_tag};
 ghost use Rattle.integrity_payload.specs.Payloads.{HoldsTuple, IsPayload, all_asked, block_of, made_bytes, made_tuple, tuple_of};
+ghost use Rattle.pi_tuple.specs.declared.TheConstants.{TUPLE};
 
 use crate::Payload;
 use page_pool::{PagePool, SgList, Walk};
@@ -29,7 +30,7 @@ impl Payload {
         requires apart { Apart (places_in body.now) (places_in self.now.tuples) }
         ensures tuples { (k : ℕ) → k < self.now.count
             → HoldsTuple pool.new self.now.tuples k (made_tuple pool.old body.now (total body.now / self.now.count) kind ty self.now.seed self.now.app k) }
-        ensures wrote { Wrote pool.old pool.new (range_of self.now.tuples 0 (8 * self.now.count))
+        ensures wrote { Wrote pool.old pool.new (range_of self.now.tuples 0 (TUPLE * self.now.count))
             (made_bytes pool.old body.now (total body.now / self.now.count) kind ty self.now.seed self.now.app self.now.count) }
     {
         let size = body.total() / self.count;

@@ -9,7 +9,7 @@ ghost use Rattle.pi_tuple.specs.Tuples.{tuple_bytes};
 ghost use Rattle.integrity_payload.specs.Payloads.{HoldsTuple, IsPayload, tuple_places};
 
 use page_pool::{PagePool, SgList, Walk};
-use pi_tuple::Tuple;
+use pi_tuple::{TUPLE, Tuple};
 
 /// Who made the tuples of a payload, and checks them on a read.
 #[derive(Clone, Copy, Debug, PartialEq, Eq)]
@@ -44,7 +44,7 @@ impl Payload {
         requires lie { AllLieIn pool.now self.now.tuples }
         ensures { HoldsTuple pool.now self.now.tuples k result }
     {
-        let mut bytes = [0; 8];
+        let mut bytes = [0; TUPLE];
         pool.gather(&self.tuples, self.start_of(k), &mut bytes);
         Tuple::from_bytes(&bytes)
     }
@@ -66,8 +66,8 @@ impl Payload {
         requires payload { IsPayload self.now }
         requires index { k ≤ self.now.count }
         requires lie { InPages (places_in self.now.tuples) }
-        ensures ahead { result ≡ past (8 * k) self.now.tuples }
-        ensures few { 8 * self.now.count < 2 ^ 32 }
+        ensures ahead { result ≡ past (TUPLE * k) self.now.tuples }
+        ensures few { TUPLE * self.now.count < 2 ^ 32 }
     {
         self.tuples.walk(self.start_of(k))
     }
@@ -76,11 +76,11 @@ impl Payload {
     fn start_of(&self, k: u32) -> u32
         requires payload { IsPayload self.now }
         requires index { k ≤ self.now.count }
-        ensures start { result ≡ 8 * k }
-        ensures few { 8 * self.now.count < 2 ^ 32 }
+        ensures start { result ≡ TUPLE * k }
+        ensures few { TUPLE * self.now.count < 2 ^ 32 }
     {
         // That the bytes are few enough is known once the list was looked at; the look costs nothing.
         let _segs = self.tuples.as_slice();
-        8 * k
+        TUPLE as u32 * k
     }
 }

@@ -27,6 +27,7 @@ use Rattle.flip_sweep.specs.Verdicts.{listed}
 use Rattle.flip_sweep.specs.declared.flips.Site.{Site}
 use Rattle.flip_sweep.specs.declared.verdict.Verdict.{Verdict}
 use Rattle.flip_sweep.specs.declared.verdict.Verdict.TheVariants.{Found, Same, Scrub, Unseen}
+use Rattle.pi_tuple.specs.declared.TheConstants.{TUPLE}
 
 -- What a sweep says of a flip of data, guard or reference tag, in type 1 where tuples are passed all the way under protect field 001b.
 
@@ -109,9 +110,9 @@ GuardFlipsAreFound = (w : Sweep) → IsQuietSweep w → Everywhere w (λ at. (of
 -- Each flip of a byte of the reference tag is found by its tag, but where it makes the tag a right one.
 abbrev pub TagFlipsAreFound : Type 0
 TagFlipsAreFound = (w : Sweep) → IsQuietSweep w →
-    Everywhere w (λ at. (off : ℕ) → w.script.block + 4 ≤ off → off < w.script.block + 8 → IsFoundAt w RefTag at off ⊎ MayBeSame (op_of w.script.ops at.op) at.spot (verdict_at w at off))
+    Everywhere w (λ at. (off : ℕ) → w.script.block + 4 ≤ off → off < w.script.block + TUPLE → IsFoundAt w RefTag at off ⊎ MayBeSame (op_of w.script.ops at.op) at.spot (verdict_at w at off))
 
 -- So none of them is unseen: what nobody sees is a flip of an application tag.
 abbrev pub OnlyAppTagsAreUnseen : Type 0
 OnlyAppTagsAreUnseen = (w : Sweep) → IsQuietSweep w →
-    Everywhere w (λ at. (off : ℕ) → off < w.script.block + 8 → verdict_at w at off ≡ Unseen → (w.script.block + 2 ≤ off) × (off < w.script.block + 4))
+    Everywhere w (λ at. (off : ℕ) → off < w.script.block + TUPLE → verdict_at w at off ≡ Unseen → (w.script.block + 2 ≤ off) × (off < w.script.block + 4))

@@ -40,6 +40,7 @@ use Rattle.run_command.specs.declared.verdict.Finished.{Finished}
 use Rattle.vector_runs.specs.Played.{HasPlayed}
 use Rattle.vector_runs.specs.Unplayed.{unplayed}
 use Rattle.vector_runs.specs.declared.playing.Played.TheVariants as played
+use Rattle.pi_tuple.specs.declared.TheConstants.{TUPLE}
 
 -- What passes the adapter passes the target, where no fault is scheduled: so no write ends early.
 
@@ -57,7 +58,7 @@ CommandPasses = (a : Adapter) (ios : List Io) (req : List Bio) (pool : List (Lis
 
 -- the bytes of a frame between adapter and target
 abbrev pub width : Setting → ℕ
-width m = if m.mode.dif && not (is_zero m.ty) then m.size + 8 else m.size
+width m = if m.mode.dif && not (is_zero m.ty) then m.size + TUPLE else m.size
 
 -- What came of a block of a write is its whole frame: it didn't end its command.
 abbrev pub IsWhole : (bytes : ℕ) → Dir → Result (List ℕ) Why → Type 0

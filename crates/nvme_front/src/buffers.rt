@@ -45,8 +45,8 @@ fn made_tag(ty: PiType, rtag: u32, k: u32) -> u32
 }
 
 /// The tuple that goes out with block `k`: the one that PRACT has made, or the given one.
-fn tuple_for(ty: PiType, command: &NvmCommand, k: u32, block: &[u8], given: &[u8]) -> [u8; 8]
-    requires { command.now.pract ≡ false → length given.now ≡ 8 }
+fn tuple_for(ty: PiType, command: &NvmCommand, k: u32, block: &[u8], given: &[u8]) -> [u8; TUPLE]
+    requires { command.now.pract ≡ false → length given.now ≡ TUPLE }
     ensures { result ≡ tuple_for ty command.now k block.now given.now }
 {
     if command.pract {

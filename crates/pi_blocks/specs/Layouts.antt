@@ -6,6 +6,7 @@ use Rattle.pi_tuple.specs.declared.checks.PiType.TheVariants.{Zero, One, Two, Th
 use Rattle.pi_blocks.specs.declared.layout.Layout.{Layout}
 use Rattle.pi_blocks.specs.declared.layout.Refusal.{Refusal}
 use Rattle.pi_blocks.specs.declared.layout.Refusal.TheVariants.{BadLayout, BadLength}
+use Rattle.pi_tuple.specs.declared.TheConstants.{TUPLE}
 
 -- the type and the guard of these numbers
 abbrev pub type_of : ℕ → PiType
@@ -23,7 +24,7 @@ covered_of l = l.data_size + l.tuple_at
 
 -- a tuple fits its metadata, a block's size fits 32 bits, and type and guard are some
 abbrev pub is_good : Layout → Bool
-is_good l = leb (l.tuple_at + 8) l.meta_size && (ltb (stride_of l) (2 ^ 32) && (leb 1 l.pi_type && (leb l.pi_type 3 && leb l.guard 1)))
+is_good l = leb (l.tuple_at + TUPLE) l.meta_size && (ltb (stride_of l) (2 ^ 32) && (leb 1 l.pi_type && (leb l.pi_type 3 && leb l.guard 1)))
 
 -- the layout is good, and so many bytes are whole blocks of it
 pub record AreBlocks (l : Layout) (len : ℕ) : Type 0 where

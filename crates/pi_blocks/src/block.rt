@@ -4,6 +4,7 @@ ghost use Rattle.std.specs.Prelude.{◌≡◌, ◌+◌, ◌^◌, ◌<◌, ◌≤
 ghost use Rattle.pi_guard.specs.Guards.{guard_of};
 ghost use Rattle.pi_tuple.specs.Tuples.{tuple_in};
 ghost use Rattle.pi_blocks.specs.Blocks.{checks_of, compared, number_of, ref_of, told_of};
+ghost use Rattle.pi_tuple.specs.declared.TheConstants.{TUPLE};
 
 use crate::Layout;
 use pi_guard::{GuardKind, crc16, ip_sum};
@@ -72,8 +73,8 @@ pub(crate) fn guard_of_bytes(kind: GuardKind, bytes: &[u8]) -> u16
 
 /// The tuple at this place.
 pub(crate) fn tuple_at(bytes: &[u8], at: usize) -> Tuple
-    requires { at + 8 ≤ length bytes.now }
-    ensures { result ≡ tuple_in (take 8 (drop at bytes.now)) }
+    requires { at + TUPLE ≤ length bytes.now }
+    ensures { result ≡ tuple_in (take TUPLE (drop at bytes.now)) }
 {
     let Some(eight) = bytes[at..].first_chunk::<8>() else {
         unreachable!()

@@ -4,7 +4,7 @@ ghost use Rattle.std.specs.Prelude.{◌≡◌, ◌/◌, IfErr, IfOk};
 ghost use Rattle.pi_blocks.specs.Layouts.{AreBlocks, Refused, covered_of, is_good, kind_of, stride_of, type_of};
 
 use pi_guard::GuardKind;
-use pi_tuple::PiType;
+use pi_tuple::{PiType, TUPLE};
 
 /// The layout of a block: its data, and its metadata with the eight bytes of its tuple. The guard is that of the data
 /// and of the metadata before the tuple, so both places that a tuple may have in NVMe metadata are served, and the
@@ -48,7 +48,7 @@ impl Layout {
     pub fn is_good(self) -> bool
         ensures { result ≡ is_good self }
     {
-        let tuple_end = u64::from(self.tuple_at) + 8;
+        let tuple_end = u64::from(self.tuple_at) + TUPLE as u64;
         let size = u64::from(self.data_size) + u64::from(self.meta_size);
         tuple_end <= u64::from(self.meta_size)
             && size < 0x1_0000_0000

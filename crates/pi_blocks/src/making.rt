@@ -9,14 +9,14 @@ ghost use Rattle.pi_blocks.specs.Puts.{put_at};
 
 use crate::block::guard_of_bytes;
 use crate::{Layout, Refusal};
-use pi_tuple::{Tuple, own_tag};
+use pi_tuple::{TUPLE, Tuple, own_tag};
 
 /// Writes the tuple at this place.
 pub(crate) fn set_tuple(bytes: &mut [u8], at: usize, tuple: Tuple)
-    requires { at + 8 ≤ length bytes.old }
+    requires { at + TUPLE ≤ length bytes.old }
     ensures { bytes.new ≡ put_at at (tuple_bytes tuple) bytes.old }
 {
-    bytes[at..at + 8].copy_from_slice(&tuple.to_bytes());
+    bytes[at..at + TUPLE].copy_from_slice(&tuple.to_bytes());
 }
 
 // Makes the tuple of block i.

@@ -17,7 +17,7 @@ ghost use Rattle.ref_remap.specs.Remapped.{AreRemapped, MappedOut, made_virtual,
 
 use integrity_payload::Payload;
 use page_pool::PagePool;
-use pi_tuple::{PiType, Tuple, has_ref_tag, ref_tag};
+use pi_tuple::{PiType, TUPLE, Tuple, has_ref_tag, ref_tag};
 
 /// Maps the tags of the tuples `k` to `k + n - 1` out: for each `i` below `n`, where tuple `k + i` has the low 32
 /// bits of its virtual block as its reference tag, it gets those of the address `physical + i`. That is in types
@@ -64,7 +64,7 @@ fn rewrite(pool: &mut PagePool, pi: &Payload, ty: PiType, k: u32, n: u32, from: 
     let mut reader = pi.walk_tuples(k);
     let mut writer = pi.walk_tuples(k);
     for i in 0..n {
-        let mut bytes = [0; 8];
+        let mut bytes = [0; TUPLE];
         pool.read_ahead(&mut reader, &mut bytes);
         let tuple = remap(
             Tuple::from_bytes(&bytes),
@@ -92,7 +92,7 @@ fn remap(t: Tuple, ty: PiType, from: u64, to: u64) -> Tuple
 /// What mapping does to a tuple's eight bytes: the four of its guard and application tag stay, and those of its tag
 /// are mapped by themselves. Read as tuples, these are the mapped tuple's bytes.
 pub fn the_tag_alone_is_mapped()
-    ensures bytes { (ty : AnyType) (from to : ℕ) (b : List ℕ) → length b ≡ 8 → tuple_bytes (tuple_in b) ≡ b → tuple_bytes (remapped ty from to (tuple_in b)) ≡ remapped_bytes ty from to b }
-    ensures tag { (ty : AnyType) (from to : ℕ) (b : List ℕ) → length b ≡ 8 → drop 4 (remapped_bytes ty from to b) ≡ remapped_tag ty from to (drop 4 b) }
-    ensures others { (ty : AnyType) (from to : ℕ) (b : List ℕ) → length b ≡ 8 → take 4 (remapped_bytes ty from to b) ≡ take 4 b }
+    ensures bytes { (ty : AnyType) (from to : ℕ) (b : List ℕ) → length b ≡ TUPLE → tuple_bytes (tuple_in b) ≡ b → tuple_bytes (remapped ty from to (tuple_in b)) ≡ remapped_bytes ty from to b }
+    ensures tag { (ty : AnyType) (from to : ℕ) (b : List ℕ) → length b ≡ TUPLE → drop 4 (remapped_bytes ty from to b) ≡ remapped_tag ty from to (drop 4 b) }
+    ensures others { (ty : AnyType) (from to : ℕ) (b : List ℕ) → length b ≡ TUPLE → take 4 (remapped_bytes ty from to b) ≡ take 4 b }
 {}

@@ -9,6 +9,7 @@ ghost use Rattle.pi_tuple.specs.declared.TheConstants.{LARGEST_BLOCK};
 use crate::kept::Kept;
 use crate::log::Log;
 use fault_schedule::Label;
+use pi_tuple::TUPLE;
 use rig_api::Record;
 use std::alloc::{AllocError, Global};
 
@@ -66,7 +67,7 @@ impl Log {
         ensures log { logged self.new ≡ logged self.old }
     {
         let labels = exchanges as usize + blocks as usize;
-        let moved = (size as usize + 8) * blocks as usize + 32 * exchanges as usize;
+        let moved = (size as usize + TUPLE) * blocks as usize + 32 * exchanges as usize;
         self.promise(exchanges)?;
         self.labels.reserve(labels)?;
         self.moved.reserve(moved)

@@ -12,6 +12,7 @@ use Rattle.whole_run.specs.ScriptWalk.{act_of, reply_of}
 use Rattle.whole_run.specs.Settings.{Block, Setting, route}
 use Rattle.whole_run.specs.Steps.{Alters, Reads, Seals, Sets, Shows, Step, Writes, WritesPi, steps_of}
 use Rattle.page_pool.specs.declared.TheConstants.{PAGE}
+use Rattle.pi_tuple.specs.declared.TheConstants.{TUPLE}
 
 -- The moves of a whole script: what a stack does with each block, move by move. Tuples that the block layer makes or checks lie in private pages behind the script's, each request beginning a fresh one; and each block of a request has a cell for what is found of it.
 
@@ -63,7 +64,7 @@ by_moves m own fate (Alters dev lba change) = at_once (act_of m (Alters dev lba 
 
 -- tuple k of those that lie from this byte on
 abbrev pub own_at : (from k : ℕ) → List ℕ
-own_at from k = in_turn (from + 8 * k) 8
+own_at from k = in_turn (from + TUPLE * k) TUPLE
 
 -- the steps from block k on, of an op whose private pages begin at byte `from`, and its cells of what is found at `fate`
 abbrev pub blocks_from : Setting → (from fate k : ℕ) → List Step → List ByMoves

@@ -4,10 +4,10 @@ ghost use Rattle.std.specs.Prelude.{◌≡◌, ◌+◌, ◌∷◌, false, length
 ghost use Rattle.std.specs.List.{list_all, list_any};
 ghost use Rattle.whole_run.specs.FirstLayer.{is_flip};
 ghost use Rattle.run_premises.specs.Forms.{brings_tuples, escapes_none, first_virt, is_good_line, is_near, is_none, is_overwrite, is_seen, is_shown, is_shown_line, is_stored_altered, kind_at, label_of, may_mend, may_undo, op_of, shows_by_form, stores, supplies_none, virt_of};
-ghost use Rattle.pi_tuple.specs.declared.TheConstants.{TUPLE};
 
 use fault_schedule::{Crossing, FaultKind, FaultLine, FaultList, Label, Tamper};
 use pi_guard::{GuardKind, crc16};
+use pi_tuple::TUPLE;
 use stack_ops::{Op, OpList};
 use std::alloc::{AllocError, Global};
 
@@ -199,7 +199,7 @@ pub fn shows_by_form(
 {
     let size = block as usize;
     let tamper = Tamper::new(faults.copy(alloc)?);
-    let mut frame = vec![in alloc; 0u8; size + 8]?;
+    let mut frame = vec![in alloc; 0u8; size + TUPLE]?;
     let good = are_good(
         kind,
         size,
